@@ -1,0 +1,3 @@
+-- Lemmas on calls of the outside.
+mod Moves
+pub mod Runs

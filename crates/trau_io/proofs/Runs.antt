@@ -1,0 +1,91 @@
+-- Several calls on one line or on a desk, one after another.
+use Rattle.std.proofs.Common.{◌≡◌, ℕ, ◌+◌, ◌-◌, ◌≤◌, List, ◌++◌, length, take, drop, Ok, refl, sym, ◌∙◌, ap, arith, length-take, length-drop, take-add}
+use Rattle.std.specs.Io.KnownBytes.{Consumes, Appends}
+use Rattle.std.proofs.KnownBytes.{Consumes-nil, Consumes-trans, Appends-nil, Appends-trans}
+use borrow.Rule.Slice.PartMut.{put_mid, post_of}
+use Rattle.std.proofs.lemmas.List.{take-append-le, take_all}
+use Rattle.std.proofs.Math.Seq.{take-append-add}
+use Rattle.std.proofs.lemmas.Grind.{common_steps}
+use Rattle.trau_io.specs.declared.line.Side.{Side}
+use Rattle.trau_io.specs.Lines.{LineState, Reads, Writes, OthersStay}
+use Rattle.trau_io.specs.Desks.{DeskState, DeskWrites}
+
+pub others_more : (a b c : ℕ → Side → LineState) (call : ℕ) (side : Side) → OthersStay a b call side → OthersStay b c call side → OthersStay a c call side
+others_more a b c call side first second = λ k s ne. second k s ne ∙ first k s ne
+
+-- what successful reads have done so far
+pub record Filled (before now : LineState) (n : ℕ) (block : List ℕ) : Type 0 where
+  pub bound : n ≤ length block
+  pub consumed : Consumes before.to_come now.to_come (take n block)
+  pub written : now.written ≡ before.written
+  pub faults : now.faults ≡ before.faults
+
+pub filled_none : (s : LineState) (block : List ℕ) → Filled s s 0 block
+filled_none s block = record { bound = omega arith; consumed = Consumes-nil s.to_come; written = refl; faults = refl }
+
+pub length_filled : (n : ℕ) (block piece : List ℕ) → n ≤ length block → length piece ≡ length block - n → length (put_mid n (length block - n) block piece) ≡ length block
+length_filled n block piece bound fits = grind (arith, common_steps)
+
+take_filled : (n k : ℕ) (block piece : List ℕ) → n ≤ length block → length piece ≡ length block - n → k ≤ length piece → take (n + k) (put_mid n (length block - n) block piece) ≡ take n block ++ take k piece
+take_filled n k block piece bound fits part =
+    let rest = piece ++ post_of n (length block - n) block in
+    let front : length (take n block) ≡ n = simp length-take (omega arith) in
+    let count : n + k ≡ length (take n block) + k = omega arith in
+    ap (λ m. take m (take n block ++ rest)) count ∙ take-append-add (take n block) rest k
+    ∙ ap (λ l. take n block ++ l) (take-append-le k piece (post_of n (length block - n) block) part)
+
+pub filled_more : (before mid now : LineState) (n k : ℕ) (block piece : List ℕ) → Filled before mid n block → Reads mid now (Ok k) piece → length piece ≡ length block - n → Filled before now (n + k) (put_mid n (length block - n) block piece)
+filled_more before mid now n k block piece so_far reads fits =
+    let long : length (put_mid n (length block - n) block piece) ≡ length block = length_filled n block piece so_far.bound fits in
+    let part : k ≤ length piece = reads.bound.0 in
+    record {
+      bound = omega (arith, long, part, fits, so_far.bound);
+      consumed = rw (take_filled n k block piece so_far.bound fits part) (Consumes-trans _ _ _ _ _ so_far.consumed reads.to_come.0);
+      written = reads.written ∙ so_far.written;
+      faults = reads.cause.ok ∙ so_far.faults;
+    }
+
+-- what successful writes have done so far: the first n octets stand
+pub record Sent (before now : LineState) (n : ℕ) (bytes : List ℕ) : Type 0 where
+  pub bound : n ≤ length bytes
+  pub written : Appends before.written now.written (take n bytes)
+  pub to_come : now.to_come ≡ before.to_come
+  pub faults : now.faults ≡ before.faults
+
+pub sent_none : (s : LineState) (bytes : List ℕ) → Sent s s 0 bytes
+sent_none s bytes = record { bound = omega arith; written = Appends-nil s.written; to_come = refl; faults = refl }
+
+take_on : (n k : ℕ) (bytes piece : List ℕ) → piece ≡ drop n bytes → take (n + k) bytes ≡ take n bytes ++ take k piece
+take_on n k bytes piece is = take-add n k bytes ∙ ap (λ l. take n bytes ++ take k l) (sym is)
+
+pub sent_more : (before mid now : LineState) (n k : ℕ) (bytes piece : List ℕ) → Sent before mid n bytes → Writes mid now (Ok k) piece → piece ≡ drop n bytes → Sent before now (n + k) bytes
+sent_more before mid now n k bytes piece so_far writes is = record {
+  bound = omega (arith, writes.bound, ap length is, length-drop n bytes, so_far.bound);
+  written = rw (take_on n k bytes piece is) (Appends-trans _ _ _ _ _ so_far.written writes.written);
+  to_come = writes.to_come ∙ so_far.to_come;
+  faults = writes.cause.ok ∙ so_far.faults;
+}
+
+-- the same on a desk
+pub record Told (before now : DeskState) (n : ℕ) (text : List ℕ) : Type 0 where
+  pub bound : n ≤ length text
+  pub written : Appends before.written now.written (take n text)
+  pub faults : now.write_faults ≡ before.write_faults
+  pub to_come : now.to_come ≡ before.to_come
+  pub read_faults : now.read_faults ≡ before.read_faults
+
+pub told_none : (s : DeskState) (text : List ℕ) → Told s s 0 text
+told_none s text = record { bound = omega arith; written = Appends-nil s.written; faults = refl; to_come = refl; read_faults = refl }
+
+pub told_more : (before mid now : DeskState) (n k : ℕ) (text piece : List ℕ) → Told before mid n text → DeskWrites mid now (Ok k) piece → piece ≡ drop n text → Told before now (n + k) text
+told_more before mid now n k text piece so_far writes is = record {
+  bound = omega (arith, writes.bound, ap length is, length-drop n text, so_far.bound);
+  written = rw (take_on n k text piece is) (Appends-trans _ _ _ _ _ so_far.written writes.written);
+  faults = writes.cause.ok ∙ so_far.faults;
+  to_come = writes.to_come ∙ so_far.to_come;
+  read_faults = writes.read_faults ∙ so_far.read_faults;
+}
+
+-- `&bytes[n..]`
+pub rest_of : (n : ℕ) (bytes : List ℕ) → take (length bytes - n) (drop n bytes) ≡ drop n bytes
+rest_of n bytes = take_all (length bytes - n) (drop n bytes) (omega (arith, length-drop n bytes))

@@ -1,0 +1,23 @@
+//! The outside as the transcoder sees it: recorded lines (a trunk) and a desk for orders and texts.
+//!
+//! Below everything that reads or writes: tools, rounds and the top call move octets through the two
+//! traits of this crate and know nothing else of the outside. `MemTrunk` and `MemDesk` hold everything
+//! in memory and tell all of it, with cuts, failures and room set by their maker; files and the
+//! standard streams stand in the program's own crate.
+//!
+//! The meanings of lines and desks, and all limits, are this project's profile.
+//! Definitions: `specs/Lines.antt` and `specs/Desks.antt` (what one call does), `specs/Transfer.antt`
+//! (what a whole transfer does), `specs/Memory.antt` (lines in memory).
+#![tactic(auto)]
+
+mod desk;
+mod line;
+mod memory;
+mod transfer;
+mod trunk;
+
+pub use desk::Desk;
+pub use line::{Failed, Line, Side};
+pub use memory::{MemDesk, MemTrunk};
+pub use transfer::{Filled, read_block, tell, write_all};
+pub use trunk::Trunk;

@@ -1,0 +1,28 @@
+// The name of a line, and the one answer of a call that the outside refused.
+ghost use Rattle.std.specs.Prelude.{◌≤◌};
+
+/// Which of a call's four lines.
+#[derive(Clone, Copy, Debug, PartialEq, Eq)]
+pub enum Side {
+    /// From the base station: 40 octets, one frame of 320 bits, a period of 20 ms.
+    Up,
+    /// From the telephone exchange: 160 A-law octets a period.
+    Pcm,
+    /// To the base station: 40 octets a period.
+    Down,
+    /// To the telephone exchange: 160 A-law octets a period.
+    Out,
+}
+
+/// A line: a call's number, 1 to 4,096, and a side.
+#[derive(Clone, Copy, Debug, PartialEq, Eq)]
+pub struct Line {
+    pub call: u32,
+    pub side: Side,
+    pub ghost low: { 1 ≤ call },
+    pub ghost high: { call ≤ 4096 },
+}
+
+/// The outside failed at this call, and its count of faults says so.
+#[derive(Clone, Copy, Debug, PartialEq, Eq)]
+pub struct Failed;

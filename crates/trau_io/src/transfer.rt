@@ -1,0 +1,59 @@
+// Whole transfers, in whatever pieces the outside takes and gives them.
+ghost use Rattle.std.specs.Prelude.{◌≤◌, length};
+ghost use Rattle.trau_io.specs.Lines.{OthersStay};
+ghost use Rattle.trau_io.specs.Transfer.{ReadsBlock, WritesAll, Tells};
+
+use crate::{Desk, Line, Trunk};
+
+/// How a block was filled: wholly, or with so many octets before the line ended or failed.
+#[derive(Clone, Copy, Debug, PartialEq, Eq)]
+pub enum Filled {
+    Whole,
+    Ended(usize),
+    Failed(usize),
+}
+
+/// Reads a line until the block is full, the line ends or it fails.
+pub fn read_block<T: Trunk>(trunk: &mut T, line: Line, block: &mut [u8]) -> Filled
+    ensures this { ReadsBlock (T.lines trunk.old line.call line.side) (T.lines trunk.new line.call line.side) result block.new }
+    ensures others { OthersStay (T.lines trunk.old) (T.lines trunk.new) line.call line.side }
+{
+    let mut filled = 0;
+    while filled < block.len() {
+        match trunk.read(line, &mut block[filled..]) {
+            Ok(0) => return Filled::Ended(filled),
+            Ok(count) => filled += count,
+            Err(_) => return Filled::Failed(filled),
+        }
+    }
+    Filled::Whole
+}
+
+/// Writes all the octets to a line, or a proper front of them where it fails.
+pub fn write_all<T: Trunk>(trunk: &mut T, line: Line, bytes: &[u8]) -> Result<(), crate::Failed>
+    ensures this { WritesAll (T.lines trunk.old line.call line.side) (T.lines trunk.new line.call line.side) result bytes.now }
+    ensures others { OthersStay (T.lines trunk.old) (T.lines trunk.new) line.call line.side }
+{
+    let mut sent = 0;
+    while sent < bytes.len() {
+        match trunk.write(line, &bytes[sent..]) {
+            Ok(count) => sent += count,
+            Err(failed) => return Err(failed),
+        }
+    }
+    Ok(())
+}
+
+/// Writes a whole text to the desk, or a proper front of it where the desk fails.
+pub fn tell<D: Desk>(desk: &mut D, text: &[u8]) -> Result<(), crate::Failed>
+    ensures { Tells (D.desk desk.old) (D.desk desk.new) result text.now }
+{
+    let mut sent = 0;
+    while sent < text.len() {
+        match desk.write(&text[sent..]) {
+            Ok(count) => sent += count,
+            Err(failed) => return Err(failed),
+        }
+    }
+    Ok(())
+}
