@@ -21,3 +21,6 @@ pub use line::{Failed, Line, Side};
 pub use memory::{MemDesk, MemTrunk};
 pub use transfer::{Filled, read_block, tell, write_all};
 pub use trunk::Trunk;
+
+#[cfg(test)]
+mod tests;

@@ -1,0 +1,5 @@
+-- Lemmas on the top call.
+mod Causes
+mod Clean
+mod Numbers
+mod Relays
