@@ -13,7 +13,6 @@ use Rattle.farm_top.specs.Text.{status_of}
 use Rattle.farm_top.specs.Top.{Answers, RelayCommand, Causes, ReadsRefused}
 
 module _ (u u' d d' : LineState) (k k' : DeskState) (blocks : List (List ℕ)) (last more : List ℕ) (status : ℕ) (good : All IsGoodBlock blocks) (moves : Moves u u' d d' (concat blocks ++ last) (frames_of blocks ++ more)) where
-
   causes : (end : RelayEnd) (text : List ℕ) → EndsAs u u' d d' blocks last more end → Answers k k' text (status_of end) status → Causes u u' d d' k k' status
   causes end text ends (inl memory) = record {
     known = inr (inr (inl memory.0));

@@ -37,7 +37,6 @@ spoken k k' text ended status (inr (inr told)) calm not = (told.0, told.1)
 
 module _ (u u' d d' : LineState) (k k' : DeskState) (call status : ℕ) (blocks : List (List ℕ)) (octets sent text : List ℕ) (calm : Calm u u' d d' k k') (not : status ≢ 5) (good : All IsGoodBlock blocks)
     (u_is : u.to_come ≡ Some octets) (d_is : d.written ≡ Some sent) (k_is : k.written ≡ Some text) where
-
   clean_end : (end : RelayEnd) (last more : List ℕ) → Moves u u' d d' (concat blocks ++ last) (frames_of blocks ++ more) → EndsAs u u' d d' blocks last more end → Answers k k' (text_of call end) (status_of end) status → LeavesRelayed u' d' k' octets sent text status
   clean_end (Done n) last more moves ends said =
       let told = spoken k k' _ _ status said calm.desk_calm not in

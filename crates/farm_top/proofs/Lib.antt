@@ -1,5 +1,5 @@
 -- Lemmas on the top call.
 mod Causes
 mod Clean
-mod Numbers
+mod Asked
 mod Relays

@@ -16,3 +16,6 @@ mod top;
 mod words;
 
 pub use top::farm_top;
+
+#[cfg(test)]
+mod tests;

@@ -13,10 +13,15 @@ use std::alloc::Global;
 use trau_io::{Desk, Trunk, tell};
 
 const DONE: u8 = 0;
+
 const USAGE: u8 = 1;
+
 const DESK_WRITE_FAULT: u8 = 4;
+
 const NO_MEMORY: u8 = 5;
+
 const LINE_FAILED: u8 = 6;
+
 const FRAME_REFUSED: u8 = 8;
 
 fn status_of_end(end: RelayEnd) -> u8

@@ -2,7 +2,7 @@ use Rattle.std.proofs.Common.{refl, subst}
 use Rattle.farm_top.specs.Top.{RelayCommand}
 use Rattle.farm_top.proofs.Causes.{cause_of}
 use Rattle.farm_top.proofs.Clean.{clean}
-use Rattle.farm_top.proofs.Numbers.{same_call}
+use Rattle.farm_top.proofs.Asked.{same_call}
 use Rattle.farm_top.proofs.top.farm_top.Goals as goal
 
 pub returns-in-Some-clause-relay : goal.returns-in-Some-clause-relay

@@ -1,0 +1,3 @@
+-- Lemmas on spelled numbers.
+pub mod Numbers
+mod Parsing

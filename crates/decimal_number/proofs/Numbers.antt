@@ -1,0 +1,23 @@
+-- What a caller knows of a spelled number.
+use Rattle.std.proofs.Common.{ℕ, ◌^◌, ◌<◌, ◌≤◌, List, refl, sym, ◌∙◌, subst, arith}
+use Rattle.std.specs.Prelude.{decimal}
+use Rattle.std.specs.Str.Parse.{AllDigits, digits_value}
+use Rattle.std.proofs.lemmas.Str.Parse.{IsNumeralModel, numerals_by_value, tells_digits}
+use Rattle.std.proofs.lemmas.Fmt.{decimal_injective, digits_decimal}
+use Rattle.decimal_number.specs.Number.{IsNumber, SpellsOneNumber}
+
+pub own : IsNumeralModel (AllDigits 10) (digits_value 10)
+own = numerals_by_value (AllDigits 10) tells_digits
+
+-- a text spells at most one number
+pub one_number : SpellsOneNumber
+one_number text low high m low' high' n small small' first second =
+    decimal_injective m n (omega (arith, first.at_most)) (omega (arith, second.at_most)) (sym first.spelled ∙ second.spelled)
+
+-- a number's own digits spell it
+pub IsNumber-decimal : (low high n : ℕ) → low ≤ n → n ≤ high → IsNumber low high (decimal n) n
+IsNumber-decimal low high n at_least at_most = record { at_least = at_least; at_most = at_most; spelled = refl }
+
+-- they are digits and nothing else
+pub AllDigits-number : (low high : ℕ) (text : List ℕ) (n : ℕ) → high < 2 ^ 32 → IsNumber low high text n → AllDigits 10 text
+AllDigits-number low high text n small is = subst (AllDigits 10) (sym is.spelled) (digits_decimal own n (omega (arith, is.at_most)))

@@ -1,0 +1,2 @@
+-- What it is to spell a number.
+pub mod Number

@@ -1,0 +1,92 @@
+//! Decimal numbers, as the words of a command line and the lines of orders and marks spell them.
+//!
+//! At the bottom: takes a text or octets and a range, and gives the number that they spell, if they
+//! spell one. Its users are the readers of words, orders and marks, which know no other numerals.
+//!
+//! The spelling, digits with no sign, no space and no zero in front, is this project's profile.
+//! Definitions: `specs/Number.antt`. Lemmas for callers: `proofs/Numbers.antt`.
+#![tactic(auto)]
+
+ghost use Rattle.std.specs.Prelude.{◌↔◌, ℕ, IsTrue, IsNone, IfSome};
+ghost use Rattle.decimal_number.specs.Number.{IsPlain, IsNumber, SpellsOneNumber};
+
+/// The number from `low` to `high` that a whole text spells. Where `low` is above `high` there is none.
+pub fn number_of_text(text: &str, low: u32, high: u32) -> Option<u32>
+    ensures some { IfSome result (λ n. IsNumber low high text.now n) }
+    ensures none { IsNone result → (n : ℕ) → IsNumber low high text.now n → ⊥ }
+{
+    if !is_plain(text.as_bytes()) {
+        return None;
+    }
+    match text.parse::<u32>() {
+        Ok(number) if low <= number && number <= high => Some(number),
+        _ => None,
+    }
+}
+
+/// The same of octets, of which not all are texts.
+pub fn number_of_octets(octets: &[u8], low: u32, high: u32) -> Option<u32>
+    ensures some { IfSome result (λ n. IsNumber low high octets.now n) }
+    ensures none { IsNone result → (n : ℕ) → IsNumber low high octets.now n → ⊥ }
+{
+    match str::from_utf8(octets) {
+        Ok(text) => number_of_text(text, low, high),
+        Err(_) => None,
+    }
+}
+
+/// The law that makes "the number that it spells" one number: no text spells two, in whatever ranges.
+pub fn spells_one_number()
+    ensures { SpellsOneNumber }
+{}
+
+// The standard library's reader also takes a sign and zeros in front, so these are refused first.
+fn is_plain(octets: &[u8]) -> bool
+    ensures { IsTrue result ↔ IsPlain octets.now }
+{
+    match octets {
+        [] => false,
+        [only] => *only >= b'0',
+        [first, ..] => *first > b'0',
+    }
+}
+
+#[cfg(test)]
+mod tests {
+    use super::*;
+
+    #[test]
+    fn spellings(rt: HostRuntime) {
+        let rows = [
+            ("0", Some(0)),
+            ("7", Some(7)),
+            ("1024", Some(1024)),
+            ("1025", None),
+            ("", None),
+            ("07", None),
+            ("00", None),
+            ("+7", None),
+            ("-7", None),
+            ("7 ", None),
+            ("7x", None),
+        ];
+        for (text, number) in rows {
+            assert_eq!(rt; number_of_text(text, 0, 1024), number, "at {text}");
+            assert_eq!(rt;
+                number_of_octets(text.as_bytes(), 0, 1024),
+                number,
+                "at {text}"
+            );
+        }
+    }
+
+    #[test]
+    fn ends_of_the_range(rt: HostRuntime) {
+        let last = u32::MAX;
+        assert_eq!(rt; number_of_text("4294967295", last, last), Some(last));
+        assert_eq!(rt; number_of_text("4294967294", last, last), None);
+        assert_eq!(rt; number_of_text("4294967296", 0, last), None);
+        assert_eq!(rt; number_of_text("5", 6, 4), None);
+        assert_eq!(rt; number_of_octets(&[b'7', 0xff], 0, 9), None);
+    }
+}
