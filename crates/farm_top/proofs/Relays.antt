@@ -9,7 +9,7 @@ use Rattle.std.proofs.KnownBytes.{Consumes-nil, Consumes-trans, Appends-nil, App
 use Rattle.trau_io.specs.declared.line.Side.{Side}
 use Rattle.trau_io.specs.Lines.{LineState, Rose}
 use Rattle.farm_top.specs.declared.relay.BlockEnd.TheVariants as block
-use Rattle.farm_top.specs.declared.relay.RelayEnd.TheVariants.{DownFailed}
+use Rattle.farm_top.specs.declared.relay.RelayEnd.TheVariants.{Refused, DownFailed}
 use Rattle.farm_top.specs.Blocks.{IsGoodBlock, frame_of, frames_of}
 use Rattle.farm_top.specs.Relay.{AllButTwo, Moves, NoFault, RelaysBlock, Relays}
 
@@ -77,4 +77,22 @@ down_failed u0 u1 u2 d0 d1 d2 n so_far one = record {
     up_same = one.ends.up_same ∙ so_far.calm.up_same;
     rose = subst (λ before. Rose before d2.faults) so_far.calm.down_same one.ends.rose;
   };
+}
+
+-- the next block is refused
+pub refused : (u0 u1 u2 d0 d1 d2 : LineState) (n : ℕ) → SoFar u0 u1 d0 d1 n → RelaysBlock u1 u2 d1 d2 block.Refused → Relays u0 u2 d0 d2 (Refused n)
+refused u0 u1 u2 d0 d1 d2 n so_far one = record {
+  blocks = so_far.blocks;
+  last = one.given;
+  more = one.sent;
+  good = so_far.good;
+  moves = moves_on _ _ _ _ _ _ _ _ _ _ so_far.moves one.moves;
+  ends = (
+    sym so_far.count,
+    record {
+      refused = one.ends.refused;
+      nothing = one.ends.nothing;
+      calm = record { up_same = one.ends.calm.up_same ∙ so_far.calm.up_same; down_same = one.ends.calm.down_same ∙ so_far.calm.down_same };
+    },
+  );
 }

@@ -1,13 +1,16 @@
--- Blocks of an uplink and their downlink frames, 40 octets each.
-use Rattle.std.specs.Prelude.{◌≡◌, ℕ, ◌<◌, ◌≤◌, List, length, flat_map, slice_index}
+-- Blocks of an uplink and their downlink frames, 40 octets each (GSM 08.60).
+use Rattle.std.specs.Prelude.{◌≡◌, ℕ, ◌<◌, ◌≤◌, List, length, flat_map}
+use Rattle.trau_bits.specs.Bits.{bits_of, octets_of}
+use Rattle.trau_frame.specs.Relay.{IsGoodSpeech, relayed_bits}
 
--- a block that is relayed: a good speech frame
-abbrev pub IsGoodBlock : List ℕ → Type 0
-IsGoodBlock block = (length block ≡ 40) × (slice_index block 0 ≡ 0)
+-- a block that is relayed: 40 octets whose 320 bits are a good speech frame
+pub record IsGoodBlock (block : List ℕ) : Type 0 where
+  pub whole : length block ≡ 40
+  pub good : IsGoodSpeech (bits_of block)
 
--- the downlink frame of a block
+-- the downlink frame of a block: the same data bits, with SP 1
 unfoldable pub frame_of : List ℕ → List ℕ
-frame_of block = block
+frame_of block = octets_of (relayed_bits (bits_of block))
 
 -- the downlink frames of blocks, one after the other
 abbrev pub frames_of : List (List ℕ) → List ℕ

@@ -1,4 +1,4 @@
-use Rattle.farm_top.proofs.Relays.{more, down_failed, others_on}
+use Rattle.farm_top.proofs.Relays.{more, refused, down_failed, others_on}
 use Rattle.farm_top.proofs.relay.relay_frames.Goals as goal
 
 pub loop-frames-preserved : goal.loop-frames-preserved
@@ -9,3 +9,6 @@ loop-frames-preserved g c = record {
 
 pub returns-in-DownFailed-clause-relays : goal.returns-in-DownFailed-clause-relays
 returns-in-DownFailed-clause-relays g c = down_failed _ _ _ _ _ _ _ c.loop-frames.invariant.so_far c.in-DownFailed.ensures.block
+
+pub returns-in-Refused-clause-relays : goal.returns-in-Refused-clause-relays
+returns-in-Refused-clause-relays g c = refused _ _ _ _ _ _ _ c.loop-frames.invariant.so_far c.in-Refused.ensures.block

@@ -1,0 +1,78 @@
+#!/bin/sh
+# The program on real lines: the octets that it writes, and what it answers where the system fails.
+set -eu
+top=$(cd "$(dirname "$0")/.." && pwd)
+work=$(mktemp -d)
+trap 'rm -rf "$work"' EXIT
+cd "$work"
+failed=0
+
+# expect NAME STATUS TEXT: the status and the text of the last command
+expect() {
+    if [ "$status" != "$2" ] || [ "$(cat text)" != "$3" ]; then
+        echo "FAILED $1: status $status, text '$(cat text)'"
+        failed=$((failed + 1))
+    else
+        echo "ok $1"
+    fi
+}
+
+trau() {
+    status=0
+    "$top/trau" "$@" >text </dev/null || status=$?
+}
+
+cp "$top/examples/7.up" 7.up
+trau relay 7
+expect "speech of 312 frames" 0 "relay frames 312"
+python3 "$top/checks/relay.py" 7.up 7.down || failed=$((failed + 1))
+
+trau relay 8
+expect "a missing line" 6 "line 8 up failed"
+[ ! -e 8.down ] || { echo "FAILED: 8.down was made"; failed=$((failed + 1)); }
+
+: >9.up
+echo old >9.down
+trau relay 9
+expect "an empty line" 0 "relay frames 0"
+[ "$(cat 9.down)" = old ] || { echo "FAILED: 9.down was written"; failed=$((failed + 1)); }
+
+head -c 119 7.up >10.up
+trau relay 10
+expect "a line that ends inside a block" 8 "relay refused 2"
+[ "$(wc -c <10.down)" -eq 80 ] || { echo "FAILED: 10.down"; failed=$((failed + 1)); }
+
+cp 7.up 11.up
+mkdir 11.down
+trau relay 11
+expect "a downlink that can't be written" 6 "line 11 down failed"
+
+trau relay 07
+expect "a leading zero" 1 "usage"
+trau "$(printf 'relay\377')" 7
+expect "a word that isn't UTF-8" 1 "usage"
+trau
+expect "no words" 1 "usage"
+
+status=0
+"$top/trau" relay 7 >/dev/full </dev/null || status=$?
+: >text
+expect "a full standard output" 4 ""
+
+# With less and less memory the program ends with status 5 and its text, until it can't be started at all.
+met=0
+for limit in 6000 5000 4000 3600 3400 3200 3000 2900 2800 2700 2600 2500; do
+    status=0
+    (ulimit -v "$limit" && exec "$top/crates/trau_program/out/trau_program" relay 7) >text 2>/dev/null </dev/null || status=$?
+    case "$status $(cat text)" in
+        "5 no memory") met=$((met + 1)) ;;
+        "0 relay frames 312") ;;
+        *) break ;;
+    esac
+done
+if [ "$met" -gt 0 ]; then echo "ok want of memory ($met limits)"; else
+    echo "FAILED want of memory: no limit gave status 5"
+    failed=$((failed + 1))
+fi
+
+[ "$failed" = 0 ]

@@ -1,0 +1,5 @@
+use Rattle.trau_bits.proofs.Octets.{Filled}
+use Rattle.trau_bits.proofs.octet.Given as goal
+
+abbrev pub invariant-loop-j : goal.invariant-loop-j
+invariant-loop-j l = Filled l.bits l.first l.octet l.j

@@ -1,0 +1,75 @@
+//! Bits of the lines' octets, in the order in which GSM 08.60 counts them.
+//!
+//! Lowest crate of the transcoder's data path: a line carries octets, a frame is a list of bits. Bit 0 is the
+//! most significant bit of the first octet. A bit is a `u8` that is 0 or 1, one to an element.
+//! Definitions: `specs/Bits.antt`. Used by every crate that reads or writes frames on a line.
+#![tactic(auto)]
+
+ghost use Rattle.std.specs.Prelude.{◌≡◌, ◌+◌, ◌*◌, ◌^◌, ◌<◌, ◌≤◌, length, slice_index, slice_set};
+ghost use Rattle.trau_bits.specs.Bits.{bits_of, octet_at, octets_of, AreBits};
+
+pub mod laws;
+#[cfg(test)]
+mod tests;
+
+/// Bit `i` of the octets.
+pub fn get_bit(bytes: &[u8], i: usize) -> u8
+    requires { i < 8 * length bytes.now }
+    ensures value { result ≡ slice_index (bits_of bytes.now) i }
+    ensures bit { result < 2 }
+{
+    bytes[i / 8] >> (7 - i % 8) & 1
+}
+
+/// Sets bit `i` of the octets, and leaves the others.
+pub fn put_bit(bytes: &mut [u8], i: usize, bit: u8)
+    requires within { i < 8 * length bytes.old }
+    requires bit { bit < 2 }
+    ensures { bits_of bytes.new ≡ slice_set (bits_of bytes.old) i bit }
+{
+    let mask = 1 << (7 - i % 8);
+    let byte = &mut bytes[i / 8];
+    if bit == 1 {
+        *byte |= mask;
+    } else {
+        *byte &= !mask;
+    }
+}
+
+/// The octet of the eight bits from `first` on.
+fn octet(bits: &[u8], first: usize) -> u8
+    requires bits { AreBits bits.now }
+    requires within { first + 8 ≤ length bits.now }
+    ensures { result ≡ octet_at bits.now first }
+{
+    let mut octet = 0;
+    for j in 0..8 {
+        octet += bits[first + j] << (7 - j);
+    }
+    octet
+}
+
+/// Packs the bits, eight to an octet, over all of the octets.
+pub fn pack(bits: &[u8], bytes: &mut [u8])
+    requires bits { AreBits bits.now }
+    requires count { length bits.now ≡ 8 * length bytes.old }
+    ensures bits { bits_of bytes.new ≡ bits.now }
+    ensures octets { bytes.new ≡ octets_of bits.now }
+{
+    for (k, byte) in bytes.iter_mut().enumerate() {
+        *byte = octet(bits, 8 * k);
+    }
+}
+
+/// Unpacks the octets, a bit to an element, over all of the bits.
+pub fn unpack(bytes: &[u8], bits: &mut [u8])
+    requires { length bits.old ≡ 8 * length bytes.now }
+    ensures bits { bits.new ≡ bits_of bytes.now }
+    ensures are_bits { AreBits bits.new }
+{
+    for (k, byte) in bytes.iter().enumerate() {
+        for j in 0..8 {
+            bits[8 * k + j] = *byte >> (7 - j) & 1;
+        }
+    }
+}

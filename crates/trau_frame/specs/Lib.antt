@@ -1,0 +1,5 @@
+pub mod Role
+pub mod Frame
+pub mod UpFrame
+pub mod DownFrame
+pub mod Relay

@@ -1,0 +1,46 @@
+-- What the bits of an uplink frame say (this project's profile, in the manner of GSM 08.60 and GSM 06.31).
+use Rattle.std.specs.Prelude.{◌≡◌, ℕ, if◌then◌else◌, ◌==◌, List}
+use Rattle.trau_frame.specs.declared.frames.Kind.{Kind}
+use Rattle.trau_frame.specs.declared.frames.Kind.TheVariants.{Speech, Idle, Other}
+use Rattle.trau_frame.specs.declared.frames.Class.{Class}
+use Rattle.trau_frame.specs.declared.frames.Class.TheVariants.{Good, Sid, InvalidSid, Unusable}
+use Rattle.trau_frame.specs.declared.frames.UpFrame.{UpFrame}
+use Rattle.trau_frame.specs.Role.{Control, bit_with}
+use Rattle.trau_frame.specs.Frame.{number_of, data_of}
+
+-- the kind by the number in C1 to C5: 00010 for speech and 10000 for idle
+abbrev pub kind_by : ℕ → Kind
+kind_by pattern =
+    if pattern == 2 then Speech
+    else if pattern == 16 then Idle
+    else Other
+
+-- the class of a speech frame by its bad frame indicator and the number in its silence descriptor bits
+abbrev pub class_by : ℕ → ℕ → Class
+class_by bfi sid =
+    if sid == 0 then (if bfi == 0 then Good else Unusable)
+    else if sid == 2 then (if bfi == 0 then Sid else InvalidSid)
+    else InvalidSid
+
+-- the class of a frame of any kind: one that isn't speech can't be used
+abbrev pub class_at : Kind → ℕ → ℕ → Class
+class_at Speech bfi sid = class_by bfi sid
+class_at Idle bfi sid = Unusable
+class_at Other bfi sid = Unusable
+
+-- C1 to C5
+abbrev pub kind_of : List ℕ → Kind
+kind_of bits = kind_by (number_of bits 1 5)
+
+-- C12 is the bad frame indicator, C13 and C14 are the silence descriptor
+abbrev pub class_of : List ℕ → Class
+class_of bits = class_at (kind_of bits) (bit_with bits (Control 12)) (number_of bits 13 2)
+
+-- the frame is what the bits say: C6 to C11 are the time alignment field, C15 is TAF and C17 is DTXd
+pub record Says (bits : List ℕ) (f : UpFrame) : Type 0 where
+  pub kind : f.kind ≡ kind_of bits
+  pub class : f.class ≡ class_of bits
+  pub taf : f.taf ≡ (bit_with bits (Control 15) == 1)
+  pub dtxd : f.dtxd ≡ (bit_with bits (Control 17) == 1)
+  pub align : f.align ≡ number_of bits 6 6
+  pub data_bits : f.d ≡ data_of bits

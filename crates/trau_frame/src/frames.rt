@@ -1,0 +1,54 @@
+ghost use Rattle.std.specs.Prelude.{◌≤◌};
+ghost use Rattle.trau_bits.specs.Bits.{AreBits};
+
+/// What a frame carries, by its bits C1 to C5.
+#[derive(Clone, Copy, Debug, PartialEq, Eq)]
+pub enum Kind {
+    Speech,
+    Idle,
+    /// Any other pattern.
+    Other,
+}
+
+/// What an uplink speech frame is worth, by its bad frame indicator and its silence descriptor, in the manner
+/// of GSM 06.31.
+#[derive(Clone, Copy, Debug, PartialEq, Eq)]
+pub enum Class {
+    /// Speech.
+    Good,
+    /// A valid silence descriptor.
+    Sid,
+    /// A silence descriptor that can't be used.
+    InvalidSid,
+    /// A bad frame, and every frame that isn't speech.
+    Unusable,
+}
+
+/// A frame from a base station.
+#[derive(Clone, Copy)]
+pub struct UpFrame {
+    pub kind: Kind,
+    pub class: Class,
+    /// Time alignment flag: the frame is due for a silence descriptor (GSM 06.31).
+    pub taf: bool,
+    /// Whether discontinuous transmission applies downlink.
+    pub dtxd: bool,
+    /// The time alignment field, 0 to 63.
+    pub align: u8,
+    /// Bits D1 to D260, the codec's parameters.
+    pub d: [u8; 260],
+    pub ghost six_bits: { align ≤ 63 },
+    pub ghost are_bits: { AreBits d },
+}
+
+/// A frame to a base station.
+#[derive(Clone, Copy)]
+pub enum DownFrame {
+    Idle,
+    Speech {
+        /// Bits D1 to D260, the codec's parameters.
+        d: [u8; 260],
+        /// SP: the frame carries speech, and not a silence descriptor (GSM 06.31).
+        sp: bool,
+    },
+}

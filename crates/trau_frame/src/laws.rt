@@ -1,0 +1,25 @@
+//! Laws of frames, each the contract of a function that does nothing.
+
+ghost use Rattle.std.specs.Prelude.{◌≡◌, ◌<◌, ◌↔◌, ℕ, List, length, true};
+ghost use Rattle.trau_frame.specs.declared.frames.UpFrame.{UpFrame};
+ghost use Rattle.trau_frame.specs.Role.{Role, Sync, role_of, place_of, IsWithin};
+ghost use Rattle.trau_frame.specs.Frame.{Synced};
+ghost use Rattle.trau_frame.specs.UpFrame.{Says};
+ghost use Rattle.trau_frame.specs.DownFrame.{down_bits};
+ghost use Rattle.trau_frame.specs.Relay.{IsGoodSpeech, relayed_bits};
+
+use crate::frames::{Class, DownFrame, Kind};
+
+/// Each place has a role, and each role a place; a control, data or time bit has one place only.
+pub fn roles_and_places()
+    ensures within { (i : ℕ) → i < 320 → IsWithin (role_of i) }
+    ensures found { (role : Role) → IsWithin role → role_of (place_of role) ≡ role }
+    ensures only { (i : ℕ) → i < 320 → ((bit : ℕ) → role_of i ≡ Sync bit → ⊥) → place_of (role_of i) ≡ i }
+{}
+
+/// A frame that was read is good speech exactly where its bits are, and then its data bits make what is relayed.
+pub fn good_speech_is_relayed()
+    ensures good { (bits : List ℕ) (f : UpFrame) → length bits ≡ 320 → Synced bits → Says bits f →
+        (IsGoodSpeech bits ↔ ((f.kind ≡ Kind.Speech) × (f.class ≡ Class.Good))) }
+    ensures relayed { (bits : List ℕ) (f : UpFrame) → Says bits f → down_bits (DownFrame.Speech f.d true) ≡ relayed_bits bits }
+{}

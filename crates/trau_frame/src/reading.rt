@@ -1,0 +1,76 @@
+ghost use Rattle.std.specs.Prelude.{◌≡◌, ◌+◌, ◌<◌, ◌≤◌, ◌^◌, ◌==◌};
+ghost use Rattle.trau_bits.specs.Bits.{AreBits};
+ghost use Rattle.trau_frame.specs.Role.{Control, bit_with};
+ghost use Rattle.trau_frame.specs.Frame.{Synced, number_of};
+ghost use Rattle.trau_frame.specs.UpFrame.{kind_by, class_at, Says};
+
+use crate::frames::{Class, Kind, UpFrame};
+use crate::rows::{control, data};
+
+/// Whether control bit C`c` is 1.
+fn flag(bits: &[u8; 320], c: usize) -> bool
+    requires bits { AreBits bits.now }
+    requires low { 1 ≤ c }
+    requires high { c ≤ 21 }
+    ensures { result ≡ (bit_with bits.now (Control c) == 1) }
+{
+    control(bits, c) == 1
+}
+
+/// The number in `n` control bits from C`first` on, the first of them the highest.
+#[tactic(auto, unfolding(crate::specs::Frame::number_of))]
+fn number(bits: &[u8; 320], first: usize, n: usize) -> u8
+    requires bits { AreBits bits.now }
+    requires low { 1 ≤ first }
+    requires high { first + n ≤ 22 }
+    requires small { n ≤ 8 }
+    ensures value { result ≡ number_of bits.now first n }
+    ensures bound { result < 2 ^ n }
+{
+    let mut value = 0;
+    for k in 0..n {
+        value = 2 * value + control(bits, first + k);
+    }
+    value
+}
+
+fn kind(pattern: u8) -> Kind
+    ensures { result ≡ kind_by pattern }
+{
+    match pattern {
+        0b00010 => Kind::Speech,
+        0b10000 => Kind::Idle,
+        _ => Kind::Other,
+    }
+}
+
+fn class(kind: Kind, bfi: u8, sid: u8) -> Class
+    ensures { result ≡ class_at kind bfi sid }
+{
+    match (kind, bfi, sid) {
+        (Kind::Speech, 0, 0) => Class::Good,
+        (Kind::Speech, 0, 2) => Class::Sid,
+        (Kind::Speech, _, 0) => Class::Unusable,
+        (Kind::Speech, _, _) => Class::InvalidSid,
+        _ => Class::Unusable,
+    }
+}
+
+/// Reads an uplink frame from 320 bits that carry the sync pattern. A frame of another kind than speech has the
+/// class Unusable; its alignment field, TAF, DTXd and data bits are read all the same. Spare and time bits are
+/// not looked at.
+pub fn read_up(bits: &[u8; 320]) -> UpFrame
+    requires bits { AreBits bits.now }
+    requires synced { Synced bits.now }
+    ensures { Says bits.now result }
+{
+    let kind = kind(number(bits, 1, 5));
+    UpFrame {
+        kind,
+        class: class(kind, control(bits, 12), number(bits, 13, 2)),
+        taf: flag(bits, 15),
+        dtxd: flag(bits, 17),
+        align: number(bits, 6, 6),
+        d: data(bits),
+    }
+}
