@@ -1,12 +1,14 @@
 -- A frame is read and written row by row.
-use Rattle.std.proofs.Common.{◌≡◌, ℕ, ◌+◌, ◌-◌, ◌*◌, ◌<◌, ◌≤◌, List, map, replicate, length, get_or, set, refl, sym, ap, ◌∙◌, subst, arith, inl, inr}
+use Rattle.std.proofs.Common.{◌≡◌, ℕ, ◌+◌, ◌-◌, ◌*◌, ◌<◌, ◌≤◌, List, map, replicate, length, get_or, set, refl, sym, ap, ◌∙◌, subst, arith, rules, slice_range, inl, inr}
 use Rattle.std.specs.List.{range_with_len}
 use Rattle.std.proofs.lemmas.List.{length-set, get_or-replicate}
 use Rattle.std.proofs.lemmas.List.Edits.{fill_by_more}
 use Rattle.std.proofs.lemmas.List.FromFn.{fill_by_all, length-map-range_with_len, get_or-map-range_with_len}
+use borrow.Rule.Slice.PartMut.{put_mid}
+use Rattle.std.proofs.lemmas.List.{places}
 use Rattle.std.proofs.lemmas.Bool.{cases_lt}
 use Rattle.std.proofs.lemmas.Bool.Decides.{nat_tests}
-use Rattle.std.proofs.lemmas.Grind.{same_number_lists}
+use Rattle.std.proofs.lemmas.Grind.{same_number_lists, elements}
 use Rattle.std.proofs.Math.ListN.{get_or-eq_default}
 use Rattle.trau_bits.specs.Bits.{AreBits}
 use Rattle.trau_frame.specs.Role.{Role, Sync, Control, Data, Time, role_of, place_of, bit_with, IsWithin}
@@ -192,3 +194,39 @@ data_of-below bits h = λ k e below.
 -- the data bits of an idle frame
 pub ones-below : (k d : ℕ) → k < 260 → get_or (replicate 260 1) k d < 2
 ones-below k d h = rw (get_or-replicate 260 k 1 d h) (omega arith)
+
+-- ---- a row copied as a whole
+
+get_or-put_mid_below : (a k : ℕ) (xs ys : List ℕ) (i : ℕ) → i < a → a ≤ length xs → get_or (put_mid a k xs ys) i 0 ≡ get_or xs i 0
+get_or-put_mid_below a k xs ys i h l = search (rules, places)
+
+get_or-put_mid : (a k : ℕ) (xs ys : List ℕ) (j : ℕ) → a ≤ length xs → j < length ys → get_or (put_mid a k xs ys) (a + j) 0 ≡ get_or ys j 0
+get_or-put_mid a k xs ys j h l = search (rules, places)
+
+length-put_mid : (a k : ℕ) (xs ys : List ℕ) → a + k ≤ length xs → length ys ≡ k → length (put_mid a k xs ys) ≡ length xs
+length-put_mid a k xs ys h l = search (rules, places)
+
+get_or-part : (d : List ℕ) (b j : ℕ) → b + 15 ≤ length d → j < 15 → get_or (slice_range d b (b + 15)) j 0 ≡ get_or d (b + j) 0
+get_or-part d b j h l = grind (arith, elements)
+
+pub written_part : (control d bits ys : List ℕ) (row k : ℕ) → row < 17 → k ≡ 15 → length d ≡ 260 → length ys ≡ 15 →
+    ys ≡ slice_range d (15 * row) (15 * row + 15) → IsWritten control d bits (32 + 16 * row + 1) →
+    IsWritten control d (put_mid (32 + 16 * row + 1) k bits ys) (32 + 16 * row + 16)
+written_part control d bits ys row k r fifteen len part same h =
+    let count = h.count in
+    record {
+      count = length-put_mid (32 + 16 * row + 1) k bits ys (omega arith) (omega arith) ∙ count;
+      each = λ i below. elim (cases_lt i (32 + 16 * row + 1)) [
+        | inl before ↦ get_or-put_mid_below (32 + 16 * row + 1) k bits ys i before (omega arith) ∙ h.each i before
+        | inr here ↦
+            let j : ℕ = i - (32 + 16 * row + 1) in
+            let small : j < 15 = omega arith in
+            let place : 32 + 16 * row + 1 + j ≡ i = omega arith in
+            let index : 15 * row + j + 1 - 1 ≡ 15 * row + j = omega arith in
+            ap (λ n. get_or (put_mid (32 + 16 * row + 1) k bits ys) n 0) (sym place) ∙
+            get_or-put_mid (32 + 16 * row + 1) k bits ys j (omega arith) (omega arith) ∙
+            ap (λ l. get_or l j 0) same ∙ get_or-part d (15 * row) j (omega arith) small ∙
+            ap (λ n. get_or d n 0) (sym index) ∙
+            sym (ap (bit_for control d) (role_of-at (Data (15 * row + j + 1)) i (omega arith, omega arith) (place_of-row row j (15 * row + j + 1) r small refl ∙ place)))
+      ];
+    }

@@ -1,2 +1,4 @@
 pub mod Places
 pub mod Filling
+pub mod Again
+pub mod Relayed

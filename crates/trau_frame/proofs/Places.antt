@@ -4,6 +4,7 @@ use Rattle.std.specs.List.{list_all, range_with_len}
 use Rattle.std.proofs.lemmas.List.Recursion.{and_at}
 use Rattle.std.proofs.lemmas.List.FromFn.{length-range_with_len, get_or-range_with_len}
 use Rattle.std.proofs.lemmas.Bool.{cases_eq, cases_lt, le-ltb, ne_eqb}
+use Rattle.std.proofs.lemmas.Bool.Decides.{nat_tests}
 use Rattle.std.proofs.lemmas.Grind.{common_steps}
 use Rattle.trau_frame.specs.Role.{Role, Sync, Control, Data, Time, role_of, place_of, IsWithin}
 use Rattle.trau_frame.specs.Frame.{Synced}
@@ -150,3 +151,10 @@ synced_zeros bits s i h = s i 0 (omega arith) (role_of-zeros i h)
 
 pub synced_ones : (bits : List ℕ) → Synced bits → (row : ℕ) → 1 ≤ row → row < 20 → get_or bits (16 * row) 0 ≡ 1
 synced_ones bits s row l h = s (16 * row) 1 (omega arith) (role_of-ones row l h)
+
+pub place_of-below : (r : Role) → IsWithin r → place_of r < 320
+unfolding place_of
+place_of-below (Sync bit) h = omega arith
+place_of-below (Control c) h = grind (arith, nat_tests)
+place_of-below (Data n) h = grind (arith, nat_tests)
+place_of-below (Time t) h = omega arith

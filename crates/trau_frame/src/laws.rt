@@ -1,9 +1,9 @@
 //! Laws of frames, each the contract of a function that does nothing.
 
-ghost use Rattle.std.specs.Prelude.{◌≡◌, ◌<◌, ◌↔◌, ℕ, List, length, true};
+ghost use Rattle.std.specs.Prelude.{◌≡◌, ◌≢◌, ◌<◌, ◌≤◌, ◌-◌, ◌↔◌, ℕ, List, length, slice_index, true};
 ghost use Rattle.trau_frame.specs.declared.frames.UpFrame.{UpFrame};
-ghost use Rattle.trau_frame.specs.Role.{Role, Sync, role_of, place_of, IsWithin};
-ghost use Rattle.trau_frame.specs.Frame.{Synced};
+ghost use Rattle.trau_frame.specs.Role.{Role, Sync, Control, role_of, place_of, bit_with, IsWithin};
+ghost use Rattle.trau_frame.specs.Frame.{Synced, data_of, frame_bits};
 ghost use Rattle.trau_frame.specs.UpFrame.{Says};
 ghost use Rattle.trau_frame.specs.DownFrame.{down_bits};
 ghost use Rattle.trau_frame.specs.Relay.{IsGoodSpeech, relayed_bits};
@@ -14,12 +14,22 @@ use crate::frames::{Class, DownFrame, Kind};
 pub fn roles_and_places()
     ensures within { (i : ℕ) → i < 320 → IsWithin (role_of i) }
     ensures found { (role : Role) → IsWithin role → role_of (place_of role) ≡ role }
-    ensures only { (i : ℕ) → i < 320 → ((bit : ℕ) → role_of i ≡ Sync bit → ⊥) → place_of (role_of i) ≡ i }
+    ensures only { (i : ℕ) → i < 320 → ((bit : ℕ) → role_of i ≢ Sync bit) → place_of (role_of i) ≡ i }
+{}
+
+/// A frame of these control and data bits has 320 bits that carry the sync pattern, and they are read from it.
+pub fn written_bits_are_read()
+    ensures count { (control d : List ℕ) → length (frame_bits control d) ≡ 320 }
+    ensures synced { (control d : List ℕ) → Synced (frame_bits control d) }
+    ensures control { (control d : List ℕ) (c : ℕ) → 1 ≤ c → c ≤ 21 →
+        bit_with (frame_bits control d) (Control c) ≡ slice_index control (c - 1) }
+    ensures data_bits { (control d : List ℕ) → length d ≡ 260 → data_of (frame_bits control d) ≡ d }
 {}
 
 /// A frame that was read is good speech exactly where its bits are, and then its data bits make what is relayed.
 pub fn good_speech_is_relayed()
     ensures good { (bits : List ℕ) (f : UpFrame) → length bits ≡ 320 → Synced bits → Says bits f →
         (IsGoodSpeech bits ↔ ((f.kind ≡ Kind.Speech) × (f.class ≡ Class.Good))) }
-    ensures relayed { (bits : List ℕ) (f : UpFrame) → Says bits f → down_bits (DownFrame.Speech f.d true) ≡ relayed_bits bits }
+    ensures relayed { (bits : List ℕ) (f : UpFrame) → Says bits f →
+        down_bits (DownFrame.Speech f.d true) ≡ relayed_bits bits }
 {}

@@ -8,13 +8,13 @@ ghost use Rattle.trau_frame.specs.Frame.{data_of, IsWritten, frame_bits};
 /// Bits in a row.
 const ROW: usize = 16;
 /// Data bits in a row of data bits.
-const DATA: usize = 15;
+const ROW_DATA: usize = 15;
 /// Rows of data bits.
 const DATA_ROWS: usize = 17;
 /// The first place of the first row of data bits.
-const FIRST: usize = 32;
+const FIRST_ROW: usize = 32;
 /// The first place of the last row.
-const LAST: usize = 304;
+const LAST_ROW: usize = 304;
 
 /// Control bit C`c`.
 #[tactic(auto, unfolding(crate::specs::Role::place_of))]
@@ -36,12 +36,12 @@ pub fn data(bits: &[u8; 320]) -> [u8; 260]
 {
     let mut d = [0; 260];
     for row in 0..DATA_ROWS {
-        for j in 0..DATA {
-            d[DATA * row + j] = bits[FIRST + ROW * row + 1 + j];
+        for j in 0..ROW_DATA {
+            d[ROW_DATA * row + j] = bits[FIRST_ROW + ROW * row + 1 + j];
         }
     }
     for n in 0..5 {
-        d[255 + n] = bits[LAST + 1 + n];
+        d[255 + n] = bits[LAST_ROW + 1 + n];
     }
     d
 }
@@ -59,15 +59,24 @@ fn write_head(control: &[u8; 21], bits: &mut [u8; 320])
     }
 }
 
+/// Writes the fifteen data bits of a row.
+fn write_row(d: &[u8; 260], row: usize, bits: &mut [u8; 320])
+    requires { row < DATA_ROWS }
+    ensures { (control : List ℕ) → IsWritten control d.now bits.old (32 + 16 * row + 1) →
+        IsWritten control d.now bits.new (32 + 16 * row + 16) }
+{
+    let place = FIRST_ROW + ROW * row + 1;
+    bits[place..place + ROW_DATA].copy_from_slice(&d[ROW_DATA * row..ROW_DATA * row + ROW_DATA]);
+}
+
 /// Writes the rows of fifteen data bits.
 fn write_data(d: &[u8; 260], bits: &mut [u8; 320])
-    ensures { (control : List ℕ) → IsWritten control d.now bits.old 32 → IsWritten control d.now bits.new 304 }
+    ensures { (control : List ℕ) → IsWritten control d.now bits.old 32 →
+        IsWritten control d.now bits.new 304 }
 {
     for row in 0..DATA_ROWS {
-        bits[FIRST + ROW * row] = 1;
-        for j in 0..DATA {
-            bits[FIRST + ROW * row + 1 + j] = d[DATA * row + j];
-        }
+        bits[FIRST_ROW + ROW * row] = 1;
+        write_row(d, row, bits);
     }
 }
 
@@ -75,15 +84,15 @@ fn write_data(d: &[u8; 260], bits: &mut [u8; 320])
 fn write_tail(control: &[u8; 21], d: &[u8; 260], bits: &mut [u8; 320])
     ensures { IsWritten control.now d.now bits.old 304 → IsWritten control.now d.now bits.new 320 }
 {
-    bits[LAST] = 1;
+    bits[LAST_ROW] = 1;
     for n in 0..5 {
-        bits[LAST + 1 + n] = d[255 + n];
+        bits[LAST_ROW + 1 + n] = d[255 + n];
     }
     for c in 0..6 {
-        bits[LAST + 6 + c] = control[15 + c];
+        bits[LAST_ROW + 6 + c] = control[15 + c];
     }
     for t in 0..4 {
-        bits[LAST + 12 + t] = 1;
+        bits[LAST_ROW + 12 + t] = 1;
     }
 }
 

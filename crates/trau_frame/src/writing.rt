@@ -5,6 +5,15 @@ ghost use Rattle.trau_frame.specs.DownFrame.{HasBits, down_bits, down_control, d
 use crate::frames::DownFrame;
 use crate::rows::write_frame;
 
+/// C1 to C21 of an idle frame.
+const IDLE_CONTROL: [u8; 21] = [
+    0, 1, 1, 1, 0, 0, 0, 0, 0, 0, 0, 1, 1, 1, 1, 1, 1, 1, 1, 1, 1,
+];
+/// C1 to C21 of a speech frame with SP 1.
+const SPEECH_CONTROL: [u8; 21] = [
+    1, 1, 1, 0, 0, 0, 0, 0, 0, 0, 0, 1, 1, 1, 1, 1, 1, 1, 1, 1, 1,
+];
+
 /// C1 to C21 of a downlink frame.
 #[tactic(auto, unfolding(crate::specs::DownFrame::down_control))]
 fn down_control(f: &DownFrame) -> [u8; 21]
@@ -12,32 +21,12 @@ fn down_control(f: &DownFrame) -> [u8; 21]
     ensures are_bits { AreBits result }
 {
     match f {
-        DownFrame::Idle => [
-            0, 1, 1, 1, 0, 0, 0, 0, 0, 0, 0, 1, 1, 1, 1, 1, 1, 1, 1, 1, 1,
-        ],
-        DownFrame::Speech { sp, .. } => [
-            1,
-            1,
-            1,
-            0,
-            0,
-            0,
-            0,
-            0,
-            0,
-            0,
-            0,
-            1,
-            1,
-            1,
-            1,
-            u8::from(*sp),
-            1,
-            1,
-            1,
-            1,
-            1,
-        ],
+        DownFrame::Idle => IDLE_CONTROL,
+        DownFrame::Speech { sp, .. } => {
+            let mut control = SPEECH_CONTROL;
+            control[15] = u8::from(*sp);
+            control
+        }
     }
 }
 

@@ -4,6 +4,3 @@ use Rattle.trau_frame.proofs.rows.write_data.Given as goal
 
 abbrev pub invariant-loop-row : goal.invariant-loop-row
 invariant-loop-row l = (control : List ℕ) → IsWritten control l.d l.fn.bits 32 → IsWritten control l.d l.bits (32 + 16 * l.row)
-
-abbrev pub invariant-loop-j : goal.invariant-loop-j
-invariant-loop-j l = (control : List ℕ) → IsWritten control l.d l.fn.bits 32 → IsWritten control l.d l.bits (32 + 16 * l.row + 1 + l.j)

@@ -1,0 +1,2 @@
+pub mod Alaw
+pub mod Companding

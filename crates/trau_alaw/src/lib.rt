@@ -1,0 +1,79 @@
+//! A-law of a PCM line (G.711, table 1a).
+//!
+//! Between the Pcm and Out lines of a call and the codec: an octet of the line stands for a sample of
+//! 16 bits, and a sample is sent as the octet whose interval holds it. Both ways are computed without a
+//! table.
+//!
+//! Definitions: `specs/Companding.antt` says what any companding law is, from the interval of each octet;
+//! `specs/Alaw.antt` has the intervals of A-law.
+#![tactic(auto)]
+
+mod laws;
+
+ghost use Rattle.std.specs.Prelude.{◌≡◌, ◌+◌, ◌/◌, ◌%◌, ◌<◌, ◌≤◌};
+ghost use Rattle.trau_alaw.specs.Companding.{magnitude, middle, octet_of, IsOnlyOctet};
+ghost use Rattle.trau_alaw.specs.Alaw.{alaw, alaw_least, alaw_width};
+
+pub use laws::{intervals_part_the_words, recompress};
+
+/// The sample of 16 bits that an octet stands for: the middle of its interval.
+pub fn expand(octet: u8) -> i16
+    ensures { result ≡ middle (alaw octet) }
+{
+    let code = octet ^ 0x55;
+    let magnitude = middle_of(code / 16 % 8, code % 16).cast_signed();
+    if code < 128 { -magnitude } else { magnitude }
+}
+
+/// The octet that a sample of 16 bits is sent as.
+pub fn compress(x: i16) -> u8
+    ensures value { result ≡ octet_of alaw x }
+    ensures only { IsOnlyOctet alaw x result }
+{
+    let sign = if x < 0 { 0 } else { 128 };
+    (sign + segment_and_step(magnitude_of(x))) ^ 0x55
+}
+
+// The middle of the interval of one step of a segment.
+fn middle_of(segment: u8, step: u8) -> u16
+    requires segment { segment < 8 }
+    requires step { step < 16 }
+    ensures value { result ≡ alaw_least segment step + alaw_width segment / 2 }
+    ensures below { result < 32768 }
+{
+    let odd = 2 * u16::from(step) + 1;
+    if segment == 0 {
+        odd << 3
+    } else {
+        (odd + 32) << (segment + 2)
+    }
+}
+
+// The magnitude that the intervals speak of.
+fn magnitude_of(x: i16) -> u16
+    ensures value { result ≡ magnitude x }
+    ensures below { result < 32768 }
+{
+    if x < 0 {
+        (-1 - x).cast_unsigned()
+    } else {
+        x.cast_unsigned()
+    }
+}
+
+// The segment (three bits) and the step (four bits) whose interval has the magnitude.
+//
+// A segment from 1 on has the magnitudes with one highest bit, and its step is the four bits below;
+// segment 0 goes on below segment 1 in the same steps.
+fn segment_and_step(magnitude: u16) -> u8
+    requires { magnitude < 32768 }
+    ensures below { result < 128 }
+    ensures at_least { alaw_least (result / 16) (result % 16) ≤ magnitude }
+    ensures within { magnitude < alaw_least (result / 16) (result % 16) + alaw_width (result / 16) }
+{
+    let doublings = magnitude.max(511).ilog2() - 8;
+    (16 * doublings + u32::from(magnitude >> (doublings + 4))) as u8
+}
+
+#[cfg(test)]
+mod tests;

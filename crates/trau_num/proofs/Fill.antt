@@ -1,0 +1,30 @@
+-- Lists of a fixed size that a loop fills: `f k` at each place k.
+use Rattle.std.proofs.Common.{◌≡◌, ℕ, ◌+◌, ◌<◌, ◌≤◌, get_or, set, length, map, List, ◌∙◌, arith}
+use Rattle.std.specs.List.{range_with_len}
+use Rattle.std.proofs.lemmas.List.{length-set}
+use Rattle.std.proofs.lemmas.List.Edits.{fill_by_more}
+use Rattle.std.proofs.lemmas.List.FromFn.{fill_by_all}
+
+-- n places, of which the first i are filled; d stands for what lies past the end
+pub record Filled {X : Type 0} (d : X) (f : ℕ → X) (xs : List X) (n i : ℕ) : Type 0 where
+  pub count : length xs ≡ n
+  pub each : (k : ℕ) → k < i → get_or xs k d ≡ f k
+
+-- no place is filled yet
+pub fill_none : {X : Type 0} (d : X) (f : ℕ → X) (xs : List X) (n : ℕ) → length xs ≡ n → Filled d f xs n 0
+fill_none d f xs n e = record { count = e; each = λ k h. absurd (omega arith) }
+
+-- the next place is filled
+pub fill_next : {X : Type 0} (d : X) (f : ℕ → X) (xs : List X) (n i : ℕ) (x : X) →
+    i < n → Filled d f xs n i → x ≡ f i → Filled d f (set xs i x) n (i + 1)
+fill_next d f xs n i x l h e =
+    let count = h.count in
+    record {
+      count = length-set xs i x ∙ count;
+      each = rw e (fill_by_more f xs i d (omega arith) h.each);
+    }
+
+-- all places are filled
+pub fill_all : {X : Type 0} (d : X) (f : ℕ → X) (xs : List X) (n i : ℕ) →
+    n ≤ i → Filled d f xs n i → xs ≡ map f (range_with_len 0 n)
+fill_all d f xs n i l h = fill_by_all f xs n d h.count (λ k b. let within : k < i = omega arith in h.each k within)

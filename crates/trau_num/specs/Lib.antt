@@ -1,0 +1,2 @@
+pub mod Num
+pub mod Random

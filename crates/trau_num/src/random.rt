@@ -1,0 +1,25 @@
+//! The random source of a call (this project's profile).
+
+ghost use Rattle.std.specs.Prelude.{◌≡◌, ℕ, ◌<◌, ◌≤◌};
+ghost use Rattle.trau_num.specs.Random.{next_state, drawn_number};
+
+/// The random source of a call, which starts at the call's number.
+#[derive(Clone, Copy, Debug, PartialEq, Eq)]
+pub struct Draw {
+    pub r: u16,
+}
+
+impl Draw {
+    /// Draws a number below `m`, which is 1 to 6.
+    #[tactic(auto, unfolding(crate::specs::Random::next_state, crate::specs::Random::drawn_number))]
+    pub fn next(&mut self, m: u16) -> u16
+        requires some { 1 ≤ m }
+        requires at_most_6 { m ≤ 6 }
+        ensures state { self.new.r ≡ next_state self.old.r }
+        ensures value { result ≡ drawn_number self.old.r m }
+        ensures below { result < m }
+    {
+        self.r = self.r.wrapping_mul(25173).wrapping_add(13849);
+        ((u32::from(self.r) * u32::from(m)) >> 16) as u16
+    }
+}

@@ -1,0 +1,2 @@
+-- Lines as files.
+pub mod Files

@@ -1,0 +1,63 @@
+// The desk over a reader and a writer, as the standard streams are.
+ghost use Rattle.std.specs.Prelude.{◌≡◌};
+ghost use Rattle.trau_io.specs.Desks.{DeskState};
+
+use crate::retry::{read_again, write_again};
+use std::io::{Read, Write};
+use std::marker::Model;
+use trau_io::{Desk, Failed};
+
+/// A desk that reads orders from `input` and writes texts to `output`, which keeps nothing back: what
+/// it took is written. It tells what these two tell, which of the standard streams is nothing.
+#[derive(Drop)]
+pub struct StdDesk<R: Read + Drop, W: Write + Drop> {
+    input: R,
+    output: W,
+    read_faults: u64,
+    write_faults: u64,
+}
+
+impl<R: Read + Drop, W: Write + Drop> Model for StdDesk<R, W> {
+    ghost Value = { DeskState };
+
+    ghost view = { λ d. record { to_come = R.remaining d.input; read_faults = d.read_faults; written = W.contents d.output; write_faults = d.write_faults } };
+}
+
+impl<R: Read + Drop, W: Write + Drop> StdDesk<R, W> {
+    /// A desk that hasn't failed yet.
+    pub fn new(input: R, output: W) -> StdDesk<R, W>
+        ensures { result ≡ record { to_come = R.remaining input; read_faults = 0; written = W.contents output; write_faults = 0 } }
+    {
+        StdDesk {
+            input,
+            output,
+            read_faults: 0,
+            write_faults: 0,
+        }
+    }
+}
+
+impl<R: Read + Drop, W: Write + Drop> Desk for StdDesk<R, W> {
+    ghost desk = { λ d. d };
+
+    fn read(&mut self, buf: &mut [u8]) -> Result<usize, Failed> {
+        match read_again(&mut self.input, buf) {
+            Ok(count) => Ok(count),
+            Err(_) => {
+                self.read_faults = self.read_faults.saturating_add(1);
+                Err(Failed)
+            }
+        }
+    }
+
+    fn write(&mut self, bytes: &[u8]) -> Result<usize, Failed> {
+        match write_again(&mut self.output, bytes) {
+            // A writer that takes nothing would be asked for ever.
+            Ok(count) if count > 0 => Ok(count),
+            _ => {
+                self.write_faults = self.write_faults.saturating_add(1);
+                Err(Failed)
+            }
+        }
+    }
+}

@@ -1,0 +1,101 @@
+//! The program `trau`: the files of the current folder and the standard streams, round the top call.
+//!
+//! At the top: makes the two outsides that the top call works on, the lines as files (`FileTrunk`) and
+//! the standard streams as the desk (`StdDesk`), hands it the words of the command line and ends with
+//! the status that it answers. Nothing is decided here but what comes before that call: words that
+//! aren't UTF-8, and want of memory.
+//!
+//! This is the trusted edge: no contract can say what the system's files and streams hold. What both
+//! tell of themselves are their counts of faults, and these are proved against the traits of `trau_io`.
+//! The names of the files and the statuses are this project's profile.
+//! Definitions: `specs/Files.antt`.
+#![tactic(auto)]
+
+mod desk;
+mod retry;
+mod trunk;
+
+use desk::StdDesk;
+use farm_top::farm_top;
+use std::alloc::{AllocError, Global};
+use std::io::{ErrorKind, Read, Write};
+use std::process::ExitCode;
+use std::rt::{Env, Files};
+use std::{env, io};
+use trau_io::tell;
+use trunk::FileTrunk;
+
+// The words aren't those of a command.
+const USAGE: u8 = 1;
+
+// There is no memory.
+const NO_MEMORY: u8 = 5;
+
+// Why the top call can't be made.
+#[derive(Clone, Copy, Debug, PartialEq, Eq)]
+enum Refusal {
+    NotText,
+    NoMemory,
+}
+
+impl Refusal {
+    fn status(self) -> u8 {
+        match self {
+            Refusal::NotText => USAGE,
+            Refusal::NoMemory => NO_MEMORY,
+        }
+    }
+
+    fn text(self) -> &'static [u8] {
+        match self {
+            Refusal::NotText => b"usage\n",
+            Refusal::NoMemory => b"no memory\n",
+        }
+    }
+}
+
+impl From<AllocError> for Refusal {
+    ghost use Rattle.std.specs.Prelude.{◌≡◌};
+    ghost use Rattle.trau_program.specs.declared.Refusal.TheVariants.{NoMemory};
+
+    ghost from_gives = { λ _ r. r ≡ NoMemory };
+
+    fn from(_: AllocError) -> Refusal {
+        Refusal::NoMemory
+    }
+}
+
+// The words after the program's name.
+fn words_given<R: Env + AllocGlobal>(rt: &R) -> Result<Vec<String>, Refusal> {
+    match env::args(rt) {
+        Ok(words) => Ok(words.skip(1).collect(rt.alloc())?),
+        Err(fault) if fault.kind() == ErrorKind::OutOfMemory => Err(Refusal::NoMemory),
+        Err(_) => Err(Refusal::NotText),
+    }
+}
+
+// The status of the top call.
+fn run<R: Env + Files + AllocGlobal, I: Read + Drop, O: Write + Drop>(
+    rt: &R,
+    desk: &mut StdDesk<I, O>,
+) -> Result<u8, Refusal> {
+    let words = words_given(rt)?;
+    let mut trunk = FileTrunk::new(rt.alloc(), rt)?;
+    Ok(farm_top(rt.alloc(), &words, &mut trunk, desk))
+}
+
+fn main(rt: HostRuntime) -> ExitCode {
+    let mut desk = StdDesk::new(rt.reader(), io::writer(&rt));
+    let status = match run(&rt, &mut desk) {
+        Ok(status) => status,
+        Err(refusal) => {
+            // A desk that fails here changes nothing: the status says why the call wasn't made.
+            let _ = tell(&mut desk, refusal.text());
+            refusal.status()
+        }
+    };
+    ExitCode::from(status)
+}
+
+#[cfg(test)]
+mod tests;
