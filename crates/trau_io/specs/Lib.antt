@@ -2,4 +2,5 @@
 pub mod Desks
 pub mod Lines
 pub mod Memory
+pub mod Places
 pub mod Transfer

@@ -1,11 +1,11 @@
 -- Lines in memory: what they tell, and what their calls answer (this project's profile).
-use Rattle.std.specs.Prelude.{ℕ, ◌+◌, ◌-◌, ◌*◌, ◌^◌, ◌==◌, ◌||◌, ◌++◌, Bool, min, max, nat_lt, List, [], length, take, drop, Option, Some, None, Result, Ok, Err, slice_get, slice_index, if◌then◌else◌}
+use Rattle.std.specs.Prelude.{ℕ, ◌+◌, ◌-◌, ◌^◌, ◌==◌, ◌||◌, ◌++◌, Bool, min, max, nat_lt, List, [], length, take, drop, Option, Some, None, Result, Ok, Err, slice_get, slice_index, if◌then◌else◌}
 use Rattle.std.specs.List.{list_any}
 use Rattle.trau_io.specs.declared.line.Failed.{Failed}
 use Rattle.trau_io.specs.declared.line.Side.{Side}
-use Rattle.trau_io.specs.declared.line.Side.TheVariants.{Up, Pcm, Down, Out}
 use Rattle.trau_io.specs.Lines.{LineState}
 use Rattle.trau_io.specs.Desks.{DeskState}
+use Rattle.trau_io.specs.Places.{place_of}
 
 -- a line in memory: the octets to come and written, how many octets it has still room for, which of its calls are cut or fail, and its numbers of calls and faults
 pub record MemoryLine : Type 0 where
@@ -61,16 +61,6 @@ state_of l = record { to_come = Some l.to_come; written = Some l.written; faults
 -- what is known of a desk in memory, made of a line that is read and one that is written
 abbrev pub desk_of : MemoryLine → MemoryLine → DeskState
 desk_of orders texts = record { to_come = Some orders.to_come; read_faults = orders.faults; written = Some texts.written; write_faults = texts.faults }
-
-abbrev pub number_of_side : Side → ℕ
-number_of_side Up = 0
-number_of_side Pcm = 1
-number_of_side Down = 2
-number_of_side Out = 3
-
--- the place of a line in the list of all lines
-abbrev pub place_of : ℕ → Side → ℕ
-place_of call side = 4 * call + number_of_side side
 
 -- what is known of each line of the list; a line past it has never been there
 abbrev pub known_of : Option MemoryLine → LineState

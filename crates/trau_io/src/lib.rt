@@ -7,18 +7,20 @@
 //!
 //! The meanings of lines and desks, and all limits, are this project's profile.
 //! Definitions: `specs/Lines.antt` and `specs/Desks.antt` (what one call does), `specs/Transfer.antt`
-//! (what a whole transfer does), `specs/Memory.antt` (lines in memory).
+//! (what a whole transfer does), `specs/Memory.antt` (lines in memory), `specs/Places.antt` (tables of all lines).
 #![tactic(auto)]
 
 mod desk;
 mod line;
 mod memory;
+mod places;
 mod transfer;
 mod trunk;
 
 pub use desk::Desk;
 pub use line::{Failed, Line, Side};
 pub use memory::{MemDesk, MemTrunk};
+pub use places::{PLACES, place};
 pub use transfer::{Filled, read_block, tell, write_all};
 pub use trunk::Trunk;
 

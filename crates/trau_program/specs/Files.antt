@@ -3,7 +3,7 @@ use Rattle.std.specs.Prelude.{ℕ, List, ◌++◌, None, codes, decimal, slice_i
 use Rattle.trau_io.specs.declared.line.Side.{Side}
 use Rattle.trau_io.specs.declared.line.Side.TheVariants.{Up, Pcm, Down, Out}
 use Rattle.trau_io.specs.Lines.{LineState}
-use Rattle.trau_io.specs.Memory.{place_of}
+use Rattle.trau_io.specs.Places.{place_of}
 
 abbrev pub ending_of : Side → List ℕ
 ending_of Up = codes ".up"

@@ -1,6 +1,5 @@
 // The lines as files of the current folder: `7.up`, `7.pcm`, `7.down` and `7.out` of call 7.
-ghost use Rattle.std.specs.Prelude.{◌≡◌, ◌<◌, ℕ, List, All, vec_len, length, IfOk};
-ghost use Rattle.trau_io.specs.Memory.{number_of_side, place_of};
+ghost use Rattle.std.specs.Prelude.{◌≡◌, ℕ, List, All, vec_len, length, IfOk};
 ghost use Rattle.trau_program.specs.Files.{file_states};
 
 mod file;
@@ -10,29 +9,7 @@ use file::LineFile;
 use std::alloc::{AllocError, Global};
 use std::marker::Model;
 use std::rt::Files;
-use trau_io::{Failed, Line, Side, Trunk};
-
-// Four for each call number up to 4,096, and four that no line has for 0.
-const PLACES: usize = 4 * 4097;
-
-fn number_of(side: Side) -> usize
-    ensures value { result ≡ number_of_side side }
-    ensures small { result < 4 }
-{
-    match side {
-        Side::Up => 0,
-        Side::Pcm => 1,
-        Side::Down => 2,
-        Side::Out => 3,
-    }
-}
-
-fn place(line: Line) -> usize
-    ensures value { result ≡ place_of line.call line.side }
-    ensures small { result < 16388 }
-{
-    4 * line.call as usize + number_of(line.side)
-}
+use trau_io::{Failed, Line, PLACES, Trunk, place};
 
 /// All lines of a farm, each a file that is opened anew at each call, so that the number of open files
 /// is no limit. It tells how often each line failed, and nothing of its contents.

@@ -1,34 +1,13 @@
 // All lines of a farm, in memory.
 ghost use Rattle.std.specs.Prelude.{◌≡◌, ◌≢◌, ◌<◌, ◌≤◌, ℕ, List, [], Some, vec_len, length, All, slice_get, slice_index_or, slice_set, IfSome, IfOk, OnOk, OnErr};
 ghost use Rattle.trau_io.specs.Lines.{Reads, Writes, OthersStay};
-ghost use Rattle.trau_io.specs.Memory.{MemoryLine, new_line, number_of_side, place_of, states_of, read_answer, write_answer, after_read, after_write};
+ghost use Rattle.trau_io.specs.Places.{place_of};
+ghost use Rattle.trau_io.specs.Memory.{MemoryLine, new_line, states_of, read_answer, write_answer, after_read, after_write};
 
 use super::line::MemLine;
-use crate::{Failed, Line, Side, Trunk};
+use crate::{Failed, Line, PLACES, Trunk, place};
 use std::alloc::{AllocError, Global};
 use std::marker::Model;
-
-// Four for each call number up to 4,096, and four that no line has for 0.
-const PLACES: usize = 4 * 4097;
-
-fn number_of(side: Side) -> usize
-    ensures value { result ≡ number_of_side side }
-    ensures small { result < 4 }
-{
-    match side {
-        Side::Up => 0,
-        Side::Pcm => 1,
-        Side::Down => 2,
-        Side::Out => 3,
-    }
-}
-
-fn place(line: Line) -> usize
-    ensures value { result ≡ place_of line.call line.side }
-    ensures small { result < 16388 }
-{
-    4 * line.call as usize + number_of(line.side)
-}
 
 /// All lines of a farm, in memory. It tells all that they hold.
 #[derive(Drop)]
