@@ -1,9 +1,9 @@
 -- Facts about the bits of an octet list.
-use Rattle.std.proofs.Common.{◌≡◌, ℕ, ◌+◌, ◌-◌, ◌*◌, ◌/◌, ◌%◌, ◌<◌, ◌≤◌, ◌≢◌, List, length, get_or, set, refl, sym, ap, ◌∙◌, subst, arith, ◌⊎◌, inl, inr}
+use Rattle.std.proofs.Common.{◌≡◌, ℕ, ◌+◌, ◌-◌, ◌*◌, ◌/◌, ◌%◌, ◌<◌, ◌≢◌, List, length, get_or, set, sym, ap, ◌∙◌, subst, arith, inl, inr}
 use Rattle.std.specs.Int.{bit_at}
 use Rattle.std.proofs.lemmas.List.{length-set, get_or-set_same, get_or-set_other}
 use Rattle.std.proofs.lemmas.List.FromFn.{length-map-range_with_len, get_or-map-range_with_len, fill_by_all}
-use Rattle.std.proofs.lemmas.Grind.{same_number_lists, common_steps}
+use Rattle.std.proofs.lemmas.Grind.{same_number_lists}
 use Rattle.std.proofs.lemmas.Bool.{cases_eq}
 use Rattle.std.proofs.lemmas.Nat.Bits.{same_from_bits_below, bit_at-lt}
 use Rattle.trau_bits.specs.Bits.{bits_of, bit_of, AreBits}
@@ -56,9 +56,6 @@ bits_of-set bytes i v bit within h =
           bit_of-set bytes i v bit k within h ne ∙ sym (get_or-bits_of bytes k inside) ∙
           sym (get_or-set_other (bits_of bytes) i k bit 0 ne)
     ]))
-
--- for the loops that fill one list from the other
-pub ruleset lengths = (length-bits_of, same_number_lists, get_or-set_same, get_or-set_other)
 
 -- the bits of an octet list determine it
 pub bits_of-injective : (xs ys : List ℕ) → ((k : ℕ) → k < length xs → get_or xs k 0 < 256) → ((k : ℕ) → k < length ys → get_or ys k 0 < 256) →

@@ -1,4 +1,6 @@
 pub mod Places
-pub mod Filling
+pub mod RowPlaces
+pub mod ReadRows
+pub mod WrittenRows
 pub mod Again
 pub mod Relayed

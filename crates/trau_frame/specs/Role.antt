@@ -1,5 +1,5 @@
 -- What stands at each of the 320 places of a frame (GSM 08.60).
-use Rattle.std.specs.Prelude.{ℕ, ◌+◌, ◌-◌, ◌*◌, ◌/◌, ◌%◌, ◌<◌, ◌≤◌, if◌then◌else◌, nat_lt, nat_le, ◌==◌, List, slice_index}
+use Rattle.std.specs.Prelude.{ℕ, ◌+◌, ◌-◌, ◌*◌, ◌/◌, ◌%◌, ◌<◌, ◌≤◌, if◌then◌else◌, nat_lt, nat_le, ◌==◌, ◌&&◌, List, slice_index}
 
 -- a sync bit of this value, control bit C1 to C21, data bit D1 to D260, or time bit T1 to T4
 pub data Role : Type 0 where
@@ -9,17 +9,17 @@ pub data Role : Type 0 where
   Time : ℕ → Role
 
 -- the role of place i: sixteen sync zeros, then a sync one at every sixteenth place; behind the first of these
--- C1 to C15, behind the others the data bits, fifteen to a row; in the last row five data bits, C16 to C21 and
--- T1 to T4
+-- C1 to C15, behind the others the data bits, fifteen to a row; in the last row the last five data bits, C16 to C21
+-- and T1 to T4
 unfoldable pub role_of : ℕ → Role
 role_of i =
     if nat_lt i 16 then Sync 0
-    else if nat_lt 315 i then Time (i - 315)
-    else if nat_lt 309 i then Control (i - 294)
-    else if nat_lt 304 i then Data (i - 49)
-    else if i % 16 == 0 then Sync 1
+    else if nat_le i 304 && i % 16 == 0 then Sync 1
     else if nat_lt i 32 then Control (i - 16)
-    else Data (15 * (i / 16 - 2) + i % 16)
+    else if nat_lt i 304 then Data (15 * (i / 16 - 2) + i % 16)
+    else if nat_lt i 310 then Data (i - 49)
+    else if nat_lt i 316 then Control (i - 294)
+    else Time (i - 315)
 
 -- the role exists in a frame
 abbrev pub IsWithin : Role → Type 0

@@ -29,7 +29,7 @@ pub enum Class {
 pub struct UpFrame {
     pub kind: Kind,
     pub class: Class,
-    /// Time alignment flag: the frame is due for a silence descriptor (GSM 06.31).
+    /// Time alignment flag: a silence descriptor is due in this period (GSM 06.31).
     pub taf: bool,
     /// Whether discontinuous transmission applies downlink.
     pub dtxd: bool,

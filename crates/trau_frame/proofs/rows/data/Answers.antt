@@ -1,7 +1,7 @@
 use Rattle.std.proofs.Common.{◌≡◌, ◌+◌, sym, subst, arith}
 use Rattle.trau_bits.specs.Bits.{AreBits}
 use Rattle.trau_frame.specs.Frame.{data_of}
-use Rattle.trau_frame.proofs.Filling.{read_row, read_last, read_to, read_all, data_of-below}
+use Rattle.trau_frame.proofs.ReadRows.{read_row, read_last, read_to, read_all, data_of-below}
 use Rattle.trau_frame.proofs.rows.data.Goals as goal
 
 pub loop-j-preserved : goal.loop-j-preserved

@@ -1,5 +1,5 @@
 use Rattle.std.proofs.Common.{◌+◌, ◌*◌}
-use Rattle.trau_frame.proofs.Filling.{IsRead}
+use Rattle.trau_frame.proofs.ReadRows.{IsRead}
 use Rattle.trau_frame.proofs.rows.data.Given as goal
 
 abbrev pub invariant-loop-row : goal.invariant-loop-row

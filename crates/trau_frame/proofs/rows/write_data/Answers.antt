@@ -1,5 +1,5 @@
 use Rattle.std.proofs.Common.{◌+◌, ◌*◌, arith}
-use Rattle.trau_frame.proofs.Filling.{written_to, written_one}
+use Rattle.trau_frame.proofs.WrittenRows.{written_to, written_one}
 use Rattle.trau_frame.proofs.rows.write_data.Goals as goal
 
 pub loop-row-preserved : goal.loop-row-preserved

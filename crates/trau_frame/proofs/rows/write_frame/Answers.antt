@@ -1,7 +1,7 @@
 use Rattle.std.proofs.Common.{◌≡◌, sym, subst}
 use Rattle.trau_bits.specs.Bits.{AreBits}
 use Rattle.trau_frame.specs.Frame.{frame_bits}
-use Rattle.trau_frame.proofs.Filling.{written_all, frame_bits-below}
+use Rattle.trau_frame.proofs.WrittenRows.{written_all, frame_bits-below}
 use Rattle.trau_frame.proofs.rows.write_frame.Goals as goal
 
 pub returns-clause-bits : goal.returns-clause-bits

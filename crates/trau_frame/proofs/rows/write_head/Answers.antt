@@ -1,5 +1,5 @@
 use Rattle.std.proofs.Common.{◌+◌, refl, arith}
-use Rattle.trau_frame.proofs.Filling.{written_to, written_zero, written_one, written_low}
+use Rattle.trau_frame.proofs.WrittenRows.{written_to, written_zero, written_one, written_low}
 use Rattle.trau_frame.proofs.rows.write_head.Goals as goal
 
 pub loop-i-preserved : goal.loop-i-preserved

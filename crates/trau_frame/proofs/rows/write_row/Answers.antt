@@ -1,5 +1,5 @@
 use Rattle.std.proofs.Common.{arith, rules}
-use Rattle.trau_frame.proofs.Filling.{written_part}
+use Rattle.trau_frame.proofs.WrittenRows.{written_part}
 use Rattle.trau_frame.proofs.rows.write_row.Goals as goal
 
 pub returns : goal.returns

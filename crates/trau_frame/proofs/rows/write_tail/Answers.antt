@@ -1,5 +1,5 @@
 use Rattle.std.proofs.Common.{refl, arith}
-use Rattle.trau_frame.proofs.Filling.{written_one, written_last, written_high, written_time}
+use Rattle.trau_frame.proofs.WrittenRows.{written_one, written_last, written_high, written_time}
 use Rattle.trau_frame.proofs.rows.write_tail.Goals as goal
 
 pub loop-n-init : goal.loop-n-init

@@ -1,7 +1,7 @@
 use Rattle.std.proofs.Common.{replicate, sym, ap, ◌∙◌}
 use Rattle.trau_frame.specs.Frame.{frame_bits}
 use Rattle.trau_frame.specs.DownFrame.{down_bits, down_control, down_data}
-use Rattle.trau_frame.proofs.Filling.{ones-below}
+use Rattle.trau_frame.proofs.WrittenRows.{ones-below}
 use Rattle.trau_frame.proofs.writing.write_down.Goals as goal
 
 pub write_frame-requires-clause-data_bits : goal.write_frame-requires-clause-data_bits
