@@ -1,5 +1,3 @@
 -- Lemmas on the top call.
-mod Causes
-mod Clean
-mod Asked
-mod Relays
+mod Asking
+mod Carrying

@@ -1,5 +1,6 @@
 -- Lines as files: their names, and what is known of them (this project's profile).
-use Rattle.std.specs.Prelude.{ℕ, List, ◌++◌, None, codes, decimal, slice_index}
+use Rattle.std.specs.Prelude.{ℕ, ◌+◌, ◌-◌, ◌^◌, min, List, ◌++◌, Option, Some, None, Result, Ok, Err, codes, decimal, slice_get}
+use Rattle.trau_io.specs.declared.line.Failed.{Failed}
 use Rattle.trau_io.specs.declared.line.Side.{Side}
 use Rattle.trau_io.specs.declared.line.Side.TheVariants.{Up, Pcm, Down, Out}
 use Rattle.trau_io.specs.Lines.{LineState}
@@ -15,10 +16,34 @@ ending_of Out = codes ".out"
 abbrev pub file_name : ℕ → Side → List ℕ
 file_name call side = decimal call ++ ending_of side
 
--- what is known of a line in a file that has failed so often: that, and nothing of its octets
-abbrev pub file_state : ℕ → LineState
-file_state faults = record { to_come = None; written = None; faults = faults }
+-- a line in a file: how many octets were read and written, and how often it failed
+pub record FileLine : Type 0 where
+  pub read : ℕ
+  pub written : ℕ
+  pub faults : ℕ
 
--- what is known of all lines, of which the list has the numbers of faults
-abbrev pub file_states : List ℕ → ℕ → Side → LineState
-file_states faults call side = file_state (slice_index faults (place_of call side))
+-- a number that is raised by n, or stops at its last value
+abbrev pub raised : ℕ → ℕ → ℕ
+raised number n = min (number + n) (2 ^ 64 - 1)
+
+-- the line after a read with this answer
+abbrev pub after_read : FileLine → Result ℕ Failed → FileLine
+after_read l (Ok n) = record l { read = raised l.read n }
+after_read l (Err e) = record l { faults = raised l.faults 1 }
+
+-- the line after a write with this answer
+abbrev pub after_write : FileLine → Result ℕ Failed → FileLine
+after_write l (Ok n) = record l { written = raised l.written n }
+after_write l (Err e) = record l { faults = raised l.faults 1 }
+
+-- what is known of a line in a file: how often it failed, and nothing of its octets
+abbrev pub state_of : FileLine → LineState
+state_of l = record { to_come = None; written = None; faults = l.faults }
+
+-- what is known of each line of the list; a line past it has never been there
+abbrev pub known_of : Option FileLine → LineState
+known_of None = record { to_come = None; written = None; faults = 0 }
+known_of (Some l) = state_of l
+
+abbrev pub states_of : List FileLine → ℕ → Side → LineState
+states_of lines call side = known_of (slice_get lines (place_of call side))

@@ -8,8 +8,12 @@
 //! This is the trusted edge: no contract can say what the system's files and streams hold. What both
 //! tell of themselves are their counts of faults, and these are proved against the traits of `trau_io`.
 //! The names of the files and the statuses are this project's profile.
-//! Definitions: `specs/Files.antt`.
+//! Definitions: `specs/Files.antt`, `specs/Refusals.antt`.
 #![tactic(auto)]
+
+ghost use Rattle.std.specs.Prelude.{◌≡◌};
+ghost use Rattle.trau_program.specs.declared.Refusal.TheVariants.{NoMemory};
+ghost use Rattle.trau_program.specs.Refusals.{status_of, text_of, IsTold};
 
 mod desk;
 mod retry;
@@ -17,19 +21,13 @@ mod trunk;
 
 use desk::StdDesk;
 use farm_top::farm_top;
-use std::alloc::{AllocError, Global};
+use std::alloc::AllocError;
 use std::io::{ErrorKind, Read, Write};
 use std::process::ExitCode;
 use std::rt::{Env, Files};
 use std::{env, io};
-use trau_io::tell;
+use trau_io::{Desk, tell};
 use trunk::FileTrunk;
-
-// The words aren't those of a command.
-const USAGE: u8 = 1;
-
-// There is no memory.
-const NO_MEMORY: u8 = 5;
 
 // Why the top call can't be made.
 #[derive(Clone, Copy, Debug, PartialEq, Eq)]
@@ -39,14 +37,18 @@ enum Refusal {
 }
 
 impl Refusal {
-    fn status(self) -> u8 {
+    fn status(self) -> u8
+        ensures { result ≡ status_of self }
+    {
         match self {
-            Refusal::NotText => USAGE,
-            Refusal::NoMemory => NO_MEMORY,
+            Refusal::NotText => 1,
+            Refusal::NoMemory => 5,
         }
     }
 
-    fn text(self) -> &'static [u8] {
+    fn text(self) -> &'static [u8]
+        ensures { result.now ≡ text_of self }
+    {
         match self {
             Refusal::NotText => b"usage\n",
             Refusal::NoMemory => b"no memory\n",
@@ -55,9 +57,6 @@ impl Refusal {
 }
 
 impl From<AllocError> for Refusal {
-    ghost use Rattle.std.specs.Prelude.{◌≡◌};
-    ghost use Rattle.trau_program.specs.declared.Refusal.TheVariants.{NoMemory};
-
     ghost from_gives = { λ _ r. r ≡ NoMemory };
 
     fn from(_: AllocError) -> Refusal {
@@ -84,15 +83,20 @@ fn run<R: Env + Files + AllocGlobal, I: Read + Drop, O: Write + Drop>(
     Ok(farm_top(rt.alloc(), &words, &mut trunk, desk))
 }
 
+// Tells why the top call isn't made. A desk that fails here changes nothing of the status.
+fn refuse<D: Desk>(desk: &mut D, refusal: Refusal) -> u8
+    ensures status { result ≡ status_of refusal }
+    ensures text { IsTold (D.desk desk.old) (D.desk desk.new) (text_of refusal) }
+{
+    let _ = tell(desk, refusal.text());
+    refusal.status()
+}
+
 fn main(rt: HostRuntime) -> ExitCode {
     let mut desk = StdDesk::new(rt.reader(), io::writer(&rt));
     let status = match run(&rt, &mut desk) {
         Ok(status) => status,
-        Err(refusal) => {
-            // A desk that fails here changes nothing: the status says why the call wasn't made.
-            let _ = tell(&mut desk, refusal.text());
-            refusal.status()
-        }
+        Err(refusal) => refuse(&mut desk, refusal),
     };
     ExitCode::from(status)
 }

@@ -2,7 +2,7 @@
 use super::*;
 use std::fs;
 use std::test::Fail;
-use trau_io::{Desk, Line, Side, Trunk};
+use trau_io::{Line, Side, Trunk};
 
 const UP: Line = Line {
     call: 4096,

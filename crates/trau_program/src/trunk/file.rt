@@ -1,9 +1,8 @@
 // One line as a file.
-ghost use Rattle.std.specs.Prelude.{◌≡◌, ◌≤◌, ℕ, OnErr};
+ghost use Rattle.std.specs.Prelude.{◌≡◌, ◌≤◌};
 ghost use Rattle.std.specs.Io.{ReadsAtMost, WritesAtMost};
 ghost use Rattle.trau_io.specs.Lines.{Reads, Writes};
-ghost use Rattle.trau_io.specs.Memory.{one_more};
-ghost use Rattle.trau_program.specs.Files.{file_state};
+ghost use Rattle.trau_program.specs.Files.{FileLine, raised, after_read, after_write, state_of};
 
 use super::name::name_of;
 use crate::retry::{read_again, write_again};
@@ -14,8 +13,7 @@ use std::marker::Model;
 use std::rt::Files;
 use trau_io::{Failed, Line};
 
-/// How far a line's file was read and written, in octets, and how often the line failed. Clauses see
-/// the number of faults.
+/// How many octets of a line's file were read and written, and how often the line failed.
 #[derive(Drop)]
 pub struct LineFile {
     read: u64,
@@ -24,15 +22,15 @@ pub struct LineFile {
 }
 
 impl Model for LineFile {
-    ghost Value = { ℕ };
+    ghost Value = { FileLine };
 
-    ghost view = { λ f. f.faults };
+    ghost view = { λ f. record { read = f.read; written = f.written; faults = f.faults } };
 }
 
 impl LineFile {
     /// A file before the first call of its line.
     pub fn new() -> LineFile
-        ensures { result ≡ 0 }
+        ensures { result ≡ record { read = 0; written = 0; faults = 0 } }
     {
         LineFile {
             read: 0,
@@ -43,8 +41,8 @@ impl LineFile {
 
     /// Moves the next octets of the file into the front of `buf`.
     pub fn read<R: Files>(&mut self, files: &R, line: Line, buf: &mut [u8]) -> Result<usize, Failed>
-        ensures reads { Reads (file_state self.old) (file_state self.new) result buf.new }
-        ensures err { OnErr result (self.new ≡ one_more self.old) }
+        ensures reads { Reads (state_of self.old) (state_of self.new) result buf.new }
+        ensures after { self.new ≡ after_read self.old result }
     {
         match read_at(files, line, self.read, buf) {
             Ok(count) => {
@@ -58,8 +56,8 @@ impl LineFile {
     /// Appends the front of `bytes` to what was written, at least one octet. The first octets make the
     /// file anew.
     pub fn write<R: Files>(&mut self, files: &R, line: Line, bytes: &[u8]) -> Result<usize, Failed>
-        ensures writes { Writes (file_state self.old) (file_state self.new) result bytes.now }
-        ensures err { OnErr result (self.new ≡ one_more self.old) }
+        ensures writes { Writes (state_of self.old) (state_of self.new) result bytes.now }
+        ensures after { self.new ≡ after_write self.old result }
     {
         match write_at(files, line, self.written, bytes) {
             // A file that takes nothing would be asked for ever.
@@ -73,8 +71,8 @@ impl LineFile {
 
     // The count stops at its last value.
     fn fail(&mut self) -> Failed
-        ensures count { self.new ≡ one_more self.old }
-        ensures later { self.old ≤ self.new }
+        ensures count { self.new ≡ record self.old { faults = raised self.old.faults 1 } }
+        ensures later { self.old.faults ≤ self.new.faults }
     {
         self.faults = self.faults.saturating_add(1);
         Failed

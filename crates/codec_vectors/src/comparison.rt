@@ -1,0 +1,48 @@
+//! What a case found: how many values were compared, and the first that differs.
+
+use std::fmt;
+
+#[derive(Clone, Copy)]
+struct Difference {
+    place: u64,
+    wanted: i32,
+    got: i32,
+}
+
+#[derive(Clone, Copy)]
+pub(crate) struct Comparison {
+    compared: u64,
+    first: Option<Difference>,
+}
+
+impl Comparison {
+    pub(crate) fn new() -> Self {
+        Comparison {
+            compared: 0,
+            first: None,
+        }
+    }
+
+    pub(crate) fn compare(&mut self, wanted: i32, got: i32) {
+        if wanted != got && self.first.is_none() {
+            self.first = Some(Difference {
+                place: self.compared,
+                wanted,
+                got,
+            });
+        }
+        self.compared = self.compared.saturating_add(1);
+    }
+}
+
+impl fmt::Display for Comparison {
+    fn fmt<W: fmt::Write>(&self, f: &mut fmt::Formatter<W>) -> fmt::Result {
+        match self.first {
+            None => write!(f, "{} equal", self.compared),
+            Some(Difference { place, wanted, got }) => write!(
+                f,
+                "differs at {place}: wanted {wanted}, got {got}"
+            ),
+        }
+    }
+}

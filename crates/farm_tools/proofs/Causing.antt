@@ -1,0 +1,133 @@
+-- Why a tool ends as it does.
+use Rattle.std.proofs.Common.{◌≡◌, inl, inr, ⊎_elim, ℕ, List, [], ◌∷◌, ◌++◌, All, refl, sym, ◌∙◌, ap, arith}
+use Rattle.std.specs.List.{concat}
+use Rattle.std.specs.Prelude.{Some}
+use Rattle.std.proofs.lemmas.List.{append-nil}
+use Rattle.std.proofs.lemmas.List.Elements.{All-append, All-cons, All-nil}
+use Rattle.std.proofs.lemmas.List.Folds.{concat-append}
+use Rattle.trau_io.specs.declared.line.Side.{Side}
+use Rattle.trau_io.specs.declared.line.Side.TheVariants.{Up}
+use Rattle.trau_io.specs.Lines.{LineState}
+use Rattle.trau_io.specs.Desks.{DeskState}
+use Rattle.farm_tools.specs.declared.end.Tool.{Tool}
+use Rattle.farm_tools.specs.declared.end.RunEnd.{RunEnd}
+use Rattle.farm_tools.specs.declared.end.RunEnd.TheVariants as run
+use Rattle.farm_tools.specs.declared.end.ToolEnd.{ToolEnd}
+use Rattle.farm_tools.specs.declared.end.ToolEnd.TheVariants.{Done, LineFault, DeskFault, Refused, Memory}
+use Rattle.farm_tools.specs.Blocks.{IsGoodBlock}
+use Rattle.farm_tools.specs.Causes.{Causes, ReadsRefused}
+use Rattle.farm_tools.specs.Made.{made, out_side}
+use Rattle.farm_tools.specs.Runs.{EndsAs, Moves}
+use Rattle.farm_tools.specs.Tools.{IsEndOf, TellsEnd, ToolRuns, status_of}
+use Rattle.farm_tools.proofs.Alone.{one_given, no_refused}
+
+-- the status of a tool that ended as its run
+abbrev pub status_by : RunEnd → ℕ
+status_by (run.Done n) = 0
+status_by (run.Refused n) = 8
+status_by run.ReadFailed = 6
+status_by run.WriteFailed = 6
+
+pub status_of-end : (tool : Tool) (call : ℕ) (end : RunEnd) (result : ToolEnd) → IsEndOf tool call end result → status_of result ≡ status_by end
+status_of-end tool call (run.Done n) Done is = refl
+status_of-end tool call (run.Done n) (LineFault line) is = absurd is
+status_of-end tool call (run.Done n) DeskFault is = absurd is
+status_of-end tool call (run.Done n) (Refused m) is = absurd is
+status_of-end tool call (run.Done n) Memory is = absurd is
+status_of-end tool call (run.Refused n) Done is = absurd is
+status_of-end tool call (run.Refused n) (LineFault line) is = absurd is
+status_of-end tool call (run.Refused n) DeskFault is = absurd is
+status_of-end tool call (run.Refused n) (Refused m) is = refl
+status_of-end tool call (run.Refused n) Memory is = absurd is
+status_of-end tool call run.ReadFailed Done is = absurd is
+status_of-end tool call run.ReadFailed (LineFault line) is = refl
+status_of-end tool call run.ReadFailed DeskFault is = absurd is
+status_of-end tool call run.ReadFailed (Refused m) is = absurd is
+status_of-end tool call run.ReadFailed Memory is = absurd is
+status_of-end tool call run.WriteFailed Done is = absurd is
+status_of-end tool call run.WriteFailed (LineFault line) is = refl
+status_of-end tool call run.WriteFailed DeskFault is = absurd is
+status_of-end tool call run.WriteFailed (Refused m) is = absurd is
+status_of-end tool call run.WriteFailed Memory is = absurd is
+
+module _ (tool : Tool) (call : ℕ) (u u' o o' : LineState) (k k' : DeskState) (blocks : List (List ℕ)) (last more : List ℕ) (good : All IsGoodBlock blocks) (moves : Moves u u' o o' (concat blocks ++ last) (made tool blocks ++ more)) where
+  -- blocks of which all are good were read, and none that is refused
+  none_refused : (octets : List ℕ) → u.to_come ≡ Some octets → ReadsRefused u u' → (all : List (List ℕ)) → All IsGoodBlock all → concat blocks ++ last ≡ concat all → ⊥
+  none_refused octets told reads all goods is =
+      no_refused all reads.blocks reads.last _ goods reads.good reads.refused (sym is ∙ one_given u.to_come u'.to_come octets _ _ told moves.read reads.read)
+
+  last_more : IsGoodBlock last → All IsGoodBlock (blocks ++ last ∷ [])
+  last_more one = All-append IsGoodBlock blocks (last ∷ []) good (All-cons IsGoodBlock last [] one (All-nil IsGoodBlock))
+
+  causes : (end : RunEnd) (result : ToolEnd) → EndsAs tool u u' o o' blocks last more end → TellsEnd tool call end k k' result → Causes u u' o o' k k' (status_of result)
+  causes end result ends (inr (inr memory)) =
+      let is : status_of result ≡ 5 = ap status_of memory.0 in
+      record {
+        known = inr (inr (inl is));
+        desk_failed = λ e. absurd (omega (arith, e, is));
+        desk_rose = λ _. inr is;
+        line_failed = λ e. absurd (omega (arith, e, is));
+        line_rose = λ _. inr (inl is);
+        refused = λ e. absurd (omega (arith, e, is));
+        read_refused = λ octets told calm reads. inr (inl is);
+      }
+  causes end result ends (inr (inl fault)) =
+      let is : status_of result ≡ 4 = ap status_of fault.0 in
+      record {
+        known = inr (inl is);
+        desk_failed = λ e. fault.1.cause.failed;
+        desk_rose = λ _. inl is;
+        line_failed = λ e. absurd (omega (arith, e, is));
+        line_rose = λ _. inl is;
+        refused = λ e. absurd (omega (arith, e, is));
+        read_refused = λ octets told calm reads. inl is;
+      }
+  causes (run.Done n) result ends (inl told) =
+      let is : status_of result ≡ 0 = status_of-end tool call (run.Done n) result told.0 in
+      record {
+        known = inl is;
+        desk_failed = λ e. absurd (omega (arith, e, is));
+        desk_rose = λ rose. absurd (omega (arith, rose, told.1.cause.ok));
+        line_failed = λ e. absurd (omega (arith, e, is));
+        line_rose = ⊎_elim (λ rose. absurd (omega (arith, rose, ends.1.calm.up_same))) (λ rose. absurd (omega (arith, rose, ends.1.calm.out_same)));
+        refused = λ e. absurd (omega (arith, e, is));
+        read_refused = λ octets holds calm reads. absurd (none_refused octets holds reads blocks good (ap (λ l. concat blocks ++ l) ends.1.nothing_read ∙ append-nil (concat blocks)));
+      }
+  causes (run.Refused n) result ends (inl told) =
+      let is : status_of result ≡ 8 = status_of-end tool call (run.Refused n) result told.0 in
+      record {
+        known = inr (inr (inr (inr is)));
+        desk_failed = λ e. absurd (omega (arith, e, is));
+        desk_rose = λ rose. absurd (omega (arith, rose, told.1.cause.ok));
+        line_failed = λ e. absurd (omega (arith, e, is));
+        line_rose = ⊎_elim (λ rose. absurd (omega (arith, rose, ends.1.calm.up_same))) (λ rose. absurd (omega (arith, rose, ends.1.calm.out_same)));
+        refused = λ e. record { blocks = blocks; last = last; read = moves.read; good = good; refused = ends.1.refused };
+        read_refused = λ octets holds calm reads. inr (inr is);
+      }
+  causes run.ReadFailed result ends (inl told) =
+      let is : status_of result ≡ 6 = status_of-end tool call run.ReadFailed result told.0 in
+      record {
+        known = inr (inr (inr (inl is)));
+        desk_failed = λ e. absurd (omega (arith, e, is));
+        desk_rose = λ rose. absurd (omega (arith, rose, told.1.cause.ok));
+        line_failed = λ e. inl ends.rose;
+        line_rose = λ _. inr (inr is);
+        refused = λ e. absurd (omega (arith, e, is));
+        read_refused = λ octets holds calm reads. absurd (let rose = ends.rose in omega (arith, calm.0, calm.1));
+      }
+  causes run.WriteFailed result ends (inl told) =
+      let is : status_of result ≡ 6 = status_of-end tool call run.WriteFailed result told.0 in
+      record {
+        known = inr (inr (inr (inl is)));
+        desk_failed = λ e. absurd (omega (arith, e, is));
+        desk_rose = λ rose. absurd (omega (arith, rose, told.1.cause.ok));
+        line_failed = λ e. inr ends.rose;
+        line_rose = λ _. inr (inr is);
+        refused = λ e. absurd (omega (arith, e, is));
+        read_refused = λ octets holds calm reads. absurd (none_refused octets holds reads (blocks ++ last ∷ []) (last_more ends.good) (sym (concat-append blocks (last ∷ []) ∙ ap (λ l. concat blocks ++ l) (append-nil last))));
+      }
+
+pub causes_of : (tool : Tool) (before now : ℕ → Side → LineState) (desk desk' : DeskState) (call : ℕ) (result : ToolEnd) → ToolRuns tool before now desk desk' call result →
+    Causes (before call Up) (now call Up) (before call (out_side tool)) (now call (out_side tool)) desk desk' (status_of result)
+causes_of tool before now desk desk' call result ran =
+    causes tool call _ _ _ _ desk desk' ran.runs.blocks ran.runs.last ran.runs.more ran.runs.good ran.runs.moves ran.end result ran.runs.ends ran.tells

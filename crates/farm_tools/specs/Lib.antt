@@ -1,0 +1,10 @@
+-- What tools do.
+pub mod Blocks
+pub mod Causes
+pub mod Clean
+pub mod Made
+pub mod Runs
+pub mod Step
+pub mod Taken
+pub mod Tools
+pub mod Work

@@ -1,0 +1,62 @@
+-- A whole tool: its run, its text and its end (this project's profile).
+use Rattle.std.specs.Prelude.{◌≡◌, ◌⊎◌, ℕ, List, ◌++◌, codes, decimal, Ok, Err}
+use Rattle.trau_io.specs.declared.line.Side.{Side}
+use Rattle.trau_io.specs.declared.line.Side.TheVariants.{Up, Pcm, Down, Out}
+use Rattle.trau_io.specs.Lines.{LineState}
+use Rattle.trau_io.specs.Desks.{DeskState}
+use Rattle.trau_io.specs.Transfer.{Tells}
+use Rattle.farm_tools.specs.declared.end.Tool.{Tool}
+use Rattle.farm_tools.specs.declared.end.RunEnd.{RunEnd}
+use Rattle.farm_tools.specs.declared.end.RunEnd.TheVariants as run
+use Rattle.farm_tools.specs.declared.end.ToolEnd.{ToolEnd}
+use Rattle.farm_tools.specs.declared.end.ToolEnd.TheVariants.{Done, LineFault, DeskFault, Refused, Memory}
+use Rattle.farm_tools.specs.Made.{name_of, out_side}
+use Rattle.farm_tools.specs.Runs.{AllButTwo, Runs}
+
+-- the word for a side
+abbrev pub side_name : Side → List ℕ
+side_name Up = codes "up"
+side_name Pcm = codes "pcm"
+side_name Down = codes "down"
+side_name Out = codes "out"
+
+-- the text of a line that failed
+abbrev pub failed_text : ℕ → Side → List ℕ
+failed_text call side = codes "line " ++ (decimal call ++ (codes " " ++ (side_name side ++ codes " failed\n")))
+
+-- the text of a run's end, one line
+abbrev pub text_of : Tool → ℕ → RunEnd → List ℕ
+text_of tool call (run.Done n) = name_of tool ++ (codes " frames " ++ (decimal n ++ codes "\n"))
+text_of tool call (run.Refused n) = name_of tool ++ (codes " refused " ++ (decimal n ++ codes "\n"))
+text_of tool call run.ReadFailed = failed_text call Up
+text_of tool call run.WriteFailed = failed_text call (out_side tool)
+
+-- the end of the tool is that of its run
+abbrev pub IsEndOf : Tool → ℕ → RunEnd → ToolEnd → Type 0
+IsEndOf tool call (run.Done n) Done = Unit {0}
+IsEndOf tool call (run.Refused n) (Refused m) = m ≡ n
+IsEndOf tool call run.ReadFailed (LineFault line) = (line.call ≡ call) × (line.side ≡ Up)
+IsEndOf tool call run.WriteFailed (LineFault line) = (line.call ≡ call) × (line.side ≡ out_side tool)
+IsEndOf tool call end result = ⊥
+
+-- The text of a run's end went out: whole, and the tool ended as its run; or a proper front of it before the desk failed; or there was no memory for it.
+abbrev pub TellsEnd : Tool → ℕ → RunEnd → DeskState → DeskState → ToolEnd → Type 0
+TellsEnd tool call end desk desk' result =
+    (IsEndOf tool call end result × Tells desk desk' (Ok tt) (text_of tool call end))
+    ⊎ ((result ≡ DeskFault) × Tells desk desk' (Err (record {})) (text_of tool call end))
+    ⊎ ((result ≡ Memory) × (desk' ≡ desk))
+
+-- a whole tool, whatever fails
+pub record ToolRuns (tool : Tool) (before now : ℕ → Side → LineState) (desk desk' : DeskState) (call : ℕ) (result : ToolEnd) : Type 0 where
+  pub end : RunEnd
+  pub runs : Runs tool (before call Up) (now call Up) (before call (out_side tool)) (now call (out_side tool)) end
+  pub others : AllButTwo before now call Up (out_side tool)
+  pub tells : TellsEnd tool call end desk desk' result
+
+-- the status that stands for an end
+abbrev pub status_of : ToolEnd → ℕ
+status_of Done = 0
+status_of (LineFault line) = 6
+status_of DeskFault = 4
+status_of (Refused n) = 8
+status_of Memory = 5

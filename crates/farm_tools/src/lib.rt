@@ -1,0 +1,21 @@
+//! The tools: commands that work one line of one call by themselves.
+//!
+//! Between the outside (`trau_io`) with the frames (`trau_frame`) below and the top call above, which reads the
+//! words and answers the status. A tool takes the blocks of an uplink one by one, writes what it makes of each to
+//! an outgoing line, and tells one line of text at its end.
+//!
+//! The tools, their ends and their texts are this project's profile; frames are those of GSM 08.60.
+//! Definitions: `specs/Blocks.antt` (which blocks are taken), `specs/Made.antt` (what is made of them),
+//! `specs/Runs.antt` (what a run moves), `specs/Tools.antt` (a whole tool, its text and its end),
+//! `specs/Causes.antt` (why each end comes), `specs/Clean.antt` (a run without faults).
+#![tactic(auto)]
+
+mod block;
+mod end;
+mod run;
+mod text;
+mod tools;
+mod work;
+
+pub use end::{Tool, ToolEnd};
+pub use tools::relay;

@@ -1,0 +1,69 @@
+// The tools.
+ghost use Rattle.std.specs.Prelude.{◌≡◌, ◌≤◌};
+ghost use Rattle.trau_io.specs.declared.line.Side.TheVariants.{Up};
+ghost use Rattle.farm_tools.specs.declared.end.Tool.TheVariants as tool;
+ghost use Rattle.farm_tools.specs.Causes.{Causes};
+ghost use Rattle.farm_tools.specs.Clean.{CleanRun};
+ghost use Rattle.farm_tools.specs.Made.{out_side};
+ghost use Rattle.farm_tools.specs.Tools.{IsEndOf, ToolRuns, status_of};
+
+use crate::end::{RunEnd, Tool, ToolEnd};
+use crate::run::run_tool;
+use crate::text::end_text;
+use std::alloc::Global;
+use trau_io::{Desk, Line, Side, Trunk, tell};
+
+// The end of a tool whose run ended so and whose text went out.
+fn end_of(tool: Tool, call: u32, end: RunEnd) -> ToolEnd
+    requires low { 1 ≤ call }
+    requires high { call ≤ 4096 }
+    ensures { IsEndOf tool call end result }
+{
+    match end {
+        RunEnd::Done(_) => ToolEnd::Done,
+        RunEnd::Refused(blocks) => ToolEnd::Refused(blocks),
+        RunEnd::ReadFailed => ToolEnd::LineFault(Line {
+            call,
+            side: Side::Up,
+        }),
+        RunEnd::WriteFailed => ToolEnd::LineFault(Line {
+            call,
+            side: tool.side(),
+        }),
+    }
+}
+
+fn work<T: Trunk, D: Desk>(
+    alloc: Global,
+    tool: Tool,
+    call: u32,
+    trunk: &mut T,
+    desk: &mut D,
+) -> ToolEnd
+    requires low { 1 ≤ call }
+    requires high { call ≤ 4096 }
+    ensures { ToolRuns tool (T.lines trunk.old) (T.lines trunk.new) (D.desk desk.old) (D.desk desk.new) call result }
+{
+    let end = run_tool(tool, call, trunk);
+    let Ok(text) = end_text(alloc, tool, call, end) else {
+        return ToolEnd::Memory;
+    };
+    match tell(desk, text.as_bytes()) {
+        Ok(()) => end_of(tool, call, end),
+        Err(_) => ToolEnd::DeskFault,
+    }
+}
+
+/// Copies the good speech frames of a call's uplink, bits unchanged, to its downlink: for each block of 40 octets
+/// the downlink speech frame with the same data bits and SP 1. It stops at the first block that isn't a good
+/// speech frame or that the line's end cuts short. At the end it tells `relay frames N`, `relay refused N` or
+/// `line C SIDE failed`, one line of text.
+pub fn relay<T: Trunk, D: Desk>(alloc: Global, call: u32, trunk: &mut T, desk: &mut D) -> ToolEnd
+    requires low { 1 ≤ call }
+    requires high { call ≤ 4096 }
+    ensures runs { ToolRuns tool.Relay (T.lines trunk.old) (T.lines trunk.new) (D.desk desk.old) (D.desk desk.new) call result }
+    ensures causes { Causes (T.lines trunk.old call Up) (T.lines trunk.new call Up) (T.lines trunk.old call (out_side tool.Relay)) (T.lines trunk.new call (out_side tool.Relay)) (D.desk desk.old) (D.desk desk.new) (status_of result) }
+    ensures clean { CleanRun tool.Relay call (T.lines trunk.old call Up) (T.lines trunk.new call Up) (T.lines trunk.old call (out_side tool.Relay)) (T.lines trunk.new call (out_side tool.Relay)) (D.desk desk.old) (D.desk desk.new) (status_of result) }
+{
+    work(alloc, Tool::Relay, call, trunk, desk)
+}

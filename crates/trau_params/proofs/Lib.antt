@@ -1,0 +1,4 @@
+pub mod AreBits
+pub mod FieldPlaces
+pub mod OneFrame
+pub mod Prefixes

@@ -1,0 +1,36 @@
+//! One list of 260 bits for each frame of parameters, and one frame for each list.
+
+ghost use Rattle.std.specs.Prelude.{◌≡◌};
+ghost use Rattle.trau_params.specs.Bits260.{bits260_of, SameFields};
+ghost use Rattle.trau_params.specs.Places.{FieldsStand};
+
+use crate::params::Params;
+
+/// Frames with the same 260 bits have the same fields.
+#[tactic(auto, using(crate::proofs::OneFrame::same_fields))]
+pub fn one_frame(p: Params, q: Params)
+    requires { bits260_of p ≡ bits260_of q }
+    ensures { SameFields p q }
+{
+    p.shape();
+    q.shape();
+}
+
+/// The frame that is read from the bits of a frame: the same.
+pub fn rewritten(frame: &Params) -> Params
+    ensures { SameFields frame.now result }
+{
+    let mut bits = [0; 260];
+    frame.to_bits(&mut bits);
+    let again = Params::from_bits(&bits);
+    one_frame(*frame, again);
+    again
+}
+
+/// Each field of a frame stands among the 260 bits where the widths of the fields before it put it.
+#[tactic(auto, using(crate::proofs::FieldPlaces::fields_stand))]
+pub fn fields_stand(p: Params)
+    ensures { FieldsStand p (bits260_of p) }
+{
+    p.shape();
+}

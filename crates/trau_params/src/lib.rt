@@ -1,0 +1,28 @@
+//! The parameters of a full rate frame, and the 260 bits that carry them (GSM 06.10, table 1.1).
+//!
+//! What the encoder makes of 160 samples (20 ms) and the decoder takes; the receive and transmit sides
+//! repeat, weaken and average it. The 260 bits are what a TRAU frame carries as bits D1 to D260.
+//! `params` has the frame of parameters, `silent_frame` the one of silence, `trace` what the encoder tells
+//! beside a frame, `block` one quarter of a frame, `fields` the bits of single fields, `widths` the table of
+//! widths, `laws` the laws.
+//!
+//! Definitions: `specs/Widths.antt` (the table of widths), `specs/FieldBits.antt` (the bits of fields),
+//! `specs/Bits260.antt` (the 260 bits of a frame), `specs/Places.antt` (the same by absolute places),
+//! `specs/Silence.antt`.
+#![tactic(auto)]
+
+mod block;
+mod fields;
+mod laws;
+mod params;
+mod silent_frame;
+mod trace;
+mod widths;
+
+pub use laws::{fields_stand, one_frame, rewritten};
+pub use params::Params;
+pub use silent_frame::silence;
+pub use trace::Trace;
+
+#[cfg(test)]
+mod tests;

@@ -1,0 +1,120 @@
+//! A frame of parameters.
+
+ghost use Rattle.std.specs.Prelude.{◌≡◌};
+ghost use Rattle.trau_params.specs.Widths.{FitLarc, FitWidth, FitPulses, nc_width, bc_width, mc_width, xmaxc_width};
+
+use crate::block::Block;
+use crate::fields::{put_larc, read_larc};
+use crate::widths::{BLOCK_BITS, LARC_BITS};
+
+/// The parameters of a frame of 20 ms: eight log area ratios, and for each of four blocks the lag, the
+/// gain, the grid, the block maximum and thirteen pulses.
+#[derive(Clone, Copy, Debug, PartialEq, Eq)]
+pub struct Params {
+    pub larc: [u8; 8],
+    pub nc: [u8; 4],
+    pub bc: [u8; 4],
+    pub mc: [u8; 4],
+    pub xmaxc: [u8; 4],
+    pub xmc: [[u8; 13]; 4],
+    pub ghost larc_fit: { FitLarc larc },
+    pub ghost nc_fit: { FitWidth nc_width nc },
+    pub ghost bc_fit: { FitWidth bc_width bc },
+    pub ghost mc_fit: { FitWidth mc_width mc },
+    pub ghost xmaxc_fit: { FitWidth xmaxc_width xmaxc },
+    pub ghost xmc_fit: { FitPulses xmc },
+}
+
+impl Params {
+    ghost use Rattle.trau_params.specs.FieldBits.{AreBits};
+    ghost use Rattle.trau_params.specs.Bits260.{bits260_of, block_values};
+    ghost use Rattle.trau_params.specs.Shape.{HasShape};
+    ghost use Rattle.trau_params.specs.Block.{values_of};
+    ghost use Rattle.std.specs.Prelude.{◌<◌};
+
+    /// A frame of these fields, each within its width.
+    pub fn new(
+        larc: [u8; 8],
+        nc: [u8; 4],
+        bc: [u8; 4],
+        mc: [u8; 4],
+        xmaxc: [u8; 4],
+        xmc: [[u8; 13]; 4],
+    ) -> Params
+        requires larc { FitLarc larc }
+        requires nc { FitWidth nc_width nc }
+        requires bc { FitWidth bc_width bc }
+        requires mc { FitWidth mc_width mc }
+        requires xmaxc { FitWidth xmaxc_width xmaxc }
+        requires xmc { FitPulses xmc }
+        ensures larc { result.larc ≡ larc }
+        ensures nc { result.nc ≡ nc }
+        ensures bc { result.bc ≡ bc }
+        ensures mc { result.mc ≡ mc }
+        ensures xmaxc { result.xmaxc ≡ xmaxc }
+        ensures xmc { result.xmc ≡ xmc }
+    {
+        Params {
+            larc,
+            nc,
+            bc,
+            mc,
+            xmaxc,
+            xmc,
+        }
+    }
+
+    /// Writes the 260 bits of the frame.
+    pub fn to_bits(&self, bits: &mut [u8; 260])
+        ensures value { bits.new ≡ bits260_of self.now }
+        ensures bits { AreBits bits.new }
+    {
+        let mut at = put_larc(bits, &self.larc);
+        for j in 0..4 {
+            at = self.block(j).put(bits, at);
+        }
+    }
+
+    /// Reads a frame from its 260 bits.
+    pub fn from_bits(bits: &[u8; 260]) -> Params
+        requires { AreBits bits.now }
+        ensures { bits260_of result ≡ bits.now }
+    {
+        let first = Block::read(bits, LARC_BITS);
+        let second = Block::read(bits, LARC_BITS + BLOCK_BITS);
+        let third = Block::read(bits, LARC_BITS + 2 * BLOCK_BITS);
+        let fourth = Block::read(bits, LARC_BITS + 3 * BLOCK_BITS);
+        let (a, b, c, d) = (first.xmc, second.xmc, third.xmc, fourth.xmc);
+        Params {
+            larc: read_larc(bits),
+            nc: [first.nc, second.nc, third.nc, fourth.nc],
+            bc: [first.bc, second.bc, third.bc, fourth.bc],
+            mc: [first.mc, second.mc, third.mc, fourth.mc],
+            xmaxc: [first.xmaxc, second.xmaxc, third.xmaxc, fourth.xmaxc],
+            xmc: [a, b, c, d],
+        }
+    }
+
+    /// The lengths of the arrays, for proofs: that of a row of pulses shows only where the row is read.
+    pub fn shape(self)
+        ensures { HasShape self }
+    {
+        let _first = self.block(0);
+        let _second = self.block(1);
+        let _third = self.block(2);
+        let _fourth = self.block(3);
+    }
+
+    fn block(&self, j: usize) -> Block
+        requires { j < 4 }
+        ensures { values_of result ≡ block_values self.now j }
+    {
+        Block {
+            nc: self.nc[j],
+            bc: self.bc[j],
+            mc: self.mc[j],
+            xmaxc: self.xmaxc[j],
+            xmc: self.xmc[j],
+        }
+    }
+}

@@ -1,0 +1,20 @@
+//! The frame that stands for silence (this project's profile).
+
+ghost use Rattle.trau_params.specs.Silence.{IsSilence};
+
+use crate::params::Params;
+
+/// The frame that is decoded where nothing else is at hand.
+pub fn silence() -> Params
+    ensures { IsSilence result }
+{
+    let pulses = [3, 4, 3, 4, 4, 3, 3, 3, 3, 4, 4, 3, 3];
+    Params {
+        larc: [42, 39, 21, 10, 9, 4, 3, 2],
+        nc: [40; 4],
+        bc: [0; 4],
+        mc: [1; 4],
+        xmaxc: [0; 4],
+        xmc: [pulses; 4],
+    }
+}

@@ -1,0 +1,12 @@
+//! What the encoder tells of a frame beside its parameters.
+
+ghost use Rattle.std.specs.Prelude.{pos, ◌≤ℤ◌, All};
+
+/// The values before coding that the transmit side averages over four frames: the eight log area ratios
+/// and the four block maxima.
+#[derive(Clone, Copy, Debug, PartialEq, Eq)]
+pub struct Trace {
+    pub lar: [i16; 8],
+    pub xmax: [i16; 4],
+    pub ghost xmax_not_negative: { All (λ x. pos 0 ≤ℤ x) xmax },
+}
