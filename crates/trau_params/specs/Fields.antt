@@ -1,0 +1,37 @@
+-- The fields of a frame as plain lists, and those that 260 bits carry (GSM 06.10, table 1.1).
+use Rattle.std.specs.Prelude.{ℕ, ◌+◌, ◌*◌, ◌^◌, List, map, sum, take, slice_index}
+use Rattle.std.specs.List.{range_with_len}
+use Rattle.trau_params.specs.declared.params.Params.{Params}
+use Rattle.trau_params.specs.Widths.{larc_widths, nc_width, bc_width, mc_width, xmaxc_width, xmc_width}
+
+-- the fields: LARc 1 to 8, and of each of the four blocks lag, gain, grid, block maximum and thirteen pulses
+pub record Fields : Type 0 where
+  pub larc : List ℕ
+  pub nc : List ℕ
+  pub bc : List ℕ
+  pub mc : List ℕ
+  pub xmaxc : List ℕ
+  pub xmc : List (List ℕ)
+
+-- the fields of a frame of parameters
+abbrev pub fields_of : Params → Fields
+fields_of p = record { larc = p.larc; nc = p.nc; bc = p.bc; mc = p.mc; xmaxc = p.xmaxc; xmc = p.xmc }
+
+-- the number in `width` bits from `offset` on, the first of them the least significant
+unfoldable pub number_at : List ℕ → ℕ → ℕ → ℕ
+number_at bits offset width = sum (map (λ t. slice_index bits (offset + t) * 2 ^ t) (range_with_len 0 width))
+
+-- the field of each of the four blocks, 56 bits apart
+abbrev pub block_numbers : List ℕ → ℕ → ℕ → List ℕ
+block_numbers bits offset width = map (λ j. number_at bits (offset + 56 * j) width) (range_with_len 0 4)
+
+-- the fields that 260 bits carry
+unfoldable pub fields_in : List ℕ → Fields
+fields_in bits = record {
+  larc = map (λ i. number_at bits (sum (take i larc_widths)) (slice_index larc_widths i)) (range_with_len 0 8);
+  nc = block_numbers bits 36 nc_width;
+  bc = block_numbers bits 43 bc_width;
+  mc = block_numbers bits 45 mc_width;
+  xmaxc = block_numbers bits 47 xmaxc_width;
+  xmc = map (λ j. map (λ i. number_at bits (53 + 56 * j + 3 * i) xmc_width) (range_with_len 0 13)) (range_with_len 0 4);
+}
