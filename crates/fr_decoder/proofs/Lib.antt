@@ -1,0 +1,3 @@
+-- Lemmas on frames and samples.
+mod Frames
+mod Runs

@@ -1,0 +1,4 @@
+pub mod Blocks
+pub mod Decoded
+pub mod Deemphasis
+pub mod Step

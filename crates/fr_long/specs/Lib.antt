@@ -1,0 +1,3 @@
+pub mod Gain
+pub mod Memory
+pub mod Synthesis

@@ -1,0 +1,15 @@
+//! The coded gain of a block (GSM 06.10, section 4.2.11).
+
+ghost use Rattle.std.specs.Prelude.{◌≡◌, ℕ, ◌≤◌, pos, ◌≤ℤ◌};
+ghost use Rattle.fr_long.specs.Gain.{gain_of};
+
+const QUANTISED_GAINS: [i16; 4] = [3277, 11469, 21299, 32767];
+
+/// The gain that a code of 2 bits stands for, a fraction of 15 bits.
+pub(crate) fn quantised_gain(bc: u8) -> i16
+    requires { bc ≤ 3 }
+    ensures value { result ≡ gain_of bc }
+    ensures not_negative { pos 0 ≤ℤ result }
+{
+    QUANTISED_GAINS[bc as usize]
+}

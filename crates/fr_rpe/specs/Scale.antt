@@ -1,0 +1,28 @@
+-- Exponent and mantissa of a block maximum (GSM 06.10, section 4.2.15).
+use Rattle.std.specs.Prelude.{ℕ, ◌+◌, ◌-◌, ◌*◌, ◌/◌, zero, suc, ℤ, pos, neg_ℤ, ◌-ℤ◌, unsigned_abs, if◌then◌else◌, nat_le, ◌==◌, List, [], ◌∷◌, slice_index_or}
+use Rattle.fr_rpe.specs.declared.scale.Scale.{Scale}
+
+-- FAC: the factor of each mantissa (table 4.6)
+abbrev pub factors : List ℤ
+factors = pos 18431 ∷ pos 20479 ∷ pos 22527 ∷ pos 24575 ∷ pos 26623 ∷ pos 28671 ∷ pos 30719 ∷ pos 32767 ∷ []
+
+abbrev pub factor_of : ℕ → ℤ
+factor_of mantissa = slice_index_or factors mantissa (pos 0)
+
+-- At most n times, a mantissa of at most 7 is doubled and one more, and the exponent falls by one. At last 8 is taken off the mantissa.
+abbrev pub normalised : ℕ → ℤ → ℕ → Scale
+normalised zero exponent mantissa = record { exponent = exponent; mantissa = mantissa - 8 }
+normalised (suc n) exponent mantissa =
+    if nat_le mantissa 7 then normalised n (exponent -ℤ pos 1) (2 * mantissa + 1)
+    else record { exponent = exponent; mantissa = mantissa - 8 }
+
+-- the scale that a coded maximum stands for
+unfoldable pub scale_of : ℕ → Scale
+scale_of xmaxc =
+    if xmaxc == 0 then record { exponent = neg_ℤ (pos 4); mantissa = 7 }
+    else if nat_le xmaxc 15 then normalised 3 (pos 0) xmaxc
+    else normalised 3 (pos (xmaxc / 8 - 1)) (xmaxc - 8 * (xmaxc / 8 - 1))
+
+-- 6 - exp: how far a pulse of this scale is shifted
+abbrev pub shift_of : Scale → ℕ
+shift_of scale = unsigned_abs (pos 6 -ℤ scale.exponent)

@@ -1,0 +1,4 @@
+mod Each
+mod Sections
+mod Runs
+mod Parts

@@ -1,0 +1,5 @@
+pub mod Ratios
+pub mod Reflection
+pub mod Memory
+pub mod Synthesis
+pub mod Words

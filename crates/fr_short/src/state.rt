@@ -1,0 +1,58 @@
+// What one direction of the short-term filters remembers.
+ghost use Rattle.std.specs.Prelude.{◌≡◌, List, [], ◌∷◌};
+ghost use Rattle.fr_short.specs.Ratios.{AreRatioCodes};
+ghost use Rattle.fr_short.specs.Memory.{ShortMemory, home_memory};
+ghost use Rattle.fr_short.specs.Synthesis.{ResidualFrame, residual_frame, synthesised_frame, synthesis_of, Stands};
+
+use crate::ratios::decode_larc;
+use crate::synthesis::filter;
+use crate::words::{narrow, widen};
+use std::marker::Model;
+
+/// The state of the short-term filter in one direction of one call: the previous frame's decoded ratios and
+/// the values of the eight sections.
+#[derive(Drop)]
+pub struct ShortState {
+    ratios: [i16; 8],
+    sections: [i16; 8],
+}
+
+impl Model for ShortState {
+    ghost Value = { ShortMemory };
+
+    ghost view = { λ s. record { ratios = s.ratios; sections = s.sections } };
+}
+
+impl ShortState {
+    /// The state before the first frame.
+    #[tactic(auto, unfolding(crate::specs::Synthesis::newest_ratios, crate::specs::Synthesis::synthesis_of))]
+    pub fn home() -> ShortState
+        ensures value { result ≡ home_memory }
+        ensures stands { Stands [] result }
+    {
+        ShortState {
+            ratios: [0; 8],
+            sections: [0; 8],
+        }
+    }
+
+    /// Filters the residual `d` of a frame into its 160 samples `s`, with the eight codes of its log area ratios,
+    /// each within its width (GSM 06.10, section 4.3.4). What `s` held before is lost.
+    #[tactic(auto, unfolding(crate::specs::Synthesis::synthesised_frame, crate::specs::Synthesis::newest_ratios, crate::specs::Synthesis::synthesis_of))]
+    pub fn synthesise_frame(&mut self, larc: &[u8; 8], d: &[i16; 160], s: &mut [i16; 160])
+        requires { AreRatioCodes larc.now }
+        ensures samples { s.new ≡ (synthesised_frame self.old larc.now d.now).0 }
+        ensures memory { self.new ≡ (synthesised_frame self.old larc.now d.now).1 }
+
+        // After the frames of any past, this one is the newest.
+        ensures history { (past : List ResidualFrame) → Stands past self.old
+            → Stands (residual_frame larc.now d.now ∷ past) self.new
+            × (s.new ≡ (synthesis_of (residual_frame larc.now d.now ∷ past)).0) }
+    {
+        let ratios = decode_larc(larc);
+        let mut sections = widen(&self.sections);
+        filter(&self.ratios, &ratios, &mut sections, d, s);
+        self.ratios = ratios;
+        self.sections = narrow(&sections);
+    }
+}
