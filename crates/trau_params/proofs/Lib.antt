@@ -1,4 +1,5 @@
 pub mod AreBits
 pub mod FieldPlaces
+pub mod FieldsRead
 pub mod OneFrame
 pub mod Prefixes

@@ -2,6 +2,7 @@
 
 ghost use Rattle.std.specs.Prelude.{◌≡◌};
 ghost use Rattle.trau_params.specs.Bits260.{bits260_of, SameFields};
+ghost use Rattle.trau_params.specs.Fields.{fields_of, fields_in};
 ghost use Rattle.trau_params.specs.Places.{FieldsStand};
 
 use crate::params::Params;
@@ -31,6 +32,13 @@ pub fn rewritten(frame: &Params) -> Params
 #[tactic(auto, using(crate::proofs::FieldPlaces::fields_stand))]
 pub fn fields_stand(p: Params)
     ensures { FieldsStand p (bits260_of p) }
+{
+    p.shape();
+}
+
+/// The fields that the 260 bits of a frame carry are its own.
+pub fn fields_carried(p: &Params)
+    ensures { fields_in (bits260_of p.now) ≡ fields_of p.now }
 {
     p.shape();
 }

@@ -8,7 +8,7 @@
 //!
 //! Definitions: `specs/Widths.antt` (the table of widths), `specs/FieldBits.antt` (the bits of fields),
 //! `specs/Bits260.antt` (the 260 bits of a frame), `specs/Places.antt` (the same by absolute places),
-//! `specs/Silence.antt`.
+//! `specs/Fields.antt` (the fields as plain lists, and those that 260 bits carry), `specs/Silence.antt`.
 #![tactic(auto)]
 
 mod block;
@@ -19,7 +19,7 @@ mod silent_frame;
 mod trace;
 mod widths;
 
-pub use laws::{fields_stand, one_frame, rewritten};
+pub use laws::{fields_carried, fields_stand, one_frame, rewritten};
 pub use params::Params;
 pub use silent_frame::silence;
 pub use trace::Trace;

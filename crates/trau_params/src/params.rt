@@ -28,6 +28,7 @@ pub struct Params {
 impl Params {
     ghost use Rattle.trau_params.specs.FieldBits.{AreBits};
     ghost use Rattle.trau_params.specs.Bits260.{bits260_of, block_values};
+    ghost use Rattle.trau_params.specs.Fields.{fields_of, fields_in};
     ghost use Rattle.trau_params.specs.Shape.{HasShape};
     ghost use Rattle.trau_params.specs.Block.{values_of};
     ghost use Rattle.std.specs.Prelude.{◌<◌};
@@ -78,7 +79,8 @@ impl Params {
     /// Reads a frame from its 260 bits.
     pub fn from_bits(bits: &[u8; 260]) -> Params
         requires { AreBits bits.now }
-        ensures { bits260_of result ≡ bits.now }
+        ensures bits { bits260_of result ≡ bits.now }
+        ensures fields { fields_of result ≡ fields_in bits.now }
     {
         let first = Block::read(bits, LARC_BITS);
         let second = Block::read(bits, LARC_BITS + BLOCK_BITS);

@@ -1,9 +1,10 @@
-use Rattle.std.proofs.Common.{◌≡◌, ℕ, ◌<◌, List, [], ◌∷◌, ◌++◌, zero, suc, length, get_or, take, sym, ap, ◌∙◌, append_assoc, arith, rules}
+use Rattle.std.proofs.Common.{◌≡◌, ℕ, ◌<◌, List, [], ◌∷◌, ◌++◌, zero, suc, length, get_or, take, refl, sym, ap, ◌∙◌, append_assoc, arith, rules}
 use Rattle.std.proofs.lemmas.List.{take_all, append-nil}
 use Rattle.trau_params.specs.Widths.{larc_widths, FitWidth}
 use Rattle.trau_params.specs.FieldBits.{field_bits}
 use Rattle.trau_params.specs.Block.{bits_of}
 use Rattle.trau_params.specs.Bits260.{bits260_of}
+use Rattle.trau_params.proofs.FieldsRead.{fields_of_bits}
 use Rattle.trau_params.proofs.params.Params.from_bits.Goals as goal
 
 -- what holds of four is so at each place
@@ -51,10 +52,30 @@ invariant_of-result-clause-xmc_fit c =
     all_four (λ v. FitWidth 3 v) c.read-first.result.xmc c.read-second.result.xmc c.read-third.result.xmc c.read-fourth.result.xmc
     c.read-first.result.xmc_fit c.read-second.result.xmc_fit c.read-third.result.xmc_fit c.read-fourth.result.xmc_fit
 
-pub returns : goal.returns
+pub returns-clause-bits : goal.returns-clause-bits
 unfolding bits260_of
-returns c =
+returns-clause-bits c =
     let long : length c.args.bits.now ≡ 260 = search rules in
     five_parts c.args.bits.now (field_bits larc_widths c.read_larc.result)
     (bits_of c.read-first.result) (bits_of c.read-second.result) (bits_of c.read-third.result) (bits_of c.read-fourth.result)
     long c.read_larc.ensures.bits c.read-first.ensures c.read-second.ensures c.read-third.ensures c.read-fourth.ensures
+
+pub returns-clause-fields : goal.returns-clause-fields
+returns-clause-fields c =
+    let long : length c.read_larc.result ≡ 8 = search rules in
+    let a : length c.read-first.result.xmc ≡ 13 = search rules in
+    let b : length c.read-second.result.xmc ≡ 13 = search rules in
+    let d : length c.read-third.result.xmc ≡ 13 = search rules in
+    let e : length c.read-fourth.result.xmc ≡ 13 = search rules in
+    fields_of_bits _ c.args.bits.now
+    (record {
+      larc = long;
+      nc = refl;
+      bc = refl;
+      mc = refl;
+      xmaxc = refl;
+      xmc = refl;
+      pulses = λ j h. all_four (λ xs. length xs ≡ 13) c.read-first.result.xmc c.read-second.result.xmc
+          c.read-third.result.xmc c.read-fourth.result.xmc a b d e j [] h;
+    })
+    (returns-clause-bits c)
