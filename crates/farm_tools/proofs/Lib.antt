@@ -2,6 +2,7 @@
 mod Alone
 pub mod Causing
 pub mod Cleaning
+mod Compressing
 mod Making
 mod Rounds
 mod Steps

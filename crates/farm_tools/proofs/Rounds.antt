@@ -6,12 +6,13 @@ use Rattle.std.proofs.lemmas.List.Elements.{All-append}
 use Rattle.std.proofs.lemmas.List.Folds.{concat-append}
 use Rattle.std.proofs.lemmas.List.{append-nil}
 use Rattle.std.proofs.KnownBytes.{Consumes-nil, Consumes-trans, Appends-nil, Appends-trans}
+use Rattle.fr_decoder.specs.Decoded.{all_samples}
 use Rattle.trau_io.specs.declared.line.Side.{Side}
 use Rattle.trau_io.specs.declared.line.Side.TheVariants.{Up}
 use Rattle.trau_io.specs.Lines.{LineState, Rose}
 use Rattle.farm_tools.specs.declared.end.Tool.{Tool}
 use Rattle.farm_tools.specs.declared.end.RunEnd.TheVariants as run
-use Rattle.farm_tools.specs.declared.end.Tool.TheVariants.{Relay}
+use Rattle.farm_tools.specs.declared.end.Tool.TheVariants.{Relay, Decode}
 use Rattle.farm_tools.specs.declared.run.BlockEnd.{BlockEnd}
 use Rattle.farm_tools.specs.declared.run.BlockEnd.TheVariants.{Taken, Refused, LineEnded, ReadFailed, WriteFailed}
 use Rattle.farm_tools.specs.declared.work.Work.{Work}
@@ -55,7 +56,9 @@ pub record SoFar (work : Work) (tool : Tool) (u0 u1 o0 o1 : LineState) (n : ℕ)
   pub calm : NoFault u0 u1 o0 o1
 
 made-nil : (tool : Tool) → made tool [] ≡ []
+unfolding all_samples
 made-nil Relay = refl
+made-nil Decode = refl
 
 pub at_start : (work : Work) (tool : Tool) (u o : LineState) → Stands work [] → SoFar work tool u u o o 0
 at_start work tool u o stands = record {

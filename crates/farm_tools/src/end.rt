@@ -4,8 +4,10 @@ use trau_io::Line;
 /// A tool that works the blocks of an uplink.
 #[derive(Clone, Copy, Debug, PartialEq, Eq)]
 pub enum Tool {
-    /// Frames of the uplink, bits unchanged, to the downlink.
+    /// Good speech frames of the uplink, bits unchanged, to the downlink.
     Relay,
+    /// Good speech frames of the uplink, decoded, to the Out line.
+    Decode,
 }
 
 /// How a tool ended.

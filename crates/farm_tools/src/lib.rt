@@ -1,6 +1,6 @@
 //! The tools: commands that work one line of one call by themselves.
 //!
-//! Between the outside (`trau_io`) with the frames (`trau_frame`) below and the top call above, which reads the
+//! Between the outside (`trau_io`), frames (`trau_frame`), decoder (`fr_decoder`) and A-law (`trau_alaw`) below and the top call above, which reads the
 //! words and answers the status. A tool takes the blocks of an uplink one by one, writes what it makes of each to
 //! an outgoing line, and tells one line of text at its end.
 //!
@@ -18,4 +18,4 @@ mod tools;
 mod work;
 
 pub use end::{Tool, ToolEnd};
-pub use tools::relay;
+pub use tools::{decode, relay};

@@ -15,6 +15,7 @@ impl Tool {
     {
         match self {
             Tool::Relay => "relay",
+            Tool::Decode => "decode",
         }
     }
 
@@ -24,6 +25,7 @@ impl Tool {
     {
         match self {
             Tool::Relay => Side::Down,
+            Tool::Decode => Side::Out,
         }
     }
 }

@@ -67,3 +67,21 @@ pub fn relay<T: Trunk, D: Desk>(alloc: Global, call: u32, trunk: &mut T, desk: &
 {
     work(alloc, Tool::Relay, call, trunk, desk)
 }
+
+/// Decodes the good speech frames of a call's uplink to its Out line: for each block of 40 octets the 160 A-law
+/// octets (G.711) of its samples, decoded from home over all blocks so far (GSM 06.10). It stops as `relay` does,
+/// and tells `decode frames N`, `decode refused N` or `line C SIDE failed`.
+pub fn decode<T: Trunk, D: Desk>(
+    alloc: Global,
+    call: u32,
+    trunk: &mut T,
+    desk: &mut D,
+) -> ToolEnd
+    requires low { 1 ≤ call }
+    requires high { call ≤ 4096 }
+    ensures runs { ToolRuns tool.Decode (T.lines trunk.old) (T.lines trunk.new) (D.desk desk.old) (D.desk desk.new) call result }
+    ensures causes { Causes (T.lines trunk.old call Up) (T.lines trunk.new call Up) (T.lines trunk.old call (out_side tool.Decode)) (T.lines trunk.new call (out_side tool.Decode)) (D.desk desk.old) (D.desk desk.new) (status_of result) }
+    ensures clean { CleanRun tool.Decode call (T.lines trunk.old call Up) (T.lines trunk.new call Up) (T.lines trunk.old call (out_side tool.Decode)) (T.lines trunk.new call (out_side tool.Decode)) (D.desk desk.old) (D.desk desk.new) (status_of result) }
+{
+    work(alloc, Tool::Decode, call, trunk, desk)
+}

@@ -1,6 +1,13 @@
-use Rattle.std.proofs.Common.{◌∙◌}
-use Rattle.farm_tools.proofs.Rounds.{taken, line_ended, refused, read_failed, write_failed, block_of_tool, others_of_tool, others_on}
+use Rattle.std.proofs.Common.{◌∙◌, refl}
+use Rattle.farm_tools.proofs.Rounds.{at_start, taken, line_ended, refused, read_failed, write_failed, block_of_tool, others_of_tool, others_on}
 use Rattle.farm_tools.proofs.run.run_tool.Goals as goal
+
+pub loop-blocks-init : goal.loop-blocks-init
+loop-blocks-init g c = record {
+  tool = c.new-work.ensures.tool;
+  so_far = at_start c.new-work.result c.args.tool _ _ c.new-work.ensures.stands;
+  others = λ call side ne me. refl;
+}
 
 pub loop-blocks-preserved : goal.loop-blocks-preserved
 loop-blocks-preserved g c = record {
