@@ -7,11 +7,23 @@
 
 mod alaw;
 mod comparison;
+mod decoder;
 
 use std::io;
 
 fn main(rt: HostRuntime) -> io::Result<()> {
     println!(rt; "alaw compress {}", alaw::compressed(&rt)?)?;
     println!(rt; "alaw expand {}", alaw::expanded(&rt)?)?;
+    for (up, out) in [
+        ("speech-en-m3.up", "speech-en-m3.out"),
+        ("speech-loud-m7.up", "speech-loud-m7.out"),
+        ("harsh.up", "harsh.out"),
+    ] {
+        println!(rt; "decode {up} {}", decoder::decoded(&rt, up, out)?)?;
+    }
+    println!(rt;
+        "samples harsh.up {}",
+        decoder::samples(&rt, "harsh.up", "harsh.samples.txt")?
+    )?;
     Ok(())
 }

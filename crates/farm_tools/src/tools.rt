@@ -71,12 +71,7 @@ pub fn relay<T: Trunk, D: Desk>(alloc: Global, call: u32, trunk: &mut T, desk: &
 /// Decodes the good speech frames of a call's uplink to its Out line: for each block of 40 octets the 160 A-law
 /// octets (G.711) of its samples, decoded from home over all blocks so far (GSM 06.10). It stops as `relay` does,
 /// and tells `decode frames N`, `decode refused N` or `line C SIDE failed`.
-pub fn decode<T: Trunk, D: Desk>(
-    alloc: Global,
-    call: u32,
-    trunk: &mut T,
-    desk: &mut D,
-) -> ToolEnd
+pub fn decode<T: Trunk, D: Desk>(alloc: Global, call: u32, trunk: &mut T, desk: &mut D) -> ToolEnd
     requires low { 1 ≤ call }
     requires high { call ≤ 4096 }
     ensures runs { ToolRuns tool.Decode (T.lines trunk.old) (T.lines trunk.new) (D.desk desk.old) (D.desk desk.new) call result }

@@ -1,9 +1,9 @@
 -- The words that ask for a tool.
-use Rattle.std.proofs.Common.{◌≡◌, ℕ, ◌<◌, List, [], ◌∷◌, length, get_or, map, refl, sym, ◌∙◌, arith}
+use Rattle.std.proofs.Common.{◌≡◌, ℕ, ◌<◌, List, [], ◌∷◌, length, get_or, map, ap, refl, sym, ◌∙◌, arith}
 use Rattle.std.specs.Prelude.{decimal}
 use Rattle.std.proofs.lemmas.Fmt.{decimal_injective}
 use Rattle.farm_tools.specs.declared.end.Tool.{Tool}
-use Rattle.farm_tools.specs.declared.end.Tool.TheVariants.{Relay}
+use Rattle.farm_tools.specs.declared.end.Tool.TheVariants.{Relay, Decode}
 use Rattle.farm_tools.specs.Made.{name_of}
 use Rattle.farm_top.specs.Words.{AsksFor}
 
@@ -17,6 +17,9 @@ two f (x ∷ y ∷ z ∷ xs) a b long first second = absurd (omega arith)
 -- no two tools have one name
 one_name : (s t : Tool) → name_of s ≡ name_of t → s ≡ t
 one_name Relay Relay e = refl
+one_name Relay Decode e = let count : 5 ≡ 6 = ap length e in absurd (omega (arith, count))
+one_name Decode Relay e = let count : 6 ≡ 5 = ap length e in absurd (omega (arith, count))
+one_name Decode Decode e = refl
 
 pub same_tool : (words : List (List ℕ)) (s t : Tool) (m n : ℕ) → AsksFor words s m → AsksFor words t n → s ≡ t
 same_tool words s t m n a b =

@@ -11,7 +11,7 @@ ghost use Rattle.farm_top.specs.Top.{Carries, TextOut};
 ghost use Rattle.farm_top.specs.Words.{AsksFor};
 
 use crate::words::{Asked, read_words};
-use farm_tools::{Tool, ToolEnd, relay};
+use farm_tools::{Tool, ToolEnd, decode, relay};
 use std::alloc::Global;
 use trau_io::{Desk, Trunk, tell};
 
@@ -48,6 +48,7 @@ fn work<T: Trunk, D: Desk>(alloc: Global, asked: Asked, trunk: &mut T, desk: &mu
 {
     match asked.tool {
         Tool::Relay => relay(alloc, asked.call, trunk, desk),
+        Tool::Decode => decode(alloc, asked.call, trunk, desk),
     }
 }
 
@@ -67,18 +68,19 @@ fn command<T: Trunk, D: Desk>(alloc: Global, asked: Asked, trunk: &mut T, desk: 
 /// Carries out the command that the words name on the lines of the trunk, writes its text to the desk, and
 /// answers the status.
 ///
-/// The command so far is `relay C`, C being a call's number from 1 to 1,024 in decimal digits without leading
-/// zeros: it copies the good speech frames of the call's uplink, which is cut into blocks of 40 octets, to its
-/// downlink, bits unchanged, and stops at the first block that isn't one.
+/// The commands are `relay C`, which copies the good speech frames of a call's uplink, bits unchanged, to its
+/// downlink, and `decode C`, which decodes them to its Out line; C is the call's number, 1 to 1,024, in decimal
+/// digits without leading zeros. The uplink is cut into blocks of 40 octets, and the first block that isn't a good
+/// speech frame ends the command.
 ///
 /// | Status | Comes | Text on the desk |
 /// |---|---|---|
-/// | 0 | the uplink was worked to its end | `relay frames N` |
+/// | 0 | the uplink was worked to its end, or to 4,294,967,295 blocks | `relay frames N`, `decode frames N` |
 /// | 1 | exactly where the words aren't those of a command | `usage` |
 /// | 4 | the desk failed while the command's text went out | a proper front of the command's text |
 /// | 5 | want of memory | `no memory` |
 /// | 6 | a line of the command failed | `line C up failed`, with the line's side |
-/// | 8 | a block isn't a good speech frame, or the line ended inside it | `relay refused N`, N being the number of blocks before it |
+/// | 8 | a block isn't a good speech frame, or the line ended inside it | `relay refused N`, `decode refused N`, N being the number of blocks before it |
 pub fn farm_top<T: Trunk, D: Desk>(
     alloc: Global,
     words: &[String],

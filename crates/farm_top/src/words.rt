@@ -21,10 +21,10 @@ fn tool_named(name: &str) -> Option<Tool>
     ensures some { IfSome result (λ t. name.now ≡ name_of t) }
     ensures none { IsNone result → (t : Tool) → name.now ≡ name_of t → ⊥ }
 {
-    if name == "relay" {
-        Some(Tool::Relay)
-    } else {
-        None
+    match name {
+        "relay" => Some(Tool::Relay),
+        "decode" => Some(Tool::Decode),
+        _ => None,
     }
 }
 
