@@ -14,3 +14,6 @@ mod deemphasis;
 mod residual;
 
 pub use decoder::Decoder;
+
+#[cfg(test)]
+mod tests;
