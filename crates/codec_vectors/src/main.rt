@@ -8,6 +8,7 @@
 mod alaw;
 mod comparison;
 mod decoder;
+mod prediction;
 
 use std::io;
 
@@ -24,6 +25,10 @@ fn main(rt: HostRuntime) -> io::Result<()> {
     println!(rt;
         "samples harsh.up {}",
         decoder::samples(&rt, "harsh.up", "harsh.samples.txt")?
+    )?;
+    println!(rt;
+        "codes harsh.pcm {}",
+        prediction::codes(&rt, "harsh.pcm", "harsh.parameters.txt")?
     )?;
     Ok(())
 }

@@ -2,3 +2,6 @@ mod Each
 mod Sections
 mod Runs
 mod Parts
+mod Over
+mod Passes
+mod BySection

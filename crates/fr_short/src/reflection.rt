@@ -71,15 +71,29 @@ pub(crate) fn coefficients(old: &[i16; 8], new: &[i16; 8], part: usize) -> [i16;
     rs
 }
 
+/// The coefficients in each part.
+pub(crate) fn parts(old: &[i16; 8], new: &[i16; 8]) -> [[i16; 8]; 4]
+    ensures value { (p : ℕ) → p < 4 → slice_index_or result p [] ≡ coefficients_of old.now new.now p }
+    ensures factors { (p : ℕ) → p < 4 → AreFactors (slice_index_or result p []) }
+{
+    [
+        coefficients(old, new, 0),
+        coefficients(old, new, 1),
+        coefficients(old, new, 2),
+        coefficients(old, new, 3),
+    ]
+}
+
 /// The coefficients in each part, in 32 bits.
 pub(crate) fn wide_parts(old: &[i16; 8], new: &[i16; 8]) -> [[i32; 8]; 4]
     ensures value { (p : ℕ) → p < 4 → slice_index_or result p [] ≡ coefficients_of old.now new.now p }
     ensures factors { (p : ℕ) → p < 4 → AreFactors (slice_index_or result p []) }
 {
+    let parts = parts(old, new);
     [
-        widen(&coefficients(old, new, 0)),
-        widen(&coefficients(old, new, 1)),
-        widen(&coefficients(old, new, 2)),
-        widen(&coefficients(old, new, 3)),
+        widen(&parts[0]),
+        widen(&parts[1]),
+        widen(&parts[2]),
+        widen(&parts[3]),
     ]
 }

@@ -1,9 +1,11 @@
-// What one direction of the short-term filters remembers.
+//! What one direction of the short-term filters remembers.
 ghost use Rattle.std.specs.Prelude.{◌≡◌, List, [], ◌∷◌};
 ghost use Rattle.fr_short.specs.Ratios.{AreRatioCodes};
 ghost use Rattle.fr_short.specs.Memory.{ShortMemory, home_memory};
 ghost use Rattle.fr_short.specs.Synthesis.{ResidualFrame, residual_frame, synthesised_frame, synthesis_of, Stands};
+ghost use Rattle.fr_short.specs.Analysis.{SampleFrame, sample_frame, analysed_frame, analysis_of, AnalysisStands};
 
+use crate::analysis::analyse;
 use crate::ratios::decode_larc;
 use crate::synthesis::filter;
 use crate::words::{narrow, widen};
@@ -25,10 +27,11 @@ impl Model for ShortState {
 
 impl ShortState {
     /// The state before the first frame.
-    #[tactic(auto, unfolding(crate::specs::Synthesis::newest_ratios, crate::specs::Synthesis::synthesis_of))]
+    #[tactic(auto, unfolding(crate::specs::Synthesis::newest_ratios, crate::specs::Synthesis::synthesis_of, crate::specs::Analysis::newest_sample_ratios, crate::specs::Analysis::analysis_of))]
     pub fn home() -> ShortState
         ensures value { result ≡ home_memory }
         ensures stands { Stands [] result }
+        ensures analysis_stands { AnalysisStands [] result }
     {
         ShortState {
             ratios: [0; 8],
@@ -54,5 +57,23 @@ impl ShortState {
         filter(&self.ratios, &ratios, &mut sections, d, s);
         self.ratios = ratios;
         self.sections = narrow(&sections);
+    }
+
+    /// Filters the 160 samples `s` of a frame, preprocessed, into their residual, which it leaves in `s`, with the
+    /// eight codes of the frame's log area ratios, each within its width (GSM 06.10, section 4.2.10).
+    #[tactic(auto, unfolding(crate::specs::Analysis::analysed_frame, crate::specs::Analysis::newest_sample_ratios, crate::specs::Analysis::analysis_of))]
+    pub fn analyse_frame(&mut self, larc: &[u8; 8], s: &mut [i16; 160])
+        requires { AreRatioCodes larc.now }
+        ensures residual { s.new ≡ (analysed_frame self.old larc.now s.old).0 }
+        ensures memory { self.new ≡ (analysed_frame self.old larc.now s.old).1 }
+
+        // After the frames of any past, this one is the newest.
+        ensures history { (past : List SampleFrame) → AnalysisStands past self.old
+            → AnalysisStands (sample_frame larc.now s.old ∷ past) self.new
+            × (s.new ≡ (analysis_of (sample_frame larc.now s.old ∷ past)).0) }
+    {
+        let old = self.ratios;
+        self.ratios = decode_larc(larc);
+        analyse(&old, &self.ratios, &mut self.sections, s);
     }
 }

@@ -33,3 +33,24 @@ fn filters_two_frames(rt: HostRuntime) {
     state.synthesise_frame(&[42, 39, 21, 10, 9, 4, 3, 2], &d, &mut s);
     assert_eq!(rt; [s[0], s[1], s[2], s[3]], [1005, -410, 343, -352]);
 }
+
+// The residual was computed apart from this crate, by a short Python text of GSM 06.10, sections 4.2.8 to 4.2.10.
+// The samples lie at the edges of the parts; those of the second frame clamp.
+#[test]
+fn analyses_two_frames(rt: HostRuntime) {
+    let mut state = ShortState::home();
+    let mut s = [1000; 160];
+    state.analyse_frame(&[50, 20, 25, 10, 12, 6, 5, 2], &mut s);
+    assert_eq!(rt;
+        [s[0], s[12], s[13], s[26], s[27], s[39], s[40], s[159]],
+        [1000, 1265, 1533, 1484, 1727, 1605, 1696, 1473]
+    );
+    s = [-32768; 160];
+    state.analyse_frame(&[42, 39, 21, 10, 9, 4, 3, 2], &mut s);
+    assert_eq!(rt;
+        [s[0], s[1], s[2], s[3], s[4], s[39], s[40], s[159]],
+        [
+            -32113, -21501, -25998, -23634, -28525, -32768, -31236, -31217
+        ]
+    );
+}

@@ -1,0 +1,13 @@
+use Rattle.std.proofs.Common.{ℤ, arith, rules, ◌∙◌, FitsSigned, w16}
+use Rattle.std.proofs.lemmas.Int.{to_z-of_z}
+use Rattle.trau_num.specs.Num.{shl_of}
+use Rattle.fr_lpc.specs.Scaling.{entry}
+use Rattle.fr_lpc.proofs.Scaled.{over_more}
+use Rattle.fr_lpc.proofs.scaling.scale_up.Goals as goal
+
+pub loop-x-preserved : goal.loop-x-preserved
+loop-x-preserved c =
+    let x : FitsSigned w16 (entry c.loop-x.s c.loop-x.x-index) = search rules in
+    let r : FitsSigned w16 c.shl16.result = search rules in
+    let e = simp to_z-of_z at c.shl16.ensures in
+    over_more (λ (x : ℤ). shl_of x c.args.scaling) c.args.s.now c.loop-x.s c.loop-x.x-index _ (omega (arith, c.told-s)) c.loop-x.invariant (to_z-of_z w16 _ r ∙ e)

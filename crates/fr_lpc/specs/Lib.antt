@@ -1,0 +1,4 @@
+pub mod Autocorrelation
+pub mod Ratios
+pub mod Reflection
+pub mod Scaling

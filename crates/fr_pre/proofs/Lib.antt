@@ -1,0 +1,4 @@
+pub mod Floors
+pub mod Shifted
+pub mod Run
+pub mod Chain

@@ -1,0 +1,4 @@
+pub mod Memory
+pub mod Offsets
+pub mod Preprocessing
+pub mod History

@@ -1,0 +1,58 @@
+//! What preprocessing keeps from frame to frame.
+
+ghost use Rattle.std.specs.Prelude.{◌≤◌, ◌^◌, pos, ◌-ℤ◌, ◌*ℤ◌, unsigned_abs};
+
+use crate::compensation::{offset_in, sum};
+use crate::passes::{compensate, downscale, follow, preemphasise};
+
+/// The state of preprocessing in one call: the last downscaled sample, the sum of the offset compensation, and the
+/// last sample before preemphasis. Any samples from home keep both bounds, under which no sum of two long words is
+/// clamped.
+#[derive(Clone, Copy, Debug, PartialEq, Eq)]
+pub struct PreState {
+    pub z1: i16,
+    pub l_z2: i32,
+    pub mp: i16,
+    pub ghost z1_bound: { unsigned_abs z1 ≤ 2 ^ 14 },
+    pub ghost offset_bound: { unsigned_abs (l_z2 -ℤ z1 *ℤ pos 32768) ≤ 2 ^ 29 },
+}
+
+impl PreState {
+    ghost use Rattle.std.specs.Prelude.{◌≡◌, ℤ, List, [], ◌∷◌};
+    ghost use Rattle.fr_pre.specs.Memory.{PreMemory, home_memory, memory_of};
+    ghost use Rattle.fr_pre.specs.Preprocessing.{preprocessed_frame};
+    ghost use Rattle.fr_pre.specs.History.{Stands, newest_preprocessed};
+
+    /// The state before the first frame: every number is 0.
+    #[tactic(auto, unfolding(crate::specs::Preprocessing::preprocessed_frame, crate::specs::History::samples_of))]
+    pub fn home() -> PreState
+        ensures value { memory_of result ≡ home_memory }
+        ensures history { Stands [] (memory_of result) }
+    {
+        PreState {
+            z1: 0,
+            l_z2: 0,
+            mp: 0,
+        }
+    }
+
+    /// Preprocesses the samples `x` of a frame, 13 bits left-justified in 16, into `s`. The three lowest bits of a
+    /// sample count for nothing, and what `s` held before is lost.
+    pub fn preprocess(&mut self, x: &[i16; 160], s: &mut [i16; 160])
+        ensures step { preprocessed_frame (memory_of self.old) x.now ≡ (s.new, memory_of self.new) }
+
+        // After the frames of any past, this one is the newest.
+        ensures history { (past : List (List ℤ)) → Stands past (memory_of self.old) →
+            Stands (x.now ∷ past) (memory_of self.new) × (s.new ≡ newest_preprocessed x.now past) }
+    {
+        let so = downscale(self.z1, x);
+        let offsets = follow(offset_in(self.l_z2, self.z1), &so);
+        let sof = compensate(self.mp, &so, &offsets);
+        preemphasise(&sof, s);
+        *self = PreState {
+            z1: so[160],
+            l_z2: sum(so[160], offsets[159]),
+            mp: sof[160],
+        };
+    }
+}
