@@ -28,9 +28,7 @@ pub(crate) fn codes(rt: &HostRuntime, pcm: &str, text: &str) -> io::Result<Compa
         state.preprocess(&samples(octets), &mut s);
         let mut wanted = lines.next().unwrap_or("").split(' ');
         for code in analyse(&mut s).larc {
-            let value = wanted
-                .next()
-                .map_or(-1, |word| word.parse().unwrap_or(-1));
+            let value = wanted.next().map_or(-1, |word| word.parse().unwrap_or(-1));
             comparison.compare(value, i32::from(code));
         }
     }

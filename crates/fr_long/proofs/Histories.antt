@@ -31,7 +31,7 @@ length-last_120 : (xs : List ℤ) → 120 ≤ length xs → length (last_120 xs)
 length-last_120 xs h = omega (arith, length-drop (length xs - 120) xs)
 
 -- no lag looks back further than the last 120
-sample_before-last_120 : (xs : List ℤ) (lag k : ℕ) → 120 ≤ length xs → lag ≤ 120 → sample_before (last_120 xs) lag k ≡ sample_before xs lag k
+pub sample_before-last_120 : (xs : List ℤ) (lag k : ℕ) → 120 ≤ length xs → lag ≤ 120 → sample_before (last_120 xs) lag k ≡ sample_before xs lag k
 sample_before-last_120 xs lag k l h =
     let count = length-last_120 xs l in
     let place : length xs - 120 + (120 + k - lag) ≡ length xs + k - lag = omega arith in
@@ -44,7 +44,7 @@ residual_after-last_120 xs lag bc erp l h =
     λ i. map (λ k. add_of (get_or erp k (pos 0)) (mult_r_of (gain_of bc) (sample_before-last_120 xs lag k l h i))) (range_with_len 0 40)
 
 -- the last 120 after 40 more
-last_120-append : (xs ys : List ℤ) → 120 ≤ length xs → length ys ≡ 40 → last_120 (xs ++ ys) ≡ drop 40 (last_120 xs) ++ ys
+pub last_120-append : (xs ys : List ℤ) → 120 ≤ length xs → length ys ≡ 40 → last_120 (xs ++ ys) ≡ drop 40 (last_120 xs) ++ ys
 last_120-append xs ys l e =
     let start : length (xs ++ ys) - 120 ≡ length xs - 120 + 40 = omega (arith, length-append xs ys) in
     let within : length xs - 120 + 40 ≤ length xs = omega arith in

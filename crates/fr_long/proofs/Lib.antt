@@ -1,1 +1,4 @@
+pub mod Blocks
 pub mod Histories
+pub mod Predictions
+pub mod Search

@@ -4,6 +4,7 @@ ghost use Rattle.std.specs.Prelude.{◌≡◌, ℕ, ◌≤◌, if◌then◌else�
 ghost use Rattle.fr_long.specs.Synthesis.{LtpBlock, block, is_lag, residual_after, residual_of};
 
 use crate::gain::quantised_gain;
+use crate::memory::remember;
 use std::marker::Model;
 use trau_num::plus;
 
@@ -85,12 +86,4 @@ fn reconstructed(earlier: &[i16; 120], lag: u8, bc: u8, erp: &[i16; 40]) -> [i16
         drp[k] = plus(erp[k], gain, earlier[start + k]);
     }
     drp
-}
-
-/// Keeps a block in place of the oldest 40 samples.
-fn remember(drp: &mut [i16; 120], residual: &[i16; 40])
-    ensures { drp.new ≡ drop 40 drp.old ++ residual.now }
-{
-    drp.copy_within(40.., 0);
-    drp[80..].copy_from_slice(residual);
 }

@@ -2,17 +2,29 @@
 //!
 //! The innermost stage: what is left of a block of 40 samples after long-term prediction is thirteen
 //! pulses, three samples apart, at one of four grid positions; they are coded by the block's maximum
-//! (6 bits) and each pulse's share of it (3 bits). The decoding side makes the block again, here with
-//! `decode_block`; long-term synthesis takes it from there.
+//! (6 bits) and each pulse's share of it (3 bits). `encode_block` finds these parameters, and
+//! `decode_block` makes the block again: in the encoder for its own long-term prediction, in the decoder
+//! for long-term synthesis. The comfort noise of the downlink codes its mean maximum by `quantise_max`.
 //!
-//! `scale` has the exponent and mantissa of a maximum, `decode` the way back to a block. Definitions:
-//! `specs/Scale.antt` and `specs/Pulses.antt`.
+//! `weighting` filters the block, `selection` chooses the grid, `maximum` codes the maximum, `scale` has
+//! the exponent and mantissa of a coded maximum, `quantisation` codes the pulses, `decode` is the way back
+//! to a block, `rpe` the parameters, `encode` the whole. Definitions: `specs/Weighting.antt`,
+//! `specs/Selection.antt`, `specs/Quantisation.antt`, `specs/Scale.antt`, `specs/Pulses.antt`.
 #![tactic(auto)]
 
 mod decode;
+mod encode;
+mod maximum;
+mod quantisation;
+mod rpe;
 mod scale;
+mod selection;
+mod weighting;
 
 pub use decode::decode_block;
+pub use encode::encode_block;
+pub use maximum::quantise_max;
+pub use rpe::Rpe;
 
 #[cfg(test)]
 mod tests;

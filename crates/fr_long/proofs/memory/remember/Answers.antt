@@ -2,7 +2,7 @@ use Rattle.std.proofs.Common.{◌≡◌, ℕ, ℤ, ◌+◌, ◌-◌, ◌<◌, �
 use Rattle.std.proofs.lemmas.List.{same_lists, get_or-take, get_or-drop, length-take-le, length-drop, take_all, drop_all, append-nil}
 use Rattle.std.proofs.lemmas.Slice.{put_mid-paste}
 use borrow.Rule.Slice.PartMut.{put_mid}
-use Rattle.fr_long.proofs.decoder.remember.Goals as goal
+use Rattle.fr_long.proofs.memory.remember.Goals as goal
 
 -- 80 samples that moved down by 40, and 40 new ones after them
 moved : (old xs ys : List ℤ) → length old ≡ 120 → length xs ≡ 120 → length ys ≡ 40 → ((k : ℕ) (d : ℤ) → k < 80 → get_or xs k d ≡ get_or old (40 + (k - 0)) d) →
@@ -23,5 +23,5 @@ moved old xs ys lo lx ly m =
 pub returns : goal.returns
 returns c =
     rw c.copy_from_slice.ensures.after
-    (moved c.args.drp.now c.copy_within.new.self c.args.residual.now c.told-drp (omega (arith, c.copy_within.ensures.len, c.told-drp)) c.told-residual
-    (λ k d h. c.copy_within.ensures.by_index.0 k d (omega arith) (omega (arith, c.told-drp))))
+    (moved c.args.residuals.now c.copy_within.new.self c.args.block.now c.told-residuals (omega (arith, c.copy_within.ensures.len, c.told-residuals)) c.told-block
+    (λ k d h. c.copy_within.ensures.by_index.0 k d (omega arith) (omega (arith, c.told-residuals))))

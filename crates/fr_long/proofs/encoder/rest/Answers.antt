@@ -1,0 +1,8 @@
+use Rattle.std.proofs.Common.{pos, arith}
+use Rattle.trau_num.proofs.Fill.{fill_all}
+use Rattle.fr_long.specs.Prediction.{rest_of}
+use Rattle.fr_long.proofs.encoder.rest.Goals as goal
+
+pub returns : goal.returns
+unfolding rest_of
+returns c = fill_all (pos 0) _ c.loop-k.e 40 c.loop-k.k (omega arith) c.loop-k.invariant

@@ -1,0 +1,110 @@
+//! Long-term prediction (GSM 06.10, sections 4.2.11, 4.2.12 and 4.2.18).
+
+ghost use Rattle.std.specs.Prelude.{◌≡◌, ℕ, ◌≤◌, List, ℤ};
+ghost use Rattle.fr_long.specs.Prediction.{predicted_of, rest_of, reconstructed_of};
+
+use crate::gain::quantised_gain;
+use crate::gain_code::{gain_code, unscaled};
+use crate::lag::search;
+use crate::ltp::Ltp;
+use crate::memory::remember;
+use crate::scaling::{peak, scaled, scaling};
+use crate::sums::power;
+use std::marker::Model;
+use trau_num::{add, mult_r, sub};
+
+/// The encoding side of long-term prediction: the last 120 reconstructed residuals.
+#[derive(Drop)]
+pub struct LtpHistory {
+    /// The oldest first.
+    dp: [i16; 120],
+}
+
+impl Model for LtpHistory {
+    ghost Value = { List ℤ };
+
+    ghost view = { λ history. history.dp };
+}
+
+impl LtpHistory {
+    ghost use Rattle.std.specs.Prelude.{pos, [], ◌++◌, replicate};
+    ghost use Rattle.fr_long.specs.Prediction.{IsPrediction, updated, after_zeros, HistoryStands};
+
+    /// The home state, before any block.
+    pub fn home() -> Self
+        ensures value { result ≡ replicate 120 (pos 0) }
+        ensures history { HistoryStands [] result }
+    {
+        LtpHistory { dp: [0; 120] }
+    }
+
+    /// The lag and gain that predict a block of 40 samples of the short-term residual best, the
+    /// prediction, and what is left to be coded.
+    pub fn predict(&self, d: &[i16; 40]) -> Ltp
+        ensures step { IsPrediction d.now self.now result.nc result.bc result.dpp result.e }
+        ensures history { (past : List ℤ) → HistoryStands past self.now →
+            IsPrediction d.now (after_zeros past) result.nc result.bc result.dpp result.e }
+    {
+        let peak = peak(d);
+        let scal = scaling(peak);
+        let best = search(&scaled(d, peak, scal), &self.dp);
+        let l_max = unscaled(best.correlation, scal);
+        let bc = gain_code(l_max, power(&self.dp, best.lag));
+        let dpp = predicted(&self.dp, best.lag, bc);
+        let e = rest(d, &dpp);
+        Ltp {
+            nc: best.lag,
+            bc,
+            dpp,
+            e,
+        }
+    }
+
+    /// Takes in a coded block: its prediction `dpp`, and its pulses `ep` as a decoder has them.
+    #[tactic(auto, unfolding(crate::specs::Prediction::updated))]
+    pub fn update(&mut self, dpp: &[i16; 40], ep: &[i16; 40])
+        ensures step { self.new ≡ updated self.old dpp.now ep.now }
+        ensures history { (past : List ℤ) → HistoryStands past self.old →
+            HistoryStands (past ++ reconstructed_of dpp.now ep.now) self.new }
+    {
+        remember(&mut self.dp, &reconstructed(dpp, ep));
+    }
+}
+
+/// The prediction of a block.
+fn predicted(earlier: &[i16; 120], nc: u8, bc: u8) -> [i16; 40]
+    requires at_least { 40 ≤ nc }
+    requires at_most { nc ≤ 120 }
+    requires gain { bc ≤ 3 }
+    ensures { result ≡ predicted_of earlier.now nc bc }
+{
+    let gain = quantised_gain(bc);
+    let start = 120 - nc as usize;
+    let mut dpp = [0; 40];
+    for k in 0..40 {
+        dpp[k] = mult_r(gain, earlier[start + k]);
+    }
+    dpp
+}
+
+/// A block less its prediction.
+fn rest(d: &[i16; 40], dpp: &[i16; 40]) -> [i16; 40]
+    ensures { result ≡ rest_of d.now dpp.now }
+{
+    let mut e = [0; 40];
+    for k in 0..40 {
+        e[k] = sub(d[k], dpp[k]);
+    }
+    e
+}
+
+/// The residual of a coded block, as a decoder reconstructs it.
+fn reconstructed(dpp: &[i16; 40], ep: &[i16; 40]) -> [i16; 40]
+    ensures { result ≡ reconstructed_of dpp.now ep.now }
+{
+    let mut dp = [0; 40];
+    for k in 0..40 {
+        dp[k] = add(ep[k], dpp[k]);
+    }
+    dp
+}

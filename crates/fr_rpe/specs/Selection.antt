@@ -1,0 +1,41 @@
+-- Which of the four grids of a block is coded (GSM 06.10, section 4.2.14).
+use Rattle.std.specs.Prelude.{ℕ, ◌+◌, ◌*◌, ◌^◌, ◌<◌, ◌≡◌, zero, suc, ℤ, pos, ◌+ℤ◌, ◌<ℤ◌, ◌≤ℤ◌, int_lt, if◌then◌else◌, List, map, fold, slice_index_or}
+use Rattle.std.specs.List.{range_with_len}
+use Rattle.trau_num.specs.Num.{l_mult_of, floor_shr}
+
+-- xM of the grid that starts at m: thirteen samples, three apart
+unfoldable pub pulses_on_grid : List ℤ → ℕ → List ℤ
+pulses_on_grid x m = map (λ i. slice_index_or x (m + 3 * i) (pos 0)) (range_with_len 0 13)
+
+-- what one sample adds to its grid's energy: twice the square of a quarter of it
+unfoldable pub sample_energy : ℤ → ℤ
+sample_energy x = l_mult_of (floor_shr x 2) (floor_shr x 2)
+
+-- EM: the energy of the first n samples of the grid that starts at m
+unfoldable pub energy_up_to : ℕ → List ℤ → ℕ → ℤ
+energy_up_to n x m = fold ◌+ℤ◌ (pos 0) (map (λ i. sample_energy (slice_index_or x (m + 3 * i) (pos 0))) (range_with_len 0 n))
+
+-- the energy of the whole grid that starts at m
+abbrev pub grid_energy : List ℤ → ℕ → ℤ
+grid_energy x m = energy_up_to 13 x m
+
+-- the least of the numbers 0 to n at which f is greatest
+abbrev pub least_greatest : (ℕ → ℤ) → ℕ → ℕ
+least_greatest f zero = 0
+least_greatest f (suc n) = if int_lt (f (least_greatest f n)) (f (suc n)) then suc n else least_greatest f n
+
+-- Mc: the least of the four grids with the greatest energy
+unfoldable pub grid_of : List ℤ → ℕ
+grid_of x = least_greatest (grid_energy x) 3
+
+-- no grid has more energy than the grid m, and each before it has less
+pub record IsStrongestGrid (x : List ℤ) (m : ℕ) : Type 0 where
+  pub below_4 : m < 4
+  pub greatest : (n : ℕ) → n < 4 → grid_energy x n ≤ℤ grid_energy x m
+  pub least : (n : ℕ) → n < m → grid_energy x n <ℤ grid_energy x m
+
+-- the energies of the first n samples of each grid, which are at most n times that of a sample
+pub record AreEnergies (n : ℕ) (x sums : List ℤ) : Type 0 where
+  pub each : (m : ℕ) → m < 4 → slice_index_or sums m (pos 0) ≡ energy_up_to n x m
+  pub at_least : (m : ℕ) → m < 4 → pos 0 ≤ℤ slice_index_or sums m (pos 0)
+  pub at_most : (m : ℕ) → m < 4 → slice_index_or sums m (pos 0) ≤ℤ pos (2 ^ 27 * n)

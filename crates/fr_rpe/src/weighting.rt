@@ -1,0 +1,63 @@
+//! The block filter that weighs what is left of a block (GSM 06.10, section 4.2.13).
+
+ghost use Rattle.std.specs.Prelude.{◌≡◌, ℕ, ◌+◌, ◌*◌, ◌^◌, ◌<◌, ◌≤◌, pos, neg_ℤ, ◌+ℤ◌, ◌*ℤ◌, ◌≤ℤ◌, unsigned_abs};
+ghost use Rattle.fr_rpe.specs.Weighting.{padded_block, weighted_sum, weighted_block};
+
+use trau_num::{clamp, product};
+
+/// The weighted block of a block of 40 samples.
+pub(crate) fn weighted(e: &[i16; 40]) -> [i16; 40]
+    ensures { result ≡ weighted_block e.now }
+{
+    let padded = padded(e);
+    let mut x = [0; 40];
+    for k in 0..40 {
+        x[k] = clamp(weighted_sum(&padded, k) >> 13);
+    }
+    x
+}
+
+// Zeros stand for the samples outside of the block, so that each sum has all of its terms.
+fn padded(e: &[i16; 40]) -> [i16; 50]
+    ensures { result ≡ padded_block e.now }
+{
+    let mut padded = [0; 50];
+    for k in 0..40 {
+        padded[k + 5] = e[k];
+    }
+    padded
+}
+
+// The nine taps that aren't 0, written out.
+fn weighted_sum(padded: &[i16; 50], k: usize) -> i32
+    requires { k < 40 }
+    ensures value { result ≡ weighted_sum padded.now k }
+    ensures bound { unsigned_abs result ≤ 812584960 }
+{
+    let sum = plus_tap(4096, -134, padded[k]);
+    let sum = plus_tap(sum, -374, padded[k + 1]);
+    let sum = plus_tap(sum, 2054, padded[k + 3]);
+    let sum = plus_tap(sum, 5741, padded[k + 4]);
+    let sum = plus_tap(sum, 8192, padded[k + 5]);
+    let sum = plus_tap(sum, 5741, padded[k + 6]);
+    let sum = plus_tap(sum, 2054, padded[k + 7]);
+    let sum = plus_tap(sum, -374, padded[k + 9]);
+    plus_tap(sum, -134, padded[k + 10])
+}
+
+fn plus_tap(sum: i32, weight: i16, value: i16) -> i32
+    requires weight { neg_ℤ (pos 32767) ≤ℤ weight }
+    requires room { unsigned_abs sum + unsigned_abs weight * 32768 < 2 ^ 31 }
+    ensures value { result ≡ sum +ℤ weight *ℤ value }
+    ensures bound { unsigned_abs result ≤ unsigned_abs sum + unsigned_abs weight * 32768 }
+{
+    sum + tap(weight, value)
+}
+
+fn tap(weight: i16, value: i16) -> i32
+    requires { neg_ℤ (pos 32767) ≤ℤ weight }
+    ensures value { result ≡ weight *ℤ value }
+    ensures bound { unsigned_abs result ≤ unsigned_abs weight * 32768 }
+{
+    product(weight, value)
+}
