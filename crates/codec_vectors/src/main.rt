@@ -8,7 +8,7 @@
 mod alaw;
 mod comparison;
 mod decoder;
-mod prediction;
+mod encoder;
 
 use std::io;
 
@@ -27,8 +27,8 @@ fn main(rt: HostRuntime) -> io::Result<()> {
         decoder::samples(&rt, "harsh.up", "harsh.samples.txt")?
     )?;
     println!(rt;
-        "codes harsh.pcm {}",
-        prediction::codes(&rt, "harsh.pcm", "harsh.parameters.txt")?
+        "encode harsh.pcm {}",
+        encoder::parameters(&rt, "harsh.pcm", "harsh.parameters.txt")?
     )?;
     Ok(())
 }

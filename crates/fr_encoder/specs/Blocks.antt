@@ -1,0 +1,70 @@
+-- The coding of a frame's four blocks (GSM 06.10, sections 4.2.11 to 4.2.18).
+use Rattle.std.specs.Prelude.{ℕ, ◌+◌, ◌*◌, ℤ, pos, if◌then◌else◌, int_lt, List, [], ◌∷◌, ◌++◌, take, drop, map}
+use Rattle.fr_long.specs.GainCode.{power_of, code_of}
+use Rattle.fr_long.specs.Prediction.{correlation_of_block, l_max_of, predicted_of, rest_of, reconstructed_of, after_zeros}
+use Rattle.fr_rpe.specs.Encoding.{mc_of, xmaxc_of, xmc_of, xmax_of}
+use Rattle.fr_rpe.specs.Pulses.{block_of}
+use Rattle.fr_rpe.specs.Selection.{least_greatest}
+
+-- Nc: the least lag of 40 to 120 with the greatest correlation, or 40 where that isn't positive
+unfoldable pub lag_of : (ℕ → ℤ) → ℕ
+lag_of correlation =
+    let best = 40 + least_greatest (λ i. correlation (40 + i)) 80 in
+    if int_lt (pos 0) (correlation best) then best else 40
+
+-- what a block is coded to, and its maximum before it was coded
+pub record CodedBlock : Type 0 where
+  pub nc : ℕ
+  pub bc : ℕ
+  pub mc : ℕ
+  pub xmaxc : ℕ
+  pub xmc : List ℕ
+  pub xmax : ℤ
+
+-- block d of 40 residuals after the earlier reconstructed ones: what it is coded to, and its reconstructed residuals
+unfoldable pub coded_block : List ℤ → List ℤ → CodedBlock × List ℤ
+coded_block d earlier =
+    let nc = lag_of (correlation_of_block d earlier) in
+    let bc = code_of (l_max_of d earlier nc) (power_of earlier nc) in
+    let dpp = predicted_of earlier nc bc in
+    let e = rest_of d dpp in (
+      record { nc = nc; bc = bc; mc = mc_of e; xmaxc = xmaxc_of e; xmc = xmc_of e; xmax = xmax_of e },
+      reconstructed_of dpp (block_of (mc_of e) (xmaxc_of e) (xmc_of e)),
+    )
+
+-- block j of a frame's residual
+abbrev pub block_at : List ℤ → ℕ → List ℤ
+block_at d j = take 40 (drop (40 * j) d)
+
+-- a block after all reconstructed residuals of the past: what it is coded to, and all of them with its own
+unfoldable pub block_after : List ℤ → List ℤ → CodedBlock × List ℤ
+block_after past d = let coded = coded_block d (after_zeros past) in (coded.0, past ++ coded.1)
+
+-- the four blocks of a frame in turn, and all reconstructed residuals after them
+unfoldable pub four_blocks : List ℤ → List ℤ → List CodedBlock × List ℤ
+four_blocks past d =
+    let first = block_after past (block_at d 0) in
+    let second = block_after first.1 (block_at d 1) in
+    let third = block_after second.1 (block_at d 2) in
+    let fourth = block_after third.1 (block_at d 3) in
+    (first.0 ∷ second.0 ∷ third.0 ∷ fourth.0 ∷ [], fourth.1)
+
+-- what the blocks of a frame are coded to, field by field
+pub record BlockFields : Type 0 where
+  pub nc : List ℕ
+  pub bc : List ℕ
+  pub mc : List ℕ
+  pub xmaxc : List ℕ
+  pub xmc : List (List ℕ)
+  pub xmax : List ℤ
+
+-- the fields of coded blocks
+abbrev pub block_fields : List CodedBlock → BlockFields
+block_fields blocks = record {
+  nc = map (λ b. b.nc) blocks;
+  bc = map (λ b. b.bc) blocks;
+  mc = map (λ b. b.mc) blocks;
+  xmaxc = map (λ b. b.xmaxc) blocks;
+  xmc = map (λ b. b.xmc) blocks;
+  xmax = map (λ b. b.xmax) blocks;
+}

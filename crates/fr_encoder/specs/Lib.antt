@@ -1,0 +1,4 @@
+pub mod Blocks
+pub mod Coded
+pub mod Encoded
+pub mod Step

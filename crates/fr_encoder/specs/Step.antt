@@ -1,0 +1,49 @@
+-- The encoder from frame to frame (GSM 06.10, section 4.2).
+use Rattle.std.specs.Prelude.{ℤ, pos, List, [], ◌∷◌, ◌++◌, drop, replicate}
+use Rattle.fr_pre.specs.Memory as pre
+use Rattle.fr_pre.specs.History as preprocessing
+use Rattle.fr_pre.specs.Preprocessing.{preprocessed_frame}
+use Rattle.fr_lpc.specs.Scaling.{samples_after}
+use Rattle.fr_lpc.specs.Ratios.{ratio_codes, ratios_of_frame}
+use Rattle.fr_short.specs.Memory as short
+use Rattle.fr_short.specs.Analysis.{analysed_frame, AnalysisStands}
+use Rattle.fr_long.specs.Prediction.{HistoryStands}
+use Rattle.fr_encoder.specs.Blocks.{CodedBlock, coded_block, block_at, block_fields}
+use Rattle.fr_encoder.specs.Encoded.{Encoded, encoding, sample_frames, reconstructed}
+
+-- what the encoder keeps: the memories of preprocessing and of short-term analysis, and the last 120 reconstructed residuals
+pub record EncoderMemory : Type 0 where
+  pub preprocessing : pre.PreMemory
+  pub short_term : short.ShortMemory
+  pub long_term : List ℤ
+
+-- the memory at home
+abbrev pub home_memory : EncoderMemory
+home_memory = record { preprocessing = pre.home_memory; short_term = short.home_memory; long_term = replicate 120 (pos 0) }
+
+-- one block: what it is coded to, and the last 120 reconstructed residuals after it
+unfoldable pub next_block : List ℤ → List ℤ → CodedBlock × List ℤ
+next_block residuals d = let coded = coded_block d residuals in (coded.0, drop 40 residuals ++ coded.1)
+
+-- the four blocks of a frame's residual, and the last 120 reconstructed residuals after them
+unfoldable pub next_blocks : List ℤ → List ℤ → List CodedBlock × List ℤ
+next_blocks residuals d =
+    let first = next_block residuals (block_at d 0) in
+    let second = next_block first.1 (block_at d 1) in
+    let third = next_block second.1 (block_at d 2) in
+    let fourth = next_block third.1 (block_at d 3) in
+    (first.0 ∷ second.0 ∷ third.0 ∷ fourth.0 ∷ [], fourth.1)
+
+-- one frame: what it is encoded to, and the memory after it
+unfoldable pub encoded_frame : EncoderMemory → List ℤ → Encoded × EncoderMemory
+encoded_frame memory x =
+    let pre = preprocessed_frame memory.preprocessing x in
+    let short = analysed_frame memory.short_term (ratio_codes (ratios_of_frame pre.0)) (samples_after pre.0) in
+    let long = next_blocks memory.long_term short.0 in
+    (encoding pre.0 (block_fields long.0), record { preprocessing = pre.1; short_term = short.1; long_term = long.1 })
+
+-- the memory is that of these frames from home
+pub record Stands (past : List (List ℤ)) (memory : EncoderMemory) : Type 0 where
+  pub preprocessing : preprocessing.Stands past memory.preprocessing
+  pub short_term : AnalysisStands (sample_frames past) memory.short_term
+  pub long_term : HistoryStands (reconstructed past) memory.long_term

@@ -1,0 +1,63 @@
+//! The four blocks of a frame (GSM 06.10, sections 4.2.11 to 4.2.18).
+
+ghost use Rattle.std.specs.Prelude.{◌≡◌, ℕ, ◌<◌, ℤ, List};
+ghost use Rattle.fr_long.specs.Prediction.{HistoryStands};
+ghost use Rattle.fr_encoder.specs.Blocks.{block_at, block_after, four_blocks, block_fields};
+ghost use Rattle.fr_encoder.specs.Step.{next_block, next_blocks};
+ghost use Rattle.fr_encoder.specs.Coded.{codes_of, fields_of};
+
+use crate::block::{Block, Blocks};
+use fr_long::LtpHistory;
+use fr_rpe::encode_block;
+
+// Codes a block of 40 residuals, and takes what a decoder makes of it into the history.
+fn code_block(history: &mut LtpHistory, d: &[i16; 40]) -> Block
+    ensures step { next_block history.old d.now ≡ (codes_of result, history.new) }
+    ensures history { (past : List ℤ) → HistoryStands past history.old →
+        HistoryStands (block_after past d.now).1 history.new × (codes_of result ≡ (block_after past d.now).0) }
+{
+    let ltp = history.predict(d);
+    let rpe = encode_block(&ltp.e);
+    history.update(&ltp.dpp, &rpe.ep);
+    let xmc = rpe.xmc;
+    Block {
+        nc: ltp.nc,
+        bc: ltp.bc,
+        mc: rpe.mc,
+        xmaxc: rpe.xmaxc,
+        xmc,
+        xmax: rpe.xmax,
+    }
+}
+
+// Block j of a frame.
+fn block_at(s: &[i16; 160], j: usize) -> [i16; 40]
+    requires { j < 4 }
+    ensures { result ≡ block_at s.now j }
+{
+    let mut d = [0; 40];
+    d.copy_from_slice(&s[40 * j..40 * j + 40]);
+    d
+}
+
+/// Codes the four blocks of a frame's residual in turn.
+pub(crate) fn code_blocks(history: &mut LtpHistory, d: &[i16; 160]) -> Blocks
+    ensures fields { fields_of result ≡ block_fields (next_blocks history.old d.now).0 }
+    ensures step { history.new ≡ (next_blocks history.old d.now).1 }
+    ensures history { (past : List ℤ) → HistoryStands past history.old →
+        HistoryStands (four_blocks past d.now).1 history.new × (fields_of result ≡ block_fields (four_blocks past d.now).0) }
+{
+    let first = code_block(history, &block_at(d, 0));
+    let second = code_block(history, &block_at(d, 1));
+    let third = code_block(history, &block_at(d, 2));
+    let fourth = code_block(history, &block_at(d, 3));
+    let (a, b, c, d) = (first.xmc, second.xmc, third.xmc, fourth.xmc);
+    Blocks {
+        nc: [first.nc, second.nc, third.nc, fourth.nc],
+        bc: [first.bc, second.bc, third.bc, fourth.bc],
+        mc: [first.mc, second.mc, third.mc, fourth.mc],
+        xmaxc: [first.xmaxc, second.xmaxc, third.xmaxc, fourth.xmaxc],
+        xmc: [a, b, c, d],
+        xmax: [first.xmax, second.xmax, third.xmax, fourth.xmax],
+    }
+}
