@@ -3,7 +3,8 @@
 //! Below everything that reads or writes: tools, rounds and the top call move octets through the two
 //! traits of this crate and know nothing else of the outside. `MemTrunk` and `MemDesk` hold everything
 //! in memory and tell all of it, with cuts, failures and room set by their maker; files and the
-//! standard streams stand in the program's own crate.
+//! standard streams stand in the program's own crate. Beside the traits stand the plain values that tell
+//! a call's end and its counts.
 //!
 //! The meanings of lines and desks, and all limits, are this project's profile.
 //! Definitions: `specs/Lines.antt` and `specs/Desks.antt` (what one call does), `specs/Transfer.antt`
@@ -11,6 +12,7 @@
 #![tactic(auto)]
 
 mod desk;
+mod ends;
 mod line;
 mod memory;
 mod places;
@@ -18,6 +20,7 @@ mod transfer;
 mod trunk;
 
 pub use desk::Desk;
+pub use ends::{CallEnd, Cause, Counts};
 pub use line::{Failed, Line, Side};
 pub use memory::{MemDesk, MemTrunk};
 pub use places::{PLACES, place};

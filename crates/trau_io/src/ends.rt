@@ -1,0 +1,49 @@
+// How and when a call ended, and what was counted of its periods: plain values that the orders' board,
+// the rounds and the report share.
+
+use crate::Side;
+
+/// Why a call ended.
+#[derive(Clone, Copy, Debug, PartialEq, Eq)]
+pub enum Cause {
+    /// An accepted order closed it.
+    Closed,
+    /// An incoming line ended without a fault; `left` of its octets stand past the call's whole periods.
+    End { side: Side, left: u32 },
+    /// An incoming line failed before it gave the period.
+    Fault { side: Side },
+    /// The run has no further periods.
+    Limit,
+}
+
+/// The end of a call: `at` is the first period that it doesn't have.
+#[derive(Clone, Copy, Debug, PartialEq, Eq)]
+pub struct CallEnd {
+    pub call: u32,
+    pub at: u32,
+    pub cause: Cause,
+}
+
+/// What was counted over the periods of a call: the yields of its uplink's search by their class, the
+/// periods in which no yield ended, and the downlink frames that were made.
+#[derive(Clone, Copy, Debug, PartialEq, Eq)]
+pub struct Counts {
+    /// Good speech frames.
+    pub good: u64,
+    /// Speech frames of class Sid: valid silence frames.
+    pub sid: u64,
+    /// Speech frames of class InvalidSid.
+    pub invalid: u64,
+    /// Unusable speech frames.
+    pub bad: u64,
+    /// Idle frames.
+    pub idle: u64,
+    /// Frames of another kind.
+    pub other: u64,
+    /// Places where a frame was due and no sync bits matched.
+    pub miss: u64,
+    /// Periods in which no yield ended.
+    pub none: u64,
+    /// Frames made for the downlink.
+    pub made: u64,
+}
