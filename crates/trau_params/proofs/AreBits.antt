@@ -5,7 +5,7 @@ use Rattle.std.proofs.lemmas.List.Elements.{All-append, All-map}
 use Rattle.trau_params.specs.declared.params.Params.{Params}
 use Rattle.trau_params.specs.Widths.{larc_widths, block_widths}
 use Rattle.trau_params.specs.FieldBits.{low_bits, field_bits, AreBits}
-use Rattle.trau_params.specs.Bits260.{bits260_of, block_values, block_bits}
+use Rattle.trau_params.specs.Bits260.{bits260, bits260_of, block_values, block_bits}
 
 AreBits-low_bits : (width value : ℕ) → AreBits (low_bits width value)
 unfolding low_bits
@@ -25,7 +25,7 @@ AreBits-flat_map f a zero h = AreBits-none
 AreBits-flat_map f a (suc n) h = All-append (λ b. b < 2) _ _ (h a) (AreBits-flat_map f (a + 1) n h)
 
 pub AreBits-bits260_of : (p : Params) → AreBits (bits260_of p)
-unfolding bits260_of
+unfolding bits260 bits260_of
 AreBits-bits260_of p =
     All-append (λ b. b < 2) _ _ (AreBits-field_bits larc_widths p.larc)
     (AreBits-flat_map (block_bits p) 0 4 (λ j. AreBits-field_bits block_widths (block_values p j)))

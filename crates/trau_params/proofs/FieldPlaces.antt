@@ -7,7 +7,7 @@ use Rattle.std.proofs.lemmas.List.FromFn.{get_or-map-range_with_len}
 use Rattle.trau_params.specs.declared.params.Params.{Params}
 use Rattle.trau_params.specs.Widths.{larc_widths, block_widths}
 use Rattle.trau_params.specs.FieldBits.{low_bits, field_bits}
-use Rattle.trau_params.specs.Bits260.{bits260_of, block_values, block_bits}
+use Rattle.trau_params.specs.Bits260.{bits260, bits260_of, block_values, block_bits}
 use Rattle.trau_params.specs.Places.{FieldsStand}
 use Rattle.trau_params.specs.Shape.{HasShape}
 use Rattle.trau_params.proofs.Prefixes.{length-low_bits}
@@ -70,7 +70,7 @@ long_block p n j h = ap (λ x. suc (suc (suc (suc x)))) (n.pulses j h)
 
 block_at : (p : Params) → HasShape p → (j r : ℕ) → j < 4 → r < 56 →
     get_or (bits260_of p) (36 + (56 * j + r)) 0 ≡ get_or (block_bits p j) r 0
-unfolding bits260_of
+unfolding bits260 bits260_of
 block_at p n j r h l =
     let front : length (field_bits larc_widths p.larc) ≡ 36 = length-field_bits larc_widths p.larc n.larc in
     let e : 36 + (56 * j + r) - 36 ≡ 56 * j + r = omega arith in
@@ -109,7 +109,7 @@ pulse_offset i h =
 
 larc_at : (p : Params) → HasShape p → (i : ℕ) → i < 8 → (t : ℕ) → t < get_or larc_widths i 0 →
     get_or (bits260_of p) (sum (take i larc_widths) + t) 0 ≡ get_or p.larc i 0 / 2 ^ t % 2
-unfolding bits260_of
+unfolding bits260 bits260_of
 larc_at p n i h t l =
     let front : length (field_bits larc_widths p.larc) ≡ 36 = length-field_bits larc_widths p.larc n.larc in
     let part : sum (take i larc_widths) + get_or larc_widths i 0 ≤ 36 = sum_by_more_le (λ x. x) larc_widths i 0 h in

@@ -9,7 +9,7 @@ use Rattle.std.proofs.lemmas.Nat.{pow-add}
 use Rattle.trau_params.specs.declared.params.Params.{Params}
 use Rattle.trau_params.specs.Widths.{larc_widths, block_widths, pulse_widths, FitWidth}
 use Rattle.trau_params.specs.FieldBits.{low_bits, field_bits}
-use Rattle.trau_params.specs.Bits260.{bits260_of, block_values, block_bits, SameFields}
+use Rattle.trau_params.specs.Bits260.{bits260, bits260_of, block_values, block_bits, SameFields}
 use Rattle.trau_params.specs.Shape.{HasShape}
 use Rattle.trau_params.proofs.Prefixes.{length-low_bits, low_bits-front}
 
@@ -134,7 +134,7 @@ same_number : (p q : Params) → ((j : ℕ) → j < 4 → block_values p j ≡ b
 same_number p q e j h = let s = e j h in (cc, cc, cc, cc, cc)
 
 pub same_fields : (p q : Params) → HasShape p → HasShape q → bits260_of p ≡ bits260_of q → SameFields p q
-unfolding bits260_of
+unfolding bits260 bits260_of
 same_fields p q m n e =
     let long = length-field_bits larc_widths p.larc q.larc (m.larc ∙ sym n.larc) in
     let block = same_number p q (same_blocks p q m n (same_rest _ _ _ _ long e)) in

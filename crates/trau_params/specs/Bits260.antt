@@ -2,21 +2,28 @@
 use Rattle.std.specs.Prelude.{◌≡◌, ℕ, List, [], ◌∷◌, ◌++◌, slice_index, slice_index_or}
 use Rattle.std.specs.List.{range_with_len, flat_map}
 use Rattle.trau_params.specs.declared.params.Params.{Params}
+use Rattle.trau_params.specs.Fields.{Fields, fields_of}
 use Rattle.trau_params.specs.Widths.{larc_widths, block_widths}
 use Rattle.trau_params.specs.FieldBits.{field_bits}
 
--- the fields of block j: lag, gain, grid, block maximum, pulses
-abbrev pub block_values : Params → ℕ → List ℕ
-block_values p j =
-    slice_index p.nc j ∷ slice_index p.bc j ∷ slice_index p.mc j ∷ slice_index p.xmaxc j ∷ slice_index_or p.xmc j []
+-- the values of block j: lag, gain, grid, block maximum, pulses
+abbrev pub values_in : Fields → ℕ → List ℕ
+values_in f j =
+    slice_index f.nc j ∷ slice_index f.bc j ∷ slice_index f.mc j ∷ slice_index f.xmaxc j ∷ slice_index_or f.xmc j []
 
--- the bits of block j
+-- the bits of fields: the eight LARc, then the four blocks
+unfoldable pub bits260 : Fields → List ℕ
+bits260 f = field_bits larc_widths f.larc ++ flat_map (λ j. field_bits block_widths (values_in f j)) (range_with_len 0 4)
+
+-- the values and the bits of block j of a frame, and the bits of the frame
+abbrev pub block_values : Params → ℕ → List ℕ
+block_values p j = values_in (fields_of p) j
+
 abbrev pub block_bits : Params → ℕ → List ℕ
 block_bits p j = field_bits block_widths (block_values p j)
 
--- the eight LARc, then the four blocks
 unfoldable pub bits260_of : Params → List ℕ
-bits260_of p = field_bits larc_widths p.larc ++ flat_map (block_bits p) (range_with_len 0 4)
+bits260_of p = bits260 (fields_of p)
 
 -- the frames agree in every field
 pub record SameFields (p q : Params) : Type 0 where

@@ -3,7 +3,7 @@ use Rattle.std.proofs.lemmas.List.{take_all, append-nil}
 use Rattle.trau_params.specs.Widths.{larc_widths, FitWidth}
 use Rattle.trau_params.specs.FieldBits.{field_bits}
 use Rattle.trau_params.specs.Block.{bits_of}
-use Rattle.trau_params.specs.Bits260.{bits260_of}
+use Rattle.trau_params.specs.Bits260.{bits260, bits260_of}
 use Rattle.trau_params.proofs.FieldsRead.{fields_of_bits}
 use Rattle.trau_params.proofs.params.Params.from_bits.Goals as goal
 
@@ -53,7 +53,7 @@ invariant_of-result-clause-xmc_fit c =
     c.read-first.result.xmc_fit c.read-second.result.xmc_fit c.read-third.result.xmc_fit c.read-fourth.result.xmc_fit
 
 pub returns-clause-bits : goal.returns-clause-bits
-unfolding bits260_of
+unfolding bits260 bits260_of
 returns-clause-bits c =
     let long : length c.args.bits.now ≡ 260 = search rules in
     five_parts c.args.bits.now (field_bits larc_widths c.read_larc.result)

@@ -4,7 +4,7 @@ use Rattle.std.proofs.lemmas.List.{take_all}
 use Rattle.trau_params.specs.Widths.{larc_widths, block_widths}
 use Rattle.trau_params.specs.FieldBits.{field_bits, AreBits}
 use Rattle.trau_params.specs.Block.{bits_of}
-use Rattle.trau_params.specs.Bits260.{bits260_of, block_bits}
+use Rattle.trau_params.specs.Bits260.{bits260, bits260_of, block_bits}
 use Rattle.trau_params.proofs.AreBits.{AreBits-bits260_of}
 use Rattle.trau_params.proofs.Prefixes.{flat_map-range-more}
 use Rattle.trau_params.proofs.params.Params.to_bits.Goals as goal
@@ -25,7 +25,7 @@ loop-j-preserved c =
     }
 
 pub returns-clause-value : goal.returns-clause-value
-unfolding bits260_of
+unfolding bits260 bits260_of
 returns-clause-value c =
     let long = c.loop-j.invariant.long in
     let all : c.loop-j.j ≡ 4 = omega arith in
