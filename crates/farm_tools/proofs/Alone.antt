@@ -1,10 +1,12 @@
 -- Octets are cut into good blocks and a refused one in one way only.
-use Rattle.std.proofs.Common.{◌≡◌, ℕ, ◌+◌, List, [], ◌∷◌, ◌++◌, length, take, All, Option, Some, None, sym, ◌∙◌, ap, subst, arith, append_assoc, length-append}
+use Rattle.std.proofs.Common.{◌≡◌, ℕ, ◌+◌, List, [], ◌∷◌, ◌++◌, length, take, All, Option, Some, None, refl, sym, ◌∙◌, ap, subst, arith, append_assoc, length-append}
 use Rattle.std.specs.List.{concat}
 use Rattle.std.specs.Io.KnownBytes.{Consumes}
-use Rattle.std.proofs.lemmas.List.{append_cancel_left, append_cancel_right, take_all, take_at}
+use Rattle.std.proofs.lemmas.List.{append-nil, append_cancel_left, append_cancel_right, take_all, take_at}
 use Rattle.std.proofs.lemmas.List.Elements.{All-head, All-tail}
-use Rattle.farm_tools.specs.Blocks.{IsGoodBlock, IsRefusedBlock}
+use Rattle.farm_tools.specs.declared.end.Tool.{Tool}
+use Rattle.farm_tools.specs.declared.end.Tool.TheVariants.{Relay, Decode, Encode}
+use Rattle.farm_tools.specs.Blocks.{IsGoodBlock, IsLeft, IsRefused, IsRefusedBlock, IsTaken}
 
 -- what a line that tells its octets gave between two moments is one list
 pub one_given : (before now : Option (List ℕ)) (octets xs ys : List ℕ) → before ≡ Some octets → Consumes before now xs → Consumes before now ys → xs ≡ ys
@@ -19,7 +21,7 @@ rest_is : (b c xs ys : List ℕ) → b ≡ c → b ++ xs ≡ c ++ ys → xs ≡ 
 rest_is b c xs ys front same = append_cancel_left c xs ys (ap (λ l. l ++ xs) (sym front) ∙ same)
 
 -- octets that are good blocks alone are no good blocks with a refused one behind them
-pub no_refused : (blocks others : List (List ℕ)) (last : List ℕ) (ended : Type 0) → All IsGoodBlock blocks → All IsGoodBlock others → IsRefusedBlock last ended → concat blocks ≡ concat others ++ last → ⊥
+no_refused : (blocks others : List (List ℕ)) (last : List ℕ) (ended : Type 0) → All IsGoodBlock blocks → All IsGoodBlock others → IsRefusedBlock last ended → concat blocks ≡ concat others ++ last → ⊥
 no_refused [] [] last ended good goods refused same = let none : length last ≡ 0 = ap length (sym same) in let some = refused.some in omega arith
 no_refused [] (c ∷ cs) last ended good goods refused same =
     let long = (All-head IsGoodBlock c cs goods).whole in
@@ -36,3 +38,17 @@ no_refused (b ∷ bs) (c ∷ cs) last ended good goods refused same =
     let split : b ++ concat bs ≡ c ++ (concat cs ++ last) = same ∙ append_assoc c (concat cs) last in
     let front = front_is b c (concat bs) (concat cs ++ last) (All-head IsGoodBlock b bs good).whole (All-head IsGoodBlock c cs goods).whole split in
     no_refused bs cs last ended (All-tail IsGoodBlock b bs good) (All-tail IsGoodBlock c cs goods) refused (rest_is b c (concat bs) (concat cs ++ last) front split)
+
+-- and octets that a tool takes, with what it may leave behind them, are no blocks with one behind them that it refuses
+pub no_refused_behind : (tool : Tool) (blocks others : List (List ℕ)) (rest last : List ℕ) (ended : Type 0) → All (IsTaken tool) blocks → All (IsTaken tool) others → IsLeft tool rest → IsRefused tool last ended → concat blocks ++ rest ≡ concat others ++ last → ⊥
+no_refused_behind Relay blocks others rest last ended taken takens left refused same =
+    no_refused blocks others last ended taken takens refused (sym (ap (λ l. concat blocks ++ l) left ∙ append-nil (concat blocks)) ∙ same)
+no_refused_behind Decode blocks others rest last ended taken takens left refused same =
+    no_refused blocks others last ended taken takens refused (sym (ap (λ l. concat blocks ++ l) left ∙ append-nil (concat blocks)) ∙ same)
+no_refused_behind Encode blocks others rest last ended taken takens left refused same = refused
+
+-- nothing need be left
+pub nothing_left : (tool : Tool) → IsLeft tool []
+nothing_left Relay = refl
+nothing_left Decode = refl
+nothing_left Encode = omega arith

@@ -1,20 +1,20 @@
 -- What a tool without faults leaves, where the outside tells what it holds.
-use Rattle.std.proofs.Common.{◌≡◌, ◌≢◌, inl, inr, ⊎_elim, ℕ, List, [], ◌++◌, All, Option, Some, None, Ok, refl, sym, ◌∙◌, ap, arith, append-nil}
+use Rattle.std.proofs.Common.{◌≡◌, ◌≢◌, inl, inr, ⊎_elim, ℕ, List, [], ◌++◌, length, All, Option, Some, None, Ok, refl, sym, ◌∙◌, ap, arith, append-nil}
 use Rattle.std.specs.List.{concat}
 use Rattle.std.specs.Io.KnownBytes.{Consumes, Appends, IsAtEnd}
 use Rattle.trau_io.specs.declared.line.Side.{Side}
-use Rattle.trau_io.specs.declared.line.Side.TheVariants.{Up}
 use Rattle.trau_io.specs.Lines.{LineState}
 use Rattle.trau_io.specs.Desks.{DeskState}
 use Rattle.trau_io.specs.Transfer.{Tells}
 use Rattle.farm_tools.specs.declared.end.Tool.{Tool}
+use Rattle.farm_tools.specs.declared.end.Tool.TheVariants.{Relay, Decode, Encode}
 use Rattle.farm_tools.specs.declared.end.RunEnd.{RunEnd}
 use Rattle.farm_tools.specs.declared.end.RunEnd.TheVariants.{Done, Refused, ReadFailed, WriteFailed}
 use Rattle.farm_tools.specs.declared.end.ToolEnd.{ToolEnd}
-use Rattle.farm_tools.specs.Blocks.{IsGoodBlock}
+use Rattle.farm_tools.specs.Blocks.{IsRefused, IsTaken}
 use Rattle.farm_tools.specs.Causes.{IsCalm}
 use Rattle.farm_tools.specs.Clean.{Calm, CleanRun, Leaves}
-use Rattle.farm_tools.specs.Made.{made, out_side}
+use Rattle.farm_tools.specs.Made.{made}
 use Rattle.farm_tools.specs.Runs.{EndsAs, Moves}
 use Rattle.farm_tools.specs.Tools.{TellsEnd, ToolRuns, status_of, text_of}
 use Rattle.farm_tools.proofs.Causing.{status_by, status_of-end}
@@ -34,6 +34,12 @@ at_end : (b : Option (List ℕ)) (ys : List ℕ) → b ≡ Some ys → IsAtEnd b
 at_end None ys is end = absurd (cc)
 at_end (Some y) ys is end = let same : y ≡ ys = cc in sym same ∙ end
 
+-- a refused block of a line that ended as it did
+refused_as : (tool : Tool) (last : List ℕ) (a b : Type 0) → (a → b) → IsRefused tool last a → IsRefused tool last b
+refused_as Relay last a b f is = record { some = is.some; bound = is.bound; short = λ lt. f (is.short lt); bad = is.bad }
+refused_as Decode last a b f is = record { some = is.some; bound = is.bound; short = λ lt. f (is.short lt); bad = is.bad }
+refused_as Encode last a b f is = is
+
 module _ (tool : Tool) (call : ℕ) (u u' o o' : LineState) (k k' : DeskState) (result : ToolEnd) where
   -- with memory and no fault of the desk, the whole text went out
   spoken : (end : RunEnd) → TellsEnd tool call end k k' result → IsCalm k.write_faults k'.write_faults → status_of result ≢ 5 → (status_of result ≡ status_by end) × Tells k k' (Ok tt) (text_of tool call end)
@@ -41,29 +47,29 @@ module _ (tool : Tool) (call : ℕ) (u u' o o' : LineState) (k k' : DeskState) (
   spoken end (inr (inl fault)) calm not = let rose = fault.1.cause.failed in absurd (omega (arith, calm.0, calm.1))
   spoken end (inl told) calm not = (status_of-end tool call end result told.0, told.1)
 
-  module _ (blocks : List (List ℕ)) (octets sent text : List ℕ) (calm : Calm u u' o o' k k') (not : status_of result ≢ 5) (good : All IsGoodBlock blocks)
+  module _ (blocks : List (List ℕ)) (octets sent text : List ℕ) (calm : Calm u u' o o' k k') (not : status_of result ≢ 5) (taken : All (IsTaken tool) blocks)
       (u_is : u.to_come ≡ Some octets) (o_is : o.written ≡ Some sent) (k_is : k.written ≡ Some text) where
     all_sent : (more : List ℕ) → more ≡ [] → Appends o.written o'.written (made tool blocks ++ more) → o'.written ≡ Some (sent ++ made tool blocks)
     all_sent more none written = appended _ _ sent _ o_is written ∙ ap (λ l. Some (sent ++ l)) (ap (λ l. made tool blocks ++ l) none ∙ append-nil (made tool blocks))
 
     leaves : (end : RunEnd) (last more : List ℕ) → Moves u u' o o' (concat blocks ++ last) (made tool blocks ++ more) → EndsAs tool u u' o o' blocks last more end → TellsEnd tool call end k k' result → Leaves tool call u' o' k' octets sent text (status_of result)
-    leaves (Done n) last more moves ends said =
-        let told = spoken (Done n) said calm.desk_calm not in
+    leaves (Done n left) last more moves ends said =
+        let told = spoken (Done n left) said calm.desk_calm not in
         let took = consumed _ _ octets _ u_is moves.read in
         record {
           rest = took.0;
           more_sent = made tool blocks;
-          more_text = text_of tool call (Done n);
-          up_holds = took.1;
+          more_text = text_of tool call (Done n left);
+          inc_holds = took.1;
           out_holds = all_sent more ends.1.nothing_sent moves.written;
           desk_holds = appended _ _ text _ k_is told.1.ok;
           worked = record {
             blocks = blocks;
             last = last;
             split = took.2;
-            good = good;
+            taken = taken;
             sent_is = refl;
-            ended = inl (told.0, ends.1.nothing_read, ⊎_elim (λ e. inl (at_end _ took.0 took.1 e)) (λ m. inr (sym ends.0 ∙ m)) ends.1.at_end, ap (λ m. text_of tool call (Done m)) ends.0);
+            ended = inl (told.0, ends.1.rest, ⊎_elim (λ e. inl (at_end _ took.0 took.1 e)) (λ m. inr (sym ends.0 ∙ m.0, m.1)) ends.1.at_end, ap (λ m. text_of tool call (Done m left)) ends.0 ∙ ap (λ m. text_of tool call (Done (length blocks) m)) ends.1.left_is);
           };
         }
     leaves (Refused n) last more moves ends said =
@@ -74,22 +80,21 @@ module _ (tool : Tool) (call : ℕ) (u u' o o' : LineState) (k k' : DeskState) (
           rest = took.0;
           more_sent = made tool blocks;
           more_text = text_of tool call (Refused n);
-          up_holds = took.1;
+          inc_holds = took.1;
           out_holds = all_sent more came.nothing_sent moves.written;
           desk_holds = appended _ _ text _ k_is told.1.ok;
           worked = record {
             blocks = blocks;
             last = last;
             split = took.2;
-            good = good;
+            taken = taken;
             sent_is = refl;
-            ended = inr (told.0, record { some = came.refused.some; bound = came.refused.bound; short = λ lt. at_end _ took.0 took.1 (came.refused.short lt); bad = came.refused.bad }, ap (λ m. text_of tool call (Refused m)) ends.0);
+            ended = inr (told.0, refused_as tool last _ _ (at_end _ took.0 took.1) came.refused, ap (λ m. text_of tool call (Refused m)) ends.0);
           };
         }
-    leaves ReadFailed last more moves ends said = let rose = ends.rose in let same = calm.up_calm in absurd (omega (arith, same.0, same.1))
+    leaves ReadFailed last more moves ends said = let rose = ends.rose in let same = calm.inc_calm in absurd (omega (arith, same.0, same.1))
     leaves WriteFailed last more moves ends said = let rose = ends.rose in let same = calm.out_calm in absurd (omega (arith, same.0, same.1))
 
-pub clean_of : (tool : Tool) (before now : ℕ → Side → LineState) (desk desk' : DeskState) (call : ℕ) (result : ToolEnd) → ToolRuns tool before now desk desk' call result →
-    CleanRun tool call (before call Up) (now call Up) (before call (out_side tool)) (now call (out_side tool)) desk desk' (status_of result)
+pub clean_of : (tool : Tool) (before now : ℕ → Side → LineState) (desk desk' : DeskState) (call : ℕ) (result : ToolEnd) → ToolRuns tool before now desk desk' call result → CleanRun tool call before now desk desk' (status_of result)
 clean_of tool before now desk desk' call result ran = λ calm not octets sent text u_is o_is k_is.
-    leaves tool call _ _ _ _ desk desk' result ran.runs.blocks octets sent text calm not ran.runs.good u_is o_is k_is ran.end ran.runs.last ran.runs.more ran.runs.moves ran.runs.ends ran.tells
+    leaves tool call _ _ _ _ desk desk' result ran.runs.blocks octets sent text calm not ran.runs.taken u_is o_is k_is ran.end ran.runs.last ran.runs.more ran.runs.moves ran.runs.ends ran.tells

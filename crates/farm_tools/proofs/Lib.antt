@@ -2,7 +2,7 @@
 mod Alone
 pub mod Causing
 pub mod Cleaning
-mod Compressing
+mod Mapping
 mod Making
 mod Rounds
 mod Steps

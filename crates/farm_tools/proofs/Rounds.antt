@@ -7,20 +7,21 @@ use Rattle.std.proofs.lemmas.List.Folds.{concat-append}
 use Rattle.std.proofs.lemmas.List.{append-nil}
 use Rattle.std.proofs.KnownBytes.{Consumes-nil, Consumes-trans, Appends-nil, Appends-trans}
 use Rattle.fr_decoder.specs.Decoded.{all_samples}
+use Rattle.fr_encoder.specs.Encoded.{all_encodings}
 use Rattle.trau_io.specs.declared.line.Side.{Side}
-use Rattle.trau_io.specs.declared.line.Side.TheVariants.{Up}
 use Rattle.trau_io.specs.Lines.{LineState, Rose}
 use Rattle.farm_tools.specs.declared.end.Tool.{Tool}
 use Rattle.farm_tools.specs.declared.end.RunEnd.TheVariants as run
-use Rattle.farm_tools.specs.declared.end.Tool.TheVariants.{Relay, Decode}
+use Rattle.farm_tools.specs.declared.end.Tool.TheVariants.{Relay, Decode, Encode}
 use Rattle.farm_tools.specs.declared.run.BlockEnd.{BlockEnd}
 use Rattle.farm_tools.specs.declared.run.BlockEnd.TheVariants.{Taken, Refused, LineEnded, ReadFailed, WriteFailed}
 use Rattle.farm_tools.specs.declared.work.Work.{Work}
-use Rattle.farm_tools.specs.Blocks.{IsGoodBlock}
-use Rattle.farm_tools.specs.Made.{made, out_side}
-use Rattle.farm_tools.specs.Runs.{AllButTwo, Moves, NoFault, Runs}
-use Rattle.farm_tools.specs.Step.{RunsOn}
+use Rattle.farm_tools.specs.Blocks.{IsTaken}
+use Rattle.farm_tools.specs.Made.{in_side, made, out_side}
+use Rattle.farm_tools.specs.Runs.{AllButTwo, ComesToRefused, FailsToRead, Moves, NoFault, Runs}
+use Rattle.farm_tools.specs.Step.{EndsHere, RunsOn}
 use Rattle.farm_tools.specs.Work.{tool_of, Stands}
+use Rattle.farm_tools.proofs.Alone.{nothing_left}
 
 -- two calls, each of which leaves all lines but two as they were
 pub others_on : (a b c : ℕ → Side → LineState) (call : ℕ) (s t : Side) → AllButTwo a b call s t → AllButTwo b c call s t → AllButTwo a c call s t
@@ -30,44 +31,45 @@ moves_on : (u0 u1 u2 o0 o1 o2 : LineState) (g h s t : List ℕ) → Moves u0 u1 
 moves_on u0 u1 u2 o0 o1 o2 g h s t first second = record {
   read = Consumes-trans _ _ _ _ _ first.read second.read;
   written = Appends-trans _ _ _ _ _ first.written second.written;
-  up_written = second.up_written ∙ first.up_written;
+  inc_written = second.inc_written ∙ first.inc_written;
   out_to_come = second.out_to_come ∙ first.out_to_come;
-  up_later = omega (arith, first.up_later, second.up_later);
+  inc_later = omega (arith, first.inc_later, second.inc_later);
   out_later = omega (arith, first.out_later, second.out_later);
 }
 
 -- what a work's own tool says of its lines, said of the tool of the run
 pub block_of_tool : (work work' : Work) (tool : Tool) (before now : ℕ → Side → LineState) (call : ℕ) (end : BlockEnd) → tool_of work ≡ tool →
-    RunsOn work work' (before call Up) (now call Up) (before call (out_side (tool_of work))) (now call (out_side (tool_of work))) end →
-    RunsOn work work' (before call Up) (now call Up) (before call (out_side tool)) (now call (out_side tool)) end
-block_of_tool work work' tool before now call end same ran = subst (λ t. RunsOn work work' (before call Up) (now call Up) (before call (out_side t)) (now call (out_side t)) end) same ran
+    RunsOn work work' (before call (in_side (tool_of work))) (now call (in_side (tool_of work))) (before call (out_side (tool_of work))) (now call (out_side (tool_of work))) end →
+    RunsOn work work' (before call (in_side tool)) (now call (in_side tool)) (before call (out_side tool)) (now call (out_side tool)) end
+block_of_tool work work' tool before now call end same ran = subst (λ t. RunsOn work work' (before call (in_side t)) (now call (in_side t)) (before call (out_side t)) (now call (out_side t)) end) same ran
 
 pub others_of_tool : (work : Work) (tool : Tool) (before now : ℕ → Side → LineState) (call : ℕ) → tool_of work ≡ tool →
-    AllButTwo before now call Up (out_side (tool_of work)) → AllButTwo before now call Up (out_side tool)
-others_of_tool work tool before now call same others = subst (λ t. AllButTwo before now call Up (out_side t)) same others
+    AllButTwo before now call (in_side (tool_of work)) (out_side (tool_of work)) → AllButTwo before now call (in_side tool) (out_side tool)
+others_of_tool work tool before now call same others = subst (λ t. AllButTwo before now call (in_side t) (out_side t)) same others
 
--- the run so far: n good blocks, for which the work stands, and no fault
+-- the run so far: n blocks that were taken, for which the work stands, and no fault
 pub record SoFar (work : Work) (tool : Tool) (u0 u1 o0 o1 : LineState) (n : ℕ) : Type 0 where
   pub blocks : List (List ℕ)
   pub stands : Stands work blocks
-  pub good : All IsGoodBlock blocks
+  pub taken : All (IsTaken tool) blocks
   pub count : length blocks ≡ n
   pub moves : Moves u0 u1 o0 o1 (concat blocks) (made tool blocks)
   pub calm : NoFault u0 u1 o0 o1
 
 made-nil : (tool : Tool) → made tool [] ≡ []
-unfolding all_samples
+unfolding all_samples all_encodings
 made-nil Relay = refl
 made-nil Decode = refl
+made-nil Encode = refl
 
 pub at_start : (work : Work) (tool : Tool) (u o : LineState) → Stands work [] → SoFar work tool u u o o 0
 at_start work tool u o stands = record {
   blocks = [];
   stands = stands;
-  good = λ k d lt. absurd (omega arith);
+  taken = λ k d lt. absurd (omega arith);
   count = refl;
-  calm = record { up_same = refl; out_same = refl };
-  moves = subst (λ l. Moves u u o o [] l) (sym (made-nil tool)) (record { read = Consumes-nil u.to_come; written = Appends-nil o.written; up_written = refl; out_to_come = refl; up_later = omega arith; out_later = omega arith });
+  calm = record { inc_same = refl; out_same = refl };
+  moves = subst (λ l. Moves u u o o [] l) (sym (made-nil tool)) (record { read = Consumes-nil u.to_come; written = Appends-nil o.written; inc_written = refl; out_to_come = refl; inc_later = omega arith; out_later = omega arith });
 }
 
 All-one : {X : Type 0} (P : X → Type 0) (x : X) → P x → All P (x ∷ [])
@@ -82,55 +84,61 @@ module _ (work : Work) (tool : Tool) (u0 u1 u2 o0 o1 o2 : LineState) (n : ℕ) (
   last_moves given sent moves = moves_on _ _ _ _ _ _ _ _ _ _ so_far.moves moves
 
   calm_on : NoFault u1 u2 o1 o2 → NoFault u0 u2 o0 o2
-  calm_on calm = record { up_same = calm.up_same ∙ so_far.calm.up_same; out_same = calm.out_same ∙ so_far.calm.out_same }
+  calm_on calm = record { inc_same = calm.inc_same ∙ so_far.calm.inc_same; out_same = calm.out_same ∙ so_far.calm.out_same }
 
-  -- one more good block
+  -- one more block
   pub taken : (work' : Work) → RunsOn work work' u1 u2 o1 o2 Taken → SoFar work' tool u0 u2 o0 o2 (n + 1)
   taken work' one =
       let made_more = subst (λ t. made t (so_far.blocks ++ one.given ∷ []) ≡ made t so_far.blocks ++ one.sent) of_tool (one.ends.made_more so_far.blocks so_far.stands) in
       record {
         blocks = so_far.blocks ++ one.given ∷ [];
         stands = one.ends.one_more so_far.blocks so_far.stands;
-        good = All-append IsGoodBlock so_far.blocks (one.given ∷ []) so_far.good (All-one IsGoodBlock one.given one.ends.good);
+        taken = All-append (IsTaken tool) so_far.blocks (one.given ∷ []) so_far.taken (All-one (IsTaken tool) one.given (subst (λ t. IsTaken t one.given) of_tool one.ends.taken));
         count = length-append so_far.blocks (one.given ∷ []) ∙ ap (λ k. k + 1) so_far.count;
         moves = subst (λ l. Moves u0 u2 o0 o2 l (made tool (so_far.blocks ++ one.given ∷ []))) (sym (concat_push so_far.blocks one.given)) (subst (λ l. Moves u0 u2 o0 o2 (concat so_far.blocks ++ one.given) l) (sym made_more) (last_moves one.given one.sent one.moves));
         calm = calm_on one.ends.calm;
       }
 
-  pub line_ended : (work' : Work) → RunsOn work work' u1 u2 o1 o2 LineEnded → Runs tool u0 u2 o0 o2 (run.Done n)
-  line_ended work' one = record {
-    blocks = so_far.blocks;
-    last = one.given;
-    more = one.sent;
-    good = so_far.good;
-    moves = last_moves one.given one.sent one.moves;
-    ends = (sym so_far.count, record { at_end = inl one.ends.2; nothing_read = one.ends.0; nothing_sent = one.ends.1; calm = calm_on one.ends.3 });
-  }
+  pub line_ended : (work' : Work) (left : ℕ) → RunsOn work work' u1 u2 o1 o2 (LineEnded left) → Runs tool u0 u2 o0 o2 (run.Done n left)
+  line_ended work' left one =
+      let here = subst (λ t. EndsHere t u1 u2 o1 o2 left one.given one.sent) of_tool one.ends in
+      record {
+        blocks = so_far.blocks;
+        last = one.given;
+        more = one.sent;
+        taken = so_far.taken;
+        moves = last_moves one.given one.sent one.moves;
+        ends = (sym so_far.count, record { at_end = inl here.at_end; left_is = here.left_is; rest = here.rest; nothing_sent = here.nothing_sent; calm = calm_on here.calm });
+      }
 
   pub refused : (work' : Work) → RunsOn work work' u1 u2 o1 o2 Refused → Runs tool u0 u2 o0 o2 (run.Refused n)
-  refused work' one = record {
-    blocks = so_far.blocks;
-    last = one.given;
-    more = one.sent;
-    good = so_far.good;
-    moves = last_moves one.given one.sent one.moves;
-    ends = (sym so_far.count, record { refused = one.ends.refused; nothing_sent = one.ends.nothing_sent; calm = calm_on one.ends.calm });
-  }
+  refused work' one =
+      let here = subst (λ t. ComesToRefused t u1 u2 o1 o2 one.given one.sent) of_tool one.ends in
+      record {
+        blocks = so_far.blocks;
+        last = one.given;
+        more = one.sent;
+        taken = so_far.taken;
+        moves = last_moves one.given one.sent one.moves;
+        ends = (sym so_far.count, record { refused = here.refused; nothing_sent = here.nothing_sent; calm = calm_on here.calm });
+      }
 
   pub read_failed : (work' : Work) → RunsOn work work' u1 u2 o1 o2 ReadFailed → Runs tool u0 u2 o0 o2 run.ReadFailed
-  read_failed work' one = record {
-    blocks = so_far.blocks;
-    last = one.given;
-    more = one.sent;
-    good = so_far.good;
-    moves = last_moves one.given one.sent one.moves;
-    ends = record {
-      part = one.ends.part;
-      nothing_sent = one.ends.nothing_sent;
-      rose = subst (λ before. Rose before u2.faults) so_far.calm.up_same one.ends.rose;
-      out_same = one.ends.out_same ∙ so_far.calm.out_same;
-    };
-  }
+  read_failed work' one =
+      let here = subst (λ t. FailsToRead t u1 u2 o1 o2 one.given one.sent) of_tool one.ends in
+      record {
+        blocks = so_far.blocks;
+        last = one.given;
+        more = one.sent;
+        taken = so_far.taken;
+        moves = last_moves one.given one.sent one.moves;
+        ends = record {
+          part = here.part;
+          nothing_sent = here.nothing_sent;
+          rose = subst (λ before. Rose before u2.faults) so_far.calm.inc_same here.rose;
+          out_same = here.out_same ∙ so_far.calm.out_same;
+        };
+      }
 
   pub write_failed : (work' : Work) → RunsOn work work' u1 u2 o1 o2 WriteFailed → Runs tool u0 u2 o0 o2 run.WriteFailed
   write_failed work' one =
@@ -139,26 +147,26 @@ module _ (work : Work) (tool : Tool) (u0 u1 u2 o0 o1 o2 : LineState) (n : ℕ) (
         blocks = so_far.blocks;
         last = one.given;
         more = one.sent;
-        good = so_far.good;
+        taken = so_far.taken;
         moves = last_moves one.given one.sent one.moves;
         ends = record {
-          good = fails.good;
+          taken = subst (λ t. IsTaken t one.given) of_tool fails.taken;
           whole = fails.whole;
           made_more = subst (λ t. made t (so_far.blocks ++ one.given ∷ []) ≡ made t so_far.blocks ++ fails.whole) of_tool fails.made_more;
           proper = fails.proper;
           front = fails.front;
-          up_same = fails.up_same ∙ so_far.calm.up_same;
+          inc_same = fails.inc_same ∙ so_far.calm.inc_same;
           rose = subst (λ before. Rose before o2.faults) so_far.calm.out_same fails.rose;
         };
       }
 
 -- so many blocks were taken that no more are
-pub at_last : (work : Work) (tool : Tool) (u0 u1 o0 o1 : LineState) (n : ℕ) → SoFar work tool u0 u1 o0 o1 n → n ≡ 2 ^ 32 - 1 → Runs tool u0 u1 o0 o1 (run.Done n)
+pub at_last : (work : Work) (tool : Tool) (u0 u1 o0 o1 : LineState) (n : ℕ) → SoFar work tool u0 u1 o0 o1 n → n ≡ 2 ^ 32 - 1 → Runs tool u0 u1 o0 o1 (run.Done n 0)
 at_last work tool u0 u1 o0 o1 n so_far last = record {
   blocks = so_far.blocks;
   last = [];
   more = [];
-  good = so_far.good;
+  taken = so_far.taken;
   moves = subst (λ l. Moves u0 u1 o0 o1 l (made tool so_far.blocks ++ [])) (sym (append-nil (concat so_far.blocks))) (subst (λ l. Moves u0 u1 o0 o1 (concat so_far.blocks) l) (sym (append-nil (made tool so_far.blocks))) so_far.moves);
-  ends = (sym so_far.count, record { at_end = inr last; nothing_read = refl; nothing_sent = refl; calm = so_far.calm });
+  ends = (sym so_far.count, record { at_end = inr (last, refl); left_is = refl; rest = nothing_left tool; nothing_sent = refl; calm = so_far.calm });
 }

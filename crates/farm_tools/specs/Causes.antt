@@ -2,28 +2,36 @@
 use Rattle.std.specs.Prelude.{◌≡◌, ◌⊎◌, ℕ, ◌<◌, List, ◌++◌, ◌-◌, ◌^◌, Some, All}
 use Rattle.std.specs.List.{concat}
 use Rattle.std.specs.Io.KnownBytes.{Consumes, IsAtEnd}
+use Rattle.trau_io.specs.declared.line.Side.{Side}
 use Rattle.trau_io.specs.Lines.{LineState, Rose}
 use Rattle.trau_io.specs.Desks.{DeskState}
-use Rattle.farm_tools.specs.Blocks.{IsGoodBlock, IsRefusedBlock}
+use Rattle.farm_tools.specs.declared.end.Tool.{Tool}
+use Rattle.farm_tools.specs.Blocks.{IsRefused, IsTaken}
+use Rattle.farm_tools.specs.Made.{in_side, out_side}
 
--- the reads of an uplink came to a refused block
-pub record ReadsRefused (up up' : LineState) : Type 0 where
+-- the reads of the incoming line came to a block that the tool refuses
+pub record ReadsRefused (tool : Tool) (inc inc' : LineState) : Type 0 where
   pub blocks : List (List ℕ)
   pub last : List ℕ
-  pub read : Consumes up.to_come up'.to_come (concat blocks ++ last)
-  pub good : All IsGoodBlock blocks
-  pub refused : IsRefusedBlock last (IsAtEnd up'.to_come)
+  pub read : Consumes inc.to_come inc'.to_come (concat blocks ++ last)
+  pub taken : All (IsTaken tool) blocks
+  pub refused : IsRefused tool last (IsAtEnd inc'.to_come)
 
 -- a count didn't rise, and doesn't stand at its last value
 abbrev pub IsCalm : ℕ → ℕ → Type 0
 IsCalm before now = (now ≡ before) × (now < 2 ^ 64 - 1)
 
 -- 4 comes exactly where the desk's writing count rose, 6 exactly where the count of a line of the tool rose and 4 isn't due, 8 exactly where a block that was read is refused and 4 isn't due; each yields to 5, want of memory
-pub record Causes (up up' out out' : LineState) (desk desk' : DeskState) (status : ℕ) : Type 0 where
+pub record HasCauses (tool : Tool) (inc inc' out out' : LineState) (desk desk' : DeskState) (status : ℕ) : Type 0 where
   pub known : (status ≡ 0) ⊎ (status ≡ 4) ⊎ (status ≡ 5) ⊎ (status ≡ 6) ⊎ (status ≡ 8)
   pub desk_failed : status ≡ 4 → Rose desk.write_faults desk'.write_faults
   pub desk_rose : desk.write_faults < desk'.write_faults → (status ≡ 4) ⊎ (status ≡ 5)
-  pub line_failed : status ≡ 6 → Rose up.faults up'.faults ⊎ Rose out.faults out'.faults
-  pub line_rose : (up.faults < up'.faults) ⊎ (out.faults < out'.faults) → (status ≡ 4) ⊎ (status ≡ 5) ⊎ (status ≡ 6)
-  pub refused : status ≡ 8 → ReadsRefused up up'
-  pub read_refused : (octets : List ℕ) → up.to_come ≡ Some octets → IsCalm up.faults up'.faults → ReadsRefused up up' → (status ≡ 4) ⊎ (status ≡ 5) ⊎ (status ≡ 8)
+  pub line_failed : status ≡ 6 → Rose inc.faults inc'.faults ⊎ Rose out.faults out'.faults
+  pub line_rose : (inc.faults < inc'.faults) ⊎ (out.faults < out'.faults) → (status ≡ 4) ⊎ (status ≡ 5) ⊎ (status ≡ 6)
+  pub refused : status ≡ 8 → ReadsRefused tool inc inc'
+  pub read_refused : (octets : List ℕ) → inc.to_come ≡ Some octets → IsCalm inc.faults inc'.faults → ReadsRefused tool inc inc' → (status ≡ 4) ⊎ (status ≡ 5) ⊎ (status ≡ 8)
+
+-- the same of the tool's lines among all lines
+abbrev pub Causes : Tool → ℕ → (ℕ → Side → LineState) → (ℕ → Side → LineState) → DeskState → DeskState → ℕ → Type 0
+Causes tool call before now desk desk' status =
+    HasCauses tool (before call (in_side tool)) (now call (in_side tool)) (before call (out_side tool)) (now call (out_side tool)) desk desk' status

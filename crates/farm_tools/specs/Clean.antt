@@ -1,43 +1,49 @@
 -- What a tool leaves where nothing fails and the outside tells what it holds.
 use Rattle.std.specs.Prelude.{◌≡◌, ◌≢◌, ◌⊎◌, ℕ, ◌-◌, ◌^◌, List, [], ◌++◌, length, Some, All}
 use Rattle.std.specs.List.{concat}
+use Rattle.trau_io.specs.declared.line.Side.{Side}
 use Rattle.trau_io.specs.Lines.{LineState}
 use Rattle.trau_io.specs.Desks.{DeskState}
 use Rattle.farm_tools.specs.declared.end.Tool.{Tool}
 use Rattle.farm_tools.specs.declared.end.RunEnd.TheVariants.{Done, Refused}
-use Rattle.farm_tools.specs.Blocks.{IsGoodBlock, IsRefusedBlock}
+use Rattle.farm_tools.specs.Blocks.{IsLeft, IsRefused, IsTaken}
 use Rattle.farm_tools.specs.Causes.{IsCalm}
-use Rattle.farm_tools.specs.Made.{made}
+use Rattle.farm_tools.specs.Made.{in_side, made, out_side}
 use Rattle.farm_tools.specs.Tools.{text_of}
 
 -- no count of the tool's lines rose, nor that of the desk's writing
-pub record Calm (up up' out out' : LineState) (desk desk' : DeskState) : Type 0 where
-  pub up_calm : IsCalm up.faults up'.faults
+pub record Calm (inc inc' out out' : LineState) (desk desk' : DeskState) : Type 0 where
+  pub inc_calm : IsCalm inc.faults inc'.faults
   pub out_calm : IsCalm out.faults out'.faults
   pub desk_calm : IsCalm desk.write_faults desk'.write_faults
 
--- The work of a tool on an uplink that holds these octets: what is made of its blocks up to the first refused block or the end, with the status and the text that say which.
+-- The work of a tool on a line that holds these octets: what is made of its blocks up to the first refused block or the end, with the status and the text that say which.
 pub record IsWorked (tool : Tool) (call : ℕ) (octets rest sent text : List ℕ) (status : ℕ) : Type 0 where
   pub blocks : List (List ℕ)
   pub last : List ℕ
   pub split : octets ≡ concat blocks ++ last ++ rest
-  pub good : All IsGoodBlock blocks
+  pub taken : All (IsTaken tool) blocks
   pub sent_is : sent ≡ made tool blocks
-  pub ended : ((status ≡ 0) × (last ≡ []) × ((rest ≡ []) ⊎ (length blocks ≡ 2 ^ 32 - 1)) × (text ≡ text_of tool call (Done (length blocks))))
-      ⊎ ((status ≡ 8) × IsRefusedBlock last (rest ≡ []) × (text ≡ text_of tool call (Refused (length blocks))))
+  pub ended : ((status ≡ 0) × IsLeft tool last × ((rest ≡ []) ⊎ ((length blocks ≡ 2 ^ 32 - 1) × (last ≡ []))) × (text ≡ text_of tool call (Done (length blocks) (length last))))
+      ⊎ ((status ≡ 8) × IsRefused tool last (rest ≡ []) × (text ≡ text_of tool call (Refused (length blocks))))
 
--- what a tool leaves where the uplink held `octets`, and the outgoing line and the desk held `sent` and `text`
-pub record Leaves (tool : Tool) (call : ℕ) (up' out' : LineState) (desk' : DeskState) (octets sent text : List ℕ) (status : ℕ) : Type 0 where
+-- what a tool leaves where the incoming line held `octets`, and the outgoing line and the desk held `sent` and `text`
+pub record Leaves (tool : Tool) (call : ℕ) (inc' out' : LineState) (desk' : DeskState) (octets sent text : List ℕ) (status : ℕ) : Type 0 where
   pub rest : List ℕ
   pub more_sent : List ℕ
   pub more_text : List ℕ
-  pub up_holds : up'.to_come ≡ Some rest
+  pub inc_holds : inc'.to_come ≡ Some rest
   pub out_holds : out'.written ≡ Some (sent ++ more_sent)
   pub desk_holds : desk'.written ≡ Some (text ++ more_text)
   pub worked : IsWorked tool call octets rest more_sent more_text status
 
 -- a run in which nothing failed and there was memory, of lines and a desk that tell what they hold
-abbrev pub CleanRun : Tool → ℕ → LineState → LineState → LineState → LineState → DeskState → DeskState → ℕ → Type 0
-CleanRun tool call up up' out out' desk desk' status =
-    Calm up up' out out' desk desk' → status ≢ 5 → (octets sent text : List ℕ) → up.to_come ≡ Some octets → out.written ≡ Some sent → desk.written ≡ Some text →
-    Leaves tool call up' out' desk' octets sent text status
+abbrev pub LeavesAll : Tool → ℕ → LineState → LineState → LineState → LineState → DeskState → DeskState → ℕ → Type 0
+LeavesAll tool call inc inc' out out' desk desk' status =
+    Calm inc inc' out out' desk desk' → status ≢ 5 → (octets sent text : List ℕ) → inc.to_come ≡ Some octets → out.written ≡ Some sent → desk.written ≡ Some text →
+    Leaves tool call inc' out' desk' octets sent text status
+
+-- the same of the tool's lines among all lines
+abbrev pub CleanRun : Tool → ℕ → (ℕ → Side → LineState) → (ℕ → Side → LineState) → DeskState → DeskState → ℕ → Type 0
+CleanRun tool call before now desk desk' status =
+    LeavesAll tool call (before call (in_side tool)) (now call (in_side tool)) (before call (out_side tool)) (now call (out_side tool)) desk desk' status

@@ -5,6 +5,5 @@ pub mod Clean
 pub mod Made
 pub mod Runs
 pub mod Step
-pub mod Taken
 pub mod Tools
 pub mod Work

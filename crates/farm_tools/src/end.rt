@@ -1,13 +1,15 @@
 // The tools, and how they end.
 use trau_io::Line;
 
-/// A tool that works the blocks of an uplink.
+/// A tool that works the blocks of one line of a call into another.
 #[derive(Clone, Copy, Debug, PartialEq, Eq)]
 pub enum Tool {
     /// Good speech frames of the uplink, bits unchanged, to the downlink.
     Relay,
     /// Good speech frames of the uplink, decoded, to the Out line.
     Decode,
+    /// Periods of the Pcm line, encoded, to the downlink.
+    Encode,
 }
 
 /// How a tool ended.
@@ -28,8 +30,8 @@ pub enum ToolEnd {
 /// How a run over the blocks of a line ended.
 #[derive(Clone, Copy, Debug, PartialEq, Eq)]
 pub enum RunEnd {
-    /// After so many blocks, at the end of the line.
-    Done(u32),
+    /// After so many blocks, at the end of the line, with so many octets left behind the last of them.
+    Done(u32, u32),
     /// After so many blocks, at one that is refused.
     Refused(u32),
     /// By the fault of the incoming line.

@@ -1,8 +1,8 @@
 //! The tools: commands that work one line of one call by themselves.
 //!
-//! Between the outside (`trau_io`), frames (`trau_frame`), decoder (`fr_decoder`) and A-law (`trau_alaw`) below and the top call above, which reads the
-//! words and answers the status. A tool takes the blocks of an uplink one by one, writes what it makes of each to
-//! an outgoing line, and tells one line of text at its end.
+//! Between the outside (`trau_io`), frames (`trau_frame`), codec (`fr_decoder`, `fr_encoder`) and A-law (`trau_alaw`)
+//! below and the top call above, which reads the words and answers the status. A tool takes the blocks of an
+//! incoming line one by one, writes what it makes of each to an outgoing line, and tells one line of text at its end.
 //!
 //! The tools, their ends and their texts are this project's profile; frames are those of GSM 08.60.
 //! Definitions: `specs/Blocks.antt` (which blocks are taken), `specs/Made.antt` (what is made of them),
@@ -10,12 +10,12 @@
 //! `specs/Causes.antt` (why each end comes), `specs/Clean.antt` (a run without faults).
 #![tactic(auto)]
 
-mod block;
 mod end;
 mod run;
 mod text;
 mod tools;
+mod uplink;
 mod work;
 
 pub use end::{Tool, ToolEnd};
-pub use tools::{decode, relay};
+pub use tools::{decode, encode, relay};

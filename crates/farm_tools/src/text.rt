@@ -1,6 +1,7 @@
-// The texts of a tool's end.
+// The words, lines and texts of tools.
 ghost use Rattle.std.specs.Prelude.{◌≡◌, IfOk, string_bytes};
-ghost use Rattle.farm_tools.specs.Made.{name_of, out_side};
+ghost use Rattle.farm_tools.specs.Blocks.{block_length};
+ghost use Rattle.farm_tools.specs.Made.{in_side, name_of, out_side};
 ghost use Rattle.farm_tools.specs.declared.end.RunEnd.TheVariants as run;
 ghost use Rattle.farm_tools.specs.Tools.{side_name, failed_text, text_of};
 
@@ -16,16 +17,37 @@ impl Tool {
         match self {
             Tool::Relay => "relay",
             Tool::Decode => "decode",
+            Tool::Encode => "encode",
         }
     }
 
-    /// The line that the tool writes to.
-    pub fn side(self) -> Side
+    /// The line that the tool reads.
+    pub fn in_side(self) -> Side
+        ensures { result ≡ in_side self }
+    {
+        match self {
+            Tool::Relay | Tool::Decode => Side::Up,
+            Tool::Encode => Side::Pcm,
+        }
+    }
+
+    /// The line that the tool writes.
+    pub fn out_side(self) -> Side
         ensures { result ≡ out_side self }
     {
         match self {
-            Tool::Relay => Side::Down,
+            Tool::Relay | Tool::Encode => Side::Down,
             Tool::Decode => Side::Out,
+        }
+    }
+
+    /// The octets of a block of the line that the tool reads: 40 of an uplink, 160 of a Pcm line.
+    pub fn block_length(self) -> usize
+        ensures { result ≡ block_length self }
+    {
+        match self {
+            Tool::Relay | Tool::Decode => 40,
+            Tool::Encode => 160,
         }
     }
 }
@@ -48,11 +70,14 @@ fn failed_text(alloc: Global, call: u32, side: Side) -> Result<String, AllocErro
     format!(in alloc; "line {call} {name} failed\n")
 }
 
-fn frames_text(alloc: Global, tool: Tool, frames: u32) -> Result<String, AllocError>
-    ensures { IfOk result (λ text. string_bytes text ≡ text_of tool 0 (run.Done frames)) }
+fn frames_text(alloc: Global, tool: Tool, frames: u32, left: u32) -> Result<String, AllocError>
+    ensures { IfOk result (λ text. string_bytes text ≡ text_of tool 0 (run.Done frames left)) }
 {
     let name = tool.name();
-    format!(in alloc; "{name} frames {frames}\n")
+    match tool {
+        Tool::Relay | Tool::Decode => format!(in alloc; "{name} frames {frames}\n"),
+        Tool::Encode => format!(in alloc; "{name} frames {frames} left {left}\n"),
+    }
 }
 
 fn refused_text(alloc: Global, tool: Tool, blocks: u32) -> Result<String, AllocError>
@@ -67,9 +92,9 @@ pub fn end_text(alloc: Global, tool: Tool, call: u32, end: RunEnd) -> Result<Str
     ensures { IfOk result (λ text. string_bytes text ≡ text_of tool call end) }
 {
     match end {
-        RunEnd::Done(frames) => frames_text(alloc, tool, frames),
+        RunEnd::Done(frames, left) => frames_text(alloc, tool, frames, left),
         RunEnd::Refused(blocks) => refused_text(alloc, tool, blocks),
-        RunEnd::ReadFailed => failed_text(alloc, call, Side::Up),
-        RunEnd::WriteFailed => failed_text(alloc, call, tool.side()),
+        RunEnd::ReadFailed => failed_text(alloc, call, tool.in_side()),
+        RunEnd::WriteFailed => failed_text(alloc, call, tool.out_side()),
     }
 }

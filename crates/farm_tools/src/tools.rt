@@ -1,17 +1,15 @@
 // The tools.
 ghost use Rattle.std.specs.Prelude.{◌≡◌, ◌≤◌};
-ghost use Rattle.trau_io.specs.declared.line.Side.TheVariants.{Up};
 ghost use Rattle.farm_tools.specs.declared.end.Tool.TheVariants as tool;
 ghost use Rattle.farm_tools.specs.Causes.{Causes};
 ghost use Rattle.farm_tools.specs.Clean.{CleanRun};
-ghost use Rattle.farm_tools.specs.Made.{out_side};
 ghost use Rattle.farm_tools.specs.Tools.{IsEndOf, ToolRuns, status_of};
 
 use crate::end::{RunEnd, Tool, ToolEnd};
 use crate::run::run_tool;
 use crate::text::end_text;
 use std::alloc::Global;
-use trau_io::{Desk, Line, Side, Trunk, tell};
+use trau_io::{Desk, Line, Trunk, tell};
 
 // The end of a tool whose run ended so and whose text went out.
 fn end_of(tool: Tool, call: u32, end: RunEnd) -> ToolEnd
@@ -20,15 +18,15 @@ fn end_of(tool: Tool, call: u32, end: RunEnd) -> ToolEnd
     ensures { IsEndOf tool call end result }
 {
     match end {
-        RunEnd::Done(_) => ToolEnd::Done,
+        RunEnd::Done(..) => ToolEnd::Done,
         RunEnd::Refused(blocks) => ToolEnd::Refused(blocks),
         RunEnd::ReadFailed => ToolEnd::LineFault(Line {
             call,
-            side: Side::Up,
+            side: tool.in_side(),
         }),
         RunEnd::WriteFailed => ToolEnd::LineFault(Line {
             call,
-            side: tool.side(),
+            side: tool.out_side(),
         }),
     }
 }
@@ -62,8 +60,8 @@ pub fn relay<T: Trunk, D: Desk>(alloc: Global, call: u32, trunk: &mut T, desk: &
     requires low { 1 ≤ call }
     requires high { call ≤ 4096 }
     ensures runs { ToolRuns tool.Relay (T.lines trunk.old) (T.lines trunk.new) (D.desk desk.old) (D.desk desk.new) call result }
-    ensures causes { Causes (T.lines trunk.old call Up) (T.lines trunk.new call Up) (T.lines trunk.old call (out_side tool.Relay)) (T.lines trunk.new call (out_side tool.Relay)) (D.desk desk.old) (D.desk desk.new) (status_of result) }
-    ensures clean { CleanRun tool.Relay call (T.lines trunk.old call Up) (T.lines trunk.new call Up) (T.lines trunk.old call (out_side tool.Relay)) (T.lines trunk.new call (out_side tool.Relay)) (D.desk desk.old) (D.desk desk.new) (status_of result) }
+    ensures causes { Causes tool.Relay call (T.lines trunk.old) (T.lines trunk.new) (D.desk desk.old) (D.desk desk.new) (status_of result) }
+    ensures clean { CleanRun tool.Relay call (T.lines trunk.old) (T.lines trunk.new) (D.desk desk.old) (D.desk desk.new) (status_of result) }
 {
     work(alloc, Tool::Relay, call, trunk, desk)
 }
@@ -75,8 +73,21 @@ pub fn decode<T: Trunk, D: Desk>(alloc: Global, call: u32, trunk: &mut T, desk: 
     requires low { 1 ≤ call }
     requires high { call ≤ 4096 }
     ensures runs { ToolRuns tool.Decode (T.lines trunk.old) (T.lines trunk.new) (D.desk desk.old) (D.desk desk.new) call result }
-    ensures causes { Causes (T.lines trunk.old call Up) (T.lines trunk.new call Up) (T.lines trunk.old call (out_side tool.Decode)) (T.lines trunk.new call (out_side tool.Decode)) (D.desk desk.old) (D.desk desk.new) (status_of result) }
-    ensures clean { CleanRun tool.Decode call (T.lines trunk.old call Up) (T.lines trunk.new call Up) (T.lines trunk.old call (out_side tool.Decode)) (T.lines trunk.new call (out_side tool.Decode)) (D.desk desk.old) (D.desk desk.new) (status_of result) }
+    ensures causes { Causes tool.Decode call (T.lines trunk.old) (T.lines trunk.new) (D.desk desk.old) (D.desk desk.new) (status_of result) }
+    ensures clean { CleanRun tool.Decode call (T.lines trunk.old) (T.lines trunk.new) (D.desk desk.old) (D.desk desk.new) (status_of result) }
 {
     work(alloc, Tool::Decode, call, trunk, desk)
+}
+
+/// Encodes a call's Pcm line to its downlink: for each block of 160 A-law octets (G.711) the downlink speech frame
+/// of their samples, encoded from home over all blocks so far (GSM 06.10), with SP 1. A rest of less than a block
+/// is left; no block is refused. It tells `encode frames N left R` or `line C SIDE failed`.
+pub fn encode<T: Trunk, D: Desk>(alloc: Global, call: u32, trunk: &mut T, desk: &mut D) -> ToolEnd
+    requires low { 1 ≤ call }
+    requires high { call ≤ 4096 }
+    ensures runs { ToolRuns tool.Encode (T.lines trunk.old) (T.lines trunk.new) (D.desk desk.old) (D.desk desk.new) call result }
+    ensures causes { Causes tool.Encode call (T.lines trunk.old) (T.lines trunk.new) (D.desk desk.old) (D.desk desk.new) (status_of result) }
+    ensures clean { CleanRun tool.Encode call (T.lines trunk.old) (T.lines trunk.new) (D.desk desk.old) (D.desk desk.new) (status_of result) }
+{
+    work(alloc, Tool::Encode, call, trunk, desk)
 }

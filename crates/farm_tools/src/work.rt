@@ -1,17 +1,23 @@
-// What a tool makes of one good block after another.
-ghost use Rattle.std.specs.Prelude.{◌≡◌, ◌∷◌, ◌++◌, ◌≤◌, ◌<◌, ℕ, List, [], map, take};
-ghost use Rattle.trau_bits.specs.Bits.{AreBits};
+// What a tool makes of one block after another.
+ghost use Rattle.std.specs.Prelude.{◌≡◌, ◌∷◌, ◌≤◌, ◌<◌, ℕ, ℤ, List, [], true, map, take, length, IfSome, IsNone};
+ghost use Rattle.trau_bits.specs.Bits.{AreBits, octets_of};
+ghost use Rattle.trau_frame.specs.declared.frames.DownFrame.TheVariants.{Speech};
+ghost use Rattle.trau_frame.specs.DownFrame.{down_bits};
 ghost use Rattle.trau_alaw.specs.Alaw.{alaw};
 ghost use Rattle.trau_alaw.specs.Companding.{octet_of};
 ghost use Rattle.trau_params.specs.Fields.{Fields, fields_in};
 ghost use Rattle.fr_decoder.specs.Decoded.{samples_of};
 ghost use Rattle.fr_decoder.specs.Step.{Stands as DecoderStands};
-ghost use Rattle.farm_tools.specs.Made.{made, frame_of, out_side};
-ghost use Rattle.farm_tools.specs.Taken.{IsGoodData};
+ghost use Rattle.fr_encoder.specs.Encoded.{encoding_of};
+ghost use Rattle.fr_encoder.specs.Step.{Stands as EncoderStands};
+ghost use Rattle.farm_tools.specs.Blocks.{block_length, IsRefused};
+ghost use Rattle.farm_tools.specs.Made.{block_samples, coded_frame, in_side, out_side};
 
 use crate::end::Tool;
+use crate::uplink::good_data;
 use fr_decoder::Decoder;
-use trau_alaw::compress;
+use fr_encoder::Encoder;
+use trau_alaw::{compress, expand};
 use trau_bits::pack;
 use trau_frame::{DownFrame, write_down};
 use trau_io::Side;
@@ -22,10 +28,11 @@ use trau_params::Params;
 pub enum Work {
     Relay,
     Decode(Decoder),
+    Encode(Encoder),
 }
 
 impl Work {
-    ghost use Rattle.farm_tools.specs.Work.{tool_of, Stands};
+    ghost use Rattle.farm_tools.specs.Work.{tool_of, Stands, Makes};
 
     /// The work before the first block.
     pub fn new(tool: Tool) -> Work
@@ -35,32 +42,33 @@ impl Work {
         match tool {
             Tool::Relay => Work::Relay,
             Tool::Decode => Work::Decode(Decoder::home()),
+            Tool::Encode => Work::Encode(Encoder::home()),
         }
     }
 
-    /// The line that the work is written to.
-    pub fn side(&self) -> Side
-        ensures { result ≡ out_side (tool_of self.now) }
+    /// The tool whose work it is.
+    pub fn tool(&self) -> Tool
+        ensures { result ≡ tool_of self.now }
     {
         match self {
-            Work::Relay => Side::Down,
-            Work::Decode(_) => Side::Out,
+            Work::Relay => Tool::Relay,
+            Work::Decode(_) => Tool::Decode,
+            Work::Encode(_) => Tool::Encode,
         }
     }
 
-    /// Makes the octets of one more good block into the front of `octets`, and answers how many.
-    pub fn make(&mut self, d: &[u8; 260], octets: &mut [u8; 160]) -> usize
-        requires { AreBits d.now }
+    /// Makes the octets of one more block into the front of `octets`, and answers how many; None where the block
+    /// is refused.
+    pub fn make(&mut self, block: &[u8], octets: &mut [u8; 160]) -> Option<usize>
+        requires { length block.now ≡ block_length (tool_of self.old) }
         ensures same { tool_of self.new ≡ tool_of self.old }
-        ensures bound { result ≤ 160 }
-        ensures some { 0 < result }
-        ensures one_more { (blocks : List (List ℕ)) (block : List ℕ) → Stands self.old blocks → IsGoodData block d.now → Stands self.new (blocks ++ block ∷ []) }
-        ensures made { (blocks : List (List ℕ)) (block : List ℕ) → Stands self.old blocks → IsGoodData block d.now →
-            made (tool_of self.old) (blocks ++ block ∷ []) ≡ made (tool_of self.old) blocks ++ take result octets.new }
+        ensures makes { IfSome result (λ n. Makes self.old self.new block.now octets.new n) }
+        ensures refuses { IsNone result → IsRefused (tool_of self.old) block.now ⊥ }
     {
         match self {
-            Work::Relay => downlink_frame(d, octets),
-            Work::Decode(decoder) => decoded_octets(decoder, d, octets),
+            Work::Relay => Some(downlink_frame(&good_data(block)?, octets)),
+            Work::Decode(decoder) => Some(decoded_octets(decoder, &good_data(block)?, octets)),
+            Work::Encode(encoder) => Some(encoded_octets(encoder, block, octets)),
         }
     }
 }
@@ -69,7 +77,7 @@ impl Work {
 fn downlink_frame(d: &[u8; 260], octets: &mut [u8; 160]) -> usize
     requires { AreBits d.now }
     ensures length { result ≡ 40 }
-    ensures frame { (block : List ℕ) → IsGoodData block d.now → take 40 octets.new ≡ frame_of block }
+    ensures frame { take 40 octets.new ≡ octets_of (down_bits (Speech d.now true)) }
 {
     let mut bits = [0; 320];
     write_down(&DownFrame::Speech { d: *d, sp: true }, &mut bits);
@@ -97,4 +105,29 @@ fn decoded_octets(decoder: &mut Decoder, d: &[u8; 260], octets: &mut [u8; 160]) 
     decoder.decode(&Params::from_bits(d), &mut x);
     compress_all(&x, octets);
     160
+}
+
+// The samples that A-law octets stand for.
+fn expand_all(block: &[u8], x: &mut [i16; 160])
+    requires { length block.now ≡ 160 }
+    ensures { x.new ≡ block_samples block.now }
+{
+    for k in 0..160 {
+        x[k] = expand(block[k]);
+    }
+}
+
+// The downlink frame of the next 160 A-law octets.
+fn encoded_octets(encoder: &mut Encoder, block: &[u8], octets: &mut [u8; 160]) -> usize
+    requires { length block.now ≡ 160 }
+    ensures length { result ≡ 40 }
+    ensures history { (past : List (List ℤ)) → EncoderStands past encoder.old →
+        EncoderStands (block_samples block.now ∷ past) encoder.new × (take 40 octets.new ≡ coded_frame (encoding_of (block_samples block.now) past)) }
+{
+    let mut x = [0; 160];
+    expand_all(block, &mut x);
+    let (params, _, _) = encoder.encode(&x);
+    let mut d = [0; 260];
+    params.to_bits(&mut d);
+    downlink_frame(&d, octets)
 }

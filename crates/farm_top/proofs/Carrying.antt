@@ -1,7 +1,6 @@
 -- A command is its tool: why each status comes, and what a run without faults leaves.
 use Rattle.std.proofs.Common.{◌≡◌, ◌≢◌, inl, inr, ℕ, sym, ◌∙◌, ap, subst, arith}
 use Rattle.trau_io.specs.declared.line.Side.{Side}
-use Rattle.trau_io.specs.declared.line.Side.TheVariants.{Up}
 use Rattle.trau_io.specs.Lines.{LineState}
 use Rattle.trau_io.specs.Desks.{DeskState}
 use Rattle.farm_tools.specs.declared.end.Tool.{Tool}
@@ -9,7 +8,6 @@ use Rattle.farm_tools.specs.declared.end.ToolEnd.{ToolEnd}
 use Rattle.farm_tools.specs.declared.end.ToolEnd.TheVariants.{Done, LineFault, DeskFault, Refused, Memory}
 use Rattle.farm_tools.specs.Causes.{Causes}
 use Rattle.farm_tools.specs.Clean.{CleanRun}
-use Rattle.farm_tools.specs.Made.{out_side}
 use Rattle.farm_tools.specs.Tools.{ToolRuns, status_of}
 use Rattle.farm_tools.proofs.Causing.{causes_of}
 use Rattle.farm_tools.proofs.Cleaning.{clean_of}
@@ -17,14 +15,14 @@ use Rattle.farm_top.specs.Top.{Carries}
 
 module _ (tool : Tool) (before now : ℕ → Side → LineState) (desk left desk' : DeskState) (call status : ℕ) where
   abbrev Why : DeskState → ℕ → Type 0
-  Why d n = Causes (before call Up) (now call Up) (before call (out_side tool)) (now call (out_side tool)) desk d n
+  Why d n = Causes tool call before now desk d n
 
   moved : (end : ToolEnd) → ToolRuns tool before now desk left call end → status ≡ status_of end → desk' ≡ left → Why desk' status
   moved end ran is same = subst (λ d. Why d status) (sym same) (subst (λ n. Why left n) (sym is) (causes_of tool before now desk left call end ran))
 
   -- the causes of a tool are those of a command that tells no more
   causes_by : (end : ToolEnd) → ToolRuns tool before now desk left call end → status ≡ status_of end → (end ≢ Memory → desk' ≡ left) →
-      Causes (before call Up) (now call Up) (before call (out_side tool)) (now call (out_side tool)) desk desk' status
+      Causes tool call before now desk desk' status
   causes_by Memory ran is no_more = record {
     known = inr (inr (inl is));
     desk_failed = λ e. absurd (omega (arith, e, is));
@@ -43,17 +41,17 @@ module _ (tool : Tool) (before now : ℕ → Side → LineState) (desk left desk
   not_memory end is not same = not (is ∙ ap status_of same)
 
   clean_by : (end : ToolEnd) → ToolRuns tool before now desk left call end → status ≡ status_of end → (end ≢ Memory → desk' ≡ left) →
-      CleanRun tool call (before call Up) (now call Up) (before call (out_side tool)) (now call (out_side tool)) desk desk' status
+      CleanRun tool call before now desk desk' status
   clean_by end ran is no_more = λ calm not.
       let same : desk' ≡ left = no_more (not_memory end is not) in
-      subst (λ d. CleanRun tool call (before call Up) (now call Up) (before call (out_side tool)) (now call (out_side tool)) desk d status) (sym same)
-      (subst (λ n. CleanRun tool call (before call Up) (now call Up) (before call (out_side tool)) (now call (out_side tool)) desk left n) (sym is) (clean_of tool before now desk left call end ran))
+      subst (λ d. CleanRun tool call before now desk d status) (sym same)
+      (subst (λ n. CleanRun tool call before now desk left n) (sym is) (clean_of tool before now desk left call end ran))
       calm not
 
 pub causes : (tool : Tool) (before now : ℕ → Side → LineState) (desk desk' : DeskState) (call status : ℕ) → Carries tool before now desk desk' call status →
-    Causes (before call Up) (now call Up) (before call (out_side tool)) (now call (out_side tool)) desk desk' status
+    Causes tool call before now desk desk' status
 causes tool before now desk desk' call status done = causes_by tool before now desk done.left desk' call status done.end done.runs done.status_is done.no_more
 
 pub clean : (tool : Tool) (before now : ℕ → Side → LineState) (desk desk' : DeskState) (call status : ℕ) → Carries tool before now desk desk' call status →
-    CleanRun tool call (before call Up) (now call Up) (before call (out_side tool)) (now call (out_side tool)) desk desk' status
+    CleanRun tool call before now desk desk' status
 clean tool before now desk desk' call status done = clean_by tool before now desk done.left desk' call status done.end done.runs done.status_is done.no_more

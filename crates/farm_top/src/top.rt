@@ -1,17 +1,15 @@
 // The top call: the words in, the octets and the text out, and the status.
 ghost use Rattle.std.specs.Prelude.{◌≡◌, ◌≢◌, ◌≤◌, ℕ, map, string_bytes, codes};
 ghost use Rattle.trau_io.specs.declared.line.Side.{Side};
-ghost use Rattle.trau_io.specs.declared.line.Side.TheVariants.{Up};
 ghost use Rattle.farm_tools.specs.declared.end.Tool.{Tool};
 ghost use Rattle.farm_tools.specs.Causes.{Causes};
 ghost use Rattle.farm_tools.specs.Clean.{CleanRun};
-ghost use Rattle.farm_tools.specs.Made.{out_side};
 ghost use Rattle.farm_tools.specs.Tools.{ToolRuns, status_of};
 ghost use Rattle.farm_top.specs.Top.{Carries, TextOut};
 ghost use Rattle.farm_top.specs.Words.{AsksFor};
 
 use crate::words::{Asked, read_words};
-use farm_tools::{Tool, ToolEnd, decode, relay};
+use farm_tools::{Tool, ToolEnd, decode, encode, relay};
 use std::alloc::Global;
 use trau_io::{Desk, Trunk, tell};
 
@@ -49,6 +47,7 @@ fn work<T: Trunk, D: Desk>(alloc: Global, asked: Asked, trunk: &mut T, desk: &mu
     match asked.tool {
         Tool::Relay => relay(alloc, asked.call, trunk, desk),
         Tool::Decode => decode(alloc, asked.call, trunk, desk),
+        Tool::Encode => encode(alloc, asked.call, trunk, desk),
     }
 }
 
@@ -69,18 +68,19 @@ fn command<T: Trunk, D: Desk>(alloc: Global, asked: Asked, trunk: &mut T, desk: 
 /// answers the status.
 ///
 /// The commands are `relay C`, which copies the good speech frames of a call's uplink, bits unchanged, to its
-/// downlink, and `decode C`, which decodes them to its Out line; C is the call's number, 1 to 1,024, in decimal
-/// digits without leading zeros. The uplink is cut into blocks of 40 octets, and the first block that isn't a good
-/// speech frame ends the command.
+/// downlink, `decode C`, which decodes them to its Out line, and `encode C`, which encodes its Pcm line to downlink
+/// frames; C is the call's number, 1 to 1,024, in decimal digits without leading zeros. An uplink is cut into blocks
+/// of 40 octets, and the first block that isn't a good speech frame ends the command. A Pcm line is cut into blocks
+/// of 160 octets, and what is left of it behind the last of them is told and not used.
 ///
 /// | Status | Comes | Text on the desk |
 /// |---|---|---|
-/// | 0 | the uplink was worked to its end, or to 4,294,967,295 blocks | `relay frames N`, `decode frames N` |
+/// | 0 | the incoming line was worked to its end, or to 4,294,967,295 blocks | `relay frames N`, `decode frames N`, `encode frames N left R` |
 /// | 1 | exactly where the words aren't those of a command | `usage` |
 /// | 4 | the desk failed while the command's text went out | a proper front of the command's text |
 /// | 5 | want of memory | `no memory` |
 /// | 6 | a line of the command failed | `line C up failed`, with the line's side |
-/// | 8 | a block isn't a good speech frame, or the line ended inside it | `relay refused N`, `decode refused N`, N being the number of blocks before it |
+/// | 8 | a block of an uplink isn't a good speech frame, or the line ended inside it | `relay refused N`, `decode refused N`, N being the number of blocks before it |
 pub fn farm_top<T: Trunk, D: Desk>(
     alloc: Global,
     words: &[String],
@@ -99,12 +99,12 @@ pub fn farm_top<T: Trunk, D: Desk>(
 
     // Why each of its statuses comes.
     ensures causes { (t : Tool) (c : ℕ) → AsksFor (map (λ w. string_bytes w) words.now) t c →
-        Causes (T.lines trunk.old c Up) (T.lines trunk.new c Up) (T.lines trunk.old c (out_side t)) (T.lines trunk.new c (out_side t)) (D.desk desk.old) (D.desk desk.new) result }
+        Causes t c (T.lines trunk.old) (T.lines trunk.new) (D.desk desk.old) (D.desk desk.new) result }
 
     // Where nothing fails and the outside tells what it holds, the outgoing line has gained exactly what is made of
-    // the uplink's blocks up to the first refused one, and the desk exactly the text.
+    // the incoming line's blocks up to the first refused one, and the desk exactly the text.
     ensures clean { (t : Tool) (c : ℕ) → AsksFor (map (λ w. string_bytes w) words.now) t c →
-        CleanRun t c (T.lines trunk.old c Up) (T.lines trunk.new c Up) (T.lines trunk.old c (out_side t)) (T.lines trunk.new c (out_side t)) (D.desk desk.old) (D.desk desk.new) result }
+        CleanRun t c (T.lines trunk.old) (T.lines trunk.new) (D.desk desk.old) (D.desk desk.new) result }
 {
     match read_words(words) {
         Some(asked) => command(alloc, asked, trunk, desk),

@@ -24,6 +24,7 @@ fn tool_named(name: &str) -> Option<Tool>
     match name {
         "relay" => Some(Tool::Relay),
         "decode" => Some(Tool::Decode),
+        "encode" => Some(Tool::Encode),
         _ => None,
     }
 }

@@ -22,7 +22,7 @@ loop-blocks-preserved g c = record {
 
 pub returns-in-LineEnded-clause-runs : goal.returns-in-LineEnded-clause-runs
 returns-in-LineEnded-clause-runs g c =
-    line_ended c.loop-blocks.work c.args.tool _ _ _ _ _ _ c.loop-blocks.blocks c.loop-blocks.invariant.tool c.loop-blocks.invariant.so_far c.run_block.new.work
+    line_ended c.loop-blocks.work c.args.tool _ _ _ _ _ _ c.loop-blocks.blocks c.loop-blocks.invariant.tool c.loop-blocks.invariant.so_far c.run_block.new.work c.in-LineEnded.left
     (block_of_tool c.loop-blocks.work c.run_block.new.work c.args.tool (g.T.Trunk.lines c.loop-blocks.trunk) (g.T.Trunk.lines c.run_block.new.trunk) c.args.call _ c.loop-blocks.invariant.tool c.in-LineEnded.ensures.block)
 
 pub returns-in-LineEnded-clause-others : goal.returns-in-LineEnded-clause-others

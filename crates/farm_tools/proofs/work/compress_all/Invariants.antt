@@ -1,6 +1,6 @@
 use Rattle.trau_alaw.specs.Alaw.{alaw}
 use Rattle.trau_alaw.specs.Companding.{octet_of}
-use Rattle.farm_tools.proofs.Compressing.{Run}
+use Rattle.farm_tools.proofs.Mapping.{Run}
 use Rattle.farm_tools.proofs.work.compress_all.Given as goal
 
 abbrev pub invariant-loop-k : goal.invariant-loop-k
