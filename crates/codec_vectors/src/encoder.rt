@@ -1,9 +1,11 @@
-//! The encoder: the 76 parameters of each frame.
+//! The encoder: the 76 parameters of each frame, and the downlink frame of silence.
 
 use crate::comparison::Comparison;
 use fr_encoder::Encoder;
 use std::{fs, io};
 use trau_alaw::expand;
+use trau_bits::pack;
+use trau_frame::{DownFrame, write_down};
 use trau_params::Params;
 
 /// The 160 samples of a frame of A-law octets; a frame that ends early goes on with samples of 0.
@@ -46,4 +48,29 @@ pub(crate) fn parameters(rt: &HostRuntime, pcm: &str, text: &str) -> io::Result<
         }
     }
     Ok(comparison)
+}
+
+/// The downlink frame with SP 1 of 160 samples 0, encoded from home, worked by hand from the tables of GSM 06.10 and
+/// GSM 08.60.
+const SILENCE: [u8; 40] = [
+    0x00, 0x00, 0xF0, 0x0F, 0x82, 0x09, 0xBA, 0x1A, 0xE4, 0x28, 0x80, 0x12, 0xA4, 0x92, 0xA4, 0x92,
+    0xA2, 0x80, 0x81, 0x24, 0xC9, 0x24, 0xC9, 0x24, 0xA8, 0x00, 0x92, 0x49, 0x92, 0x49, 0x92, 0x45,
+    0x80, 0x02, 0xA4, 0x92, 0xA4, 0x92, 0xA7, 0xFF,
+];
+
+/// The octets of that frame, and the peak, which is 0.
+pub(crate) fn silence() -> Comparison {
+    let (params, _trace, peak) = Encoder::home().encode(&[0; 160]);
+    let mut d = [0; 260];
+    params.to_bits(&mut d);
+    let mut bits = [0; 320];
+    write_down(&DownFrame::Speech { d, sp: true }, &mut bits);
+    let mut octets = [0; 40];
+    pack(&bits, &mut octets);
+    let mut comparison = Comparison::new();
+    for (wanted, got) in SILENCE.iter().zip(&octets) {
+        comparison.compare(i32::from(*wanted), i32::from(*got));
+    }
+    comparison.compare(0, i32::from(peak));
+    comparison
 }

@@ -30,5 +30,6 @@ fn main(rt: HostRuntime) -> io::Result<()> {
         "encode harsh.pcm {}",
         encoder::parameters(&rt, "harsh.pcm", "harsh.parameters.txt")?
     )?;
+    println!(rt; "encode silence {}", encoder::silence())?;
     Ok(())
 }

@@ -1,5 +1,6 @@
 use crate::farm_top;
 use std::alloc::{AllocError, Global};
+use std::process::Abort;
 use std::test::Fail;
 use trau_io::{Line, MemDesk, MemTrunk, Side};
 
@@ -22,6 +23,11 @@ const UP: Line = Line {
     side: Side::Up,
 };
 
+const PCM: Line = Line {
+    call: 7,
+    side: Side::Pcm,
+};
+
 const DOWN: Line = Line {
     call: 7,
     side: Side::Down,
@@ -38,12 +44,18 @@ const DECODED: [u8; 7] = [0xD5, 0xD5, 0xD5, 0xD5, 0xD5, 0xD5, 0xD4];
 // Pieces in which a line moves: octets one by one, just below and above a frame, and all at once.
 const CUTS: [u32; 4] = [1, 39, 41, 1000];
 
-fn words(alloc: Global, texts: &[&str]) -> Result<Vec<String>, AllocError> {
+// Carries out the command of these words.
+fn carry(
+    alloc: Global,
+    texts: &[&str],
+    trunk: &mut MemTrunk,
+    desk: &mut MemDesk,
+) -> Result<u8, AllocError> {
     let mut words = Vec::new(alloc);
     for text in texts {
         words.push(String::from_str(alloc, text)?)?;
     }
-    Ok(words)
+    Ok(farm_top(alloc, &words, trunk, desk))
 }
 
 // An uplink of `frames` good frames and `octets` octets of one more.
@@ -58,22 +70,39 @@ fn uplink(alloc: Global, frames: usize, octets: usize) -> Result<Vec<u8>, AllocE
     Ok(up)
 }
 
-// The lines of call 7, cut in pieces, of which calls fail.
+// One of call 7's lines, cut in pieces, of which calls fail.
+fn line(
+    alloc: Global,
+    trunk: &mut MemTrunk,
+    line: Line,
+    contents: Vec<u8>,
+    cut: u32,
+    fails: &[u32],
+) -> Result<(), AllocError> {
+    let cuts = vec![in alloc; cut; 500]?;
+    trunk.set(alloc, line, contents, cuts, fails.to_vec(alloc)?, 1000)
+}
+
+// The lines of call 7, cut in pieces: two good frames on the uplink, and on the Pcm line two periods and ten octets of
+// idle. Calls of the incoming lines fail, or of the outgoing ones.
 fn lines(
     alloc: Global,
-    up: Vec<u8>,
     cut: u32,
-    up_fails: &[u32],
+    in_fails: &[u32],
     out_fails: &[u32],
 ) -> Result<MemTrunk, AllocError> {
     let mut trunk = MemTrunk::new(alloc)?;
-    let cuts = vec![in alloc; cut; 500]?;
-    trunk.set(alloc, UP, up, cuts, up_fails.to_vec(alloc)?, 0)?;
-    for line in [DOWN, OUT] {
-        let cuts = vec![in alloc; cut; 500]?;
-        let fails = out_fails.to_vec(alloc)?;
-        trunk.set(alloc, line, Vec::new(alloc), cuts, fails, 1000)?;
-    }
+    line(alloc, &mut trunk, UP, uplink(alloc, 2, 0)?, cut, in_fails)?;
+    line(
+        alloc,
+        &mut trunk,
+        PCM,
+        vec![in alloc; 0xD5; 330]?,
+        cut,
+        in_fails,
+    )?;
+    line(alloc, &mut trunk, DOWN, Vec::new(alloc), cut, out_fails)?;
+    line(alloc, &mut trunk, OUT, Vec::new(alloc), cut, out_fails)?;
     Ok(trunk)
 }
 
@@ -83,137 +112,180 @@ fn desk(alloc: Global, fails: &[u32], room: u32) -> Result<MemDesk, AllocError> 
     MemDesk::new(alloc, Vec::new(alloc), Vec::new(alloc), fails, room)
 }
 
-#[test]
-fn an_uplink_ends_or_is_refused_in_any_cuts(rt: HostRuntime) -> Result<(), Fail> {
-    let alloc = rt.alloc();
-    for (tool, out, size) in [("relay", DOWN, 40), ("decode", OUT, 160)] {
-        let asked = words(alloc, &[tool, "7"])?;
-        for cut in CUTS {
-            for (frames, octets, status, end) in [
-                (2, 0, 0, "frames 2"),
-                (1, 39, 8, "refused 1"),
-                (1, 1, 8, "refused 1"),
-                (0, 0, 0, "frames 0"),
-            ] {
-                let mut trunk = lines(alloc, uplink(alloc, frames, octets)?, cut, &[], &[])?;
-                let mut desk = desk(alloc, &[], 100)?;
-                let answer = farm_top(alloc, &asked, &mut trunk, &mut desk);
-                assert_eq!(rt; answer, status, "{tool} of {frames} frames, cut {cut}");
-                let text = format!(in alloc; "{tool} {end}\n")?;
-                assert_eq!(rt; desk.text(), text.as_bytes());
-                assert_eq!(rt; trunk.written(out).len(), frames.wrapping_mul(size));
-                if tool == "relay" {
-                    for frame in trunk.written(out).chunks(40) {
-                        assert_eq!(rt; frame, DOWNLINK_FRAME.as_slice());
-                    }
-                } else if frames > 0 {
-                    assert!(rt; trunk.written(out).starts_with(&DECODED));
-                }
-            }
-        }
-    }
-    Ok(())
+// A tool with its lines on those of `lines`, and what it leaves where nothing fails.
+struct Row {
+    tool: &'static str,
+    incoming: Line,
+    outgoing: Line,
+    // The octets that a block makes.
+    size: usize,
+    text: &'static str,
+    in_failed: &'static str,
+    out_failed: &'static str,
 }
+
+const ROWS: [Row; 3] = [
+    Row {
+        tool: "relay",
+        incoming: UP,
+        outgoing: DOWN,
+        size: 40,
+        text: "relay frames 2\n",
+        in_failed: "line 7 up failed\n",
+        out_failed: "line 7 down failed\n",
+    },
+    Row {
+        tool: "decode",
+        incoming: UP,
+        outgoing: OUT,
+        size: 160,
+        text: "decode frames 2\n",
+        in_failed: "line 7 up failed\n",
+        out_failed: "line 7 out failed\n",
+    },
+    Row {
+        tool: "encode",
+        incoming: PCM,
+        outgoing: DOWN,
+        size: 40,
+        text: "encode frames 2 left 10\n",
+        in_failed: "line 7 pcm failed\n",
+        out_failed: "line 7 down failed\n",
+    },
+];
 
 // Which of the outside fails at one call.
 #[derive(Clone, Copy, Debug, PartialEq, Eq)]
 enum Failing {
-    Up,
-    Out,
+    Incoming,
+    Outgoing,
     Desk,
+}
+
+// The status and the text that are due, by the counts of faults.
+fn due(row: &Row, trunk: &MemTrunk, desk: &MemDesk) -> (u8, &'static str) {
+    if trunk.faults(row.incoming) > 0 {
+        (6, row.in_failed)
+    } else if trunk.faults(row.outgoing) > 0 {
+        (6, row.out_failed)
+    } else if desk.write_faults() > 0 {
+        (4, "")
+    } else {
+        (0, row.text)
+    }
+}
+
+// Carries out a command in which one call fails, and compares what it leaves with what is due.
+fn fails_at(
+    rt: &impl Abort,
+    alloc: Global,
+    row: &Row,
+    cut: u32,
+    number: u32,
+    failing: Failing,
+) -> Result<(), Fail> {
+    let fails = [number];
+    let none: &[u32] = &[];
+    let (in_fails, out_fails, desk_fails) = match failing {
+        Failing::Incoming => (fails.as_slice(), none, none),
+        Failing::Outgoing => (none, fails.as_slice(), none),
+        Failing::Desk => (none, none, fails.as_slice()),
+    };
+    let mut trunk = lines(alloc, cut, in_fails, out_fails)?;
+    let mut desk = desk(alloc, desk_fails, 100)?;
+    let status = carry(alloc, &[row.tool, "7"], &mut trunk, &mut desk)?;
+    let (expected, text) = due(row, &trunk, &desk);
+    assert_eq!(rt;
+        status,
+        expected,
+        "{}, cut {cut}, call {number}, {failing:?}",
+        row.tool
+    );
+    assert_eq!(rt; desk.text(), text.as_bytes());
+    // All that earlier blocks make is written; where no line failed, all of both.
+    let sent = trunk.written(row.outgoing).len();
+    if status != 6 {
+        assert_eq!(rt; sent.checked_div(row.size), Some(2));
+    } else if trunk.faults(row.incoming) > 0 {
+        assert_eq!(rt; sent.checked_rem(row.size), Some(0));
+    }
+    Ok(())
 }
 
 #[test]
 fn each_call_of_the_outside_fails_in_turn(rt: HostRuntime) -> Result<(), Fail> {
     let alloc = rt.alloc();
-    for (tool, out, size, name) in [("relay", DOWN, 40, "down"), ("decode", OUT, 160, "out")] {
-        let asked = words(alloc, &[tool, "7"])?;
-        for cut in CUTS {
-            for number in 0..10 {
-                for failing in [Failing::Up, Failing::Out, Failing::Desk] {
-                    let fails = [number];
-                    let at = |side: Failing| if side == failing {
-                        fails.as_slice()
-                    } else {
-                        &[]
-                    };
-                    let up = uplink(alloc, 2, 0)?;
-                    let mut trunk = lines(alloc, up, cut, at(Failing::Up), at(Failing::Out))?;
-                    let mut desk = desk(alloc, at(Failing::Desk), 100)?;
-                    let answer = farm_top(alloc, &asked, &mut trunk, &mut desk);
-                    let sent = trunk.written(out).len();
-                    let (status, text) = if trunk.faults(UP) > 0 {
-                        assert_eq!(rt; sent.checked_rem(size), Some(0), "all of each whole block");
-                        (6, "line 7 up failed\n")
-                    } else if trunk.faults(out) > 0 {
-                        (
-                            6,
-                            if name == "out" {
-                                "line 7 out failed\n"
-                            } else {
-                                "line 7 down failed\n"
-                            },
-                        )
-                    } else if desk.write_faults() > 0 {
-                        assert_eq!(rt; sent.checked_div(size), Some(2));
-                        (4, "")
-                    } else {
-                        assert_eq!(rt; sent.checked_div(size), Some(2));
-                        (
-                            0,
-                            if name == "out" {
-                                "decode frames 2\n"
-                            } else {
-                                "relay frames 2\n"
-                            },
-                        )
-                    };
-                    assert_eq!(rt;
-                        answer,
-                        status,
-                        "{tool}, cut {cut}, call {number}, {failing:?}"
-                    );
-                    assert_eq!(rt; desk.text(), text.as_bytes());
-                }
+    for row in &ROWS {
+        for (cut, calls) in [(39, 12), (1000, 3)] {
+            for number in 0..calls {
+                fails_at(&rt, alloc, row, cut, number, Failing::Incoming)?;
+                fails_at(&rt, alloc, row, cut, number, Failing::Outgoing)?;
+                fails_at(&rt, alloc, row, cut, number, Failing::Desk)?;
             }
         }
     }
     Ok(())
 }
 
-#[test]
-fn a_refused_block_ends_it(rt: HostRuntime) -> Result<(), Fail> {
-    let alloc = rt.alloc();
-    let relay = words(alloc, &["relay", "7"])?;
-    // No sync, a bad frame, an idle frame.
-    for (place, octet) in [(2, 0x08), (3, 0x08), (2, 0xC0)] {
-        let mut up = uplink(alloc, 2, 0)?;
-        if let Some(changed) = up.get_mut(40 + place) {
-            *changed = octet;
-        }
-        let mut trunk = lines(alloc, up, 1000, &[], &[])?;
-        let mut desk = desk(alloc, &[], 100)?;
-        assert_eq!(rt;
-            farm_top(alloc, &relay, &mut trunk, &mut desk),
-            8,
-            "octet {place}: {octet}"
-        );
-        assert_eq!(rt; desk.text(), b"relay refused 1\n".as_slice());
-        assert_eq!(rt; trunk.written(DOWN), DOWNLINK_FRAME.as_slice());
+// An uplink, and what a relay answers and tells of it.
+fn relays(
+    rt: &impl Abort,
+    alloc: Global,
+    up: Vec<u8>,
+    cut: u32,
+    status: u8,
+    text: &str,
+) -> Result<(), Fail> {
+    let mut trunk = MemTrunk::new(alloc)?;
+    line(alloc, &mut trunk, UP, up, cut, &[])?;
+    line(alloc, &mut trunk, DOWN, Vec::new(alloc), cut, &[])?;
+    let mut desk = desk(alloc, &[], 100)?;
+    assert_eq!(rt;
+        carry(alloc, &["relay", "7"], &mut trunk, &mut desk)?,
+        status
+    );
+    assert_eq!(rt; desk.text(), text.as_bytes());
+    for frame in trunk.written(DOWN).chunks(40) {
+        assert_eq!(rt; frame, DOWNLINK_FRAME.as_slice());
     }
     Ok(())
 }
 
 #[test]
-fn a_full_desk_takes_a_front_of_the_text(rt: HostRuntime) -> Result<(), Fail> {
+fn an_uplink_ends_or_is_refused(rt: HostRuntime) -> Result<(), Fail> {
     let alloc = rt.alloc();
-    for (texts, status, text) in [(["relay", "7"], 4, "relay"), (["relay", "07"], 1, "usage")] {
-        let mut trunk = MemTrunk::new(alloc)?;
-        let mut desk = desk(alloc, &[], 5)?;
-        let answer = farm_top(alloc, &words(alloc, &texts)?, &mut trunk, &mut desk);
-        assert_eq!(rt; answer, status);
-        assert_eq!(rt; desk.text(), text.as_bytes());
+    for cut in CUTS {
+        relays(&rt, alloc, uplink(alloc, 2, 0)?, cut, 0, "relay frames 2\n")?;
+        relays(
+            &rt,
+            alloc,
+            uplink(alloc, 1, 39)?,
+            cut,
+            8,
+            "relay refused 1\n",
+        )?;
+        relays(
+            &rt,
+            alloc,
+            uplink(alloc, 1, 1)?,
+            cut,
+            8,
+            "relay refused 1\n",
+        )?;
+        relays(&rt, alloc, Vec::new(alloc), cut, 0, "relay frames 0\n")?;
     }
+    // No sync, a bad frame, an idle frame.
+    for (place, octet) in [(42, 0x08), (43, 0x08), (42, 0xC0)] {
+        let mut up = uplink(alloc, 2, 0)?;
+        if let Some(changed) = up.get_mut(place) {
+            *changed = octet;
+        }
+        relays(&rt, alloc, up, 1000, 8, "relay refused 1\n")?;
+    }
+    let mut trunk = lines(alloc, 1000, &[], &[])?;
+    let mut desk = desk(alloc, &[], 100)?;
+    assert_eq!(rt; carry(alloc, &["decode", "7"], &mut trunk, &mut desk)?, 0);
+    assert!(rt; trunk.written(OUT).starts_with(&DECODED));
     Ok(())
 }
 
@@ -225,19 +297,20 @@ fn other_words_are_usage(rt: HostRuntime) -> Result<(), Fail> {
         &["relay"],
         &["relay", "07"],
         &["relay", "0"],
-        &["relay", "1025"],
+        &["encode", "1025"],
         &["relay", "7", "7"],
         &["Relay", "7"],
         &["decoder", "7"],
     ];
+    let mut trunk = MemTrunk::new(alloc)?;
     for texts in rows {
-        let mut trunk = MemTrunk::new(alloc)?;
         let mut desk = desk(alloc, &[], 100)?;
-        assert_eq!(rt;
-            farm_top(alloc, &words(alloc, texts)?, &mut trunk, &mut desk),
-            1
-        );
+        assert_eq!(rt; carry(alloc, texts, &mut trunk, &mut desk)?, 1);
         assert_eq!(rt; desk.text(), b"usage\n".as_slice());
     }
+    // A full desk takes a front of the text.
+    let mut desk = desk(alloc, &[], 3)?;
+    assert_eq!(rt; carry(alloc, &["relay", "07"], &mut trunk, &mut desk)?, 1);
+    assert_eq!(rt; desk.text(), b"usa".as_slice());
     Ok(())
 }
