@@ -193,13 +193,13 @@ fn fails_at(
     };
     let mut trunk = lines(alloc, cut, in_fails, out_fails)?;
     let mut desk = desk(alloc, desk_fails, 100)?;
-    let status = carry(alloc, &[row.tool, "7"], &mut trunk, &mut desk)?;
+    let tool = row.tool;
+    let status = carry(alloc, &[tool, "7"], &mut trunk, &mut desk)?;
     let (expected, text) = due(row, &trunk, &desk);
     assert_eq!(rt;
         status,
         expected,
-        "{}, cut {cut}, call {number}, {failing:?}",
-        row.tool
+        "{tool}, cut {cut}, call {number}, {failing:?}"
     );
     assert_eq!(rt; desk.text(), text.as_bytes());
     // All that earlier blocks make is written; where no line failed, all of both.
