@@ -180,7 +180,7 @@ not_match line p false e h = e
 pub searched-miss : (w bits : List ℕ) (base next misses o : ℕ) → next + 320 ≡ base + o → bits ≡ frame_at (bit_in w) o → (Synced bits → ⊥) →
     (Some (Miss next), after_miss next misses) ≡ searched (bit_of_two base w) base (Locked next misses)
 unfolding searched
-searched-miss w bits base next misses o e eb no =
+searched-miss w bits base next misses o e eb unsynced =
     let misses_it : is_match (bit_of_two base w) next ≡ false =
-    match-shifted w base next o e ∙ not_match (bit_in w) o (is_match (bit_in w) o) refl (λ s. no (subst Synced (sym eb) s)) in
+    match-shifted w base next o e ∙ not_match (bit_in w) o (is_match (bit_in w) o) refl (λ s. unsynced (subst Synced (sym eb) s)) in
     sym (ap (due (bit_of_two base w) next misses) misses_it)

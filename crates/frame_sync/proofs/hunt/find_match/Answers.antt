@@ -39,7 +39,7 @@ returns-then-ones_match-clause-found c =
       omega arith,
       none_before c.args.window.now c.args.first c.loop-end.end (c.loop-end.end - 15) c.loop-end.invariant.unmatched (omega arith),
       matched c.args.window.now c.args.first c.loop-end.end c.zeros_after-zeros.result counted many
-      (c.ones_match.ensures.0 c.if-ones_match.true),
+          (c.ones_match.ensures.0 c.if-ones_match.true),
     )
 
 pub returns-clause-none : goal.returns-clause-none
