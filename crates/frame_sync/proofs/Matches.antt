@@ -1,5 +1,5 @@
 -- The sync pattern at a place of a line.
-use Rattle.std.proofs.Common.{◌≡◌, ℕ, zero, suc, ◌+◌, ◌*◌, ◌<◌, ◌≤◌, Bool, true, false, ◌&&◌, List, map, length, get_or, refl, sym, ap, ◌∙◌, subst, arith, rules, inl, inr, add-zero}
+use Rattle.std.proofs.Common.{◌≡◌, ℕ, zero, suc, ◌+◌, ◌*◌, ◌<◌, ◌≤◌, Bool, true, false, ◌&&◌, length, get_or, refl, sym, ap, ◌∙◌, subst, arith, inl, inr}
 use Rattle.std.specs.List.{list_all, range_with_len}
 use Rattle.std.proofs.lemmas.Bool.{cases_lt}
 use Rattle.std.proofs.lemmas.List.FromFn.{length-map-range_with_len, get_or-map-range_with_len}
@@ -7,7 +7,7 @@ use Rattle.std.proofs.lemmas.Grind.{common_steps, same_number_lists}
 use Rattle.trau_frame.specs.Role.{Role, Sync, Control, Data, Time, role_of}
 use Rattle.trau_frame.specs.Frame.{Synced}
 use Rattle.trau_frame.proofs.Places as places
-use Rattle.frame_sync.specs.Match.{bit_in, fits, is_match, frame_at}
+use Rattle.frame_sync.specs.Match.{fits, is_match, frame_at}
 
 -- ---- tests of each number of a range
 

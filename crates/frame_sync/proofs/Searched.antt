@@ -1,8 +1,7 @@
 -- What one period of the search gives.
-use Rattle.std.proofs.Common.{◌≡◌, ℕ, ◌+◌, ◌-◌, ◌*◌, ◌<◌, ◌≤◌, max, Bool, true, false, List, length, get_or, Option, Some, None, IfSome, refl, sym, ap, ◌∙◌, subst, arith, inl, inr}
+use Rattle.std.proofs.Common.{◌≡◌, ℕ, ◌+◌, ◌-◌, ◌<◌, ◌≤◌, max, Bool, true, false, List, get_or, Option, Some, None, IfSome, refl, sym, ap, ◌∙◌, subst, arith, inl, inr}
 use Rattle.std.specs.Option.{MatchOption}
-use Rattle.std.proofs.lemmas.Bool.{cases_lt, cases_eq, cases_Bool, eq-eqb, ne_eqb}
-use Rattle.trau_bits.specs.Bits.{AreBits}
+use Rattle.std.proofs.lemmas.Bool.{cases_eq, eq-eqb, ne_eqb}
 use Rattle.trau_frame.specs.Frame.{Synced}
 use Rattle.frame_sync.specs.declared.yields.Mode.{Mode}
 use Rattle.frame_sync.specs.declared.yields.Mode.TheVariants.{Hunting, Locked}
@@ -10,7 +9,7 @@ use Rattle.frame_sync.specs.declared.yields.Yield.{Yield}
 use Rattle.frame_sync.specs.declared.yields.Yield.TheVariants.{Frame, Miss}
 use Rattle.frame_sync.specs.Match.{bit_in, is_match, frame_at}
 use Rattle.frame_sync.specs.Yields.{NoMatch, after_miss}
-use Rattle.frame_sync.specs.Periods.{first_match, found_in, hunted, due, searched, place_of, CarriesFrame}
+use Rattle.frame_sync.specs.Periods.{found_in, hunted, due, searched, place_of, CarriesFrame}
 use Rattle.frame_sync.specs.Step.{bit_of_two, IsNear}
 use Rattle.frame_sync.proofs.Matches.{is_match-same, frame_at-same, length-frame_at, get_or-frame_at, match_is_synced, synced_is_match}
 use Rattle.frame_sync.proofs.Found.{FoundAt, first_match-says, first_match-found, first_match-none, first_match-same}
@@ -141,6 +140,10 @@ none-shifted : (w : List ℕ) (base first high from to : ℕ) → first + 320 �
 none-shifted w base first high from to e f h = λ q a b.
     match-shifted w base q (q + 320 - base) (omega arith) ∙ h (q + 320 - base) (omega arith) (omega arith)
 
+hunted-at : (line : ℕ → ℕ) (low p : ℕ) (o : Option ℕ) (bits : List ℕ) → o ≡ Some p → bits ≡ frame_at line p →
+    (Some (Frame p bits), Locked (p + 320) 0) ≡ hunted line low o
+hunted-at line low p o bits e eb = ap (λ f. (Some (Frame p f), Locked (p + 320) 0)) eb ∙ sym (ap (hunted line low) e)
+
 pub searched-found : (w bits : List ℕ) (base low first o p : ℕ) → first ≡ max low (base - 319) → low ≤ base → first + 320 - base ≤ o → o ≤ 320 →
     NoMatch (bit_in w) (first + 320 - base) o → is_match (bit_in w) o ≡ true → p ≡ base + o - 320 → bits ≡ frame_at (bit_in w) o →
     (Some (Frame p bits), Locked (p + 320) 0) ≡ searched (bit_of_two base w) base (Hunting low)
@@ -153,8 +156,7 @@ searched-found w bits base low first o p ef l a b none m ep eb =
       before = none-shifted w base first p (first + 320 - base) o (omega arith) place none;
       matches = match-shifted w base p o place ∙ m;
     })) in
-    let frame : bits ≡ frame_at (bit_of_two base w) p = eb ∙ sym (frame-shifted w base p o place) in
-    ap (λ f. (Some (Frame p f), Locked (p + 320) 0)) frame ∙ sym (ap (hunted (bit_of_two base w) low) found)
+    hunted-at (bit_of_two base w) low p (found_in (bit_of_two base w) base low) bits found (eb ∙ sym (frame-shifted w base p o place))
 
 pub searched-none : (w : List ℕ) (base low first : ℕ) → first ≡ max low (base - 319) → low ≤ base →
     NoMatch (bit_in w) (first + 320 - base) 321 → (None, Hunting low) ≡ searched (bit_of_two base w) base (Hunting low)

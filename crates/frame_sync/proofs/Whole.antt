@@ -1,5 +1,5 @@
 -- The yields of the periods, one after another, are those of all their bits.
-use Rattle.std.proofs.Common.{◌≡◌, ℕ, suc, ◌+◌, ◌-◌, ◌*◌, ◌<◌, ◌≤◌, max, Bool, true, false, List, [], ◌∷◌, ◌++◌, length, length-append, get_or, Option, Some, None, option_to_list, refl, sym, ap, ◌∙◌, subst, arith, inl, inr}
+use Rattle.std.proofs.Common.{◌≡◌, ℕ, ◌+◌, ◌*◌, ◌<◌, ◌≤◌, Bool, true, false, List, [], ◌∷◌, ◌++◌, length, length-append, Option, Some, None, option_to_list, refl, sym, ap, ◌∙◌, subst, arith, inl, inr}
 use Rattle.std.specs.List.{flat_map}
 use Rattle.std.proofs.lemmas.Bool.{cases_lt, cases_eq, eq-eqb, ne_eqb}
 use Rattle.std.proofs.lemmas.List.{get_or_append_left, append-nil}
@@ -12,8 +12,8 @@ use Rattle.frame_sync.specs.declared.yields.Mode.TheVariants.{Hunting, Locked}
 use Rattle.frame_sync.specs.declared.yields.Yield.{Yield}
 use Rattle.frame_sync.specs.declared.yields.Yield.TheVariants.{Frame, Miss}
 use Rattle.frame_sync.specs.Match.{bit_in, is_match, frame_at}
-use Rattle.frame_sync.specs.Yields.{NoMatch, after_miss, Gives, GiveAll, NoneEnds, Yields}
-use Rattle.frame_sync.specs.Periods.{found_in, hunted, due, searched, line_bits, mode_after, yield_of, each_yield, ArePeriods}
+use Rattle.frame_sync.specs.Yields.{after_miss, Gives, GiveAll, NoneEnds}
+use Rattle.frame_sync.specs.Periods.{found_in, hunted, due, searched, line_bits, mode_after, each_yield, ArePeriods}
 use Rattle.frame_sync.specs.Step.{IsNear}
 use Rattle.frame_sync.proofs.Matches.{is_match-same, frame_at-same}
 use Rattle.frame_sync.proofs.Searched.{Looked, looked}

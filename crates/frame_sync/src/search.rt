@@ -53,7 +53,7 @@ fn joined(last: &[u8; 320], bits: &[u8; 320]) -> [u8; 640]
 }
 
 impl FrameSync {
-    ghost use Rattle.std.specs.Prelude.{ℕ, ◌<◌, List, [], ◌∷◌, IfSome};
+    ghost use Rattle.std.specs.Prelude.{ℕ, ◌+◌, ◌<◌, List, [], ◌∷◌, IfSome};
     ghost use Rattle.frame_sync.specs.Periods.{yield_of, CarriesFrame, EndsIn};
     ghost use Rattle.frame_sync.specs.Step.{home_memory, next_period, Stands};
 
@@ -74,6 +74,7 @@ impl FrameSync {
     pub fn feed(&mut self, octets: &[u8; 40]) -> Option<Yield>
         requires { self.old.periods < 4294967295 }
         ensures step { next_period self.old octets.now ≡ (result, self.new) }
+        ensures counted { self.new.periods ≡ self.old.periods + 1 }
 
         // After any past, the answer is the yield of this period.
         ensures history { (past : List (List ℕ)) → Stands past self.old →

@@ -1,8 +1,6 @@
 -- An uplink frame that was written is read again.
-use Rattle.std.proofs.Common.{◌≡◌, ℕ, ◌+◌, ◌-◌, ◌*◌, ◌%◌, ◌<◌, ◌≤◌, zero, suc, if◌then◌else◌, nat_eq, ◌==◌, Bool, true, false, List, length, get_or, refl, sym, ap, ◌∙◌, arith}
-use Rattle.std.specs.List.{range_with_len}
+use Rattle.std.proofs.Common.{◌≡◌, ℕ, ◌+◌, ◌-◌, ◌*◌, ◌<◌, ◌≤◌, zero, suc, if◌then◌else◌, ◌==◌, Bool, true, false, length, refl, sym, ap, ◌∙◌, arith}
 use Rattle.std.proofs.lemmas.List.FromFn.{get_or-map-range_with_len}
-use Rattle.std.proofs.lemmas.Grind.{common_steps}
 use Rattle.trau_frame.specs.declared.frames.Kind.{Kind}
 use Rattle.trau_frame.specs.declared.frames.Kind.TheVariants.{Speech, Idle, Other}
 use Rattle.trau_frame.specs.declared.frames.Class.{Class}
@@ -10,7 +8,7 @@ use Rattle.trau_frame.specs.declared.frames.Class.TheVariants.{Good, Sid, Invali
 use Rattle.trau_frame.specs.declared.frames.UpFrame.{UpFrame}
 use Rattle.trau_frame.specs.Role.{Control, bit_with}
 use Rattle.trau_frame.specs.Frame.{Synced, number_of}
-use Rattle.trau_frame.specs.UpFrame.{kind_by, class_by, class_at, kind_of, class_of, Says}
+use Rattle.trau_frame.specs.UpFrame.{kind_by, class_by, class_at, kind_of, Says}
 use Rattle.trau_frame.specs.UpBits.{up_pattern, bfi_of, sid_of, up_control_bit, up_control, up_bits, FitsKind, SameFrame}
 use Rattle.trau_frame.proofs.Again.{synced-frame_bits, bit_with-frame_bits, data_of-frame_bits}
 

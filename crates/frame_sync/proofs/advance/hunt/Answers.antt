@@ -1,4 +1,4 @@
-use Rattle.std.proofs.Common.{◌≡◌, ◌+◌, ◌-◌, max, sym, ap, ◌∙◌, arith, rules}
+use Rattle.std.proofs.Common.{◌≡◌, ◌+◌, ◌-◌, max, ap, ◌∙◌, arith}
 use Rattle.frame_sync.proofs.Searched.{searched-found, searched-none}
 use Rattle.frame_sync.proofs.advance.hunt.Goals as goal
 

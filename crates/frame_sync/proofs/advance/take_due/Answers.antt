@@ -1,4 +1,4 @@
-use Rattle.std.proofs.Common.{◌≡◌, ◌+◌, ◌-◌, Some, true, false, ap, ◌∙◌, arith}
+use Rattle.std.proofs.Common.{◌+◌, ◌-◌, Some, ap, ◌∙◌, arith}
 use Rattle.frame_sync.specs.declared.yields.Yield.TheVariants.{Miss}
 use Rattle.frame_sync.proofs.Searched.{searched-frame, searched-miss}
 use Rattle.frame_sync.proofs.advance.take_due.Goals as goal

@@ -1,4 +1,4 @@
-use Rattle.std.proofs.Common.{◌≡◌, ◌+◌, ◌-◌, ◌≤◌, ◌<◌, refl, arith}
+use Rattle.std.proofs.Common.{◌+◌, ◌-◌, ◌≤◌, arith}
 use Rattle.frame_sync.proofs.Scan.{Counted, counted_none, counted_next, unmatched_none, unmatched_few, unmatched_ones, matched, none_before}
 use Rattle.frame_sync.proofs.hunt.find_match.Goals as goal
 use Rattle.frame_sync.proofs.hunt.find_match.Goals.{else-zeros-ge16-via-then-zeros-ge16+else-ones_match, else-zeros-ge16-via-else-zeros-ge16}

@@ -1,4 +1,4 @@
-use Rattle.std.proofs.Common.{◌≡◌, length, length-append, ◌∙◌, sym, arith}
+use Rattle.std.proofs.Common.{length-append, ◌∙◌, sym, arith}
 use Rattle.std.proofs.lemmas.Grind.{same_number_lists}
 use Rattle.frame_sync.proofs.search.joined.Goals as goal
 

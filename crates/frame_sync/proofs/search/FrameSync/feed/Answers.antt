@@ -1,9 +1,8 @@
 use Rattle.std.proofs.Common.{◌≡◌, ◌<◌, sym, ap, ◌∙◌, subst, rules}
 use Rattle.std.proofs.lemmas.List.Elements.{All-append}
 use Rattle.trau_bits.specs.Bits.{AreBits}
-use Rattle.frame_sync.specs.Periods.{EndsIn}
 use Rattle.frame_sync.specs.Step.{next_period}
-use Rattle.frame_sync.proofs.Steps.{Went, next_period-went, near-went, ends-went, carries-went, stands-next}
+use Rattle.frame_sync.proofs.Steps.{next_period-went, near-went, ends-went, carries-went, stands-next}
 use Rattle.frame_sync.proofs.search.FrameSync.feed.Goals as goal
 
 pub invariant_of-self : goal.invariant_of-self

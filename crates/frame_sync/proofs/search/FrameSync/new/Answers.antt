@@ -1,4 +1,4 @@
-use Rattle.std.proofs.Common.{◌≡◌, ℕ, ◌<◌, [], length, List, ap, arith}
+use Rattle.std.proofs.Common.{◌≡◌, length, ap}
 use Rattle.std.proofs.lemmas.List.Elements.{All-nil}
 use Rattle.frame_sync.specs.declared.yields.Mode.TheVariants.{Hunting}
 use Rattle.frame_sync.specs.Periods.{mode_after}
