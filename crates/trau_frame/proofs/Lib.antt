@@ -4,3 +4,4 @@ pub mod ReadRows
 pub mod WrittenRows
 pub mod Again
 pub mod Relayed
+pub mod UpAgain

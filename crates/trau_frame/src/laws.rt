@@ -5,6 +5,7 @@ ghost use Rattle.trau_frame.specs.declared.frames.UpFrame.{UpFrame};
 ghost use Rattle.trau_frame.specs.Role.{Role, Sync, Control, role_of, place_of, bit_with, IsWithin};
 ghost use Rattle.trau_frame.specs.Frame.{Synced, data_of, frame_bits};
 ghost use Rattle.trau_frame.specs.UpFrame.{Says};
+ghost use Rattle.trau_frame.specs.UpBits.{up_bits, FitsKind, SameFrame};
 ghost use Rattle.trau_frame.specs.DownFrame.{down_bits};
 ghost use Rattle.trau_frame.specs.Relay.{IsGoodSpeech, relayed_bits};
 
@@ -32,4 +33,12 @@ pub fn good_speech_is_relayed()
         (IsGoodSpeech bits ↔ ((f.kind ≡ Kind.Speech) × (f.class ≡ Class.Good))) }
     ensures relayed { (bits : List ℕ) (f : UpFrame) → Says bits f →
         down_bits (DownFrame.Speech f.d true) ≡ relayed_bits bits }
+{}
+
+/// An uplink frame that was written carries the sync pattern, and the same frame is read from it, if its class is one
+/// that frames of its kind are read with.
+pub fn written_uplink_is_read()
+    ensures synced { (f : UpFrame) → Synced (up_bits f) }
+    ensures says { (f : UpFrame) → length f.d ≡ 260 → FitsKind f.kind f.class → Says (up_bits f) f }
+    ensures same { (f g : UpFrame) → length f.d ≡ 260 → FitsKind f.kind f.class → Says (up_bits f) g → SameFrame f g }
 {}

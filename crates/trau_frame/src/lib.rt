@@ -1,7 +1,7 @@
 //! The TRAU frame of 320 bits, as GSM 08.60 lays it out for full rate speech.
 //!
 //! Between the octets of a 16 kbit/s line (`trau_bits`) and the codec's 260 bits: tells whether 320 bits carry
-//! the sync pattern, reads an uplink frame from them, and writes a downlink frame. The places of the sync,
+//! the sync pattern, reads an uplink frame from them, and writes a frame of either direction. The places of the sync,
 //! control, data and time bits are those of GSM 08.60. The patterns of C1 to C5, the meanings of the other
 //! control bits and the classes of speech frames are this project's profile, in the manner of GSM 08.60 and
 //! GSM 06.31.
@@ -9,8 +9,8 @@
 //! A frame is twenty rows of sixteen bits, and all work goes by rows: the sync zeros, C1 to C15, seventeen rows
 //! of fifteen data bits, and a last row with the rest. Each row but the first begins with a sync one.
 //!
-//! Definitions: `specs/Role.antt` (the role of each place), `specs/Frame.antt`, `specs/UpFrame.antt`,
-//! `specs/DownFrame.antt` and `specs/Relay.antt`.
+//! Definitions: `specs/Role.antt` (the role of each place), `specs/Frame.antt`, `specs/UpFrame.antt` (what is read),
+//! `specs/UpBits.antt` and `specs/DownFrame.antt` (what is written), and `specs/Relay.antt`.
 #![tactic(auto)]
 
 mod frames;
@@ -25,4 +25,4 @@ mod writing;
 pub use frames::{Class, DownFrame, Kind, UpFrame};
 pub use reading::read_up;
 pub use sync::sync_matches;
-pub use writing::write_down;
+pub use writing::{write_down, write_up};

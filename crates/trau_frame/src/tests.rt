@@ -45,6 +45,9 @@ fn good_speech_is_read_and_relayed(rt: HostRuntime) {
     let frame = read_up(&bits);
     assert!(rt; frame.kind == Kind::Speech && frame.class == Class::Good);
     assert!(rt; !frame.taf && !frame.dtxd && frame.align == 0);
+    write_up(&frame, &mut bits);
+    pack(&bits, &mut octets);
+    assert!(rt; octets == UP);
     write_down(
         &DownFrame::Speech {
             d: frame.d,

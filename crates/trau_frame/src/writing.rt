@@ -1,8 +1,10 @@
-ghost use Rattle.std.specs.Prelude.{◌≡◌, ◌<◌};
+ghost use Rattle.std.specs.Prelude.{◌≡◌, ◌<◌, ◌≤◌};
+ghost use Rattle.std.specs.Int.{bit_at};
 ghost use Rattle.trau_bits.specs.Bits.{AreBits};
 ghost use Rattle.trau_frame.specs.DownFrame.{HasBits, down_bits, down_control, down_data};
+ghost use Rattle.trau_frame.specs.UpBits.{up_pattern, bfi_of, sid_of, up_control_bit, up_control, up_bits};
 
-use crate::frames::DownFrame;
+use crate::frames::{Class, DownFrame, Kind, UpFrame};
 use crate::rows::write_frame;
 
 /// C1 to C21 of an idle frame.
@@ -42,4 +44,86 @@ pub fn write_down(f: &DownFrame, bits: &mut [u8; 320])
         DownFrame::Idle => write_frame(&control, &[1; 260], bits),
         DownFrame::Speech { d, .. } => write_frame(&control, d, bits),
     }
+}
+
+/// The number in C1 to C5 of an uplink frame.
+fn up_pattern(kind: Kind) -> u8
+    ensures { result ≡ up_pattern kind }
+{
+    match kind {
+        Kind::Speech => 0b00010,
+        Kind::Idle => 0b10000,
+        Kind::Other => 0b11111,
+    }
+}
+
+/// The bad frame indicator of a class.
+fn bfi(class: Class) -> u8
+    ensures value { result ≡ bfi_of class }
+    ensures bit { result < 2 }
+{
+    match class {
+        Class::Good | Class::Sid | Class::InvalidSid => 0,
+        Class::Unusable => 1,
+    }
+}
+
+/// The number in the silence descriptor bits of a class.
+fn sid(class: Class) -> u8
+    ensures { result ≡ sid_of class }
+{
+    match class {
+        Class::Good | Class::Unusable => 0,
+        Class::InvalidSid => 1,
+        Class::Sid => 2,
+    }
+}
+
+/// Bit `k` of a number, counted from the lowest.
+fn bit(number: u8, k: usize) -> u8
+    requires { k < 8 }
+    ensures value { result ≡ bit_at number k }
+    ensures bit { result < 2 }
+{
+    number >> k & 1
+}
+
+/// Control bit C`c` of an uplink frame.
+fn up_control_bit(f: &UpFrame, c: usize) -> u8
+    requires low { 1 ≤ c }
+    requires high { c ≤ 21 }
+    ensures value { result ≡ up_control_bit f.now c }
+    ensures bit { result < 2 }
+{
+    match c {
+        1..=5 => bit(up_pattern(f.kind), 5 - c),
+        6..=11 => bit(f.align, 11 - c),
+        12 => bfi(f.class),
+        13..=14 => bit(sid(f.class), 14 - c),
+        15 => u8::from(f.taf),
+        17 => u8::from(f.dtxd),
+        _ => 1,
+    }
+}
+
+/// C1 to C21 of an uplink frame.
+fn up_control(f: &UpFrame) -> [u8; 21]
+    ensures value { result ≡ up_control f.now }
+    ensures are_bits { AreBits result }
+{
+    let mut control = [0; 21];
+    for c in 0..21 {
+        control[c] = up_control_bit(f, c + 1);
+    }
+    control
+}
+
+/// Writes an uplink frame over all 320 bits: its kind, alignment field, class, TAF, DTXd and data bits. Spare and
+/// time bits are 1.
+#[tactic(auto, unfolding(crate::specs::UpBits::up_bits))]
+pub fn write_up(f: &UpFrame, bits: &mut [u8; 320])
+    ensures bits { bits.new ≡ up_bits f.now }
+    ensures are_bits { AreBits bits.new }
+{
+    write_frame(&up_control(f), &f.d, bits);
 }

@@ -1,0 +1,18 @@
+use Rattle.std.proofs.Common.{◌≡◌, ◌+◌, ◌<◌, ◌≤◌, ℕ, List, length, get_or, slice_range, sym, ap, ◌∙◌, arith, rules}
+use Rattle.std.proofs.lemmas.Grind.{elements, same_number_lists}
+use Rattle.frame_sync.specs.Match.{bit_in, frame_at}
+use Rattle.frame_sync.proofs.Matches.{length-frame_at, get_or-frame_at}
+use Rattle.frame_sync.proofs.advance.frame_from.Goals as goal
+
+get_or-part : (w : List ℕ) (o i : ℕ) → o + 320 ≤ length w → i < 320 → get_or (slice_range w o (o + 320)) i 0 ≡ get_or w (o + i) 0
+get_or-part w o i h l = grind (arith, elements)
+
+part_is_frame : (w bits : List ℕ) (o : ℕ) → o + 320 ≤ length w → length bits ≡ 320 → bits ≡ slice_range w o (o + 320) → bits ≡ frame_at (bit_in w) o
+part_is_frame w bits o h count e =
+    same_number_lists bits _ (count ∙ sym (length-frame_at (bit_in w) o)) (λ k below.
+    let inside : k < 320 = omega arith in
+    ap (λ l. get_or l k 0) e ∙ get_or-part w o k h inside ∙ sym (get_or-frame_at (bit_in w) o k 0 inside))
+
+pub returns-clause-value : goal.returns-clause-value
+returns-clause-value c =
+    part_is_frame c.args.window.now c.copy_from_slice.new.self c.args.o (omega arith) (search rules) (search rules)

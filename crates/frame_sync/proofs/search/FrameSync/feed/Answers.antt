@@ -1,0 +1,34 @@
+use Rattle.std.proofs.Common.{◌≡◌, ◌<◌, sym, ap, ◌∙◌, subst, rules}
+use Rattle.std.proofs.lemmas.List.Elements.{All-append}
+use Rattle.trau_bits.specs.Bits.{AreBits}
+use Rattle.frame_sync.specs.Step.{next_period}
+use Rattle.frame_sync.proofs.Steps.{next_period-went, near-went, ends-went, carries-went, stands-next}
+use Rattle.frame_sync.proofs.search.FrameSync.feed.Goals as goal
+
+pub invariant_of-self : goal.invariant_of-self
+invariant_of-self c = (
+  near-went c.self.inside.periods c.from.result c.joined-window.result c.self.inside.mode c.advance-found.result
+      (record { number = c.from.ensures; gives = c.advance-found.ensures }) c.self.invariant.0,
+  c.unpack.ensures.are_bits,
+)
+
+pub returns-clause-step : goal.returns-clause-step
+returns-clause-step c =
+    ap (λ memory. next_period memory c.args.octets.now) (sym c.self.view_is) ∙
+    next_period-went c.self.inside.periods c.from.result c.self.inside.last c.unpack.new.bits c.joined-window.result c.args.octets.now c.self.inside.mode
+    c.advance-found.result (record { number = c.from.ensures; gives = c.advance-found.ensures }) c.unpack.ensures.bits c.joined-window.ensures
+
+pub returns-clause-history : goal.returns-clause-history
+returns-clause-history c = stands-next c.args.self.now _ c.args.octets.now c.advance-found.result.0 c.told-octets (returns-clause-step c)
+
+pub returns-clause-frame : goal.returns-clause-frame
+returns-clause-frame c =
+    carries-went c.self.inside.periods c.from.result c.joined-window.result c.self.inside.mode c.advance-found.result
+    (record { number = c.from.ensures; gives = c.advance-found.ensures })
+    (subst AreBits (sym c.joined-window.ensures) (All-append (λ bit. bit < 2) c.self.inside.last c.unpack.new.bits c.self.invariant.1 c.unpack.ensures.are_bits))
+
+pub returns-clause-place : goal.returns-clause-place
+returns-clause-place c =
+    let count : c.self.inside.periods ≡ c.args.self.now.periods = ap (λ memory. memory.periods) c.self.view_is in
+    ends-went c.args.self.now.periods c.from.result c.joined-window.result c.self.inside.mode c.advance-found.result
+    (record { number = c.from.ensures ∙ count; gives = c.advance-found.ensures }) (search rules)

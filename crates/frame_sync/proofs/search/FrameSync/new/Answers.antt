@@ -1,0 +1,13 @@
+use Rattle.std.proofs.Common.{◌≡◌, length, ap}
+use Rattle.std.proofs.lemmas.List.Elements.{All-nil}
+use Rattle.frame_sync.specs.declared.yields.Mode.TheVariants.{Hunting}
+use Rattle.frame_sync.specs.Periods.{mode_after}
+use Rattle.frame_sync.specs.Step.{last_bits}
+use Rattle.frame_sync.proofs.search.FrameSync.new.Goals as goal
+
+pub returns-clause-history : goal.returns-clause-history
+unfolding mode_after last_bits
+returns-clause-history c = record {
+  periods = All-nil (λ o. length o ≡ 40);
+  after = ap (λ last. record { periods = 0; last = last; mode = Hunting 0 }) c.zeros.ensures.value;
+}

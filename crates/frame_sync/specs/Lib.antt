@@ -1,0 +1,4 @@
+pub mod Match
+pub mod Yields
+pub mod Periods
+pub mod Step

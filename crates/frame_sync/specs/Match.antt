@@ -1,0 +1,23 @@
+-- Where the sync pattern of a frame stands on a line (GSM 08.60). A line is told by the bit at each place, from 0 on.
+use Rattle.std.specs.Prelude.{ℕ, ◌+◌, Bool, true, ◌==◌, List, map, slice_index}
+use Rattle.std.specs.List.{list_all, range_with_len}
+use Rattle.trau_frame.specs.Role.{Role, Sync, Control, Data, Time, role_of}
+
+-- a list of bits as a line
+abbrev pub bit_in : List ℕ → ℕ → ℕ
+bit_in bits p = slice_index bits p
+
+-- a bit with this role is no wrong sync bit
+abbrev pub fits : Role → ℕ → Bool
+fits (Sync value) bit = bit == value
+fits (Control c) bit = true
+fits (Data n) bit = true
+fits (Time t) bit = true
+
+-- the 35 sync bits of the frame at place p have their values
+unfoldable pub is_match : (ℕ → ℕ) → ℕ → Bool
+is_match line p = list_all (λ i. fits (role_of i) (line (p + i))) (range_with_len 0 320)
+
+-- the 320 bits from place p on
+unfoldable pub frame_at : (ℕ → ℕ) → ℕ → List ℕ
+frame_at line p = map (λ i. line (p + i)) (range_with_len 0 320)

@@ -1,0 +1,25 @@
+//! The search for frames on a line (sync pattern of GSM 08.60; lock and loss are this project's profile).
+//!
+//! Between the octets of an uplink, 40 a period of 20 ms, and what a receiver makes of frames: finds where frames
+//! begin, at any bit, and gives each frame or miss in the period that holds its last bit. A search that hunts locks on
+//! the first place whose 35 sync bits match. Locked, it expects a frame every 320 bits; one whose sync bits don't match
+//! is a miss, and the third miss in a row gives the lock up.
+//!
+//! `hunt` looks for the first match, `advance` takes the search over one period, and `search` has what is kept from
+//! period to period. Hunting costs a counter of zeros at each bit; only behind sixteen zeros are ones looked at, and a
+//! place of which more than the first one is there has none after it for sixteen places.
+//!
+//! Definitions: `specs/Match.antt` (the pattern at a place), `specs/Yields.antt` (all yields of a whole line),
+//! `specs/Periods.antt` (the yield of each period), `specs/Step.antt` (what is kept, and one step of it).
+#![tactic(auto)]
+
+mod advance;
+mod hunt;
+pub mod laws;
+mod search;
+#[cfg(test)]
+mod tests;
+mod yields;
+
+pub use search::FrameSync;
+pub use yields::Yield;

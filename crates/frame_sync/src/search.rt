@@ -1,0 +1,96 @@
+//! The search on one line.
+
+ghost use Rattle.std.specs.Prelude.{◌≡◌, ◌++◌, replicate};
+ghost use Rattle.trau_bits.specs.Bits.{AreBits};
+
+use crate::advance::advance;
+use crate::yields::{Mode, Yield};
+use std::marker::Model;
+use trau_bits::unpack;
+
+/// The search for frames on one line.
+#[derive(Drop)]
+pub struct FrameSync {
+    /// The periods so far.
+    periods: u32,
+    /// The bits of the last one.
+    last: [u8; 320],
+    mode: Mode,
+}
+
+impl Model for FrameSync {
+    ghost use Rattle.std.specs.Prelude.{◌*◌};
+    ghost use Rattle.trau_bits.specs.Bits.{AreBits};
+    ghost use Rattle.frame_sync.specs.Step.{SyncMemory, IsNear};
+
+    ghost Value = { SyncMemory };
+
+    ghost view = { λ s. record { periods = s.periods; last = s.last; mode = s.mode } };
+
+    ghost invariant = { λ s. IsNear (320 * s.periods) s.mode × AreBits s.last };
+}
+
+/// A period of zeros.
+fn zeros() -> [u8; 320]
+    ensures value { result ≡ replicate 320 0 }
+    ensures are_bits { AreBits result }
+{
+    [0; 320]
+}
+
+/// The bits of two periods.
+fn joined(last: &[u8; 320], bits: &[u8; 320]) -> [u8; 640]
+    ensures { result ≡ last.now ++ bits.now }
+{
+    let mut window = [0; 640];
+    for i in 0..320 {
+        window[i] = last[i];
+    }
+    for i in 0..320 {
+        window[320 + i] = bits[i];
+    }
+    window
+}
+
+impl FrameSync {
+    ghost use Rattle.std.specs.Prelude.{ℕ, ◌+◌, ◌<◌, List, [], ◌∷◌, IfSome};
+    ghost use Rattle.frame_sync.specs.Periods.{yield_of, CarriesFrame, EndsIn};
+    ghost use Rattle.frame_sync.specs.Step.{home_memory, next_period, Stands};
+
+    /// The search before the first period, which hunts.
+    pub fn new() -> FrameSync
+        ensures value { result ≡ home_memory }
+        ensures history { Stands [] result }
+    {
+        FrameSync {
+            periods: 0,
+            last: zeros(),
+            mode: Mode::Hunting { low: 0 },
+        }
+    }
+
+    /// Takes the 40 octets of the next period, and gives the yield whose last bit is among them, if there is one. A line
+    /// has at most 4,294,967,295 periods.
+    pub fn feed(&mut self, octets: &[u8; 40]) -> Option<Yield>
+        requires { self.old.periods < 4294967295 }
+        ensures step { next_period self.old octets.now ≡ (result, self.new) }
+        ensures counted { self.new.periods ≡ self.old.periods + 1 }
+
+        // After any past, the answer is the yield of this period.
+        ensures history { (past : List (List ℕ)) → Stands past self.old →
+            Stands (octets.now ∷ past) self.new × (result ≡ yield_of octets.now past) }
+
+        // A frame has 320 bits with the sync pattern, and a yield ends in this period.
+        ensures frame { IfSome result CarriesFrame }
+        ensures place { IfSome result (EndsIn self.old.periods) }
+    {
+        let mut bits = [0; 320];
+        unpack(octets, &mut bits);
+        let window = joined(&self.last, &bits);
+        let (found, mode) = advance(self.mode, 320 * u64::from(self.periods), &window);
+        self.periods += 1;
+        self.last = bits;
+        self.mode = mode;
+        found
+    }
+}

@@ -1,0 +1,65 @@
+-- The bits of an uplink frame (this project's profile, in the manner of GSM 08.60 and GSM 06.31).
+use Rattle.std.specs.Prelude.{◌≡◌, ℕ, ◌-◌, if◌then◌else◌, nat_le, ◌==◌, List, map}
+use Rattle.std.specs.List.{range_with_len}
+use Rattle.std.specs.Int.{bit_at}
+use Rattle.trau_frame.specs.declared.frames.Kind.{Kind}
+use Rattle.trau_frame.specs.declared.frames.Kind.TheVariants.{Speech, Idle, Other}
+use Rattle.trau_frame.specs.declared.frames.Class.{Class}
+use Rattle.trau_frame.specs.declared.frames.Class.TheVariants.{Good, Sid, InvalidSid, Unusable}
+use Rattle.trau_frame.specs.declared.frames.UpFrame.{UpFrame}
+use Rattle.trau_frame.specs.Frame.{frame_bits}
+
+-- the number in C1 to C5: 00010 for speech, 10000 for idle and 11111 for other frames
+abbrev pub up_pattern : Kind → ℕ
+up_pattern Speech = 2
+up_pattern Idle = 16
+up_pattern Other = 31
+
+-- C12: the bad frame indicator of a class
+abbrev pub bfi_of : Class → ℕ
+bfi_of Good = 0
+bfi_of Sid = 0
+bfi_of InvalidSid = 0
+bfi_of Unusable = 1
+
+-- the number in C13 and C14, the silence descriptor of a class
+abbrev pub sid_of : Class → ℕ
+sid_of Good = 0
+sid_of Sid = 2
+sid_of InvalidSid = 1
+sid_of Unusable = 0
+
+-- control bit c: the pattern in C1 to C5, the alignment field in C6 to C11, the class in C12 to C14, TAF in C15,
+-- DTXd in C17, and 1 in the spare bits
+abbrev pub up_control_bit : UpFrame → ℕ → ℕ
+up_control_bit f c =
+    if nat_le c 5 then bit_at (up_pattern f.kind) (5 - c)
+    else if nat_le c 11 then bit_at f.align (11 - c)
+    else if c == 12 then bfi_of f.class
+    else if nat_le c 14 then bit_at (sid_of f.class) (14 - c)
+    else if c == 15 then (if f.taf then 1 else 0)
+    else if c == 17 then (if f.dtxd then 1 else 0)
+    else 1
+
+-- C1 to C21
+unfoldable pub up_control : UpFrame → List ℕ
+up_control f = map (up_control_bit f) (range_with_len 1 21)
+
+-- the 320 bits of the frame
+unfoldable pub up_bits : UpFrame → List ℕ
+up_bits f = frame_bits (up_control f) f.d
+
+-- a class that a frame of this kind is read with: any for speech, and Unusable for the others
+abbrev pub FitsKind : Kind → Class → Type 0
+FitsKind Speech class = Unit {0}
+FitsKind Idle class = class ≡ Unusable
+FitsKind Other class = class ≡ Unusable
+
+-- both frames say the same
+pub record SameFrame (f g : UpFrame) : Type 0 where
+  pub kind : f.kind ≡ g.kind
+  pub class : f.class ≡ g.class
+  pub taf : f.taf ≡ g.taf
+  pub dtxd : f.dtxd ≡ g.dtxd
+  pub align : f.align ≡ g.align
+  pub data_bits : f.d ≡ g.d
