@@ -20,17 +20,17 @@ use Rattle.farm_tools.specs.Tools.{TellsEnd, ToolRuns, status_of, text_of}
 use Rattle.farm_tools.proofs.Causing.{status_by, status_of-end}
 
 -- known octets that were consumed
-consumed : (a b : Option (List ℕ)) (xs bs : List ℕ) → a ≡ Some xs → Consumes a b bs → (ys : List ℕ) × (b ≡ Some ys) × (xs ≡ bs ++ ys)
+pub consumed : (a b : Option (List ℕ)) (xs bs : List ℕ) → a ≡ Some xs → Consumes a b bs → (ys : List ℕ) × (b ≡ Some ys) × (xs ≡ bs ++ ys)
 consumed None b xs bs is took = absurd (cc)
 consumed (Some x) None xs bs is took = absurd took
 consumed (Some x) (Some y) xs bs is took = let same : x ≡ xs = cc in (y, refl, sym same ∙ took)
 
-appended : (a b : Option (List ℕ)) (xs bs : List ℕ) → a ≡ Some xs → Appends a b bs → b ≡ Some (xs ++ bs)
+pub appended : (a b : Option (List ℕ)) (xs bs : List ℕ) → a ≡ Some xs → Appends a b bs → b ≡ Some (xs ++ bs)
 appended None b xs bs is added = absurd (cc)
 appended (Some x) None xs bs is added = absurd added
 appended (Some x) (Some y) xs bs is added = let same : x ≡ xs = cc in ap Some (added ∙ ap (λ l. l ++ bs) same)
 
-at_end : (b : Option (List ℕ)) (ys : List ℕ) → b ≡ Some ys → IsAtEnd b → ys ≡ []
+pub at_end : (b : Option (List ℕ)) (ys : List ℕ) → b ≡ Some ys → IsAtEnd b → ys ≡ []
 at_end None ys is end = absurd (cc)
 at_end (Some y) ys is end = let same : y ≡ ys = cc in sym same ∙ end
 

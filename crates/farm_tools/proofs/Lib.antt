@@ -3,6 +3,7 @@ mod Alone
 pub mod Causing
 pub mod Cleaning
 mod Mapping
+pub mod FramesEnds
 mod Making
 mod Rounds
 mod Steps

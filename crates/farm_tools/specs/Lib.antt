@@ -2,6 +2,7 @@
 pub mod Blocks
 pub mod Causes
 pub mod Clean
+pub mod Frames
 pub mod Made
 pub mod Runs
 pub mod Step

@@ -63,7 +63,8 @@ fn side_name(side: Side) -> &'static str
     }
 }
 
-fn failed_text(alloc: Global, call: u32, side: Side) -> Result<String, AllocError>
+/// The text of a line that failed.
+pub fn failed_text(alloc: Global, call: u32, side: Side) -> Result<String, AllocError>
     ensures { IfOk result (λ text. string_bytes text ≡ failed_text call side) }
 {
     let name = side_name(side);

@@ -1,11 +1,11 @@
 -- The words that ask for a tool.
 use Rattle.std.proofs.Common.{◌≡◌, ℕ, ◌<◌, List, [], ◌∷◌, length, get_or, map, ap, refl, sym, ◌∙◌, arith}
-use Rattle.std.specs.Prelude.{decimal}
+use Rattle.std.specs.Prelude.{codes, decimal}
 use Rattle.std.proofs.lemmas.Fmt.{decimal_injective}
 use Rattle.farm_tools.specs.declared.end.Tool.{Tool}
 use Rattle.farm_tools.specs.declared.end.Tool.TheVariants.{Relay, Decode, Encode}
 use Rattle.farm_tools.specs.Made.{name_of}
-use Rattle.farm_top.specs.Words.{AsksFor}
+use Rattle.farm_top.specs.Words.{AsksFor, AsksForFrames, Names}
 
 -- a list of two
 pub two : {A B : Type 0} (f : A → B) (xs : List A) (a b : A) → length xs ≡ 2 → a ≡ get_or xs 0 a → b ≡ get_or xs 1 b → map f xs ≡ f a ∷ f b ∷ []
@@ -26,17 +26,26 @@ one_name Encode Relay e = let count : 6 ≡ 5 = ap length e in absurd (omega (ar
 one_name Encode Decode e = let first : 101 ≡ 100 = ap (λ l. get_or l 0 0) e in absurd (omega (arith, first))
 one_name Encode Encode e = refl
 
-pub same_tool : (words : List (List ℕ)) (s t : Tool) (m n : ℕ) → AsksFor words s m → AsksFor words t n → s ≡ t
-same_tool words s t m n a b =
-    let first = a.spelled in
-    let second = b.spelled in
-    let names : name_of s ≡ name_of t = cc in
-    one_name s t names
+-- and none has that of the listing
+no_tool : (t : Tool) → name_of t ≡ codes "frames" → ⊥
+no_tool Relay e = let count : 5 ≡ 6 = ap length e in omega (arith, count)
+no_tool Decode e = let first : 100 ≡ 102 = ap (λ l. get_or l 0 0) e in omega (arith, first)
+no_tool Encode e = let first : 101 ≡ 102 = ap (λ l. get_or l 0 0) e in omega (arith, first)
 
-pub same_call : (words : List (List ℕ)) (s t : Tool) (m n : ℕ) → AsksFor words s m → AsksFor words t n → m ≡ n
-same_call words s t m n a b =
-    let first = a.spelled in
-    let second = b.spelled in
+-- words have one name and one call
+same_name : (words : List (List ℕ)) (a b : List ℕ) (m n : ℕ) → Names words a m → Names words b n → a ≡ b
+same_name words a b m n first second = let is = first.spelled in let also = second.spelled in cc
+
+pub same_call : (words : List (List ℕ)) (a b : List ℕ) (m n : ℕ) → Names words a m → Names words b n → m ≡ n
+same_call words a b m n first second =
+    let is = first.spelled in
+    let also = second.spelled in
     let rest : decimal m ∷ [] ≡ decimal n ∷ [] = cc in
     let numbers : decimal m ≡ decimal n = cc in
-    decimal_injective m n (omega (arith, a.high)) (omega (arith, b.high)) numbers
+    decimal_injective m n (omega (arith, first.high)) (omega (arith, second.high)) numbers
+
+pub same_tool : (words : List (List ℕ)) (s t : Tool) (m n : ℕ) → AsksFor words s m → AsksFor words t n → s ≡ t
+same_tool words s t m n first second = one_name s t (same_name words _ _ m n first second)
+
+pub not_both : (words : List (List ℕ)) (t : Tool) (m n : ℕ) → AsksFor words t m → AsksForFrames words n → ⊥
+not_both words t m n first second = no_tool t (same_name words _ _ m n first second)

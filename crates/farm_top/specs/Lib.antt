@@ -1,3 +1,4 @@
 -- What the top call does.
+pub mod Asked
 pub mod Top
 pub mod Words

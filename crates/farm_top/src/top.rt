@@ -1,15 +1,17 @@
 // The top call: the words in, the octets and the text out, and the status.
 ghost use Rattle.std.specs.Prelude.{◌≡◌, ◌≢◌, ◌≤◌, ℕ, map, string_bytes, codes};
+ghost use Rattle.trau_io.specs.declared.line.Side.TheVariants.{Up};
 ghost use Rattle.trau_io.specs.declared.line.Side.{Side};
 ghost use Rattle.farm_tools.specs.declared.end.Tool.{Tool};
 ghost use Rattle.farm_tools.specs.Causes.{Causes};
 ghost use Rattle.farm_tools.specs.Clean.{CleanRun};
+ghost use Rattle.farm_tools.specs.Frames.{CleanFrames, FramesCauses, FramesRun};
 ghost use Rattle.farm_tools.specs.Tools.{ToolRuns, status_of};
-ghost use Rattle.farm_top.specs.Top.{Carries, TextOut};
-ghost use Rattle.farm_top.specs.Words.{AsksFor};
+ghost use Rattle.farm_top.specs.Top.{Answers, Carries, CarriesFrames, TextOut};
+ghost use Rattle.farm_top.specs.Words.{AreCommand, AsksFor, AsksForFrames};
 
 use crate::words::{Asked, read_words};
-use farm_tools::{Tool, ToolEnd, decode, encode, relay};
+use farm_tools::{Tool, ToolEnd, decode, encode, frames, relay};
 use std::alloc::Global;
 use trau_io::{Desk, Trunk, tell};
 
@@ -39,24 +41,28 @@ fn status_of_end(end: ToolEnd) -> u8
 }
 
 // Has a tool do its work.
-fn work<T: Trunk, D: Desk>(alloc: Global, asked: Asked, trunk: &mut T, desk: &mut D) -> ToolEnd
-    requires low { 1 ≤ asked.call }
-    requires high { asked.call ≤ 4096 }
-    ensures { ToolRuns asked.tool (T.lines trunk.old) (T.lines trunk.new) (D.desk desk.old) (D.desk desk.new) asked.call result }
+fn work<T: Trunk, D: Desk>(
+    alloc: Global,
+    tool: Tool,
+    call: u32,
+    trunk: &mut T,
+    desk: &mut D,
+) -> ToolEnd
+    requires low { 1 ≤ call }
+    requires high { call ≤ 4096 }
+    ensures { ToolRuns tool (T.lines trunk.old) (T.lines trunk.new) (D.desk desk.old) (D.desk desk.new) call result }
 {
-    match asked.tool {
-        Tool::Relay => relay(alloc, asked.call, trunk, desk),
-        Tool::Decode => decode(alloc, asked.call, trunk, desk),
-        Tool::Encode => encode(alloc, asked.call, trunk, desk),
+    match tool {
+        Tool::Relay => relay(alloc, call, trunk, desk),
+        Tool::Decode => decode(alloc, call, trunk, desk),
+        Tool::Encode => encode(alloc, call, trunk, desk),
     }
 }
 
-fn command<T: Trunk, D: Desk>(alloc: Global, asked: Asked, trunk: &mut T, desk: &mut D) -> u8
-    requires low { 1 ≤ asked.call }
-    requires high { asked.call ≤ 4096 }
-    ensures { Carries asked.tool (T.lines trunk.old) (T.lines trunk.new) (D.desk desk.old) (D.desk desk.new) asked.call result }
+// Answers for a command that ended so.
+fn answer<D: Desk>(end: ToolEnd, desk: &mut D) -> u8
+    ensures { Answers end (D.desk desk.old) (D.desk desk.new) result }
 {
-    let end = work(alloc, asked, trunk, desk);
     if let ToolEnd::Memory = end {
         let _ = tell(desk, b"no memory\n");
         return NO_MEMORY;
@@ -68,18 +74,19 @@ fn command<T: Trunk, D: Desk>(alloc: Global, asked: Asked, trunk: &mut T, desk: 
 /// answers the status.
 ///
 /// The commands are `relay C`, which copies the good speech frames of a call's uplink, bits unchanged, to its
-/// downlink, `decode C`, which decodes them to its Out line, and `encode C`, which encodes its Pcm line to downlink
-/// frames; C is the call's number, 1 to 1,024, in decimal digits without leading zeros. An uplink is cut into blocks
-/// of 40 octets, and the first block that isn't a good speech frame ends the command. A Pcm line is cut into blocks
-/// of 160 octets, and what is left of it behind the last of them is told and not used.
+/// downlink, `decode C`, which decodes them to its Out line, `encode C`, which encodes its Pcm line to downlink
+/// frames, and `frames C`, which searches its uplink for frames and tells a line of text for each; C is the call's
+/// number, 1 to 1,024, in decimal digits without leading zeros. An uplink is cut into blocks of 40 octets, and in
+/// `relay` and `decode` the first block that isn't a good speech frame ends the command. A Pcm line is cut into blocks
+/// of 160 octets. What `encode` and `frames` leave of the line behind the last whole block is told and not used.
 ///
 /// | Status | Comes | Text on the desk |
 /// |---|---|---|
-/// | 0 | the incoming line was worked to its end, or to 4,294,967,295 blocks | `relay frames N`, `decode frames N`, `encode frames N left R` |
+/// | 0 | the incoming line was worked to its end, or to 4,294,967,295 blocks | `relay frames N`, `decode frames N`, `encode frames N left R`; `frames N left R` behind a line of text for each of its N yields |
 /// | 1 | exactly where the words aren't those of a command | `usage` |
 /// | 4 | the desk failed while the command's text went out | a proper front of the command's text |
 /// | 5 | want of memory | `no memory` |
-/// | 6 | a line of the command failed | `line C up failed`, with the line's side |
+/// | 6 | a line of the command failed | `line C up failed`, with the line's side, behind the lines of text that `frames` had told |
 /// | 8 | a block of an uplink isn't a good speech frame, or the line ended inside it | `relay refused N`, `decode refused N`, N being the number of blocks before it |
 pub fn farm_top<T: Trunk, D: Desk>(
     alloc: Global,
@@ -88,26 +95,39 @@ pub fn farm_top<T: Trunk, D: Desk>(
     desk: &mut D,
 ) -> u8
     // Status 1 comes exactly where the words are no command's, and then no line is used.
-    ensures usage { ((t : Tool) (c : ℕ) → AsksFor (map (λ w. string_bytes w) words.now) t c → ⊥) → result ≡ 1 }
-    ensures usage_only { (t : Tool) (c : ℕ) → AsksFor (map (λ w. string_bytes w) words.now) t c → result ≢ 1 }
+    ensures usage { (AreCommand (map (λ w. string_bytes w) words.now) → ⊥) → result ≡ 1 }
+    ensures usage_only { AreCommand (map (λ w. string_bytes w) words.now) → result ≢ 1 }
     ensures usage_text { result ≡ 1 → TextOut (D.desk desk.old) (D.desk desk.new) (codes "usage\n") }
     ensures unused { result ≡ 1 → (c : ℕ) (s : Side) → T.lines trunk.new c s ≡ T.lines trunk.old c s }
 
     // What a command does, whatever fails.
     ensures command { (t : Tool) (c : ℕ) → AsksFor (map (λ w. string_bytes w) words.now) t c →
         Carries t (T.lines trunk.old) (T.lines trunk.new) (D.desk desk.old) (D.desk desk.new) c result }
+    ensures frames { (c : ℕ) → AsksForFrames (map (λ w. string_bytes w) words.now) c →
+        CarriesFrames (T.lines trunk.old) (T.lines trunk.new) (D.desk desk.old) (D.desk desk.new) c result }
 
     // Why each of its statuses comes.
     ensures causes { (t : Tool) (c : ℕ) → AsksFor (map (λ w. string_bytes w) words.now) t c →
         Causes t c (T.lines trunk.old) (T.lines trunk.new) (D.desk desk.old) (D.desk desk.new) result }
+    ensures frames_causes { (c : ℕ) → AsksForFrames (map (λ w. string_bytes w) words.now) c →
+        FramesCauses (T.lines trunk.old c Up) (T.lines trunk.new c Up) (D.desk desk.old) (D.desk desk.new) result }
 
     // Where nothing fails and the outside tells what it holds, the outgoing line has gained exactly what is made of
     // the incoming line's blocks up to the first refused one, and the desk exactly the text.
     ensures clean { (t : Tool) (c : ℕ) → AsksFor (map (λ w. string_bytes w) words.now) t c →
         CleanRun t c (T.lines trunk.old) (T.lines trunk.new) (D.desk desk.old) (D.desk desk.new) result }
+    ensures frames_clean { (c : ℕ) → AsksForFrames (map (λ w. string_bytes w) words.now) c →
+        CleanFrames c (T.lines trunk.old c Up) (T.lines trunk.new c Up) (D.desk desk.old) (D.desk desk.new) result }
 {
     match read_words(words) {
-        Some(asked) => command(alloc, asked, trunk, desk),
+        Some(Asked::Work(tool, call)) => {
+            let end = work(alloc, tool, call, trunk, desk);
+            answer(end, desk)
+        }
+        Some(Asked::Frames(call)) => {
+            let end = frames(alloc, call, trunk, desk);
+            answer(end, desk)
+        }
         None => {
             let _ = tell(desk, b"usage\n");
             USAGE

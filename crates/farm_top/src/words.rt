@@ -1,19 +1,22 @@
 // The words of the command line.
-ghost use Rattle.std.specs.Prelude.{◌≡◌, ℕ, IsNone, IfSome, map, string_bytes};
+ghost use Rattle.std.specs.Prelude.{◌≡◌, ℕ, IsNone, IfSome, map, string_bytes, codes};
 ghost use Rattle.farm_tools.specs.declared.end.Tool.{Tool};
 ghost use Rattle.farm_tools.specs.Made.{name_of};
-ghost use Rattle.farm_top.specs.Words.{AsksFor};
+ghost use Rattle.farm_top.specs.Asked.{Means};
+ghost use Rattle.farm_top.specs.Words.{AreCommand, Names};
 
 use decimal_number::number_of_text;
 use farm_tools::Tool;
 
 const HIGHEST_CALL: u32 = 1024;
 
-/// What the words ask for.
+/// What the words ask for, of the call with this number.
 #[derive(Clone, Copy, Debug, PartialEq, Eq)]
-pub struct Asked {
-    pub tool: Tool,
-    pub call: u32,
+pub enum Asked {
+    /// The work of a tool.
+    Work(Tool, u32),
+    /// The listing of frames.
+    Frames(u32),
 }
 
 // The tool of this name.
@@ -31,13 +34,16 @@ fn tool_named(name: &str) -> Option<Tool>
 
 /// What the words ask for, where they are those of a command.
 pub fn read_words(words: &[String]) -> Option<Asked>
-    ensures some { IfSome result (λ a. AsksFor (map (λ w. string_bytes w) words.now) a.tool a.call) }
-    ensures none { IsNone result → (t : Tool) (c : ℕ) → AsksFor (map (λ w. string_bytes w) words.now) t c → ⊥ }
+    ensures some { IfSome result (λ a. Means (map (λ w. string_bytes w) words.now) a) }
+    ensures none { IsNone result → AreCommand (map (λ w. string_bytes w) words.now) → ⊥ }
 {
     let [name, number] = words else {
         return None;
     };
-    let tool = tool_named(name.as_str())?;
     let call = number_of_text(number.as_str(), 1, HIGHEST_CALL)?;
-    Some(Asked { tool, call })
+    if name.as_str() == "frames" {
+        return Some(Asked::Frames(call));
+    }
+    let tool = tool_named(name.as_str())?;
+    Some(Asked::Work(tool, call))
 }

@@ -1,0 +1,2 @@
+-- Lemmas on listings.
+mod Rounds

@@ -1,0 +1,4 @@
+-- What a listing says and moves.
+pub mod Lists
+pub mod Step
+pub mod Texts

@@ -1,0 +1,14 @@
+//! The listing of the frames that are found on an uplink: a line of text for each yield of the search.
+//!
+//! Between the outside (`trau_io`), frames (`trau_frame`) and their search (`frame_sync`) below and the command
+//! `frames` (`farm_tools`) above. The line is taken period by period, 40 octets of 20 ms each; a yield's text goes to
+//! the desk in the period that holds its last bit. Nothing here takes memory.
+//!
+//! The texts are this project's profile. Definitions: `specs/Texts.antt` (the line of text of a yield, and those of all
+//! periods), `specs/Lists.antt` (what a whole listing moves).
+#![tactic(auto)]
+
+mod list;
+mod text;
+
+pub use list::{ListEnd, list_frames};
