@@ -1,0 +1,4 @@
+mod Rows
+mod Steps
+mod Places
+mod Runs

@@ -1,0 +1,18 @@
+-- The code's state and answer by their fields.
+use Rattle.trau_params.specs.Fields.{fields_of}
+use Rattle.rx_handler.specs.declared.effective.Effective.{Effective}
+use Rattle.rx_handler.specs.declared.effective.Effective.TheVariants as answers
+use Rattle.rx_handler.specs.declared.state.State.{State}
+use Rattle.rx_handler.specs.declared.state.State.TheVariants as states
+use Rattle.rx_handler.specs.Origin.{EffectiveFields, Quiet, Speech, Made}
+use Rattle.rx_handler.specs.Table as table
+
+abbrev pub state_of : State → table.RxState
+state_of states.Quiet = table.Quiet
+state_of (states.Speech lost) = table.Speech (fields_of lost.last) lost.periods
+state_of (states.Noise pause) = table.Noise (fields_of pause.sid) pause.fall.missed pause.fall.periods
+
+abbrev pub effective_fields : Effective → EffectiveFields
+effective_fields answers.Quiet = Quiet
+effective_fields (answers.Speech p) = Speech (fields_of p)
+effective_fields (answers.Made p) = Made (fields_of p)

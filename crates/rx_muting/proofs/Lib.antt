@@ -1,0 +1,3 @@
+pub mod Numbered
+pub mod Maxima
+pub mod Silent

@@ -1,0 +1,19 @@
+//! Muting of block maxima.
+
+ghost use Rattle.std.specs.Prelude.{◌≡◌, ◌≤◌};
+ghost use Rattle.trau_params.specs.Widths.{xmaxc_width, FitWidth};
+ghost use Rattle.rx_muting.specs.Muting.{lowered_maxima};
+
+/// The four block maxima, each less by 4 for each of up to 17 steps, and 0 at least.
+pub fn lowered(xmaxc: &[u8; 4], steps: u8) -> [u8; 4]
+    requires fit { FitWidth xmaxc_width xmaxc.now }
+    requires steps { steps ≤ 17 }
+    ensures value { result ≡ lowered_maxima steps xmaxc.now }
+    ensures fit { FitWidth xmaxc_width result }
+{
+    let mut maxima = [0; 4];
+    for j in 0..4 {
+        maxima[j] = xmaxc[j].saturating_sub(4 * steps);
+    }
+    maxima
+}

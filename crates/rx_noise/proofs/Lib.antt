@@ -1,0 +1,3 @@
+mod Drawn
+mod Falls
+mod Rows

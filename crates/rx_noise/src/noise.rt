@@ -1,0 +1,31 @@
+//! A frame of comfort noise.
+
+ghost use Rattle.std.specs.Prelude.{◌≡◌, ◌≤◌};
+ghost use Rattle.trau_params.specs.Fields.{fields_of};
+ghost use Rattle.rx_muting.specs.Draws.{state_after, draw_of};
+ghost use Rattle.rx_noise.specs.Noise.{noise_of, noise_draws};
+
+use crate::excitation::excitation;
+use rx_muting::lowered;
+use trau_num::Draw;
+use trau_params::{Params, silence};
+
+// The fall at which noise has become silence.
+const SILENT: u8 = 17;
+
+/// The noise frame of the silence descriptor `sid`, whose level has fallen for `fall` periods, at most 17: the
+/// spectrum and the level of the descriptor, 4 off each block maximum for each period of the fall, and grids and
+/// pulses that `draw` gives. From 17 periods on it is silence, for which nothing is drawn.
+#[tactic(auto, using(rx_muting::proofs::Silent::silence_fields), unfolding(crate::specs::Noise::noise_of))]
+pub fn noise_frame(sid: &Params, fall: u8, draw: &mut Draw) -> Params
+    requires { fall ≤ 17 }
+    ensures fields { fields_of result ≡ noise_of (fields_of sid.now) fall (draw_of draw.old.r) }
+    ensures source { draw.new.r ≡ state_after draw.old.r (noise_draws fall) }
+{
+    if fall == SILENT {
+        return silence();
+    }
+    let (mc, xmc) = excitation(draw);
+    let xmaxc = lowered(&sid.xmaxc, fall);
+    Params::new(sid.larc, [40, 120, 40, 120], [0; 4], mc, xmaxc, xmc)
+}

@@ -1,0 +1,2 @@
+mod Grids
+mod Rows

@@ -1,0 +1,55 @@
+//! The frame for a period without speech.
+
+ghost use Rattle.std.specs.Prelude.{◌≡◌, ◌≤◌};
+ghost use Rattle.trau_params.specs.Fields.{fields_of};
+ghost use Rattle.trau_params.specs.Widths.{mc_width, FitWidth};
+ghost use Rattle.rx_muting.specs.Draws.{state_after, draw_of};
+ghost use Rattle.rx_subst.specs.Lost.{random_grids, muted_of, lost_of, lost_draws};
+
+use rx_muting::lowered;
+use trau_num::Draw;
+use trau_params::{Params, silence};
+
+// The first period in a row that is silent.
+const SILENT: u8 = 17;
+
+/// The frame for the `n`-th lost period after the good frame `last`, 1 to 17: the good frame itself in the first; in
+/// the next its block maxima less by 4 for each period since, with grids that `draw` gives; silence in the 17th. In
+/// the first and the 17th nothing is drawn.
+#[tactic(auto, using(rx_muting::proofs::Silent::silence_fields), unfolding(crate::specs::Lost::lost_of, rx_muting::specs::Draws::state_after))]
+pub fn lost_frame(last: &Params, n: u8, draw: &mut Draw) -> Params
+    requires low { 1 ≤ n }
+    requires high { n ≤ 17 }
+    ensures fields { fields_of result ≡ lost_of (fields_of last.now) n (draw_of draw.old.r) }
+    ensures source { draw.new.r ≡ state_after draw.old.r (lost_draws n) }
+{
+    match n {
+        1 => *last,
+        SILENT => silence(),
+        _ => muted(last, n - 1, draw),
+    }
+}
+
+// The good frame with its level lowered by these steps and with random grids.
+#[tactic(auto, unfolding(crate::specs::Lost::muted_of))]
+fn muted(last: &Params, steps: u8, draw: &mut Draw) -> Params
+    requires { steps ≤ 17 }
+    ensures fields { fields_of result ≡ muted_of (fields_of last.now) steps (draw_of draw.old.r) }
+    ensures source { draw.new.r ≡ state_after draw.old.r 4 }
+{
+    let mc = grids(draw);
+    let xmaxc = lowered(&last.xmaxc, steps);
+    Params::new(last.larc, last.nc, last.bc, mc, xmaxc, last.xmc)
+}
+
+fn grids(draw: &mut Draw) -> [u8; 4]
+    ensures values { result ≡ random_grids (draw_of draw.old.r) }
+    ensures source { draw.new.r ≡ state_after draw.old.r 4 }
+    ensures fit { FitWidth mc_width result }
+{
+    let mut mc = [0; 4];
+    for j in 0..4 {
+        mc[j] = draw.next(4) as u8;
+    }
+    mc
+}
