@@ -1,0 +1,7 @@
+pub mod Lists
+pub mod Timing
+pub mod Store
+pub mod Waiting
+pub mod Calls
+pub mod Rings
+pub mod History

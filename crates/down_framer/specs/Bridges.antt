@@ -1,0 +1,14 @@
+-- Which periods can be those of a call with bridges. Lists of periods have the newest first.
+use Rattle.std.specs.Prelude.{◌≡◌, ◌||◌, true, Bool, false, None, List, [], ◌∷◌}
+use Rattle.down_framer.specs.Made.{Period, due, made_frames}
+
+-- whether the newest period lies in a bridge
+abbrev pub in_bridge : {A : Type 0} → List (Period A) → Bool
+in_bridge [] = false
+in_bridge (p ∷ past) = p.bridged
+
+-- a bridge starts only where no handed frame waits, and goes on without a gap
+abbrev pub IsHistory : {A : Type 0} → List (Period A) → Type 0
+IsHistory [] = Unit {0}
+IsHistory (p ∷ past) =
+    IsHistory past × (p.starts ≡ true → due past (made_frames past) ≡ None) × (p.bridged ≡ true → (p.starts || in_bridge past) ≡ true)

@@ -1,0 +1,5 @@
+pub mod Made
+pub mod Bridges
+pub mod Memory
+pub mod Places
+pub mod Rings

@@ -1,0 +1,108 @@
+-- The frames of a downlink and the line that they make, by absolute places of the Pcm line and of the downlink (this
+-- project's profile, in the manner of GSM 08.60). Lists of periods and of frames have the newest first.
+use Rattle.std.specs.Prelude.{ℕ, ◌+◌, ◌-◌, ◌*◌, ℤ, pos, negsuc, Bool, false, if◌then◌else◌, ◌==◌, nat_le, Option, Some, None, is_none, List, [], ◌∷◌, ◌++◌, length, map, take, drop, replicate, filter, find}
+use Rattle.time_align.specs.Shift.{latest_shift}
+
+-- A period of 20 ms as the downlink sees it: the alignment field of its uplink frame of speech or idle, if it has one;
+-- whether a bridge starts at it; whether it lies in a bridge, and so hands a frame over; and whatever else its frames
+-- are to know of it.
+pub record Period (A : Type 0) : Type 0 where
+  pub field : Option ℕ
+  pub starts : Bool
+  pub bridged : Bool
+  pub load : A
+
+-- A made frame: its first octet of the Pcm line; the period that makes it; its shift; the period whose handed frame it
+-- carries; how many bridges had started by then; and what is known of its period.
+pub record MadeFrame (A : Type 0) : Type 0 where
+  pub start : ℕ
+  pub period : ℕ
+  pub shift : ℤ
+  pub carries : Option ℕ
+  pub epoch : ℕ
+  pub load : A
+
+-- how many octets lie between the starts of a frame and of the next one: 160 and its shift
+abbrev pub octets_of : ℤ → ℕ
+octets_of (pos v) = 160 + v
+octets_of (negsuc v) = 159 - v
+
+-- where the next frame starts
+abbrev pub next_start : {A : Type 0} → List (MadeFrame A) → ℕ
+next_start [] = 0
+next_start (f ∷ fs) = f.start + octets_of f.shift
+
+-- the period at which the latest bridge started
+abbrev pub latest_start : {A : Type 0} → List (Period A) → Option ℕ
+latest_start [] = None
+latest_start (p ∷ past) = if p.starts then Some (length past) else latest_start past
+
+-- whether a frame is handed over in period k
+abbrev pub bridged_at : {A : Type 0} → ℕ → List (Period A) → Bool
+bridged_at k [] = false
+bridged_at k (p ∷ past) = if k == length past then p.bridged else bridged_at k past
+
+-- how many frames were made in period s or later
+abbrev pub made_from : {A : Type 0} → ℕ → List (MadeFrame A) → ℕ
+made_from s fs = length (filter (λ f. nat_le s f.period) fs)
+
+-- The period whose handed frame goes out next: of the latest bridge, as many on from its start as frames were made
+-- since, if it lies in the bridge.
+abbrev pub due : {A : Type 0} → List (Period A) → List (MadeFrame A) → Option ℕ
+due ps fs = elim (latest_start ps) [
+  | None ↦ None
+  | Some s ↦ let h = s + made_from s fs in if bridged_at h ps then Some h else None
+]
+
+-- the fields of the periods after that of the last frame that carried nothing, or of all
+abbrev pub fields_since : {A : Type 0} → List (Period A) → List (MadeFrame A) → List (Option ℕ)
+fields_since ps fs = elim (find (λ f. is_none f.carries) fs) [
+  | None ↦ map (λ p. p.field) ps
+  | Some m ↦ take (length ps - (m.period + 1)) (map (λ p. p.field) ps)
+]
+
+-- a frame that carries a handed one has no shift; any other has the one asked for last
+abbrev pub shift_due : {A : Type 0} → List (Period A) → List (MadeFrame A) → ℤ
+shift_due ps fs = elim (due ps fs) [ None ↦ latest_shift (fields_since ps fs) | Some h ↦ pos 0 ]
+
+-- how many bridges started
+abbrev pub epoch_of : {A : Type 0} → List (Period A) → ℕ
+epoch_of ps = length (filter (λ p. p.starts) ps)
+
+-- the next frame, made in the newest period
+abbrev pub next_frame : {A : Type 0} → Period A → List (Period A) → List (MadeFrame A) → MadeFrame A
+next_frame p past fs = record {
+  start = next_start fs;
+  period = length past;
+  shift = shift_due (p ∷ past) fs;
+  carries = due (p ∷ past) fs;
+  epoch = epoch_of (p ∷ past);
+  load = p.load;
+}
+
+-- a frame is made in the period that brings its last octet
+abbrev pub grown : {A : Type 0} → Period A → List (Period A) → List (MadeFrame A) → List (MadeFrame A)
+grown p past fs = if nat_le (next_start fs) (160 * length past) then next_frame p past fs ∷ fs else fs
+
+-- the frames made in these periods; a period makes no frame, one or two
+abbrev pub made_frames : {A : Type 0} → List (Period A) → List (MadeFrame A)
+made_frames [] = []
+made_frames (p ∷ past) = grown p past (grown p past (made_frames past))
+
+-- ---- the line
+
+-- what a frame puts on the downlink: its 320 bits, without the four T bits where it is short, then two ones for each
+-- octet that is lost
+abbrev pub frame_on_line : ℤ → List ℕ → List ℕ
+frame_on_line (pos v) bits = bits ++ replicate (2 * v) 1
+frame_on_line (negsuc v) bits = take 316 bits
+
+-- the downlink as far as it is made: 320 ones, and then the frames; `bits` are those of the newest of some frames
+abbrev pub line_of : {A : Type 0} → (List (MadeFrame A) → List ℕ) → List (MadeFrame A) → List ℕ
+line_of bits [] = replicate 320 1
+line_of bits (f ∷ fs) = line_of bits fs ++ frame_on_line f.shift (bits (f ∷ fs))
+
+-- the 320 bits that are out in the newest period
+abbrev pub down_of : {A : Type 0} → (List (MadeFrame A) → List ℕ) → List (Period A) → List ℕ
+down_of bits [] = []
+down_of bits (p ∷ past) = take 320 (drop (320 * length past) (line_of bits (made_frames (p ∷ past))))

@@ -1,0 +1,19 @@
+-- What a framer's type keeps of its rings.
+use Rattle.std.specs.Prelude.{◌≡◌, ℕ, ◌<◌, ◌≤◌, length, ◌⊎◌}
+use Rattle.circular_buffer.specs.Buffer.{Buffer}
+use Rattle.trau_bits.specs.Bits.{AreBits}
+use Rattle.down_framer.specs.Memory.{FramerMemory, IsBetween, IsWithin}
+
+-- what the rings hold
+abbrev pub memory_of : Buffer ℕ → Buffer ℕ → ℕ → FramerMemory
+memory_of bits octets skip = record { stored = bits.items; held = octets.items; to_skip = skip }
+
+-- Room for 960 bits and 320 octets. At most 156 octets are to be skipped, and only where none are held. A framer is
+-- between periods or within one.
+pub record AreRings (bits octets : Buffer ℕ) (skip : ℕ) : Type 0 where
+  pub rooms : (bits.capacity ≡ 960) × (octets.capacity ≡ 320)
+  pub fits : (length bits.items ≤ 960) × (length octets.items ≤ 320)
+  pub bounded : skip ≤ 156
+  pub none_held : 0 < length octets.items → skip ≡ 0
+  pub are_bits : AreBits bits.items
+  pub phase : IsBetween (memory_of bits octets skip) ⊎ IsWithin (memory_of bits octets skip)

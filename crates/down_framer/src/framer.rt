@@ -1,0 +1,186 @@
+//! Octets that are held and bits that are in store.
+
+ghost use Rattle.std.specs.Prelude.{◌≡◌, ◌≤◌, ◌<◌, ◌+◌, ◌-◌, ◌*◌, ℕ, List, [], ◌∷◌, ◌++◌, length, take, drop, IfOk, nat_le};
+ghost use Rattle.time_align.specs.Shift.{IsShift};
+ghost use Rattle.trau_bits.specs.Bits.{bits_of, AreBits};
+ghost use Rattle.circular_buffer.specs.Buffer.{buffer};
+ghost use Rattle.down_framer.specs.Made.{octets_of, next_start, frame_on_line, next_frame, shift_due, made_frames, down_of};
+ghost use Rattle.down_framer.specs.Memory.{new_memory, after_put, after_frame, after_take, IsBetween, IsWithin};
+ghost use Rattle.down_framer.specs.Places.{Holds, PcmPeriod, PcmFrame, StandsBetween, StandsWithin};
+
+use circular_buffer::HeapCircularBuffer;
+use std::alloc::{AllocError, Global};
+use std::marker::Model;
+use trau_bits::pack;
+
+/// The downlink of one call: bits of made frames that are not yet out, octets of the Pcm line that no frame has taken
+/// yet, and how many of those to come are to be skipped. A period is one `put`, then a `frame` as long as one is
+/// `ready`, then one `take`.
+#[derive(Drop)]
+pub struct Framer {
+    bits: HeapCircularBuffer<u8>,
+    octets: HeapCircularBuffer<u8>,
+    skip: u32,
+}
+
+impl Model for Framer {
+    ghost use Rattle.down_framer.specs.Memory.{FramerMemory};
+    ghost use Rattle.down_framer.specs.Rings.{memory_of, AreRings};
+
+    ghost Value = { FramerMemory };
+
+    ghost view = { λ f. memory_of f.bits f.octets f.skip };
+
+    ghost invariant = { λ f. AreRings f.bits f.octets f.skip };
+}
+
+const ONES: [u8; 320] = [1; 320];
+
+// Copies the first items of a ring.
+fn copy_first(ring: &HeapCircularBuffer<u8>, to: &mut [u8])
+    requires { length to.old ≤ length ring.now.items }
+    ensures { to.new ≡ take (length to.old) ring.now.items }
+{
+    for (i, x) in to.iter_mut().enumerate() {
+        if let Some(item) = ring.get(i) {
+            *x = *item;
+        }
+    }
+}
+
+// How many octets lie between the starts of a frame and of the next one.
+fn step_of(shift: i16) -> usize
+    requires { IsShift shift }
+    ensures value { result ≡ octets_of shift }
+    ensures within { (158 ≤ result) × (result ≤ 316) }
+{
+    if shift < 0 { 158 } else { 160 + shift as usize }
+}
+
+impl Framer {
+    /// A framer before the first period: 320 ones are in store. It has room for every period.
+    pub fn new(alloc: Global) -> Result<Framer, AllocError>
+        ensures value { IfOk result (λ framer. framer ≡ new_memory) }
+        ensures between { IfOk result (λ framer. IsBetween framer) }
+        ensures history { IfOk result (λ framer. (bits : List PcmFrame → List ℕ) → StandsBetween bits [] framer) }
+    {
+        let mut bits = HeapCircularBuffer::with_capacity(alloc, 960)?;
+        bits.fill_from_slice(&ONES);
+        let octets = HeapCircularBuffer::with_capacity(alloc, 320)?;
+        Ok(Framer {
+            bits,
+            octets,
+            skip: 0,
+        })
+    }
+
+    /// Takes the 160 octets of a period from the Pcm line: skips what is to be skipped, and holds the rest.
+    pub fn put(&mut self, octets: &[u8; 160])
+        requires between { IsBetween self.old }
+        ensures step { self.new ≡ after_put self.old octets.now }
+        ensures within { IsWithin self.new }
+
+        // By absolute places, of whatever lines.
+        ensures places { (pcm line : List ℕ) (out start : ℕ) → Holds pcm line out start self.old →
+            Holds (pcm ++ octets.now) line out start self.new }
+
+        // After the periods of any past, this one begins.
+        ensures history { (bits : List PcmFrame → List ℕ) (past : List PcmPeriod) (p : PcmPeriod) → p.load ≡ octets.now →
+            StandsBetween bits past self.old → StandsWithin bits p past (made_frames past) self.new }
+    {
+        self.octets.fill_from_slice(&octets[self.skip as usize..]);
+        self.skip = 0;
+    }
+
+    /// Whether a frame is to be made: 160 octets are held.
+    pub fn ready(&self) -> bool
+        ensures value { result ≡ nat_le 160 (length self.now.held) }
+        ensures history { (bits : List PcmFrame → List ℕ) (p : PcmPeriod) (past : List PcmPeriod) (fs : List PcmFrame) →
+            StandsWithin bits p past fs self.now → result ≡ nat_le (next_start fs) (160 * length past) }
+    {
+        self.octets.len() >= 160
+    }
+
+    /// The 160 octets of the next frame.
+    pub fn block(&self, octets: &mut [u8; 160])
+        requires ready { 160 ≤ length self.now.held }
+        ensures value { octets.new ≡ take 160 self.now.held }
+        ensures places { (pcm line : List ℕ) (out start : ℕ) → Holds pcm line out start self.now →
+            octets.new ≡ take 160 (drop start pcm) }
+    {
+        copy_first(&self.octets, octets);
+    }
+
+    /// Takes the next frame, of 320 bits: puts it into store with what its shift adds or leaves out, and takes its
+    /// octets away. The shift is in octets of the Pcm line, 0 to 156 or -2.
+    pub fn frame(&mut self, f: &[u8; 320], shift: i16)
+        requires ready { 160 ≤ length self.old.held }
+        requires shift { IsShift shift }
+        requires bits { AreBits f.now }
+        ensures step { self.new ≡ after_frame self.old f.now shift }
+        ensures within { IsWithin self.new }
+        ensures taken { length self.new.held ≤ length self.old.held - 158 }
+
+        // By absolute places, of whatever lines.
+        ensures places { (pcm line : List ℕ) (out start : ℕ) → out ≤ length line → Holds pcm line out start self.old →
+            Holds pcm (line ++ frame_on_line shift f.now) out (start + octets_of shift) self.new }
+
+        // Within a period of any history, this is the next frame.
+        ensures history { (bits : List PcmFrame → List ℕ) (p : PcmPeriod) (past : List PcmPeriod) (fs : List PcmFrame) →
+            shift ≡ shift_due (p ∷ past) fs → f.now ≡ bits (next_frame p past fs ∷ fs) →
+            StandsWithin bits p past fs self.old → StandsWithin bits p past (next_frame p past fs ∷ fs) self.new }
+    {
+        let step = step_of(shift);
+        let held = self.octets.len();
+        let gone = step.min(held);
+        let kept = (2 * step).min(320);
+        let more = (2 * step).saturating_sub(320);
+        self.bits.fill_from_slice(&f[..kept]);
+        self.bits.fill_from_slice(&ONES[..more]);
+        self.octets.truncate_front(held - gone);
+        self.skip = (step - gone) as u32;
+    }
+
+    /// Gives out the 320 bits of a period in which no frame is left to be made, as 40 octets.
+    pub fn take(&mut self, octets: &mut [u8; 40])
+        requires within { IsWithin self.old }
+        requires not_ready { length self.old.held < 160 }
+        ensures step { self.new ≡ after_take self.old }
+        ensures between { IsBetween self.new }
+        ensures bits { bits_of octets.new ≡ take 320 self.old.stored }
+
+        // By absolute places, of whatever lines.
+        ensures places { (pcm line : List ℕ) (out start : ℕ) → Holds pcm line out start self.old →
+            Holds pcm line (out + 320) start self.new × (bits_of octets.new ≡ take 320 (drop out line)) }
+
+        // A period of any history ends, and its octets are those of the downlink.
+        ensures history { (bits : List PcmFrame → List ℕ) (p : PcmPeriod) (past : List PcmPeriod) (fs : List PcmFrame) →
+            StandsWithin bits p past fs self.old →
+            StandsBetween bits (p ∷ past) self.new × (bits_of octets.new ≡ down_of bits (p ∷ past)) }
+    {
+        let mut bits = [0; 320];
+        self.bits.read_into(&mut bits);
+        pack(&bits, octets);
+    }
+
+    /// How many bits are in store.
+    pub fn stored(&self) -> u32
+        ensures { result ≡ length self.now.stored }
+    {
+        self.bits.len() as u32
+    }
+
+    /// How many octets are held.
+    pub fn held(&self) -> u32
+        ensures { result ≡ length self.now.held }
+    {
+        self.octets.len() as u32
+    }
+
+    /// How many octets of those to come are to be skipped.
+    pub fn to_skip(&self) -> u32
+        ensures { result ≡ self.now.to_skip }
+    {
+        self.skip
+    }
+}

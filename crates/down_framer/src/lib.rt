@@ -1,0 +1,18 @@
+//! The downlink of a call, cut into periods (this project's profile, in the manner of GSM 08.60).
+//!
+//! Between the exchange's line (160 octets a period of 20 ms) and the downlink (40 octets a period): keeps the octets
+//! that no frame has taken yet, tells when a frame is to be made and of which 160 octets, takes its 320 bits, and gives
+//! out the bits of each period. A shift moves the frames: octets are lost and ones go out after the frame, or two
+//! octets are taken a second time and the frame goes without its four T bits. One octet of the exchange's line is two
+//! bits of the downlink, so what is held, in store and to be skipped is always balanced.
+//!
+//! `framer` has the two rings. Definitions: `specs/Made.antt` (the made frames and the downlink, by absolute places),
+//! `specs/ByNumber.antt` (the same frame by frame, over a list of bridges), `specs/Places.antt` (what a framer holds, by
+//! absolute places), `specs/Memory.antt` (one call after another). Used by a call's leg.
+#![tactic(auto)]
+
+mod framer;
+#[cfg(test)]
+mod tests;
+
+pub use framer::Framer;

@@ -1,0 +1,3 @@
+-- What a report is, and its text.
+pub mod View
+pub mod Lines

@@ -1,0 +1,19 @@
+//! The report of a run: what became of its orders, bridges and calls, as text.
+//!
+//! At the end of a run: takes the board's replies and spans, the calls' ends and counts and the lines that failed, as
+//! the rounds told them, and gives the text that goes to the desk.
+//!
+//! The text is this project's profile. `report` has the report, `lines` one function for each kind of line, `text`
+//! the whole.
+//! Definitions: `specs/Lines.antt` (each line, and the whole text), `specs/View.antt`.
+#![tactic(auto)]
+
+mod lines;
+mod report;
+mod text;
+
+pub use report::{CallLine, Report, SpanLine};
+pub use text::write_report;
+
+#[cfg(test)]
+mod tests;

@@ -1,0 +1,49 @@
+// What a report tells.
+use std::marker::Model;
+use switchboard::{Reply, Span};
+use trau_io::{CallEnd, Counts, Line};
+
+/// A call of the run: from its first period to its end, with what was counted of its periods.
+#[derive(Clone, Copy, Debug, PartialEq, Eq)]
+pub struct CallLine {
+    pub end: CallEnd,
+    pub from: u32,
+    pub counts: Counts,
+}
+
+/// A bridge of the run, with the handed frames that were sent and lost.
+#[derive(Clone, Copy, Debug, PartialEq, Eq)]
+pub struct SpanLine {
+    pub span: Span,
+    /// Frames of call `a` that call `b` sent.
+    pub sent_a: u32,
+    /// Frames of call `b` that call `a` sent.
+    pub sent_b: u32,
+    /// Frames of call `a` that call `b` left unsent.
+    pub lost_a: u32,
+    /// Frames of call `b` that call `a` left unsent.
+    pub lost_b: u32,
+}
+
+/// What a run tells of itself. The text follows the lists as they stand. Contracts see its numbers and its lists.
+#[derive(Drop)]
+pub struct Report {
+    /// The executed orders.
+    pub replies: Vec<Reply>,
+    /// The bridges, in the order of their acceptance.
+    pub spans: Vec<SpanLine>,
+    /// The calls, in rising order of their numbers.
+    pub calls: Vec<CallLine>,
+    /// The lines that failed, by call and then in the order up, pcm, down, out.
+    pub failed: Vec<Line>,
+    /// The number of orders that weren't executed.
+    pub left: u32,
+}
+
+impl Model for Report {
+    ghost use Rattle.farm_report.specs.View.{ReportView};
+
+    ghost Value = { ReportView };
+
+    ghost view = { λ r. record { replies = r.replies.items; spans = r.spans.items; calls = r.calls.items; failed = r.failed.items; left = r.left } };
+}

@@ -1,0 +1,13 @@
+pub mod Lists
+pub mod Spans
+pub mod Known
+pub mod Steps
+pub mod Tables
+pub mod Replies
+pub mod Moves
+pub mod Boards
+pub mod Runs
+pub mod Whole
+pub mod Laws
+mod Worked
+pub mod Appending

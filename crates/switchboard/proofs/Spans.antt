@@ -1,0 +1,53 @@
+-- Where a bridge's span stands among the spans.
+use Rattle.std.proofs.Common.{◌≡◌, refl, sym, ap, ◌∙◌, ℕ, ◌<◌, ◌≤◌, Option, Some, None, List, [], length, map, get_or, take, replicate, suc, zero, arith}
+use Rattle.std.specs.Prelude.{option_map}
+use Rattle.std.specs.List.{filter_map}
+use Rattle.std.proofs.lemmas.List.{length-map, take-map, get_or-map, length-replicate}
+use Rattle.switchboard.specs.declared.table.Bridge.{Bridge}
+use Rattle.switchboard.specs.declared.table.Call.{Call}
+use Rattle.switchboard.specs.declared.act.Span.{Span}
+use Rattle.switchboard.specs.Ends.{span_to}
+use Rattle.switchboard.specs.Rows.{Rows, rows, IsSized, never, bridge_at_place, end_in, span_in, position_in}
+use Rattle.switchboard.specs.Bridges.{no_bridge}
+use Rattle.switchboard.proofs.Lists.{somes, filter_map-somes, somes-take, somes-take-lt, somes-fewer-lt}
+
+pub position-somes : (r : Rows) (k : ℕ) → position_in r k ≡ length (somes (take k (map (span_in r) r.bridges)))
+position-somes r k = ap length (filter_map-somes (span_in r) (take k r.bridges) ∙ ap somes (sym (take-map (span_in r) k r.bridges)))
+
+pub position-le : (r : Rows) (k : ℕ) → r.spans ≡ filter_map (span_in r) r.bridges → position_in r k ≤ length r.spans
+position-le r k e =
+    let p = position-somes r k in
+    let s = ap length (e ∙ filter_map-somes (span_in r) r.bridges) in
+    omega (arith, somes-take (map (span_in r) r.bridges) k, p, s)
+
+pub span_at : (r : Rows) (k : ℕ) (o : Option ℕ) → k < length r.bridges → end_in r (bridge_at_place r k) ≡ o → get_or (map (span_in r) r.bridges) k None ≡ option_map (span_to (bridge_at_place r k)) o
+span_at r k o h e = get_or-map (span_in r) r.bridges k no_bridge None h ∙ ap (option_map (span_to (bridge_at_place r k))) e
+
+pub position-lt : (r : Rows) (k v : ℕ) → r.spans ≡ filter_map (span_in r) r.bridges → k < length r.bridges → end_in r (bridge_at_place r k) ≡ Some v → position_in r k < length r.spans
+position-lt r k v e h ended =
+    let p = position-somes r k in
+    let s = ap length (e ∙ filter_map-somes (span_in r) r.bridges) in
+    let l = length-map r.bridges (span_in r) in
+    omega (arith, somes-take-lt (map (span_in r) r.bridges) k (span_to (bridge_at_place r k) v) (omega arith) (span_at r k (Some v) h ended), p, s)
+
+pub spans-few : (r : Rows) (k : ℕ) → r.spans ≡ filter_map (span_in r) r.bridges → k < length r.bridges → end_in r (bridge_at_place r k) ≡ None → length r.spans < length r.bridges
+spans-few r k e h ended =
+    let s = ap length (e ∙ filter_map-somes (span_in r) r.bridges) in
+    let l = length-map r.bridges (span_in r) in
+    omega (arith, somes-fewer-lt (map (span_in r) r.bridges) k (omega arith) (span_at r k None h ended), s)
+
+never_past : (n i : ℕ) → get_or (replicate n never) i never ≡ never
+never_past zero i = refl
+never_past (suc n) zero = refl
+never_past (suc n) (suc i) = never_past n i
+
+pub sized-new : (bs : List Bridge) → bs ≡ [] → IsSized (replicate 4097 never) bs
+sized-new bs e = record {
+  all = length-replicate 4097 never;
+  places = λ c. rw (never_past 4097 c) tt;
+  named = λ k h. absurd (let l = ap length e in omega arith);
+}
+
+pub rows-new : (cs : List Call) (bs : List Bridge) (ss : List Span) (most : ℕ) → cs ≡ replicate 4097 never → bs ≡ [] → ss ≡ [] →
+    rows cs bs ss most ≡ rows (replicate 4097 never) [] [] most
+rows-new cs bs ss most p q r = cc

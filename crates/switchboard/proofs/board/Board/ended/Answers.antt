@@ -1,0 +1,31 @@
+use Rattle.std.proofs.Common.{◌≤◌, sym, ap, ◌∙◌, subst, arith}
+use Rattle.switchboard.specs.State.{State, last_stamp, gone_in, told_more}
+use Rattle.switchboard.specs.Calls.{is_open}
+use Rattle.switchboard.specs.Rows.{Rows}
+use Rattle.switchboard.specs.Stands.{IsBoard, state_of, dones}
+use Rattle.switchboard.proofs.Boards.{bridges-bound, told_call, board-told, state-told}
+use Rattle.switchboard.proofs.Laws.{before_more}
+use Rattle.switchboard.proofs.board.Board.ended.Goals as goal
+
+pub end_call-requires-clause-few : goal.end_call-requires-clause-few
+end_call-requires-clause-few c =
+    let b = c.self.invariant.0 in
+    omega (arith, bridges-bound c.self.inside.orders c.self.inside.replies.items c.self.inside.table b, b.most, b.few)
+
+pub invariant_of-self : goal.invariant_of-self
+invariant_of-self c =
+    let i = c.self.inside in
+    let os = i.orders in
+    let xs = i.replies.items in
+    let o = told_call os xs i.table c.args.end.call c.self.invariant.0 (ap (λ (s : State). is_open (gone_in s) s.done c.args.end.call) c.self.view_is ∙ c.requires.open) in
+    let late : last_stamp (dones os xs) ≤ c.args.end.at = subst (λ (s : State). last_stamp s.done ≤ c.args.end.at) (sym c.self.view_is) c.requires.late in
+    (subst (λ (n : Rows). IsBoard os xs n) (sym c.end_call.ensures) (board-told os xs i.table c.args.end.call c.args.end.at c.self.invariant.0 c.sized.ensures late o), c.self.invariant.1)
+
+pub returns-clause-state : goal.returns-clause-state
+returns-clause-state c =
+    let i = c.self.inside in
+    ap (state_of i.orders i.replies.items) c.end_call.ensures ∙ state-told i.orders i.replies.items i.table c.args.end.call c.args.end.at
+    ∙ ap (λ (s : State). told_more s c.args.end.call c.args.end.at) c.self.view_is
+
+pub returns-clause-told : goal.returns-clause-told
+returns-clause-told c = before_more c.args.self.now _ c.args.end.call c.args.end.at (returns-clause-state c)

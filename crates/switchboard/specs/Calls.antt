@@ -1,0 +1,47 @@
+-- Which calls are open. Lists of executed orders have the oldest first.
+use Rattle.std.specs.Prelude.{ℕ, ◌+◌, Bool, false, not, ◌&&◌, ◌==◌, nat_lt, Option, Some, None, is_some, option_map, find, Result, Ok, List}
+use Rattle.trau_orders.specs.declared.order.Order.{Order}
+use Rattle.switchboard.specs.declared.act.Act.{Act}
+use Rattle.switchboard.specs.declared.act.Act.TheVariants as act
+use Rattle.switchboard.specs.declared.act.Refusal.{Refusal}
+
+-- an executed order, and whether it was accepted or refused
+pub record Done : Type 0 where
+  pub order : Order
+  pub result : Result Act Refusal
+
+-- the call that an order opened
+abbrev pub opened_by : Result Act Refusal → Option ℕ
+opened_by (Ok (act.Opened c)) = Some c
+opened_by _ = None
+
+-- the call that an order closed
+abbrev pub closed_by : Result Act Refusal → Option ℕ
+closed_by (Ok (act.Closed c partner)) = Some c
+closed_by _ = None
+
+-- there is a number, and it is this one
+abbrev pub is_this : ℕ → Option ℕ → Bool
+is_this c None = false
+is_this c (Some d) = c == d
+
+-- the stamp of the order that opened a call
+abbrev pub opened_at : ℕ → List Done → Option ℕ
+opened_at c ds = option_map (λ d. d.order.stamp) (find (λ d. is_this c (opened_by d.result)) ds)
+
+-- the stamp of the order that closed a call
+abbrev pub closed_at : ℕ → List Done → Option ℕ
+closed_at c ds = option_map (λ d. d.order.stamp) (find (λ d. is_this c (closed_by d.result)) ds)
+
+-- A call is open where an order opened it, none closed it, and it isn't gone: `gone` are the calls that their lines ended.
+abbrev pub is_open : (ℕ → Bool) → List Done → ℕ → Bool
+is_open gone ds c = is_some (opened_at c ds) && not (is_some (closed_at c ds)) && not (gone c)
+
+-- A call has ended where an order opened it and it isn't open.
+abbrev pub has_ended : (ℕ → Bool) → List Done → ℕ → Bool
+has_ended gone ds c = is_some (opened_at c ds) && not (is_open gone ds c)
+
+-- A call is gone at period t where its natural end is before t: the period that it was opened at, and the `whole` periods
+-- that its lines give. At its natural end itself it is still open.
+abbrev pub gone_at : (ℕ → ℕ) → ℕ → List Done → ℕ → Bool
+gone_at whole t ds c = elim (opened_at c ds) [ None ↦ false | Some s ↦ nat_lt (s + whole c) t ]

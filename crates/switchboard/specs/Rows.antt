@@ -1,0 +1,143 @@
+-- The table of calls and bridges, as plain data.
+use Rattle.std.specs.Prelude.{◌≡◌, ◌<◌, ℕ, Bool, not, ◌&&◌, if◌then◌else◌, nat_lt, Option, Some, None, is_some, is_none, option_map, IfSome, Result, Ok, Err, List, [], ◌∷◌, ◌++◌, length, take}
+use Rattle.std.proofs.Common.{get_or, set}
+use Rattle.std.specs.List.{filter_map, insert}
+use Rattle.switchboard.specs.declared.act.Act.{Act}
+use Rattle.switchboard.specs.declared.act.Act.TheVariants as act
+use Rattle.switchboard.specs.declared.act.Refusal.{Refusal}
+use Rattle.switchboard.specs.declared.act.Span.{Span}
+use Rattle.switchboard.specs.declared.table.Call.{Call}
+use Rattle.switchboard.specs.declared.table.Bridge.{Bridge}
+use Rattle.switchboard.specs.Replies.{Known}
+use Rattle.switchboard.specs.Calls.{is_this}
+use Rattle.switchboard.specs.Bridges.{no_bridge}
+use Rattle.switchboard.specs.Ends.{least, span_to}
+
+pub record Rows : Type 0 where
+  pub calls : List Call
+  pub bridges : List Bridge
+  pub spans : List Span
+  pub most : ℕ
+
+abbrev pub never : Call
+never = record { opened = None; closed = None; gone = None; bridge = None }
+
+-- there is a place for each call number, and the places and numbers that are kept are there
+pub record IsSized (calls : List Call) (bridges : List Bridge) : Type 0 where
+  pub all : length calls ≡ 4097
+  pub places : (c : ℕ) → IfSome (get_or calls c never).bridge (λ k. k < length bridges)
+  pub named : (k : ℕ) → k < length bridges → ((get_or bridges k no_bridge).a < 4097) × ((get_or bridges k no_bridge).b < 4097)
+
+-- ---- what is read
+
+abbrev pub call_in : Rows → ℕ → Call
+call_in r c = get_or r.calls c never
+
+abbrev pub bridge_at_place : Rows → ℕ → Bridge
+bridge_at_place r k = get_or r.bridges k no_bridge
+
+abbrev pub is_open_in : Rows → ℕ → Bool
+is_open_in r c = is_some (call_in r c).opened && not (is_some (call_in r c).closed) && not (is_some (call_in r c).gone)
+
+abbrev pub has_ended_in : Rows → ℕ → Bool
+has_ended_in r c = is_some (call_in r c).opened && not (is_open_in r c)
+
+abbrev pub is_live_in : Rows → Bridge → Bool
+is_live_in r x = is_none x.ended && is_open_in r x.a && is_open_in r x.b
+
+abbrev pub some_if : {X : Type 0} → Bool → X → Option X
+some_if b x = if b then Some x else None
+
+-- the latest bridge of a call, where both of its calls are open
+abbrev pub bridge_in : Rows → ℕ → Option Bridge
+bridge_in r c = elim (call_in r c).bridge [ None ↦ None | Some k ↦ some_if (is_live_in r (bridge_at_place r k)) (bridge_at_place r k) ]
+
+-- the latest bridge of a call, where an order with stamp t ended it
+abbrev pub bridge_ended_in : Rows → ℕ → ℕ → Option Bridge
+bridge_ended_in r t c = elim (call_in r c).bridge [ None ↦ None | Some k ↦ some_if (is_this t (bridge_at_place r k).ended) (bridge_at_place r k) ]
+
+abbrev pub known_in : Rows → ℕ → Known
+known_in r t = record {
+  is_open = is_open_in r;
+  has_ended = has_ended_in r;
+  bridge_of = bridge_in r;
+  bridge_ended = bridge_ended_in r t;
+}
+
+abbrev pub end_in : Rows → Bridge → Option ℕ
+end_in r x = least x.ended (least (call_in r x.a).gone (call_in r x.b).gone)
+
+abbrev pub span_in : Rows → Bridge → Option Span
+span_in r x = option_map (span_to x) (end_in r x)
+
+-- how many of the bridges before place k are over
+abbrev pub position_in : Rows → ℕ → ℕ
+position_in r k = length (filter_map (span_in r) (take k r.bridges))
+
+-- ---- what is written
+
+abbrev pub opened_in : Rows → ℕ → ℕ → Rows
+opened_in r t c = record r { calls = set r.calls c (record (call_in r c) { opened = Some t }) }
+
+abbrev pub closed_in : Rows → ℕ → ℕ → Rows
+closed_in r t c = record r { calls = set r.calls c (record (call_in r c) { closed = Some t }) }
+
+abbrev pub with_bridge : List Call → ℕ → ℕ → List Call
+with_bridge calls k c = set calls c (record (get_or calls c never) { bridge = Some k })
+
+abbrev pub bridged_in : Rows → ℕ → ℕ → ℕ → Rows
+bridged_in r t a b = record r {
+  calls = with_bridge (with_bridge r.calls (length r.bridges) a) (length r.bridges) b;
+  bridges = r.bridges ++ record { a = a; b = b; from = t; ended = None } ∷ [];
+}
+
+abbrev pub ended_at_place : Rows → ℕ → ℕ → Rows
+ended_at_place r t k = record r { bridges = set r.bridges k (record (bridge_at_place r k) { ended = Some t }) }
+
+abbrev pub parted_at : Rows → ℕ → ℕ → Rows
+parted_at r t k = record (ended_at_place r t k) { spans = insert r.spans (position_in r k) (span_to (bridge_at_place r k) t) }
+
+-- an order with stamp t ends the latest bridge of a call
+abbrev pub parted_in : Rows → ℕ → ℕ → Rows
+parted_in r t c = elim (call_in r c).bridge [ None ↦ r | Some k ↦ parted_at r t k ]
+
+-- the spans after the end of a call whose latest bridge is at place k
+abbrev pub spans_after : Rows → ℕ → ℕ → List Span
+spans_after r at k = elim (end_in r (bridge_at_place r k)) [
+  | None ↦ insert r.spans (position_in r k) (span_to (bridge_at_place r k) at)
+  | Some v ↦ if nat_lt at v then set r.spans (position_in r k) (span_to (bridge_at_place r k) at) else r.spans
+]
+
+abbrev pub spans_ended_in : Rows → ℕ → ℕ → Rows
+spans_ended_in r at c = record r { spans = elim (call_in r c).bridge [ None ↦ r.spans | Some k ↦ spans_after r at k ] }
+
+abbrev pub gone_in_rows : Rows → ℕ → ℕ → Rows
+gone_in_rows r at c = record r { calls = set r.calls c (record (call_in r c) { gone = Some at }) }
+
+-- a call's lines end it at a period
+abbrev pub call_ended_in : Rows → ℕ → ℕ → Rows
+call_ended_in r at c = gone_in_rows (spans_ended_in r at c) at c
+
+abbrev pub closes_bridge : Option ℕ → Rows → ℕ → ℕ → Rows
+closes_bridge None r t c = r
+closes_bridge (Some d) r t c = parted_in r t c
+
+-- the table after a reply
+abbrev pub applied : Rows → ℕ → Result Act Refusal → Rows
+applied r t (Ok (act.Opened c)) = opened_in r t c
+applied r t (Ok (act.Closed c p)) = closed_in (closes_bridge p r t c) t c
+applied r t (Ok (act.Bridged a b)) = bridged_in r t a b
+applied r t (Ok (act.Unbridged a b)) = parted_in r t a
+applied r t _ = r
+
+-- no refusal, or this one
+abbrev pub passes : Option Refusal → Result (Unit {0}) Refusal
+passes None = Ok tt
+passes (Some r) = Err r
+
+abbrev pub rows : List Call → List Bridge → List Span → ℕ → Rows
+rows cs bs ss most = record { calls = cs; bridges = bs; spans = ss; most = most }
+
+-- the calls that were told to have ended
+abbrev pub gone_of : Rows → ℕ → Bool
+gone_of r c = is_some (call_in r c).gone

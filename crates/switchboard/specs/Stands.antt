@@ -1,0 +1,79 @@
+-- What the table keeps of the orders that were executed.
+use Rattle.std.specs.Prelude.{◌≡◌, ◌+◌, ◌<◌, ◌≤◌, ℕ, true, false, Option, Some, None, is_some, Result, Ok, List, [], ◌∷◌, length, map, drop}
+use Rattle.std.proofs.Common.{get_or}
+use Rattle.std.specs.List.{filter_map}
+use Rattle.trau_orders.specs.declared.order.Order.{Order}
+use Rattle.trau_orders.specs.Lists.{AreOrders}
+use Rattle.switchboard.specs.declared.act.Act.{Act}
+use Rattle.switchboard.specs.declared.act.Act.TheVariants as act
+use Rattle.switchboard.specs.declared.act.Refusal.{Refusal}
+use Rattle.switchboard.specs.declared.act.Reply.{Reply}
+use Rattle.switchboard.specs.declared.table.Bridge.{Bridge}
+use Rattle.switchboard.specs.Calls.{Done, opened_at, closed_at}
+use Rattle.switchboard.specs.Bridges.{bridges, joins, no_bridge}
+use Rattle.switchboard.specs.Rows.{Rows, call_in, bridge_at_place, is_open_in, end_in, span_in}
+use Rattle.switchboard.specs.State.{State, last_stamp, numbered}
+
+-- a bridge was over before period t
+pub record IsOver (r : Rows) (t : ℕ) (x : Bridge) : Type 0 where
+  pub at : ℕ
+  pub ended : end_in r x ≡ Some at
+  pub before : at < t
+
+-- the place of the latest bridge of a call
+abbrev pub IsLatest : List Bridge → ℕ → Option ℕ → Type 0
+IsLatest bs c None = (j : ℕ) → j < length bs → joins c (get_or bs j no_bridge) ≡ false
+IsLatest bs c (Some k) =
+    (k < length bs) × (joins c (get_or bs k no_bridge) ≡ true) × ((j : ℕ) → k < j → j < length bs → joins c (get_or bs j no_bridge) ≡ false)
+
+-- a bridge at a time
+pub record IsSound (r : Rows) (now : ℕ) (x : Bridge) : Type 0 where
+  pub from : x.from ≤ now
+  pub known : (is_some (call_in r x.a).opened ≡ true) × (is_some (call_in r x.b).opened ≡ true)
+  pub ended : (s : ℕ) → x.ended ≡ Some s → (end_in r x ≡ Some s) × (s ≤ now)
+  pub lasts : end_in r x ≡ None → (is_open_in r x.a ≡ true) × (is_open_in r x.b ≡ true)
+
+-- the bridges of a table at a time: a call's earlier bridges were over before its later ones began
+pub record IsTable (r : Rows) (now : ℕ) : Type 0 where
+  pub latest : (c : ℕ) → c < 4097 → IsLatest r.bridges c (call_in r c).bridge
+  pub sound : (k : ℕ) → k < length r.bridges → IsSound r now (bridge_at_place r k)
+  pub over : (c i j : ℕ) → i < j → j < length r.bridges → joins c (bridge_at_place r i) ≡ true → joins c (bridge_at_place r j) ≡ true →
+      IsOver r (bridge_at_place r j).from (bridge_at_place r i)
+  pub shut : (c s j : ℕ) → (call_in r c).closed ≡ Some s → j < length r.bridges → joins c (bridge_at_place r j) ≡ true → IsOver r (s + 1) (bridge_at_place r j)
+  pub untold : (c s : ℕ) → (call_in r c).closed ≡ Some s → (call_in r c).gone ≡ None
+  pub spans : r.spans ≡ filter_map (span_in r) r.bridges
+
+-- the table of a list of executed orders
+pub record Stands (r : Rows) (ds : List Done) : Type 0 where
+  pub opened : (c : ℕ) → c < 4097 → (call_in r c).opened ≡ opened_at c ds
+  pub closed : (c : ℕ) → c < 4097 → (call_in r c).closed ≡ closed_at c ds
+  pub inside : (c : ℕ) → is_some (opened_at c ds) ≡ true → c < 4097
+  pub bridges : r.bridges ≡ bridges ds
+  pub table : IsTable r (last_stamp ds)
+
+-- the orders with their replies
+abbrev pub dones : List Order → List Reply → List Done
+dones (o ∷ os) (x ∷ xs) = record { order = o; result = x.result } ∷ dones os xs
+dones _ _ = []
+
+abbrev pub state_of : List Order → List Reply → Rows → State
+state_of os xs r = record { left = drop (length xs) os; done = dones os xs; told = map (λ e. e.gone) r.calls }
+
+pub record IsBoard (os : List Order) (xs : List Reply) (r : Rows) : Type 0 where
+  pub orders : AreOrders os
+  pub few : length xs ≤ length os
+  pub numbered : xs ≡ numbered 0 (dones os xs)
+  pub most : r.most ≡ length os
+  pub stands : Stands r (dones os xs)
+
+-- no stamp of a list is below the first
+pub record AreRising (os : List Order) : Type 0 where
+  pub rising : (k : ℕ) (d : Order) → k < length os → (get_or os 0 d).stamp ≤ (get_or os k d).stamp
+
+-- the calls of an act are in the table
+abbrev pub InTable : Result Act Refusal → Type 0
+InTable (Ok (act.Opened c)) = c < 4097
+InTable (Ok (act.Closed c p)) = c < 4097
+InTable (Ok (act.Bridged a b)) = (a < 4097) × (b < 4097)
+InTable (Ok (act.Unbridged a b)) = a < 4097
+InTable _ = Unit {0}

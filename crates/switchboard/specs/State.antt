@@ -1,0 +1,81 @@
+-- What is seen of a board, and its steps.
+use Rattle.std.specs.Prelude.{◌+◌, ◌<◌, ℕ, Bool, if◌then◌else◌, ◌==◌, Option, Some, None, is_some, IfSome, List, [], ◌∷◌, ◌++◌, length, map, drop, replicate}
+use Rattle.std.proofs.Common.{get_or, set}
+use Rattle.trau_orders.specs.declared.order.Order.{Order}
+use Rattle.switchboard.specs.declared.act.Reply.{Reply}
+use Rattle.switchboard.specs.Calls.{Done}
+use Rattle.switchboard.specs.Replies.{reply_to}
+
+-- the orders that are left; those that were executed, with their replies, the oldest first; the ends that were told, by
+-- call number: the period at which a call's lines ended it
+pub record State : Type 0 where
+  pub left : List Order
+  pub done : List Done
+  pub told : List (Option ℕ)
+
+-- the end that was told of a call
+abbrev pub told_in : State → ℕ → Option ℕ
+told_in s c = get_or s.told c None
+
+-- the calls of which an end was told
+abbrev pub gone_in : State → ℕ → Bool
+gone_in s c = is_some (told_in s c)
+
+-- each end that was told lies before period t
+abbrev pub EndBefore : ℕ → State → Type 0
+EndBefore t s = (c : ℕ) → IfSome (told_in s c) (λ at. at < t)
+
+-- a board before the first order
+abbrev pub start_of : List Order → State
+start_of os = record { left = os; done = []; told = replicate 4097 None }
+
+-- all orders, whether executed or left
+abbrev pub orders_of : State → List Order
+orders_of s = map (λ d. d.order) s.done ++ s.left
+
+abbrev pub first_of : List Order → Option Order
+first_of [] = None
+first_of (o ∷ os) = Some o
+
+-- the stamp of the next order
+abbrev pub first_stamp : List Order → Option ℕ
+first_stamp [] = None
+first_stamp (o ∷ os) = Some o.stamp
+
+-- the stamp of the last order that was executed, 0 where there is none
+abbrev pub last_stamp : List Done → ℕ
+last_stamp [] = 0
+last_stamp (d ∷ []) = d.order.stamp
+last_stamp (d ∷ e ∷ ds) = last_stamp (e ∷ ds)
+
+-- ---- an order
+
+-- the next order, where it has this stamp
+abbrev pub due : List Order → ℕ → Option Order
+due [] period = None
+due (o ∷ os) period = if o.stamp == period then Some o else None
+
+-- an order and its reply, after all that were executed and the ends that were told
+abbrev pub done_by : State → Order → Done
+done_by s o = record { order = o; result = reply_to (gone_in s) s.done o }
+
+-- the state after the next order, where one is due
+abbrev pub turned : State → Option Order → State
+turned s None = s
+turned s (Some o) = record s { left = drop 1 s.left; done = s.done ++ done_by s o ∷ [] }
+
+-- the reply to it, with its number
+abbrev pub reply_of : State → Option Order → Option Reply
+reply_of s None = None
+reply_of s (Some o) = let d = done_by s o in Some (record { order = length s.done + 1; result = d.result })
+
+-- all replies, numbered from n + 1 on
+abbrev pub numbered : ℕ → List Done → List Reply
+numbered n [] = []
+numbered n (d ∷ ds) = record { order = n + 1; result = d.result } ∷ numbered (n + 1) ds
+
+-- ---- an end
+
+-- the state after the lines of a call ended it at a period
+abbrev pub told_more : State → ℕ → ℕ → State
+told_more s call at = record s { told = set s.told call (Some at) }

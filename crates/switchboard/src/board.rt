@@ -1,0 +1,177 @@
+// The board: it executes the orders one after another and is told of the ends of calls.
+
+ghost use Rattle.std.specs.Prelude.{◌≡◌, ◌<◌, ◌≤◌, ◌≢◌, ◌↔◌, ℕ, [], true, IsNone, IsSome, IfOk, IfSome, OnErr};
+ghost use Rattle.std.specs.List.{All};
+ghost use Rattle.trau_orders.specs.Lists.{NamesCalls, HasLevel};
+ghost use Rattle.switchboard.specs.Calls.{is_open};
+ghost use Rattle.switchboard.specs.Bridges.{OneLasts, bridges};
+ghost use Rattle.switchboard.specs.Replies.{IsInRange};
+ghost use Rattle.switchboard.specs.State.{start_of, orders_of, first_of, first_stamp, last_stamp, due, turned, reply_of, EndBefore, told_in, gone_in, told_more, numbered};
+ghost use Rattle.switchboard.specs.Runs.{IsRun, TellsEnds, AllEnded, IsUnchanged};
+ghost use Rattle.switchboard.specs.Stands.{AreRising};
+ghost use Rattle.switchboard.specs.Ends.{Given, spans_now, spans_of};
+
+use crate::table::Table;
+use crate::{Reply, Span};
+use std::alloc::{AllocError, Global};
+use std::marker::Model;
+use trau_io::CallEnd;
+use trau_orders::{Order, Orders};
+
+/// The orders of a run and what has become of them. Contracts see the orders that are left, those that were executed
+/// with their replies, and the ends of calls that were told.
+#[derive(Drop)]
+pub struct Board {
+    orders: Orders,
+    table: Table,
+    // The next order is that at the place of the next reply.
+    replies: Vec<Reply>,
+}
+
+impl Model for Board {
+    ghost use Rattle.std.specs.Prelude.{◌≡◌, ◌≤◌, length, map, drop, vec_capacity};
+    ghost use Rattle.switchboard.specs.Replies.{IsInRange};
+    ghost use Rattle.switchboard.specs.State.{State};
+    ghost use Rattle.switchboard.specs.Stands.{IsBoard, dones, state_of};
+
+    ghost Value = { State };
+
+    ghost view = { λ b. state_of b.orders b.replies.items b.table };
+
+    ghost invariant = { λ b. IsBoard b.orders b.replies.items b.table × (length b.orders ≤ vec_capacity b.replies) };
+}
+
+impl Board {
+    /// The board before the first order. It takes all the memory that it will need.
+    pub fn new(alloc: Global, orders: Orders) -> Result<Board, AllocError>
+        ensures start { IfOk result (λ b. b ≡ start_of orders) }
+        ensures untold { IfOk result (λ b. (t : ℕ) → EndBefore t b) }
+    {
+        let most = orders.list().len();
+        let table = Table::new(alloc, most)?;
+        let replies = Vec::with_capacity(alloc, most)?;
+        Ok(Board {
+            orders,
+            table,
+            replies,
+        })
+    }
+
+    // The next order.
+    fn next(&self) -> Option<Order>
+        ensures value { result ≡ first_of self.now.left }
+        ensures calls { IfSome result (λ o. NamesCalls o.what) }
+        ensures level { IfSome result (λ o. HasLevel o.what) }
+        ensures rising { AreRising self.now.left }
+    {
+        self.orders.list().get(self.replies.len()).copied()
+    }
+
+    /// The stamp of the next order.
+    pub fn next_stamp(&self) -> Option<u32>
+        ensures stamp { result ≡ first_stamp self.now.left }
+        ensures none { IsNone result ↔ (self.now.left ≡ []) }
+    {
+        match self.next() {
+            None => None,
+            Some(order) => Some(order.stamp),
+        }
+    }
+
+    /// Executes the next order, where its stamp is this period, and gives the reply.
+    ///
+    /// No order that is left has a smaller stamp, and each end that was told lies before this period.
+    pub fn turn(&mut self, period: u32) -> Option<Reply>
+        requires orders { IfSome (first_stamp self.old.left) (λ s. period ≤ s) }
+        requires ends { EndBefore period self.old }
+
+        // One step: an order that is due is executed, and its reply is that of the rules.
+        ensures state { self.new ≡ turned self.old (due self.old.left period) }
+        ensures answer { result ≡ reply_of self.old (due self.old.left period) }
+        ensures none { IsNone result ↔ All (λ o. o.stamp ≢ period) self.old.left }
+
+        // A refused order changes nothing.
+        ensures refused { IfSome result (λ reply. OnErr reply.result (IsUnchanged self.old self.new)) }
+
+        // Where the ends of the calls are told in time, all replies are those to the whole list of orders.
+        ensures run { (whole : ℕ → ℕ) → IsRun whole self.old.done → TellsEnds whole period self.old → IsRun whole self.new.done }
+
+        // What callers go on with: no order is lost, no end is told, the last order that was executed is of this period,
+        // and what an act names is in its range.
+        ensures kept { orders_of self.new ≡ orders_of self.old }
+        ensures told { (t : ℕ) → EndBefore t self.old → EndBefore t self.new }
+        ensures last { IsSome result → last_stamp self.new.done ≡ period }
+        ensures range { IfSome result (λ reply. IfOk reply.result IsInRange) }
+    {
+        let order = self.next()?;
+        if order.stamp != period {
+            return None;
+        }
+        Some(self.execute(&order))
+    }
+
+    fn execute(&mut self, order: &Order) -> Reply
+        requires next { first_of self.old.left ≡ Some order.now }
+        requires calls { NamesCalls order.now.what }
+        requires level { HasLevel order.now.what }
+        requires ends { EndBefore order.now.stamp self.old }
+        ensures state { self.new ≡ turned self.old (Some order.now) }
+        ensures answer { Some result ≡ reply_of self.old (Some order.now) }
+        ensures range { IfOk result.result IsInRange }
+    {
+        self.table.sized();
+        let result = self.table.reply_to(order);
+        self.table.apply(order.stamp, &result);
+        let reply = Reply {
+            order: self.replies.len() as u32 + 1,
+            result,
+        };
+        self.replies.push_reserved(reply);
+        reply
+    }
+
+    /// Whether a call is open after the orders and ends so far.
+    pub fn is_open(&self, call: u32) -> bool
+        ensures { result ≡ is_open (gone_in self.now) self.now.done call }
+    {
+        self.table.sized();
+        call < 4097 && self.table.is_open(call)
+    }
+
+    /// Is told that the lines of an open call ended it, or that the run has no further periods for it. The end is not
+    /// below the stamp of any order executed so far. Ends may be told in any order.
+    pub fn ended(&mut self, end: CallEnd)
+        requires open { is_open (gone_in self.old) self.old.done end.call ≡ true }
+        requires late { last_stamp self.old.done ≤ end.at }
+        ensures state { self.new ≡ told_more self.old end.call end.at }
+        ensures told { (t : ℕ) → end.at < t → EndBefore t self.old → EndBefore t self.new }
+    {
+        self.table.sized();
+        self.table.end_call(end.call, end.at);
+    }
+
+    /// The replies so far, in the order of the orders.
+    pub fn replies(&self) -> &[Reply]
+        ensures { result.now ≡ numbered 0 self.now.done }
+    {
+        self.replies.as_slice()
+    }
+
+    /// The bridges that have ended, in the order of their acceptance.
+    pub fn spans(&self) -> &[Span]
+        ensures now { result.now ≡ spans_now (told_in self.now) self.now.done }
+
+        // Once each call has ended, they are the spans of the whole run.
+        ensures whole { (given : ℕ → Given) (periods : ℕ) → AllEnded given periods self.now → result.now ≡ spans_of given periods self.now.done }
+    {
+        self.table.sized();
+        self.table.spans()
+    }
+
+    /// A law of the rules: a call has at most one bridge that lasts.
+    pub fn has_one_bridge_a_call(&self)
+        ensures { OneLasts (gone_in self.now) self.now.done (bridges self.now.done) }
+    {
+        self.table.sized();
+    }
+}

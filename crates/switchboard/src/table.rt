@@ -1,0 +1,314 @@
+// The table of calls and bridges that the board keeps of the executed orders and the ends that were told.
+
+ghost use Rattle.std.specs.Prelude.{◌≡◌, ◌<◌, ◌≤◌, [], length, IfOk, IfSome, replicate, slice_set};
+ghost use Rattle.std.specs.List.{filter_map, insert};
+ghost use Rattle.switchboard.specs.Rows.{IsSized, never, call_in, bridge_at_place, ended_at_place, is_open_in, has_ended_in, bridge_in, bridge_ended_in, end_in, span_in, position_in, opened_in, closed_in, bridged_in, parted_in, spans_ended_in, gone_in_rows, call_ended_in};
+ghost use Rattle.switchboard.specs.Ends.{least, span_to};
+
+use crate::Span;
+use std::alloc::{AllocError, Global};
+use std::marker::Model;
+
+/// Call numbers are below this.
+const NUMBERS: usize = 4097;
+
+/// What is known of a call number.
+#[derive(Clone, Copy, Debug, PartialEq, Eq)]
+pub struct Call {
+    /// The stamps of the orders that opened and closed it.
+    pub opened: Option<u32>,
+    pub closed: Option<u32>,
+    /// The period at which its lines ended it.
+    pub gone: Option<u32>,
+    /// The place of its latest bridge in the table.
+    pub bridge: Option<usize>,
+}
+
+const NEVER_OPENED: Call = Call {
+    opened: None,
+    closed: None,
+    gone: None,
+    bridge: None,
+};
+
+/// An accepted bridge: its calls as the order named them, the order's stamp, and the stamp of the order that ended it.
+#[derive(Clone, Copy, Debug, PartialEq, Eq)]
+pub struct Bridge {
+    pub a: u32,
+    pub b: u32,
+    pub from: u32,
+    pub ended: Option<u32>,
+}
+
+/// The calls by their numbers, the bridges in the order of their acceptance, and the spans of those that have ended.
+#[derive(Drop)]
+pub struct Table {
+    calls: Vec<Call>,
+    bridges: Vec<Bridge>,
+    spans: Vec<Span>,
+    /// Room is kept for so many bridges and spans.
+    most: usize,
+}
+
+impl Model for Table {
+    ghost use Rattle.std.specs.Prelude.{◌≡◌, ◌≤◌, vec_capacity};
+    ghost use Rattle.switchboard.specs.Rows.{Rows, IsSized};
+
+    ghost Value = { Rows };
+
+    ghost view = { λ t. record { calls = t.calls.items; bridges = t.bridges.items; spans = t.spans.items; most = t.most } };
+
+    ghost invariant = { λ t. IsSized t.calls.items t.bridges.items × (t.most ≤ vec_capacity t.bridges) × (t.most ≤ vec_capacity t.spans) };
+}
+
+impl Table {
+    /// A table with no call opened, and with room for `most` bridges.
+    pub fn new(alloc: Global, most: usize) -> Result<Table, AllocError>
+        ensures { IfOk result (λ t. t ≡ record { calls = replicate 4097 never; bridges = []; spans = []; most = most }) }
+    {
+        Ok(Table {
+            calls: vec![in alloc; NEVER_OPENED; NUMBERS]?,
+            bridges: Vec::with_capacity(alloc, most)?,
+            spans: Vec::with_capacity(alloc, most)?,
+            most,
+        })
+    }
+
+    /// Hands on that there is a place for each call number: a caller sees no more than the rows of a table.
+    pub fn sized(&self)
+        ensures { IsSized self.now.calls self.now.bridges }
+    {
+        let _ = &self.calls;
+    }
+
+    /// The spans of the bridges that have ended.
+    pub fn spans(&self) -> &[Span]
+        ensures { result.now ≡ self.now.spans }
+    {
+        self.spans.as_slice()
+    }
+
+    // ---- what is read
+
+    pub fn is_open(&self, call: u32) -> bool
+        requires { call < 4097 }
+        ensures { result ≡ is_open_in self.now call }
+    {
+        let call = self.calls[call as usize];
+        call.opened.is_some() && !call.closed.is_some() && !call.gone.is_some()
+    }
+
+    pub fn has_ended(&self, call: u32) -> bool
+        requires { call < 4097 }
+        ensures { result ≡ has_ended_in self.now call }
+    {
+        self.calls[call as usize].opened.is_some() && !self.is_open(call)
+    }
+
+    /// The bridge of a call that lasts.
+    pub fn bridge_of(&self, call: u32) -> Option<Bridge>
+        requires { call < 4097 }
+        ensures value { result ≡ bridge_in self.now call }
+        ensures calls { IfSome result (λ x. (x.a < 4097) × (x.b < 4097)) }
+    {
+        let bridge = self.bridges[self.calls[call as usize].bridge?];
+        if bridge.ended.is_none() && self.is_open(bridge.a) && self.is_open(bridge.b) {
+            Some(bridge)
+        } else {
+            None
+        }
+    }
+
+    /// The bridge of a call that an order with this stamp ended.
+    pub fn bridge_ended(&self, call: u32, stamp: u32) -> Option<Bridge>
+        requires { call < 4097 }
+        ensures { result ≡ bridge_ended_in self.now stamp call }
+    {
+        let bridge = self.bridges[self.calls[call as usize].bridge?];
+        if bridge.ended == Some(stamp) {
+            Some(bridge)
+        } else {
+            None
+        }
+    }
+
+    // Where a bridge has ended.
+    fn end_of(&self, bridge: &Bridge) -> Option<u32>
+        requires a { bridge.now.a < 4097 }
+        requires b { bridge.now.b < 4097 }
+        ensures { result ≡ end_in self.now bridge.now }
+    {
+        let calls = least(
+            self.calls[bridge.a as usize].gone,
+            self.calls[bridge.b as usize].gone,
+        );
+        least(bridge.ended, calls)
+    }
+
+    // How many of the bridges before a place have ended: the place of its span.
+    fn position(&self, place: usize) -> usize
+        requires { place ≤ length self.now.bridges }
+        ensures { result ≡ position_in self.now place }
+    {
+        let mut over = 0;
+        for bridge in &self.bridges[..place] {
+            if self.end_of(bridge).is_some() {
+                over += 1;
+            }
+        }
+        over
+    }
+
+    // The place of a call's latest bridge.
+    fn place_of(&self, call: u32) -> Option<usize>
+        requires { call < 4097 }
+        ensures value { result ≡ (call_in self.now call).bridge }
+        ensures place { IfSome result (λ k. k < length self.now.bridges) }
+    {
+        self.calls[call as usize].bridge
+    }
+
+    fn bridge_at(&self, place: usize) -> Bridge
+        requires { place < length self.now.bridges }
+        ensures value { result ≡ bridge_at_place self.now place }
+        ensures a { result.a < 4097 }
+        ensures b { result.b < 4097 }
+    {
+        self.bridges[place]
+    }
+
+    // ---- what is written
+
+    /// An order opens a call.
+    pub fn open(&mut self, call: u32, stamp: u32)
+        requires { call < 4097 }
+        ensures { self.new ≡ opened_in self.old stamp call }
+    {
+        self.calls[call as usize].opened = Some(stamp);
+    }
+
+    /// An order closes a call.
+    pub fn close(&mut self, call: u32, stamp: u32)
+        requires { call < 4097 }
+        ensures { self.new ≡ closed_in self.old stamp call }
+    {
+        self.calls[call as usize].closed = Some(stamp);
+    }
+
+    /// An order bridges two calls.
+    pub fn join(&mut self, a: u32, b: u32, stamp: u32)
+        requires a { a < 4097 }
+        requires b { b < 4097 }
+        requires room { length self.old.bridges < self.old.most }
+        ensures { self.new ≡ bridged_in self.old stamp a b }
+    {
+        let place = self.bridges.len();
+        self.calls[a as usize].bridge = Some(place);
+        self.calls[b as usize].bridge = Some(place);
+        self.bridges.push_reserved(Bridge {
+            a,
+            b,
+            from: stamp,
+            ended: None,
+        });
+    }
+
+    /// An order ends the latest bridge of a call, which lasted until now.
+    pub fn part(&mut self, call: u32, stamp: u32)
+        requires call { call < 4097 }
+        requires spans { self.old.spans ≡ filter_map (span_in self.old) self.old.bridges }
+        requires room { length self.old.spans < self.old.most }
+        ensures { self.new ≡ parted_in self.old stamp call }
+    {
+        let Some(place) = self.place_of(call) else {
+            return;
+        };
+        let bridge = self.bridge_at(place);
+        let position = self.position(place);
+        self.set_ended(place, stamp);
+        self.add_span(position, span_to(&bridge, stamp));
+    }
+
+    /// The lines of a call end it at a period, and with it its latest bridge: the end of that one is lowered where it
+    /// was later.
+    pub fn end_call(&mut self, call: u32, at: u32)
+        requires call { call < 4097 }
+        requires spans { self.old.spans ≡ filter_map (span_in self.old) self.old.bridges }
+        requires few { length self.old.bridges ≤ self.old.most }
+        ensures { self.new ≡ call_ended_in self.old at call }
+    {
+        self.end_span(call, at);
+        self.mark_gone(call, at);
+    }
+
+    fn end_span(&mut self, call: u32, at: u32)
+        requires call { call < 4097 }
+        requires spans { self.old.spans ≡ filter_map (span_in self.old) self.old.bridges }
+        requires few { length self.old.bridges ≤ self.old.most }
+        ensures { self.new ≡ spans_ended_in self.old at call }
+    {
+        let Some(place) = self.place_of(call) else {
+            return;
+        };
+        let bridge = self.bridge_at(place);
+        let position = self.position(place);
+        let Some(end) = self.end_of(&bridge) else {
+            self.add_span(position, span_to(&bridge, at));
+            return;
+        };
+        if at < end {
+            self.move_span(position, span_to(&bridge, at));
+        }
+    }
+
+    fn mark_gone(&mut self, call: u32, at: u32)
+        requires { call < 4097 }
+        ensures { self.new ≡ gone_in_rows self.old at call }
+    {
+        self.calls[call as usize].gone = Some(at);
+    }
+
+    fn set_ended(&mut self, place: usize, stamp: u32)
+        requires { place < length self.old.bridges }
+        ensures { self.new ≡ ended_at_place self.old stamp place }
+    {
+        self.bridges[place].ended = Some(stamp);
+    }
+
+    fn add_span(&mut self, position: usize, span: Span)
+        requires place { position ≤ length self.old.spans }
+        requires room { length self.old.spans < self.old.most }
+        ensures { self.new ≡ record self.old { spans = insert self.old.spans position span } }
+    {
+        self.spans.insert(position, span).unwrap();
+    }
+
+    fn move_span(&mut self, position: usize, span: Span)
+        requires { position < length self.old.spans }
+        ensures { self.new ≡ record self.old { spans = slice_set self.old.spans position span } }
+    {
+        self.spans[position] = span;
+    }
+}
+
+// The lesser, where there are two.
+fn least(one: Option<u32>, other: Option<u32>) -> Option<u32>
+    ensures { result ≡ least one other }
+{
+    match (one, other) {
+        (None, other) => other,
+        (Some(one), None) => Some(one),
+        (Some(one), Some(other)) => Some(one.min(other)),
+    }
+}
+
+fn span_to(bridge: &Bridge, to: u32) -> Span
+    ensures { result ≡ span_to bridge.now to }
+{
+    Span {
+        a: bridge.a,
+        b: bridge.b,
+        from: bridge.from,
+        to,
+    }
+}

@@ -1,0 +1,28 @@
+-- What a field or several ask for is a shift.
+use Rattle.std.proofs.Common.{ℕ, ◌*◌, ℤ, pos, negsuc, nat_le, Option, Some, None, unwrap_or, List, [], ◌∷◌, refl, arith}
+use Rattle.std.specs.Prelude.{◌==◌}
+use Rattle.std.proofs.lemmas.Bool.{cond_both, leb-true}
+use Rattle.time_align.specs.Shift.{shift_of, latest_ask, latest_shift, IsShift}
+
+-- what may be asked for, with 0 for nothing
+abbrev pub MayBeShift : Option ℤ → Type 0
+MayBeShift asked = IsShift (unwrap_or asked (pos 0))
+
+pub IsShift-shift_of : (field : ℕ) → MayBeShift (shift_of field)
+unfolding shift_of
+IsShift-shift_of field =
+    cond_both (field == 0) None _ MayBeShift (λ y. omega arith) (λ n0.
+    cond_both (nat_le field 39) (Some (pos (4 * field))) _ MayBeShift (λ y. let l = leb-true field 39 y in omega arith) (λ n1.
+    cond_both (field == 62) (Some (pos 2)) _ MayBeShift (λ y. omega arith) (λ n2.
+    cond_both (field == 63) (Some (negsuc 1)) None MayBeShift (λ y. refl) (λ n3. omega arith))))
+
+asked_or : (asked before : Option ℤ) → MayBeShift asked → MayBeShift before →
+    MayBeShift (elim asked [ None ↦ before | Some shift ↦ Some shift ])
+asked_or None before a b = b
+asked_or (Some shift) before a b = a
+
+pub IsShift-latest_shift : (fields : List (Option ℕ)) → IsShift (latest_shift fields)
+IsShift-latest_shift [] = omega arith
+IsShift-latest_shift (None ∷ before) = IsShift-latest_shift before
+IsShift-latest_shift (Some field ∷ before) =
+    asked_or (shift_of field) (latest_ask before) (IsShift-shift_of field) (IsShift-latest_shift before)

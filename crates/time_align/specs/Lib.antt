@@ -1,0 +1,3 @@
+pub mod Shift
+pub mod Memory
+pub mod History

@@ -1,0 +1,19 @@
+//! Time alignment: the shifts that a base station asks of the downlink (this project's profile, in the manner of
+//! GSM 08.60).
+//!
+//! An uplink frame carries an alignment field of six bits. Some fields ask that the downlink comes later or sooner, by
+//! octets of the exchange's line, 125 microseconds each. `Align` keeps what was asked last until a downlink frame adopts
+//! it. Within a bridge shifts are frozen: frames have none, and what is asked waits for the thaw.
+//!
+//! `shift` has the table, `align` what is kept from call to call. Definitions: `specs/Shift.antt` (the table),
+//! `specs/History.antt` (all that happened), `specs/Memory.antt` (one call after another). Used by the downlink framer
+//! and by a call's leg.
+#![tactic(auto)]
+
+mod align;
+mod shift;
+#[cfg(test)]
+mod tests;
+
+pub use align::Align;
+pub use shift::shift_of;

@@ -1,0 +1,55 @@
+-- The grammar of one order's line (this project's profile).
+use Rattle.std.specs.Prelude.{◌≡◌, ℕ, ◌≤◌, pos, ◌≤ℤ◌, List, [], ◌∷◌, codes, decimal, eqb, unsigned_abs}
+use Rattle.std.specs.List.{join_with_byte, slice_split}
+use Rattle.trau_orders.specs.declared.order.DtxMode.{DtxMode}
+use Rattle.trau_orders.specs.declared.order.DtxMode.TheVariants.{On, Off, Uplink}
+use Rattle.trau_orders.specs.declared.order.What.{What}
+use Rattle.trau_orders.specs.declared.order.What.TheVariants.{OpenCall, CloseCall, Bridge, Unbridge, Level, Dtx}
+use Rattle.trau_orders.specs.declared.order.Order.{Order}
+
+-- the word of a mode
+abbrev pub mode_word : DtxMode → List ℕ
+mode_word On = codes "on"
+mode_word Off = codes "off"
+mode_word Uplink = codes "uplink"
+
+-- the words that order it, numbers in decimal digits
+abbrev pub words_for : What → List (List ℕ)
+words_for (OpenCall c) = codes "open" ∷ decimal c ∷ []
+words_for (CloseCall c) = codes "close" ∷ decimal c ∷ []
+words_for (Bridge a b) = codes "bridge" ∷ decimal a ∷ decimal b ∷ []
+words_for (Unbridge c) = codes "unbridge" ∷ decimal c ∷ []
+words_for (Level c v) = codes "level" ∷ decimal c ∷ decimal (unsigned_abs v) ∷ []
+words_for (Dtx c m) = codes "dtx" ∷ decimal c ∷ mode_word m ∷ []
+
+-- a call that words may name
+abbrev pub IsNamed : ℕ → Type 0
+IsNamed c = (1 ≤ c) × (c ≤ 1024)
+
+-- its numbers are in their ranges
+abbrev pub IsInRange : What → Type 0
+IsInRange (OpenCall c) = IsNamed c
+IsInRange (CloseCall c) = IsNamed c
+IsInRange (Bridge a b) = IsNamed a × IsNamed b
+IsInRange (Unbridge c) = IsNamed c
+IsInRange (Level c v) = IsNamed c × (pos 0 ≤ℤ v) × (v ≤ℤ pos 32767)
+IsInRange (Dtx c m) = IsNamed c
+
+-- the line of an order, without an LF: its stamp and the words that order it, with one space between words
+unfoldable pub line_of : Order → List ℕ
+line_of order = join_with_byte 32 (decimal order.stamp ∷ words_for order.what)
+
+-- a line of the grammar, and its order
+pub record IsLine (line : List ℕ) (order : Order) : Type 0 where
+  pub stamp : order.stamp ≤ 4294967294
+  pub in_range : IsInRange order.what
+  pub spelled : line ≡ line_of order
+
+-- the words of a line, of which some may be empty
+abbrev pub words_of : List ℕ → List (List ℕ)
+words_of line = slice_split (λ b. eqb b 32) line
+
+-- these words order it
+pub record AreWords (words : List (List ℕ)) (what : What) : Type 0 where
+  pub in_range : IsInRange what
+  pub spelled : words ≡ words_for what

@@ -1,0 +1,36 @@
+-- Lists of orders, as a text of orders gives them (this project's profile).
+use Rattle.std.specs.Prelude.{ℕ, ◌<◌, ◌≤◌, List, length, pos, ◌≤ℤ◌}
+use Rattle.std.proofs.Common.{get_or}
+use Rattle.trau_orders.specs.declared.order.Order.{Order}
+use Rattle.trau_orders.specs.declared.order.What.{What}
+use Rattle.trau_orders.specs.declared.order.What.TheVariants.{OpenCall, CloseCall, Bridge, Unbridge, Level, Dtx}
+
+-- a call's number, as lines and tables of calls take it
+abbrev pub IsCall : ℕ → Type 0
+IsCall c = (1 ≤ c) × (c ≤ 4096)
+
+-- what is named are calls
+abbrev pub NamesCalls : What → Type 0
+NamesCalls (OpenCall c) = IsCall c
+NamesCalls (CloseCall c) = IsCall c
+NamesCalls (Bridge a b) = IsCall a × IsCall b
+NamesCalls (Unbridge c) = IsCall c
+NamesCalls (Level c v) = IsCall c
+NamesCalls (Dtx c m) = IsCall c
+
+-- a level, if one is ordered, is no number below 0
+abbrev pub HasLevel : What → Type 0
+HasLevel (OpenCall c) = Unit {0}
+HasLevel (CloseCall c) = Unit {0}
+HasLevel (Bridge a b) = Unit {0}
+HasLevel (Unbridge c) = Unit {0}
+HasLevel (Level c v) = (pos 0 ≤ℤ v) × (v ≤ℤ pos 32767)
+HasLevel (Dtx c m) = Unit {0}
+
+-- few enough orders, of calls, with levels and stamps in their ranges, and no stamp below an earlier one
+pub record AreOrders (os : List Order) : Type 0 where
+  pub few : length os ≤ 65536
+  pub calls : (k : ℕ) (d : Order) → k < length os → NamesCalls (get_or os k d).what
+  pub levels : (k : ℕ) (d : Order) → k < length os → HasLevel (get_or os k d).what
+  pub stamps : (k : ℕ) (d : Order) → k < length os → (get_or os k d).stamp ≤ 4294967294
+  pub rising : (i j : ℕ) (d : Order) → i ≤ j → j < length os → (get_or os i d).stamp ≤ (get_or os j d).stamp

@@ -1,0 +1,60 @@
+// The orders of a run.
+ghost use Rattle.std.specs.Prelude.{◌≡◌, ◌<◌, ◌≤◌, ◌↔◌, ℕ, length, IfOk, IsErrOf};
+ghost use Rattle.trau_orders.specs.Lists.{AreOrders};
+ghost use Rattle.trau_orders.specs.Text.{text_lines, AreLines, IsFirstBad};
+
+use crate::text::{count_lines, orders_of};
+use crate::{Order, OrderFault};
+use std::alloc::Global;
+use std::marker::Model;
+
+const MOST_OCTETS: usize = 1_048_576;
+
+const MOST_LINES: usize = 65_536;
+
+/// The orders of a run, at most 65,536, with stamps that don't fall. Contracts see them as a list.
+#[derive(Drop)]
+pub struct Orders {
+    items: Vec<Order>,
+}
+
+impl Model for Orders {
+    ghost use Rattle.std.specs.Prelude.{List};
+    ghost use Rattle.trau_orders.specs.declared.order.Order.{Order as OneOrder};
+    ghost use Rattle.trau_orders.specs.Lists.{AreOrders};
+
+    ghost Value = { List OneOrder };
+
+    ghost view = { λ o. o.items.items };
+
+    ghost invariant = { λ o. AreOrders o.items.items };
+}
+
+impl Orders {
+    /// The orders that a text's lines spell. A text that is too long answers `TooLong`, else one of too many lines
+    /// `TooMany`, else one with a line that isn't in the grammar `Line`, with the number of the first.
+    pub fn parse(alloc: Global, text: &[u8]) -> Result<Orders, OrderFault>
+        ensures ok { IfOk result (λ orders. AreLines (text_lines text.now) orders) }
+        ensures few { IfOk result (λ orders. (length text.now ≤ 1048576) × (length (text_lines text.now) ≤ 65536)) }
+        ensures too_long { IsErrOf result OrderFault.TooLong ↔ (1048576 < length text.now) }
+        ensures too_many { IsErrOf result OrderFault.TooMany ↔ ((length text.now ≤ 1048576) × (65536 < length (text_lines text.now))) }
+        ensures bad { (n : ℕ) → IsErrOf result (OrderFault.Line n) → (length text.now ≤ 1048576) × (length (text_lines text.now) ≤ 65536) × IsFirstBad (text_lines text.now) n }
+    {
+        if text.len() > MOST_OCTETS {
+            return Err(OrderFault::TooLong);
+        }
+        if count_lines(text) > MOST_LINES {
+            return Err(OrderFault::TooMany);
+        }
+        let items = orders_of(alloc, text)?;
+        Ok(Orders { items })
+    }
+
+    /// The orders, one after another as their lines stood.
+    pub fn list(&self) -> &[Order]
+        ensures value { result.now ≡ self.now }
+        ensures orders { AreOrders self.now }
+    {
+        self.items.as_slice()
+    }
+}

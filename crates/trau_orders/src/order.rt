@@ -1,0 +1,31 @@
+// One order of an operator.
+
+/// Whether a call's downlink may fall silent in pauses: discontinuous transmission (GSM 06.31).
+#[derive(Clone, Copy, Debug, PartialEq, Eq)]
+pub enum DtxMode {
+    On,
+    Off,
+    /// As the DTXd bit of the last uplink speech frame asks.
+    Uplink,
+}
+
+/// What is ordered, of calls by their numbers.
+#[derive(Clone, Copy, Debug, PartialEq, Eq)]
+pub enum What {
+    OpenCall(u32),
+    CloseCall(u32),
+    /// Each call's speech frames go out on the other's downlink, bits unchanged.
+    Bridge(u32, u32),
+    /// The call's bridge ends.
+    Unbridge(u32),
+    /// The peak of a frame from which it counts as speech, 0 to 32,767.
+    Level(u32, i16),
+    Dtx(u32, DtxMode),
+}
+
+/// An order, and the period of 20 ms at whose start it takes effect, 0 to 4,294,967,294.
+#[derive(Clone, Copy, Debug, PartialEq, Eq)]
+pub struct Order {
+    pub stamp: u32,
+    pub what: What,
+}

@@ -1,0 +1,4 @@
+pub mod Stretch
+pub mod SilenceDescriptor
+pub mod Sent
+pub mod Step

@@ -1,0 +1,75 @@
+-- What is sent of a stretch of frames from home (this project's profile, in the manner of GSM 06.31 and GSM 06.12).
+-- A stretch has the newest frame first.
+use Rattle.std.specs.Prelude.{ℕ, ◌+◌, suc, true, false, Bool, if◌then◌else◌, nat_le, Option, Some, None, option_map, List, [], ◌∷◌, ◌++◌, map, take, reverse}
+use Rattle.trau_params.specs.Fields.{Fields}
+use Rattle.tx_dtx.specs.Stretch.{Measures, Coded, is_active, Sent}
+use Rattle.tx_dtx.specs.SilenceDescriptor.{sid_of}
+
+-- how many inactive frames end with the newest one, without a break
+abbrev pub pause_of : List Coded → ℕ
+pause_of [] = 0
+pause_of (f ∷ fs) = if is_active f then 0 else suc (pause_of fs)
+
+-- a SID is made of an inactive frame and the four inactive ones before it
+abbrev pub is_sid_place : List Coded → Bool
+is_sid_place fs = nat_le 5 (pause_of fs)
+
+-- the measures of the newest four frames
+abbrev pub newest_four : List Coded → List Measures
+newest_four fs = map (λ f. f.measures) (take 4 fs)
+
+-- a frame of which a SID was made: how many frames came since, and the measures that it was made of
+pub record SidPlace : Type 0 where
+  pub since : ℕ
+  pub four : List Measures
+
+-- the same, one frame later
+abbrev pub one_later : SidPlace → SidPlace
+one_later place = record { since = place.since + 1; four = place.four }
+
+-- the latest of them
+abbrev pub latest_place : List Coded → Option SidPlace
+latest_place [] = None
+latest_place (f ∷ fs) =
+    if is_sid_place (f ∷ fs) then Some (record { since = 0; four = newest_four (f ∷ fs) })
+    else option_map one_later (latest_place fs)
+
+-- the frames before the pause that ends with the newest
+abbrev pub before_pause : List Coded → List Coded
+before_pause [] = []
+before_pause (f ∷ fs) = if is_active f then f ∷ fs else before_pause fs
+
+-- A pause goes on with the last SID, unless there is none or the pause begins 24 frames or more after it.
+abbrev pub still_used : Option SidPlace → Option SidPlace
+still_used None = None
+still_used (Some place) = if nat_le 24 (place.since + 1) then None else Some place
+
+abbrev pub sid_used : List Coded → Option SidPlace
+sid_used before = still_used (latest_place before)
+
+abbrev pub itself : Fields → Sent
+itself fields = record { fields = fields; sp = true }
+
+abbrev pub silence : List Measures → Sent
+silence four = record { fields = sid_of four; sp = false }
+
+-- what is sent of an inactive frame too early in its pause for a SID of its own: the last SID, or the frame itself
+abbrev pub sent_early : Coded → Option SidPlace → Sent
+sent_early f None = itself f.fields
+sent_early f (Some place) = silence place.four
+
+-- what is sent of a frame after those of the past
+unfoldable pub sent_of : Coded → List Coded → Sent
+sent_of f past =
+    if is_active f then itself f.fields
+    else if is_sid_place (f ∷ past) then silence (newest_four (f ∷ past))
+    else sent_early f (sid_used (before_pause past))
+
+-- all that is sent, the oldest first
+unfoldable pub all_sent : List Coded → List Sent
+all_sent [] = []
+all_sent (f ∷ past) = all_sent past ++ sent_of f past ∷ []
+
+-- what is sent of a stretch of frames, the oldest first
+abbrev pub sent : List Coded → List Sent
+sent frames = all_sent (reverse frames)

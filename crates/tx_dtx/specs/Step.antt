@@ -1,0 +1,93 @@
+-- The transmit side from frame to frame (this project's profile, in the manner of GSM 06.31 and GSM 06.12).
+use Rattle.std.specs.Prelude.{◌≡◌, ℕ, ◌+◌, ◌<◌, pos, Bool, false, if◌then◌else◌, ◌==◌, nat_le, min, Option, None, is_none, IfSome, Some, List, ◌∷◌, ◌++◌, map, take, replicate}
+use Rattle.trau_params.specs.Fields.{Fields}
+use Rattle.tx_dtx.specs.Stretch.{Measures, Coded, is_active, Sent}
+use Rattle.tx_dtx.specs.SilenceDescriptor.{sid_of}
+use Rattle.tx_dtx.specs.Sent.{SidPlace, pause_of, latest_place, before_pause, sid_used, itself}
+
+-- What is kept: how many inactive frames came without a break, 5 at most; how many frames since the last SID was made,
+-- 24 at most; whether the last pause sends its frames themselves; the last SID; the measures of the last three frames.
+pub record TxMemory : Type 0 where
+  pub run : ℕ
+  pub elapsed : ℕ
+  pub hangs : Bool
+  pub sid : Fields
+  pub recent : List Measures
+
+-- measures and parameters of 0
+abbrev pub no_measures : Measures
+no_measures = record { lar = replicate 8 (pos 0); xmax = replicate 4 (pos 0) }
+
+abbrev pub no_fields : Fields
+no_fields = record { larc = replicate 8 0; nc = replicate 4 0; bc = replicate 4 0; mc = replicate 4 0; xmaxc = replicate 4 0; xmc = replicate 4 (replicate 13 0) }
+
+-- the memory at home
+abbrev pub home_memory : TxMemory
+home_memory = record { run = 0; elapsed = 24; hangs = false; sid = no_fields; recent = replicate 3 no_measures }
+
+-- one frame more since the last SID
+abbrev pub later : ℕ → ℕ
+later elapsed = min (elapsed + 1) 24
+
+-- an active frame: it is sent itself
+abbrev pub after_active : TxMemory → TxMemory
+after_active m = record { run = 0; elapsed = later m.elapsed; hangs = m.hangs; sid = m.sid; recent = m.recent }
+
+-- an inactive frame of which a SID is made
+abbrev pub after_sid : TxMemory → List Measures → TxMemory
+after_sid m four = record { run = 5; elapsed = 0; hangs = m.hangs; sid = sid_of four; recent = m.recent }
+
+-- whether the pause hangs at its run-th frame: as its first frame finds, where 24 frames or more lie behind the last SID
+abbrev pub hangs_at : ℕ → ℕ → Bool → Bool
+hangs_at run elapsed hangs = if run == 1 then nat_le 24 elapsed else hangs
+
+-- an inactive frame earlier in its pause, the run-th
+abbrev pub after_early : TxMemory → ℕ → TxMemory
+after_early m run = record {
+  run = run;
+  elapsed = later m.elapsed;
+  hangs = hangs_at run (later m.elapsed) m.hangs;
+  sid = m.sid;
+  recent = m.recent;
+}
+
+-- the frame's measures are the latest of three
+abbrev pub remembered : TxMemory → Measures → TxMemory
+remembered m measures = record { run = m.run; elapsed = m.elapsed; hangs = m.hangs; sid = m.sid; recent = take 3 (measures ∷ m.recent) }
+
+-- the last SID, or the frame itself where the pause hangs
+abbrev pub sent_in_pause : TxMemory → Fields → Sent
+sent_in_pause m fields = if m.hangs then itself fields else record { fields = m.sid; sp = false }
+
+-- what is sent, and the memory after it: of a frame of which a SID is made, and of one earlier in its pause
+abbrev pub described : TxMemory → Measures → Sent × TxMemory
+described m measures = let now = after_sid m (measures ∷ m.recent) in (record { fields = now.sid; sp = false }, now)
+
+abbrev pub early : TxMemory → ℕ → Fields → Sent × TxMemory
+early m run fields = let now = after_early m run in (sent_in_pause now fields, now)
+
+-- an inactive frame
+unfoldable pub paused : TxMemory → Fields → Measures → Sent × TxMemory
+paused m fields measures = let run = min (m.run + 1) 5 in if run == 5 then described m measures else early m run fields
+
+-- a frame by itself, before its measures are remembered
+unfoldable pub taken : TxMemory → Coded → Sent × TxMemory
+taken m f = if is_active f then (itself f.fields, after_active m) else paused m f.fields f.measures
+
+-- one frame: what is sent of it, and the memory after it
+unfoldable pub stepped : TxMemory → Coded → Sent × TxMemory
+stepped m f = let step = taken m f in (step.0, remembered step.1 f.measures)
+
+-- how many frames since the last SID was made, 24 at most, and 24 before any
+abbrev pub elapsed_of : Option SidPlace → ℕ
+elapsed_of None = 24
+elapsed_of (Some place) = min place.since 24
+
+-- the memory is that of these frames from home
+pub record Stands (past : List Coded) (m : TxMemory) : Type 0 where
+  pub run : m.run ≡ min (pause_of past) 5
+  pub elapsed : m.elapsed ≡ elapsed_of (latest_place past)
+  -- within a pause, whether it sends its frames themselves
+  pub hangs : 0 < pause_of past → m.hangs ≡ is_none (sid_used (before_pause past))
+  pub sid : IfSome (latest_place past) (λ place. m.sid ≡ sid_of place.four)
+  pub recent : m.recent ≡ take 3 (map (λ f. f.measures) past ++ replicate 3 no_measures)

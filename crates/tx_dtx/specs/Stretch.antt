@@ -1,0 +1,39 @@
+-- What the transmit side is given of a frame, and what it sends (this project's profile, in the manner of GSM 06.31).
+use Rattle.std.specs.Prelude.{ℤ, Bool, not, ◌||◌, int_le, List}
+use Rattle.trau_params.specs.Fields.{Fields, fields_of}
+use Rattle.trau_params.specs.declared.params.Params.{Params}
+use Rattle.trau_params.specs.declared.trace.Trace.{Trace}
+
+-- the log area ratios and the block maxima of a frame before they were coded
+pub record Measures : Type 0 where
+  pub lar : List ℤ
+  pub xmax : List ℤ
+
+abbrev pub measures_of : Trace → Measures
+measures_of t = record { lar = t.lar; xmax = t.xmax }
+
+-- a coded frame: its parameters, its measures, the peak of its samples, and the level and DTX in force
+pub record Coded : Type 0 where
+  pub fields : Fields
+  pub measures : Measures
+  pub peak : ℤ
+  pub level : ℤ
+  pub dtx : Bool
+
+abbrev pub coded_frame : Params → Trace → ℤ → ℤ → Bool → Coded
+coded_frame p t peak level dtx = record { fields = fields_of p; measures = measures_of t; peak = peak; level = level; dtx = dtx }
+
+-- a frame is active where DTX is off or its peak isn't below the level
+abbrev pub is_active_at : ℤ → ℤ → Bool → Bool
+is_active_at peak level dtx = not dtx || int_le level peak
+
+abbrev pub is_active : Coded → Bool
+is_active f = is_active_at f.peak f.level f.dtx
+
+-- a frame as it is sent, and SP
+pub record Sent : Type 0 where
+  pub fields : Fields
+  pub sp : Bool
+
+abbrev pub sent_frame : Params → Bool → Sent
+sent_frame p sp = record { fields = fields_of p; sp = sp }

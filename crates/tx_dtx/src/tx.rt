@@ -1,0 +1,157 @@
+//! The transmit side of one call.
+
+ghost use Rattle.std.specs.Prelude.{◌≡◌, ◌≤◌, List, [], ◌∷◌};
+ghost use Rattle.trau_params.specs.Fields.{fields_of};
+ghost use Rattle.tx_dtx.specs.Stretch.{Coded, coded_frame, measures_of, is_active_at, sent_frame};
+ghost use Rattle.tx_dtx.specs.Sent.{sent_of};
+ghost use Rattle.tx_dtx.specs.Step.{home_memory, after_active, hangs_at, described, early, paused, taken, remembered, stepped, Stands};
+
+use crate::sid::sid;
+use std::marker::Model;
+use trau_params::{Params, Trace};
+
+/// What the transmit side of a call keeps from frame to frame.
+#[derive(Drop)]
+pub struct Tx {
+    // Inactive frames without a break, 5 at most.
+    run: u8,
+    // Frames since the last SID was made, 24 at most, and 24 before any.
+    elapsed: u8,
+    // Whether the last pause sends its frames themselves.
+    hangs: bool,
+    // The last SID.
+    sid: Params,
+    // The measures of the last three frames, the last one first.
+    last: Trace,
+    second_last: Trace,
+    third_last: Trace,
+}
+
+impl Model for Tx {
+    ghost use Rattle.std.specs.Prelude.{◌≤◌, [], ◌∷◌};
+    ghost use Rattle.trau_params.specs.Fields.{fields_of};
+    ghost use Rattle.tx_dtx.specs.Stretch.{measures_of};
+    ghost use Rattle.tx_dtx.specs.Step.{TxMemory};
+
+    ghost Value = { TxMemory };
+
+    ghost view = { λ t. record { run = t.run; elapsed = t.elapsed; hangs = t.hangs; sid = fields_of t.sid; recent = measures_of t.last ∷ measures_of t.second_last ∷ measures_of t.third_last ∷ [] } };
+
+    ghost invariant = { λ t. (t.run ≤ 5) × (t.elapsed ≤ 24) };
+}
+
+// Whether a frame is speech: the voice activity of this project's profile.
+fn is_active(peak: i16, level: i16, on: bool) -> bool
+    ensures { result ≡ is_active_at peak level on }
+{
+    !on || peak >= level
+}
+
+// Whether a pause hangs at its run-th frame.
+fn hangs_at(run: u8, elapsed: u8, hangs: bool) -> bool
+    ensures { result ≡ hangs_at run elapsed hangs }
+{
+    if run == 1 { elapsed > 23 } else { hangs }
+}
+
+impl Tx {
+    /// The state before the first frame: no SID was made, and the next pause has a hangover.
+    pub fn home() -> Tx
+        ensures value { result ≡ home_memory }
+        ensures history { Stands [] result }
+    {
+        let none = Trace {
+            lar: [0; 8],
+            xmax: [0; 4],
+        };
+        Tx {
+            run: 0,
+            elapsed: 24,
+            hangs: false,
+            sid: Params::new([0; 8], [0; 4], [0; 4], [0; 4], [0; 4], [[0; 13]; 4]),
+            last: none,
+            second_last: none,
+            third_last: none,
+        }
+    }
+
+    // Takes an active frame.
+    fn speak(&mut self)
+        ensures { self.new ≡ after_active self.old }
+    {
+        self.run = 0;
+        self.elapsed = (self.elapsed + 1).min(24);
+    }
+
+    // Takes an inactive frame, makes a SID of it and the three before, and sends that.
+    fn describe(&mut self, t: &Trace) -> (Params, bool)
+        ensures { described self.old (measures_of t.now) ≡ (sent_frame result.0 result.1, self.new) }
+    {
+        self.run = 5;
+        self.elapsed = 0;
+        self.sid = sid(t, &self.last, &self.second_last, &self.third_last);
+        (self.sid, false)
+    }
+
+    // Takes an inactive frame, the run-th of its pause: sends it itself, or the last SID.
+    fn hold(&mut self, run: u8, p: &Params) -> (Params, bool)
+        requires { run ≤ 5 }
+        ensures { early self.old run (fields_of p.now) ≡ (sent_frame result.0 result.1, self.new) }
+    {
+        self.run = run;
+        self.elapsed = (self.elapsed + 1).min(24);
+        self.hangs = hangs_at(run, self.elapsed, self.hangs);
+        if self.hangs {
+            return (*p, true);
+        }
+        (self.sid, false)
+    }
+
+    // Takes an inactive frame: what is sent of it, and SP.
+    #[tactic(auto, unfolding(crate::specs::Step::paused))]
+    fn pause(&mut self, p: &Params, t: &Trace) -> (Params, bool)
+        ensures { paused self.old (fields_of p.now) (measures_of t.now) ≡ (sent_frame result.0 result.1, self.new) }
+    {
+        let run = (self.run + 1).min(5);
+        if run == 5 {
+            return self.describe(t);
+        }
+        self.hold(run, p)
+    }
+
+    // Takes a frame: what is sent of it, and SP.
+    #[tactic(auto, unfolding(crate::specs::Step::taken))]
+    fn take(&mut self, p: &Params, t: &Trace, peak: i16, level: i16, on: bool) -> (Params, bool)
+        ensures { taken self.old (coded_frame p.now t.now peak level on) ≡ (sent_frame result.0 result.1, self.new) }
+    {
+        if is_active(peak, level, on) {
+            self.speak();
+            return (*p, true);
+        }
+        self.pause(p, t)
+    }
+
+    // Keeps a frame's measures.
+    fn remember(&mut self, t: &Trace)
+        ensures { self.new ≡ remembered self.old (measures_of t.now) }
+    {
+        self.third_last = self.second_last;
+        self.second_last = self.last;
+        self.last = *t;
+    }
+
+    /// Takes the parameters of a coded frame, its measures and the peak of its samples, with the level and whether DTX
+    /// is on: what is sent of it, and SP, which is 1 where that is speech.
+    pub fn send(&mut self, p: &Params, t: &Trace, peak: i16, level: i16, on: bool) -> (Params, bool)
+        ensures step { stepped self.old (coded_frame p.now t.now peak level on) ≡ (sent_frame result.0 result.1, self.new) }
+
+        // After the frames of any past, this one is sent as its stretch says.
+        ensures history { (past : List Coded) → Stands past self.old →
+            Stands (coded_frame p.now t.now peak level on ∷ past) self.new ×
+            (sent_frame result.0 result.1 ≡ sent_of (coded_frame p.now t.now peak level on) past) }
+    {
+        let sent = self.take(p, t, peak, level, on);
+        self.remember(t);
+        sent
+    }
+}
