@@ -41,21 +41,22 @@ pub record Stands (past : List (List ℕ)) (memory : SyncMemory) : Type 0 where
   pub periods : ArePeriods past
   pub after : memory ≡ memory_after past
 
--- the place of a mode: from where on it hunts, or where the next frame is due; the place before which the period
--- after `base` bits begins; and the misses so far
+-- the place from which on it hunts, or at which a frame is due
 abbrev pub low_of : Mode → ℕ
 low_of (Hunting low) = low
 low_of (Locked next misses) = next
 
+-- what the first bit of the next period lies before: the end of the frame that is due, and hunting any place behind it
 abbrev pub high_of : ℕ → Mode → ℕ
 high_of base (Hunting low) = base + 1
 high_of base (Locked next misses) = next + 320
 
+-- the misses in a row so far
 abbrev pub misses_of : Mode → ℕ
 misses_of (Hunting low) = 0
 misses_of (Locked next misses) = misses
 
--- after `base` bits: it hunts from a place before the next bit on, or the next frame began before the next bit and ends
--- in the next period; and there are at most two misses
+-- the mode fits a line of `base` bits so far: it hunts from none behind the next bit on, or the frame that is due began
+-- at the next bit or before it and ends in the next period; there are at most two misses
 abbrev pub IsNear : ℕ → Mode → Type 0
 IsNear base mode = (low_of mode ≤ base) × (base < high_of base mode) × (misses_of mode ≤ 2)

@@ -6,8 +6,9 @@
 //! is a miss, and the third miss in a row gives the lock up.
 //!
 //! `hunt` looks for the first match, `advance` takes the search over one period, and `search` has what is kept from
-//! period to period. Hunting costs a counter of zeros at each bit; only behind sixteen zeros are ones looked at, and a
-//! place of which more than the first one is there has none after it for sixteen places.
+//! period to period. Hunting counts zeros bit by bit. Only behind sixteen of them are ones looked at, and where the
+//! first of those is there, no sixteen zeros end in the sixteen bits from it on: so a bit costs a few operations,
+//! whatever the line holds.
 //!
 //! Definitions: `specs/Match.antt` (the pattern at a place), `specs/Yields.antt` (all yields of a whole line),
 //! `specs/Periods.antt` (the yield of each period), `specs/Step.antt` (what is kept, and one step of it).
