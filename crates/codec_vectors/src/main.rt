@@ -1,6 +1,7 @@
-//! Runs recorded vectors through the codec, and prints a line for each case.
+//! Runs recorded vectors through the codec and the search for frames, and prints a line for each case.
 //!
-//! The answers are those of independent implementations, and lie in `data/`, whose origin README.md tells.
+//! The answers are those of independent implementations, and lie in `data/`, whose origin README.md tells; lines that
+//! `search` makes have theirs beside them.
 //! A case that agrees prints how many values were compared; one that doesn't prints the first difference.
 //! A case is a module's function from the runtime to a `Comparison`; `main` lists them.
 #![tactic(auto)]
@@ -9,6 +10,7 @@ mod alaw;
 mod comparison;
 mod decoder;
 mod encoder;
+mod search;
 
 use std::io;
 
@@ -31,5 +33,11 @@ fn main(rt: HostRuntime) -> io::Result<()> {
         encoder::parameters(&rt, "harsh.pcm", "harsh.parameters.txt")?
     )?;
     println!(rt; "encode silence {}", encoder::silence())?;
+    println!(rt;
+        "search farm-report.txt {}",
+        search::farm(&rt, "farm-report.txt")?
+    )?;
+    println!(rt; "search offsets {}", search::offsets())?;
+    println!(rt; "search lines {}", search::lines())?;
     Ok(())
 }

@@ -1,0 +1,209 @@
+//! The search for frames: what stands on the uplinks of a farm, and lines made here.
+
+ghost use Rattle.std.specs.Prelude.{◌<◌};
+ghost use Rattle.trau_bits.specs.Bits.{AreBits};
+ghost use Rattle.trau_frame.specs.Frame.{Synced};
+ghost use Rattle.frame_sync.specs.Periods.{CarriesFrame};
+
+use crate::comparison::Comparison;
+use frame_sync::{FrameSync, Yield};
+use std::{fs, io};
+use trau_bits::{get_bit, pack, put_bit};
+use trau_frame::{Class, Kind, read_up};
+
+/// An uplink frame of good speech.
+const FRAME: [u8; 40] = [
+    0x00, 0x00, 0x88, 0x00, 0x82, 0x09, 0xBA, 0x1A, 0xE4, 0x28, 0x80, 0x12, 0xA4, 0x92, 0xA4, 0x92,
+    0xA2, 0x80, 0x81, 0x24, 0xC9, 0x24, 0xC9, 0x24, 0xA8, 0x00, 0x92, 0x49, 0x92, 0x49, 0x92, 0x45,
+    0x80, 0x02, 0xA4, 0x92, 0xA4, 0x92, 0xA6, 0xFF,
+];
+
+// ---- a farm's uplinks
+
+/// Which of the eight counts of a call a frame belongs to: good, silence descriptor, invalid one, bad, idle or other.
+fn frame_count(bits: &[u8; 320]) -> usize
+    requires bits { AreBits bits.now }
+    requires synced { Synced bits.now }
+    ensures { result < 8 }
+{
+    let frame = read_up(bits);
+    match (frame.kind, frame.class) {
+        (Kind::Idle, _) => 4,
+        (Kind::Other, _) => 5,
+        (Kind::Speech, Class::Good) => 0,
+        (Kind::Speech, Class::Sid) => 1,
+        (Kind::Speech, Class::InvalidSid) => 2,
+        (Kind::Speech, Class::Unusable) => 3,
+    }
+}
+
+/// Likewise for a frame or a miss.
+fn yield_count(found: Yield) -> usize
+    requires { CarriesFrame found }
+    ensures { result < 8 }
+{
+    match found {
+        Yield::Miss { .. } => 6,
+        Yield::Frame { bits, .. } => frame_count(&bits),
+    }
+}
+
+/// The eight counts of the first periods of an uplink.
+fn counts(up: &[u8], periods: u32) -> [i32; 8] {
+    let mut counts = [0i32; 8];
+    let mut sync = FrameSync::new();
+    let mut rest = up;
+    for period in 0..periods {
+        let Some(octets) = rest.first_chunk::<40>() else {
+            break;
+        };
+        let count = match sync.feed(octets) {
+            None => 7,
+            Some(found) => yield_count(found),
+        };
+        counts[count] = counts[count].saturating_add(1);
+        rest = &rest[40..];
+    }
+    counts
+}
+
+/// A word of a line, counted from 0, as a number, or 0.
+fn number(line: &str, index: usize) -> u32 {
+    line.split(' ')
+        .nth(index)
+        .map_or(0, |word| word.parse().unwrap_or(0))
+}
+
+/// The report of a farm has for each call a line `call C from S to E`, and behind it one with its counts. The uplink of
+/// call C is `farm-C.up`, from period S on.
+pub(crate) fn farm(rt: &HostRuntime, report: &str) -> io::Result<Comparison> {
+    let report = fs::read_to_string(rt, report)?;
+    let mut comparison = Comparison::new();
+    let mut counted = [0; 8];
+    for line in report.lines() {
+        if line.starts_with("call ") {
+            let name = format!(in rt.alloc(); "farm-{}.up", number(line, 1))?;
+            let up = fs::read(rt, &name)?;
+            counted = counts(&up, number(line, 5).saturating_sub(number(line, 3)));
+        } else if line.starts_with("counts ") {
+            for (k, got) in counted.iter().enumerate() {
+                let wanted = i32::try_from(number(line, 3 + 2 * k)).unwrap_or(-1);
+                comparison.compare(wanted, *got);
+            }
+        }
+    }
+    Ok(comparison)
+}
+
+// ---- lines made here
+
+/// Twelve periods of ones with frames at these places.
+fn line(places: &[usize]) -> [u8; 480] {
+    let mut octets = [0xFF; 480];
+    for place in places {
+        for i in 0..320 {
+            let at = place.saturating_add(i);
+            if at < 3840 {
+                put_bit(&mut octets, at, get_bit(&FRAME, i));
+            }
+        }
+    }
+    octets
+}
+
+/// The place of a frame whose bits are right, or a number that no place has.
+fn frame_told(place: u64, bits: &[u8; 320]) -> i32
+    requires { AreBits bits.now }
+{
+    let mut octets = [0; 40];
+    pack(bits, &mut octets);
+    if octets == FRAME {
+        i32::try_from(place).unwrap_or(i32::MIN)
+    } else {
+        i32::MIN
+    }
+}
+
+/// A yield as a number: of a frame its place, of a miss -2 less its place.
+fn told(found: Yield) -> i32
+    requires { CarriesFrame found }
+{
+    match found {
+        Yield::Miss { place } => (-2i32).saturating_sub(i32::try_from(place).unwrap_or(0)),
+        Yield::Frame { place, bits } => frame_told(place, &bits),
+    }
+}
+
+/// What each of the twelve periods gives, -1 for nothing.
+fn searched(octets: &[u8; 480]) -> [i32; 12] {
+    let mut all = [-1; 12];
+    let mut sync = FrameSync::new();
+    for period in 0..12 {
+        let mut block = [0; 40];
+        block.copy_from_slice(&octets[40 * period..40 * period + 40]);
+        if let Some(found) = sync.feed(&block) {
+            all[period] = told(found);
+        }
+    }
+    all
+}
+
+/// What a period gives of a line with one frame at this offset: the frame in the period that holds its last bit, then three
+/// misses.
+fn wanted_of(offset: u16, period: usize) -> i32
+    requires offset { offset < 320 }
+    requires period { period < 12 }
+{
+    let first = usize::from(offset > 0);
+    let place = i32::from(offset);
+    if period < first || period > first + 3 {
+        -1
+    } else if period == first {
+        place
+    } else {
+        -2 - place - 320 * (period - first) as i32
+    }
+}
+
+/// A frame at each of 320 offsets.
+pub(crate) fn offsets() -> Comparison {
+    let mut comparison = Comparison::new();
+    for offset in 0..320 {
+        let all = searched(&line(&[usize::from(offset)]));
+        for (period, got) in all.iter().enumerate() {
+            comparison.compare(wanted_of(offset, period), *got);
+        }
+    }
+    comparison
+}
+
+/// Lines worked by hand.
+pub(crate) fn lines() -> Comparison {
+    let mut comparison = Comparison::new();
+    // Five bits too many behind the second frame: three misses, and then the search finds the frames again.
+    let slipped = [0, 320, 645, 965, 1285, 1605, 1925, 2245, 2565, 2885, 3205];
+    let wanted = [
+        0, 320, -642, -962, -1282, -1, 1605, 1925, 2245, 2565, 2885, 3205,
+    ];
+    compare_line(&mut comparison, &slipped, &wanted);
+    // A pattern between two frames, where two frames are missing: the lock holds.
+    let between = [0, 370, 960, 1280, 1600, 1920, 2240, 2560, 2880, 3200, 3520];
+    let wanted = [
+        0, -322, -642, 960, 1280, 1600, 1920, 2240, 2560, 2880, 3200, 3520,
+    ];
+    compare_line(&mut comparison, &between, &wanted);
+    // A pattern before the first frame: the search locks on it, and is rid of it after three misses.
+    let before = [3, 400, 720, 1040, 1360, 1680, 2000, 2320, 2640, 2960, 3280];
+    let wanted = [
+        -1, 3, -325, -645, -965, 1360, 1680, 2000, 2320, 2640, 2960, 3280,
+    ];
+    compare_line(&mut comparison, &before, &wanted);
+    comparison
+}
+
+fn compare_line(comparison: &mut Comparison, places: &[usize], wanted: &[i32; 12]) {
+    let all = searched(&line(places));
+    for (want, got) in wanted.iter().zip(all.iter()) {
+        comparison.compare(*want, *got);
+    }
+}
