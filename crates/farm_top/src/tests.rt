@@ -227,10 +227,11 @@ fn each_call_of_the_outside_fails_in_turn(rt: HostRuntime) -> Result<(), Fail> {
     Ok(())
 }
 
-// An uplink, and what a relay answers and tells of it.
-fn relays(
+// An uplink, and what a command answers and tells of it.
+fn tells(
     rt: &impl Abort,
     alloc: Global,
+    command: &str,
     up: Vec<u8>,
     cut: u32,
     status: u8,
@@ -241,7 +242,7 @@ fn relays(
     line(alloc, &mut trunk, DOWN, Vec::new(alloc), cut, &[])?;
     let mut desk = desk(alloc, &[], 100)?;
     assert_eq!(rt;
-        carry(alloc, &["relay", "7"], &mut trunk, &mut desk)?,
+        carry(alloc, &[command, "7"], &mut trunk, &mut desk)?,
         status
     );
     assert_eq!(rt; desk.text(), text.as_bytes());
@@ -255,24 +256,42 @@ fn relays(
 fn an_uplink_ends_or_is_refused(rt: HostRuntime) -> Result<(), Fail> {
     let alloc = rt.alloc();
     for cut in CUTS {
-        relays(&rt, alloc, uplink(alloc, 2, 0)?, cut, 0, "relay frames 2\n")?;
-        relays(
+        tells(
             &rt,
             alloc,
+            "relay",
+            uplink(alloc, 2, 0)?,
+            cut,
+            0,
+            "relay frames 2\n",
+        )?;
+        tells(
+            &rt,
+            alloc,
+            "relay",
             uplink(alloc, 1, 39)?,
             cut,
             8,
             "relay refused 1\n",
         )?;
-        relays(
+        tells(
             &rt,
             alloc,
+            "relay",
             uplink(alloc, 1, 1)?,
             cut,
             8,
             "relay refused 1\n",
         )?;
-        relays(&rt, alloc, Vec::new(alloc), cut, 0, "relay frames 0\n")?;
+        tells(
+            &rt,
+            alloc,
+            "relay",
+            Vec::new(alloc),
+            cut,
+            0,
+            "relay frames 0\n",
+        )?;
     }
     // No sync, a bad frame, an idle frame.
     for (place, octet) in [(42, 0x08), (43, 0x08), (42, 0xC0)] {
@@ -280,12 +299,47 @@ fn an_uplink_ends_or_is_refused(rt: HostRuntime) -> Result<(), Fail> {
         if let Some(changed) = up.get_mut(place) {
             *changed = octet;
         }
-        relays(&rt, alloc, up, 1000, 8, "relay refused 1\n")?;
+        tells(&rt, alloc, "relay", up, 1000, 8, "relay refused 1\n")?;
     }
     let mut trunk = lines(alloc, 1000, &[], &[])?;
     let mut desk = desk(alloc, &[], 100)?;
     assert_eq!(rt; carry(alloc, &["decode", "7"], &mut trunk, &mut desk)?, 0);
     assert!(rt; trunk.written(OUT).starts_with(&DECODED));
+    Ok(())
+}
+
+#[test]
+fn frames_are_listed(rt: HostRuntime) -> Result<(), Fail> {
+    let alloc = rt.alloc();
+    // Four frames and three octets; the first sync bit that is 1 is broken in the second frame and in the third.
+    for cut in [41, 1000] {
+        let mut up = uplink(alloc, 4, 3)?;
+        for place in [44, 84] {
+            if let Some(changed) = up.get_mut(place) {
+                *changed = 0x02;
+            }
+        }
+        let text = "0 good\n320 miss\n640 miss\n960 good\nframes 4 left 3\n";
+        tells(&rt, alloc, "frames", up, cut, 0, text)?;
+    }
+    // A call of the line fails, or a write of the desk.
+    for (read, write, status, text) in [
+        (0, 9, 6, "line 7 up failed\n"),
+        (1, 9, 6, "0 good\nline 7 up failed\n"),
+        (2, 9, 6, "0 good\n320 good\nline 7 up failed\n"),
+        (9, 0, 4, ""),
+        (9, 1, 4, "0 good\n"),
+        (9, 2, 4, "0 good\n320 good\n"),
+        (9, 9, 0, "0 good\n320 good\nframes 2 left 0\n"),
+    ] {
+        let mut trunk = lines(alloc, 1000, &[read], &[])?;
+        let mut desk = desk(alloc, &[write], 100)?;
+        assert_eq!(rt;
+            carry(alloc, &["frames", "7"], &mut trunk, &mut desk)?,
+            status
+        );
+        assert_eq!(rt; desk.text(), text.as_bytes());
+    }
     Ok(())
 }
 

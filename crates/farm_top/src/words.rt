@@ -1,5 +1,5 @@
 // The words of the command line.
-ghost use Rattle.std.specs.Prelude.{◌≡◌, ℕ, IsNone, IfSome, map, string_bytes, codes};
+ghost use Rattle.std.specs.Prelude.{◌≡◌, ℕ, ◌↔◌, IsNone, IfSome, IsTrue, map, string_bytes, codes};
 ghost use Rattle.farm_tools.specs.declared.end.Tool.{Tool};
 ghost use Rattle.farm_tools.specs.Made.{name_of};
 ghost use Rattle.farm_top.specs.Asked.{Means};
@@ -32,6 +32,13 @@ fn tool_named(name: &str) -> Option<Tool>
     }
 }
 
+// Whether this is the name of the listing of frames.
+fn is_listing(name: &str) -> bool
+    ensures { IsTrue result ↔ (name.now ≡ codes "frames") }
+{
+    name == "frames"
+}
+
 /// What the words ask for, where they are those of a command.
 pub fn read_words(words: &[String]) -> Option<Asked>
     ensures some { IfSome result (λ a. Means (map (λ w. string_bytes w) words.now) a) }
@@ -41,7 +48,7 @@ pub fn read_words(words: &[String]) -> Option<Asked>
         return None;
     };
     let call = number_of_text(number.as_str(), 1, HIGHEST_CALL)?;
-    if name.as_str() == "frames" {
+    if is_listing(name.as_str()) {
         return Some(Asked::Frames(call));
     }
     let tool = tool_named(name.as_str())?;
