@@ -5,3 +5,6 @@ pub mod Waiting
 pub mod Calls
 pub mod Rings
 pub mod History
+pub mod Numbers
+pub mod FrameLaws
+mod Rows

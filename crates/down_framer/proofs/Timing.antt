@@ -56,7 +56,7 @@ abbrev pub AreOnTime : {A : Type 0} → List (MadeFrame A) → Type 0
 AreOnTime [] = Unit {0}
 AreOnTime (f ∷ fs) = ((f.start + 159) / 160 ≡ f.period) × AreOnTime fs
 
-grown-AreOnTime : {A : Type 0} (p : Period A) (past : List (Period A)) (fs : List (MadeFrame A)) → 160 * length past < next_start fs + 160 → AreOnTime fs → AreOnTime (grown p past fs)
+pub grown-AreOnTime : {A : Type 0} (p : Period A) (past : List (Period A)) (fs : List (MadeFrame A)) → 160 * length past < next_start fs + 160 → AreOnTime fs → AreOnTime (grown p past fs)
 grown-AreOnTime p past fs low h =
     cond_both (nat_le (next_start fs) (160 * length past)) (next_frame p past fs ∷ fs) fs AreOnTime
     (λ yes. let up : next_start fs ≤ 160 * length past = leb-true _ _ yes in (omega arith, h))

@@ -39,7 +39,7 @@ one_made p past fs l = cond-true (nat_le (next_start fs) (160 * length past)) (n
 pub zero_if : (o : Option ℕ) (v : ℤ) (h : ℕ) → o ≡ Some h → (elim o [ None ↦ v | Some h ↦ pos 0 ]) ≡ pos 0
 zero_if o v h e = ap (λ (o : Option ℕ). elim o as (λ x. ℤ) [ None ↦ v | Some h ↦ pos 0 ]) e
 
-no_shift : {A : Type 0} (p : Period A) (past : List (Period A)) (fs : List (MadeFrame A)) (h : ℕ) → due (p ∷ past) fs ≡ Some h → next_start (next_frame p past fs ∷ fs) ≡ next_start fs + 160
+pub no_shift : {A : Type 0} (p : Period A) (past : List (Period A)) (fs : List (MadeFrame A)) (h : ℕ) → due (p ∷ past) fs ≡ Some h → next_start (next_frame p past fs ∷ fs) ≡ next_start fs + 160
 no_shift p past fs h e = ap (λ v. next_start fs + octets_of v) (zero_if (due (p ∷ past) fs) (latest_shift (fields_since (p ∷ past) fs)) h e)
 
 -- the handed frame that is due, by the latest start

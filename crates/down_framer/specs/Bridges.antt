@@ -12,3 +12,9 @@ abbrev pub IsHistory : {A : Type 0} → List (Period A) → Type 0
 IsHistory [] = Unit {0}
 IsHistory (p ∷ past) =
     IsHistory past × (p.starts ≡ true → due past (made_frames past) ≡ None) × (p.bridged ≡ true → (p.starts || in_bridge past) ≡ true)
+
+-- bridges that leave a period between: a bridge starts only after a period that lies in none, and goes on without a gap
+abbrev pub AreApart : {A : Type 0} → List (Period A) → Type 0
+AreApart [] = Unit {0}
+AreApart (p ∷ past) =
+    AreApart past × (p.starts ≡ true → in_bridge past ≡ false) × (p.bridged ≡ true → (p.starts || in_bridge past) ≡ true)

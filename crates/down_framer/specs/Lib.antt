@@ -3,3 +3,4 @@ pub mod Bridges
 pub mod Memory
 pub mod Places
 pub mod Rings
+pub mod ByNumber

@@ -6,7 +6,7 @@ ghost use Rattle.trau_bits.specs.Bits.{bits_of, AreBits};
 ghost use Rattle.circular_buffer.specs.Buffer.{buffer};
 ghost use Rattle.down_framer.specs.Made.{octets_of, next_start, frame_on_line, next_frame, shift_due, made_frames, down_of};
 ghost use Rattle.down_framer.specs.Memory.{new_memory, after_put, after_frame, after_take, IsBetween, IsWithin};
-ghost use Rattle.down_framer.specs.Places.{Holds, PcmPeriod, PcmFrame, StandsBetween, StandsWithin};
+ghost use Rattle.down_framer.specs.Places.{Holds, PcmPeriod, PcmFrame, pcm_of, StandsBetween, StandsWithin};
 
 use circular_buffer::HeapCircularBuffer;
 use std::alloc::{AllocError, Global};
@@ -105,8 +105,14 @@ impl Framer {
     pub fn block(&self, octets: &mut [u8; 160])
         requires ready { 160 ≤ length self.now.held }
         ensures value { octets.new ≡ take 160 self.now.held }
+
+        // By absolute places, of whatever lines.
         ensures places { (pcm line : List ℕ) (out start : ℕ) → Holds pcm line out start self.now →
             octets.new ≡ take 160 (drop start pcm) }
+
+        // Within a period of any history, the octets from the next frame's start on.
+        ensures history { (bits : List PcmFrame → List ℕ) (p : PcmPeriod) (past : List PcmPeriod) (fs : List PcmFrame) →
+            StandsWithin bits p past fs self.now → octets.new ≡ take 160 (drop (next_start fs) (pcm_of (p ∷ past))) }
     {
         copy_first(&self.octets, octets);
     }

@@ -6,13 +6,15 @@
 //! octets are taken a second time and the frame goes without its four T bits. One octet of the exchange's line is two
 //! bits of the downlink, so what is held, in store and to be skipped is always balanced.
 //!
-//! `framer` has the two rings. Definitions: `specs/Made.antt` (the made frames and the downlink, by absolute places),
+//! `framer` has the two rings, `laws` what the definitions have in common. Definitions: `specs/Made.antt` (the made frames and the downlink, by absolute places),
 //! `specs/ByNumber.antt` (the same frame by frame, over a list of bridges), `specs/Places.antt` (what a framer holds, by
 //! absolute places), `specs/Memory.antt` (one call after another). Used by a call's leg.
 #![tactic(auto)]
 
 mod framer;
+mod laws;
 #[cfg(test)]
 mod tests;
 
 pub use framer::Framer;
+pub use laws::{bridges_apart, frames_by_number, frames_in_time};

@@ -65,7 +65,7 @@ yield_in-more periods octets =
 
 -- ---- each in its period
 
-ends-yield_of : (octets : List ℕ) (past : List (List ℕ)) → IfSome (yield_of octets past) (EndsIn (length past))
+pub ends-yield_of : (octets : List ℕ) (past : List (List ℕ)) → IfSome (yield_of octets past) (EndsIn (length past))
 ends-yield_of octets past = ends-searched (bit_in (line_bits (octets ∷ past))) (320 * length past) (mode_after past) (near-mode_after past)
 
 ends_in-own : (k : ℕ) (y : Yield) → EndsIn k y → ends_in k y ≡ true

@@ -1,0 +1,2 @@
+-- The job of the tests.
+pub mod Counter

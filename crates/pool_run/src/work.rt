@@ -1,0 +1,45 @@
+//! A job that is run in slices.
+
+ghost use Rattle.std.specs.Prelude.{◌≡◌, ℕ, ◌-◌, ◌≤◌, ◌↔◌, IsTrue};
+
+/// A job that is run in slices of one place or more, place by place, until no place is left. The places of a call are
+/// the periods of 20 ms that it has in a round.
+pub trait Work: Drop {
+    /// The places that are left.
+    ghost left: { Self → ℕ };
+
+    /// The finished job that this job becomes.
+    ghost finish: { Self → Self };
+
+    /// The number of its call.
+    ghost number: { Self → ℕ };
+
+    /// The number of its call; of a bridged pair, the lower one.
+    fn call(&self) -> u32
+        ensures { result ≡ number self.now };
+
+    /// Runs the next `q` places, or those that are left where they are fewer.
+    fn slice(&mut self, q: u32)
+        requires { 1 ≤ q }
+        // (`-` stops at 0.)
+        ensures left { left self.new ≡ left self.old - q }
+        ensures finish { finish self.new ≡ finish self.old }
+        ensures call { number self.new ≡ number self.old };
+
+    /// Whether no place is left.
+    fn finished(&self) -> bool
+        ensures { IsTrue result ↔ (left self.now ≡ 0) };
+
+    /// A job with no place left is its own finished job.
+    ghost stays: { (x : Self) → left x ≡ 0 → finish x ≡ x };
+}
+
+/// Runs a job to its end.
+pub(crate) fn run_to_end<W: Work>(job: &mut W, slice: u32)
+    requires { 1 ≤ slice }
+    ensures { job.new ≡ W.finish job.old }
+{
+    while !job.finished() {
+        job.slice(slice);
+    }
+}
