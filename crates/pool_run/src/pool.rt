@@ -1,6 +1,6 @@
 //! The room of a pool, and its run.
 
-ghost use Rattle.std.specs.Prelude.{◌≡◌, ℕ, ◌<◌, ◌≤◌, map, IfOk, vec_len};
+ghost use Rattle.std.specs.Prelude.{◌≡◌, ◌<◌, ◌≤◌, map, IfOk, vec_len};
 
 use crate::Work;
 use crate::work::run_to_end;

@@ -65,13 +65,10 @@ fn each_job_is_finished_in_its_place(rt: HostRuntime) -> Result<(), Fail> {
         let jobs = counters(rt.alloc(), &given)?;
         let answer = run_pool(room, jobs, slice);
         assert_eq!(rt; answer.len(), 4);
-        for (job, (call, digits)) in answer.iter().zip(want) {
-            assert!(rt; job.finished(), "slices of {slice}");
-            assert_eq!(rt;
-                (job.call(), job.digits),
-                (call, digits),
-                "slices of {slice}"
-            );
+        for k in 0..4 {
+            let job = &answer[k];
+            assert!(rt; job.finished());
+            assert_eq!(rt; (job.call(), job.digits), want[k], "slices of {slice}");
         }
     }
     Ok(())
