@@ -175,6 +175,15 @@ fn due(row: &Row, trunk: &MemTrunk, desk: &MemDesk) -> (u8, &'static str) {
     }
 }
 
+// The calls that fail: this one, or none.
+fn failing_calls(alloc: Global, number: u32, here: bool) -> Result<Vec<u32>, AllocError> {
+    let mut fails = Vec::new(alloc);
+    if here {
+        fails.push(number)?;
+    }
+    Ok(fails)
+}
+
 // Carries out a command in which one call fails, and compares what it leaves with what is due.
 fn fails_at(
     rt: &impl Abort,
@@ -184,15 +193,11 @@ fn fails_at(
     number: u32,
     failing: Failing,
 ) -> Result<(), Fail> {
-    let fails = [number];
-    let none: &[u32] = &[];
-    let (in_fails, out_fails, desk_fails) = match failing {
-        Failing::Incoming => (fails.as_slice(), none, none),
-        Failing::Outgoing => (none, fails.as_slice(), none),
-        Failing::Desk => (none, none, fails.as_slice()),
-    };
-    let mut trunk = lines(alloc, cut, in_fails, out_fails)?;
-    let mut desk = desk(alloc, desk_fails, 100)?;
+    let in_fails = failing_calls(alloc, number, failing == Failing::Incoming)?;
+    let out_fails = failing_calls(alloc, number, failing == Failing::Outgoing)?;
+    let desk_fails = failing_calls(alloc, number, failing == Failing::Desk)?;
+    let mut trunk = lines(alloc, cut, in_fails.as_slice(), out_fails.as_slice())?;
+    let mut desk = desk(alloc, desk_fails.as_slice(), 100)?;
     let tool = row.tool;
     let status = carry(alloc, &[tool, "7"], &mut trunk, &mut desk)?;
     let (expected, text) = due(row, &trunk, &desk);
