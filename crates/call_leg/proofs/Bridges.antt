@@ -1,0 +1,171 @@
+-- What is handed over, and the start and the end of a bridge.
+use Rattle.std.proofs.Common.{◌≡◌, refl, sym, ap, ◌∙◌, subst, ℕ, ◌+◌, ◌-◌, ◌*◌, ◌≤◌, suc, Bool, true, false, not, ◌&&◌, ◌||◌, nat_le, Option, Some, None, is_some, filter, List, [], ◌∷◌, ◌++◌, length, drop, slice_get, length-append, arith, inl, inr}
+use Rattle.std.specs.Prelude.{◌==◌}
+use Rattle.std.proofs.lemmas.Bool.{cond-false, cond_both, ne_eqb, true≢false, and_right}
+use Rattle.std.proofs.lemmas.List.{append-nil}
+use Rattle.circular_buffer.specs.Buffer.{Buffer, buffer, keep_last}
+use Rattle.fr_encoder.specs.Step as encoder
+use Rattle.tx_dtx.specs.Step as tx
+use Rattle.trau_params.specs.Fields.{Fields}
+use Rattle.rx_handler.specs.Origin.{EffectiveFields, Quiet, Speech, Made}
+use Rattle.down_framer.specs.Made.{Period, MadeFrame, next_start, latest_start, made_from, due, grown, next_frame, made_frames, epoch_of}
+use Rattle.down_framer.specs.Bridges.{IsHistory}
+use Rattle.down_framer.specs.Places.{Holds}
+use Rattle.down_framer.proofs.Waiting.{bridged_at-late, Phase, phase}
+use Rattle.call_leg.specs.Periods.{CallPeriod, pcm_of, bridges_begun, effective_now}
+use Rattle.call_leg.specs.Down.{CallFrame, down_periods, frames_of, is_coded, coded_stretch, down_made}
+use Rattle.call_leg.specs.Out.{plain_with, plain_stretch}
+use Rattle.call_leg.specs.Waiting.{bits_in, Waits}
+use Rattle.call_leg.specs.Settings.{Settings, epoch_now, with_bridge, without_bridge}
+use Rattle.call_leg.specs.Memory.{DownMemory, CoderStands}
+use Rattle.call_leg.specs.Places.{Halfway, Between, is_draining, carried, in_u32}
+use Rattle.call_leg.proofs.Queue.{waits-some}
+use Rattle.call_leg.proofs.Step.{begun-same}
+use Rattle.call_leg.proofs.Enter.{place-none, was}
+
+-- ---- between periods at most one frame waits
+
+short : (q : List (List ℕ)) → slice_get q 1 ≡ None → length q ≤ 1
+short [] e = omega arith
+short (x ∷ []) e = omega arith
+short (x ∷ y ∷ ys) e = cc
+
+pub queue-short : (past : List CallPeriod) (q : List (List ℕ)) → IsHistory (down_periods past) → Waits past (frames_of past) q → length q ≤ 1
+queue-short past q h w = go (latest_start (down_periods past)) refl
+  where
+    by_phase : (s : ℕ) → latest_start (down_periods past) ≡ Some s → Phase s (down_periods past) (frames_of past) → length q ≤ 1
+    by_phase s e (inl v) = short q (was past (frames_of past) q (Some s) w e 1 ∙ ap (bits_in past) (place-none (down_periods past) (frames_of past) s 1 (s + made_from s (frames_of past) + 1) refl (v.over (s + made_from s (frames_of past) + 1) (omega arith))))
+    by_phase s e (inr b) =
+        let late = b.newest in
+        short q (was past (frames_of past) q (Some s) w e 1 ∙ ap (bits_in past) (place-none (down_periods past) (frames_of past) s 1 (s + made_from s (frames_of past) + 1) refl (bridged_at-late (down_periods past) (s + made_from s (frames_of past) + 1) (omega arith))))
+
+    go : (o : Option ℕ) → latest_start (down_periods past) ≡ o → length q ≤ 1
+    go None e = short q (was past (frames_of past) q None w e 1)
+    go (Some s) e = by_phase s e (phase (down_periods past) s h e)
+
+pub pushed : (q q1 : Buffer (List ℕ)) (x : List ℕ) → q.capacity ≡ 2 → length q.items ≤ 1 → q1 ≡ buffer (keep_last q.capacity (q.items ++ x ∷ [])) q.capacity → q1.items ≡ q.items ++ x ∷ []
+pushed q q1 x r l e =
+    let n = length-append q.items (x ∷ []) in
+    let z : length (q.items ++ x ∷ []) - q.capacity ≡ 0 = omega arith in
+    ap (λ (b : Buffer (List ℕ)). b.items) e ∙ ap (λ k. drop k (q.items ++ x ∷ [])) z
+
+-- before the handing over at most one waits
+pub halfway-short : (c : ℕ) (ts : List CallPeriod) (now : Settings) (up : List ℕ) (d : DownMemory) → Halfway c ts now up None d → length d.waiting ≤ 1
+halfway-short c ts now up d h = subst (λ z. length z ≤ 1) (sym (h.waits.2 ∙ append-nil h.waits.0)) (queue-short ts h.waits.0 h.history h.waits.1)
+
+pub hand-stands : (c : ℕ) (ts : List CallPeriod) (now : Settings) (up : List ℕ) (x x1 : List ℕ) (d d1 : DownMemory) → Halfway c ts now up None d → x ≡ x1 →
+    d1.waiting ≡ d.waiting ++ x ∷ [] →
+    d1.framer ≡ d.framer → d1.align ≡ d.align → d1.coder ≡ d.coder → d1.level ≡ d.level → d1.mode ≡ d.mode → d1.uplink ≡ d.uplink → d1.quiet ≡ d.quiet → d1.bridged ≡ d.bridged → d1.sent ≡ d.sent → d1.made ≡ d.made →
+    Halfway c ts now up (Some x1) d1
+hand-stands c ts now up x x1 d d1 h ex eq ef al co lv md ul qt br sn mn = record {
+  long = h.long;
+  history = h.history;
+  places = subst (λ z. Holds (pcm_of ts) (down_made c (frames_of ts)) (320 * length (down_periods ts)) (next_start (frames_of ts)) z) (sym ef) h.places;
+  waits = (h.waits.0, h.waits.1, eq ∙ ap (λ z. z ++ x ∷ []) (h.waits.2 ∙ append-nil h.waits.0) ∙ ap (λ z. h.waits.0 ++ z ∷ []) ex);
+  kept = ap (λ z. z.kept) al ∙ h.kept;
+  frozen = ap (λ z. z.frozen) al ∙ h.frozen;
+  coded = subst (CoderStands (coded_stretch c (epoch_now ts now) (frames_of ts))) (sym co) h.coded;
+  sent = sn ∙ h.sent;
+  made = mn ∙ h.made;
+  level = lv ∙ h.level;
+  mode = md ∙ h.mode;
+  uplink = ul ∙ h.uplink;
+  quiet = qt ∙ h.quiet;
+  bridged = br ∙ h.bridged;
+  alone = h.alone;
+  goes_on = h.goes_on;
+}
+
+-- ---- no frame and no period is of an epoch to come
+
+abbrev Within : {A : Type 0} → ℕ → List (MadeFrame A) → Type 0
+Within e [] = Unit {0}
+Within e (f ∷ fs) = (f.epoch ≤ e) × Within e fs
+
+grown-within : {A : Type 0} (p : Period A) (past : List (Period A)) (fs : List (MadeFrame A)) → Within (epoch_of (p ∷ past)) fs → Within (epoch_of (p ∷ past)) (grown p past fs)
+grown-within p past fs b = cond_both (nat_le (next_start fs) (160 * length past)) (next_frame p past fs ∷ fs) fs (Within (epoch_of (p ∷ past))) (λ y. (omega arith, b)) (λ n. b)
+
+within-more : {A : Type 0} (a b : ℕ) (fs : List (MadeFrame A)) → a ≤ b → Within a fs → Within b fs
+within-more a b [] l w = tt
+within-more a b (f ∷ fs) l w = let x = w.0 in (omega arith, within-more a b fs l w.1)
+
+epoch-more : {A : Type 0} (p : Period A) (past : List (Period A)) → epoch_of past ≤ epoch_of (p ∷ past)
+epoch-more p past = cond_both p.starts (p ∷ filter (λ p. p.starts) past) (filter (λ p. p.starts) past) (λ z. length (filter (λ p. p.starts) past) ≤ length z) (λ y. omega arith) (λ n. omega arith)
+
+made-within : {A : Type 0} (ps : List (Period A)) → Within (epoch_of ps) (made_frames ps)
+made-within [] = tt
+made-within (p ∷ past) = grown-within p past (grown p past (made_frames past)) (grown-within p past (made_frames past) (within-more (epoch_of past) (epoch_of (p ∷ past)) (made_frames past) (epoch-more p past) (made-within past)))
+
+stretch-new : (c e : ℕ) (fs : List CallFrame) → Within e fs → coded_stretch c (suc e) fs ≡ []
+stretch-new c e [] w = refl
+stretch-new c e (f ∷ fs) w =
+    cond-false (is_coded c f && f.epoch == suc e) (f ∷ coded_stretch c (suc e) fs) [] (and_right (is_coded c f) (f.epoch == suc e) (ne_eqb f.epoch (suc e) (λ q. let x = w.0 in omega arith)))
+
+carried_none : (e : ℕ) (fs : List CallFrame) → Within e fs → carried (suc e) fs ≡ 0
+carried_none e [] w = refl
+carried_none e (f ∷ fs) w =
+    cond-false (is_some f.carries && f.epoch == suc e) (suc (carried (suc e) fs)) (carried (suc e) fs) (and_right (is_some f.carries) (f.epoch == suc e) (ne_eqb f.epoch (suc e) (λ q. let x = w.0 in omega arith)))
+    ∙ carried_none e fs w.1
+
+carried-new : (c : ℕ) (ts : List CallPeriod) → carried (suc (bridges_begun ts)) (frames_of ts) ≡ 0
+carried-new c ts = carried_none (bridges_begun ts) (frames_of ts) (subst (λ e. Within e (frames_of ts)) (begun-same ts) (made-within (down_periods ts)))
+
+pub coded-new : (c : ℕ) (ts : List CallPeriod) → coded_stretch c (suc (bridges_begun ts)) (frames_of ts) ≡ []
+coded-new c ts = stretch-new c (bridges_begun ts) (frames_of ts) (subst (λ e. Within e (frames_of ts)) (begun-same ts) (made-within (down_periods ts)))
+
+plain-not : (e : EffectiveFields) (b : Bool) (more : List Fields) → b ≡ false → plain_with e b more ≡ []
+plain-not Quiet b more q = refl
+plain-not (Speech p) b more q = cond-false b (p ∷ more) [] q
+plain-not (Made p) b more q = cond-false b (p ∷ more) [] q
+
+pub plain-new : (c : ℕ) (ts : List CallPeriod) → plain_stretch c (suc (bridges_begun ts)) ts ≡ []
+plain-new c [] = refl
+plain-new c (t ∷ past) =
+    plain-not (effective_now c (t ∷ past)) _ _ (and_right (not (is_some t.handed)) (bridges_begun (t ∷ past) == suc (bridges_begun (t ∷ past))) (ne_eqb (bridges_begun (t ∷ past)) (suc (bridges_begun (t ∷ past))) (λ q. omega arith)))
+
+-- ---- a bridge starts, and ends
+
+pub begins : (c : ℕ) (ts : List CallPeriod) (now : Settings) (d d1 : DownMemory) → due (down_periods ts) (frames_of ts) ≡ None → Between c ts now d →
+    d1.align.kept ≡ d.align.kept → d1.align.frozen ≡ true → encoder.Stands [] d1.coder.encoder → tx.Stands [] d1.coder.tx → d1.bridged ≡ true →
+    d1.framer ≡ d.framer → d1.waiting ≡ d.waiting → d1.level ≡ d.level → d1.mode ≡ d.mode → d1.uplink ≡ d.uplink → d1.sent ≡ 0 → d1.made ≡ d.made → Between c ts (with_bridge now) d1
+begins c ts now d d1 n h ek ez en tx br ef qu lv md ul sn mn = record {
+  long = h.long;
+  history = h.history;
+  places = subst (λ z. Holds (pcm_of ts) (down_made c (frames_of ts)) (320 * length (down_periods ts)) (next_start (frames_of ts)) z) (sym ef) h.places;
+  waits = subst (Waits ts (frames_of ts)) (sym qu) h.waits;
+  kept = ek ∙ h.kept;
+  frozen = ez;
+  coded = subst (λ z. CoderStands z d1.coder) (sym (coded-new c ts)) (record { encoder = en; tx = tx });
+  sent = sn ∙ sym (ap in_u32 (carried-new c ts));
+  made = mn ∙ h.made;
+  level = lv ∙ h.level;
+  mode = md ∙ h.mode;
+  uplink = ul ∙ h.uplink;
+  bridged = br;
+  alone = λ e. n;
+  goes_on = λ e. refl;
+}
+
+pub ends : (c : ℕ) (ts : List CallPeriod) (now : Settings) (d d1 : DownMemory) → now.bridged ≡ true → Between c ts now d →
+    d1.align.kept ≡ d.align.kept → d1.align.frozen ≡ (d.align.frozen && (false || not (length d.waiting == 0))) → d1.bridged ≡ false →
+    d1.framer ≡ d.framer → d1.waiting ≡ d.waiting → d1.coder ≡ d.coder → d1.level ≡ d.level → d1.mode ≡ d.mode → d1.uplink ≡ d.uplink → d1.sent ≡ d.sent → d1.made ≡ d.made → Between c ts (without_bridge now) d1
+ends c ts now d d1 b h ek ez br ef qu co lv md ul sn mn = record {
+  long = h.long;
+  history = h.history;
+  places = subst (λ z. Holds (pcm_of ts) (down_made c (frames_of ts)) (320 * length (down_periods ts)) (next_start (frames_of ts)) z) (sym ef) h.places;
+  waits = subst (Waits ts (frames_of ts)) (sym qu) h.waits;
+  kept = ek ∙ h.kept;
+  frozen = ez ∙ ap (λ z. z && not (length d.waiting == 0)) (h.frozen ∙ ap (λ z. z || is_some (due (down_periods ts) (frames_of ts))) b) ∙ waits-some ts (frames_of ts) d.waiting h.waits;
+  coded = subst (CoderStands (coded_stretch c (epoch_now ts now) (frames_of ts))) (sym co) h.coded;
+  sent = sn ∙ h.sent;
+  made = mn ∙ h.made;
+  level = lv ∙ h.level;
+  mode = md ∙ h.mode;
+  uplink = ul ∙ h.uplink;
+  bridged = br;
+  alone = h.alone;
+  goes_on = λ e. absurd (true≢false (sym e));
+}
+
+pub drains : (c : ℕ) (ts : List CallPeriod) (now : Settings) (d : DownMemory) → Between c ts now d → (not d.bridged && not (length d.waiting == 0)) ≡ is_draining ts now
+drains c ts now d h = ap (λ z. not z && not (length d.waiting == 0)) h.bridged ∙ ap (λ z. not now.bridged && z) (waits-some ts (frames_of ts) d.waiting h.waits)

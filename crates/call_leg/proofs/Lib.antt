@@ -1,0 +1,14 @@
+pub mod Mapping
+pub mod Shifts
+pub mod Queue
+pub mod Enter
+pub mod Period
+pub mod Stretch
+pub mod Step
+pub mod Bridges
+pub mod Bounds
+pub mod Heard
+pub mod Coding
+pub mod Upward
+pub mod Stepping
+pub mod Lines

@@ -1,0 +1,18 @@
+use Rattle.std.proofs.Common.{sym, ap, subst, arith}
+use Rattle.frame_sync.specs.Step.{SyncMemory}
+use Rattle.call_leg.specs.Settings.{epoch_now}
+use Rattle.call_leg.specs.Places.{sent_now}
+use Rattle.call_leg.specs.Stands.{Stands}
+use Rattle.call_leg.specs.contracts.leg.Leg.{the_view}
+use Rattle.call_leg.proofs.Bounds.{carried-at_most, exact_u32}
+use Rattle.call_leg.proofs.Heard.{length-ups_of}
+use Rattle.call_leg.proofs.leg.Leg.sent.Goals as goal
+
+pub returns : goal.returns
+returns c = λ call ts now given.
+    let h : Stands call ts now (the_view c.self.inside) = subst (Stands call ts now) (sym c.self.view_is) given in
+    let count = ap (λ (m : SyncMemory). m.periods) h.search.after in
+    let most = c.self.invariant.0 in
+    let long = length-ups_of ts in
+    let few = carried-at_most (epoch_now ts now) ts in
+    exact_u32 c.self.inside.down.sent (sent_now ts now) h.down.sent (omega arith)

@@ -1,0 +1,11 @@
+pub mod Periods
+pub mod Uplink
+pub mod Settings
+pub mod Counted
+pub mod Out
+pub mod Down
+pub mod Waiting
+pub mod Memory
+pub mod Places
+pub mod Stands
+pub mod Step

@@ -1,0 +1,97 @@
+-- The law of places: what the downlink side of a leg holds, by the periods so far. Lists have the newest first.
+use Rattle.std.specs.Prelude.{◌≡◌, ℕ, ◌+◌, ◌*◌, ◌<◌, true, not, ◌&&◌, ◌||◌, ◌==◌, if◌then◌else◌, Bool, Option, None, is_some, List, [], ◌∷◌, ◌++◌, length, option_to_list, suc, min}
+use Rattle.time_align.specs.Shift.{latest_ask}
+use Rattle.down_framer.specs.Made.{next_start, due, fields_since}
+use Rattle.down_framer.specs.Bridges.{IsHistory, in_bridge}
+use Rattle.down_framer.specs.Places.{Holds}
+use Rattle.call_leg.specs.Uplink.{field_of, is_quiet, dtxd_after, heard_as}
+use Rattle.call_leg.specs.Periods.{CallPeriod, pcm_of, sighting_after, heard_of, bridges_begun, quiet_now, dtxd_of}
+use Rattle.rx_handler.specs.Past.{effective_of}
+use Rattle.call_leg.specs.Settings.{Settings, epoch_now}
+use Rattle.call_leg.specs.Down.{CallFrame, down_periods, frames_of, coded_stretch, down_made}
+use Rattle.call_leg.specs.Waiting.{Waits}
+use Rattle.call_leg.specs.Memory.{DownMemory, CoderStands}
+
+-- how many frames of the bridge with this number carry a handed one
+abbrev pub carried : ℕ → List CallFrame → ℕ
+carried epoch [] = 0
+carried epoch (f ∷ fs) = if is_some f.carries && f.epoch == epoch then suc (carried epoch fs) else carried epoch fs
+
+-- the handed frames that were sent in the latest bridge
+abbrev pub sent_now : List CallPeriod → Settings → ℕ
+sent_now ts now = carried (epoch_now ts now) (frames_of ts)
+
+-- a handed frame waits after the bridge
+abbrev pub is_draining : List CallPeriod → Settings → Bool
+is_draining ts now = not now.bridged && is_some (due (down_periods ts) (frames_of ts))
+
+-- counts end where their types do
+abbrev pub in_u32 : ℕ → ℕ
+in_u32 n = min n 4294967295
+
+abbrev pub in_u64 : ℕ → ℕ
+in_u64 n = min n 18446744073709551615
+
+-- In period t after those of the past, its octets put and the frames `fs` made.
+pub record Inside (call : ℕ) (t : CallPeriod) (past : List CallPeriod) (fs : List CallFrame) (d : DownMemory) : Type 0 where
+  pub long : length (pcm_of (t ∷ past)) ≡ 160 * length (down_periods past) + 160
+  pub low : 160 * length (down_periods past) < next_start fs + 160
+  pub line : length (down_made call fs) ≡ 320 + 2 * next_start fs
+  pub places : Holds (pcm_of (t ∷ past)) (down_made call fs) (320 * length (down_periods past)) (next_start fs) d.framer
+  pub waits : Waits (t ∷ past) fs d.waiting
+  pub kept : d.align.kept ≡ latest_ask (fields_since (down_periods (t ∷ past)) fs)
+  pub frozen : d.align.frozen ≡ (is_some t.handed || is_some (due (down_periods (t ∷ past)) fs))
+  -- within a bridge no frame is made but where one waits
+  pub punctual : is_some t.handed ≡ true → due (down_periods (t ∷ past)) fs ≡ None → 160 * length (down_periods past) < next_start fs
+  pub coded : CoderStands (coded_stretch call (bridges_begun (t ∷ past)) fs) d.coder
+  pub sent : d.sent ≡ in_u32 (carried (bridges_begun (t ∷ past)) fs)
+  pub made : d.made ≡ in_u64 (length fs)
+  pub level : d.level ≡ t.level
+  pub mode : d.mode ≡ t.mode
+  pub uplink : d.uplink ≡ dtxd_of (t ∷ past)
+  pub quiet : d.quiet ≡ quiet_now call (t ∷ past)
+  pub bridged : d.bridged ≡ is_some t.handed
+
+-- Between periods, after all these, with the settings `now` for the next one.
+pub record Between (call : ℕ) (ts : List CallPeriod) (now : Settings) (d : DownMemory) : Type 0 where
+  pub long : length (pcm_of ts) ≡ 160 * length (down_periods ts)
+  pub history : IsHistory (down_periods ts)
+  -- held are the octets of the Pcm line from the next frame's start on, or so many are to be skipped as it lies past
+  -- the line; in store is what is made of the downlink and not yet out
+  pub places : Holds (pcm_of ts) (down_made call (frames_of ts)) (320 * length (down_periods ts)) (next_start (frames_of ts)) d.framer
+  -- what was handed over in the latest bridge and no frame has carried yet
+  pub waits : Waits ts (frames_of ts) d.waiting
+  -- the shift asked for last since the last frame that carried nothing
+  pub kept : d.align.kept ≡ latest_ask (fields_since (down_periods ts) (frames_of ts))
+  -- shifts are frozen within a bridge, and as long as a frame waits
+  pub frozen : d.align.frozen ≡ (now.bridged || is_some (due (down_periods ts) (frames_of ts)))
+  -- the coder ran over the stretch that the next frame goes on with
+  pub coded : CoderStands (coded_stretch call (epoch_now ts now) (frames_of ts)) d.coder
+  pub sent : d.sent ≡ in_u32 (sent_now ts now)
+  pub made : d.made ≡ in_u64 (length (frames_of ts))
+  pub level : d.level ≡ now.level
+  pub mode : d.mode ≡ now.mode
+  pub uplink : d.uplink ≡ dtxd_of ts
+  pub bridged : d.bridged ≡ now.bridged
+  -- a bridge starts only where no frame waits, and goes on without a gap
+  pub alone : now.starts ≡ true → due (down_periods ts) (frames_of ts) ≡ None
+  pub goes_on : now.bridged ≡ true → (now.starts || in_bridge (down_periods ts)) ≡ true
+
+-- Between the halves of a period: its octets of the Up line are heard, and `handed` is handed over.
+pub record Halfway (call : ℕ) (ts : List CallPeriod) (now : Settings) (up : List ℕ) (handed : Option (List ℕ)) (d : DownMemory) : Type 0 where
+  pub long : length (pcm_of ts) ≡ 160 * length (down_periods ts)
+  pub history : IsHistory (down_periods ts)
+  pub places : Holds (pcm_of ts) (down_made call (frames_of ts)) (320 * length (down_periods ts)) (next_start (frames_of ts)) d.framer
+  pub waits : (before : List (List ℕ)) × Waits ts (frames_of ts) before × (d.waiting ≡ before ++ option_to_list handed)
+  pub kept : d.align.kept ≡ latest_ask (field_of (sighting_after ts up) ∷ fields_since (down_periods ts) (frames_of ts))
+  pub frozen : d.align.frozen ≡ (now.bridged || is_some (due (down_periods ts) (frames_of ts)))
+  pub coded : CoderStands (coded_stretch call (epoch_now ts now) (frames_of ts)) d.coder
+  pub sent : d.sent ≡ in_u32 (sent_now ts now)
+  pub made : d.made ≡ in_u64 (length (frames_of ts))
+  pub level : d.level ≡ now.level
+  pub mode : d.mode ≡ now.mode
+  pub uplink : d.uplink ≡ dtxd_after (sighting_after ts up) (dtxd_of ts)
+  pub quiet : d.quiet ≡ is_quiet (effective_of call (heard_as (sighting_after ts up) ∷ heard_of ts))
+  pub bridged : d.bridged ≡ now.bridged
+  pub alone : now.starts ≡ true → due (down_periods ts) (frames_of ts) ≡ None
+  pub goes_on : now.bridged ≡ true → (now.starts || in_bridge (down_periods ts)) ≡ true

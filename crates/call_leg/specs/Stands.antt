@@ -1,0 +1,29 @@
+-- What a leg stands for.
+use Rattle.std.specs.Prelude.{◌≡◌, ℕ, not, Option, List, ◌∷◌}
+use Rattle.frame_sync.specs.Step as search
+use Rattle.rx_handler.specs.Table as rx
+use Rattle.rx_handler.specs.Past.{effective_of}
+use Rattle.fr_decoder.specs.Step as decoder
+use Rattle.call_leg.specs.Uplink.{heard_as}
+use Rattle.call_leg.specs.Periods.{CallPeriod, ups_of, sighting_after, heard_of}
+use Rattle.call_leg.specs.Settings.{Settings, epoch_now}
+use Rattle.call_leg.specs.Counted.{counted, sightings_counted}
+use Rattle.call_leg.specs.Out.{plain_with, plain_stretch}
+use Rattle.call_leg.specs.Memory.{LegMemory}
+use Rattle.call_leg.specs.Places.{Between, Halfway}
+
+-- Between periods: the leg is that of a call that had these periods, with the settings `now` for the next one.
+pub record Stands (call : ℕ) (ts : List CallPeriod) (now : Settings) (m : LegMemory) : Type 0 where
+  pub search : search.Stands (ups_of ts) m.search
+  pub rx : rx.Stands call (heard_of ts) m.rx
+  pub decoder : decoder.Stands (plain_stretch call (epoch_now ts now) ts) m.decoder
+  pub counts : m.counts ≡ sightings_counted ts
+  pub down : Between call ts now m.down
+
+-- Between the halves of a period: the octets of the Up line were worked, and `handed` was handed over.
+pub record Midway (call : ℕ) (ts : List CallPeriod) (now : Settings) (up : List ℕ) (handed : Option (List ℕ)) (m : LegMemory) : Type 0 where
+  pub search : search.Stands (up ∷ ups_of ts) m.search
+  pub rx : rx.Stands call (heard_as (sighting_after ts up) ∷ heard_of ts) m.rx
+  pub decoder : decoder.Stands (plain_with (effective_of call (heard_as (sighting_after ts up) ∷ heard_of ts)) (not now.bridged) (plain_stretch call (epoch_now ts now) ts)) m.decoder
+  pub counts : m.counts ≡ counted (sighting_after ts up) (sightings_counted ts)
+  pub down : Halfway call ts now up handed m.down

@@ -1,0 +1,170 @@
+-- A leg from call to call.
+use Rattle.std.specs.Prelude.{ℕ, ◌+◌, ℤ, pos, Bool, true, false, not, ◌||◌, ◌==◌, nat_le, if◌then◌else◌, Option, Some, None, List, [], ◌∷◌, ◌++◌, length, take, drop, replicate}
+use Rattle.circular_buffer.specs.Buffer.{keep_last}
+use Rattle.trau_params.specs.Fields.{Fields}
+use Rattle.trau_params.specs.Bits260.{bits260}
+use Rattle.trau_orders.specs.declared.order.DtxMode.{DtxMode}
+use Rattle.trau_orders.specs.declared.order.DtxMode.TheVariants.{Uplink}
+use Rattle.trau_frame.specs.declared.frames.DownFrame.{DownFrame}
+use Rattle.trau_frame.specs.declared.frames.DownFrame.TheVariants as frame
+use Rattle.trau_frame.specs.DownFrame as frames
+use Rattle.frame_sync.specs.Step as search
+use Rattle.rx_handler.specs.Origin.{EffectiveFields, Quiet, Speech, Made}
+use Rattle.rx_handler.specs.Table as rx
+use Rattle.fr_decoder.specs.Step as decoder
+use Rattle.fr_encoder.specs.Step as encoder
+use Rattle.tx_dtx.specs.Step as tx
+use Rattle.time_align.specs.Memory as align
+use Rattle.down_framer.specs.Memory as framer
+use Rattle.call_leg.specs.Uplink.{Sighting, sighting_in, heard_as, field_of, dtxd_after, is_quiet, handed_fields}
+use Rattle.call_leg.specs.Periods.{dtx_in}
+use Rattle.call_leg.specs.Counted.{no_counts, counted}
+use Rattle.call_leg.specs.Out.{compressed}
+use Rattle.call_leg.specs.Down.{expanded, coded_as, speech}
+use Rattle.call_leg.specs.Memory.{CoderMemory, home_coder, DownMemory, LegMemory}
+use Rattle.call_leg.specs.Places.{in_u32, in_u64}
+
+-- ---- a new leg
+
+abbrev pub home_down : DownMemory
+home_down = record {
+  framer = framer.new_memory;
+  align = align.new_memory;
+  waiting = [];
+  coder = home_coder;
+  level = pos 256;
+  mode = Uplink;
+  uplink = false;
+  quiet = true;
+  bridged = false;
+  sent = 0;
+  made = 0;
+}
+
+abbrev pub home_leg : ℕ → LegMemory
+home_leg call = record { search = search.home_memory; rx = rx.first_memory call; decoder = decoder.home_memory; counts = no_counts; down = home_down }
+
+-- ---- the uplink half
+
+-- a field is asked, if there is one
+abbrev pub asked : align.AlignMemory → Option ℕ → align.AlignMemory
+asked m None = m
+asked m (Some field) = align.after_ask m field
+
+-- what the downlink side takes from the uplink
+abbrev pub after_sighting : DownMemory → Sighting → Bool → DownMemory
+after_sighting d s quiet = record d { align = asked d.align (field_of s); uplink = dtxd_after s d.uplink; quiet = quiet }
+
+-- the octets of a frame that is decoded, and of a period in which none is
+abbrev pub played_frame : decoder.DecoderMemory → Fields → List ℕ × decoder.DecoderMemory
+played_frame m p = let decoded = decoder.decoded_frame m p in (compressed decoded.0, decoded.1)
+
+abbrev pub played_none : List ℕ × decoder.DecoderMemory
+played_none = (replicate 160 213, decoder.home_memory)
+
+abbrev pub played : decoder.DecoderMemory → EffectiveFields → Bool → List ℕ × decoder.DecoderMemory
+played m Quiet alone = played_none
+played m (Speech p) alone = if alone then played_frame m p else played_none
+played m (Made p) alone = if alone then played_frame m p else played_none
+
+-- the effective frame, the octets of the Out line, and the memory after them
+unfoldable pub up_worked : LegMemory → List ℕ → EffectiveFields × List ℕ × LegMemory
+up_worked m up =
+    let found = search.next_period m.search up in
+    let heard = rx.received m.rx (heard_as (sighting_in found.0)) in
+    let out = played m.decoder heard.0 (not m.down.bridged) in (
+      heard.0,
+      out.0,
+      record {
+        search = found.1;
+        rx = heard.1;
+        decoder = out.1;
+        counts = counted (sighting_in found.0) m.counts;
+        down = after_sighting m.down (sighting_in found.0) (is_quiet heard.0);
+      },
+    )
+
+-- ---- orders
+
+abbrev pub with_down : LegMemory → DownMemory → LegMemory
+with_down m d = record m { down = d }
+
+-- the level and the DTX mode are set
+abbrev pub set_level : ℤ → DownMemory → DownMemory
+set_level level d = record d { level = level }
+
+abbrev pub set_mode : DtxMode → DownMemory → DownMemory
+set_mode mode d = record d { mode = mode }
+
+-- shifts thaw where no bridge is on and no handed frame waits
+abbrev pub thawed : align.AlignMemory → Bool → List (List ℕ) → align.AlignMemory
+thawed m bridged waiting = if bridged || not (length waiting == 0) then m else align.after_thaw m
+
+abbrev pub bridge_begun : DownMemory → DownMemory
+bridge_begun d = record d { align = align.after_freeze d.align; coder = home_coder; bridged = true; sent = 0 }
+
+abbrev pub begin_bridge : LegMemory → LegMemory
+begin_bridge m = record m { decoder = decoder.home_memory; down = bridge_begun m.down }
+
+abbrev pub bridge_over : DownMemory → DownMemory
+bridge_over d = record d { align = thawed d.align false d.waiting; bridged = false }
+
+-- at most two handed frames wait
+abbrev pub after_handing : DownMemory → EffectiveFields → DownMemory
+after_handing d e = record d { waiting = keep_last 2 (d.waiting ++ bits260 (handed_fields e) ∷ []) }
+
+-- ---- the downlink half
+
+-- the speech frame in which 160 octets are sent
+abbrev pub coded_next : CoderMemory → List ℕ → ℤ → Bool → DownFrame × CoderMemory
+coded_next m octets level on =
+    let encoded = encoder.encoded_frame m.encoder (expanded octets) in
+    let sent = tx.stepped m.tx (coded_as encoded.0 level on) in
+    (speech sent.0, record { encoder = encoded.1; tx = sent.1 })
+
+-- the next frame where none waits, and where these do
+abbrev pub own_next : CoderMemory → List ℕ → Bool → ℤ → Bool → DownFrame × CoderMemory
+own_next m held quiet level on = if quiet then (frame.Idle, home_coder) else coded_next m (take 160 held) level on
+
+abbrev pub next_by : List (List ℕ) → CoderMemory → List ℕ → Bool → ℤ → Bool → DownFrame × CoderMemory
+next_by [] m held quiet level on = own_next m held quiet level on
+next_by (x ∷ more) m held quiet level on = (frame.Speech x true, home_coder)
+
+-- a frame is made, with the coder after it, the shift that it adopts, and the shifts after it
+abbrev pub after_made : DownMemory → DownFrame × CoderMemory → ℤ × align.AlignMemory → DownMemory
+after_made d next shift = record {
+  framer = framer.after_frame d.framer (frames.down_bits next.0) shift.0;
+  align = thawed shift.1 d.bridged (drop 1 d.waiting);
+  waiting = drop 1 d.waiting;
+  coder = next.1;
+  level = d.level;
+  mode = d.mode;
+  uplink = d.uplink;
+  quiet = d.quiet;
+  bridged = d.bridged;
+  sent = if not (length d.waiting == 0) then in_u32 (d.sent + 1) else d.sent;
+  made = in_u64 (d.made + 1);
+}
+
+unfoldable pub frame_made : DownMemory → DownMemory
+frame_made d = after_made d (next_by d.waiting d.coder d.framer.held d.quiet d.level (dtx_in d.mode d.uplink)) (align.adopted d.align)
+
+-- one frame is made, if 160 octets are held
+abbrev pub frame_tried : DownMemory → DownMemory
+frame_tried d = if nat_le 160 (length d.framer.held) then frame_made d else d
+
+abbrev pub with_framer : DownMemory → framer.FramerMemory → DownMemory
+with_framer d f = record d { framer = f }
+
+-- the 320 bits of the Down line, and the memory after them
+unfoldable pub down_worked : DownMemory → List ℕ → List ℕ × DownMemory
+down_worked d pcm =
+    let made = frame_tried (frame_tried (with_framer d (framer.after_put d.framer pcm))) in
+    (take 320 made.framer.stored, with_framer made (framer.after_take made.framer))
+
+-- both halves of a period: the octets of the Out line, the bits of the Down line, and the memory after them
+abbrev pub period_worked : LegMemory → List ℕ → List ℕ → List ℕ × List ℕ × LegMemory
+period_worked m up pcm =
+    let first = up_worked m up in
+    let last = down_worked first.2.down pcm in
+    (first.1, last.0, with_down first.2 last.1)

@@ -1,0 +1,108 @@
+-- What the uplink of a call tells, one period at a time (the frames of GSM 08.60; what they ask is this project's profile).
+use Rattle.std.specs.Prelude.{ℕ, Bool, true, false, ◌==◌, Option, Some, None, List, replicate, [], ◌∷◌}
+use Rattle.trau_frame.specs.declared.frames.Kind.{Kind}
+use Rattle.trau_frame.specs.declared.frames.Kind.TheVariants as kinds
+use Rattle.trau_frame.specs.declared.frames.Class.{Class}
+use Rattle.trau_frame.specs.declared.frames.UpFrame.{UpFrame}
+use Rattle.trau_frame.specs.Role.{Control, bit_with}
+use Rattle.trau_frame.specs.Frame.{number_of, data_of}
+use Rattle.trau_frame.specs.UpFrame.{kind_of, class_of}
+use Rattle.trau_params.specs.Fields.{Fields}
+use Rattle.trau_params.specs.Silence.{silent_pulses}
+use Rattle.frame_sync.specs.declared.yields.Yield.{Yield}
+use Rattle.frame_sync.specs.declared.yields.Yield.TheVariants as yields
+use Rattle.rx_handler.specs.Heard.{Heard, Lost, heard_frame}
+use Rattle.rx_handler.specs.Origin.{EffectiveFields, Quiet, Speech, Made}
+use Rattle.call_leg.specs.declared.found.Found.{Found}
+use Rattle.call_leg.specs.declared.found.Found.TheVariants as found
+
+-- what an uplink frame says
+pub record UpWords : Type 0 where
+  pub kind : Kind
+  pub class : Class
+  pub taf : Bool
+  pub dtxd : Bool
+  pub align : ℕ
+  pub d : List ℕ
+
+-- by its 320 bits: C6 to C11 are the time alignment field, C15 is TAF and C17 is DTXd
+unfoldable pub words_in : List ℕ → UpWords
+words_in bits = record {
+  kind = kind_of bits;
+  class = class_of bits;
+  taf = bit_with bits (Control 15) == 1;
+  dtxd = bit_with bits (Control 17) == 1;
+  align = number_of bits 6 6;
+  d = data_of bits;
+}
+
+-- what a period brings: no yield of the search, a miss, or a frame
+pub data Sighting : Type 0 where
+  Nothing Missed : Sighting
+  Framed : UpWords → Sighting
+
+abbrev pub sighting_in : Option Yield → Sighting
+sighting_in None = Nothing
+sighting_in (Some (yields.Miss p)) = Missed
+sighting_in (Some (yields.Frame p bits)) = Framed (words_in bits)
+
+-- the same of what the code reads
+abbrev pub words_of : UpFrame → UpWords
+words_of f = record { kind = f.kind; class = f.class; taf = f.taf; dtxd = f.dtxd; align = f.align; d = f.d }
+
+abbrev pub sighting_of : Found → Sighting
+sighting_of found.Nothing = Nothing
+sighting_of found.Missed = Missed
+sighting_of (found.Frame f) = Framed (words_of f)
+
+-- what the receive side hears
+abbrev pub heard_as : Sighting → Heard
+heard_as Nothing = Lost false
+heard_as Missed = Lost false
+heard_as (Framed w) = heard_frame w.kind w.class w.taf w.d
+
+-- the alignment field of a frame of speech or idle
+abbrev pub field_by : Kind → ℕ → Option ℕ
+field_by kinds.Speech field = Some field
+field_by kinds.Idle field = Some field
+field_by kinds.Other field = None
+
+abbrev pub field_of : Sighting → Option ℕ
+field_of Nothing = None
+field_of Missed = None
+field_of (Framed w) = field_by w.kind w.align
+
+-- DTXd of the last speech frame, after one more period
+abbrev pub dtxd_by : Kind → Bool → Bool → Bool
+dtxd_by kinds.Speech dtxd before = dtxd
+dtxd_by kinds.Idle dtxd before = before
+dtxd_by kinds.Other dtxd before = before
+
+abbrev pub dtxd_after : Sighting → Bool → Bool
+dtxd_after Nothing before = before
+dtxd_after Missed before = before
+dtxd_after (Framed w) before = dtxd_by w.kind w.dtxd before
+
+-- ---- effective frames
+
+abbrev pub is_quiet : EffectiveFields → Bool
+is_quiet Quiet = true
+is_quiet (Speech p) = false
+is_quiet (Made p) = false
+
+-- the frame that stands for silence
+abbrev pub silent_fields : Fields
+silent_fields = record {
+  larc = 42 ∷ 39 ∷ 21 ∷ 10 ∷ 9 ∷ 4 ∷ 3 ∷ 2 ∷ [];
+  nc = replicate 4 40;
+  bc = replicate 4 0;
+  mc = replicate 4 1;
+  xmaxc = replicate 4 0;
+  xmc = replicate 4 silent_pulses;
+}
+
+-- what an effective frame hands to the partner of a bridge: silence where the call is quiet
+abbrev pub handed_fields : EffectiveFields → Fields
+handed_fields Quiet = silent_fields
+handed_fields (Speech p) = p
+handed_fields (Made p) = p

@@ -1,0 +1,199 @@
+//! The calls of a leg.
+
+ghost use Rattle.std.specs.Prelude.{◌≡◌, ◌≤◌, ◌<◌, ◌+◌, ℕ, ℤ, pos, ◌≤ℤ◌, true, false, Option, Some, None, is_some, List, [], ◌∷◌, IfOk};
+ghost use Rattle.trau_bits.specs.Bits.{bits_of};
+ghost use Rattle.trau_params.specs.Bits260.{bits260};
+ghost use Rattle.rx_handler.specs.State.{effective_fields};
+ghost use Rattle.down_framer.specs.Made.{due};
+ghost use Rattle.call_leg.specs.Uplink.{handed_fields};
+ghost use Rattle.call_leg.specs.Periods.{CallPeriod, effective_now};
+ghost use Rattle.call_leg.specs.Settings.{Settings, new_settings, later, with_level, with_mode, with_bridge, without_bridge, period_with};
+ghost use Rattle.call_leg.specs.Counted.{call_counts};
+ghost use Rattle.call_leg.specs.Out.{out_of};
+ghost use Rattle.call_leg.specs.Down.{down_periods, frames_of, down_now};
+ghost use Rattle.call_leg.specs.Places.{sent_now, is_draining};
+ghost use Rattle.call_leg.specs.Stands.{Stands, Midway};
+ghost use Rattle.call_leg.specs.Step.{home_leg, up_worked, with_down, after_handing, down_worked, begin_bridge, bridge_over, set_level, set_mode, period_worked};
+
+use crate::leg::Leg;
+use crate::side::DownSide;
+use crate::up::{hear, is_quiet, play};
+use crate::uplink::{count, read};
+use fr_decoder::Decoder;
+use frame_sync::FrameSync;
+use rx_handler::{Effective, Rx};
+use std::alloc::{AllocError, Global};
+use trau_io::Counts;
+use trau_orders::DtxMode;
+
+impl Leg {
+    /// The leg of a call with this number, 1 to 4,096, before its first period: alone, with level 256 and DTX as the
+    /// uplink asks.
+    pub fn new(alloc: Global, call: u32) -> Result<Leg, AllocError>
+        requires low { 1 ≤ call }
+        requires high { call ≤ 4096 }
+        ensures value { IfOk result (λ leg. leg ≡ home_leg call) }
+        ensures history { IfOk result (λ leg. Stands call [] new_settings leg) }
+        ensures periods { IfOk result (λ leg. leg.search.periods ≡ 0) }
+    {
+        let down = DownSide::new(alloc)?;
+        let counts = Counts {
+            good: 0,
+            sid: 0,
+            invalid: 0,
+            bad: 0,
+            idle: 0,
+            other: 0,
+            miss: 0,
+            none: 0,
+            made: 0,
+        };
+        Ok(Leg {
+            search: FrameSync::new(),
+            rx: Rx::new(call),
+            decoder: Decoder::home(),
+            counts,
+            down,
+        })
+    }
+
+    /// The uplink half of a period: takes its 40 octets of the Up line, gives its 160 of the Out line, and answers its
+    /// effective frame. A call has at most 4,294,967,295 periods.
+    pub fn up_half(&mut self, up: &[u8; 40], out: &mut [u8; 160]) -> Effective
+        requires { self.old.search.periods < 4294967295 }
+        ensures step { up_worked self.old up.now ≡ (effective_fields result, out.new, self.new) }
+        ensures periods { self.new.search.periods ≡ self.old.search.periods + 1 }
+
+        // After the periods of any call, the next one's uplink half is worked ..
+        ensures history { (call : ℕ) (ts : List CallPeriod) (now : Settings) → Stands call ts now self.old → Midway call ts now up.now None self.new }
+
+        // .. and its effective frame and octets are those of the call.
+        ensures effective { (call : ℕ) (ts : List CallPeriod) (now : Settings) (pcm : List ℕ) (handed : Option (List ℕ)) → Stands call ts now self.old →
+            effective_fields result ≡ effective_now call (period_with now up.now pcm handed ∷ ts) }
+        ensures out { (call : ℕ) (ts : List CallPeriod) (now : Settings) (pcm : List ℕ) (handed : Option (List ℕ)) → Stands call ts now self.old →
+            is_some handed ≡ now.bridged → out.new ≡ out_of call (period_with now up.now pcm handed ∷ ts) }
+    {
+        let yielded = self.search.feed(up);
+        let found = read(&yielded);
+        count(&mut self.counts, &found);
+        let e = hear(&mut self.rx, &found);
+        play(&mut self.decoder, &e, !self.down.bridged, out);
+        self.down.hear(&found, is_quiet(&e));
+        e
+    }
+
+    /// Takes the partner's effective frame of the period, between the halves of a period within a bridge.
+    pub fn hand(&mut self, e: Effective)
+        ensures periods { self.new.search.periods ≡ self.old.search.periods }
+        ensures step { self.new ≡ with_down self.old (after_handing self.old.down (effective_fields e)) }
+        ensures history { (call : ℕ) (ts : List CallPeriod) (now : Settings) (up : List ℕ) → Midway call ts now up None self.old →
+            Midway call ts now up (Some (bits260 (handed_fields (effective_fields e)))) self.new }
+    {
+        self.down.hand(&e);
+    }
+
+    /// The downlink half of a period: takes its 160 octets of the Pcm line, and gives its 40 of the Down line.
+    pub fn down_half(&mut self, pcm: &[u8; 160], down: &mut [u8; 40])
+        ensures step { self.new ≡ with_down self.old self.new.down }
+        ensures bits { down_worked self.old.down pcm.now ≡ (bits_of down.new, self.new.down) }
+        ensures periods { self.new.search.periods ≡ self.old.search.periods }
+
+        // After the uplink half of a call's next period, and within a bridge the handing over, the period is worked ..
+        ensures history { (call : ℕ) (ts : List CallPeriod) (now : Settings) (up : List ℕ) (handed : Option (List ℕ)) →
+            is_some handed ≡ now.bridged → Midway call ts now up handed self.old →
+            Stands call (period_with now up pcm.now handed ∷ ts) (later now) self.new }
+
+        // .. and its bits are those of the call.
+        ensures down { (call : ℕ) (ts : List CallPeriod) (now : Settings) (up : List ℕ) (handed : Option (List ℕ)) →
+            is_some handed ≡ now.bridged → Midway call ts now up handed self.old →
+            bits_of down.new ≡ down_now call (period_with now up pcm.now handed ∷ ts) }
+    {
+        self.down.half(pcm, down);
+    }
+
+    /// A period of a leg that isn't bridged: both halves.
+    pub fn period(
+        &mut self,
+        up: &[u8; 40],
+        pcm: &[u8; 160],
+        out: &mut [u8; 160],
+        down: &mut [u8; 40],
+    )
+        requires { self.old.search.periods < 4294967295 }
+        ensures step { period_worked self.old up.now pcm.now ≡ (out.new, bits_of down.new, self.new) }
+        ensures periods { self.new.search.periods ≡ self.old.search.periods + 1 }
+        ensures history { (call : ℕ) (ts : List CallPeriod) (now : Settings) → now.bridged ≡ false → Stands call ts now self.old →
+            Stands call (period_with now up.now pcm.now None ∷ ts) (later now) self.new }
+        ensures out { (call : ℕ) (ts : List CallPeriod) (now : Settings) → now.bridged ≡ false → Stands call ts now self.old →
+            out.new ≡ out_of call (period_with now up.now pcm.now None ∷ ts) }
+        ensures down { (call : ℕ) (ts : List CallPeriod) (now : Settings) → now.bridged ≡ false → Stands call ts now self.old →
+            bits_of down.new ≡ down_now call (period_with now up.now pcm.now None ∷ ts) }
+    {
+        self.up_half(up, out);
+        self.down_half(pcm, down);
+    }
+
+    /// A bridge is on from the next period on. No handed frame may wait.
+    pub fn bridge_on(&mut self)
+        ensures periods { self.new.search.periods ≡ self.old.search.periods }
+        ensures step { self.new ≡ begin_bridge self.old }
+        ensures history { (call : ℕ) (ts : List CallPeriod) (now : Settings) → due (down_periods ts) (frames_of ts) ≡ None → Stands call ts now self.old →
+            Stands call ts (with_bridge now) self.new }
+    {
+        self.decoder = Decoder::home();
+        self.down.bridge_on();
+    }
+
+    /// The bridge is off from the next period on.
+    pub fn bridge_off(&mut self)
+        ensures periods { self.new.search.periods ≡ self.old.search.periods }
+        ensures step { self.new ≡ with_down self.old (bridge_over self.old.down) }
+        ensures history { (call : ℕ) (ts : List CallPeriod) (now : Settings) → now.bridged ≡ true → Stands call ts now self.old →
+            Stands call ts (without_bridge now) self.new }
+    {
+        self.down.bridge_off();
+    }
+
+    /// Whether it isn't bridged and a handed frame waits.
+    pub fn draining(&self) -> bool
+        ensures { (call : ℕ) (ts : List CallPeriod) (now : Settings) → Stands call ts now self.now → result ≡ is_draining ts now }
+    {
+        self.down.draining()
+    }
+
+    /// Sets the level below which a frame's peak counts as silence, from the next period on.
+    pub fn set_level(&mut self, level: i16)
+        requires { pos 0 ≤ℤ level }
+        ensures step { self.new ≡ with_down self.old (set_level level self.old.down) }
+        ensures periods { self.new.search.periods ≡ self.old.search.periods }
+        ensures history { (call : ℕ) (ts : List CallPeriod) (now : Settings) → Stands call ts now self.old → Stands call ts (with_level level now) self.new }
+    {
+        self.down.level = level;
+    }
+
+    /// Sets when DTX is on, from the next period on.
+    pub fn set_dtx(&mut self, mode: DtxMode)
+        ensures step { self.new ≡ with_down self.old (set_mode mode self.old.down) }
+        ensures periods { self.new.search.periods ≡ self.old.search.periods }
+        ensures history { (call : ℕ) (ts : List CallPeriod) (now : Settings) → Stands call ts now self.old → Stands call ts (with_mode mode now) self.new }
+    {
+        self.down.mode = mode;
+    }
+
+    /// How many handed frames were sent in the latest bridge.
+    pub fn sent(&self) -> u32
+        ensures { (call : ℕ) (ts : List CallPeriod) (now : Settings) → Stands call ts now self.now → result ≡ sent_now ts now }
+    {
+        self.down.sent
+    }
+
+    /// What was counted of the call's periods.
+    pub fn counts(&self) -> Counts
+        ensures { (call : ℕ) (ts : List CallPeriod) (now : Settings) → Stands call ts now self.now → result ≡ call_counts ts }
+    {
+        Counts {
+            made: self.down.made,
+            ..self.counts
+        }
+    }
+}

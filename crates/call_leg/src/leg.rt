@@ -1,0 +1,32 @@
+//! What a leg keeps.
+
+use crate::side::DownSide;
+use fr_decoder::Decoder;
+use frame_sync::FrameSync;
+use rx_handler::Rx;
+use std::marker::Model;
+use trau_io::Counts;
+
+/// The leg of one call. It is alone, bridged or draining: within a bridge its partner's frames go out on its downlink,
+/// and it drains where one of them still waits after the bridge.
+#[derive(Drop)]
+pub struct Leg {
+    pub(crate) search: FrameSync,
+    pub(crate) rx: Rx,
+    pub(crate) decoder: Decoder,
+    pub(crate) counts: Counts,
+    pub(crate) down: DownSide,
+}
+
+impl Model for Leg {
+    ghost use Rattle.std.specs.Prelude.{◌≡◌, ◌≤◌};
+    ghost use Rattle.down_framer.specs.Memory.{IsBetween};
+    ghost use Rattle.call_leg.specs.Counted.{sighted_in};
+    ghost use Rattle.call_leg.specs.Memory.{LegMemory, down_memory};
+
+    ghost Value = { LegMemory };
+
+    ghost view = { λ l. record { search = l.search; rx = l.rx; decoder = l.decoder; counts = l.counts; down = down_memory l.down } };
+
+    ghost invariant = { λ l. (l.search.periods ≤ 4294967295) × (sighted_in l.counts ≡ l.search.periods) × IsBetween l.down.framer };
+}

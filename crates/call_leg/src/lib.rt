@@ -1,0 +1,31 @@
+//! One call: its leg, from period to period of 20 ms.
+//!
+//! Between the four lines of a call: takes the 40 octets of its Up line and the 160 of its Pcm line, and gives the 160
+//! octets of its Out line and the 40 of its Down line. Upward it searches frames (`frame_sync`, `trau_frame`), makes the
+//! period's effective frame (`rx_handler`) and decodes it (`fr_decoder`, `trau_alaw`). Downward it cuts the Pcm line where
+//! frames are to be made (`down_framer`, `time_align`), encodes them (`trau_alaw`, `fr_encoder`), decides what is sent
+//! (`tx_dtx`) and puts the frames on the line. Within a bridge the partner's effective frames go out in place of its own.
+//!
+//! `leg` has what is kept, `calls` the calls; `found` and `uplink` what a period of the uplink brings, `up` the way up;
+//! `side` and `sides` the downlink side, `coder` and `down` the way down; `laws` has the laws.
+//!
+//! Definitions: `specs/Periods.antt` (the periods of a call), `specs/Uplink.antt` (what its uplink tells),
+//! `specs/Out.antt` and `specs/Down.antt` (its outgoing lines), `specs/Counted.antt`, `specs/Places.antt` and
+//! `specs/Stands.antt` (what a leg holds after all periods so far), `specs/Memory.antt` (what it keeps),
+//! `specs/Step.antt` (one call after another).
+#![tactic(auto)]
+
+mod calls;
+mod coder;
+mod down;
+mod found;
+pub mod laws;
+mod leg;
+mod side;
+mod sides;
+#[cfg(test)]
+mod tests;
+mod up;
+mod uplink;
+
+pub use leg::Leg;

@@ -1,0 +1,89 @@
+//! The way up: what is heard, and what is played out.
+
+ghost use Rattle.std.specs.Prelude.{◌≡◌, ℕ, List, ◌∷◌};
+ghost use Rattle.trau_params.specs.Fields.{Fields, fields_of};
+ghost use Rattle.rx_handler.specs.Heard.{Heard};
+ghost use Rattle.rx_handler.specs.Past.{effective_of};
+ghost use Rattle.rx_handler.specs.Table.{received, Stands as RxStands};
+ghost use Rattle.rx_handler.specs.State.{effective_fields};
+ghost use Rattle.fr_decoder.specs.Step.{Stands as DecoderStands};
+ghost use Rattle.fr_decoder.specs.Decoded.{samples_of};
+ghost use Rattle.call_leg.specs.Uplink.{heard_as, sighting_of, is_quiet, handed_fields};
+ghost use Rattle.call_leg.specs.Out.{compressed, plain_with, decoded_octets};
+ghost use Rattle.call_leg.specs.Step.{played_frame, played};
+
+use crate::found::Found;
+use fr_decoder::Decoder;
+use rx_handler::{Effective, Rx};
+use trau_alaw::compress;
+use trau_params::{Params, silence};
+
+/// The effective frame of a period.
+pub(crate) fn hear(rx: &mut Rx, found: &Found) -> Effective
+    ensures step { received rx.old (heard_as (sighting_of found.now)) ≡ (effective_fields result, rx.new) }
+    ensures history { (call : ℕ) (past : List Heard) → RxStands call past rx.old →
+        RxStands call (heard_as (sighting_of found.now) ∷ past) rx.new
+        × (effective_fields result ≡ effective_of call (heard_as (sighting_of found.now) ∷ past)) }
+{
+    match found {
+        Found::Frame(f) => rx.take(Some(f)),
+        Found::Nothing | Found::Missed => rx.take(None),
+    }
+}
+
+/// Whether an effective frame is quiet.
+pub(crate) fn is_quiet(e: &Effective) -> bool
+    ensures { result ≡ is_quiet (effective_fields e.now) }
+{
+    match e {
+        Effective::Quiet => true,
+        Effective::Speech(_) | Effective::Made(_) => false,
+    }
+}
+
+/// The parameters that an effective frame hands to the partner of a bridge.
+pub(crate) fn handed(e: &Effective) -> Params
+    ensures { fields_of result ≡ handed_fields (effective_fields e.now) }
+{
+    match e {
+        Effective::Quiet => silence(),
+        Effective::Speech(p) | Effective::Made(p) => *p,
+    }
+}
+
+// The A-law octets of samples.
+fn compress_all(x: &[i16; 160], octets: &mut [u8; 160])
+    ensures { octets.new ≡ compressed x.now }
+{
+    for k in 0..160 {
+        octets[k] = compress(x[k]);
+    }
+}
+
+// The octets of the next frame of a plain stretch.
+fn decode(decoder: &mut Decoder, p: &Params, octets: &mut [u8; 160])
+    ensures step { played_frame decoder.old (fields_of p.now) ≡ (octets.new, decoder.new) }
+    ensures history { (past : List Fields) → DecoderStands past decoder.old →
+        DecoderStands (fields_of p.now ∷ past) decoder.new × (octets.new ≡ compressed (samples_of (fields_of p.now) past)) }
+{
+    let mut x = [0; 160];
+    decoder.decode(p, &mut x);
+    compress_all(&x, octets);
+}
+
+/// The octets of a period: decoded where it is plain, else those of a line that is quiet.
+pub(crate) fn play(decoder: &mut Decoder, e: &Effective, alone: bool, octets: &mut [u8; 160])
+    ensures step { played decoder.old (effective_fields e.now) alone ≡ (octets.new, decoder.new) }
+    ensures history { (past : List Fields) → DecoderStands past decoder.old →
+        DecoderStands (plain_with (effective_fields e.now) alone past) decoder.new
+        × (octets.new ≡ decoded_octets (plain_with (effective_fields e.now) alone past)) }
+{
+    if alone {
+        match e {
+            Effective::Quiet => {}
+            Effective::Speech(p) | Effective::Made(p) => return decode(decoder, p, octets),
+        }
+    }
+    *decoder = Decoder::home();
+    *octets = [0xD5; 160];
+}

@@ -1,0 +1,82 @@
+//! What a period of the uplink brings.
+
+ghost use Rattle.std.specs.Prelude.{◌≡◌, ◌<◌, ◌+◌, IfSome};
+ghost use Rattle.frame_sync.specs.Periods.{CarriesFrame};
+ghost use Rattle.call_leg.specs.Uplink.{sighting_in, sighting_of, field_of, dtxd_after};
+ghost use Rattle.call_leg.specs.Counted.{counted, counted_frame, sighted_in};
+
+use crate::found::Found;
+use frame_sync::Yield;
+use trau_frame::{Class, Kind, read_up};
+use trau_io::Counts;
+
+/// Reads the frame that a yield carries.
+#[tactic(auto, unfolding(crate::specs::Uplink::words_in))]
+pub(crate) fn read(found: &Option<Yield>) -> Found
+    requires { IfSome found.now CarriesFrame }
+    ensures { sighting_of result ≡ sighting_in found.now }
+{
+    match found {
+        None => Found::Nothing,
+        Some(Yield::Miss { .. }) => Found::Missed,
+        Some(Yield::Frame { bits, .. }) => Found::Frame(read_up(bits)),
+    }
+}
+
+/// The alignment field of a frame of speech or idle.
+pub(crate) fn field(found: &Found) -> Option<u8>
+    ensures value { result ≡ field_of (sighting_of found.now) }
+    ensures within { IfSome result (λ field. field < 64) }
+{
+    match found {
+        Found::Frame(f) => match f.kind {
+            Kind::Speech | Kind::Idle => Some(f.align),
+            Kind::Other => None,
+        },
+        Found::Nothing | Found::Missed => None,
+    }
+}
+
+/// DTXd of the last speech frame, after one more period.
+pub(crate) fn dtxd(found: &Found, before: bool) -> bool
+    ensures { result ≡ dtxd_after (sighting_of found.now) before }
+{
+    match found {
+        Found::Frame(f) => match f.kind {
+            Kind::Speech => f.dtxd,
+            Kind::Idle | Kind::Other => before,
+        },
+        Found::Nothing | Found::Missed => before,
+    }
+}
+
+// Counts a frame.
+fn count_frame(counts: &mut Counts, kind: Kind, class: Class)
+    requires { sighted_in counts.old < 4294967295 }
+    ensures value { counts.new ≡ counted_frame kind class counts.old }
+    ensures once { sighted_in counts.new ≡ sighted_in counts.old + 1 }
+{
+    match kind {
+        Kind::Speech => match class {
+            Class::Good => counts.good += 1,
+            Class::Sid => counts.sid += 1,
+            Class::InvalidSid => counts.invalid += 1,
+            Class::Unusable => counts.bad += 1,
+        },
+        Kind::Idle => counts.idle += 1,
+        Kind::Other => counts.other += 1,
+    }
+}
+
+/// Counts a period.
+pub(crate) fn count(counts: &mut Counts, found: &Found)
+    requires { sighted_in counts.old < 4294967295 }
+    ensures value { counts.new ≡ counted (sighting_of found.now) counts.old }
+    ensures once { sighted_in counts.new ≡ sighted_in counts.old + 1 }
+{
+    match found {
+        Found::Nothing => counts.none += 1,
+        Found::Missed => counts.miss += 1,
+        Found::Frame(f) => count_frame(counts, f.kind, f.class),
+    }
+}
