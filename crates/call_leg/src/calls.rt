@@ -1,6 +1,6 @@
 //! The calls of a leg.
 
-ghost use Rattle.std.specs.Prelude.{◌≡◌, ◌≤◌, ◌<◌, ◌+◌, ℕ, ℤ, pos, ◌≤ℤ◌, true, false, Option, Some, None, is_some, List, [], ◌∷◌, IfOk};
+ghost use Rattle.std.specs.Prelude.{◌≡◌, ◌≤◌, ◌<◌, ◌+◌, ℕ, ℤ, pos, ◌≤ℤ◌, true, false, Option, Some, None, is_some, List, [], ◌∷◌, length, IfOk};
 ghost use Rattle.trau_bits.specs.Bits.{bits_of};
 ghost use Rattle.trau_params.specs.Bits260.{bits260};
 ghost use Rattle.rx_handler.specs.State.{effective_fields};
@@ -154,9 +154,10 @@ impl Leg {
         self.down.bridge_off();
     }
 
-    /// Whether it isn't bridged and a handed frame waits.
+    /// Whether it isn't bridged and a handed frame waits. Between periods at most one waits.
     pub fn draining(&self) -> bool
-        ensures { (call : ℕ) (ts : List CallPeriod) (now : Settings) → Stands call ts now self.now → result ≡ is_draining ts now }
+        ensures value { (call : ℕ) (ts : List CallPeriod) (now : Settings) → Stands call ts now self.now → result ≡ is_draining ts now }
+        ensures one { (call : ℕ) (ts : List CallPeriod) (now : Settings) → Stands call ts now self.now → length self.now.down.waiting ≤ 1 }
     {
         self.down.draining()
     }
