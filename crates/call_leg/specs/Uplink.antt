@@ -1,5 +1,5 @@
 -- What the uplink of a call tells, one period at a time (the frames of GSM 08.60; what they ask is this project's profile).
-use Rattle.std.specs.Prelude.{ℕ, Bool, true, false, ◌==◌, Option, Some, None, List, replicate, [], ◌∷◌}
+use Rattle.std.specs.Prelude.{ℕ, Bool, true, false, ◌==◌, Option, Some, None, List}
 use Rattle.trau_frame.specs.declared.frames.Kind.{Kind}
 use Rattle.trau_frame.specs.declared.frames.Kind.TheVariants as kinds
 use Rattle.trau_frame.specs.declared.frames.Class.{Class}
@@ -8,7 +8,7 @@ use Rattle.trau_frame.specs.Role.{Control, bit_with}
 use Rattle.trau_frame.specs.Frame.{number_of, data_of}
 use Rattle.trau_frame.specs.UpFrame.{kind_of, class_of}
 use Rattle.trau_params.specs.Fields.{Fields}
-use Rattle.trau_params.specs.Silence.{silent_pulses}
+use Rattle.rx_muting.specs.Muting.{silent_fields}
 use Rattle.frame_sync.specs.declared.yields.Yield.{Yield}
 use Rattle.frame_sync.specs.declared.yields.Yield.TheVariants as yields
 use Rattle.rx_handler.specs.Heard.{Heard, Lost, heard_frame}
@@ -89,17 +89,6 @@ abbrev pub is_quiet : EffectiveFields → Bool
 is_quiet Quiet = true
 is_quiet (Speech p) = false
 is_quiet (Made p) = false
-
--- the frame that stands for silence
-abbrev pub silent_fields : Fields
-silent_fields = record {
-  larc = 42 ∷ 39 ∷ 21 ∷ 10 ∷ 9 ∷ 4 ∷ 3 ∷ 2 ∷ [];
-  nc = replicate 4 40;
-  bc = replicate 4 0;
-  mc = replicate 4 1;
-  xmaxc = replicate 4 0;
-  xmc = replicate 4 silent_pulses;
-}
 
 -- what an effective frame hands to the partner of a bridge: silence where the call is quiet
 abbrev pub handed_fields : EffectiveFields → Fields
