@@ -1,0 +1,53 @@
+-- What a round takes of an incoming line, and what it gives to an outgoing one (this project's profile).
+use Rattle.std.specs.Prelude.{◌≡◌, ℕ, ◌<◌, ◌≤◌, min, Bool, true, false, Some, List, length, take, drop}
+use Rattle.std.specs.Io.KnownBytes.{Consumes, Appends, IsAtEnd}
+use Rattle.trau_io.specs.Lines.{LineState, Rose}
+use Rattle.round_lines.specs.declared.transfer.Taken.{Taken}
+use Rattle.round_lines.specs.declared.transfer.Outlet.{Outlet}
+use Rattle.round_lines.specs.declared.transfer.Outlet.TheVariants.{Sound, FailedBefore, FailedNow}
+
+-- The next octets of a line came into the front of a block. Where they don't fill it, the line ended there, or it failed, and then its count rose.
+pub record Takes (before now : LineState) (t : Taken) (block : List ℕ) : Type 0 where
+  pub bound : t.count ≤ length block
+  pub given : Consumes before.to_come now.to_come (take t.count block)
+  pub ended : t.failed ≡ false → t.count < length block → IsAtEnd now.to_come
+  pub short : t.failed ≡ true → t.count < length block
+  pub fault : t.failed ≡ true → Rose before.faults now.faults
+  pub calm : t.failed ≡ false → now.faults ≡ before.faults
+  pub later : before.faults ≤ now.faults
+  pub written : now.written ≡ before.written
+
+-- the line failed before this round or in it
+abbrev pub has_failed : Outlet → Bool
+has_failed Sound = false
+has_failed FailedBefore = true
+has_failed FailedNow = true
+
+-- the line failed in this round
+abbrev pub fails_now : Outlet → Bool
+fails_now Sound = false
+fails_now FailedBefore = false
+fails_now FailedNow = true
+
+-- A line that had failed is passed over. Any other gained all the octets, or a proper front of them, and then it failed and its count rose.
+pub record Gives (before now : LineState) (was stands : Outlet) (octets : List ℕ) : Type 0 where
+  pub passed : has_failed was ≡ true → (now ≡ before) × (stands ≡ was)
+  pub all : has_failed stands ≡ false → Appends before.written now.written octets
+  pub calm : has_failed stands ≡ false → now.faults ≡ before.faults
+  pub front : has_failed was ≡ false → has_failed stands ≡ true → (n : ℕ) × (n < length octets) × Appends before.written now.written (take n octets)
+  pub fault : has_failed was ≡ false → has_failed stands ≡ true → (stands ≡ FailedNow) × Rose before.faults now.faults
+  pub later : before.faults ≤ now.faults
+  pub to_come : now.to_come ≡ before.to_come
+
+-- a line's count didn't rise
+abbrev pub IsCalm : LineState → LineState → Type 0
+IsCalm before now = Rose before.faults now.faults → ⊥
+
+-- A line that tells its octets and whose count didn't rise gave the next of them, as many as the block and the line have.
+abbrev pub TakesClean : LineState → LineState → Taken → List ℕ → Type 0
+TakesClean before now t block = (octets : List ℕ) → before.to_come ≡ Some octets → IsCalm before now →
+    (t.failed ≡ false) × (t.count ≡ min (length block) (length octets)) × (take t.count block ≡ take (length block) octets) × (now.to_come ≡ Some (drop (length block) octets))
+
+-- A line that hadn't failed and whose count didn't rise gained all the octets.
+abbrev pub GivesClean : LineState → LineState → Outlet → Outlet → List ℕ → Type 0
+GivesClean before now was stands octets = has_failed was ≡ false → IsCalm before now → (stands ≡ Sound) × Appends before.written now.written octets

@@ -1,0 +1,59 @@
+// What a round takes of a line, and what it gives to one.
+ghost use Rattle.std.specs.Prelude.{◌≡◌};
+ghost use Rattle.trau_io.specs.Lines.{OthersStay};
+ghost use Rattle.round_lines.specs.Transfer.{Takes, Gives};
+
+use trau_io::{Failed, Filled, Line, Trunk, read_block, write_all};
+
+/// What an incoming line gave in a round: how many octets, and whether it failed after them.
+#[derive(Clone, Copy, Debug, PartialEq, Eq)]
+pub struct Taken {
+    pub count: usize,
+    pub failed: bool,
+}
+
+/// How an outgoing line stands in a round.
+#[derive(Clone, Copy, Debug, PartialEq, Eq)]
+pub enum Outlet {
+    /// It has never failed.
+    Sound,
+    /// It failed in an earlier round, and is passed over.
+    FailedBefore,
+    /// It failed in this round.
+    FailedNow,
+}
+
+/// Reads a line until the block is full, the line ends or it fails.
+pub(crate) fn take_block<T: Trunk>(trunk: &mut T, line: Line, block: &mut [u8]) -> Taken
+    ensures this { Takes (T.lines trunk.old line.call line.side) (T.lines trunk.new line.call line.side) result block.new }
+    ensures others { OthersStay (T.lines trunk.old) (T.lines trunk.new) line.call line.side }
+{
+    match read_block(trunk, line, block) {
+        Filled::Whole => Taken {
+            count: block.len(),
+            failed: false,
+        },
+        Filled::Ended(count) => Taken {
+            count,
+            failed: false,
+        },
+        Filled::Failed(count) => Taken {
+            count,
+            failed: true,
+        },
+    }
+}
+
+/// Writes the octets to a line that has never failed, and answers how it stands then.
+pub(crate) fn give_block<T: Trunk>(trunk: &mut T, line: Line, was: Outlet, octets: &[u8]) -> Outlet
+    ensures this { Gives (T.lines trunk.old line.call line.side) (T.lines trunk.new line.call line.side) was result octets.now }
+    ensures others { OthersStay (T.lines trunk.old) (T.lines trunk.new) line.call line.side }
+{
+    match was {
+        Outlet::Sound => match write_all(trunk, line, octets) {
+            Ok(()) => Outlet::Sound,
+            Err(Failed) => Outlet::FailedNow,
+        },
+        Outlet::FailedBefore | Outlet::FailedNow => was,
+    }
+}
