@@ -1,9 +1,8 @@
 -- What is handed over, and the start and the end of a bridge.
-use Rattle.std.proofs.Common.{◌≡◌, refl, sym, ap, ◌∙◌, subst, ℕ, ◌+◌, ◌-◌, ◌*◌, ◌≤◌, suc, Bool, true, false, not, ◌&&◌, ◌||◌, nat_le, Option, Some, None, is_some, filter, List, [], ◌∷◌, ◌++◌, length, drop, slice_get, length-append, arith, inl, inr}
+use Rattle.std.proofs.Common.{◌≡◌, refl, sym, ap, ◌∙◌, subst, ℕ, ◌+◌, ◌*◌, ◌≤◌, suc, Bool, true, false, not, ◌&&◌, ◌||◌, nat_le, Option, Some, None, is_some, filter, List, [], ◌∷◌, ◌++◌, length, slice_get, arith, inl, inr}
 use Rattle.std.specs.Prelude.{◌==◌}
 use Rattle.std.proofs.lemmas.Bool.{cond-false, cond_both, ne_eqb, true≢false, and_right}
 use Rattle.std.proofs.lemmas.List.{append-nil}
-use Rattle.circular_buffer.specs.Buffer.{Buffer, buffer, keep_last}
 use Rattle.fr_encoder.specs.Step as encoder
 use Rattle.tx_dtx.specs.Step as tx
 use Rattle.trau_params.specs.Fields.{Fields}
@@ -42,12 +41,6 @@ queue-short past q h w = go (latest_start (down_periods past)) refl
     go : (o : Option ℕ) → latest_start (down_periods past) ≡ o → length q ≤ 1
     go None e = short q (was past (frames_of past) q None w e 1)
     go (Some s) e = by_phase s e (phase (down_periods past) s h e)
-
-pub pushed : (q q1 : Buffer (List ℕ)) (x : List ℕ) → q.capacity ≡ 2 → length q.items ≤ 1 → q1 ≡ buffer (keep_last q.capacity (q.items ++ x ∷ [])) q.capacity → q1.items ≡ q.items ++ x ∷ []
-pushed q q1 x r l e =
-    let n = length-append q.items (x ∷ []) in
-    let z : length (q.items ++ x ∷ []) - q.capacity ≡ 0 = omega arith in
-    ap (λ (b : Buffer (List ℕ)). b.items) e ∙ ap (λ k. drop k (q.items ++ x ∷ [])) z
 
 -- before the handing over at most one waits
 pub halfway-short : (c : ℕ) (ts : List CallPeriod) (now : Settings) (up : List ℕ) (d : DownMemory) → Halfway c ts now up None d → length d.waiting ≤ 1

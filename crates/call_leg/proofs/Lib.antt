@@ -1,3 +1,4 @@
+pub mod Inside
 pub mod Mapping
 pub mod Shifts
 pub mod Queue
@@ -8,7 +9,10 @@ pub mod Step
 pub mod Bridges
 pub mod Bounds
 pub mod Heard
-pub mod Coding
 pub mod Upward
 pub mod Stepping
 pub mod Lines
+pub mod UpLaws
+pub mod DownLaws
+pub mod OrderLaws
+pub mod LineLaws

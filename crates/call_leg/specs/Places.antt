@@ -1,11 +1,11 @@
 -- The law of places: what the downlink side of a leg holds, by the periods so far. Lists have the newest first.
-use Rattle.std.specs.Prelude.{◌≡◌, ℕ, ◌+◌, ◌*◌, ◌<◌, true, not, ◌&&◌, ◌||◌, ◌==◌, if◌then◌else◌, Bool, Option, None, is_some, List, [], ◌∷◌, ◌++◌, length, option_to_list, suc, min}
+use Rattle.std.specs.Prelude.{◌≡◌, ℕ, ◌*◌, true, not, ◌&&◌, ◌||◌, ◌==◌, if◌then◌else◌, Bool, Option, None, is_some, List, [], ◌∷◌, ◌++◌, length, option_to_list, suc, min}
 use Rattle.time_align.specs.Shift.{latest_ask}
 use Rattle.down_framer.specs.Made.{next_start, due, fields_since}
 use Rattle.down_framer.specs.Bridges.{IsHistory, in_bridge}
 use Rattle.down_framer.specs.Places.{Holds}
 use Rattle.call_leg.specs.Uplink.{field_of, is_quiet, dtxd_after, heard_as}
-use Rattle.call_leg.specs.Periods.{CallPeriod, pcm_of, sighting_after, heard_of, bridges_begun, quiet_now, dtxd_of}
+use Rattle.call_leg.specs.Periods.{CallPeriod, pcm_of, sighting_after, heard_of, dtxd_of}
 use Rattle.rx_handler.specs.Past.{effective_of}
 use Rattle.call_leg.specs.Settings.{Settings, epoch_now}
 use Rattle.call_leg.specs.Down.{CallFrame, down_periods, frames_of, coded_stretch, down_made}
@@ -31,26 +31,6 @@ in_u32 n = min n 4294967295
 
 abbrev pub in_u64 : ℕ → ℕ
 in_u64 n = min n 18446744073709551615
-
--- In period t after those of the past, its octets put and the frames `fs` made.
-pub record Inside (call : ℕ) (t : CallPeriod) (past : List CallPeriod) (fs : List CallFrame) (d : DownMemory) : Type 0 where
-  pub long : length (pcm_of (t ∷ past)) ≡ 160 * length (down_periods past) + 160
-  pub low : 160 * length (down_periods past) < next_start fs + 160
-  pub line : length (down_made call fs) ≡ 320 + 2 * next_start fs
-  pub places : Holds (pcm_of (t ∷ past)) (down_made call fs) (320 * length (down_periods past)) (next_start fs) d.framer
-  pub waits : Waits (t ∷ past) fs d.waiting
-  pub kept : d.align.kept ≡ latest_ask (fields_since (down_periods (t ∷ past)) fs)
-  pub frozen : d.align.frozen ≡ (is_some t.handed || is_some (due (down_periods (t ∷ past)) fs))
-  -- within a bridge no frame is made but where one waits
-  pub punctual : is_some t.handed ≡ true → due (down_periods (t ∷ past)) fs ≡ None → 160 * length (down_periods past) < next_start fs
-  pub coded : CoderStands (coded_stretch call (bridges_begun (t ∷ past)) fs) d.coder
-  pub sent : d.sent ≡ in_u32 (carried (bridges_begun (t ∷ past)) fs)
-  pub made : d.made ≡ in_u64 (length fs)
-  pub level : d.level ≡ t.level
-  pub mode : d.mode ≡ t.mode
-  pub uplink : d.uplink ≡ dtxd_of (t ∷ past)
-  pub quiet : d.quiet ≡ quiet_now call (t ∷ past)
-  pub bridged : d.bridged ≡ is_some t.handed
 
 -- Between periods, after all these, with the settings `now` for the next one.
 pub record Between (call : ℕ) (ts : List CallPeriod) (now : Settings) (d : DownMemory) : Type 0 where

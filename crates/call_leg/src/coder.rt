@@ -1,14 +1,11 @@
 //! The encoder, and what sends its frames.
 
-ghost use Rattle.std.specs.Prelude.{◌≡◌, ℤ, List, [], ◌∷◌};
+ghost use Rattle.std.specs.Prelude.{◌≡◌};
 ghost use Rattle.trau_frame.specs.DownFrame.{HasBits};
-ghost use Rattle.fr_encoder.specs.Encoded.{encoding_of};
 ghost use Rattle.fr_encoder.specs.Step as encoder;
-ghost use Rattle.tx_dtx.specs.Stretch.{Coded};
-ghost use Rattle.tx_dtx.specs.Sent.{sent_of};
 ghost use Rattle.tx_dtx.specs.Step as tx;
 ghost use Rattle.call_leg.specs.Periods.{dtx_in};
-ghost use Rattle.call_leg.specs.Down.{expanded, coded_as, speech};
+ghost use Rattle.call_leg.specs.Down.{expanded};
 ghost use Rattle.call_leg.specs.Memory.{coder_memory};
 ghost use Rattle.call_leg.specs.Step.{coded_next};
 
@@ -50,10 +47,8 @@ fn expand_all(octets: &[u8; 160]) -> [i16; 160]
 impl Coder {
     /// Both at home.
     pub(crate) fn home() -> Coder
-        ensures encoder_value { result.encoder ≡ encoder.home_memory }
-        ensures tx_value { result.tx ≡ tx.home_memory }
-        ensures encoder { encoder.Stands [] result.encoder }
-        ensures tx { tx.Stands [] result.tx }
+        ensures encoder { result.encoder ≡ encoder.home_memory }
+        ensures tx { result.tx ≡ tx.home_memory }
     {
         Coder {
             encoder: Encoder::home(),
@@ -65,10 +60,6 @@ impl Coder {
     pub(crate) fn code(&mut self, octets: &[u8; 160], level: i16, on: bool) -> DownFrame
         ensures bits { HasBits result }
         ensures step { coded_next (coder_memory self.old) octets.now level on ≡ (result, coder_memory self.new) }
-        ensures encoder { (xs : List (List ℤ)) → encoder.Stands xs self.old.encoder → encoder.Stands (expanded octets.now ∷ xs) self.new.encoder }
-        ensures frame { (xs : List (List ℤ)) (cs : List Coded) → encoder.Stands xs self.old.encoder → tx.Stands cs self.old.tx →
-            tx.Stands (coded_as (encoding_of (expanded octets.now) xs) level on ∷ cs) self.new.tx
-            × (result ≡ speech (sent_of (coded_as (encoding_of (expanded octets.now) xs) level on) cs)) }
     {
         let (params, trace, peak) = self.encoder.encode(&expand_all(octets));
         let (sent, sp) = self.tx.send(&params, &trace, peak, level, on);

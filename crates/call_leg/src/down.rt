@@ -1,16 +1,11 @@
 //! The way down: frames are made.
 
-ghost use Rattle.std.specs.Prelude.{◌≡◌, ◌≤◌, ◌<◌, ◌+◌, ℕ, Bool, Option, None, is_some, List, All, ◌∷◌, length, take, drop, slice_get, if◌then◌else◌, ◌&&◌, ◌||◌};
+ghost use Rattle.std.specs.Prelude.{◌≡◌, ◌≤◌, ◌<◌, ◌+◌, All, length, drop, if◌then◌else◌, ◌||◌};
 ghost use Rattle.trau_bits.specs.Bits.{bits_of, AreBits};
 ghost use Rattle.trau_frame.specs.DownFrame.{HasBits};
-ghost use Rattle.down_framer.specs.Made.{next_frame, grown};
 ghost use Rattle.down_framer.specs.Memory.{IsBetween, IsWithin};
-ghost use Rattle.call_leg.specs.Periods.{CallPeriod, pcm_of, quiet_now, level_now, dtx_now};
-ghost use Rattle.call_leg.specs.Settings.{Settings, later, period_with};
-ghost use Rattle.call_leg.specs.Down.{CallFrame, down_period, down_periods, coded_stretch, frame_now, down_now};
-ghost use Rattle.call_leg.specs.Waiting.{bits_in};
-ghost use Rattle.call_leg.specs.Memory.{CoderStands, coder_memory, down_memory};
-ghost use Rattle.call_leg.specs.Places.{Inside, Halfway, Between, in_u32, in_u64};
+ghost use Rattle.call_leg.specs.Memory.{coder_memory, down_memory};
+ghost use Rattle.call_leg.specs.Places.{in_u32, in_u64};
 ghost use Rattle.time_align.specs.Memory.{after_thaw};
 ghost use Rattle.call_leg.specs.Step.{own_next, next_by, frame_made, frame_tried, down_worked};
 
@@ -26,11 +21,6 @@ fn own_frame(coder: &mut Coder, framer: &Framer, quiet: bool, level: i16, on: bo
     requires ready { 160 ≤ length framer.now.held }
     ensures bits { HasBits result }
     ensures step { own_next (coder_memory coder.old) framer.now.held quiet level on ≡ (result, coder_memory coder.new) }
-    ensures stands { (call : ℕ) (f : CallFrame) (fs : List CallFrame) → f.carries ≡ None →
-        quiet ≡ quiet_now call f.load → level ≡ level_now f.load → on ≡ dtx_now f.load →
-        take 160 framer.now.held ≡ take 160 (drop f.start (pcm_of f.load)) →
-        CoderStands (coded_stretch call f.epoch fs) (coder_memory coder.old) →
-        CoderStands (coded_stretch call f.epoch (f ∷ fs)) (coder_memory coder.new) × (result ≡ frame_now call (f ∷ fs)) }
 {
     if quiet {
         *coder = Coder::home();
@@ -56,11 +46,6 @@ fn next_frame(
     ensures waiting { waiting.new.items ≡ drop 1 waiting.old.items }
     ensures room { waiting.new.capacity ≡ waiting.old.capacity }
     ensures step { next_by waiting.old.items (coder_memory coder.old) framer.now.held quiet level on ≡ (result, coder_memory coder.new) }
-    ensures frame { (call : ℕ) (f : CallFrame) (fs : List CallFrame) → slice_get waiting.old.items 0 ≡ bits_in f.load f.carries →
-        quiet ≡ quiet_now call f.load → level ≡ level_now f.load → on ≡ dtx_now f.load →
-        take 160 framer.now.held ≡ take 160 (drop f.start (pcm_of f.load)) →
-        CoderStands (coded_stretch call f.epoch fs) (coder_memory coder.old) →
-        CoderStands (coded_stretch call f.epoch (f ∷ fs)) (coder_memory coder.new) × (result ≡ frame_now call (f ∷ fs)) }
 {
     if let Some(d) = waiting.pop_front() {
         *coder = Coder::home();
@@ -84,9 +69,7 @@ fn one_made(count: u64) -> u64
 
 /// Thaws the shifts where no bridge is on and no frame waits.
 pub(crate) fn thaw_at_end(align: &mut Align, bridged: bool, waits: bool)
-    ensures kept { align.new.kept ≡ align.old.kept }
-    ensures frozen { align.new.frozen ≡ (align.old.frozen && (bridged || waits)) }
-    ensures value { align.new ≡ (if bridged || waits then align.old else after_thaw align.old) }
+    ensures { align.new ≡ (if bridged || waits then align.old else after_thaw align.old) }
 {
     if !bridged && !waits {
         align.thaw();
@@ -100,8 +83,6 @@ impl DownSide {
         ensures within { IsWithin self.new.framer }
         ensures shorter { length self.new.framer.held + 158 ≤ length self.old.framer.held }
         ensures step { down_memory self.new ≡ frame_made (down_memory self.old) }
-        ensures inside { (call : ℕ) (t : CallPeriod) (past : List CallPeriod) (fs : List CallFrame) → Inside call t past fs (down_memory self.old) →
-            Inside call t past (next_frame (down_period t past) (down_periods past) fs ∷ fs) (down_memory self.new) }
     {
         let waited = !self.waiting.is_empty();
         self.sent = counted(self.sent, waited);
@@ -130,8 +111,6 @@ impl DownSide {
         ensures shorter { 160 ≤ length self.old.framer.held → length self.new.framer.held + 158 ≤ length self.old.framer.held }
         ensures same { length self.old.framer.held < 160 → self.new.framer ≡ self.old.framer }
         ensures step { down_memory self.new ≡ frame_tried (down_memory self.old) }
-        ensures inside { (call : ℕ) (t : CallPeriod) (past : List CallPeriod) (fs : List CallFrame) → Inside call t past fs (down_memory self.old) →
-            Inside call t past (grown (down_period t past) (down_periods past) fs) (down_memory self.new) }
     {
         if self.framer.ready() {
             self.make_frame();
@@ -143,10 +122,6 @@ impl DownSide {
         requires between { IsBetween self.old.framer }
         ensures between { IsBetween self.new.framer }
         ensures step { down_worked (down_memory self.old) pcm.now ≡ (bits_of down.new, down_memory self.new) }
-        ensures stands { (call : ℕ) (ts : List CallPeriod) (now : Settings) (up : List ℕ) (handed : Option (List ℕ)) →
-            is_some handed ≡ now.bridged → Halfway call ts now up handed (down_memory self.old) →
-            Between call (period_with now up pcm.now handed ∷ ts) (later now) (down_memory self.new)
-            × (bits_of down.new ≡ down_now call (period_with now up pcm.now handed ∷ ts)) }
     {
         self.framer.put(pcm);
         self.try_frame();

@@ -1,10 +1,95 @@
-//! Laws of a call's lines, each the contract of a function that does nothing.
+//! Laws of a call, each the contract of a function that does nothing: of its lines, and of what each call makes of any
+//! memory that stands for the periods so far. Periods have the newest first.
 
-ghost use Rattle.std.specs.Prelude.{◌≡◌, ℕ, ◌*◌, List, length, take};
-ghost use Rattle.call_leg.specs.Periods.{CallPeriod};
-ghost use Rattle.call_leg.specs.Down.{frames_of, down_made, down_line};
+ghost use Rattle.std.specs.Prelude.{◌≡◌, ◌<◌, ℕ, ◌*◌, ℤ, true, false, Option, Some, None, is_some, IfSome, All, List, [], ◌∷◌, length, take};
+ghost use Rattle.trau_orders.specs.declared.order.DtxMode.{DtxMode};
+ghost use Rattle.trau_bits.specs.Bits.{AreBits};
+ghost use Rattle.trau_params.specs.Fields.{Fields};
+ghost use Rattle.trau_params.specs.Bits260.{bits260};
+ghost use Rattle.rx_handler.specs.Origin.{EffectiveFields};
+ghost use Rattle.down_framer.specs.Made.{due};
+ghost use Rattle.call_leg.specs.Uplink.{handed_fields};
+ghost use Rattle.call_leg.specs.Periods.{CallPeriod, effective_now};
+ghost use Rattle.call_leg.specs.Settings.{Settings, new_settings, later, with_level, with_mode, with_bridge, without_bridge, period_with};
+ghost use Rattle.call_leg.specs.Out.{out_of};
+ghost use Rattle.call_leg.specs.Down.{down_periods, frames_of, down_made, down_now, down_line};
+ghost use Rattle.call_leg.specs.Memory.{LegMemory};
+ghost use Rattle.call_leg.specs.Stands.{Stands, Midway};
+ghost use Rattle.call_leg.specs.Step.{home_leg, up_worked, with_down, after_handing, down_worked, period_worked, set_level, set_mode, begin_bridge, bridge_over};
 
 /// The Down line of a call is the front of the downlink that is made: 320 bits a period.
 pub fn the_down_line_is_made()
     ensures { (call : ℕ) (ts : List CallPeriod) → down_line call ts ≡ take (320 * length ts) (down_made call (frames_of ts)) }
+{}
+
+/// A period has 160 octets of the Out line and 320 bits of the Down line.
+pub fn the_lines_have_their_lengths()
+    ensures out { (call : ℕ) (ts : List CallPeriod) → length (out_of call ts) ≡ 160 }
+    ensures down { (call : ℕ) (t : CallPeriod) (past : List CallPeriod) → length (down_now call (t ∷ past)) ≡ 320 }
+{}
+
+/// The Out line is made of octets, and the Down line of bits where only bits are handed over, as those of fields are.
+pub fn the_lines_are_octets_and_bits()
+    ensures out { (call : ℕ) (ts : List CallPeriod) → All (λ octet. octet < 256) (out_of call ts) }
+    ensures down { (call : ℕ) (ts : List CallPeriod) → All (λ t. IfSome t.handed (λ d. AreBits d)) ts → AreBits (down_now call ts) }
+    ensures handed { (f : Fields) → AreBits (bits260 f) }
+{}
+
+/// A new leg's memory stands for a call before its first period.
+pub fn a_new_leg_stands()
+    ensures { (call : ℕ) → Stands call [] new_settings (home_leg call) }
+{}
+
+/// The uplink half of a period, with its 40 octets of the Up line: what it leaves, its effective frame, and its octets
+/// of the Out line.
+pub fn the_uplink_half_stands()
+    ensures stands { (call : ℕ) (ts : List CallPeriod) (now : Settings) (up : List ℕ) (m : LegMemory) → length up ≡ 40 → Stands call ts now m →
+        Midway call ts now up None (up_worked m up).2 }
+    ensures effective { (call : ℕ) (ts : List CallPeriod) (now : Settings) (up pcm : List ℕ) (handed : Option (List ℕ)) (m : LegMemory) → length up ≡ 40 → Stands call ts now m →
+        (up_worked m up).0 ≡ effective_now call (period_with now up pcm handed ∷ ts) }
+    ensures out { (call : ℕ) (ts : List CallPeriod) (now : Settings) (up pcm : List ℕ) (handed : Option (List ℕ)) (m : LegMemory) → length up ≡ 40 → is_some handed ≡ now.bridged →
+        Stands call ts now m → (up_worked m up).1 ≡ out_of call (period_with now up pcm handed ∷ ts) }
+{}
+
+/// The handing over of a partner's effective frame, between the halves of a period.
+pub fn the_handing_over_stands()
+    ensures { (call : ℕ) (ts : List CallPeriod) (now : Settings) (up : List ℕ) (e : EffectiveFields) (m : LegMemory) → Midway call ts now up None m →
+        Midway call ts now up (Some (bits260 (handed_fields e))) (with_down m (after_handing m.down e)) }
+{}
+
+/// The downlink half of a period, with its 160 octets of the Pcm line: what it leaves, and its bits of the Down line.
+pub fn the_downlink_half_stands()
+    ensures { (call : ℕ) (ts : List CallPeriod) (now : Settings) (up pcm : List ℕ) (handed : Option (List ℕ)) (m : LegMemory) → length pcm ≡ 160 → is_some handed ≡ now.bridged →
+        Midway call ts now up handed m →
+        Stands call (period_with now up pcm handed ∷ ts) (later now) (with_down m (down_worked m.down pcm).1)
+        × ((down_worked m.down pcm).0 ≡ down_now call (period_with now up pcm handed ∷ ts)) }
+{}
+
+/// A whole period of a leg that isn't bridged: what it leaves, its octets of the Out line, and its bits of the Down
+/// line.
+pub fn the_period_stands()
+    ensures stands { (call : ℕ) (ts : List CallPeriod) (now : Settings) (up pcm : List ℕ) (m : LegMemory) → length up ≡ 40 → length pcm ≡ 160 → now.bridged ≡ false → Stands call ts now m →
+        Stands call (period_with now up pcm None ∷ ts) (later now) (period_worked m up pcm).2 }
+    ensures out { (call : ℕ) (ts : List CallPeriod) (now : Settings) (up pcm : List ℕ) (m : LegMemory) → length up ≡ 40 → length pcm ≡ 160 → now.bridged ≡ false → Stands call ts now m →
+        (period_worked m up pcm).0 ≡ out_of call (period_with now up pcm None ∷ ts) }
+    ensures down { (call : ℕ) (ts : List CallPeriod) (now : Settings) (up pcm : List ℕ) (m : LegMemory) → length up ≡ 40 → length pcm ≡ 160 → now.bridged ≡ false → Stands call ts now m →
+        (period_worked m up pcm).1 ≡ down_now call (period_with now up pcm None ∷ ts) }
+{}
+
+/// Orders between periods: the level and the DTX mode are set, a bridge begins where no handed frame waits, and a
+/// bridge ends.
+pub fn orders_stand()
+    ensures level { (call : ℕ) (ts : List CallPeriod) (now : Settings) (level : ℤ) (m : LegMemory) → Stands call ts now m →
+        Stands call ts (with_level level now) (with_down m (set_level level m.down)) }
+    ensures mode { (call : ℕ) (ts : List CallPeriod) (now : Settings) (mode : DtxMode) (m : LegMemory) → Stands call ts now m →
+        Stands call ts (with_mode mode now) (with_down m (set_mode mode m.down)) }
+    ensures begin { (call : ℕ) (ts : List CallPeriod) (now : Settings) (m : LegMemory) → due (down_periods ts) (frames_of ts) ≡ None → Stands call ts now m →
+        Stands call ts (with_bridge now) (begin_bridge m) }
+    ensures end { (call : ℕ) (ts : List CallPeriod) (now : Settings) (m : LegMemory) → now.bridged ≡ true → Stands call ts now m →
+        Stands call ts (without_bridge now) (with_down m (bridge_over m.down)) }
+{}
+
+/// A leg's search counts the periods of its call.
+pub fn the_periods_are_counted()
+    ensures { (call : ℕ) (ts : List CallPeriod) (now : Settings) (m : LegMemory) → Stands call ts now m → m.search.periods ≡ length ts }
 {}

@@ -1,18 +1,13 @@
 //! The downlink side of a leg, beside its half of a period.
 
-ghost use Rattle.std.specs.Prelude.{◌≡◌, ◌<◌, ℕ, ℤ, pos, true, false, not, Option, Some, None, List, [], ◌∷◌, IfOk, IfSome};
-ghost use Rattle.time_align.specs.Shift.{latest_ask};
-ghost use Rattle.trau_params.specs.Bits260.{bits260};
-ghost use Rattle.down_framer.specs.Made.{due};
+ghost use Rattle.std.specs.Prelude.{◌≡◌, ◌<◌, ℕ, List, IfOk, IfSome};
 ghost use Rattle.down_framer.specs.Memory.{IsBetween};
-ghost use Rattle.rx_handler.specs.Past.{effective_of};
 ghost use Rattle.rx_handler.specs.State.{effective_fields};
-ghost use Rattle.call_leg.specs.Uplink.{sighting_of, heard_as, is_quiet, handed_fields};
-ghost use Rattle.call_leg.specs.Periods.{CallPeriod, sighting_after, heard_of};
-ghost use Rattle.call_leg.specs.Settings.{Settings, new_settings, with_bridge, without_bridge};
-ghost use Rattle.call_leg.specs.Down.{down_periods, frames_of};
+ghost use Rattle.call_leg.specs.Uplink.{sighting_of};
+ghost use Rattle.call_leg.specs.Periods.{CallPeriod};
+ghost use Rattle.call_leg.specs.Settings.{Settings};
 ghost use Rattle.call_leg.specs.Memory.{down_memory};
-ghost use Rattle.call_leg.specs.Places.{Halfway, Between, is_draining};
+ghost use Rattle.call_leg.specs.Places.{Between, is_draining};
 ghost use Rattle.call_leg.specs.Step.{home_down, asked, after_sighting, after_handing, bridge_begun, bridge_over};
 
 use crate::coder::Coder;
@@ -31,9 +26,7 @@ use trau_orders::DtxMode;
 // Asks for the shift of a field, if there is one.
 fn ask(align: &mut Align, field: Option<u8>)
     requires { IfSome field (λ f. f < 64) }
-    ensures step { align.new ≡ asked align.old field }
-    ensures kept { (fields : List (Option ℕ)) → align.old.kept ≡ latest_ask fields → align.new.kept ≡ latest_ask (field ∷ fields) }
-    ensures frozen { align.new.frozen ≡ align.old.frozen }
+    ensures { align.new ≡ asked align.old field }
 {
     if let Some(field) = field {
         align.ask(field);
@@ -45,7 +38,6 @@ impl DownSide {
     pub(crate) fn new(alloc: Global) -> Result<DownSide, AllocError>
         ensures between { IfOk result (λ d. IsBetween d.framer) }
         ensures value { IfOk result (λ d. down_memory d ≡ home_down) }
-        ensures stands { IfOk result (λ d. (call : ℕ) → Between call [] new_settings (down_memory d)) }
     {
         let framer = Framer::new(alloc)?;
         let waiting = HeapCircularBuffer::with_capacity(alloc, 2)?;
@@ -68,9 +60,6 @@ impl DownSide {
     pub(crate) fn hear(&mut self, found: &Found, quiet: bool)
         ensures framer { self.new.framer ≡ self.old.framer }
         ensures step { down_memory self.new ≡ after_sighting (down_memory self.old) (sighting_of found.now) quiet }
-        ensures stands { (call : ℕ) (ts : List CallPeriod) (now : Settings) (up : List ℕ) → sighting_of found.now ≡ sighting_after ts up →
-            quiet ≡ is_quiet (effective_of call (heard_as (sighting_after ts up) ∷ heard_of ts)) → Between call ts now (down_memory self.old) →
-            Halfway call ts now up None (down_memory self.new) }
     {
         ask(&mut self.align, field(found));
         self.uplink = dtxd(found, self.uplink);
@@ -81,8 +70,6 @@ impl DownSide {
     pub(crate) fn hand(&mut self, e: &Effective)
         ensures framer { self.new.framer ≡ self.old.framer }
         ensures step { down_memory self.new ≡ after_handing (down_memory self.old) (effective_fields e.now) }
-        ensures stands { (call : ℕ) (ts : List CallPeriod) (now : Settings) (up : List ℕ) → Halfway call ts now up None (down_memory self.old) →
-            Halfway call ts now up (Some (bits260 (handed_fields (effective_fields e.now)))) (down_memory self.new) }
     {
         let mut bits = [0; 260];
         handed(e).to_bits(&mut bits);
@@ -93,8 +80,6 @@ impl DownSide {
     pub(crate) fn bridge_on(&mut self)
         ensures framer { self.new.framer ≡ self.old.framer }
         ensures step { down_memory self.new ≡ bridge_begun (down_memory self.old) }
-        ensures stands { (call : ℕ) (ts : List CallPeriod) (now : Settings) → due (down_periods ts) (frames_of ts) ≡ None →
-            Between call ts now (down_memory self.old) → Between call ts (with_bridge now) (down_memory self.new) }
     {
         self.align.freeze();
         self.coder = Coder::home();
@@ -106,8 +91,6 @@ impl DownSide {
     pub(crate) fn bridge_off(&mut self)
         ensures framer { self.new.framer ≡ self.old.framer }
         ensures step { down_memory self.new ≡ bridge_over (down_memory self.old) }
-        ensures stands { (call : ℕ) (ts : List CallPeriod) (now : Settings) → now.bridged ≡ true →
-            Between call ts now (down_memory self.old) → Between call ts (without_bridge now) (down_memory self.new) }
     {
         let waits = !self.waiting.is_empty();
         thaw_at_end(&mut self.align, false, waits);

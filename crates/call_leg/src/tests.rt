@@ -2,7 +2,9 @@ ghost use Rattle.std.specs.Prelude.{◌≡◌, ◌<◌, ◌+◌};
 
 use super::*;
 use std::test::Fail;
+use std::thread::join_mut;
 use trau_io::Counts;
+use trau_orders::DtxMode;
 
 // An uplink frame of good speech without its last two octets and its first four, which `up` puts in place.
 const SPEECH: [u8; 40] = [
@@ -20,21 +22,22 @@ fn up(field: u8, d: u8) -> [u8; 40] {
     octets
 }
 
-// A leg is one that can be sent to another thread.
-fn sent_away<T: Send>(leg: T) -> T
-    ensures { result ≡ leg }
-{
-    leg
-}
-
-// Works a period of a silent exchange: the octets of the Out and Down lines.
-fn period(leg: &mut Leg, up: &[u8; 40]) -> ([u8; 160], [u8; 40])
+// Works a period in which the exchange says the same octet all the time: the octets of the Out and Down lines.
+fn period_of(leg: &mut Leg, up: &[u8; 40], octet: u8) -> ([u8; 160], [u8; 40])
     requires { leg.old.search.periods < 100 }
     ensures { leg.new.search.periods ≡ leg.old.search.periods + 1 }
 {
     let (mut out, mut down) = ([0; 160], [0; 40]);
-    leg.period(up, &[0xD5; 160], &mut out, &mut down);
+    leg.period(up, &[octet; 160], &mut out, &mut down);
     (out, down)
+}
+
+// The same of a silent exchange.
+fn period(leg: &mut Leg, up: &[u8; 40]) -> ([u8; 160], [u8; 40])
+    requires { leg.old.search.periods < 100 }
+    ensures { leg.new.search.periods ≡ leg.old.search.periods + 1 }
+{
+    period_of(leg, up, 0xD5)
 }
 
 // Nothing is found on the uplink: the exchange hears silence, and the base station gets idle frames after 320 ones.
@@ -47,7 +50,6 @@ fn without_frames_the_call_is_quiet(rt: HostRuntime) -> Result<(), Fail> {
     idle[3] = 0x0F;
     let mut leg = Leg::new(rt.alloc(), 1)?;
     assert!(rt; period(&mut leg, &[0; 40]) == ([0xD5; 160], [0xFF; 40]));
-    let mut leg = sent_away(leg);
     assert!(rt; period(&mut leg, &[0; 40]) == ([0xD5; 160], idle));
     assert!(rt; period(&mut leg, &[0; 40]) == ([0xD5; 160], idle));
     let counts = Counts {
@@ -134,5 +136,82 @@ fn handed_frames_go_out_in_order(rt: HostRuntime) -> Result<(), Fail> {
     let eleventh = period(&mut b, &up(0, 9)).1;
     assert_eq!(rt; (tenth[4], eleventh[4]), (8, 9));
     assert_eq!(rt; (b.sent(), b.draining()), (6, false));
+    Ok(())
+}
+
+// A bridge of one period hands over one frame, and so does the next one, two periods later.
+#[test]
+fn bridges_of_one_period(rt: HostRuntime) -> Result<(), Fail> {
+    let mut a = Leg::new(rt.alloc(), 7)?;
+    let mut b = Leg::new(rt.alloc(), 9)?;
+    a.bridge_on();
+    b.bridge_on();
+    bridged(&mut a, &mut b, 1);
+    a.bridge_off();
+    b.bridge_off();
+    assert_eq!(rt; (b.sent(), b.draining()), (1, false));
+    period(&mut a, &up(0, 9));
+    assert_eq!(rt; period(&mut b, &up(0, 9)).1[5], 1);
+    period(&mut a, &up(0, 9));
+    period(&mut b, &up(0, 9));
+    a.bridge_on();
+    b.bridge_on();
+    assert_eq!(rt; b.sent(), 0);
+    bridged(&mut a, &mut b, 4);
+    a.bridge_off();
+    b.bridge_off();
+    assert_eq!(rt; b.sent(), 1);
+    assert_eq!(rt; period(&mut b, &up(0, 9)).1[5], 4);
+    Ok(())
+}
+
+// After a bridge without any period the codecs are at home: the next frame is a first one.
+#[test]
+fn a_bridge_without_periods_goes_home(rt: HostRuntime) -> Result<(), Fail> {
+    let mut leg = Leg::new(rt.alloc(), 5)?;
+    let home = period_of(&mut leg, &up(0, 9), 0x2A).0;
+    let first = period_of(&mut leg, &up(0, 9), 0x2A).1;
+    leg.bridge_on();
+    leg.bridge_off();
+    let again = period_of(&mut leg, &up(0, 9), 0x2A);
+    let second = again.1;
+    let third = period_of(&mut leg, &up(0, 9), 0x2A).1;
+    assert!(rt; again.0 == home && third == first && second != first);
+    Ok(())
+}
+
+// Where DTX is on and each peak lies below the level, the fifth frame is the first one with SP 0; at level 0 no frame
+// is silence.
+#[test]
+fn silence_by_level(rt: HostRuntime) -> Result<(), Fail> {
+    let mut leg = Leg::new(rt.alloc(), 3)?;
+    leg.set_dtx(DtxMode::On);
+    leg.set_level(32767);
+    period(&mut leg, &up(0, 9));
+    period(&mut leg, &up(0, 9));
+    period(&mut leg, &up(0, 9));
+    period(&mut leg, &up(0, 9));
+    let fourth = period(&mut leg, &up(0, 9)).1;
+    leg.set_level(0);
+    let fifth = period(&mut leg, &up(0, 9)).1;
+    let sixth = period(&mut leg, &up(0, 9)).1;
+    assert_eq!(rt; (fourth[38] & 2, fifth[38] & 2, sixth[38] & 2), (2, 0, 2));
+    Ok(())
+}
+
+// Legs that go on in other threads are the same as ever.
+#[test]
+fn legs_go_to_other_threads(rt: HostRuntime) -> Result<(), Fail> {
+    let mut a = Leg::new(rt.alloc(), 1)?;
+    let mut b = Leg::new(rt.alloc(), 1)?;
+    period(&mut a, &up(0, 3));
+    period(&mut b, &up(0, 3));
+    let (one, other) = join_mut(
+        &rt,
+        &mut || period(&mut a, &up(0, 4)),
+        &mut || period(&mut b, &up(0, 4)),
+    );
+    assert!(rt; one == other);
+    assert!(rt; period(&mut a, &up(0, 5)) == period(&mut b, &up(0, 5)));
     Ok(())
 }

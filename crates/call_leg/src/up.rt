@@ -1,15 +1,11 @@
 //! The way up: what is heard, and what is played out.
 
-ghost use Rattle.std.specs.Prelude.{◌≡◌, ℕ, List, ◌∷◌};
-ghost use Rattle.trau_params.specs.Fields.{Fields, fields_of};
-ghost use Rattle.rx_handler.specs.Heard.{Heard};
-ghost use Rattle.rx_handler.specs.Past.{effective_of};
-ghost use Rattle.rx_handler.specs.Table.{received, Stands as RxStands};
+ghost use Rattle.std.specs.Prelude.{◌≡◌};
+ghost use Rattle.trau_params.specs.Fields.{fields_of};
+ghost use Rattle.rx_handler.specs.Table.{received};
 ghost use Rattle.rx_handler.specs.State.{effective_fields};
-ghost use Rattle.fr_decoder.specs.Step.{Stands as DecoderStands};
-ghost use Rattle.fr_decoder.specs.Decoded.{samples_of};
 ghost use Rattle.call_leg.specs.Uplink.{heard_as, sighting_of, is_quiet, handed_fields};
-ghost use Rattle.call_leg.specs.Out.{compressed, plain_with, decoded_octets};
+ghost use Rattle.call_leg.specs.Out.{compressed};
 ghost use Rattle.call_leg.specs.Step.{played_frame, played};
 
 use crate::found::Found;
@@ -20,10 +16,7 @@ use trau_params::{Params, silence};
 
 /// The effective frame of a period.
 pub(crate) fn hear(rx: &mut Rx, found: &Found) -> Effective
-    ensures step { received rx.old (heard_as (sighting_of found.now)) ≡ (effective_fields result, rx.new) }
-    ensures history { (call : ℕ) (past : List Heard) → RxStands call past rx.old →
-        RxStands call (heard_as (sighting_of found.now) ∷ past) rx.new
-        × (effective_fields result ≡ effective_of call (heard_as (sighting_of found.now) ∷ past)) }
+    ensures { received rx.old (heard_as (sighting_of found.now)) ≡ (effective_fields result, rx.new) }
 {
     match found {
         Found::Frame(f) => rx.take(Some(f)),
@@ -62,9 +55,7 @@ fn compress_all(x: &[i16; 160], octets: &mut [u8; 160])
 
 // The octets of the next frame of a plain stretch.
 fn decode(decoder: &mut Decoder, p: &Params, octets: &mut [u8; 160])
-    ensures step { played_frame decoder.old (fields_of p.now) ≡ (octets.new, decoder.new) }
-    ensures history { (past : List Fields) → DecoderStands past decoder.old →
-        DecoderStands (fields_of p.now ∷ past) decoder.new × (octets.new ≡ compressed (samples_of (fields_of p.now) past)) }
+    ensures { played_frame decoder.old (fields_of p.now) ≡ (octets.new, decoder.new) }
 {
     let mut x = [0; 160];
     decoder.decode(p, &mut x);
@@ -73,10 +64,7 @@ fn decode(decoder: &mut Decoder, p: &Params, octets: &mut [u8; 160])
 
 /// The octets of a period: decoded where it is plain, else those of a line that is quiet.
 pub(crate) fn play(decoder: &mut Decoder, e: &Effective, alone: bool, octets: &mut [u8; 160])
-    ensures step { played decoder.old (effective_fields e.now) alone ≡ (octets.new, decoder.new) }
-    ensures history { (past : List Fields) → DecoderStands past decoder.old →
-        DecoderStands (plain_with (effective_fields e.now) alone past) decoder.new
-        × (octets.new ≡ decoded_octets (plain_with (effective_fields e.now) alone past)) }
+    ensures { played decoder.old (effective_fields e.now) alone ≡ (octets.new, decoder.new) }
 {
     if alone {
         match e {

@@ -1,8 +1,21 @@
 -- The four blocks of a frame.
-use Rattle.std.proofs.Common.{◌≡◌, ℤ, List, ◌∷◌, ◌++◌, length, take, refl, sym, ◌∙◌, ap, arith}
-use Rattle.std.proofs.lemmas.List.{take_all}
+use Rattle.std.proofs.Common.{◌≡◌, ℕ, ◌+◌, suc, ℤ, pos, negsuc, ◌*ℤ◌, ◌+ℤ◌, ◌≤ℤ◌, FitsSigned, w16, All, List, [], ◌∷◌, ◌++◌, length, map, take, refl, sym, ◌∙◌, ap, subst, arith, length-append}
+use Rattle.std.proofs.lemmas.Int.{ints}
+use Rattle.std.proofs.lemmas.List.{take_all, length-map}
+use Rattle.std.proofs.lemmas.List.Elements.{All-map}
 use Rattle.trau_params.specs.Fields.{Fields}
 use Rattle.fr_long.specs.Memory.{LtpMemory, Stands, synthesised}
+use Rattle.trau_num.specs.Num.{add_of, mult_r_of, floor_shr}
+use Rattle.fr_long.specs.Synthesis as long
+use Rattle.fr_long.proofs.Histories.{synthesised-Stands, length-residual_after}
+use Rattle.fr_short.specs.Memory as short
+use Rattle.fr_short.specs.Ratios.{decoded_ratios}
+use Rattle.fr_short.specs.Reflection.{coefficients_at}
+use Rattle.fr_short.specs.Synthesis as lattice
+use Rattle.fr_decoder.specs.Decoded.{blocks_of, residuals_of, last_msr, samples_of}
+use Rattle.fr_decoder.specs.Deemphasis.{deemphasised, last_of, truncated}
+use Rattle.fr_decoder.specs.Step as decoder
+use Rattle.fr_decoder.proofs.Runs.{add_fits}
 use Rattle.fr_long.specs.Synthesis.{LtpBlock, residual_of}
 use Rattle.fr_decoder.specs.Blocks.{ltp_block, one_block, two_blocks, three_blocks, four_blocks, frame_residual}
 use Rattle.fr_decoder.specs.Step.{synthesised_blocks}
@@ -33,3 +46,98 @@ four_histories f m0 m1 m2 m3 m4 a b c d first second third fourth past stands =
     let three = third (two_blocks f past) two.0 in
     let four = fourth (three_blocks f past) three.0 in
     (four.0, rw (one.1, two.1, three.1, four.1) refl)
+
+-- ---- the functions from frame to frame
+
+blocks-stand : (f : Fields) (past : List LtpBlock) (m : LtpMemory) → Stands past m →
+    Stands (four_blocks f past) (synthesised_blocks m f).1 × ((synthesised_blocks m f).0 ≡ frame_residual f past)
+unfolding synthesised_blocks
+blocks-stand f past m h =
+    let m1 = (synthesised m (ltp_block f 0)).1 in
+    let m2 = (synthesised m1 (ltp_block f 1)).1 in
+    let m3 = (synthesised m2 (ltp_block f 2)).1 in
+    four_histories f m m1 m2 m3 _ _ _ _ _ (λ ps s. synthesised-Stands ps (ltp_block f 0) m s) (λ ps s. synthesised-Stands ps (ltp_block f 1) m1 s)
+    (λ ps s. synthesised-Stands ps (ltp_block f 2) m2 s) (λ ps s. synthesised-Stands ps (ltp_block f 3) m3 s) past h
+
+lattice-stands : (codes : List ℕ) (residual : List ℤ) (past : List lattice.ResidualFrame) (m : short.ShortMemory) → lattice.Stands past m →
+    lattice.Stands (lattice.residual_frame codes residual ∷ past) (lattice.synthesised_frame m codes residual).1
+    × ((lattice.synthesised_frame m codes residual).0 ≡ (lattice.synthesis_of (lattice.residual_frame codes residual ∷ past)).0)
+unfolding lattice.synthesised_frame lattice.newest_ratios lattice.synthesis_of
+lattice-stands codes residual past m h =
+    let both : lattice.filtered_samples (coefficients_at m.ratios (decoded_ratios codes)) 0 m.sections residual ≡ lattice.synthesis_of (lattice.residual_frame codes residual ∷ past) =
+    ap (λ r. lattice.filtered_samples (coefficients_at r (decoded_ratios codes)) 0 m.sections residual) h.ratios
+    ∙ ap (λ v. lattice.filtered_samples (coefficients_at (lattice.newest_ratios past) (decoded_ratios codes)) 0 v residual) h.sections in
+    (record { ratios = refl; sections = ap (λ x. x.1) both }, ap (λ x. x.0) both)
+
+-- at home no frame was decoded
+pub home-stands : decoder.Stands [] decoder.home_memory
+unfolding blocks_of residuals_of last_msr long.lag_in_force long.residuals_of lattice.newest_ratios lattice.synthesis_of
+home-stands = record { long_term = record { lag = refl; residuals = refl }; short_term = record { ratios = refl; sections = refl }; msr = refl }
+
+-- one frame more, of any past
+pub frame-stands : (f : Fields) (past : List Fields) (m : decoder.DecoderMemory) → decoder.Stands past m →
+    decoder.Stands (f ∷ past) (decoder.decoded_frame m f).1 × ((decoder.decoded_frame m f).0 ≡ samples_of f past)
+unfolding decoder.decoded_frame blocks_of residuals_of last_msr samples_of
+frame-stands f past m h =
+    let blocks = synthesised_blocks m.long_term f in
+    let one = blocks-stand f (blocks_of past) m.long_term h.long_term in
+    let two = lattice-stands f.larc blocks.0 (residuals_of past) m.short_term h.short_term in
+    let frames : lattice.residual_frame f.larc blocks.0 ∷ residuals_of past ≡ residuals_of (f ∷ past) = ap (λ r. lattice.residual_frame f.larc r ∷ residuals_of past) one.1 in
+    let samples : (lattice.synthesised_frame m.short_term f.larc blocks.0).0 ≡ (lattice.synthesis_of (residuals_of (f ∷ past))).0 = two.1 ∙ ap (λ fs. (lattice.synthesis_of fs).0) frames in
+    let msr : deemphasised m.msr (lattice.synthesised_frame m.short_term f.larc blocks.0).0 ≡ deemphasised (last_msr past) (lattice.synthesis_of (residuals_of (f ∷ past))).0 =
+    ap (λ b. deemphasised b (lattice.synthesised_frame m.short_term f.larc blocks.0).0) h.msr ∙ ap (deemphasised (last_msr past)) samples in (
+      record {
+        long_term = one.0;
+        short_term = subst (λ fs. lattice.Stands fs (lattice.synthesised_frame m.short_term f.larc blocks.0).1) frames two.0;
+        msr = ap (λ b. last_of b (deemphasised m.msr (lattice.synthesised_frame m.short_term f.larc blocks.0).0)) h.msr ∙ ap (last_of (last_msr past)) msr;
+      },
+      ap (map truncated) msr,
+    )
+
+-- ---- how many samples there are
+
+length-deemphasised : (xs : List ℤ) (before : ℤ) → length (deemphasised before xs) ≡ length xs
+length-deemphasised [] before = refl
+length-deemphasised (x ∷ xs) before = ap suc (length-deemphasised xs (add_of x (mult_r_of (pos 28180) before)))
+
+length-filtered : (rs : ℕ → List ℤ) (k : ℕ) (vs ds : List ℤ) → length (lattice.filtered_samples rs k vs ds).0 ≡ length ds
+unfolding lattice.filtered_samples
+length-filtered rs k vs [] = refl
+length-filtered rs k vs (d ∷ ds) = ap suc (length-filtered rs (k + 1) (lattice.sections_after (lattice.synthesis_lattice (rs k) vs d)) ds)
+
+length-residual_of : (b : LtpBlock) (past : List LtpBlock) → length (residual_of b past) ≡ 40
+unfolding residual_of
+length-residual_of b past = length-residual_after (long.residuals_of past) (long.lag_in_force (b ∷ past)) b.bc b.erp
+
+length-frame_residual : (f : Fields) (past : List LtpBlock) → length (frame_residual f past) ≡ 160
+unfolding frame_residual
+length-frame_residual f past =
+    let a = length-residual_of (ltp_block f 0) past in
+    let b = length-residual_of (ltp_block f 1) (one_block f past) in
+    let c = length-residual_of (ltp_block f 2) (two_blocks f past) in
+    let d = length-residual_of (ltp_block f 3) (three_blocks f past) in
+    omega (arith, length-append {A = ℤ})
+
+pub length-samples_of : (f : Fields) (past : List Fields) → length (samples_of f past) ≡ 160
+unfolding samples_of residuals_of lattice.synthesis_of
+length-samples_of f past =
+    length-map (deemphasised (last_msr past) (lattice.synthesis_of (residuals_of (f ∷ past))).0) truncated ∙ length-deemphasised _ (last_msr past)
+    ∙ length-filtered _ 0 _ (frame_residual f (blocks_of past)) ∙ length-frame_residual f (blocks_of past)
+
+-- ---- and that each is a word
+
+floor_8 : (z : ℤ) → ((floor_shr z 3 *ℤ pos 8) ≤ℤ z) × (z ≤ℤ (floor_shr z 3 *ℤ pos 8 +ℤ pos 7))
+floor_8 (pos n) = (omega (arith, ints), omega (arith, ints))
+floor_8 (negsuc n) = (omega (arith, ints), omega (arith, ints))
+
+truncated-fits : (msr : ℤ) → FitsSigned w16 (truncated msr)
+unfolding truncated
+truncated-fits msr =
+    let low = (floor_8 (add_of msr msr)).0 in
+    let high = (floor_8 (add_of msr msr)).1 in
+    let f = add_fits msr msr in
+    omega (arith, ints)
+
+pub samples-fit : (f : Fields) (past : List Fields) → All (λ x. FitsSigned w16 x) (samples_of f past)
+unfolding samples_of
+samples-fit f past = All-map (λ x. FitsSigned w16 x) truncated (deemphasised (last_msr past) (lattice.synthesis_of (residuals_of (f ∷ past))).0) (λ k d l. truncated-fits _)

@@ -1,3 +1,3 @@
 -- Lemmas on frames and samples.
-mod Frames
+pub mod Frames
 mod Runs

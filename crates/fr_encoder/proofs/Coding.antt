@@ -1,12 +1,14 @@
 -- The blocks of a frame.
-use Rattle.std.proofs.Common.{◌≡◌, ℕ, ℤ, List, [], ◌∷◌, ◌++◌, refl, sym, All}
+use Rattle.std.proofs.Common.{◌≡◌, ℕ, ℤ, List, [], ◌∷◌, ◌++◌, drop, refl, sym, All}
 use Rattle.std.proofs.lemmas.List.Elements.{All-cons, All-nil}
-use Rattle.fr_long.specs.Prediction.{IsPrediction, reconstructed_of, updated, after_zeros, HistoryStands}
+use Rattle.fr_long.specs.GainCode.{power_of, code_of}
+use Rattle.fr_long.specs.Prediction.{correlation_of_block, l_max_of, predicted_of, rest_of, IsPrediction, reconstructed_of, updated, after_zeros, HistoryStands}
+use Rattle.fr_long.proofs.Predictions.{by_history, one_update}
 use Rattle.fr_rpe.specs.Encoding.{mc_of, xmaxc_of, xmc_of, xmax_of}
 use Rattle.fr_rpe.specs.Pulses.{block_of}
-use Rattle.fr_encoder.specs.Blocks.{CodedBlock, coded_block, block_at, block_after, four_blocks}
+use Rattle.fr_encoder.specs.Blocks.{CodedBlock, lag_of, coded_block, block_at, block_after, four_blocks}
 use Rattle.fr_encoder.specs.Step.{next_block, next_blocks}
-use Rattle.fr_encoder.proofs.Lags.{lag_is}
+use Rattle.fr_encoder.proofs.Lags.{lag_is, IsLag-lag_of}
 
 -- a block that is predicted so, and whose rest has these codes
 pub coded : (d earlier : List ℤ) (nc bc : ℕ) (dpp e : List ℤ) (mc xmaxc : ℕ) (xmc : List ℕ) (xmax : ℤ) (ep : List ℤ) →
@@ -68,3 +70,31 @@ four_histories s d0 d1 d2 d3 m0 m1 m2 m3 m4 a b c d e0 e1 e2 e3 first second thi
 pub all_four : {X : Type 0} (P : X → Type 0) (a b c d : X) → P a → P b → P c → P d → All P (a ∷ b ∷ c ∷ d ∷ [])
 all_four P a b c d pa pb pc pd =
     All-cons P a (b ∷ c ∷ d ∷ []) pa (All-cons P b (c ∷ d ∷ []) pb (All-cons P c (d ∷ []) pc (All-cons P d [] pd (All-nil P))))
+
+-- ---- the functions from block to block
+
+updated_is : (residuals dpp ep : List ℤ) → drop 40 residuals ++ reconstructed_of dpp ep ≡ updated residuals dpp ep
+unfolding updated
+updated_is residuals dpp ep = refl
+
+block-stands : (d residuals : List ℤ) → IsCoded residuals d (next_block residuals d).0 (next_block residuals d).1
+unfolding next_block coded_block
+block-stands d residuals = λ past h.
+    let nc = lag_of (correlation_of_block d residuals) in
+    let bc = code_of (l_max_of d residuals nc) (power_of residuals nc) in
+    let dpp = predicted_of residuals nc bc in
+    let e = rest_of d dpp in
+    let here : IsPrediction d residuals nc bc dpp e = record { lag = IsLag-lag_of (correlation_of_block d residuals); gain = refl; predicted = refl; rest = refl } in
+    let ep = block_of (mc_of e) (xmaxc_of e) (xmc_of e) in
+    one_history d past (drop 40 residuals ++ reconstructed_of dpp ep) nc bc dpp e _ _ _ _ ep (by_history past residuals d nc bc dpp e h here) refl refl refl refl refl
+    (one_update past residuals dpp ep (drop 40 residuals ++ reconstructed_of dpp ep) h (updated_is residuals dpp ep))
+
+pub blocks-stand : (s residuals past : List ℤ) → HistoryStands past residuals →
+    HistoryStands (four_blocks past s).1 (next_blocks residuals s).1 × ((next_blocks residuals s).0 ≡ (four_blocks past s).0)
+unfolding next_blocks
+blocks-stand s residuals past h =
+    let m1 = (next_block residuals (block_at s 0)).1 in
+    let m2 = (next_block m1 (block_at s 1)).1 in
+    let m3 = (next_block m2 (block_at s 2)).1 in
+    four_histories s _ _ _ _ residuals m1 m2 m3 _ _ _ _ _ refl refl refl refl
+    (block-stands (block_at s 0) residuals) (block-stands (block_at s 1) m1) (block-stands (block_at s 2) m2) (block-stands (block_at s 3) m3) past h

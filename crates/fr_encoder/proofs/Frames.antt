@@ -1,16 +1,20 @@
 -- One frame, by the memory before it and by all frames of the past.
-use Rattle.std.proofs.Common.{◌≡◌, ℕ, ℤ, List, ◌∷◌, refl, ap, subst, ◌∙◌}
+use Rattle.std.proofs.Common.{◌≡◌, ℕ, ℤ, List, [], ◌∷◌, refl, ap, subst, ◌∙◌}
 use Rattle.fr_pre.specs.Memory as pre
 use Rattle.fr_pre.specs.History as preprocessing
 use Rattle.fr_pre.specs.Preprocessing.{preprocessed_frame}
+use Rattle.fr_pre.proofs.Run.{history}
 use Rattle.fr_lpc.specs.Scaling.{peak_of, samples_after}
 use Rattle.fr_lpc.specs.Ratios.{ratio_codes, ratios_of_frame}
 use Rattle.fr_short.specs.Memory as short
-use Rattle.fr_short.specs.Analysis.{sample_frame, analysed_frame, analysis_of, AnalysisStands}
+use Rattle.fr_short.specs.Ratios.{decoded_ratios}
+use Rattle.fr_short.specs.Reflection.{coefficients_at}
+use Rattle.fr_short.specs.Analysis.{SampleFrame, sample_frame, analysed_samples, analysed_frame, newest_sample_ratios, analysis_of, AnalysisStands}
 use Rattle.fr_long.specs.Prediction.{HistoryStands}
 use Rattle.fr_encoder.specs.Blocks.{BlockFields, block_fields, four_blocks}
 use Rattle.fr_encoder.specs.Encoded.{Encoded, sample_frames, residual_of, reconstructed, encoding_of}
-use Rattle.fr_encoder.specs.Step.{EncoderMemory, next_blocks, encoded_frame, Stands}
+use Rattle.fr_encoder.specs.Step.{EncoderMemory, home_memory, next_blocks, encoded_frame, Stands}
+use Rattle.fr_encoder.proofs.Coding.{blocks-stand}
 
 -- what is told of the fields, the ratios before they were coded, the blocks' maxima and the peak
 abbrev pub told : List ℕ → List ℤ → BlockFields → ℤ → Encoded
@@ -60,3 +64,35 @@ one_history x s lost residual past pre' short' long' larc lar blocks peak first 
       },
       rw (third.1, same, elarc, elar, epeak, first.1) refl,
     )
+
+-- ---- the function from frame to frame
+
+analysis-stands : (codes : List ℕ) (samples : List ℤ) (past : List SampleFrame) (m : short.ShortMemory) → AnalysisStands past m →
+    AnalysisStands (sample_frame codes samples ∷ past) (analysed_frame m codes samples).1
+    × ((analysed_frame m codes samples).0 ≡ (analysis_of (sample_frame codes samples ∷ past)).0)
+unfolding analysed_frame newest_sample_ratios analysis_of
+analysis-stands codes samples past m h =
+    let both : analysed_samples (coefficients_at m.ratios (decoded_ratios codes)) 0 m.sections samples ≡ analysis_of (sample_frame codes samples ∷ past) =
+    ap (λ r. analysed_samples (coefficients_at r (decoded_ratios codes)) 0 m.sections samples) h.ratios
+    ∙ ap (λ v. analysed_samples (coefficients_at (newest_sample_ratios past) (decoded_ratios codes)) 0 v samples) h.sections in
+    (record { ratios = refl; sections = ap (λ x. x.1) both }, ap (λ x. x.0) both)
+
+-- at home no frame was encoded
+pub home-stands : Stands [] home_memory
+unfolding sample_frames reconstructed preprocessed_frame preprocessing.samples_of newest_sample_ratios analysis_of
+home-stands = record { preprocessing = record { after = refl }; short_term = record { ratios = refl; sections = refl }; long_term = record { residuals_are = refl } }
+
+-- one frame more, of any past
+pub frame-stands : (x : List ℤ) (past : List (List ℤ)) (m : EncoderMemory) → Stands past m →
+    Stands (x ∷ past) (encoded_frame m x).1 × ((encoded_frame m x).0 ≡ encoding_of x past)
+unfolding encoded_frame
+frame-stands x past m h =
+    let first = preprocessed_frame m.preprocessing x in
+    let lost = samples_after first.0 in
+    let larc = ratio_codes (ratios_of_frame first.0) in
+    let short' = analysed_frame m.short_term larc lost in
+    let blocks = next_blocks m.long_term short'.0 in
+    let third = blocks-stand short'.0 m.long_term (reconstructed past) h.long_term in
+    one_history x first.0 lost short'.0 past first.1 short'.1 blocks.1 larc (ratios_of_frame first.0) (block_fields blocks.0) (peak_of first.0)
+    (history m.preprocessing first.1 x first.0 refl past h.preprocessing) refl refl refl refl
+    (analysis-stands larc lost (sample_frames past) m.short_term h.short_term) (third.0, ap block_fields third.1)

@@ -97,8 +97,10 @@ chosen f b h =
       chosen = inr (refl, λ k l m. at_most_both (f k) (f (40 + b)) (pos 0) (greatest k l m) g);
     }))
 
-pub lag_is : (f : ℕ → ℤ) (nc : ℕ) → IsLag f nc → nc ≡ lag_of f
+-- the lag of the definitions is one
+pub IsLag-lag_of : (f : ℕ → ℤ) → IsLag f (lag_of f)
 unfolding lag_of
-lag_is f nc h =
-    let b = least_greatest (λ i. f (40 + i)) 80 in
-    one_lag f nc (if int_lt (pos 0) (f (40 + b)) then 40 + b else 40) h (chosen f b (is_least_greatest (λ i. f (40 + i)) 80))
+IsLag-lag_of f = chosen f (least_greatest (λ i. f (40 + i)) 80) (is_least_greatest (λ i. f (40 + i)) 80)
+
+pub lag_is : (f : ℕ → ℤ) (nc : ℕ) → IsLag f nc → nc ≡ lag_of f
+lag_is f nc h = one_lag f nc (lag_of f) h (IsLag-lag_of f)

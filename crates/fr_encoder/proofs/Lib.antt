@@ -1,4 +1,4 @@
 -- Lemmas on lags and blocks.
 mod Lags
 mod Coding
-mod Frames
+pub mod Frames

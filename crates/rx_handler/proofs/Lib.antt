@@ -1,4 +1,4 @@
 mod Rows
-mod Steps
+pub mod Steps
 mod Places
 mod Runs

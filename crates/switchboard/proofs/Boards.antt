@@ -166,6 +166,7 @@ board-new os t a e = subst (λ (t : Rows). IsBoard os [] t) (sym e) (record {
       over = λ c i j l h p q. absurd (omega arith);
       shut = λ c s j e l q. absurd (omega arith);
       untold = λ c s e. ap (λ (e : Call). e.gone) (never_at 4097 c);
+      unused = λ c e. (ap (λ (e : Call). e.closed) (never_at 4097 c), ap (λ (e : Call). e.gone) (never_at 4097 c));
       spans = refl;
     };
   });
@@ -259,10 +260,10 @@ pub record Ready (os : List Order) (xs : List Reply) (r : Rows) (s : State) (o :
   pub calls : NamesCalls o.what
   pub ends : (c : ℕ) → IfSome (told_in s c) (λ at. at < o.stamp)
 
-next_of : (os : List Order) (xs : List Reply) (r : Rows) (s : State) (o : Order) → Ready os xs r s o → first_of (drop (length xs) os) ≡ Some o
+pub next_of : (os : List Order) (xs : List Reply) (r : Rows) (s : State) (o : Order) → Ready os xs r s o → first_of (drop (length xs) os) ≡ Some o
 next_of os xs r s o y = ap (λ (s : State). first_of s.left) y.seen ∙ y.next
 
-told_of : (os : List Order) (xs : List Reply) (r : Rows) (s : State) (o : Order) → Ready os xs r s o → IsSome_before r o.stamp
+pub told_of : (os : List Order) (xs : List Reply) (r : Rows) (s : State) (o : Order) → Ready os xs r s o → IsSome_before r o.stamp
 told_of os xs r s o y c =
     let e : told_in s c ≡ (call_in r c).gone = sym (ap (λ (s : State). told_in s c) y.seen) ∙ get_or-map_all (λ (e : Call). e.gone) r.calls c never in
     subst (λ (i : Option ℕ). IfSome i (λ at. at < o.stamp)) e (y.ends c)

@@ -183,5 +183,5 @@ in_range k (what.OpenCall c) n l = elim (open_accepted k c) [ inl e ↦ refused_
 in_range k (what.CloseCall c) n l = elim (close_accepted k c) [ inl e ↦ refused_range _ e | inr p ↦ accepted_range _ (act.Closed c (option_map (other c) (k.bridge_of c))) p.0 tt ]
 in_range k (what.Bridge a b) n l = elim (bridge_accepted k a b) [ inl e ↦ refused_range _ e | inr p ↦ accepted_range _ (act.Bridged a b) p.0 tt ]
 in_range k (what.Unbridge c) n l = elim (unbridge_accepted k c) [ inl e ↦ refused_range _ e | inr p ↦ accepted_range _ (act.Unbridged p.0.a p.0.b) p.1 tt ]
-in_range k (what.Level c v) n l = elim (level_accepted k c v) [ inl e ↦ refused_range _ e | inr p ↦ accepted_range _ (act.LevelSet c v) p l.0 ]
-in_range k (what.Dtx c m) n l = elim (dtx_accepted k c m) [ inl e ↦ refused_range _ e | inr p ↦ accepted_range _ (act.DtxSet c m) p tt ]
+in_range k (what.Level c v) n l = elim (level_accepted k c v) [ inl e ↦ refused_range _ e | inr p ↦ accepted_range _ (act.LevelSet c v) p.0 l.0 ]
+in_range k (what.Dtx c m) n l = elim (dtx_accepted k c m) [ inl e ↦ refused_range _ e | inr p ↦ accepted_range _ (act.DtxSet c m) p.0 tt ]

@@ -5,7 +5,9 @@ pub mod Steps
 pub mod Tables
 pub mod Replies
 pub mod Moves
+pub mod Partners
 pub mod Boards
+pub mod Changes
 pub mod Runs
 pub mod Whole
 pub mod Laws

@@ -63,7 +63,7 @@ abbrev pub IsSome_before : Rows → ℕ → Type 0
 IsSome_before r t = (c : ℕ) → IfSome (call_in r c).gone (λ u. u < t)
 
 -- neither open nor ended
-never_opened : (o t : Bool) → t ≡ false → (o && not t) ≡ false → o ≡ false
+pub never_opened : (o t : Bool) → t ≡ false → (o && not t) ≡ false → o ≡ false
 never_opened o true p q = cc
 never_opened true false p q = cc
 never_opened false false p q = refl
@@ -106,18 +106,18 @@ some_if-some : {X : Type 0} (t : Bool) (x y : X) → some_if t x ≡ Some y → 
 some_if-some true x y e = (refl, cc)
 some_if-some false x y e = cc
 
-abbrev latest_live : Rows → Option ℕ → Option Bridge
+abbrev pub latest_live : Rows → Option ℕ → Option Bridge
 latest_live r o = elim o [ None ↦ None | Some k ↦ some_if (is_live_in r (bridge_at_place r k)) (bridge_at_place r k) ]
 
 not_live_at : (r : Rows) (c k : ℕ) → bridge_in r c ≡ None → (call_in r c).bridge ≡ Some k → is_live_in r (bridge_at_place r k) ≡ false
 not_live_at r c k e p = some_if-none _ (bridge_at_place r k) (sym (ap (latest_live r) p) ∙ e)
 
-bridge_found : (r : Rows) (x : Bridge) (o : Option ℕ) → latest_live r o ≡ Some x → (k : ℕ) × (o ≡ Some k) × (is_live_in r (bridge_at_place r k) ≡ true) × (bridge_at_place r k ≡ x)
+pub bridge_found : (r : Rows) (x : Bridge) (o : Option ℕ) → latest_live r o ≡ Some x → (k : ℕ) × (o ≡ Some k) × (is_live_in r (bridge_at_place r k) ≡ true) × (bridge_at_place r k ≡ x)
 bridge_found r x None e = cc
 bridge_found r x (Some k) e = let p = some_if-some _ (bridge_at_place r k) x e in (k, refl, p.0, p.1)
 
 -- the latest bridge of a call of a live bridge is that one
-same_latest : (r : Rows) (now a k : ℕ) (o : Option ℕ) → IsTable r now → IsLatest r.bridges a o → k < length r.bridges → joins a (bridge_at_place r k) ≡ true → is_live_in r (bridge_at_place r k) ≡ true → o ≡ Some k
+pub same_latest : (r : Rows) (now a k : ℕ) (o : Option ℕ) → IsTable r now → IsLatest r.bridges a o → k < length r.bridges → joins a (bridge_at_place r k) ≡ true → is_live_in r (bridge_at_place r k) ≡ true → o ≡ Some k
 same_latest r now a k None s l h q live = absurd (both _ (l k h) q)
 same_latest r now a k (Some m) s l h q live = elim (cases_order k m) [
   | inl p ↦ ap Some (sym p)
@@ -245,11 +245,11 @@ stands_closed r ds o c s len late h lasts told none =
     (λ k l. closed_field r o.stamp c (omega arith) (open_parts _ _ _ lasts).1 k ∙ ap (λ u. or_else (call_in r k).closed u) (stamped (k == c) d))
     (λ k q. cc)
     (sym (append-nil _ ∙ map_after_same d r.bridges (λ j l. after_kept d _ refl)))
-    (table_closed r o.stamp o.stamp c (table_later r _ _ s.table late) (omega arith) (open_parts _ _ _ lasts).2 (omega arith) (sooner r o.stamp told)
+    (table_closed r o.stamp o.stamp c (table_later r _ _ s.table late) (omega arith) (open_parts _ _ _ lasts).0 (open_parts _ _ _ lasts).2 (omega arith) (sooner r o.stamp told)
     (none_live r _ c s.table (call_in r c).bridge (s.table.latest c h) (λ k e. not_live_at r c k none e)))
 
 -- the parted bridge is live no more
-parted_not_live : (r : Rows) (t k : ℕ) → k < length r.bridges → is_live_in (parted_at r t k) (bridge_at_place (parted_at r t k) k) ≡ false
+pub parted_not_live : (r : Rows) (t k : ℕ) → k < length r.bridges → is_live_in (parted_at r t k) (bridge_at_place (parted_at r t k) k) ≡ false
 parted_not_live r t k l = ap (is_live_in (parted_at r t k)) (get_or-set_same r.bridges k (record (bridge_at_place r k) { ended = Some t }) no_bridge l)
 
 pub stands_closed_bridge : (r : Rows) (ds : List Done) (o : Order) (c k : ℕ) → Stands r ds → length r.calls ≡ 4097 → last_stamp ds ≤ o.stamp → c < 4097 → is_open_in r c ≡ true → IsSome_before r o.stamp →
@@ -270,7 +270,7 @@ stands_closed_bridge r ds o c k s len late h lasts told e live =
     (λ k l. closed_field r o.stamp c (omega arith) (open_parts _ _ _ lasts).1 k ∙ ap (λ u. or_else (call_in r k).closed u) (stamped (k == c) d))
     (λ k q. cc)
     (sym (append-nil _ ∙ parted_bridges r _ d k s.table l.0 live (closes_this c x q) (λ y e. closes_pair c x y q e)))
-    (table_closed n o.stamp o.stamp c p (omega arith) (open_parts _ _ _ lasts).2 (omega arith) (sooner r o.stamp told)
+    (table_closed n o.stamp o.stamp c p (omega arith) (open_parts _ _ _ lasts).0 (open_parts _ _ _ lasts).2 (omega arith) (sooner r o.stamp told)
     (none_live n o.stamp c p (call_in n c).bridge (p.latest c h) (λ j f.
     let g : j ≡ k = cc (f, e) in
     ap (λ (j : ℕ). is_live_in n (bridge_at_place n j)) g ∙ parted_not_live r o.stamp k l.0))))
@@ -286,7 +286,7 @@ ended_before r now t x s late told no_end (Some u) e v f =
     let ne : t ≢ u = λ h. both _ (sym (ap (is_this t) e) ∙ no_end) (eq-eqb t u h) in
     omega (arith, k.1, ne)
 
-over_before : (r : Rows) (ds : List Done) (t c : ℕ) → Stands r ds → last_stamp ds ≤ t → IsSome_before r t → c < 4097 → bridge_in r c ≡ None → bridge_ended_in r t c ≡ None →
+pub over_before : (r : Rows) (ds : List Done) (t c : ℕ) → Stands r ds → last_stamp ds ≤ t → IsSome_before r t → c < 4097 → bridge_in r c ≡ None → bridge_ended_in r t c ≡ None →
     (j : ℕ) → j < length r.bridges → joins c (bridge_at_place r j) ≡ true → IsOver r t (bridge_at_place r j)
 over_before r ds t c s late told h none no_end j l q = by r ds t c s late told h none no_end j l q (call_in r c).bridge refl (s.table.latest c h)
   where
@@ -322,7 +322,7 @@ stands_bridged r ds o a b s len late told la lb j =
     (λ c h. bridged_field (λ x. x.closed) r k a b (λ e. refl) c ∙ sym (or_else-none _))
     (λ c q. cc)
     (ap (λ bs. bs ++ record { a = a; b = b; from = o.stamp; ended = None } ∷ []) (sym (map_after_same d r.bridges (λ j l. after_kept d _ refl))))
-    (table_bridged r o.stamp a b (table_later r _ _ s.table late) len la lb j.open_a j.open_b
+    (table_bridged r o.stamp a b (table_later r _ _ s.table late) len la lb j.apart j.open_a j.open_b
     (λ c i q l p. elim q [
       | inl e ↦ over_before r ds o.stamp c s late told (omega arith) (ap (bridge_in r) e ∙ j.alone_a) (ap (bridge_ended_in r o.stamp) e ∙ j.drained_a) i l p
       | inr e ↦ over_before r ds o.stamp c s late told (omega arith) (ap (bridge_in r) e ∙ j.alone_b) (ap (bridge_ended_in r o.stamp) e ∙ j.drained_b) i l p
@@ -379,11 +379,11 @@ stands_more r ds t (what.Level c v) s z late told n =
     let o : Order = record { stamp = t; what = what.Level c v } in
     elim (level_accepted (known_in r t) c v) [
       | inl e ↦ refused r ds o _ s late e
-      | inr p ↦ subst (λ (x : Result Act Refusal). Next r ds o x) (sym p) (stands_same r ds (done o (Ok (act.LevelSet c v))) s late (λ c. refl) (λ c. refl) (λ a b. refl) refl)
+      | inr p ↦ subst (λ (x : Result Act Refusal). Next r ds o x) (sym p.0) (stands_same r ds (done o (Ok (act.LevelSet c v))) s late (λ c. refl) (λ c. refl) (λ a b. refl) refl)
     ]
 stands_more r ds t (what.Dtx c m) s z late told n =
     let o : Order = record { stamp = t; what = what.Dtx c m } in
     elim (dtx_accepted (known_in r t) c m) [
       | inl e ↦ refused r ds o _ s late e
-      | inr p ↦ subst (λ (x : Result Act Refusal). Next r ds o x) (sym p) (stands_same r ds (done o (Ok (act.DtxSet c m))) s late (λ c. refl) (λ c. refl) (λ a b. refl) refl)
+      | inr p ↦ subst (λ (x : Result Act Refusal). Next r ds o x) (sym p.0) (stands_same r ds (done o (Ok (act.DtxSet c m))) s late (λ c. refl) (λ c. refl) (λ a b. refl) refl)
     ]

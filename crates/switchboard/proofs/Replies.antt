@@ -96,8 +96,8 @@ unbridge_accepted k c = elim (two (act_of k (what.Unbridge c)) _ _) [
     found k c e o None b n = absurd (let q : is_none (k.bridge_of c) ≡ true = ap is_none b in cc)
     found k c e o (Some x) b n = (x, e ∙ ap (λ (o : Option Bridge). Ok (elim o [ None ↦ act.Unbridged c c | Some x ↦ act.Unbridged x.a x.b ])) b, o, b)
 
-pub level_accepted : (k : Known) (c : ℕ) (v : ℤ) → IsRefused (reply_from k (what.Level c v)) ⊎ (reply_from k (what.Level c v) ≡ Ok (act.LevelSet c v))
-level_accepted k c v = elim (one (act.LevelSet c v) _) [ inl e ↦ inl e | inr p ↦ inr p.0 ]
+pub level_accepted : (k : Known) (c : ℕ) (v : ℤ) → IsRefused (reply_from k (what.Level c v)) ⊎ ((reply_from k (what.Level c v) ≡ Ok (act.LevelSet c v)) × (k.is_open c ≡ true))
+level_accepted k c v = elim (one (act.LevelSet c v) _) [ inl e ↦ inl e | inr p ↦ inr (p.0, not_not_refused _ _ p.1) ]
 
-pub dtx_accepted : (k : Known) (c : ℕ) (m : DtxMode) → IsRefused (reply_from k (what.Dtx c m)) ⊎ (reply_from k (what.Dtx c m) ≡ Ok (act.DtxSet c m))
-dtx_accepted k c m = elim (one (act.DtxSet c m) _) [ inl e ↦ inl e | inr p ↦ inr p.0 ]
+pub dtx_accepted : (k : Known) (c : ℕ) (m : DtxMode) → IsRefused (reply_from k (what.Dtx c m)) ⊎ ((reply_from k (what.Dtx c m) ≡ Ok (act.DtxSet c m)) × (k.is_open c ≡ true))
+dtx_accepted k c m = elim (one (act.DtxSet c m) _) [ inl e ↦ inl e | inr p ↦ inr (p.0, not_not_refused _ _ p.1) ]

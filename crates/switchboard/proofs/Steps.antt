@@ -111,13 +111,14 @@ filter_map_same f g (x ∷ xs) h = cons_same (f x) (g x) (filter_map f xs) (filt
 sound_later : (r : Rows) (now t : ℕ) (x : Bridge) → IsSound r now x → now ≤ t → IsSound r t x
 sound_later r now t x s h = record {
   from = let f = s.from in omega arith;
+  apart = s.apart;
   known = s.known;
   ended = λ u e. let k = s.ended u e in (k.0, omega (arith, k.1));
   lasts = s.lasts;
 }
 
 pub table_later : (r : Rows) (now t : ℕ) → IsTable r now → now ≤ t → IsTable r t
-table_later r now t s h = record { latest = s.latest; sound = λ k l. sound_later r now t _ (s.sound k l) h; over = s.over; shut = s.shut; untold = s.untold; spans = s.spans }
+table_later r now t s h = record { latest = s.latest; sound = λ k l. sound_later r now t _ (s.sound k l) h; over = s.over; shut = s.shut; untold = s.untold; unused = s.unused; spans = s.spans }
 
 -- a change of calls that keeps their ends and bridges
 pub record Keeps (r r' : Rows) : Type 0 where

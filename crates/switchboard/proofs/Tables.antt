@@ -48,22 +48,40 @@ pub table_kept : (r : Rows) (now : ℕ) (cs : List Call) → Keeps r (record r {
     ((c s j : ℕ) → (get_or cs c never).closed ≡ Some s → j < length r.bridges → joins c (bridge_at_place r j) ≡ true → IsOver r (s + 1) (bridge_at_place r j)) →
     ((c : ℕ) → is_some (call_in r c).opened ≡ true → is_some (get_or cs c never).opened ≡ true) →
     ((c s : ℕ) → (get_or cs c never).closed ≡ Some s → (get_or cs c never).gone ≡ None) →
+    ((c : ℕ) → (get_or cs c never).opened ≡ None → ((get_or cs c never).closed ≡ None) × ((get_or cs c never).gone ≡ None)) →
     IsTable (record r { calls = cs }) now
-table_kept r now cs k s lasts shut known untold =
+table_kept r now cs k s lasts shut known untold unused =
     let n : Rows = record r { calls = cs } in
     record {
       latest = λ c h. subst (λ (o : Option ℕ). IsLatest r.bridges c o) (sym (k.place c)) (s.latest c h);
       sound = λ j l. let q = s.sound j l in record {
         from = q.from;
+        apart = q.apart;
         known = (known (bridge_at_place r j).a q.known.0, known (bridge_at_place r j).b q.known.1);
         ended = λ u e. let z = q.ended u e in (end_kept r n k (bridge_at_place r j) ∙ z.0, z.1);
         lasts = λ e. lasts j l (sym (end_kept r n k (bridge_at_place r j)) ∙ e);
       };
       over = λ c i j l m p q. over_kept r n (bridge_at_place r j).from (bridge_at_place r i) (end_kept r n k (bridge_at_place r i)) (s.over c i j l m p q);
       untold = untold;
+      unused = unused;
       shut = λ c t j e l q. over_kept r n (t + 1) (bridge_at_place r j) (end_kept r n k (bridge_at_place r j)) (shut c t j e l q);
       spans = s.spans ∙ filter_map_same (span_in r) (span_in n) r.bridges (λ j d l. ap (option_map (span_to (get_or r.bridges j d))) (sym (end_kept r n k (get_or r.bridges j d))));
     }
+
+-- a call that was opened is changed
+unused_set : (r : Rows) (now c : ℕ) (e : Call) → IsTable r now → c < length r.calls → (e.opened ≡ None → ⊥) → (d : ℕ) → (get_or (set r.calls c e) d never).opened ≡ None →
+    ((get_or (set r.calls c e) d never).closed ≡ None) × ((get_or (set r.calls c e) d never).gone ≡ None)
+unused_set r now c e s l opened d h = elim (cases_eq d c) [
+  | inl p ↦ absurd (opened (sym (ap (λ (d : ℕ). (get_or (set r.calls c e) d never).opened) p ∙ ap (λ (x : Call). x.opened) (get_or-set_same r.calls c e never l)) ∙ h))
+  | inr n ↦
+      let q = get_or-set_other r.calls c d e never n in
+      let u = s.unused d (sym (ap (λ (x : Call). x.opened) q) ∙ h) in
+      (ap (λ (x : Call). x.closed) q ∙ u.0, ap (λ (x : Call). x.gone) q ∙ u.1)
+]
+
+some_not_none : (o : Option ℕ) → is_some o ≡ true → o ≡ None → ⊥
+some_not_none None e h = cc
+some_not_none (Some x) e h = cc
 
 pub keeps_calls : (r : Rows) (c : ℕ) (e : Call) → e.gone ≡ (call_in r c).gone → e.bridge ≡ (call_in r c).bridge → Keeps r (record r { calls = set r.calls c e })
 keeps_calls r c e p q = record {
@@ -87,8 +105,9 @@ table_opened r now t c s l old =
     (λ d u j e m q. s.shut d u j (sym (field_kept (λ x. x.closed) r.calls c (record (call_in r c) { opened = Some t }) refl d) ∙ e) m q)
     (λ d h. ap is_some (field_set (λ x. x.opened) r.calls c (record (call_in r c) { opened = Some t }) t l refl old d) ∙ some_left _ _ h)
     (λ d u e. field_kept (λ x. x.gone) r.calls c (record (call_in r c) { opened = Some t }) refl d ∙ s.untold d u (sym (field_kept (λ x. x.closed) r.calls c (record (call_in r c) { opened = Some t }) refl d) ∙ e))
+    (unused_set r now c (record (call_in r c) { opened = Some t }) s l (λ e. cc))
 
-open_other : (r : Rows) (c k : ℕ) (e : Call) → k ≢ c → is_open_in (record r { calls = set r.calls c e }) k ≡ is_open_in r k
+pub open_other : (r : Rows) (c k : ℕ) (e : Call) → k ≢ c → is_open_in (record r { calls = set r.calls c e }) k ≡ is_open_in r k
 open_other r c k e n = ap (λ (x : Call). is_some x.opened && not (is_some x.closed) && not (is_some x.gone)) (get_or-set_other r.calls c k e never n)
 
 pub least_before : (t v : ℕ) (a b : Option ℕ) → IfSome a (λ u. u < t) → IfSome b (λ u. u < t) → least a b ≡ Some v → v < t
@@ -114,9 +133,9 @@ closed_stamp r t c d u l p e =
     let f : (call_in (closed_in r t c) d).closed ≡ Some t = ap (λ (d : ℕ). (call_in (closed_in r t c) d).closed) p ∙ ap (λ (x : Call). x.closed) (get_or-set_same r.calls c (record (call_in r c) { closed = Some t }) never l) in
     cc
 
-pub table_closed : (r : Rows) (now t c : ℕ) → IsTable r now → c < length r.calls → (call_in r c).gone ≡ None → now ≤ t → ((d : ℕ) → IfSome (call_in r d).gone (λ u. u < t + 1)) →
+pub table_closed : (r : Rows) (now t c : ℕ) → IsTable r now → c < length r.calls → is_some (call_in r c).opened ≡ true → (call_in r c).gone ≡ None → now ≤ t → ((d : ℕ) → IfSome (call_in r d).gone (λ u. u < t + 1)) →
     ((j : ℕ) → j < length r.bridges → joins c (bridge_at_place r j) ≡ true → end_in r (bridge_at_place r j) ≡ None → ⊥) → IsTable (closed_in r t c) now
-table_closed r now t c s lc here late told none =
+table_closed r now t c s lc opened here late told none =
     table_kept r now _ (keeps_calls r c (record (call_in r c) { closed = Some t }) refl refl) s
     (λ j m e.
     let q = (s.sound j m).lasts e in
@@ -135,6 +154,7 @@ table_closed r now t c s lc here late told none =
       | inl p ↦ ap (λ (d : ℕ). (call_in r d).gone) p ∙ here
       | inr n ↦ s.untold d u (sym (ap (λ (x : Call). x.closed) (get_or-set_other r.calls c d (record (call_in r c) { closed = Some t }) never n)) ∙ e)
     ])
+    (unused_set r now c (record (call_in r c) { closed = Some t }) s lc (some_not_none _ opened))
 
 -- where a call has no live bridge, each of its bridges is over
 pub none_live : (r : Rows) (now c : ℕ) → IsTable r now → (o : Option ℕ) → IsLatest r.bridges c o →
@@ -149,10 +169,10 @@ none_live r now c s (Some k) l live j h q e =
 
 -- ---- a bridge begins
 
-abbrev new_bridge : ℕ → ℕ → ℕ → Bridge
+abbrev pub new_bridge : ℕ → ℕ → ℕ → Bridge
 new_bridge t a b = record { a = a; b = b; from = t; ended = None }
 
-placed : (r : Rows) (a b k c : ℕ) → a < length r.calls → b < length r.calls →
+pub placed : (r : Rows) (a b k c : ℕ) → a < length r.calls → b < length r.calls →
     ((get_or (with_bridge (with_bridge r.calls k a) k b) c never).bridge ≡ Some k) × ((c ≡ a) ⊎ (c ≡ b))
     ⊎ ((get_or (with_bridge (with_bridge r.calls k a) k b) c never).bridge ≡ (call_in r c).bridge) × (c ≢ a) × (c ≢ b)
 placed r a b k c la lb =
@@ -186,10 +206,10 @@ bridged_end r t a b x =
     ap (λ o. least x.ended (least o (call_in (bridged_in r t a b) x.b).gone)) (bridged_field (λ x. x.gone) r k a b (λ e. refl) x.a)
     ∙ ap (λ o. least x.ended (least (call_in r x.a).gone o)) (bridged_field (λ x. x.gone) r k a b (λ e. refl) x.b)
 
-old_place : (bs : List Bridge) (y : Bridge) (j : ℕ) → j < length bs → get_or (bs ++ y ∷ []) j no_bridge ≡ get_or bs j no_bridge
+pub old_place : (bs : List Bridge) (y : Bridge) (j : ℕ) → j < length bs → get_or (bs ++ y ∷ []) j no_bridge ≡ get_or bs j no_bridge
 old_place bs y j l = get_or_append_left bs (y ∷ []) no_bridge j l
 
-new_place : (bs : List Bridge) (y : Bridge) → get_or (bs ++ y ∷ []) (length bs) no_bridge ≡ y
+pub new_place : (bs : List Bridge) (y : Bridge) → get_or (bs ++ y ∷ []) (length bs) no_bridge ≡ y
 new_place bs y = get_or_push bs y no_bridge (length bs) refl
 
 more_length : (bs : List Bridge) (y : Bridge) → length (bs ++ y ∷ []) ≡ length bs + 1
@@ -224,9 +244,9 @@ latest_new bs c t a b q =
     let n = more_length bs y in
     (omega arith, ap (joins c) (new_place bs y) ∙ elim q [ inl p ↦ joins_left c y p | inr p ↦ joins_right c y p ], λ j h i. absurd (omega arith))
 
-pub table_bridged : (r : Rows) (t a b : ℕ) → IsTable r t → length r.calls ≡ 4097 → a < 4097 → b < 4097 → is_open_in r a ≡ true → is_open_in r b ≡ true →
+pub table_bridged : (r : Rows) (t a b : ℕ) → IsTable r t → length r.calls ≡ 4097 → a < 4097 → b < 4097 → a ≢ b → is_open_in r a ≡ true → is_open_in r b ≡ true →
     ((c j : ℕ) → (c ≡ a) ⊎ (c ≡ b) → j < length r.bridges → joins c (bridge_at_place r j) ≡ true → IsOver r t (bridge_at_place r j)) → IsTable (bridged_in r t a b) t
-table_bridged r t a b s len la lb oa ob over =
+table_bridged r t a b s len la lb apart oa ob over =
     let y : Bridge = new_bridge t a b in
     let n : Rows = bridged_in r t a b in
     let m = more_length r.bridges y in
@@ -241,11 +261,12 @@ table_bridged r t a b s len la lb oa ob over =
       sound = each_place r.bridges y (λ j x. IsSound n t x)
           (λ j l. let q = s.sound j l in let x = bridge_at_place r j in record {
             from = q.from;
+            apart = q.apart;
             known = (ap is_some (bridged_field (λ x. x.opened) r (length r.bridges) a b (λ e. refl) x.a) ∙ q.known.0, ap is_some (bridged_field (λ x. x.opened) r (length r.bridges) a b (λ e. refl) x.b) ∙ q.known.1);
             ended = λ u e. let z = q.ended u e in (bridged_end r t a b x ∙ z.0, z.1);
             lasts = λ e. let z = q.lasts (sym (bridged_end r t a b x) ∙ e) in (bridged_open r t a b x.a ∙ z.0, bridged_open r t a b x.b ∙ z.1);
           })
-          (record { from = omega arith; known = (ap is_some (bridged_field (λ x. x.opened) r (length r.bridges) a b (λ e. refl) a) ∙ ga.0, ap is_some (bridged_field (λ x. x.opened) r (length r.bridges) a b (λ e. refl) b) ∙ gb.0); ended = λ u e. cc; lasts = λ e. (bridged_open r t a b a ∙ oa, bridged_open r t a b b ∙ ob) });
+          (record { from = omega arith; apart = apart; known = (ap is_some (bridged_field (λ x. x.opened) r (length r.bridges) a b (λ e. refl) a) ∙ ga.0, ap is_some (bridged_field (λ x. x.opened) r (length r.bridges) a b (λ e. refl) b) ∙ gb.0); ended = λ u e. cc; lasts = λ e. (bridged_open r t a b a ∙ oa, bridged_open r t a b b ∙ ob) });
       over = λ c i j l h p q.
           let li : i < length r.bridges = omega arith in
           let x = bridge_at_place r i in
@@ -254,6 +275,10 @@ table_bridged r t a b s len la lb oa ob over =
           (each_place r.bridges y (λ j z. i < j → joins c z ≡ true → IsOver n z.from x)
           (λ j h l q. over_kept r n (bridge_at_place r j).from x (bridged_end r t a b x) (s.over c i j l h p' q))
           (λ l q. over_kept r n t x (bridged_end r t a b x) (over c i (joins_cases c y q) li p')) j h l q);
+      unused = λ c e.
+          let k = length r.bridges in
+          let u = s.unused c (sym (bridged_field (λ x. x.opened) r k a b (λ e. refl) c) ∙ e) in
+          (bridged_field (λ x. x.closed) r k a b (λ e. refl) c ∙ u.0, bridged_field (λ x. x.gone) r k a b (λ e. refl) c ∙ u.1);
       untold = λ c u e. bridged_field (λ x. x.gone) r (length r.bridges) a b (λ e. refl) c ∙ s.untold c u (sym (bridged_field (λ x. x.closed) r (length r.bridges) a b (λ e. refl) c) ∙ e);
       shut = λ c u j e l q.
           let was : (call_in r c).closed ≡ Some u = sym (bridged_field (λ x. x.closed) r (length r.bridges) a b (λ e. refl) c) ∙ e in
@@ -293,11 +318,12 @@ table_parted r t k s lk live =
       sound = λ j l. elim (cases_eq j k) [
         | inl p ↦ subst (λ (z : Bridge). IsSound n t z) (sym (ap (λ i. get_or n.bridges i no_bridge) p ∙ get_or-set_same r.bridges k y no_bridge lk)) (record {
           from = (s.sound k lk).from;
+          apart = (s.sound k lk).apart;
           known = (s.sound k lk).known;
           ended = λ u e. let q : t ≡ u = cc in (end ∙ e, omega arith);
           lasts = λ e. absurd (let q = end in cc);
         })
-        | inr p ↦ let q = s.sound j (omega arith) in subst (λ (z : Bridge). IsSound n t z) (sym (get_or-set_other r.bridges k j y no_bridge p)) (record { from = q.from; known = q.known; ended = q.ended; lasts = q.lasts })
+        | inr p ↦ let q = s.sound j (omega arith) in subst (λ (z : Bridge). IsSound n t z) (sym (get_or-set_other r.bridges k j y no_bridge p)) (record { from = q.from; apart = q.apart; known = q.known; ended = q.ended; lasts = q.lasts })
       ];
       over = λ c i j h l p q.
           let lj : j < length r.bridges = omega arith in
@@ -308,6 +334,7 @@ table_parted r t k s lk live =
           let f = part_kept (λ (z : Bridge). z.from) no_bridge r.bridges k y refl j in
           record { at = o.at; ended = ap (end_in r) (get_or-set_other r.bridges k i y no_bridge ne) ∙ o.ended; before = omega (arith, o.before) };
       untold = s.untold;
+      unused = s.unused;
       shut = λ c u j e l q.
           let lj : j < length r.bridges = omega arith in
           let q' = sym (part_kept (joins c) no_bridge r.bridges k y refl j) ∙ q in
@@ -352,7 +379,7 @@ lost_same r at c k l e = ap (λ (k : ℕ). (call_in (call_ended_in r at c) k).go
 lost_other : (r : Rows) (at c k : ℕ) → k ≢ c → call_in (call_ended_in r at c) k ≡ call_in r k
 lost_other r at c k n = get_or-set_other r.calls c k (record (call_in r c) { gone = Some at }) never n
 
-lost_apart : (r : Rows) (at c : ℕ) (x : Bridge) → joins c x ≡ false → (x.a ≢ c) × (x.b ≢ c)
+pub lost_apart : (r : Rows) (at c : ℕ) (x : Bridge) → joins c x ≡ false → (x.a ≢ c) × (x.b ≢ c)
 lost_apart r at c x e = (λ p. both _ e (joins_left c x (sym p)), λ p. both _ e (joins_right c x (sym p)))
 
 pub lost_end_other : (r : Rows) (at c : ℕ) (x : Bridge) → joins c x ≡ false → end_in (call_ended_in r at c) x ≡ end_in r x
@@ -460,6 +487,7 @@ table_lost r now at c s late l lc o =
           let x = bridge_at_place r j in
           record {
             from = q.from;
+            apart = q.apart;
             known = (ap is_some (field_kept (λ x. x.opened) r.calls c (record (call_in r c) { gone = Some at }) refl x.a) ∙ q.known.0, ap is_some (field_kept (λ x. x.opened) r.calls c (record (call_in r c) { gone = Some at }) refl x.b) ∙ q.known.1);
             ended = λ u e. let z = q.ended u e in (lost_end_kept r at c u x l g z.0 (omega (arith, z.1)), z.1);
             lasts = λ e. elim (cases_Bool (joins c x)) [
@@ -477,6 +505,7 @@ table_lost r now at c s late l lc o =
             | inl t ↦ record { at = min v.at at; ended = lost_end r at c x l g t ∙ ap (λ o. least o (Some at)) v.ended; before = let b = v.before in omega arith }
             | inr t ↦ record { at = v.at; ended = lost_end_other r at c x t ∙ v.ended; before = v.before }
           ];
+      unused = unused_set r now c (record (call_in r c) { gone = Some at }) s l (some_not_none _ (open_parts _ _ _ o).0);
       untold = λ d u e.
           let was : (call_in r d).closed ≡ Some u = sym (field_kept (λ x. x.closed) r.calls c (record (call_in r c) { gone = Some at }) refl d) ∙ e in
           elim (cases_eq d c) [

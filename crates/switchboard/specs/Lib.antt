@@ -7,3 +7,4 @@ pub mod Runs
 pub mod Ends
 pub mod Rows
 pub mod Stands
+pub mod Open

@@ -1,5 +1,5 @@
 -- What the table keeps of the orders that were executed.
-use Rattle.std.specs.Prelude.{◌≡◌, ◌+◌, ◌<◌, ◌≤◌, ℕ, true, false, Option, Some, None, is_some, Result, Ok, List, [], ◌∷◌, length, map, drop}
+use Rattle.std.specs.Prelude.{◌≡◌, ◌≢◌, ◌+◌, ◌<◌, ◌≤◌, ℕ, true, false, Option, Some, None, is_some, Result, Ok, List, [], ◌∷◌, length, map, drop}
 use Rattle.std.proofs.Common.{get_or}
 use Rattle.std.specs.List.{filter_map}
 use Rattle.trau_orders.specs.declared.order.Order.{Order}
@@ -29,11 +29,13 @@ IsLatest bs c (Some k) =
 -- a bridge at a time
 pub record IsSound (r : Rows) (now : ℕ) (x : Bridge) : Type 0 where
   pub from : x.from ≤ now
+  pub apart : x.a ≢ x.b
   pub known : (is_some (call_in r x.a).opened ≡ true) × (is_some (call_in r x.b).opened ≡ true)
   pub ended : (s : ℕ) → x.ended ≡ Some s → (end_in r x ≡ Some s) × (s ≤ now)
   pub lasts : end_in r x ≡ None → (is_open_in r x.a ≡ true) × (is_open_in r x.b ≡ true)
 
--- the bridges of a table at a time: a call's earlier bridges were over before its later ones began
+-- the calls and bridges of a table at a time: a call's earlier bridges were over before its later ones began, and a call
+-- that wasn't opened wasn't closed and has no end
 pub record IsTable (r : Rows) (now : ℕ) : Type 0 where
   pub latest : (c : ℕ) → c < 4097 → IsLatest r.bridges c (call_in r c).bridge
   pub sound : (k : ℕ) → k < length r.bridges → IsSound r now (bridge_at_place r k)
@@ -41,6 +43,7 @@ pub record IsTable (r : Rows) (now : ℕ) : Type 0 where
       IsOver r (bridge_at_place r j).from (bridge_at_place r i)
   pub shut : (c s j : ℕ) → (call_in r c).closed ≡ Some s → j < length r.bridges → joins c (bridge_at_place r j) ≡ true → IsOver r (s + 1) (bridge_at_place r j)
   pub untold : (c s : ℕ) → (call_in r c).closed ≡ Some s → (call_in r c).gone ≡ None
+  pub unused : (c : ℕ) → (call_in r c).opened ≡ None → ((call_in r c).closed ≡ None) × ((call_in r c).gone ≡ None)
   pub spans : r.spans ≡ filter_map (span_in r) r.bridges
 
 -- the table of a list of executed orders

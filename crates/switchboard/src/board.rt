@@ -1,6 +1,6 @@
 // The board: it executes the orders one after another and is told of the ends of calls.
 
-ghost use Rattle.std.specs.Prelude.{◌≡◌, ◌<◌, ◌≤◌, ◌≢◌, ◌↔◌, ℕ, [], true, IsNone, IsSome, IfOk, IfSome, OnErr};
+ghost use Rattle.std.specs.Prelude.{◌≡◌, ◌<◌, ◌≤◌, ◌≢◌, ◌↔◌, ℕ, [], true, false, None, IsNone, IsSome, IfOk, IfSome, OnErr};
 ghost use Rattle.std.specs.List.{All};
 ghost use Rattle.trau_orders.specs.Lists.{NamesCalls, HasLevel};
 ghost use Rattle.switchboard.specs.Calls.{is_open};
@@ -10,6 +10,7 @@ ghost use Rattle.switchboard.specs.State.{start_of, orders_of, first_of, first_s
 ghost use Rattle.switchboard.specs.Runs.{IsRun, TellsEnds, AllEnded, IsUnchanged};
 ghost use Rattle.switchboard.specs.Stands.{AreRising};
 ghost use Rattle.switchboard.specs.Ends.{Given, spans_now, spans_of};
+ghost use Rattle.switchboard.specs.Open.{opened_now, open_now, partner_now, opened_after, open_after, partner_after, open_without, partner_without, ArePairs, IfAccepted, Finds, Rests, IsAsBefore};
 
 use crate::table::Table;
 use crate::{Reply, Span};
@@ -46,6 +47,11 @@ impl Board {
     pub fn new(alloc: Global, orders: Orders) -> Result<Board, AllocError>
         ensures start { IfOk result (λ b. b ≡ start_of orders) }
         ensures untold { IfOk result (λ b. (t : ℕ) → EndBefore t b) }
+
+        // No call was opened, none is open, and none has a partner.
+        ensures opened { IfOk result (λ b. (c : ℕ) → opened_now b c ≡ false) }
+        ensures open { IfOk result (λ b. (c : ℕ) → open_now b c ≡ false) }
+        ensures partner { IfOk result (λ b. (c : ℕ) → partner_now b c ≡ None) }
     {
         let most = orders.list().len();
         let table = Table::new(alloc, most)?;
@@ -93,6 +99,17 @@ impl Board {
         // A refused order changes nothing.
         ensures refused { IfSome result (λ reply. OnErr reply.result (IsUnchanged self.old self.new)) }
 
+        // What an accepted order finds, and what it changes of who was opened, who is open and who is bridged with whom.
+        ensures finds { IfAccepted result (λ act. Finds act (opened_now self.old) (open_now self.old) (partner_now self.old)) }
+        ensures rests { IfAccepted result (λ act. Rests act (told_in self.old) (bridges self.old.done) period) }
+        ensures opened { IfAccepted result (λ act. (c : ℕ) → opened_now self.new c ≡ opened_after act (opened_now self.old) c) }
+        ensures open { IfAccepted result (λ act. (c : ℕ) → open_now self.new c ≡ open_after act (open_now self.old) c) }
+        ensures partner { IfAccepted result (λ act. (c : ℕ) → partner_now self.new c ≡ partner_after act (partner_now self.old) c) }
+
+        // Where no order is due, or it is refused, these stay.
+        ensures nothing { IsNone result → self.new ≡ self.old }
+        ensures stays { IfSome result (λ reply. OnErr reply.result (IsAsBefore self.old self.new)) }
+
         // Where the ends of the calls are told in time, all replies are those to the whole list of orders.
         ensures run { (whole : ℕ → ℕ) → IsRun whole self.old.done → TellsEnds whole period self.old → IsRun whole self.new.done }
 
@@ -118,6 +135,11 @@ impl Board {
         ensures state { self.new ≡ turned self.old (Some order.now) }
         ensures answer { Some result ≡ reply_of self.old (Some order.now) }
         ensures range { IfOk result.result IsInRange }
+        ensures finds { IfOk result.result (λ act. Finds act (opened_now self.old) (open_now self.old) (partner_now self.old)) }
+        ensures rests { IfOk result.result (λ act. Rests act (told_in self.old) (bridges self.old.done) order.now.stamp) }
+        ensures opened { IfOk result.result (λ act. (c : ℕ) → opened_now self.new c ≡ opened_after act (opened_now self.old) c) }
+        ensures open { IfOk result.result (λ act. (c : ℕ) → open_now self.new c ≡ open_after act (open_now self.old) c) }
+        ensures partner { IfOk result.result (λ act. (c : ℕ) → partner_now self.new c ≡ partner_after act (partner_now self.old) c) }
     {
         self.table.sized();
         let result = self.table.reply_to(order);
@@ -145,6 +167,11 @@ impl Board {
         requires late { last_stamp self.old.done ≤ end.at }
         ensures state { self.new ≡ told_more self.old end.call end.at }
         ensures told { (t : ℕ) → end.at < t → EndBefore t self.old → EndBefore t self.new }
+
+        // The call is open no more, and neither it nor its partner has one.
+        ensures opened { (c : ℕ) → opened_now self.new c ≡ opened_now self.old c }
+        ensures open { (c : ℕ) → open_now self.new c ≡ open_without end.call (open_now self.old) c }
+        ensures partner { (c : ℕ) → partner_now self.new c ≡ partner_without end.call (partner_now self.old) c }
     {
         self.table.sized();
         self.table.end_call(end.call, end.at);
@@ -171,6 +198,13 @@ impl Board {
     /// A law of the rules: a call has at most one bridge that lasts.
     pub fn has_one_bridge_a_call(&self)
         ensures { OneLasts (gone_in self.now) self.now.done (bridges self.now.done) }
+    {
+        self.table.sized();
+    }
+
+    /// A law of the rules: a bridge joins two open calls, each the partner of the other.
+    pub fn bridges_join_two(&self)
+        ensures { ArePairs (open_now self.now) (partner_now self.now) }
     {
         self.table.sized();
     }

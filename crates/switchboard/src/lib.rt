@@ -11,8 +11,9 @@
 //!
 //! Definitions: `specs/Calls.antt` (open, ended), `specs/Bridges.antt` (bridged, which order ended a bridge),
 //! `specs/Replies.antt` (the seven refusals and their order), `specs/Runs.antt` (a whole list of orders),
-//! `specs/Ends.antt` (the ends of calls, the spans), `specs/State.antt` (what is seen of a board, and its steps);
-//! `specs/Rows.antt` and `specs/Stands.antt` (the table, and what it keeps of the orders).
+//! `specs/Ends.antt` (the ends of calls, the spans), `specs/State.antt` (what is seen of a board, and its steps),
+//! `specs/Open.antt` (what a step changes of who is open and who is bridged with whom); `specs/Rows.antt` and
+//! `specs/Stands.antt` (the table, and what it keeps of the orders).
 #![tactic(auto)]
 
 mod act;

@@ -1,17 +1,8 @@
 use Rattle.std.proofs.Common.{rules, FitsSigned, w16}
 use Rattle.std.proofs.lemmas.Int.{to_z-of_z}
 use Rattle.call_leg.specs.Memory.{coder_memory}
-use Rattle.call_leg.proofs.Coding.{code-stands}
 use Rattle.call_leg.proofs.Stepping.{code-step}
 use Rattle.call_leg.proofs.coder.Coder.code.Goals as goal
-
-pub returns-clause-frame : goal.returns-clause-frame
-returns-clause-frame c = λ xs cs he ht.
-    let f : FitsSigned w16 c.encode-peak.result.2 = search rules in
-    let g : FitsSigned w16 c.args.level = search rules in
-    let s = simp to_z-of_z at (c.send-sp.ensures.history cs ht) in
-    code-stands c.encode-peak.result.0 c.send-sp.result.0 c.encode-peak.result.1 c.encode-peak.result.2 c.args.level c.args.on c.send-sp.result.1 c.expand_all.result _ xs cs
-    c.to_bits.new.bits c.send-sp.new.self (c.encode-peak.ensures.history xs he).1 c.expand_all.ensures c.to_bits.ensures.value s
 
 pub returns-clause-step : goal.returns-clause-step
 returns-clause-step c =

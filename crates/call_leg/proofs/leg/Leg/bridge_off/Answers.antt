@@ -1,15 +1,15 @@
 use Rattle.std.proofs.Common.{sym, subst, ap, ◌∙◌}
+use Rattle.call_leg.specs.Settings.{without_bridge}
 use Rattle.call_leg.specs.Memory.{LegMemory}
-use Rattle.call_leg.specs.Step.{with_down, bridge_over}
 use Rattle.call_leg.specs.Stands.{Stands}
+use Rattle.call_leg.specs.Step.{with_down, bridge_over}
 use Rattle.call_leg.specs.contracts.leg.Leg.{the_view}
+use Rattle.call_leg.proofs.OrderLaws.{end-stands}
 use Rattle.call_leg.proofs.leg.Leg.bridge_off.Goals as goal
-
-pub returns-clause-history : goal.returns-clause-history
-returns-clause-history c = λ call ts now b given.
-    let h : Stands call ts now (the_view c.self.inside) = subst (Stands call ts now) (sym c.self.view_is) given in
-    record { search = h.search; rx = h.rx; decoder = h.decoder; counts = h.counts; down = c.bridge_off.ensures.stands call ts now b h.down }
 
 pub returns-clause-step : goal.returns-clause-step
 returns-clause-step c =
     ap (λ d. with_down (the_view c.self.inside) d) c.bridge_off.ensures.step ∙ ap (λ (m : LegMemory). with_down m (bridge_over m.down)) c.self.view_is
+
+pub returns-clause-history : goal.returns-clause-history
+returns-clause-history c = λ call ts now b h. subst (Stands call ts (without_bridge now)) (sym (returns-clause-step c)) (end-stands call ts now c.args.self.now b h)

@@ -1,4 +1,7 @@
-use Rattle.std.proofs.Common.{refl}
+use Rattle.std.proofs.Common.{refl, sym, subst, []}
+use Rattle.call_leg.specs.Settings.{new_settings}
+use Rattle.call_leg.specs.Places.{Between}
+use Rattle.call_leg.proofs.OrderLaws.{home-between}
 use Rattle.call_leg.proofs.leg.Leg.new.Goals as goal
 
 pub returns-clause-history : goal.returns-clause-history
@@ -7,5 +10,5 @@ returns-clause-history c = record {
   rx = c.new-3.ensures.history;
   decoder = c.home.ensures.history;
   counts = refl;
-  down = c.in_ok-down.ensures.stands c.args.call;
+  down = subst (Between c.args.call [] new_settings) (sym c.in_ok-down.ensures.value) (home-between c.args.call);
 }

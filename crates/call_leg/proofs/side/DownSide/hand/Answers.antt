@@ -1,16 +1,8 @@
-use Rattle.std.proofs.Common.{refl, ap, ◌∙◌, ℕ, List, [], ◌∷◌, ◌++◌}
+use Rattle.std.proofs.Common.{ap, ◌∙◌, ℕ, List, [], ◌∷◌, ◌++◌}
 use Rattle.trau_params.specs.Bits260.{bits260, bits260_of}
 use Rattle.circular_buffer.specs.Buffer.{Buffer, keep_last}
 use Rattle.call_leg.specs.Memory.{down_memory}
-use Rattle.call_leg.proofs.Bridges.{pushed, halfway-short, hand-stands}
 use Rattle.call_leg.proofs.side.DownSide.hand.Goals as goal
-
-pub returns-clause-stands : goal.returns-clause-stands
-unfolding bits260_of
-returns-clause-stands c = λ call ts now up h.
-    hand-stands call ts now up c.to_bits.new.bits _ (down_memory c.args.self.now) _ h (c.to_bits.ensures.value ∙ ap bits260 c.handed.ensures)
-    (pushed c.args.self.now.waiting c.push_back.new.self c.to_bits.new.bits c.args.self.now.room (halfway-short call ts now up (down_memory c.args.self.now) h) c.push_back.ensures.items)
-    refl refl refl refl refl refl refl refl refl refl
 
 pub returns-clause-step : goal.returns-clause-step
 unfolding bits260_of

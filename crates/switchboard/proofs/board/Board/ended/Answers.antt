@@ -5,6 +5,7 @@ use Rattle.switchboard.specs.Rows.{Rows}
 use Rattle.switchboard.specs.Stands.{IsBoard, state_of, dones}
 use Rattle.switchboard.proofs.Boards.{bridges-bound, told_call, board-told, state-told}
 use Rattle.switchboard.proofs.Laws.{before_more}
+use Rattle.switchboard.proofs.Changes.{Without, ended_changes}
 use Rattle.switchboard.proofs.board.Board.ended.Goals as goal
 
 pub end_call-requires-clause-few : goal.end_call-requires-clause-few
@@ -29,3 +30,20 @@ returns-clause-state c =
 
 pub returns-clause-told : goal.returns-clause-told
 returns-clause-told c = before_more c.args.self.now _ c.args.end.call c.args.end.at (returns-clause-state c)
+
+without : (c : goal.After-end_call) → Without c.args.self.now (state_of c.self.inside.orders c.self.inside.replies.items c.end_call.new.self) c.args.end.call
+without c =
+    let i = c.self.inside in
+    let os = i.orders in
+    let xs = i.replies.items in
+    let o = told_call os xs i.table c.args.end.call c.self.invariant.0 (ap (λ (s : State). is_open (gone_in s) s.done c.args.end.call) c.self.view_is ∙ c.requires.open) in
+    ended_changes os xs i.table _ c.args.self.now c.args.end.call c.args.end.at c.self.invariant.0 c.sized.ensures c.self.view_is o.0 c.end_call.ensures (invariant_of-self c).0
+
+pub returns-clause-opened : goal.returns-clause-opened
+returns-clause-opened c = (without c).opened
+
+pub returns-clause-open : goal.returns-clause-open
+returns-clause-open c = (without c).lives
+
+pub returns-clause-partner : goal.returns-clause-partner
+returns-clause-partner c = (without c).partner

@@ -5,6 +5,7 @@ use Rattle.switchboard.specs.Rows.{rows, never}
 use Rattle.switchboard.specs.Stands.{IsBoard, state_of}
 use Rattle.switchboard.proofs.Boards.{board-new, state-new}
 use Rattle.switchboard.proofs.Laws.{told_none}
+use Rattle.switchboard.proofs.Changes.{start_alone}
 use Rattle.switchboard.proofs.board.Board.new.Goals as goal
 
 table : (c : goal.In_ok-replies) → c.in_ok-table.table ≡ rows (replicate 4097 never) [] [] (length c.args.orders)
@@ -21,3 +22,12 @@ returns-clause-start c = ap (λ (xs : List Reply). state_of c.args.orders xs c.i
 
 pub returns-clause-untold : goal.returns-clause-untold
 returns-clause-untold c = told_none _ c.args.orders (returns-clause-start c)
+
+pub returns-clause-opened : goal.returns-clause-opened
+returns-clause-opened c = λ k. (start_alone _ c.args.orders (returns-clause-start c) k).0
+
+pub returns-clause-open : goal.returns-clause-open
+returns-clause-open c = λ k. (start_alone _ c.args.orders (returns-clause-start c) k).1
+
+pub returns-clause-partner : goal.returns-clause-partner
+returns-clause-partner c = λ k. (start_alone _ c.args.orders (returns-clause-start c) k).2

@@ -3,6 +3,7 @@ use Rattle.switchboard.specs.State.{State}
 use Rattle.switchboard.specs.Runs.{IsRun, TellsEnds}
 use Rattle.switchboard.proofs.Runs.{run_more}
 use Rattle.switchboard.proofs.Laws.{none_exactly, other_stamp, refused_answer, last_is}
+use Rattle.switchboard.proofs.Changes.{refused_before}
 use Rattle.switchboard.proofs.board.Board.turn.Goals as goal
 
 pub returns-then-order-period-clause-none : goal.returns-then-order-period-clause-none
@@ -11,6 +12,9 @@ returns-then-order-period-clause-none c =
 
 pub returns-clause-refused : goal.returns-clause-refused
 returns-clause-refused c = refused_answer c.args.self.now c.execute.new.self c.in_ok-order.order c.execute.result c.execute.ensures.answer c.execute.ensures.state
+
+pub returns-clause-stays : goal.returns-clause-stays
+returns-clause-stays c = refused_before c.args.self.now c.execute.new.self c.execute.result.result (returns-clause-refused c)
 
 pub returns-clause-run : goal.returns-clause-run
 returns-clause-run c = λ whole r t.

@@ -1,0 +1,155 @@
+-- How long the lines of a call are, and that the Down line is made of bits.
+use Rattle.std.proofs.Common.{◌≡◌, subst, ◌∙◌, ℕ, FitsSigned, w16, ◌+◌, ◌*◌, ◌/◌, ◌%◌, ◌^◌, ◌<◌, zero, suc, ℤ, pos, negsuc, true, if◌then◌else◌, nat_le, Option, Some, None, IfSome, unwrap_or, get_or, All, List, [], ◌∷◌, length, drop, replicate, arith, length-take, length-drop}
+use Rattle.std.specs.Prelude.{◌==◌}
+use Rattle.std.specs.List.{range_with_len, flat_map}
+use Rattle.std.proofs.lemmas.Bool.{cond_both}
+use Rattle.std.proofs.lemmas.List.{length-replicate, length-map}
+use Rattle.std.proofs.lemmas.List.Elements.{All-nil, All-cons, All-head, All-tail, All-replicate, All-append, All-map, All-take, All-drop}
+use Rattle.trau_alaw.specs.Alaw.{alaw}
+use Rattle.trau_alaw.specs.Companding.{octet_of}
+use Rattle.trau_alaw.proofs.Octets.{octet_of-only, parts}
+use Rattle.trau_bits.specs.Bits.{AreBits}
+use Rattle.trau_params.specs.Fields.{Fields}
+use Rattle.trau_params.specs.Widths.{larc_widths, block_widths}
+use Rattle.trau_params.specs.FieldBits.{low_bits, field_bits}
+use Rattle.trau_params.specs.Bits260.{values_in, bits260}
+use Rattle.trau_frame.specs.declared.frames.DownFrame.{DownFrame}
+use Rattle.trau_frame.specs.declared.frames.DownFrame.TheVariants as frame
+use Rattle.trau_frame.specs.DownFrame.{HasBits, sp_of, down_control_bit, down_control, down_data, down_bits}
+use Rattle.trau_frame.proofs.Again.{length-down_bits}
+use Rattle.trau_frame.proofs.WrittenRows.{frame_bits-below}
+use Rattle.fr_decoder.specs.Decoded.{samples_of}
+use Rattle.fr_decoder.proofs.Frames.{length-samples_of, samples-fit}
+use Rattle.tx_dtx.specs.Sent.{sent_of}
+use Rattle.down_framer.specs.Made.{next_start, next_frame, grown, frame_on_line}
+use Rattle.down_framer.proofs.Store.{made-far}
+use Rattle.call_leg.specs.Periods.{CallPeriod, quiet_now, handed_in, bridges_begun}
+use Rattle.call_leg.specs.Out.{compressed, plain_stretch, decoded_octets, out_of}
+use Rattle.call_leg.specs.Down.{CallFrame, down_period, down_periods, frames_of, coded_stretch, coded_after, coded_frames, speech, frame_now, bits_now, down_made, down_now}
+
+-- ---- lengths
+
+length-decoded_octets : (fs : List Fields) → length (decoded_octets fs) ≡ 160
+unfolding compressed
+length-decoded_octets [] = length-replicate {A = ℕ} 160 213
+length-decoded_octets (f ∷ past) = length-map (samples_of f past) (octet_of alaw) ∙ length-samples_of f past
+
+pub length-out_of : (call : ℕ) (ts : List CallPeriod) → length (out_of call ts) ≡ 160
+length-out_of call ts = length-decoded_octets (plain_stretch call (bridges_begun ts) ts)
+
+pub length-down_now : (call : ℕ) (t : CallPeriod) (past : List CallPeriod) → length (down_now call (t ∷ past)) ≡ 320
+length-down_now call t past =
+    let line = down_made call (frames_of (t ∷ past)) in
+    let far : 320 * length (down_periods (t ∷ past)) < length line = made-far (bits_now call) (λ fs. length-down_bits (frame_now call fs)) (down_periods (t ∷ past)) in
+    let rest = length-drop (320 * length (down_periods past)) line in
+    length-take 320 (drop (320 * length (down_periods past)) line) ∙ omega arith
+
+-- ---- octets
+
+octet-is : (x : ℤ) → FitsSigned w16 x → octet_of alaw x < 256
+octet-is x f = let p = parts x f in subst (λ n. n < 256) (octet_of-only alaw x p.0 p.1) p.1.is_octet
+
+decoded-octets : (fs : List Fields) → All (λ n. n < 256) (decoded_octets fs)
+unfolding compressed
+decoded-octets [] = All-replicate (λ n. n < 256) 160 213 (omega arith)
+decoded-octets (f ∷ past) = All-map (λ n. n < 256) (octet_of alaw) (samples_of f past) (λ k d l. octet-is _ (samples-fit f past k d l))
+
+pub out_of-octets : (call : ℕ) (ts : List CallPeriod) → All (λ n. n < 256) (out_of call ts)
+out_of-octets call ts = decoded-octets (plain_stretch call (bridges_begun ts) ts)
+
+-- ---- bits
+
+low_bits-are : (width value : ℕ) → AreBits (low_bits width value)
+unfolding low_bits
+low_bits-are width value = All-map (λ b. b < 2) (λ t. value / 2 ^ t % 2) (range_with_len 0 width) (λ k d h. omega arith)
+
+field_bits-are : (widths values : List ℕ) → AreBits (field_bits widths values)
+field_bits-are [] values = All-nil (λ b. b < 2)
+field_bits-are (w ∷ ws) [] = All-nil (λ b. b < 2)
+field_bits-are (w ∷ ws) (v ∷ vs) = All-append (λ b. b < 2) _ _ (low_bits-are w v) (field_bits-are ws vs)
+
+blocks-are : (f : ℕ → List ℕ) (first n : ℕ) → ((k : ℕ) → AreBits (f k)) → AreBits (flat_map f (range_with_len first n))
+blocks-are f first zero h = All-nil (λ b. b < 2)
+blocks-are f first (suc n) h = All-append (λ b. b < 2) _ _ (h first) (blocks-are f (first + 1) n h)
+
+-- those of fields
+pub bits260-are : (f : Fields) → AreBits (bits260 f)
+unfolding bits260
+bits260-are f =
+    All-append (λ b. b < 2) _ _ (field_bits-are larc_widths f.larc)
+    (blocks-are (λ j. field_bits block_widths (values_in f j)) 0 4 (λ j. field_bits-are block_widths (values_in f j)))
+
+sp-is : (f : DownFrame) → sp_of f < 2
+sp-is frame.Idle = omega arith
+sp-is (frame.Speech d sp) = cond_both sp 1 0 (λ b. b < 2) (λ y. omega arith) (λ n. omega arith)
+
+control-is : (f : DownFrame) (c : ℕ) → down_control_bit f c < 2
+control-is f c =
+    let s = sp-is f in
+    cond_both (nat_le c 5) _ _ (λ b. b < 2) (λ y. omega arith)
+    (λ n. cond_both (nat_le c 11) _ _ (λ b. b < 2) (λ y. omega arith) (λ m. cond_both (c == 16) _ _ (λ b. b < 2) (λ y. s) (λ k. omega arith)))
+
+data-are : (f : DownFrame) → HasBits f → AreBits (down_data f)
+data-are frame.Idle h = All-replicate (λ b. b < 2) 260 1 (omega arith)
+data-are (frame.Speech d sp) h = h
+
+down_bits-are : (f : DownFrame) → HasBits f → AreBits (down_bits f)
+unfolding down_bits down_control
+down_bits-are f h = frame_bits-below (down_control f) (down_data f) (All-map (λ b. b < 2) (down_control_bit f) (range_with_len 1 21) (λ k d l. control-is f (get_or (range_with_len 1 21) k d))) (data-are f h)
+
+-- what is handed over in each period are bits
+abbrev pub HandBits : List CallPeriod → Type 0
+HandBits ts = All (λ t. IfSome t.handed (λ d. AreBits d)) ts
+
+unwrapped : (o : Option (List ℕ)) → IfSome o (λ d. AreBits d) → AreBits (unwrap_or o [])
+unwrapped None h = All-nil (λ b. b < 2)
+unwrapped (Some d) h = h
+
+handed-are : (h : ℕ) (ts : List CallPeriod) → HandBits ts → AreBits (handed_in h ts)
+handed-are h [] k = All-nil (λ b. b < 2)
+handed-are h (t ∷ past) k =
+    cond_both (h == length past) (unwrap_or t.handed []) (handed_in h past) (λ d. AreBits d) (λ y. unwrapped t.handed (All-head (λ t. IfSome t.handed (λ d. AreBits d)) t past k))
+    (λ n. handed-are h past (All-tail (λ t. IfSome t.handed (λ d. AreBits d)) t past k))
+
+-- each frame of a call is made of them
+abbrev pub LoadsHandBits : List CallFrame → Type 0
+LoadsHandBits fs = All (λ f. HandBits f.load) fs
+
+frame-has : (call : ℕ) (fs : List CallFrame) → LoadsHandBits fs → HasBits (frame_now call fs)
+frame-has call [] k = tt
+frame-has call (f ∷ fs) k = go f.carries
+  where
+    go : (o : Option ℕ) → HasBits (elim o as (λ x. DownFrame) [
+      | Some h ↦ frame.Speech (handed_in h f.load) true
+      | None ↦ if quiet_now call f.load then frame.Idle else speech (sent_of (coded_after f (coded_stretch call f.epoch fs)) (coded_frames (coded_stretch call f.epoch fs)))
+    ])
+    go (Some h) = handed-are h f.load (All-head (λ f. HandBits f.load) f fs k)
+    go None =
+        let s = sent_of (coded_after f (coded_stretch call f.epoch fs)) (coded_frames (coded_stretch call f.epoch fs)) in
+        cond_both (quiet_now call f.load) frame.Idle (speech s) HasBits (λ y. tt) (λ n. bits260-are s.fields)
+
+on_line-are : (v : ℤ) (bits : List ℕ) → AreBits bits → AreBits (frame_on_line v bits)
+on_line-are (pos v) bits h = All-append (λ b. b < 2) bits (replicate (2 * v) 1) h (All-replicate (λ b. b < 2) (2 * v) 1 (omega arith))
+on_line-are (negsuc v) bits h = All-take (λ b. b < 2) 316 bits h
+
+line-are : (call : ℕ) (fs : List CallFrame) → LoadsHandBits fs → AreBits (down_made call fs)
+line-are call [] k = All-replicate (λ b. b < 2) 320 1 (omega arith)
+line-are call (f ∷ fs) k =
+    All-append (λ b. b < 2) (down_made call fs) (frame_on_line f.shift (bits_now call (f ∷ fs))) (line-are call fs (All-tail (λ f. HandBits f.load) f fs k))
+    (on_line-are f.shift (bits_now call (f ∷ fs)) (down_bits-are (frame_now call (f ∷ fs)) (frame-has call (f ∷ fs) k)))
+
+grown-loads : (t : CallPeriod) (past : List CallPeriod) (fs : List CallFrame) → HandBits (t ∷ past) → LoadsHandBits fs → LoadsHandBits (grown (down_period t past) (down_periods past) fs)
+grown-loads t past fs h k =
+    cond_both (nat_le (next_start fs) (160 * length (down_periods past))) (next_frame (down_period t past) (down_periods past) fs ∷ fs) fs LoadsHandBits
+    (λ y. All-cons (λ f. HandBits f.load) _ fs h k) (λ n. k)
+
+loads : (ts : List CallPeriod) → HandBits ts → LoadsHandBits (frames_of ts)
+loads [] h = All-nil (λ f. HandBits f.load)
+loads (t ∷ past) h =
+    grown-loads t past (grown (down_period t past) (down_periods past) (frames_of past)) h
+    (grown-loads t past (frames_of past) h (loads past (All-tail (λ t. IfSome t.handed (λ d. AreBits d)) t past h)))
+
+pub down_now-bits : (call : ℕ) (ts : List CallPeriod) → HandBits ts → AreBits (down_now call ts)
+down_now-bits call [] h = All-nil (λ b. b < 2)
+down_now-bits call (t ∷ past) h =
+    All-take (λ b. b < 2) 320 _ (All-drop (λ b. b < 2) (320 * length (down_periods past)) (down_made call (frames_of (t ∷ past))) (line-are call (frames_of (t ∷ past)) (loads (t ∷ past) h)))

@@ -1,0 +1,142 @@
+-- The orders between periods, on any memory that stands.
+use Rattle.std.proofs.Common.{◌≡◌, refl, sym, ap, ◌∙◌, subst, ℕ, ℤ, true, false, None, List, [], length}
+use Rattle.std.proofs.lemmas.Bool.{true≢false}
+use Rattle.std.proofs.lemmas.List.Elements.{All-nil}
+use Rattle.trau_orders.specs.declared.order.DtxMode.{DtxMode}
+use Rattle.frame_sync.specs.Periods.{mode_after}
+use Rattle.frame_sync.specs.Step as search
+use Rattle.rx_handler.specs.Past.{anchor_of, drawn}
+use Rattle.rx_handler.specs.Table as rx
+use Rattle.rx_muting.specs.Draws.{state_after}
+use Rattle.fr_decoder.specs.Step as decoder
+use Rattle.fr_decoder.proofs.Frames as decoding
+use Rattle.fr_encoder.proofs.Frames as encoding
+use Rattle.down_framer.specs.Made.{due}
+use Rattle.call_leg.specs.Periods.{CallPeriod}
+use Rattle.call_leg.specs.Settings.{Settings, new_settings, with_level, with_mode, with_bridge, without_bridge}
+use Rattle.call_leg.specs.Down.{down_periods, frames_of}
+use Rattle.call_leg.specs.Memory.{LegMemory}
+use Rattle.call_leg.specs.Places.{Between}
+use Rattle.call_leg.specs.Stands.{Stands}
+use Rattle.call_leg.specs.Step.{home_down, home_leg, with_down, set_level, set_mode, bridge_begun, begin_bridge, bridge_over}
+use Rattle.call_leg.proofs.Heard.{length-ups_of}
+use Rattle.call_leg.proofs.Bridges.{plain-new, begins, ends}
+use Rattle.call_leg.proofs.DownLaws.{home_tx-stands, thawed-kept, thawed-frozen}
+
+pub level-stands : (call : ℕ) (ts : List CallPeriod) (now : Settings) (level : ℤ) (m : LegMemory) → Stands call ts now m →
+    Stands call ts (with_level level now) (with_down m (set_level level m.down))
+level-stands call ts now level m h =
+    let d = h.down in
+    record {
+      search = h.search;
+      rx = h.rx;
+      decoder = h.decoder;
+      counts = h.counts;
+      down = record {
+        long = d.long;
+        history = d.history;
+        places = d.places;
+        waits = d.waits;
+        kept = d.kept;
+        frozen = d.frozen;
+        coded = d.coded;
+        sent = d.sent;
+        made = d.made;
+        level = refl;
+        mode = d.mode;
+        uplink = d.uplink;
+        bridged = d.bridged;
+        alone = d.alone;
+        goes_on = d.goes_on;
+      };
+    }
+
+pub mode-stands : (call : ℕ) (ts : List CallPeriod) (now : Settings) (mode : DtxMode) (m : LegMemory) → Stands call ts now m →
+    Stands call ts (with_mode mode now) (with_down m (set_mode mode m.down))
+mode-stands call ts now mode m h =
+    let d = h.down in
+    record {
+      search = h.search;
+      rx = h.rx;
+      decoder = h.decoder;
+      counts = h.counts;
+      down = record {
+        long = d.long;
+        history = d.history;
+        places = d.places;
+        waits = d.waits;
+        kept = d.kept;
+        frozen = d.frozen;
+        coded = d.coded;
+        sent = d.sent;
+        made = d.made;
+        level = d.level;
+        mode = refl;
+        uplink = d.uplink;
+        bridged = d.bridged;
+        alone = d.alone;
+        goes_on = d.goes_on;
+      };
+    }
+
+pub begin-stands : (call : ℕ) (ts : List CallPeriod) (now : Settings) (m : LegMemory) → due (down_periods ts) (frames_of ts) ≡ None → Stands call ts now m →
+    Stands call ts (with_bridge now) (begin_bridge m)
+begin-stands call ts now m n h = record {
+  search = h.search;
+  rx = h.rx;
+  decoder = subst (λ z. decoder.Stands z decoder.home_memory) (sym (plain-new call ts)) decoding.home-stands;
+  counts = h.counts;
+  down = begins call ts now m.down (bridge_begun m.down) n h.down refl refl encoding.home-stands home_tx-stands refl refl refl refl refl refl refl refl;
+}
+
+pub end-stands : (call : ℕ) (ts : List CallPeriod) (now : Settings) (m : LegMemory) → now.bridged ≡ true → Stands call ts now m →
+    Stands call ts (without_bridge now) (with_down m (bridge_over m.down))
+end-stands call ts now m b h = record {
+  search = h.search;
+  rx = h.rx;
+  decoder = h.decoder;
+  counts = h.counts;
+  down = ends call ts now m.down (bridge_over m.down) b h.down (thawed-kept m.down.align false m.down.waiting) (thawed-frozen m.down.align false m.down.waiting)
+      refl refl refl refl refl refl refl refl refl;
+}
+
+-- the search counts the periods
+pub periods-counted : (call : ℕ) (ts : List CallPeriod) (now : Settings) (m : LegMemory) → Stands call ts now m → m.search.periods ≡ length ts
+periods-counted call ts now m h = ap (λ (s : search.SyncMemory). s.periods) h.search.after ∙ length-ups_of ts
+
+-- before the first period
+pub home-between : (call : ℕ) → Between call [] new_settings home_down
+home-between call = record {
+  long = refl;
+  history = tt;
+  places = record { held = refl; to_skip = refl; stored = refl };
+  waits = record { each = λ n. refl };
+  kept = refl;
+  frozen = refl;
+  coded = record { encoder = encoding.home-stands; tx = home_tx-stands };
+  sent = refl;
+  made = refl;
+  level = refl;
+  mode = refl;
+  uplink = refl;
+  bridged = refl;
+  alone = λ e. refl;
+  goes_on = λ e. absurd (true≢false (sym e));
+}
+
+home_search : search.Stands [] search.home_memory
+unfolding mode_after search.last_bits
+home_search = record { periods = All-nil (λ o. length o ≡ 40); after = refl }
+
+home_rx : (call : ℕ) → rx.Stands call [] (rx.first_memory call)
+unfolding anchor_of drawn state_after
+home_rx call = record { state = refl; source = refl }
+
+pub new-stands : (call : ℕ) → Stands call [] new_settings (home_leg call)
+new-stands call = record {
+  search = home_search;
+  rx = home_rx call;
+  decoder = decoding.home-stands;
+  counts = refl;
+  down = home-between call;
+}

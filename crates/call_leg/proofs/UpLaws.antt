@@ -1,0 +1,113 @@
+-- The uplink half of a period, on any memory that stands.
+use Rattle.std.proofs.Common.{◌≡◌, refl, sym, ap, ◌∙◌, ℕ, Bool, true, false, not, if◌then◌else◌, Option, Some, None, is_some, List, [], ◌∷◌, length}
+use Rattle.std.proofs.lemmas.List.{append-nil}
+use Rattle.trau_params.specs.Fields.{Fields}
+use Rattle.frame_sync.specs.Step as search
+use Rattle.frame_sync.proofs.Steps.{stands-next}
+use Rattle.rx_handler.specs.Origin.{EffectiveFields, Quiet, Speech, Made}
+use Rattle.rx_handler.specs.Past.{effective_of}
+use Rattle.rx_handler.specs.Table as rx
+use Rattle.rx_handler.proofs.Steps.{received_more}
+use Rattle.fr_decoder.specs.Step as decoder
+use Rattle.fr_decoder.proofs.Frames as decoding
+use Rattle.time_align.specs.Shift.{asked_then, latest_ask}
+use Rattle.time_align.specs.Memory.{AlignMemory}
+use Rattle.down_framer.specs.Made.{fields_since}
+use Rattle.call_leg.specs.Uplink.{Sighting, sighting_in, heard_as, field_of, dtxd_after, is_quiet}
+use Rattle.call_leg.specs.Periods.{CallPeriod, ups_of, sighting_after, heard_of, effective_now}
+use Rattle.call_leg.specs.Settings.{Settings, epoch_now, period_with}
+use Rattle.call_leg.specs.Out.{compressed, plain_with, plain_stretch, decoded_octets, out_of}
+use Rattle.call_leg.specs.Down.{down_periods, frames_of}
+use Rattle.call_leg.specs.Memory.{DownMemory, LegMemory}
+use Rattle.call_leg.specs.Places.{Halfway, Between}
+use Rattle.call_leg.specs.Stands.{Stands, Midway}
+use Rattle.call_leg.specs.Step.{asked, after_sighting, played_frame, played_none, played, up_worked}
+use Rattle.call_leg.proofs.Upward.{sighted, up-midway, up-out}
+
+-- ---- what is played out
+
+played-plain : (p : Fields) (past : List Fields) (m : decoder.DecoderMemory) (alone : Bool) → decoder.Stands past m →
+    decoder.Stands (if alone then p ∷ past else []) (if alone then played_frame m p else played_none).1
+    × ((if alone then played_frame m p else played_none).0 ≡ decoded_octets (if alone then p ∷ past else []))
+played-plain p past m true h = let d = decoding.frame-stands p past m h in (d.0, ap compressed d.1)
+played-plain p past m false h = (decoding.home-stands, refl)
+
+played-stands : (e : EffectiveFields) (alone : Bool) (past : List Fields) (m : decoder.DecoderMemory) → decoder.Stands past m →
+    decoder.Stands (plain_with e alone past) (played m e alone).1 × ((played m e alone).0 ≡ decoded_octets (plain_with e alone past))
+played-stands Quiet alone past m h = (decoding.home-stands, refl)
+played-stands (Speech p) alone past m h = played-plain p past m alone h
+played-stands (Made p) alone past m h = played-plain p past m alone h
+
+-- ---- what the downlink side hears
+
+asked-kept : (m : AlignMemory) (field : Option ℕ) (fields : List (Option ℕ)) → m.kept ≡ latest_ask fields → (asked m field).kept ≡ latest_ask (field ∷ fields)
+asked-kept m None fields e = e
+asked-kept m (Some field) fields e = ap (λ o. asked_then field o) e
+
+asked-frozen : (m : AlignMemory) (field : Option ℕ) → (asked m field).frozen ≡ m.frozen
+asked-frozen m None = refl
+asked-frozen m (Some field) = refl
+
+hear-stands : (call : ℕ) (ts : List CallPeriod) (now : Settings) (up : List ℕ) (s : Sighting) (quiet : Bool) (d : DownMemory) → s ≡ sighting_after ts up →
+    quiet ≡ is_quiet (effective_of call (heard_as (sighting_after ts up) ∷ heard_of ts)) → Between call ts now d → Halfway call ts now up None (after_sighting d s quiet)
+hear-stands call ts now up s quiet d es eq h =
+    let before = fields_since (down_periods ts) (frames_of ts) in
+    record {
+      long = h.long;
+      history = h.history;
+      places = h.places;
+      waits = (d.waiting, h.waits, sym (append-nil d.waiting));
+      kept = asked-kept d.align (field_of s) before h.kept ∙ ap (λ z. latest_ask (field_of z ∷ before)) es;
+      frozen = asked-frozen d.align (field_of s) ∙ h.frozen;
+      coded = h.coded;
+      sent = h.sent;
+      made = h.made;
+      level = h.level;
+      mode = h.mode;
+      uplink = ap (λ z. dtxd_after z d.uplink) es ∙ ap (λ b. dtxd_after (sighting_after ts up) b) h.uplink;
+      quiet = eq;
+      bridged = h.bridged;
+      alone = h.alone;
+      goes_on = h.goes_on;
+    }
+
+-- ---- the half
+
+abbrev found_in : LegMemory → List ℕ → Sighting
+found_in m up = sighting_in (search.next_period m.search up).0
+
+-- what the search finds, and the effective frame
+hears : (call : ℕ) (ts : List CallPeriod) (now : Settings) (up : List ℕ) (m : LegMemory) → length up ≡ 40 → Stands call ts now m →
+    (found_in m up ≡ sighting_after ts up) × ((rx.received m.rx (heard_as (found_in m up))).0 ≡ effective_of call (heard_as (sighting_after ts up) ∷ heard_of ts))
+hears call ts now up m l h =
+    let found = search.next_period m.search up in
+    let s = stands-next m.search found.1 up found.0 l refl (ups_of ts) h.search in
+    let es = sighted ts up found.0 (found_in m up) s.1 refl in
+    let heard = rx.received m.rx (heard_as (found_in m up)) in
+    let r = received_more call (heard_of ts) m.rx (heard_as (found_in m up)) heard.0 heard.1 refl h.rx in
+    (es, r.1 ∙ ap (λ z. effective_of call (heard_as z ∷ heard_of ts)) es)
+
+pub up-stands : (call : ℕ) (ts : List CallPeriod) (now : Settings) (up : List ℕ) (m : LegMemory) → length up ≡ 40 → Stands call ts now m →
+    Midway call ts now up None (up_worked m up).2
+unfolding up_worked
+up-stands call ts now up m l h =
+    let found = search.next_period m.search up in
+    let heard = rx.received m.rx (heard_as (found_in m up)) in
+    let e = hears call ts now up m l h in
+    up-midway call ts now up m _ (found_in m up) heard.0 h e.0 (stands-next m.search found.1 up found.0 l refl (ups_of ts) h.search).0
+    (received_more call (heard_of ts) m.rx (heard_as (found_in m up)) heard.0 heard.1 refl h.rx).0 e.1
+    (played-stands heard.0 (not m.down.bridged) (plain_stretch call (epoch_now ts now) ts) m.decoder h.decoder).0 refl
+    (hear-stands call ts now up (found_in m up) (is_quiet heard.0) m.down e.0 (ap is_quiet e.1) h.down)
+
+pub up-effective : (call : ℕ) (ts : List CallPeriod) (now : Settings) (up pcm : List ℕ) (handed : Option (List ℕ)) (m : LegMemory) → length up ≡ 40 → Stands call ts now m →
+    (up_worked m up).0 ≡ effective_now call (period_with now up pcm handed ∷ ts)
+unfolding up_worked
+up-effective call ts now up pcm handed m l h = (hears call ts now up m l h).1
+
+pub up-plays : (call : ℕ) (ts : List CallPeriod) (now : Settings) (up pcm : List ℕ) (handed : Option (List ℕ)) (m : LegMemory) → length up ≡ 40 → is_some handed ≡ now.bridged →
+    Stands call ts now m → (up_worked m up).1 ≡ out_of call (period_with now up pcm handed ∷ ts)
+unfolding up_worked
+up-plays call ts now up pcm handed m l b h =
+    let heard = rx.received m.rx (heard_as (found_in m up)) in
+    up-out call ts now up pcm handed m heard.0 _ h (hears call ts now up m l h).1 b
+    (played-stands heard.0 (not m.down.bridged) (plain_stretch call (epoch_now ts now) ts) m.decoder h.decoder).1

@@ -1,0 +1,14 @@
+use Rattle.std.proofs.Common.{sym, None}
+use Rattle.call_leg.specs.Step.{up_worked}
+use Rattle.call_leg.proofs.UpLaws.{up-stands, up-plays}
+use Rattle.call_leg.proofs.DownLaws.{down-stands}
+use Rattle.call_leg.proofs.laws.the_period_stands.Goals as goal
+
+pub returns-clause-stands : goal.returns-clause-stands
+returns-clause-stands c = λ call ts now up pcm m lu lp b h. (down-stands call ts now up pcm None (up_worked m up).2 lp (sym b) (up-stands call ts now up m lu h)).0
+
+pub returns-clause-out : goal.returns-clause-out
+returns-clause-out c = λ call ts now up pcm m lu lp b h. up-plays call ts now up pcm None m lu (sym b) h
+
+pub returns-clause-down : goal.returns-clause-down
+returns-clause-down c = λ call ts now up pcm m lu lp b h. (down-stands call ts now up pcm None (up_worked m up).2 lp (sym b) (up-stands call ts now up m lu h)).1

@@ -1,0 +1,5 @@
+use Rattle.call_leg.proofs.OrderLaws.{periods-counted}
+use Rattle.call_leg.proofs.laws.the_periods_are_counted.Goals as goal
+
+pub returns : goal.returns
+returns c = periods-counted

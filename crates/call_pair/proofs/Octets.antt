@@ -1,0 +1,56 @@
+-- The octets of a place more.
+use Rattle.std.proofs.Common.{◌≡◌, ℕ, zero, suc, ◌+◌, ◌*◌, ◌≤◌, List, [], ◌∷◌, ◌++◌, length, drop, refl, sym, ap, ◌∙◌, arith}
+use Rattle.std.proofs.lemmas.List.{length-append, take_at, drop_at, drop-drop}
+use Rattle.trau_bits.specs.Bits.{octets_of}
+use Rattle.call_leg.specs.Periods.{CallPeriod}
+use Rattle.call_leg.specs.Out.{out_of}
+use Rattle.call_leg.specs.Down.{down_now}
+use Rattle.call_pair.specs.Memory.{IoMemory}
+use Rattle.call_pair.specs.Places.{written, with_out, with_place}
+use Rattle.call_pair.specs.History.{Start, outs_of, downs_of, io_after}
+use Rattle.call_pair.proofs.Lengths.{length-out_of, length-down_octets}
+
+-- octets written behind those at the front
+written-seam : (front buffer octets : List ℕ) (start n : ℕ) → length front ≡ start → length octets ≡ n →
+    written (front ++ drop start buffer) start octets ≡ (front ++ octets) ++ drop (start + n) buffer
+written-seam front buffer octets start n e f =
+    let xs = front ++ drop start buffer in
+    let rest : drop (start + length octets) xs ≡ drop (start + n) buffer =
+    sym (drop-drop (length octets) start xs) ∙ ap (drop (length octets)) (drop_at front (drop start buffer) start e) ∙ drop-drop (length octets) start buffer
+    ∙ ap (λ (m : ℕ). drop (start + m) buffer) f in
+    ap (λ (ys : List ℕ). ys ++ octets ++ drop (start + length octets) xs) (take_at front (drop start buffer) start e) ∙
+    ap (λ (ys : List ℕ). front ++ octets ++ ys) rest
+
+length-outs_of : (call k : ℕ) (ts : List CallPeriod) → k ≤ length ts → length (outs_of call k ts) ≡ 160 * k
+length-outs_of call zero ts h = refl
+length-outs_of call (suc k) [] h = absurd (omega arith)
+length-outs_of call (suc k) (t ∷ past) h =
+    omega (arith, length-append (outs_of call k past) (out_of call (t ∷ past)), length-outs_of call k past (omega arith), length-out_of call (t ∷ past))
+
+length-downs_of : (call k : ℕ) (ts : List CallPeriod) → k ≤ length ts → length (downs_of call k ts) ≡ 40 * k
+length-downs_of call zero ts h = refl
+length-downs_of call (suc k) [] h = absurd (omega arith)
+length-downs_of call (suc k) (t ∷ past) h =
+    omega (arith, length-append (downs_of call k past) (octets_of (down_now call (t ∷ past))), length-downs_of call k past (omega arith), length-down_octets call t past)
+
+-- the octets of a place more are those of the call's newest period
+pub io_more : (s : Start) (k : ℕ) (ts : List CallPeriod) (t : CallPeriod) (out down : List ℕ) → k ≤ length ts → out ≡ out_of s.io.call (t ∷ ts) →
+    down ≡ down_now s.io.call (t ∷ ts) → with_place (with_out (io_after k ts s.io) out) (octets_of down) ≡ io_after (suc k) (t ∷ ts) s.io
+io_more s k ts t out down enough e f =
+    let call = s.io.call in
+    let io = io_after k ts s.io in
+    let next : k + 1 ≡ suc k = omega arith in
+    let heard = out_of call (t ∷ ts) in
+    let said = octets_of (down_now call (t ∷ ts)) in
+    let shape : List ℕ → List ℕ → ℕ → IoMemory = λ x y n. record { call = call; up = s.io.up; pcm = s.io.pcm; out = x; down = y; given = s.io.given; done = n } in
+    let end : 160 * k + 160 ≡ 160 * suc k = omega arith in
+    let end' : 40 * k + 40 ≡ 40 * suc k = omega arith in
+    let outs = written-seam (outs_of call k ts) s.io.out heard (160 * k) 160 (length-outs_of call k ts enough) (length-out_of call (t ∷ ts))
+    ∙ ap (λ (m : ℕ). (outs_of call k ts ++ heard) ++ drop m s.io.out) end in
+    let downs = written-seam (downs_of call k ts) s.io.down said (40 * k) 40 (length-downs_of call k ts enough) (length-down_octets call t ts)
+    ∙ ap (λ (m : ℕ). (downs_of call k ts ++ said) ++ drop m s.io.down) end' in
+    ap (λ (x : List ℕ). with_place (with_out io x) (octets_of down)) e ∙
+    ap (λ (x : List ℕ). with_place (with_out io heard) (octets_of x)) f ∙
+    ap (λ (x : List ℕ). shape x (written io.down (40 * k) said) (k + 1)) outs ∙
+    ap (λ (y : List ℕ). shape (outs_of call (suc k) (t ∷ ts) ++ drop (160 * suc k) s.io.out) y (k + 1)) downs ∙
+    ap (λ (n : ℕ). record (io_after (suc k) (t ∷ ts) s.io) { done = n }) next

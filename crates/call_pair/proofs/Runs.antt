@@ -1,0 +1,190 @@
+-- Jobs from place to place, for every history of their calls.
+use Rattle.std.proofs.Common.{◌≡◌, ℕ, zero, suc, ◌+◌, ◌<◌, ◌≤◌, max, ltb, Bool, true, false, if◌then◌else◌, Option, Some, None, List, ◌∷◌, length, refl, sym, ap, subst, ◌∙◌, ⊎_elim, arith}
+use Rattle.std.proofs.lemmas.Bool.{cases_lt}
+use Rattle.trau_params.specs.Bits260.{bits260}
+use Rattle.rx_handler.specs.Origin.{EffectiveFields}
+use Rattle.call_leg.specs.Uplink.{handed_fields}
+use Rattle.call_leg.specs.Periods.{CallPeriod, effective_now}
+use Rattle.call_leg.specs.Settings.{Settings, without_bridge}
+use Rattle.call_pair.specs.Memory.{IoMemory, HalfMemory, IsIo, places_left}
+use Rattle.call_pair.specs.Places.{has_place}
+use Rattle.call_pair.specs.Turn.{alone, effective, bridged, left_alone, turned, pair_turned}
+use Rattle.call_pair.specs.Jobs.{job_left, after_turns, finished}
+use Rattle.call_pair.specs.History.{Start, settings_at, period_at, alone_periods, handed_at, bridged_periods, settings_past, Begins, HasWorked}
+use Rattle.call_pair.specs.Finished.{HasWorkedBridged, OneWorked, TwoWorked}
+use Rattle.call_pair.specs.declared.job.Job.{Job}
+use Rattle.call_pair.specs.declared.job.Job.TheVariants.{One, Two}
+use Rattle.call_pair.proofs.Places.{is_below, not_below}
+use Rattle.call_pair.proofs.Steps.{alone-worked, effective-is, bridged-worked, first_left-worked, later_left-worked}
+
+-- ---- what a half tells of its places
+
+placed : (s : Start) (k : ℕ) (ts : List CallPeriod) (now : Settings) (h : HalfMemory) → HasWorked s k ts now h → has_place h.io ≡ ltb k s.io.given
+placed s k ts now h w = ap has_place w.io
+
+given-is : (s : Start) (k : ℕ) (ts : List CallPeriod) (now : Settings) (h : HalfMemory) → HasWorked s k ts now h → h.io.given ≡ s.io.given
+given-is s k ts now h w = ap (λ (io : IoMemory). io.given) w.io
+
+begun : (s : Start) (h : HalfMemory) → Begins s h → HasWorked s 0 s.past s.now h
+begun s h b = record {
+  io = b.io ∙ ap (λ (n : ℕ). record { call = s.io.call; up = s.io.up; pcm = s.io.pcm; out = s.io.out; down = s.io.down; given = s.io.given; done = n }) b.none_done;
+  leg = b.leg;
+}
+
+begun-left : (s : Start) (h : HalfMemory) → Begins s h → places_left h.io ≡ s.io.given
+begun-left s h b = ap places_left b.io ∙ (let e = b.none_done in omega arith)
+
+still-bridged : (k : ℕ) (now : Settings) → (settings_at k now).bridged ≡ now.bridged
+still-bridged zero now = refl
+still-bridged (suc k) now = still-bridged k now
+
+many-alone : (k : ℕ) (s : Start) → k ≤ length (alone_periods k s)
+many-alone zero s = omega arith
+many-alone (suc k) s = omega (arith, many-alone k s)
+
+many-bridged : (k : ℕ) (a b : Start) → k ≤ length (bridged_periods k a b)
+many-bridged zero a b = omega arith
+many-bridged (suc k) a b = omega (arith, many-bridged k a b)
+
+-- ---- one call
+
+turned-one : (h : HalfMemory) → has_place h.io ≡ true → turned (One h) ≡ One (alone h)
+turned-one h e = ap (λ (b : Bool). if b then One (alone h) else One h) e
+
+one-runs : (s : Start) (n k : ℕ) (h : HalfMemory) → IsIo s.io → s.now.bridged ≡ false → k + n ≡ s.io.given →
+    HasWorked s k (alone_periods k s) (settings_at k s.now) h → OneWorked s (after_turns n (One h))
+one-runs s zero k h room b e w =
+    let last : k ≡ s.io.given = omega arith in
+    record {
+      half = h;
+      is_one = refl;
+      worked = subst (λ (i : ℕ). HasWorked s i (alone_periods i s) (settings_at i s.now) h) last w;
+    }
+one-runs s (suc n) k h room b e w =
+    let below : k < s.io.given = omega arith in
+    let more : suc k + n ≡ s.io.given = omega arith in
+    let next = alone-worked s k (alone_periods k s) (settings_at k s.now) h room (many-alone k s) below (still-bridged k s.now ∙ b) w in
+    subst (λ (job : Job). OneWorked s (after_turns n job)) (sym (turned-one h (placed s k (alone_periods k s) (settings_at k s.now) h w ∙ is_below k s.io.given below)))
+    (one-runs s n (suc k) (alone h) room b more next)
+
+pub one-finished : (s : Start) (h : HalfMemory) → Begins s h → s.now.bridged ≡ false → OneWorked s (finished (One h))
+one-finished s h start b = one-runs s (places_left h.io) 0 h start.octets b (omega (arith, begun-left s h start)) (begun s h start)
+
+-- ---- two calls
+
+-- by whether each has a place
+turned-two : (g h : HalfMemory) (x y : Bool) → has_place g.io ≡ x → has_place h.io ≡ y → turned (Two g h) ≡ pair_turned g h x y
+turned-two g h x y e f = ap (λ (b : Bool). pair_turned g h b (has_place h.io)) e ∙ ap (pair_turned g h x) f
+
+-- after k places of a call whose partner had fewer or as many
+abbrev Left : Start → Start → ℕ → HalfMemory → Type 0
+Left a b k g = HasWorked a k (bridged_periods k a b) (settings_past k b.io.given a.now) g
+
+-- what is set past the partner's places, and not past them
+set-past : (k others : ℕ) (now : Settings) (b : Bool) → ltb others k ≡ b → settings_past k others now ≡ (if b then without_bridge (settings_at k now) else settings_at k now)
+set-past k others now b e = ap (λ (x : Bool). if x then without_bridge (settings_at k now) else settings_at k now) e
+
+-- what is handed over, while there is a place and past all of them
+handed-none : (k : ℕ) (s : Start) (ts : List CallPeriod) → s.io.given ≤ k → handed_at k s ts ≡ None
+handed-none k s ts h = ap (λ (x : Bool). if x then Some (bits260 (handed_fields (effective_now s.io.call (period_at k s None ∷ ts)))) else None) (not_below k s.io.given h)
+
+handed-some : (k : ℕ) (s : Start) (ts : List CallPeriod) → k < s.io.given → handed_at k s ts ≡ Some (bits260 (handed_fields (effective_now s.io.call (period_at k s None ∷ ts))))
+handed-some k s ts h = ap (λ (x : Bool). if x then Some (bits260 (handed_fields (effective_now s.io.call (period_at k s None ∷ ts)))) else None) (is_below k s.io.given h)
+
+-- a place more of a call that is left alone
+left-more : (a b : Start) (k : ℕ) (g : HalfMemory) → IsIo a.io → a.now.bridged ≡ true → b.io.given ≤ k → k < a.io.given →
+    Left a b k g → Left a b (suc k) (left_alone g b.io.given)
+left-more a b k g room on from below w =
+    let ts = bridged_periods k a b in
+    let now = settings_at k a.now in
+    let others = b.io.given in
+    let next = λ (handed : Option (List ℕ)) (set : Settings). HasWorked a (suc k) (period_at k a handed ∷ ts) set (left_alone g others) in
+    let first = λ (same : k ≤ others).
+    let w0 = subst (λ (set : Settings). HasWorked a k ts set g) (set-past k others a.now false (not_below others k same)) w in
+    let e : k ≡ others = omega arith in
+    first_left-worked a k others ts now g room (many-bridged k a b) below e (still-bridged k a.now ∙ on) w0 in
+    let later = λ (past : others < k).
+    let w0 = subst (λ (set : Settings). HasWorked a k ts set g) (set-past k others a.now true (is_below others k past)) w in
+    later_left-worked a k others ts now g room (many-bridged k a b) below past w0 in
+    let worked : next None (without_bridge (settings_at (suc k) a.now)) = ⊎_elim later first (cases_lt others k) in
+    let off = set-past (suc k) others a.now true (is_below others (suc k) (omega arith)) in
+    subst (λ (handed : Option (List ℕ)). next handed (settings_past (suc k) others a.now)) (sym (handed-none k b (bridged_periods k b a) from))
+    (subst (λ (set : Settings). next None set) (sym off) worked)
+
+-- the first goes on alone, or is at its end as the second
+first-runs : (a b : Start) (n k : ℕ) (g h : HalfMemory) → IsIo a.io → a.now.bridged ≡ true → b.io.given ≤ k → k + n ≡ a.io.given →
+    Left a b k g → HasWorkedBridged b a h → TwoWorked a b (after_turns n (Two g h))
+first-runs a b zero k g h room on from e w v =
+    let last : k ≡ a.io.given = omega arith in
+    record { first = g; second = h; are_two = refl; first_worked = subst (λ (i : ℕ). Left a b i g) last w; second_worked = v }
+first-runs a b (suc n) k g h room on from e w v =
+    let below : k < a.io.given = omega arith in
+    let more : suc k + n ≡ a.io.given = omega arith in
+    let later : b.io.given ≤ suc k = omega arith in
+    let place = placed a k (bridged_periods k a b) (settings_past k b.io.given a.now) g w ∙ is_below k a.io.given below in
+    let none = placed b b.io.given (bridged_periods b.io.given b a) (settings_past b.io.given a.io.given b.now) h v ∙ not_below b.io.given b.io.given (omega arith) in
+    let others = given-is b b.io.given (bridged_periods b.io.given b a) (settings_past b.io.given a.io.given b.now) h v in
+    subst (λ (job : Job). TwoWorked a b (after_turns n job)) (sym (turned-two g h true false place none ∙ ap (λ (m : ℕ). Two (left_alone g m) h) others))
+    (first-runs a b n (suc k) (left_alone g b.io.given) h room on later more (left-more a b k g room on from below w) v)
+
+-- the second goes on alone
+second-runs : (a b : Start) (n k : ℕ) (g h : HalfMemory) → IsIo b.io → b.now.bridged ≡ true → a.io.given ≤ k → k + n ≡ b.io.given →
+    HasWorkedBridged a b g → Left b a k h → TwoWorked a b (after_turns n (Two g h))
+second-runs a b zero k g h room on from e w v =
+    let last : k ≡ b.io.given = omega arith in
+    record { first = g; second = h; are_two = refl; first_worked = w; second_worked = subst (λ (i : ℕ). Left b a i h) last v }
+second-runs a b (suc n) k g h room on from e w v =
+    let below : k < b.io.given = omega arith in
+    let more : suc k + n ≡ b.io.given = omega arith in
+    let later : a.io.given ≤ suc k = omega arith in
+    let place = placed b k (bridged_periods k b a) (settings_past k a.io.given b.now) h v ∙ is_below k b.io.given below in
+    let none = placed a a.io.given (bridged_periods a.io.given a b) (settings_past a.io.given b.io.given a.now) g w ∙ not_below a.io.given a.io.given (omega arith) in
+    let others = given-is a a.io.given (bridged_periods a.io.given a b) (settings_past a.io.given b.io.given a.now) g w in
+    subst (λ (job : Job). TwoWorked a b (after_turns n job)) (sym (turned-two g h false true none place ∙ ap (λ (m : ℕ). Two g (left_alone h m)) others))
+    (second-runs a b n (suc k) g (left_alone h a.io.given) room on later more w (left-more b a k h room on from below v))
+
+-- after k places of a call and as many of its partner
+abbrev Both : Start → Start → ℕ → HalfMemory → Type 0
+Both a b k g = HasWorked a k (bridged_periods k a b) (settings_at k a.now) g
+
+-- as long as the partner's places aren't past, so is the bridge
+both-left : (a b : Start) (k : ℕ) (g : HalfMemory) → k ≤ b.io.given → Both a b k g → Left a b k g
+both-left a b k g within w =
+    subst (λ (set : Settings). HasWorked a k (bridged_periods k a b) set g) (sym (set-past k b.io.given a.now false (not_below b.io.given k within))) w
+
+-- a place more of a call in a bridge
+both-more : (a b : Start) (k : ℕ) (g h : HalfMemory) → IsIo a.io → IsIo b.io → a.now.bridged ≡ true → k < a.io.given → k < b.io.given →
+    Both a b k g → Both b a k h → Both a b (suc k) (bridged g (effective h))
+both-more a b k g h room room' on below below' w v =
+    let ts = bridged_periods k a b in
+    let us = bridged_periods k b a in
+    let heard : effective h ≡ effective_now b.io.call (period_at k b None ∷ us) = effective-is b k us (settings_at k b.now) h room' below' v in
+    let handed = ap (λ (e : EffectiveFields). Some (bits260 (handed_fields e))) heard ∙ sym (handed-some k b us below') in
+    subst (λ (x : Option (List ℕ)). HasWorked a (suc k) (period_at k a x ∷ ts) (settings_at (suc k) a.now) (bridged g (effective h))) handed
+    (bridged-worked a k ts (settings_at k a.now) g (effective h) room (many-bridged k a b) below (still-bridged k a.now ∙ on) w)
+
+both-run : (a b : Start) (n k : ℕ) (g h : HalfMemory) → IsIo a.io → IsIo b.io → a.now.bridged ≡ true → b.now.bridged ≡ true →
+    k ≤ a.io.given → k ≤ b.io.given → k + n ≡ max a.io.given b.io.given →
+    Both a b k g → Both b a k h → TwoWorked a b (after_turns n (Two g h))
+both-run a b zero k g h room room' on on' within within' e w v =
+    let end : k ≡ b.io.given = omega arith in
+    first-runs a b 0 k g h room on (omega arith) (omega arith) (both-left a b k g within' w) (subst (λ (i : ℕ). Left b a i h) end (both-left b a k h within v))
+both-run a b (suc n) k g h room room' on on' within within' e w v =
+    let others = λ (le : b.io.given ≤ k).
+    let end : k ≡ b.io.given = omega arith in
+    first-runs a b (suc n) k g h room on le (omega arith) (both-left a b k g within' w) (subst (λ (i : ℕ). Left b a i h) end (both-left b a k h within v)) in
+    let own = λ (le : a.io.given ≤ k) (lt : k < b.io.given).
+    let end : k ≡ a.io.given = omega arith in
+    second-runs a b (suc n) k g h room' on' le (omega arith) (subst (λ (i : ℕ). Left a b i g) end (both-left a b k g within' w)) (both-left b a k h within v) in
+    let both = λ (lt : k < a.io.given) (lt' : k < b.io.given).
+    let place = placed a k (bridged_periods k a b) (settings_at k a.now) g w ∙ is_below k a.io.given lt in
+    let place' = placed b k (bridged_periods k b a) (settings_at k b.now) h v ∙ is_below k b.io.given lt' in
+    subst (λ (job : Job). TwoWorked a b (after_turns n job)) (sym (turned-two g h true true place place'))
+    (both-run a b n (suc k) (bridged g (effective h)) (bridged h (effective g)) room room' on on' (omega arith) (omega arith) (omega arith)
+    (both-more a b k g h room room' on lt lt' w v) (both-more b a k h g room' room on' lt' lt v w)) in
+    ⊎_elim (λ (lt' : k < b.io.given). ⊎_elim (λ (lt : k < a.io.given). both lt lt') (λ (le : a.io.given ≤ k). own le lt') (cases_lt k a.io.given)) others (cases_lt k b.io.given)
+
+pub two-finished : (a b : Start) (g h : HalfMemory) → Begins a g → Begins b h → a.now.bridged ≡ true → b.now.bridged ≡ true → TwoWorked a b (finished (Two g h))
+two-finished a b g h start start' on on' =
+    let n : job_left (Two g h) ≡ max a.io.given b.io.given = ap (λ (m : ℕ). max m (places_left h.io)) (begun-left a g start) ∙ ap (max a.io.given) (begun-left b h start') in
+    both-run a b (job_left (Two g h)) 0 g h start.octets start'.octets on on' (omega arith) (omega arith) (omega (arith, n)) (begun a g start) (begun b h start')

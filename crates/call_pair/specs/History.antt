@@ -1,0 +1,91 @@
+-- What a round adds to the history of a call. Lists have the newest period first.
+use Rattle.std.specs.Prelude.{◌≡◌, ℕ, zero, suc, ◌*◌, nat_lt, if◌then◌else◌, Option, Some, None, List, [], ◌∷◌, ◌++◌, drop}
+use Rattle.trau_bits.specs.Bits.{octets_of}
+use Rattle.trau_params.specs.Bits260.{bits260}
+use Rattle.call_leg.specs.Uplink.{handed_fields}
+use Rattle.call_leg.specs.Periods.{CallPeriod, effective_now}
+use Rattle.call_leg.specs.Settings.{Settings, later, without_bridge, period_with}
+use Rattle.call_leg.specs.Out.{out_of}
+use Rattle.call_leg.specs.Down.{down_now}
+use Rattle.call_leg.specs.Stands.{Stands}
+use Rattle.call_pair.specs.Memory.{IoMemory, HalfMemory, IsIo}
+use Rattle.call_pair.specs.Places.{up_at, pcm_at}
+
+-- a call at the start of a round: its periods so far, what is set for the next one, and its octets
+pub record Start : Type 0 where
+  pub past : List CallPeriod
+  pub now : Settings
+  pub io : IoMemory
+
+-- what is set for the period of place k
+abbrev pub settings_at : ℕ → Settings → Settings
+settings_at zero now = now
+settings_at (suc k) now = later (settings_at k now)
+
+-- the period of place k, with the bits that are handed over in it
+abbrev pub period_at : ℕ → Start → Option (List ℕ) → CallPeriod
+period_at k s handed = period_with (settings_at k s.now) (up_at k s.io) (pcm_at k s.io) handed
+
+-- ---- a call that lies in no bridge
+
+-- its periods after the first k places
+abbrev pub alone_periods : ℕ → Start → List CallPeriod
+alone_periods zero s = s.past
+alone_periods (suc k) s = period_at k s None ∷ alone_periods k s
+
+-- ---- a call with a partner
+
+-- What a call hands over in place k, after these periods: the bits of its effective frame, as long as it has a place.
+-- The effective frame depends on the octets of the Up line alone, so the period is seen with nothing handed to it.
+abbrev pub handed_at : ℕ → Start → List CallPeriod → Option (List ℕ)
+handed_at k s ts = if nat_lt k s.io.given then Some (bits260 (handed_fields (effective_now s.io.call (period_at k s None ∷ ts)))) else None
+
+-- the periods of call a, whose partner is b, after its first k places
+abbrev pub bridged_periods : ℕ → Start → Start → List CallPeriod
+bridged_periods zero a b = a.past
+bridged_periods (suc k) a b = period_at k a (handed_at k b (bridged_periods k b a)) ∷ bridged_periods k a b
+
+-- what is set after k places, where the partner has `others`: past those the bridge is off
+abbrev pub settings_past : ℕ → ℕ → Settings → Settings
+settings_past k others now = if nat_lt others k then without_bridge (settings_at k now) else settings_at k now
+
+-- ---- the octets
+
+-- the octets of the Out line in the newest k of these periods, the oldest first
+abbrev pub outs_of : ℕ → ℕ → List CallPeriod → List ℕ
+outs_of call zero ts = []
+outs_of call (suc k) [] = []
+outs_of call (suc k) (t ∷ past) = outs_of call k past ++ out_of call (t ∷ past)
+
+-- those of the Down line
+abbrev pub downs_of : ℕ → ℕ → List CallPeriod → List ℕ
+downs_of call zero ts = []
+downs_of call (suc k) [] = []
+downs_of call (suc k) (t ∷ past) = downs_of call k past ++ octets_of (down_now call (t ∷ past))
+
+-- The octets of a call after its first k places, whose periods are the newest of these: Out and Down begin with those of
+-- the periods, and are as they were behind them.
+abbrev pub io_after : ℕ → List CallPeriod → IoMemory → IoMemory
+io_after k ts io = record {
+  call = io.call;
+  up = io.up;
+  pcm = io.pcm;
+  out = outs_of io.call k ts ++ drop (160 * k) io.out;
+  down = downs_of io.call k ts ++ drop (40 * k) io.down;
+  given = io.given;
+  done = k;
+}
+
+-- ---- a half
+
+-- it begins a round
+pub record Begins (s : Start) (h : HalfMemory) : Type 0 where
+  pub octets : IsIo s.io
+  pub none_done : s.io.done ≡ 0
+  pub io : h.io ≡ s.io
+  pub leg : Stands s.io.call s.past s.now h.leg
+
+-- it has worked k places, with which the call has these periods
+pub record HasWorked (s : Start) (k : ℕ) (ts : List CallPeriod) (now : Settings) (h : HalfMemory) : Type 0 where
+  pub io : h.io ≡ io_after k ts s.io
+  pub leg : Stands s.io.call ts now h.leg

@@ -1,0 +1,3 @@
+-- Lemmas on reading the desk.
+mod Filling
+mod Told

@@ -1,0 +1,47 @@
+-- From the answer to a text to that of the desk whose reads gave it, and to that of a desk that tells its text.
+use Rattle.std.proofs.Common.{◌≡◌, inl, inr, ℕ, ◌+◌, ◌<◌, ◌≤◌, List, ◌++◌, [], length, Result, Ok, Err, Option, Some, None, refl, sym, ◌∙◌, ap, subst, append-nil, length-append, arith}
+use Rattle.std.specs.Prelude.{IsErrOf}
+use Rattle.std.specs.Io.KnownBytes.{Consumes, IsAtEnd}
+use Rattle.trau_io.specs.Desks.{DeskState}
+use Rattle.trau_orders.specs.declared.order.Order.{Order}
+use Rattle.farm_orders.specs.declared.fault.OrdersFault.{OrdersFault}
+use Rattle.farm_orders.specs.declared.fault.OrdersFault.TheVariants.{Unread, TooLong, Line, Memory}
+use Rattle.farm_orders.specs.Reading.{AnswersText, AnswersReads, ReadsOrders, AnswersTold}
+
+-- the answer to a text is that of a desk at its end that gave it
+pub ended : (now : DeskState) (text : List ℕ) (result : Result (List Order) OrdersFault) → IsAtEnd now.to_come → length text ≤ 1048576 → AnswersText text result → AnswersReads now text result
+ended now text (Ok orders) end short answer = (end, answer)
+ended now text (Err Unread) end short answer = absurd answer
+ended now text (Err TooLong) end short (inl long) = absurd (omega (arith, long, short))
+ended now text (Err TooLong) end short (inr many) = inr (end, many)
+ended now text (Err (Line n)) end short answer = (end, answer)
+ended now text (Err Memory) end short answer = tt
+
+-- and isn't that the text is unread
+pub not_unread : (text : List ℕ) (result : Result (List Order) OrdersFault) → AnswersText text result → IsErrOf result Unread → ⊥
+not_unread text (Ok orders) answer = λ e. cc
+not_unread text (Err Unread) answer = absurd answer
+not_unread text (Err TooLong) answer = λ e. cc
+not_unread text (Err (Line n)) answer = λ e. cc
+not_unread text (Err Memory) answer = λ e. cc
+
+-- what was read to the end is the whole text
+whole : (text : List ℕ) (now : Option (List ℕ)) (given : List ℕ) → Consumes (Some text) now given → IsAtEnd now → given ≡ text
+whole text None given consumed end = absurd consumed
+whole text (Some rest) given consumed end = sym (consumed ∙ ap (λ l. given ++ l) end ∙ append-nil given)
+
+-- what was read is no longer than the text
+front : (text : List ℕ) (now : Option (List ℕ)) (given : List ℕ) → Consumes (Some text) now given → length given ≤ length text
+front text None given consumed = absurd consumed
+front text (Some rest) given consumed = omega (arith, ap length consumed, length-append given rest)
+
+told_by : (text : List ℕ) (now : DeskState) (given : List ℕ) → Consumes (Some text) now.to_come given → (result : Result (List Order) OrdersFault) → AnswersReads now given result → AnswersTold text result
+told_by text now given consumed (Ok orders) answer = subst (λ t. AnswersText t (Ok orders)) (whole text now.to_come given consumed answer.0) answer.1
+told_by text now given consumed (Err Unread) answer = tt
+told_by text now given consumed (Err TooLong) (inl long) = inl (omega (arith, long, front text now.to_come given consumed))
+told_by text now given consumed (Err TooLong) (inr many) = subst (λ t. AnswersText t (Err TooLong)) (whole text now.to_come given consumed many.0) (inr many.1)
+told_by text now given consumed (Err (Line n)) answer = subst (λ t. AnswersText t (Err (Line n))) (whole text now.to_come given consumed answer.0) answer.1
+told_by text now given consumed (Err Memory) answer = tt
+
+pub told : (before now : DeskState) (result : Result (List Order) OrdersFault) → ReadsOrders before now result → (text : List ℕ) → before.to_come ≡ Some text → AnswersTold text result
+told before now result reads text is = told_by text now reads.given (subst (λ o. Consumes o now.to_come reads.given) is reads.consumed) result reads.answer

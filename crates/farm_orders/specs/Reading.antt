@@ -1,0 +1,45 @@
+-- What the reading of a run's orders answers (this project's profile).
+use Rattle.std.specs.Prelude.{◌≡◌, ◌<◌, ◌≤◌, ◌⊎◌, ℕ, List, length, Result, Ok, Err}
+use Rattle.std.specs.Io.KnownBytes.{Consumes, IsAtEnd}
+use Rattle.trau_io.specs.Desks.{DeskState}
+use Rattle.trau_orders.specs.Text.{text_lines, AreLines, IsFirstBad}
+use Rattle.trau_orders.specs.declared.order.Order.{Order}
+use Rattle.farm_orders.specs.declared.fault.OrdersFault.{OrdersFault}
+use Rattle.farm_orders.specs.declared.fault.OrdersFault.TheVariants.{Unread, TooLong, Line, Memory}
+
+-- a text within the limits: at most 1,048,576 octets and at most 65,536 lines
+abbrev pub IsWithin : List ℕ → Type 0
+IsWithin text = (length text ≤ 1048576) × (length (text_lines text) ≤ 65536)
+
+-- the answer to a whole text: its orders, or that it isn't within the limits, or its first line that isn't in the
+-- grammar; or want of memory
+abbrev pub AnswersText : List ℕ → Result (List Order) OrdersFault → Type 0
+AnswersText text (Ok orders) = IsWithin text × AreLines (text_lines text) orders
+AnswersText text (Err Unread) = ⊥
+AnswersText text (Err TooLong) = (1048576 < length text) ⊎ (65536 < length (text_lines text))
+AnswersText text (Err (Line n)) = IsWithin text × IsFirstBad (text_lines text) n
+AnswersText text (Err Memory) = Unit {0}
+
+-- the answer where the reads of the desk gave this text: that of the text if the desk is at its end, or that it is too
+-- long if it is just past the limit; else the desk failed, or there was no memory
+abbrev pub AnswersReads : DeskState → List ℕ → Result (List Order) OrdersFault → Type 0
+AnswersReads now given (Ok orders) = IsAtEnd now.to_come × AnswersText given (Ok orders)
+AnswersReads now given (Err Unread) = length given ≤ 1048576
+AnswersReads now given (Err TooLong) = (length given ≡ 1048577) ⊎ (IsAtEnd now.to_come × (65536 < length (text_lines given)))
+AnswersReads now given (Err (Line n)) = IsAtEnd now.to_come × AnswersText given (Err (Line n))
+AnswersReads now given (Err Memory) = Unit {0}
+
+-- the reads gave so many octets, the next of the desk, and the answer is theirs
+pub record ReadsOrders (before now : DeskState) (result : Result (List Order) OrdersFault) : Type 0 where
+  pub given : List ℕ
+  pub consumed : Consumes before.to_come now.to_come given
+  pub bound : length given ≤ 1048577
+  pub answer : AnswersReads now given result
+
+-- the answer of a desk that tells its text: that of the whole text, unless the desk failed
+abbrev pub AnswersTold : List ℕ → Result (List Order) OrdersFault → Type 0
+AnswersTold text (Ok orders) = AnswersText text (Ok orders)
+AnswersTold text (Err Unread) = Unit {0}
+AnswersTold text (Err TooLong) = AnswersText text (Err TooLong)
+AnswersTold text (Err (Line n)) = AnswersText text (Err (Line n))
+AnswersTold text (Err Memory) = Unit {0}

@@ -1,0 +1,61 @@
+// The orders of a run.
+ghost use Rattle.std.specs.Prelude.{◌≡◌, ◌≤◌, ℕ, List, length, Some, IfOk, IsErrOf};
+ghost use Rattle.trau_io.specs.Lines.{Rose};
+ghost use Rattle.farm_orders.specs.Reading.{AnswersText, ReadsOrders, AnswersTold};
+
+use crate::OrdersFault;
+use crate::block::fill;
+use std::alloc::{AllocError, Global};
+use trau_io::{Desk, Filled};
+use trau_orders::{OrderFault, Orders};
+
+// One octet more than the orders may have.
+const ROOM: usize = 1_048_577;
+
+// A block of octets 0.
+fn block_of(alloc: Global, size: usize) -> Result<Vec<u8>, AllocError>
+    ensures { IfOk result (λ block. length block.items ≡ size) }
+{
+    vec![in alloc; 0; size]
+}
+
+// The orders of a whole text.
+fn orders_of(alloc: Global, text: &[u8]) -> Result<Orders, OrdersFault>
+    ensures { AnswersText text.now result }
+{
+    match Orders::parse(alloc, text) {
+        Ok(orders) => Ok(orders),
+        Err(OrderFault::TooLong) => Err(OrdersFault::TooLong),
+        Err(OrderFault::TooMany) => Err(OrdersFault::TooLong),
+        Err(OrderFault::Line(number)) => Err(OrdersFault::Line(number)),
+        Err(OrderFault::Memory) => Err(OrdersFault::Memory),
+    }
+}
+
+/// Reads the orders of a run from the desk, to the end of their text or until just past its limit of 1,048,576 octets.
+///
+/// A desk that fails before that gives `Unread`. Then, in this order: a text of more than 1,048,576 octets or of more
+/// than 65,536 lines gives `TooLong`, and one with a line that isn't in the grammar `Line`, with the number of the
+/// first. `Memory` may come in place of any answer; the room for the text is asked for before the desk is read.
+pub fn read_orders<D: Desk>(alloc: Global, desk: &mut D) -> Result<Orders, OrdersFault>
+    // What was read of the desk, and that the answer is that of this text.
+    ensures reads { ReadsOrders (D.desk desk.old) (D.desk desk.new) result }
+    // Unread comes exactly where the count of reading rose.
+    ensures unread { IsErrOf result OrdersFault.Unread → Rose (D.desk desk.old).read_faults (D.desk desk.new).read_faults }
+    ensures calm { (IsErrOf result OrdersFault.Unread → ⊥) → (D.desk desk.new).read_faults ≡ (D.desk desk.old).read_faults }
+    ensures later { (D.desk desk.old).read_faults ≤ (D.desk desk.new).read_faults }
+    // Nothing is written.
+    ensures written { (D.desk desk.new).written ≡ (D.desk desk.old).written }
+    ensures write_faults { (D.desk desk.new).write_faults ≡ (D.desk desk.old).write_faults }
+    // Of a desk that tells its text, the answer is that of the whole text.
+    ensures told { (text : List ℕ) → (D.desk desk.old).to_come ≡ Some text → AnswersTold text result }
+{
+    let Ok(mut block) = block_of(alloc, ROOM) else {
+        return Err(OrdersFault::Memory);
+    };
+    match fill(desk, &mut block) {
+        Filled::Whole => Err(OrdersFault::TooLong),
+        Filled::Ended(length) => orders_of(alloc, &block[..length]),
+        Filled::Failed(_) => Err(OrdersFault::Unread),
+    }
+}

@@ -1,0 +1,127 @@
+//! Laws of a run, each the contract of a function that does nothing. They lead from what is known while a run goes on to
+//! what the whole run gives.
+
+ghost use Rattle.std.specs.Prelude.{◌≡◌, ◌≤◌, ◌<◌, ◌+◌, ◌-◌, ℕ, Bool, true, not, ◌&&◌, ◌||◌, ◌==◌, if◌then◌else◌, nat_lt, Option, Some, None, is_some, IfSome, Ok, List, [], ◌∷◌, ◌++◌, map, filter};
+ghost use Rattle.trau_io.specs.declared.ends.Cause.TheVariants.{Closed, Limit};
+ghost use Rattle.trau_params.specs.Bits260.{bits260};
+ghost use Rattle.trau_orders.specs.declared.order.Order.{Order};
+ghost use Rattle.trau_orders.specs.Lists.{AreOrders};
+ghost use Rattle.switchboard.specs.declared.act.Act.TheVariants as act;
+ghost use Rattle.switchboard.specs.declared.table.Bridge.{Bridge};
+ghost use Rattle.switchboard.specs.Calls.{Done, opened_at, closed_at, gone_at};
+ghost use Rattle.switchboard.specs.Bridges.{bridge_of, other, joins};
+ghost use Rattle.switchboard.specs.State.{first_stamp};
+ghost use Rattle.switchboard.specs.Runs.{executed, left_of, IsRun};
+ghost use Rattle.switchboard.specs.Ends.{lack_of, end_of, start_of};
+ghost use Rattle.down_framer.specs.Made.{due};
+ghost use Rattle.down_framer.specs.Bridges.{IsHistory};
+ghost use Rattle.call_leg.specs.Uplink.{handed_fields};
+ghost use Rattle.call_leg.specs.Periods.{CallPeriod, ups_of, effective_now};
+ghost use Rattle.call_leg.specs.Settings.{later, period_with};
+ghost use Rattle.call_leg.specs.Down.{down_periods, frames_of};
+ghost use Rattle.farm_output.specs.Run.{Run, given_in, whole_in, done_in, up_in, pcm_in, ups_to, item_of, period_of, periods_to};
+ghost use Rattle.farm_output.specs.Now.{IsSoFar, NoOrderTo, has_period, bridge_now, handed_now, period_now, settings_now, settings_in, changed_by};
+
+/// Orders are executed in one go or in several alike. Those that are executed later leave the earlier ones as they were,
+/// and add one reply each.
+pub fn executing_adds()
+    ensures front { (whole : ℕ → ℕ) (ds : List Done) (xs ys : List Order) → executed whole ds (xs ++ ys) ≡ executed whole (executed whole ds xs) ys }
+    ensures kept { (whole : ℕ → ℕ) (ds : List Done) (os : List Order) →
+        (more : List Done) × (executed whole ds os ≡ ds ++ more) × (map (λ d. d.order) more ≡ os) }
+{}
+
+/// How a run goes on: from its start, to a later clock where no order that is left comes before, and by the next order.
+pub fn runs_go_on()
+    ensures start { (r : Run) → AreOrders r.orders → IsSoFar r 0 [] r.orders }
+    ensures clock { (r : Run) (t u : ℕ) (ds : List Done) (left : List Order) → IsSoFar r t ds left →
+        t ≤ u → IfSome (first_stamp left) (λ s. u ≤ s) → IsSoFar r u ds left }
+    ensures order { (r : Run) (t : ℕ) (ds : List Done) (d : Done) (left : List Order) → IsSoFar r t ds (d.order ∷ left) →
+        d.order.stamp ≡ t → t < r.periods → IsRun (whole_in r) (ds ++ d ∷ []) → IsSoFar r t (ds ++ d ∷ []) left }
+{}
+
+/// What the whole run executes begins with the orders so far. The rest are those that are left, below the run's end; where
+/// none is, all is executed, and what is left stays.
+pub fn runs_are_whole()
+    ensures rest { (r : Run) (t : ℕ) (ds : List Done) (left : List Order) → IsSoFar r t ds left →
+        (rest : List Done) × (done_in r ≡ ds ++ rest) × (map (λ d. d.order) rest ≡ filter (λ o. nat_lt o.stamp r.periods) left) }
+    ensures all { (r : Run) (t : ℕ) (ds : List Done) (left : List Order) → IsSoFar r t ds left →
+        IfSome (first_stamp left) (λ s. r.periods ≤ s) → done_in r ≡ ds }
+    ensures left { (r : Run) (t : ℕ) (ds : List Done) (left : List Order) → IsSoFar r t ds left →
+        IfSome (first_stamp left) (λ s. r.periods ≤ s) → left_of r.periods r.orders ≡ left }
+    ensures opened { (r : Run) (t : ℕ) (ds : List Done) (left : List Order) (c s : ℕ) → IsSoFar r t ds left →
+        opened_at c ds ≡ Some s → start_of (done_in r) c ≡ s }
+{}
+
+/// Period u of an open call is settled once the orders up to it were executed: no later order and no end changes it.
+pub fn periods_are_settled()
+    ensures period { (r : Run) (t u : ℕ) (ds : List Done) (left : List Order) (c s : ℕ) → IsSoFar r t ds left →
+        t ≤ u → u < r.periods → NoOrderTo u left → opened_at c ds ≡ Some s → period_of r c (u - s) ≡ period_now r ds u c }
+    ensures more { (r : Run) (t u : ℕ) (ds : List Done) (left : List Order) (c s : ℕ) → IsSoFar r t ds left →
+        t ≤ u → u < r.periods → NoOrderTo u left → opened_at c ds ≡ Some s →
+        periods_to r c (u + 1 - s) ≡ period_now r ds u c ∷ periods_to r c (u - s) }
+
+    // It goes on with its settings, and lies in a bridge exactly where something is handed over.
+    ensures settings { (r : Run) (ds : List Done) (u c : ℕ) →
+        period_now r ds u c ≡ period_with (settings_in r ds u c) (up_in r c (u - start_of ds c)) (pcm_in r c (u - start_of ds c)) (handed_now r ds u c) }
+    ensures handed { (r : Run) (t u : ℕ) (ds : List Done) (left : List Order) (c : ℕ) → IsSoFar r t ds left → t ≤ u →
+        is_some (handed_now r ds u c) ≡ (settings_in r ds u c).bridged }
+{}
+
+/// The bridge of a call from period to period, while no order is executed.
+pub fn bridges_go_on()
+    // In period k it is the one that lasts at u, where both of its calls have period k.
+    ensures later { (r : Run) (t u k : ℕ) (ds : List Done) (left : List Order) (c : ℕ) → IsSoFar r t ds left → t ≤ u → u ≤ k →
+        bridge_now r ds k c ≡ elim (bridge_of (gone_at (whole_in r) u ds) ds c) [
+          | None ↦ None
+          | Some x ↦ if has_period r ds k x.a && has_period r ds k x.b then Some x else None
+        ] }
+
+    // After period u that one lasts which the call had in it, and no other.
+    ensures after { (r : Run) (t u : ℕ) (ds : List Done) (left : List Order) (c : ℕ) → IsSoFar r t ds left → u < r.periods →
+        bridge_of (gone_at (whole_in r) (u + 1) ds) ds c ≡ bridge_now r ds u c }
+
+    // The partner has the same one.
+    ensures partner { (r : Run) (t u : ℕ) (ds : List Done) (left : List Order) (c : ℕ) (x : Bridge) → IsSoFar r t ds left →
+        t ≤ u → u < r.periods → bridge_now r ds u c ≡ Some x → bridge_now r ds u (other c x) ≡ Some x }
+
+    // A call that no order closed is gone after a period exactly where it doesn't have it.
+    ensures gone { (r : Run) (u : ℕ) (ds : List Done) (c s : ℕ) → u < r.periods → opened_at c ds ≡ Some s → closed_at c ds ≡ None →
+        gone_at (whole_in r) (u + 1) ds c ≡ not (has_period r ds u c) }
+{}
+
+/// What is set for a call: each order makes of it what its act says, and after a period that stays which the period was
+/// worked with, but that no bridge starts.
+pub fn settings_follow()
+    ensures order { (r : Run) (t : ℕ) (ds : List Done) (d : Done) (left : List Order) (c : ℕ) → IsSoFar r t ds (d.order ∷ left) →
+        d.order.stamp ≡ t → IsRun (whole_in r) (ds ++ d ∷ []) → settings_now r (ds ++ d ∷ []) t c ≡ changed_by c d.result (settings_now r ds t c) }
+    ensures period { (r : Run) (t u : ℕ) (ds : List Done) (left : List Order) (c : ℕ) → IsSoFar r t ds left →
+        t ≤ u → u < r.periods → settings_now r ds (u + 1) c ≡ later (settings_in r ds u c) }
+{}
+
+/// The end of a call is known once the orders up to it were executed: where it was closed, where its lines lack a period, or
+/// at the run's end.
+pub fn ends_are_known()
+    ensures closed { (r : Run) (t : ℕ) (ds : List Done) (left : List Order) (c s e : ℕ) → IsSoFar r t ds left → closed_at c ds ≡ Some e →
+        end_of (given_in r) r.periods (done_in r) c s ≡ record { call = c; at = e; cause = Closed } }
+    ensures lacks { (r : Run) (t : ℕ) (ds : List Done) (left : List Order) (c s : ℕ) → IsSoFar r t ds left →
+        opened_at c ds ≡ Some s → closed_at c ds ≡ None → s + whole_in r c < r.periods → NoOrderTo (s + whole_in r c) left →
+        end_of (given_in r) r.periods (done_in r) c s ≡ record { call = c; at = s + whole_in r c; cause = lack_of (whole_in r c) (given_in r c) } }
+    ensures limit { (r : Run) (t : ℕ) (ds : List Done) (left : List Order) (c s : ℕ) → IsSoFar r t ds left →
+        IfSome (first_stamp left) (λ s. r.periods ≤ s) → closed_at c ds ≡ None → r.periods ≤ s + whole_in r c →
+        end_of (given_in r) r.periods (done_in r) c s ≡ record { call = c; at = r.periods; cause = Limit } }
+{}
+
+/// The periods of a call are a history of its downlink: its bridges leave a period between, and go on without a gap. So no
+/// handed frame waits where an order makes a bridge.
+pub fn periods_are_a_history()
+    ensures history { (r : Run) (c n : ℕ) → AreOrders r.orders → IsHistory (down_periods (periods_to r c n)) }
+    ensures bridge { (r : Run) (t : ℕ) (ds : List Done) (d : Done) (left : List Order) (a b c s : ℕ) → IsSoFar r t ds (d.order ∷ left) →
+        d.order.stamp ≡ t → t < r.periods → IsRun (whole_in r) (ds ++ d ∷ []) → d.result ≡ Ok (act.Bridged a b) → (c == a || c == b) ≡ true →
+        opened_at c ds ≡ Some s → due (down_periods (periods_to r c (t - s))) (frames_of (periods_to r c (t - s))) ≡ None }
+{}
+
+/// What a call hands over in its newest period are the bits of its effective frame in it.
+pub fn items_are_effective_frames()
+    ensures item { (c : ℕ) (ts : List CallPeriod) → item_of c (ups_of ts) ≡ bits260 (handed_fields (effective_now c ts)) }
+    ensures ups { (r : Run) (c n : ℕ) → ups_of (periods_to r c n) ≡ ups_to r c n }
+{}

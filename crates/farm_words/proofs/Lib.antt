@@ -1,0 +1,3 @@
+-- Lemmas on words.
+pub mod Asking
+mod Matched

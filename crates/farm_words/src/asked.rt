@@ -1,0 +1,40 @@
+// What words ask for, and why they aren't taken.
+use thiserror::Error;
+
+/// How a run is to work.
+#[derive(Clone, Copy, Debug, PartialEq, Eq)]
+pub struct Settings {
+    /// Threads, 1 to 64.
+    pub workers: u32,
+    /// The most periods of 20 ms of a round, 1 to 250.
+    pub batch: u32,
+    /// The most periods that a worker works of a job at a time, 1 to 250.
+    pub slice: u32,
+    /// The most periods of the run, 1 to 4,294,967,295.
+    pub periods: u32,
+}
+
+/// What the words ask for. The tools name a call, 1 to 1,024.
+#[derive(Clone, Copy, Debug, PartialEq, Eq)]
+pub enum Asked {
+    /// A run of all calls that orders open.
+    Run(Settings),
+    /// The good speech frames of a call's uplink, bits unchanged, on its downlink.
+    Relay(u32),
+    /// The listing of the frames of a call's uplink.
+    Frames(u32),
+    /// A call's Pcm line, encoded, on its downlink.
+    Encode(u32),
+    /// The good speech frames of a call's uplink, decoded, on its Out line.
+    Decode(u32),
+}
+
+/// Why words aren't taken.
+#[derive(Clone, Copy, Debug, Drop, PartialEq, Eq, Error)]
+pub enum WordsFault {
+    /// They ask for nothing.
+    #[error("usage")]
+    Usage,
+    #[error("no memory")]
+    Memory,
+}

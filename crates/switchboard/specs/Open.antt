@@ -1,0 +1,100 @@
+-- What a step of the board changes of who is open, and who is bridged with whom, with no history at hand.
+use Rattle.std.specs.Prelude.{◌≡◌, ℕ, ◌<◌, ◌≢◌, Bool, true, false, ◌||◌, if◌then◌else◌, ◌==◌, Option, Some, None, is_some, option_map, IfSome, IfOk, List}
+use Rattle.std.specs.List.{All}
+use Rattle.trau_orders.specs.Lists.{IsCall}
+use Rattle.switchboard.specs.declared.act.Act.{Act}
+use Rattle.switchboard.specs.declared.act.Act.TheVariants as act
+use Rattle.switchboard.specs.declared.act.Reply.{Reply}
+use Rattle.switchboard.specs.declared.table.Bridge.{Bridge}
+use Rattle.switchboard.specs.Calls.{is_this, opened_at, is_open}
+use Rattle.switchboard.specs.Bridges.{joins, other, bridge_of}
+use Rattle.switchboard.specs.Ends.{end_now}
+use Rattle.switchboard.specs.State.{State, gone_in}
+
+-- the calls that were ever opened
+abbrev pub opened_now : State → ℕ → Bool
+opened_now s c = is_some (opened_at c s.done)
+
+-- the calls that are open
+abbrev pub open_now : State → ℕ → Bool
+open_now s = is_open (gone_in s) s.done
+
+-- the partner of each bridged call
+abbrev pub partner_now : State → ℕ → Option ℕ
+partner_now s c = option_map (other c) (bridge_of (gone_in s) s.done c)
+
+-- Only open calls have partners, a call isn't its own partner, and each is the partner of its partner.
+pub record ArePairs (is_open : ℕ → Bool) (partner : ℕ → Option ℕ) : Type 0 where
+  pub both_ways : (c p : ℕ) → partner c ≡ Some p → partner p ≡ Some c
+  pub apart : (c p : ℕ) → partner c ≡ Some p → c ≢ p
+  pub both_open : (c p : ℕ) → partner c ≡ Some p → (is_open c ≡ true) × (is_open p ≡ true)
+
+-- ---- the end of a call n, whose partner is p
+
+abbrev pub open_without : ℕ → (ℕ → Bool) → ℕ → Bool
+open_without n is_open c = if c == n then false else is_open c
+
+-- neither the call nor its partner has one
+abbrev pub partner_without_both : ℕ → Option ℕ → (ℕ → Option ℕ) → ℕ → Option ℕ
+partner_without_both n p partner c = if c == n || is_this c p then None else partner c
+
+abbrev pub partner_without : ℕ → (ℕ → Option ℕ) → ℕ → Option ℕ
+partner_without n partner = partner_without_both n (partner n) partner
+
+-- ---- an accepted order
+
+-- there is a reply, it accepts its order, and P holds of the act
+abbrev pub IfAccepted : Option Reply → (Act → Type 0) → Type 0
+IfAccepted answer P = IfSome answer (λ reply. IfOk reply.result P)
+
+-- `open` opens its call
+abbrev pub opened_after : Act → (ℕ → Bool) → ℕ → Bool
+opened_after (act.Opened n) opened c = c == n || opened c
+opened_after _ opened c = opened c
+
+-- `open` opens its call, and `close` ends it.
+abbrev pub open_after : Act → (ℕ → Bool) → ℕ → Bool
+open_after (act.Opened n) is_open c = c == n || is_open c
+open_after (act.Closed n p) is_open c = open_without n is_open c
+open_after _ is_open c = is_open c
+
+-- `bridge` makes two calls partners; `unbridge`, and `close` of a bridged call, part them.
+abbrev pub partner_after : Act → (ℕ → Option ℕ) → ℕ → Option ℕ
+partner_after (act.Closed n p) partner c = partner_without_both n p partner c
+partner_after (act.Bridged a b) partner c = if c == a then Some b else if c == b then Some a else partner c
+partner_after (act.Unbridged a b) partner c = partner_without_both a (Some b) partner c
+partner_after _ partner c = partner c
+
+-- What an accepted order finds: a new number, or open calls; of calls to be bridged neither has a partner, and of those to be
+-- parted each is the other's.
+abbrev pub Finds : Act → (ℕ → Bool) → (ℕ → Bool) → (ℕ → Option ℕ) → Type 0
+Finds (act.Opened n) opened is_open partner = IsCall n × (opened n ≡ false)
+Finds (act.Closed n p) opened is_open partner = (is_open n ≡ true) × (partner n ≡ p)
+Finds (act.Bridged a b) opened is_open partner = (a ≢ b) × ((is_open a ≡ true) × (is_open b ≡ true)) × ((partner a ≡ None) × (partner b ≡ None))
+Finds (act.Unbridged a b) opened is_open partner = ((is_open a ≡ true) × (is_open b ≡ true)) × ((partner a ≡ Some b) × (partner b ≡ Some a))
+Finds (act.LevelSet n v) opened is_open partner = is_open n ≡ true
+Finds (act.DtxSet n m) opened is_open partner = is_open n ≡ true
+
+-- A bridge ended before period t, by an order or a told end, and no order of stamp t ended it.
+pub record HasEnded (told : ℕ → Option ℕ) (t : ℕ) (x : Bridge) : Type 0 where
+  pub at : ℕ
+  pub ended : end_now told x ≡ Some at
+  pub before : at < t
+  pub no_order : x.ended ≢ Some t
+
+-- all earlier bridges of a call have
+abbrev pub HasRested : (ℕ → Option ℕ) → List Bridge → ℕ → ℕ → Type 0
+HasRested told xs t c = All (λ x. joins c x ≡ true → HasEnded told t x) xs
+
+-- `bridge` at period t joins calls whose earlier bridges have ended.
+abbrev pub Rests : Act → (ℕ → Option ℕ) → List Bridge → ℕ → Type 0
+Rests (act.Bridged a b) told xs t = HasRested told xs t a × HasRested told xs t b
+Rests _ told xs t = Unit {0}
+
+-- ---- no change
+
+-- no call more was opened, the same are open, and each has the partner that it had
+pub record IsAsBefore (old new : State) : Type 0 where
+  pub opened : (c : ℕ) → opened_now new c ≡ opened_now old c
+  pub is_open : (c : ℕ) → open_now new c ≡ open_now old c
+  pub partner : (c : ℕ) → partner_now new c ≡ partner_now old c
