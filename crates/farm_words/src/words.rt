@@ -23,12 +23,14 @@ fn options_of_run(words: &[String]) -> Option<&[String]>
 ///
 /// | Words | What they ask for |
 /// |---|---|
-/// | `relay C`, `frames C`, `encode C`, `decode C` | a tool's work on call C, 1 to 1,024, in decimal digits without leading zeros |
+/// | `relay C`, `frames C`, `encode C`, `decode C` | a tool's work on call C, 1 to 1,024 |
 /// | `run` and its options | a run |
 ///
+/// Numbers are in decimal digits without leading zeros.
+///
 /// The options of `run` are `--workers` (1 to 64, else 4), `--batch` (1 to 250, else 50), `--slice` (1 to 250, else 5)
-/// and `--periods` (1 to 4,294,967,295, else that), each at most once and in any order, with a value in decimal digits
-/// without leading zeros as the next word or behind `=` in the same one. A last word `--` is taken.
+/// and `--periods` (1 to 4,294,967,295, else that), each at most once and in any order, with a value as the next word
+/// or behind `=` in the same one. A last word `--` is taken.
 ///
 /// Other words are `Usage`. `Memory` may come in place of any answer of `run`.
 pub fn read_words(alloc: Global, words: &[String]) -> Result<Asked, WordsFault>
