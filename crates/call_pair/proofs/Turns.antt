@@ -1,10 +1,10 @@
 -- What one turn of a job keeps.
-use Rattle.std.proofs.Common.{◌≡◌, ℕ, zero, suc, ◌+◌, ◌-◌, ◌<◌, max, ltb, Bool, true, false, refl, ap, arith}
+use Rattle.std.proofs.Common.{◌≡◌, ℕ, zero, suc, ◌+◌, ◌-◌, ◌<◌, max, ltb, Bool, true, false, refl, ap, ◌∙◌, arith}
 use Rattle.std.proofs.lemmas.Bool.Decides.{nat_tests}
 use Rattle.call_pair.specs.Memory.{HalfMemory, places_left}
 use Rattle.call_pair.specs.Places.{has_place}
 use Rattle.call_pair.specs.Turn.{turned, pair_turned}
-use Rattle.call_pair.specs.Jobs.{job_left, job_call, after_turns, finished}
+use Rattle.call_pair.specs.Jobs.{job_left, job_call, after_turns, finished, has_call}
 use Rattle.call_pair.specs.declared.job.Job.{Job}
 use Rattle.call_pair.specs.declared.job.Job.TheVariants.{One, Two}
 
@@ -51,3 +51,22 @@ run_more n (suc m) job e = let k : n ≡ m = omega arith in ap (λ (i : ℕ). af
 
 pub turn_finish : (job : Job) → 0 < job_left job → finished (turned job) ≡ finished job
 turn_finish job some = run_more (job_left (turned job)) (job_left job) job (turn_left job some)
+
+one_keeps : (h : HalfMemory) (call : ℕ) (b : Bool) → has_place h.io ≡ b → has_call (turned (One h)) call ≡ has_call (One h) call
+one_keeps h call true e = rw e refl
+one_keeps h call false e = rw e refl
+
+pair_keeps : (a b : HalfMemory) (call : ℕ) (x y : Bool) → has_call (pair_turned a b x y) call ≡ has_call (Two a b) call
+pair_keeps a b call true true = refl
+pair_keeps a b call true false = refl
+pair_keeps a b call false true = refl
+pair_keeps a b call false false = refl
+
+turn_keeps : (job : Job) (call : ℕ) → has_call (turned job) call ≡ has_call job call
+turn_keeps (One h) call = one_keeps h call (has_place h.io) refl
+turn_keeps (Two a b) call = pair_keeps a b call (has_place a.io) (has_place b.io)
+
+-- turns keep the calls of a job
+pub turns_keep : (n : ℕ) (job : Job) (call : ℕ) → has_call (after_turns n job) call ≡ has_call job call
+turns_keep zero job call = refl
+turns_keep (suc n) job call = turns_keep n (turned job) call ∙ turn_keeps job call

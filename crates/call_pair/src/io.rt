@@ -26,8 +26,9 @@ pub struct LegIo {
     pub pcm: Vec<u8>,
     pub out: Vec<u8>,
     pub down: Vec<u8>,
-    /// How many periods are given, and how many of them are done.
+    /// How many periods are given.
     pub given: u32,
+    /// How many of them are done.
     pub done: u32,
 }
 
@@ -103,7 +104,7 @@ impl LegIo {
         self.done < self.given
     }
 
-    // The octets of the next place of the Up line ..
+    /// The octets of the next place of the Up line ..
     pub(crate) fn up_next(&self) -> [u8; 40]
         requires { has_place self.now ≡ true }
         ensures { result ≡ up_at self.now.done self.now }
@@ -114,7 +115,7 @@ impl LegIo {
         octets
     }
 
-    // .. and of the Pcm line.
+    /// .. and of the Pcm line.
     pub(crate) fn pcm_next(&self) -> [u8; 160]
         requires { has_place self.now ≡ true }
         ensures { result ≡ pcm_at self.now.done self.now }
@@ -125,7 +126,7 @@ impl LegIo {
         octets
     }
 
-    // Writes the octets of the next place of the Out line ..
+    /// Writes the octets of the next place of the Out line ..
     pub(crate) fn put_out(&mut self, octets: &[u8; 160])
         requires { has_place self.old ≡ true }
         ensures { self.new ≡ with_out self.old octets.now }
@@ -134,7 +135,7 @@ impl LegIo {
         self.out[start..start + 160].copy_from_slice(octets);
     }
 
-    // .. and of the Down line, with which the place is done.
+    /// .. and of the Down line, with which the place is done.
     pub(crate) fn put_down(&mut self, octets: &[u8; 40])
         requires { has_place self.old ≡ true }
         ensures io { self.new ≡ with_place self.old octets.now }

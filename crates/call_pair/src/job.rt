@@ -1,6 +1,6 @@
 //! A job of one call, or of the two calls of a bridge.
 
-ghost use Rattle.std.specs.Prelude.{◌≡◌, ◌+◌, ◌≤◌, ◌↔◌, IsTrue};
+ghost use Rattle.std.specs.Prelude.{◌≡◌, ◌+◌, ◌<◌, ◌≤◌, ◌↔◌, IsTrue};
 ghost use Rattle.call_pair.specs.Memory.{places_left};
 ghost use Rattle.call_pair.specs.Turn.{turned, pair_turned};
 ghost use Rattle.call_pair.specs.Places.{has_place};
@@ -23,7 +23,7 @@ pub enum Job {
 impl Half {
     // Puts octets in place of the half's own.
     fn swap(&mut self, io: LegIo) -> LegIo
-        requires { self.old.leg.search.periods + places_left io ≤ 4294967295 }
+        requires { 0 < places_left io → self.old.leg.search.periods + places_left io ≤ 4294967295 }
         ensures half { self.new ≡ half_with self.old io }
         ensures io { result ≡ self.old.io }
     {
@@ -33,10 +33,10 @@ impl Half {
 
 impl Job {
     /// Puts octets in place of those that their call had, and gives these. The job has that call, and the leg has worked
-    /// so few periods that the call can have those that are given.
+    /// so few periods that the call can have those that are left.
     pub fn swap_io(&mut self, io: LegIo) -> LegIo
         requires call { IsTrue (has_call self.old io.call) }
-        requires periods { (half_of self.old io.call).leg.search.periods + places_left io ≤ 4294967295 }
+        requires periods { 0 < places_left io → (half_of self.old io.call).leg.search.periods + places_left io ≤ 4294967295 }
         ensures job { self.new ≡ with_io self.old io }
         ensures octets { result ≡ (half_of self.old io.call).io }
     {

@@ -40,7 +40,7 @@ fn work_down(leg: &mut Leg, io: &mut LegIo)
 }
 
 impl Half {
-    // A period that lies in no bridge.
+    /// A period that lies in no bridge.
     pub(crate) fn work_alone(&mut self)
         requires { has_place self.old.io ≡ true }
         ensures { self.new ≡ alone self.old }
@@ -49,7 +49,7 @@ impl Half {
         work_down(&mut self.leg, &mut self.io);
     }
 
-    // A period after the partner's places, which are so many: the bridge is off.
+    /// A period after the partner's places, which are so many: the bridge is off.
     pub(crate) fn work_left_alone(&mut self, others: u32)
         requires { has_place self.old.io ≡ true }
         ensures { self.new ≡ left_alone self.old others }
@@ -61,8 +61,8 @@ impl Half {
     }
 }
 
-// A period within a bridge: both uplink halves, then each call's effective frame is handed to the other, then both
-// downlink halves.
+/// A period within a bridge: both uplink halves, then each call's effective frame is handed to the other, then both
+/// downlink halves.
 pub(crate) fn work_bridged(a: &mut Half, b: &mut Half)
     requires first { has_place a.old.io ≡ true }
     requires second { has_place b.old.io ≡ true }

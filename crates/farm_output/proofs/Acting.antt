@@ -1,8 +1,8 @@
 -- What each act changes of what is set for a call.
-use Rattle.std.proofs.Common.{◌≡◌, refl, sym, ap, ◌∙◌, subst, ℕ, ◌≤◌, ◌≢◌, Bool, true, false, Option, Some, None, List, [], ◌∷◌, ◌++◌, map, inl, inr, ◌⊎◌, arith}
-use Rattle.std.specs.Prelude.{ℤ, pos, not, ◌&&◌, ◌||◌, is_some, is_none, option_map, find, Result, Ok, Err, ◌==◌, if◌then◌else◌}
-use Rattle.std.specs.List.{AllByRecursion, list_any, All}
-use Rattle.std.proofs.lemmas.Bool.{and_parts, and_from, and_right, cases_Bool, eq-eqb, ne_eqb, eqb-true, eqb-false, or_cases, or_left, or_right, or_from, or_parts, false_from_ne_true}
+use Rattle.std.proofs.Common.{◌≡◌, refl, sym, ap, ◌∙◌, subst, ℕ, ◌≤◌, ◌≢◌, Bool, true, false, Option, Some, None, List, [], ◌∷◌, ◌++◌, map, inl, inr, arith}
+use Rattle.std.specs.Prelude.{ℤ, pos, not, ◌&&◌, ◌||◌, is_some, option_map, find, Result, Ok, Err, ◌==◌, if◌then◌else◌}
+use Rattle.std.specs.List.{AllByRecursion, list_any}
+use Rattle.std.proofs.lemmas.Bool.{and_parts, and_from, cases_Bool, eq-eqb, ne_eqb, eqb-true, eqb-false, or_cases, or_from, or_parts, false_from_ne_true}
 use Rattle.trau_orders.specs.declared.order.Order.{Order}
 use Rattle.trau_orders.specs.declared.order.DtxMode.{DtxMode}
 use Rattle.trau_orders.specs.declared.order.DtxMode.TheVariants.{Uplink}
@@ -21,7 +21,7 @@ use Rattle.farm_output.specs.Now.{IsSoFar, settings_now, changed_by}
 use Rattle.farm_output.proofs.Lists.{each_weaker, each_both, find_none, found, one_found, none_each, any_none}
 use Rattle.farm_output.proofs.Executing.{AreReplies, run_replies, last_reply}
 use Rattle.farm_output.proofs.Showing.{ShownBy, shown}
-use Rattle.farm_output.proofs.Standing.{IsSoundBridge, Standing, open_facts, opened_kept, lasts_from, standing_one}
+use Rattle.farm_output.proofs.Standing.{IsSoundBridge, Standing, open_facts, lasts_from, standing_one}
 use Rattle.farm_output.proofs.SoFar.{standing_now}
 use Rattle.farm_output.proofs.Bridging.{bridge_each, joins_other, same_settings}
 use Rattle.farm_output.proofs.Ordering.{level-more, mode-more, unset, starts-more, lasts_more, open_more, lasted, lasts_same, bridged_more, bridged_kept, bridged_off, bridged_quiet}
@@ -151,13 +151,13 @@ closed_partner whole t u ds o d p z s l e =
 other_is : (c d : ℕ) (z : Bridge) → joins c z ≡ true → joins d z ≡ true → c ≢ d → c ≡ other d z
 other_is c d z j k n = elim (cases_Bool (d == z.a)) [
   | inl e ↦ elim (or_cases (c == z.a) (c == z.b) j) [
-      | inl f ↦ absurd (n (eqb-true c z.a f ∙ sym (eqb-true d z.a e)))
-      | inr f ↦ eqb-true c z.b f ∙ sym (ap (λ (t : Bool). if t then z.b else z.a) e)
-    ]
+    | inl f ↦ absurd (n (eqb-true c z.a f ∙ sym (eqb-true d z.a e)))
+    | inr f ↦ eqb-true c z.b f ∙ sym (ap (λ (t : Bool). if t then z.b else z.a) e)
+  ]
   | inr e ↦ elim (or_cases (c == z.a) (c == z.b) j) [
-      | inl f ↦ eqb-true c z.a f ∙ sym (ap (λ (t : Bool). if t then z.b else z.a) e)
-      | inr f ↦ elim (or_cases (d == z.a) (d == z.b) k) [ inl g ↦ absurd (no _ e g) | inr g ↦ absurd (n (eqb-true c z.b f ∙ sym (eqb-true d z.b g))) ]
-    ]
+    | inl f ↦ eqb-true c z.a f ∙ sym (ap (λ (t : Bool). if t then z.b else z.a) e)
+    | inr f ↦ elim (or_cases (d == z.a) (d == z.b) k) [ inl g ↦ absurd (no _ e g) | inr g ↦ absurd (n (eqb-true c z.b f ∙ sym (eqb-true d z.b g))) ]
+  ]
 ]
 
 closed_other : (whole : ℕ → ℕ) (t u : ℕ) (ds : List Done) (o : Order) (c d : ℕ) (p : Option ℕ) → Standing whole u ds → u ≤ t → p ≡ option_map (other d) (bridge_of (gone_at whole t ds) ds d) →

@@ -1,9 +1,8 @@
 -- The bridge of a call, from period to period.
-use Rattle.std.proofs.Common.{◌≡◌, refl, sym, ap, ◌∙◌, subst, ℕ, ◌+◌, ◌<◌, ◌≤◌, Bool, true, false, Option, Some, None, List, [], ◌∷◌, ◌++◌, inl, inr, arith}
-use Rattle.std.specs.Prelude.{ℤ, pos, not, ◌&&◌, ◌||◌, is_some, is_none, option_map, find, nat_lt, ◌==◌, if◌then◌else◌}
-use Rattle.std.specs.List.{AllByRecursion, list_any}
-use Rattle.std.proofs.lemmas.Bool.{and_parts, and_from, cases_Bool, lt-ltb, le-ltb, ltb-true, ne_eqb, eq-eqb, eqb-true, or_cases, or_left, or_right, false_from_ne_true, cases_lt}
-use Rattle.trau_orders.specs.declared.order.Order.{Order}
+use Rattle.std.proofs.Common.{◌≡◌, refl, sym, ap, ◌∙◌, ℕ, ◌+◌, ◌<◌, ◌≤◌, Bool, true, false, Option, Some, None, List, inl, inr, arith}
+use Rattle.std.specs.Prelude.{ℤ, pos, not, ◌&&◌, is_some, is_none, nat_lt, ◌==◌, if◌then◌else◌}
+use Rattle.std.specs.List.{list_any}
+use Rattle.std.proofs.lemmas.Bool.{and_parts, and_from, lt-ltb, le-ltb, ltb-true, ne_eqb, eq-eqb, or_left, or_right, cases_lt}
 use Rattle.trau_orders.specs.declared.order.DtxMode.{DtxMode}
 use Rattle.trau_orders.specs.declared.order.DtxMode.TheVariants.{Uplink}
 use Rattle.switchboard.specs.declared.table.Bridge.{Bridge}
@@ -12,11 +11,10 @@ use Rattle.switchboard.specs.Bridges.{bridges, joins, other, lasts, bridge_of}
 use Rattle.switchboard.specs.Ends.{start_of}
 use Rattle.call_leg.specs.Settings.{Settings, later, without_bridge}
 use Rattle.farm_output.specs.Run.{Run, whole_in, level_after, mode_after}
-use Rattle.farm_output.specs.Now.{IsSoFar, has_period, bridge_now, settings_now, settings_in}
-use Rattle.farm_output.proofs.Lists.{each_weaker, each_both, find_same, find_and, found, one_found, none_each, any_none}
+use Rattle.farm_output.specs.Now.{has_period, bridge_now, settings_now, settings_in}
+use Rattle.farm_output.proofs.Lists.{each_weaker, find_same, find_and, found, one_found, none_each, any_none}
 use Rattle.farm_output.proofs.Standing.{IsSoundBridge, Standing, open_from, gone_is, standing_one}
-use Rattle.farm_output.proofs.Settling.{start_is, has, joined_now}
-use Rattle.farm_output.proofs.SoFar.{standing_now}
+use Rattle.farm_output.proofs.Settling.{start_is, has}
 
 no : (t : Bool) → t ≡ false → t ≡ true → ⊥
 no t p q = cc

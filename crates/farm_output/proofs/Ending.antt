@@ -1,8 +1,8 @@
 -- The ends of calls, known in their round.
-use Rattle.std.proofs.Common.{◌≡◌, refl, sym, ap, ◌∙◌, subst, ℕ, ◌+◌, ◌<◌, ◌≤◌, Bool, true, false, Option, Some, None, List, [], ◌∷◌, ◌++◌, map, inl, inr, ◌⊎◌, arith}
-use Rattle.std.specs.Prelude.{IfSome, not, nat_le, nat_lt, filter, ◌==◌, if◌then◌else◌}
-use Rattle.std.specs.List.{AllByRecursion}
-use Rattle.std.proofs.lemmas.Bool.{le-leb, lt-leb, le-ltb, lt-ltb}
+use Rattle.std.proofs.Common.{◌≡◌, refl, sym, ap, ◌∙◌, subst, ℕ, ◌+◌, ◌<◌, ◌≤◌, Bool, Option, Some, None, List, [], ◌∷◌, ◌++◌, map, arith, true, false}
+use Rattle.std.specs.Prelude.{is_some, length, IfSome, not, nat_le, nat_lt, filter, if◌then◌else◌}
+use Rattle.std.specs.List.{AllByRecursion, range_with_len}
+use Rattle.std.proofs.lemmas.Bool.{leb-true, le-leb, lt-leb, le-ltb, lt-ltb}
 use Rattle.std.proofs.lemmas.List.{append-nil}
 use Rattle.std.proofs.lemmas.List.Elements.{filter-append, recursion_from_All}
 use Rattle.trau_io.specs.declared.ends.Cause.TheVariants.{Closed, Limit}
@@ -10,16 +10,18 @@ use Rattle.trau_io.specs.declared.ends.CallEnd.{CallEnd}
 use Rattle.trau_orders.specs.declared.order.Order.{Order}
 use Rattle.switchboard.specs.Calls.{Done, opened_at, closed_at}
 use Rattle.switchboard.specs.Runs.{left_of}
-use Rattle.switchboard.specs.State.{first_stamp}
-use Rattle.switchboard.specs.Ends.{Given, whole_of, lack_of, end_of}
+use Rattle.switchboard.specs.State.{first_stamp, numbered}
+use Rattle.switchboard.specs.Ends.{Given, whole_of, lack_of, end_of, spans_of, ends_at}
 use Rattle.switchboard.proofs.Appending.{or_else}
 use Rattle.farm_output.specs.Run.{Run, given_in, whole_in, done_in}
+use Rattle.trau_io.specs.declared.line.Line.{Line}
+use Rattle.farm_report.specs.View.{ReportView}
+use Rattle.farm_output.specs.Facts.{call_line, span_line, report_of}
 use Rattle.farm_output.specs.Now.{IsSoFar, NoOrderTo}
-use Rattle.farm_output.proofs.Lists.{each_weaker, each_map}
 use Rattle.farm_output.proofs.Executing.{closed-append, added}
-use Rattle.farm_output.proofs.Standing.{Standing, closed_kept, opened_kept}
-use Rattle.farm_output.proofs.Settling.{closed_stamp}
-use Rattle.farm_output.proofs.SoFar.{Rises, left_rises, rest_in, done-rest, rest_above, standing_rest}
+use Rattle.farm_output.proofs.Standing.{closed_kept, opened_kept}
+use Rattle.farm_output.proofs.Settling.{closed_stamp, at_of, ends_by}
+use Rattle.farm_output.proofs.SoFar.{Rises, left_rises, rest_in, done-rest, rest_above, standing_rest, rest_from, standing_end}
 
 abbrev end_by : (ℕ → Given) → ℕ → ℕ → ℕ → Option ℕ → CallEnd
 end_by given P c s o = elim o [
@@ -97,3 +99,58 @@ pub end_limit : (r : Run) (t : ℕ) (ds : List Done) (left : List Order) (c s : 
 end_limit r t ds left c s so n l e =
     ap (end_by (given_in r) r.periods c s) (ap (closed_at c) (all_done r t ds left so n) ∙ l)
     ∙ ap (λ (b : Bool). if b then record { call = c; at = r.periods; cause = Limit } else record { call = c; at = s + whole_in r c; cause = lack_of (whole_in r c) (given_in r c) }) (le-leb r.periods (s + whole_in r c) e)
+
+-- **The report, once all orders of the run were executed.**
+pub report_end : (r : Run) (t : ℕ) (ds : List Done) (left : List Order) (failed : List Line) → IsSoFar r t ds left → IfSome (first_stamp left) (λ s. r.periods ≤ s) →
+    report_of r failed ≡ record {
+      replies = numbered 0 ds;
+      spans = map (span_line r) (spans_of (given_in r) r.periods ds);
+      calls = map (call_line r) (filter (λ c. is_some (opened_at c ds)) (range_with_len 1 4096));
+      failed = failed;
+      left = length left;
+    }
+report_end r t ds left failed so n =
+    ap {B = ReportView} (λ ds. record {
+      replies = numbered 0 ds;
+      spans = map (span_line r) (spans_of (given_in r) r.periods ds);
+      calls = map (call_line r) (filter (λ c. is_some (opened_at c ds)) (range_with_len 1 4096));
+      failed = failed;
+      left = length (left_of r.periods r.orders);
+    }) (all_done r t ds left so n)
+    ∙ ap {B = ReportView} (λ os. record {
+      replies = numbered 0 ds;
+      spans = map (span_line r) (spans_of (given_in r) r.periods ds);
+      calls = map (call_line r) (filter (λ c. is_some (opened_at c ds)) (range_with_len 1 4096));
+      failed = failed;
+      left = length os;
+    }) (all_left r t ds left so n)
+
+-- ---- where a call's lines end it, whatever orders come there
+
+one_value : (v : Option ℕ) (a b : ℕ) → v ≡ Some a → v ≡ Some b → a ≡ b
+one_value v a b e f = cc
+
+-- **The lines end a call where they lack a period, also where an order of that period closes it.**
+pub ends_there : (r : Run) (ds : List Done) (left : List Order) (c s : ℕ) → IsSoFar r (s + whole_in r c) ds left → opened_at c ds ≡ Some s → closed_at c ds ≡ None → s + whole_in r c ≤ r.periods →
+    ends_at (given_in r) r.periods (done_in r) c ≡ s + whole_in r c
+ends_there r ds left c s so o l e = by (closed_at c (rest_in r ds left)) refl
+  where
+    opened : opened_at c (done_in r) ≡ Some s
+    opened = ap (opened_at c) (done-rest r (s + whole_in r c) ds left so) ∙ opened_kept ds (rest_in r ds left) c s o
+
+    closed : (v : Option ℕ) → closed_at c (rest_in r ds left) ≡ v → closed_at c (done_in r) ≡ v
+    closed v f = ap (closed_at c) (done-rest r (s + whole_in r c) ds left so) ∙ closed-append c ds (rest_in r ds left) ∙ ap (λ u. or_else u (closed_at c (rest_in r ds left))) l ∙ f
+
+    there : (b : Bool) → nat_le r.periods (s + whole_in r c) ≡ b →
+        at_of (if b then record { call = c; at = r.periods; cause = Limit } else record { call = c; at = s + whole_in r c; cause = lack_of (whole_in r c) (given_in r c) }) ≡ s + whole_in r c
+    there true f = let g = leb-true r.periods (s + whole_in r c) f in omega arith
+    there false f = refl
+
+    by : (v : Option ℕ) → closed_at c (rest_in r ds left) ≡ v → ends_at (given_in r) r.periods (done_in r) c ≡ s + whole_in r c
+    by None f = ends_by (given_in r) r.periods (done_in r) c s None opened (closed None f) ∙ there (nat_le r.periods (s + whole_in r c)) refl
+    by (Some w) f =
+        let k = (standing_end r so.orders).closed c w (closed (Some w) f) in
+        let m : k.start ≡ s = one_value (opened_at c (done_in r)) k.start s k.opened opened in
+        let low : s + whole_in r c ≤ w = subst (λ (v : Option ℕ). IfSome v (λ w. s + whole_in r c ≤ w)) f (closed_stamp (λ w. s + whole_in r c ≤ w) c (rest_in r ds left) (rest_from r (s + whole_in r c) ds left so)) in
+        let high : w ≤ k.start + whole_in r c = k.alive in
+        ends_by (given_in r) r.periods (done_in r) c s (Some w) opened (closed (Some w) f) ∙ let q : w ≡ s + whole_in r c = omega (arith, m) in q

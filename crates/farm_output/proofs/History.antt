@@ -2,7 +2,7 @@
 use Rattle.std.proofs.Common.{◌≡◌, refl, sym, ap, ◌∙◌, subst, ℕ, zero, suc, ◌+◌, ◌<◌, ◌≤◌, min, Bool, true, false, Option, Some, None, List, [], ◌∷◌, ◌++◌, inl, inr, ◌⊎◌, arith}
 use Rattle.std.specs.Prelude.{Result, Ok, Err, ◌&&◌, ◌||◌, is_some, option_map, unwrap_or, find, nat_le, nat_lt, ◌==◌, if◌then◌else◌}
 use Rattle.std.specs.List.{AllByRecursion, list_any}
-use Rattle.std.proofs.lemmas.Bool.{and_parts, and_from, cases_Bool, leb-true, lt-leb, le-leb, ltb-true, lt-ltb, le-ltb, eq-eqb, eqb-true, eqb-false, or_cases, or_left, or_right, true_from_ne_false, false_from_ne_true}
+use Rattle.std.proofs.lemmas.Bool.{and_parts, and_from, cases_Bool, leb-true, lt-leb, le-leb, ltb-true, lt-ltb, le-ltb, eq-eqb, eqb-true, eqb-false, or_cases, or_left, or_right, true_from_ne_false}
 use Rattle.trau_orders.specs.Lists.{AreOrders}
 use Rattle.trau_io.specs.declared.ends.Cause.TheVariants.{Limit}
 use Rattle.switchboard.specs.declared.act.Act.{Act}
@@ -16,7 +16,7 @@ use Rattle.call_leg.specs.Down.{down_periods}
 use Rattle.down_framer.specs.Bridges.{IsHistory, AreApart}
 use Rattle.down_framer.proofs.FrameLaws.{apart}
 use Rattle.farm_output.specs.Run.{Run, given_in, whole_in, done_in, spans_in, is_of, span_at, handed_to, period_of, periods_to}
-use Rattle.farm_output.proofs.Lists.{each_append, each_weaker, find_none, find_map, found, none_each, any_map, none_any}
+use Rattle.farm_output.proofs.Lists.{each_weaker, find_none, find_map, found, none_each, any_map, none_any}
 use Rattle.farm_output.proofs.Standing.{IsSoundBridge, NeverOverlap, Standing, RisesFrom, is_before, over_by, gone_is}
 use Rattle.farm_output.proofs.Settling.{bridge_stamps, end_by, at_of, to_of, ends_by, start_is, covers}
 use Rattle.farm_output.proofs.SoFar.{run_rises, standing_end}
@@ -47,20 +47,21 @@ ends_within given P ds c s st o = by (closed_at c ds) refl
         let y : t ≤ s + whole_of (given c) = omega (arith, m) in
         subst (λ (n : ℕ). n ≤ s + whole_of (given c)) (sym f) y
 
-over_covers : (given : ℕ → Given) (P v : ℕ) (ds : List Done) (x : Bridge) → Standing (λ c. whole_of (given c)) P ds → IsSoundBridge (λ c. whole_of (given c)) P ds x →
-    over_by (λ c. whole_of (given c)) (v + 1) ds x ≡ true → nat_lt v (to_of (span_of given P ds x)) ≡ false
-over_covers given P v ds x s y o = elim (or_cases (is_before (v + 1) x.ended) (gone_at whole (v + 1) ds x.a || gone_at whole (v + 1) ds x.b) o) [
+-- a bridge that was over by some period has its span's end before
+pub over_within : (given : ℕ → Given) (P v : ℕ) (ds : List Done) (x : Bridge) → Standing (λ c. whole_of (given c)) P ds → IsSoundBridge (λ c. whole_of (given c)) P ds x →
+    over_by (λ c. whole_of (given c)) v ds x ≡ true → to_of (span_of given P ds x) < v
+over_within given P v ds x s y o = elim (or_cases (is_before v x.ended) (gone_at whole v ds x.a || gone_at whole v ds x.b) o) [
   | inl p ↦ by_order x.ended refl p
-  | inr p ↦ elim (or_cases (gone_at whole (v + 1) ds x.a) (gone_at whole (v + 1) ds x.b) p) [
-      | inl q ↦
-          let m : ea ≤ y.start_a + whole x.a = ends_within given P ds x.a y.start_a s y.opened_a in
-          let l : y.start_a + whole x.a < v + 1 = ltb-true (y.start_a + whole x.a) (v + 1) (sym (gone_is whole (v + 1) ds x.a y.start_a y.opened_a) ∙ q) in
-          le-ltb v (min (unwrap_or x.ended (min ea eb)) (min ea eb)) (omega arith)
-      | inr q ↦
-          let m : eb ≤ y.start_b + whole x.b = ends_within given P ds x.b y.start_b s y.opened_b in
-          let l : y.start_b + whole x.b < v + 1 = ltb-true (y.start_b + whole x.b) (v + 1) (sym (gone_is whole (v + 1) ds x.b y.start_b y.opened_b) ∙ q) in
-          le-ltb v (min (unwrap_or x.ended (min ea eb)) (min ea eb)) (omega arith)
-    ]
+  | inr p ↦ elim (or_cases (gone_at whole v ds x.a) (gone_at whole v ds x.b) p) [
+    | inl q ↦
+        let m : ea ≤ y.start_a + whole x.a = ends_within given P ds x.a y.start_a s y.opened_a in
+        let l : y.start_a + whole x.a < v = ltb-true (y.start_a + whole x.a) v (sym (gone_is whole v ds x.a y.start_a y.opened_a) ∙ q) in
+        least (unwrap_or x.ended (min ea eb)) ea eb v (inl (omega arith))
+    | inr q ↦
+        let m : eb ≤ y.start_b + whole x.b = ends_within given P ds x.b y.start_b s y.opened_b in
+        let l : y.start_b + whole x.b < v = ltb-true (y.start_b + whole x.b) v (sym (gone_is whole v ds x.b y.start_b y.opened_b) ∙ q) in
+        least (unwrap_or x.ended (min ea eb)) ea eb v (inr (omega arith))
+  ]
 ]
   where
     whole : ℕ → ℕ
@@ -72,15 +73,26 @@ over_covers given P v ds x s y o = elim (or_cases (is_before (v + 1) x.ended) (g
     eb : ℕ
     eb = ends_at given P ds x.b
 
-    by_order : (o : Option ℕ) → x.ended ≡ o → is_before (v + 1) x.ended ≡ true → nat_lt v (min (unwrap_or x.ended (min ea eb)) (min ea eb)) ≡ false
-    by_order None e p = absurd (no _ (ap (is_before (v + 1)) e) p)
+    least : (u a b v : ℕ) → (a < v) ⊎ (b < v) → min u (min a b) < v
+    least u a b v (inl h) = omega arith
+    least u a b v (inr h) = omega arith
+
+    by_order : (o : Option ℕ) → x.ended ≡ o → is_before v x.ended ≡ true → min (unwrap_or x.ended (min ea eb)) (min ea eb) < v
+    by_order None e p = absurd (no _ (ap (is_before v) e) p)
     by_order (Some w) e p =
-        let l : w < v + 1 = ltb-true w (v + 1) (sym (ap (is_before (v + 1)) e) ∙ p) in
-        ap (λ o. nat_lt v (min (unwrap_or o (min ea eb)) (min ea eb))) e ∙ le-ltb v (min w (min ea eb)) (omega arith)
+        let l : w < v = ltb-true w v (sym (ap (is_before v) e) ∙ p) in
+        subst (λ (o : Option ℕ). min (unwrap_or o (min ea eb)) (min ea eb) < v) (sym e) (below w (min ea eb) v l)
+      where
+        below : (w m v : ℕ) → w < v → min w m < v
+        below w m v l = omega arith
+
+over_covers : (given : ℕ → Given) (P v : ℕ) (ds : List Done) (x : Bridge) → Standing (λ c. whole_of (given c)) P ds → IsSoundBridge (λ c. whole_of (given c)) P ds x →
+    over_by (λ c. whole_of (given c)) (v + 1) ds x ≡ true → nat_lt v (to_of (span_of given P ds x)) ≡ false
+over_covers given P v ds x s y o = let l = over_within given P (v + 1) ds x s y o in le-ltb v (to_of (span_of given P ds x)) (omega arith)
 
 -- ---- bridges begin one after another
 
-abbrev FromsRise : List Bridge → Type 0
+abbrev pub FromsRise : List Bridge → Type 0
 FromsRise [] = Unit {0}
 FromsRise (x ∷ xs) = AllByRecursion (λ y. x.from ≤ y.from) xs × FromsRise xs
 
@@ -88,7 +100,7 @@ from_above : (t : ℕ) (ds : List Done) → RisesFrom t ds → AllByRecursion (�
 from_above t [] h = tt
 from_above t (d ∷ ds) h = (h.0, each_weaker (λ e. d.order.stamp ≤ e.order.stamp) _ ds (λ e k. let l = h.0 in omega arith) (from_above d.order.stamp ds h.1))
 
-bridges_rise : (t : ℕ) (ds : List Done) → RisesFrom t ds → FromsRise (bridges ds)
+pub bridges_rise : (t : ℕ) (ds : List Done) → RisesFrom t ds → FromsRise (bridges ds)
 bridges_rise t [] h = tt
 bridges_rise t (d ∷ ds) h = by d.order.stamp d.result (bridges ds) (bridge_stamps (λ s. d.order.stamp ≤ s) ds (from_above d.order.stamp ds h.1)) (bridges_rise d.order.stamp ds h.1)
   where
@@ -126,8 +138,7 @@ apart_covers given P v c ds (x ∷ xs) s n f h e = elim (cases_Bool (joins c x &
   | inr p ↦
       let later : list_any (λ y. joins c y && y.from == v + 1) xs ≡ true = rest (joins c x && x.from == v + 1) (list_any (λ y. joins c y && y.from == v + 1) xs) p e in
       let y = any_each (λ y. (c : ℕ) → joins c x ≡ true → joins c y ≡ true → over_by (λ c. whole_of (given c)) y.from ds x ≡ true) (λ y. joins c y && y.from == v + 1) xs later n.0 in
-      let q = and_parts (joins c y.0) (y.0.from == v + 1) y.1 in
-      (
+      let q = and_parts (joins c y.0) (y.0.from == v + 1) y.1 in (
         past (joins c x) (nat_le x.from v) _ (λ j. over_covers given P v ds x s h.0 (subst (λ (u : ℕ). over_by (λ c. whole_of (given c)) u ds x ≡ true) (eqb-true y.0.from (v + 1) q.1) (y.2 c j q.0))),
         apart_covers given P v c ds xs s n.1 f.1 h.1 later,
       )
@@ -162,7 +173,7 @@ apart_before r c v a e =
     (apart_covers (given_in r) r.periods v c (done_in r) (bridges (done_in r)) s s.apart (bridges_rise 0 (done_in r) (run_rises r a)) s.sound (sym (begins_is r c (v + 1)) ∙ e)))
 
 -- the bridge that covers a period
-covering : (r : Run) (c t : ℕ) → AreOrders r.orders → is_some (handed_to r c t) ≡ true →
+pub covering : (r : Run) (c t : ℕ) → AreOrders r.orders → is_some (handed_to r c t) ≡ true →
     (x : Bridge) × (find (λ x. covers c t (span_of (given_in r) r.periods (done_in r) x)) (bridges (done_in r)) ≡ Some x) × IsSoundBridge (whole_in r) r.periods (done_in r) x
     × (joins c x ≡ true) × (x.from ≤ t) × (t < to_of (span_of (given_in r) r.periods (done_in r) x))
 covering r c t a e = by (find test (bridges (done_in r))) refl (sym (handed_some r c t) ∙ e)
@@ -196,8 +207,8 @@ goes_on r c v a e =
           let m : v + 1 < to_of (span_of (given_in r) r.periods (done_in r) x.0) = x.5 in
           let low : x.0.from ≤ v = below x.0.from v l n in
           or_right (begins r c (v + 1)) (is_some (handed_to r c v)) (handed_some r c v ∙ true_from_ne_false _ (λ g.
-            no _ (found (λ y. covers c v (span_of (given_in r) r.periods (done_in r) y) ≡ false) (λ x. covers c (v + 1) (span_of (given_in r) r.periods (done_in r) x)) (bridges (done_in r)) x.0 (none_each _ (bridges (done_in r)) (none _ g)) x.1).0
-            (and_from _ _ (and_from _ _ x.3 (le-leb x.0.from v low)) (lt-ltb v _ (omega arith)))))
+          no _ (found (λ y. covers c v (span_of (given_in r) r.periods (done_in r) y) ≡ false) (λ x. covers c (v + 1) (span_of (given_in r) r.periods (done_in r) x)) (bridges (done_in r)) x.0 (none_each _ (bridges (done_in r)) (none _ g)) x.1).0
+          (and_from _ _ (and_from _ _ x.3 (le-leb x.0.from v low)) (lt-ltb v _ (omega arith)))))
     ]
   where
     below : (a b : ℕ) → a ≤ b + 1 → (a ≡ b + 1 → ⊥) → a ≤ b
@@ -232,8 +243,7 @@ periods_apart r c (suc zero) a =
     let e : start_of (done_in r) c + 0 ≡ start_of (done_in r) c = omega arith in
     (tt, λ p. refl, λ p. or_left _ false (ap (begins r c) e ∙ starts_first r c a (ap (λ t. is_some (handed_to r c t)) (sym e) ∙ p)))
 periods_apart r c (suc (suc k)) a =
-    let s = start_of (done_in r) c in
-    (
+    let s = start_of (done_in r) c in (
       periods_apart r c (suc k) a,
       λ p. apart_before r c (s + k) a (ap (begins r c) (sym (next s k)) ∙ p),
       λ p. ap (λ t. begins r c t || is_some (handed_to r c (s + k))) (next s k) ∙ goes_on r c (s + k) a (ap (λ t. is_some (handed_to r c t)) (sym (next s k)) ∙ p),

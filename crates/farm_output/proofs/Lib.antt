@@ -11,3 +11,8 @@ pub mod Acting
 pub mod Ending
 pub mod History
 pub mod Going
+mod Worked
+pub mod Carrying
+pub mod Sending
+pub mod Sent
+pub mod Rounds

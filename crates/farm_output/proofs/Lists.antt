@@ -1,6 +1,6 @@
 -- Lists, element by element.
 use Rattle.std.proofs.Common.{◌≡◌, refl, sym, ap, ◌∙◌, Bool, true, false, Option, Some, None, List, [], ◌∷◌, ◌++◌, map, inl, inr}
-use Rattle.std.specs.Prelude.{ℕ, ◌&&◌, ◌||◌, if◌then◌else◌, find, option_map, is_some, filter}
+use Rattle.std.specs.Prelude.{◌&&◌, ◌||◌, if◌then◌else◌, find, option_map, filter}
 use Rattle.std.specs.List.{list_any, AllByRecursion}
 use Rattle.std.proofs.lemmas.Bool.{cases_Bool}
 

@@ -1,30 +1,26 @@
 -- What one more order changes of what is set for a call.
-use Rattle.std.proofs.Common.{◌≡◌, refl, sym, ap, ◌∙◌, subst, ℕ, ◌+◌, ◌<◌, ◌≤◌, Bool, true, false, Option, Some, None, List, [], ◌∷◌, ◌++◌, map, inl, inr, ◌⊎◌}
-use Rattle.std.specs.Prelude.{ℤ, pos, not, ◌&&◌, ◌||◌, is_some, is_none, option_map, find, Result, Ok, Err, ◌==◌, if◌then◌else◌}
+use Rattle.std.proofs.Common.{◌≡◌, refl, sym, ap, ◌∙◌, subst, ℕ, Bool, true, false, Option, Some, None, List, [], ◌∷◌, ◌++◌, map}
+use Rattle.std.specs.Prelude.{ℤ, not, ◌&&◌, ◌||◌, is_some, is_none, option_map, find, Result, Ok, Err, ◌==◌, if◌then◌else◌}
 use Rattle.std.specs.List.{AllByRecursion, list_any}
-use Rattle.std.proofs.lemmas.Bool.{and_parts, and_from, and_right, cases_Bool, eq-eqb, ne_eqb, eqb-true, eqb-false, or_cases, or_left, or_right, or_parts, false_from_ne_true}
-use Rattle.std.proofs.lemmas.List.{append-nil, append_assoc}
+use Rattle.std.proofs.lemmas.Bool.{and_parts, ne_eqb}
+use Rattle.std.proofs.lemmas.List.{append_assoc}
 use Rattle.std.proofs.lemmas.List.Folds.{list_any-append}
 use Rattle.trau_orders.specs.declared.order.Order.{Order}
 use Rattle.trau_orders.specs.declared.order.DtxMode.{DtxMode}
-use Rattle.trau_orders.specs.declared.order.DtxMode.TheVariants.{Uplink}
 use Rattle.switchboard.specs.declared.act.Act.{Act}
 use Rattle.switchboard.specs.declared.act.Act.TheVariants as act
 use Rattle.switchboard.specs.declared.act.Refusal.{Refusal}
 use Rattle.switchboard.specs.declared.table.Bridge.{Bridge}
-use Rattle.switchboard.specs.Calls.{Done, is_this, opened_by, closed_by, opened_at, closed_at, is_open, has_ended, gone_at}
-use Rattle.switchboard.specs.Bridges.{ends_bridge, bridge_by, bridges, joins, other, lasts, bridge_of}
-use Rattle.switchboard.specs.Replies.{known_of, reply_to}
+use Rattle.switchboard.specs.Calls.{Done, opened_at, closed_at, is_open, gone_at}
+use Rattle.switchboard.specs.Bridges.{ends_bridge, bridge_by, bridges, joins, lasts, bridge_of}
+use Rattle.switchboard.specs.Replies.{known_of}
 use Rattle.switchboard.proofs.Appending.{or_else, after, bridges-more}
 use Rattle.switchboard.proofs.Steps.{after_kept}
-use Rattle.call_leg.specs.Settings.{Settings, new_settings, with_level, with_mode, with_bridge, without_bridge}
-use Rattle.farm_output.specs.Run.{Run, whole_in, level_by, mode_by, level_after, mode_after}
-use Rattle.farm_output.specs.Now.{IsSoFar, settings_now, changed_by}
-use Rattle.farm_output.proofs.Lists.{each_append, each_map, each_weaker, each_both, each_all, find_same, find_map, find_none, find_front, find_and, found, one_found, none_each, any_same, any_map, any_none}
-use Rattle.farm_output.proofs.Executing.{AreReplies, run_replies, opened-append, closed-append}
+use Rattle.farm_output.specs.Run.{level_by, mode_by, level_after, mode_after}
+use Rattle.farm_output.proofs.Lists.{each_weaker, find_same, find_map, find_none, find_front, any_map}
+use Rattle.farm_output.proofs.Executing.{AreReplies, opened-append, closed-append}
 use Rattle.farm_output.proofs.Showing.{ShownBy, shown}
-use Rattle.farm_output.proofs.Standing.{IsSoundBridge, Standing, open_facts, gone_kept, opened_kept, after_none, lasts_parts, lasts_from, standing_one}
-use Rattle.farm_output.proofs.Bridging.{bridge_each, joins_other}
+use Rattle.farm_output.proofs.Standing.{IsSoundBridge, Standing, open_facts, gone_kept, opened_kept, after_none, lasts_parts, lasts_from}
 
 abbrev done : Order → Result Act Refusal → Done
 done o r = record { order = o; result = r }

@@ -1,8 +1,8 @@
 -- A period of the whole run is that which is known while it goes on.
-use Rattle.std.proofs.Common.{◌≡◌, refl, sym, ap, ◌∙◌, subst, ℕ, ◌+◌, ◌-◌, ◌<◌, ◌≤◌, Bool, true, false, Option, Some, None, List, [], ◌∷◌, ◌++◌, arith}
-use Rattle.std.specs.Prelude.{ℤ, pos, option_map, filter, find, nat_le, ◌==◌, if◌then◌else◌, ◌&&◌}
+use Rattle.std.proofs.Common.{◌≡◌, refl, sym, ap, ◌∙◌, ℕ, ◌+◌, ◌-◌, ◌<◌, ◌≤◌, Bool, true, false, Option, Some, None, List, [], ◌∷◌, ◌++◌, arith}
+use Rattle.std.specs.Prelude.{ℤ, pos, option_map, find, nat_le, ◌==◌, if◌then◌else◌, ◌&&◌}
 use Rattle.std.specs.List.{AllByRecursion, list_any}
-use Rattle.std.proofs.lemmas.Bool.{le-leb, lt-leb, cases_Bool}
+use Rattle.std.proofs.lemmas.Bool.{le-leb, lt-leb}
 use Rattle.std.proofs.lemmas.List.{append-nil}
 use Rattle.std.proofs.lemmas.List.Elements.{filter-append, recursion_from_All}
 use Rattle.trau_orders.specs.declared.order.Order.{Order}
@@ -11,14 +11,14 @@ use Rattle.trau_orders.specs.declared.order.DtxMode.TheVariants.{Uplink}
 use Rattle.switchboard.specs.declared.act.Span.{Span}
 use Rattle.switchboard.specs.declared.table.Bridge.{Bridge}
 use Rattle.switchboard.specs.Calls.{Done, opened_at}
-use Rattle.switchboard.specs.Bridges.{bridges, joins, other}
+use Rattle.switchboard.specs.Bridges.{bridges, other}
 use Rattle.switchboard.specs.Ends.{start_of, span_of, spans_of}
 use Rattle.call_leg.specs.Periods.{CallPeriod}
-use Rattle.farm_output.specs.Run.{Run, whole_in, given_in, done_in, spans_in, level_after, mode_after, done_to, up_in, pcm_in, ups_to, item_of, is_of, partner_in, span_at, handed_to, period_of}
-use Rattle.farm_output.specs.Now.{IsSoFar, NoOrderTo, has_period, bridge_now, handed_now, period_now}
+use Rattle.farm_output.specs.Run.{Run, whole_in, given_in, done_in, spans_in, level_after, mode_after, done_to, up_in, pcm_in, ups_to, item_of, is_of, partner_in, handed_to, period_of}
+use Rattle.farm_output.specs.Now.{IsSoFar, NoOrderTo, bridge_now, handed_now, period_now}
 use Rattle.farm_output.proofs.Lists.{each_weaker, found}
 use Rattle.farm_output.proofs.Executing.{after_all}
-use Rattle.farm_output.proofs.Standing.{IsSoundBridge, Standing, opened_kept}
+use Rattle.farm_output.proofs.Standing.{IsSoundBridge, opened_kept}
 use Rattle.farm_output.proofs.Settling.{start_is, covers, joined_now, span_settled, starts_settled}
 use Rattle.farm_output.proofs.SoFar.{rest_in, done-rest, rest_above, standing_now, standing_rest}
 

@@ -1,9 +1,8 @@
 -- A period with no order between the clock and it: what later orders and ends don't change.
-use Rattle.std.proofs.Common.{◌≡◌, refl, sym, ap, ◌∙◌, subst, ℕ, ◌+◌, ◌<◌, ◌≤◌, Bool, true, false, Option, Some, None, List, [], ◌∷◌, ◌++◌, map, min, inl, inr, ◌⊎◌, arith}
-use Rattle.std.specs.Prelude.{Result, Ok, Err, not, ◌&&◌, ◌||◌, is_some, is_none, option_map, unwrap_or, IfSome, ◌==◌, if◌then◌else◌, find, nat_lt, nat_le}
+use Rattle.std.proofs.Common.{◌≡◌, refl, sym, ap, ◌∙◌, subst, ℕ, ◌+◌, ◌<◌, ◌≤◌, Bool, true, false, Option, Some, None, List, [], ◌∷◌, ◌++◌, map, min, inl, inr, arith}
+use Rattle.std.specs.Prelude.{Result, Ok, Err, ◌&&◌, ◌||◌, is_none, option_map, unwrap_or, IfSome, ◌==◌, if◌then◌else◌, find, nat_lt, nat_le}
 use Rattle.std.specs.List.{AllByRecursion, list_any}
-use Rattle.std.proofs.lemmas.Bool.{cases_Bool, lt-ltb, le-ltb, le-leb, lt-leb, leb-true, leb-false, ne_eqb, cases_lt, false_from_ne_true, eqb-true}
-use Rattle.trau_io.specs.declared.line.Side.TheVariants.{Up, Pcm}
+use Rattle.std.proofs.lemmas.Bool.{lt-ltb, le-ltb, le-leb, lt-leb, leb-true, ne_eqb, cases_lt}
 use Rattle.trau_io.specs.declared.ends.Cause.TheVariants.{Closed, Limit}
 use Rattle.trau_io.specs.declared.ends.CallEnd.{CallEnd}
 use Rattle.switchboard.specs.declared.act.Act.{Act}
@@ -13,11 +12,11 @@ use Rattle.switchboard.specs.declared.act.Span.{Span}
 use Rattle.switchboard.specs.declared.table.Bridge.{Bridge}
 use Rattle.switchboard.specs.Calls.{Done, opened_at, closed_at}
 use Rattle.switchboard.specs.Bridges.{ends_bridge, bridge_by, bridges, joins}
-use Rattle.switchboard.specs.Ends.{Given, whole_of, lack_of, end_of, start_of, ends_at, span_of, spans_of}
+use Rattle.switchboard.specs.Ends.{Given, whole_of, lack_of, start_of, ends_at, span_of, spans_of}
 use Rattle.switchboard.proofs.Appending.{or_else}
-use Rattle.farm_output.proofs.Lists.{each_append, each_map, each_weaker, each_both, each_all, find_none, find_same, find_map, find_front, any_same, any_map, any_front}
+use Rattle.farm_output.proofs.Lists.{each_append, each_weaker, find_same, find_map, find_front, any_map, any_front}
 use Rattle.farm_output.proofs.Executing.{closed-append, bridges-append, after_all}
-use Rattle.farm_output.proofs.Standing.{IsSoundBridge, IsClosed, Standing, opened_kept, closed_kept, closed_cases}
+use Rattle.farm_output.proofs.Standing.{IsSoundBridge, Standing, opened_kept}
 
 -- ---- stamps
 
@@ -124,9 +123,9 @@ to_of x = x.to
 min_test : (u a b : ℕ) (x y : Bool) → nat_lt u a ≡ x → nat_lt u b ≡ y → nat_lt u (min a b) ≡ (x && y)
 min_test u a b x y p q = elim (cases_lt u a) [
   | inl l ↦ elim (cases_lt u b) [
-      | inl m ↦ lt-ltb u (min a b) (omega arith) ∙ sym (cc (lt-ltb u a l, lt-ltb u b m, p, q))
-      | inr m ↦ le-ltb u (min a b) (omega arith) ∙ sym (fail x y (sym q ∙ le-ltb u b m))
-    ]
+    | inl m ↦ lt-ltb u (min a b) (omega arith) ∙ sym (cc (lt-ltb u a l, lt-ltb u b m, p, q))
+    | inr m ↦ le-ltb u (min a b) (omega arith) ∙ sym (fail x y (sym q ∙ le-ltb u b m))
+  ]
   | inr l ↦ le-ltb u (min a b) (omega arith) ∙ sym (ap (λ x. x && y) (sym p ∙ le-ltb u a l))
 ]
   where

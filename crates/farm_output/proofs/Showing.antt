@@ -1,7 +1,7 @@
 -- What an accepted order shows of the orders before it.
-use Rattle.std.proofs.Common.{◌≡◌, refl, sym, ap, ◌∙◌, subst, ℕ, Bool, true, false, Option, Some, None, List, [], ◌∷◌, inl, inr, ◌⊎◌}
+use Rattle.std.proofs.Common.{◌≡◌, refl, sym, ap, subst, ℕ, Bool, true, false, Option, Some, None, List, [], ◌∷◌, inl, inr}
 use Rattle.std.specs.Prelude.{Result, Ok, Err, not, option_map, ◌==◌, if◌then◌else◌}
-use Rattle.std.proofs.lemmas.Bool.{cases_Bool, eqb-true}
+use Rattle.std.proofs.lemmas.Bool.{eqb-true}
 use Rattle.trau_orders.specs.declared.order.Order.{Order}
 use Rattle.trau_orders.specs.declared.order.What.{What}
 use Rattle.trau_orders.specs.declared.order.What.TheVariants as what

@@ -1,19 +1,19 @@
 -- A run so far, and the whole run.
-use Rattle.std.proofs.Common.{◌≡◌, refl, sym, ap, ◌∙◌, subst, ℕ, suc, ◌+◌, ◌<◌, ◌≤◌, Bool, true, false, Option, Some, None, List, [], ◌∷◌, ◌++◌, map, length, get_or, arith}
+use Rattle.std.proofs.Common.{◌≡◌, refl, sym, ap, ◌∙◌, subst, ℕ, suc, ◌<◌, ◌≤◌, Bool, true, false, List, [], ◌∷◌, ◌++◌, map, length, get_or, arith}
 use Rattle.std.specs.Prelude.{IfSome, filter, nat_lt, if◌then◌else◌}
-use Rattle.std.specs.List.{All, AllByRecursion}
-use Rattle.std.proofs.lemmas.Bool.{lt-ltb, ltb-true, cases_Bool}
+use Rattle.std.specs.List.{AllByRecursion}
+use Rattle.std.proofs.lemmas.Bool.{lt-ltb, ltb-true}
 use Rattle.std.proofs.lemmas.List.{map-append, append_assoc}
-use Rattle.std.proofs.lemmas.List.Elements.{All-nil, All-push, All-weaker, recursion_from_All, All-from_recursion}
+use Rattle.std.proofs.lemmas.List.Elements.{All-nil, All-push, All-weaker, recursion_from_All}
 use Rattle.trau_orders.specs.declared.order.Order.{Order}
 use Rattle.trau_orders.specs.Lists.{AreOrders}
 use Rattle.switchboard.specs.Calls.{Done}
-use Rattle.switchboard.specs.Runs.{IsRun, executed}
+use Rattle.switchboard.specs.Runs.{IsRun}
 use Rattle.switchboard.specs.State.{first_stamp}
 use Rattle.farm_output.specs.Run.{Run, whole_in, done_in}
 use Rattle.farm_output.specs.Now.{IsSoFar, NoOrderTo}
-use Rattle.farm_output.proofs.Lists.{each_front, each_map, each_mapped, each_weaker, each_filter, each_passes, each_append}
-use Rattle.farm_output.proofs.Executing.{AreReplies, added, added_orders, added_replies, executed-added, run_replies, rest_of, done-split}
+use Rattle.farm_output.proofs.Lists.{each_mapped, each_weaker, each_filter, each_passes}
+use Rattle.farm_output.proofs.Executing.{added, added_orders, added_replies, executed-added, run_replies, rest_of, done-split}
 use Rattle.farm_output.proofs.Standing.{Standing, RisesFrom, standing_none, standing_all}
 
 -- ---- stamps don't fall
@@ -84,6 +84,19 @@ pub rest_above : (r : Run) (t u : ℕ) (ds : List Done) (left : List Order) → 
 rest_above r t u ds left s n = each_mapped (λ o. u < o.stamp) (λ d. d.order) (rest_in r ds left)
     (subst (AllByRecursion (λ o. u < o.stamp)) (sym (rest_orders r ds left)) (each_filter _ _ left (all_above u 0 left (left_rises r t ds left s) n)))
 
+-- and none of them before the clock
+pub rest_from : (r : Run) (t : ℕ) (ds : List Done) (left : List Order) → IsSoFar r t ds left → AllByRecursion (λ d. t ≤ d.order.stamp) (rest_in r ds left)
+rest_from r t ds left s = each_mapped (λ o. t ≤ o.stamp) (λ d. d.order) (rest_in r ds left)
+    (subst (AllByRecursion (λ o. t ≤ o.stamp)) (sym (rest_orders r ds left)) (each_filter _ _ left (from left (left_rises r t ds left s) s.ahead)))
+  where
+    go : (u : ℕ) (os : List Order) → t ≤ u → Rises u os → AllByRecursion (λ o. t ≤ o.stamp) os
+    go u [] l h = tt
+    go u (o ∷ os) l h = let k : t ≤ o.stamp = (let m = h.0 in omega arith) in (k, go o.stamp os k h.1)
+
+    from : (os : List Order) → Rises 0 os → IfSome (first_stamp os) (λ s. t ≤ s) → AllByRecursion (λ o. t ≤ o.stamp) os
+    from [] h n = tt
+    from (o ∷ os) h n = (n, go o.stamp os n h.1)
+
 pub standing_now : (r : Run) (t : ℕ) (ds : List Done) (left : List Order) → IsSoFar r t ds left → Standing (whole_in r) t ds
 standing_now r t ds left s =
     standing_all (whole_in r) 0 t [] ds (standing_none (whole_in r)) (run_replies (whole_in r) ds s.replies)
@@ -122,7 +135,12 @@ so_far_at_first r a = record { orders = a; listed = refl; replies = refl; past =
 
 pub so_far_later : (r : Run) (t u : ℕ) (ds : List Done) (left : List Order) → IsSoFar r t ds left → t ≤ u → IfSome (first_stamp left) (λ s. u ≤ s) → IsSoFar r u ds left
 so_far_later r t u ds left s l n = record {
-  orders = s.orders; listed = s.listed; replies = s.replies; past = All-weaker (λ d. d.order.stamp ≤ t) (λ d. d.order.stamp ≤ u) (λ d h. omega arith) ds s.past; within = s.within; ahead = n;
+  orders = s.orders;
+  listed = s.listed;
+  replies = s.replies;
+  past = All-weaker (λ d. d.order.stamp ≤ t) (λ d. d.order.stamp ≤ u) (λ d h. omega arith) ds s.past;
+  within = s.within;
+  ahead = n;
 }
 
 pub so_far_more : (r : Run) (t : ℕ) (ds : List Done) (d : Done) (left : List Order) → IsSoFar r t ds (d.order ∷ left) → d.order.stamp ≡ t → t < r.periods → IsRun (whole_in r) (ds ++ d ∷ []) →

@@ -1,8 +1,8 @@
 -- How the calls and bridges of a run stand after some orders: a call's bridges don't overlap.
 use Rattle.std.proofs.Common.{◌≡◌, refl, sym, ap, ◌∙◌, subst, ℕ, ◌+◌, ◌<◌, ◌≤◌, Bool, true, false, Option, Some, None, List, [], ◌∷◌, ◌++◌, map, inl, inr, ◌⊎◌, arith}
-use Rattle.std.specs.Prelude.{Result, Ok, Err, not, ◌&&◌, ◌||◌, is_some, is_none, option_map, ◌==◌, if◌then◌else◌, find, nat_lt}
+use Rattle.std.specs.Prelude.{Result, Ok, Err, not, ◌&&◌, ◌||◌, is_some, is_none, option_map, ◌==◌, if◌then◌else◌, nat_lt}
 use Rattle.std.specs.List.{AllByRecursion}
-use Rattle.std.proofs.lemmas.Bool.{cases_Bool, eqb-true, eq-eqb, and_parts, and_from, and_cases, or_cases, or_left, or_right, ltb-true, lt-ltb, ltb-false, cases_order, false_from_ne_true}
+use Rattle.std.proofs.lemmas.Bool.{cases_Bool, eqb-true, eq-eqb, and_parts, and_from, or_cases, or_left, or_right, ltb-true, lt-ltb, ltb-false, cases_order, false_from_ne_true}
 use Rattle.std.proofs.lemmas.List.{append-nil, append_assoc}
 use Rattle.trau_orders.specs.declared.order.Order.{Order}
 use Rattle.switchboard.specs.declared.act.Act.{Act}
@@ -13,7 +13,6 @@ use Rattle.switchboard.specs.Calls.{Done, is_this, opened_at, closed_at, is_open
 use Rattle.switchboard.specs.Bridges.{ends_bridge, bridge_by, bridges, joins, other, lasts, bridge_of, bridge_ended}
 use Rattle.switchboard.specs.Replies.{known_of, reply_to}
 use Rattle.switchboard.proofs.Appending.{or_else, after, bridges-more}
-use Rattle.switchboard.proofs.Replies.{Joined}
 use Rattle.farm_output.proofs.Lists.{each_append, each_map, each_weaker, each_both, each_all, find_none, none_each, AtMostOne, one_found}
 use Rattle.farm_output.proofs.Executing.{opened-append, closed-append, AreReplies}
 use Rattle.farm_output.proofs.Showing.{ShownBy, shown, opens, closes}
@@ -142,9 +141,9 @@ over_lasts whole v u ds x o l e =
     elim (or_cases (is_before v x.ended) (gone_at whole v ds x.a || gone_at whole v ds x.b) o) [
       | inl q ↦ no (is_before v x.ended) (ap (is_before v) p.0) q
       | inr q ↦ elim (or_cases (gone_at whole v ds x.a) (gone_at whole v ds x.b) q) [
-          | inl r ↦ no _ a.3 (gone_later whole v u ds x.a l r)
-          | inr r ↦ no _ b.3 (gone_later whole v u ds x.b l r)
-        ]
+        | inl r ↦ no _ a.3 (gone_later whole v u ds x.a l r)
+        | inr r ↦ no _ b.3 (gone_later whole v u ds x.b l r)
+      ]
     ]
 
 pub one_lasts : (whole : ℕ → ℕ) (u : ℕ) (ds : List Done) (c : ℕ) (xs : List Bridge) → NeverOverlap whole ds xs → AllByRecursion (λ x. x.from ≤ u) xs →
@@ -259,7 +258,7 @@ sound_more whole t ds o r s l h x y cut = record {
         let w : ends_bridge x.a x.b r ≡ false = (after_none (done o r) x n).1 in
         let v : is_open (gone_at whole o.stamp ds) ds x.a ≡ true = open_call x.a k.0 k.1 in
         let z : is_open (gone_at whole o.stamp ds) ds x.b ≡ false =
-            false_from_ne_true _ (λ b. no _ w (cut x.a k.0 k.1 (or_left _ _ (eq-eqb x.a x.a refl)) (lasts_from (gone_at whole o.stamp ds) ds x (after_none (done o r) x n).0 v b))) in
+        false_from_ne_true _ (λ b. no _ w (cut x.a k.0 k.1 (or_left _ _ (eq-eqb x.a x.a refl)) (lasts_from (gone_at whole o.stamp ds) ds x (after_none (done o r) x n).0 v b))) in
         let g = other_gone whole t o.stamp ds x.a x.b y.start_a y.start_b s l y.opened_a y.opened_b (λ e f. y.shut_b e (after_none (done o r) x n).0 f) v z in
         omega (arith, k.2)
   ];
@@ -270,7 +269,7 @@ sound_more whole t ds o r s l h x y cut = record {
         let w : ends_bridge x.a x.b r ≡ false = (after_none (done o r) x n).1 in
         let v : is_open (gone_at whole o.stamp ds) ds x.b ≡ true = open_call x.b k.0 k.1 in
         let z : is_open (gone_at whole o.stamp ds) ds x.a ≡ false =
-            false_from_ne_true _ (λ b. no _ w (cut x.b k.0 k.1 (or_right _ _ (eq-eqb x.b x.b refl)) (lasts_from (gone_at whole o.stamp ds) ds x (after_none (done o r) x n).0 b v))) in
+        false_from_ne_true _ (λ b. no _ w (cut x.b k.0 k.1 (or_right _ _ (eq-eqb x.b x.b refl)) (lasts_from (gone_at whole o.stamp ds) ds x (after_none (done o r) x n).0 b v))) in
         let g = other_gone whole t o.stamp ds x.b x.a y.start_b y.start_a s l y.opened_b y.opened_a (λ e f. y.shut_a e (after_none (done o r) x n).0 f) v z in
         omega (arith, k.2)
   ];
@@ -285,20 +284,20 @@ sound_new : (whole : ℕ → ℕ) (t : ℕ) (ds : List Done) (o : Order) (r : Re
     AllByRecursion (IsSoundBridge whole o.stamp (ds ++ done o r ∷ [])) (bridge_by o.stamp r [])
 sound_new whole t ds o (Ok (act.Bridged a b)) s l h = (
   let p = open_facts (gone_at whole o.stamp ds) ds a h.open_a in
-  let q = open_facts (gone_at whole o.stamp ds) ds b h.open_b in
-  let d : Done = done o (Ok (act.Bridged a b)) in
-  record {
-    start_a = p.0;
-    start_b = q.0;
-    opened_a = opened_kept ds (d ∷ []) a p.0 p.1;
-    opened_b = opened_kept ds (d ∷ []) b q.0 q.1;
-    after_a = let f = s.opened a p.0 p.1 in omega arith;
-    after_b = let f = s.opened b q.0 q.1 in omega arith;
-    from = omega arith;
-    ended = λ e f. cc;
-    shut_a = λ e n c. absurd (let z : closed_at a (ds ++ d ∷ []) ≡ None = closed-append a ds (d ∷ []) ∙ ap (λ o. or_else o None) p.2 in cc);
-    shut_b = λ e n c. absurd (let z : closed_at b (ds ++ d ∷ []) ≡ None = closed-append b ds (d ∷ []) ∙ ap (λ o. or_else o None) q.2 in cc);
-  },
+      let q = open_facts (gone_at whole o.stamp ds) ds b h.open_b in
+      let d : Done = done o (Ok (act.Bridged a b)) in
+      record {
+        start_a = p.0;
+        start_b = q.0;
+        opened_a = opened_kept ds (d ∷ []) a p.0 p.1;
+        opened_b = opened_kept ds (d ∷ []) b q.0 q.1;
+        after_a = let f = s.opened a p.0 p.1 in omega arith;
+        after_b = let f = s.opened b q.0 q.1 in omega arith;
+        from = omega arith;
+        ended = λ e f. cc;
+        shut_a = λ e n c. absurd (let z : closed_at a (ds ++ d ∷ []) ≡ None = closed-append a ds (d ∷ []) ∙ ap (λ o. or_else o None) p.2 in cc);
+        shut_b = λ e n c. absurd (let z : closed_at b (ds ++ d ∷ []) ≡ None = closed-append b ds (d ∷ []) ∙ ap (λ o. or_else o None) q.2 in cc);
+      },
   tt,
 )
 sound_new whole t ds o (Ok (act.Opened c)) s l h = tt
@@ -323,9 +322,9 @@ over_more : (whole : ℕ → ℕ) (t v : ℕ) (ds : List Done) (d : Done) (x : B
 over_more whole t v ds d x y o = elim (or_cases (is_before v x.ended) (gone_at whole v ds x.a || gone_at whole v ds x.b) o) [
   | inl p ↦ by_order whole v (ds ++ d ∷ []) (after d x) (kept v x.ended _ p)
   | inr p ↦ elim (or_cases (gone_at whole v ds x.a) (gone_at whole v ds x.b) p) [
-      | inl q ↦ by_a whole v (ds ++ d ∷ []) (after d x) (gone_kept whole v ds (d ∷ []) x.a y.start_a y.opened_a ∙ q)
-      | inr q ↦ by_b whole v (ds ++ d ∷ []) (after d x) (gone_kept whole v ds (d ∷ []) x.b y.start_b y.opened_b ∙ q)
-    ]
+    | inl q ↦ by_a whole v (ds ++ d ∷ []) (after d x) (gone_kept whole v ds (d ∷ []) x.a y.start_a y.opened_a ∙ q)
+    | inr q ↦ by_b whole v (ds ++ d ∷ []) (after d x) (gone_kept whole v ds (d ∷ []) x.b y.start_b y.opened_b ∙ q)
+  ]
 ]
   where
     kept : (v : ℕ) (o w : Option ℕ) → is_before v o ≡ true → is_before v (or_else o w) ≡ true
@@ -364,16 +363,16 @@ over_now whole t u ds x y l past f w = by x.ended refl
     by (Some s) e = by_order whole u ds x (ap (is_before u) e ∙ later s (ap (is_this u) (sym e) ∙ w) (y.ended s e))
     by None e = elim (cases_Bool (is_open (gone_at whole u ds) ds x.a)) [
       | inr p ↦ elim (shut_cases (gone_at whole u ds) ds x.a y.start_a y.opened_a p) [
-          | inl q ↦ by_b whole u ds x (other x.a x.b y.start_b q.0 y.opened_b (y.shut_a q.0 e q.1) (past x.a q.0 q.1))
-          | inr q ↦ by_a whole u ds x q
-        ]
+        | inl q ↦ by_b whole u ds x (other x.a x.b y.start_b q.0 y.opened_b (y.shut_a q.0 e q.1) (past x.a q.0 q.1))
+        | inr q ↦ by_a whole u ds x q
+      ]
       | inl p ↦ elim (cases_Bool (is_open (gone_at whole u ds) ds x.b)) [
-          | inl q ↦ absurd (no _ f (lasts_from (gone_at whole u ds) ds x e p q))
-          | inr q ↦ elim (shut_cases (gone_at whole u ds) ds x.b y.start_b y.opened_b q) [
-              | inl z ↦ by_a whole u ds x (other x.b x.a y.start_a z.0 y.opened_a (y.shut_b z.0 e z.1) (past x.b z.0 z.1))
-              | inr z ↦ by_b whole u ds x z
-            ]
+        | inl q ↦ absurd (no _ f (lasts_from (gone_at whole u ds) ds x e p q))
+        | inr q ↦ elim (shut_cases (gone_at whole u ds) ds x.b y.start_b y.opened_b q) [
+          | inl z ↦ by_a whole u ds x (other x.b x.a y.start_a z.0 y.opened_a (y.shut_b z.0 e z.1) (past x.b z.0 z.1))
+          | inr z ↦ by_b whole u ds x z
         ]
+      ]
     ]
 
 -- neither does it last as a bridge of a call, nor did an order of this stamp end it
@@ -449,8 +448,16 @@ RisesFrom t (d ∷ ds) = (t ≤ d.order.stamp) × RisesFrom d.order.stamp ds
 
 later_bridge : (whole : ℕ → ℕ) (t u : ℕ) (ds : List Done) (x : Bridge) → t ≤ u → IsSoundBridge whole t ds x → IsSoundBridge whole u ds x
 later_bridge whole t u ds x l y = record {
-  start_a = y.start_a; start_b = y.start_b; opened_a = y.opened_a; opened_b = y.opened_b; after_a = y.after_a; after_b = y.after_b;
-  from = let f = y.from in omega arith; ended = λ e p. (let f = y.ended e p in omega arith); shut_a = y.shut_a; shut_b = y.shut_b;
+  start_a = y.start_a;
+  start_b = y.start_b;
+  opened_a = y.opened_a;
+  opened_b = y.opened_b;
+  after_a = y.after_a;
+  after_b = y.after_b;
+  from = let f = y.from in omega arith;
+  ended = λ e p. (let f = y.ended e p in omega arith);
+  shut_a = y.shut_a;
+  shut_b = y.shut_b;
 }
 
 pub standing_later : (whole : ℕ → ℕ) (t u : ℕ) (ds : List Done) → t ≤ u → Standing whole t ds → Standing whole u ds

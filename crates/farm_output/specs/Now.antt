@@ -1,6 +1,6 @@
 -- The same by what is known while the run goes on. `ds` are the orders that were executed so far, the oldest first, and
 -- `left` the others; at the clock t no executed order has a stamp above t, and none that is left has one below.
-use Rattle.std.specs.Prelude.{◌≡◌, ℕ, ◌+◌, ◌-◌, ◌<◌, ◌≤◌, Bool, ◌&&◌, ◌||◌, if◌then◌else◌, ◌==◌, nat_lt, Option, Some, None, is_some, is_none, IfSome, option_map, find, Result, Ok, Err, List, ◌++◌, map, pos}
+use Rattle.std.specs.Prelude.{◌≡◌, ℕ, zero, suc, ◌+◌, ◌-◌, ◌<◌, ◌≤◌, Bool, ◌&&◌, ◌||◌, if◌then◌else◌, ◌==◌, nat_lt, Option, is_some, is_none, IfSome, option_map, find, Result, Ok, Err, List, ◌++◌, map, pos}
 use Rattle.std.specs.List.{All, list_any}
 use Rattle.trau_orders.specs.declared.order.Order.{Order}
 use Rattle.trau_orders.specs.declared.order.DtxMode.TheVariants.{Uplink}
@@ -15,10 +15,11 @@ use Rattle.switchboard.specs.State.{first_stamp}
 use Rattle.switchboard.specs.Runs.{IsRun}
 use Rattle.switchboard.specs.Ends.{start_of}
 use Rattle.call_leg.specs.Periods.{CallPeriod}
-use Rattle.call_leg.specs.Settings.{Settings, new_settings, with_level, with_mode, with_bridge, without_bridge}
+use Rattle.call_leg.specs.Settings.{Settings, new_settings, later, with_level, with_mode, with_bridge, without_bridge}
 use Rattle.farm_output.specs.Run.{Run, whole_in, level_after, mode_after, up_in, pcm_in, ups_to, item_of}
 
--- A run so far: its orders are those that were executed, with the replies of their whole list, and those that are left.
+-- A run so far: its orders are those that were executed, with the replies of their whole list, and those that are
+-- left. An order is executed where its stamp is below the run's number of periods.
 pub record IsSoFar (r : Run) (t : ℕ) (ds : List Done) (left : List Order) : Type 0 where
   pub orders : AreOrders r.orders
   pub listed : map (λ d. d.order) ds ++ left ≡ r.orders
@@ -54,7 +55,7 @@ period_now r ds t c = let k = t - start_of ds c in record {
   handed = handed_now r ds t c;
 }
 
--- what is set for period t where no order with a stamp above t was executed: a bridge lasts as the board knows it
+-- what is set for period t, as the board knows it at that clock: a bridge lasts up to its calls' natural ends
 abbrev pub settings_now : Run → List Done → ℕ → ℕ → Settings
 settings_now r ds t c = record {
   level = level_after c (pos 256) ds;
@@ -63,12 +64,11 @@ settings_now r ds t c = record {
   bridged = is_some (bridge_of (gone_at (whole_in r) t ds) ds c);
 }
 
--- What period t is worked with: where a call has no bridge in it that is not yet ended, since its partner lacks the period,
--- the bridge is taken off before.
+-- What period t is worked with: a bridge is taken off before the first period that the partner lacks.
 abbrev pub settings_in : Run → List Done → ℕ → ℕ → Settings
 settings_in r ds t c = let now = settings_now r ds t c in if is_some (bridge_now r ds t c) then now else without_bridge now
 
--- what an order with this result makes of what is set for a call's next period; a call that is closed keeps no bridge
+-- what an order with this result makes of what is set for a call; a call that is closed keeps no bridge
 abbrev pub changed_by : ℕ → Result Act Refusal → Settings → Settings
 changed_by c (Ok (act.Opened d)) now = if c == d then new_settings else now
 changed_by c (Ok (act.Closed d partner)) now = if c == d || is_this c partner then without_bridge now else now
@@ -77,3 +77,8 @@ changed_by c (Ok (act.Unbridged a b)) now = if c == a || c == b then without_bri
 changed_by c (Ok (act.LevelSet d level)) now = if c == d then with_level level now else now
 changed_by c (Ok (act.DtxSet d mode)) now = if c == d then with_mode mode now else now
 changed_by c (Err refusal) now = now
+
+-- what is set after k further periods, where the bridge goes on
+abbrev pub after_periods : ℕ → Settings → Settings
+after_periods zero now = now
+after_periods (suc k) now = later (after_periods k now)

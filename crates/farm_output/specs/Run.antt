@@ -1,5 +1,5 @@
--- A run, and the periods of its calls (this project's profile). Lists of periods have the newest first, lists of orders the
--- oldest.
+-- A run, and the periods of its calls (this project's profile). Lists of periods have the newest first, lists of
+-- orders the oldest.
 use Rattle.std.specs.Prelude.{ℕ, ◌+◌, ◌-◌, ◌*◌, zero, suc, ℤ, pos, Bool, ◌&&◌, ◌||◌, if◌then◌else◌, ◌==◌, nat_le, nat_lt, Option, option_map, find, Result, Ok, List, [], ◌∷◌, length, take, drop, filter}
 use Rattle.std.specs.List.{list_any}
 use Rattle.trau_params.specs.Bits260.{bits260}
@@ -19,7 +19,7 @@ use Rattle.rx_handler.specs.Past.{effective_of}
 use Rattle.call_leg.specs.Uplink.{sighting_in, heard_as, handed_fields}
 use Rattle.call_leg.specs.Periods.{CallPeriod}
 
--- what a call's incoming lines give: the octets of the Up and the Pcm line, and whether a read of them failed after these
+-- what a call's incoming lines give: the octets of the Up and the Pcm line, and whether a read failed after these
 pub record Incoming : Type 0 where
   pub up : List ℕ
   pub pcm : List ℕ
@@ -90,8 +90,8 @@ abbrev pub heard_by : List (List ℕ) → List Heard
 heard_by [] = []
 heard_by (up ∷ past) = heard_as (sighting_in (yield_of up past)) ∷ heard_by past
 
--- What a call hands to the partner of its bridge in the newest of these periods: the 260 bits of its effective frame, those
--- of silence where it is quiet. They depend on nothing but its number and its uplink.
+-- What a call hands to the partner of its bridge in the newest of these periods: the 260 bits of its effective frame,
+-- those of silence where it is quiet. They depend on nothing but its number and its uplink.
 unfoldable pub item_of : ℕ → List (List ℕ) → List ℕ
 item_of c ups = bits260 (handed_fields (effective_of c (heard_by ups)))
 

@@ -1,7 +1,17 @@
 use Rattle.farm_output.proofs.SoFar.{standing_now}
 use Rattle.farm_output.proofs.Bridging.{bridge_later, bridge_after, bridge_partner}
 use Rattle.farm_output.proofs.Going.{gone_after}
+use Rattle.farm_output.proofs.Rounds.{bridge_none, bridge_here, bridge_both}
 use Rattle.farm_output.proofs.laws.bridges_go_on.Goals as goal
+
+pub returns-clause-none : goal.returns-clause-none
+returns-clause-none g = bridge_none
+
+pub returns-clause-same : goal.returns-clause-same
+returns-clause-same g = bridge_here
+
+pub returns-clause-each : goal.returns-clause-each
+returns-clause-each g = bridge_both
 
 pub returns-clause-later : goal.returns-clause-later
 returns-clause-later g = λ r t u k ds left c s. bridge_later r t u k ds c (standing_now r t ds left s)

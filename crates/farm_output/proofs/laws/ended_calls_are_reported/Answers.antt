@@ -1,0 +1,13 @@
+use Rattle.std.proofs.Common.{ap}
+use Rattle.farm_output.specs.Lines.{out_line, down_octets}
+use Rattle.farm_output.proofs.Going.{call_line_is, periods_ended}
+use Rattle.farm_output.proofs.laws.ended_calls_are_reported.Goals as goal
+
+pub returns-clause-line : goal.returns-clause-line
+returns-clause-line g = call_line_is
+
+pub returns-clause-out : goal.returns-clause-out
+returns-clause-out g = λ r t ds left c s end so o e. ap (out_line c) (periods_ended r t ds left c s end so o e)
+
+pub returns-clause-down : goal.returns-clause-down
+returns-clause-down g = λ r t ds left c s end so o e. ap (down_octets c) (periods_ended r t ds left c s end so o e)
