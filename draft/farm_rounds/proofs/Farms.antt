@@ -1,0 +1,144 @@
+-- What acts make of a farm.
+use Rattle.std.proofs.Common.{◌≡◌, refl, sym, ap, ◌∙◌, subst, ℕ, ◌+◌, ◌≤◌, true, false, Option, Some, None, List, [], ◌∷◌, ◌++◌, length, replicate, arith, inl, inr}
+use Rattle.std.specs.Prelude.{if◌then◌else◌, ◌==◌, ◌||◌, ◌&&◌, not, is_some}
+use Rattle.std.specs.Option.{option_map}
+use Rattle.std.specs.List.{count_by, All}
+use Rattle.std.specs.List.Sorted.{IsPermutation}
+use Rattle.std.proofs.lemmas.Bool.{cases_Bool, eqb-true}
+use Rattle.std.proofs.lemmas.List.Elements.{All-nil, All-cons}
+use Rattle.std.proofs.lemmas.List.Sorted.{IsPermutation-refl, IsPermutation-to_front}
+use Rattle.switchboard.specs.declared.act.Act.{Act}
+use Rattle.switchboard.specs.declared.act.Act.TheVariants as act
+use Rattle.farm_rounds.specs.declared.call.Call.{Call}
+use Rattle.farm_rounds.specs.declared.call.Group.{Group}
+use Rattle.farm_rounds.specs.declared.call.Group.TheVariants.{One, Two}
+use Rattle.farm_rounds.specs.Calls.{IsNumber, holds, group_in, call_in, call_of, calls_held}
+use Rattle.trau_io.specs.declared.line.Line.{Line}
+use Rattle.farm_rounds.specs.declared.tally.Tally.{Tally}
+use Rattle.farm_rounds.specs.Memory.{FarmMemory, no_tally, new_farm}
+use Rattle.farm_rounds.specs.Numbers.{IsRising, is_among}
+use Rattle.farm_rounds.specs.Groups.{IsCall, IsGroup, AreGroups, AreLive, Exchanges}
+use Rattle.farm_rounds.specs.Acts.{new_call, joined, parted, set_by, freed, calls_after, IsOpen, Fits, Stays, Applied}
+use Rattle.farm_rounds.proofs.Finding.{none_passes, counted_none}
+use Rattle.farm_rounds.proofs.Exchanging.{exchanged}
+use Rattle.farm_rounds.proofs.Orders.{opened_calls, opened_partners}
+use Rattle.farm_rounds.proofs.Applying.{found_group}
+
+abbrev pub make_farm : List Group → List ℕ → List Tally → List Line → ℕ → FarmMemory
+make_farm gs live kept failed ended = record { groups = gs; live = live; tallies = kept; failed = failed; ended = ended }
+
+-- ---- a call is opened
+
+no_group : (gs : List Group) (c : ℕ) → call_in gs c ≡ None → group_in gs c ≡ None
+no_group gs c = go (group_in gs c) where
+  go : (r : Option Group) → option_map (call_of c) r ≡ None → r ≡ None
+  go None e = refl
+  go (Some g) e = absurd (cc)
+
+pub open_applied : (most c : ℕ) (before now : List Group) → Fits before (act.Opened c) → AreGroups most before → now ≡ before ++ One (new_call c) ∷ [] → Applied most (act.Opened c) before now
+open_applied most c before now fits k e =
+    let none = no_group before c fits.1 in
+    let ex : Exchanges [] (One (new_call c) ∷ []) before now = record {
+      others = before;
+      old = IsPermutation-refl before;
+      new = subst (λ (gs : List Group). IsPermutation gs (One (new_call c) ∷ before)) (sym e) (IsPermutation-to_front before (One (new_call c)));
+    } in
+    let call : IsCall most (new_call c) = record { number = fits.0; worked = omega arith } in
+    let each : All (IsGroup most) (One (new_call c) ∷ []) = All-cons (IsGroup most) (One (new_call c)) [] call (All-nil (IsGroup most)) in
+    let few : (d : ℕ) → count_by (holds d) (One (new_call c) ∷ []) + count_by (holds d) before ≤ 1 + count_by (holds d) [] = λ d. elim (cases_Bool (c == d)) [
+      | inl t ↦
+          let zero_before : count_by (holds d) before ≡ 0 = subst (λ (n : ℕ). count_by (holds n) before ≡ 0) (eqb-true c d t) (counted_none (holds c) before (none_passes (holds c) before none)) in
+          simp t (omega (arith, zero_before))
+      | inr f ↦ simp f (omega (arith, k.apart d))
+    ] in
+    let r = exchanged most [] (One (new_call c) ∷ []) before now ex k each few in
+    record {
+      groups = r.groups;
+      calls = opened_calls (group_in before) (group_in now) c r.found;
+      partners = opened_partners (group_in before) (group_in now) c none r.found;
+      held = omega (arith, r.size);
+    }
+
+-- ---- the numbers of the open calls
+
+is_some-map : {A B : Type 0} (f : A → B) (o : Option A) → is_some (option_map f o) ≡ is_some o
+is_some-map f None = refl
+is_some-map f (Some x) = refl
+
+same_freed : (p : Option ℕ) (f : ℕ → Option Call) (d : ℕ) → is_some (freed p parted f d) ≡ is_some (f d)
+same_freed None f d = refl
+same_freed (Some q) f d = elim (cases_Bool (q == d)) [ inl t ↦ simp t (is_some-map parted (f d)) | inr g ↦ simp g refl ]
+
+pub open_live : (most c : ℕ) (live now_live : List ℕ) (before now : List Group) → AreLive live before → Applied most (act.Opened c) before now →
+    ((d : ℕ) → is_among now_live d ≡ ((c == d) || is_among live d)) → IsRising now_live → length now_live ≡ length live + 1 → AreLive now_live now
+open_live most c live now_live before now k p among rising long = record {
+  numbers = λ d. among d ∙ elim (cases_Bool (c == d)) [
+    | inl t ↦ rw (p.calls d) (simp t refl)
+    | inr f ↦ rw (p.calls d) (simp f (k.numbers d))
+  ];
+  rising = rising;
+  count = omega (arith, p.held, k.count, long);
+}
+
+pub close_live : (most c : ℕ) (q : Option ℕ) (live now_live : List ℕ) (before now : List Group) → AreLive live before → Applied most (act.Closed c q) before now →
+    ((d : ℕ) → is_among now_live d ≡ (not (c == d) && is_among live d)) → IsRising now_live → length now_live + 1 ≡ length live → AreLive now_live now
+close_live most c q live now_live before now k p among rising long = record {
+  numbers = λ d. among d ∙ elim (cases_Bool (c == d)) [
+    | inl t ↦ rw (p.calls d) (simp t refl)
+    | inr f ↦ rw (p.calls d) (simp f (k.numbers d ∙ sym (same_freed q (call_in before) d)))
+  ];
+  rising = rising;
+  count = omega (arith, p.held, k.count, long);
+}
+
+same_changed : (c : ℕ) (g : Call → Call) (f : ℕ → Option Call) (d : ℕ) → is_some (if c == d then option_map g (f d) else f d) ≡ is_some (f d)
+same_changed c g f d = elim (cases_Bool (c == d)) [ inl t ↦ simp t (is_some-map g (f d)) | inr e ↦ simp e refl ]
+
+-- the calls stay the same ones
+same_open : (a : Act) (f : ℕ → Option Call) (d : ℕ) → Stays a → is_some (calls_after a f d) ≡ is_some (f d)
+same_open (act.Bridged b c) f d s = same_changed b joined (λ k. if c == k then option_map joined (f k) else f k) d ∙ same_changed c joined f d
+same_open (act.Unbridged b c) f d s = same_changed b parted (λ k. if c == k then option_map parted (f k) else f k) d ∙ same_changed c parted f d
+same_open (act.LevelSet c level) f d s = same_changed c (set_by (act.LevelSet c level)) f d
+same_open (act.DtxSet c mode) f d s = same_changed c (set_by (act.DtxSet c mode)) f d
+same_open (act.Opened c) f d s = absurd s
+same_open (act.Closed c p) f d s = absurd s
+
+same_held : (most : ℕ) (a : Act) (before now : List Group) → Stays a → Applied most a before now → calls_held now ≡ calls_held before
+same_held most (act.Bridged b c) before now s p = omega (arith, p.held)
+same_held most (act.Unbridged b c) before now s p = omega (arith, p.held)
+same_held most (act.LevelSet c level) before now s p = omega (arith, p.held)
+same_held most (act.DtxSet c mode) before now s p = omega (arith, p.held)
+same_held most (act.Opened c) before now s p = absurd s
+same_held most (act.Closed c q) before now s p = absurd s
+
+pub stay_live : (most : ℕ) (a : Act) (live : List ℕ) (before now : List Group) → Stays a → AreLive live before → Applied most a before now → AreLive live now
+stay_live most a live before now s k p = record {
+  numbers = λ d. k.numbers d ∙ sym (ap is_some (p.calls d) ∙ same_open a (call_in before) d s);
+  rising = k.rising;
+  count = same_held most a before now s p ∙ k.count;
+}
+
+-- ---- numbers
+
+-- an open call has a number from 1 to 4,096
+pub open_number : (most : ℕ) (gs : List Group) (c : ℕ) → AreGroups most gs → IsOpen gs c → IsNumber c
+open_number most gs c k o = go (group_in gs c) refl o where
+  go : (r : Option Group) → group_in gs c ≡ r → is_some (option_map (call_of c) r) ≡ true → IsNumber c
+  go None e t = absurd (let f : false ≡ true = t in cc)
+  go (Some (One x)) e t =
+      let h = found_group most gs c (One x) k e in
+      subst IsNumber (eqb-true x.number c h.1) h.0.number
+  go (Some (Two x y)) e t =
+      let h = found_group most gs c (Two x y) k e in
+      elim (cases_Bool (x.number == c)) [
+        | inl u ↦ subst IsNumber (eqb-true x.number c u) h.0.0.number
+        | inr f ↦ subst IsNumber (eqb-true y.number c (simp f at h.1)) h.0.1.number
+      ]
+
+-- ---- a farm with no call
+
+pub farm_new : (gs : List Group) (live : List ℕ) (kept : List Tally) (failed : List Line) → gs ≡ [] → live ≡ [] → kept ≡ replicate 4097 no_tally → failed ≡ [] →
+    make_farm gs live kept failed 0 ≡ new_farm
+farm_new gs live kept failed eg el ek ef =
+    ap (λ (x : List Group). make_farm x live kept failed 0) eg ∙ ap (λ (x : List ℕ). make_farm [] x kept failed 0) el
+    ∙ ap (λ (x : List Tally). make_farm [] [] x failed 0) ek ∙ ap (λ (x : List Line). make_farm [] [] (replicate 4097 no_tally) x 0) ef

@@ -1,0 +1,15 @@
+pub mod Rising
+pub mod Finding
+pub mod Exchanging
+pub mod Orders
+pub mod Applying
+pub mod Standing
+pub mod Farms
+pub mod Keeping
+pub mod Handing
+pub mod Taking
+pub mod Planning
+pub mod Settling
+pub mod Partners
+pub mod Working
+pub mod Starting

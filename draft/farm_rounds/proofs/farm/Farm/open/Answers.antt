@@ -1,0 +1,44 @@
+use Rattle.std.proofs.Common.{◌≡◌, ◌∙◌, ap, sym, subst, List, [], ◌∷◌, ◌++◌, ℕ, length, arith}
+use Rattle.std.specs.Prelude.{◌==◌, ◌||◌}
+use Rattle.switchboard.specs.declared.act.Act.TheVariants as act
+use Rattle.farm_rounds.specs.declared.call.Call.{Call}
+use Rattle.farm_rounds.specs.declared.call.Group.{Group}
+use Rattle.farm_rounds.specs.declared.call.Group.TheVariants.{One}
+use Rattle.farm_rounds.specs.Numbers.{IsRising, is_among}
+use Rattle.farm_rounds.specs.Memory.{FarmMemory}
+use Rattle.farm_rounds.specs.Acts.{Fits, Applied}
+use Rattle.farm_rounds.proofs.Applying.{few_groups}
+use Rattle.farm_rounds.proofs.Farms.{open_applied, open_live}
+use Rattle.farm_rounds.proofs.farm.Farm.open.Goals as goal
+
+pub overflow_sub-calls : goal.overflow_sub-calls
+overflow_sub-calls c =
+    let i = c.self.invariant in
+    omega (arith, few_groups c.self.inside.groups.items, i.1.count, c.len-calls.ensures, c.len.ensures, c.reserve.ensures.len, ap length c.reserve.ensures.items)
+
+pub add_number-requires-clause-rising : goal.add_number-requires-clause-rising
+add_number-requires-clause-rising c = subst IsRising (sym c.reserve.ensures.items) c.self.invariant.1.rising
+
+pub push_reserved-requires : goal.push_reserved-requires
+push_reserved-requires c =
+    let i = c.self.invariant in
+    omega (arith, few_groups c.self.inside.groups.items, i.1.count, c.len-calls.ensures, c.len.ensures, c.reserve.ensures.len, ap length c.reserve.ensures.items, c.in_ok-reserve-2.ensures.ok, c.reserve-2.ensures.len)
+
+applied : (c : goal.After-push_reserved) → Applied c.self.inside.end (act.Opened c.args.call) c.self.inside.groups.items c.push_reserved.new.self.items
+applied c =
+    let fits = subst (λ (f : FarmMemory). Fits f.groups (act.Opened c.args.call)) (sym c.self.view_is) c.requires in
+    open_applied c.self.inside.end c.args.call c.self.inside.groups.items c.push_reserved.new.self.items fits c.self.invariant.0
+    (c.push_reserved.ensures.items ∙ ap (λ (gs : List Group). gs ++ One c.in_ok-opened.opened ∷ []) c.reserve-2.ensures.items ∙ ap (λ (x : Call). c.self.inside.groups.items ++ One x ∷ []) c.in_ok-opened.ensures)
+
+pub invariant_of-self-2 : goal.invariant_of-self-2
+invariant_of-self-2 c =
+    let i = c.self.invariant in
+    let p = applied c in
+    let items = c.reserve.ensures.items in
+    let live = open_live c.self.inside.end c.args.call c.self.inside.live.items c.add_number.new.numbers.items c.self.inside.groups.items c.push_reserved.new.self.items i.1 p
+    (subst (λ (xs : List ℕ). (d : ℕ) → is_among c.add_number.new.numbers.items d ≡ ((c.args.call == d) || is_among xs d)) items c.add_number.ensures.numbers)
+    c.add_number.ensures.rising (omega (arith, c.add_number.ensures.len, c.reserve.ensures.len)) in
+    (p.groups, live, i.2, omega (arith, few_groups c.self.inside.groups.items, i.1.count, c.len-calls.ensures, c.len.ensures, c.reserve.ensures.len, c.in_ok-reserve-2.ensures.ok, c.reserve-2.ensures.len, c.add_number.ensures.len, c.push_reserved.ensures.capacity))
+
+pub returns-clause-applied : goal.returns-clause-applied
+returns-clause-applied c = subst (λ (f : FarmMemory). Applied f.ended (act.Opened c.args.call) f.groups c.push_reserved.new.self.items) c.self.view_is (applied c)

@@ -1,0 +1,13 @@
+use Rattle.std.proofs.Common.{◌≡◌, vec_len, vec_capacity}
+use Rattle.farm_rounds.specs.Rounds.{jobs_in}
+use Rattle.farm_rounds.proofs.Planning.{Made}
+use Rattle.farm_rounds.proofs.jobs.make_jobs.Given as goal
+
+abbrev pub invariant-loop-group : goal.invariant-loop-group
+invariant-loop-group l = record {
+  made : Made l.initial.groups.items l.live l.groups.items (jobs_in l.jobs.items) l.entries;
+  capacity : vec_capacity l.groups ≡ vec_capacity l.initial.groups;
+}
+
+abbrev pub decreases-loop-group : goal.decreases-loop-group
+decreases-loop-group l = vec_len l.groups

@@ -1,0 +1,69 @@
+use Rattle.std.proofs.Common.{rules, ◌≡◌, ◌+◌, ◌≤◌, sym, ap, ◌∙◌, subst, ℕ, List, length, arith}
+use Rattle.std.specs.Global.{Box}
+use Rattle.std.proofs.lemmas.List.{length-map}
+use Rattle.call_pair.specs.declared.job.Job.{Job}
+use Rattle.farm_rounds.specs.declared.entry.Entry.{Entry}
+use Rattle.farm_rounds.specs.Groups.{AreLive}
+use Rattle.farm_rounds.specs.Rounds.{jobs_in, HaveEntries, AreSeats}
+use Rattle.farm_rounds.specs.Working.{IsRound}
+use Rattle.farm_rounds.specs.Memory.{FarmMemory}
+use Rattle.farm_rounds.proofs.Applying.{few_groups}
+use Rattle.farm_rounds.proofs.Starting.{live_found, live_number, few_live, made_number, planned}
+use Rattle.farm_rounds.proofs.Working.{back}
+use Rattle.farm_rounds.specs.Calls.{partner_in}
+use Rattle.farm_rounds.proofs.Partners.{made_partner}
+use Rattle.farm_rounds.proofs.round.Round.plan.Goals as goal
+
+pub make_jobs-requires-clause-found : goal.make_jobs-requires-clause-found
+make_jobs-requires-clause-found c =
+    live_found c.deref.result.now c.farm.inside.groups.items (subst (λ (xs : List ℕ). AreLive xs c.farm.inside.groups.items) (sym c.deref.ensures.value) c.farm.invariant.1)
+
+pub make_seats-requires-clause-numbers : goal.make_seats-requires-clause-numbers
+make_seats-requires-clause-numbers c =
+    live_number c.farm.inside.end c.deref-2.result.now c.farm.inside.groups.items c.farm.invariant.0 (subst (λ (xs : List ℕ). AreLive xs c.farm.inside.groups.items) (sym c.deref-2.ensures.value) c.farm.invariant.1)
+
+pub overflow_cast-calls : goal.overflow_cast-calls
+overflow_cast-calls c =
+    let few = few_live c.farm.inside.end c.farm.inside.live.items c.farm.inside.groups.items c.farm.invariant.0 c.farm.invariant.1 in
+    omega (arith, few, c.len-calls.ensures)
+
+pub reserve-requires-2-clause-jobs : goal.reserve-requires-2-clause-jobs
+reserve-requires-2-clause-jobs c =
+    let few = few_live c.farm.inside.end c.farm.inside.live.items c.farm.inside.groups.items c.farm.invariant.0 c.farm.invariant.1 in
+    omega (arith, few, c.len-calls.ensures)
+
+pub invariant_of-result : goal.invariant_of-result
+invariant_of-result c =
+    let i = c.farm.inside in
+    let entries = c.make_jobs.new.entries in
+    let live1 : c.deref.result.now ≡ i.live.items = c.deref.ensures.value in
+    let have : HaveEntries (jobs_in c.in_ok-jobs.jobs.items) entries i.live.items = subst (λ (xs : List ℕ). HaveEntries (jobs_in c.in_ok-jobs.jobs.items) entries xs) live1 c.in_ok-jobs.ensures.entries in
+    let calls : c.len-calls.result ≡ length i.live.items = omega (arith, c.len-calls.ensures) in
+    let long : length entries ≡ length i.live.items = omega (arith, c.make_jobs.ensures.length, ap length c.deref_mut.ensures.value, c.in_ok-entries.ensures.len, calls) in
+    let whole = back c.in_ok-entries.entries.len entries c.in_ok-entries.entries.items (omega (arith, c.deref_mut.ensures.len, ap length c.deref_mut.ensures.value)) (c.make_jobs.ensures.length ∙ ap length c.deref_mut.ensures.value) in
+    let are : AreSeats i.live.items entries c.args.periods c.in_ok-seats.seats.items (length i.live.items) =
+    subst (λ (xs : List ℕ). AreSeats xs entries c.args.periods c.in_ok-seats.seats.items (length xs)) c.deref-2.ensures.value
+    (subst (λ (es : List Entry). AreSeats c.deref-2.result.now es c.args.periods c.in_ok-seats.seats.items (length c.deref-2.result.now)) (c.deref-3.ensures.value ∙ whole) c.in_ok-seats.ensures.seats) in
+    let later : i.end ≤ c.args.start = omega (arith, c.requires.later, ap (λ (f : FarmMemory). f.ended) c.farm.view_is) in
+    let number : length c.in_ok-seats.seats.items ≡ length i.live.items = c.in_ok-seats.ensures.length ∙ ap length c.deref-2.ensures.value in
+    let round = planned i.end c.args.start c.args.periods i.groups.items i.live.items i.tallies.items c.reserve.new.self.items (jobs_in c.in_ok-jobs.jobs.items) entries c.in_ok-seats.seats.items later c.requires.last
+    c.farm.invariant.0 c.farm.invariant.1 c.farm.invariant.2 c.in_ok-jobs.ensures.jobs have long are number in
+    let jobs : length c.in_ok-jobs.jobs.items ≡ length i.groups.items = sym (length-map c.in_ok-jobs.jobs.items (λ (b : Box Job). b.value)) ∙ made_number i.groups.items (jobs_in c.in_ok-jobs.jobs.items) c.in_ok-jobs.ensures.jobs in (
+      subst (λ (es : List Entry). IsRound (record { start = c.args.start; ended = c.args.start + c.args.periods; live = i.live.items; tallies = i.tallies.items; failed = c.reserve.new.self.items; jobs = jobs_in c.in_ok-jobs.jobs.items; entries = es; seats = c.in_ok-seats.seats.items })) (sym whole) round,
+      c.in_ok-jobs.ensures.empty,
+      search rules,
+      c.in_ok-with_capacity.ensures.items,
+      c.in_ok-with_capacity-2.ensures.items,
+      c.in_ok-with_capacity-3.ensures.items,
+      omega (arith, c.farm.invariant.3, c.make_jobs.ensures.capacity),
+      omega (arith, calls, c.in_ok-with_capacity.ensures.exact),
+      omega (arith, calls, c.in_ok-with_capacity-2.ensures.exact),
+      omega (arith, calls, c.in_ok-with_capacity-3.ensures.exact),
+      omega (arith, calls, jobs, few_groups i.groups.items, c.farm.invariant.1.count, c.in_ok-reserve-2.ensures),
+      omega (arith, calls, c.in_ok-reserve.ensures.ok, ap length c.reserve.ensures.items, c.reserve.ensures.len),
+    )
+
+pub returns-clause-partners : goal.returns-clause-partners
+returns-clause-partners c d =
+    let i = c.farm.inside in
+    made_partner i.end i.groups.items (jobs_in c.in_ok-jobs.jobs.items) c.farm.invariant.0 c.in_ok-jobs.ensures.jobs d ∙ ap (λ (f : FarmMemory). partner_in f.groups d) c.farm.view_is

@@ -1,0 +1,36 @@
+-- The groups of a farm: each call is in one of them, and an order exchanges some of them for others.
+use Rattle.std.specs.Prelude.{◌≡◌, ℕ, ◌≤◌, ◌<◌, is_some, List, ◌++◌, length}
+use Rattle.std.specs.List.{All, count_by}
+use Rattle.std.specs.List.Sorted.{IsPermutation}
+use Rattle.farm_rounds.specs.declared.call.Call.{Call}
+use Rattle.farm_rounds.specs.declared.call.Group.{Group}
+use Rattle.farm_rounds.specs.declared.call.Group.TheVariants.{One, Two}
+use Rattle.farm_rounds.specs.Calls.{IsNumber, holds, call_in, calls_held}
+use Rattle.farm_rounds.specs.Numbers.{IsRising, is_among}
+
+-- a call whose leg has worked at most so many periods
+pub record IsCall (most : ℕ) (x : Call) : Type 0 where
+  pub number : IsNumber x.number
+  pub worked : x.leg.search.periods ≤ most
+
+-- the calls of a group: of two, the lower number stands first
+abbrev pub IsGroup : ℕ → Group → Type 0
+IsGroup most (One x) = IsCall most x
+IsGroup most (Two x y) = IsCall most x × IsCall most y × (x.number < y.number)
+
+-- no call is in two groups
+pub record AreGroups (most : ℕ) (groups : List Group) : Type 0 where
+  pub apart : (c : ℕ) → count_by (holds c) groups ≤ 1
+  pub each : All (IsGroup most) groups
+
+-- the groups `out` were taken out, and the groups `into` were put in, in whatever order
+pub record Exchanges (out into before now : List Group) : Type 0 where
+  pub others : List Group
+  pub old : IsPermutation before (out ++ others)
+  pub new : IsPermutation now (into ++ others)
+
+-- the numbers of the calls that are open, and how many there are
+pub record AreLive (live : List ℕ) (groups : List Group) : Type 0 where
+  pub numbers : (c : ℕ) → is_among live c ≡ is_some (call_in groups c)
+  pub rising : IsRising live
+  pub count : calls_held groups ≡ length live

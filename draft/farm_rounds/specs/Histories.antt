@@ -1,0 +1,67 @@
+-- The periods that the calls of a farm had. Lists have the newest period first.
+use Rattle.std.specs.Prelude.{◌≡◌, ℕ, Option, Some, None, is_some, ◌==◌, if◌then◌else◌, List, []}
+use Rattle.switchboard.specs.declared.act.Act.{Act}
+use Rattle.switchboard.specs.declared.act.Act.TheVariants.{Opened, Closed, Bridged, Unbridged, LevelSet, DtxSet}
+use Rattle.call_leg.specs.Periods.{CallPeriod}
+use Rattle.call_leg.specs.Settings.{Settings, new_settings, with_level, with_mode, with_bridge, without_bridge}
+use Rattle.call_leg.specs.Counted.{call_counts}
+use Rattle.call_leg.specs.Places.{sent_now}
+use Rattle.call_leg.specs.Down.{down_periods, frames_of}
+use Rattle.call_leg.specs.Stands.{Stands}
+use Rattle.down_framer.specs.Made.{due}
+use Rattle.farm_rounds.specs.declared.call.Call.{Call}
+use Rattle.farm_rounds.specs.declared.call.Group.{Group}
+use Rattle.farm_rounds.specs.declared.tally.Tally.{Tally}
+use Rattle.farm_rounds.specs.Calls.{call_in, partner_in}
+use Rattle.farm_rounds.specs.Acts.{put_at, changed, freed}
+
+-- the periods of a call so far, and what is set for the next one
+pub record CallHistory : Type 0 where
+  pub periods : List CallPeriod
+  pub now : Settings
+
+-- what is kept of a call that ends after these periods
+abbrev pub tally_of : List CallPeriod → Settings → Tally
+tally_of ts now = record { counts = call_counts ts; sent = sent_now ts now }
+
+-- An open call stands for its periods so far, and the settings tell whether it is bridged.
+abbrev pub CallStands : ℕ → Option CallHistory → Option Call → Option ℕ → Type 0
+CallStands c None None partner = partner ≡ None
+CallStands c (Some h) (Some x) partner = (x.number ≡ c) × Stands c h.periods h.now x.leg × (h.now.bridged ≡ is_some partner)
+CallStands c _ _ partner = ⊥
+
+-- the groups of a farm stand for the histories of the open calls, by their numbers
+abbrev pub GroupsStand : (ℕ → Option CallHistory) → List Group → Type 0
+GroupsStand h groups = (c : ℕ) → CallStands c (h c) (call_in groups c) (partner_in groups c)
+
+-- ---- what an act does to the histories
+
+abbrev pub set_now : (Settings → Settings) → CallHistory → CallHistory
+set_now f h = record { periods = h.periods; now = f h.now }
+
+abbrev pub histories_after : Act → (ℕ → Option CallHistory) → ℕ → Option CallHistory
+histories_after (Opened c) h = put_at c (Some (record { periods = []; now = new_settings })) h
+histories_after (Closed c p) h = put_at c None (freed p (set_now without_bridge) h)
+histories_after (Bridged a b) h = changed a (set_now with_bridge) (changed b (set_now with_bridge) h)
+histories_after (Unbridged a b) h = changed a (set_now without_bridge) (changed b (set_now without_bridge) h)
+histories_after (LevelSet c level) h = changed c (set_now (with_level level)) h
+histories_after (DtxSet c mode) h = changed c (set_now (with_mode mode)) h
+
+-- no handed frame waits
+abbrev pub NoneWaits : Option CallHistory → Type 0
+NoneWaits None = Unit {0}
+NoneWaits (Some h) = due (down_periods h.periods) (frames_of h.periods) ≡ None
+
+-- a bridge starts only where no handed frame waits
+abbrev pub NoneDrains : Act → (ℕ → Option CallHistory) → Type 0
+NoneDrains (Bridged a b) h = NoneWaits (h a) × NoneWaits (h b)
+NoneDrains _ h = Unit {0}
+
+-- what is kept of each ended call
+abbrev pub kept_of : Option CallHistory → Tally → Tally
+kept_of None kept = kept
+kept_of (Some h) kept = tally_of h.periods h.now
+
+abbrev pub tallies_after : Act → (ℕ → Option CallHistory) → (ℕ → Tally) → ℕ → Tally
+tallies_after (Closed c p) h kept d = if c == d then kept_of (h d) (kept d) else kept d
+tallies_after _ h kept d = kept d

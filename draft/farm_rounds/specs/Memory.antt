@@ -1,0 +1,27 @@
+-- What a farm keeps (this project's profile).
+use Rattle.std.specs.Prelude.{ℕ, List, [], replicate, slice_index_or}
+use Rattle.trau_io.specs.declared.line.Line.{Line}
+use Rattle.call_leg.specs.Counted.{no_counts}
+use Rattle.farm_rounds.specs.declared.call.Group.{Group}
+use Rattle.farm_rounds.specs.declared.tally.Tally.{Tally}
+
+-- the open calls, alone or in their bridges, and their numbers; what is kept of each ended call, by its number; the lines
+-- that failed; and the end of the last round
+pub record FarmMemory : Type 0 where
+  pub groups : List Group
+  pub live : List ℕ
+  pub tallies : List Tally
+  pub failed : List Line
+  pub ended : ℕ
+
+-- of a call that hasn't ended
+abbrev pub no_tally : Tally
+no_tally = record { counts = no_counts; sent = 0 }
+
+-- what is kept of an ended call
+abbrev pub tally_in : List Tally → ℕ → Tally
+tally_in tallies c = slice_index_or tallies c no_tally
+
+-- a farm with no call
+abbrev pub new_farm : FarmMemory
+new_farm = record { groups = []; live = []; tallies = replicate 4097 no_tally; failed = []; ended = 0 }

@@ -1,0 +1,214 @@
+//! The jobs and the seats of a round.
+
+ghost use Rattle.std.specs.Prelude.{◌≡◌, ◌≢◌, ◌+◌, ◌*◌, ◌<◌, ◌≤◌, ℕ, true, false, [], length, map, reverse, slice_index, slice_set, is_some, IfOk, vec_capacity};
+ghost use Rattle.std.specs.List.{All};
+ghost use Rattle.round_lines.specs.Rounds.{Rising, seat_at, call_at};
+ghost use Rattle.call_pair.specs.Memory.{places_left};
+ghost use Rattle.call_pair.specs.Jobs.{with_io};
+ghost use Rattle.farm_rounds.specs.Calls.{IsNumber, holds, group_in, call_of};
+ghost use Rattle.farm_rounds.specs.Groups.{IsGroup};
+ghost use Rattle.farm_rounds.specs.Numbers.{IsRising, is_among};
+ghost use Rattle.farm_rounds.specs.Rounds.{IsTimely, job_made, half_made, entry_of, HaveEntries, AreSeats, jobs_in, job_at, half_at, HasJob, SameLegs, HaveJobs, HaveTime, AreHanded, HaveJobsAt, HaveWorked, HaveLengths, RisingPlaces, AreTaken, entry_at};
+
+use crate::call::{Call, Group};
+use crate::entry::Entry;
+use crate::live::place_in;
+use call_pair::{Buffers, Half, Job, LegIo};
+use round_lines::{Place, Seat};
+use std::alloc::{AllocError, Global};
+
+// The jobs of the groups, and where each call has its own.
+pub(crate) fn make_jobs(
+    alloc: Global,
+    groups: &mut Vec<Group>,
+    live: &[u32],
+    entries: &mut [Entry],
+) -> Result<Vec<Box<Job>>, AllocError>
+    requires rising { IsRising live.now }
+    requires length { length entries.old ≡ length live.now }
+    requires found { (k : ℕ) → k < length live.now → is_some (group_in groups.old.items (slice_index live.now k)) ≡ true }
+    requires present { (c : ℕ) → is_some (group_in groups.old.items c) ≡ true → is_among live.now c ≡ true }
+    requires each { All (IsGroup 4294967295) groups.old.items }
+    ensures jobs { IfOk result (λ jobs. jobs_in jobs.items ≡ map job_made (reverse groups.old.items)) }
+    ensures entries { IfOk result (λ jobs. HaveEntries (jobs_in jobs.items) entries.new live.now) }
+    ensures length { length entries.new ≡ length entries.old }
+    ensures empty { IfOk result (λ jobs. groups.new.items ≡ []) }
+    ensures capacity { vec_capacity groups.new ≡ vec_capacity groups.old }
+{
+    let mut jobs = Vec::new(alloc);
+    while let Some(group) = groups.pop() {
+        enter(live, entries, jobs.len(), &group);
+        jobs.push(Box::new(alloc, job_of(alloc, group))?)?;
+    }
+    Ok(jobs)
+}
+
+// Notes where the calls of a group have their job.
+fn enter(live: &[u32], entries: &mut [Entry], job: usize, group: &Group)
+    requires rising { IsRising live.now }
+    requires length { length entries.old ≡ length live.now }
+    requires present { (c : ℕ) → holds c group.now ≡ true → is_among live.now c ≡ true }
+    ensures entered { (k : ℕ) → k < length live.now → holds (slice_index live.now k) group.now ≡ true →
+        entry_at entries.new k ≡ entry_of job (call_of (slice_index live.now k) group.now) }
+    ensures others { (k : ℕ) → k < length live.now → holds (slice_index live.now k) group.now ≡ false → entry_at entries.new k ≡ entry_at entries.old k }
+    ensures length { length entries.new ≡ length entries.old }
+{
+    match group {
+        Group::One(only) => enter_call(live, entries, job, only),
+        Group::Two(low, high) => {
+            enter_call(live, entries, job, high);
+            enter_call(live, entries, job, low);
+        }
+    }
+}
+
+fn enter_call(live: &[u32], entries: &mut [Entry], job: usize, call: &Call)
+    requires rising { IsRising live.now }
+    requires length { length entries.old ≡ length live.now }
+    requires present { is_among live.now call.now.number ≡ true }
+    ensures entered { (k : ℕ) → k < length live.now → slice_index live.now k ≡ call.now.number → entry_at entries.new k ≡ entry_of job call.now }
+    ensures others { (k : ℕ) → k < length live.now → slice_index live.now k ≢ call.now.number → entry_at entries.new k ≡ entry_at entries.old k }
+    ensures length { length entries.new ≡ length entries.old }
+{
+    entries[place_in(live, call.number)] = Entry {
+        job,
+        down_failed: call.down_failed,
+        out_failed: call.out_failed,
+    };
+}
+
+fn job_of(alloc: Global, group: Group) -> Job
+    requires { IsGroup 4294967295 group }
+    ensures { result ≡ job_made group }
+{
+    match group {
+        Group::One(only) => Job::One(half_of(alloc, only)),
+        Group::Two(low, high) => Job::Two(half_of(alloc, low), half_of(alloc, high)),
+    }
+}
+
+fn half_of(alloc: Global, call: Call) -> Half
+    requires number { IsNumber call.number }
+    requires periods { call.leg.search.periods ≤ 4294967295 }
+    ensures { result ≡ half_made call }
+{
+    let Call { number, leg, .. } = call;
+    Half {
+        leg,
+        io: LegIo::none(alloc, number),
+    }
+}
+
+// The seats of the open calls.
+pub(crate) fn make_seats(
+    alloc: Global,
+    live: &[u32],
+    entries: &[Entry],
+    periods: u32,
+) -> Result<Vec<Seat>, AllocError>
+    requires length { length entries.now ≡ length live.now }
+    requires numbers { (k : ℕ) → k < length live.now → IsNumber (slice_index live.now k) }
+    requires some { 1 ≤ periods }
+    requires few { periods ≤ 250 }
+    ensures seats { IfOk result (λ seats. AreSeats live.now entries.now periods seats.items (length live.now)) }
+    ensures length { IfOk result (λ seats. length seats.items ≡ length live.now) }
+{
+    let mut seats = Vec::new(alloc);
+    for k in 0..live.len() {
+        let entry = entries[k];
+        seats.push(Seat::new(alloc, live[k], periods, entry.down_failed, entry.out_failed)?)?;
+    }
+    Ok(seats)
+}
+
+// Puts octets in place of those of their call in its job.
+fn swap_in(jobs: &mut [Box<Job>], place: usize, io: LegIo) -> LegIo
+    requires job { HasJob (jobs_in jobs.old) place io.call }
+    requires time { (half_at (jobs_in jobs.old) place io.call).leg.search.periods + places_left io ≤ 4294967295 }
+    ensures jobs { jobs_in jobs.new ≡ slice_set (jobs_in jobs.old) place (with_io (job_at (jobs_in jobs.old) place) io) }
+    ensures io { result ≡ (half_at (jobs_in jobs.old) place io.call).io }
+{
+    jobs[place].swap_io(io)
+}
+
+// Where the job of a seat's call is.
+fn job_place(entries: &[Entry], seat: usize) -> usize
+    requires { seat < length entries.now }
+    ensures { result ≡ (entry_at entries.now seat).job }
+{
+    entries[seat].job
+}
+
+// The buffers of each seat go into the call's job.
+pub(crate) fn hand_in(
+    seats: Vec<Seat>,
+    entries: &[Entry],
+    jobs: &mut [Box<Job>],
+    apart: &mut Vec<Place>,
+)
+    requires entries { length entries.now ≡ length seats.items }
+    requires jobs { HaveJobs (jobs_in jobs.old) entries.now seats.items }
+    requires time { HaveTime (jobs_in jobs.old) entries.now seats.items }
+    requires rising { Rising seats.items }
+    requires none { apart.old.items ≡ [] }
+    requires room { length seats.items ≤ vec_capacity apart.old }
+    ensures same { SameLegs (jobs_in jobs.old) (jobs_in jobs.new) }
+    ensures handed { AreHanded (jobs_in jobs.new) entries.now seats.items (length seats.items) }
+    ensures apart { apart.new.items ≡ map (λ s. s.place) seats.items }
+    ensures long { (k : ℕ) → k < length seats.items → length (seat_at seats.items k).up ≡ 40 * (seat_at seats.items k).place.periods }
+    ensures timely { (most : ℕ) → All (IsTimely most) (jobs_in jobs.old) → ((k : ℕ) → k < length seats.items →
+        (half_at (jobs_in jobs.old) (entry_at entries.now k).job (call_at seats.items k)).leg.search.periods + (seat_at seats.items k).place.periods ≤ most) → All (IsTimely most) (jobs_in jobs.new) }
+{
+    for seat in seats {
+        let (place, buffers) = seat.into_parts();
+        let io = LegIo::new(place.call(), for_job(buffers), place.whole());
+        let _ = swap_in(jobs, job_place(entries, apart.len()), io);
+        apart.push_reserved(place);
+    }
+}
+
+// .. and come back, as the job left them.
+pub(crate) fn hand_out(
+    alloc: Global,
+    apart: Vec<Place>,
+    entries: &[Entry],
+    jobs: &mut [Box<Job>],
+    worked: &mut Vec<Seat>,
+)
+    requires entries { length entries.now ≡ length apart.items }
+    requires jobs { HaveJobsAt (jobs_in jobs.old) entries.now apart.items }
+    requires time { HaveWorked (jobs_in jobs.old) entries.now apart.items }
+    requires long { HaveLengths (jobs_in jobs.old) entries.now apart.items }
+    requires rising { RisingPlaces apart.items }
+    requires none { worked.old.items ≡ [] }
+    requires room { length apart.items ≤ vec_capacity worked.old }
+    ensures same { SameLegs (jobs_in jobs.old) (jobs_in jobs.new) }
+    ensures worked { AreTaken (jobs_in jobs.old) entries.now apart.items worked.new.items (length apart.items) }
+    ensures length { length worked.new.items ≡ length apart.items }
+{
+    for place in apart {
+        let none = LegIo::none(alloc, place.call());
+        let io = swap_in(jobs, job_place(entries, worked.len()), none);
+        worked.push_reserved(Seat::from_parts(place, for_seat(io.into_buffers())));
+    }
+}
+
+fn for_job(buffers: round_lines::Buffers) -> Buffers
+    ensures up { result.up.items ≡ buffers.up.items }
+    ensures pcm { result.pcm.items ≡ buffers.pcm.items }
+    ensures out { result.out.items ≡ buffers.out.items }
+    ensures down { result.down.items ≡ buffers.down.items }
+{
+    let round_lines::Buffers { up, pcm, out, down } = buffers;
+    Buffers { up, pcm, out, down }
+}
+
+fn for_seat(buffers: Buffers) -> round_lines::Buffers
+    ensures up { result.up.items ≡ buffers.up.items }
+    ensures pcm { result.pcm.items ≡ buffers.pcm.items }
+    ensures out { result.out.items ≡ buffers.out.items }
+    ensures down { result.down.items ≡ buffers.down.items }
+{
+    let Buffers { up, pcm, out, down } = buffers;
+    round_lines::Buffers { up, pcm, out, down }
+}

@@ -1,0 +1,38 @@
+//! The farm: all open calls, and the rounds that work them.
+//!
+//! Between the switchboard (`switchboard`) and the lines of the calls (`round_lines`): takes what each accepted order does
+//! to the calls, and works their periods of 20 ms in rounds. It keeps the leg of each open call (`call_leg`), those of a
+//! bridge together, what was counted of each call that has ended, and the lines that failed. A round takes all its memory
+//! when it is planned; then the incoming lines are read, the jobs of the calls (`call_pair`) are worked by the pool
+//! (`pool_run`), and the outgoing lines are written.
+//!
+//! `farm` has the farm, `groups` what orders do to its calls; `call` what is kept of a call and of the two calls of a
+//! bridge, `live` the list of the open calls' numbers, `tally` what is kept of an ended call. `round` has a round up to its
+//! work and `worked` what comes after it, `jobs` the calls' jobs and their octets, `entry` where they are, `settle` the
+//! calls after a round, and `rest` the parts of a farm meanwhile.
+//!
+//! Definitions: `specs/Calls.antt` (the calls of a farm by their numbers), `specs/Acts.antt` (what an order does),
+//! `specs/Histories.antt` (the periods that the calls had), `specs/Memory.antt`, `specs/Groups.antt` and
+//! `specs/Numbers.antt` (what a farm keeps); `specs/Rounds.antt` (jobs and seats), `specs/Working.antt` (what a round
+//! keeps), `specs/Settling.antt` (what is left of a job).
+#![tactic(auto)]
+
+mod call;
+mod entry;
+mod farm;
+mod groups;
+mod jobs;
+mod live;
+mod rest;
+mod round;
+#[cfg(test)]
+mod round_tests;
+mod settle;
+mod tally;
+#[cfg(test)]
+mod tests;
+mod worked;
+
+pub use farm::Farm;
+pub use round::Round;
+pub use worked::Worked;

@@ -1,0 +1,174 @@
+//! A round before it is worked.
+
+ghost use Rattle.std.specs.Prelude.{◌≡◌, ℕ, ◌+◌, ◌<◌, ◌≤◌, length, map, reverse, slice_index, IfOk};
+ghost use Rattle.std.specs.List.{filter_map};
+ghost use Rattle.round_lines.specs.Seats.{Fills};
+ghost use Rattle.round_lines.specs.Rounds.{Each, KeepsButEach, IsIncoming, call_at, seat_at, seat_end};
+ghost use Rattle.farm_rounds.specs.Rounds.{job_made, groups_from};
+ghost use Rattle.farm_rounds.specs.Calls.{call_in, partner_in};
+
+use crate::entry::{Entry, NO_ENTRY};
+use crate::farm::Farm;
+use crate::jobs::{hand_in, hand_out, make_jobs, make_seats};
+use crate::rest::Rest;
+use crate::worked::Worked;
+use call_pair::Job;
+use pool_run::{PoolRoom, run_pool};
+use round_lines::{Place, Seat, fill_seats, list_ends};
+use std::alloc::{AllocError, Global};
+use std::marker::Model;
+use trau_io::{CallEnd, Trunk};
+
+/// A round of the open calls that is planned, with all the memory that it needs.
+#[derive(Drop)]
+pub struct Round {
+    alloc: Global,
+    start: u32,
+    end: u32,
+    rest: Rest,
+    jobs: Vec<Box<Job>>,
+    // Seat by seat, where the call's job is; the calls' numbers rise.
+    entries: Vec<Entry>,
+    seats: Vec<Seat>,
+    // Room for the numbers, for the seats without their buffers, and once they are worked.
+    numbers: Vec<u32>,
+    apart: Vec<Place>,
+    worked: Vec<Seat>,
+    room: PoolRoom<Job>,
+    ends: Vec<CallEnd>,
+}
+
+impl Model for Round {
+    ghost use Rattle.std.specs.Prelude.{◌≡◌, ◌+◌, ◌*◌, ◌≤◌, [], length, vec_len, vec_capacity};
+    ghost use Rattle.farm_rounds.specs.Rounds.{jobs_in};
+    ghost use Rattle.farm_rounds.specs.Working.{RoundMemory, IsRound};
+
+    ghost Value = { RoundMemory };
+
+    ghost view = { λ r. record { start = r.start; ended = r.end; live = r.rest.live.items; tallies = r.rest.tallies.items; failed = r.rest.failed.items; jobs = jobs_in r.jobs.items; entries = r.entries.items; seats = r.seats.items } };
+
+    ghost invariant = { λ r. IsRound (record { start = r.start; ended = r.end; live = r.rest.live.items; tallies = r.rest.tallies.items; failed = r.rest.failed.items; jobs = jobs_in r.jobs.items; entries = r.entries.items; seats = r.seats.items })
+        × (r.rest.groups.items ≡ []) × (r.numbers.items ≡ r.rest.live.items) × (r.apart.items ≡ []) × (r.worked.items ≡ []) × (r.ends.items ≡ [])
+        × (length r.rest.live.items ≤ vec_capacity r.rest.groups) × (length r.rest.live.items ≤ vec_capacity r.apart) × (length r.rest.live.items ≤ vec_capacity r.worked)
+        × (length r.rest.live.items ≤ vec_capacity r.ends) × (vec_len r.jobs ≤ r.room) × (length r.rest.failed.items + 4 * length r.rest.live.items ≤ vec_capacity r.rest.failed) };
+}
+
+impl Round {
+    /// Plans a round of 1 to 250 periods from period `start` on, which isn't before the end of the farm's last round, in a
+    /// pool of 1 to 64 workers. `start + periods` is at most 4,294,967,295. Takes all the memory of the round.
+    pub fn plan(
+        alloc: Global,
+        farm: Farm,
+        start: u32,
+        periods: u32,
+        workers: u32,
+    ) -> Result<Round, AllocError>
+        requires some { 1 ≤ periods }
+        requires few { periods ≤ 250 }
+        requires some_workers { 1 ≤ workers }
+        requires few_workers { workers ≤ 64 }
+        requires last { start + periods ≤ 4294967295 }
+        requires later { farm.ended ≤ start }
+
+        // The round's periods, a seat for each open call, and what is kept of the farm.
+        ensures start { IfOk result (λ r. r.start ≡ start) }
+        ensures ended { IfOk result (λ r. r.ended ≡ start + periods) }
+        ensures live { IfOk result (λ r. r.live ≡ farm.live) }
+        ensures calls { IfOk result (λ r. (c : ℕ) → is_among r.live c ≡ is_some (call_in farm.groups c)) }
+        ensures rising { IfOk result (λ r. IsRising r.live) }
+        ensures failed { IfOk result (λ r. r.failed ≡ farm.failed) }
+        ensures tallies { IfOk result (λ r. r.tallies ≡ farm.tallies) }
+        ensures number { IfOk result (λ r. length r.seats ≡ length r.live) }
+        ensures jobs { IfOk result (λ r. r.jobs ≡ map job_made (reverse farm.groups)) }
+        ensures partners { IfOk result (λ r. (c : ℕ) → partner_in (groups_from r.jobs) c ≡ partner_in farm.groups c) }
+        ensures seats { IfOk result (λ r. (k : ℕ) → k < length r.seats → call_at r.seats k ≡ slice_index r.live k) }
+        ensures within { IfOk result (λ r. (k : ℕ) → k < length r.seats → start + (seat_at r.seats k).place.periods ≤ start + periods) }
+    {
+        let Farm {
+            groups,
+            live,
+            tallies,
+            failed,
+            end: _,
+        } = farm;
+        let mut rest = Rest {
+            groups,
+            live,
+            tallies,
+            failed,
+        };
+        let calls = rest.live.len();
+        rest.failed.reserve(4 * calls)?;
+        let mut entries = vec![in alloc; NO_ENTRY; calls]?;
+        let jobs = make_jobs(alloc, &mut rest.groups, &rest.live, &mut entries)?;
+        let seats = make_seats(alloc, &rest.live, &entries, periods)?;
+        let numbers = rest.live.to_vec(alloc)?;
+        Ok(Round {
+            alloc,
+            start,
+            end: start + periods,
+            rest,
+            jobs,
+            entries,
+            seats,
+            numbers,
+            apart: Vec::with_capacity(alloc, calls)?,
+            worked: Vec::with_capacity(alloc, calls)?,
+            room: PoolRoom::reserve(alloc, workers, calls as u32)?,
+            ends: Vec::with_capacity(alloc, calls)?,
+        })
+    }
+
+    /// Reads the incoming lines of each call, once and before the work.
+    pub fn fill<T: Trunk>(&mut self, trunk: &mut T)
+        ensures fills { Each Fills (T.lines trunk.old) (T.lines trunk.new) self.old.seats self.new.seats (length self.old.seats) }
+        ensures others { KeepsButEach IsIncoming (T.lines trunk.old) (T.lines trunk.new) self.old.seats (length self.old.seats) }
+        ensures kept { self.new ≡ record self.old { seats = self.new.seats } }
+        ensures number { length self.new.seats ≡ length self.old.seats }
+    {
+        fill_seats(trunk, &mut self.seats);
+    }
+
+    /// Works the round, its jobs in slices of `slice` periods, at least 1.
+    pub fn work(self, slice: u32) -> Worked
+        requires { 1 ≤ slice }
+
+        // Each job is finished, and each call has its place. The calls that end in the round are told, by their numbers.
+        ensures ended { result.ended ≡ self.ended }
+        ensures live { result.live ≡ self.live }
+        ensures failed { result.failed ≡ self.failed }
+        ensures tallies { result.tallies ≡ self.tallies }
+        ensures number { length result.seats ≡ length self.seats }
+        ensures places { (k : ℕ) → k < length self.seats → (seat_at result.seats k).place ≡ (seat_at self.seats k).place }
+        ensures calls { (k : ℕ) → k < length self.seats → call_at result.seats k ≡ call_at self.seats k }
+        ensures partners { (c : ℕ) → partner_in (groups_from result.jobs) c ≡ partner_in (groups_from self.jobs) c }
+        ensures ends { result.ends ≡ filter_map (seat_end self.start) result.seats }
+    {
+        let Round {
+            alloc,
+            start,
+            end,
+            rest,
+            mut jobs,
+            entries,
+            seats,
+            numbers,
+            mut apart,
+            mut worked,
+            room,
+            mut ends,
+        } = self;
+        hand_in(seats, &entries, &mut jobs, &mut apart);
+        let mut jobs = run_pool(room, jobs, slice);
+        hand_out(alloc, apart, &entries, &mut jobs, &mut worked);
+        list_ends(&worked, start, &mut ends);
+        Worked {
+            end,
+            rest,
+            jobs,
+            seats: worked,
+            numbers,
+            ends,
+        }
+    }
+}

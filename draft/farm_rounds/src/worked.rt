@@ -1,0 +1,91 @@
+//! A round after its work.
+
+ghost use Rattle.std.specs.Prelude.{◌≡◌, ◌&&◌, ℕ, List, is_some, length};
+ghost use Rattle.round_lines.specs.Seats.{SeatMemory, Drains};
+ghost use Rattle.round_lines.specs.Rounds.{Each, KeepsButEach, IsOutgoing};
+ghost use Rattle.farm_rounds.specs.Calls.{call_in, partner_in};
+ghost use Rattle.farm_rounds.specs.Numbers.{is_among};
+ghost use Rattle.farm_rounds.specs.Rounds.{groups_from};
+ghost use Rattle.farm_rounds.specs.Working.{GainsFailed, goes_on_call, partner_past};
+
+use crate::farm::Farm;
+use crate::rest::Rest;
+use crate::settle::settle_all;
+use call_pair::Job;
+use round_lines::{Seat, drain_seats, list_failed};
+use std::marker::Model;
+use trau_io::{CallEnd, Trunk, place};
+
+/// A round that is worked: what its calls give to their outgoing lines, and which of them end.
+#[derive(Drop)]
+pub struct Worked {
+    pub(crate) end: u32,
+    pub(crate) rest: Rest,
+    pub(crate) jobs: Vec<Box<Job>>,
+    pub(crate) seats: Vec<Seat>,
+    pub(crate) numbers: Vec<u32>,
+    pub(crate) ends: Vec<CallEnd>,
+}
+
+impl Model for Worked {
+    ghost use Rattle.std.specs.Prelude.{◌≡◌, ◌+◌, ◌*◌, ◌≤◌, [], length, vec_capacity};
+    ghost use Rattle.farm_rounds.specs.Rounds.{jobs_in};
+    ghost use Rattle.farm_rounds.specs.Working.{WorkedMemory, IsWorked};
+
+    ghost Value = { WorkedMemory };
+
+    ghost view = { λ r. record { ended = r.end; live = r.rest.live.items; tallies = r.rest.tallies.items; failed = r.rest.failed.items; jobs = jobs_in r.jobs.items; seats = r.seats.items; ends = r.ends.items } };
+
+    ghost invariant = { λ r. IsWorked (record { ended = r.end; live = r.rest.live.items; tallies = r.rest.tallies.items; failed = r.rest.failed.items; jobs = jobs_in r.jobs.items; seats = r.seats.items; ends = r.ends.items })
+        × (r.rest.groups.items ≡ []) × (r.numbers.items ≡ r.rest.live.items)
+        × (length r.rest.live.items ≤ vec_capacity r.rest.groups) × (length r.rest.failed.items + 4 * length r.rest.live.items ≤ vec_capacity r.rest.failed) };
+}
+
+impl Worked {
+    /// The ends of the calls that end in the round, by their numbers.
+    pub fn ends(&self) -> &[CallEnd]
+        ensures { result.now ≡ self.now.ends }
+    {
+        self.ends.as_slice()
+    }
+
+    /// Writes the outgoing lines of each call, and gives the farm after the round.
+    pub fn drain<T: Trunk>(self, trunk: &mut T) -> Farm
+        ensures drains { (seats : List SeatMemory) × Each Drains (T.lines trunk.old) (T.lines trunk.new) self.seats seats (length self.seats) × GainsFailed self.failed result.failed seats }
+        ensures others { KeepsButEach IsOutgoing (T.lines trunk.old) (T.lines trunk.new) self.seats (length self.seats) }
+        ensures ended { result.ended ≡ self.ended }
+
+        // The calls whose lines gave all periods of the round are open, and no others.
+        ensures live { (c : ℕ) → is_among result.live c ≡ (is_among self.live c && goes_on_call self.seats c) }
+
+        // The farm's calls are the open ones. Partners that both go on stay so; a call whose partner has ended goes on alone.
+        ensures open { (c : ℕ) → is_some (call_in result.groups c) ≡ is_among result.live c }
+        ensures partners { (c : ℕ) → partner_in result.groups c ≡ partner_past (goes_on_call self.seats) (partner_in (groups_from self.jobs)) c }
+    {
+        let Worked {
+            end,
+            rest,
+            jobs,
+            mut seats,
+            numbers,
+            ends: _,
+        } = self;
+        let Rest {
+            mut groups,
+            mut live,
+            mut tallies,
+            mut failed,
+        } = rest;
+        drain_seats(trunk, &mut seats);
+        list_failed(&seats, &mut failed);
+        failed.sort_unstable_by_key(|line| place(*line));
+        settle_all(jobs, &seats, &numbers, &mut groups, &mut live, &mut tallies);
+        Farm {
+            groups,
+            live,
+            tallies,
+            failed,
+            end,
+        }
+    }
+}

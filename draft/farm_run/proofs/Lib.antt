@@ -1,0 +1,13 @@
+pub mod Places
+pub mod Matching
+pub mod Following
+pub mod Rounds
+pub mod Partners
+pub mod LineOctets
+pub mod RoundEnds
+pub mod Told
+pub mod SeatEnds
+pub mod Worked
+pub mod Seats
+pub mod Ending
+pub mod Reporting

@@ -1,0 +1,31 @@
+-- Where the latest bridges of calls stand.
+use Rattle.std.proofs.Common.{◌≡◌, refl, sym, ◌∙◌, ap, subst, ℕ, zero, suc, ◌<◌, Option, Some, None, List, [], length, replicate, get_or, arith}
+use Rattle.std.proofs.lemmas.List.{length-replicate, get_or_default}
+use Rattle.std.proofs.lemmas.List.Elements.{All-nil}
+use Rattle.trau_io.specs.declared.ends.CallEnd.{CallEnd}
+use Rattle.farm_rounds.specs.Calls.{IsNumber}
+use Rattle.farm_run.specs.declared.exchange.Opening.{Opening}
+use Rattle.farm_run.specs.declared.exchange.Exchange.{Exchange}
+use Rattle.farm_run.specs.Journal.{HaveNumbers, IsJournal, no_opening, opening_of}
+
+none_opened : (n c : ℕ) → opening_of (replicate n no_opening) c ≡ no_opening
+none_opened zero c = refl
+none_opened (suc n) zero = refl
+none_opened (suc n) (suc c) = none_opened n c
+
+nowhere : (o : Option ℕ) (k : ℕ) → o ≡ None → o ≡ Some k → ⊥
+nowhere o k none some = cc
+
+pub journal-new : (calls : List Opening) (ends : List CallEnd) (bridges : List Exchange) → calls ≡ replicate 4097 no_opening → ends ≡ [] → IsJournal calls ends bridges
+journal-new calls ends bridges e n = record {
+  long = ap length e ∙ length-replicate 4097 no_opening;
+  numbers = subst HaveNumbers (sym n) (All-nil (λ e. IsNumber e.call));
+  places = λ c k h. absurd (nowhere _ k (ap (λ (o : Opening). o.bridge) (ap (λ xs. opening_of xs c) e ∙ none_opened 4097 c)) h);
+}
+
+-- the place that is noted of a call is that of a bridge
+pub place_known : (calls : List Opening) (ends : List CallEnd) (bridges : List Exchange) (c k : ℕ) (o : Opening) → IsJournal calls ends bridges → c < 4097 →
+    o ≡ get_or calls c o → o.bridge ≡ Some k → k < length bridges
+place_known calls ends bridges c k o j h e b =
+    let long = j.long in
+    j.places c k (ap (λ (x : Opening). x.bridge) (get_or_default calls c no_opening o (omega arith) ∙ sym e) ∙ b)

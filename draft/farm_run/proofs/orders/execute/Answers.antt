@@ -1,0 +1,67 @@
+use Rattle.std.proofs.Common.{◌≡◌, ℕ, sym, ◌∙◌, subst, arith, refl}
+use Rattle.std.specs.Prelude.{IfOk, OnErr}
+use Rattle.trau_orders.specs.Lists.{AreOrders}
+use Rattle.switchboard.specs.declared.act.Act.{Act}
+use Rattle.switchboard.specs.Replies.{IsInRange}
+use Rattle.switchboard.specs.Open.{opened_now, open_now, partner_now, open_after, partner_after, Finds, IsAsBefore}
+use Rattle.farm_run.proofs.Matching.{fits, named, matches_more, matches_same}
+use Rattle.farm_run.proofs.Following.{due_of, ahead_more, follows_more, follows_same}
+use Rattle.farm_run.proofs.orders.execute.Goals as goal
+
+pub note-requires : goal.note-requires
+note-requires c =
+    named c.args.board.now c.args.farm.now.groups c.in-Ok.act c.requires.matches
+    (subst (λ x. IfOk x (λ (a : Act). Finds a (opened_now c.args.board.now) (open_now c.args.board.now) (partner_now c.args.board.now))) c.in-Ok.is c.in-Some.ensures.finds)
+
+pub apply-requires : goal.apply-requires
+apply-requires c =
+    fits c.args.board.now c.args.farm.now.groups c.in-Ok.act c.requires.matches
+    (subst (λ x. IfOk x (λ (a : Act). Finds a (opened_now c.args.board.now) (open_now c.args.board.now) (partner_now c.args.board.now))) c.in-Ok.is c.in-Some.ensures.finds)
+    (subst (λ x. IfOk x IsInRange) c.in-Ok.is c.in-Some.ensures.range)
+
+pub returns-in_ok-apply-clause-clock : goal.returns-in_ok-apply-clause-clock
+returns-in_ok-apply-clause-clock c =
+    let b = c.args.board.now in
+    let e = c.in-Some.ensures in
+    record {
+      orders = subst AreOrders (sym c.turn.ensures.kept) c.requires.orders;
+      ahead = ahead_more b c.turn.new.self c.args.clock c.in-Some.reply c.requires.orders (due_of b c.turn.new.self c.args.clock c.in-Some.reply (sym c.in-Some.is ∙ c.turn.ensures.answer) c.turn.ensures.state);
+      past = omega (arith, e.last refl);
+      ends = c.turn.ensures.told c.args.clock c.requires.ends;
+      matches = matches_more b c.turn.new.self c.args.farm.now.groups c.apply.new.self.groups c.in-Ok.act c.requires.matches
+          (subst (λ x. IfOk x (λ (a : Act). Finds a (opened_now b) (open_now b) (partner_now b))) c.in-Ok.is e.finds)
+          (subst (λ x. IfOk x (λ (a : Act). (c' : ℕ) → open_now c.turn.new.self c' ≡ open_after a (open_now b) c')) c.in-Ok.is e.open)
+          (subst (λ x. IfOk x (λ (a : Act). (c' : ℕ) → partner_now c.turn.new.self c' ≡ partner_after a (partner_now b) c')) c.in-Ok.is e.partner)
+          c.in_ok-apply.ensures.calls c.in_ok-apply.ensures.partners;
+    }
+
+pub returns-in_ok-apply-clause-follows : goal.returns-in_ok-apply-clause-follows
+returns-in_ok-apply-clause-follows c = λ r under f.
+    let b = c.args.board.now in
+    let e = c.in-Some.ensures in
+    follows_more r c.args.clock b c.turn.new.self c.in-Some.reply c.args.farm.now.groups (due_of b c.turn.new.self c.args.clock c.in-Some.reply (sym c.in-Some.is ∙ c.turn.ensures.answer) c.turn.ensures.state)
+    under (c.turn.ensures.run _ f.so_far.replies f.tells) f c.in-Ok.act c.in-Ok.is
+    (subst (λ x. IfOk x (λ (a : Act). Finds a (opened_now b) (open_now b) (partner_now b))) c.in-Ok.is e.finds)
+    (subst (λ x. IfOk x (λ (a : Act). (c' : ℕ) → open_now c.turn.new.self c' ≡ open_after a (open_now b) c')) c.in-Ok.is e.open)
+    c.apply.new.self.groups c.in_ok-apply.ensures.history
+
+pub returns-in_default-result-clause-clock : goal.returns-in_default-result-clause-clock
+returns-in_default-result-clause-clock c =
+    let b = c.args.board.now in
+    let e = c.in-Some.ensures in
+    let same : IsAsBefore b c.turn.new.self = subst (λ x. OnErr x (IsAsBefore b c.turn.new.self)) c.in_default-result.is e.stays in
+    record {
+      orders = subst AreOrders (sym c.turn.ensures.kept) c.requires.orders;
+      ahead = ahead_more b c.turn.new.self c.args.clock c.in-Some.reply c.requires.orders (due_of b c.turn.new.self c.args.clock c.in-Some.reply (sym c.in-Some.is ∙ c.turn.ensures.answer) c.turn.ensures.state);
+      past = omega (arith, e.last refl);
+      ends = c.turn.ensures.told c.args.clock c.requires.ends;
+      matches = matches_same b c.turn.new.self c.args.farm.now.groups c.requires.matches same.is_open same.partner;
+    }
+
+pub returns-in_default-result-clause-follows : goal.returns-in_default-result-clause-follows
+returns-in_default-result-clause-follows c = λ r under f.
+    let b = c.args.board.now in
+    let e = c.in-Some.ensures in
+    let same : IsAsBefore b c.turn.new.self = subst (λ x. OnErr x (IsAsBefore b c.turn.new.self)) c.in_default-result.is e.stays in
+    follows_same r c.args.clock b c.turn.new.self c.in-Some.reply c.args.farm.now.groups (due_of b c.turn.new.self c.args.clock c.in-Some.reply (sym c.in-Some.is ∙ c.turn.ensures.answer) c.turn.ensures.state)
+    under (c.turn.ensures.run _ f.so_far.replies f.tells) f c.in_default-result.field-0 c.in_default-result.is same.is_open

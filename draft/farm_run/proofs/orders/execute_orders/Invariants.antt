@@ -1,0 +1,17 @@
+use Rattle.std.proofs.Common.{◌≡◌, ◌<◌, length}
+use Rattle.switchboard.specs.State.{orders_of}
+use Rattle.farm_output.specs.Run.{Run}
+use Rattle.farm_run.specs.Match.{AtClock, Follows}
+use Rattle.farm_run.proofs.orders.execute_orders.Given as goal
+
+abbrev pub invariant-loop : goal.invariant-loop
+invariant-loop l = record {
+  clock : AtClock l.clock l.board l.farm.groups;
+  kept : orders_of l.board ≡ orders_of l.initial.board;
+  ended : l.farm.ended ≡ l.initial.farm.ended;
+  failed : l.farm.failed ≡ l.initial.farm.failed;
+  follows : (r : Run) → l.clock < r.periods → Follows r l.clock l.initial.board l.initial.farm.groups → Follows r l.clock l.board l.farm.groups;
+}
+
+abbrev pub decreases-loop : goal.decreases-loop
+decreases-loop l = length l.board.left

@@ -1,0 +1,34 @@
+-- The ends of calls, as the board is told of them (this project's profile).
+use Rattle.std.specs.Prelude.{◌≡◌, ◌≤◌, ℕ, Bool, true, false, ◌||◌, if◌then◌else◌, Option, Some, None, List, [], ◌∷◌}
+use Rattle.std.specs.List.{All}
+use Rattle.trau_io.specs.declared.ends.CallEnd.{CallEnd}
+use Rattle.trau_io.specs.declared.ends.Cause.TheVariants.{Limit}
+use Rattle.switchboard.specs.State.{State, last_stamp}
+use Rattle.switchboard.specs.Open.{open_now}
+use Rattle.farm_run.specs.Going.{is_told}
+
+-- ends of calls that are open
+abbrev pub AreOpen : State → List CallEnd → Type 0
+AreOpen s ends = All (λ e. open_now s e.call ≡ true) ends
+
+-- no call has two of these ends
+abbrev pub AreApart : List CallEnd → Type 0
+AreApart [] = Unit {0}
+AreApart (e ∷ ends) = (is_told e.call ends ≡ false) × AreApart ends
+
+-- none is below the stamp of an executed order
+abbrev pub AreLate : State → List CallEnd → Type 0
+AreLate s ends = All (λ e. last_stamp s.done ≤ e.at) ends
+
+-- there is a partner, and its end is one of these
+abbrev pub has_left : Option ℕ → List CallEnd → Bool
+has_left None ends = false
+has_left (Some p) ends = is_told p ends
+
+-- the partner of a call after these ends: none where one of the two has ended
+abbrev pub partner_past : List CallEnd → (ℕ → Option ℕ) → ℕ → Option ℕ
+partner_past ends partner c = if is_told c ends || has_left (partner c) ends then None else partner c
+
+-- the end of a call that is open when the run ends
+abbrev pub limit_at : ℕ → ℕ → CallEnd
+limit_at at c = record { call = c; at = at; cause = Limit }

@@ -1,0 +1,75 @@
+-- What is kept of a run for its report (this project's profile).
+use Rattle.std.specs.Prelude.{◌≡◌, ℕ, ◌<◌, ◌==◌, if◌then◌else◌, Option, Some, None, List, [], ◌∷◌, ◌++◌, length, replicate}
+use Rattle.std.specs.List.{All}
+use Rattle.std.proofs.Common.{get_or, set}
+use Rattle.farm_rounds.specs.Calls.{IsNumber}
+use Rattle.trau_io.specs.declared.ends.CallEnd.{CallEnd}
+use Rattle.farm_run.specs.declared.exchange.Opening.{Opening}
+use Rattle.farm_run.specs.declared.exchange.Exchange.{Exchange}
+
+-- what is known of each call, by its number; the ends of calls and the bridges, in the order in which they came
+pub record JournalMemory : Type 0 where
+  pub calls : List Opening
+  pub ends : List CallEnd
+  pub bridges : List Exchange
+
+-- of a call that wasn't opened
+abbrev pub no_opening : Opening
+no_opening = record { from = 0; bridge = None }
+
+abbrev pub opening_of : List Opening → ℕ → Opening
+opening_of calls c = get_or calls c no_opening
+
+-- before the first order
+abbrev pub new_journal : JournalMemory
+new_journal = record { calls = replicate 4097 no_opening; ends = []; bridges = [] }
+
+-- the ends are those of calls
+abbrev pub HaveNumbers : List CallEnd → Type 0
+HaveNumbers ends = All (λ e. IsNumber e.call) ends
+
+-- there is an entry for each call number, the places are those of bridges, and the ends those of calls
+pub record IsJournal (calls : List Opening) (ends : List CallEnd) (bridges : List Exchange) : Type 0 where
+  pub long : length calls ≡ 4097
+  pub numbers : HaveNumbers ends
+  pub places : (c k : ℕ) → (opening_of calls c).bridge ≡ Some k → k < length bridges
+
+-- ---- what is noted
+
+-- a call is opened
+abbrev pub with_opening : ℕ → ℕ → JournalMemory → JournalMemory
+with_opening c period j = record j { calls = set j.calls c (record { from = period; bridge = None }) }
+
+-- a call ends
+abbrev pub with_end : CallEnd → JournalMemory → JournalMemory
+with_end end j = record j { ends = j.ends ++ end ∷ [] }
+
+-- the latest bridge of a call stands at this place
+abbrev pub bridged_at : ℕ → ℕ → List Opening → List Opening
+bridged_at c place calls = set calls c (record { from = (opening_of calls c).from; bridge = Some place })
+
+-- so do several, one after another
+abbrev pub with_ends : List CallEnd → JournalMemory → JournalMemory
+with_ends ends j = record j { ends = j.ends ++ ends }
+
+-- a bridge of two calls begins
+abbrev pub with_bridge : ℕ → ℕ → JournalMemory → JournalMemory
+with_bridge a b j = record j {
+  calls = bridged_at b (length j.bridges) (bridged_at a (length j.bridges) j.calls);
+  bridges = j.bridges ++ record { a = a; b = b; sent_by_a = 0; sent_by_b = 0 } ∷ [];
+}
+
+-- a call has sent so many handed frames in a bridge
+abbrev pub with_sent : ℕ → ℕ → Exchange → Exchange
+with_sent c sent x = if c == x.a then record x { sent_by_a = sent } else record x { sent_by_b = sent }
+
+abbrev pub no_exchange : Exchange
+no_exchange = record { a = 0; b = 0; sent_by_a = 0; sent_by_b = 0 }
+
+abbrev pub sent_at : ℕ → ℕ → Option ℕ → List Exchange → List Exchange
+sent_at c sent None bridges = bridges
+sent_at c sent (Some k) bridges = set bridges k (with_sent c sent (get_or bridges k no_exchange))
+
+-- and in its latest one, if it has been bridged
+abbrev pub settled : ℕ → ℕ → JournalMemory → JournalMemory
+settled c sent j = record j { bridges = sent_at c sent (opening_of j.calls c).bridge j.bridges }

@@ -1,0 +1,55 @@
+-- What ties the board and the farm of a run to each other.
+use Rattle.std.specs.Prelude.{◌≡◌, ◌≤◌, ℕ, ◌-◌, Bool, true, false, Option, Some, None, is_some, IfSome, List}
+use Rattle.trau_orders.specs.Lists.{AreOrders}
+use Rattle.call_leg.specs.Periods.{CallPeriod}
+use Rattle.call_leg.specs.Settings.{Settings}
+use Rattle.switchboard.specs.Calls.{Done, is_open, gone_at}
+use Rattle.switchboard.specs.declared.act.Act.{Act}
+use Rattle.switchboard.specs.declared.act.Act.TheVariants as act
+use Rattle.switchboard.specs.State.{State, EndBefore, first_stamp, last_stamp, orders_of}
+use Rattle.switchboard.specs.Runs.{TellsEnds}
+use Rattle.switchboard.specs.Ends.{start_of}
+use Rattle.switchboard.specs.Open.{open_now, partner_now}
+use Rattle.farm_output.specs.Run.{Run, whole_in, periods_to}
+use Rattle.farm_output.specs.Now.{IsSoFar, settings_now}
+use Rattle.farm_rounds.specs.declared.call.Group.{Group}
+use Rattle.farm_rounds.specs.Calls.{IsNumber, call_in, partner_in}
+use Rattle.farm_rounds.specs.Histories.{CallHistory, GroupsStand}
+
+-- the same calls are open, each has the same partner, and their numbers are those of calls
+pub record Matches (b : State) (groups : List Group) : Type 0 where
+  pub is_open : (c : ℕ) → is_some (call_in groups c) ≡ open_now b c
+  pub partner : (c : ℕ) → partner_in groups c ≡ partner_now b c
+  pub number : (c : ℕ) → open_now b c ≡ true → IsNumber c
+
+-- the calls that the run notes something of have numbers of calls
+abbrev pub AreNumbers : Act → Type 0
+AreNumbers (act.Opened c) = IsNumber c
+AreNumbers (act.Closed c p) = IsNumber c
+AreNumbers (act.Bridged a b) = IsNumber a × IsNumber b
+AreNumbers _ = Unit {0}
+
+-- At the clock t no order that is left has a smaller stamp, no executed one a greater one, and all ends that were told lie
+-- before.
+pub record AtClock (t : ℕ) (b : State) (groups : List Group) : Type 0 where
+  pub orders : AreOrders (orders_of b)
+  pub ahead : IfSome (first_stamp b.left) (λ s. t ≤ s)
+  pub past : last_stamp b.done ≤ t
+  pub ends : EndBefore t b
+  pub matches : Matches b groups
+
+-- ---- the same, beside what the definition says of the run
+
+-- what a call has had, where it is open
+abbrev pub past_if : Bool → List CallPeriod → Settings → Option CallHistory
+past_if true ts now = Some (record { periods = ts; now = now })
+past_if false ts now = None
+
+-- what each open call has had at the clock t, after these orders
+abbrev pub histories_at : Run → List Done → ℕ → ℕ → Option CallHistory
+histories_at r ds t c = past_if (is_open (gone_at (whole_in r) t ds) ds c) (periods_to r c (t - start_of ds c)) (settings_now r ds t c)
+
+pub record Follows (r : Run) (t : ℕ) (b : State) (groups : List Group) : Type 0 where
+  pub so_far : IsSoFar r t b.done b.left
+  pub tells : TellsEnds (whole_in r) t b
+  pub stands : GroupsStand (histories_at r b.done t) groups

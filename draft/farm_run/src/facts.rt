@@ -1,0 +1,116 @@
+//! The report of a run that has ended: what the board, the farm and the journal know of it.
+
+ghost use Rattle.std.specs.Prelude.{◌≡◌, ◌≤◌, ◌-◌, ℕ, Option, length, map, IfOk, IsPermutation};
+ghost use Rattle.std.specs.List.Sorted.{IsNonDecreasingBy};
+ghost use Rattle.switchboard.specs.State.{numbered, told_in};
+ghost use Rattle.switchboard.specs.Ends.{spans_now};
+ghost use Rattle.farm_rounds.specs.Histories.{CallHistory, GroupsStand};
+ghost use Rattle.farm_run.specs.Facts.{span_line, span_lines, kept_in, call_line, settled_each};
+
+use crate::exchange::Exchange;
+use crate::journal::Journal;
+use farm_report::{CallLine, Report, SpanLine};
+use farm_rounds::Farm;
+use std::alloc::{AllocError, Global};
+use switchboard::{Board, Span};
+
+// A bridge's line. A call hands a frame over in each period of the bridge; those that its partner hasn't sent are lost.
+fn span_line(span: &Span, bridge: &Exchange) -> SpanLine
+    ensures { result ≡ span_line span.now bridge.now }
+{
+    let periods = span.to.saturating_sub(span.from);
+    SpanLine {
+        span: *span,
+        sent_a: bridge.sent_by_b,
+        sent_b: bridge.sent_by_a,
+        lost_a: periods.saturating_sub(bridge.sent_by_b),
+        lost_b: periods.saturating_sub(bridge.sent_by_a),
+    }
+}
+
+fn span_lines(
+    alloc: Global,
+    spans: &[Span],
+    bridges: &[Exchange],
+) -> Result<Vec<SpanLine>, AllocError>
+    ensures { IfOk result (λ lines. lines.items ≡ span_lines spans.now bridges.now) }
+{
+    let mut lines = Vec::with_capacity(alloc, spans.len())?;
+    for (span, bridge) in spans.iter().zip(bridges) {
+        lines.push(span_line(span, bridge))?;
+    }
+    Ok(lines)
+}
+
+// The lines of the calls that have ended, as they ended.
+fn ended_lines(alloc: Global, journal: &Journal, farm: &Farm) -> Result<Vec<CallLine>, AllocError>
+    ensures ends { IfOk result (λ lines. map (λ l. l.end) lines.items ≡ journal.now.ends) }
+    ensures lines { IfOk result (λ lines. (h : ℕ → Option CallHistory) → GroupsStand h farm.now.groups →
+        lines.items ≡ map (call_line journal.now.calls (kept_in farm.now.tallies h)) journal.now.ends) }
+{
+    let mut lines = Vec::with_capacity(alloc, journal.ends().len())?;
+    for end in journal.ends() {
+        lines.push(CallLine {
+            end: *end,
+            from: journal.from(end.call),
+            counts: farm.counts(end.call),
+        })?;
+    }
+    Ok(lines)
+}
+
+// The lines of calls by the calls' numbers.
+fn by_number(mut lines: Vec<CallLine>) -> Vec<CallLine>
+    ensures same { IsPermutation lines.items result.items }
+    ensures sorted { IsNonDecreasingBy (λ l. l.end.call) result.items }
+{
+    lines.sort_unstable_by_key(|line| line.end.call);
+    lines
+}
+
+// Notes of each call that has ended what it has sent in its latest bridge.
+fn settle_all(journal: &mut Journal, farm: &Farm)
+    ensures settled { (h : ℕ → Option CallHistory) → GroupsStand h farm.now.groups → journal.new ≡ settled_each (kept_in farm.now.tallies h) journal.old.ends journal.old }
+    ensures ends { journal.new.ends ≡ journal.old.ends }
+    ensures calls { journal.new.calls ≡ journal.old.calls }
+{
+    for k in 0..journal.ends().len() {
+        let call = journal.ends()[k].call;
+        journal.settle(call, farm.sent(call));
+    }
+}
+
+/// The report of a run of so many orders, of which the board executed some, once the end of each call was noted. An
+/// error says that there was no memory.
+pub(crate) fn report(
+    alloc: Global,
+    board: &Board,
+    farm: &Farm,
+    mut journal: Journal,
+    orders: usize,
+) -> Result<Report, AllocError>
+    requires few { orders ≤ 65536 }
+    ensures replies { IfOk result (λ r. r.replies ≡ numbered 0 board.now.done) }
+    ensures failed { IfOk result (λ r. r.failed ≡ farm.now.failed) }
+    ensures left { IfOk result (λ r. r.left ≡ orders - length board.now.done) }
+
+    // One line for each call that has ended, by the calls' numbers.
+    ensures sorted { IfOk result (λ r. IsNonDecreasingBy (λ l. l.end.call) r.calls) }
+    ensures ends { IfOk result (λ r. IsPermutation journal.ends (map (λ l. l.end) r.calls)) }
+    ensures calls { IfOk result (λ r. (h : ℕ → Option CallHistory) → GroupsStand h farm.now.groups →
+        IsPermutation (map (call_line journal.calls (kept_in farm.now.tallies h)) journal.ends) r.calls) }
+
+    // The bridges that have ended, with what the calls have sent in them.
+    ensures spans { IfOk result (λ r. (h : ℕ → Option CallHistory) → GroupsStand h farm.now.groups →
+        r.spans ≡ span_lines (spans_now (told_in board.now) board.now.done) (settled_each (kept_in farm.now.tallies h) journal.ends journal).bridges) }
+{
+    settle_all(&mut journal, farm);
+    let calls = ended_lines(alloc, &journal, farm)?;
+    Ok(Report {
+        replies: board.replies().to_vec(alloc)?,
+        spans: span_lines(alloc, board.spans(), journal.bridges())?,
+        calls: by_number(calls),
+        failed: farm.failed().to_vec(alloc)?,
+        left: orders.saturating_sub(board.replies().len()) as u32,
+    })
+}

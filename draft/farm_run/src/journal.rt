@@ -1,0 +1,140 @@
+//! What the report needs to know of the past.
+
+ghost use Rattle.std.specs.Prelude.{◌≡◌, ◌<◌, IfOk};
+ghost use Rattle.farm_rounds.specs.Calls.{IsNumber};
+ghost use Rattle.farm_run.specs.Journal.{HaveNumbers, new_journal, settled, opening_of, with_opening, with_end, with_bridge};
+
+use crate::exchange::{Exchange, Opening};
+use std::alloc::{AllocError, Global};
+use std::marker::Model;
+use trau_io::CallEnd;
+
+/// What the report needs to know of the past: of each call, by its number, and in the order in which they came the ends
+/// of calls and the bridges.
+#[derive(Drop)]
+pub(crate) struct Journal {
+    calls: Vec<Opening>,
+    ends: Vec<CallEnd>,
+    bridges: Vec<Exchange>,
+}
+
+impl Model for Journal {
+    ghost use Rattle.farm_run.specs.Journal.{JournalMemory, IsJournal};
+
+    ghost Value = { JournalMemory };
+
+    ghost view = { λ j. record { calls = j.calls.items; ends = j.ends.items; bridges = j.bridges.items } };
+
+    ghost invariant = { λ j. IsJournal j.calls.items j.ends.items j.bridges.items };
+}
+
+// Call numbers are below it.
+const NUMBERS: usize = 4097;
+
+const NOT_OPENED: Opening = Opening {
+    from: 0,
+    bridge: None,
+};
+
+impl Journal {
+    /// The journal before the first order.
+    pub(crate) fn new(alloc: Global) -> Result<Journal, AllocError>
+        ensures { IfOk result (λ j. j ≡ new_journal) }
+    {
+        Ok(Journal {
+            calls: vec![in alloc; NOT_OPENED; NUMBERS]?,
+            ends: Vec::new(alloc),
+            bridges: Vec::new(alloc),
+        })
+    }
+
+    /// A call is opened at a period.
+    pub(crate) fn open(&mut self, call: u32, period: u32)
+        requires { call < 4097 }
+        ensures { self.new ≡ with_opening call period self.old }
+    {
+        self.calls[call as usize] = Opening {
+            from: period,
+            bridge: None,
+        };
+    }
+
+    /// A call ends.
+    pub(crate) fn end(&mut self, end: CallEnd) -> Result<(), AllocError>
+        requires { IsNumber end.call }
+        ensures { IfOk result (λ u. self.new ≡ with_end end self.old) }
+    {
+        self.ends.push(end)?;
+        Ok(())
+    }
+
+    /// A bridge of two calls begins.
+    pub(crate) fn bridge(&mut self, a: u32, b: u32) -> Result<(), AllocError>
+        requires a { a < 4097 }
+        requires b { b < 4097 }
+        ensures { IfOk result (λ u. self.new ≡ with_bridge a b self.old) }
+    {
+        let place = self.bridges.len();
+        self.bridges.push(Exchange {
+            a,
+            b,
+            sent_by_a: 0,
+            sent_by_b: 0,
+        })?;
+        let from = self.calls[a as usize].from;
+        self.calls[a as usize] = Opening {
+            from,
+            bridge: Some(place),
+        };
+        let from = self.calls[b as usize].from;
+        self.calls[b as usize] = Opening {
+            from,
+            bridge: Some(place),
+        };
+        Ok(())
+    }
+
+    /// A call has sent so many handed frames in its latest bridge, if it has been bridged.
+    pub(crate) fn settle(&mut self, call: u32, sent: u32)
+        requires { call < 4097 }
+        ensures { self.new ≡ settled call sent self.old }
+    {
+        if let Some(place) = self.calls[call as usize].bridge {
+            let bridge = self.bridges[place];
+            self.bridges[place] = if call == bridge.a {
+                Exchange {
+                    sent_by_a: sent,
+                    ..bridge
+                }
+            } else {
+                Exchange {
+                    sent_by_b: sent,
+                    ..bridge
+                }
+            };
+        }
+    }
+
+    /// The period at which a call was opened.
+    pub(crate) fn from(&self, call: u32) -> u32
+        requires { call < 4097 }
+        ensures { result ≡ (opening_of self.now.calls call).from }
+    {
+        self.calls[call as usize].from
+    }
+
+    /// The ends so far, in the order in which they came.
+    pub(crate) fn ends(&self) -> &[CallEnd]
+        ensures ends { result.now ≡ self.now.ends }
+        ensures numbers { HaveNumbers result.now }
+    {
+        self.ends.as_slice()
+    }
+
+    /// The bridges so far, in the order in which they began.
+    pub(crate) fn bridges(&self) -> &[Exchange]
+        ensures { result.now ≡ self.now.bridges }
+    {
+        self.bridges.as_slice()
+    }
+}

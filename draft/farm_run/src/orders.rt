@@ -1,0 +1,81 @@
+//! The orders of the clock.
+
+ghost use Rattle.std.specs.Prelude.{◌≡◌, ◌<◌, ◌+◌, ℕ, true, false, length, IfOk, IfSome};
+ghost use Rattle.switchboard.specs.State.{first_stamp, orders_of};
+ghost use Rattle.farm_output.specs.Run.{Run};
+ghost use Rattle.farm_run.specs.Match.{AreNumbers, AtClock, Follows};
+
+use crate::journal::Journal;
+use farm_rounds::Farm;
+use std::alloc::{AllocError, Global};
+use switchboard::{Act, Board};
+use trau_io::{CallEnd, Cause};
+
+// Notes what an accepted order is about to do at a period.
+fn note(act: &Act, period: u32, farm: &Farm, journal: &mut Journal) -> Result<(), AllocError>
+    requires { AreNumbers act.now }
+{
+    match *act {
+        Act::Opened { call } => journal.open(call, period),
+        Act::Closed { call, .. } => journal.end(CallEnd {
+            call,
+            at: period,
+            cause: Cause::Closed,
+        })?,
+        Act::Bridged { a, b } => {
+            journal.settle(a, farm.sent(a));
+            journal.settle(b, farm.sent(b));
+            journal.bridge(a, b)?;
+        }
+        Act::Unbridged { .. } | Act::LevelSet { .. } | Act::DtxSet { .. } => {}
+    }
+    Ok(())
+}
+
+// Executes the next order where its stamp is the clock, and carries it out where it is accepted. Answers whether there
+// was one.
+fn execute(
+    alloc: Global,
+    board: &mut Board,
+    farm: &mut Farm,
+    journal: &mut Journal,
+    clock: u32,
+) -> Result<bool, AllocError>
+    requires { AtClock clock board.old farm.old.groups }
+    ensures clock { IfOk result (λ more. AtClock clock board.new farm.new.groups) }
+    ensures kept { orders_of board.new ≡ orders_of board.old }
+    ensures done { IfOk result (λ more. more ≡ false → IfSome (first_stamp board.new.left) (λ s. clock < s)) }
+    ensures left { IfOk result (λ more. more ≡ true → length board.new.left + 1 ≡ length board.old.left) }
+    ensures ended { IfOk result (λ more. farm.new.ended ≡ farm.old.ended) }
+    ensures failed { IfOk result (λ more. farm.new.failed ≡ farm.old.failed) }
+    ensures follows { (r : Run) → clock < r.periods → Follows r clock board.old farm.old.groups → IfOk result (λ more. Follows r clock board.new farm.new.groups) }
+{
+    let Some(reply) = board.turn(clock) else {
+        return Ok(false);
+    };
+    if let Ok(act) = reply.result {
+        note(&act, clock, farm, journal)?;
+        farm.apply(alloc, &act)?;
+    }
+    Ok(true)
+}
+
+/// Executes the orders of the clock, one after another.
+pub(crate) fn execute_orders(
+    alloc: Global,
+    board: &mut Board,
+    farm: &mut Farm,
+    journal: &mut Journal,
+    clock: u32,
+) -> Result<(), AllocError>
+    requires { AtClock clock board.old farm.old.groups }
+    ensures clock { IfOk result (λ u. AtClock clock board.new farm.new.groups) }
+    ensures kept { orders_of board.new ≡ orders_of board.old }
+    ensures done { IfOk result (λ u. IfSome (first_stamp board.new.left) (λ s. clock < s)) }
+    ensures ended { IfOk result (λ u. farm.new.ended ≡ farm.old.ended) }
+    ensures failed { IfOk result (λ u. farm.new.failed ≡ farm.old.failed) }
+    ensures follows { (r : Run) → clock < r.periods → Follows r clock board.old farm.old.groups → IfOk result (λ u. Follows r clock board.new farm.new.groups) }
+{
+    while execute(alloc, board, farm, journal, clock)? {}
+    Ok(())
+}

@@ -1,0 +1,5 @@
+-- Lemmas on the top call.
+mod Asking
+mod Carrying
+mod Ending
+mod FarmCausing

@@ -1,0 +1,5 @@
+-- What the top call does.
+pub mod Farm
+pub mod FarmCauses
+pub mod Top
+pub mod Words

@@ -1,0 +1,173 @@
+// The top call: the words in, the octets and the text out, and the status.
+ghost use Rattle.std.specs.Prelude.{◌≡◌, ◌≢◌, ◌≤◌, ◌⊎◌, ℕ, map, string_bytes, codes};
+ghost use Rattle.trau_io.specs.declared.line.Side.TheVariants.{Up};
+ghost use Rattle.trau_io.specs.declared.line.Side.{Side};
+ghost use Rattle.farm_tools.specs.declared.end.Tool.{Tool};
+ghost use Rattle.farm_tools.specs.Causes.{Causes};
+ghost use Rattle.farm_tools.specs.Clean.{CleanRun};
+ghost use Rattle.farm_tools.specs.Frames.{CleanFrames, FramesCauses, FramesRun};
+ghost use Rattle.farm_tools.specs.Tools.{ToolRuns, status_of};
+ghost use Rattle.farm_words.specs.declared.asked.Settings.{Settings};
+ghost use Rattle.farm_top.specs.Farm.{AllStay, CarriesRun, LacksMemory, TextOut, pace_of};
+ghost use Rattle.farm_top.specs.FarmCauses.{RunCauses};
+ghost use Rattle.farm_top.specs.Top.{Answers, Carries, CarriesAsked, CarriesFrames, IsInRange};
+ghost use Rattle.farm_top.specs.Words.{AreCommand, AsksFor, AsksForFrames, AsksForRun, BeginWithRun};
+
+use crate::farm::{no_memory, run_farm};
+use crate::status::{DESK_WRITE_FAULT, DONE, FRAME_REFUSED, LINE_FAILED, NO_MEMORY, USAGE};
+use farm_tools::{Tool, ToolEnd, decode, encode, frames, relay};
+use farm_words::{Asked, WordsFault, read_words};
+use std::alloc::Global;
+use trau_io::{Desk, Trunk, tell};
+use trau_orders::one_answer;
+
+// The status that stands for a tool's end.
+fn status_of_end(end: ToolEnd) -> u8
+    ensures { result ≡ status_of end }
+{
+    match end {
+        ToolEnd::Done => DONE,
+        ToolEnd::LineFault(_) => LINE_FAILED,
+        ToolEnd::DeskFault => DESK_WRITE_FAULT,
+        ToolEnd::Refused(_) => FRAME_REFUSED,
+        ToolEnd::Memory => NO_MEMORY,
+    }
+}
+
+// Has a tool do its work.
+fn work<T: Trunk, D: Desk>(
+    alloc: Global,
+    tool: Tool,
+    call: u32,
+    trunk: &mut T,
+    desk: &mut D,
+) -> ToolEnd
+    requires low { 1 ≤ call }
+    requires high { call ≤ 4096 }
+    ensures { ToolRuns tool (T.lines trunk.old) (T.lines trunk.new) (D.desk desk.old) (D.desk desk.new) call result }
+{
+    match tool {
+        Tool::Relay => relay(alloc, call, trunk, desk),
+        Tool::Decode => decode(alloc, call, trunk, desk),
+        Tool::Encode => encode(alloc, call, trunk, desk),
+    }
+}
+
+// Answers for a command that ended so.
+fn answer<D: Desk>(end: ToolEnd, desk: &mut D) -> u8
+    ensures { Answers end (D.desk desk.old) (D.desk desk.new) result }
+{
+    if let ToolEnd::Memory = end {
+        let _ = tell(desk, b"no memory\n");
+        return NO_MEMORY;
+    }
+    status_of_end(end)
+}
+
+// Has a tool do its work, and answers for its end.
+fn carry_tool<T: Trunk, D: Desk>(
+    alloc: Global,
+    tool: Tool,
+    call: u32,
+    trunk: &mut T,
+    desk: &mut D,
+) -> u8
+    requires low { 1 ≤ call }
+    requires high { call ≤ 4096 }
+    ensures { Carries tool (T.lines trunk.old) (T.lines trunk.new) (D.desk desk.old) (D.desk desk.new) call result }
+{
+    let end = work(alloc, tool, call, trunk, desk);
+    answer(end, desk)
+}
+
+// Carries out what is asked for.
+fn carry_out<T: Trunk, D: Desk>(alloc: Global, asked: Asked, trunk: &mut T, desk: &mut D) -> u8
+    requires { IsInRange asked }
+    ensures { CarriesAsked asked (T.lines trunk.old) (T.lines trunk.new) (D.desk desk.old) (D.desk desk.new) result }
+{
+    match asked {
+        Asked::Run(settings) => run_farm(alloc, settings, trunk, desk),
+        Asked::Relay(call) => carry_tool(alloc, Tool::Relay, call, trunk, desk),
+        Asked::Decode(call) => carry_tool(alloc, Tool::Decode, call, trunk, desk),
+        Asked::Encode(call) => carry_tool(alloc, Tool::Encode, call, trunk, desk),
+        Asked::Frames(call) => {
+            let end = frames(alloc, call, trunk, desk);
+            answer(end, desk)
+        }
+    }
+}
+
+/// Carries out the command that the words name on the lines of the trunk, writes its text to the desk, and
+/// answers the status.
+///
+/// The commands are `relay C`, which copies the good speech frames of a call's uplink, bits unchanged, to its
+/// downlink, `decode C`, which decodes them to its Out line, `encode C`, which encodes its Pcm line to downlink
+/// frames, and `frames C`, which searches its uplink for frames and tells a line of text for each; C is the call's
+/// number, 1 to 1,024, in decimal digits without leading zeros. An uplink is cut into blocks of 40 octets, and in
+/// `relay` and `decode` the first block that isn't a good speech frame ends the command. A Pcm line is cut into blocks
+/// of 160 octets. What `encode` and `frames` leave of the line behind the last whole block is told and not used.
+///
+/// The command `run` reads orders from the desk, runs them over the lines of all calls, and tells the report. Its
+/// options, in any order and each at most once, are `--workers` (threads, 1 to 64, else 4), `--batch` (the most periods
+/// of a round, 1 to 250, else 50), `--slice` (the most periods of a call that are worked at a time, 1 to 250, else 5)
+/// and `--periods` (the most periods of the run, 1 to 4,294,967,295, else that).
+///
+/// | Status | Comes | Text on the desk |
+/// |---|---|---|
+/// | 0 | the incoming line was worked to its end, or to 4,294,967,295 blocks; the run ended and no line failed | `relay frames N`, `decode frames N`, `encode frames N left R`; `frames N left R` behind a line of text for each of its N yields; the report |
+/// | 1 | exactly where the words aren't those of a command (or 5, behind `run`) | `usage` |
+/// | 2 | a line of the orders isn't in their grammar, N being the first | `orders line N` |
+/// | 3 | the desk failed while the orders were read | `orders unread` |
+/// | 4 | the desk failed while the command's text went out | a proper front of the command's text |
+/// | 5 | want of memory | `no memory` |
+/// | 6 | a line of the command failed | `line C up failed`, with the line's side, behind the lines of text that `frames` had told; the report |
+/// | 7 | the orders have more than 1,048,576 octets or more than 65,536 lines | `orders too long` |
+/// | 8 | a block of an uplink isn't a good speech frame, or the line ended inside it | `relay refused N`, `decode refused N`, N being the number of blocks before it |
+pub fn farm_top<T: Trunk, D: Desk>(
+    alloc: Global,
+    words: &[String],
+    trunk: &mut T,
+    desk: &mut D,
+) -> u8
+    // Status 1 comes exactly where the words are no command's, and then no line is used. Behind `run`, want of memory may
+    // come in its place.
+    ensures usage { (AreCommand (map (λ w. string_bytes w) words.now) → ⊥) →
+        (result ≡ 1) ⊎ (BeginWithRun (map (λ w. string_bytes w) words.now) × LacksMemory (D.desk desk.old) (D.desk desk.new) result) }
+    ensures usage_only { AreCommand (map (λ w. string_bytes w) words.now) → result ≢ 1 }
+    ensures usage_text { result ≡ 1 → TextOut (D.desk desk.old) (D.desk desk.new) (codes "usage\n") }
+    ensures unused { (AreCommand (map (λ w. string_bytes w) words.now) → ⊥) → AllStay (T.lines trunk.old) (T.lines trunk.new) }
+
+    // What a command does, whatever fails.
+    ensures command { (t : Tool) (c : ℕ) → AsksFor (map (λ w. string_bytes w) words.now) t c →
+        Carries t (T.lines trunk.old) (T.lines trunk.new) (D.desk desk.old) (D.desk desk.new) c result }
+    ensures frames { (c : ℕ) → AsksForFrames (map (λ w. string_bytes w) words.now) c →
+        CarriesFrames (T.lines trunk.old) (T.lines trunk.new) (D.desk desk.old) (D.desk desk.new) c result }
+    ensures run { (s : Settings) → AsksForRun (map (λ w. string_bytes w) words.now) s →
+        CarriesRun s (T.lines trunk.old) (T.lines trunk.new) (D.desk desk.old) (D.desk desk.new) result }
+
+    // Why each of its statuses comes.
+    ensures causes { (t : Tool) (c : ℕ) → AsksFor (map (λ w. string_bytes w) words.now) t c →
+        Causes t c (T.lines trunk.old) (T.lines trunk.new) (D.desk desk.old) (D.desk desk.new) result }
+    ensures frames_causes { (c : ℕ) → AsksForFrames (map (λ w. string_bytes w) words.now) c →
+        FramesCauses (T.lines trunk.old c Up) (T.lines trunk.new c Up) (D.desk desk.old) (D.desk desk.new) result }
+    ensures run_causes { (s : Settings) → AsksForRun (map (λ w. string_bytes w) words.now) s →
+        RunCauses (pace_of s) (T.lines trunk.old) (T.lines trunk.new) (D.desk desk.old) (D.desk desk.new) result }
+
+    // Where nothing fails and the outside tells what it holds, the outgoing line has gained exactly what is made of
+    // the incoming line's blocks up to the first refused one, and the desk exactly the text.
+    ensures clean { (t : Tool) (c : ℕ) → AsksFor (map (λ w. string_bytes w) words.now) t c →
+        CleanRun t c (T.lines trunk.old) (T.lines trunk.new) (D.desk desk.old) (D.desk desk.new) result }
+    ensures frames_clean { (c : ℕ) → AsksForFrames (map (λ w. string_bytes w) words.now) c →
+        CleanFrames c (T.lines trunk.old c Up) (T.lines trunk.new c Up) (D.desk desk.old) (D.desk desk.new) result }
+{
+    // A law: lines that spell orders have no bad one.
+    one_answer();
+    match read_words(alloc, words) {
+        Ok(asked) => carry_out(alloc, asked, trunk, desk),
+        Err(WordsFault::Usage) => {
+            let _ = tell(desk, b"usage\n");
+            USAGE
+        }
+        Err(WordsFault::Memory) => no_memory(desk),
+    }
+}
