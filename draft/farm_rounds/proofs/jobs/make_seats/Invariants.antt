@@ -1,9 +1,0 @@
-use Rattle.std.proofs.Common.{◌≡◌, length}
-use Rattle.farm_rounds.specs.Rounds.{AreSeats}
-use Rattle.farm_rounds.proofs.jobs.make_seats.Given as goal
-
-abbrev pub invariant-loop-k : goal.invariant-loop-k
-invariant-loop-k l = record {
-  seats : AreSeats l.live l.entries l.periods l.seats.items l.k;
-  long : length l.seats.items ≡ l.k;
-}

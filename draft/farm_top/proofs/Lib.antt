@@ -1,5 +1,0 @@
--- Lemmas on the top call.
-mod Asking
-mod Carrying
-mod Ending
-mod FarmCausing
