@@ -10,7 +10,7 @@ use Rattle.std.proofs.lemmas.Option.{slice_get_past}
 use Rattle.std.proofs.lemmas.List.Sums.{sum_by-cons, sum_by-append}
 use Rattle.std.proofs.lemmas.List.Sorted.{list_any-IsPermutation, sum_by-IsPermutation, Contains-permutation}
 
-cases_zero : (n : ℕ) → (n ≡ 0) ⊎ (1 ≤ n)
+pub cases_zero : (n : ℕ) → (n ≡ 0) ⊎ (1 ≤ n)
 cases_zero zero = inl refl
 cases_zero (suc n) = inr (omega arith)
 

@@ -10,5 +10,6 @@ pub mod Handing
 pub mod Taking
 pub mod Planning
 pub mod Settling
+pub mod Partners
 pub mod Working
 pub mod Starting

@@ -8,3 +8,4 @@ pub mod Histories
 pub mod Rounds
 pub mod Settling
 pub mod Working
+pub mod RoundHistories

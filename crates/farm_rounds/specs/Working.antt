@@ -1,5 +1,5 @@
 -- What a round keeps of the farm and of the calls' jobs.
-use Rattle.std.specs.Prelude.{◌≡◌, ℕ, Bool, ◌==◌, ◌&&◌, ◌+◌, ◌<◌, ◌≤◌, List, length, slice_index, map, flat_map, ◌++◌}
+use Rattle.std.specs.Prelude.{◌≡◌, ℕ, Bool, Option, Some, None, if◌then◌else◌, ◌==◌, ◌&&◌, ◌+◌, ◌<◌, ◌≤◌, List, length, slice_index, map, flat_map, ◌++◌}
 use Rattle.std.specs.List.{All, list_any}
 use Rattle.trau_io.specs.declared.ends.CallEnd.{CallEnd}
 use Rattle.trau_io.specs.declared.line.Line.{Line}
@@ -67,6 +67,15 @@ pub record IsWorked (r : WorkedMemory) : Type 0 where
 -- a call goes on where its seat has all periods of the round
 abbrev pub goes_on_call : List SeatMemory → ℕ → Bool
 goes_on_call seats c = list_any (λ s. (s.place.call == c) && goes_on_in s) seats
+
+-- a partner that goes on
+abbrev pub that_stays : (ℕ → Bool) → Option ℕ → Option ℕ
+that_stays stays None = None
+that_stays stays (Some p) = if stays p then Some p else None
+
+-- the partner of a call after a round: a call whose partner has ended goes on alone, and one that has ended has none
+abbrev pub partner_past : (ℕ → Bool) → (ℕ → Option ℕ) → ℕ → Option ℕ
+partner_past stays partner c = if stays c then that_stays stays (partner c) else None
 
 -- the lines that failed are those from before and those that failed in the round, in whatever order
 pub record GainsFailed (before now : List Line) (seats : List SeatMemory) : Type 0 where

@@ -1,10 +1,15 @@
 //! A round before it is worked.
 
-ghost use Rattle.std.specs.Prelude.{◌≡◌, ℕ, ◌+◌, ◌<◌, ◌≤◌, length, map, reverse, IfOk};
+ghost use Rattle.std.specs.Prelude.{◌≡◌, ℕ, ◌+◌, ◌<◌, ◌≤◌, length, map, Option, is_some, slice_index, IfOk};
 ghost use Rattle.std.specs.List.{filter_map};
+ghost use Rattle.call_pair.specs.Jobs.{job_call};
 ghost use Rattle.round_lines.specs.Seats.{Fills};
-ghost use Rattle.round_lines.specs.Rounds.{Each, KeepsButEach, IsIncoming, seat_at, seat_end};
-ghost use Rattle.farm_rounds.specs.Rounds.{job_made};
+ghost use Rattle.round_lines.specs.Rounds.{Each, KeepsButEach, IsIncoming, Rising, call_at, seat_at, seat_end};
+ghost use Rattle.farm_rounds.specs.Calls.{call_in, partner_in};
+ghost use Rattle.farm_rounds.specs.Numbers.{IsRising, is_among};
+ghost use Rattle.farm_rounds.specs.Histories.{CallHistory, GroupsStand};
+ghost use Rattle.farm_rounds.specs.Rounds.{groups_from};
+ghost use Rattle.farm_rounds.specs.RoundHistories.{seat_for, worked_histories, WorkedStand, AreWorked};
 
 use crate::entry::{Entry, NO_ENTRY};
 use crate::farm::Farm;
@@ -75,8 +80,16 @@ impl Round {
         ensures live { IfOk result (λ r. r.live ≡ farm.live) }
         ensures failed { IfOk result (λ r. r.failed ≡ farm.failed) }
         ensures tallies { IfOk result (λ r. r.tallies ≡ farm.tallies) }
-        ensures number { IfOk result (λ r. length r.seats ≡ length r.live) }
-        ensures jobs { IfOk result (λ r. r.jobs ≡ map job_made (reverse farm.groups)) }
+        ensures number { IfOk result (λ r. length r.seats ≡ length farm.live) }
+        ensures seats { IfOk result (λ r. (k : ℕ) → k < length farm.live →
+            let c = slice_index farm.live k in seat_at r.seats k ≡ seat_for periods c (call_in farm.groups c)) }
+
+        // A job for each call that isn't bridged and for the two calls of a bridge, in rising order of their lower
+        // numbers; they have the calls of the farm.
+        ensures order { IfOk result (λ r. IsRising (map job_call r.jobs)) }
+        ensures calls { IfOk result (λ r. (c : ℕ) → is_some (call_in (groups_from r.jobs) c) ≡ is_some (call_in farm.groups c)) }
+        ensures partners { IfOk result (λ r. (c : ℕ) → partner_in (groups_from r.jobs) c ≡ partner_in farm.groups c) }
+        ensures stands { IfOk result (λ r. (h : ℕ → Option CallHistory) → GroupsStand h farm.groups → GroupsStand h (groups_from r.jobs)) }
     {
         let Farm {
             groups,
@@ -118,6 +131,8 @@ impl Round {
         ensures fills { Each Fills (T.lines trunk.old) (T.lines trunk.new) self.old.seats self.new.seats (length self.old.seats) }
         ensures others { KeepsButEach IsIncoming (T.lines trunk.old) (T.lines trunk.new) self.old.seats (length self.old.seats) }
         ensures kept { self.new ≡ record self.old { seats = self.new.seats } }
+        ensures number { length self.new.seats ≡ length self.old.seats }
+        ensures rising { Rising self.new.seats }
     {
         fill_seats(trunk, &mut self.seats);
     }
@@ -133,7 +148,17 @@ impl Round {
         ensures tallies { result.tallies ≡ self.tallies }
         ensures number { length result.seats ≡ length self.seats }
         ensures places { (k : ℕ) → k < length self.seats → (seat_at result.seats k).place ≡ (seat_at self.seats k).place }
+        ensures calls { (k : ℕ) → k < length self.seats → call_at result.seats k ≡ call_at self.seats k }
+        ensures rising { Rising result.seats }
+        ensures partners { (c : ℕ) → partner_in (groups_from result.jobs) c ≡ partner_in (groups_from self.jobs) c }
         ensures ends { result.ends ≡ filter_map (seat_end self.start) result.seats }
+
+        // For all periods that the calls may have had: each has had those of the round too, and its outgoing buffers
+        // begin with their octets.
+        ensures stands { (h : ℕ → Option CallHistory) → GroupsStand h (groups_from self.jobs) →
+            WorkedStand (worked_histories self.seats (partner_in (groups_from self.jobs)) h) result }
+        ensures octets { (h : ℕ → Option CallHistory) → GroupsStand h (groups_from self.jobs) →
+            AreWorked self.seats (worked_histories self.seats (partner_in (groups_from self.jobs)) h) result.seats }
     {
         let Round {
             alloc,

@@ -1,11 +1,12 @@
 //! The calls after a round.
 
-ghost use Rattle.std.specs.Prelude.{Bool, is_some, ◌≡◌, ◌+◌, ◌<◌, ◌≤◌, ◌&&◌, ℕ, true, not, [], length, IfSome, vec_capacity};
-ghost use Rattle.farm_rounds.specs.Calls.{holds};
+ghost use Rattle.std.specs.Prelude.{Bool, is_some, ◌≡◌, ◌+◌, ◌<◌, ◌≤◌, ◌&&◌, ℕ, true, not, [], ◌∷◌, option_to_list, length, IfSome, vec_capacity};
+ghost use Rattle.farm_rounds.specs.Calls.{holds, partner_in};
 ghost use Rattle.farm_rounds.specs.Numbers.{IsRising, is_among};
 ghost use Rattle.farm_rounds.specs.Groups.{IsGroup, AreGroups, AreLive};
 ghost use Rattle.farm_rounds.specs.Rounds.{jobs_in, group_from, groups_from};
 ghost use Rattle.farm_rounds.specs.Settling.{is_gone, gone_by, together_of, Settled, goes_on_in, Tells, left_of};
+ghost use Rattle.farm_rounds.specs.Working.{partner_past};
 
 use crate::call::{Call, Group};
 use crate::live::{place_in, remove_number};
@@ -113,6 +114,7 @@ fn settle(
     requires tallies { length tallies.old ≡ 4097 }
     ensures settled { Settled (group_from job) result live.old.items live.new.items }
     ensures told { (stays : ℕ → Bool) → Tells stays numbers.now seats.now → (c : ℕ) → is_among live.new.items c ≡ left_of stays (group_from job) live.old.items c }
+    ensures partner { (stays : ℕ → Bool) → Tells stays numbers.now seats.now → (c : ℕ) → partner_in (option_to_list result) c ≡ partner_past stays (partner_in (group_from job ∷ [])) c }
     ensures tallies { length tallies.new ≡ length tallies.old }
 {
     match job {
@@ -148,6 +150,7 @@ pub(crate) fn settle_all(
     ensures groups { (most : ℕ) → AreGroups most (groups_from (jobs_in jobs.items)) → AreGroups most groups.new.items }
     ensures live { AreLive live.new.items groups.new.items }
     ensures told { (stays : ℕ → Bool) → Tells stays numbers.now seats.now → (c : ℕ) → is_among live.new.items c ≡ (is_among live.old.items c && stays c) }
+    ensures partners { (stays : ℕ → Bool) → Tells stays numbers.now seats.now → (c : ℕ) → partner_in groups.new.items c ≡ partner_past stays (partner_in (groups_from (jobs_in jobs.items))) c }
     ensures fewer { length live.new.items ≤ length live.old.items }
     ensures capacity { vec_capacity groups.new ≡ vec_capacity groups.old }
     ensures tallies { length tallies.new ≡ length tallies.old }

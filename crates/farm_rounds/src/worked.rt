@@ -1,10 +1,15 @@
 //! A round after its work.
 
-ghost use Rattle.std.specs.Prelude.{◌≡◌, ◌&&◌, ℕ, List, length};
+ghost use Rattle.std.specs.Prelude.{◌≡◌, ◌&&◌, ℕ, List, Option, if◌then◌else◌, is_some, length};
 ghost use Rattle.round_lines.specs.Seats.{SeatMemory, Drains};
 ghost use Rattle.round_lines.specs.Rounds.{Each, KeepsButEach, IsOutgoing};
+ghost use Rattle.farm_rounds.specs.Calls.{call_in, partner_in};
 ghost use Rattle.farm_rounds.specs.Numbers.{is_among};
-ghost use Rattle.farm_rounds.specs.Working.{GainsFailed, goes_on_call};
+ghost use Rattle.farm_rounds.specs.Rounds.{groups_from};
+ghost use Rattle.farm_rounds.specs.Memory.{tally_in};
+ghost use Rattle.farm_rounds.specs.Histories.{CallHistory, GroupsStand, kept_of};
+ghost use Rattle.farm_rounds.specs.Working.{GainsFailed, goes_on_call, partner_past};
+ghost use Rattle.farm_rounds.specs.RoundHistories.{WorkedStand, KnowFailed, those_that};
 
 use crate::farm::Farm;
 use crate::rest::Rest;
@@ -49,12 +54,24 @@ impl Worked {
 
     /// Writes the outgoing lines of each call, and gives the farm after the round.
     pub fn drain<T: Trunk>(self, trunk: &mut T) -> Farm
-        ensures drains { (seats : List SeatMemory) × Each Drains (T.lines trunk.old) (T.lines trunk.new) self.seats seats (length self.seats) × GainsFailed self.failed result.failed seats }
+        // The outgoing lines gain what their buffers hold of the whole periods, and the farm knows which of them failed.
+        ensures drains { (seats : List SeatMemory) × Each Drains (T.lines trunk.old) (T.lines trunk.new) self.seats seats (length self.seats)
+            × GainsFailed self.failed result.failed seats × KnowFailed seats result.groups × (length seats ≡ length self.seats) }
         ensures others { KeepsButEach IsOutgoing (T.lines trunk.old) (T.lines trunk.new) self.seats (length self.seats) }
         ensures ended { result.ended ≡ self.ended }
 
         // The calls whose lines gave all periods of the round are open, and no others.
         ensures live { (c : ℕ) → is_among result.live c ≡ (is_among self.live c && goes_on_call self.seats c) }
+
+        // The farm's calls are the open ones. Partners that both go on stay so; a call whose partner has ended goes on alone.
+        ensures open { (c : ℕ) → is_some (call_in result.groups c) ≡ is_among result.live c }
+        ensures partners { (c : ℕ) → partner_in result.groups c ≡ partner_past (goes_on_call self.seats) (partner_in (groups_from self.jobs)) c }
+
+        // For all periods that the calls may have had: those that go on stand for them, and of those that end the counts
+        // are kept.
+        ensures history { (h : ℕ → Option CallHistory) → WorkedStand h self → GroupsStand (those_that (goes_on_call self.seats) h) result.groups }
+        ensures tallies { (h : ℕ → Option CallHistory) → WorkedStand h self → (c : ℕ) →
+            tally_in result.tallies c ≡ (if goes_on_call self.seats c then tally_in self.tallies c else kept_of (h c) (tally_in self.tallies c)) }
     {
         let Worked {
             end,

@@ -8,5 +8,6 @@ pub mod RoundEnds
 pub mod Told
 pub mod SeatEnds
 pub mod Worked
+pub mod Seats
 pub mod Ending
 pub mod Reporting

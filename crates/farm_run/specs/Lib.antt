@@ -1,6 +1,7 @@
 -- The run of a farm.
 pub mod Journal
 pub mod Match
+pub mod Pace
 pub mod Going
 pub mod Ending
 pub mod Facts

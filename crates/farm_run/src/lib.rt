@@ -16,3 +16,7 @@ mod exchange;
 mod facts;
 mod journal;
 mod orders;
+mod pace;
+mod run;
+
+pub use pace::Pace;

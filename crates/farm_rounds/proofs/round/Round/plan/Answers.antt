@@ -10,6 +10,8 @@ use Rattle.farm_rounds.specs.Memory.{FarmMemory}
 use Rattle.farm_rounds.proofs.Applying.{few_groups}
 use Rattle.farm_rounds.proofs.Starting.{live_found, live_number, few_live, made_number, planned}
 use Rattle.farm_rounds.proofs.Working.{back}
+use Rattle.farm_rounds.specs.Calls.{partner_in}
+use Rattle.farm_rounds.proofs.Partners.{made_partner}
 use Rattle.farm_rounds.proofs.round.Round.plan.Goals as goal
 
 pub make_jobs-requires-clause-found : goal.make_jobs-requires-clause-found
@@ -60,3 +62,8 @@ invariant_of-result c =
       omega (arith, calls, jobs, few_groups i.groups.items, c.farm.invariant.1.count, c.in_ok-reserve-2.ensures),
       omega (arith, calls, c.in_ok-reserve.ensures.ok, ap length c.reserve.ensures.items, c.reserve.ensures.len),
     )
+
+pub returns-clause-partners : goal.returns-clause-partners
+returns-clause-partners c d =
+    let i = c.farm.inside in
+    made_partner i.end i.groups.items (jobs_in c.in_ok-jobs.jobs.items) c.farm.invariant.0 c.in_ok-jobs.ensures.jobs d ∙ ap (λ (f : FarmMemory). partner_in f.groups d) c.farm.view_is

@@ -13,6 +13,8 @@ use Rattle.farm_rounds.specs.Groups.{AreGroups, AreLive}
 use Rattle.farm_rounds.specs.Rounds.{jobs_in, groups_from, SameLegs, AreHanded, IsTimely, HaveJobsAt, HaveWorked, HaveLengths, AreTaken}
 use Rattle.farm_rounds.specs.Working.{RoundMemory, HaveTimeUntil}
 use Rattle.farm_rounds.proofs.Working.{back, ready_out, jobs_finished, finished_groups, finished_live, worked_places, rising_same}
+use Rattle.farm_rounds.specs.Calls.{partner_in}
+use Rattle.farm_rounds.proofs.Partners.{finished_partner}
 use Rattle.farm_rounds.proofs.round.Round.work.Goals as goal
 
 pub hand_out-requires-clause-jobs : goal.hand_out-requires-clause-jobs
@@ -146,3 +148,22 @@ returns-clause-places c =
     λ k l.
     let seats : i.seats.items ≡ c.args.self.seats = ap (λ (r : RoundMemory). r.seats) c.self.view_is in
     place k (omega (arith, l, ap length seats)) ∙ ap (λ (ss : List SeatMemory). (seat_at ss k).place) seats
+
+pub returns-clause-calls : goal.returns-clause-calls
+returns-clause-calls c k l = ap (λ (q : PlaceMemory). q.call) (returns-clause-places c k l)
+
+pub returns-clause-partners : goal.returns-clause-partners
+returns-clause-partners c d =
+    let i = c.self.inside in
+    let old : jobs_in c.deref_mut.result.now ≡ jobs_in i.jobs.items = ap (λ (bs : List (Box Job)). jobs_in bs) c.deref_mut.ensures.value in
+    let jobs = jobs_in c.hand_in.new.jobs in
+    let same : SameLegs (jobs_in i.jobs.items) jobs = subst (λ (js : List Job). SameLegs js jobs) old c.hand_in.ensures.same in
+    let whole = back i.jobs.len c.hand_in.new.jobs i.jobs.items (omega (arith, c.deref_mut.ensures.len, ap length c.deref_mut.ensures.value))
+    (omega (arith, same.number, length-map c.hand_in.new.jobs (λ (b : Box Job). b.value), length-map i.jobs.items (λ (b : Box Job). b.value))) in
+    let after : jobs_in c.deref_mut-2.result.now ≡ map finished jobs =
+    ap (λ (bs : List (Box Job)). jobs_in bs) c.deref_mut-2.ensures.value ∙ c.run_pool-jobs.ensures ∙ ap (λ (bs : List (Box Job)). map (λ (b : Box Job). finished b.value) bs) whole ∙ jobs_finished c.hand_in.new.jobs in
+    let final = back c.run_pool-jobs.result.len c.hand_out.new.jobs c.run_pool-jobs.result.items (omega (arith, c.deref_mut-2.ensures.len, ap length c.deref_mut-2.ensures.value))
+    (omega (arith, c.hand_out.ensures.same.number, length-map c.hand_out.new.jobs (λ (b : Box Job). b.value), length-map c.deref_mut-2.result.now (λ (b : Box Job). b.value), ap length c.deref_mut-2.ensures.value)) in
+    let groups = ap (λ (bs : List (Box Job)). groups_from (jobs_in bs)) final ∙ c.hand_out.ensures.same.groups ∙ ap (λ (js : List Job). groups_from js) after in
+    ap (λ (gs : List Group). partner_in gs d) groups ∙ finished_partner jobs d ∙ ap (λ (gs : List Group). partner_in gs d) same.groups
+    ∙ ap (λ (r : RoundMemory). partner_in (groups_from r.jobs) d) c.self.view_is

@@ -1,0 +1,195 @@
+-- The partners of the calls in a round and after it.
+use Rattle.std.proofs.Common.{◌≡◌, refl, sym, ap, ◌∙◌, ℕ, ◌+◌, ◌<◌, ◌≤◌, Bool, true, false, Option, Some, None, List, [], ◌∷◌, ◌++◌, length, get_or, take, drop, arith, inl, inr, ◌⊎◌}
+use Rattle.std.specs.Prelude.{if◌then◌else◌, ◌==◌, ◌||◌, is_some, option_to_list, map, reverse}
+use Rattle.std.specs.Option.{option_or, option_and_then}
+use Rattle.std.specs.List.{count_by, list_any}
+use Rattle.std.proofs.lemmas.Bool.{cases_Bool, eqb-true}
+use Rattle.std.proofs.lemmas.List.{take_all, take_more}
+use Rattle.std.proofs.lemmas.List.Folds.{find-append}
+use Rattle.std.proofs.lemmas.List.Sums.{sum_by-append, sum_by-take-drop}
+use Rattle.std.proofs.lemmas.List.Sorted.{IsPermutation-reverse}
+use Rattle.call_pair.specs.declared.job.Job.{Job}
+use Rattle.call_pair.specs.declared.job.Job.TheVariants as job
+use Rattle.call_pair.specs.Jobs.{finished}
+use Rattle.farm_rounds.specs.declared.call.Call.{Call}
+use Rattle.farm_rounds.specs.declared.call.Group.{Group}
+use Rattle.farm_rounds.specs.declared.call.Group.TheVariants.{One, Two}
+use Rattle.farm_rounds.specs.Calls.{holds, group_in, partner_of, partner_in}
+use Rattle.farm_rounds.specs.Groups.{AreGroups}
+use Rattle.farm_rounds.specs.Rounds.{job_made, group_from, groups_from}
+use Rattle.farm_rounds.specs.Settling.{together_of}
+use Rattle.farm_rounds.specs.Working.{that_stays, partner_past}
+use Rattle.farm_rounds.proofs.Finding.{cases_zero, none_counted, not_found, found_moved}
+use Rattle.farm_rounds.proofs.Keeping.{KeptJob, finished_keeps}
+use Rattle.farm_rounds.proofs.Settling.{IsLeft, Settling}
+
+-- ---- calls by their numbers
+
+pair_partner : ℕ → ℕ → ℕ → Option ℕ
+pair_partner m n c = if m == c then Some n else (if n == c then Some m else None)
+
+one_alone : (x : Call) (c : ℕ) → partner_in (One x ∷ []) c ≡ None
+one_alone x c = elim (cases_Bool (x.number == c)) [ inl t ↦ simp t refl | inr f ↦ simp f refl ]
+
+two_partner : (x y : Call) (c : ℕ) → partner_in (Two x y ∷ []) c ≡ pair_partner x.number y.number c
+unfolding pair_partner
+two_partner x y c = elim (cases_Bool (x.number == c)) [
+  | inl t ↦ simp t refl
+  | inr f ↦ elim (cases_Bool (y.number == c)) [ inl u ↦ simp (f, u) refl | inr e ↦ simp (f, e) refl ]
+]
+
+-- ---- groups in two parts
+
+none_there : (gs : List Group) (c : ℕ) → list_any (holds c) gs ≡ false → partner_in gs c ≡ None
+none_there gs c f = ap (λ (o : Option Group). option_and_then (partner_of c) o) (not_found (holds c) gs f)
+
+or_none : {X : Type 0} (o : Option X) → option_or o None ≡ o
+or_none None = refl
+or_none (Some x) = refl
+
+first_part : (xs ys : List Group) (c : ℕ) → list_any (holds c) ys ≡ false → partner_in (xs ++ ys) c ≡ partner_in xs c
+first_part xs ys c f =
+    ap (λ (o : Option Group). option_and_then (partner_of c) o) (find-append (holds c) xs ys ∙ ap (λ (o : Option Group). option_or (group_in xs c) o) (not_found (holds c) ys f) ∙ or_none (group_in xs c))
+
+second_part : (xs ys : List Group) (c : ℕ) → list_any (holds c) xs ≡ false → partner_in (xs ++ ys) c ≡ partner_in ys c
+second_part xs ys c f =
+    ap (λ (o : Option Group). option_and_then (partner_of c) o) (find-append (holds c) xs ys ∙ ap (λ (o : Option Group). option_or o (group_in ys c)) (not_found (holds c) xs f))
+
+-- no call is in both
+in_one : (xs ys : List Group) (c : ℕ) → count_by (holds c) (xs ++ ys) ≤ 1 → (list_any (holds c) xs ≡ false) ⊎ (list_any (holds c) ys ≡ false)
+in_one xs ys c few =
+    let parts = sum_by-append (λ g. if holds c g then 1 else 0) xs ys in
+    elim (cases_zero (count_by (holds c) xs)) [
+      | inl e ↦ inl (none_counted (holds c) xs e)
+      | inr q ↦ inr (none_counted (holds c) ys (omega (arith, few, parts, q)))
+    ]
+
+partner_parts : (xs ys : List Group) (c : ℕ) → count_by (holds c) (xs ++ ys) ≤ 1 → partner_in (xs ++ ys) c ≡ option_or (partner_in xs c) (partner_in ys c)
+partner_parts xs ys c few = elim (in_one xs ys c few) [
+  | inl f ↦ second_part xs ys c f ∙ sym (ap (λ (o : Option ℕ). option_or o (partner_in ys c)) (none_there xs c f))
+  | inr f ↦ first_part xs ys c f ∙ sym (ap (λ (o : Option ℕ). option_or (partner_in xs c) o) (none_there ys c f) ∙ or_none (partner_in xs c))
+]
+
+-- ---- the calls of a job that go on
+
+if_same : {X : Type 0} (b : Bool) (x : X) → (if b then x else x) ≡ x
+if_same true x = refl
+if_same false x = refl
+
+past_same : (stays : ℕ → Bool) (f h : ℕ → Option ℕ) (c : ℕ) → f c ≡ h c → partner_past stays f c ≡ partner_past stays h c
+past_same stays f h c e = ap (λ (o : Option ℕ). if stays c then that_stays stays o else None) e
+
+past_none : (stays : ℕ → Bool) (f : ℕ → Option ℕ) (c : ℕ) → f c ≡ None → partner_past stays f c ≡ None
+past_none stays f c e = ap (λ (o : Option ℕ). if stays c then that_stays stays o else None) e ∙ if_same (stays c) None
+
+both_stay : (stays : ℕ → Bool) (m n c : ℕ) → stays m ≡ true → stays n ≡ true → pair_partner m n c ≡ partner_past stays (pair_partner m n) c
+unfolding pair_partner
+both_stay stays m n c sm sn = elim (cases_Bool (m == c)) [
+  | inl t ↦ let sc : stays c ≡ true = ap stays (sym (eqb-true m c t)) ∙ sm in simp (t, sc, sn) refl
+  | inr f ↦ elim (cases_Bool (n == c)) [
+    | inl u ↦ let sc : stays c ≡ true = ap stays (sym (eqb-true n c u)) ∙ sn in simp (f, u, sc, sm) refl
+    | inr e ↦ simp (f, e) (sym (if_same (stays c) None))
+  ]
+]
+
+one_ends : (stays : ℕ → Bool) (m n c : ℕ) → (stays m ≡ false) ⊎ (stays n ≡ false) → partner_past stays (pair_partner m n) c ≡ None
+unfolding pair_partner
+one_ends stays m n c ends = elim (cases_Bool (m == c)) [
+  | inl t ↦ elim ends [
+    | inl e ↦ let sc : stays c ≡ false = ap stays (sym (eqb-true m c t)) ∙ e in simp sc refl
+    | inr e ↦ simp (t, e) (if_same (stays c) None)
+  ]
+  | inr f ↦ elim (cases_Bool (n == c)) [
+    | inl u ↦ elim ends [
+      | inl e ↦ simp (f, u, e) (if_same (stays c) None)
+      | inr e ↦ let sc : stays c ≡ false = ap stays (sym (eqb-true n c u)) ∙ e in simp sc refl
+    ]
+    | inr e ↦ simp (f, e) (if_same (stays c) None)
+  ]
+]
+
+pub past_one : (stays : ℕ → Bool) (h : Call) (r : Option Call) (c : ℕ) → partner_in (option_to_list (together_of r None)) c ≡ partner_past stays (partner_in (One h ∷ [])) c
+past_one stays h None c = sym (past_none stays (partner_in (One h ∷ [])) c (one_alone h c))
+past_one stays h (Some x) c = one_alone x c ∙ sym (past_none stays (partner_in (One h ∷ [])) c (one_alone h c))
+
+pub past_two : (stays : ℕ → Bool) (a b : Call) (r s : Option Call) → IsLeft a r → IsLeft b s → is_some r ≡ stays a.number → is_some s ≡ stays b.number →
+    (c : ℕ) → partner_in (option_to_list (together_of r s)) c ≡ partner_past stays (partner_in (Two a b ∷ [])) c
+past_two stays a b r s la lb er es c = go r s la lb er es ∙ sym (past_same stays (partner_in (Two a b ∷ [])) (pair_partner a.number b.number) c (two_partner a b c)) where
+  go : (r s : Option Call) → IsLeft a r → IsLeft b s → is_some r ≡ stays a.number → is_some s ≡ stays b.number →
+      partner_in (option_to_list (together_of r s)) c ≡ partner_past stays (pair_partner a.number b.number) c
+  go None None la lb er es = sym (one_ends stays a.number b.number c (inl (sym er)))
+  go (Some x) None la lb er es = one_alone x c ∙ sym (one_ends stays a.number b.number c (inr (sym es)))
+  go None (Some y) la lb er es = one_alone y c ∙ sym (one_ends stays a.number b.number c (inl (sym er)))
+  go (Some x) (Some y) la lb er es =
+      two_partner x y c ∙ ap (λ (m : ℕ). pair_partner m y.number c) la.0 ∙ ap (λ (n : ℕ). pair_partner a.number n c) lb.0
+      ∙ both_stay stays a.number b.number c (sym er) (sym es)
+
+-- ---- all jobs
+
+-- so far, the partners are those of the calls of the jobs that are settled, where both go on
+abbrev pub Partnered : (ℕ → Bool) → List Job → List Group → ℕ → Type 0
+Partnered stays jobs groups n = (c : ℕ) → partner_in groups c ≡ partner_past stays (partner_in (take n (groups_from jobs))) c
+
+pub partnered_none : (stays : ℕ → Bool) (jobs : List Job) (groups : List Group) → groups ≡ [] → Partnered stays jobs groups 0
+partnered_none stays jobs groups e c =
+    ap (λ (gs : List Group). partner_in gs c) e ∙ sym (past_none stays (partner_in (take 0 (groups_from jobs))) c refl)
+
+pub partnered_more : (stays : ℕ → Bool) (jobs : List Job) (numbers live : List ℕ) (groups after : List Group) (n : ℕ) (g d : Group) (left : Option Group) → AreGroups 4294967295 (groups_from jobs) →
+    n < length (groups_from jobs) → g ≡ get_or (groups_from jobs) n d → Settling jobs numbers live after (n + 1) → after ≡ groups ++ option_to_list left → Partnered stays jobs groups n →
+    ((c : ℕ) → partner_in (option_to_list left) c ≡ partner_past stays (partner_in (g ∷ [])) c) → Partnered stays jobs after (n + 1)
+partnered_more stays jobs numbers live groups after n g d left a l e s ea p told c =
+    let sofar = take n (groups_from jobs) in
+    let turn : take (n + 1) (groups_from jobs) ≡ sofar ++ g ∷ [] = take_more (groups_from jobs) n d l ∙ ap (λ (x : Group). take n (groups_from jobs) ++ x ∷ []) (sym e) in
+    let few : count_by (holds c) (sofar ++ g ∷ []) ≤ 1 =
+    omega (arith, ap (λ (gs : List Group). count_by (holds c) gs) turn, sum_by-take-drop (λ x. if holds c x then 1 else 0) (groups_from jobs) (n + 1), a.apart c) in
+    let apart : count_by (holds c) (after ++ drop (n + 1) (groups_from jobs)) ≤ 1 = (s.apart 4294967295 a).apart c in
+    let fewer : count_by (holds c) (groups ++ option_to_list left) ≤ 1 =
+    omega (arith, ap (λ (gs : List Group). count_by (holds c) gs) ea, sum_by-append (λ x. if holds c x then 1 else 0) after (drop (n + 1) (groups_from jobs)), apart) in
+    ap (λ (gs : List Group). partner_in gs c) ea ∙ partner_parts groups (option_to_list left) c fewer ∙ ap (λ (o : Option ℕ). option_or o (partner_in (option_to_list left) c)) (p c)
+    ∙ ap (λ (o : Option ℕ). option_or (partner_past stays (partner_in sofar) c) o) (told c) ∙ past_parts sofar (g ∷ []) (in_one sofar (g ∷ []) c few)
+    ∙ past_same stays (partner_in (sofar ++ g ∷ [])) (partner_in (take (n + 1) (groups_from jobs))) c (ap (λ (gs : List Group). partner_in gs c) (sym turn))
+  where
+    past_parts : (xs ys : List Group) → (list_any (holds c) xs ≡ false) ⊎ (list_any (holds c) ys ≡ false) →
+        option_or (partner_past stays (partner_in xs) c) (partner_past stays (partner_in ys) c) ≡ partner_past stays (partner_in (xs ++ ys)) c
+    past_parts xs ys none = elim none [
+      | inl f ↦ ap (λ (o : Option ℕ). option_or o (partner_past stays (partner_in ys) c)) (past_none stays (partner_in xs) c (none_there xs c f))
+          ∙ sym (past_same stays (partner_in (xs ++ ys)) (partner_in ys) c (second_part xs ys c f))
+      | inr f ↦ ap (λ (o : Option ℕ). option_or (partner_past stays (partner_in xs) c) o) (past_none stays (partner_in ys) c (none_there ys c f))
+          ∙ or_none (partner_past stays (partner_in xs) c) ∙ sym (past_same stays (partner_in (xs ++ ys)) (partner_in xs) c (first_part xs ys c f))
+    ]
+
+pub partnered_all : (stays : ℕ → Bool) (jobs : List Job) (groups : List Group) (n : ℕ) → Partnered stays jobs groups n → n ≡ length (groups_from jobs) →
+    (c : ℕ) → partner_in groups c ≡ partner_past stays (partner_in (groups_from jobs)) c
+partnered_all stays jobs groups n p e c =
+    p c ∙ past_same stays (partner_in (take n (groups_from jobs))) (partner_in (groups_from jobs)) c (ap (λ (gs : List Group). partner_in gs c) (take_all n (groups_from jobs) (omega (arith, e))))
+
+-- ---- the jobs of a round
+
+partner_cons : (g : Group) (gs : List Group) (c : ℕ) → partner_in (g ∷ gs) c ≡ (if holds c g then partner_of c g else partner_in gs c)
+partner_cons g gs c = elim (cases_Bool (holds c g)) [ inl t ↦ simp t refl | inr f ↦ simp f refl ]
+
+bare_partner : (gs : List Group) (c : ℕ) → partner_in (groups_from (map job_made gs)) c ≡ partner_in gs c
+bare_partner [] c = refl
+bare_partner (One x ∷ gs) c =
+    partner_cons (group_from (job_made (One x))) (groups_from (map job_made gs)) c ∙ ap (λ (o : Option ℕ). if x.number == c then None else o) (bare_partner gs c) ∙ sym (partner_cons (One x) gs c)
+bare_partner (Two x y ∷ gs) c =
+    partner_cons (group_from (job_made (Two x y))) (groups_from (map job_made gs)) c ∙ ap (λ (o : Option ℕ). if holds c (Two x y) then partner_of c (Two x y) else o) (bare_partner gs c) ∙ sym (partner_cons (Two x y) gs c)
+
+pub made_partner : (most : ℕ) (gs : List Group) (jobs : List Job) → AreGroups most gs → jobs ≡ map job_made (reverse gs) → (c : ℕ) → partner_in (groups_from jobs) c ≡ partner_in gs c
+made_partner most gs jobs a e c =
+    ap (λ (js : List Job). partner_in (groups_from js) c) e ∙ bare_partner (reverse gs) c
+    ∙ ap (λ (o : Option Group). option_and_then (partner_of c) o) (found_moved (holds c) gs (reverse gs) (IsPermutation-reverse gs) (a.apart c))
+
+kept_partner : (j k : Job) (c : ℕ) (o : Option ℕ) → KeptJob j k → (if holds c (group_from k) then partner_of c (group_from k) else o) ≡ (if holds c (group_from j) then partner_of c (group_from j) else o)
+kept_partner (job.One h) (job.One g) c o p = ap (λ (n : ℕ). if n == c then None else o) p.call
+kept_partner (job.Two a b) (job.Two d e) c o p =
+    ap (λ (n : ℕ). if ((n == c) || (e.io.call == c)) then (if n == c then Some e.io.call else Some n) else o) p.0.call
+    ∙ ap (λ (n : ℕ). if ((a.io.call == c) || (n == c)) then (if a.io.call == c then Some n else Some a.io.call) else o) p.1.call
+kept_partner (job.One h) (job.Two d e) c o p = absurd p
+kept_partner (job.Two a b) (job.One g) c o p = absurd p
+
+pub finished_partner : (js : List Job) (c : ℕ) → partner_in (groups_from (map finished js)) c ≡ partner_in (groups_from js) c
+finished_partner [] c = refl
+finished_partner (j ∷ js) c =
+    partner_cons (group_from (finished j)) (groups_from (map finished js)) c ∙ kept_partner j (finished j) c (partner_in (groups_from (map finished js)) c) (finished_keeps j)
+    ∙ ap (λ (o : Option ℕ). if holds c (group_from j) then partner_of c (group_from j) else o) (finished_partner js c) ∙ sym (partner_cons (group_from j) (groups_from js) c)

@@ -1,0 +1,87 @@
+-- What a run leaves on the lines of its calls, and what it reports (this project's profile). `before` are the lines before
+-- it, `now` those after it.
+use Rattle.std.specs.Prelude.{◌≡◌, ◌⊎◌, ℕ, ◌*◌, true, false, Some, is_some, List, [], length, map, drop}
+use Rattle.std.specs.List.{Contains}
+use Rattle.std.specs.Io.KnownBytes.{Appends}
+use Rattle.trau_io.specs.declared.line.Line.{Line}
+use Rattle.trau_io.specs.declared.line.Side.{Side}
+use Rattle.trau_io.specs.declared.line.Side.TheVariants.{Up, Pcm, Down, Out}
+use Rattle.trau_io.specs.declared.ends.Cause.{Cause}
+use Rattle.trau_io.specs.declared.ends.Cause.TheVariants.{Closed, End, Fault, Limit}
+use Rattle.trau_io.specs.Lines.{LineState, Rose}
+use Rattle.trau_orders.specs.declared.order.Order.{Order}
+use Rattle.switchboard.specs.Calls.{opened_at}
+use Rattle.switchboard.specs.Ends.{start_of, end_of}
+use Rattle.farm_report.specs.View.{ReportView}
+use Rattle.round_lines.specs.Places.{name_of}
+use Rattle.farm_output.specs.Run.{Run, Incoming, given_in, done_in, periods_in}
+use Rattle.farm_output.specs.Lines.{out_of_call, down_of_call}
+use Rattle.farm_output.specs.Facts.{report_of}
+use Rattle.farm_run.specs.declared.pace.Pace.{Pace}
+
+-- ---- whatever fails
+
+-- the line of a call on a side is one of these
+abbrev pub IsListed : List Line → ℕ → Side → Type 0
+IsListed lines c s = Contains (map name_of lines) (c, s)
+
+-- The lines that are listed are those whose count of faults rose.
+pub record TellsFailed (before now : ℕ → Side → LineState) (lines : List Line) : Type 0 where
+  pub rose : (c : ℕ) (s : Side) → IsListed lines c s → Rose (before c s).faults (now c s).faults
+  pub kept : (c : ℕ) (s : Side) → (IsListed lines c s → ⊥) → (now c s).faults ≡ (before c s).faults
+
+-- ---- where nothing fails
+
+-- no count of a line rose, and none stands at its last value
+abbrev pub NoneRose : (ℕ → Side → LineState) → (ℕ → Side → LineState) → Type 0
+NoneRose before now = (c : ℕ) (s : Side) → Rose (before c s).faults (now c s).faults → ⊥
+
+-- an order of the run opened the call
+abbrev pub IsOpened : Run → ℕ → Type 0
+IsOpened r c = is_some (opened_at c (done_in r)) ≡ true
+
+-- a call's incoming lines tell their octets
+pub record AreTold (up pcm : LineState) (l : Incoming) : Type 0 where
+  pub up_octets : up.to_come ≡ Some l.up
+  pub pcm_octets : pcm.to_come ≡ Some l.pcm
+
+-- The run of these orders over these lines, to this number of periods: the incoming lines of the calls that it opens
+-- tell what they hold, and no line fails.
+pub record IsRunOver (orders : List Order) (periods : ℕ) (before : ℕ → Side → LineState) (r : Run) : Type 0 where
+  pub same_orders : r.orders ≡ orders
+  pub same_periods : r.periods ≡ periods
+  pub told : (c : ℕ) → IsOpened r c → AreTold (before c Up) (before c Pcm) (r.lines c)
+  pub up_sound : (c : ℕ) → (r.lines c).up_failed ≡ false
+  pub pcm_sound : (c : ℕ) → (r.lines c).pcm_failed ≡ false
+
+-- why a call ended
+abbrev pub cause_in : Run → ℕ → Cause
+cause_in r c = (end_of (given_in r) r.periods (done_in r) c (start_of (done_in r) c)).cause
+
+-- an order ended the call, or the run
+abbrev pub EndedByOrder : Cause → Type 0
+EndedByOrder Closed = Unit {0}
+EndedByOrder Limit = Unit {0}
+EndedByOrder (End side left) = ⊥
+EndedByOrder (Fault side) = ⊥
+
+-- Of a line that told these octets exactly those of n periods were read, so many a period.
+abbrev pub IsReadTo : LineState → ℕ → List ℕ → Type 0
+IsReadTo now octets line = now.to_come ≡ Some (drop octets line)
+
+-- What a run leaves: the outgoing lines of each call that it opened have gained exactly what the run gives, and of the
+-- incoming lines of a call that an order or the run ended exactly the octets of its periods were read. The lines of all
+-- other calls are as they were, their counts included.
+pub record Leaves (r : Run) (before now : ℕ → Side → LineState) : Type 0 where
+  pub out : (c : ℕ) → IsOpened r c → Appends (before c Out).written (now c Out).written (out_of_call r c)
+  pub down : (c : ℕ) → IsOpened r c → Appends (before c Down).written (now c Down).written (down_of_call r c)
+  pub up_read : (c : ℕ) → IsOpened r c → EndedByOrder (cause_in r c) → IsReadTo (now c Up) (40 * length (periods_in r c)) (r.lines c).up
+  pub pcm_read : (c : ℕ) → IsOpened r c → EndedByOrder (cause_in r c) → IsReadTo (now c Pcm) (160 * length (periods_in r c)) (r.lines c).pcm
+  pub others : (c : ℕ) (s : Side) → (IsOpened r c → ⊥) → now c s ≡ before c s
+
+-- A run of these orders: its report lists the lines that failed. Where none did, it left on the lines what the run of
+-- these orders over these lines gives, and the report is that run's.
+pub record Runs (orders : List Order) (pace : Pace) (before now : ℕ → Side → LineState) (report : ReportView) : Type 0 where
+  pub failed : TellsFailed before now report.failed
+  pub leaves : (r : Run) → IsRunOver orders pace.periods before r → NoneRose before now → Leaves r before now
+  pub reports : (r : Run) → IsRunOver orders pace.periods before r → NoneRose before now → report ≡ report_of r []

@@ -1,0 +1,14 @@
+//! How a run is worked.
+
+/// How a run is worked.
+#[derive(Clone, Copy, Debug, PartialEq, Eq)]
+pub struct Pace {
+    /// The workers of a round's pool, 1 to 64.
+    pub workers: u32,
+    /// The most periods of a round, 1 to 250.
+    pub batch: u32,
+    /// The periods of a call that are worked in one go, at least 1.
+    pub slice: u32,
+    /// The number of periods at which the run ends, at least 1.
+    pub periods: u32,
+}
