@@ -1,0 +1,63 @@
+#!/bin/sh
+# `trau run` on three recorded farms (checks/farms/README.md): each outgoing line and the report, octet for octet, with
+# each of the command lines of checks/farms/words.txt.
+set -eu
+top=$(cd "$(dirname "$0")/.." && pwd)
+work=$(mktemp -d)
+trap 'rm -rf "$work"' EXIT
+failed=0
+
+# lay NAME: puts the farm's incoming lines and orders into $work/given, and what must come into $work/wanted
+lay() {
+    rm -rf "$work/given" "$work/wanted"
+    mkdir "$work/given" "$work/wanted"
+    case $1 in
+    mixed)
+        cp "$top"/examples/farm/*.up "$top"/examples/farm/*.pcm "$top/examples/farm/orders.txt" "$work/given"
+        cp "$top"/examples/farm/wanted/* "$work/wanted"
+        ;;
+    clean)
+        cp "$top"/crates/call_vectors/data/*.up "$top"/crates/call_vectors/data/*.pcm "$work/given"
+        cp "$top"/crates/call_vectors/data/*.down "$top"/crates/call_vectors/data/*.out "$work/wanted"
+        ;;
+    harsh)
+        for call in 1 2 3 4 5; do
+            cp "$top/crates/codec_vectors/data/farm-$call.up" "$work/given/$call.up"
+        done
+        cp "$top/crates/codec_vectors/data/farm-report.txt" "$work/wanted/report.txt"
+        ;;
+    esac
+    [ ! -d "$top/checks/farms/$1" ] || for file in "$top/checks/farms/$1"/*; do
+        case $file in
+        *.up | *.pcm | */orders.txt) cp "$file" "$work/given" ;;
+        *) cp "$file" "$work/wanted" ;;
+        esac
+    done
+}
+
+# compare NAME WORDS..: runs the farm in a folder of its own
+compare() {
+    name=$1
+    shift
+    rm -rf "$work/run"
+    cp -r "$work/given" "$work/run"
+    status=0
+    (cd "$work/run" && "$top/trau" "$@" <orders.txt >report.txt) || status=$?
+    (cd "$work/run" && rm -f ./*.up ./*.pcm orders.txt)
+    if [ "$status" = 0 ] && diff -r "$work/wanted" "$work/run" >"$work/differences"; then
+        echo "ok $name: $*"
+    else
+        echo "FAILED $name: $*, status $status"
+        cat "$work/differences"
+        failed=1
+    fi
+}
+
+for name in mixed clean harsh; do
+    lay "$name"
+    while read -r words; do
+        # shellcheck disable=SC2086
+        compare "$name" $words
+    done <"$top/checks/farms/words.txt"
+done
+exit "$failed"
