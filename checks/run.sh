@@ -1,0 +1,216 @@
+#!/bin/sh
+# `trau run` where the system or its orders set limits: texts, statuses, and what the lines hold.
+set -eu
+top=$(cd "$(dirname "$0")/.." && pwd)
+work=$(mktemp -d)
+trap 'rm -rf "$work"' EXIT
+cd "$work"
+failed=0
+
+fail() {
+    echo "FAILED $1"
+    failed=$((failed + 1))
+}
+
+# run ORDERS WORDS..: runs the orders (printf's escapes) over the lines of this folder
+run() {
+    orders=$1
+    shift
+    status=0
+    printf "$orders" | "$top/trau" run "$@" >text || status=$?
+}
+
+# expect NAME STATUS: the last run's status, and its text as standard input has it
+expect() {
+    cat >wanted
+    if [ "$status" = "$2" ] && cmp -s wanted text; then
+        echo "ok $1"
+    else
+        fail "$1: status $status, text:"
+        cat text
+    fi
+}
+
+# size NAME FILE OCTETS
+size() {
+    [ "$(wc -c <"$2")" = "$3" ] || fail "$1: $2 has $(wc -c <"$2") octets"
+}
+
+# Lines of call 1: an uplink without a frame, an idle Pcm line, three periods each.
+head -c 120 /dev/zero >1.up
+head -c 480 /dev/zero | tr '\0' '\325' >1.pcm
+
+run '0 open 1'
+expect "one call" 0 <<'TEXT'
+order 1 ok
+call 1 from 0 to 3 end up 0
+counts 1 good 0 sid 0 invalid 0 bad 0 idle 0 other 0 miss 0 none 3 made 3
+end period 3 calls 1 left 0
+TEXT
+cmp 1.out 1.pcm || fail "one call: Out"
+size "one call" 1.down 120
+
+run ''
+expect "no orders" 0 <<'TEXT'
+end period 0 calls 0 left 0
+TEXT
+
+run '5 open 1\n4 open 2\n'
+expect "a stamp that falls" 2 <<'TEXT'
+orders line 2
+TEXT
+run '0 open 01\n'
+expect "a number with a leading zero" 2 <<'TEXT'
+orders line 1
+TEXT
+
+# The limits of the orders: 65,536 lines are run, one more is too many; so is an octet past a mebibyte.
+: >2.up
+: >2.pcm
+i=0
+rm -f many
+while [ $i -lt 16 ]; do
+    printf '0 open 2\n0 open 2\n0 open 2\n0 open 2\n' >>many
+    i=$((i + 1))
+done
+i=0
+while [ $i -lt 10 ]; do
+    cat many many >more
+    mv more many
+    i=$((i + 1))
+done
+[ "$(wc -l <many)" = 65536 ] || fail "65,536 lines"
+status=0
+"$top/trau" run <many >text || status=$?
+if [ "$status" = 0 ] && [ "$(wc -l <text)" = 65539 ] && [ "$(sed -n 65536p text)" = "order 65536 refused 1 call 2" ]; then
+    echo "ok 65,536 orders"
+else
+    fail "65,536 orders: status $status"
+fi
+echo '0 open 2' >>many
+status=0
+"$top/trau" run <many >text || status=$?
+expect "65,537 orders" 7 <<'TEXT'
+orders too long
+TEXT
+status=0
+head -c 1048577 /dev/zero | "$top/trau" run >text || status=$?
+expect "an octet past a mebibyte" 7 <<'TEXT'
+orders too long
+TEXT
+
+run '4000000000 open 2\n'
+expect "a clock that jumps" 0 <<'TEXT'
+order 1 ok
+call 2 from 4000000000 to 4000000000 end up 0
+counts 2 good 0 sid 0 invalid 0 bad 0 idle 0 other 0 miss 0 none 0 made 0
+end period 4000000000 calls 1 left 0
+TEXT
+
+head -c 400 /dev/zero >3.up
+head -c 1600 /dev/zero >3.pcm
+run '0 open 3\n9 close 3\n' --periods 3
+expect "an end before the orders'" 0 <<'TEXT'
+order 1 ok
+call 3 from 0 to 3 limit
+counts 3 good 0 sid 0 invalid 0 bad 0 idle 0 other 0 miss 0 none 3 made 3
+end period 3 calls 1 left 1
+TEXT
+size "an end before the orders'" 3.out 480
+
+# Words.
+for words in '--workers 0' '--batch 2 --batch 3' '--slice 251' '--periods' '--workers 1 x' '--help'; do
+    # shellcheck disable=SC2086
+    run '0 open 1' $words
+    expect "words $words" 1 <<'TEXT'
+usage
+TEXT
+done
+
+# A missing line is a fault, and both are told; Pcm is read where Up has ended too.
+run '0 open 4\n'
+expect "missing lines" 6 <<'TEXT'
+order 1 ok
+call 4 from 0 to 0 fault up
+counts 4 good 0 sid 0 invalid 0 bad 0 idle 0 other 0 miss 0 none 0 made 0
+line 4 up failed
+line 4 pcm failed
+end period 0 calls 1 left 0
+TEXT
+: >5.up
+run '0 open 5\n'
+expect "an empty uplink and no Pcm line" 6 <<'TEXT'
+order 1 ok
+call 5 from 0 to 0 end up 0
+counts 5 good 0 sid 0 invalid 0 bad 0 idle 0 other 0 miss 0 none 0 made 0
+line 5 pcm failed
+end period 0 calls 1 left 0
+TEXT
+
+# A call that is closed at its opening, or opened past the run's end, reads nothing.
+run '0 open 6\n0 close 6\n'
+expect "a call that is closed at once" 0 <<'TEXT'
+order 1 ok
+order 2 ok
+call 6 from 0 to 0 closed
+counts 6 good 0 sid 0 invalid 0 bad 0 idle 0 other 0 miss 0 none 0 made 0
+end period 0 calls 1 left 0
+TEXT
+run '3 open 6\n' --periods 3
+expect "a call past the run's end" 0 <<'TEXT'
+end period 0 calls 0 left 1
+TEXT
+
+# An outgoing line that fails doesn't end its call.
+cp 1.up 7.up
+cp 1.pcm 7.pcm
+mkdir 7.down
+run '0 open 7\n' --batch 1
+expect "a downlink that can't be written" 6 <<'TEXT'
+order 1 ok
+call 7 from 0 to 3 end up 0
+counts 7 good 0 sid 0 invalid 0 bad 0 idle 0 other 0 miss 0 none 3 made 3
+line 7 down failed
+end period 3 calls 1 left 0
+TEXT
+size "a downlink that can't be written" 7.out 480
+
+# The desk.
+status=0
+"$top/trau" run </ >text 2>/dev/null || status=$?
+expect "orders that can't be read" 3 <<'TEXT'
+orders unread
+TEXT
+status=0
+printf '0 open 1' | "$top/trau" run >/dev/full || status=$?
+: >text
+expect "a full standard output" 4 </dev/null
+
+# Little memory.
+status=0
+(ulimit -v 3000 && printf '0 open 1' | "$top/crates/trau_program/out/trau_program" run) >text || status=$?
+expect "little memory" 5 <<'TEXT'
+no memory
+TEXT
+
+# As many calls as there are numbers, a period each: all end with their lines.
+i=1
+: >orders
+while [ $i -le 1024 ]; do
+    head -c 40 1.up >$i.up
+    head -c 160 1.pcm >$i.pcm
+    rm -rf $i.down $i.out
+    echo "0 open $i" >>orders
+    i=$((i + 1))
+done
+status=0
+"$top/trau" run <orders >text || status=$?
+if [ "$status" = 0 ] && [ "$(grep -c '^call [0-9]* from 0 to 1 end up 0$' text)" = 1024 ] && [ "$(tail -n 1 text)" = "end period 1 calls 1024 left 0" ]; then
+    echo "ok 1,024 calls"
+else
+    fail "1,024 calls: status $status"
+fi
+size "1,024 calls" 1024.down 40
+size "1,024 calls" 1024.out 160
+
+[ "$failed" = 0 ]
