@@ -10,6 +10,7 @@ pub mod Handing
 pub mod Taking
 pub mod Planning
 pub mod Settling
+pub mod Seating
 pub mod Partners
 pub mod Working
 pub mod Starting
