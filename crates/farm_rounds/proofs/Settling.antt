@@ -1,12 +1,18 @@
 -- The calls of a round that go on, and those that end.
-use Rattle.std.proofs.Common.{◌≡◌, ◌≢◌, refl, sym, ap, ◌∙◌, subst, ℕ, ◌+◌, ◌<◌, ◌≤◌, Bool, true, false, Option, Some, None, List, [], ◌∷◌, ◌++◌, length, length-append, append_assoc, append-nil, arith, inl, inr, ◌⊎◌}
+use Rattle.std.proofs.Common.{◌≡◌, ◌≢◌, refl, sym, ap, ◌∙◌, subst, ℕ, ◌+◌, ◌<◌, ◌≤◌, Bool, true, false, Option, Some, None, List, [], ◌∷◌, ◌++◌, length, length-append, append_assoc, suc, take, drop, drop-cons, add-one, arith, inl, inr, ◌⊎◌}
 use Rattle.std.specs.Prelude.{if◌then◌else◌, ◌==◌, ◌||◌, ◌&&◌, not, is_some, option_to_list}
 use Rattle.std.specs.Option.{option_or, option_map}
 use Rattle.std.specs.List.{find, list_any, count_by, cons_option}
-use Rattle.std.proofs.lemmas.Bool.{cases_Bool, eqb-true, eq-eqb, false≢true, or_left, or_right}
+use Rattle.std.proofs.lemmas.Bool.{cases_Bool, eqb-true, ne_eqb, false≢true, or_left, or_right}
 use Rattle.std.proofs.lemmas.List.Elements.{All-head, filter_map-append}
 use Rattle.std.proofs.lemmas.List.Folds.{find-append, list_any-append}
 use Rattle.std.proofs.lemmas.List.Sums.{sum_by-append}
+use Rattle.std.proofs.lemmas.List.{take-append-drop, map-id}
+use Rattle.std.proofs.lemmas.Iterator.{YieldsList}
+use Rattle.std.proofs.lemmas.Iterator.Consumers.{YieldsList-so_far, YieldsList-turn}
+use Rattle.std.specs.Iterator.{Yields}
+use Rattle.std.specs.Global.{Box}
+use Rattle.call_pair.specs.declared.job.Job.{Job}
 use Rattle.round_lines.specs.Seats.{SeatMemory}
 use Rattle.farm_rounds.specs.declared.call.Call.{Call}
 use Rattle.farm_rounds.specs.declared.call.Group.{Group}
@@ -16,9 +22,11 @@ use Rattle.farm_rounds.specs.Calls.{holds, group_in, call_in, call_of}
 use Rattle.farm_rounds.specs.Groups.{IsGroup, AreGroups, AreLive}
 use Rattle.farm_rounds.specs.Memory.{tally_in}
 use Rattle.farm_rounds.specs.Numbers.{IsRising, is_among}
+use Rattle.farm_rounds.specs.Rounds.{jobs_in, group_from, groups_from}
 use Rattle.farm_rounds.specs.Settling.{group_left, groups_left, ended_in, ended_of, KeepsTally, Settled}
 use Rattle.farm_rounds.proofs.Finding.{cases_zero, none_counted, not_found}
 use Rattle.farm_rounds.proofs.Exchanging.{All-second}
+use Rattle.farm_rounds.proofs.Applying.{few_groups}
 
 -- ---- the call with a number
 
@@ -90,50 +98,6 @@ module _ (stays : ℕ → Bool) where
     same = refl;
   }
 
-  -- a call that goes on
-  pub settled_stays : (x : Call) (live : List ℕ) (kept : List Tally) → stays x.number ≡ true → IsRising live → Settled stays (One x ∷ []) live live kept kept
-  settled_stays x live kept s rising = record {
-      numbers = λ c. ap (λ (o : Option Call). not (is_some o) && is_among live c) (sym (none c));
-      rising = rising;
-      number = simp s (omega arith);
-      tallies = λ c. subst (λ (o : Option Call). KeepsTally o (tally_in kept c) (tally_in kept c)) (sym (none c)) refl;
-      same = refl;
-    }
-    where
-      none : (c : ℕ) → ended_in stays (One x ∷ []) c ≡ None
-      none c = elim (cases_Bool (x.number == c)) [
-        | inl t ↦ let e : stays c ≡ true = ap stays (sym (eqb-true x.number c t)) ∙ s in ap (λ (b : Bool). if b then None else call_in (One x ∷ []) c) e
-        | inr f ↦ none_ended (One x ∷ []) c (ap (λ (b : Bool). b || false) f)
-      ]
-
-  -- one that ends
-  pub settled_ends : (x : Call) (before now : List ℕ) (kept keeps : List Tally) → stays x.number ≡ false → ((c : ℕ) → is_among now c ≡ (not (x.number == c) && is_among before c)) → IsRising now →
-      length now + 1 ≡ length before → KeepsTally (Some x) (tally_in kept x.number) (tally_in keeps x.number) → ((c : ℕ) → c ≢ x.number → tally_in keeps c ≡ tally_in kept c) →
-      length keeps ≡ length kept → Settled stays (One x ∷ []) before now kept keeps
-  settled_ends x before now kept keeps s numbers rising fewer own others same = record {
-      numbers = λ c. numbers c ∙ ap (λ (b : Bool). not b && is_among before c) (by (x.number == c)) ∙ ap (λ (o : Option Call). not (is_some o) && is_among before c) (sym (its c));
-      rising = rising;
-      number = simp s (omega (arith, fewer));
-      tallies = λ c. subst (λ (o : Option Call). KeepsTally o (tally_in kept c) (tally_in keeps c)) (sym (its c)) (tally c);
-      same = same;
-    }
-    where
-      by : (b : Bool) → b ≡ is_some (if b then Some x else None)
-      by true = refl
-      by false = refl
-
-      its : (c : ℕ) → ended_in stays (One x ∷ []) c ≡ (if x.number == c then Some x else None)
-      its c = elim (cases_Bool (x.number == c)) [
-        | inl t ↦ let e : stays c ≡ false = ap stays (sym (eqb-true x.number c t)) ∙ s in ap (λ (b : Bool). if b then None else call_in (One x ∷ []) c) e ∙ call_of_one x c
-        | inr f ↦ none_ended (One x ∷ []) c (ap (λ (b : Bool). b || false) f) ∙ sym (ap (λ (b : Bool). if b then Some x else None) f)
-      ]
-
-      tally : (c : ℕ) → KeepsTally (if x.number == c then Some x else None) (tally_in kept c) (tally_in keeps c)
-      tally c = elim (cases_Bool (x.number == c)) [
-        | inl t ↦ simp t (subst (λ (n : ℕ). KeepsTally (Some x) (tally_in kept n) (tally_in keeps n)) (eqb-true x.number c t) own)
-        | inr f ↦ simp f (others c (λ q. false≢true (sym f ∙ eq-eqb x.number c (sym q))))
-      ]
-
   kept_twice : (o p : Option Call) (a b d : Tally) → (o ≡ None) ⊎ (p ≡ None) → KeepsTally o a b → KeepsTally p b d → KeepsTally (option_or o p) a d
   kept_twice None None a b d one s t = t ∙ s
   kept_twice None (Some y) a b d one s t = t
@@ -161,6 +125,10 @@ module _ (stays : ℕ → Bool) where
       apart : (c : ℕ) → (ended_in stays xs c ≡ None) ⊎ (ended_in stays ys c ≡ None)
       apart c = elim (in_one xs ys c (few c)) [ inl f ↦ inl (none_ended xs c f) | inr f ↦ inr (none_ended ys c f) ]
 
+  -- a call of no group among them is still there
+  pub still_there : (xs : List Group) (before live : List ℕ) (kept keeps : List Tally) (c : ℕ) → list_any (holds c) xs ≡ false → Settled stays xs before live kept keeps → is_among before c ≡ true → is_among live c ≡ true
+  still_there xs before live kept keeps c f s t = s.numbers c ∙ ap (λ (o : Option Call). not (is_some o) && is_among before c) (none_ended xs c f) ∙ t
+
   -- the two of a bridge, one after the other
   pub settled_pair : (x y : Call) (before now : List ℕ) (kept keeps : List Tally) → Settled stays (One x ∷ One y ∷ []) before now kept keeps → Settled stays (Two x y ∷ []) before now kept keeps
   settled_pair x y before now kept keeps s = record {
@@ -184,6 +152,11 @@ pair_apart x y less c = elim (cases_Bool (x.number == c)) [
   | inr f ↦ elim (cases_Bool (y.number == c)) [ inl u ↦ simp (f, u) (omega arith) | inr e ↦ simp (f, e) (omega arith) ]
 ]
 
+pub second_there : (stays : ℕ → Bool) (x y : Call) (before live : List ℕ) (kept keeps : List Tally) → x.number < y.number → Settled stays (One x ∷ []) before live kept keeps → is_among before y.number ≡ true →
+    is_among live y.number ≡ true
+second_there stays x y before live kept keeps less =
+    still_there stays (One x ∷ []) before live kept keeps y.number (ap (λ (b : Bool). b || false) (ne_eqb x.number y.number (λ e. absurd (omega (arith, e, less)))))
+
 -- ---- the next group of the jobs
 
 -- some groups of a list, and the next one
@@ -206,27 +179,53 @@ next_known all gs g live l n c t =
 pub next_present : (stays : ℕ → Bool) (all gs : List Group) (g : Group) (before live : List ℕ) (kept keeps : List Tally) (most : ℕ) → AreGroups most all → AreLive before all → AreNext all gs g →
     Settled stays gs before live kept keeps → (c : ℕ) → holds c g ≡ true → is_among live c ≡ true
 next_present stays all gs g before live kept keeps most a l n s c t = elim (in_one gs (g ∷ []) c (next_few all gs g most a n c)) [
-  | inl f ↦ s.numbers c ∙ ap (λ (o : Option Call). not (is_some o) && is_among before c) (none_ended stays gs c f) ∙ next_known all gs g before l n c t
+  | inl f ↦ still_there stays gs before live kept keeps c f s (next_known all gs g before l n c t)
   | inr f ↦ absurd (false≢true (sym f ∙ or_left (holds c g) false t))
 ]
 
-pub settled_next : (stays : ℕ → Bool) (all gs : List Group) (g : Group) (before live now : List ℕ) (kept some keeps : List Tally) (most : ℕ) → AreGroups most all → AreNext all gs g →
-    Settled stays gs before live kept some → Settled stays (g ∷ []) live now some keeps → Settled stays (gs ++ g ∷ []) before now kept keeps
-settled_next stays all gs g before live now kept some keeps most a n = settled_more stays gs (g ∷ []) before live now kept some keeps (next_few all gs g most a n)
-
--- what is left of it stands behind what is left of those before it
-pub left_next : (stays : ℕ → Bool) (seat : ℕ → SeatMemory) (gs : List Group) (g : Group) → groups_left stays seat (gs ++ g ∷ []) ≡ groups_left stays seat gs ++ option_to_list (group_left stays seat g)
+-- what is left of a group stands behind what is left of those before it
+left_next : (stays : ℕ → Bool) (seat : ℕ → SeatMemory) (gs : List Group) (g : Group) → groups_left stays seat (gs ++ g ∷ []) ≡ groups_left stays seat gs ++ option_to_list (group_left stays seat g)
 left_next stays seat gs g = filter_map-append (group_left stays seat) gs (g ∷ []) ∙ ap (λ (xs : List Group). groups_left stays seat gs ++ xs) (by (group_left stays seat g)) where
   by : (o : Option Group) → cons_option o [] ≡ option_to_list o
   by None = refl
   by (Some x) = refl
 
+-- the next group is settled
+pub settled_next : (stays : ℕ → Bool) (seat : ℕ → SeatMemory) (all gs next groups after : List Group) (g : Group) (left : Option Group) (before live now : List ℕ) (kept some keeps : List Tally) (most : ℕ) → AreGroups most all →
+    AreNext all gs g → next ≡ gs ++ g ∷ [] → groups ≡ groups_left stays seat gs → left ≡ group_left stays seat g → after ≡ groups ++ option_to_list left →
+    Settled stays gs before live kept some → Settled stays (g ∷ []) live now some keeps → (after ≡ groups_left stays seat next) × Settled stays next before now kept keeps
+settled_next stays seat all gs next groups after g left before live now kept some keeps most a n turn here one e s t = (
+  e ∙ ap (λ (xs : List Group). xs ++ option_to_list left) here ∙ ap (λ (o : Option Group). groups_left stays seat gs ++ option_to_list o) one ∙ sym (left_next stays seat gs g) ∙ ap (groups_left stays seat) (sym turn),
+  subst (λ (xs : List Group). Settled stays xs before now kept keeps) (sym turn) (settled_more stays gs (g ∷ []) before live now kept some keeps (next_few all gs g most a n) s t),
+)
+
 few_left : (stays : ℕ → Bool) (seat : ℕ → SeatMemory) (gs : List Group) → length (groups_left stays seat gs) ≤ length gs
 few_left stays seat [] = omega arith
-few_left stays seat (g ∷ gs) = let few = few_left stays seat gs in by (group_left stays seat g) few where
+few_left stays seat (g ∷ gs) = by (group_left stays seat g) (few_left stays seat gs) where
   by : (o : Option Group) → length (groups_left stays seat gs) ≤ length gs → length (cons_option o (groups_left stays seat gs)) ≤ length (g ∷ gs)
   by None few = omega (arith, few)
   by (Some x) few = omega (arith, few)
 
-pub room_left : (stays : ℕ → Bool) (seat : ℕ → SeatMemory) (all gs now : List Group) (g : Group) → AreNext all gs g → now ≡ groups_left stays seat gs → length now < length all
-room_left stays seat all gs now g n e = omega (arith, ap length e, few_left stays seat gs, ap length n.1, length-append gs (g ∷ n.0))
+-- there is room for what is left of it
+pub room_left : (stays : ℕ → Bool) (seat : ℕ → SeatMemory) (all gs groups : List Group) (g : Group) (live : List ℕ) → AreLive live all → AreNext all gs g → groups ≡ groups_left stays seat gs → length groups < length live
+room_left stays seat all gs groups g live l n e = omega (arith, ap length e, few_left stays seat gs, ap length n.1, length-append gs (g ∷ n.0), few_groups all, l.count)
+
+-- ---- the jobs
+
+pub groups_append : (xs ys : List (Box Job)) → groups_from (jobs_in (xs ++ ys)) ≡ groups_from (jobs_in xs) ++ groups_from (jobs_in ys)
+groups_append [] ys = refl
+groups_append (x ∷ xs) ys = ap (λ (gs : List Group). group_from x.value ∷ gs) (groups_append xs ys)
+
+-- the groups of the jobs that a loop has had, and of the next one
+pub next_job : {S : Type 0} {steps : S → Option (Box Job) → S → Type 0} {s : S} (bs xs : List (Box Job)) (t u : S) (r : Option (Box Job)) (b : Box Job) (j : Job) → YieldsList steps (λ y. y) s bs → Yields steps s xs t →
+    r ≡ Some b → steps t r u → j ≡ b.value → AreNext (groups_from (jobs_in bs)) (groups_from (jobs_in xs)) (group_from j)
+next_job {S} {steps} {s} bs xs t u r b j all some is step e =
+    let n = length xs in
+    let turn = YieldsList-turn all xs t some r u b is step in
+    let front : take n bs ≡ xs = sym (sym (map-id xs) ∙ YieldsList-so_far all xs t some) in
+    let rest : drop n bs ≡ b ∷ drop (n + 1) bs = rw add-one (drop-cons bs n b turn.0 ∙ ap (λ (x : Box Job). x ∷ drop (suc n) bs) (sym turn.1)) in
+    let whole : bs ≡ xs ++ b ∷ drop (n + 1) bs = sym (take-append-drop n bs) ∙ ap (λ (ys : List (Box Job)). ys ++ drop n bs) front ∙ ap (λ (ys : List (Box Job)). xs ++ ys) rest in (
+      groups_from (jobs_in (drop (n + 1) bs)),
+      ap (λ (ys : List (Box Job)). groups_from (jobs_in ys)) whole ∙ groups_append xs (b ∷ drop (n + 1) bs)
+      ∙ ap (λ (i : Job). groups_from (jobs_in xs) ++ group_from i ∷ groups_from (jobs_in (drop (n + 1) bs))) (sym e),
+    )
