@@ -11,6 +11,8 @@ pub mod Taking
 pub mod Planning
 pub mod Settling
 pub mod Seating
+pub mod Left
 pub mod Partners
+pub mod Drained
 pub mod Working
 pub mod Starting
