@@ -21,7 +21,7 @@ use Rattle.farm_rounds.specs.Settling.{goes_on_in, told_by, call_left, groups_le
 use Rattle.farm_rounds.specs.Working.{WorkedMemory, IsWorked, goes_on_call, that_stays, partner_past}
 use Rattle.farm_rounds.specs.RoundHistories.{seat_of, WorkedCall, WorkedStand, KnowFailed, those_that}
 use Rattle.farm_rounds.proofs.Finding.{found_there}
-use Rattle.farm_rounds.proofs.Left.{groups_of_left, held_left, calls_left}
+use Rattle.farm_rounds.proofs.Left.{left_if, groups_of_left, held_left, calls_left}
 use Rattle.farm_rounds.proofs.Partners.{past_all}
 
 -- ---- the seats
@@ -67,7 +67,7 @@ module _ (stays : ℕ → Bool) (seat : ℕ → SeatMemory) (c : ℕ) where
     by true = refl
     by false = refl
   goes_is (Some x) its = by (stays c) (stays x.number) (sym (ap stays (its x refl))) where
-    by : (b d : Bool) → b ≡ d → (not (is_some (if b then None else Some x)) && true) ≡ is_some (if d then Some (told_by (seat x.number) x) else None)
+    by : (b d : Bool) → b ≡ d → (not (is_some (if b then None else Some x)) && true) ≡ is_some (left_if seat d x)
     by true true e = refl
     by false false e = refl
     by true false e = absurd (cc)
@@ -86,7 +86,7 @@ module _ (stays : ℕ → Bool) (seat : ℕ → SeatMemory) (c : ℕ) where
       (x.down_failed ≡ has_failed (seat c).place.down) × (x.out_failed ≡ has_failed (seat c).place.out)
   knows None x its e = absurd (cc)
   knows (Some y) x its e = by (stays y.number) e where
-    by : (b : Bool) → (if b then Some (told_by (seat y.number) y) else None) ≡ Some x → (x.down_failed ≡ has_failed (seat c).place.down) × (x.out_failed ≡ has_failed (seat c).place.out)
+    by : (b : Bool) → left_if seat b y ≡ Some x → (x.down_failed ≡ has_failed (seat c).place.down) × (x.out_failed ≡ has_failed (seat c).place.out)
     by true u =
         let same : told_by (seat y.number) y ≡ x = cc in
         subst (λ (n : ℕ). (x.down_failed ≡ has_failed (seat n).place.down) × (x.out_failed ≡ has_failed (seat n).place.out)) (its y refl)
@@ -101,7 +101,7 @@ module _ (stays : ℕ → Bool) (seat : ℕ → SeatMemory) (c : ℕ) where
     by true = ap (that_stays stays) w
     by false = refl
   stands_on (Some t) (Some x) p w = by (stays c) (stays x.number) refl (ap stays w.0) where
-    by : (b d : Bool) → stays c ≡ b → d ≡ stays c → CallStands c (if b then Some t else None) (if d then Some (told_by (seat x.number) x) else None) (if b then that_stays stays p else None)
+    by : (b d : Bool) → stays c ≡ b → d ≡ stays c → CallStands c (if b then Some t else None) (left_if seat d x) (if b then that_stays stays p else None)
     by true true e f = (w.0, w.1, w.2 e)
     by false false e f = refl
     by true false e f = absurd (false≢true (f ∙ e))

@@ -13,11 +13,12 @@ use Rattle.farm_rounds.specs.declared.call.Group.TheVariants.{One, Two}
 use Rattle.farm_rounds.specs.Calls.{holds, call_in, size_of, calls_held}
 use Rattle.farm_rounds.specs.Groups.{IsCall, IsGroup, AreGroups}
 use Rattle.farm_rounds.specs.Settling.{told_by, call_left, together_of, group_left, groups_left, ended_of, calls_ended}
+use Rattle.farm_rounds.proofs.Finding.{or_none}
 use Rattle.farm_rounds.proofs.Settling.{no_call, call_of_one, call_of_two, call_parts, in_one, pair_apart}
 
-or_nothing : {X : Type 0} (o : Option X) → option_or o None ≡ o
-or_nothing None = refl
-or_nothing (Some x) = refl
+-- a call, by whether it goes on
+abbrev pub left_if : (ℕ → SeatMemory) → Bool → Call → Option Call
+left_if seat stays x = if stays then Some (told_by (seat x.number) x) else None
 
 module _ (stays : ℕ → Bool) (seat : ℕ → SeatMemory) where
   pub left_cons : (g : Group) (gs : List Group) → groups_left stays seat (g ∷ gs) ≡ option_to_list (group_left stays seat g) ++ groups_left stays seat gs
@@ -36,11 +37,11 @@ module _ (stays : ℕ → Bool) (seat : ℕ → SeatMemory) where
 
   count_group : (g : Group) (c : ℕ) → count_by (holds c) (option_to_list (group_left stays seat g)) ≤ count_by (holds c) (g ∷ [])
   count_group (One x) c = by (stays x.number) where
-    by : (b : Bool) → count_by (holds c) (option_to_list (together_of (if b then Some (told_by (seat x.number) x) else None) None)) ≤ count_by (holds c) (One x ∷ [])
+    by : (b : Bool) → count_by (holds c) (option_to_list (together_of (left_if seat b x) None)) ≤ count_by (holds c) (One x ∷ [])
     by true = omega arith
     by false = omega arith
   count_group (Two x y) c = by (stays x.number) (stays y.number) where
-    by : (b d : Bool) → count_by (holds c) (option_to_list (together_of (if b then Some (told_by (seat x.number) x) else None) (if d then Some (told_by (seat y.number) y) else None))) ≤ count_by (holds c) (Two x y ∷ [])
+    by : (b d : Bool) → count_by (holds c) (option_to_list (together_of (left_if seat b x) (left_if seat d y))) ≤ count_by (holds c) (Two x y ∷ [])
     by true true = omega arith
     by true false = (one_count (x.number == c) (y.number == c)).0
     by false true = (one_count (x.number == c) (y.number == c)).1
@@ -63,11 +64,11 @@ module _ (stays : ℕ → Bool) (seat : ℕ → SeatMemory) where
 
   each_group : (most : ℕ) (g : Group) → IsGroup most g → All (IsGroup most) (option_to_list (group_left stays seat g))
   each_group most (One x) k = by (stays x.number) where
-    by : (b : Bool) → All (IsGroup most) (option_to_list (together_of (if b then Some (told_by (seat x.number) x) else None) None))
+    by : (b : Bool) → All (IsGroup most) (option_to_list (together_of (left_if seat b x) None))
     by true = All-cons (IsGroup most) (One (told_by (seat x.number) x)) [] (told_call most x k) (All-nil (IsGroup most))
     by false = All-nil (IsGroup most)
   each_group most (Two x y) k = by (stays x.number) (stays y.number) where
-    by : (b d : Bool) → All (IsGroup most) (option_to_list (together_of (if b then Some (told_by (seat x.number) x) else None) (if d then Some (told_by (seat y.number) y) else None)))
+    by : (b d : Bool) → All (IsGroup most) (option_to_list (together_of (left_if seat b x) (left_if seat d y)))
     by true true = All-cons (IsGroup most) (Two (told_by (seat x.number) x) (told_by (seat y.number) y)) [] (told_call most x k.0, told_call most y k.1, k.2) (All-nil (IsGroup most))
     by true false = All-cons (IsGroup most) (One (told_by (seat x.number) x)) [] (told_call most x k.0) (All-nil (IsGroup most))
     by false true = All-cons (IsGroup most) (One (told_by (seat y.number) y)) [] (told_call most y k.1) (All-nil (IsGroup most))
@@ -85,11 +86,11 @@ module _ (stays : ℕ → Bool) (seat : ℕ → SeatMemory) where
 
   held_group : (g : Group) → calls_held (option_to_list (group_left stays seat g)) + ended_of stays g ≡ size_of g
   held_group (One x) = by (stays x.number) where
-    by : (b : Bool) → calls_held (option_to_list (together_of (if b then Some (told_by (seat x.number) x) else None) None)) + (if b then 0 else 1) ≡ 1
+    by : (b : Bool) → calls_held (option_to_list (together_of (left_if seat b x) None)) + (if b then 0 else 1) ≡ 1
     by true = omega arith
     by false = omega arith
   held_group (Two x y) = by (stays x.number) (stays y.number) where
-    by : (b d : Bool) → calls_held (option_to_list (together_of (if b then Some (told_by (seat x.number) x) else None) (if d then Some (told_by (seat y.number) y) else None))) + ((if b then 0 else 1) + (if d then 0 else 1)) ≡ 2
+    by : (b d : Bool) → calls_held (option_to_list (together_of (left_if seat b x) (left_if seat d y))) + ((if b then 0 else 1) + (if d then 0 else 1)) ≡ 2
     by true true = omega arith
     by true false = omega arith
     by false true = omega arith
@@ -98,20 +99,20 @@ module _ (stays : ℕ → Bool) (seat : ℕ → SeatMemory) where
   pub held_left : (gs : List Group) → calls_held (groups_left stays seat gs) + calls_ended stays gs ≡ calls_held gs
   held_left [] = omega arith
   held_left (g ∷ gs) = omega (
-      arith,
-      ap calls_held (left_cons g gs),
-      sum_by-append size_of (option_to_list (group_left stays seat g)) (groups_left stays seat gs),
-      sum_by-cons size_of g gs,
-      sum_by-cons (ended_of stays) g gs,
-      held_group g,
-      held_left gs,
-    )
+    arith,
+    ap calls_held (left_cons g gs),
+    sum_by-append size_of (option_to_list (group_left stays seat g)) (groups_left stays seat gs),
+    sum_by-cons size_of g gs,
+    sum_by-cons (ended_of stays) g gs,
+    held_group g,
+    held_left gs,
+  )
 
   -- ---- the calls by their numbers
 
   and_parts : (f : Call → Option Call) (o p : Option Call) → (o ≡ None) ⊎ (p ≡ None) → option_or (option_and_then f o) (option_and_then f p) ≡ option_and_then f (option_or o p)
   and_parts f None p one = refl
-  and_parts f (Some x) None one = or_nothing (f x)
+  and_parts f (Some x) None one = or_none (f x)
   and_parts f (Some x) (Some y) one = elim one [ inl e ↦ absurd (cc) | inr e ↦ absurd (cc) ]
 
   none_of : (xs ys : List Group) (c : ℕ) → count_by (holds c) (xs ++ ys) ≤ 1 → (call_in xs c ≡ None) ⊎ (call_in ys c ≡ None)
@@ -119,18 +120,18 @@ module _ (stays : ℕ → Bool) (seat : ℕ → SeatMemory) where
 
   call_one : (x : Call) (c : ℕ) → call_in (option_to_list (option_map One (call_left stays seat x))) c ≡ option_and_then (call_left stays seat) (call_in (One x ∷ []) c)
   call_one x c = by (stays x.number) refl ∙ ap (λ (o : Option Call). option_and_then (call_left stays seat) o) (sym (call_of_one x c)) where
-    by : (b : Bool) → stays x.number ≡ b → call_in (option_to_list (option_map One (if b then Some (told_by (seat x.number) x) else None))) c ≡ option_and_then (call_left stays seat) (if x.number == c then Some x else None)
+    by : (b : Bool) → stays x.number ≡ b → call_in (option_to_list (option_map One (left_if seat b x))) c ≡ option_and_then (call_left stays seat) (if x.number == c then Some x else None)
     by true e = call_of_one (told_by (seat x.number) x) c ∙ elim (cases_Bool (x.number == c)) [ inl t ↦ simp (t, e) refl | inr f ↦ simp f refl ]
     by false e = elim (cases_Bool (x.number == c)) [ inl t ↦ simp (t, e) refl | inr f ↦ simp f refl ]
 
   call_together : (r s : Option Call) (c : ℕ) → call_in (option_to_list (together_of r s)) c ≡ option_or (call_in (option_to_list (option_map One r)) c) (call_in (option_to_list (option_map One s)) c)
   call_together None None c = refl
   call_together None (Some y) c = refl
-  call_together (Some x) None c = sym (or_nothing (call_in (One x ∷ []) c))
+  call_together (Some x) None c = sym (or_none (call_in (One x ∷ []) c))
   call_together (Some x) (Some y) c = call_of_two x y c ∙ call_parts (One x ∷ []) (One y ∷ []) c
 
   call_group : (most : ℕ) (g : Group) (c : ℕ) → IsGroup most g → call_in (option_to_list (group_left stays seat g)) c ≡ option_and_then (call_left stays seat) (call_in (g ∷ []) c)
-  call_group most (One x) c k = call_together (call_left stays seat x) None c ∙ or_nothing (call_in (option_to_list (option_map One (call_left stays seat x))) c) ∙ call_one x c
+  call_group most (One x) c k = call_together (call_left stays seat x) None c ∙ or_none (call_in (option_to_list (option_map One (call_left stays seat x))) c) ∙ call_one x c
   call_group most (Two x y) c k =
       let f : Call → Option Call = call_left stays seat in
       call_together (f x) (f y) c ∙ ap (λ (o : Option Call). option_or o (call_in (option_to_list (option_map One (f y))) c)) (call_one x c)

@@ -19,10 +19,10 @@ use Rattle.farm_rounds.specs.Groups.{AreGroups}
 use Rattle.farm_rounds.specs.Rounds.{job_made, group_from, groups_from}
 use Rattle.farm_rounds.specs.Settling.{call_left, group_left, groups_left, told_by, together_of}
 use Rattle.farm_rounds.specs.Working.{that_stays, partner_past}
-use Rattle.farm_rounds.proofs.Finding.{not_found, found_moved}
+use Rattle.farm_rounds.proofs.Finding.{or_none, not_found, found_moved}
 use Rattle.farm_rounds.proofs.Keeping.{KeptJob, finished_keeps}
 use Rattle.farm_rounds.proofs.Settling.{in_one, if_same}
-use Rattle.farm_rounds.proofs.Left.{left_cons, count_left}
+use Rattle.farm_rounds.proofs.Left.{left_if, left_cons, count_left}
 
 -- ---- calls by their numbers
 
@@ -43,10 +43,6 @@ two_partner x y c = elim (cases_Bool (x.number == c)) [
 
 none_there : (gs : List Group) (c : ℕ) → list_any (holds c) gs ≡ false → partner_in gs c ≡ None
 none_there gs c f = ap (λ (o : Option Group). option_and_then (partner_of c) o) (not_found (holds c) gs f)
-
-or_none : {X : Type 0} (o : Option X) → option_or o None ≡ o
-or_none None = refl
-or_none (Some x) = refl
 
 first_part : (xs ys : List Group) (c : ℕ) → list_any (holds c) ys ≡ false → partner_in (xs ++ ys) c ≡ partner_in xs c
 first_part xs ys c f =
@@ -104,7 +100,7 @@ module _ (stays : ℕ → Bool) (seat : ℕ → SeatMemory) where
     by (Some y) = one_alone y c
   past_group (Two x y) c = by (stays x.number) (stays y.number) refl refl ∙ sym (past_same stays (partner_in (Two x y ∷ [])) (pair_partner x.number y.number) c (two_partner x y c)) where
     by : (b d : Bool) → stays x.number ≡ b → stays y.number ≡ d →
-        partner_in (option_to_list (together_of (if b then Some (told_by (seat x.number) x) else None) (if d then Some (told_by (seat y.number) y) else None))) c ≡ partner_past stays (pair_partner x.number y.number) c
+        partner_in (option_to_list (together_of (left_if seat b x) (left_if seat d y))) c ≡ partner_past stays (pair_partner x.number y.number) c
     by true true e f = two_partner (told_by (seat x.number) x) (told_by (seat y.number) y) c ∙ both_stay stays x.number y.number c e f
     by true false e f = one_alone (told_by (seat x.number) x) c ∙ sym (one_ends stays x.number y.number c (inr f))
     by false true e f = one_alone (told_by (seat y.number) y) c ∙ sym (one_ends stays x.number y.number c (inl e))

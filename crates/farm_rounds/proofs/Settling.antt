@@ -89,15 +89,6 @@ module _ (stays : ℕ → Bool) where
     by true = refl
     by false = refl
 
-  pub settled_none : (live : List ℕ) (kept : List Tally) → IsRising live → Settled stays [] live live kept kept
-  settled_none live kept rising = record {
-    numbers = λ c. ap (λ (o : Option Call). not (is_some o) && is_among live c) (sym (none_ended [] c refl));
-    rising = rising;
-    number = omega arith;
-    tallies = λ c. subst (λ (o : Option Call). KeepsTally o (tally_in kept c) (tally_in kept c)) (sym (none_ended [] c refl)) refl;
-    same = refl;
-  }
-
   kept_twice : (o p : Option Call) (a b d : Tally) → (o ≡ None) ⊎ (p ≡ None) → KeepsTally o a b → KeepsTally p b d → KeepsTally (option_or o p) a d
   kept_twice None None a b d one s t = t ∙ s
   kept_twice None (Some y) a b d one s t = t
@@ -108,14 +99,14 @@ module _ (stays : ℕ → Bool) where
   pub settled_more : (xs ys : List Group) (before live now : List ℕ) (kept some keeps : List Tally) → ((c : ℕ) → count_by (holds c) (xs ++ ys) ≤ 1) →
       Settled stays xs before live kept some → Settled stays ys live now some keeps → Settled stays (xs ++ ys) before now kept keeps
   settled_more xs ys before live now kept some keeps few s t = record {
-      numbers = λ c. t.numbers c ∙ ap (λ (b : Bool). not (is_some (ended_in stays ys c)) && b) (s.numbers c)
-          ∙ both (ended_in stays xs c) (ended_in stays ys c) (is_among before c) ∙ ap (λ (o : Option Call). not (is_some o) && is_among before c) (sym (ended_parts xs ys c));
-      rising = t.rising;
-      number = omega (arith, s.number, t.number, sum_by-append (ended_of stays) xs ys);
-      tallies = λ c. subst (λ (o : Option Call). KeepsTally o (tally_in kept c) (tally_in keeps c)) (sym (ended_parts xs ys c))
-          (kept_twice (ended_in stays xs c) (ended_in stays ys c) (tally_in kept c) (tally_in some c) (tally_in keeps c) (apart c) (s.tallies c) (t.tallies c));
-      same = t.same ∙ s.same;
-    }
+    numbers = λ c. t.numbers c ∙ ap (λ (b : Bool). not (is_some (ended_in stays ys c)) && b) (s.numbers c)
+        ∙ both (ended_in stays xs c) (ended_in stays ys c) (is_among before c) ∙ ap (λ (o : Option Call). not (is_some o) && is_among before c) (sym (ended_parts xs ys c));
+    rising = t.rising;
+    number = omega (arith, s.number, t.number, sum_by-append (ended_of stays) xs ys);
+    tallies = λ c. subst (λ (o : Option Call). KeepsTally o (tally_in kept c) (tally_in keeps c)) (sym (ended_parts xs ys c))
+        (kept_twice (ended_in stays xs c) (ended_in stays ys c) (tally_in kept c) (tally_in some c) (tally_in keeps c) (apart c) (s.tallies c) (t.tallies c));
+    same = t.same ∙ s.same;
+  }
     where
       both : (o p : Option Call) (b : Bool) → (not (is_some p) && (not (is_some o) && b)) ≡ (not (is_some (option_or o p)) && b)
       both None p b = refl
@@ -132,12 +123,12 @@ module _ (stays : ℕ → Bool) where
   -- the two of a bridge, one after the other
   pub settled_pair : (x y : Call) (before now : List ℕ) (kept keeps : List Tally) → Settled stays (One x ∷ One y ∷ []) before now kept keeps → Settled stays (Two x y ∷ []) before now kept keeps
   settled_pair x y before now kept keeps s = record {
-      numbers = λ c. s.numbers c ∙ ap (λ (o : Option Call). not (is_some o) && is_among before c) (sym (same c));
-      rising = s.rising;
-      number = omega (arith, s.number);
-      tallies = λ c. subst (λ (o : Option Call). KeepsTally o (tally_in kept c) (tally_in keeps c)) (sym (same c)) (s.tallies c);
-      same = s.same;
-    }
+    numbers = λ c. s.numbers c ∙ ap (λ (o : Option Call). not (is_some o) && is_among before c) (sym (same c));
+    rising = s.rising;
+    number = omega (arith, s.number);
+    tallies = λ c. subst (λ (o : Option Call). KeepsTally o (tally_in kept c) (tally_in keeps c)) (sym (same c)) (s.tallies c);
+    same = s.same;
+  }
     where
       same : (c : ℕ) → ended_in stays (Two x y ∷ []) c ≡ ended_in stays (One x ∷ One y ∷ []) c
       same c = ap (λ (o : Option Call). if stays c then None else o) (call_of_two x y c)
@@ -227,5 +218,5 @@ next_job {S} {steps} {s} bs xs t u r b j all some is step e =
     let whole : bs ≡ xs ++ b ∷ drop (n + 1) bs = sym (take-append-drop n bs) ∙ ap (λ (ys : List (Box Job)). ys ++ drop n bs) front ∙ ap (λ (ys : List (Box Job)). xs ++ ys) rest in (
       groups_from (jobs_in (drop (n + 1) bs)),
       ap (λ (ys : List (Box Job)). groups_from (jobs_in ys)) whole ∙ groups_append xs (b ∷ drop (n + 1) bs)
-      ∙ ap (λ (i : Job). groups_from (jobs_in xs) ++ group_from i ∷ groups_from (jobs_in (drop (n + 1) bs))) (sym e),
+          ∙ ap (λ (i : Job). groups_from (jobs_in xs) ++ group_from i ∷ groups_from (jobs_in (drop (n + 1) bs))) (sym e),
     )

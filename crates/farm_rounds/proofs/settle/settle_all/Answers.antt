@@ -1,38 +1,34 @@
-use Rattle.std.proofs.Common.{rules, ◌≡◌, sym, ap, ◌∙◌, subst, ℕ, List, [], ◌∷◌, ◌++◌, Option, length, arith}
+use Rattle.std.proofs.Common.{rules, sym, ap, ◌∙◌, ℕ, List, [], ◌∷◌, ◌++◌, Option, arith}
 use Rattle.std.specs.Prelude.{option_to_list}
 use Rattle.std.proofs.lemmas.List.{append-nil}
 use Rattle.std.proofs.lemmas.Iterator.Adapters.{YieldsList-from_vec}
-use Rattle.std.specs.Global.{Box}
 use Rattle.call_pair.specs.declared.job.Job.{Job}
 use Rattle.farm_rounds.specs.declared.call.Group.{Group}
 use Rattle.farm_rounds.specs.Numbers.{is_among}
 use Rattle.farm_rounds.specs.RoundHistories.{seat_of}
 use Rattle.farm_rounds.specs.Rounds.{jobs_in, group_from, groups_from}
 use Rattle.farm_rounds.specs.Working.{goes_on_call}
-use Rattle.farm_rounds.proofs.Settling.{next_job, next_group, next_known, next_present, room_left, settled_next, groups_append}
+use Rattle.farm_rounds.proofs.Settling.{AreNext, next_job, next_group, next_known, next_present, room_left, settled_next, groups_append}
 use Rattle.farm_rounds.proofs.settle.settle_all.Goals as goal
+
+-- the job of a turn is the next one
+next : (c : goal.After-into_inner) → AreNext (groups_from (jobs_in c.args.jobs.items)) (groups_from (jobs_in c.loop-job.yielded)) (group_from c.into_inner.result)
+next c =
+    next_job c.args.jobs.items c.loop-job.yielded c.loop-job.job-iterator c.next.new.self c.next.result c.in-Some.job c.into_inner.result (YieldsList-from_vec {s = c.into_iter-job-iterator.result} c.args.jobs.items (search rules) (search rules))
+    c.loop-job.yielded_by c.in-Some.is c.next.ensures.steps c.into_inner.ensures
 
 pub settle-requires-clause-known : goal.settle-requires-clause-known
 settle-requires-clause-known c d t =
-    let bs = c.args.jobs.items in
-    let next = next_job bs c.loop-job.yielded c.loop-job.job-iterator c.next.new.self c.next.result c.in-Some.job c.into_inner.result (YieldsList-from_vec {s = c.into_iter-job-iterator.result} bs (search rules) (search rules))
-    c.loop-job.yielded_by c.in-Some.is c.next.ensures.steps c.into_inner.ensures in
-    ap (λ (xs : List ℕ). is_among xs d) c.requires.numbers ∙ next_known (groups_from (jobs_in bs)) (groups_from (jobs_in c.loop-job.yielded)) (group_from c.into_inner.result) c.args.live.now.items c.requires.live next d t
+    ap (λ (xs : List ℕ). is_among xs d) c.requires.numbers ∙ next_known (groups_from (jobs_in c.args.jobs.items)) (groups_from (jobs_in c.loop-job.yielded)) (group_from c.into_inner.result) c.args.live.now.items c.requires.live (next c) d t
 
 pub settle-requires-clause-present : goal.settle-requires-clause-present
 settle-requires-clause-present c =
-    let bs = c.args.jobs.items in
-    let next = next_job bs c.loop-job.yielded c.loop-job.job-iterator c.next.new.self c.next.result c.in-Some.job c.into_inner.result (YieldsList-from_vec {s = c.into_iter-job-iterator.result} bs (search rules) (search rules))
-    c.loop-job.yielded_by c.in-Some.is c.next.ensures.steps c.into_inner.ensures in
-    next_present (goes_on_call c.args.seats.now) (groups_from (jobs_in bs)) (groups_from (jobs_in c.loop-job.yielded)) (group_from c.into_inner.result) c.args.live.now.items c.loop-job.live.items c.args.tallies.now c.loop-job.tallies 4294967295
-    c.requires.groups c.requires.live next c.loop-job.invariant.settled
+    next_present (goes_on_call c.args.seats.now) (groups_from (jobs_in c.args.jobs.items)) (groups_from (jobs_in c.loop-job.yielded)) (group_from c.into_inner.result) c.args.live.now.items c.loop-job.live.items c.args.tallies.now c.loop-job.tallies 4294967295
+    c.requires.groups c.requires.live (next c) c.loop-job.invariant.settled
 
 pub settle-requires-clause-group : goal.settle-requires-clause-group
 settle-requires-clause-group c =
-    let bs = c.args.jobs.items in
-    let next = next_job bs c.loop-job.yielded c.loop-job.job-iterator c.next.new.self c.next.result c.in-Some.job c.into_inner.result (YieldsList-from_vec {s = c.into_iter-job-iterator.result} bs (search rules) (search rules))
-    c.loop-job.yielded_by c.in-Some.is c.next.ensures.steps c.into_inner.ensures in
-    next_group (groups_from (jobs_in bs)) (groups_from (jobs_in c.loop-job.yielded)) (group_from c.into_inner.result) 4294967295 c.requires.groups next
+    next_group (groups_from (jobs_in c.args.jobs.items)) (groups_from (jobs_in c.loop-job.yielded)) (group_from c.into_inner.result) 4294967295 c.requires.groups (next c)
 
 pub push_reserved-requires : goal.push_reserved-requires
 push_reserved-requires c =

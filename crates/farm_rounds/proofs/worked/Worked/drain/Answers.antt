@@ -1,11 +1,10 @@
-use Rattle.std.proofs.Common.{◌≡◌, sym, ap, ◌∙◌, subst, ℕ, ◌<◌, List, ◌++◌, length, take, drop, arith, if◌then◌else◌}
+use Rattle.std.proofs.Common.{◌≡◌, sym, ap, ◌∙◌, subst, List, ◌++◌, length, take, drop, arith}
 use Rattle.std.specs.Prelude.{map, flat_map}
 use Rattle.trau_io.specs.declared.line.Line.{Line}
 use Rattle.round_lines.specs.Places.{name_of, failed_in_round}
 use Rattle.round_lines.specs.Seats.{SeatMemory, Drains}
 use Rattle.round_lines.specs.Rounds.{Each, KeepsButEach, IsOutgoing}
 use Rattle.farm_rounds.specs.declared.tally.Tally.{Tally}
-use Rattle.farm_rounds.specs.Histories.{kept_of}
 use Rattle.farm_rounds.specs.Groups.{AreGroups}
 use Rattle.farm_rounds.specs.Memory.{tally_in}
 use Rattle.farm_rounds.specs.Rounds.{jobs_in, groups_from}
@@ -39,8 +38,8 @@ whole g c =
     let now = c.drain_seats.new.seats in
     let after : c.deref-2.result.now ≡ now = c.deref-2.ensures.value ∙ seats_back g c in
     let same : GoAsBefore c.args.self.seats now = λ k l. let kept = (drains g c k l).kept in (ap (λ (s : SeatMemory). s.place.call) kept, ap (λ (s : SeatMemory). goes_on_in s) kept) in
-    let left = c.settle_all.ensures.groups ∙ ap (λ (ss : List SeatMemory). groups_left (goes_on_call ss) (seat_of ss) (groups_from (jobs_in i.jobs.items))) after
-        ∙ ap (λ (r : WorkedMemory). groups_left (goes_on_call now) (seat_of now) (groups_from r.jobs)) c.self.view_is in
+    let here = subst (λ (ss : List SeatMemory). c.settle_all.new.groups.items ≡ groups_left (goes_on_call ss) (seat_of ss) (groups_from (jobs_in i.jobs.items))) after c.settle_all.ensures.groups in
+    let left = subst (λ (r : WorkedMemory). c.settle_all.new.groups.items ≡ groups_left (goes_on_call now) (seat_of now) (groups_from r.jobs)) c.self.view_is here in
     let first = subst (λ (ss : List SeatMemory). Settled (goes_on_call ss) (groups_from (jobs_in i.jobs.items)) i.rest.live.items c.settle_all.new.live.items c.deref_mut-2.result.now c.settle_all.new.tallies) after c.settle_all.ensures.settled in
     let second = subst (λ (ts : List Tally). Settled (goes_on_call now) (groups_from (jobs_in i.jobs.items)) i.rest.live.items c.settle_all.new.live.items ts c.settle_all.new.tallies) c.deref_mut-2.ensures.value first in
     let settled = subst (λ (r : WorkedMemory). Settled (goes_on_call now) (groups_from r.jobs) r.live c.settle_all.new.live.items r.tallies c.settle_all.new.tallies) c.self.view_is second in
@@ -66,7 +65,7 @@ pub returns-clause-drains : goal.returns-clause-drains
 returns-clause-drains g c =
     let i = c.self.inside in
     let told = c.list_failed.ensures.listed ∙ ap (λ (xs : List Line). map name_of xs ++ flat_map (λ (s : SeatMemory). failed_in_round s.place) c.deref.result.now) (ap (λ (r : WorkedMemory). r.failed) c.self.view_is)
-        ∙ ap (λ (ss : List SeatMemory). map name_of c.args.self.failed ++ flat_map (λ (s : SeatMemory). failed_in_round s.place) ss) (c.deref.ensures.value ∙ seats_back g c) in (
+    ∙ ap (λ (ss : List SeatMemory). map name_of c.args.self.failed ++ flat_map (λ (s : SeatMemory). failed_in_round s.place) ss) (c.deref.ensures.value ∙ seats_back g c) in (
       c.drain_seats.new.seats,
       drains g c,
       record { lines = c.list_failed.new.failed.items; told = told; sorted = c.sort_unstable_by_key.ensures.permutation },
