@@ -1,5 +1,5 @@
 -- The seat of a call.
-use Rattle.std.proofs.Common.{◌≡◌, refl, sym, ap, ◌∙◌, subst, ℕ, zero, suc, ◌<◌, Bool, Option, Some, List, [], ◌∷◌, length, get_or, arith}
+use Rattle.std.proofs.Common.{◌≡◌, refl, sym, ap, ◌∙◌, subst, ℕ, zero, suc, ◌<◌, Option, Some, List, [], ◌∷◌, length, get_or, arith}
 use Rattle.std.specs.Prelude.{◌==◌, slice_index, unwrap_or}
 use Rattle.std.specs.List.{find}
 use Rattle.std.proofs.lemmas.Bool.{eq-eqb, ne_eqb}
