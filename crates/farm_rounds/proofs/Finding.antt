@@ -14,6 +14,10 @@ pub cases_zero : (n : ℕ) → (n ≡ 0) ⊎ (1 ≤ n)
 cases_zero zero = inl refl
 cases_zero (suc n) = inr (omega arith)
 
+pub or_none : {X : Type 0} (o : Option X) → option_or o None ≡ o
+or_none None = refl
+or_none (Some x) = refl
+
 module _ {X : Type 0} (p : X → Bool) where
   -- what is found is there, and passes
   pub found_there : (xs : List X) (x : X) → find p xs ≡ Some x → Contains xs x × (p x ≡ true)
@@ -74,10 +78,6 @@ module _ {X : Type 0} (p : X → Bool) where
         let r = found_there xs x e in
         let there = Contains-permutation xs ys x h r.0 in
         found_only ys x there.0 there.1 there.2 r.1 (rw (sum_by-IsPermutation (λ x. if p x then 1 else 0) xs ys h) few)
-
-  or_none : (o : Option X) → option_or o None ≡ o
-  or_none None = refl
-  or_none (Some x) = refl
 
   -- what is found once some were taken out and others put in
   pub found_exchanged : (out into others before now : List X) → IsPermutation before (out ++ others) → IsPermutation now (into ++ others) →

@@ -10,6 +10,9 @@ pub mod Handing
 pub mod Taking
 pub mod Planning
 pub mod Settling
+pub mod Seating
+pub mod Left
 pub mod Partners
+pub mod Drained
 pub mod Working
 pub mod Starting

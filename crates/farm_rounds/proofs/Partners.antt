@@ -1,27 +1,28 @@
 -- The partners of the calls in a round and after it.
-use Rattle.std.proofs.Common.{◌≡◌, refl, sym, ap, ◌∙◌, ℕ, ◌+◌, ◌<◌, ◌≤◌, Bool, true, false, Option, Some, None, List, [], ◌∷◌, ◌++◌, length, get_or, take, drop, arith, inl, inr, ◌⊎◌}
-use Rattle.std.specs.Prelude.{if◌then◌else◌, ◌==◌, ◌||◌, is_some, option_to_list, map, reverse}
+use Rattle.std.proofs.Common.{◌≡◌, refl, sym, ap, ◌∙◌, ℕ, ◌≤◌, Bool, true, false, Option, Some, None, List, [], ◌∷◌, ◌++◌, arith, inl, inr, ◌⊎◌}
+use Rattle.std.specs.Prelude.{if◌then◌else◌, ◌==◌, ◌||◌, option_to_list, map, reverse}
 use Rattle.std.specs.Option.{option_or, option_and_then}
 use Rattle.std.specs.List.{count_by, list_any}
 use Rattle.std.proofs.lemmas.Bool.{cases_Bool, eqb-true}
-use Rattle.std.proofs.lemmas.List.{take_all, take_more}
 use Rattle.std.proofs.lemmas.List.Folds.{find-append}
-use Rattle.std.proofs.lemmas.List.Sums.{sum_by-append, sum_by-take-drop}
+use Rattle.std.proofs.lemmas.List.Sums.{sum_by-cons}
 use Rattle.std.proofs.lemmas.List.Sorted.{IsPermutation-reverse}
 use Rattle.call_pair.specs.declared.job.Job.{Job}
 use Rattle.call_pair.specs.declared.job.Job.TheVariants as job
 use Rattle.call_pair.specs.Jobs.{finished}
+use Rattle.round_lines.specs.Seats.{SeatMemory}
 use Rattle.farm_rounds.specs.declared.call.Call.{Call}
 use Rattle.farm_rounds.specs.declared.call.Group.{Group}
 use Rattle.farm_rounds.specs.declared.call.Group.TheVariants.{One, Two}
 use Rattle.farm_rounds.specs.Calls.{holds, group_in, partner_of, partner_in}
 use Rattle.farm_rounds.specs.Groups.{AreGroups}
 use Rattle.farm_rounds.specs.Rounds.{job_made, group_from, groups_from}
-use Rattle.farm_rounds.specs.Settling.{together_of}
+use Rattle.farm_rounds.specs.Settling.{call_left, group_left, groups_left, told_by, together_of}
 use Rattle.farm_rounds.specs.Working.{that_stays, partner_past}
-use Rattle.farm_rounds.proofs.Finding.{cases_zero, none_counted, not_found, found_moved}
+use Rattle.farm_rounds.proofs.Finding.{or_none, not_found, found_moved}
 use Rattle.farm_rounds.proofs.Keeping.{KeptJob, finished_keeps}
-use Rattle.farm_rounds.proofs.Settling.{IsLeft, Settling}
+use Rattle.farm_rounds.proofs.Settling.{in_one, if_same}
+use Rattle.farm_rounds.proofs.Left.{left_if, left_cons, count_left}
 
 -- ---- calls by their numbers
 
@@ -43,10 +44,6 @@ two_partner x y c = elim (cases_Bool (x.number == c)) [
 none_there : (gs : List Group) (c : ℕ) → list_any (holds c) gs ≡ false → partner_in gs c ≡ None
 none_there gs c f = ap (λ (o : Option Group). option_and_then (partner_of c) o) (not_found (holds c) gs f)
 
-or_none : {X : Type 0} (o : Option X) → option_or o None ≡ o
-or_none None = refl
-or_none (Some x) = refl
-
 first_part : (xs ys : List Group) (c : ℕ) → list_any (holds c) ys ≡ false → partner_in (xs ++ ys) c ≡ partner_in xs c
 first_part xs ys c f =
     ap (λ (o : Option Group). option_and_then (partner_of c) o) (find-append (holds c) xs ys ∙ ap (λ (o : Option Group). option_or (group_in xs c) o) (not_found (holds c) ys f) ∙ or_none (group_in xs c))
@@ -55,15 +52,6 @@ second_part : (xs ys : List Group) (c : ℕ) → list_any (holds c) xs ≡ false
 second_part xs ys c f =
     ap (λ (o : Option Group). option_and_then (partner_of c) o) (find-append (holds c) xs ys ∙ ap (λ (o : Option Group). option_or o (group_in ys c)) (not_found (holds c) xs f))
 
--- no call is in both
-in_one : (xs ys : List Group) (c : ℕ) → count_by (holds c) (xs ++ ys) ≤ 1 → (list_any (holds c) xs ≡ false) ⊎ (list_any (holds c) ys ≡ false)
-in_one xs ys c few =
-    let parts = sum_by-append (λ g. if holds c g then 1 else 0) xs ys in
-    elim (cases_zero (count_by (holds c) xs)) [
-      | inl e ↦ inl (none_counted (holds c) xs e)
-      | inr q ↦ inr (none_counted (holds c) ys (omega (arith, few, parts, q)))
-    ]
-
 partner_parts : (xs ys : List Group) (c : ℕ) → count_by (holds c) (xs ++ ys) ≤ 1 → partner_in (xs ++ ys) c ≡ option_or (partner_in xs c) (partner_in ys c)
 partner_parts xs ys c few = elim (in_one xs ys c few) [
   | inl f ↦ second_part xs ys c f ∙ sym (ap (λ (o : Option ℕ). option_or o (partner_in ys c)) (none_there xs c f))
@@ -71,10 +59,6 @@ partner_parts xs ys c few = elim (in_one xs ys c few) [
 ]
 
 -- ---- the calls of a job that go on
-
-if_same : {X : Type 0} (b : Bool) (x : X) → (if b then x else x) ≡ x
-if_same true x = refl
-if_same false x = refl
 
 past_same : (stays : ℕ → Bool) (f h : ℕ → Option ℕ) (c : ℕ) → f c ≡ h c → partner_past stays f c ≡ partner_past stays h c
 past_same stays f h c e = ap (λ (o : Option ℕ). if stays c then that_stays stays o else None) e
@@ -108,60 +92,40 @@ one_ends stays m n c ends = elim (cases_Bool (m == c)) [
   ]
 ]
 
-pub past_one : (stays : ℕ → Bool) (h : Call) (r : Option Call) (c : ℕ) → partner_in (option_to_list (together_of r None)) c ≡ partner_past stays (partner_in (One h ∷ [])) c
-past_one stays h None c = sym (past_none stays (partner_in (One h ∷ [])) c (one_alone h c))
-past_one stays h (Some x) c = one_alone x c ∙ sym (past_none stays (partner_in (One h ∷ [])) c (one_alone h c))
+module _ (stays : ℕ → Bool) (seat : ℕ → SeatMemory) where
+  past_group : (g : Group) (c : ℕ) → partner_in (option_to_list (group_left stays seat g)) c ≡ partner_past stays (partner_in (g ∷ [])) c
+  past_group (One x) c = by (call_left stays seat x) ∙ sym (past_none stays (partner_in (One x ∷ [])) c (one_alone x c)) where
+    by : (o : Option Call) → partner_in (option_to_list (together_of o None)) c ≡ None
+    by None = refl
+    by (Some y) = one_alone y c
+  past_group (Two x y) c = by (stays x.number) (stays y.number) refl refl ∙ sym (past_same stays (partner_in (Two x y ∷ [])) (pair_partner x.number y.number) c (two_partner x y c)) where
+    by : (b d : Bool) → stays x.number ≡ b → stays y.number ≡ d →
+        partner_in (option_to_list (together_of (left_if seat b x) (left_if seat d y))) c ≡ partner_past stays (pair_partner x.number y.number) c
+    by true true e f = two_partner (told_by (seat x.number) x) (told_by (seat y.number) y) c ∙ both_stay stays x.number y.number c e f
+    by true false e f = one_alone (told_by (seat x.number) x) c ∙ sym (one_ends stays x.number y.number c (inr f))
+    by false true e f = one_alone (told_by (seat y.number) y) c ∙ sym (one_ends stays x.number y.number c (inl e))
+    by false false e f = sym (one_ends stays x.number y.number c (inl e))
 
-pub past_two : (stays : ℕ → Bool) (a b : Call) (r s : Option Call) → IsLeft a r → IsLeft b s → is_some r ≡ stays a.number → is_some s ≡ stays b.number →
-    (c : ℕ) → partner_in (option_to_list (together_of r s)) c ≡ partner_past stays (partner_in (Two a b ∷ [])) c
-past_two stays a b r s la lb er es c = go r s la lb er es ∙ sym (past_same stays (partner_in (Two a b ∷ [])) (pair_partner a.number b.number) c (two_partner a b c)) where
-  go : (r s : Option Call) → IsLeft a r → IsLeft b s → is_some r ≡ stays a.number → is_some s ≡ stays b.number →
-      partner_in (option_to_list (together_of r s)) c ≡ partner_past stays (pair_partner a.number b.number) c
-  go None None la lb er es = sym (one_ends stays a.number b.number c (inl (sym er)))
-  go (Some x) None la lb er es = one_alone x c ∙ sym (one_ends stays a.number b.number c (inr (sym es)))
-  go None (Some y) la lb er es = one_alone y c ∙ sym (one_ends stays a.number b.number c (inl (sym er)))
-  go (Some x) (Some y) la lb er es =
-      two_partner x y c ∙ ap (λ (m : ℕ). pair_partner m y.number c) la.0 ∙ ap (λ (n : ℕ). pair_partner a.number n c) lb.0
-      ∙ both_stay stays a.number b.number c (sym er) (sym es)
+  past_parts : (xs ys : List Group) (c : ℕ) → (list_any (holds c) xs ≡ false) ⊎ (list_any (holds c) ys ≡ false) →
+      option_or (partner_past stays (partner_in xs) c) (partner_past stays (partner_in ys) c) ≡ partner_past stays (partner_in (xs ++ ys)) c
+  past_parts xs ys c none = elim none [
+    | inl f ↦ ap (λ (o : Option ℕ). option_or o (partner_past stays (partner_in ys) c)) (past_none stays (partner_in xs) c (none_there xs c f))
+        ∙ sym (past_same stays (partner_in (xs ++ ys)) (partner_in ys) c (second_part xs ys c f))
+    | inr f ↦ ap (λ (o : Option ℕ). option_or (partner_past stays (partner_in xs) c) o) (past_none stays (partner_in ys) c (none_there ys c f))
+        ∙ or_none (partner_past stays (partner_in xs) c) ∙ sym (past_same stays (partner_in (xs ++ ys)) (partner_in xs) c (first_part xs ys c f))
+  ]
 
--- ---- all jobs
-
--- so far, the partners are those of the calls of the jobs that are settled, where both go on
-abbrev pub Partnered : (ℕ → Bool) → List Job → List Group → ℕ → Type 0
-Partnered stays jobs groups n = (c : ℕ) → partner_in groups c ≡ partner_past stays (partner_in (take n (groups_from jobs))) c
-
-pub partnered_none : (stays : ℕ → Bool) (jobs : List Job) (groups : List Group) → groups ≡ [] → Partnered stays jobs groups 0
-partnered_none stays jobs groups e c =
-    ap (λ (gs : List Group). partner_in gs c) e ∙ sym (past_none stays (partner_in (take 0 (groups_from jobs))) c refl)
-
-pub partnered_more : (stays : ℕ → Bool) (jobs : List Job) (numbers live : List ℕ) (groups after : List Group) (n : ℕ) (g d : Group) (left : Option Group) → AreGroups 4294967295 (groups_from jobs) →
-    n < length (groups_from jobs) → g ≡ get_or (groups_from jobs) n d → Settling jobs numbers live after (n + 1) → after ≡ groups ++ option_to_list left → Partnered stays jobs groups n →
-    ((c : ℕ) → partner_in (option_to_list left) c ≡ partner_past stays (partner_in (g ∷ [])) c) → Partnered stays jobs after (n + 1)
-partnered_more stays jobs numbers live groups after n g d left a l e s ea p told c =
-    let sofar = take n (groups_from jobs) in
-    let turn : take (n + 1) (groups_from jobs) ≡ sofar ++ g ∷ [] = take_more (groups_from jobs) n d l ∙ ap (λ (x : Group). take n (groups_from jobs) ++ x ∷ []) (sym e) in
-    let few : count_by (holds c) (sofar ++ g ∷ []) ≤ 1 =
-    omega (arith, ap (λ (gs : List Group). count_by (holds c) gs) turn, sum_by-take-drop (λ x. if holds c x then 1 else 0) (groups_from jobs) (n + 1), a.apart c) in
-    let apart : count_by (holds c) (after ++ drop (n + 1) (groups_from jobs)) ≤ 1 = (s.apart 4294967295 a).apart c in
-    let fewer : count_by (holds c) (groups ++ option_to_list left) ≤ 1 =
-    omega (arith, ap (λ (gs : List Group). count_by (holds c) gs) ea, sum_by-append (λ x. if holds c x then 1 else 0) after (drop (n + 1) (groups_from jobs)), apart) in
-    ap (λ (gs : List Group). partner_in gs c) ea ∙ partner_parts groups (option_to_list left) c fewer ∙ ap (λ (o : Option ℕ). option_or o (partner_in (option_to_list left) c)) (p c)
-    ∙ ap (λ (o : Option ℕ). option_or (partner_past stays (partner_in sofar) c) o) (told c) ∙ past_parts sofar (g ∷ []) (in_one sofar (g ∷ []) c few)
-    ∙ past_same stays (partner_in (sofar ++ g ∷ [])) (partner_in (take (n + 1) (groups_from jobs))) c (ap (λ (gs : List Group). partner_in gs c) (sym turn))
-  where
-    past_parts : (xs ys : List Group) → (list_any (holds c) xs ≡ false) ⊎ (list_any (holds c) ys ≡ false) →
-        option_or (partner_past stays (partner_in xs) c) (partner_past stays (partner_in ys) c) ≡ partner_past stays (partner_in (xs ++ ys)) c
-    past_parts xs ys none = elim none [
-      | inl f ↦ ap (λ (o : Option ℕ). option_or o (partner_past stays (partner_in ys) c)) (past_none stays (partner_in xs) c (none_there xs c f))
-          ∙ sym (past_same stays (partner_in (xs ++ ys)) (partner_in ys) c (second_part xs ys c f))
-      | inr f ↦ ap (λ (o : Option ℕ). option_or (partner_past stays (partner_in xs) c) o) (past_none stays (partner_in ys) c (none_there ys c f))
-          ∙ or_none (partner_past stays (partner_in xs) c) ∙ sym (past_same stays (partner_in (xs ++ ys)) (partner_in xs) c (first_part xs ys c f))
-    ]
-
-pub partnered_all : (stays : ℕ → Bool) (jobs : List Job) (groups : List Group) (n : ℕ) → Partnered stays jobs groups n → n ≡ length (groups_from jobs) →
-    (c : ℕ) → partner_in groups c ≡ partner_past stays (partner_in (groups_from jobs)) c
-partnered_all stays jobs groups n p e c =
-    p c ∙ past_same stays (partner_in (take n (groups_from jobs))) (partner_in (groups_from jobs)) c (ap (λ (gs : List Group). partner_in gs c) (take_all n (groups_from jobs) (omega (arith, e))))
+  -- of all groups: partners that both go on stay so
+  pub past_all : (gs : List Group) (c : ℕ) → count_by (holds c) gs ≤ 1 → partner_in (groups_left stays seat gs) c ≡ partner_past stays (partner_in gs) c
+  past_all [] c few = sym (past_none stays (partner_in []) c refl)
+  past_all (g ∷ gs) c few =
+      let fewer : count_by (holds c) gs ≤ 1 = omega (arith, few, sum_by-cons (λ x. if holds c x then 1 else 0) g gs) in
+      let left : count_by (holds c) (option_to_list (group_left stays seat g) ++ groups_left stays seat gs) ≤ 1 =
+      omega (arith, few, ap (λ (xs : List Group). count_by (holds c) xs) (left_cons stays seat g gs), count_left stays seat (g ∷ gs) c) in
+      ap (λ (xs : List Group). partner_in xs c) (left_cons stays seat g gs) ∙ partner_parts (option_to_list (group_left stays seat g)) (groups_left stays seat gs) c left
+      ∙ ap (λ (o : Option ℕ). option_or o (partner_in (groups_left stays seat gs) c)) (past_group g c)
+      ∙ ap (λ (o : Option ℕ). option_or (partner_past stays (partner_in (g ∷ [])) c) o) (past_all gs c fewer)
+      ∙ past_parts (g ∷ []) gs c (in_one (g ∷ []) gs c few)
 
 -- ---- the jobs of a round
 

@@ -1,12 +1,17 @@
 //! The calls after a round.
 
-ghost use Rattle.std.specs.Prelude.{Bool, is_some, ◌≡◌, ◌+◌, ◌<◌, ◌≤◌, ◌&&◌, ℕ, true, not, [], ◌∷◌, option_to_list, length, IfSome, vec_capacity};
-ghost use Rattle.farm_rounds.specs.Calls.{holds, partner_in};
-ghost use Rattle.farm_rounds.specs.Numbers.{IsRising, is_among};
+ghost use Rattle.std.specs.Prelude.{◌≡◌, ◌≢◌, ◌<◌, ◌≤◌, ℕ, Some, true, [], ◌∷◌, length, vec_capacity};
+ghost use Rattle.round_lines.specs.Transfer.{has_failed};
+ghost use Rattle.farm_rounds.specs.declared.call.Call.{Call};
+ghost use Rattle.farm_rounds.specs.declared.call.Group.TheVariants.{One};
+ghost use Rattle.farm_rounds.specs.Calls.{holds};
 ghost use Rattle.farm_rounds.specs.Groups.{IsGroup, AreGroups, AreLive};
-ghost use Rattle.farm_rounds.specs.Rounds.{jobs_in, group_from, groups_from};
-ghost use Rattle.farm_rounds.specs.Settling.{is_gone, gone_by, together_of, Settled, goes_on_in, Tells, left_of};
-ghost use Rattle.farm_rounds.specs.Working.{partner_past};
+ghost use Rattle.farm_rounds.specs.Memory.{tally_in};
+ghost use Rattle.farm_rounds.specs.Numbers.{IsRising, is_among};
+ghost use Rattle.farm_rounds.specs.RoundHistories.{seat_of};
+ghost use Rattle.farm_rounds.specs.Rounds.{call_from, group_from, groups_from, jobs_in};
+ghost use Rattle.farm_rounds.specs.Settling.{HaveSeats, KeepsTally, Settled, call_left, goes_on_in, group_left, groups_left, together_of};
+ghost use Rattle.farm_rounds.specs.Working.{goes_on_call};
 
 use crate::call::{Call, Group};
 use crate::live::{place_in, remove_number};
@@ -15,11 +20,24 @@ use call_leg::Leg;
 use call_pair::{Half, Job};
 use round_lines::{Outlet, Seat};
 
-fn has_failed(outlet: Outlet) -> bool {
+// Whether a line failed before the round or in it.
+fn has_failed(outlet: Outlet) -> bool
+    ensures { result ≡ has_failed outlet }
+{
     match outlet {
         Outlet::Sound => false,
         Outlet::FailedBefore | Outlet::FailedNow => true,
     }
+}
+
+// The seat of a call, which tells whether the call goes on.
+fn seat_for<'a>(numbers: &[u32], seats: &'a [Seat], call: u32) -> &'a Seat
+    requires seats { HaveSeats numbers.now seats.now }
+    requires known { is_among numbers.now call ≡ true }
+    ensures seat { result.now ≡ seat_of seats.now call }
+    ensures told { goes_on_in result.now ≡ goes_on_call seats.now call }
+{
+    &seats[place_in(numbers, call)]
 }
 
 // Whether a call has all periods of the round.
@@ -32,8 +50,7 @@ fn goes_on(seat: &Seat) -> bool
 
 // A call, with what its seat tells of its outgoing lines.
 fn call_of(number: u32, leg: Leg, seat: &Seat) -> Call
-    ensures number { result.number ≡ number }
-    ensures leg { result.leg ≡ leg }
+    ensures { result ≡ record { number = number; leg = leg; down_failed = has_failed seat.now.place.down; out_failed = has_failed seat.now.place.out } }
 {
     let place = seat.place();
     Call {
@@ -47,7 +64,9 @@ fn call_of(number: u32, leg: Leg, seat: &Seat) -> Call
 // What is kept of a call that ended.
 fn keep_tally(tallies: &mut [Tally], call: &Call)
     requires { call.now.number < length tallies.old }
-    ensures { length tallies.new ≡ length tallies.old }
+    ensures call { KeepsTally (Some call.now) (tally_in tallies.old call.now.number) (tally_in tallies.new call.now.number) }
+    ensures others { (c : ℕ) → c ≢ call.now.number → tally_in tallies.new c ≡ tally_in tallies.old c }
+    ensures number { length tallies.new ≡ length tallies.old }
 {
     tallies[call.number as usize] = call.tally();
 }
@@ -60,22 +79,17 @@ fn keep(
     seats: &[Seat],
     half: Half,
 ) -> Option<Call>
-    requires rising { IsRising numbers.now }
-    requires rising_live { IsRising live.old.items }
+    requires seats { HaveSeats numbers.now seats.now }
+    requires rising { IsRising live.old.items }
     requires known { is_among numbers.now half.io.call ≡ true }
     requires present { is_among live.old.items half.io.call ≡ true }
-    requires seats { length seats.now ≡ length numbers.now }
     requires number { half.io.call < length tallies.old }
-    ensures kept { IfSome result (λ x. (x.number ≡ half.io.call) × (x.leg ≡ half.leg)) }
-    ensures told { (stays : ℕ → Bool) → Tells stays numbers.now seats.now → is_some result ≡ stays half.io.call }
-    ensures live { (c : ℕ) → is_among live.new.items c ≡ (not (is_gone result half.io.call c) && is_among live.old.items c) }
-    ensures rising { IsRising live.new.items }
-    ensures length { length live.new.items + gone_by result ≡ length live.old.items }
-    ensures tallies { length tallies.new ≡ length tallies.old }
+    ensures left { result ≡ call_left (goes_on_call seats.now) (seat_of seats.now) (call_from half) }
+    ensures settled { Settled (goes_on_call seats.now) (One (call_from half) ∷ []) live.old.items live.new.items tallies.old tallies.new }
 {
     let Half { leg, io } = half;
     let number = io.call;
-    let seat = &seats[place_in(numbers, number)];
+    let seat = seat_for(numbers, seats, number);
     let call = call_of(number, leg, seat);
     if goes_on(seat) {
         Some(call)
@@ -105,17 +119,14 @@ fn settle(
     seats: &[Seat],
     job: Job,
 ) -> Option<Group>
-    requires rising { IsRising numbers.now }
-    requires rising_live { IsRising live.old.items }
-    requires known { (c : ℕ) → is_among live.old.items c ≡ true → is_among numbers.now c ≡ true }
+    requires seats { HaveSeats numbers.now seats.now }
+    requires rising { IsRising live.old.items }
+    requires known { (c : ℕ) → holds c (group_from job) ≡ true → is_among numbers.now c ≡ true }
     requires present { (c : ℕ) → holds c (group_from job) ≡ true → is_among live.old.items c ≡ true }
-    requires seats { length seats.now ≡ length numbers.now }
     requires group { IsGroup 4294967295 (group_from job) }
     requires tallies { length tallies.old ≡ 4097 }
-    ensures settled { Settled (group_from job) result live.old.items live.new.items }
-    ensures told { (stays : ℕ → Bool) → Tells stays numbers.now seats.now → (c : ℕ) → is_among live.new.items c ≡ left_of stays (group_from job) live.old.items c }
-    ensures partner { (stays : ℕ → Bool) → Tells stays numbers.now seats.now → (c : ℕ) → partner_in (option_to_list result) c ≡ partner_past stays (partner_in (group_from job ∷ [])) c }
-    ensures tallies { length tallies.new ≡ length tallies.old }
+    ensures left { result ≡ group_left (goes_on_call seats.now) (seat_of seats.now) (group_from job) }
+    ensures settled { Settled (goes_on_call seats.now) (group_from job ∷ []) live.old.items live.new.items tallies.old tallies.new }
 {
     match job {
         Job::One(half) => {
@@ -130,7 +141,7 @@ fn settle(
     }
 }
 
-/// The calls of all jobs that go on after the round.
+/// The calls of all jobs that go on after the round. `numbers` are those of the open calls before it.
 pub(crate) fn settle_all(
     jobs: Vec<Box<Job>>,
     seats: &[Seat],
@@ -139,21 +150,16 @@ pub(crate) fn settle_all(
     live: &mut Vec<u32>,
     tallies: &mut [Tally],
 )
-    requires rising { IsRising numbers.now }
-    requires known { (c : ℕ) → is_among live.old.items c ≡ true → is_among numbers.now c ≡ true }
-    requires seats { length seats.now ≡ length numbers.now }
+    requires seats { HaveSeats numbers.now seats.now }
+    requires numbers { numbers.now ≡ live.old.items }
     requires none { groups.old.items ≡ [] }
     requires groups { AreGroups 4294967295 (groups_from (jobs_in jobs.items)) }
     requires live { AreLive live.old.items (groups_from (jobs_in jobs.items)) }
     requires room { length live.old.items ≤ vec_capacity groups.old }
     requires tallies { length tallies.old ≡ 4097 }
-    ensures groups { (most : ℕ) → AreGroups most (groups_from (jobs_in jobs.items)) → AreGroups most groups.new.items }
-    ensures live { AreLive live.new.items groups.new.items }
-    ensures told { (stays : ℕ → Bool) → Tells stays numbers.now seats.now → (c : ℕ) → is_among live.new.items c ≡ (is_among live.old.items c && stays c) }
-    ensures partners { (stays : ℕ → Bool) → Tells stays numbers.now seats.now → (c : ℕ) → partner_in groups.new.items c ≡ partner_past stays (partner_in (groups_from (jobs_in jobs.items))) c }
-    ensures fewer { length live.new.items ≤ length live.old.items }
+    ensures groups { groups.new.items ≡ groups_left (goes_on_call seats.now) (seat_of seats.now) (groups_from (jobs_in jobs.items)) }
+    ensures settled { Settled (goes_on_call seats.now) (groups_from (jobs_in jobs.items)) live.old.items live.new.items tallies.old tallies.new }
     ensures capacity { vec_capacity groups.new ≡ vec_capacity groups.old }
-    ensures tallies { length tallies.new ≡ length tallies.old }
 {
     for job in jobs {
         if let Some(group) = settle(numbers, live, tallies, seats, Box::into_inner(job)) {
