@@ -1,5 +1,7 @@
 -- A round of the farm: the jobs of the calls, and their seats (this project's profile).
-use Rattle.std.specs.Prelude.{◌≡◌, ℕ, ◌+◌, ◌*◌, ◌<◌, ◌≤◌, true, false, List, [], length, map, slice_index, slice_index_or}
+use Rattle.std.specs.Prelude.{◌≡◌, ℕ, ◌+◌, ◌*◌, ◌<◌, ◌≤◌, true, false, Some, List, [], length, map, slice_index, slice_index_or}
+use Rattle.std.specs.Option.{option_map}
+use Rattle.std.specs.List.{All}
 use Rattle.std.specs.Global.{Box}
 use Rattle.round_lines.specs.Places.{PlaceMemory, whole_in}
 use Rattle.round_lines.specs.Seats.{SeatMemory, new_seat}
@@ -7,12 +9,13 @@ use Rattle.round_lines.specs.Rounds.{no_seat, seat_at, call_at}
 use Rattle.call_leg.specs.Step.{home_leg}
 use Rattle.call_pair.specs.declared.job.Job.{Job}
 use Rattle.call_pair.specs.declared.job.Job.TheVariants as job
-use Rattle.call_pair.specs.Memory.{IoMemory, HalfMemory, periods_of}
-use Rattle.call_pair.specs.Jobs.{has_call, half_of}
+use Rattle.call_pair.specs.Memory.{IoMemory, HalfMemory, IsIo, periods_of}
+use Rattle.call_pair.specs.Jobs.{has_call, half_of, finished}
 use Rattle.farm_rounds.specs.declared.call.Call.{Call}
 use Rattle.farm_rounds.specs.declared.call.Group.{Group}
 use Rattle.farm_rounds.specs.declared.call.Group.TheVariants.{One, Two}
 use Rattle.farm_rounds.specs.declared.entry.Entry.{Entry}
+use Rattle.farm_rounds.specs.Calls.{call_in}
 
 -- ---- jobs
 
@@ -121,6 +124,11 @@ AreTaken jobs entries places seats n = (k : ℕ) → k < n → seat_at seats k �
 
 -- ---- before the work
 
+-- the lower number of its calls
+abbrev pub first_of : Group → ℕ
+first_of (One x) = x.number
+first_of (Two x y) = x.number
+
 -- the job of a group, before it has octets
 abbrev pub half_made : Call → HalfMemory
 half_made x = record { leg = x.leg; io = no_octets x.number }
@@ -136,6 +144,11 @@ entry_of j x = record { job = j; down_failed = x.down_failed; out_failed = x.out
 -- the number of each open call has its entry, where its job is
 abbrev pub HaveEntries : List Job → List Entry → List ℕ → Type 0
 HaveEntries jobs entries live = (k : ℕ) → k < length live → HasJob jobs (entry_at entries k).job (slice_index live k)
+
+-- .. and says what the call brings into the round
+abbrev pub BringCalls : List Group → List Entry → List ℕ → Type 0
+BringCalls groups entries live = (k : ℕ) → k < length live →
+    option_map (entry_of (entry_at entries k).job) (call_in groups (slice_index live k)) ≡ Some (entry_at entries k)
 
 -- a seat for each open call, in their order
 abbrev pub AreSeats : List ℕ → List Entry → ℕ → List SeatMemory → ℕ → Type 0

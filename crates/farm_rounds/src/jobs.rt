@@ -2,13 +2,14 @@
 
 ghost use Rattle.std.specs.Prelude.{◌≡◌, ◌≢◌, ◌+◌, ◌*◌, ◌<◌, ◌≤◌, ℕ, true, false, [], length, map, reverse, slice_index, slice_set, is_some, IfOk, vec_capacity};
 ghost use Rattle.std.specs.List.{All};
+ghost use Rattle.std.specs.List.Sorted.{IsPermutation, IsNonDecreasingBy};
 ghost use Rattle.round_lines.specs.Rounds.{Rising, seat_at, call_at};
 ghost use Rattle.call_pair.specs.Memory.{places_left};
 ghost use Rattle.call_pair.specs.Jobs.{with_io};
 ghost use Rattle.farm_rounds.specs.Calls.{IsNumber, holds, group_in, call_of};
-ghost use Rattle.farm_rounds.specs.Groups.{IsGroup};
+ghost use Rattle.farm_rounds.specs.Groups.{IsGroup, AreGroups};
 ghost use Rattle.farm_rounds.specs.Numbers.{IsRising, is_among};
-ghost use Rattle.farm_rounds.specs.Rounds.{IsTimely, job_made, half_made, entry_of, HaveEntries, AreSeats, jobs_in, job_at, half_at, HasJob, SameLegs, HaveJobs, HaveTime, AreHanded, HaveJobsAt, HaveWorked, HaveLengths, RisingPlaces, AreTaken, entry_at};
+ghost use Rattle.farm_rounds.specs.Rounds.{IsTimely, first_of, job_made, half_made, entry_of, HaveEntries, BringCalls, AreSeats, jobs_in, job_at, half_at, HasJob, SameLegs, HaveJobs, HaveTime, AreHanded, HaveJobsAt, HaveWorked, HaveLengths, RisingPlaces, AreTaken, entry_at};
 
 use crate::call::{Call, Group};
 use crate::entry::Entry;
@@ -17,7 +18,17 @@ use call_pair::{Buffers, Half, Job, LegIo};
 use round_lines::{Place, Seat};
 use std::alloc::{AllocError, Global};
 
-// The jobs of the groups, and where each call has its own.
+/// Puts the groups in order, the lowest number last: the jobs are made of the last one on.
+pub(crate) fn put_in_order(groups: &mut Vec<Group>)
+    ensures same { IsPermutation groups.old.items groups.new.items }
+    ensures order { IsNonDecreasingBy first_of (reverse groups.new.items) }
+    ensures capacity { vec_capacity groups.new ≡ vec_capacity groups.old }
+{
+    groups.sort_unstable_by_key(|group| group.first());
+    groups.reverse();
+}
+
+/// The jobs of the groups, and where each call has its own.
 pub(crate) fn make_jobs(
     alloc: Global,
     groups: &mut Vec<Group>,
@@ -28,9 +39,10 @@ pub(crate) fn make_jobs(
     requires length { length entries.old ≡ length live.now }
     requires found { (k : ℕ) → k < length live.now → is_some (group_in groups.old.items (slice_index live.now k)) ≡ true }
     requires present { (c : ℕ) → is_some (group_in groups.old.items c) ≡ true → is_among live.now c ≡ true }
-    requires each { All (IsGroup 4294967295) groups.old.items }
+    requires groups { AreGroups 4294967295 groups.old.items }
     ensures jobs { IfOk result (λ jobs. jobs_in jobs.items ≡ map job_made (reverse groups.old.items)) }
     ensures entries { IfOk result (λ jobs. HaveEntries (jobs_in jobs.items) entries.new live.now) }
+    ensures calls { IfOk result (λ jobs. BringCalls groups.old.items entries.new live.now) }
     ensures length { length entries.new ≡ length entries.old }
     ensures empty { IfOk result (λ jobs. groups.new.items ≡ []) }
     ensures capacity { vec_capacity groups.new ≡ vec_capacity groups.old }

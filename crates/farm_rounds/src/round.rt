@@ -13,7 +13,7 @@ ghost use Rattle.farm_rounds.specs.RoundHistories.{seat_for, worked_histories, W
 
 use crate::entry::{Entry, NO_ENTRY};
 use crate::farm::Farm;
-use crate::jobs::{hand_in, hand_out, make_jobs, make_seats};
+use crate::jobs::{hand_in, hand_out, make_jobs, make_seats, put_in_order};
 use crate::rest::Rest;
 use crate::worked::Worked;
 use call_pair::Job;
@@ -107,6 +107,7 @@ impl Round {
         let calls = rest.live.len();
         rest.failed.reserve(4 * calls)?;
         let mut entries = vec![in alloc; NO_ENTRY; calls]?;
+        put_in_order(&mut rest.groups);
         let jobs = make_jobs(alloc, &mut rest.groups, &rest.live, &mut entries)?;
         let seats = make_seats(alloc, &rest.live, &entries, periods)?;
         let numbers = rest.live.to_vec(alloc)?;

@@ -1,0 +1,14 @@
+use Rattle.std.proofs.Common.{rules, sym, ap, ◌∙◌, subst, List}
+use Rattle.std.specs.Prelude.{reverse}
+use Rattle.std.specs.List.Sorted.{IsNonDecreasingBy, IsPermutation}
+use Rattle.std.proofs.lemmas.List.{reverse-reverse}
+use Rattle.std.proofs.lemmas.List.Sorted.{IsNonDecreasingBy-from_sort_by_key, IsPermutation-trans}
+use Rattle.farm_rounds.specs.declared.call.Group.{Group}
+use Rattle.farm_rounds.specs.Rounds.{first_of}
+use Rattle.farm_rounds.proofs.jobs.put_in_order.Goals as goal
+
+pub returns-clause-same : goal.returns-clause-same
+returns-clause-same c = IsPermutation-trans _ _ _ c.sort_unstable_by_key.ensures.permutation ?
+
+pub returns-clause-order : goal.returns-clause-order
+returns-clause-order c = ?
