@@ -13,3 +13,4 @@ pub mod Settling
 pub mod Partners
 pub mod Working
 pub mod Starting
+pub mod Planned

@@ -39,7 +39,7 @@ pub record IsRound (r : RoundMemory) : Type 0 where
   pub rising : Rising r.seats
   pub time : HaveTimeUntil r.ended r.jobs r.entries r.seats
   pub timely : All (IsTimely r.ended) r.jobs
-  pub within : (k : ℕ) → k < length r.seats → r.start + (seat_at r.seats k).place.periods ≤ r.ended
+  pub within : (k : ℕ) → k < length r.seats → r.start + (seat_at r.seats k).place.periods ≡ r.ended
   pub last : r.ended ≤ 4294967295
   pub groups : AreGroups r.ended (groups_from r.jobs)
   pub alive : AreLive r.live (groups_from r.jobs)
