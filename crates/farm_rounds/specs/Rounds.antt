@@ -85,10 +85,18 @@ octets_of s = record { call = s.place.call; up = s.up; pcm = s.pcm; out = s.out;
 abbrev pub AreHanded : List Job → List Entry → List SeatMemory → ℕ → Type 0
 AreHanded jobs entries seats n = (k : ℕ) → k < n → (half_at jobs (entry_at entries k).job (call_at seats k)).io ≡ octets_of (seat_at seats k)
 
--- no leg has worked so many periods that its call couldn't have those of the round
+-- the first n seats' buffers have the round's length, and no more of it is whole
+abbrev pub AreSound : List SeatMemory → ℕ → Type 0
+AreSound seats n = (k : ℕ) → k < n → IsIo (octets_of (seat_at seats k)) × (whole_in (seat_at seats k).place ≤ (seat_at seats k).place.periods)
+
+-- with those of the round no call has more periods than these ..
+abbrev pub HaveTimeUntil : ℕ → List Job → List Entry → List SeatMemory → Type 0
+HaveTimeUntil most jobs entries seats = (k : ℕ) → k < length seats →
+    (half_at jobs (entry_at entries k).job (call_at seats k)).leg.search.periods + (seat_at seats k).place.periods ≤ most
+
+-- .. and none has more than a call can have
 abbrev pub HaveTime : List Job → List Entry → List SeatMemory → Type 0
-HaveTime jobs entries seats = (k : ℕ) → k < length seats →
-    (half_at jobs (entry_at entries k).job (call_at seats k)).leg.search.periods + (seat_at seats k).place.periods ≤ 4294967295
+HaveTime jobs entries seats = HaveTimeUntil 4294967295 jobs entries seats
 
 -- ---- after the work
 
@@ -114,6 +122,13 @@ HaveWorked jobs entries places = (k : ℕ) → k < length places → (half_of_se
 abbrev pub HaveLengths : List Job → List Entry → List PlaceMemory → Type 0
 HaveLengths jobs entries places = (k : ℕ) → k < length places → length (half_of_seat jobs entries places k).io.up ≡ 40 * (place_at places k).periods
 
+-- the octets can come out
+pub record AreReady (jobs : List Job) (entries : List Entry) (places : List PlaceMemory) : Type 0 where
+  pub have : HaveJobsAt jobs entries places
+  pub time : HaveWorked jobs entries places
+  pub long : HaveLengths jobs entries places
+  pub rising : RisingPlaces places
+
 -- a seat with the octets that its call's job left
 abbrev pub seat_with : PlaceMemory → IoMemory → SeatMemory
 seat_with place io = record { place = place; up = io.up; pcm = io.pcm; down = io.down; out = io.out }
@@ -121,6 +136,19 @@ seat_with place io = record { place = place; up = io.up; pcm = io.pcm; down = io
 -- the first n seats have the octets of their jobs
 abbrev pub AreTaken : List Job → List Entry → List PlaceMemory → List SeatMemory → ℕ → Type 0
 AreTaken jobs entries places seats n = (k : ℕ) → k < n → seat_at seats k ≡ seat_with (place_at places k) (half_of_seat jobs entries places k).io
+
+-- The jobs took the octets of the seats, those with the octets in them are `handed`, and were finished; and each seat has
+-- what its call's job left.
+pub record Works (before : List Job) (entries : List Entry) (seats : List SeatMemory) (after : List Job) (worked : List SeatMemory) : Type 0 where
+  pub handed : List Job
+  pub same : SameLegs before handed
+  pub octets : AreHanded handed entries seats (length seats)
+  pub sound : AreSound seats (length seats)
+  pub timely : (most : ℕ) → All (IsTimely most) before → HaveTimeUntil most before entries seats → All (IsTimely most) handed
+  pub groups : groups_from after ≡ groups_from (map finished handed)
+  pub number : length worked ≡ length seats
+  pub left : (k : ℕ) → k < length seats →
+      seat_at worked k ≡ seat_with (seat_at seats k).place (half_at (map finished handed) (entry_at entries k).job (call_at seats k)).io
 
 -- ---- before the work
 
