@@ -14,3 +14,6 @@ pub mod Partners
 pub mod Working
 pub mod Starting
 pub mod Planned
+pub mod Finished
+pub mod Seating
+pub mod Works
