@@ -1,24 +1,22 @@
 -- Each open call of a round that is worked has one job, and one seat.
-use Rattle.std.proofs.Common.{◌≡◌, ◌≢◌, refl, sym, ap, ◌∙◌, subst, ℕ, zero, suc, ◌+◌, ◌-◌, ◌<◌, ◌≤◌, Bool, true, false, Option, Some, None, List, [], ◌∷◌, length, get_or, arith, inl, inr}
+use Rattle.std.proofs.Common.{◌≡◌, ◌≢◌, refl, sym, ap, ◌∙◌, subst, ℕ, suc, ◌+◌, ◌-◌, ◌<◌, ◌≤◌, Bool, true, false, Option, Some, None, List, [], ◌∷◌, length, arith, inl, inr}
 use Rattle.std.specs.Prelude.{if◌then◌else◌, ◌==◌, ◌||◌, is_some, unwrap_or, map, slice_index}
 use Rattle.std.specs.Option.{option_map}
-use Rattle.std.specs.List.{find, count_by, list_any}
+use Rattle.std.specs.List.{find, count_by}
 use Rattle.std.proofs.lemmas.Bool.{cases_Bool, cases_order, eqb-true, eq-eqb, ne_eqb, false≢true}
 use Rattle.std.proofs.lemmas.List.Sums.{sum_by-cons}
 use Rattle.call_pair.specs.declared.job.Job.{Job}
 use Rattle.call_pair.specs.declared.job.Job.TheVariants.{One, Two}
 use Rattle.call_pair.specs.Jobs.{has_call, half_of, finished}
-use Rattle.call_pair.specs.Memory.{IoMemory, IsIo}
+use Rattle.call_pair.specs.Memory.{IsIo}
 use Rattle.round_lines.specs.Places.{PlaceMemory, whole_in}
 use Rattle.round_lines.specs.Seats.{SeatMemory}
 use Rattle.round_lines.specs.Rounds.{Rising, no_seat, seat_at, call_at}
 use Rattle.switchboard.proofs.Lists.{find-only}
-use Rattle.farm_rounds.specs.declared.call.Call.{Call}
 use Rattle.farm_rounds.specs.declared.call.Group.{Group}
 use Rattle.farm_rounds.specs.Calls.{holds, group_in, call_of, call_in}
 use Rattle.farm_rounds.specs.Numbers.{is_among}
-use Rattle.farm_rounds.specs.Settling.{goes_on_in}
-use Rattle.farm_rounds.specs.Rounds.{no_job, job_at, half_at, HasJob, entry_at, octets_of, call_from, group_from, groups_from, Works}
+use Rattle.farm_rounds.specs.Rounds.{no_job, job_at, HasJob, entry_at, octets_of, call_from, group_from, groups_from, Works}
 use Rattle.farm_rounds.specs.RoundHistories.{seat_of}
 use Rattle.farm_rounds.specs.Working.{RoundMemory, IsRound, goes_on_call}
 use Rattle.farm_rounds.proofs.Finding.{found_there, found_only}

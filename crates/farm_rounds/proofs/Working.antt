@@ -17,7 +17,7 @@ use Rattle.round_lines.specs.Rounds.{Rising, no_seat, seat_at, call_at}
 use Rattle.farm_rounds.specs.declared.entry.Entry.{Entry}
 use Rattle.farm_rounds.specs.Calls.{holds, size_of, calls_held}
 use Rattle.farm_rounds.specs.Groups.{IsCall, IsGroup, AreGroups, AreLive}
-use Rattle.farm_rounds.specs.Rounds.{no_job, AreReady, jobs_in, job_at, half_at, HasJob, SameLegs, entry_at, HaveJobs, AreHanded, AreSound, HaveTimeUntil, seat_with, Works, IsTimely, call_from, group_from, groups_from, place_at, RisingPlaces, HaveJobsAt, HaveWorked, HaveLengths, half_of_seat, AreTaken}
+use Rattle.farm_rounds.specs.Rounds.{no_job, AreReady, jobs_in, job_at, half_at, HasJob, SameLegs, entry_at, HaveJobs, AreHanded, AreSound, HaveTimeUntil, seat_with, Works, IsTimely, call_from, group_from, groups_from, place_at, half_of_seat, AreTaken}
 use Rattle.std.proofs.lemmas.List.Folds.{list_any_at, list_any_none}
 use Rattle.farm_rounds.specs.Settling.{goes_on_in}
 use Rattle.farm_rounds.specs.Working.{RoundMemory, goes_on_call, IsRound}
@@ -165,13 +165,7 @@ works before jobs run final entries seats worked apart same handed sound timely 
           ∙ ap (λ (js : List Job). seat_with (seat_at seats k).place (half_at js (entry_at entries k).job (call_at seats k)).io) er;
     }
 
--- the seats of a worked round
-pub worked_places : (jobs : List Job) (entries : List Entry) (seats worked : List SeatMemory) (apart : List PlaceMemory) → AreTaken jobs entries apart worked (length apart) → apart ≡ map (λ (s : SeatMemory). s.place) seats →
-    (k : ℕ) → k < length seats → (seat_at worked k).place ≡ (seat_at seats k).place
-worked_places jobs entries seats worked apart taken e k l =
-    let number : length apart ≡ length seats = ap (λ (ps : List PlaceMemory). length ps) e ∙ length-map seats (λ (s : SeatMemory). s.place) in
-    ap (λ (s : SeatMemory). s.place) (taken k (omega (arith, l, number))) ∙ ap (λ (ps : List PlaceMemory). place_at ps k) e ∙ place_of_seat seats k
-
+-- seats of the same calls
 pub rising_same : (seats worked : List SeatMemory) → length worked ≡ length seats → ((k : ℕ) → k < length seats → (seat_at worked k).place.call ≡ (seat_at seats k).place.call) → Rising seats → Rising worked
 rising_same seats worked number place rising i j l lj =
     let less = rising i j l (omega (arith, lj, number)) in

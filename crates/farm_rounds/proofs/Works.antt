@@ -1,8 +1,8 @@
 -- A round that is worked: the calls stand for the periods that the round adds, and their octets are those of them.
-use Rattle.std.proofs.Common.{◌≡◌, ◌≢◌, refl, sym, ap, ◌∙◌, subst, ℕ, ◌+◌, ◌<◌, ◌≤◌, Bool, true, false, Option, Some, None, List, length, arith, inl, inr}
-use Rattle.std.specs.Prelude.{◌==◌, is_some, map, slice_index}
+use Rattle.std.proofs.Common.{◌≡◌, ◌≢◌, refl, sym, ap, ◌∙◌, subst, ℕ, ◌<◌, true, false, Option, Some, None, List, length, arith, inl, inr}
+use Rattle.std.specs.Prelude.{◌==◌, is_some, map}
 use Rattle.std.specs.Option.{option_map, option_and_then}
-use Rattle.std.proofs.lemmas.Bool.{cases_Bool, eqb-true, eq-eqb, ne_eqb, or_left, or_right, or_cases, false≢true}
+use Rattle.std.proofs.lemmas.Bool.{eqb-true, eq-eqb, ne_eqb, or_left, or_right, or_cases}
 use Rattle.std.proofs.lemmas.List.{get_or-map}
 use Rattle.trau_io.specs.declared.ends.CallEnd.{CallEnd}
 use Rattle.call_leg.specs.Stands.{Stands}
@@ -17,18 +17,18 @@ use Rattle.round_lines.specs.Rounds.{seat_at, call_at}
 use Rattle.farm_rounds.specs.declared.call.Call.{Call}
 use Rattle.farm_rounds.specs.declared.call.Group.{Group}
 use Rattle.farm_rounds.specs.declared.call.Group.TheVariants as group
-use Rattle.farm_rounds.specs.Calls.{holds, group_in, call_of, call_in, partner_of, partner_in}
+use Rattle.farm_rounds.specs.Calls.{group_in, call_of, call_in, partner_of, partner_in}
 use Rattle.farm_rounds.specs.Groups.{AreGroups, AreLive}
 use Rattle.farm_rounds.specs.Histories.{CallHistory, CallStands, GroupsStand}
-use Rattle.farm_rounds.specs.Rounds.{no_job, job_at, half_at, HasJob, entry_at, octets_of, seat_with, call_from, group_from, groups_from, Works}
-use Rattle.farm_rounds.specs.RoundHistories.{seat_of, worked_histories, history_with, WorkedCall, AreWorked}
-use Rattle.farm_rounds.specs.Working.{RoundMemory, IsRound, IsWorked, that_stays}
+use Rattle.farm_rounds.specs.Rounds.{no_job, job_at, entry_at, octets_of, seat_with, call_from, group_from, groups_from, Works}
+use Rattle.farm_rounds.specs.RoundHistories.{worked_histories, history_with, WorkedCall, AreWorked}
+use Rattle.farm_rounds.specs.Working.{RoundMemory, IsRound, IsWorked}
 use Rattle.farm_rounds.proofs.Finding.{found_there}
 use Rattle.farm_rounds.proofs.Applying.{found_group}
 use Rattle.farm_rounds.proofs.Handing.{its_job}
 use Rattle.farm_rounds.proofs.Partners.{finished_partner}
 use Rattle.farm_rounds.proofs.Working.{finished_groups, finished_live}
-use Rattle.farm_rounds.proofs.Finished.{Seated, Finished, Pair, first_half, second_half, alone_finished, pair_finished}
+use Rattle.farm_rounds.proofs.Finished.{Finished, Pair, first_half, second_half, alone_finished, pair_finished}
 use Rattle.farm_rounds.proofs.Seating.{job_in, call_from_job, job_group, finished_job, stays, periods, its_place, worked_rising, seat_found, seat_job, seated, job_other}
 
 -- what stands for an open call

@@ -3,7 +3,7 @@
 ghost use Rattle.std.specs.Prelude.{◌≡◌, ◌≢◌, ◌+◌, ◌*◌, ◌<◌, ◌≤◌, ℕ, true, false, [], length, map, reverse, slice_index, slice_set, is_some, IfOk, vec_len, vec_capacity};
 ghost use Rattle.std.specs.List.{All};
 ghost use Rattle.std.specs.List.Sorted.{IsPermutation, IsNonDecreasingBy};
-ghost use Rattle.round_lines.specs.Rounds.{Rising, seat_at, call_at};
+ghost use Rattle.round_lines.specs.Rounds.{Rising, seat_at};
 ghost use Rattle.call_pair.specs.Memory.{places_left};
 ghost use Rattle.call_pair.specs.Jobs.{with_io};
 ghost use Rattle.farm_rounds.specs.Calls.{IsNumber, holds, group_in, call_of};
@@ -153,12 +153,7 @@ fn job_place(entries: &[Entry], seat: usize) -> usize
 }
 
 // The buffers of each seat go into the call's job ..
-fn hand_in(
-    seats: Vec<Seat>,
-    entries: &[Entry],
-    jobs: &mut [Box<Job>],
-    apart: &mut Vec<Place>,
-)
+fn hand_in(seats: Vec<Seat>, entries: &[Entry], jobs: &mut [Box<Job>], apart: &mut Vec<Place>)
     requires entries { length entries.now ≡ length seats.items }
     requires jobs { HaveJobs (jobs_in jobs.old) entries.now seats.items }
     requires time { HaveTime (jobs_in jobs.old) entries.now seats.items }

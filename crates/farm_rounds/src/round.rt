@@ -6,7 +6,7 @@ ghost use Rattle.call_pair.specs.Jobs.{job_call};
 ghost use Rattle.round_lines.specs.Seats.{Fills};
 ghost use Rattle.round_lines.specs.Rounds.{Each, KeepsButEach, IsIncoming, Rising, call_at, seat_at, seat_end};
 ghost use Rattle.farm_rounds.specs.Calls.{call_in, partner_in};
-ghost use Rattle.farm_rounds.specs.Numbers.{IsRising, is_among};
+ghost use Rattle.farm_rounds.specs.Numbers.{IsRising};
 ghost use Rattle.farm_rounds.specs.Histories.{CallHistory, GroupsStand};
 ghost use Rattle.farm_rounds.specs.Rounds.{groups_from};
 ghost use Rattle.farm_rounds.specs.RoundHistories.{seat_for, worked_histories, WorkedStand, AreWorked};

@@ -1,13 +1,11 @@
-use Rattle.std.proofs.Common.{rules, ◌≡◌, ◌+◌, ◌≤◌, sym, ap, ◌∙◌, subst, ℕ, Option, List, length, arith}
+use Rattle.std.proofs.Common.{rules, ◌≡◌, ◌+◌, ◌≤◌, sym, ap, ◌∙◌, subst, ℕ, List, length, arith}
 use Rattle.std.specs.Prelude.{is_some, slice_index}
 use Rattle.std.specs.Global.{Box}
 use Rattle.std.proofs.lemmas.List.{length-map}
 use Rattle.call_pair.specs.declared.job.Job.{Job}
-use Rattle.farm_rounds.specs.declared.call.Call.{Call}
-use Rattle.farm_rounds.specs.declared.call.Group.{Group}
 use Rattle.farm_rounds.specs.declared.entry.Entry.{Entry}
 use Rattle.farm_rounds.specs.Calls.{call_in, partner_in}
-use Rattle.farm_rounds.specs.Groups.{AreGroups, AreLive}
+use Rattle.farm_rounds.specs.Groups.{AreLive}
 use Rattle.farm_rounds.specs.Histories.{GroupsStand}
 use Rattle.farm_rounds.specs.Rounds.{jobs_in, HaveEntries, BringCalls, AreSeats}
 use Rattle.farm_rounds.specs.RoundHistories.{seat_for}

@@ -1,4 +1,4 @@
-use Rattle.std.proofs.Common.{subst, ℕ, List}
+use Rattle.std.proofs.Common.{subst, List}
 use Rattle.farm_rounds.specs.declared.entry.Entry.{Entry}
 use Rattle.farm_rounds.specs.Rounds.{jobs_in, Works}
 use Rattle.farm_rounds.specs.Working.{RoundMemory, IsRound}
