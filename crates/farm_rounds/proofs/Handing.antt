@@ -4,21 +4,21 @@ use Rattle.std.specs.Prelude.{◌==◌, ◌||◌, slice_set}
 use Rattle.std.specs.Global.{Box}
 use Rattle.std.specs.List.{All}
 use Rattle.std.proofs.lemmas.List.Elements.{All-same, All-set, All-get_or}
-use Rattle.std.proofs.lemmas.Bool.{cases_Bool, cases_eq, eqb-true, eq-eqb, ne_eqb, or_cases}
+use Rattle.std.proofs.lemmas.Bool.{cases_Bool, cases_eq, cases_lt, eqb-true, eq-eqb, ne_eqb, or_cases}
 use Rattle.std.proofs.lemmas.List.{length-set, get_or-set_same, get_or-set_other, map-set, length-map, get_or-map}
 use Rattle.call_pair.specs.declared.job.Job.{Job}
 use Rattle.call_pair.specs.declared.job.Job.TheVariants.{One, Two}
 use Rattle.call_leg.specs.Memory.{LegMemory}
 use Rattle.round_lines.specs.Places.{PlaceMemory, whole_in}
-use Rattle.call_pair.specs.Memory.{IoMemory, places_left}
+use Rattle.call_pair.specs.Memory.{IoMemory, IsIo, places_left}
 use Rattle.call_pair.specs.Jobs.{has_call, half_of, with_io}
-use Rattle.round_lines.specs.Seats.{SeatMemory}
+use Rattle.round_lines.specs.Seats.{SeatMemory, Fits}
 use Rattle.round_lines.specs.Rounds.{Rising, no_seat, seat_at, call_at}
 use Rattle.std.proofs.Math.Seq.{map-set_same}
 use Rattle.farm_rounds.specs.declared.call.Call.{Call}
 use Rattle.farm_rounds.specs.declared.call.Group.TheVariants as group
 use Rattle.farm_rounds.specs.declared.entry.Entry.{Entry}
-use Rattle.farm_rounds.specs.Rounds.{no_job, call_from, group_from, groups_from, IsTimely, jobs_in, job_at, half_at, HasJob, SameLegs, HaveJobs, HaveTime, AreHanded, entry_at, octets_of}
+use Rattle.farm_rounds.specs.Rounds.{no_job, call_from, group_from, groups_from, IsTimely, jobs_in, job_at, half_at, HasJob, SameLegs, HaveJobs, HaveTime, AreHanded, AreSound, entry_at, octets_of}
 
 abbrev make_call : ℕ → LegMemory → Call
 make_call n m = record { number = n; leg = m; down_failed = false; out_failed = false }
@@ -222,3 +222,23 @@ turn_handed before now next entries seats n k j s io rising have h l bound es ek
     handed_more before now next entries seats n rising have l (subst (λ (x : SeatMemory). whole_in x.place ≤ x.place.periods) es bound) h
     (e ∙ ap (λ (m : ℕ). slice_set now m (with_io (job_at now m) io)) place
     ∙ ap (λ (x : IoMemory). slice_set now (entry_at entries n).job (with_io (job_at now (entry_at entries n).job) x)) (ei ∙ ap (λ (x : SeatMemory). octets_of x) es))
+
+-- ---- buffers of the round's length
+
+sound_made : (s : SeatMemory) → Fits s.place.periods s.up s.pcm s.down s.out → 1 ≤ s.place.call → s.place.call ≤ 4096 → whole_in s.place ≤ s.place.periods → IsIo (octets_of s)
+sound_made s fits low high bound = record {
+  number = record { low = low; high = high };
+  room = record { periods = s.place.periods; enough = bound; up_room = fits.up; pcm_room = fits.pcm; out_room = fits.out; down_room = fits.down };
+  within = omega arith;
+}
+
+pub sound_more : (seats : List SeatMemory) (n : ℕ) (s : SeatMemory) (p : PlaceMemory) (call : ℕ) → AreSound seats n → s ≡ seat_at seats n → Fits s.place.periods s.up s.pcm s.down s.out → p ≡ s.place →
+    call ≡ p.call → 1 ≤ call → call ≤ 4096 → whole_in s.place ≤ s.place.periods → AreSound seats (n + 1)
+sound_more seats n s p call sofar es fits ep ec low high bound k l = elim (cases_lt k n) [
+  | inl less ↦ sofar k less
+  | inr more ↦
+      let at : k ≡ n = omega (arith, l, more) in
+      let number : call ≡ s.place.call = ec ∙ ap (λ (q : PlaceMemory). q.call) ep in
+      subst (λ (x : SeatMemory). IsIo (octets_of x) × (whole_in x.place ≤ x.place.periods)) (es ∙ ap (λ (m : ℕ). seat_at seats m) (sym at))
+      (sound_made s fits (omega (arith, low, number)) (omega (arith, high, number)) bound, bound)
+]

@@ -16,3 +16,7 @@ pub mod Partners
 pub mod Drained
 pub mod Working
 pub mod Starting
+pub mod Planned
+pub mod Finished
+pub mod JobSeats
+pub mod Works

@@ -51,7 +51,7 @@ each_weaker a most gs l h = All-weaker (IsGroup a) (IsGroup most) weaker gs h wh
 
 -- ---- their jobs
 
-bare_holds : (g : Group) (c : ℕ) → holds c (group_from (job_made g)) ≡ holds c g
+pub bare_holds : (g : Group) (c : ℕ) → holds c (group_from (job_made g)) ≡ holds c g
 bare_holds (One x) c = refl
 bare_holds (Two x y) c = refl
 
@@ -111,7 +111,7 @@ made_timely most gs a = all_timely most (reverse gs) (All-permutation (IsGroup m
 pub made_number : (gs : List Group) (jobs : List Job) → jobs ≡ map job_made (reverse gs) → length jobs ≡ length gs
 made_number gs jobs e = ap (λ (js : List Job). length js) e ∙ length-map (reverse gs) job_made ∙ length_permutation gs (reverse gs) (IsPermutation-reverse gs)
 
-same_groups : (a most : ℕ) (gs : List Group) → a ≤ most → AreGroups a gs → AreGroups most gs
+pub same_groups : (a most : ℕ) (gs : List Group) → a ≤ most → AreGroups a gs → AreGroups most gs
 same_groups a most gs l k = record { apart = k.apart; each = each_weaker a most gs l k.each }
 
 -- ---- the round

@@ -17,7 +17,7 @@ use Rattle.round_lines.specs.Rounds.{Rising, no_seat, seat_at, call_at}
 use Rattle.farm_rounds.specs.declared.entry.Entry.{Entry}
 use Rattle.farm_rounds.specs.Calls.{holds, size_of, calls_held}
 use Rattle.farm_rounds.specs.Groups.{IsCall, IsGroup, AreGroups, AreLive}
-use Rattle.farm_rounds.specs.Rounds.{no_job, jobs_in, job_at, half_at, HasJob, SameLegs, entry_at, HaveJobs, AreHanded, IsTimely, call_from, group_from, groups_from, place_at, RisingPlaces, HaveJobsAt, HaveWorked, HaveLengths, half_of_seat, AreTaken}
+use Rattle.farm_rounds.specs.Rounds.{no_job, AreReady, jobs_in, job_at, half_at, HasJob, SameLegs, entry_at, HaveJobs, AreHanded, AreSound, HaveTimeUntil, seat_with, Works, IsTimely, call_from, group_from, groups_from, place_at, half_of_seat, AreTaken}
 use Rattle.std.proofs.lemmas.List.Folds.{list_any_at, list_any_none}
 use Rattle.farm_rounds.specs.Settling.{goes_on_in}
 use Rattle.farm_rounds.specs.Working.{RoundMemory, goes_on_call, IsRound}
@@ -110,15 +110,9 @@ place_of_seat [] k = refl
 place_of_seat (s ∷ seats) zero = refl
 place_of_seat (s ∷ seats) (suc k) = place_of_seat seats k
 
-pub record IsReadyOut (jobs : List Job) (entries : List Entry) (apart : List PlaceMemory) : Type 0 where
-  pub have : HaveJobsAt jobs entries apart
-  pub time : HaveWorked jobs entries apart
-  pub long : HaveLengths jobs entries apart
-  pub rising : RisingPlaces apart
-
 pub ready_out : (most : ℕ) (before jobs after : List Job) (entries : List Entry) (seats : List SeatMemory) (apart : List PlaceMemory) → most ≤ 4294967295 → HaveJobs before entries seats → Rising seats →
     SameLegs before jobs → AreHanded jobs entries seats (length seats) → ((k : ℕ) → k < length seats → length (seat_at seats k).up ≡ 40 * (seat_at seats k).place.periods) → All (IsTimely most) jobs →
-    after ≡ map finished jobs → apart ≡ map (λ (s : SeatMemory). s.place) seats → IsReadyOut after entries apart
+    after ≡ map finished jobs → apart ≡ map (λ (s : SeatMemory). s.place) seats → AreReady after entries apart
 ready_out most before jobs after entries seats apart last have rising same handed long timely ej ea =
     let number : length apart ≡ length seats = ap (λ (ps : List PlaceMemory). length ps) ea ∙ length-map seats (λ (s : SeatMemory). s.place) in
     let place : (k : ℕ) → place_at apart k ≡ (seat_at seats k).place = λ k. ap (λ (ps : List PlaceMemory). place_at ps k) ea ∙ place_of_seat seats k in
@@ -152,13 +146,26 @@ ready_out most before jobs after entries seats apart last have rising same hande
           omega (arith, less, ap (λ (p : PlaceMemory). p.call) (place i), ap (λ (p : PlaceMemory). p.call) (place j));
     }
 
--- the seats of a worked round
-pub worked_places : (jobs : List Job) (entries : List Entry) (seats worked : List SeatMemory) (apart : List PlaceMemory) → AreTaken jobs entries apart worked (length apart) → apart ≡ map (λ (s : SeatMemory). s.place) seats →
-    (k : ℕ) → k < length seats → (seat_at worked k).place ≡ (seat_at seats k).place
-worked_places jobs entries seats worked apart taken e k l =
-    let number : length apart ≡ length seats = ap (λ (ps : List PlaceMemory). length ps) e ∙ length-map seats (λ (s : SeatMemory). s.place) in
-    ap (λ (s : SeatMemory). s.place) (taken k (omega (arith, l, number))) ∙ ap (λ (ps : List PlaceMemory). place_at ps k) e ∙ place_of_seat seats k
+pub works : (before jobs run final : List Job) (entries : List Entry) (seats worked : List SeatMemory) (apart : List PlaceMemory) → SameLegs before jobs → AreHanded jobs entries seats (length seats) →
+    AreSound seats (length seats) → ((most : ℕ) → All (IsTimely most) before → HaveTimeUntil most before entries seats → All (IsTimely most) jobs) → run ≡ map finished jobs → SameLegs run final →
+    AreTaken run entries apart worked (length apart) → apart ≡ map (λ (s : SeatMemory). s.place) seats → length worked ≡ length apart → Works before entries seats final worked
+works before jobs run final entries seats worked apart same handed sound timely er kept taken ea number =
+    let long : length apart ≡ length seats = ap (λ (ps : List PlaceMemory). length ps) ea ∙ length-map seats (λ (s : SeatMemory). s.place) in
+    record {
+      handed = jobs;
+      same = same;
+      octets = handed;
+      sound = sound;
+      timely = timely;
+      groups = kept.groups ∙ ap (λ (js : List Job). groups_from js) er;
+      number = number ∙ long;
+      left = λ k l.
+          let place : place_at apart k ≡ (seat_at seats k).place = ap (λ (ps : List PlaceMemory). place_at ps k) ea ∙ place_of_seat seats k in
+          taken k (omega (arith, l, long)) ∙ ap (λ (p : PlaceMemory). seat_with p (half_at run (entry_at entries k).job p.call).io) place
+          ∙ ap (λ (js : List Job). seat_with (seat_at seats k).place (half_at js (entry_at entries k).job (call_at seats k)).io) er;
+    }
 
+-- seats of the same calls
 pub rising_same : (seats worked : List SeatMemory) → length worked ≡ length seats → ((k : ℕ) → k < length seats → (seat_at worked k).place.call ≡ (seat_at seats k).place.call) → Rising seats → Rising worked
 rising_same seats worked number place rising i j l lj =
     let less = rising i j l (omega (arith, lj, number)) in

@@ -1,5 +1,7 @@
 -- A round of the farm: the jobs of the calls, and their seats (this project's profile).
-use Rattle.std.specs.Prelude.{◌≡◌, ℕ, ◌+◌, ◌*◌, ◌<◌, ◌≤◌, true, false, List, [], length, map, slice_index, slice_index_or}
+use Rattle.std.specs.Prelude.{◌≡◌, ℕ, ◌+◌, ◌*◌, ◌<◌, ◌≤◌, true, false, Some, List, [], length, map, slice_index, slice_index_or}
+use Rattle.std.specs.Option.{option_map}
+use Rattle.std.specs.List.{All}
 use Rattle.std.specs.Global.{Box}
 use Rattle.round_lines.specs.Places.{PlaceMemory, whole_in}
 use Rattle.round_lines.specs.Seats.{SeatMemory, new_seat}
@@ -7,12 +9,13 @@ use Rattle.round_lines.specs.Rounds.{no_seat, seat_at, call_at}
 use Rattle.call_leg.specs.Step.{home_leg}
 use Rattle.call_pair.specs.declared.job.Job.{Job}
 use Rattle.call_pair.specs.declared.job.Job.TheVariants as job
-use Rattle.call_pair.specs.Memory.{IoMemory, HalfMemory, periods_of}
-use Rattle.call_pair.specs.Jobs.{has_call, half_of}
+use Rattle.call_pair.specs.Memory.{IoMemory, HalfMemory, IsIo, periods_of}
+use Rattle.call_pair.specs.Jobs.{has_call, half_of, finished}
 use Rattle.farm_rounds.specs.declared.call.Call.{Call}
 use Rattle.farm_rounds.specs.declared.call.Group.{Group}
 use Rattle.farm_rounds.specs.declared.call.Group.TheVariants.{One, Two}
 use Rattle.farm_rounds.specs.declared.entry.Entry.{Entry}
+use Rattle.farm_rounds.specs.Calls.{call_in}
 
 -- ---- jobs
 
@@ -82,10 +85,18 @@ octets_of s = record { call = s.place.call; up = s.up; pcm = s.pcm; out = s.out;
 abbrev pub AreHanded : List Job → List Entry → List SeatMemory → ℕ → Type 0
 AreHanded jobs entries seats n = (k : ℕ) → k < n → (half_at jobs (entry_at entries k).job (call_at seats k)).io ≡ octets_of (seat_at seats k)
 
--- no leg has worked so many periods that its call couldn't have those of the round
+-- the first n seats' buffers have the round's length, and no more of it is whole
+abbrev pub AreSound : List SeatMemory → ℕ → Type 0
+AreSound seats n = (k : ℕ) → k < n → IsIo (octets_of (seat_at seats k)) × (whole_in (seat_at seats k).place ≤ (seat_at seats k).place.periods)
+
+-- with those of the round no call has more periods than these ..
+abbrev pub HaveTimeUntil : ℕ → List Job → List Entry → List SeatMemory → Type 0
+HaveTimeUntil most jobs entries seats = (k : ℕ) → k < length seats →
+    (half_at jobs (entry_at entries k).job (call_at seats k)).leg.search.periods + (seat_at seats k).place.periods ≤ most
+
+-- .. and none has more than a call can have
 abbrev pub HaveTime : List Job → List Entry → List SeatMemory → Type 0
-HaveTime jobs entries seats = (k : ℕ) → k < length seats →
-    (half_at jobs (entry_at entries k).job (call_at seats k)).leg.search.periods + (seat_at seats k).place.periods ≤ 4294967295
+HaveTime jobs entries seats = HaveTimeUntil 4294967295 jobs entries seats
 
 -- ---- after the work
 
@@ -111,6 +122,13 @@ HaveWorked jobs entries places = (k : ℕ) → k < length places → (half_of_se
 abbrev pub HaveLengths : List Job → List Entry → List PlaceMemory → Type 0
 HaveLengths jobs entries places = (k : ℕ) → k < length places → length (half_of_seat jobs entries places k).io.up ≡ 40 * (place_at places k).periods
 
+-- the octets can come out
+pub record AreReady (jobs : List Job) (entries : List Entry) (places : List PlaceMemory) : Type 0 where
+  pub have : HaveJobsAt jobs entries places
+  pub time : HaveWorked jobs entries places
+  pub long : HaveLengths jobs entries places
+  pub rising : RisingPlaces places
+
 -- a seat with the octets that its call's job left
 abbrev pub seat_with : PlaceMemory → IoMemory → SeatMemory
 seat_with place io = record { place = place; up = io.up; pcm = io.pcm; down = io.down; out = io.out }
@@ -119,7 +137,25 @@ seat_with place io = record { place = place; up = io.up; pcm = io.pcm; down = io
 abbrev pub AreTaken : List Job → List Entry → List PlaceMemory → List SeatMemory → ℕ → Type 0
 AreTaken jobs entries places seats n = (k : ℕ) → k < n → seat_at seats k ≡ seat_with (place_at places k) (half_of_seat jobs entries places k).io
 
+-- The jobs took the octets of the seats, those with the octets in them are `handed`, and were finished; and each seat has
+-- what its call's job left.
+pub record Works (before : List Job) (entries : List Entry) (seats : List SeatMemory) (after : List Job) (worked : List SeatMemory) : Type 0 where
+  pub handed : List Job
+  pub same : SameLegs before handed
+  pub octets : AreHanded handed entries seats (length seats)
+  pub sound : AreSound seats (length seats)
+  pub timely : (most : ℕ) → All (IsTimely most) before → HaveTimeUntil most before entries seats → All (IsTimely most) handed
+  pub groups : groups_from after ≡ groups_from (map finished handed)
+  pub number : length worked ≡ length seats
+  pub left : (k : ℕ) → k < length seats →
+      seat_at worked k ≡ seat_with (seat_at seats k).place (half_at (map finished handed) (entry_at entries k).job (call_at seats k)).io
+
 -- ---- before the work
+
+-- the lower number of its calls
+abbrev pub first_of : Group → ℕ
+first_of (One x) = x.number
+first_of (Two x y) = x.number
 
 -- the job of a group, before it has octets
 abbrev pub half_made : Call → HalfMemory
@@ -136,6 +172,11 @@ entry_of j x = record { job = j; down_failed = x.down_failed; out_failed = x.out
 -- the number of each open call has its entry, where its job is
 abbrev pub HaveEntries : List Job → List Entry → List ℕ → Type 0
 HaveEntries jobs entries live = (k : ℕ) → k < length live → HasJob jobs (entry_at entries k).job (slice_index live k)
+
+-- .. and says what the call brings into the round
+abbrev pub BringCalls : List Group → List Entry → List ℕ → Type 0
+BringCalls groups entries live = (k : ℕ) → k < length live →
+    option_map (entry_of (entry_at entries k).job) (call_in groups (slice_index live k)) ≡ Some (entry_at entries k)
 
 -- a seat for each open call, in their order
 abbrev pub AreSeats : List ℕ → List Entry → ℕ → List SeatMemory → ℕ → Type 0

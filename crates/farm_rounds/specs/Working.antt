@@ -12,7 +12,7 @@ use Rattle.farm_rounds.specs.declared.entry.Entry.{Entry}
 use Rattle.farm_rounds.specs.declared.tally.Tally.{Tally}
 use Rattle.farm_rounds.specs.Groups.{AreGroups, AreLive}
 use Rattle.farm_rounds.specs.Settling.{goes_on_in}
-use Rattle.farm_rounds.specs.Rounds.{half_at, HaveJobs, IsTimely, entry_at, groups_from}
+use Rattle.farm_rounds.specs.Rounds.{HaveJobs, HaveTimeUntil, IsTimely, groups_from}
 
 -- what is seen of a round: its first period and the first one after it, the open calls' numbers, what is kept of ended
 -- calls, the lines that failed before, the calls' jobs and where they are, and their seats
@@ -26,11 +26,6 @@ pub record RoundMemory : Type 0 where
   pub entries : List Entry
   pub seats : List SeatMemory
 
--- each call has time for its periods of the round
-abbrev pub HaveTimeUntil : ℕ → List Job → List Entry → List SeatMemory → Type 0
-HaveTimeUntil most jobs entries seats = (k : ℕ) → k < length seats →
-    (half_at jobs (entry_at entries k).job (call_at seats k)).leg.search.periods + (seat_at seats k).place.periods ≤ most
-
 pub record IsRound (r : RoundMemory) : Type 0 where
   pub long : length r.entries ≡ length r.seats
   pub numbers : length r.seats ≡ length r.live
@@ -39,7 +34,7 @@ pub record IsRound (r : RoundMemory) : Type 0 where
   pub rising : Rising r.seats
   pub time : HaveTimeUntil r.ended r.jobs r.entries r.seats
   pub timely : All (IsTimely r.ended) r.jobs
-  pub within : (k : ℕ) → k < length r.seats → r.start + (seat_at r.seats k).place.periods ≤ r.ended
+  pub within : (k : ℕ) → k < length r.seats → r.start + (seat_at r.seats k).place.periods ≡ r.ended
   pub last : r.ended ≤ 4294967295
   pub groups : AreGroups r.ended (groups_from r.jobs)
   pub alive : AreLive r.live (groups_from r.jobs)

@@ -8,6 +8,7 @@ ghost use Rattle.farm_rounds.specs.Calls.{IsNumber, holds, call_of, other_of, pa
 ghost use Rattle.farm_rounds.specs.declared.call.Group.TheVariants.{Two};
 ghost use Rattle.farm_rounds.specs.Acts.{HasLevel, new_call, joined, parted, set_by, group_set};
 ghost use Rattle.farm_rounds.specs.Histories.{tally_of};
+ghost use Rattle.farm_rounds.specs.Rounds.{first_of};
 
 use crate::tally::Tally;
 use call_leg::Leg;
@@ -114,6 +115,15 @@ impl Group {
         match self {
             Group::One(only) => only.number == call,
             Group::Two(low, high) => low.number == call || high.number == call,
+        }
+    }
+
+    /// The lower number of the calls.
+    pub(crate) fn first(&self) -> u32
+        ensures { result ≡ first_of self.now }
+    {
+        match self {
+            Group::One(first) | Group::Two(first, _) => first.number,
         }
     }
 

@@ -1,23 +1,35 @@
 //! The jobs and the seats of a round.
 
-ghost use Rattle.std.specs.Prelude.{◌≡◌, ◌≢◌, ◌+◌, ◌*◌, ◌<◌, ◌≤◌, ℕ, true, false, [], length, map, reverse, slice_index, slice_set, is_some, IfOk, vec_capacity};
+ghost use Rattle.std.specs.Prelude.{◌≡◌, ◌≢◌, ◌+◌, ◌*◌, ◌<◌, ◌≤◌, ℕ, true, false, [], length, map, reverse, slice_index, slice_set, is_some, IfOk, vec_len, vec_capacity};
 ghost use Rattle.std.specs.List.{All};
-ghost use Rattle.round_lines.specs.Rounds.{Rising, seat_at, call_at};
+ghost use Rattle.std.specs.List.Sorted.{IsPermutation, IsNonDecreasingBy};
+ghost use Rattle.round_lines.specs.Rounds.{Rising, seat_at};
 ghost use Rattle.call_pair.specs.Memory.{places_left};
 ghost use Rattle.call_pair.specs.Jobs.{with_io};
 ghost use Rattle.farm_rounds.specs.Calls.{IsNumber, holds, group_in, call_of};
-ghost use Rattle.farm_rounds.specs.Groups.{IsGroup};
+ghost use Rattle.farm_rounds.specs.Groups.{IsGroup, AreGroups};
 ghost use Rattle.farm_rounds.specs.Numbers.{IsRising, is_among};
-ghost use Rattle.farm_rounds.specs.Rounds.{IsTimely, job_made, half_made, entry_of, HaveEntries, AreSeats, jobs_in, job_at, half_at, HasJob, SameLegs, HaveJobs, HaveTime, AreHanded, HaveJobsAt, HaveWorked, HaveLengths, RisingPlaces, AreTaken, entry_at};
+ghost use Rattle.farm_rounds.specs.Rounds.{IsTimely, first_of, job_made, half_made, entry_of, HaveEntries, BringCalls, AreSeats, jobs_in, job_at, half_at, HasJob, SameLegs, HaveJobs, HaveTimeUntil, HaveTime, AreHanded, AreSound, AreReady, AreTaken, Works, entry_at};
 
 use crate::call::{Call, Group};
 use crate::entry::Entry;
 use crate::live::place_in;
 use call_pair::{Buffers, Half, Job, LegIo};
+use pool_run::{PoolRoom, run_pool};
 use round_lines::{Place, Seat};
 use std::alloc::{AllocError, Global};
 
-// The jobs of the groups, and where each call has its own.
+/// Puts the groups in order, the lowest number last: the jobs are made of the last one on.
+pub(crate) fn put_in_order(groups: &mut Vec<Group>)
+    ensures same { IsPermutation groups.old.items groups.new.items }
+    ensures order { IsNonDecreasingBy first_of (reverse groups.new.items) }
+    ensures capacity { vec_capacity groups.new ≡ vec_capacity groups.old }
+{
+    groups.sort_unstable_by_key(|group| group.first());
+    groups.reverse();
+}
+
+/// The jobs of the groups, and where each call has its own.
 pub(crate) fn make_jobs(
     alloc: Global,
     groups: &mut Vec<Group>,
@@ -28,9 +40,10 @@ pub(crate) fn make_jobs(
     requires length { length entries.old ≡ length live.now }
     requires found { (k : ℕ) → k < length live.now → is_some (group_in groups.old.items (slice_index live.now k)) ≡ true }
     requires present { (c : ℕ) → is_some (group_in groups.old.items c) ≡ true → is_among live.now c ≡ true }
-    requires each { All (IsGroup 4294967295) groups.old.items }
+    requires groups { AreGroups 4294967295 groups.old.items }
     ensures jobs { IfOk result (λ jobs. jobs_in jobs.items ≡ map job_made (reverse groups.old.items)) }
     ensures entries { IfOk result (λ jobs. HaveEntries (jobs_in jobs.items) entries.new live.now) }
+    ensures calls { IfOk result (λ jobs. BringCalls groups.old.items entries.new live.now) }
     ensures length { length entries.new ≡ length entries.old }
     ensures empty { IfOk result (λ jobs. groups.new.items ≡ []) }
     ensures capacity { vec_capacity groups.new ≡ vec_capacity groups.old }
@@ -139,13 +152,8 @@ fn job_place(entries: &[Entry], seat: usize) -> usize
     entries[seat].job
 }
 
-// The buffers of each seat go into the call's job.
-pub(crate) fn hand_in(
-    seats: Vec<Seat>,
-    entries: &[Entry],
-    jobs: &mut [Box<Job>],
-    apart: &mut Vec<Place>,
-)
+// The buffers of each seat go into the call's job ..
+fn hand_in(seats: Vec<Seat>, entries: &[Entry], jobs: &mut [Box<Job>], apart: &mut Vec<Place>)
     requires entries { length entries.now ≡ length seats.items }
     requires jobs { HaveJobs (jobs_in jobs.old) entries.now seats.items }
     requires time { HaveTime (jobs_in jobs.old) entries.now seats.items }
@@ -156,8 +164,8 @@ pub(crate) fn hand_in(
     ensures handed { AreHanded (jobs_in jobs.new) entries.now seats.items (length seats.items) }
     ensures apart { apart.new.items ≡ map (λ s. s.place) seats.items }
     ensures long { (k : ℕ) → k < length seats.items → length (seat_at seats.items k).up ≡ 40 * (seat_at seats.items k).place.periods }
-    ensures timely { (most : ℕ) → All (IsTimely most) (jobs_in jobs.old) → ((k : ℕ) → k < length seats.items →
-        (half_at (jobs_in jobs.old) (entry_at entries.now k).job (call_at seats.items k)).leg.search.periods + (seat_at seats.items k).place.periods ≤ most) → All (IsTimely most) (jobs_in jobs.new) }
+    ensures sound { AreSound seats.items (length seats.items) }
+    ensures timely { (most : ℕ) → All (IsTimely most) (jobs_in jobs.old) → HaveTimeUntil most (jobs_in jobs.old) entries.now seats.items → All (IsTimely most) (jobs_in jobs.new) }
 {
     for seat in seats {
         let (place, buffers) = seat.into_parts();
@@ -168,7 +176,7 @@ pub(crate) fn hand_in(
 }
 
 // .. and come back, as the job left them.
-pub(crate) fn hand_out(
+fn hand_out(
     alloc: Global,
     apart: Vec<Place>,
     entries: &[Entry],
@@ -176,10 +184,7 @@ pub(crate) fn hand_out(
     worked: &mut Vec<Seat>,
 )
     requires entries { length entries.now ≡ length apart.items }
-    requires jobs { HaveJobsAt (jobs_in jobs.old) entries.now apart.items }
-    requires time { HaveWorked (jobs_in jobs.old) entries.now apart.items }
-    requires long { HaveLengths (jobs_in jobs.old) entries.now apart.items }
-    requires rising { RisingPlaces apart.items }
+    requires ready { AreReady (jobs_in jobs.old) entries.now apart.items }
     requires none { worked.old.items ≡ [] }
     requires room { length apart.items ≤ vec_capacity worked.old }
     ensures same { SameLegs (jobs_in jobs.old) (jobs_in jobs.new) }
@@ -191,6 +196,48 @@ pub(crate) fn hand_out(
         let io = swap_in(jobs, job_place(entries, worked.len()), none);
         worked.push_reserved(Seat::from_parts(place, for_seat(io.into_buffers())));
     }
+}
+
+/// The memory that the work needs: for the seats without their buffers, for the worked ones, and that of the pool.
+#[derive(Drop)]
+pub(crate) struct WorkRoom {
+    pub(crate) apart: Vec<Place>,
+    pub(crate) worked: Vec<Seat>,
+    pub(crate) pool: PoolRoom<Job>,
+}
+
+/// Works the jobs with the octets of the seats, in slices of `slice` periods. Gives the jobs, and the seats with what these
+/// left.
+pub(crate) fn work_jobs(
+    alloc: Global,
+    entries: &[Entry],
+    seats: Vec<Seat>,
+    mut jobs: Vec<Box<Job>>,
+    room: WorkRoom,
+    slice: u32,
+) -> (Vec<Box<Job>>, Vec<Seat>)
+    requires slice { 1 ≤ slice }
+    requires entries { length entries.now ≡ length seats.items }
+    requires jobs { HaveJobs (jobs_in jobs.items) entries.now seats.items }
+    requires time { HaveTime (jobs_in jobs.items) entries.now seats.items }
+    requires timely { All (IsTimely 4294967295) (jobs_in jobs.items) }
+    requires rising { Rising seats.items }
+    requires no_place { room.apart.items ≡ [] }
+    requires no_seat { room.worked.items ≡ [] }
+    requires places { length seats.items ≤ vec_capacity room.apart }
+    requires seats { length seats.items ≤ vec_capacity room.worked }
+    requires pool { vec_len jobs ≤ room.pool }
+    ensures { Works (jobs_in jobs.items) entries.now seats.items (jobs_in result.0.items) result.1.items }
+{
+    let WorkRoom {
+        mut apart,
+        mut worked,
+        pool,
+    } = room;
+    hand_in(seats, entries, &mut jobs, &mut apart);
+    let mut jobs = run_pool(pool, jobs, slice);
+    hand_out(alloc, apart, entries, &mut jobs, &mut worked);
+    (jobs, worked)
 }
 
 fn for_job(buffers: round_lines::Buffers) -> Buffers

@@ -6,19 +6,19 @@ ghost use Rattle.call_pair.specs.Jobs.{job_call};
 ghost use Rattle.round_lines.specs.Seats.{Fills};
 ghost use Rattle.round_lines.specs.Rounds.{Each, KeepsButEach, IsIncoming, Rising, call_at, seat_at, seat_end};
 ghost use Rattle.farm_rounds.specs.Calls.{call_in, partner_in};
-ghost use Rattle.farm_rounds.specs.Numbers.{IsRising, is_among};
+ghost use Rattle.farm_rounds.specs.Numbers.{IsRising};
 ghost use Rattle.farm_rounds.specs.Histories.{CallHistory, GroupsStand};
 ghost use Rattle.farm_rounds.specs.Rounds.{groups_from};
 ghost use Rattle.farm_rounds.specs.RoundHistories.{seat_for, worked_histories, WorkedStand, AreWorked};
 
 use crate::entry::{Entry, NO_ENTRY};
 use crate::farm::Farm;
-use crate::jobs::{hand_in, hand_out, make_jobs, make_seats};
+use crate::jobs::{WorkRoom, make_jobs, make_seats, put_in_order, work_jobs};
 use crate::rest::Rest;
 use crate::worked::Worked;
 use call_pair::Job;
-use pool_run::{PoolRoom, run_pool};
-use round_lines::{Place, Seat, fill_seats, list_ends};
+use pool_run::PoolRoom;
+use round_lines::{Seat, fill_seats, list_ends};
 use std::alloc::{AllocError, Global};
 use std::marker::Model;
 use trau_io::{CallEnd, Trunk};
@@ -34,11 +34,9 @@ pub struct Round {
     // Seat by seat, where the call's job is; the calls' numbers rise.
     entries: Vec<Entry>,
     seats: Vec<Seat>,
-    // Room for the numbers, for the seats without their buffers, and once they are worked.
+    // Room for what follows: the numbers, the work, and the ends.
     numbers: Vec<u32>,
-    apart: Vec<Place>,
-    worked: Vec<Seat>,
-    room: PoolRoom<Job>,
+    room: WorkRoom,
     ends: Vec<CallEnd>,
 }
 
@@ -52,9 +50,9 @@ impl Model for Round {
     ghost view = { λ r. record { start = r.start; ended = r.end; live = r.rest.live.items; tallies = r.rest.tallies.items; failed = r.rest.failed.items; jobs = jobs_in r.jobs.items; entries = r.entries.items; seats = r.seats.items } };
 
     ghost invariant = { λ r. IsRound (record { start = r.start; ended = r.end; live = r.rest.live.items; tallies = r.rest.tallies.items; failed = r.rest.failed.items; jobs = jobs_in r.jobs.items; entries = r.entries.items; seats = r.seats.items })
-        × (r.rest.groups.items ≡ []) × (r.numbers.items ≡ r.rest.live.items) × (r.apart.items ≡ []) × (r.worked.items ≡ []) × (r.ends.items ≡ [])
-        × (length r.rest.live.items ≤ vec_capacity r.rest.groups) × (length r.rest.live.items ≤ vec_capacity r.apart) × (length r.rest.live.items ≤ vec_capacity r.worked)
-        × (length r.rest.live.items ≤ vec_capacity r.ends) × (vec_len r.jobs ≤ r.room) × (length r.rest.failed.items + 4 * length r.rest.live.items ≤ vec_capacity r.rest.failed) };
+        × (r.rest.groups.items ≡ []) × (r.numbers.items ≡ r.rest.live.items) × (r.room.apart.items ≡ []) × (r.room.worked.items ≡ []) × (r.ends.items ≡ [])
+        × (length r.rest.live.items ≤ vec_capacity r.rest.groups) × (length r.rest.live.items ≤ vec_capacity r.room.apart) × (length r.rest.live.items ≤ vec_capacity r.room.worked)
+        × (length r.rest.live.items ≤ vec_capacity r.ends) × (vec_len r.jobs ≤ r.room.pool) × (length r.rest.failed.items + 4 * length r.rest.live.items ≤ vec_capacity r.rest.failed) };
 }
 
 impl Round {
@@ -107,6 +105,7 @@ impl Round {
         let calls = rest.live.len();
         rest.failed.reserve(4 * calls)?;
         let mut entries = vec![in alloc; NO_ENTRY; calls]?;
+        put_in_order(&mut rest.groups);
         let jobs = make_jobs(alloc, &mut rest.groups, &rest.live, &mut entries)?;
         let seats = make_seats(alloc, &rest.live, &entries, periods)?;
         let numbers = rest.live.to_vec(alloc)?;
@@ -119,9 +118,11 @@ impl Round {
             entries,
             seats,
             numbers,
-            apart: Vec::with_capacity(alloc, calls)?,
-            worked: Vec::with_capacity(alloc, calls)?,
-            room: PoolRoom::reserve(alloc, workers, calls as u32)?,
+            room: WorkRoom {
+                apart: Vec::with_capacity(alloc, calls)?,
+                worked: Vec::with_capacity(alloc, calls)?,
+                pool: PoolRoom::reserve(alloc, workers, calls as u32)?,
+            },
             ends: Vec::with_capacity(alloc, calls)?,
         })
     }
@@ -165,24 +166,20 @@ impl Round {
             start,
             end,
             rest,
-            mut jobs,
+            jobs,
             entries,
             seats,
             numbers,
-            mut apart,
-            mut worked,
             room,
             mut ends,
         } = self;
-        hand_in(seats, &entries, &mut jobs, &mut apart);
-        let mut jobs = run_pool(room, jobs, slice);
-        hand_out(alloc, apart, &entries, &mut jobs, &mut worked);
-        list_ends(&worked, start, &mut ends);
+        let (jobs, seats) = work_jobs(alloc, &entries, seats, jobs, room, slice);
+        list_ends(&seats, start, &mut ends);
         Worked {
             end,
             rest,
             jobs,
-            seats: worked,
+            seats,
             numbers,
             ends,
         }

@@ -5,8 +5,8 @@ use Rattle.std.proofs.lemmas.Iterator.Adapters.{YieldsList-from_vec}
 use Rattle.std.proofs.lemmas.Iterator.Consumers.{YieldsList-turn, YieldsList-end}
 use Rattle.round_lines.specs.Seats.{SeatMemory}
 use Rattle.round_lines.specs.Places.{PlaceMemory, whole_in}
-use Rattle.farm_rounds.specs.Rounds.{jobs_in, AreHanded}
-use Rattle.farm_rounds.proofs.Handing.{HandedIn, handed_none, seat_read, octets_made, turn_job, turn_time, turn_handed}
+use Rattle.farm_rounds.specs.Rounds.{jobs_in, AreHanded, AreSound}
+use Rattle.farm_rounds.proofs.Handing.{HandedIn, handed_none, seat_read, octets_made, turn_job, turn_time, turn_handed, sound_more}
 use Rattle.farm_rounds.proofs.jobs.hand_in.Goals as goal
 
 pub loop-seat-init : goal.loop-seat-init
@@ -14,6 +14,7 @@ loop-seat-init c = record {
   apart = c.requires.none;
   capacity = refl;
   long = λ k l. absurd (omega arith);
+  sound = λ k l. absurd (omega arith);
   handed = handed_none (jobs_in c.args.jobs.now) c.args.entries.now c.args.seats.items;
 }
 
@@ -75,6 +76,9 @@ loop-seat-preserved c =
             let same : k ≡ length c.loop-seat.yielded = omega (arith, lk, more, length-append c.loop-seat.yielded (c.in-Some.seat ∷ [])) in
             rw (same, sym item) c.into_parts-place.ensures.fits.up
       ];
+      sound = subst (λ (m : ℕ). AreSound c.args.seats.items m) (sym (length-append c.loop-seat.yielded (c.in-Some.seat ∷ [])))
+          (sound_more c.args.seats.items (length c.loop-seat.yielded) c.in-Some.seat c.into_parts-place.result.0 c.call.result c.loop-seat.invariant.sound item c.into_parts-place.ensures.fits c.into_parts-place.ensures.place
+          c.call.ensures.value c.call.ensures.low c.call.ensures.high (omega (arith, c.whole.ensures.bound, c.whole.ensures.value, ap (λ (p : PlaceMemory). p.periods) c.into_parts-place.ensures.place, ap (λ (p : PlaceMemory). whole_in p) c.into_parts-place.ensures.place)));
       handed = subst (λ (m : ℕ). HandedIn (jobs_in c.args.jobs.now) (jobs_in c.swap_in.new.jobs) c.args.entries.now c.args.seats.items m) (sym (length-append c.loop-seat.yielded (c.in-Some.seat ∷ [])))
           (turn_handed (jobs_in c.args.jobs.now) (jobs_in c.loop-seat.jobs) (jobs_in c.swap_in.new.jobs) c.args.entries.now c.args.seats.items (length c.loop-seat.yielded) c.len.result c.job_place.result c.in-Some.seat c.new-io.result
           c.requires.rising c.requires.jobs c.loop-seat.invariant.handed turn.0 (omega (arith, c.whole.ensures.bound, c.whole.ensures.value, ap (λ (p : PlaceMemory). p.periods) c.into_parts-place.ensures.place, ap (λ (p : PlaceMemory). whole_in p) c.into_parts-place.ensures.place)) item index c.job_place.ensures made c.swap_in.ensures.jobs);
@@ -88,6 +92,12 @@ returns-clause-handed c =
     let end = YieldsList-end (YieldsList-from_vec {s = c.into_iter-seat-iterator.result} c.args.seats.items (search rules) (search rules))
     c.loop-seat.yielded c.loop-seat.seat-iterator c.loop-seat.yielded_by c.next.result c.next.new.self c.in-None.is c.next.ensures.steps in
     subst (λ (m : ℕ). AreHanded (jobs_in c.loop-seat.jobs) c.args.entries.now c.args.seats.items m) end.1 c.loop-seat.invariant.handed.handed
+
+pub returns-clause-sound : goal.returns-clause-sound
+returns-clause-sound c =
+    let end = YieldsList-end (YieldsList-from_vec {s = c.into_iter-seat-iterator.result} c.args.seats.items (search rules) (search rules))
+    c.loop-seat.yielded c.loop-seat.seat-iterator c.loop-seat.yielded_by c.next.result c.next.new.self c.in-None.is c.next.ensures.steps in
+    subst (λ (m : ℕ). AreSound c.args.seats.items m) end.1 c.loop-seat.invariant.sound
 
 pub returns-clause-apart : goal.returns-clause-apart
 returns-clause-apart c =

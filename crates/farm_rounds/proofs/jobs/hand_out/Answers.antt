@@ -35,7 +35,7 @@ swap_in-io-requires-clause-job c =
     let index : c.len.result ≡ n = omega (arith, c.len.ensures, c.loop-place.invariant.taken.long) in
     let call : c.none-none.result.call ≡ c.in-Some.place.call = ap (λ (x : IoMemory). x.call) c.none-none.ensures ∙ c.call.ensures.value in
     take_job (jobs_in c.args.jobs.now) (jobs_in c.loop-place.jobs) c.args.entries.now c.args.apart.items n c.len.result c.job_place.result c.in-Some.place c.none-none.result
-    c.requires.jobs c.loop-place.invariant.taken.same turn.0 item index c.job_place.ensures call
+    c.requires.ready.have c.loop-place.invariant.taken.same turn.0 item index c.job_place.ensures call
 
 pub swap_in-io-requires-clause-time : goal.swap_in-io-requires-clause-time
 swap_in-io-requires-clause-time c =
@@ -49,7 +49,7 @@ swap_in-io-requires-clause-time c =
     let left : places_left c.none-none.result ≡ 0 - 0 = ap (λ (x : IoMemory). places_left x) c.none-none.ensures in
     let leg : (half_at (jobs_in c.loop-place.jobs) c.job_place.result c.none-none.result.call).leg.search.periods ≡ (half_of_seat (jobs_in c.args.jobs.now) c.args.entries.now c.args.apart.items n).leg.search.periods =
     ap (λ (h : HalfMemory). h.leg.search.periods) half ∙ ap (λ (x : LegMemory). x.search.periods) (c.loop-place.invariant.taken.same.legs (entry_at c.args.entries.now n).job (place_at c.args.apart.items n).call) in
-    omega (arith, leg, left, c.requires.time n turn.0)
+    omega (arith, leg, left, c.requires.ready.time n turn.0)
 
 pub from_parts-requires : goal.from_parts-requires
 from_parts-requires c =
@@ -63,7 +63,7 @@ from_parts-requires c =
     let same : c.swap_in-io.result ≡ (half_of_seat (jobs_in c.args.jobs.now) c.args.entries.now c.args.apart.items n).io =
     c.swap_in-io.ensures.io ∙ ap (λ (h : HalfMemory). h.io) half ∙ c.loop-place.invariant.taken.left n (omega arith) turn.0 in
     let long : length c.swap_in-io.result.up ≡ 40 * c.in-Some.place.periods =
-    ap (λ (x : IoMemory). length x.up) same ∙ c.requires.long n turn.0 ∙ ap (λ (p : PlaceMemory). 40 * p.periods) (sym item) in
+    ap (λ (x : IoMemory). length x.up) same ∙ c.requires.ready.long n turn.0 ∙ ap (λ (p : PlaceMemory). 40 * p.periods) (sym item) in
     let fits = fits_from c.in-Some.place.periods c.swap_in-io.result.given c.swap_in-io.result.up c.swap_in-io.result.pcm c.swap_in-io.result.out c.swap_in-io.result.down c.into_buffers.ensures.room long in
     record {
       up = ap length (c.for_seat.ensures.up ∙ c.into_buffers.ensures.up) ∙ fits.up;
@@ -100,7 +100,7 @@ loop-place-preserved c =
       taken = subst (λ (m : ℕ). TakenOut (jobs_in c.args.jobs.now) (jobs_in c.swap_in-io.new.jobs) c.args.entries.now c.args.apart.items c.push_reserved.new.self.items m) (sym (length-append c.loop-place.yielded (c.in-Some.place ∷ [])))
           (subst (λ (ss : List SeatMemory). TakenOut (jobs_in c.args.jobs.now) (jobs_in c.swap_in-io.new.jobs) c.args.entries.now c.args.apart.items ss (n + 1)) (sym c.push_reserved.ensures.items)
           (taken_more (jobs_in c.args.jobs.now) (jobs_in c.loop-place.jobs) (jobs_in c.swap_in-io.new.jobs) c.args.entries.now c.args.apart.items c.loop-place.worked.items n c.none-none.result c.from_parts.result
-          c.requires.rising c.requires.jobs turn.0 c.loop-place.invariant.taken (call ∙ ap (λ (p : PlaceMemory). p.call) item) next seat));
+          c.requires.ready.rising c.requires.ready.have turn.0 c.loop-place.invariant.taken (call ∙ ap (λ (p : PlaceMemory). p.call) item) next seat));
     }
 
 pub returns-clause-same : goal.returns-clause-same

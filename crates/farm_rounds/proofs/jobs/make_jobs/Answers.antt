@@ -19,7 +19,7 @@ enter-requires-clause-present c d t =
 
 pub job_of-requires : goal.job_of-requires
 job_of-requires c =
-    last_each 4294967295 c.args.groups.now.items c.args.live.now c.loop-group.groups.items c.pop.new.self.items c.in-Some.group (jobs_in c.loop-group.jobs.items) c.loop-group.entries c.loop-group.invariant.made c.in-Some.ensures.items c.requires.each
+    last_each 4294967295 c.args.groups.now.items c.args.live.now c.loop-group.groups.items c.pop.new.self.items c.in-Some.group (jobs_in c.loop-group.jobs.items) c.loop-group.entries c.loop-group.invariant.made c.in-Some.ensures.items c.requires.groups.each
 
 pub loop-group-preserved : goal.loop-group-preserved
 loop-group-preserved c =
@@ -28,6 +28,6 @@ loop-group-preserved c =
     record {
       made = made_more c.args.groups.now.items c.args.live.now c.loop-group.groups.items c.pop.new.self.items c.in-Some.group (jobs_in c.loop-group.jobs.items) (jobs_in c.push.new.self.items) c.loop-group.entries c.enter.new.entries
           c.loop-group.invariant.made c.in-Some.ensures.items (job_pushed c.loop-group.jobs.items c.push.new.self.items c.in_ok-new.field-0 c.in-Some.group c.job_of.result pushed c.in_ok-new.ensures.ok c.job_of.ensures) c.enter.ensures.length
-          (λ k l t. c.enter.ensures.entered k l t ∙ ap (λ (n : ℕ). entry_of n (call_of (slice_index c.args.live.now k) c.in-Some.group)) index) c.enter.ensures.others;
+          (λ k l t. c.enter.ensures.entered k l t ∙ ap (λ (n : ℕ). entry_of n (call_of (slice_index c.args.live.now k) c.in-Some.group)) index) c.enter.ensures.others c.requires.groups.apart;
       capacity = c.pop.ensures.capacity ∙ c.loop-group.invariant.capacity;
     }
