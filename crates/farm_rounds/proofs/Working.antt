@@ -105,6 +105,12 @@ jobs_finished (b ∷ bs) = ap (λ (js : List Job). finished b.value ∷ js) (job
 
 -- ---- the work
 
+-- the jobs that ran are the finished ones of those that took octets, which were written back over the first ones
+pub ran : (len : ℕ) (first taken run given : List (Box Job)) → len ≡ length first → length taken ≡ length first →
+    map (λ (b : Box Job). b.value) run ≡ map (λ (b : Box Job). finished b.value) (take len (taken ++ drop (length taken) first)) → given ≡ run → jobs_in given ≡ map finished (jobs_in taken)
+ran len first taken run given el et er eg =
+    ap (λ (bs : List (Box Job)). jobs_in bs) eg ∙ er ∙ ap (λ (bs : List (Box Job)). map (λ (b : Box Job). finished b.value) bs) (back len taken first el et) ∙ jobs_finished taken
+
 place_of_seat : (seats : List SeatMemory) (k : ℕ) → place_at (map (λ (s : SeatMemory). s.place) seats) k ≡ (seat_at seats k).place
 place_of_seat [] k = refl
 place_of_seat (s ∷ seats) zero = refl

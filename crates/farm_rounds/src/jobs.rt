@@ -206,6 +206,26 @@ pub(crate) struct WorkRoom {
     pub(crate) pool: PoolRoom<Job>,
 }
 
+impl WorkRoom {
+    /// For so many calls, at most 4,096, in a pool of 1 to 64 workers.
+    pub(crate) fn reserve(alloc: Global, calls: usize, workers: u32) -> Result<WorkRoom, AllocError>
+        requires calls { calls ≤ 4096 }
+        requires some { 1 ≤ workers }
+        requires few { workers ≤ 64 }
+        ensures no_place { IfOk result (λ room. room.apart.items ≡ []) }
+        ensures no_seat { IfOk result (λ room. room.worked.items ≡ []) }
+        ensures places { IfOk result (λ room. vec_capacity room.apart ≡ calls) }
+        ensures seats { IfOk result (λ room. vec_capacity room.worked ≡ calls) }
+        ensures pool { IfOk result (λ room. room.pool ≡ calls) }
+    {
+        Ok(WorkRoom {
+            apart: Vec::with_capacity(alloc, calls)?,
+            worked: Vec::with_capacity(alloc, calls)?,
+            pool: PoolRoom::reserve(alloc, workers, calls as u32)?,
+        })
+    }
+}
+
 /// Works the jobs with the octets of the seats, in slices of `slice` periods. Gives the jobs, and the seats with what these
 /// left.
 pub(crate) fn work_jobs(

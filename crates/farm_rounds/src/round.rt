@@ -17,7 +17,6 @@ use crate::jobs::{WorkRoom, make_jobs, make_seats, put_in_order, work_jobs};
 use crate::rest::Rest;
 use crate::worked::Worked;
 use call_pair::Job;
-use pool_run::PoolRoom;
 use round_lines::{Seat, fill_seats, list_ends};
 use std::alloc::{AllocError, Global};
 use std::marker::Model;
@@ -34,7 +33,7 @@ pub struct Round {
     // Seat by seat, where the call's job is; the calls' numbers rise.
     entries: Vec<Entry>,
     seats: Vec<Seat>,
-    // Room for what follows: the numbers, the work, and the ends.
+    // The numbers of the calls, as they are after the work too.
     numbers: Vec<u32>,
     room: WorkRoom,
     ends: Vec<CallEnd>,
@@ -118,11 +117,7 @@ impl Round {
             entries,
             seats,
             numbers,
-            room: WorkRoom {
-                apart: Vec::with_capacity(alloc, calls)?,
-                worked: Vec::with_capacity(alloc, calls)?,
-                pool: PoolRoom::reserve(alloc, workers, calls as u32)?,
-            },
+            room: WorkRoom::reserve(alloc, calls, workers)?,
             ends: Vec::with_capacity(alloc, calls)?,
         })
     }

@@ -15,4 +15,4 @@ pub returns-clause-order : goal.returns-clause-order
 returns-clause-order c =
     let sorted = c.sort_unstable_by_key.new.self.items in
     subst (λ (gs : List Group). IsNonDecreasingBy first_of gs) (sym (ap (λ (gs : List Group). reverse gs) c.reverse.ensures.items ∙ reverse-reverse sorted))
-    (IsNonDecreasingBy-from_sort_by_key first_of sorted c.sort_unstable_by_key.ensures.sorted (λ a r q k. search rules))
+    (IsNonDecreasingBy-from_sort_by_key first_of _ c.sort_unstable_by_key.ensures.sorted (λ a r q k. search rules))

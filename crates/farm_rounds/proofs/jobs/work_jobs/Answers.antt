@@ -1,12 +1,10 @@
 use Rattle.std.proofs.Common.{◌≡◌, sym, ap, ◌∙◌, subst, ℕ, List, length, arith}
-use Rattle.std.specs.Prelude.{map}
 use Rattle.std.specs.Global.{Box}
 use Rattle.std.specs.List.{All}
 use Rattle.std.proofs.lemmas.List.{length-map}
 use Rattle.call_pair.specs.declared.job.Job.{Job}
-use Rattle.call_pair.specs.Jobs.{finished}
 use Rattle.farm_rounds.specs.Rounds.{jobs_in, SameLegs, IsTimely, HaveTimeUntil, Works}
-use Rattle.farm_rounds.proofs.Working.{back, ready_out, jobs_finished, works}
+use Rattle.farm_rounds.proofs.Working.{back, ran, ready_out, works}
 use Rattle.farm_rounds.proofs.jobs.work_jobs.Goals as goal
 
 pub hand_out-requires-clause-ready : goal.hand_out-requires-clause-ready
@@ -15,10 +13,8 @@ hand_out-requires-clause-ready c =
     let old : jobs_in c.deref_mut.result.now ≡ jobs_in before = ap (λ (bs : List (Box Job)). jobs_in bs) c.deref_mut.ensures.value in
     let jobs = jobs_in c.hand_in.new.jobs in
     let same : SameLegs (jobs_in before) jobs = subst (λ (js : List Job). SameLegs js jobs) old c.hand_in.ensures.same in
-    let whole = back c.args.jobs.len c.hand_in.new.jobs before (omega (arith, c.deref_mut.ensures.len, ap length c.deref_mut.ensures.value))
-    (omega (arith, same.number, length-map c.hand_in.new.jobs (λ (b : Box Job). b.value), length-map before (λ (b : Box Job). b.value))) in
-    let run : jobs_in c.deref_mut-2.result.now ≡ map finished jobs =
-    ap (λ (bs : List (Box Job)). jobs_in bs) c.deref_mut-2.ensures.value ∙ c.run_pool-jobs.ensures ∙ ap (λ (bs : List (Box Job)). map (λ (b : Box Job). finished b.value) bs) whole ∙ jobs_finished c.hand_in.new.jobs in
+    let number : length c.hand_in.new.jobs ≡ length before = sym (length-map c.hand_in.new.jobs (λ (b : Box Job). b.value)) ∙ same.number ∙ length-map before (λ (b : Box Job). b.value) in
+    let run = ran c.args.jobs.len before c.hand_in.new.jobs c.run_pool-jobs.result.items c.deref_mut-2.result.now (omega (arith, c.deref_mut.ensures.len, ap length c.deref_mut.ensures.value)) number c.run_pool-jobs.ensures c.deref_mut-2.ensures.value in
     let timely = c.hand_in.ensures.timely 4294967295 (subst (λ (js : List Job). All (IsTimely 4294967295) js) (sym old) c.requires.timely)
     (subst (λ (js : List Job). HaveTimeUntil 4294967295 js c.args.entries.now c.args.seats.items) (sym old) c.requires.time) in
     ready_out 4294967295 (jobs_in before) jobs (jobs_in c.deref_mut-2.result.now) c.args.entries.now c.args.seats.items c.hand_in.new.apart.items (omega arith) c.requires.jobs c.requires.rising
@@ -30,10 +26,8 @@ returns c =
     let old : jobs_in c.deref_mut.result.now ≡ jobs_in before = ap (λ (bs : List (Box Job)). jobs_in bs) c.deref_mut.ensures.value in
     let jobs = jobs_in c.hand_in.new.jobs in
     let same : SameLegs (jobs_in before) jobs = subst (λ (js : List Job). SameLegs js jobs) old c.hand_in.ensures.same in
-    let whole = back c.args.jobs.len c.hand_in.new.jobs before (omega (arith, c.deref_mut.ensures.len, ap length c.deref_mut.ensures.value))
-    (omega (arith, same.number, length-map c.hand_in.new.jobs (λ (b : Box Job). b.value), length-map before (λ (b : Box Job). b.value))) in
-    let run : jobs_in c.deref_mut-2.result.now ≡ map finished jobs =
-    ap (λ (bs : List (Box Job)). jobs_in bs) c.deref_mut-2.ensures.value ∙ c.run_pool-jobs.ensures ∙ ap (λ (bs : List (Box Job)). map (λ (b : Box Job). finished b.value) bs) whole ∙ jobs_finished c.hand_in.new.jobs in
+    let number : length c.hand_in.new.jobs ≡ length before = sym (length-map c.hand_in.new.jobs (λ (b : Box Job). b.value)) ∙ same.number ∙ length-map before (λ (b : Box Job). b.value) in
+    let run = ran c.args.jobs.len before c.hand_in.new.jobs c.run_pool-jobs.result.items c.deref_mut-2.result.now (omega (arith, c.deref_mut.ensures.len, ap length c.deref_mut.ensures.value)) number c.run_pool-jobs.ensures c.deref_mut-2.ensures.value in
     let final = back c.run_pool-jobs.result.len c.hand_out.new.jobs c.run_pool-jobs.result.items (omega (arith, c.deref_mut-2.ensures.len, ap length c.deref_mut-2.ensures.value))
     (omega (arith, c.hand_out.ensures.same.number, length-map c.hand_out.new.jobs (λ (b : Box Job). b.value), length-map c.deref_mut-2.result.now (λ (b : Box Job). b.value), ap length c.deref_mut-2.ensures.value)) in
     let timely = subst (λ (js : List Job). (most : ℕ) → All (IsTimely most) js → HaveTimeUntil most js c.args.entries.now c.args.seats.items → All (IsTimely most) jobs) old c.hand_in.ensures.timely in

@@ -37,13 +37,8 @@ pub make_seats-requires-clause-numbers : goal.make_seats-requires-clause-numbers
 make_seats-requires-clause-numbers c =
     live_number c.farm.inside.end c.deref-2.result.now c.farm.inside.groups.items c.farm.invariant.0 (subst (λ (xs : List ℕ). AreLive xs c.farm.inside.groups.items) (sym c.deref-2.ensures.value) c.farm.invariant.1)
 
-pub overflow_cast-calls : goal.overflow_cast-calls
-overflow_cast-calls c =
-    let few = few_live c.farm.inside.end c.farm.inside.live.items c.farm.inside.groups.items c.farm.invariant.0 c.farm.invariant.1 in
-    omega (arith, few, c.len-calls.ensures)
-
-pub reserve-requires-2-clause-jobs : goal.reserve-requires-2-clause-jobs
-reserve-requires-2-clause-jobs c =
+pub reserve-requires-2-clause-calls : goal.reserve-requires-2-clause-calls
+reserve-requires-2-clause-calls c =
     let few = few_live c.farm.inside.end c.farm.inside.live.items c.farm.inside.groups.items c.farm.invariant.0 c.farm.invariant.1 in
     omega (arith, few, c.len-calls.ensures)
 
@@ -70,14 +65,14 @@ invariant_of-result c =
       subst (λ (es : List Entry). IsRound (record { start = c.args.start; ended = c.args.start + c.args.periods; live = i.live.items; tallies = i.tallies.items; failed = c.reserve.new.self.items; jobs = jobs_in c.in_ok-jobs.jobs.items; entries = es; seats = c.in_ok-seats.seats.items })) (sym whole) round,
       c.in_ok-jobs.ensures.empty,
       search rules,
+      c.in_ok-reserve-2.ensures.no_place,
+      c.in_ok-reserve-2.ensures.no_seat,
       c.in_ok-with_capacity.ensures.items,
-      c.in_ok-with_capacity-2.ensures.items,
-      c.in_ok-with_capacity-3.ensures.items,
       omega (arith, c.farm.invariant.3, c.put_in_order.ensures.capacity, c.make_jobs.ensures.capacity),
+      omega (arith, calls, c.in_ok-reserve-2.ensures.places),
+      omega (arith, calls, c.in_ok-reserve-2.ensures.seats),
       omega (arith, calls, c.in_ok-with_capacity.ensures.exact),
-      omega (arith, calls, c.in_ok-with_capacity-2.ensures.exact),
-      omega (arith, calls, c.in_ok-with_capacity-3.ensures.exact),
-      omega (arith, calls, jobs, few_groups sorted, alive.count, c.in_ok-reserve-2.ensures),
+      omega (arith, calls, jobs, few_groups sorted, alive.count, c.in_ok-reserve-2.ensures.pool),
       omega (arith, calls, c.in_ok-reserve.ensures.ok, ap length c.reserve.ensures.items, c.reserve.ensures.len),
     )
 
