@@ -1,0 +1,3 @@
+pub mod InTime
+pub mod Spans
+pub mod Periods
