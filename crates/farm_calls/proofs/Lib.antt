@@ -1,3 +1,5 @@
 pub mod InTime
 pub mod Spans
 pub mod Periods
+pub mod Items
+pub mod Frames

@@ -1,6 +1,6 @@
 -- The spans of a call are in order, and say of each period what the run says.
 use Rattle.std.proofs.Common.{◌≡◌, refl, sym, ap, ◌∙◌, subst, ℕ, ◌+◌, ◌-◌, ◌<◌, ◌≤◌, min, Bool, true, false, Option, Some, None, List, [], ◌∷◌, map, length, get_or, inl, inr, arith}
-use Rattle.std.specs.Prelude.{◌==◌, ◌&&◌, ◌||◌, if◌then◌else◌, nat_lt, nat_le, unwrap_or, filter, find, option_map}
+use Rattle.std.specs.Prelude.{◌==◌, ◌&&◌, ◌||◌, if◌then◌else◌, nat_lt, nat_le, is_some, unwrap_or, filter, find, option_map}
 use Rattle.std.specs.List.{AllByRecursion, range_with_len, list_any}
 use Rattle.std.proofs.lemmas.Bool.{and_parts, and_from, or_cases, eqb-true, eq-eqb, ne_eqb, cases_eq, cases_lt, ltb-true, lt-ltb, le-ltb, le-leb, lt-leb, leb-true}
 use Rattle.std.proofs.lemmas.List.FromFn.{length-map-range_with_len, get_or-map-range_with_len}
@@ -23,23 +23,25 @@ use Rattle.farm_calls.proofs.InTime.{IsInTime, bridges_in_time, ends_after}
 
 -- ---- a bridge's span within a call
 
-abbrev span_in : Run → Bridge → board.Span
+abbrev pub span_in : Run → Bridge → board.Span
 span_in r x = span_of (given_in r) r.periods (done_in r) x
 
 -- a span of a call lies within it
 pub record LiesIn (r : Run) (c : ℕ) (x : board.Span) : Type 0 where
+  pub known : is_some (opened_at c (done_in r)) ≡ true
   pub opened : start_in r c ≤ x.from
   pub begun : x.from ≤ x.to
   pub over : x.to ≤ end_in r c
 
-opened_before : (r : Run) (x : Bridge) (c : ℕ) → IsSoundBridge (whole_in r) r.periods (done_in r) x → joins c x ≡ true → start_in r c ≤ x.from
+-- both calls of a bridge were opened before it began
+opened_before : (r : Run) (x : Bridge) (c : ℕ) → IsSoundBridge (whole_in r) r.periods (done_in r) x → joins c x ≡ true → (s : ℕ) × (opened_at c (done_in r) ≡ Some s) × (s ≤ x.from)
 opened_before r x c y j = elim (or_cases (c == x.a) (c == x.b) j) [
-  | inl p ↦ by x.a y.start_a (eqb-true c x.a p) y.opened_a y.after_a
-  | inr p ↦ by x.b y.start_b (eqb-true c x.b p) y.opened_b y.after_b
+  | inl p ↦ (y.start_a, ap (λ d. opened_at d (done_in r)) (eqb-true c x.a p) ∙ y.opened_a, y.after_a)
+  | inr p ↦ (y.start_b, ap (λ d. opened_at d (done_in r)) (eqb-true c x.b p) ∙ y.opened_b, y.after_b)
 ]
-  where
-    by : (d s : ℕ) → c ≡ d → opened_at d (done_in r) ≡ Some s → s ≤ x.from → start_in r c ≤ x.from
-    by d s e o l = subst (λ (n : ℕ). n ≤ x.from) (sym (ap (start_in r) e ∙ start_is (done_in r) d s o)) l
+
+starts_before : (r : Run) (x : Bridge) (c : ℕ) → IsSoundBridge (whole_in r) r.periods (done_in r) x → joins c x ≡ true → start_in r c ≤ x.from
+starts_before r x c y j = let s = opened_before r x c y j in subst (λ (n : ℕ). n ≤ x.from) (sym (start_is (done_in r) c s.0 s.1)) s.2
 
 ends_before : (r : Run) (x : Bridge) (c : ℕ) → joins c x ≡ true → to_of (span_in r x) ≤ end_in r c
 ends_before r x c j = elim (or_cases (c == x.a) (c == x.b) j) [
@@ -58,7 +60,8 @@ IsBridge r x = IsSoundBridge (whole_in r) r.periods (done_in r) x × IsInTime (w
 
 bridge_lies : (r : Run) (x : Bridge) (c : ℕ) → IsBridge r x → joins c x ≡ true → LiesIn r c (span_in r x)
 bridge_lies r x c h j = record {
-  opened = opened_before r x c h.0 j;
+  known = ap is_some (opened_before r x c h.0 j).1;
+  opened = starts_before r x c h.0 j;
   begun = ends_after (given_in r) r.periods (done_in r) x h.0.from h.1;
   over = ends_before r x c j;
 }
@@ -108,7 +111,7 @@ pub spans_ordered : (r : Run) (c : ℕ) → AreOrders r.orders → AreSpans 0 (c
 spans_ordered r c a =
     let st = standing_end r a in
     in_order r c 0 (bridges (done_in r)) st st.apart (are_bridges r a)
-    (each_weaker (IsBridge r) (λ x. joins c x ≡ true → 0 + start_in r c ≤ x.from) (bridges (done_in r)) (λ x h j. let o = opened_before r x c h.0 j in omega arith) (are_bridges r a))
+    (each_weaker (IsBridge r) (λ x. joins c x ≡ true → 0 + start_in r c ≤ x.from) (bridges (done_in r)) (λ x h j. let o = starts_before r x c h.0 j in omega arith) (are_bridges r a))
 
 -- ---- the spans that are kept
 

@@ -1,11 +1,13 @@
 -- The calls of a run as wholes: each by what its own lines give, its orders, and the spans of its bridges with what its
 -- partners hand over in them.
-use Rattle.std.specs.Prelude.{ℕ, ◌+◌, ◌-◌, ◌*◌, pos, Bool, ◌&&◌, nat_lt, List, map, filter, take}
+use Rattle.std.specs.Prelude.{◌≡◌, ◌≤◌, ◌<◌, ℕ, ◌+◌, ◌-◌, ◌*◌, pos, Bool, true, ◌&&◌, nat_lt, Option, List, Contains, map, filter, take}
 use Rattle.std.specs.List.{range_with_len}
 use Rattle.trau_orders.specs.declared.order.DtxMode.TheVariants.{Uplink}
 use Rattle.switchboard.specs.declared.act.Span as board
 use Rattle.switchboard.specs.Ends.{start_of, ends_at}
-use Rattle.call_output.specs.Call.{Call, Setting, Span}
+use Rattle.frame_sync.specs.declared.yields.Yield.{Yield}
+use Rattle.rx_handler.specs.Origin.{EffectiveFields}
+use Rattle.call_output.specs.Call.{Call, Setting, Span, yield_at, effective, item_at}
 use Rattle.farm_output.specs.Run.{Run, given_in, done_in, spans_in, level_after, mode_after, done_to, ups_to, item_of, is_of, partner_in}
 
 -- the period of the run at which a call begins, the first one that it doesn't have, and how many it has
@@ -54,3 +56,23 @@ whole_call r c = record {
   settings = map (λ k. setting_in r c (start_in r c + k)) (range_with_len 0 (count_in r c));
   spans = spans_for r c;
 }
+
+-- ---- a period of a bridge
+
+-- period t of the run lies in this span of a call
+pub record IsBridged (r : Run) (c t : ℕ) (x : board.Span) : Type 0 where
+  pub span : Contains (spans_in r) x
+  pub call : is_of c x ≡ true
+  pub begun : x.from ≤ t
+  pub lasts : t < x.to
+
+-- what a call is handed in period t of the run
+abbrev pub item_for : Run → ℕ → ℕ → Option (List ℕ)
+item_for r c t = item_at (whole_call r c).spans (t - start_in r c)
+
+-- what a call's uplink yields in period t of the run, and its effective frame
+abbrev pub yield_on : Run → ℕ → ℕ → Option Yield
+yield_on r c t = yield_at (whole_call r c) (t - start_in r c)
+
+abbrev pub frame_on : Run → ℕ → ℕ → EffectiveFields
+frame_on r c t = effective (whole_call r c) (t - start_in r c)

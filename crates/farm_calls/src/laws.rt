@@ -1,17 +1,24 @@
 //! Laws of a run's calls, each the contract of a function that does nothing.
 
-ghost use Rattle.std.specs.Prelude.{◌≡◌, ℕ, true, is_some};
+ghost use Rattle.std.specs.Prelude.{◌≡◌, ◌≤◌, ◌<◌, ℕ, true, Some, None, is_some, List};
 ghost use Rattle.trau_bits.specs.Bits.{octets_of};
+ghost use Rattle.trau_params.specs.Bits260.{bits260};
+ghost use Rattle.trau_frame.specs.Frame.{data_of};
+ghost use Rattle.trau_frame.specs.Relay.{IsGoodSpeech};
 ghost use Rattle.trau_orders.specs.Lists.{AreOrders};
+ghost use Rattle.switchboard.specs.declared.act.Span.{Span};
 ghost use Rattle.switchboard.specs.Calls.{opened_at};
+ghost use Rattle.frame_sync.specs.declared.yields.Yield.TheVariants.{Frame};
+ghost use Rattle.call_leg.specs.Uplink.{handed_fields};
 ghost use Rattle.call_output.specs.Out.{out};
 ghost use Rattle.call_output.specs.Down.{down};
 ghost use Rattle.call_output.specs.Whole.{IsWhole, history_of};
-ghost use Rattle.farm_output.specs.Run.{Run, done_in, periods_in};
+ghost use Rattle.farm_output.specs.Run.{Run, done_in, partner_in, periods_in};
 ghost use Rattle.farm_output.specs.Lines.{out_of_call, down_of_call};
-ghost use Rattle.farm_calls.specs.Whole.{whole_call};
+ghost use Rattle.farm_calls.specs.Whole.{start_in, end_in, whole_call, IsBridged, item_for, yield_on, frame_on};
 
 use call_output::a_call_by_its_periods;
+use rx_handler::laws::{the_newest_is_the_last, the_table_looks_back};
 
 /// Each call of a run is a whole call: its lines give all of its periods, and its spans are in order. Its periods are
 /// those that it has in the run.
@@ -27,4 +34,24 @@ pub fn lines_are_of_whole_calls()
     ensures down { (r : Run) (c : ℕ) → AreOrders r.orders → is_some (opened_at c (done_in r)) ≡ true → down_of_call r c ≡ octets_of (down (whole_call r c)) }
 {
     a_call_by_its_periods();
+}
+
+/// What a call is handed in a period of a bridge is its partner's frame of that period; else it is handed nothing.
+pub fn items_are_the_partners_frames()
+    // Both calls have the period.
+    ensures both { (r : Run) (c t : ℕ) (x : Span) → AreOrders r.orders → IsBridged r c t x →
+        (start_in r c ≤ t) × (t < end_in r c) × (start_in r (partner_in c x) ≤ t) × (t < end_in r (partner_in c x)) }
+
+    // It is the 260 bits of the partner's effective frame, those of silence where the partner is quiet;
+    ensures frame { (r : Run) (c t : ℕ) (x : Span) → AreOrders r.orders → IsBridged r c t x →
+        item_for r c t ≡ Some (bits260 (handed_fields (frame_on r (partner_in c x) t))) }
+
+    // of a good speech frame its data bits, unchanged.
+    ensures good { (r : Run) (c t : ℕ) (x : Span) (p : ℕ) (bits : List ℕ) → AreOrders r.orders → IsBridged r c t x →
+        yield_on r (partner_in c x) t ≡ Some (Frame p bits) → IsGoodSpeech bits → item_for r c t ≡ Some (data_of bits) }
+    ensures none { (r : Run) (c t : ℕ) → AreOrders r.orders → start_in r c ≤ t → t < end_in r c →
+        ((x : Span) → IsBridged r c t x → ⊥) → item_for r c t ≡ None }
+{
+    the_newest_is_the_last();
+    the_table_looks_back();
 }

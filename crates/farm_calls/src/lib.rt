@@ -10,4 +10,4 @@
 
 mod laws;
 
-pub use laws::{calls_are_whole, lines_are_of_whole_calls};
+pub use laws::{calls_are_whole, items_are_the_partners_frames, lines_are_of_whole_calls};
