@@ -3,3 +3,5 @@ pub mod Spans
 pub mod Periods
 pub mod Items
 pub mod Frames
+pub mod Places
+pub mod Sent

@@ -5,9 +5,10 @@
 //! and, within the spans of its bridges alone, what its partners' uplinks say. What is written on its outgoing lines are
 //! the octets that the definition gives for it. Nothing here runs: the crate is for readers of a run's contract.
 //!
-//! `laws` has the laws. Definitions: `specs/Whole.antt` (a call of a run as a whole).
+//! `laws` has the laws. Definitions: `specs/Whole.antt` (a call of a run as a whole), `specs/Sent.antt` (the
+//! frames of its downlink).
 #![tactic(auto)]
 
 mod laws;
 
-pub use laws::{calls_are_whole, items_are_the_partners_frames, lines_are_of_whole_calls};
+pub use laws::{calls_are_whole, items_are_the_partners_frames, items_go_out_in_order_and_once, lines_are_of_whole_calls};
