@@ -1,7 +1,6 @@
 -- What is handed over are the bits of the effective frame, and those of a good speech frame as they came.
-use Rattle.std.proofs.Common.{◌≡◌, refl, sym, ap, ◌∙◌, subst, ℕ, zero, suc, ◌+◌, ◌-◌, ◌*◌, ◌<◌, ◌≤◌, Bool, true, Option, Some, None, List, [], ◌∷◌, ◌++◌, map, length, inl, inr, arith}
-use Rattle.std.specs.Prelude.{IfSome, All, is_some}
-use Rattle.std.specs.List.{range_with_len}
+use Rattle.std.proofs.Common.{◌≡◌, refl, sym, ap, ◌∙◌, subst, ℕ, zero, suc, ◌-◌, ◌*◌, ◌<◌, Bool, true, Option, Some, List, [], ◌∷◌, length, inl, inr, arith}
+use Rattle.std.specs.Prelude.{IfSome, is_some}
 use Rattle.std.proofs.lemmas.Bool.{cases_lt}
 use Rattle.std.proofs.lemmas.List.Elements.{All-nil, All-append}
 use Rattle.std.proofs.lemmas.List.FromFn.{length-map-range_with_len}
@@ -27,12 +26,12 @@ use Rattle.frame_sync.specs.Match.{bit_in}
 use Rattle.frame_sync.specs.Periods.{line_bits, mode_after, yield_of, CarriesFrame}
 use Rattle.frame_sync.proofs.Searched.{carries-searched}
 use Rattle.rx_handler.specs.Heard.{Heard, Good, heard_frame}
-use Rattle.rx_handler.specs.Origin.{EffectiveFields, Speech}
+use Rattle.rx_handler.specs.Origin.{Speech}
 use Rattle.rx_handler.specs.Past.{anchor_of, effective_of}
 use Rattle.switchboard.specs.declared.act.Span as board
 use Rattle.switchboard.specs.Calls.{opened_at}
 use Rattle.call_leg.specs.Uplink.{Framed, sighting_in, heard_as, words_in, handed_fields}
-use Rattle.call_leg.specs.Periods.{CallPeriod, ups_of, effective_now}
+use Rattle.call_leg.specs.Periods.{effective_now}
 use Rattle.call_output.specs.Call.{yield_at, effective}
 use Rattle.call_output.specs.History.{IsCallHistory, call_of}
 use Rattle.call_output.proofs.Ranges.{IsPeriod}

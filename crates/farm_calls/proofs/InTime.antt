@@ -1,5 +1,5 @@
 -- A bridge begins while both of its calls last, and so not after its span's end.
-use Rattle.std.proofs.Common.{◌≡◌, refl, sym, ◌∙◌, subst, ℕ, ◌+◌, ◌<◌, ◌≤◌, min, Bool, true, false, Option, Some, None, List, [], ◌∷◌, ◌++◌, inl, inr, ◌⊎◌, arith}
+use Rattle.std.proofs.Common.{◌≡◌, refl, sym, ◌∙◌, subst, ℕ, ◌+◌, ◌≤◌, min, Bool, true, false, Option, Some, None, List, [], ◌∷◌, ◌++◌, inl, inr, arith}
 use Rattle.std.specs.Prelude.{Result, Ok, Err, IfSome, unwrap_or, filter, nat_lt, nat_le, if◌then◌else◌}
 use Rattle.std.specs.List.{AllByRecursion}
 use Rattle.std.proofs.lemmas.Bool.{ltb-false}
@@ -14,12 +14,12 @@ use Rattle.switchboard.specs.Calls.{Done, opened_at, closed_at, is_open, gone_at
 use Rattle.switchboard.specs.Bridges.{ends_bridge, bridge_by, bridges}
 use Rattle.switchboard.specs.Replies.{known_of}
 use Rattle.switchboard.specs.Ends.{Given, whole_of, lack_of, ends_at, span_of}
-use Rattle.farm_output.specs.Run.{Run, whole_in, given_in, done_in}
+use Rattle.farm_output.specs.Run.{Run, whole_in, done_in}
 use Rattle.farm_output.proofs.Lists.{each_append}
-use Rattle.farm_output.proofs.Executing.{AreReplies, added, added_replies, executed-added}
+use Rattle.farm_output.proofs.Executing.{AreReplies, added_replies, executed-added}
 use Rattle.farm_output.proofs.Showing.{ShownBy, shown}
 use Rattle.farm_output.proofs.Standing.{RisesFrom, open_facts, gone_is, opened_kept, closed_cases}
-use Rattle.farm_output.proofs.Settling.{end_by, at_of, to_of, ends_by, found_stamp, closed_stamp}
+use Rattle.farm_output.proofs.Settling.{at_of, to_of, ends_by, found_stamp, closed_stamp}
 use Rattle.farm_output.proofs.SoFar.{run_rises}
 use Rattle.farm_output.proofs.History.{from_above}
 

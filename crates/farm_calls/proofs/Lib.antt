@@ -5,3 +5,4 @@ pub mod Items
 pub mod Frames
 pub mod Places
 pub mod Sent
+pub mod Carried

@@ -1,11 +1,10 @@
 -- Which frame has which item: those from the first one made in the span on, one after another.
-use Rattle.std.proofs.Common.{◌≡◌, refl, sym, ap, ◌∙◌, subst, ℕ, zero, suc, ◌+◌, ◌-◌, ◌*◌, ◌/◌, ◌<◌, ◌≤◌, ℤ, pos, Bool, true, false, Option, Some, None, List, [], ◌∷◌, length, map, inl, inr, ◌⊎◌, arith}
+use Rattle.std.proofs.Common.{◌≡◌, refl, sym, ap, ◌∙◌, subst, ℕ, zero, suc, ◌+◌, ◌-◌, ◌*◌, ◌<◌, ◌≤◌, Bool, true, false, ◌∷◌, length, map, inl, inr, ◌⊎◌, arith}
 use Rattle.std.specs.Prelude.{if◌then◌else◌, nat_le, filter, ◌↔◌}
 use Rattle.std.proofs.lemmas.Bool.{cases_Bool, cases_lt, lt-leb, le-leb, leb-true, leb-false}
-use Rattle.time_align.specs.Shift.{latest_shift, IsShift}
+use Rattle.time_align.specs.Shift.{latest_shift}
 use Rattle.time_align.proofs.Shifts.{IsShift-latest_shift}
-use Rattle.down_framer.specs.Made.{octets_of}
-use Rattle.down_framer.specs.ByNumber.{Bridge, NumberedFrame, when, count_from, item_of, fields_to, numbered_start, numbered}
+use Rattle.down_framer.specs.ByNumber.{when, count_from, item_of, fields_to, numbered_start}
 use Rattle.down_framer.proofs.Timing.{octets_of-bounds, none_or}
 use Rattle.call_output.specs.Call.{Call, Span, fields}
 use Rattle.call_output.specs.Down.{bridge_of, first_frames, frame_at, HasItem}
@@ -95,11 +94,13 @@ pub first_made : (call : Call) (span : Span) → (first : ℕ) × IsFirst call s
 first_made call span =
     let n = 160 * span.from in
     let far = starts_far call n in
-    let k = least (λ j. nat_le span.from (when (frame_at call j).start)) n (le-leb span.from (when (frame_at call n).start) (rounded span.from (numbered_start (first_frames call n)) far)) in
-    (k.0, record {
-      begun = leb-true span.from (when (frame_at call k.0).start) k.1;
-      first = λ i l. leb-false span.from (when (frame_at call i).start) (k.2 i l);
-    })
+    let k = least (λ j. nat_le span.from (when (frame_at call j).start)) n (le-leb span.from (when (frame_at call n).start) (rounded span.from (numbered_start (first_frames call n)) far)) in (
+      k.0,
+      record {
+        begun = leb-true span.from (when (frame_at call k.0).start) k.1;
+        first = λ i l. leb-false span.from (when (frame_at call i).start) (k.2 i l);
+      },
+    )
   where
     rounded : (from start : ℕ) → 160 * from ≤ start → from ≤ when start
     rounded from start l = omega arith

@@ -1,7 +1,6 @@
 -- The frames of a call as they are sent, by their numbers.
-use Rattle.std.proofs.Common.{◌≡◌, refl, sym, ap, ◌∙◌, subst, ℕ, zero, suc, ◌+◌, ◌-◌, ◌*◌, ◌<◌, ◌≤◌, Bool, true, false, Option, Some, None, List, [], ◌∷◌, ◌++◌, length, map, take, drop, reverse, get_or, inl, inr, ◌⊎◌, arith, length-append}
+use Rattle.std.proofs.Common.{◌≡◌, refl, sym, ap, ◌∙◌, subst, ℕ, zero, suc, ◌+◌, ◌-◌, ◌<◌, ◌≤◌, Bool, true, Option, Some, None, List, [], ◌∷◌, ◌++◌, length, map, take, drop, reverse, get_or, inl, inr, arith, length-append}
 use Rattle.std.specs.Prelude.{if◌then◌else◌, ◌&&◌, not, nat_lt, is_some, is_none, unwrap_or, filter, Contains, ◌↔◌}
-use Rattle.std.specs.List.{list_any}
 use Rattle.std.proofs.lemmas.Bool.{and_from, lt-ltb, cases_lt, cond-false}
 use Rattle.std.proofs.lemmas.List.{map-append, length-map, length-reverse, drop_more, take-append-drop, get_or_append_left, get_or_push}
 use Rattle.std.proofs.lemmas.List.Elements.{filter-append}
@@ -10,14 +9,14 @@ use Rattle.trau_frame.specs.declared.frames.DownFrame.TheVariants.{Speech, Idle}
 use Rattle.trau_orders.specs.Lists.{AreOrders}
 use Rattle.switchboard.specs.declared.act.Span as board
 use Rattle.switchboard.specs.Calls.{opened_at}
-use Rattle.down_framer.specs.ByNumber.{NumberedFrame, when, numbered, bridges_in, fields_in, numbered_of}
+use Rattle.down_framer.specs.ByNumber.{when, numbered_of}
 use Rattle.call_leg.specs.Periods.{CallPeriod}
 use Rattle.call_leg.specs.Down.{down_periods, frames_of}
 use Rattle.call_output.specs.Call.{Call, Span, is_quiet_at, item_at}
 use Rattle.call_output.specs.Down.{first_frames, frame_at, made, HasItem, is_coded, goes_on, uncoded, stretch_frames, down_frames}
 use Rattle.call_output.specs.History.{IsCallHistory, call_of}
 use Rattle.call_output.specs.Whole.{IsWhole, history_of}
-use Rattle.call_output.proofs.Stretched.{reverse-more, before, stretched-more}
+use Rattle.call_output.proofs.Stretched.{before, stretched-more}
 use Rattle.call_output.proofs.Items.{made-in_order}
 use Rattle.call_output.proofs.Frames.{made-read, first-read}
 use Rattle.call_output.proofs.Sending.{frame_after, adds-frame}
@@ -25,7 +24,6 @@ use Rattle.call_output.proofs.Whole.{history-whole, call-whole}
 use Rattle.farm_output.specs.Run.{Run, done_in, spans_in, is_of}
 use Rattle.farm_calls.specs.Whole.{start_in, end_in, begins_in, span_for, whole_call, IsBridged, item_for}
 use Rattle.farm_calls.specs.Sent.{frame_count, sent_frames, sent_frame, HasHanded, IsFirst}
-use Rattle.farm_calls.proofs.Spans.{LiesIn}
 use Rattle.farm_calls.proofs.Periods.{is_whole}
 use Rattle.farm_calls.proofs.Items.{bridged_lies}
 use Rattle.farm_calls.proofs.Places.{item_place, first_made}

@@ -1,15 +1,15 @@
 -- The spans of a call are in order, and say of each period what the run says.
-use Rattle.std.proofs.Common.{◌≡◌, refl, sym, ap, ◌∙◌, subst, ℕ, ◌+◌, ◌-◌, ◌<◌, ◌≤◌, min, Bool, true, false, Option, Some, None, List, [], ◌∷◌, map, length, get_or, inl, inr, arith}
+use Rattle.std.proofs.Common.{◌≡◌, refl, sym, ap, ◌∙◌, subst, ℕ, ◌+◌, ◌-◌, ◌<◌, ◌≤◌, min, Bool, true, false, Some, List, [], ◌∷◌, map, length, get_or, inl, inr, arith}
 use Rattle.std.specs.Prelude.{◌==◌, ◌&&◌, ◌||◌, if◌then◌else◌, nat_lt, nat_le, is_some, unwrap_or, filter, find, option_map}
-use Rattle.std.specs.List.{AllByRecursion, range_with_len, list_any}
+use Rattle.std.specs.List.{AllByRecursion, list_any}
 use Rattle.std.proofs.lemmas.Bool.{and_parts, and_from, or_cases, eqb-true, eq-eqb, ne_eqb, cases_eq, cases_lt, ltb-true, lt-ltb, le-ltb, le-leb, lt-leb, leb-true}
 use Rattle.std.proofs.lemmas.List.FromFn.{length-map-range_with_len, get_or-map-range_with_len}
 use Rattle.trau_orders.specs.Lists.{AreOrders}
 use Rattle.switchboard.specs.declared.act.Span as board
 use Rattle.switchboard.specs.declared.table.Bridge.{Bridge}
-use Rattle.switchboard.specs.Calls.{Done, opened_at}
+use Rattle.switchboard.specs.Calls.{opened_at}
 use Rattle.switchboard.specs.Bridges.{bridges, joins}
-use Rattle.switchboard.specs.Ends.{Given, whole_of, ends_at, span_of, spans_of}
+use Rattle.switchboard.specs.Ends.{span_of}
 use Rattle.call_output.specs.Call.{Span, item_at, starts_at}
 use Rattle.call_output.specs.Whole.{AreSpans}
 use Rattle.farm_output.specs.Run.{Run, whole_in, given_in, done_in, spans_in, is_of, partner_in, handed_to}
@@ -101,10 +101,15 @@ in_order r c low (x ∷ xs) st n h l = by (λ low k. in_order r c low xs st n.1 
     by rest true e =
         let q = and_parts (joins c x) (nat_lt x.from (end_in r c)) e in
         let k = bridge_lies r x c h.0 q.0 in
-        let p = placed low (start_in r c) x.from (to_of (span_in r x)) (end_in r c) (length (span_for r c (span_in r x)).items) (l.0 q.0) k.opened k.begun k.over (ltb-true x.from (end_in r c) q.1) (length-items r c (span_in r x)) in
-        (p.0, p.1, p.2, p.3, rest (to_of (span_in r x) - start_in r c + 1)
-        (each_weaker (λ y. (c : ℕ) → joins c x ≡ true → joins c y ≡ true → over_by (whole_in r) y.from (done_in r) x ≡ true) (λ y. joins c y ≡ true → to_of (span_in r x) - start_in r c + 1 + start_in r c ≤ y.from) xs
-        (λ y f j. apart (to_of (span_in r x)) (start_in r c) x.from y.from k.opened k.begun (over_within (given_in r) r.periods y.from (done_in r) x st h.0.0 (f c q.0 j))) n.0))
+        let p = placed low (start_in r c) x.from (to_of (span_in r x)) (end_in r c) (length (span_for r c (span_in r x)).items) (l.0 q.0) k.opened k.begun k.over (ltb-true x.from (end_in r c) q.1) (length-items r c (span_in r x)) in (
+          p.0,
+          p.1,
+          p.2,
+          p.3,
+          rest (to_of (span_in r x) - start_in r c + 1)
+              (each_weaker (λ y. (c : ℕ) → joins c x ≡ true → joins c y ≡ true → over_by (whole_in r) y.from (done_in r) x ≡ true) (λ y. joins c y ≡ true → to_of (span_in r x) - start_in r c + 1 + start_in r c ≤ y.from) xs
+              (λ y f j. apart (to_of (span_in r x)) (start_in r c) x.from y.from k.opened k.begun (over_within (given_in r) r.periods y.from (done_in r) x st h.0.0 (f c q.0 j))) n.0),
+        )
 
 -- **The spans of a call are in order, each with a period to the next.**
 pub spans_ordered : (r : Run) (c : ℕ) → AreOrders r.orders → AreSpans 0 (count_in r c) (spans_for r c)

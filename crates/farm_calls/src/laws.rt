@@ -13,7 +13,7 @@ ghost use Rattle.frame_sync.specs.declared.yields.Yield.TheVariants.{Frame};
 ghost use Rattle.call_leg.specs.Uplink.{handed_fields};
 ghost use Rattle.call_output.specs.Call.{Call, Span as CallSpan};
 ghost use Rattle.call_output.specs.Out.{out};
-ghost use Rattle.call_output.specs.Down.{down};
+ghost use Rattle.call_output.specs.Down.{frame_at, down};
 ghost use Rattle.call_output.specs.Whole.{IsWhole, history_of};
 ghost use Rattle.farm_output.specs.Run.{Run, done_in, partner_in, periods_in};
 ghost use Rattle.farm_output.specs.Lines.{out_of_call, down_of_call};
@@ -59,7 +59,7 @@ pub fn items_are_the_partners_frames()
     the_table_looks_back();
 }
 
-/// What is handed to a call goes out on its downlink in order and once, in frames that carry nothing else.
+/// What is handed to a call goes out on its downlink in order and once.
 pub fn items_go_out_in_order_and_once()
     // Each frame that is made is sent.
     ensures each { (r : Run) (c : ℕ) → AreOrders r.orders → is_some (opened_at c (done_in r)) ≡ true →
@@ -72,6 +72,10 @@ pub fn items_go_out_in_order_and_once()
     // a good speech frame's 260 bits go out unchanged.
     ensures good { (r : Run) (c t j : ℕ) (x : Span) (p : ℕ) (bits : List ℕ) → AreOrders r.orders → IsBridged r c t x → j < frame_count r c → HasHanded r c x t j →
         yield_on r (partner_in c x) t ≡ Some (Frame p bits) → IsGoodSpeech bits → sent_frame r c j ≡ Speech (data_of bits) true }
+
+    // A frame carries nothing else: period h of the call is one of a bridge.
+    ensures only { (r : Run) (c j h : ℕ) → AreOrders r.orders → (frame_at (whole_call r c) j).carries ≡ Some h →
+        (x : Span) × IsBridged r c (start_in r c + h) x × HasHanded r c x (start_in r c + h) j }
 
     // Period by period it goes out in the first frame made in the span and in those after it, one for each;
     ensures first { (call : Call) (span : CallSpan) → (first : ℕ) × IsFirst call span first }

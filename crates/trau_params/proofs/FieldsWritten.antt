@@ -1,14 +1,13 @@
 -- 260 bits are those of the fields that they carry.
-use Rattle.std.proofs.Common.{◌≡◌, ℕ, ◌+◌, ◌*◌, ◌^◌, ◌<◌, ◌≤◌, zero, suc, List, [], ◌∷◌, ◌++◌, length, drop, get_or, refl, sym, ap, ◌∙◌, append_assoc, arith}
+use Rattle.std.proofs.Common.{◌≡◌, ℕ, ◌+◌, ◌*◌, ◌^◌, ◌≤◌, zero, suc, List, [], ◌∷◌, ◌++◌, length, drop, get_or, refl, sym, ap, ◌∙◌, append_assoc, arith}
 use Rattle.std.specs.Prelude.{sum}
-use Rattle.std.specs.List.{range_with_len, flat_map}
 use Rattle.std.proofs.lemmas.List.{drop_more, drop_all}
 use Rattle.std.proofs.lemmas.List.Sums.{sum_by-cons}
 use Rattle.std.proofs.lemmas.Nat.{pow-add}
 use Rattle.trau_params.specs.Widths.{larc_widths, block_widths}
 use Rattle.trau_params.specs.FieldBits.{AreBits, low_bits, field_bits}
 use Rattle.trau_params.specs.Fields.{number_at, fields_in}
-use Rattle.trau_params.specs.Bits260.{bits260, values_in}
+use Rattle.trau_params.specs.Bits260.{bits260}
 use Rattle.trau_params.proofs.FieldsRead.{number_at-none, number_at-more}
 use Rattle.trau_params.proofs.Prefixes.{low_bits-front}
 

@@ -1,4 +1,4 @@
-use Rattle.std.proofs.Common.{◌≡◌, sym, ap, ◌∙◌, ℕ, List, [], ◌∷◌, ◌++◌}
+use Rattle.std.proofs.Common.{sym, ap, ◌∙◌}
 use Rattle.trau_bits.specs.Bits.{octets_of}
 use Rattle.call_output.specs.Whole.{history_of}
 use Rattle.farm_output.specs.Lines.{out_line, down_octets}
