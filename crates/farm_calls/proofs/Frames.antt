@@ -51,9 +51,9 @@ record HasPeriod (r : Run) (c k : ℕ) : Type 0 where
   known : is_some (opened_at c (done_in r)) ≡ true
   within : k < count_in r c
 
-length-periods : (r : Run) (c n : ℕ) → length (periods_to r c n) ≡ n
-length-periods r c zero = refl
-length-periods r c (suc n) = ap suc (length-periods r c n)
+length-periods_to : (r : Run) (c n : ℕ) → length (periods_to r c n) ≡ n
+length-periods_to r c zero = refl
+length-periods_to r c (suc n) = ap suc (length-periods_to r c n)
 
 period_among : (r : Run) (c k n : ℕ) → k < n → IsPeriod (periods_to r c n) (period_of r c k) (periods_to r c k)
 period_among r c k zero l = absurd (omega arith)
@@ -70,13 +70,13 @@ as_call r c k h = sym (call-whole (whole_call r c) (is_whole r c h.orders h.know
 
 frame_known : LooksBack → (r : Run) (c k : ℕ) → HasPeriod r c k → effective (whole_call r c) k ≡ effective_now c (periods_to r c (suc k))
 frame_known look r c k h =
-    ap (λ n. effective (whole_call r c) n) (sym (length-periods r c k)) ∙ ap (λ call. effective call (length (periods_to r c k))) (as_call r c k h)
+    ap (λ n. effective (whole_call r c) n) (sym (length-periods_to r c k)) ∙ ap (λ call. effective call (length (periods_to r c k))) (as_call r c k h)
     ∙ effective-period look c (periods_in r c) (period_of r c k) (periods_to r c k) (as_history r c k h) (period_among r c k (count_in r c) h.within)
 
 yield_known : (r : Run) (c k : ℕ) → HasPeriod r c k → yield_at (whole_call r c) k ≡ yield_of (up_in r c k) (ups_to r c k)
 unfolding period_of
 yield_known r c k h =
-    ap (λ n. yield_at (whole_call r c) n) (sym (length-periods r c k)) ∙ ap (λ call. yield_at call (length (periods_to r c k))) (as_call r c k h)
+    ap (λ n. yield_at (whole_call r c) n) (sym (length-periods_to r c k)) ∙ ap (λ call. yield_at call (length (periods_to r c k))) (as_call r c k h)
     ∙ yield-period c (periods_in r c) (period_of r c k) (periods_to r c k) (as_history r c k h) (period_among r c k (count_in r c) h.within)
     ∙ ap (yield_of (up_in r c k)) (ups_periods r c k)
 

@@ -2,7 +2,7 @@
 use Rattle.std.proofs.Common.{◌≡◌, refl, sym, ap, ◌∙◌, ℕ, suc, ◌+◌, ◌-◌, ◌<◌, ◌≤◌, Bool, true, false, Option, Some, None, List, [], ◌∷◌, arith}
 use Rattle.std.specs.Prelude.{◌==◌, ◌&&◌, if◌then◌else◌, nat_lt, nat_le, Contains, find, option_map}
 use Rattle.std.specs.List.{AllByRecursion}
-use Rattle.std.proofs.lemmas.Bool.{and_parts, and_from, eq-eqb, ltb-true, lt-ltb, le-leb, leb-true, or_left, or_right, false_from_ne_true}
+use Rattle.std.proofs.lemmas.Bool.{true≢false, and_parts, and_from, eq-eqb, ltb-true, lt-ltb, le-leb, leb-true, or_left, or_right, false_from_ne_true}
 use Rattle.std.proofs.lemmas.List.Elements.{All-from_recursion, recursion_from_All, All-contains, All-contains_itself}
 use Rattle.trau_orders.specs.Lists.{AreOrders}
 use Rattle.switchboard.specs.declared.act.Span as board
@@ -18,9 +18,6 @@ use Rattle.farm_calls.specs.Whole.{start_in, end_in, item_in, IsBridged, item_fo
 use Rattle.farm_calls.proofs.Spans.{LiesIn, span_in, spans_lie, handed_in}
 
 -- ---- the span of a period
-
-no : (t : Bool) → t ≡ false → t ≡ true → ⊥
-no t p q = cc
 
 -- of a call's bridges one at most covers a period
 one_covers : (r : Run) (c t : ℕ) (xs : List Bridge) → Standing (whole_in r) r.periods (done_in r) → NeverOverlap (whole_in r) (done_in r) xs →
@@ -48,7 +45,7 @@ find_is : {X : Type 0} (p : X → Bool) (xs : List X) (x : X) → AtMostOne p xs
 find_is p xs x one has passes = by (find p xs) refl
   where
     by : (o : Option _) → find p xs ≡ o → o ≡ Some x
-    by None e = absurd (no (p x) (All-contains (λ x. p x ≡ false) xs x (All-from_recursion (λ x. p x ≡ false) xs (none_each p xs e)) has) passes)
+    by None e = absurd (true≢false (sym passes ∙ All-contains (λ x. p x ≡ false) xs x (All-from_recursion (λ x. p x ≡ false) xs (none_each p xs e)) has))
     by (Some y) e = ap Some (sym (All-contains (λ x. p x ≡ true → x ≡ y) xs x (All-from_recursion (λ x. p x ≡ true → x ≡ y) xs (one_found p xs y one e)) has passes))
 
 bridged_covers : (r : Run) (c t : ℕ) (x : board.Span) → IsBridged r c t x → covers c t x ≡ true

@@ -6,3 +6,4 @@ pub mod Frames
 pub mod Places
 pub mod Sent
 pub mod Carried
+pub mod OnLine

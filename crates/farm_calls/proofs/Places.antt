@@ -2,7 +2,7 @@
 use Rattle.std.proofs.Common.{◌≡◌, refl, sym, ap, ◌∙◌, subst, ℕ, zero, suc, ◌+◌, ◌-◌, ◌*◌, ◌<◌, ◌≤◌, Bool, true, false, ◌∷◌, length, map, inl, inr, ◌⊎◌, arith}
 use Rattle.std.specs.Prelude.{if◌then◌else◌, nat_le, filter, ◌↔◌}
 use Rattle.std.proofs.lemmas.Bool.{cases_Bool, cases_lt, lt-leb, le-leb, leb-true, leb-false}
-use Rattle.time_align.specs.Shift.{latest_shift}
+use Rattle.time_align.specs.Shift.{latest_shift, IsShift}
 use Rattle.time_align.proofs.Shifts.{IsShift-latest_shift}
 use Rattle.down_framer.specs.ByNumber.{when, count_from, item_of, fields_to, numbered_start}
 use Rattle.down_framer.proofs.Timing.{octets_of-bounds, none_or}
@@ -65,15 +65,18 @@ item_place call span first j i f l = (there, here)
 
 -- ---- there is a first one
 
+pub shift_allowed : (call : Call) (j : ℕ) → IsShift (frame_at call j).shift
+shift_allowed call j =
+    let before = first_frames call j in
+    let w = when (numbered_start before) in
+    let counting = fields_to (fields call) w before in
+    none_or (item_of (map bridge_of call.spans) w before) (latest_shift counting) (IsShift-latest_shift counting)
+
 starts_far : (call : Call) (n : ℕ) → n ≤ numbered_start (first_frames call n)
 starts_far call zero = omega arith
 starts_far call (suc n) =
-    let before = first_frames call n in
-    let w = when (numbered_start before) in
-    let item = item_of (map bridge_of call.spans) w before in
-    let shift = latest_shift (fields_to (fields call) w before) in
     let rest = starts_far call n in
-    let more = octets_of-bounds (frame_at call n).shift (none_or item shift (IsShift-latest_shift (fields_to (fields call) w before))) in
+    let more = octets_of-bounds (frame_at call n).shift (shift_allowed call n) in
     let long = more.0 in
     omega arith
 

@@ -37,26 +37,26 @@ made_read number ts h =
     made-read number ts h ∙ ap reverse (made-in_order (down_periods ts) h.bridges) ∙ ap reverse (sym (first-read number ts (length (frames_of ts)) h))
     ∙ ap (λ m. reverse (first_frames call m)) (sym n)
 
-made_first : (call : Call) → IsWhole call → made call ≡ reverse (first_frames call (length (made call)))
+pub made_first : (call : Call) → IsWhole call → made call ≡ reverse (first_frames call (length (made call)))
 made_first call h = subst (λ call. made call ≡ reverse (first_frames call (length (made call)))) (call-whole call h) (made_read call.number (history_of call) (history-whole call h))
 
 -- ---- as they are sent
 
 -- frame j as it is sent after those before it
-frame_sent : Call → ℕ → DownFrame
+pub frame_sent : Call → ℕ → DownFrame
 frame_sent call j = frame_after call (frame_at call j) (before (goes_on call) (frame_at call j) (first_frames call j))
 
-sent_more : (call : Call) (m : ℕ) → down_frames call (reverse (first_frames call (suc m))) ≡ down_frames call (reverse (first_frames call m)) ++ frame_sent call m ∷ []
+pub sent_more : (call : Call) (m : ℕ) → down_frames call (reverse (first_frames call (suc m))) ≡ down_frames call (reverse (first_frames call m)) ++ frame_sent call m ∷ []
 unfolding frame_sent
 sent_more call m = stretched-more (goes_on call) (stretch_frames call) (λ f s. frame_after call f s ∷ []) (adds-frame call) (frame_at call m) (first_frames call m)
 
-length-sent : (call : Call) (m : ℕ) → length (down_frames call (reverse (first_frames call m))) ≡ m
+pub length-sent : (call : Call) (m : ℕ) → length (down_frames call (reverse (first_frames call m))) ≡ m
 length-sent call zero = refl
 length-sent call (suc m) =
     let rest = length-sent call m in
     ap length (sent_more call m) ∙ length-append (down_frames call (reverse (first_frames call m))) (frame_sent call m ∷ []) ∙ omega arith
 
-sent_at : (call : Call) (m j : ℕ) → j < m → get_or (down_frames call (reverse (first_frames call m))) j Idle ≡ frame_sent call j
+pub sent_at : (call : Call) (m j : ℕ) → j < m → get_or (down_frames call (reverse (first_frames call m))) j Idle ≡ frame_sent call j
 sent_at call zero j l = absurd (omega arith)
 sent_at call (suc m) j l =
     let n = length-sent call m in
@@ -104,21 +104,28 @@ abbrev pub CarriesItems : Type 0
 CarriesItems = (call : Call) (before after : List Span) (span : Span) (j i : ℕ) → IsWhole call → call.spans ≡ before ++ span ∷ after → j < length (made call) → HasItem call span j i →
     (frame_at call j).carries ≡ Some (span.from + i)
 
--- **The frame that has what is handed over in a period is the speech frame of it.**
-pub sent_handed : CarriesItems → (r : Run) (c t j : ℕ) (x : board.Span) (item : List ℕ) → AreOrders r.orders → IsBridged r c t x → j < frame_count r c → HasHanded r c x t j → item_for r c t ≡ Some item →
-    sent_frame r c j ≡ Speech item true
-sent_handed items r c t j x item a b l h e =
-    let call = whole_call r c in
+-- **The frame that has what is handed over in a period carries that period.**
+pub handed_carried : CarriesItems → (r : Run) (c t j : ℕ) (x : board.Span) → AreOrders r.orders → IsBridged r c t x → j < frame_count r c → HasHanded r c x t j →
+    (frame_at (whole_call r c) j).carries ≡ Some (t - start_in r c)
+handed_carried items r c t j x a b l h =
     let k = bridged_lies r c t x a b in
-    let whole = is_whole r c a k.known in
     let among = kept_among (begins_in r c) (span_for r c) (spans_in r) x b.span (bridged_begins r c t x a b) in
-    let place : x.from - start_in r c + (t - x.from) ≡ t - start_in r c = counted (start_in r c) x.from t k.opened b.begun in
-    ap (λ fs. get_or (down_frames call fs) j Idle) (made_first call whole) ∙ sent_at call (frame_count r c) j l
-    ∙ carrying call j (t - start_in r c) (items call among.0 among.1 (span_for r c x) j (t - x.from) whole among.2 l h ∙ ap Some place)
-    ∙ ap (λ o. Speech (unwrap_or o []) true) e
+    items (whole_call r c) among.0 among.1 (span_for r c x) j (t - x.from) (is_whole r c a k.known) among.2 l h ∙ ap Some (counted (start_in r c) x.from t k.opened b.begun)
   where
     counted : (s from t : ℕ) → s ≤ from → from ≤ t → from - s + (t - from) ≡ t - s
     counted s from t k l = omega arith
+
+pub frame_is : (r : Run) (c t j : ℕ) (x : board.Span) → AreOrders r.orders → IsBridged r c t x → j < frame_count r c → sent_frame r c j ≡ frame_sent (whole_call r c) j
+frame_is r c t j x a b l =
+    let call = whole_call r c in
+    let whole = is_whole r c a (bridged_lies r c t x a b).known in
+    ap (λ fs. get_or (down_frames call fs) j Idle) (made_first call whole) ∙ sent_at call (frame_count r c) j l
+
+-- **It is the speech frame of what is handed over.**
+pub sent_handed : CarriesItems → (r : Run) (c t j : ℕ) (x : board.Span) (item : List ℕ) → AreOrders r.orders → IsBridged r c t x → j < frame_count r c → HasHanded r c x t j → item_for r c t ≡ Some item →
+    sent_frame r c j ≡ Speech item true
+sent_handed items r c t j x item a b l h e =
+    frame_is r c t j x a b l ∙ carrying (whole_call r c) j (t - start_in r c) (handed_carried items r c t j x a b l h) ∙ ap (λ o. Speech (unwrap_or o []) true) e
 
 -- ---- in order, and once
 

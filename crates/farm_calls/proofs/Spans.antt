@@ -2,7 +2,7 @@
 use Rattle.std.proofs.Common.{◌≡◌, refl, sym, ap, ◌∙◌, subst, ℕ, ◌+◌, ◌-◌, ◌<◌, ◌≤◌, min, Bool, true, false, Some, List, [], ◌∷◌, map, length, get_or, inl, inr, arith}
 use Rattle.std.specs.Prelude.{◌==◌, ◌&&◌, ◌||◌, if◌then◌else◌, nat_lt, nat_le, is_some, unwrap_or, filter, find, option_map}
 use Rattle.std.specs.List.{AllByRecursion, list_any}
-use Rattle.std.proofs.lemmas.Bool.{and_parts, and_from, or_cases, eqb-true, eq-eqb, ne_eqb, cases_eq, cases_lt, ltb-true, lt-ltb, le-ltb, le-leb, lt-leb, leb-true}
+use Rattle.std.proofs.lemmas.Bool.{and_parts, and_from, and_right, or_cases, eqb-true, eq-eqb, ne_eqb, cases_eq, cases_lt, ltb-true, lt-ltb, le-ltb, le-leb, lt-leb, leb-true}
 use Rattle.std.proofs.lemmas.List.FromFn.{length-map-range_with_len, get_or-map-range_with_len}
 use Rattle.trau_orders.specs.Lists.{AreOrders}
 use Rattle.switchboard.specs.declared.act.Span as board
@@ -144,17 +144,13 @@ item_kept q f g v k (x ∷ xs) h = by (q x) (nat_le (f x).from k && nat_lt k (f 
 
 -- ---- each period
 
-second : (a b : Bool) → b ≡ false → (a && b) ≡ false
-second true b e = e
-second false b e = refl
-
 starts_test : (j : Bool) (s from e k : ℕ) → (j ≡ true → s ≤ from) → k < e - s → ((j && nat_lt from e) && from - s == k) ≡ (j && from == s + k)
 starts_test false s from e k h l = refl
 starts_test true s from e k h l =
     let m : s ≤ from = h refl in
     elim (cases_eq from (s + k)) [
       | inl p ↦ and_from (nat_lt from e) (from - s == k) (lt-ltb from e (omega arith)) (eq-eqb (from - s) k (omega arith)) ∙ sym (eq-eqb from (s + k) p)
-      | inr p ↦ second (nat_lt from e) (from - s == k) (ne_eqb (from - s) k (λ q. p (omega arith))) ∙ sym (ne_eqb from (s + k) p)
+      | inr p ↦ and_right (nat_lt from e) (from - s == k) (ne_eqb (from - s) k (λ q. p (omega arith))) ∙ sym (ne_eqb from (s + k) p)
     ]
 
 -- **A span of the call starts where one of the run does.**
@@ -170,7 +166,7 @@ covers_test true s from to e k h l =
     let m : s ≤ from = h refl in
     elim (cases_lt (s + k) from) [
       | inl p ↦
-          second (nat_lt from e) (nat_le (from - s) k && nat_lt k (to - s)) (ap (λ t. t && nat_lt k (to - s)) (lt-leb (from - s) k (omega arith)))
+          and_right (nat_lt from e) (nat_le (from - s) k && nat_lt k (to - s)) (ap (λ t. t && nat_lt k (to - s)) (lt-leb (from - s) k (omega arith)))
           ∙ sym (ap (λ t. t && nat_lt (s + k) to) (lt-leb from (s + k) p))
       | inr p ↦
           ap (λ t. t && (nat_le (from - s) k && nat_lt k (to - s))) (lt-ltb from e (omega arith)) ∙ ap (λ t. t && nat_lt k (to - s)) (le-leb (from - s) k (omega arith)) ∙ last

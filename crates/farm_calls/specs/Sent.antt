@@ -1,6 +1,6 @@
 -- The frames of a call's downlink, and which of them has what its partner hands over in a period. Frames are numbered
 -- from 0.
-use Rattle.std.specs.Prelude.{◌≤◌, ◌<◌, ℕ, ◌-◌, List, length, slice_index_or}
+use Rattle.std.specs.Prelude.{◌≤◌, ◌<◌, ℕ, ◌+◌, ◌-◌, ◌*◌, List, length, slice_index_or}
 use Rattle.trau_frame.specs.declared.frames.DownFrame.{DownFrame}
 use Rattle.trau_frame.specs.declared.frames.DownFrame.TheVariants.{Idle}
 use Rattle.switchboard.specs.declared.act.Span as board
@@ -19,6 +19,10 @@ sent_frames r c = down_frames (whole_call r c) (made (whole_call r c))
 
 abbrev pub sent_frame : Run → ℕ → ℕ → DownFrame
 sent_frame r c j = slice_index_or (sent_frames r c) j Idle
+
+-- the bit of the Down line at which it begins: behind 320 ones, two for each octet of the Pcm line before its start
+abbrev pub place_in : Run → ℕ → ℕ → ℕ
+place_in r c j = 320 + 2 * (frame_at (whole_call r c) j).start
 
 -- frame j of call c has what is handed over in period t of the run, one of span x
 abbrev pub HasHanded : Run → ℕ → board.Span → ℕ → ℕ → Type 0

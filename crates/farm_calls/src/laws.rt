@@ -1,10 +1,11 @@
 //! Laws of a run's calls, each the contract of a function that does nothing.
 
-ghost use Rattle.std.specs.Prelude.{◌≡◌, ◌≤◌, ◌<◌, ◌↔◌, ℕ, ◌+◌, ◌-◌, true, Some, None, is_some, List, length};
+ghost use Rattle.std.specs.Prelude.{◌≡◌, ◌≤◌, ◌<◌, ◌↔◌, ℕ, ◌+◌, ◌-◌, true, Some, None, is_some, List, length, slice_index};
 ghost use Rattle.trau_bits.specs.Bits.{octets_of};
 ghost use Rattle.trau_params.specs.Bits260.{bits260};
 ghost use Rattle.trau_frame.specs.declared.frames.DownFrame.TheVariants.{Speech};
 ghost use Rattle.trau_frame.specs.Frame.{data_of};
+ghost use Rattle.trau_frame.specs.DownFrame.{down_bits};
 ghost use Rattle.trau_frame.specs.Relay.{IsGoodSpeech};
 ghost use Rattle.trau_orders.specs.Lists.{AreOrders};
 ghost use Rattle.switchboard.specs.declared.act.Span.{Span};
@@ -18,7 +19,7 @@ ghost use Rattle.call_output.specs.Whole.{IsWhole, history_of};
 ghost use Rattle.farm_output.specs.Run.{Run, done_in, partner_in, periods_in};
 ghost use Rattle.farm_output.specs.Lines.{out_of_call, down_of_call};
 ghost use Rattle.farm_calls.specs.Whole.{start_in, end_in, span_for, whole_call, IsBridged, item_for, yield_on, frame_on};
-ghost use Rattle.farm_calls.specs.Sent.{frame_count, sent_frames, sent_frame, HasHanded, IsFirst};
+ghost use Rattle.farm_calls.specs.Sent.{frame_count, sent_frames, sent_frame, place_in, HasHanded, IsFirst};
 
 use call_output::{a_call_by_its_periods, frames_of_a_call};
 use rx_handler::laws::{the_newest_is_the_last, the_table_looks_back};
@@ -72,6 +73,11 @@ pub fn items_go_out_in_order_and_once()
     // a good speech frame's 260 bits go out unchanged.
     ensures good { (r : Run) (c t j : ℕ) (x : Span) (p : ℕ) (bits : List ℕ) → AreOrders r.orders → IsBridged r c t x → j < frame_count r c → HasHanded r c x t j →
         yield_on r (partner_in c x) t ≡ Some (Frame p bits) → IsGoodSpeech bits → sent_frame r c j ≡ Speech (data_of bits) true }
+
+    // Its 320 bits stand on the Down line one after another, as far as the line goes.
+    ensures on_line { (r : Run) (c t j k : ℕ) (x : Span) → AreOrders r.orders → IsBridged r c t x → j < frame_count r c → HasHanded r c x t j →
+        k < 320 → place_in r c j + k < length (down (whole_call r c)) →
+        slice_index (down (whole_call r c)) (place_in r c j + k) ≡ slice_index (down_bits (sent_frame r c j)) k }
 
     // A frame carries nothing else: period h of the call is one of a bridge.
     ensures only { (r : Run) (c j h : ℕ) → AreOrders r.orders → (frame_at (whole_call r c) j).carries ≡ Some h →
