@@ -45,7 +45,7 @@ bridges-read (t ∷ past) = by t.starts (bridges-read past)
 -- ---- the frames of the call's periods
 
 -- no later frame starts earlier
-later_starts : (bridges : List Bridge) (fields : List (Option ℕ)) (m j : ℕ) → m ≤ j → numbered_start (numbered bridges fields m) ≤ numbered_start (numbered bridges fields j)
+pub later_starts : (bridges : List Bridge) (fields : List (Option ℕ)) (m j : ℕ) → m ≤ j → numbered_start (numbered bridges fields m) ≤ numbered_start (numbered bridges fields j)
 later_starts bridges fields m zero l = let e : m ≡ 0 = omega arith in subst (λ m. numbered_start (numbered bridges fields m) ≤ numbered_start (numbered bridges fields zero)) (sym e) (omega arith)
 later_starts bridges fields m (suc j) l = elim (cases_lt j m) [
   | inl now ↦ let e : m ≡ suc j = omega arith in subst (λ m. numbered_start (numbered bridges fields m) ≤ numbered_start (numbered bridges fields (suc j))) (sym e) (omega arith)
@@ -93,7 +93,7 @@ bridges-of : (ts : List CallPeriod) → map bridge_of (reverse (spans_of ts)) �
 bridges-of ts = map-reverse bridge_of (spans_of ts) ∙ ap reverse (bridges-read ts)
 
 -- the first frames of the call, by the periods
-first-read : (number : ℕ) (ts : List CallPeriod) (j : ℕ) → IsCallHistory ts →
+pub first-read : (number : ℕ) (ts : List CallPeriod) (j : ℕ) → IsCallHistory ts →
     first_frames (call_of number ts) j ≡ numbered (reverse (bridges_in (down_periods ts))) (fields_in (down_periods ts)) j
 first-read number ts j h =
     ap (λ bs. numbered bs (fields (call_of number ts)) j) (bridges-of ts) ∙

@@ -15,7 +15,7 @@ use Rattle.down_framer.specs.ByNumber.{fields_in}
 use Rattle.call_leg.specs.Uplink.{sighting_in, heard_as, field_of, dtxd_after}
 use Rattle.call_leg.specs.Periods.{CallPeriod, ups_of, sighting_after, heard_of, effective_now, dtxd_of, dtx_in, dtx_now}
 use Rattle.call_leg.specs.Down.{down_periods}
-use Rattle.call_output.specs.Call.{setting_at, each_period, up_periods, seen_at, heard_at, effective, fields, dtxd_at, dtx_at}
+use Rattle.call_output.specs.Call.{setting_at, each_period, up_periods, yield_at, seen_at, heard_at, effective, fields, dtxd_at, dtx_at}
 use Rattle.call_output.specs.History.{IsCallHistory, up_of, setting_of, settings_of, call_of}
 use Rattle.call_output.proofs.Ranges.{IsPeriod, one_before, each, each-numbered, each_back, each-reverse, each-at}
 
@@ -75,14 +75,18 @@ unfolding each_yield
 yields-each [] = refl
 yields-each (t ∷ past) = ap (λ z. z ++ yield_of t.up (ups_of past) ∷ []) (yields-each past)
 
+pub yield-period : (number : ℕ) (ts : List CallPeriod) (t : CallPeriod) (past : List CallPeriod) → IsCallHistory ts → IsPeriod ts t past →
+    yield_at (call_of number ts) (length past) ≡ yield_of t.up (ups_of past)
+yield-period number ts t past h p =
+    ap (λ us. get_or (each_yield (reverse us)) (length past) None) (ups-read number ts h) ∙
+    ap (λ us. get_or (each_yield us) (length past) None) (reverse-reverse (ups_of ts)) ∙
+    ap (λ ys. get_or ys (length past) None) (yields-each ts) ∙
+    each-at (λ t past. yield_of t.up (ups_of past)) None ts t past p
+
 pub seen-period : (number : ℕ) (ts : List CallPeriod) (t : CallPeriod) (past : List CallPeriod) → IsCallHistory ts → IsPeriod ts t past →
     seen_at (call_of number ts) (length past) ≡ sighting_after past t.up
 unfolding sighting_after
-seen-period number ts t past h p =
-    ap (λ us. sighting_in (get_or (each_yield (reverse us)) (length past) None)) (ups-read number ts h) ∙
-    ap (λ us. sighting_in (get_or (each_yield us) (length past) None)) (reverse-reverse (ups_of ts)) ∙
-    ap (λ ys. sighting_in (get_or ys (length past) None)) (yields-each ts) ∙
-    ap sighting_in (each-at (λ t past. yield_of t.up (ups_of past)) None ts t past p)
+seen-period number ts t past h p = ap sighting_in (yield-period number ts t past h p)
 
 -- ---- effective frames
 

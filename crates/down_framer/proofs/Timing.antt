@@ -10,7 +10,7 @@ pub octets_of-bounds : (shift : ℤ) → IsShift shift → (158 ≤ octets_of sh
 octets_of-bounds (pos v) s = (omega arith, omega arith)
 octets_of-bounds (negsuc v) s = (omega arith, omega arith)
 
-none_or : (o : Option ℕ) (v : ℤ) → IsShift v → IsShift (elim o [ None ↦ v | Some h ↦ pos 0 ])
+pub none_or : (o : Option ℕ) (v : ℤ) → IsShift v → IsShift (elim o [ None ↦ v | Some h ↦ pos 0 ])
 none_or None v a = a
 none_or (Some h) v a = omega arith
 

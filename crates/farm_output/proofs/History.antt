@@ -34,7 +34,7 @@ limit_within given P c s = by (nat_le P (s + whole_of (given c))) refl
     by true e = leb-true P (s + whole_of (given c)) e
     by false e = omega arith
 
-ends_within : (given : ℕ → Given) (P : ℕ) (ds : List Done) (c s : ℕ) → Standing (λ c. whole_of (given c)) P ds → opened_at c ds ≡ Some s → ends_at given P ds c ≤ s + whole_of (given c)
+pub ends_within : (given : ℕ → Given) (P : ℕ) (ds : List Done) (c s : ℕ) → Standing (λ c. whole_of (given c)) P ds → opened_at c ds ≡ Some s → ends_at given P ds c ≤ s + whole_of (given c)
 ends_within given P ds c s st o = by (closed_at c ds) refl
   where
     by : (l : Option ℕ) → closed_at c ds ≡ l → ends_at given P ds c ≤ s + whole_of (given c)
@@ -96,7 +96,7 @@ abbrev pub FromsRise : List Bridge → Type 0
 FromsRise [] = Unit {0}
 FromsRise (x ∷ xs) = AllByRecursion (λ y. x.from ≤ y.from) xs × FromsRise xs
 
-from_above : (t : ℕ) (ds : List Done) → RisesFrom t ds → AllByRecursion (λ d. t ≤ d.order.stamp) ds
+pub from_above : (t : ℕ) (ds : List Done) → RisesFrom t ds → AllByRecursion (λ d. t ≤ d.order.stamp) ds
 from_above t [] h = tt
 from_above t (d ∷ ds) h = (h.0, each_weaker (λ e. d.order.stamp ≤ e.order.stamp) _ ds (λ e k. let l = h.0 in omega arith) (from_above d.order.stamp ds h.1))
 

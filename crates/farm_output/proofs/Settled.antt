@@ -71,7 +71,7 @@ handed_settled r t u ds left c s tu up n =
 
 -- ---- the period
 
-same_period : (up up' pcm pcm' : List ℕ) (level level' : ℤ) (mode mode' : DtxMode) (starts starts' : Bool) (handed handed' : Option (List ℕ)) →
+pub same_period : (up up' pcm pcm' : List ℕ) (level level' : ℤ) (mode mode' : DtxMode) (starts starts' : Bool) (handed handed' : Option (List ℕ)) →
     up ≡ up' → pcm ≡ pcm' → level ≡ level' → mode ≡ mode' → starts ≡ starts' → handed ≡ handed' →
     ◌≡◌ {A = CallPeriod} (record { up = up; pcm = pcm; level = level; mode = mode; starts = starts; handed = handed }) (record { up = up'; pcm = pcm'; level = level'; mode = mode'; starts = starts'; handed = handed' })
 same_period up up' pcm pcm' level level' mode mode' starts starts' handed handed' a b c d e f = cc

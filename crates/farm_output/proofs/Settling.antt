@@ -20,7 +20,7 @@ use Rattle.farm_output.proofs.Standing.{IsSoundBridge, Standing, opened_kept}
 
 -- ---- stamps
 
-found_stamp : (Q : ℕ → Type 0) (p : Done → Bool) (ds : List Done) → AllByRecursion (λ d. Q d.order.stamp) ds → IfSome (option_map (λ d. d.order.stamp) (find p ds)) Q
+pub found_stamp : (Q : ℕ → Type 0) (p : Done → Bool) (ds : List Done) → AllByRecursion (λ d. Q d.order.stamp) ds → IfSome (option_map (λ d. d.order.stamp) (find p ds)) Q
 found_stamp Q p [] h = tt
 found_stamp Q p (d ∷ ds) h = by Q d (p d) (find p ds) h.0 (found_stamp Q p ds h.1)
   where

@@ -15,11 +15,11 @@ use Rattle.trau_params.proofs.FieldPlaces.{fields_stand}
 
 -- ---- one number
 
-number_at-none : (bits : List ℕ) (offset : ℕ) → number_at bits offset 0 ≡ 0
+pub number_at-none : (bits : List ℕ) (offset : ℕ) → number_at bits offset 0 ≡ 0
 unfolding number_at
 number_at-none bits offset = refl
 
-number_at-more : (bits : List ℕ) (offset n : ℕ) →
+pub number_at-more : (bits : List ℕ) (offset n : ℕ) →
     number_at bits offset (n + 1) ≡ number_at bits offset n + get_or bits (offset + n) 0 * 2 ^ n
 unfolding number_at
 number_at-more bits offset n =

@@ -1,5 +1,6 @@
 pub mod AreBits
 pub mod FieldPlaces
 pub mod FieldsRead
+pub mod FieldsWritten
 pub mod OneFrame
 pub mod Prefixes
