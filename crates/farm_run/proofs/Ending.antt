@@ -192,7 +192,7 @@ told_all was now ends i l h = subst (IsTold was now) (take_all i ends l) h
 
 -- ---- the end of the run
 
-limits_told : (at c : ℕ) (calls : List ℕ) → is_told c (map (limit_at at) calls) ≡ is_among calls c
+pub limits_told : (at c : ℕ) (calls : List ℕ) → is_told c (map (limit_at at) calls) ≡ is_among calls c
 limits_told at c [] = refl
 limits_told at c (d ∷ calls) = ap (λ b. b || is_told c (map (limit_at at) calls)) (turn c d) ∙ ap (λ b. d == c || b) (limits_told at c calls)
 

@@ -226,7 +226,7 @@ history_by (act.DtxSet n mode) f ts now c other = by (n == c) (c == n) (f c) (el
     by true false o q = cc
     by false true o q = cc
 
-no : (b : Bool) → b ≡ false → b ≡ true → ⊥
+pub no : (b : Bool) → b ≡ false → b ≡ true → ⊥
 no b p q = cc
 
 past_same : (b b' : Bool) (ts ts' : List CallPeriod) (now now' : Settings) → b ≡ b' → (b' ≡ true → ts ≡ ts') → now ≡ now' → past_if b ts now ≡ past_if b' ts' now'

@@ -11,3 +11,11 @@ pub mod Worked
 pub mod Seats
 pub mod Ending
 pub mod Reporting
+pub mod Settling
+pub mod Noting
+pub mod Bridging
+pub mod NotedRounds
+pub mod NotedOrders
+pub mod Rising
+pub mod Finishing
+pub mod LastEnds

@@ -2,8 +2,11 @@
 use Rattle.std.specs.Prelude.{◌≡◌, ℕ, ◌<◌, ◌==◌, if◌then◌else◌, Option, Some, None, List, [], ◌∷◌, ◌++◌, length, replicate}
 use Rattle.std.specs.List.{All}
 use Rattle.std.proofs.Common.{get_or, set}
+use Rattle.switchboard.specs.declared.act.Act.{Act}
+use Rattle.switchboard.specs.declared.act.Act.TheVariants as act
 use Rattle.farm_rounds.specs.Calls.{IsNumber}
 use Rattle.trau_io.specs.declared.ends.CallEnd.{CallEnd}
+use Rattle.trau_io.specs.declared.ends.Cause.TheVariants.{Closed}
 use Rattle.farm_run.specs.declared.exchange.Opening.{Opening}
 use Rattle.farm_run.specs.declared.exchange.Exchange.{Exchange}
 
@@ -73,3 +76,11 @@ sent_at c sent (Some k) bridges = set bridges k (with_sent c sent (get_or bridge
 -- and in its latest one, if it has been bridged
 abbrev pub settled : ℕ → ℕ → JournalMemory → JournalMemory
 settled c sent j = record j { bridges = sent_at c sent (opening_of j.calls c).bridge j.bridges }
+
+-- What is noted of an accepted order, with what each call has sent in its latest bridge so far: two calls that are
+-- bridged have sent no more in the bridges that they had before.
+abbrev pub noted_by : Act → ℕ → (ℕ → ℕ) → JournalMemory → JournalMemory
+noted_by (act.Opened c) period sent j = with_opening c period j
+noted_by (act.Closed c p) period sent j = with_end (record { call = c; at = period; cause = Closed }) j
+noted_by (act.Bridged a b) period sent j = with_bridge a b (settled b (sent b) (settled a (sent a) j))
+noted_by _ period sent j = j

@@ -5,3 +5,4 @@ pub mod Pace
 pub mod Going
 pub mod Ending
 pub mod Facts
+pub mod Noted

@@ -3,7 +3,8 @@
 ghost use Rattle.std.specs.Prelude.{◌≡◌, ◌≤◌, ◌-◌, ℕ, Option, length, map, IfOk, IsPermutation};
 ghost use Rattle.std.specs.List.Sorted.{IsNonDecreasingBy};
 ghost use Rattle.switchboard.specs.State.{numbered, told_in};
-ghost use Rattle.switchboard.specs.Ends.{spans_now};
+ghost use Rattle.switchboard.specs.Ends.{Given, spans_now, spans_of};
+ghost use Rattle.switchboard.specs.Runs.{AllEnded};
 ghost use Rattle.farm_rounds.specs.Histories.{CallHistory, GroupsStand};
 ghost use Rattle.farm_run.specs.Facts.{span_line, span_lines, kept_in, call_line, settled_each};
 
@@ -103,6 +104,10 @@ pub(crate) fn report(
     // The bridges that have ended, with what the calls have sent in them.
     ensures spans { IfOk result (λ r. (h : ℕ → Option CallHistory) → GroupsStand h farm.now.groups →
         r.spans ≡ span_lines (spans_now (told_in board.now) board.now.done) (settled_each (kept_in farm.now.tallies h) journal.ends journal).bridges) }
+
+    // They are all bridges, once each call has ended.
+    ensures whole { IfOk result (λ r. (h : ℕ → Option CallHistory) (given : ℕ → Given) (periods : ℕ) → GroupsStand h farm.now.groups → AllEnded given periods board.now →
+        r.spans ≡ span_lines (spans_of given periods board.now.done) (settled_each (kept_in farm.now.tallies h) journal.ends journal).bridges) }
 {
     settle_all(&mut journal, farm);
     let calls = ended_lines(alloc, &journal, farm)?;

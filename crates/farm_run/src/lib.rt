@@ -2,18 +2,20 @@
 //!
 //! Above the board (`switchboard`) and the farm (`farm_rounds`), which it keeps in step: `orders` has the orders of the clock
 //! executed and carried out, `ends` has the board told of the calls that end, `journal` (with `exchange`) notes what the
-//! report needs to know of the past, and `facts` makes the report of it. The clock that goes from round to round, and
-//! would join them, isn't there yet, so no call of the program works with this crate.
+//! report needs to know of the past, `facts` makes the report of it, and `finish` ends a run with it. The clock that goes
+//! from round to round, and would join them, isn't there yet, so no call of the program works with this crate.
 //!
 //! Definitions: `specs/Match.antt` (what ties board and farm to each other, and to what a run gives by its definition in
 //! `farm_output`), `specs/Going.antt` (what a round takes of the calls and where it leaves them), `specs/Ending.antt` (ends
-//! as they are told), `specs/Journal.antt` (what is noted), `specs/Facts.antt` (what the report says of it).
+//! as they are told), `specs/Journal.antt` (what is noted), `specs/Noted.antt` (when that is right, so that at the run's end
+//! the report is the definition's), `specs/Facts.antt` (what the report says of it).
 //! How orders, rounds and ends follow each other is this project's profile.
 #![tactic(auto)]
 
 mod ends;
 mod exchange;
 mod facts;
+mod finish;
 mod journal;
 mod orders;
 mod pace;

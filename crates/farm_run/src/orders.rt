@@ -1,9 +1,13 @@
 //! The orders of the clock.
 
-ghost use Rattle.std.specs.Prelude.{◌≡◌, ◌<◌, ◌+◌, ℕ, true, false, length, IfOk, IfSome};
+ghost use Rattle.std.specs.Prelude.{◌≡◌, ◌<◌, ◌+◌, ℕ, true, false, Option, length, IfOk, IfSome};
 ghost use Rattle.switchboard.specs.State.{first_stamp, orders_of};
+ghost use Rattle.farm_rounds.specs.Histories.{CallHistory, GroupsStand};
 ghost use Rattle.farm_output.specs.Run.{Run};
 ghost use Rattle.farm_run.specs.Match.{AreNumbers, AtClock, Follows};
+ghost use Rattle.farm_run.specs.Journal.{noted_by};
+ghost use Rattle.farm_run.specs.Facts.{kept_in};
+ghost use Rattle.farm_run.specs.Noted.{Noted};
 
 use crate::journal::Journal;
 use farm_rounds::Farm;
@@ -14,6 +18,8 @@ use trau_io::{CallEnd, Cause};
 // Notes what an accepted order is about to do at a period.
 fn note(act: &Act, period: u32, farm: &Farm, journal: &mut Journal) -> Result<(), AllocError>
     requires { AreNumbers act.now }
+    ensures { IfOk result (λ u. (h : ℕ → Option CallHistory) → GroupsStand h farm.now.groups →
+        journal.new ≡ noted_by act.now period (λ c. (kept_in farm.now.tallies h c).sent) journal.old) }
 {
     match *act {
         Act::Opened { call } => journal.open(call, period),
@@ -49,6 +55,11 @@ fn execute(
     ensures ended { IfOk result (λ more. farm.new.ended ≡ farm.old.ended) }
     ensures failed { IfOk result (λ more. farm.new.failed ≡ farm.old.failed) }
     ensures follows { (r : Run) → clock < r.periods → Follows r clock board.old farm.old.groups → IfOk result (λ more. Follows r clock board.new farm.new.groups) }
+    ensures told { board.new.told ≡ board.old.told }
+
+    // What the journal and the tallies know stays right.
+    ensures noted { (r : Run) → clock < r.periods → Follows r clock board.old farm.old.groups → Noted r board.old.done clock journal.old farm.old.tallies →
+        IfOk result (λ more. Noted r board.new.done clock journal.new farm.new.tallies) }
 {
     let Some(reply) = board.turn(clock) else {
         return Ok(false);
@@ -75,6 +86,11 @@ pub(crate) fn execute_orders(
     ensures ended { IfOk result (λ u. farm.new.ended ≡ farm.old.ended) }
     ensures failed { IfOk result (λ u. farm.new.failed ≡ farm.old.failed) }
     ensures follows { (r : Run) → clock < r.periods → Follows r clock board.old farm.old.groups → IfOk result (λ u. Follows r clock board.new farm.new.groups) }
+    ensures told { board.new.told ≡ board.old.told }
+
+    // What the journal and the tallies know stays right.
+    ensures noted { (r : Run) → clock < r.periods → Follows r clock board.old farm.old.groups → Noted r board.old.done clock journal.old farm.old.tallies →
+        IfOk result (λ u. Noted r board.new.done clock journal.new farm.new.tallies) }
 {
     while execute(alloc, board, farm, journal, clock)? {}
     Ok(())

@@ -1,9 +1,13 @@
 use Rattle.std.proofs.Common.{◌≡◌, ℕ, sym, ◌∙◌, subst, arith, refl}
-use Rattle.std.specs.Prelude.{IfOk, OnErr}
+use Rattle.std.specs.Prelude.{IfOk, OnErr, Err}
 use Rattle.trau_orders.specs.Lists.{AreOrders}
 use Rattle.switchboard.specs.declared.act.Act.{Act}
 use Rattle.switchboard.specs.Replies.{IsInRange}
-use Rattle.switchboard.specs.Open.{opened_now, open_now, partner_now, open_after, partner_after, Finds, IsAsBefore}
+use Rattle.switchboard.specs.Open.{opened_now, open_now, partner_now, opened_after, open_after, partner_after, Finds, IsAsBefore}
+use Rattle.farm_run.specs.Match.{histories_at}
+use Rattle.farm_run.specs.Journal.{JournalMemory}
+use Rattle.farm_run.specs.Noted.{Noted}
+use Rattle.farm_run.proofs.NotedOrders.{noted_accepted, noted_quiet}
 use Rattle.farm_run.proofs.Matching.{fits, named, matches_more, matches_same}
 use Rattle.farm_run.proofs.Following.{due_of, ahead_more, follows_more, follows_same}
 use Rattle.farm_run.proofs.orders.execute.Goals as goal
@@ -65,3 +69,27 @@ returns-in_default-result-clause-follows c = λ r under f.
     let same : IsAsBefore b c.turn.new.self = subst (λ x. OnErr x (IsAsBefore b c.turn.new.self)) c.in_default-result.is e.stays in
     follows_same r c.args.clock b c.turn.new.self c.in-Some.reply c.args.farm.now.groups (due_of b c.turn.new.self c.args.clock c.in-Some.reply (sym c.in-Some.is ∙ c.turn.ensures.answer) c.turn.ensures.state)
     under (c.turn.ensures.run _ f.so_far.replies f.tells) f c.in_default-result.field-0 c.in_default-result.is same.is_open
+
+pub returns-in_ok-apply-clause-noted : goal.returns-in_ok-apply-clause-noted
+returns-in_ok-apply-clause-noted c = λ r under f noted.
+    let b = c.args.board.now in
+    let n = c.turn.new.self in
+    let e = c.in-Some.ensures in
+    let farm = c.args.farm.now in
+    let h = histories_at r b.done c.args.clock in
+    subst (λ (j : JournalMemory). Noted r n.done c.args.clock j c.apply.new.self.tallies) (sym (c.in_ok-note.ensures h f.stands))
+    (noted_accepted r c.args.clock b n c.in-Some.reply farm.groups c.apply.new.self.groups (due_of b n c.args.clock c.in-Some.reply (sym c.in-Some.is ∙ c.turn.ensures.answer) c.turn.ensures.state)
+    under f (returns-in_ok-apply-clause-follows c r under f) c.args.journal.now farm.tallies c.apply.new.self.tallies noted c.in-Ok.act c.in-Ok.is
+    (subst (λ x. IfOk x (λ (a : Act). Finds a (opened_now b) (open_now b) (partner_now b))) c.in-Ok.is e.finds)
+    (subst (λ x. IfOk x (λ (a : Act). (c' : ℕ) → opened_now n c' ≡ opened_after a (opened_now b) c')) c.in-Ok.is e.opened)
+    (subst (λ x. IfOk x (λ (a : Act). (c' : ℕ) → open_now n c' ≡ open_after a (open_now b) c')) c.in-Ok.is e.open)
+    (c.in_ok-apply.ensures.tallies h f.stands))
+
+pub returns-in_default-result-clause-noted : goal.returns-in_default-result-clause-noted
+returns-in_default-result-clause-noted c = λ r under f noted.
+    let b = c.args.board.now in
+    let n = c.turn.new.self in
+    let farm = c.args.farm.now in
+    let same : IsAsBefore b n = subst (λ x. OnErr x (IsAsBefore b n)) c.in_default-result.is c.in-Some.ensures.stays in
+    noted_quiet r c.args.clock b n c.in-Some.reply farm.groups farm.groups (due_of b n c.args.clock c.in-Some.reply (sym c.in-Some.is ∙ c.turn.ensures.answer) c.turn.ensures.state)
+    under f (returns-in_default-result-clause-follows c r under f) (Err c.in_default-result.field-0) c.args.journal.now farm.tallies farm.tallies c.in_default-result.is refl same.opened same.is_open (λ d. refl) noted

@@ -1,0 +1,22 @@
+use Rattle.std.proofs.Common.{◌≡◌, sym, ◌∙◌, ℕ, true}
+use Rattle.switchboard.specs.Open.{open_now}
+use Rattle.farm_rounds.specs.Calls.{IsNumber}
+use Rattle.farm_rounds.specs.Numbers.{is_among}
+use Rattle.farm_run.proofs.LastEnds.{all_among, reported_ok}
+use Rattle.farm_run.proofs.finish.finish.Goals as goal
+
+pub end_all-requires-clause-open : goal.end_all-requires-clause-open
+end_all-requires-clause-open c = all_among (λ d. open_now c.args.board d ≡ true) c.live_calls.result.now (λ d q. sym (c.requires.matches.is_open d) ∙ sym (c.live_calls.ensures.calls d) ∙ q)
+
+pub end_all-requires-clause-numbers : goal.end_all-requires-clause-numbers
+end_all-requires-clause-numbers c = all_among IsNumber c.live_calls.result.now (λ d q. c.requires.matches.number d (sym (c.requires.matches.is_open d) ∙ sym (c.live_calls.ensures.calls d) ∙ q))
+
+pub returns-clause-reports : goal.returns-clause-reports
+returns-clause-reports c =
+    let farm = c.args.farm.now in
+    let calls = c.live_calls.result.now in
+    let ended = c.in_ok-end_all.ensures in
+    let h = c.report.ensures in
+    let among : (d : ℕ) → is_among calls d ≡ open_now c.args.board d = λ d. c.live_calls.ensures.calls d ∙ c.requires.matches.is_open d in
+    reported_ok c.args.board c.end_all.new.board farm.groups farm.tallies c.args.journal c.end_all.new.journal calls c.args.orders c.args.periods c.report.result
+    among c.live_calls.ensures.rising ended.told (ended.none among) ended.noted h.replies h.left h.sorted h.calls h.whole

@@ -1,0 +1,111 @@
+-- What is known of a run so far for its report (this project's profile): `ds` are the orders that were executed, the
+-- oldest first.
+use Rattle.std.specs.Prelude.{◌≡◌, ◌≢◌, ℕ, ◌<◌, ◌==◌, if◌then◌else◌, ◌≤◌, true, false, Bool, Some, is_some, IfSome, List, length}
+use Rattle.std.specs.List.{AllByRecursion}
+use Rattle.std.proofs.Common.{get_or}
+use Rattle.trau_io.specs.declared.ends.CallEnd.{CallEnd}
+use Rattle.switchboard.specs.declared.act.Span.{Span}
+use Rattle.switchboard.specs.declared.table.Bridge.{Bridge}
+use Rattle.switchboard.specs.Calls.{Done, opened_at, has_ended, gone_at}
+use Rattle.switchboard.specs.Bridges.{bridges, joins, no_bridge}
+use Rattle.switchboard.specs.Stands.{IsLatest}
+use Rattle.switchboard.specs.State.{State, told_in, first_stamp}
+use Rattle.switchboard.specs.Open.{open_now}
+use Rattle.switchboard.specs.Ends.{end_of, start_of, ends_at}
+use Rattle.call_leg.specs.Counted.{call_counts}
+use Rattle.farm_rounds.specs.declared.call.Group.{Group}
+use Rattle.farm_rounds.specs.declared.tally.Tally.{Tally}
+use Rattle.farm_rounds.specs.Calls.{IsNumber}
+use Rattle.farm_rounds.specs.Memory.{tally_in}
+use Rattle.farm_output.specs.Run.{Run, given_in, whole_in, done_in, spans_in, periods_in}
+use Rattle.farm_output.specs.Facts.{sent_by}
+use Rattle.farm_run.specs.declared.exchange.Opening.{Opening}
+use Rattle.farm_run.specs.declared.exchange.Exchange.{Exchange}
+use Rattle.farm_run.specs.Journal.{JournalMemory, opening_of, no_exchange}
+use Rattle.farm_run.specs.Going.{is_told}
+use Rattle.farm_run.specs.Ending.{AreApart}
+use Rattle.farm_run.specs.Match.{Follows}
+
+-- ---- the run's facts, by place and number
+
+-- the end of a call in the whole run
+abbrev pub end_in : Run → ℕ → CallEnd
+end_in r c = end_of (given_in r) r.periods (done_in r) c (start_of (done_in r) c)
+
+abbrev pub no_span : Span
+no_span = record { a = 0; b = 0; from = 0; to = 0 }
+
+-- the span of the bridge at this place
+abbrev pub span_at : Run → ℕ → Span
+span_at r k = get_or (spans_in r) k no_span
+
+abbrev pub bridge_at : List Done → ℕ → Bridge
+bridge_at ds k = get_or (bridges ds) k no_bridge
+
+abbrev pub is_opened : List Done → ℕ → Bool
+is_opened ds c = is_some (opened_at c ds)
+
+-- ---- what is noted of it
+
+abbrev pub exchange_at : List Exchange → ℕ → Exchange
+exchange_at xs k = get_or xs k no_exchange
+
+-- what is noted as sent by one of a bridge's calls
+abbrev pub noted_sent : ℕ → Exchange → ℕ
+noted_sent c x = if c == x.a then x.sent_by_a else x.sent_by_b
+
+-- Each end is the run's, no call has two, and these calls have one.
+pub record EndsNoted (r : Run) (ended : ℕ → Bool) (ends : List CallEnd) : Type 0 where
+  pub each : AllByRecursion (λ e. e ≡ end_in r e.call) ends
+  pub apart : AreApart ends
+  pub told : (c : ℕ) → is_told c ends ≡ ended c
+
+-- Of each call that was opened, by its number, its first period and its latest bridge are noted, and of each bridge its
+-- two calls.
+pub record PlacesNoted (ds : List Done) (j : JournalMemory) : Type 0 where
+  pub long : length j.calls ≡ 4097
+  pub numbers : (c : ℕ) → is_opened ds c ≡ true → IsNumber c
+  pub from : (c : ℕ) → is_opened ds c ≡ true → (opening_of j.calls c).from ≡ start_of ds c
+  pub latest : (c : ℕ) → is_opened ds c ≡ true → IsLatest (bridges ds) c (opening_of j.calls c).bridge
+  pub count : length j.bridges ≡ length (bridges ds)
+  pub calls : (k : ℕ) → ((exchange_at j.bridges k).a ≡ (bridge_at ds k).a) × ((exchange_at j.bridges k).b ≡ (bridge_at ds k).b)
+  pub apart : (k : ℕ) → k < length (bridges ds) → (bridge_at ds k).a ≢ (bridge_at ds k).b
+
+-- What each call has sent in each of its bridges is noted; in its latest one only where it is settled.
+abbrev pub SentNoted : Run → List Done → (ℕ → Bool) → JournalMemory → Type 0
+SentNoted r ds settled j = (c k : ℕ) → k < length (bridges ds) → joins c (bridge_at ds k) ≡ true → ((opening_of j.calls c).bridge ≡ Some k → settled c ≡ true) →
+    noted_sent c (exchange_at j.bridges k) ≡ sent_by r (span_at r k) c
+
+-- What is kept of a call is that of all its periods, and of its latest bridge.
+pub record IsKept (r : Run) (calls : List Opening) (c : ℕ) (kept : Tally) : Type 0 where
+  pub counts : kept.counts ≡ call_counts (periods_in r c)
+  pub sent : (k : ℕ) → (opening_of calls c).bridge ≡ Some k → kept.sent ≡ sent_by r (span_at r k) c
+
+-- What a journal notes of a run in which these calls have ended, and what is kept of them. What a call has sent in its
+-- latest bridge isn't settled yet.
+pub record IsNoted (r : Run) (ds : List Done) (ended : ℕ → Bool) (j : JournalMemory) (tally : ℕ → Tally) : Type 0 where
+  pub ends : EndsNoted r ended j.ends
+  pub places : PlacesNoted ds j
+  pub sent : SentNoted r ds (λ c. false) j
+  pub kept : (c : ℕ) → ended c ≡ true → IsKept r j.calls c (tally c)
+
+-- the calls that have ended at the clock t
+abbrev pub ended_at : Run → List Done → ℕ → ℕ → Bool
+ended_at r ds t = has_ended (gone_at (whole_in r) t ds) ds
+
+-- What the journal and the tallies of a farm know at the clock t.
+abbrev pub Noted : Run → List Done → ℕ → JournalMemory → List Tally → Type 0
+Noted r ds t j tallies = IsNoted r ds (ended_at r ds t) j (tally_in tallies)
+
+-- The ends that the board was told are the run's.
+abbrev pub TellsTruly : Run → State → Type 0
+TellsTruly r s = (c at : ℕ) → told_in s c ≡ Some at → ends_at (given_in r) r.periods (done_in r) c ≡ at
+
+-- A run that has come to its end at the clock t: no order below that end is left, and where a call is open, the clock is
+-- there. What the board, the farm and the journal know is right.
+pub record IsAtEnd (r : Run) (t : ℕ) (b : State) (groups : List Group) (tallies : List Tally) (j : JournalMemory) : Type 0 where
+  pub follows : Follows r t b groups
+  pub none_left : IfSome (first_stamp b.left) (λ s. r.periods ≤ s)
+  pub clock : (c : ℕ) → open_now b c ≡ true → t ≡ r.periods
+  pub truly : TellsTruly r b
+  pub noted : Noted r b.done t j tallies

@@ -1,0 +1,39 @@
+//! The end of a run.
+
+ghost use Rattle.std.specs.Prelude.{◌≡◌, ◌≤◌, ℕ, length, IfOk};
+ghost use Rattle.switchboard.specs.State.{last_stamp};
+ghost use Rattle.farm_output.specs.Run.{Run};
+ghost use Rattle.farm_output.specs.Facts.{report_of};
+ghost use Rattle.farm_run.specs.Match.{Matches};
+ghost use Rattle.farm_run.specs.Noted.{IsAtEnd};
+
+use crate::ends::end_all;
+use crate::facts::report;
+use crate::journal::Journal;
+use farm_report::Report;
+use farm_rounds::Farm;
+use std::alloc::{AllocError, Global};
+use switchboard::Board;
+
+/// Ends the calls that are open at the end of a run of so many orders and periods, and reports the run. An error says
+/// that there was no memory.
+pub(crate) fn finish(
+    alloc: Global,
+    mut board: Board,
+    farm: &Farm,
+    mut journal: Journal,
+    orders: usize,
+    periods: u32,
+) -> Result<Report, AllocError>
+    requires few { orders ≤ 65536 }
+    requires matches { Matches board farm.now.groups }
+    requires late { last_stamp board.done ≤ periods }
+    ensures failed { IfOk result (λ report. report.failed ≡ farm.now.failed) }
+
+    // At the end of a run it is the report of the definition, with the lines that failed.
+    ensures reports { IfOk result (λ report. (r : Run) (t : ℕ) → IsAtEnd r t board farm.now.groups farm.now.tallies journal →
+        r.periods ≡ periods → length r.orders ≡ orders → report ≡ report_of r report.failed) }
+{
+    end_all(&mut board, &mut journal, farm.live_calls(), periods)?;
+    report(alloc, &board, farm, journal, orders)
+}
