@@ -1,5 +1,5 @@
 -- A command is its tool or its listing: why each status comes, and what a run without faults leaves.
-use Rattle.std.proofs.Common.{◌≡◌, ◌≢◌, inl, inr, ℕ, sym, ◌∙◌, ap, subst, arith}
+use Rattle.std.proofs.Common.{◌≢◌, inl, inr, ℕ, sym, ◌∙◌, ap, subst, arith}
 use Rattle.trau_io.specs.declared.line.Side.{Side}
 use Rattle.trau_io.specs.declared.line.Side.TheVariants.{Up}
 use Rattle.trau_io.specs.Lines.{LineState}

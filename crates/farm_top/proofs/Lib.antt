@@ -1,3 +1,7 @@
 -- Lemmas on the top call.
 mod Asking
 mod Carrying
+mod Ending
+mod FarmCausing
+mod FarmCleaning
+mod Headlining

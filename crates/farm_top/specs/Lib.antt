@@ -1,4 +1,7 @@
 -- What the top call does.
-pub mod Asked
+pub mod Farm
+pub mod FarmCauses
+pub mod FarmClean
+pub mod Headline
 pub mod Top
 pub mod Words

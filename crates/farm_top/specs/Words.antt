@@ -1,13 +1,10 @@
--- The words of the command line (this project's profile).
-use Rattle.std.specs.Prelude.{◌≡◌, ◌⊎◌, ℕ, ◌≤◌, List, [], ◌∷◌, codes, decimal}
+-- The words of the command line, by what they ask for (this project's profile).
+use Rattle.std.specs.Prelude.{◌≡◌, ◌⊎◌, ℕ, List, ◌∷◌, codes}
 use Rattle.farm_tools.specs.declared.end.Tool.{Tool}
 use Rattle.farm_tools.specs.Made.{name_of}
-
--- a command's word and a call, 1 to 1,024, in decimal digits without leading zeros
-pub record Names (words : List (List ℕ)) (name : List ℕ) (call : ℕ) : Type 0 where
-  pub low : 1 ≤ call
-  pub high : call ≤ 1024
-  pub spelled : words ≡ name ∷ decimal call ∷ []
+use Rattle.farm_words.specs.declared.asked.Settings.{Settings}
+use Rattle.farm_words.specs.Run.{AsksRun}
+use Rattle.farm_words.specs.Words.{Names}
 
 -- the words ask for a tool that works one line into another, as `relay 7`
 abbrev pub AsksFor : List (List ℕ) → Tool → ℕ → Type 0
@@ -17,6 +14,17 @@ AsksFor words tool call = Names words (name_of tool) call
 abbrev pub AsksForFrames : List (List ℕ) → ℕ → Type 0
 AsksForFrames words call = Names words (codes "frames") call
 
+-- they ask for a run with these settings, as `run --workers 2`
+abbrev pub AsksForRun : List (List ℕ) → Settings → Type 0
+AsksForRun words settings = AsksRun words settings
+
 -- they are those of a command
 abbrev pub AreCommand : List (List ℕ) → Type 0
-AreCommand words = ((tool : Tool) × (call : ℕ) × AsksFor words tool call) ⊎ ((call : ℕ) × AsksForFrames words call)
+AreCommand words =
+    ((tool : Tool) × (call : ℕ) × AsksFor words tool call)
+    ⊎ ((call : ℕ) × AsksForFrames words call)
+    ⊎ ((settings : Settings) × AsksForRun words settings)
+
+-- the first of them is `run`, whatever stands behind it
+abbrev pub BeginWithRun : List (List ℕ) → Type 0
+BeginWithRun words = (options : List (List ℕ)) × (words ≡ codes "run" ∷ options)

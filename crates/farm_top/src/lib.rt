@@ -1,17 +1,27 @@
 //! The top call of the transcoder: words in, octets and a text out, and a status.
 //!
-//! Above everything but the program's own crate, which hands it the lines, the desk and the words of the
-//! command line. It reads the words, has the command carried out (`farm_tools`), and answers the status.
+//! Above everything but the program's own crate, which hands it the lines, the desk and the words of the command line.
+//! It has the words read (`farm_words`) and the command carried out: a tool (`farm_tools`), or a run, whose orders are
+//! read from the desk (`farm_orders`), run over the lines (`farm_run`) and reported (`farm_report`). It answers the
+//! status.
+//!
+//! `top` has the whole call, `farm` the command `run`, `status` the statuses.
 //!
 //! The commands, their texts and the statuses are this project's profile.
-//! Definitions: `specs/Words.antt` (the words), `specs/Top.antt` (a whole command); what a tool does and why it
-//! ends so stands in `farm_tools`.
+//! Definitions: `specs/Words.antt` (which words ask for what), `specs/Top.antt` (a whole command), `specs/Farm.antt` (a
+//! whole run), `specs/FarmCauses.antt` (why each status of a run comes), `specs/FarmClean.antt` (what a run leaves where
+//! nothing fails), `specs/Headline.antt` (its outgoing lines, by whole calls); what a run does to the lines stands in
+//! `farm_run`, what a tool does and why it ends so in `farm_tools`.
 #![tactic(auto)]
 
+mod farm;
+mod status;
 mod top;
-mod words;
 
+pub use farm_words::{Asked, Settings, WordsFault, read_words};
 pub use top::farm_top;
 
+#[cfg(test)]
+mod run_tests;
 #[cfg(test)]
 mod tests;

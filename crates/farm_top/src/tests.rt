@@ -6,7 +6,7 @@ use trau_io::{Line, MemDesk, MemTrunk, Side};
 
 // A good uplink frame whose 260 data bits are those of 160 samples 0 encoded from home, and the downlink frame
 // with the same data bits, as GSM 08.60 places them. Worked by hand from the tables.
-const UPLINK_FRAME: [u8; 40] = [
+pub(crate) const UPLINK_FRAME: [u8; 40] = [
     0x00, 0x00, 0x88, 0x00, 0x82, 0x09, 0xBA, 0x1A, 0xE4, 0x28, 0x80, 0x12, 0xA4, 0x92, 0xA4, 0x92,
     0xA2, 0x80, 0x81, 0x24, 0xC9, 0x24, 0xC9, 0x24, 0xA8, 0x00, 0x92, 0x49, 0x92, 0x49, 0x92, 0x45,
     0x80, 0x02, 0xA4, 0x92, 0xA4, 0x92, 0xA6, 0xFF,
@@ -39,13 +39,13 @@ const OUT: Line = Line {
 };
 
 // The first octets that decode from the frame, from home: the samples 8, 0, 0, 8, 8, 8, 16.
-const DECODED: [u8; 7] = [0xD5, 0xD5, 0xD5, 0xD5, 0xD5, 0xD5, 0xD4];
+pub(crate) const DECODED: [u8; 7] = [0xD5, 0xD5, 0xD5, 0xD5, 0xD5, 0xD5, 0xD4];
 
 // Pieces in which a line moves: octets one by one, just below and above a frame, and all at once.
 const CUTS: [u32; 4] = [1, 39, 41, 1000];
 
 // Carries out the command of these words.
-fn carry(
+pub(crate) fn carry(
     alloc: Global,
     texts: &[&str],
     trunk: &mut MemTrunk,
@@ -351,7 +351,7 @@ fn frames_are_listed(rt: HostRuntime) -> Result<(), Fail> {
 #[test]
 fn other_words_are_usage(rt: HostRuntime) -> Result<(), Fail> {
     let alloc = rt.alloc();
-    let rows: [&[&str]; 8] = [
+    let rows: [&[&str]; 10] = [
         &[],
         &["relay"],
         &["relay", "07"],
@@ -360,6 +360,8 @@ fn other_words_are_usage(rt: HostRuntime) -> Result<(), Fail> {
         &["relay", "7", "7"],
         &["Relay", "7"],
         &["decoder", "7"],
+        &["run", "--workers", "0"],
+        &["run", "--batch", "2", "--batch", "3"],
     ];
     let mut trunk = MemTrunk::new(alloc)?;
     for texts in rows {
@@ -371,5 +373,28 @@ fn other_words_are_usage(rt: HostRuntime) -> Result<(), Fail> {
     let mut desk = desk(alloc, &[], 3)?;
     assert_eq!(rt; carry(alloc, &["relay", "07"], &mut trunk, &mut desk)?, 1);
     assert_eq!(rt; desk.text(), b"usa".as_slice());
+    Ok(())
+}
+
+#[test]
+fn orders_are_refused(rt: HostRuntime) -> Result<(), Fail> {
+    let alloc = rt.alloc();
+    let mut trunk = MemTrunk::new(alloc)?;
+    for (orders, fails, status, text) in [
+        ("5 open 1\n4 open 2", 9, 2, "orders line 2\n"),
+        ("0 open 01", 9, 2, "orders line 1\n"),
+        ("0 open 1", 0, 3, "orders unread\n"),
+    ] {
+        let octets = orders.as_bytes().to_vec(alloc)?;
+        let mut desk = MemDesk::new(
+            alloc,
+            octets,
+            vec![in alloc; fails; 1]?,
+            Vec::new(alloc),
+            100,
+        )?;
+        assert_eq!(rt; carry(alloc, &["run"], &mut trunk, &mut desk)?, status);
+        assert_eq!(rt; desk.text(), text.as_bytes());
+    }
     Ok(())
 }

@@ -1,31 +1,32 @@
 // The top call: the words in, the octets and the text out, and the status.
-ghost use Rattle.std.specs.Prelude.{◌≡◌, ◌≢◌, ◌≤◌, ℕ, map, string_bytes, codes};
+ghost use Rattle.std.specs.Prelude.{◌≡◌, ◌≢◌, ◌≤◌, ◌⊎◌, ℕ, List, map, string_bytes, codes};
 ghost use Rattle.trau_io.specs.declared.line.Side.TheVariants.{Up};
-ghost use Rattle.trau_io.specs.declared.line.Side.{Side};
+ghost use Rattle.trau_orders.specs.declared.order.Order.{Order};
+ghost use Rattle.farm_output.specs.Run.{Run};
+ghost use Rattle.farm_run.specs.Runs.{IsRunOver};
 ghost use Rattle.farm_tools.specs.declared.end.Tool.{Tool};
 ghost use Rattle.farm_tools.specs.Causes.{Causes};
 ghost use Rattle.farm_tools.specs.Clean.{CleanRun};
-ghost use Rattle.farm_tools.specs.Frames.{CleanFrames, FramesCauses, FramesRun};
+ghost use Rattle.farm_tools.specs.Frames.{CleanFrames, FramesCauses};
 ghost use Rattle.farm_tools.specs.Tools.{ToolRuns, status_of};
-ghost use Rattle.farm_top.specs.Top.{Answers, Carries, CarriesFrames, TextOut};
-ghost use Rattle.farm_top.specs.Words.{AreCommand, AsksFor, AsksForFrames};
+ghost use Rattle.farm_words.specs.declared.asked.Settings.{Settings};
+ghost use Rattle.farm_top.specs.Farm.{AllStay, CarriesRun, LacksMemory, TextOut};
+ghost use Rattle.farm_top.specs.FarmCauses.{RunCauses};
+ghost use Rattle.farm_top.specs.Headline.{Headline};
+ghost use Rattle.farm_top.specs.FarmClean.{CleanFarm, IsCalmRun, TellsOrders};
+ghost use Rattle.farm_top.specs.Top.{Answers, Carries, CarriesAsked, CarriesFrames, IsInRange};
+ghost use Rattle.farm_top.specs.Words.{AreCommand, AsksFor, AsksForFrames, AsksForRun, BeginWithRun};
 
-use crate::words::{Asked, read_words};
+use crate::farm::{no_memory, run_farm};
+use crate::status::{DESK_WRITE_FAULT, DONE, FRAME_REFUSED, LINE_FAILED, NO_MEMORY, USAGE};
+use farm_calls::{
+    items_are_the_partners_frames, items_go_out_in_order_and_once, lines_are_of_whole_calls,
+};
 use farm_tools::{Tool, ToolEnd, decode, encode, frames, relay};
+use farm_words::{Asked, WordsFault, read_words};
 use std::alloc::Global;
 use trau_io::{Desk, Trunk, tell};
-
-const DONE: u8 = 0;
-
-const USAGE: u8 = 1;
-
-const DESK_WRITE_FAULT: u8 = 4;
-
-const NO_MEMORY: u8 = 5;
-
-const LINE_FAILED: u8 = 6;
-
-const FRAME_REFUSED: u8 = 8;
+use trau_orders::one_answer;
 
 // The status that stands for a tool's end.
 fn status_of_end(end: ToolEnd) -> u8
@@ -70,6 +71,39 @@ fn answer<D: Desk>(end: ToolEnd, desk: &mut D) -> u8
     status_of_end(end)
 }
 
+// Has a tool do its work, and answers for its end.
+fn carry_tool<T: Trunk, D: Desk>(
+    alloc: Global,
+    tool: Tool,
+    call: u32,
+    trunk: &mut T,
+    desk: &mut D,
+) -> u8
+    requires low { 1 ≤ call }
+    requires high { call ≤ 4096 }
+    ensures { Carries tool (T.lines trunk.old) (T.lines trunk.new) (D.desk desk.old) (D.desk desk.new) call result }
+{
+    let end = work(alloc, tool, call, trunk, desk);
+    answer(end, desk)
+}
+
+// Carries out what is asked for.
+fn carry_out<T: Trunk, D: Desk>(alloc: Global, asked: Asked, trunk: &mut T, desk: &mut D) -> u8
+    requires { IsInRange asked }
+    ensures { CarriesAsked asked (T.lines trunk.old) (T.lines trunk.new) (D.desk desk.old) (D.desk desk.new) result }
+{
+    match asked {
+        Asked::Run(settings) => run_farm(alloc, settings, trunk, desk),
+        Asked::Relay(call) => carry_tool(alloc, Tool::Relay, call, trunk, desk),
+        Asked::Decode(call) => carry_tool(alloc, Tool::Decode, call, trunk, desk),
+        Asked::Encode(call) => carry_tool(alloc, Tool::Encode, call, trunk, desk),
+        Asked::Frames(call) => {
+            let end = frames(alloc, call, trunk, desk);
+            answer(end, desk)
+        }
+    }
+}
+
 /// Carries out the command that the words name on the lines of the trunk, writes its text to the desk, and
 /// answers the status.
 ///
@@ -80,37 +114,75 @@ fn answer<D: Desk>(end: ToolEnd, desk: &mut D) -> u8
 /// `relay` and `decode` the first block that isn't a good speech frame ends the command. A Pcm line is cut into blocks
 /// of 160 octets. What `encode` and `frames` leave of the line behind the last whole block is told and not used.
 ///
+/// The command `run` reads orders from the desk, runs them over the lines of all calls, and tells the report, which
+/// names the lines that failed. Its options, in any order and each at most once, are `--workers` (threads, 1 to 64,
+/// else 4), `--batch` (the most periods of a round, 1 to 250, else 50), `--slice` (the most periods of a call that are
+/// worked at a time, 1 to 250, else 5) and `--periods` (the most periods of the run, 1 to 4,294,967,295, else that).
+///
 /// | Status | Comes | Text on the desk |
 /// |---|---|---|
-/// | 0 | the incoming line was worked to its end, or to 4,294,967,295 blocks | `relay frames N`, `decode frames N`, `encode frames N left R`; `frames N left R` behind a line of text for each of its N yields |
-/// | 1 | exactly where the words aren't those of a command | `usage` |
+/// | 0 | the incoming line was worked to its end, or to 4,294,967,295 blocks; the run ended and no line's count rose | `relay frames N`, `decode frames N`, `encode frames N left R`; `frames N left R` behind a line of text for each of its N yields; the report |
+/// | 1 | exactly where the words aren't those of a command (or 5, behind `run`) | `usage` |
+/// | 2 | a line of the orders isn't in their grammar, N being the first | `orders line N` |
+/// | 3 | the desk failed while the orders were read | `orders unread` |
 /// | 4 | the desk failed while the command's text went out | a proper front of the command's text |
 /// | 5 | want of memory | `no memory` |
-/// | 6 | a line of the command failed | `line C up failed`, with the line's side, behind the lines of text that `frames` had told |
-/// | 8 | a block of an uplink isn't a good speech frame, or the line ended inside it | `relay refused N`, `decode refused N`, N being the number of blocks before it |
+/// | 6 | the count of a line of the command rose | `line C up failed`, with the line's side, behind the lines of text that `frames` had told; the report |
+/// | 7 | the orders have more than 1,048,576 octets or more than 65,536 lines | `orders too long` |
+/// | 8 | only of `relay` and `decode`: a block of the uplink isn't a good speech frame, or the line ended inside it | `relay refused N`, `decode refused N`, N being the number of blocks before it |
+///
+/// Where several would be due in `run`, 3 goes before 7, 7 before 2, 2 before 4 and 4 before 6, and 5 may come in place
+/// of any but 3; after 2, 3 and 7 no line was used. A desk that fails while the text of 1, 2, 3, 5 or 7 goes out changes
+/// nothing of the status.
 pub fn farm_top<T: Trunk, D: Desk>(
     alloc: Global,
     words: &[String],
     trunk: &mut T,
     desk: &mut D,
 ) -> u8
-    // Status 1 comes exactly where the words are no command's, and then no line is used.
-    ensures usage { (AreCommand (map (λ w. string_bytes w) words.now) → ⊥) → result ≡ 1 }
+    // Status 1 comes exactly where the words are no command's, and then no line is used. Behind `run`, want of memory may
+    // come in its place.
+    ensures usage { (AreCommand (map (λ w. string_bytes w) words.now) → ⊥) →
+        (result ≡ 1) ⊎ (BeginWithRun (map (λ w. string_bytes w) words.now) × LacksMemory (D.desk desk.old) (D.desk desk.new) result) }
     ensures usage_only { AreCommand (map (λ w. string_bytes w) words.now) → result ≢ 1 }
     ensures usage_text { result ≡ 1 → TextOut (D.desk desk.old) (D.desk desk.new) (codes "usage\n") }
-    ensures unused { result ≡ 1 → (c : ℕ) (s : Side) → T.lines trunk.new c s ≡ T.lines trunk.old c s }
+    ensures unused { (AreCommand (map (λ w. string_bytes w) words.now) → ⊥) → AllStay (T.lines trunk.old) (T.lines trunk.new) }
 
     // What a command does, whatever fails.
     ensures command { (t : Tool) (c : ℕ) → AsksFor (map (λ w. string_bytes w) words.now) t c →
         Carries t (T.lines trunk.old) (T.lines trunk.new) (D.desk desk.old) (D.desk desk.new) c result }
     ensures frames { (c : ℕ) → AsksForFrames (map (λ w. string_bytes w) words.now) c →
         CarriesFrames (T.lines trunk.old) (T.lines trunk.new) (D.desk desk.old) (D.desk desk.new) c result }
+    ensures run { (s : Settings) → AsksForRun (map (λ w. string_bytes w) words.now) s →
+        CarriesRun s (T.lines trunk.old) (T.lines trunk.new) (D.desk desk.old) (D.desk desk.new) result }
 
     // Why each of its statuses comes.
     ensures causes { (t : Tool) (c : ℕ) → AsksFor (map (λ w. string_bytes w) words.now) t c →
         Causes t c (T.lines trunk.old) (T.lines trunk.new) (D.desk desk.old) (D.desk desk.new) result }
     ensures frames_causes { (c : ℕ) → AsksForFrames (map (λ w. string_bytes w) words.now) c →
         FramesCauses (T.lines trunk.old c Up) (T.lines trunk.new c Up) (D.desk desk.old) (D.desk desk.new) result }
+    ensures run_causes { (s : Settings) → AsksForRun (map (λ w. string_bytes w) words.now) s →
+        RunCauses (T.lines trunk.old) (T.lines trunk.new) (D.desk desk.old) (D.desk desk.new) result }
+
+    // Orders in the grammar and within the limits are run to the end where no count rises, unless there is no memory. What
+    // the run of these orders over the told lines gives is then exactly what the lines and the desk have gained.
+    ensures run_complete { (s : Settings) → AsksForRun (map (λ w. string_bytes w) words.now) s →
+        (orders : List Order) → TellsOrders orders (D.desk desk.old) →
+        IsCalmRun (T.lines trunk.old) (T.lines trunk.new) (D.desk desk.old) (D.desk desk.new) → (result ≡ 0) ⊎ (result ≡ 5) }
+    ensures run_clean { (s : Settings) → AsksForRun (map (λ w. string_bytes w) words.now) s →
+        (orders : List Order) → TellsOrders orders (D.desk desk.old) →
+        IsCalmRun (T.lines trunk.old) (T.lines trunk.new) (D.desk desk.old) (D.desk desk.new) → result ≢ 5 →
+        (r : Run) → IsRunOver orders s.periods (T.lines trunk.old) r →
+        CleanFarm r (T.lines trunk.old) (T.lines trunk.new) (D.desk desk.old) (D.desk desk.new) result }
+
+    // The headline. Whatever the cuts of reads and writes, the orders and the periods that are worked at a time, the octets
+    // written on a call's outgoing lines are those of the definition of the call as a whole, of its own incoming lines and
+    // orders and, only between a bridge's reported start and end, of its partner's uplink; there each good speech frame's
+    // 260 bits go out unchanged, in order and once.
+    ensures headline { (s : Settings) → AsksForRun (map (λ w. string_bytes w) words.now) s →
+        (orders : List Order) → TellsOrders orders (D.desk desk.old) →
+        IsCalmRun (T.lines trunk.old) (T.lines trunk.new) (D.desk desk.old) (D.desk desk.new) → result ≢ 5 →
+        (r : Run) → IsRunOver orders s.periods (T.lines trunk.old) r → Headline r (T.lines trunk.old) (T.lines trunk.new) }
 
     // Where nothing fails and the outside tells what it holds, the outgoing line has gained exactly what is made of
     // the incoming line's blocks up to the first refused one, and the desk exactly the text.
@@ -119,18 +191,18 @@ pub fn farm_top<T: Trunk, D: Desk>(
     ensures frames_clean { (c : ℕ) → AsksForFrames (map (λ w. string_bytes w) words.now) c →
         CleanFrames c (T.lines trunk.old c Up) (T.lines trunk.new c Up) (D.desk desk.old) (D.desk desk.new) result }
 {
-    match read_words(words) {
-        Some(Asked::Work(tool, call)) => {
-            let end = work(alloc, tool, call, trunk, desk);
-            answer(end, desk)
-        }
-        Some(Asked::Frames(call)) => {
-            let end = frames(alloc, call, trunk, desk);
-            answer(end, desk)
-        }
-        None => {
+    // Laws: lines spell one list of orders at most, and then have no bad one; what a run leaves are the lines of whole calls,
+    // and its bridges hand frames over.
+    one_answer();
+    lines_are_of_whole_calls();
+    items_are_the_partners_frames();
+    items_go_out_in_order_and_once();
+    match read_words(alloc, words) {
+        Ok(asked) => carry_out(alloc, asked, trunk, desk),
+        Err(WordsFault::Usage) => {
             let _ = tell(desk, b"usage\n");
             USAGE
         }
+        Err(WordsFault::Memory) => no_memory(desk),
     }
 }

@@ -3,5 +3,5 @@ mod Words
 mod OneOrder
 mod TextLines
 mod Reading
-mod Known
+pub mod Known
 mod FirstBad

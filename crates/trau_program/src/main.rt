@@ -1,9 +1,9 @@
 //! The program `trau`: the files of the current folder and the standard streams, round the top call.
 //!
 //! At the top: makes the two outsides that the top call works on, the lines as files (`FileTrunk`) and
-//! the standard streams as the desk (`StdDesk`), hands it the words of the command line and ends with
-//! the status that it answers. Nothing is decided here but what comes before that call: words that
-//! aren't UTF-8, and want of memory.
+//! the standard streams as the desk (`StdDesk`: the orders of a run come in, texts go out), hands it the
+//! words of the command line and ends with the status that it answers. Nothing is decided here but what
+//! comes before that call: words that aren't UTF-8, and want of memory.
 //!
 //! This is the trusted edge: no contract can say what the system's files and streams hold. What both
 //! tell of themselves are their counts of faults, and these are proved against the traits of `trau_io`.

@@ -1,33 +1,146 @@
-use Rattle.std.proofs.Common.{List, map, subst}
-use Rattle.std.specs.Prelude.{string_bytes}
-use Rattle.farm_top.specs.Asked.{Means}
-use Rattle.farm_top.specs.Top.{Carries, CarriesFrames}
-use Rattle.farm_top.specs.Words.{AsksFor, AsksForFrames}
-use Rattle.farm_top.proofs.Asking.{same_tool, same_call}
+use Rattle.std.proofs.Common.{◌≡◌, inl, inr, ℕ, refl, arith, rules}
+use Rattle.farm_top.proofs.Asking.{is_command, no_command, no_listing, no_tool, in_range, tool_carried, listing_carried, run_carried}
 use Rattle.farm_top.proofs.Carrying.{causes, clean, listing_causes, listing_clean}
+use Rattle.farm_top.proofs.FarmCausing.{run_causes}
+use Rattle.farm_top.proofs.FarmCleaning.{run_clean, run_complete}
+use Rattle.farm_top.proofs.Ending.{not_usage}
+use Rattle.farm_top.proofs.Headlining.{headline_of, hands_over, goes_out, are_orders}
 use Rattle.farm_top.proofs.top.farm_top.Goals as goal
 
-pub returns-in-Some-Work-clause-command : goal.returns-in-Some-Work-clause-command
-returns-in-Some-Work-clause-command g c = λ t n asks.
-    let meant : AsksFor (map (λ w. string_bytes w) c.args.words.now) c.in-Some-Work.tool c.in-Some-Work.call = subst (λ a. Means (map (λ w. string_bytes w) c.args.words.now) a) c.in-Some-Work.field-0-is c.in-Some-Work.ensures.some in
-    subst (λ s. Carries s (g.T.Trunk.lines c.args.trunk.now) (g.T.Trunk.lines c.work-end.new.trunk) (g.D.Desk.desk c.args.desk.now) (g.D.Desk.desk c.answer.new.desk) n c.answer.result) (same_tool _ _ t _ n meant asks)
-    (subst (λ k. Carries c.in-Some-Work.tool (g.T.Trunk.lines c.args.trunk.now) (g.T.Trunk.lines c.work-end.new.trunk) (g.D.Desk.desk c.args.desk.now) (g.D.Desk.desk c.answer.new.desk) k c.answer.result) (same_call _ _ _ _ n meant asks)
-    (record { end = c.work-end.result; left = g.D.Desk.desk c.work-end.new.desk; runs = c.work-end.ensures; answers = c.answer.ensures }))
+not_five : (status : ℕ) → status ≡ 1 → status ≡ 5 → ⊥
+not_five status one five = omega (arith, one, five)
 
-pub returns-in-Some-Work-clause-causes : goal.returns-in-Some-Work-clause-causes
-returns-in-Some-Work-clause-causes g c = λ t n asks. causes _ _ _ _ n _ t (returns-in-Some-Work-clause-command g c t n asks)
+pub carry_out-requires : goal.carry_out-requires
+carry_out-requires g c = in_range _ _ c.in-Ok.ensures.ok
 
-pub returns-in-Some-Work-clause-clean : goal.returns-in-Some-Work-clause-clean
-returns-in-Some-Work-clause-clean g c = λ t n asks. clean _ _ _ _ n _ t (returns-in-Some-Work-clause-command g c t n asks)
+-- what the words ask for was carried out
+pub returns-in-Ok-clause-usage : goal.returns-in-Ok-clause-usage
+returns-in-Ok-clause-usage g c = λ not. absurd (not (is_command _ _ c.in-Ok.ensures.ok))
 
-pub returns-in-Some-Frames-clause-frames : goal.returns-in-Some-Frames-clause-frames
-returns-in-Some-Frames-clause-frames g c = λ n asks.
-    let meant : AsksForFrames (map (λ w. string_bytes w) c.args.words.now) c.in-Some-Frames.call = subst (λ a. Means (map (λ w. string_bytes w) c.args.words.now) a) c.in-Some-Frames.field-0-is c.in-Some-Frames.ensures.some in
-    subst (λ k. CarriesFrames (g.T.Trunk.lines c.args.trunk.now) (g.T.Trunk.lines c.frames-end.new.trunk) (g.D.Desk.desk c.args.desk.now) (g.D.Desk.desk c.answer-in-Some-Frames.new.desk) k c.answer-in-Some-Frames.result) (same_call _ _ _ _ n meant asks)
-    (record { end = c.frames-end.result; left = g.D.Desk.desk c.frames-end.new.desk; runs = c.frames-end.ensures.runs; answers = c.answer-in-Some-Frames.ensures })
+pub returns-in-Ok-clause-usage_only : goal.returns-in-Ok-clause-usage_only
+returns-in-Ok-clause-usage_only g c = λ _. not_usage c.one_answer.ensures.good _ _ _ _ _ _ c.carry_out.ensures
 
-pub returns-in-Some-Frames-clause-frames_causes : goal.returns-in-Some-Frames-clause-frames_causes
-returns-in-Some-Frames-clause-frames_causes g c = λ n asks. listing_causes _ _ _ _ n _ (returns-in-Some-Frames-clause-frames g c n asks)
+pub returns-in-Ok-clause-usage_text : goal.returns-in-Ok-clause-usage_text
+returns-in-Ok-clause-usage_text g c = λ one. absurd (not_usage c.one_answer.ensures.good _ _ _ _ _ _ c.carry_out.ensures one)
 
-pub returns-in-Some-Frames-clause-frames_clean : goal.returns-in-Some-Frames-clause-frames_clean
-returns-in-Some-Frames-clause-frames_clean g c = λ n asks. listing_clean _ _ _ _ n _ (returns-in-Some-Frames-clause-frames g c n asks)
+pub returns-in-Ok-clause-unused : goal.returns-in-Ok-clause-unused
+returns-in-Ok-clause-unused g c = λ not. absurd (not (is_command _ _ c.in-Ok.ensures.ok))
+
+pub returns-in-Ok-clause-command : goal.returns-in-Ok-clause-command
+returns-in-Ok-clause-command g c = tool_carried _ _ c.in-Ok.ensures.ok _ _ _ _ _ c.carry_out.ensures
+
+pub returns-in-Ok-clause-frames : goal.returns-in-Ok-clause-frames
+returns-in-Ok-clause-frames g c = listing_carried _ _ c.in-Ok.ensures.ok _ _ _ _ _ c.carry_out.ensures
+
+pub returns-in-Ok-clause-run : goal.returns-in-Ok-clause-run
+returns-in-Ok-clause-run g c = λ s asks. inl (run_carried _ _ c.in-Ok.ensures.ok _ _ _ _ _ c.carry_out.ensures s asks)
+
+pub returns-in-Ok-clause-causes : goal.returns-in-Ok-clause-causes
+returns-in-Ok-clause-causes g c = λ t n asks. causes _ _ _ _ n _ t (returns-in-Ok-clause-command g c t n asks)
+
+pub returns-in-Ok-clause-frames_causes : goal.returns-in-Ok-clause-frames_causes
+returns-in-Ok-clause-frames_causes g c = λ n asks. listing_causes _ _ _ _ n _ (returns-in-Ok-clause-frames g c n asks)
+
+pub returns-in-Ok-clause-run_causes : goal.returns-in-Ok-clause-run_causes
+returns-in-Ok-clause-run_causes g c = λ s asks. run_causes c.one_answer.ensures.good s _ _ _ _ _ (returns-in-Ok-clause-run g c s asks)
+
+pub returns-in-Ok-clause-run_complete : goal.returns-in-Ok-clause-run_complete
+returns-in-Ok-clause-run_complete g c = λ s asks orders told calm. run_complete c.one_answer.ensures.good c.one_answer.ensures.orders s _ _ _ _ _ orders told calm (returns-in-Ok-clause-run g c s asks)
+
+pub returns-in-Ok-clause-run_clean : goal.returns-in-Ok-clause-run_clean
+returns-in-Ok-clause-run_clean g c = λ s asks orders told calm. run_clean c.one_answer.ensures.good c.one_answer.ensures.orders s _ _ _ _ _ orders told calm (returns-in-Ok-clause-run g c s asks)
+
+pub returns-in-Ok-clause-headline : goal.returns-in-Ok-clause-headline
+returns-in-Ok-clause-headline g c = λ s asks orders told calm not r over.
+    let are = are_orders r s.periods orders _ _ told over in
+    let lines = c.lines_are_of_whole_calls.ensures in
+    let clean = returns-in-Ok-clause-run_clean g c s asks orders told calm not r over in
+    headline_of r _ _ (λ n opened. lines.out r n are opened) (λ n opened. lines.down r n are opened) (hands_over r (λ n t x. c.items_are_the_partners_frames.ensures.frame r n t x are) (λ n t. c.items_are_the_partners_frames.ensures.none r n t are))
+    (goes_out r (λ n t first j x. c.items_go_out_in_order_and_once.ensures.place r n t first j x are) (λ n t j x p bits. c.items_go_out_in_order_and_once.ensures.good r n t j x p bits are) (λ n t j k x. c.items_go_out_in_order_and_once.ensures.on_line r n t j k x are)
+    (λ n t u j k x. c.items_go_out_in_order_and_once.ensures.in_order r n t u j k x are) (λ n t j k x. c.items_go_out_in_order_and_once.ensures.once r n t j k x are)) clean.leaves
+
+pub returns-in-Ok-clause-clean : goal.returns-in-Ok-clause-clean
+returns-in-Ok-clause-clean g c = λ t n asks. clean _ _ _ _ n _ t (returns-in-Ok-clause-command g c t n asks)
+
+pub returns-in-Ok-clause-frames_clean : goal.returns-in-Ok-clause-frames_clean
+returns-in-Ok-clause-frames_clean g c = λ n asks. listing_clean _ _ _ _ n _ (returns-in-Ok-clause-frames g c n asks)
+
+-- the words ask for nothing
+pub returns-in-Err-Usage-clause-usage_only : goal.returns-in-Err-Usage-clause-usage_only
+returns-in-Err-Usage-clause-usage_only g c = λ are. absurd (no_command _ (c.in-Err-Usage.ensures.usage (search rules)) are)
+
+pub returns-in-Err-Usage-clause-command : goal.returns-in-Err-Usage-clause-command
+returns-in-Err-Usage-clause-command g c = λ t n asks. absurd (no_command _ (c.in-Err-Usage.ensures.usage (search rules)) (inl (t, n, asks)))
+
+pub returns-in-Err-Usage-clause-frames : goal.returns-in-Err-Usage-clause-frames
+returns-in-Err-Usage-clause-frames g c = λ n asks. absurd (no_command _ (c.in-Err-Usage.ensures.usage (search rules)) (inr (inl (n, asks))))
+
+pub returns-in-Err-Usage-clause-run : goal.returns-in-Err-Usage-clause-run
+returns-in-Err-Usage-clause-run g c = λ s asks. absurd (no_command _ (c.in-Err-Usage.ensures.usage (search rules)) (inr (inr (s, asks))))
+
+pub returns-in-Err-Usage-clause-causes : goal.returns-in-Err-Usage-clause-causes
+returns-in-Err-Usage-clause-causes g c = λ t n asks. absurd (no_command _ (c.in-Err-Usage.ensures.usage (search rules)) (inl (t, n, asks)))
+
+pub returns-in-Err-Usage-clause-frames_causes : goal.returns-in-Err-Usage-clause-frames_causes
+returns-in-Err-Usage-clause-frames_causes g c = λ n asks. absurd (no_command _ (c.in-Err-Usage.ensures.usage (search rules)) (inr (inl (n, asks))))
+
+pub returns-in-Err-Usage-clause-run_causes : goal.returns-in-Err-Usage-clause-run_causes
+returns-in-Err-Usage-clause-run_causes g c = λ s asks. absurd (no_command _ (c.in-Err-Usage.ensures.usage (search rules)) (inr (inr (s, asks))))
+
+pub returns-in-Err-Usage-clause-headline : goal.returns-in-Err-Usage-clause-headline
+returns-in-Err-Usage-clause-headline g c = λ s asks. absurd (no_command _ (c.in-Err-Usage.ensures.usage (search rules)) (inr (inr (s, asks))))
+
+pub returns-in-Err-Usage-clause-clean : goal.returns-in-Err-Usage-clause-clean
+returns-in-Err-Usage-clause-clean g c = λ t n asks. absurd (no_command _ (c.in-Err-Usage.ensures.usage (search rules)) (inl (t, n, asks)))
+
+pub returns-in-Err-Usage-clause-frames_clean : goal.returns-in-Err-Usage-clause-frames_clean
+returns-in-Err-Usage-clause-frames_clean g c = λ n asks. absurd (no_command _ (c.in-Err-Usage.ensures.usage (search rules)) (inr (inl (n, asks))))
+
+pub returns-in-Err-Usage-clause-run_complete : goal.returns-in-Err-Usage-clause-run_complete
+returns-in-Err-Usage-clause-run_complete g c = λ s asks. absurd (no_command _ (c.in-Err-Usage.ensures.usage (search rules)) (inr (inr (s, asks))))
+
+pub returns-in-Err-Usage-clause-run_clean : goal.returns-in-Err-Usage-clause-run_clean
+returns-in-Err-Usage-clause-run_clean g c = λ s asks. absurd (no_command _ (c.in-Err-Usage.ensures.usage (search rules)) (inr (inr (s, asks))))
+
+-- there was no memory for the words, which begin with `run`
+pub returns-in-Err-Memory-clause-usage : goal.returns-in-Err-Memory-clause-usage
+returns-in-Err-Memory-clause-usage g c = λ _. inr (c.in-Err-Memory.ensures.memory (search rules), c.no_memory.ensures)
+
+pub returns-in-Err-Memory-clause-usage_only : goal.returns-in-Err-Memory-clause-usage_only
+returns-in-Err-Memory-clause-usage_only g c = λ _ one. not_five _ one c.no_memory.ensures.status_is
+
+pub returns-in-Err-Memory-clause-usage_text : goal.returns-in-Err-Memory-clause-usage_text
+returns-in-Err-Memory-clause-usage_text g c = λ one. absurd (not_five _ one c.no_memory.ensures.status_is)
+
+pub returns-in-Err-Memory-clause-command : goal.returns-in-Err-Memory-clause-command
+returns-in-Err-Memory-clause-command g c = λ t n asks. absurd (no_tool _ t n (c.in-Err-Memory.ensures.memory (search rules)) asks)
+
+pub returns-in-Err-Memory-clause-frames : goal.returns-in-Err-Memory-clause-frames
+returns-in-Err-Memory-clause-frames g c = λ n asks. absurd (no_listing _ n (c.in-Err-Memory.ensures.memory (search rules)) asks)
+
+pub returns-in-Err-Memory-clause-run : goal.returns-in-Err-Memory-clause-run
+returns-in-Err-Memory-clause-run g c = λ s asks. inr ((λ n side. refl), c.no_memory.ensures)
+
+pub returns-in-Err-Memory-clause-causes : goal.returns-in-Err-Memory-clause-causes
+returns-in-Err-Memory-clause-causes g c = λ t n asks. absurd (no_tool _ t n (c.in-Err-Memory.ensures.memory (search rules)) asks)
+
+pub returns-in-Err-Memory-clause-frames_causes : goal.returns-in-Err-Memory-clause-frames_causes
+returns-in-Err-Memory-clause-frames_causes g c = λ n asks. absurd (no_listing _ n (c.in-Err-Memory.ensures.memory (search rules)) asks)
+
+pub returns-in-Err-Memory-clause-run_causes : goal.returns-in-Err-Memory-clause-run_causes
+returns-in-Err-Memory-clause-run_causes g c = λ s asks. run_causes c.one_answer.ensures.good s _ _ _ _ _ (returns-in-Err-Memory-clause-run g c s asks)
+
+pub returns-in-Err-Memory-clause-run_complete : goal.returns-in-Err-Memory-clause-run_complete
+returns-in-Err-Memory-clause-run_complete g c = λ s asks orders told calm. run_complete c.one_answer.ensures.good c.one_answer.ensures.orders s _ _ _ _ _ orders told calm (returns-in-Err-Memory-clause-run g c s asks)
+
+pub returns-in-Err-Memory-clause-run_clean : goal.returns-in-Err-Memory-clause-run_clean
+returns-in-Err-Memory-clause-run_clean g c = λ s asks orders told calm. run_clean c.one_answer.ensures.good c.one_answer.ensures.orders s _ _ _ _ _ orders told calm (returns-in-Err-Memory-clause-run g c s asks)
+
+pub returns-in-Err-Memory-clause-headline : goal.returns-in-Err-Memory-clause-headline
+returns-in-Err-Memory-clause-headline g c = λ s asks orders told calm not. absurd (not c.no_memory.ensures.status_is)
+
+pub returns-in-Err-Memory-clause-clean : goal.returns-in-Err-Memory-clause-clean
+returns-in-Err-Memory-clause-clean g c = λ t n asks. absurd (no_tool _ t n (c.in-Err-Memory.ensures.memory (search rules)) asks)
+
+pub returns-in-Err-Memory-clause-frames_clean : goal.returns-in-Err-Memory-clause-frames_clean
+returns-in-Err-Memory-clause-frames_clean g c = λ n asks. absurd (no_listing _ n (c.in-Err-Memory.ensures.memory (search rules)) asks)

@@ -1,0 +1,91 @@
+-- The command `run`: the orders, the run over the lines, and its report (this project's profile).
+use Rattle.std.specs.Prelude.{◌≡◌, ◌⊎◌, ℕ, List, [], ◌∷◌, ◌++◌, codes, decimal, Some, Result, Ok, Err, IsErrOf}
+use Rattle.trau_io.specs.declared.line.Side.{Side}
+use Rattle.trau_io.specs.declared.line.Line.{Line as TheLine}
+use Rattle.trau_io.specs.declared.line.Failed.{Failed}
+use Rattle.trau_io.specs.Lines.{LineState, Rose}
+use Rattle.trau_io.specs.Desks.{DeskState}
+use Rattle.trau_io.specs.Transfer.{Tells}
+use Rattle.trau_orders.specs.declared.order.Order.{Order}
+use Rattle.farm_orders.specs.declared.fault.OrdersFault.{OrdersFault}
+use Rattle.farm_orders.specs.declared.fault.OrdersFault.TheVariants.{Unread, TooLong, Line, Memory}
+use Rattle.farm_orders.specs.Reading.{ReadsOrders, AnswersTold}
+use Rattle.farm_report.specs.Lines.{report_text}
+use Rattle.farm_report.specs.View.{ReportView}
+use Rattle.farm_run.specs.declared.pace.Pace.{Pace}
+use Rattle.farm_run.specs.Runs.{Runs}
+use Rattle.farm_words.specs.declared.asked.Settings.{Settings}
+
+-- a text went out, or a proper front of it before the desk failed
+pub record TextOut (before now : DeskState) (text : List ℕ) : Type 0 where
+  pub result : Result (Unit {0}) Failed
+  pub tells : Tells before now result text
+
+-- every line is as it was, its count of faults included
+abbrev pub AllStay : (ℕ → Side → LineState) → (ℕ → Side → LineState) → Type 0
+AllStay before now = (c : ℕ) (s : Side) → now c s ≡ before c s
+
+-- the command ends with this text and this status; a desk that fails while the text goes out changes nothing of the
+-- status
+pub record EndsWith (desk desk' : DeskState) (text : List ℕ) (due status : ℕ) : Type 0 where
+  pub status_is : status ≡ due
+  pub text_out : TextOut desk desk' text
+
+-- there was no memory
+abbrev pub LacksMemory : DeskState → DeskState → ℕ → Type 0
+LacksMemory desk desk' status = EndsWith desk desk' (codes "no memory\n") 5 status
+
+-- the pace of the run, by the settings
+abbrev pub pace_of : Settings → Pace
+pace_of s = record { workers = s.workers; batch = s.batch; slice = s.slice; periods = s.periods }
+
+-- the text for the first line that isn't in the grammar
+abbrev pub line_text : ℕ → List ℕ
+line_text n = codes "orders line " ++ (decimal n ++ codes "\n")
+
+-- orders that aren't taken end the command by why they aren't
+abbrev pub RefusesOrders : OrdersFault → DeskState → DeskState → ℕ → Type 0
+RefusesOrders Unread desk desk' status = EndsWith desk desk' (codes "orders unread\n") 3 status
+RefusesOrders TooLong desk desk' status = EndsWith desk desk' (codes "orders too long\n") 7 status
+RefusesOrders (Line n) desk desk' status = EndsWith desk desk' (line_text n) 2 status ⊎ LacksMemory desk desk' status
+RefusesOrders Memory desk desk' status = LacksMemory desk desk' status
+
+-- the status of a whole run, by the lines that its report lists as failed
+abbrev pub status_of_run : List TheLine → ℕ
+status_of_run [] = 0
+status_of_run (line ∷ lines) = 6
+
+-- the report's text went out, and the status is that of the run; or a proper front of it before the desk failed; or there
+-- was no memory for it
+abbrev pub TellsReport : ReportView → DeskState → DeskState → ℕ → Type 0
+TellsReport report desk desk' status =
+    ((status ≡ status_of_run report.failed) × Tells desk desk' (Ok tt) (report_text report))
+    ⊎ ((status ≡ 4) × Tells desk desk' (Err (record {})) (report_text report))
+    ⊎ LacksMemory desk desk' status
+
+-- orders that were taken are run over the lines, and the report is told
+pub record RunsAndTells (orders : List Order) (pace : Pace) (before now : ℕ → Side → LineState) (desk desk' : DeskState) (status : ℕ) : Type 0 where
+  pub report : ReportView
+  pub runs : Runs orders pace before now report
+  pub tells : TellsReport report desk desk' status
+
+-- what follows the reading: the run, unless there was no memory for it; or the refusal of the orders, and no line was used
+abbrev pub FollowsReading : Result (List Order) OrdersFault → Settings → (ℕ → Side → LineState) → (ℕ → Side → LineState) → DeskState → DeskState → ℕ → Type 0
+FollowsReading (Ok orders) s before now desk desk' status = RunsAndTells orders (pace_of s) before now desk desk' status ⊎ LacksMemory desk desk' status
+FollowsReading (Err fault) s before now desk desk' status = AllStay before now × RefusesOrders fault desk desk' status
+
+-- a whole command `run`, whatever fails: the desk is read, and what follows is by the reading
+pub record RunsFarm (s : Settings) (before now : ℕ → Side → LineState) (desk desk' : DeskState) (status : ℕ) : Type 0 where
+  pub read : DeskState
+  pub reading : Result (List Order) OrdersFault
+  pub reads : ReadsOrders desk read reading
+  pub told : (text : List ℕ) → desk.to_come ≡ Some text → AnswersTold text reading
+  pub unread : IsErrOf reading Unread → Rose desk.read_faults read.read_faults
+  pub calm : (IsErrOf reading Unread → ⊥) → read.read_faults ≡ desk.read_faults
+  pub written : read.written ≡ desk.written
+  pub write_faults : read.write_faults ≡ desk.write_faults
+  pub follows : FollowsReading reading s before now read desk' status
+
+-- or there was no memory to read the words, and neither a line nor the orders were used
+abbrev pub CarriesRun : Settings → (ℕ → Side → LineState) → (ℕ → Side → LineState) → DeskState → DeskState → ℕ → Type 0
+CarriesRun s before now desk desk' status = RunsFarm s before now desk desk' status ⊎ (AllStay before now × LacksMemory desk desk' status)

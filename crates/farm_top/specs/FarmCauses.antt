@@ -1,0 +1,50 @@
+-- Why the command `run` ends as it does, by its status (this project's profile).
+use Rattle.std.specs.Prelude.{◌≡◌, ◌⊎◌, ℕ, ◌<◌, List, length, Some}
+use Rattle.std.specs.Io.KnownBytes.{Consumes, IsAtEnd}
+use Rattle.trau_io.specs.declared.line.Side.{Side}
+use Rattle.trau_io.specs.Lines.{LineState, Rose}
+use Rattle.trau_io.specs.Desks.{DeskState}
+use Rattle.trau_orders.specs.Text.{text_lines, IsFirstBad}
+use Rattle.farm_orders.specs.Reading.{IsWithin}
+use Rattle.farm_top.specs.Farm.{AllStay, TextOut, line_text}
+
+-- the orders were read to their end and are within the limits, line n is the first that isn't in the grammar, and the
+-- text says so
+pub record ReadsBadLine (desk desk' : DeskState) : Type 0 where
+  pub given : List ℕ
+  pub n : ℕ
+  pub consumed : Consumes desk.to_come desk'.to_come given
+  pub at_end : IsAtEnd desk'.to_come
+  pub within : IsWithin given
+  pub first_bad : IsFirstBad (text_lines given) n
+  pub read : DeskState
+  pub text_out : TextOut read desk' (line_text n)
+
+-- the orders were read to just past the limit of octets, or to their end, and are too many lines
+pub record ReadsTooLong (desk desk' : DeskState) : Type 0 where
+  pub given : List ℕ
+  pub consumed : Consumes desk.to_come desk'.to_come given
+  pub long : (length given ≡ 1048577) ⊎ (IsAtEnd desk'.to_come × (65536 < length (text_lines given)))
+
+-- the count of some line rose
+abbrev pub SomeRose : (ℕ → Side → LineState) → (ℕ → Side → LineState) → Type 0
+SomeRose before now = (c : ℕ) × (s : Side) × Rose (before c s).faults (now c s).faults
+
+-- 3 comes exactly where the desk's reading count rose. 7 comes exactly where the orders are too long, and 2 exactly where
+-- a line isn't in the grammar; they yield to 3. After 2, 3 and 7 no line was used. 4 comes exactly where the desk's
+-- writing count rose and none of these is due, 6 exactly where the count of a line rose and 4 isn't due; so after 0 no
+-- count rose. Each but 3 yields to 5, want of memory. 1 and 8 never come.
+pub record RunCauses (before now : ℕ → Side → LineState) (desk desk' : DeskState) (status : ℕ) : Type 0 where
+  pub known : (status ≡ 0) ⊎ (status ≡ 2) ⊎ (status ≡ 3) ⊎ (status ≡ 4) ⊎ (status ≡ 5) ⊎ (status ≡ 6) ⊎ (status ≡ 7)
+  pub read_failed : status ≡ 3 → Rose desk.read_faults desk'.read_faults
+  pub read_rose : desk.read_faults < desk'.read_faults → status ≡ 3
+  pub refused : status ≡ 2 → ReadsBadLine desk desk'
+  pub told_refused : (text : List ℕ) (n : ℕ) → desk.to_come ≡ Some text → IsWithin text → IsFirstBad (text_lines text) n → (status ≡ 2) ⊎ (status ≡ 3) ⊎ (status ≡ 5)
+  pub too_long : status ≡ 7 → ReadsTooLong desk desk'
+  pub told_too_long : (text : List ℕ) → desk.to_come ≡ Some text → (1048576 < length text) ⊎ (65536 < length (text_lines text)) → (status ≡ 3) ⊎ (status ≡ 5) ⊎ (status ≡ 7)
+  pub unused : (status ≡ 2) ⊎ (status ≡ 3) ⊎ (status ≡ 7) → AllStay before now
+  pub desk_failed : status ≡ 4 → Rose desk.write_faults desk'.write_faults
+  pub desk_rose : desk.write_faults < desk'.write_faults → (status ≡ 2) ⊎ (status ≡ 3) ⊎ (status ≡ 4) ⊎ (status ≡ 5) ⊎ (status ≡ 7)
+  pub line_failed : status ≡ 6 → SomeRose before now
+  pub line_rose : (c : ℕ) (s : Side) → (before c s).faults < (now c s).faults → (status ≡ 4) ⊎ (status ≡ 5) ⊎ (status ≡ 6)
+  pub done : status ≡ 0 → (c : ℕ) (s : Side) → (now c s).faults ≡ (before c s).faults

@@ -1,0 +1,35 @@
+-- What the command `run` leaves where nothing fails and the outside tells what it holds (this project's profile).
+use Rattle.std.specs.Prelude.{◌≡◌, ℕ, List, [], Some}
+use Rattle.std.specs.Io.KnownBytes.{Appends}
+use Rattle.trau_io.specs.declared.line.Side.{Side}
+use Rattle.trau_io.specs.Lines.{LineState}
+use Rattle.trau_io.specs.Desks.{DeskState}
+use Rattle.trau_orders.specs.declared.order.Order.{Order}
+use Rattle.trau_orders.specs.Text.{text_lines, AreLines}
+use Rattle.farm_orders.specs.Reading.{IsWithin}
+use Rattle.farm_output.specs.Run.{Run}
+use Rattle.farm_output.specs.Facts.{report_of}
+use Rattle.farm_report.specs.Lines.{report_text}
+use Rattle.farm_run.specs.Runs.{NoneRose, Leaves}
+use Rattle.farm_tools.specs.Causes.{IsCalm}
+
+-- the desk tells a text within the limits, whose lines are those of these orders
+pub record TellsOrders (orders : List Order) (desk : DeskState) : Type 0 where
+  pub text : List ℕ
+  pub told : desk.to_come ≡ Some text
+  pub within : IsWithin text
+  pub spelled : AreLines (text_lines text) orders
+
+-- no count rose, of a line or of the desk, and none stands at its last value
+pub record IsCalmRun (before now : ℕ → Side → LineState) (desk desk' : DeskState) : Type 0 where
+  pub lines : NoneRose before now
+  pub reading : IsCalm desk.read_faults desk'.read_faults
+  pub writing : IsCalm desk.write_faults desk'.write_faults
+
+-- What the command leaves of this run: the lines have what the run gives them, the desk gained exactly the text of the
+-- run's report, in which no line failed, and the orders were read to their end.
+pub record CleanFarm (r : Run) (before now : ℕ → Side → LineState) (desk desk' : DeskState) (status : ℕ) : Type 0 where
+  pub done : status ≡ 0
+  pub leaves : Leaves r before now
+  pub text : Appends desk.written desk'.written (report_text (report_of r []))
+  pub all_read : desk'.to_come ≡ Some []

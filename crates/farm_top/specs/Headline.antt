@@ -1,0 +1,52 @@
+-- What a run leaves on the outgoing lines of its calls, each call told as a whole (this project's profile).
+use Rattle.std.specs.Prelude.{◌≡◌, ◌≤◌, ◌<◌, ◌↔◌, ℕ, ◌+◌, ◌-◌, true, Some, None, List, [], length, map, slice_index}
+use Rattle.std.specs.Io.KnownBytes.{Appends}
+use Rattle.trau_bits.specs.Bits.{octets_of}
+use Rattle.trau_params.specs.Bits260.{bits260}
+use Rattle.trau_io.specs.declared.line.Side.{Side}
+use Rattle.trau_io.specs.declared.line.Side.TheVariants.{Down, Out}
+use Rattle.trau_io.specs.Lines.{LineState}
+use Rattle.trau_frame.specs.declared.frames.DownFrame.TheVariants.{Speech}
+use Rattle.trau_frame.specs.Frame.{data_of}
+use Rattle.trau_frame.specs.DownFrame.{down_bits}
+use Rattle.trau_frame.specs.Relay.{IsGoodSpeech}
+use Rattle.frame_sync.specs.declared.yields.Yield.TheVariants.{Frame}
+use Rattle.switchboard.specs.declared.act.Span.{Span}
+use Rattle.call_leg.specs.Uplink.{handed_fields}
+use Rattle.call_output.specs.Out.{out}
+use Rattle.call_output.specs.Down.{down}
+use Rattle.farm_report.specs.View.{ReportView}
+use Rattle.farm_output.specs.Run.{Run, spans_in, partner_in}
+use Rattle.farm_output.specs.Facts.{report_of}
+use Rattle.farm_calls.specs.Whole.{start_in, end_in, span_for, whole_call, IsBridged, item_for, yield_on, frame_on}
+use Rattle.farm_calls.specs.Sent.{frame_count, sent_frame, place_in, HasHanded, IsFirst}
+use Rattle.farm_run.specs.Runs.{IsOpened}
+
+-- A call is handed nothing but its partner's effective frames, as 260 bits, in the periods of their bridge, whose span is
+-- one of those that are reported.
+pub record HandsOver (r : Run) : Type 0 where
+  pub reported : map (λ l. l.span) (report_of r []).spans ≡ spans_in r
+  pub within : (c t : ℕ) (x : Span) → IsBridged r c t x → item_for r c t ≡ Some (bits260 (handed_fields (frame_on r (partner_in c x) t)))
+  pub outside : (c t : ℕ) → start_in r c ≤ t → t < end_in r c → ((x : Span) → IsBridged r c t x → ⊥) → item_for r c t ≡ None
+
+-- What a call is handed in period t of a bridge goes out in a frame that it makes, in as many behind the first frame made
+-- in the bridge as t lies behind the bridge's start: a good speech frame's 260 bits unchanged, with SP 1. This frame's 320
+-- bits stand on the Down line one after another, as far as the line goes. So what is handed later goes out in a later frame,
+-- and each once.
+pub record GoesOut (r : Run) : Type 0 where
+  pub place : (c t first j : ℕ) (x : Span) → IsBridged r c t x → IsFirst (whole_call r c) (span_for r c x) first → HasHanded r c x t j ↔ (j ≡ first + (t - x.from))
+  pub unchanged : (c t j : ℕ) (x : Span) (p : ℕ) (bits : List ℕ) → IsBridged r c t x → j < frame_count r c → HasHanded r c x t j →
+      yield_on r (partner_in c x) t ≡ Some (Frame p bits) → IsGoodSpeech bits → sent_frame r c j ≡ Speech (data_of bits) true
+  pub on_line : (c t j k : ℕ) (x : Span) → IsBridged r c t x → j < frame_count r c → HasHanded r c x t j → k < 320 →
+      place_in r c j + k < length (down (whole_call r c)) → slice_index (down (whole_call r c)) (place_in r c j + k) ≡ slice_index (down_bits (sent_frame r c j)) k
+  pub in_order : (c t u j k : ℕ) (x : Span) → IsBridged r c t x → IsBridged r c u x → HasHanded r c x t j → HasHanded r c x u k → t < u → j < k
+  pub once : (c t j k : ℕ) (x : Span) → IsBridged r c t x → HasHanded r c x t j → HasHanded r c x t k → j ≡ k
+
+-- The octets written on a call's outgoing lines are the definition's octets of the call as a whole: of its own incoming
+-- lines and orders and, only between a bridge's reported start and end, of its partner's uplink; there each good speech
+-- frame's 260 bits go out unchanged, in order and once.
+pub record Headline (r : Run) (before now : ℕ → Side → LineState) : Type 0 where
+  pub out_line : (c : ℕ) → IsOpened r c → Appends (before c Out).written (now c Out).written (out (whole_call r c))
+  pub down_line : (c : ℕ) → IsOpened r c → Appends (before c Down).written (now c Down).written (octets_of (down (whole_call r c)))
+  pub hands_over : HandsOver r
+  pub goes_out : GoesOut r

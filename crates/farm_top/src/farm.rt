@@ -1,0 +1,87 @@
+// The command `run`: the orders from the desk, the run over the lines, and its report to the desk.
+ghost use Rattle.farm_run.specs.Pace.{IsPace};
+ghost use Rattle.farm_top.specs.Farm.{EndsWith, LacksMemory, RefusesOrders, RunsFarm, TellsReport, pace_of};
+
+use crate::status::{
+    DESK_READ_FAULT, DESK_WRITE_FAULT, DONE, LINE_FAILED, NO_MEMORY, ORDERS_REFUSED,
+    ORDERS_TOO_LONG,
+};
+use farm_orders::{OrdersFault, read_orders};
+use farm_report::{Report, write_report};
+use farm_run::{Pace, run};
+use farm_words::Settings;
+use std::alloc::Global;
+use trau_io::{Desk, Trunk, tell};
+
+// A desk that fails while one of these texts goes out changes nothing of the status.
+fn refuse<D: Desk>(desk: &mut D, text: &[u8], status: u8) -> u8
+    ensures { EndsWith (D.desk desk.old) (D.desk desk.new) text.now status result }
+{
+    let _ = tell(desk, text);
+    status
+}
+
+/// Tells of want of memory.
+pub(crate) fn no_memory<D: Desk>(desk: &mut D) -> u8
+    ensures { LacksMemory (D.desk desk.old) (D.desk desk.new) result }
+{
+    refuse(desk, b"no memory\n", NO_MEMORY)
+}
+
+// Answers for orders that aren't taken.
+fn refuse_orders<D: Desk>(alloc: Global, fault: OrdersFault, desk: &mut D) -> u8
+    ensures { RefusesOrders fault (D.desk desk.old) (D.desk desk.new) result }
+{
+    match fault {
+        OrdersFault::Unread => refuse(desk, b"orders unread\n", DESK_READ_FAULT),
+        OrdersFault::TooLong => refuse(desk, b"orders too long\n", ORDERS_TOO_LONG),
+        OrdersFault::Memory => no_memory(desk),
+        OrdersFault::Line(line) => match format!(in alloc; "orders line {line}\n") {
+            Ok(text) => refuse(desk, text.as_bytes(), ORDERS_REFUSED),
+            Err(_) => no_memory(desk),
+        },
+    }
+}
+
+// Tells the report of a run.
+fn tell_report<D: Desk>(alloc: Global, report: &Report, desk: &mut D) -> u8
+    ensures { TellsReport report.now (D.desk desk.old) (D.desk desk.new) result }
+{
+    let Ok(text) = write_report(alloc, report) else {
+        return no_memory(desk);
+    };
+    if tell(desk, text.as_bytes()).is_err() {
+        return DESK_WRITE_FAULT;
+    }
+    if report.failed.is_empty() {
+        DONE
+    } else {
+        LINE_FAILED
+    }
+}
+
+/// Reads the orders from the desk, runs them over the lines of the trunk, and tells the report.
+pub(crate) fn run_farm<T: Trunk, D: Desk>(
+    alloc: Global,
+    settings: Settings,
+    trunk: &mut T,
+    desk: &mut D,
+) -> u8
+    requires { IsPace (pace_of settings) }
+    ensures { RunsFarm settings (T.lines trunk.old) (T.lines trunk.new) (D.desk desk.old) (D.desk desk.new) result }
+{
+    let orders = match read_orders(alloc, desk) {
+        Ok(orders) => orders,
+        Err(fault) => return refuse_orders(alloc, fault, desk),
+    };
+    let pace = Pace {
+        workers: settings.workers,
+        batch: settings.batch,
+        slice: settings.slice,
+        periods: settings.periods,
+    };
+    match run(alloc, &pace, orders, trunk) {
+        Ok(report) => tell_report(alloc, &report, desk),
+        Err(_) => no_memory(desk),
+    }
+}
