@@ -25,12 +25,14 @@ pub record Fits (periods : ℕ) (up_octets pcm_octets down_octets out_octets : L
 abbrev pub new_seat : ℕ → ℕ → Bool → Bool → SeatMemory
 new_seat call periods down_failed out_failed = record { place = new_place call periods down_failed out_failed; up = replicate (40 * periods) 0; pcm = replicate (160 * periods) 0; down = replicate (40 * periods) 0; out = replicate (160 * periods) 0 }
 
--- The incoming lines of a call gave what the round could take of them; the rest of its seat is as it was. The marks tell which counts rose.
+-- The incoming lines of a call gave what the round could take of them, into buffers as long as before; the rest of its seat is as it was. The marks tell which counts rose.
 pub record Fills (before now : Side → LineState) (s t : SeatMemory) : Type 0 where
   pub up : Takes (before Up) (now Up) t.place.up t.up
   pub pcm : Takes (before Pcm) (now Pcm) t.place.pcm t.pcm
   pub up_clean : TakesClean (before Up) (now Up) t.place.up t.up
   pub pcm_clean : TakesClean (before Pcm) (now Pcm) t.place.pcm t.pcm
+  pub up_length : length t.up ≡ length s.up
+  pub pcm_length : length t.pcm ≡ length s.pcm
   pub kept : t ≡ record s { place = record s.place { up = t.place.up; pcm = t.place.pcm }; up = t.up; pcm = t.pcm }
   pub faults : IsFresh s.place → TellsFaults before now t.place
 

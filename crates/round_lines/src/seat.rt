@@ -1,5 +1,5 @@
 //! A call's seat in a round: how its lines stand, and the buffers of their octets.
-ghost use Rattle.std.specs.Prelude.{◌≡◌, ◌≤◌, IfOk};
+ghost use Rattle.std.specs.Prelude.{◌≡◌, ◌≤◌, length, IfOk};
 ghost use Rattle.trau_io.specs.declared.line.Side.TheVariants.{Up, Pcm, Down, Out};
 ghost use Rattle.trau_io.specs.Lines.{OthersStay};
 ghost use Rattle.round_lines.specs.Transfer.{Takes, Gives};
@@ -97,6 +97,7 @@ impl Seat {
         ensures this { Takes (T.lines trunk.old self.old.place.call Up) (T.lines trunk.new self.old.place.call Up) self.new.place.up self.new.up }
         ensures others { OthersStay (T.lines trunk.old) (T.lines trunk.new) self.old.place.call Up }
         ensures kept { self.new ≡ record self.old { place = record self.old.place { up = self.new.place.up }; up = self.new.up } }
+        ensures length { length self.new.up ≡ length self.old.up }
     {
         let taken = take_block(trunk, self.place.line(Side::Up), &mut self.buffers.up);
         self.place.set_up(taken);
@@ -106,6 +107,7 @@ impl Seat {
         ensures this { Takes (T.lines trunk.old self.old.place.call Pcm) (T.lines trunk.new self.old.place.call Pcm) self.new.place.pcm self.new.pcm }
         ensures others { OthersStay (T.lines trunk.old) (T.lines trunk.new) self.old.place.call Pcm }
         ensures kept { self.new ≡ record self.old { place = record self.old.place { pcm = self.new.place.pcm }; pcm = self.new.pcm } }
+        ensures length { length self.new.pcm ≡ length self.old.pcm }
     {
         let taken = take_block(trunk, self.place.line(Side::Pcm), &mut self.buffers.pcm);
         self.place.set_pcm(taken);
