@@ -19,3 +19,15 @@ pub mod NotedOrders
 pub mod Rising
 pub mod Finishing
 pub mod LastEnds
+pub mod Counts
+pub mod WorkedRound
+pub mod Reach
+pub mod RoundCalls
+pub mod RoundPast
+pub mod RoundClock
+pub mod RoundLines
+pub mod RoundTallies
+pub mod Making
+pub mod Clocks
+pub mod Sound
+pub mod Knowing

@@ -31,7 +31,7 @@ and_other false true = refl
 and_other false false = refl
 
 -- what holds of both of its calls holds of either and of its other
-both_calls : (p : ℕ → Bool) (c : ℕ) (x : Bridge) → joins c x ≡ true → (p x.a && p x.b) ≡ (p c && p (other c x))
+pub both_calls : (p : ℕ → Bool) (c : ℕ) (x : Bridge) → joins c x ≡ true → (p x.a && p x.b) ≡ (p c && p (other c x))
 both_calls p c x j = elim (cases_Bool (c == x.a)) [
   | inl e ↦ ap (λ (d : ℕ). p d && p x.b) (sym (eqb-true c x.a e)) ∙ ap (λ (t : Bool). p c && p (if t then x.b else x.a)) (sym e)
   | inr e ↦ and_other (p x.a) (p x.b) ∙ ap (λ (d : ℕ). p d && p x.a) (sym (eqb-true c x.b (second (c == x.a) (c == x.b) e j))) ∙ ap (λ (t : Bool). p c && p (if t then x.b else x.a)) (sym e)

@@ -79,7 +79,7 @@ bridged_after r t n ds left c x io io' half h b f g all w =
 
 -- ---- its octets
 
-length-periods_to : (r : Run) (c m : ℕ) → length (periods_to r c m) ≡ m
+pub length-periods_to : (r : Run) (c m : ℕ) → length (periods_to r c m) ≡ m
 length-periods_to r c zero = refl
 length-periods_to r c (suc m) = ap suc (length-periods_to r c m)
 

@@ -6,3 +6,5 @@ pub mod Going
 pub mod Ending
 pub mod Facts
 pub mod Noted
+pub mod Runs
+pub mod Clock

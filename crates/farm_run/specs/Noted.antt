@@ -101,6 +101,11 @@ Noted r ds t j tallies = IsNoted r ds (ended_at r ds t) j (tally_in tallies)
 abbrev pub TellsTruly : Run → State → Type 0
 TellsTruly r s = (c at : ℕ) → told_in s c ≡ Some at → ends_at (given_in r) r.periods (done_in r) c ≡ at
 
+-- What the board was told of ends, and what the journal and the tallies know at the clock t, is right.
+pub record IsKnown (r : Run) (t : ℕ) (b : State) (tallies : List Tally) (j : JournalMemory) : Type 0 where
+  pub truly : TellsTruly r b
+  pub noted : Noted r b.done t j tallies
+
 -- A run that has come to its end at the clock t: no order below that end is left, and where a call is open, the clock is
 -- there. What the board, the farm and the journal know is right.
 pub record IsAtEnd (r : Run) (t : ℕ) (b : State) (groups : List Group) (tallies : List Tally) (j : JournalMemory) : Type 0 where

@@ -12,6 +12,7 @@
 //! How orders, rounds and ends follow each other is this project's profile.
 #![tactic(auto)]
 
+mod clock;
 mod ends;
 mod exchange;
 mod facts;
@@ -19,6 +20,6 @@ mod finish;
 mod journal;
 mod orders;
 mod pace;
-mod run;
 
 pub use pace::Pace;
+pub use clock::run;

@@ -7,6 +7,7 @@ ghost use Rattle.farm_output.specs.Run.{Run};
 ghost use Rattle.farm_run.specs.Match.{AreNumbers, AtClock, Follows};
 ghost use Rattle.farm_run.specs.Journal.{noted_by};
 ghost use Rattle.farm_run.specs.Facts.{kept_in};
+ghost use Rattle.farm_run.specs.Clock.{AreSound};
 ghost use Rattle.farm_run.specs.Noted.{Noted};
 
 use crate::journal::Journal;
@@ -54,6 +55,7 @@ fn execute(
     ensures left { IfOk result (λ more. more ≡ true → length board.new.left + 1 ≡ length board.old.left) }
     ensures ended { IfOk result (λ more. farm.new.ended ≡ farm.old.ended) }
     ensures failed { IfOk result (λ more. farm.new.failed ≡ farm.old.failed) }
+    ensures sound { AreSound farm.old.groups → IfOk result (λ more. AreSound farm.new.groups) }
     ensures follows { (r : Run) → clock < r.periods → Follows r clock board.old farm.old.groups → IfOk result (λ more. Follows r clock board.new farm.new.groups) }
     ensures told { board.new.told ≡ board.old.told }
 
@@ -85,6 +87,7 @@ pub(crate) fn execute_orders(
     ensures done { IfOk result (λ u. IfSome (first_stamp board.new.left) (λ s. clock < s)) }
     ensures ended { IfOk result (λ u. farm.new.ended ≡ farm.old.ended) }
     ensures failed { IfOk result (λ u. farm.new.failed ≡ farm.old.failed) }
+    ensures sound { AreSound farm.old.groups → IfOk result (λ u. AreSound farm.new.groups) }
     ensures follows { (r : Run) → clock < r.periods → Follows r clock board.old farm.old.groups → IfOk result (λ u. Follows r clock board.new farm.new.groups) }
     ensures told { board.new.told ≡ board.old.told }
 

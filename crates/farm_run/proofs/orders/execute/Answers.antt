@@ -10,6 +10,7 @@ use Rattle.farm_run.specs.Noted.{Noted}
 use Rattle.farm_run.proofs.NotedOrders.{noted_accepted, noted_quiet}
 use Rattle.farm_run.proofs.Matching.{fits, named, matches_more, matches_same}
 use Rattle.farm_run.proofs.Following.{due_of, ahead_more, follows_more, follows_same}
+use Rattle.farm_run.proofs.Sound.{sound_more}
 use Rattle.farm_run.proofs.orders.execute.Goals as goal
 
 pub note-requires : goal.note-requires
@@ -93,3 +94,6 @@ returns-in_default-result-clause-noted c = λ r under f noted.
     let same : IsAsBefore b n = subst (λ x. OnErr x (IsAsBefore b n)) c.in_default-result.is c.in-Some.ensures.stays in
     noted_quiet r c.args.clock b n c.in-Some.reply farm.groups farm.groups (due_of b n c.args.clock c.in-Some.reply (sym c.in-Some.is ∙ c.turn.ensures.answer) c.turn.ensures.state)
     under f (returns-in_default-result-clause-follows c r under f) (Err c.in_default-result.field-0) c.args.journal.now farm.tallies farm.tallies c.in_default-result.is refl same.opened same.is_open (λ d. refl) noted
+
+pub returns-in_ok-apply-clause-sound : goal.returns-in_ok-apply-clause-sound
+returns-in_ok-apply-clause-sound c = λ sound. sound_more c.args.farm.now.groups c.apply.new.self.groups c.in-Ok.act c.in_ok-apply.ensures.calls sound

@@ -2,6 +2,7 @@ use Rattle.std.proofs.Common.{◌≡◌, ◌<◌, length}
 use Rattle.switchboard.specs.State.{orders_of}
 use Rattle.farm_output.specs.Run.{Run}
 use Rattle.farm_run.specs.Match.{AtClock, Follows}
+use Rattle.farm_run.specs.Clock.{AreSound}
 use Rattle.farm_run.specs.Noted.{Noted}
 use Rattle.farm_run.proofs.orders.execute_orders.Given as goal
 
@@ -11,6 +12,7 @@ invariant-loop l = record {
   kept : orders_of l.board ≡ orders_of l.initial.board;
   ended : l.farm.ended ≡ l.initial.farm.ended;
   failed : l.farm.failed ≡ l.initial.farm.failed;
+  sound : AreSound l.initial.farm.groups → AreSound l.farm.groups;
   follows : (r : Run) → l.clock < r.periods → Follows r l.clock l.initial.board l.initial.farm.groups → Follows r l.clock l.board l.farm.groups;
   told : l.board.told ≡ l.initial.board.told;
   noted : (r : Run) → l.clock < r.periods → Follows r l.clock l.initial.board l.initial.farm.groups → Noted r l.initial.board.done l.clock l.initial.journal l.initial.farm.tallies → Noted r l.board.done l.clock l.journal l.farm.tallies;

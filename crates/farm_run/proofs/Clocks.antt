@@ -1,0 +1,199 @@
+-- The clock of a run at its start, where it goes on with no call open, and at its end.
+use Rattle.std.proofs.Common.{◌≡◌, refl, sym, ap, ◌∙◌, subst, ℕ, zero, suc, ◌+◌, ◌-◌, ◌*◌, ◌<◌, ◌≤◌, Bool, true, false, not, ◌&&◌, Option, Some, None, List, [], ◌∷◌, ◌++◌, length, map, drop, inl, inr, ◌⊎◌, arith}
+use Rattle.std.specs.Prelude.{min, ◌==◌, is_some, IfSome, Result, Ok, Err, IfOk}
+use Rattle.std.specs.List.{Contains}
+use Rattle.std.specs.Io.KnownBytes.{Appends}
+use Rattle.std.proofs.KnownBytes.{Appends-nil}
+use Rattle.std.proofs.lemmas.Bool.{eqb-true}
+use Rattle.trau_io.specs.declared.line.Line.{Line}
+use Rattle.trau_io.specs.declared.line.Side.{Side}
+use Rattle.trau_io.specs.declared.line.Side.TheVariants.{Up, Pcm, Down, Out}
+use Rattle.trau_io.specs.Lines.{LineState}
+use Rattle.trau_bits.specs.Bits.{octets_of}
+use Rattle.trau_bits.proofs.Octets.{length-octets_of}
+use Rattle.trau_orders.specs.declared.order.Order.{Order}
+use Rattle.trau_orders.specs.Lists.{AreOrders}
+use Rattle.round_lines.specs.Places.{name_of}
+use Rattle.switchboard.specs.Calls.{Done, opened_at, closed_at, is_open, gone_at}
+use Rattle.switchboard.specs.Ends.{start_of}
+use Rattle.switchboard.specs.State.{State, EndBefore, told_in, gone_in, first_stamp, last_stamp, orders_of}
+use Rattle.switchboard.specs.Open.{open_now}
+use Rattle.switchboard.specs.Runs.{TellsEnds}
+use Rattle.farm_rounds.specs.declared.call.Call.{Call}
+use Rattle.farm_rounds.specs.declared.call.Group.{Group}
+use Rattle.farm_rounds.specs.Calls.{call_in, partner_in}
+use Rattle.farm_rounds.specs.Numbers.{is_among}
+use Rattle.farm_rounds.specs.Memory.{FarmMemory}
+use Rattle.farm_rounds.specs.Histories.{CallHistory, CallStands, GroupsStand}
+use Rattle.farm_output.specs.Run.{Run, whole_in, done_in, periods_to, periods_in}
+use Rattle.farm_output.specs.Now.{IsSoFar, settings_now}
+use Rattle.farm_output.specs.Facts.{report_of}
+use Rattle.farm_report.specs.View.{ReportView}
+use Rattle.farm_run.specs.Journal.{JournalMemory}
+use Rattle.farm_run.specs.Noted.{IsAtEnd, IsKnown}
+use Rattle.farm_output.specs.Lines.{out_line, down_octets}
+use Rattle.farm_output.proofs.Standing.{gone_later}
+use Rattle.farm_output.proofs.SoFar.{so_far_at_first, so_far_later}
+use Rattle.farm_run.specs.Runs.{IsOpened, TellsFailed, NoneRose, IsRunOver, Leaves, Runs}
+use Rattle.farm_run.specs.declared.pace.Pace.{Pace}
+use Rattle.farm_run.specs.Match.{AtClock, Follows, past_if, histories_at}
+use Rattle.farm_run.specs.Clock.{end_in, worked_to, IsReadWhole, LinesAt, AreSound, IsAtClock, AreReadable, NeverFell}
+use Rattle.farm_run.proofs.Rounds.{shut_after}
+use Rattle.farm_run.proofs.Worked.{length-periods_to}
+use Rattle.farm_run.proofs.Following.{open_told}
+use Rattle.farm_run.proofs.Reach.{worked_idle, worked_all}
+
+-- ---- the start
+
+-- **No line has changed, none is listed, and no count fell.**
+pub fell_none : (lines : ℕ → Side → LineState) → NeverFell lines lines
+fell_none lines c s = omega arith
+
+pub tells_none : (lines : ℕ → Side → LineState) → TellsFailed lines lines []
+tells_none lines = record { rose = λ c s h. (let l = h.1 in absurd (omega arith)); kept = λ c s h. refl }
+
+none_worked : (r : Run) (c : ℕ) → worked_to r 0 c ≡ 0
+none_worked r c = by (end_in r c) (start_of (done_in r) c)
+  where
+    by : (e s : ℕ) → min 0 e - s ≡ 0
+    by e s = omega arith
+
+no_octets : (c : ℕ) → down_octets c [] ≡ []
+no_octets c = by (octets_of []) (length-octets_of [] 0 refl)
+  where
+    by : (xs : List ℕ) → length xs ≡ 0 → xs ≡ []
+    by [] e = refl
+    by (x ∷ xs) e = absurd (omega arith)
+
+lines_at_first : (r : Run) (os : List Order) (periods : ℕ) (lines : ℕ → Side → LineState) → IsRunOver os periods lines r → LinesAt r 0 lines lines
+lines_at_first r os periods lines run = record {
+  out = λ c i. subst (λ (k : ℕ). Appends (lines c Out).written (lines c Out).written (out_line c (periods_to r c k))) (sym (none_worked r c)) (Appends-nil (lines c Out).written);
+  down = λ c i. subst (λ (k : ℕ). Appends (lines c Down).written (lines c Down).written (down_octets c (periods_to r c k))) (sym (none_worked r c)) (subst (Appends (lines c Down).written (lines c Down).written) (sym (no_octets c)) (Appends-nil (lines c Down).written));
+  up_read = λ c i q. (run.told c i).up_octets ∙ ap (λ (k : ℕ). Some (drop (40 * k) (r.lines c).up)) (sym (none_worked r c));
+  pcm_read = λ c i q. (run.told c i).pcm_octets ∙ ap (λ (k : ℕ). Some (drop (160 * k) (r.lines c).pcm)) (sym (none_worked r c));
+  others = λ c s none. refl;
+}
+
+-- **A run begins with no call.**
+pub at_first : (r : Run) (b : State) (groups : List Group) (periods : ℕ) (lines : ℕ → Side → LineState) → AreOrders (orders_of b) → b.done ≡ [] → groups ≡ [] → GroupsStand (λ c. None) groups →
+    IsRunOver (orders_of b) periods lines r → IsAtClock r 0 b groups lines lines
+at_first r b groups periods lines a none empty g run =
+    let left : b.left ≡ r.orders = sym (ap (λ (ds : List Done). map (λ (d : Done). d.order) ds ++ b.left) none) ∙ sym run.same_orders in
+    record {
+      follows = record {
+        so_far = subst (λ (ds : List Done). IsSoFar r 0 ds b.left) (sym none) (subst (IsSoFar r 0 []) (sym left) (so_far_at_first r (subst AreOrders (sym run.same_orders) a)));
+        tells = λ c o k. let q = sym (ap (λ (ds : List Done). is_some (opened_at c ds)) none) ∙ o in cc;
+        stands = subst (λ (ds : List Done). GroupsStand (histories_at r ds 0) groups) (sym none) g;
+      };
+      sound = record { calls = λ c x e. (let q : None ≡ Some x = sym (ap (λ (gs : List Group). call_in gs c) empty) ∙ e in cc) };
+      lines = lines_at_first r (orders_of b) periods lines run;
+    }
+
+-- ---- no call is open
+
+-- **The clock goes on to the next order, or to the run's end.**
+pub clock_on : (t u : ℕ) (b : State) (groups : List Group) → AtClock t b groups → t ≤ u → IfSome (first_stamp b.left) (λ s. u ≤ s) → AtClock u b groups
+clock_on t u b groups a l n = record {
+  orders = a.orders;
+  ahead = n;
+  past = (let p = a.past in omega arith);
+  ends = λ c. by (told_in b c) (a.ends c);
+  matches = a.matches;
+}
+  where
+    by : (o : Option ℕ) → IfSome o (λ at. at < t) → IfSome o (λ at. at < u)
+    by None h = tt
+    by (Some at) h = omega arith
+
+module _ (r : Run) (t u : ℕ) (b : State) (groups : List Group) (first now : ℕ → Side → LineState) (at : IsAtClock r t b groups first now) (l : t ≤ u) (w : u ≤ r.periods)
+    (n : IfSome (first_stamp b.left) (λ s. u ≤ s)) (shut : (c : ℕ) → is_open (gone_at (whole_in r) t b.done) b.done c ≡ false) where
+  shut_then : (c : ℕ) → is_open (gone_at (whole_in r) u b.done) b.done c ≡ false
+  shut_then c = let e : t + (u - t) ≡ u = omega arith in subst (λ (v : ℕ). is_open (gone_at (whole_in r) v b.done) b.done c ≡ false) e (shut_after r t (u - t) b.done c (shut c))
+
+  idle : (c : ℕ) → IsOpened r c → worked_to r u c ≡ worked_to r t c
+  idle c i = worked_idle r t u b.done b.left c at.follows.so_far l (omega arith) n (shut c) i
+
+  tells_on : TellsEnds (whole_in r) u b
+  tells_on c o k =
+      let gone : gone_at (whole_in r) t b.done c ≡ true = by (is_some (opened_at c b.done)) (is_some (closed_at c b.done)) (gone_at (whole_in r) t b.done c) o (ap is_some k) (shut c) in
+      at.follows.tells c o k ∙ gone ∙ sym (gone_later (whole_in r) t u b.done c l gone)
+    where
+      by : (p q g : Bool) → p ≡ true → q ≡ false → (p && not q && not g) ≡ false → g ≡ true
+      by true false true e f h = refl
+      by true false false e f h = cc
+      by false q g e f h = cc
+      by true true g e f h = cc
+
+  same_none : (c : ℕ) → histories_at r b.done t c ≡ histories_at r b.done u c
+  same_none c =
+      ap (λ (x : Bool). past_if x (periods_to r c (t - start_of b.done c)) (settings_now r b.done t c)) (shut c)
+      ∙ sym (ap (λ (x : Bool). past_if x (periods_to r c (u - start_of b.done c)) (settings_now r b.done u c)) (shut_then c))
+
+  earlier : (c : ℕ) → IsReadWhole r u c → IsReadWhole r t c
+  earlier c (inl q) = inl (omega arith)
+  earlier c (inr q) = inr q
+
+  -- **So do the board, the farm and the lines.**
+  pub goes_on : IsAtClock r u b groups first now
+  goes_on = record {
+    follows = record {
+      so_far = so_far_later r t u b.done b.left at.follows.so_far l n;
+      tells = tells_on;
+      stands = λ c. subst (λ (x : Option CallHistory). CallStands c x (call_in groups c) (partner_in groups c)) (same_none c) (at.follows.stands c);
+    };
+    sound = at.sound;
+    lines = record {
+      out = λ c i. subst (λ (k : ℕ). Appends (first c Out).written (now c Out).written (out_line c (periods_to r c k))) (sym (idle c i)) (at.lines.out c i);
+      down = λ c i. subst (λ (k : ℕ). Appends (first c Down).written (now c Down).written (down_octets c (periods_to r c k))) (sym (idle c i)) (at.lines.down c i);
+      up_read = λ c i q. at.lines.up_read c i (earlier c q) ∙ ap (λ (k : ℕ). Some (drop (40 * k) (r.lines c).up)) (sym (idle c i));
+      pcm_read = λ c i q. at.lines.pcm_read c i (earlier c q) ∙ ap (λ (k : ℕ). Some (drop (160 * k) (r.lines c).pcm)) (sym (idle c i));
+      others = at.lines.others;
+    };
+  }
+
+-- no number is among none
+pub none_among : (xs : List ℕ) (c : ℕ) → (length xs == 0) ≡ true → is_among xs c ≡ false
+none_among [] c e = refl
+none_among (x ∷ xs) c e = let l : length (x ∷ xs) ≡ 0 = eqb-true (length (x ∷ xs)) 0 e in absurd (omega arith)
+
+-- a farm with no call, beside the run
+pub none_alive : (r : Run) (t : ℕ) (b : State) (groups : List Group) → AtClock t b groups → TellsEnds (whole_in r) t b → ((c : ℕ) → is_some (call_in groups c) ≡ false) →
+    (c : ℕ) → is_open (gone_at (whole_in r) t b.done) b.done c ≡ false
+none_alive r t b groups a tells none c = sym (open_told (whole_in r) t b tells c) ∙ sym (a.matches.is_open c) ∙ none c
+
+-- ---- the end
+
+-- **At the run's end it has left on the lines what it gives.**
+pub leaves_all : (r : Run) (b : State) (groups : List Group) (first now : ℕ → Side → LineState) → IsAtClock r r.periods b groups first now → Leaves r first now
+leaves_all r b groups first now at =
+    let all : (c : ℕ) → worked_to r r.periods c ≡ end_in r c - start_of (done_in r) c = λ c. worked_all r r.periods b.done b.left c at.follows.so_far in
+    let long : (c : ℕ) → worked_to r r.periods c ≡ length (periods_in r c) = λ c. all c ∙ sym (length-periods_to r c (end_in r c - start_of (done_in r) c)) in
+    record {
+      out = λ c i. subst (λ (k : ℕ). Appends (first c Out).written (now c Out).written (out_line c (periods_to r c k))) (all c) (at.lines.out c i);
+      down = λ c i. subst (λ (k : ℕ). Appends (first c Down).written (now c Down).written (down_octets c (periods_to r c k))) (all c) (at.lines.down c i);
+      up_read = λ c i q. at.lines.up_read c i (inr q) ∙ ap (λ (k : ℕ). Some (drop (40 * k) (r.lines c).up)) (long c);
+      pcm_read = λ c i q. at.lines.pcm_read c i (inr q) ∙ ap (λ (k : ℕ). Some (drop (160 * k) (r.lines c).pcm)) (long c);
+      others = at.lines.others;
+    }
+
+-- **Where no count rose, no line is listed.**
+pub none_listed : (first now : ℕ → Side → LineState) (lines : List Line) → TellsFailed first now lines → NoneRose first now → lines ≡ []
+none_listed first now [] h n = refl
+none_listed first now (x ∷ lines) h n = absurd (n x.call x.side (h.rose x.call x.side (0, omega arith, refl)))
+
+-- **So the report of a run at its end tells what the run gives.**
+pub run_told : {E : Type 0} (os : List Order) (pace : Pace) (first now : ℕ → Side → LineState) (b : State) (farm : FarmMemory) (journal : JournalMemory) (o : Result ReportView E) → orders_of b ≡ os →
+    TellsFailed first now farm.failed →
+    ((r : Run) → IsRunOver os pace.periods first r → NoneRose first now → IsAtClock r r.periods b farm.groups first now) → ((r : Run) → IsRunOver os pace.periods first r → NoneRose first now → IsKnown r r.periods b farm.tallies journal) →
+    IfOk o (λ report. report.failed ≡ farm.failed) →
+    IfOk o (λ report. (r : Run) (t : ℕ) → IsAtEnd r t b farm.groups farm.tallies journal → r.periods ≡ pace.periods → length r.orders ≡ length os → report ≡ report_of r report.failed) → IfOk o (λ report. Runs os pace first now report)
+run_told os pace first now b farm journal (Err e) kept tells goes known f g = tt
+run_told os pace first now b farm journal (Ok report) kept tells goes known f g = record {
+  failed = subst (λ (ls : List Line). TellsFailed first now ls) (sym f) tells;
+  leaves = λ r run none. leaves_all r b farm.groups first now (goes r run none);
+  reports = λ r run none.
+      let at = goes r run none in
+      let knows = known r run none in
+      g r r.periods (record { follows = at.follows; none_left = at.follows.so_far.ahead; clock = λ c o. refl; truly = knows.truly; noted = knows.noted }) run.same_periods (ap length run.same_orders)
+      ∙ ap (report_of r) (f ∙ none_listed first now farm.failed tells none);
+}

@@ -1,0 +1,125 @@
+use Rattle.std.proofs.Common.{◌≡◌, refl, sym, ap, ◌∙◌, subst, ℕ, ◌≤◌, Option, List, arith}
+use Rattle.std.specs.Prelude.{IfSome}
+use Rattle.trau_io.specs.declared.line.Line.{Line}
+use Rattle.trau_io.specs.declared.line.Side.{Side}
+use Rattle.trau_io.specs.Lines.{LineState}
+use Rattle.switchboard.specs.State.{first_stamp}
+use Rattle.farm_output.specs.Run.{Run}
+use Rattle.farm_rounds.specs.declared.call.Group.{Group}
+use Rattle.farm_rounds.specs.Memory.{FarmMemory}
+use Rattle.farm_run.specs.Match.{AtClock}
+use Rattle.farm_run.specs.Runs.{TellsFailed, IsRunOver}
+use Rattle.farm_run.specs.Clock.{IsAtClock, AreReadable}
+use Rattle.farm_run.proofs.Counts.{fell_more, still_none, none_since}
+use Rattle.farm_run.proofs.Clocks.{fell_none, tells_none, at_first, clock_on, goes_on, none_alive, none_among}
+use Rattle.farm_run.specs.Going.{IsRound}
+use Rattle.farm_run.specs.Noted.{IsKnown}
+use Rattle.farm_run.proofs.NotedRounds.{truly_same}
+use Rattle.farm_run.proofs.Knowing.{known_start, known_idle, known_round}
+use Rattle.farm_run.proofs.clock.work_all.Goals as goal
+
+pub loop-clock-init : goal.loop-clock-init
+loop-clock-init g c =
+    let e = c.in_ok-farm.ensures in
+    let lines : ℕ → Side → LineState = g.T.Trunk.lines c.args.trunk.now in
+    let empty = ap (λ (f : FarmMemory). f.groups) e.value in
+    record {
+      clock = subst (λ (gs : List Group). AtClock 0 c.args.board.now gs) (sym empty) c.requires.clock;
+      ended = omega (arith, ap (λ (f : FarmMemory). f.ended) e.value);
+      within = omega arith;
+      kept = refl;
+      later = fell_none lines;
+      failed = subst (λ (ls : List Line). TellsFailed lines lines ls) (sym (ap (λ (f : FarmMemory). f.failed) e.value)) (tells_none lines);
+      run = λ r run none. at_first r c.args.board.now c.in_ok-farm.farm.groups c.args.pace.now.periods lines c.requires.clock.orders c.requires.none_done empty e.history run;
+      known = λ r run none. known_start r c.args.board.now c.in_ok-farm.farm.tallies c.args.journal.now c.requires.clock.ends c.requires.none_done c.requires.none_noted;
+    }
+
+pub loop-clock-preserved-then-is_empty : goal.loop-clock-preserved-then-is_empty
+loop-clock-preserved-then-is_empty g c =
+    let inv = c.loop-clock.invariant in
+    let e = c.in_ok-execute_orders.ensures in
+    let t = c.loop-clock.clock in
+    let u = c.idle_until-clock.result in
+    let b = c.execute_orders.new.board in
+    let groups = c.execute_orders.new.farm.groups in
+    let first : ℕ → Side → LineState = g.T.Trunk.lines c.args.trunk.now in
+    let now : ℕ → Side → LineState = g.T.Trunk.lines c.loop-clock.trunk in
+    let idle = c.idle_until-clock.ensures in
+    let later : t ≤ u = omega (arith, idle.later) in
+    let clear = subst (λ (s : Option ℕ). IfSome s (λ s. u ≤ s)) c.next_stamp-next.ensures.stamp idle.clear in
+    record {
+      clock = clock_on t u b groups e.clock later clear;
+      ended = omega (arith, e.ended, inv.ended, later);
+      within = idle.within;
+      kept = e.kept ∙ inv.kept;
+      later = inv.later;
+      failed = subst (λ (ls : List Line). TellsFailed first now ls) (sym e.failed) inv.failed;
+      run = λ r run none.
+          let was = inv.run r run none in
+          let periods : r.periods ≡ c.args.pace.now.periods = run.same_periods in
+          let at : IsAtClock r t b groups first now = record { follows = e.follows r (omega (arith, c.loop-clock-test.true, periods)) was.follows; sound = e.sound was.sound; lines = was.lines } in
+          goes_on r t u b groups first now at later (omega (arith, idle.within, periods)) clear
+          (none_alive r t b groups e.clock at.follows.tells (λ d. sym (c.live_calls.ensures.calls d) ∙ none_among c.live_calls.result.now d (sym c.is_empty.ensures ∙ c.if-is_empty.true)));
+      known = λ r run none.
+          let was = inv.run r run none in
+          let known = inv.known r run none in
+          let periods : r.periods ≡ c.args.pace.now.periods = run.same_periods in
+          let under : t < r.periods = omega (arith, c.loop-clock-test.true, periods) in
+          let follows = e.follows r under was.follows in
+          known_idle r t u b c.execute_orders.new.farm.tallies c.execute_orders.new.journal later
+          (none_alive r t b groups e.clock follows.tells (λ d. sym (c.live_calls.ensures.calls d) ∙ none_among c.live_calls.result.now d (sym c.is_empty.ensures ∙ c.if-is_empty.true)))
+          (record { truly = truly_same r c.loop-clock.board b e.told known.truly; noted = e.noted r under was.follows known.noted });
+    }
+
+pub loop-clock-preserved : goal.loop-clock-preserved
+loop-clock-preserved g c =
+    let inv = c.loop-clock.invariant in
+    let e = c.in_ok-execute_orders.ensures in
+    let w = c.in_ok-farm-2.ensures in
+    let t = c.loop-clock.clock in
+    let within = c.round_periods-periods.ensures.within in
+    let first : ℕ → Side → LineState = g.T.Trunk.lines c.args.trunk.now in
+    let before : ℕ → Side → LineState = g.T.Trunk.lines c.loop-clock.trunk in
+    let now : ℕ → Side → LineState = g.T.Trunk.lines c.work_round.new.trunk in
+    record {
+      clock = w.clock;
+      ended = w.ended;
+      within = within;
+      kept = w.kept ∙ e.kept ∙ inv.kept;
+      later = fell_more first before now inv.later w.later;
+      failed = w.failed first inv.later (subst (λ (ls : List Line). TellsFailed first before ls) (sym e.failed) inv.failed);
+      run = λ r run none.
+          let was = inv.run r run (still_none first before now w.later none) in
+          let periods : r.periods ≡ c.args.pace.now.periods = run.same_periods in
+          let readable : AreReadable r = record { up_sound = run.up_sound; pcm_sound = run.pcm_sound } in
+          let at : IsAtClock r t c.execute_orders.new.board c.execute_orders.new.farm.groups first before = record { follows = e.follows r (omega (arith, c.loop-clock-test.true, periods)) was.follows; sound = e.sound was.sound; lines = was.lines } in
+          w.run r first readable (omega (arith, within, periods)) at (none_since first before now inv.later none);
+      known = λ r run none.
+          let before_none = still_none first before now w.later none in
+          let was = inv.run r run before_none in
+          let known = inv.known r run before_none in
+          let periods : r.periods ≡ c.args.pace.now.periods = run.same_periods in
+          let under : t < r.periods = omega (arith, c.loop-clock-test.true, periods) in
+          let readable : AreReadable r = record { up_sound = run.up_sound; pcm_sound = run.pcm_sound } in
+          let b = c.execute_orders.new.board in
+          let at : IsAtClock r t b c.execute_orders.new.farm.groups first before = record { follows = e.follows r under was.follows; sound = e.sound was.sound; lines = was.lines } in
+          let more = c.round_periods-periods.ensures in
+          let inside : t + c.round_periods-periods.result ≤ r.periods = omega (arith, within, periods) in
+          let round : IsRound r t c.round_periods-periods.result b.done b.left =
+          record { so_far = at.follows.so_far; some = more.some; within = inside; clear = subst (λ (s : Option ℕ). IfSome s (λ s. t + c.round_periods-periods.result ≤ s)) c.next_stamp-next.ensures.stamp more.clear } in
+          known_round r t c.round_periods-periods.result b c.work_round.new.board c.execute_orders.new.journal c.work_round.new.journal c.execute_orders.new.farm.tallies c.in_ok-farm-2.farm.tallies round
+          (w.ends r first readable inside at (none_since first before now inv.later none))
+          (record { truly = truly_same r c.loop-clock.board b e.told known.truly; noted = e.noted r under was.follows known.noted });
+    }
+
+pub returns-clause-run : goal.returns-clause-run
+returns-clause-run g c = λ r run none.
+    let inv = c.loop-clock.invariant in
+    let ended : c.loop-clock.clock ≡ r.periods = omega (arith, inv.within, c.loop-clock-test.false, run.same_periods) in
+    subst (λ (t : ℕ). IsAtClock r t c.loop-clock.board c.loop-clock.farm.groups (g.T.Trunk.lines c.args.trunk.now) (g.T.Trunk.lines c.loop-clock.trunk)) ended (inv.run r run none)
+
+pub returns-clause-known : goal.returns-clause-known
+returns-clause-known g c = λ r run none.
+    let inv = c.loop-clock.invariant in
+    let ended : c.loop-clock.clock ≡ r.periods = omega (arith, inv.within, c.loop-clock-test.false, run.same_periods) in
+    subst (λ (t : ℕ). IsKnown r t c.loop-clock.board c.loop-clock.farm.tallies c.loop-clock.journal) ended (inv.known r run none)

@@ -1,0 +1,146 @@
+use Rattle.std.proofs.Common.{◌≡◌, sym, ap, ◌∙◌, subst, ℕ, ◌+◌, ◌≤◌, List, arith}
+use Rattle.std.specs.Prelude.{IfSome, length}
+use Rattle.std.specs.List.{filter_map}
+use Rattle.trau_io.specs.declared.ends.CallEnd.{CallEnd}
+use Rattle.round_lines.specs.Rounds.{seat_end}
+use Rattle.switchboard.specs.State.{State, last_stamp, orders_of}
+use Rattle.farm_output.specs.Run.{Run}
+use Rattle.farm_rounds.specs.Working.{RoundMemory, GainsFailed}
+use Rattle.farm_run.specs.Going.{IsRound}
+use Rattle.farm_run.specs.Clock.{IsAtClock}
+use Rattle.farm_run.proofs.Told.{told_done, told_orders}
+use Rattle.farm_run.proofs.Making.{IsMade, made_octets, made_open, made_partners, made_stands, made_tallies}
+use Rattle.farm_run.proofs.WorkedRound as parts
+use Rattle.farm_run.proofs.WorkedRound.{FilledRound, WorkedRound}
+use Rattle.farm_run.proofs.Counts.{fell_round, tells_round}
+use Rattle.farm_run.proofs.RoundClock.{tells_numbers, tells_open, tells_apart, tells_late, clock_after}
+use Rattle.farm_run.proofs.RoundLines.{clock_is, ends_are, told_is}
+use Rattle.farm_run.proofs.RoundTallies.{tallies_after}
+use Rattle.farm_run.proofs.clock.work_round.Goals as goal
+use Rattle.farm_run.proofs.clock.work_round.Given.{Over}
+
+-- the round up to its work
+front : (g : Over) (c : goal.After-ends g) → FilledRound c.args.clock c.args.periods c.args.farm (g.T.Trunk.lines c.args.trunk.now) (g.T.Trunk.lines c.fill.new.trunk)
+    c.in_ok-round.round.seats c.fill.new.self.seats c.work-worked.result.seats c.ends.result.now
+front g c =
+    let plan = c.in_ok-round.ensures in
+    let fill = c.fill.ensures in
+    let work = c.work-worked.ensures in
+    record {
+      live = c.requires.live;
+      number = plan.number;
+      seats = plan.seats;
+      fills = fill.fills;
+      filled_number = fill.number;
+      worked_number = work.number;
+      worked_rising = work.rising;
+      places = work.places;
+      told = c.ends.ensures ∙ work.ends ∙ ap (λ (t : ℕ). filter_map (seat_end t) c.work-worked.result.seats) (ap (λ (p : RoundMemory). p.start) fill.kept ∙ plan.start);
+    }
+
+pub tell_ends-requires-clause-numbers : goal.tell_ends-requires-clause-numbers
+tell_ends-requires-clause-numbers g c = tells_numbers _ _ c.args.board.now _ _ _ _ _ _ _ (front g c) c.requires.clock
+
+pub tell_ends-requires-clause-open : goal.tell_ends-requires-clause-open
+tell_ends-requires-clause-open g c = tells_open _ _ c.args.board.now _ _ _ _ _ _ _ (front g c) c.requires.clock
+
+pub tell_ends-requires-clause-apart : goal.tell_ends-requires-clause-apart
+tell_ends-requires-clause-apart g c = tells_apart _ _ c.args.board.now _ _ _ _ _ _ _ (front g c) c.requires.clock
+
+pub tell_ends-requires-clause-late : goal.tell_ends-requires-clause-late
+tell_ends-requires-clause-late g c = tells_late _ _ c.args.board.now _ _ _ _ _ _ _ (front g c) c.requires.clock
+
+-- the whole round
+round : (g : Over) (c : goal.After-drain g) → WorkedRound c.args.clock c.args.periods c.args.farm c.drain.result (g.T.Trunk.lines c.args.trunk.now) (g.T.Trunk.lines c.drain.new.trunk) c.ends.result.now
+round g c =
+    let plan = c.in_ok-round.ensures in
+    let fill = c.fill.ensures in
+    let work = c.work-worked.ensures in
+    let drain = c.drain.ensures in
+    let made : IsMade c.args.farm c.drain.result c.in_ok-round.round c.fill.new.self c.work-worked.result = record {
+      kept = fill.kept;
+      live = plan.live;
+      tallies = plan.tallies;
+      live_worked = work.live;
+      tallies_worked = work.tallies;
+      partners = plan.partners;
+      partners_worked = work.partners;
+      begins = plan.stands;
+      stands = work.stands;
+      octets = work.octets;
+      alive = drain.live;
+      is_open = drain.open;
+      partners_after = drain.partners;
+      history = drain.history;
+      tallies_after = drain.tallies;
+    } in
+    record {
+      planned = c.in_ok-round.round.seats;
+      filled = c.fill.new.self.seats;
+      worked = c.work-worked.result.seats;
+      drained = drain.drains.0;
+      between = g.T.Trunk.lines c.fill.new.trunk;
+      live = c.requires.live;
+      number = plan.number;
+      seats = plan.seats;
+      fills = fill.fills;
+      filled_others = fill.others;
+      filled_number = fill.number;
+      rising = fill.rising;
+      worked_number = work.number;
+      worked_rising = work.rising;
+      places = work.places;
+      told = c.ends.ensures ∙ work.ends ∙ ap (λ (t : ℕ). filter_map (seat_end t) c.work-worked.result.seats) (ap (λ (p : RoundMemory). p.start) fill.kept ∙ plan.start);
+      drains = drain.drains.1;
+      drained_others = drain.others;
+      drained_number = drain.drains.4;
+      gains = subst (λ before. GainsFailed before c.drain.result.failed drain.drains.0) (work.failed ∙ ap (λ (p : RoundMemory). p.failed) fill.kept ∙ plan.failed) drain.drains.2;
+      know = drain.drains.3;
+      is_open = made_open _ _ _ _ _ made;
+      partners = made_partners _ _ _ _ _ made;
+      octets = made_octets _ _ _ _ _ made;
+      stands = made_stands _ _ _ _ _ made;
+      tallies = made_tallies _ _ _ _ _ made;
+    }
+
+pub returns-clause-clock : goal.returns-clause-clock
+returns-clause-clock g c =
+    let told = c.in_ok-tell_ends.ensures in
+    clock_after _ _ c.args.board.now _ _ _ _ _ (round g c) c.requires.clock c.tell_ends.new.board c.bridges_join_two.ensures c.requires.clear told.told told.open told.partner
+
+pub returns-clause-kept : goal.returns-clause-kept
+returns-clause-kept g c = ap (λ (s : State). orders_of s) c.in_ok-tell_ends.ensures.told ∙ told_orders c.args.board.now c.ends.result.now
+
+pub returns-clause-last : goal.returns-clause-last
+returns-clause-last g c = ap (λ (s : State). last_stamp s.done) c.in_ok-tell_ends.ensures.told ∙ ap last_stamp (told_done c.args.board.now c.ends.result.now)
+
+pub returns-clause-later : goal.returns-clause-later
+returns-clause-later g c = fell_round _ _ _ _ _ _ _ (round g c)
+
+pub returns-clause-failed : goal.returns-clause-failed
+returns-clause-failed g c = tells_round _ _ _ _ _ _ _ (round g c)
+
+-- where the run goes on, the round is one of it
+in_run : (g : Over) (c : goal.After-drain g) (r : Run) (first : _) → c.args.clock + c.args.periods ≤ r.periods → IsAtClock r c.args.clock c.args.board.now c.args.farm.groups first (g.T.Trunk.lines c.args.trunk.now) →
+    IsRound r c.args.clock c.args.periods c.args.board.now.done c.args.board.now.left
+in_run g c r first l at = record { so_far = at.follows.so_far; some = c.requires.some; within = l; clear = c.requires.clear }
+
+pub returns-clause-run : goal.returns-clause-run
+returns-clause-run g c = λ r first readable l at calm.
+    let told = c.in_ok-tell_ends.ensures in
+    clock_is r _ _ c.args.board.now _ _ first _ _ _ (round g c) (in_run g c r first l at) c.requires.clock.matches at calm readable.up_sound readable.pcm_sound c.tell_ends.new.board told.told told.open
+
+pub returns-clause-ends : goal.returns-clause-ends
+returns-clause-ends g c = λ r first readable l at calm.
+    let w = round g c in
+    let h = in_run g c r first l at in
+    let m = c.requires.clock.matches in
+    record {
+      ends = c.ends.result.now;
+      board = c.in_ok-tell_ends.ensures.told;
+      noted = c.in_ok-tell_ends.ensures.noted;
+      each = ends_are r _ _ c.args.board.now _ _ first _ _ _ w h m at calm readable.up_sound readable.pcm_sound;
+      apart = tells_apart _ _ c.args.board.now _ _ _ _ _ _ _ (parts.front _ _ _ _ _ _ _ w) c.requires.clock;
+      told = told_is r _ _ c.args.board.now _ _ first _ _ _ w h m at calm readable.up_sound readable.pcm_sound;
+      tallies = tallies_after r _ _ c.args.board.now _ _ first _ _ _ w h m at calm readable.up_sound readable.pcm_sound;
+    }

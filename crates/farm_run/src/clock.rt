@@ -1,0 +1,159 @@
+//! The clock of a run: it goes from the orders of a period to a round of periods, and on.
+
+ghost use Rattle.std.specs.Prelude.{◌≡◌, ◌<◌, ◌≤◌, ◌+◌, ℕ, [], is_some, IfOk, IfSome};
+ghost use Rattle.trau_io.specs.declared.line.Side.{Side};
+ghost use Rattle.trau_io.specs.Lines.{LineState};
+ghost use Rattle.switchboard.specs.State.{State, first_stamp, last_stamp, orders_of};
+ghost use Rattle.farm_rounds.specs.Calls.{call_in};
+ghost use Rattle.farm_rounds.specs.Numbers.{is_among};
+ghost use Rattle.farm_output.specs.Run.{Run};
+ghost use Rattle.farm_run.specs.Match.{AtClock};
+ghost use Rattle.farm_run.specs.Pace.{IsPace};
+ghost use Rattle.farm_run.specs.Journal.{new_journal};
+ghost use Rattle.farm_run.specs.Noted.{IsKnown};
+ghost use Rattle.farm_run.specs.Runs.{TellsFailed, NoneRose, IsRunOver, Runs};
+ghost use Rattle.farm_run.specs.Clock.{NeverFell, AreReadable, IsAtClock, EndsRound};
+
+use crate::ends::tell_ends;
+use crate::finish::finish;
+use crate::journal::Journal;
+use crate::orders::execute_orders;
+use crate::pace::Pace;
+use farm_report::Report;
+use farm_rounds::{Farm, Round};
+use std::alloc::{AllocError, Global};
+use switchboard::Board;
+use trau_io::Trunk;
+use trau_orders::Orders;
+
+// The periods of the next round: it passes neither an order nor the run's end.
+fn round_periods(pace: &Pace, clock: u32, next: Option<u32>) -> u32
+    requires pace { IsPace pace.now }
+    requires clock { clock < pace.now.periods }
+    requires next { IfSome next (λ s. clock < s) }
+    ensures some { 1 ≤ result }
+    ensures few { result ≤ 250 }
+    ensures within { clock + result ≤ pace.now.periods }
+    ensures last { clock + result ≤ 4294967295 }
+    ensures clear { IfSome next (λ s. clock + result ≤ s) }
+{
+    let periods = pace.batch.min(pace.periods - clock);
+    match next {
+        Some(stamp) => periods.min(stamp - clock),
+        None => periods,
+    }
+}
+
+// A round of periods over the open calls.
+fn work_round<T: Trunk>(
+    alloc: Global,
+    board: &mut Board,
+    farm: Farm,
+    journal: &mut Journal,
+    pace: &Pace,
+    clock: u32,
+    periods: u32,
+    trunk: &mut T,
+) -> Result<Farm, AllocError>
+    requires pace { IsPace pace.now }
+    requires clock { AtClock clock board.old farm.groups }
+    requires live { (c : ℕ) → is_among farm.live c ≡ is_some (call_in farm.groups c) }
+    requires ended { farm.ended ≤ clock }
+    requires some { 1 ≤ periods }
+    requires few { periods ≤ 250 }
+    requires within { clock + periods ≤ 4294967295 }
+    requires clear { IfSome (first_stamp board.old.left) (λ s. clock + periods ≤ s) }
+    ensures clock { IfOk result (λ farm. AtClock (clock + periods) board.new farm.groups) }
+    ensures kept { IfOk result (λ farm. orders_of board.new ≡ orders_of board.old) }
+    ensures last { IfOk result (λ farm. last_stamp board.new.done ≡ last_stamp board.old.done) }
+    ensures ended { IfOk result (λ farm. farm.ended ≤ clock + periods) }
+
+    // Whatever fails, the farm goes on listing exactly the lines whose counts rose.
+    ensures later { IfOk result (λ farm. NeverFell (T.lines trunk.old) (T.lines trunk.new)) }
+    ensures failed { (first : ℕ → Side → LineState) → NeverFell first (T.lines trunk.old) → TellsFailed first (T.lines trunk.old) farm.failed →
+        IfOk result (λ after. TellsFailed first (T.lines trunk.new) after.failed) }
+
+    // Where nothing fails, the run goes on; the ends of calls are noted, and their counts are kept.
+    ensures run { (r : Run) (first : ℕ → Side → LineState) → AreReadable r → clock + periods ≤ r.periods → IsAtClock r clock board.old farm.groups first (T.lines trunk.old) →
+        NoneRose (T.lines trunk.old) (T.lines trunk.new) → IfOk result (λ after. IsAtClock r (clock + periods) board.new after.groups first (T.lines trunk.new)) }
+    ensures ends { (r : Run) (first : ℕ → Side → LineState) → AreReadable r → clock + periods ≤ r.periods → IsAtClock r clock board.old farm.groups first (T.lines trunk.old) →
+        NoneRose (T.lines trunk.old) (T.lines trunk.new) → IfOk result (λ after. EndsRound r clock periods board.old board.new journal.old journal.new farm.tallies after.tallies) }
+{
+    board.bridges_join_two();
+    let mut round = Round::plan(alloc, farm, clock, periods, pace.workers)?;
+    round.fill(trunk);
+    let worked = round.work(pace.slice);
+    tell_ends(board, journal, worked.ends())?;
+    Ok(worked.drain(trunk))
+}
+
+// The clock where no call is open: at the next order, or at the run's end.
+fn idle_until(pace: &Pace, clock: u32, next: Option<u32>) -> u32
+    requires clock { clock < pace.now.periods }
+    requires next { IfSome next (λ s. clock < s) }
+    ensures later { clock < result }
+    ensures within { result ≤ pace.now.periods }
+    ensures clear { IfSome next (λ s. result ≤ s) }
+{
+    match next {
+        Some(stamp) => stamp.min(pace.periods),
+        None => pace.periods,
+    }
+}
+
+// The rounds and orders of a run.
+fn work_all<T: Trunk>(
+    alloc: Global,
+    board: &mut Board,
+    journal: &mut Journal,
+    pace: &Pace,
+    trunk: &mut T,
+) -> Result<Farm, AllocError>
+    requires pace { IsPace pace.now }
+    requires clock { AtClock 0 board.old [] }
+    requires none_done { board.old.done ≡ [] }
+    requires none_noted { journal.old ≡ new_journal }
+    ensures clock { IfOk result (λ farm. AtClock pace.now.periods board.new farm.groups) }
+    ensures kept { IfOk result (λ farm. orders_of board.new ≡ orders_of board.old) }
+
+    // The farm lists exactly the lines whose counts rose, and where none did, the run is at its end.
+    ensures failed { IfOk result (λ farm. TellsFailed (T.lines trunk.old) (T.lines trunk.new) farm.failed) }
+    ensures run { (r : Run) → IsRunOver (orders_of board.old) pace.now.periods (T.lines trunk.old) r → NoneRose (T.lines trunk.old) (T.lines trunk.new) →
+        IfOk result (λ farm. IsAtClock r r.periods board.new farm.groups (T.lines trunk.old) (T.lines trunk.new)) }
+    ensures known { (r : Run) → IsRunOver (orders_of board.old) pace.now.periods (T.lines trunk.old) r → NoneRose (T.lines trunk.old) (T.lines trunk.new) →
+        IfOk result (λ farm. IsKnown r r.periods board.new farm.tallies journal.new) }
+{
+    let mut farm = Farm::new(alloc)?;
+    let mut clock = 0;
+    while clock < pace.periods {
+        execute_orders(alloc, board, &mut farm, journal, clock)?;
+        let next = board.next_stamp();
+        if farm.live_calls().is_empty() {
+            clock = idle_until(pace, clock, next);
+        } else {
+            let periods = round_periods(pace, clock, next);
+            farm = work_round(
+                alloc, board, farm, journal, pace, clock, periods, trunk,
+            )?;
+            clock += periods;
+        }
+    }
+    Ok(farm)
+}
+
+/// Runs these orders over the lines of a trunk, and reports what became of them. An error says that there was no memory.
+pub fn run<T: Trunk>(
+    alloc: Global,
+    pace: &Pace,
+    orders: Orders,
+    trunk: &mut T,
+) -> Result<Report, AllocError>
+    requires { IsPace pace.now }
+    ensures { IfOk result (λ report. Runs orders pace.now (T.lines trunk.old) (T.lines trunk.new) report) }
+{
+    let count = orders.list().len();
+    let mut board = Board::new(alloc, orders)?;
+    let mut journal = Journal::new(alloc)?;
+    let farm = work_all(alloc, &mut board, &mut journal, pace, trunk)?;
+    finish(alloc, board, &farm, journal, count, pace.periods)
+}
