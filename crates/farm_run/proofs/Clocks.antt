@@ -1,25 +1,21 @@
 -- The clock of a run at its start, where it goes on with no call open, and at its end.
-use Rattle.std.proofs.Common.{◌≡◌, refl, sym, ap, ◌∙◌, subst, ℕ, zero, suc, ◌+◌, ◌-◌, ◌*◌, ◌<◌, ◌≤◌, Bool, true, false, not, ◌&&◌, Option, Some, None, List, [], ◌∷◌, ◌++◌, length, map, drop, inl, inr, ◌⊎◌, arith}
+use Rattle.std.proofs.Common.{◌≡◌, refl, sym, ap, ◌∙◌, subst, ℕ, ◌+◌, ◌-◌, ◌*◌, ◌<◌, ◌≤◌, Bool, true, false, not, ◌&&◌, Option, Some, None, List, [], ◌∷◌, ◌++◌, length, map, drop, inl, inr, arith}
 use Rattle.std.specs.Prelude.{min, ◌==◌, is_some, IfSome, Result, Ok, Err, IfOk}
-use Rattle.std.specs.List.{Contains}
 use Rattle.std.specs.Io.KnownBytes.{Appends}
 use Rattle.std.proofs.KnownBytes.{Appends-nil}
 use Rattle.std.proofs.lemmas.Bool.{eqb-true}
 use Rattle.trau_io.specs.declared.line.Line.{Line}
 use Rattle.trau_io.specs.declared.line.Side.{Side}
-use Rattle.trau_io.specs.declared.line.Side.TheVariants.{Up, Pcm, Down, Out}
+use Rattle.trau_io.specs.declared.line.Side.TheVariants.{Down, Out}
 use Rattle.trau_io.specs.Lines.{LineState}
 use Rattle.trau_bits.specs.Bits.{octets_of}
 use Rattle.trau_bits.proofs.Octets.{length-octets_of}
 use Rattle.trau_orders.specs.declared.order.Order.{Order}
 use Rattle.trau_orders.specs.Lists.{AreOrders}
-use Rattle.round_lines.specs.Places.{name_of}
 use Rattle.switchboard.specs.Calls.{Done, opened_at, closed_at, is_open, gone_at}
 use Rattle.switchboard.specs.Ends.{start_of}
-use Rattle.switchboard.specs.State.{State, EndBefore, told_in, gone_in, first_stamp, last_stamp, orders_of}
-use Rattle.switchboard.specs.Open.{open_now}
+use Rattle.switchboard.specs.State.{State, told_in, first_stamp, orders_of}
 use Rattle.switchboard.specs.Runs.{TellsEnds}
-use Rattle.farm_rounds.specs.declared.call.Call.{Call}
 use Rattle.farm_rounds.specs.declared.call.Group.{Group}
 use Rattle.farm_rounds.specs.Calls.{call_in, partner_in}
 use Rattle.farm_rounds.specs.Numbers.{is_among}
@@ -37,7 +33,7 @@ use Rattle.farm_output.proofs.SoFar.{so_far_at_first, so_far_later}
 use Rattle.farm_run.specs.Runs.{IsOpened, TellsFailed, NoneRose, IsRunOver, Leaves, Runs}
 use Rattle.farm_run.specs.declared.pace.Pace.{Pace}
 use Rattle.farm_run.specs.Match.{AtClock, Follows, past_if, histories_at}
-use Rattle.farm_run.specs.Clock.{end_in, worked_to, IsReadWhole, LinesAt, AreSound, IsAtClock, AreReadable, NeverFell}
+use Rattle.farm_run.specs.Clock.{end_in, worked_to, IsReadWhole, LinesAt, IsAtClock, NeverFell}
 use Rattle.farm_run.proofs.Rounds.{shut_after}
 use Rattle.farm_run.proofs.Worked.{length-periods_to}
 use Rattle.farm_run.proofs.Following.{open_told}

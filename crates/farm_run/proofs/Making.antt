@@ -1,9 +1,7 @@
 -- The parts of a round as one: what its jobs tell of histories, told of the farm's groups.
-use Rattle.std.proofs.Common.{◌≡◌, refl, sym, ap, ◌∙◌, subst, ℕ, Bool, Option, List}
+use Rattle.std.proofs.Common.{◌≡◌, sym, ap, ◌∙◌, subst, ℕ, Option, List}
 use Rattle.std.specs.Prelude.{if◌then◌else◌, is_some, ◌&&◌}
-use Rattle.round_lines.specs.Seats.{SeatMemory}
 use Rattle.call_pair.specs.declared.job.Job.{Job}
-use Rattle.farm_rounds.specs.declared.call.Group.{Group}
 use Rattle.farm_rounds.specs.declared.tally.Tally.{Tally}
 use Rattle.farm_rounds.specs.Calls.{call_in, partner_in}
 use Rattle.farm_rounds.specs.Numbers.{is_among}

@@ -1,14 +1,12 @@
 -- How many of its periods a call has had at the clock.
-use Rattle.std.proofs.Common.{◌≡◌, refl, sym, ap, ◌∙◌, subst, ℕ, suc, ◌+◌, ◌-◌, ◌*◌, ◌<◌, ◌≤◌, Bool, true, false, ◌&&◌, Option, Some, None, List, [], ◌∷◌, ◌++◌, inl, inr, ◌⊎◌, arith}
+use Rattle.std.proofs.Common.{◌≡◌, refl, sym, ap, ◌∙◌, subst, ℕ, ◌+◌, ◌-◌, ◌*◌, ◌<◌, ◌≤◌, Bool, true, false, ◌&&◌, Option, Some, None, List, [], ◌∷◌, inl, inr, ◌⊎◌, arith}
 use Rattle.std.specs.Prelude.{min, is_some, IfSome, nat_lt, nat_le, find, option_map, if◌then◌else◌}
-use Rattle.std.specs.List.{AllByRecursion}
-use Rattle.std.proofs.lemmas.Bool.{lt-ltb, ltb-true, ltb-false, leb-true, leb-false, cases_lt}
+use Rattle.std.proofs.lemmas.Bool.{lt-ltb, ltb-true, leb-false, cases_lt}
 use Rattle.std.proofs.lemmas.List.Elements.{recursion_from_All}
 use Rattle.trau_orders.specs.declared.order.Order.{Order}
 use Rattle.switchboard.specs.Calls.{Done, is_this, opened_by, opened_at, closed_at, is_open, gone_at}
 use Rattle.switchboard.specs.Ends.{start_of, end_of, ends_at, lack_of}
-use Rattle.trau_io.specs.declared.ends.Cause.TheVariants.{Closed, Limit}
-use Rattle.trau_io.specs.declared.ends.CallEnd.{CallEnd}
+use Rattle.trau_io.specs.declared.ends.Cause.TheVariants.{Limit}
 use Rattle.switchboard.specs.State.{first_stamp}
 use Rattle.switchboard.proofs.Appending.{or_else}
 use Rattle.farm_output.specs.Run.{Run, given_in, whole_in, done_in}
@@ -23,7 +21,7 @@ use Rattle.farm_output.proofs.Going.{opened_run}
 use Rattle.farm_run.specs.Going.{IsRound, places_in, ends_within}
 use Rattle.farm_run.specs.Runs.{IsOpened}
 use Rattle.farm_run.specs.Clock.{end_in, worked_to}
-use Rattle.farm_run.proofs.Rounds.{IsOpenAt, open_at, no_order, has_place}
+use Rattle.farm_run.proofs.Rounds.{open_at, no_order, has_place}
 use Rattle.farm_run.proofs.RoundEnds.{ends_there, start_kept}
 
 -- ---- a call that is open
@@ -54,7 +52,7 @@ end_after r t n ds left c h o = elim (cases_lt (places_in r ds t n c) n) [
         let at = open_at r t ds c (standing_now r t ds left h.so_far) o in
         let has : has_period r ds (t + (n - 1)) c ≡ true = has_place r t n ds c (n - 1) at.unclosed h.within (omega arith) ∙ lt-ltb (n - 1) (places_in r ds t n c) (below (places_in r ds t n c) some l) in
         let e = ends_has (given_in r) r.periods t (t + (n - 1)) ds (rest_in r ds left) c (start_of ds c) (standing_now r t ds left h.so_far) (omega arith) (standing_rest r t ds left h.so_far) (omega arith)
-            (rest_above r t (t + (n - 1)) ds left h.so_far (no_order r t n ds left (t + (n - 1)) h (omega arith))) at.opened in
+        (rest_above r t (t + (n - 1)) ds left h.so_far (no_order r t n ds left (t + (n - 1)) h (omega arith))) at.opened in
         past (end_in r c) some (ltb-true (t + (n - 1)) (end_in r c) (ap (λ (ds : List Done). nat_lt (t + (n - 1)) (ends_at (given_in r) r.periods ds c)) (done-rest r t ds left h.so_far) ∙ e ∙ has))
       where
         below : (m : ℕ) → 1 ≤ n → n ≤ m → n - 1 < m

@@ -1,14 +1,14 @@
 -- The calls of a round in which no line fails: what was taken of their lines is the run's.
-use Rattle.std.proofs.Common.{◌≡◌, refl, sym, ap, ◌∙◌, subst, ℕ, zero, suc, ◌+◌, ◌-◌, ◌*◌, ◌<◌, ◌≤◌, Bool, true, false, not, ◌&&◌, ◌||◌, Option, Some, None, List, [], ◌∷◌, length, take, drop, get_or, inl, inr, ◌⊎◌, arith}
-use Rattle.std.specs.Prelude.{min, ◌==◌, if◌then◌else◌, is_some, nat_lt, slice_index, unwrap_or, find}
-use Rattle.std.specs.List.{AllByRecursion, filter_map, cons_option, list_any}
-use Rattle.std.proofs.lemmas.Bool.{cases_Bool, eqb-true, eq-eqb, ne_eqb}
+use Rattle.std.proofs.Common.{◌≡◌, refl, sym, ap, ◌∙◌, subst, ℕ, zero, suc, ◌+◌, ◌-◌, ◌*◌, ◌<◌, Bool, true, false, Some, List, [], ◌∷◌, length, take, drop, inl, inr, ◌⊎◌, arith}
+use Rattle.std.specs.Prelude.{min, ◌==◌, if◌then◌else◌, is_some, slice_index, unwrap_or, find}
+use Rattle.std.specs.List.{AllByRecursion, filter_map, cons_option}
+use Rattle.std.proofs.lemmas.Bool.{eq-eqb, ne_eqb}
 use Rattle.std.proofs.lemmas.List.{length-drop, take_min, drop-drop}
 use Rattle.std.proofs.lemmas.List.Elements.{recursion_from_All, All-from_get_or}
 use Rattle.std.proofs.lemmas.List.Folds.{list_any_at}
 use Rattle.trau_io.specs.declared.ends.CallEnd.{CallEnd}
 use Rattle.trau_io.specs.declared.line.Side.{Side}
-use Rattle.trau_io.specs.declared.line.Side.TheVariants.{Up, Pcm, Down, Out}
+use Rattle.trau_io.specs.declared.line.Side.TheVariants.{Up, Pcm}
 use Rattle.trau_io.specs.Lines.{LineState, Rose}
 use Rattle.round_lines.specs.declared.transfer.Taken.{Taken}
 use Rattle.round_lines.specs.Transfer.{IsCalm, TakesClean}
@@ -16,21 +16,19 @@ use Rattle.round_lines.specs.Places.{PlaceMemory}
 use Rattle.round_lines.specs.Places as places
 use Rattle.round_lines.specs.Seats.{SeatMemory}
 use Rattle.round_lines.specs.Rounds.{Rising, seat_at, call_at, seat_end, no_seat}
-use Rattle.switchboard.specs.Calls.{Done, opened_at, is_open, gone_at}
+use Rattle.switchboard.specs.Calls.{is_open, gone_at}
 use Rattle.switchboard.specs.Ends.{start_of}
 use Rattle.switchboard.specs.State.{State}
 use Rattle.farm_rounds.specs.declared.call.Call.{Call}
 use Rattle.farm_rounds.specs.Calls.{call_in}
-use Rattle.farm_rounds.specs.Numbers.{is_among}
 use Rattle.farm_rounds.specs.Memory.{FarmMemory}
-use Rattle.farm_rounds.specs.Settling.{goes_on_in}
 use Rattle.farm_rounds.specs.Working.{goes_on_call}
 use Rattle.farm_rounds.specs.RoundHistories.{seat_of}
 use Rattle.farm_rounds.proofs.Working.{goes_on_at}
-use Rattle.farm_output.specs.Run.{Run, Incoming, whole_in, done_in}
+use Rattle.farm_output.specs.Run.{Run, whole_in}
 use Rattle.farm_output.proofs.SoFar.{standing_now}
 use Rattle.farm_output.proofs.Going.{opened_run}
-use Rattle.farm_run.specs.Going.{IsRound, IsTaken, IsSeat, places_in, has_seat, ends_within}
+use Rattle.farm_run.specs.Going.{IsRound, IsTaken, IsSeat, places_in, has_seat}
 use Rattle.farm_run.specs.Runs.{IsOpened, NoneRose}
 use Rattle.farm_run.specs.Match.{Matches}
 use Rattle.farm_run.specs.Clock.{IsAtClock}
@@ -39,7 +37,7 @@ use Rattle.farm_run.proofs.RoundEnds.{whole_taken}
 use Rattle.farm_run.proofs.Following.{open_told}
 use Rattle.farm_run.proofs.Counts.{seat_cases}
 use Rattle.farm_run.proofs.Reach.{open_before_end, worked_now}
-use Rattle.farm_run.proofs.WorkedRound.{WorkedRound, SeatFacts, seat_facts, filled_call, filled_periods, up_long, pcm_long, up_after, pcm_after, worked_at}
+use Rattle.farm_run.proofs.WorkedRound.{WorkedRound, SeatFacts, seat_facts, filled_call, filled_periods, up_long, pcm_long, up_after, pcm_after}
 
 -- ---- seats whose calls' numbers rise
 
@@ -131,9 +129,9 @@ module _ (r : Run) (t n : ℕ) (b : State) (farm after : FarmMemory) (first befo
           let up_same = up_after t n farm after before now ends w c in
           let pcm_same = pcm_after t n farm after before now ends w c in
           let up = gave (40 * n) (40 * k) (r.lines c).up (before c Up) (w.between c Up) place.place.up place.up f.2.front.fills.up_clean (up_long _ _ _ _ _ _ _ _ f.2.front) up_told
-              (λ q. calm c Up (subst (λ (l : LineState). Rose (before c Up).faults l.faults) (sym up_same) q)) in
+          (λ q. calm c Up (subst (λ (l : LineState). Rose (before c Up).faults l.faults) (sym up_same) q)) in
           let pcm = gave (160 * n) (160 * k) (r.lines c).pcm (before c Pcm) (w.between c Pcm) place.place.pcm place.pcm f.2.front.fills.pcm_clean (pcm_long _ _ _ _ _ _ _ _ f.2.front) pcm_told
-              (λ q. calm c Pcm (subst (λ (l : LineState). Rose (before c Pcm).faults l.faults) (sym pcm_same) q)) in
+          (λ q. calm c Pcm (subst (λ (l : LineState). Rose (before c Pcm).faults l.faults) (sym pcm_same) q)) in
           let taken : IsTaken r b.done t n c place.place place.up place.pcm = record {
             call = called;
             periods = filled_periods _ _ _ _ _ _ _ _ f.2.front;

@@ -1,7 +1,7 @@
 -- The board and the farm after a round: its ends are told in time, and the same calls are open.
-use Rattle.std.proofs.Common.{◌≡◌, refl, sym, ap, ◌∙◌, subst, ℕ, suc, ◌+◌, ◌*◌, ◌/◌, ◌<◌, ◌≤◌, Bool, true, false, not, ◌&&◌, ◌||◌, Option, Some, None, List, length, inl, inr, ◌⊎◌, arith}
-use Rattle.std.specs.Prelude.{min, ◌==◌, if◌then◌else◌, is_some, IfSome, slice_index}
-use Rattle.std.specs.List.{All, AllByRecursion, filter_map}
+use Rattle.std.proofs.Common.{◌≡◌, refl, sym, ap, ◌∙◌, subst, ℕ, ◌+◌, ◌*◌, ◌<◌, ◌≤◌, Bool, true, false, not, ◌&&◌, ◌||◌, Option, Some, None, List, length, inl, inr, ◌⊎◌, arith}
+use Rattle.std.specs.Prelude.{◌==◌, if◌then◌else◌, is_some, IfSome, slice_index}
+use Rattle.std.specs.List.{AllByRecursion}
 use Rattle.std.proofs.lemmas.Bool.{cases_lt, eq-eqb}
 use Rattle.std.proofs.lemmas.List.Elements.{All-from_recursion}
 use Rattle.std.proofs.lemmas.List.Folds.{list_any_at}
@@ -16,7 +16,6 @@ use Rattle.switchboard.specs.Ends.{lack_of}
 use Rattle.switchboard.specs.State.{State, first_stamp, last_stamp}
 use Rattle.switchboard.specs.Open.{open_now, partner_now, ArePairs}
 use Rattle.farm_rounds.specs.Calls.{IsNumber, call_in, partner_in}
-use Rattle.farm_rounds.specs.Numbers.{is_among}
 use Rattle.farm_rounds.specs.Memory.{FarmMemory}
 use Rattle.farm_rounds.specs.Working.{goes_on_call, that_stays}
 use Rattle.farm_output.proofs.Lists.{each_weaker}
@@ -28,7 +27,7 @@ use Rattle.farm_run.proofs.Ending.{clock_round}
 use Rattle.farm_run.proofs.SeatEnds.{seats_apart}
 use Rattle.farm_run.proofs.Seats.{each_told, told_goes, has_call}
 use Rattle.farm_run.proofs.Counts.{seat_cases}
-use Rattle.farm_run.proofs.WorkedRound.{WorkedRound, FilledRound, front, front_facts, up_long, pcm_long, filled_periods, worked_call, worked_at}
+use Rattle.farm_run.proofs.WorkedRound.{WorkedRound, FilledRound, front, front_facts, up_long, filled_periods, worked_call, worked_at}
 
 -- an end that the board can be told: it lies within the round, and its call is open
 pub record IsRight (t n : ℕ) (b : State) (e : CallEnd) : Type 0 where

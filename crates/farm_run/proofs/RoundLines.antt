@@ -1,10 +1,10 @@
 -- A round in which no line fails leaves the board, the farm and the lines as the run has them behind it.
-use Rattle.std.proofs.Common.{◌≡◌, refl, sym, ap, ◌∙◌, subst, ℕ, zero, suc, ◌+◌, ◌-◌, ◌*◌, ◌<◌, ◌≤◌, Bool, true, false, not, ◌&&◌, ◌||◌, Option, Some, None, List, [], ◌∷◌, ◌++◌, length, take, drop, inl, inr, ◌⊎◌, arith, mul-add}
-use Rattle.std.specs.Prelude.{min, ◌==◌, if◌then◌else◌, is_some, IfSome, nat_lt, option_map}
+use Rattle.std.proofs.Common.{◌≡◌, refl, sym, ap, ◌∙◌, subst, ℕ, ◌+◌, ◌-◌, ◌*◌, ◌≤◌, Bool, true, false, not, ◌&&◌, ◌||◌, Option, Some, None, List, ◌++◌, take, drop, inl, inr, arith, mul-add}
+use Rattle.std.specs.Prelude.{min, ◌==◌, if◌then◌else◌, is_some, nat_lt, option_map}
 use Rattle.std.specs.List.{AllByRecursion}
 use Rattle.std.specs.Io.KnownBytes.{Appends}
 use Rattle.std.proofs.KnownBytes.{Appends-trans}
-use Rattle.std.proofs.lemmas.Bool.{cases_Bool, and_parts, cases_lt, lt-ltb, eq-eqb, ne_eqb, eqb-true}
+use Rattle.std.proofs.lemmas.Bool.{cases_Bool, and_parts, cases_lt, lt-ltb, eqb-true}
 use Rattle.trau_io.specs.declared.ends.CallEnd.{CallEnd}
 use Rattle.trau_io.specs.declared.ends.Cause.{Cause}
 use Rattle.trau_io.specs.declared.ends.Cause.TheVariants.{End, Fault}
@@ -14,11 +14,10 @@ use Rattle.trau_io.specs.Lines.{LineState, Rose}
 use Rattle.round_lines.specs.declared.transfer.Outlet.{Outlet}
 use Rattle.round_lines.specs.declared.transfer.Outlet.TheVariants.{Sound}
 use Rattle.round_lines.specs.Transfer.{GivesClean, has_failed}
-use Rattle.round_lines.specs.Places as places
-use Rattle.round_lines.specs.Places.{PlaceMemory, outlet_before}
+use Rattle.round_lines.specs.Places.{outlet_before}
 use Rattle.round_lines.specs.Seats as seats
 use Rattle.round_lines.specs.Seats.{SeatMemory, down_of}
-use Rattle.round_lines.specs.Rounds.{Rising, seat_at, call_at, seat_end}
+use Rattle.round_lines.specs.Rounds.{Rising, seat_at}
 use Rattle.round_lines.proofs.Each.{still_rising}
 use Rattle.switchboard.specs.Calls.{Done, opened_at, closed_at, is_open, gone_at}
 use Rattle.switchboard.specs.Ends.{Given, lack_of, end_of, start_of}
@@ -33,8 +32,8 @@ use Rattle.farm_rounds.specs.declared.call.Call.{Call}
 use Rattle.farm_rounds.specs.declared.call.Group.{Group}
 use Rattle.farm_rounds.specs.Calls.{call_in, partner_in}
 use Rattle.farm_rounds.specs.Numbers.{is_among}
-use Rattle.farm_rounds.specs.Memory.{FarmMemory, tally_in}
-use Rattle.farm_rounds.specs.Histories.{CallHistory, CallStands, GroupsStand, kept_of, tally_of}
+use Rattle.farm_rounds.specs.Memory.{FarmMemory}
+use Rattle.farm_rounds.specs.Histories.{CallHistory, CallStands, GroupsStand}
 use Rattle.farm_rounds.specs.Rounds.{octets_of, seat_with}
 use Rattle.farm_rounds.specs.Working.{goes_on_call}
 use Rattle.farm_rounds.specs.RoundHistories.{seat_of, history_with, worked_histories, those_that}
@@ -44,7 +43,7 @@ use Rattle.farm_output.specs.Lines.{out_line, down_octets}
 use Rattle.farm_output.proofs.SoFar.{standing_now}
 use Rattle.farm_run.specs.Going.{IsRound, places_in, ends_within, told_after, is_told}
 use Rattle.farm_run.specs.Runs.{IsOpened, NoneRose, EndedByOrder, IsReadTo, cause_in}
-use Rattle.farm_run.specs.Match.{Matches, past_if, histories_at, Follows}
+use Rattle.farm_run.specs.Match.{Matches, past_if, histories_at}
 use Rattle.farm_run.specs.Clock.{end_in, worked_to, IsReadWhole, LinesAt, AreSound, IsAtClock}
 use Rattle.farm_run.proofs.Rounds.{open_at, open_after, shut_after}
 use Rattle.farm_run.proofs.RoundEnds.{end_within, start_kept}
@@ -52,7 +51,7 @@ use Rattle.farm_run.proofs.Told.{told_done, told_left, round_over, gone_round}
 use Rattle.farm_run.proofs.SeatEnds.{each_end, told_seats}
 use Rattle.farm_run.proofs.Worked.{out_written, down_written}
 use Rattle.farm_run.proofs.Reach.{end_after, worked_now, worked_then, worked_idle}
-use Rattle.farm_run.proofs.WorkedRound.{WorkedRound, worked_down, worked_out, drained_call, lines_kept, down_between, out_between, among_place, seat_facts}
+use Rattle.farm_run.proofs.WorkedRound.{WorkedRound, worked_down, worked_out, drained_call, lines_kept, down_between, out_between}
 use Rattle.farm_run.proofs.RoundCalls.{OpenSeat, open_seat, open_is, opened_is, seat_of_at, all_seats, all_have_seats, ends_filled, goes_on_is}
 use Rattle.farm_run.proofs.RoundPast.{IsPast, worked_past}
 
@@ -123,7 +122,7 @@ module _ (r : Run) (t n : ℕ) (b : State) (farm after : FarmMemory) (first befo
   told_is c =
       ap (is_told c) (ends_filled r t n b farm after first before now ends w h m at calm up_sound pcm_sound)
       ∙ told_seats r t n b.done b.left w.filled h (all_seats r t n b farm after first before now ends w h m at calm up_sound pcm_sound)
-          (all_have_seats r t n b farm after first before now ends w h m at calm up_sound pcm_sound) c
+      (all_have_seats r t n b farm after first before now ends w h m at calm up_sound pcm_sound) c
 
   -- each is the run's end of its call
   pub ends_are : AllByRecursion (λ e. (ends_within r b.done t n e.call ≡ true) × (e ≡ end_of (given_in r) r.periods (done_in r) e.call (start_of b.done e.call))) ends

@@ -1,7 +1,7 @@
 -- What a round in which no line fails adds to what the calls have had.
-use Rattle.std.proofs.Common.{◌≡◌, refl, sym, ap, ◌∙◌, subst, ℕ, zero, suc, ◌+◌, ◌-◌, ◌*◌, ◌<◌, ◌≤◌, Bool, true, false, not, ◌&&◌, ◌||◌, Option, Some, None, List, [], ◌∷◌, length, inl, inr, ◌⊎◌, arith}
-use Rattle.std.specs.Prelude.{min, ◌==◌, if◌then◌else◌, is_some, is_none, option_map, nat_lt, find}
-use Rattle.std.proofs.lemmas.Bool.{cases_Bool, and_parts, and_from, eqb-true}
+use Rattle.std.proofs.Common.{◌≡◌, refl, sym, ap, ◌∙◌, subst, ℕ, ◌+◌, ◌-◌, ◌*◌, ◌≤◌, Bool, true, false, ◌&&◌, Option, Some, None, List, arith}
+use Rattle.std.specs.Prelude.{min, if◌then◌else◌, is_none, option_map, nat_lt, find}
+use Rattle.std.proofs.lemmas.Bool.{and_parts, and_from}
 use Rattle.trau_io.specs.declared.ends.CallEnd.{CallEnd}
 use Rattle.trau_io.specs.declared.line.Side.{Side}
 use Rattle.trau_io.specs.Lines.{LineState}
@@ -13,19 +13,17 @@ use Rattle.switchboard.specs.Calls.{Done, is_open, gone_at}
 use Rattle.switchboard.specs.Bridges.{bridges, joins, other, lasts, bridge_of}
 use Rattle.switchboard.specs.Ends.{start_of}
 use Rattle.switchboard.specs.State.{State, gone_in}
-use Rattle.switchboard.specs.Open.{open_now, partner_now}
-use Rattle.call_leg.specs.Periods.{CallPeriod}
 use Rattle.call_leg.specs.Settings.{Settings, without_bridge}
-use Rattle.call_pair.specs.History.{Start, settings_at, settings_past, alone_periods, bridged_periods}
+use Rattle.call_pair.specs.History.{settings_at, settings_past}
 use Rattle.call_pair.specs.Memory.{IoMemory}
 use Rattle.farm_rounds.specs.Calls.{partner_in}
 use Rattle.farm_rounds.specs.Memory.{FarmMemory}
-use Rattle.farm_rounds.specs.Histories.{CallHistory, GroupsStand}
+use Rattle.farm_rounds.specs.Histories.{CallHistory}
 use Rattle.farm_rounds.specs.Rounds.{octets_of}
 use Rattle.farm_rounds.specs.RoundHistories.{seat_of, history_with, history_alone, history_beside, history_bridged, worked_histories}
 use Rattle.farm_output.specs.Run.{Run, whole_in, periods_to}
 use Rattle.farm_output.specs.Now.{settings_now}
-use Rattle.farm_run.specs.Going.{IsRound, IsFed, places_in, start_at}
+use Rattle.farm_run.specs.Going.{IsRound, IsFed, places_in}
 use Rattle.farm_run.specs.Runs.{NoneRose}
 use Rattle.farm_run.specs.Match.{Matches, past_if, histories_at}
 use Rattle.farm_run.specs.Clock.{IsAtClock}
@@ -40,7 +38,7 @@ use Rattle.farm_run.proofs.RoundCalls.{OpenSeat, open_seat}
 bridge_same : (gone gone' : ℕ → Bool) (ds : List Done) (c : ℕ) → ((d : ℕ) → is_open gone ds d ≡ is_open gone' ds d) → bridge_of gone ds c ≡ bridge_of gone' ds c
 bridge_same gone gone' ds c e =
     let same : (x : Bridge) → (joins c x && lasts gone ds x) ≡ (joins c x && lasts gone' ds x) = λ x.
-        ap (λ (p : Bool). joins c x && (is_none x.ended && p && is_open gone ds x.b)) (e x.a) ∙ ap (λ (p : Bool). joins c x && (is_none x.ended && is_open gone' ds x.a && p)) (e x.b) in
+    ap (λ (p : Bool). joins c x && (is_none x.ended && p && is_open gone ds x.b)) (e x.a) ∙ ap (λ (p : Bool). joins c x && (is_none x.ended && is_open gone' ds x.a && p)) (e x.b) in
     ap (λ (p : Bridge → Bool). find p (bridges ds)) (λ i. λ x. same x i)
 
 -- what is set for the next period but for the bridge
@@ -149,7 +147,8 @@ module _ (r : Run) (t n : ℕ) (b : State) (farm after : FarmMemory) (first befo
       by (Some x) e =
           let parts = bridge_open r t b.done c x e in
           let both = and_parts (is_alive c) (is_alive (other c x)) (sym (both_calls is_alive c x parts.0) ∙ and_from (is_alive x.a) (is_alive x.b) parts.1 parts.2) in
-          let partner = past_is (other c x) both.1 in
-          (history_bridged w.filled c (past c) (other c x) (past (other c x)),
+          let partner = past_is (other c x) both.1 in (
+            history_bridged w.filled c (past c) (other c x) (past (other c x)),
             start (Some (other c x)) (partner_is c ∙ ap (option_map (other c)) e) ∙ ap (λ (y : Option CallHistory). Some (history_beside w.filled c (past c) (other c x) y)) partner,
-            bridged_is c x o both.1 e)
+            bridged_is c x o both.1 e,
+          )

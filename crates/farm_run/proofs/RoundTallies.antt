@@ -1,7 +1,7 @@
 -- What is kept of the calls that end within a round in which no line fails.
-use Rattle.std.proofs.Common.{◌≡◌, refl, sym, ap, ◌∙◌, ℕ, ◌+◌, ◌-◌, ◌<◌, ◌≤◌, Bool, true, false, ◌&&◌, Option, Some, None, List, inl, inr, ◌⊎◌, arith}
+use Rattle.std.proofs.Common.{◌≡◌, refl, sym, ap, ◌∙◌, ℕ, ◌+◌, ◌-◌, ◌<◌, Bool, true, false, ◌&&◌, Option, List, inl, inr, arith}
 use Rattle.std.specs.Prelude.{min, ◌==◌, if◌then◌else◌, nat_lt, option_map}
-use Rattle.std.proofs.lemmas.Bool.{cases_lt, cases_Bool, lt-ltb, ltb-true, eq-eqb, ne_eqb, and_parts}
+use Rattle.std.proofs.lemmas.Bool.{cases_lt, lt-ltb, ltb-true, eq-eqb, ne_eqb, and_parts}
 use Rattle.trau_io.specs.declared.ends.CallEnd.{CallEnd}
 use Rattle.trau_io.specs.declared.line.Side.{Side}
 use Rattle.trau_io.specs.Lines.{LineState}
@@ -49,11 +49,13 @@ module _ (r : Run) (t n : ℕ) (b : State) (farm after : FarmMemory) (first befo
   ended c e =
       let parts = and_parts (alive c) (nat_lt (places_in r b.done t n c) n) e in
       let less = ltb-true (places_in r b.done t n c) n parts.1 in
-      let p = worked_past r t n b farm after first before now ends w h m at calm up_sound pcm_sound c parts.0 in
-      (p.0.now, p.2.starts,
+      let p = worked_past r t n b farm after first before now ends w h m at calm up_sound pcm_sound c parts.0 in (
+        p.0.now,
+        p.2.starts,
         kept c ∙ ap (λ (x : Bool). if x then was c else kept_of (worked_at_end c) (was c)) (goes c parts.0 ∙ ne_eqb (places_in r b.done t n c) n (apart (places_in r b.done t n c) less))
-        ∙ ap (λ (o : Option CallHistory). kept_of o (was c)) p.1
-        ∙ ap (λ (ts : List CallPeriod). tally_of ts p.0.now) p.2.periods)
+            ∙ ap (λ (o : Option CallHistory). kept_of o (was c)) p.1
+            ∙ ap (λ (ts : List CallPeriod). tally_of ts p.0.now) p.2.periods,
+      )
     where
       apart : (k : ℕ) → k < n → k ≡ n → ⊥
       apart k l q = absurd (omega arith)

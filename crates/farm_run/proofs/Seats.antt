@@ -50,13 +50,13 @@ none_above t c (x ∷ seats) h =
 pub told_goes : (t : ℕ) (seats : List SeatMemory) → Rising seats → (c : ℕ) → has_call seats c ≡ true → is_told c (filter_map (seat_end t) seats) ≡ not (goes_on_call seats c)
 told_goes t [] r c h = cc
 told_goes t (s ∷ seats) r c h = elim (cases_Bool (s.place.call == c)) [
-    inl q ↦
+  | inl q ↦
       let e = eqb-true s.place.call c q in
       let above = none_above t c seats (λ j l. let k = r 0 (suc j) (omega arith) (omega arith) in omega (arith, k, e)) in
       here (goes_on_in s) (s.place.call == c) q (eq-eqb c s.place.call (sym e)) above.0 above.1
   | inr q ↦ there (goes_on_in s) (s.place.call == c) q (ne_eqb c s.place.call (λ e. let f : (s.place.call == c) ≡ true = eq-eqb s.place.call c (sym e) in no (s.place.call == c) q f))
       (told_goes t seats (λ i j l k. r (suc i) (suc j) (omega arith) (omega arith)) c (rest (s.place.call == c) q h))
-  ]
+]
   where
     no : (b : Bool) → b ≡ false → b ≡ true → ⊥
     no b p q = cc

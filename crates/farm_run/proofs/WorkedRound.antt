@@ -1,14 +1,13 @@
 -- A round of the farm by what its parts tell: its seats as they were planned, filled, worked and drained.
-use Rattle.std.proofs.Common.{◌≡◌, refl, sym, ap, ◌∙◌, subst, ℕ, zero, suc, ◌+◌, ◌*◌, ◌<◌, ◌≤◌, Bool, true, false, ◌&&◌, Option, Some, None, List, [], ◌∷◌, length, replicate, inl, inr, ◌⊎◌, arith}
+use Rattle.std.proofs.Common.{◌≡◌, refl, sym, ap, ◌∙◌, subst, ℕ, suc, ◌*◌, ◌<◌, Bool, true, false, ◌&&◌, Option, Some, None, List, [], ◌∷◌, length, arith}
 use Rattle.std.specs.Prelude.{◌==◌, ◌||◌, if◌then◌else◌, is_some, slice_index}
 use Rattle.std.specs.List.{filter_map}
-use Rattle.std.proofs.lemmas.Bool.{cases_Bool, eqb-true}
+use Rattle.std.proofs.lemmas.Bool.{eqb-true}
 use Rattle.std.proofs.lemmas.List.{length-replicate}
 use Rattle.trau_io.specs.declared.ends.CallEnd.{CallEnd}
 use Rattle.trau_io.specs.declared.line.Side.{Side}
 use Rattle.trau_io.specs.declared.line.Side.TheVariants.{Up, Pcm, Down, Out}
 use Rattle.trau_io.specs.Lines.{LineState}
-use Rattle.round_lines.specs.declared.transfer.Outlet.{Outlet}
 use Rattle.round_lines.specs.Transfer.{fails_now}
 use Rattle.round_lines.specs.Places.{PlaceMemory, IsFresh, TellsFaults, outlet_before}
 use Rattle.round_lines.specs.Seats.{SeatMemory, Fills, Drains, new_seat}
@@ -139,12 +138,15 @@ module _ (t n : ℕ) (farm : FarmMemory) (before between : ℕ → Side → Line
       by None q h = cc
       by (Some x) q h =
           let made : seat_at planned k ≡ new_seat c n x.down_failed x.out_failed = w.seats k l ∙ ap (λ d. seat_for n d (call_in farm.groups d)) e ∙ ap (seat_for n c) q in
-          let called : call_at planned k ≡ c = ap (λ (s : SeatMemory). s.place.call) made in
-          (x, q, record {
-            made = made;
-            fills = subst (λ d. Fills (before d) (between d) (seat_at planned k) (seat_at filled k)) called (w.fills k (omega (arith, w.number)));
-            place = w.places k (omega (arith, w.number, w.filled_number));
-          })
+          let called : call_at planned k ≡ c = ap (λ (s : SeatMemory). s.place.call) made in (
+            x,
+            q,
+            record {
+              made = made;
+              fills = subst (λ d. Fills (before d) (between d) (seat_at planned k) (seat_at filled k)) called (w.fills k (omega (arith, w.number)));
+              place = w.places k (omega (arith, w.number, w.filled_number));
+            },
+          )
 
 module _ (t n : ℕ) (farm after : FarmMemory) (before now : ℕ → Side → LineState) (ends : List CallEnd) (w : WorkedRound t n farm after before now ends) where
   pub front : FilledRound t n farm before w.between w.planned w.filled w.worked ends

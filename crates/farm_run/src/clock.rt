@@ -132,9 +132,7 @@ fn work_all<T: Trunk>(
             clock = idle_until(pace, clock, next);
         } else {
             let periods = round_periods(pace, clock, next);
-            farm = work_round(
-                alloc, board, farm, journal, pace, clock, periods, trunk,
-            )?;
+            farm = work_round(alloc, board, farm, journal, pace, clock, periods, trunk)?;
             clock += periods;
         }
     }

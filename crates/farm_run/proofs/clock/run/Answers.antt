@@ -3,6 +3,7 @@ use Rattle.trau_io.specs.declared.line.Side.{Side}
 use Rattle.trau_io.specs.Lines.{LineState}
 use Rattle.trau_orders.specs.declared.order.Order.{Order}
 use Rattle.switchboard.specs.State.{State, orders_of}
+use Rattle.farm_output.specs.Run.{Run}
 use Rattle.farm_run.specs.Runs.{IsRunOver}
 use Rattle.farm_run.proofs.Clocks.{run_told}
 use Rattle.farm_run.proofs.clock.run.Goals as goal

@@ -1,14 +1,12 @@
-use Rattle.std.proofs.Common.{◌≡◌, refl, sym, ap, ◌∙◌, subst, ℕ, ◌≤◌, Option, List, arith}
+use Rattle.std.proofs.Common.{◌≡◌, refl, sym, ap, ◌∙◌, subst, ℕ, ◌+◌, ◌<◌, ◌≤◌, Option, List, arith}
 use Rattle.std.specs.Prelude.{IfSome}
 use Rattle.trau_io.specs.declared.line.Line.{Line}
 use Rattle.trau_io.specs.declared.line.Side.{Side}
 use Rattle.trau_io.specs.Lines.{LineState}
-use Rattle.switchboard.specs.State.{first_stamp}
-use Rattle.farm_output.specs.Run.{Run}
 use Rattle.farm_rounds.specs.declared.call.Group.{Group}
 use Rattle.farm_rounds.specs.Memory.{FarmMemory}
 use Rattle.farm_run.specs.Match.{AtClock}
-use Rattle.farm_run.specs.Runs.{TellsFailed, IsRunOver}
+use Rattle.farm_run.specs.Runs.{TellsFailed}
 use Rattle.farm_run.specs.Clock.{IsAtClock, AreReadable}
 use Rattle.farm_run.proofs.Counts.{fell_more, still_none, none_since}
 use Rattle.farm_run.proofs.Clocks.{fell_none, tells_none, at_first, clock_on, goes_on, none_alive, none_among}

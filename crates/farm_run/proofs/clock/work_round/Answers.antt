@@ -1,7 +1,5 @@
-use Rattle.std.proofs.Common.{◌≡◌, sym, ap, ◌∙◌, subst, ℕ, ◌+◌, ◌≤◌, List, arith}
-use Rattle.std.specs.Prelude.{IfSome, length}
+use Rattle.std.proofs.Common.{ap, ◌∙◌, subst, ℕ, ◌+◌, ◌≤◌}
 use Rattle.std.specs.List.{filter_map}
-use Rattle.trau_io.specs.declared.ends.CallEnd.{CallEnd}
 use Rattle.round_lines.specs.Rounds.{seat_end}
 use Rattle.switchboard.specs.State.{State, last_stamp, orders_of}
 use Rattle.farm_output.specs.Run.{Run}
