@@ -32,7 +32,7 @@ use Rattle.farm_output.proofs.Standing.{gone_later}
 use Rattle.farm_output.proofs.SoFar.{so_far_at_first, so_far_later}
 use Rattle.farm_run.specs.Runs.{IsOpened, TellsFailed, NoneRose, IsRunOver, Leaves, Runs}
 use Rattle.farm_run.specs.declared.pace.Pace.{Pace}
-use Rattle.farm_run.specs.Match.{AtClock, Follows, past_if, histories_at}
+use Rattle.farm_run.specs.Match.{AtClock, past_if, histories_at}
 use Rattle.farm_run.specs.Clock.{end_in, worked_to, IsReadWhole, LinesAt, IsAtClock, NeverFell}
 use Rattle.farm_run.proofs.Rounds.{shut_after}
 use Rattle.farm_run.proofs.Worked.{length-periods_to}
@@ -178,18 +178,18 @@ none_listed first now [] h n = refl
 none_listed first now (x ∷ lines) h n = absurd (n x.call x.side (h.rose x.call x.side (0, omega arith, refl)))
 
 -- **So the report of a run at its end tells what the run gives.**
-pub run_told : {E : Type 0} (os : List Order) (pace : Pace) (first now : ℕ → Side → LineState) (b : State) (farm : FarmMemory) (journal : JournalMemory) (o : Result ReportView E) → orders_of b ≡ os →
+pub run_told : {E : Type 0} (os : List Order) (pace : Pace) (first now : ℕ → Side → LineState) (b : State) (farm : FarmMemory) (journal : JournalMemory) (count : ℕ) (o : Result ReportView E) → orders_of b ≡ os →
     TellsFailed first now farm.failed →
     ((r : Run) → IsRunOver os pace.periods first r → NoneRose first now → IsAtClock r r.periods b farm.groups first now) → ((r : Run) → IsRunOver os pace.periods first r → NoneRose first now → IsKnown r r.periods b farm.tallies journal) →
-    IfOk o (λ report. report.failed ≡ farm.failed) →
-    IfOk o (λ report. (r : Run) (t : ℕ) → IsAtEnd r t b farm.groups farm.tallies journal → r.periods ≡ pace.periods → length r.orders ≡ length os → report ≡ report_of r report.failed) → IfOk o (λ report. Runs os pace first now report)
-run_told os pace first now b farm journal (Err e) kept tells goes known f g = tt
-run_told os pace first now b farm journal (Ok report) kept tells goes known f g = record {
+    IfOk o (λ report. report.failed ≡ farm.failed) → count ≡ length os →
+    IfOk o (λ report. (r : Run) (t : ℕ) → IsAtEnd r t b farm.groups farm.tallies journal → r.periods ≡ pace.periods → length r.orders ≡ count → report ≡ report_of r report.failed) → IfOk o (λ report. Runs os pace first now report)
+run_told os pace first now b farm journal count (Err e) kept tells goes known f number g = tt
+run_told os pace first now b farm journal count (Ok report) kept tells goes known f number g = record {
   failed = subst (λ (ls : List Line). TellsFailed first now ls) (sym f) tells;
   leaves = λ r run none. leaves_all r b farm.groups first now (goes r run none);
   reports = λ r run none.
       let at = goes r run none in
       let knows = known r run none in
-      g r r.periods (record { follows = at.follows; none_left = at.follows.so_far.ahead; clock = λ c o. refl; truly = knows.truly; noted = knows.noted }) run.same_periods (ap length run.same_orders)
+      g r r.periods (record { follows = at.follows; none_left = at.follows.so_far.ahead; clock = λ c o. refl; truly = knows.truly; noted = knows.noted }) run.same_periods (ap length run.same_orders ∙ sym number)
       ∙ ap (report_of r) (f ∙ none_listed first now farm.failed tells none);
 }

@@ -1,5 +1,5 @@
 -- What a round in which no line fails adds to what the calls have had.
-use Rattle.std.proofs.Common.{◌≡◌, refl, sym, ap, ◌∙◌, subst, ℕ, ◌+◌, ◌-◌, ◌*◌, ◌≤◌, Bool, true, false, ◌&&◌, Option, Some, None, List, arith}
+use Rattle.std.proofs.Common.{◌≡◌, refl, sym, ap, ◌∙◌, subst, ℕ, ◌+◌, ◌-◌, ◌≤◌, Bool, true, false, ◌&&◌, Option, Some, None, List, arith}
 use Rattle.std.specs.Prelude.{min, if◌then◌else◌, is_none, option_map, nat_lt, find}
 use Rattle.std.proofs.lemmas.Bool.{and_parts, and_from}
 use Rattle.trau_io.specs.declared.ends.CallEnd.{CallEnd}

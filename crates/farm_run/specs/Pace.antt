@@ -1,5 +1,5 @@
 -- How a run is worked (this project's profile).
-use Rattle.std.specs.Prelude.{ℕ, ◌≤◌}
+use Rattle.std.specs.Prelude.{◌≤◌}
 use Rattle.farm_run.specs.declared.pace.Pace.{Pace}
 
 -- 1 to 64 workers, 1 to 250 periods a round, at least one a slice, and at least one in all

@@ -1,6 +1,6 @@
 -- What a run leaves on the lines of its calls, and what it reports (this project's profile). `before` are the lines before
 -- it, `now` those after it.
-use Rattle.std.specs.Prelude.{◌≡◌, ◌⊎◌, ℕ, ◌*◌, true, false, Some, is_some, List, [], length, map, drop}
+use Rattle.std.specs.Prelude.{◌≡◌, ℕ, ◌*◌, true, false, Some, is_some, List, [], length, map, drop}
 use Rattle.std.specs.List.{Contains}
 use Rattle.std.specs.Io.KnownBytes.{Appends}
 use Rattle.trau_io.specs.declared.line.Line.{Line}
