@@ -194,11 +194,13 @@ no memory
 TEXT
 
 # As many calls as there are numbers, a period each: all end with their lines.
+head -c 40 1.up >up
+head -c 160 1.pcm >pcm
 i=1
 : >orders
 while [ $i -le 1024 ]; do
-    head -c 40 1.up >$i.up
-    head -c 160 1.pcm >$i.pcm
+    cp up $i.up
+    cp pcm $i.pcm
     rm -rf $i.down $i.out
     echo "0 open $i" >>orders
     i=$((i + 1))
