@@ -6,23 +6,26 @@ work=$(mktemp -d)
 trap 'rm -rf "$work"' EXIT
 failed=0
 
-# The commands of the worked example, and what they print.
-sed -n '/^    \$ cd examples$/,/^$/p' "$top/README.md" | sed 's/^    //; /^\$ cd /d; /^$/d' >"$work/wanted"
-mkdir "$work/examples"
-cp "$top/examples/7.up" "$work/examples"
+# The commands of the worked examples, each in its folder, and what they print.
+cp -r "$top/examples" "$work/examples"
 ln -s "$top/trau" "$work/trau"
-cd "$work/examples"
-grep '^\$ ' "$work/wanted" | sed 's/^\$ //' | while read -r line; do
-    echo "\$ $line"
-    $line </dev/null
-done >"$work/got"
-if [ -s "$work/wanted" ] && cmp -s "$work/wanted" "$work/got"; then
-    echo "ok the worked example"
-else
-    echo "FAILED the worked example:"
-    cat "$work/got"
-    failed=1
-fi
+for folder in examples/farm examples; do
+    sed -n "\\|^    \$ cd $folder\$|,/^\$/p" "$top/README.md" | sed 's/^    //; /^\$ cd /d; /^$/d' >"$work/wanted"
+    (
+        cd "$work/$folder"
+        grep '^\$ ' "$work/wanted" | sed 's/^\$ //' | while read -r line; do
+            echo "\$ $line"
+            sh -c "$line" </dev/null
+        done
+    ) >"$work/got"
+    if [ -s "$work/wanted" ] && cmp -s "$work/wanted" "$work/got"; then
+        echo "ok the worked example in $folder"
+    else
+        echo "FAILED the worked example in $folder:"
+        cat "$work/got"
+        failed=1
+    fi
+done
 
 # The quoted contract stands in the source.
 if python3 - "$top" <<'EOF'
