@@ -1,13 +1,13 @@
 -- Each step keeps the rule of one deque.
-use Rattle.std.proofs.Common.{◌≡◌, ◌≢◌, ℕ, ◌+◌, ◌-◌, ◌<◌, List, [], ◌∷◌, ◌++◌, map, set, refl, ap, subst, ⊎_elim, arith}
+use Rattle.std.proofs.Common.{sym, ◌≡◌, ◌≢◌, ℕ, ◌+◌, ◌-◌, ◌<◌, List, [], ◌∷◌, ◌++◌, map, set, refl, ap, subst, ⊎_elim, arith}
 use Rattle.std.proofs.lemmas.List.{map-append}
 use mathlib.Core.Option.{some}
 use lib.ListN.{get_elem?}
-use Rattle.crossbeam_deque.specs.Tasks.{Pushes, Takes, Finds, FindsFew, Forks, Merges}
+use Rattle.crossbeam_deque.specs.Tasks.{Pushes, Takes, Finds, Learns, Forks, Merges}
 use Rattle.crossbeam_deque.proofs.Lists.{at_set, at_snoc}
 use Rattle.pool_run.specs.declared.deque.View.{View}
 use Rattle.pool_run.specs.declared.deque.Task.{Task}
-use Rattle.pool_run.specs.Deque.{weigh, SameEntries, knows, entry_of, after_push, after_take, SpentAreEmpty, IsKept}
+use Rattle.pool_run.specs.Deque.{weigh, SameEntries, IsCovered, knows, entry_of, after_push, after_take, SpentAreEmpty, IsKept}
 use Rattle.pool_run.proofs.Weights.{weigh-append, weigh_view, alone}
 
 module _ {W : Type 0} (finish : W → W) where
@@ -45,16 +45,37 @@ module _ {W : Type 0} (finish : W → W) where
     refl,
   )
 
-  pub finds : (port : ℕ) (v : View W) → Finds (IsKept finish) port v (v.parts ≡ 1024 → SameEntries v.pushed v.obtained)
-  finds port v views kept at all h =
+  -- with all parts a view is the whole account of the deque
+  accounts : (items : List (Task W)) (views : List (View W)) (port : ℕ) (v : View W) → IsKept finish items views → get_elem? views port ≡ some v → v.parts ≡ 1024
+      → (h : ℕ × W → ℕ) → weigh h v.pushed ≡ weigh h v.obtained + weigh h (map (entry_of finish) items)
+  accounts items views port v kept at all h =
       let whole : weigh (λ (u : View W). u.parts) views ≡ v.parts = omega (arith, kept.0) in
       let a = alone (λ (u : View W). u.parts) (λ (u : View W). weigh h u.pushed) views port v at (λ j u e z. ap (weigh h) (kept.2 j u e z).0) whole in
       let b = alone (λ (u : View W). u.parts) (λ (u : View W). weigh h u.obtained) views port v at (λ j u e z. ap (weigh h) (kept.2 j u e z).1) whole in
       omega (arith, kept.1 h)
 
-  pub finds_few : (port : ℕ) (v : View W) → FindsFew (IsKept finish) 0 port v (v.parts ≡ 1024 → SameEntries v.pushed v.obtained)
-  finds_few port v [] views few kept at = finds port v views kept at
-  finds_few port v (x ∷ xs) views few kept at = absurd (omega arith)
+  covered_after : (port : ℕ) (v : View W) (xs items : List (Task W)) (views : List (View W)) → IsKept finish (xs ++ items) views → get_elem? views port ≡ some v → v.parts ≡ 1024 → IsCovered (after_take finish v xs)
+  covered_after port v xs items views kept at all h = omega (
+    arith,
+    accounts (xs ++ items) views port v kept at all h,
+    ap (weigh h) (map-append (entry_of finish) xs items),
+    weigh-append h v.obtained (map (entry_of finish) xs),
+    weigh-append h (map (entry_of finish) xs) (map (entry_of finish) items),
+  )
+
+  pub takes_left : (port : ℕ) (v : View W) → 0 < v.parts → Takes (IsKept finish) port v 1 (λ xs w. (w ≡ after_take finish v xs) × (v.parts ≡ 1024 → IsCovered w))
+  takes_left port v some_part xs items views some_items few kept at =
+      let taken = takes port v some_part xs items views some_items few kept at in (
+        taken.0,
+        taken.1,
+        (taken.2, λ all. subst IsCovered (sym taken.2) (covered_after port v xs items views kept at all)),
+      )
+
+  pub finds : (port : ℕ) (v : View W) → Finds (IsKept finish) port v (v.parts ≡ 1024 → SameEntries v.pushed v.obtained)
+  finds port v views kept at all h = omega (arith, accounts [] views port v kept at all h)
+
+  pub learns : (port : ℕ) (v : View W) → Learns (IsKept finish) port v (λ _. v.parts ≡ 1024 → IsCovered v)
+  learns port v items views kept at all h = omega (arith, accounts items views port v kept at all h)
 
   pub forks : (port : ℕ) (v : View W) → 1 < v.parts → Forks (IsKept finish) port v (knows (v.parts - 1) v.pushed v.obtained) (knows 1 [] [])
   forks port v two items views kept at = let l : View W = knows (v.parts - 1) v.pushed v.obtained in let r : View W = knows 1 [] [] in let vs : List (View W) = set views port l in

@@ -12,7 +12,7 @@ use Rattle.pool_run.specs.declared.deque.View.{View}
 use Rattle.pool_run.specs.declared.deque.Task.{Task}
 use Rattle.pool_run.specs.declared.deque.OneDeque.{OneDeque}
 use Rattle.pool_run.specs.declared.member.Member.{Member}
-use Rattle.pool_run.specs.Deque.{weigh}
+use Rattle.pool_run.specs.Deque.{weigh, IsCovered}
 use Rattle.pool_run.specs.Member.{Thief, Knower, IsPassFor, IsEnded, given, obtained}
 use Rattle.pool_run.specs.Pool.{IsPool, IsOwner, passes_of, all_given, all_obtained}
 use Rattle.pool_run.specs.Joins.{HasRow, IsShared, IsLastTaken, below, rows_at}
@@ -159,11 +159,31 @@ module _ {W : Type 0} (finish : W → W) (thieves : List (Thief W)) where
         omega (arith, pool.parts k m h, rows, pool.pair);
   }
 
-  pub hall_owners : (ms : List (Member W)) → IsShared finish thieves ms 0 0 → ((i : ℕ) → i < length ms → length (passes_of ms i) ≡ 0) → All (λ (m : Member W). IsOwner m × All (IsEnded finish) m.done.items) ms
-  hall_owners ms shared none k m h =
+  pub all_owners : (ms : List (Member W)) → IsShared finish thieves ms 0 0 → ((i : ℕ) → i < length ms → length (passes_of ms i) ≡ 0) → All (λ (m : Member W). IsOwner m × All (IsEnded finish) m.done.items) ms
+  all_owners ms shared none k m h =
       let empty : (i : ℕ) (d : Member W) → i < length ms → length (get_or ms i d).passes.items ≡ 0 = λ i d i_in. omega (arith, none i i_in, ap length (passes_at ms i d i_in)) in
       let rows : rows_at k ms ≡ 0 = weigh_zeros (λ (x : Member W). below k (length x.passes.items)) ms (λ i d i_in. ap (below k) (empty i d i_in)) in
       let s = shared.rows k m h in (
         record { fifo = s.fifo; parts = omega (arith, shared.parts k m h, rows); joined = no_items (get_or ms k m).passes.items (empty k m h) },
         s.ended,
       )
+
+-- an owner that was audited is the same
+module _ {W : Type 0} (finish : W → W) (ms : List (Member W)) (k : ℕ) (r : Member W) (w : Worker (Task W) Global (View W) OneDeque) (there : k < length ms)
+    (same : SameWorker (get_or ms k r).own w) (is : worker_view w ≡ worker_view (get_or ms k r).own) where
+  abbrev audited : Member W
+  audited = record (get_or ms k r) { own = w }
+
+  pub audited_owners : All (λ (m : Member W). IsOwner m × All (IsEnded finish) m.done.items) ms → All (λ (m : Member W). IsOwner m × All (IsEnded finish) m.done.items) (set ms k audited)
+  audited_owners owners = let own = owners k r there in
+      each_set (λ (i : ℕ) (m : Member W). IsOwner m × All (IsEnded finish) m.done.items) ms k audited there
+      (record { fifo = same.1 ∙ own.0.fifo; parts = ap (λ (v : View W). v.parts) is ∙ own.0.parts; joined = own.0.joined }, own.1) owners
+
+  pub audited_given : (h : ℕ × W → ℕ) → all_given finish h (set ms k audited) ≡ all_given finish h ms
+  audited_given h = omega (arith, weigh-set (given finish h) ms k audited r there, ap (λ (v : View W). weigh h v.pushed) is)
+
+  pub audited_obtained : (h : ℕ × W → ℕ) → all_obtained h (set ms k audited) ≡ all_obtained h ms
+  audited_obtained h = omega (arith, weigh-set (obtained h) ms k audited r there, ap (λ (v : View W). weigh h v.obtained) is)
+
+  pub audited_mine : IsCovered (worker_view (get_or ms k r).own) → (m : Member W) → IsCovered (worker_view (get_or (set ms k audited) k m).own)
+  audited_mine covered m = subst (λ (x : Member W). IsCovered (worker_view x.own)) (sym (get_or-set_same ms k audited m there)) (subst IsCovered (sym is) covered)

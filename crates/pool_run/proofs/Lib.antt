@@ -5,4 +5,5 @@ pub mod Members
 pub mod Orders
 pub mod Pools
 pub mod Rooms
+pub mod Settled
 pub mod Weights

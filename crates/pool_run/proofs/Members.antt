@@ -38,16 +38,16 @@ module _ {W : Type 0} (finish : W → W) (thieves : List (Thief W)) where
   own_ready : (old : Member W) (w : Deque) → SameWorker old.own w → (worker_view w).parts ≡ (worker_view old.own).parts → IsReady finish thieves old → IsReady finish thieves (record old { own = w })
   own_ready old w same parts ready = record { fifo = same.1 ∙ ready.fifo; parts = let p = ready.parts in omega arith; one_each = ready.one_each; lines = ready.lines; ended = ready.ended }
 
-  pub popped : (old : Member W) (w : Deque) (r : Option (Task W)) (P : Type 0) → IsReady finish thieves old → SameWorker old.own w
-      → MatchOption r ((worker_view w ≡ worker_view old.own) × P) (λ t. worker_view w ≡ after_take finish (worker_view old.own) (t ∷ []))
+  pub popped : (old : Member W) (w : Deque) (r : Option (Task W)) → IsReady finish thieves old → SameWorker old.own w
+      → MatchOption r (worker_view w ≡ worker_view old.own) (λ t. worker_view w ≡ after_take finish (worker_view old.own) (t ∷ []))
       → Moves finish thieves old None (record old { own = w }) r
-  popped old w None P ready same is = let p : (worker_view w).parts ≡ (worker_view old.own).parts = ap (λ (v : View W). v.parts) is.0 in record {
+  popped old w None ready same is = let p : (worker_view w).parts ≡ (worker_view old.own).parts = ap (λ (v : View W). v.parts) is in record {
     ready = own_ready old w same p ready;
     deque = same.0;
     parts = p;
-    balance = λ h. omega (arith, ap (λ (v : View W). weigh h v.pushed) is.0, ap (λ (v : View W). weigh h v.obtained) is.0);
+    balance = λ h. omega (arith, ap (λ (v : View W). weigh h v.pushed) is, ap (λ (v : View W). weigh h v.obtained) is);
   }
-  popped old w (Some t) P ready same is = let p : (worker_view w).parts ≡ (worker_view old.own).parts = ap (λ (v : View W). v.parts) is in record {
+  popped old w (Some t) ready same is = let p : (worker_view w).parts ≡ (worker_view old.own).parts = ap (λ (v : View W). v.parts) is in record {
     ready = own_ready old w same p ready;
     deque = same.0;
     parts = p;

@@ -168,6 +168,10 @@ module _ {W : Type 0} (finish : W → W) where
   entries_numbered n [] = tt
   entries_numbered n (b ∷ bs) = (refl, entries_numbered (n + 1) bs)
 
+  pub entries_count : (n : ℕ) (bs : List (Box W)) → weigh (λ (e : ℕ × W). 1) (entries_from finish n bs) ≡ length bs
+  entries_count n [] = refl
+  entries_count n (b ∷ bs) = omega (arith, entries_count (n + 1) bs)
+
   pub entries_values : (n : ℕ) (bs : List (Box W)) → map (λ (e : ℕ × W). e.1) (entries_from finish n bs) ≡ map (λ (b : Box W). finish b.value) bs
   entries_values n [] = refl
   entries_values n (b ∷ bs) = ap (λ l. finish b.value ∷ l) (entries_values (n + 1) bs)

@@ -1,5 +1,5 @@
 -- The rule of one deque.
-use Rattle.std.specs.Prelude.{◌≡◌, ℕ, ◌+◌, List, [], ◌∷◌, ◌++◌, map}
+use Rattle.std.specs.Prelude.{◌≡◌, ℕ, ◌+◌, ◌≤◌, List, [], ◌∷◌, ◌++◌, map}
 use mathlib.Core.Option.{some}
 use lib.ListN.{get_elem?}
 use Rattle.pool_run.specs.declared.deque.View.{View}
@@ -29,6 +29,10 @@ module _ {W : Type 0} where
   -- a view after these were popped or stolen
   abbrev pub after_take : (W → W) → View W → List (Task W) → View W
   after_take finish v xs = knows v.parts v.pushed (v.obtained ++ map (entry_of finish) xs)
+
+  -- of no entry more was obtained than was pushed
+  abbrev pub IsCovered : View W → Type 0
+  IsCovered v = (h : ℕ × W → ℕ) → weigh h v.obtained ≤ weigh h v.pushed
 
   -- a view with no part has pushed and obtained nothing
   abbrev pub SpentAreEmpty : List (View W) → Type 0

@@ -1,10 +1,10 @@
 -- The workers of a pool together.
-use Rattle.std.specs.Prelude.{◌≡◌, ℕ, zero, suc, ◌+◌, ◌<◌, List, [], ◌∷◌, length, slice_index_or}
+use Rattle.std.specs.Prelude.{◌≡◌, ℕ, zero, suc, ◌+◌, ◌<◌, List, [], ◌∷◌, length, All, slice_index_or}
 use Rattle.std.specs.Global.{Box}
 use Rattle.crossbeam_deque.specs.Handles.{worker_deque, stealer_deque, worker_flavor, worker_view}
 use Rattle.pool_run.specs.declared.member.Member.{Member}
-use Rattle.pool_run.specs.Deque.{weigh}
-use Rattle.pool_run.specs.Member.{Thief, Knower, IsReady, given, obtained}
+use Rattle.pool_run.specs.Deque.{weigh, IsCovered}
+use Rattle.pool_run.specs.Member.{Thief, Knower, IsEnded, IsReady, given, obtained}
 
 module _ {W : Type 0} where
   -- the jobs, numbered from n on, as the finished jobs that they become
@@ -42,3 +42,9 @@ module _ {W : Type 0} where
     pub fifo : worker_flavor m.own ≡ 0
     pub parts : (worker_view m.own).parts ≡ 1024
     pub joined : m.passes.items ≡ []
+
+  -- such a worker that put away finished jobs only, and obtained no more of any entry than was pushed
+  pub record IsSettled (finish : W → W) (m : Member W) : Type 0 where
+    pub owner : IsOwner m
+    pub ended : All (IsEnded finish) m.done.items
+    pub covered : IsCovered (worker_view m.own)

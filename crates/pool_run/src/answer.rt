@@ -2,58 +2,78 @@
 
 ghost use Rattle.std.specs.Prelude.{◌≡◌, ℕ, ◌+◌, ◌≤◌, [], ◌∷◌, ◌++◌, map, vec_len, vec_capacity, All, IsPermutation};
 ghost use Rattle.std.specs.List.Sorted.{IsNonDecreasingBy};
-ghost use Rattle.pool_run.specs.Deque.{weigh, SameEntries, entry_of};
-ghost use Rattle.pool_run.specs.Member.{IsEnded, given, obtained};
-ghost use Rattle.pool_run.specs.Pool.{IsOwner, IsNumbered, all_given, all_obtained};
+ghost use Rattle.crossbeam_deque.specs.Handles.{worker_flavor, worker_view};
+ghost use Rattle.pool_run.specs.Deque.{weigh, SameEntries, IsCovered, entry_of};
+ghost use Rattle.pool_run.specs.Member.{IsEnded};
+ghost use Rattle.pool_run.specs.Pool.{IsSettled, IsNumbered, all_given, all_obtained};
 
 use crate::Work;
-use crate::deque::{Task, pop};
+use crate::deque::{Owner, Task, pop_left};
 use crate::member::Member;
 use crate::work::{Gate, run_to_end};
-use std::sync::Wait;
-use std::thread;
 
 /// Runs to its end each job that is left in a deque, and puts all finished jobs on one list.
-pub(crate) fn finish_all<R: Wait, W: Work, G: Gate>(
-    rt: &R,
+pub(crate) fn finish_all<W: Work, G: Gate>(
     members: Vec<Member<W>>,
     finished: &mut Vec<Task<W>>,
     slice: u32,
     gate: &G,
 )
     requires slice { 1 ≤ slice }
-    requires owners { All (λ m. IsOwner m × All (IsEnded W.finish) m.done.items) members.items }
+    requires settled { All (IsSettled W.finish) members.items }
     requires ended { All (IsEnded W.finish) finished.old.items }
+    requires room { vec_len finished.old + all_given W.finish (λ _. 1) members.items ≤ all_obtained (λ _. 1) members.items + vec_capacity finished.old }
     ensures ended { All (IsEnded W.finish) finished.new.items }
     ensures entries { (h : _) → weigh h (map (entry_of W.finish) finished.new.items) + all_obtained h members.items ≡ weigh h (map (entry_of W.finish) finished.old.items) + all_given W.finish h members.items }
 {
     for member in members {
-        let mut member = member;
-        drain(rt, &mut member, slice, gate);
-        stow_all(rt, finished, member.done);
+        let Member {
+            me: _,
+            mut own,
+            passes: _,
+            done,
+        } = member;
+        append_reserved(finished, done);
+        drain(&mut own, finished, slice, gate);
     }
 }
 
-// Runs to its end each job that is left in a worker's deque.
-fn drain<R: Wait, W: Work, G: Gate>(rt: &R, member: &mut Member<W>, slice: u32, gate: &G)
-    requires slice { 1 ≤ slice }
-    requires owner { IsOwner member.old }
-    requires ended { All (IsEnded W.finish) member.old.done.items }
-    ensures ended { All (IsEnded W.finish) member.new.done.items }
-    ensures entries { (h : _) → weigh h (map (entry_of W.finish) member.new.done.items) + obtained h member.old ≡ given W.finish h member.old }
+// Puts items at the end of a list that has room for them.
+fn append_reserved<T: Drop>(list: &mut Vec<T>, more: Vec<T>)
+    requires { vec_len list.old + vec_len more ≤ vec_capacity list.old }
+    ensures items { list.new.items ≡ list.old.items ++ more.items }
+    ensures len { vec_len list.new ≡ vec_len list.old + vec_len more }
+    ensures room { vec_capacity list.new ≡ vec_capacity list.old }
 {
-    for _ in rt.forever() {
-        let Some(task) = pop(&mut member.own) else {
-            return;
-        };
-        let task = finished(task, slice, gate);
-        stow(rt, &mut member.done, task);
+    for item in more {
+        list.push_reserved(item);
     }
-    unreachable!()
+}
+
+// Runs to its end each job that is left in a deque.
+fn drain<W: Work, G: Gate>(
+    own: &mut Owner<W>,
+    finished: &mut Vec<Task<W>>,
+    slice: u32,
+    gate: &G,
+)
+    requires slice { 1 ≤ slice }
+    requires fifo { worker_flavor own.old ≡ 0 }
+    requires all { (worker_view own.old).parts ≡ 1024 }
+    requires covered { IsCovered (worker_view own.old) }
+    requires ended { All (IsEnded W.finish) finished.old.items }
+    requires room { vec_len finished.old + weigh (λ _. 1) (worker_view own.old).pushed ≤ weigh (λ _. 1) (worker_view own.old).obtained + vec_capacity finished.old }
+    ensures ended { All (IsEnded W.finish) finished.new.items }
+    ensures entries { (h : _) → weigh h (map (entry_of W.finish) finished.new.items) + weigh h (worker_view own.old).obtained ≡ weigh h (map (entry_of W.finish) finished.old.items) + weigh h (worker_view own.old).pushed }
+    ensures room { vec_capacity finished.new ≡ vec_capacity finished.old }
+{
+    while let Some(task) = pop_left(own) {
+        finished.push_reserved(run_out(task, slice, gate));
+    }
 }
 
 // The job run to its end.
-fn finished<W: Work, G: Gate>(task: Task<W>, slice: u32, gate: &G) -> Task<W>
+fn run_out<W: Work, G: Gate>(task: Task<W>, slice: u32, gate: &G) -> Task<W>
     requires { 1 ≤ slice }
     ensures entry { entry_of W.finish result ≡ entry_of W.finish task }
     ensures ended { IsEnded W.finish result }
@@ -61,30 +81,6 @@ fn finished<W: Work, G: Gate>(task: Task<W>, slice: u32, gate: &G) -> Task<W>
     let mut task = task;
     run_to_end(&mut *task.job, slice, gate);
     task
-}
-
-// Puts jobs at the end of a list.
-fn stow_all<R: Wait, T: Drop>(rt: &R, list: &mut Vec<T>, more: Vec<T>)
-    ensures { list.new.items ≡ list.old.items ++ more.items }
-{
-    for item in more {
-        stow(rt, list, item);
-    }
-}
-
-// Puts a job at the end of a list. The room was reserved; where it is refused all the same, it tries again.
-fn stow<R: Wait, T: Drop>(rt: &R, list: &mut Vec<T>, item: T)
-    ensures { list.new.items ≡ list.old.items ++ item ∷ [] }
-{
-    let mut held = item;
-    for _ in rt.forever() {
-        match list.push(held) {
-            Ok(()) => return,
-            Err(refused) => held = refused.value,
-        }
-        thread::yield_now();
-    }
-    unreachable!()
 }
 
 /// The finished jobs in the order of their numbers, on the list `answer`.

@@ -12,10 +12,10 @@
 ghost use Rattle.std.specs.Prelude.{◌≡◌, ℕ, ◌+◌, ◌-◌, ◌<◌, ◌≤◌, [], ◌∷◌, ◌++◌, map, IfErr, IfOk, MatchResult, MatchOption};
 ghost use Rattle.crossbeam_deque.specs.Handles.{view, IsPassOf, SamePass, worker_deque, stealer_deque, worker_flavor, stealer_flavor, worker_view, worker_index, worker_capacity, SameWorker};
 ghost use Rattle.crossbeam_deque.specs.Steals.{MatchSteal};
-ghost use Rattle.pool_run.specs.Deque.{SameEntries, IsKept, knows, after_push, after_take};
+ghost use Rattle.pool_run.specs.Deque.{SameEntries, IsKept, IsCovered, knows, after_push, after_take};
 
 use crate::Work;
-use crossbeam_deque::protocol::{Join, Outcome, Protocol, Split};
+use crossbeam_deque::protocol::{Join, Lesson, Outcome, Protocol, Split};
 use crossbeam_deque::{Pass, Steal, Stealer, Worker};
 use std::alloc::{AllocError, Global};
 use std::collections::LinkedList;
@@ -79,16 +79,36 @@ impl<W: Work> Outcome<Task<W>, View<W>> for Pushed {
     ghost then = { λ v xs w. w ≡ after_push W.finish v xs };
 }
 
-// A pop or a theft.
+// A pop or a theft, of a worker at work.
 struct Taken;
 
 impl<W: Work> Outcome<Task<W>, View<W>> for Taken {
     ghost use Rattle.std.specs.Prelude.{◌≡◌};
-    ghost use Rattle.pool_run.specs.Deque.{after_take, SameEntries};
+    ghost use Rattle.pool_run.specs.Deque.{after_take};
 
     ghost then = { λ v xs w. w ≡ after_take W.finish v xs };
+}
+
+// A pop of an owner with all parts.
+struct Left;
+
+impl<W: Work> Outcome<Task<W>, View<W>> for Left {
+    ghost use Rattle.std.specs.Prelude.{◌≡◌};
+    ghost use Rattle.pool_run.specs.Deque.{after_take, IsCovered, SameEntries};
+
+    ghost then = { λ v xs w. (w ≡ after_take W.finish v xs) × (v.parts ≡ 1024 → IsCovered w) };
 
     ghost empty = { λ v. v.parts ≡ 1024 → SameEntries v.pushed v.obtained };
+}
+
+// What an owner with all parts knows of the deque's entries, whatever they are.
+struct Covered;
+
+impl<W: Work> Lesson<Task<W>, View<W>> for Covered {
+    ghost use Rattle.std.specs.Prelude.{◌≡◌};
+    ghost use Rattle.pool_run.specs.Deque.{IsCovered};
+
+    ghost fact = { λ v items. v.parts ≡ 1024 → IsCovered v };
 }
 
 /// The owner's end of a deque.
@@ -151,12 +171,12 @@ pub fn push_reserved<W: Work>(owner: &mut Owner<W>, task: Task<W>)
     }
 }
 
-/// Takes the job at the front. An owner with all parts that finds none knows that all that was pushed was obtained.
+/// Takes the job at the front.
 pub fn pop<W: Work>(owner: &mut Owner<W>) -> Option<Task<W>>
     requires fifo { worker_flavor owner.old ≡ 0 }
     requires parts { 0 < (worker_view owner.old).parts }
     ensures same { SameWorker owner.old owner.new }
-    ensures popped { MatchOption result ((worker_view owner.new ≡ worker_view owner.old) × ((worker_view owner.old).parts ≡ 1024 → SameEntries (worker_view owner.old).pushed (worker_view owner.old).obtained)) (λ t. worker_view owner.new ≡ after_take W.finish (worker_view owner.old) (t ∷ [])) }
+    ensures popped { MatchOption result (worker_view owner.new ≡ worker_view owner.old) (λ t. worker_view owner.new ≡ after_take W.finish (worker_view owner.old) (t ∷ [])) }
 {
     owner.pop_as::<Taken>()
 }
@@ -170,4 +190,23 @@ pub fn steal<W: Work>(thief: &Thief<W>, pass: &mut Knower<W>) -> Steal<Task<W>>
     ensures stolen { MatchSteal result (view pass.new ≡ view pass.old) (view pass.new ≡ view pass.old) (λ t. view pass.new ≡ after_take W.finish (view pass.old) (t ∷ [])) }
 {
     thief.steal_as::<Taken>(pass)
+}
+
+/// Takes the job at the front, for an owner with all parts. Where there is none, all that was pushed was obtained.
+pub fn pop_left<W: Work>(owner: &mut Owner<W>) -> Option<Task<W>>
+    requires fifo { worker_flavor owner.old ≡ 0 }
+    requires all { (worker_view owner.old).parts ≡ 1024 }
+    ensures same { SameWorker owner.old owner.new }
+    ensures popped { MatchOption result (SameEntries (worker_view owner.old).pushed (worker_view owner.old).obtained) (λ t. (worker_view owner.new ≡ after_take W.finish (worker_view owner.old) (t ∷ [])) × IsCovered (worker_view owner.new)) }
+{
+    owner.pop_as::<Left>()
+}
+
+/// Shows what an owner with all parts knows: of no entry more was obtained than was pushed.
+pub fn audit<W: Work>(owner: &mut Owner<W>)
+    requires { (worker_view owner.old).parts ≡ 1024 }
+    ensures same { SameWorker owner.old owner.new × (worker_view owner.new ≡ worker_view owner.old) }
+    ensures covered { IsCovered (worker_view owner.old) }
+{
+    let _ = owner.len_as::<Covered>();
 }

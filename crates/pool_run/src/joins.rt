@@ -1,15 +1,15 @@
 //! What the workers know of the deques, put together when they have ended: each pass is joined into its deque's owner's
 //! end, so that each owner has all parts again.
 
-ghost use Rattle.std.specs.Prelude.{◌≡◌, ◌≢◌, ℕ, ◌+◌, ◌<◌, length, MatchBool, IfSome, IfNone, slice_index_or};
-ghost use Rattle.crossbeam_deque.specs.Handles.{view};
-ghost use Rattle.pool_run.specs.Deque.{weigh};
-ghost use Rattle.pool_run.specs.Member.{IsPassFor};
-ghost use Rattle.pool_run.specs.Pool.{all_given, all_obtained, passes_of};
+ghost use Rattle.std.specs.Prelude.{◌≡◌, ◌≢◌, ℕ, ◌+◌, ◌<◌, length, All, MatchBool, IfSome, IfNone, slice_index_or};
+ghost use Rattle.crossbeam_deque.specs.Handles.{view, worker_view};
+ghost use Rattle.pool_run.specs.Deque.{weigh, IsCovered};
+ghost use Rattle.pool_run.specs.Member.{IsPassFor, IsEnded};
+ghost use Rattle.pool_run.specs.Pool.{IsOwner, IsSettled, all_given, all_obtained, passes_of};
 ghost use Rattle.pool_run.specs.Joins.{IsShared, IsLastTaken};
 
 use crate::Work;
-use crate::deque::{Knower, Thief, join_pass};
+use crate::deque::{Knower, Thief, audit, join_pass};
 use crate::member::Member;
 
 /// Joins each pass into its deque's owner's end.
@@ -91,4 +91,28 @@ fn join_at<W: Work>(thieves: &[Thief<W>], members: &mut [Member<W>], k: usize, p
     ensures passes { (i : ℕ) → passes_of members.new i ≡ passes_of members.old i }
 {
     join_pass(&mut members[k].own, pass);
+}
+
+/// Shows of each owner, which has all parts, that it obtained no more than was pushed.
+pub(crate) fn audit_all<W: Work>(members: &mut [Member<W>])
+    requires { All (λ m. IsOwner m × All (IsEnded W.finish) m.done.items) members.old }
+    ensures settled { All (IsSettled W.finish) members.new }
+    ensures given { (h : _) → all_given W.finish h members.new ≡ all_given W.finish h members.old }
+    ensures obtained { (h : _) → all_obtained h members.new ≡ all_obtained h members.old }
+{
+    for k in 0..members.len() {
+        audit_at(members, k);
+    }
+}
+
+fn audit_at<W: Work>(members: &mut [Member<W>], k: usize)
+    requires owners { All (λ m. IsOwner m × All (IsEnded W.finish) m.done.items) members.old }
+    requires there { k < length members.old }
+    ensures owners { All (λ m. IsOwner m × All (IsEnded W.finish) m.done.items) members.new }
+    ensures given { (h : _) → all_given W.finish h members.new ≡ all_given W.finish h members.old }
+    ensures obtained { (h : _) → all_obtained h members.new ≡ all_obtained h members.old }
+    ensures mine { (m : _) → IsCovered (worker_view (slice_index_or members.new k m).own) }
+    ensures others { (i : ℕ) (m : _) → i ≢ k → slice_index_or members.new i m ≡ slice_index_or members.old i m }
+{
+    audit(&mut members[k].own);
 }

@@ -2,13 +2,13 @@
 
 ghost use Rattle.std.specs.Prelude.{◌≡◌, ℕ, ◌+◌, ◌^◌, ◌<◌, ◌≤◌, length, map, vec_len, All, None, slice_index_or};
 ghost use Rattle.pool_run.specs.Deque.{weigh, entry_of};
-ghost use Rattle.pool_run.specs.Member.{IsEnded, Moves};
-ghost use Rattle.pool_run.specs.Pool.{IsPool, IsOwner, all_given, all_obtained, entries_from};
+ghost use Rattle.pool_run.specs.Member.{Moves};
+ghost use Rattle.pool_run.specs.Pool.{IsPool, IsSettled, all_given, all_obtained, entries_from};
 ghost use Rattle.pool_run.specs.Room.{IsRoom, RoomLeft};
 
 use crate::answer::{finish_all, in_order};
 use crate::deque::{Task, Thief, push_reserved};
-use crate::joins::join_all;
+use crate::joins::{audit_all, join_all};
 use crate::member::{Member, work};
 use crate::{Gate, PoolRoom, Work};
 use std::sync::Wait;
@@ -44,7 +44,7 @@ pub fn run_pool<R: Threads + Wait + Sync, W: Work + Send, G: Gate + Sync>(
         slice,
         gate,
     );
-    finish_all(rt, members, &mut finished, slice, gate);
+    finish_all(members, &mut finished, slice, gate);
     in_order(finished, answer)
 }
 
@@ -60,12 +60,13 @@ fn run_workers<R: Threads + Wait + Sync, W: Work + Send, G: Gate + Sync>(
     requires slice { 1 ≤ slice }
     requires few { vec_len jobs < 2 ^ 32 }
     requires room { IsRoom W.finish (vec_len jobs) thieves.now members.old }
-    ensures owners { All (λ m. IsOwner m × All (IsEnded W.finish) m.done.items) members.new }
+    ensures settled { All (IsSettled W.finish) members.new }
     ensures entries { (h : _) → all_given W.finish h members.new ≡ all_obtained h members.new + weigh h (entries_from W.finish 0 jobs.items) }
 {
     place(thieves, members, jobs);
     work_all(rt, thieves, members, slice, gate);
     join_all(thieves, members);
+    audit_all(members);
 }
 
 // Puts the jobs on the deques in turn.

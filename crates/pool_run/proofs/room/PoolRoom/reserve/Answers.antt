@@ -19,6 +19,7 @@ invariant_of-result g c =
     let full = λ (i : ℕ) (h : i < length ms). c.in_ok-give_rows.ensures.rows i (omega (arith, c.give_rows.auto.members)) ∙ ap length c.as_slice.ensures.value in (
       subst (λ (ns : List (Member g.row.W.Denot)). IsRoom finish c.args.most ts ns) (sym back) (unused_room finish ts ms unused full some c.args.most left),
       c.in_ok-finished.ensures.items,
+      omega (arith, c.in_ok-finished.ensures.capacity),
       c.in_ok-answer.ensures.items,
       omega (arith, c.in_ok-answer.ensures.capacity),
     )
