@@ -60,6 +60,16 @@ fn counters(alloc: Global, jobs: &[(u32, u32)]) -> Result<Vec<Box<Counter>>, All
     Ok(counters)
 }
 
+// Runs a job to its end.
+fn run_alone<W: Work>(job: &mut W, slice: u32)
+    requires { 1 ≤ slice }
+    ensures { job.new ≡ W.finish job.old }
+{
+    while !job.finished() {
+        job.slice(slice);
+    }
+}
+
 // The plain program: one job after another.
 fn run_in_turn<W: Work>(
     alloc: Global,
@@ -71,9 +81,7 @@ fn run_in_turn<W: Work>(
 {
     let mut answer = Vec::new(alloc);
     for mut job in jobs {
-        while !job.finished() {
-            job.slice(slice);
-        }
+        run_alone(&mut *job, slice);
         answer.push(job)?;
     }
     Ok(answer)
