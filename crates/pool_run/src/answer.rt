@@ -51,12 +51,7 @@ fn append_reserved<T: Drop>(list: &mut Vec<T>, more: Vec<T>)
 }
 
 // Runs to its end each job that is left in a deque.
-fn drain<W: Work, G: Gate>(
-    own: &mut Owner<W>,
-    finished: &mut Vec<Task<W>>,
-    slice: u32,
-    gate: &G,
-)
+fn drain<W: Work, G: Gate>(own: &mut Owner<W>, finished: &mut Vec<Task<W>>, slice: u32, gate: &G)
     requires slice { 1 ≤ slice }
     requires fifo { worker_flavor own.old ≡ 0 }
     requires all { (worker_view own.old).parts ≡ 1024 }

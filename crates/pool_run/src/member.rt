@@ -44,6 +44,15 @@ fn steal_at<W: Work>(thieves: &[Thief<W>], member: &mut Member<W>, k: usize) -> 
     steal(&thieves[k], &mut member.passes[k])
 }
 
+// The worker after this one: the first after the last.
+fn neighbour(me: usize, workers: usize) -> usize
+    requires { 0 < workers }
+    ensures next { me + 1 < workers → result ≡ me + 1 }
+    ensures first { workers ≤ me + 1 → result ≡ 0 }
+{
+    if me < workers - 1 { me + 1 } else { 0 }
+}
+
 // A job of its own deque, or else of another's: first of its neighbour's, so that not all thieves go to one.
 fn find<W: Work>(thieves: &[Thief<W>], member: &mut Member<W>) -> Found<W>
     requires { IsReady W.finish thieves.now member.old }
@@ -53,8 +62,9 @@ fn find<W: Work>(thieves: &[Thief<W>], member: &mut Member<W>) -> Found<W>
         return Found::Job(task);
     }
     let mut again = false;
-    for further in 1..thieves.len() {
-        let other = member.me.wrapping_add(further) % thieves.len();
+    let mut other = member.me;
+    for _ in 1..thieves.len() {
+        other = neighbour(other, thieves.len());
         match steal_at(thieves, member, other) {
             Steal::Success(task) => return Found::Job(task),
             Steal::Retry => again = true,

@@ -88,12 +88,7 @@ fn place<W: Work>(thieves: &[Thief<W>], members: &mut [Member<W>], jobs: Vec<Box
 }
 
 // Puts a job on a worker's deque.
-fn place_at<W: Work>(
-    thieves: &[Thief<W>],
-    members: &mut [Member<W>],
-    at: usize,
-    task: Task<W>,
-)
+fn place_at<W: Work>(thieves: &[Thief<W>], members: &mut [Member<W>], at: usize, task: Task<W>)
     requires pool { IsPool W.finish thieves.now members.old }
     requires there { at < length members.old }
     requires room { RoomLeft task.number (task.number + 1) members.old }

@@ -134,7 +134,10 @@ fn answers_as_the_plain_program(rt: HostRuntime) -> Result<(), Fail> {
     }
     for workers in [1, 2, 5, 64] {
         for slice in [1, 9] {
-            assert!(rt; is_as_in_turn(&rt, rt.alloc(), &jobs, workers, slice)?, "{workers} workers, slices of {slice}");
+            assert!(rt;
+                is_as_in_turn(&rt, rt.alloc(), &jobs, workers, slice)?,
+                "{workers} workers, slices of {slice}"
+            );
         }
     }
     Ok(())
@@ -274,7 +277,12 @@ fn each_wait_is_answered<R: Threads + Wait + Sync>(
 #[test]
 fn jobs_are_stolen_half_done(rt: HostRuntime) -> Result<(), Fail> {
     for pair in [(1, 3), (1, 2), (2, 3)] {
-        assert!(rt; each_wait_is_answered(&rt, rt.alloc(), pair)?, "calls {} and {}", pair.0, pair.1);
+        assert!(rt;
+            each_wait_is_answered(&rt, rt.alloc(), pair)?,
+            "calls {} and {}",
+            pair.0,
+            pair.1
+        );
     }
     Ok(())
 }

@@ -9,8 +9,14 @@ pub push_reserved-requires : goal.push_reserved-requires
 push_reserved-requires g c =
     let popped = c.in-Some.ensures.popped in
     let old = c.loop-task.invariant in
-    omega (arith, old.room, old.capacity, popped.1 (λ _. 1), weigh_taken g.W.Work.finish (λ _. 1) (worker_view c.loop-task.own) (worker_view c.pop_left.new.owner) c.in-Some.task popped.0,
-      ap (λ (v : View g.row.W.Denot). weigh (λ _. 1) v.pushed) popped.0)
+    omega (
+      arith,
+      old.room,
+      old.capacity,
+      popped.1 (λ _. 1),
+      weigh_taken g.W.Work.finish (λ _. 1) (worker_view c.loop-task.own) (worker_view c.pop_left.new.owner) c.in-Some.task popped.0,
+      ap (λ (v : View g.row.W.Denot). weigh (λ _. 1) v.pushed) popped.0,
+    )
 
 pub loop-task-preserved : goal.loop-task-preserved
 loop-task-preserved g c =
@@ -37,5 +43,9 @@ loop-task-preserved g c =
 pub loop-task-smaller : goal.loop-task-smaller
 loop-task-smaller g c =
     let popped = c.in-Some.ensures.popped in
-    omega (arith, popped.1 (λ _. 1), weigh_taken g.W.Work.finish (λ _. 1) (worker_view c.loop-task.own) (worker_view c.pop_left.new.owner) c.in-Some.task popped.0,
-      ap (λ (v : View g.row.W.Denot). weigh (λ _. 1) v.pushed) popped.0)
+    omega (
+      arith,
+      popped.1 (λ _. 1),
+      weigh_taken g.W.Work.finish (λ _. 1) (worker_view c.loop-task.own) (worker_view c.pop_left.new.owner) c.in-Some.task popped.0,
+      ap (λ (v : View g.row.W.Denot). weigh (λ _. 1) v.pushed) popped.0,
+    )

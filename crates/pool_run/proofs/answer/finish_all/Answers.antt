@@ -22,8 +22,13 @@ drain-requires-clause-ended g c =
 pub drain-requires-clause-room : goal.drain-requires-clause-room
 drain-requires-clause-room g c =
     let old = c.loop-member.invariant in
-    omega (arith, old.capacity, c.append_reserved.ensures.len, c.append_reserved.ensures.room,
-      room_left g.W.Work.finish c.loop-member.member-iterator.rest.items c.in-Some.member c.next.new.self.rest.items _ _ c.in-Some.ensures.steps.0 old.settled old.room)
+    omega (
+      arith,
+      old.capacity,
+      c.append_reserved.ensures.len,
+      c.append_reserved.ensures.room,
+      room_left g.W.Work.finish c.loop-member.member-iterator.rest.items c.in-Some.member c.next.new.self.rest.items _ _ c.in-Some.ensures.steps.0 old.settled old.room,
+    )
 
 pub loop-member-preserved : goal.loop-member-preserved
 loop-member-preserved g c =

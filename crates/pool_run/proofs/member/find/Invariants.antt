@@ -2,5 +2,5 @@ use Rattle.std.proofs.Common.{None}
 use Rattle.pool_run.specs.Member.{Moves}
 use Rattle.pool_run.proofs.member.find.Given as goal
 
-abbrev pub invariant-loop-further : goal.invariant-loop-further
-invariant-loop-further g l = Moves g.W.Work.finish l.thieves l.fn.member None l.member None
+abbrev pub invariant-loop : goal.invariant-loop
+invariant-loop g l = Moves g.W.Work.finish l.thieves l.fn.member None l.member None
