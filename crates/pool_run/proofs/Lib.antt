@@ -1,5 +1,6 @@
 pub mod Deques
 pub mod Joining
+pub mod Left
 pub mod Lists
 pub mod Members
 pub mod Orders

@@ -36,7 +36,7 @@ module _ {W : Type 0} (finish : W → W) (thieves : List (Thief W)) where
   }
 
   own_ready : (old : Member W) (w : Deque) → SameWorker old.own w → (worker_view w).parts ≡ (worker_view old.own).parts → IsReady finish thieves old → IsReady finish thieves (record old { own = w })
-  own_ready old w same parts ready = record { fifo = same.1 ∙ ready.fifo; parts = let p = ready.parts in omega arith; one_each = ready.one_each; lines = ready.lines; ended = ready.ended }
+  own_ready old w same parts ready = record { fifo = same.1 ∙ ready.fifo; parts = let p = ready.parts in omega arith; one_each = ready.one_each; each = ready.each; ended = ready.ended }
 
   pub popped : (old : Member W) (w : Deque) (r : Option (Task W)) → IsReady finish thieves old → SameWorker old.own w
       → MatchOption r (worker_view w ≡ worker_view old.own) (λ t. worker_view w ≡ after_take finish (worker_view old.own) (t ∷ []))
@@ -84,7 +84,7 @@ module _ {W : Type 0} (finish : W → W) (thieves : List (Thief W)) where
       fifo = ready.fifo;
       parts = ready.parts;
       one_each = ready.one_each;
-      lines = ready.lines;
+      each = ready.each;
       ended = subst (All (IsEnded finish)) (sym is) (All-append (IsEnded finish) old.done.items (task ∷ []) ready.ended (All-cons (IsEnded finish) task [] end (λ k d h. absurd (omega arith))));
     };
     deque = refl;
@@ -97,7 +97,7 @@ module _ {W : Type 0} (finish : W → W) (thieves : List (Thief W)) where
       fifo = ready.fifo;
       parts = ready.parts;
       one_each = ready.one_each;
-      lines = ready.lines;
+      each = ready.each;
       ended = subst (All (IsEnded finish)) (sym is.1) ready.ended;
     };
     deque = refl;
@@ -105,28 +105,28 @@ module _ {W : Type 0} (finish : W → W) (thieves : List (Thief W)) where
     balance = λ h. omega (arith, ap (λ xs. weigh h (map (entry_of finish) xs)) is.1, ap (λ (s : Task W). weigh h (entry_of finish s ∷ [])) is.0);
   }
 
-  line_set : (ps : List (Knower W)) (k : ℕ) (p : Knower W) → length ps ≡ length thieves → k < length thieves → ((t : Thief W) → IsPassFor (get_or thieves k t) p)
+  each_kept : (ps : List (Knower W)) (k : ℕ) (p : Knower W) → length ps ≡ length thieves → k < length thieves → ((t : Thief W) → IsPassFor (get_or thieves k t) p)
       → ((j : ℕ) (t : Thief W) (q : Knower W) → j < length thieves → IsPassFor (get_or thieves j t) (get_or ps j q))
       → (j : ℕ) (t : Thief W) (q : Knower W) → j < length thieves → IsPassFor (get_or thieves j t) (get_or (set ps k p) j q)
-  line_set ps k p len there mine old j t q in_range =
+  each_kept ps k p len there mine old j t q in_range =
       let len' : k < length ps = omega arith in
       ⊎_elim (λ (e : j ≡ k). subst (λ (i : ℕ). IsPassFor (get_or thieves i t) (get_or (set ps k p) i q)) (sym e) (subst (IsPassFor (get_or thieves k t)) (sym (get_or-set_same ps k p q len')) (mine t)))
       (λ (ne : j ≢ k). subst (IsPassFor (get_or thieves j t)) (sym (get_or-set_other ps k j p q ne)) (old j t q in_range)) (cases_eq j k)
 
   module _ (old : Member W) (v : Vec (Knower W)) (k : ℕ) (p was : Knower W) (s : Thief W) (ready : IsReady finish thieves old) (there : k < length thieves)
       (items : v.items ≡ set old.passes.items k p) (was_is : was ≡ get_or old.passes.items k was) (s_is : s ≡ get_or thieves k s) (pass : IsPassOf (stealer_deque s) p) where
-    line_was : IsPassFor s was
-    line_was = subst (λ (t : Thief W). IsPassFor t was) (sym s_is) (subst (IsPassFor (get_or thieves k s)) (sym was_is) (ready.lines k s was there))
+    was_for : IsPassFor s was
+    was_for = subst (λ (t : Thief W). IsPassFor t was) (sym s_is) (subst (IsPassFor (get_or thieves k s)) (sym was_is) (ready.each k s was there))
 
     ready_after : (view p).parts ≡ 1 → (view p).pushed ≡ [] → IsReady finish thieves (record old { passes = v })
     ready_after part pushed = record {
       fifo = ready.fifo;
       parts = ready.parts;
       one_each = ap length items ∙ length-set old.passes.items k p ∙ ready.one_each;
-      lines = λ j t q in_range. subst (λ (xs : List (Knower W)). IsPassFor (get_or thieves j t) (get_or xs j q)) (sym items)
-          (line_set old.passes.items k p ready.one_each there
-          (λ t. subst (λ (u : Thief W). IsPassFor u p) (s_is ∙ same_default thieves k s t there) (record { pass = pass; fifo = line_was.fifo; part = part; pushed = pushed }))
-          ready.lines j t q in_range);
+      each = λ j t q in_range. subst (λ (xs : List (Knower W)). IsPassFor (get_or thieves j t) (get_or xs j q)) (sym items)
+          (each_kept old.passes.items k p ready.one_each there
+          (λ t. subst (λ (u : Thief W). IsPassFor u p) (s_is ∙ same_default thieves k s t there) (record { pass = pass; fifo = was_for.fifo; part = part; pushed = pushed }))
+          ready.each j t q in_range);
       ended = ready.ended;
     }
 
@@ -137,7 +137,7 @@ module _ {W : Type 0} (finish : W → W) (thieves : List (Thief W)) where
 
     unmoved : view p ≡ view was → Moves finish thieves old None (record old { passes = v }) None
     unmoved is = record {
-      ready = ready_after (ap (λ (u : View W). u.parts) is ∙ line_was.part) (ap (λ (u : View W). u.pushed) is ∙ line_was.pushed);
+      ready = ready_after (ap (λ (u : View W). u.parts) is ∙ was_for.part) (ap (λ (u : View W). u.pushed) is ∙ was_for.pushed);
       deque = refl;
       parts = refl;
       balance = λ h. omega (arith, weighs h, ap (λ (u : View W). weigh h u.obtained) is);
@@ -148,7 +148,7 @@ module _ {W : Type 0} (finish : W → W) (thieves : List (Thief W)) where
     stolen Empty is = unmoved is
     stolen Retry is = unmoved is
     stolen (Success t) is = record {
-      ready = ready_after (ap (λ (u : View W). u.parts) is ∙ line_was.part) (ap (λ (u : View W). u.pushed) is ∙ line_was.pushed);
+      ready = ready_after (ap (λ (u : View W). u.parts) is ∙ was_for.part) (ap (λ (u : View W). u.pushed) is ∙ was_for.pushed);
       deque = refl;
       parts = refl;
       balance = λ h. omega (arith, weighs h, ap (λ (u : View W). weigh h u.obtained) is, weigh-append h (view was).obtained (entry_of finish t ∷ []));

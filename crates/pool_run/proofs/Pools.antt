@@ -4,7 +4,7 @@ use Rattle.std.specs.Global.{Global, Box}
 use Rattle.std.proofs.lemmas.List.Elements.{All-append, All-cons}
 use Rattle.std.proofs.Math.ListN.{length-set}
 use Rattle.std.proofs.lemmas.List.{map-append}
-use Rattle.crossbeam_deque.specs.Handles.{worker_deque, stealer_deque, worker_view, SameWorker}
+use Rattle.crossbeam_deque.specs.Handles.{worker_deque, stealer_deque, worker_view, SameWorker, worker_index}
 use Rattle.crossbeam_deque.specs.declared.handles.Worker.{Worker}
 use Rattle.pool_run.specs.declared.deque.View.{View}
 use Rattle.pool_run.specs.declared.deque.Task.{Task}
@@ -13,8 +13,10 @@ use Rattle.pool_run.specs.declared.member.Member.{Member}
 use Rattle.pool_run.specs.Deque.{weigh, entry_of, after_push, after_take}
 use Rattle.pool_run.specs.Member.{Thief, IsEnded, IsReady, given, obtained, Moves}
 use Rattle.pool_run.specs.Pool.{entries_from, IsPool, all_given, all_obtained}
+use Rattle.pool_run.specs.Room.{RoomLeft}
 use Rattle.pool_run.proofs.Weights.{weigh-append, weigh-set}
 use Rattle.pool_run.proofs.Lists.{each_set}
+use Rattle.pool_run.proofs.Left.{left_more}
 
 module _ {W : Type 0} (finish : W → W) where
   pub ended_more : (ts us : List (Task W)) (t : Task W) → us ≡ ts ++ t ∷ [] → All (IsEnded finish) ts → IsEnded finish t → All (IsEnded finish) us
@@ -47,21 +49,29 @@ module _ {W : Type 0} (finish : W → W) where
       parts_same : (worker_view w).parts ≡ (worker_view (get_or ms at r).own).parts
       parts_same = ap (λ (v : View W). v.parts) is
 
-      pub put_pool : IsPool finish thieves (set ms at put)
+      put_pool : IsPool finish thieves (set ms at put)
       put_pool = let old = pool.ready at r there in pool_set ms at r put pool there same.0
           (record {
             fifo = same.1 ∙ old.fifo;
             parts = let p = old.parts in let s = parts_same in omega arith;
             one_each = old.one_each;
-            lines = old.lines;
+            each = old.each;
             ended = old.ended;
           }) parts_same
 
-      pub put_given : (h : ℕ × W → ℕ) → all_given finish h (set ms at put) ≡ all_given finish h ms + h (entry_of finish task)
+      put_given : (h : ℕ × W → ℕ) → all_given finish h (set ms at put) ≡ all_given finish h ms + h (entry_of finish task)
       put_given h = omega (arith, weigh-set (given finish h) ms at put r there, ap (λ (v : View W). weigh h v.pushed) is, weigh-append h (worker_view (get_or ms at r).own).pushed (entry_of finish task ∷ []))
 
-      pub put_obtained : (h : ℕ × W → ℕ) → all_obtained h (set ms at put) ≡ all_obtained h ms
+      put_obtained : (h : ℕ × W → ℕ) → all_obtained h (set ms at put) ≡ all_obtained h ms
       put_obtained h = omega (arith, weigh-set (obtained h) ms at put r there, ap (λ (v : View W). weigh h v.obtained) is)
+
+      pub placed : worker_index w ≡ worker_index (get_or ms at r).own + 1 → record {
+        pool : IsPool finish thieves (set ms at put);
+        given : (h : ℕ × W → ℕ) → all_given finish h (set ms at put) ≡ all_given finish h ms + h (entry_of finish task);
+        obtained : (h : ℕ × W → ℕ) → all_obtained h (set ms at put) ≡ all_obtained h ms;
+        room : (taken most : ℕ) → RoomLeft taken most ms → RoomLeft (taken + 1) most (set ms at put);
+      }
+      placed index = record { pool = put_pool; given = put_given; obtained = put_obtained; room = left_more ms at r w there same index }
 
   pub entries_from-append : (n : ℕ) (bs : List (Box W)) (b : Box W) → entries_from finish n (bs ++ b ∷ []) ≡ entries_from finish n bs ++ (n + length bs, finish b.value) ∷ []
   entries_from-append n [] b = ap (λ (k : ℕ). (k, finish b.value) ∷ []) (omega arith)

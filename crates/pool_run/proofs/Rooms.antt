@@ -4,7 +4,7 @@ use Rattle.std.proofs.lemmas.Bool.{cases_eq}
 use Rattle.std.proofs.Math.ListN.{length-set}
 use Rattle.std.proofs.Math.Seq.{get_or-append_seam}
 use Rattle.std.proofs.lemmas.List.{get_or_append_left}
-use Rattle.crossbeam_deque.specs.Handles.{view, worker_deque, stealer_deque, stealer_flavor, worker_view, SameWorker, worker_capacity, worker_index}
+use Rattle.crossbeam_deque.specs.Handles.{view, worker_deque, stealer_deque, stealer_flavor, worker_view, SameWorker}
 use Rattle.crossbeam_deque.specs.declared.handles.Worker.{Worker}
 use Rattle.pool_run.specs.declared.deque.View.{View}
 use Rattle.pool_run.specs.declared.deque.Task.{Task}
@@ -16,8 +16,9 @@ use Rattle.pool_run.specs.Room.{IsRoom, IsNew, IsUnused, IsRow, RoomLeft}
 use Rattle.pool_run.specs.Joins.{HasRow, IsShared, below, rows_at}
 use Rattle.pool_run.specs.Pool.{passes_of}
 use Rattle.pool_run.proofs.Weights.{weigh-append, weigh-set, weigh_ones, weigh_zeros}
-use Rattle.pool_run.proofs.Joining.{tick, passes_at, passes_set_same, passes_set_other, passes_set_kept}
+use Rattle.pool_run.proofs.Joining.{has_pass, passes_at, passes_set_same, passes_set_other, passes_set_kept}
 use Rattle.pool_run.proofs.Lists.{each_set, below_at, below_self, below_other, below_lt, below-le, each_snoc}
+use Rattle.pool_run.proofs.Left.{OwnLeft}
 
 module _ {W : Type 0} where
   rows-le : (k : ℕ) (ms : List (Member W)) → rows_at k ms ≤ length ms
@@ -29,22 +30,6 @@ module _ {W : Type 0} where
   passes_snoc [] m none is (suc i) = refl
   passes_snoc (x ∷ ms) m none is zero = none 0
   passes_snoc (x ∷ ms) m none is (suc i) = passes_snoc ms m (λ j. none (suc j)) is i
-
--- the room that is left after a change of one worker
-module _ {W : Type 0} (ms : List (Member W)) (at : ℕ) (r : Member W) (w : Worker (Task W) Global (View W) OneDeque) (taken most : ℕ) (there : at < length ms) (left : RoomLeft taken most ms)
-    (same : SameWorker (get_or ms at r).own w) where
-  abbrev OwnLeft : ℕ → ℕ → Member W → Type 0
-  OwnLeft taken k m = (worker_index m.own ≤ taken) × (most ≤ worker_capacity m.own)
-
-  abbrev changed : Member W
-  changed = record (get_or ms at r) { own = w }
-
-  pub left_same : worker_index w ≡ worker_index (get_or ms at r).own → RoomLeft taken most (set ms at changed)
-  left_same is = let own = left at r there in let cap = same.3 in each_set (OwnLeft taken) ms at changed there ((omega (arith, own.0), omega (arith, own.1))) left
-
-  pub left_more : worker_index w ≡ worker_index (get_or ms at r).own + 1 → RoomLeft (taken + 1) most (set ms at changed)
-  left_more is = let own = left at r there in let cap = same.3 in
-      each_set (OwnLeft (taken + 1)) ms at changed there ((omega (arith, own.0), omega (arith, own.1))) (λ k m h. let old = left k m h in (omega (arith, old.0), old.1))
 
 module _ {W : Type 0} (finish : W → W) where
   module _ (thieves : List (Thief W)) (ms : List (Member W)) (k : ℕ) (r : Member W) (unused : IsUnused finish thieves ms k) (there : k < length ms) (few : length ms ≤ 64) where
@@ -63,14 +48,14 @@ module _ {W : Type 0} (finish : W → W) where
       parts_now = let t = two_parts in omega (arith, ap (λ (u : View W). u.parts) is)
 
       rows_same : (i : ℕ) → rows_at i (set ms k less) ≡ rows_at i ms
-      rows_same i = omega (arith, weigh-set (tick finish thieves i) ms k less r there)
+      rows_same i = omega (arith, weigh-set (has_pass i) ms k less r there)
 
       cut_shared : IsShared finish thieves (set ms k less) (k + 1) 0
       cut_shared = let shared = unused.shared in let s = shared.rows k r there in record {
         pair = length-set ms k less ∙ shared.pair;
         own = λ i t d in_range. each_set (λ (i : ℕ) (x : Member W). worker_deque x.own ≡ stealer_deque (get_or thieves i t)) ms k less there (same.0 ∙ shared.own k t r there) (λ i d h. shared.own i t d h) i d in_range;
         rows = each_set (λ (i : ℕ) (x : Member W). HasRow finish thieves x) ms k less there
-            (record { fifo = same.1 ∙ s.fifo; parts = (let t = two_parts in omega (arith, parts_now)); few = s.few; lines = s.lines; ended = s.ended }) shared.rows;
+            (record { fifo = same.1 ∙ s.fifo; parts = (let t = two_parts in omega (arith, parts_now)); few = s.few; each = s.each; ended = s.ended }) shared.rows;
         parts = λ i d in_range. ⊎_elim
             (λ (e : i ≡ k). subst (λ (n : ℕ). (worker_view (get_or (set ms k less) n d).own).parts + rows_at n (set ms k less) + below n (k + 1) ≡ 1024 + 0) (sym e)
             (omega (arith, ap (λ (x : Member W). (worker_view x.own).parts) (get_or-set_same ms k less d there), parts_now, parts_were, rows_same k, ap (below k) (add-one k), below_at k)))
@@ -98,18 +83,18 @@ module _ {W : Type 0} (finish : W → W) where
     empty = sym (passes_at ms me r there) ∙ none
 
     rows : (i : ℕ) → rows_at i (set ms me seated) ≡ rows_at i ms + below i (length thieves)
-    rows i = omega (arith, weigh-set (tick finish thieves i) ms me seated r there, ap (λ (l : List (Knower W)). below i (length l)) empty, ap (below i) len)
+    rows i = omega (arith, weigh-set (has_pass i) ms me seated r there, ap (λ (l : List (Knower W)). below i (length l)) empty, ap (below i) len)
 
     give_shared : IsShared finish thieves (set ms me seated) 0 0
     give_shared = let shared = unused.shared in let s = shared.rows me r there in record {
       pair = length-set ms me seated ∙ shared.pair;
       own = λ i t d in_range. each_set (λ (i : ℕ) (x : Member W). worker_deque x.own ≡ stealer_deque (get_or thieves i t)) ms me seated there (shared.own me t r there) (λ i d h. shared.own i t d h) i d in_range;
-      rows = each_set (λ (i : ℕ) (x : Member W). HasRow finish thieves x) ms me seated there (record { fifo = s.fifo; parts = s.parts; few = omega (arith, len); lines = is_row.lines; ended = s.ended }) shared.rows;
+      rows = each_set (λ (i : ℕ) (x : Member W). HasRow finish thieves x) ms me seated there (record { fifo = s.fifo; parts = s.parts; few = omega (arith, len); each = is_row.each; ended = s.ended }) shared.rows;
       parts = each_set (λ (i : ℕ) (x : Member W). (worker_view x.own).parts + rows_at i (set ms me seated) + 0 ≡ 1024 + 0) ms me seated there
           (omega (arith, shared.parts me r there, rows me)) (λ i d h. omega (arith, shared.parts i d h, rows i));
     }
 
-    pub give_unused : IsUnused finish thieves (set ms me seated) 0
+    give_unused : IsUnused finish thieves (set ms me seated) 0
     give_unused = record {
       shared = give_shared;
       fifo = unused.fifo;
@@ -117,37 +102,45 @@ module _ {W : Type 0} (finish : W → W) where
       obtained = λ h. omega (arith, unused.obtained h, weigh-set (obtained h) ms me seated r there, is_row.obtained h, ap (weigh (λ (q : Knower W). weigh h (view q).obtained)) empty);
     }
 
-    pub give_mine : length (passes_of (set ms me seated) me) ≡ length thieves
+    give_mine : length (passes_of (set ms me seated) me) ≡ length thieves
     give_mine = ap length (passes_set_same ms me seated there) ∙ len
 
-    pub give_left : (most : ℕ) → RoomLeft 0 most ms → RoomLeft 0 most (set ms me seated)
-    give_left most left = each_set (λ (k : ℕ) (x : Member W). (worker_index x.own ≤ 0) × (most ≤ worker_capacity x.own)) ms me seated there (left me r there) left
+    give_left : (most : ℕ) → RoomLeft 0 most ms → RoomLeft 0 most (set ms me seated)
+    give_left most left = each_set (OwnLeft 0 most) ms me seated there (left me r there) left
 
-    pub give_rows : (i : ℕ) → i ≢ me → passes_of (set ms me seated) i ≡ passes_of ms i
+    give_rows : (i : ℕ) → i ≢ me → passes_of (set ms me seated) i ≡ passes_of ms i
     give_rows i ne = passes_set_other ms i me seated ne
+
+    pub given_row : record {
+      unused : IsUnused finish thieves (set ms me seated) 0;
+      mine : length (passes_of (set ms me seated) me) ≡ length thieves;
+      rows : (i : ℕ) → i ≢ me → passes_of (set ms me seated) i ≡ passes_of ms i;
+      room : (most : ℕ) → RoomLeft 0 most ms → RoomLeft 0 most (set ms me seated);
+    }
+    given_row = record { unused = give_unused; mine = give_mine; rows = give_rows; room = give_left }
 
   module _ (thieves : List (Thief W)) (ms : List (Member W)) (m : Member W) (t : Thief W) (most : ℕ) (unused : IsUnused finish thieves ms 0) (new : IsNew most m t) (none : (i : ℕ) → passes_of ms i ≡ []) where
     unused_rows : (k : ℕ) → rows_at k ms ≡ 0
     unused_rows k = weigh_zeros (λ (x : Member W). below k (length x.passes.items)) ms (λ i d h. ap (λ (l : List (Knower W)). below k (length l)) (sym (passes_at ms i d h) ∙ none i))
 
     new_rows : (k : ℕ) → rows_at k (ms ++ m ∷ []) ≡ 0
-    new_rows k = omega (arith, weigh-append (tick finish thieves k) ms (m ∷ []), unused_rows k, ap (λ (l : List (Knower W)). below k (length l)) new.passes)
+    new_rows k = omega (arith, weigh-append (has_pass k) ms (m ∷ []), unused_rows k, ap (λ (l : List (Knower W)). below k (length l)) new.passes)
 
-    old_seat : (x : Member W) → HasRow finish thieves x → HasRow finish (thieves ++ t ∷ []) x
-    old_seat x s = record {
+    old_row : (x : Member W) → HasRow finish thieves x → HasRow finish (thieves ++ t ∷ []) x
+    old_row x s = record {
       fifo = s.fifo;
       parts = s.parts;
       few = let f = s.few in omega (arith, length-append thieves (t ∷ []));
-      lines = λ k u p h. subst (λ (v : Thief W). IsPassFor v (get_or x.passes.items k p)) (sym (get_or_append_left thieves (t ∷ []) u k (let f = s.few in omega arith))) (s.lines k u p h);
+      each = λ k u p h. subst (λ (v : Thief W). IsPassFor v (get_or x.passes.items k p)) (sym (get_or_append_left thieves (t ∷ []) u k (let f = s.few in omega arith))) (s.each k u p h);
       ended = s.ended;
     }
 
-    new_seat : HasRow finish (thieves ++ t ∷ []) m
-    new_seat = let e : length m.passes.items ≡ 0 = ap length new.passes in let d : length m.done.items ≡ 0 = ap length new.done in record {
+    new_row : HasRow finish (thieves ++ t ∷ []) m
+    new_row = let e : length m.passes.items ≡ 0 = ap length new.passes in let d : length m.done.items ≡ 0 = ap length new.done in record {
       fifo = new.fifo;
       parts = omega (arith, ap (λ (u : View W). u.parts) new.view);
       few = omega arith;
-      lines = λ k u p h. absurd (omega arith);
+      each = λ k u p h. absurd (omega arith);
       ended = λ k u h. absurd (omega arith);
     }
 
@@ -157,7 +150,7 @@ module _ {W : Type 0} (finish : W → W) where
       own = λ k u d h. each_snoc (λ (k : ℕ) (x : Member W). worker_deque x.own ≡ stealer_deque (get_or (thieves ++ t ∷ []) k u)) ms m
           (λ k d h. shared.own k u d h ∙ ap stealer_deque (sym (get_or_append_left thieves (t ∷ []) u k (let p = shared.pair in omega arith))))
           (new.deque ∙ ap stealer_deque (sym (subst (λ (n : ℕ). get_or (thieves ++ t ∷ []) n u ≡ t) (sym shared.pair) (get_or-append_seam thieves t [] u)))) k d h;
-      rows = each_snoc (λ (k : ℕ) (x : Member W). HasRow finish (thieves ++ t ∷ []) x) ms m (λ k d h. old_seat (get_or ms k d) (shared.rows k d h)) new_seat;
+      rows = each_snoc (λ (k : ℕ) (x : Member W). HasRow finish (thieves ++ t ∷ []) x) ms m (λ k d h. old_row (get_or ms k d) (shared.rows k d h)) new_row;
       parts = each_snoc (λ (k : ℕ) (x : Member W). (worker_view x.own).parts + rows_at k (ms ++ m ∷ []) + 0 ≡ 1024 + 0) ms m
           (λ k d h. omega (arith, shared.parts k d h, unused_rows k, new_rows k)) (omega (arith, new_rows (length ms), ap (λ (u : View W). u.parts) new.view));
     }
@@ -171,11 +164,11 @@ module _ {W : Type 0} (finish : W → W) where
     }
 
     pub new_left : RoomLeft 0 most ms → RoomLeft 0 most (ms ++ m ∷ [])
-    new_left left = each_snoc (λ (k : ℕ) (x : Member W). (worker_index x.own ≤ 0) × (most ≤ worker_capacity x.own)) ms m left ((omega (arith, new.left.0), new.left.1))
+    new_left left = each_snoc (OwnLeft 0 most) ms m left ((omega (arith, new.left.0), new.left.1))
 
   pub row_more : (thieves : List (Thief W)) (row : List (Knower W)) (p : Knower W) → IsRow thieves row → ((t : Thief W) → IsPassFor (get_or thieves (length row) t) p) → (view p).obtained ≡ [] → IsRow thieves (row ++ p ∷ [])
-  row_more thieves row p old line none = record {
-    lines = λ k t q h. each_snoc (λ (k : ℕ) (x : Knower W). IsPassFor (get_or thieves k t) x) row p (λ k q h. old.lines k t q h) (line t) k q h;
+  row_more thieves row p old is_for none = record {
+    each = λ k t q h. each_snoc (λ (k : ℕ) (x : Knower W). IsPassFor (get_or thieves k t) x) row p (λ k q h. old.each k t q h) (is_for t) k q h;
     obtained = λ h. omega (arith, old.obtained h, weigh-append (λ (q : Knower W). weigh h (view q).obtained) row (p ∷ []), ap (weigh h) none);
   }
 
@@ -185,7 +178,7 @@ module _ {W : Type 0} (finish : W → W) where
         pool = record {
           pair = shared.pair;
           own = shared.own;
-          ready = λ k m h. let s = shared.rows k m h in record { fifo = s.fifo; parts = s.parts; one_each = full' k m h; lines = λ i t p i_in. s.lines i t p (omega (arith, full' k m h)); ended = s.ended };
+          ready = λ k m h. let s = shared.rows k m h in record { fifo = s.fifo; parts = s.parts; one_each = full' k m h; each = λ i t p i_in. s.each i t p (omega (arith, full' k m h)); ended = s.ended };
           parts = λ k m h. omega (arith, shared.parts k m h, shared.pair, weigh_ones (λ (x : Member W). below k (length x.passes.items)) ms (λ i d i_in. below_lt k (length (get_or ms i d).passes.items) (omega (arith, full' i d i_in, shared.pair))));
         };
         some = some;

@@ -22,7 +22,7 @@ module _ {W : Type 0} where
     pub fifo : worker_flavor m.own ≡ 0
     pub parts : 0 < (worker_view m.own).parts
     pub few : length m.passes.items ≤ length thieves
-    pub lines : (k : ℕ) (t : Thief W) (p : Knower W) → k < length m.passes.items → IsPassFor (slice_index_or thieves k t) (slice_index_or m.passes.items k p)
+    pub each : (k : ℕ) (t : Thief W) (p : Knower W) → k < length m.passes.items → IsPassFor (slice_index_or thieves k t) (slice_index_or m.passes.items k p)
     pub ended : All (IsEnded finish) m.done.items
 
   -- each deque's parts are its owner's and those of the passes that the workers have, one each. At suc k and k one more
@@ -37,7 +37,7 @@ module _ {W : Type 0} where
   pub record IsLastTaken (finish : W → W) (thieves : List (Thief W)) (old new : List (Member W)) (j : ℕ) (p : Knower W) : Type 0 where
     pub shared : IsShared finish thieves new (length (passes_of new j) + 1) (length (passes_of new j))
     pub there : length (passes_of new j) < length new
-    pub line : (t : Thief W) → IsPassFor (slice_index_or thieves (length (passes_of new j)) t) p
+    pub is_for : (t : Thief W) → IsPassFor (slice_index_or thieves (length (passes_of new j)) t) p
     pub given : (h : ℕ × W → ℕ) → all_given finish h new ≡ all_given finish h old
     pub obtained : (h : ℕ × W → ℕ) → all_obtained h new + weigh h (view p).obtained ≡ all_obtained h old
     pub mine : length (passes_of new j) + 1 ≡ length (passes_of old j)

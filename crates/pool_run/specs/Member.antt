@@ -34,7 +34,7 @@ module _ {W : Type 0} where
     pub fifo : worker_flavor m.own ≡ 0
     pub parts : 0 < (worker_view m.own).parts
     pub one_each : length m.passes.items ≡ length thieves
-    pub lines : (k : ℕ) (t : Thief W) (p : Knower W) → k < length thieves → IsPassFor (slice_index_or thieves k t) (slice_index_or m.passes.items k p)
+    pub each : (k : ℕ) (t : Thief W) (p : Knower W) → k < length thieves → IsPassFor (slice_index_or thieves k t) (slice_index_or m.passes.items k p)
     pub ended : All (IsEnded finish) m.done.items
 
   -- the job in hand

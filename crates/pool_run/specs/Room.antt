@@ -33,7 +33,7 @@ module _ {W : Type 0} where
 
   -- new passes of the first deques
   pub record IsRow (thieves : List (Thief W)) (row : List (Knower W)) : Type 0 where
-    pub lines : (k : ℕ) (t : Thief W) (p : Knower W) → k < length row → IsPassFor (slice_index_or thieves k t) (slice_index_or row k p)
+    pub each : (k : ℕ) (t : Thief W) (p : Knower W) → k < length row → IsPassFor (slice_index_or thieves k t) (slice_index_or row k p)
     pub obtained : (h : ℕ × W → ℕ) → weigh (λ (p : Knower W). weigh h (view p).obtained) row ≡ 0
 
   -- the first deques each have one more pass in hand, and nothing was pushed, finished or obtained

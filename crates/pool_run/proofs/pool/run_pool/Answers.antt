@@ -1,4 +1,4 @@
-use Rattle.std.proofs.Common.{◌≡◌, ◌∙◌, ◌≤◌, List, ap, arith, drop, length, map, subst, sym, vec_len}
+use Rattle.std.proofs.Common.{◌≡◌, ◌∙◌, List, ap, arith, drop, length, map, subst, sym, vec_len}
 use Rattle.pool_run.specs.declared.member.Member.{Member}
 use Rattle.pool_run.specs.Member.{Thief}
 use Rattle.pool_run.specs.Deque.{weigh, entry_of}

@@ -3,7 +3,7 @@ use Rattle.pool_run.specs.declared.member.Member.{Member}
 use Rattle.pool_run.specs.Member.{Thief}
 use Rattle.pool_run.specs.Room.{IsRoom, IsUnused, RoomLeft}
 use Rattle.pool_run.proofs.Lists.{written_back}
-use Rattle.pool_run.proofs.Rooms.{unused_room, give_rows}
+use Rattle.pool_run.proofs.Rooms.{unused_room}
 use Rattle.pool_run.proofs.room.PoolRoom.reserve.Goals as goal
 
 pub invariant_of-result : goal.invariant_of-result
