@@ -16,7 +16,7 @@ use Rattle.pool_run.specs.declared.deque.Task.{Task}
 use Rattle.pool_run.specs.declared.deque.OneDeque.{OneDeque}
 use Rattle.pool_run.specs.declared.member.Member.{Member}
 use Rattle.pool_run.specs.Deque.{weigh, entry_of, after_push, after_take}
-use Rattle.pool_run.specs.Member.{Thief, Knower, IsPassFor, IsEnded, IsReady, held, Moves}
+use Rattle.pool_run.specs.Member.{Thief, Knower, IsPassFor, IsEnded, IsReady, held, Moves, stolen_job}
 use Rattle.pool_run.proofs.Weights.{weigh-append, weigh-set}
 use Rattle.pool_run.proofs.Lists.{same_default}
 
@@ -143,8 +143,7 @@ module _ {W : Type 0} (finish : W → W) (thieves : List (Thief W)) where
       balance = λ h. omega (arith, weighs h, ap (λ (u : View W). weigh h u.obtained) is);
     }
 
-    pub stolen : (r : Steal (Task W)) → MatchSteal r (view p ≡ view was) (view p ≡ view was) (λ t. view p ≡ after_take finish (view was) (t ∷ []))
-        → MatchSteal r (Moves finish thieves old None (record old { passes = v }) None) (Moves finish thieves old None (record old { passes = v }) None) (λ t. Moves finish thieves old None (record old { passes = v }) (Some t))
+    pub stolen : (r : Steal (Task W)) → MatchSteal r (view p ≡ view was) (view p ≡ view was) (λ t. view p ≡ after_take finish (view was) (t ∷ [])) → Moves finish thieves old None (record old { passes = v }) (stolen_job r)
     stolen Empty is = unmoved is
     stolen Retry is = unmoved is
     stolen (Success t) is = record {

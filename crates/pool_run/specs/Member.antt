@@ -3,6 +3,8 @@ use Rattle.std.specs.Prelude.{◌≡◌, ℕ, ◌+◌, ◌<◌, List, [], ◌∷
 use Rattle.std.specs.Global.{Global}
 use Rattle.crossbeam_deque.specs.Handles.{view, IsPassOf, Pass, worker_deque, stealer_deque, worker_flavor, stealer_flavor, worker_view}
 use Rattle.crossbeam_deque.specs.declared.handles.Stealer.{Stealer}
+use Rattle.crossbeam_deque.specs.declared.steal.Steal.{Steal}
+use Rattle.crossbeam_deque.specs.declared.steal.Steal.TheVariants.{Empty, Success, Retry}
 use Rattle.pool_run.specs.declared.deque.View.{View}
 use Rattle.pool_run.specs.declared.deque.Task.{Task}
 use Rattle.pool_run.specs.declared.deque.OneDeque.{OneDeque}
@@ -57,8 +59,14 @@ module _ {W : Type 0} where
     pub parts : (worker_view new.own).parts ≡ (worker_view old.own).parts
     pub balance : (h : ℕ × W → ℕ) → (given finish h new + weigh h (held finish next)) + obtained h old ≡ (given finish h old + weigh h (held finish hand)) + obtained h new
 
-  -- one fact for each of what a look through the deques may find
-  abbrev pub MatchFound : Found W → (Task W → Type 0) → Type 0 → Type 0 → Type 0
-  MatchFound (Job t) job again nothing = job t
-  MatchFound Again job again nothing = again
-  MatchFound Nothing job again nothing = nothing
+  -- the job that a theft got
+  abbrev pub stolen_job : Steal (Task W) → Option (Task W)
+  stolen_job (Success t) = Some t
+  stolen_job Empty = None
+  stolen_job Retry = None
+
+  -- the job that a look through the deques found
+  abbrev pub found_job : Found W → Option (Task W)
+  found_job (Job t) = Some t
+  found_job Again = None
+  found_job Nothing = None

@@ -1,6 +1,6 @@
 //! The answer of a pool: the jobs that are left are run to their ends, and all are put in the order of the given ones.
 
-ghost use Rattle.std.specs.Prelude.{◌≡◌, ℕ, ◌+◌, ◌≤◌, [], ◌∷◌, ◌++◌, map, vec_len, vec_capacity, All, IsPermutation};
+ghost use Rattle.std.specs.Prelude.{◌≡◌, ◌+◌, ◌≤◌, [], ◌++◌, map, vec_len, vec_capacity, All, IsPermutation};
 ghost use Rattle.std.specs.List.Sorted.{IsNonDecreasingBy};
 ghost use Rattle.crossbeam_deque.specs.Handles.{worker_flavor, worker_view};
 ghost use Rattle.pool_run.specs.Deque.{weigh, SameEntries, IsCovered, entry_of};

@@ -9,8 +9,8 @@
 //! finds the deque empty knows that all that was pushed was obtained.
 //! Definitions: `specs/Deque.antt`.
 
-ghost use Rattle.std.specs.Prelude.{◌≡◌, ℕ, ◌+◌, ◌-◌, ◌<◌, ◌≤◌, [], ◌∷◌, ◌++◌, map, IfErr, IfOk, MatchResult, MatchOption};
-ghost use Rattle.crossbeam_deque.specs.Handles.{view, IsPassOf, SamePass, worker_deque, stealer_deque, worker_flavor, stealer_flavor, worker_view, worker_index, worker_capacity, SameWorker};
+ghost use Rattle.std.specs.Prelude.{◌≡◌, ◌+◌, ◌-◌, ◌<◌, ◌≤◌, [], ◌∷◌, ◌++◌, IfOk, MatchResult, MatchOption};
+ghost use Rattle.crossbeam_deque.specs.Handles.{view, IsPassOf, worker_deque, stealer_deque, worker_flavor, stealer_flavor, worker_view, worker_index, worker_capacity, SameWorker};
 ghost use Rattle.crossbeam_deque.specs.Steals.{MatchSteal};
 ghost use Rattle.pool_run.specs.Deque.{SameEntries, IsKept, IsCovered, knows, after_push, after_take};
 

@@ -19,8 +19,8 @@
 //!
 //! The contract says what becomes of each job, and nothing of who runs its slices, or when. So a pool with one thread, or
 //! one that never steals, would meet it too. That the workers run at once and that jobs are stolen half done, only a test
-//! shows (`jobs_are_stolen_half_done`): its gate holds slices back until others were run. Jobs, places and slices are
-//! this project's own.
+//! shows (`jobs_are_stolen_half_done`): its gate holds slices back until others were run. Nor is it proved that a worker
+//! ends: it goes on for as long as it finds jobs (`Wait`). Jobs, places and slices are this project's own.
 #![tactic(auto)]
 
 mod answer;

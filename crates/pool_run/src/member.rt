@@ -1,9 +1,8 @@
 //! One worker of a pool.
 
-ghost use Rattle.std.specs.Prelude.{◌≡◌, ℕ, ◌+◌, ◌<◌, ◌≤◌, [], ◌∷◌, ◌++◌, length, None, Some, MatchOption};
-ghost use Rattle.crossbeam_deque.specs.Steals.{MatchSteal};
+ghost use Rattle.std.specs.Prelude.{◌≡◌, ◌+◌, ◌<◌, ◌≤◌, [], ◌∷◌, ◌++◌, length, None, Some, MatchOption};
 ghost use Rattle.pool_run.specs.Deque.{entry_of};
-ghost use Rattle.pool_run.specs.Member.{IsReady, Moves, MatchFound};
+ghost use Rattle.pool_run.specs.Member.{IsReady, Moves, stolen_job, found_job};
 
 use crate::Work;
 use crate::deque::{Knower, Owner, Task, Thief, pop, push, steal};
@@ -39,7 +38,7 @@ fn pop_own<W: Work>(thieves: &[Thief<W>], member: &mut Member<W>) -> Option<Task
 fn steal_at<W: Work>(thieves: &[Thief<W>], member: &mut Member<W>, k: usize) -> Steal<Task<W>>
     requires ready { IsReady W.finish thieves.now member.old }
     requires there { k < length thieves.now }
-    ensures { MatchSteal result (Moves W.finish thieves.now member.old None member.new None) (Moves W.finish thieves.now member.old None member.new None) (λ t. Moves W.finish thieves.now member.old None member.new (Some t)) }
+    ensures { Moves W.finish thieves.now member.old None member.new (stolen_job result) }
 {
     steal(&thieves[k], &mut member.passes[k])
 }
@@ -56,7 +55,7 @@ fn neighbour(me: usize, workers: usize) -> usize
 // A job of its own deque, or else of another's: first of its neighbour's, so that not all thieves go to one.
 fn find<W: Work>(thieves: &[Thief<W>], member: &mut Member<W>) -> Found<W>
     requires { IsReady W.finish thieves.now member.old }
-    ensures { MatchFound result (λ t. Moves W.finish thieves.now member.old None member.new (Some t)) (Moves W.finish thieves.now member.old None member.new None) (Moves W.finish thieves.now member.old None member.new None) }
+    ensures { Moves W.finish thieves.now member.old None member.new (found_job result) }
 {
     if let Some(task) = pop_own(thieves, member) {
         return Found::Job(task);
