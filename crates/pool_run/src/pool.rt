@@ -1,59 +1,123 @@
-//! The room of a pool, and its run.
+//! The run of a pool.
 
-ghost use Rattle.std.specs.Prelude.{◌≡◌, ◌<◌, ◌≤◌, map, IfOk, vec_len};
+ghost use Rattle.std.specs.Prelude.{◌≡◌, ℕ, ◌+◌, ◌^◌, ◌<◌, ◌≤◌, length, map, vec_len, All, None, slice_index_or};
+ghost use Rattle.pool_run.specs.Deque.{weigh, entry_of};
+ghost use Rattle.pool_run.specs.Member.{Moves};
+ghost use Rattle.pool_run.specs.Pool.{IsPool, IsSettled, all_given, all_obtained, entries_from};
+ghost use Rattle.pool_run.specs.Room.{IsRoom, RoomLeft};
 
-use crate::Work;
-use crate::work::run_to_end;
-use std::alloc::{AllocError, Global};
-use std::marker::Model;
-
-/// All the memory that a pool needs, reserved before its jobs are known. Contracts see it as the greatest number of
-/// jobs that it has room for.
-#[derive(Drop)]
-pub struct PoolRoom<W: Work> {
-    most: u32,
-    answer: Vec<Box<W>>,
-}
-
-impl<W: Work> Model for PoolRoom<W> {
-    ghost use Rattle.std.specs.Prelude.{◌≡◌, ℕ, ◌≤◌, [], vec_capacity};
-
-    ghost Value = { ℕ };
-
-    ghost view = { λ r. r.most };
-
-    ghost invariant = { λ r. (r.answer.items ≡ []) × (r.most ≤ vec_capacity r.answer) };
-}
-
-impl<W: Work> PoolRoom<W> {
-    /// Room for `most` jobs, at most 4,096, in a pool of 1 to 64 workers. As all jobs are run one after another, no
-    /// worker needs room of its own.
-    pub fn reserve(alloc: Global, workers: u32, most: u32) -> Result<PoolRoom<W>, AllocError>
-        requires some { 0 < workers }
-        requires few { workers ≤ 64 }
-        requires jobs { most ≤ 4096 }
-        ensures { IfOk result (λ room. room ≡ most) }
-    {
-        let _ = workers;
-        let answer = Vec::with_capacity(alloc, most as usize)?;
-        Ok(PoolRoom { most, answer })
-    }
-}
+use crate::answer::{finish_all, in_order};
+use crate::deque::{Task, Thief, push_reserved};
+use crate::joins::{audit_all, join_all};
+use crate::member::{Member, work};
+use crate::{Gate, PoolRoom, Work};
+use std::sync::Wait;
+use std::thread;
+use std::thread::Threads;
 
 /// Runs each job to its end, in slices of `slice` places: as many jobs as were given, in their order, each the finished
-/// job of the given one. Takes no memory.
-pub fn run_pool<W: Work>(room: PoolRoom<W>, jobs: Vec<Box<W>>, slice: u32) -> Vec<Box<W>>
+/// job of the given one. The slices are run by the room's workers, each in a thread of its own, and each between the
+/// calls of the gate. Takes no memory for the jobs, and is never refused.
+pub fn run_pool<R: Threads + Wait + Sync, W: Work + Send, G: Gate + Sync>(
+    rt: &R,
+    room: PoolRoom<W>,
+    jobs: Vec<Box<W>>,
+    slice: u32,
+    gate: &G,
+) -> Vec<Box<W>>
     requires slice { 1 ≤ slice }
     requires room { vec_len jobs ≤ room }
     ensures { map (λ b. b.value) result.items ≡ map (λ b. W.finish b.value) jobs.items }
 {
     let PoolRoom {
         most: _,
-        mut answer,
+        thieves,
+        mut members,
+        mut finished,
+        answer,
     } = room;
-    for mut job in jobs {
-        run_to_end(&mut *job, slice);
-        answer.push_reserved(job);
+    run_workers(
+        rt,
+        thieves.as_slice(),
+        members.as_mut_slice(),
+        jobs,
+        slice,
+        gate,
+    );
+    finish_all(members, &mut finished, slice, gate);
+    in_order(finished, answer)
+}
+
+// Runs the jobs in the workers' threads. What was placed is then finished, or left in a deque.
+fn run_workers<R: Threads + Wait + Sync, W: Work + Send, G: Gate + Sync>(
+    rt: &R,
+    thieves: &[Thief<W>],
+    members: &mut [Member<W>],
+    jobs: Vec<Box<W>>,
+    slice: u32,
+    gate: &G,
+)
+    requires slice { 1 ≤ slice }
+    requires few { vec_len jobs < 2 ^ 32 }
+    requires room { IsRoom W.finish (vec_len jobs) thieves.now members.old }
+    ensures settled { All (IsSettled W.finish) members.new }
+    ensures entries { (h : _) → all_given W.finish h members.new ≡ all_obtained h members.new + weigh h (entries_from W.finish 0 jobs.items) }
+{
+    place(thieves, members, jobs);
+    work_all(rt, thieves, members, slice, gate);
+    join_all(thieves, members);
+    audit_all(members);
+}
+
+// Puts the jobs on the deques in turn.
+fn place<W: Work>(thieves: &[Thief<W>], members: &mut [Member<W>], jobs: Vec<Box<W>>)
+    requires pool { IsPool W.finish thieves.now members.old }
+    requires some { 0 < length members.old }
+    requires few { vec_len jobs < 2 ^ 32 }
+    requires room { RoomLeft 0 (vec_len jobs) members.old }
+    ensures pool { IsPool W.finish thieves.now members.new }
+    ensures given { (h : _) → all_given W.finish h members.new ≡ all_given W.finish h members.old + weigh h (entries_from W.finish 0 jobs.items) }
+    ensures obtained { (h : _) → all_obtained h members.new ≡ all_obtained h members.old }
+{
+    let mut number = 0u32;
+    for job in jobs {
+        let at = number as usize % members.len();
+        place_at(thieves, members, at, Task { number, job });
+        number += 1;
     }
-    answer
+}
+
+// Puts a job on a worker's deque.
+fn place_at<W: Work>(thieves: &[Thief<W>], members: &mut [Member<W>], at: usize, task: Task<W>)
+    requires pool { IsPool W.finish thieves.now members.old }
+    requires there { at < length members.old }
+    requires room { RoomLeft task.number (task.number + 1) members.old }
+    ensures pool { IsPool W.finish thieves.now members.new }
+    ensures given { (h : _) → all_given W.finish h members.new ≡ all_given W.finish h members.old + h (entry_of W.finish task) }
+    ensures obtained { (h : _) → all_obtained h members.new ≡ all_obtained h members.old }
+    ensures room { (taken most : ℕ) → RoomLeft taken most members.old → RoomLeft (taken + 1) most members.new }
+{
+    push_reserved(&mut members[at].own, task);
+}
+
+// Each worker in a thread of its own, until all have ended.
+fn work_all<R: Threads + Wait + Sync, W: Work + Send, G: Gate + Sync>(
+    rt: &R,
+    thieves: &[Thief<W>],
+    members: &mut [Member<W>],
+    slice: u32,
+    gate: &G,
+)
+    requires pool { IsPool W.finish thieves.now members.old }
+    requires some { 0 < length members.old }
+    requires slice { 1 ≤ slice }
+    ensures { (k : ℕ) (m : _) → k < length members.old → Moves W.finish thieves.now (slice_index_or members.old k m) None (slice_index_or members.new k m) None }
+{
+    let threads = members.len();
+    thread::for_each_mut(
+        rt,
+        members,
+        threads,
+        &|_, member| work(rt, thieves, member, slice, gate),
+    );
 }

@@ -1,4 +1,4 @@
-//! A job that is run in slices.
+//! A job that is run in slices, and the gate that each slice passes.
 
 ghost use Rattle.std.specs.Prelude.{◌≡◌, ℕ, ◌-◌, ◌≤◌, ◌↔◌, IsTrue};
 
@@ -34,12 +34,45 @@ pub trait Work: Drop {
     ghost stays: { (x : Self) → left x ≡ 0 → finish x ≡ x };
 }
 
-/// Runs a job to its end.
-pub(crate) fn run_to_end<W: Work>(job: &mut W, slice: u32)
+/// Is called before and after each slice. The pool learns nothing from it, and no clause names it: it may hold a slice
+/// back, as a test does.
+pub trait Gate {
+    /// Before a slice of the job of this call.
+    fn before(&self, call: u32);
+
+    /// After it.
+    fn after(&self, call: u32);
+}
+
+/// A gate that holds nothing back.
+#[derive(Drop)]
+pub struct OpenGate;
+
+impl Gate for OpenGate {
+    fn before(&self, _call: u32) {}
+
+    fn after(&self, _call: u32) {}
+}
+
+/// Runs one slice of a job, between the calls of the gate.
+pub(crate) fn run_slice<W: Work, G: Gate>(job: &mut W, slice: u32, gate: &G)
     requires { 1 ≤ slice }
-    ensures { job.new ≡ W.finish job.old }
+    ensures left { W.left job.new ≡ W.left job.old - slice }
+    ensures finish { W.finish job.new ≡ W.finish job.old }
+{
+    let call = job.call();
+    gate.before(call);
+    job.slice(slice);
+    gate.after(call);
+}
+
+/// Runs a job to its end.
+pub(crate) fn run_to_end<W: Work, G: Gate>(job: &mut W, slice: u32, gate: &G)
+    requires { 1 ≤ slice }
+    ensures finish { job.new ≡ W.finish job.old }
+    ensures ended { W.finish job.new ≡ job.new }
 {
     while !job.finished() {
-        job.slice(slice);
+        run_slice(job, slice, gate);
     }
 }

@@ -1,0 +1,10 @@
+pub mod Deques
+pub mod Joining
+pub mod Left
+pub mod Lists
+pub mod Members
+pub mod Orders
+pub mod Pools
+pub mod Rooms
+pub mod Settled
+pub mod Weights

@@ -1,0 +1,19 @@
+use Rattle.std.proofs.Common.{◌∙◌, arith, vec_len, length-append, [], ◌∷◌, ap, length}
+use Rattle.pool_run.proofs.Pools.{entries_more}
+use Rattle.pool_run.proofs.pool.place.Goals as goal
+
+pub place_at-requires-clause-room : goal.place_at-requires-clause-room
+place_at-requires-clause-room g c = λ k m h.
+    let old = c.loop-job.invariant in
+    let room = old.room k m h in
+    (room.0, omega (arith, room.1, old.left, ap length c.in-Some.ensures.steps.0))
+
+pub loop-job-preserved : goal.loop-job-preserved
+loop-job-preserved g c = let old = c.loop-job.invariant in record {
+  pool = c.place_at.ensures.pool;
+  room = c.place_at.ensures.room c.loop-job.number (vec_len c.args.jobs) old.room;
+  left = omega (arith, old.left, ap length c.in-Some.ensures.steps.0);
+  number = omega (arith, old.number, length-append c.loop-job.yielded (c.in-Some.job ∷ []));
+  given = λ h. omega (arith, old.given h, c.place_at.ensures.given h, entries_more g.W.Work.finish h c.loop-job.yielded c.in-Some.job c.loop-job.number old.number);
+  obtained = λ h. c.place_at.ensures.obtained h ∙ old.obtained h;
+}

@@ -1,0 +1,25 @@
+use Rattle.std.proofs.Common.{arith}
+use Rattle.pool_run.proofs.Pools.{sums_moved, pool_moved}
+use Rattle.pool_run.proofs.Joining.{pool_shared, all_owners}
+use Rattle.pool_run.proofs.pool.run_workers.Goals as goal
+
+pub join_all-requires : goal.join_all-requires
+join_all-requires g c = pool_shared g.W.Work.finish c.args.thieves.now c.work_all.new.members (pool_moved g.W.Work.finish c.args.thieves.now c.place.new.members c.work_all.new.members c.place.ensures.pool (omega arith) c.work_all.ensures)
+
+pub audit_all-requires : goal.audit_all-requires
+audit_all-requires g c = all_owners g.W.Work.finish c.args.thieves.now c.join_all.new.members c.join_all.ensures.shared (λ i h. c.join_all.ensures.joined i (omega arith))
+
+pub returns-clause-entries : goal.returns-clause-entries
+returns-clause-entries g c = λ h.
+    omega (
+      arith,
+      c.audit_all.ensures.given h,
+      c.audit_all.ensures.obtained h,
+      c.join_all.ensures.given h,
+      c.join_all.ensures.obtained h,
+      sums_moved g.W.Work.finish c.args.thieves.now c.place.new.members c.work_all.new.members (omega arith) c.work_all.ensures h,
+      c.place.ensures.given h,
+      c.place.ensures.obtained h,
+      c.requires.room.given h,
+      c.requires.room.obtained h,
+    )
