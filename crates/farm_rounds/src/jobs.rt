@@ -15,9 +15,11 @@ use crate::call::{Call, Group};
 use crate::entry::Entry;
 use crate::live::place_in;
 use call_pair::{Buffers, Half, Job, LegIo};
-use pool_run::{PoolRoom, run_pool};
+use pool_run::{Gate, PoolRoom, run_pool};
 use round_lines::{Place, Seat};
 use std::alloc::{AllocError, Global};
+use std::sync::Wait;
+use std::thread::Threads;
 
 /// Puts the groups in order, the lowest number last: the jobs are made of the last one on.
 pub(crate) fn put_in_order(groups: &mut Vec<Group>)
@@ -228,13 +230,15 @@ impl WorkRoom {
 
 /// Works the jobs with the octets of the seats, in slices of `slice` periods. Gives the jobs, and the seats with what these
 /// left.
-pub(crate) fn work_jobs(
+pub(crate) fn work_jobs<R: Threads + Wait + Sync, G: Gate + Sync>(
+    rt: &R,
     alloc: Global,
     entries: &[Entry],
     seats: Vec<Seat>,
     mut jobs: Vec<Box<Job>>,
     room: WorkRoom,
     slice: u32,
+    gate: &G,
 ) -> (Vec<Box<Job>>, Vec<Seat>)
     requires slice { 1 ≤ slice }
     requires entries { length entries.now ≡ length seats.items }
@@ -255,7 +259,7 @@ pub(crate) fn work_jobs(
         pool,
     } = room;
     hand_in(seats, entries, &mut jobs, &mut apart);
-    let mut jobs = run_pool(pool, jobs, slice);
+    let mut jobs = run_pool(rt, pool, jobs, slice, gate);
     hand_out(alloc, apart, entries, &mut jobs, &mut worked);
     (jobs, worked)
 }

@@ -17,9 +17,12 @@ use crate::jobs::{WorkRoom, make_jobs, make_seats, put_in_order, work_jobs};
 use crate::rest::Rest;
 use crate::worked::Worked;
 use call_pair::Job;
+use pool_run::Gate;
 use round_lines::{Seat, fill_seats, list_ends};
 use std::alloc::{AllocError, Global};
 use std::marker::Model;
+use std::sync::Wait;
+use std::thread::Threads;
 use trau_io::{CallEnd, Trunk};
 
 /// A round of the open calls that is planned, with all the memory that it needs.
@@ -133,8 +136,14 @@ impl Round {
         fill_seats(trunk, &mut self.seats);
     }
 
-    /// Works the round, its jobs in slices of `slice` periods, at least 1.
-    pub fn work(self, slice: u32) -> Worked
+    /// Works the round, its jobs in slices of `slice` periods, at least 1, by the workers of its pool. Each slice passes the
+    /// gate. It waits for the workers: that it returns isn't proved.
+    pub fn work<R: Threads + Wait + Sync, G: Gate + Sync>(
+        self,
+        rt: &R,
+        slice: u32,
+        gate: &G,
+    ) -> Worked
         requires { 1 ≤ slice }
 
         // Each job is finished, and each call has its place. The calls that end in the round are told, by their numbers.
@@ -168,7 +177,7 @@ impl Round {
             room,
             mut ends,
         } = self;
-        let (jobs, seats) = work_jobs(alloc, &entries, seats, jobs, room, slice);
+        let (jobs, seats) = work_jobs(rt, alloc, &entries, seats, jobs, room, slice, gate);
         list_ends(&seats, start, &mut ends);
         Worked {
             end,

@@ -2,8 +2,11 @@ ghost use Rattle.std.specs.Prelude.{◌≡◌, ◌≢◌, ◌+◌, ◌*◌, ◌<
 ghost use Rattle.farm_rounds.specs.Calls.{IsNumber};
 
 use super::*;
+use pool_run::OpenGate;
 use std::alloc::{AllocError, Global};
+use std::sync::Wait;
 use std::test::Fail;
+use std::thread::Threads;
 use switchboard::Act;
 use trau_io::{CallEnd, Cause, Counts, Line, MemTrunk, Side};
 
@@ -105,7 +108,8 @@ fn lines(trunk: &mut MemTrunk, alloc: Global, call: u32, periods: u32) -> Result
     set(trunk, alloc, line(call, Side::Out), 0, &[], 160 * periods)
 }
 
-fn round(
+fn round<R: Threads + Wait + Sync>(
+    rt: &R,
     alloc: Global,
     trunk: &mut MemTrunk,
     farm: Farm,
@@ -120,7 +124,7 @@ fn round(
 {
     let mut round = Round::plan(alloc, farm, start, periods, 4)?;
     round.fill(trunk);
-    Ok(round.work(7))
+    Ok(round.work(rt, 7, &OpenGate))
 }
 
 // A call has its periods in rounds of 1 and of 250, and ends where its lines do.
@@ -132,16 +136,16 @@ fn one_call_in_rounds(rt: HostRuntime) -> Result<(), Fail> {
     let mut farm = Farm::new(alloc)?;
     farm.apply(alloc, &Act::Opened { call: 7 })?;
     assert!(rt; farm.live_calls() == [7].as_slice());
-    let worked = round(alloc, &mut trunk, farm, 0, 1)?;
+    let worked = round(&rt, alloc, &mut trunk, farm, 0, 1)?;
     assert!(rt; worked.ends().is_empty());
     let farm = worked.drain(&mut trunk);
     assert_eq!(rt; trunk.written(line(7, Side::Out)).len(), 160);
     assert_eq!(rt; periods_of(&farm.counts(7)), 1);
-    let worked = round(alloc, &mut trunk, farm, 1, 250)?;
+    let worked = round(&rt, alloc, &mut trunk, farm, 1, 250)?;
     let farm = worked.drain(&mut trunk);
     assert_eq!(rt; trunk.written(line(7, Side::Down)).len(), 251 * 40);
     assert!(rt; farm.live_calls() == [7].as_slice());
-    let worked = round(alloc, &mut trunk, farm, 251, 2)?;
+    let worked = round(&rt, alloc, &mut trunk, farm, 251, 2)?;
     let cause = Cause::End {
         side: Side::Up,
         left: 0,
@@ -172,7 +176,7 @@ fn a_partner_goes_on_alone(rt: HostRuntime) -> Result<(), Fail> {
     lines(&mut trunk, alloc, 9, 100)?;
     set(&mut trunk, alloc, line(9, Side::Up), 30 * 40 + 13, &[], 0)?;
     let farm = bridged(alloc, 9, 2)?;
-    let worked = round(alloc, &mut trunk, farm, 10, 40)?;
+    let worked = round(&rt, alloc, &mut trunk, farm, 10, 40)?;
     let cause = Cause::End {
         side: Side::Up,
         left: 13,
@@ -212,7 +216,7 @@ fn both_end_in_a_round(rt: HostRuntime) -> Result<(), Fail> {
         0,
     )?;
     let farm = bridged(alloc, 1, 4096)?;
-    let worked = round(alloc, &mut trunk, farm, 0, 10)?;
+    let worked = round(&rt, alloc, &mut trunk, farm, 0, 10)?;
     let ends = [
         CallEnd {
             call: 1,
@@ -253,7 +257,7 @@ fn faults_end_their_own_call(rt: HostRuntime) -> Result<(), Fail> {
     // Call 6: Down fails at once.
     set(&mut trunk, alloc, line(6, Side::Down), 0, &[0], 800)?;
     let farm = opened(alloc, 6, 3)?;
-    let worked = round(alloc, &mut trunk, farm, 0, 10)?;
+    let worked = round(&rt, alloc, &mut trunk, farm, 0, 10)?;
     let ends = [CallEnd {
         call: 3,
         at: 2,
@@ -267,7 +271,7 @@ fn faults_end_their_own_call(rt: HostRuntime) -> Result<(), Fail> {
     assert!(rt; farm.live_calls() == [6].as_slice());
     let failed = [line(3, Side::Pcm), line(6, Side::Down)];
     assert!(rt; farm.failed() == failed.as_slice());
-    let farm = round(alloc, &mut trunk, farm, 10, 10)?.drain(&mut trunk);
+    let farm = round(&rt, alloc, &mut trunk, farm, 10, 10)?.drain(&mut trunk);
     assert!(rt; farm.live_calls() == [6].as_slice());
     assert!(rt; farm.failed() == failed.as_slice());
     assert!(rt; trunk.written(line(6, Side::Down)).is_empty());
@@ -285,7 +289,7 @@ fn a_fault_ends_its_own_call(rt: HostRuntime) -> Result<(), Fail> {
     lines(&mut trunk, alloc, 5, 20)?;
     set(&mut trunk, alloc, line(4, Side::Pcm), 400, &[1], 0)?;
     let farm = opened(alloc, 4, 5)?;
-    let worked = round(alloc, &mut trunk, farm, 0, 10)?;
+    let worked = round(&rt, alloc, &mut trunk, farm, 0, 10)?;
     let cause = Cause::Fault { side: Side::Pcm };
     let ends = [CallEnd {
         call: 4,

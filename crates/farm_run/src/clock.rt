@@ -21,7 +21,10 @@ use crate::orders::execute_orders;
 use crate::pace::Pace;
 use farm_report::Report;
 use farm_rounds::{Farm, Round};
+use pool_run::Gate;
 use std::alloc::{AllocError, Global};
+use std::sync::Wait;
+use std::thread::Threads;
 use switchboard::Board;
 use trau_io::Trunk;
 use trau_orders::Orders;
@@ -45,7 +48,8 @@ fn round_periods(pace: &Pace, clock: u32, next: Option<u32>) -> u32
 }
 
 // A round of periods over the open calls.
-fn work_round<T: Trunk>(
+fn work_round<R: Threads + Wait + Sync, T: Trunk, G: Gate + Sync>(
+    rt: &R,
     alloc: Global,
     board: &mut Board,
     farm: Farm,
@@ -54,6 +58,7 @@ fn work_round<T: Trunk>(
     clock: u32,
     periods: u32,
     trunk: &mut T,
+    gate: &G,
 ) -> Result<Farm, AllocError>
     requires pace { IsPace pace.now }
     requires clock { AtClock clock board.old farm.groups }
@@ -82,7 +87,7 @@ fn work_round<T: Trunk>(
     board.bridges_join_two();
     let mut round = Round::plan(alloc, farm, clock, periods, pace.workers)?;
     round.fill(trunk);
-    let worked = round.work(pace.slice);
+    let worked = round.work(rt, pace.slice, gate);
     tell_ends(board, journal, worked.ends())?;
     Ok(worked.drain(trunk))
 }
@@ -102,12 +107,14 @@ fn idle_until(pace: &Pace, clock: u32, next: Option<u32>) -> u32
 }
 
 // The rounds and orders of a run.
-fn work_all<T: Trunk>(
+fn work_all<R: Threads + Wait + Sync, T: Trunk, G: Gate + Sync>(
+    rt: &R,
     alloc: Global,
     board: &mut Board,
     journal: &mut Journal,
     pace: &Pace,
     trunk: &mut T,
+    gate: &G,
 ) -> Result<Farm, AllocError>
     requires pace { IsPace pace.now }
     requires clock { AtClock 0 board.old [] }
@@ -132,19 +139,25 @@ fn work_all<T: Trunk>(
             clock = idle_until(pace, clock, next);
         } else {
             let periods = round_periods(pace, clock, next);
-            farm = work_round(alloc, board, farm, journal, pace, clock, periods, trunk)?;
+            farm = work_round(
+                rt, alloc, board, farm, journal, pace, clock, periods, trunk, gate,
+            )?;
             clock += periods;
         }
     }
     Ok(farm)
 }
 
-/// Runs these orders over the lines of a trunk, and reports what became of them. An error says that there was no memory.
-pub fn run<T: Trunk>(
+/// Runs these orders over the lines of a trunk, and reports what became of them. The slices of the calls' work are run by
+/// the workers of a pool in threads of their own, and each passes the gate. An error says that there was no memory. The
+/// run waits for its workers: that it returns isn't proved.
+pub fn run<R: Threads + Wait + Sync, T: Trunk, G: Gate + Sync>(
+    rt: &R,
     alloc: Global,
     pace: &Pace,
     orders: Orders,
     trunk: &mut T,
+    gate: &G,
 ) -> Result<Report, AllocError>
     requires { IsPace pace.now }
     ensures { IfOk result (λ report. Runs orders pace.now (T.lines trunk.old) (T.lines trunk.new) report) }
@@ -152,6 +165,6 @@ pub fn run<T: Trunk>(
     let count = orders.list().len();
     let mut board = Board::new(alloc, orders)?;
     let mut journal = Journal::new(alloc)?;
-    let farm = work_all(alloc, &mut board, &mut journal, pace, trunk)?;
+    let farm = work_all(rt, alloc, &mut board, &mut journal, pace, trunk, gate)?;
     finish(alloc, board, &farm, journal, count, pace.periods)
 }

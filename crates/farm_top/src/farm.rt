@@ -10,7 +10,10 @@ use farm_orders::{OrdersFault, read_orders};
 use farm_report::{Report, write_report};
 use farm_run::{Pace, run};
 use farm_words::Settings;
+use pool_run::Gate;
 use std::alloc::Global;
+use std::sync::Wait;
+use std::thread::Threads;
 use trau_io::{Desk, Trunk, tell};
 
 // A desk that fails while one of these texts goes out changes nothing of the status.
@@ -61,11 +64,13 @@ fn tell_report<D: Desk>(alloc: Global, report: &Report, desk: &mut D) -> u8
 }
 
 /// Reads the orders from the desk, runs them over the lines of the trunk, and tells the report.
-pub(crate) fn run_farm<T: Trunk, D: Desk>(
+pub(crate) fn run_farm<R: Threads + Wait + Sync, T: Trunk, D: Desk, G: Gate + Sync>(
+    rt: &R,
     alloc: Global,
     settings: Settings,
     trunk: &mut T,
     desk: &mut D,
+    gate: &G,
 ) -> u8
     requires { IsPace (pace_of settings) }
     ensures { RunsFarm settings (T.lines trunk.old) (T.lines trunk.new) (D.desk desk.old) (D.desk desk.new) result }
@@ -80,7 +85,7 @@ pub(crate) fn run_farm<T: Trunk, D: Desk>(
         slice: settings.slice,
         periods: settings.periods,
     };
-    match run(alloc, &pace, orders, trunk) {
+    match run(rt, alloc, &pace, orders, trunk, gate) {
         Ok(report) => tell_report(alloc, &report, desk),
         Err(_) => no_memory(desk),
     }

@@ -4,7 +4,9 @@ ghost use Rattle.std.specs.Prelude.{◌≤◌};
 use crate::tests::{DECODED, UPLINK_FRAME, carry};
 use std::alloc::{AllocError, Global};
 use std::process::Abort;
+use std::sync::Wait;
 use std::test::Fail;
+use std::thread::Threads;
 use trau_io::{Line, MemDesk, MemTrunk, Side};
 
 // The head of an idle downlink frame; all its other octets are ones.
@@ -31,7 +33,7 @@ fn set(
 }
 
 // Sets the lines of a call: this uplink, and so many periods of idle octets.
-fn set_call(
+pub(crate) fn set_call(
     alloc: Global,
     trunk: &mut MemTrunk,
     call: u32,
@@ -61,8 +63,8 @@ fn good_frames(alloc: Global, frames: usize) -> Result<Vec<u8>, AllocError> {
 }
 
 // Carries out the command with these orders, and compares the status.
-fn runs(
-    rt: &impl Abort,
+fn runs<R: Abort + Threads + Wait + Sync>(
+    rt: &R,
     alloc: Global,
     words: &[&str],
     orders: &[u8],
@@ -71,7 +73,7 @@ fn runs(
 ) -> Result<MemDesk, Fail> {
     let (calm, room) = (Vec::new(alloc), 10_000);
     let mut desk = MemDesk::new(alloc, orders.to_vec(alloc)?, calm, Vec::new(alloc), room)?;
-    assert_eq!(rt; carry(alloc, words, trunk, &mut desk)?, status);
+    assert_eq!(rt; carry(rt, alloc, words, trunk, &mut desk)?, status);
     Ok(desk)
 }
 

@@ -1,7 +1,10 @@
 use crate::farm_top;
+use pool_run::OpenGate;
 use std::alloc::{AllocError, Global};
 use std::process::Abort;
+use std::sync::Wait;
 use std::test::Fail;
+use std::thread::Threads;
 use trau_io::{Line, MemDesk, MemTrunk, Side};
 
 // A good uplink frame whose 260 data bits are those of 160 samples 0 encoded from home, and the downlink frame
@@ -45,7 +48,8 @@ pub(crate) const DECODED: [u8; 7] = [0xD5, 0xD5, 0xD5, 0xD5, 0xD5, 0xD5, 0xD4];
 const CUTS: [u32; 4] = [1, 39, 41, 1000];
 
 // Carries out the command of these words.
-pub(crate) fn carry(
+pub(crate) fn carry<R: Threads + Wait + Sync>(
+    rt: &R,
     alloc: Global,
     texts: &[&str],
     trunk: &mut MemTrunk,
@@ -55,7 +59,7 @@ pub(crate) fn carry(
     for text in texts {
         words.push(String::from_str(alloc, text)?)?;
     }
-    Ok(farm_top(alloc, &words, trunk, desk))
+    Ok(farm_top(rt, alloc, &words, trunk, desk, &OpenGate))
 }
 
 // An uplink of `frames` good frames and `octets` octets of one more.
@@ -185,8 +189,8 @@ fn failing_calls(alloc: Global, number: u32, here: bool) -> Result<Vec<u32>, All
 }
 
 // Carries out a command in which one call fails, and compares what it leaves with what is due.
-fn fails_at(
-    rt: &impl Abort,
+fn fails_at<R: Abort + Threads + Wait + Sync>(
+    rt: &R,
     alloc: Global,
     row: &Row,
     cut: u32,
@@ -199,7 +203,7 @@ fn fails_at(
     let mut trunk = lines(alloc, cut, in_fails.as_slice(), out_fails.as_slice())?;
     let mut desk = desk(alloc, desk_fails.as_slice(), 100)?;
     let tool = row.tool;
-    let status = carry(alloc, &[tool, "7"], &mut trunk, &mut desk)?;
+    let status = carry(rt, alloc, &[tool, "7"], &mut trunk, &mut desk)?;
     let (expected, text) = due(row, &trunk, &desk);
     assert_eq!(rt;
         status,
@@ -233,8 +237,8 @@ fn each_call_of_the_outside_fails_in_turn(rt: HostRuntime) -> Result<(), Fail> {
 }
 
 // An uplink, and what a command answers and tells of it.
-fn tells(
-    rt: &impl Abort,
+fn tells<R: Abort + Threads + Wait + Sync>(
+    rt: &R,
     alloc: Global,
     command: &str,
     up: Vec<u8>,
@@ -247,7 +251,7 @@ fn tells(
     line(alloc, &mut trunk, DOWN, Vec::new(alloc), cut, &[])?;
     let mut desk = desk(alloc, &[], 100)?;
     assert_eq!(rt;
-        carry(alloc, &[command, "7"], &mut trunk, &mut desk)?,
+        carry(rt, alloc, &[command, "7"], &mut trunk, &mut desk)?,
         status
     );
     assert_eq!(rt; desk.text(), text.as_bytes());
@@ -308,7 +312,10 @@ fn an_uplink_ends_or_is_refused(rt: HostRuntime) -> Result<(), Fail> {
     }
     let mut trunk = lines(alloc, 1000, &[], &[])?;
     let mut desk = desk(alloc, &[], 100)?;
-    assert_eq!(rt; carry(alloc, &["decode", "7"], &mut trunk, &mut desk)?, 0);
+    assert_eq!(rt;
+        carry(&rt, alloc, &["decode", "7"], &mut trunk, &mut desk)?,
+        0
+    );
     assert!(rt; trunk.written(OUT).starts_with(&DECODED));
     Ok(())
 }
@@ -340,7 +347,7 @@ fn frames_are_listed(rt: HostRuntime) -> Result<(), Fail> {
         let mut trunk = lines(alloc, 1000, &[read], &[])?;
         let mut desk = desk(alloc, &[write], 100)?;
         assert_eq!(rt;
-            carry(alloc, &["frames", "7"], &mut trunk, &mut desk)?,
+            carry(&rt, alloc, &["frames", "7"], &mut trunk, &mut desk)?,
             status
         );
         assert_eq!(rt; desk.text(), text.as_bytes());
@@ -366,12 +373,15 @@ fn other_words_are_usage(rt: HostRuntime) -> Result<(), Fail> {
     let mut trunk = MemTrunk::new(alloc)?;
     for texts in rows {
         let mut desk = desk(alloc, &[], 100)?;
-        assert_eq!(rt; carry(alloc, texts, &mut trunk, &mut desk)?, 1);
+        assert_eq!(rt; carry(&rt, alloc, texts, &mut trunk, &mut desk)?, 1);
         assert_eq!(rt; desk.text(), b"usage\n".as_slice());
     }
     // A full desk takes a front of the text.
     let mut desk = desk(alloc, &[], 3)?;
-    assert_eq!(rt; carry(alloc, &["relay", "07"], &mut trunk, &mut desk)?, 1);
+    assert_eq!(rt;
+        carry(&rt, alloc, &["relay", "07"], &mut trunk, &mut desk)?,
+        1
+    );
     assert_eq!(rt; desk.text(), b"usa".as_slice());
     Ok(())
 }
@@ -393,7 +403,7 @@ fn orders_are_refused(rt: HostRuntime) -> Result<(), Fail> {
             Vec::new(alloc),
             100,
         )?;
-        assert_eq!(rt; carry(alloc, &["run"], &mut trunk, &mut desk)?, status);
+        assert_eq!(rt; carry(&rt, alloc, &["run"], &mut trunk, &mut desk)?, status);
         assert_eq!(rt; desk.text(), text.as_bytes());
     }
     Ok(())

@@ -24,7 +24,10 @@ use farm_calls::{
 };
 use farm_tools::{Tool, ToolEnd, decode, encode, frames, relay};
 use farm_words::{Asked, WordsFault, read_words};
+use pool_run::Gate;
 use std::alloc::Global;
+use std::sync::Wait;
+use std::thread::Threads;
 use trau_io::{Desk, Trunk, tell};
 use trau_orders::one_answer;
 
@@ -88,12 +91,19 @@ fn carry_tool<T: Trunk, D: Desk>(
 }
 
 // Carries out what is asked for.
-fn carry_out<T: Trunk, D: Desk>(alloc: Global, asked: Asked, trunk: &mut T, desk: &mut D) -> u8
+fn carry_out<R: Threads + Wait + Sync, T: Trunk, D: Desk, G: Gate + Sync>(
+    rt: &R,
+    alloc: Global,
+    asked: Asked,
+    trunk: &mut T,
+    desk: &mut D,
+    gate: &G,
+) -> u8
     requires { IsInRange asked }
     ensures { CarriesAsked asked (T.lines trunk.old) (T.lines trunk.new) (D.desk desk.old) (D.desk desk.new) result }
 {
     match asked {
-        Asked::Run(settings) => run_farm(alloc, settings, trunk, desk),
+        Asked::Run(settings) => run_farm(rt, alloc, settings, trunk, desk, gate),
         Asked::Relay(call) => carry_tool(alloc, Tool::Relay, call, trunk, desk),
         Asked::Decode(call) => carry_tool(alloc, Tool::Decode, call, trunk, desk),
         Asked::Encode(call) => carry_tool(alloc, Tool::Encode, call, trunk, desk),
@@ -134,11 +144,13 @@ fn carry_out<T: Trunk, D: Desk>(alloc: Global, asked: Asked, trunk: &mut T, desk
 /// Where several would be due in `run`, 3 goes before 7, 7 before 2, 2 before 4 and 4 before 6, and 5 may come in place
 /// of any but 3; after 2, 3 and 7 no line was used. A desk that fails while the text of 1, 2, 3, 5 or 7 goes out changes
 /// nothing of the status.
-pub fn farm_top<T: Trunk, D: Desk>(
+pub fn farm_top<R: Threads + Wait + Sync, T: Trunk, D: Desk, G: Gate + Sync>(
+    rt: &R,
     alloc: Global,
     words: &[String],
     trunk: &mut T,
     desk: &mut D,
+    gate: &G,
 ) -> u8
     // Status 1 comes exactly where the words are no command's, and then no line is used. Behind `run`, want of memory may
     // come in its place.
@@ -198,7 +210,7 @@ pub fn farm_top<T: Trunk, D: Desk>(
     items_are_the_partners_frames();
     items_go_out_in_order_and_once();
     match read_words(alloc, words) {
-        Ok(asked) => carry_out(alloc, asked, trunk, desk),
+        Ok(asked) => carry_out(rt, alloc, asked, trunk, desk, gate),
         Err(WordsFault::Usage) => {
             let _ = tell(desk, b"usage\n");
             USAGE

@@ -21,10 +21,13 @@ mod trunk;
 
 use desk::StdDesk;
 use farm_top::farm_top;
+use pool_run::OpenGate;
 use std::alloc::AllocError;
 use std::io::{ErrorKind, Read, Write};
 use std::process::ExitCode;
 use std::rt::{Env, Files};
+use std::sync::Wait;
+use std::thread::Threads;
 use std::{env, io};
 use trau_io::{Desk, tell};
 use trunk::FileTrunk;
@@ -74,13 +77,20 @@ fn words_given<R: Env + AllocGlobal>(rt: &R) -> Result<Vec<String>, Refusal> {
 }
 
 // The status of the top call.
-fn run<R: Env + Files + AllocGlobal, I: Read + Drop, O: Write + Drop>(
+fn run<R: Env + Files + AllocGlobal + Threads + Wait + Sync, I: Read + Drop, O: Write + Drop>(
     rt: &R,
     desk: &mut StdDesk<I, O>,
 ) -> Result<u8, Refusal> {
     let words = words_given(rt)?;
     let mut trunk = FileTrunk::new(rt.alloc(), rt)?;
-    Ok(farm_top(rt.alloc(), &words, &mut trunk, desk))
+    Ok(farm_top(
+        rt,
+        rt.alloc(),
+        &words,
+        &mut trunk,
+        desk,
+        &OpenGate,
+    ))
 }
 
 // Tells why the top call isn't made. A desk that fails here changes nothing of the status.

@@ -8,7 +8,7 @@ use Rattle.farm_rounds.proofs.Working.{back, ran, ready_out, works}
 use Rattle.farm_rounds.proofs.jobs.work_jobs.Goals as goal
 
 pub hand_out-requires-clause-ready : goal.hand_out-requires-clause-ready
-hand_out-requires-clause-ready c =
+hand_out-requires-clause-ready g c =
     let before = c.args.jobs.items in
     let old : jobs_in c.deref_mut.result.now ≡ jobs_in before = ap (λ (bs : List (Box Job)). jobs_in bs) c.deref_mut.ensures.value in
     let jobs = jobs_in c.hand_in.new.jobs in
@@ -21,7 +21,7 @@ hand_out-requires-clause-ready c =
     same c.hand_in.ensures.handed c.hand_in.ensures.long timely run c.hand_in.ensures.apart
 
 pub returns : goal.returns
-returns c =
+returns g c =
     let before = c.args.jobs.items in
     let old : jobs_in c.deref_mut.result.now ≡ jobs_in before = ap (λ (bs : List (Box Job)). jobs_in bs) c.deref_mut.ensures.value in
     let jobs = jobs_in c.hand_in.new.jobs in

@@ -1,4 +1,5 @@
 use Rattle.std.proofs.Common.{◌≡◌, inl, inr, ℕ, refl, arith, rules}
+use Rattle.farm_top.specs.Top.{IsInRange}
 use Rattle.farm_top.proofs.Asking.{is_command, no_command, no_listing, no_tool, in_range, tool_carried, listing_carried, run_carried}
 use Rattle.farm_top.proofs.Carrying.{causes, clean, listing_causes, listing_clean}
 use Rattle.farm_top.proofs.FarmCausing.{run_causes}
@@ -11,7 +12,7 @@ not_five : (status : ℕ) → status ≡ 1 → status ≡ 5 → ⊥
 not_five status one five = omega (arith, one, five)
 
 pub carry_out-requires : goal.carry_out-requires
-carry_out-requires g c = in_range _ _ c.in-Ok.ensures.ok
+carry_out-requires g c = let range : IsInRange c.in-Ok.asked = in_range _ _ c.in-Ok.ensures.ok in search rules
 
 -- what the words ask for was carried out
 pub returns-in-Ok-clause-usage : goal.returns-in-Ok-clause-usage

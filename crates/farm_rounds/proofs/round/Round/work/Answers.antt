@@ -7,7 +7,7 @@ use Rattle.farm_rounds.proofs.Works.{worked_round, worked_partner, worked_call, 
 use Rattle.farm_rounds.proofs.round.Round.work.Goals as goal
 
 pub invariant_of-result : goal.invariant_of-result
-invariant_of-result c =
+invariant_of-result g c =
     let i = c.self.inside in
     let after = jobs_in c.work_jobs-jobs.result.0.items in
     let worked = c.work_jobs-jobs.result.1.items in
@@ -20,7 +20,7 @@ invariant_of-result c =
     )
 
 pub returns-clause-rising : goal.returns-clause-rising
-returns-clause-rising c =
+returns-clause-rising g c =
     let i = c.self.inside in
     let after = jobs_in c.work_jobs-jobs.result.0.items in
     let worked = c.work_jobs-jobs.result.1.items in
@@ -28,7 +28,7 @@ returns-clause-rising c =
     worked_rising _ after worked c.self.invariant.0 w
 
 pub returns-clause-partners : goal.returns-clause-partners
-returns-clause-partners c =
+returns-clause-partners g c =
     let i = c.self.inside in
     let after = jobs_in c.work_jobs-jobs.result.0.items in
     let worked = c.work_jobs-jobs.result.1.items in
@@ -36,7 +36,7 @@ returns-clause-partners c =
     worked_partner c.args.self after worked (subst (λ (r : RoundMemory). IsRound r) c.self.view_is c.self.invariant.0) (subst (λ (r : RoundMemory). Works r.jobs r.entries r.seats after worked) c.self.view_is w)
 
 pub returns-clause-stands : goal.returns-clause-stands
-returns-clause-stands c =
+returns-clause-stands g c =
     let i = c.self.inside in
     let after = jobs_in c.work_jobs-jobs.result.0.items in
     let worked = c.work_jobs-jobs.result.1.items in
@@ -44,7 +44,7 @@ returns-clause-stands c =
     worked_call c.args.self after worked (subst (λ (r : RoundMemory). IsRound r) c.self.view_is c.self.invariant.0) (subst (λ (r : RoundMemory). Works r.jobs r.entries r.seats after worked) c.self.view_is w)
 
 pub returns-clause-octets : goal.returns-clause-octets
-returns-clause-octets c =
+returns-clause-octets g c =
     let i = c.self.inside in
     let after = jobs_in c.work_jobs-jobs.result.0.items in
     let worked = c.work_jobs-jobs.result.1.items in
