@@ -102,17 +102,23 @@ fn add_one(counts: &[AtomicU32; 4], call: u32) -> u32 {
     }
 }
 
-// Runs the calls 1, 2 and 3 over lines of three periods, by two workers in slices of one period. Answers whether the run
+// The lines of the calls 1, 2 and 3, three periods each.
+fn three_lines(alloc: Global) -> Result<MemTrunk, AllocError> {
+    let mut trunk = MemTrunk::new(alloc)?;
+    set_call(alloc, &mut trunk, 1, vec![in alloc; 0; 120]?, 3)?;
+    set_call(alloc, &mut trunk, 2, vec![in alloc; 0; 120]?, 3)?;
+    set_call(alloc, &mut trunk, 3, vec![in alloc; 0; 120]?, 3)?;
+    Ok(trunk)
+}
+
+// Runs the calls 1, 2 and 3 over these lines, by two workers in slices of one period. Answers whether the run
 // was done and each wait of the gate answered.
 fn each_wait_is_answered<R: Threads + Wait + Sync>(
     rt: &R,
     alloc: Global,
     pair: (u32, u32),
 ) -> Result<bool, AllocError> {
-    let mut trunk = MemTrunk::new(alloc)?;
-    for call in [1, 2, 3] {
-        set_call(alloc, &mut trunk, call, vec![in alloc; 0; 120]?, 3)?;
-    }
+    let mut trunk = three_lines(alloc)?;
     let orders = b"0 open 1\n0 open 2\n0 open 3\n".to_vec(alloc)?;
     let mut desk = MemDesk::new(alloc, orders, Vec::new(alloc), Vec::new(alloc), 1000)?;
     let mut words = Vec::new(alloc);

@@ -127,7 +127,9 @@ fn carry_out<R: Threads + Wait + Sync, T: Trunk, D: Desk, G: Gate + Sync>(
 /// The command `run` reads orders from the desk, runs them over the lines of all calls, and tells the report, which
 /// names the lines that failed. Its options, in any order and each at most once, are `--workers` (threads, 1 to 64,
 /// else 4), `--batch` (the most periods of a round, 1 to 250, else 50), `--slice` (the most periods of a call that are
-/// worked at a time, 1 to 250, else 5) and `--periods` (the most periods of the run, 1 to 4,294,967,295, else that).
+/// worked at a time, 1 to 250, else 5) and `--periods` (the most periods of the run, 1 to 4,294,967,295, else that). The
+/// workers steal calls half done from one another, and each slice of a call passes the gate. The run waits for them, so what
+/// is said of it holds if the call returns; the other commands return.
 ///
 /// | Status | Comes | Text on the desk |
 /// |---|---|---|
@@ -187,10 +189,10 @@ pub fn farm_top<R: Threads + Wait + Sync, T: Trunk, D: Desk, G: Gate + Sync>(
         (r : Run) → IsRunOver orders s.periods (T.lines trunk.old) r →
         CleanFarm r (T.lines trunk.old) (T.lines trunk.new) (D.desk desk.old) (D.desk desk.new) result }
 
-    // The headline. Whatever the cuts of reads and writes, the orders and the periods that are worked at a time, the octets
-    // written on a call's outgoing lines are those of the definition of the call as a whole, of its own incoming lines and
-    // orders and, only between a bridge's reported start and end, of its partner's uplink; there each good speech frame's
-    // 260 bits go out unchanged, in order and once.
+    // The headline. Whatever the cuts of reads and writes, the orders, the workers, batch and slices and the interleaving of
+    // the workers, the octets written on a call's outgoing lines are those of the definition of the call as a whole, of its
+    // own incoming lines and orders and, only between a bridge's reported start and end, of its partner's uplink; there each
+    // good speech frame's 260 bits go out unchanged, in order and once.
     ensures headline { (s : Settings) → AsksForRun (map (λ w. string_bytes w) words.now) s →
         (orders : List Order) → TellsOrders orders (D.desk desk.old) →
         IsCalmRun (T.lines trunk.old) (T.lines trunk.new) (D.desk desk.old) (D.desk desk.new) → result ≢ 5 →
