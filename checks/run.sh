@@ -175,6 +175,47 @@ end period 3 calls 1 left 0
 TEXT
 size "a downlink that can't be written" 7.out 480
 
+# Two calls of twelve good frames each are bridged for six periods; call 9's fourth frame asks for a shift of 156 octets
+# before that, so call 7's first frame waits for one period, and the last goes out in the period of the bridge's end.
+python3 - <<'END'
+data = "8209BA1AE4288012A492A492A2808124C924C924A8009249924992458002A492A492"
+frame = bytes.fromhex("00008800" + data + "A6FF")
+shifted = bytes.fromhex("00008A70" + data + "A6FF")
+open("8.up", "wb").write(frame * 12)
+open("9.up", "wb").write(frame * 3 + shifted + frame * 8)
+for call in (8, 9):
+    open(f"{call}.pcm", "wb").write(b"\xd5" * 1920)
+END
+# bridged NAME ORDERS LINE: the report has the bridge's line
+bridged() {
+    run "0 open 8\n0 open 9\n$2"
+    if [ "$status" = 0 ] && grep -qx "$3" text; then
+        echo "ok $1"
+    else
+        fail "$1: status $status, text:"
+        cat text
+    fi
+}
+bridged "a bridge" '4 bridge 8 9\n10 unbridge 8\n' 'bridge 8 9 from 4 to 10 sent 6 6 lost 0 0'
+bridged "a call that ends with its bridge" '4 bridge 8 9\n10 unbridge 8\n10 close 9\n' 'bridge 8 9 from 4 to 10 sent 5 6 lost 1 0'
+bridged "a bridge of no period" '4 bridge 8 9\n4 unbridge 8\n' 'bridge 8 9 from 4 to 4 sent 0 0 lost 0 0'
+
+# Frames that begin within an octet: the first ends in period 1, so nothing is heard in period 0.
+python3 - <<'END'
+frame = open("8.up", "rb").read(40)
+bits = "00000" + "".join(f"{octet:08b}" for octet in frame * 3) + "000"
+open("10.up", "wb").write(bytes(int(bits[i : i + 8], 2) for i in range(0, len(bits), 8)))
+open("10.pcm", "wb").write(b"\xd5" * 640)
+END
+run '0 open 10\n'
+expect "frames within octets" 0 <<'TEXT'
+order 1 ok
+call 10 from 0 to 3 end up 1
+counts 10 good 2 sid 0 invalid 0 bad 0 idle 0 other 0 miss 0 none 1 made 3
+end period 3 calls 1 left 0
+TEXT
+[ "$(head -c 160 10.out | tr -d '\325' | wc -c)" = 0 ] || fail "frames within octets: Out"
+
 # The desk.
 status=0
 "$top/trau" run </ >text 2>/dev/null || status=$?
