@@ -83,14 +83,7 @@ fn run<R: Env + Files + AllocGlobal + Threads + Wait + Sync, I: Read + Drop, O: 
 ) -> Result<u8, Refusal> {
     let words = words_given(rt)?;
     let mut trunk = FileTrunk::new(rt.alloc(), rt)?;
-    Ok(farm_top(
-        rt,
-        rt.alloc(),
-        &words,
-        &mut trunk,
-        desk,
-        &OpenGate,
-    ))
+    Ok(farm_top(rt, rt.alloc(), &words, &mut trunk, desk, &OpenGate))
 }
 
 // Tells why the top call isn't made. A desk that fails here changes nothing of the status.
