@@ -1,0 +1,499 @@
+#!/usr/bin/env python3
+"""Makes recorded lines of what people have, and back: speech frames of libgsm, WAV files and raw A-law; and damages uplinks.
+
+Every command reads one file and writes another, and says in one line on standard output what it did. What it doesn't take gets
+one line on standard error and status 2, and then nothing is written.
+"""
+
+from __future__ import annotations
+
+import argparse
+import re
+import struct
+import sys
+from array import array
+from collections import Counter
+from dataclasses import dataclass, replace
+from pathlib import Path
+from typing import List, NamedTuple, Optional, Sequence, Set, Tuple
+
+import trau_frames
+from trau_frames import FRAME_BITS, IDLE_OCTET, PCM_OCTETS, Parameters, Refusal, Sort, SpeechControl
+
+SAMPLES_A_SECOND = 8000
+
+
+class Made(NamedTuple):
+    """What a command made: the content of the file, and a line that says what was done."""
+
+    content: bytes
+    said: str
+
+
+# Speech frames of libgsm: to an uplink, and from a downlink
+
+
+def uplink(words: argparse.Namespace, given: bytes) -> Made:
+    """An uplink of good speech frames, from frames of libgsm."""
+    size = trau_frames.GSM_OCTETS
+    if not given or len(given) % size:
+        raise Refusal(f"{words.given}: {len(given)} octets are no frames of libgsm, which have {size} octets each")
+    control = SpeechControl(dtxd=words.dtxd == 1).bits()
+    frames = []
+    for place in range(0, len(given), size):
+        if given[place] >> 4 != trau_frames.GSM_MAGIC:
+            raise Refusal(f"{words.given}: no frame of libgsm begins at octet {place}: its first four bits aren't 1101")
+        data = trau_frames.data_of_gsm(given[place : place + size])
+        frames.append(trau_frames.octets_of(trau_frames.frame_of(control, data)))
+    return Made(b"".join(frames), f"uplink frames {len(frames)}")
+
+
+def sort_of_downlink_frame(control: str) -> str:
+    """What a frame of a downlink is, by its control bits."""
+    if control.startswith(trau_frames.SPEECH_DOWN):
+        return "speech" if control[15] == "1" else "silence"
+    return "idle" if control.startswith(trau_frames.IDLE_DOWN) else "other"
+
+
+def treated(data: str, treatment: str, source: trau_frames.RandomSource) -> Optional[str]:
+    """D1 to D260 as they are written, or None where nothing is."""
+    if treatment == "noise":
+        return trau_frames.noise(Parameters.read(data), source).bits()
+    if treatment == "quiet":
+        return trau_frames.SILENCE.bits()
+    return data if treatment == "keep" else None
+
+
+def gsm(words: argparse.Namespace, given: bytes) -> Made:
+    """Frames of libgsm, from a downlink."""
+    treatments = {"speech": "keep", "silence": words.silence, "idle": words.idle, "other": "skip"}
+    bits = trau_frames.bits_of(given)
+    source = trau_frames.RandomSource(1)
+    counts: Counter = Counter()
+    frames = []
+    outside = len(bits)
+    for frame in trau_frames.frames_of_downlink(bits):
+        outside -= len(frame)
+        sort = sort_of_downlink_frame(trau_frames.control_of(frame))
+        counts[sort] += 1
+        data = treated(trau_frames.data_of(frame), treatments[sort], source)
+        if data is not None:
+            frames.append(trau_frames.gsm_of_data(data))
+    found = " ".join(f"{sort} {counts[sort]}" for sort in treatments) + f" outside {outside}"
+    if not frames:
+        raise Refusal(f"{words.given}: no frame of a downlink that would be written: {found}")
+    return Made(b"".join(frames), f"gsm frames {len(frames)} found {found}")
+
+
+# A-law octets and samples: to a Pcm line, and from an Out line
+
+WAV_LINEAR, WAV_ALAW, WAV_EXTENSIBLE = 1, 6, 0xFFFE
+# A program that writes WAV to a pipe can't know the size and puts a great number in its place.
+WAV_LEAST_UNKNOWN_SIZE = 0x7FFF0000
+
+
+@dataclass(frozen=True)
+class Wav:
+    """The kind of a WAV file, and its data."""
+
+    tag: int
+    channels: int
+    samples_a_second: int
+    sample_bits: int
+    data: bytes
+
+
+def read_wav(name: Path, content: bytes) -> Wav:
+    """Reads a WAV file of any kind."""
+    if content[:4] != b"RIFF" or content[8:12] != b"WAVE":
+        raise Refusal(f"{name}: isn't a WAV file; raw A-law octets are taken with --raw")
+    form, place = None, 12
+    while place + 8 <= len(content):
+        chunk, size = struct.unpack_from("<4sI", content, place)
+        place += 8
+        if chunk == b"data" and size >= WAV_LEAST_UNKNOWN_SIZE:
+            size = len(content) - place
+        if place + size > len(content):
+            raise Refusal(f"{name}: this WAV file ends too early, in its part '{chunk.decode('latin-1').strip()}'")
+        if chunk == b"fmt " and size >= 16:
+            form = struct.unpack_from("<HHIIHH", content, place)
+            if form[0] == WAV_EXTENSIBLE and size >= 26:
+                form = struct.unpack_from("<H", content, place + 24) + form[1:]
+        if chunk == b"data":
+            if form is None:
+                break
+            return Wav(form[0], form[1], form[2], form[5], content[place : place + size])
+        place += size + size % 2
+    raise Refusal(f"{name}: this WAV file has no format with data behind it")
+
+
+def alaw_of_wav(name: Path, content: bytes) -> bytes:
+    """The A-law octets of a WAV file's samples."""
+    wav = read_wav(name, content)
+    kind = (wav.tag, wav.sample_bits)
+    if (wav.channels, wav.samples_a_second) != (1, SAMPLES_A_SECOND) or kind not in ((WAV_LINEAR, 16), (WAV_ALAW, 8)):
+        raise Refusal(
+            f"{name}: {wav.samples_a_second} Hz, {wav.channels} channels, {wav.sample_bits} bits, format {wav.tag}; needed is"
+            f" {SAMPLES_A_SECOND} Hz mono of 16 bits linear, or A-law; sox makes it:"
+            f" sox {name} -r {SAMPLES_A_SECOND} -c 1 -b 16 -e signed-integer NEW.wav"
+        )
+    if wav.tag == WAV_ALAW:
+        return wav.data
+    if len(wav.data) % 2:
+        raise Refusal(f"{name}: its {len(wav.data)} octets of data are no samples of 16 bits")
+    samples = array("H", wav.data)
+    if sys.byteorder == "big":
+        samples.byteswap()
+    return bytes(map(trau_frames.octets_by_sample().__getitem__, samples))
+
+
+def wav_of(tag: int, sample_bits: int, data: bytes) -> bytes:
+    """A WAV file of one channel."""
+    sample_octets = sample_bits // 8
+    form = struct.pack(
+        "<HHIIHH", tag, 1, SAMPLES_A_SECOND, SAMPLES_A_SECOND * sample_octets, sample_octets, sample_bits
+    )
+    chunks = [(b"fmt ", form)]
+    if tag != WAV_LINEAR:
+        chunks = [(b"fmt ", form + b"\0\0"), (b"fact", struct.pack("<I", len(data) // sample_octets))]
+    chunks.append((b"data", data))
+    body = b"WAVE" + b"".join(
+        struct.pack("<4sI", name, len(chunk)) + chunk + bytes(len(chunk) % 2) for name, chunk in chunks
+    )
+    return struct.pack("<4sI", b"RIFF", len(body)) + body
+
+
+def pcm(words: argparse.Namespace, given: bytes) -> Made:
+    """A Pcm line of whole periods, from a WAV file or raw A-law."""
+    octets = given if words.raw else alaw_of_wav(words.given, given)
+    if not octets:
+        raise Refusal(f"{words.given}: holds no samples")
+    padded = -len(octets) % PCM_OCTETS
+    line = octets + bytes([IDLE_OCTET]) * padded
+    return Made(line, f"pcm periods {len(line) // PCM_OCTETS} padded {padded}")
+
+
+def sound(words: argparse.Namespace, given: bytes) -> Made:
+    """A WAV file or raw A-law, from an Out line."""
+    if not given:
+        raise Refusal(f"{words.given}: holds no octets")
+    said = f"sound samples {len(given)}"
+    if words.raw:
+        return Made(given, said)
+    if words.alaw:
+        return Made(wav_of(WAV_ALAW, 8, given), said)
+    expanded = [trau_frames.expand(octet) for octet in range(256)]
+    samples = array("h", map(expanded.__getitem__, given))
+    if sys.byteorder == "big":
+        samples.byteswap()
+    return Made(wav_of(WAV_LINEAR, 16, samples.tobytes()), said)
+
+
+# Damage to an uplink
+
+FRAMES_FROM_TAF_TO_TAF = 24
+
+
+@dataclass(frozen=True)
+class Frames:
+    """Numbers of frames, as a word of the command line names them: parts `A`, `A-B` and `every:N`."""
+
+    parts: Tuple[range, ...]
+
+    @staticmethod
+    def parse(word: str) -> Frames:
+        return Frames(tuple(map(Frames.parse_part, word.split(","))))
+
+    @staticmethod
+    def parse_part(part: str) -> range:
+        found = re.fullmatch(r"(\d+)(?:-(\d+))?|every:(\d+)", part, re.ASCII)
+        if not found:
+            raise argparse.ArgumentTypeError(f"'{part}' isn't a frame A, frames A-B or every:N")
+        first, last, step = (None if number is None else int(number) for number in found.groups())
+        if step is not None:
+            if step == 0:
+                raise argparse.ArgumentTypeError(f"'{part}' names no frames")
+            return range(step - 1, sys.maxsize, step)
+        if last is not None and last < first:
+            raise argparse.ArgumentTypeError(f"'{part}' goes backwards")
+        return range(first, (first if last is None else last) + 1)
+
+    def within(self, count: int) -> Set[int]:
+        """The numbers that are named, all below `count`."""
+        numbers: Set[int] = set()
+        for part in self.parts:
+            endless = part.stop == sys.maxsize
+            if not endless and part.stop > count:
+                raise Refusal(f"there is no frame {part.stop - 1}; the uplink has frames 0 to {count - 1}")
+            numbers.update(range(part.start, count, part.step) if endless else part)
+        return numbers
+
+
+@dataclass(frozen=True)
+class AtFrame:
+    """A value for one frame, as a word `FRAME:VALUE` gives it."""
+
+    frame: int
+    value: int
+
+    @staticmethod
+    def parse(word: str, least: int, most: int) -> AtFrame:
+        found = re.fullmatch(r"(\d+):([+-]?\d+)", word, re.ASCII)
+        if not found:
+            raise argparse.ArgumentTypeError(f"'{word}' isn't FRAME:NUMBER")
+        value = int(found[2])
+        if value == 0 and least < 0 or not least <= value <= most:
+            raise argparse.ArgumentTypeError(f"'{word}': {value} isn't {least} to {most}{', or is 0' * (least < 0)}")
+        return AtFrame(int(found[1]), value)
+
+
+def slip_word(word: str) -> AtFrame:
+    return AtFrame.parse(word, -FRAME_BITS, FRAME_BITS)
+
+
+def align_word(word: str) -> AtFrame:
+    return AtFrame.parse(word, 0, 63)
+
+
+def lost(frame: str) -> str:
+    """A speech frame, marked as unusable."""
+    control = replace(SpeechControl.read(trau_frames.control_of(frame)), bad=True, silence=0)
+    return trau_frames.frame_of(control.bits(), trau_frames.data_of(frame))
+
+
+def paused(frame: str, number: int, begins: bool) -> str:
+    """A speech frame's place in a pause: a silence descriptor where the pause begins and where TAF is 1, else unusable."""
+    taf = number % FRAMES_FROM_TAF_TO_TAF == FRAMES_FROM_TAF_TO_TAF - 1
+    describes = begins or taf
+    control = replace(
+        SpeechControl.read(trau_frames.control_of(frame)), bad=not describes, silence=2 if describes else 0, taf=taf
+    )
+    data = trau_frames.data_of(frame)
+    if describes:
+        data = trau_frames.silence_descriptor(Parameters.read(data)).bits()
+    return trau_frames.frame_of(control.bits(), data)
+
+
+def aligned(frame: str, field: int) -> str:
+    """A frame with another alignment field, which is C6 to C11."""
+    return frame[:22] + f"{field:06b}" + frame[28:]
+
+
+class Uplink:
+    """The frames of an uplink, by the numbers of the search's yields, with the bits before each."""
+
+    def __init__(self, name: Path, octets: bytes) -> None:
+        bits = trau_frames.bits_of(octets)
+        yields = list(trau_frames.search(bits))
+        if not yields:
+            raise Refusal(f"{name}: no frame found")
+        self.sorts = [each.sort() for each in yields]
+        self.before: List[str] = []
+        self.frames: List[str] = []
+        place = 0
+        for each in yields:
+            self.before.append(bits[place : each.place])
+            place = each.place + FRAME_BITS
+            self.frames.append(bits[each.place : place])
+        self.rest = bits[place:]
+
+    def is_speech(self, number: int) -> bool:
+        """Whether a yield is a speech frame, of whatever class."""
+        return self.sorts[number] in (Sort.GOOD, Sort.SID, Sort.INVALID, Sort.BAD)
+
+    def has_field(self, number: int) -> bool:
+        """Whether a yield is a frame that has an alignment field."""
+        return self.is_speech(number) or self.sorts[number] is Sort.IDLE
+
+    def slip(self, number: int, bits: int) -> None:
+        """Puts ones before a frame, or leaves out the last bits that stand there."""
+        if bits > 0:
+            self.before[number] += bits * "1"
+            return
+        kept = len(self.before[number]) + bits
+        if kept >= 0:
+            self.before[number] = self.before[number][:kept]
+        elif number > 0:
+            self.before[number] = ""
+            self.frames[number - 1] = self.frames[number - 1][:kept]
+        else:
+            raise Refusal(f"there are no {-bits} bits before frame 0 to leave out")
+
+    def bits(self) -> str:
+        """The bits of the line."""
+        return "".join(before + frame for before, frame in zip(self.before, self.frames)) + self.rest
+
+
+def damage(words: argparse.Namespace, given: bytes) -> Made:
+    """An uplink with damages of the kinds that the options name."""
+    line = Uplink(words.given, given)
+    count = len(line.frames)
+
+    def named(option: Optional[Frames]) -> Set[int]:
+        return set() if option is None else {number for number in option.within(count) if line.is_speech(number)}
+
+    pause, drop, zero = named(words.sid), named(words.drop), named(words.zero)
+    for number in pause:
+        line.frames[number] = paused(line.frames[number], number, number - 1 not in pause)
+    for number in drop:
+        line.frames[number] = lost(line.frames[number])
+    for number in zero:
+        line.frames[number] = FRAME_BITS * "0"
+
+    for change in (*words.align, *words.slip):
+        if change.frame >= count:
+            raise Refusal(f"there is no frame {change.frame}; the uplink has frames 0 to {count - 1}")
+    for align in words.align:
+        if align.frame in zero or not line.has_field(align.frame):
+            raise Refusal(f"frame {align.frame} has no alignment field")
+        line.frames[align.frame] = aligned(line.frames[align.frame], align.value)
+    for slip in words.slip:
+        line.slip(slip.frame, slip.value)
+
+    bits = line.bits()
+    if words.slip:
+        bits += -len(bits) % FRAME_BITS * "1"
+    said = f"sid {len(pause)} drop {len(drop)} zero {len(zero)} align {len(words.align)} slip {len(words.slip)}"
+    return Made(trau_frames.octets_of(bits), f"damage frames {count} {said}")
+
+
+# The words of the command line
+
+
+def parser() -> argparse.ArgumentParser:
+    """The parser of the words."""
+    program = trau_frames.Words(
+        description=__doc__, formatter_class=argparse.RawDescriptionHelpFormatter, allow_abbrev=False
+    )
+    commands = program.add_subparsers(metavar="COMMAND", required=True, parser_class=trau_frames.Words)
+
+    def command(made, given: str, new: str, told: str, example: str) -> argparse.ArgumentParser:
+        """A command that is carried out by `made`, from a file of the kind `given` to one of the kind `new`."""
+        added = commands.add_parser(
+            made.__name__,
+            help=f"{given} to {new}",
+            description=told,
+            epilog=f"example: lines.py {made.__name__} {example}",
+            formatter_class=argparse.RawDescriptionHelpFormatter,
+            allow_abbrev=False,
+        )
+        added.set_defaults(made=made)
+        added.add_argument("given", type=Path, metavar=given, help="the file that is read")
+        added.add_argument("new", type=Path, metavar=new, help="the file that is written, never the one that is read")
+        return added
+
+    added = command(
+        uplink,
+        "IN.gsm",
+        "OUT.up",
+        "Makes an uplink of good speech frames from frames of libgsm, of 33 octets each, as toast, sox and ffmpeg write them\n"
+        "to .gsm files. Says `uplink frames N`.",
+        "call.gsm 7.up --dtxd 1",
+    )
+    added.add_argument(
+        "--dtxd",
+        type=int,
+        choices=(0, 1),
+        default=0,
+        help="DTXd of all frames: whether the downlink may send silence descriptors (default 0, it may not)",
+    )
+
+    added = command(
+        gsm,
+        "IN.down",
+        "OUT.gsm",
+        "Finds the frames of a downlink at any bit, and writes their speech as frames of libgsm, which untoast, sox and\n"
+        "ffmpeg decode. Says `gsm frames N found speech A silence B idle C other D outside E`: the frames that were\n"
+        "written, those of each kind that were found, and the bits that belong to no frame.",
+        "7.down call.gsm --idle quiet",
+    )
+    added.add_argument(
+        "--silence",
+        choices=("noise", "quiet", "keep", "skip"),
+        default="noise",
+        help="what is written for a silence descriptor (SP 0), which a decoder of speech would turn into a loud buzz: a"
+        " frame of comfort noise made of it (default), a frame of silence, its bits as they are, or nothing",
+    )
+    added.add_argument(
+        "--idle",
+        choices=("skip", "quiet"),
+        default="skip",
+        help="what is written for an idle frame: nothing (default), or a frame of silence, which keeps the time",
+    )
+
+    added = command(
+        pcm,
+        "IN",
+        "OUT.pcm",
+        "Makes a Pcm line from a WAV file of 8000 Hz, mono, 16 bits linear or A-law, or from raw A-law. The last period is\n"
+        "filled up with the idle octet D5. Says `pcm periods N padded R`, R being the number of these octets.",
+        "call.wav 7.pcm",
+    )
+    added.add_argument("--raw", action="store_true", help="the file has A-law octets and nothing else")
+
+    added = command(
+        sound,
+        "IN.out",
+        "OUT",
+        "Makes a WAV file of 8000 Hz, mono, 16 bits linear from an Out line, or from a Pcm line. Says `sound samples N`.",
+        "7.out call.wav",
+    )
+    kind = added.add_mutually_exclusive_group()
+    kind.add_argument("--alaw", action="store_true", help="the samples of the WAV file are A-law, as on the line")
+    kind.add_argument("--raw", action="store_true", help="A-law octets and nothing else")
+
+    added = command(
+        damage,
+        "IN.up",
+        "OUT.up",
+        "Damages an uplink. Its frames, and the misses, are numbered from 0 as the search for frames yields them. FRAMES\n"
+        "are parts with commas between: a frame A, frames A-B, every:N (the Nth, the 2Nth and so on, thus N-1, 2N-1, ..).\n"
+        "The damages are done in the order of the options below. Frames that --sid, --drop and --zero name and that aren't\n"
+        "speech frames stay as they are. Says `damage frames N sid A drop B zero C align D slip E`: how many frames there\n"
+        "are, and how many changes of each kind were made.",
+        "7.up 8.up --sid 100-160 --drop 20-22,every:50 --slip 200:-3",
+    )
+    added.add_argument(
+        "--sid",
+        type=Frames.parse,
+        metavar="FRAMES",
+        help="put a pause in the place of speech frames: a silence descriptor at its start and at each 24th frame (23, 47"
+        " and so on), which has TAF 1, and unusable frames between. A descriptor has the spectrum of the frame that it"
+        " replaces, and the least of its block maxima",
+    )
+    added.add_argument("--drop", type=Frames.parse, metavar="FRAMES", help="mark speech frames as unusable: BFI 1")
+    added.add_argument("--zero", type=Frames.parse, metavar="FRAMES", help="put 320 zeros in the place of speech frames")
+    added.add_argument(
+        "--align",
+        type=align_word,
+        action="append",
+        default=[],
+        metavar="FRAME:FIELD",
+        help="set the alignment field, 0 to 63, of a speech frame or an idle frame; may stand more than once",
+    )
+    added.add_argument(
+        "--slip",
+        type=slip_word,
+        action="append",
+        default=[],
+        metavar="FRAME:BITS",
+        help="put so many ones before a frame or, with a minus, leave out so many bits before it, up to 320; may stand more"
+        " than once. Ones then fill the line up to a whole period",
+    )
+    return program
+
+
+def main(words: Sequence[str]) -> int:
+    asked = parser().parse_args(words)
+    try:
+        made = asked.made(asked, trau_frames.read_file(asked.given))
+        trau_frames.write_file(asked.new, made.content, [asked.given])
+    except Refusal as refusal:
+        print(f"lines.py: {refusal}", file=sys.stderr)
+        return 2
+    print(made.said)
+    return 0
+
+
+if __name__ == "__main__":
+    sys.exit(main(sys.argv[1:]))
