@@ -1,8 +1,8 @@
 #!/usr/bin/env python3
 """Makes recorded lines of what people have, and back: speech frames of libgsm, WAV files and raw A-law; and damages uplinks.
 
-Every command reads one file and writes another, and says in one line on standard output what it did. What it doesn't take gets
-one line on standard error and status 2, and then nothing is written.
+Every command reads one file and writes another, and says in one line on standard output what it did. What it doesn't
+take gets one line on standard error and status 2, and then nothing is written.
 """
 
 from __future__ import annotations
@@ -386,8 +386,8 @@ def parser() -> argparse.ArgumentParser:
         uplink,
         "IN.gsm",
         "OUT.up",
-        "Makes an uplink of good speech frames from frames of libgsm, of 33 octets each, as toast, sox and ffmpeg write them\n"
-        "to .gsm files. Says `uplink frames N`.",
+        "Makes an uplink of good speech frames from frames of libgsm, of 33 octets each, as toast, sox and ffmpeg write\n"
+        "them to .gsm files. Says `uplink frames N`.",
         "call.gsm 7.up --dtxd 1",
     )
     added.add_argument(

@@ -155,9 +155,9 @@ def frames_of_downlink(bits: str) -> Iterator[str]:
     return (found.group() for found in FRAME_OF_DOWNLINK.finditer(bits))
 
 
-# The parameters of a frame, in the standard's order: eight codes of log area ratios, then for each of four blocks the lag, its
-# gain, the grid position, the block maximum and thirteen pulses. D1 to D260 carry each least significant bit first; the 33
-# octets of libgsm carry the four bits of 0xD and then each most significant bit first.
+# The parameters of a frame, in the standard's order: eight codes of log area ratios, then for each of four blocks the lag,
+# its gain, the grid position, the block maximum and thirteen pulses. D1 to D260 carry each least significant bit first; the
+# 33 octets of libgsm carry the four bits of 0xD and then each most significant bit first.
 
 RATIO_WIDTHS = (6, 6, 5, 5, 4, 4, 3, 3)
 BLOCK_WIDTHS = (7, 2, 2, 6) + 13 * (3,)
