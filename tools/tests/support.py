@@ -1,0 +1,52 @@
+"""What the tests of the tools share: the repository's folders, a tool's run, and a folder of its own for each test."""
+
+import contextlib
+import io
+import sys
+import tempfile
+import unittest
+from pathlib import Path
+
+TOOLS = Path(__file__).resolve().parents[1]
+TOP = TOOLS.parent
+EXAMPLES = TOP / "examples"
+CODEC = TOP / "crates" / "codec_vectors" / "data"
+DATA = TOOLS / "tests" / "data"
+
+sys.path.insert(0, str(TOOLS))
+
+
+class InFolder(unittest.TestCase):
+    """A test with an empty folder of its own."""
+
+    def setUp(self):
+        folder = tempfile.TemporaryDirectory()
+        self.addCleanup(folder.cleanup)
+        self.folder = Path(folder.name)
+
+    def path(self, name, content=None):
+        """A file of the folder, with this content if any."""
+        path = self.folder / name
+        if content is not None:
+            path.write_bytes(content)
+        return path
+
+    def run_tool(self, main, *words):
+        """The status of a tool, and what it said on standard output and standard error."""
+        out, err = io.StringIO(), io.StringIO()
+        with contextlib.redirect_stdout(out), contextlib.redirect_stderr(err):
+            try:
+                status = main([str(word) for word in words])
+            except SystemExit as end:
+                status = end.code
+        return status, out.getvalue(), err.getvalue()
+
+    def assert_refused(self, main, words, part):
+        """The tool has status 2, says one line with this part on standard error, and changes no file."""
+        before = {path: path.read_bytes() for path in self.folder.iterdir() if path.is_file()}
+        status, out, err = self.run_tool(main, *words)
+        self.assertEqual((status, out), (2, ""), err)
+        self.assertIn(part, err)
+        self.assertEqual((err.count("\n"), err[-1]), (1, "\n"), err)
+        after = {path: path.read_bytes() for path in self.folder.iterdir() if path.is_file()}
+        self.assertEqual(before, after)

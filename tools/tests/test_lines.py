@@ -1,0 +1,385 @@
+"""Tests of lines.py: frames of libgsm, WAV and A-law to lines and back, damaged uplinks, and what is refused."""
+
+import os
+import struct
+import subprocess
+import sys
+import unittest
+from collections import Counter
+
+import support
+from support import CODEC, DATA, EXAMPLES, InFolder
+
+import lines
+import trau_frames
+from trau_frames import SpeechControl
+
+
+def yields(octets):
+    """The yields of an uplink, as places with words."""
+    return [(each.place, each.sort().value) for each in trau_frames.search(trau_frames.bits_of(octets))]
+
+
+def control_bits(octets):
+    """The control bits of each frame of an aligned uplink."""
+    bits = trau_frames.bits_of(octets)
+    frames = (bits[place : place + 320] for place in range(0, len(bits), 320))
+    return [SpeechControl.read(trau_frames.control_of(frame)) for frame in frames]
+
+
+def downlink(frames, sp="1"):
+    """The bits of a downlink of speech frames with these data bits."""
+    return "".join(trau_frames.frame_of("11100" + "000000" + "1111" + sp + "11111", data) for data in frames)
+
+
+def data_of_uplink(octets):
+    return [trau_frames.data_of(each.frame) for each in trau_frames.search(trau_frames.bits_of(octets))]
+
+
+class Alaw(unittest.TestCase):
+    def test_compress(self):
+        octets = trau_frames.octets_by_sample()
+        wanted = (CODEC / "alaw_compress.bin").read_bytes()
+        self.assertEqual(bytes(octets[sample % 65536] for sample in range(-32768, 32768)), wanted)
+
+    def test_expand(self):
+        wanted = [int(line) for line in (CODEC / "alaw_expand.txt").read_text().split()]
+        self.assertEqual([trau_frames.expand(octet) for octet in range(256)], wanted)
+
+
+class Frames(InFolder):
+    def lines(self, *words):
+        status, out, err = self.run_tool(lines.main, *words)
+        self.assertEqual((status, err), (0, ""))
+        return out
+
+    def test_uplink_of_frames_by_toast(self):
+        # toast made the frames of the first 40 periods of speech whose uplink is examples/7.up.
+        said = self.lines("uplink", DATA / "speech.gsm", self.path("7.up"))
+        self.assertEqual(said, "uplink frames 40\n")
+        self.assertEqual(self.path("7.up").read_bytes(), (EXAMPLES / "7.up").read_bytes()[:1600])
+
+    def test_dtxd(self):
+        self.lines("uplink", DATA / "speech.gsm", self.path("7.up"), "--dtxd", "1")
+        self.assertEqual(set(control_bits(self.path("7.up").read_bytes())), {SpeechControl(dtxd=True)})
+
+    def test_frames_of_a_downlink_at_any_bit(self):
+        frames = data_of_uplink((EXAMPLES / "7.up").read_bytes()[:1600])
+        for shift in (0, 1, 5, 63, 319, 320):
+            bits = "1" * shift + downlink(frames)
+            bits += "1" * (-len(bits) % 8)
+            self.path("7.down", trau_frames.octets_of(bits))
+            said = self.lines("gsm", self.path("7.down"), self.path("7.gsm"))
+            outside = shift + -(shift + 40 * 320) % 8
+            self.assertEqual(said, f"gsm frames 40 found speech 40 silence 0 idle 0 other 0 outside {outside}\n")
+            self.assertEqual(self.path("7.gsm").read_bytes(), (DATA / "speech.gsm").read_bytes())
+
+    def test_frames_around_shifts_of_the_timing(self):
+        # A frame without its time bits, and one with ones behind it, as the downlink's shifts of -2 and 39 octets leave them.
+        frames = data_of_uplink((EXAMPLES / "7.up").read_bytes()[:1600])
+        each = [downlink([data]) for data in frames]
+        each[7] = each[7][:316]
+        each[20] += 78 * "1"
+        bits = "".join(each)
+        self.path("7.down", trau_frames.octets_of(bits + "1" * (-len(bits) % 8)))
+        self.lines("gsm", self.path("7.down"), self.path("7.gsm"))
+        self.assertEqual(self.path("7.gsm").read_bytes(), (DATA / "speech.gsm").read_bytes())
+
+    def test_downlinks_of_a_run(self):
+        # The downlinks of the worked run, with DTX, shifts and bridges: each made frame is found, and each is a frame or
+        # the tail of one that the line's end cut.
+        found = {}
+        for call in (1, 2, 3, 4):
+            said = self.lines("gsm", EXAMPLES / "farm" / "wanted" / f"{call}.down", self.path("x.gsm"), "--idle", "quiet")
+            words = said.split()
+            found[call] = dict(zip(words[4::2], map(int, words[5::2])))
+            self.assertEqual(len(self.path("x.gsm").read_bytes()), 33 * int(words[2]))
+            self.assertEqual(int(words[2]), sum(found[call][kind] for kind in ("speech", "silence", "idle")))
+        report = (EXAMPLES / "farm" / "wanted" / "report.txt").read_text().splitlines()
+        for line in report:
+            words = line.split()
+            if words[0] == "counts":
+                frames = sum(found[int(words[1])][kind] for kind in ("speech", "silence", "idle", "other"))
+                self.assertIn(int(words[-1]) - frames, (0, 1, 2))
+
+    def test_silence_descriptors(self):
+        descriptor = trau_frames.silence_descriptor(trau_frames.SILENCE).bits()
+        speech = trau_frames.data_of_gsm((DATA / "speech.gsm").read_bytes()[:33])
+        self.path("7.down", trau_frames.octets_of(downlink([speech]) + downlink([descriptor, descriptor], "0")))
+        given, new = self.path("7.down"), self.path("7.gsm")
+        made = {}
+        for treatment in ("noise", "quiet", "keep", "skip"):
+            said = self.lines("gsm", given, new, "--silence", treatment)
+            frames = 1 if treatment == "skip" else 3
+            self.assertEqual(said, f"gsm frames {frames} found speech 1 silence 2 idle 0 other 0 outside 0\n")
+            made[treatment] = [trau_frames.data_of_gsm(new.read_bytes()[at : at + 33]) for at in range(0, 33 * frames, 33)]
+            self.assertEqual(made[treatment][0], speech)
+        self.assertEqual(made["keep"][1:], [descriptor, descriptor])
+        self.assertEqual(made["quiet"][1:], 2 * [trau_frames.SILENCE.bits()])
+        first, second = map(trau_frames.Parameters.read, made["noise"][1:])
+        self.assertNotEqual(first, second)
+        self.assertEqual(first.ratios, trau_frames.SILENCE.ratios)
+        self.assertEqual([block.lag for block in first.blocks], [40, 120, 40, 120])
+        self.assertEqual({block.maximum for block in first.blocks}, {0})
+        self.assertLessEqual({pulse for block in first.blocks for pulse in block.pulses}, set(range(1, 7)))
+        self.lines("gsm", given, new)
+        self.assertEqual(trau_frames.data_of_gsm(new.read_bytes()[33:66]), made["noise"][1])
+
+    def test_idle_frames(self):
+        idle = trau_frames.frame_of("01110" + "000000" + "1111" + "1" + "11111", 260 * "1")
+        speech = downlink(data_of_uplink((EXAMPLES / "7.up").read_bytes()[:40]))
+        self.path("7.down", trau_frames.octets_of(idle + speech + idle))
+        said = self.lines("gsm", self.path("7.down"), self.path("7.gsm"))
+        self.assertEqual(said, "gsm frames 1 found speech 1 silence 0 idle 2 other 0 outside 0\n")
+        said = self.lines("gsm", self.path("7.down"), self.path("7.gsm"), "--idle", "quiet")
+        self.assertEqual(said, "gsm frames 3 found speech 1 silence 0 idle 2 other 0 outside 0\n")
+
+    def test_refused(self):
+        speech = (DATA / "speech.gsm").read_bytes()
+        new = self.path("new")
+        for content, part in (
+            (b"", "0 octets are no frames of libgsm"),
+            (speech[:-1], "1319 octets are no frames"),
+            (speech[:33] + b"\x00" + speech[34:], "begins at octet 33"),
+        ):
+            self.assert_refused(lines.main, ["uplink", self.path("bad.gsm", content), new], part)
+        self.assert_refused(lines.main, ["uplink", self.path("gone.gsm"), new], "gone.gsm: No such file")
+        self.assert_refused(lines.main, ["uplink", self.folder, new], "Is a directory")
+        self.assert_refused(lines.main, ["uplink", DATA / "speech.gsm", new, "--dtxd", "2"], "--dtxd")
+        self.assert_refused(lines.main, ["uplink", DATA / "speech.gsm", self.path("no") / "new"], "No such file")
+        self.assert_refused(lines.main, ["gsm", self.path("7.up", (EXAMPLES / "7.up").read_bytes()), new], "other 312")
+        for content in (b"", b"\xff" * 4000, bytes(4000)):
+            self.assert_refused(lines.main, ["gsm", self.path("bad.down", content), new], "no frame of a downlink")
+        self.assert_refused(lines.main, ["gsm", DATA / "speech.gsm", new, "--silence", "loud"], "--silence")
+
+
+def wav(tag=1, channels=1, rate=8000, bits=16, data=b"\0\0", size=None, before=b"", form=b""):
+    """A WAV file."""
+    fmt = struct.pack("<HHIIHH", tag, channels, rate, rate * channels * bits // 8, channels * bits // 8, bits) + form
+    body = b"WAVE" + before + struct.pack("<4sI", b"fmt ", len(fmt)) + fmt
+    body += struct.pack("<4sI", b"data", len(data) if size is None else size) + data
+    return struct.pack("<4sI", b"RIFF", len(body)) + body
+
+
+class Sound(InFolder):
+    def lines(self, *words):
+        status, out, err = self.run_tool(lines.main, *words)
+        self.assertEqual((status, err), (0, ""))
+        return out
+
+    def test_every_octet_to_wav_and_back(self):
+        line = bytes(range(256)) + bytes(64)
+        out, sound, pcm = self.path("7.out", line), self.path("7.wav"), self.path("8.pcm")
+        for option, octets in (((), 44 + 640), (("--alaw",), 58 + 320)):
+            self.assertEqual(self.lines("sound", out, sound, *option), "sound samples 320\n")
+            self.assertEqual(len(sound.read_bytes()), octets)
+            self.assertEqual(self.lines("pcm", sound, pcm), "pcm periods 2 padded 0\n")
+            self.assertEqual(pcm.read_bytes(), line)
+        self.assertEqual(self.lines("sound", out, sound, "--raw"), "sound samples 320\n")
+        self.assertEqual(sound.read_bytes(), line)
+        self.assertEqual(self.lines("pcm", sound, pcm, "--raw"), "pcm periods 2 padded 0\n")
+        self.assertEqual(pcm.read_bytes(), line)
+
+    def test_every_sample(self):
+        data = struct.pack("<65536h", *range(-32768, 32768))
+        self.path("7.wav", wav(data=data))
+        self.assertEqual(self.lines("pcm", self.path("7.wav"), self.path("7.pcm")), "pcm periods 410 padded 64\n")
+        wanted = (CODEC / "alaw_compress.bin").read_bytes()
+        self.assertEqual(self.path("7.pcm").read_bytes(), wanted + 64 * b"\xd5")
+
+    def test_an_odd_number_of_octets_is_padded_in_wav(self):
+        self.lines("sound", self.path("7.out", b"\xd5\x55\x2a"), self.path("7.wav"), "--alaw")
+        content = self.path("7.wav").read_bytes()
+        self.assertEqual(len(content) % 2, 0)
+        self.assertEqual(struct.unpack_from("<I", content, 4)[0], len(content) - 8)
+        self.lines("pcm", self.path("7.wav"), self.path("7.pcm"))
+        self.assertEqual(self.path("7.pcm").read_bytes(), b"\xd5\x55\x2a" + 157 * b"\xd5")
+
+    def test_kinds_of_wav(self):
+        samples = struct.pack("<4h", 0, -1, 16, 32767)
+        other = struct.pack("<4sI", b"LIST", 3) + b"abc\0"
+        extensible = struct.pack("<HHI", 22, 16, 4) + struct.pack("<H", 1) + b"\0" * 14
+        for content in (
+            wav(data=samples),
+            wav(data=samples, before=other),
+            wav(data=samples, size=0xFFFFFFFF),
+            wav(data=samples, size=0x7FFFF000),
+            wav(data=samples, tag=0xFFFE, form=extensible),
+            wav(data=samples) + other,
+        ):
+            self.lines("pcm", self.path("7.wav", content), self.path("7.pcm"))
+            self.assertEqual(self.path("7.pcm").read_bytes()[:4], b"\xd5\x55\xd4\xaa")
+
+    def test_refused(self):
+        new = self.path("new")
+        for content, part in (
+            (wav(rate=44100), "44100 Hz, 1 channel"),
+            (wav(channels=2), "-r 8000 -c 1 -b 16 -e signed-integer"),
+            (wav(bits=8), "8 bits, format 1; needed is 8000 Hz mono"),
+            (wav(tag=7, bits=8), "format 7"),
+            (wav(tag=3, bits=32), "format 3"),
+            (wav(data=b"abc"), "3 octets of data"),
+            (wav(data=b""), "holds no samples"),
+            (wav(size=9), "ends too early, in its part 'data'"),
+            (wav()[:40], "no format with data"),
+            (b"RIFX" + wav()[4:], "isn't a WAV file"),
+            (b"", "isn't a WAV file"),
+            (8000 * b"\xd5", "raw A-law octets are taken with --raw"),
+        ):
+            self.assert_refused(lines.main, ["pcm", self.path("bad.wav", content), new], part)
+        self.assert_refused(lines.main, ["pcm", self.path("empty", b""), new, "--raw"], "holds no samples")
+        self.assert_refused(lines.main, ["sound", self.path("empty"), new], "holds no octets")
+        self.assert_refused(lines.main, ["sound", self.path("7.out", b"\xd5"), new, "--raw", "--alaw"], "not allowed")
+
+
+class Damage(InFolder):
+    def setUp(self):
+        super().setUp()
+        self.line = (EXAMPLES / "7.up").read_bytes()[:4000]
+        self.up = self.path("7.up", self.line)
+
+    def damaged(self, *words):
+        """What the tool said, and the line that it made."""
+        status, out, err = self.run_tool(lines.main, "damage", self.up, self.path("8.up"), *words)
+        self.assertEqual((status, err), (0, ""))
+        return out, self.path("8.up").read_bytes()
+
+    def test_nothing(self):
+        said, line = self.damaged()
+        self.assertEqual(said, "damage frames 100 sid 0 drop 0 zero 0 align 0 slip 0\n")
+        self.assertEqual(line, self.line)
+
+    def test_drop(self):
+        said, line = self.damaged("--drop", "3,10-12,every:40")
+        self.assertEqual(said, "damage frames 100 sid 0 drop 6 zero 0 align 0 slip 0\n")
+        bad = [place // 320 for place, word in yields(line) if word == "bad"]
+        self.assertEqual(bad, [3, 10, 11, 12, 39, 79])
+        self.assertEqual(data_of_uplink(line), data_of_uplink(self.line))
+
+    def test_zero(self):
+        said, line = self.damaged("--zero", "5-6,20-22,99")
+        self.assertEqual(said, "damage frames 100 sid 0 drop 0 zero 6 align 0 slip 0\n")
+        missed = [place // 320 for place, word in yields(line) if word == "miss"]
+        self.assertEqual(missed, [5, 6, 20, 21, 22, 99])
+        self.assertEqual(line[5 * 40 : 7 * 40], bytes(80))
+
+    def test_pause(self):
+        said, line = self.damaged("--sid", "10-80,90")
+        self.assertEqual(said, "damage frames 100 sid 72 drop 0 zero 0 align 0 slip 0\n")
+        found = yields(line)
+        descriptors = [10, 23, 47, 71, 90]
+        self.assertEqual([place // 320 for place, word in found if word == "sid"], descriptors)
+        self.assertEqual(Counter(word for _, word in found), {"good": 28, "sid": 5, "bad": 67})
+        controls = control_bits(line)
+        self.assertEqual([number for number, control in enumerate(controls) if control.taf], [23, 47, 71])
+        for number in descriptors:
+            speech = trau_frames.Parameters.read(data_of_uplink(self.line)[number])
+            noise = trau_frames.Parameters.read(data_of_uplink(line)[number])
+            self.assertEqual(noise.ratios, speech.ratios)
+            self.assertEqual({block.maximum for block in noise.blocks}, {min(block.maximum for block in speech.blocks)})
+            self.assertEqual({block.pulses for block in noise.blocks}, {13 * (0,)})
+
+    def test_one_upon_another(self):
+        # A descriptor that is lost, and a lost frame in whose place there are zeros.
+        _, line = self.damaged("--sid", "10-30", "--drop", "23,50", "--zero", "50")
+        found = dict(yields(line))
+        self.assertEqual([found[320 * number] for number in (10, 22, 23, 50)], ["sid", "bad", "bad", "miss"])
+
+    def test_align(self):
+        said, line = self.damaged("--align", "7:39", "--align", "9:63", "--drop", "9")
+        self.assertEqual(said, "damage frames 100 sid 0 drop 1 zero 0 align 2 slip 0\n")
+        fields = {number: control.align for number, control in enumerate(control_bits(line)) if control.align}
+        self.assertEqual(fields, {7: 39, 9: 63})
+
+    def test_slips(self):
+        for bits in (1, 7, 8, 319, 320, -1, -3, -8, -320):
+            said, line = self.damaged("--slip", f"50:{bits}")
+            self.assertEqual(said, "damage frames 100 sid 0 drop 0 zero 0 align 0 slip 1\n")
+            self.assertEqual(len(line), 4040 if bits > 0 else 3960 if bits == -320 else 4000)
+            found = yields(line)
+            place = 50 * 320 + bits
+            if abs(bits) == 320:
+                self.assertEqual([word for _, word in found].count("good"), 100 + min(bits, 0) // 320)
+                continue
+            # Three misses after the frames before the slip, and then the fourth frame behind it, or the fifth.
+            good = [at for at, word in found if word == "good"]
+            missed = [at // 320 for at, word in found if word == "miss"]
+            self.assertEqual(missed, [50, 51, 52] if bits > -16 else [49, 50, 51])
+            later = [at for at in good if at >= 16000]
+            self.assertEqual(later, list(range(place + (3 if bits > 0 else 4) * 320, place + 50 * 320, 320)))
+
+    def test_two_slips_of_a_line_that_begins_at_any_bit(self):
+        bits = "1" * 13 + trau_frames.bits_of(self.line)
+        self.up.write_bytes(trau_frames.octets_of(bits + "1" * (-len(bits) % 8)))
+        _, line = self.damaged("--slip", "0:5", "--slip", "60:-2")
+        good = [place for place, word in yields(line) if word == "good"]
+        self.assertEqual((good[0], good[59], good[60]), (18, 18 + 59 * 320, 18 - 2 + 64 * 320))
+
+    def test_frames_that_are_no_speech_stay(self):
+        idle = trau_frames.frame_of("10000" + "000000" + "100011" + "1111", 260 * "1")
+        self.up.write_bytes(trau_frames.octets_of(idle) + self.line[:80] + bytes(40) + self.line[80:160])
+        said, line = self.damaged("--drop", "0-5", "--align", "0:62")
+        self.assertEqual(said, "damage frames 6 sid 0 drop 4 zero 0 align 1 slip 0\n")
+        self.assertEqual([word for _, word in yields(line)], ["idle", "bad", "bad", "miss", "bad", "bad"])
+        self.assertEqual(control_bits(line)[0].align, 62)
+
+    def test_refused(self):
+        new = self.path("new")
+        for words, part in (
+            (["--drop", "100"], "no frame 100; the uplink has frames 0 to 99"),
+            (["--drop", "5-100"], "no frame 100"),
+            (["--drop", "9-5"], "goes backwards"),
+            (["--drop", "5,"], "'' isn't a frame"),
+            (["--drop", "x"], "'x' isn't a frame"),
+            (["--zero", "every:0"], "names no frames"),
+            (["--sid", "-3"], "argument"),
+            (["--align", "5:64"], "64 isn't 0 to 63"),
+            (["--align", "5"], "isn't FRAME:NUMBER"),
+            (["--align", "100:5"], "no frame 100"),
+            (["--align", "5:5", "--zero", "5"], "frame 5 has no alignment field"),
+            (["--slip", "5:0"], "0 isn't"),
+            (["--slip", "5:321"], "321 isn't"),
+            (["--slip", "100:1"], "no frame 100"),
+            (["--slip", "0:-1"], "no 1 bits before frame 0"),
+            (["--slips", "5:1"], "unrecognized"),
+        ):
+            self.assert_refused(lines.main, ["damage", self.up, new, *words], part)
+        self.assert_refused(lines.main, ["damage", self.path("ones.up", b"\xff" * 400), new, "--drop", "0"], "no frame found")
+
+
+class TheFileThatIsWritten(InFolder):
+    def test_never_the_input(self):
+        up = self.path("7.up", (EXAMPLES / "7.up").read_bytes())
+        os.symlink(up, self.path("link.up"))
+        os.link(up, self.path("hard.up"))
+        for name in ("7.up", "link.up", "hard.up", "../" + self.folder.name + "/7.up"):
+            self.assert_refused(lines.main, ["damage", up, self.folder / name, "--drop", "5"], "is an input")
+
+    def test_only_a_file(self):
+        self.assert_refused(lines.main, ["uplink", DATA / "speech.gsm", self.folder], "isn't a file")
+        self.assert_refused(lines.main, ["uplink", DATA / "speech.gsm", "/dev/null"], "isn't a file")
+
+    def test_replaces_an_older_one(self):
+        new = self.path("7.up", b"old")
+        self.run_tool(lines.main, "uplink", DATA / "speech.gsm", new)
+        self.assertEqual(len(new.read_bytes()), 1600)
+        self.assertEqual([path.name for path in self.folder.iterdir()], ["7.up"])
+
+    def test_words(self):
+        self.assert_refused(lines.main, [], "required")
+        self.assert_refused(lines.main, ["upline"], "upline")
+        self.assert_refused(lines.main, ["uplink", DATA / "speech.gsm"], "OUT.up")
+
+    def test_as_a_program(self):
+        tool = support.TOOLS / "lines.py"
+        for words in ([], ["uplink"], ["gsm"], ["pcm"], ["sound"], ["damage"]):
+            ended = subprocess.run([sys.executable, tool, *words, "--help"], capture_output=True, text=True)
+            self.assertEqual((ended.returncode, ended.stderr), (0, ""))
+            self.assertIn("example: lines.py" if words else "COMMAND", ended.stdout)
+        ended = subprocess.run([sys.executable, tool, "uplink", "gone", "new"], capture_output=True, text=True)
+        self.assertEqual((ended.returncode, ended.stdout), (2, ""))
+        self.assertEqual(ended.stderr, "lines.py: gone: No such file or directory\n")
+
+
+if __name__ == "__main__":
+    unittest.main()
