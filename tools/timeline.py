@@ -158,8 +158,9 @@ def take_report_line(report: Report, line: str) -> None:
 
 
 def text_of(name: Path) -> List[str]:
-    """The lines of a text."""
-    return trau_frames.read_file(name).decode("utf-8", "replace").splitlines()
+    """The lines of a text, each ended by LF, which the last may lack."""
+    lines = trau_frames.read_file(name).decode("utf-8", "replace").split("\n")
+    return lines if lines[-1] else lines[:-1]
 
 
 def read_orders(name: Path, report: Report) -> List[Order]:

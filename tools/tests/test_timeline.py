@@ -1,0 +1,211 @@
+"""Tests of timeline.py: its search against the reports of three recorded farms, its shifts against their downlinks, the
+picture, and what is refused."""
+
+import re
+import shutil
+import unittest
+import xml.etree.ElementTree as ElementTree
+from collections import Counter
+from pathlib import Path
+
+from support import CODEC, EXAMPLES, TOP, InFolder
+
+import timeline
+import trau_frames
+
+SVG = "{http://www.w3.org/2000/svg}"
+
+
+def lay(name, folder):
+    """Lays a recorded farm into a folder, as checks/farms.sh does: incoming lines, orders, downlinks and the report."""
+    sources = [TOP / "checks" / "farms" / name]
+    if name == "mixed":
+        sources = [EXAMPLES / "farm", EXAMPLES / "farm" / "wanted"]
+    if name == "clean":
+        sources.append(TOP / "crates" / "call_vectors" / "data")
+    for source in sources:
+        for file in source.iterdir():
+            if re.fullmatch(r"\d+\.(up|pcm|down)|orders\.txt|report\.txt", file.name):
+                shutil.copyfile(file, folder / file.name)
+    if name == "harsh":
+        for call in range(1, 6):
+            shutil.copyfile(CODEC / f"farm-{call}.up", folder / f"{call}.up")
+        shutil.copyfile(CODEC / "farm-report.txt", folder / "report.txt")
+
+
+class Farms(InFolder):
+    def runs(self):
+        for name in ("mixed", "clean", "harsh"):
+            folder = self.folder / name
+            folder.mkdir()
+            lay(name, folder)
+            with self.subTest(name):
+                yield name, folder, timeline.Run.read(folder, folder / "orders.txt", folder / "report.txt")
+
+    def test_counts(self):
+        calls = {}
+        for name, folder, run in self.runs():
+            report = (folder / "report.txt").read_text()
+            for call in run.calls:
+                sorts = Counter(call.sorts())
+                made, _ = timeline.downlink_of(call, run.bridges)
+                counts = " ".join(f"{sort.value} {sorts[sort]}" for sort in trau_frames.Sort)
+                self.assertIn(f"\ncounts {call.number} {counts} made {made}\n", report)
+            calls[name] = len(run.calls)
+        self.assertEqual(calls, {"mixed": 4, "clean": 4, "harsh": 5})
+
+    def test_shifts_are_those_of_the_downlinks(self):
+        # Between the starts of two frames of a downlink there are 320 bits, and two more for each octet of the shift.
+        seen = Counter()
+        for _, folder, run in self.runs():
+            for call in run.calls:
+                bits = trau_frames.bits_of((folder / f"{call.number}.down").read_bytes())
+                starts = [found.start() for found in trau_frames.FRAME_OF_DOWNLINK.finditer(bits)]
+                shifts = [(after - before - 320) // 2 for before, after in zip(starts, starts[1:])]
+                wanted = [shift for shift in shifts if shift]
+                octets = [shift.octets for shift in call.shifts]
+                self.assertEqual(octets[: len(wanted)], wanted)
+                self.assertLessEqual(len(octets) - len(wanted), 1)
+                seen.update(wanted)
+        self.assertGreater(seen[2], 0)
+        self.assertGreater(seen[-2], 0)
+        self.assertGreater(max(seen), 2)
+
+    def test_pictures(self):
+        for name, folder, run in self.runs():
+            picture = folder / "run.svg"
+            status, out, err = self.run_tool(timeline.main, folder, picture)
+            self.assertEqual((status, err), (0, ""))
+            self.assertRegex(out, rf"^timeline calls {len(run.calls)} from 0 to \d+ bridges {len(run.bridges)} shifts")
+            self.check_picture(run, ElementTree.parse(picture).getroot())
+
+    def check_picture(self, run, root):
+        titles = [title.text for title in root.iter(f"{SVG}title")]
+        texts = [text.text for text in root.iter(f"{SVG}text")]
+        for call in run.calls:
+            # The runs of equal periods are the whole call, each from where the one before ends.
+            place, looks = call.start, Counter()
+            for title in titles:
+                found = re.match(rf"call {call.number} from (\d+) to (\d+) \(.*\): (.*), (\d+) periods?$", title)
+                if found:
+                    self.assertEqual(int(found[1]), place)
+                    place = int(found[2])
+                    self.assertEqual(place - int(found[1]), int(found[4]))
+                    looks[found[3]] += int(found[4])
+            self.assertEqual(place, call.end)
+            unusable = looks[timeline.Look.BAD.words] + looks[timeline.Look.PAUSE.words]
+            self.assertEqual(unusable, call.counts["bad"])
+            for look in timeline.Look:
+                if look not in (timeline.Look.BAD, timeline.Look.PAUSE):
+                    self.assertEqual(looks[look.words], call.counts[look.name.lower()])
+            self.assertIn(call.cause, texts)
+            self.assertEqual(sum(title.startswith(f"call {call.number}, period ") for title in titles), len(call.shifts))
+        for bridge in run.bridges:
+            a, b = bridge.calls
+            self.assertEqual(sum(title.startswith(f"bridge of {a} and {b} from {bridge.start} ") for title in titles), 2)
+        told = "\n".join(titles)
+        for order in run.orders:
+            self.assertIn(order.told(), told)
+        self.assert_inside(root)
+
+    def assert_inside(self, root):
+        width, height = float(root.get("width")), float(root.get("height"))
+        for box in root.iter(f"{SVG}rect"):
+            if box.get("x"):
+                self.assertGreaterEqual(float(box.get("x")), 0)
+                self.assertLessEqual(float(box.get("x")) + float(box.get("width")), width)
+                self.assertLessEqual(float(box.get("y")) + float(box.get("height")), height)
+        rows = {}
+        for text in root.iter(f"{SVG}text"):
+            size = {"head": 17, "name": 13, "small": 11, "tiny": 10}.get((text.get("class") or "").split(" ")[0], 12)
+            wide = len(text.text) * size * 0.56
+            left = float(text.get("x")) - {"start": 0, "middle": wide / 2, "end": wide}[text.get("text-anchor", "start")]
+            self.assertGreaterEqual(left, 0)
+            self.assertLessEqual(left + wide, width)
+            rows.setdefault(text.get("y"), []).append((left, left + wide, text.text))
+        for row in rows.values():
+            row.sort()
+            for (_, right, one), (left, _, other) in zip(row, row[1:]):
+                self.assertLessEqual(right, left, f"'{one}' and '{other}' overlap")
+
+
+class Pictures(InFolder):
+    def setUp(self):
+        super().setUp()
+        lay("mixed", self.folder)
+
+    def test_orders_and_report_elsewhere(self):
+        wanted = EXAMPLES / "farm" / "wanted" / "report.txt"
+        (self.folder / "report.txt").unlink()
+        (self.folder / "orders.txt").rename(self.folder / "words.txt")
+        words = ["--report", wanted, "--orders", self.folder / "words.txt", "--width", "3000"]
+        status, out, err = self.run_tool(timeline.main, self.folder, self.folder / "run.svg", *words)
+        self.assertEqual((status, err), (0, ""))
+        self.assertEqual(out, "timeline calls 4 from 0 to 153 bridges 2 shifts 9 refused 1\n")
+        self.assertGreater(float(ElementTree.parse(self.folder / "run.svg").getroot().get("width")), 3000)
+
+    def test_calls_that_never_had_a_period(self):
+        # A call whose lines couldn't be read, with failed lines and an order that wasn't executed.
+        counts = "good 0 sid 0 invalid 0 bad 0 idle 0 other 0 miss 0 none 0 made 0"
+        report = f"order 1 ok\ncall 9 from 5 to 5 fault up\ncounts 9 {counts}\nline 9 up failed\nline 9 pcm failed\n"
+        self.path("report.txt", (report + "end period 5 calls 1 left 1\n").encode())
+        self.path("orders.txt", b"5 open 9\n4294967294 close 9")
+        status, out, err = self.run_tool(timeline.main, self.folder, self.folder / "run.svg")
+        self.assertEqual((status, out, err), (0, "timeline calls 1 from 5 to 5 bridges 0 shifts 0 refused 0\n", ""))
+        self.assertIn("fault up, up failed, pcm failed", (self.folder / "run.svg").read_text())
+
+    def refused(self, part, *words):
+        self.assert_refused(timeline.main, [self.folder, self.folder / "run.svg", *words], part)
+
+    def changed(self, name, old, new):
+        """Puts other text into a file, and gives what puts it right again."""
+        path = self.folder / name
+        text = path.read_bytes()
+        self.assertIn(old, text)
+        path.write_bytes(text.replace(old, new, 1))
+        return lambda: path.write_bytes(text)
+
+    def test_refused_texts(self):
+        for name, old, new, part in (
+            ("report.txt", b"good 61", b"good 60", "2.up: gives good 61, and the report has 60"),
+            ("report.txt", b"made 55", b"made 54", "3.up: gives made 55, and the report has 54"),
+            ("report.txt", b"from 0 to 153", b"from 0 to 154", "1.up: has 6120 octets, fewer than 154 periods need"),
+            ("report.txt", b"order 5 ok", b"order 6 ok", "line 5 isn't one of a report"),
+            ("report.txt", b"order 5 ok", b"order 5 refused 8 call 3", "line 5 isn't one of a report"),
+            ("report.txt", b"order 1 ok", b"\xff", "line 1 isn't one of a report"),
+            ("report.txt", b"bridge 1 3", b"bridge 1 5", "bridges a call that it doesn't tell of"),
+            ("report.txt", b"counts 4", b"counts 5", "isn't one of a report"),
+            ("report.txt", b"end period", b"end of period", "isn't one of a report"),
+            ("report.txt", b"left 0\n", b"left 0\norder 19 ok\n", "line 30 isn't one of a report"),
+            ("report.txt", b"left 0\n", b"left 1\n", "orders.txt: has 18 orders, and the report speaks of 19"),
+            ("orders.txt", b"73 open 3", b"74 open 3", "open other calls"),
+            ("orders.txt", b"73 open 3", b"x open 3", "line 11 isn't an order"),
+            ("orders.txt", b"0 open 1\n", b"", "has 17 orders, and the report speaks of 18"),
+        ):
+            with self.subTest(new):
+                undo = self.changed(name, old, new)
+                self.refused(part)
+                undo()
+
+    def test_refused_files(self):
+        (self.folder / "3.up").write_bytes((self.folder / "3.up").read_bytes()[40:])
+        self.refused("it is of another run")
+        (self.folder / "3.up").unlink()
+        self.refused("3.up: No such file")
+        self.refused("no.txt: No such file", "--report", self.folder / "no.txt")
+        self.refused("no.txt: No such file", "--orders", self.folder / "no.txt")
+        self.path("report.txt", b"end period 0 calls 0 left 18\n")
+        self.refused("a run without calls")
+        self.path("report.txt", b"")
+        self.refused("isn't a whole report")
+        self.refused("isn't 200 to", "--width", "5")
+        self.refused("--width", "--width", "wide")
+        self.assert_refused(timeline.main, [self.folder / "gone", self.folder / "run.svg"], "No such file")
+
+    def test_never_an_input(self):
+        for name in ("1.up", "orders.txt", "report.txt"):
+            self.assert_refused(timeline.main, [self.folder, self.folder / name], "is an input")
+
+
+if __name__ == "__main__":
+    unittest.main()
