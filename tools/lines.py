@@ -9,6 +9,7 @@ from __future__ import annotations
 
 import argparse
 import re
+import shlex
 import struct
 import sys
 from array import array
@@ -133,9 +134,9 @@ def alaw_of_wav(name: Path, content: bytes) -> bytes:
     kind = (wav.tag, wav.sample_bits)
     if (wav.channels, wav.samples_a_second) != (1, SAMPLES_A_SECOND) or kind not in ((WAV_LINEAR, 16), (WAV_ALAW, 8)):
         raise Refusal(
-            f"{name}: {wav.samples_a_second} Hz, {wav.channels} channels, {wav.sample_bits} bits, format {wav.tag}; needed is"
-            f" {SAMPLES_A_SECOND} Hz mono of 16 bits linear, or A-law; sox makes it:"
-            f" sox {name} -r {SAMPLES_A_SECOND} -c 1 -b 16 -e signed-integer NEW.wav"
+            f"{name}: has {wav.samples_a_second} Hz, channels {wav.channels}, bits {wav.sample_bits}, format {wav.tag}; needed"
+            f" is {SAMPLES_A_SECOND} Hz mono of 16 bits linear, or A-law; sox makes it:"
+            f" sox {shlex.quote(str(name))} -r {SAMPLES_A_SECOND} -c 1 -b 16 -e signed-integer NEW.wav"
         )
     if wav.tag == WAV_ALAW:
         return wav.data

@@ -213,9 +213,9 @@ class Sound(InFolder):
     def test_refused(self):
         new = self.path("new")
         for content, part in (
-            (wav(rate=44100), "44100 Hz, 1 channel"),
+            (wav(rate=44100), "has 44100 Hz, channels 1"),
             (wav(channels=2), "-r 8000 -c 1 -b 16 -e signed-integer"),
-            (wav(bits=8), "8 bits, format 1; needed is 8000 Hz mono"),
+            (wav(bits=8), "bits 8, format 1; needed is 8000 Hz mono"),
             (wav(tag=7, bits=8), "format 7"),
             (wav(tag=3, bits=32), "format 3"),
             (wav(data=b"abc"), "3 octets of data"),
