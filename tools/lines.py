@@ -195,38 +195,47 @@ def sound(words: argparse.Namespace, given: bytes) -> Made:
 FRAMES_FROM_TAF_TO_TAF = 24
 
 
+class Part(NamedTuple):
+    """Every `step`th number from `first` to `last`, or to the last there is."""
+
+    first: int
+    last: Optional[int]
+    step: int
+
+
 @dataclass(frozen=True)
 class Frames:
-    """Numbers of frames, as a word of the command line names them: parts `A`, `A-B` and `every:N`."""
+    """Numbers of frames, as a word of the command line names them: parts `A`, `A-B` and `every:N` with commas between."""
 
-    parts: Tuple[range, ...]
+    parts: Tuple[Part, ...]
 
     @staticmethod
     def parse(word: str) -> Frames:
+        """Reads the word."""
         return Frames(tuple(map(Frames.parse_part, word.split(","))))
 
     @staticmethod
-    def parse_part(part: str) -> range:
-        found = re.fullmatch(r"(\d+)(?:-(\d+))?|every:(\d+)", part, re.ASCII)
+    def parse_part(word: str) -> Part:
+        """Reads one part of the word."""
+        found = re.fullmatch(r"(\d+)(?:-(\d+))?|every:(\d+)", word, re.ASCII)
         if not found:
-            raise argparse.ArgumentTypeError(f"'{part}' isn't a frame A, frames A-B or every:N")
-        first, last, step = (None if number is None else int(number) for number in found.groups())
-        if step is not None:
-            if step == 0:
-                raise argparse.ArgumentTypeError(f"'{part}' names no frames")
-            return range(step - 1, sys.maxsize, step)
-        if last is not None and last < first:
-            raise argparse.ArgumentTypeError(f"'{part}' goes backwards")
-        return range(first, (first if last is None else last) + 1)
+            raise argparse.ArgumentTypeError(f"'{word}' isn't a frame A, frames A-B or every:N")
+        if found[3]:
+            part = Part(int(found[3]) - 1, None, int(found[3]))
+        else:
+            part = Part(int(found[1]), int(found[2] or found[1]), 1)
+        if part.step == 0 or part.last is not None and part.last < part.first:
+            raise argparse.ArgumentTypeError(f"'{word}' names no frames")
+        return part
 
     def within(self, count: int) -> Set[int]:
         """The numbers that are named, all below `count`."""
         numbers: Set[int] = set()
         for part in self.parts:
-            endless = part.stop == sys.maxsize
-            if not endless and part.stop > count:
-                raise Refusal(f"there is no frame {part.stop - 1}; the uplink has frames 0 to {count - 1}")
-            numbers.update(range(part.start, count, part.step) if endless else part)
+            last = count - 1 if part.last is None else part.last
+            if last >= count:
+                raise Refusal(f"there is no frame {last}; the uplink has frames 0 to {count - 1}")
+            numbers.update(range(part.first, last + 1, part.step))
         return numbers
 
 
@@ -239,20 +248,23 @@ class AtFrame:
 
     @staticmethod
     def parse(word: str, least: int, most: int) -> AtFrame:
+        """Reads the word, whose value is within these ends, and not 0 where it may be negative."""
         found = re.fullmatch(r"(\d+):([+-]?\d+)", word, re.ASCII)
         if not found:
             raise argparse.ArgumentTypeError(f"'{word}' isn't FRAME:NUMBER")
         value = int(found[2])
-        if value == 0 and least < 0 or not least <= value <= most:
-            raise argparse.ArgumentTypeError(f"'{word}': {value} isn't {least} to {most}{', or is 0' * (least < 0)}")
+        if not least <= value <= most or least < 0 and value == 0:
+            raise argparse.ArgumentTypeError(f"'{word}': the number isn't {least} to {most}{' without 0' * (least < 0)}")
         return AtFrame(int(found[1]), value)
 
 
 def slip_word(word: str) -> AtFrame:
+    """A word of `--slip`."""
     return AtFrame.parse(word, -FRAME_BITS, FRAME_BITS)
 
 
 def align_word(word: str) -> AtFrame:
+    """A word of `--align`."""
     return AtFrame.parse(word, 0, 63)
 
 

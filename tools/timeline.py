@@ -170,10 +170,10 @@ def read_orders(name: Path, report: Report) -> List[Order]:
     if len(lines) != len(report.refusals) + report.left:
         raise Refusal(f"{name}: has {len(lines)} orders, and the report speaks of {len(report.refusals) + report.left}")
     for number, (line, refusal) in enumerate(zip(lines, report.refusals), 1):
-        stamp, _, words = line.partition(" ")
-        if not stamp.isascii() or not stamp.isdigit():
+        found = re.fullmatch(r"(\d{1,10}) ([a-z]+ .+)", line, re.ASCII)
+        if not found:
             raise Refusal(f"{name}: line {number} isn't an order: {line[:60]}")
-        orders.append(Order(number, int(stamp), words, refusal))
+        orders.append(Order(number, int(found[1]), found[2], refusal))
     accepted = [order for order in orders if order.refusal is None]
     opened = {order.words: order.stamp for order in accepted if order.words.startswith("open ")}
     if opened != {f"open {call.number}": call.start for call in report.calls.values()}:
@@ -255,8 +255,9 @@ class Run:
         if not report.calls:
             raise Refusal(f"{report_name}: is of a run without calls")
         for bridge in report.bridges:
-            if any(number not in report.calls for number in bridge.calls):
-                raise Refusal(f"{report_name}: bridges a call that it doesn't tell of")
+            for call in map(report.calls.get, bridge.calls):
+                if call is None or not call.start <= bridge.start <= bridge.end <= call.end:
+                    raise Refusal(f"{report_name}: has a bridge that isn't within its calls")
         executed = read_orders(orders, report)
         calls = [call for _, call in sorted(report.calls.items())]
         for call in calls:

@@ -125,6 +125,19 @@ class Frames(InFolder):
         self.lines("gsm", given, new)
         self.assertEqual(trau_frames.data_of_gsm(new.read_bytes()[33:66]), made["noise"][1])
 
+    def test_noise_is_that_of_a_run(self):
+        # In the worked run call 4 has a silence descriptor in its first period and a pause after it, and from its period 2 on
+        # its frames go out on the downlink of call 2, with which it is bridged.
+        uplink = (EXAMPLES / "farm" / "4.up").read_bytes()
+        self.assertEqual([word for _, word in yields(uplink)][:23], ["sid"] + 22 * ["bad"])
+        descriptor = trau_frames.Parameters.read(data_of_uplink(uplink)[0])
+        source = trau_frames.RandomSource(4)
+        made = [trau_frames.noise(descriptor, source).bits() for _ in range(22)]
+        bits = trau_frames.bits_of((EXAMPLES / "farm" / "wanted" / "2.down").read_bytes())
+        sent = [trau_frames.data_of(frame) for frame in trau_frames.frames_of_downlink(bits)]
+        first = sent.index(made[2])
+        self.assertEqual(sent[first : first + 20], made[2:])
+
     def test_idle_frames(self):
         idle = trau_frames.frame_of("01110" + "000000" + "1111" + "1" + "11111", 260 * "1")
         speech = downlink(data_of_uplink((EXAMPLES / "7.up").read_bytes()[:40]))
@@ -328,17 +341,17 @@ class Damage(InFolder):
         for words, part in (
             (["--drop", "100"], "no frame 100; the uplink has frames 0 to 99"),
             (["--drop", "5-100"], "no frame 100"),
-            (["--drop", "9-5"], "goes backwards"),
+            (["--drop", "9-5"], "'9-5' names no frames"),
             (["--drop", "5,"], "'' isn't a frame"),
             (["--drop", "x"], "'x' isn't a frame"),
             (["--zero", "every:0"], "names no frames"),
             (["--sid", "-3"], "argument"),
-            (["--align", "5:64"], "64 isn't 0 to 63"),
+            (["--align", "5:64"], "isn't 0 to 63"),
             (["--align", "5"], "isn't FRAME:NUMBER"),
             (["--align", "100:5"], "no frame 100"),
             (["--align", "5:5", "--zero", "5"], "frame 5 has no alignment field"),
-            (["--slip", "5:0"], "0 isn't"),
-            (["--slip", "5:321"], "321 isn't"),
+            (["--slip", "5:0"], "isn't -320 to 320 without 0"),
+            (["--slip", "5:321"], "isn't -320 to 320"),
             (["--slip", "100:1"], "no frame 100"),
             (["--slip", "0:-1"], "no 1 bits before frame 0"),
             (["--slips", "5:1"], "unrecognized"),
