@@ -16,7 +16,7 @@ from array import array
 from collections import Counter
 from dataclasses import dataclass, replace
 from pathlib import Path
-from typing import List, NamedTuple, Optional, Sequence, Set, Tuple
+from typing import Callable, List, NamedTuple, Optional, Sequence, Set, Tuple
 
 import trau_frames
 from trau_frames import FRAME_BITS, IDLE_OCTET, PCM_OCTETS, Parameters, Refusal, Sort, SpeechControl
@@ -31,12 +31,18 @@ class Made(NamedTuple):
     said: str
 
 
+# A command makes a file of the words of the command line and the octets of the file that they name.
+Command = Callable[[argparse.Namespace, bytes], Made]
+
 # Speech frames of libgsm: to an uplink, and from a downlink
 
 
 def uplink(words: argparse.Namespace, given: bytes) -> Made:
     """An uplink of good speech frames, from frames of libgsm."""
     size = trau_frames.GSM_OCTETS
+    if given[:4] == b"RIFF":
+        name = shlex.quote(str(words.given))
+        raise Refusal(f"{words.given}: is a WAV file; sox makes frames of libgsm of it: sox {name} -r 8000 -c 1 NEW.gsm")
     if not given or len(given) % size:
         raise Refusal(f"{words.given}: {len(given)} octets are no frames of libgsm, which have {size} octets each")
     control = SpeechControl(dtxd=words.dtxd == 1).bits()
@@ -343,6 +349,7 @@ def damage(words: argparse.Namespace, given: bytes) -> Made:
     count = len(line.frames)
 
     def named(option: Optional[Frames]) -> Set[int]:
+        """The speech frames that an option names."""
         return set() if option is None else {number for number in option.within(count) if line.is_speech(number)}
 
     pause, drop, zero = named(words.sid), named(words.drop), named(words.zero)
@@ -380,7 +387,7 @@ def parser() -> argparse.ArgumentParser:
     )
     commands = program.add_subparsers(metavar="COMMAND", required=True, parser_class=trau_frames.Words)
 
-    def command(made, given: str, new: str, told: str, example: str) -> argparse.ArgumentParser:
+    def command(made: Command, given: str, new: str, told: str, example: str) -> argparse.ArgumentParser:
         """A command that is carried out by `made`, from a file of the kind `given` to one of the kind `new`."""
         added = commands.add_parser(
             made.__name__,
@@ -497,6 +504,7 @@ def parser() -> argparse.ArgumentParser:
 
 
 def main(words: Sequence[str]) -> int:
+    """Carries out the words of the command line, and gives the status."""
     asked = parser().parse_args(words)
     try:
         made = asked.made(asked, trau_frames.read_file(asked.given))

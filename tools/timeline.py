@@ -352,7 +352,7 @@ class Picture:
         self.run = run
         self.first = run.start()
         self.periods = max(1, run.end() - self.first)
-        self.scale = min(40.0, width / self.periods)
+        self.scale = min(TICK_ROOM, width / self.periods)
         self.plot_right = LEFT + self.scale * self.periods
         ends = [self.x(call.end) + 8 + text_width(self.end_words(call), 12) for call in run.calls]
         self.width = max([LEAST_WIDTH, self.plot_right + 12, *ends]) + RIGHT
@@ -378,12 +378,15 @@ class Picture:
     # Places
 
     def x(self, period: int) -> float:
+        """Where a period begins."""
         return LEFT + self.scale * (period - self.first)
 
     def band_top(self, call: int) -> float:
+        """Where the band of a call's periods begins."""
         return self.rows[call] + MARKS
 
     def bridge_top(self, call: int) -> float:
+        """Where the bars of a call's bridges begin."""
         return self.rows[call] + MARKS + BAND + 3
 
     # Pieces
@@ -597,6 +600,7 @@ class Picture:
 
 
 def main(words: Sequence[str]) -> int:
+    """Carries out the words of the command line, and gives the status."""
     parser = trau_frames.Words(
         description=__doc__,
         epilog="example: timeline.py . run.svg, in a folder where `trau run <orders.txt >report.txt` was run",

@@ -152,6 +152,7 @@ class Frames(InFolder):
         new = self.path("new")
         for content, part in (
             (b"", "0 octets are no frames of libgsm"),
+            (b"RIFF" + bytes(29), "is a WAV file; sox makes frames"),
             (speech[:-1], "1319 octets are no frames"),
             (speech[:33] + b"\x00" + speech[34:], "begins at octet 33"),
         ):

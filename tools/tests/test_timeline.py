@@ -6,7 +6,6 @@ import shutil
 import unittest
 import xml.etree.ElementTree as ElementTree
 from collections import Counter
-from pathlib import Path
 
 from support import CODEC, EXAMPLES, TOP, InFolder
 
