@@ -78,6 +78,29 @@ class Farms(InFolder):
             self.assertRegex(out, rf"^timeline calls {len(run.calls)} from 0 to \d+ bridges {len(run.bridges)} shifts")
             self.check_picture(run, ElementTree.parse(picture).getroot())
 
+    def test_picture_of_eight_calls_by_500_periods(self):
+        for name in ("mixed", "harsh"):
+            (self.folder / name).mkdir()
+            lay(name, self.folder / name)
+        uplinks = [*sorted((self.folder / "harsh").glob("*.up")), *sorted((self.folder / "mixed").glob("*.up"))]
+        bridges = [
+            timeline.Bridge((1, 7), 20, 160, (140, 140), (0, 0)),
+            timeline.Bridge((8, 3), 101, 333, (232, 232), (0, 0)),
+            timeline.Bridge((7, 1), 301, 500, (199, 199), (0, 0)),
+        ]
+        calls = []
+        for number, uplink in enumerate(uplinks[:8], 1):
+            call = timeline.Call(number, number, number + 500, "end up 0")
+            call.yields = timeline.yields_of((7 * uplink.read_bytes())[:20000])
+            sorts = Counter(call.sorts())
+            call.counts = {sort.value: sorts[sort] for sort in trau_frames.Sort}
+            call.shifts = timeline.downlink_of(call, bridges)[1]
+            calls.append(call)
+        orders = [timeline.Order(number, call.start, f"open {call.number}", None) for number, call in enumerate(calls, 1)]
+        orders += [timeline.Order(9, 120, "bridge 1 8", 3), timeline.Order(10, 120, "unbridge 2", 4)]
+        run = timeline.Run(orders, bridges, calls)
+        self.check_picture(run, ElementTree.fromstring(timeline.Picture(run, 1300).draw()))
+
     def check_picture(self, run, root):
         titles = [title.text for title in root.iter(f"{SVG}title")]
         texts = [text.text for text in root.iter(f"{SVG}text")]
