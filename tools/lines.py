@@ -431,7 +431,7 @@ def parser() -> argparse.ArgumentParser:
         "--silence",
         choices=("noise", "quiet", "keep", "skip"),
         default="noise",
-        help="what is written for a silence descriptor (SP 0), which a decoder of speech would turn into a loud buzz: a"
+        help="what is written for a silence descriptor (SP 0), which a decoder of speech would turn into a buzz: a"
         " frame of comfort noise made of it (default), a frame of silence, its bits as they are, or nothing",
     )
     added.add_argument(
@@ -446,7 +446,7 @@ def parser() -> argparse.ArgumentParser:
         "IN",
         "OUT.pcm",
         "Makes a Pcm line from a WAV file of 8000 Hz, mono, 16 bits linear or A-law, or from raw A-law. The last period is\n"
-        "filled up with the idle octet D5. Says `pcm periods N padded R`, R being the number of these octets.",
+        "filled up with the idle octet 0xD5. Says `pcm periods N padded R`, R being the number of these octets.",
         "call.wav 7.pcm",
     )
     added.add_argument("--raw", action="store_true", help="the file has A-law octets and nothing else")
