@@ -8,7 +8,8 @@ output and standard error together. Each session begins in a folder of its own u
 and `tools` and the scripts `trau` and `demo`, as the top of the repository has them. Nothing is written elsewhere, but
 with --write, which puts the real output into the documents. Fenced blocks are not run.
 
-Two things more are compared: that the files exist to which a document's links lead, and that each function stands in
+Three things more are compared: that the files exist to which a document's links lead; that a fenced block whose first
+line names a file, as ```rust crates/C/src/lib.rt, stands in that file word for word; and that each function stands in
 the file that a row of a table names, `CRATE/src/FILE.rt` in its first column and the functions in its second.
 """
 
@@ -125,6 +126,15 @@ def links(path, text):
     return found
 
 
+def quotes(text):
+    """The fenced blocks that don't stand in the files that they name."""
+    found = []
+    for name, block in re.findall(r"^```\w+ (\S+)\n(.*?)^```$", text, re.M | re.S):
+        if not (TOP / name).exists() or block not in (TOP / name).read_text():
+            found.append(f"{name} has no such text: {block}")
+    return found
+
+
 def functions(text):
     """The functions that aren't in the file that a table's row names."""
     found = []
@@ -143,7 +153,8 @@ def main():
         name = path.relative_to(TOP)
         lines = path.read_text().split("\n")
         shown = [(start, end, [line[len(INDENT) :] for line in lines[start:end]]) for start, end in sessions(lines)]
-        differences = [f"{name}: {fault}" for fault in links(path, "\n".join(lines)) + functions("\n".join(lines))]
+        text = "\n".join(lines)
+        differences = [f"{name}: {fault}" for fault in links(path, text) + quotes(text) + functions(text)]
         new = []
         for number, (start, end, session) in enumerate(shown):
             got = run(session, WORK / f"{number}")
