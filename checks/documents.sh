@@ -15,4 +15,5 @@ if [ "$status" != 1 ]; then
     exit 1
 fi
 rm "$work/log"
+export TRAU_PROGRAM="${TRAU_PROGRAM:-$top/crates/trau_program/out/trau_program}"
 python3 "$top/checks/documents.py" "$top" "$work" "$@"
