@@ -23,6 +23,8 @@ import sys
 
 TOP, WORK = (pathlib.Path(word) for word in sys.argv[1:3])
 WRITE = sys.argv[3:] == ["--write"]
+if sys.argv[3:] not in ([], ["--write"]):
+    sys.exit("usage: documents.sh [--write]")
 # Made by the examples themselves, and by no clone.
 MADE = shutil.ignore_patterns("*.down", "*.out", "7.pcm", "__pycache__")
 INDENT = "    "
@@ -100,17 +102,20 @@ def run(session, folder):
     surroundings = dict(
         os.environ, LC_ALL="C", TMPDIR=str(folder / "tmp"), HOME=str(folder / "tmp"), PYTHONDONTWRITEBYTECODE="1"
     )
-    ran = subprocess.run(
-        ["sh", "-c", script(session)],
-        cwd=place,
-        env=surroundings,
-        stdin=subprocess.DEVNULL,
-        stdout=subprocess.PIPE,
-        stderr=subprocess.STDOUT,
-        timeout=60,
-    )
+    try:
+        ran = subprocess.run(
+            ["sh", "-c", script(session)],
+            cwd=place,
+            env=surroundings,
+            stdin=subprocess.DEVNULL,
+            stdout=subprocess.PIPE,
+            stderr=subprocess.STDOUT,
+            timeout=60,
+        )
+        text = ran.stdout.decode(errors="replace")
+    except subprocess.TimeoutExpired:
+        text = "no end within a minute"
     shutil.rmtree(folder)
-    text = ran.stdout.decode(errors="replace")
     # Folders whose names the system chooses.
     text = text.replace(str(folder / "tmp"), "/tmp")
     text = re.sub(r"/tmp/trau-demo\.\w+", "/tmp/trau-demo.XXXXXX", text)
