@@ -63,7 +63,7 @@ expect "a full standard output" 4 ""
 met=0
 for limit in 6000 5000 4000 3600 3400 3200 3000 2900 2800 2700 2600 2500; do
     status=0
-    (ulimit -v "$limit" && exec "$top/crates/trau_program/out/trau_program" relay 7) >text 2>/dev/null </dev/null || status=$?
+    (ulimit -v "$limit" && exec "${TRAU_PROGRAM:-$top/crates/trau_program/out/trau_program}" relay 7) >text 2>/dev/null </dev/null || status=$?
     case "$status $(cat text)" in
         "5 no memory") met=$((met + 1)) ;;
         "0 relay frames 312") ;;

@@ -229,7 +229,7 @@ expect "a full standard output" 4 </dev/null
 
 # Little memory.
 status=0
-(ulimit -v 3000 && printf '0 open 1' | "$top/crates/trau_program/out/trau_program" run) >text || status=$?
+(ulimit -v 3000 && printf '0 open 1' | "${TRAU_PROGRAM:-$top/crates/trau_program/out/trau_program}" run) >text || status=$?
 expect "little memory" 5 <<'TEXT'
 no memory
 TEXT

@@ -1,0 +1,185 @@
+"""Runs the commands that the documents show, and compares what they print.
+
+Usage: documents.py TOP WORK [--write]
+
+A block of lines that are indented by four spaces, the first of which begins with `$ `, is one session of a shell: lines
+that begin with `$ ` are its commands (a line `> ` goes on with the one above), all other lines their output, standard
+output and standard error together. Each session begins in a folder of its own under WORK that has a copy of `examples`
+and `tools` and the scripts `trau` and `demo`, as the top of the repository has them. Nothing is written elsewhere, but
+with --write, which puts the real output into the documents. Fenced blocks are not run.
+
+Three things more are compared: that the files exist to which a document's links lead; that a fenced block whose first
+line names a file, as ```rust crates/C/src/lib.rt, stands in that file word for word; and that each function stands in
+the file that a row of a table names, `CRATE/src/FILE.rt` in its first column and the functions in its second.
+"""
+
+import difflib
+import os
+import pathlib
+import re
+import shutil
+import subprocess
+import sys
+
+TOP, WORK = (pathlib.Path(word) for word in sys.argv[1:3])
+WRITE = sys.argv[3:] == ["--write"]
+if sys.argv[3:] not in ([], ["--write"]):
+    sys.exit("usage: documents.sh [--write]")
+# Made by the examples themselves, and by no clone.
+MADE = shutil.ignore_patterns("*.down", "*.out", "7.pcm", "__pycache__")
+INDENT = "    "
+
+
+def documents():
+    """The documents that show commands, in a fixed order."""
+    fixed = [TOP / "README.md", TOP / "examples/README.md", TOP / "tools/README.md"]
+    return [path for path in fixed + sorted(TOP.glob("docs/**/*.md")) if path.exists()]
+
+
+def sessions(lines):
+    """The first and the last line, and one more, of each session."""
+    fence, start, found = None, None, []
+    for number, line in enumerate(lines + ["end"]):
+        mark = re.match(r"(```+|~~~+)", line)
+        if fence is not None:
+            if mark and line.strip() == fence:
+                fence = None
+            continue
+        if start is not None and line and not line.startswith(INDENT):
+            end = number
+            while not lines[end - 1]:
+                end -= 1
+            found.append((start, end))
+            start = None
+        if mark:
+            fence = mark.group(1)
+        elif start is None and line.startswith(INDENT + "$ ") and (number == 0 or not lines[number - 1]):
+            start = number
+    return found
+
+
+def commands(session):
+    """The commands of a session, each a list of lines."""
+    found, is_command = [], False
+    for line in session:
+        if line.startswith("$ "):
+            found.append([line])
+            is_command = True
+        elif is_command and line.startswith("> "):
+            found[-1].append(line)
+        else:
+            is_command = False
+    return found
+
+
+def quoted(text):
+    return "'" + text.replace("'", "'\\''") + "'"
+
+
+def script(session):
+    """Prints each command and runs it; `$?` is that of the command before."""
+    parts = ["back() { return $1; }"]
+    for command in commands(session):
+        shown = " ".join(quoted(line) for line in command)
+        parts.append(f"back_to=$?; printf '%s\\n' {shown}; back $back_to")
+        parts.append("\n".join(line[2:] for line in command))
+    return "\n".join(parts) + "\n"
+
+
+def run(session, folder):
+    """What a session prints, run in this folder."""
+    folder.mkdir()
+    (folder / "tmp").mkdir()
+    place = folder / "trau"
+    place.mkdir()
+    for name in ("trau", "demo"):
+        if (TOP / name).exists():
+            (place / name).symlink_to(TOP / name)
+    for name in ("examples", "tools"):
+        if (TOP / name).exists():
+            shutil.copytree(TOP / name, place / name, ignore=MADE)
+    shutil.copytree(TOP / "examples/farm/wanted", place / "examples/farm/wanted", dirs_exist_ok=True)
+    surroundings = dict(
+        os.environ, LC_ALL="C", TMPDIR=str(folder / "tmp"), HOME=str(folder / "tmp"), PYTHONDONTWRITEBYTECODE="1"
+    )
+    try:
+        ran = subprocess.run(
+            ["sh", "-c", script(session)],
+            cwd=place,
+            env=surroundings,
+            stdin=subprocess.DEVNULL,
+            stdout=subprocess.PIPE,
+            stderr=subprocess.STDOUT,
+            timeout=60,
+        )
+        text = ran.stdout.decode(errors="replace")
+    except subprocess.TimeoutExpired:
+        text = "no end within a minute"
+    shutil.rmtree(folder)
+    # Folders whose names the system chooses.
+    text = text.replace(str(folder / "tmp"), "/tmp")
+    text = re.sub(r"/tmp/trau-demo\.\w+", "/tmp/trau-demo.XXXXXX", text)
+    return [line.rstrip() for line in text.splitlines()]
+
+
+def links(path, text):
+    """The links of a document that lead nowhere."""
+    found = []
+    for link in re.findall(r"\]\(([^)#: ]+)(?:#[^)]*)?\)", text):
+        if not (path.parent / link).exists():
+            found.append(f"no file {link}")
+    return found
+
+
+def quotes(text):
+    """The fenced blocks that don't stand in the files that they name."""
+    found = []
+    for name, block in re.findall(r"^```\w+ (\S+)\n(.*?)^```$", text, re.M | re.S):
+        if not (TOP / name).exists() or block not in (TOP / name).read_text():
+            found.append(f"{name} has no such text: {block}")
+    return found
+
+
+def functions(text):
+    """The functions that aren't in the file that a table's row names."""
+    found = []
+    for name, cell in re.findall(r"^\| `(\w+/src/[\w/]+\.rt)` \| ([^|]*) \|", text, re.M):
+        source = TOP / "crates" / name
+        there = source.read_text() if source.exists() else ""
+        for function in re.findall(r"`(?:\w+::)*(\w+)`", cell):
+            if not re.search(rf"\bfn {function}\b", there):
+                found.append(f"no function {function} in {name}")
+    return found
+
+
+def main():
+    failed = False
+    for path in documents():
+        name = path.relative_to(TOP)
+        lines = path.read_text().split("\n")
+        shown = [(start, end, [line[len(INDENT) :] for line in lines[start:end]]) for start, end in sessions(lines)]
+        text = "\n".join(lines)
+        differences = [f"{name}: {fault}" for fault in links(path, text) + quotes(text) + functions(text)]
+        new = []
+        for number, (start, end, session) in enumerate(shown):
+            got = run(session, WORK / f"{number}")
+            new.append((start, end, got))
+            if got != session:
+                differences += difflib.unified_diff(
+                    session, got, f"{name}, line {start + 1}", "what the commands print", lineterm=""
+                )
+        if WRITE and differences:
+            for start, end, got in reversed(new):
+                lines[start:end] = [(INDENT + line).rstrip() for line in got]
+            path.write_text("\n".join(lines))
+            print(f"written {name}")
+            differences = [line for line in differences if line.startswith(f"{name}: ")]
+        if differences:
+            print(f"FAILED {name}:", *differences, sep="\n")
+            failed = True
+        elif not WRITE:
+            print(f"ok {name}: {len(shown)} sessions")
+    return failed
+
+
+sys.exit(main())
