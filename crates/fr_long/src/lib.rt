@@ -15,6 +15,7 @@
 //! home, `specs/Memory.antt` from block to block; `specs/Gain.antt` has the gains.
 #![tactic(auto)]
 
+mod correlations;
 mod decoder;
 mod encoder;
 mod gain;
