@@ -1,9 +1,10 @@
 -- Signed lanes whose sums and products fit, and sums of products lane by lane.
-use Rattle.std.proofs.Common.{◌≡◌, ℕ, zero, suc, ◌+◌, ◌-◌, ◌*◌, ◌%◌, ◌^◌, ◌<◌, ◌≤◌, ℤ, pos, ◌+ℤ◌, ◌*ℤ◌, unsigned_abs, FitsSigned, w16, w32, to_z, of_z, fold, map, List, [], ◌∷◌, ◌++◌, length, get_or, refl, ap, sym, subst, ◌∙◌, arith, lit<, mul-le-mul, inl, inr, add-zero, add-one}
+use Rattle.std.proofs.Common.{◌≡◌, ℕ, zero, suc, ◌+◌, ◌-◌, ◌*◌, ◌%◌, ◌^◌, ◌<◌, ◌≤◌, ℤ, pos, ◌+ℤ◌, ◌*ℤ◌, unsigned_abs, FitsSigned, w16, w32, to_z, of_z, fold, map, List, [], ◌∷◌, ◌++◌, length, get_or, refl, ap, sym, subst, ◌∙◌, arith, lit<, lit≤, mul-le-mul, inl, inr, add-zero, add-one}
 use Rattle.std.specs.List.{range_with_len}
+use Rattle.std.specs.Int.{Width}
 use Rattle.std.proofs.lemmas.Int.{ints, to_z-of_z, of_z-to_z, unsigned_abs-mul, wrapping_add_is, wrapping_mul_is, int_wrap_fits, fits_signed_mul}
 use Rattle.std.specs.Simd.Lanes.{zip2, Each1, chunk, fold_l}
-use Rattle.std.proofs.lemmas.Simd.{pick_l-range_with_len, zip2_of_maps, Each1-chunk, Each1-from_get_or, Each1-weaker}
+use Rattle.std.proofs.lemmas.Simd.{pick_l-range_with_len, zip2_of_maps, Each1-chunk, Each1-from_get_or, Each1-weaker, length-zip2, length-chunk}
 use Rattle.std.proofs.lemmas.Nat.{mod_below}
 use Rattle.std.proofs.lemmas.List.{get_or_past}
 use Rattle.std.proofs.lemmas.List.FromFn.{map-range_with_len_more}
@@ -18,10 +19,10 @@ use Rattle.fr_long.proofs.Blocks.{fold_more, doubled_small}
 abbrev pub Within : ℕ → ℤ → Type 0
 Within b x = unsigned_abs x ≤ b
 
--- lanes are kept in 32 bits
-pub lanes_kept : (xs : List ℤ) → Each1 (FitsSigned w32) xs → map (to_z w32) (map (of_z w32) xs) ≡ xs
-lanes_kept [] p = refl
-lanes_kept (x ∷ xs) p = ap (λ z. z ∷ map (to_z w32) (map (of_z w32) xs)) (to_z-of_z w32 x p.0) ∙ ap (λ zs. x ∷ zs) (lanes_kept xs p.1)
+-- lanes that fit are kept
+pub lanes_kept : (w : Width) (xs : List ℤ) → Each1 (FitsSigned w) xs → map (to_z w) (map (of_z w) xs) ≡ xs
+lanes_kept w [] p = refl
+lanes_kept w (x ∷ xs) p = ap (λ z. z ∷ map (to_z w) (map (of_z w) xs)) (to_z-of_z w x p.0) ∙ ap (λ zs. x ∷ zs) (lanes_kept w xs p.1)
 
 -- words in lanes of 32 bits
 pub lanes_widened : (f : ℕ → ℕ) → ((x : ℤ) → FitsSigned w16 x → to_z w32 (f (of_z w16 x)) ≡ x) → (xs : List ℤ) → Each1 (FitsSigned w16) xs →
@@ -36,6 +37,10 @@ lane_widened x f = omega (arith, ints)
 -- eight of some words
 pub eight_words : (xs : List ℤ) (i : ℕ) → ((k : ℕ) → FitsSigned w16 (get_or xs k (pos 0))) → Each1 (FitsSigned w16) (chunk i 8 xs)
 eight_words xs i fits = Each1-chunk (FitsSigned w16) i 8 xs (Each1-from_get_or (FitsSigned w16) xs (pos 0) (λ k h. fits k))
+
+-- and their numbers in 32 bits
+pub eight_numbers : (xs : List ℤ) → Each1 (FitsSigned w16) xs → map (to_z w32) (map (of_z w32) xs) ≡ xs
+eight_numbers xs p = lanes_kept w32 xs (Each1-weaker (FitsSigned w16) (FitsSigned w32) (λ x f. omega (arith, ints)) xs p)
 
 -- the product of a sample of a scaled block and a word
 pub lane_product : (x y : ℤ) → Within 512 x → Within 32768 y → to_z w32 ((of_z w32 x * of_z w32 y) % 2 ^ 32) ≡ x *ℤ y
@@ -166,3 +171,61 @@ doubled_term wt earlier lag k lw le m scaled words =
     let place : 120 - lag + k ≡ length earlier + k - lag = omega arith in
     doubled_small (get_or wt k (pos 0)) (get_or earlier (120 - lag + k) (pos 0)) (mul-le-mul (scaled_all wt lw scaled k) (words (120 - lag + k))) ∙
     ap (λ i. l_mult_of (get_or wt k (pos 0)) (get_or earlier i (pos 0))) place
+
+-- eight samples of a scaled block
+scaled_lanes : (wt : List ℤ) (i : ℕ) → length wt ≡ 40 → AreScaled wt → Each1 (Within 512) (chunk i 8 wt)
+scaled_lanes wt i l scaled = Each1-chunk (Within 512) i 8 wt (Each1-from_get_or (Within 512) wt (pos 0) (λ k h. scaled_all wt l scaled k))
+
+-- eight words
+word_lanes : (xs : List ℤ) (i : ℕ) → ((k : ℕ) → FitsSigned w16 (get_or xs k (pos 0))) → Each1 (Within 32768) (chunk i 8 xs)
+word_lanes xs i fits = Each1-weaker (FitsSigned w16) (Within 32768) (λ x f. omega (arith, ints)) (chunk i 8 xs) (eight_words xs i fits)
+
+-- a vector that is passed on is kept
+lanes_passed : (b : ℕ) (xs ys : List ℤ) → b ≤ 1073741823 → Each1 (Within b) ys → xs ≡ ys → map (to_z w32) (map (of_z w32) xs) ≡ ys
+lanes_passed b xs ys m p e =
+    ap (λ zs. map (to_z w32) (map (of_z w32) zs)) e ∙ lanes_kept w32 ys (Each1-weaker (Within b) (FitsSigned w32) (λ x h. omega (arith, ints)) ys p)
+
+-- what `products` is passed
+pub passed_scaled : (wt xs : List ℤ) (i : ℕ) → length wt ≡ 40 → AreScaled wt → xs ≡ chunk i 8 wt → map (to_z w32) (map (of_z w32) xs) ≡ chunk i 8 wt
+passed_scaled wt xs i l scaled e = lanes_passed 512 xs (chunk i 8 wt) (lit≤ tt) (scaled_lanes wt i l scaled) e
+
+pub passed_words : (earlier xs : List ℤ) (i : ℕ) → ((k : ℕ) → FitsSigned w16 (get_or earlier k (pos 0))) → xs ≡ chunk i 8 earlier → map (to_z w32) (map (of_z w32) xs) ≡ chunk i 8 earlier
+passed_words earlier xs i fits e = lanes_passed 32768 xs (chunk i 8 earlier) (lit≤ tt) (word_lanes earlier i fits) e
+
+pub passed_scaled_within : (wt xs : List ℤ) (i : ℕ) → length wt ≡ 40 → AreScaled wt → xs ≡ chunk i 8 wt → Each1 (Within 512) (map (to_z w32) (map (of_z w32) xs))
+passed_scaled_within wt xs i l scaled e = subst (Each1 (Within 512)) (sym (passed_scaled wt xs i l scaled e)) (scaled_lanes wt i l scaled)
+
+pub passed_words_within : (earlier xs : List ℤ) (i : ℕ) → ((k : ℕ) → FitsSigned w16 (get_or earlier k (pos 0))) → xs ≡ chunk i 8 earlier → Each1 (Within 32768) (map (to_z w32) (map (of_z w32) xs))
+passed_words_within earlier xs i fits e = subst (Each1 (Within 32768)) (sym (passed_words earlier xs i fits e)) (word_lanes earlier i fits)
+
+-- the products of eight samples with eight residuals
+abbrev pub row : List ℤ → List ℤ → ℕ → ℕ → List ℤ
+row wt earlier i at = zip2 ◌*ℤ◌ (chunk i 8 wt) (chunk at 8 earlier)
+
+pub row_within : (wt earlier : List ℤ) (i at : ℕ) → length wt ≡ 40 → AreScaled wt → ((k : ℕ) → FitsSigned w16 (get_or earlier k (pos 0))) → Each1 (Within 16777216) (row wt earlier i at)
+row_within wt earlier i at l scaled fits = products_within (chunk i 8 wt) (chunk at 8 earlier) (scaled_lanes wt i l scaled) (word_lanes earlier at fits)
+
+pub row_length : (wt earlier : List ℤ) (i at : ℕ) → i + 8 ≤ length wt → at + 8 ≤ length earlier → length (row wt earlier i at) ≡ 8
+row_length wt earlier i at a b =
+    let x = length-chunk i 8 wt a in
+    let y = length-chunk at 8 earlier b in
+    length-zip2 ◌*ℤ◌ (chunk i 8 wt) (chunk at 8 earlier) (x ∙ sym y) ∙ x
+
+pub row_passed : (wt earlier xs ys ps : List ℤ) (i at : ℕ) → length wt ≡ 40 → AreScaled wt → ((k : ℕ) → FitsSigned w16 (get_or earlier k (pos 0))) →
+    xs ≡ chunk i 8 wt → ys ≡ chunk at 8 earlier → ps ≡ zip2 ◌*ℤ◌ (map (to_z w32) (map (of_z w32) xs)) (map (to_z w32) (map (of_z w32) ys)) →
+    map (to_z w32) (map (of_z w32) ps) ≡ row wt earlier i at
+row_passed wt earlier xs ys ps i at l scaled fits ex ey ep =
+    lanes_passed 16777216 ps (row wt earlier i at) (lit≤ tt) (row_within wt earlier i at l scaled fits)
+    (ep ∙ ap (λ zs. zip2 ◌*ℤ◌ zs (map (to_z w32) (map (of_z w32) ys))) (passed_scaled wt xs i l scaled ex) ∙
+    ap (λ zs. zip2 ◌*ℤ◌ (chunk i 8 wt) zs) (passed_words earlier ys at fits ey))
+
+-- the sums after a row more
+pub next_within : (n : ℕ) (sums ps : List ℤ) → Each1 (Within (16777216 * n)) sums → Each1 (Within 16777216) ps → Each1 (Within (16777216 * (n + 1))) (zip2 ◌+ℤ◌ sums ps)
+next_within n sums ps a b =
+    let e : 16777216 * n + 16777216 ≡ 16777216 * (n + 1) = omega arith in
+    subst (λ m. Each1 (Within m) (zip2 ◌+ℤ◌ sums ps)) e (sums_within (16777216 * n) 16777216 sums ps a b)
+
+pub next_passed : (n : ℕ) (sums ps qs rs : List ℤ) → n ≤ 4 → Each1 (Within (16777216 * n)) sums → Each1 (Within 16777216) ps → qs ≡ ps → rs ≡ zip2 ◌+ℤ◌ sums qs →
+    map (to_z w32) (map (of_z w32) rs) ≡ zip2 ◌+ℤ◌ sums ps
+next_passed n sums ps qs rs m a b eq er =
+    lanes_passed (16777216 * (n + 1)) rs (zip2 ◌+ℤ◌ sums ps) (omega arith) (next_within n sums ps a b) (er ∙ ap (λ zs. zip2 ◌+ℤ◌ sums zs) eq)

@@ -5,7 +5,7 @@
 //! the processor has instructions on eight words of 16 bits. Each factor is so small that no sum of 40
 //! products leaves 32 bits, in whatever order they are added.
 
-ghost use Rattle.std.specs.Prelude.{◌≡◌, ◌+◌, ◌*◌, ◌≤◌, pos, ◌+ℤ◌, ◌*ℤ◌, unsigned_abs, length, fold, FitsSigned};
+ghost use Rattle.std.specs.Prelude.{◌≡◌, ℕ, ◌+◌, ◌*◌, ◌≤◌, pos, ◌+ℤ◌, ◌*ℤ◌, unsigned_abs, length, fold, FitsSigned, slice_index_or};
 ghost use Rattle.std.specs.Int.{w16};
 ghost use Rattle.std.specs.Simd.Lanes.{chunk, zip2, Each1};
 ghost use Rattle.fr_long.specs.Scaling.{AreScaled};
@@ -36,7 +36,8 @@ pub(crate) fn correlation(wt: &[i16; 40], earlier: &[i16; 120], lag: u8) -> i32
 
 /// The eight samples from place `at` on.
 fn eight(samples: &[i16], at: usize) -> i32x8
-    requires { at + 8 ≤ length samples.now }
+    requires place { at + 8 ≤ length samples.now }
+    requires words { (k : ℕ) → FitsSigned w16 (slice_index_or samples.now k (pos 0)) }
     ensures { result ≡ chunk at 8 samples.now }
 {
     wide(i16x8::from_slice(&samples[at..]))
