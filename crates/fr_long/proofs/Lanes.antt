@@ -4,7 +4,7 @@ use Rattle.std.specs.List.{range_with_len}
 use Rattle.std.specs.Int.{Width}
 use Rattle.std.proofs.lemmas.Int.{ints, to_z-of_z, of_z-to_z, unsigned_abs-mul, wrapping_add_is, wrapping_mul_is, int_wrap_fits, fits_signed_mul}
 use Rattle.std.specs.Simd.Lanes.{zip2, Each1, chunk, fold_l}
-use Rattle.std.proofs.lemmas.Simd.{pick_l-range_with_len, zip2_of_maps, Each1-chunk, Each1-from_get_or, Each1-weaker, length-zip2, length-chunk}
+use Rattle.std.proofs.lemmas.Simd.{pick_l-range_with_len, zip2_of_maps, Each1-chunk, Each1-from_get_or, Each1-weaker, length-zip2, length-chunk, Each1-get_or, get_or-chunk}
 use Rattle.std.proofs.lemmas.Nat.{mod_below}
 use Rattle.std.proofs.lemmas.List.{get_or_past}
 use Rattle.std.proofs.lemmas.List.FromFn.{map-range_with_len_more}
@@ -23,24 +23,6 @@ Within b x = unsigned_abs x ≤ b
 pub lanes_kept : (w : Width) (xs : List ℤ) → Each1 (FitsSigned w) xs → map (to_z w) (map (of_z w) xs) ≡ xs
 lanes_kept w [] p = refl
 lanes_kept w (x ∷ xs) p = ap (λ z. z ∷ map (to_z w) (map (of_z w) xs)) (to_z-of_z w x p.0) ∙ ap (λ zs. x ∷ zs) (lanes_kept w xs p.1)
-
--- words in lanes of 32 bits
-pub lanes_widened : (f : ℕ → ℕ) → ((x : ℤ) → FitsSigned w16 x → to_z w32 (f (of_z w16 x)) ≡ x) → (xs : List ℤ) → Each1 (FitsSigned w16) xs →
-    map (to_z w32) (map f (map (of_z w16) xs)) ≡ xs
-lanes_widened f h [] p = refl
-lanes_widened f h (x ∷ xs) p = ap (λ z. z ∷ map (to_z w32) (map f (map (of_z w16) xs))) (h x p.0) ∙ ap (λ zs. x ∷ zs) (lanes_widened f h xs p.1)
-
--- a word in a lane of 32 bits
-pub lane_widened : (x : ℤ) → FitsSigned w16 x → to_z w32 (of_z w32 (to_z w16 (of_z w16 x))) ≡ x
-lane_widened x f = omega (arith, ints)
-
--- eight of some words
-pub eight_words : (xs : List ℤ) (i : ℕ) → ((k : ℕ) → FitsSigned w16 (get_or xs k (pos 0))) → Each1 (FitsSigned w16) (chunk i 8 xs)
-eight_words xs i fits = Each1-chunk (FitsSigned w16) i 8 xs (Each1-from_get_or (FitsSigned w16) xs (pos 0) (λ k h. fits k))
-
--- and their numbers in 32 bits
-pub eight_numbers : (xs : List ℤ) → Each1 (FitsSigned w16) xs → map (to_z w32) (map (of_z w32) xs) ≡ xs
-eight_numbers xs p = lanes_kept w32 xs (Each1-weaker (FitsSigned w16) (FitsSigned w32) (λ x f. omega (arith, ints)) xs p)
 
 -- the product of a sample of a scaled block and a word
 pub lane_product : (x y : ℤ) → Within 512 x → Within 32768 y → to_z w32 ((of_z w32 x * of_z w32 y) % 2 ^ 32) ≡ x *ℤ y
@@ -163,22 +145,45 @@ scaled_all wt l scaled k =
       | inr b ↦ let past = get_or_past wt k (pos 0) (omega arith) in rw past (omega arith)
     ]
 
+-- no product of the two is above 2^24
+small_term : (wt : List ℤ) (v : ℤ) (k : ℕ) → length wt ≡ 40 → AreScaled wt → (k < 40 → Within 32768 v) → unsigned_abs (get_or wt k (pos 0)) * unsigned_abs v ≤ 16777216
+small_term wt v k l scaled word =
+    elim (cases_lt k 40) [
+      | inl b ↦ mul-le-mul (scaled k b) (word b)
+      | inr b ↦ let past = get_or_past wt k (pos 0) (omega arith) in rw past (omega arith)
+    ]
+
 -- a term of a correlation
 pub doubled_term : (wt earlier : List ℤ) (lag k : ℕ) → length wt ≡ 40 → length earlier ≡ 120 → lag ≤ 120 → AreScaled wt →
-    ((j : ℕ) → Within 32768 (get_or earlier j (pos 0))) →
+    (k < 40 → Within 32768 (get_or earlier (120 - lag + k) (pos 0))) →
     product_at wt earlier (120 - lag) k *ℤ pos 2 ≡ l_mult_of (sample wt k) (sample_before earlier lag k)
-doubled_term wt earlier lag k lw le m scaled words =
+doubled_term wt earlier lag k lw le m scaled word =
     let place : 120 - lag + k ≡ length earlier + k - lag = omega arith in
-    doubled_small (get_or wt k (pos 0)) (get_or earlier (120 - lag + k) (pos 0)) (mul-le-mul (scaled_all wt lw scaled k) (words (120 - lag + k))) ∙
+    doubled_small (get_or wt k (pos 0)) (get_or earlier (120 - lag + k) (pos 0)) (small_term wt (get_or earlier (120 - lag + k) (pos 0)) k lw scaled word) ∙
     ap (λ i. l_mult_of (get_or wt k (pos 0)) (get_or earlier i (pos 0))) place
 
 -- eight samples of a scaled block
 scaled_lanes : (wt : List ℤ) (i : ℕ) → length wt ≡ 40 → AreScaled wt → Each1 (Within 512) (chunk i 8 wt)
 scaled_lanes wt i l scaled = Each1-chunk (Within 512) i 8 wt (Each1-from_get_or (Within 512) wt (pos 0) (λ k h. scaled_all wt l scaled k))
 
--- eight words
-word_lanes : (xs : List ℤ) (i : ℕ) → ((k : ℕ) → FitsSigned w16 (get_or xs k (pos 0))) → Each1 (Within 32768) (chunk i 8 xs)
-word_lanes xs i fits = Each1-weaker (FitsSigned w16) (Within 32768) (λ x f. omega (arith, ints)) (chunk i 8 xs) (eight_words xs i fits)
+-- eight samples that were written one by one
+pub eight_filled : (xs ys : List ℤ) (at : ℕ) → at + 8 ≤ length ys → xs ≡ map (λ k. get_or ys (at + k) (pos 0)) (range_with_len 0 8) → xs ≡ chunk at 8 ys
+eight_filled xs ys at h e =
+    e ∙ sym (shifted (λ k. get_or ys k (pos 0)) at 0 8) ∙ ap (λ i. map (λ k. get_or ys k (pos 0)) (range_with_len i 8)) (add-zero at) ∙ pick_l-range_with_len (pos 0) ys at 8 h
+
+-- eight words more
+pub words_more : (ys xs : List ℤ) (start i : ℕ) → xs ≡ chunk (start + i) 8 ys → start + i + 8 ≤ length ys → Each1 (Within 32768) xs →
+    ((k : ℕ) → k < i → Within 32768 (get_or ys (start + k) (pos 0))) → (k : ℕ) → k < i + 8 → Within 32768 (get_or ys (start + k) (pos 0))
+words_more ys xs start i e room words before k b =
+    elim (cases_lt k i) [
+      | inl l ↦ before k l
+      | inr l ↦
+        let long : length xs ≡ 8 = ap length e ∙ length-chunk (start + i) 8 ys room in
+        let here = Each1-get_or (Within 32768) xs (k - i) (pos 0) (omega arith) words in
+        let same : get_or xs (k - i) (pos 0) ≡ get_or ys (start + i + (k - i)) (pos 0) = ap (λ zs. get_or zs (k - i) (pos 0)) e ∙ get_or-chunk (start + i) 8 ys (k - i) (pos 0) (omega arith) in
+        let place : start + i + (k - i) ≡ start + k = omega arith in
+        subst (λ j. Within 32768 (get_or ys j (pos 0))) place (subst (Within 32768) same here)
+    ]
 
 -- a vector that is passed on is kept
 lanes_passed : (b : ℕ) (xs ys : List ℤ) → b ≤ 1073741823 → Each1 (Within b) ys → xs ≡ ys → map (to_z w32) (map (of_z w32) xs) ≡ ys
@@ -189,21 +194,21 @@ lanes_passed b xs ys m p e =
 pub passed_scaled : (wt xs : List ℤ) (i : ℕ) → length wt ≡ 40 → AreScaled wt → xs ≡ chunk i 8 wt → map (to_z w32) (map (of_z w32) xs) ≡ chunk i 8 wt
 passed_scaled wt xs i l scaled e = lanes_passed 512 xs (chunk i 8 wt) (lit≤ tt) (scaled_lanes wt i l scaled) e
 
-pub passed_words : (earlier xs : List ℤ) (i : ℕ) → ((k : ℕ) → FitsSigned w16 (get_or earlier k (pos 0))) → xs ≡ chunk i 8 earlier → map (to_z w32) (map (of_z w32) xs) ≡ chunk i 8 earlier
-passed_words earlier xs i fits e = lanes_passed 32768 xs (chunk i 8 earlier) (lit≤ tt) (word_lanes earlier i fits) e
-
 pub passed_scaled_within : (wt xs : List ℤ) (i : ℕ) → length wt ≡ 40 → AreScaled wt → xs ≡ chunk i 8 wt → Each1 (Within 512) (map (to_z w32) (map (of_z w32) xs))
 passed_scaled_within wt xs i l scaled e = subst (Each1 (Within 512)) (sym (passed_scaled wt xs i l scaled e)) (scaled_lanes wt i l scaled)
 
-pub passed_words_within : (earlier xs : List ℤ) (i : ℕ) → ((k : ℕ) → FitsSigned w16 (get_or earlier k (pos 0))) → xs ≡ chunk i 8 earlier → Each1 (Within 32768) (map (to_z w32) (map (of_z w32) xs))
-passed_words_within earlier xs i fits e = subst (Each1 (Within 32768)) (sym (passed_words earlier xs i fits e)) (word_lanes earlier i fits)
+pub passed_words : (xs : List ℤ) → Each1 (Within 32768) xs → map (to_z w32) (map (of_z w32) xs) ≡ xs
+passed_words xs words = lanes_passed 32768 xs xs (lit≤ tt) words refl
+
+pub passed_words_within : (xs : List ℤ) → Each1 (Within 32768) xs → Each1 (Within 32768) (map (to_z w32) (map (of_z w32) xs))
+passed_words_within xs words = subst (Each1 (Within 32768)) (sym (passed_words xs words)) words
 
 -- the products of eight samples with eight residuals
 abbrev pub row : List ℤ → List ℤ → ℕ → ℕ → List ℤ
 row wt earlier i at = zip2 ◌*ℤ◌ (chunk i 8 wt) (chunk at 8 earlier)
 
-pub row_within : (wt earlier : List ℤ) (i at : ℕ) → length wt ≡ 40 → AreScaled wt → ((k : ℕ) → FitsSigned w16 (get_or earlier k (pos 0))) → Each1 (Within 16777216) (row wt earlier i at)
-row_within wt earlier i at l scaled fits = products_within (chunk i 8 wt) (chunk at 8 earlier) (scaled_lanes wt i l scaled) (word_lanes earlier at fits)
+pub row_within : (wt earlier ys : List ℤ) (i at : ℕ) → length wt ≡ 40 → AreScaled wt → ys ≡ chunk at 8 earlier → Each1 (Within 32768) ys → Each1 (Within 16777216) (row wt earlier i at)
+row_within wt earlier ys i at l scaled e words = products_within (chunk i 8 wt) (chunk at 8 earlier) (scaled_lanes wt i l scaled) (subst (Each1 (Within 32768)) e words)
 
 pub row_length : (wt earlier : List ℤ) (i at : ℕ) → i + 8 ≤ length wt → at + 8 ≤ length earlier → length (row wt earlier i at) ≡ 8
 row_length wt earlier i at a b =
@@ -211,13 +216,13 @@ row_length wt earlier i at a b =
     let y = length-chunk at 8 earlier b in
     length-zip2 ◌*ℤ◌ (chunk i 8 wt) (chunk at 8 earlier) (x ∙ sym y) ∙ x
 
-pub row_passed : (wt earlier xs ys ps : List ℤ) (i at : ℕ) → length wt ≡ 40 → AreScaled wt → ((k : ℕ) → FitsSigned w16 (get_or earlier k (pos 0))) →
+pub row_passed : (wt earlier xs ys ps : List ℤ) (i at : ℕ) → length wt ≡ 40 → AreScaled wt → Each1 (Within 32768) ys →
     xs ≡ chunk i 8 wt → ys ≡ chunk at 8 earlier → ps ≡ zip2 ◌*ℤ◌ (map (to_z w32) (map (of_z w32) xs)) (map (to_z w32) (map (of_z w32) ys)) →
     map (to_z w32) (map (of_z w32) ps) ≡ row wt earlier i at
-row_passed wt earlier xs ys ps i at l scaled fits ex ey ep =
-    lanes_passed 16777216 ps (row wt earlier i at) (lit≤ tt) (row_within wt earlier i at l scaled fits)
+row_passed wt earlier xs ys ps i at l scaled words ex ey ep =
+    lanes_passed 16777216 ps (row wt earlier i at) (lit≤ tt) (row_within wt earlier ys i at l scaled ey words)
     (ep ∙ ap (λ zs. zip2 ◌*ℤ◌ zs (map (to_z w32) (map (of_z w32) ys))) (passed_scaled wt xs i l scaled ex) ∙
-    ap (λ zs. zip2 ◌*ℤ◌ (chunk i 8 wt) zs) (passed_words earlier ys at fits ey))
+    ap (λ zs. zip2 ◌*ℤ◌ (chunk i 8 wt) zs) (passed_words ys words ∙ ey))
 
 -- the sums after a row more
 pub next_within : (n : ℕ) (sums ps : List ℤ) → Each1 (Within (16777216 * n)) sums → Each1 (Within 16777216) ps → Each1 (Within (16777216 * (n + 1))) (zip2 ◌+ℤ◌ sums ps)

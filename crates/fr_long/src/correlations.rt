@@ -5,8 +5,7 @@
 //! the processor has instructions on eight words of 16 bits. Each factor is so small that no sum of 40
 //! products leaves 32 bits, in whatever order they are added.
 
-ghost use Rattle.std.specs.Prelude.{◌≡◌, ℕ, ◌+◌, ◌*◌, ◌≤◌, pos, ◌+ℤ◌, ◌*ℤ◌, unsigned_abs, length, fold, FitsSigned, slice_index_or};
-ghost use Rattle.std.specs.Int.{w16};
+ghost use Rattle.std.specs.Prelude.{◌≡◌, ◌+◌, ◌*◌, ◌≤◌, pos, ◌+ℤ◌, ◌*ℤ◌, unsigned_abs, length, fold};
 ghost use Rattle.std.specs.Simd.Lanes.{chunk, zip2, Each1};
 ghost use Rattle.fr_long.specs.Scaling.{AreScaled};
 ghost use Rattle.fr_long.specs.Lag.{correlation_of};
@@ -36,19 +35,15 @@ pub(crate) fn correlation(wt: &[i16; 40], earlier: &[i16; 120], lag: u8) -> i32
 
 /// The eight samples from place `at` on.
 fn eight(samples: &[i16], at: usize) -> i32x8
-    requires place { at + 8 ≤ length samples.now }
-    requires words { (k : ℕ) → FitsSigned w16 (slice_index_or samples.now k (pos 0)) }
-    ensures { result ≡ chunk at 8 samples.now }
+    requires { at + 8 ≤ length samples.now }
+    ensures value { result ≡ chunk at 8 samples.now }
+    ensures words { Each1 (λ x. unsigned_abs x ≤ 32768) result }
 {
-    wide(i16x8::from_slice(&samples[at..]))
-}
-
-/// Eight samples in lanes of 32 bits.
-fn wide(samples: i16x8) -> i32x8
-    requires { Each1 (FitsSigned w16) samples }
-    ensures { result ≡ samples }
-{
-    samples.cast::<i32>()
+    let mut lanes = [0; 8];
+    for place in 0..8 {
+        lanes[place] = i32::from(samples[at + place]);
+    }
+    i32x8::from_array(lanes)
 }
 
 /// The products of eight samples of a scaled block with eight residuals.

@@ -1,4 +1,4 @@
-use Rattle.std.proofs.Common.{◌≡◌, ℕ, ◌+◌, ◌-◌, ◌*◌, ◌≤◌, pos, ◌+ℤ◌, ◌*ℤ◌, length, get_or, fold, map, ap, sym, subst, refl, ◌∙◌, arith, rules, FitsSigned, w16, w32, to_z, of_z}
+use Rattle.std.proofs.Common.{◌≡◌, ℕ, ◌+◌, ◌-◌, ◌*◌, ◌<◌, ◌≤◌, pos, ◌+ℤ◌, ◌*ℤ◌, length, get_or, fold, map, ap, sym, subst, refl, ◌∙◌, arith, rules, FitsSigned, w16, w32, to_z, of_z}
 use Rattle.std.specs.List.{range_with_len}
 use Rattle.std.specs.Simd.Lanes.{zip2, Each1}
 use Rattle.std.proofs.lemmas.Int.{ints}
@@ -8,17 +8,16 @@ use Rattle.trau_num.specs.Num.{l_mult_of}
 use Rattle.fr_long.specs.Scaling.{sample}
 use Rattle.fr_long.specs.Synthesis.{sample_before}
 use Rattle.fr_long.specs.Lag.{correlation_of}
-use Rattle.fr_long.proofs.Lanes.{Within, row, product_at, passed_scaled_within, passed_words_within, row_passed, row_within, row_length, next_within, next_passed, eight_more, doubled_sum, doubled_term}
+use Rattle.fr_long.proofs.Lanes.{Within, row, product_at, passed_scaled_within, passed_words_within, row_passed, row_within, row_length, next_within, next_passed, eight_more, doubled_sum, doubled_term, words_more}
 use Rattle.fr_long.proofs.correlations.correlation.Goals as goal
 
 pub products-products-requires-clause-scaled : goal.products-products-requires-clause-scaled
 products-products-requires-clause-scaled c =
-    passed_scaled_within c.args.wt.now c.eight.result (8 * c.loop-block.block) (omega arith) c.requires.scaled c.eight.ensures
+    passed_scaled_within c.args.wt.now c.eight.result (8 * c.loop-block.block) (omega arith) c.requires.scaled c.eight.ensures.value
 
 pub products-products-requires-clause-words : goal.products-products-requires-clause-words
 products-products-requires-clause-words c =
-    let fits : (k : ℕ) → FitsSigned w16 (get_or c.args.earlier.now k (pos 0)) = λ k. search rules in
-    passed_words_within c.args.earlier.now c.eight-in-loop-block.result (120 - c.args.lag + 8 * c.loop-block.block) fits c.eight-in-loop-block.ensures
+    passed_words_within c.eight-in-loop-block.result c.eight-in-loop-block.ensures.words
 
 pub sums-halves-requires-clause-small_a : goal.sums-halves-requires-clause-small_a
 sums-halves-requires-clause-small_a c =
@@ -26,20 +25,18 @@ sums-halves-requires-clause-small_a c =
 
 pub sums-halves-requires-clause-small_b : goal.sums-halves-requires-clause-small_b
 sums-halves-requires-clause-small_b c =
-    let fits : (k : ℕ) → FitsSigned w16 (get_or c.args.earlier.now k (pos 0)) = λ k. search rules in
     let i = 8 * c.loop-block.block in
     let at = 120 - c.args.lag + 8 * c.loop-block.block in
-    let passed = row_passed c.args.wt.now c.args.earlier.now c.eight.result c.eight-in-loop-block.result c.products-products.result i at (omega arith) c.requires.scaled fits c.eight.ensures c.eight-in-loop-block.ensures c.products-products.ensures in
-    let within = row_within c.args.wt.now c.args.earlier.now i at (omega arith) c.requires.scaled fits in
+    let passed = row_passed c.args.wt.now c.args.earlier.now c.eight.result c.eight-in-loop-block.result c.products-products.result i at (omega arith) c.requires.scaled c.eight-in-loop-block.ensures.words c.eight.ensures.value c.eight-in-loop-block.ensures.value c.products-products.ensures in
+    let within = row_within c.args.wt.now c.args.earlier.now c.eight-in-loop-block.result i at (omega arith) c.requires.scaled c.eight-in-loop-block.ensures.value c.eight-in-loop-block.ensures.words in
     subst (Each1 (Within 1073741823)) (sym passed) (Each1-weaker (Within 16777216) (Within 1073741823) (λ x h. omega arith) _ within)
 
 pub loop-block-preserved : goal.loop-block-preserved
 loop-block-preserved c =
-    let fits : (k : ℕ) → FitsSigned w16 (get_or c.args.earlier.now k (pos 0)) = λ k. search rules in
     let i : ℕ = 8 * c.loop-block.block in
     let at : ℕ = 120 - c.args.lag + 8 * c.loop-block.block in
-    let passed = row_passed c.args.wt.now c.args.earlier.now c.eight.result c.eight-in-loop-block.result c.products-products.result i at (omega arith) c.requires.scaled fits c.eight.ensures c.eight-in-loop-block.ensures c.products-products.ensures in
-    let within = row_within c.args.wt.now c.args.earlier.now i at (omega arith) c.requires.scaled fits in
+    let passed = row_passed c.args.wt.now c.args.earlier.now c.eight.result c.eight-in-loop-block.result c.products-products.result i at (omega arith) c.requires.scaled c.eight-in-loop-block.ensures.words c.eight.ensures.value c.eight-in-loop-block.ensures.value c.products-products.ensures in
+    let within = row_within c.args.wt.now c.args.earlier.now c.eight-in-loop-block.result i at (omega arith) c.requires.scaled c.eight-in-loop-block.ensures.value c.eight-in-loop-block.ensures.words in
     let long = row_length c.args.wt.now c.args.earlier.now i at (omega arith) (omega arith) in
     let sums = map (to_z w32) c.loop-block.halves in
     let next = next_passed c.loop-block.block sums (row c.args.wt.now c.args.earlier.now i at) _ c.sums-halves.result (omega arith) c.loop-block.invariant.small within passed c.sums-halves.ensures in
@@ -50,6 +47,8 @@ loop-block-preserved c =
       value = ap (fold ◌+ℤ◌ (pos 0)) next ∙
         eight_more c.args.wt.now c.args.earlier.now sums (120 - c.args.lag) i eight (omega arith) (omega arith) c.loop-block.invariant.value ∙
         ap (λ n. fold ◌+ℤ◌ (pos 0) (map (product_at c.args.wt.now c.args.earlier.now (120 - c.args.lag)) (range_with_len 0 n))) place;
+      words = subst (λ n. (k : ℕ) → k < n → Within 32768 (get_or c.args.earlier.now (120 - c.args.lag + k) (pos 0))) place
+        (words_more c.args.earlier.now c.eight-in-loop-block.result (120 - c.args.lag) i c.eight-in-loop-block.ensures.value (omega arith) c.eight-in-loop-block.ensures.words c.loop-block.invariant.words);
       small = subst (Each1 (Within (16777216 * (c.loop-block.block + 1)))) (sym next) (next_within c.loop-block.block sums (row c.args.wt.now c.args.earlier.now i at) c.loop-block.invariant.small within);
     }
 
@@ -60,9 +59,9 @@ total-requires-clause-small c =
 pub returns-clause-value : goal.returns-clause-value
 unfolding correlation_of
 returns-clause-value c =
-    let words : (k : ℕ) → Within 32768 (get_or c.args.earlier.now k (pos 0)) = λ k. let f : FitsSigned w16 (get_or c.args.earlier.now k (pos 0)) = search rules in omega (arith, ints) in
-    let terms = λ (k : ℕ). doubled_term c.args.wt.now c.args.earlier.now c.args.lag k (omega arith) (omega arith) (omega arith) c.requires.scaled words in
     let last : 8 * c.loop-block.block ≡ 40 = omega arith in
+    let words = c.loop-block.invariant.words in
+    let terms = λ (k : ℕ). doubled_term c.args.wt.now c.args.earlier.now c.args.lag k (omega arith) (omega arith) (omega arith) c.requires.scaled (λ b. words k (omega arith)) in
     let value : c.total.result ≡ fold ◌+ℤ◌ (pos 0) (map (product_at c.args.wt.now c.args.earlier.now (120 - c.args.lag)) (range_with_len 0 40)) =
       c.total.ensures.value ∙ c.loop-block.invariant.value ∙ ap (λ n. fold ◌+ℤ◌ (pos 0) (map (product_at c.args.wt.now c.args.earlier.now (120 - c.args.lag)) (range_with_len 0 n))) last in
     let bound = c.total.ensures.bound in
