@@ -1,5 +1,5 @@
 -- Signed lanes whose sums and products fit, and sums of products lane by lane.
-use Rattle.std.proofs.Common.{◌≡◌, ℕ, zero, suc, ◌+◌, ◌-◌, ◌*◌, ◌%◌, ◌^◌, ◌<◌, ◌≤◌, ℤ, pos, ◌+ℤ◌, ◌*ℤ◌, unsigned_abs, FitsSigned, w16, w32, to_z, of_z, fold, map, List, [], ◌∷◌, ◌++◌, length, get_or, refl, ap, sym, subst, ◌∙◌, arith, lit<, lit≤, mul-le-mul, inl, inr, add-zero, add-one}
+use Rattle.std.proofs.Common.{◌≡◌, ℕ, zero, suc, ◌+◌, ◌-◌, ◌*◌, ◌%◌, ◌^◌, ◌<◌, ◌≤◌, ℤ, pos, ◌+ℤ◌, ◌*ℤ◌, unsigned_abs, FitsSigned, w32, to_z, of_z, fold, map, List, [], ◌∷◌, length, get_or, refl, ap, sym, subst, ◌∙◌, arith, lit<, lit≤, mul-le-mul, inl, inr, add-zero, add-one}
 use Rattle.std.specs.List.{range_with_len}
 use Rattle.std.specs.Int.{Width}
 use Rattle.std.proofs.lemmas.Int.{ints, to_z-of_z, of_z-to_z, unsigned_abs-mul, wrapping_add_is, wrapping_mul_is, int_wrap_fits, fits_signed_mul}
@@ -178,11 +178,11 @@ words_more ys xs start i e room words before k b =
     elim (cases_lt k i) [
       | inl l ↦ before k l
       | inr l ↦
-        let long : length xs ≡ 8 = ap length e ∙ length-chunk (start + i) 8 ys room in
-        let here = Each1-get_or (Within 32768) xs (k - i) (pos 0) (omega arith) words in
-        let same : get_or xs (k - i) (pos 0) ≡ get_or ys (start + i + (k - i)) (pos 0) = ap (λ zs. get_or zs (k - i) (pos 0)) e ∙ get_or-chunk (start + i) 8 ys (k - i) (pos 0) (omega arith) in
-        let place : start + i + (k - i) ≡ start + k = omega arith in
-        subst (λ j. Within 32768 (get_or ys j (pos 0))) place (subst (Within 32768) same here)
+          let long : length xs ≡ 8 = ap length e ∙ length-chunk (start + i) 8 ys room in
+          let here = Each1-get_or (Within 32768) xs (k - i) (pos 0) (omega arith) words in
+          let same : get_or xs (k - i) (pos 0) ≡ get_or ys (start + i + (k - i)) (pos 0) = ap (λ zs. get_or zs (k - i) (pos 0)) e ∙ get_or-chunk (start + i) 8 ys (k - i) (pos 0) (omega arith) in
+          let place : start + i + (k - i) ≡ start + k = omega arith in
+          subst (λ j. Within 32768 (get_or ys j (pos 0))) place (subst (Within 32768) same here)
     ]
 
 -- a vector that is passed on is kept

@@ -1,6 +1,6 @@
-use Rattle.std.proofs.Common.{◌≡◌, ℕ, ◌+◌, ◌-◌, ◌*◌, ◌<◌, ◌≤◌, pos, ◌+ℤ◌, ◌*ℤ◌, length, get_or, fold, map, ap, sym, subst, refl, ◌∙◌, arith, rules, FitsSigned, w16, w32, to_z, of_z}
+use Rattle.std.proofs.Common.{◌≡◌, ℕ, ◌+◌, ◌-◌, ◌*◌, ◌<◌, pos, ◌+ℤ◌, ◌*ℤ◌, length, get_or, fold, map, ap, sym, subst, refl, ◌∙◌, arith, w32, to_z, of_z}
 use Rattle.std.specs.List.{range_with_len}
-use Rattle.std.specs.Simd.Lanes.{zip2, Each1}
+use Rattle.std.specs.Simd.Lanes.{Each1}
 use Rattle.std.proofs.lemmas.Int.{ints}
 use Rattle.std.proofs.lemmas.Simd.{Each1-weaker, length-zip2}
 use Rattle.std.proofs.lemmas.List.{length-map}
@@ -45,10 +45,10 @@ loop-block-preserved c =
     record {
       length_is = simp length-map (simp length-map at (ap length next) ∙ length-zip2 ◌+ℤ◌ sums (row c.args.wt.now c.args.earlier.now i at) (eight ∙ sym long) ∙ eight);
       value = ap (fold ◌+ℤ◌ (pos 0)) next ∙
-        eight_more c.args.wt.now c.args.earlier.now sums (120 - c.args.lag) i eight (omega arith) (omega arith) c.loop-block.invariant.value ∙
-        ap (λ n. fold ◌+ℤ◌ (pos 0) (map (product_at c.args.wt.now c.args.earlier.now (120 - c.args.lag)) (range_with_len 0 n))) place;
+          eight_more c.args.wt.now c.args.earlier.now sums (120 - c.args.lag) i eight (omega arith) (omega arith) c.loop-block.invariant.value ∙
+          ap (λ n. fold ◌+ℤ◌ (pos 0) (map (product_at c.args.wt.now c.args.earlier.now (120 - c.args.lag)) (range_with_len 0 n))) place;
       words = subst (λ n. (k : ℕ) → k < n → Within 32768 (get_or c.args.earlier.now (120 - c.args.lag + k) (pos 0))) place
-        (words_more c.args.earlier.now c.eight-in-loop-block.result (120 - c.args.lag) i c.eight-in-loop-block.ensures.value (omega arith) c.eight-in-loop-block.ensures.words c.loop-block.invariant.words);
+          (words_more c.args.earlier.now c.eight-in-loop-block.result (120 - c.args.lag) i c.eight-in-loop-block.ensures.value (omega arith) c.eight-in-loop-block.ensures.words c.loop-block.invariant.words);
       small = subst (Each1 (Within (16777216 * (c.loop-block.block + 1)))) (sym next) (next_within c.loop-block.block sums (row c.args.wt.now c.args.earlier.now i at) c.loop-block.invariant.small within);
     }
 
@@ -63,7 +63,7 @@ returns-clause-value c =
     let words = c.loop-block.invariant.words in
     let terms = λ (k : ℕ). doubled_term c.args.wt.now c.args.earlier.now c.args.lag k (omega arith) (omega arith) (omega arith) c.requires.scaled (λ b. words k (omega arith)) in
     let value : c.total.result ≡ fold ◌+ℤ◌ (pos 0) (map (product_at c.args.wt.now c.args.earlier.now (120 - c.args.lag)) (range_with_len 0 40)) =
-      c.total.ensures.value ∙ c.loop-block.invariant.value ∙ ap (λ n. fold ◌+ℤ◌ (pos 0) (map (product_at c.args.wt.now c.args.earlier.now (120 - c.args.lag)) (range_with_len 0 n))) last in
+    c.total.ensures.value ∙ c.loop-block.invariant.value ∙ ap (λ n. fold ◌+ℤ◌ (pos 0) (map (product_at c.args.wt.now c.args.earlier.now (120 - c.args.lag)) (range_with_len 0 n))) last in
     let bound = c.total.ensures.bound in
     let kept : to_z w32 (of_z w32 (to_z w32 (of_z w32 c.total.result) *ℤ pos 2)) ≡ c.total.result *ℤ pos 2 = omega (arith, ints) in
     kept ∙ ap (λ z. z *ℤ pos 2) value ∙

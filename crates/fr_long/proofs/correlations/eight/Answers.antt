@@ -1,4 +1,4 @@
-use Rattle.std.proofs.Common.{◌≡◌, ◌+◌, ◌≤◌, pos, get_or, rules, arith, ◌∙◌, FitsSigned, w16, w32, to_z, of_z, length}
+use Rattle.std.proofs.Common.{◌≡◌, ◌+◌, pos, get_or, rules, arith, ◌∙◌, FitsSigned, w16, w32, to_z, of_z}
 use Rattle.std.specs.Simd.Lanes.{Each1}
 use Rattle.std.proofs.lemmas.Int.{ints}
 use Rattle.std.proofs.lemmas.Simd.{Each1-from_get_or}

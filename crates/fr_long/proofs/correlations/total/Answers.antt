@@ -1,4 +1,4 @@
-use Rattle.std.proofs.Common.{pos, arith, ◌∙◌, ap, unsigned_abs, ◌≤◌, sym, subst}
+use Rattle.std.proofs.Common.{pos, arith, unsigned_abs, ◌≤◌, sym, subst}
 use Rattle.fr_long.proofs.Lanes.{lanes_total, total_within}
 use Rattle.fr_long.proofs.correlations.total.Goals as goal
 
