@@ -1,4 +1,5 @@
 pub mod Blocks
 pub mod Histories
+pub mod Lanes
 pub mod Predictions
 pub mod Search

@@ -4,7 +4,7 @@ ghost use Rattle.std.specs.Prelude.{◌≡◌, pos, ◌≤ℤ◌};
 ghost use Rattle.fr_long.specs.Scaling.{AreScaled};
 ghost use Rattle.fr_long.specs.Lag.{correlation_of, IsLag, greatest_of};
 
-use crate::sums::correlation;
+use crate::correlations::correlation;
 
 /// A lag of 40 to 120 samples, and the correlation there, or 0 where none is positive.
 #[derive(Clone, Copy)]

@@ -5,7 +5,7 @@
 //!
 //! The encoding side is `LtpHistory`. It takes a block of the residual from short-term analysis, finds its
 //! lag and gain, and leaves `fr_rpe` the block less its prediction; the pulses of `fr_rpe` then go back
-//! into the history. `scaling`, `sums`, `lag` and `gain_code` are its steps. The decoding side is
+//! into the history. `scaling`, `lag` over `correlations`, `sums` and `gain_code` are its steps. The decoding side is
 //! `LtpDecoder`. It takes a block of pulses from `fr_rpe` and adds the prediction back; short-term
 //! synthesis takes the reconstructed residual from there. Both use the gains of `gain` and the `memory` of
 //! 120 samples.
@@ -15,6 +15,7 @@
 //! home, `specs/Memory.antt` from block to block; `specs/Gain.antt` has the gains.
 #![tactic(auto)]
 
+mod correlations;
 mod decoder;
 mod encoder;
 mod gain;

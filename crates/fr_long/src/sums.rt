@@ -4,9 +4,7 @@
 
 ghost use Rattle.std.specs.Prelude.{◌≡◌, ℕ, ◌*◌, ◌≤◌, pos, ◌*ℤ◌, ◌≤ℤ◌, unsigned_abs};
 ghost use Rattle.trau_num.specs.Num.{l_mult_of};
-ghost use Rattle.fr_long.specs.Scaling.{AreScaled};
 ghost use Rattle.fr_long.specs.GainCode.{energy_of, power_of};
-ghost use Rattle.fr_long.specs.Lag.{correlation_of};
 
 /// The product of two words, of which 40 fit a sum.
 fn small_product(a: i16, b: i16) -> i32
@@ -15,22 +13,6 @@ fn small_product(a: i16, b: i16) -> i32
     ensures bound { unsigned_abs result ≤ 16777216 }
 {
     i32::from(a) * i32::from(b)
-}
-
-/// The correlation of a scaled block with the residuals that lie `lag` samples before it.
-pub(crate) fn correlation(wt: &[i16; 40], earlier: &[i16; 120], lag: u8) -> i32
-    requires scaled { AreScaled wt.now }
-    requires at_least { 40 ≤ lag }
-    requires at_most { lag ≤ 120 }
-    ensures value { result ≡ correlation_of wt.now earlier.now lag }
-    ensures bound { unsigned_abs result ≤ 1342177280 }
-{
-    let start = 120 - lag as usize;
-    let mut half = 0;
-    for k in 0..40 {
-        half += small_product(wt[k], earlier[start + k]);
-    }
-    half * 2
 }
 
 /// The energy of the residuals that lie `lag` samples before a block.
