@@ -40,7 +40,7 @@ def peer(bench, codec, way, count):
 
 
 def microseconds(bench, command):
-    return best_times(command, bench.runs).user / bench.frames * 1e6
+    return best_times(command, bench.runs).processor / bench.frames * 1e6
 
 
 def our_rows(bench, way):

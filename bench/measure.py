@@ -6,7 +6,8 @@ import subprocess
 import sys
 import time
 
-Times = collections.namedtuple("Times", "wall user system")
+# Of one command, in seconds: wall; processor, which is user and system together; system.
+Times = collections.namedtuple("Times", "wall processor system")
 Command = collections.namedtuple("Command", "words folder input output", defaults=(None, None))
 
 
@@ -45,13 +46,15 @@ def times_once(command):
     wall = time.perf_counter() - begun
     process.returncode = os.waitstatus_to_exitcode(status)
     check(command, process.returncode)
-    return Times(wall, usage.ru_utime, usage.ru_stime)
+    return Times(wall, usage.ru_utime + usage.ru_stime, usage.ru_stime)
 
 
 def best_times(command, runs):
-    """The least wall, user and system time, each over all runs."""
+    """The least wall and the least processor time of all runs. The system's share is known by samples alone, one a tick
+    of the kernel's clock, so that of it the mean is taken."""
     say(f"{runs} x {text_of(command)}")
-    return Times(*map(min, zip(*(times_once(command) for _ in range(runs)))))
+    wall, processor, system = zip(*(times_once(command) for _ in range(runs)))
+    return Times(min(wall), min(processor), sum(system) / runs)
 
 
 def peak_kilobytes(command):

@@ -19,8 +19,8 @@ def hundredth(number):
 
 
 def milliseconds(seconds):
-    return f"{seconds * 1000:,.0f}"
+    return tenth(seconds * 1000)
 
 
 def ratio(of, to):
-    return "" if of is None or to is None else hundredth(of / to)
+    return hundredth(of / to) if of is not None and to else ""
