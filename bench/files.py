@@ -1,21 +1,21 @@
-"""Which functions of a callgrind report open, read, write and close files."""
+"""Which functions open, read, write and close files."""
 
 import re
 
-# Of the C library and of this program. Where the compiler joined a function into its caller, its instructions are the
-# caller's: what `read_block`, `write_all` and the counts of a line take stays in what is counted as the codec's.
+# The system's calls, the standard library's opening of files, the lines as files, and whole transfers with what the
+# compiler joined into them. The clearing and copying of memory isn't among them, since the codec's is counted with it.
 FOR_FILES = re.compile(
-    r"^(_*(open|openat|read|write|lseek|close|fcntl)(64)?(_nocancel)?(@.*)?)$"
+    r"^(open|close|lseek|read|write)$"
+    r"|^std::fs::"
+    r"|^trau_program::trunk::"
+    r"|^trau_io::transfer::(read_block|write_all)\b"
 )
 
 
-def is_for_files(function):
-    return bool(FOR_FILES.search(function))
-
-
 def cost(by_function):
-    return sum(instructions for function, instructions in by_function.items() if is_for_files(function))
+    return sum(instructions for function, instructions in by_function.items() if FOR_FILES.search(function))
 
 
 def left_out(by_function):
-    return sorted(function for function in by_function if is_for_files(function))
+    """The names of such functions that cost something."""
+    return sorted(function for function in by_function if FOR_FILES.search(function))

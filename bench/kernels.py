@@ -14,6 +14,10 @@ PEERS = {
 }
 
 Row = collections.namedtuple("Row", "name contains instructions microseconds")
+
+# The rows of a direction; for each peer how many of its frames are equal to ours; our instructions by function.
+Measured = collections.namedtuple("Measured", "rows same by_function")
+
 Way = collections.namedtuple("Way", "name side made octets_in")
 
 ENCODE = Way("encode", "pcm", "down", frames.ALAW_OCTETS)
@@ -43,8 +47,7 @@ def microseconds(bench, command):
     return best_times(command, bench.runs).processor / bench.frames * 1e6
 
 
-def our_rows(bench, way):
-    by_function = difference(lambda count: ours(bench, way, count), *bench.lengths)
+def our_rows(bench, way, by_function):
     time = microseconds(bench, ours(bench, way, bench.frames))
     whole, for_files = sum(by_function.values()), files.cost(by_function)
     forms = "A-law and frames of 40 octets"
@@ -77,7 +80,7 @@ def equal_frames(bench, codec, way):
 
 
 def measured(bench, way):
-    """The rows of a direction, and for each peer how many of its frames are equal to ours."""
     say(f"the codec: {way.name}")
-    rows = [*our_rows(bench, way), *(peer_row(bench, codec, way) for codec in PEERS)]
-    return rows, {codec: equal_frames(bench, codec, way) for codec in PEERS}
+    by_function = difference(lambda count: ours(bench, way, count), *bench.lengths)
+    rows = [*our_rows(bench, way, by_function), *(peer_row(bench, codec, way) for codec in PEERS)]
+    return Measured(rows, {codec: equal_frames(bench, codec, way) for codec in PEERS}, by_function)

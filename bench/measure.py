@@ -2,9 +2,13 @@
 
 import collections
 import os
+import re
 import subprocess
 import sys
 import time
+
+# The mark of one of the instances of a generic function.
+INSTANCE = re.compile(r"::<#[0-9a-f]+>")
 
 # Of one command, in seconds: wall; processor, which is user and system together; system.
 Times = collections.namedtuple("Times", "wall processor system")
@@ -84,7 +88,7 @@ def own_costs(lines):
         if line.startswith(("fn=", "cfn=")):
             kind, _, told = line.strip().partition("=")
             number, _, name = told.partition(" ")
-            names.setdefault(number, name)
+            names.setdefault(number, INSTANCE.sub("", name))
             if kind == "fn":
                 function = names[number]
         elif line.startswith("calls="):
