@@ -15,13 +15,14 @@ PEERS = {
 
 Row = collections.namedtuple("Row", "name contains instructions microseconds")
 
-# The rows of a direction; for each peer how many of its frames are equal to ours; our instructions by function.
-Measured = collections.namedtuple("Measured", "rows same by_function")
+# Of a direction: its rows; for each peer how many of its frames are equal to ours; our instructions by function.
+Measured = collections.namedtuple("Measured", "way rows same by_function")
 
 Way = collections.namedtuple("Way", "name side made octets_in")
 
 ENCODE = Way("encode", "pcm", "down", frames.ALAW_OCTETS)
 DECODE = Way("decode", "up", "out", frames.TRAU_OCTETS)
+RELAY = Way("relay", "up", "down", frames.TRAU_OCTETS)
 
 
 def ours(bench, way, count):
@@ -79,8 +80,13 @@ def equal_frames(bench, codec, way):
     return frames.equal(mine, theirs, length)
 
 
+def instructions_by_function(bench, way):
+    """Ours of one frame."""
+    return difference(lambda count: ours(bench, way, count), *bench.lengths)
+
+
 def measured(bench, way):
     say(f"the codec: {way.name}")
-    by_function = difference(lambda count: ours(bench, way, count), *bench.lengths)
+    by_function = instructions_by_function(bench, way)
     rows = [*our_rows(bench, way, by_function), *(peer_row(bench, codec, way) for codec in PEERS)]
-    return Measured(rows, {codec: equal_frames(bench, codec, way) for codec in PEERS}, by_function)
+    return Measured(way, rows, {codec: equal_frames(bench, codec, way) for codec in PEERS}, by_function)
