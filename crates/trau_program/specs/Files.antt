@@ -1,5 +1,5 @@
 -- Lines as files: their names, and what is known of them (this project's profile).
-use Rattle.std.specs.Prelude.{ℕ, ◌+◌, ◌-◌, ◌^◌, min, List, ◌++◌, Option, Some, None, Result, Ok, Err, codes, decimal, slice_get}
+use Rattle.std.specs.Prelude.{◌≡◌, ℕ, ◌+◌, ◌-◌, ◌^◌, min, List, ◌++◌, Option, Some, None, Result, Ok, Err, codes, decimal, slice_get}
 use Rattle.trau_io.specs.declared.line.Failed.{Failed}
 use Rattle.trau_io.specs.declared.line.Side.{Side}
 use Rattle.trau_io.specs.declared.line.Side.TheVariants.{Up, Pcm, Down, Out}
@@ -47,3 +47,23 @@ known_of (Some l) = state_of l
 
 abbrev pub states_of : List FileLine → ℕ → Side → LineState
 states_of lines call side = known_of (slice_get lines (place_of call side))
+
+-- a line's file that is open, and the octet at which it stands
+pub record OpenLine : Type 0 where
+  pub call : ℕ
+  pub side : Side
+  pub at : ℕ
+
+-- the files that are open: the one that was read last, and the one that was written last
+pub record OpenFiles : Type 0 where
+  pub reading : Option OpenLine
+  pub writing : Option OpenLine
+
+-- an open file is this line's and stands at this octet
+abbrev pub StandsAt : Option OpenLine → ℕ → Side → ℕ → Type 0
+StandsAt file call side at = file ≡ Some (record { call = call; side = side; at = at })
+
+-- the file that is open after a call at this octet of a line with this answer
+abbrev pub open_after : {E : Type 0} → ℕ → Side → ℕ → Result ℕ E → Option OpenLine
+open_after call side at (Ok n) = Some (record { call = call; side = side; at = raised at n })
+open_after call side at (Err e) = None

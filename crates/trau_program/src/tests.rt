@@ -33,6 +33,52 @@ fn lines_are_files(rt: HostRuntime) -> Result<(), Fail> {
     Ok(())
 }
 
+// Each line goes on at its own octet: also where another was read or written in between.
+#[test]
+fn lines_take_turns(rt: HostRuntime) -> Result<(), Fail> {
+    let mut octet = [0];
+    fs::write(&rt, "4096.up", [1, 2, 3].as_slice())?;
+    fs::write(&rt, "9.out", [4, 5, 6].as_slice())?;
+    let mut trunk = FileTrunk::new(rt.alloc(), &rt)?;
+    for (up, out) in [(1, 4), (2, 5)] {
+        assert_eq!(rt; trunk.read(UP, &mut octet).ok(), Some(1));
+        assert_eq!(rt; octet, [up]);
+        assert_eq!(rt; trunk.read(OUT, &mut octet).ok(), Some(1));
+        assert_eq!(rt; octet, [out]);
+    }
+    assert_eq!(rt; trunk.write(OUT, &[7]).ok(), Some(1));
+    assert_eq!(rt; trunk.read(UP, &mut octet).ok(), Some(1));
+    assert_eq!(rt; octet, [3]);
+    assert_eq!(rt; trunk.write(UP, &[8]).ok(), Some(1));
+    assert_eq!(rt; trunk.write(OUT, &[9]).ok(), Some(1));
+    assert_eq!(rt; fs::read(&rt, "9.out")?.as_slice(), [7, 9].as_slice());
+    assert_eq!(rt; fs::read(&rt, "4096.up")?.as_slice(), [8].as_slice());
+    Ok(())
+}
+
+// The file that was used last is open and outlives its name; any other is looked for by its name.
+#[test]
+fn a_removed_file_goes_on_while_it_is_open(rt: HostRuntime) -> Result<(), Fail> {
+    let mut octet = [0];
+    fs::write(&rt, "4096.up", [1, 2, 3].as_slice())?;
+    let mut trunk = FileTrunk::new(rt.alloc(), &rt)?;
+    assert_eq!(rt; trunk.read(UP, &mut octet).ok(), Some(1));
+    assert_eq!(rt; trunk.write(OUT, &[7]).ok(), Some(1));
+    fs::remove_file(&rt, "4096.up")?;
+    fs::remove_file(&rt, "9.out")?;
+    assert_eq!(rt; trunk.read(UP, &mut octet).ok(), Some(1));
+    assert_eq!(rt; octet, [2]);
+    assert_eq!(rt; trunk.write(OUT, &[8]).ok(), Some(1));
+    assert!(rt; trunk.read(OUT, &mut octet).is_err());
+    assert!(rt; trunk.read(UP, &mut octet).is_err());
+    fs::write(&rt, "4096.up", [4, 5, 6].as_slice())?;
+    assert_eq!(rt; trunk.read(UP, &mut octet).ok(), Some(1));
+    assert_eq!(rt; octet, [6]);
+    assert_eq!(rt; trunk.write(UP, &[9]).ok(), Some(1));
+    assert!(rt; trunk.write(OUT, &[8]).is_err());
+    Ok(())
+}
+
 // Is interrupted before each call that moves anything.
 #[derive(Drop)]
 struct Interrupted<T> {

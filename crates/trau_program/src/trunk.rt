@@ -6,18 +6,21 @@ ghost use Rattle.trau_program.specs.Files.{FileLine, states_of, after_read, afte
 
 mod file;
 mod name;
+mod open;
 
 use file::LineFile;
+use open::LineFiles;
 use std::alloc::{AllocError, Global};
 use std::marker::Model;
 use std::rt::Files;
 use trau_io::{Failed, Line, PLACES, Trunk, place};
 
-/// All lines of a farm, each a file that is opened anew at each call, so that the number of open files
-/// is no limit. It tells how often each line failed, and nothing of its contents.
+/// All lines of a farm, each a file. The file that was read last and the one that was written last stay
+/// open, and the same line goes on there; any other is opened anew, so that the number of open files is
+/// no limit. It tells how often each line failed, and nothing of its contents.
 #[derive(Drop)]
 pub struct FileTrunk<'a, R: Files> {
-    files: &'a R,
+    files: LineFiles<'a, R>,
     lines: Vec<LineFile>,
 }
 
@@ -39,6 +42,7 @@ impl<'a, R: Files> FileTrunk<'a, R> {
         for _ in 0..PLACES {
             lines.push(LineFile::new())?;
         }
+        let files = LineFiles::new(files);
         Ok(FileTrunk { files, lines })
     }
 }
@@ -52,7 +56,7 @@ impl<'a, R: Files> Trunk for FileTrunk<'a, R> {
         ensures others { OthersStay (states_of self.old) (states_of self.new) line.call line.side }
         ensures after { IfSome (slice_get self.old (place_of line.call line.side)) (λ l. self.new ≡ slice_set self.old (place_of line.call line.side) (after_read l result)) }
     {
-        self.lines[place(line)].read(self.files, line, buf)
+        self.lines[place(line)].read(&mut self.files, line, buf)
     }
 
     fn write(&mut self, line: Line, bytes: &[u8]) -> Result<usize, Failed>
@@ -61,6 +65,6 @@ impl<'a, R: Files> Trunk for FileTrunk<'a, R> {
         ensures others { OthersStay (states_of self.old) (states_of self.new) line.call line.side }
         ensures after { IfSome (slice_get self.old (place_of line.call line.side)) (λ l. self.new ≡ slice_set self.old (place_of line.call line.side) (after_write l result)) }
     {
-        self.lines[place(line)].write(self.files, line, bytes)
+        self.lines[place(line)].write(&mut self.files, line, bytes)
     }
 }

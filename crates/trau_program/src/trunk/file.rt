@@ -1,14 +1,9 @@
 // One line as a file.
 ghost use Rattle.std.specs.Prelude.{◌≡◌, ◌≤◌};
-ghost use Rattle.std.specs.Io.{ReadsAtMost, WritesAtMost};
 ghost use Rattle.trau_io.specs.Lines.{Reads, Writes};
 ghost use Rattle.trau_program.specs.Files.{FileLine, raised, after_read, after_write, state_of};
 
-use super::name::name_of;
-use crate::retry::{read_again, write_again};
-use std::fs::OpenOptions;
-use std::io;
-use std::io::{Seek, SeekFrom};
+use super::open::LineFiles;
 use std::marker::Model;
 use std::rt::Files;
 use trau_io::{Failed, Line};
@@ -40,11 +35,16 @@ impl LineFile {
     }
 
     /// Moves the next octets of the file into the front of `buf`.
-    pub fn read<R: Files>(&mut self, files: &R, line: Line, buf: &mut [u8]) -> Result<usize, Failed>
+    pub fn read<R: Files>(
+        &mut self,
+        files: &mut LineFiles<'_, R>,
+        line: Line,
+        buf: &mut [u8],
+    ) -> Result<usize, Failed>
         ensures reads { Reads (state_of self.old) (state_of self.new) result buf.new }
         ensures after { self.new ≡ after_read self.old result }
     {
-        match read_at(files, line, self.read, buf) {
+        match files.read_at(line, self.read, buf) {
             Ok(count) => {
                 self.read = self.read.saturating_add(count as u64);
                 Ok(count)
@@ -55,17 +55,21 @@ impl LineFile {
 
     /// Appends the front of `bytes` to what was written, at least one octet. The first octets make the
     /// file anew.
-    pub fn write<R: Files>(&mut self, files: &R, line: Line, bytes: &[u8]) -> Result<usize, Failed>
+    pub fn write<R: Files>(
+        &mut self,
+        files: &mut LineFiles<'_, R>,
+        line: Line,
+        bytes: &[u8],
+    ) -> Result<usize, Failed>
         ensures writes { Writes (state_of self.old) (state_of self.new) result bytes.now }
         ensures after { self.new ≡ after_write self.old result }
     {
-        match write_at(files, line, self.written, bytes) {
-            // A file that takes nothing would be asked for ever.
-            Ok(count) if count > 0 => {
+        match files.write_at(line, self.written, bytes) {
+            Ok(count) => {
                 self.written = self.written.saturating_add(count as u64);
                 Ok(count)
             }
-            _ => Err(self.fail()),
+            Err(_) => Err(self.fail()),
         }
     }
 
@@ -77,26 +81,4 @@ impl LineFile {
         self.faults = self.faults.saturating_add(1);
         Failed
     }
-}
-
-fn read_at<R: Files>(files: &R, line: Line, at: u64, buf: &mut [u8]) -> io::Result<usize>
-    ensures { ReadsAtMost result buf.new }
-{
-    let name = name_of(line);
-    let mut file = OpenOptions::new().read(true).open(files, name.as_str())?;
-    file.seek(SeekFrom::Start(at))?;
-    read_again(&mut file, buf)
-}
-
-// Where nothing has been written yet, an older file of this name is emptied or a new one is made.
-fn write_at<R: Files>(files: &R, line: Line, at: u64, bytes: &[u8]) -> io::Result<usize>
-    ensures { WritesAtMost result bytes.now }
-{
-    let name = name_of(line);
-    let is_first = at == 0;
-    let mut how = OpenOptions::new();
-    how.write(true).create(is_first).truncate(is_first);
-    let mut file = how.open(files, name.as_str())?;
-    file.seek(SeekFrom::Start(at))?;
-    write_again(&mut file, bytes)
 }

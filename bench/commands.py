@@ -1,0 +1,46 @@
+"""Whole commands, with their files: this program beside toast and untoast."""
+
+import collections
+import os
+
+import frames
+from kernels import DECODE, ENCODE, read
+from measure import Command, best_times, say
+
+Row = collections.namedtuple("Row", "command reads writes times")
+
+
+def lay(bench):
+    """A folder with the lines of the calls 7 and 8 and what toast and untoast read."""
+    folder = bench.folder("commands")
+    pcm = bench.speech(ENCODE.side, ENCODE.octets_in, bench.frames)
+    up = bench.speech(DECODE.side, DECODE.octets_in, bench.frames)
+    gsm = frames.frames_for("libgsm", up)
+    for name, octets in (("7.pcm", pcm), ("7.up", up), ("8.up", up), ("7.gsm", gsm)):
+        with open(os.path.join(folder, name), "wb") as line:
+            line.write(octets)
+    return folder
+
+
+def rows(bench, folder):
+    def row(words, reads, writes, *streams):
+        command = Command(words, folder, *streams)
+        return Row(command, reads, writes, best_times(command, bench.runs))
+
+    yield row([bench.program, "encode", "7"], "A-law, 160 octets a frame", "40 octets a frame")
+    yield row(["toast", "-a"], "A-law, 160 octets a frame", "33 octets a frame", "7.pcm", "toast.gsm")
+    yield row([bench.program, "decode", "7"], "40 octets a frame", "A-law, 160 octets a frame")
+    yield row(["untoast", "-a"], "33 octets a frame", "A-law, 160 octets a frame", "7.gsm", "untoast.out")
+    yield row([bench.program, "relay", "8"], "40 octets a frame", "40 octets a frame")
+
+
+def measured(bench):
+    """The rows, and in how many frames toast and untoast wrote what this program did."""
+    say("whole commands")
+    folder = lay(bench)
+    told = list(rows(bench, folder))
+    down = frames.frames_for("libgsm", read(folder, "7.down"))
+    return told, {
+        "toast": frames.equal(down, read(folder, "toast.gsm"), 33),
+        "untoast": frames.equal(read(folder, "7.out"), read(folder, "untoast.out"), 160),
+    }

@@ -1,0 +1,92 @@
+"""The codec: this program beside libgsm and spandsp on the same frames."""
+
+import collections
+import os
+
+import files
+import frames
+from measure import Command, best_times, difference, say
+
+PEERS = {
+    "libgsm": "libgsm `gsm_{way}`",
+    "spandsp-33": "spandsp `gsm0610_{way}`, 33 octets a frame",
+    "spandsp-76": "spandsp `gsm0610_{way}`, 76 octets a frame",
+}
+
+Row = collections.namedtuple("Row", "name contains instructions microseconds")
+
+# Of a direction: its rows; for each peer how many of its frames are equal to ours; our instructions by function.
+Measured = collections.namedtuple("Measured", "way rows same by_function")
+
+Way = collections.namedtuple("Way", "name side made octets_in")
+
+ENCODE = Way("encode", "pcm", "down", frames.ALAW_OCTETS)
+DECODE = Way("decode", "up", "out", frames.TRAU_OCTETS)
+RELAY = Way("relay", "up", "down", frames.TRAU_OCTETS)
+
+
+def ours(bench, way, count):
+    """The program on a line of so many frames, in a folder of its own."""
+    folder = bench.folder(f"{way.name}-{count}")
+    with open(os.path.join(folder, f"7.{way.side}"), "wb") as line:
+        line.write(bench.speech(way.side, way.octets_in, count))
+    return Command([bench.program, way.name, "7"], folder)
+
+
+def given_to(codec, way, line):
+    return frames.samples_of(line) if way is ENCODE else frames.frames_for(codec, line)
+
+
+def peer(bench, codec, way, count):
+    folder = bench.folder(f"{way.name}-{count}")
+    with open(os.path.join(folder, f"{codec}.in"), "wb") as given:
+        given.write(given_to(codec, way, bench.speech(way.side, way.octets_in, count)))
+    return Command([bench.peers, codec, way.name, f"{codec}.in", f"{codec}.made"], folder)
+
+
+def microseconds(bench, command):
+    return best_times(command, bench.runs).processor / bench.frames * 1e6
+
+
+def our_rows(bench, way, by_function):
+    time = microseconds(bench, ours(bench, way, bench.frames))
+    whole, for_files = sum(by_function.values()), files.cost(by_function)
+    forms = "A-law and frames of 40 octets"
+    yield Row(f"`trau {way.name}`, the whole command", f"{forms}; files", whole, time)
+    yield Row(f"`trau {way.name}` without its files", forms, whole - for_files, None)
+
+
+def peer_row(bench, codec, way):
+    by_function = difference(lambda count: peer(bench, codec, way, count), *bench.lengths)
+    time = microseconds(bench, peer(bench, codec, way, bench.frames))
+    octets = 76 if codec == "spandsp-76" else 33
+    contains = f"samples of 16 bits and frames of {octets} octets, in memory"
+    return Row(PEERS[codec].format(way=way.name), contains, sum(by_function.values()), time)
+
+
+def read(folder, name):
+    with open(os.path.join(folder, name), "rb") as made:
+        return made.read()
+
+
+def equal_frames(bench, codec, way):
+    """In how many frames a peer's answer is ours, both as the last timed runs wrote them."""
+    folder = bench.folder(f"{way.name}-{bench.frames}")
+    mine, theirs = read(folder, f"7.{way.made}"), read(folder, f"{codec}.made")
+    if way is ENCODE:
+        mine, length = frames.frames_for(codec, mine), 76 if codec == "spandsp-76" else 33
+    else:
+        theirs, length = frames.alaw_of(theirs), frames.ALAW_OCTETS
+    return frames.equal(mine, theirs, length)
+
+
+def instructions_by_function(bench, way):
+    """Ours of one frame."""
+    return difference(lambda count: ours(bench, way, count), *bench.lengths)
+
+
+def measured(bench, way):
+    say(f"the codec: {way.name}")
+    by_function = instructions_by_function(bench, way)
+    rows = [*our_rows(bench, way, by_function), *(peer_row(bench, codec, way) for codec in PEERS)]
+    return Measured(way, rows, {codec: equal_frames(bench, codec, way) for codec in PEERS}, by_function)
