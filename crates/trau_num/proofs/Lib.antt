@@ -1,2 +1,3 @@
 pub mod Fill
+pub mod Fitting
 pub mod LeftShifts

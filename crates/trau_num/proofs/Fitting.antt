@@ -1,0 +1,17 @@
+-- Products of two words of 32 bits that keep bounds: they fit, have their value, and a bound of their own.
+use Rattle.std.proofs.Common.{mul-le-mul, ◌≡◌, ◌*◌, ◌≤◌, ◌<◌, ◌^◌, ◌*ℤ◌, ℕ, ℤ, unsigned_abs, FitsSigned, w32}
+use Rattle.std.proofs.lemmas.Int.{to_z-of_z, fits_signed_mul, unsigned_abs-mul}
+use mir.Val.{to_z, of_z}
+
+pub product_fits : (a b : ℤ) (m n : ℕ) → FitsSigned w32 a → FitsSigned w32 b → unsigned_abs a ≤ m → unsigned_abs b ≤ n → m * n < 2 ^ 31 →
+    FitsSigned w32 (to_z w32 (of_z w32 a) *ℤ to_z w32 (of_z w32 b))
+product_fits a b m n fa fb la lb room = simp to_z-of_z (fits_signed_mul w32 a b m n la lb room)
+
+pub product_is : (a b : ℤ) (m n : ℕ) → FitsSigned w32 a → FitsSigned w32 b → unsigned_abs a ≤ m → unsigned_abs b ≤ n → m * n < 2 ^ 31 →
+    to_z w32 (of_z w32 (to_z w32 (of_z w32 a) *ℤ to_z w32 (of_z w32 b))) ≡ a *ℤ b
+product_is a b m n fa fb la lb room =
+    let fits = fits_signed_mul w32 a b m n la lb room in
+    simp to_z-of_z (λ i. a *ℤ b)
+
+pub product_bound : (a b : ℤ) (m n : ℕ) → unsigned_abs a ≤ m → unsigned_abs b ≤ n → unsigned_abs (a *ℤ b) ≤ m * n
+product_bound a b m n la lb = simp unsigned_abs-mul (mul-le-mul la lb)
