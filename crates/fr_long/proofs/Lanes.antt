@@ -1,5 +1,5 @@
 -- Signed lanes whose sums and products fit, and sums of products lane by lane.
-use Rattle.std.proofs.Common.{◌≡◌, ℕ, zero, suc, ◌+◌, ◌-◌, ◌*◌, ◌%◌, ◌^◌, ◌<◌, ◌≤◌, ℤ, pos, ◌+ℤ◌, ◌*ℤ◌, unsigned_abs, FitsSigned, w32, to_z, of_z, fold, map, List, [], ◌∷◌, ◌++◌, length, get_or, refl, ap, sym, subst, ◌∙◌, arith, lit<, lit≤, mul-le-mul, inl, inr, add-zero, add-one}
+use Rattle.std.proofs.Common.{◌≡◌, ℕ, zero, suc, ◌+◌, ◌-◌, ◌*◌, ◌%◌, ◌^◌, ◌<◌, ◌≤◌, ℤ, pos, ◌+ℤ◌, ◌*ℤ◌, unsigned_abs, FitsSigned, w16, w32, to_z, of_z, fold, map, List, [], ◌∷◌, ◌++◌, length, get_or, refl, ap, sym, subst, ◌∙◌, arith, lit<, lit≤, mul-le-mul, inl, inr, add-zero, add-one}
 use Rattle.std.specs.List.{range_with_len}
 use Rattle.std.specs.Int.{Width}
 use Rattle.std.proofs.lemmas.Int.{ints, to_z-of_z, of_z-to_z, unsigned_abs-mul, wrapping_add_is, wrapping_mul_is, int_wrap_fits, fits_signed_mul}
@@ -24,6 +24,24 @@ Within b x = unsigned_abs x ≤ b
 pub lanes_kept : (w : Width) (xs : List ℤ) → Each1 (FitsSigned w) xs → map (to_z w) (map (of_z w) xs) ≡ xs
 lanes_kept w [] p = refl
 lanes_kept w (x ∷ xs) p = ap (λ z. z ∷ map (to_z w) (map (of_z w) xs)) (to_z-of_z w x p.0) ∙ ap (λ zs. x ∷ zs) (lanes_kept w xs p.1)
+
+-- words in lanes of 32 bits
+pub lanes_widened : (f : ℕ → ℕ) → ((x : ℤ) → FitsSigned w16 x → to_z w32 (f (of_z w16 x)) ≡ x) → (xs : List ℤ) → Each1 (FitsSigned w16) xs →
+    map (to_z w32) (map f (map (of_z w16) xs)) ≡ xs
+lanes_widened f h [] p = refl
+lanes_widened f h (x ∷ xs) p = ap (λ z. z ∷ map (to_z w32) (map f (map (of_z w16) xs))) (h x p.0) ∙ ap (λ zs. x ∷ zs) (lanes_widened f h xs p.1)
+
+-- a word in a lane of 32 bits
+pub lane_widened : (x : ℤ) → FitsSigned w16 x → to_z w32 (of_z w32 (to_z w16 (of_z w16 x))) ≡ x
+lane_widened x f = omega (arith, ints)
+
+-- eight of some words
+pub eight_words : (xs : List ℤ) (i : ℕ) → ((k : ℕ) → FitsSigned w16 (get_or xs k (pos 0))) → Each1 (FitsSigned w16) (chunk i 8 xs)
+eight_words xs i fits = Each1-chunk (FitsSigned w16) i 8 xs (Each1-from_get_or (FitsSigned w16) xs (pos 0) (λ k h. fits k))
+
+-- and their numbers in 32 bits
+pub eight_numbers : (xs : List ℤ) → Each1 (FitsSigned w16) xs → map (to_z w32) (map (of_z w32) xs) ≡ xs
+eight_numbers xs p = lanes_kept w32 xs (Each1-weaker (FitsSigned w16) (FitsSigned w32) (λ x f. omega (arith, ints)) xs p)
 
 -- the product of a sample of a scaled block and a word
 pub lane_product : (x y : ℤ) → Within 512 x → Within 32768 y → to_z w32 ((of_z w32 x * of_z w32 y) % 2 ^ 32) ≡ x *ℤ y
@@ -115,7 +133,7 @@ doubled_sum g f h [] s t e = e
 doubled_sum g f h (k ∷ ks) s t e = let here = h k in doubled_sum g f h ks (s +ℤ g k) (t +ℤ f k) (omega (arith, ints))
 
 -- no sample of a scaled block is above 512, and what is past its end is 0
-scaled_all : (wt : List ℤ) → length wt ≡ 40 → AreScaled wt → (k : ℕ) → Within 512 (get_or wt k (pos 0))
+pub scaled_all : (wt : List ℤ) → length wt ≡ 40 → AreScaled wt → (k : ℕ) → Within 512 (get_or wt k (pos 0))
 scaled_all wt l scaled k =
     elim (cases_lt k 40) [
       | inl b ↦ scaled k b
@@ -287,7 +305,7 @@ joined_within P [] ys p q = q
 joined_within P (x ∷ xs) ys p q = (p.0, joined_within P xs ys p.1 q)
 
 -- what `both` is passed
-kept : (m : ℕ) (xs : List ℤ) → m ≤ 1073741823 → Each1 (Within m) xs → map (to_z w32) (map (of_z w32) xs) ≡ xs
+pub kept : (m : ℕ) (xs : List ℤ) → m ≤ 1073741823 → Each1 (Within m) xs → map (to_z w32) (map (of_z w32) xs) ≡ xs
 kept m xs l p = lanes_passed m xs xs l p refl
 
 pub both_passed : (m : ℕ) (a b : List ℤ) → m ≤ 1073741823 → Each1 (Within m) a → Each1 (Within m) b →

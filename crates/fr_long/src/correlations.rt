@@ -5,7 +5,8 @@
 //! an instruction on words of 16 bits, and four lags at a time, whose lanes are then added by pairs too.
 //! Each factor is so small that no sum of 40 products leaves 32 bits, in whatever order they are added.
 
-ghost use Rattle.std.specs.Prelude.{◌≡◌, ℕ, ◌+◌, ◌-◌, ◌*◌, ◌<◌, ◌≤◌, ◌++◌, pos, ◌+ℤ◌, ◌*ℤ◌, unsigned_abs, slice_index_or, length, fold};
+ghost use Rattle.std.specs.Prelude.{◌≡◌, ℕ, ◌+◌, ◌-◌, ◌*◌, ◌<◌, ◌≤◌, ◌++◌, pos, ◌+ℤ◌, ◌*ℤ◌, unsigned_abs, slice_index_or, length, fold, FitsSigned};
+ghost use Rattle.std.specs.Int.{w16};
 ghost use Rattle.std.specs.Simd.Lanes.{chunk, zip2, Each1};
 ghost use Rattle.fr_long.specs.Lanes.{sums_of_pairs};
 ghost use Rattle.fr_long.specs.Scaling.{AreScaled};
@@ -19,15 +20,28 @@ pub(crate) fn correlate(wt: &[i16; 40], earlier: &[i16; 120]) -> [i32; 81]
     requires { AreScaled wt.now }
     ensures { (lag : ℕ) → 40 ≤ lag → lag ≤ 120 → slice_index_or result (lag - 40) (pos 0) ≡ correlation_of wt.now earlier.now lag }
 {
+    let past = copied(earlier);
     let mut all = [0; 81];
     for group in 0..21 {
         let first = (4 * group).min(77);
-        let halves = four(wt, earlier, 40 + first as u8).to_array();
+        let halves = four(wt, &past, 40 + first as u8).to_array();
         for lane in 0..4 {
             all[first + lane] = halves[lane] * 2;
         }
     }
     all
+}
+
+/// The residuals, read one by one, each of which is so known to be a word.
+fn copied(earlier: &[i16; 120]) -> [i16; 120]
+    ensures value { result ≡ earlier.now }
+    ensures words { (k : ℕ) → FitsSigned w16 (slice_index_or result k (pos 0)) }
+{
+    let mut copy = [0; 120];
+    for k in 0..120 {
+        copy[k] = earlier[k];
+    }
+    copy
 }
 
 /// Half of the correlations at four lags, from `lag` on.
@@ -37,10 +51,12 @@ pub(crate) fn correlate(wt: &[i16; 40], earlier: &[i16; 120]) -> [i32; 81]
 #[inline(never)]
 fn four(wt: &[i16; 40], earlier: &[i16; 120], lag: u8) -> i32x4
     requires scaled { AreScaled wt.now }
+    requires words { (k : ℕ) → FitsSigned w16 (slice_index_or earlier.now k (pos 0)) }
     requires at_least { 40 ≤ lag }
     requires at_most { lag ≤ 117 }
     ensures value { (k : ℕ) → k < 4 → slice_index_or result k (pos 0) *ℤ pos 2 ≡ correlation_of wt.now earlier.now (lag + k) }
-    ensures bound { (k : ℕ) → k < 4 → unsigned_abs (slice_index_or result k (pos 0)) ≤ 671088640 }
+    ensures length { length result ≡ 4 }
+    ensures small { Each1 (λ x. unsigned_abs x ≤ 671088640) result }
 {
     let first = lag_sums(wt, earlier, lag);
     let second = lag_sums(wt, earlier, lag + 1);
@@ -52,9 +68,9 @@ fn four(wt: &[i16; 40], earlier: &[i16; 120], lag: u8) -> i32x4
 }
 
 /// Four sums of ten products each, which are together half of the correlation at a lag.
-#[inline(always)]
 fn lag_sums(wt: &[i16; 40], earlier: &[i16; 120], lag: u8) -> i32x4
     requires scaled { AreScaled wt.now }
+    requires words { (k : ℕ) → FitsSigned w16 (slice_index_or earlier.now k (pos 0)) }
     requires at_least { 40 ≤ lag }
     requires at_most { lag ≤ 120 }
     ensures length { length result ≡ 4 }
@@ -72,15 +88,20 @@ fn lag_sums(wt: &[i16; 40], earlier: &[i16; 120], lag: u8) -> i32x4
 
 /// The eight samples from place `at` on.
 fn eight(samples: &[i16], at: usize) -> i32x8
-    requires { at + 8 ≤ length samples.now }
+    requires place { at + 8 ≤ length samples.now }
+    requires words { (k : ℕ) → FitsSigned w16 (slice_index_or samples.now k (pos 0)) }
     ensures value { result ≡ chunk at 8 samples.now }
     ensures words { Each1 (λ x. unsigned_abs x ≤ 32768) result }
 {
-    let mut lanes = [0; 8];
-    for place in 0..8 {
-        lanes[place] = i32::from(samples[at + place]);
-    }
-    i32x8::from_array(lanes)
+    wide(i16x8::from_slice(&samples[at..]))
+}
+
+/// Eight samples in lanes of 32 bits.
+fn wide(samples: i16x8) -> i32x8
+    requires { Each1 (FitsSigned w16) samples }
+    ensures { result ≡ samples }
+{
+    samples.cast::<i32>()
 }
 
 /// The products of eight samples of a scaled block with eight residuals.

@@ -9,8 +9,11 @@ use Rattle.trau_num.specs.Num.{l_mult_of}
 use Rattle.fr_long.specs.Scaling.{sample}
 use Rattle.fr_long.specs.Synthesis.{sample_before}
 use Rattle.fr_long.specs.Lag.{correlation_of}
-use Rattle.fr_long.proofs.Lanes.{Within, row, length_pairs, pairs_within, product_at, passed_scaled_within, passed_words_within, row_passed, row_within, row_length, lanes_passed, next_within, next_passed, eight_more, doubled_sum, doubled_term, words_more}
+use Rattle.fr_long.proofs.Lanes.{Within, scaled_all, row, length_pairs, pairs_within, product_at, passed_scaled_within, passed_words_within, row_passed, row_within, row_length, lanes_passed, next_within, next_passed, eight_more, doubled_sum, doubled_term, words_more}
 use Rattle.fr_long.proofs.correlations.lag_sums.Goals as goal
+
+pub eight-requires-clause-words : goal.eight-requires-clause-words
+eight-requires-clause-words c = λ k. let small : Within 512 (get_or c.args.wt.now k (pos 0)) = scaled_all c.args.wt.now (omega arith) c.requires.scaled k in omega (arith, ints)
 
 pub products-products-requires-clause-scaled : goal.products-products-requires-clause-scaled
 products-products-requires-clause-scaled c =
