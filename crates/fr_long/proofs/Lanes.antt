@@ -3,7 +3,7 @@ use Rattle.std.proofs.Common.{◌≡◌, ℕ, zero, suc, ◌+◌, ◌-◌, ◌*�
 use Rattle.std.specs.List.{range_with_len}
 use Rattle.std.specs.Int.{Width}
 use Rattle.std.proofs.lemmas.Int.{ints, to_z-of_z, of_z-to_z, unsigned_abs-mul, wrapping_add_is, wrapping_mul_is, int_wrap_fits, fits_signed_mul}
-use Rattle.std.specs.Simd.Lanes.{zip2, Each1, chunk, fold_l}
+use Rattle.std.specs.Simd.Lanes.{zip2, Each1, chunk}
 use Rattle.std.proofs.lemmas.Simd.{pick_l-range_with_len, zip2_of_maps, Each1-chunk, Each1-from_get_or, Each1-weaker, length-zip2, length-chunk, Each1-get_or, get_or-chunk}
 use Rattle.std.proofs.lemmas.Nat.{mod_below}
 use Rattle.std.proofs.lemmas.List.{get_or_past, length-append}
@@ -273,7 +273,7 @@ pub pairs_of_two : (xs ys : List ℤ) → length xs ≡ 4 → length ys ≡ 4 �
 pairs_of_two xs ys k l =
     by_four (λ zs. Each1 (Within 1073741823) (zs ++ ys) → Pairs (map (of_z w32) zs ++ map (of_z w32) ys) (zs ++ ys))
     (λ a b c d. by_four (λ zs. Each1 (Within 1073741823) (a ∷ b ∷ c ∷ d ∷ zs) → Pairs (of_z w32 a ∷ of_z w32 b ∷ of_z w32 c ∷ of_z w32 d ∷ map (of_z w32) zs) (a ∷ b ∷ c ∷ d ∷ zs))
-      (λ e f g h p. four_same _ _ _ _ _ _ _ _ (pair_sum a b p.0 p.1.0) (pair_sum c d p.1.1.0 p.1.1.1.0) (pair_sum e f p.1.1.1.1.0 p.1.1.1.1.1.0) (pair_sum g h p.1.1.1.1.1.1.0 p.1.1.1.1.1.1.1.0)) ys l) xs k
+    (λ e f g h p. four_same _ _ _ _ _ _ _ _ (pair_sum a b p.0 p.1.0) (pair_sum c d p.1.1.0 p.1.1.1.0) (pair_sum e f p.1.1.1.1.0 p.1.1.1.1.1.0) (pair_sum g h p.1.1.1.1.1.1.0 p.1.1.1.1.1.1.1.0)) ys l) xs k
 
 -- their sum, length and bound
 fold_pairs : (xs : List ℤ) → length xs ≡ 8 → fold ◌+ℤ◌ (pos 0) (sums_of_pairs xs) ≡ fold ◌+ℤ◌ (pos 0) xs
@@ -332,9 +332,9 @@ pub four_totals : (p q r s : List ℤ) → length p ≡ 4 → length q ≡ 4 →
 four_totals p q r s lp lq lr ls =
     by_four (λ p. sums_of_pairs (sums_of_pairs (p ++ q) ++ sums_of_pairs (r ++ s)) ≡ fold ◌+ℤ◌ (pos 0) p ∷ fold ◌+ℤ◌ (pos 0) q ∷ fold ◌+ℤ◌ (pos 0) r ∷ fold ◌+ℤ◌ (pos 0) s ∷ [])
     (λ a b c d. by_four (λ q. sums_of_pairs (sums_of_pairs ((a ∷ b ∷ c ∷ d ∷ []) ++ q) ++ sums_of_pairs (r ++ s)) ≡ fold ◌+ℤ◌ (pos 0) (a ∷ b ∷ c ∷ d ∷ []) ∷ fold ◌+ℤ◌ (pos 0) q ∷ fold ◌+ℤ◌ (pos 0) r ∷ fold ◌+ℤ◌ (pos 0) s ∷ [])
-      (λ e f g h. by_four (λ r. sums_of_pairs (sums_of_pairs ((a ∷ b ∷ c ∷ d ∷ []) ++ (e ∷ f ∷ g ∷ h ∷ [])) ++ sums_of_pairs (r ++ s)) ≡ fold ◌+ℤ◌ (pos 0) (a ∷ b ∷ c ∷ d ∷ []) ∷ fold ◌+ℤ◌ (pos 0) (e ∷ f ∷ g ∷ h ∷ []) ∷ fold ◌+ℤ◌ (pos 0) r ∷ fold ◌+ℤ◌ (pos 0) s ∷ [])
-        (λ i j k l. by_four (λ s. sums_of_pairs (sums_of_pairs ((a ∷ b ∷ c ∷ d ∷ []) ++ (e ∷ f ∷ g ∷ h ∷ [])) ++ sums_of_pairs ((i ∷ j ∷ k ∷ l ∷ []) ++ s)) ≡ fold ◌+ℤ◌ (pos 0) (a ∷ b ∷ c ∷ d ∷ []) ∷ fold ◌+ℤ◌ (pos 0) (e ∷ f ∷ g ∷ h ∷ []) ∷ fold ◌+ℤ◌ (pos 0) (i ∷ j ∷ k ∷ l ∷ []) ∷ fold ◌+ℤ◌ (pos 0) s ∷ [])
-          (λ m n o t. four_same _ _ _ _ _ _ _ _ (flat a b c d) (flat e f g h) (flat i j k l) (flat m n o t)) s ls) r lr) q lq) p lp
+    (λ e f g h. by_four (λ r. sums_of_pairs (sums_of_pairs ((a ∷ b ∷ c ∷ d ∷ []) ++ (e ∷ f ∷ g ∷ h ∷ [])) ++ sums_of_pairs (r ++ s)) ≡ fold ◌+ℤ◌ (pos 0) (a ∷ b ∷ c ∷ d ∷ []) ∷ fold ◌+ℤ◌ (pos 0) (e ∷ f ∷ g ∷ h ∷ []) ∷ fold ◌+ℤ◌ (pos 0) r ∷ fold ◌+ℤ◌ (pos 0) s ∷ [])
+    (λ i j k l. by_four (λ s. sums_of_pairs (sums_of_pairs ((a ∷ b ∷ c ∷ d ∷ []) ++ (e ∷ f ∷ g ∷ h ∷ [])) ++ sums_of_pairs ((i ∷ j ∷ k ∷ l ∷ []) ++ s)) ≡ fold ◌+ℤ◌ (pos 0) (a ∷ b ∷ c ∷ d ∷ []) ∷ fold ◌+ℤ◌ (pos 0) (e ∷ f ∷ g ∷ h ∷ []) ∷ fold ◌+ℤ◌ (pos 0) (i ∷ j ∷ k ∷ l ∷ []) ∷ fold ◌+ℤ◌ (pos 0) s ∷ [])
+    (λ m n o t. four_same _ _ _ _ _ _ _ _ (flat a b c d) (flat e f g h) (flat i j k l) (flat m n o t)) s ls) r lr) q lq) p lp
   where
     flat : (a b c d : ℤ) → (a +ℤ b) +ℤ (c +ℤ d) ≡ fold ◌+ℤ◌ (pos 0) (a ∷ b ∷ c ∷ d ∷ [])
     flat a b c d = omega (arith, ints)

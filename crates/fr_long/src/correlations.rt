@@ -128,7 +128,9 @@ fn neighbours(lanes: i32x8) -> i32x4
     requires small { Each1 (λ x. unsigned_abs x ≤ 1073741823) lanes }
     ensures { result ≡ sums_of_pairs lanes }
 {
-    let (even, odd) = lanes.extract::<0, 4>().deinterleave(lanes.extract::<4, 4>());
+    let (even, odd) = lanes
+        .extract::<0, 4>()
+        .deinterleave(lanes.extract::<4, 4>());
     even + odd
 }
 

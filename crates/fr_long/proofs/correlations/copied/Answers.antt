@@ -1,4 +1,4 @@
-use Rattle.std.proofs.Common.{◌≡◌, ◌<◌, ◌≤◌, ℕ, pos, get_or, rules, arith, refl, FitsSigned, w16, inl, inr, subst, sym, ap, length, ◌∙◌}
+use Rattle.std.proofs.Common.{pos, get_or, rules, arith, refl, FitsSigned, w16, inl, inr, ◌∙◌}
 use Rattle.std.proofs.lemmas.Int.{ints, to_z-of_z}
 use Rattle.std.proofs.lemmas.Simd.{pick_l_whole}
 use Rattle.std.proofs.lemmas.List.{get_or_past}

@@ -20,6 +20,6 @@ pub returns-clause-words : goal.returns-clause-words
 returns-clause-words c =
     let words = eight_words c.args.samples.now c.args.at c.requires.words in
     let value : map (to_z w32) (map (of_z w32) c.wide.result) ≡ chunk c.args.at 8 c.args.samples.now =
-      ap (λ xs. map (to_z w32) (map (of_z w32) xs)) (c.wide.ensures ∙ lanes_kept w16 (chunk c.args.at 8 c.args.samples.now) words) ∙
-      eight_numbers (chunk c.args.at 8 c.args.samples.now) words in
+    ap (λ xs. map (to_z w32) (map (of_z w32) xs)) (c.wide.ensures ∙ lanes_kept w16 (chunk c.args.at 8 c.args.samples.now) words) ∙
+    eight_numbers (chunk c.args.at 8 c.args.samples.now) words in
     subst (Each1 (Within 32768)) (sym value) (Each1-weaker (FitsSigned w16) (Within 32768) (λ x f. omega (arith, ints)) _ words)

@@ -1,4 +1,4 @@
-use Rattle.std.proofs.Common.{◌≡◌, ℕ, ◌+◌, ◌-◌, ◌*◌, ◌<◌, pos, ◌+ℤ◌, ◌*ℤ◌, length, get_or, fold, map, ap, sym, subst, refl, ◌∙◌, arith, w32, to_z, of_z}
+use Rattle.std.proofs.Common.{◌≡◌, ℕ, ◌+◌, ◌-◌, ◌*◌, ◌<◌, pos, ◌+ℤ◌, ◌*ℤ◌, length, get_or, fold, map, ap, sym, subst, refl, ◌∙◌, arith, w32, to_z}
 use Rattle.std.specs.List.{range_with_len}
 use Rattle.std.specs.Simd.Lanes.{Each1}
 use Rattle.std.proofs.lemmas.Int.{ints}
@@ -59,10 +59,10 @@ loop-block-preserved c =
     record {
       length_is = simp length-map (simp length-map at (ap length next) ∙ length-zip2 ◌+ℤ◌ sums added (four ∙ sym long) ∙ four);
       value = ap (fold ◌+ℤ◌ (pos 0)) next ∙
-        eight_more c.args.wt.now c.args.earlier.now sums (120 - c.args.lag) i four (omega arith) (omega arith) c.loop-block.invariant.value ∙
-        ap (λ n. fold ◌+ℤ◌ (pos 0) (map (product_at c.args.wt.now c.args.earlier.now (120 - c.args.lag)) (range_with_len 0 n))) place;
+          eight_more c.args.wt.now c.args.earlier.now sums (120 - c.args.lag) i four (omega arith) (omega arith) c.loop-block.invariant.value ∙
+          ap (λ n. fold ◌+ℤ◌ (pos 0) (map (product_at c.args.wt.now c.args.earlier.now (120 - c.args.lag)) (range_with_len 0 n))) place;
       words = subst (λ n. (k : ℕ) → k < n → Within 32768 (get_or c.args.earlier.now (120 - c.args.lag + k) (pos 0))) place
-        (words_more c.args.earlier.now c.eight-in-loop-block.result (120 - c.args.lag) i c.eight-in-loop-block.ensures.value (omega arith) c.eight-in-loop-block.ensures.words c.loop-block.invariant.words);
+          (words_more c.args.earlier.now c.eight-in-loop-block.result (120 - c.args.lag) i c.eight-in-loop-block.ensures.value (omega arith) c.eight-in-loop-block.ensures.words c.loop-block.invariant.words);
       small = subst (Each1 (Within (33554432 * (c.loop-block.block + 1)))) (sym next) (next_within c.loop-block.block sums added c.loop-block.invariant.small (pairs_within 16777216 _ within));
     }
 
