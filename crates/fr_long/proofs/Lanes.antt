@@ -1,16 +1,17 @@
 -- Signed lanes whose sums and products fit, and sums of products lane by lane.
-use Rattle.std.proofs.Common.{◌≡◌, ℕ, zero, suc, ◌+◌, ◌-◌, ◌*◌, ◌%◌, ◌^◌, ◌<◌, ◌≤◌, ℤ, pos, ◌+ℤ◌, ◌*ℤ◌, unsigned_abs, FitsSigned, w32, to_z, of_z, fold, map, List, [], ◌∷◌, length, get_or, refl, ap, sym, subst, ◌∙◌, arith, lit<, lit≤, mul-le-mul, inl, inr, add-zero, add-one}
+use Rattle.std.proofs.Common.{◌≡◌, ℕ, zero, suc, ◌+◌, ◌-◌, ◌*◌, ◌%◌, ◌^◌, ◌<◌, ◌≤◌, ℤ, pos, ◌+ℤ◌, ◌*ℤ◌, unsigned_abs, FitsSigned, w16, w32, to_z, of_z, fold, map, List, [], ◌∷◌, ◌++◌, length, get_or, refl, ap, sym, subst, ◌∙◌, arith, lit<, lit≤, mul-le-mul, inl, inr, add-zero, add-one}
 use Rattle.std.specs.List.{range_with_len}
 use Rattle.std.specs.Int.{Width}
 use Rattle.std.proofs.lemmas.Int.{ints, to_z-of_z, of_z-to_z, unsigned_abs-mul, wrapping_add_is, wrapping_mul_is, int_wrap_fits, fits_signed_mul}
-use Rattle.std.specs.Simd.Lanes.{zip2, Each1, chunk, fold_l}
+use Rattle.std.specs.Simd.Lanes.{zip2, Each1, chunk}
 use Rattle.std.proofs.lemmas.Simd.{pick_l-range_with_len, zip2_of_maps, Each1-chunk, Each1-from_get_or, Each1-weaker, length-zip2, length-chunk, Each1-get_or, get_or-chunk}
 use Rattle.std.proofs.lemmas.Nat.{mod_below}
-use Rattle.std.proofs.lemmas.List.{get_or_past}
+use Rattle.std.proofs.lemmas.List.{get_or_past, length-append}
 use Rattle.std.proofs.lemmas.List.FromFn.{map-range_with_len_more}
 use Rattle.std.proofs.lemmas.Grind.{fold-append}
 use Rattle.std.proofs.lemmas.Bool.{cases_lt}
 use Rattle.trau_num.specs.Num.{l_mult_of}
+use Rattle.fr_long.specs.Lanes.{sums_of_pairs}
 use Rattle.fr_long.specs.Scaling.{sample, AreScaled}
 use Rattle.fr_long.specs.Synthesis.{sample_before}
 use Rattle.fr_long.proofs.Blocks.{fold_more, doubled_small}
@@ -23,6 +24,24 @@ Within b x = unsigned_abs x ≤ b
 pub lanes_kept : (w : Width) (xs : List ℤ) → Each1 (FitsSigned w) xs → map (to_z w) (map (of_z w) xs) ≡ xs
 lanes_kept w [] p = refl
 lanes_kept w (x ∷ xs) p = ap (λ z. z ∷ map (to_z w) (map (of_z w) xs)) (to_z-of_z w x p.0) ∙ ap (λ zs. x ∷ zs) (lanes_kept w xs p.1)
+
+-- words in lanes of 32 bits
+pub lanes_widened : (f : ℕ → ℕ) → ((x : ℤ) → FitsSigned w16 x → to_z w32 (f (of_z w16 x)) ≡ x) → (xs : List ℤ) → Each1 (FitsSigned w16) xs →
+    map (to_z w32) (map f (map (of_z w16) xs)) ≡ xs
+lanes_widened f h [] p = refl
+lanes_widened f h (x ∷ xs) p = ap (λ z. z ∷ map (to_z w32) (map f (map (of_z w16) xs))) (h x p.0) ∙ ap (λ zs. x ∷ zs) (lanes_widened f h xs p.1)
+
+-- a word in a lane of 32 bits
+pub lane_widened : (x : ℤ) → FitsSigned w16 x → to_z w32 (of_z w32 (to_z w16 (of_z w16 x))) ≡ x
+lane_widened x f = omega (arith, ints)
+
+-- eight of some words
+pub eight_words : (xs : List ℤ) (i : ℕ) → ((k : ℕ) → FitsSigned w16 (get_or xs k (pos 0))) → Each1 (FitsSigned w16) (chunk i 8 xs)
+eight_words xs i fits = Each1-chunk (FitsSigned w16) i 8 xs (Each1-from_get_or (FitsSigned w16) xs (pos 0) (λ k h. fits k))
+
+-- and their numbers in 32 bits
+pub eight_numbers : (xs : List ℤ) → Each1 (FitsSigned w16) xs → map (to_z w32) (map (of_z w32) xs) ≡ xs
+eight_numbers xs p = lanes_kept w32 xs (Each1-weaker (FitsSigned w16) (FitsSigned w32) (λ x f. omega (arith, ints)) xs p)
 
 -- the product of a sample of a scaled block and a word
 pub lane_product : (x y : ℤ) → Within 512 x → Within 32768 y → to_z w32 ((of_z w32 x * of_z w32 y) % 2 ^ 32) ≡ x *ℤ y
@@ -54,20 +73,6 @@ lane_by_lane f g m n h (x ∷ xs) [] p q = refl
 lane_by_lane f g m n h (x ∷ xs) (y ∷ ys) p q =
     ap (λ z. z ∷ map (to_z w32) (zip2 f (map (of_z w32) xs) (map (of_z w32) ys))) (h x y p.0 q.0) ∙
     ap (λ zs. g x y ∷ zs) (lane_by_lane f g m n h xs ys p.1 q.1)
-
--- the sum of the bits of all lanes
-pub lanes_total : (xs : List ℤ) (s : ℤ) → unsigned_abs s + 83886080 * length xs ≤ 671088640 → Each1 (Within 83886080) xs →
-    to_z w32 (fold_l (λ m n. (m + n) % 2 ^ 32) (of_z w32 s) (map (of_z w32) xs)) ≡ fold ◌+ℤ◌ s xs
-lanes_total [] s h p = let f : FitsSigned w32 s = omega (arith, ints) in to_z-of_z w32 s f
-lanes_total (x ∷ xs) s h p =
-    let here = p.0 in
-    ap (λ b. to_z w32 (fold_l (λ m n. (m + n) % 2 ^ 32) b (map (of_z w32) xs))) (lane_sum_bits s x (omega (arith, ints)) (omega (arith, ints))) ∙
-    lanes_total xs (s +ℤ x) (omega (arith, ints)) p.1
-
--- and its bound
-pub total_within : (xs : List ℤ) (s : ℤ) → unsigned_abs s + 83886080 * length xs ≤ 671088640 → Each1 (Within 83886080) xs → Within 671088640 (fold ◌+ℤ◌ s xs)
-total_within [] s h p = omega (arith, ints)
-total_within (x ∷ xs) s h p = let here = p.0 in total_within xs (s +ℤ x) (omega (arith, ints)) p.1
 
 -- the products of a scaled block and words
 pub products_within : (xs ys : List ℤ) → Each1 (Within 512) xs → Each1 (Within 32768) ys → Each1 (Within 16777216) (zip2 ◌*ℤ◌ xs ys)
@@ -121,16 +126,6 @@ eight_products wt earlier start i a b =
     (sym (pick_l-range_with_len (pos 0) wt i 8 a))
     (sym (pick_l-range_with_len (pos 0) earlier (start + i) 8 b) ∙ shifted (λ k. get_or earlier k (pos 0)) start i 8)
 
--- the sums of all lanes after eight products more
-pub eight_more : (wt earlier sums : List ℤ) (start i : ℕ) → length sums ≡ 8 → i + 8 ≤ length wt → start + i + 8 ≤ length earlier →
-    fold ◌+ℤ◌ (pos 0) sums ≡ fold ◌+ℤ◌ (pos 0) (map (product_at wt earlier start) (range_with_len 0 i)) →
-    fold ◌+ℤ◌ (pos 0) (zip2 ◌+ℤ◌ sums (zip2 ◌*ℤ◌ (chunk i 8 wt) (chunk (start + i) 8 earlier))) ≡ fold ◌+ℤ◌ (pos 0) (map (product_at wt earlier start) (range_with_len 0 (i + 8)))
-eight_more wt earlier sums start i l a b e =
-    rw (eight_products wt earlier start i a b)
-    (fold_sums sums (map (product_at wt earlier start) (range_with_len i 8)) (pos 0) (pos 0) l ∙
-    ap (λ z. z +ℤ fold ◌+ℤ◌ (pos 0) (map (product_at wt earlier start) (range_with_len i 8))) e ∙
-    sym (fold_on (product_at wt earlier start) i 8))
-
 -- a sum of halves, doubled
 pub doubled_sum : (g f : ℕ → ℤ) → ((k : ℕ) → g k *ℤ pos 2 ≡ f k) → (ks : List ℕ) (s t : ℤ) → s *ℤ pos 2 ≡ t →
     fold ◌+ℤ◌ s (map g ks) *ℤ pos 2 ≡ fold ◌+ℤ◌ t (map f ks)
@@ -138,7 +133,7 @@ doubled_sum g f h [] s t e = e
 doubled_sum g f h (k ∷ ks) s t e = let here = h k in doubled_sum g f h ks (s +ℤ g k) (t +ℤ f k) (omega (arith, ints))
 
 -- no sample of a scaled block is above 512, and what is past its end is 0
-scaled_all : (wt : List ℤ) → length wt ≡ 40 → AreScaled wt → (k : ℕ) → Within 512 (get_or wt k (pos 0))
+pub scaled_all : (wt : List ℤ) → length wt ≡ 40 → AreScaled wt → (k : ℕ) → Within 512 (get_or wt k (pos 0))
 scaled_all wt l scaled k =
     elim (cases_lt k 40) [
       | inl b ↦ scaled k b
@@ -186,7 +181,7 @@ words_more ys xs start i e room words before k b =
     ]
 
 -- a vector that is passed on is kept
-lanes_passed : (b : ℕ) (xs ys : List ℤ) → b ≤ 1073741823 → Each1 (Within b) ys → xs ≡ ys → map (to_z w32) (map (of_z w32) xs) ≡ ys
+pub lanes_passed : (b : ℕ) (xs ys : List ℤ) → b ≤ 1073741823 → Each1 (Within b) ys → xs ≡ ys → map (to_z w32) (map (of_z w32) xs) ≡ ys
 lanes_passed b xs ys m p e =
     ap (λ zs. map (to_z w32) (map (of_z w32) zs)) e ∙ lanes_kept w32 ys (Each1-weaker (Within b) (FitsSigned w32) (λ x h. omega (arith, ints)) ys p)
 
@@ -225,12 +220,134 @@ row_passed wt earlier xs ys ps i at l scaled words ex ey ep =
     ap (λ zs. zip2 ◌*ℤ◌ (chunk i 8 wt) zs) (passed_words ys words ∙ ey))
 
 -- the sums after a row more
-pub next_within : (n : ℕ) (sums ps : List ℤ) → Each1 (Within (16777216 * n)) sums → Each1 (Within 16777216) ps → Each1 (Within (16777216 * (n + 1))) (zip2 ◌+ℤ◌ sums ps)
+pub next_within : (n : ℕ) (sums ps : List ℤ) → Each1 (Within (33554432 * n)) sums → Each1 (Within 33554432) ps → Each1 (Within (33554432 * (n + 1))) (zip2 ◌+ℤ◌ sums ps)
 next_within n sums ps a b =
-    let e : 16777216 * n + 16777216 ≡ 16777216 * (n + 1) = omega arith in
-    subst (λ m. Each1 (Within m) (zip2 ◌+ℤ◌ sums ps)) e (sums_within (16777216 * n) 16777216 sums ps a b)
+    let e : 33554432 * n + 33554432 ≡ 33554432 * (n + 1) = omega arith in
+    subst (λ m. Each1 (Within m) (zip2 ◌+ℤ◌ sums ps)) e (sums_within (33554432 * n) 33554432 sums ps a b)
 
-pub next_passed : (n : ℕ) (sums ps qs rs : List ℤ) → n ≤ 4 → Each1 (Within (16777216 * n)) sums → Each1 (Within 16777216) ps → qs ≡ ps → rs ≡ zip2 ◌+ℤ◌ sums qs →
+pub next_passed : (n : ℕ) (sums ps qs rs : List ℤ) → n ≤ 4 → Each1 (Within (33554432 * n)) sums → Each1 (Within 33554432) ps → qs ≡ ps → rs ≡ zip2 ◌+ℤ◌ sums qs →
     map (to_z w32) (map (of_z w32) rs) ≡ zip2 ◌+ℤ◌ sums ps
 next_passed n sums ps qs rs m a b eq er =
-    lanes_passed (16777216 * (n + 1)) rs (zip2 ◌+ℤ◌ sums ps) (omega arith) (next_within n sums ps a b) (er ∙ ap (λ zs. zip2 ◌+ℤ◌ sums zs) eq)
+    lanes_passed (33554432 * (n + 1)) rs (zip2 ◌+ℤ◌ sums ps) (omega arith) (next_within n sums ps a b) (er ∙ ap (λ zs. zip2 ◌+ℤ◌ sums zs) eq)
+
+-- sums of pairs on the bits of lanes
+abbrev pub pair : List ℕ → ℕ → ℕ → ℤ
+pair ns i j = to_z w32 ((of_z w32 (to_z w32 (get_or ns i 0)) + of_z w32 (to_z w32 (get_or ns j 0))) % 2 ^ 32)
+
+abbrev pub Pairs : List ℕ → List ℤ → Type 0
+Pairs ns zs = (pair ns 0 1 ∷ pair ns 2 3 ∷ pair ns 4 5 ∷ pair ns 6 7 ∷ []) ≡ sums_of_pairs zs
+
+pair_sum : (x y : ℤ) → Within 1073741823 x → Within 1073741823 y → to_z w32 ((of_z w32 (to_z w32 (of_z w32 x)) + of_z w32 (to_z w32 (of_z w32 y))) % 2 ^ 32) ≡ x +ℤ y
+pair_sum x y a b =
+    let fx : FitsSigned w32 x = omega (arith, ints) in
+    let fy : FitsSigned w32 y = omega (arith, ints) in
+    ap (λ m. to_z w32 ((of_z w32 m + of_z w32 (to_z w32 (of_z w32 y))) % 2 ^ 32)) (to_z-of_z w32 x fx) ∙
+    ap (λ n. to_z w32 ((of_z w32 x + of_z w32 n) % 2 ^ 32)) (to_z-of_z w32 y fy) ∙ lane_sum x y a b
+
+four_same : (x x' y y' z z' w w' : ℤ) → x ≡ x' → y ≡ y' → z ≡ z' → w ≡ w' → (x ∷ y ∷ z ∷ w ∷ []) ≡ (x' ∷ y' ∷ z' ∷ w' ∷ [])
+four_same x x' y y' z z' w w' a b c d = cc
+
+by_four : (P : List ℤ → Type 0) → ((a b c d : ℤ) → P (a ∷ b ∷ c ∷ d ∷ [])) → (xs : List ℤ) → length xs ≡ 4 → P xs
+by_four P h (a ∷ b ∷ c ∷ d ∷ []) l = h a b c d
+by_four P h [] l = absurd (omega arith)
+by_four P h (a ∷ []) l = absurd (omega arith)
+by_four P h (a ∷ b ∷ []) l = absurd (omega arith)
+by_four P h (a ∷ b ∷ c ∷ []) l = absurd (omega arith)
+by_four P h (a ∷ b ∷ c ∷ d ∷ e ∷ xs) l = absurd (omega arith)
+
+by_eight : (P : List ℤ → Type 0) → ((a b c d e f g h : ℤ) → P (a ∷ b ∷ c ∷ d ∷ e ∷ f ∷ g ∷ h ∷ [])) → (xs : List ℤ) → length xs ≡ 8 → P xs
+by_eight P h (a ∷ b ∷ c ∷ d ∷ xs) l = by_four (λ ys. P (a ∷ b ∷ c ∷ d ∷ ys)) (h a b c d) xs (omega arith)
+by_eight P h [] l = absurd (omega arith)
+by_eight P h (a ∷ []) l = absurd (omega arith)
+by_eight P h (a ∷ b ∷ []) l = absurd (omega arith)
+by_eight P h (a ∷ b ∷ c ∷ []) l = absurd (omega arith)
+
+-- the lanes of one vector
+pub pairs_of_one : (xs : List ℤ) → length xs ≡ 8 → Each1 (Within 1073741823) xs → Pairs (map (of_z w32) xs ++ map (of_z w32) xs) xs
+pairs_of_one xs l =
+    by_eight (λ zs. Each1 (Within 1073741823) zs → Pairs (map (of_z w32) zs ++ map (of_z w32) zs) zs)
+    (λ a b c d e f g h p. four_same _ _ _ _ _ _ _ _ (pair_sum a b p.0 p.1.0) (pair_sum c d p.1.1.0 p.1.1.1.0) (pair_sum e f p.1.1.1.1.0 p.1.1.1.1.1.0) (pair_sum g h p.1.1.1.1.1.1.0 p.1.1.1.1.1.1.1.0)) xs l
+
+-- the lanes of two vectors
+pub pairs_of_two : (xs ys : List ℤ) → length xs ≡ 4 → length ys ≡ 4 → Each1 (Within 1073741823) (xs ++ ys) → Pairs (map (of_z w32) xs ++ map (of_z w32) ys) (xs ++ ys)
+pairs_of_two xs ys k l =
+    by_four (λ zs. Each1 (Within 1073741823) (zs ++ ys) → Pairs (map (of_z w32) zs ++ map (of_z w32) ys) (zs ++ ys))
+    (λ a b c d. by_four (λ zs. Each1 (Within 1073741823) (a ∷ b ∷ c ∷ d ∷ zs) → Pairs (of_z w32 a ∷ of_z w32 b ∷ of_z w32 c ∷ of_z w32 d ∷ map (of_z w32) zs) (a ∷ b ∷ c ∷ d ∷ zs))
+    (λ e f g h p. four_same _ _ _ _ _ _ _ _ (pair_sum a b p.0 p.1.0) (pair_sum c d p.1.1.0 p.1.1.1.0) (pair_sum e f p.1.1.1.1.0 p.1.1.1.1.1.0) (pair_sum g h p.1.1.1.1.1.1.0 p.1.1.1.1.1.1.1.0)) ys l) xs k
+
+-- their sum, length and bound
+fold_pairs : (xs : List ℤ) → length xs ≡ 8 → fold ◌+ℤ◌ (pos 0) (sums_of_pairs xs) ≡ fold ◌+ℤ◌ (pos 0) xs
+fold_pairs xs l = by_eight (λ zs. fold ◌+ℤ◌ (pos 0) (sums_of_pairs zs) ≡ fold ◌+ℤ◌ (pos 0) zs) (λ a b c d e f g h. omega (arith, ints)) xs l
+
+pub length_pairs : (xs : List ℤ) → length xs ≡ 8 → length (sums_of_pairs xs) ≡ 4
+length_pairs xs l = by_eight (λ zs. length (sums_of_pairs zs) ≡ 4) (λ a b c d e f g h. refl) xs l
+
+pub pairs_within : (m : ℕ) (xs : List ℤ) → Each1 (Within m) xs → Each1 (Within (m + m)) (sums_of_pairs xs)
+pairs_within m [] p = tt
+pairs_within m (x ∷ []) p = tt
+pairs_within m (x ∷ y ∷ zs) p = let a = p.0 in let b = p.1.0 in (omega (arith, ints), pairs_within m zs p.1.1)
+
+-- the sums of all lanes after eight products more
+pub eight_more : (wt earlier sums : List ℤ) (start i : ℕ) → length sums ≡ 4 → i + 8 ≤ length wt → start + i + 8 ≤ length earlier →
+    fold ◌+ℤ◌ (pos 0) sums ≡ fold ◌+ℤ◌ (pos 0) (map (product_at wt earlier start) (range_with_len 0 i)) →
+    fold ◌+ℤ◌ (pos 0) (zip2 ◌+ℤ◌ sums (sums_of_pairs (row wt earlier i (start + i)))) ≡ fold ◌+ℤ◌ (pos 0) (map (product_at wt earlier start) (range_with_len 0 (i + 8)))
+eight_more wt earlier sums start i l a b e =
+    let long = row_length wt earlier i (start + i) a b in
+    fold_sums sums (sums_of_pairs (row wt earlier i (start + i))) (pos 0) (pos 0) (l ∙ sym (length_pairs (row wt earlier i (start + i)) long)) ∙
+    ap (λ z. fold ◌+ℤ◌ (pos 0) sums +ℤ z) (fold_pairs (row wt earlier i (start + i)) long ∙ ap (fold ◌+ℤ◌ (pos 0)) (eight_products wt earlier start i a b)) ∙
+    ap (λ z. z +ℤ fold ◌+ℤ◌ (pos 0) (map (product_at wt earlier start) (range_with_len i 8))) e ∙
+    sym (fold_on (product_at wt earlier start) i 8)
+
+-- ---- four vectors, added by pairs twice
+
+joined_within : (P : ℤ → Type 0) (xs ys : List ℤ) → Each1 P xs → Each1 P ys → Each1 P (xs ++ ys)
+joined_within P [] ys p q = q
+joined_within P (x ∷ xs) ys p q = (p.0, joined_within P xs ys p.1 q)
+
+-- what `both` is passed
+pub kept : (m : ℕ) (xs : List ℤ) → m ≤ 1073741823 → Each1 (Within m) xs → map (to_z w32) (map (of_z w32) xs) ≡ xs
+kept m xs l p = lanes_passed m xs xs l p refl
+
+pub both_passed : (m : ℕ) (a b : List ℤ) → m ≤ 1073741823 → Each1 (Within m) a → Each1 (Within m) b →
+    Each1 (Within 1073741823) (map (to_z w32) (map (of_z w32) a) ++ map (to_z w32) (map (of_z w32) b))
+both_passed m a b l p q =
+    let wide = Each1-weaker (Within m) (Within 1073741823) (λ x h. omega arith) in
+    joined_within (Within 1073741823) _ _ (subst (Each1 (Within 1073741823)) (sym (kept m a l p)) (wide a p)) (subst (Each1 (Within 1073741823)) (sym (kept m b l q)) (wide b q))
+
+-- and gives
+pub both_is : (m : ℕ) (a b r : List ℤ) → m ≤ 1073741823 → Each1 (Within m) a → Each1 (Within m) b →
+    r ≡ sums_of_pairs (map (to_z w32) (map (of_z w32) a) ++ map (to_z w32) (map (of_z w32) b)) → r ≡ sums_of_pairs (a ++ b)
+both_is m a b r l p q e =
+    e ∙ ap (λ zs. sums_of_pairs (zs ++ map (to_z w32) (map (of_z w32) b))) (kept m a l p) ∙ ap (λ zs. sums_of_pairs (a ++ zs)) (kept m b l q)
+
+pub both_within : (m : ℕ) (a b r : List ℤ) → Each1 (Within m) a → Each1 (Within m) b → r ≡ sums_of_pairs (a ++ b) → Each1 (Within (m + m)) r
+both_within m a b r p q e = subst (Each1 (Within (m + m))) (sym e) (pairs_within m (a ++ b) (joined_within (Within m) a b p q))
+
+pub both_length : (a b r : List ℤ) → length a ≡ 4 → length b ≡ 4 → r ≡ sums_of_pairs (a ++ b) → length r ≡ 4
+both_length a b r k l e = ap length e ∙ length_pairs (a ++ b) (length-append a b ∙ omega arith)
+
+-- the totals of four vectors
+pub four_totals : (p q r s : List ℤ) → length p ≡ 4 → length q ≡ 4 → length r ≡ 4 → length s ≡ 4 →
+    sums_of_pairs (sums_of_pairs (p ++ q) ++ sums_of_pairs (r ++ s)) ≡ fold ◌+ℤ◌ (pos 0) p ∷ fold ◌+ℤ◌ (pos 0) q ∷ fold ◌+ℤ◌ (pos 0) r ∷ fold ◌+ℤ◌ (pos 0) s ∷ []
+four_totals p q r s lp lq lr ls =
+    by_four (λ p. sums_of_pairs (sums_of_pairs (p ++ q) ++ sums_of_pairs (r ++ s)) ≡ fold ◌+ℤ◌ (pos 0) p ∷ fold ◌+ℤ◌ (pos 0) q ∷ fold ◌+ℤ◌ (pos 0) r ∷ fold ◌+ℤ◌ (pos 0) s ∷ [])
+    (λ a b c d. by_four (λ q. sums_of_pairs (sums_of_pairs ((a ∷ b ∷ c ∷ d ∷ []) ++ q) ++ sums_of_pairs (r ++ s)) ≡ fold ◌+ℤ◌ (pos 0) (a ∷ b ∷ c ∷ d ∷ []) ∷ fold ◌+ℤ◌ (pos 0) q ∷ fold ◌+ℤ◌ (pos 0) r ∷ fold ◌+ℤ◌ (pos 0) s ∷ [])
+    (λ e f g h. by_four (λ r. sums_of_pairs (sums_of_pairs ((a ∷ b ∷ c ∷ d ∷ []) ++ (e ∷ f ∷ g ∷ h ∷ [])) ++ sums_of_pairs (r ++ s)) ≡ fold ◌+ℤ◌ (pos 0) (a ∷ b ∷ c ∷ d ∷ []) ∷ fold ◌+ℤ◌ (pos 0) (e ∷ f ∷ g ∷ h ∷ []) ∷ fold ◌+ℤ◌ (pos 0) r ∷ fold ◌+ℤ◌ (pos 0) s ∷ [])
+    (λ i j k l. by_four (λ s. sums_of_pairs (sums_of_pairs ((a ∷ b ∷ c ∷ d ∷ []) ++ (e ∷ f ∷ g ∷ h ∷ [])) ++ sums_of_pairs ((i ∷ j ∷ k ∷ l ∷ []) ++ s)) ≡ fold ◌+ℤ◌ (pos 0) (a ∷ b ∷ c ∷ d ∷ []) ∷ fold ◌+ℤ◌ (pos 0) (e ∷ f ∷ g ∷ h ∷ []) ∷ fold ◌+ℤ◌ (pos 0) (i ∷ j ∷ k ∷ l ∷ []) ∷ fold ◌+ℤ◌ (pos 0) s ∷ [])
+    (λ m n o t. four_same _ _ _ _ _ _ _ _ (flat a b c d) (flat e f g h) (flat i j k l) (flat m n o t)) s ls) r lr) q lq) p lp
+  where
+    flat : (a b c d : ℤ) → (a +ℤ b) +ℤ (c +ℤ d) ≡ fold ◌+ℤ◌ (pos 0) (a ∷ b ∷ c ∷ d ∷ [])
+    flat a b c d = omega (arith, ints)
+
+pub total_within : (p : List ℤ) → length p ≡ 4 → Each1 (Within 167772160) p → Within 671088640 (fold ◌+ℤ◌ (pos 0) p)
+total_within p l =
+    by_four (λ zs. Each1 (Within 167772160) zs → Within 671088640 (fold ◌+ℤ◌ (pos 0) zs))
+    (λ a b c d w. let x = w.0 in let y = w.1.0 in let z = w.1.1.0 in let v = w.1.1.1.0 in omega (arith, ints)) p l
+
+-- a fact of each of four lanes
+pub four_lanes : (P : ℕ → ℤ → Type 0) (x y z w : ℤ) → P 0 x → P 1 y → P 2 z → P 3 w → (k : ℕ) → k < 4 → P k (get_or (x ∷ y ∷ z ∷ w ∷ []) k (pos 0))
+four_lanes P x y z w a b c d zero l = a
+four_lanes P x y z w a b c d (suc zero) l = b
+four_lanes P x y z w a b c d (suc (suc zero)) l = c
+four_lanes P x y z w a b c d (suc (suc (suc zero))) l = d
+four_lanes P x y z w a b c d (suc (suc (suc (suc k)))) l = absurd (omega arith)

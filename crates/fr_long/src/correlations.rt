@@ -1,49 +1,107 @@
-//! The correlation of a block with the residuals at a lag (GSM 06.10, section 4.2.11).
+//! The correlations of a block with the residuals at each lag (GSM 06.10, section 4.2.11).
 //!
-//! The search for a lag multiplies 81 times 40 samples, more than all else that the encoder computes. So a
-//! correlation is summed in lanes: eight products at a time, each added to the sum of its lane, for which
-//! the processor has instructions on eight words of 16 bits. Each factor is so small that no sum of 40
-//! products leaves 32 bits, in whatever order they are added.
+//! The search for a lag multiplies 81 times 40 samples, more than all else that the encoder computes. So
+//! correlations are summed in lanes: eight products at a time, added by pairs, for which the processor has
+//! an instruction on words of 16 bits, and four lags at a time, whose lanes are then added by pairs too.
+//! Each factor is so small that no sum of 40 products leaves 32 bits, in whatever order they are added.
 
-ghost use Rattle.std.specs.Prelude.{◌≡◌, ◌+◌, ◌*◌, ◌≤◌, pos, ◌+ℤ◌, ◌*ℤ◌, unsigned_abs, length, fold};
+ghost use Rattle.std.specs.Prelude.{◌≡◌, ℕ, ◌+◌, ◌-◌, ◌*◌, ◌<◌, ◌≤◌, ◌++◌, pos, ◌+ℤ◌, ◌*ℤ◌, unsigned_abs, slice_index_or, length, fold, FitsSigned};
+ghost use Rattle.std.specs.Int.{w16};
 ghost use Rattle.std.specs.Simd.Lanes.{chunk, zip2, Each1};
+ghost use Rattle.fr_long.specs.Lanes.{sums_of_pairs};
 ghost use Rattle.fr_long.specs.Scaling.{AreScaled};
 ghost use Rattle.fr_long.specs.Lag.{correlation_of};
 
 use std::simd::prelude::*;
 
-/// The correlation of a scaled block with the residuals that lie `lag` samples before it.
+/// The correlations of a scaled block with the residuals that lie 40 to 120 samples before it: that at a
+/// lag stands 40 places before it.
+pub(crate) fn correlate(wt: &[i16; 40], earlier: &[i16; 120]) -> [i32; 81]
+    requires { AreScaled wt.now }
+    ensures { (lag : ℕ) → 40 ≤ lag → lag ≤ 120 → slice_index_or result (lag - 40) (pos 0) ≡ correlation_of wt.now earlier.now lag }
+{
+    let past = copied(earlier);
+    let mut all = [0; 81];
+    for group in 0..21 {
+        let first = (4 * group).min(77);
+        let halves = four(wt, &past, 40 + first as u8).to_array();
+        for lane in 0..4 {
+            all[first + lane] = halves[lane] * 2;
+        }
+    }
+    all
+}
+
+/// The residuals, read one by one, each of which is so known to be a word.
+fn copied(earlier: &[i16; 120]) -> [i16; 120]
+    ensures value { result ≡ earlier.now }
+    ensures words { (k : ℕ) → FitsSigned w16 (slice_index_or result k (pos 0)) }
+{
+    let mut copy = [0; 120];
+    for k in 0..120 {
+        copy[k] = earlier[k];
+    }
+    copy
+}
+
+/// Half of the correlations at four lags, from `lag` on.
 ///
 /// It stays a call of its own: within a loop over the lags, the compiler would widen the block once before
 /// the loop, and then no longer find products of 16 bits.
 #[inline(never)]
-pub(crate) fn correlation(wt: &[i16; 40], earlier: &[i16; 120], lag: u8) -> i32
+fn four(wt: &[i16; 40], earlier: &[i16; 120], lag: u8) -> i32x4
     requires scaled { AreScaled wt.now }
+    requires words { (k : ℕ) → FitsSigned w16 (slice_index_or earlier.now k (pos 0)) }
+    requires at_least { 40 ≤ lag }
+    requires at_most { lag ≤ 117 }
+    ensures value { (k : ℕ) → k < 4 → slice_index_or result k (pos 0) *ℤ pos 2 ≡ correlation_of wt.now earlier.now (lag + k) }
+    ensures length { length result ≡ 4 }
+    ensures small { Each1 (λ x. unsigned_abs x ≤ 671088640) result }
+{
+    let first = lag_sums(wt, earlier, lag);
+    let second = lag_sums(wt, earlier, lag + 1);
+    let third = lag_sums(wt, earlier, lag + 2);
+    let fourth = lag_sums(wt, earlier, lag + 3);
+    let front = both(first, second);
+    let back = both(third, fourth);
+    both(front, back)
+}
+
+/// Four sums of ten products each, which are together half of the correlation at a lag.
+fn lag_sums(wt: &[i16; 40], earlier: &[i16; 120], lag: u8) -> i32x4
+    requires scaled { AreScaled wt.now }
+    requires words { (k : ℕ) → FitsSigned w16 (slice_index_or earlier.now k (pos 0)) }
     requires at_least { 40 ≤ lag }
     requires at_most { lag ≤ 120 }
-    ensures value { result ≡ correlation_of wt.now earlier.now lag }
-    ensures bound { unsigned_abs result ≤ 1342177280 }
+    ensures length { length result ≡ 4 }
+    ensures value { fold ◌+ℤ◌ (pos 0) result *ℤ pos 2 ≡ correlation_of wt.now earlier.now lag }
+    ensures small { Each1 (λ x. unsigned_abs x ≤ 167772160) result }
 {
     let start = 120 - lag as usize;
-    let mut halves = i32x8::splat(0);
+    let mut halves = i32x4::splat(0);
     for block in 0..5 {
         let products = products(eight(wt, 8 * block), eight(earlier, start + 8 * block));
-        halves = sums(halves, products);
+        halves = sums(halves, neighbours(products));
     }
-    total(halves) * 2
+    halves
 }
 
 /// The eight samples from place `at` on.
 fn eight(samples: &[i16], at: usize) -> i32x8
-    requires { at + 8 ≤ length samples.now }
+    requires place { at + 8 ≤ length samples.now }
+    requires words { (k : ℕ) → FitsSigned w16 (slice_index_or samples.now k (pos 0)) }
     ensures value { result ≡ chunk at 8 samples.now }
     ensures words { Each1 (λ x. unsigned_abs x ≤ 32768) result }
 {
-    let mut lanes = [0; 8];
-    for place in 0..8 {
-        lanes[place] = i32::from(samples[at + place]);
-    }
-    i32x8::from_array(lanes)
+    wide(i16x8::from_slice(&samples[at..]))
+}
+
+/// Eight samples in lanes of 32 bits.
+fn wide(samples: i16x8) -> i32x8
+    requires { Each1 (FitsSigned w16) samples }
+    ensures { result ≡ samples }
+{
+    samples.cast::<i32>()
 }
 
 /// The products of eight samples of a scaled block with eight residuals.
@@ -56,7 +114,7 @@ fn products(wt: i32x8, earlier: i32x8) -> i32x8
 }
 
 /// The sums of the lanes of two vectors.
-fn sums(a: i32x8, b: i32x8) -> i32x8
+fn sums(a: i32x4, b: i32x4) -> i32x4
     requires small_a { Each1 (λ x. unsigned_abs x ≤ 1073741823) a }
     requires small_b { Each1 (λ x. unsigned_abs x ≤ 1073741823) b }
     ensures { result ≡ zip2 ◌+ℤ◌ a b }
@@ -64,12 +122,25 @@ fn sums(a: i32x8, b: i32x8) -> i32x8
     a + b
 }
 
-/// The sum of the lanes of a vector.
-fn total(lanes: i32x8) -> i32
+/// The sums of neighbouring lanes of a vector.
+fn neighbours(lanes: i32x8) -> i32x4
     requires length { length lanes ≡ 8 }
-    requires small { Each1 (λ x. unsigned_abs x ≤ 83886080) lanes }
-    ensures value { result ≡ fold ◌+ℤ◌ (pos 0) lanes }
-    ensures bound { unsigned_abs result ≤ 671088640 }
+    requires small { Each1 (λ x. unsigned_abs x ≤ 1073741823) lanes }
+    ensures { result ≡ sums_of_pairs lanes }
 {
-    lanes.reduce_sum()
+    let (even, odd) = lanes
+        .extract::<0, 4>()
+        .deinterleave(lanes.extract::<4, 4>());
+    even + odd
+}
+
+/// The sums of neighbouring lanes of one vector, and then of another.
+fn both(a: i32x4, b: i32x4) -> i32x4
+    requires length_a { length a ≡ 4 }
+    requires length_b { length b ≡ 4 }
+    requires small { Each1 (λ x. unsigned_abs x ≤ 1073741823) (a ++ b) }
+    ensures { result ≡ sums_of_pairs (a ++ b) }
+{
+    let (even, odd) = a.deinterleave(b);
+    even + odd
 }

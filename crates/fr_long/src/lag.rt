@@ -4,7 +4,7 @@ ghost use Rattle.std.specs.Prelude.{◌≡◌, pos, ◌≤ℤ◌};
 ghost use Rattle.fr_long.specs.Scaling.{AreScaled};
 ghost use Rattle.fr_long.specs.Lag.{correlation_of, IsLag, greatest_of};
 
-use crate::correlations::correlation;
+use crate::correlations::correlate;
 
 /// A lag of 40 to 120 samples, and the correlation there, or 0 where none is positive.
 #[derive(Clone, Copy)]
@@ -20,12 +20,13 @@ pub(crate) fn search(wt: &[i16; 40], earlier: &[i16; 120]) -> Best
     ensures correlation { result.correlation ≡ greatest_of (correlation_of wt.now earlier.now) result.lag }
     ensures not_negative { pos 0 ≤ℤ result.correlation }
 {
+    let correlations = correlate(wt, earlier);
     let mut best = Best {
         lag: 40,
         correlation: 0,
     };
     for lag in 40..121 {
-        let here = correlation(wt, earlier, lag);
+        let here = correlations[lag as usize - 40];
         if best.correlation < here {
             best = Best {
                 lag,
