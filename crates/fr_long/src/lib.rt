@@ -5,14 +5,15 @@
 //!
 //! The encoding side is `LtpHistory`. It takes a block of the residual from short-term analysis, finds its
 //! lag and gain, and leaves `fr_rpe` the block less its prediction; the pulses of `fr_rpe` then go back
-//! into the history. `scaling`, `lag` over `correlations`, `sums` and `gain_code` are its steps. The decoding side is
-//! `LtpDecoder`. It takes a block of pulses from `fr_rpe` and adds the prediction back; short-term
-//! synthesis takes the reconstructed residual from there. Both use the gains of `gain` and the `memory` of
-//! 120 samples.
+//! into the history. `scaling`, `lag` over `correlations`, `sums` and `gain_code` are its steps. The
+//! decoding side is `LtpDecoder`. It takes a block of pulses from `fr_rpe` and adds the prediction back;
+//! short-term synthesis takes the reconstructed residual from there. Both use the gains of `gain` and the
+//! `memory` of 120 samples.
 //!
 //! Definitions: `specs/Prediction.antt` is what the encoder answers and keeps, made of `specs/Scaling.antt`,
 //! `specs/Lag.antt` and `specs/GainCode.antt`; `specs/Synthesis.antt` is the decoder over all blocks from
-//! home, `specs/Memory.antt` from block to block; `specs/Gain.antt` has the gains.
+//! home, `specs/Memory.antt` from block to block; `specs/Gain.antt` has the gains, and `specs/Lanes.antt` what
+//! is said of lanes.
 #![tactic(auto)]
 
 mod correlations;
