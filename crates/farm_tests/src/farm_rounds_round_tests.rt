@@ -1,0 +1,305 @@
+ghost use Rattle.std.specs.Prelude.{◌≡◌, ◌≢◌, ◌+◌, ◌*◌, ◌<◌, ◌≤◌, IfOk};
+ghost use Rattle.farm_rounds.specs.Calls.{IsNumber};
+
+use farm_rounds::{Farm, Round, Worked};
+use pool_run::OpenGate;
+use std::alloc::{AllocError, Global};
+use std::sync::Wait;
+use std::test::Fail;
+use std::thread::Threads;
+use switchboard::Act;
+use trau_io::{CallEnd, Cause, Counts, Line, MemTrunk, Side};
+
+// An uplink frame of good speech, but for D8 to D15, which `speech` puts in place.
+const SPEECH: [u8; 40] = [
+    0x00, 0x00, 0x88, 0x00, 0x82, 0x09, 0xBA, 0x1A, 0xE4, 0x28, 0x80, 0x12, 0xA4, 0x92, 0xA4, 0x92,
+    0xA2, 0x80, 0x81, 0x24, 0xC9, 0x24, 0xC9, 0x24, 0xA8, 0x00, 0x92, 0x49, 0x92, 0x49, 0x92, 0x45,
+    0x80, 0x02, 0xA4, 0x92, 0xA4, 0x92, 0xA6, 0xFF,
+];
+
+// A new farm with two bridged calls.
+fn bridged(alloc: Global, a: u32, b: u32) -> Result<Farm, AllocError>
+    requires a { IsNumber a }
+    requires b { IsNumber b }
+    requires different { a ≢ b }
+    ensures { IfOk result (λ f. f.ended ≡ 0) }
+{
+    let mut farm = Farm::new(alloc)?;
+    farm.apply(alloc, &Act::Opened { call: a })?;
+    farm.apply(alloc, &Act::Opened { call: b })?;
+    farm.apply(alloc, &Act::Bridged { a, b })?;
+    Ok(farm)
+}
+
+// A new farm with two calls.
+fn opened(alloc: Global, a: u32, b: u32) -> Result<Farm, AllocError>
+    requires a { IsNumber a }
+    requires b { IsNumber b }
+    requires different { a ≢ b }
+    ensures { IfOk result (λ f. f.ended ≡ 0) }
+{
+    let mut farm = Farm::new(alloc)?;
+    farm.apply(alloc, &Act::Opened { call: a })?;
+    farm.apply(alloc, &Act::Opened { call: b })?;
+    Ok(farm)
+}
+
+fn periods_of(counts: &Counts) -> u64 {
+    counts
+        .good
+        .saturating_add(counts.none)
+        .saturating_add(counts.miss)
+}
+
+fn line(call: u32, side: Side) -> Line
+    requires { IsNumber call }
+{
+    Line { call, side }
+}
+
+// Sets a line: so many octets to come, which of its calls fail, and room for so many.
+fn set(
+    trunk: &mut MemTrunk,
+    alloc: Global,
+    line: Line,
+    octets: usize,
+    fails: &[u32],
+    room: u32,
+) -> Result<(), AllocError> {
+    let mut contents = Vec::with_capacity(alloc, octets)?;
+    for k in 0..octets {
+        contents.push(match line.side {
+            Side::Up => SPEECH[k % 40],
+            _ => 0xD5,
+        })?;
+    }
+    trunk.set(
+        alloc,
+        line,
+        contents,
+        Vec::new(alloc),
+        fails.to_vec(alloc)?,
+        room,
+    )
+}
+
+// Lines of a call with so many periods, and room for as many.
+fn lines(trunk: &mut MemTrunk, alloc: Global, call: u32, periods: u32) -> Result<(), AllocError>
+    requires call { IsNumber call }
+    requires few { periods ≤ 1000 }
+{
+    set(
+        trunk,
+        alloc,
+        line(call, Side::Up),
+        40 * periods as usize,
+        &[],
+        0,
+    )?;
+    set(
+        trunk,
+        alloc,
+        line(call, Side::Pcm),
+        160 * periods as usize,
+        &[],
+        0,
+    )?;
+    set(trunk, alloc, line(call, Side::Down), 0, &[], 40 * periods)?;
+    set(trunk, alloc, line(call, Side::Out), 0, &[], 160 * periods)
+}
+
+fn round<R: Threads + Wait + Sync>(
+    rt: &R,
+    alloc: Global,
+    trunk: &mut MemTrunk,
+    farm: Farm,
+    start: u32,
+    periods: u32,
+) -> Result<Worked, AllocError>
+    requires some { 1 ≤ periods }
+    requires few { periods ≤ 250 }
+    requires last { start + periods ≤ 4294967295 }
+    requires later { farm.ended ≤ start }
+    ensures { IfOk result (λ w. w.ended ≡ start + periods) }
+{
+    let mut round = Round::plan(alloc, farm, start, periods, 4)?;
+    round.fill(trunk);
+    Ok(round.work(rt, 7, &OpenGate))
+}
+
+// A call has its periods in rounds of 1 and of 250, and ends where its lines do.
+#[test]
+fn one_call_in_rounds(rt: HostRuntime) -> Result<(), Fail> {
+    let alloc = rt.alloc();
+    let mut trunk = MemTrunk::new(alloc)?;
+    lines(&mut trunk, alloc, 7, 252)?;
+    let mut farm = Farm::new(alloc)?;
+    farm.apply(alloc, &Act::Opened { call: 7 })?;
+    assert!(rt; farm.live_calls() == [7].as_slice());
+    let worked = round(&rt, alloc, &mut trunk, farm, 0, 1)?;
+    assert!(rt; worked.ends().is_empty());
+    let farm = worked.drain(&mut trunk);
+    assert_eq!(rt; trunk.written(line(7, Side::Out)).len(), 160);
+    assert_eq!(rt; periods_of(&farm.counts(7)), 1);
+    let worked = round(&rt, alloc, &mut trunk, farm, 1, 250)?;
+    let farm = worked.drain(&mut trunk);
+    assert_eq!(rt; trunk.written(line(7, Side::Down)).len(), 251 * 40);
+    assert!(rt; farm.live_calls() == [7].as_slice());
+    let worked = round(&rt, alloc, &mut trunk, farm, 251, 2)?;
+    let cause = Cause::End {
+        side: Side::Up,
+        left: 0,
+    };
+    assert!(rt;
+        worked.ends()
+            == [CallEnd {
+                call: 7,
+                at: 252,
+                cause
+            }]
+            .as_slice()
+    );
+    let farm = worked.drain(&mut trunk);
+    assert!(rt; farm.live_calls().is_empty());
+    assert!(rt; farm.failed().is_empty());
+    assert_eq!(rt; periods_of(&farm.counts(7)), 252);
+    assert_eq!(rt; trunk.written(line(7, Side::Down)).len(), 252 * 40);
+    Ok(())
+}
+
+// Of two bridged calls one has 30 periods and 13 octets: it ends, and the other goes on alone.
+#[test]
+fn a_partner_goes_on_alone(rt: HostRuntime) -> Result<(), Fail> {
+    let alloc = rt.alloc();
+    let mut trunk = MemTrunk::new(alloc)?;
+    lines(&mut trunk, alloc, 2, 100)?;
+    lines(&mut trunk, alloc, 9, 100)?;
+    set(&mut trunk, alloc, line(9, Side::Up), 30 * 40 + 13, &[], 0)?;
+    let farm = bridged(alloc, 9, 2)?;
+    let worked = round(&rt, alloc, &mut trunk, farm, 10, 40)?;
+    let cause = Cause::End {
+        side: Side::Up,
+        left: 13,
+    };
+    assert!(rt;
+        worked.ends()
+            == [CallEnd {
+                call: 9,
+                at: 40,
+                cause
+            }]
+            .as_slice()
+    );
+    let farm = worked.drain(&mut trunk);
+    assert!(rt; farm.live_calls() == [2].as_slice());
+    assert_eq!(rt; trunk.written(line(9, Side::Out)).len(), 30 * 160);
+    assert_eq!(rt; trunk.written(line(2, Side::Out)).len(), 40 * 160);
+    assert!(rt; 0 < farm.sent(2));
+    assert!(rt; 0 < farm.sent(9));
+    Ok(())
+}
+
+// Both calls of a bridge end in one round; of a call both lines do.
+#[test]
+fn both_end_in_a_round(rt: HostRuntime) -> Result<(), Fail> {
+    let alloc = rt.alloc();
+    let mut trunk = MemTrunk::new(alloc)?;
+    lines(&mut trunk, alloc, 1, 3)?;
+    lines(&mut trunk, alloc, 4096, 5)?;
+    set(&mut trunk, alloc, line(1, Side::Pcm), 3 * 160 + 1, &[], 0)?;
+    set(
+        &mut trunk,
+        alloc,
+        line(4096, Side::Pcm),
+        2 * 160 + 8,
+        &[],
+        0,
+    )?;
+    let farm = bridged(alloc, 1, 4096)?;
+    let worked = round(&rt, alloc, &mut trunk, farm, 0, 10)?;
+    let ends = [
+        CallEnd {
+            call: 1,
+            at: 3,
+            cause: Cause::End {
+                side: Side::Up,
+                left: 0,
+            },
+        },
+        CallEnd {
+            call: 4096,
+            at: 2,
+            cause: Cause::End {
+                side: Side::Pcm,
+                left: 8,
+            },
+        },
+    ];
+    assert!(rt; worked.ends() == ends.as_slice());
+    let farm = worked.drain(&mut trunk);
+    assert!(rt; farm.live_calls().is_empty());
+    assert_eq!(rt; trunk.written(line(1, Side::Down)).len(), 3 * 40);
+    assert_eq!(rt; trunk.written(line(4096, Side::Down)).len(), 2 * 40);
+    Ok(())
+}
+
+// Faults: a read ahead that fails past the end of the other line tells its line, and the call ends at the other one's end;
+// an outgoing line that failed is passed over.
+#[test]
+fn faults_end_their_own_call(rt: HostRuntime) -> Result<(), Fail> {
+    let alloc = rt.alloc();
+    let mut trunk = MemTrunk::new(alloc)?;
+    lines(&mut trunk, alloc, 3, 20)?;
+    lines(&mut trunk, alloc, 6, 20)?;
+    // Call 3: Up has 2 periods, Pcm 4 and then fails.
+    set(&mut trunk, alloc, line(3, Side::Up), 80, &[], 0)?;
+    set(&mut trunk, alloc, line(3, Side::Pcm), 640, &[1], 0)?;
+    // Call 6: Down fails at once.
+    set(&mut trunk, alloc, line(6, Side::Down), 0, &[0], 800)?;
+    let farm = opened(alloc, 6, 3)?;
+    let worked = round(&rt, alloc, &mut trunk, farm, 0, 10)?;
+    let ends = [CallEnd {
+        call: 3,
+        at: 2,
+        cause: Cause::End {
+            side: Side::Up,
+            left: 0,
+        },
+    }];
+    assert!(rt; worked.ends() == ends.as_slice());
+    let farm = worked.drain(&mut trunk);
+    assert!(rt; farm.live_calls() == [6].as_slice());
+    let failed = [line(3, Side::Pcm), line(6, Side::Down)];
+    assert!(rt; farm.failed() == failed.as_slice());
+    let farm = round(&rt, alloc, &mut trunk, farm, 10, 10)?.drain(&mut trunk);
+    assert!(rt; farm.live_calls() == [6].as_slice());
+    assert!(rt; farm.failed() == failed.as_slice());
+    assert!(rt; trunk.written(line(6, Side::Down)).is_empty());
+    assert_eq!(rt; trunk.written(line(6, Side::Out)).len(), 20 * 160);
+    assert_eq!(rt; trunk.faults(line(6, Side::Down)), 1);
+    Ok(())
+}
+
+// A Pcm line that fails ends its call, and no other.
+#[test]
+fn a_fault_ends_its_own_call(rt: HostRuntime) -> Result<(), Fail> {
+    let alloc = rt.alloc();
+    let mut trunk = MemTrunk::new(alloc)?;
+    lines(&mut trunk, alloc, 4, 20)?;
+    lines(&mut trunk, alloc, 5, 20)?;
+    set(&mut trunk, alloc, line(4, Side::Pcm), 400, &[1], 0)?;
+    let farm = opened(alloc, 4, 5)?;
+    let worked = round(&rt, alloc, &mut trunk, farm, 0, 10)?;
+    let cause = Cause::Fault { side: Side::Pcm };
+    let ends = [CallEnd {
+        call: 4,
+        at: 2,
+        cause,
+    }];
+    assert!(rt; worked.ends() == ends.as_slice());
+    let farm = worked.drain(&mut trunk);
+    assert!(rt; farm.live_calls() == [5].as_slice());
+    assert!(rt; farm.failed() == [line(4, Side::Pcm)].as_slice());
+    assert_eq!(rt; trunk.written(line(5, Side::Out)).len(), 10 * 160);
+    Ok(())
+}
