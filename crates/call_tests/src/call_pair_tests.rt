@@ -1,8 +1,8 @@
 ghost use Rattle.std.specs.Prelude.{◌≡◌, ◌<◌, ◌≤◌, ◌+◌, IfOk};
 ghost use Rattle.call_pair.specs.Memory.{IsCall};
 
-use call_pair::{Buffers, Half, Job, LegIo};
 use call_leg::Leg;
+use call_pair::{Buffers, Half, Job, LegIo};
 use pool_run::Work;
 use rx_handler::Effective;
 use std::alloc::{AllocError, Global};

@@ -1,5 +1,5 @@
-use tx_dtx::Tx;
 use trau_params::{Params, Trace, silence};
+use tx_dtx::Tx;
 
 const QUIET: Trace = Trace {
     lar: [0; 8],

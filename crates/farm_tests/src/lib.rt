@@ -17,6 +17,8 @@ mod farm_top_run_tests;
 #[cfg(test)]
 mod farm_top_tests;
 #[cfg(test)]
+mod held;
+#[cfg(test)]
 mod pool_core_tests;
 #[cfg(test)]
 mod pool_run_tests;

@@ -1,10 +1,10 @@
 ghost use Rattle.std.specs.Prelude.{ℕ, IfOk};
 ghost use Rattle.switchboard.specs.State.{EndBefore};
 
-use switchboard::{Act, Board, Refusal, Reply, Span};
 use std::alloc::Global;
 use std::process::Abort;
 use std::test::Fail;
+use switchboard::{Act, Board, Refusal, Reply, Span};
 use trau_io::{CallEnd, Cause};
 use trau_orders::{DtxMode, Orders};
 

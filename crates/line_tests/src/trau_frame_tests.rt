@@ -1,5 +1,5 @@
-use trau_frame::{Class, DownFrame, Kind, UpFrame, read_up, sync_matches, write_down, write_up};
 use trau_bits::{pack, unpack};
+use trau_frame::{Class, DownFrame, Kind, UpFrame, read_up, sync_matches, write_down, write_up};
 
 // Frames worked by hand from the tables of GSM 08.60 and of this project's profile: an uplink frame of good
 // speech whose parameters are those of silence (the codes 32, 32, 20, 11, 8, 5, 3, 2 and in each block the lag 40

@@ -1,7 +1,7 @@
+use std::test::Fail;
 use trau_io::{
     Desk, Failed, Filled, Line, MemDesk, MemTrunk, Side, Trunk, read_block, tell, write_all,
 };
-use std::test::Fail;
 
 const UP: Line = Line {
     call: 4096,

@@ -1,6 +1,6 @@
-use trau_orders::{DtxMode, Order, OrderFault, Orders, What};
 use std::alloc::{AllocError, Global};
 use std::test::Fail;
+use trau_orders::{DtxMode, Order, OrderFault, Orders, What};
 
 // Whole runs' orders, recorded with the answers of a separate program.
 const CLEAN_FARM: &str =
