@@ -112,22 +112,44 @@ fn bridged(a: &mut Leg, b: &mut Leg, d: u8) -> [u8; 40]
     down
 }
 
+// Four periods of two legs alone; octets of the second are to be skipped from the last of them on.
+fn four_alone(a: &mut Leg, b: &mut Leg)
+    requires first { a.old.search.periods ≡ 0 }
+    requires second { b.old.search.periods ≡ 0 }
+    ensures first { a.new.search.periods ≡ 4 }
+    ensures second { b.new.search.periods ≡ 4 }
+{
+    for k in 0..4u8 {
+        period(a, &up(0, k));
+        period(b, &up(if k == 3 { 39 } else { 0 }, 9));
+    }
+}
+
+// Six periods of two bridged legs: of each the fifth octet of the second's Down line.
+fn six_bridged(a: &mut Leg, b: &mut Leg) -> [u8; 6]
+    requires first { a.old.search.periods ≡ 4 }
+    requires second { b.old.search.periods ≡ 4 }
+    ensures first { a.new.search.periods ≡ 10 }
+    ensures second { b.new.search.periods ≡ 10 }
+{
+    let mut octets = [0; 6];
+    for k in 4..10u8 {
+        octets[usize::from(k - 4)] = bridged(a, b, k)[4];
+    }
+    octets
+}
+
 // Legs are bridged from period 4 to 10, and octets of the second are to be skipped at the start: the frames of the first
 // go out one period late, the last of them after the end.
 #[test]
 fn handed_frames_go_out_in_order(rt: HostRuntime) -> Result<(), Fail> {
     let mut a = Leg::new(rt.alloc(), 7)?;
     let mut b = Leg::new(rt.alloc(), 9)?;
-    for k in 0..4u8 {
-        period(&mut a, &up(0, k));
-        period(&mut b, &up(if k == 3 { 39 } else { 0 }, 9));
-    }
+    four_alone(&mut a, &mut b);
     a.bridge_on();
     b.bridge_on();
-    for k in 4..10u8 {
-        let down = bridged(&mut a, &mut b, k);
-        assert!(rt; k < 6 || down[4] == k - 2);
-    }
+    let octets = six_bridged(&mut a, &mut b);
+    assert_eq!(rt; [octets[2], octets[3], octets[4], octets[5]], [4, 5, 6, 7]);
     assert_eq!(rt; (a.sent(), b.sent()), (6, 5));
     a.bridge_off();
     b.bridge_off();

@@ -131,15 +131,21 @@ fn unreachable(rt: &impl Abort) {
     panic!(rt; "another job");
 }
 
+// Works three periods of call 7 by the leg's own calls.
+fn work_three(alloc: Global, lines: &mut Lines) -> Result<(), AllocError> {
+    let mut leg = Leg::new(alloc, 7)?;
+    alone(&mut leg, lines, 0);
+    alone(&mut leg, lines, 1);
+    alone(&mut leg, lines, 2);
+    Ok(())
+}
+
 // Three of four periods of one call, in slices of two.
 #[test]
 fn one_call_has_its_octets(rt: HostRuntime) -> Result<(), Fail> {
     let mut want = lines_with([3, 5, 8, 13]);
     let mut job = Job::One(half(rt.alloc(), 7, &want, 3)?);
-    let mut leg = Leg::new(rt.alloc(), 7)?;
-    alone(&mut leg, &mut want, 0);
-    alone(&mut leg, &mut want, 1);
-    alone(&mut leg, &mut want, 2);
+    work_three(rt.alloc(), &mut want)?;
     job.slice(2);
     assert!(rt; !job.finished());
     job.slice(2);
@@ -151,23 +157,38 @@ fn one_call_has_its_octets(rt: HostRuntime) -> Result<(), Fail> {
     Ok(())
 }
 
+// Works two bridged periods of the calls 7 and 9, and two more of call 7 alone, by the legs' own calls.
+fn work_two_and_two(
+    alloc: Global,
+    first: &mut Lines,
+    second: &mut Lines,
+) -> Result<(), AllocError> {
+    let (mut a, mut b) = (Leg::new(alloc, 7)?, Leg::new(alloc, 9)?);
+    a.bridge_on();
+    b.bridge_on();
+    bridged(&mut a, first, &mut b, second, 0);
+    bridged(&mut a, first, &mut b, second, 1);
+    a.bridge_off();
+    alone(&mut a, first, 2);
+    alone(&mut a, first, 3);
+    Ok(())
+}
+
+// The job of two bridged calls, 7 with four periods of its lines and 9 with two.
+fn longer_and_shorter(alloc: Global, first: &Lines, second: &Lines) -> Result<Job, AllocError> {
+    let mut long = half(alloc, 7, first, 4)?;
+    let mut short = half(alloc, 9, second, 2)?;
+    long.leg.bridge_on();
+    short.leg.bridge_on();
+    Ok(Job::Two(long, short))
+}
+
 // Four periods of a call whose partner has two: it is alone in the others.
 #[test]
 fn the_longer_of_two_goes_on_alone(rt: HostRuntime) -> Result<(), Fail> {
     let (mut first, mut second) = (lines_with([3, 5, 8, 13]), lines_with([21, 34, 55, 89]));
-    let mut long = half(rt.alloc(), 7, &first, 4)?;
-    let mut short = half(rt.alloc(), 9, &second, 2)?;
-    long.leg.bridge_on();
-    short.leg.bridge_on();
-    let mut job = Job::Two(long, short);
-    let (mut a, mut b) = (Leg::new(rt.alloc(), 7)?, Leg::new(rt.alloc(), 9)?);
-    a.bridge_on();
-    b.bridge_on();
-    bridged(&mut a, &mut first, &mut b, &mut second, 0);
-    bridged(&mut a, &mut first, &mut b, &mut second, 1);
-    a.bridge_off();
-    alone(&mut a, &mut first, 2);
-    alone(&mut a, &mut first, 3);
+    let mut job = longer_and_shorter(rt.alloc(), &first, &second)?;
+    work_two_and_two(rt.alloc(), &mut first, &mut second)?;
     job.slice(3);
     assert!(rt; !job.finished());
     job.slice(1);

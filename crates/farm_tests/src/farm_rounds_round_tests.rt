@@ -127,6 +127,20 @@ fn round<R: Threads + Wait + Sync>(
     Ok(round.work(rt, 7, &OpenGate))
 }
 
+// Writes what goes out, and gives the farm.
+fn drained(worked: Worked, trunk: &mut MemTrunk) -> Farm
+    ensures { result.ended ≡ worked.ended }
+{
+    worked.drain(trunk)
+}
+
+// How many octets a line got.
+fn written(trunk: &MemTrunk, call: u32, side: Side) -> usize
+    requires { IsNumber call }
+{
+    trunk.written(line(call, side)).len()
+}
+
 // A call has its periods in rounds of 1 and of 250, and ends where its lines do.
 #[test]
 fn one_call_in_rounds(rt: HostRuntime) -> Result<(), Fail> {
@@ -138,12 +152,12 @@ fn one_call_in_rounds(rt: HostRuntime) -> Result<(), Fail> {
     assert!(rt; farm.live_calls() == [7].as_slice());
     let worked = round(&rt, alloc, &mut trunk, farm, 0, 1)?;
     assert!(rt; worked.ends().is_empty());
-    let farm = worked.drain(&mut trunk);
-    assert_eq!(rt; trunk.written(line(7, Side::Out)).len(), 160);
+    let farm = drained(worked, &mut trunk);
+    assert_eq!(rt; written(&trunk, 7, Side::Out), 160);
     assert_eq!(rt; periods_of(&farm.counts(7)), 1);
     let worked = round(&rt, alloc, &mut trunk, farm, 1, 250)?;
-    let farm = worked.drain(&mut trunk);
-    assert_eq!(rt; trunk.written(line(7, Side::Down)).len(), 251 * 40);
+    let farm = drained(worked, &mut trunk);
+    assert_eq!(rt; written(&trunk, 7, Side::Down), 251 * 40);
     assert!(rt; farm.live_calls() == [7].as_slice());
     let worked = round(&rt, alloc, &mut trunk, farm, 251, 2)?;
     let cause = Cause::End {
@@ -159,22 +173,28 @@ fn one_call_in_rounds(rt: HostRuntime) -> Result<(), Fail> {
             }]
             .as_slice()
     );
-    let farm = worked.drain(&mut trunk);
+    let farm = drained(worked, &mut trunk);
     assert!(rt; farm.live_calls().is_empty());
     assert!(rt; farm.failed().is_empty());
     assert_eq!(rt; periods_of(&farm.counts(7)), 252);
-    assert_eq!(rt; trunk.written(line(7, Side::Down)).len(), 252 * 40);
+    assert_eq!(rt; written(&trunk, 7, Side::Down), 252 * 40);
     Ok(())
+}
+
+// The lines of call 2 with 100 periods, and of call 9 with 30 and 13 octets.
+fn lines_of_30_and_100(alloc: Global) -> Result<MemTrunk, AllocError> {
+    let mut trunk = MemTrunk::new(alloc)?;
+    lines(&mut trunk, alloc, 2, 100)?;
+    lines(&mut trunk, alloc, 9, 100)?;
+    set(&mut trunk, alloc, line(9, Side::Up), 30 * 40 + 13, &[], 0)?;
+    Ok(trunk)
 }
 
 // Of two bridged calls one has 30 periods and 13 octets: it ends, and the other goes on alone.
 #[test]
 fn a_partner_goes_on_alone(rt: HostRuntime) -> Result<(), Fail> {
     let alloc = rt.alloc();
-    let mut trunk = MemTrunk::new(alloc)?;
-    lines(&mut trunk, alloc, 2, 100)?;
-    lines(&mut trunk, alloc, 9, 100)?;
-    set(&mut trunk, alloc, line(9, Side::Up), 30 * 40 + 13, &[], 0)?;
+    let mut trunk = lines_of_30_and_100(alloc)?;
     let farm = bridged(alloc, 9, 2)?;
     let worked = round(&rt, alloc, &mut trunk, farm, 10, 40)?;
     let cause = Cause::End {
@@ -190,19 +210,17 @@ fn a_partner_goes_on_alone(rt: HostRuntime) -> Result<(), Fail> {
             }]
             .as_slice()
     );
-    let farm = worked.drain(&mut trunk);
+    let farm = drained(worked, &mut trunk);
     assert!(rt; farm.live_calls() == [2].as_slice());
-    assert_eq!(rt; trunk.written(line(9, Side::Out)).len(), 30 * 160);
-    assert_eq!(rt; trunk.written(line(2, Side::Out)).len(), 40 * 160);
+    assert_eq!(rt; written(&trunk, 9, Side::Out), 30 * 160);
+    assert_eq!(rt; written(&trunk, 2, Side::Out), 40 * 160);
     assert!(rt; 0 < farm.sent(2));
     assert!(rt; 0 < farm.sent(9));
     Ok(())
 }
 
-// Both calls of a bridge end in one round; of a call both lines do.
-#[test]
-fn both_end_in_a_round(rt: HostRuntime) -> Result<(), Fail> {
-    let alloc = rt.alloc();
+// The lines of call 1 with 3 periods and an octet, and of call 4096 with 2 and 8 octets.
+fn lines_of_3_and_2(alloc: Global) -> Result<MemTrunk, AllocError> {
     let mut trunk = MemTrunk::new(alloc)?;
     lines(&mut trunk, alloc, 1, 3)?;
     lines(&mut trunk, alloc, 4096, 5)?;
@@ -215,6 +233,14 @@ fn both_end_in_a_round(rt: HostRuntime) -> Result<(), Fail> {
         &[],
         0,
     )?;
+    Ok(trunk)
+}
+
+// Both calls of a bridge end in one round; of a call both lines do.
+#[test]
+fn both_end_in_a_round(rt: HostRuntime) -> Result<(), Fail> {
+    let alloc = rt.alloc();
+    let mut trunk = lines_of_3_and_2(alloc)?;
     let farm = bridged(alloc, 1, 4096)?;
     let worked = round(&rt, alloc, &mut trunk, farm, 0, 10)?;
     let ends = [
@@ -236,18 +262,15 @@ fn both_end_in_a_round(rt: HostRuntime) -> Result<(), Fail> {
         },
     ];
     assert!(rt; worked.ends() == ends.as_slice());
-    let farm = worked.drain(&mut trunk);
+    let farm = drained(worked, &mut trunk);
     assert!(rt; farm.live_calls().is_empty());
-    assert_eq!(rt; trunk.written(line(1, Side::Down)).len(), 3 * 40);
-    assert_eq!(rt; trunk.written(line(4096, Side::Down)).len(), 2 * 40);
+    assert_eq!(rt; written(&trunk, 1, Side::Down), 3 * 40);
+    assert_eq!(rt; written(&trunk, 4096, Side::Down), 2 * 40);
     Ok(())
 }
 
-// Faults: a read ahead that fails past the end of the other line tells its line, and the call ends at the other one's end;
-// an outgoing line that failed is passed over.
-#[test]
-fn faults_end_their_own_call(rt: HostRuntime) -> Result<(), Fail> {
-    let alloc = rt.alloc();
+// Of call 3 the Pcm line fails past the end of Up, of call 6 the Down line at once.
+fn lines_with_faults(alloc: Global) -> Result<MemTrunk, AllocError> {
     let mut trunk = MemTrunk::new(alloc)?;
     lines(&mut trunk, alloc, 3, 20)?;
     lines(&mut trunk, alloc, 6, 20)?;
@@ -256,6 +279,15 @@ fn faults_end_their_own_call(rt: HostRuntime) -> Result<(), Fail> {
     set(&mut trunk, alloc, line(3, Side::Pcm), 640, &[1], 0)?;
     // Call 6: Down fails at once.
     set(&mut trunk, alloc, line(6, Side::Down), 0, &[0], 800)?;
+    Ok(trunk)
+}
+
+// Faults: a read ahead that fails past the end of the other line tells its line, and the call ends at the other one's end;
+// an outgoing line that failed is passed over.
+#[test]
+fn faults_end_their_own_call(rt: HostRuntime) -> Result<(), Fail> {
+    let alloc = rt.alloc();
+    let mut trunk = lines_with_faults(alloc)?;
     let farm = opened(alloc, 6, 3)?;
     let worked = round(&rt, alloc, &mut trunk, farm, 0, 10)?;
     let ends = [CallEnd {
@@ -267,27 +299,34 @@ fn faults_end_their_own_call(rt: HostRuntime) -> Result<(), Fail> {
         },
     }];
     assert!(rt; worked.ends() == ends.as_slice());
-    let farm = worked.drain(&mut trunk);
+    let farm = drained(worked, &mut trunk);
     assert!(rt; farm.live_calls() == [6].as_slice());
     let failed = [line(3, Side::Pcm), line(6, Side::Down)];
     assert!(rt; farm.failed() == failed.as_slice());
-    let farm = round(&rt, alloc, &mut trunk, farm, 10, 10)?.drain(&mut trunk);
+    let worked = round(&rt, alloc, &mut trunk, farm, 10, 10)?;
+    let farm = drained(worked, &mut trunk);
     assert!(rt; farm.live_calls() == [6].as_slice());
     assert!(rt; farm.failed() == failed.as_slice());
-    assert!(rt; trunk.written(line(6, Side::Down)).is_empty());
-    assert_eq!(rt; trunk.written(line(6, Side::Out)).len(), 20 * 160);
+    assert_eq!(rt; written(&trunk, 6, Side::Down), 0);
+    assert_eq!(rt; written(&trunk, 6, Side::Out), 20 * 160);
     assert_eq!(rt; trunk.faults(line(6, Side::Down)), 1);
     Ok(())
+}
+
+// Of call 4 the Pcm line fails in its third period.
+fn lines_with_a_fault(alloc: Global) -> Result<MemTrunk, AllocError> {
+    let mut trunk = MemTrunk::new(alloc)?;
+    lines(&mut trunk, alloc, 4, 20)?;
+    lines(&mut trunk, alloc, 5, 20)?;
+    set(&mut trunk, alloc, line(4, Side::Pcm), 400, &[1], 0)?;
+    Ok(trunk)
 }
 
 // A Pcm line that fails ends its call, and no other.
 #[test]
 fn a_fault_ends_its_own_call(rt: HostRuntime) -> Result<(), Fail> {
     let alloc = rt.alloc();
-    let mut trunk = MemTrunk::new(alloc)?;
-    lines(&mut trunk, alloc, 4, 20)?;
-    lines(&mut trunk, alloc, 5, 20)?;
-    set(&mut trunk, alloc, line(4, Side::Pcm), 400, &[1], 0)?;
+    let mut trunk = lines_with_a_fault(alloc)?;
     let farm = opened(alloc, 4, 5)?;
     let worked = round(&rt, alloc, &mut trunk, farm, 0, 10)?;
     let cause = Cause::Fault { side: Side::Pcm };
@@ -297,9 +336,9 @@ fn a_fault_ends_its_own_call(rt: HostRuntime) -> Result<(), Fail> {
         cause,
     }];
     assert!(rt; worked.ends() == ends.as_slice());
-    let farm = worked.drain(&mut trunk);
+    let farm = drained(worked, &mut trunk);
     assert!(rt; farm.live_calls() == [5].as_slice());
     assert!(rt; farm.failed() == [line(4, Side::Pcm)].as_slice());
-    assert_eq!(rt; trunk.written(line(5, Side::Out)).len(), 10 * 160);
+    assert_eq!(rt; written(&trunk, 5, Side::Out), 10 * 160);
     Ok(())
 }

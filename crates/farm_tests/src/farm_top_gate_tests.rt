@@ -1,12 +1,12 @@
 // The workers of a run: that they are several threads, and that calls are stolen half done. No clause says so.
-use crate::farm_top_run_tests::set_call;
+use crate::farm_top_run_tests::{desk_with, set_call};
+use crate::farm_top_tests::carry_gated;
 use crate::held::Held;
-use farm_top::farm_top;
 use std::alloc::{AllocError, Global};
 use std::sync::Wait;
 use std::test::Fail;
 use std::thread::Threads;
-use trau_io::{MemDesk, MemTrunk};
+use trau_io::MemTrunk;
 
 // The lines of the calls 1, 2 and 3, three periods each.
 fn three_lines(alloc: Global) -> Result<MemTrunk, AllocError> {
@@ -25,14 +25,10 @@ fn each_wait_is_answered<R: Threads + Wait + Sync>(
     pair: (u32, u32),
 ) -> Result<bool, AllocError> {
     let mut trunk = three_lines(alloc)?;
-    let orders = b"0 open 1\n0 open 2\n0 open 3\n".to_vec(alloc)?;
-    let mut desk = MemDesk::new(alloc, orders, Vec::new(alloc), Vec::new(alloc), 1000)?;
-    let mut words = Vec::new(alloc);
-    for word in ["run", "--workers", "2", "--slice", "1"] {
-        words.push(String::from_str(alloc, word)?)?;
-    }
+    let mut desk = desk_with(alloc, b"0 open 1\n0 open 2\n0 open 3\n")?;
     let gate = Held::new(pair);
-    let status = farm_top(rt, alloc, &words, &mut trunk, &mut desk, &gate);
+    let words = ["run", "--workers", "2", "--slice", "1"];
+    let status = carry_gated(rt, alloc, &words, &mut trunk, &mut desk, &gate)?;
     Ok(status == 0 && gate.each_is_answered())
 }
 

@@ -62,6 +62,17 @@ fn good_frames(alloc: Global, frames: usize) -> Result<Vec<u8>, AllocError> {
     Ok(up)
 }
 
+// A desk that has these orders, and room enough.
+pub(crate) fn desk_with(alloc: Global, orders: &[u8]) -> Result<MemDesk, AllocError> {
+    MemDesk::new(
+        alloc,
+        orders.to_vec(alloc)?,
+        Vec::new(alloc),
+        Vec::new(alloc),
+        10_000,
+    )
+}
+
 // Carries out the command with these orders, and compares the status.
 fn runs<R: Abort + Threads + Wait + Sync>(
     rt: &R,
@@ -71,8 +82,7 @@ fn runs<R: Abort + Threads + Wait + Sync>(
     trunk: &mut MemTrunk,
     status: u8,
 ) -> Result<MemDesk, Fail> {
-    let (calm, room) = (Vec::new(alloc), 10_000);
-    let mut desk = MemDesk::new(alloc, orders.to_vec(alloc)?, calm, Vec::new(alloc), room)?;
+    let mut desk = desk_with(alloc, orders)?;
     assert_eq!(rt; carry(rt, alloc, words, trunk, &mut desk)?, status);
     Ok(desk)
 }
@@ -90,6 +100,19 @@ fn tells(desk: &MemDesk, start: &str) -> bool {
     false
 }
 
+// Asserts that a Down line holds ones in the first period, and then idle frames.
+fn assert_idle(rt: &impl Abort, down: &[u8]) {
+    for (period, octets) in down.chunks(40).enumerate() {
+        let mut due = [0xFF; 40];
+        if period > 0 {
+            for (octet, head) in due.iter_mut().zip(&IDLE) {
+                *octet = *head;
+            }
+        }
+        assert_eq!(rt; octets, due.as_slice());
+    }
+}
+
 // An uplink without a frame: each period makes an idle frame.
 #[test]
 fn one_call_is_run(rt: HostRuntime) -> Result<(), Fail> {
@@ -103,15 +126,7 @@ fn one_call_is_run(rt: HostRuntime) -> Result<(), Fail> {
     assert_eq!(rt; trunk.written(line(1, Side::Out)), [0xD5; 480].as_slice());
     let down = trunk.written(line(1, Side::Down));
     assert_eq!(rt; down.len(), 120);
-    for (period, octets) in down.chunks(40).enumerate() {
-        let mut due = [0xFF; 40];
-        if period > 0 {
-            for (octet, head) in due.iter_mut().zip(&IDLE) {
-                *octet = *head;
-            }
-        }
-        assert_eq!(rt; octets, due.as_slice());
-    }
+    assert_idle(&rt, down);
     Ok(())
 }
 
@@ -131,19 +146,16 @@ fn orders_are_answered(rt: HostRuntime) -> Result<(), Fail> {
     Ok(())
 }
 
-// A call whose uplink ends ends its bridge, and its partner goes on alone with its codecs from home.
-#[test]
-fn a_bridged_call_ends(rt: HostRuntime) -> Result<(), Fail> {
-    let alloc = rt.alloc();
+// The lines of call 7 with 30 periods and 13 octets on Up, and of call 9 with 33.
+fn lines_of_a_bridge(alloc: Global) -> Result<MemTrunk, AllocError> {
     let mut trunk = MemTrunk::new(alloc)?;
     set_call(alloc, &mut trunk, 7, vec![in alloc; 0; 1213]?, 33)?;
     set_call(alloc, &mut trunk, 9, good_frames(alloc, 33)?, 33)?;
-    let orders = b"0 open 7\n0 open 9\n0 bridge 7 9";
-    let desk = runs(&rt, alloc, &["run"], orders, &mut trunk, 0)?;
-    assert!(rt; tells(&desk, "call 7 from 0 to 30 end up 13"));
-    assert!(rt; tells(&desk, "bridge 7 9 from 0 to 30 sent "));
-    let out = trunk.written(line(9, Side::Out));
-    assert_eq!(rt; out.len(), 33 * 160);
+    Ok(trunk)
+}
+
+// Asserts that an Out line is silent in its first 30 periods, and that the next one is decoded from home.
+fn assert_alone_from_30(rt: &impl Abort, out: &[u8]) {
     for (period, octets) in out.chunks(160).enumerate() {
         if period < 30 {
             assert_eq!(rt; octets, [0xD5; 160].as_slice());
@@ -151,6 +163,20 @@ fn a_bridged_call_ends(rt: HostRuntime) -> Result<(), Fail> {
             assert!(rt; octets.starts_with(&DECODED));
         }
     }
+}
+
+// A call whose uplink ends ends its bridge, and its partner goes on alone with its codecs from home.
+#[test]
+fn a_bridged_call_ends(rt: HostRuntime) -> Result<(), Fail> {
+    let alloc = rt.alloc();
+    let mut trunk = lines_of_a_bridge(alloc)?;
+    let orders = b"0 open 7\n0 open 9\n0 bridge 7 9";
+    let desk = runs(&rt, alloc, &["run"], orders, &mut trunk, 0)?;
+    assert!(rt; tells(&desk, "call 7 from 0 to 30 end up 13"));
+    assert!(rt; tells(&desk, "bridge 7 9 from 0 to 30 sent "));
+    let out = trunk.written(line(9, Side::Out));
+    assert_eq!(rt; out.len(), 33 * 160);
+    assert_alone_from_30(&rt, out);
     Ok(())
 }
 
@@ -163,6 +189,16 @@ fn three_calls(alloc: Global) -> Result<MemTrunk, AllocError> {
     Ok(trunk)
 }
 
+// The same, where Pcm of call 7 and Down of call 9 fail.
+fn three_calls_with_faults(alloc: Global) -> Result<MemTrunk, AllocError> {
+    let mut trunk = three_calls(alloc)?;
+    let pcm = vec![in alloc; 0xD5; 640]?;
+    set(alloc, &mut trunk, line(7, Side::Pcm), pcm, &[400], &[1])?;
+    let down = line(9, Side::Down);
+    set(alloc, &mut trunk, down, Vec::new(alloc), &[], &[0])?;
+    Ok(trunk)
+}
+
 // A line that fails leaves all other calls, and the other lines of its own, as they are without it.
 #[test]
 fn lines_fail(rt: HostRuntime) -> Result<(), Fail> {
@@ -170,11 +206,7 @@ fn lines_fail(rt: HostRuntime) -> Result<(), Fail> {
     let orders = b"0 open 7\n0 open 8\n0 open 9";
     let mut calm = three_calls(alloc)?;
     runs(&rt, alloc, &["run"], orders, &mut calm, 0)?;
-    let mut trunk = three_calls(alloc)?;
-    let pcm = vec![in alloc; 0xD5; 640]?;
-    set(alloc, &mut trunk, line(7, Side::Pcm), pcm, &[400], &[1])?;
-    let down = line(9, Side::Down);
-    set(alloc, &mut trunk, down, Vec::new(alloc), &[], &[0])?;
+    let mut trunk = three_calls_with_faults(alloc)?;
     let desk = runs(&rt, alloc, &["run"], orders, &mut trunk, 6)?;
     for start in [
         "call 7 from 0 to 2 fault pcm",
@@ -189,11 +221,12 @@ fn lines_fail(rt: HostRuntime) -> Result<(), Fail> {
     Ok(())
 }
 
-#[test]
-fn a_run_ends(rt: HostRuntime) -> Result<(), Fail> {
-    let alloc = rt.alloc();
+// No orders, and a call without a period.
+fn runs_without_periods<R: Abort + Threads + Wait + Sync>(
+    rt: &R,
+    alloc: Global,
+) -> Result<(), Fail> {
     let mut trunk = MemTrunk::new(alloc)?;
-    // No orders, and a call without a period.
     for (orders, text) in [
         ("", "end period 0 calls 0 left 0\n"),
         (
@@ -201,20 +234,39 @@ fn a_run_ends(rt: HostRuntime) -> Result<(), Fail> {
             "order 1 ok\ncall 1 from 4000000000 to 4000000000 end up 0\ncounts 1 good 0 sid 0 invalid 0 bad 0 idle 0 other 0 miss 0 none 0 made 0\nend period 4000000000 calls 1 left 0\n",
         ),
     ] {
-        let desk = runs(&rt, alloc, &["run"], orders.as_bytes(), &mut trunk, 0)?;
+        let desk = runs(rt, alloc, &["run"], orders.as_bytes(), &mut trunk, 0)?;
         assert_eq!(rt; desk.text(), text.as_bytes());
     }
-    // The limit of periods, and an order past it.
+    Ok(())
+}
+
+// The limit of periods, and an order past it.
+fn runs_to_the_limit<R: Abort + Threads + Wait + Sync>(rt: &R, alloc: Global) -> Result<(), Fail> {
+    let mut trunk = MemTrunk::new(alloc)?;
     set_call(alloc, &mut trunk, 1, good_frames(alloc, 9)?, 9)?;
     let words = ["run", "--periods", "3"];
-    let desk = runs(&rt, alloc, &words, b"0 open 1\n9 close 1", &mut trunk, 0)?;
+    let desk = runs(rt, alloc, &words, b"0 open 1\n9 close 1", &mut trunk, 0)?;
     assert!(rt; tells(&desk, "call 1 from 0 to 3 limit"));
     assert!(rt; tells(&desk, "end period 3 calls 1 left 1"));
-    // One line too many.
+    Ok(())
+}
+
+// One line too many.
+fn too_many_orders(alloc: Global) -> Result<Vec<u8>, AllocError> {
     let mut orders = Vec::new(alloc);
     for _ in 0..65_537 {
         orders.extend_from_slice(b"0 open 1\n")?;
     }
+    Ok(orders)
+}
+
+#[test]
+fn a_run_ends(rt: HostRuntime) -> Result<(), Fail> {
+    let alloc = rt.alloc();
+    runs_without_periods(&rt, alloc)?;
+    runs_to_the_limit(&rt, alloc)?;
+    let mut trunk = MemTrunk::new(alloc)?;
+    let orders = too_many_orders(alloc)?;
     let desk = runs(&rt, alloc, &["run"], &orders, &mut trunk, 7)?;
     assert_eq!(rt; desk.text(), b"orders too long\n".as_slice());
     Ok(())

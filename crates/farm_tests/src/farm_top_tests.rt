@@ -1,5 +1,5 @@
 use farm_top::farm_top;
-use pool_run::OpenGate;
+use pool_run::{Gate, OpenGate};
 use std::alloc::{AllocError, Global};
 use std::process::Abort;
 use std::sync::Wait;
@@ -47,6 +47,27 @@ pub(crate) const DECODED: [u8; 7] = [0xD5, 0xD5, 0xD5, 0xD5, 0xD5, 0xD5, 0xD4];
 // Pieces in which a line moves: octets one by one, just below and above a frame, and all at once.
 const CUTS: [u32; 4] = [1, 39, 41, 1000];
 
+fn words_of(alloc: Global, texts: &[&str]) -> Result<Vec<String>, AllocError> {
+    let mut words = Vec::new(alloc);
+    for text in texts {
+        words.push(String::from_str(alloc, text)?)?;
+    }
+    Ok(words)
+}
+
+// Carries out the command of these words, with a gate for its workers.
+pub(crate) fn carry_gated<R: Threads + Wait + Sync, G: Gate + Sync>(
+    rt: &R,
+    alloc: Global,
+    texts: &[&str],
+    trunk: &mut MemTrunk,
+    desk: &mut MemDesk,
+    gate: &G,
+) -> Result<u8, AllocError> {
+    let words = words_of(alloc, texts)?;
+    Ok(farm_top(rt, alloc, &words, trunk, desk, gate))
+}
+
 // Carries out the command of these words.
 pub(crate) fn carry<R: Threads + Wait + Sync>(
     rt: &R,
@@ -55,11 +76,7 @@ pub(crate) fn carry<R: Threads + Wait + Sync>(
     trunk: &mut MemTrunk,
     desk: &mut MemDesk,
 ) -> Result<u8, AllocError> {
-    let mut words = Vec::new(alloc);
-    for text in texts {
-        words.push(String::from_str(alloc, text)?)?;
-    }
-    Ok(farm_top(rt, alloc, &words, trunk, desk, &OpenGate))
+    carry_gated(rt, alloc, texts, trunk, desk, &OpenGate)
 }
 
 // An uplink of `frames` good frames and `octets` octets of one more.

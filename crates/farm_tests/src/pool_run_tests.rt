@@ -86,6 +86,36 @@ fn run_in_turn<W: Work>(
     Ok(answer)
 }
 
+// What the pool answers.
+fn run_at_once<R: Threads + Wait + Sync>(
+    rt: &R,
+    alloc: Global,
+    jobs: &[(u32, u32)],
+    workers: u32,
+    slice: u32,
+) -> Result<Vec<Box<Counter>>, AllocError>
+    requires { (1 ≤ workers) × (workers ≤ 64) × (1 ≤ slice) × (length jobs.now ≤ 4096) }
+{
+    let room = PoolRoom::reserve(alloc, workers, jobs.len() as u32)?;
+    Ok(run_pool(rt, room, counters(alloc, jobs)?, slice, &OpenGate))
+}
+
+fn is_same(one: &Counter, other: &Counter) -> bool {
+    (one.call, one.left, one.digits) == (other.call, other.left, other.digits)
+}
+
+fn are_same(some: &[Box<Counter>], others: &[Box<Counter>]) -> bool {
+    if some.len() != others.len() {
+        return false;
+    }
+    for (one, other) in some.iter().zip(others.iter()) {
+        if !is_same(one, other) {
+            return false;
+        }
+    }
+    true
+}
+
 // Whether the pool's answer is that of the plain program.
 fn is_as_in_turn<R: Threads + Wait + Sync>(
     rt: &R,
@@ -96,18 +126,9 @@ fn is_as_in_turn<R: Threads + Wait + Sync>(
 ) -> Result<bool, AllocError>
     requires { (1 ≤ workers) × (workers ≤ 64) × (1 ≤ slice) × (length jobs.now ≤ 4096) }
 {
-    let room = PoolRoom::reserve(alloc, workers, jobs.len() as u32)?;
-    let answer = run_pool(rt, room, counters(alloc, jobs)?, slice, &OpenGate);
+    let answer = run_at_once(rt, alloc, jobs, workers, slice)?;
     let plain = run_in_turn(alloc, counters(alloc, jobs)?, slice)?;
-    if answer.len() != plain.len() {
-        return Ok(false);
-    }
-    for (one, other) in answer.iter().zip(plain.iter()) {
-        if (one.call, one.left, one.digits) != (other.call, other.left, other.digits) {
-            return Ok(false);
-        }
-    }
-    Ok(true)
+    Ok(are_same(answer.as_slice(), plain.as_slice()))
 }
 
 #[test]

@@ -24,6 +24,13 @@ fn execute(board: &mut Board) -> Option<Reply>
     board.turn(stamp)
 }
 
+fn next_reply(board: &mut Board) -> Result<Reply, Fail>
+    requires { (t : ℕ) → EndBefore t board.old }
+    ensures { (t : ℕ) → EndBefore t board.new }
+{
+    Ok(execute(board).ok_or("a reply")?)
+}
+
 // Executes all orders, and asserts the results of their replies.
 fn assert_replies(
     rt: &impl Abort,
@@ -33,7 +40,7 @@ fn assert_replies(
 ) -> Result<(), Fail> {
     let mut board = board_of(alloc, orders)?;
     for result in results {
-        let reply = execute(&mut board).ok_or("a reply")?;
+        let reply = next_reply(&mut board)?;
         assert_eq!(rt; reply.result, *result, "order {}", reply.order);
     }
     assert_eq!(rt; board.next_stamp(), None);
