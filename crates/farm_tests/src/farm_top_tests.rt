@@ -205,6 +205,34 @@ fn failing_calls(alloc: Global, number: u32, here: bool) -> Result<Vec<u32>, All
     Ok(fails)
 }
 
+// The lines of call 7, of which this call fails.
+fn failing_lines(
+    alloc: Global,
+    cut: u32,
+    number: u32,
+    failing: Failing,
+) -> Result<MemTrunk, AllocError> {
+    let in_fails = failing_calls(alloc, number, failing == Failing::Incoming)?;
+    let out_fails = failing_calls(alloc, number, failing == Failing::Outgoing)?;
+    lines(alloc, cut, in_fails.as_slice(), out_fails.as_slice())
+}
+
+// A desk, of which this call fails.
+fn failing_desk(alloc: Global, number: u32, failing: Failing) -> Result<MemDesk, AllocError> {
+    let fails = failing_calls(alloc, number, failing == Failing::Desk)?;
+    desk(alloc, fails.as_slice(), 100)
+}
+
+// Asserts that all that earlier blocks make is written; where no line failed, all of both.
+fn assert_sent(rt: &impl Abort, row: &Row, trunk: &MemTrunk, status: u8) {
+    let sent = trunk.written(row.outgoing).len();
+    if status != 6 {
+        assert_eq!(rt; sent.checked_div(row.size), Some(2));
+    } else if trunk.faults(row.incoming) > 0 {
+        assert_eq!(rt; sent.checked_rem(row.size), Some(0));
+    }
+}
+
 // Carries out a command in which one call fails, and compares what it leaves with what is due.
 fn fails_at<R: Abort + Threads + Wait + Sync>(
     rt: &R,
@@ -214,11 +242,8 @@ fn fails_at<R: Abort + Threads + Wait + Sync>(
     number: u32,
     failing: Failing,
 ) -> Result<(), Fail> {
-    let in_fails = failing_calls(alloc, number, failing == Failing::Incoming)?;
-    let out_fails = failing_calls(alloc, number, failing == Failing::Outgoing)?;
-    let desk_fails = failing_calls(alloc, number, failing == Failing::Desk)?;
-    let mut trunk = lines(alloc, cut, in_fails.as_slice(), out_fails.as_slice())?;
-    let mut desk = desk(alloc, desk_fails.as_slice(), 100)?;
+    let mut trunk = failing_lines(alloc, cut, number, failing)?;
+    let mut desk = failing_desk(alloc, number, failing)?;
     let tool = row.tool;
     let status = carry(rt, alloc, &[tool, "7"], &mut trunk, &mut desk)?;
     let (expected, text) = due(row, &trunk, &desk);
@@ -228,13 +253,7 @@ fn fails_at<R: Abort + Threads + Wait + Sync>(
         "{tool}, cut {cut}, call {number}, {failing:?}"
     );
     assert_eq!(rt; desk.text(), text.as_bytes());
-    // All that earlier blocks make is written; where no line failed, all of both.
-    let sent = trunk.written(row.outgoing).len();
-    if status != 6 {
-        assert_eq!(rt; sent.checked_div(row.size), Some(2));
-    } else if trunk.faults(row.incoming) > 0 {
-        assert_eq!(rt; sent.checked_rem(row.size), Some(0));
-    }
+    assert_sent(rt, row, &trunk, status);
     Ok(())
 }
 
@@ -251,6 +270,13 @@ fn each_call_of_the_outside_fails_in_turn(rt: HostRuntime) -> Result<(), Fail> {
         }
     }
     Ok(())
+}
+
+// Asserts that a Down line holds nothing but the downlink frame.
+fn assert_frames(rt: &impl Abort, down: &[u8]) {
+    for frame in down.chunks(40) {
+        assert_eq!(rt; frame, DOWNLINK_FRAME.as_slice());
+    }
 }
 
 // An uplink, and what a command answers and tells of it.
@@ -272,65 +298,39 @@ fn tells<R: Abort + Threads + Wait + Sync>(
         status
     );
     assert_eq!(rt; desk.text(), text.as_bytes());
-    for frame in trunk.written(DOWN).chunks(40) {
-        assert_eq!(rt; frame, DOWNLINK_FRAME.as_slice());
-    }
+    assert_frames(rt, trunk.written(DOWN));
     Ok(())
 }
 
-#[test]
-fn an_uplink_ends_or_is_refused(rt: HostRuntime) -> Result<(), Fail> {
-    let alloc = rt.alloc();
-    for cut in CUTS {
-        tells(
-            &rt,
-            alloc,
-            "relay",
-            uplink(alloc, 2, 0)?,
-            cut,
-            0,
-            "relay frames 2\n",
-        )?;
-        tells(
-            &rt,
-            alloc,
-            "relay",
-            uplink(alloc, 1, 39)?,
-            cut,
-            8,
-            "relay refused 1\n",
-        )?;
-        tells(
-            &rt,
-            alloc,
-            "relay",
-            uplink(alloc, 1, 1)?,
-            cut,
-            8,
-            "relay refused 1\n",
-        )?;
-        tells(
-            &rt,
-            alloc,
-            "relay",
-            Vec::new(alloc),
-            cut,
-            0,
-            "relay frames 0\n",
-        )?;
+// Relays an uplink of so many good frames and octets.
+fn relays<R: Abort + Threads + Wait + Sync>(
+    rt: &R,
+    alloc: Global,
+    frames: usize,
+    octets: usize,
+    cut: u32,
+    status: u8,
+    text: &str,
+) -> Result<(), Fail> {
+    let up = uplink(alloc, frames, octets)?;
+    tells(rt, alloc, "relay", up, cut, status, text)
+}
+
+// An uplink of two good frames with another octet at this place.
+fn uplink_with(alloc: Global, place: usize, octet: u8) -> Result<Vec<u8>, AllocError> {
+    let mut up = uplink(alloc, 2, 0)?;
+    if let Some(changed) = up.get_mut(place) {
+        *changed = octet;
     }
-    // No sync, a bad frame, an idle frame.
-    for (place, octet) in [(42, 0x08), (43, 0x08), (42, 0xC0)] {
-        let mut up = uplink(alloc, 2, 0)?;
-        if let Some(changed) = up.get_mut(place) {
-            *changed = octet;
-        }
-        tells(&rt, alloc, "relay", up, 1000, 8, "relay refused 1\n")?;
-    }
+    Ok(up)
+}
+
+// Decodes two good frames.
+fn decodes<R: Abort + Threads + Wait + Sync>(rt: &R, alloc: Global) -> Result<(), Fail> {
     let mut trunk = lines(alloc, 1000, &[], &[])?;
     let mut desk = desk(alloc, &[], 100)?;
     assert_eq!(rt;
-        carry(&rt, alloc, &["decode", "7"], &mut trunk, &mut desk)?,
+        carry(rt, alloc, &["decode", "7"], &mut trunk, &mut desk)?,
         0
     );
     assert!(rt; trunk.written(OUT).starts_with(&DECODED));
@@ -338,18 +338,58 @@ fn an_uplink_ends_or_is_refused(rt: HostRuntime) -> Result<(), Fail> {
 }
 
 #[test]
+fn an_uplink_ends_or_is_refused(rt: HostRuntime) -> Result<(), Fail> {
+    let alloc = rt.alloc();
+    for cut in CUTS {
+        relays(&rt, alloc, 2, 0, cut, 0, "relay frames 2\n")?;
+        relays(&rt, alloc, 1, 39, cut, 8, "relay refused 1\n")?;
+        relays(&rt, alloc, 1, 1, cut, 8, "relay refused 1\n")?;
+        relays(&rt, alloc, 0, 0, cut, 0, "relay frames 0\n")?;
+    }
+    // No sync, a bad frame, an idle frame.
+    for (place, octet) in [(42, 0x08), (43, 0x08), (42, 0xC0)] {
+        let up = uplink_with(alloc, place, octet)?;
+        tells(&rt, alloc, "relay", up, 1000, 8, "relay refused 1\n")?;
+    }
+    decodes(&rt, alloc)
+}
+
+// Four frames and three octets; the first sync bit that is 1 is broken in the second frame and in the third.
+fn broken_uplink(alloc: Global) -> Result<Vec<u8>, AllocError> {
+    let mut up = uplink(alloc, 4, 3)?;
+    for place in [44, 84] {
+        if let Some(changed) = up.get_mut(place) {
+            *changed = 0x02;
+        }
+    }
+    Ok(up)
+}
+
+// Lists an uplink of two frames, where a read of the line fails, or a write of the desk.
+fn lists<R: Abort + Threads + Wait + Sync>(
+    rt: &R,
+    alloc: Global,
+    read: u32,
+    write: u32,
+    status: u8,
+    text: &str,
+) -> Result<(), Fail> {
+    let mut trunk = lines(alloc, 1000, &[read], &[])?;
+    let mut desk = desk(alloc, &[write], 100)?;
+    assert_eq!(rt;
+        carry(rt, alloc, &["frames", "7"], &mut trunk, &mut desk)?,
+        status
+    );
+    assert_eq!(rt; desk.text(), text.as_bytes());
+    Ok(())
+}
+
+#[test]
 fn frames_are_listed(rt: HostRuntime) -> Result<(), Fail> {
     let alloc = rt.alloc();
-    // Four frames and three octets; the first sync bit that is 1 is broken in the second frame and in the third.
     for cut in [41, 1000] {
-        let mut up = uplink(alloc, 4, 3)?;
-        for place in [44, 84] {
-            if let Some(changed) = up.get_mut(place) {
-                *changed = 0x02;
-            }
-        }
         let text = "0 good\n320 miss\n640 miss\n960 good\nframes 4 left 3\n";
-        tells(&rt, alloc, "frames", up, cut, 0, text)?;
+        tells(&rt, alloc, "frames", broken_uplink(alloc)?, cut, 0, text)?;
     }
     // A call of the line fails, or a write of the desk.
     for (read, write, status, text) in [
@@ -361,14 +401,23 @@ fn frames_are_listed(rt: HostRuntime) -> Result<(), Fail> {
         (9, 2, 4, "0 good\n320 good\n"),
         (9, 9, 0, "0 good\n320 good\nframes 2 left 0\n"),
     ] {
-        let mut trunk = lines(alloc, 1000, &[read], &[])?;
-        let mut desk = desk(alloc, &[write], 100)?;
-        assert_eq!(rt;
-            carry(&rt, alloc, &["frames", "7"], &mut trunk, &mut desk)?,
-            status
-        );
-        assert_eq!(rt; desk.text(), text.as_bytes());
+        lists(&rt, alloc, read, write, status, text)?;
     }
+    Ok(())
+}
+
+// Carries out words that are no command's, with room for so many octets on the desk.
+fn are_usage<R: Abort + Threads + Wait + Sync>(
+    rt: &R,
+    alloc: Global,
+    texts: &[&str],
+    room: u32,
+    text: &str,
+) -> Result<(), Fail> {
+    let mut trunk = MemTrunk::new(alloc)?;
+    let mut desk = desk(alloc, &[], room)?;
+    assert_eq!(rt; carry(rt, alloc, texts, &mut trunk, &mut desk)?, 1);
+    assert_eq!(rt; desk.text(), text.as_bytes());
     Ok(())
 }
 
@@ -387,41 +436,45 @@ fn other_words_are_usage(rt: HostRuntime) -> Result<(), Fail> {
         &["run", "--workers", "0"],
         &["run", "--batch", "2", "--batch", "3"],
     ];
-    let mut trunk = MemTrunk::new(alloc)?;
     for texts in rows {
-        let mut desk = desk(alloc, &[], 100)?;
-        assert_eq!(rt; carry(&rt, alloc, texts, &mut trunk, &mut desk)?, 1);
-        assert_eq!(rt; desk.text(), b"usage\n".as_slice());
+        are_usage(&rt, alloc, texts, 100, "usage\n")?;
     }
     // A full desk takes a front of the text.
-    let mut desk = desk(alloc, &[], 3)?;
-    assert_eq!(rt;
-        carry(&rt, alloc, &["relay", "07"], &mut trunk, &mut desk)?,
-        1
-    );
-    assert_eq!(rt; desk.text(), b"usa".as_slice());
+    are_usage(&rt, alloc, &["relay", "07"], 3, "usa")
+}
+
+// A desk with these orders, of which the read of this number fails.
+fn desk_of_orders(alloc: Global, orders: &str, fails: u32) -> Result<MemDesk, AllocError> {
+    let octets = orders.as_bytes().to_vec(alloc)?;
+    let fails = vec![in alloc; fails; 1]?;
+    MemDesk::new(alloc, octets, fails, Vec::new(alloc), 100)
+}
+
+// Carries out `run` with these orders.
+fn refuses<R: Abort + Threads + Wait + Sync>(
+    rt: &R,
+    alloc: Global,
+    orders: &str,
+    fails: u32,
+    status: u8,
+    text: &str,
+) -> Result<(), Fail> {
+    let mut trunk = MemTrunk::new(alloc)?;
+    let mut desk = desk_of_orders(alloc, orders, fails)?;
+    assert_eq!(rt; carry(rt, alloc, &["run"], &mut trunk, &mut desk)?, status);
+    assert_eq!(rt; desk.text(), text.as_bytes());
     Ok(())
 }
 
 #[test]
 fn orders_are_refused(rt: HostRuntime) -> Result<(), Fail> {
     let alloc = rt.alloc();
-    let mut trunk = MemTrunk::new(alloc)?;
     for (orders, fails, status, text) in [
         ("5 open 1\n4 open 2", 9, 2, "orders line 2\n"),
         ("0 open 01", 9, 2, "orders line 1\n"),
         ("0 open 1", 0, 3, "orders unread\n"),
     ] {
-        let octets = orders.as_bytes().to_vec(alloc)?;
-        let mut desk = MemDesk::new(
-            alloc,
-            octets,
-            vec![in alloc; fails; 1]?,
-            Vec::new(alloc),
-            100,
-        )?;
-        assert_eq!(rt; carry(&rt, alloc, &["run"], &mut trunk, &mut desk)?, status);
-        assert_eq!(rt; desk.text(), text.as_bytes());
+        refuses(&rt, alloc, orders, fails, status, text)?;
     }
     Ok(())
 }
