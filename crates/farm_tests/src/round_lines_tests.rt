@@ -52,15 +52,21 @@ fn sent_away<T: Send>(buffers: T) -> T
     buffers
 }
 
-// Two of three periods came, in cuts, and go out; 20 octets of Up are left.
-#[test]
-fn whole_periods_come_in_and_go_out(rt: HostRuntime) -> Result<(), Fail> {
-    let alloc = rt.alloc();
+// Two periods and 20 octets on Up, three and 20 on Pcm, in cuts.
+fn lines_in_cuts(alloc: Global) -> Result<MemTrunk, AllocError> {
     let mut trunk = MemTrunk::new(alloc)?;
     set(&mut trunk, alloc, UP, 100, &[1, 50, 0], &[])?;
     set(&mut trunk, alloc, PCM, 500, &[159, 320], &[])?;
     set(&mut trunk, alloc, DOWN, 100, &[33], &[])?;
     set(&mut trunk, alloc, OUT, 1000, &[], &[])?;
+    Ok(trunk)
+}
+
+// Two of three periods came, in cuts, and go out; 20 octets of Up are left.
+#[test]
+fn whole_periods_come_in_and_go_out(rt: HostRuntime) -> Result<(), Fail> {
+    let alloc = rt.alloc();
+    let mut trunk = lines_in_cuts(alloc)?;
     let mut seat = Seat::new(alloc, 7, 3, false, false)?;
     seat.fill(&mut trunk);
     assert_eq!(rt; seat.place().whole(), 2);
@@ -116,13 +122,19 @@ fn pcm_is_read_where_up_has_ended(rt: HostRuntime) -> Result<(), Fail> {
     Ok(())
 }
 
+// Five periods on both lines, of which Pcm fails in its second call.
+fn lines_with_a_fault(alloc: Global) -> Result<MemTrunk, AllocError> {
+    let mut trunk = MemTrunk::new(alloc)?;
+    set(&mut trunk, alloc, UP, 200, &[], &[])?;
+    set(&mut trunk, alloc, PCM, 800, &[400], &[1])?;
+    Ok(trunk)
+}
+
 // Pcm fails after 400 octets: two periods and a half.
 #[test]
 fn a_fault_ends_the_call_after_its_whole_periods(rt: HostRuntime) -> Result<(), Fail> {
     let alloc = rt.alloc();
-    let mut trunk = MemTrunk::new(alloc)?;
-    set(&mut trunk, alloc, UP, 200, &[], &[])?;
-    set(&mut trunk, alloc, PCM, 800, &[400], &[1])?;
+    let mut trunk = lines_with_a_fault(alloc)?;
     let mut seats = [Seat::new(alloc, 7, 5, false, false)?];
     fill_seats(&mut trunk, &mut seats);
     let mut ends = Vec::with_capacity(alloc, 1)?;
@@ -140,15 +152,21 @@ fn a_fault_ends_the_call_after_its_whole_periods(rt: HostRuntime) -> Result<(), 
     Ok(())
 }
 
-// Down fails at its first write, and isn't written to in the next round.
-#[test]
-fn a_failed_line_is_passed_over(rt: HostRuntime) -> Result<(), Fail> {
-    let alloc = rt.alloc();
+// Two periods on both lines; the first write to Down fails.
+fn lines_where_down_fails(alloc: Global) -> Result<MemTrunk, AllocError> {
     let mut trunk = MemTrunk::new(alloc)?;
     set(&mut trunk, alloc, UP, 80, &[], &[])?;
     set(&mut trunk, alloc, PCM, 320, &[], &[])?;
     set(&mut trunk, alloc, DOWN, 100, &[], &[0])?;
     set(&mut trunk, alloc, OUT, 320, &[], &[])?;
+    Ok(trunk)
+}
+
+// Down fails at its first write, and isn't written to in the next round.
+#[test]
+fn a_failed_line_is_passed_over(rt: HostRuntime) -> Result<(), Fail> {
+    let alloc = rt.alloc();
+    let mut trunk = lines_where_down_fails(alloc)?;
     let mut failed = Vec::with_capacity(alloc, 4)?;
     let mut failed_again = Vec::with_capacity(alloc, 4)?;
     let mut seats = [Seat::new(alloc, 7, 1, false, false)?];
