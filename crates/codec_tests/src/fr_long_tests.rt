@@ -83,7 +83,10 @@ fn three_blocks_before() -> LtpHistory {
 fn predicts_two_blocks_in_turn(rt: HostRuntime) {
     let mut history = three_blocks_before();
     let ltp = history.predict(&block(&[(0, 1200), (14, -700), (26, 500)]));
-    assert_eq!(rt; (ltp.nc, ltp.bc, ltp.dpp[14], ltp.e[26]), (117, 2, -975, 45));
+    assert_eq!(rt;
+        (ltp.nc, ltp.bc, ltp.dpp[14], ltp.e[26]),
+        (117, 2, -975, 45)
+    );
     history.update(&ltp.dpp, &block(&[(1, 300), (26, -100)]));
     let ltp = history.predict(&block(&[(1, -400), (15, 900)]));
     assert_eq!(rt; (ltp.nc, ltp.bc, ltp.dpp[16], ltp.e[29]), (55, 1, 105, 341));

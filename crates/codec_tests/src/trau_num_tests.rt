@@ -2,7 +2,10 @@ use trau_num::{Draw, abs16, add, div_q15, l_add, l_mult, l_sub, mult, mult_r, no
 
 #[test]
 fn meets_the_ends(rt: HostRuntime) {
-    assert_eq!(rt; [mult(-32768, -32768), mult_r(-32768, -32768)], [32767, 32767]);
+    assert_eq!(rt;
+        [mult(-32768, -32768), mult_r(-32768, -32768)],
+        [32767, 32767]
+    );
     assert_eq!(rt;
         [abs16(-32768), add(32767, 1), sub(-32768, 1)],
         [32767, 32767, -32768]
@@ -12,7 +15,10 @@ fn meets_the_ends(rt: HostRuntime) {
 
 #[test]
 fn divides_fractions(rt: HostRuntime) {
-    assert_eq!(rt; [div_q15(5, 5), div_q15(0, 9), div_q15(0, 0)], [32767, 0, 0]);
+    assert_eq!(rt;
+        [div_q15(5, 5), div_q15(0, 9), div_q15(0, 0)],
+        [32767, 0, 0]
+    );
     assert_eq!(rt; shl16(-3, 2), -12);
 }
 
