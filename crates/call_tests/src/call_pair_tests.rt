@@ -157,20 +157,36 @@ fn one_call_has_its_octets(rt: HostRuntime) -> Result<(), Fail> {
     Ok(())
 }
 
+// A new leg that is bridged.
+fn bridged_leg(alloc: Global, call: u32) -> Result<Leg, AllocError>
+    requires { IsCall call }
+    ensures { IfOk result (λ l. l.search.periods ≡ 0) }
+{
+    let mut leg = Leg::new(alloc, call)?;
+    leg.bridge_on();
+    Ok(leg)
+}
+
+// Works the periods 2 and 3 of a leg whose bridge ends.
+fn work_two_alone(leg: &mut Leg, lines: &mut Lines)
+    requires { leg.old.search.periods < 50 }
+{
+    leg.bridge_off();
+    alone(leg, lines, 2);
+    alone(leg, lines, 3);
+}
+
 // Works two bridged periods of the calls 7 and 9, and two more of call 7 alone, by the legs' own calls.
 fn work_two_and_two(
     alloc: Global,
     first: &mut Lines,
     second: &mut Lines,
 ) -> Result<(), AllocError> {
-    let (mut a, mut b) = (Leg::new(alloc, 7)?, Leg::new(alloc, 9)?);
-    a.bridge_on();
-    b.bridge_on();
+    let mut a = bridged_leg(alloc, 7)?;
+    let mut b = bridged_leg(alloc, 9)?;
     bridged(&mut a, first, &mut b, second, 0);
     bridged(&mut a, first, &mut b, second, 1);
-    a.bridge_off();
-    alone(&mut a, first, 2);
-    alone(&mut a, first, 3);
+    work_two_alone(&mut a, first);
     Ok(())
 }
 

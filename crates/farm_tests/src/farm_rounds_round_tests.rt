@@ -141,6 +141,21 @@ fn written(trunk: &MemTrunk, call: u32, side: Side) -> usize
     trunk.written(line(call, side)).len()
 }
 
+// Whether these ends are told.
+fn are_ends(worked: &Worked, ends: &[CallEnd]) -> bool {
+    worked.ends() == ends
+}
+
+// Whether these calls are open.
+fn are_live(farm: &Farm, calls: &[u32]) -> bool {
+    farm.live_calls() == calls
+}
+
+// Whether these lines have failed.
+fn are_failed(farm: &Farm, lines: &[Line]) -> bool {
+    farm.failed() == lines
+}
+
 // A call has its periods in rounds of 1 and of 250, and ends where its lines do.
 #[test]
 fn one_call_in_rounds(rt: HostRuntime) -> Result<(), Fail> {
@@ -149,33 +164,34 @@ fn one_call_in_rounds(rt: HostRuntime) -> Result<(), Fail> {
     lines(&mut trunk, alloc, 7, 252)?;
     let mut farm = Farm::new(alloc)?;
     farm.apply(alloc, &Act::Opened { call: 7 })?;
-    assert!(rt; farm.live_calls() == [7].as_slice());
+    assert!(rt; are_live(&farm, &[7]));
     let worked = round(&rt, alloc, &mut trunk, farm, 0, 1)?;
-    assert!(rt; worked.ends().is_empty());
+    assert!(rt; are_ends(&worked, &[]));
     let farm = drained(worked, &mut trunk);
     assert_eq!(rt; written(&trunk, 7, Side::Out), 160);
     assert_eq!(rt; periods_of(&farm.counts(7)), 1);
     let worked = round(&rt, alloc, &mut trunk, farm, 1, 250)?;
     let farm = drained(worked, &mut trunk);
     assert_eq!(rt; written(&trunk, 7, Side::Down), 251 * 40);
-    assert!(rt; farm.live_calls() == [7].as_slice());
+    assert!(rt; are_live(&farm, &[7]));
     let worked = round(&rt, alloc, &mut trunk, farm, 251, 2)?;
     let cause = Cause::End {
         side: Side::Up,
         left: 0,
     };
     assert!(rt;
-        worked.ends()
-            == [CallEnd {
+        are_ends(
+            &worked,
+            &[CallEnd {
                 call: 7,
                 at: 252,
                 cause
             }]
-            .as_slice()
+        )
     );
     let farm = drained(worked, &mut trunk);
-    assert!(rt; farm.live_calls().is_empty());
-    assert!(rt; farm.failed().is_empty());
+    assert!(rt; are_live(&farm, &[]));
+    assert!(rt; are_failed(&farm, &[]));
     assert_eq!(rt; periods_of(&farm.counts(7)), 252);
     assert_eq!(rt; written(&trunk, 7, Side::Down), 252 * 40);
     Ok(())
@@ -202,16 +218,17 @@ fn a_partner_goes_on_alone(rt: HostRuntime) -> Result<(), Fail> {
         left: 13,
     };
     assert!(rt;
-        worked.ends()
-            == [CallEnd {
+        are_ends(
+            &worked,
+            &[CallEnd {
                 call: 9,
                 at: 40,
                 cause
             }]
-            .as_slice()
+        )
     );
     let farm = drained(worked, &mut trunk);
-    assert!(rt; farm.live_calls() == [2].as_slice());
+    assert!(rt; are_live(&farm, &[2]));
     assert_eq!(rt; written(&trunk, 9, Side::Out), 30 * 160);
     assert_eq!(rt; written(&trunk, 2, Side::Out), 40 * 160);
     assert!(rt; 0 < farm.sent(2));
@@ -261,9 +278,9 @@ fn both_end_in_a_round(rt: HostRuntime) -> Result<(), Fail> {
             },
         },
     ];
-    assert!(rt; worked.ends() == ends.as_slice());
+    assert!(rt; are_ends(&worked, &ends));
     let farm = drained(worked, &mut trunk);
-    assert!(rt; farm.live_calls().is_empty());
+    assert!(rt; are_live(&farm, &[]));
     assert_eq!(rt; written(&trunk, 1, Side::Down), 3 * 40);
     assert_eq!(rt; written(&trunk, 4096, Side::Down), 2 * 40);
     Ok(())
@@ -298,15 +315,15 @@ fn faults_end_their_own_call(rt: HostRuntime) -> Result<(), Fail> {
             left: 0,
         },
     }];
-    assert!(rt; worked.ends() == ends.as_slice());
+    assert!(rt; are_ends(&worked, &ends));
     let farm = drained(worked, &mut trunk);
-    assert!(rt; farm.live_calls() == [6].as_slice());
+    assert!(rt; are_live(&farm, &[6]));
     let failed = [line(3, Side::Pcm), line(6, Side::Down)];
-    assert!(rt; farm.failed() == failed.as_slice());
+    assert!(rt; are_failed(&farm, &failed));
     let worked = round(&rt, alloc, &mut trunk, farm, 10, 10)?;
     let farm = drained(worked, &mut trunk);
-    assert!(rt; farm.live_calls() == [6].as_slice());
-    assert!(rt; farm.failed() == failed.as_slice());
+    assert!(rt; are_live(&farm, &[6]));
+    assert!(rt; are_failed(&farm, &failed));
     assert_eq!(rt; written(&trunk, 6, Side::Down), 0);
     assert_eq!(rt; written(&trunk, 6, Side::Out), 20 * 160);
     assert_eq!(rt; trunk.faults(line(6, Side::Down)), 1);
@@ -335,10 +352,10 @@ fn a_fault_ends_its_own_call(rt: HostRuntime) -> Result<(), Fail> {
         at: 2,
         cause,
     }];
-    assert!(rt; worked.ends() == ends.as_slice());
+    assert!(rt; are_ends(&worked, &ends));
     let farm = drained(worked, &mut trunk);
-    assert!(rt; farm.live_calls() == [5].as_slice());
-    assert!(rt; farm.failed() == [line(4, Side::Pcm)].as_slice());
+    assert!(rt; are_live(&farm, &[5]));
+    assert!(rt; are_failed(&farm, &[line(4, Side::Pcm)]));
     assert_eq!(rt; written(&trunk, 5, Side::Out), 10 * 160);
     Ok(())
 }
