@@ -1,6 +1,7 @@
-ghost use Rattle.std.specs.Prelude.{◌≡◌, ◌<◌, ◌+◌};
+ghost use Rattle.std.specs.Prelude.{◌≡◌, ◌<◌, ◌≤◌, ◌+◌, IfOk};
 
 use call_leg::Leg;
+use std::alloc::{AllocError, Global};
 use std::test::Fail;
 use std::thread::join_mut;
 use trau_io::Counts;
@@ -20,6 +21,26 @@ fn up(field: u8, d: u8) -> [u8; 40] {
     octets[3] = field << 4;
     octets[5] = d;
     octets
+}
+
+fn new_leg(alloc: Global, call: u32) -> Result<Leg, AllocError>
+    requires low { 1 ≤ call }
+    requires high { call ≤ 4096 }
+    ensures { IfOk result (λ l. l.search.periods ≡ 0) }
+{
+    Leg::new(alloc, call)
+}
+
+fn begin_bridge(leg: &mut Leg)
+    ensures { leg.new.search.periods ≡ leg.old.search.periods }
+{
+    leg.bridge_on();
+}
+
+fn end_bridge(leg: &mut Leg)
+    ensures { leg.new.search.periods ≡ leg.old.search.periods }
+{
+    leg.bridge_off();
 }
 
 // Works a period in which the exchange says the same octet all the time: the octets of the Out and Down lines.
@@ -48,7 +69,7 @@ fn without_frames_the_call_is_quiet(rt: HostRuntime) -> Result<(), Fail> {
     idle[1] = 0x00;
     idle[2] = 0xB8;
     idle[3] = 0x0F;
-    let mut leg = Leg::new(rt.alloc(), 1)?;
+    let mut leg = new_leg(rt.alloc(), 1)?;
     assert!(rt; period(&mut leg, &[0; 40]) == ([0xD5; 160], [0xFF; 40]));
     assert!(rt; period(&mut leg, &[0; 40]) == ([0xD5; 160], idle));
     assert!(rt; period(&mut leg, &[0; 40]) == ([0xD5; 160], idle));
@@ -70,7 +91,7 @@ fn without_frames_the_call_is_quiet(rt: HostRuntime) -> Result<(), Fail> {
 // Field 39 in period 0, 63 in period 2, 40 in period 3: 312 ones follow frame 0, and frame 1 has 316 bits.
 #[test]
 fn shifts_move_the_frames(rt: HostRuntime) -> Result<(), Fail> {
-    let mut leg = Leg::new(rt.alloc(), 7)?;
+    let mut leg = new_leg(rt.alloc(), 7)?;
     assert!(rt; period(&mut leg, &up(39, 9)).1 == [0xFF; 40]);
     let first = period(&mut leg, &up(0, 9)).1;
     assert_eq!(rt;
@@ -143,16 +164,16 @@ fn six_bridged(a: &mut Leg, b: &mut Leg) -> [u8; 6]
 // go out one period late, the last of them after the end.
 #[test]
 fn handed_frames_go_out_in_order(rt: HostRuntime) -> Result<(), Fail> {
-    let mut a = Leg::new(rt.alloc(), 7)?;
-    let mut b = Leg::new(rt.alloc(), 9)?;
+    let mut a = new_leg(rt.alloc(), 7)?;
+    let mut b = new_leg(rt.alloc(), 9)?;
     four_alone(&mut a, &mut b);
-    a.bridge_on();
-    b.bridge_on();
+    begin_bridge(&mut a);
+    begin_bridge(&mut b);
     let octets = six_bridged(&mut a, &mut b);
     assert_eq!(rt; [octets[2], octets[3], octets[4], octets[5]], [4, 5, 6, 7]);
     assert_eq!(rt; (a.sent(), b.sent()), (6, 5));
-    a.bridge_off();
-    b.bridge_off();
+    end_bridge(&mut a);
+    end_bridge(&mut b);
     assert_eq!(rt; (a.draining(), b.draining()), (false, true));
     let tenth = period(&mut b, &up(0, 9)).1;
     let eleventh = period(&mut b, &up(0, 9)).1;
@@ -164,24 +185,24 @@ fn handed_frames_go_out_in_order(rt: HostRuntime) -> Result<(), Fail> {
 // A bridge of one period hands over one frame, and so does the next one, two periods later.
 #[test]
 fn bridges_of_one_period(rt: HostRuntime) -> Result<(), Fail> {
-    let mut a = Leg::new(rt.alloc(), 7)?;
-    let mut b = Leg::new(rt.alloc(), 9)?;
-    a.bridge_on();
-    b.bridge_on();
+    let mut a = new_leg(rt.alloc(), 7)?;
+    let mut b = new_leg(rt.alloc(), 9)?;
+    begin_bridge(&mut a);
+    begin_bridge(&mut b);
     bridged(&mut a, &mut b, 1);
-    a.bridge_off();
-    b.bridge_off();
+    end_bridge(&mut a);
+    end_bridge(&mut b);
     assert_eq!(rt; (b.sent(), b.draining()), (1, false));
     period(&mut a, &up(0, 9));
     assert_eq!(rt; period(&mut b, &up(0, 9)).1[5], 1);
     period(&mut a, &up(0, 9));
     period(&mut b, &up(0, 9));
-    a.bridge_on();
-    b.bridge_on();
+    begin_bridge(&mut a);
+    begin_bridge(&mut b);
     assert_eq!(rt; b.sent(), 0);
     bridged(&mut a, &mut b, 4);
-    a.bridge_off();
-    b.bridge_off();
+    end_bridge(&mut a);
+    end_bridge(&mut b);
     assert_eq!(rt; b.sent(), 1);
     assert_eq!(rt; period(&mut b, &up(0, 9)).1[5], 4);
     Ok(())
@@ -190,11 +211,11 @@ fn bridges_of_one_period(rt: HostRuntime) -> Result<(), Fail> {
 // After a bridge without any period the codecs are at home: the next frame is a first one.
 #[test]
 fn a_bridge_without_periods_goes_home(rt: HostRuntime) -> Result<(), Fail> {
-    let mut leg = Leg::new(rt.alloc(), 5)?;
+    let mut leg = new_leg(rt.alloc(), 5)?;
     let home = period_of(&mut leg, &up(0, 9), 0x2A).0;
     let first = period_of(&mut leg, &up(0, 9), 0x2A).1;
-    leg.bridge_on();
-    leg.bridge_off();
+    begin_bridge(&mut leg);
+    end_bridge(&mut leg);
     let again = period_of(&mut leg, &up(0, 9), 0x2A);
     let second = again.1;
     let third = period_of(&mut leg, &up(0, 9), 0x2A).1;
@@ -206,7 +227,7 @@ fn a_bridge_without_periods_goes_home(rt: HostRuntime) -> Result<(), Fail> {
 // is silence.
 #[test]
 fn silence_by_level(rt: HostRuntime) -> Result<(), Fail> {
-    let mut leg = Leg::new(rt.alloc(), 3)?;
+    let mut leg = new_leg(rt.alloc(), 3)?;
     leg.set_dtx(DtxMode::On);
     leg.set_level(32767);
     period(&mut leg, &up(0, 9));
@@ -224,8 +245,8 @@ fn silence_by_level(rt: HostRuntime) -> Result<(), Fail> {
 // Legs that go on in other threads are the same as ever.
 #[test]
 fn legs_go_to_other_threads(rt: HostRuntime) -> Result<(), Fail> {
-    let mut a = Leg::new(rt.alloc(), 1)?;
-    let mut b = Leg::new(rt.alloc(), 1)?;
+    let mut a = new_leg(rt.alloc(), 1)?;
+    let mut b = new_leg(rt.alloc(), 1)?;
     period(&mut a, &up(0, 3));
     period(&mut b, &up(0, 3));
     let (one, other) = join_mut(

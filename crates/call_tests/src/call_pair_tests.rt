@@ -131,9 +131,16 @@ fn unreachable(rt: &impl Abort) {
     panic!(rt; "another job");
 }
 
+fn new_leg(alloc: Global, call: u32) -> Result<Leg, AllocError>
+    requires { IsCall call }
+    ensures { IfOk result (λ l. l.search.periods ≡ 0) }
+{
+    Leg::new(alloc, call)
+}
+
 // Works three periods of call 7 by the leg's own calls.
 fn work_three(alloc: Global, lines: &mut Lines) -> Result<(), AllocError> {
-    let mut leg = Leg::new(alloc, 7)?;
+    let mut leg = new_leg(alloc, 7)?;
     alone(&mut leg, lines, 0);
     alone(&mut leg, lines, 1);
     alone(&mut leg, lines, 2);
@@ -162,7 +169,7 @@ fn bridged_leg(alloc: Global, call: u32) -> Result<Leg, AllocError>
     requires { IsCall call }
     ensures { IfOk result (λ l. l.search.periods ≡ 0) }
 {
-    let mut leg = Leg::new(alloc, call)?;
+    let mut leg = new_leg(alloc, call)?;
     leg.bridge_on();
     Ok(leg)
 }

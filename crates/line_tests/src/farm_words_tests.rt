@@ -11,6 +11,12 @@ fn split(alloc: Global, line: &str) -> Result<Vec<String>, AllocError> {
     Ok(words)
 }
 
+// What is answered to a line's words.
+fn answer_to(alloc: Global, line: &str) -> Result<Result<Asked, WordsFault>, AllocError> {
+    let words = split(alloc, line)?;
+    Ok(read_words(alloc, &words))
+}
+
 // A run's four settings.
 fn run(workers: u32, batch: u32, slice: u32, periods: u32) -> Result<Asked, WordsFault> {
     Ok(Asked::Run(Settings {
@@ -39,8 +45,7 @@ fn options_of_a_run(rt: HostRuntime) -> Result<(), Fail> {
         ("run --", run(4, 50, 5, most)),
         ("run --slice 2 --", run(4, 50, 2, most)),
     ] {
-        let words = split(alloc, line)?;
-        assert_eq!(rt; read_words(alloc, &words), answer, "at {line}");
+        assert_eq!(rt; answer_to(alloc, line)?, answer, "at {line}");
     }
     Ok(())
 }
@@ -54,8 +59,7 @@ fn calls_of_tools(rt: HostRuntime) -> Result<(), Fail> {
         ("encode 1024", Asked::Encode(1024)),
         ("decode 10", Asked::Decode(10)),
     ] {
-        let words = split(alloc, line)?;
-        assert_eq!(rt; read_words(alloc, &words), Ok(answer), "at {line}");
+        assert_eq!(rt; answer_to(alloc, line)?, Ok(answer), "at {line}");
     }
     Ok(())
 }
@@ -102,9 +106,8 @@ fn other_words_are_usage(rt: HostRuntime) -> Result<(), Fail> {
         "7",
         "",
     ] {
-        let words = split(alloc, line)?;
         assert_eq!(rt;
-            read_words(alloc, &words),
+            answer_to(alloc, line)?,
             Err(WordsFault::Usage),
             "at {line}"
         );
