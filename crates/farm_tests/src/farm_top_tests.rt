@@ -279,6 +279,14 @@ fn assert_frames(rt: &impl Abort, down: &[u8]) {
     }
 }
 
+// Call 7 with this uplink, and room on Down.
+fn up_and_down(alloc: Global, up: Vec<u8>, cut: u32) -> Result<MemTrunk, AllocError> {
+    let mut trunk = MemTrunk::new(alloc)?;
+    line(alloc, &mut trunk, UP, up, cut, &[])?;
+    line(alloc, &mut trunk, DOWN, Vec::new(alloc), cut, &[])?;
+    Ok(trunk)
+}
+
 // An uplink, and what a command answers and tells of it.
 fn tells<R: Abort + Threads + Wait + Sync>(
     rt: &R,
@@ -289,9 +297,7 @@ fn tells<R: Abort + Threads + Wait + Sync>(
     status: u8,
     text: &str,
 ) -> Result<(), Fail> {
-    let mut trunk = MemTrunk::new(alloc)?;
-    line(alloc, &mut trunk, UP, up, cut, &[])?;
-    line(alloc, &mut trunk, DOWN, Vec::new(alloc), cut, &[])?;
+    let mut trunk = up_and_down(alloc, up, cut)?;
     let mut desk = desk(alloc, &[], 100)?;
     assert_eq!(rt;
         carry(rt, alloc, &[command, "7"], &mut trunk, &mut desk)?,

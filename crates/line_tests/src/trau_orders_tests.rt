@@ -57,26 +57,28 @@ fn texts_and_their_faults(rt: HostRuntime) -> Result<(), Fail> {
     Ok(())
 }
 
+// So many lines with an order.
+fn opens(alloc: Global, lines: u32) -> Result<Vec<u8>, AllocError> {
+    let mut opens = Vec::new(alloc);
+    for _ in 0..lines {
+        opens.extend_from_slice(b"0 open 1\n")?;
+    }
+    Ok(opens)
+}
+
 #[test]
 fn limits(rt: HostRuntime) -> Result<(), Fail> {
     let alloc = rt.alloc();
-    let mut line = all(alloc, b'0', 1_048_576)?;
-    assert_eq!(rt;
-        count(alloc, &line),
-        Err(OrderFault::Line(1)),
-        "a line of a mebibyte"
-    );
-    line.push(b'0')?;
-    assert_eq!(rt; count(alloc, &line), Err(OrderFault::TooLong));
-    let mut many = all(alloc, b'\n', 65_536)?;
-    assert_eq!(rt; count(alloc, &many), Err(OrderFault::Line(1)));
-    many.push(b'\n')?;
-    assert_eq!(rt; count(alloc, &many), Err(OrderFault::TooMany));
-    let mut opens = Vec::new(alloc);
-    for _ in 0..65_536 {
-        opens.extend_from_slice(b"0 open 1\n")?;
+    for (octet, length, answer) in [
+        (b'0', 1_048_576, Err(OrderFault::Line(1))),
+        (b'0', 1_048_577, Err(OrderFault::TooLong)),
+        (b'\n', 65_536, Err(OrderFault::Line(1))),
+        (b'\n', 65_537, Err(OrderFault::TooMany)),
+    ] {
+        let text = all(alloc, octet, length)?;
+        assert_eq!(rt; count(alloc, &text), answer, "{length} octets");
     }
-    assert_eq!(rt; count(alloc, &opens), Ok(65_536));
+    assert_eq!(rt; count(alloc, &opens(alloc, 65_536)?), Ok(65_536));
     Ok(())
 }
 
