@@ -15,12 +15,12 @@ const DOWN: Line = Line {
 };
 
 // Reads from a line.
-fn read(trunk: &mut MemTrunk, line: Line, buf: &mut [u8]) -> Result<usize, Failed> {
+fn read(trunk: &mut MemTrunk, line: Line, buf: &mut [u8; 4]) -> Result<usize, Failed> {
     trunk.read(line, buf)
 }
 
 // Reads from the desk.
-fn hear(desk: &mut MemDesk, buf: &mut [u8]) -> Result<usize, Failed> {
+fn hear(desk: &mut MemDesk, buf: &mut [u8; 6]) -> Result<usize, Failed> {
     desk.read(buf)
 }
 
