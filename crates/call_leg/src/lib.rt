@@ -23,8 +23,6 @@ pub mod laws;
 mod leg;
 mod side;
 mod sides;
-#[cfg(test)]
-mod tests;
 mod up;
 mod uplink;
 

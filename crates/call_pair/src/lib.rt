@@ -17,8 +17,6 @@ mod half;
 mod io;
 mod job;
 pub mod laws;
-#[cfg(test)]
-mod tests;
 mod turn;
 
 pub use half::Half;

@@ -13,8 +13,6 @@
 
 mod framer;
 mod laws;
-#[cfg(test)]
-mod tests;
 
 pub use framer::Framer;
 pub use laws::{bridges_apart, frames_by_number, frames_in_time};

@@ -17,6 +17,3 @@ mod read;
 
 pub use fault::OrdersFault;
 pub use read::read_orders;
-
-#[cfg(test)]
-mod tests;

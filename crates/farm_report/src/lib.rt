@@ -14,6 +14,3 @@ mod text;
 
 pub use report::{CallLine, Report, SpanLine};
 pub use text::write_report;
-
-#[cfg(test)]
-mod tests;

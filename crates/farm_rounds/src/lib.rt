@@ -25,12 +25,8 @@ mod jobs;
 mod live;
 mod rest;
 mod round;
-#[cfg(test)]
-mod round_tests;
 mod settle;
 mod tally;
-#[cfg(test)]
-mod tests;
 mod worked;
 
 pub use farm::Farm;

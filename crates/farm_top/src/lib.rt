@@ -20,10 +20,3 @@ mod top;
 
 pub use farm_words::{Asked, Settings, WordsFault, read_words};
 pub use top::farm_top;
-
-#[cfg(test)]
-mod gate_tests;
-#[cfg(test)]
-mod run_tests;
-#[cfg(test)]
-mod tests;

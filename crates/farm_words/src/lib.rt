@@ -21,6 +21,3 @@ mod words;
 pub use asked::{Asked, Settings, WordsFault};
 pub use laws::asks_for_one;
 pub use words::read_words;
-
-#[cfg(test)]
-mod tests;

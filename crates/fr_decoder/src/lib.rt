@@ -14,6 +14,3 @@ mod deemphasis;
 mod residual;
 
 pub use decoder::Decoder;
-
-#[cfg(test)]
-mod tests;

@@ -16,6 +16,3 @@ mod blocks;
 mod encoder;
 
 pub use encoder::Encoder;
-
-#[cfg(test)]
-mod tests;

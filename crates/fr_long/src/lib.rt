@@ -32,6 +32,3 @@ pub use decoder::LtpDecoder;
 pub use encoder::LtpHistory;
 pub use law::one_prediction;
 pub use ltp::Ltp;
-
-#[cfg(test)]
-mod tests;

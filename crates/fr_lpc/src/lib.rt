@@ -20,6 +20,3 @@ mod scaling;
 pub use analysis::{Lpc, analyse};
 pub use ratios::quantise;
 pub use scaling::peak;
-
-#[cfg(test)]
-mod tests;

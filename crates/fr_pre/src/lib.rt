@@ -15,8 +15,6 @@ mod compensation;
 mod laws;
 mod passes;
 mod state;
-#[cfg(test)]
-mod tests;
 
 pub use laws::one_list;
 pub use state::PreState;

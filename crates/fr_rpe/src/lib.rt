@@ -25,6 +25,3 @@ pub use decode::decode_block;
 pub use encode::encode_block;
 pub use maximum::quantise_max;
 pub use rpe::Rpe;
-
-#[cfg(test)]
-mod tests;

@@ -18,8 +18,6 @@ mod ratios;
 mod reflection;
 mod state;
 mod synthesis;
-#[cfg(test)]
-mod tests;
 mod words;
 
 pub use ratios::decode_larc;

@@ -18,8 +18,6 @@ mod advance;
 mod hunt;
 pub mod laws;
 mod search;
-#[cfg(test)]
-mod tests;
 mod yields;
 
 pub use search::FrameSync;

@@ -11,8 +11,6 @@
 mod laws;
 mod pool;
 mod step;
-#[cfg(test)]
-mod tests;
 
 pub use laws::every_list_of_steps;
 pub use pool::Pool;

@@ -1,5 +1,3 @@
--- The job of the tests.
-pub mod Counter
 -- The rule of one deque.
 pub mod Deque
 -- The joins of the passes.

@@ -29,8 +29,6 @@ mod joins;
 mod member;
 mod pool;
 mod room;
-#[cfg(test)]
-mod tests;
 mod work;
 
 pub use pool::run_pool;

@@ -17,8 +17,6 @@ pub mod laws;
 mod place;
 mod round;
 mod seat;
-#[cfg(test)]
-mod tests;
 mod transfer;
 
 pub use place::Place;

@@ -19,8 +19,6 @@ mod hearing;
 pub mod laws;
 mod rx;
 mod state;
-#[cfg(test)]
-mod tests;
 
 pub use effective::Effective;
 pub use rx::Rx;

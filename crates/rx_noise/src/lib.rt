@@ -11,7 +11,5 @@
 
 mod excitation;
 mod noise;
-#[cfg(test)]
-mod tests;
 
 pub use noise::noise_frame;

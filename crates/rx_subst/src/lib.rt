@@ -10,7 +10,5 @@
 #![tactic(auto)]
 
 mod lost;
-#[cfg(test)]
-mod tests;
 
 pub use lost::lost_frame;

@@ -20,8 +20,6 @@ mod act;
 mod board;
 mod reply;
 mod table;
-#[cfg(test)]
-mod tests;
 
 pub use act::{Act, Refusal, Reply, Span};
 pub use board::Board;

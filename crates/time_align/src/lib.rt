@@ -12,8 +12,6 @@
 
 mod align;
 mod shift;
-#[cfg(test)]
-mod tests;
 
 pub use align::Align;
 pub use shift::shift_of;

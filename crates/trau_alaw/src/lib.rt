@@ -74,6 +74,3 @@ fn segment_and_step(magnitude: u16) -> u8
     let doublings = magnitude.max(511).ilog2() - 8;
     (16 * doublings + u32::from(magnitude >> (doublings + 4))) as u8
 }
-
-#[cfg(test)]
-mod tests;

@@ -9,8 +9,6 @@ ghost use Rattle.std.specs.Prelude.{◌≡◌, ◌+◌, ◌*◌, ◌^◌, ◌<�
 ghost use Rattle.trau_bits.specs.Bits.{bits_of, octet_at, octets_of, AreBits};
 
 pub mod laws;
-#[cfg(test)]
-mod tests;
 
 /// Bit `i` of the octets.
 pub fn get_bit(bytes: &[u8], i: usize) -> u8

@@ -18,8 +18,6 @@ pub mod laws;
 mod reading;
 mod rows;
 mod sync;
-#[cfg(test)]
-mod tests;
 mod writing;
 
 pub use frames::{Class, DownFrame, Kind, UpFrame};

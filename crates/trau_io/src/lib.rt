@@ -26,6 +26,3 @@ pub use memory::{MemDesk, MemTrunk};
 pub use places::{PLACES, place};
 pub use transfer::{Filled, read_block, tell, write_all};
 pub use trunk::Trunk;
-
-#[cfg(test)]
-mod tests;

@@ -21,6 +21,3 @@ pub use products::{minus, plus, product, scaled};
 pub use random::Draw;
 pub use wide::{clamp_wide, minus_wide, plus_wide, scaled_wide};
 pub use words::{abs16, add, clamp, div_q15, mult, mult_r, shl16, sub};
-
-#[cfg(test)]
-mod tests;

@@ -20,6 +20,3 @@ pub use fault::OrderFault;
 pub use laws::one_answer;
 pub use list::Orders;
 pub use order::{DtxMode, Order, What};
-
-#[cfg(test)]
-mod tests;

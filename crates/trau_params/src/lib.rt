@@ -23,6 +23,3 @@ pub use laws::{fields_carried, fields_stand, one_frame, rewritten};
 pub use params::Params;
 pub use silent_frame::silence;
 pub use trace::Trace;
-
-#[cfg(test)]
-mod tests;

@@ -12,8 +12,6 @@
 #![tactic(auto)]
 
 mod sid;
-#[cfg(test)]
-mod tests;
 mod tx;
 
 pub use tx::Tx;

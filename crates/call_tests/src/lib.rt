@@ -1,0 +1,22 @@
+//! Tests of the crates that work one call, and two that are bridged.
+//!
+//! They stand apart from what they test: a crate with tests is proved a second time with them; these go through public
+//! calls only.
+#![tactic(auto)]
+
+#[cfg(test)]
+mod call_leg_tests;
+#[cfg(test)]
+mod call_pair_tests;
+#[cfg(test)]
+mod down_framer_tests;
+#[cfg(test)]
+mod rx_handler_tests;
+#[cfg(test)]
+mod rx_noise_tests;
+#[cfg(test)]
+mod rx_subst_tests;
+#[cfg(test)]
+mod time_align_tests;
+#[cfg(test)]
+mod tx_dtx_tests;

@@ -1,0 +1,30 @@
+use time_align::{Align, shift_of};
+
+// The table of the profile, field by field, with 0 for none.
+const TABLE: [i16; 64] = [
+    0, 4, 8, 12, 16, 20, 24, 28, 32, 36, 40, 44, 48, 52, 56, 60, 64, 68, 72, 76, 80, 84, 88, 92,
+    96, 100, 104, 108, 112, 116, 120, 124, 128, 132, 136, 140, 144, 148, 152, 156, 0, 0, 0, 0, 0,
+    0, 0, 0, 0, 0, 0, 0, 0, 0, 0, 0, 0, 0, 0, 0, 0, 0, 2, -2,
+];
+
+#[test]
+fn every_field(rt: HostRuntime) {
+    for field in 0..64u8 {
+        let shift = shift_of(field).unwrap_or(0);
+        assert_eq!(rt; shift, TABLE[usize::from(field)]);
+    }
+}
+
+#[test]
+fn a_shift_asked_while_frozen_waits(rt: HostRuntime) {
+    let mut align = Align::new();
+    align.ask(39);
+    align.freeze();
+    let frozen = align.adopt();
+    align.ask(63);
+    align.ask(40);
+    align.thaw();
+    let adopted = align.adopt();
+    let next = align.adopt();
+    assert_eq!(rt; [frozen, adopted, next], [0, -2, 0]);
+}

@@ -1,0 +1,56 @@
+use fr_short::{ShortState, decode_larc};
+
+// Ratio i is twice mult_r(INVA, (code + MIC) * 1024 - 2 * B), by hand:
+// 1 to 4: 0, 0, 4096 - 4096 and -5120 + 5120 are 0.
+// 5: 19223 * (0 - 188) + 16384 = -3597540, of which the 32768th part is -109.8, so -110.
+// 6: 17476 * (-3072 + 3584) + 16384 = 8964096, so 273.
+// 7: 31454 * (-1024 + 682) + 16384 = -10740884, so -328.
+// 8: 29708 * (-2048 + 2288) + 16384 = 7146304, so 218.
+#[test]
+fn decodes_ratios(rt: HostRuntime) {
+    let ratios = decode_larc(&[32, 32, 20, 11, 8, 5, 3, 2]);
+    assert_eq!(rt; ratios, [0, 0, 0, 0, -220, 546, -656, 436]);
+}
+
+#[test]
+fn silence_stays_silent(rt: HostRuntime) {
+    let mut state = ShortState::home();
+    let mut s = [7; 160];
+    state.synthesise_frame(&[42, 39, 21, 10, 9, 4, 3, 2], &[0; 160], &mut s);
+    assert_eq!(rt; s, [0; 160]);
+}
+
+// The samples were computed apart from this crate, from the text of GSM 06.10 and with its v[0] to v[8].
+#[test]
+fn filters_two_frames(rt: HostRuntime) {
+    let mut state = ShortState::home();
+    let mut d = [0; 160];
+    let mut s = [0; 160];
+    d[0] = 8000;
+    state.synthesise_frame(&[50, 20, 25, 10, 12, 6, 5, 2], &d, &mut s);
+    assert_eq!(rt; [s[12], s[13], s[14]], [117, -59, 123]);
+    d[0] = 1000;
+    state.synthesise_frame(&[42, 39, 21, 10, 9, 4, 3, 2], &d, &mut s);
+    assert_eq!(rt; [s[0], s[1], s[2], s[3]], [1005, -410, 343, -352]);
+}
+
+// The residual was computed apart from this crate, by a short Python text of GSM 06.10, sections 4.2.8 to 4.2.10.
+// The samples lie at the edges of the parts; those of the second frame clamp.
+#[test]
+fn analyses_two_frames(rt: HostRuntime) {
+    let mut state = ShortState::home();
+    let mut s = [1000; 160];
+    state.analyse_frame(&[50, 20, 25, 10, 12, 6, 5, 2], &mut s);
+    assert_eq!(rt;
+        [s[0], s[12], s[13], s[26], s[27], s[39], s[40], s[159]],
+        [1000, 1265, 1533, 1484, 1727, 1605, 1696, 1473]
+    );
+    s = [-32768; 160];
+    state.analyse_frame(&[42, 39, 21, 10, 9, 4, 3, 2], &mut s);
+    assert_eq!(rt;
+        [s[0], s[1], s[2], s[3], s[4], s[39], s[40], s[159]],
+        [
+            -32113, -21501, -25998, -23634, -28525, -32768, -31236, -31217
+        ]
+    );
+}

@@ -1,0 +1,26 @@
+//! Tests of the codec's crates.
+//!
+//! They stand apart from what they test: a crate with tests is proved a second time with them; these go through public
+//! calls only.
+#![tactic(auto)]
+
+#[cfg(test)]
+mod fr_decoder_tests;
+#[cfg(test)]
+mod fr_encoder_tests;
+#[cfg(test)]
+mod fr_long_tests;
+#[cfg(test)]
+mod fr_lpc_tests;
+#[cfg(test)]
+mod fr_pre_tests;
+#[cfg(test)]
+mod fr_rpe_tests;
+#[cfg(test)]
+mod fr_short_tests;
+#[cfg(test)]
+mod trau_alaw_tests;
+#[cfg(test)]
+mod trau_num_tests;
+#[cfg(test)]
+mod trau_params_tests;

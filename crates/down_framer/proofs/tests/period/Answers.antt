@@ -1,8 +1,0 @@
-use Rattle.std.proofs.Common.{◌<◌, replicate, arith}
-use Rattle.std.proofs.lemmas.List.Elements.{All-set, All-replicate}
-use Rattle.down_framer.proofs.tests.period.Goals as goal
-
-pub loop-frame-init : goal.loop-frame-init
-loop-frame-init c =
-    let room = c.put.ensures.within.room in
-    (c.put.ensures.within, omega arith, All-set (λ b. b < 2) (replicate 320 0) 0 1 (omega arith) (All-replicate (λ b. b < 2) 320 0 (omega arith)))

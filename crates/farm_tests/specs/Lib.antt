@@ -1,0 +1,2 @@
+-- The job of the tests of `pool_run`.
+pub mod Counter

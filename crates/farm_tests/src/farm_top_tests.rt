@@ -1,0 +1,486 @@
+use farm_top::farm_top;
+use pool_run::{Gate, OpenGate};
+use std::alloc::{AllocError, Global};
+use std::process::Abort;
+use std::sync::Wait;
+use std::test::Fail;
+use std::thread::Threads;
+use trau_io::{Line, MemDesk, MemTrunk, Side};
+
+// A good uplink frame whose 260 data bits are those of 160 samples 0 encoded from home, and the downlink frame
+// with the same data bits, as GSM 08.60 places them. Worked by hand from the tables.
+pub(crate) const UPLINK_FRAME: [u8; 40] = [
+    0x00, 0x00, 0x88, 0x00, 0x82, 0x09, 0xBA, 0x1A, 0xE4, 0x28, 0x80, 0x12, 0xA4, 0x92, 0xA4, 0x92,
+    0xA2, 0x80, 0x81, 0x24, 0xC9, 0x24, 0xC9, 0x24, 0xA8, 0x00, 0x92, 0x49, 0x92, 0x49, 0x92, 0x45,
+    0x80, 0x02, 0xA4, 0x92, 0xA4, 0x92, 0xA6, 0xFF,
+];
+
+const DOWNLINK_FRAME: [u8; 40] = [
+    0x00, 0x00, 0xF0, 0x0F, 0x82, 0x09, 0xBA, 0x1A, 0xE4, 0x28, 0x80, 0x12, 0xA4, 0x92, 0xA4, 0x92,
+    0xA2, 0x80, 0x81, 0x24, 0xC9, 0x24, 0xC9, 0x24, 0xA8, 0x00, 0x92, 0x49, 0x92, 0x49, 0x92, 0x45,
+    0x80, 0x02, 0xA4, 0x92, 0xA4, 0x92, 0xA7, 0xFF,
+];
+
+const UP: Line = Line {
+    call: 7,
+    side: Side::Up,
+};
+
+const PCM: Line = Line {
+    call: 7,
+    side: Side::Pcm,
+};
+
+const DOWN: Line = Line {
+    call: 7,
+    side: Side::Down,
+};
+
+const OUT: Line = Line {
+    call: 7,
+    side: Side::Out,
+};
+
+// The first octets that decode from the frame, from home: the samples 8, 0, 0, 8, 8, 8, 16.
+pub(crate) const DECODED: [u8; 7] = [0xD5, 0xD5, 0xD5, 0xD5, 0xD5, 0xD5, 0xD4];
+
+// Pieces in which a line moves: octets one by one, just below and above a frame, and all at once.
+const CUTS: [u32; 4] = [1, 39, 41, 1000];
+
+fn words_of(alloc: Global, texts: &[&str]) -> Result<Vec<String>, AllocError> {
+    let mut words = Vec::new(alloc);
+    for text in texts {
+        words.push(String::from_str(alloc, text)?)?;
+    }
+    Ok(words)
+}
+
+// Carries out the command of these words, with a gate for its workers.
+pub(crate) fn carry_gated<R: Threads + Wait + Sync, G: Gate + Sync>(
+    rt: &R,
+    alloc: Global,
+    texts: &[&str],
+    trunk: &mut MemTrunk,
+    desk: &mut MemDesk,
+    gate: &G,
+) -> Result<u8, AllocError> {
+    let words = words_of(alloc, texts)?;
+    Ok(farm_top(rt, alloc, &words, trunk, desk, gate))
+}
+
+// Carries out the command of these words.
+pub(crate) fn carry<R: Threads + Wait + Sync>(
+    rt: &R,
+    alloc: Global,
+    texts: &[&str],
+    trunk: &mut MemTrunk,
+    desk: &mut MemDesk,
+) -> Result<u8, AllocError> {
+    carry_gated(rt, alloc, texts, trunk, desk, &OpenGate)
+}
+
+// An uplink of `frames` good frames and `octets` octets of one more.
+fn uplink(alloc: Global, frames: usize, octets: usize) -> Result<Vec<u8>, AllocError> {
+    let mut up = Vec::new(alloc);
+    for _ in 0..frames {
+        up.extend_from_slice(&UPLINK_FRAME)?;
+    }
+    for octet in UPLINK_FRAME.iter().take(octets) {
+        up.push(*octet)?;
+    }
+    Ok(up)
+}
+
+// One of call 7's lines, cut in pieces, of which calls fail.
+fn line(
+    alloc: Global,
+    trunk: &mut MemTrunk,
+    line: Line,
+    contents: Vec<u8>,
+    cut: u32,
+    fails: &[u32],
+) -> Result<(), AllocError> {
+    let cuts = vec![in alloc; cut; 500]?;
+    trunk.set(alloc, line, contents, cuts, fails.to_vec(alloc)?, 1000)
+}
+
+// The lines of call 7, cut in pieces: two good frames on the uplink, and on the Pcm line two periods and ten octets of
+// idle. Calls of the incoming lines fail, or of the outgoing ones.
+fn lines(
+    alloc: Global,
+    cut: u32,
+    in_fails: &[u32],
+    out_fails: &[u32],
+) -> Result<MemTrunk, AllocError> {
+    let mut trunk = MemTrunk::new(alloc)?;
+    line(alloc, &mut trunk, UP, uplink(alloc, 2, 0)?, cut, in_fails)?;
+    line(
+        alloc,
+        &mut trunk,
+        PCM,
+        vec![in alloc; 0xD5; 330]?,
+        cut,
+        in_fails,
+    )?;
+    line(alloc, &mut trunk, DOWN, Vec::new(alloc), cut, out_fails)?;
+    line(alloc, &mut trunk, OUT, Vec::new(alloc), cut, out_fails)?;
+    Ok(trunk)
+}
+
+// A desk with room for so many octets, of which writes fail.
+fn desk(alloc: Global, fails: &[u32], room: u32) -> Result<MemDesk, AllocError> {
+    let fails = fails.to_vec(alloc)?;
+    MemDesk::new(alloc, Vec::new(alloc), Vec::new(alloc), fails, room)
+}
+
+// A tool with its lines on those of `lines`, and what it leaves where nothing fails.
+struct Row {
+    tool: &'static str,
+    incoming: Line,
+    outgoing: Line,
+    // The octets that a block makes.
+    size: usize,
+    text: &'static str,
+    in_failed: &'static str,
+    out_failed: &'static str,
+}
+
+const ROWS: [Row; 3] = [
+    Row {
+        tool: "relay",
+        incoming: UP,
+        outgoing: DOWN,
+        size: 40,
+        text: "relay frames 2\n",
+        in_failed: "line 7 up failed\n",
+        out_failed: "line 7 down failed\n",
+    },
+    Row {
+        tool: "decode",
+        incoming: UP,
+        outgoing: OUT,
+        size: 160,
+        text: "decode frames 2\n",
+        in_failed: "line 7 up failed\n",
+        out_failed: "line 7 out failed\n",
+    },
+    Row {
+        tool: "encode",
+        incoming: PCM,
+        outgoing: DOWN,
+        size: 40,
+        text: "encode frames 2 left 10\n",
+        in_failed: "line 7 pcm failed\n",
+        out_failed: "line 7 down failed\n",
+    },
+];
+
+// Which of the outside fails at one call.
+#[derive(Clone, Copy, Debug, PartialEq, Eq)]
+enum Failing {
+    Incoming,
+    Outgoing,
+    Desk,
+}
+
+// The status and the text that are due, by the counts of faults.
+fn due(row: &Row, trunk: &MemTrunk, desk: &MemDesk) -> (u8, &'static str) {
+    if trunk.faults(row.incoming) > 0 {
+        (6, row.in_failed)
+    } else if trunk.faults(row.outgoing) > 0 {
+        (6, row.out_failed)
+    } else if desk.write_faults() > 0 {
+        (4, "")
+    } else {
+        (0, row.text)
+    }
+}
+
+// The calls that fail: this one, or none.
+fn failing_calls(alloc: Global, number: u32, here: bool) -> Result<Vec<u32>, AllocError> {
+    let mut fails = Vec::new(alloc);
+    if here {
+        fails.push(number)?;
+    }
+    Ok(fails)
+}
+
+// The lines of call 7, of which this call fails.
+fn failing_lines(
+    alloc: Global,
+    cut: u32,
+    number: u32,
+    failing: Failing,
+) -> Result<MemTrunk, AllocError> {
+    let in_fails = failing_calls(alloc, number, failing == Failing::Incoming)?;
+    let out_fails = failing_calls(alloc, number, failing == Failing::Outgoing)?;
+    lines(alloc, cut, in_fails.as_slice(), out_fails.as_slice())
+}
+
+// A desk, of which this call fails.
+fn failing_desk(alloc: Global, number: u32, failing: Failing) -> Result<MemDesk, AllocError> {
+    let fails = failing_calls(alloc, number, failing == Failing::Desk)?;
+    desk(alloc, fails.as_slice(), 100)
+}
+
+// Asserts that all that earlier blocks make is written; where no line failed, all of both.
+fn assert_sent(rt: &impl Abort, row: &Row, trunk: &MemTrunk, status: u8) {
+    let sent = trunk.written(row.outgoing).len();
+    if status != 6 {
+        assert_eq!(rt; sent.checked_div(row.size), Some(2));
+    } else if trunk.faults(row.incoming) > 0 {
+        assert_eq!(rt; sent.checked_rem(row.size), Some(0));
+    }
+}
+
+// Carries out a command in which one call fails, and compares what it leaves with what is due.
+fn fails_at<R: Abort + Threads + Wait + Sync>(
+    rt: &R,
+    alloc: Global,
+    row: &Row,
+    cut: u32,
+    number: u32,
+    failing: Failing,
+) -> Result<(), Fail> {
+    let mut trunk = failing_lines(alloc, cut, number, failing)?;
+    let mut desk = failing_desk(alloc, number, failing)?;
+    let tool = row.tool;
+    let status = carry(rt, alloc, &[tool, "7"], &mut trunk, &mut desk)?;
+    let (expected, text) = due(row, &trunk, &desk);
+    assert_eq!(rt;
+        status,
+        expected,
+        "{tool}, cut {cut}, call {number}, {failing:?}"
+    );
+    assert_eq!(rt; desk.text(), text.as_bytes());
+    assert_sent(rt, row, &trunk, status);
+    Ok(())
+}
+
+#[test]
+fn each_call_of_the_outside_fails_in_turn(rt: HostRuntime) -> Result<(), Fail> {
+    let alloc = rt.alloc();
+    for row in &ROWS {
+        for (cut, calls) in [(39, 12), (1000, 3)] {
+            for number in 0..calls {
+                fails_at(&rt, alloc, row, cut, number, Failing::Incoming)?;
+                fails_at(&rt, alloc, row, cut, number, Failing::Outgoing)?;
+                fails_at(&rt, alloc, row, cut, number, Failing::Desk)?;
+            }
+        }
+    }
+    Ok(())
+}
+
+// Asserts that a Down line holds nothing but the downlink frame.
+fn assert_frames(rt: &impl Abort, down: &[u8]) {
+    for frame in down.chunks(40) {
+        assert_eq!(rt; frame, DOWNLINK_FRAME.as_slice());
+    }
+}
+
+// Call 7 with this uplink, and room on Down.
+fn up_and_down(alloc: Global, up: Vec<u8>, cut: u32) -> Result<MemTrunk, AllocError> {
+    let mut trunk = MemTrunk::new(alloc)?;
+    line(alloc, &mut trunk, UP, up, cut, &[])?;
+    line(alloc, &mut trunk, DOWN, Vec::new(alloc), cut, &[])?;
+    Ok(trunk)
+}
+
+// An uplink, and what a command answers and tells of it.
+fn tells<R: Abort + Threads + Wait + Sync>(
+    rt: &R,
+    alloc: Global,
+    command: &str,
+    up: Vec<u8>,
+    cut: u32,
+    status: u8,
+    text: &str,
+) -> Result<(), Fail> {
+    let mut trunk = up_and_down(alloc, up, cut)?;
+    let mut desk = desk(alloc, &[], 100)?;
+    assert_eq!(rt;
+        carry(rt, alloc, &[command, "7"], &mut trunk, &mut desk)?,
+        status
+    );
+    assert_eq!(rt; desk.text(), text.as_bytes());
+    assert_frames(rt, trunk.written(DOWN));
+    Ok(())
+}
+
+// Relays an uplink of so many good frames and octets.
+fn relays<R: Abort + Threads + Wait + Sync>(
+    rt: &R,
+    alloc: Global,
+    frames: usize,
+    octets: usize,
+    cut: u32,
+    status: u8,
+    text: &str,
+) -> Result<(), Fail> {
+    let up = uplink(alloc, frames, octets)?;
+    tells(rt, alloc, "relay", up, cut, status, text)
+}
+
+// An uplink of two good frames with another octet at this place.
+fn uplink_with(alloc: Global, place: usize, octet: u8) -> Result<Vec<u8>, AllocError> {
+    let mut up = uplink(alloc, 2, 0)?;
+    if let Some(changed) = up.get_mut(place) {
+        *changed = octet;
+    }
+    Ok(up)
+}
+
+// Decodes two good frames.
+fn decodes<R: Abort + Threads + Wait + Sync>(rt: &R, alloc: Global) -> Result<(), Fail> {
+    let mut trunk = lines(alloc, 1000, &[], &[])?;
+    let mut desk = desk(alloc, &[], 100)?;
+    assert_eq!(rt;
+        carry(rt, alloc, &["decode", "7"], &mut trunk, &mut desk)?,
+        0
+    );
+    assert!(rt; trunk.written(OUT).starts_with(&DECODED));
+    Ok(())
+}
+
+#[test]
+fn an_uplink_ends_or_is_refused(rt: HostRuntime) -> Result<(), Fail> {
+    let alloc = rt.alloc();
+    for cut in CUTS {
+        relays(&rt, alloc, 2, 0, cut, 0, "relay frames 2\n")?;
+        relays(&rt, alloc, 1, 39, cut, 8, "relay refused 1\n")?;
+        relays(&rt, alloc, 1, 1, cut, 8, "relay refused 1\n")?;
+        relays(&rt, alloc, 0, 0, cut, 0, "relay frames 0\n")?;
+    }
+    // No sync, a bad frame, an idle frame.
+    for (place, octet) in [(42, 0x08), (43, 0x08), (42, 0xC0)] {
+        let up = uplink_with(alloc, place, octet)?;
+        tells(&rt, alloc, "relay", up, 1000, 8, "relay refused 1\n")?;
+    }
+    decodes(&rt, alloc)
+}
+
+// Four frames and three octets; the first sync bit that is 1 is broken in the second frame and in the third.
+fn broken_uplink(alloc: Global) -> Result<Vec<u8>, AllocError> {
+    let mut up = uplink(alloc, 4, 3)?;
+    for place in [44, 84] {
+        if let Some(changed) = up.get_mut(place) {
+            *changed = 0x02;
+        }
+    }
+    Ok(up)
+}
+
+// Lists an uplink of two frames, where a read of the line fails, or a write of the desk.
+fn lists<R: Abort + Threads + Wait + Sync>(
+    rt: &R,
+    alloc: Global,
+    read: u32,
+    write: u32,
+    status: u8,
+    text: &str,
+) -> Result<(), Fail> {
+    let mut trunk = lines(alloc, 1000, &[read], &[])?;
+    let mut desk = desk(alloc, &[write], 100)?;
+    assert_eq!(rt;
+        carry(rt, alloc, &["frames", "7"], &mut trunk, &mut desk)?,
+        status
+    );
+    assert_eq!(rt; desk.text(), text.as_bytes());
+    Ok(())
+}
+
+#[test]
+fn frames_are_listed(rt: HostRuntime) -> Result<(), Fail> {
+    let alloc = rt.alloc();
+    for cut in [41, 1000] {
+        let text = "0 good\n320 miss\n640 miss\n960 good\nframes 4 left 3\n";
+        tells(&rt, alloc, "frames", broken_uplink(alloc)?, cut, 0, text)?;
+    }
+    // A call of the line fails, or a write of the desk.
+    for (read, write, status, text) in [
+        (0, 9, 6, "line 7 up failed\n"),
+        (1, 9, 6, "0 good\nline 7 up failed\n"),
+        (2, 9, 6, "0 good\n320 good\nline 7 up failed\n"),
+        (9, 0, 4, ""),
+        (9, 1, 4, "0 good\n"),
+        (9, 2, 4, "0 good\n320 good\n"),
+        (9, 9, 0, "0 good\n320 good\nframes 2 left 0\n"),
+    ] {
+        lists(&rt, alloc, read, write, status, text)?;
+    }
+    Ok(())
+}
+
+// Carries out words that are no command's, with room for so many octets on the desk.
+fn are_usage<R: Abort + Threads + Wait + Sync>(
+    rt: &R,
+    alloc: Global,
+    texts: &[&str],
+    room: u32,
+    text: &str,
+) -> Result<(), Fail> {
+    let mut trunk = MemTrunk::new(alloc)?;
+    let mut desk = desk(alloc, &[], room)?;
+    assert_eq!(rt; carry(rt, alloc, texts, &mut trunk, &mut desk)?, 1);
+    assert_eq!(rt; desk.text(), text.as_bytes());
+    Ok(())
+}
+
+#[test]
+fn other_words_are_usage(rt: HostRuntime) -> Result<(), Fail> {
+    let alloc = rt.alloc();
+    let rows: [&[&str]; 10] = [
+        &[],
+        &["relay"],
+        &["relay", "07"],
+        &["relay", "0"],
+        &["encode", "1025"],
+        &["relay", "7", "7"],
+        &["Relay", "7"],
+        &["decoder", "7"],
+        &["run", "--workers", "0"],
+        &["run", "--batch", "2", "--batch", "3"],
+    ];
+    for texts in rows {
+        are_usage(&rt, alloc, texts, 100, "usage\n")?;
+    }
+    // A full desk takes a front of the text.
+    are_usage(&rt, alloc, &["relay", "07"], 3, "usa")
+}
+
+// A desk with these orders, of which the read of this number fails.
+fn desk_of_orders(alloc: Global, orders: &str, fails: u32) -> Result<MemDesk, AllocError> {
+    let octets = orders.as_bytes().to_vec(alloc)?;
+    let fails = vec![in alloc; fails; 1]?;
+    MemDesk::new(alloc, octets, fails, Vec::new(alloc), 100)
+}
+
+// Carries out `run` with these orders.
+fn refuses<R: Abort + Threads + Wait + Sync>(
+    rt: &R,
+    alloc: Global,
+    orders: &str,
+    fails: u32,
+    status: u8,
+    text: &str,
+) -> Result<(), Fail> {
+    let mut trunk = MemTrunk::new(alloc)?;
+    let mut desk = desk_of_orders(alloc, orders, fails)?;
+    assert_eq!(rt; carry(rt, alloc, &["run"], &mut trunk, &mut desk)?, status);
+    assert_eq!(rt; desk.text(), text.as_bytes());
+    Ok(())
+}
+
+#[test]
+fn orders_are_refused(rt: HostRuntime) -> Result<(), Fail> {
+    let alloc = rt.alloc();
+    for (orders, fails, status, text) in [
+        ("5 open 1\n4 open 2", 9, 2, "orders line 2\n"),
+        ("0 open 01", 9, 2, "orders line 1\n"),
+        ("0 open 1", 0, 3, "orders unread\n"),
+    ] {
+        refuses(&rt, alloc, orders, fails, status, text)?;
+    }
+    Ok(())
+}

@@ -1,0 +1,28 @@
+//! Tests of the crates of a run: the board, the pool, the rounds, the report and the top call.
+//!
+//! They stand apart from what they test: a crate with tests is proved a second time with them; these go through public
+//! calls only.
+#![tactic(auto)]
+
+#[cfg(test)]
+mod farm_report_tests;
+#[cfg(test)]
+mod farm_rounds_round_tests;
+#[cfg(test)]
+mod farm_rounds_tests;
+#[cfg(test)]
+mod farm_top_gate_tests;
+#[cfg(test)]
+mod farm_top_run_tests;
+#[cfg(test)]
+mod farm_top_tests;
+#[cfg(test)]
+mod held;
+#[cfg(test)]
+mod pool_core_tests;
+#[cfg(test)]
+mod pool_run_tests;
+#[cfg(test)]
+mod round_lines_tests;
+#[cfg(test)]
+mod switchboard_tests;

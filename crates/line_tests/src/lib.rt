@@ -1,0 +1,22 @@
+//! Tests of the crates that read and write: numbers, bits, frames, lines, orders and words.
+//!
+//! They stand apart from what they test: a crate with tests is proved a second time with them; these go through public
+//! calls only.
+#![tactic(auto)]
+
+#[cfg(test)]
+mod decimal_number_tests;
+#[cfg(test)]
+mod farm_orders_tests;
+#[cfg(test)]
+mod farm_words_tests;
+#[cfg(test)]
+mod frame_sync_tests;
+#[cfg(test)]
+mod trau_bits_tests;
+#[cfg(test)]
+mod trau_frame_tests;
+#[cfg(test)]
+mod trau_io_tests;
+#[cfg(test)]
+mod trau_orders_tests;

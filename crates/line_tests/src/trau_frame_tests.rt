@@ -1,0 +1,119 @@
+use trau_bits::{pack, unpack};
+use trau_frame::{Class, DownFrame, Kind, UpFrame, read_up, sync_matches, write_down, write_up};
+
+// Frames worked by hand from the tables of GSM 08.60 and of this project's profile: an uplink frame of good
+// speech whose parameters are those of silence (the codes 32, 32, 20, 11, 8, 5, 3, 2 and in each block the lag 40
+// and thirteen pulses 4), the downlink frame with the same data bits, and the idle downlink frame.
+const UP: [u8; 40] = [
+    0x00, 0x00, 0x88, 0x00, 0x82, 0x09, 0xBA, 0x1A, 0xE4, 0x28, 0x80, 0x12, 0xA4, 0x92, 0xA4, 0x92,
+    0xA2, 0x80, 0x81, 0x24, 0xC9, 0x24, 0xC9, 0x24, 0xA8, 0x00, 0x92, 0x49, 0x92, 0x49, 0x92, 0x45,
+    0x80, 0x02, 0xA4, 0x92, 0xA4, 0x92, 0xA6, 0xFF,
+];
+
+const DOWN: [u8; 40] = [
+    0x00, 0x00, 0xF0, 0x0F, 0x82, 0x09, 0xBA, 0x1A, 0xE4, 0x28, 0x80, 0x12, 0xA4, 0x92, 0xA4, 0x92,
+    0xA2, 0x80, 0x81, 0x24, 0xC9, 0x24, 0xC9, 0x24, 0xA8, 0x00, 0x92, 0x49, 0x92, 0x49, 0x92, 0x45,
+    0x80, 0x02, 0xA4, 0x92, 0xA4, 0x92, 0xA7, 0xFF,
+];
+
+// The frame in the octets, if they carry the sync pattern.
+fn read(octets: &[u8; 40]) -> Option<UpFrame> {
+    let mut bits = [0; 320];
+    unpack(octets, &mut bits);
+    if sync_matches(&bits) {
+        Some(read_up(&bits))
+    } else {
+        None
+    }
+}
+
+// The uplink frame with other octets at places 2, 3 and 38, which hold C1 to C17.
+fn with_control(first: u8, second: u8, last: u8) -> Option<UpFrame> {
+    let mut octets = UP;
+    octets[2] = first;
+    octets[3] = second;
+    octets[38] = last;
+    read(&octets)
+}
+
+#[test]
+fn good_speech_is_read_and_relayed(rt: HostRuntime) {
+    let mut bits = [0; 320];
+    let mut octets = [0; 40];
+    unpack(&UP, &mut bits);
+    assert!(rt; sync_matches(&bits));
+    let frame = read_up(&bits);
+    assert!(rt; frame.kind == Kind::Speech && frame.class == Class::Good);
+    assert!(rt; !frame.taf && !frame.dtxd && frame.align == 0);
+    write_up(&frame, &mut bits);
+    pack(&bits, &mut octets);
+    assert!(rt; octets == UP);
+    write_down(
+        &DownFrame::Speech {
+            d: frame.d,
+            sp: true,
+        },
+        &mut bits,
+    );
+    pack(&bits, &mut octets);
+    assert!(rt; octets == DOWN);
+    // SP is the second bit from the end of octet 38.
+    write_down(
+        &DownFrame::Speech {
+            d: frame.d,
+            sp: false,
+        },
+        &mut bits,
+    );
+    pack(&bits, &mut octets);
+    assert_eq!(rt; octets[38], 0xA5);
+}
+
+#[test]
+fn an_idle_frame_is_written(rt: HostRuntime) {
+    let mut bits = [0; 320];
+    let mut octets = [0; 40];
+    write_down(&DownFrame::Idle, &mut bits);
+    pack(&bits, &mut octets);
+    let mut want = [0xFF; 40];
+    want[0] = 0x00;
+    want[1] = 0x00;
+    want[2] = 0xB8;
+    want[3] = 0x0F;
+    assert!(rt; octets == want);
+}
+
+#[test]
+fn control_bits_are_read(rt: HostRuntime) {
+    // The four lowest bits of octet 3 are the bad frame indicator, the two silence descriptor bits, and TAF.
+    let classes = [
+        (0x00, Class::Good),
+        (0x04, Class::Sid),
+        (0x02, Class::InvalidSid),
+        (0x0A, Class::InvalidSid),
+        (0x0C, Class::InvalidSid),
+        (0x08, Class::Unusable),
+        (0x06, Class::InvalidSid),
+        (0x0E, Class::InvalidSid),
+    ];
+    for (octet, class) in classes {
+        assert!(rt;
+            with_control(0x88, octet, 0xA6).is_some_and(|frame| frame.class == class),
+            "at {octet}"
+        );
+    }
+    // The field 100101 is 37; TAF and DTXd.
+    let frame = with_control(0x8A, 0x51, 0xA7);
+    assert!(rt; frame.is_some_and(|frame| frame.align == 37 && frame.taf && frame.dtxd));
+    // The patterns 10000 and 11111.
+    let idle = with_control(0xC0, 0x00, 0xA6);
+    assert!(rt;
+        idle.is_some_and(|frame| frame.kind == Kind::Idle && frame.class == Class::Unusable)
+    );
+    let other = with_control(0xFC, 0x00, 0xA6);
+    assert!(rt;
+        other.is_some_and(|frame| frame.kind == Kind::Other && frame.class == Class::Unusable)
+    );
+    // The last sync bit is missing.
+    assert!(rt; with_control(0x88, 0x00, 0x26).is_none());
+}

@@ -1,0 +1,114 @@
+use std::alloc::{AllocError, Global};
+use std::test::Fail;
+use trau_orders::{DtxMode, Order, OrderFault, Orders, What};
+
+// Whole runs' orders, recorded with the answers of a separate program.
+const CLEAN_FARM: &str =
+    "0 open 1\n0 open 2\n0 dtx 1 off\n0 dtx 2 uplink\n13 bridge 1 2\n15 open 3\n15 dtx 3 uplink\n15 level 3 100\n20 bridge 2 2\n20 dtx 2 off\n28 unbridge 1\n28 bridge 2 1\n29 level 3 64\n51 open 4\n51 level 4 32767\n95 level 4 256\n107 level 4 256\n119 level 4 0\n";
+
+const MIXED_FARM: &str =
+    "0 open 1\n0 open 2\n0 level 1 32767\n0 level 2 1\n0 dtx 2 uplink\n0 dtx 1 uplink\n20 open 4\n20 level 4 32767\n22 bridge 2 4\n26 dtx 2 on\n73 open 3\n73 dtx 3 on\n100 close 2\n119 bridge 3 3\n120 bridge 1 3\n131 unbridge 1\n131 close 3\n144 level 1 32767\n";
+
+const HARSH_FARM: &str =
+    "0 open 1\n0 open 2\n0 level 1 700\n0 dtx 1 uplink\n0 level 2 0\n0 bridge 1 2\n6 open 3\n6 level 3 0\n25 dtx 2 on\n35 unbridge 1\n65 open 4\n65 open 5\n65 dtx 4 uplink\n65 level 4 0\n67 close 4\n73 level 5 256\n81 bridge 2 744\n87 bridge 5 3\n108 dtx 3 off\n119 bridge 1 2\n122 unbridge 2\n";
+
+// How many orders a text has, or why it isn't taken.
+fn count(alloc: Global, text: &[u8]) -> Result<usize, OrderFault> {
+    Ok(Orders::parse(alloc, text)?.list().len())
+}
+
+// A text of this one octet.
+fn all(alloc: Global, octet: u8, length: usize) -> Result<Vec<u8>, AllocError> {
+    vec![in alloc; octet; length]
+}
+
+#[test]
+fn texts_and_their_faults(rt: HostRuntime) -> Result<(), Fail> {
+    let rows = [
+        (b"".as_slice(), Ok(0)),
+        (CLEAN_FARM.as_bytes(), Ok(18)),
+        (MIXED_FARM.as_bytes(), Ok(18)),
+        (HARSH_FARM.as_bytes(), Ok(21)),
+        (b"5 open 1\n4 open 2", Err(OrderFault::Line(2))),
+        (b"0 open 01", Err(OrderFault::Line(1))),
+        (b"4000000000 open 1", Ok(1)),
+        (b"4294967294 open 1024\n", Ok(1)),
+        (b"4294967295 open 1", Err(OrderFault::Line(1))),
+        (b"0 open 1025", Err(OrderFault::Line(1))),
+        (b"0 open 0", Err(OrderFault::Line(1))),
+        (b"0 level 1 32768", Err(OrderFault::Line(1))),
+        (b"\n", Err(OrderFault::Line(1))),
+        (b"0 open 1\n\n", Err(OrderFault::Line(2))),
+        (b"0  open 1", Err(OrderFault::Line(1))),
+        (b"0 open 1 ", Err(OrderFault::Line(1))),
+        (b"0\topen 1", Err(OrderFault::Line(1))),
+        (b"0 open 1\r\n", Err(OrderFault::Line(1))),
+        (b"+0 open 1", Err(OrderFault::Line(1))),
+        (b"0 level 1 -1", Err(OrderFault::Line(1))),
+        (b"0 Open 1", Err(OrderFault::Line(1))),
+        (b"0 open \xb9", Err(OrderFault::Line(1))),
+        (b"0 open 1\0", Err(OrderFault::Line(1))),
+        (b"0 open 1\n0 bridge 1\n", Err(OrderFault::Line(2))),
+        (b"0 dtx 1 uplinks", Err(OrderFault::Line(1))),
+    ];
+    for (number, (text, answer)) in rows.iter().enumerate() {
+        assert_eq!(rt; count(rt.alloc(), text), *answer, "row {number}");
+    }
+    Ok(())
+}
+
+// So many lines with an order.
+fn opens(alloc: Global, lines: u32) -> Result<Vec<u8>, AllocError> {
+    let mut opens = Vec::new(alloc);
+    for _ in 0..lines {
+        opens.extend_from_slice(b"0 open 1\n")?;
+    }
+    Ok(opens)
+}
+
+#[test]
+fn limits(rt: HostRuntime) -> Result<(), Fail> {
+    let alloc = rt.alloc();
+    for (octet, length, answer) in [
+        (b'0', 1_048_576, Err(OrderFault::Line(1))),
+        (b'0', 1_048_577, Err(OrderFault::TooLong)),
+        (b'\n', 65_536, Err(OrderFault::Line(1))),
+        (b'\n', 65_537, Err(OrderFault::TooMany)),
+    ] {
+        let text = all(alloc, octet, length)?;
+        assert_eq!(rt; count(alloc, &text), answer, "{length} octets");
+    }
+    assert_eq!(rt; count(alloc, &opens(alloc, 65_536)?), Ok(65_536));
+    Ok(())
+}
+
+#[test]
+fn lines_and_their_orders(rt: HostRuntime) -> Result<(), Fail> {
+    let text =
+        b"0 open 1\n0 open 2\n0 open 3\n0 open 1\n0 bridge 1 1\n0 bridge 1 2\n0 bridge 3 2\n0 unbridge 3\n1 unbridge 2\n1 bridge 3 1\n1 close 3\n1 open 3\n1 level 9 0\n1 level 1024 32767\n35 dtx 1 on\n108 dtx 3 off\n4294967294 dtx 1 uplink";
+    let orders = [
+        (0, What::OpenCall(1)),
+        (0, What::OpenCall(2)),
+        (0, What::OpenCall(3)),
+        (0, What::OpenCall(1)),
+        (0, What::Bridge(1, 1)),
+        (0, What::Bridge(1, 2)),
+        (0, What::Bridge(3, 2)),
+        (0, What::Unbridge(3)),
+        (1, What::Unbridge(2)),
+        (1, What::Bridge(3, 1)),
+        (1, What::CloseCall(3)),
+        (1, What::OpenCall(3)),
+        (1, What::Level(9, 0)),
+        (1, What::Level(1024, 32_767)),
+        (35, What::Dtx(1, DtxMode::On)),
+        (108, What::Dtx(3, DtxMode::Off)),
+        (4_294_967_294, What::Dtx(1, DtxMode::Uplink)),
+    ];
+    let read = Orders::parse(rt.alloc(), text)?;
+    assert_eq!(rt; read.list().len(), orders.len());
+    for (order, (stamp, what)) in read.list().iter().zip(orders) {
+        assert_eq!(rt; *order, Order { stamp, what });
+    }
+    Ok(())
+}
