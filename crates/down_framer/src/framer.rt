@@ -36,16 +36,16 @@ impl Model for Framer {
 
 const ONES: [u8; 320] = [1; 320];
 
-// Copies the first items of a ring.
+// Copies the first items of a ring, which lie in two pieces.
 fn copy_first(ring: &HeapCircularBuffer<u8>, to: &mut [u8])
     requires { length to.old ≤ length ring.now.items }
     ensures { to.new ≡ take (length to.old) ring.now.items }
 {
-    for (i, x) in to.iter_mut().enumerate() {
-        if let Some(item) = ring.get(i) {
-            *x = *item;
-        }
-    }
+    let (front, back) = ring.as_slices();
+    let cut = front.len().min(to.len());
+    let rest = to.len() - cut;
+    to[..cut].copy_from_slice(&front[..cut]);
+    to[cut..].copy_from_slice(&back[..rest]);
 }
 
 // How many octets lie between the starts of a frame and of the next one.
