@@ -23,15 +23,18 @@ def lay(bench):
 
 
 def rows(bench, folder):
-    def row(words, reads, writes, *streams):
-        command = Command(words, folder, *streams)
+    def row(words, reads, writes, **files):
+        command = Command(words, folder, **files)
         return Row(command, reads, writes, best_times(command, bench.runs))
 
-    yield row([bench.program, "encode", "7"], "A-law, 160 octets a frame", "40 octets a frame")
-    yield row(["toast", "-a"], "A-law, 160 octets a frame", "33 octets a frame", "7.pcm", "toast.gsm")
-    yield row([bench.program, "decode", "7"], "40 octets a frame", "A-law, 160 octets a frame")
-    yield row(["untoast", "-a"], "33 octets a frame", "A-law, 160 octets a frame", "7.gsm", "untoast.out")
-    yield row([bench.program, "relay", "8"], "40 octets a frame", "40 octets a frame")
+    def ours(words, reads, writes, made):
+        return row([bench.program, *words], f"{reads} octets a frame", f"{writes} octets a frame", makes=(made,))
+
+    yield ours(["encode", "7"], "A-law, 160", "40", "7.down")
+    yield row(["toast", "-a"], "A-law, 160 octets a frame", "33 octets a frame", input="7.pcm", output="toast.gsm")
+    yield ours(["decode", "7"], "40", "A-law, 160", "7.out")
+    yield row(["untoast", "-a"], "33 octets a frame", "A-law, 160 octets a frame", input="7.gsm", output="untoast.out")
+    yield ours(["relay", "8"], "40", "40", "8.down")
 
 
 def measured(bench):

@@ -25,7 +25,7 @@ def lay(bench, calls, periods):
 
 def run_of(bench, folder, batch, workers):
     words = [bench.program, "run", "--workers", str(workers), "--batch", str(batch)]
-    return Command(words, folder, "orders", "report")
+    return Command(words, folder, "orders", "report", ("*.down", "*.out"))
 
 
 def check_report(folder, calls, periods):

@@ -30,7 +30,7 @@ def ours(bench, way, count):
     folder = bench.folder(f"{way.name}-{count}")
     with open(os.path.join(folder, f"7.{way.side}"), "wb") as line:
         line.write(bench.speech(way.side, way.octets_in, count))
-    return Command([bench.program, way.name, "7"], folder)
+    return Command([bench.program, way.name, "7"], folder, makes=(f"7.{way.made}",))
 
 
 def given_to(codec, way, line):
@@ -41,7 +41,8 @@ def peer(bench, codec, way, count):
     folder = bench.folder(f"{way.name}-{count}")
     with open(os.path.join(folder, f"{codec}.in"), "wb") as given:
         given.write(given_to(codec, way, bench.speech(way.side, way.octets_in, count)))
-    return Command([bench.peers, codec, way.name, f"{codec}.in", f"{codec}.made"], folder)
+    made = f"{codec}.made"
+    return Command([bench.peers, codec, way.name, f"{codec}.in", made], folder, makes=(made,))
 
 
 def microseconds(bench, command):

@@ -1,6 +1,7 @@
 """Times, memory and instructions of one command."""
 
 import collections
+import glob
 import os
 import re
 import subprocess
@@ -12,7 +13,9 @@ INSTANCE = re.compile(r"::<#[0-9a-f]+>")
 
 # Of one command, in seconds: wall; processor, which is user and system together; system.
 Times = collections.namedtuple("Times", "wall processor system")
-Command = collections.namedtuple("Command", "words folder input output", defaults=(None, None))
+
+# A command, its folder, the files there that are its standard streams, and patterns of the other files that it makes.
+Command = collections.namedtuple("Command", "words folder input output makes", defaults=(None, None, ()))
 
 
 def say(text):
@@ -43,7 +46,16 @@ def check(command, status):
         sys.exit(f"bench: status {status} of {text_of(command)}")
 
 
+def clear(command):
+    """Removes what an earlier run made. Where a file that is there is cut short, this system's disk would have it written
+    out when it is closed, and the command would wait for that."""
+    for pattern in [*command.makes, *([command.output] if command.output else [])]:
+        for path in glob.glob(os.path.join(command.folder, pattern)):
+            os.remove(path)
+
+
 def times_once(command):
+    clear(command)
     begun = time.perf_counter()
     process = start(command)
     _, status, usage = os.wait4(process.pid, 0)
