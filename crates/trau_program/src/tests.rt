@@ -1,4 +1,6 @@
 // What no proof sees: the system's files and streams.
+ghost use Rattle.std.specs.Prelude.{◌<◌, length};
+
 use super::*;
 use std::fs;
 use std::test::Fail;
@@ -14,68 +16,99 @@ const OUT: Line = Line {
     side: Side::Out,
 };
 
+// How many octets a read gives, at most four.
+fn read_four<R: Files>(
+    trunk: &mut FileTrunk<'_, R>,
+    line: Line,
+    octets: &mut [u8; 4],
+) -> Option<usize> {
+    trunk.read(line, octets).ok()
+}
+
+// The next octet of a line; None where there is none, or the read fails.
+fn next_octet<R: Files>(trunk: &mut FileTrunk<'_, R>, line: Line) -> Option<u8> {
+    let mut octet = [0];
+    if trunk.read(line, &mut octet).ok() == Some(1) {
+        Some(octet[0])
+    } else {
+        None
+    }
+}
+
+// Whether a read fails, and not only finds the line's end.
+fn read_fails<R: Files>(trunk: &mut FileTrunk<'_, R>, line: Line) -> bool {
+    trunk.read(line, &mut [0]).is_err()
+}
+
+// Whether a line takes these octets at once.
+fn takes<R: Files>(trunk: &mut FileTrunk<'_, R>, line: Line, octets: &[u8]) -> bool
+    requires { 0 < length octets.now }
+{
+    trunk.write(line, octets).ok() == Some(octets.len())
+}
+
 #[test]
 fn lines_are_files(rt: HostRuntime) -> Result<(), Fail> {
-    let mut octets = [0; 4];
     fs::write(&rt, "4096.up", [1, 2, 3, 4, 5].as_slice())?;
     fs::write(&rt, "9.out", [9; 9].as_slice())?;
     let mut trunk = FileTrunk::new(rt.alloc(), &rt)?;
-    assert_eq!(rt; trunk.read(UP, &mut octets).ok(), Some(4));
-    assert_eq!(rt; trunk.read(UP, &mut octets).ok(), Some(1));
+    let mut octets = [0; 4];
+    assert_eq!(rt; read_four(&mut trunk, UP, &mut octets), Some(4));
+    assert_eq!(rt; octets, [1, 2, 3, 4]);
+    assert_eq!(rt; read_four(&mut trunk, UP, &mut octets), Some(1));
     assert_eq!(rt; octets, [5, 2, 3, 4]);
-    assert_eq!(rt; trunk.read(UP, &mut octets).ok(), Some(0));
-    assert_eq!(rt; trunk.read(OUT, &mut octets).ok(), Some(4));
-    assert_eq!(rt; trunk.write(OUT, &[6]).ok(), Some(1));
-    assert_eq!(rt; trunk.write(OUT, &[7, 8]).ok(), Some(2));
+    assert_eq!(rt; read_four(&mut trunk, UP, &mut octets), Some(0));
+    assert_eq!(rt; read_four(&mut trunk, OUT, &mut octets), Some(4));
+    assert!(rt; takes(&mut trunk, OUT, &[6]));
+    assert!(rt; takes(&mut trunk, OUT, &[7, 8]));
     assert_eq!(rt; fs::read(&rt, "9.out")?.as_slice(), [6, 7, 8].as_slice());
     fs::remove_file(&rt, "4096.up")?;
-    assert!(rt; trunk.read(UP, &mut octets).is_err());
+    assert!(rt; read_fails(&mut trunk, UP));
     Ok(())
 }
 
 // Each line goes on at its own octet: also where another was read or written in between.
 #[test]
-fn lines_take_turns(rt: HostRuntime) -> Result<(), Fail> {
-    let mut octet = [0];
+fn lines_are_read_in_turn(rt: HostRuntime) -> Result<(), Fail> {
     fs::write(&rt, "4096.up", [1, 2, 3].as_slice())?;
     fs::write(&rt, "9.out", [4, 5, 6].as_slice())?;
     let mut trunk = FileTrunk::new(rt.alloc(), &rt)?;
-    for (up, out) in [(1, 4), (2, 5)] {
-        assert_eq!(rt; trunk.read(UP, &mut octet).ok(), Some(1));
-        assert_eq!(rt; octet, [up]);
-        assert_eq!(rt; trunk.read(OUT, &mut octet).ok(), Some(1));
-        assert_eq!(rt; octet, [out]);
-    }
-    assert_eq!(rt; trunk.write(OUT, &[7]).ok(), Some(1));
-    assert_eq!(rt; trunk.read(UP, &mut octet).ok(), Some(1));
-    assert_eq!(rt; octet, [3]);
-    assert_eq!(rt; trunk.write(UP, &[8]).ok(), Some(1));
-    assert_eq!(rt; trunk.write(OUT, &[9]).ok(), Some(1));
+    assert_eq!(rt; next_octet(&mut trunk, UP), Some(1));
+    assert_eq!(rt; next_octet(&mut trunk, OUT), Some(4));
+    assert_eq!(rt; next_octet(&mut trunk, UP), Some(2));
+    assert!(rt; takes(&mut trunk, OUT, &[7]));
+    assert_eq!(rt; next_octet(&mut trunk, UP), Some(3));
+    Ok(())
+}
+
+#[test]
+fn lines_are_written_in_turn(rt: HostRuntime) -> Result<(), Fail> {
+    let mut trunk = FileTrunk::new(rt.alloc(), &rt)?;
+    assert!(rt; takes(&mut trunk, OUT, &[7]));
+    assert!(rt; takes(&mut trunk, UP, &[8]));
+    assert!(rt; takes(&mut trunk, OUT, &[9]));
     assert_eq!(rt; fs::read(&rt, "9.out")?.as_slice(), [7, 9].as_slice());
-    assert_eq!(rt; fs::read(&rt, "4096.up")?.as_slice(), [8].as_slice());
+    assert_eq!(rt; next_octet(&mut trunk, UP), Some(8));
     Ok(())
 }
 
 // The file that was used last is open and outlives its name; any other is looked for by its name.
 #[test]
 fn a_removed_file_goes_on_while_it_is_open(rt: HostRuntime) -> Result<(), Fail> {
-    let mut octet = [0];
     fs::write(&rt, "4096.up", [1, 2, 3].as_slice())?;
     let mut trunk = FileTrunk::new(rt.alloc(), &rt)?;
-    assert_eq!(rt; trunk.read(UP, &mut octet).ok(), Some(1));
-    assert_eq!(rt; trunk.write(OUT, &[7]).ok(), Some(1));
+    assert_eq!(rt; next_octet(&mut trunk, UP), Some(1));
+    assert!(rt; takes(&mut trunk, OUT, &[7]));
     fs::remove_file(&rt, "4096.up")?;
     fs::remove_file(&rt, "9.out")?;
-    assert_eq!(rt; trunk.read(UP, &mut octet).ok(), Some(1));
-    assert_eq!(rt; octet, [2]);
-    assert_eq!(rt; trunk.write(OUT, &[8]).ok(), Some(1));
-    assert!(rt; trunk.read(OUT, &mut octet).is_err());
-    assert!(rt; trunk.read(UP, &mut octet).is_err());
+    assert_eq!(rt; next_octet(&mut trunk, UP), Some(2));
+    assert!(rt; takes(&mut trunk, OUT, &[8]));
+    assert!(rt; read_fails(&mut trunk, OUT));
+    assert!(rt; read_fails(&mut trunk, UP));
     fs::write(&rt, "4096.up", [4, 5, 6].as_slice())?;
-    assert_eq!(rt; trunk.read(UP, &mut octet).ok(), Some(1));
-    assert_eq!(rt; octet, [6]);
-    assert_eq!(rt; trunk.write(UP, &[9]).ok(), Some(1));
-    assert!(rt; trunk.write(OUT, &[8]).is_err());
+    assert_eq!(rt; next_octet(&mut trunk, UP), Some(6));
+    assert!(rt; takes(&mut trunk, UP, &[9]));
+    assert!(rt; !takes(&mut trunk, OUT, &[8]));
     Ok(())
 }
 
