@@ -1,3 +1,4 @@
+use crate::call_seven::{DOWN, OUT, PCM, UP};
 use farm_top::farm_top;
 use pool_run::{Gate, OpenGate};
 use std::alloc::{AllocError, Global};
@@ -5,7 +6,7 @@ use std::process::Abort;
 use std::sync::Wait;
 use std::test::Fail;
 use std::thread::Threads;
-use trau_io::{Line, MemDesk, MemTrunk, Side};
+use trau_io::{Line, MemDesk, MemTrunk};
 
 // A good uplink frame whose 260 data bits are those of 160 samples 0 encoded from home, and the downlink frame
 // with the same data bits, as GSM 08.60 places them. Worked by hand from the tables.
@@ -20,26 +21,6 @@ const DOWNLINK_FRAME: [u8; 40] = [
     0xA2, 0x80, 0x81, 0x24, 0xC9, 0x24, 0xC9, 0x24, 0xA8, 0x00, 0x92, 0x49, 0x92, 0x49, 0x92, 0x45,
     0x80, 0x02, 0xA4, 0x92, 0xA4, 0x92, 0xA7, 0xFF,
 ];
-
-const UP: Line = Line {
-    call: 7,
-    side: Side::Up,
-};
-
-const PCM: Line = Line {
-    call: 7,
-    side: Side::Pcm,
-};
-
-const DOWN: Line = Line {
-    call: 7,
-    side: Side::Down,
-};
-
-const OUT: Line = Line {
-    call: 7,
-    side: Side::Out,
-};
 
 // The first octets that decode from the frame, from home: the samples 8, 0, 0, 8, 8, 8, 16.
 pub(crate) const DECODED: [u8; 7] = [0xD5, 0xD5, 0xD5, 0xD5, 0xD5, 0xD5, 0xD4];

@@ -5,6 +5,8 @@
 #![tactic(auto)]
 
 #[cfg(test)]
+mod call_seven;
+#[cfg(test)]
 mod farm_report_tests;
 #[cfg(test)]
 mod farm_rounds_round_tests;

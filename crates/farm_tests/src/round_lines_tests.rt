@@ -1,29 +1,10 @@
 ghost use Rattle.std.specs.Prelude.{◌≡◌};
 
+use crate::call_seven::{DOWN, OUT, PCM, UP};
 use round_lines::{Buffers, Seat, drain_seats, fill_seats, list_ends, list_failed};
 use std::alloc::{AllocError, Global};
 use std::test::Fail;
 use trau_io::{CallEnd, Cause, Line, MemTrunk, Side, Trunk};
-
-const UP: Line = Line {
-    call: 7,
-    side: Side::Up,
-};
-
-const PCM: Line = Line {
-    call: 7,
-    side: Side::Pcm,
-};
-
-const DOWN: Line = Line {
-    call: 7,
-    side: Side::Down,
-};
-
-const OUT: Line = Line {
-    call: 7,
-    side: Side::Out,
-};
 
 // Sets a line of call 7: so many octets to come or room for so many, which of its calls are cut and which fail.
 fn set(
