@@ -1,4 +1,4 @@
-//! Tests of the crates that read and write: numbers, bits, frames, lines, orders and words.
+//! Tests of the crates that read and write: numbers, bits, frames, lines, files, orders and words.
 //!
 //! They stand apart from what they test: a crate with tests is proved a second time with them; these go through public
 //! calls only.
@@ -14,6 +14,8 @@ mod farm_words_tests;
 mod frame_sync_tests;
 #[cfg(test)]
 mod trau_bits_tests;
+#[cfg(test)]
+mod trau_files_tests;
 #[cfg(test)]
 mod trau_frame_tests;
 #[cfg(test)]

@@ -1,3 +1,2 @@
--- What the program's own parts do: lines as files, and a program that can't start.
-pub mod Files
+-- What the program's own part does: it can fail to start.
 pub mod Refusals

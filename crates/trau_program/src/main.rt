@@ -3,23 +3,14 @@
 //! At the top: makes the two outsides that the top call works on, the lines as files (`FileTrunk`) and
 //! the standard streams as the desk (`StdDesk`: the orders of a run come in, texts go out), hands it the
 //! words of the command line and ends with the status that it answers. Nothing is decided here but what
-//! comes before that call: words that aren't UTF-8, and want of memory.
-//!
-//! This is the trusted edge: no contract can say what the system's files and streams hold. What both
-//! tell of themselves are their counts of faults, and these are proved against the traits of `trau_io`.
-//! The names of the files and the statuses are this project's profile.
-//! Definitions: `specs/Files.antt`, `specs/Refusals.antt`.
+//! comes before that call: words that aren't UTF-8, and want of memory. The statuses are this project's
+//! profile. Definitions: `specs/Refusals.antt`.
 #![tactic(auto)]
 
 ghost use Rattle.std.specs.Prelude.{◌≡◌};
 ghost use Rattle.trau_program.specs.declared.Refusal.TheVariants.{NoMemory};
 ghost use Rattle.trau_program.specs.Refusals.{status_of, text_of, IsTold};
 
-mod desk;
-mod retry;
-mod trunk;
-
-use desk::StdDesk;
 use farm_top::farm_top;
 use pool_run::OpenGate;
 use std::alloc::AllocError;
@@ -29,8 +20,8 @@ use std::rt::{Env, Files};
 use std::sync::Wait;
 use std::thread::Threads;
 use std::{env, io};
+use trau_files::{FileTrunk, StdDesk};
 use trau_io::{Desk, tell};
-use trunk::FileTrunk;
 
 // Why the top call can't be made.
 #[derive(Clone, Copy, Debug, PartialEq, Eq)]
@@ -103,6 +94,3 @@ fn main(rt: HostRuntime) -> ExitCode {
     };
     ExitCode::from(status)
 }
-
-#[cfg(test)]
-mod tests;

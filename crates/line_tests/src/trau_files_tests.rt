@@ -1,10 +1,12 @@
 // What no proof sees: the system's files and streams.
 ghost use Rattle.std.specs.Prelude.{◌<◌, length};
 
-use super::*;
-use std::fs;
+use std::io::{ErrorKind, Read, Write};
+use std::rt::Files;
 use std::test::Fail;
-use trau_io::{Line, Side, Trunk};
+use std::{fs, io};
+use trau_files::{FileTrunk, StdDesk};
+use trau_io::{Desk, Line, Side, Trunk};
 
 const UP: Line = Line {
     call: 4096,

@@ -1,7 +1,7 @@
 // The files of lines, of which few are open.
 ghost use Rattle.std.specs.Prelude.{◌≡◌, ◌<◌, IfOk, IfSome, None};
 ghost use Rattle.std.specs.Io.{ReadsAtMost, WritesAtMost};
-ghost use Rattle.trau_program.specs.Files.{OpenFiles, OpenLine, StandsAt, open_after};
+ghost use Rattle.trau_files.specs.Files.{OpenFiles, OpenLine, StandsAt, open_after};
 
 use super::name::name_of;
 use crate::retry::{read_again, write_again};

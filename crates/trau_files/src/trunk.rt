@@ -2,7 +2,7 @@
 ghost use Rattle.std.specs.Prelude.{◌≡◌, ◌<◌, ℕ, List, All, vec_len, length, slice_get, slice_set, IfSome, IfOk};
 ghost use Rattle.trau_io.specs.Lines.{Reads, Writes, OthersStay};
 ghost use Rattle.trau_io.specs.Places.{place_of};
-ghost use Rattle.trau_program.specs.Files.{FileLine, states_of, after_read, after_write};
+ghost use Rattle.trau_files.specs.Files.{FileLine, states_of, after_read, after_write};
 
 mod file;
 mod name;

@@ -1,6 +1,6 @@
 // The names of the lines' files.
 ghost use Rattle.std.specs.Prelude.{◌≡◌, ◌≤◌, length};
-ghost use Rattle.trau_program.specs.Files.{ending_of, file_name};
+ghost use Rattle.trau_files.specs.Files.{ending_of, file_name};
 
 use arrayvec::ArrayString;
 use itoa::Buffer;

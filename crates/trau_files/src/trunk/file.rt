@@ -1,7 +1,7 @@
 // One line as a file.
 ghost use Rattle.std.specs.Prelude.{◌≡◌, ◌≤◌};
 ghost use Rattle.trau_io.specs.Lines.{Reads, Writes};
-ghost use Rattle.trau_program.specs.Files.{FileLine, raised, after_read, after_write, state_of};
+ghost use Rattle.trau_files.specs.Files.{FileLine, raised, after_read, after_write, state_of};
 
 use super::open::LineFiles;
 use std::marker::Model;

@@ -1,7 +1,7 @@
 -- An interrupted read has consumed nothing.
 use Rattle.std.proofs.Common.{◌≡◌, length}
 use Rattle.std.specs.Io.KnownBytes.{Keeps}
-use Rattle.trau_program.proofs.retry.read_again.Given as goal
+use Rattle.trau_files.proofs.retry.read_again.Given as goal
 
 abbrev pub invariant-loop : goal.invariant-loop
 invariant-loop g l = record {

@@ -1,0 +1,2 @@
+-- What is known of lines as files.
+pub mod Files
