@@ -1,7 +1,7 @@
 // The listing of frames as a tool.
 ghost use Rattle.std.specs.Prelude.{◌≡◌, ◌≤◌, IfOk, string_bytes};
 ghost use Rattle.trau_io.specs.declared.line.Side.TheVariants.{Up};
-ghost use Rattle.farm_tools.specs.Frames.{CleanFrames, FramesCauses, FramesRun, IsListEnd, list_text};
+ghost use Rattle.farm_tools.specs.Frames.{CleanFrames, FramesCauses, FramesRun, IsListEnd, TellsListEnd, list_text};
 ghost use Rattle.farm_tools.specs.Tools.{status_of};
 
 use crate::end::ToolEnd;
@@ -37,6 +37,21 @@ fn list_end(call: u32, end: ListEnd) -> ToolEnd
     }
 }
 
+// Tells the last line of text of a listing.
+fn tell_end<D: Desk>(alloc: Global, call: u32, end: ListEnd, desk: &mut D) -> ToolEnd
+    requires low { 1 ≤ call }
+    requires high { call ≤ 4096 }
+    ensures { TellsListEnd call end (D.desk desk.old) (D.desk desk.new) result }
+{
+    let Ok(text) = list_text(alloc, call, end) else {
+        return ToolEnd::Memory;
+    };
+    match tell(desk, text.as_bytes()) {
+        Ok(()) => list_end(call, end),
+        Err(_) => ToolEnd::DeskFault,
+    }
+}
+
 /// Lists the frames of a call's uplink: takes it in periods of 40 octets, searches it for frames at any bit, and tells
 /// a line of text for each yield of the search, its place in bits and what was found there: `PLACE WORD`, WORD being
 /// `good`, `sid`, `invalid`, `bad`, `idle`, `other` or `miss`. A rest of less than a period is left. At the end it tells
@@ -49,11 +64,5 @@ pub fn frames<T: Trunk, D: Desk>(alloc: Global, call: u32, trunk: &mut T, desk: 
     ensures clean { CleanFrames call (T.lines trunk.old call Up) (T.lines trunk.new call Up) (D.desk desk.old) (D.desk desk.new) (status_of result) }
 {
     let end = list_frames(call, trunk, desk);
-    let Ok(text) = list_text(alloc, call, end) else {
-        return ToolEnd::Memory;
-    };
-    match tell(desk, text.as_bytes()) {
-        Ok(()) => list_end(call, end),
-        Err(_) => ToolEnd::DeskFault,
-    }
+    tell_end(alloc, call, end, desk)
 }
