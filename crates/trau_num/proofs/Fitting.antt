@@ -1,6 +1,8 @@
 -- Products of two words of 32 bits that keep bounds: they fit, have their value, and a bound of their own.
-use Rattle.std.proofs.Common.{mul-le-mul, ◌≡◌, ◌*◌, ◌≤◌, ◌<◌, ◌^◌, ◌*ℤ◌, ℕ, ℤ, unsigned_abs, FitsSigned, w32}
+use Rattle.std.proofs.Common.{mul-le-mul, ◌≡◌, ◌*◌, ◌≤◌, ◌<◌, ◌^◌, ◌*ℤ◌, ℕ, ℤ, unsigned_abs, FitsSigned, w32, arith}
 use Rattle.std.proofs.lemmas.Int.{to_z-of_z, fits_signed_mul, unsigned_abs-mul}
+use Rattle.std.specs.Int.{int_shr}
+use Rattle.std.specs.Int.Signed.{mag, mag_shr}
 use mir.Val.{to_z, of_z}
 
 pub product_fits : (a b : ℤ) (m n : ℕ) → FitsSigned w32 a → FitsSigned w32 b → unsigned_abs a ≤ m → unsigned_abs b ≤ n → m * n < 2 ^ 31 →
@@ -15,3 +17,7 @@ product_is a b m n fa fb la lb room =
 
 pub product_bound : (a b : ℤ) (m n : ℕ) → unsigned_abs a ≤ m → unsigned_abs b ≤ n → unsigned_abs (a *ℤ b) ≤ m * n
 product_bound a b m n la lb = simp unsigned_abs-mul (mul-le-mul la lb)
+
+-- a shift to the right fits where its word does
+pub shifted_fits : (z : ℤ) (n : ℕ) → FitsSigned w32 z → FitsSigned w32 (int_shr z n)
+shifted_fits z n f = let less : mag (int_shr z n) ≤ mag z = mag_shr z (2 ^ n) in record { sfits = omega (arith, less, f.sfits) }

@@ -26,16 +26,100 @@ is_sum k xs a b d e f g h i r pa pb pd pe pf pg ph pi pr =
     let high = no_tap h (get_or xs (k + 8) (pos 0)) in
     cc
 
+pub plus_tap-sum-requires-2-clause-room : goal.plus_tap-sum-requires-2-clause-room
+plus_tap-sum-requires-2-clause-room c =
+    let f0 : FitsSigned w32 c.plus_tap-sum.result = record { sfits = c.plus_tap-sum.type_inv } in
+    let b0 : unsigned_abs c.plus_tap-sum.result ≤ 4395008 = c.plus_tap-sum.ensures.bound in
+    simp to_z-of_z (omega arith)
+
+pub plus_tap-sum-requires-3-clause-room : goal.plus_tap-sum-requires-3-clause-room
+plus_tap-sum-requires-3-clause-room c =
+    let f0 : FitsSigned w32 c.plus_tap-sum.result = record { sfits = c.plus_tap-sum.type_inv } in
+    let f1 : FitsSigned w32 c.plus_tap-sum-2.result = record { sfits = c.plus_tap-sum-2.type_inv } in
+    let b0 : unsigned_abs c.plus_tap-sum.result ≤ 4395008 = c.plus_tap-sum.ensures.bound in
+    let b1 = simp to_z-of_z at c.plus_tap-sum-2.ensures.bound in
+    simp to_z-of_z (omega arith)
+
+pub plus_tap-sum-requires-4-clause-room : goal.plus_tap-sum-requires-4-clause-room
+plus_tap-sum-requires-4-clause-room c =
+    let f0 : FitsSigned w32 c.plus_tap-sum.result = record { sfits = c.plus_tap-sum.type_inv } in
+    let f1 : FitsSigned w32 c.plus_tap-sum-2.result = record { sfits = c.plus_tap-sum-2.type_inv } in
+    let f2 : FitsSigned w32 c.plus_tap-sum-3.result = record { sfits = c.plus_tap-sum-3.type_inv } in
+    let b0 : unsigned_abs c.plus_tap-sum.result ≤ 4395008 = c.plus_tap-sum.ensures.bound in
+    let b1 = simp to_z-of_z at c.plus_tap-sum-2.ensures.bound in
+    let b2 = simp to_z-of_z at c.plus_tap-sum-3.ensures.bound in
+    simp to_z-of_z (omega arith)
+
+pub plus_tap-sum-requires-5-clause-room : goal.plus_tap-sum-requires-5-clause-room
+plus_tap-sum-requires-5-clause-room c =
+    let f0 : FitsSigned w32 c.plus_tap-sum.result = record { sfits = c.plus_tap-sum.type_inv } in
+    let f1 : FitsSigned w32 c.plus_tap-sum-2.result = record { sfits = c.plus_tap-sum-2.type_inv } in
+    let f2 : FitsSigned w32 c.plus_tap-sum-3.result = record { sfits = c.plus_tap-sum-3.type_inv } in
+    let f3 : FitsSigned w32 c.plus_tap-sum-4.result = record { sfits = c.plus_tap-sum-4.type_inv } in
+    let b0 : unsigned_abs c.plus_tap-sum.result ≤ 4395008 = c.plus_tap-sum.ensures.bound in
+    let b1 = simp to_z-of_z at c.plus_tap-sum-2.ensures.bound in
+    let b2 = simp to_z-of_z at c.plus_tap-sum-3.ensures.bound in
+    let b3 = simp to_z-of_z at c.plus_tap-sum-4.ensures.bound in
+    simp to_z-of_z (omega arith)
+
+pub plus_tap-sum-requires-6-clause-room : goal.plus_tap-sum-requires-6-clause-room
+plus_tap-sum-requires-6-clause-room c =
+    let f0 : FitsSigned w32 c.plus_tap-sum.result = record { sfits = c.plus_tap-sum.type_inv } in
+    let f1 : FitsSigned w32 c.plus_tap-sum-2.result = record { sfits = c.plus_tap-sum-2.type_inv } in
+    let f2 : FitsSigned w32 c.plus_tap-sum-3.result = record { sfits = c.plus_tap-sum-3.type_inv } in
+    let f3 : FitsSigned w32 c.plus_tap-sum-4.result = record { sfits = c.plus_tap-sum-4.type_inv } in
+    let f4 : FitsSigned w32 c.plus_tap-sum-5.result = record { sfits = c.plus_tap-sum-5.type_inv } in
+    let b0 : unsigned_abs c.plus_tap-sum.result ≤ 4395008 = c.plus_tap-sum.ensures.bound in
+    let b1 = simp to_z-of_z at c.plus_tap-sum-2.ensures.bound in
+    let b2 = simp to_z-of_z at c.plus_tap-sum-3.ensures.bound in
+    let b3 = simp to_z-of_z at c.plus_tap-sum-4.ensures.bound in
+    let b4 = simp to_z-of_z at c.plus_tap-sum-5.ensures.bound in
+    simp to_z-of_z (omega arith)
+
+pub plus_tap-sum-requires-7-clause-room : goal.plus_tap-sum-requires-7-clause-room
+plus_tap-sum-requires-7-clause-room c =
+    let f0 : FitsSigned w32 c.plus_tap-sum.result = record { sfits = c.plus_tap-sum.type_inv } in
+    let f1 : FitsSigned w32 c.plus_tap-sum-2.result = record { sfits = c.plus_tap-sum-2.type_inv } in
+    let f2 : FitsSigned w32 c.plus_tap-sum-3.result = record { sfits = c.plus_tap-sum-3.type_inv } in
+    let f3 : FitsSigned w32 c.plus_tap-sum-4.result = record { sfits = c.plus_tap-sum-4.type_inv } in
+    let f4 : FitsSigned w32 c.plus_tap-sum-5.result = record { sfits = c.plus_tap-sum-5.type_inv } in
+    let f5 : FitsSigned w32 c.plus_tap-sum-6.result = record { sfits = c.plus_tap-sum-6.type_inv } in
+    let b0 : unsigned_abs c.plus_tap-sum.result ≤ 4395008 = c.plus_tap-sum.ensures.bound in
+    let b1 = simp to_z-of_z at c.plus_tap-sum-2.ensures.bound in
+    let b2 = simp to_z-of_z at c.plus_tap-sum-3.ensures.bound in
+    let b3 = simp to_z-of_z at c.plus_tap-sum-4.ensures.bound in
+    let b4 = simp to_z-of_z at c.plus_tap-sum-5.ensures.bound in
+    let b5 = simp to_z-of_z at c.plus_tap-sum-6.ensures.bound in
+    simp to_z-of_z (omega arith)
+
+pub plus_tap-sum-requires-8-clause-room : goal.plus_tap-sum-requires-8-clause-room
+plus_tap-sum-requires-8-clause-room c =
+    let f0 : FitsSigned w32 c.plus_tap-sum.result = record { sfits = c.plus_tap-sum.type_inv } in
+    let f1 : FitsSigned w32 c.plus_tap-sum-2.result = record { sfits = c.plus_tap-sum-2.type_inv } in
+    let f2 : FitsSigned w32 c.plus_tap-sum-3.result = record { sfits = c.plus_tap-sum-3.type_inv } in
+    let f3 : FitsSigned w32 c.plus_tap-sum-4.result = record { sfits = c.plus_tap-sum-4.type_inv } in
+    let f4 : FitsSigned w32 c.plus_tap-sum-5.result = record { sfits = c.plus_tap-sum-5.type_inv } in
+    let f5 : FitsSigned w32 c.plus_tap-sum-6.result = record { sfits = c.plus_tap-sum-6.type_inv } in
+    let f6 : FitsSigned w32 c.plus_tap-sum-7.result = record { sfits = c.plus_tap-sum-7.type_inv } in
+    let b0 : unsigned_abs c.plus_tap-sum.result ≤ 4395008 = c.plus_tap-sum.ensures.bound in
+    let b1 = simp to_z-of_z at c.plus_tap-sum-2.ensures.bound in
+    let b2 = simp to_z-of_z at c.plus_tap-sum-3.ensures.bound in
+    let b3 = simp to_z-of_z at c.plus_tap-sum-4.ensures.bound in
+    let b4 = simp to_z-of_z at c.plus_tap-sum-5.ensures.bound in
+    let b5 = simp to_z-of_z at c.plus_tap-sum-6.ensures.bound in
+    let b6 = simp to_z-of_z at c.plus_tap-sum-7.ensures.bound in
+    simp to_z-of_z (omega arith)
+
 pub plus_tap-requires-clause-room : goal.plus_tap-requires-clause-room
 plus_tap-requires-clause-room c =
-    let f0 : FitsSigned w32 c.plus_tap-sum.result = search rules in
-    let f1 : FitsSigned w32 c.plus_tap-sum-2.result = search rules in
-    let f2 : FitsSigned w32 c.plus_tap-sum-3.result = search rules in
-    let f3 : FitsSigned w32 c.plus_tap-sum-4.result = search rules in
-    let f4 : FitsSigned w32 c.plus_tap-sum-5.result = search rules in
-    let f5 : FitsSigned w32 c.plus_tap-sum-6.result = search rules in
-    let f6 : FitsSigned w32 c.plus_tap-sum-7.result = search rules in
-    let f7 : FitsSigned w32 c.plus_tap-sum-8.result = search rules in
+    let f0 : FitsSigned w32 c.plus_tap-sum.result = record { sfits = c.plus_tap-sum.type_inv } in
+    let f1 : FitsSigned w32 c.plus_tap-sum-2.result = record { sfits = c.plus_tap-sum-2.type_inv } in
+    let f2 : FitsSigned w32 c.plus_tap-sum-3.result = record { sfits = c.plus_tap-sum-3.type_inv } in
+    let f3 : FitsSigned w32 c.plus_tap-sum-4.result = record { sfits = c.plus_tap-sum-4.type_inv } in
+    let f4 : FitsSigned w32 c.plus_tap-sum-5.result = record { sfits = c.plus_tap-sum-5.type_inv } in
+    let f5 : FitsSigned w32 c.plus_tap-sum-6.result = record { sfits = c.plus_tap-sum-6.type_inv } in
+    let f6 : FitsSigned w32 c.plus_tap-sum-7.result = record { sfits = c.plus_tap-sum-7.type_inv } in
+    let f7 : FitsSigned w32 c.plus_tap-sum-8.result = record { sfits = c.plus_tap-sum-8.type_inv } in
     let b0 : unsigned_abs c.plus_tap-sum.result ≤ 4395008 = c.plus_tap-sum.ensures.bound in
     let b1 = simp to_z-of_z at c.plus_tap-sum-2.ensures.bound in
     let b2 = simp to_z-of_z at c.plus_tap-sum-3.ensures.bound in
@@ -48,15 +132,15 @@ plus_tap-requires-clause-room c =
 
 pub returns-clause-bound : goal.returns-clause-bound
 returns-clause-bound c =
-    let f0 : FitsSigned w32 c.plus_tap-sum.result = search rules in
-    let f1 : FitsSigned w32 c.plus_tap-sum-2.result = search rules in
-    let f2 : FitsSigned w32 c.plus_tap-sum-3.result = search rules in
-    let f3 : FitsSigned w32 c.plus_tap-sum-4.result = search rules in
-    let f4 : FitsSigned w32 c.plus_tap-sum-5.result = search rules in
-    let f5 : FitsSigned w32 c.plus_tap-sum-6.result = search rules in
-    let f6 : FitsSigned w32 c.plus_tap-sum-7.result = search rules in
-    let f7 : FitsSigned w32 c.plus_tap-sum-8.result = search rules in
-    let f8 : FitsSigned w32 c.plus_tap.result = search rules in
+    let f0 : FitsSigned w32 c.plus_tap-sum.result = record { sfits = c.plus_tap-sum.type_inv } in
+    let f1 : FitsSigned w32 c.plus_tap-sum-2.result = record { sfits = c.plus_tap-sum-2.type_inv } in
+    let f2 : FitsSigned w32 c.plus_tap-sum-3.result = record { sfits = c.plus_tap-sum-3.type_inv } in
+    let f3 : FitsSigned w32 c.plus_tap-sum-4.result = record { sfits = c.plus_tap-sum-4.type_inv } in
+    let f4 : FitsSigned w32 c.plus_tap-sum-5.result = record { sfits = c.plus_tap-sum-5.type_inv } in
+    let f5 : FitsSigned w32 c.plus_tap-sum-6.result = record { sfits = c.plus_tap-sum-6.type_inv } in
+    let f6 : FitsSigned w32 c.plus_tap-sum-7.result = record { sfits = c.plus_tap-sum-7.type_inv } in
+    let f7 : FitsSigned w32 c.plus_tap-sum-8.result = record { sfits = c.plus_tap-sum-8.type_inv } in
+    let f8 : FitsSigned w32 c.plus_tap.result = record { sfits = c.plus_tap.type_inv } in
     let b0 : unsigned_abs c.plus_tap-sum.result ≤ 4395008 = c.plus_tap-sum.ensures.bound in
     let b1 = simp to_z-of_z at c.plus_tap-sum-2.ensures.bound in
     let b2 = simp to_z-of_z at c.plus_tap-sum-3.ensures.bound in
@@ -70,15 +154,15 @@ returns-clause-bound c =
 
 pub returns-clause-value : goal.returns-clause-value
 returns-clause-value c =
-    let f0 : FitsSigned w32 c.plus_tap-sum.result = search rules in
-    let f1 : FitsSigned w32 c.plus_tap-sum-2.result = search rules in
-    let f2 : FitsSigned w32 c.plus_tap-sum-3.result = search rules in
-    let f3 : FitsSigned w32 c.plus_tap-sum-4.result = search rules in
-    let f4 : FitsSigned w32 c.plus_tap-sum-5.result = search rules in
-    let f5 : FitsSigned w32 c.plus_tap-sum-6.result = search rules in
-    let f6 : FitsSigned w32 c.plus_tap-sum-7.result = search rules in
-    let f7 : FitsSigned w32 c.plus_tap-sum-8.result = search rules in
-    let f8 : FitsSigned w32 c.plus_tap.result = search rules in
+    let f0 : FitsSigned w32 c.plus_tap-sum.result = record { sfits = c.plus_tap-sum.type_inv } in
+    let f1 : FitsSigned w32 c.plus_tap-sum-2.result = record { sfits = c.plus_tap-sum-2.type_inv } in
+    let f2 : FitsSigned w32 c.plus_tap-sum-3.result = record { sfits = c.plus_tap-sum-3.type_inv } in
+    let f3 : FitsSigned w32 c.plus_tap-sum-4.result = record { sfits = c.plus_tap-sum-4.type_inv } in
+    let f4 : FitsSigned w32 c.plus_tap-sum-5.result = record { sfits = c.plus_tap-sum-5.type_inv } in
+    let f5 : FitsSigned w32 c.plus_tap-sum-6.result = record { sfits = c.plus_tap-sum-6.type_inv } in
+    let f6 : FitsSigned w32 c.plus_tap-sum-7.result = record { sfits = c.plus_tap-sum-7.type_inv } in
+    let f7 : FitsSigned w32 c.plus_tap-sum-8.result = record { sfits = c.plus_tap-sum-8.type_inv } in
+    let f8 : FitsSigned w32 c.plus_tap.result = record { sfits = c.plus_tap.type_inv } in
     let x0 : FitsSigned w16 (get_or c.args.padded.now c.args.k (pos 0)) = search rules in
     let x1 : FitsSigned w16 (get_or c.args.padded.now (c.args.k + 1) (pos 0)) = search rules in
     let x3 : FitsSigned w16 (get_or c.args.padded.now (c.args.k + 3) (pos 0)) = search rules in
