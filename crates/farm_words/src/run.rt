@@ -38,14 +38,24 @@ fn with_option<'a>(
     command.arg(option(alloc, name))
 }
 
+fn with_two_options<'a>(
+    alloc: Global,
+    command: Command<'a>,
+    first: &'a str,
+    second: &'a str,
+) -> Result<Command<'a>, AllocError>
+    ensures { IfOk result (λ c. app_of c ≡ run_option second.entry.now (run_option first.entry.now (app_of command.entry))) }
+{
+    let command = with_option(alloc, command, first)?;
+    with_option(alloc, command, second)
+}
+
 fn run_command<'a>(alloc: Global) -> Result<Command<'a>, AllocError>
     ensures { IfOk result (λ c. app_of c ≡ run_app) }
 {
     let command = bare_command(alloc, "run");
-    let command = with_option(alloc, command, "workers")?;
-    let command = with_option(alloc, command, "batch")?;
-    let command = with_option(alloc, command, "slice")?;
-    with_option(alloc, command, "periods")
+    let command = with_two_options(alloc, command, "workers", "batch")?;
+    with_two_options(alloc, command, "slice", "periods")
 }
 
 // The value of an option, or its default where it isn't given.
