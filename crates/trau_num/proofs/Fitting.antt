@@ -1,7 +1,7 @@
--- Products of two words of 32 bits that keep bounds: they fit, have their value, and a bound of their own.
+-- What fits a word: products of two words of 32 bits that keep bounds, with their value and a bound of their own, and shifts.
 use Rattle.std.proofs.Common.{mul-le-mul, ◌≡◌, ◌*◌, ◌≤◌, ◌<◌, ◌^◌, ◌*ℤ◌, ℕ, ℤ, unsigned_abs, FitsSigned, w32, arith}
 use Rattle.std.proofs.lemmas.Int.{to_z-of_z, fits_signed_mul, unsigned_abs-mul}
-use Rattle.std.specs.Int.{int_shr}
+use Rattle.std.specs.Int.{Width, int_shr}
 use Rattle.std.specs.Int.Signed.{mag, mag_shr}
 use mir.Val.{to_z, of_z}
 
@@ -19,5 +19,5 @@ pub product_bound : (a b : ℤ) (m n : ℕ) → unsigned_abs a ≤ m → unsigne
 product_bound a b m n la lb = simp unsigned_abs-mul (mul-le-mul la lb)
 
 -- a shift to the right fits where its word does
-pub shifted_fits : (z : ℤ) (n : ℕ) → FitsSigned w32 z → FitsSigned w32 (int_shr z n)
-shifted_fits z n f = let less : mag (int_shr z n) ≤ mag z = mag_shr z (2 ^ n) in record { sfits = omega (arith, less, f.sfits) }
+pub shifted_fits : (w : Width) (z : ℤ) (n : ℕ) → FitsSigned w z → FitsSigned w (int_shr z n)
+shifted_fits w z n f = let less : mag (int_shr z n) ≤ mag z = mag_shr z (2 ^ n) in record { sfits = omega (arith, less, f.sfits) }

@@ -20,6 +20,6 @@ returns c =
     let v = simp to_z-of_z at c.full_product.ensures.value in
     let b : unsigned_abs c.full_product.result ≤ 1073741824 = c.full_product.ensures.bound in
     let s : FitsSigned w32 (c.full_product.result +ℤ pos 16384) = omega (arith, ints) in
-    let fs = shifted_fits (c.full_product.result +ℤ pos 16384) 15 s in
+    let fs = shifted_fits w32 (c.full_product.result +ℤ pos 16384) 15 s in
     let e = simp to_z-of_z at c.clamp.ensures in
     simp to_z-of_z (e ∙ ap (λ z. clamp16 (floor_shr (z +ℤ pos 16384) 15)) v)
