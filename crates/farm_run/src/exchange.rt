@@ -3,14 +3,14 @@
 ghost use Rattle.std.specs.Prelude.{◌≡◌};
 
 /// A call that was opened: its first period, and the place of its latest bridge among all bridges.
-#[derive(Clone, Copy, Debug, PartialEq, Eq)]
+#[derive(Clone, Copy)]
 pub(crate) struct Opening {
     pub(crate) from: u32,
     pub(crate) bridge: Option<usize>,
 }
 
 /// A bridge, with the handed frames that each of its calls has sent.
-#[derive(Clone, Copy, Debug, PartialEq, Eq)]
+#[derive(Clone, Copy)]
 pub(crate) struct Exchange {
     pub(crate) a: u32,
     pub(crate) b: u32,

@@ -28,7 +28,7 @@ pub enum ToolEnd {
 }
 
 /// How a run over the blocks of a line ended.
-#[derive(Clone, Copy, Debug, PartialEq, Eq)]
+#[derive(Clone, Copy)]
 pub enum RunEnd {
     /// After so many blocks, at the end of the line, with so many octets left behind the last of them.
     Done(u32, u32),

@@ -11,7 +11,7 @@ use crate::work::Work;
 use trau_io::{Filled, Line, Trunk, read_block, write_all};
 
 /// How one block ended.
-#[derive(Clone, Copy, Debug, PartialEq, Eq)]
+#[derive(Clone, Copy)]
 pub enum BlockEnd {
     /// It was taken, and what was made of it is written.
     Taken,

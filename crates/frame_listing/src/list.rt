@@ -22,7 +22,7 @@ pub enum ListEnd {
 }
 
 /// How one period ended.
-#[derive(Clone, Copy, Debug, PartialEq, Eq)]
+#[derive(Clone, Copy)]
 pub(crate) enum PeriodEnd {
     /// No yield ends in it.
     Without,

@@ -13,7 +13,7 @@ use std::marker::Model;
 const NUMBERS: usize = 4097;
 
 /// What is known of a call number.
-#[derive(Clone, Copy, Debug, PartialEq, Eq)]
+#[derive(Clone, Copy)]
 pub struct Call {
     /// The stamps of the orders that opened and closed it.
     pub opened: Option<u32>,
@@ -32,7 +32,7 @@ const NEVER_OPENED: Call = Call {
 };
 
 /// An accepted bridge: its calls as the order named them, the order's stamp, and the stamp of the order that ended it.
-#[derive(Clone, Copy, Debug, PartialEq, Eq)]
+#[derive(Clone, Copy)]
 pub struct Bridge {
     pub a: u32,
     pub b: u32,

@@ -24,7 +24,7 @@ use trau_files::{FileTrunk, StdDesk};
 use trau_io::{Desk, tell};
 
 // Why the top call can't be made.
-#[derive(Clone, Copy, Debug, PartialEq, Eq)]
+#[derive(Clone, Copy)]
 enum Refusal {
     NotText,
     NoMemory,
