@@ -1,8 +1,9 @@
 -- What fits a word: products of two words of 32 bits that keep bounds, with their value and a bound of their own, and shifts.
-use Rattle.std.proofs.Common.{mul-le-mul, ◌≡◌, ◌*◌, ◌≤◌, ◌<◌, ◌^◌, ◌*ℤ◌, ℕ, ℤ, unsigned_abs, FitsSigned, w32, arith}
-use Rattle.std.proofs.lemmas.Int.{to_z-of_z, fits_signed_mul, unsigned_abs-mul}
+use Rattle.std.proofs.Common.{mul-le-mul, ◌≡◌, ◌*◌, ◌≤◌, ◌<◌, ◌^◌, ◌*ℤ◌, ℕ, ℤ, unsigned_abs, ◌+ℤ◌, ◌≤ℤ◌, pos, negsuc, neg_ℤ, FitsSigned, w16, w32, arith}
+use Rattle.std.proofs.lemmas.Int.{to_z-of_z, fits_signed_mul, ints, unsigned_abs-mul}
 use Rattle.std.specs.Int.{Width, int_shr}
 use Rattle.std.specs.Int.Signed.{mag, mag_shr}
+use Rattle.trau_num.specs.Num.{clamp16}
 use mir.Val.{to_z, of_z}
 
 pub product_fits : (a b : ℤ) (m n : ℕ) → FitsSigned w32 a → FitsSigned w32 b → unsigned_abs a ≤ m → unsigned_abs b ≤ n → m * n < 2 ^ 31 →
@@ -21,3 +22,18 @@ product_bound a b m n la lb = simp unsigned_abs-mul (mul-le-mul la lb)
 -- a shift to the right fits where its word does
 pub shifted_fits : (w : Width) (z : ℤ) (n : ℕ) → FitsSigned w z → FitsSigned w (int_shr z n)
 shifted_fits w z n f = let less : mag (int_shr z n) ≤ mag z = mag_shr z (2 ^ n) in record { sfits = omega (arith, less, f.sfits) }
+
+word_of : (z : ℤ) → neg_ℤ (pos 1073692672) ≤ℤ z → z ≤ℤ pos 1073725440 → FitsSigned w16 (int_shr z 15)
+word_of (pos n) l h = omega (arith, ints)
+word_of (negsuc n) l h = omega (arith, ints)
+
+-- half a place more and a shift by 15 places leave a word of a product of two words, of which one is above the least
+pub rounded_fits : (p : ℤ) → unsigned_abs p ≤ 1073709056 → FitsSigned w16 (int_shr (p +ℤ pos 16384) 15)
+rounded_fits p b =
+    let low : neg_ℤ (pos 1073692672) ≤ℤ (p +ℤ pos 16384) = omega (arith, ints) in
+    let high : (p +ℤ pos 16384) ≤ℤ pos 1073725440 = omega (arith, ints) in
+    word_of (p +ℤ pos 16384) low high
+
+-- a word isn't clamped
+pub word_stays : (z : ℤ) → FitsSigned w16 z → clamp16 z ≡ z
+word_stays z f = let low = f.sfits in grind (arith, ints)

@@ -1,4 +1,4 @@
-use Rattle.std.proofs.Common.{rules, arith, ap, ◌≡◌, ◌≤◌, ◌*ℤ◌, ◌+ℤ◌, ◌∙◌, pos, unsigned_abs, FitsSigned, w16, w32}
+use Rattle.std.proofs.Common.{rules, arith, ap, ◌≤◌, ◌+ℤ◌, ◌∙◌, pos, unsigned_abs, FitsSigned, w16, w32}
 use Rattle.std.proofs.lemmas.Int.{to_z-of_z, ints}
 use Rattle.trau_num.specs.Num.{clamp16, floor_shr, mult_r_of}
 use Rattle.trau_num.proofs.Fitting.{shifted_fits}
