@@ -7,7 +7,7 @@ import re
 FOR_FILES = re.compile(
     r"^(open|close|lseek|read|write)$"
     r"|^std::fs::"
-    r"|^trau_program::trunk::"
+    r"|^trau_files::trunk::"
     r"|^trau_io::transfer::(read_block|write_all)\b"
 )
 
