@@ -171,7 +171,9 @@ fn work_three(alloc: Global, lines: &mut Lines) -> Result<(), AllocError> {
 // Works a job of call 7 with three of the periods of its lines, in slices of two: whether it ends with these octets.
 fn three_of_four(alloc: Global, given: &Lines, want: &Lines) -> Result<bool, AllocError> {
     let mut job = Job::One(half(alloc, 7, given, 3)?);
-    Ok(finished_between(&mut job, 2, 2) && is_one(&job, want))
+    let worked = finished_between(&mut job, 2, 2) && is_one(&job, want);
+    drop(job);
+    Ok(worked)
 }
 
 // Three of four periods of one call.
@@ -235,7 +237,9 @@ fn longer_and_shorter(alloc: Global) -> Result<Job, AllocError> {
 // Works that job, in slices of three and one: whether it ends with these octets.
 fn four_and_two(alloc: Global, first: &Lines, second: &Lines) -> Result<bool, AllocError> {
     let mut job = longer_and_shorter(alloc)?;
-    Ok(finished_between(&mut job, 3, 1) && is_two(&job, first, second))
+    let worked = finished_between(&mut job, 3, 1) && is_two(&job, first, second);
+    drop(job);
+    Ok(worked)
 }
 
 // Four periods of a call whose partner has two: it is alone in the others.
