@@ -286,5 +286,6 @@ fn octets_go_to_their_call(rt: HostRuntime) -> Result<(), Fail> {
     assert!(rt; is_of(&taken, 9, 2));
     assert!(rt; has_the_first_alone(&job));
     assert!(rt; gives_pcm(taken, &given));
+    drop(job);
     Ok(())
 }
