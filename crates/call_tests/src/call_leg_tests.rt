@@ -1,4 +1,4 @@
-ghost use Rattle.std.specs.Prelude.{◌≡◌, ◌<◌, ◌≤◌, ◌+◌, IfOk};
+ghost use Rattle.std.specs.Prelude.{◌≡◌, ◌<◌, ◌≤◌, ◌+◌, ◌≤ℤ◌, pos, IfOk};
 
 use call_leg::Leg;
 use std::alloc::{AllocError, Global};
@@ -61,6 +61,32 @@ fn period(leg: &mut Leg, up: &[u8; 40]) -> ([u8; 160], [u8; 40])
     period_of(leg, up, 0xD5)
 }
 
+// Whether the exchange hears silence in a period without a frame, and the base station gets these octets.
+fn is_quiet(leg: &mut Leg, wanted: &[u8; 40]) -> bool
+    requires { leg.old.search.periods < 100 }
+    ensures { leg.new.search.periods ≡ leg.old.search.periods + 1 }
+{
+    let (out, down) = period(leg, &[0; 40]);
+    out == [0xD5; 160] && down == *wanted
+}
+
+// Whether so many periods without a frame, and as many frames made, are all that was counted.
+fn counted_alone(leg: &Leg, periods: u32) -> bool {
+    let periods = u64::from(periods);
+    let counts = Counts {
+        good: 0,
+        sid: 0,
+        invalid: 0,
+        bad: 0,
+        idle: 0,
+        other: 0,
+        miss: 0,
+        none: periods,
+        made: periods,
+    };
+    leg.counts() == counts
+}
+
 // Nothing is found on the uplink: the exchange hears silence, and the base station gets idle frames after 320 ones.
 #[test]
 fn without_frames_the_call_is_quiet(rt: HostRuntime) -> Result<(), Fail> {
@@ -70,48 +96,38 @@ fn without_frames_the_call_is_quiet(rt: HostRuntime) -> Result<(), Fail> {
     idle[2] = 0xB8;
     idle[3] = 0x0F;
     let mut leg = new_leg(rt.alloc(), 1)?;
-    assert!(rt; period(&mut leg, &[0; 40]) == ([0xD5; 160], [0xFF; 40]));
-    assert!(rt; period(&mut leg, &[0; 40]) == ([0xD5; 160], idle));
-    assert!(rt; period(&mut leg, &[0; 40]) == ([0xD5; 160], idle));
-    let counts = Counts {
-        good: 0,
-        sid: 0,
-        invalid: 0,
-        bad: 0,
-        idle: 0,
-        other: 0,
-        miss: 0,
-        none: 3,
-        made: 3,
-    };
-    assert_eq!(rt; leg.counts(), counts);
+    assert!(rt; is_quiet(&mut leg, &[0xFF; 40]));
+    assert!(rt; is_quiet(&mut leg, &idle));
+    assert!(rt; is_quiet(&mut leg, &idle));
+    assert!(rt; counted_alone(&leg, 3));
     Ok(())
+}
+
+// Works a period of good speech with this alignment field: whether its Down line begins and ends with these octets.
+fn sends(leg: &mut Leg, field: u8, begin: &[u8], end: &[u8]) -> bool
+    requires { leg.old.search.periods < 100 }
+    ensures { leg.new.search.periods ≡ leg.old.search.periods + 1 }
+{
+    let down = period(leg, &up(field, 9)).1;
+    down.starts_with(begin) && down.ends_with(end)
+}
+
+// The frames made, and the good ones heard.
+fn made_and_good(leg: &Leg) -> (u64, u64) {
+    let counts = leg.counts();
+    (counts.made, counts.good)
 }
 
 // Field 39 in period 0, 63 in period 2, 40 in period 3: 312 ones follow frame 0, and frame 1 has 316 bits.
 #[test]
 fn shifts_move_the_frames(rt: HostRuntime) -> Result<(), Fail> {
     let mut leg = new_leg(rt.alloc(), 7)?;
-    assert!(rt; period(&mut leg, &up(39, 9)).1 == [0xFF; 40]);
-    let first = period(&mut leg, &up(0, 9)).1;
-    assert_eq!(rt;
-        [first[0], first[1], first[2], first[3]],
-        [0x00, 0x00, 0xF0, 0x0F]
-    );
-    let second = period(&mut leg, &up(63, 9)).1;
-    assert_eq!(rt;
-        [second[0], second[37], second[38], second[39]],
-        [0xFF, 0xFF, 0xFF, 0x00]
-    );
-    let third = period(&mut leg, &up(40, 9)).1;
-    assert_eq!(rt;
-        [third[0], third[1], third[2], third[39]],
-        [0x00, 0xF0, 0x0F, 0x00]
-    );
-    let fourth = period(&mut leg, &up(0, 9)).1;
-    assert_eq!(rt; [fourth[0], fourth[1]], [0x0F, 0x00]);
-    assert_eq!(rt; leg.counts().made, 4);
-    assert_eq!(rt; leg.counts().good, 5);
+    assert!(rt; sends(&mut leg, 39, &[0xFF; 40], &[]));
+    assert!(rt; sends(&mut leg, 0, &[0x00, 0x00, 0xF0, 0x0F], &[]));
+    assert!(rt; sends(&mut leg, 63, &[0xFF], &[0xFF, 0xFF, 0x00]));
+    assert!(rt; sends(&mut leg, 40, &[0x00, 0xF0, 0x0F], &[0x00]));
+    assert!(rt; sends(&mut leg, 0, &[0x0F, 0x00], &[]));
+    assert!(rt; made_and_good(&leg) == (4, 5));
     Ok(())
 }
 
@@ -160,67 +176,184 @@ fn six_bridged(a: &mut Leg, b: &mut Leg) -> [u8; 6]
     octets
 }
 
+// Begins a bridge of two legs.
+fn begin_bridges(a: &mut Leg, b: &mut Leg)
+    ensures first { a.new.search.periods ≡ a.old.search.periods }
+    ensures second { b.new.search.periods ≡ b.old.search.periods }
+{
+    begin_bridge(a);
+    begin_bridge(b);
+}
+
+// Ends it.
+fn end_bridges(a: &mut Leg, b: &mut Leg)
+    ensures first { a.new.search.periods ≡ a.old.search.periods }
+    ensures second { b.new.search.periods ≡ b.old.search.periods }
+{
+    end_bridge(a);
+    end_bridge(b);
+}
+
+fn has_sent(leg: &Leg, frames: u32) -> bool {
+    leg.sent() == frames
+}
+
+fn drains(leg: &Leg) -> bool {
+    leg.draining()
+}
+
+// Works a period alone: the octet at this place of its Down line.
+fn octet_sent(leg: &mut Leg, place: usize) -> u8
+    requires place { place < 40 }
+    requires periods { leg.old.search.periods < 100 }
+    ensures { leg.new.search.periods ≡ leg.old.search.periods + 1 }
+{
+    period(leg, &up(0, 9)).1[place]
+}
+
+// Four periods of two new legs alone, and a bridge of six that goes on: whether the frames 4 to 7 of the first went out.
+fn go_on_to_a_bridge(a: &mut Leg, b: &mut Leg) -> bool
+    requires first { a.old.search.periods ≡ 0 }
+    requires second { b.old.search.periods ≡ 0 }
+    ensures { b.new.search.periods ≡ 10 }
+{
+    four_alone(a, b);
+    begin_bridges(a, b);
+    let octets = six_bridged(a, b);
+    octets.ends_with(&[4, 5, 6, 7])
+}
+
+// Whether the frames 8 and 9 of the first leg go out of the second after their bridge, and are the last.
+fn drains_two(leg: &mut Leg) -> bool
+    requires { leg.old.search.periods < 50 }
+{
+    let two = octet_sent(leg, 4) == 8 && octet_sent(leg, 4) == 9;
+    two && has_sent(leg, 6) && !drains(leg)
+}
+
+// The legs of the calls 7 and 9.
+fn two_legs(alloc: Global) -> Result<(Leg, Leg), AllocError>
+    ensures first { IfOk result (λ legs. legs.0.search.periods ≡ 0) }
+    ensures second { IfOk result (λ legs. legs.1.search.periods ≡ 0) }
+{
+    let a = new_leg(alloc, 7)?;
+    let b = new_leg(alloc, 9)?;
+    Ok((a, b))
+}
+
+// Ends the bridge: whether the first sent six frames and is done, and the second sent five and goes on.
+fn second_goes_on(a: &mut Leg, b: &mut Leg) -> bool
+    ensures { b.new.search.periods ≡ b.old.search.periods }
+{
+    let sent = has_sent(a, 6) && has_sent(b, 5);
+    end_bridges(a, b);
+    sent && !drains(a) && drains(b)
+}
+
 // Legs are bridged from period 4 to 10, and octets of the second are to be skipped at the start: the frames of the first
 // go out one period late, the last of them after the end.
 #[test]
 fn handed_frames_go_out_in_order(rt: HostRuntime) -> Result<(), Fail> {
-    let mut a = new_leg(rt.alloc(), 7)?;
-    let mut b = new_leg(rt.alloc(), 9)?;
-    four_alone(&mut a, &mut b);
-    begin_bridge(&mut a);
-    begin_bridge(&mut b);
-    let octets = six_bridged(&mut a, &mut b);
-    assert_eq!(rt; [octets[2], octets[3], octets[4], octets[5]], [4, 5, 6, 7]);
-    assert_eq!(rt; (a.sent(), b.sent()), (6, 5));
-    end_bridge(&mut a);
-    end_bridge(&mut b);
-    assert_eq!(rt; (a.draining(), b.draining()), (false, true));
-    let tenth = period(&mut b, &up(0, 9)).1;
-    let eleventh = period(&mut b, &up(0, 9)).1;
-    assert_eq!(rt; (tenth[4], eleventh[4]), (8, 9));
-    assert_eq!(rt; (b.sent(), b.draining()), (6, false));
+    let (mut a, mut b) = two_legs(rt.alloc())?;
+    assert!(rt; go_on_to_a_bridge(&mut a, &mut b));
+    assert!(rt; second_goes_on(&mut a, &mut b));
+    assert!(rt; drains_two(&mut b));
     Ok(())
+}
+
+// Works a bridge of one period with this octet of the first leg: whether the second has sent no frame at its start, and
+// one at its end.
+fn sends_one(a: &mut Leg, b: &mut Leg, d: u8) -> bool
+    requires first { a.old.search.periods < 100 }
+    requires second { b.old.search.periods < 100 }
+    ensures first { a.new.search.periods ≡ a.old.search.periods + 1 }
+    ensures second { b.new.search.periods ≡ b.old.search.periods + 1 }
+{
+    begin_bridges(a, b);
+    let none = has_sent(b, 0);
+    bridged(a, b, d);
+    end_bridges(a, b);
+    none && has_sent(b, 1)
+}
+
+// A period of both legs alone: the sixth octet of the second's Down line.
+fn after_bridge(a: &mut Leg, b: &mut Leg) -> u8
+    requires first { a.old.search.periods < 100 }
+    requires second { b.old.search.periods < 100 }
+    ensures first { a.new.search.periods ≡ a.old.search.periods + 1 }
+    ensures second { b.new.search.periods ≡ b.old.search.periods + 1 }
+{
+    period(a, &up(0, 9));
+    octet_sent(b, 5)
+}
+
+// The same; and whether none waits then, and the frame goes out in the next period.
+fn hands_one(a: &mut Leg, b: &mut Leg, d: u8) -> bool
+    requires first { a.old.search.periods < 50 }
+    requires second { b.old.search.periods < 50 }
+    ensures first { a.new.search.periods ≡ a.old.search.periods + 2 }
+    ensures second { b.new.search.periods ≡ b.old.search.periods + 2 }
+{
+    let one = sends_one(a, b, d) && !drains(b);
+    after_bridge(a, b) == d && one
 }
 
 // A bridge of one period hands over one frame, and so does the next one, two periods later.
 #[test]
 fn bridges_of_one_period(rt: HostRuntime) -> Result<(), Fail> {
-    let mut a = new_leg(rt.alloc(), 7)?;
-    let mut b = new_leg(rt.alloc(), 9)?;
-    begin_bridge(&mut a);
-    begin_bridge(&mut b);
-    bridged(&mut a, &mut b, 1);
-    end_bridge(&mut a);
-    end_bridge(&mut b);
-    assert_eq!(rt; (b.sent(), b.draining()), (1, false));
-    period(&mut a, &up(0, 9));
-    assert_eq!(rt; period(&mut b, &up(0, 9)).1[5], 1);
-    period(&mut a, &up(0, 9));
-    period(&mut b, &up(0, 9));
-    begin_bridge(&mut a);
-    begin_bridge(&mut b);
-    assert_eq!(rt; b.sent(), 0);
-    bridged(&mut a, &mut b, 4);
-    end_bridge(&mut a);
-    end_bridge(&mut b);
-    assert_eq!(rt; b.sent(), 1);
-    assert_eq!(rt; period(&mut b, &up(0, 9)).1[5], 4);
+    let (mut a, mut b) = two_legs(rt.alloc())?;
+    assert!(rt; hands_one(&mut a, &mut b, 1));
+    after_bridge(&mut a, &mut b);
+    assert!(rt; hands_one(&mut a, &mut b, 4));
     Ok(())
+}
+
+// Works a period of good speech in which the exchange speaks.
+fn spoken(leg: &mut Leg) -> ([u8; 160], [u8; 40])
+    requires { leg.old.search.periods < 100 }
+    ensures { leg.new.search.periods ≡ leg.old.search.periods + 1 }
+{
+    period_of(leg, &up(0, 9), 0x2A)
 }
 
 // After a bridge without any period the codecs are at home: the next frame is a first one.
 #[test]
 fn a_bridge_without_periods_goes_home(rt: HostRuntime) -> Result<(), Fail> {
     let mut leg = new_leg(rt.alloc(), 5)?;
-    let home = period_of(&mut leg, &up(0, 9), 0x2A).0;
-    let first = period_of(&mut leg, &up(0, 9), 0x2A).1;
+    let home = spoken(&mut leg).0;
+    let first = spoken(&mut leg).1;
     begin_bridge(&mut leg);
     end_bridge(&mut leg);
-    let again = period_of(&mut leg, &up(0, 9), 0x2A);
-    let second = again.1;
-    let third = period_of(&mut leg, &up(0, 9), 0x2A).1;
-    assert!(rt; again.0 == home && third == first && second != first);
+    let (again, second) = spoken(&mut leg);
+    let third = spoken(&mut leg).1;
+    assert!(rt; again == home && third == first && second != first);
     Ok(())
+}
+
+// Sets DTX on, and this level.
+fn with_level(leg: &mut Leg, level: i16)
+    requires { pos 0 ≤ℤ level }
+    ensures { leg.new.search.periods ≡ leg.old.search.periods }
+{
+    leg.set_dtx(DtxMode::On);
+    leg.set_level(level);
+}
+
+// Works a period of good speech and a silent exchange: whether its frame has SP 1.
+fn is_speech(leg: &mut Leg) -> bool
+    requires { leg.old.search.periods < 100 }
+    ensures { leg.new.search.periods ≡ leg.old.search.periods + 1 }
+{
+    octet_sent(leg, 38) & 2 == 2
+}
+
+// Works two of them.
+fn two_periods(leg: &mut Leg)
+    requires { leg.old.search.periods < 50 }
+    ensures { leg.new.search.periods ≡ leg.old.search.periods + 2 }
+{
+    is_speech(leg);
+    is_speech(leg);
 }
 
 // Where DTX is on and each peak lies below the level, the fifth frame is the first one with SP 0; at level 0 no frame
@@ -228,17 +361,13 @@ fn a_bridge_without_periods_goes_home(rt: HostRuntime) -> Result<(), Fail> {
 #[test]
 fn silence_by_level(rt: HostRuntime) -> Result<(), Fail> {
     let mut leg = new_leg(rt.alloc(), 3)?;
-    leg.set_dtx(DtxMode::On);
-    leg.set_level(32767);
-    period(&mut leg, &up(0, 9));
-    period(&mut leg, &up(0, 9));
-    period(&mut leg, &up(0, 9));
-    period(&mut leg, &up(0, 9));
-    let fourth = period(&mut leg, &up(0, 9)).1;
-    leg.set_level(0);
-    let fifth = period(&mut leg, &up(0, 9)).1;
-    let sixth = period(&mut leg, &up(0, 9)).1;
-    assert_eq!(rt; (fourth[38] & 2, fifth[38] & 2, sixth[38] & 2), (2, 0, 2));
+    with_level(&mut leg, 32767);
+    two_periods(&mut leg);
+    two_periods(&mut leg);
+    assert!(rt; is_speech(&mut leg));
+    with_level(&mut leg, 0);
+    assert!(rt; !is_speech(&mut leg));
+    assert!(rt; is_speech(&mut leg));
     Ok(())
 }
 

@@ -6,7 +6,6 @@ use call_pair::{Buffers, Half, Job, LegIo};
 use pool_run::Work;
 use rx_handler::Effective;
 use std::alloc::{AllocError, Global};
-use std::process::Abort;
 use std::test::Fail;
 
 // An uplink frame of good speech, but for D8 to D15, which `up` puts in place.
@@ -116,19 +115,41 @@ fn bridged(a: &mut Leg, first: &mut Lines, b: &mut Leg, second: &mut Lines, k: u
     speak(b, second, k);
 }
 
-fn has_octets(rt: &impl Abort, io: &LegIo, want: &Lines) {
-    assert!(rt; io.out.as_slice() == want.out.as_slice());
-    assert!(rt; io.down.as_slice() == want.down.as_slice());
+// Whether these octets of a call were given out.
+fn has_octets(io: &LegIo, want: &Lines) -> bool {
+    io.out.as_slice() == want.out.as_slice() && io.down.as_slice() == want.down.as_slice()
 }
 
-// The call, and how many periods are given.
-fn numbers(io: &LegIo) -> (u32, u32) {
-    (io.call, io.given)
+// Whether a job is of one call, with these octets.
+fn is_one(job: &Job, want: &Lines) -> bool {
+    match job {
+        Job::One(half) => has_octets(&half.io, want),
+        Job::Two(_first, _second) => false,
+    }
 }
 
-// Another variant than the job was made of.
-fn unreachable(rt: &impl Abort) {
-    panic!(rt; "another job");
+// Whether a job is of two calls, with these octets.
+fn is_two(job: &Job, first: &Lines, second: &Lines) -> bool {
+    match job {
+        Job::One(_half) => false,
+        Job::Two(a, b) => has_octets(&a.io, first) && has_octets(&b.io, second),
+    }
+}
+
+// Works so many places of a job: whether it is finished then.
+fn finished_after(job: &mut Job, places: u32) -> bool
+    requires { 1 ≤ places }
+{
+    job.slice(places);
+    job.finished()
+}
+
+// Whether a job isn't finished after so many places, and is after so many more.
+fn finished_between(job: &mut Job, early: u32, late: u32) -> bool
+    requires early { 1 ≤ early }
+    requires late { 1 ≤ late }
+{
+    !finished_after(job, early) && finished_after(job, late)
 }
 
 fn new_leg(alloc: Global, call: u32) -> Result<Leg, AllocError>
@@ -147,20 +168,21 @@ fn work_three(alloc: Global, lines: &mut Lines) -> Result<(), AllocError> {
     Ok(())
 }
 
-// Three of four periods of one call, in slices of two.
+// Works a job of call 7 with three of the periods of its lines, in slices of two: whether it ends with these octets.
+fn three_of_four(alloc: Global, given: &Lines, want: &Lines) -> Result<bool, AllocError> {
+    let mut job = Job::One(half(alloc, 7, given, 3)?);
+    let worked = finished_between(&mut job, 2, 2) && is_one(&job, want);
+    drop(job);
+    Ok(worked)
+}
+
+// Three of four periods of one call.
 #[test]
 fn one_call_has_its_octets(rt: HostRuntime) -> Result<(), Fail> {
+    let given = lines_with([3, 5, 8, 13]);
     let mut want = lines_with([3, 5, 8, 13]);
-    let mut job = Job::One(half(rt.alloc(), 7, &want, 3)?);
     work_three(rt.alloc(), &mut want)?;
-    job.slice(2);
-    assert!(rt; !job.finished());
-    job.slice(2);
-    assert!(rt; job.finished());
-    match job {
-        Job::One(half) => has_octets(&rt, &half.io, &want),
-        Job::Two(_first, _second) => unreachable(&rt),
-    }
+    assert!(rt; three_of_four(rt.alloc(), &given, &want)?);
     Ok(())
 }
 
@@ -197,51 +219,73 @@ fn work_two_and_two(
     Ok(())
 }
 
+// The lines of two calls.
+fn lines_of_two() -> (Lines, Lines) {
+    (lines_with([3, 5, 8, 13]), lines_with([21, 34, 55, 89]))
+}
+
 // The job of two bridged calls, 7 with four periods of its lines and 9 with two.
-fn longer_and_shorter(alloc: Global, first: &Lines, second: &Lines) -> Result<Job, AllocError> {
-    let mut long = half(alloc, 7, first, 4)?;
-    let mut short = half(alloc, 9, second, 2)?;
+fn longer_and_shorter(alloc: Global) -> Result<Job, AllocError> {
+    let (first, second) = lines_of_two();
+    let mut long = half(alloc, 7, &first, 4)?;
+    let mut short = half(alloc, 9, &second, 2)?;
     long.leg.bridge_on();
     short.leg.bridge_on();
     Ok(Job::Two(long, short))
 }
 
+// Works that job, in slices of three and one: whether it ends with these octets.
+fn four_and_two(alloc: Global, first: &Lines, second: &Lines) -> Result<bool, AllocError> {
+    let mut job = longer_and_shorter(alloc)?;
+    let worked = finished_between(&mut job, 3, 1) && is_two(&job, first, second);
+    drop(job);
+    Ok(worked)
+}
+
 // Four periods of a call whose partner has two: it is alone in the others.
 #[test]
 fn the_longer_of_two_goes_on_alone(rt: HostRuntime) -> Result<(), Fail> {
-    let (mut first, mut second) = (lines_with([3, 5, 8, 13]), lines_with([21, 34, 55, 89]));
-    let mut job = longer_and_shorter(rt.alloc(), &first, &second)?;
+    let (mut first, mut second) = lines_of_two();
     work_two_and_two(rt.alloc(), &mut first, &mut second)?;
-    job.slice(3);
-    assert!(rt; !job.finished());
-    job.slice(1);
-    assert!(rt; job.finished());
-    match job {
-        Job::One(_half) => unreachable(&rt),
-        Job::Two(long, short) => {
-            has_octets(&rt, &long.io, &first);
-            has_octets(&rt, &short.io, &second);
-        }
-    }
+    assert!(rt; four_and_two(rt.alloc(), &first, &second)?);
     Ok(())
+}
+
+// A job of the calls 7 and 9, and what was taken from call 9.
+fn taken_of_second(alloc: Global, given: &Lines) -> Result<(Job, LegIo), AllocError> {
+    let first = half(alloc, 7, given, 4)?;
+    let second = half(alloc, 9, given, 2)?;
+    let mut job = Job::Two(first, second);
+    let taken = job.swap_io(LegIo::none(alloc, 9));
+    Ok((job, taken))
+}
+
+// Whether the octets are of this call, which has so many periods.
+fn is_of(io: &LegIo, call: u32, periods: u32) -> bool {
+    io.call == call && io.given == periods
+}
+
+// Whether a job has four periods of call 7, and none of call 9.
+fn has_the_first_alone(job: &Job) -> bool {
+    match job {
+        Job::One(_half) => false,
+        Job::Two(first, second) => is_of(&first.io, 7, 4) && is_of(&second.io, 9, 0),
+    }
+}
+
+// Whether this Pcm line comes back.
+fn gives_pcm(io: LegIo, want: &Lines) -> bool {
+    io.into_buffers().pcm.as_slice() == want.pcm.as_slice()
 }
 
 // A job's octets are taken and given by the number of their call.
 #[test]
 fn octets_go_to_their_call(rt: HostRuntime) -> Result<(), Fail> {
     let given = lines_with([3, 5, 8, 13]);
-    let first = half(rt.alloc(), 7, &given, 4)?;
-    let second = half(rt.alloc(), 9, &given, 2)?;
-    let mut job = Job::Two(first, second);
-    let taken = job.swap_io(LegIo::none(rt.alloc(), 9));
-    assert_eq!(rt; numbers(&taken), (9, 2));
-    match job {
-        Job::One(_half) => unreachable(&rt),
-        Job::Two(first, second) => {
-            assert_eq!(rt; numbers(&first.io), (7, 4));
-            assert_eq!(rt; numbers(&second.io), (9, 0));
-        }
-    }
-    assert!(rt; taken.into_buffers().pcm.as_slice() == given.pcm.as_slice());
+    let (job, taken) = taken_of_second(rt.alloc(), &given)?;
+    assert!(rt; is_of(&taken, 9, 2));
+    assert!(rt; has_the_first_alone(&job));
+    assert!(rt; gives_pcm(taken, &given));
+    drop(job);
     Ok(())
 }

@@ -1,7 +1,8 @@
-ghost use Rattle.std.specs.Prelude.{◌≤◌};
+ghost use Rattle.std.specs.Prelude.{◌≤◌, ◌<◌};
 ghost use Rattle.down_framer.specs.Memory.{IsBetween};
 
 use down_framer::Framer;
+use std::alloc::{AllocError, Global};
 use std::test::Fail;
 use time_align::Align;
 
@@ -25,26 +26,43 @@ fn period(framer: &mut Framer, align: &mut Align, field: u8) -> ([u8; 40], u32)
     (down, made)
 }
 
+// Whether such a period has these downlink octets, and makes so many frames.
+fn gives(framer: &mut Framer, align: &mut Align, field: u8, octets: &[u8; 40], made: u32) -> bool
+    requires between { IsBetween framer.old }
+    requires field { field ≤ 63 }
+    ensures { IsBetween framer.new }
+{
+    let (down, frames) = period(framer, align, field);
+    down == *octets && frames == made
+}
+
+fn holds(framer: &Framer, stored: u32, held: u32, to_skip: u32) -> bool {
+    framer.stored() == stored && framer.held() == held && framer.to_skip() == to_skip
+}
+
+// Octets that are all the same but for one.
+fn octets_with(same: u8, place: usize, other: u8) -> [u8; 40]
+    requires { place < 40 }
+{
+    let mut octets = [same; 40];
+    octets[place] = other;
+    octets
+}
+
 // Field 39 in period 0, 63 in period 2, 40 in period 3. Frame 0 is followed by 312 ones, frame 1 has 316 bits.
 #[test]
 fn frames_at_their_places(rt: HostRuntime) -> Result<(), Fail> {
     let mut framer = Framer::new(rt.alloc())?;
     let mut align = Align::new();
-    let mut begins = [0; 40];
-    begins[0] = 0x80;
-    let mut ends = [0xFF; 40];
-    ends[39] = 0x80;
-    let mut follows = [0; 40];
-    follows[38] = 0x08;
-    assert!(rt; period(&mut framer, &mut align, 39) == ([0xFF; 40], 1));
-    assert_eq!(rt;
-        [framer.stored(), framer.held(), framer.to_skip()],
-        [632, 0, 156]
-    );
-    assert!(rt; period(&mut framer, &mut align, 0) == (begins, 0));
-    assert!(rt; period(&mut framer, &mut align, 63) == (ends, 1));
-    assert!(rt; period(&mut framer, &mut align, 40) == (follows, 1));
-    assert!(rt; period(&mut framer, &mut align, 0) == (follows, 1));
+    let begins = octets_with(0, 0, 0x80);
+    let ends = octets_with(0xFF, 39, 0x80);
+    let follows = octets_with(0, 38, 0x08);
+    assert!(rt; gives(&mut framer, &mut align, 39, &[0xFF; 40], 1));
+    assert!(rt; holds(&framer, 632, 0, 156));
+    assert!(rt; gives(&mut framer, &mut align, 0, &begins, 0));
+    assert!(rt; gives(&mut framer, &mut align, 63, &ends, 1));
+    assert!(rt; gives(&mut framer, &mut align, 40, &follows, 1));
+    assert!(rt; gives(&mut framer, &mut align, 0, &follows, 1));
     Ok(())
 }
 
@@ -66,11 +84,17 @@ fn frames_of(framer: &mut Framer, field: u8) -> (u32, u32)
     (frames, two_at)
 }
 
+// The same of a new framer.
+fn new_frames_of(alloc: Global, field: u8) -> Result<(u32, u32), AllocError>
+    requires { field ≤ 63 }
+{
+    let mut framer = Framer::new(alloc)?;
+    Ok(frames_of(&mut framer, field))
+}
+
 #[test]
 fn the_same_shift_in_each_period(rt: HostRuntime) -> Result<(), Fail> {
-    let mut late = Framer::new(rt.alloc())?;
-    assert_eq!(rt; frames_of(&mut late, 39), (51, 0));
-    let mut soon = Framer::new(rt.alloc())?;
-    assert_eq!(rt; frames_of(&mut soon, 63), (101, 79));
+    assert!(rt; new_frames_of(rt.alloc(), 39)? == (51, 0));
+    assert!(rt; new_frames_of(rt.alloc(), 63)? == (101, 79));
     Ok(())
 }

@@ -2,19 +2,36 @@ use rx_noise::noise_frame;
 use trau_num::Draw;
 use trau_params::{Params, silence};
 
+// A silence descriptor with each block maximum 20.
+fn descriptor() -> Params {
+    Params::new(
+        [1, 2, 3, 4, 5, 6, 7, 0],
+        [50; 4],
+        [1; 4],
+        [2; 4],
+        [20; 4],
+        [[5; 13]; 4],
+    )
+}
+
+// The descriptor's ratios and maxima, and the lags and gains of all noise.
+fn has_values(p: &Params) -> bool {
+    let fixed = p.nc == [40, 120, 40, 120] && p.bc == [0; 4];
+    fixed && p.larc == [1, 2, 3, 4, 5, 6, 7, 0] && p.xmaxc == [20; 4]
+}
+
 // The first draws of a source that starts at 7, worked by hand.
+fn has_draws(p: &Params) -> bool {
+    let (mc, pulses) = (p.mc, p.xmc[0]);
+    mc[0] == 3 && pulses.starts_with(&[1, 2, 2])
+}
+
 #[test]
 fn noise_falls_to_silence(rt: HostRuntime) {
-    let (nc, bc, mc) = ([50; 4], [1; 4], [2; 4]);
-    let sid = Params::new([1, 2, 3, 4, 5, 6, 7, 0], nc, bc, mc, [20; 4], [[5; 13]; 4]);
+    let sid = descriptor();
     let mut draw = Draw { r: 7 };
     let first = noise_frame(&sid, 0, &mut draw);
-    let (larc, nc, bc, mc) = (first.larc, first.nc, first.bc, first.mc);
-    let (xmaxc, pulses) = (first.xmaxc, first.xmc[0]);
-    assert_eq!(rt; larc, [1, 2, 3, 4, 5, 6, 7, 0]);
-    assert_eq!(rt; [nc, bc, xmaxc], [[40, 120, 40, 120], [0; 4], [20; 4]]);
-    assert_eq!(rt; [mc[0], pulses[0], pulses[1], pulses[2]], [3, 1, 2, 2]);
-    let lower = noise_frame(&sid, 1, &mut draw).xmaxc;
-    assert_eq!(rt; lower, [16; 4]);
+    assert!(rt; has_values(&first) && has_draws(&first));
+    assert!(rt; noise_frame(&sid, 1, &mut draw).xmaxc == [16; 4]);
     assert!(rt; noise_frame(&sid, 17, &mut draw) == silence());
 }

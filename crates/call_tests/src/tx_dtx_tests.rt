@@ -1,3 +1,5 @@
+ghost use Rattle.std.specs.Prelude.{◌≤ℤ◌, pos};
+
 use trau_params::{Params, Trace, silence};
 use tx_dtx::Tx;
 
@@ -18,27 +20,31 @@ fn spoken(tx: &mut Tx, frames: u32, active: bool) -> u32 {
     speech
 }
 
+// How many frames of a first pause of 7 go out as speech, and of a burst and a pause after it.
+fn spoken_in_turn(burst: u32, pause: u32) -> (u32, u32, u32) {
+    let mut tx = Tx::home();
+    let first = spoken(&mut tx, 7, false);
+    let second = spoken(&mut tx, burst, true);
+    (first, second, spoken(&mut tx, pause, false))
+}
+
 // A first pause, a burst and a pause: a pause has a hangover of four where it begins 24 frames or more after the last SID.
 #[test]
 fn pauses_between_bursts(rt: HostRuntime) {
     for burst in 1..31 {
         for pause in 1..31 {
-            let mut tx = Tx::home();
-            assert_eq!(rt; spoken(&mut tx, 7, false), 4);
-            assert_eq!(rt; spoken(&mut tx, burst, true), burst);
             let hangover = if burst >= 23 { 4.min(pause) } else { 0 };
-            assert_eq!(rt;
-                spoken(&mut tx, pause, false),
-                hangover,
+            assert!(rt;
+                spoken_in_turn(burst, pause) == (4, burst, hangover),
                 "burst {burst}, pause {pause}"
             );
         }
     }
-    assert_eq!(rt;
-        Tx::home().send(&silence(), &QUIET, 0, 0, true).1,
-        true,
-        "level 0"
-    );
+}
+
+#[test]
+fn level_0_has_no_silence(rt: HostRuntime) {
+    assert!(rt; Tx::home().send(&silence(), &QUIET, 0, 0, true).1);
 }
 
 // Frames by ratios 1 and 2 and the maximum of block 4, where all other ratios are 0 and all other maxima 511. The first
@@ -51,27 +57,50 @@ const FRAMES: [(i16, i16, i16); 5] = [
     (-409, 9000, 512),
 ];
 
-#[test]
-fn a_sid_of_the_last_four_frames(rt: HostRuntime) {
-    let mut tx = Tx::home();
+fn measures(first: i16, second: i16, maximum: i16) -> Trace
+    requires { pos 0 ≤ℤ maximum }
+{
+    Trace {
+        lar: [first, second, 0, 0, 0, 0, 0, 0],
+        xmax: [511, 511, 511, maximum],
+    }
+}
+
+// What goes out for the last of these frames.
+fn last_sent(tx: &mut Tx) -> (Params, bool) {
     let mut sent = (silence(), true);
     for (first, second, maximum) in FRAMES {
-        let measures = Trace {
-            lar: [first, second, 0, 0, 0, 0, 0, 0],
-            xmax: [511, 511, 511, maximum.max(0)],
-        };
-        sent = tx.send(&silence(), &measures, 0, 1, true);
+        sent = tx.send(
+            &silence(),
+            &measures(first, second, maximum.max(0)),
+            0,
+            1,
+            true,
+        );
     }
-    let expected = Params::new(
+    sent
+}
+
+fn expected() -> Params {
+    Params::new(
         [31, 37, 20, 11, 8, 5, 3, 2],
         [0; 4],
         [0; 4],
         [0; 4],
         [15; 4],
         [[0; 13]; 4],
-    );
-    assert!(rt; sent == (expected, false));
-    let last_sid = tx.send(&silence(), &QUIET, 0, 0, true);
-    assert!(rt; last_sid == (silence(), true));
-    assert!(rt; tx.send(&silence(), &QUIET, 0, 1, true) == (expected, false));
+    )
+}
+
+// Whether silence with this level goes out as wanted.
+fn sends(tx: &mut Tx, level: i16, wanted: (Params, bool)) -> bool {
+    tx.send(&silence(), &QUIET, 0, level, true) == wanted
+}
+
+#[test]
+fn a_sid_of_the_last_four_frames(rt: HostRuntime) {
+    let mut tx = Tx::home();
+    assert!(rt; last_sent(&mut tx) == (expected(), false));
+    assert!(rt; sends(&mut tx, 0, (silence(), true)));
+    assert!(rt; sends(&mut tx, 1, (expected(), false)));
 }

@@ -4,22 +4,60 @@ ghost use Rattle.std.specs.Prelude.{◌≡◌, ◌≤◌, ◌+◌, ◌<◌, IfOk
 
 use call_leg::Leg;
 use rx_handler::Effective;
-use std::alloc::Global;
+use std::alloc::{AllocError, Global};
 use std::{fmt, fs, io};
 
-/// A call: its leg, its incoming lines, what its outgoing lines must hold, and what was compared so far.
+/// The recorded lines of a call.
 #[derive(Drop)]
-pub(crate) struct Call {
-    number: u32,
-    pub(crate) leg: Leg,
+struct Lines {
     up: Vec<u8>,
     pcm: Vec<u8>,
     out: Vec<u8>,
     down: Vec<u8>,
-    // The periods so far, as a place in the lines.
-    place: usize,
+}
+
+/// How many octets were compared, and how many of them differ.
+#[derive(Clone, Copy)]
+struct Tally {
     compared: u64,
     differ: u64,
+}
+
+/// A call: its leg, its incoming lines and what its outgoing lines must hold, and what was compared so far.
+#[derive(Drop)]
+pub(crate) struct Call {
+    number: u32,
+    pub(crate) leg: Leg,
+    lines: Lines,
+    // The periods so far, as a place in the lines.
+    place: usize,
+    tally: Tally,
+}
+
+fn line(rt: &HostRuntime, number: u32, name: &str) -> io::Result<Vec<u8>> {
+    let path = format!(in rt.alloc(); "{number}.{name}")?;
+    fs::read(rt, path.as_str())
+}
+
+impl Lines {
+    fn read(rt: &HostRuntime, number: u32) -> io::Result<Lines> {
+        let up = line(rt, number, "up")?;
+        let pcm = line(rt, number, "pcm")?;
+        let out = line(rt, number, "out")?;
+        let down = line(rt, number, "down")?;
+        Ok(Lines { up, pcm, out, down })
+    }
+}
+
+impl Tally {
+    fn compare(&mut self, wanted: &[u8], got: &[u8]) {
+        for (wanted, got) in wanted.iter().zip(got) {
+            self.compared = self.compared.saturating_add(1);
+            if wanted != got {
+                self.differ = self.differ.saturating_add(1);
+            }
+        }
+    }
 }
 
 // The next octets of a line, `N` a period; 0 where it has no more.
@@ -32,52 +70,44 @@ fn next<const N: usize>(line: &[u8], place: usize) -> [u8; N] {
     octets
 }
 
+fn new_leg(alloc: Global, number: u32) -> Result<Leg, AllocError>
+    requires low { 1 ≤ number }
+    requires high { number ≤ 4096 }
+    ensures { IfOk result (λ l. l.search.periods ≡ 0) }
+{
+    Leg::new(alloc, number)
+}
+
 impl Call {
     /// The call with this number before its first period.
-    pub(crate) fn open(alloc: Global, rt: &HostRuntime, number: u32) -> io::Result<Call>
+    pub(crate) fn open(rt: &HostRuntime, number: u32) -> io::Result<Call>
         requires low { 1 ≤ number }
         requires high { number ≤ 4096 }
         ensures { IfOk result (λ c. c.leg.search.periods ≡ 0) }
     {
-        let up = fs::read(rt, format!(in alloc; "{number}.up")?.as_str())?;
-        let pcm = fs::read(rt, format!(in alloc; "{number}.pcm")?.as_str())?;
-        let out = fs::read(rt, format!(in alloc; "{number}.out")?.as_str())?;
-        let down = fs::read(rt, format!(in alloc; "{number}.down")?.as_str())?;
-        let leg = Leg::new(alloc, number)?;
+        let lines = Lines::read(rt, number)?;
+        let leg = new_leg(rt.alloc(), number)?;
+        let tally = Tally {
+            compared: 0,
+            differ: 0,
+        };
         Ok(Call {
             number,
             leg,
-            up,
-            pcm,
-            out,
-            down,
+            lines,
             place: 0,
-            compared: 0,
-            differ: 0,
+            tally,
         })
-    }
-
-    fn compare(&mut self, wanted: u8, got: u8)
-        ensures { self.new.leg ≡ self.old.leg }
-    {
-        self.compared = self.compared.saturating_add(1);
-        if wanted != got {
-            self.differ = self.differ.saturating_add(1);
-        }
     }
 
     // Compares the octets of a period, and goes on to the next.
     fn end_period(&mut self, out: &[u8; 160], down: &[u8; 40])
         ensures { self.new.leg ≡ self.old.leg }
     {
-        let wanted_out = next::<160>(self.out.as_slice(), self.place);
-        for (wanted, got) in wanted_out.iter().zip(out.iter()) {
-            self.compare(*wanted, *got);
-        }
-        let wanted_down = next::<40>(self.down.as_slice(), self.place);
-        for (wanted, got) in wanted_down.iter().zip(down.iter()) {
-            self.compare(*wanted, *got);
-        }
+        let wanted_out = next::<160>(self.lines.out.as_slice(), self.place);
+        self.tally.compare(&wanted_out, out);
+        let wanted_down = next::<40>(self.lines.down.as_slice(), self.place);
+        self.tally.compare(&wanted_down, down);
         self.place = self.place.wrapping_add(1);
     }
 
@@ -85,14 +115,14 @@ impl Call {
         requires { self.old.leg.search.periods < 4294967295 }
         ensures { self.new.leg.search.periods ≡ self.old.leg.search.periods + 1 }
     {
-        let up = next::<40>(self.up.as_slice(), self.place);
+        let up = next::<40>(self.lines.up.as_slice(), self.place);
         self.leg.up_half(&up, out)
     }
 
     fn send(&mut self, out: &[u8; 160])
         ensures { self.new.leg.search.periods ≡ self.old.leg.search.periods }
     {
-        let pcm = next::<160>(self.pcm.as_slice(), self.place);
+        let pcm = next::<160>(self.lines.pcm.as_slice(), self.place);
         let mut down = [0; 40];
         self.leg.down_half(&pcm, &mut down);
         self.end_period(out, &down);
@@ -135,7 +165,7 @@ impl fmt::Display for Call {
         write!(
             f,
             "call {} compared {} differ {}",
-            self.number, self.compared, self.differ
+            self.number, self.tally.compared, self.tally.differ
         )
     }
 }

@@ -1,6 +1,6 @@
 //! What a case found: how many values were compared, and the first that differs.
 
-use std::fmt;
+use std::{fmt, io};
 
 #[derive(Clone, Copy)]
 struct Difference {
@@ -33,6 +33,26 @@ impl Comparison {
         }
         self.compared = self.compared.saturating_add(1);
     }
+
+    /// Compares with a word of a line. One that is missing, or no number, equals no value.
+    pub(crate) fn compare_word(&mut self, wanted: Option<&str>, got: i32) {
+        let number = match wanted {
+            None => i32::MIN,
+            Some(word) => word.parse().unwrap_or(i32::MIN),
+        };
+        self.compare(number, got);
+    }
+}
+
+/// Prints the line of a case.
+pub(crate) fn print_case(
+    rt: &HostRuntime,
+    case: &str,
+    vectors: &str,
+    found: io::Result<Comparison>,
+) -> io::Result<()> {
+    let comparison = found?;
+    println!(rt; "{case} {vectors} {comparison}")
 }
 
 impl fmt::Display for Comparison {

@@ -1,7 +1,9 @@
 //! The decoder: whole uplinks to A-law, and single samples.
 
-use crate::comparison::Comparison;
+use crate::comparison::{Comparison, print_case};
+use crate::files::octets_and_text;
 use fr_decoder::Decoder;
+use std::slice::Iter;
 use std::{fs, io};
 use trau_alaw::compress;
 use trau_bits::unpack;
@@ -19,49 +21,83 @@ fn parameters(block: &[u8; 40]) -> Option<Params> {
     }
 }
 
-/// `name.up` is an aligned uplink, and `name.out` the A-law of its decoded samples, from home.
-pub(crate) fn decoded(rt: &HostRuntime, up: &str, out: &str) -> io::Result<Comparison> {
-    let up = fs::read(rt, up)?;
-    let out = fs::read(rt, out)?;
+/// The samples of an uplink frame; 0 where the octets are none.
+fn decode(decoder: &mut Decoder, octets: &[u8]) -> [i16; 160] {
+    let mut x = [0; 160];
+    if let Some(p) = octets.first_chunk::<40>().and_then(parameters) {
+        decoder.decode(&p, &mut x);
+    }
+    x
+}
+
+/// Compares the samples of a frame with the next octets of a line of A-law.
+fn compare_codes(comparison: &mut Comparison, wanted: &mut Iter<u8>, samples: &[i16; 160]) {
+    for sample in samples {
+        let octet = wanted.next().map_or(-1, |octet| i32::from(*octet));
+        comparison.compare(octet, i32::from(compress(*sample)));
+    }
+}
+
+fn compare_line(up: &[u8], out: &[u8]) -> Comparison {
     let mut comparison = Comparison::new();
     let mut decoder = Decoder::home();
     let mut wanted = out.iter();
-    for block in up.chunks(40) {
-        let mut x = [0; 160];
-        if let Some(p) = block.first_chunk::<40>().and_then(parameters) {
-            decoder.decode(&p, &mut x);
-        }
-        for sample in x {
-            let octet = wanted.next().map_or(-1, |octet| i32::from(*octet));
-            comparison.compare(octet, i32::from(compress(sample)));
-        }
+    for octets in up.chunks(40) {
+        compare_codes(&mut comparison, &mut wanted, &decode(&mut decoder, octets));
     }
     comparison.compare(0, wanted.len().min(1) as i32);
-    Ok(comparison)
+    comparison
+}
+
+/// `name.up` is an aligned uplink, and `name.out` the A-law of its decoded samples, from home.
+fn decoded(rt: &HostRuntime, up: &str, out: &str) -> io::Result<Comparison> {
+    let up = fs::read(rt, up)?;
+    let out = fs::read(rt, out)?;
+    Ok(compare_line(up.as_slice(), out.as_slice()))
+}
+
+/// Compares the samples of a frame with the words of a line of text.
+fn compare_words(comparison: &mut Comparison, wanted: Option<&str>, samples: &[i16; 160]) {
+    let mut words = wanted.unwrap_or("").split(' ');
+    for sample in samples {
+        comparison.compare_word(words.next(), i32::from(*sample));
+    }
+}
+
+/// Whether the text has a line for this frame.
+fn has_line(number: usize) -> bool {
+    number < 20 || (150..160).contains(&number)
+}
+
+fn compare_text(up: &[u8], text: &str) -> Comparison {
+    let mut comparison = Comparison::new();
+    let mut decoder = Decoder::home();
+    let mut lines = text.lines();
+    let mut number = 0usize;
+    for octets in up.chunks(40) {
+        if has_line(number) {
+            let x = decode(&mut decoder, octets);
+            compare_words(&mut comparison, lines.next(), &x);
+        }
+        number = number.wrapping_add(1);
+    }
+    comparison
 }
 
 /// Each line of the text has the 160 samples of a frame: of the first twenty of the uplink, and then, as if they
 /// followed at once, of the ten from frame 150 on.
-pub(crate) fn samples(rt: &HostRuntime, up: &str, text: &str) -> io::Result<Comparison> {
-    let up = fs::read(rt, up)?;
-    let text = fs::read_to_string(rt, text)?;
-    let mut comparison = Comparison::new();
-    let mut decoder = Decoder::home();
-    let mut lines = text.lines();
-    for (number, block) in up.chunks(40).enumerate() {
-        if number < 20 || (150..160).contains(&number) {
-            let mut x = [0; 160];
-            if let Some(p) = block.first_chunk::<40>().and_then(parameters) {
-                decoder.decode(&p, &mut x);
-            }
-            let mut wanted = lines.next().unwrap_or("").split(' ');
-            for sample in x {
-                let value = wanted
-                    .next()
-                    .map_or(i32::MIN, |word| word.parse().unwrap_or(i32::MIN));
-                comparison.compare(value, i32::from(sample));
-            }
-        }
-    }
-    Ok(comparison)
+fn samples(rt: &HostRuntime) -> io::Result<Comparison> {
+    let (up, text) = octets_and_text(rt, "harsh.up", "harsh.samples.txt")?;
+    Ok(compare_text(up.as_slice(), text.as_str()))
+}
+
+/// Prints a line for each case.
+pub(crate) fn print(rt: &HostRuntime) -> io::Result<()> {
+    let english = decoded(rt, "speech-en-m3.up", "speech-en-m3.out");
+    print_case(rt, "decode", "speech-en-m3.up", english)?;
+    let loud = decoded(rt, "speech-loud-m7.up", "speech-loud-m7.out");
+    print_case(rt, "decode", "speech-loud-m7.up", loud)?;
+    let harsh = decoded(rt, "harsh.up", "harsh.out");
+    print_case(rt, "decode", "harsh.up", harsh)?;
+    print_case(rt, "samples", "harsh.up", samples(rt))
 }

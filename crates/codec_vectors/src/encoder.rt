@@ -1,8 +1,9 @@
 //! The encoder: the 76 parameters of each frame, and the downlink frame of silence.
 
-use crate::comparison::Comparison;
+use crate::comparison::{Comparison, print_case};
+use crate::files::octets_and_text;
 use fr_encoder::Encoder;
-use std::{fs, io};
+use std::io;
 use trau_alaw::expand;
 use trau_bits::pack;
 use trau_frame::{DownFrame, write_down};
@@ -32,22 +33,35 @@ fn in_order(p: &Params) -> [u8; 76] {
     all
 }
 
-/// `pcm` has the A-law of a call, 160 octets a frame, and each line of the text the parameters of a frame.
-pub(crate) fn parameters(rt: &HostRuntime, pcm: &str, text: &str) -> io::Result<Comparison> {
-    let pcm = fs::read(rt, pcm)?;
-    let text = fs::read_to_string(rt, text)?;
+/// The parameters of the next frame.
+fn encode(encoder: &mut Encoder, octets: &[u8]) -> [u8; 76] {
+    let (params, _trace, _peak) = encoder.encode(&samples(octets));
+    in_order(&params)
+}
+
+/// Compares the parameters of a frame with the words of a line.
+fn compare_words(comparison: &mut Comparison, wanted: Option<&str>, parameters: &[u8; 76]) {
+    let mut words = wanted.unwrap_or("").split(' ');
+    for parameter in parameters {
+        comparison.compare_word(words.next(), i32::from(*parameter));
+    }
+}
+
+fn compare_text(pcm: &[u8], text: &str) -> Comparison {
     let mut comparison = Comparison::new();
     let mut encoder = Encoder::home();
     let mut lines = text.lines();
     for octets in pcm.chunks(160) {
-        let (params, _trace, _peak) = encoder.encode(&samples(octets));
-        let mut wanted = lines.next().unwrap_or("").split(' ');
-        for parameter in in_order(&params) {
-            let value = wanted.next().map_or(-1, |word| word.parse().unwrap_or(-1));
-            comparison.compare(value, i32::from(parameter));
-        }
+        let all = encode(&mut encoder, octets);
+        compare_words(&mut comparison, lines.next(), &all);
     }
-    Ok(comparison)
+    comparison
+}
+
+/// `harsh.pcm` has the A-law of a call, 160 octets a frame, and each line of the text the parameters of a frame.
+fn parameters(rt: &HostRuntime) -> io::Result<Comparison> {
+    let (pcm, text) = octets_and_text(rt, "harsh.pcm", "harsh.parameters.txt")?;
+    Ok(compare_text(pcm.as_slice(), text.as_str()))
 }
 
 /// The downlink frame with SP 1 of 160 samples 0, encoded from home, worked by hand from the tables of GSM 06.10 and
@@ -58,19 +72,36 @@ const SILENCE: [u8; 40] = [
     0x80, 0x02, 0xA4, 0x92, 0xA4, 0x92, 0xA7, 0xFF,
 ];
 
-/// The octets of that frame, and the peak, which is 0.
-pub(crate) fn silence() -> Comparison {
-    let (params, _trace, peak) = Encoder::home().encode(&[0; 160]);
+/// The octets of the downlink frame with SP 1.
+fn down_octets(params: &Params) -> [u8; 40] {
     let mut d = [0; 260];
     params.to_bits(&mut d);
     let mut bits = [0; 320];
     write_down(&DownFrame::Speech { d, sp: true }, &mut bits);
     let mut octets = [0; 40];
     pack(&bits, &mut octets);
+    octets
+}
+
+/// The parameters of the first frame of silence, and its peak.
+fn encode_silence() -> (Params, i16) {
+    let (params, _trace, peak) = Encoder::home().encode(&[0; 160]);
+    (params, peak)
+}
+
+/// The octets of that frame, and the peak, which is 0.
+fn silence() -> Comparison {
+    let (params, peak) = encode_silence();
     let mut comparison = Comparison::new();
-    for (wanted, got) in SILENCE.iter().zip(&octets) {
+    for (wanted, got) in SILENCE.iter().zip(&down_octets(&params)) {
         comparison.compare(i32::from(*wanted), i32::from(*got));
     }
     comparison.compare(0, i32::from(peak));
     comparison
+}
+
+/// Prints a line for each case.
+pub(crate) fn print(rt: &HostRuntime) -> io::Result<()> {
+    print_case(rt, "encode", "harsh.pcm", parameters(rt))?;
+    print_case(rt, "encode", "silence", Ok(silence()))
 }

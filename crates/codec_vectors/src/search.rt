@@ -1,11 +1,11 @@
 //! The search for frames: what stands on the uplinks of a farm, and lines made here.
 
-ghost use Rattle.std.specs.Prelude.{◌<◌};
+ghost use Rattle.std.specs.Prelude.{◌≡◌, ◌<◌, ◌+◌};
 ghost use Rattle.trau_bits.specs.Bits.{AreBits};
 ghost use Rattle.trau_frame.specs.Frame.{Synced};
 ghost use Rattle.frame_sync.specs.Periods.{CarriesFrame};
 
-use crate::comparison::Comparison;
+use crate::comparison::{Comparison, print_case};
 use frame_sync::{FrameSync, Yield};
 use std::{fs, io};
 use trau_bits::{get_bit, pack, put_bit};
@@ -48,21 +48,30 @@ fn yield_count(found: Yield) -> usize
     }
 }
 
+/// Which count the next period of an uplink belongs to.
+fn next_count(sync: &mut FrameSync, octets: &[u8; 40]) -> usize
+    requires { sync.old.periods < 4294967295 }
+    ensures count { result < 8 }
+    ensures periods { sync.new.periods ≡ sync.old.periods + 1 }
+{
+    match sync.feed(octets) {
+        None => 7,
+        Some(found) => yield_count(found),
+    }
+}
+
 /// The eight counts of the first periods of an uplink.
 fn counts(up: &[u8], periods: u32) -> [i32; 8] {
     let mut counts = [0i32; 8];
     let mut sync = FrameSync::new();
     let mut rest = up;
     for period in 0..periods {
-        let Some(octets) = rest.first_chunk::<40>() else {
+        let Some((octets, behind)) = rest.split_first_chunk::<40>() else {
             break;
         };
-        let count = match sync.feed(octets) {
-            None => 7,
-            Some(found) => yield_count(found),
-        };
+        let count = next_count(&mut sync, octets);
         counts[count] = counts[count].saturating_add(1);
-        rest = &rest[40..];
+        rest = behind;
     }
     counts
 }
@@ -74,25 +83,44 @@ fn number(line: &str, index: usize) -> u32 {
         .map_or(0, |word| word.parse().unwrap_or(0))
 }
 
-/// The report of a farm has for each call a line `call C from S to E`, and behind it one with its counts. The uplink of
-/// call C is `farm-C.up`, from period S on.
-pub(crate) fn farm(rt: &HostRuntime, report: &str) -> io::Result<Comparison> {
-    let report = fs::read_to_string(rt, report)?;
+fn uplink(rt: &HostRuntime, call: u32) -> io::Result<Vec<u8>> {
+    let name = format!(in rt.alloc(); "farm-{call}.up")?;
+    fs::read(rt, name.as_str())
+}
+
+/// The counts of the call that a line `call C from S to E` names.
+fn counts_of(rt: &HostRuntime, line: &str) -> io::Result<[i32; 8]> {
+    let up = uplink(rt, number(line, 1))?;
+    let periods = number(line, 5).saturating_sub(number(line, 3));
+    Ok(counts(up.as_slice(), periods))
+}
+
+/// Compares counts with those of a line.
+fn compare_counts(comparison: &mut Comparison, line: &str, counts: &[i32; 8]) {
+    for (k, got) in counts.iter().enumerate() {
+        let wanted = i32::try_from(number(line, 3 + 2 * k)).unwrap_or(-1);
+        comparison.compare(wanted, *got);
+    }
+}
+
+fn compare_report(rt: &HostRuntime, report: &str) -> io::Result<Comparison> {
     let mut comparison = Comparison::new();
     let mut counted = [0; 8];
     for line in report.lines() {
         if line.starts_with("call ") {
-            let name = format!(in rt.alloc(); "farm-{}.up", number(line, 1))?;
-            let up = fs::read(rt, &name)?;
-            counted = counts(&up, number(line, 5).saturating_sub(number(line, 3)));
+            counted = counts_of(rt, line)?;
         } else if line.starts_with("counts ") {
-            for (k, got) in counted.iter().enumerate() {
-                let wanted = i32::try_from(number(line, 3 + 2 * k)).unwrap_or(-1);
-                comparison.compare(wanted, *got);
-            }
+            compare_counts(&mut comparison, line, &counted);
         }
     }
     Ok(comparison)
+}
+
+/// The report of a farm has for each call a line `call C from S to E`, and behind it one with its counts. The uplink of
+/// call C is `farm-C.up`, from period S on.
+fn farm(rt: &HostRuntime) -> io::Result<Comparison> {
+    let report = fs::read_to_string(rt, "farm-report.txt")?;
+    compare_report(rt, report.as_str())
 }
 
 // ---- lines made here
@@ -166,7 +194,7 @@ fn wanted_of(offset: u16, period: usize) -> i32
 }
 
 /// A frame at each of 320 offsets.
-pub(crate) fn offsets() -> Comparison {
+fn offsets() -> Comparison {
     let mut comparison = Comparison::new();
     for offset in 0..320 {
         let all = searched(&line(&[usize::from(offset)]));
@@ -178,7 +206,7 @@ pub(crate) fn offsets() -> Comparison {
 }
 
 /// Lines worked by hand.
-pub(crate) fn lines() -> Comparison {
+fn lines() -> Comparison {
     let mut comparison = Comparison::new();
     // Five bits too many behind the second frame: three misses, and then the search finds the frames again.
     let slipped = [0, 320, 645, 965, 1285, 1605, 1925, 2245, 2565, 2885, 3205];
@@ -206,4 +234,11 @@ fn compare_line(comparison: &mut Comparison, places: &[usize], wanted: &[i32; 12
     for (want, got) in wanted.iter().zip(all.iter()) {
         comparison.compare(*want, *got);
     }
+}
+
+/// Prints a line for each case.
+pub(crate) fn print(rt: &HostRuntime) -> io::Result<()> {
+    print_case(rt, "search", "farm-report.txt", farm(rt))?;
+    print_case(rt, "search", "offsets", Ok(offsets()))?;
+    print_case(rt, "search", "lines", Ok(lines()))
 }
