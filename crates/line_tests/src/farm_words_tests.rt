@@ -1,6 +1,5 @@
 use farm_words::{Asked, Settings, WordsFault, read_words};
 use std::alloc::{AllocError, Global};
-use std::test::Fail;
 
 // A line's words, with one space between them.
 fn split(alloc: Global, line: &str) -> Result<Vec<String>, AllocError> {
@@ -11,10 +10,12 @@ fn split(alloc: Global, line: &str) -> Result<Vec<String>, AllocError> {
     Ok(words)
 }
 
-// What is answered to a line's words.
-fn answer_to(alloc: Global, line: &str) -> Result<Result<Asked, WordsFault>, AllocError> {
-    let words = split(alloc, line)?;
-    Ok(read_words(alloc, &words))
+// Whether this is answered to a line's words.
+fn is_answered(alloc: Global, line: &str, answer: Result<Asked, WordsFault>) -> bool {
+    match split(alloc, line) {
+        Ok(words) => read_words(alloc, &words) == answer,
+        Err(_) => false,
+    }
 }
 
 // A run's four settings.
@@ -28,8 +29,7 @@ fn run(workers: u32, batch: u32, slice: u32, periods: u32) -> Result<Asked, Word
 }
 
 #[test]
-fn options_of_a_run(rt: HostRuntime) -> Result<(), Fail> {
-    let alloc = rt.alloc();
+fn options_of_a_run(rt: HostRuntime) {
     let most = 4_294_967_295;
     for (line, answer) in [
         ("run", run(4, 50, 5, most)),
@@ -45,28 +45,29 @@ fn options_of_a_run(rt: HostRuntime) -> Result<(), Fail> {
         ("run --", run(4, 50, 5, most)),
         ("run --slice 2 --", run(4, 50, 2, most)),
     ] {
-        assert_eq!(rt; answer_to(alloc, line)?, answer, "at {line}");
+        assert!(rt; is_answered(rt.alloc(), line, answer), "at {line}");
     }
-    Ok(())
 }
 
 #[test]
-fn calls_of_tools(rt: HostRuntime) -> Result<(), Fail> {
-    let alloc = rt.alloc();
+fn calls_of_tools(rt: HostRuntime) {
     for (line, answer) in [
         ("relay 7", Asked::Relay(7)),
         ("frames 1", Asked::Frames(1)),
         ("encode 1024", Asked::Encode(1024)),
         ("decode 10", Asked::Decode(10)),
     ] {
-        assert_eq!(rt; answer_to(alloc, line)?, Ok(answer), "at {line}");
+        assert!(rt; is_answered(rt.alloc(), line, Ok(answer)), "at {line}");
     }
-    Ok(())
+}
+
+// Whether a line's words ask for nothing.
+fn is_usage(alloc: Global, line: &str) -> bool {
+    is_answered(alloc, line, Err(WordsFault::Usage))
 }
 
 #[test]
-fn other_words_are_usage(rt: HostRuntime) -> Result<(), Fail> {
-    let alloc = rt.alloc();
+fn other_words_are_usage(rt: HostRuntime) {
     for line in [
         "run --workers 0",
         "run --workers 65",
@@ -106,12 +107,11 @@ fn other_words_are_usage(rt: HostRuntime) -> Result<(), Fail> {
         "7",
         "",
     ] {
-        assert_eq!(rt;
-            answer_to(alloc, line)?,
-            Err(WordsFault::Usage),
-            "at {line}"
-        );
+        assert!(rt; is_usage(rt.alloc(), line), "at {line}");
     }
-    assert_eq!(rt; read_words(alloc, &[]), Err(WordsFault::Usage));
-    Ok(())
+}
+
+#[test]
+fn no_words_are_usage(rt: HostRuntime) {
+    assert!(rt; read_words(rt.alloc(), &[]) == Err(WordsFault::Usage));
 }

@@ -36,37 +36,41 @@ fn with_control(first: u8, second: u8, last: u8) -> Option<UpFrame> {
     read(&octets)
 }
 
-#[test]
-fn good_speech_is_read_and_relayed(rt: HostRuntime) {
+// The octets of an uplink frame.
+fn up_octets(frame: &UpFrame) -> [u8; 40] {
     let mut bits = [0; 320];
     let mut octets = [0; 40];
-    unpack(&UP, &mut bits);
-    assert!(rt; sync_matches(&bits));
-    let frame = read_up(&bits);
-    assert!(rt; frame.kind == Kind::Speech && frame.class == Class::Good);
-    assert!(rt; !frame.taf && !frame.dtxd && frame.align == 0);
-    write_up(&frame, &mut bits);
+    write_up(frame, &mut bits);
     pack(&bits, &mut octets);
-    assert!(rt; octets == UP);
-    write_down(
-        &DownFrame::Speech {
-            d: frame.d,
-            sp: true,
-        },
-        &mut bits,
-    );
+    octets
+}
+
+// The octets of the downlink frame with its data bits.
+fn down_octets(frame: &UpFrame, sp: bool) -> [u8; 40] {
+    let mut bits = [0; 320];
+    let mut octets = [0; 40];
+    write_down(&DownFrame::Speech { d: frame.d, sp }, &mut bits);
     pack(&bits, &mut octets);
-    assert!(rt; octets == DOWN);
+    octets
+}
+
+// Whether a frame is one of good speech, without flags and without a time alignment.
+fn is_good(frame: &UpFrame) -> bool {
+    frame.kind == Kind::Speech
+        && frame.class == Class::Good
+        && !frame.taf
+        && !frame.dtxd
+        && frame.align == 0
+}
+
+#[test]
+fn good_speech_is_read_and_relayed(rt: HostRuntime) {
+    let frame = read(&UP).expect(&rt, "it is in sync");
+    assert!(rt; is_good(&frame));
+    assert!(rt; up_octets(&frame) == UP);
+    assert!(rt; down_octets(&frame, true) == DOWN);
     // SP is the second bit from the end of octet 38.
-    write_down(
-        &DownFrame::Speech {
-            d: frame.d,
-            sp: false,
-        },
-        &mut bits,
-    );
-    pack(&bits, &mut octets);
-    assert_eq!(rt; octets[38], 0xA5);
+    assert!(rt; down_octets(&frame, false)[38] == 0xA5);
 }
 
 #[test]
