@@ -87,10 +87,15 @@ fn an_idle_frame_is_written(rt: HostRuntime) {
     assert!(rt; octets == want);
 }
 
+// Whether a speech frame with this octet at place 3 is of this class.
+fn is_of_class(octet: u8, class: Class) -> bool {
+    with_control(0x88, octet, 0xA6).is_some_and(|frame| frame.class == class)
+}
+
+// The four lowest bits of octet 3 are the bad frame indicator, the two silence descriptor bits, and TAF.
 #[test]
-fn control_bits_are_read(rt: HostRuntime) {
-    // The four lowest bits of octet 3 are the bad frame indicator, the two silence descriptor bits, and TAF.
-    let classes = [
+fn classes_are_read(rt: HostRuntime) {
+    for (octet, class) in [
         (0x00, Class::Good),
         (0x04, Class::Sid),
         (0x02, Class::InvalidSid),
@@ -99,25 +104,25 @@ fn control_bits_are_read(rt: HostRuntime) {
         (0x08, Class::Unusable),
         (0x06, Class::InvalidSid),
         (0x0E, Class::InvalidSid),
-    ];
-    for (octet, class) in classes {
-        assert!(rt;
-            with_control(0x88, octet, 0xA6).is_some_and(|frame| frame.class == class),
-            "at {octet}"
-        );
+    ] {
+        assert!(rt; is_of_class(octet, class), "at {octet}");
     }
+}
+
+// Whether a frame with this octet at place 2 is unusable and of this kind.
+fn is_of_kind(octet: u8, kind: Kind) -> bool {
+    with_control(octet, 0x00, 0xA6).is_some_and(|frame| frame.kind == kind
+        && frame.class == Class::Unusable)
+}
+
+#[test]
+fn control_bits_are_read(rt: HostRuntime) {
     // The field 100101 is 37; TAF and DTXd.
     let frame = with_control(0x8A, 0x51, 0xA7);
     assert!(rt; frame.is_some_and(|frame| frame.align == 37 && frame.taf && frame.dtxd));
     // The patterns 10000 and 11111.
-    let idle = with_control(0xC0, 0x00, 0xA6);
-    assert!(rt;
-        idle.is_some_and(|frame| frame.kind == Kind::Idle && frame.class == Class::Unusable)
-    );
-    let other = with_control(0xFC, 0x00, 0xA6);
-    assert!(rt;
-        other.is_some_and(|frame| frame.kind == Kind::Other && frame.class == Class::Unusable)
-    );
+    assert!(rt; is_of_kind(0xC0, Kind::Idle));
+    assert!(rt; is_of_kind(0xFC, Kind::Other));
     // The last sync bit is missing.
     assert!(rt; with_control(0x88, 0x00, 0x26).is_none());
 }

@@ -1,6 +1,6 @@
 use std::alloc::{AllocError, Global};
 use std::test::Fail;
-use trau_orders::{DtxMode, Order, OrderFault, Orders, What};
+use trau_orders::{DtxMode, OrderFault, Orders, What};
 
 // Whole runs' orders, recorded with the answers of a separate program.
 const CLEAN_FARM: &str =
@@ -117,13 +117,21 @@ fn the_most_lines_are_orders(rt: HostRuntime) -> Result<(), Fail> {
 const LINES: &[u8] =
     b"0 open 1\n0 open 2\n0 open 3\n0 open 1\n0 bridge 1 1\n0 bridge 1 2\n0 bridge 3 2\n0 unbridge 3\n1 unbridge 2\n1 bridge 3 1\n1 close 3\n1 open 3\n1 level 9 0\n1 level 1024 32767\n35 dtx 1 on\n108 dtx 3 off\n4294967294 dtx 1 uplink";
 
-// Whether an order is to be done then.
-fn is_order(order: &Order, stamp: u32, what: What) -> bool {
-    order.stamp == stamp && order.what == what
+// Whether a text spells these orders.
+fn spells(alloc: Global, text: &[u8], wanted: &[(u32, What)]) -> bool {
+    let Ok(orders) = Orders::parse(alloc, text) else {
+        return false;
+    };
+    for (order, (stamp, what)) in orders.list().iter().zip(wanted) {
+        if order.stamp != *stamp || order.what != *what {
+            return false;
+        }
+    }
+    orders.list().len() == wanted.len()
 }
 
 #[test]
-fn lines_and_their_orders(rt: HostRuntime) -> Result<(), Fail> {
+fn lines_and_their_orders(rt: HostRuntime) {
     let wanted = [
         (0, What::OpenCall(1)),
         (0, What::OpenCall(2)),
@@ -143,10 +151,5 @@ fn lines_and_their_orders(rt: HostRuntime) -> Result<(), Fail> {
         (108, What::Dtx(3, DtxMode::Off)),
         (4_294_967_294, What::Dtx(1, DtxMode::Uplink)),
     ];
-    let orders = Orders::parse(rt.alloc(), LINES)?;
-    assert!(rt; orders.list().len() == wanted.len());
-    for (order, (stamp, what)) in orders.list().iter().zip(wanted) {
-        assert!(rt; is_order(order, stamp, what), "at {order:?}");
-    }
-    Ok(())
+    assert!(rt; spells(rt.alloc(), LINES, &wanted));
 }
