@@ -61,6 +61,45 @@ fn calls_of_tools(rt: HostRuntime) {
     }
 }
 
+// Lines whose words ask for nothing; the last is empty.
+const OTHER_WORDS: &str = "run --workers 0
+run --workers 65
+run --workers 04
+run --workers +4
+run --workers -1
+run --workers
+run --workers=
+run --workers --
+run --work 4
+run --batch 251
+run --batch 2 --batch 3
+run --batch=2 --batch=2
+run --batch 2 3
+run --slice 251
+run --periods 0
+run --periods 4294967296
+run -- x
+run -- --batch
+run 7
+run --help
+run -h
+run --version
+run help
+Run
+--workers 4
+relay
+relay 07
+relay 0
+relay 1025
+relay 7 --
+relay -- 7
+relay 7 7
+relays 7
+drill
+drill 7
+7
+";
+
 // Whether a line's words ask for nothing.
 fn is_usage(alloc: Global, line: &str) -> bool {
     is_answered(alloc, line, Err(WordsFault::Usage))
@@ -68,45 +107,7 @@ fn is_usage(alloc: Global, line: &str) -> bool {
 
 #[test]
 fn other_words_are_usage(rt: HostRuntime) {
-    for line in [
-        "run --workers 0",
-        "run --workers 65",
-        "run --workers 04",
-        "run --workers +4",
-        "run --workers -1",
-        "run --workers",
-        "run --workers=",
-        "run --workers --",
-        "run --work 4",
-        "run --batch 251",
-        "run --batch 2 --batch 3",
-        "run --batch=2 --batch=2",
-        "run --batch 2 3",
-        "run --slice 251",
-        "run --periods 0",
-        "run --periods 4294967296",
-        "run -- x",
-        "run -- --batch",
-        "run 7",
-        "run --help",
-        "run -h",
-        "run --version",
-        "run help",
-        "Run",
-        "--workers 4",
-        "relay",
-        "relay 07",
-        "relay 0",
-        "relay 1025",
-        "relay 7 --",
-        "relay -- 7",
-        "relay 7 7",
-        "relays 7",
-        "drill",
-        "drill 7",
-        "7",
-        "",
-    ] {
+    for line in OTHER_WORDS.split('\n') {
         assert!(rt; is_usage(rt.alloc(), line), "at {line}");
     }
 }
