@@ -1,4 +1,4 @@
-use fr_long::{LtpDecoder, LtpHistory};
+use fr_long::{Ltp, LtpDecoder, LtpHistory};
 
 // One sample at the front of a block.
 fn pulse() -> [i16; 40] {
@@ -10,9 +10,9 @@ fn pulse() -> [i16; 40] {
 #[test]
 fn starts_with_lag_40(rt: HostRuntime) {
     let mut decoder = LtpDecoder::home();
-    assert_eq!(rt; decoder.synth(127, 3, &pulse())[0], 1000);
+    assert!(rt; decoder.synth(127, 3, &pulse())[0] == 1000);
     let residual = decoder.synth(39, 0, &[0; 40]);
-    assert_eq!(rt; [residual[0], residual[1]], [100, 0]);
+    assert!(rt; residual[0] == 100 && residual[1] == 0);
 }
 
 #[test]
@@ -20,9 +20,14 @@ fn keeps_the_last_used_lag(rt: HostRuntime) {
     let mut decoder = LtpDecoder::home();
     decoder.synth(40, 0, &pulse());
     let second = decoder.synth(50, 3, &[0; 40]);
-    assert_eq!(rt; second[10], 1000);
+    assert!(rt; second[10] == 1000);
     let third = decoder.synth(10, 1, &[-1; 40]);
-    assert_eq!(rt; [third[10], third[20]], [-1, 349]);
+    assert!(rt; third[10] == -1 && third[20] == 349);
+}
+
+// Whether a prediction has this lag and this code of a gain.
+fn has_codes(ltp: &Ltp, nc: u8, bc: u8) -> bool {
+    ltp.nc == nc && ltp.bc == bc
 }
 
 // The history of a block of pulses and a silent one after it.
@@ -39,7 +44,8 @@ fn pulses_before() -> LtpHistory {
 #[test]
 fn takes_the_least_of_equal_lags(rt: HostRuntime) {
     let ltp = pulses_before().predict(&pulse());
-    assert_eq!(rt; (ltp.nc, ltp.bc, ltp.e[0]), (50, 3, 0));
+    assert!(rt; has_codes(&ltp, 50, 3));
+    assert!(rt; ltp.e[0] == 0);
 }
 
 // The history of three blocks whose samples are all below 0.
@@ -55,7 +61,8 @@ fn negative_before() -> LtpHistory {
 fn takes_lag_40_where_no_correlation_is_positive(rt: HostRuntime) {
     let history = negative_before();
     let ltp = history.predict(&pulse());
-    assert_eq!(rt; (ltp.nc, ltp.bc, ltp.dpp[0], ltp.e[0]), (40, 0, -1, 1001));
+    assert!(rt; has_codes(&ltp, 40, 0));
+    assert!(rt; ltp.dpp[0] == -1 && ltp.e[0] == 1001);
 }
 
 // A block with these samples at these places; all others are 0.
@@ -83,11 +90,10 @@ fn three_blocks_before() -> LtpHistory {
 fn predicts_two_blocks_in_turn(rt: HostRuntime) {
     let mut history = three_blocks_before();
     let ltp = history.predict(&block(&[(0, 1200), (14, -700), (26, 500)]));
-    assert_eq!(rt;
-        (ltp.nc, ltp.bc, ltp.dpp[14], ltp.e[26]),
-        (117, 2, -975, 45)
-    );
+    assert!(rt; has_codes(&ltp, 117, 2));
+    assert!(rt; ltp.dpp[14] == -975 && ltp.e[26] == 45);
     history.update(&ltp.dpp, &block(&[(1, 300), (26, -100)]));
     let ltp = history.predict(&block(&[(1, -400), (15, 900)]));
-    assert_eq!(rt; (ltp.nc, ltp.bc, ltp.dpp[16], ltp.e[29]), (55, 1, 105, 341));
+    assert!(rt; has_codes(&ltp, 55, 1));
+    assert!(rt; ltp.dpp[16] == 105 && ltp.e[29] == 341);
 }

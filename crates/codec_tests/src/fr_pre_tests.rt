@@ -1,11 +1,23 @@
 use fr_pre::PreState;
 
+// The first three samples of a frame and its last, preprocessed.
+fn preprocess(state: &mut PreState, x: &[i16; 160]) -> [i16; 4] {
+    let mut s = [0; 160];
+    state.preprocess(x, &mut s);
+    [s[0], s[1], s[2], s[159]]
+}
+
+// Whether a state has these words.
+fn has_words(state: &PreState, z1: i16, l_z2: i32, mp: i16) -> bool {
+    state.z1 == z1 && state.l_z2 == l_z2 && state.mp == mp
+}
+
 #[test]
 fn silence_stays_silent(rt: HostRuntime) {
     let mut state = PreState::home();
     let mut s = [7; 160];
     state.preprocess(&[0; 160], &mut s);
-    assert_eq!(rt; s, [0; 160]);
+    assert!(rt; s == [0; 160]);
     assert!(rt; state == PreState::home());
 }
 
@@ -13,30 +25,24 @@ fn silence_stays_silent(rt: HostRuntime) {
 #[test]
 fn a_constant_fades(rt: HostRuntime) {
     let mut state = PreState::home();
-    let mut s = [0; 160];
-    state.preprocess(&[8000; 160], &mut s);
-    assert_eq!(rt; [s[0], s[1], s[2], s[159]], [4000, 556, 555, 475]);
-    state.preprocess(&[8000; 160], &mut s);
-    assert_eq!(rt; [s[0], s[1], s[2], s[159]], [473, 474, 473, 403]);
-    assert_eq!(rt;
-        [i32::from(state.z1), state.l_z2, i32::from(state.mp)],
-        [4000, 95042714, 2900]
-    );
+    assert!(rt; preprocess(&mut state, &[8000; 160]) == [4000, 556, 555, 475]);
+    assert!(rt; preprocess(&mut state, &[8000; 160]) == [473, 474, 473, 403]);
+    assert!(rt; has_words(&state, 4000, 95042714, 2900));
 }
 
-// Likewise.
-#[test]
-fn meets_the_ends(rt: HostRuntime) {
+// A frame of both ends in turn.
+fn ends() -> [i16; 160] {
     let mut x = [-32760; 160];
     for k in 0..80 {
         x[2 * k] = 32760;
     }
+    x
+}
+
+// The numbers are from there too.
+#[test]
+fn meets_the_ends(rt: HostRuntime) {
     let mut state = PreState::home();
-    let mut s = [0; 160];
-    state.preprocess(&x, &mut s);
-    assert_eq!(rt; [s[0], s[1], s[2], s[159]], [16380, -30483, 30480, -30482]);
-    assert_eq!(rt;
-        [i32::from(state.z1), state.l_z2, i32::from(state.mp)],
-        [-16380, -537240629, -16395]
-    );
+    assert!(rt; preprocess(&mut state, &ends()) == [16380, -30483, 30480, -30482]);
+    assert!(rt; has_words(&state, -16380, -537240629, -16395));
 }

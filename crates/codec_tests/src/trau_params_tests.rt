@@ -1,5 +1,19 @@
 use trau_params::{Params, rewritten, silence};
 
+// Whether all bits of parameters are this one.
+fn are_bits(params: &Params, bit: u8) -> bool {
+    let mut bits = [2; 260];
+    params.to_bits(&mut bits);
+    bits == [bit; 260]
+}
+
+// Whether parameters are read from their own bits.
+fn come_back(params: &Params) -> bool {
+    let mut bits = [2; 260];
+    params.to_bits(&mut bits);
+    Params::from_bits(&bits) == *params
+}
+
 #[test]
 fn the_greatest_fields_are_ones(rt: HostRuntime) {
     let greatest = Params::new(
@@ -10,19 +24,15 @@ fn the_greatest_fields_are_ones(rt: HostRuntime) {
         [63; 4],
         [[7; 13]; 4],
     );
-    let mut bits = [0; 260];
-    greatest.to_bits(&mut bits);
-    assert!(rt; bits == [1; 260]);
-    assert!(rt; Params::from_bits(&bits) == greatest);
+    assert!(rt; are_bits(&greatest, 1));
+    assert!(rt; come_back(&greatest));
 }
 
 #[test]
 fn fields_of_zero_are_zeros(rt: HostRuntime) {
     let least = Params::new([0; 8], [0; 4], [0; 4], [0; 4], [0; 4], [[0; 13]; 4]);
-    let mut bits = [1; 260];
-    least.to_bits(&mut bits);
-    assert!(rt; bits == [0; 260]);
-    assert!(rt; Params::from_bits(&bits) == least);
+    assert!(rt; are_bits(&least, 0));
+    assert!(rt; come_back(&least));
 }
 
 #[test]

@@ -7,9 +7,33 @@ use std::test::Fail;
 use trau_io::{Desk, MemDesk};
 use trau_orders::{Order, What};
 
-// How many orders the desk has, or why they aren't taken.
-fn count<D: Desk>(alloc: Global, desk: &mut D) -> Result<usize, OrdersFault> {
-    Ok(read_orders(alloc, desk)?.list().len())
+// Texts, and what is answered to them.
+const TEXTS: [(&[u8], Result<usize, OrdersFault>); 4] = [
+    (b"", Ok(0)),
+    (b"0 open 1\n0 open 2\n7 bridge 1 2", Ok(3)),
+    (b"5 open 1\n4 open 2", Err(OrdersFault::Line(2))),
+    (b"0 open 01", Err(OrdersFault::Line(1))),
+];
+
+// Whether this is answered to what a desk gives: how many orders it has, or why they aren't taken.
+fn is_answered<D: Desk>(alloc: Global, desk: &mut D, answer: Result<usize, OrdersFault>) -> bool {
+    match read_orders(alloc, desk) {
+        Ok(orders) => answer == Ok(orders.list().len()),
+        Err(fault) => answer == Err(fault),
+    }
+}
+
+// The same of a text in pieces.
+fn is_answered_in_pieces(
+    alloc: Global,
+    text: &[u8],
+    cut: usize,
+    answer: Result<usize, OrdersFault>,
+) -> bool {
+    match text.to_vec(alloc) {
+        Ok(text) => is_answered(alloc, &mut PieceDesk::new(text, cut), answer),
+        Err(_) => false,
+    }
 }
 
 // A desk with this text, of which the read of this number fails.
@@ -18,50 +42,53 @@ fn desk(alloc: Global, text: Vec<u8>, fails: u32) -> Result<MemDesk, AllocError>
     MemDesk::new(alloc, text, fails, Vec::new(alloc), 0)
 }
 
-// How many orders a desk has that gives this text in pieces, or why they aren't taken.
-fn count_in_pieces(
+// Whether this is answered to a text of which the read of this number fails, and so many reads fail.
+fn is_answered_at_once(
     alloc: Global,
-    text: &[u8],
-    cut: usize,
-) -> Result<Result<usize, OrdersFault>, AllocError> {
-    let mut desk = PieceDesk::new(text.to_vec(alloc)?, cut);
-    Ok(count(alloc, &mut desk))
-}
-
-// The same of a desk in memory, and its faults.
-fn count_at_once(
-    alloc: Global,
-    text: &[u8],
-) -> Result<(Result<usize, OrdersFault>, u64), AllocError> {
-    let mut desk = desk(alloc, text.to_vec(alloc)?, 9)?;
-    let counted = count(alloc, &mut desk);
-    Ok((counted, desk.read_faults()))
+    text: Vec<u8>,
+    fails: u32,
+    answer: Result<usize, OrdersFault>,
+    faults: u64,
+) -> bool {
+    match desk(alloc, text, fails) {
+        Ok(mut desk) => is_answered(alloc, &mut desk, answer) && desk.read_faults() == faults,
+        Err(_) => false,
+    }
 }
 
 #[test]
-fn texts_and_their_faults(rt: HostRuntime) -> Result<(), Fail> {
-    let alloc = rt.alloc();
-    for (text, answer) in [
-        (b"".as_slice(), Ok(0)),
-        (b"0 open 1\n0 open 2\n7 bridge 1 2", Ok(3)),
-        (b"5 open 1\n4 open 2", Err(OrdersFault::Line(2))),
-        (b"0 open 01", Err(OrdersFault::Line(1))),
-    ] {
+fn texts_in_pieces(rt: HostRuntime) {
+    for (text, answer) in TEXTS {
         for cut in [1, 39, 1000] {
-            let counted = count_in_pieces(alloc, text, cut)?;
-            assert_eq!(rt; counted, answer, "in pieces of {cut}");
+            assert!(rt;
+                is_answered_in_pieces(rt.alloc(), text, cut, answer),
+                "in pieces of {cut}"
+            );
         }
-        assert_eq!(rt; count_at_once(alloc, text)?, (answer, 0));
+    }
+}
+
+#[test]
+fn texts_at_once(rt: HostRuntime) -> Result<(), Fail> {
+    for (text, answer) in TEXTS {
+        let text = text.to_vec(rt.alloc())?;
+        assert!(rt; is_answered_at_once(rt.alloc(), text, 9, answer, 0));
     }
     Ok(())
 }
 
+// Whether a desk that gives its text octet by octet has these orders.
+fn has_orders(alloc: Global, text: Vec<u8>, orders: &[Order]) -> bool {
+    match read_orders(alloc, &mut PieceDesk::new(text, 1)) {
+        Ok(read) => read.list() == orders,
+        Err(_) => false,
+    }
+}
+
 #[test]
 fn orders_are_read_in_their_order(rt: HostRuntime) -> Result<(), Fail> {
-    let alloc = rt.alloc();
-    let mut desk = PieceDesk::new(b"0 open 2\n3 close 2\n".to_vec(alloc)?, 1);
-    let orders = read_orders(alloc, &mut desk)?;
-    let wanted = [
+    let text = b"0 open 2\n3 close 2\n".to_vec(rt.alloc())?;
+    let orders = [
         Order {
             stamp: 0,
             what: What::OpenCall(2),
@@ -71,35 +98,42 @@ fn orders_are_read_in_their_order(rt: HostRuntime) -> Result<(), Fail> {
             what: What::CloseCall(2),
         },
     ];
-    assert_eq!(rt; orders.list(), wanted.as_slice());
+    assert!(rt; has_orders(rt.alloc(), text, &orders));
     Ok(())
 }
 
-#[test]
-fn a_failed_read_is_unread(rt: HostRuntime) -> Result<(), Fail> {
-    let alloc = rt.alloc();
-    // The first read fails, and the one that would have told the end.
-    for fails in [0, 1] {
-        let mut desk = desk(alloc, b"0 open 1\n".to_vec(alloc)?, fails)?;
-        assert_eq!(rt; count(alloc, &mut desk), Err(OrdersFault::Unread));
-        assert_eq!(rt; desk.read_faults(), 1);
+// Whether orders are unread where the read of this number fails.
+fn is_unread(alloc: Global, fails: u32) -> bool {
+    match b"0 open 1\n".to_vec(alloc) {
+        Ok(text) => is_answered_at_once(alloc, text, fails, Err(OrdersFault::Unread), 1),
+        Err(_) => false,
     }
-    Ok(())
+}
+
+// The first read fails, or the one that would have told the end.
+#[test]
+fn a_failed_read_is_unread(rt: HostRuntime) {
+    assert!(rt; is_unread(rt.alloc(), 0));
+    assert!(rt; is_unread(rt.alloc(), 1));
+}
+
+// Whether this is answered to a text of so many of one octet.
+fn is_limit(alloc: Global, octet: u8, length: usize, fails: u32, fault: OrdersFault) -> bool {
+    let Ok(text) = vec![in alloc; octet; length] else {
+        return false;
+    };
+    match desk(alloc, text, fails) {
+        Ok(mut desk) => is_answered(alloc, &mut desk, Err(fault)),
+        Err(_) => false,
+    }
 }
 
 #[test]
-fn limits(rt: HostRuntime) -> Result<(), Fail> {
+fn limits(rt: HostRuntime) {
     let alloc = rt.alloc();
-    for (octet, length, fails, answer) in [
-        (b'0', 1_048_576, 9, OrdersFault::Line(1)),
-        (b'0', 1_048_576, 1, OrdersFault::Unread),
-        (b'0', 1_048_577, 1, OrdersFault::TooLong),
-        (b'\n', 65_536, 9, OrdersFault::Line(1)),
-        (b'\n', 65_537, 9, OrdersFault::TooLong),
-    ] {
-        let text = vec![in alloc; octet; length]?;
-        let mut desk = desk(alloc, text, fails)?;
-        assert_eq!(rt; count(alloc, &mut desk), Err(answer), "{length} octets");
-    }
-    Ok(())
+    assert!(rt; is_limit(alloc, b'0', 1_048_576, 9, OrdersFault::Line(1)));
+    assert!(rt; is_limit(alloc, b'0', 1_048_576, 1, OrdersFault::Unread));
+    assert!(rt; is_limit(alloc, b'0', 1_048_577, 1, OrdersFault::TooLong));
+    assert!(rt; is_limit(alloc, b'\n', 65_536, 9, OrdersFault::Line(1)));
+    assert!(rt; is_limit(alloc, b'\n', 65_537, 9, OrdersFault::TooLong));
 }

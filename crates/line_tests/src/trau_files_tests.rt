@@ -1,9 +1,5 @@
 // What no proof sees: the system's files and streams.
-ghost use Rattle.std.specs.Prelude.{◌<◌, length};
-
 use std::io::{ErrorKind, Read, Write};
-use std::rt::Files;
-use std::test::Fail;
 use std::{fs, io};
 use trau_files::{FileTrunk, StdDesk};
 use trau_io::{Desk, Line, Side, Trunk};
@@ -18,100 +14,142 @@ const OUT: Line = Line {
     side: Side::Out,
 };
 
-// How many octets a read gives, at most four.
-fn read_four<R: Files>(
-    trunk: &mut FileTrunk<'_, R>,
-    line: Line,
-    octets: &mut [u8; 4],
-) -> Option<usize> {
-    trunk.read(line, octets).ok()
+// What is done to files and lines, and what comes of it.
+#[derive(Drop)]
+enum Step<'a> {
+    // A file of these octets is made.
+    Make(&'a str, &'a [u8]),
+    Remove(&'a str),
+    // A file holds these octets.
+    Holds(&'a str, &'a [u8]),
+    // A read of at most four octets gives so many, and leaves these in the place of four octets 0.
+    Gives(Line, usize, [u8; 4]),
+    // The next octet of a line.
+    Next(Line, u8),
+    // A read fails, and doesn't only find the line's end.
+    ReadFails(Line),
+    // A line takes octets at once.
+    Takes(Line, u8),
+    TakesTwo(Line, [u8; 2]),
+    WriteFails(Line),
 }
 
-// The next octet of a line; None where there is none, or the read fails.
-fn next_octet<R: Files>(trunk: &mut FileTrunk<'_, R>, line: Line) -> Option<u8> {
-    let mut octet = [0];
-    if trunk.read(line, &mut octet).ok() == Some(1) {
-        Some(octet[0])
-    } else {
-        None
+// Whether a read of at most four octets gives so many, and leaves these.
+fn gives(
+    trunk: &mut FileTrunk<'_, HostRuntime>,
+    line: Line,
+    count: usize,
+    octets: &[u8; 4],
+) -> bool {
+    let mut read = [0; 4];
+    trunk.read(line, &mut read).ok() == Some(count) && read == *octets
+}
+
+// Whether this is the next octet of a line.
+fn is_next(trunk: &mut FileTrunk<'_, HostRuntime>, line: Line, octet: u8) -> bool {
+    let mut read = [0];
+    trunk.read(line, &mut read).ok() == Some(1) && read[0] == octet
+}
+
+// Whether a file holds these octets.
+fn holds(rt: &HostRuntime, name: &str, octets: &[u8]) -> bool {
+    fs::read(rt, name).is_ok_and(|found| found.as_slice() == octets)
+}
+
+// Whether a step is done, and comes to what it tells.
+fn is_done(rt: &HostRuntime, trunk: &mut FileTrunk<'_, HostRuntime>, step: &Step<'_>) -> bool {
+    match step {
+        Step::Make(name, octets) => fs::write(rt, *name, *octets).is_ok(),
+        Step::Remove(name) => fs::remove_file(rt, *name).is_ok(),
+        Step::Holds(name, octets) => holds(rt, name, octets),
+        Step::Gives(line, count, octets) => gives(trunk, *line, *count, octets),
+        Step::Next(line, octet) => is_next(trunk, *line, *octet),
+        Step::ReadFails(line) => trunk.read(*line, &mut [0]).is_err(),
+        Step::Takes(line, octet) => trunk.write(*line, &[*octet]).ok() == Some(1),
+        Step::TakesTwo(line, octets) => trunk.write(*line, octets).ok() == Some(2),
+        Step::WriteFails(line) => trunk.write(*line, &[8]).is_err(),
     }
 }
 
-// Whether a read fails, and not only finds the line's end.
-fn read_fails<R: Files>(trunk: &mut FileTrunk<'_, R>, line: Line) -> bool {
-    trunk.read(line, &mut [0]).is_err()
-}
-
-// Whether a line takes these octets at once.
-fn takes<R: Files>(trunk: &mut FileTrunk<'_, R>, line: Line, octets: &[u8]) -> bool
-    requires { 0 < length octets.now }
-{
-    trunk.write(line, octets).ok() == Some(octets.len())
+// How many steps from the first on are done.
+fn done(rt: &HostRuntime, steps: &[Step<'_>]) -> usize {
+    let Ok(mut trunk) = FileTrunk::new(rt.alloc(), rt) else {
+        return 0;
+    };
+    let mut done = 0;
+    for step in steps {
+        if !is_done(rt, &mut trunk, step) {
+            return done;
+        }
+        done = done.saturating_add(1);
+    }
+    done
 }
 
 #[test]
-fn lines_are_files(rt: HostRuntime) -> Result<(), Fail> {
-    fs::write(&rt, "4096.up", [1, 2, 3, 4, 5].as_slice())?;
-    fs::write(&rt, "9.out", [9; 9].as_slice())?;
-    let mut trunk = FileTrunk::new(rt.alloc(), &rt)?;
-    let mut octets = [0; 4];
-    assert_eq!(rt; read_four(&mut trunk, UP, &mut octets), Some(4));
-    assert_eq!(rt; octets, [1, 2, 3, 4]);
-    assert_eq!(rt; read_four(&mut trunk, UP, &mut octets), Some(1));
-    assert_eq!(rt; octets, [5, 2, 3, 4]);
-    assert_eq!(rt; read_four(&mut trunk, UP, &mut octets), Some(0));
-    assert_eq!(rt; read_four(&mut trunk, OUT, &mut octets), Some(4));
-    assert!(rt; takes(&mut trunk, OUT, &[6]));
-    assert!(rt; takes(&mut trunk, OUT, &[7, 8]));
-    assert_eq!(rt; fs::read(&rt, "9.out")?.as_slice(), [6, 7, 8].as_slice());
-    fs::remove_file(&rt, "4096.up")?;
-    assert!(rt; read_fails(&mut trunk, UP));
-    Ok(())
+fn lines_are_files(rt: HostRuntime) {
+    let steps = [
+        Step::Make("4096.up", &[1, 2, 3, 4, 5]),
+        Step::Make("9.out", &[9; 9]),
+        Step::Gives(UP, 4, [1, 2, 3, 4]),
+        Step::Gives(UP, 1, [5, 0, 0, 0]),
+        Step::Gives(UP, 0, [0; 4]),
+        Step::Gives(OUT, 4, [9; 4]),
+        Step::Takes(OUT, 6),
+        Step::TakesTwo(OUT, [7, 8]),
+        Step::Holds("9.out", &[6, 7, 8]),
+        Step::Remove("4096.up"),
+        Step::ReadFails(UP),
+    ];
+    assert_eq!(rt; done(&rt, &steps), 11);
 }
 
 // Each line goes on at its own octet: also where another was read or written in between.
 #[test]
-fn lines_are_read_in_turn(rt: HostRuntime) -> Result<(), Fail> {
-    fs::write(&rt, "4096.up", [1, 2, 3].as_slice())?;
-    fs::write(&rt, "9.out", [4, 5, 6].as_slice())?;
-    let mut trunk = FileTrunk::new(rt.alloc(), &rt)?;
-    assert_eq!(rt; next_octet(&mut trunk, UP), Some(1));
-    assert_eq!(rt; next_octet(&mut trunk, OUT), Some(4));
-    assert_eq!(rt; next_octet(&mut trunk, UP), Some(2));
-    assert!(rt; takes(&mut trunk, OUT, &[7]));
-    assert_eq!(rt; next_octet(&mut trunk, UP), Some(3));
-    Ok(())
+fn lines_are_read_in_turn(rt: HostRuntime) {
+    let steps = [
+        Step::Make("4096.up", &[1, 2, 3]),
+        Step::Make("9.out", &[4, 5, 6]),
+        Step::Next(UP, 1),
+        Step::Next(OUT, 4),
+        Step::Next(UP, 2),
+        Step::Takes(OUT, 7),
+        Step::Next(UP, 3),
+    ];
+    assert_eq!(rt; done(&rt, &steps), 7);
 }
 
 #[test]
-fn lines_are_written_in_turn(rt: HostRuntime) -> Result<(), Fail> {
-    let mut trunk = FileTrunk::new(rt.alloc(), &rt)?;
-    assert!(rt; takes(&mut trunk, OUT, &[7]));
-    assert!(rt; takes(&mut trunk, UP, &[8]));
-    assert!(rt; takes(&mut trunk, OUT, &[9]));
-    assert_eq!(rt; fs::read(&rt, "9.out")?.as_slice(), [7, 9].as_slice());
-    assert_eq!(rt; next_octet(&mut trunk, UP), Some(8));
-    Ok(())
+fn lines_are_written_in_turn(rt: HostRuntime) {
+    let steps = [
+        Step::Takes(OUT, 7),
+        Step::Takes(UP, 8),
+        Step::Takes(OUT, 9),
+        Step::Holds("9.out", &[7, 9]),
+        Step::Next(UP, 8),
+    ];
+    assert_eq!(rt; done(&rt, &steps), 5);
 }
 
 // The file that was used last is open and outlives its name; any other is looked for by its name.
 #[test]
-fn a_removed_file_goes_on_while_it_is_open(rt: HostRuntime) -> Result<(), Fail> {
-    fs::write(&rt, "4096.up", [1, 2, 3].as_slice())?;
-    let mut trunk = FileTrunk::new(rt.alloc(), &rt)?;
-    assert_eq!(rt; next_octet(&mut trunk, UP), Some(1));
-    assert!(rt; takes(&mut trunk, OUT, &[7]));
-    fs::remove_file(&rt, "4096.up")?;
-    fs::remove_file(&rt, "9.out")?;
-    assert_eq!(rt; next_octet(&mut trunk, UP), Some(2));
-    assert!(rt; takes(&mut trunk, OUT, &[8]));
-    assert!(rt; read_fails(&mut trunk, OUT));
-    assert!(rt; read_fails(&mut trunk, UP));
-    fs::write(&rt, "4096.up", [4, 5, 6].as_slice())?;
-    assert_eq!(rt; next_octet(&mut trunk, UP), Some(6));
-    assert!(rt; takes(&mut trunk, UP, &[9]));
-    assert!(rt; !takes(&mut trunk, OUT, &[8]));
-    Ok(())
+fn a_removed_file_goes_on_while_it_is_open(rt: HostRuntime) {
+    let steps = [
+        Step::Make("4096.up", &[1, 2, 3]),
+        Step::Next(UP, 1),
+        Step::Takes(OUT, 7),
+        Step::Remove("4096.up"),
+        Step::Remove("9.out"),
+        Step::Next(UP, 2),
+        Step::Takes(OUT, 8),
+        Step::ReadFails(OUT),
+        Step::ReadFails(UP),
+        Step::Make("4096.up", &[4, 5, 6]),
+        Step::Next(UP, 6),
+        Step::Takes(UP, 9),
+        Step::WriteFails(OUT),
+    ];
+    assert_eq!(rt; done(&rt, &steps), 13);
 }
 
 // Is interrupted before each call that moves anything.
@@ -157,17 +195,36 @@ impl<T: Write> Write for Interrupted<T> {
     }
 }
 
+// Whether a read of at most two octets gives so many.
+fn hears(
+    desk: &mut StdDesk<Interrupted<&[u8]>, &mut Vec<u8>>,
+    octets: &mut [u8; 2],
+    count: usize,
+) -> bool {
+    desk.read(octets).ok() == Some(count)
+}
+
+// Whether a desk takes these two octets at once.
+fn is_told(desk: &mut StdDesk<&[u8], Interrupted<&mut Vec<u8>>>, octets: &[u8; 2]) -> bool {
+    desk.write(octets).ok() == Some(2)
+}
+
 #[test]
-fn a_desk_is_a_reader_and_a_writer(rt: HostRuntime) -> Result<(), Fail> {
+fn a_desk_is_a_reader(rt: HostRuntime) {
     let mut octets = [0; 2];
     let mut text = Vec::new(rt.alloc());
     let orders = Interrupted::new([5, 6, 7].as_slice());
-    let mut desk = StdDesk::new(orders, Interrupted::new(&mut text));
-    assert_eq!(rt; desk.read(&mut octets).ok(), Some(2));
-    assert_eq!(rt; desk.read(&mut octets).ok(), Some(1));
-    assert_eq!(rt; octets, [7, 6]);
-    assert_eq!(rt; desk.read(&mut octets).ok(), Some(0));
-    assert_eq!(rt; desk.write(&[1, 2]).ok(), Some(2));
-    assert_eq!(rt; text.as_slice(), [1, 2].as_slice());
-    Ok(())
+    let mut desk = StdDesk::new(orders, &mut text);
+    assert!(rt; hears(&mut desk, &mut octets, 2));
+    assert!(rt; hears(&mut desk, &mut octets, 1));
+    assert!(rt; octets == [7, 6]);
+    assert!(rt; hears(&mut desk, &mut octets, 0));
+}
+
+#[test]
+fn a_desk_is_a_writer(rt: HostRuntime) {
+    let mut text = Vec::new(rt.alloc());
+    let mut desk = StdDesk::new([].as_slice(), Interrupted::new(&mut text));
+    assert!(rt; is_told(&mut desk, &[1, 2]));
+    assert!(rt; text.as_slice() == [1, 2].as_slice());
 }

@@ -36,37 +36,41 @@ fn with_control(first: u8, second: u8, last: u8) -> Option<UpFrame> {
     read(&octets)
 }
 
-#[test]
-fn good_speech_is_read_and_relayed(rt: HostRuntime) {
+// The octets of an uplink frame.
+fn up_octets(frame: &UpFrame) -> [u8; 40] {
     let mut bits = [0; 320];
     let mut octets = [0; 40];
-    unpack(&UP, &mut bits);
-    assert!(rt; sync_matches(&bits));
-    let frame = read_up(&bits);
-    assert!(rt; frame.kind == Kind::Speech && frame.class == Class::Good);
-    assert!(rt; !frame.taf && !frame.dtxd && frame.align == 0);
-    write_up(&frame, &mut bits);
+    write_up(frame, &mut bits);
     pack(&bits, &mut octets);
-    assert!(rt; octets == UP);
-    write_down(
-        &DownFrame::Speech {
-            d: frame.d,
-            sp: true,
-        },
-        &mut bits,
-    );
+    octets
+}
+
+// The octets of the downlink frame with its data bits.
+fn down_octets(frame: &UpFrame, sp: bool) -> [u8; 40] {
+    let mut bits = [0; 320];
+    let mut octets = [0; 40];
+    write_down(&DownFrame::Speech { d: frame.d, sp }, &mut bits);
     pack(&bits, &mut octets);
-    assert!(rt; octets == DOWN);
+    octets
+}
+
+// Whether a frame is one of good speech, without flags and without a time alignment.
+fn is_good(frame: &UpFrame) -> bool {
+    frame.kind == Kind::Speech
+        && frame.class == Class::Good
+        && !frame.taf
+        && !frame.dtxd
+        && frame.align == 0
+}
+
+#[test]
+fn good_speech_is_read_and_relayed(rt: HostRuntime) {
+    let frame = read(&UP).expect(&rt, "it is in sync");
+    assert!(rt; is_good(&frame));
+    assert!(rt; up_octets(&frame) == UP);
+    assert!(rt; down_octets(&frame, true) == DOWN);
     // SP is the second bit from the end of octet 38.
-    write_down(
-        &DownFrame::Speech {
-            d: frame.d,
-            sp: false,
-        },
-        &mut bits,
-    );
-    pack(&bits, &mut octets);
-    assert_eq!(rt; octets[38], 0xA5);
+    assert!(rt; down_octets(&frame, false)[38] == 0xA5);
 }
 
 #[test]
@@ -83,10 +87,15 @@ fn an_idle_frame_is_written(rt: HostRuntime) {
     assert!(rt; octets == want);
 }
 
+// Whether a speech frame with this octet at place 3 is of this class.
+fn is_of_class(octet: u8, class: Class) -> bool {
+    with_control(0x88, octet, 0xA6).is_some_and(|frame| frame.class == class)
+}
+
+// The four lowest bits of octet 3 are the bad frame indicator, the two silence descriptor bits, and TAF.
 #[test]
-fn control_bits_are_read(rt: HostRuntime) {
-    // The four lowest bits of octet 3 are the bad frame indicator, the two silence descriptor bits, and TAF.
-    let classes = [
+fn classes_are_read(rt: HostRuntime) {
+    for (octet, class) in [
         (0x00, Class::Good),
         (0x04, Class::Sid),
         (0x02, Class::InvalidSid),
@@ -95,25 +104,25 @@ fn control_bits_are_read(rt: HostRuntime) {
         (0x08, Class::Unusable),
         (0x06, Class::InvalidSid),
         (0x0E, Class::InvalidSid),
-    ];
-    for (octet, class) in classes {
-        assert!(rt;
-            with_control(0x88, octet, 0xA6).is_some_and(|frame| frame.class == class),
-            "at {octet}"
-        );
+    ] {
+        assert!(rt; is_of_class(octet, class), "at {octet}");
     }
+}
+
+// Whether a frame with this octet at place 2 is unusable and of this kind.
+fn is_of_kind(octet: u8, kind: Kind) -> bool {
+    with_control(octet, 0x00, 0xA6).is_some_and(|frame| frame.kind == kind
+        && frame.class == Class::Unusable)
+}
+
+#[test]
+fn control_bits_are_read(rt: HostRuntime) {
     // The field 100101 is 37; TAF and DTXd.
     let frame = with_control(0x8A, 0x51, 0xA7);
     assert!(rt; frame.is_some_and(|frame| frame.align == 37 && frame.taf && frame.dtxd));
     // The patterns 10000 and 11111.
-    let idle = with_control(0xC0, 0x00, 0xA6);
-    assert!(rt;
-        idle.is_some_and(|frame| frame.kind == Kind::Idle && frame.class == Class::Unusable)
-    );
-    let other = with_control(0xFC, 0x00, 0xA6);
-    assert!(rt;
-        other.is_some_and(|frame| frame.kind == Kind::Other && frame.class == Class::Unusable)
-    );
+    assert!(rt; is_of_kind(0xC0, Kind::Idle));
+    assert!(rt; is_of_kind(0xFC, Kind::Other));
     // The last sync bit is missing.
     assert!(rt; with_control(0x88, 0x00, 0x26).is_none());
 }

@@ -14,111 +14,139 @@ const DOWN: Line = Line {
     side: Side::Down,
 };
 
-// Reads from a line.
-fn read(trunk: &mut MemTrunk, line: Line, buf: &mut [u8; 4]) -> Result<usize, Failed> {
-    trunk.read(line, buf)
+// Whether a read of at most four octets is answered so.
+fn reads(
+    trunk: &mut MemTrunk,
+    line: Line,
+    octets: &mut [u8; 4],
+    answer: Result<usize, Failed>,
+) -> bool {
+    trunk.read(line, octets) == answer
 }
 
-// Reads from the desk.
-fn hear(desk: &mut MemDesk, buf: &mut [u8; 6]) -> Result<usize, Failed> {
-    desk.read(buf)
-}
-
-// Tells the usage.
-fn tell_usage(desk: &mut MemDesk) -> Result<(), Failed> {
-    tell(desk, b"usage\n")
+// Sets a line anew.
+fn set(
+    alloc: Global,
+    trunk: &mut MemTrunk,
+    line: Line,
+    octets: &[u8],
+    cuts: &[u32],
+    fails: &[u32],
+    room: u32,
+) -> Result<(), AllocError> {
+    let octets = octets.to_vec(alloc)?;
+    let cuts = cuts.to_vec(alloc)?;
+    let fails = fails.to_vec(alloc)?;
+    trunk.set(alloc, line, octets, cuts, fails, room)
 }
 
 // Up has nine octets, in cuts of 0 (which counts as 1), 2 and 100, and the fourth call fails.
 fn nine_octets(alloc: Global) -> Result<MemTrunk, AllocError> {
     let mut trunk = MemTrunk::new(alloc)?;
-    trunk.set(
-        alloc,
-        UP,
-        [1, 2, 3, 4, 5, 6, 7, 8, 9].to_vec(alloc)?,
-        [0, 2, 100].to_vec(alloc)?,
-        [3].to_vec(alloc)?,
-        0,
-    )?;
+    let octets = [1, 2, 3, 4, 5, 6, 7, 8, 9];
+    set(alloc, &mut trunk, UP, &octets, &[0, 2, 100], &[3], 0)?;
     Ok(trunk)
 }
 
-// Cuts of 0 (which counts as 1), 2 and 100, the fourth call fails, and past the cuts there are none.
+// Past the cuts there are none.
 #[test]
 fn a_line_is_read_in_its_cuts(rt: HostRuntime) -> Result<(), Fail> {
-    let alloc = rt.alloc();
-    let mut trunk = nine_octets(alloc)?;
-    let mut buf = [0; 4];
-    let answers = [Ok(1), Ok(2), Ok(4), Err(Failed), Ok(2), Ok(0)];
-    for (number, answer) in answers.iter().enumerate() {
-        assert_eq!(rt; read(&mut trunk, UP, &mut buf), *answer, "read {number}");
-    }
-    assert_eq!(rt; buf, [8, 9, 6, 7]);
-    assert_eq!(rt; trunk.faults(UP), 1);
-    assert_eq!(rt;
-        read(&mut trunk, DOWN, &mut buf),
-        Ok(0),
-        "all other lines are empty"
-    );
-    assert_eq!(rt; trunk.write(DOWN, &buf), Err(Failed), "and without room");
+    let mut trunk = nine_octets(rt.alloc())?;
+    let mut octets = [0; 4];
+    assert!(rt; reads(&mut trunk, UP, &mut octets, Ok(1)));
+    assert!(rt; reads(&mut trunk, UP, &mut octets, Ok(2)));
+    assert!(rt; reads(&mut trunk, UP, &mut octets, Ok(4)));
+    assert!(rt; reads(&mut trunk, UP, &mut octets, Err(Failed)));
+    assert!(rt; reads(&mut trunk, UP, &mut octets, Ok(2)));
+    assert!(rt; reads(&mut trunk, UP, &mut octets, Ok(0)));
+    assert!(rt; octets == [8, 9, 6, 7]);
+    assert!(rt; trunk.faults(UP) == 1);
+    Ok(())
+}
+
+#[test]
+fn all_other_lines_are_empty_and_without_room(rt: HostRuntime) -> Result<(), Fail> {
+    let mut trunk = nine_octets(rt.alloc())?;
+    assert!(rt; reads(&mut trunk, DOWN, &mut [0; 4], Ok(0)));
+    assert!(rt; trunk.write(DOWN, &[8, 9, 6, 7]) == Err(Failed));
     Ok(())
 }
 
 // Up has ten octets and Down room for seven, both in cuts.
 fn ten_octets(alloc: Global) -> Result<MemTrunk, AllocError> {
     let mut trunk = MemTrunk::new(alloc)?;
-    let never = Vec::new(alloc);
-    trunk.set(
-        alloc,
-        UP,
-        [7; 10].to_vec(alloc)?,
-        [3, 1].to_vec(alloc)?,
-        never,
-        0,
-    )?;
-    let (nothing, never) = (Vec::new(alloc), Vec::new(alloc));
-    trunk.set(alloc, DOWN, nothing, [2, 3].to_vec(alloc)?, never, 7)?;
+    set(alloc, &mut trunk, UP, &[7; 10], &[3, 1], &[], 0)?;
+    set(alloc, &mut trunk, DOWN, &[], &[2, 3], &[], 7)?;
     Ok(trunk)
 }
 
-// Fills a block of six octets from Up.
-fn fill(trunk: &mut MemTrunk, block: &mut [u8; 6]) -> Filled {
-    read_block(trunk, UP, block)
+// Whether a block of six octets is filled so from Up.
+fn fills(trunk: &mut MemTrunk, block: &mut [u8; 6], filled: Filled) -> bool {
+    read_block(trunk, UP, block) == filled
 }
 
-// Writes it to Down.
-fn send(trunk: &mut MemTrunk, block: &[u8; 6]) -> Result<(), Failed> {
-    write_all(trunk, DOWN, block)
+// Whether Down takes all of a block.
+fn takes(trunk: &mut MemTrunk, block: &[u8; 6]) -> bool {
+    write_all(trunk, DOWN, block).is_ok()
 }
 
 #[test]
 fn a_whole_transfer_goes_on_over_cuts(rt: HostRuntime) -> Result<(), Fail> {
-    let alloc = rt.alloc();
-    let mut trunk = ten_octets(alloc)?;
+    let mut trunk = ten_octets(rt.alloc())?;
     let mut block = [0; 6];
-    assert_eq!(rt; fill(&mut trunk, &mut block), Filled::Whole);
-    assert_eq!(rt; send(&mut trunk, &block), Ok(()));
-    assert_eq!(rt; fill(&mut trunk, &mut block), Filled::Ended(4));
-    assert_eq!(rt; send(&mut trunk, &block), Err(Failed));
-    assert_eq!(rt; trunk.written(DOWN), [7; 7].as_slice());
-    assert_eq!(rt; trunk.faults(DOWN), 1);
+    assert!(rt; fills(&mut trunk, &mut block, Filled::Whole));
+    assert!(rt; takes(&mut trunk, &block));
+    assert!(rt; fills(&mut trunk, &mut block, Filled::Ended(4)));
+    assert!(rt; !takes(&mut trunk, &block));
+    assert!(rt; trunk.written(DOWN) == [7; 7].as_slice());
+    assert!(rt; trunk.faults(DOWN) == 1);
     Ok(())
+}
+
+// A desk with eight octets and room for nine, whose first read and second write fail.
+fn desk(alloc: Global) -> Result<MemDesk, AllocError> {
+    let orders = b"0 open 1".to_vec(alloc)?;
+    MemDesk::new(alloc, orders, [0].to_vec(alloc)?, [1].to_vec(alloc)?, 9)
+}
+
+// Whether a read of at most six octets is answered so.
+fn hears(desk: &mut MemDesk, answer: Result<usize, Failed>) -> bool {
+    desk.read(&mut [0; 6]) == answer
+}
+
+// Whether so many reads and writes have failed.
+fn has_failed(desk: &MemDesk, reads: u64, writes: u64) -> bool {
+    desk.read_faults() == reads && desk.write_faults() == writes
+}
+
+#[test]
+fn a_desk_is_read_as_it_was_told(rt: HostRuntime) -> Result<(), Fail> {
+    let mut desk = desk(rt.alloc())?;
+    assert!(rt; hears(&mut desk, Err(Failed)));
+    assert!(rt; hears(&mut desk, Ok(6)));
+    assert!(rt; hears(&mut desk, Ok(2)));
+    assert!(rt; hears(&mut desk, Ok(0)));
+    assert!(rt; has_failed(&desk, 1, 0));
+    Ok(())
+}
+
+// Whether the desk takes all of the usage.
+fn is_told(desk: &mut MemDesk) -> bool {
+    tell(desk, b"usage\n").is_ok()
+}
+
+// Whether these octets were written.
+fn has_taken(desk: &MemDesk, octets: &[u8]) -> bool {
+    desk.text() == octets
 }
 
 #[test]
 fn a_desk_fails_as_it_was_told(rt: HostRuntime) -> Result<(), Fail> {
-    let alloc = rt.alloc();
-    let orders = b"0 open 1".to_vec(alloc)?;
-    let mut desk = MemDesk::new(alloc, orders, [0].to_vec(alloc)?, [1].to_vec(alloc)?, 9)?;
-    let mut buf = [0; 6];
-    assert_eq!(rt; hear(&mut desk, &mut buf), Err(Failed));
-    assert_eq!(rt; hear(&mut desk, &mut buf), Ok(6));
-    assert_eq!(rt; hear(&mut desk, &mut buf), Ok(2));
-    assert_eq!(rt; hear(&mut desk, &mut buf), Ok(0));
-    assert_eq!(rt; tell_usage(&mut desk), Ok(()));
-    assert_eq!(rt; tell_usage(&mut desk), Err(Failed));
-    assert_eq!(rt; tell_usage(&mut desk), Err(Failed), "three octets fit");
-    assert_eq!(rt; desk.text(), b"usage\nusa".as_slice());
-    assert_eq!(rt; (desk.read_faults(), desk.write_faults()), (1, 2));
+    let mut desk = desk(rt.alloc())?;
+    assert!(rt; is_told(&mut desk));
+    assert!(rt; !is_told(&mut desk));
+    assert!(rt; !is_told(&mut desk), "three octets fit");
+    assert!(rt; has_taken(&desk, b"usage\nusa"));
+    assert!(rt; has_failed(&desk, 0, 2));
     Ok(())
 }

@@ -1,6 +1,6 @@
 use std::alloc::{AllocError, Global};
 use std::test::Fail;
-use trau_orders::{DtxMode, Order, OrderFault, Orders, What};
+use trau_orders::{DtxMode, OrderFault, Orders, What};
 
 // Whole runs' orders, recorded with the answers of a separate program.
 const CLEAN_FARM: &str =
@@ -12,49 +12,90 @@ const MIXED_FARM: &str =
 const HARSH_FARM: &str =
     "0 open 1\n0 open 2\n0 level 1 700\n0 dtx 1 uplink\n0 level 2 0\n0 bridge 1 2\n6 open 3\n6 level 3 0\n25 dtx 2 on\n35 unbridge 1\n65 open 4\n65 open 5\n65 dtx 4 uplink\n65 level 4 0\n67 close 4\n73 level 5 256\n81 bridge 2 744\n87 bridge 5 3\n108 dtx 3 off\n119 bridge 1 2\n122 unbridge 2\n";
 
-// How many orders a text has, or why it isn't taken.
-fn count(alloc: Global, text: &[u8]) -> Result<usize, OrderFault> {
-    Ok(Orders::parse(alloc, text)?.list().len())
-}
-
-// A text of this one octet.
-fn all(alloc: Global, octet: u8, length: usize) -> Result<Vec<u8>, AllocError> {
-    vec![in alloc; octet; length]
+// Whether this is answered to a text: how many orders it has, or why it isn't taken.
+fn is_answered(alloc: Global, text: &[u8], answer: Result<usize, OrderFault>) -> bool {
+    match Orders::parse(alloc, text) {
+        Ok(orders) => answer == Ok(orders.list().len()),
+        Err(fault) => answer == Err(fault),
+    }
 }
 
 #[test]
-fn texts_and_their_faults(rt: HostRuntime) -> Result<(), Fail> {
-    let rows = [
-        (b"".as_slice(), Ok(0)),
-        (CLEAN_FARM.as_bytes(), Ok(18)),
-        (MIXED_FARM.as_bytes(), Ok(18)),
-        (HARSH_FARM.as_bytes(), Ok(21)),
-        (b"5 open 1\n4 open 2", Err(OrderFault::Line(2))),
-        (b"0 open 01", Err(OrderFault::Line(1))),
-        (b"4000000000 open 1", Ok(1)),
-        (b"4294967294 open 1024\n", Ok(1)),
-        (b"4294967295 open 1", Err(OrderFault::Line(1))),
-        (b"0 open 1025", Err(OrderFault::Line(1))),
-        (b"0 open 0", Err(OrderFault::Line(1))),
-        (b"0 level 1 32768", Err(OrderFault::Line(1))),
-        (b"\n", Err(OrderFault::Line(1))),
-        (b"0 open 1\n\n", Err(OrderFault::Line(2))),
-        (b"0  open 1", Err(OrderFault::Line(1))),
-        (b"0 open 1 ", Err(OrderFault::Line(1))),
-        (b"0\topen 1", Err(OrderFault::Line(1))),
-        (b"0 open 1\r\n", Err(OrderFault::Line(1))),
-        (b"+0 open 1", Err(OrderFault::Line(1))),
-        (b"0 level 1 -1", Err(OrderFault::Line(1))),
-        (b"0 Open 1", Err(OrderFault::Line(1))),
-        (b"0 open \xb9", Err(OrderFault::Line(1))),
-        (b"0 open 1\0", Err(OrderFault::Line(1))),
-        (b"0 open 1\n0 bridge 1\n", Err(OrderFault::Line(2))),
-        (b"0 dtx 1 uplinks", Err(OrderFault::Line(1))),
-    ];
-    for (number, (text, answer)) in rows.iter().enumerate() {
-        assert_eq!(rt; count(rt.alloc(), text), *answer, "row {number}");
+fn orders_are_counted(rt: HostRuntime) {
+    for (text, orders) in [
+        ("", 0),
+        (CLEAN_FARM, 18),
+        (MIXED_FARM, 18),
+        (HARSH_FARM, 21),
+        ("4000000000 open 1", 1),
+        ("4294967294 open 1024\n", 1),
+    ] {
+        assert!(rt;
+            is_answered(rt.alloc(), text.as_bytes(), Ok(orders)),
+            "at {text}"
+        );
     }
-    Ok(())
+}
+
+// Whether the first line of a text is the first that isn't in the grammar.
+fn fails_at_once(alloc: Global, text: &[u8]) -> bool {
+    is_answered(alloc, text, Err(OrderFault::Line(1)))
+}
+
+#[test]
+fn first_lines_are_faults(rt: HostRuntime) {
+    for text in [
+        "0 open 01",
+        "4294967295 open 1",
+        "0 open 1025",
+        "0 open 0",
+        "0 level 1 32768",
+        "\n",
+        "0  open 1",
+        "0 open 1 ",
+        "0\topen 1",
+        "0 open 1\r\n",
+        "+0 open 1",
+        "0 level 1 -1",
+        "0 Open 1",
+        "0 open 1\0",
+        "0 dtx 1 uplinks",
+    ] {
+        assert!(rt; fails_at_once(rt.alloc(), text.as_bytes()), "at {text}");
+    }
+    assert!(rt; fails_at_once(rt.alloc(), b"0 open \xb9"), "no text");
+}
+
+#[test]
+fn second_lines_are_faults(rt: HostRuntime) {
+    for text in [
+        "5 open 1\n4 open 2",
+        "0 open 1\n\n",
+        "0 open 1\n0 bridge 1\n",
+    ] {
+        let fault = OrderFault::Line(2);
+        assert!(rt;
+            is_answered(rt.alloc(), text.as_bytes(), Err(fault)),
+            "at {text}"
+        );
+    }
+}
+
+// Whether this is answered to a text of so many of one octet.
+fn is_limit(alloc: Global, octet: u8, length: usize, fault: OrderFault) -> bool {
+    match vec![in alloc; octet; length] {
+        Ok(text) => is_answered(alloc, &text, Err(fault)),
+        Err(_) => false,
+    }
+}
+
+#[test]
+fn limits(rt: HostRuntime) {
+    let alloc = rt.alloc();
+    assert!(rt; is_limit(alloc, b'0', 1_048_576, OrderFault::Line(1)));
+    assert!(rt; is_limit(alloc, b'0', 1_048_577, OrderFault::TooLong));
+    assert!(rt; is_limit(alloc, b'\n', 65_536, OrderFault::Line(1)));
+    assert!(rt; is_limit(alloc, b'\n', 65_537, OrderFault::TooMany));
 }
 
 // So many lines with an order.
@@ -67,26 +108,31 @@ fn opens(alloc: Global, lines: u32) -> Result<Vec<u8>, AllocError> {
 }
 
 #[test]
-fn limits(rt: HostRuntime) -> Result<(), Fail> {
-    let alloc = rt.alloc();
-    for (octet, length, answer) in [
-        (b'0', 1_048_576, Err(OrderFault::Line(1))),
-        (b'0', 1_048_577, Err(OrderFault::TooLong)),
-        (b'\n', 65_536, Err(OrderFault::Line(1))),
-        (b'\n', 65_537, Err(OrderFault::TooMany)),
-    ] {
-        let text = all(alloc, octet, length)?;
-        assert_eq!(rt; count(alloc, &text), answer, "{length} octets");
-    }
-    assert_eq!(rt; count(alloc, &opens(alloc, 65_536)?), Ok(65_536));
+fn the_most_lines_are_orders(rt: HostRuntime) -> Result<(), Fail> {
+    let text = opens(rt.alloc(), 65_536)?;
+    assert!(rt; is_answered(rt.alloc(), &text, Ok(65_536)));
     Ok(())
 }
 
+const LINES: &[u8] =
+    b"0 open 1\n0 open 2\n0 open 3\n0 open 1\n0 bridge 1 1\n0 bridge 1 2\n0 bridge 3 2\n0 unbridge 3\n1 unbridge 2\n1 bridge 3 1\n1 close 3\n1 open 3\n1 level 9 0\n1 level 1024 32767\n35 dtx 1 on\n108 dtx 3 off\n4294967294 dtx 1 uplink";
+
+// Whether a text spells these orders.
+fn spells(alloc: Global, text: &[u8], wanted: &[(u32, What)]) -> bool {
+    let Ok(orders) = Orders::parse(alloc, text) else {
+        return false;
+    };
+    for (order, (stamp, what)) in orders.list().iter().zip(wanted) {
+        if order.stamp != *stamp || order.what != *what {
+            return false;
+        }
+    }
+    orders.list().len() == wanted.len()
+}
+
 #[test]
-fn lines_and_their_orders(rt: HostRuntime) -> Result<(), Fail> {
-    let text =
-        b"0 open 1\n0 open 2\n0 open 3\n0 open 1\n0 bridge 1 1\n0 bridge 1 2\n0 bridge 3 2\n0 unbridge 3\n1 unbridge 2\n1 bridge 3 1\n1 close 3\n1 open 3\n1 level 9 0\n1 level 1024 32767\n35 dtx 1 on\n108 dtx 3 off\n4294967294 dtx 1 uplink";
-    let orders = [
+fn lines_and_their_orders(rt: HostRuntime) {
+    let wanted = [
         (0, What::OpenCall(1)),
         (0, What::OpenCall(2)),
         (0, What::OpenCall(3)),
@@ -105,10 +151,5 @@ fn lines_and_their_orders(rt: HostRuntime) -> Result<(), Fail> {
         (108, What::Dtx(3, DtxMode::Off)),
         (4_294_967_294, What::Dtx(1, DtxMode::Uplink)),
     ];
-    let read = Orders::parse(rt.alloc(), text)?;
-    assert_eq!(rt; read.list().len(), orders.len());
-    for (order, (stamp, what)) in read.list().iter().zip(orders) {
-        assert_eq!(rt; *order, Order { stamp, what });
-    }
-    Ok(())
+    assert!(rt; spells(rt.alloc(), LINES, &wanted));
 }
