@@ -3,6 +3,7 @@ ghost use Rattle.std.specs.Prelude.{◌≡◌, ◌≤◌, length, map, vec_len, 
 use crate::held::Held;
 use pool_run::{OpenGate, PoolRoom, Work, run_pool};
 use std::alloc::{AllocError, Global};
+use std::process::Abort;
 use std::sync::Wait;
 use std::test::Fail;
 use std::thread::Threads;
@@ -131,17 +132,20 @@ fn is_as_in_turn<R: Threads + Wait + Sync>(
     Ok(are_same(answer.as_slice(), plain.as_slice()))
 }
 
+// Asserts that a job is finished, and what it has written down.
+fn assert_finished(rt: &impl Abort, job: &Counter, want: (u32, u32)) {
+    assert!(rt; job.finished());
+    assert_eq!(rt; (job.call(), job.digits), want);
+}
+
 #[test]
 fn each_job_is_finished_in_its_place(rt: HostRuntime) -> Result<(), Fail> {
     let given = [(7, 3), (2, 0), (9, 5), (4, 1)];
     let want = [(7, 321), (2, 0), (9, 54321), (4, 1)];
-    let room = PoolRoom::reserve(rt.alloc(), 2, 4)?;
-    let answer = run_pool(&rt, room, counters(rt.alloc(), &given)?, 2, &OpenGate);
+    let answer = run_at_once(&rt, rt.alloc(), &given, 2, 2)?;
     assert_eq!(rt; answer.len(), 4);
-    for k in 0..4 {
-        let job = &answer[k];
-        assert!(rt; job.finished());
-        assert_eq!(rt; (job.call(), job.digits), want[k]);
+    for (job, want) in answer.iter().zip(&want) {
+        assert_finished(&rt, job, *want);
     }
     Ok(())
 }
