@@ -7,7 +7,6 @@ use pool_run::OpenGate;
 use std::alloc::{AllocError, Global};
 use std::process::Abort;
 use std::sync::Wait;
-use std::test::Fail;
 use std::thread::Threads;
 use switchboard::Act;
 use trau_io::{CallEnd, Cause, Line, MemTrunk, Side};
@@ -258,7 +257,7 @@ fn assert_ended(rt: &impl Abort, trunk: &MemTrunk, farm: &Farm) {
 
 // A call has its periods in rounds of 1 and of 250, and ends where its lines do.
 #[test]
-fn one_call_in_rounds(rt: HostRuntime) -> Result<(), Fail> {
+fn one_call_in_rounds(rt: HostRuntime) -> Result<(), AllocError> {
     let alloc = rt.alloc();
     let mut trunk = MemTrunk::new(alloc)?;
     lines(&mut trunk, alloc, 7, 252)?;
@@ -281,7 +280,7 @@ fn lines_of_30_and_100(alloc: Global) -> Result<MemTrunk, AllocError> {
 
 // Of two bridged calls one has 30 periods and 13 octets: it ends, and the other goes on alone.
 #[test]
-fn a_partner_goes_on_alone(rt: HostRuntime) -> Result<(), Fail> {
+fn a_partner_goes_on_alone(rt: HostRuntime) -> Result<(), AllocError> {
     let alloc = rt.alloc();
     let mut trunk = lines_of_30_and_100(alloc)?;
     let farm = bridged(alloc, 9, 2)?;
@@ -308,7 +307,7 @@ fn lines_of_3_and_2(alloc: Global) -> Result<MemTrunk, AllocError> {
 
 // Both calls of a bridge end in one round; of a call both lines do.
 #[test]
-fn both_end_in_a_round(rt: HostRuntime) -> Result<(), Fail> {
+fn both_end_in_a_round(rt: HostRuntime) -> Result<(), AllocError> {
     let alloc = rt.alloc();
     let mut trunk = lines_of_3_and_2(alloc)?;
     let farm = bridged(alloc, 1, 4096)?;
@@ -350,7 +349,7 @@ fn assert_passed_over(rt: &impl Abort, trunk: &MemTrunk) {
 // Faults: a read ahead that fails past the end of the other line tells its line, and the call ends at the other one's end;
 // an outgoing line that failed is passed over.
 #[test]
-fn faults_end_their_own_call(rt: HostRuntime) -> Result<(), Fail> {
+fn faults_end_their_own_call(rt: HostRuntime) -> Result<(), AllocError> {
     let alloc = rt.alloc();
     let mut trunk = MemTrunk::new(alloc)?;
     lines_of_three(&mut trunk, alloc)?;
@@ -382,7 +381,7 @@ const FAULT_OF_4: CallEnd = CallEnd {
 
 // A Pcm line that fails ends its call, and no other.
 #[test]
-fn a_fault_ends_its_own_call(rt: HostRuntime) -> Result<(), Fail> {
+fn a_fault_ends_its_own_call(rt: HostRuntime) -> Result<(), AllocError> {
     let alloc = rt.alloc();
     let mut trunk = lines_with_a_fault(alloc)?;
     let farm = opened(alloc, 4, 5)?;

@@ -2,8 +2,8 @@ ghost use Rattle.std.specs.Prelude.{◌≡◌};
 
 use crate::farm_rounds_round_tests::{assert_failed, assert_live};
 use farm_rounds::Farm;
+use std::alloc::AllocError;
 use std::process::Abort;
-use std::test::Fail;
 use switchboard::Act;
 
 // Asserts that nothing was counted of the calls 2 and 9, and that call 2 sent nothing.
@@ -16,7 +16,7 @@ fn assert_nothing_counted(rt: &impl Abort, farm: &Farm) {
 
 // Calls are opened, bridged and closed; what is kept of them is there afterwards.
 #[test]
-fn calls_come_and_go(rt: HostRuntime) -> Result<(), Fail> {
+fn calls_come_and_go(rt: HostRuntime) -> Result<(), AllocError> {
     let alloc = rt.alloc();
     let mut farm = Farm::new(alloc)?;
     farm.apply(alloc, &Act::Opened { call: 9 })?;

@@ -4,7 +4,6 @@ use crate::farm_top_tests::carry_gated;
 use crate::held::Held;
 use std::alloc::{AllocError, Global};
 use std::sync::Wait;
-use std::test::Fail;
 use std::thread::Threads;
 use trau_io::MemTrunk;
 
@@ -45,7 +44,7 @@ fn each_wait_is_answered<R: Threads + Wait + Sync>(
 // Calls 1 and 3 start in one deque, and call 2 in the other. The worker that is held with one call of a pair can't work the
 // other one: so the other worker has to take it, where it was begun, and both have to be at work at once.
 #[test]
-fn calls_are_stolen_half_done(rt: HostRuntime) -> Result<(), Fail> {
+fn calls_are_stolen_half_done(rt: HostRuntime) -> Result<(), AllocError> {
     for pair in [(1, 3), (1, 2), (2, 3)] {
         assert!(rt;
             each_wait_is_answered(&rt, rt.alloc(), pair)?,

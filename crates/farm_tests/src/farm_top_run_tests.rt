@@ -5,7 +5,6 @@ use crate::farm_top_tests::{DECODED, UPLINK_FRAME, assert_status, assert_text, c
 use std::alloc::{AllocError, Global};
 use std::process::Abort;
 use std::sync::Wait;
-use std::test::Fail;
 use std::thread::Threads;
 use trau_io::{Line, MemDesk, MemTrunk, Side};
 
@@ -163,7 +162,7 @@ end period 3 calls 1 left 0
 
 // An uplink without a frame: each period makes an idle frame.
 #[test]
-fn one_call_is_run(rt: HostRuntime) -> Result<(), Fail> {
+fn one_call_is_run(rt: HostRuntime) -> Result<(), AllocError> {
     let alloc = rt.alloc();
     let mut trunk = MemTrunk::new(alloc)?;
     set_idle_call(alloc, &mut trunk, 1)?;
@@ -226,7 +225,7 @@ fn lines_of_two(alloc: Global) -> Result<MemTrunk, AllocError> {
 }
 
 #[test]
-fn orders_are_answered(rt: HostRuntime) -> Result<(), Fail> {
+fn orders_are_answered(rt: HostRuntime) -> Result<(), AllocError> {
     let alloc = rt.alloc();
     let mut trunk = lines_of_two(alloc)?;
     let desk = runs(&rt, alloc, &["run"], ORDERS.as_bytes(), &mut trunk, 0)?;
@@ -262,7 +261,7 @@ fn assert_alone_from_30(rt: &impl Abort, trunk: &MemTrunk) {
 
 // A call whose uplink ends ends its bridge, and its partner goes on alone with its codecs from home.
 #[test]
-fn a_bridged_call_ends(rt: HostRuntime) -> Result<(), Fail> {
+fn a_bridged_call_ends(rt: HostRuntime) -> Result<(), AllocError> {
     let alloc = rt.alloc();
     let mut trunk = lines_of_a_bridge(alloc)?;
     let orders = b"0 open 7\n0 open 9\n0 bridge 7 9";
@@ -324,7 +323,7 @@ fn assert_same(rt: &impl Abort, one: &MemTrunk, other: &MemTrunk, line: Line) {
 
 // A line that fails leaves all other calls, and the other lines of its own, as they are without it.
 #[test]
-fn lines_fail(rt: HostRuntime) -> Result<(), Fail> {
+fn lines_fail(rt: HostRuntime) -> Result<(), AllocError> {
     let alloc = rt.alloc();
     let calm = calm_run(&rt, alloc)?;
     let trunk = run_with_faults(&rt, alloc)?;
@@ -344,17 +343,16 @@ end period 4000000000 calls 1 left 0
 
 // No orders, and a call without a period.
 #[test]
-fn a_run_has_no_period(rt: HostRuntime) -> Result<(), Fail> {
+fn a_run_has_no_period(rt: HostRuntime) -> Result<(), AllocError> {
     let alloc = rt.alloc();
     let mut trunk = MemTrunk::new(alloc)?;
     reports(&rt, alloc, b"", &mut trunk, 0, NO_ORDER)?;
-    reports(&rt, alloc, b"4000000000 open 1", &mut trunk, 0, NO_PERIOD)?;
-    Ok(())
+    reports(&rt, alloc, b"4000000000 open 1", &mut trunk, 0, NO_PERIOD)
 }
 
 // The limit of periods, and an order past it.
 #[test]
-fn a_run_ends_at_its_limit(rt: HostRuntime) -> Result<(), Fail> {
+fn a_run_ends_at_its_limit(rt: HostRuntime) -> Result<(), AllocError> {
     let alloc = rt.alloc();
     let mut trunk = MemTrunk::new(alloc)?;
     set_good_call(alloc, &mut trunk, 1, 9)?;
@@ -375,10 +373,9 @@ fn too_many_orders(alloc: Global) -> Result<Vec<u8>, AllocError> {
 }
 
 #[test]
-fn orders_are_too_long(rt: HostRuntime) -> Result<(), Fail> {
+fn orders_are_too_long(rt: HostRuntime) -> Result<(), AllocError> {
     let alloc = rt.alloc();
     let mut trunk = MemTrunk::new(alloc)?;
     let orders = too_many_orders(alloc)?;
-    reports(&rt, alloc, &orders, &mut trunk, 7, "orders too long\n")?;
-    Ok(())
+    reports(&rt, alloc, &orders, &mut trunk, 7, "orders too long\n")
 }

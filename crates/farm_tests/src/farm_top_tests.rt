@@ -4,7 +4,6 @@ use pool_run::{Gate, OpenGate};
 use std::alloc::{AllocError, Global};
 use std::process::Abort;
 use std::sync::Wait;
-use std::test::Fail;
 use std::thread::Threads;
 use trau_io::{Line, MemDesk, MemTrunk};
 
@@ -306,7 +305,7 @@ fn fail_in_turn<R: Abort + Threads + Wait + Sync>(
 }
 
 #[test]
-fn each_call_of_the_outside_fails_in_turn(rt: HostRuntime) -> Result<(), Fail> {
+fn each_call_of_the_outside_fails_in_turn(rt: HostRuntime) -> Result<(), AllocError> {
     let alloc = rt.alloc();
     for row in &ROWS {
         fail_in_turn(&rt, alloc, row, 39, 12)?;
@@ -383,7 +382,7 @@ fn refuses_octet<R: Abort + Threads + Wait + Sync>(
 }
 
 #[test]
-fn an_uplink_ends(rt: HostRuntime) -> Result<(), Fail> {
+fn an_uplink_ends(rt: HostRuntime) -> Result<(), AllocError> {
     let alloc = rt.alloc();
     for cut in CUTS {
         relays(&rt, alloc, 2, 0, cut, 0, "relay frames 2\n")?;
@@ -396,16 +395,15 @@ fn an_uplink_ends(rt: HostRuntime) -> Result<(), Fail> {
 
 // No sync, a bad frame, an idle frame.
 #[test]
-fn an_uplink_is_refused(rt: HostRuntime) -> Result<(), Fail> {
+fn an_uplink_is_refused(rt: HostRuntime) -> Result<(), AllocError> {
     let alloc = rt.alloc();
     refuses_octet(&rt, alloc, 42, 0x08)?;
     refuses_octet(&rt, alloc, 43, 0x08)?;
-    refuses_octet(&rt, alloc, 42, 0xC0)?;
-    Ok(())
+    refuses_octet(&rt, alloc, 42, 0xC0)
 }
 
 #[test]
-fn an_uplink_is_decoded(rt: HostRuntime) -> Result<(), Fail> {
+fn an_uplink_is_decoded(rt: HostRuntime) -> Result<(), AllocError> {
     let alloc = rt.alloc();
     let mut trunk = lines(alloc, 1000, &[], &[])?;
     let mut desk = desk(alloc, &[], 100)?;
@@ -442,7 +440,7 @@ fn lists<R: Abort + Threads + Wait + Sync>(
 }
 
 #[test]
-fn frames_are_listed(rt: HostRuntime) -> Result<(), Fail> {
+fn frames_are_listed(rt: HostRuntime) -> Result<(), AllocError> {
     let alloc = rt.alloc();
     let text = "0 good\n320 miss\n640 miss\n960 good\nframes 4 left 3\n";
     for cut in [41, 1000] {
@@ -463,7 +461,7 @@ const LISTS: [(u32, u32, u8, &str); 7] = [
 ];
 
 #[test]
-fn a_list_ends_where_a_call_fails(rt: HostRuntime) -> Result<(), Fail> {
+fn a_list_ends_where_a_call_fails(rt: HostRuntime) -> Result<(), AllocError> {
     for (read, write, status, text) in LISTS {
         lists(&rt, rt.alloc(), read, write, status, text)?;
     }
@@ -497,14 +495,13 @@ const NO_COMMANDS: [&[&str]; 10] = [
 ];
 
 #[test]
-fn other_words_are_usage(rt: HostRuntime) -> Result<(), Fail> {
+fn other_words_are_usage(rt: HostRuntime) -> Result<(), AllocError> {
     let alloc = rt.alloc();
     for texts in NO_COMMANDS {
         are_usage(&rt, alloc, texts, 100, "usage\n")?;
     }
     // A full desk takes a front of the text.
-    are_usage(&rt, alloc, &["relay", "07"], 3, "usa")?;
-    Ok(())
+    are_usage(&rt, alloc, &["relay", "07"], 3, "usa")
 }
 
 // A desk with these orders, of which the read of this number fails.
@@ -529,11 +526,10 @@ fn refuses<R: Abort + Threads + Wait + Sync>(
 }
 
 #[test]
-fn orders_are_refused(rt: HostRuntime) -> Result<(), Fail> {
+fn orders_are_refused(rt: HostRuntime) -> Result<(), AllocError> {
     let alloc = rt.alloc();
     let orders = "5 open 1\n4 open 2";
     refuses(&rt, alloc, orders, 9, 2, "orders line 2\n")?;
     refuses(&rt, alloc, "0 open 01", 9, 2, "orders line 1\n")?;
-    refuses(&rt, alloc, "0 open 1", 0, 3, "orders unread\n")?;
-    Ok(())
+    refuses(&rt, alloc, "0 open 1", 0, 3, "orders unread\n")
 }

@@ -1,8 +1,8 @@
 ghost use Rattle.std.specs.Prelude.{◌≡◌};
 
 use pool_core::{NotLegal, Pool, PoolStep};
+use std::alloc::AllocError;
 use std::process::Abort;
-use std::test::Fail;
 
 // What is done once the first job has two of its periods, and whether it is legal.
 const STEPS: [(PoolStep, bool); 8] = [
@@ -49,7 +49,7 @@ fn assert_step(rt: &impl Abort, pool: &mut Pool, step: PoolStep, legal: bool)
 
 // Two workers, and jobs of 3 periods and of 1. The first job is stolen with one period left.
 #[test]
-fn a_job_is_stolen(rt: HostRuntime) -> Result<(), Fail> {
+fn a_job_is_stolen(rt: HostRuntime) -> Result<(), AllocError> {
     let mut pool = Pool::new(rt.alloc(), 2, &[3, 1])?;
     assert_step(&rt, &mut pool, PoolStep::Pop { worker: 0 }, true);
     let run = PoolStep::Run {

@@ -4,7 +4,6 @@ use crate::call_seven::{DOWN, OUT, PCM, UP};
 use round_lines::{Buffers, Seat, drain_seats, fill_seats, list_ends, list_failed};
 use std::alloc::{AllocError, Global};
 use std::process::Abort;
-use std::test::Fail;
 use trau_io::{CallEnd, Cause, Line, MemTrunk, Side, Trunk};
 
 // Sets a line of call 7: so many octets to come or room for so many, which of its calls are cut and which fail.
@@ -77,7 +76,7 @@ fn assert_came(rt: &impl Abort, up: &[u8]) {
 
 // Two of three periods came, in cuts; 20 octets of Up are left.
 #[test]
-fn whole_periods_come_in(rt: HostRuntime) -> Result<(), Fail> {
+fn whole_periods_come_in(rt: HostRuntime) -> Result<(), AllocError> {
     let alloc = rt.alloc();
     let mut trunk = lines_in_cuts(alloc)?;
     let seat = filled(alloc, &mut trunk)?;
@@ -102,7 +101,7 @@ fn assert_written(rt: &impl Abort, trunk: &MemTrunk, line: Line, octets: &[u8]) 
 
 // Two of three periods go out, and of Pcm a round's octets were read.
 #[test]
-fn whole_periods_go_out(rt: HostRuntime) -> Result<(), Fail> {
+fn whole_periods_go_out(rt: HostRuntime) -> Result<(), AllocError> {
     let alloc = rt.alloc();
     let mut trunk = lines_in_cuts(alloc)?;
     let mut seat = worked(filled(alloc, &mut trunk)?);
@@ -160,7 +159,7 @@ fn assert_round(
 
 // Up is empty, and Pcm is read for the whole round all the same.
 #[test]
-fn pcm_is_read_where_up_has_ended(rt: HostRuntime) -> Result<(), Fail> {
+fn pcm_is_read_where_up_has_ended(rt: HostRuntime) -> Result<(), AllocError> {
     let alloc = rt.alloc();
     let mut trunk = MemTrunk::new(alloc)?;
     set(&mut trunk, alloc, PCM, 160, &[], &[])?;
@@ -185,11 +184,10 @@ const PCM_FAILS: CallEnd = CallEnd {
 
 // Pcm fails after 400 octets: two periods and a half.
 #[test]
-fn a_fault_ends_the_call_after_its_whole_periods(rt: HostRuntime) -> Result<(), Fail> {
+fn a_fault_ends_the_call_after_its_whole_periods(rt: HostRuntime) -> Result<(), AllocError> {
     let alloc = rt.alloc();
     let mut trunk = lines_with_a_fault(alloc)?;
-    assert_round(&rt, alloc, &mut trunk, 5, PCM_FAILS, &[PCM])?;
-    Ok(())
+    assert_round(&rt, alloc, &mut trunk, 5, PCM_FAILS, &[PCM])
 }
 
 // Two periods on both lines; the first write to Down fails.
@@ -221,7 +219,7 @@ fn assert_failed(
 
 // Down fails at its first write, and isn't written to in the next round.
 #[test]
-fn a_failed_line_is_passed_over(rt: HostRuntime) -> Result<(), Fail> {
+fn a_failed_line_is_passed_over(rt: HostRuntime) -> Result<(), AllocError> {
     let alloc = rt.alloc();
     let mut trunk = lines_where_down_fails(alloc)?;
     assert_failed(&rt, alloc, &mut trunk, false, &[DOWN])?;
