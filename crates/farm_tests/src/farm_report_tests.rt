@@ -1,7 +1,6 @@
 use farm_report::{CallLine, Report, SpanLine, write_report};
 use std::alloc::{AllocError, Global};
 use std::process::Abort;
-use std::test::Fail;
 use switchboard::{Act, Refusal, Reply, Span};
 use trau_io::{CallEnd, Cause, Counts, Line, Side};
 
@@ -38,7 +37,12 @@ fn call(call: u32, from: u32, at: u32, cause: Cause, numbers: [u64; 9]) -> CallL
 }
 
 // Asserts what the report's text is.
-fn assert_text(rt: &impl Abort, alloc: Global, report: &Report, text: &str) -> Result<(), Fail> {
+fn assert_text(
+    rt: &impl Abort,
+    alloc: Global,
+    report: &Report,
+    text: &str,
+) -> Result<(), AllocError> {
     assert_eq!(rt; write_report(alloc, report)?.as_str(), text);
     Ok(())
 }
@@ -146,7 +150,7 @@ end period 30 calls 6 left 1
 ";
 
 #[test]
-fn each_reply_and_each_cause(rt: HostRuntime) -> Result<(), Fail> {
+fn each_reply_and_each_cause(rt: HostRuntime) -> Result<(), AllocError> {
     let alloc = rt.alloc();
     let report = Report {
         replies: each_reply().to_vec(alloc)?,
@@ -202,7 +206,7 @@ end period 4294967295 calls 1 left 4294967295
 ";
 
 #[test]
-fn the_greatest_numbers(rt: HostRuntime) -> Result<(), Fail> {
+fn the_greatest_numbers(rt: HostRuntime) -> Result<(), AllocError> {
     let alloc = rt.alloc();
     assert_text(&rt, alloc, &greatest(alloc)?, GREATEST_TEXT)
 }
@@ -288,7 +292,7 @@ end period 163 calls 4 left 0
 
 // The report of a whole run, recorded as the answer of a separate program.
 #[test]
-fn a_recorded_report(rt: HostRuntime) -> Result<(), Fail> {
+fn a_recorded_report(rt: HostRuntime) -> Result<(), AllocError> {
     let alloc = rt.alloc();
     let report = Report {
         replies: recorded_replies(alloc)?,

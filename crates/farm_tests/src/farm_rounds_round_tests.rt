@@ -1,11 +1,12 @@
 ghost use Rattle.std.specs.Prelude.{◌≡◌, ◌≢◌, ◌+◌, ◌*◌, ◌<◌, ◌≤◌, IfOk};
 ghost use Rattle.farm_rounds.specs.Calls.{IsNumber};
 
+use crate::call_seven::{DOWN, OUT};
 use farm_rounds::{Farm, Round, Worked};
 use pool_run::OpenGate;
 use std::alloc::{AllocError, Global};
+use std::process::Abort;
 use std::sync::Wait;
-use std::test::Fail;
 use std::thread::Threads;
 use switchboard::Act;
 use trau_io::{CallEnd, Cause, Line, MemTrunk, Side};
@@ -44,14 +45,14 @@ fn opened(alloc: Global, a: u32, b: u32) -> Result<Farm, AllocError>
     Ok(farm)
 }
 
-fn periods_of(farm: &Farm, call: u32) -> u64
+// A new farm with one call.
+fn only(alloc: Global, call: u32) -> Result<Farm, AllocError>
     requires { IsNumber call }
+    ensures { IfOk result (λ f. f.ended ≡ 0) }
 {
-    let counts = farm.counts(call);
-    counts
-        .good
-        .saturating_add(counts.none)
-        .saturating_add(counts.miss)
+    let mut farm = Farm::new(alloc)?;
+    farm.apply(alloc, &Act::Opened { call })?;
+    Ok(farm)
 }
 
 fn line(call: u32, side: Side) -> Line
@@ -111,23 +112,30 @@ fn lines(trunk: &mut MemTrunk, alloc: Global, call: u32, periods: u32) -> Result
     set(trunk, alloc, line(call, Side::Out), 0, &[], 160 * periods)
 }
 
-fn round<R: Threads + Wait + Sync>(
-    rt: &R,
-    alloc: Global,
-    trunk: &mut MemTrunk,
-    farm: Farm,
-    start: u32,
-    periods: u32,
-) -> Result<Worked, AllocError>
+// A round that is planned, with the memory that it needs.
+fn planned(alloc: Global, farm: Farm, start: u32, periods: u32) -> Result<Round, AllocError>
     requires some { 1 ≤ periods }
     requires few { periods ≤ 250 }
     requires last { start + periods ≤ 4294967295 }
     requires later { farm.ended ≤ start }
-    ensures { IfOk result (λ w. w.ended ≡ start + periods) }
+    ensures { IfOk result (λ r. r.ended ≡ start + periods) }
 {
-    let mut round = Round::plan(alloc, farm, start, periods, 4)?;
+    Round::plan(alloc, farm, start, periods, 4)
+}
+
+// Reads what comes in.
+fn filled(mut round: Round, trunk: &mut MemTrunk) -> Round
+    ensures { result.ended ≡ round.ended }
+{
     round.fill(trunk);
-    Ok(round.work(rt, 7, &OpenGate))
+    round
+}
+
+// Works what came in.
+fn worked<R: Threads + Wait + Sync>(rt: &R, round: Round) -> Worked
+    ensures { result.ended ≡ round.ended }
+{
+    round.work(rt, 7, &OpenGate)
 }
 
 // Writes what goes out, and gives the farm.
@@ -137,73 +145,127 @@ fn drained(worked: Worked, trunk: &mut MemTrunk) -> Farm
     worked.drain(trunk)
 }
 
-// How many octets a line got.
-fn written(trunk: &MemTrunk, call: u32, side: Side) -> usize
+// Asserts that these ends are told.
+fn assert_ends(rt: &impl Abort, worked: &Worked, ends: &[CallEnd]) {
+    assert_eq!(rt; worked.ends(), ends);
+}
+
+// Carries out a round, in which these ends are told, and gives the farm after it.
+fn pass<R: Abort + Threads + Wait + Sync>(
+    rt: &R,
+    alloc: Global,
+    trunk: &mut MemTrunk,
+    farm: Farm,
+    start: u32,
+    periods: u32,
+    ends: &[CallEnd],
+) -> Result<Farm, AllocError>
+    requires some { 1 ≤ periods }
+    requires few { periods ≤ 250 }
+    requires last { start + periods ≤ 4294967295 }
+    requires later { farm.ended ≤ start }
+    ensures { IfOk result (λ f. f.ended ≡ start + periods) }
+{
+    let round = planned(alloc, farm, start, periods)?;
+    let worked = worked(rt, filled(round, trunk));
+    assert_ends(rt, &worked, ends);
+    Ok(drained(worked, trunk))
+}
+
+// The end of a call where one of its lines does, with so many octets left.
+fn end(call: u32, at: u32, side: Side, left: u32) -> CallEnd {
+    CallEnd {
+        call,
+        at,
+        cause: Cause::End { side, left },
+    }
+}
+
+// Asserts how many octets a line got.
+fn assert_written(rt: &impl Abort, trunk: &MemTrunk, line: Line, octets: usize) {
+    assert_eq!(rt; trunk.written(line).len(), octets);
+}
+
+// Asserts which calls are open.
+pub(crate) fn assert_live(rt: &impl Abort, farm: &Farm, calls: &[u32]) {
+    assert_eq!(rt; farm.live_calls(), calls);
+}
+
+// Asserts which lines have failed.
+pub(crate) fn assert_failed(rt: &impl Abort, farm: &Farm, lines: &[Line]) {
+    assert_eq!(rt; farm.failed(), lines);
+}
+
+// Asserts how many periods a call has had.
+fn assert_periods(rt: &impl Abort, farm: &Farm, call: u32, periods: u64)
     requires { IsNumber call }
 {
-    trunk.written(line(call, side)).len()
+    let counts = farm.counts(call);
+    let had = counts
+        .good
+        .saturating_add(counts.none)
+        .saturating_add(counts.miss);
+    assert_eq!(rt; had, periods);
 }
 
-// Whether these ends are told.
-fn are_ends(worked: &Worked, ends: &[CallEnd]) -> bool {
-    worked.ends() == ends
-}
-
-// Whether these calls are open.
-fn are_live(farm: &Farm, calls: &[u32]) -> bool {
-    farm.live_calls() == calls
-}
-
-// Whether these lines have failed.
-fn are_failed(farm: &Farm, lines: &[Line]) -> bool {
-    farm.failed() == lines
-}
-
-// How many frames a call has sent in its bridge.
-fn sent(farm: &Farm, call: u32) -> u32
+// Asserts that a call has sent frames in its bridge.
+fn assert_sent(rt: &impl Abort, farm: &Farm, call: u32)
     requires { IsNumber call }
 {
-    farm.sent(call)
+    assert!(rt; 0 < farm.sent(call));
+}
+
+// The first period of call 7.
+fn first_period<R: Abort + Threads + Wait + Sync>(
+    rt: &R,
+    alloc: Global,
+    trunk: &mut MemTrunk,
+) -> Result<Farm, AllocError>
+    ensures { IfOk result (λ f. f.ended ≡ 1) }
+{
+    let farm = only(alloc, 7)?;
+    assert_live(rt, &farm, &[7]);
+    let farm = pass(rt, alloc, trunk, farm, 0, 1, &[])?;
+    assert_written(rt, trunk, OUT, 160);
+    assert_periods(rt, &farm, 7, 1);
+    Ok(farm)
+}
+
+// 250 periods more.
+fn most_periods<R: Abort + Threads + Wait + Sync>(
+    rt: &R,
+    alloc: Global,
+    trunk: &mut MemTrunk,
+    farm: Farm,
+) -> Result<Farm, AllocError>
+    requires { farm.ended ≡ 1 }
+    ensures { IfOk result (λ f. f.ended ≡ 251) }
+{
+    let farm = pass(rt, alloc, trunk, farm, 1, 250, &[])?;
+    assert_written(rt, trunk, DOWN, 251 * 40);
+    assert_live(rt, &farm, &[7]);
+    Ok(farm)
+}
+
+// Asserts how call 7 has ended after 252 periods.
+fn assert_ended(rt: &impl Abort, trunk: &MemTrunk, farm: &Farm) {
+    assert_live(rt, farm, &[]);
+    assert_failed(rt, farm, &[]);
+    assert_periods(rt, farm, 7, 252);
+    assert_written(rt, trunk, DOWN, 252 * 40);
 }
 
 // A call has its periods in rounds of 1 and of 250, and ends where its lines do.
 #[test]
-fn one_call_in_rounds(rt: HostRuntime) -> Result<(), Fail> {
+fn one_call_in_rounds(rt: HostRuntime) -> Result<(), AllocError> {
     let alloc = rt.alloc();
     let mut trunk = MemTrunk::new(alloc)?;
     lines(&mut trunk, alloc, 7, 252)?;
-    let mut farm = Farm::new(alloc)?;
-    farm.apply(alloc, &Act::Opened { call: 7 })?;
-    assert!(rt; are_live(&farm, &[7]));
-    let worked = round(&rt, alloc, &mut trunk, farm, 0, 1)?;
-    assert!(rt; are_ends(&worked, &[]));
-    let farm = drained(worked, &mut trunk);
-    assert_eq!(rt; written(&trunk, 7, Side::Out), 160);
-    assert_eq!(rt; periods_of(&farm, 7), 1);
-    let worked = round(&rt, alloc, &mut trunk, farm, 1, 250)?;
-    let farm = drained(worked, &mut trunk);
-    assert_eq!(rt; written(&trunk, 7, Side::Down), 251 * 40);
-    assert!(rt; are_live(&farm, &[7]));
-    let worked = round(&rt, alloc, &mut trunk, farm, 251, 2)?;
-    let cause = Cause::End {
-        side: Side::Up,
-        left: 0,
-    };
-    assert!(rt;
-        are_ends(
-            &worked,
-            &[CallEnd {
-                call: 7,
-                at: 252,
-                cause
-            }]
-        )
-    );
-    let farm = drained(worked, &mut trunk);
-    assert!(rt; are_live(&farm, &[]));
-    assert!(rt; are_failed(&farm, &[]));
-    assert_eq!(rt; periods_of(&farm, 7), 252);
-    assert_eq!(rt; written(&trunk, 7, Side::Down), 252 * 40);
+    let farm = first_period(&rt, alloc, &mut trunk)?;
+    let farm = most_periods(&rt, alloc, &mut trunk, farm)?;
+    let ends = [end(7, 252, Side::Up, 0)];
+    let farm = pass(&rt, alloc, &mut trunk, farm, 251, 2, &ends)?;
+    assert_ended(&rt, &trunk, &farm);
     Ok(())
 }
 
@@ -218,31 +280,17 @@ fn lines_of_30_and_100(alloc: Global) -> Result<MemTrunk, AllocError> {
 
 // Of two bridged calls one has 30 periods and 13 octets: it ends, and the other goes on alone.
 #[test]
-fn a_partner_goes_on_alone(rt: HostRuntime) -> Result<(), Fail> {
+fn a_partner_goes_on_alone(rt: HostRuntime) -> Result<(), AllocError> {
     let alloc = rt.alloc();
     let mut trunk = lines_of_30_and_100(alloc)?;
     let farm = bridged(alloc, 9, 2)?;
-    let worked = round(&rt, alloc, &mut trunk, farm, 10, 40)?;
-    let cause = Cause::End {
-        side: Side::Up,
-        left: 13,
-    };
-    assert!(rt;
-        are_ends(
-            &worked,
-            &[CallEnd {
-                call: 9,
-                at: 40,
-                cause
-            }]
-        )
-    );
-    let farm = drained(worked, &mut trunk);
-    assert!(rt; are_live(&farm, &[2]));
-    assert_eq!(rt; written(&trunk, 9, Side::Out), 30 * 160);
-    assert_eq!(rt; written(&trunk, 2, Side::Out), 40 * 160);
-    assert!(rt; 0 < sent(&farm, 2));
-    assert!(rt; 0 < sent(&farm, 9));
+    let ends = [end(9, 40, Side::Up, 13)];
+    let farm = pass(&rt, alloc, &mut trunk, farm, 10, 40, &ends)?;
+    assert_live(&rt, &farm, &[2]);
+    assert_written(&rt, &trunk, line(9, Side::Out), 30 * 160);
+    assert_written(&rt, &trunk, line(2, Side::Out), 40 * 160);
+    assert_sent(&rt, &farm, 2);
+    assert_sent(&rt, &farm, 9);
     Ok(())
 }
 
@@ -251,92 +299,68 @@ fn lines_of_3_and_2(alloc: Global) -> Result<MemTrunk, AllocError> {
     let mut trunk = MemTrunk::new(alloc)?;
     lines(&mut trunk, alloc, 1, 3)?;
     lines(&mut trunk, alloc, 4096, 5)?;
-    set(&mut trunk, alloc, line(1, Side::Pcm), 3 * 160 + 1, &[], 0)?;
-    set(
-        &mut trunk,
-        alloc,
-        line(4096, Side::Pcm),
-        2 * 160 + 8,
-        &[],
-        0,
-    )?;
+    let (low, high) = (line(1, Side::Pcm), line(4096, Side::Pcm));
+    set(&mut trunk, alloc, low, 3 * 160 + 1, &[], 0)?;
+    set(&mut trunk, alloc, high, 2 * 160 + 8, &[], 0)?;
     Ok(trunk)
 }
 
 // Both calls of a bridge end in one round; of a call both lines do.
 #[test]
-fn both_end_in_a_round(rt: HostRuntime) -> Result<(), Fail> {
+fn both_end_in_a_round(rt: HostRuntime) -> Result<(), AllocError> {
     let alloc = rt.alloc();
     let mut trunk = lines_of_3_and_2(alloc)?;
     let farm = bridged(alloc, 1, 4096)?;
-    let worked = round(&rt, alloc, &mut trunk, farm, 0, 10)?;
-    let ends = [
-        CallEnd {
-            call: 1,
-            at: 3,
-            cause: Cause::End {
-                side: Side::Up,
-                left: 0,
-            },
-        },
-        CallEnd {
-            call: 4096,
-            at: 2,
-            cause: Cause::End {
-                side: Side::Pcm,
-                left: 8,
-            },
-        },
-    ];
-    assert!(rt; are_ends(&worked, &ends));
-    let farm = drained(worked, &mut trunk);
-    assert!(rt; are_live(&farm, &[]));
-    assert_eq!(rt; written(&trunk, 1, Side::Down), 3 * 40);
-    assert_eq!(rt; written(&trunk, 4096, Side::Down), 2 * 40);
+    let ends = [end(1, 3, Side::Up, 0), end(4096, 2, Side::Pcm, 8)];
+    let farm = pass(&rt, alloc, &mut trunk, farm, 0, 10, &ends)?;
+    assert_live(&rt, &farm, &[]);
+    assert_written(&rt, &trunk, line(1, Side::Down), 3 * 40);
+    assert_written(&rt, &trunk, line(4096, Side::Down), 2 * 40);
     Ok(())
 }
 
-// Of call 3 the Pcm line fails past the end of Up, of call 6 the Down line at once.
-fn lines_with_faults(alloc: Global) -> Result<MemTrunk, AllocError> {
-    let mut trunk = MemTrunk::new(alloc)?;
-    lines(&mut trunk, alloc, 3, 20)?;
-    lines(&mut trunk, alloc, 6, 20)?;
-    // Call 3: Up has 2 periods, Pcm 4 and then fails.
-    set(&mut trunk, alloc, line(3, Side::Up), 80, &[], 0)?;
-    set(&mut trunk, alloc, line(3, Side::Pcm), 640, &[1], 0)?;
-    // Call 6: Down fails at once.
-    set(&mut trunk, alloc, line(6, Side::Down), 0, &[0], 800)?;
-    Ok(trunk)
+// Call 3: Up has 2 periods, Pcm 4 and then fails.
+fn lines_of_three(trunk: &mut MemTrunk, alloc: Global) -> Result<(), AllocError> {
+    lines(trunk, alloc, 3, 20)?;
+    set(trunk, alloc, line(3, Side::Up), 80, &[], 0)?;
+    set(trunk, alloc, line(3, Side::Pcm), 640, &[1], 0)
+}
+
+// Call 6: Down fails at once.
+fn lines_of_six(trunk: &mut MemTrunk, alloc: Global) -> Result<(), AllocError> {
+    lines(trunk, alloc, 6, 20)?;
+    set(trunk, alloc, line(6, Side::Down), 0, &[0], 800)
+}
+
+// Asserts that call 6 alone is open, and that the Pcm line of call 3 and the Down line of call 6 have failed.
+fn assert_faults(rt: &impl Abort, farm: &Farm) {
+    assert_live(rt, farm, &[6]);
+    assert_failed(rt, farm, &[line(3, Side::Pcm), line(6, Side::Down)]);
+}
+
+// Asserts that nothing went to the Down line of call 6 after its fault, and all periods to its Out line.
+fn assert_passed_over(rt: &impl Abort, trunk: &MemTrunk) {
+    let down = line(6, Side::Down);
+    assert_written(rt, trunk, down, 0);
+    assert_written(rt, trunk, line(6, Side::Out), 20 * 160);
+    assert_eq!(rt; trunk.faults(down), 1);
 }
 
 // Faults: a read ahead that fails past the end of the other line tells its line, and the call ends at the other one's end;
 // an outgoing line that failed is passed over.
 #[test]
-fn faults_end_their_own_call(rt: HostRuntime) -> Result<(), Fail> {
+fn faults_end_their_own_call(rt: HostRuntime) -> Result<(), AllocError> {
     let alloc = rt.alloc();
-    let mut trunk = lines_with_faults(alloc)?;
+    let mut trunk = MemTrunk::new(alloc)?;
+    lines_of_three(&mut trunk, alloc)?;
+    lines_of_six(&mut trunk, alloc)?;
     let farm = opened(alloc, 6, 3)?;
-    let worked = round(&rt, alloc, &mut trunk, farm, 0, 10)?;
-    let ends = [CallEnd {
-        call: 3,
-        at: 2,
-        cause: Cause::End {
-            side: Side::Up,
-            left: 0,
-        },
-    }];
-    assert!(rt; are_ends(&worked, &ends));
-    let farm = drained(worked, &mut trunk);
-    assert!(rt; are_live(&farm, &[6]));
-    let failed = [line(3, Side::Pcm), line(6, Side::Down)];
-    assert!(rt; are_failed(&farm, &failed));
-    let worked = round(&rt, alloc, &mut trunk, farm, 10, 10)?;
-    let farm = drained(worked, &mut trunk);
-    assert!(rt; are_live(&farm, &[6]));
-    assert!(rt; are_failed(&farm, &failed));
-    assert_eq!(rt; written(&trunk, 6, Side::Down), 0);
-    assert_eq!(rt; written(&trunk, 6, Side::Out), 20 * 160);
-    assert_eq!(rt; trunk.faults(line(6, Side::Down)), 1);
+    let ends = [end(3, 2, Side::Up, 0)];
+    let farm = pass(&rt, alloc, &mut trunk, farm, 0, 10, &ends)?;
+    assert_faults(&rt, &farm);
+    let farm = pass(&rt, alloc, &mut trunk, farm, 10, 10, &[])?;
+    assert_faults(&rt, &farm);
+    assert_passed_over(&rt, &trunk);
     Ok(())
 }
 
@@ -349,23 +373,21 @@ fn lines_with_a_fault(alloc: Global) -> Result<MemTrunk, AllocError> {
     Ok(trunk)
 }
 
+const FAULT_OF_4: CallEnd = CallEnd {
+    call: 4,
+    at: 2,
+    cause: Cause::Fault { side: Side::Pcm },
+};
+
 // A Pcm line that fails ends its call, and no other.
 #[test]
-fn a_fault_ends_its_own_call(rt: HostRuntime) -> Result<(), Fail> {
+fn a_fault_ends_its_own_call(rt: HostRuntime) -> Result<(), AllocError> {
     let alloc = rt.alloc();
     let mut trunk = lines_with_a_fault(alloc)?;
     let farm = opened(alloc, 4, 5)?;
-    let worked = round(&rt, alloc, &mut trunk, farm, 0, 10)?;
-    let cause = Cause::Fault { side: Side::Pcm };
-    let ends = [CallEnd {
-        call: 4,
-        at: 2,
-        cause,
-    }];
-    assert!(rt; are_ends(&worked, &ends));
-    let farm = drained(worked, &mut trunk);
-    assert!(rt; are_live(&farm, &[5]));
-    assert!(rt; are_failed(&farm, &[line(4, Side::Pcm)]));
-    assert_eq!(rt; written(&trunk, 5, Side::Out), 10 * 160);
+    let farm = pass(&rt, alloc, &mut trunk, farm, 0, 10, &[FAULT_OF_4])?;
+    assert_live(&rt, &farm, &[5]);
+    assert_failed(&rt, &farm, &[line(4, Side::Pcm)]);
+    assert_written(&rt, &trunk, line(5, Side::Out), 10 * 160);
     Ok(())
 }

@@ -1,41 +1,50 @@
 // The workers of a run: that they are several threads, and that calls are stolen half done. No clause says so.
-use crate::farm_top_run_tests::{desk_with, set_call};
+use crate::farm_top_run_tests::{desk_with, set_idle_call};
 use crate::farm_top_tests::carry_gated;
 use crate::held::Held;
 use std::alloc::{AllocError, Global};
 use std::sync::Wait;
-use std::test::Fail;
 use std::thread::Threads;
 use trau_io::MemTrunk;
 
 // The lines of the calls 1, 2 and 3, three periods each.
 fn three_lines(alloc: Global) -> Result<MemTrunk, AllocError> {
     let mut trunk = MemTrunk::new(alloc)?;
-    set_call(alloc, &mut trunk, 1, vec![in alloc; 0; 120]?, 3)?;
-    set_call(alloc, &mut trunk, 2, vec![in alloc; 0; 120]?, 3)?;
-    set_call(alloc, &mut trunk, 3, vec![in alloc; 0; 120]?, 3)?;
+    set_idle_call(alloc, &mut trunk, 1)?;
+    set_idle_call(alloc, &mut trunk, 2)?;
+    set_idle_call(alloc, &mut trunk, 3)?;
     Ok(trunk)
 }
 
-// Runs the calls 1, 2 and 3 over these lines, by two workers in slices of one period. Answers whether the run
-// was done and each wait of the gate answered.
+const WORDS: [&str; 5] = ["run", "--workers", "2", "--slice", "1"];
+
+// Runs the calls 1, 2 and 3 over these lines, by two workers in slices of one period. Answers the status.
+fn run_gated<R: Threads + Wait + Sync>(
+    rt: &R,
+    alloc: Global,
+    trunk: &mut MemTrunk,
+    gate: &Held,
+) -> Result<u8, AllocError> {
+    let mut desk = desk_with(alloc, b"0 open 1\n0 open 2\n0 open 3\n")?;
+    carry_gated(rt, alloc, &WORDS, trunk, &mut desk, gate)
+}
+
+// Whether the run was done and each wait of the gate answered.
 fn each_wait_is_answered<R: Threads + Wait + Sync>(
     rt: &R,
     alloc: Global,
     pair: (u32, u32),
 ) -> Result<bool, AllocError> {
     let mut trunk = three_lines(alloc)?;
-    let mut desk = desk_with(alloc, b"0 open 1\n0 open 2\n0 open 3\n")?;
     let gate = Held::new(pair);
-    let words = ["run", "--workers", "2", "--slice", "1"];
-    let status = carry_gated(rt, alloc, &words, &mut trunk, &mut desk, &gate)?;
+    let status = run_gated(rt, alloc, &mut trunk, &gate)?;
     Ok(status == 0 && gate.each_is_answered())
 }
 
 // Calls 1 and 3 start in one deque, and call 2 in the other. The worker that is held with one call of a pair can't work the
 // other one: so the other worker has to take it, where it was begun, and both have to be at work at once.
 #[test]
-fn calls_are_stolen_half_done(rt: HostRuntime) -> Result<(), Fail> {
+fn calls_are_stolen_half_done(rt: HostRuntime) -> Result<(), AllocError> {
     for pair in [(1, 3), (1, 2), (2, 3)] {
         assert!(rt;
             each_wait_is_answered(&rt, rt.alloc(), pair)?,

@@ -4,7 +4,6 @@ use pool_run::{Gate, OpenGate};
 use std::alloc::{AllocError, Global};
 use std::process::Abort;
 use std::sync::Wait;
-use std::test::Fail;
 use std::thread::Threads;
 use trau_io::{Line, MemDesk, MemTrunk};
 
@@ -60,6 +59,32 @@ pub(crate) fn carry<R: Threads + Wait + Sync>(
     carry_gated(rt, alloc, texts, trunk, desk, &OpenGate)
 }
 
+// Asserts the status that a command answers.
+pub(crate) fn assert_status(rt: &impl Abort, answer: u8, status: u8) {
+    assert_eq!(rt; answer, status);
+}
+
+// Asserts all that a desk tells.
+pub(crate) fn assert_text(rt: &impl Abort, desk: &MemDesk, text: &str) {
+    assert_eq!(rt; desk.text(), text.as_bytes());
+}
+
+// Carries out the command of these words, and asserts its status and what the desk tells.
+fn answers<R: Abort + Threads + Wait + Sync>(
+    rt: &R,
+    alloc: Global,
+    texts: &[&str],
+    trunk: &mut MemTrunk,
+    desk: &mut MemDesk,
+    status: u8,
+    text: &str,
+) -> Result<(), AllocError> {
+    let answer = carry(rt, alloc, texts, trunk, desk)?;
+    assert_status(rt, answer, status);
+    assert_text(rt, desk, text);
+    Ok(())
+}
+
 // An uplink of `frames` good frames and `octets` octets of one more.
 fn uplink(alloc: Global, frames: usize, octets: usize) -> Result<Vec<u8>, AllocError> {
     let mut up = Vec::new(alloc);
@@ -85,8 +110,35 @@ fn line(
     trunk.set(alloc, line, contents, cuts, fails.to_vec(alloc)?, 1000)
 }
 
-// The lines of call 7, cut in pieces: two good frames on the uplink, and on the Pcm line two periods and ten octets of
-// idle. Calls of the incoming lines fail, or of the outgoing ones.
+// Two periods and ten octets of idle.
+fn idle(alloc: Global) -> Result<Vec<u8>, AllocError> {
+    vec![in alloc; 0xD5; 330]
+}
+
+// The incoming lines of call 7, cut in pieces, of which calls fail: two good frames on the uplink, and on the Pcm line two
+// periods and ten octets of idle.
+fn incoming_lines(
+    alloc: Global,
+    trunk: &mut MemTrunk,
+    cut: u32,
+    fails: &[u32],
+) -> Result<(), AllocError> {
+    line(alloc, trunk, UP, uplink(alloc, 2, 0)?, cut, fails)?;
+    line(alloc, trunk, PCM, idle(alloc)?, cut, fails)
+}
+
+// The outgoing lines of call 7, cut in pieces, of which calls fail.
+fn outgoing_lines(
+    alloc: Global,
+    trunk: &mut MemTrunk,
+    cut: u32,
+    fails: &[u32],
+) -> Result<(), AllocError> {
+    line(alloc, trunk, DOWN, Vec::new(alloc), cut, fails)?;
+    line(alloc, trunk, OUT, Vec::new(alloc), cut, fails)
+}
+
+// The lines of call 7, cut in pieces. Calls of the incoming lines fail, or of the outgoing ones.
 fn lines(
     alloc: Global,
     cut: u32,
@@ -94,17 +146,8 @@ fn lines(
     out_fails: &[u32],
 ) -> Result<MemTrunk, AllocError> {
     let mut trunk = MemTrunk::new(alloc)?;
-    line(alloc, &mut trunk, UP, uplink(alloc, 2, 0)?, cut, in_fails)?;
-    line(
-        alloc,
-        &mut trunk,
-        PCM,
-        vec![in alloc; 0xD5; 330]?,
-        cut,
-        in_fails,
-    )?;
-    line(alloc, &mut trunk, DOWN, Vec::new(alloc), cut, out_fails)?;
-    line(alloc, &mut trunk, OUT, Vec::new(alloc), cut, out_fails)?;
+    incoming_lines(alloc, &mut trunk, cut, in_fails)?;
+    outgoing_lines(alloc, &mut trunk, cut, out_fails)?;
     Ok(trunk)
 }
 
@@ -204,14 +247,29 @@ fn failing_desk(alloc: Global, number: u32, failing: Failing) -> Result<MemDesk,
     desk(alloc, fails.as_slice(), 100)
 }
 
-// Asserts that all that earlier blocks make is written; where no line failed, all of both.
-fn assert_sent(rt: &impl Abort, row: &Row, trunk: &MemTrunk, status: u8) {
+// Whether all that earlier blocks make is written; where no line failed, all of both.
+fn is_sent(row: &Row, trunk: &MemTrunk, status: u8) -> bool {
     let sent = trunk.written(row.outgoing).len();
     if status != 6 {
-        assert_eq!(rt; sent.checked_div(row.size), Some(2));
-    } else if trunk.faults(row.incoming) > 0 {
-        assert_eq!(rt; sent.checked_rem(row.size), Some(0));
+        sent.checked_div(row.size) == Some(2)
+    } else {
+        trunk.faults(row.incoming) == 0 || sent.checked_rem(row.size) == Some(0)
     }
+}
+
+// Asserts that a command in which one call failed left what is due.
+fn assert_due(
+    rt: &impl Abort,
+    row: &Row,
+    trunk: &MemTrunk,
+    desk: &MemDesk,
+    status: u8,
+    place: (u32, u32, Failing),
+) {
+    let (expected, text) = due(row, trunk, desk);
+    assert_eq!(rt; status, expected, "{} {place:?}", row.tool);
+    assert_text(rt, desk, text);
+    assert!(rt; is_sent(row, trunk, status), "{} {place:?}", row.tool);
 }
 
 // Carries out a command in which one call fails, and compares what it leaves with what is due.
@@ -222,33 +280,36 @@ fn fails_at<R: Abort + Threads + Wait + Sync>(
     cut: u32,
     number: u32,
     failing: Failing,
-) -> Result<(), Fail> {
+) -> Result<(), AllocError> {
     let mut trunk = failing_lines(alloc, cut, number, failing)?;
     let mut desk = failing_desk(alloc, number, failing)?;
-    let tool = row.tool;
-    let status = carry(rt, alloc, &[tool, "7"], &mut trunk, &mut desk)?;
-    let (expected, text) = due(row, &trunk, &desk);
-    assert_eq!(rt;
-        status,
-        expected,
-        "{tool}, cut {cut}, call {number}, {failing:?}"
-    );
-    assert_eq!(rt; desk.text(), text.as_bytes());
-    assert_sent(rt, row, &trunk, status);
+    let status = carry(rt, alloc, &[row.tool, "7"], &mut trunk, &mut desk)?;
+    assert_due(rt, row, &trunk, &desk, status, (cut, number, failing));
+    Ok(())
+}
+
+// Each of the first calls of the outside fails in turn, with lines in such pieces.
+fn fail_in_turn<R: Abort + Threads + Wait + Sync>(
+    rt: &R,
+    alloc: Global,
+    row: &Row,
+    cut: u32,
+    calls: u32,
+) -> Result<(), AllocError> {
+    for number in 0..calls {
+        fails_at(rt, alloc, row, cut, number, Failing::Incoming)?;
+        fails_at(rt, alloc, row, cut, number, Failing::Outgoing)?;
+        fails_at(rt, alloc, row, cut, number, Failing::Desk)?;
+    }
     Ok(())
 }
 
 #[test]
-fn each_call_of_the_outside_fails_in_turn(rt: HostRuntime) -> Result<(), Fail> {
+fn each_call_of_the_outside_fails_in_turn(rt: HostRuntime) -> Result<(), AllocError> {
     let alloc = rt.alloc();
     for row in &ROWS {
-        for (cut, calls) in [(39, 12), (1000, 3)] {
-            for number in 0..calls {
-                fails_at(&rt, alloc, row, cut, number, Failing::Incoming)?;
-                fails_at(&rt, alloc, row, cut, number, Failing::Outgoing)?;
-                fails_at(&rt, alloc, row, cut, number, Failing::Desk)?;
-            }
-        }
+        fail_in_turn(&rt, alloc, row, 39, 12)?;
+        fail_in_turn(&rt, alloc, row, 1000, 3)?;
     }
     Ok(())
 }
@@ -277,14 +338,11 @@ fn tells<R: Abort + Threads + Wait + Sync>(
     cut: u32,
     status: u8,
     text: &str,
-) -> Result<(), Fail> {
+) -> Result<(), AllocError> {
     let mut trunk = up_and_down(alloc, up, cut)?;
     let mut desk = desk(alloc, &[], 100)?;
-    assert_eq!(rt;
-        carry(rt, alloc, &[command, "7"], &mut trunk, &mut desk)?,
-        status
-    );
-    assert_eq!(rt; desk.text(), text.as_bytes());
+    let words = [command, "7"];
+    answers(rt, alloc, &words, &mut trunk, &mut desk, status, text)?;
     assert_frames(rt, trunk.written(DOWN));
     Ok(())
 }
@@ -298,7 +356,7 @@ fn relays<R: Abort + Threads + Wait + Sync>(
     cut: u32,
     status: u8,
     text: &str,
-) -> Result<(), Fail> {
+) -> Result<(), AllocError> {
     let up = uplink(alloc, frames, octets)?;
     tells(rt, alloc, "relay", up, cut, status, text)
 }
@@ -312,20 +370,19 @@ fn uplink_with(alloc: Global, place: usize, octet: u8) -> Result<Vec<u8>, AllocE
     Ok(up)
 }
 
-// Decodes two good frames.
-fn decodes<R: Abort + Threads + Wait + Sync>(rt: &R, alloc: Global) -> Result<(), Fail> {
-    let mut trunk = lines(alloc, 1000, &[], &[])?;
-    let mut desk = desk(alloc, &[], 100)?;
-    assert_eq!(rt;
-        carry(rt, alloc, &["decode", "7"], &mut trunk, &mut desk)?,
-        0
-    );
-    assert!(rt; trunk.written(OUT).starts_with(&DECODED));
-    Ok(())
+// Relays two good frames with another octet at this place, which is refused.
+fn refuses_octet<R: Abort + Threads + Wait + Sync>(
+    rt: &R,
+    alloc: Global,
+    place: usize,
+    octet: u8,
+) -> Result<(), AllocError> {
+    let up = uplink_with(alloc, place, octet)?;
+    tells(rt, alloc, "relay", up, 1000, 8, "relay refused 1\n")
 }
 
 #[test]
-fn an_uplink_ends_or_is_refused(rt: HostRuntime) -> Result<(), Fail> {
+fn an_uplink_ends(rt: HostRuntime) -> Result<(), AllocError> {
     let alloc = rt.alloc();
     for cut in CUTS {
         relays(&rt, alloc, 2, 0, cut, 0, "relay frames 2\n")?;
@@ -333,12 +390,27 @@ fn an_uplink_ends_or_is_refused(rt: HostRuntime) -> Result<(), Fail> {
         relays(&rt, alloc, 1, 1, cut, 8, "relay refused 1\n")?;
         relays(&rt, alloc, 0, 0, cut, 0, "relay frames 0\n")?;
     }
-    // No sync, a bad frame, an idle frame.
-    for (place, octet) in [(42, 0x08), (43, 0x08), (42, 0xC0)] {
-        let up = uplink_with(alloc, place, octet)?;
-        tells(&rt, alloc, "relay", up, 1000, 8, "relay refused 1\n")?;
-    }
-    decodes(&rt, alloc)
+    Ok(())
+}
+
+// No sync, a bad frame, an idle frame.
+#[test]
+fn an_uplink_is_refused(rt: HostRuntime) -> Result<(), AllocError> {
+    let alloc = rt.alloc();
+    refuses_octet(&rt, alloc, 42, 0x08)?;
+    refuses_octet(&rt, alloc, 43, 0x08)?;
+    refuses_octet(&rt, alloc, 42, 0xC0)
+}
+
+#[test]
+fn an_uplink_is_decoded(rt: HostRuntime) -> Result<(), AllocError> {
+    let alloc = rt.alloc();
+    let mut trunk = lines(alloc, 1000, &[], &[])?;
+    let mut desk = desk(alloc, &[], 100)?;
+    let status = carry(&rt, alloc, &["decode", "7"], &mut trunk, &mut desk)?;
+    assert_status(&rt, status, 0);
+    assert!(rt; trunk.written(OUT).starts_with(&DECODED));
+    Ok(())
 }
 
 // Four frames and three octets; the first sync bit that is 1 is broken in the second frame and in the third.
@@ -360,35 +432,38 @@ fn lists<R: Abort + Threads + Wait + Sync>(
     write: u32,
     status: u8,
     text: &str,
-) -> Result<(), Fail> {
+) -> Result<(), AllocError> {
     let mut trunk = lines(alloc, 1000, &[read], &[])?;
     let mut desk = desk(alloc, &[write], 100)?;
-    assert_eq!(rt;
-        carry(rt, alloc, &["frames", "7"], &mut trunk, &mut desk)?,
-        status
-    );
-    assert_eq!(rt; desk.text(), text.as_bytes());
-    Ok(())
+    let words = ["frames", "7"];
+    answers(rt, alloc, &words, &mut trunk, &mut desk, status, text)
 }
 
 #[test]
-fn frames_are_listed(rt: HostRuntime) -> Result<(), Fail> {
+fn frames_are_listed(rt: HostRuntime) -> Result<(), AllocError> {
     let alloc = rt.alloc();
+    let text = "0 good\n320 miss\n640 miss\n960 good\nframes 4 left 3\n";
     for cut in [41, 1000] {
-        let text = "0 good\n320 miss\n640 miss\n960 good\nframes 4 left 3\n";
         tells(&rt, alloc, "frames", broken_uplink(alloc)?, cut, 0, text)?;
     }
-    // A call of the line fails, or a write of the desk.
-    for (read, write, status, text) in [
-        (0, 9, 6, "line 7 up failed\n"),
-        (1, 9, 6, "0 good\nline 7 up failed\n"),
-        (2, 9, 6, "0 good\n320 good\nline 7 up failed\n"),
-        (9, 0, 4, ""),
-        (9, 1, 4, "0 good\n"),
-        (9, 2, 4, "0 good\n320 good\n"),
-        (9, 9, 0, "0 good\n320 good\nframes 2 left 0\n"),
-    ] {
-        lists(&rt, alloc, read, write, status, text)?;
+    Ok(())
+}
+
+// A read that fails, or a write, and what is answered and told.
+const LISTS: [(u32, u32, u8, &str); 7] = [
+    (0, 9, 6, "line 7 up failed\n"),
+    (1, 9, 6, "0 good\nline 7 up failed\n"),
+    (2, 9, 6, "0 good\n320 good\nline 7 up failed\n"),
+    (9, 0, 4, ""),
+    (9, 1, 4, "0 good\n"),
+    (9, 2, 4, "0 good\n320 good\n"),
+    (9, 9, 0, "0 good\n320 good\nframes 2 left 0\n"),
+];
+
+#[test]
+fn a_list_ends_where_a_call_fails(rt: HostRuntime) -> Result<(), AllocError> {
+    for (read, write, status, text) in LISTS {
+        lists(&rt, rt.alloc(), read, write, status, text)?;
     }
     Ok(())
 }
@@ -400,30 +475,29 @@ fn are_usage<R: Abort + Threads + Wait + Sync>(
     texts: &[&str],
     room: u32,
     text: &str,
-) -> Result<(), Fail> {
+) -> Result<(), AllocError> {
     let mut trunk = MemTrunk::new(alloc)?;
     let mut desk = desk(alloc, &[], room)?;
-    assert_eq!(rt; carry(rt, alloc, texts, &mut trunk, &mut desk)?, 1);
-    assert_eq!(rt; desk.text(), text.as_bytes());
-    Ok(())
+    answers(rt, alloc, texts, &mut trunk, &mut desk, 1, text)
 }
 
+const NO_COMMANDS: [&[&str]; 10] = [
+    &[],
+    &["relay"],
+    &["relay", "07"],
+    &["relay", "0"],
+    &["encode", "1025"],
+    &["relay", "7", "7"],
+    &["Relay", "7"],
+    &["decoder", "7"],
+    &["run", "--workers", "0"],
+    &["run", "--batch", "2", "--batch", "3"],
+];
+
 #[test]
-fn other_words_are_usage(rt: HostRuntime) -> Result<(), Fail> {
+fn other_words_are_usage(rt: HostRuntime) -> Result<(), AllocError> {
     let alloc = rt.alloc();
-    let rows: [&[&str]; 10] = [
-        &[],
-        &["relay"],
-        &["relay", "07"],
-        &["relay", "0"],
-        &["encode", "1025"],
-        &["relay", "7", "7"],
-        &["Relay", "7"],
-        &["decoder", "7"],
-        &["run", "--workers", "0"],
-        &["run", "--batch", "2", "--batch", "3"],
-    ];
-    for texts in rows {
+    for texts in NO_COMMANDS {
         are_usage(&rt, alloc, texts, 100, "usage\n")?;
     }
     // A full desk takes a front of the text.
@@ -445,23 +519,17 @@ fn refuses<R: Abort + Threads + Wait + Sync>(
     fails: u32,
     status: u8,
     text: &str,
-) -> Result<(), Fail> {
+) -> Result<(), AllocError> {
     let mut trunk = MemTrunk::new(alloc)?;
     let mut desk = desk_of_orders(alloc, orders, fails)?;
-    assert_eq!(rt; carry(rt, alloc, &["run"], &mut trunk, &mut desk)?, status);
-    assert_eq!(rt; desk.text(), text.as_bytes());
-    Ok(())
+    answers(rt, alloc, &["run"], &mut trunk, &mut desk, status, text)
 }
 
 #[test]
-fn orders_are_refused(rt: HostRuntime) -> Result<(), Fail> {
+fn orders_are_refused(rt: HostRuntime) -> Result<(), AllocError> {
     let alloc = rt.alloc();
-    for (orders, fails, status, text) in [
-        ("5 open 1\n4 open 2", 9, 2, "orders line 2\n"),
-        ("0 open 01", 9, 2, "orders line 1\n"),
-        ("0 open 1", 0, 3, "orders unread\n"),
-    ] {
-        refuses(&rt, alloc, orders, fails, status, text)?;
-    }
-    Ok(())
+    let orders = "5 open 1\n4 open 2";
+    refuses(&rt, alloc, orders, 9, 2, "orders line 2\n")?;
+    refuses(&rt, alloc, "0 open 01", 9, 2, "orders line 1\n")?;
+    refuses(&rt, alloc, "0 open 1", 0, 3, "orders unread\n")
 }

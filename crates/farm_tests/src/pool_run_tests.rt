@@ -3,8 +3,8 @@ ghost use Rattle.std.specs.Prelude.{◌≡◌, ◌≤◌, length, map, vec_len, 
 use crate::held::Held;
 use pool_run::{OpenGate, PoolRoom, Work, run_pool};
 use std::alloc::{AllocError, Global};
+use std::process::Abort;
 use std::sync::Wait;
-use std::test::Fail;
 use std::thread::Threads;
 
 // Writes down the number of places left at each place, as a decimal digit.
@@ -131,23 +131,26 @@ fn is_as_in_turn<R: Threads + Wait + Sync>(
     Ok(are_same(answer.as_slice(), plain.as_slice()))
 }
 
+// Asserts that a job is finished, and what it has written down.
+fn assert_finished(rt: &impl Abort, job: &Counter, want: (u32, u32)) {
+    assert!(rt; job.finished());
+    assert_eq!(rt; (job.call(), job.digits), want);
+}
+
 #[test]
-fn each_job_is_finished_in_its_place(rt: HostRuntime) -> Result<(), Fail> {
+fn each_job_is_finished_in_its_place(rt: HostRuntime) -> Result<(), AllocError> {
     let given = [(7, 3), (2, 0), (9, 5), (4, 1)];
     let want = [(7, 321), (2, 0), (9, 54321), (4, 1)];
-    let room = PoolRoom::reserve(rt.alloc(), 2, 4)?;
-    let answer = run_pool(&rt, room, counters(rt.alloc(), &given)?, 2, &OpenGate);
+    let answer = run_at_once(&rt, rt.alloc(), &given, 2, 2)?;
     assert_eq!(rt; answer.len(), 4);
-    for k in 0..4 {
-        let job = &answer[k];
-        assert!(rt; job.finished());
-        assert_eq!(rt; (job.call(), job.digits), want[k]);
+    for (job, want) in answer.iter().zip(&want) {
+        assert_finished(&rt, job, *want);
     }
     Ok(())
 }
 
 #[test]
-fn answers_as_the_plain_program(rt: HostRuntime) -> Result<(), Fail> {
+fn answers_as_the_plain_program(rt: HostRuntime) -> Result<(), AllocError> {
     let mut jobs = [(0, 0); 40];
     for k in 0..40u32 {
         jobs[k as usize] = (100 - k, k * 7 % 23);
@@ -164,13 +167,13 @@ fn answers_as_the_plain_program(rt: HostRuntime) -> Result<(), Fail> {
 }
 
 #[test]
-fn three_jobs_for_many_workers(rt: HostRuntime) -> Result<(), Fail> {
+fn three_jobs_for_many_workers(rt: HostRuntime) -> Result<(), AllocError> {
     assert!(rt; is_as_in_turn(&rt, rt.alloc(), &[(1, 6), (2, 9), (3, 1)], 64, 1)?);
     Ok(())
 }
 
 #[test]
-fn many_jobs_for_one_worker(rt: HostRuntime) -> Result<(), Fail> {
+fn many_jobs_for_one_worker(rt: HostRuntime) -> Result<(), AllocError> {
     let mut jobs = [(0, 0); 200];
     for k in 0..200u32 {
         jobs[k as usize] = (k, k % 7);
@@ -180,7 +183,7 @@ fn many_jobs_for_one_worker(rt: HostRuntime) -> Result<(), Fail> {
 }
 
 #[test]
-fn no_job(rt: HostRuntime) -> Result<(), Fail> {
+fn no_job(rt: HostRuntime) -> Result<(), AllocError> {
     let room = PoolRoom::<Counter>::reserve(rt.alloc(), 1, 4096)?;
     let answer = run_pool(&rt, room, Vec::new(rt.alloc()), 1, &OpenGate);
     assert!(rt; answer.is_empty());
@@ -203,7 +206,7 @@ fn each_wait_is_answered<R: Threads + Wait + Sync>(
 // Jobs 1 and 3 start in one deque, and job 2 in the other. The worker that is held with one job of a pair can't run the
 // other one: so the other worker has to take it, where it was begun, and both have to be at work at once.
 #[test]
-fn jobs_are_stolen_half_done(rt: HostRuntime) -> Result<(), Fail> {
+fn jobs_are_stolen_half_done(rt: HostRuntime) -> Result<(), AllocError> {
     for pair in [(1, 3), (1, 2), (2, 3)] {
         assert!(rt;
             each_wait_is_answered(&rt, rt.alloc(), pair)?,

@@ -1,5 +1,5 @@
-ghost use Rattle.std.specs.Prelude.{ℕ, IfOk};
-ghost use Rattle.switchboard.specs.State.{EndBefore};
+ghost use Rattle.std.specs.Prelude.{◌≡◌, ◌<◌, ◌≤◌, ℕ, IfOk};
+ghost use Rattle.switchboard.specs.State.{EndBefore, last_stamp};
 
 use std::alloc::Global;
 use std::process::Abort;
@@ -24,11 +24,18 @@ fn execute(board: &mut Board) -> Option<Reply>
     board.turn(stamp)
 }
 
-fn next_reply(board: &mut Board) -> Result<Reply, Fail>
+// The result of a reply.
+fn result_of(reply: Option<Reply>) -> Option<Result<Act, Refusal>> {
+    Some(reply?.result)
+}
+
+// Executes the next order, and asserts the result of its reply.
+fn assert_reply(rt: &impl Abort, board: &mut Board, due: Result<Act, Refusal>)
     requires { (t : ℕ) → EndBefore t board.old }
     ensures { (t : ℕ) → EndBefore t board.new }
 {
-    Ok(execute(board).ok_or("a reply")?)
+    let reply = execute(board);
+    assert_eq!(rt; result_of(reply), Some(due), "{reply:?}");
 }
 
 // Executes all orders, and asserts the results of their replies.
@@ -40,8 +47,7 @@ fn assert_replies(
 ) -> Result<(), Fail> {
     let mut board = board_of(alloc, orders)?;
     for result in results {
-        let reply = next_reply(&mut board)?;
-        assert_eq!(rt; reply.result, *result, "order {}", reply.order);
+        assert_reply(rt, &mut board, *result);
     }
     assert_eq!(rt; board.next_stamp(), None);
     Ok(())
@@ -148,57 +154,56 @@ fn tests_of_an_order_go_in_their_order(rt: HostRuntime) -> Result<(), Fail> {
     )
 }
 
+// An order of period 0 is executed.
+fn turn_at_0(rt: &impl Abort, board: &mut Board)
+    requires { (t : ℕ) → EndBefore t board.old }
+    ensures told { (t : ℕ) → EndBefore t board.new }
+    ensures last { last_stamp board.new.done ≡ 0 }
+{
+    assert!(rt; board.turn(0).is_some());
+}
+
+// The lines of an open call end.
+fn end_call(rt: &impl Abort, board: &mut Board, call: u32, at: u32)
+    requires { last_stamp board.old.done ≤ at }
+    ensures told { (t : ℕ) → at < t → EndBefore t board.old → EndBefore t board.new }
+    ensures done { board.new.done ≡ board.old.done }
+{
+    assert!(rt; board.is_open(call));
+    let cause = Cause::Limit;
+    board.ended(CallEnd { call, at, cause });
+}
+
+// Asserts that the calls 7 and 9 were bridged from period 0 to this one.
+fn assert_span(rt: &impl Abort, board: &Board, to: u32) {
+    let span = Span {
+        a: 7,
+        b: 9,
+        from: 0,
+        to,
+    };
+    assert_eq!(rt; board.spans(), [span].as_slice());
+}
+
+const REFUSED: Reply = Reply {
+    order: 4,
+    result: Err(Refusal::NotOpen { call: 9 }),
+};
+
 // The ends of a round are told by call numbers, so the end that is told later may lie before.
 #[test]
 fn ends_lower_a_span(rt: HostRuntime) -> Result<(), Fail> {
-    let mut board = board_of(
-        rt.alloc(),
-        b"0 open 7\n0 open 9\n0 bridge 7 9\n40 unbridge 9\n",
-    )?;
-    assert!(rt; board.turn(0).is_some());
-    assert!(rt; board.turn(0).is_some());
-    assert!(rt; board.turn(0).is_some());
-    let cause = Cause::Limit;
-    assert!(rt; board.is_open(7));
-    board.ended(CallEnd {
-        call: 7,
-        at: 35,
-        cause,
-    });
-    assert_eq!(rt;
-        board.spans(),
-        [Span {
-            a: 7,
-            b: 9,
-            from: 0,
-            to: 35
-        }]
-        .as_slice()
-    );
-    assert!(rt; board.is_open(9));
-    board.ended(CallEnd {
-        call: 9,
-        at: 30,
-        cause,
-    });
-    assert_eq!(rt;
-        board.spans(),
-        [Span {
-            a: 7,
-            b: 9,
-            from: 0,
-            to: 30
-        }]
-        .as_slice()
-    );
+    let orders = b"0 open 7\n0 open 9\n0 bridge 7 9\n40 unbridge 9\n";
+    let mut board = board_of(rt.alloc(), orders)?;
+    turn_at_0(&rt, &mut board);
+    turn_at_0(&rt, &mut board);
+    turn_at_0(&rt, &mut board);
+    end_call(&rt, &mut board, 7, 35);
+    assert_span(&rt, &board, 35);
+    end_call(&rt, &mut board, 9, 30);
+    assert_span(&rt, &board, 30);
     assert_eq!(rt; board.next_stamp(), Some(40));
     let reply = board.turn(40);
-    assert_eq!(rt;
-        reply,
-        Some(Reply {
-            order: 4,
-            result: Err(Refusal::NotOpen { call: 9 })
-        })
-    );
+    assert_eq!(rt; reply, Some(REFUSED));
     Ok(())
 }
