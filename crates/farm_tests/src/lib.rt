@@ -1,4 +1,4 @@
-//! Tests of the crates of a run: the board, the pool, the rounds, the report and the top call.
+//! Tests of the crates of a run: the pool, the lines of a round, the rounds and the top call.
 //!
 //! They stand apart from what they test: a crate with tests is proved a second time with them; these go through public
 //! calls only.
@@ -6,8 +6,6 @@
 
 #[cfg(test)]
 mod call_seven;
-#[cfg(test)]
-mod farm_report_tests;
 #[cfg(test)]
 mod farm_rounds_round_tests;
 #[cfg(test)]
@@ -21,10 +19,6 @@ mod farm_top_tests;
 #[cfg(test)]
 mod held;
 #[cfg(test)]
-mod pool_core_tests;
-#[cfg(test)]
 mod pool_run_tests;
 #[cfg(test)]
 mod round_lines_tests;
-#[cfg(test)]
-mod switchboard_tests;

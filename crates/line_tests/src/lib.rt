@@ -1,4 +1,5 @@
-//! Tests of the crates that read and write: numbers, bits, frames, lines, files, orders and words.
+//! Tests of the crates that read and write, and of those that keep an account: numbers, bits, frames, lines, files,
+//! orders and words; the board, the pool machine and the report.
 //!
 //! They stand apart from what they test: a crate with tests is proved a second time with them; these go through public
 //! calls only.
@@ -9,9 +10,15 @@ mod decimal_number_tests;
 #[cfg(test)]
 mod farm_orders_tests;
 #[cfg(test)]
+mod farm_report_tests;
+#[cfg(test)]
 mod farm_words_tests;
 #[cfg(test)]
 mod frame_sync_tests;
+#[cfg(test)]
+mod pool_core_tests;
+#[cfg(test)]
+mod switchboard_tests;
 #[cfg(test)]
 mod trau_bits_tests;
 #[cfg(test)]

@@ -1,6 +1,6 @@
 use Rattle.std.proofs.Common.{ℕ}
 use Rattle.switchboard.specs.State.{EndBefore}
-use Rattle.farm_tests.proofs.switchboard_tests.assert_replies.Given as goal
+use Rattle.line_tests.proofs.switchboard_tests.assert_replies.Given as goal
 
 -- no end is told
 abbrev pub invariant-loop-result : goal.invariant-loop-result

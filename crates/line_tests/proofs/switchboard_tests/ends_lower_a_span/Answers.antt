@@ -1,5 +1,5 @@
 use Rattle.std.proofs.Common.{arith}
-use Rattle.farm_tests.proofs.switchboard_tests.ends_lower_a_span.Goals as goal
+use Rattle.line_tests.proofs.switchboard_tests.ends_lower_a_span.Goals as goal
 
 pub turn-reply-requires-clause-ends : goal.turn-reply-requires-clause-ends
 turn-reply-requires-clause-ends g c =
