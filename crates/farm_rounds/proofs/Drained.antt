@@ -17,7 +17,7 @@ use Rattle.farm_rounds.specs.Memory.{tally_in}
 use Rattle.farm_rounds.specs.Numbers.{is_among}
 use Rattle.farm_rounds.specs.Histories.{CallHistory, CallStands, GroupsStand, kept_of}
 use Rattle.farm_rounds.specs.Rounds.{groups_from}
-use Rattle.farm_rounds.specs.Settling.{goes_on_in, told_by, call_left, groups_left, ended_in, KeepsTally, Settled}
+use Rattle.farm_rounds.specs.Settling.{HaveSeats, goes_on_in, told_by, call_left, groups_left, ended_in, KeepsTally, Settled}
 use Rattle.farm_rounds.specs.Working.{WorkedMemory, IsWorked, goes_on_call, that_stays, partner_past}
 use Rattle.farm_rounds.specs.RoundHistories.{seat_of, WorkedCall, WorkedStand, KnowFailed, those_that}
 use Rattle.farm_rounds.proofs.Finding.{found_there}
@@ -163,3 +163,13 @@ drained r seats groups live tallies w l same e s =
     let goes = same_going r.seats seats l same in
     subst (λ (gs : List Group). IsDrained r seats gs live tallies) (sym (e ∙ ap (λ (f : ℕ → Bool). groups_left f (seat_of seats) (groups_from r.jobs)) goes))
     (drained_left r seats live tallies w (subst (λ (f : ℕ → Bool). Settled f (groups_from r.jobs) r.live live r.tallies tallies) goes s))
+
+-- the seats that are drained are those of the round's calls
+pub drained_seats : (r : WorkedMemory) (numbers : List ℕ) (was now seats : List SeatMemory) → IsWorked r → numbers ≡ r.live → was ≡ r.seats → seats ≡ now → length now ≡ length was →
+    ((k : ℕ) → k < length was → call_at now k ≡ call_at was k) → HaveSeats numbers seats
+drained_seats r numbers was now seats w en ew es number call =
+    subst (λ (xs : List ℕ). HaveSeats xs seats) (sym en) (subst (λ (ss : List SeatMemory). HaveSeats r.live ss) (sym es) (record {
+      number = number ∙ ap length ew ∙ w.numbers;
+      aligned = λ k l. call k (omega (arith, l, number)) ∙ ap (λ (ss : List SeatMemory). call_at ss k) ew ∙ w.aligned k (omega (arith, l, number, ap length ew));
+      rising = w.alive.rising;
+    }))

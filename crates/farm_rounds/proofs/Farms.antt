@@ -18,6 +18,7 @@ use Rattle.farm_rounds.specs.declared.tally.Tally.{Tally}
 use Rattle.farm_rounds.specs.Memory.{FarmMemory, no_tally, new_farm}
 use Rattle.farm_rounds.specs.Numbers.{IsRising, is_among}
 use Rattle.farm_rounds.specs.Groups.{IsCall, IsGroup, AreGroups, AreLive, Exchanges}
+use Rattle.farm_rounds.specs.Histories.{GroupsStand}
 use Rattle.farm_rounds.specs.Acts.{new_call, joined, parted, set_by, freed, calls_after, IsOpen, Fits, Stays, Applied}
 use Rattle.farm_rounds.proofs.Finding.{none_passes, counted_none}
 use Rattle.farm_rounds.proofs.Exchanging.{exchanged}
@@ -142,3 +143,13 @@ pub farm_new : (gs : List Group) (live : List ℕ) (kept : List Tally) (failed :
 farm_new gs live kept failed eg el ek ef =
     ap (λ (x : List Group). make_farm x live kept failed 0) eg ∙ ap (λ (x : List ℕ). make_farm [] x kept failed 0) el
     ∙ ap (λ (x : List Tally). make_farm [] [] x failed 0) ek ∙ ap (λ (x : List Line). make_farm [] [] (replicate 4097 no_tally) x 0) ef
+
+pub new_groups : (gs : List Group) → gs ≡ [] → AreGroups 0 gs
+new_groups gs e = subst (λ (xs : List Group). AreGroups 0 xs) (sym e) (record { apart = λ c. omega arith; each = All-nil (IsGroup 0) })
+
+pub none_live : (live : List ℕ) (gs : List Group) → live ≡ [] → gs ≡ [] → AreLive live gs
+none_live live gs el eg =
+    subst (λ (xs : List ℕ). AreLive xs gs) (sym el) (subst (λ (xs : List Group). AreLive [] xs) (sym eg) (record { numbers = λ c. refl; rising = λ i j l lj. absurd (omega (arith, lj)); count = refl }))
+
+pub none_stand : (gs : List Group) → gs ≡ [] → GroupsStand (λ c. None) gs
+none_stand gs e = subst (λ (xs : List Group). GroupsStand (λ c. None) xs) (sym e) (λ c. refl)

@@ -3,7 +3,7 @@ use Rattle.std.proofs.Common.{◌≡◌, refl, sym, ap, ◌∙◌, subst, ℕ, z
 use Rattle.std.specs.Prelude.{◌==◌, if◌then◌else◌, is_some, IfSome, slice_index}
 use Rattle.std.specs.List.{AllByRecursion, list_any}
 use Rattle.std.proofs.lemmas.Bool.{cases_Bool, eqb-true, eq-eqb}
-use Rattle.std.proofs.lemmas.List.{take_more, take_all, append_assoc}
+use Rattle.std.proofs.lemmas.List.{take_more, take_all, append_assoc, append-nil}
 use Rattle.trau_io.specs.declared.ends.CallEnd.{CallEnd}
 use Rattle.trau_io.specs.declared.ends.Cause.TheVariants.{Closed}
 use Rattle.trau_orders.specs.Lists.{AreOrders}
@@ -186,6 +186,28 @@ told_open was now ends i e a l is o h = by (open_now was e.call) (is_told e.call
 -- No order was executed meanwhile.
 pub told_late : (was now : State) (ends : List CallEnd) (at : ℕ) → IsTold was now ends → last_stamp was.done ≤ at → last_stamp now.done ≤ at
 told_late was now ends at h l = subst (λ ds. last_stamp ds ≤ at) (sym (ap (λ (s : State). s.done) h.told ∙ told_done was ends)) l
+
+-- ---- before the first end and after the last one
+
+pub none_told : (was : State) → IsTold was was []
+none_told was = record { told = refl; is_open = λ c. kept (open_now was c) }
+  where
+    kept : (b : Bool) → b ≡ (b && true)
+    kept true = refl
+    kept false = refl
+
+pub no_ends_noted : (j : JournalMemory) → j ≡ with_ends [] j
+no_ends_noted j = ap (λ es. record j { ends = es }) (sym (append-nil j.ends))
+
+pub none_past : (partner : ℕ → Option ℕ) (c : ℕ) → partner c ≡ partner_past [] partner c
+none_past partner c = go (partner c)
+  where
+    go : (o : Option ℕ) → o ≡ (if has_left o [] then None else o)
+    go None = refl
+    go (Some p) = refl
+
+pub all_noted : (ends : List CallEnd) (i : ℕ) (start now : JournalMemory) → length ends ≤ i → now ≡ with_ends (take i ends) start → now ≡ with_ends ends start
+all_noted ends i start now l h = h ∙ ap (λ es. with_ends es start) (take_all i ends l)
 
 pub told_all : (was now : State) (ends : List CallEnd) (i : ℕ) → length ends ≤ i → IsTold was now (take i ends) → IsTold was now ends
 told_all was now ends i l h = subst (IsTold was now) (take_all i ends l) h

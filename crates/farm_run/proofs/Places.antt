@@ -1,6 +1,7 @@
 -- Where the latest bridges of calls stand.
-use Rattle.std.proofs.Common.{◌≡◌, refl, sym, ◌∙◌, ap, subst, ℕ, zero, suc, ◌<◌, Option, Some, None, List, [], length, replicate, get_or, arith}
-use Rattle.std.proofs.lemmas.List.{length-replicate, get_or_default}
+use Rattle.std.proofs.Common.{◌≡◌, refl, sym, ◌∙◌, ap, subst, ℕ, zero, suc, ◌<◌, Option, Some, None, List, [], length, replicate, get_or, set, inl, inr, arith}
+use Rattle.std.proofs.lemmas.List.{length-replicate, get_or_default, length-set, get_or-set_same, get_or-set_other}
+use Rattle.std.proofs.lemmas.Bool.{cases_eq}
 use Rattle.std.proofs.lemmas.List.Elements.{All-nil}
 use Rattle.trau_io.specs.declared.ends.CallEnd.{CallEnd}
 use Rattle.farm_rounds.specs.Calls.{IsNumber}
@@ -29,3 +30,21 @@ pub place_known : (calls : List Opening) (ends : List CallEnd) (bridges : List E
 place_known calls ends bridges c k o j h e b =
     let long = j.long in
     j.places c k (ap (λ (x : Opening). x.bridge) (get_or_default calls c no_opening o (omega arith) ∙ sym e) ∙ b)
+
+-- a call that is opened has no bridge
+pub journal-opened : (calls : List Opening) (ends : List CallEnd) (bridges : List Exchange) (c period : ℕ) → IsJournal calls ends bridges → c < 4097 →
+    IsJournal (set calls c (record { from = period; bridge = None })) ends bridges
+journal-opened calls ends bridges c period j less = record {
+  long = length-set calls c opened ∙ j.long;
+  numbers = j.numbers;
+  places = λ d k h. elim (cases_eq d c) [
+    | inl e ↦
+        let long = j.long in
+        let here : opening_of (set calls c opened) d ≡ opened = ap (λ n. opening_of (set calls c opened) n) e ∙ get_or-set_same calls c opened no_opening (omega arith) in
+        absurd (nowhere _ k (ap (λ (o : Opening). o.bridge) here) h)
+    | inr n ↦ j.places d k (ap (λ (o : Opening). o.bridge) (sym (get_or-set_other calls c d opened no_opening n)) ∙ h)
+  ];
+}
+  where
+    opened : Opening
+    opened = record { from = period; bridge = None }

@@ -3,9 +3,27 @@ use Rattle.std.specs.Global.{Box}
 use Rattle.std.specs.List.{All}
 use Rattle.std.proofs.lemmas.List.{length-map}
 use Rattle.call_pair.specs.declared.job.Job.{Job}
-use Rattle.farm_rounds.specs.Rounds.{jobs_in, SameLegs, IsTimely, HaveTimeUntil, Works}
+use Rattle.farm_rounds.specs.Rounds.{jobs_in, HaveJobs, SameLegs, IsTimely, HaveTimeUntil, Works}
 use Rattle.farm_rounds.proofs.Working.{back, ran, ready_out, works}
 use Rattle.farm_rounds.proofs.jobs.work_jobs.Goals as goal
+
+pub hand_in-requires-clause-entries : goal.hand_in-requires-clause-entries
+hand_in-requires-clause-entries g c = c.requires.entries
+
+pub hand_in-requires-clause-jobs : goal.hand_in-requires-clause-jobs
+hand_in-requires-clause-jobs g c = subst (λ (js : List Job). HaveJobs js c.args.entries.now c.args.seats.items) (sym (ap (λ (bs : List (Box Job)). jobs_in bs) c.deref_mut.ensures.value)) c.requires.jobs
+
+pub hand_in-requires-clause-time : goal.hand_in-requires-clause-time
+hand_in-requires-clause-time g c = subst (λ (js : List Job). HaveTimeUntil 4294967295 js c.args.entries.now c.args.seats.items) (sym (ap (λ (bs : List (Box Job)). jobs_in bs) c.deref_mut.ensures.value)) c.requires.time
+
+pub hand_in-requires-clause-rising : goal.hand_in-requires-clause-rising
+hand_in-requires-clause-rising g c = c.requires.rising
+
+pub hand_in-requires-clause-none : goal.hand_in-requires-clause-none
+hand_in-requires-clause-none g c = c.requires.no_place
+
+pub hand_in-requires-clause-room : goal.hand_in-requires-clause-room
+hand_in-requires-clause-room g c = c.requires.places
 
 pub hand_out-requires-clause-ready : goal.hand_out-requires-clause-ready
 hand_out-requires-clause-ready g c =

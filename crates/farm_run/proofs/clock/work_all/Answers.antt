@@ -5,6 +5,7 @@ use Rattle.trau_io.specs.declared.line.Side.{Side}
 use Rattle.trau_io.specs.Lines.{LineState}
 use Rattle.farm_rounds.specs.declared.call.Group.{Group}
 use Rattle.farm_rounds.specs.Memory.{FarmMemory}
+use Rattle.farm_rounds.specs.Numbers.{is_among}
 use Rattle.farm_run.specs.Match.{AtClock}
 use Rattle.farm_run.specs.Runs.{TellsFailed}
 use Rattle.farm_run.specs.Clock.{IsAtClock, AreReadable}
@@ -31,6 +32,28 @@ loop-clock-init g c =
       run = λ r run none. at_first r c.args.board.now c.in_ok-farm.farm.groups c.args.pace.now.periods lines c.requires.clock.orders c.requires.none_done empty e.history run;
       known = λ r run none. known_start r c.args.board.now c.in_ok-farm.farm.tallies c.args.journal.now c.requires.clock.ends c.requires.none_done c.requires.none_noted;
     }
+
+pub execute_orders-requires : goal.execute_orders-requires
+execute_orders-requires g c = c.loop-clock.invariant.clock
+
+pub work_round-requires-clause-pace : goal.work_round-requires-clause-pace
+work_round-requires-clause-pace g c κs lives = c.requires.pace
+
+pub work_round-requires-clause-clock : goal.work_round-requires-clause-clock
+work_round-requires-clause-clock g c κs lives = c.in_ok-execute_orders.ensures.clock
+
+pub work_round-requires-clause-live : goal.work_round-requires-clause-live
+work_round-requires-clause-live g c κs lives = λ d. ap (λ (xs : List ℕ). is_among xs d) (sym c.live_calls.ensures.value) ∙ c.live_calls.ensures.calls d
+
+pub work_round-requires-clause-ended : goal.work_round-requires-clause-ended
+work_round-requires-clause-ended g c κs lives = omega (arith, c.in_ok-execute_orders.ensures.ended, c.loop-clock.invariant.ended)
+
+pub work_round-requires-clause-some : goal.work_round-requires-clause-some
+work_round-requires-clause-some g c κs lives = c.round_periods-periods.ensures.some
+
+pub work_round-requires-clause-clear : goal.work_round-requires-clause-clear
+work_round-requires-clause-clear g c κs lives =
+    subst (λ (s : Option ℕ). IfSome s (λ s. c.loop-clock.clock + c.round_periods-periods.result ≤ s)) c.next_stamp-next.ensures.stamp c.round_periods-periods.ensures.clear
 
 pub loop-clock-preserved-then-is_empty : goal.loop-clock-preserved-then-is_empty
 loop-clock-preserved-then-is_empty g c =
@@ -109,6 +132,17 @@ loop-clock-preserved g c =
           (w.ends r first readable inside at (none_since first before now inv.later none))
           (record { truly = truly_same r c.loop-clock.board b e.told known.truly; noted = e.noted r under was.follows known.noted });
     }
+
+pub returns-clause-clock : goal.returns-clause-clock
+returns-clause-clock g c =
+    let ended : c.loop-clock.clock ≡ c.args.pace.now.periods = omega (arith, c.loop-clock.invariant.within, c.loop-clock-test.false) in
+    subst (λ (t : ℕ). AtClock t c.loop-clock.board c.loop-clock.farm.groups) ended c.loop-clock.invariant.clock
+
+pub returns-clause-kept : goal.returns-clause-kept
+returns-clause-kept g c = c.loop-clock.invariant.kept
+
+pub returns-clause-failed : goal.returns-clause-failed
+returns-clause-failed g c = c.loop-clock.invariant.failed
 
 pub returns-clause-run : goal.returns-clause-run
 returns-clause-run g c = λ r run none.

@@ -1,8 +1,11 @@
 use Rattle.std.proofs.Common.{◌<◌, arith, length, map, get_or}
 use Rattle.std.proofs.lemmas.List.{length-map}
 use Rattle.farm_run.specs.Ending.{limit_at}
-use Rattle.farm_run.proofs.Ending.{limits_apart, limit_there, limits_open, none_open, IsTold, noted_more, told_step, told_open, told_late, told_all}
+use Rattle.farm_run.proofs.Ending.{limits_apart, limit_there, limits_open, none_open, IsTold, none_told, no_ends_noted, all_noted, noted_more, told_step, told_open, told_late, told_all}
 use Rattle.farm_run.proofs.ends.end_all.Goals as goal
+
+pub loop-call-init : goal.loop-call-init
+loop-call-init c = record { told = none_told c.args.board.now; noted = no_ends_noted c.args.journal.now }
 
 pub ended-requires-clause-open : goal.ended-requires-clause-open
 ended-requires-clause-open c =
@@ -14,6 +17,9 @@ ended-requires-clause-open c =
 
 pub ended-requires-clause-late : goal.ended-requires-clause-late
 ended-requires-clause-late c = told_late c.args.board.now c.loop-call.board _ _ c.loop-call.invariant.told c.requires.late
+
+pub end-requires : goal.end-requires
+end-requires c = c.requires.numbers c.loop-call.call-index 0 c.loop-call-test.true
 
 pub loop-call-preserved : goal.loop-call-preserved
 loop-call-preserved c =
@@ -31,6 +37,13 @@ loop-call-preserved c =
 -- at the loop's end they are all told
 all : (c : goal.After-loop-call) → IsTold c.args.board.now c.loop-call.board (map (limit_at c.args.at) c.args.calls.now)
 all c = told_all c.args.board.now c.loop-call.board _ c.loop-call.call-index (omega (arith, c.loop-call-test.false, length-map c.args.calls.now (limit_at c.args.at))) c.loop-call.invariant.told
+
+pub returns-clause-told : goal.returns-clause-told
+returns-clause-told c = (all c).told
+
+pub returns-clause-noted : goal.returns-clause-noted
+returns-clause-noted c =
+    all_noted (map (limit_at c.args.at) c.args.calls.now) c.loop-call.call-index c.args.journal.now c.loop-call.journal (omega (arith, c.loop-call-test.false, length-map c.args.calls.now (limit_at c.args.at))) c.loop-call.invariant.noted
 
 pub returns-clause-open : goal.returns-clause-open
 returns-clause-open c = limits_open c.args.board.now c.loop-call.board c.args.at c.args.calls.now (all c)

@@ -1,10 +1,13 @@
 use Rattle.std.proofs.Common.{◌≡◌, sym, ap, ◌∙◌, get_or}
 use Rattle.std.specs.Prelude.{slice_index_or}
-use Rattle.std.proofs.lemmas.List.{get_or_default}
+use Rattle.std.proofs.lemmas.List.{get_or_default, take_all}
 use Rattle.switchboard.specs.Open.{partner_now}
 use Rattle.farm_run.specs.Ending.{partner_past}
-use Rattle.farm_run.proofs.Ending.{no_end, front, apart_front, partner_more, noted_more, told_step, told_open, told_late}
+use Rattle.farm_run.proofs.Ending.{no_end, none_told, no_ends_noted, none_past, told_all, all_noted, front, apart_front, partner_more, noted_more, told_step, told_open, told_late}
 use Rattle.farm_run.proofs.ends.tell_ends.Goals as goal
+
+pub loop-end-init : goal.loop-end-init
+loop-end-init c = record { told = none_told c.args.board.now; noted = no_ends_noted c.args.journal.now; partner = none_past (partner_now c.args.board.now) }
 
 pub ended-requires-clause-open : goal.ended-requires-clause-open
 ended-requires-clause-open c =
@@ -31,3 +34,18 @@ loop-end-preserved c =
           ∙ partner_more (partner_now c.args.board.now) c.bridges_join_two.ensures.both_ways _ e (apart_front ends i e c.requires.apart c.loop-end-test.true is) (partner_now c.loop-end.board) c.loop-end.invariant.partner d
           ∙ ap (λ xs. partner_past xs (partner_now c.args.board.now) d) (sym (front ends i e c.loop-end-test.true is));
     }
+
+pub end-requires : goal.end-requires
+end-requires c = c.requires.numbers c.loop-end.end-index no_end c.loop-end-test.true
+
+pub returns-clause-told : goal.returns-clause-told
+returns-clause-told c = (told_all c.args.board.now c.loop-end.board c.args.ends.now c.loop-end.end-index c.loop-end-test.false c.loop-end.invariant.told).told
+
+pub returns-clause-noted : goal.returns-clause-noted
+returns-clause-noted c = all_noted c.args.ends.now c.loop-end.end-index c.args.journal.now c.loop-end.journal c.loop-end-test.false c.loop-end.invariant.noted
+
+pub returns-clause-open : goal.returns-clause-open
+returns-clause-open c = (told_all c.args.board.now c.loop-end.board c.args.ends.now c.loop-end.end-index c.loop-end-test.false c.loop-end.invariant.told).is_open
+
+pub returns-clause-partner : goal.returns-clause-partner
+returns-clause-partner c d = c.loop-end.invariant.partner d ∙ ap (λ xs. partner_past xs (partner_now c.args.board.now) d) (take_all c.loop-end.end-index c.args.ends.now c.loop-end-test.false)

@@ -97,3 +97,36 @@ returns-in_default-result-clause-noted c = λ r under f noted.
 
 pub returns-in_ok-apply-clause-sound : goal.returns-in_ok-apply-clause-sound
 returns-in_ok-apply-clause-sound c = λ sound. sound_more c.args.farm.now.groups c.apply.new.self.groups c.in-Ok.act c.in_ok-apply.ensures.calls sound
+
+pub returns-in_ok-apply-clause-kept : goal.returns-in_ok-apply-clause-kept
+returns-in_ok-apply-clause-kept c = c.turn.ensures.kept
+
+pub returns-in_ok-apply-clause-ended : goal.returns-in_ok-apply-clause-ended
+returns-in_ok-apply-clause-ended c = c.apply.ensures.ended
+
+pub returns-in_ok-apply-clause-failed : goal.returns-in_ok-apply-clause-failed
+returns-in_ok-apply-clause-failed c = c.apply.ensures.failed
+
+pub returns-in_default-result-clause-kept : goal.returns-in_default-result-clause-kept
+returns-in_default-result-clause-kept c = c.turn.ensures.kept
+
+pub returns-in_default-result-clause-ended : goal.returns-in_default-result-clause-ended
+returns-in_default-result-clause-ended c = refl
+
+pub returns-in_default-result-clause-failed : goal.returns-in_default-result-clause-failed
+returns-in_default-result-clause-failed c = refl
+
+pub returns-in_default-result-clause-sound : goal.returns-in_default-result-clause-sound
+returns-in_default-result-clause-sound c = λ sound. sound
+
+pub returns-in_default-clause-kept : goal.returns-in_default-clause-kept
+returns-in_default-clause-kept c = c.turn.ensures.kept
+
+pub returns-in_default-clause-ended : goal.returns-in_default-clause-ended
+returns-in_default-clause-ended c = refl
+
+pub returns-in_default-clause-failed : goal.returns-in_default-clause-failed
+returns-in_default-clause-failed c = refl
+
+pub returns-in_default-clause-sound : goal.returns-in_default-clause-sound
+returns-in_default-clause-sound c = λ sound. sound

@@ -1,5 +1,17 @@
-use Rattle.farm_rounds.proofs.Farms.{farm_new}
+use Rattle.std.proofs.Common.{ap, length, arith}
+use Rattle.farm_rounds.proofs.Farms.{farm_new, new_groups, none_live, none_stand}
 use Rattle.farm_rounds.proofs.farm.Farm.new.Goals as goal
+
+pub invariant_of-result : goal.invariant_of-result
+invariant_of-result c = (
+  new_groups _ c.new.ensures.items,
+  none_live _ _ c.new-2.ensures.items c.new.ensures.items,
+  omega (arith, c.in_ok-vec.ensures.len),
+  omega (arith, ap length c.new-2.ensures.items),
+)
 
 pub returns-clause-value : goal.returns-clause-value
 returns-clause-value c = farm_new _ _ _ _ c.new.ensures.items c.new-2.ensures.items (c.in_ok-vec.ensures.items_if_clones_equal (λ y h. h)) c.new-3.ensures.items
+
+pub returns-clause-history : goal.returns-clause-history
+returns-clause-history c = none_stand _ c.new.ensures.items

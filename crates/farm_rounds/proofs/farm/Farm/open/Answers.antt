@@ -4,6 +4,7 @@ use Rattle.switchboard.specs.declared.act.Act.TheVariants as act
 use Rattle.farm_rounds.specs.declared.call.Call.{Call}
 use Rattle.farm_rounds.specs.declared.call.Group.{Group}
 use Rattle.farm_rounds.specs.declared.call.Group.TheVariants.{One}
+use Rattle.farm_rounds.specs.Groups.{AreGroups}
 use Rattle.farm_rounds.specs.Numbers.{IsRising, is_among}
 use Rattle.farm_rounds.specs.Memory.{FarmMemory}
 use Rattle.farm_rounds.specs.Acts.{Fits, Applied}
@@ -18,6 +19,9 @@ overflow_sub-calls c =
 
 pub add_number-requires-clause-rising : goal.add_number-requires-clause-rising
 add_number-requires-clause-rising c = subst IsRising (sym c.reserve.ensures.items) c.self.invariant.1.rising
+
+pub add_number-requires-clause-room : goal.add_number-requires-clause-room
+add_number-requires-clause-room c = omega (arith, c.reserve.ensures.len, c.in_ok-reserve.ensures.ok)
 
 pub push_reserved-requires : goal.push_reserved-requires
 push_reserved-requires c =
@@ -39,6 +43,12 @@ invariant_of-self-2 c =
     (subst (λ (xs : List ℕ). (d : ℕ) → is_among c.add_number.new.numbers.items d ≡ ((c.args.call == d) || is_among xs d)) items c.add_number.ensures.numbers)
     c.add_number.ensures.rising (omega (arith, c.add_number.ensures.len, c.reserve.ensures.len)) in
     (p.groups, live, i.2, omega (arith, few_groups c.self.inside.groups.items, i.1.count, c.len-calls.ensures, c.len.ensures, c.reserve.ensures.len, c.in_ok-reserve-2.ensures.ok, c.reserve-2.ensures.len, c.add_number.ensures.len, c.push_reserved.ensures.capacity))
+
+pub returns-clause-before : goal.returns-clause-before
+returns-clause-before c = subst (λ (f : FarmMemory). AreGroups f.ended f.groups) c.self.view_is c.self.invariant.0
+
+pub returns-clause-others : goal.returns-clause-others
+returns-clause-others c = ap (λ (f : FarmMemory). record f { groups = c.push_reserved.new.self.items; live = c.add_number.new.numbers.items }) c.self.view_is
 
 pub returns-clause-applied : goal.returns-clause-applied
 returns-clause-applied c = subst (λ (f : FarmMemory). Applied f.ended (act.Opened c.args.call) f.groups c.push_reserved.new.self.items) c.self.view_is (applied c)

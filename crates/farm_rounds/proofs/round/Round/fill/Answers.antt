@@ -1,6 +1,6 @@
-use Rattle.std.proofs.Common.{◌≡◌, ◌<◌, sym, ap, ◌∙◌, subst, ℕ, List, length, arith}
+use Rattle.std.proofs.Common.{◌≡◌, ◌<◌, sym, ap, ◌∙◌, subst, ℕ, List, ◌++◌, length, take, drop, arith}
 use Rattle.round_lines.specs.Seats.{SeatMemory, Fills}
-use Rattle.round_lines.specs.Rounds.{KeepsButEach, IsIncoming, seat_at, call_at}
+use Rattle.round_lines.specs.Rounds.{KeepsButEach, IsIncoming, Rising, seat_at, call_at}
 use Rattle.farm_rounds.specs.Rounds.{jobs_in}
 use Rattle.farm_rounds.specs.Working.{RoundMemory, IsRound}
 use Rattle.farm_rounds.proofs.Working.{back, filled}
@@ -38,3 +38,23 @@ pub returns-clause-others : goal.returns-clause-others
 returns-clause-others g c =
     let old : c.deref_mut.result.now ≡ c.args.self.now.seats = c.deref_mut.ensures.value ∙ ap (λ (r : RoundMemory). r.seats) c.self.view_is in
     subst (λ (ss : List SeatMemory). KeepsButEach IsIncoming (g.T.Trunk.lines c.args.trunk.now) (g.T.Trunk.lines c.fill_seats.new.trunk) ss (length ss)) old c.fill_seats.ensures.others
+
+pub fill_seats-requires : goal.fill_seats-requires
+fill_seats-requires g c = subst (λ (ss : List SeatMemory). Rising ss) (sym c.deref_mut.ensures.value) c.self.invariant.0.rising
+
+pub returns-clause-kept : goal.returns-clause-kept
+returns-clause-kept g c =
+    let i = c.self.inside in
+    ap (λ (r : RoundMemory). record r { seats = take i.seats.len (c.fill_seats.new.seats ++ drop (length c.fill_seats.new.seats) i.seats.items) }) c.self.view_is
+
+pub returns-clause-number : goal.returns-clause-number
+returns-clause-number g c =
+    let i = c.self.inside in
+    let whole = back i.seats.len c.fill_seats.new.seats i.seats.items (omega (arith, c.deref_mut.ensures.len, ap length c.deref_mut.ensures.value)) (c.fill_seats.ensures.number ∙ ap length c.deref_mut.ensures.value) in
+    ap length whole ∙ c.fill_seats.ensures.number ∙ ap length c.deref_mut.ensures.value ∙ ap (λ (r : RoundMemory). length r.seats) c.self.view_is
+
+pub returns-clause-rising : goal.returns-clause-rising
+returns-clause-rising g c =
+    let i = c.self.inside in
+    let whole = back i.seats.len c.fill_seats.new.seats i.seats.items (omega (arith, c.deref_mut.ensures.len, ap length c.deref_mut.ensures.value)) (c.fill_seats.ensures.number ∙ ap length c.deref_mut.ensures.value) in
+    subst (λ (ss : List SeatMemory). Rising ss) (sym whole) c.fill_seats.ensures.rising

@@ -1,10 +1,11 @@
-use Rattle.std.proofs.Common.{rules, ◌≡◌, ◌+◌, ◌≤◌, sym, ap, ◌∙◌, subst, ℕ, List, length, arith}
+use Rattle.std.proofs.Common.{rules, ◌≡◌, refl, ◌+◌, ◌≤◌, sym, ap, ◌∙◌, subst, ℕ, List, length, arith}
 use Rattle.std.specs.Prelude.{is_some, slice_index}
 use Rattle.std.specs.Global.{Box}
 use Rattle.std.proofs.lemmas.List.{length-map}
 use Rattle.call_pair.specs.declared.job.Job.{Job}
 use Rattle.farm_rounds.specs.declared.entry.Entry.{Entry}
 use Rattle.farm_rounds.specs.Calls.{call_in, partner_in}
+use Rattle.farm_rounds.specs.Numbers.{IsRising}
 use Rattle.farm_rounds.specs.Groups.{AreLive}
 use Rattle.farm_rounds.specs.Histories.{GroupsStand}
 use Rattle.farm_rounds.specs.Rounds.{jobs_in, HaveEntries, BringCalls, AreSeats}
@@ -41,6 +42,48 @@ pub reserve-requires-2-clause-calls : goal.reserve-requires-2-clause-calls
 reserve-requires-2-clause-calls c =
     let few = few_live c.farm.inside.end c.farm.inside.live.items c.farm.inside.groups.items c.farm.invariant.0 c.farm.invariant.1 in
     omega (arith, few, c.len-calls.ensures)
+
+pub make_jobs-requires-clause-rising : goal.make_jobs-requires-clause-rising
+make_jobs-requires-clause-rising c = subst (λ (xs : List ℕ). IsRising xs) (sym c.deref.ensures.value) c.farm.invariant.1.rising
+
+pub make_jobs-requires-clause-length : goal.make_jobs-requires-clause-length
+make_jobs-requires-clause-length c = omega (arith, ap length c.deref_mut.ensures.value, c.in_ok-entries.ensures.len, c.len-calls.ensures, ap length c.deref.ensures.value)
+
+pub make_seats-requires-clause-length : goal.make_seats-requires-clause-length
+make_seats-requires-clause-length c =
+    let entries = c.make_jobs.new.entries in
+    let whole = back c.in_ok-entries.entries.len entries c.in_ok-entries.entries.items (omega (arith, c.deref_mut.ensures.len, ap length c.deref_mut.ensures.value)) (c.make_jobs.ensures.length ∙ ap length c.deref_mut.ensures.value) in
+    omega (arith, ap length (c.deref-3.ensures.value ∙ whole), c.make_jobs.ensures.length, ap length c.deref_mut.ensures.value, c.in_ok-entries.ensures.len, c.len-calls.ensures, ap length c.deref-2.ensures.value)
+
+pub make_seats-requires-clause-some : goal.make_seats-requires-clause-some
+make_seats-requires-clause-some c = c.requires.some
+
+pub make_seats-requires-clause-few : goal.make_seats-requires-clause-few
+make_seats-requires-clause-few c = c.requires.few
+
+pub reserve-requires-2-clause-some : goal.reserve-requires-2-clause-some
+reserve-requires-2-clause-some c = c.requires.some_workers
+
+pub reserve-requires-2-clause-few : goal.reserve-requires-2-clause-few
+reserve-requires-2-clause-few c = c.requires.few_workers
+
+pub returns-clause-start : goal.returns-clause-start
+returns-clause-start c = refl
+
+pub returns-clause-ended : goal.returns-clause-ended
+returns-clause-ended c = refl
+
+pub returns-clause-live : goal.returns-clause-live
+returns-clause-live c = ap (λ (f : FarmMemory). f.live) c.farm.view_is
+
+pub returns-clause-failed : goal.returns-clause-failed
+returns-clause-failed c = c.reserve.ensures.items ∙ ap (λ (f : FarmMemory). f.failed) c.farm.view_is
+
+pub returns-clause-tallies : goal.returns-clause-tallies
+returns-clause-tallies c = ap (λ (f : FarmMemory). f.tallies) c.farm.view_is
+
+pub returns-clause-number : goal.returns-clause-number
+returns-clause-number c = c.in_ok-seats.ensures.length ∙ ap length c.deref-2.ensures.value ∙ ap (λ (f : FarmMemory). length f.live) c.farm.view_is
 
 pub invariant_of-result : goal.invariant_of-result
 invariant_of-result c =

@@ -1,10 +1,49 @@
-use Rattle.std.proofs.Common.{subst, List}
+use Rattle.std.proofs.Common.{sym, ap, ◌∙◌, subst, List, length, arith}
 use Rattle.farm_rounds.specs.declared.entry.Entry.{Entry}
-use Rattle.farm_rounds.specs.Rounds.{jobs_in, Works}
+use Rattle.farm_rounds.specs.Rounds.{jobs_in, HaveJobs, HaveTime, Works}
 use Rattle.farm_rounds.specs.Working.{RoundMemory, IsRound}
 use Rattle.farm_rounds.proofs.JobSeats.{worked_rising}
 use Rattle.farm_rounds.proofs.Works.{worked_round, worked_partner, worked_call, worked_octets}
 use Rattle.farm_rounds.proofs.round.Round.work.Goals as goal
+
+pub work_jobs-jobs-requires-clause-entries : goal.work_jobs-jobs-requires-clause-entries
+work_jobs-jobs-requires-clause-entries g c κs lives = ap length c.deref.ensures.value ∙ c.self.invariant.0.long
+
+pub work_jobs-jobs-requires-clause-jobs : goal.work_jobs-jobs-requires-clause-jobs
+work_jobs-jobs-requires-clause-jobs g c κs lives = subst (λ (es : List Entry). HaveJobs (jobs_in c.self.inside.jobs.items) es c.self.inside.seats.items) (sym c.deref.ensures.value) c.self.invariant.0.have
+
+pub work_jobs-jobs-requires-clause-time : goal.work_jobs-jobs-requires-clause-time
+work_jobs-jobs-requires-clause-time g c κs lives = subst (λ (es : List Entry). HaveTime (jobs_in c.self.inside.jobs.items) es c.self.inside.seats.items) (sym c.deref.ensures.value) (λ k l. omega (arith, c.self.invariant.0.time k l, c.self.invariant.0.last))
+
+pub work_jobs-jobs-requires-clause-rising : goal.work_jobs-jobs-requires-clause-rising
+work_jobs-jobs-requires-clause-rising g c κs lives = c.self.invariant.0.rising
+
+pub work_jobs-jobs-requires-clause-no_place : goal.work_jobs-jobs-requires-clause-no_place
+work_jobs-jobs-requires-clause-no_place g c κs lives = c.self.invariant.3
+
+pub work_jobs-jobs-requires-clause-no_seat : goal.work_jobs-jobs-requires-clause-no_seat
+work_jobs-jobs-requires-clause-no_seat g c κs lives = c.self.invariant.4
+
+pub work_jobs-jobs-requires-clause-places : goal.work_jobs-jobs-requires-clause-places
+work_jobs-jobs-requires-clause-places g c κs lives = omega (arith, c.self.invariant.0.numbers, c.self.invariant.7)
+
+pub work_jobs-jobs-requires-clause-seats : goal.work_jobs-jobs-requires-clause-seats
+work_jobs-jobs-requires-clause-seats g c κs lives = omega (arith, c.self.invariant.0.numbers, c.self.invariant.8)
+
+pub work_jobs-jobs-requires-clause-pool : goal.work_jobs-jobs-requires-clause-pool
+work_jobs-jobs-requires-clause-pool g c κs lives = c.self.invariant.10
+
+pub returns-clause-ended : goal.returns-clause-ended
+returns-clause-ended g c = ap (λ (r : RoundMemory). r.ended) c.self.view_is
+
+pub returns-clause-live : goal.returns-clause-live
+returns-clause-live g c = ap (λ (r : RoundMemory). r.live) c.self.view_is
+
+pub returns-clause-failed : goal.returns-clause-failed
+returns-clause-failed g c = ap (λ (r : RoundMemory). r.failed) c.self.view_is
+
+pub returns-clause-tallies : goal.returns-clause-tallies
+returns-clause-tallies g c = ap (λ (r : RoundMemory). r.tallies) c.self.view_is
 
 pub invariant_of-result : goal.invariant_of-result
 invariant_of-result g c =

@@ -3,7 +3,7 @@ use Rattle.std.specs.Prelude.{map, flat_map}
 use Rattle.trau_io.specs.declared.line.Line.{Line}
 use Rattle.round_lines.specs.Places.{name_of, failed_in_round}
 use Rattle.round_lines.specs.Seats.{SeatMemory, Drains}
-use Rattle.round_lines.specs.Rounds.{Each, KeepsButEach, IsOutgoing}
+use Rattle.round_lines.specs.Rounds.{Each, KeepsButEach, IsOutgoing, Rising}
 use Rattle.farm_rounds.specs.declared.tally.Tally.{Tally}
 use Rattle.farm_rounds.specs.Groups.{AreGroups}
 use Rattle.farm_rounds.specs.Memory.{tally_in}
@@ -12,7 +12,8 @@ use Rattle.farm_rounds.specs.Settling.{Settled, groups_left, goes_on_in}
 use Rattle.farm_rounds.specs.Working.{WorkedMemory, IsWorked, goes_on_call}
 use Rattle.farm_rounds.specs.RoundHistories.{seat_of}
 use Rattle.farm_rounds.proofs.Working.{back}
-use Rattle.farm_rounds.proofs.Drained.{GoAsBefore, IsDrained, drained}
+use Rattle.farm_rounds.proofs.Starting.{same_groups}
+use Rattle.farm_rounds.proofs.Drained.{GoAsBefore, IsDrained, drained, drained_seats}
 use Rattle.farm_rounds.proofs.worked.Worked.drain.Given as given
 use Rattle.farm_rounds.proofs.worked.Worked.drain.Goals as goal
 
@@ -52,6 +53,42 @@ tallies_back g c =
     let here : c.deref_mut-2.result.now ≡ c.self.inside.rest.tallies.items = c.deref_mut-2.ensures.value in
     back c.self.inside.rest.tallies.len c.settle_all.new.tallies c.self.inside.rest.tallies.items (omega (arith, c.deref_mut-2.ensures.len, ap length here)) (c.settle_all.ensures.settled.same ∙ ap length here)
 
+pub drain_seats-requires : goal.drain_seats-requires
+drain_seats-requires g c = subst (λ (ss : List SeatMemory). Rising ss) (sym c.deref_mut.ensures.value) c.self.invariant.0.rising
+
+pub list_failed-requires : goal.list_failed-requires
+list_failed-requires g c =
+    let i = c.self.inside in
+    let here : c.deref_mut.result.now ≡ i.seats.items = c.deref_mut.ensures.value in
+    let after = c.deref.ensures.value ∙ back i.seats.len c.drain_seats.new.seats i.seats.items (omega (arith, c.deref_mut.ensures.len, ap length here)) (c.drain_seats.ensures.number ∙ ap length here) in
+    omega (arith, c.self.invariant.4, ap length after, c.drain_seats.ensures.number, ap length here, c.self.invariant.0.numbers)
+
+pub settle_all-requires-clause-seats : goal.settle_all-requires-clause-seats
+settle_all-requires-clause-seats g c =
+    let i = c.self.inside in
+    let here : c.deref_mut.result.now ≡ i.seats.items = c.deref_mut.ensures.value in
+    let after = c.deref-2.ensures.value ∙ back i.seats.len c.drain_seats.new.seats i.seats.items (omega (arith, c.deref_mut.ensures.len, ap length here)) (c.drain_seats.ensures.number ∙ ap length here) in
+    drained_seats _ c.deref-3.result.now c.deref_mut.result.now c.drain_seats.new.seats c.deref-2.result.now c.self.invariant.0 (c.deref-3.ensures.value ∙ c.self.invariant.2) here after c.drain_seats.ensures.number
+    (λ k l. ap (λ (s : SeatMemory). s.place.call) (c.drain_seats.ensures.drains k l).kept)
+
+pub settle_all-requires-clause-numbers : goal.settle_all-requires-clause-numbers
+settle_all-requires-clause-numbers g c = c.deref-3.ensures.value ∙ c.self.invariant.2
+
+pub settle_all-requires-clause-none : goal.settle_all-requires-clause-none
+settle_all-requires-clause-none g c = c.self.invariant.1
+
+pub settle_all-requires-clause-groups : goal.settle_all-requires-clause-groups
+settle_all-requires-clause-groups g c = same_groups c.self.inside.end 4294967295 (groups_from (jobs_in c.self.inside.jobs.items)) c.self.invariant.0.last c.self.invariant.0.groups
+
+pub settle_all-requires-clause-live : goal.settle_all-requires-clause-live
+settle_all-requires-clause-live g c = c.self.invariant.0.alive
+
+pub settle_all-requires-clause-room : goal.settle_all-requires-clause-room
+settle_all-requires-clause-room g c = c.self.invariant.3
+
+pub settle_all-requires-clause-tallies : goal.settle_all-requires-clause-tallies
+settle_all-requires-clause-tallies g c = ap length c.deref_mut-2.ensures.value ∙ c.self.invariant.0.kept
+
 pub invariant_of-result : goal.invariant_of-result
 invariant_of-result g c =
     let d = whole g c in (
@@ -76,6 +113,9 @@ returns-clause-drains g c =
 pub returns-clause-others : goal.returns-clause-others
 returns-clause-others g c =
     subst (λ (ss : List SeatMemory). KeepsButEach IsOutgoing (g.T.Trunk.lines c.args.trunk.now) (g.T.Trunk.lines c.drain_seats.new.trunk) ss (length ss)) (seats_were g c) c.drain_seats.ensures.others
+
+pub returns-clause-ended : goal.returns-clause-ended
+returns-clause-ended g c = ap (λ (r : WorkedMemory). r.ended) c.self.view_is
 
 pub returns-clause-live : goal.returns-clause-live
 returns-clause-live g c = (whole g c).live

@@ -1,0 +1,29 @@
+use Rattle.std.proofs.Common.{refl, ◌∙◌}
+use Rattle.farm_run.proofs.orders.execute_orders.Goals as goal
+
+pub loop-init : goal.loop-init
+loop-init c = record {
+  clock = c.requires;
+  kept = refl;
+  ended = refl;
+  failed = refl;
+  sound = λ sound. sound;
+  follows = λ r under follows. follows;
+  told = refl;
+  noted = λ r under follows noted. noted;
+}
+
+pub loop-preserved : goal.loop-preserved
+loop-preserved c =
+    let inv = c.loop.invariant in
+    let e = c.in_ok-execute.ensures in
+    record {
+      clock = e.clock;
+      kept = c.execute.ensures.kept ∙ inv.kept;
+      ended = e.ended ∙ inv.ended;
+      failed = e.failed ∙ inv.failed;
+      sound = λ sound. e.sound (inv.sound sound);
+      follows = λ r under follows. e.follows r under (inv.follows r under follows);
+      told = c.execute.ensures.told ∙ inv.told;
+      noted = λ r under follows noted. e.noted r under (inv.follows r under follows) (inv.noted r under follows noted);
+    }
