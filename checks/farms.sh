@@ -16,10 +16,6 @@ lay() {
         cp "$top"/examples/farm/*.up "$top"/examples/farm/*.pcm "$top/examples/farm/orders.txt" "$work/given"
         cp "$top"/examples/farm/wanted/* "$work/wanted"
         ;;
-    clean)
-        cp "$top"/crates/call_vectors/data/*.up "$top"/crates/call_vectors/data/*.pcm "$work/given"
-        cp "$top"/crates/call_vectors/data/*.down "$top"/crates/call_vectors/data/*.out "$work/wanted"
-        ;;
     harsh)
         for call in 1 2 3 4 5; do
             cp "$top/crates/codec_vectors/data/farm-$call.up" "$work/given/$call.up"

@@ -20,8 +20,6 @@ def lay(name, folder):
     sources = [TOP / "checks" / "farms" / name]
     if name == "mixed":
         sources = [EXAMPLES / "farm", EXAMPLES / "farm" / "wanted"]
-    if name == "clean":
-        sources.append(TOP / "crates" / "call_vectors" / "data")
     for source in sources:
         for file in source.iterdir():
             if re.fullmatch(r"\d+\.(up|pcm|down)|orders\.txt|report\.txt", file.name):
