@@ -402,14 +402,28 @@ fn an_uplink_is_refused(rt: HostRuntime) -> Result<(), AllocError> {
     refuses_octet(&rt, alloc, 42, 0xC0)
 }
 
+// Decodes the uplink of call 7, and asserts the status.
+fn decodes<R: Abort + Threads + Wait + Sync>(
+    rt: &R,
+    alloc: Global,
+    trunk: &mut MemTrunk,
+) -> Result<(), AllocError> {
+    let mut desk = desk(alloc, &[], 100)?;
+    let status = carry(rt, alloc, &["decode", "7"], trunk, &mut desk)?;
+    assert_status(rt, status, 0);
+    Ok(())
+}
+
+// Whether the Out line begins with what decodes from the frame.
+fn has_decoded(trunk: &MemTrunk) -> bool {
+    trunk.written(OUT).starts_with(&DECODED)
+}
+
 #[test]
 fn an_uplink_is_decoded(rt: HostRuntime) -> Result<(), AllocError> {
-    let alloc = rt.alloc();
-    let mut trunk = lines(alloc, 1000, &[], &[])?;
-    let mut desk = desk(alloc, &[], 100)?;
-    let status = carry(&rt, alloc, &["decode", "7"], &mut trunk, &mut desk)?;
-    assert_status(&rt, status, 0);
-    assert!(rt; trunk.written(OUT).starts_with(&DECODED));
+    let mut trunk = lines(rt.alloc(), 1000, &[], &[])?;
+    decodes(&rt, rt.alloc(), &mut trunk)?;
+    assert!(rt; has_decoded(&trunk));
     Ok(())
 }
 

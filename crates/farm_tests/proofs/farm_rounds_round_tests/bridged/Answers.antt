@@ -1,4 +1,4 @@
-use Rattle.std.proofs.Common.{◌≡◌, ◌∙◌, ap, ℕ, Option, Some, None, true, false, refl, sym}
+use Rattle.std.proofs.Common.{◌≡◌, ◌∙◌, ap, true, false, refl, sym}
 use Rattle.std.specs.Prelude.{is_some, ◌==◌}
 use Rattle.std.proofs.lemmas.Bool.{eq-eqb, ne_eqb}
 use Rattle.farm_rounds.specs.Calls.{call_in, partner_in}

@@ -1,7 +1,7 @@
-use Rattle.std.proofs.Common.{◌≡◌, ◌∙◌, ap, ℕ, Option, Some, None, true, false, refl, sym}
-use Rattle.std.specs.Prelude.{is_some, ◌==◌}
-use Rattle.std.proofs.lemmas.Bool.{eq-eqb, ne_eqb}
-use Rattle.farm_rounds.specs.Calls.{call_in, partner_in}
+use Rattle.std.proofs.Common.{◌≡◌, ◌∙◌, ap, false}
+use Rattle.std.specs.Prelude.{◌==◌}
+use Rattle.std.proofs.lemmas.Bool.{ne_eqb}
+use Rattle.farm_rounds.specs.Calls.{call_in}
 use Rattle.farm_rounds.specs.Memory.{FarmMemory}
 use Rattle.farm_tests.proofs.farm_rounds_round_tests.opened.Goals as goal
 

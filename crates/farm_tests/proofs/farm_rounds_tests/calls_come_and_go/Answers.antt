@@ -1,4 +1,4 @@
-use Rattle.std.proofs.Common.{◌≡◌, ◌∙◌, ap, ℕ, Option, Some, None, arith}
+use Rattle.std.proofs.Common.{◌∙◌, ap, Option, arith}
 use Rattle.std.specs.Prelude.{is_some}
 use Rattle.std.specs.Option.{option_map}
 use Rattle.farm_rounds.specs.declared.call.Call.{Call}
