@@ -3,7 +3,7 @@ use trau_frame::{Class, Kind, UpFrame};
 use trau_params::{Params, silence};
 
 // A frame with each block maximum 20.
-fn loud() -> Params {
+pub(crate) fn loud() -> Params {
     Params::new(
         [1, 2, 3, 4, 5, 6, 7, 0],
         [50; 4],

@@ -1,18 +1,7 @@
+use crate::rx_handler_tests::loud;
 use rx_noise::noise_frame;
 use trau_num::Draw;
 use trau_params::{Params, silence};
-
-// A silence descriptor with each block maximum 20.
-fn descriptor() -> Params {
-    Params::new(
-        [1, 2, 3, 4, 5, 6, 7, 0],
-        [50; 4],
-        [1; 4],
-        [2; 4],
-        [20; 4],
-        [[5; 13]; 4],
-    )
-}
 
 // The descriptor's ratios and maxima, and the lags and gains of all noise.
 fn has_values(p: &Params) -> bool {
@@ -28,7 +17,7 @@ fn has_draws(p: &Params) -> bool {
 
 #[test]
 fn noise_falls_to_silence(rt: HostRuntime) {
-    let sid = descriptor();
+    let sid = loud();
     let mut draw = Draw { r: 7 };
     let first = noise_frame(&sid, 0, &mut draw);
     assert!(rt; has_values(&first) && has_draws(&first));
