@@ -54,6 +54,36 @@ expect "a word that isn't UTF-8" 1 "usage"
 trau
 expect "no words" 1 "usage"
 
+for words in 'relay' 'relay 0' 'encode 1025' 'relay 7 7' 'Relay 7' 'decoder 7'; do
+    # shellcheck disable=SC2086
+    trau $words
+    expect "words $words" 1 "usage"
+done
+
+# broken NAME PLACE OCTET: the second of two frames has this octet there, and is refused
+broken() {
+    head -c 80 7.up >12.up
+    printf '%b' "$3" | dd of=12.up bs=1 seek="$2" conv=notrunc 2>/dev/null
+    trau relay 12
+    expect "$1" 8 "relay refused 1"
+    [ "$(wc -c <12.down)" -eq 40 ] || { echo "FAILED $1: 12.down"; failed=$((failed + 1)); }
+}
+broken "no sync pattern" 42 '\010'
+broken "a bad frame" 43 '\010'
+broken "an idle frame" 42 '\0300'
+
+# Of four frames and three octets the second and the third have lost a bit of their sync pattern.
+head -c 163 7.up >13.up
+for place in 44 84; do
+    printf '\002' | dd of=13.up bs=1 seek=$place conv=notrunc 2>/dev/null
+done
+trau frames 13
+expect "a list of frames" 0 "0 good
+320 miss
+640 miss
+960 good
+frames 4 left 3"
+
 status=0
 "$top/trau" relay 7 >/dev/full </dev/null || status=$?
 : >text

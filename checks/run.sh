@@ -200,6 +200,54 @@ bridged "a bridge" '4 bridge 8 9\n10 unbridge 8\n' 'bridge 8 9 from 4 to 10 sent
 bridged "a call that ends with its bridge" '4 bridge 8 9\n10 unbridge 8\n10 close 9\n' 'bridge 8 9 from 4 to 10 sent 5 6 lost 1 0'
 bridged "a bridge of no period" '4 bridge 8 9\n4 unbridge 8\n' 'bridge 8 9 from 4 to 4 sent 0 0 lost 0 0'
 
+# Each reply to an order, in a run of two periods.
+mkdir replies
+cd replies
+for call in 1 2 3; do
+    head -c 80 ../8.up >$call.up
+    head -c 320 ../8.pcm >$call.pcm
+done
+run '0 open 1\n0 open 2\n0 open 3\n0 open 1\n0 bridge 1 1\n0 bridge 1 2\n0 bridge 3 2\n0 unbridge 3\n1 unbridge 2\n1 bridge 3 1\n1 close 3\n1 open 3\n1 level 9 0\n'
+head -n 13 text >first
+mv first text
+expect "each reply" 0 <<'TEXT'
+order 1 ok
+order 2 ok
+order 3 ok
+order 4 refused 1 call 1
+order 5 refused 5 call 1
+order 6 ok
+order 7 refused 3 call 2 partner 1
+order 8 refused 4 call 3
+order 9 ok
+order 10 refused 6 call 1 partner 2
+order 11 ok
+order 12 refused 7 call 3
+order 13 refused 2 call 9
+TEXT
+cd ..
+
+# A call whose uplink ends ends its bridge. Its partner goes on alone with its codecs from home: a frame of silence gives
+# the samples 8, 0, 0, 8, 8, 8, 16.
+mkdir alone
+cd alone
+head -c 1213 /dev/zero >7.up
+cat ../8.up ../8.up ../8.up | head -c 1320 >9.up
+cat ../8.pcm ../8.pcm ../8.pcm | head -c 5280 >7.pcm
+cp 7.pcm 9.pcm
+run '0 open 7\n0 open 9\n0 bridge 7 9'
+if [ "$status" = 0 ] && grep -q '^call 7 from 0 to 30 end up 13$' text && grep -q '^bridge 7 9 from 0 to 30 sent ' text; then
+    echo "ok a bridged call that ends"
+else
+    fail "a bridged call that ends: status $status, text:"
+    cat text
+fi
+size "a bridged call that ends" 9.out 5280
+[ "$(head -c 4800 9.out | tr -d '\325' | wc -c)" = 0 ] || fail "a bridged call that ends: Out in the bridge"
+printf '\325\325\325\325\325\325\324' >wanted
+tail -c +4801 9.out | head -c 7 | cmp -s - wanted || fail "a bridged call that ends: Out after the bridge"
+cd ..
+
 # Frames that begin within an octet: the first ends in period 1, so nothing is heard in period 0.
 python3 - <<'END'
 frame = open("8.up", "rb").read(40)

@@ -1,18 +1,39 @@
 // The workers of a run: that they are several threads, and that calls are stolen half done. No clause says so.
-use crate::farm_top_run_tests::{desk_with, set_idle_call};
+ghost use Rattle.std.specs.Prelude.{◌≤◌};
+
+use crate::farm_top_run_tests::desk_with;
 use crate::farm_top_tests::carry_gated;
 use crate::held::Held;
+use crate::lines::set;
 use std::alloc::{AllocError, Global};
 use std::sync::Wait;
 use std::thread::Threads;
-use trau_io::MemTrunk;
+use trau_io::{Line, MemTrunk, Side};
 
-// The lines of the calls 1, 2 and 3, three periods each.
+const SIDES: [(Side, usize); 4] = [
+    (Side::Up, 120),
+    (Side::Pcm, 480),
+    (Side::Down, 0),
+    (Side::Out, 0),
+];
+
+// Sets the lines of a call with three periods.
+fn set_call(alloc: Global, trunk: &mut MemTrunk, call: u32) -> Result<(), AllocError>
+    requires low { 1 ≤ call }
+    requires high { call ≤ 4096 }
+{
+    for (side, octets) in SIDES {
+        set(alloc, trunk, Line { call, side }, octets, 1000, &[])?;
+    }
+    Ok(())
+}
+
+// The lines of the calls 1, 2 and 3.
 fn three_lines(alloc: Global) -> Result<MemTrunk, AllocError> {
     let mut trunk = MemTrunk::new(alloc)?;
-    set_idle_call(alloc, &mut trunk, 1)?;
-    set_idle_call(alloc, &mut trunk, 2)?;
-    set_idle_call(alloc, &mut trunk, 3)?;
+    set_call(alloc, &mut trunk, 1)?;
+    set_call(alloc, &mut trunk, 2)?;
+    set_call(alloc, &mut trunk, 3)?;
     Ok(trunk)
 }
 
@@ -25,7 +46,7 @@ fn run_gated<R: Threads + Wait + Sync>(
     trunk: &mut MemTrunk,
     gate: &Held,
 ) -> Result<u8, AllocError> {
-    let mut desk = desk_with(alloc, b"0 open 1\n0 open 2\n0 open 3\n")?;
+    let mut desk = desk_with(alloc, "0 open 1\n0 open 2\n0 open 3\n")?;
     carry_gated(rt, alloc, &WORDS, trunk, &mut desk, gate)
 }
 

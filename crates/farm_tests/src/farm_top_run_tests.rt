@@ -1,381 +1,279 @@
-// The command `run`, with the lines and the orders in memory.
-ghost use Rattle.std.specs.Prelude.{◌≤◌};
-
-use crate::farm_top_tests::{DECODED, UPLINK_FRAME, assert_status, assert_text, carry};
+// The command `run`, with the lines and the orders in memory: what it answers, tells and writes.
+use crate::farm_top_tests::carry;
+use crate::lines::{DOWN, DOWN_OF_9, OUT, OUT_OF_9, PCM, PCM_OF_9, UP, UP_OF_9, set};
 use std::alloc::{AllocError, Global};
 use std::process::Abort;
 use std::sync::Wait;
 use std::thread::Threads;
-use trau_io::{Line, MemDesk, MemTrunk, Side};
+use trau_io::{Line, MemDesk, MemTrunk};
 
-// An idle downlink frame: behind its head all octets are ones.
-const IDLE: [u8; 40] = [
-    0x00, 0x00, 0xB8, 0x0F, 0xFF, 0xFF, 0xFF, 0xFF, 0xFF, 0xFF, 0xFF, 0xFF, 0xFF, 0xFF, 0xFF, 0xFF,
-    0xFF, 0xFF, 0xFF, 0xFF, 0xFF, 0xFF, 0xFF, 0xFF, 0xFF, 0xFF, 0xFF, 0xFF, 0xFF, 0xFF, 0xFF, 0xFF,
-    0xFF, 0xFF, 0xFF, 0xFF, 0xFF, 0xFF, 0xFF, 0xFF,
+// A line: how many octets lie on it, in pieces of at most how many octets, and which of its calls fail.
+type Given = (usize, u32, &'static [u32]);
+
+const ALL: u32 = 10_000;
+
+// A line on which nothing lies yet.
+const EMPTY: Given = (0, ALL, &[]);
+
+// A run of the calls 7 and 9, and what comes of it. Lines stand in the order Up, Pcm, Down, Out.
+struct Row {
+    options: [&'static str; 2],
+    orders: &'static str,
+    of_7: [Given; 4],
+    of_9: [Given; 4],
+    status: u8,
+    text: &'static str,
+    // How many octets Down and Out of call 7, and of call 9, get.
+    written: [usize; 4],
+}
+
+const OPEN_7: &str = "0 open 7\n";
+
+const OPEN_BOTH: &str = "0 open 7\n0 open 9\n";
+
+const BRIDGE: &str = "0 open 7\n0 open 9\n0 bridge 7 9\n";
+
+const NO_LINES: [Given; 4] = [EMPTY; 4];
+
+// So many periods.
+const OF_252: [Given; 4] = [(252 * 40, ALL, &[]), (252 * 160, ALL, &[]), EMPTY, EMPTY];
+
+const OF_100: [Given; 4] = [(100 * 40, ALL, &[]), (100 * 160, ALL, &[]), EMPTY, EMPTY];
+
+const OF_20: [Given; 4] = [(20 * 40, ALL, &[]), (20 * 160, ALL, &[]), EMPTY, EMPTY];
+
+const ROWS: [Row; 8] = [
+    // Rounds of 250 periods and of two; rounds of one.
+    Row {
+        options: ["--batch", "250"],
+        orders: OPEN_7,
+        of_7: OF_252,
+        of_9: NO_LINES,
+        status: 0,
+        text: "order 1 ok
+call 7 from 0 to 252 end up 0
+counts 7 good 252 sid 0 invalid 0 bad 0 idle 0 other 0 miss 0 none 0 made 252
+end period 252 calls 1 left 0
+",
+        written: [252 * 40, 252 * 160, 0, 0],
+    },
+    Row {
+        options: ["--batch", "1"],
+        orders: OPEN_7,
+        of_7: OF_252,
+        of_9: NO_LINES,
+        status: 0,
+        text: "order 1 ok
+call 7 from 0 to 252 end up 0
+counts 7 good 252 sid 0 invalid 0 bad 0 idle 0 other 0 miss 0 none 0 made 252
+end period 252 calls 1 left 0
+",
+        written: [252 * 40, 252 * 160, 0, 0],
+    },
+    // Both lines of a call end inside a period, and all lines come and go in pieces.
+    Row {
+        options: ["--batch", "3"],
+        orders: OPEN_7,
+        of_7: [(100, 1, &[]), (500, 159, &[]), (0, 33, &[]), (0, 39, &[])],
+        of_9: NO_LINES,
+        status: 0,
+        text: "order 1 ok
+call 7 from 0 to 2 end up 20
+counts 7 good 2 sid 0 invalid 0 bad 0 idle 0 other 0 miss 0 none 0 made 2
+end period 2 calls 1 left 0
+",
+        written: [80, 320, 0, 0],
+    },
+    // Of two bridged calls one has 30 periods and 13 octets, and the other goes on alone.
+    Row {
+        options: ["--periods", "40"],
+        orders: BRIDGE,
+        of_7: [
+            (30 * 40 + 13, ALL, &[]),
+            (100 * 160, ALL, &[]),
+            EMPTY,
+            EMPTY,
+        ],
+        of_9: OF_100,
+        status: 0,
+        text: "order 1 ok
+order 2 ok
+order 3 ok
+bridge 7 9 from 0 to 30 sent 30 30 lost 0 0
+call 7 from 0 to 30 end up 13
+counts 7 good 30 sid 0 invalid 0 bad 0 idle 0 other 0 miss 0 none 0 made 30
+call 9 from 0 to 40 limit
+counts 9 good 40 sid 0 invalid 0 bad 0 idle 0 other 0 miss 0 none 0 made 40
+end period 40 calls 2 left 0
+",
+        written: [30 * 40, 30 * 160, 40 * 40, 40 * 160],
+    },
+    // Both calls of a bridge end in one round, one with both of its lines.
+    Row {
+        options: ["--batch", "10"],
+        orders: BRIDGE,
+        of_7: [(3 * 40, ALL, &[]), (3 * 160 + 1, ALL, &[]), EMPTY, EMPTY],
+        of_9: [(5 * 40, ALL, &[]), (2 * 160 + 8, ALL, &[]), EMPTY, EMPTY],
+        status: 0,
+        text: "order 1 ok
+order 2 ok
+order 3 ok
+bridge 7 9 from 0 to 2 sent 2 2 lost 0 0
+call 7 from 0 to 3 end up 0
+counts 7 good 3 sid 0 invalid 0 bad 0 idle 0 other 0 miss 0 none 0 made 3
+call 9 from 0 to 2 end pcm 8
+counts 9 good 2 sid 0 invalid 0 bad 0 idle 0 other 0 miss 0 none 0 made 2
+end period 3 calls 2 left 0
+",
+        written: [3 * 40, 3 * 160, 2 * 40, 2 * 160],
+    },
+    // A read ahead that fails past the end of the other line is told, and the call ends at that end.
+    Row {
+        options: ["--batch", "10"],
+        orders: OPEN_7,
+        of_7: [(2 * 40, ALL, &[]), (4 * 160, 640, &[1]), EMPTY, EMPTY],
+        of_9: NO_LINES,
+        status: 6,
+        text: "order 1 ok
+call 7 from 0 to 2 end up 0
+counts 7 good 2 sid 0 invalid 0 bad 0 idle 0 other 0 miss 0 none 0 made 2
+line 7 pcm failed
+end period 2 calls 1 left 0
+",
+        written: [80, 320, 0, 0],
+    },
+    // An incoming line that fails ends its call after its whole periods, and no other call.
+    Row {
+        options: ["--batch", "10"],
+        orders: OPEN_BOTH,
+        of_7: [(20 * 40, ALL, &[]), (20 * 160, 400, &[1]), EMPTY, EMPTY],
+        of_9: OF_20,
+        status: 6,
+        text: "order 1 ok
+order 2 ok
+call 7 from 0 to 2 fault pcm
+counts 7 good 2 sid 0 invalid 0 bad 0 idle 0 other 0 miss 0 none 0 made 2
+call 9 from 0 to 20 end up 0
+counts 9 good 20 sid 0 invalid 0 bad 0 idle 0 other 0 miss 0 none 0 made 20
+line 7 pcm failed
+end period 20 calls 2 left 0
+",
+        written: [80, 320, 20 * 40, 20 * 160],
+    },
+    // An outgoing line that fails is passed over from then on; its call goes on.
+    Row {
+        options: ["--batch", "10"],
+        orders: OPEN_7,
+        of_7: [
+            (20 * 40, ALL, &[]),
+            (20 * 160, ALL, &[]),
+            (0, ALL, &[0]),
+            EMPTY,
+        ],
+        of_9: NO_LINES,
+        status: 6,
+        text: "order 1 ok
+call 7 from 0 to 20 end up 0
+counts 7 good 20 sid 0 invalid 0 bad 0 idle 0 other 0 miss 0 none 0 made 20
+line 7 down failed
+end period 20 calls 1 left 0
+",
+        written: [0, 20 * 160, 0, 0],
+    },
 ];
 
-fn line(call: u32, side: Side) -> Line
-    requires low { 1 ≤ call }
-    requires high { call ≤ 4096 }
-{
-    Line { call, side }
-}
-
-// Sets a line with room enough, some of whose calls are cut or fail.
-fn set(
+// Puts lines in place, in the order Up, Pcm, Down, Out.
+fn lay(
     alloc: Global,
     trunk: &mut MemTrunk,
-    line: Line,
-    contents: Vec<u8>,
-    cuts: &[u32],
-    fails: &[u32],
+    lines: [Line; 4],
+    given: &[Given; 4],
 ) -> Result<(), AllocError> {
-    let cuts = cuts.to_vec(alloc)?;
-    trunk.set(alloc, line, contents, cuts, fails.to_vec(alloc)?, 10_000)
-}
-
-// Sets the lines of a call: this uplink, and so many periods of idle octets.
-pub(crate) fn set_call(
-    alloc: Global,
-    trunk: &mut MemTrunk,
-    call: u32,
-    up: Vec<u8>,
-    periods: usize,
-) -> Result<(), AllocError>
-    requires low { 1 ≤ call }
-    requires high { call ≤ 4096 }
-    requires few { periods ≤ 1000 }
-{
-    let pcm = vec![in alloc; 0xD5; 160 * periods]?;
-    set(alloc, trunk, line(call, Side::Up), up, &[], &[])?;
-    set(alloc, trunk, line(call, Side::Pcm), pcm, &[], &[])?;
-    let (down, out) = (line(call, Side::Down), line(call, Side::Out));
-    set(alloc, trunk, down, Vec::new(alloc), &[], &[])?;
-    set(alloc, trunk, out, Vec::new(alloc), &[], &[])
-}
-
-// Sets the lines of a call: three periods, without a frame on Up.
-pub(crate) fn set_idle_call(
-    alloc: Global,
-    trunk: &mut MemTrunk,
-    call: u32,
-) -> Result<(), AllocError>
-    requires low { 1 ≤ call }
-    requires high { call ≤ 4096 }
-{
-    set_call(alloc, trunk, call, vec![in alloc; 0; 120]?, 3)
-}
-
-// An uplink of so many good frames.
-fn good_frames(alloc: Global, frames: usize) -> Result<Vec<u8>, AllocError> {
-    let mut up = Vec::new(alloc);
-    for _ in 0..frames {
-        up.extend_from_slice(&UPLINK_FRAME)?;
+    for (line, (octets, cut, fails)) in lines.iter().zip(given.iter()) {
+        set(alloc, trunk, *line, *octets, *cut, fails)?;
     }
-    Ok(up)
+    Ok(())
+}
+
+// The lines of both calls.
+fn lines_of(alloc: Global, of_7: &[Given; 4], of_9: &[Given; 4]) -> Result<MemTrunk, AllocError> {
+    let mut trunk = MemTrunk::new(alloc)?;
+    lay(alloc, &mut trunk, [UP, PCM, DOWN, OUT], of_7)?;
+    let lines = [UP_OF_9, PCM_OF_9, DOWN_OF_9, OUT_OF_9];
+    lay(alloc, &mut trunk, lines, of_9)?;
+    Ok(trunk)
 }
 
 // A desk that has these orders, and room enough.
-pub(crate) fn desk_with(alloc: Global, orders: &[u8]) -> Result<MemDesk, AllocError> {
-    MemDesk::new(
-        alloc,
-        orders.to_vec(alloc)?,
-        Vec::new(alloc),
-        Vec::new(alloc),
-        10_000,
-    )
+pub(crate) fn desk_with(alloc: Global, orders: &str) -> Result<MemDesk, AllocError> {
+    let orders = orders.as_bytes().to_vec(alloc)?;
+    MemDesk::new(alloc, orders, Vec::new(alloc), Vec::new(alloc), 10_000)
 }
 
-// Carries out the command with these orders, and asserts the status. Gives the desk.
-fn runs<R: Abort + Threads + Wait + Sync>(
-    rt: &R,
-    alloc: Global,
-    words: &[&str],
-    orders: &[u8],
-    trunk: &mut MemTrunk,
-    status: u8,
-) -> Result<MemDesk, AllocError> {
-    let mut desk = desk_with(alloc, orders)?;
-    let answer = carry(rt, alloc, words, trunk, &mut desk)?;
-    assert_status(rt, answer, status);
-    Ok(desk)
+// Asserts how many octets the outgoing lines got.
+fn assert_written(rt: &impl Abort, trunk: &MemTrunk, written: [usize; 4]) {
+    let lengths = [
+        trunk.written(DOWN).len(),
+        trunk.written(OUT).len(),
+        trunk.written(DOWN_OF_9).len(),
+        trunk.written(OUT_OF_9).len(),
+    ];
+    assert_eq!(rt; lengths, written);
 }
 
-// Carries out `run` with these orders, and asserts the status and the whole text.
-fn reports<R: Abort + Threads + Wait + Sync>(
+// Carries out a run, and asserts what comes of it.
+fn assert_run<R: Abort + Threads + Wait + Sync>(
     rt: &R,
     alloc: Global,
-    orders: &[u8],
-    trunk: &mut MemTrunk,
-    status: u8,
-    text: &str,
+    row: &Row,
 ) -> Result<(), AllocError> {
-    let desk = runs(rt, alloc, &["run"], orders, trunk, status)?;
-    assert_text(rt, &desk, text);
+    let [option, value] = row.options;
+    let mut trunk = lines_of(alloc, &row.of_7, &row.of_9)?;
+    let mut desk = desk_with(alloc, row.orders)?;
+    let words = ["run", option, value];
+    let status = carry(rt, alloc, &words, &mut trunk, &mut desk)?;
+    assert_eq!(rt; desk.text(), row.text.as_bytes());
+    assert_eq!(rt; status, row.status);
+    assert_written(rt, &trunk, row.written);
     Ok(())
-}
-
-// Whether a line of the desk's text begins so.
-fn tells(desk: &MemDesk, start: &str) -> bool {
-    let Ok(text) = str::from_utf8(desk.text()) else {
-        return false;
-    };
-    for line in text.lines() {
-        if line.starts_with(start) {
-            return true;
-        }
-    }
-    false
-}
-
-// Asserts that a line of the desk's text begins so.
-fn assert_tells(rt: &impl Abort, desk: &MemDesk, start: &str) {
-    assert!(rt; tells(desk, start), "{start}");
-}
-
-// What a Down line holds in a period where no frame was due before: ones in the first, and then idle frames.
-fn idle_octets(period: usize) -> [u8; 40] {
-    if period == 0 { [0xFF; 40] } else { IDLE }
-}
-
-// Asserts that a Down line holds ones in the first period, and then idle frames.
-fn assert_idle(rt: &impl Abort, down: &[u8]) {
-    for (period, octets) in down.chunks(40).enumerate() {
-        assert_eq!(rt; octets, idle_octets(period).as_slice());
-    }
-}
-
-// Asserts what the outgoing lines of call 1 got in three periods without a frame.
-fn assert_three_idle(rt: &impl Abort, trunk: &MemTrunk) {
-    let down = trunk.written(line(1, Side::Down));
-    assert_eq!(rt; down.len(), 120);
-    assert_idle(rt, down);
-    assert_eq!(rt; trunk.written(line(1, Side::Out)), [0xD5; 480].as_slice());
-}
-
-const THREE_IDLE: &str = "order 1 ok
-call 1 from 0 to 3 end up 0
-counts 1 good 0 sid 0 invalid 0 bad 0 idle 0 other 0 miss 0 none 3 made 3
-end period 3 calls 1 left 0
-";
-
-// An uplink without a frame: each period makes an idle frame.
-#[test]
-fn one_call_is_run(rt: HostRuntime) -> Result<(), AllocError> {
-    let alloc = rt.alloc();
-    let mut trunk = MemTrunk::new(alloc)?;
-    set_idle_call(alloc, &mut trunk, 1)?;
-    reports(&rt, alloc, b"0 open 1", &mut trunk, 0, THREE_IDLE)?;
-    assert_three_idle(&rt, &trunk);
-    Ok(())
-}
-
-const ORDERS: &str = "0 open 1
-0 open 2
-0 open 3
-0 open 1
-0 bridge 1 1
-0 bridge 1 2
-0 bridge 3 2
-0 unbridge 3
-1 unbridge 2
-1 bridge 3 1
-1 close 3
-1 open 3
-1 level 9 0
-";
-
-const REPLIES: &str = "order 1 ok
-order 2 ok
-order 3 ok
-order 4 refused 1 call 1
-order 5 refused 5 call 1
-order 6 ok
-order 7 refused 3 call 2 partner 1
-order 8 refused 4 call 3
-order 9 ok
-order 10 refused 6 call 1 partner 2
-order 11 ok
-order 12 refused 7 call 3
-order 13 refused 2 call 9
-";
-
-// The lines of a call with so many good frames.
-fn set_good_call(
-    alloc: Global,
-    trunk: &mut MemTrunk,
-    call: u32,
-    frames: usize,
-) -> Result<(), AllocError>
-    requires low { 1 ≤ call }
-    requires high { call ≤ 4096 }
-    requires few { frames ≤ 1000 }
-{
-    set_call(alloc, trunk, call, good_frames(alloc, frames)?, frames)
-}
-
-// The lines of the calls 1, 2 and 3, two periods each.
-fn lines_of_two(alloc: Global) -> Result<MemTrunk, AllocError> {
-    let mut trunk = MemTrunk::new(alloc)?;
-    set_good_call(alloc, &mut trunk, 1, 2)?;
-    set_good_call(alloc, &mut trunk, 2, 2)?;
-    set_good_call(alloc, &mut trunk, 3, 2)?;
-    Ok(trunk)
 }
 
 #[test]
-fn orders_are_answered(rt: HostRuntime) -> Result<(), AllocError> {
-    let alloc = rt.alloc();
-    let mut trunk = lines_of_two(alloc)?;
-    let desk = runs(&rt, alloc, &["run"], ORDERS.as_bytes(), &mut trunk, 0)?;
-    assert!(rt; desk.text().starts_with(REPLIES.as_bytes()));
+fn runs_and_what_comes_of_them(rt: HostRuntime) -> Result<(), AllocError> {
+    for row in &ROWS {
+        assert_run(&rt, rt.alloc(), row)?;
+    }
     Ok(())
 }
 
-// The lines of call 7 with 30 periods and 13 octets on Up, and of call 9 with 33.
-fn lines_of_a_bridge(alloc: Global) -> Result<MemTrunk, AllocError> {
-    let mut trunk = MemTrunk::new(alloc)?;
-    set_call(alloc, &mut trunk, 7, vec![in alloc; 0; 1213]?, 33)?;
-    set_good_call(alloc, &mut trunk, 9, 33)?;
-    Ok(trunk)
-}
-
-// Whether octets of an Out line are silent before period 30, and decoded from home in it.
-fn is_alone_from_30(period: usize, octets: &[u8]) -> bool {
-    if period < 30 {
-        octets == [0xD5; 160].as_slice()
-    } else {
-        period != 30 || octets.starts_with(&DECODED)
-    }
-}
-
-// Asserts that call 9 has 33 periods, and that it is alone from period 30 on.
-fn assert_alone_from_30(rt: &impl Abort, trunk: &MemTrunk) {
-    let out = trunk.written(line(9, Side::Out));
-    assert_eq!(rt; out.len(), 33 * 160);
-    for (period, octets) in out.chunks(160).enumerate() {
-        assert!(rt; is_alone_from_30(period, octets), "period {period}");
-    }
-}
-
-// A call whose uplink ends ends its bridge, and its partner goes on alone with its codecs from home.
-#[test]
-fn a_bridged_call_ends(rt: HostRuntime) -> Result<(), AllocError> {
-    let alloc = rt.alloc();
-    let mut trunk = lines_of_a_bridge(alloc)?;
-    let orders = b"0 open 7\n0 open 9\n0 bridge 7 9";
-    let desk = runs(&rt, alloc, &["run"], orders, &mut trunk, 0)?;
-    assert_tells(&rt, &desk, "call 7 from 0 to 30 end up 13");
-    assert_tells(&rt, &desk, "bridge 7 9 from 0 to 30 sent ");
-    assert_alone_from_30(&rt, &trunk);
-    Ok(())
-}
-
-// The lines of three calls.
-fn three_calls(alloc: Global) -> Result<MemTrunk, AllocError> {
-    let mut trunk = MemTrunk::new(alloc)?;
-    set_good_call(alloc, &mut trunk, 7, 4)?;
-    set_good_call(alloc, &mut trunk, 8, 4)?;
-    set_good_call(alloc, &mut trunk, 9, 4)?;
-    Ok(trunk)
-}
-
-// The same, where Pcm of call 7 and Down of call 9 fail.
-fn three_calls_with_faults(alloc: Global) -> Result<MemTrunk, AllocError> {
-    let mut trunk = three_calls(alloc)?;
-    let pcm = vec![in alloc; 0xD5; 640]?;
-    set(alloc, &mut trunk, line(7, Side::Pcm), pcm, &[400], &[1])?;
-    let down = line(9, Side::Down);
-    set(alloc, &mut trunk, down, Vec::new(alloc), &[], &[0])?;
-    Ok(trunk)
-}
-
-const THREE: &[u8] = b"0 open 7\n0 open 8\n0 open 9";
-
-// Runs the three calls where nothing fails, and gives their lines.
-fn calm_run<R: Abort + Threads + Wait + Sync>(
+// The lines after a run of both calls, four periods each, where these calls of Pcm and of Down of call 7 fail.
+fn after<R: Threads + Wait + Sync>(
     rt: &R,
     alloc: Global,
+    pcm_fails: &'static [u32],
+    down_fails: &'static [u32],
 ) -> Result<MemTrunk, AllocError> {
-    let mut trunk = three_calls(alloc)?;
-    runs(rt, alloc, &["run"], THREE, &mut trunk, 0)?;
-    Ok(trunk)
-}
-
-// Runs the three calls where two lines fail, and asserts what the report tells of it. Gives their lines.
-fn run_with_faults<R: Abort + Threads + Wait + Sync>(
-    rt: &R,
-    alloc: Global,
-) -> Result<MemTrunk, AllocError> {
-    let mut trunk = three_calls_with_faults(alloc)?;
-    let desk = runs(rt, alloc, &["run"], THREE, &mut trunk, 6)?;
-    assert_tells(rt, &desk, "call 7 from 0 to 2 fault pcm");
-    assert_tells(rt, &desk, "line 7 pcm failed");
-    assert_tells(rt, &desk, "line 9 down failed");
+    let up: Given = (160, ALL, &[]);
+    let of_7 = [up, (640, 400, pcm_fails), (0, ALL, down_fails), EMPTY];
+    let mut trunk = lines_of(alloc, &of_7, &OF_20)?;
+    let mut desk = desk_with(alloc, OPEN_BOTH)?;
+    carry(rt, alloc, &["run"], &mut trunk, &mut desk)?;
     Ok(trunk)
 }
 
 // Asserts that a line got the same octets in two runs.
 fn assert_same(rt: &impl Abort, one: &MemTrunk, other: &MemTrunk, line: Line) {
-    assert_eq!(rt; one.written(line), other.written(line));
+    assert_eq!(rt; one.written(line), other.written(line), "{line:?}");
 }
 
-// A line that fails leaves all other calls, and the other lines of its own, as they are without it.
+// A line that fails leaves the other call, and the other lines of its own, as they are without it.
 #[test]
-fn lines_fail(rt: HostRuntime) -> Result<(), AllocError> {
-    let alloc = rt.alloc();
-    let calm = calm_run(&rt, alloc)?;
-    let trunk = run_with_faults(&rt, alloc)?;
-    assert_same(&rt, &trunk, &calm, line(8, Side::Down));
-    assert_same(&rt, &trunk, &calm, line(8, Side::Out));
-    assert_same(&rt, &trunk, &calm, line(9, Side::Out));
+fn failing_lines_change_no_other(rt: HostRuntime) -> Result<(), AllocError> {
+    let calm = after(&rt, rt.alloc(), &[], &[])?;
+    let failing = after(&rt, rt.alloc(), &[1], &[0])?;
+    assert_same(&rt, &failing, &calm, DOWN_OF_9);
+    assert_same(&rt, &failing, &calm, OUT_OF_9);
+    let failing = after(&rt, rt.alloc(), &[], &[0])?;
+    assert_same(&rt, &failing, &calm, OUT);
     Ok(())
-}
-
-const NO_ORDER: &str = "end period 0 calls 0 left 0\n";
-
-const NO_PERIOD: &str = "order 1 ok
-call 1 from 4000000000 to 4000000000 end up 0
-counts 1 good 0 sid 0 invalid 0 bad 0 idle 0 other 0 miss 0 none 0 made 0
-end period 4000000000 calls 1 left 0
-";
-
-// No orders, and a call without a period.
-#[test]
-fn a_run_has_no_period(rt: HostRuntime) -> Result<(), AllocError> {
-    let alloc = rt.alloc();
-    let mut trunk = MemTrunk::new(alloc)?;
-    reports(&rt, alloc, b"", &mut trunk, 0, NO_ORDER)?;
-    reports(&rt, alloc, b"4000000000 open 1", &mut trunk, 0, NO_PERIOD)
-}
-
-// The limit of periods, and an order past it.
-#[test]
-fn a_run_ends_at_its_limit(rt: HostRuntime) -> Result<(), AllocError> {
-    let alloc = rt.alloc();
-    let mut trunk = MemTrunk::new(alloc)?;
-    set_good_call(alloc, &mut trunk, 1, 9)?;
-    let words = ["run", "--periods", "3"];
-    let desk = runs(&rt, alloc, &words, b"0 open 1\n9 close 1", &mut trunk, 0)?;
-    assert_tells(&rt, &desk, "call 1 from 0 to 3 limit");
-    assert_tells(&rt, &desk, "end period 3 calls 1 left 1");
-    Ok(())
-}
-
-// One line too many.
-fn too_many_orders(alloc: Global) -> Result<Vec<u8>, AllocError> {
-    let mut orders = Vec::new(alloc);
-    for _ in 0..65_537 {
-        orders.extend_from_slice(b"0 open 1\n")?;
-    }
-    Ok(orders)
-}
-
-#[test]
-fn orders_are_too_long(rt: HostRuntime) -> Result<(), AllocError> {
-    let alloc = rt.alloc();
-    let mut trunk = MemTrunk::new(alloc)?;
-    let orders = too_many_orders(alloc)?;
-    reports(&rt, alloc, &orders, &mut trunk, 7, "orders too long\n")
 }

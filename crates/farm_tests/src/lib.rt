@@ -1,15 +1,9 @@
-//! Tests of the crates of a run: the pool, the lines of a round, the rounds and the top call.
+//! Tests of the top call and of the pool: calls of the outside that fail, runs in memory, workers that steal.
 //!
 //! They stand apart from what they test: a crate with tests is proved a second time with them; these go through public
 //! calls only.
 #![tactic(auto)]
 
-#[cfg(test)]
-mod call_seven;
-#[cfg(test)]
-mod farm_rounds_round_tests;
-#[cfg(test)]
-mod farm_rounds_tests;
 #[cfg(test)]
 mod farm_top_gate_tests;
 #[cfg(test)]
@@ -19,6 +13,6 @@ mod farm_top_tests;
 #[cfg(test)]
 mod held;
 #[cfg(test)]
-mod pool_run_tests;
+mod lines;
 #[cfg(test)]
-mod round_lines_tests;
+mod pool_run_tests;

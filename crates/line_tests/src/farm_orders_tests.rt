@@ -3,9 +3,7 @@ mod pieces;
 use farm_orders::{OrdersFault, read_orders};
 use pieces::PieceDesk;
 use std::alloc::{AllocError, Global};
-use std::test::Fail;
 use trau_io::{Desk, MemDesk};
-use trau_orders::{Order, What};
 
 // Texts, and what is answered to them.
 const TEXTS: [(&[u8], Result<usize, OrdersFault>); 4] = [
@@ -42,20 +40,6 @@ fn desk(alloc: Global, text: Vec<u8>, fails: u32) -> Result<MemDesk, AllocError>
     MemDesk::new(alloc, text, fails, Vec::new(alloc), 0)
 }
 
-// Whether this is answered to a text of which the read of this number fails, and so many reads fail.
-fn is_answered_at_once(
-    alloc: Global,
-    text: Vec<u8>,
-    fails: u32,
-    answer: Result<usize, OrdersFault>,
-    faults: u64,
-) -> bool {
-    match desk(alloc, text, fails) {
-        Ok(mut desk) => is_answered(alloc, &mut desk, answer) && desk.read_faults() == faults,
-        Err(_) => false,
-    }
-}
-
 #[test]
 fn texts_in_pieces(rt: HostRuntime) {
     for (text, answer) in TEXTS {
@@ -68,44 +52,15 @@ fn texts_in_pieces(rt: HostRuntime) {
     }
 }
 
-#[test]
-fn texts_at_once(rt: HostRuntime) -> Result<(), Fail> {
-    for (text, answer) in TEXTS {
-        let text = text.to_vec(rt.alloc())?;
-        assert!(rt; is_answered_at_once(rt.alloc(), text, 9, answer, 0));
-    }
-    Ok(())
-}
-
-// Whether a desk that gives its text octet by octet has these orders.
-fn has_orders(alloc: Global, text: Vec<u8>, orders: &[Order]) -> bool {
-    match read_orders(alloc, &mut PieceDesk::new(text, 1)) {
-        Ok(read) => read.list() == orders,
-        Err(_) => false,
-    }
-}
-
-#[test]
-fn orders_are_read_in_their_order(rt: HostRuntime) -> Result<(), Fail> {
-    let text = b"0 open 2\n3 close 2\n".to_vec(rt.alloc())?;
-    let orders = [
-        Order {
-            stamp: 0,
-            what: What::OpenCall(2),
-        },
-        Order {
-            stamp: 3,
-            what: What::CloseCall(2),
-        },
-    ];
-    assert!(rt; has_orders(rt.alloc(), text, &orders));
-    Ok(())
-}
-
-// Whether orders are unread where the read of this number fails.
+// Whether orders are unread where the read of this number fails, and that alone.
 fn is_unread(alloc: Global, fails: u32) -> bool {
-    match b"0 open 1\n".to_vec(alloc) {
-        Ok(text) => is_answered_at_once(alloc, text, fails, Err(OrdersFault::Unread), 1),
+    let Ok(text) = b"0 open 1\n".to_vec(alloc) else {
+        return false;
+    };
+    match desk(alloc, text, fails) {
+        Ok(mut desk) => {
+            is_answered(alloc, &mut desk, Err(OrdersFault::Unread)) && desk.read_faults() == 1
+        }
         Err(_) => false,
     }
 }
