@@ -33,11 +33,17 @@ impl MemDesk {
     ) -> Result<MemDesk, AllocError>
         ensures { IfOk result (λ d. d ≡ (new_line contents.items [] read_fails.items 0, new_line [] [] write_fails.items room)) }
     {
-        let no_cuts = Vec::new(alloc);
-        let orders = MemLine::new(alloc, contents, no_cuts, read_fails, 0)?;
-        let (nothing, no_cuts) = (Vec::new(alloc), Vec::new(alloc));
-        let texts = MemLine::new(alloc, nothing, no_cuts, write_fails, room as usize)?;
-        Ok(MemDesk { orders, texts })
+        let texts = MemLine::new(
+            alloc,
+            Vec::new(alloc),
+            Vec::new(alloc),
+            write_fails,
+            room as usize,
+        )?;
+        Ok(MemDesk {
+            orders: MemLine::to_read(alloc, contents, read_fails),
+            texts,
+        })
     }
 
     /// The octets written.

@@ -51,20 +51,27 @@ impl MemLine {
         })
     }
 
-    /// A line that gives nothing and has no room. It takes no memory.
-    pub fn empty(alloc: Global) -> MemLine
-        ensures { result ≡ new_line [] [] [] 0 }
+    /// A line that is only read, since it has no room. It takes no memory.
+    pub fn to_read(alloc: Global, contents: Vec<u8>, fails: Vec<u32>) -> MemLine
+        ensures { result ≡ new_line contents.items [] fails.items 0 }
     {
         MemLine {
-            contents: Vec::new(alloc),
+            contents,
             read: 0,
             written: Vec::new(alloc),
             room: 0,
             cuts: Vec::new(alloc),
-            fails: Vec::new(alloc),
+            fails,
             calls: 0,
             faults: 0,
         }
+    }
+
+    /// A line that gives nothing and has no room. It takes no memory.
+    pub fn empty(alloc: Global) -> MemLine
+        ensures { result ≡ new_line [] [] [] 0 }
+    {
+        MemLine::to_read(alloc, Vec::new(alloc), Vec::new(alloc))
     }
 
     // Whether the next call is to fail.
