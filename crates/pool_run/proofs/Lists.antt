@@ -1,5 +1,5 @@
 -- Lists, place by place.
-use Rattle.std.proofs.Common.{◌≡◌, ◌≢◌, ℕ, zero, suc, ◌+◌, ◌<◌, ◌≤◌, List, [], ◌∷◌, ◌++◌, length, set, get_or, get_or-set_same, get_or-set_other, Option, None, Some, IfNone, MatchOption, sym, refl, ap, subst, ⊎_elim, arith, length-append}
+use Rattle.std.proofs.Common.{◌≡◌, ◌≢◌, ℕ, zero, suc, ◌+◌, ◌<◌, ◌≤◌, List, [], ◌∷◌, ◌++◌, length, set, get_or, get_or-set_same, get_or-set_other, Option, None, Some, IfNone, MatchOption, sym, refl, ap, ◌∙◌, subst, ⊎_elim, arith, append_assoc, length-append}
 use Rattle.std.proofs.Math.ListN.{length-set, take}
 use Rattle.std.proofs.Math.Seq.{take-append_seam, get_or-append_seam}
 use Rattle.std.proofs.lemmas.Bool.{cases_eq, cases_lt}
@@ -17,6 +17,10 @@ each_set P xs i y there new old j d in_range =
 pub each_snoc : {X : Type 0} (P : ℕ → X → Type 0) (xs : List X) (y : X) → ((i : ℕ) (d : X) → i < length xs → P i (get_or xs i d)) → P (length xs) y → (i : ℕ) (d : X) → i < length (xs ++ y ∷ []) → P i (get_or (xs ++ y ∷ []) i d)
 each_snoc P xs y old new i d h = ⊎_elim (λ (lt : i < length xs). subst (P i) (sym (get_or_append_left xs (y ∷ []) d i lt)) (old i d lt))
     (λ (le : length xs ≤ i). let e : length xs ≡ i = omega (arith, length-append xs (y ∷ [])) in subst (λ (k : ℕ). P k (get_or (xs ++ y ∷ []) k d)) e (subst (P (length xs)) (sym (get_or-append_seam xs y [] d)) new)) (cases_lt i (length xs))
+
+-- a list that had `ys` put at its end takes one more
+pub one_more : {X : Type 0} (base ys xs zs : List X) (x : X) → xs ≡ base ++ ys → zs ≡ xs ++ x ∷ [] → zs ≡ base ++ (ys ++ x ∷ [])
+one_more base ys xs zs x old new = new ∙ ap (λ l. l ++ x ∷ []) old ∙ append_assoc base ys (x ∷ [])
 
 pub same_default : {X : Type 0} (xs : List X) (i : ℕ) (a b : X) → i < length xs → get_or xs i a ≡ get_or xs i b
 same_default [] i a b h = absurd (omega arith)

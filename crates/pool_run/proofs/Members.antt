@@ -35,6 +35,34 @@ module _ {W : Type 0} (finish : W → W) (thieves : List (Thief W)) where
     balance = λ h. omega (arith, m.balance h, n.balance h);
   }
 
+  pub moves_from : (a b : Member W) (x y z : Option (Task W)) → x ≡ y → Moves finish thieves a y b z → Moves finish thieves a x b z
+  moves_from a b x y z e m = subst (λ (o : Option (Task W)). Moves finish thieves a o b z) (sym e) m
+
+  -- a step that leaves `y` in hand, and one after which the worker has ended
+  pub stepped : (a b : Member W) (x y : Option (Task W)) → Moves finish thieves a x b y → record {
+    none : Some y ≡ None → Moves finish thieves a x b None;
+    some : (next : Option (Task W)) → Some y ≡ Some next → Moves finish thieves a x b next;
+  }
+  stepped a b x y m = record { none = λ e. absurd (cc); some = λ next e. let is : y ≡ next = cc in subst (Moves finish thieves a x b) is m }
+
+  pub no_step : (a b : Member W) (x : Option (Task W)) (o : Option (Option (Task W))) → o ≡ None → Moves finish thieves a x b None → record {
+    none : o ≡ None → Moves finish thieves a x b None;
+    some : (next : Option (Task W)) → o ≡ Some next → Moves finish thieves a x b next;
+  }
+  no_step a b x o is m = record { none = λ e. m; some = λ next e. absurd (cc) }
+
+  -- a job that was run for a slice stays the same entry
+  pub moves_run : (a b : Member W) (t u : Task W) (z : Option (Task W)) → entry_of finish u ≡ entry_of finish t → Moves finish thieves a (Some u) b z → Moves finish thieves a (Some t) b z
+  moves_run a b t u z e m = record { ready = m.ready; deque = m.deque; parts = m.parts; balance = λ h. omega (arith, m.balance h, ap h e) }
+
+  -- from a job in hand, and from one that was found with none in hand
+  pub from_hand : (a b mid : Member W) (hand : Option (Task W)) (task was : Task W) (z : Option (Task W)) → hand ≡ Some was → mid ≡ a → task ≡ was → Moves finish thieves mid (Some task) b z → Moves finish thieves a hand b z
+  from_hand a b mid hand task was z hand_is mid_is task_is m = moves_from a b hand (Some task) z (hand_is ∙ ap Some (sym task_is)) (subst (λ (x : Member W). Moves finish thieves x (Some task) b z) mid_is m)
+
+  pub from_found : (a b mid found : Member W) (hand : Option (Task W)) (task was : Task W) (z : Option (Task W)) → hand ≡ None → mid ≡ found → task ≡ was → Moves finish thieves a None found (Some was) → Moves finish thieves mid (Some task) b z → Moves finish thieves a hand b z
+  from_found a b mid found hand task was z hand_is mid_is task_is got m = moves_from a b hand None z hand_is (moves_trans a found b None (Some was) z got
+      (subst (λ (x : Member W). Moves finish thieves x (Some was) b z) mid_is (subst (λ (t : Task W). Moves finish thieves mid (Some t) b z) task_is m)))
+
   own_ready : (old : Member W) (w : Deque) → SameWorker old.own w → (worker_view w).parts ≡ (worker_view old.own).parts → IsReady finish thieves old → IsReady finish thieves (record old { own = w })
   own_ready old w same parts ready = record { fifo = same.1 ∙ ready.fifo; parts = let p = ready.parts in omega arith; one_each = ready.one_each; each = ready.each; ended = ready.ended }
 

@@ -119,6 +119,14 @@ module _ {W : Type 0} (finish : W → W) where
     }
     given_row = record { unused = give_unused; mine = give_mine; rows = give_rows; room = give_left }
 
+  pub none_unused : (thieves : List (Thief W)) (ms : List (Member W)) → thieves ≡ [] → ms ≡ [] → IsUnused finish thieves ms 0
+  none_unused thieves ms no_thieves no_members = subst (λ (ts : List (Thief W)). IsUnused finish ts ms 0) (sym no_thieves) (subst (λ (ns : List (Member W)). IsUnused finish [] ns 0) (sym no_members) (record {
+    shared = record { pair = refl; own = λ k t m h. absurd (omega arith); rows = λ k m h. absurd (omega arith); parts = λ k m h. absurd (omega arith) };
+    fifo = λ k t h. absurd (omega arith);
+    given = λ h. refl;
+    obtained = λ h. refl;
+  }))
+
   module _ (thieves : List (Thief W)) (ms : List (Member W)) (m : Member W) (t : Thief W) (most : ℕ) (unused : IsUnused finish thieves ms 0) (new : IsNew most m t) (none : (i : ℕ) → passes_of ms i ≡ []) where
     unused_rows : (k : ℕ) → rows_at k ms ≡ 0
     unused_rows k = weigh_zeros (λ (x : Member W). below k (length x.passes.items)) ms (λ i d h. ap (λ (l : List (Knower W)). below k (length l)) (sym (passes_at ms i d h) ∙ none i))
@@ -165,6 +173,9 @@ module _ {W : Type 0} (finish : W → W) where
 
     pub new_left : RoomLeft 0 most ms → RoomLeft 0 most (ms ++ m ∷ [])
     new_left left = each_snoc (OwnLeft 0 most) ms m left ((omega (arith, new.left.0), new.left.1))
+
+  pub no_row : (thieves : List (Thief W)) → IsRow thieves []
+  no_row thieves = record { each = λ k t p h. absurd (omega arith); obtained = λ h. refl }
 
   pub row_more : (thieves : List (Thief W)) (row : List (Knower W)) (p : Knower W) → IsRow thieves row → ((t : Thief W) → IsPassFor (get_or thieves (length row) t) p) → (view p).obtained ≡ [] → IsRow thieves (row ++ p ∷ [])
   row_more thieves row p old is_for none = record {

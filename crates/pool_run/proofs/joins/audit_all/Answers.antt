@@ -1,9 +1,17 @@
-use Rattle.std.proofs.Common.{◌≡◌, ◌<◌, ◌≤◌, ◌∙◌, ℕ, sym, subst, ⊎_elim, get_or, arith}
+use Rattle.std.proofs.Common.{◌≡◌, ◌<◌, ◌≤◌, ◌∙◌, ℕ, sym, refl, subst, ⊎_elim, get_or, arith}
 use Rattle.std.proofs.lemmas.Bool.{cases_lt}
 use Rattle.crossbeam_deque.specs.Handles.{worker_view}
 use Rattle.pool_run.specs.declared.member.Member.{Member}
 use Rattle.pool_run.specs.Deque.{IsCovered}
 use Rattle.pool_run.proofs.joins.audit_all.Goals as goal
+
+pub loop-k-init : goal.loop-k-init
+loop-k-init g c = record {
+  owners = c.requires;
+  given = λ h. refl;
+  obtained = λ h. refl;
+  covered = λ i m h. absurd (omega (arith, h));
+}
 
 pub loop-k-preserved : goal.loop-k-preserved
 loop-k-preserved g c =

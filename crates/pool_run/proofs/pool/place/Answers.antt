@@ -2,6 +2,9 @@ use Rattle.std.proofs.Common.{◌∙◌, arith, vec_len, length-append, [], ◌�
 use Rattle.pool_run.proofs.Pools.{entries_more}
 use Rattle.pool_run.proofs.pool.place.Goals as goal
 
+pub place_at-requires-clause-pool : goal.place_at-requires-clause-pool
+place_at-requires-clause-pool g c = c.loop-job.invariant.pool
+
 pub place_at-requires-clause-room : goal.place_at-requires-clause-room
 place_at-requires-clause-room g c = λ k m h.
     let old = c.loop-job.invariant in
@@ -17,3 +20,9 @@ loop-job-preserved g c = let old = c.loop-job.invariant in record {
   given = λ h. omega (arith, old.given h, c.place_at.ensures.given h, entries_more g.W.Work.finish h c.loop-job.yielded c.in-Some.job c.loop-job.number old.number);
   obtained = λ h. c.place_at.ensures.obtained h ∙ old.obtained h;
 }
+
+pub returns-clause-pool : goal.returns-clause-pool
+returns-clause-pool g c = c.loop-job.invariant.pool
+
+pub returns-clause-obtained : goal.returns-clause-obtained
+returns-clause-obtained g c = c.loop-job.invariant.obtained

@@ -1,9 +1,10 @@
-use Rattle.std.proofs.Common.{◌≡◌, ◌∙◌, List, ap, arith, drop, length, map, subst, sym, vec_len}
+use Rattle.std.proofs.Common.{◌≡◌, ◌∙◌, All, List, ap, arith, drop, length, map, subst, sym, vec_len}
 use Rattle.pool_run.specs.declared.member.Member.{Member}
-use Rattle.pool_run.specs.Member.{Thief}
+use Rattle.pool_run.specs.Member.{IsEnded, Thief}
 use Rattle.pool_run.specs.Deque.{weigh, entry_of}
-use Rattle.pool_run.specs.Pool.{entries_from}
+use Rattle.pool_run.specs.Pool.{IsSettled, entries_from}
 use Rattle.pool_run.specs.Room.{IsRoom}
+use Rattle.pool_run.proofs.Lists.{written_back}
 use Rattle.pool_run.proofs.Orders.{entries_numbered, entries_values}
 use Rattle.pool_run.proofs.Rooms.{room_less}
 use Rattle.pool_run.proofs.Settled.{one, count_back, count_tasks, entries_back}
@@ -18,6 +19,16 @@ run_workers-requires-clause-room g c = λ κs bounds.
     subst (λ (ts : List (Thief g.row.W.Denot)). IsRoom finish jobs ts c.as_mut_slice.result.now) (sym c.as_slice.ensures.value)
     (subst (λ (ms : List (Member g.row.W.Denot)). IsRoom finish jobs inside.thieves.items ms) (sym c.as_mut_slice.ensures.value)
     (room_less finish inside.thieves.items inside.members.items jobs inside.most (omega (arith, is, c.requires.room)) c.room.invariant.0))
+
+pub finish_all-requires-clause-settled : goal.finish_all-requires-clause-settled
+finish_all-requires-clause-settled g c =
+    let ns = c.run_workers.new.members in
+    let inside = c.room.inside in
+    let len : length ns ≡ inside.members.len = c.run_workers.auto.members ∙ c.as_mut_slice.ensures.len in
+    subst (All (IsSettled g.W.Work.finish)) (sym (written_back ns (drop (length ns) inside.members.items) inside.members.len len)) c.run_workers.ensures.settled
+
+pub finish_all-requires-clause-ended : goal.finish_all-requires-clause-ended
+finish_all-requires-clause-ended g c = subst (All (IsEnded g.W.Work.finish)) (sym c.room.invariant.1) (λ k d h. absurd (omega arith))
 
 pub finish_all-requires-clause-room : goal.finish_all-requires-clause-room
 finish_all-requires-clause-room g c =

@@ -1,3 +1,5 @@
+use Rattle.std.proofs.Common.{ap}
+use Rattle.pool_run.specs.declared.deque.View.{View}
 use Rattle.pool_run.proofs.Left.{left_same}
 use Rattle.pool_run.proofs.Rooms.{two_parts, cut_unused, cut_rows}
 use Rattle.pool_run.proofs.room.cut_at.Goals as goal
@@ -15,3 +17,6 @@ returns-clause-rows g c =
 
 pub returns-clause-room : goal.returns-clause-room
 returns-clause-room g c = left_same c.args.members.now c.args.k c.index-members-k.result c.cut_pass.new.owner c.requires.there c.cut_pass.ensures.same.0 c.cut_pass.ensures.same.1 0
+
+pub returns-clause-obtained : goal.returns-clause-obtained
+returns-clause-obtained g c = ap (λ (v : View g.row.W.Denot). v.obtained) c.cut_pass.ensures.cut

@@ -1,8 +1,20 @@
-use Rattle.std.proofs.Common.{◌≡◌, ℕ, length, get_or, sym, ◌∙◌, subst, arith}
+use Rattle.std.proofs.Common.{◌≡◌, refl, ℕ, length, get_or, sym, ◌∙◌, subst, arith}
 use Rattle.pool_run.specs.Member.{IsPassFor}
-use Rattle.pool_run.specs.Room.{IsRow}
-use Rattle.pool_run.proofs.Rooms.{row_more}
+use Rattle.pool_run.specs.Room.{IsRow, IsUnused}
+use Rattle.pool_run.proofs.Rooms.{no_row, row_more}
 use Rattle.pool_run.proofs.room.row_of.Goals as goal
+
+pub loop-k-init : goal.loop-k-init
+loop-k-init g c = record {
+  unused = c.requires.unused;
+  row = subst (IsRow c.args.thieves.now) (sym c.in_ok-row.ensures.items) (no_row g.W.Work.finish c.args.thieves.now);
+  len = c.in_ok-row.ensures.len;
+  rows = λ i. refl;
+  room = λ most left. left;
+}
+
+pub cut_at-pass-requires-clause-unused : goal.cut_at-pass-requires-clause-unused
+cut_at-pass-requires-clause-unused g c = c.loop-k.invariant.unused
 
 pub loop-k-preserved : goal.loop-k-preserved
 loop-k-preserved g c =
@@ -15,4 +27,17 @@ loop-k-preserved g c =
       len = omega (arith, old.len, c.in_ok-push.ensures.len);
       rows = λ i. c.cut_at-pass.ensures.rows i ∙ old.rows i;
       room = λ most left. c.cut_at-pass.ensures.room most (old.room most left);
+    }
+
+pub returns-in_err-push-clause-rows : goal.returns-in_err-push-clause-rows
+returns-in_err-push-clause-rows g c = λ i. c.cut_at-pass.ensures.rows i ∙ c.loop-k.invariant.rows i
+
+pub returns : goal.returns
+returns g c =
+    let done = c.loop-k.invariant in
+    let all : c.loop-k.k ≡ length c.args.thieves.now = omega (arith, c.loop-k-test.false, c.loop-k.auto.k-end, c.requires.unused.shared.pair) in record {
+      unused = subst (IsUnused g.W.Work.finish c.args.thieves.now c.loop-k.members) all done.unused;
+      row = (done.row, done.len ∙ all);
+      rows = done.rows;
+      room = done.room;
     }

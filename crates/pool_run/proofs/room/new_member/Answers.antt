@@ -1,0 +1,15 @@
+use Rattle.std.proofs.Common.{◌∙◌, sym}
+use Rattle.pool_run.proofs.room.new_member.Goals as goal
+
+pub returns : goal.returns
+returns g c =
+    let own = c.in_ok-own.ensures in
+    let thief = c.in_ok-thief.ensures in record {
+      deque = sym thief.0;
+      fifo = own.0;
+      thief_fifo = thief.1 ∙ own.0;
+      view = own.1;
+      passes = c.new-passes.ensures.items;
+      done = c.in_ok-done.ensures.items;
+      left = (own.2, own.3);
+    }
