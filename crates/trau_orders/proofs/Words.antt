@@ -103,14 +103,11 @@ stamp_first line front back order at is =
     let both : front ∷ words_of back ≡ decimal order.stamp ∷ words_for order.what = sym (first_word line front back at) ∙ line_words line order is in
     (cc, cc)
 
--- a line of one word, or of two, is no order's
+-- a line of one word is no order's
 pub refused_one : (line : List ℕ) → Lacks 32 line → (order : Order) → IsLine line order → ⊥
 refused_one line lacks order is =
     let both : line ∷ [] ≡ decimal order.stamp ∷ words_for order.what = sym (only_word line lacks) ∙ line_words line order is in
     not_none order.what cc
-
-pub refused_two : (line front back : List ℕ) → SplitsAt 32 line front back → Lacks 32 back → (order : Order) → IsLine line order → ⊥
-refused_two line front back at lacks order is = not_one order.what back (sym (stamp_first line front back order at is).1 ∙ only_word back lacks)
 
 -- nor is one whose first word is no stamp
 pub refused_stamp : (line front back : List ℕ) → SplitsAt 32 line front back → ((n : ℕ) → IsNumber 0 4294967294 front n → ⊥) → (order : Order) → IsLine line order → ⊥
@@ -118,17 +115,27 @@ refused_stamp line front back at none order is =
     none order.stamp (record { at_least = omega arith; at_most = is.stamp; spelled = (stamp_first line front back order at is).0 })
 
 -- nor one whose other words order nothing
-pub refused_words : (line front back verb rest : List ℕ) → SplitsAt 32 line front back → SplitsAt 32 back verb rest → ((what : What) → AreWords (verb ∷ words_of rest) what → ⊥) → (order : Order) → IsLine line order → ⊥
-refused_words line front back verb rest at next none order is =
-    none order.what (record { in_range = is.in_range; spelled = sym (first_word back verb rest next) ∙ (stamp_first line front back order at is).1 })
+pub refused_words : (line front back : List ℕ) → SplitsAt 32 line front back → ((what : What) → AreWords (words_of back) what → ⊥) → (order : Order) → IsLine line order → ⊥
+refused_words line front back at none order is = none order.what (record { in_range = is.in_range; spelled = (stamp_first line front back order at is).1 })
 
 -- and the order of a line with these words
-pub order_line : (line front back verb rest : List ℕ) (order : Order) → SplitsAt 32 line front back → SplitsAt 32 back verb rest → IsNumber 0 4294967294 front order.stamp → AreWords (verb ∷ words_of rest) order.what → IsLine line order
+pub order_line : (line front back : List ℕ) (order : Order) → SplitsAt 32 line front back → IsNumber 0 4294967294 front order.stamp → AreWords (words_of back) order.what → IsLine line order
 unfolding line_of
-order_line line front back verb rest order at next number are =
+order_line line front back order at number are =
     let words : words_of line ≡ decimal order.stamp ∷ words_for order.what =
-    first_word line front back at ∙ ap (λ w. w ∷ words_of back) number.spelled ∙ ap (λ ws. decimal order.stamp ∷ ws) (first_word back verb rest next ∙ are.spelled) in
+    first_word line front back at ∙ ap (λ w. w ∷ words_of back) number.spelled ∙ ap (λ ws. decimal order.stamp ∷ ws) are.spelled in
     record { stamp = number.at_most; in_range = are.in_range; spelled = sym (join_with_byte-slice_split 32 line) ∙ ap (join_with_byte 32) words }
+
+-- one word orders nothing
+pub not_alone : (words : List ℕ) → Lacks 32 words → (what : What) → AreWords (words_of words) what → ⊥
+not_alone words lacks what are = not_one what words (sym are.spelled ∙ only_word words lacks)
+
+-- two words, and what follows the second space
+pub two_words : (words verb rest : List ℕ) → SplitsAt 32 words verb rest → Lacks 32 rest → words_of words ≡ verb ∷ rest ∷ []
+two_words words verb rest at lacks = first_word words verb rest at ∙ ap (λ ws. verb ∷ ws) (only_word rest lacks)
+
+pub more_words : (words verb rest call more : List ℕ) → SplitsAt 32 words verb rest → SplitsAt 32 rest call more → words_of words ≡ verb ∷ call ∷ words_of more
+more_words words verb rest call more at next = first_word words verb rest at ∙ ap (λ ws. verb ∷ ws) (first_word rest call more next)
 
 -- three words at most order anything
 few_words : (what : What) → length (words_for what) ≤ 3

@@ -1,5 +1,5 @@
 // One line of the orders.
-ghost use Rattle.std.specs.Prelude.{◌≡◌, ◌∷◌, [], ◌≤◌, ℕ, IfSome, IsNone, decimal};
+ghost use Rattle.std.specs.Prelude.{◌≡◌, ◌∷◌, [], ℕ, ℤ, pos, ◌≤ℤ◌, true, false, IfSome, IsNone, decimal, unsigned_abs};
 ghost use Rattle.trau_orders.specs.Grammar.{words_of, IsNamed, mode_word, AreWords, IsLine};
 ghost use Rattle.trau_orders.specs.declared.order.DtxMode.{DtxMode as Mode};
 ghost use Rattle.trau_orders.specs.declared.order.What.{What as OneWhat};
@@ -20,18 +20,18 @@ pub(crate) fn order_of(line: &[u8]) -> Option<Order>
     ensures some { IfSome result (λ order. IsLine line.now order) }
     ensures none { IsNone result → (order : OneOrder) → IsLine line.now order → ⊥ }
 {
-    let (stamp, rest) = split_at_octet(line, b' ')?;
-    let (verb, rest) = split_at_octet(rest, b' ')?;
+    let (stamp, words) = split_at_octet(line, b' ')?;
     let stamp = number_of_octets(stamp, 0, LAST_STAMP)?;
-    let what = what_of(verb, rest)?;
+    let what = what_of(words)?;
     Some(Order { stamp, what })
 }
 
-// What a word and the words after it order.
-fn what_of(verb: &[u8], rest: &[u8]) -> Option<What>
-    ensures some { IfSome result (λ what. AreWords (verb.now ∷ words_of rest.now) what) }
-    ensures none { IsNone result → (what : OneWhat) → AreWords (verb.now ∷ words_of rest.now) what → ⊥ }
+// What the words after the stamp order.
+fn what_of(words: &[u8]) -> Option<What>
+    ensures some { IfSome result (λ what. AreWords (words_of words.now) what) }
+    ensures none { IsNone result → (what : OneWhat) → AreWords (words_of words.now) what → ⊥ }
 {
+    let (verb, rest) = split_at_octet(words, b' ')?;
     match split_at_octet(rest, b' ') {
         None => of_two(verb, rest),
         Some((call, more)) => of_three(verb, call, more),
@@ -43,11 +43,11 @@ fn of_two(verb: &[u8], call: &[u8]) -> Option<What>
     ensures none { IsNone result → (what : OneWhat) → AreWords (verb.now ∷ call.now ∷ []) what → ⊥ }
 {
     let call = call_of(call)?;
-    if verb == b"open".as_slice() {
+    if is_word(verb, b"open") {
         Some(What::OpenCall(call))
-    } else if verb == b"close".as_slice() {
+    } else if is_word(verb, b"close") {
         Some(What::CloseCall(call))
-    } else if verb == b"unbridge".as_slice() {
+    } else if is_word(verb, b"unbridge") {
         Some(What::Unbridge(call))
     } else {
         None
@@ -59,16 +59,23 @@ fn of_three(verb: &[u8], call: &[u8], more: &[u8]) -> Option<What>
     ensures none { IsNone result → (what : OneWhat) → AreWords (verb.now ∷ call.now ∷ more.now ∷ []) what → ⊥ }
 {
     let call = call_of(call)?;
-    if verb == b"bridge".as_slice() {
+    if is_word(verb, b"bridge") {
         Some(What::Bridge(call, call_of(more)?))
-    } else if verb == b"level".as_slice() {
-        let level = number_of_octets(more, 0, HIGHEST_LEVEL)?;
-        Some(What::Level(call, level as i16))
-    } else if verb == b"dtx".as_slice() {
+    } else if is_word(verb, b"level") {
+        Some(What::Level(call, level_of(more)?))
+    } else if is_word(verb, b"dtx") {
         Some(What::Dtx(call, mode_of(more)?))
     } else {
         None
     }
+}
+
+// Whether a word is the one of this name.
+fn is_word(word: &[u8], name: &[u8]) -> bool
+    ensures yes { result ≡ true → word.now ≡ name.now }
+    ensures no { result ≡ false → word.now ≡ name.now → ⊥ }
+{
+    word == name
 }
 
 fn call_of(word: &[u8]) -> Option<u32>
@@ -78,15 +85,23 @@ fn call_of(word: &[u8]) -> Option<u32>
     number_of_octets(word, 1, LAST_CALL)
 }
 
+fn level_of(word: &[u8]) -> Option<i16>
+    ensures some { IfSome result (λ v. (pos 0 ≤ℤ v) × (v ≤ℤ pos 32767) × (word.now ≡ decimal (unsigned_abs v))) }
+    ensures none { IsNone result → (v : ℤ) → pos 0 ≤ℤ v → v ≤ℤ pos 32767 → word.now ≡ decimal (unsigned_abs v) → ⊥ }
+{
+    let level = number_of_octets(word, 0, HIGHEST_LEVEL)?;
+    Some(level as i16)
+}
+
 fn mode_of(word: &[u8]) -> Option<DtxMode>
     ensures some { IfSome result (λ mode. word.now ≡ mode_word mode) }
     ensures none { IsNone result → (mode : Mode) → word.now ≡ mode_word mode → ⊥ }
 {
-    if word == b"on".as_slice() {
+    if is_word(word, b"on") {
         Some(DtxMode::On)
-    } else if word == b"off".as_slice() {
+    } else if is_word(word, b"off") {
         Some(DtxMode::Off)
-    } else if word == b"uplink".as_slice() {
+    } else if is_word(word, b"uplink") {
         Some(DtxMode::Uplink)
     } else {
         None
