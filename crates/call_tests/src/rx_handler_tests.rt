@@ -147,7 +147,7 @@ fn stays_quiet(rx: &mut Rx) -> bool {
 }
 
 // The cells of comfort noise.
-const NOISE: [(Coming, u8); 9] = [
+static NOISE: [(Coming, u8); 9] = [
     (Coming::Sid, 20),
     (Coming::Bad, 20),
     (Coming::Missed, 20),
@@ -195,7 +195,7 @@ fn starts_noise(rx: &mut Rx) -> bool {
     }
 }
 
-const FALLING: [(Coming, u8); 5] = [
+static FALLING: [(Coming, u8); 5] = [
     (Coming::Bad, 20),
     (Coming::Missed, 20),
     (Coming::Missed, 16),

@@ -49,7 +49,7 @@ fn level_0_has_no_silence(rt: HostRuntime) {
 
 // Frames by ratios 1 and 2 and the maximum of block 4, where all other ratios are 0 and all other maxima 511. The first
 // ratios have the sum -1637, so their mean is -410, just below a step; the maxima are 1 above sixteen times 511.
-const FRAMES: [(i16, i16, i16); 5] = [
+static FRAMES: [(i16, i16, i16); 5] = [
     (0, 30000, 32767),
     (-410, 1000, 511),
     (-409, 2000, 511),

@@ -10,7 +10,7 @@ use std::sync::Wait;
 use std::thread::Threads;
 use trau_io::{Line, MemTrunk, Side};
 
-const SIDES: [(Side, usize); 4] = [
+static SIDES: [(Side, usize); 4] = [
     (Side::Up, 120),
     (Side::Pcm, 480),
     (Side::Down, 0),

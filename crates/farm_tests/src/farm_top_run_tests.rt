@@ -1,5 +1,5 @@
 // The command `run`, with the lines and the orders in memory: what it answers, tells and writes.
-use crate::farm_top_tests::carry;
+use crate::farm_top_tests::{answers, carry};
 use crate::lines::{DOWN, DOWN_OF_9, OUT, OUT_OF_9, PCM, PCM_OF_9, UP, UP_OF_9, set};
 use std::alloc::{AllocError, Global};
 use std::process::Abort;
@@ -17,10 +17,11 @@ const EMPTY: Given = (0, ALL, &[]);
 
 // A run of the calls 7 and 9, and what comes of it. Lines stand in the order Up, Pcm, Down, Out.
 struct Row {
-    options: [&'static str; 2],
+    option: &'static str,
+    value: &'static str,
     orders: &'static str,
-    of_7: [Given; 4],
-    of_9: [Given; 4],
+    of_7: &'static [Given],
+    of_9: &'static [Given],
     status: u8,
     text: &'static str,
     // How many octets Down and Out of call 7, and of call 9, get.
@@ -42,13 +43,14 @@ const OF_100: [Given; 4] = [(100 * 40, ALL, &[]), (100 * 160, ALL, &[]), EMPTY, 
 
 const OF_20: [Given; 4] = [(20 * 40, ALL, &[]), (20 * 160, ALL, &[]), EMPTY, EMPTY];
 
-const ROWS: [Row; 8] = [
+static ROWS: [Row; 8] = [
     // Rounds of 250 periods and of two; rounds of one.
     Row {
-        options: ["--batch", "250"],
+        option: "--batch",
+        value: "250",
         orders: OPEN_7,
-        of_7: OF_252,
-        of_9: NO_LINES,
+        of_7: &OF_252,
+        of_9: &NO_LINES,
         status: 0,
         text: "order 1 ok
 call 7 from 0 to 252 end up 0
@@ -58,10 +60,11 @@ end period 252 calls 1 left 0
         written: [252 * 40, 252 * 160, 0, 0],
     },
     Row {
-        options: ["--batch", "1"],
+        option: "--batch",
+        value: "1",
         orders: OPEN_7,
-        of_7: OF_252,
-        of_9: NO_LINES,
+        of_7: &OF_252,
+        of_9: &NO_LINES,
         status: 0,
         text: "order 1 ok
 call 7 from 0 to 252 end up 0
@@ -72,10 +75,11 @@ end period 252 calls 1 left 0
     },
     // Both lines of a call end inside a period, and all lines come and go in pieces.
     Row {
-        options: ["--batch", "3"],
+        option: "--batch",
+        value: "3",
         orders: OPEN_7,
-        of_7: [(100, 1, &[]), (500, 159, &[]), (0, 33, &[]), (0, 39, &[])],
-        of_9: NO_LINES,
+        of_7: &[(100, 1, &[]), (500, 159, &[]), (0, 33, &[]), (0, 39, &[])],
+        of_9: &NO_LINES,
         status: 0,
         text: "order 1 ok
 call 7 from 0 to 2 end up 20
@@ -86,15 +90,16 @@ end period 2 calls 1 left 0
     },
     // Of two bridged calls one has 30 periods and 13 octets, and the other goes on alone.
     Row {
-        options: ["--periods", "40"],
+        option: "--periods",
+        value: "40",
         orders: BRIDGE,
-        of_7: [
+        of_7: &[
             (30 * 40 + 13, ALL, &[]),
             (100 * 160, ALL, &[]),
             EMPTY,
             EMPTY,
         ],
-        of_9: OF_100,
+        of_9: &OF_100,
         status: 0,
         text: "order 1 ok
 order 2 ok
@@ -110,10 +115,11 @@ end period 40 calls 2 left 0
     },
     // Both calls of a bridge end in one round, one with both of its lines.
     Row {
-        options: ["--batch", "10"],
+        option: "--batch",
+        value: "10",
         orders: BRIDGE,
-        of_7: [(3 * 40, ALL, &[]), (3 * 160 + 1, ALL, &[]), EMPTY, EMPTY],
-        of_9: [(5 * 40, ALL, &[]), (2 * 160 + 8, ALL, &[]), EMPTY, EMPTY],
+        of_7: &[(3 * 40, ALL, &[]), (3 * 160 + 1, ALL, &[]), EMPTY, EMPTY],
+        of_9: &[(5 * 40, ALL, &[]), (2 * 160 + 8, ALL, &[]), EMPTY, EMPTY],
         status: 0,
         text: "order 1 ok
 order 2 ok
@@ -129,10 +135,11 @@ end period 3 calls 2 left 0
     },
     // A read ahead that fails past the end of the other line is told, and the call ends at that end.
     Row {
-        options: ["--batch", "10"],
+        option: "--batch",
+        value: "10",
         orders: OPEN_7,
-        of_7: [(2 * 40, ALL, &[]), (4 * 160, 640, &[1]), EMPTY, EMPTY],
-        of_9: NO_LINES,
+        of_7: &[(2 * 40, ALL, &[]), (4 * 160, 640, &[1]), EMPTY, EMPTY],
+        of_9: &NO_LINES,
         status: 6,
         text: "order 1 ok
 call 7 from 0 to 2 end up 0
@@ -144,10 +151,11 @@ end period 2 calls 1 left 0
     },
     // An incoming line that fails ends its call after its whole periods, and no other call.
     Row {
-        options: ["--batch", "10"],
+        option: "--batch",
+        value: "10",
         orders: OPEN_BOTH,
-        of_7: [(20 * 40, ALL, &[]), (20 * 160, 400, &[1]), EMPTY, EMPTY],
-        of_9: OF_20,
+        of_7: &[(20 * 40, ALL, &[]), (20 * 160, 400, &[1]), EMPTY, EMPTY],
+        of_9: &OF_20,
         status: 6,
         text: "order 1 ok
 order 2 ok
@@ -162,15 +170,16 @@ end period 20 calls 2 left 0
     },
     // An outgoing line that fails is passed over from then on; its call goes on.
     Row {
-        options: ["--batch", "10"],
+        option: "--batch",
+        value: "10",
         orders: OPEN_7,
-        of_7: [
+        of_7: &[
             (20 * 40, ALL, &[]),
             (20 * 160, ALL, &[]),
             (0, ALL, &[0]),
             EMPTY,
         ],
-        of_9: NO_LINES,
+        of_9: &NO_LINES,
         status: 6,
         text: "order 1 ok
 call 7 from 0 to 20 end up 0
@@ -187,7 +196,7 @@ fn lay(
     alloc: Global,
     trunk: &mut MemTrunk,
     lines: [Line; 4],
-    given: &[Given; 4],
+    given: &[Given],
 ) -> Result<(), AllocError> {
     for (line, (octets, cut, fails)) in lines.iter().zip(given.iter()) {
         set(alloc, trunk, *line, *octets, *cut, fails)?;
@@ -196,7 +205,7 @@ fn lay(
 }
 
 // The lines of both calls.
-fn lines_of(alloc: Global, of_7: &[Given; 4], of_9: &[Given; 4]) -> Result<MemTrunk, AllocError> {
+fn lines_of(alloc: Global, of_7: &[Given], of_9: &[Given]) -> Result<MemTrunk, AllocError> {
     let mut trunk = MemTrunk::new(alloc)?;
     lay(alloc, &mut trunk, [UP, PCM, DOWN, OUT], of_7)?;
     let lines = [UP_OF_9, PCM_OF_9, DOWN_OF_9, OUT_OF_9];
@@ -221,19 +230,26 @@ fn assert_written(rt: &impl Abort, trunk: &MemTrunk, written: [usize; 4]) {
     assert_eq!(rt; lengths, written);
 }
 
+// Carries out a run over these lines, and asserts its status and what the desk tells.
+fn assert_told<R: Abort + Threads + Wait + Sync>(
+    rt: &R,
+    alloc: Global,
+    row: &Row,
+    trunk: &mut MemTrunk,
+) -> Result<(), AllocError> {
+    let mut desk = desk_with(alloc, row.orders)?;
+    let words = ["run", row.option, row.value];
+    answers(rt, alloc, &words, trunk, &mut desk, row.status, row.text)
+}
+
 // Carries out a run, and asserts what comes of it.
 fn assert_run<R: Abort + Threads + Wait + Sync>(
     rt: &R,
     alloc: Global,
     row: &Row,
 ) -> Result<(), AllocError> {
-    let [option, value] = row.options;
-    let mut trunk = lines_of(alloc, &row.of_7, &row.of_9)?;
-    let mut desk = desk_with(alloc, row.orders)?;
-    let words = ["run", option, value];
-    let status = carry(rt, alloc, &words, &mut trunk, &mut desk)?;
-    assert_eq!(rt; desk.text(), row.text.as_bytes());
-    assert_eq!(rt; status, row.status);
+    let mut trunk = lines_of(alloc, row.of_7, row.of_9)?;
+    assert_told(rt, alloc, row, &mut trunk)?;
     assert_written(rt, &trunk, row.written);
     Ok(())
 }
@@ -246,7 +262,17 @@ fn runs_and_what_comes_of_them(rt: HostRuntime) -> Result<(), AllocError> {
     Ok(())
 }
 
-// The lines after a run of both calls, four periods each, where these calls of Pcm and of Down of call 7 fail.
+// Carries out a run of both calls.
+fn run_both<R: Threads + Wait + Sync>(
+    rt: &R,
+    alloc: Global,
+    trunk: &mut MemTrunk,
+) -> Result<u8, AllocError> {
+    let mut desk = desk_with(alloc, OPEN_BOTH)?;
+    carry(rt, alloc, &["run"], trunk, &mut desk)
+}
+
+// The lines after a run of both calls, where these calls of Pcm and of Down of call 7 fail.
 fn after<R: Threads + Wait + Sync>(
     rt: &R,
     alloc: Global,
@@ -256,8 +282,7 @@ fn after<R: Threads + Wait + Sync>(
     let up: Given = (160, ALL, &[]);
     let of_7 = [up, (640, 400, pcm_fails), (0, ALL, down_fails), EMPTY];
     let mut trunk = lines_of(alloc, &of_7, &OF_20)?;
-    let mut desk = desk_with(alloc, OPEN_BOTH)?;
-    carry(rt, alloc, &["run"], &mut trunk, &mut desk)?;
+    run_both(rt, alloc, &mut trunk)?;
     Ok(trunk)
 }
 

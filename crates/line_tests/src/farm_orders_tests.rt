@@ -6,7 +6,7 @@ use std::alloc::{AllocError, Global};
 use trau_io::{Desk, MemDesk};
 
 // Texts, and what is answered to them.
-const TEXTS: [(&[u8], Result<usize, OrdersFault>); 4] = [
+static TEXTS: [(&[u8], Result<usize, OrdersFault>); 4] = [
     (b"", Ok(0)),
     (b"0 open 1\n0 open 2\n7 bridge 1 2", Ok(3)),
     (b"5 open 1\n4 open 2", Err(OrdersFault::Line(2))),

@@ -5,7 +5,7 @@ use std::alloc::AllocError;
 use std::process::Abort;
 
 // What is done once the first job has two of its periods, and whether it is legal.
-const STEPS: [(PoolStep, bool); 8] = [
+static STEPS: [(PoolStep, bool); 8] = [
     (PoolStep::Push { worker: 0 }, true),
     (PoolStep::Pop { worker: 1 }, true),
     (
