@@ -109,9 +109,9 @@ impl Farm {
         ensures others { self.new ≡ record self.old { groups = self.new.groups; live = self.new.live } }
     {
         let calls = self.live.len() + 1;
-        let opened = Call::new(alloc, call)?;
         self.live.reserve(1)?;
         self.groups.reserve(calls - self.groups.len())?;
+        let opened = Call::new(alloc, call)?;
         add_number(&mut self.live, call);
         self.groups.push_reserved(Group::One(opened));
         Ok(())

@@ -7,12 +7,12 @@ ghost use Rattle.round_lines.specs.Rounds.{Rising, seat_at};
 ghost use Rattle.call_pair.specs.Memory.{places_left};
 ghost use Rattle.call_pair.specs.Jobs.{with_io};
 ghost use Rattle.farm_rounds.specs.Calls.{IsNumber, holds, group_in, call_of};
-ghost use Rattle.farm_rounds.specs.Groups.{IsGroup, AreGroups};
+ghost use Rattle.farm_rounds.specs.Groups.{IsGroup, AreGroups, AreLive};
 ghost use Rattle.farm_rounds.specs.Numbers.{IsRising, is_among};
 ghost use Rattle.farm_rounds.specs.Rounds.{IsTimely, first_of, job_made, half_made, entry_of, HaveEntries, BringCalls, AreSeats, jobs_in, job_at, half_at, HasJob, SameLegs, HaveJobs, HaveTimeUntil, HaveTime, AreHanded, AreSound, AreReady, AreTaken, Works, entry_at};
 
 use crate::call::{Call, Group};
-use crate::entry::Entry;
+use crate::entry::{Entry, NO_ENTRY};
 use crate::live::place_in;
 use call_pair::{Buffers, Half, Job, LegIo};
 use pool_run::{Gate, PoolRoom, run_pool};
@@ -33,6 +33,26 @@ pub(crate) fn put_in_order(groups: &mut Vec<Group>)
 
 /// The jobs of the groups, and where each call has its own.
 pub(crate) fn make_jobs(
+    alloc: Global,
+    groups: &mut Vec<Group>,
+    live: &[u32],
+) -> Result<(Vec<Box<Job>>, Vec<Entry>), AllocError>
+    requires live { AreLive live.now groups.old.items }
+    requires groups { AreGroups 4294967295 groups.old.items }
+    ensures jobs { IfOk result (λ made. jobs_in made.0.items ≡ map job_made (reverse groups.old.items)) }
+    ensures entries { IfOk result (λ made. HaveEntries (jobs_in made.0.items) made.1.items live.now) }
+    ensures calls { IfOk result (λ made. BringCalls groups.old.items made.1.items live.now) }
+    ensures length { IfOk result (λ made. length made.1.items ≡ length live.now) }
+    ensures empty { IfOk result (λ made. groups.new.items ≡ []) }
+    ensures capacity { vec_capacity groups.new ≡ vec_capacity groups.old }
+{
+    let mut entries = vec![in alloc; NO_ENTRY; live.len()]?;
+    let jobs = jobs_of(alloc, groups, live, &mut entries)?;
+    Ok((jobs, entries))
+}
+
+// The jobs of the groups, which notes where each call has its own.
+fn jobs_of(
     alloc: Global,
     groups: &mut Vec<Group>,
     live: &[u32],

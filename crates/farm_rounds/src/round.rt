@@ -11,7 +11,7 @@ ghost use Rattle.farm_rounds.specs.Histories.{CallHistory, GroupsStand};
 ghost use Rattle.farm_rounds.specs.Rounds.{groups_from};
 ghost use Rattle.farm_rounds.specs.RoundHistories.{seat_for, worked_histories, WorkedStand, AreWorked};
 
-use crate::entry::{Entry, NO_ENTRY};
+use crate::entry::Entry;
 use crate::farm::Farm;
 use crate::jobs::{WorkRoom, make_jobs, make_seats, put_in_order, work_jobs};
 use crate::rest::Rest;
@@ -91,24 +91,10 @@ impl Round {
         ensures partners { IfOk result (λ r. (c : ℕ) → partner_in (groups_from r.jobs) c ≡ partner_in farm.groups c) }
         ensures stands { IfOk result (λ r. (h : ℕ → Option CallHistory) → GroupsStand h farm.groups → GroupsStand h (groups_from r.jobs)) }
     {
-        let Farm {
-            groups,
-            live,
-            tallies,
-            failed,
-            end: _,
-        } = farm;
-        let mut rest = Rest {
-            groups,
-            live,
-            tallies,
-            failed,
-        };
+        let mut rest = Rest::new(farm)?;
         let calls = rest.live.len();
-        rest.failed.reserve(4 * calls)?;
-        let mut entries = vec![in alloc; NO_ENTRY; calls]?;
         put_in_order(&mut rest.groups);
-        let jobs = make_jobs(alloc, &mut rest.groups, &rest.live, &mut entries)?;
+        let (jobs, entries) = make_jobs(alloc, &mut rest.groups, &rest.live)?;
         let seats = make_seats(alloc, &rest.live, &entries, periods)?;
         let numbers = rest.live.to_vec(alloc)?;
         Ok(Round {

@@ -3,7 +3,7 @@ use Rattle.std.proofs.Common.{◌≡◌, refl, sym, ap, ◌∙◌, subst, ℕ, �
 use Rattle.std.specs.Prelude.{min, ◌==◌, is_some, IfSome, Result, Ok, Err, IfOk}
 use Rattle.std.specs.Io.KnownBytes.{Appends}
 use Rattle.std.proofs.KnownBytes.{Appends-nil}
-use Rattle.std.proofs.lemmas.Bool.{eqb-true}
+use Rattle.std.proofs.lemmas.Bool.{eqb-true, true≢false}
 use Rattle.trau_io.specs.declared.line.Line.{Line}
 use Rattle.trau_io.specs.declared.line.Side.{Side}
 use Rattle.trau_io.specs.declared.line.Side.TheVariants.{Down, Out}
@@ -14,7 +14,8 @@ use Rattle.trau_orders.specs.declared.order.Order.{Order}
 use Rattle.trau_orders.specs.Lists.{AreOrders}
 use Rattle.switchboard.specs.Calls.{Done, opened_at, closed_at, is_open, gone_at}
 use Rattle.switchboard.specs.Ends.{start_of}
-use Rattle.switchboard.specs.State.{State, told_in, first_stamp, orders_of}
+use Rattle.switchboard.specs.State.{State, EndBefore, told_in, first_stamp, last_stamp, orders_of}
+use Rattle.switchboard.specs.Open.{open_now, partner_now}
 use Rattle.switchboard.specs.Runs.{TellsEnds}
 use Rattle.farm_rounds.specs.declared.call.Group.{Group}
 use Rattle.farm_rounds.specs.Calls.{call_in, partner_in}
@@ -69,6 +70,20 @@ lines_at_first r os periods lines run = record {
   pcm_read = λ c i q. (run.told c i).pcm_octets ∙ ap (λ (k : ℕ). Some (drop (160 * k) (r.lines c).pcm)) (sym (none_worked r c));
   others = λ c s none. refl;
 }
+
+-- **Before the first order board and farm stand at the clock 0.**
+pub clock_first : (b : State) → AreOrders (orders_of b) → b.done ≡ [] → EndBefore 0 b → ((c : ℕ) → open_now b c ≡ false) → ((c : ℕ) → partner_now b c ≡ None) → AtClock 0 b []
+clock_first b orders none untold shut alone = record {
+  orders = orders;
+  ahead = by b.left;
+  past = subst (λ (ds : List Done). last_stamp ds ≤ 0) (sym none) (omega arith);
+  ends = untold;
+  matches = record { is_open = λ c. sym (shut c); partner = λ c. sym (alone c); number = λ c o. absurd (true≢false (sym o ∙ shut c)) };
+}
+  where
+    by : (os : List Order) → IfSome (first_stamp os) (λ s. 0 ≤ s)
+    by [] = tt
+    by (o ∷ os) = omega arith
 
 -- **A run begins with no call.**
 pub at_first : (r : Run) (b : State) (groups : List Group) (periods : ℕ) (lines : ℕ → Side → LineState) → AreOrders (orders_of b) → b.done ≡ [] → groups ≡ [] → GroupsStand (λ c. None) groups →

@@ -60,6 +60,14 @@ due_of s n t reply e f = by s.left refl
     by [] l = let h = e ∙ ap (λ os. reply_of s (due os t)) l in cc
     by (o ∷ rest) l = one o rest (o.stamp == t) refl l (e ∙ ap (λ os. reply_of s (due os t)) l) (f ∙ ap (λ os. turned s (due os t)) l)
 
+-- a step tells no end, and one that executes an order leaves one order less
+pub told_kept : (s n : State) (o : Option Order) → n ≡ turned s o → n.told ≡ s.told
+told_kept s n None e = ap (λ (m : State). m.told) e
+told_kept s n (Some o) e = ap (λ (m : State). m.told) e
+
+pub left_fewer : (s n : State) (t : ℕ) (reply : Reply) → Due s t reply n → length n.left + 1 ≡ length s.left
+left_fewer s n t reply d = omega (arith, ap (λ (m : State). length m.left) d.new, ap length d.left)
+
 -- the orders that are left after it come no earlier
 pub ahead_more : (s n : State) (t : ℕ) (reply : Reply) → AreOrders (orders_of s) → Due s t reply n → IfSome (first_stamp n.left) (λ u. t ≤ u)
 ahead_more s n t reply a d = subst (λ (m : State). IfSome (first_stamp m.left) (λ u. t ≤ u)) (sym d.new) (by d.rest (subst AreRising (drop-left ∙ d.left) (left_rising (orders_of s) (length (map (λ (e : Done). e.order) s.done)) a)))

@@ -3,7 +3,7 @@ use Rattle.std.proofs.Common.{◌≡◌, refl, sym, ap, ◌∙◌, subst, ℕ, s
 use Rattle.std.specs.Prelude.{min, nat_lt, is_some, IfSome, if◌then◌else◌}
 use Rattle.std.specs.List.{AllByRecursion, filter_map}
 use Rattle.std.proofs.Math.Bool.{and-false}
-use Rattle.std.proofs.lemmas.Bool.{cases_eq, cases_lt, and_parts}
+use Rattle.std.proofs.lemmas.Bool.{cases_eq, cases_lt, and_parts, true≢false}
 use Rattle.std.proofs.lemmas.List.{length-replicate, length-set, get_or_past, get_or-set_same, get_or-set_other}
 use Rattle.trau_io.specs.declared.ends.CallEnd.{CallEnd}
 use Rattle.trau_orders.specs.declared.order.Order.{Order}
@@ -73,7 +73,7 @@ pub kept_at_end : (r : Run) (t : ℕ) (ds : List Done) (left : List Order) (call
 kept_at_end r t ds left calls c now so o latest e starts = by (opened_at c ds) refl o
   where
     by : (s : Option ℕ) → opened_at c ds ≡ s → is_some s ≡ true → IsKept r calls c (tally_of (periods_to r c (t - start_of ds c)) now)
-    by None q f = cc
+    by None q f = absurd (true≢false (sym f))
     by (Some s) q f =
         let begins : start_of (done_in r) c ≡ start_of ds c = start_run r t ds left c s so q ∙ sym (start_is ds c s q) in
         record {

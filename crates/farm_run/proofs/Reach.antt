@@ -1,7 +1,7 @@
 -- How many of its periods a call has had at the clock.
 use Rattle.std.proofs.Common.{◌≡◌, refl, sym, ap, ◌∙◌, subst, ℕ, ◌+◌, ◌-◌, ◌<◌, ◌≤◌, Bool, true, false, ◌&&◌, Option, Some, None, List, [], ◌∷◌, inl, inr, ◌⊎◌, arith}
 use Rattle.std.specs.Prelude.{min, is_some, IfSome, nat_lt, nat_le, find, option_map, if◌then◌else◌}
-use Rattle.std.proofs.lemmas.Bool.{lt-ltb, ltb-true, leb-false, cases_lt}
+use Rattle.std.proofs.lemmas.Bool.{lt-ltb, ltb-true, leb-false, cases_lt, true≢false}
 use Rattle.std.proofs.lemmas.List.Elements.{recursion_from_All}
 use Rattle.trau_orders.specs.declared.order.Order.{Order}
 use Rattle.switchboard.specs.Calls.{Done, is_this, opened_by, opened_at, closed_at, is_open, gone_at}
@@ -91,17 +91,17 @@ opened_later r u ds left c so none o = by (opened_at c (rest_in r ds left)) refl
     same = ap (opened_at c) (done-rest r u ds left so) ∙ opened-append c ds (rest_in r ds left) ∙ ap (λ (v : Option ℕ). or_else v (opened_at c (rest_in r ds left))) none
 
     stamp : (v : Option Done) → find (λ d. is_this c (opened_by d.result)) (rest_in r ds left) ≡ v → (s : ℕ) → option_map (λ (d : Done). d.order.stamp) v ≡ Some s → u ≤ s
-    stamp None e s q = cc
+    stamp None e s q = absurd (true≢false (sym (ap is_some q)))
     stamp (Some d) e s q =
         let f = found (λ (d : Done). u ≤ d.order.stamp) (λ d. is_this c (opened_by d.result)) (rest_in r ds left) d (rest_from r u ds left so) e in
         let k : d.order.stamp ≡ s = some d.order.stamp s q in
         subst (λ (s : ℕ). u ≤ s) k f.0
       where
         some : (a b : ℕ) → Some a ≡ Some b → a ≡ b
-        some a b q = cc
+        some a b q = ap (λ (o : Option ℕ). elim o [ None ↦ a | Some x ↦ x ]) q
 
     by : (v : Option ℕ) → opened_at c (rest_in r ds left) ≡ v → u ≤ start_of (done_in r) c
-    by None e = let k = sym o ∙ ap is_some (same ∙ e) in cc
+    by None e = absurd (true≢false (sym o ∙ ap is_some (same ∙ e)))
     by (Some s) e = subst (λ (m : ℕ). u ≤ m) (sym (start_is (done_in r) c s (same ∙ e))) (stamp (find (λ d. is_this c (opened_by d.result)) (rest_in r ds left)) refl s e)
 
 -- a closed call has ended at or before the clock

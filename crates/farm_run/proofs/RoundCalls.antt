@@ -2,7 +2,7 @@
 use Rattle.std.proofs.Common.{◌≡◌, refl, sym, ap, ◌∙◌, subst, ℕ, zero, suc, ◌+◌, ◌-◌, ◌*◌, ◌<◌, Bool, true, false, Some, List, [], ◌∷◌, length, take, drop, inl, inr, ◌⊎◌, arith}
 use Rattle.std.specs.Prelude.{min, ◌==◌, if◌then◌else◌, is_some, slice_index, unwrap_or, find}
 use Rattle.std.specs.List.{AllByRecursion, filter_map, cons_option}
-use Rattle.std.proofs.lemmas.Bool.{eq-eqb, ne_eqb}
+use Rattle.std.proofs.lemmas.Bool.{eq-eqb, ne_eqb, true≢false}
 use Rattle.std.proofs.lemmas.List.{length-drop, take_min, drop-drop}
 use Rattle.std.proofs.lemmas.List.Elements.{recursion_from_All, All-from_get_or}
 use Rattle.std.proofs.lemmas.List.Folds.{list_any_at}
@@ -115,7 +115,7 @@ module _ (r : Run) (t n : ℕ) (b : State) (farm after : FarmMemory) (first befo
   open_seat c o = by (seat_cases t n farm after before now ends w c)
     where
       by : ((k : ℕ) × (k < length farm.live) × (slice_index farm.live k ≡ c)) ⊎ (is_some (call_in farm.groups c) ≡ false) → OpenSeat c
-      by (inr q) = let e = open_is c in cc
+      by (inr q) = absurd (true≢false (sym o ∙ sym (open_is c) ∙ q))
       by (inl p) =
           let f = seat_facts t n farm after before now ends w p.0 c p.1 p.2 in
           let place = seat_at w.filled p.0 in

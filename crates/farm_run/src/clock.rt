@@ -1,6 +1,6 @@
 //! The clock of a run: it goes from the orders of a period to a round of periods, and on.
 
-ghost use Rattle.std.specs.Prelude.{◌≡◌, ◌<◌, ◌≤◌, ◌+◌, ℕ, [], is_some, IfOk, IfSome};
+ghost use Rattle.std.specs.Prelude.{◌≡◌, ◌<◌, ◌≤◌, ◌+◌, ℕ, [], is_some, length, IfOk, IfSome};
 ghost use Rattle.trau_io.specs.declared.line.Side.{Side};
 ghost use Rattle.trau_io.specs.Lines.{LineState};
 ghost use Rattle.switchboard.specs.State.{State, first_stamp, last_stamp, orders_of};
@@ -148,6 +148,28 @@ fn work_all<R: Threads + Wait + Sync, T: Trunk, G: Gate + Sync>(
     Ok(farm)
 }
 
+// The run of so many orders, of which the board has executed none.
+fn run_board<R: Threads + Wait + Sync, T: Trunk, G: Gate + Sync>(
+    rt: &R,
+    alloc: Global,
+    pace: &Pace,
+    board: &mut Board,
+    count: usize,
+    trunk: &mut T,
+    gate: &G,
+) -> Result<Report, AllocError>
+    requires pace { IsPace pace.now }
+    requires clock { AtClock 0 board.old [] }
+    requires none_done { board.old.done ≡ [] }
+    requires count { count ≡ length (orders_of board.old) }
+    requires few { count ≤ 65536 }
+    ensures { IfOk result (λ report. Runs (orders_of board.old) pace.now (T.lines trunk.old) (T.lines trunk.new) report) }
+{
+    let mut journal = Journal::new(alloc)?;
+    let farm = work_all(rt, alloc, board, &mut journal, pace, trunk, gate)?;
+    finish(alloc, board, &farm, &mut journal, count, pace.periods)
+}
+
 /// Runs these orders over the lines of a trunk, and reports what became of them. The slices of the calls' work are run by
 /// the workers of a pool in threads of their own, and each passes the gate. An error says that there was no memory. The
 /// run waits for its workers: that it returns isn't proved.
@@ -164,7 +186,5 @@ pub fn run<R: Threads + Wait + Sync, T: Trunk, G: Gate + Sync>(
 {
     let count = orders.list().len();
     let mut board = Board::new(alloc, orders)?;
-    let mut journal = Journal::new(alloc)?;
-    let farm = work_all(rt, alloc, &mut board, &mut journal, pace, trunk, gate)?;
-    finish(alloc, board, &farm, journal, count, pace.periods)
+    run_board(rt, alloc, pace, &mut board, count, trunk, gate)
 }

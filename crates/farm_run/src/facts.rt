@@ -87,7 +87,7 @@ pub(crate) fn report(
     alloc: Global,
     board: &Board,
     farm: &Farm,
-    mut journal: Journal,
+    journal: &mut Journal,
     orders: usize,
 ) -> Result<Report, AllocError>
     requires few { orders ≤ 65536 }
@@ -97,20 +97,20 @@ pub(crate) fn report(
 
     // One line for each call that has ended, by the calls' numbers.
     ensures sorted { IfOk result (λ r. IsNonDecreasingBy (λ l. l.end.call) r.calls) }
-    ensures ends { IfOk result (λ r. IsPermutation journal.ends (map (λ l. l.end) r.calls)) }
+    ensures ends { IfOk result (λ r. IsPermutation journal.old.ends (map (λ l. l.end) r.calls)) }
     ensures calls { IfOk result (λ r. (h : ℕ → Option CallHistory) → GroupsStand h farm.now.groups →
-        IsPermutation (map (call_line journal.calls (kept_in farm.now.tallies h)) journal.ends) r.calls) }
+        IsPermutation (map (call_line journal.old.calls (kept_in farm.now.tallies h)) journal.old.ends) r.calls) }
 
     // The bridges that have ended, with what the calls have sent in them.
     ensures spans { IfOk result (λ r. (h : ℕ → Option CallHistory) → GroupsStand h farm.now.groups →
-        r.spans ≡ span_lines (spans_now (told_in board.now) board.now.done) (settled_each (kept_in farm.now.tallies h) journal.ends journal).bridges) }
+        r.spans ≡ span_lines (spans_now (told_in board.now) board.now.done) (settled_each (kept_in farm.now.tallies h) journal.old.ends journal.old).bridges) }
 
     // They are all bridges, once each call has ended.
     ensures whole { IfOk result (λ r. (h : ℕ → Option CallHistory) (given : ℕ → Given) (periods : ℕ) → GroupsStand h farm.now.groups → AllEnded given periods board.now →
-        r.spans ≡ span_lines (spans_of given periods board.now.done) (settled_each (kept_in farm.now.tallies h) journal.ends journal).bridges) }
+        r.spans ≡ span_lines (spans_of given periods board.now.done) (settled_each (kept_in farm.now.tallies h) journal.old.ends journal.old).bridges) }
 {
-    settle_all(&mut journal, farm);
-    let calls = ended_lines(alloc, &journal, farm)?;
+    settle_all(journal, farm);
+    let calls = ended_lines(alloc, journal, farm)?;
     Ok(Report {
         replies: board.replies().to_vec(alloc)?,
         spans: span_lines(alloc, board.spans(), journal.bridges())?,

@@ -19,21 +19,21 @@ use switchboard::Board;
 /// that there was no memory.
 pub(crate) fn finish(
     alloc: Global,
-    mut board: Board,
+    board: &mut Board,
     farm: &Farm,
-    mut journal: Journal,
+    journal: &mut Journal,
     orders: usize,
     periods: u32,
 ) -> Result<Report, AllocError>
     requires few { orders ≤ 65536 }
-    requires matches { Matches board farm.now.groups }
-    requires late { last_stamp board.done ≤ periods }
+    requires matches { Matches board.old farm.now.groups }
+    requires late { last_stamp board.old.done ≤ periods }
     ensures failed { IfOk result (λ report. report.failed ≡ farm.now.failed) }
 
     // At the end of a run it is the report of the definition, with the lines that failed.
-    ensures reports { IfOk result (λ report. (r : Run) (t : ℕ) → IsAtEnd r t board farm.now.groups farm.now.tallies journal →
+    ensures reports { IfOk result (λ report. (r : Run) (t : ℕ) → IsAtEnd r t board.old farm.now.groups farm.now.tallies journal.old →
         r.periods ≡ periods → length r.orders ≡ orders → report ≡ report_of r report.failed) }
 {
-    end_all(&mut board, &mut journal, farm.live_calls(), periods)?;
-    report(alloc, &board, farm, journal, orders)
+    end_all(board, journal, farm.live_calls(), periods)?;
+    report(alloc, board, farm, journal, orders)
 }

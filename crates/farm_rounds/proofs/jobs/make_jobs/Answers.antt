@@ -1,33 +1,38 @@
-use Rattle.std.proofs.Common.{rules, ◌≡◌, refl, ap, ◌∙◌, ℕ, List, [], ◌∷◌, ◌++◌, length, slice_index, arith}
-use Rattle.std.specs.Global.{Box}
-use Rattle.std.proofs.lemmas.List.{length-map}
-use Rattle.call_pair.specs.declared.job.Job.{Job}
-use Rattle.farm_rounds.specs.Calls.{call_of}
-use Rattle.farm_rounds.specs.Rounds.{jobs_in, entry_of}
-use Rattle.farm_rounds.proofs.Planning.{made_none, last_present, last_each, job_pushed, made_more}
+use Rattle.std.proofs.Common.{◌≡◌, sym, ap, ◌∙◌, subst, List, ◌++◌, length, take, drop, arith}
+use Rattle.farm_rounds.specs.declared.entry.Entry.{Entry}
+use Rattle.farm_rounds.specs.Rounds.{jobs_in, HaveEntries, BringCalls}
+use Rattle.farm_rounds.proofs.Starting.{live_found}
+use Rattle.farm_rounds.proofs.Planned.{live_present}
+use Rattle.farm_rounds.proofs.Working.{back}
 use Rattle.farm_rounds.proofs.jobs.make_jobs.Goals as goal
 
-pub loop-group-init : goal.loop-group-init
-loop-group-init c = record {
-  made = made_none c.args.groups.now.items c.args.live.now (jobs_in c.new-jobs.result.items) c.args.entries.now (ap (λ (x : List (Box Job)). jobs_in x) c.new-jobs.ensures.items) c.requires.length c.requires.found;
-  capacity = refl;
+pub jobs_of-requires-clause-rising : goal.jobs_of-requires-clause-rising
+jobs_of-requires-clause-rising c = c.requires.live.rising
+
+pub jobs_of-requires-clause-length : goal.jobs_of-requires-clause-length
+jobs_of-requires-clause-length c = omega (arith, ap length c.deref_mut.ensures.value, c.in_ok-entries.ensures.len)
+
+pub jobs_of-requires-clause-found : goal.jobs_of-requires-clause-found
+jobs_of-requires-clause-found c = live_found c.args.live.now c.args.groups.now.items c.requires.live
+
+pub jobs_of-requires-clause-present : goal.jobs_of-requires-clause-present
+jobs_of-requires-clause-present c = live_present c.args.live.now c.args.groups.now.items c.requires.live
+
+pub jobs_of-requires-clause-groups : goal.jobs_of-requires-clause-groups
+jobs_of-requires-clause-groups c = c.requires.groups
+
+-- the entries, as they are given back
+whole : (c : goal.In_ok-jobs) → take c.in_ok-entries.entries.len (c.jobs_of.new.entries ++ drop (length c.jobs_of.new.entries) c.in_ok-entries.entries.items) ≡ c.jobs_of.new.entries
+whole c =
+    let here = ap length c.deref_mut.ensures.value in
+    back c.in_ok-entries.entries.len c.jobs_of.new.entries c.in_ok-entries.entries.items (omega (arith, c.deref_mut.ensures.len, here)) (c.jobs_of.ensures.length ∙ here)
+
+pub returns : goal.returns
+returns c = record {
+  jobs = c.in_ok-jobs.ensures.jobs;
+  entries = subst (λ (es : List Entry). HaveEntries (jobs_in c.in_ok-jobs.jobs.items) es c.args.live.now) (sym (whole c)) c.in_ok-jobs.ensures.entries;
+  calls = subst (λ (es : List Entry). BringCalls c.args.groups.now.items es c.args.live.now) (sym (whole c)) c.in_ok-jobs.ensures.calls;
+  length = omega (arith, ap length (whole c), c.jobs_of.ensures.length, ap length c.deref_mut.ensures.value, c.in_ok-entries.ensures.len);
+  empty = c.in_ok-jobs.ensures.empty;
+  capacity = c.jobs_of.ensures.capacity;
 }
-
-pub enter-requires-clause-present : goal.enter-requires-clause-present
-enter-requires-clause-present c d t =
-    c.requires.present d (last_present c.args.groups.now.items c.args.live.now c.loop-group.groups.items c.pop.new.self.items c.in-Some.group (jobs_in c.loop-group.jobs.items) c.loop-group.entries c.loop-group.invariant.made c.in-Some.ensures.items d t)
-
-pub job_of-requires : goal.job_of-requires
-job_of-requires c =
-    last_each 4294967295 c.args.groups.now.items c.args.live.now c.loop-group.groups.items c.pop.new.self.items c.in-Some.group (jobs_in c.loop-group.jobs.items) c.loop-group.entries c.loop-group.invariant.made c.in-Some.ensures.items c.requires.groups.each
-
-pub loop-group-preserved : goal.loop-group-preserved
-loop-group-preserved c =
-    let index : c.len.result ≡ length (jobs_in c.loop-group.jobs.items) = omega (arith, c.len.ensures, length-map c.loop-group.jobs.items (λ (x : Box Job). x.value)) in
-    let pushed : c.push.new.self.items ≡ c.loop-group.jobs.items ++ c.in_ok-new.field-0 ∷ [] = search rules in
-    record {
-      made = made_more c.args.groups.now.items c.args.live.now c.loop-group.groups.items c.pop.new.self.items c.in-Some.group (jobs_in c.loop-group.jobs.items) (jobs_in c.push.new.self.items) c.loop-group.entries c.enter.new.entries
-          c.loop-group.invariant.made c.in-Some.ensures.items (job_pushed c.loop-group.jobs.items c.push.new.self.items c.in_ok-new.field-0 c.in-Some.group c.job_of.result pushed c.in_ok-new.ensures.ok c.job_of.ensures) c.enter.ensures.length
-          (λ k l t. c.enter.ensures.entered k l t ∙ ap (λ (n : ℕ). entry_of n (call_of (slice_index c.args.live.now k) c.in-Some.group)) index) c.enter.ensures.others c.requires.groups.apart;
-      capacity = c.pop.ensures.capacity ∙ c.loop-group.invariant.capacity;
-    }

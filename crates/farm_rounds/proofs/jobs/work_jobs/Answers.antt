@@ -3,6 +3,7 @@ use Rattle.std.specs.Global.{Box}
 use Rattle.std.specs.List.{All}
 use Rattle.std.proofs.lemmas.List.{length-map}
 use Rattle.call_pair.specs.declared.job.Job.{Job}
+use Rattle.round_lines.specs.Seats.{SeatMemory}
 use Rattle.farm_rounds.specs.Rounds.{jobs_in, HaveJobs, SameLegs, IsTimely, HaveTimeUntil, Works}
 use Rattle.farm_rounds.proofs.Working.{back, ran, ready_out, works}
 use Rattle.farm_rounds.proofs.jobs.work_jobs.Goals as goal
@@ -24,6 +25,18 @@ hand_in-requires-clause-none g c = c.requires.no_place
 
 pub hand_in-requires-clause-room : goal.hand_in-requires-clause-room
 hand_in-requires-clause-room g c = c.requires.places
+
+pub run_pool-jobs-requires-clause-slice : goal.run_pool-jobs-requires-clause-slice
+run_pool-jobs-requires-clause-slice g c κs lives = c.requires.slice
+
+pub hand_out-requires-clause-entries : goal.hand_out-requires-clause-entries
+hand_out-requires-clause-entries g c = omega (arith, c.requires.entries, ap length c.hand_in.ensures.apart, length-map c.args.seats.items (λ (s : SeatMemory). s.place))
+
+pub hand_out-requires-clause-none : goal.hand_out-requires-clause-none
+hand_out-requires-clause-none g c = c.requires.no_seat
+
+pub hand_out-requires-clause-room : goal.hand_out-requires-clause-room
+hand_out-requires-clause-room g c = omega (arith, c.requires.seats, ap length c.hand_in.ensures.apart, length-map c.args.seats.items (λ (s : SeatMemory). s.place))
 
 pub hand_out-requires-clause-ready : goal.hand_out-requires-clause-ready
 hand_out-requires-clause-ready g c =

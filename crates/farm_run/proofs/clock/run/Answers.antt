@@ -1,18 +1,28 @@
-use Rattle.std.proofs.Common.{◌≡◌, sym, ap, ◌∙◌, subst, ℕ, List, rules}
+use Rattle.std.proofs.Common.{sym, ap, subst, List, ℕ}
+use Rattle.std.specs.Prelude.{IfOk}
 use Rattle.trau_io.specs.declared.line.Side.{Side}
 use Rattle.trau_io.specs.Lines.{LineState}
 use Rattle.trau_orders.specs.declared.order.Order.{Order}
 use Rattle.switchboard.specs.State.{State, orders_of}
-use Rattle.farm_output.specs.Run.{Run}
-use Rattle.farm_run.specs.Runs.{IsRunOver}
-use Rattle.farm_run.proofs.Clocks.{run_told}
+use Rattle.trau_orders.specs.Lists.{AreOrders}
+use Rattle.farm_run.specs.Runs.{Runs}
+use Rattle.farm_run.proofs.Clocks.{clock_first}
 use Rattle.farm_run.proofs.clock.run.Goals as goal
 
 pub returns : goal.returns
 returns g c =
     let first : ℕ → Side → LineState = g.T.Trunk.lines c.args.trunk.now in
-    let e = c.in_ok-farm.ensures in
-    let start : orders_of c.in_ok-board.board ≡ c.args.orders = ap (λ (s : State). orders_of s) c.in_ok-board.ensures.start in
-    let over = λ (r : Run) (run : IsRunOver c.args.orders c.args.pace.now.periods first r). subst (λ (os : List Order). IsRunOver os c.args.pace.now.periods first r) (sym start) run in
-    run_told c.args.orders c.args.pace.now first (g.T.Trunk.lines c.work_all.new.trunk) c.work_all.new.board c.in_ok-farm.farm c.work_all.new.journal _ c.finish.result (e.kept ∙ start) e.failed
-    (λ r run none. e.run r (over r run) none) (λ r run none. e.known r (over r run) none) c.finish.ensures.failed (search rules) c.finish.ensures.reports
+    let now : ℕ → Side → LineState = g.T.Trunk.lines c.run_board.new.trunk in
+    subst (λ (os : List Order). IfOk c.run_board.result (λ report. Runs os c.args.pace.now first now report)) (ap (λ (s : State). orders_of s) c.in_ok-board.ensures.start) c.run_board.ensures
+
+pub run_board-requires-clause-pace : goal.run_board-requires-clause-pace
+run_board-requires-clause-pace g c κs lives = c.requires
+
+pub run_board-requires-clause-clock : goal.run_board-requires-clause-clock
+run_board-requires-clause-clock g c κs lives =
+    let e = c.in_ok-board.ensures in
+    let orders = subst AreOrders (sym (ap (λ (s : State). orders_of s) e.start)) c.list-count.ensures.orders in
+    clock_first c.in_ok-board.board orders (ap (λ (s : State). s.done) e.start) (e.untold 0) e.open e.partner
+
+pub run_board-requires-clause-none_done : goal.run_board-requires-clause-none_done
+run_board-requires-clause-none_done g c κs lives = ap (λ (s : State). s.done) c.in_ok-board.ensures.start

@@ -15,6 +15,7 @@ use Rattle.farm_run.specs.Going.{IsRound}
 use Rattle.farm_run.specs.Noted.{IsKnown}
 use Rattle.farm_run.proofs.NotedRounds.{truly_same}
 use Rattle.farm_run.proofs.Knowing.{known_start, known_idle, known_round}
+use Rattle.std.proofs.lemmas.Result.{IfOk-from_err}
 use Rattle.farm_run.proofs.clock.work_all.Goals as goal
 
 pub loop-clock-init : goal.loop-clock-init
@@ -155,3 +156,39 @@ returns-clause-known g c = λ r run none.
     let inv = c.loop-clock.invariant in
     let ended : c.loop-clock.clock ≡ r.periods = omega (arith, inv.within, c.loop-clock-test.false, run.same_periods) in
     subst (λ (t : ℕ). IsKnown r t c.loop-clock.board c.loop-clock.farm.tallies c.loop-clock.journal) ended (inv.known r run none)
+
+pub returns-in_err-farm : goal.returns-in_err-farm
+returns-in_err-farm g c =
+    let no = c.from_residual.ensures.0 in
+    record { clock = IfOk-from_err _ _ no; kept = IfOk-from_err _ _ no; failed = IfOk-from_err _ _ no; run = λ r run none. IfOk-from_err _ _ no; known = λ r run none. IfOk-from_err _ _ no }
+
+pub returns-in_err-execute_orders : goal.returns-in_err-execute_orders
+returns-in_err-execute_orders g c =
+    let no = c.from_residual-in_err-execute_orders.ensures.0 in
+    record { clock = IfOk-from_err _ _ no; kept = IfOk-from_err _ _ no; failed = IfOk-from_err _ _ no; run = λ r run none. IfOk-from_err _ _ no; known = λ r run none. IfOk-from_err _ _ no }
+
+pub returns-in_err-farm-2 : goal.returns-in_err-farm-2
+returns-in_err-farm-2 g c =
+    let no = c.from_residual-in_err-farm-2.ensures.0 in
+    record { clock = IfOk-from_err _ _ no; kept = IfOk-from_err _ _ no; failed = IfOk-from_err _ _ no; run = λ r run none. IfOk-from_err _ _ no; known = λ r run none. IfOk-from_err _ _ no }
+
+pub idle_until-clock-requires-clause-clock : goal.idle_until-clock-requires-clause-clock
+idle_until-clock-requires-clause-clock g c = c.loop-clock-test.true
+
+pub idle_until-clock-requires-clause-next : goal.idle_until-clock-requires-clause-next
+idle_until-clock-requires-clause-next g c = subst (λ (s : Option ℕ). IfSome s (λ s. c.loop-clock.clock < s)) (sym c.next_stamp-next.ensures.stamp) c.in_ok-execute_orders.ensures.done
+
+pub round_periods-periods-requires-clause-pace : goal.round_periods-periods-requires-clause-pace
+round_periods-periods-requires-clause-pace g c = c.requires.pace
+
+pub round_periods-periods-requires-clause-clock : goal.round_periods-periods-requires-clause-clock
+round_periods-periods-requires-clause-clock g c = c.loop-clock-test.true
+
+pub round_periods-periods-requires-clause-next : goal.round_periods-periods-requires-clause-next
+round_periods-periods-requires-clause-next g c = subst (λ (s : Option ℕ). IfSome s (λ s. c.loop-clock.clock < s)) (sym c.next_stamp-next.ensures.stamp) c.in_ok-execute_orders.ensures.done
+
+pub work_round-requires-clause-few : goal.work_round-requires-clause-few
+work_round-requires-clause-few g c κs lives = c.round_periods-periods.ensures.few
+
+pub work_round-requires-clause-within : goal.work_round-requires-clause-within
+work_round-requires-clause-within g c κs lives = c.round_periods-periods.ensures.last

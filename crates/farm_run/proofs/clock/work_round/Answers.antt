@@ -1,4 +1,4 @@
-use Rattle.std.proofs.Common.{ap, ◌∙◌, subst, ℕ, ◌+◌, ◌≤◌}
+use Rattle.std.proofs.Common.{ap, ◌∙◌, subst, ℕ, ◌+◌, ◌≤◌, arith}
 use Rattle.std.specs.List.{filter_map}
 use Rattle.round_lines.specs.Rounds.{seat_end}
 use Rattle.switchboard.specs.State.{State, last_stamp, orders_of}
@@ -14,6 +14,7 @@ use Rattle.farm_run.proofs.Counts.{fell_round, tells_round}
 use Rattle.farm_run.proofs.RoundClock.{tells_numbers, tells_open, tells_apart, tells_late, clock_after}
 use Rattle.farm_run.proofs.RoundLines.{clock_is, ends_are, told_is}
 use Rattle.farm_run.proofs.RoundTallies.{tallies_after}
+use Rattle.std.proofs.lemmas.Result.{IfOk-from_err}
 use Rattle.farm_run.proofs.clock.work_round.Goals as goal
 use Rattle.farm_run.proofs.clock.work_round.Given.{Over}
 
@@ -142,3 +143,34 @@ returns-clause-ends g c = λ r first readable l at calm.
       told = told_is r _ _ c.args.board.now _ _ first _ _ _ w h m at calm readable.up_sound readable.pcm_sound;
       tallies = tallies_after r _ _ c.args.board.now _ _ first _ _ _ w h m at calm readable.up_sound readable.pcm_sound;
     }
+
+pub returns-in_err-round : goal.returns-in_err-round
+returns-in_err-round g c =
+    let no = c.from_residual.ensures.0 in
+    record {
+      clock = IfOk-from_err _ _ no;
+      kept = IfOk-from_err _ _ no;
+      last = IfOk-from_err _ _ no;
+      ended = IfOk-from_err _ _ no;
+      later = IfOk-from_err _ _ no;
+      failed = λ first later told. IfOk-from_err _ _ no;
+      run = λ r first readable l at calm. IfOk-from_err _ _ no;
+      ends = λ r first readable l at calm. IfOk-from_err _ _ no;
+    }
+
+pub returns-in_err-tell_ends : goal.returns-in_err-tell_ends
+returns-in_err-tell_ends g c =
+    let no = c.from_residual-in_err-tell_ends.ensures.0 in
+    record {
+      clock = IfOk-from_err _ _ no;
+      kept = IfOk-from_err _ _ no;
+      last = IfOk-from_err _ _ no;
+      ended = IfOk-from_err _ _ no;
+      later = IfOk-from_err _ _ no;
+      failed = λ first later told. IfOk-from_err _ _ no;
+      run = λ r first readable l at calm. IfOk-from_err _ _ no;
+      ends = λ r first readable l at calm. IfOk-from_err _ _ no;
+    }
+
+pub returns-clause-ended : goal.returns-clause-ended
+returns-clause-ended g c = omega (arith, c.drain.ensures.ended, c.work-worked.ensures.ended, ap (λ (p : RoundMemory). p.ended) c.fill.ensures.kept, c.in_ok-round.ensures.ended)

@@ -1,6 +1,7 @@
-use Rattle.std.proofs.Common.{sym}
+use Rattle.std.proofs.Common.{sym, ap, ◌∙◌, List, take}
 use Rattle.std.specs.Prelude.{slice_index_or}
-use Rattle.std.proofs.lemmas.List.{get_or_default}
+use Rattle.std.proofs.lemmas.List.{get_or_default, take_all}
+use Rattle.trau_io.specs.declared.ends.CallEnd.{CallEnd}
 use Rattle.farm_rounds.specs.declared.tally.Tally.{Tally}
 use Rattle.farm_run.specs.Facts.{kept_in}
 use Rattle.farm_run.proofs.Ending.{no_end}
@@ -21,3 +22,9 @@ loop-end-preserved c =
           (kept_value (λ (t : Tally). t.counts) h farm.groups farm.tallies e.call c.counts.result g (λ x. c.counts.ensures.live h x g) c.counts.ensures.ended)
           (c.loop-end.invariant.lines h g) c.in_ok-push.ensures.items;
     }
+
+pub returns-clause-ends : goal.returns-clause-ends
+returns-clause-ends c =
+    let same = c.ends-end-items.ensures.ends in
+    let i = c.loop-end.end-index in
+    c.loop-end.invariant.ends ∙ ap (λ (es : List CallEnd). take i es) (sym same) ∙ take_all i c.ends-end-items.result.now c.loop-end-test.false ∙ same

@@ -1,5 +1,6 @@
-use Rattle.std.proofs.Common.{◌≡◌, ℕ, sym, ◌∙◌, subst, arith, refl}
-use Rattle.std.specs.Prelude.{IfOk, OnErr, Err}
+use Rattle.std.proofs.Common.{◌≡◌, ℕ, sym, ap, List, ◌∙◌, subst, arith, refl}
+use Rattle.std.specs.Prelude.{IfOk, OnErr, Err, is_some}
+use Rattle.trau_orders.specs.declared.order.Order.{Order}
 use Rattle.trau_orders.specs.Lists.{AreOrders}
 use Rattle.switchboard.specs.declared.act.Act.{Act}
 use Rattle.switchboard.specs.Replies.{IsInRange}
@@ -9,8 +10,12 @@ use Rattle.farm_run.specs.Journal.{JournalMemory}
 use Rattle.farm_run.specs.Noted.{Noted}
 use Rattle.farm_run.proofs.NotedOrders.{noted_accepted, noted_quiet}
 use Rattle.farm_run.proofs.Matching.{fits, named, matches_more, matches_same}
-use Rattle.farm_run.proofs.Following.{due_of, ahead_more, follows_more, follows_same}
+use Rattle.farm_run.proofs.Following.{Due, due_of, told_kept, left_fewer, ahead_more, follows_more, follows_same}
 use Rattle.farm_run.proofs.Sound.{sound_more}
+use Rattle.switchboard.specs.State.{State, due}
+use Rattle.farm_rounds.specs.declared.tally.Tally.{Tally}
+use Rattle.farm_run.specs.Match.{AtClock, Follows}
+use Rattle.std.proofs.lemmas.Result.{IfOk-from_err}
 use Rattle.farm_run.proofs.orders.execute.Goals as goal
 
 pub note-requires : goal.note-requires
@@ -130,3 +135,72 @@ returns-in_default-clause-failed c = refl
 
 pub returns-in_default-clause-sound : goal.returns-in_default-clause-sound
 returns-in_default-clause-sound c = λ sound. sound
+
+pub returns-in_ok-apply-clause-done : goal.returns-in_ok-apply-clause-done
+returns-in_ok-apply-clause-done c = λ e. cc
+
+pub returns-in_ok-apply-clause-left : goal.returns-in_ok-apply-clause-left
+returns-in_ok-apply-clause-left c = λ e. left_fewer _ _ _ _ (due_of c.args.board.now c.turn.new.self c.args.clock c.in-Some.reply (sym c.in-Some.is ∙ c.turn.ensures.answer) c.turn.ensures.state)
+
+pub returns-in_ok-apply-clause-told : goal.returns-in_ok-apply-clause-told
+returns-in_ok-apply-clause-told c = told_kept c.args.board.now c.turn.new.self _ c.turn.ensures.state
+
+pub returns-in_default-result-clause-done : goal.returns-in_default-result-clause-done
+returns-in_default-result-clause-done c = λ e. cc
+
+pub returns-in_default-result-clause-left : goal.returns-in_default-result-clause-left
+returns-in_default-result-clause-left c = λ e. left_fewer _ _ _ _ (due_of c.args.board.now c.turn.new.self c.args.clock c.in-Some.reply (sym c.in-Some.is ∙ c.turn.ensures.answer) c.turn.ensures.state)
+
+pub returns-in_default-result-clause-told : goal.returns-in_default-result-clause-told
+returns-in_default-result-clause-told c = told_kept c.args.board.now c.turn.new.self _ c.turn.ensures.state
+
+-- where no order is due, the board is as before
+same_board : (c : goal.In_default) → c.args.board.now ≡ c.turn.new.self
+same_board c = sym (c.turn.ensures.nothing (ap is_some c.in_default.is))
+
+pub returns-in_default-clause-clock : goal.returns-in_default-clause-clock
+returns-in_default-clause-clock c = subst (λ (s : State). AtClock c.args.clock s c.args.farm.now.groups) (same_board c) c.requires
+
+pub returns-in_default-clause-left : goal.returns-in_default-clause-left
+returns-in_default-clause-left c = λ e. cc
+
+pub returns-in_default-clause-told : goal.returns-in_default-clause-told
+returns-in_default-clause-told c = told_kept c.args.board.now c.turn.new.self _ c.turn.ensures.state
+
+pub returns-in_default-clause-follows : goal.returns-in_default-clause-follows
+returns-in_default-clause-follows c = λ r under f. subst (λ (s : State). Follows r c.args.clock s c.args.farm.now.groups) (same_board c) f
+
+pub returns-in_default-clause-noted : goal.returns-in_default-clause-noted
+returns-in_default-clause-noted c = λ r under f noted. subst (λ (s : State). Noted r s.done c.args.clock c.args.journal.now c.args.farm.now.tallies) (same_board c) noted
+
+pub returns-in_err-note : goal.returns-in_err-note
+returns-in_err-note c =
+    let no = c.from_residual.ensures.0 in
+    record {
+      clock = IfOk-from_err _ _ no;
+      kept = c.turn.ensures.kept;
+      done = IfOk-from_err _ _ no;
+      left = IfOk-from_err _ _ no;
+      ended = IfOk-from_err _ _ no;
+      failed = IfOk-from_err _ _ no;
+      sound = λ sound. IfOk-from_err _ _ no;
+      follows = λ r under f. IfOk-from_err _ _ no;
+      told = told_kept c.args.board.now c.turn.new.self _ c.turn.ensures.state;
+      noted = λ r under f noted. IfOk-from_err _ _ no;
+    }
+
+pub returns-in_err-apply : goal.returns-in_err-apply
+returns-in_err-apply c =
+    let no = c.from_residual-in_err-apply.ensures.0 in
+    record {
+      clock = IfOk-from_err _ _ no;
+      kept = c.turn.ensures.kept;
+      done = IfOk-from_err _ _ no;
+      left = IfOk-from_err _ _ no;
+      ended = IfOk-from_err _ _ no;
+      failed = IfOk-from_err _ _ no;
+      sound = λ sound. IfOk-from_err _ _ no;
+      follows = λ r under f. IfOk-from_err _ _ no;
+      told = told_kept c.args.board.now c.turn.new.self _ c.turn.ensures.state;
+      noted = λ r under f noted. IfOk-from_err _ _ no;
+    }

@@ -3,6 +3,7 @@ use Rattle.switchboard.specs.declared.act.Act.TheVariants as act
 use Rattle.std.proofs.lemmas.List.{length-set, get_or-set_same}
 use Rattle.farm_rounds.specs.declared.call.Call.{Call}
 use Rattle.farm_rounds.specs.Calls.{partner_in, call_in}
+use Rattle.farm_rounds.specs.Groups.{AreGroups}
 use Rattle.farm_rounds.specs.Memory.{FarmMemory, no_tally}
 use Rattle.farm_rounds.specs.Acts.{IsOpen, Applied}
 use Rattle.call_leg.specs.Stands.{Stands}
@@ -19,6 +20,9 @@ invariant_of-self c =
     let live = close_live c.self.inside.end c.args.call (partner_in c.self.inside.groups.items c.args.call) c.self.inside.live.items c.remove_number.new.numbers.items c.self.inside.groups.items c.end.new.groups.items i.1 p
     c.remove_number.ensures.numbers c.remove_number.ensures.rising (omega (arith, c.remove_number.ensures.len)) in
     (p.groups, live, length-set c.self.inside.tallies.items c.args.call c.tally.result ∙ i.2, omega (arith, i.3, c.end.ensures.capacity, c.remove_number.ensures.len))
+
+pub returns-in-Some-clause-before : goal.returns-in-Some-clause-before
+returns-in-Some-clause-before c = subst (λ (f : FarmMemory). AreGroups f.ended f.groups) c.self.view_is c.self.invariant.0
 
 pub returns-in-Some-clause-applied : goal.returns-in-Some-clause-applied
 returns-in-Some-clause-applied c =

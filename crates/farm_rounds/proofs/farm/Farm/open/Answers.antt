@@ -4,7 +4,7 @@ use Rattle.switchboard.specs.declared.act.Act.TheVariants as act
 use Rattle.farm_rounds.specs.declared.call.Call.{Call}
 use Rattle.farm_rounds.specs.declared.call.Group.{Group}
 use Rattle.farm_rounds.specs.declared.call.Group.TheVariants.{One}
-use Rattle.farm_rounds.specs.Groups.{AreGroups}
+use Rattle.farm_rounds.specs.Groups.{AreGroups, AreLive}
 use Rattle.farm_rounds.specs.Numbers.{IsRising, is_among}
 use Rattle.farm_rounds.specs.Memory.{FarmMemory}
 use Rattle.farm_rounds.specs.Acts.{Fits, Applied}
@@ -33,6 +33,15 @@ applied c =
     let fits = subst (λ (f : FarmMemory). Fits f.groups (act.Opened c.args.call)) (sym c.self.view_is) c.requires in
     open_applied c.self.inside.end c.args.call c.self.inside.groups.items c.push_reserved.new.self.items fits c.self.invariant.0
     (c.push_reserved.ensures.items ∙ ap (λ (gs : List Group). gs ++ One c.in_ok-opened.opened ∷ []) c.reserve-2.ensures.items ∙ ap (λ (x : Call). c.self.inside.groups.items ++ One x ∷ []) c.in_ok-opened.ensures)
+
+pub invariant_of-self-in_err-opened : goal.invariant_of-self-in_err-opened
+invariant_of-self-in_err-opened c =
+    let i = c.self.invariant in (
+      subst (λ (gs : List Group). AreGroups c.self.inside.end gs) (sym c.reserve-2.ensures.items) i.0,
+      subst (λ (gs : List Group). AreLive c.reserve.new.self.items gs) (sym c.reserve-2.ensures.items) (subst (λ (xs : List ℕ). AreLive xs c.self.inside.groups.items) (sym c.reserve.ensures.items) i.1),
+      i.2,
+      omega (arith, few_groups c.self.inside.groups.items, i.1.count, c.len-calls.ensures, c.len.ensures, ap length c.reserve.ensures.items, c.in_ok-reserve-2.ensures.ok, c.reserve-2.ensures.len),
+    )
 
 pub invariant_of-self-2 : goal.invariant_of-self-2
 invariant_of-self-2 c =

@@ -1,59 +1,41 @@
 use Rattle.std.proofs.Common.{rules, ◌≡◌, refl, ◌+◌, ◌≤◌, sym, ap, ◌∙◌, subst, ℕ, List, length, arith}
-use Rattle.std.specs.Prelude.{is_some, slice_index}
 use Rattle.std.specs.Global.{Box}
+use Rattle.std.specs.List.Sorted.{IsPermutation}
 use Rattle.std.proofs.lemmas.List.{length-map}
 use Rattle.call_pair.specs.declared.job.Job.{Job}
 use Rattle.farm_rounds.specs.declared.entry.Entry.{Entry}
-use Rattle.farm_rounds.specs.Calls.{call_in, partner_in}
+use Rattle.farm_rounds.specs.declared.call.Group.{Group}
 use Rattle.farm_rounds.specs.Numbers.{IsRising}
 use Rattle.farm_rounds.specs.Groups.{AreLive}
-use Rattle.farm_rounds.specs.Histories.{GroupsStand}
 use Rattle.farm_rounds.specs.Rounds.{jobs_in, HaveEntries, BringCalls, AreSeats}
-use Rattle.farm_rounds.specs.RoundHistories.{seat_for}
 use Rattle.farm_rounds.specs.Working.{IsRound}
-use Rattle.farm_rounds.specs.Memory.{FarmMemory}
 use Rattle.farm_rounds.proofs.Applying.{few_groups}
-use Rattle.farm_rounds.proofs.Starting.{live_found, live_number, few_live, same_groups, made_number, planned}
-use Rattle.farm_rounds.proofs.Planned.{moved_groups, moved_live, live_present, planned_open, planned_partner, planned_stand, planned_order, planned_seat}
-use Rattle.farm_rounds.proofs.Working.{back}
+use Rattle.farm_rounds.proofs.Starting.{live_number, few_live, same_groups, made_number, planned}
+use Rattle.farm_rounds.proofs.Planned.{moved_groups, moved_live, planned_open, planned_partner, planned_stand, planned_order, planned_seat}
 use Rattle.farm_rounds.proofs.round.Round.plan.Goals as goal
 
-pub make_jobs-requires-clause-found : goal.make_jobs-requires-clause-found
-make_jobs-requires-clause-found c =
+-- the groups of the farm, in order
+same : {gs ks : List Group} (hs : List Group) → gs ≡ ks → IsPermutation gs hs → IsPermutation ks hs
+same hs e p = subst (λ (xs : List Group). IsPermutation xs hs) e p
+
+pub make_jobs-requires-clause-live : goal.make_jobs-requires-clause-live
+make_jobs-requires-clause-live c =
     let sorted = c.put_in_order.new.groups.items in
-    live_found c.deref.result.now sorted (subst (λ (xs : List ℕ). AreLive xs sorted) (sym c.deref.ensures.value) (moved_live c.farm.inside.live.items c.farm.inside.groups.items sorted c.put_in_order.ensures.same c.farm.invariant.1))
+    subst (λ (xs : List ℕ). AreLive xs sorted) (sym (c.deref.ensures.value ∙ c.in_ok-rest.ensures.live)) (moved_live c.args.farm.live c.args.farm.groups sorted (same c.put_in_order.new.groups.items c.in_ok-rest.ensures.groups c.put_in_order.ensures.same) c.in_ok-rest.ensures.alive)
 
 pub make_jobs-requires-clause-groups : goal.make_jobs-requires-clause-groups
 make_jobs-requires-clause-groups c =
-    let i = c.farm.inside in
-    let ended : i.end ≤ 4294967295 = omega (arith, c.requires.later, c.requires.last, ap (λ (f : FarmMemory). f.ended) c.farm.view_is) in
-    moved_groups 4294967295 i.groups.items c.put_in_order.new.groups.items c.put_in_order.ensures.same (same_groups i.end 4294967295 i.groups.items ended c.farm.invariant.0)
-
-pub make_jobs-requires-clause-present : goal.make_jobs-requires-clause-present
-make_jobs-requires-clause-present c =
-    let sorted = c.put_in_order.new.groups.items in
-    live_present c.deref.result.now sorted (subst (λ (xs : List ℕ). AreLive xs sorted) (sym c.deref.ensures.value) (moved_live c.farm.inside.live.items c.farm.inside.groups.items sorted c.put_in_order.ensures.same c.farm.invariant.1))
+    let f = c.args.farm in
+    let ended : f.ended ≤ 4294967295 = omega (arith, c.requires.later, c.requires.last) in
+    moved_groups 4294967295 f.groups c.put_in_order.new.groups.items (same c.put_in_order.new.groups.items c.in_ok-rest.ensures.groups c.put_in_order.ensures.same) (same_groups f.ended 4294967295 f.groups ended c.in_ok-rest.ensures.sound)
 
 pub make_seats-requires-clause-numbers : goal.make_seats-requires-clause-numbers
 make_seats-requires-clause-numbers c =
-    live_number c.farm.inside.end c.deref-2.result.now c.farm.inside.groups.items c.farm.invariant.0 (subst (λ (xs : List ℕ). AreLive xs c.farm.inside.groups.items) (sym c.deref-2.ensures.value) c.farm.invariant.1)
-
-pub reserve-requires-2-clause-calls : goal.reserve-requires-2-clause-calls
-reserve-requires-2-clause-calls c =
-    let few = few_live c.farm.inside.end c.farm.inside.live.items c.farm.inside.groups.items c.farm.invariant.0 c.farm.invariant.1 in
-    omega (arith, few, c.len-calls.ensures)
-
-pub make_jobs-requires-clause-rising : goal.make_jobs-requires-clause-rising
-make_jobs-requires-clause-rising c = subst (λ (xs : List ℕ). IsRising xs) (sym c.deref.ensures.value) c.farm.invariant.1.rising
-
-pub make_jobs-requires-clause-length : goal.make_jobs-requires-clause-length
-make_jobs-requires-clause-length c = omega (arith, ap length c.deref_mut.ensures.value, c.in_ok-entries.ensures.len, c.len-calls.ensures, ap length c.deref.ensures.value)
+    let f = c.args.farm in
+    live_number f.ended c.deref-2.result.now f.groups c.in_ok-rest.ensures.sound (subst (λ (xs : List ℕ). AreLive xs f.groups) (sym (c.deref-2.ensures.value ∙ c.in_ok-rest.ensures.live)) c.in_ok-rest.ensures.alive)
 
 pub make_seats-requires-clause-length : goal.make_seats-requires-clause-length
-make_seats-requires-clause-length c =
-    let entries = c.make_jobs.new.entries in
-    let whole = back c.in_ok-entries.entries.len entries c.in_ok-entries.entries.items (omega (arith, c.deref_mut.ensures.len, ap length c.deref_mut.ensures.value)) (c.make_jobs.ensures.length ∙ ap length c.deref_mut.ensures.value) in
-    omega (arith, ap length (c.deref-3.ensures.value ∙ whole), c.make_jobs.ensures.length, ap length c.deref_mut.ensures.value, c.in_ok-entries.ensures.len, c.len-calls.ensures, ap length c.deref-2.ensures.value)
+make_seats-requires-clause-length c = ap length c.deref-3.ensures.value ∙ c.in_ok-jobs.ensures.length ∙ ap length (c.deref.ensures.value ∙ sym c.deref-2.ensures.value)
 
 pub make_seats-requires-clause-some : goal.make_seats-requires-clause-some
 make_seats-requires-clause-some c = c.requires.some
@@ -61,11 +43,16 @@ make_seats-requires-clause-some c = c.requires.some
 pub make_seats-requires-clause-few : goal.make_seats-requires-clause-few
 make_seats-requires-clause-few c = c.requires.few
 
-pub reserve-requires-2-clause-some : goal.reserve-requires-2-clause-some
-reserve-requires-2-clause-some c = c.requires.some_workers
+pub reserve-requires-clause-calls : goal.reserve-requires-clause-calls
+reserve-requires-clause-calls c =
+    let few = few_live c.args.farm.ended c.args.farm.live c.args.farm.groups c.in_ok-rest.ensures.sound c.in_ok-rest.ensures.alive in
+    omega (arith, few, c.len-calls.ensures, ap length c.in_ok-rest.ensures.live)
 
-pub reserve-requires-2-clause-few : goal.reserve-requires-2-clause-few
-reserve-requires-2-clause-few c = c.requires.few_workers
+pub reserve-requires-clause-some : goal.reserve-requires-clause-some
+reserve-requires-clause-some c = c.requires.some_workers
+
+pub reserve-requires-clause-few : goal.reserve-requires-clause-few
+reserve-requires-clause-few c = c.requires.few_workers
 
 pub returns-clause-start : goal.returns-clause-start
 returns-clause-start c = refl
@@ -74,84 +61,68 @@ pub returns-clause-ended : goal.returns-clause-ended
 returns-clause-ended c = refl
 
 pub returns-clause-live : goal.returns-clause-live
-returns-clause-live c = ap (λ (f : FarmMemory). f.live) c.farm.view_is
+returns-clause-live c = c.in_ok-rest.ensures.live
 
 pub returns-clause-failed : goal.returns-clause-failed
-returns-clause-failed c = c.reserve.ensures.items ∙ ap (λ (f : FarmMemory). f.failed) c.farm.view_is
+returns-clause-failed c = c.in_ok-rest.ensures.failed
 
 pub returns-clause-tallies : goal.returns-clause-tallies
-returns-clause-tallies c = ap (λ (f : FarmMemory). f.tallies) c.farm.view_is
+returns-clause-tallies c = c.in_ok-rest.ensures.tallies
 
 pub returns-clause-number : goal.returns-clause-number
-returns-clause-number c = c.in_ok-seats.ensures.length ∙ ap length c.deref-2.ensures.value ∙ ap (λ (f : FarmMemory). length f.live) c.farm.view_is
+returns-clause-number c = c.in_ok-seats.ensures.length ∙ ap length (c.deref-2.ensures.value ∙ c.in_ok-rest.ensures.live)
+
+seats : (c : goal.In_ok-with_capacity) → AreSeats c.in_ok-rest.rest.live.items c.in_ok-jobs.entries.items c.args.periods c.in_ok-seats.seats.items (length c.in_ok-rest.rest.live.items)
+seats c =
+    subst (λ (xs : List ℕ). AreSeats xs c.in_ok-jobs.entries.items c.args.periods c.in_ok-seats.seats.items (length xs)) c.deref-2.ensures.value
+    (subst (λ (es : List Entry). AreSeats c.deref-2.result.now es c.args.periods c.in_ok-seats.seats.items (length c.deref-2.result.now)) c.deref-3.ensures.value c.in_ok-seats.ensures.seats)
 
 pub invariant_of-result : goal.invariant_of-result
 invariant_of-result c =
-    let i = c.farm.inside in
+    let f = c.args.farm in
+    let r = c.in_ok-rest.rest in
+    let told = c.in_ok-rest.ensures in
     let sorted = c.put_in_order.new.groups.items in
-    let groups = moved_groups i.end i.groups.items sorted c.put_in_order.ensures.same c.farm.invariant.0 in
-    let alive = moved_live i.live.items i.groups.items sorted c.put_in_order.ensures.same c.farm.invariant.1 in
-    let entries = c.make_jobs.new.entries in
-    let live1 : c.deref.result.now ≡ i.live.items = c.deref.ensures.value in
-    let have : HaveEntries (jobs_in c.in_ok-jobs.jobs.items) entries i.live.items = subst (λ (xs : List ℕ). HaveEntries (jobs_in c.in_ok-jobs.jobs.items) entries xs) live1 c.in_ok-jobs.ensures.entries in
-    let calls : c.len-calls.result ≡ length i.live.items = omega (arith, c.len-calls.ensures) in
-    let long : length entries ≡ length i.live.items = omega (arith, c.make_jobs.ensures.length, ap length c.deref_mut.ensures.value, c.in_ok-entries.ensures.len, calls) in
-    let whole = back c.in_ok-entries.entries.len entries c.in_ok-entries.entries.items (omega (arith, c.deref_mut.ensures.len, ap length c.deref_mut.ensures.value)) (c.make_jobs.ensures.length ∙ ap length c.deref_mut.ensures.value) in
-    let are : AreSeats i.live.items entries c.args.periods c.in_ok-seats.seats.items (length i.live.items) =
-    subst (λ (xs : List ℕ). AreSeats xs entries c.args.periods c.in_ok-seats.seats.items (length xs)) c.deref-2.ensures.value
-    (subst (λ (es : List Entry). AreSeats c.deref-2.result.now es c.args.periods c.in_ok-seats.seats.items (length c.deref-2.result.now)) (c.deref-3.ensures.value ∙ whole) c.in_ok-seats.ensures.seats) in
-    let later : i.end ≤ c.args.start = omega (arith, c.requires.later, ap (λ (f : FarmMemory). f.ended) c.farm.view_is) in
-    let number : length c.in_ok-seats.seats.items ≡ length i.live.items = c.in_ok-seats.ensures.length ∙ ap length c.deref-2.ensures.value in
-    let round = planned i.end c.args.start c.args.periods sorted i.live.items i.tallies.items c.reserve.new.self.items (jobs_in c.in_ok-jobs.jobs.items) entries c.in_ok-seats.seats.items later c.requires.last
-    groups alive c.farm.invariant.2 c.in_ok-jobs.ensures.jobs have long are number in
-    let jobs : length c.in_ok-jobs.jobs.items ≡ length sorted = sym (length-map c.in_ok-jobs.jobs.items (λ (b : Box Job). b.value)) ∙ made_number sorted (jobs_in c.in_ok-jobs.jobs.items) c.in_ok-jobs.ensures.jobs in (
-      subst (λ (es : List Entry). IsRound (record { start = c.args.start; ended = c.args.start + c.args.periods; live = i.live.items; tallies = i.tallies.items; failed = c.reserve.new.self.items; jobs = jobs_in c.in_ok-jobs.jobs.items; entries = es; seats = c.in_ok-seats.seats.items })) (sym whole) round,
+    let jobs = c.in_ok-jobs.jobs.items in
+    let entries = c.in_ok-jobs.entries.items in
+    let alive : AreLive r.live.items sorted = subst (λ (xs : List ℕ). AreLive xs sorted) (sym told.live) (moved_live f.live f.groups sorted (same c.put_in_order.new.groups.items c.in_ok-rest.ensures.groups c.put_in_order.ensures.same) told.alive) in
+    let have : HaveEntries (jobs_in jobs) entries r.live.items = subst (λ (xs : List ℕ). HaveEntries (jobs_in jobs) entries xs) c.deref.ensures.value c.in_ok-jobs.ensures.entries in
+    let calls : c.len-calls.result ≡ length r.live.items = omega (arith, c.len-calls.ensures) in
+    let number : length jobs ≡ length sorted = sym (length-map jobs (λ (b : Box Job). b.value)) ∙ made_number sorted (jobs_in jobs) c.in_ok-jobs.ensures.jobs in (
+      planned f.ended c.args.start c.args.periods sorted r.live.items r.tallies.items r.failed.items (jobs_in jobs) entries c.in_ok-seats.seats.items c.requires.later c.requires.last
+          (moved_groups f.ended f.groups sorted (same c.put_in_order.new.groups.items c.in_ok-rest.ensures.groups c.put_in_order.ensures.same) told.sound) alive (ap length told.tallies ∙ told.kept) c.in_ok-jobs.ensures.jobs have (c.in_ok-jobs.ensures.length ∙ ap length c.deref.ensures.value) (seats c)
+          (c.in_ok-seats.ensures.length ∙ ap length c.deref-2.ensures.value),
       c.in_ok-jobs.ensures.empty,
       search rules,
-      c.in_ok-reserve-2.ensures.no_place,
-      c.in_ok-reserve-2.ensures.no_seat,
+      c.in_ok-reserve.ensures.no_place,
+      c.in_ok-reserve.ensures.no_seat,
       c.in_ok-with_capacity.ensures.items,
-      omega (arith, c.farm.invariant.3, c.put_in_order.ensures.capacity, c.make_jobs.ensures.capacity),
-      omega (arith, calls, c.in_ok-reserve-2.ensures.places),
-      omega (arith, calls, c.in_ok-reserve-2.ensures.seats),
+      omega (arith, told.places, ap length told.live, c.put_in_order.ensures.capacity, c.make_jobs.ensures.capacity),
+      omega (arith, calls, c.in_ok-reserve.ensures.places),
+      omega (arith, calls, c.in_ok-reserve.ensures.seats),
       omega (arith, calls, c.in_ok-with_capacity.ensures.exact),
-      omega (arith, calls, jobs, few_groups sorted, alive.count, c.in_ok-reserve-2.ensures.pool),
-      omega (arith, calls, c.in_ok-reserve.ensures.ok, ap length c.reserve.ensures.items, c.reserve.ensures.len),
+      omega (arith, calls, number, few_groups sorted, alive.count, c.in_ok-reserve.ensures.pool),
+      omega (arith, told.lines, ap length told.live, ap length told.failed),
     )
 
 pub returns-clause-seats : goal.returns-clause-seats
 returns-clause-seats c k l =
-    let i = c.farm.inside in
+    let f = c.args.farm in
+    let entries = c.in_ok-jobs.entries.items in
     let sorted = c.put_in_order.new.groups.items in
-    let entries = c.make_jobs.new.entries in
-    let whole = back c.in_ok-entries.entries.len entries c.in_ok-entries.entries.items (omega (arith, c.deref_mut.ensures.len, ap length c.deref_mut.ensures.value)) (c.make_jobs.ensures.length ∙ ap length c.deref_mut.ensures.value) in
-    let bring : BringCalls sorted entries i.live.items = subst (λ (xs : List ℕ). BringCalls sorted entries xs) c.deref.ensures.value c.in_ok-jobs.ensures.calls in
-    let are : AreSeats i.live.items entries c.args.periods c.in_ok-seats.seats.items (length i.live.items) =
-    subst (λ (xs : List ℕ). AreSeats xs entries c.args.periods c.in_ok-seats.seats.items (length xs)) c.deref-2.ensures.value
-    (subst (λ (es : List Entry). AreSeats c.deref-2.result.now es c.args.periods c.in_ok-seats.seats.items (length c.deref-2.result.now)) (c.deref-3.ensures.value ∙ whole) c.in_ok-seats.ensures.seats) in
-    let live : i.live.items ≡ c.args.farm.live = ap (λ (f : FarmMemory). f.live) c.farm.view_is in
-    planned_seat i.end c.args.periods i.groups.items sorted i.live.items entries c.in_ok-seats.seats.items k c.put_in_order.ensures.same c.farm.invariant.0 bring are (omega (arith, l, ap length live))
-    ∙ ap (λ (f : FarmMemory). seat_for c.args.periods (slice_index f.live k) (call_in f.groups (slice_index f.live k))) c.farm.view_is
+    let bring : BringCalls sorted entries f.live = subst (λ (xs : List ℕ). BringCalls sorted entries xs) (c.deref.ensures.value ∙ c.in_ok-rest.ensures.live) c.in_ok-jobs.ensures.calls in
+    let are : AreSeats f.live entries c.args.periods c.in_ok-seats.seats.items (length f.live) = subst (λ (xs : List ℕ). AreSeats xs entries c.args.periods c.in_ok-seats.seats.items (length xs)) c.in_ok-rest.ensures.live (seats c) in
+    planned_seat f.ended c.args.periods f.groups sorted f.live entries c.in_ok-seats.seats.items k (same c.put_in_order.new.groups.items c.in_ok-rest.ensures.groups c.put_in_order.ensures.same) c.in_ok-rest.ensures.sound bring are l
 
 pub returns-clause-order : goal.returns-clause-order
 returns-clause-order c =
-    let i = c.farm.inside in
-    planned_order i.end i.groups.items c.put_in_order.new.groups.items (jobs_in c.in_ok-jobs.jobs.items) c.put_in_order.ensures.same c.farm.invariant.0 c.in_ok-jobs.ensures.jobs c.put_in_order.ensures.order
+    planned_order c.args.farm.ended c.args.farm.groups c.put_in_order.new.groups.items _ (same c.put_in_order.new.groups.items c.in_ok-rest.ensures.groups c.put_in_order.ensures.same) c.in_ok-rest.ensures.sound c.in_ok-jobs.ensures.jobs c.put_in_order.ensures.order
 
 pub returns-clause-calls : goal.returns-clause-calls
-returns-clause-calls c d =
-    let i = c.farm.inside in
-    planned_open i.end i.groups.items c.put_in_order.new.groups.items (jobs_in c.in_ok-jobs.jobs.items) d c.put_in_order.ensures.same c.farm.invariant.0 c.in_ok-jobs.ensures.jobs
-    ∙ ap (λ (f : FarmMemory). is_some (call_in f.groups d)) c.farm.view_is
+returns-clause-calls c d = planned_open c.args.farm.ended c.args.farm.groups c.put_in_order.new.groups.items _ d (same c.put_in_order.new.groups.items c.in_ok-rest.ensures.groups c.put_in_order.ensures.same) c.in_ok-rest.ensures.sound c.in_ok-jobs.ensures.jobs
 
 pub returns-clause-partners : goal.returns-clause-partners
-returns-clause-partners c d =
-    let i = c.farm.inside in
-    planned_partner i.end i.groups.items c.put_in_order.new.groups.items (jobs_in c.in_ok-jobs.jobs.items) d c.put_in_order.ensures.same c.farm.invariant.0 c.in_ok-jobs.ensures.jobs
-    ∙ ap (λ (f : FarmMemory). partner_in f.groups d) c.farm.view_is
+returns-clause-partners c d = planned_partner c.args.farm.ended c.args.farm.groups c.put_in_order.new.groups.items _ d (same c.put_in_order.new.groups.items c.in_ok-rest.ensures.groups c.put_in_order.ensures.same) c.in_ok-rest.ensures.sound c.in_ok-jobs.ensures.jobs
 
 pub returns-clause-stands : goal.returns-clause-stands
-returns-clause-stands c h stand =
-    let i = c.farm.inside in
-    planned_stand i.end i.groups.items c.put_in_order.new.groups.items (jobs_in c.in_ok-jobs.jobs.items) h c.put_in_order.ensures.same c.farm.invariant.0 c.in_ok-jobs.ensures.jobs
-    (subst (λ (f : FarmMemory). GroupsStand h f.groups) (sym c.farm.view_is) stand)
+returns-clause-stands c h = planned_stand c.args.farm.ended c.args.farm.groups c.put_in_order.new.groups.items _ h (same c.put_in_order.new.groups.items c.in_ok-rest.ensures.groups c.put_in_order.ensures.same) c.in_ok-rest.ensures.sound c.in_ok-jobs.ensures.jobs

@@ -1,7 +1,7 @@
 use Rattle.std.proofs.Common.{◌≡◌, vec_len, vec_capacity}
 use Rattle.farm_rounds.specs.Rounds.{jobs_in}
 use Rattle.farm_rounds.proofs.Planning.{Made}
-use Rattle.farm_rounds.proofs.jobs.make_jobs.Given as goal
+use Rattle.farm_rounds.proofs.jobs.jobs_of.Given as goal
 
 abbrev pub invariant-loop-group : goal.invariant-loop-group
 invariant-loop-group l = record {
