@@ -12,7 +12,7 @@ use trau_bits::{get_bit, pack, put_bit};
 use trau_frame::{Class, Kind, read_up};
 
 /// An uplink frame of good speech.
-const FRAME: [u8; 40] = [
+static FRAME: [u8; 40] = [
     0x00, 0x00, 0x88, 0x00, 0x82, 0x09, 0xBA, 0x1A, 0xE4, 0x28, 0x80, 0x12, 0xA4, 0x92, 0xA4, 0x92,
     0xA2, 0x80, 0x81, 0x24, 0xC9, 0x24, 0xC9, 0x24, 0xA8, 0x00, 0x92, 0x49, 0x92, 0x49, 0x92, 0x45,
     0x80, 0x02, 0xA4, 0x92, 0xA4, 0x92, 0xA6, 0xFF,
@@ -205,27 +205,36 @@ fn offsets() -> Comparison {
     comparison
 }
 
-/// Lines worked by hand.
+/// Lines worked by hand: where their frames begin, and what each period gives.
+static LINES: [([usize; 11], [i32; 12]); 3] = [
+    // Five bits too many behind the second frame: three misses, and then the search finds the frames again.
+    (
+        [0, 320, 645, 965, 1285, 1605, 1925, 2245, 2565, 2885, 3205],
+        [
+            0, 320, -642, -962, -1282, -1, 1605, 1925, 2245, 2565, 2885, 3205,
+        ],
+    ),
+    // A pattern between two frames, where two frames are missing: the lock holds.
+    (
+        [0, 370, 960, 1280, 1600, 1920, 2240, 2560, 2880, 3200, 3520],
+        [
+            0, -322, -642, 960, 1280, 1600, 1920, 2240, 2560, 2880, 3200, 3520,
+        ],
+    ),
+    // A pattern before the first frame: the search locks on it, and is rid of it after three misses.
+    (
+        [3, 400, 720, 1040, 1360, 1680, 2000, 2320, 2640, 2960, 3280],
+        [
+            -1, 3, -325, -645, -965, 1360, 1680, 2000, 2320, 2640, 2960, 3280,
+        ],
+    ),
+];
+
 fn lines() -> Comparison {
     let mut comparison = Comparison::new();
-    // Five bits too many behind the second frame: three misses, and then the search finds the frames again.
-    let slipped = [0, 320, 645, 965, 1285, 1605, 1925, 2245, 2565, 2885, 3205];
-    let wanted = [
-        0, 320, -642, -962, -1282, -1, 1605, 1925, 2245, 2565, 2885, 3205,
-    ];
-    compare_line(&mut comparison, &slipped, &wanted);
-    // A pattern between two frames, where two frames are missing: the lock holds.
-    let between = [0, 370, 960, 1280, 1600, 1920, 2240, 2560, 2880, 3200, 3520];
-    let wanted = [
-        0, -322, -642, 960, 1280, 1600, 1920, 2240, 2560, 2880, 3200, 3520,
-    ];
-    compare_line(&mut comparison, &between, &wanted);
-    // A pattern before the first frame: the search locks on it, and is rid of it after three misses.
-    let before = [3, 400, 720, 1040, 1360, 1680, 2000, 2320, 2640, 2960, 3280];
-    let wanted = [
-        -1, 3, -325, -645, -965, 1360, 1680, 2000, 2320, 2640, 2960, 3280,
-    ];
-    compare_line(&mut comparison, &before, &wanted);
+    for (places, wanted) in &LINES {
+        compare_line(&mut comparison, places, wanted);
+    }
     comparison
 }
 
