@@ -1,14 +1,15 @@
 //! A round before it is worked.
 
-ghost use Rattle.std.specs.Prelude.{◌≡◌, ℕ, ◌+◌, ◌<◌, ◌≤◌, length, map, Option, is_some, slice_index, IfOk};
+ghost use Rattle.std.specs.Prelude.{◌≡◌, ℕ, ◌+◌, ◌<◌, ◌≤◌, [], length, map, reverse, Option, is_some, slice_index, vec_capacity, IfOk};
 ghost use Rattle.std.specs.List.{filter_map};
 ghost use Rattle.call_pair.specs.Jobs.{job_call};
 ghost use Rattle.round_lines.specs.Seats.{Fills};
 ghost use Rattle.round_lines.specs.Rounds.{Each, KeepsButEach, IsIncoming, Rising, call_at, seat_at, seat_end};
 ghost use Rattle.farm_rounds.specs.Calls.{call_in, partner_in};
+ghost use Rattle.farm_rounds.specs.Groups.{AreGroups, AreLive};
 ghost use Rattle.farm_rounds.specs.Numbers.{IsRising};
 ghost use Rattle.farm_rounds.specs.Histories.{CallHistory, GroupsStand};
-ghost use Rattle.farm_rounds.specs.Rounds.{groups_from};
+ghost use Rattle.farm_rounds.specs.Rounds.{groups_from, jobs_in, job_made, HaveEntries, BringCalls, AreSeats};
 ghost use Rattle.farm_rounds.specs.RoundHistories.{seat_for, worked_histories, WorkedStand, AreWorked};
 
 use crate::entry::Entry;
@@ -92,11 +93,9 @@ impl Round {
         ensures stands { IfOk result (λ r. (h : ℕ → Option CallHistory) → GroupsStand h farm.groups → GroupsStand h (groups_from r.jobs)) }
     {
         let mut rest = Rest::new(farm)?;
-        let calls = rest.live.len();
+        let (numbers, ends, room) = reserve(alloc, &rest.live, workers)?;
         put_in_order(&mut rest.groups);
-        let (jobs, entries) = make_jobs(alloc, &mut rest.groups, &rest.live)?;
-        let seats = make_seats(alloc, &rest.live, &entries, periods)?;
-        let numbers = rest.live.to_vec(alloc)?;
+        let (jobs, entries, seats) = make_jobs_and_seats(alloc, &mut rest, periods)?;
         Ok(Round {
             alloc,
             start,
@@ -106,8 +105,8 @@ impl Round {
             entries,
             seats,
             numbers,
-            room: WorkRoom::reserve(alloc, calls, workers)?,
-            ends: Vec::with_capacity(alloc, calls)?,
+            room,
+            ends,
         })
     }
 
@@ -174,4 +173,53 @@ impl Round {
             ends,
         }
     }
+}
+
+// What a round of these calls needs beside their jobs and seats: a copy of their numbers, and room for their ends and the work.
+fn reserve(
+    alloc: Global,
+    live: &[u32],
+    workers: u32,
+) -> Result<(Vec<u32>, Vec<CallEnd>, WorkRoom), AllocError>
+    requires calls { length live.now ≤ 4096 }
+    requires some { 1 ≤ workers }
+    requires few { workers ≤ 64 }
+    ensures numbers { IfOk result (λ made. made.0.items ≡ live.now) }
+    ensures no_end { IfOk result (λ made. made.1.items ≡ []) }
+    ensures ends { IfOk result (λ made. length live.now ≤ vec_capacity made.1) }
+    ensures no_place { IfOk result (λ made. made.2.apart.items ≡ []) }
+    ensures no_seat { IfOk result (λ made. made.2.worked.items ≡ []) }
+    ensures places { IfOk result (λ made. vec_capacity made.2.apart ≡ length live.now) }
+    ensures seats { IfOk result (λ made. vec_capacity made.2.worked ≡ length live.now) }
+    ensures pool { IfOk result (λ made. made.2.pool ≡ length live.now) }
+{
+    let numbers = live.to_vec(alloc)?;
+    let ends = Vec::with_capacity(alloc, live.len())?;
+    let room = WorkRoom::reserve(alloc, live.len(), workers)?;
+    Ok((numbers, ends, room))
+}
+
+// The jobs of the groups, where each call has its own, and the calls' seats.
+fn make_jobs_and_seats(
+    alloc: Global,
+    rest: &mut Rest,
+    periods: u32,
+) -> Result<(Vec<Box<Job>>, Vec<Entry>, Vec<Seat>), AllocError>
+    requires live { AreLive rest.old.live.items rest.old.groups.items }
+    requires groups { AreGroups 4294967295 rest.old.groups.items }
+    requires some { 1 ≤ periods }
+    requires few { periods ≤ 250 }
+    ensures jobs { IfOk result (λ made. jobs_in made.0.items ≡ map job_made (reverse rest.old.groups.items)) }
+    ensures entries { IfOk result (λ made. HaveEntries (jobs_in made.0.items) made.1.items rest.old.live.items) }
+    ensures calls { IfOk result (λ made. BringCalls rest.old.groups.items made.1.items rest.old.live.items) }
+    ensures number { IfOk result (λ made. length made.1.items ≡ length rest.old.live.items) }
+    ensures seats { IfOk result (λ made. AreSeats rest.old.live.items made.1.items periods made.2.items (length rest.old.live.items)) }
+    ensures length { IfOk result (λ made. length made.2.items ≡ length rest.old.live.items) }
+    ensures others { rest.new ≡ record rest.old { groups = rest.new.groups } }
+    ensures empty { IfOk result (λ made. rest.new.groups.items ≡ []) }
+    ensures capacity { vec_capacity rest.new.groups ≡ vec_capacity rest.old.groups }
+{
+    let (jobs, entries) = make_jobs(alloc, &mut rest.groups, &rest.live)?;
+    let seats = make_seats(alloc, &rest.live, &entries, periods)?;
+    Ok((jobs, entries, seats))
 }

@@ -1,14 +1,24 @@
 use Rattle.std.proofs.Common.{◌≡◌, ◌<◌, ◌∙◌, ap, sym, subst, Some, length, arith}
 use Rattle.switchboard.specs.declared.act.Act.TheVariants as act
-use Rattle.std.proofs.lemmas.List.{length-set, get_or-set_same}
+use Rattle.std.proofs.Math.ListN.{set}
+use Rattle.std.proofs.lemmas.List.{length-set, get_or-set_same, get_or-set_other}
 use Rattle.farm_rounds.specs.declared.call.Call.{Call}
 use Rattle.farm_rounds.specs.Calls.{partner_in, call_in}
 use Rattle.farm_rounds.specs.Groups.{AreGroups}
-use Rattle.farm_rounds.specs.Memory.{FarmMemory, no_tally}
+use Rattle.farm_rounds.specs.Memory.{FarmMemory, no_tally, tally_in}
 use Rattle.farm_rounds.specs.Acts.{IsOpen, Applied}
 use Rattle.call_leg.specs.Stands.{Stands}
 use Rattle.farm_rounds.proofs.Farms.{close_live, open_number}
 use Rattle.farm_rounds.proofs.farm.Farm.close.Goals as goal
+
+pub end-requires : goal.end-requires
+end-requires c = subst (λ (f : FarmMemory). IsOpen f.groups c.args.call) (sym c.self.view_is) c.requires
+
+pub remove_number-requires-clause-rising : goal.remove_number-requires-clause-rising
+remove_number-requires-clause-rising c = c.self.invariant.1.rising
+
+pub remove_number-requires-clause-present : goal.remove_number-requires-clause-present
+remove_number-requires-clause-present c = c.self.invariant.1.numbers c.args.call ∙ subst (λ (f : FarmMemory). IsOpen f.groups c.args.call) (sym c.self.view_is) c.requires
 
 pub index_mut-requires : goal.index_mut-requires
 index_mut-requires c = let n = open_number c.self.inside.end c.self.inside.groups.items c.args.call c.self.invariant.0 (subst (λ (f : FarmMemory). IsOpen f.groups c.args.call) (sym c.self.view_is) c.requires) in omega (arith, n.1, c.self.invariant.2)
@@ -27,6 +37,14 @@ returns-in-Some-clause-before c = subst (λ (f : FarmMemory). AreGroups f.ended 
 pub returns-in-Some-clause-applied : goal.returns-in-Some-clause-applied
 returns-in-Some-clause-applied c =
     subst (λ (f : FarmMemory). Applied f.ended (act.Closed c.args.call (partner_in f.groups c.args.call)) f.groups c.end.new.groups.items) c.self.view_is (c.end.ensures.applied c.self.inside.end c.self.invariant.0)
+
+pub returns-in-Some-clause-others : goal.returns-in-Some-clause-others
+returns-in-Some-clause-others c =
+    let tallies = set c.self.inside.tallies.items c.args.call c.tally.result in
+    ap (λ (f : FarmMemory). record { groups = c.end.new.groups.items; live = c.remove_number.new.numbers.items; tallies = tallies; failed = f.failed; ended = f.ended }) c.self.view_is
+
+pub returns-in-Some-clause-tallies : goal.returns-in-Some-clause-tallies
+returns-in-Some-clause-tallies c d n = get_or-set_other c.self.inside.tallies.items c.args.call d c.tally.result no_tally n ∙ ap (λ (f : FarmMemory). tally_in f.tallies d) c.self.view_is
 
 pub returns-in-Some-clause-tally : goal.returns-in-Some-clause-tally
 returns-in-Some-clause-tally c x n ts now e s =

@@ -1,16 +1,18 @@
 use Rattle.std.proofs.Common.{rules, ◌≡◌, refl, ◌+◌, ◌≤◌, sym, ap, ◌∙◌, subst, ℕ, List, length, arith}
 use Rattle.std.specs.Global.{Box}
+use Rattle.std.specs.Vec.{vec_capacity}
 use Rattle.std.specs.List.Sorted.{IsPermutation}
 use Rattle.std.proofs.lemmas.List.{length-map}
 use Rattle.call_pair.specs.declared.job.Job.{Job}
 use Rattle.farm_rounds.specs.declared.entry.Entry.{Entry}
 use Rattle.farm_rounds.specs.declared.call.Group.{Group}
+use Rattle.farm_rounds.specs.declared.rest.Rest.{Rest}
 use Rattle.farm_rounds.specs.Numbers.{IsRising}
 use Rattle.farm_rounds.specs.Groups.{AreLive}
 use Rattle.farm_rounds.specs.Rounds.{jobs_in, HaveEntries, BringCalls, AreSeats}
 use Rattle.farm_rounds.specs.Working.{IsRound}
 use Rattle.farm_rounds.proofs.Applying.{few_groups}
-use Rattle.farm_rounds.proofs.Starting.{live_number, few_live, same_groups, made_number, planned}
+use Rattle.farm_rounds.proofs.Starting.{few_live, same_groups, made_number, planned}
 use Rattle.farm_rounds.proofs.Planned.{moved_groups, moved_live, planned_open, planned_partner, planned_stand, planned_order, planned_seat}
 use Rattle.farm_rounds.proofs.round.Round.plan.Goals as goal
 
@@ -18,35 +20,10 @@ use Rattle.farm_rounds.proofs.round.Round.plan.Goals as goal
 same : {gs ks : List Group} (hs : List Group) → gs ≡ ks → IsPermutation gs hs → IsPermutation ks hs
 same hs e p = subst (λ (xs : List Group). IsPermutation xs hs) e p
 
-pub make_jobs-requires-clause-live : goal.make_jobs-requires-clause-live
-make_jobs-requires-clause-live c =
-    let sorted = c.put_in_order.new.groups.items in
-    subst (λ (xs : List ℕ). AreLive xs sorted) (sym (c.deref.ensures.value ∙ c.in_ok-rest.ensures.live)) (moved_live c.args.farm.live c.args.farm.groups sorted (same c.put_in_order.new.groups.items c.in_ok-rest.ensures.groups c.put_in_order.ensures.same) c.in_ok-rest.ensures.alive)
-
-pub make_jobs-requires-clause-groups : goal.make_jobs-requires-clause-groups
-make_jobs-requires-clause-groups c =
-    let f = c.args.farm in
-    let ended : f.ended ≤ 4294967295 = omega (arith, c.requires.later, c.requires.last) in
-    moved_groups 4294967295 f.groups c.put_in_order.new.groups.items (same c.put_in_order.new.groups.items c.in_ok-rest.ensures.groups c.put_in_order.ensures.same) (same_groups f.ended 4294967295 f.groups ended c.in_ok-rest.ensures.sound)
-
-pub make_seats-requires-clause-numbers : goal.make_seats-requires-clause-numbers
-make_seats-requires-clause-numbers c =
-    let f = c.args.farm in
-    live_number f.ended c.deref-2.result.now f.groups c.in_ok-rest.ensures.sound (subst (λ (xs : List ℕ). AreLive xs f.groups) (sym (c.deref-2.ensures.value ∙ c.in_ok-rest.ensures.live)) c.in_ok-rest.ensures.alive)
-
-pub make_seats-requires-clause-length : goal.make_seats-requires-clause-length
-make_seats-requires-clause-length c = ap length c.deref-3.ensures.value ∙ c.in_ok-jobs.ensures.length ∙ ap length (c.deref.ensures.value ∙ sym c.deref-2.ensures.value)
-
-pub make_seats-requires-clause-some : goal.make_seats-requires-clause-some
-make_seats-requires-clause-some c = c.requires.some
-
-pub make_seats-requires-clause-few : goal.make_seats-requires-clause-few
-make_seats-requires-clause-few c = c.requires.few
-
 pub reserve-requires-clause-calls : goal.reserve-requires-clause-calls
 reserve-requires-clause-calls c =
     let few = few_live c.args.farm.ended c.args.farm.live c.args.farm.groups c.in_ok-rest.ensures.sound c.in_ok-rest.ensures.alive in
-    omega (arith, few, c.len-calls.ensures, ap length c.in_ok-rest.ensures.live)
+    omega (arith, few, ap length c.deref.ensures.value, ap length c.in_ok-rest.ensures.live)
 
 pub reserve-requires-clause-some : goal.reserve-requires-clause-some
 reserve-requires-clause-some c = c.requires.some_workers
@@ -54,55 +31,76 @@ reserve-requires-clause-some c = c.requires.some_workers
 pub reserve-requires-clause-few : goal.reserve-requires-clause-few
 reserve-requires-clause-few c = c.requires.few_workers
 
+pub make_jobs_and_seats-requires-clause-live : goal.make_jobs_and_seats-requires-clause-live
+make_jobs_and_seats-requires-clause-live c =
+    let sorted = c.put_in_order.new.groups.items in
+    subst (λ (xs : List ℕ). AreLive xs sorted) (sym c.in_ok-rest.ensures.live) (moved_live c.args.farm.live c.args.farm.groups sorted (same c.put_in_order.new.groups.items c.in_ok-rest.ensures.groups c.put_in_order.ensures.same) c.in_ok-rest.ensures.alive)
+
+pub make_jobs_and_seats-requires-clause-groups : goal.make_jobs_and_seats-requires-clause-groups
+make_jobs_and_seats-requires-clause-groups c =
+    let f = c.args.farm in
+    let ended : f.ended ≤ 4294967295 = omega (arith, c.requires.later, c.requires.last) in
+    moved_groups 4294967295 f.groups c.put_in_order.new.groups.items (same c.put_in_order.new.groups.items c.in_ok-rest.ensures.groups c.put_in_order.ensures.same) (same_groups f.ended 4294967295 f.groups ended c.in_ok-rest.ensures.sound)
+
+pub make_jobs_and_seats-requires-clause-some : goal.make_jobs_and_seats-requires-clause-some
+make_jobs_and_seats-requires-clause-some c = c.requires.some
+
+pub make_jobs_and_seats-requires-clause-few : goal.make_jobs_and_seats-requires-clause-few
+make_jobs_and_seats-requires-clause-few c = c.requires.few
+
 pub returns-clause-start : goal.returns-clause-start
 returns-clause-start c = refl
 
 pub returns-clause-ended : goal.returns-clause-ended
 returns-clause-ended c = refl
 
+-- the farm's list of calls, as it is at the end
+live : (c : goal.In_ok-jobs) → c.make_jobs_and_seats.new.rest.live.items ≡ c.args.farm.live
+live c = ap (λ (r : Rest). r.live.items) c.make_jobs_and_seats.ensures.others ∙ c.in_ok-rest.ensures.live
+
 pub returns-clause-live : goal.returns-clause-live
-returns-clause-live c = c.in_ok-rest.ensures.live
+returns-clause-live c = live c
 
 pub returns-clause-failed : goal.returns-clause-failed
-returns-clause-failed c = c.in_ok-rest.ensures.failed
+returns-clause-failed c = ap (λ (r : Rest). r.failed.items) c.make_jobs_and_seats.ensures.others ∙ c.in_ok-rest.ensures.failed
 
 pub returns-clause-tallies : goal.returns-clause-tallies
-returns-clause-tallies c = c.in_ok-rest.ensures.tallies
+returns-clause-tallies c = ap (λ (r : Rest). r.tallies.items) c.make_jobs_and_seats.ensures.others ∙ c.in_ok-rest.ensures.tallies
 
 pub returns-clause-number : goal.returns-clause-number
-returns-clause-number c = c.in_ok-seats.ensures.length ∙ ap length (c.deref-2.ensures.value ∙ c.in_ok-rest.ensures.live)
-
-seats : (c : goal.In_ok-with_capacity) → AreSeats c.in_ok-rest.rest.live.items c.in_ok-jobs.entries.items c.args.periods c.in_ok-seats.seats.items (length c.in_ok-rest.rest.live.items)
-seats c =
-    subst (λ (xs : List ℕ). AreSeats xs c.in_ok-jobs.entries.items c.args.periods c.in_ok-seats.seats.items (length xs)) c.deref-2.ensures.value
-    (subst (λ (es : List Entry). AreSeats c.deref-2.result.now es c.args.periods c.in_ok-seats.seats.items (length c.deref-2.result.now)) c.deref-3.ensures.value c.in_ok-seats.ensures.seats)
+returns-clause-number c = c.in_ok-jobs.ensures.length ∙ ap length c.in_ok-rest.ensures.live
 
 pub invariant_of-result : goal.invariant_of-result
 invariant_of-result c =
     let f = c.args.farm in
-    let r = c.in_ok-rest.rest in
     let told = c.in_ok-rest.ensures in
+    let room = c.in_ok-numbers.ensures in
+    let made = c.in_ok-jobs.ensures in
+    let others = c.make_jobs_and_seats.ensures.others in
+    let r = c.in_ok-rest.rest in
     let sorted = c.put_in_order.new.groups.items in
     let jobs = c.in_ok-jobs.jobs.items in
     let entries = c.in_ok-jobs.entries.items in
+    let seats = c.in_ok-jobs.seats.items in
     let alive : AreLive r.live.items sorted = subst (λ (xs : List ℕ). AreLive xs sorted) (sym told.live) (moved_live f.live f.groups sorted (same c.put_in_order.new.groups.items c.in_ok-rest.ensures.groups c.put_in_order.ensures.same) told.alive) in
-    let have : HaveEntries (jobs_in jobs) entries r.live.items = subst (λ (xs : List ℕ). HaveEntries (jobs_in jobs) entries xs) c.deref.ensures.value c.in_ok-jobs.ensures.entries in
-    let calls : c.len-calls.result ≡ length r.live.items = omega (arith, c.len-calls.ensures) in
-    let number : length jobs ≡ length sorted = sym (length-map jobs (λ (b : Box Job). b.value)) ∙ made_number sorted (jobs_in jobs) c.in_ok-jobs.ensures.jobs in (
-      planned f.ended c.args.start c.args.periods sorted r.live.items r.tallies.items r.failed.items (jobs_in jobs) entries c.in_ok-seats.seats.items c.requires.later c.requires.last
-          (moved_groups f.ended f.groups sorted (same c.put_in_order.new.groups.items c.in_ok-rest.ensures.groups c.put_in_order.ensures.same) told.sound) alive (ap length told.tallies ∙ told.kept) c.in_ok-jobs.ensures.jobs have (c.in_ok-jobs.ensures.length ∙ ap length c.deref.ensures.value) (seats c)
-          (c.in_ok-seats.ensures.length ∙ ap length c.deref-2.ensures.value),
-      c.in_ok-jobs.ensures.empty,
-      search rules,
-      c.in_ok-reserve.ensures.no_place,
-      c.in_ok-reserve.ensures.no_seat,
-      c.in_ok-with_capacity.ensures.items,
-      omega (arith, told.places, ap length told.live, c.put_in_order.ensures.capacity, c.make_jobs.ensures.capacity),
-      omega (arith, calls, c.in_ok-reserve.ensures.places),
-      omega (arith, calls, c.in_ok-reserve.ensures.seats),
-      omega (arith, calls, c.in_ok-with_capacity.ensures.exact),
-      omega (arith, calls, number, few_groups sorted, alive.count, c.in_ok-reserve.ensures.pool),
-      omega (arith, told.lines, ap length told.live, ap length told.failed),
+    let number : length jobs ≡ length sorted = sym (length-map jobs (λ (b : Box Job). b.value)) ∙ made_number sorted (jobs_in jobs) made.jobs in
+    let same_live = ap (λ (x : Rest). length x.live.items) others in
+    let same_failed = ap (λ (x : Rest). length x.failed.items) others in
+    let counted = ap length c.deref.ensures.value in (
+      subst (λ (x : Rest). IsRound (record { start = c.args.start; ended = c.args.start + c.args.periods; live = x.live.items; tallies = x.tallies.items; failed = x.failed.items; jobs = jobs_in jobs; entries = entries; seats = seats })) (sym others)
+          (planned f.ended c.args.start c.args.periods sorted r.live.items r.tallies.items r.failed.items (jobs_in jobs) entries seats c.requires.later c.requires.last
+          (moved_groups f.ended f.groups sorted (same c.put_in_order.new.groups.items c.in_ok-rest.ensures.groups c.put_in_order.ensures.same) told.sound) alive (ap length told.tallies ∙ told.kept) made.jobs made.entries made.number made.seats made.length),
+      made.empty,
+      room.numbers ∙ c.deref.ensures.value ∙ sym (ap (λ (x : Rest). x.live.items) others),
+      room.no_place,
+      room.no_seat,
+      room.no_end,
+      omega (arith, same_live, told.places, ap length told.live, c.put_in_order.ensures.capacity, c.make_jobs_and_seats.ensures.capacity),
+      omega (arith, same_live, counted, room.places),
+      omega (arith, same_live, counted, room.seats),
+      omega (arith, same_live, counted, room.ends),
+      omega (arith, counted, number, few_groups sorted, alive.count, room.pool),
+      omega (arith, same_live, same_failed, told.lines, ap length told.live, ap length told.failed, ap (λ (x : Rest). vec_capacity x.failed) others),
     )
 
 pub returns-clause-seats : goal.returns-clause-seats
@@ -110,9 +108,9 @@ returns-clause-seats c k l =
     let f = c.args.farm in
     let entries = c.in_ok-jobs.entries.items in
     let sorted = c.put_in_order.new.groups.items in
-    let bring : BringCalls sorted entries f.live = subst (λ (xs : List ℕ). BringCalls sorted entries xs) (c.deref.ensures.value ∙ c.in_ok-rest.ensures.live) c.in_ok-jobs.ensures.calls in
-    let are : AreSeats f.live entries c.args.periods c.in_ok-seats.seats.items (length f.live) = subst (λ (xs : List ℕ). AreSeats xs entries c.args.periods c.in_ok-seats.seats.items (length xs)) c.in_ok-rest.ensures.live (seats c) in
-    planned_seat f.ended c.args.periods f.groups sorted f.live entries c.in_ok-seats.seats.items k (same c.put_in_order.new.groups.items c.in_ok-rest.ensures.groups c.put_in_order.ensures.same) c.in_ok-rest.ensures.sound bring are l
+    let bring : BringCalls sorted entries f.live = subst (λ (xs : List ℕ). BringCalls sorted entries xs) c.in_ok-rest.ensures.live c.in_ok-jobs.ensures.calls in
+    let are : AreSeats f.live entries c.args.periods c.in_ok-jobs.seats.items (length f.live) = subst (λ (xs : List ℕ). AreSeats xs entries c.args.periods c.in_ok-jobs.seats.items (length xs)) c.in_ok-rest.ensures.live c.in_ok-jobs.ensures.seats in
+    planned_seat f.ended c.args.periods f.groups sorted f.live entries c.in_ok-jobs.seats.items k (same c.put_in_order.new.groups.items c.in_ok-rest.ensures.groups c.put_in_order.ensures.same) c.in_ok-rest.ensures.sound bring are l
 
 pub returns-clause-order : goal.returns-clause-order
 returns-clause-order c =
