@@ -14,3 +14,9 @@ loop-k-preserved c =
     simp to_z-of_z (passing_next c.args.rs.now c.args.first c.args.ds.now c.args.savs.now c.loop-k.ds c.loop-k.savs (to_z w16 c.loop-k.u-bits) c.loop-k.k
     c.plus.result c.plus-in-loop-k.result c.loop-k-test.true (simp to_z-of_z at c.loop-k.invariant)
     (simp to_z-of_z at c.plus.ensures) (simp to_z-of_z at c.plus-in-loop-k.ensures))
+
+pub loop-i-x : goal.loop-i-x
+loop-i-x c = ?
+
+pub plus-requires : goal.plus-requires
+plus-requires c = ?

@@ -27,3 +27,9 @@ pub returns-clause-sections : goal.returns-clause-sections
 returns-clause-sections c =
     let fd = c.ranges.sample in
     (finish c.args.rs.now c.args.vs.now c.loop-i.vs c.args.sample (to_z w32 c.loop-i.s-bits) c.loop-i.i c.loop-i-test.false (simp to_z-of_z at c.loop-i.invariant)).1
+
+pub loop-i-x : goal.loop-i-x
+loop-i-x c = ?
+
+pub minus_wide-s-requires : goal.minus_wide-s-requires
+minus_wide-s-requires c = ?

@@ -1,0 +1,10 @@
+use Rattle.fr_short.proofs.analysis.fill_part.Goals as goal
+
+pub loop-k-init : goal.loop-k-init
+loop-k-init c = ?
+
+pub loop-k-preserved : goal.loop-k-preserved
+loop-k-preserved c = ?
+
+pub returns : goal.returns
+returns c = ?
