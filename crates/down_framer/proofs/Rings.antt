@@ -1,7 +1,7 @@
 -- What the calls on a framer's rings make of them.
 use Rattle.std.proofs.Common.{◌≡◌, sym, ap, subst, ◌∙◌, ◌⊎◌, inl, inr, [], ℕ, ◌+◌, ◌-◌, ◌*◌, ◌≤◌, ◌<◌, ℤ, pos, negsuc, min, List, ◌++◌, length, take, drop, replicate, arith, length-append, length-drop, length-take}
 use Rattle.std.proofs.lemmas.List.{take_all, drop_all, length-replicate, take-replicate, append_assoc, append-nil}
-use Rattle.std.proofs.lemmas.List.Elements.{All-append, All-replicate, All-take}
+use Rattle.std.proofs.lemmas.List.Elements.{All-append, All-replicate, All-take, All-drop}
 use Rattle.circular_buffer.specs.Buffer.{Buffer, buffer, keep_last}
 use Rattle.time_align.specs.Shift.{IsShift}
 use Rattle.trau_bits.specs.Bits.{AreBits}
@@ -70,6 +70,15 @@ are_bits-on_line : (shift : ℤ) (f : List ℕ) → AreBits f → AreBits (frame
 are_bits-on_line (pos v) f a = All-append (λ b. b < 2) f (replicate (2 * v) 1) a (All-replicate (λ b. b < 2) (2 * v) 1 (omega arith))
 are_bits-on_line (negsuc v) f a = All-take (λ b. b < 2) 316 f a
 
+pub frame_within : (s : FramerMemory) (f : List ℕ) (shift : ℤ) → IsWithin s → IsShift shift → length f ≡ 320 → 160 ≤ length s.held → s.to_skip ≡ 0 → IsWithin (after_frame s f shift)
+frame_within s f shift w sh lf ready none =
+    let balance = w.balance in
+    let room = w.room in
+    let ob = octets_of-bounds shift sh in
+    let n = length-append s.stored (frame_on_line shift f) ∙ ap (λ k. length s.stored + k) (length-frame_on_line shift f sh lf) in
+    let m = length-drop (octets_of shift) s.held in
+    record { balance = omega arith; room = omega arith }
+
 pub framed-rings : (bits octets bits1 octets1 : Buffer ℕ) (f : List ℕ) (shift : ℤ) (skip old : ℕ) → AreRings bits octets old → IsWithin (memory_of bits octets old) → Framed bits octets bits1 octets1 f shift skip →
     IsShift shift → AreBits f → length f ≡ 320 → 160 ≤ length octets.items → length bits.items ≤ 320 → AreRings bits1 octets1 skip
 framed-rings bits octets bits1 octets1 f shift skip old r w h sh a lf ready low =
@@ -89,7 +98,7 @@ framed-rings bits octets bits1 octets1 f shift skip old r w h sh a lf ready low 
       bounded = omega arith;
       none_held = λ z. omega arith;
       are_bits = subst AreBits (sym h.stored) (All-append (λ b. b < 2) bits.items (frame_on_line shift f) r.are_bits (are_bits-on_line shift f a));
-      phase = inr (record { balance = omega arith; room = omega arith });
+      phase = inr (subst IsWithin (sym (framed-view bits octets bits1 octets1 f shift skip old h)) (frame_within (memory_of bits octets old) f shift w sh lf ready (skipped (omega arith))));
     }
 
 pub new-rings : (bits bits1 octets : Buffer ℕ) (ones : List ℕ) (n : ℕ) → bits ≡ buffer [] 960 → octets ≡ buffer [] 320 → ones ≡ replicate 320 1 →
@@ -140,3 +149,26 @@ take-view bits bits1 octets skip n e b =
 pub read_all : (n : ℕ) (items old new : List ℕ) → n ≡ 320 → length old ≡ 320 → new ≡ take n items ++ drop n old → new ≡ take 320 items
 read_all n items old new e l r =
     r ∙ ap (λ k. take k items ++ drop k old) e ∙ ap (λ z. take 320 items ++ z) (drop_all 320 old (omega arith)) ∙ append-nil (take 320 items)
+
+-- no frame is left to be made
+pub taken_between : (s : FramerMemory) → IsWithin s → length s.held < 160 → IsBetween (after_take s)
+taken_between s w short =
+    let balance = w.balance in
+    let left = length-drop 320 s.stored in
+    record { balance = omega arith; short = short }
+
+pub taken-rings : (bits bits1 octets : Buffer ℕ) (skip n : ℕ) → AreRings bits octets skip → IsBetween (memory_of bits1 octets skip) →
+    bits1 ≡ buffer (drop n bits.items) bits.capacity → AreRings bits1 octets skip
+taken-rings bits bits1 octets skip n r between b =
+    let rooms = r.rooms in
+    let fits = r.fits in
+    let items : bits1.items ≡ drop n bits.items = ap (λ (z : Buffer ℕ). z.items) b in
+    let left : length bits1.items ≡ length bits.items - n = ap length items ∙ length-drop n bits.items in
+    record {
+      rooms = (ap (λ (z : Buffer ℕ). z.capacity) b ∙ rooms.0, rooms.1);
+      fits = (omega arith, fits.1);
+      bounded = r.bounded;
+      none_held = r.none_held;
+      are_bits = subst AreBits (sym items) (All-drop (λ b. b < 2) n bits.items r.are_bits);
+      phase = inl between;
+    }
