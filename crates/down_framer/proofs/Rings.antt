@@ -1,12 +1,12 @@
 -- What the calls on a framer's rings make of them.
-use Rattle.std.proofs.Common.{◌≡◌, sym, ap, subst, ◌∙◌, ◌⊎◌, inl, inr, [], ℕ, ◌+◌, ◌-◌, ◌*◌, ◌≤◌, ◌<◌, ℤ, pos, negsuc, min, List, ◌++◌, length, take, drop, replicate, arith, length-append, length-drop, length-take}
+use Rattle.std.proofs.Common.{◌≡◌, refl, sym, ap, subst, ◌∙◌, ◌⊎◌, inl, inr, [], ℕ, ◌+◌, ◌-◌, ◌*◌, ◌≤◌, ◌<◌, ℤ, pos, negsuc, min, List, ◌++◌, length, take, drop, replicate, arith, length-append, length-drop, length-take}
 use Rattle.std.proofs.lemmas.List.{take_all, drop_all, length-replicate, take-replicate, append_assoc, append-nil}
 use Rattle.std.proofs.lemmas.List.Elements.{All-append, All-replicate, All-take, All-drop}
 use Rattle.circular_buffer.specs.Buffer.{Buffer, buffer, keep_last}
 use Rattle.time_align.specs.Shift.{IsShift}
 use Rattle.trau_bits.specs.Bits.{AreBits}
 use Rattle.down_framer.specs.Made.{octets_of, frame_on_line}
-use Rattle.down_framer.specs.Memory.{FramerMemory, after_put, after_frame, after_take, IsBetween, IsWithin}
+use Rattle.down_framer.specs.Memory.{FramerMemory, new_memory, after_put, after_frame, after_take, IsBetween, IsWithin}
 use Rattle.down_framer.specs.Rings.{memory_of, AreRings}
 use Rattle.down_framer.proofs.Lists.{filled, kept_last}
 use Rattle.down_framer.proofs.Store.{length-frame_on_line}
@@ -101,24 +101,48 @@ framed-rings bits octets bits1 octets1 f shift skip old r w h sh a lf ready low 
       phase = inr (subst IsWithin (sym (framed-view bits octets bits1 octets1 f shift skip old h)) (frame_within (memory_of bits octets old) f shift w sh lf ready (skipped (omega arith))));
     }
 
-pub new-rings : (bits bits1 octets : Buffer ℕ) (ones : List ℕ) (n : ℕ) → bits ≡ buffer [] 960 → octets ≡ buffer [] 320 → ones ≡ replicate 320 1 →
-    n ≡ min (length ones) (bits.capacity - length bits.items) → bits1 ≡ buffer (bits.items ++ take n ones) bits.capacity → AreRings bits1 octets 0
-new-rings bits bits1 octets ones n eb eo el en e1 =
+new_store : (bits bits1 : Buffer ℕ) (ones : List ℕ) (n : ℕ) → bits ≡ buffer [] 960 → ones ≡ replicate 320 1 →
+    n ≡ min (length ones) (bits.capacity - length bits.items) → bits1 ≡ buffer (bits.items ++ take n ones) bits.capacity → bits1.items ≡ replicate 320 1
+new_store bits bits1 ones n eb el en e1 =
     let lo : length ones ≡ 320 = ap length el ∙ length-replicate {A = ℕ} 320 1 in
     let cap : bits.capacity ≡ 960 = ap (λ (b : Buffer ℕ). b.capacity) eb in
     let none : bits.items ≡ [] = ap (λ (b : Buffer ℕ). b.items) eb in
     let zero_bits : length bits.items ≡ 0 = ap length none in
-    let items : bits1.items ≡ ones = ap (λ (b : Buffer ℕ). b.items) e1 ∙ ap (λ z. z ++ take n ones) none ∙ take_all n ones (omega arith) in
-    let li : length bits1.items ≡ 320 = ap length items ∙ lo in
+    ap (λ (b : Buffer ℕ). b.items) e1 ∙ ap (λ z. z ++ take n ones) none ∙ take_all n ones (omega arith) ∙ el
+
+pub new-view : (bits bits1 octets : Buffer ℕ) (ones : List ℕ) (n : ℕ) → bits ≡ buffer [] 960 → octets ≡ buffer [] 320 → ones ≡ replicate 320 1 →
+    n ≡ min (length ones) (bits.capacity - length bits.items) → bits1 ≡ buffer (bits.items ++ take n ones) bits.capacity → memory_of bits1 octets 0 ≡ new_memory
+new-view bits bits1 octets ones n eb eo el en e1 =
+    let stored = new_store bits bits1 ones n eb el en e1 in
+    let held : octets.items ≡ [] = ap (λ (b : Buffer ℕ). b.items) eo in
+    cc
+
+pub new_between : IsBetween new_memory
+new_between = record { balance = refl; short = omega arith }
+
+pub new-rings : (bits bits1 octets : Buffer ℕ) (ones : List ℕ) (n : ℕ) → bits ≡ buffer [] 960 → octets ≡ buffer [] 320 → ones ≡ replicate 320 1 →
+    n ≡ min (length ones) (bits.capacity - length bits.items) → bits1 ≡ buffer (bits.items ++ take n ones) bits.capacity → AreRings bits1 octets 0
+new-rings bits bits1 octets ones n eb eo el en e1 =
+    let items = new_store bits bits1 ones n eb el en e1 in
+    let cap : bits.capacity ≡ 960 = ap (λ (b : Buffer ℕ). b.capacity) eb in
+    let li : length bits1.items ≡ 320 = ap length items ∙ length-replicate {A = ℕ} 320 1 in
     let lz : length octets.items ≡ 0 = ap (λ (b : Buffer ℕ). length b.items) eo in
     record {
       rooms = (ap (λ (b : Buffer ℕ). b.capacity) e1 ∙ cap, ap (λ (b : Buffer ℕ). b.capacity) eo);
       fits = (omega arith, omega arith);
       bounded = omega arith;
       none_held = λ z. omega arith;
-      are_bits = subst AreBits (sym (items ∙ el)) (All-replicate (λ b. b < 2) 320 1 (omega arith));
-      phase = inl (record { balance = omega arith; short = omega arith });
+      are_bits = subst AreBits (sym items) (All-replicate (λ b. b < 2) 320 1 (omega arith));
+      phase = inl (subst IsBetween (sym (new-view bits bits1 octets ones n eb eo el en e1)) new_between);
     }
+
+pub put_within : (s : FramerMemory) (octets : List ℕ) → IsBetween s → length octets ≡ 160 → s.to_skip ≤ 156 → IsWithin (after_put s octets)
+put_within s octets between l b =
+    let balance = between.balance in
+    let short = between.short in
+    let held = length-append s.held (drop s.to_skip octets) in
+    let rest = length-drop s.to_skip octets in
+    record { balance = omega arith; room = omega arith }
 
 pub put-view : (bits octets octets1 : Buffer ℕ) (new part : List ℕ) (skip n : ℕ) {held : ℕ} → AreRings bits octets skip → length octets.items ≡ held → held < 160 → length new ≡ 160 →
     part ≡ take (160 - skip) (drop skip new) → n ≡ min (length part) (octets.capacity - length octets.items) → octets1 ≡ buffer (octets.items ++ take n part) octets.capacity →
