@@ -1,4 +1,4 @@
-use Rattle.std.proofs.Common.{◌≡◌, ◌<◌, ◌≤◌, ◌∙◌, ℕ, ℤ, pos, refl, unsigned_abs, arith, FitsSigned, w32}
+use Rattle.std.proofs.Common.{◌≡◌, ◌<◌, ◌≤◌, ℕ, ℤ, pos, refl, unsigned_abs, arith, FitsSigned, w32}
 use Rattle.std.proofs.lemmas.Int.{to_z-of_z}
 use Rattle.trau_num.proofs.Fill.{fill_none, fill_next, fill_all}
 use Rattle.fr_lpc.specs.Scaling.{entry}
