@@ -1,12 +1,12 @@
 -- What the calls on a framer's rings make of them.
-use Rattle.std.proofs.Common.{◌≡◌, sym, ap, subst, ◌∙◌, ◌⊎◌, inl, inr, [], ℕ, ◌+◌, ◌-◌, ◌*◌, ◌≤◌, ◌<◌, ℤ, pos, negsuc, min, List, ◌++◌, length, take, drop, replicate, arith, length-append, length-drop, length-take}
+use Rattle.std.proofs.Common.{◌≡◌, refl, sym, ap, subst, ◌∙◌, ◌⊎◌, inl, inr, [], ℕ, ◌+◌, ◌-◌, ◌*◌, ◌≤◌, ◌<◌, ℤ, pos, negsuc, min, List, ◌++◌, length, take, drop, replicate, arith, length-append, length-drop, length-take}
 use Rattle.std.proofs.lemmas.List.{take_all, drop_all, length-replicate, take-replicate, append_assoc, append-nil}
-use Rattle.std.proofs.lemmas.List.Elements.{All-append, All-replicate, All-take}
+use Rattle.std.proofs.lemmas.List.Elements.{All-append, All-replicate, All-take, All-drop}
 use Rattle.circular_buffer.specs.Buffer.{Buffer, buffer, keep_last}
 use Rattle.time_align.specs.Shift.{IsShift}
 use Rattle.trau_bits.specs.Bits.{AreBits}
 use Rattle.down_framer.specs.Made.{octets_of, frame_on_line}
-use Rattle.down_framer.specs.Memory.{FramerMemory, after_put, after_frame, after_take, IsBetween, IsWithin}
+use Rattle.down_framer.specs.Memory.{FramerMemory, new_memory, after_put, after_frame, after_take, IsBetween, IsWithin}
 use Rattle.down_framer.specs.Rings.{memory_of, AreRings}
 use Rattle.down_framer.proofs.Lists.{filled, kept_last}
 use Rattle.down_framer.proofs.Store.{length-frame_on_line}
@@ -70,6 +70,15 @@ are_bits-on_line : (shift : ℤ) (f : List ℕ) → AreBits f → AreBits (frame
 are_bits-on_line (pos v) f a = All-append (λ b. b < 2) f (replicate (2 * v) 1) a (All-replicate (λ b. b < 2) (2 * v) 1 (omega arith))
 are_bits-on_line (negsuc v) f a = All-take (λ b. b < 2) 316 f a
 
+pub frame_within : (s : FramerMemory) (f : List ℕ) (shift : ℤ) → IsWithin s → IsShift shift → length f ≡ 320 → 160 ≤ length s.held → s.to_skip ≡ 0 → IsWithin (after_frame s f shift)
+frame_within s f shift w sh lf ready none =
+    let balance = w.balance in
+    let room = w.room in
+    let ob = octets_of-bounds shift sh in
+    let n = length-append s.stored (frame_on_line shift f) ∙ ap (λ k. length s.stored + k) (length-frame_on_line shift f sh lf) in
+    let m = length-drop (octets_of shift) s.held in
+    record { balance = omega arith; room = omega arith }
+
 pub framed-rings : (bits octets bits1 octets1 : Buffer ℕ) (f : List ℕ) (shift : ℤ) (skip old : ℕ) → AreRings bits octets old → IsWithin (memory_of bits octets old) → Framed bits octets bits1 octets1 f shift skip →
     IsShift shift → AreBits f → length f ≡ 320 → 160 ≤ length octets.items → length bits.items ≤ 320 → AreRings bits1 octets1 skip
 framed-rings bits octets bits1 octets1 f shift skip old r w h sh a lf ready low =
@@ -89,27 +98,51 @@ framed-rings bits octets bits1 octets1 f shift skip old r w h sh a lf ready low 
       bounded = omega arith;
       none_held = λ z. omega arith;
       are_bits = subst AreBits (sym h.stored) (All-append (λ b. b < 2) bits.items (frame_on_line shift f) r.are_bits (are_bits-on_line shift f a));
-      phase = inr (record { balance = omega arith; room = omega arith });
+      phase = inr (subst IsWithin (sym (framed-view bits octets bits1 octets1 f shift skip old h)) (frame_within (memory_of bits octets old) f shift w sh lf ready (skipped (omega arith))));
     }
 
-pub new-rings : (bits bits1 octets : Buffer ℕ) (ones : List ℕ) (n : ℕ) → bits ≡ buffer [] 960 → octets ≡ buffer [] 320 → ones ≡ replicate 320 1 →
-    n ≡ min (length ones) (bits.capacity - length bits.items) → bits1 ≡ buffer (bits.items ++ take n ones) bits.capacity → AreRings bits1 octets 0
-new-rings bits bits1 octets ones n eb eo el en e1 =
+new_store : (bits bits1 : Buffer ℕ) (ones : List ℕ) (n : ℕ) → bits ≡ buffer [] 960 → ones ≡ replicate 320 1 →
+    n ≡ min (length ones) (bits.capacity - length bits.items) → bits1 ≡ buffer (bits.items ++ take n ones) bits.capacity → bits1.items ≡ replicate 320 1
+new_store bits bits1 ones n eb el en e1 =
     let lo : length ones ≡ 320 = ap length el ∙ length-replicate {A = ℕ} 320 1 in
     let cap : bits.capacity ≡ 960 = ap (λ (b : Buffer ℕ). b.capacity) eb in
     let none : bits.items ≡ [] = ap (λ (b : Buffer ℕ). b.items) eb in
     let zero_bits : length bits.items ≡ 0 = ap length none in
-    let items : bits1.items ≡ ones = ap (λ (b : Buffer ℕ). b.items) e1 ∙ ap (λ z. z ++ take n ones) none ∙ take_all n ones (omega arith) in
-    let li : length bits1.items ≡ 320 = ap length items ∙ lo in
+    ap (λ (b : Buffer ℕ). b.items) e1 ∙ ap (λ z. z ++ take n ones) none ∙ take_all n ones (omega arith) ∙ el
+
+pub new-view : (bits bits1 octets : Buffer ℕ) (ones : List ℕ) (n : ℕ) → bits ≡ buffer [] 960 → octets ≡ buffer [] 320 → ones ≡ replicate 320 1 →
+    n ≡ min (length ones) (bits.capacity - length bits.items) → bits1 ≡ buffer (bits.items ++ take n ones) bits.capacity → memory_of bits1 octets 0 ≡ new_memory
+new-view bits bits1 octets ones n eb eo el en e1 =
+    let stored = new_store bits bits1 ones n eb el en e1 in
+    let held : octets.items ≡ [] = ap (λ (b : Buffer ℕ). b.items) eo in
+    cc
+
+pub new_between : IsBetween new_memory
+new_between = record { balance = refl; short = omega arith }
+
+pub new-rings : (bits bits1 octets : Buffer ℕ) (ones : List ℕ) (n : ℕ) → bits ≡ buffer [] 960 → octets ≡ buffer [] 320 → ones ≡ replicate 320 1 →
+    n ≡ min (length ones) (bits.capacity - length bits.items) → bits1 ≡ buffer (bits.items ++ take n ones) bits.capacity → AreRings bits1 octets 0
+new-rings bits bits1 octets ones n eb eo el en e1 =
+    let items = new_store bits bits1 ones n eb el en e1 in
+    let cap : bits.capacity ≡ 960 = ap (λ (b : Buffer ℕ). b.capacity) eb in
+    let li : length bits1.items ≡ 320 = ap length items ∙ length-replicate {A = ℕ} 320 1 in
     let lz : length octets.items ≡ 0 = ap (λ (b : Buffer ℕ). length b.items) eo in
     record {
       rooms = (ap (λ (b : Buffer ℕ). b.capacity) e1 ∙ cap, ap (λ (b : Buffer ℕ). b.capacity) eo);
       fits = (omega arith, omega arith);
       bounded = omega arith;
       none_held = λ z. omega arith;
-      are_bits = subst AreBits (sym (items ∙ el)) (All-replicate (λ b. b < 2) 320 1 (omega arith));
-      phase = inl (record { balance = omega arith; short = omega arith });
+      are_bits = subst AreBits (sym items) (All-replicate (λ b. b < 2) 320 1 (omega arith));
+      phase = inl (subst IsBetween (sym (new-view bits bits1 octets ones n eb eo el en e1)) new_between);
     }
+
+pub put_within : (s : FramerMemory) (octets : List ℕ) → IsBetween s → length octets ≡ 160 → s.to_skip ≤ 156 → IsWithin (after_put s octets)
+put_within s octets between l b =
+    let balance = between.balance in
+    let short = between.short in
+    let held = length-append s.held (drop s.to_skip octets) in
+    let rest = length-drop s.to_skip octets in
+    record { balance = omega arith; room = omega arith }
 
 pub put-view : (bits octets octets1 : Buffer ℕ) (new part : List ℕ) (skip n : ℕ) {held : ℕ} → AreRings bits octets skip → length octets.items ≡ held → held < 160 → length new ≡ 160 →
     part ≡ take (160 - skip) (drop skip new) → n ≡ min (length part) (octets.capacity - length octets.items) → octets1 ≡ buffer (octets.items ++ take n part) octets.capacity →
@@ -140,3 +173,26 @@ take-view bits bits1 octets skip n e b =
 pub read_all : (n : ℕ) (items old new : List ℕ) → n ≡ 320 → length old ≡ 320 → new ≡ take n items ++ drop n old → new ≡ take 320 items
 read_all n items old new e l r =
     r ∙ ap (λ k. take k items ++ drop k old) e ∙ ap (λ z. take 320 items ++ z) (drop_all 320 old (omega arith)) ∙ append-nil (take 320 items)
+
+-- no frame is left to be made
+pub taken_between : (s : FramerMemory) → IsWithin s → length s.held < 160 → IsBetween (after_take s)
+taken_between s w short =
+    let balance = w.balance in
+    let left = length-drop 320 s.stored in
+    record { balance = omega arith; short = short }
+
+pub taken-rings : (bits bits1 octets : Buffer ℕ) (skip n : ℕ) → AreRings bits octets skip → IsBetween (memory_of bits1 octets skip) →
+    bits1 ≡ buffer (drop n bits.items) bits.capacity → AreRings bits1 octets skip
+taken-rings bits bits1 octets skip n r between b =
+    let rooms = r.rooms in
+    let fits = r.fits in
+    let items : bits1.items ≡ drop n bits.items = ap (λ (z : Buffer ℕ). z.items) b in
+    let left : length bits1.items ≡ length bits.items - n = ap length items ∙ length-drop n bits.items in
+    record {
+      rooms = (ap (λ (z : Buffer ℕ). z.capacity) b ∙ rooms.0, rooms.1);
+      fits = (omega arith, fits.1);
+      bounded = r.bounded;
+      none_held = r.none_held;
+      are_bits = subst AreBits (sym items) (All-drop (λ b. b < 2) n bits.items r.are_bits);
+      phase = inl between;
+    }

@@ -1,5 +1,5 @@
 -- A loop that overwrites P or K from the front.
-use Rattle.std.proofs.Common.{◌≡◌, ℕ, ℤ, ◌+◌, ◌<◌, ◌≤◌, pos, get_or, set, length, List, map, ◌∙◌, arith, inl, inr}
+use Rattle.std.proofs.Common.{◌≡◌, ℕ, ℤ, ◌+◌, ◌<◌, ◌≤◌, pos, get_or, set, length, List, map, refl, ◌∙◌, arith, inl, inr}
 use Rattle.std.proofs.lemmas.List.{length-set, get_or-set_same, get_or-set_other}
 use Rattle.std.proofs.lemmas.Bool.{cases_eq, cases_lt}
 use Rattle.std.proofs.lemmas.Grind.{common_steps}
@@ -26,6 +26,17 @@ over_next f old xs m x l h e =
       ];
       kept = λ j b. get_or-set_other xs m j x (pos 0) (omega arith) ∙ h.kept j (omega arith);
     }
+
+-- the first place is written, or is as it should be
+pub over_first : (f : ℕ → ℤ) (old : List ℤ) (x : ℤ) → length old ≡ 9 → x ≡ f 0 → Over f old (set old 0 x) 1
+over_first f old x l e = over_next f old old 0 x (omega arith) (record { count = l; written = λ j b. absurd (omega arith); kept = λ j b. refl }) e
+
+pub over_same : (f : ℕ → ℤ) (old : List ℤ) → length old ≡ 9 → get_or old 0 (pos 0) ≡ f 0 → Over f old old 1
+over_same f old l e = record {
+  count = l;
+  written = λ j b. let first : j ≡ 0 = omega arith in rw first e;
+  kept = λ j b. refl;
+}
 
 -- what is not written is as it was
 pub over_end : (f : ℕ → ℤ) (old xs : List ℤ) (m : ℕ) → Over f old xs m → ((j : ℕ) → m ≤ j → get_or old j (pos 0) ≡ f j) → xs ≡ map f (range_with_len 0 9)

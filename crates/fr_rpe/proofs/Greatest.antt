@@ -54,6 +54,17 @@ is_least_greatest f zero = record {
 }
 is_least_greatest f (suc n) = step f n (least_greatest f n) (is_least_greatest f n)
 
+-- one number more, at which the function is greater or not
+pub better : (f : ℕ → ℤ) (n m best : ℕ) → m ≡ suc n → best ≡ least_greatest f n → int_lt (f best) (f m) ≡ true → m ≡ least_greatest f (suc n)
+better f n m best e h l =
+    let greater : int_lt (f (least_greatest f n)) (f (suc n)) ≡ true = rw (← e, ← h) l in
+    rw greater e
+
+pub not_better : (f : ℕ → ℤ) (n m best : ℕ) → m ≡ suc n → best ≡ least_greatest f n → int_lt (f best) (f m) ≡ false → best ≡ least_greatest f (suc n)
+not_better f n m best e h l =
+    let greater : int_lt (f (least_greatest f n)) (f (suc n)) ≡ false = rw (← e, ← h) l in
+    rw greater h
+
 pub strongest : (x : List ℤ) (m : ℕ) → m ≡ grid_of x → IsStrongestGrid x m
 unfolding grid_of
 strongest x m e =

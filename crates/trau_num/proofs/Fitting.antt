@@ -1,9 +1,9 @@
 -- What fits a word: products of two words of 32 bits that keep bounds, with their value and a bound of their own, and shifts.
-use Rattle.std.proofs.Common.{mul-le-mul, ◌≡◌, ◌*◌, ◌≤◌, ◌<◌, ◌^◌, ◌*ℤ◌, ℕ, ℤ, unsigned_abs, ◌+ℤ◌, ◌≤ℤ◌, pos, negsuc, neg_ℤ, FitsSigned, w16, w32, arith}
+use Rattle.std.proofs.Common.{mul-le-mul, ◌≡◌, ◌*◌, ◌≤◌, ◌<◌, ◌^◌, ◌*ℤ◌, ℕ, ℤ, unsigned_abs, ◌+ℤ◌, ◌-ℤ◌, ◌≤ℤ◌, pos, negsuc, neg_ℤ, ◌∙◌, FitsSigned, w16, w32, arith}
 use Rattle.std.proofs.lemmas.Int.{to_z-of_z, fits_signed_mul, ints, unsigned_abs-mul}
 use Rattle.std.specs.Int.{Width, int_shr}
 use Rattle.std.specs.Int.Signed.{mag, mag_shr}
-use Rattle.trau_num.specs.Num.{clamp16}
+use Rattle.trau_num.specs.Num.{clamp16, add_of, sub_of}
 use mir.Val.{to_z, of_z}
 
 pub product_fits : (a b : ℤ) (m n : ℕ) → FitsSigned w32 a → FitsSigned w32 b → unsigned_abs a ≤ m → unsigned_abs b ≤ n → m * n < 2 ^ 31 →
@@ -37,3 +37,23 @@ rounded_fits p b =
 -- a word isn't clamped
 pub word_stays : (z : ℤ) → FitsSigned w16 z → clamp16 z ≡ z
 word_stays z f = let low = f.sfits in grind (arith, ints)
+
+-- the sum of a word and a number that is no larger, made in 32 bits and clamped to a word
+pub clamped_sum : (a x y z : ℤ) → FitsSigned w16 a → x ≡ to_z w16 (of_z w16 a) → unsigned_abs y ≤ 32768 → FitsSigned w16 z →
+    z ≡ clamp16 (to_z w32 (of_z w32 (to_z w32 (of_z w32 x) +ℤ to_z w32 (of_z w32 y)))) → to_z w16 (of_z w16 z) ≡ add_of a y
+unfolding add_of
+clamped_sum a x y z f from bound g e =
+    let same : x ≡ a = from ∙ to_z-of_z w16 a f in
+    let exact : to_z w32 (of_z w32 (to_z w32 (of_z w32 a) +ℤ to_z w32 (of_z w32 y))) ≡ a +ℤ y = omega (arith, ints) in
+    let clamped = rw (same, exact) at e in
+    to_z-of_z w16 z g ∙ clamped
+
+-- and their difference, made in 32 bits and clamped to a word
+pub clamped_difference : (a x y z : ℤ) → FitsSigned w16 a → x ≡ to_z w16 (of_z w16 a) → unsigned_abs y ≤ 32768 → FitsSigned w16 z →
+    z ≡ clamp16 (to_z w32 (of_z w32 (to_z w32 (of_z w32 x) -ℤ to_z w32 (of_z w32 y)))) → to_z w16 (of_z w16 z) ≡ sub_of a y
+unfolding sub_of
+clamped_difference a x y z f from bound g e =
+    let same : x ≡ a = from ∙ to_z-of_z w16 a f in
+    let exact : to_z w32 (of_z w32 (to_z w32 (of_z w32 a) -ℤ to_z w32 (of_z w32 y))) ≡ a -ℤ y = omega (arith, ints) in
+    let clamped = rw (same, exact) at e in
+    to_z-of_z w16 z g ∙ clamped

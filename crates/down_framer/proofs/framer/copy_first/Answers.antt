@@ -19,3 +19,18 @@ returns c =
     ∙ (λ i. take (whole i) (c.as_slices.ensures i) ++ drop (whole i) to)
     ∙ ap (λ l. take (length to) c.args.ring.now.items ++ l) (drop-length to)
     ∙ append-nil (take (length to) c.args.ring.now.items)
+
+pub copy_from_slice-requires : goal.copy_from_slice-requires
+copy_from_slice-requires c =
+    let cut = c.min-cut.result in
+    omega (arith, c.min-cut.ensures, length-take cut c.args.to.now, length-take cut c.as_slices.result.0.now)
+
+pub copy_from_slice-requires-2 : goal.copy_from_slice-requires-2
+copy_from_slice-requires-2 c =
+    let front = c.as_slices.result.0.now in let back = c.as_slices.result.1.now in let to = c.args.to.now in
+    let cut = c.min-cut.result in let one = c.copy_from_slice.new.self in
+    let least = c.min-cut.ensures in
+    let long : length front + length back ≡ length c.args.ring.now.items = sym (length-append front back) ∙ ap length c.as_slices.ensures in
+    let one_long : length one ≡ cut = c.copy_from_slice.ensures.len ∙ omega (arith, length-take cut to, least) in
+    let whole : length (one ++ drop cut to) ≡ length to = omega (arith, one_long, length-append one (drop cut to), length-drop cut to, least) in
+    omega (arith, least, long, whole, length-drop cut (one ++ drop cut to), length-take (length (one ++ drop cut to) - cut) (drop cut (one ++ drop cut to)), length-take (length to - cut) back)

@@ -1,5 +1,6 @@
 use Rattle.std.proofs.Common.{◌≡◌, ◌+◌, pos, arith, ap, sym, subst, ◌∙◌, ◌*ℤ◌, ◌+ℤ◌, fold, ◌++◌, get_or, add-zero, length}
 use Rattle.std.specs.Simd.Lanes.{Each1}
+use Rattle.std.proofs.lemmas.List.{length-map}
 use Rattle.fr_long.specs.Lag.{correlation_of}
 use Rattle.fr_long.specs.Lanes.{sums_of_pairs}
 use Rattle.fr_long.proofs.Lanes.{Within, kept, both_passed, both_is, both_within, both_length, four_totals, four_lanes}
@@ -54,3 +55,37 @@ returns-clause-value c =
     let start = subst (λ n. fold ◌+ℤ◌ (pos 0) c.lag_sums-first.result *ℤ pos 2 ≡ correlation_of c.args.wt.now c.args.earlier.now n) (sym (add-zero c.args.lag)) c.lag_sums-first.ensures.value in
     λ k h. subst (λ zs. get_or zs k (pos 0) *ℤ pos 2 ≡ correlation_of c.args.wt.now c.args.earlier.now (c.args.lag + k)) (sym totals)
     (four_lanes (λ k v. v *ℤ pos 2 ≡ correlation_of c.args.wt.now c.args.earlier.now (c.args.lag + k)) _ _ _ _ start c.lag_sums-second.ensures.value c.lag_sums-third.ensures.value c.lag_sums-fourth.ensures.value k h)
+
+pub lag_sums-first-requires : goal.lag_sums-first-requires
+lag_sums-first-requires c = record { scaled = c.requires.scaled; words = c.requires.words; at_least = omega arith; at_most = omega arith }
+
+pub lag_sums-second-requires : goal.lag_sums-second-requires
+lag_sums-second-requires c = record { scaled = c.requires.scaled; words = c.requires.words; at_least = omega arith; at_most = omega arith }
+
+pub lag_sums-third-requires : goal.lag_sums-third-requires
+lag_sums-third-requires c = record { scaled = c.requires.scaled; words = c.requires.words; at_least = omega arith; at_most = omega arith }
+
+pub lag_sums-fourth-requires : goal.lag_sums-fourth-requires
+lag_sums-fourth-requires c = record { scaled = c.requires.scaled; words = c.requires.words; at_least = omega arith; at_most = omega arith }
+
+pub both-front-requires-clause-length_a : goal.both-front-requires-clause-length_a
+both-front-requires-clause-length_a c = simp length-map c.lag_sums-first.ensures.length
+
+pub both-front-requires-clause-length_b : goal.both-front-requires-clause-length_b
+both-front-requires-clause-length_b c = simp length-map c.lag_sums-second.ensures.length
+
+pub both-back-requires-clause-length_a : goal.both-back-requires-clause-length_a
+both-back-requires-clause-length_a c = simp length-map c.lag_sums-third.ensures.length
+
+pub both-back-requires-clause-length_b : goal.both-back-requires-clause-length_b
+both-back-requires-clause-length_b c = simp length-map c.lag_sums-fourth.ensures.length
+
+pub both-requires-clause-length_a : goal.both-requires-clause-length_a
+both-requires-clause-length_a c =
+    let front = both_is 167772160 c.lag_sums-first.result c.lag_sums-second.result c.both-front.result (omega arith) c.lag_sums-first.ensures.small c.lag_sums-second.ensures.small c.both-front.ensures in
+    simp length-map (both_length c.lag_sums-first.result c.lag_sums-second.result c.both-front.result c.lag_sums-first.ensures.length c.lag_sums-second.ensures.length front)
+
+pub both-requires-clause-length_b : goal.both-requires-clause-length_b
+both-requires-clause-length_b c =
+    let back = both_is 167772160 c.lag_sums-third.result c.lag_sums-fourth.result c.both-back.result (omega arith) c.lag_sums-third.ensures.small c.lag_sums-fourth.ensures.small c.both-back.ensures in
+    simp length-map (both_length c.lag_sums-third.result c.lag_sums-fourth.result c.both-back.result c.lag_sums-third.ensures.length c.lag_sums-fourth.ensures.length back)

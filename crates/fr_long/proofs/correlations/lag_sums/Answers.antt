@@ -78,3 +78,27 @@ returns-clause-value c =
 pub returns-clause-small : goal.returns-clause-small
 returns-clause-small c =
     Each1-weaker (Within (33554432 * c.loop-block.block)) (Within 167772160) (λ x h. omega arith) _ c.loop-block.invariant.small
+
+pub loop-block-init : goal.loop-block-init
+loop-block-init c =
+    let zero : Within 0 (pos 0) = omega arith in
+    record { length_is = refl; value = refl; words = λ k l. absurd (omega arith); small = (zero, (zero, (zero, (zero, tt)))) }
+
+pub eight-requires-clause-place : goal.eight-requires-clause-place
+eight-requires-clause-place c = omega arith
+
+pub eight-requires-in-loop-block-clause-place : goal.eight-requires-in-loop-block-clause-place
+eight-requires-in-loop-block-clause-place c = omega arith
+
+pub eight-requires-in-loop-block-clause-words : goal.eight-requires-in-loop-block-clause-words
+eight-requires-in-loop-block-clause-words c = c.requires.words
+
+pub neighbours-requires-clause-length : goal.neighbours-requires-clause-length
+neighbours-requires-clause-length c =
+    let i : ℕ = 8 * c.loop-block.block in
+    let at : ℕ = 120 - c.args.lag + 8 * c.loop-block.block in
+    let passed = row_passed c.args.wt.now c.args.earlier.now c.eight.result c.eight-in-loop-block.result c.products-products.result i at (omega arith) c.requires.scaled c.eight-in-loop-block.ensures.words c.eight.ensures.value c.eight-in-loop-block.ensures.value c.products-products.ensures in
+    ap length passed ∙ row_length c.args.wt.now c.args.earlier.now i at (omega arith) (omega arith)
+
+pub returns-clause-length : goal.returns-clause-length
+returns-clause-length c = simp length-map c.loop-block.invariant.length_is

@@ -1,10 +1,19 @@
-use Rattle.std.proofs.Common.{◌≡◌, ◌+◌, ◌∙◌, arith, rules, FitsSigned, w16}
+use Rattle.std.proofs.Common.{◌≡◌, ◌+◌, ◌∙◌, refl, arith, rules, FitsSigned, w16}
 use Rattle.std.proofs.lemmas.Int.{to_z-of_z}
 use Rattle.trau_num.specs.Num.{add_of, mult_r_of}
 use Rattle.fr_lpc.specs.Scaling.{entry}
 use Rattle.fr_lpc.specs.Reflection.{p_after, k_after}
-use Rattle.fr_lpc.proofs.Over.{over_next, over_end, next_p-within, next_k-within, next_p-past, next_k-past}
+use Rattle.fr_lpc.proofs.Over.{over_first, over_same, over_next, over_end, next_p-within, next_k-within, next_p-past, next_k-past}
 use Rattle.fr_lpc.proofs.reflection.step.Goals as goal
+
+pub loop-m-init : goal.loop-m-init
+loop-m-init c =
+    let r = c.ranges.r in
+    let here : FitsSigned w16 (entry c.args.p.now 0) = search rules in
+    let above : FitsSigned w16 (entry c.args.p.now 1) = search rules in
+    let first : FitsSigned w16 c.plus.result = record { sfits = c.plus.type_inv } in
+    let sum = simp to_z-of_z at c.plus.ensures in
+    simp to_z-of_z (record { ps = over_first _ c.args.p.now _ c.told-p sum; ks = over_same _ c.args.k.now c.told-k refl })
 
 pub loop-m-preserved : goal.loop-m-preserved
 loop-m-preserved c =

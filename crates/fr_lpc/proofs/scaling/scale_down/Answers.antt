@@ -1,6 +1,7 @@
-use Rattle.std.proofs.Common.{arith, rules, ◌∙◌, FitsSigned, w16}
+use Rattle.std.proofs.Common.{arith, rules, refl, ◌∙◌, FitsSigned, w16}
+use Rattle.std.proofs.lemmas.Bool.{ne_eqb}
 use Rattle.std.proofs.lemmas.Int.{to_z-of_z}
-use Rattle.fr_lpc.specs.Scaling.{entry, scaled_sample}
+use Rattle.fr_lpc.specs.Scaling.{entry, scaled_sample, scaled_down}
 use Rattle.fr_lpc.proofs.Scaled.{over_more, over_all, within_map, scaled_bound}
 use Rattle.fr_lpc.proofs.scaling.scale_down.Goals as goal
 
@@ -17,3 +18,15 @@ returns-clause-bound c =
     within_map f c.args.s.now c.loop-x.s 2048
     (over_all f c.args.s.now c.loop-x.s c.loop-x.x-index (omega (arith, c.told-s)) c.loop-x.invariant)
     (λ i h. scaled_bound (entry c.args.s.now i) c.args.scaling (search rules) c.requires.at_most_4 (c.requires.room i h))
+
+pub returns-clause-value : goal.returns-clause-value
+unfolding scaled_down
+returns-clause-value c =
+    rw (ne_eqb c.args.scaling 0 c.if-scaling-eq0.false) (over_all (scaled_sample c.args.scaling) c.args.s.now c.loop-x.s c.loop-x.x-index (omega (arith, c.told-s)) c.loop-x.invariant)
+
+pub returns-then-scaling-eq0-clause-value : goal.returns-then-scaling-eq0-clause-value
+unfolding scaled_down
+returns-then-scaling-eq0-clause-value c = rw c.if-scaling-eq0.true refl
+
+pub returns-then-scaling-eq0-clause-bound : goal.returns-then-scaling-eq0-clause-bound
+returns-then-scaling-eq0-clause-bound c = rw c.if-scaling-eq0.true at c.requires.room

@@ -1,4 +1,4 @@
-use Rattle.std.proofs.Common.{arith, ap, ◌≡◌, ◌≤◌, ◌^◌, ◌*ℤ◌, ◌+ℤ◌, ◌-ℤ◌, ◌∙◌, pos, subst, sym, unsigned_abs, FitsSigned, w16, w64}
+use Rattle.std.proofs.Common.{arith, ap, ◌≤◌, ◌^◌, ◌*ℤ◌, ◌+ℤ◌, pos, subst, sym, unsigned_abs, FitsSigned, w64}
 use Rattle.std.proofs.lemmas.Int.{to_z-of_z, ints}
 use Rattle.trau_num.specs.Num.{floor_shr}
 use Rattle.trau_num.proofs.Fitting.{shifted_fits}

@@ -30,3 +30,6 @@ returns-clause-residual c = (sectioned_all _ _ _ _ _ _ _ c.loop-i-test.false (ei
 
 pub returns-clause-sections : goal.returns-clause-sections
 returns-clause-sections c = (sectioned_all _ _ _ _ _ _ _ c.loop-i-test.false (eight _ _) c.loop-i.invariant).1
+
+pub pass-requires : goal.pass-requires
+pass-requires c = λ k l. rw (c.spread.ensures k l) (c.parts-parts.ensures.factors (part_of k) (part_within k) c.loop-i.i c.loop-i-test.true)

@@ -9,6 +9,24 @@ pub loop-part-init : goal.loop-part-init
 unfolding part_start
 loop-part-init c = run_start _ _ _ _ (c.told-s ∙ sym c.told-d) c.requires
 
+pub loop-k-init : goal.loop-k-init
+loop-k-init c = rw c.part_start-k.ensures.value c.loop-part.invariant
+
+pub pass-requires : goal.pass-requires
+pass-requires c =
+    let fx : FitsSigned w16 (get_or c.args.d.now c.loop-k.k (pos 0)) = search rules in
+    let ff : FitsSigned w32 c.from.result = record { sfits = c.from.type_inv } in
+    record {
+      factors = c.wide_parts-parts.ensures.factors c.loop-part.part c.loop-part-test.true;
+      words = c.loop-k.invariant.words;
+      sample = rw (to_z-of_z w32 _ ff, c.from.ensures, to_z-of_z w16 _ fx) fx;
+    }
+
+pub narrow_word-requires : goal.narrow_word-requires
+narrow_word-requires c =
+    let fp : FitsSigned w32 c.pass.result = record { sfits = c.pass.type_inv } in
+    rw (to_z-of_z w32 _ fp) c.pass.ensures.word
+
 pub loop-k-preserved : goal.loop-k-preserved
 loop-k-preserved c =
     let fx : FitsSigned w16 (get_or c.args.d.now c.loop-k.k (pos 0)) = search rules in
@@ -40,3 +58,6 @@ pub returns-clause-sections : goal.returns-clause-sections
 returns-clause-sections c =
     let end = frame_ends c.loop-part.part c.loop-part-test.false in
     (run_end _ _ c.args.d.now _ _ _ (omega arith) c.loop-part.invariant).1
+
+pub returns-clause-words : goal.returns-clause-words
+returns-clause-words c = c.loop-part.invariant.words

@@ -1,5 +1,7 @@
-use Rattle.std.proofs.Common.{◌≡◌, ◌+◌, ◌<◌, ◌≤◌, ℕ, List, length, get_or, slice_range, sym, ap, ◌∙◌, arith, rules}
+use Rattle.std.proofs.Common.{◌≡◌, ◌+◌, ◌-◌, ◌<◌, ◌≤◌, ℕ, List, length, get_or, drop, slice_range, sym, ap, subst, ◌∙◌, arith, rules, length-take, length-drop}
+use Rattle.std.proofs.lemmas.List.Elements.{All-take, All-drop}
 use Rattle.std.proofs.lemmas.Grind.{elements, same_number_lists}
+use Rattle.trau_bits.specs.Bits.{AreBits}
 use Rattle.frame_sync.specs.Match.{bit_in, frame_at}
 use Rattle.frame_sync.proofs.Matches.{length-frame_at, get_or-frame_at}
 use Rattle.frame_sync.proofs.advance.frame_from.Goals as goal
@@ -16,3 +18,12 @@ part_is_frame w bits o h count e =
 pub returns-clause-value : goal.returns-clause-value
 returns-clause-value c =
     part_is_frame c.args.window.now c.copy_from_slice.new.self c.args.o (omega arith) (search rules) (search rules)
+
+pub returns-clause-are_bits : goal.returns-clause-are_bits
+returns-clause-are_bits c =
+    subst AreBits (sym c.copy_from_slice.ensures.after) (All-take (λ b. b < 2) (c.args.o + 320 - c.args.o) (drop c.args.o c.args.window.now) (All-drop (λ b. b < 2) c.args.o c.args.window.now c.requires.bits))
+
+pub copy_from_slice-requires : goal.copy_from_slice-requires
+copy_from_slice-requires c =
+    let rest = drop c.args.o c.args.window.now in
+    omega (arith, length-take (c.args.o + 320 - c.args.o) rest, length-drop c.args.o c.args.window.now)

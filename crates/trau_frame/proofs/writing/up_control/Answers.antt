@@ -1,9 +1,29 @@
-use Rattle.std.proofs.Common.{◌≡◌, ◌+◌, ◌<◌, length, sym, ◌∙◌, subst, arith}
-use Rattle.std.proofs.lemmas.List.{get_or_default}
+use Rattle.std.proofs.Common.{◌≡◌, ◌+◌, ◌<◌, ℕ, List, length, get_or, set, sym, ◌∙◌, subst, inl, inr, arith}
+use Rattle.std.proofs.lemmas.Bool.{cases_eq}
+use Rattle.std.proofs.lemmas.List.{length-set, get_or-set_same, get_or-set_other, get_or_default}
 use Rattle.std.proofs.lemmas.List.FromFn.{length-map-range_with_len, get_or-map-range_with_len}
 use Rattle.std.proofs.lemmas.Grind.{same_number_lists}
 use Rattle.trau_frame.specs.UpBits.{up_control_bit, up_control}
 use Rattle.trau_frame.proofs.writing.up_control.Goals as goal
+
+-- what holds at each place that is written still does after the next
+each_next : (P : ℕ → ℕ → Type 0) (xs : List ℕ) (i x : ℕ) → i < length xs → P i x → ((k : ℕ) → k < i → P k (get_or xs k 0)) →
+    (k : ℕ) → k < i + 1 → P k (get_or (set xs i x) k 0)
+each_next P xs i x l here h k m = elim (cases_eq k i) [
+  | inl e ↦ rw (e, get_or-set_same xs i x 0 l) here
+  | inr n ↦ rw (get_or-set_other xs i k x 0 n) (h k (omega arith))
+]
+
+pub loop-c-preserved : goal.loop-c-preserved
+loop-c-preserved c =
+    let all = c.loop-c.invariant in
+    let bit = c.up_control_bit.result in
+    let inside : c.loop-c.c < length c.loop-c.control = omega (arith, all.count) in
+    record {
+      count = length-set c.loop-c.control c.loop-c.c bit ∙ all.count;
+      each = each_next (λ (k b : ℕ). b ≡ up_control_bit c.args.f.now (k + 1)) c.loop-c.control c.loop-c.c bit inside c.up_control_bit.ensures.value all.each;
+      bits = each_next (λ (k b : ℕ). b < 2) c.loop-c.control c.loop-c.c bit inside c.up_control_bit.ensures.bit all.bits;
+    }
 
 pub returns-clause-value : goal.returns-clause-value
 unfolding up_control

@@ -1,5 +1,5 @@
-use Rattle.std.proofs.Common.{FitsSigned, ◌≡◌, pos, ◌+ℤ◌, ◌≤ℤ◌, w16, w32, rules, sym, subst}
-use Rattle.std.proofs.lemmas.Int.{to_z-of_z}
+use Rattle.std.proofs.Common.{FitsSigned, ◌≡◌, pos, ◌+ℤ◌, ◌≤ℤ◌, w16, w32, arith, rules, sym, subst}
+use Rattle.std.proofs.lemmas.Int.{to_z-of_z, ints}
 use Rattle.fr_lpc.specs.Scaling.{entry}
 use Rattle.tx_dtx.specs.SilenceDescriptor.{total}
 use Rattle.tx_dtx.proofs.Means.{two_sums, total-not_negative}
@@ -15,16 +15,25 @@ sums c =
 
 pub returns-clause-value : goal.returns-clause-value
 returns-clause-value c =
-    let fa : FitsSigned w32 c.sum.result = search rules in
-    let fb : FitsSigned w32 c.sum-2.result = search rules in
+    let fa : FitsSigned w32 c.sum.result = record { sfits = c.sum.type_inv } in
+    let fb : FitsSigned w32 c.sum-2.result = record { sfits = c.sum-2.type_inv } in
     let f : FitsSigned w32 (c.sum.result +ℤ c.sum-2.result) = search rules in
     simp to_z-of_z (sums c)
 
 pub returns-clause-low : goal.returns-clause-low
 returns-clause-low c =
-    let fa : FitsSigned w32 c.sum.result = search rules in
-    let fb : FitsSigned w32 c.sum-2.result = search rules in
+    let fa : FitsSigned w32 c.sum.result = record { sfits = c.sum.type_inv } in
+    let fb : FitsSigned w32 c.sum-2.result = record { sfits = c.sum-2.type_inv } in
     let f : FitsSigned w32 (c.sum.result +ℤ c.sum-2.result) = search rules in
     let e = sums c in
     let n = total-not_negative c.args.t.now.xmax c.args.t.now.xmax_not_negative in
     simp to_z-of_z (subst (λ z. pos 0 ≤ℤ z) (sym e) n)
+
+pub returns-clause-high : goal.returns-clause-high
+returns-clause-high c =
+    let fa : FitsSigned w32 c.sum.result = record { sfits = c.sum.type_inv } in
+    let fb : FitsSigned w32 c.sum-2.result = record { sfits = c.sum-2.type_inv } in
+    let a = c.sum.ensures.high in
+    let b = c.sum-2.ensures.high in
+    let f : FitsSigned w32 (c.sum.result +ℤ c.sum-2.result) = search rules in
+    simp to_z-of_z (omega (arith, ints))

@@ -8,7 +8,7 @@ use Rattle.down_framer.specs.Rings.{memory_of}
 use Rattle.down_framer.proofs.Calls.{frame-holds}
 use Rattle.down_framer.proofs.History.{frame-stands}
 use Rattle.down_framer.proofs.Timing.{octets_of-bounds}
-use Rattle.down_framer.proofs.Rings.{Framed, framed, framed-rings, framed-view, within_when_ready}
+use Rattle.down_framer.proofs.Rings.{Framed, framed, framed-rings, framed-view, frame_within, within_when_ready}
 use Rattle.down_framer.proofs.framer.Framer.frame.Goals as goal
 
 -- what the rings held
@@ -53,6 +53,13 @@ step_now c =
 
 pub returns-clause-step : goal.returns-clause-step
 returns-clause-step c = step_now c
+
+pub returns-clause-within : goal.returns-clause-within
+returns-clause-within c =
+    let ready = ready_before c in
+    let none : c.args.self.now.to_skip ≡ 0 = sym (ap (λ (s : FramerMemory). s.to_skip) c.self.view_is) ∙ c.self.invariant.none_held (omega arith) in
+    subst IsWithin (sym (step_now c))
+    (frame_within c.args.self.now c.args.f.now c.args.shift (subst IsWithin c.self.view_is (within_before c)) c.requires.shift c.told-f c.requires.ready none)
 
 pub returns-clause-taken : goal.returns-clause-taken
 returns-clause-taken c =

@@ -1,11 +1,11 @@
 use Rattle.std.proofs.Common.{◌≡◌, ◌+◌, ◌∷◌, length, take, sym, ap, ◌∙◌, subst, rules, arith}
 use Rattle.trau_bits.specs.Bits.{bits_of}
-use Rattle.down_framer.specs.Memory.{FramerMemory, after_take}
+use Rattle.down_framer.specs.Memory.{FramerMemory, IsBetween, after_take}
 use Rattle.down_framer.specs.Places.{Holds, StandsBetween}
 use Rattle.down_framer.specs.contracts.framer.Framer.{the_view}
 use Rattle.down_framer.proofs.Calls.{take-holds}
 use Rattle.down_framer.proofs.History.{take-stands}
-use Rattle.down_framer.proofs.Rings.{take-view, read_all}
+use Rattle.down_framer.proofs.Rings.{take-view, read_all, taken_between, taken-rings}
 use Rattle.down_framer.proofs.framer.Framer.take.Goals as goal
 
 all_read : (c : goal.After-pack) → c.read_into.result ≡ 320
@@ -27,6 +27,18 @@ bits_now : (c : goal.After-pack) → bits_of c.pack.new.bytes ≡ take 320 c.arg
 bits_now c =
     c.pack.ensures.bits ∙ read_all c.read_into.result c.self.inside.bits.items _ c.read_into.new.dst (all_read c) (search rules) c.read_into.ensures.read ∙
     ap (λ (s : FramerMemory). take 320 s.stored) c.self.view_is
+
+pub returns-clause-step : goal.returns-clause-step
+returns-clause-step c = step_now c
+
+pub returns-clause-bits : goal.returns-clause-bits
+returns-clause-bits c = bits_now c
+
+pub returns-clause-between : goal.returns-clause-between
+returns-clause-between c = subst IsBetween (sym (step_now c)) (taken_between c.args.self.now c.requires.within c.requires.not_ready)
+
+pub invariant_of-self : goal.invariant_of-self
+invariant_of-self c = taken-rings c.self.inside.bits c.read_into.new.self c.self.inside.octets c.self.inside.skip c.read_into.result c.self.invariant (returns-clause-between c) c.read_into.ensures.items
 
 pub returns-clause-places : goal.returns-clause-places
 returns-clause-places c = λ pcm line out start h. (
