@@ -39,7 +39,7 @@ joined_sized calls bridges now a b n first second new sized place of_first of_se
     let longer : length now ≡ n + 1 = omega (arith, ap length is, length-append bridges (new ∷ [])) in
     let at_end : (o : Option ℕ) → o ≡ Some n → IfSome o (λ k. k < length now) = λ o e. subst (λ (p : Option ℕ). IfSome p (λ k. k < length now)) (sym e) (omega arith) in
     let old : (c : ℕ) → HasPlace (length now) (get_or calls c never) =
-        λ c. subst (λ (m : ℕ). HasPlace m (get_or calls c never)) (sym longer) (place_more n (get_or calls c never).bridge (subst (λ (m : ℕ). HasPlace m (get_or calls c never)) (sym place) (sized.places c))) in record {
+    λ c. subst (λ (m : ℕ). HasPlace m (get_or calls c never)) (sym longer) (place_more n (get_or calls c never).bridge (subst (λ (m : ℕ). HasPlace m (get_or calls c never)) (sym place) (sized.places c))) in record {
       all = omega (arith, sized.all, length-set {A = Call});
       places = place_set (set calls a first) b (length now) second (at_end second.bridge of_second) (place_set calls a (length now) first (at_end first.bridge of_first) old);
       named = subst (AllNamed _) (sym is) (named_push _ bridges new own sized.named);

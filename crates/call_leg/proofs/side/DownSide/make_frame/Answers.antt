@@ -1,4 +1,4 @@
-use Rattle.std.proofs.Common.{◌∙◌, List, ap, refl, sym, subst, drop, All, FitsSigned, arith, rules, not}
+use Rattle.std.proofs.Common.{◌∙◌, ap, refl, sym, subst, All, FitsSigned, arith, rules, not}
 use Rattle.std.proofs.lemmas.Int.{to_z-of_z}
 use Rattle.std.proofs.lemmas.List.Elements.{All-drop}
 use Rattle.std.specs.Int.{w16}
