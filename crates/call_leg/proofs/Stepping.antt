@@ -1,5 +1,5 @@
 -- What each call makes of a leg's memory.
-use Rattle.std.proofs.Common.{◌≡◌, refl, sym, ap, ◌∙◌, ℕ, ◌+◌, ℤ, Bool, not, ◌||◌, if◌then◌else◌, List, length, drop, take}
+use Rattle.std.proofs.Common.{◌≡◌, refl, sym, ap, ◌∙◌, ℕ, ◌+◌, ℤ, Bool, not, ◌||◌, if◌then◌else◌, List, [], length, drop, take}
 use Rattle.std.specs.Prelude.{◌==◌}
 use Rattle.trau_params.specs.declared.params.Params.{Params}
 use Rattle.trau_params.specs.declared.trace.Trace.{Trace}
@@ -27,9 +27,19 @@ use Rattle.call_leg.specs.Periods.{dtx_in}
 use Rattle.call_leg.specs.Counted.{counted}
 use Rattle.call_leg.specs.Out.{compressed}
 use Rattle.call_leg.specs.Down.{expanded, coded_as, speech}
-use Rattle.call_leg.specs.Memory.{CoderMemory, DownMemory, LegMemory}
+use Rattle.call_leg.specs.Memory.{CoderMemory, home_coder, DownMemory, LegMemory}
 use Rattle.call_leg.specs.Places.{in_u32, in_u64}
-use Rattle.call_leg.specs.Step.{played_frame, played, after_sighting, up_worked, coded_next, next_by, thawed, after_made, frame_made, frame_tried, with_framer, down_worked}
+use Rattle.call_leg.specs.Step.{home_down, played_frame, played, after_sighting, up_worked, coded_next, next_by, thawed, after_made, frame_made, frame_tried, with_framer, down_worked}
+
+-- the downlink side of a new leg is at home
+pub home-step : (f : framer.FramerMemory) (a : align.AlignMemory) (w : List (List ℕ)) (m : CoderMemory) → f ≡ framer.new_memory → a ≡ align.new_memory → w ≡ [] → m.encoder ≡ encoder.home_memory → m.tx ≡ tx.home_memory →
+    record home_down { framer = f; align = a; waiting = w; coder = m } ≡ home_down
+home-step f a w m ef ea ew ee et =
+    ap (λ x. record home_down { framer = x; align = a; waiting = w; coder = m }) ef
+    ∙ ap (λ x. record home_down { align = x; waiting = w; coder = m }) ea
+    ∙ ap (λ x. record home_down { waiting = x; coder = m }) ew
+    ∙ ap (λ x. record home_down { coder = record m { encoder = x } }) ee
+    ∙ ap (λ x. record home_down { coder = record home_coder { tx = x } }) et
 
 -- a frame is decoded
 pub decode-step : (m m1 : decoder.DecoderMemory) (p : Fields) (x : List ℤ) (octets : List ℕ) → decoder.decoded_frame m p ≡ (x, m1) → octets ≡ compressed x → played_frame m p ≡ (octets, m1)

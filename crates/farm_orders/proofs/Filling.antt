@@ -1,12 +1,16 @@
 -- Several reads of the desk, one after another.
-use Rattle.std.proofs.Common.{◌≡◌, ℕ, ◌+◌, ◌-◌, ◌≤◌, List, ◌++◌, length, take, Ok, refl, ◌∙◌, ap, arith, length-take}
+use Rattle.std.proofs.Common.{◌≡◌, ℕ, ◌+◌, ◌-◌, ◌<◌, ◌≤◌, List, ◌++◌, length, take, Ok, Err, refl, ◌∙◌, ap, subst, arith, length-take}
 use Rattle.std.specs.Io.KnownBytes.{Consumes}
-use Rattle.std.proofs.KnownBytes.{Consumes-nil, Consumes-trans}
-use Rattle.std.proofs.lemmas.List.{take-append-le}
-use Rattle.std.proofs.Math.Seq.{take-append-add}
+use Rattle.std.proofs.KnownBytes.{Consumes-nil, Consumes-trans, Consumes-kept}
+use Rattle.std.proofs.lemmas.List.{take-append-le, take_all}
+use Rattle.std.proofs.Math.Seq.{take-append-add, take-append_seam}
 use borrow.Rule.Slice.PartMut.{put_mid, post_of}
+use Rattle.trau_io.specs.declared.line.Failed.{Failed}
+use Rattle.trau_io.specs.declared.transfer.Filled.TheVariants as filled
+use Rattle.trau_io.specs.Lines.{Rose}
 use Rattle.trau_io.specs.Desks.{DeskState, DeskReads}
 use Rattle.trau_io.proofs.Runs.{length_filled}
+use Rattle.farm_orders.specs.Block.{FillsBlock}
 
 -- what successful reads have done so far
 pub record Filled (before now : DeskState) (n : ℕ) (block : List ℕ) : Type 0 where
@@ -39,3 +43,45 @@ filled_more before mid now n k block piece so_far reads fits =
       written = reads.written ∙ so_far.written;
       write_faults = reads.write_faults ∙ so_far.write_faults;
     }
+
+-- the block is full
+pub filled_all : (before now : DeskState) (n : ℕ) (block : List ℕ) → Filled before now n block → length block ≤ n → FillsBlock before now filled.Whole block
+filled_all before now n block so_far full = record {
+  given = subst (Consumes before.to_come now.to_come) (take_all n block full) so_far.consumed;
+  stopped = so_far.read_faults;
+  later = omega (arith, so_far.read_faults);
+  written = so_far.written;
+  write_faults = so_far.write_faults;
+}
+
+module _ (before mid now : DeskState) (n : ℕ) (block piece : List ℕ) (so_far : Filled before mid n block) (room : n < length block) (fits : length piece ≡ length block - n) where
+  long : length (put_mid n (length block - n) block piece) ≡ length block
+  long = length_filled n block piece so_far.bound fits
+
+  -- the text ended
+  pub filled_ended : (k : ℕ) → DeskReads mid now (Ok k) piece → k ≡ 0 → FillsBlock before now (filled.Ended n) (put_mid n (length block - n) block piece)
+  filled_ended k reads none =
+      let more = filled_more before mid now n k block piece so_far reads fits in
+      let same : n + k ≡ n = omega arith in record {
+        given = subst (λ m. Consumes before.to_come now.to_come (take m (put_mid n (length block - n) block piece))) same more.consumed;
+        stopped = (omega (arith, long), reads.to_come.1 none (omega arith), more.read_faults);
+        later = omega (arith, more.read_faults);
+        written = more.written;
+        write_faults = more.write_faults;
+      }
+
+  front_kept : take n (put_mid n (length block - n) block piece) ≡ take n block
+  front_kept =
+      let front : length (take n block) ≡ n = simp length-take (omega arith) in
+      let rest = piece ++ post_of n (length block - n) block in
+      subst (λ m. take m (take n block ++ rest) ≡ take n block) front (take-append_seam (take n block) rest)
+
+  -- the desk failed
+  pub filled_failed : (e : Failed) → DeskReads mid now (Err e) piece → FillsBlock before now (filled.Failed n) (put_mid n (length block - n) block piece)
+  filled_failed e reads = record {
+    given = rw front_kept (Consumes-kept _ _ _ _ so_far.consumed reads.to_come);
+    stopped = (omega (arith, long), subst (λ f. Rose f now.read_faults) so_far.read_faults reads.cause.failed);
+    later = omega (arith, so_far.read_faults, reads.cause.later);
+    written = reads.written ∙ so_far.written;
+    write_faults = reads.write_faults ∙ so_far.write_faults;
+  }

@@ -1,11 +1,13 @@
 -- From the answer to a text to that of the desk whose reads gave it, and to that of a desk that tells its text.
-use Rattle.std.proofs.Common.{◌≡◌, inl, inr, ℕ, ◌≤◌, List, ◌++◌, length, Result, Ok, Err, Option, Some, None, sym, ◌∙◌, ap, subst, append-nil, length-append, arith}
+use Rattle.std.proofs.Common.{◌≡◌, inl, inr, ℕ, ◌≤◌, List, ◌++◌, length, take, Result, Ok, Err, Option, Some, None, sym, ◌∙◌, ap, subst, append-nil, length-append, length-take, arith}
 use Rattle.std.specs.Prelude.{IsErrOf}
 use Rattle.std.specs.Io.KnownBytes.{Consumes, IsAtEnd}
 use Rattle.trau_io.specs.Desks.{DeskState}
 use Rattle.trau_orders.specs.declared.order.Order.{Order}
 use Rattle.farm_orders.specs.declared.fault.OrdersFault.{OrdersFault}
 use Rattle.farm_orders.specs.declared.fault.OrdersFault.TheVariants.{Unread, TooLong, Line, Memory}
+use Rattle.trau_io.specs.declared.transfer.Filled.TheVariants as filled
+use Rattle.farm_orders.specs.Block.{FillsBlock}
 use Rattle.farm_orders.specs.Reading.{AnswersText, AnswersReads, ReadsOrders, AnswersTold}
 
 -- the answer to a text is that of a desk at its end that gave it
@@ -17,7 +19,31 @@ ended now text (Err TooLong) end short (inr many) = inr (end, many)
 ended now text (Err (Line n)) end short answer = (end, answer)
 ended now text (Err Memory) end short answer = tt
 
--- and isn't that the text is unread
+-- the answer to the front of a block, at whose end the desk is at its end
+pub reads_ended : (before now : DeskState) (n : ℕ) (block text : List ℕ) (result : Result (List Order) OrdersFault) → FillsBlock before now (filled.Ended n) block → length block ≡ 1048577 → text ≡ block → AnswersText (take n text) result → ReadsOrders before now result
+reads_ended before now n block text result fills size same answer =
+    let few : length (take n block) ≤ 1048576 = simp length-take (omega (arith, fills.stopped.0)) in record {
+      given = take n block;
+      consumed = fills.given;
+      bound = omega arith;
+      answer = ended now (take n block) result fills.stopped.1 few (subst (λ t. AnswersText (take n t) result) same answer);
+    }
+
+-- a full block is just past the limit
+pub reads_full : (before now : DeskState) (block : List ℕ) → FillsBlock before now filled.Whole block → length block ≡ 1048577 → ReadsOrders before now (Err TooLong)
+reads_full before now block fills size = record { given = block; consumed = fills.given; bound = omega arith; answer = inl size }
+
+-- the front of a block, behind which the desk failed
+pub reads_failed : (before now : DeskState) (n : ℕ) (block : List ℕ) → FillsBlock before now (filled.Failed n) block → length block ≡ 1048577 → ReadsOrders before now (Err Unread)
+reads_failed before now n block fills size =
+    let few : length (take n block) ≤ 1048576 = simp length-take (omega (arith, fills.stopped.0)) in record {
+      given = take n block;
+      consumed = fills.given;
+      bound = omega arith;
+      answer = few;
+    }
+
+-- the answer isn't that the text is unread
 pub not_unread : (text : List ℕ) (result : Result (List Order) OrdersFault) → AnswersText text result → IsErrOf result Unread → ⊥
 not_unread text (Ok orders) answer = λ e. cc
 not_unread text (Err Unread) answer = absurd answer

@@ -300,3 +300,7 @@ pub room : (os : List Order) (xs : List Reply) (r : Rows) (s : State) (o : Order
 room os xs r s o b e n =
     let w = next-within os (length xs) o (ap (λ (s : State). first_of s.left) e ∙ n) in
     (omega (arith, w.0, bridges-bound os xs r b, b.most), omega (arith, w.0, bridges-bound os xs r b, spans-bound os xs r b, b.most))
+
+-- and for one more reply
+pub reply_room : (os : List Order) (xs : List Reply) (r : Rows) (s : State) (o : Order) → state_of os xs r ≡ s → first_of s.left ≡ Some o → length xs < length os
+reply_room os xs r s o e n = (next-within os (length xs) o (ap (λ (s : State). first_of s.left) e ∙ n)).0

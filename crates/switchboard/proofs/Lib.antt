@@ -1,4 +1,5 @@
 pub mod Lists
+pub mod Sizes
 pub mod Spans
 pub mod Known
 pub mod Steps

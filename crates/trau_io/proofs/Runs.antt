@@ -1,13 +1,16 @@
 -- Several calls on one line or on a desk, one after another.
-use Rattle.std.proofs.Common.{◌≡◌, ℕ, ◌+◌, ◌-◌, ◌≤◌, List, ◌++◌, length, take, drop, Ok, refl, sym, ◌∙◌, ap, arith, length-take, length-drop, take-add}
+use Rattle.std.proofs.Common.{◌≡◌, ℕ, ◌+◌, ◌-◌, ◌<◌, ◌≤◌, List, ◌++◌, length, take, drop, Ok, Err, refl, sym, ◌∙◌, ap, subst, arith, length-take, length-drop, take-add}
 use Rattle.std.specs.Io.KnownBytes.{Consumes, Appends}
-use Rattle.std.proofs.KnownBytes.{Consumes-nil, Consumes-trans, Appends-nil, Appends-trans}
+use Rattle.std.proofs.KnownBytes.{Consumes-nil, Consumes-trans, Consumes-kept, Appends-nil, Appends-trans}
 use borrow.Rule.Slice.PartMut.{put_mid, post_of}
 use Rattle.std.proofs.lemmas.List.{take-append-le, take_all}
-use Rattle.std.proofs.Math.Seq.{take-append-add}
+use Rattle.std.proofs.Math.Seq.{take-append-add, take-append_seam}
 use Rattle.std.proofs.lemmas.Grind.{common_steps}
 use Rattle.trau_io.specs.declared.line.Side.{Side}
-use Rattle.trau_io.specs.Lines.{LineState, Reads, Writes, OthersStay}
+use Rattle.trau_io.specs.declared.line.Failed.{Failed}
+use Rattle.trau_io.specs.declared.transfer.Filled.TheVariants as filled
+use Rattle.trau_io.specs.Lines.{LineState, Reads, Writes, OthersStay, Rose}
+use Rattle.trau_io.specs.Transfer.{ReadsBlock}
 use Rattle.trau_io.specs.Desks.{DeskState, DeskWrites}
 
 pub others_more : (a b c : ℕ → Side → LineState) (call : ℕ) (side : Side) → OthersStay a b call side → OthersStay b c call side → OthersStay a c call side
@@ -44,6 +47,45 @@ filled_more before mid now n k block piece so_far reads fits =
       written = reads.written ∙ so_far.written;
       faults = reads.cause.ok ∙ so_far.faults;
     }
+
+-- the block is full
+pub filled_all : (before now : LineState) (n : ℕ) (block : List ℕ) → Filled before now n block → length block ≤ n → ReadsBlock before now filled.Whole block
+filled_all before now n block so_far full = record {
+  given = subst (Consumes before.to_come now.to_come) (take_all n block full) so_far.consumed;
+  stopped = so_far.faults;
+  written = so_far.written;
+  later = omega (arith, so_far.faults);
+}
+
+module _ (before mid now : LineState) (n : ℕ) (block piece : List ℕ) (so_far : Filled before mid n block) (room : n < length block) (fits : length piece ≡ length block - n) where
+  long : length (put_mid n (length block - n) block piece) ≡ length block
+  long = length_filled n block piece so_far.bound fits
+
+  -- the line ended
+  pub filled_ended : (k : ℕ) → Reads mid now (Ok k) piece → k ≡ 0 → ReadsBlock before now (filled.Ended n) (put_mid n (length block - n) block piece)
+  filled_ended k reads none =
+      let more = filled_more before mid now n k block piece so_far reads fits in
+      let same : n + k ≡ n = omega arith in record {
+        given = subst (λ m. Consumes before.to_come now.to_come (take m (put_mid n (length block - n) block piece))) same more.consumed;
+        stopped = (omega (arith, long), reads.to_come.1 none (omega arith), more.faults);
+        written = more.written;
+        later = omega (arith, more.faults);
+      }
+
+  front_kept : take n (put_mid n (length block - n) block piece) ≡ take n block
+  front_kept =
+      let front : length (take n block) ≡ n = simp length-take (omega arith) in
+      let rest = piece ++ post_of n (length block - n) block in
+      subst (λ m. take m (take n block ++ rest) ≡ take n block) front (take-append_seam (take n block) rest)
+
+  -- it failed
+  pub filled_failed : (e : Failed) → Reads mid now (Err e) piece → ReadsBlock before now (filled.Failed n) (put_mid n (length block - n) block piece)
+  filled_failed e reads = record {
+    given = rw front_kept (Consumes-kept _ _ _ _ so_far.consumed reads.to_come);
+    stopped = (omega (arith, long), subst (λ f. Rose f now.faults) so_far.faults reads.cause.failed);
+    written = reads.written ∙ so_far.written;
+    later = omega (arith, so_far.faults, reads.cause.later);
+  }
 
 -- what successful writes have done so far: the first n octets stand
 pub record Sent (before now : LineState) (n : ℕ) (bytes : List ℕ) : Type 0 where

@@ -1,6 +1,6 @@
 use Rattle.std.proofs.Common.{ℕ, refl, sym, ◌∙◌, ◌+◌, subst, arith}
 use Rattle.trau_io.specs.declared.line.Side.TheVariants.{Up}
-use Rattle.frame_listing.proofs.Rounds.{SoFar, at_start, none_more, listed_one, read_failed, desk_failed, at_last}
+use Rattle.frame_listing.proofs.Rounds.{SoFar, at_start, none_more, listed_one, line_ended, read_failed, desk_failed, at_last}
 use Rattle.frame_listing.proofs.list.list_frames.Goals as goal
 use Rattle.frame_listing.proofs.list.list_frames.Goals.{in-Without, in-Listed}
 
@@ -9,6 +9,15 @@ loop-period-init g c = record {
   so_far = at_start c.new-sync.result _ _ (cc) c.new-sync.ensures.history;
   others = λ call side ne. refl;
 }
+
+pub list_period-requires-clause-fewer : goal.list_period-requires-clause-fewer
+list_period-requires-clause-fewer g c = omega (arith, c.loop-period.invariant.so_far.counted, c.loop-period-test.true)
+
+pub overflow_add-yields : goal.overflow_add-yields
+overflow_add-yields g c = omega (arith, c.loop-period.invariant.so_far.at_most, c.loop-period-test.true)
+
+pub returns-in-LineEnded-clause-lists : goal.returns-in-LineEnded-clause-lists
+returns-in-LineEnded-clause-lists g c = line_ended c.loop-period.sync c.list_period.new.sync _ _ _ _ _ _ _ _ c.loop-period.invariant.so_far c.in-LineEnded.left c.in-LineEnded.ensures.period
 
 pub returns-in-ReadFailed-clause-lists : goal.returns-in-ReadFailed-clause-lists
 returns-in-ReadFailed-clause-lists g c = read_failed c.loop-period.sync c.list_period.new.sync _ _ _ _ _ _ _ _ c.loop-period.invariant.so_far c.in-ReadFailed.ensures.period
