@@ -31,12 +31,11 @@ fn bare_command<'a>(alloc: Global, name: &'a str) -> Command<'a>
 // A command with an option for each of these names, in order.
 fn with_options<'a>(
     alloc: Global,
-    command: Command<'a>,
+    mut command: Command<'a>,
     names: &[&'a str],
 ) -> Result<Command<'a>, AllocError>
     ensures { IfOk result (λ c. app_of c ≡ fold (λ app name. run_option name.now app) (app_of command.entry) names.now) }
 {
-    let mut command = command;
     for name in names {
         command = command.arg(option(alloc, name))?;
     }
