@@ -1,8 +1,11 @@
--- The octets of a place, and tests of places.
-use Rattle.std.proofs.Common.{◌≡◌, ℕ, ◌*◌, ◌<◌, ◌≤◌, ◌==◌, ltb, true, false, length, arith}
+-- The octets of a place, octets that are written, and tests of places.
+use Rattle.std.proofs.Common.{◌≡◌, ◌∙◌, ℕ, ◌+◌, ◌-◌, ◌*◌, ◌<◌, ◌≤◌, ◌==◌, ltb, true, false, List, ◌++◌, length, take, drop, sym, ap, append_assoc, Vec, arith}
 use Rattle.std.proofs.lemmas.Bool.Decides.{nat_tests}
+use Rattle.std.proofs.lemmas.List.{drop-drop, with_items_is}
+use Rattle.std.specs.Vec.{with_items}
+use borrow.Rule.Slice.PartMut.{put_mid, mid_of, same_len_mid}
 use Rattle.call_pair.specs.Memory.{IoMemory, IsIo}
-use Rattle.call_pair.specs.Places.{up_at, pcm_at}
+use Rattle.call_pair.specs.Places.{up_at, pcm_at, written}
 use Rattle.call_pair.proofs.Lengths.{length-taken}
 
 pub length-up_at : (io : IoMemory) (k : ℕ) → IsIo io → k < io.given → length (up_at k io) ≡ 40
@@ -10,6 +13,21 @@ length-up_at io k h below = length-taken io.up 40 (40 * k) (omega (arith, h.room
 
 pub length-pcm_at : (io : IoMemory) (k : ℕ) → IsIo io → k < io.given → length (pcm_at k io) ≡ 160
 length-pcm_at io k h below = length-taken io.pcm 160 (160 * k) (omega (arith, h.room.pcm_room, h.room.enough))
+
+put_mid-written : (start k : ℕ) (buffer octets : List ℕ) → length octets ≡ k → put_mid start k buffer octets ≡ written buffer start octets
+put_mid-written start k buffer octets e =
+    let long : start + k ≡ start + length octets = omega arith in
+    sym (append_assoc (take start buffer) octets (drop k (drop start buffer))) ∙
+    ap (λ (ys : List ℕ). take start buffer ++ octets ++ ys) (drop-drop k start buffer ∙ ap (λ (m : ℕ). drop m buffer) long)
+
+-- a buffer whose n octets from `start` on are now these
+pub with_items-written : {Z : Type 0} (v : Vec ℕ Z) (start n : ℕ) (buffer part octets : List ℕ) → buffer ≡ v.items → length part ≡ length (mid_of start ((start + n) - start) buffer) →
+    part ≡ octets → length octets ≡ n → (with_items v (put_mid start ((start + n) - start) buffer part)).items ≡ written v.items start octets
+with_items-written v start n buffer part octets was same now long =
+    let k = (start + n) - start in
+    let fits = same_len_mid start k buffer part same in
+    with_items_is v (put_mid start k buffer part) (omega (arith, fits, ap length was, v.ok.0)) ∙ ap (put_mid start k buffer) now ∙
+    put_mid-written start k buffer octets (omega arith) ∙ ap (λ (xs : List ℕ). written xs start octets) was
 
 pub is_same : (m n : ℕ) → m ≡ n → (m == n) ≡ true
 is_same m n e = grind (arith, nat_tests)

@@ -5,6 +5,7 @@ ghost use Rattle.call_pair.specs.Memory.{places_left};
 ghost use Rattle.call_pair.specs.Turn.{turned, pair_turned};
 ghost use Rattle.call_pair.specs.Places.{has_place};
 ghost use Rattle.call_pair.specs.Jobs.{job_left, has_call, half_of, half_with, with_io};
+ghost use Rattle.call_pair.specs.declared.job.Job.TheVariants.{Two};
 
 use crate::half::Half;
 use crate::io::LegIo;
@@ -28,6 +29,18 @@ impl Half {
         ensures io { result ≡ self.old.io }
     {
         mem::replace(&mut self.io, io)
+    }
+}
+
+// The next place of each of two halves that has one left.
+fn turn_pair(a: &mut Half, b: &mut Half)
+    ensures { Two a.new b.new ≡ pair_turned a.old b.old (has_place a.old.io) (has_place b.old.io) }
+{
+    match (a.io.has_place(), b.io.has_place()) {
+        (true, true) => work_bridged(a, b),
+        (true, false) => a.work_left_alone(b.io.given),
+        (false, true) => b.work_left_alone(a.io.given),
+        (false, false) => {}
     }
 }
 
@@ -62,12 +75,7 @@ impl Job {
                     half.work_alone();
                 }
             }
-            Job::Two(a, b) => match (a.io.has_place(), b.io.has_place()) {
-                (true, true) => work_bridged(a, b),
-                (true, false) => a.work_left_alone(b.io.given),
-                (false, true) => b.work_left_alone(a.io.given),
-                (false, false) => {}
-            },
+            Job::Two(a, b) => turn_pair(a, b),
         }
     }
 

@@ -1,6 +1,6 @@
 // The lines of a report, each written at the end of a text. A text is of no use where memory ran out.
 ghost use Rattle.std.specs.Prelude.{◌≡◌, ◌++◌, ◌∷◌, [], codes, decimal, OnOk, string_bytes};
-ghost use Rattle.farm_report.specs.Lines.{line_of, side_word, reply_line, span_line, end_line, counts_line, failed_line, last_line, last_end};
+ghost use Rattle.farm_report.specs.Lines.{line_of, side_word, reply_line, span_line, cause_words, end_line, counts_line, failed_line, last_line, last_end};
 
 use crate::{CallLine, SpanLine};
 use std::alloc::AllocError;
@@ -83,20 +83,23 @@ pub(crate) fn put_span(text: &mut String, line: &SpanLine) -> Result<(), AllocEr
 pub(crate) fn put_end(text: &mut String, line: &CallLine) -> Result<(), AllocError>
     ensures { OnOk result (string_bytes text.new ≡ string_bytes text.old ++ end_line line.now) }
 {
-    let call = line.end.call;
-    let from = line.from;
-    let to = line.end.at;
-    match line.end.cause {
-        Cause::Closed => write!(text, "call {call} from {from} to {to} closed\n"),
-        Cause::End { side, left } => {
-            let side = side_word(side);
-            write!(text, "call {call} from {from} to {to} end {side} {left}\n")
-        }
-        Cause::Fault { side } => {
-            let side = side_word(side);
-            write!(text, "call {call} from {from} to {to} fault {side}\n")
-        }
-        Cause::Limit => write!(text, "call {call} from {from} to {to} limit\n"),
+    write!(
+        text,
+        "call {} from {} to {} ",
+        line.end.call, line.from, line.end.at
+    )?;
+    put_cause(text, line.end.cause)
+}
+
+// The words that a call's line ends with.
+fn put_cause(text: &mut String, cause: Cause) -> Result<(), AllocError>
+    ensures { OnOk result (string_bytes text.new ≡ string_bytes text.old ++ line_of (cause_words cause)) }
+{
+    match cause {
+        Cause::Closed => text.push_str("closed\n"),
+        Cause::End { side, left } => write!(text, "end {} {left}\n", side_word(side)),
+        Cause::Fault { side } => write!(text, "fault {}\n", side_word(side)),
+        Cause::Limit => text.push_str("limit\n"),
     }
 }
 

@@ -1,5 +1,5 @@
 // The options of `run`.
-ghost use Rattle.std.specs.Prelude.{◌≡◌, ℕ, false, IfOk, IfSome, IsNone, IsErrOf, map, codes, string_bytes};
+ghost use Rattle.std.specs.Prelude.{◌≡◌, ℕ, false, IfOk, IfSome, IsNone, IsErrOf, fold, map, codes, string_bytes};
 ghost use Rattle.clap.specs.Words.{app_of, rule_of, with_rule, first_value, found_of};
 ghost use Rattle.farm_words.specs.declared.asked.Settings.{Settings as TheSettings};
 ghost use Rattle.farm_words.specs.Run.{bare_app, run_app, run_option, option_rule, IsValueOf, GivesSettings, AreOptions};
@@ -28,34 +28,28 @@ fn bare_command<'a>(alloc: Global, name: &'a str) -> Command<'a>
         .disable_version_flag(true)
 }
 
-fn with_option<'a>(
+// A command with an option for each of these names, in order.
+fn with_options<'a>(
     alloc: Global,
-    command: Command<'a>,
-    name: &'a str,
+    mut command: Command<'a>,
+    names: &[&'a str],
 ) -> Result<Command<'a>, AllocError>
-    ensures { IfOk result (λ c. app_of c ≡ run_option name.entry.now (app_of command.entry)) }
+    ensures { IfOk result (λ c. app_of c ≡ fold (λ app name. run_option name.now app) (app_of command.entry) names.now) }
 {
-    command.arg(option(alloc, name))
-}
-
-fn with_two_options<'a>(
-    alloc: Global,
-    command: Command<'a>,
-    first: &'a str,
-    second: &'a str,
-) -> Result<Command<'a>, AllocError>
-    ensures { IfOk result (λ c. app_of c ≡ run_option second.entry.now (run_option first.entry.now (app_of command.entry))) }
-{
-    let command = with_option(alloc, command, first)?;
-    with_option(alloc, command, second)
+    for name in names {
+        command = command.arg(option(alloc, name))?;
+    }
+    Ok(command)
 }
 
 fn run_command<'a>(alloc: Global) -> Result<Command<'a>, AllocError>
     ensures { IfOk result (λ c. app_of c ≡ run_app) }
 {
-    let command = bare_command(alloc, "run");
-    let command = with_two_options(alloc, command, "workers", "batch")?;
-    with_two_options(alloc, command, "slice", "periods")
+    with_options(
+        alloc,
+        bare_command(alloc, "run"),
+        &["workers", "batch", "slice", "periods"],
+    )
 }
 
 // The value of an option, or its default where it isn't given.

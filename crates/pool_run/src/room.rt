@@ -68,15 +68,14 @@ fn new_member<W: Work>(
 ) -> Result<(Member<W>, Thief<W>), AllocError>
     ensures { IfOk result (λ r. IsNew most r.0 r.1) }
 {
+    let done = Vec::with_capacity(alloc, most)?;
     let own: Owner<W> = new_owner(alloc, most)?;
     let thief = own.stealer()?;
-    let passes = Vec::new(alloc);
-    let done = Vec::with_capacity(alloc, most)?;
     Ok((
         Member {
             me,
             own,
-            passes,
+            passes: Vec::new(alloc),
             done,
         },
         thief,
@@ -98,8 +97,8 @@ fn new_members<W: Work>(
     let mut thieves: Vec<Thief<W>> = Vec::with_capacity(alloc, workers)?;
     for me in 0..workers {
         let (member, thief) = new_member(alloc, me, most)?;
-        members.push(member)?;
-        thieves.push(thief)?;
+        members.push_reserved(member);
+        thieves.push_reserved(thief);
     }
     Ok((members, thieves))
 }
@@ -134,7 +133,7 @@ fn row_of<W: Work>(
     let mut row = Vec::with_capacity(alloc, members.len())?;
     for k in 0..members.len() {
         let pass = cut_at(thieves, members, k);
-        row.push(pass)?;
+        row.push_reserved(pass);
     }
     Ok(row)
 }

@@ -40,7 +40,7 @@ impl<'a, R: Files> FileTrunk<'a, R> {
     {
         let mut lines = Vec::with_capacity(alloc, PLACES)?;
         for _ in 0..PLACES {
-            lines.push(LineFile::new())?;
+            lines.push_reserved(LineFile::new());
         }
         let files = LineFiles::new(files);
         Ok(FileTrunk { files, lines })

@@ -101,18 +101,21 @@ fn taken<F: Drop>(kept: &mut Option<OpenFile<F>>, line: Line, at: u64) -> Option
 }
 
 fn open_to_read<R: Files>(files: &R, line: Line, at: u64) -> io::Result<R::File> {
-    let name = name_of(line);
-    let mut file = OpenOptions::new().read(true).open(files, name.as_str())?;
-    file.seek(SeekFrom::Start(at))?;
-    Ok(file)
+    let mut how = OpenOptions::new();
+    how.read(true);
+    open_at(files, &how, line, at)
 }
 
 // Where nothing has been written yet, an older file of this name is emptied or a new one is made.
 fn open_to_write<R: Files>(files: &R, line: Line, at: u64) -> io::Result<R::File> {
-    let name = name_of(line);
     let is_first = at == 0;
     let mut how = OpenOptions::new();
     how.write(true).create(is_first).truncate(is_first);
+    open_at(files, &how, line, at)
+}
+
+fn open_at<R: Files>(files: &R, how: &OpenOptions, line: Line, at: u64) -> io::Result<R::File> {
+    let name = name_of(line);
     let mut file = how.open(files, name.as_str())?;
     file.seek(SeekFrom::Start(at))?;
     Ok(file)

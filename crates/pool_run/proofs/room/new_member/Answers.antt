@@ -9,7 +9,7 @@ returns g c =
       fifo = own.0;
       thief_fifo = thief.1 ∙ own.0;
       view = own.1;
-      passes = c.new-passes.ensures.items;
+      passes = c.new.ensures.items;
       done = c.in_ok-done.ensures.items;
       left = (own.2, own.3);
     }

@@ -9,6 +9,7 @@ loop-k-init g c = record {
   unused = c.requires.unused;
   row = subst (IsRow c.args.thieves.now) (sym c.in_ok-row.ensures.items) (no_row g.W.Work.finish c.args.thieves.now);
   len = c.in_ok-row.ensures.len;
+  capacity = omega (arith, c.in_ok-row.ensures.capacity);
   rows = λ i. refl;
   room = λ most left. left;
 }
@@ -16,21 +17,22 @@ loop-k-init g c = record {
 pub cut_at-pass-requires-clause-unused : goal.cut_at-pass-requires-clause-unused
 cut_at-pass-requires-clause-unused g c = c.loop-k.invariant.unused
 
+pub push_reserved-requires : goal.push_reserved-requires
+push_reserved-requires g c = let old = c.loop-k.invariant in omega (arith, old.len, old.capacity)
+
 pub loop-k-preserved : goal.loop-k-preserved
 loop-k-preserved g c =
     let old = c.loop-k.invariant in
     let thieves = c.args.thieves.now in
     let len : length c.loop-k.row.items ≡ c.loop-k.k = omega (arith, old.len, c.loop-k.row.ok.0) in record {
       unused = c.cut_at-pass.ensures.unused;
-      row = subst (IsRow thieves) (sym c.in_ok-push.ensures.items)
+      row = subst (IsRow thieves) (sym c.push_reserved.ensures.items)
           (row_more g.W.Work.finish thieves c.loop-k.row.items c.cut_at-pass.result old.row (λ t. subst (λ (n : ℕ). IsPassFor (get_or thieves n t) c.cut_at-pass.result) (sym len) (c.cut_at-pass.ensures.pass t)) c.cut_at-pass.ensures.obtained);
-      len = omega (arith, old.len, c.in_ok-push.ensures.len);
+      len = omega (arith, old.len, c.push_reserved.ensures.len);
+      capacity = omega (arith, old.capacity, c.push_reserved.ensures.capacity);
       rows = λ i. c.cut_at-pass.ensures.rows i ∙ old.rows i;
       room = λ most left. c.cut_at-pass.ensures.room most (old.room most left);
     }
-
-pub returns-in_err-push-clause-rows : goal.returns-in_err-push-clause-rows
-returns-in_err-push-clause-rows g c = λ i. c.cut_at-pass.ensures.rows i ∙ c.loop-k.invariant.rows i
 
 pub returns : goal.returns
 returns g c =

@@ -1,10 +1,14 @@
-use Rattle.std.proofs.Common.{◌≡◌, ◌+◌, ◌∙◌, ap}
+use Rattle.std.proofs.Common.{◌≡◌, ◌+◌, ◌∙◌, ap, arith}
 use Rattle.std.proofs.lemmas.List.Elements.{All-push}
 use Rattle.trau_files.specs.Files.{FileLine}
 use Rattle.trau_files.proofs.trunk.FileTrunk.new.Goals as goal
 
+pub push_reserved-requires : goal.push_reserved-requires
+push_reserved-requires g c = let old = c.loop.invariant in omega (arith, old.size, old.capacity)
+
 pub loop-preserved : goal.loop-preserved
 loop-preserved g c = record {
-  size = c.in_ok-push.ensures.len ∙ ap (λ n. n + 1) c.loop.invariant.size;
-  each = rw c.in_ok-push.ensures.items (All-push (λ (l : FileLine). l ≡ record { read = 0; written = 0; faults = 0 }) _ _ c.loop.invariant.each c.new.ensures);
+  size = c.push_reserved.ensures.len ∙ ap (λ n. n + 1) c.loop.invariant.size;
+  capacity = omega (arith, c.push_reserved.ensures.capacity, c.loop.invariant.capacity);
+  each = rw c.push_reserved.ensures.items (All-push (λ (l : FileLine). l ≡ record { read = 0; written = 0; faults = 0 }) _ _ c.loop.invariant.each c.new.ensures);
 }
