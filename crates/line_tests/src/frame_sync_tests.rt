@@ -20,9 +20,10 @@ static BROKEN: [u8; 40] = [
 fn late(before: u8) -> [u8; 40] {
     let mut octets = [0; 40];
     let mut last = before;
-    for (octet, next) in octets.iter_mut().zip(GOOD.iter()) {
-        *octet = last << 3 | *next >> 5;
-        last = *next;
+    for k in 0..40 {
+        let next = GOOD[k];
+        octets[k] = last << 3 | next >> 5;
+        last = next;
     }
     octets
 }

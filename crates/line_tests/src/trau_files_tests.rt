@@ -50,7 +50,10 @@ fn is_next(trunk: &mut FileTrunk<'_, HostRuntime>, line: Line, octet: u8) -> boo
 
 // Whether a file holds these octets.
 fn holds(rt: &HostRuntime, name: &str, octets: &[u8]) -> bool {
-    fs::read(rt, name).is_ok_and(|found| found.as_slice() == octets)
+    match fs::read(rt, name) {
+        Ok(found) => found.as_slice() == octets,
+        Err(_) => false,
+    }
 }
 
 // Whether a line takes octets at once.

@@ -1,5 +1,4 @@
 use std::alloc::{AllocError, Global};
-use std::test::Fail;
 use trau_orders::{DtxMode, Order, OrderFault, Orders, What};
 
 // Whole runs' orders, recorded with the answers of a separate program.
@@ -108,16 +107,15 @@ fn opens(alloc: Global, lines: u32) -> Result<Vec<u8>, AllocError> {
     Ok(opens)
 }
 
-// How many orders these are.
-fn opened(alloc: Global, lines: u32) -> Result<usize, Fail> {
+// Whether these are so many orders.
+fn are_opened(alloc: Global, lines: u32) -> Result<bool, AllocError> {
     let text = opens(alloc, lines)?;
-    Ok(count(alloc, &text)?)
+    Ok(count(alloc, &text) == Ok(lines as usize))
 }
 
 #[test]
-fn the_most_lines_are_orders(rt: HostRuntime) -> Result<(), Fail> {
-    assert_eq!(rt; opened(rt.alloc(), 65_536)?, 65_536);
-    Ok(())
+fn the_most_lines_are_orders(rt: HostRuntime) {
+    assert!(rt; are_opened(rt.alloc(), 65_536) == Ok(true));
 }
 
 static LINES: &[u8] =
@@ -125,12 +123,16 @@ static LINES: &[u8] =
 
 // Whether these are the orders.
 fn are(orders: &[Order], wanted: &[(u32, What)]) -> bool {
-    for (order, (stamp, what)) in orders.iter().zip(wanted) {
-        if order.stamp != *stamp || order.what != *what {
+    if orders.len() != wanted.len() {
+        return false;
+    }
+    for k in 0..wanted.len() {
+        let (stamp, what) = wanted[k];
+        if orders[k].stamp != stamp || orders[k].what != what {
             return false;
         }
     }
-    orders.len() == wanted.len()
+    true
 }
 
 // Whether a text spells them.
