@@ -1,9 +1,10 @@
-ghost use Rattle.std.specs.Prelude.{◌≡◌, ◌<◌, ◌≤◌, ◌+◌, ◌≤ℤ◌, pos, IfOk};
+ghost use Rattle.std.specs.Prelude.{◌≡◌, ◌<◌, ◌+◌, ◌≤ℤ◌, pos, IfOk};
+ghost use Rattle.call_pair.specs.Memory.{IsCall};
 
 use call_leg::Leg;
 use std::alloc::{AllocError, Global};
 use std::test::Fail;
-use std::thread::join_mut;
+use std::thread::{Threads, join_mut};
 use trau_io::Counts;
 use trau_orders::DtxMode;
 
@@ -24,8 +25,7 @@ fn up(field: u8, d: u8) -> [u8; 40] {
 }
 
 fn new_leg(alloc: Global, call: u32) -> Result<Leg, AllocError>
-    requires low { 1 ≤ call }
-    requires high { call ≤ 4096 }
+    requires { IsCall call }
     ensures { IfOk result (λ l. l.search.periods ≡ 0) }
 {
     Leg::new(alloc, call)
@@ -48,7 +48,8 @@ fn period_of(leg: &mut Leg, up: &[u8; 40], octet: u8) -> ([u8; 160], [u8; 40])
     requires { leg.old.search.periods < 100 }
     ensures { leg.new.search.periods ≡ leg.old.search.periods + 1 }
 {
-    let (mut out, mut down) = ([0; 160], [0; 40]);
+    let mut out = [0; 160];
+    let mut down = [0; 40];
     leg.period(up, &[octet; 160], &mut out, &mut down);
     (out, down)
 }
@@ -87,29 +88,88 @@ fn counted_alone(leg: &Leg, periods: u32) -> bool {
     leg.counts() == counts
 }
 
+static ONES: [u8; 40] = [0xFF; 40];
+
+// An idle frame.
+fn idle() -> [u8; 40] {
+    let mut octets = ONES;
+    octets[0] = 0x00;
+    octets[1] = 0x00;
+    octets[2] = 0xB8;
+    octets[3] = 0x0F;
+    octets
+}
+
+// Whether three such periods give 320 ones and two idle frames.
+fn three_are_quiet(leg: &mut Leg) -> bool
+    requires { leg.old.search.periods < 50 }
+{
+    let idle = idle();
+    is_quiet(leg, &ONES) && is_quiet(leg, &idle) && is_quiet(leg, &idle)
+}
+
 // Nothing is found on the uplink: the exchange hears silence, and the base station gets idle frames after 320 ones.
 #[test]
 fn without_frames_the_call_is_quiet(rt: HostRuntime) -> Result<(), Fail> {
-    let mut idle = [0xFF; 40];
-    idle[0] = 0x00;
-    idle[1] = 0x00;
-    idle[2] = 0xB8;
-    idle[3] = 0x0F;
     let mut leg = new_leg(rt.alloc(), 1)?;
-    assert!(rt; is_quiet(&mut leg, &[0xFF; 40]));
-    assert!(rt; is_quiet(&mut leg, &idle));
-    assert!(rt; is_quiet(&mut leg, &idle));
-    assert!(rt; counted_alone(&leg, 3));
+    assert!(rt; three_are_quiet(&mut leg) && counted_alone(&leg, 3));
     Ok(())
 }
 
-// Works a period of good speech with this alignment field: whether its Down line begins and ends with these octets.
-fn sends(leg: &mut Leg, field: u8, begin: &[u8], end: &[u8]) -> bool
+// The alignment field of a period of good speech, and what its Down line begins and ends with.
+struct Shift {
+    field: u8,
+    begin: &'static [u8],
+    end: &'static [u8],
+}
+
+static SHIFTS: [Shift; 5] = [
+    Shift {
+        field: 39,
+        begin: &[0xFF; 40],
+        end: &[],
+    },
+    Shift {
+        field: 0,
+        begin: &[0x00, 0x00, 0xF0, 0x0F],
+        end: &[],
+    },
+    Shift {
+        field: 63,
+        begin: &[0xFF],
+        end: &[0xFF, 0xFF, 0x00],
+    },
+    Shift {
+        field: 40,
+        begin: &[0x00, 0xF0, 0x0F],
+        end: &[0x00],
+    },
+    Shift {
+        field: 0,
+        begin: &[0x0F, 0x00],
+        end: &[],
+    },
+];
+
+// Works such a period: whether its Down line is so.
+fn sends(leg: &mut Leg, shift: &Shift) -> bool
     requires { leg.old.search.periods < 100 }
     ensures { leg.new.search.periods ≡ leg.old.search.periods + 1 }
 {
-    let down = period(leg, &up(field, 9)).1;
-    down.starts_with(begin) && down.ends_with(end)
+    let down = period(leg, &up(shift.field, 9)).1;
+    down.starts_with(shift.begin) && down.ends_with(shift.end)
+}
+
+// The same of all five.
+fn sends_all(leg: &mut Leg) -> bool
+    requires { leg.old.search.periods ≡ 0 }
+{
+    for k in 0..5 {
+        if !sends(leg, &SHIFTS[k]) {
+            return false;
+        }
+    }
+    true
 }
 
 // The frames made, and the good ones heard.
@@ -122,12 +182,7 @@ fn made_and_good(leg: &Leg) -> (u64, u64) {
 #[test]
 fn shifts_move_the_frames(rt: HostRuntime) -> Result<(), Fail> {
     let mut leg = new_leg(rt.alloc(), 7)?;
-    assert!(rt; sends(&mut leg, 39, &[0xFF; 40], &[]));
-    assert!(rt; sends(&mut leg, 0, &[0x00, 0x00, 0xF0, 0x0F], &[]));
-    assert!(rt; sends(&mut leg, 63, &[0xFF], &[0xFF, 0xFF, 0x00]));
-    assert!(rt; sends(&mut leg, 40, &[0x00, 0xF0, 0x0F], &[0x00]));
-    assert!(rt; sends(&mut leg, 0, &[0x0F, 0x00], &[]));
-    assert!(rt; made_and_good(&leg) == (4, 5));
+    assert!(rt; sends_all(&mut leg) && made_and_good(&leg) == (4, 5));
     Ok(())
 }
 
@@ -231,13 +286,15 @@ fn drains_two(leg: &mut Leg) -> bool
     two && has_sent(leg, 6) && !drains(leg)
 }
 
-// The legs of the calls 7 and 9.
-fn two_legs(alloc: Global) -> Result<(Leg, Leg), AllocError>
+// The legs of two calls.
+fn two_legs(alloc: Global, first: u32, second: u32) -> Result<(Leg, Leg), AllocError>
+    requires first { IsCall first }
+    requires second { IsCall second }
     ensures first { IfOk result (λ legs. legs.0.search.periods ≡ 0) }
     ensures second { IfOk result (λ legs. legs.1.search.periods ≡ 0) }
 {
-    let a = new_leg(alloc, 7)?;
-    let b = new_leg(alloc, 9)?;
+    let a = new_leg(alloc, first)?;
+    let b = new_leg(alloc, second)?;
     Ok((a, b))
 }
 
@@ -250,14 +307,20 @@ fn second_goes_on(a: &mut Leg, b: &mut Leg) -> bool
     sent && !drains(a) && drains(b)
 }
 
+// All three of two new legs.
+fn frames_go_out_in_order(a: &mut Leg, b: &mut Leg) -> bool
+    requires first { a.old.search.periods ≡ 0 }
+    requires second { b.old.search.periods ≡ 0 }
+{
+    go_on_to_a_bridge(a, b) && second_goes_on(a, b) && drains_two(b)
+}
+
 // Legs are bridged from period 4 to 10, and octets of the second are to be skipped at the start: the frames of the first
 // go out one period late, the last of them after the end.
 #[test]
 fn handed_frames_go_out_in_order(rt: HostRuntime) -> Result<(), Fail> {
-    let (mut a, mut b) = two_legs(rt.alloc())?;
-    assert!(rt; go_on_to_a_bridge(&mut a, &mut b));
-    assert!(rt; second_goes_on(&mut a, &mut b));
-    assert!(rt; drains_two(&mut b));
+    let (mut a, mut b) = two_legs(rt.alloc(), 7, 9)?;
+    assert!(rt; frames_go_out_in_order(&mut a, &mut b));
     Ok(())
 }
 
@@ -298,13 +361,21 @@ fn hands_one(a: &mut Leg, b: &mut Leg, d: u8) -> bool
     after_bridge(a, b) == d && one
 }
 
+// The same of two bridges, with a period alone between them.
+fn hands_one_each(a: &mut Leg, b: &mut Leg) -> bool
+    requires first { a.old.search.periods ≡ 0 }
+    requires second { b.old.search.periods ≡ 0 }
+{
+    let first = hands_one(a, b, 1);
+    after_bridge(a, b);
+    first && hands_one(a, b, 4)
+}
+
 // A bridge of one period hands over one frame, and so does the next one, two periods later.
 #[test]
 fn bridges_of_one_period(rt: HostRuntime) -> Result<(), Fail> {
-    let (mut a, mut b) = two_legs(rt.alloc())?;
-    assert!(rt; hands_one(&mut a, &mut b, 1));
-    after_bridge(&mut a, &mut b);
-    assert!(rt; hands_one(&mut a, &mut b, 4));
+    let (mut a, mut b) = two_legs(rt.alloc(), 7, 9)?;
+    assert!(rt; hands_one_each(&mut a, &mut b));
     Ok(())
 }
 
@@ -316,17 +387,32 @@ fn spoken(leg: &mut Leg) -> ([u8; 160], [u8; 40])
     period_of(leg, &up(0, 9), 0x2A)
 }
 
+// Works two of them: the Out octets of the first, and the Down octets of both.
+fn two_spoken(leg: &mut Leg) -> ([u8; 160], [u8; 40], [u8; 40])
+    requires { leg.old.search.periods < 50 }
+    ensures { leg.new.search.periods ≡ leg.old.search.periods + 2 }
+{
+    let (out, first) = spoken(leg);
+    let second = spoken(leg).1;
+    (out, first, second)
+}
+
+// Works two periods, a bridge without any, and two more: whether what was heard and sent first comes again.
+fn goes_home(leg: &mut Leg) -> bool
+    requires { leg.old.search.periods ≡ 0 }
+{
+    let (home, _, first) = two_spoken(leg);
+    begin_bridge(leg);
+    end_bridge(leg);
+    let (again, second, third) = two_spoken(leg);
+    again == home && third == first && second != first
+}
+
 // After a bridge without any period the codecs are at home: the next frame is a first one.
 #[test]
 fn a_bridge_without_periods_goes_home(rt: HostRuntime) -> Result<(), Fail> {
     let mut leg = new_leg(rt.alloc(), 5)?;
-    let home = spoken(&mut leg).0;
-    let first = spoken(&mut leg).1;
-    begin_bridge(&mut leg);
-    end_bridge(&mut leg);
-    let (again, second) = spoken(&mut leg);
-    let third = spoken(&mut leg).1;
-    assert!(rt; again == home && third == first && second != first);
+    assert!(rt; goes_home(&mut leg));
     Ok(())
 }
 
@@ -356,34 +442,61 @@ fn two_periods(leg: &mut Leg)
     is_speech(leg);
 }
 
+// Works five periods below the level and two at level 0: whether of the last three the middle one alone has SP 0.
+fn one_is_silence(leg: &mut Leg) -> bool
+    requires { leg.old.search.periods ≡ 0 }
+{
+    with_level(leg, 32767);
+    two_periods(leg);
+    two_periods(leg);
+    let fifth = is_speech(leg);
+    with_level(leg, 0);
+    fifth && !is_speech(leg) && is_speech(leg)
+}
+
 // Where DTX is on and each peak lies below the level, the fifth frame is the first one with SP 0; at level 0 no frame
 // is silence.
 #[test]
 fn silence_by_level(rt: HostRuntime) -> Result<(), Fail> {
     let mut leg = new_leg(rt.alloc(), 3)?;
-    with_level(&mut leg, 32767);
-    two_periods(&mut leg);
-    two_periods(&mut leg);
-    assert!(rt; is_speech(&mut leg));
-    with_level(&mut leg, 0);
-    assert!(rt; !is_speech(&mut leg));
-    assert!(rt; is_speech(&mut leg));
+    assert!(rt; one_is_silence(&mut leg));
     Ok(())
+}
+
+// Works a period of both legs: whether their octets are the same.
+fn are_alike(a: &mut Leg, b: &mut Leg, d: u8) -> bool
+    requires first { a.old.search.periods < 100 }
+    requires second { b.old.search.periods < 100 }
+    ensures first { a.new.search.periods ≡ a.old.search.periods + 1 }
+    ensures second { b.new.search.periods ≡ b.old.search.periods + 1 }
+{
+    period(a, &up(0, d)) == period(b, &up(0, d))
+}
+
+// The same, where the first leg is in another thread.
+fn are_alike_in_threads(rt: &impl Threads, a: &mut Leg, b: &mut Leg) -> bool
+    requires first { a.old.search.periods < 100 }
+    requires second { b.old.search.periods < 100 }
+    ensures first { a.new.search.periods ≡ a.old.search.periods + 1 }
+    ensures second { b.new.search.periods ≡ b.old.search.periods + 1 }
+{
+    let up = up(0, 4);
+    let (one, other) = join_mut(rt, &mut || period(a, &up), &mut || period(b, &up));
+    one == other
+}
+
+// The same of a period before the threads, in them, and after them.
+fn stay_alike(rt: &impl Threads, a: &mut Leg, b: &mut Leg) -> bool
+    requires first { a.old.search.periods ≡ 0 }
+    requires second { b.old.search.periods ≡ 0 }
+{
+    are_alike(a, b, 3) && are_alike_in_threads(rt, a, b) && are_alike(a, b, 5)
 }
 
 // Legs that go on in other threads are the same as ever.
 #[test]
 fn legs_go_to_other_threads(rt: HostRuntime) -> Result<(), Fail> {
-    let mut a = new_leg(rt.alloc(), 1)?;
-    let mut b = new_leg(rt.alloc(), 1)?;
-    period(&mut a, &up(0, 3));
-    period(&mut b, &up(0, 3));
-    let (one, other) = join_mut(
-        &rt,
-        &mut || period(&mut a, &up(0, 4)),
-        &mut || period(&mut b, &up(0, 4)),
-    );
-    assert!(rt; one == other);
-    assert!(rt; period(&mut a, &up(0, 5)) == period(&mut b, &up(0, 5)));
+    let (mut a, mut b) = two_legs(rt.alloc(), 1, 1)?;
+    assert!(rt; stay_alike(&rt, &mut a, &mut b));
     Ok(())
 }

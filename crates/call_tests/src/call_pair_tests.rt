@@ -30,6 +30,13 @@ struct Lines {
     down: [u8; 160],
 }
 
+// Puts the frame of period k on Up.
+fn put_frame(line: &mut [u8; 160], k: usize, d: u8)
+    requires { k < 4 }
+{
+    line[40 * k..40 * k + 40].copy_from_slice(&up(d));
+}
+
 // Good speech with these octets on Up, and a click on Pcm.
 fn lines_with(ds: [u8; 4]) -> Lines {
     let mut lines = Lines {
@@ -38,19 +45,25 @@ fn lines_with(ds: [u8; 4]) -> Lines {
         out: [1; 640],
         down: [2; 160],
     };
-    lines.up[..40].copy_from_slice(&up(ds[0]));
-    lines.up[40..80].copy_from_slice(&up(ds[1]));
-    lines.up[80..120].copy_from_slice(&up(ds[2]));
-    lines.up[120..].copy_from_slice(&up(ds[3]));
+    for k in 0..4 {
+        put_frame(&mut lines.up, k, ds[k]);
+    }
     lines.pcm[200] = ds[0];
     lines
 }
 
-// A new call with so many of these periods.
-fn half(alloc: Global, call: u32, lines: &Lines, given: u32) -> Result<Half, AllocError>
+fn new_leg(alloc: Global, call: u32) -> Result<Leg, AllocError>
+    requires { IsCall call }
+    ensures { IfOk result (λ l. l.search.periods ≡ 0) }
+{
+    Leg::new(alloc, call)
+}
+
+// Memory for the lines of a call, with so many of these periods.
+fn io_of(alloc: Global, call: u32, lines: &Lines, given: u32) -> Result<LegIo, AllocError>
     requires call { IsCall call }
     requires given { given ≤ 4 }
-    ensures { IfOk result (λ h. (h.io.call ≡ call) × (h.leg.search.periods ≡ 0)) }
+    ensures { IfOk result (λ io. io.call ≡ call) }
 {
     let buffers = Buffers {
         up: Vec::from_array(alloc, lines.up)?,
@@ -58,8 +71,17 @@ fn half(alloc: Global, call: u32, lines: &Lines, given: u32) -> Result<Half, All
         out: Vec::from_array(alloc, lines.out)?,
         down: Vec::from_array(alloc, lines.down)?,
     };
-    let leg = Leg::new(alloc, call)?;
-    let io = LegIo::new(call, buffers, given);
+    Ok(LegIo::new(call, buffers, given))
+}
+
+// A new call with them.
+fn half(alloc: Global, call: u32, lines: &Lines, given: u32) -> Result<Half, AllocError>
+    requires call { IsCall call }
+    requires given { given ≤ 4 }
+    ensures { IfOk result (λ h. (h.io.call ≡ call) × (h.leg.search.periods ≡ 0)) }
+{
+    let io = io_of(alloc, call, lines, given)?;
+    let leg = new_leg(alloc, call)?;
     Ok(Half { leg, io })
 }
 
@@ -152,19 +174,12 @@ fn finished_between(job: &mut Job, early: u32, late: u32) -> bool
     !finished_after(job, early) && finished_after(job, late)
 }
 
-fn new_leg(alloc: Global, call: u32) -> Result<Leg, AllocError>
-    requires { IsCall call }
-    ensures { IfOk result (λ l. l.search.periods ≡ 0) }
-{
-    Leg::new(alloc, call)
-}
-
 // Works three periods of call 7 by the leg's own calls.
 fn work_three(alloc: Global, lines: &mut Lines) -> Result<(), AllocError> {
     let mut leg = new_leg(alloc, 7)?;
-    alone(&mut leg, lines, 0);
-    alone(&mut leg, lines, 1);
-    alone(&mut leg, lines, 2);
+    for k in 0..3 {
+        alone(&mut leg, lines, k);
+    }
     Ok(())
 }
 
@@ -176,24 +191,48 @@ fn three_of_four(alloc: Global, given: &Lines, want: &Lines) -> Result<bool, All
     Ok(worked)
 }
 
+// Whether it ends with those that the leg's own calls give.
+fn has_its_octets(alloc: Global) -> Result<bool, AllocError> {
+    let given = lines_with([3, 5, 8, 13]);
+    let mut want = lines_with([3, 5, 8, 13]);
+    work_three(alloc, &mut want)?;
+    three_of_four(alloc, &given, &want)
+}
+
 // Three of four periods of one call.
 #[test]
 fn one_call_has_its_octets(rt: HostRuntime) -> Result<(), Fail> {
-    let given = lines_with([3, 5, 8, 13]);
-    let mut want = lines_with([3, 5, 8, 13]);
-    work_three(rt.alloc(), &mut want)?;
-    assert!(rt; three_of_four(rt.alloc(), &given, &want)?);
+    assert!(rt; has_its_octets(rt.alloc())?);
     Ok(())
 }
 
-// A new leg that is bridged.
-fn bridged_leg(alloc: Global, call: u32) -> Result<Leg, AllocError>
-    requires { IsCall call }
-    ensures { IfOk result (λ l. l.search.periods ≡ 0) }
+// New legs of the calls 7 and 9.
+fn two_legs(alloc: Global) -> Result<(Leg, Leg), AllocError>
+    ensures first { IfOk result (λ legs. legs.0.search.periods ≡ 0) }
+    ensures second { IfOk result (λ legs. legs.1.search.periods ≡ 0) }
 {
-    let mut leg = new_leg(alloc, call)?;
-    leg.bridge_on();
-    Ok(leg)
+    let a = new_leg(alloc, 7)?;
+    let b = new_leg(alloc, 9)?;
+    Ok((a, b))
+}
+
+// Begins a bridge of two legs.
+fn begin_bridge(a: &mut Leg, b: &mut Leg)
+    ensures first { a.new.search.periods ≡ a.old.search.periods }
+    ensures second { b.new.search.periods ≡ b.old.search.periods }
+{
+    a.bridge_on();
+    b.bridge_on();
+}
+
+// Works the periods 0 and 1 of two legs that are bridged.
+fn work_two_bridged(a: &mut Leg, first: &mut Lines, b: &mut Leg, second: &mut Lines)
+    requires first { a.old.search.periods < 50 }
+    requires second { b.old.search.periods < 50 }
+    ensures { a.new.search.periods ≡ a.old.search.periods + 2 }
+{
+    bridged(a, first, b, second, 0);
+    bridged(a, first, b, second, 1);
 }
 
 // Works the periods 2 and 3 of a leg whose bridge ends.
@@ -211,10 +250,9 @@ fn work_two_and_two(
     first: &mut Lines,
     second: &mut Lines,
 ) -> Result<(), AllocError> {
-    let mut a = bridged_leg(alloc, 7)?;
-    let mut b = bridged_leg(alloc, 9)?;
-    bridged(&mut a, first, &mut b, second, 0);
-    bridged(&mut a, first, &mut b, second, 1);
+    let (mut a, mut b) = two_legs(alloc)?;
+    begin_bridge(&mut a, &mut b);
+    work_two_bridged(&mut a, first, &mut b, second);
     work_two_alone(&mut a, first);
     Ok(())
 }
@@ -224,13 +262,21 @@ fn lines_of_two() -> (Lines, Lines) {
     (lines_with([3, 5, 8, 13]), lines_with([21, 34, 55, 89]))
 }
 
-// The job of two bridged calls, 7 with four periods of its lines and 9 with two.
+// Call 7 with four periods of its lines, and call 9 with two.
+fn two_halves(alloc: Global, first: &Lines, second: &Lines) -> Result<(Half, Half), AllocError>
+    ensures first { IfOk result (λ hs. (hs.0.io.call ≡ 7) × (hs.0.leg.search.periods ≡ 0)) }
+    ensures second { IfOk result (λ hs. (hs.1.io.call ≡ 9) × (hs.1.leg.search.periods ≡ 0)) }
+{
+    let a = half(alloc, 7, first, 4)?;
+    let b = half(alloc, 9, second, 2)?;
+    Ok((a, b))
+}
+
+// The job of both, bridged.
 fn longer_and_shorter(alloc: Global) -> Result<Job, AllocError> {
     let (first, second) = lines_of_two();
-    let mut long = half(alloc, 7, &first, 4)?;
-    let mut short = half(alloc, 9, &second, 2)?;
-    long.leg.bridge_on();
-    short.leg.bridge_on();
+    let (mut long, mut short) = two_halves(alloc, &first, &second)?;
+    begin_bridge(&mut long.leg, &mut short.leg);
     Ok(Job::Two(long, short))
 }
 
@@ -242,19 +288,23 @@ fn four_and_two(alloc: Global, first: &Lines, second: &Lines) -> Result<bool, Al
     Ok(worked)
 }
 
+// Whether it ends with those that the legs' own calls give.
+fn longer_goes_on_alone(alloc: Global) -> Result<bool, AllocError> {
+    let (mut first, mut second) = lines_of_two();
+    work_two_and_two(alloc, &mut first, &mut second)?;
+    four_and_two(alloc, &first, &second)
+}
+
 // Four periods of a call whose partner has two: it is alone in the others.
 #[test]
 fn the_longer_of_two_goes_on_alone(rt: HostRuntime) -> Result<(), Fail> {
-    let (mut first, mut second) = lines_of_two();
-    work_two_and_two(rt.alloc(), &mut first, &mut second)?;
-    assert!(rt; four_and_two(rt.alloc(), &first, &second)?);
+    assert!(rt; longer_goes_on_alone(rt.alloc())?);
     Ok(())
 }
 
 // A job of the calls 7 and 9, and what was taken from call 9.
 fn taken_of_second(alloc: Global, given: &Lines) -> Result<(Job, LegIo), AllocError> {
-    let first = half(alloc, 7, given, 4)?;
-    let second = half(alloc, 9, given, 2)?;
+    let (first, second) = two_halves(alloc, given, given)?;
     let mut job = Job::Two(first, second);
     let taken = job.swap_io(LegIo::none(alloc, 9));
     Ok((job, taken))
@@ -278,14 +328,18 @@ fn gives_pcm(io: LegIo, want: &Lines) -> bool {
     io.into_buffers().pcm.as_slice() == want.pcm.as_slice()
 }
 
+// Whether what was taken from call 9 is all that it had, and call 7 keeps its own.
+fn takes_of_second(alloc: Global, given: &Lines) -> Result<bool, AllocError> {
+    let (job, taken) = taken_of_second(alloc, given)?;
+    let parted = is_of(&taken, 9, 2) && has_the_first_alone(&job);
+    drop(job);
+    Ok(gives_pcm(taken, given) && parted)
+}
+
 // A job's octets are taken and given by the number of their call.
 #[test]
 fn octets_go_to_their_call(rt: HostRuntime) -> Result<(), Fail> {
     let given = lines_with([3, 5, 8, 13]);
-    let (job, taken) = taken_of_second(rt.alloc(), &given)?;
-    assert!(rt; is_of(&taken, 9, 2));
-    assert!(rt; has_the_first_alone(&job));
-    assert!(rt; gives_pcm(taken, &given));
-    drop(job);
+    assert!(rt; takes_of_second(rt.alloc(), &given)?);
     Ok(())
 }

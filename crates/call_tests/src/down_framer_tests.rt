@@ -49,20 +49,32 @@ fn octets_with(same: u8, place: usize, other: u8) -> [u8; 40]
     octets
 }
 
+// Whether frame 0 is put off by 39 steps, and 312 ones follow it.
+fn puts_off(framer: &mut Framer, align: &mut Align) -> bool
+    requires { IsBetween framer.old }
+    ensures { IsBetween framer.new }
+{
+    let begins = octets_with(0, 0, 0x80);
+    let ones = gives(framer, align, 39, &[0xFF; 40], 1) && holds(framer, 632, 0, 156);
+    gives(framer, align, 0, &begins, 0) && ones
+}
+
+// Whether frame 1 loses four bits, and the next ones follow it.
+fn moves_back(framer: &mut Framer, align: &mut Align) -> bool
+    requires { IsBetween framer.old }
+{
+    let ends = octets_with(0xFF, 39, 0x80);
+    let follows = octets_with(0, 38, 0x08);
+    let moved = gives(framer, align, 63, &ends, 1) && gives(framer, align, 40, &follows, 1);
+    moved && gives(framer, align, 0, &follows, 1)
+}
+
 // Field 39 in period 0, 63 in period 2, 40 in period 3. Frame 0 is followed by 312 ones, frame 1 has 316 bits.
 #[test]
 fn frames_at_their_places(rt: HostRuntime) -> Result<(), Fail> {
     let mut framer = Framer::new(rt.alloc())?;
     let mut align = Align::new();
-    let begins = octets_with(0, 0, 0x80);
-    let ends = octets_with(0xFF, 39, 0x80);
-    let follows = octets_with(0, 38, 0x08);
-    assert!(rt; gives(&mut framer, &mut align, 39, &[0xFF; 40], 1));
-    assert!(rt; holds(&framer, 632, 0, 156));
-    assert!(rt; gives(&mut framer, &mut align, 0, &begins, 0));
-    assert!(rt; gives(&mut framer, &mut align, 63, &ends, 1));
-    assert!(rt; gives(&mut framer, &mut align, 40, &follows, 1));
-    assert!(rt; gives(&mut framer, &mut align, 0, &follows, 1));
+    assert!(rt; puts_off(&mut framer, &mut align) && moves_back(&mut framer, &mut align));
     Ok(())
 }
 
@@ -92,9 +104,15 @@ fn new_frames_of(alloc: Global, field: u8) -> Result<(u32, u32), AllocError>
     Ok(frames_of(&mut framer, field))
 }
 
+// Those of the longest shift, and of the one that takes bits away.
+fn extreme_frames(alloc: Global) -> Result<[(u32, u32); 2], AllocError> {
+    let long = new_frames_of(alloc, 39)?;
+    let short = new_frames_of(alloc, 63)?;
+    Ok([long, short])
+}
+
 #[test]
 fn the_same_shift_in_each_period(rt: HostRuntime) -> Result<(), Fail> {
-    assert!(rt; new_frames_of(rt.alloc(), 39)? == (51, 0));
-    assert!(rt; new_frames_of(rt.alloc(), 63)? == (101, 79));
+    assert!(rt; extreme_frames(rt.alloc())? == [(51, 0), (101, 79)]);
     Ok(())
 }

@@ -23,9 +23,7 @@ fn silent_start(nc: u8) -> [i16; 160]
 // The first samples were worked by hand from the standard's formulas.
 #[test]
 fn decodes_a_first_frame(rt: HostRuntime) {
-    let x = silent_start(40);
-    assert!(rt; [x[0], x[1], x[2], x[3]] == [8, 0, 0, 8]);
-    assert!(rt; [x[4], x[5], x[6]] == [8, 8, 16]);
+    assert!(rt; silent_start(40).starts_with(&[8, 0, 0, 8, 8, 8, 16]));
 }
 
 // At home the last used lag is 40, which a lag that no encoder sends gives way to.

@@ -21,7 +21,5 @@ fn is_silent(trace: &Trace) -> bool {
 #[test]
 fn encodes_a_silent_start(rt: HostRuntime) {
     let (params, trace, peak) = Encoder::home().encode(&[0; 160]);
-    assert!(rt; params == silent_start());
-    assert!(rt; is_silent(&trace));
-    assert!(rt; peak == 0);
+    assert!(rt; params == silent_start() && is_silent(&trace) && peak == 0);
 }

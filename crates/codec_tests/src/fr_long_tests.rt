@@ -1,3 +1,5 @@
+ghost use Rattle.std.specs.Prelude.{◌<◌};
+
 use fr_long::{Ltp, LtpDecoder, LtpHistory};
 
 // One sample at the front of a block.
@@ -10,9 +12,9 @@ fn pulse() -> [i16; 40] {
 #[test]
 fn starts_with_lag_40(rt: HostRuntime) {
     let mut decoder = LtpDecoder::home();
-    assert!(rt; decoder.synth(127, 3, &pulse())[0] == 1000);
-    let residual = decoder.synth(39, 0, &[0; 40]);
-    assert!(rt; residual[0] == 100 && residual[1] == 0);
+    let first = decoder.synth(127, 3, &pulse());
+    let second = decoder.synth(39, 0, &[0; 40]);
+    assert!(rt; [first[0], second[0], second[1]] == [1000, 100, 0]);
 }
 
 #[test]
@@ -20,14 +22,21 @@ fn keeps_the_last_used_lag(rt: HostRuntime) {
     let mut decoder = LtpDecoder::home();
     decoder.synth(40, 0, &pulse());
     let second = decoder.synth(50, 3, &[0; 40]);
-    assert!(rt; second[10] == 1000);
     let third = decoder.synth(10, 1, &[-1; 40]);
-    assert!(rt; third[10] == -1 && third[20] == 349);
+    assert!(rt; [second[10], third[10], third[20]] == [1000, -1, 349]);
 }
 
 // Whether a prediction has this lag and this code of a gain.
 fn has_codes(ltp: &Ltp, nc: u8, bc: u8) -> bool {
     ltp.nc == nc && ltp.bc == bc
+}
+
+// Whether it has this sample of what is predicted, and this one of what is left.
+fn has_samples(ltp: &Ltp, place: usize, dpp: i16, place_left: usize, e: i16) -> bool
+    requires place { place < 40 }
+    requires left { place_left < 40 }
+{
+    ltp.dpp[place] == dpp && ltp.e[place_left] == e
 }
 
 // The history of a block of pulses and a silent one after it.
@@ -44,8 +53,7 @@ fn pulses_before() -> LtpHistory {
 #[test]
 fn takes_the_least_of_equal_lags(rt: HostRuntime) {
     let ltp = pulses_before().predict(&pulse());
-    assert!(rt; has_codes(&ltp, 50, 3));
-    assert!(rt; ltp.e[0] == 0);
+    assert!(rt; has_codes(&ltp, 50, 3) && ltp.e[0] == 0);
 }
 
 // The history of three blocks whose samples are all below 0.
@@ -61,8 +69,7 @@ fn negative_before() -> LtpHistory {
 fn takes_lag_40_where_no_correlation_is_positive(rt: HostRuntime) {
     let history = negative_before();
     let ltp = history.predict(&pulse());
-    assert!(rt; has_codes(&ltp, 40, 0));
-    assert!(rt; ltp.dpp[0] == -1 && ltp.e[0] == 1001);
+    assert!(rt; has_codes(&ltp, 40, 0) && has_samples(&ltp, 0, -1, 0, 1001));
 }
 
 // A block with these samples at these places; all others are 0.
@@ -89,11 +96,9 @@ fn three_blocks_before() -> LtpHistory {
 #[test]
 fn predicts_two_blocks_in_turn(rt: HostRuntime) {
     let mut history = three_blocks_before();
-    let ltp = history.predict(&block(&[(0, 1200), (14, -700), (26, 500)]));
-    assert!(rt; has_codes(&ltp, 117, 2));
-    assert!(rt; ltp.dpp[14] == -975 && ltp.e[26] == 45);
-    history.update(&ltp.dpp, &block(&[(1, 300), (26, -100)]));
-    let ltp = history.predict(&block(&[(1, -400), (15, 900)]));
-    assert!(rt; has_codes(&ltp, 55, 1));
-    assert!(rt; ltp.dpp[16] == 105 && ltp.e[29] == 341);
+    let first = history.predict(&block(&[(0, 1200), (14, -700), (26, 500)]));
+    history.update(&first.dpp, &block(&[(1, 300), (26, -100)]));
+    let second = history.predict(&block(&[(1, -400), (15, 900)]));
+    assert!(rt; has_codes(&first, 117, 2) && has_samples(&first, 14, -975, 26, 45));
+    assert!(rt; has_codes(&second, 55, 1) && has_samples(&second, 16, 105, 29, 341));
 }

@@ -10,8 +10,7 @@ fn gives(s: &mut [i16; 160], lar: [i16; 8], larc: [u8; 8]) -> bool {
 #[test]
 fn silence_has_ratios_of_0(rt: HostRuntime) {
     let mut s = [0; 160];
-    assert!(rt; gives(&mut s, [0; 8], [32, 32, 20, 11, 8, 5, 3, 2]));
-    assert!(rt; s == [0; 160]);
+    assert!(rt; gives(&mut s, [0; 8], [32, 32, 20, 11, 8, 5, 3, 2]) && s == [0; 160]);
 }
 
 #[test]
@@ -35,8 +34,7 @@ fn analyses_full_scale(rt: HostRuntime) {
     assert!(rt; peak(&s) == 32767);
     let lar = [25804, 64, 0, 64, -64, 64, -64, 0];
     let larc = [63, 32, 20, 11, 8, 5, 3, 2];
-    assert!(rt; gives(&mut s, lar, larc));
-    assert!(rt; [s[0], s[1]] == [-32768, 32767]);
+    assert!(rt; gives(&mut s, lar, larc) && [s[0], s[1]] == [-32768, 32767]);
 }
 
 // A frame with low bits to lose.
@@ -53,6 +51,5 @@ fn loses_low_bits(rt: HostRuntime) {
     let mut s = low_bits();
     let lar = [3541, 8782, 1098, -2471, 4914, 7102, -11737, 71];
     let larc = [36, 43, 21, 8, 12, 11, 0, 2];
-    assert!(rt; gives(&mut s, lar, larc));
-    assert!(rt; [s[0], s[1], s[2], s[3]] == [-4000, 1742, -518, -2778]);
+    assert!(rt; gives(&mut s, lar, larc) && s.starts_with(&[-4000, 1742, -518, -2778]));
 }

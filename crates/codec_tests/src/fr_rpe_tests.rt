@@ -14,10 +14,13 @@ fn decodes_the_loudest_pulses(rt: HostRuntime) {
 
 #[test]
 fn codes_the_ends_of_the_maxima(rt: HostRuntime) {
-    assert!(rt; quantise_max(0) == 0);
-    assert!(rt; quantise_max(511) == 15);
-    assert!(rt; quantise_max(512) == 16);
-    assert!(rt; quantise_max(32767) == 63);
+    let maxima = [
+        quantise_max(0),
+        quantise_max(511),
+        quantise_max(512),
+        quantise_max(32767),
+    ];
+    assert!(rt; maxima == [0, 15, 16, 63]);
 }
 
 // Pulses between which there is silence.
@@ -44,7 +47,6 @@ fn has_codes(rpe: &Rpe, codes: [u8; 3]) -> bool {
 #[test]
 fn encodes_a_block(rt: HostRuntime) {
     let rpe = encode_block(&pulses());
-    assert!(rt; is_at(&rpe, 2, 3000, 35));
-    assert!(rt; has_codes(&rpe, [4, 0, 3]));
-    assert!(rt; rpe.ep[14] == -2688 && rpe.ep[15] == 0);
+    assert!(rt; is_at(&rpe, 2, 3000, 35) && has_codes(&rpe, [4, 0, 3]));
+    assert!(rt; [rpe.ep[14], rpe.ep[15]] == [-2688, 0]);
 }

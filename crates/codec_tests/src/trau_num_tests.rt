@@ -2,27 +2,22 @@ use trau_num::{Draw, abs16, add, div_q15, l_add, l_mult, l_sub, mult, mult_r, no
 
 #[test]
 fn meets_the_ends(rt: HostRuntime) {
-    assert!(rt; mult(-32768, -32768) == 32767);
-    assert!(rt; mult_r(-32768, -32768) == 32767);
-    assert!(rt; abs16(-32768) == 32767);
-    assert!(rt; add(32767, 1) == 32767);
-    assert!(rt; sub(-32768, 1) == -32768);
+    let products = [mult(-32768, -32768), mult_r(-32768, -32768)];
+    let others = [abs16(-32768), add(32767, 1), sub(-32768, 1)];
+    assert!(rt; products == [32767; 2] && others == [32767, 32767, -32768]);
     assert!(rt; norm(1) == 30);
 }
 
 #[test]
 fn divides_fractions(rt: HostRuntime) {
-    assert!(rt; div_q15(5, 5) == 32767);
-    assert!(rt; div_q15(0, 9) == 0);
-    assert!(rt; div_q15(0, 0) == 0);
-    assert!(rt; shl16(-3, 2) == -12);
+    let quotients = [div_q15(5, 5), div_q15(0, 9), div_q15(0, 0)];
+    assert!(rt; quotients == [32767, 0, 0] && shl16(-3, 2) == -12);
 }
 
 #[test]
 fn computes_long_words_and_draws(rt: HostRuntime) {
-    assert!(rt; l_add(2147483647, 1) == 2147483647);
-    assert!(rt; l_sub(-5, 3) == -8);
-    assert!(rt; l_mult(3, -4) == -24);
+    let words = [l_add(2147483647, 1), l_sub(-5, 3), l_mult(3, -4)];
     let mut draw = Draw { r: 7 };
-    assert!(rt; draw.next(4) == 3);
+    let drawn = draw.next(4);
+    assert!(rt; words == [2147483647, -8, -24] && drawn == 3);
 }

@@ -24,15 +24,13 @@ fn the_greatest_fields_are_ones(rt: HostRuntime) {
         [63; 4],
         [[7; 13]; 4],
     );
-    assert!(rt; are_bits(&greatest, 1));
-    assert!(rt; come_back(&greatest));
+    assert!(rt; are_bits(&greatest, 1) && come_back(&greatest));
 }
 
 #[test]
 fn fields_of_zero_are_zeros(rt: HostRuntime) {
     let least = Params::new([0; 8], [0; 4], [0; 4], [0; 4], [0; 4], [[0; 13]; 4]);
-    assert!(rt; are_bits(&least, 0));
-    assert!(rt; come_back(&least));
+    assert!(rt; are_bits(&least, 0) && come_back(&least));
 }
 
 #[test]

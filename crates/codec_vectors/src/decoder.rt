@@ -1,9 +1,8 @@
 //! The decoder: whole uplinks to A-law, and single samples.
 
-use crate::comparison::{Comparison, print_case};
+use crate::comparison::{Comparison, compare_words, print_case};
 use crate::files::octets_and_text;
 use fr_decoder::Decoder;
-use std::slice::Iter;
 use std::{fs, io};
 use trau_alaw::compress;
 use trau_bits::unpack;
@@ -30,38 +29,36 @@ fn decode(decoder: &mut Decoder, octets: &[u8]) -> [i16; 160] {
     x
 }
 
-/// Compares the samples of a frame with the next octets of a line of A-law.
-fn compare_codes(comparison: &mut Comparison, wanted: &mut Iter<u8>, samples: &[i16; 160]) {
-    for sample in samples {
-        let octet = wanted.next().map_or(-1, |octet| i32::from(*octet));
-        comparison.compare(octet, i32::from(compress(*sample)));
+/// Compares the samples of a frame with octets of A-law.
+fn compare_codes(comparison: &mut Comparison, wanted: &[u8], samples: &[i16; 160]) {
+    for k in 0..160 {
+        let octet = match wanted.get(k) {
+            Some(octet) => i32::from(*octet),
+            None => -1,
+        };
+        comparison.compare(octet, i32::from(compress(samples[k])));
     }
 }
 
 fn compare_line(up: &[u8], out: &[u8]) -> Comparison {
     let mut comparison = Comparison::new();
     let mut decoder = Decoder::home();
-    let mut wanted = out.iter();
+    let mut wanted = out;
     for octets in up.chunks(40) {
-        compare_codes(&mut comparison, &mut wanted, &decode(&mut decoder, octets));
+        let (codes, behind) = wanted.split_at(wanted.len().min(160));
+        compare_codes(&mut comparison, codes, &decode(&mut decoder, octets));
+        wanted = behind;
     }
-    comparison.compare(0, wanted.len().min(1) as i32);
+    comparison.compare(0, i32::from(!wanted.is_empty()));
     comparison
 }
 
 /// `name.up` is an aligned uplink, and `name.out` the A-law of its decoded samples, from home.
-fn decoded(rt: &HostRuntime, up: &str, out: &str) -> io::Result<Comparison> {
-    let up = fs::read(rt, up)?;
-    let out = fs::read(rt, out)?;
-    Ok(compare_line(up.as_slice(), out.as_slice()))
-}
-
-/// Compares the samples of a frame with the words of a line of text.
-fn compare_words(comparison: &mut Comparison, wanted: Option<&str>, samples: &[i16; 160]) {
-    let mut words = wanted.unwrap_or("").split(' ');
-    for sample in samples {
-        comparison.compare_word(words.next(), i32::from(*sample));
-    }
+fn print_decoded(rt: &HostRuntime, up: &str, out: &str) -> io::Result<()> {
+    let octets = fs::read(rt, up)?;
+    let wanted = fs::read(rt, out)?;
+    let found = compare_line(octets.as_slice(), wanted.as_slice());
+    print_case(rt, "decode", up, found)
 }
 
 /// Whether the text has a line for this frame.
@@ -86,18 +83,16 @@ fn compare_text(up: &[u8], text: &str) -> Comparison {
 
 /// Each line of the text has the 160 samples of a frame: of the first twenty of the uplink, and then, as if they
 /// followed at once, of the ten from frame 150 on.
-fn samples(rt: &HostRuntime) -> io::Result<Comparison> {
+fn print_samples(rt: &HostRuntime) -> io::Result<()> {
     let (up, text) = octets_and_text(rt, "harsh.up", "harsh.samples.txt")?;
-    Ok(compare_text(up.as_slice(), text.as_str()))
+    let found = compare_text(up.as_slice(), text.as_str());
+    print_case(rt, "samples", "harsh.up", found)
 }
 
 /// Prints a line for each case.
 pub(crate) fn print(rt: &HostRuntime) -> io::Result<()> {
-    let english = decoded(rt, "speech-en-m3.up", "speech-en-m3.out");
-    print_case(rt, "decode", "speech-en-m3.up", english)?;
-    let loud = decoded(rt, "speech-loud-m7.up", "speech-loud-m7.out");
-    print_case(rt, "decode", "speech-loud-m7.up", loud)?;
-    let harsh = decoded(rt, "harsh.up", "harsh.out");
-    print_case(rt, "decode", "harsh.up", harsh)?;
-    print_case(rt, "samples", "harsh.up", samples(rt))
+    print_decoded(rt, "speech-en-m3.up", "speech-en-m3.out")?;
+    print_decoded(rt, "speech-loud-m7.up", "speech-loud-m7.out")?;
+    print_decoded(rt, "harsh.up", "harsh.out")?;
+    print_samples(rt)
 }

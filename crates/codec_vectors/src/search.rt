@@ -97,9 +97,9 @@ fn counts_of(rt: &HostRuntime, line: &str) -> io::Result<[i32; 8]> {
 
 /// Compares counts with those of a line.
 fn compare_counts(comparison: &mut Comparison, line: &str, counts: &[i32; 8]) {
-    for (k, got) in counts.iter().enumerate() {
+    for k in 0..8 {
         let wanted = i32::try_from(number(line, 3 + 2 * k)).unwrap_or(-1);
-        comparison.compare(wanted, *got);
+        comparison.compare(wanted, counts[k]);
     }
 }
 
@@ -118,9 +118,10 @@ fn compare_report(rt: &HostRuntime, report: &str) -> io::Result<Comparison> {
 
 /// The report of a farm has for each call a line `call C from S to E`, and behind it one with its counts. The uplink of
 /// call C is `farm-C.up`, from period S on.
-fn farm(rt: &HostRuntime) -> io::Result<Comparison> {
+fn print_farm(rt: &HostRuntime) -> io::Result<()> {
     let report = fs::read_to_string(rt, "farm-report.txt")?;
-    compare_report(rt, report.as_str())
+    let found = compare_report(rt, report.as_str())?;
+    print_case(rt, "search", "farm-report.txt", found)
 }
 
 // ---- lines made here
@@ -193,14 +194,21 @@ fn wanted_of(offset: u16, period: usize) -> i32
     }
 }
 
+/// Compares what the periods give of a line with one frame at this offset.
+fn compare_offset(comparison: &mut Comparison, offset: u16)
+    requires { offset < 320 }
+{
+    let all = searched(&line(&[usize::from(offset)]));
+    for period in 0..12 {
+        comparison.compare(wanted_of(offset, period), all[period]);
+    }
+}
+
 /// A frame at each of 320 offsets.
 fn offsets() -> Comparison {
     let mut comparison = Comparison::new();
     for offset in 0..320 {
-        let all = searched(&line(&[usize::from(offset)]));
-        for (period, got) in all.iter().enumerate() {
-            comparison.compare(wanted_of(offset, period), *got);
-        }
+        compare_offset(&mut comparison, offset);
     }
     comparison
 }
@@ -240,14 +248,14 @@ fn lines() -> Comparison {
 
 fn compare_line(comparison: &mut Comparison, places: &[usize], wanted: &[i32; 12]) {
     let all = searched(&line(places));
-    for (want, got) in wanted.iter().zip(all.iter()) {
-        comparison.compare(*want, *got);
+    for period in 0..12 {
+        comparison.compare(wanted[period], all[period]);
     }
 }
 
 /// Prints a line for each case.
 pub(crate) fn print(rt: &HostRuntime) -> io::Result<()> {
-    print_case(rt, "search", "farm-report.txt", farm(rt))?;
-    print_case(rt, "search", "offsets", Ok(offsets()))?;
-    print_case(rt, "search", "lines", Ok(lines()))
+    print_farm(rt)?;
+    print_case(rt, "search", "offsets", offsets())?;
+    print_case(rt, "search", "lines", lines())
 }

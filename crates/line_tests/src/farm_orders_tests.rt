@@ -13,25 +13,32 @@ static TEXTS: [(&[u8], Result<usize, OrdersFault>); 4] = [
     (b"0 open 01", Err(OrdersFault::Line(1))),
 ];
 
-// Whether this is answered to what a desk gives: how many orders it has, or why they aren't taken.
-fn is_answered<D: Desk>(alloc: Global, desk: &mut D, answer: Result<usize, OrdersFault>) -> bool {
-    match read_orders(alloc, desk) {
-        Ok(orders) => answer == Ok(orders.list().len()),
-        Err(fault) => answer == Err(fault),
-    }
+// How many orders a desk gives.
+fn count<D: Desk>(alloc: Global, desk: &mut D) -> Result<usize, OrdersFault> {
+    Ok(read_orders(alloc, desk)?.list().len())
 }
 
-// The same of a text in pieces.
-fn is_answered_in_pieces(
+// Whether this is answered to a text in pieces: how many orders it has, or why they aren't taken.
+fn is_answered(
     alloc: Global,
     text: &[u8],
     cut: usize,
     answer: Result<usize, OrdersFault>,
-) -> bool {
-    match text.to_vec(alloc) {
-        Ok(text) => is_answered(alloc, &mut PieceDesk::new(text, cut), answer),
-        Err(_) => false,
+) -> Result<bool, AllocError> {
+    let text = text.to_vec(alloc)?;
+    Ok(count(alloc, &mut PieceDesk::new(text, cut)) == answer)
+}
+
+// How many texts from the first on are answered so in pieces of this size.
+fn answered(alloc: Global, cut: usize) -> usize {
+    let mut answered = 0usize;
+    for (text, answer) in &TEXTS {
+        if is_answered(alloc, text, cut, *answer) != Ok(true) {
+            return answered;
+        }
+        answered = answered.saturating_add(1);
     }
+    answered
 }
 
 // A desk with this text, of which the read of this number fails.
@@ -42,53 +49,65 @@ fn desk(alloc: Global, text: Vec<u8>, fails: u32) -> Result<MemDesk, AllocError>
 
 #[test]
 fn texts_in_pieces(rt: HostRuntime) {
-    for (text, answer) in TEXTS {
-        for cut in [1, 39, 1000] {
-            assert!(rt;
-                is_answered_in_pieces(rt.alloc(), text, cut, answer),
-                "in pieces of {cut}"
-            );
-        }
-    }
+    let alloc = rt.alloc();
+    let answered = [
+        answered(alloc, 1),
+        answered(alloc, 39),
+        answered(alloc, 1000),
+    ];
+    assert_eq!(rt; answered, [4; 3]);
 }
 
 // Whether orders are unread where the read of this number fails, and that alone.
-fn is_unread(alloc: Global, fails: u32) -> bool {
-    let Ok(text) = b"0 open 1\n".to_vec(alloc) else {
-        return false;
-    };
-    match desk(alloc, text, fails) {
-        Ok(mut desk) => {
-            is_answered(alloc, &mut desk, Err(OrdersFault::Unread)) && desk.read_faults() == 1
-        }
-        Err(_) => false,
-    }
+fn is_unread(alloc: Global, fails: u32) -> Result<bool, AllocError> {
+    let text = b"0 open 1\n".to_vec(alloc)?;
+    let mut desk = desk(alloc, text, fails)?;
+    let unread = count(alloc, &mut desk) == Err(OrdersFault::Unread);
+    Ok(unread && desk.read_faults() == 1)
 }
 
 // The first read fails, or the one that would have told the end.
 #[test]
 fn a_failed_read_is_unread(rt: HostRuntime) {
-    assert!(rt; is_unread(rt.alloc(), 0));
-    assert!(rt; is_unread(rt.alloc(), 1));
+    let unread = [is_unread(rt.alloc(), 0), is_unread(rt.alloc(), 1)];
+    assert_eq!(rt; unread, [Ok(true); 2]);
 }
 
 // Whether this is answered to a text of so many of one octet.
-fn is_limit(alloc: Global, octet: u8, length: usize, fails: u32, fault: OrdersFault) -> bool {
-    let Ok(text) = vec![in alloc; octet; length] else {
-        return false;
-    };
-    match desk(alloc, text, fails) {
-        Ok(mut desk) => is_answered(alloc, &mut desk, Err(fault)),
-        Err(_) => false,
+fn is_limit(
+    alloc: Global,
+    octet: u8,
+    length: usize,
+    fails: u32,
+    fault: OrdersFault,
+) -> Result<bool, AllocError> {
+    let text = vec![in alloc; octet; length]?;
+    let mut desk = desk(alloc, text, fails)?;
+    Ok(count(alloc, &mut desk) == Err(fault))
+}
+
+// An octet, the length of a text of it, the read that fails, and what is answered.
+static LIMITS: [(u8, usize, u32, OrdersFault); 5] = [
+    (b'0', 1_048_576, 9, OrdersFault::Line(1)),
+    (b'0', 1_048_576, 1, OrdersFault::Unread),
+    (b'0', 1_048_577, 1, OrdersFault::TooLong),
+    (b'\n', 65_536, 9, OrdersFault::Line(1)),
+    (b'\n', 65_537, 9, OrdersFault::TooLong),
+];
+
+// How many of them are answered so, from the first on.
+fn limited(alloc: Global) -> usize {
+    let mut limited = 0usize;
+    for (octet, length, fails, fault) in &LIMITS {
+        if is_limit(alloc, *octet, *length, *fails, *fault) != Ok(true) {
+            return limited;
+        }
+        limited = limited.saturating_add(1);
     }
+    limited
 }
 
 #[test]
 fn limits(rt: HostRuntime) {
-    let alloc = rt.alloc();
-    assert!(rt; is_limit(alloc, b'0', 1_048_576, 9, OrdersFault::Line(1)));
-    assert!(rt; is_limit(alloc, b'0', 1_048_576, 1, OrdersFault::Unread));
-    assert!(rt; is_limit(alloc, b'0', 1_048_577, 1, OrdersFault::TooLong));
-    assert!(rt; is_limit(alloc, b'\n', 65_536, 9, OrdersFault::Line(1)));
-    assert!(rt; is_limit(alloc, b'\n', 65_537, 9, OrdersFault::TooLong));
+    assert_eq!(rt; limited(rt.alloc()), 5);
 }

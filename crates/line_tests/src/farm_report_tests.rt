@@ -36,6 +36,11 @@ fn call(call: u32, from: u32, at: u32, cause: Cause, numbers: [u64; 9]) -> CallL
     }
 }
 
+// Asserts what a text is.
+fn assert_same(rt: &impl Abort, text: &str, wanted: &str) {
+    assert_eq!(rt; text, wanted);
+}
+
 // Asserts what the report's text is.
 fn assert_text(
     rt: &impl Abort,
@@ -43,35 +48,54 @@ fn assert_text(
     report: &Report,
     text: &str,
 ) -> Result<(), AllocError> {
-    assert_eq!(rt; write_report(alloc, report)?.as_str(), text);
+    assert_same(rt, write_report(alloc, report)?.as_str(), text);
     Ok(())
 }
 
-fn each_reply() -> [Reply; 9] {
-    [
-        reply(1, Ok(Act::Opened { call: 1 })),
-        reply(4, Err(Refusal::AlreadyOpen { call: 1 })),
-        reply(5, Err(Refusal::SameCall { call: 1 })),
-        reply(6, Ok(Act::Bridged { a: 1, b: 2 })),
-        reply(
-            7,
-            Err(Refusal::Bridged {
-                call: 2,
-                partner: 1,
-            }),
-        ),
-        reply(8, Err(Refusal::NotBridged { call: 3 })),
-        reply(
-            10,
-            Err(Refusal::Draining {
-                call: 1,
-                partner: 2,
-            }),
-        ),
-        reply(12, Err(Refusal::NumberUsed { call: 3 })),
-        reply(13, Err(Refusal::NotOpen { call: 9 })),
-    ]
-}
+static EACH_REPLY: [Reply; 9] = [
+    Reply {
+        order: 1,
+        result: Ok(Act::Opened { call: 1 }),
+    },
+    Reply {
+        order: 4,
+        result: Err(Refusal::AlreadyOpen { call: 1 }),
+    },
+    Reply {
+        order: 5,
+        result: Err(Refusal::SameCall { call: 1 }),
+    },
+    Reply {
+        order: 6,
+        result: Ok(Act::Bridged { a: 1, b: 2 }),
+    },
+    Reply {
+        order: 7,
+        result: Err(Refusal::Bridged {
+            call: 2,
+            partner: 1,
+        }),
+    },
+    Reply {
+        order: 8,
+        result: Err(Refusal::NotBridged { call: 3 }),
+    },
+    Reply {
+        order: 10,
+        result: Err(Refusal::Draining {
+            call: 1,
+            partner: 2,
+        }),
+    },
+    Reply {
+        order: 12,
+        result: Err(Refusal::NumberUsed { call: 3 }),
+    },
+    Reply {
+        order: 13,
+        result: Err(Refusal::NotOpen { call: 9 }),
+    },
+];
 
 fn each_cause() -> [CallLine; 6] {
     [
@@ -121,7 +145,7 @@ const EACH_SIDE: [Line; 4] = [
     },
 ];
 
-const EACH_TEXT: &str = "order 1 ok
+static EACH_TEXT: &str = "order 1 ok
 order 4 refused 1 call 1
 order 5 refused 5 call 1
 order 6 ok
@@ -149,17 +173,20 @@ line 9 out failed
 end period 30 calls 6 left 1
 ";
 
-#[test]
-fn each_reply_and_each_cause(rt: HostRuntime) -> Result<(), AllocError> {
-    let alloc = rt.alloc();
-    let report = Report {
-        replies: each_reply().to_vec(alloc)?,
+fn each_report(alloc: Global) -> Result<Report, AllocError> {
+    Ok(Report {
+        replies: EACH_REPLY.to_vec(alloc)?,
         spans: Vec::new(alloc),
         calls: each_cause().to_vec(alloc)?,
         failed: EACH_SIDE.to_vec(alloc)?,
         left: 1,
-    };
-    assert_text(&rt, alloc, &report, EACH_TEXT)
+    })
+}
+
+#[test]
+fn each_reply_and_each_cause(rt: HostRuntime) -> Result<(), AllocError> {
+    let alloc = rt.alloc();
+    assert_text(&rt, alloc, &each_report(alloc)?, EACH_TEXT)
 }
 
 fn greatest(alloc: Global) -> Result<Report, AllocError> {
@@ -197,7 +224,7 @@ fn greatest(alloc: Global) -> Result<Report, AllocError> {
     })
 }
 
-const GREATEST_TEXT: &str = "order 4294967295 refused 6 call 4294967295 partner 4294967295
+static GREATEST_TEXT: &str = "order 4294967295 refused 6 call 4294967295 partner 4294967295
 bridge 4294967295 4294967295 from 4294967295 to 4294967295 sent 4294967295 4294967295 lost 4294967295 4294967295
 call 4294967295 from 4294967295 to 4294967295 end pcm 4294967295
 counts 4294967295 good 18446744073709551615 sid 18446744073709551615 invalid 18446744073709551615 bad 18446744073709551615 idle 18446744073709551615 other 18446744073709551615 miss 18446744073709551615 none 18446744073709551615 made 18446744073709551615
@@ -260,7 +287,7 @@ fn recorded_calls() -> [CallLine; 4] {
     ]
 }
 
-const RECORDED_TEXT: &str = "order 1 ok
+static RECORDED_TEXT: &str = "order 1 ok
 order 2 ok
 order 3 ok
 order 4 ok

@@ -1,11 +1,17 @@
 use farm_words::{Asked, Settings, WordsFault, read_words};
 use std::alloc::{AllocError, Global};
 
+// Puts a word at the end of others.
+fn push(alloc: Global, words: &mut Vec<String>, word: &str) -> Result<(), AllocError> {
+    words.push(String::from_str(alloc, word)?)?;
+    Ok(())
+}
+
 // A line's words, with one space between them.
 fn split(alloc: Global, line: &str) -> Result<Vec<String>, AllocError> {
     let mut words = Vec::new(alloc);
     for word in line.split(' ') {
-        words.push(String::from_str(alloc, word)?)?;
+        push(alloc, &mut words, word)?;
     }
     Ok(words)
 }
@@ -18,51 +24,80 @@ fn is_answered(alloc: Global, line: &str, answer: Result<Asked, WordsFault>) -> 
     }
 }
 
-// A run's four settings.
-fn run(workers: u32, batch: u32, slice: u32, periods: u32) -> Result<Asked, WordsFault> {
-    Ok(Asked::Run(Settings {
+// Runs, with their workers, batch, slice and periods.
+static RUNS: [(&str, [u32; 4]); 6] = [
+    ("run", [4, 50, 5, 4_294_967_295]),
+    (
+        "run --workers 64 --batch 250 --slice 1 --periods 9",
+        [64, 250, 1, 9],
+    ),
+    (
+        "run --periods=1 --slice=250 --batch=1 --workers=1",
+        [1, 1, 250, 1],
+    ),
+    (
+        "run --periods 4294967295 --batch=7",
+        [4, 7, 5, 4_294_967_295],
+    ),
+    ("run --", [4, 50, 5, 4_294_967_295]),
+    ("run --slice 2 --", [4, 50, 2, 4_294_967_295]),
+];
+
+// Whether a line asks for a run with these.
+fn is_run(alloc: Global, line: &str, settings: &[u32; 4]) -> bool {
+    let [workers, batch, slice, periods] = *settings;
+    let run = Asked::Run(Settings {
         workers,
         batch,
         slice,
         periods,
-    }))
+    });
+    is_answered(alloc, line, Ok(run))
+}
+
+// How many of the runs are asked for so, from the first on.
+fn runs_asked(alloc: Global) -> usize {
+    let mut asked = 0usize;
+    for (line, settings) in &RUNS {
+        if !is_run(alloc, line, settings) {
+            return asked;
+        }
+        asked = asked.saturating_add(1);
+    }
+    asked
 }
 
 #[test]
 fn options_of_a_run(rt: HostRuntime) {
-    let most = 4_294_967_295;
-    for (line, answer) in [
-        ("run", run(4, 50, 5, most)),
-        (
-            "run --workers 64 --batch 250 --slice 1 --periods 9",
-            run(64, 250, 1, 9),
-        ),
-        (
-            "run --periods=1 --slice=250 --batch=1 --workers=1",
-            run(1, 1, 250, 1),
-        ),
-        ("run --periods 4294967295 --batch=7", run(4, 7, 5, most)),
-        ("run --", run(4, 50, 5, most)),
-        ("run --slice 2 --", run(4, 50, 2, most)),
-    ] {
-        assert!(rt; is_answered(rt.alloc(), line, answer), "at {line}");
+    assert_eq!(rt; runs_asked(rt.alloc()), 6);
+}
+
+static TOOLS: [(&str, Asked); 4] = [
+    ("relay 7", Asked::Relay(7)),
+    ("frames 1", Asked::Frames(1)),
+    ("encode 1024", Asked::Encode(1024)),
+    ("decode 10", Asked::Decode(10)),
+];
+
+// How many calls of tools are asked for so, from the first on.
+fn tools_asked(alloc: Global) -> usize {
+    let mut asked = 0usize;
+    for (line, tool) in &TOOLS {
+        if !is_answered(alloc, line, Ok(*tool)) {
+            return asked;
+        }
+        asked = asked.saturating_add(1);
     }
+    asked
 }
 
 #[test]
 fn calls_of_tools(rt: HostRuntime) {
-    for (line, answer) in [
-        ("relay 7", Asked::Relay(7)),
-        ("frames 1", Asked::Frames(1)),
-        ("encode 1024", Asked::Encode(1024)),
-        ("decode 10", Asked::Decode(10)),
-    ] {
-        assert!(rt; is_answered(rt.alloc(), line, Ok(answer)), "at {line}");
-    }
+    assert_eq!(rt; tools_asked(rt.alloc()), 4);
 }
 
 // Lines whose words ask for nothing; the last is empty.
-const OTHER_WORDS: &str = "run --workers 0
+static OTHER_WORDS: &str = "run --workers 0
 run --workers 65
 run --workers 04
 run --workers +4
@@ -105,11 +140,19 @@ fn is_usage(alloc: Global, line: &str) -> bool {
     is_answered(alloc, line, Err(WordsFault::Usage))
 }
 
+// The first line whose words ask for something.
+fn first_asking(alloc: Global) -> Option<&'static str> {
+    for line in OTHER_WORDS.split('\n') {
+        if !is_usage(alloc, line) {
+            return Some(line);
+        }
+    }
+    None
+}
+
 #[test]
 fn other_words_are_usage(rt: HostRuntime) {
-    for line in OTHER_WORDS.split('\n') {
-        assert!(rt; is_usage(rt.alloc(), line), "at {line}");
-    }
+    assert_eq!(rt; first_asking(rt.alloc()), None);
 }
 
 #[test]

@@ -1,3 +1,5 @@
+ghost use Rattle.std.specs.Prelude.{◌≡◌, ◌<◌, ◌+◌};
+
 use frame_sync::{FrameSync, Yield};
 
 // An uplink frame of good speech, whose sync ones begin octets 2, 4, 6 and so on; the same without the second of them;
@@ -18,9 +20,10 @@ static BROKEN: [u8; 40] = [
 fn late(before: u8) -> [u8; 40] {
     let mut octets = [0; 40];
     let mut last = before;
-    for (octet, next) in octets.iter_mut().zip(GOOD.iter()) {
-        *octet = last << 3 | *next >> 5;
-        last = *next;
+    for k in 0..40 {
+        let next = GOOD[k];
+        octets[k] = last << 3 | next >> 5;
+        last = next;
     }
     octets
 }
@@ -34,27 +37,54 @@ fn told(found: Option<Yield>) -> Option<(bool, u64)> {
     }
 }
 
+// What is told of these octets.
+fn fed(sync: &mut FrameSync, octets: &[u8; 40]) -> Option<(bool, u64)>
+    requires { sync.old.periods < 100 }
+    ensures { sync.new.periods ≡ sync.old.periods + 1 }
+{
+    told(sync.feed(octets))
+}
+
 // Five bits 0, then frames without a gap: the first ends in period 1.
 #[test]
 fn frames_at_five(rt: HostRuntime) {
     let mut sync = FrameSync::new();
-    assert_eq!(rt; told(sync.feed(&late(0))), None);
-    assert_eq!(rt; told(sync.feed(&late(0xFF))), Some((true, 5)));
-    assert_eq!(rt; told(sync.feed(&late(0xFF))), Some((true, 325)));
+    let first = fed(&mut sync, &late(0));
+    let second = fed(&mut sync, &late(0xFF));
+    let third = fed(&mut sync, &late(0xFF));
+    assert_eq!(rt;
+        [first, second, third],
+        [None, Some((true, 5)), Some((true, 325))]
+    );
+}
+
+static ARE_FRAMES: [bool; 8] = [true, false, false, true, false, false, false, true];
+
+// How many periods are told in turn as frames and misses, from the first on.
+fn told_in_turn() -> usize {
+    let mut sync = FrameSync::new();
+    for k in 0..8 {
+        let frame = ARE_FRAMES[k];
+        let octets = if frame { &GOOD } else { &BROKEN };
+        if fed(&mut sync, octets) != Some((frame, 320 * k as u64)) {
+            return k;
+        }
+    }
+    8
 }
 
 // Two misses keep the lock, and a frame between lets two more pass. The third miss gives it up.
 #[test]
 fn misses_in_a_row(rt: HostRuntime) {
+    assert_eq!(rt; told_in_turn(), 8);
+}
+
+// Nothing matches while it hunts.
+#[test]
+fn nothing_is_told_while_it_hunts(rt: HostRuntime) {
     let mut sync = FrameSync::new();
-    let wanted = [true, false, false, true, false, false, false, true];
-    for (k, frame) in wanted.iter().enumerate() {
-        let octets = if *frame { GOOD } else { BROKEN };
-        assert_eq!(rt; told(sync.feed(&octets)), Some((*frame, 320 * k as u64)));
-    }
-    // Nothing matches while it hunts.
-    let mut sync = FrameSync::new();
-    for octets in [[0xFF; 40], [0; 40], BROKEN] {
-        assert_eq!(rt; told(sync.feed(&octets)), None);
-    }
+    let ones = fed(&mut sync, &[0xFF; 40]);
+    let zeros = fed(&mut sync, &[0; 40]);
+    let broken = fed(&mut sync, &BROKEN);
+    assert_eq!(rt; [ones, zeros, broken], [None; 3]);
 }

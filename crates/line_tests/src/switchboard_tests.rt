@@ -1,8 +1,7 @@
-ghost use Rattle.std.specs.Prelude.{◌≡◌, ◌<◌, ◌≤◌, ℕ, IfOk};
+ghost use Rattle.std.specs.Prelude.{◌≡◌, ◌<◌, ◌≤◌, ℕ, IfOk, IsTrue};
 ghost use Rattle.switchboard.specs.State.{EndBefore, last_stamp};
 
 use std::alloc::Global;
-use std::process::Abort;
 use std::test::Fail;
 use switchboard::{Act, Board, Refusal, Reply, Span};
 use trau_io::{CallEnd, Cause};
@@ -29,163 +28,211 @@ fn result_of(reply: Option<Reply>) -> Option<Result<Act, Refusal>> {
     Some(reply?.result)
 }
 
-// Executes the next order, and asserts the result of its reply.
-fn assert_reply(rt: &impl Abort, board: &mut Board, due: Result<Act, Refusal>)
+// How many orders are answered so, from the first on.
+fn replied(board: &mut Board, results: &[Result<Act, Refusal>]) -> usize
     requires { (t : ℕ) → EndBefore t board.old }
-    ensures { (t : ℕ) → EndBefore t board.new }
 {
-    let reply = execute(board);
-    assert_eq!(rt; result_of(reply), Some(due), "{reply:?}");
+    let mut replied = 0usize;
+    for result in results {
+        if result_of(execute(board)) != Some(*result) {
+            return replied;
+        }
+        replied = replied.saturating_add(1);
+    }
+    replied
 }
 
-// Executes all orders, and asserts the results of their replies.
-fn assert_replies(
-    rt: &impl Abort,
+// The same of all these orders, and whether no other is left.
+fn replied_to(
     alloc: Global,
     orders: &[u8],
     results: &[Result<Act, Refusal>],
-) -> Result<(), Fail> {
+) -> Result<(usize, bool), Fail> {
     let mut board = board_of(alloc, orders)?;
-    for result in results {
-        assert_reply(rt, &mut board, *result);
-    }
-    assert_eq!(rt; board.next_stamp(), None);
-    Ok(())
+    let replied = replied(&mut board, results);
+    Ok((replied, board.next_stamp() == None))
 }
+
+static TWO_PERIODS: &[u8] =
+    b"0 open 1\n0 open 2\n0 open 3\n0 open 1\n0 bridge 1 1\n0 bridge 1 2\n0 bridge 3 2\n0 unbridge 3\n\
+        1 unbridge 2\n1 bridge 3 1\n1 close 3\n1 open 3\n1 level 9 0\n";
+
+static TWO_RESULTS: [Result<Act, Refusal>; 13] = [
+    Ok(Act::Opened { call: 1 }),
+    Ok(Act::Opened { call: 2 }),
+    Ok(Act::Opened { call: 3 }),
+    Err(Refusal::AlreadyOpen { call: 1 }),
+    Err(Refusal::SameCall { call: 1 }),
+    Ok(Act::Bridged { a: 1, b: 2 }),
+    Err(Refusal::Bridged {
+        call: 2,
+        partner: 1,
+    }),
+    Err(Refusal::NotBridged { call: 3 }),
+    Ok(Act::Unbridged { a: 1, b: 2 }),
+    Err(Refusal::Draining {
+        call: 1,
+        partner: 2,
+    }),
+    Ok(Act::Closed {
+        call: 3,
+        partner: None,
+    }),
+    Err(Refusal::NumberUsed { call: 3 }),
+    Err(Refusal::NotOpen { call: 9 }),
+];
 
 // Two periods, with each refusal once.
 #[test]
 fn orders_are_accepted_or_refused(rt: HostRuntime) -> Result<(), Fail> {
-    assert_replies(
-        &rt,
-        rt.alloc(),
-        b"0 open 1\n0 open 2\n0 open 3\n0 open 1\n0 bridge 1 1\n0 bridge 1 2\n0 bridge 3 2\n0 unbridge 3\n\
-        1 unbridge 2\n1 bridge 3 1\n1 close 3\n1 open 3\n1 level 9 0\n",
-        &[
-            Ok(Act::Opened { call: 1 }),
-            Ok(Act::Opened { call: 2 }),
-            Ok(Act::Opened { call: 3 }),
-            Err(Refusal::AlreadyOpen { call: 1 }),
-            Err(Refusal::SameCall { call: 1 }),
-            Ok(Act::Bridged { a: 1, b: 2 }),
-            Err(Refusal::Bridged {
-                call: 2,
-                partner: 1,
-            }),
-            Err(Refusal::NotBridged { call: 3 }),
-            Ok(Act::Unbridged { a: 1, b: 2 }),
-            Err(Refusal::Draining {
-                call: 1,
-                partner: 2,
-            }),
-            Ok(Act::Closed {
-                call: 3,
-                partner: None,
-            }),
-            Err(Refusal::NumberUsed { call: 3 }),
-            Err(Refusal::NotOpen { call: 9 }),
-        ],
-    )
+    assert_eq!(rt;
+        replied_to(rt.alloc(), TWO_PERIODS, &TWO_RESULTS)?,
+        (13, true)
+    );
+    Ok(())
 }
+
+static THREE_PERIODS: &[u8] =
+    b"0 open 1\n0 open 2\n0 open 3\n0 open 4\n0 open 5\n0 bridge 1 2\n0 bridge 3 4\n\
+        0 bridge 9 9\n0 bridge 8 9\n0 bridge 1 9\n0 bridge 1 3\n0 bridge 5 3\n\
+        1 unbridge 2\n1 bridge 2 3\n1 unbridge 4\n1 bridge 3 1\n1 bridge 5 1\n1 unbridge 9\n1 unbridge 1\n1 dtx 9 on\n\
+        2 bridge 3 1\n2 close 1\n2 open 1\n2 close 1\n2 bridge 3 5\n2 level 5 7\n2 dtx 5 on\n";
+
+static THREE_RESULTS: [Result<Act, Refusal>; 27] = [
+    Ok(Act::Opened { call: 1 }),
+    Ok(Act::Opened { call: 2 }),
+    Ok(Act::Opened { call: 3 }),
+    Ok(Act::Opened { call: 4 }),
+    Ok(Act::Opened { call: 5 }),
+    Ok(Act::Bridged { a: 1, b: 2 }),
+    Ok(Act::Bridged { a: 3, b: 4 }),
+    Err(Refusal::SameCall { call: 9 }),
+    Err(Refusal::NotOpen { call: 8 }),
+    Err(Refusal::NotOpen { call: 9 }),
+    Err(Refusal::Bridged {
+        call: 1,
+        partner: 2,
+    }),
+    Err(Refusal::Bridged {
+        call: 3,
+        partner: 4,
+    }),
+    Ok(Act::Unbridged { a: 1, b: 2 }),
+    Err(Refusal::Bridged {
+        call: 3,
+        partner: 4,
+    }),
+    Ok(Act::Unbridged { a: 3, b: 4 }),
+    Err(Refusal::Draining {
+        call: 3,
+        partner: 4,
+    }),
+    Err(Refusal::Draining {
+        call: 1,
+        partner: 2,
+    }),
+    Err(Refusal::NotOpen { call: 9 }),
+    Err(Refusal::NotBridged { call: 1 }),
+    Err(Refusal::NotOpen { call: 9 }),
+    Ok(Act::Bridged { a: 3, b: 1 }),
+    Ok(Act::Closed {
+        call: 1,
+        partner: Some(3),
+    }),
+    Err(Refusal::NumberUsed { call: 1 }),
+    Err(Refusal::NotOpen { call: 1 }),
+    Err(Refusal::Draining {
+        call: 3,
+        partner: 1,
+    }),
+    Ok(Act::LevelSet { call: 5, level: 7 }),
+    Ok(Act::DtxSet {
+        call: 5,
+        mode: DtxMode::On,
+    }),
+];
 
 // Of several refusals that hold the first comes.
 #[test]
 fn tests_of_an_order_go_in_their_order(rt: HostRuntime) -> Result<(), Fail> {
-    assert_replies(
-        &rt,
-        rt.alloc(),
-        b"0 open 1\n0 open 2\n0 open 3\n0 open 4\n0 open 5\n0 bridge 1 2\n0 bridge 3 4\n\
-        0 bridge 9 9\n0 bridge 8 9\n0 bridge 1 9\n0 bridge 1 3\n0 bridge 5 3\n\
-        1 unbridge 2\n1 bridge 2 3\n1 unbridge 4\n1 bridge 3 1\n1 bridge 5 1\n1 unbridge 9\n1 unbridge 1\n1 dtx 9 on\n\
-        2 bridge 3 1\n2 close 1\n2 open 1\n2 close 1\n2 bridge 3 5\n2 level 5 7\n2 dtx 5 on\n",
-        &[
-            Ok(Act::Opened { call: 1 }),
-            Ok(Act::Opened { call: 2 }),
-            Ok(Act::Opened { call: 3 }),
-            Ok(Act::Opened { call: 4 }),
-            Ok(Act::Opened { call: 5 }),
-            Ok(Act::Bridged { a: 1, b: 2 }),
-            Ok(Act::Bridged { a: 3, b: 4 }),
-            Err(Refusal::SameCall { call: 9 }),
-            Err(Refusal::NotOpen { call: 8 }),
-            Err(Refusal::NotOpen { call: 9 }),
-            Err(Refusal::Bridged {
-                call: 1,
-                partner: 2,
-            }),
-            Err(Refusal::Bridged {
-                call: 3,
-                partner: 4,
-            }),
-            Ok(Act::Unbridged { a: 1, b: 2 }),
-            Err(Refusal::Bridged {
-                call: 3,
-                partner: 4,
-            }),
-            Ok(Act::Unbridged { a: 3, b: 4 }),
-            Err(Refusal::Draining {
-                call: 3,
-                partner: 4,
-            }),
-            Err(Refusal::Draining {
-                call: 1,
-                partner: 2,
-            }),
-            Err(Refusal::NotOpen { call: 9 }),
-            Err(Refusal::NotBridged { call: 1 }),
-            Err(Refusal::NotOpen { call: 9 }),
-            Ok(Act::Bridged { a: 3, b: 1 }),
-            Ok(Act::Closed {
-                call: 1,
-                partner: Some(3),
-            }),
-            Err(Refusal::NumberUsed { call: 1 }),
-            Err(Refusal::NotOpen { call: 1 }),
-            Err(Refusal::Draining {
-                call: 3,
-                partner: 1,
-            }),
-            Ok(Act::LevelSet { call: 5, level: 7 }),
-            Ok(Act::DtxSet {
-                call: 5,
-                mode: DtxMode::On,
-            }),
-        ],
-    )
+    assert_eq!(rt;
+        replied_to(rt.alloc(), THREE_PERIODS, &THREE_RESULTS)?,
+        (27, true)
+    );
+    Ok(())
 }
 
-// An order of period 0 is executed.
-fn turn_at_0(rt: &impl Abort, board: &mut Board)
+// Whether an order of period 0 is executed.
+fn turns_at_0(board: &mut Board) -> bool
     requires { (t : ℕ) → EndBefore t board.old }
     ensures told { (t : ℕ) → EndBefore t board.new }
-    ensures last { last_stamp board.new.done ≡ 0 }
+    ensures last { IsTrue result → last_stamp board.new.done ≡ 0 }
 {
-    assert!(rt; board.turn(0).is_some());
+    board.turn(0).is_some()
 }
 
-// The lines of an open call end.
-fn end_call(rt: &impl Abort, board: &mut Board, call: u32, at: u32)
+// The same of the three orders of period 0.
+fn begins(board: &mut Board) -> bool
+    requires { (t : ℕ) → EndBefore t board.old }
+    ensures told { (t : ℕ) → EndBefore t board.new }
+    ensures last { IsTrue result → last_stamp board.new.done ≡ 0 }
+{
+    turns_at_0(board) && turns_at_0(board) && turns_at_0(board)
+}
+
+// The lines of a call end: whether it was open, and then the calls 7 and 9 were bridged from period 0 to this one.
+fn ends_span(board: &mut Board, call: u32, at: u32) -> bool
     requires { last_stamp board.old.done ≤ at }
     ensures told { (t : ℕ) → at < t → EndBefore t board.old → EndBefore t board.new }
     ensures done { board.new.done ≡ board.old.done }
 {
-    assert!(rt; board.is_open(call));
+    if !board.is_open(call) {
+        return false;
+    }
     let cause = Cause::Limit;
     board.ended(CallEnd { call, at, cause });
-}
-
-// Asserts that the calls 7 and 9 were bridged from period 0 to this one.
-fn assert_span(rt: &impl Abort, board: &Board, to: u32) {
     let span = Span {
         a: 7,
         b: 9,
         from: 0,
-        to,
+        to: at,
     };
-    assert_eq!(rt; board.spans(), [span].as_slice());
+    board.spans() == [span].as_slice()
 }
 
-const REFUSED: Reply = Reply {
+// Whether the two calls end so, the second one in a period before.
+fn ends_lower(board: &mut Board) -> bool
+    requires told { (t : ℕ) → EndBefore t board.old }
+    requires last { last_stamp board.old.done ≡ 0 }
+    ensures { (t : ℕ) → 35 < t → EndBefore t board.new }
+{
+    let first = ends_span(board, 7, 35);
+    ends_span(board, 9, 30) && first
+}
+
+// The reply to the order of period 40, if it is the next.
+fn reply_at_40(board: &mut Board) -> Option<Reply>
+    requires { (t : ℕ) → 35 < t → EndBefore t board.old }
+{
+    if board.next_stamp() == Some(40) {
+        board.turn(40)
+    } else {
+        None
+    }
+}
+
+// The same once both calls have ended so.
+fn reply_after_both(board: &mut Board) -> Option<Reply>
+    requires { (t : ℕ) → EndBefore t board.old }
+{
+    if begins(board) && ends_lower(board) {
+        reply_at_40(board)
+    } else {
+        None
+    }
+}
+
+static REFUSED: Reply = Reply {
     order: 4,
     result: Err(Refusal::NotOpen { call: 9 }),
 };
@@ -195,15 +242,6 @@ const REFUSED: Reply = Reply {
 fn ends_lower_a_span(rt: HostRuntime) -> Result<(), Fail> {
     let orders = b"0 open 7\n0 open 9\n0 bridge 7 9\n40 unbridge 9\n";
     let mut board = board_of(rt.alloc(), orders)?;
-    turn_at_0(&rt, &mut board);
-    turn_at_0(&rt, &mut board);
-    turn_at_0(&rt, &mut board);
-    end_call(&rt, &mut board, 7, 35);
-    assert_span(&rt, &board, 35);
-    end_call(&rt, &mut board, 9, 30);
-    assert_span(&rt, &board, 30);
-    assert_eq!(rt; board.next_stamp(), Some(40));
-    let reply = board.turn(40);
-    assert_eq!(rt; reply, Some(REFUSED));
+    assert_eq!(rt; reply_after_both(&mut board), Some(REFUSED));
     Ok(())
 }

@@ -1,16 +1,21 @@
 use trau_bits::{get_bit, pack, put_bit, unpack};
 
 // Worked by hand: 0x88 is 1000 1000 and 0x06 is 0000 0110, the most significant bit first.
+static BITS: [u8; 16] = [1, 0, 0, 0, 1, 0, 0, 0, 0, 0, 0, 0, 0, 1, 1, 0];
+
 #[test]
 fn most_significant_bit_first(rt: HostRuntime) {
-    let want = [1, 0, 0, 0, 1, 0, 0, 0, 0, 0, 0, 0, 0, 1, 1, 0];
     let mut bits = [0; 16];
     unpack(&[0x88, 0x06], &mut bits);
-    assert!(rt; bits == want);
+    assert!(rt; bits == BITS);
     let mut bytes = [0xFF; 2];
     pack(&bits, &mut bytes);
-    assert!(rt; bytes == [0x88, 0x06]);
-    assert_eq!(rt; get_bit(&bytes, 13), 1);
+    assert!(rt; bytes == [0x88, 0x06] && get_bit(&bytes, 13) == 1);
+}
+
+#[test]
+fn bits_are_put(rt: HostRuntime) {
+    let mut bytes = [0x88, 0x06];
     put_bit(&mut bytes, 13, 0);
     put_bit(&mut bytes, 0, 0);
     put_bit(&mut bytes, 15, 1);

@@ -4,34 +4,31 @@ use std::{fs, io};
 use trau_files::{FileTrunk, StdDesk};
 use trau_io::{Desk, Line, Side, Trunk};
 
-const UP: Line = Line {
-    call: 4096,
-    side: Side::Up,
-};
-
-const OUT: Line = Line {
-    call: 9,
-    side: Side::Out,
-};
+// The lines of the tests are Up of call 4096 and Out of call 9.
+fn line(side: Side) -> Line {
+    match side {
+        Side::Up => Line { call: 4096, side },
+        _ => Line { call: 9, side },
+    }
+}
 
 // What is done to files and lines, and what comes of it.
 #[derive(Drop)]
-enum Step<'a> {
+enum Step {
     // A file of these octets is made.
-    Make(&'a str, &'a [u8]),
-    Remove(&'a str),
+    Make(&'static str, &'static [u8]),
+    Remove(&'static str),
     // A file holds these octets.
-    Holds(&'a str, &'a [u8]),
+    Holds(&'static str, &'static [u8]),
     // A read of at most four octets gives so many, and leaves these in the place of four octets 0.
-    Gives(Line, usize, [u8; 4]),
+    Gives(Side, usize, [u8; 4]),
     // The next octet of a line.
-    Next(Line, u8),
+    Next(Side, u8),
     // A read fails, and doesn't only find the line's end.
-    ReadFails(Line),
+    ReadFails(Side),
     // A line takes octets at once.
-    Takes(Line, u8),
-    TakesTwo(Line, [u8; 2]),
-    WriteFails(Line),
+    Takes(Side, &'static [u8]),
+    WriteFails(Side),
 }
 
 // Whether a read of at most four octets gives so many, and leaves these.
@@ -53,26 +50,33 @@ fn is_next(trunk: &mut FileTrunk<'_, HostRuntime>, line: Line, octet: u8) -> boo
 
 // Whether a file holds these octets.
 fn holds(rt: &HostRuntime, name: &str, octets: &[u8]) -> bool {
-    fs::read(rt, name).is_ok_and(|found| found.as_slice() == octets)
+    match fs::read(rt, name) {
+        Ok(found) => found.as_slice() == octets,
+        Err(_) => false,
+    }
+}
+
+// Whether a line takes octets at once.
+fn takes(trunk: &mut FileTrunk<'_, HostRuntime>, line: Line, octets: &[u8]) -> bool {
+    !octets.is_empty() && trunk.write(line, octets).ok() == Some(octets.len())
 }
 
 // Whether a step is done, and comes to what it tells.
-fn is_done(rt: &HostRuntime, trunk: &mut FileTrunk<'_, HostRuntime>, step: &Step<'_>) -> bool {
+fn is_done(rt: &HostRuntime, trunk: &mut FileTrunk<'_, HostRuntime>, step: &Step) -> bool {
     match step {
         Step::Make(name, octets) => fs::write(rt, *name, *octets).is_ok(),
         Step::Remove(name) => fs::remove_file(rt, *name).is_ok(),
         Step::Holds(name, octets) => holds(rt, name, octets),
-        Step::Gives(line, count, octets) => gives(trunk, *line, *count, octets),
-        Step::Next(line, octet) => is_next(trunk, *line, *octet),
-        Step::ReadFails(line) => trunk.read(*line, &mut [0]).is_err(),
-        Step::Takes(line, octet) => trunk.write(*line, &[*octet]).ok() == Some(1),
-        Step::TakesTwo(line, octets) => trunk.write(*line, octets).ok() == Some(2),
-        Step::WriteFails(line) => trunk.write(*line, &[8]).is_err(),
+        Step::Gives(side, count, octets) => gives(trunk, line(*side), *count, octets),
+        Step::Next(side, octet) => is_next(trunk, line(*side), *octet),
+        Step::ReadFails(side) => trunk.read(line(*side), &mut [0]).is_err(),
+        Step::Takes(side, octets) => takes(trunk, line(*side), octets),
+        Step::WriteFails(side) => trunk.write(line(*side), &[8]).is_err(),
     }
 }
 
 // How many steps from the first on are done.
-fn done(rt: &HostRuntime, steps: &[Step<'_>]) -> usize {
+fn done(rt: &HostRuntime, steps: &[Step]) -> usize {
     let Ok(mut trunk) = FileTrunk::new(rt.alloc(), rt) else {
         return 0;
     };
@@ -86,70 +90,74 @@ fn done(rt: &HostRuntime, steps: &[Step<'_>]) -> usize {
     done
 }
 
+static FILES: [Step; 11] = [
+    Step::Make("4096.up", &[1, 2, 3, 4, 5]),
+    Step::Make("9.out", &[9; 9]),
+    Step::Gives(Side::Up, 4, [1, 2, 3, 4]),
+    Step::Gives(Side::Up, 1, [5, 0, 0, 0]),
+    Step::Gives(Side::Up, 0, [0; 4]),
+    Step::Gives(Side::Out, 4, [9; 4]),
+    Step::Takes(Side::Out, &[6]),
+    Step::Takes(Side::Out, &[7, 8]),
+    Step::Holds("9.out", &[6, 7, 8]),
+    Step::Remove("4096.up"),
+    Step::ReadFails(Side::Up),
+];
+
 #[test]
 fn lines_are_files(rt: HostRuntime) {
-    let steps = [
-        Step::Make("4096.up", &[1, 2, 3, 4, 5]),
-        Step::Make("9.out", &[9; 9]),
-        Step::Gives(UP, 4, [1, 2, 3, 4]),
-        Step::Gives(UP, 1, [5, 0, 0, 0]),
-        Step::Gives(UP, 0, [0; 4]),
-        Step::Gives(OUT, 4, [9; 4]),
-        Step::Takes(OUT, 6),
-        Step::TakesTwo(OUT, [7, 8]),
-        Step::Holds("9.out", &[6, 7, 8]),
-        Step::Remove("4096.up"),
-        Step::ReadFails(UP),
-    ];
-    assert_eq!(rt; done(&rt, &steps), 11);
+    assert_eq!(rt; done(&rt, &FILES), 11);
 }
+
+static READS_IN_TURN: [Step; 7] = [
+    Step::Make("4096.up", &[1, 2, 3]),
+    Step::Make("9.out", &[4, 5, 6]),
+    Step::Next(Side::Up, 1),
+    Step::Next(Side::Out, 4),
+    Step::Next(Side::Up, 2),
+    Step::Takes(Side::Out, &[7]),
+    Step::Next(Side::Up, 3),
+];
 
 // Each line goes on at its own octet: also where another was read or written in between.
 #[test]
 fn lines_are_read_in_turn(rt: HostRuntime) {
-    let steps = [
-        Step::Make("4096.up", &[1, 2, 3]),
-        Step::Make("9.out", &[4, 5, 6]),
-        Step::Next(UP, 1),
-        Step::Next(OUT, 4),
-        Step::Next(UP, 2),
-        Step::Takes(OUT, 7),
-        Step::Next(UP, 3),
-    ];
-    assert_eq!(rt; done(&rt, &steps), 7);
+    assert_eq!(rt; done(&rt, &READS_IN_TURN), 7);
 }
+
+static WRITES_IN_TURN: [Step; 5] = [
+    Step::Takes(Side::Out, &[7]),
+    Step::Takes(Side::Up, &[8]),
+    Step::Takes(Side::Out, &[9]),
+    Step::Holds("9.out", &[7, 9]),
+    Step::Next(Side::Up, 8),
+];
 
 #[test]
 fn lines_are_written_in_turn(rt: HostRuntime) {
-    let steps = [
-        Step::Takes(OUT, 7),
-        Step::Takes(UP, 8),
-        Step::Takes(OUT, 9),
-        Step::Holds("9.out", &[7, 9]),
-        Step::Next(UP, 8),
-    ];
-    assert_eq!(rt; done(&rt, &steps), 5);
+    assert_eq!(rt; done(&rt, &WRITES_IN_TURN), 5);
 }
+
+static REMOVED_FILES: [Step; 13] = [
+    Step::Make("4096.up", &[1, 2, 3]),
+    Step::Next(Side::Up, 1),
+    Step::Takes(Side::Out, &[7]),
+    Step::Remove("4096.up"),
+    Step::Remove("9.out"),
+    Step::Next(Side::Up, 2),
+    Step::Takes(Side::Out, &[8]),
+    Step::ReadFails(Side::Out),
+    Step::ReadFails(Side::Up),
+    Step::Make("4096.up", &[4, 5, 6]),
+    Step::Next(Side::Up, 6),
+    Step::Takes(Side::Up, &[9]),
+    Step::WriteFails(Side::Out),
+];
 
 // The file that was used last is open and outlives its name; any other is looked for by its name.
 #[test]
 fn a_removed_file_goes_on_while_it_is_open(rt: HostRuntime) {
-    let steps = [
-        Step::Make("4096.up", &[1, 2, 3]),
-        Step::Next(UP, 1),
-        Step::Takes(OUT, 7),
-        Step::Remove("4096.up"),
-        Step::Remove("9.out"),
-        Step::Next(UP, 2),
-        Step::Takes(OUT, 8),
-        Step::ReadFails(OUT),
-        Step::ReadFails(UP),
-        Step::Make("4096.up", &[4, 5, 6]),
-        Step::Next(UP, 6),
-        Step::Takes(UP, 9),
-        Step::WriteFails(OUT),
-    ];
-    assert_eq!(rt; done(&rt, &steps), 13);
+    assert_eq!(rt; done(&rt, &REMOVED_FILES), 13);
 }
 
 // Is interrupted before each call that moves anything.

@@ -14,16 +14,6 @@ const DOWN: Line = Line {
     side: Side::Down,
 };
 
-// Whether a read of at most four octets is answered so.
-fn reads(
-    trunk: &mut MemTrunk,
-    line: Line,
-    octets: &mut [u8; 4],
-    answer: Result<usize, Failed>,
-) -> bool {
-    trunk.read(line, octets) == answer
-}
-
 // Sets a line anew.
 fn set(
     alloc: Global,
@@ -48,27 +38,40 @@ fn nine_octets(alloc: Global) -> Result<MemTrunk, AllocError> {
     Ok(trunk)
 }
 
+// What is answered to reads of at most four octets.
+static ANSWERS: [Result<usize, Failed>; 6] = [Ok(1), Ok(2), Ok(4), Err(Failed), Ok(2), Ok(0)];
+
+// How many reads from the first on are answered so.
+fn reads_answered(trunk: &mut MemTrunk, octets: &mut [u8; 4]) -> usize {
+    let mut answered = 0usize;
+    for answer in &ANSWERS {
+        if trunk.read(UP, octets) != *answer {
+            return answered;
+        }
+        answered = answered.saturating_add(1);
+    }
+    answered
+}
+
 // Past the cuts there are none.
 #[test]
 fn a_line_is_read_in_its_cuts(rt: HostRuntime) -> Result<(), Fail> {
     let mut trunk = nine_octets(rt.alloc())?;
     let mut octets = [0; 4];
-    assert!(rt; reads(&mut trunk, UP, &mut octets, Ok(1)));
-    assert!(rt; reads(&mut trunk, UP, &mut octets, Ok(2)));
-    assert!(rt; reads(&mut trunk, UP, &mut octets, Ok(4)));
-    assert!(rt; reads(&mut trunk, UP, &mut octets, Err(Failed)));
-    assert!(rt; reads(&mut trunk, UP, &mut octets, Ok(2)));
-    assert!(rt; reads(&mut trunk, UP, &mut octets, Ok(0)));
-    assert!(rt; octets == [8, 9, 6, 7]);
-    assert!(rt; trunk.faults(UP) == 1);
+    assert_eq!(rt; reads_answered(&mut trunk, &mut octets), 6);
+    assert!(rt; octets == [8, 9, 6, 7] && trunk.faults(UP) == 1);
     Ok(())
+}
+
+// Whether Down gives nothing and takes nothing.
+fn is_closed(trunk: &mut MemTrunk) -> bool {
+    trunk.read(DOWN, &mut [0; 4]) == Ok(0) && trunk.write(DOWN, &[8, 9, 6, 7]) == Err(Failed)
 }
 
 #[test]
 fn all_other_lines_are_empty_and_without_room(rt: HostRuntime) -> Result<(), Fail> {
     let mut trunk = nine_octets(rt.alloc())?;
-    assert!(rt; reads(&mut trunk, DOWN, &mut [0; 4], Ok(0)));
-    assert!(rt; trunk.write(DOWN, &[8, 9, 6, 7]) == Err(Failed));
+    assert!(rt; is_closed(&mut trunk));
     Ok(())
 }
 
@@ -90,16 +93,18 @@ fn takes(trunk: &mut MemTrunk, block: &[u8; 6]) -> bool {
     write_all(trunk, DOWN, block).is_ok()
 }
 
+// Whether a block goes through whole, of the next one four octets come, and Down hasn't room for it.
+fn transfers(trunk: &mut MemTrunk) -> bool {
+    let mut block = [0; 6];
+    let whole = fills(trunk, &mut block, Filled::Whole) && takes(trunk, &block);
+    whole && fills(trunk, &mut block, Filled::Ended(4)) && !takes(trunk, &block)
+}
+
 #[test]
 fn a_whole_transfer_goes_on_over_cuts(rt: HostRuntime) -> Result<(), Fail> {
     let mut trunk = ten_octets(rt.alloc())?;
-    let mut block = [0; 6];
-    assert!(rt; fills(&mut trunk, &mut block, Filled::Whole));
-    assert!(rt; takes(&mut trunk, &block));
-    assert!(rt; fills(&mut trunk, &mut block, Filled::Ended(4)));
-    assert!(rt; !takes(&mut trunk, &block));
-    assert!(rt; trunk.written(DOWN) == [7; 7].as_slice());
-    assert!(rt; trunk.faults(DOWN) == 1);
+    assert!(rt; transfers(&mut trunk));
+    assert!(rt; trunk.written(DOWN) == [7; 7].as_slice() && trunk.faults(DOWN) == 1);
     Ok(())
 }
 
@@ -119,14 +124,16 @@ fn has_failed(desk: &MemDesk, reads: u64, writes: u64) -> bool {
     desk.read_faults() == reads && desk.write_faults() == writes
 }
 
+// Whether the first read fails, and the next ones give all eight octets.
+fn is_heard(desk: &mut MemDesk) -> bool {
+    let first = hears(desk, Err(Failed)) && hears(desk, Ok(6));
+    first && hears(desk, Ok(2)) && hears(desk, Ok(0))
+}
+
 #[test]
 fn a_desk_is_read_as_it_was_told(rt: HostRuntime) -> Result<(), Fail> {
     let mut desk = desk(rt.alloc())?;
-    assert!(rt; hears(&mut desk, Err(Failed)));
-    assert!(rt; hears(&mut desk, Ok(6)));
-    assert!(rt; hears(&mut desk, Ok(2)));
-    assert!(rt; hears(&mut desk, Ok(0)));
-    assert!(rt; has_failed(&desk, 1, 0));
+    assert!(rt; is_heard(&mut desk) && has_failed(&desk, 1, 0));
     Ok(())
 }
 
@@ -135,18 +142,15 @@ fn is_told(desk: &mut MemDesk) -> bool {
     tell(desk, b"usage\n").is_ok()
 }
 
-// Whether these octets were written.
-fn has_taken(desk: &MemDesk, octets: &[u8]) -> bool {
-    desk.text() == octets
+// Whether it takes the first usage, not the second one, and three octets of the third.
+fn is_told_once(desk: &mut MemDesk) -> bool {
+    let once = is_told(desk) && !is_told(desk) && !is_told(desk);
+    once && desk.text() == b"usage\nusa".as_slice()
 }
 
 #[test]
 fn a_desk_fails_as_it_was_told(rt: HostRuntime) -> Result<(), Fail> {
     let mut desk = desk(rt.alloc())?;
-    assert!(rt; is_told(&mut desk));
-    assert!(rt; !is_told(&mut desk));
-    assert!(rt; !is_told(&mut desk), "three octets fit");
-    assert!(rt; has_taken(&desk, b"usage\nusa"));
-    assert!(rt; has_failed(&desk, 0, 2));
+    assert!(rt; is_told_once(&mut desk) && has_failed(&desk, 0, 2));
     Ok(())
 }

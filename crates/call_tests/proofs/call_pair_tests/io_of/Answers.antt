@@ -1,8 +1,8 @@
 use Rattle.std.proofs.Common.{rules}
-use Rattle.call_tests.proofs.call_pair_tests.half.Goals as goal
+use Rattle.call_tests.proofs.call_pair_tests.io_of.Goals as goal
 
-pub new-io-requires-clause-room : goal.new-io-requires-clause-room
-new-io-requires-clause-room c = record {
+pub new-requires-clause-room : goal.new-requires-clause-room
+new-requires-clause-room c = record {
   periods = 4;
   enough = c.requires.given;
   up_room = search rules;
