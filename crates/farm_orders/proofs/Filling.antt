@@ -1,15 +1,14 @@
 -- Several reads of the desk, one after another.
-use Rattle.std.proofs.Common.{◌≡◌, ℕ, ◌+◌, ◌-◌, ◌<◌, ◌≤◌, List, ◌++◌, length, take, Ok, Err, refl, ◌∙◌, ap, subst, arith, length-take}
+use Rattle.std.proofs.Common.{◌≡◌, ℕ, ◌+◌, ◌-◌, ◌<◌, ◌≤◌, List, length, take, Ok, Err, refl, ◌∙◌, subst, arith}
 use Rattle.std.specs.Io.KnownBytes.{Consumes}
 use Rattle.std.proofs.KnownBytes.{Consumes-nil, Consumes-trans, Consumes-kept}
-use Rattle.std.proofs.lemmas.List.{take-append-le, take_all}
-use Rattle.std.proofs.Math.Seq.{take-append-add, take-append_seam}
-use borrow.Rule.Slice.PartMut.{put_mid, post_of}
+use Rattle.std.proofs.lemmas.List.{take_all}
+use borrow.Rule.Slice.PartMut.{put_mid}
 use Rattle.trau_io.specs.declared.line.Failed.{Failed}
 use Rattle.trau_io.specs.declared.transfer.Filled.TheVariants as filled
 use Rattle.trau_io.specs.Lines.{Rose}
 use Rattle.trau_io.specs.Desks.{DeskState, DeskReads}
-use Rattle.trau_io.proofs.Runs.{length_filled}
+use Rattle.trau_io.proofs.Runs.{length_filled, front_filled, take_filled}
 use Rattle.farm_orders.specs.Block.{FillsBlock}
 
 -- what successful reads have done so far
@@ -22,15 +21,6 @@ pub record Filled (before now : DeskState) (n : ℕ) (block : List ℕ) : Type 0
 
 pub filled_none : (s : DeskState) (block : List ℕ) → Filled s s 0 block
 filled_none s block = record { bound = omega arith; consumed = Consumes-nil s.to_come; read_faults = refl; written = refl; write_faults = refl }
-
--- the front of a block in which a piece was put behind a front
-take_filled : (n k : ℕ) (block piece : List ℕ) → n ≤ length block → k ≤ length piece → take (n + k) (put_mid n (length block - n) block piece) ≡ take n block ++ take k piece
-take_filled n k block piece bound part =
-    let rest = piece ++ post_of n (length block - n) block in
-    let front : length (take n block) ≡ n = simp length-take (omega arith) in
-    let count : n + k ≡ length (take n block) + k = omega arith in
-    ap (λ m. take m (take n block ++ rest)) count ∙ take-append-add (take n block) rest k
-    ∙ ap (λ l. take n block ++ l) (take-append-le k piece (post_of n (length block - n) block) part)
 
 pub filled_more : (before mid now : DeskState) (n k : ℕ) (block piece : List ℕ) → Filled before mid n block → DeskReads mid now (Ok k) piece → length piece ≡ length block - n → Filled before now (n + k) (put_mid n (length block - n) block piece)
 filled_more before mid now n k block piece so_far reads fits =
@@ -70,16 +60,10 @@ module _ (before mid now : DeskState) (n : ℕ) (block piece : List ℕ) (so_far
         write_faults = more.write_faults;
       }
 
-  front_kept : take n (put_mid n (length block - n) block piece) ≡ take n block
-  front_kept =
-      let front : length (take n block) ≡ n = simp length-take (omega arith) in
-      let rest = piece ++ post_of n (length block - n) block in
-      subst (λ m. take m (take n block ++ rest) ≡ take n block) front (take-append_seam (take n block) rest)
-
   -- the desk failed
   pub filled_failed : (e : Failed) → DeskReads mid now (Err e) piece → FillsBlock before now (filled.Failed n) (put_mid n (length block - n) block piece)
   filled_failed e reads = record {
-    given = rw front_kept (Consumes-kept _ _ _ _ so_far.consumed reads.to_come);
+    given = rw (front_filled n block piece so_far.bound) (Consumes-kept _ _ _ _ so_far.consumed reads.to_come);
     stopped = (omega (arith, long), subst (λ f. Rose f now.read_faults) so_far.read_faults reads.cause.failed);
     later = omega (arith, so_far.read_faults, reads.cause.later);
     written = reads.written ∙ so_far.written;

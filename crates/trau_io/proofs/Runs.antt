@@ -29,8 +29,15 @@ filled_none s block = record { bound = omega arith; consumed = Consumes-nil s.to
 pub length_filled : (n : ℕ) (block piece : List ℕ) → n ≤ length block → length piece ≡ length block - n → length (put_mid n (length block - n) block piece) ≡ length block
 length_filled n block piece bound fits = grind (arith, common_steps)
 
-take_filled : (n k : ℕ) (block piece : List ℕ) → n ≤ length block → length piece ≡ length block - n → k ≤ length piece → take (n + k) (put_mid n (length block - n) block piece) ≡ take n block ++ take k piece
-take_filled n k block piece bound fits part =
+-- the front of a block in which a piece was put behind n octets
+pub front_filled : (n : ℕ) (block piece : List ℕ) → n ≤ length block → take n (put_mid n (length block - n) block piece) ≡ take n block
+front_filled n block piece bound =
+    let front : length (take n block) ≡ n = simp length-take (omega arith) in
+    let rest = piece ++ post_of n (length block - n) block in
+    subst (λ m. take m (take n block ++ rest) ≡ take n block) front (take-append_seam (take n block) rest)
+
+pub take_filled : (n k : ℕ) (block piece : List ℕ) → n ≤ length block → k ≤ length piece → take (n + k) (put_mid n (length block - n) block piece) ≡ take n block ++ take k piece
+take_filled n k block piece bound part =
     let rest = piece ++ post_of n (length block - n) block in
     let front : length (take n block) ≡ n = simp length-take (omega arith) in
     let count : n + k ≡ length (take n block) + k = omega arith in
@@ -43,7 +50,7 @@ filled_more before mid now n k block piece so_far reads fits =
     let part : k ≤ length piece = reads.bound.0 in
     record {
       bound = omega (arith, long, part, fits, so_far.bound);
-      consumed = rw (take_filled n k block piece so_far.bound fits part) (Consumes-trans _ _ _ _ _ so_far.consumed reads.to_come.0);
+      consumed = rw (take_filled n k block piece so_far.bound part) (Consumes-trans _ _ _ _ _ so_far.consumed reads.to_come.0);
       written = reads.written ∙ so_far.written;
       faults = reads.cause.ok ∙ so_far.faults;
     }
@@ -72,16 +79,10 @@ module _ (before mid now : LineState) (n : ℕ) (block piece : List ℕ) (so_far
         later = omega (arith, more.faults);
       }
 
-  front_kept : take n (put_mid n (length block - n) block piece) ≡ take n block
-  front_kept =
-      let front : length (take n block) ≡ n = simp length-take (omega arith) in
-      let rest = piece ++ post_of n (length block - n) block in
-      subst (λ m. take m (take n block ++ rest) ≡ take n block) front (take-append_seam (take n block) rest)
-
   -- it failed
   pub filled_failed : (e : Failed) → Reads mid now (Err e) piece → ReadsBlock before now (filled.Failed n) (put_mid n (length block - n) block piece)
   filled_failed e reads = record {
-    given = rw front_kept (Consumes-kept _ _ _ _ so_far.consumed reads.to_come);
+    given = rw (front_filled n block piece so_far.bound) (Consumes-kept _ _ _ _ so_far.consumed reads.to_come);
     stopped = (omega (arith, long), subst (λ f. Rose f now.faults) so_far.faults reads.cause.failed);
     written = reads.written ∙ so_far.written;
     later = omega (arith, so_far.faults, reads.cause.later);

@@ -1,4 +1,4 @@
-use Rattle.std.proofs.Common.{◌≡◌, sym, ap, ◌∙◌, subst, ℕ, List, length}
+use Rattle.std.proofs.Common.{sym, ap, ◌∙◌, subst, ℕ, List, length}
 use Rattle.farm_rounds.specs.declared.entry.Entry.{Entry}
 use Rattle.farm_rounds.specs.Groups.{AreLive}
 use Rattle.farm_rounds.specs.Rounds.{jobs_in, HaveEntries, BringCalls, AreSeats}

@@ -1,15 +1,13 @@
-use Rattle.std.proofs.Common.{rules, ◌≡◌, refl, ◌+◌, ◌≤◌, sym, ap, ◌∙◌, subst, ℕ, List, length, arith}
+use Rattle.std.proofs.Common.{◌≡◌, refl, ◌+◌, ◌≤◌, sym, ap, ◌∙◌, subst, ℕ, List, length, arith}
 use Rattle.std.specs.Global.{Box}
 use Rattle.std.specs.Vec.{vec_capacity}
 use Rattle.std.specs.List.Sorted.{IsPermutation}
 use Rattle.std.proofs.lemmas.List.{length-map}
 use Rattle.call_pair.specs.declared.job.Job.{Job}
-use Rattle.farm_rounds.specs.declared.entry.Entry.{Entry}
 use Rattle.farm_rounds.specs.declared.call.Group.{Group}
 use Rattle.farm_rounds.specs.declared.rest.Rest.{Rest}
-use Rattle.farm_rounds.specs.Numbers.{IsRising}
 use Rattle.farm_rounds.specs.Groups.{AreLive}
-use Rattle.farm_rounds.specs.Rounds.{jobs_in, HaveEntries, BringCalls, AreSeats}
+use Rattle.farm_rounds.specs.Rounds.{jobs_in, BringCalls, AreSeats}
 use Rattle.farm_rounds.specs.Working.{IsRound}
 use Rattle.farm_rounds.proofs.Applying.{few_groups}
 use Rattle.farm_rounds.proofs.Starting.{few_live, same_groups, made_number, planned}
