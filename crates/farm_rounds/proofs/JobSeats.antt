@@ -1,9 +1,9 @@
 -- Each open call of a round that is worked has one job, and one seat.
-use Rattle.std.proofs.Common.{◌≡◌, ◌≢◌, refl, sym, ap, ◌∙◌, subst, ℕ, suc, ◌+◌, ◌-◌, ◌<◌, ◌≤◌, Bool, true, false, Option, Some, None, List, [], ◌∷◌, length, arith, inl, inr}
-use Rattle.std.specs.Prelude.{if◌then◌else◌, ◌==◌, ◌||◌, is_some, unwrap_or, map, slice_index}
+use Rattle.std.proofs.Common.{◌≡◌, refl, sym, ap, ◌∙◌, subst, ℕ, suc, ◌+◌, ◌-◌, ◌<◌, ◌≤◌, Bool, true, false, Option, Some, List, [], ◌∷◌, length, arith, inl, inr}
+use Rattle.std.specs.Prelude.{if◌then◌else◌, ◌==◌, ◌||◌, is_some, map, slice_index}
 use Rattle.std.specs.Option.{option_map}
 use Rattle.std.specs.List.{find, count_by}
-use Rattle.std.proofs.lemmas.Bool.{cases_Bool, cases_order, eqb-true, eq-eqb, ne_eqb, false≢true}
+use Rattle.std.proofs.lemmas.Bool.{cases_Bool, eqb-true, false≢true}
 use Rattle.std.proofs.lemmas.List.Sums.{sum_by-cons}
 use Rattle.call_pair.specs.declared.job.Job.{Job}
 use Rattle.call_pair.specs.declared.job.Job.TheVariants.{One, Two}
@@ -11,7 +11,7 @@ use Rattle.call_pair.specs.Jobs.{has_call, half_of, finished}
 use Rattle.call_pair.specs.Memory.{IsIo}
 use Rattle.round_lines.specs.Places.{PlaceMemory, whole_in}
 use Rattle.round_lines.specs.Seats.{SeatMemory}
-use Rattle.round_lines.specs.Rounds.{Rising, no_seat, seat_at, call_at}
+use Rattle.round_lines.specs.Rounds.{Rising, seat_at, call_at}
 use Rattle.farm_rounds.specs.declared.call.Group.{Group}
 use Rattle.farm_rounds.specs.Calls.{holds, group_in, call_of, call_in}
 use Rattle.farm_rounds.specs.Numbers.{is_among}

@@ -16,7 +16,6 @@ use Rattle.round_lines.specs.Seats.{SeatMemory}
 use Rattle.round_lines.specs.Rounds.{seat_at, call_at}
 use Rattle.farm_rounds.specs.declared.call.Call.{Call}
 use Rattle.farm_rounds.specs.declared.call.Group.{Group}
-use Rattle.farm_rounds.specs.declared.call.Group.TheVariants as group
 use Rattle.farm_rounds.specs.Calls.{group_in, call_of, call_in, partner_of, partner_in}
 use Rattle.farm_rounds.specs.Groups.{AreGroups, AreLive}
 use Rattle.farm_rounds.specs.Histories.{CallHistory, CallStands, GroupsStand}

@@ -1,4 +1,5 @@
-use Rattle.std.proofs.Common.{sym, ap, ◌∙◌, subst, ℕ, List, length}
+use Rattle.std.proofs.Common.{refl, sym, ap, ◌∙◌, subst, ℕ, List, length}
+use Rattle.std.proofs.lemmas.Result.{IfOk-from_err}
 use Rattle.farm_rounds.specs.declared.entry.Entry.{Entry}
 use Rattle.farm_rounds.specs.Groups.{AreLive}
 use Rattle.farm_rounds.specs.Rounds.{jobs_in, HaveEntries, BringCalls, AreSeats}
@@ -34,3 +35,33 @@ returns-clause-seats c =
 
 pub returns-clause-length : goal.returns-clause-length
 returns-clause-length c = c.in_ok-seats.ensures.length ∙ ap length c.deref-2.ensures.value
+
+pub returns-in_err-jobs : goal.returns-in_err-jobs
+returns-in_err-jobs c =
+    let no = c.from_residual.ensures.0 in
+    record {
+      jobs = IfOk-from_err _ _ no;
+      entries = IfOk-from_err _ _ no;
+      calls = IfOk-from_err _ _ no;
+      number = IfOk-from_err _ _ no;
+      seats = IfOk-from_err _ _ no;
+      length = IfOk-from_err _ _ no;
+      empty = IfOk-from_err _ _ no;
+      others = refl;
+      capacity = c.make_jobs.ensures.capacity;
+    }
+
+pub returns-in_err-seats : goal.returns-in_err-seats
+returns-in_err-seats c =
+    let no = c.from_residual-in_err-seats.ensures.0 in
+    record {
+      jobs = IfOk-from_err _ _ no;
+      entries = IfOk-from_err _ _ no;
+      calls = IfOk-from_err _ _ no;
+      number = IfOk-from_err _ _ no;
+      seats = IfOk-from_err _ _ no;
+      length = IfOk-from_err _ _ no;
+      empty = IfOk-from_err _ _ no;
+      others = refl;
+      capacity = c.make_jobs.ensures.capacity;
+    }

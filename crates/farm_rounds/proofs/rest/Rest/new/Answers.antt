@@ -1,4 +1,5 @@
 use Rattle.std.proofs.Common.{◌≡◌, ◌∙◌, ap, subst, length, arith}
+use Rattle.std.proofs.lemmas.Result.{IfOk-from_err}
 use Rattle.farm_rounds.specs.Groups.{AreGroups, AreLive}
 use Rattle.farm_rounds.specs.Memory.{FarmMemory}
 use Rattle.farm_rounds.proofs.rest.Rest.new.Goals as goal
@@ -30,3 +31,18 @@ returns-clause-places c = omega (arith, c.farm.invariant.3, ap (λ (f : FarmMemo
 pub returns-clause-lines : goal.returns-clause-lines
 returns-clause-lines c =
     omega (arith, c.len.ensures, c.in_ok-reserve.ensures.ok, c.reserve.ensures.len, ap length c.reserve.ensures.items, ap (λ (f : FarmMemory). length f.live) c.farm.view_is, ap (λ (f : FarmMemory). length f.failed) c.farm.view_is)
+
+pub returns-in_err-reserve : goal.returns-in_err-reserve
+returns-in_err-reserve c =
+    let no = c.from_residual.ensures.0 in
+    record {
+      groups = IfOk-from_err _ _ no;
+      live = IfOk-from_err _ _ no;
+      tallies = IfOk-from_err _ _ no;
+      failed = IfOk-from_err _ _ no;
+      sound = IfOk-from_err _ _ no;
+      alive = IfOk-from_err _ _ no;
+      kept = IfOk-from_err _ _ no;
+      places = IfOk-from_err _ _ no;
+      lines = IfOk-from_err _ _ no;
+    }

@@ -3,6 +3,7 @@ use Rattle.std.specs.Global.{Box}
 use Rattle.std.specs.Vec.{vec_capacity}
 use Rattle.std.specs.List.Sorted.{IsPermutation}
 use Rattle.std.proofs.lemmas.List.{length-map}
+use Rattle.std.proofs.lemmas.Result.{IfOk-from_err}
 use Rattle.call_pair.specs.declared.job.Job.{Job}
 use Rattle.farm_rounds.specs.declared.call.Group.{Group}
 use Rattle.farm_rounds.specs.declared.rest.Rest.{Rest}
@@ -122,3 +123,54 @@ returns-clause-partners c d = planned_partner c.args.farm.ended c.args.farm.grou
 
 pub returns-clause-stands : goal.returns-clause-stands
 returns-clause-stands c h = planned_stand c.args.farm.ended c.args.farm.groups c.put_in_order.new.groups.items _ h (same c.put_in_order.new.groups.items c.in_ok-rest.ensures.groups c.put_in_order.ensures.same) c.in_ok-rest.ensures.sound c.in_ok-jobs.ensures.jobs
+
+pub returns-in_err-rest : goal.returns-in_err-rest
+returns-in_err-rest c =
+    let no = c.from_residual.ensures.0 in
+    record {
+      start = IfOk-from_err _ _ no;
+      ended = IfOk-from_err _ _ no;
+      live = IfOk-from_err _ _ no;
+      failed = IfOk-from_err _ _ no;
+      tallies = IfOk-from_err _ _ no;
+      number = IfOk-from_err _ _ no;
+      seats = IfOk-from_err _ _ no;
+      order = IfOk-from_err _ _ no;
+      calls = IfOk-from_err _ _ no;
+      partners = IfOk-from_err _ _ no;
+      stands = IfOk-from_err _ _ no;
+    }
+
+pub returns-in_err-numbers : goal.returns-in_err-numbers
+returns-in_err-numbers c =
+    let no = c.from_residual-in_err-numbers.ensures.0 in
+    record {
+      start = IfOk-from_err _ _ no;
+      ended = IfOk-from_err _ _ no;
+      live = IfOk-from_err _ _ no;
+      failed = IfOk-from_err _ _ no;
+      tallies = IfOk-from_err _ _ no;
+      number = IfOk-from_err _ _ no;
+      seats = IfOk-from_err _ _ no;
+      order = IfOk-from_err _ _ no;
+      calls = IfOk-from_err _ _ no;
+      partners = IfOk-from_err _ _ no;
+      stands = IfOk-from_err _ _ no;
+    }
+
+pub returns-in_err-jobs : goal.returns-in_err-jobs
+returns-in_err-jobs c =
+    let no = c.from_residual-in_err-jobs.ensures.0 in
+    record {
+      start = IfOk-from_err _ _ no;
+      ended = IfOk-from_err _ _ no;
+      live = IfOk-from_err _ _ no;
+      failed = IfOk-from_err _ _ no;
+      tallies = IfOk-from_err _ _ no;
+      number = IfOk-from_err _ _ no;
+      seats = IfOk-from_err _ _ no;
+      order = IfOk-from_err _ _ no;
+      calls = IfOk-from_err _ _ no;
+      partners = IfOk-from_err _ _ no;
+      stands = IfOk-from_err _ _ no;
+    }
