@@ -15,7 +15,6 @@ use Rattle.switchboard.specs.declared.act.Span.{Span}
 use Rattle.call_leg.specs.Uplink.{handed_fields}
 use Rattle.call_output.specs.Out.{out}
 use Rattle.call_output.specs.Down.{down}
-use Rattle.farm_report.specs.View.{ReportView}
 use Rattle.farm_output.specs.Run.{Run, spans_in, partner_in}
 use Rattle.farm_output.specs.Facts.{report_of}
 use Rattle.farm_calls.specs.Whole.{start_in, end_in, span_for, whole_call, IsBridged, item_for, yield_on, frame_on}

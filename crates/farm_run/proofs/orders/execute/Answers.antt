@@ -1,6 +1,5 @@
-use Rattle.std.proofs.Common.{◌≡◌, ℕ, sym, ap, List, ◌∙◌, subst, arith, refl}
+use Rattle.std.proofs.Common.{◌≡◌, ℕ, sym, ap, ◌∙◌, subst, arith, refl}
 use Rattle.std.specs.Prelude.{IfOk, OnErr, Err, is_some}
-use Rattle.trau_orders.specs.declared.order.Order.{Order}
 use Rattle.trau_orders.specs.Lists.{AreOrders}
 use Rattle.switchboard.specs.declared.act.Act.{Act}
 use Rattle.switchboard.specs.Replies.{IsInRange}
@@ -10,10 +9,9 @@ use Rattle.farm_run.specs.Journal.{JournalMemory}
 use Rattle.farm_run.specs.Noted.{Noted}
 use Rattle.farm_run.proofs.NotedOrders.{noted_accepted, noted_quiet}
 use Rattle.farm_run.proofs.Matching.{fits, named, matches_more, matches_same}
-use Rattle.farm_run.proofs.Following.{Due, due_of, told_kept, left_fewer, ahead_more, follows_more, follows_same}
+use Rattle.farm_run.proofs.Following.{due_of, told_kept, left_fewer, ahead_more, follows_more, follows_same}
 use Rattle.farm_run.proofs.Sound.{sound_more}
-use Rattle.switchboard.specs.State.{State, due}
-use Rattle.farm_rounds.specs.declared.tally.Tally.{Tally}
+use Rattle.switchboard.specs.State.{State}
 use Rattle.farm_run.specs.Match.{AtClock, Follows}
 use Rattle.std.proofs.lemmas.Result.{IfOk-from_err}
 use Rattle.farm_run.proofs.orders.execute.Goals as goal

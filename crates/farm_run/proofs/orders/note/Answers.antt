@@ -1,4 +1,4 @@
-use Rattle.std.proofs.Common.{◌≡◌, ap, ◌∙◌, sym, ℕ}
+use Rattle.std.proofs.Common.{◌≡◌, ap, ◌∙◌, sym, ℕ, rules}
 use Rattle.switchboard.specs.declared.act.Act.{Act}
 use Rattle.farm_rounds.specs.declared.tally.Tally.{Tally}
 use Rattle.farm_run.specs.Journal.{noted_by, with_bridge, settled}
@@ -18,3 +18,6 @@ returns-in_ok-bridge-in-Bridged c = λ h g.
     c.in_ok-bridge-in-Bridged.ensures ∙ ap (with_bridge a b) (c.settle-in-Bridged.ensures ∙ ap (settled b c.sent-in-Bridged.result) (c.settle.ensures ∙ ap (λ (v : ℕ). settled a v start) sent_a)
     ∙ ap (λ (v : ℕ). settled b v (settled a (kept_in farm.tallies h a).sent start)) sent_b)
     ∙ ap (λ (x : Act). noted_by x c.args.period (λ d. (kept_in farm.tallies h d).sent) start) (sym c.in-Bridged.is)
+
+pub returns-in_ok-end-in-Closed : goal.returns-in_ok-end-in-Closed
+returns-in_ok-end-in-Closed c = search rules

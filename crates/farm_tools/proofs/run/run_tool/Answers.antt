@@ -1,4 +1,4 @@
-use Rattle.std.proofs.Common.{◌∙◌, refl}
+use Rattle.std.proofs.Common.{◌∙◌, refl, rules}
 use Rattle.farm_tools.proofs.Rounds.{at_start, taken, line_ended, refused, read_failed, write_failed, block_of_tool, others_of_tool, others_on}
 use Rattle.farm_tools.proofs.run.run_tool.Goals as goal
 
@@ -59,3 +59,6 @@ pub returns-in-WriteFailed-clause-others : goal.returns-in-WriteFailed-clause-ot
 returns-in-WriteFailed-clause-others g c =
     others_on _ _ _ _ _ _ c.loop-blocks.invariant.others
     (others_of_tool c.loop-blocks.work c.args.tool (g.T.Trunk.lines c.loop-blocks.trunk) (g.T.Trunk.lines c.run_block.new.trunk) c.args.call c.loop-blocks.invariant.tool c.in-WriteFailed.ensures.others)
+
+pub returns-clause-runs : goal.returns-clause-runs
+returns-clause-runs g c = search rules

@@ -1,4 +1,4 @@
-use Rattle.std.proofs.Common.{sym, ap}
+use Rattle.std.proofs.Common.{sym, ap, rules}
 use Rattle.farm_tools.specs.Tools.{status_of}
 use Rattle.farm_top.proofs.top.answer.Goals as goal
 
@@ -8,3 +8,6 @@ returns-in-Memory g c = record {
   no_memory = λ _. record { result = c.tell.result; tells = c.tell.ensures };
   no_more = λ other. absurd (other c.in-Memory.is);
 }
+
+pub returns : goal.returns
+returns g c = search rules

@@ -29,3 +29,6 @@ returns-clause-width c =
     let m : FitsSigned w16 (entry most c.args.i) = search rules in
     let b = simp to_z-of_z at c.code.ensures.bound in
     fits (entry least c.args.i) (entry most c.args.i) (2 ^ get_or code_widths c.args.i 0) c.code.result (span c.args.i c.requires) (least-most c.args.i c.requires) b (search rules)
+
+pub returns-clause-value : goal.returns-clause-value
+returns-clause-value c = search rules

@@ -1,4 +1,4 @@
-use Rattle.std.proofs.Common.{◌-◌, ◌*◌, ◌<◌, ◌≤◌, get_or, sym, ◌∙◌, arith}
+use Rattle.std.proofs.Common.{◌-◌, ◌*◌, ◌<◌, ◌≤◌, get_or, sym, ◌∙◌, arith, rules}
 use Rattle.std.proofs.lemmas.List.Elements.{All-from_get_or}
 use Rattle.trau_num.proofs.Fill.{fill_all}
 use Rattle.rx_muting.proofs.Maxima.{lowered_by_places}
@@ -16,3 +16,6 @@ returns-clause-fit c =
     let told = c.told-xmaxc in
     All-from_get_or (λ v. v < 64) c.loop-j.maxima 0
     (λ k h. let e = c.loop-j.invariant.each k (omega arith) in let f = c.requires.fit k 0 (omega arith) in omega arith)
+
+pub loop-j-preserved : goal.loop-j-preserved
+loop-j-preserved c = search rules

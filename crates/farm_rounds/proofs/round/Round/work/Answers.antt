@@ -1,4 +1,4 @@
-use Rattle.std.proofs.Common.{sym, ap, ◌∙◌, subst, List, length, arith}
+use Rattle.std.proofs.Common.{sym, ap, ◌∙◌, subst, List, length, arith, rules}
 use Rattle.farm_rounds.specs.declared.entry.Entry.{Entry}
 use Rattle.farm_rounds.specs.Rounds.{jobs_in, HaveJobs, HaveTime, Works}
 use Rattle.farm_rounds.specs.Working.{RoundMemory, IsRound}
@@ -89,3 +89,6 @@ returns-clause-octets g c =
     let worked = c.work_jobs-jobs.result.1.items in
     let w : Works (jobs_in i.jobs.items) i.entries.items i.seats.items after worked = subst (λ (es : List Entry). Works (jobs_in i.jobs.items) es i.seats.items after worked) c.deref.ensures.value c.work_jobs-jobs.ensures in
     worked_octets c.args.self after worked (subst (λ (r : RoundMemory). IsRound r) c.self.view_is c.self.invariant.0) (subst (λ (r : RoundMemory). Works r.jobs r.entries r.seats after worked) c.self.view_is w)
+
+pub returns-clause-ends : goal.returns-clause-ends
+returns-clause-ends g c = search rules
