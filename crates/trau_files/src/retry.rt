@@ -3,6 +3,7 @@
 // Neither the standard library nor the system starts a read or a write again where a signal came
 // before it moved an octet: it answers `Interrupted`. Nothing has moved then, so that the same call is
 // made again and no octet is lost. A call that moved some octets first answers their number.
+ghost use Rattle.std.specs.Prelude.{◌<◌, IfOk};
 ghost use Rattle.std.specs.Io.{ReadsAtMost, WritesAtMost};
 ghost use Rattle.std.specs.Io.KnownBytes.{ReadConsumes, WriteAppends};
 
@@ -40,4 +41,15 @@ pub fn write_again<W: Write>(writer: &mut W, bytes: &[u8]) -> io::Result<usize>
         }
     }
     Err(io::Error::from(ErrorKind::Interrupted))
+}
+
+/// One write that moves an octet at least: what takes nothing would be asked for ever.
+pub fn write_some<W: Write>(writer: &mut W, bytes: &[u8]) -> io::Result<usize>
+    ensures some { IfOk result (λ n. 0 < n) }
+    ensures bound { WritesAtMost result bytes.now }
+{
+    match write_again(writer, bytes) {
+        Ok(0) => Err(io::Error::from(ErrorKind::WriteZero)),
+        written => written,
+    }
 }

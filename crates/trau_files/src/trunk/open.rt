@@ -4,10 +4,10 @@ ghost use Rattle.std.specs.Io.{ReadsAtMost, WritesAtMost};
 ghost use Rattle.trau_files.specs.Files.{OpenFiles, OpenLine, StandsAt, open_after};
 
 use super::name::name_of;
-use crate::retry::{read_again, write_again};
+use crate::retry::{read_again, write_some};
 use std::fs::OpenOptions;
 use std::io;
-use std::io::{ErrorKind, Seek, SeekFrom};
+use std::io::{Seek, SeekFrom};
 use std::marker::Model;
 use std::rt::Files;
 use trau_io::Line;
@@ -78,11 +78,7 @@ impl<'a, R: Files> LineFiles<'a, R> {
             Some(file) => file,
             None => open_to_write(self.files, line, at)?,
         };
-        let count = write_again(&mut file, bytes)?;
-        // A file that takes nothing would be asked for ever.
-        if count == 0 {
-            return Err(io::Error::from(ErrorKind::WriteZero));
-        }
+        let count = write_some(&mut file, bytes)?;
         let at = at.saturating_add(count as u64);
         self.written_last = Some(OpenFile { file, line, at });
         Ok(count)
