@@ -1,75 +1,101 @@
 //! What a case found: how many values were compared, and the first that differs.
 
-use std::{fmt, io};
+use std::str::{SplitWhitespace, from_utf8};
+use std::{io, slice};
+use trau_alaw::compress;
 
-#[derive(Clone, Copy)]
-struct Difference {
-    place: u64,
+/// An answer that is missing or no number: no value of a case.
+pub(crate) const MISSING: i32 = i32::MIN;
+
+/// The recorded answers that are still to come.
+#[derive(Drop)]
+pub(crate) enum Answers<'a> {
+    Octets(slice::Iter<'a, u8>),
+    /// The words of a text.
+    Words(SplitWhitespace<'a>),
+}
+
+impl<'a> Answers<'a> {
+    pub(crate) fn of_text(octets: &'a [u8]) -> Self {
+        Answers::Words(from_utf8(octets).unwrap_or("").split_whitespace())
+    }
+
+    /// The next answer as a number.
+    pub(crate) fn next(&mut self) -> i32 {
+        match self {
+            Answers::Octets(octets) => match octets.next() {
+                Some(octet) => i32::from(*octet),
+                None => MISSING,
+            },
+            Answers::Words(words) => words.next().unwrap_or("").parse().unwrap_or(MISSING),
+        }
+    }
+}
+
+/// How many values were equal up to the first difference, and the values that were compared last: behind a difference
+/// nothing is compared.
+#[derive(Drop)]
+pub(crate) struct Comparison<'a> {
+    pub(crate) answers: Answers<'a>,
+    equal: i32,
     wanted: i32,
     got: i32,
 }
 
-#[derive(Clone, Copy)]
-pub(crate) struct Comparison {
-    compared: u64,
-    first: Option<Difference>,
-}
-
-impl Comparison {
-    pub(crate) fn new() -> Self {
+impl<'a> Comparison<'a> {
+    pub(crate) fn new(answers: Answers<'a>) -> Self {
         Comparison {
-            compared: 0,
-            first: None,
+            answers,
+            equal: 0,
+            wanted: 0,
+            got: 0,
         }
     }
 
     pub(crate) fn compare(&mut self, wanted: i32, got: i32) {
-        if wanted != got && self.first.is_none() {
-            self.first = Some(Difference {
-                place: self.compared,
-                wanted,
-                got,
-            });
+        if self.wanted == self.got {
+            self.wanted = wanted;
+            self.got = got;
+            self.equal = self.equal.saturating_add(i32::from(wanted == got));
         }
-        self.compared = self.compared.saturating_add(1);
     }
 
-    /// Compares with a word of a line. One that is missing, or no number, equals no value.
-    pub(crate) fn compare_word(&mut self, wanted: Option<&str>, got: i32) {
-        let number = match wanted {
-            None => i32::MIN,
-            Some(word) => word.parse().unwrap_or(i32::MIN),
+    /// Compares with the next answer.
+    pub(crate) fn compare_next(&mut self, got: i32) {
+        let wanted = self.answers.next();
+        self.compare(wanted, got);
+    }
+
+    /// Compares a sample with the next answer: a text has samples, and octets are their A-law.
+    pub(crate) fn compare_sample(&mut self, sample: i16) {
+        let got = match self.answers {
+            Answers::Octets(_) => i32::from(compress(sample)),
+            Answers::Words(_) => i32::from(sample),
         };
-        self.compare(number, got);
+        self.compare_next(got);
     }
-}
 
-/// Compares numbers with the words of a line, which are none where there is no line.
-pub(crate) fn compare_words(comparison: &mut Comparison, wanted: Option<&str>, numbers: &[i16]) {
-    let mut words = wanted.unwrap_or("").split(' ');
-    for number in numbers {
-        comparison.compare_word(words.next(), i32::from(*number));
+    pub(crate) fn compare_octets(&mut self, octets: &[u8]) {
+        for octet in octets {
+            self.compare_next(i32::from(*octet));
+        }
     }
-}
 
-/// Prints the line of a case.
-pub(crate) fn print_case(
-    rt: &HostRuntime,
-    case: &str,
-    vectors: &str,
-    found: Comparison,
-) -> io::Result<()> {
-    println!(rt; "{case} {vectors} {found}")
-}
+    /// An answer that is left behind the last value is a difference too.
+    pub(crate) fn end(&mut self) {
+        let left = self.answers.next();
+        if left != MISSING {
+            self.compare(left, MISSING);
+        }
+    }
 
-impl fmt::Display for Comparison {
-    fn fmt<W: fmt::Write>(&self, f: &mut fmt::Formatter<W>) -> fmt::Result {
-        match self.first {
-            None => write!(f, "{} equal", self.compared),
-            Some(Difference { place, wanted, got }) => write!(
-                f,
-                "differs at {place}: wanted {wanted}, got {got}"
-            ),
+    /// Prints the line of a case.
+    pub(crate) fn print(&self, rt: &HostRuntime, case: &str) -> io::Result<()> {
+        let (equal, wanted, got) = (self.equal, self.wanted, self.got);
+        if wanted == got {
+            println!(rt; "{case} {equal} equal")
+        } else {
+            println!(rt; "{case} differs at {equal}: wanted {wanted}, got {got}")
         }
     }
 }

@@ -1,23 +1,23 @@
 //! Runs recorded vectors through the codec and the search for frames, and prints a line for each case.
 //!
-//! The answers are those of independent implementations, and lie in `data/`, whose origin README.md tells; lines that
-//! `search` makes have theirs beside them.
+//! The answers lie in `data/`, and README.md tells whose they are.
 //! A case that agrees prints how many values were compared; one that doesn't prints the first difference.
-//! A case is a function to a `Comparison`, and each module prints its own.
+//! `cases` has the table of the cases; each fills a `Comparison`, value by value.
 #![tactic(auto)]
 
 mod alaw;
+mod cases;
 mod comparison;
 mod decoder;
 mod encoder;
-mod files;
+mod farm;
 mod search;
 
 use std::io;
 
 fn main(rt: HostRuntime) -> io::Result<()> {
-    alaw::print(&rt)?;
-    decoder::print(&rt)?;
-    encoder::print(&rt)?;
-    search::print(&rt)
+    for case in &cases::CASES {
+        cases::print(&rt, case)?;
+    }
+    Ok(())
 }

@@ -1,5 +1,5 @@
 use Rattle.std.proofs.Common.{◌≤◌}
-use Rattle.codec_vectors.proofs.search.searched.Given as goal
+use Rattle.codec_vectors.proofs.search.search.Given as goal
 
 abbrev pub invariant-loop-period : goal.invariant-loop-period
 invariant-loop-period l = l.sync.periods ≤ l.period
