@@ -3,9 +3,10 @@
 //! At the end of a run: takes the board's replies and spans, the calls' ends and counts and the lines that failed, as
 //! the rounds told them, and gives the text that goes to the desk.
 //!
-//! The text is this project's profile. `report` has the report, `lines` one function for each kind of line, `text`
-//! the whole.
-//! Definitions: `specs/Lines.antt` (each line, and the whole text), `specs/View.antt`.
+//! The text is this project's profile. `report` has the report, `lines` how each kind of line is written, `text` the
+//! whole.
+//! Definitions: `specs/Lines.antt` (each line, and the whole text), `specs/Numbered.antt` (the numbers of a line),
+//! `specs/View.antt`.
 #![tactic(auto)]
 
 mod lines;

@@ -1,11 +1,22 @@
-// The lines of a report, each written at the end of a text. A text is of no use where memory ran out.
-ghost use Rattle.std.specs.Prelude.{◌≡◌, ◌++◌, ◌∷◌, [], codes, decimal, OnOk, string_bytes};
-ghost use Rattle.farm_report.specs.Lines.{line_of, side_word, reply_line, span_line, cause_words, end_line, counts_line, failed_line, last_line, last_end};
+// The lines of a report, each written at the end of a text. A text is of no use where memory ran out. A line is mostly a
+// table of its numbers, each behind its words: one loop writes them all.
+ghost use Rattle.std.specs.Prelude.{◌≡◌, ◌++◌, ◌∷◌, [], ℕ, List, codes, decimal, OnOk, string_bytes};
+ghost use Rattle.farm_report.specs.Lines.{line_of, side_word, reply_line, span_line, cause_words, call_lines, end_line, counts_line, failed_line, last_line, last_end};
+ghost use Rattle.farm_report.specs.Numbered.{numbered};
 
 use crate::{CallLine, SpanLine};
 use std::alloc::AllocError;
 use switchboard::{Refusal, Reply};
 use trau_io::{Cause, Counts, Line, Side};
+
+/// What a report tells in lines of its own.
+pub(crate) trait Told {
+    ghost lines: { Self → List ℕ };
+
+    /// Writes its lines at the end of a text.
+    fn put(&self, text: &mut String) -> Result<(), AllocError>
+        ensures { OnOk result (string_bytes text.new ≡ string_bytes text.old ++ lines self.now) };
+}
 
 fn side_word(side: Side) -> &'static str
     ensures { result.now ≡ side_word side }
@@ -18,13 +29,32 @@ fn side_word(side: Side) -> &'static str
     }
 }
 
-pub(crate) fn put_reply(text: &mut String, reply: &Reply) -> Result<(), AllocError>
-    ensures { OnOk result (string_bytes text.new ≡ string_bytes text.old ++ reply_line reply.now) }
+// A side's word between other words.
+fn put_side(text: &mut String, before: &str, side: Side, after: &str) -> Result<(), AllocError>
+    ensures { OnOk result (string_bytes text.new ≡ string_bytes text.old ++ (before.now ++ (side_word side ++ after.now))) }
 {
-    let order = reply.order;
-    match reply.result {
-        Ok(_) => write!(text, "order {order} ok\n"),
-        Err(refusal) => put_refusal(text, order, refusal),
+    write!(text, "{before}{}{after}", side_word(side))
+}
+
+// Numbers, each behind its words, and then the words of the end.
+fn put_numbers(text: &mut String, numbers: &[(&str, u64)], end: &str) -> Result<(), AllocError>
+    ensures { OnOk result (string_bytes text.new ≡ string_bytes text.old ++ numbered numbers.now end.now) }
+{
+    for &(words, number) in numbers {
+        write!(text, "{words}{number}")?;
+    }
+    text.push_str(end)
+}
+
+impl Told for Reply {
+    ghost lines = { reply_line };
+
+    fn put(&self, text: &mut String) -> Result<(), AllocError> {
+        let order = self.order;
+        match self.result {
+            Ok(_) => put_numbers(text, &[("order ", order as u64)], " ok\n"),
+            Err(refusal) => put_refusal(text, order, refusal),
+        }
     }
 }
 
@@ -45,7 +75,15 @@ fn put_refusal(text: &mut String, order: u32, refusal: Refusal) -> Result<(), Al
 fn put_plain(text: &mut String, order: u32, number: u32, call: u32) -> Result<(), AllocError>
     ensures { OnOk result (string_bytes text.new ≡ string_bytes text.old ++ line_of (codes "order" ∷ decimal order ∷ codes "refused" ∷ decimal number ∷ codes "call" ∷ decimal call ∷ [])) }
 {
-    write!(text, "order {order} refused {number} call {call}\n")
+    put_numbers(
+        text,
+        &[
+            ("order ", order as u64),
+            (" refused ", number as u64),
+            (" call ", call as u64),
+        ],
+        "\n",
+    )
 }
 
 fn put_partner(
@@ -57,38 +95,62 @@ fn put_partner(
 ) -> Result<(), AllocError>
     ensures { OnOk result (string_bytes text.new ≡ string_bytes text.old ++ line_of (codes "order" ∷ decimal order ∷ codes "refused" ∷ decimal number ∷ codes "call" ∷ decimal call ∷ codes "partner" ∷ decimal partner ∷ [])) }
 {
-    write!(
+    put_numbers(
         text,
-        "order {order} refused {number} call {call} partner {partner}\n"
+        &[
+            ("order ", order as u64),
+            (" refused ", number as u64),
+            (" call ", call as u64),
+            (" partner ", partner as u64),
+        ],
+        "\n",
     )
 }
 
-pub(crate) fn put_span(text: &mut String, line: &SpanLine) -> Result<(), AllocError>
-    ensures { OnOk result (string_bytes text.new ≡ string_bytes text.old ++ span_line line.now) }
-{
-    write!(
-        text,
-        "bridge {} {} from {} to {} sent {} {} lost {} {}\n",
-        line.span.a,
-        line.span.b,
-        line.span.from,
-        line.span.to,
-        line.sent_a,
-        line.sent_b,
-        line.lost_a,
-        line.lost_b
-    )
+impl Told for SpanLine {
+    ghost lines = { span_line };
+
+    fn put(&self, text: &mut String) -> Result<(), AllocError> {
+        put_numbers(
+            text,
+            &[
+                ("bridge ", self.span.a as u64),
+                (" ", self.span.b as u64),
+                (" from ", self.span.from as u64),
+                (" to ", self.span.to as u64),
+                (" sent ", self.sent_a as u64),
+                (" ", self.sent_b as u64),
+                (" lost ", self.lost_a as u64),
+                (" ", self.lost_b as u64),
+            ],
+            "\n",
+        )
+    }
 }
 
-pub(crate) fn put_end(text: &mut String, line: &CallLine) -> Result<(), AllocError>
-    ensures { OnOk result (string_bytes text.new ≡ string_bytes text.old ++ end_line line.now) }
+impl Told for CallLine {
+    ghost lines = { call_lines };
+
+    fn put(&self, text: &mut String) -> Result<(), AllocError> {
+        put_periods(text, self)?;
+        put_cause(text, self.end.cause)?;
+        put_counts(text, self.end.call, &self.counts)
+    }
+}
+
+// A call and its periods: how its line begins.
+fn put_periods(text: &mut String, line: &CallLine) -> Result<(), AllocError>
+    ensures { OnOk result (string_bytes text.new ≡ string_bytes text.old ++ (codes "call " ++ (decimal line.now.end.call ++ (codes " from " ++ (decimal line.now.from ++ (codes " to " ++ (decimal line.now.end.at ++ codes " "))))))) }
 {
-    write!(
+    put_numbers(
         text,
-        "call {} from {} to {} ",
-        line.end.call, line.from, line.end.at
-    )?;
-    put_cause(text, line.end.cause)
+        &[
+            ("call ", line.end.call as u64),
+            (" from ", line.from as u64),
+            (" to ", line.end.at as u64),
+        ],
+        " ",
+    )
 }
 
 // The words that a call's line ends with.
@@ -97,50 +159,65 @@ fn put_cause(text: &mut String, cause: Cause) -> Result<(), AllocError>
 {
     match cause {
         Cause::Closed => text.push_str("closed\n"),
-        Cause::End { side, left } => write!(text, "end {} {left}\n", side_word(side)),
-        Cause::Fault { side } => write!(text, "fault {}\n", side_word(side)),
+        Cause::End { side, left } => {
+            put_side(text, "end ", side, " ")?;
+            put_numbers(text, &[("", left as u64)], "\n")
+        }
+        Cause::Fault { side } => put_side(text, "fault ", side, "\n"),
         Cause::Limit => text.push_str("limit\n"),
     }
 }
 
-pub(crate) fn put_counts(text: &mut String, call: u32, counts: &Counts) -> Result<(), AllocError>
+fn put_counts(text: &mut String, call: u32, counts: &Counts) -> Result<(), AllocError>
     ensures { OnOk result (string_bytes text.new ≡ string_bytes text.old ++ counts_line call counts.now) }
 {
-    write!(
+    put_numbers(
         text,
-        "counts {call} good {} sid {} invalid {} bad {} idle {} other {} miss {} none {} made {}\n",
-        counts.good,
-        counts.sid,
-        counts.invalid,
-        counts.bad,
-        counts.idle,
-        counts.other,
-        counts.miss,
-        counts.none,
-        counts.made
+        &[
+            ("counts ", call as u64),
+            (" good ", counts.good),
+            (" sid ", counts.sid),
+            (" invalid ", counts.invalid),
+            (" bad ", counts.bad),
+            (" idle ", counts.idle),
+            (" other ", counts.other),
+            (" miss ", counts.miss),
+            (" none ", counts.none),
+            (" made ", counts.made),
+        ],
+        "\n",
     )
 }
 
-pub(crate) fn put_failed(text: &mut String, line: &Line) -> Result<(), AllocError>
-    ensures { OnOk result (string_bytes text.new ≡ string_bytes text.old ++ failed_line line.now) }
-{
-    let side = side_word(line.side);
-    write!(text, "line {} {side} failed\n", line.call)
+impl Told for Line {
+    ghost lines = { failed_line };
+
+    fn put(&self, text: &mut String) -> Result<(), AllocError> {
+        put_numbers(text, &[("line ", self.call as u64)], " ")?;
+        put_side(text, "", self.side, " failed\n")
+    }
 }
 
 pub(crate) fn put_last(text: &mut String, calls: &[CallLine], left: u32) -> Result<(), AllocError>
     ensures { OnOk result (string_bytes text.new ≡ string_bytes text.old ++ last_line calls.now left) }
 {
-    let last = last_end(calls);
-    write!(
+    put_numbers(
         text,
-        "end period {last} calls {} left {left}\n",
-        calls.len()
+        &[
+            ("end period ", last_end(calls) as u64),
+            (" calls ", calls.len() as u64),
+            (" left ", left as u64),
+        ],
+        "\n",
     )
 }
 
 fn last_end(calls: &[CallLine]) -> u32
     ensures { result ≡ last_end calls.now }
 {
-    calls.iter().fold(0, |last, line| last.max(line.end.at))
+    let mut last = 0;
+    for call in calls {
+        last = last.max(call.end.at);
+    }
+    last
 }

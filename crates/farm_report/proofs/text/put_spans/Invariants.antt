@@ -1,7 +1,0 @@
-use Rattle.std.proofs.Common.{◌≡◌, ◌++◌, string_bytes, take}
-use Rattle.std.specs.List.{flat_map}
-use Rattle.farm_report.specs.Lines.{span_line}
-use Rattle.farm_report.proofs.text.put_spans.Given as goal
-
-abbrev pub invariant-loop-span : goal.invariant-loop-span
-invariant-loop-span l = string_bytes l.text ≡ string_bytes l.initial.text ++ flat_map span_line (take l.span-index l.spans)
