@@ -56,4 +56,9 @@ for name in mixed clean harsh; do
         compare "$name" $words
     done <"$top/checks/farms/words.txt"
 done
+
+# The counts that the program codec_vectors compares are those of the report of the harsh farm.
+data=$top/crates/codec_vectors/data
+awk '$1 == "call" { n = $6 - $4 } $1 == "counts" { print n, $4, $6, $8, $10, $12, $14, $16, $18 }' "$data/farm-report.txt" |
+    cmp - "$data/farm-calls.txt" || failed=1
 exit "$failed"
