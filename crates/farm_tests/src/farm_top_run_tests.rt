@@ -1,27 +1,23 @@
 // The command `run`, with the lines and the orders in memory: what it answers, tells and writes.
-use crate::farm_top_tests::{answers, carry};
-use crate::lines::{DOWN, DOWN_OF_9, OUT, OUT_OF_9, PCM, PCM_OF_9, UP, UP_OF_9, set};
-use std::alloc::{AllocError, Global};
+use crate::farm_top_tests::{Outcome, carry};
+use crate::lines::{Laid, NONE, line, trunk_of};
+use pool_run::OpenGate;
+use std::alloc::Global;
 use std::process::Abort;
 use std::sync::Wait;
 use std::thread::Threads;
-use trau_io::{Line, MemDesk, MemTrunk};
+use trau_io::Side::{Down, Out, Pcm, Up};
+use trau_io::{Line, MemTrunk};
 
-// A line: how many octets lie on it, in pieces of at most how many octets, and which of its calls fail.
-type Given = (usize, u32, &'static [u32]);
-
+// In one piece.
 const ALL: u32 = 10_000;
 
-// A line on which nothing lies yet.
-const EMPTY: Given = (0, ALL, &[]);
-
-// A run of the calls 7 and 9, and what comes of it. Lines stand in the order Up, Pcm, Down, Out.
+// A run of the calls 7 and 9, and what comes of it.
 struct Row {
     option: &'static str,
     value: &'static str,
     orders: &'static str,
-    of_7: &'static [Given],
-    of_9: &'static [Given],
+    lines: &'static [Laid],
     status: u8,
     text: &'static str,
     // How many octets Down and Out of call 7, and of call 9, get.
@@ -34,14 +30,19 @@ const OPEN_BOTH: &str = "0 open 7\n0 open 9\n";
 
 const BRIDGE: &str = "0 open 7\n0 open 9\n0 bridge 7 9\n";
 
-const NO_LINES: [Given; 4] = [EMPTY; 4];
+// 252 periods of call 7, and what is told of them.
+const OF_252: [Laid; 4] = [
+    (7, Up, 252 * 40, ALL, NONE),
+    (7, Pcm, 252 * 160, ALL, NONE),
+    (7, Down, 0, ALL, NONE),
+    (7, Out, 0, ALL, NONE),
+];
 
-// So many periods.
-const OF_252: [Given; 4] = [(252 * 40, ALL, &[]), (252 * 160, ALL, &[]), EMPTY, EMPTY];
-
-const OF_100: [Given; 4] = [(100 * 40, ALL, &[]), (100 * 160, ALL, &[]), EMPTY, EMPTY];
-
-const OF_20: [Given; 4] = [(20 * 40, ALL, &[]), (20 * 160, ALL, &[]), EMPTY, EMPTY];
+const TEXT_OF_252: &str = "order 1 ok
+call 7 from 0 to 252 end up 0
+counts 7 good 252 sid 0 invalid 0 bad 0 idle 0 other 0 miss 0 none 0 made 252
+end period 252 calls 1 left 0
+";
 
 static ROWS: [Row; 8] = [
     // Rounds of 250 periods and of two; rounds of one.
@@ -49,28 +50,18 @@ static ROWS: [Row; 8] = [
         option: "--batch",
         value: "250",
         orders: OPEN_7,
-        of_7: &OF_252,
-        of_9: &NO_LINES,
+        lines: &OF_252,
         status: 0,
-        text: "order 1 ok
-call 7 from 0 to 252 end up 0
-counts 7 good 252 sid 0 invalid 0 bad 0 idle 0 other 0 miss 0 none 0 made 252
-end period 252 calls 1 left 0
-",
+        text: TEXT_OF_252,
         written: [252 * 40, 252 * 160, 0, 0],
     },
     Row {
         option: "--batch",
         value: "1",
         orders: OPEN_7,
-        of_7: &OF_252,
-        of_9: &NO_LINES,
+        lines: &OF_252,
         status: 0,
-        text: "order 1 ok
-call 7 from 0 to 252 end up 0
-counts 7 good 252 sid 0 invalid 0 bad 0 idle 0 other 0 miss 0 none 0 made 252
-end period 252 calls 1 left 0
-",
+        text: TEXT_OF_252,
         written: [252 * 40, 252 * 160, 0, 0],
     },
     // Both lines of a call end inside a period, and all lines come and go in pieces.
@@ -78,8 +69,12 @@ end period 252 calls 1 left 0
         option: "--batch",
         value: "3",
         orders: OPEN_7,
-        of_7: &[(100, 1, &[]), (500, 159, &[]), (0, 33, &[]), (0, 39, &[])],
-        of_9: &NO_LINES,
+        lines: &[
+            (7, Up, 100, 1, NONE),
+            (7, Pcm, 500, 159, NONE),
+            (7, Down, 0, 33, NONE),
+            (7, Out, 0, 39, NONE),
+        ],
         status: 0,
         text: "order 1 ok
 call 7 from 0 to 2 end up 20
@@ -93,13 +88,16 @@ end period 2 calls 1 left 0
         option: "--periods",
         value: "40",
         orders: BRIDGE,
-        of_7: &[
-            (30 * 40 + 13, ALL, &[]),
-            (100 * 160, ALL, &[]),
-            EMPTY,
-            EMPTY,
+        lines: &[
+            (7, Up, 30 * 40 + 13, ALL, NONE),
+            (7, Pcm, 100 * 160, ALL, NONE),
+            (7, Down, 0, ALL, NONE),
+            (7, Out, 0, ALL, NONE),
+            (9, Up, 100 * 40, ALL, NONE),
+            (9, Pcm, 100 * 160, ALL, NONE),
+            (9, Down, 0, ALL, NONE),
+            (9, Out, 0, ALL, NONE),
         ],
-        of_9: &OF_100,
         status: 0,
         text: "order 1 ok
 order 2 ok
@@ -118,8 +116,16 @@ end period 40 calls 2 left 0
         option: "--batch",
         value: "10",
         orders: BRIDGE,
-        of_7: &[(3 * 40, ALL, &[]), (3 * 160 + 1, ALL, &[]), EMPTY, EMPTY],
-        of_9: &[(5 * 40, ALL, &[]), (2 * 160 + 8, ALL, &[]), EMPTY, EMPTY],
+        lines: &[
+            (7, Up, 3 * 40, ALL, NONE),
+            (7, Pcm, 3 * 160 + 1, ALL, NONE),
+            (7, Down, 0, ALL, NONE),
+            (7, Out, 0, ALL, NONE),
+            (9, Up, 5 * 40, ALL, NONE),
+            (9, Pcm, 2 * 160 + 8, ALL, NONE),
+            (9, Down, 0, ALL, NONE),
+            (9, Out, 0, ALL, NONE),
+        ],
         status: 0,
         text: "order 1 ok
 order 2 ok
@@ -138,8 +144,12 @@ end period 3 calls 2 left 0
         option: "--batch",
         value: "10",
         orders: OPEN_7,
-        of_7: &[(2 * 40, ALL, &[]), (4 * 160, 640, &[1]), EMPTY, EMPTY],
-        of_9: &NO_LINES,
+        lines: &[
+            (7, Up, 2 * 40, ALL, NONE),
+            (7, Pcm, 4 * 160, 640, 1),
+            (7, Down, 0, ALL, NONE),
+            (7, Out, 0, ALL, NONE),
+        ],
         status: 6,
         text: "order 1 ok
 call 7 from 0 to 2 end up 0
@@ -154,8 +164,16 @@ end period 2 calls 1 left 0
         option: "--batch",
         value: "10",
         orders: OPEN_BOTH,
-        of_7: &[(20 * 40, ALL, &[]), (20 * 160, 400, &[1]), EMPTY, EMPTY],
-        of_9: &OF_20,
+        lines: &[
+            (7, Up, 20 * 40, ALL, NONE),
+            (7, Pcm, 20 * 160, 400, 1),
+            (7, Down, 0, ALL, NONE),
+            (7, Out, 0, ALL, NONE),
+            (9, Up, 20 * 40, ALL, NONE),
+            (9, Pcm, 20 * 160, ALL, NONE),
+            (9, Down, 0, ALL, NONE),
+            (9, Out, 0, ALL, NONE),
+        ],
         status: 6,
         text: "order 1 ok
 order 2 ok
@@ -173,13 +191,12 @@ end period 20 calls 2 left 0
         option: "--batch",
         value: "10",
         orders: OPEN_7,
-        of_7: &[
-            (20 * 40, ALL, &[]),
-            (20 * 160, ALL, &[]),
-            (0, ALL, &[0]),
-            EMPTY,
+        lines: &[
+            (7, Up, 20 * 40, ALL, NONE),
+            (7, Pcm, 20 * 160, ALL, NONE),
+            (7, Down, 0, ALL, 0),
+            (7, Out, 0, ALL, NONE),
         ],
-        of_9: &NO_LINES,
         status: 6,
         text: "order 1 ok
 call 7 from 0 to 20 end up 0
@@ -191,114 +208,74 @@ end period 20 calls 1 left 0
     },
 ];
 
-// Puts lines in place, in the order Up, Pcm, Down, Out.
-fn lay(
-    alloc: Global,
-    trunk: &mut MemTrunk,
-    lines: [Line; 4],
-    given: &[Given],
-) -> Result<(), AllocError> {
-    for (line, (octets, cut, fails)) in lines.iter().zip(given.iter()) {
-        set(alloc, trunk, *line, *octets, *cut, fails)?;
-    }
-    Ok(())
+// How many octets Down and Out of call 7, and of call 9, got.
+fn lengths(trunk: &MemTrunk) -> [usize; 4] {
+    [
+        trunk.written(line(7, Down)).len(),
+        trunk.written(line(7, Out)).len(),
+        trunk.written(line(9, Down)).len(),
+        trunk.written(line(9, Out)).len(),
+    ]
 }
 
-// The lines of both calls.
-fn lines_of(alloc: Global, of_7: &[Given], of_9: &[Given]) -> Result<MemTrunk, AllocError> {
-    let mut trunk = MemTrunk::new(alloc)?;
-    lay(alloc, &mut trunk, [UP, PCM, DOWN, OUT], of_7)?;
-    let lines = [UP_OF_9, PCM_OF_9, DOWN_OF_9, OUT_OF_9];
-    lay(alloc, &mut trunk, lines, of_9)?;
-    Ok(trunk)
+// Whether a run answers, tells and writes what its row has.
+fn is_due(row: &Row, trunk: &MemTrunk, outcome: &Outcome) -> bool {
+    outcome.is(row.status, row.text) && lengths(trunk) == row.written
 }
 
-// A desk that has these orders, and room enough.
-pub(crate) fn desk_with(alloc: Global, orders: &str) -> Result<MemDesk, AllocError> {
-    let orders = orders.as_bytes().to_vec(alloc)?;
-    MemDesk::new(alloc, orders, Vec::new(alloc), Vec::new(alloc), 10_000)
-}
-
-// Asserts how many octets the outgoing lines got.
-fn assert_written(rt: &impl Abort, trunk: &MemTrunk, written: [usize; 4]) {
-    let lengths = [
-        trunk.written(DOWN).len(),
-        trunk.written(OUT).len(),
-        trunk.written(DOWN_OF_9).len(),
-        trunk.written(OUT_OF_9).len(),
-    ];
-    assert_eq!(rt; lengths, written);
-}
-
-// Carries out a run over these lines, and asserts its status and what the desk tells.
-fn assert_told<R: Abort + Threads + Wait + Sync>(
-    rt: &R,
-    alloc: Global,
-    row: &Row,
-    trunk: &mut MemTrunk,
-) -> Result<(), AllocError> {
-    let mut desk = desk_with(alloc, row.orders)?;
+// Whether of a run comes what its row has.
+fn comes_of<R: Abort + Threads + Wait + Sync>(rt: &R, alloc: Global, row: &Row) -> bool {
+    let mut trunk = trunk_of(rt, alloc, row.lines);
     let words = ["run", row.option, row.value];
-    answers(rt, alloc, &words, trunk, &mut desk, row.status, row.text)
-}
-
-// Carries out a run, and asserts what comes of it.
-fn assert_run<R: Abort + Threads + Wait + Sync>(
-    rt: &R,
-    alloc: Global,
-    row: &Row,
-) -> Result<(), AllocError> {
-    let mut trunk = lines_of(alloc, row.of_7, row.of_9)?;
-    assert_told(rt, alloc, row, &mut trunk)?;
-    assert_written(rt, &trunk, row.written);
-    Ok(())
+    let outcome = carry(rt, alloc, &words, &mut trunk, row.orders, NONE, &OpenGate);
+    is_due(row, &trunk, &outcome)
 }
 
 #[test]
-fn runs_and_what_comes_of_them(rt: HostRuntime) -> Result<(), AllocError> {
+fn runs_and_what_comes_of_them(rt: HostRuntime) {
     for row in &ROWS {
-        assert_run(&rt, rt.alloc(), row)?;
+        assert!(rt;
+            comes_of(&rt, rt.alloc(), row),
+            "{} {}",
+            row.value,
+            row.text
+        );
     }
-    Ok(())
-}
-
-// Carries out a run of both calls.
-fn run_both<R: Threads + Wait + Sync>(
-    rt: &R,
-    alloc: Global,
-    trunk: &mut MemTrunk,
-) -> Result<u8, AllocError> {
-    let mut desk = desk_with(alloc, OPEN_BOTH)?;
-    carry(rt, alloc, &["run"], trunk, &mut desk)
 }
 
 // The lines after a run of both calls, where these calls of Pcm and of Down of call 7 fail.
-fn after<R: Threads + Wait + Sync>(
+fn after<R: Abort + Threads + Wait + Sync>(
     rt: &R,
     alloc: Global,
-    pcm_fails: &'static [u32],
-    down_fails: &'static [u32],
-) -> Result<MemTrunk, AllocError> {
-    let up: Given = (160, ALL, &[]);
-    let of_7 = [up, (640, 400, pcm_fails), (0, ALL, down_fails), EMPTY];
-    let mut trunk = lines_of(alloc, &of_7, &OF_20)?;
-    run_both(rt, alloc, &mut trunk)?;
-    Ok(trunk)
+    pcm_fails: u32,
+    down_fails: u32,
+) -> MemTrunk {
+    let lines = [
+        (7, Up, 160, ALL, NONE),
+        (7, Pcm, 640, 400, pcm_fails),
+        (7, Down, 0, ALL, down_fails),
+        (7, Out, 0, ALL, NONE),
+        (9, Up, 20 * 40, ALL, NONE),
+        (9, Pcm, 20 * 160, ALL, NONE),
+        (9, Down, 0, ALL, NONE),
+        (9, Out, 0, ALL, NONE),
+    ];
+    let mut trunk = trunk_of(rt, alloc, &lines);
+    let _outcome = carry(rt, alloc, &["run"], &mut trunk, OPEN_BOTH, NONE, &OpenGate);
+    trunk
 }
 
-// Asserts that a line got the same octets in two runs.
-fn assert_same(rt: &impl Abort, one: &MemTrunk, other: &MemTrunk, line: Line) {
-    assert_eq!(rt; one.written(line), other.written(line), "{line:?}");
+// Whether a line got the same octets in two runs.
+fn is_same(one: &MemTrunk, other: &MemTrunk, line: Line) -> bool {
+    one.written(line) == other.written(line)
 }
 
 // A line that fails leaves the other call, and the other lines of its own, as they are without it.
 #[test]
-fn failing_lines_change_no_other(rt: HostRuntime) -> Result<(), AllocError> {
-    let calm = after(&rt, rt.alloc(), &[], &[])?;
-    let failing = after(&rt, rt.alloc(), &[1], &[0])?;
-    assert_same(&rt, &failing, &calm, DOWN_OF_9);
-    assert_same(&rt, &failing, &calm, OUT_OF_9);
-    let failing = after(&rt, rt.alloc(), &[], &[0])?;
-    assert_same(&rt, &failing, &calm, OUT);
-    Ok(())
+fn failing_lines_change_no_other(rt: HostRuntime) {
+    let calm = after(&rt, rt.alloc(), NONE, NONE);
+    let failing = after(&rt, rt.alloc(), 1, 0);
+    assert!(rt; is_same(&failing, &calm, line(9, Down)) && is_same(&failing, &calm, line(9, Out)));
+    let failing = after(&rt, rt.alloc(), NONE, 0);
+    assert!(rt; is_same(&failing, &calm, line(7, Out)));
 }

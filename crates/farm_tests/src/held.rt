@@ -6,24 +6,55 @@ use std::thread;
 // How often a wait looks for what it waits for.
 const TURNS: u32 = 5_000_000;
 
+// The pairs of calls that are held against each other.
+pub(crate) static PAIRS: [(u32, u32); 3] = [(1, 3), (1, 2), (2, 3)];
+
+// A count of slices for each of the calls 1, 2 and 3.
+#[derive(Drop)]
+struct Counts {
+    of_1: AtomicU32,
+    of_2: AtomicU32,
+    of_3: AtomicU32,
+}
+
+impl Counts {
+    fn zero() -> Counts {
+        Counts {
+            of_1: AtomicU32::new(0),
+            of_2: AtomicU32::new(0),
+            of_3: AtomicU32::new(0),
+        }
+    }
+
+    fn of(&self, call: u32) -> &AtomicU32 {
+        match call {
+            1 => &self.of_1,
+            2 => &self.of_2,
+            _ => &self.of_3,
+        }
+    }
+}
+
 // Holds back the second slice of each of the calls 1, 2 and 3 until the first slices of all were run, and of a pair of
 // them the one that comes first to its second slice until the third slice of the other was run.
 #[derive(Drop)]
 pub(crate) struct Held {
-    pair: (u32, u32),
-    begun: [AtomicU32; 4],
-    ended: [AtomicU32; 4],
+    one: u32,
+    other: u32,
+    begun: Counts,
+    ended: Counts,
     // Of the pair, the one that came first to its second slice; 0 before that.
     first: AtomicU32,
     used_up: AtomicU32,
 }
 
 impl Held {
-    pub(crate) fn new(pair: (u32, u32)) -> Held {
+    pub(crate) fn new(one: u32, other: u32) -> Held {
         Held {
-            pair,
-            begun: zeros(),
-            ended: zeros(),
+            one,
+            other,
+            begun: Counts::zero(),
+            ended: Counts::zero(),
             first: AtomicU32::new(0),
             used_up: AtomicU32::new(0),
         }
@@ -36,8 +67,9 @@ impl Held {
 
     // Waits until so many slices of a call were run.
     fn wait_for(&self, call: u32, slices: u32) {
+        let ended = self.ended.of(call);
         for _ in 0..TURNS {
-            if count(&self.ended, call) >= slices {
+            if ended.load(Ordering::SeqCst) >= slices {
                 return;
             }
             thread::yield_now();
@@ -45,57 +77,31 @@ impl Held {
         self.used_up.store(1, Ordering::SeqCst);
     }
 
-    // The other call of the pair, where this one came first to its second slice.
-    fn other_of_first(&self, call: u32) -> Option<u32> {
-        let (a, b) = self.pair;
-        if call != a && call != b {
-            return None;
-        }
-        self.first
-            .compare_exchange(0, call, Ordering::SeqCst, Ordering::SeqCst)
-            .ok()?;
-        Some(if call == a { b } else { a })
+    // Whether this call of the pair is the one that came first to its second slice.
+    fn is_first(&self, call: u32) -> bool {
+        let taken = self
+            .first
+            .compare_exchange(0, call, Ordering::SeqCst, Ordering::SeqCst);
+        taken.is_ok()
     }
 }
 
 impl Gate for Held {
     fn before(&self, call: u32) {
-        if add_one(&self.begun, call) != 1 {
+        if self.begun.of(call).fetch_add(1, Ordering::SeqCst) != 1 {
             return;
         }
         for each in 1..=3 {
             self.wait_for(each, 1);
         }
-        if let Some(other) = self.other_of_first(call) {
-            self.wait_for(other, 3);
+        if call == self.one && self.is_first(call) {
+            self.wait_for(self.other, 3);
+        } else if call == self.other && self.is_first(call) {
+            self.wait_for(self.one, 3);
         }
     }
 
     fn after(&self, call: u32) {
-        let _ = add_one(&self.ended, call);
-    }
-}
-
-fn zeros() -> [AtomicU32; 4] {
-    [
-        AtomicU32::new(0),
-        AtomicU32::new(0),
-        AtomicU32::new(0),
-        AtomicU32::new(0),
-    ]
-}
-
-fn count(counts: &[AtomicU32; 4], call: u32) -> u32 {
-    match counts.get(call as usize) {
-        Some(count) => count.load(Ordering::SeqCst),
-        None => 0,
-    }
-}
-
-// The count before one was added.
-fn add_one(counts: &[AtomicU32; 4], call: u32) -> u32 {
-    match counts.get(call as usize) {
-        Some(count) => count.fetch_add(1, Ordering::SeqCst),
-        None => 0,
+        let _ = self.ended.of(call).fetch_add(1, Ordering::SeqCst);
     }
 }

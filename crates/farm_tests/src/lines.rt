@@ -1,77 +1,55 @@
-// The lines of two calls, and what lies on them.
-use std::alloc::{AllocError, Global};
+// Lines in memory, and what lies on them.
+use std::alloc::Global;
+use std::process::Abort;
 use trau_io::{Line, MemTrunk, Side};
 
-pub(crate) const UP: Line = Line {
-    call: 7,
-    side: Side::Up,
-};
+// The line of a call with this number, 1 to 4,096.
+pub(crate) fn line(call: u32, side: Side) -> Line {
+    let call = call.clamp(1, 4096);
+    Line { call, side }
+}
 
-pub(crate) const PCM: Line = Line {
-    call: 7,
-    side: Side::Pcm,
-};
+// The number of a call of the outside that doesn't come.
+pub(crate) const NONE: u32 = 1000;
 
-pub(crate) const DOWN: Line = Line {
-    call: 7,
-    side: Side::Down,
-};
-
-pub(crate) const OUT: Line = Line {
-    call: 7,
-    side: Side::Out,
-};
-
-pub(crate) const UP_OF_9: Line = Line {
-    call: 9,
-    side: Side::Up,
-};
-
-pub(crate) const PCM_OF_9: Line = Line {
-    call: 9,
-    side: Side::Pcm,
-};
-
-pub(crate) const DOWN_OF_9: Line = Line {
-    call: 9,
-    side: Side::Down,
-};
-
-pub(crate) const OUT_OF_9: Line = Line {
-    call: 9,
-    side: Side::Out,
-};
+// A line by its call and side: how many octets lie on it, in pieces of at most how many octets, and which call of the
+// outside fails there, by its number.
+pub(crate) type Laid = (u32, Side, usize, u32, u32);
 
 // A good uplink frame whose 260 data bits are those of 160 samples 0 encoded from home, as GSM 08.60 places them. Worked
 // by hand from the tables.
-pub(crate) const UPLINK_FRAME: [u8; 40] = [
+static UPLINK_FRAME: [u8; 40] = [
     0x00, 0x00, 0x88, 0x00, 0x82, 0x09, 0xBA, 0x1A, 0xE4, 0x28, 0x80, 0x12, 0xA4, 0x92, 0xA4, 0x92,
     0xA2, 0x80, 0x81, 0x24, 0xC9, 0x24, 0xC9, 0x24, 0xA8, 0x00, 0x92, 0x49, 0x92, 0x49, 0x92, 0x45,
     0x80, 0x02, 0xA4, 0x92, 0xA4, 0x92, 0xA6, 0xFF,
 ];
 
 // So many octets of good uplink frames on an Up line, and of silence on any other.
-pub(crate) fn octets(alloc: Global, line: Line, count: usize) -> Result<Vec<u8>, AllocError> {
-    let mut octets = Vec::with_capacity(alloc, count)?;
-    for place in 0..count {
-        octets.push(match line.side {
-            Side::Up => UPLINK_FRAME[place % 40],
-            _ => 0xD5,
-        })?;
+fn octets(rt: &impl Abort, alloc: Global, side: Side, count: usize) -> Vec<u8> {
+    let mut octets = vec![in alloc; 0xD5; count].expect(rt, "memory");
+    if side == Side::Up {
+        for (place, octet) in octets.iter_mut().enumerate() {
+            *octet = UPLINK_FRAME[place % 40];
+        }
     }
-    Ok(octets)
+    octets
 }
 
-// Sets a line: so many octets, pieces of at most `cut` octets, and which of its calls fail.
-pub(crate) fn set(
-    alloc: Global,
-    trunk: &mut MemTrunk,
-    line: Line,
-    count: usize,
-    cut: u32,
-    fails: &[u32],
-) -> Result<(), AllocError> {
-    let contents = octets(alloc, line, count)?;
-    let cuts = vec![in alloc; cut; 500]?;
-    trunk.set(alloc, line, contents, cuts, fails.to_vec(alloc)?, 50_000)
+// Puts a line in place.
+fn lay(rt: &impl Abort, alloc: Global, trunk: &mut MemTrunk, laid: &Laid) {
+    let (call, side, count, cut, fails) = laid;
+    let contents = octets(rt, alloc, *side, *count);
+    let cuts = vec![in alloc; *cut; 500].expect(rt, "memory");
+    let fails = vec![in alloc; *fails; 1].expect(rt, "memory");
+    let set = trunk.set(alloc, line(*call, *side), contents, cuts, fails, 50_000);
+    set.expect(rt, "memory");
+}
+
+// Lines with these in place.
+pub(crate) fn trunk_of(rt: &impl Abort, alloc: Global, lines: &[Laid]) -> MemTrunk {
+    let mut trunk = MemTrunk::new(alloc).expect(rt, "memory");
+    for laid in lines {
+        lay(rt, alloc, &mut trunk, laid);
+    }
+    trunk
 }

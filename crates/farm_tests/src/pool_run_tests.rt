@@ -1,8 +1,8 @@
-ghost use Rattle.std.specs.Prelude.{◌≡◌, ◌≤◌, length, map, vec_len, IfOk};
+ghost use Rattle.std.specs.Prelude.{◌≡◌, ◌≤◌, length, vec_len};
 
-use crate::held::Held;
-use pool_run::{OpenGate, PoolRoom, Work, run_pool};
-use std::alloc::{AllocError, Global};
+use crate::held::{Held, PAIRS};
+use pool_run::{Gate, OpenGate, PoolRoom, Work, run_pool};
+use std::alloc::Global;
 use std::process::Abort;
 use std::sync::Wait;
 use std::thread::Threads;
@@ -43,23 +43,45 @@ impl Work for Counter {
     }
 }
 
-// Jobs of so many places, with their calls' numbers.
-fn counters(alloc: Global, jobs: &[(u32, u32)]) -> Result<Vec<Box<Counter>>, AllocError>
-    ensures { IfOk result (λ v. vec_len v ≡ length jobs.now) }
-{
-    let mut counters = Vec::new(alloc);
-    for (call, left) in jobs {
-        let counter = Counter {
-            call: *call,
-            left: *left,
+impl Counter {
+    // A job of so many places, with its call's number.
+    fn new((call, left): (u32, u32)) -> Counter {
+        Counter {
+            call,
+            left,
             digits: 0,
-        };
-        counters.push(Box::new(alloc, counter)?)?;
+        }
     }
-    Ok(counters)
 }
 
-// Runs a job to its end.
+// Jobs of so many places, with their calls' numbers.
+fn counters(rt: &impl Abort, alloc: Global, jobs: &[(u32, u32)]) -> Vec<Box<Counter>>
+    ensures { vec_len result ≡ length jobs.now }
+{
+    let mut counters = Vec::new(alloc);
+    for job in jobs {
+        let counter = Box::new(alloc, Counter::new(*job)).expect(rt, "memory");
+        counters.push(counter).expect(rt, "memory");
+    }
+    counters
+}
+
+// What the pool answers.
+fn run_at_once<R: Abort + Threads + Wait + Sync, G: Gate + Sync>(
+    rt: &R,
+    alloc: Global,
+    jobs: &[(u32, u32)],
+    workers: u32,
+    slice: u32,
+    gate: &G,
+) -> Vec<Box<Counter>>
+    requires { (1 ≤ workers) × (workers ≤ 64) × (1 ≤ slice) × (length jobs.now ≤ 4096) }
+{
+    let room = PoolRoom::reserve(alloc, workers, jobs.len() as u32).expect(rt, "memory");
+    run_pool(rt, room, counters(rt, alloc, jobs), slice, gate)
+}
+
+// The plain program: runs a job to its end.
 fn run_alone<W: Work>(job: &mut W, slice: u32)
     requires { 1 ≤ slice }
     ensures { job.new ≡ W.finish job.old }
@@ -69,88 +91,61 @@ fn run_alone<W: Work>(job: &mut W, slice: u32)
     }
 }
 
-// The plain program: one job after another.
-fn run_in_turn<W: Work>(
-    alloc: Global,
-    jobs: Vec<Box<W>>,
-    slice: u32,
-) -> Result<Vec<Box<W>>, AllocError>
+// Whether a job is as the plain program leaves it.
+fn is_as_alone(job: &Counter, given: (u32, u32), slice: u32) -> bool
     requires { 1 ≤ slice }
-    ensures { IfOk result (λ v. map (λ b. b.value) v.items ≡ map (λ b. W.finish b.value) jobs.items) }
 {
-    let mut answer = Vec::new(alloc);
-    for mut job in jobs {
-        run_alone(&mut *job, slice);
-        answer.push(job)?;
-    }
-    Ok(answer)
+    let mut plain = Counter::new(given);
+    run_alone(&mut plain, slice);
+    (job.call, job.left, job.digits) == (plain.call, plain.left, plain.digits)
 }
 
-// What the pool answers.
-fn run_at_once<R: Threads + Wait + Sync>(
-    rt: &R,
-    alloc: Global,
-    jobs: &[(u32, u32)],
-    workers: u32,
-    slice: u32,
-) -> Result<Vec<Box<Counter>>, AllocError>
-    requires { (1 ≤ workers) × (workers ≤ 64) × (1 ≤ slice) × (length jobs.now ≤ 4096) }
+// Whether jobs are as the plain program leaves them, one after another.
+fn are_as_alone(jobs: &[Box<Counter>], given: &[(u32, u32)], slice: u32) -> bool
+    requires { 1 ≤ slice }
 {
-    let room = PoolRoom::reserve(alloc, workers, jobs.len() as u32)?;
-    Ok(run_pool(rt, room, counters(alloc, jobs)?, slice, &OpenGate))
-}
-
-fn is_same(one: &Counter, other: &Counter) -> bool {
-    (one.call, one.left, one.digits) == (other.call, other.left, other.digits)
-}
-
-fn are_same(some: &[Box<Counter>], others: &[Box<Counter>]) -> bool {
-    if some.len() != others.len() {
-        return false;
-    }
-    for (one, other) in some.iter().zip(others.iter()) {
-        if !is_same(one, other) {
+    for (job, given) in jobs.iter().zip(given) {
+        if !is_as_alone(job, *given, slice) {
             return false;
         }
     }
-    true
+    jobs.len() == given.len()
 }
 
 // Whether the pool's answer is that of the plain program.
-fn is_as_in_turn<R: Threads + Wait + Sync>(
+fn is_as_in_turn<R: Abort + Threads + Wait + Sync>(
     rt: &R,
     alloc: Global,
     jobs: &[(u32, u32)],
     workers: u32,
     slice: u32,
-) -> Result<bool, AllocError>
+) -> bool
     requires { (1 ≤ workers) × (workers ≤ 64) × (1 ≤ slice) × (length jobs.now ≤ 4096) }
 {
-    let answer = run_at_once(rt, alloc, jobs, workers, slice)?;
-    let plain = run_in_turn(alloc, counters(alloc, jobs)?, slice)?;
-    Ok(are_same(answer.as_slice(), plain.as_slice()))
+    let answer = run_at_once(rt, alloc, jobs, workers, slice, &OpenGate);
+    are_as_alone(&answer, jobs, slice)
 }
 
-// Asserts that a job is finished, and what it has written down.
-fn assert_finished(rt: &impl Abort, job: &Counter, want: (u32, u32)) {
-    assert!(rt; job.finished());
-    assert_eq!(rt; (job.call(), job.digits), want);
-}
-
-#[test]
-fn each_job_is_finished_in_its_place(rt: HostRuntime) -> Result<(), AllocError> {
-    let given = [(7, 3), (2, 0), (9, 5), (4, 1)];
-    let want = [(7, 321), (2, 0), (9, 54321), (4, 1)];
-    let answer = run_at_once(&rt, rt.alloc(), &given, 2, 2)?;
-    assert_eq!(rt; answer.len(), 4);
-    for (job, want) in answer.iter().zip(&want) {
-        assert_finished(&rt, job, *want);
+// Whether jobs are finished, by their calls' numbers and what they have written down.
+fn are_finished(jobs: &[Box<Counter>], written: &[(u32, u32)]) -> bool {
+    for (job, written) in jobs.iter().zip(written) {
+        if !job.finished() || (job.call(), job.digits) != *written {
+            return false;
+        }
     }
-    Ok(())
+    jobs.len() == written.len()
 }
 
 #[test]
-fn answers_as_the_plain_program(rt: HostRuntime) -> Result<(), AllocError> {
+fn each_job_is_finished_in_its_place(rt: HostRuntime) {
+    let given = [(7, 3), (2, 0), (9, 5), (4, 1)];
+    let written = [(7, 321), (2, 0), (9, 54321), (4, 1)];
+    let answer = run_at_once(&rt, rt.alloc(), &given, 2, 2, &OpenGate);
+    assert!(rt; are_finished(&answer, &written));
+}
+
+#[test]
+fn answers_as_the_plain_program(rt: HostRuntime) {
     let mut jobs = [(0, 0); 40];
     for k in 0..40u32 {
         jobs[k as usize] = (100 - k, k * 7 % 23);
@@ -158,62 +153,54 @@ fn answers_as_the_plain_program(rt: HostRuntime) -> Result<(), AllocError> {
     for workers in [1, 2, 5, 64] {
         for slice in [1, 9] {
             assert!(rt;
-                is_as_in_turn(&rt, rt.alloc(), &jobs, workers, slice)?,
+                is_as_in_turn(&rt, rt.alloc(), &jobs, workers, slice),
                 "{workers} workers, slices of {slice}"
             );
         }
     }
-    Ok(())
 }
 
 #[test]
-fn three_jobs_for_many_workers(rt: HostRuntime) -> Result<(), AllocError> {
-    assert!(rt; is_as_in_turn(&rt, rt.alloc(), &[(1, 6), (2, 9), (3, 1)], 64, 1)?);
-    Ok(())
+fn three_jobs_for_many_workers(rt: HostRuntime) {
+    assert!(rt; is_as_in_turn(&rt, rt.alloc(), &[(1, 6), (2, 9), (3, 1)], 64, 1));
 }
 
 #[test]
-fn many_jobs_for_one_worker(rt: HostRuntime) -> Result<(), AllocError> {
+fn many_jobs_for_one_worker(rt: HostRuntime) {
     let mut jobs = [(0, 0); 200];
     for k in 0..200u32 {
         jobs[k as usize] = (k, k % 7);
     }
-    assert!(rt; is_as_in_turn(&rt, rt.alloc(), &jobs, 1, 2)?);
-    Ok(())
+    assert!(rt; is_as_in_turn(&rt, rt.alloc(), &jobs, 1, 2));
 }
 
 #[test]
-fn no_job(rt: HostRuntime) -> Result<(), AllocError> {
-    let room = PoolRoom::<Counter>::reserve(rt.alloc(), 1, 4096)?;
+fn no_job(rt: HostRuntime) {
+    let room = PoolRoom::<Counter>::reserve(rt.alloc(), 1, 4096).expect(&rt, "memory");
     let answer = run_pool(&rt, room, Vec::new(rt.alloc()), 1, &OpenGate);
     assert!(rt; answer.is_empty());
-    Ok(())
 }
 
 // Whether each wait of the gate was answered, for three jobs of three places and two workers.
-fn each_wait_is_answered<R: Threads + Wait + Sync>(
+fn each_wait_is_answered<R: Abort + Threads + Wait + Sync>(
     rt: &R,
     alloc: Global,
-    pair: (u32, u32),
-) -> Result<bool, AllocError> {
-    let room = PoolRoom::reserve(alloc, 2, 3)?;
-    let jobs = counters(alloc, &[(1, 3), (2, 3), (3, 3)])?;
-    let gate = Held::new(pair);
-    let _answer = run_pool(rt, room, jobs, 1, &gate);
-    Ok(gate.each_is_answered())
+    one: u32,
+    other: u32,
+) -> bool {
+    let gate = Held::new(one, other);
+    let _answer = run_at_once(rt, alloc, &[(1, 3), (2, 3), (3, 3)], 2, 1, &gate);
+    gate.each_is_answered()
 }
 
 // Jobs 1 and 3 start in one deque, and job 2 in the other. The worker that is held with one job of a pair can't run the
 // other one: so the other worker has to take it, where it was begun, and both have to be at work at once.
 #[test]
-fn jobs_are_stolen_half_done(rt: HostRuntime) -> Result<(), AllocError> {
-    for pair in [(1, 3), (1, 2), (2, 3)] {
+fn jobs_are_stolen_half_done(rt: HostRuntime) {
+    for (one, other) in &PAIRS {
         assert!(rt;
-            each_wait_is_answered(&rt, rt.alloc(), pair)?,
-            "calls {} and {}",
-            pair.0,
-            pair.1
+            each_wait_is_answered(&rt, rt.alloc(), *one, *other),
+            "calls {one} and {other}"
         );
     }
-    Ok(())
 }
