@@ -1,9 +1,9 @@
 -- The calls of a round that go on, and those that end.
 use Rattle.std.proofs.Common.{◌≡◌, refl, sym, ap, ◌∙◌, subst, ℕ, ◌+◌, ◌<◌, ◌≤◌, Bool, true, false, Option, Some, None, List, [], ◌∷◌, ◌++◌, length, length-append, append_assoc, suc, take, drop, drop-cons, add-one, arith, inl, inr, ◌⊎◌}
-use Rattle.std.specs.Prelude.{if◌then◌else◌, ◌==◌, ◌||◌, ◌&&◌, not, is_some, option_to_list}
+use Rattle.std.specs.Prelude.{if◌then◌else◌, ◌==◌, ◌≢◌, ◌||◌, ◌&&◌, not, is_some, option_to_list}
 use Rattle.std.specs.Option.{option_or, option_map}
 use Rattle.std.specs.List.{find, list_any, count_by, cons_option}
-use Rattle.std.proofs.lemmas.Bool.{cases_Bool, eqb-true, ne_eqb, false≢true, or_left, or_right}
+use Rattle.std.proofs.lemmas.Bool.{cases_Bool, eqb-true, eq-eqb, ne_eqb, false≢true, or_left, or_right}
 use Rattle.std.proofs.lemmas.List.Elements.{All-head, filter_map-append}
 use Rattle.std.proofs.lemmas.List.Folds.{find-append, list_any-append}
 use Rattle.std.proofs.lemmas.List.Sums.{sum_by-append}
@@ -12,6 +12,8 @@ use Rattle.std.proofs.lemmas.Iterator.{YieldsList}
 use Rattle.std.proofs.lemmas.Iterator.Consumers.{YieldsList-so_far, YieldsList-turn}
 use Rattle.std.specs.Iterator.{Yields}
 use Rattle.std.specs.Global.{Box}
+use Rattle.call_leg.specs.Memory.{LegMemory}
+use Rattle.call_leg.specs.Stands.{Stands}
 use Rattle.call_pair.specs.declared.job.Job.{Job}
 use Rattle.round_lines.specs.Seats.{SeatMemory}
 use Rattle.farm_rounds.specs.declared.call.Call.{Call}
@@ -21,9 +23,9 @@ use Rattle.farm_rounds.specs.declared.tally.Tally.{Tally}
 use Rattle.farm_rounds.specs.Calls.{holds, group_in, call_in, call_of}
 use Rattle.farm_rounds.specs.Groups.{IsGroup, AreGroups, AreLive}
 use Rattle.farm_rounds.specs.Memory.{tally_in}
-use Rattle.farm_rounds.specs.Numbers.{is_among}
+use Rattle.farm_rounds.specs.Numbers.{IsRising, is_among}
 use Rattle.farm_rounds.specs.Rounds.{jobs_in, group_from, groups_from}
-use Rattle.farm_rounds.specs.Settling.{group_left, groups_left, ended_in, ended_of, KeepsTally, Settled}
+use Rattle.farm_rounds.specs.Settling.{told_by, call_left, group_left, groups_left, ended_in, ended_of, KeepsTally, Settled}
 use Rattle.farm_rounds.proofs.Finding.{cases_zero, none_counted, not_found}
 use Rattle.farm_rounds.proofs.Exchanging.{All-second}
 use Rattle.farm_rounds.proofs.Applying.{few_groups}
@@ -115,6 +117,53 @@ module _ (stays : ℕ → Bool) where
 
       apart : (c : ℕ) → (ended_in stays xs c ≡ None) ⊎ (ended_in stays ys c ≡ None)
       apart c = elim (in_one xs ys c (few c)) [ inl f ↦ inl (none_ended xs c f) | inr f ↦ inr (none_ended ys c f) ]
+
+  -- one call that goes on, and one that ends
+  one_call : (x : Call) (b : Bool) (c : ℕ) → stays x.number ≡ b → ended_in stays (One x ∷ []) c ≡ (if b then None else if x.number == c then Some x else None)
+  one_call x b c e = ap (λ (o : Option Call). if stays c then None else o) (call_of_one x c) ∙ elim (cases_Bool (x.number == c)) [
+    | inl t ↦ rw t (ap (λ (a : Bool). if a then None else Some x) (ap stays (sym (eqb-true x.number c t)) ∙ e))
+    | inr f ↦ rw f (if_same (stays c) None ∙ sym (if_same b None))
+  ]
+
+  pub left_on : (seat : ℕ → SeatMemory) (x y : Call) → stays x.number ≡ true → y ≡ told_by (seat x.number) x → Some y ≡ call_left stays seat x
+  left_on seat x y t e = ap (λ (z : Call). Some z) e ∙ ap (λ (b : Bool). if b then Some (told_by (seat x.number) x) else None) (sym t)
+
+  pub left_off : (seat : ℕ → SeatMemory) (x : Call) → stays x.number ≡ false → None ≡ call_left stays seat x
+  left_off seat x f = ap (λ (b : Bool). if b then Some (told_by (seat x.number) x) else None) (sym f)
+
+  pub settled_on : (x : Call) (live : List ℕ) (kept : List Tally) → stays x.number ≡ true → IsRising live → Settled stays (One x ∷ []) live live kept kept
+  settled_on x live kept e rising = record {
+    numbers = λ c. ap (λ (o : Option Call). not (is_some o) && is_among live c) (sym (one_call x true c e));
+    rising = rising;
+    number = let none : ◌≡◌ {A = ℕ} (if stays x.number then 0 else 1) 0 = ap (λ (b : Bool). if b then 0 else 1) e in omega (arith, none);
+    tallies = λ c. subst (λ (o : Option Call). KeepsTally o (tally_in kept c) (tally_in kept c)) (sym (one_call x true c e)) refl;
+    same = refl;
+  }
+
+  -- y is the call x, with what its seat tells
+  pub settled_off : (x y : Call) (n : ℕ) (before now : List ℕ) (kept keeps : List Tally) → stays x.number ≡ false → n ≡ x.number → y.number ≡ x.number → y.leg ≡ x.leg → IsRising now →
+      ((c : ℕ) → is_among now c ≡ (not (n == c) && is_among before c)) → length now + 1 ≡ length before → KeepsTally (Some y) (tally_in kept y.number) (tally_in keeps y.number) →
+      ((c : ℕ) → c ≢ y.number → tally_in keeps c ≡ tally_in kept c) → length keeps ≡ length kept → Settled stays (One x ∷ []) before now kept keeps
+  settled_off x y n before now kept keeps e en ey el rising numbers number tally others same = record {
+    numbers = λ c. numbers c ∙ ap (λ (m : ℕ). not (m == c) && is_among before c) en ∙ ap (λ (b : Bool). not b && is_among before c) (there (x.number == c))
+        ∙ ap (λ (o : Option Call). not (is_some o) && is_among before c) (sym (one_call x false c e));
+    rising = rising;
+    number = let one : ◌≡◌ {A = ℕ} (if stays x.number then 0 else 1) 1 = ap (λ (b : Bool). if b then 0 else 1) e in omega (arith, number, one);
+    tallies = λ c. subst (λ (o : Option Call). KeepsTally o (tally_in kept c) (tally_in keeps c)) (sym (one_call x false c e)) (by c);
+    same = same;
+  }
+    where
+      there : (b : Bool) → b ≡ is_some (if b then Some x else None)
+      there true = refl
+      there false = refl
+
+      by : (c : ℕ) → KeepsTally (if x.number == c then Some x else None) (tally_in kept c) (tally_in keeps c)
+      by c = elim (cases_Bool (x.number == c)) [
+        | inl t ↦
+            let here : y.number ≡ c = ey ∙ eqb-true x.number c t in
+            rw t (λ d ts set k. ap (λ (m : ℕ). tally_in keeps m) (sym here) ∙ tally d ts set (subst (λ (l : LegMemory). Stands d ts set l) (sym el) k))
+        | inr f ↦ rw f (others c (λ q. absurd (false≢true (sym f ∙ eq-eqb x.number c (sym (q ∙ ey))))))
+      ]
 
   -- a call of no group among them is still there
   pub still_there : (xs : List Group) (before live : List ℕ) (kept keeps : List Tally) (c : ℕ) → list_any (holds c) xs ≡ false → Settled stays xs before live kept keeps → is_among before c ≡ true → is_among live c ≡ true

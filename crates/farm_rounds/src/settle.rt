@@ -48,6 +48,15 @@ fn goes_on(seat: &Seat) -> bool
     place.whole() == place.periods()
 }
 
+// The number and the leg of a call, without its octets.
+fn leg_of(half: Half) -> (u32, Leg)
+    ensures number { result.0 ≡ half.io.call }
+    ensures leg { result.1 ≡ half.leg }
+{
+    let Half { leg, io } = half;
+    (io.call, leg)
+}
+
 // A call, with what its seat tells of its outgoing lines.
 fn call_of(number: u32, leg: Leg, seat: &Seat) -> Call
     ensures { result ≡ record { number = number; leg = leg; down_failed = has_failed seat.now.place.down; out_failed = has_failed seat.now.place.out } }
@@ -87,8 +96,7 @@ fn keep(
     ensures left { result ≡ call_left (goes_on_call seats.now) (seat_of seats.now) (call_from half) }
     ensures settled { Settled (goes_on_call seats.now) (One (call_from half) ∷ []) live.old.items live.new.items tallies.old tallies.new }
 {
-    let Half { leg, io } = half;
-    let number = io.call;
+    let (number, leg) = leg_of(half);
     let seat = seat_for(numbers, seats, number);
     let call = call_of(number, leg, seat);
     if goes_on(seat) {

@@ -1,6 +1,7 @@
-use Rattle.std.proofs.Common.{rules, ◌≡◌, refl, ap, ◌∙◌, ℕ, List, [], ◌∷◌, ◌++◌, length, slice_index, arith}
+use Rattle.std.proofs.Common.{rules, ◌≡◌, refl, sym, ap, ◌∙◌, ℕ, List, [], ◌∷◌, ◌++◌, length, slice_index, arith}
 use Rattle.std.specs.Global.{Box}
 use Rattle.std.proofs.lemmas.List.{length-map}
+use Rattle.std.proofs.lemmas.Result.{IfOk-from_err}
 use Rattle.call_pair.specs.declared.job.Job.{Job}
 use Rattle.farm_rounds.specs.Calls.{call_of}
 use Rattle.farm_rounds.specs.Rounds.{jobs_in, entry_of}
@@ -29,5 +30,29 @@ loop-group-preserved c =
       made = made_more c.args.groups.now.items c.args.live.now c.loop-group.groups.items c.pop.new.self.items c.in-Some.group (jobs_in c.loop-group.jobs.items) (jobs_in c.push.new.self.items) c.loop-group.entries c.enter.new.entries
           c.loop-group.invariant.made c.in-Some.ensures.items (job_pushed c.loop-group.jobs.items c.push.new.self.items c.in_ok-new.field-0 c.in-Some.group c.job_of.result pushed c.in_ok-new.ensures.ok c.job_of.ensures) c.enter.ensures.length
           (λ k l t. c.enter.ensures.entered k l t ∙ ap (λ (n : ℕ). entry_of n (call_of (slice_index c.args.live.now k) c.in-Some.group)) index) c.enter.ensures.others c.requires.groups.apart;
+      capacity = c.pop.ensures.capacity ∙ c.loop-group.invariant.capacity;
+    }
+
+pub returns-in_err-new : goal.returns-in_err-new
+returns-in_err-new c =
+    let no = c.from_residual.ensures.0 in
+    record {
+      jobs = IfOk-from_err _ _ no;
+      entries = IfOk-from_err _ _ no;
+      calls = IfOk-from_err _ _ no;
+      length = c.enter.ensures.length ∙ c.loop-group.invariant.made.long ∙ sym c.requires.length;
+      empty = IfOk-from_err _ _ no;
+      capacity = c.pop.ensures.capacity ∙ c.loop-group.invariant.capacity;
+    }
+
+pub returns-in_err-push : goal.returns-in_err-push
+returns-in_err-push c =
+    let no = c.from_residual-in_err-push.ensures.0 in
+    record {
+      jobs = IfOk-from_err _ _ no;
+      entries = IfOk-from_err _ _ no;
+      calls = IfOk-from_err _ _ no;
+      length = c.enter.ensures.length ∙ c.loop-group.invariant.made.long ∙ sym c.requires.length;
+      empty = IfOk-from_err _ _ no;
       capacity = c.pop.ensures.capacity ∙ c.loop-group.invariant.capacity;
     }

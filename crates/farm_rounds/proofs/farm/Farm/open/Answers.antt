@@ -1,5 +1,6 @@
 use Rattle.std.proofs.Common.{◌≡◌, ◌∙◌, ap, sym, subst, List, [], ◌∷◌, ◌++◌, ℕ, length, arith}
 use Rattle.std.specs.Prelude.{◌==◌, ◌||◌}
+use Rattle.std.proofs.lemmas.Result.{IfOk-from_err, MatchResult-from_err}
 use Rattle.switchboard.specs.declared.act.Act.TheVariants as act
 use Rattle.farm_rounds.specs.declared.call.Call.{Call}
 use Rattle.farm_rounds.specs.declared.call.Group.{Group}
@@ -61,3 +62,30 @@ returns-clause-others c = ap (λ (f : FarmMemory). record f { groups = c.push_re
 
 pub returns-clause-applied : goal.returns-clause-applied
 returns-clause-applied c = subst (λ (f : FarmMemory). Applied f.ended (act.Opened c.args.call) f.groups c.push_reserved.new.self.items) c.self.view_is (applied c)
+
+pub returns-in_err-reserve : goal.returns-in_err-reserve
+returns-in_err-reserve c = record {
+  before = subst (λ (f : FarmMemory). AreGroups f.ended f.groups) c.self.view_is c.self.invariant.0;
+  applied = IfOk-from_err _ _ c.from_residual.ensures.0;
+  refused = MatchResult-from_err _ _ _ c.from_residual.ensures.0 (λ _. ap (λ (f : FarmMemory). f.groups) c.self.view_is);
+  refused_live = MatchResult-from_err _ _ _ c.from_residual.ensures.0 (λ _. c.reserve.ensures.items ∙ ap (λ (f : FarmMemory). f.live) c.self.view_is);
+  others = ap (λ (f : FarmMemory). record f { groups = c.self.inside.groups.items; live = c.reserve.new.self.items }) c.self.view_is;
+}
+
+pub returns-in_err-reserve-2 : goal.returns-in_err-reserve-2
+returns-in_err-reserve-2 c = record {
+  before = subst (λ (f : FarmMemory). AreGroups f.ended f.groups) c.self.view_is c.self.invariant.0;
+  applied = IfOk-from_err _ _ c.from_residual-in_err-reserve-2.ensures.0;
+  refused = MatchResult-from_err _ _ _ c.from_residual-in_err-reserve-2.ensures.0 (λ _. c.reserve-2.ensures.items ∙ ap (λ (f : FarmMemory). f.groups) c.self.view_is);
+  refused_live = MatchResult-from_err _ _ _ c.from_residual-in_err-reserve-2.ensures.0 (λ _. c.reserve.ensures.items ∙ ap (λ (f : FarmMemory). f.live) c.self.view_is);
+  others = ap (λ (f : FarmMemory). record f { groups = c.reserve-2.new.self.items; live = c.reserve.new.self.items }) c.self.view_is;
+}
+
+pub returns-in_err-opened : goal.returns-in_err-opened
+returns-in_err-opened c = record {
+  before = subst (λ (f : FarmMemory). AreGroups f.ended f.groups) c.self.view_is c.self.invariant.0;
+  applied = IfOk-from_err _ _ c.from_residual-in_err-opened.ensures.0;
+  refused = MatchResult-from_err _ _ _ c.from_residual-in_err-opened.ensures.0 (λ _. c.reserve-2.ensures.items ∙ ap (λ (f : FarmMemory). f.groups) c.self.view_is);
+  refused_live = MatchResult-from_err _ _ _ c.from_residual-in_err-opened.ensures.0 (λ _. c.reserve.ensures.items ∙ ap (λ (f : FarmMemory). f.live) c.self.view_is);
+  others = ap (λ (f : FarmMemory). record f { groups = c.reserve-2.new.self.items; live = c.reserve.new.self.items }) c.self.view_is;
+}
