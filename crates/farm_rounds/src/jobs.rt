@@ -70,10 +70,10 @@ fn jobs_of(
     ensures empty { IfOk result (λ jobs. groups.new.items ≡ []) }
     ensures capacity { vec_capacity groups.new ≡ vec_capacity groups.old }
 {
-    let mut jobs = Vec::new(alloc);
+    let mut jobs = Vec::with_capacity(alloc, groups.len())?;
     while let Some(group) = groups.pop() {
         enter(live, entries, jobs.len(), &group);
-        jobs.push(Box::new(alloc, job_of(alloc, group))?)?;
+        jobs.push_reserved(Box::new(alloc, job_of(alloc, group))?);
     }
     Ok(jobs)
 }
@@ -148,10 +148,16 @@ pub(crate) fn make_seats(
     ensures seats { IfOk result (λ seats. AreSeats live.now entries.now periods seats.items (length live.now)) }
     ensures length { IfOk result (λ seats. length seats.items ≡ length live.now) }
 {
-    let mut seats = Vec::new(alloc);
+    let mut seats = Vec::with_capacity(alloc, live.len())?;
     for k in 0..live.len() {
         let entry = entries[k];
-        seats.push(Seat::new(alloc, live[k], periods, entry.down_failed, entry.out_failed)?)?;
+        seats.push_reserved(Seat::new(
+            alloc,
+            live[k],
+            periods,
+            entry.down_failed,
+            entry.out_failed,
+        )?);
     }
     Ok(seats)
 }

@@ -1,5 +1,4 @@
 use Rattle.std.proofs.Common.{◌≡◌, sym, ap, ◌∙◌, subst, List, ◌++◌, length, take, drop, arith}
-use Rattle.std.proofs.lemmas.Result.{IfOk-from_err}
 use Rattle.farm_rounds.specs.declared.entry.Entry.{Entry}
 use Rattle.farm_rounds.specs.Rounds.{jobs_in, HaveEntries, BringCalls}
 use Rattle.farm_rounds.proofs.Starting.{live_found}

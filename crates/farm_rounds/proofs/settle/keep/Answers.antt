@@ -10,7 +10,6 @@ use Rattle.farm_rounds.specs.Working.{goes_on_call}
 use Rattle.farm_rounds.proofs.Settling.{left_on, left_off, settled_on, settled_off}
 use Rattle.farm_rounds.proofs.settle.keep.Goals as goal
 
-
 -- a call, with what its seat tells
 abbrev told : ℕ → LegMemory → SeatMemory → Call
 told n m s = record { number = n; leg = m; down_failed = has_failed s.place.down; out_failed = has_failed s.place.out }
