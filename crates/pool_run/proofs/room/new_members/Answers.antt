@@ -1,4 +1,5 @@
 use Rattle.std.proofs.Common.{◌≡◌, List, [], ◌∷◌, ◌++◌, ap, length, sym, subst, arith}
+use Rattle.std.proofs.lemmas.Result.{IfOk-from_err}
 use Rattle.pool_run.specs.declared.member.Member.{Member}
 use Rattle.pool_run.specs.Member.{Thief}
 use Rattle.pool_run.specs.Room.{IsUnused, RoomLeft}
@@ -50,3 +51,12 @@ returns g c =
       rows = done.rows;
       room = done.room;
     }
+
+pub returns-in_err-members : goal.returns-in_err-members
+returns-in_err-members g c = let no = c.from_residual.ensures.0 in record { unused = IfOk-from_err _ _ no; len = IfOk-from_err _ _ no; rows = IfOk-from_err _ _ no; room = IfOk-from_err _ _ no }
+
+pub returns-in_err-thieves : goal.returns-in_err-thieves
+returns-in_err-thieves g c = let no = c.from_residual-in_err-thieves.ensures.0 in record { unused = IfOk-from_err _ _ no; len = IfOk-from_err _ _ no; rows = IfOk-from_err _ _ no; room = IfOk-from_err _ _ no }
+
+pub returns-in_err-member : goal.returns-in_err-member
+returns-in_err-member g c = let no = c.from_residual-in_err-member.ensures.0 in record { unused = IfOk-from_err _ _ no; len = IfOk-from_err _ _ no; rows = IfOk-from_err _ _ no; room = IfOk-from_err _ _ no }
