@@ -160,15 +160,25 @@ none_exactly s t answer r h e =
     let p = reply_none s (due s.left t) in
     (λ n. none_due s.left t r h (p.1 (ap is_some (sym e) ∙ n)), λ a. ap is_some e ∙ p.0 (due_none s.left t a))
 
--- the next order has another stamp
-pub other_stamp : (s : State) (o : Order) (t : ℕ) → Some o ≡ first_of s.left → o.stamp ≢ t → None ≡ reply_of s (due s.left t)
-other_stamp s o t e n = by s o t s.left e n
-  where
-    by : (s : State) (o : Order) (t : ℕ) (os : List Order) → Some o ≡ first_of os → o.stamp ≢ t → None ≡ reply_of s (due os t)
-    by s o t [] e n = cc
-    by s o t (p ∷ os) e n =
-        let q : o ≡ p = cc in
-        ap (λ (b : Bool). reply_of s (if b then Some p else None)) (sym (ne_eqb p.stamp t (λ h. n (ap (λ (o : Order). o.stamp) q ∙ h))))
+-- no order is left, or the next one has another stamp
+pub none_left : (os : List Order) (t : ℕ) → None ≡ first_of os → due os t ≡ None
+none_left [] t e = refl
+none_left (o ∷ os) t e = cc
+
+pub other_stamp : (os : List Order) (o : Order) (t : ℕ) → Some o ≡ first_of os → o.stamp ≢ t → due os t ≡ None
+other_stamp [] o t e n = cc
+other_stamp (p ∷ os) o t e n =
+    let q : o ≡ p = cc in
+    ap (λ (b : Bool). if b then Some p else None) (ne_eqb p.stamp t (λ h. n (ap (λ (o : Order). o.stamp) q ∙ h)))
+
+-- a clause about a reply, where there is none
+pub without_reply : (r : Option Reply) (P : Reply → Type 0) → r ≡ None → IfSome r P
+without_reply None P e = tt
+without_reply (Some x) P e = cc
+
+pub no_reply : (r : Option Reply) (P : Type 0) → r ≡ None → is_some r ≡ true → P
+no_reply None P e h = cc
+no_reply (Some x) P e h = cc
 
 -- ---- ranges
 

@@ -1,7 +1,9 @@
 -- What an accepted order shows.
-use Rattle.std.proofs.Common.{◌≡◌, refl, ap, ◌∙◌, ℕ, ◌≢◌, Bool, true, false, Option, Some, None, List, [], ◌∷◌, inl, inr, ◌⊎◌}
-use Rattle.std.specs.Prelude.{Result, Ok, Err, ℤ, not, is_none, ◌==◌, option_map}
-use Rattle.std.proofs.lemmas.Bool.{eq-eqb}
+use Rattle.std.proofs.Common.{◌≡◌, refl, sym, ap, ◌∙◌, ℕ, ◌≢◌, Bool, true, false, Option, Some, None, List, [], ◌∷◌, inl, inr, ◌⊎◌}
+use Rattle.std.specs.Prelude.{Result, Ok, Err, IsErr, ℤ, not, is_none, ◌==◌, option_map}
+use Rattle.std.specs.Result.{IsErrAnd}
+use Rattle.std.proofs.lemmas.Bool.{eq-eqb, ne_eqb}
+use Rattle.std.proofs.lemmas.Result.{err_from_is_err_and}
 use Rattle.trau_orders.specs.declared.order.DtxMode.{DtxMode}
 use Rattle.trau_orders.specs.declared.order.What.TheVariants as what
 use Rattle.switchboard.specs.declared.act.Act.{Act}
@@ -11,6 +13,8 @@ use Rattle.switchboard.specs.declared.table.Bridge.{Bridge}
 use Rattle.switchboard.specs.declared.act.Refusal.TheVariants.{SameCall}
 use Rattle.switchboard.specs.Replies.{Known, not_open, bridged, draining, refuse_if, first_of_tests, act_of, reply_from}
 use Rattle.switchboard.specs.Bridges.{other}
+use Rattle.switchboard.specs.Rows.{passes}
+use Rattle.switchboard.specs.Stands.{InTable}
 
 abbrev pub IsRefused : Result Act Refusal → Type 0
 IsRefused r = (e : Refusal) × (r ≡ Err e)
@@ -101,3 +105,24 @@ level_accepted k c v = elim (one (act.LevelSet c v) _) [ inl e ↦ inl e | inr p
 
 pub dtx_accepted : (k : Known) (c : ℕ) (m : DtxMode) → IsRefused (reply_from k (what.Dtx c m)) ⊎ ((reply_from k (what.Dtx c m) ≡ Ok (act.DtxSet c m)) × (k.is_open c ≡ true))
 dtx_accepted k c m = elim (one (act.DtxSet c m) _) [ inl e ↦ inl e | inr p ↦ inr (p.0, not_not_refused _ _ p.1) ]
+
+-- ---- the tests one after another
+
+-- a test that is passed, and one that isn't
+pub next_test : (o : Option Refusal) (os : List (Option Refusal)) (r : Result (Unit {0}) Refusal) (u : Unit {0}) (x : Option Refusal) → r ≡ passes o → r ≡ Ok u → first_of_tests os ≡ x → first_of_tests (o ∷ os) ≡ x
+next_test None os r u x p q h = h
+next_test (Some e) os r u x p q h = cc
+
+pub failed_test : (o : Option Refusal) (os : List (Option Refusal)) (r : Result (Unit {0}) Refusal) (e : Refusal) → r ≡ passes o → r ≡ Err e → first_of_tests (o ∷ os) ≡ Some e
+failed_test None os r e p q = cc
+failed_test (Some d) os r e p q = let s : Err d ≡ Err e = sym p ∙ q in cc
+
+pub refused_by : (os : List (Option Refusal)) (a : Act) (e : Refusal) (x : Result Act Refusal) → first_of_tests os ≡ Some e → IsErrAnd x (λ d. d ≡ e) → x ≡ reply os a
+refused_by os a e x first is = let p = err_from_is_err_and x is in p.1 ∙ ap Err p.2 ∙ ap (λ (o : Option Refusal). elim o [ None ↦ Ok a | Some r ↦ Err r ]) (sym first)
+
+pub none_in_table : (x : Result Act Refusal) → IsErr x → InTable x
+none_in_table (Ok a) e = cc
+none_in_table (Err r) e = tt
+
+pub not_same : (a b : ℕ) (os : List (Option Refusal)) (x : Option Refusal) → a ≢ b → first_of_tests os ≡ x → first_of_tests (refuse_if (a == b) (SameCall a) ∷ os) ≡ x
+not_same a b os x n e = ap (λ (t : Bool). first_of_tests (refuse_if t (SameCall a) ∷ os)) (ne_eqb a b n) ∙ e

@@ -111,7 +111,7 @@ impl Table {
         ensures value { result ≡ bridge_in self.now call }
         ensures calls { IfSome result (λ x. (x.a < 4097) × (x.b < 4097)) }
     {
-        let bridge = self.bridges[self.calls[call as usize].bridge?];
+        let bridge = self.bridge_at(self.place_of(call)?);
         if bridge.ended.is_none() && self.is_open(bridge.a) && self.is_open(bridge.b) {
             Some(bridge)
         } else {
@@ -124,7 +124,7 @@ impl Table {
         requires { call < 4097 }
         ensures { result ≡ bridge_ended_in self.now stamp call }
     {
-        let bridge = self.bridges[self.calls[call as usize].bridge?];
+        let bridge = self.bridge_at(self.place_of(call)?);
         if bridge.ended == Some(stamp) {
             Some(bridge)
         } else {

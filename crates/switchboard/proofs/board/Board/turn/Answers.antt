@@ -1,14 +1,10 @@
-use Rattle.std.proofs.Common.{◌≡◌, ◌∙◌, ℕ, sym, subst, None}
-use Rattle.switchboard.specs.State.{State}
+use Rattle.std.proofs.Common.{◌≡◌, ◌∙◌, ℕ, refl, sym, ap, subst, None}
+use Rattle.switchboard.specs.State.{State, turned, reply_of}
 use Rattle.switchboard.specs.Runs.{IsRun, TellsEnds}
 use Rattle.switchboard.proofs.Runs.{run_more}
-use Rattle.switchboard.proofs.Laws.{none_exactly, other_stamp, refused_answer, last_is}
+use Rattle.switchboard.proofs.Laws.{none_left, none_exactly, other_stamp, without_reply, no_reply, refused_answer, last_is}
 use Rattle.switchboard.proofs.Changes.{refused_before}
 use Rattle.switchboard.proofs.board.Board.turn.Goals as goal
-
-pub returns-then-order-period-clause-none : goal.returns-then-order-period-clause-none
-returns-then-order-period-clause-none c =
-    none_exactly c.args.self.now c.args.period None c.next.ensures.rising c.requires.orders (other_stamp c.args.self.now c.in_ok-order.order c.args.period (sym c.in_ok-order.was ∙ c.next.ensures.value) c.if-order-period.true)
 
 pub returns-clause-refused : goal.returns-clause-refused
 returns-clause-refused c = refused_answer c.args.self.now c.execute.new.self c.in_ok-order.order c.execute.result c.execute.ensures.answer c.execute.ensures.state
@@ -24,3 +20,51 @@ returns-clause-run c = λ whole r t.
 
 pub returns-clause-last : goal.returns-clause-last
 returns-clause-last c = λ h. last_is c.args.self.now c.execute.new.self c.in_ok-order.order c.args.period c.execute.ensures.state c.if-order-period.false
+
+pub returns-in_err-order : goal.returns-in_err-order
+returns-in_err-order c =
+    let s = c.args.self.now in
+    let left = sym (none_left s.left c.args.period (sym (c.in_err-order.was) ∙ c.next.ensures.value)) in
+    let no = c.from_residual.ensures in
+    let answer = no ∙ ap (reply_of s) left in
+    record {
+      state = ap (turned s) left;
+      answer = answer;
+      none = none_exactly s c.args.period c.from_residual.result c.next.ensures.rising c.requires.orders answer;
+      refused = without_reply _ _ no;
+      finds = without_reply _ _ no;
+      rests = without_reply _ _ no;
+      opened = without_reply _ _ no;
+      «open» = without_reply _ _ no;
+      partner = without_reply _ _ no;
+      nothing = λ n. refl;
+      stays = without_reply _ _ no;
+      run = λ whole r t. r;
+      kept = refl;
+      told = λ t h. h;
+      last = no_reply _ _ no;
+      range = without_reply _ _ no;
+    }
+
+pub returns-then-order-period : goal.returns-then-order-period
+returns-then-order-period c =
+    let s = c.args.self.now in
+    let other = sym (other_stamp s.left c.in_ok-order.order c.args.period (sym c.in_ok-order.was ∙ c.next.ensures.value) c.if-order-period.true) in
+    record {
+      state = ap (turned s) other;
+      answer = ap (reply_of s) other;
+      none = none_exactly s c.args.period None c.next.ensures.rising c.requires.orders (ap (reply_of s) other);
+      refused = tt;
+      finds = tt;
+      rests = tt;
+      opened = tt;
+      «open» = tt;
+      partner = tt;
+      nothing = λ n. refl;
+      stays = tt;
+      run = λ whole r t. r;
+      kept = refl;
+      told = λ t h. h;
+      last = no_reply None _ refl;
+      range = tt;
+    }
