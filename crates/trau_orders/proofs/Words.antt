@@ -1,5 +1,5 @@
 -- The words of a line: those of an order's line are the ones that order it.
-use Rattle.std.proofs.Common.{◌≡◌, ℕ, ◌≤◌, ◌<◌, ◌^◌, List, [], ◌∷◌, length, Bool, true, false, eqb, refl, sym, ◌∙◌, ap, subst, arith}
+use Rattle.std.proofs.Common.{◌≡◌, ℕ, ◌≤◌, ◌<◌, ◌^◌, Option, Some, None, IfSome, List, [], ◌∷◌, length, Bool, true, false, eqb, refl, sym, ◌∙◌, ap, subst, arith}
 use Rattle.std.specs.Prelude.{ℤ, pos, ◌≤ℤ◌, codes, decimal, not, unsigned_abs}
 use Rattle.std.specs.List.{AllByRecursion, join_with_byte, list_all}
 use Rattle.std.proofs.lemmas.Bool.{ne_eqb}
@@ -160,3 +160,38 @@ third_word a b more what are =
     let one : length (words_of more) ≡ 1 = omega (arith, few, some, longer) in
     let alone : words_of more ≡ more ∷ [] = lone_word (words_of more) one ∙ ap (λ w. w ∷ []) (join_with_byte-slice_split 32 more) in
     record { in_range = are.in_range; spelled = ap (λ ws. a ∷ b ∷ ws) (sym alone) ∙ are.spelled }
+
+-- three words order nothing where no order has such a third one with its verb
+pub no_three : (verb call more : List ℕ) → (verb ≡ codes "bridge" → (b : ℕ) → IsNamed b → more ≡ decimal b → ⊥) →
+    (verb ≡ codes "level" → (v : ℤ) → pos 0 ≤ℤ v → v ≤ℤ pos 32767 → more ≡ decimal (unsigned_abs v) → ⊥) →
+    (verb ≡ codes "dtx" → (m : DtxMode) → more ≡ mode_word m → ⊥) → (what : What) → AreWords (verb ∷ call ∷ more ∷ []) what → ⊥
+no_three verb call more bridge level dtx (OpenCall c) are = let e = ap length are.spelled in absurd (omega (arith, e))
+no_three verb call more bridge level dtx (CloseCall c) are = let e = ap length are.spelled in absurd (omega (arith, e))
+no_three verb call more bridge level dtx (Unbridge c) are = let e = ap length are.spelled in absurd (omega (arith, e))
+no_three verb call more bridge level dtx (Bridge a b) are = let e = are.spelled in let is : verb ≡ codes "bridge" = cc in bridge is b are.in_range.1 cc
+no_three verb call more bridge level dtx (Level c v) are = let e = are.spelled in let is : verb ≡ codes "level" = cc in level is v are.in_range.1 are.in_range.2 cc
+no_three verb call more bridge level dtx (Dtx c m) are = let e = are.spelled in let is : verb ≡ codes "dtx" = cc in dtx is m cc
+
+-- nor where the second is no call
+pub no_call : (verb call more : List ℕ) → ((n : ℕ) → IsNamed n → call ≡ decimal n → ⊥) → (what : What) → AreWords (verb ∷ call ∷ more ∷ []) what → ⊥
+no_call verb call more none (OpenCall c) are = let e = ap length are.spelled in absurd (omega (arith, e))
+no_call verb call more none (CloseCall c) are = let e = ap length are.spelled in absurd (omega (arith, e))
+no_call verb call more none (Unbridge c) are = let e = ap length are.spelled in absurd (omega (arith, e))
+no_call verb call more none (Bridge a b) are = let e = are.spelled in none a are.in_range.0 cc
+no_call verb call more none (Level c v) are = let e = are.spelled in none c are.in_range.0 cc
+no_call verb call more none (Dtx c m) are = let e = are.spelled in none c are.in_range cc
+
+-- verbs are told apart
+pub not_level : (verb : List ℕ) (P : Type 0) → verb ≡ codes "bridge" → verb ≡ codes "level" → P
+not_level verb P e f = absurd cc
+
+pub not_dtx : (verb : List ℕ) (P : Type 0) → verb ≡ codes "bridge" → verb ≡ codes "dtx" → P
+not_dtx verb P e f = absurd cc
+
+pub level_not_dtx : (verb : List ℕ) (P : Type 0) → verb ≡ codes "level" → verb ≡ codes "dtx" → P
+level_not_dtx verb P e f = absurd cc
+
+-- a clause about what is ordered, where nothing is
+pub nothing_ordered : (r : Option What) (P : What → Type 0) → r ≡ None → IfSome r P
+nothing_ordered None P e = tt
+nothing_ordered (Some w) P e = cc
