@@ -1,3 +1,4 @@
+use crate::rows::assert_rows;
 use decimal_number::{number_of_octets, number_of_text};
 
 // A text, the ends of a range, and the number of that range which the text spells.
@@ -43,7 +44,7 @@ fn spelled(spellings: &[Spelling]) -> usize {
 
 #[test]
 fn spellings(rt: HostRuntime) {
-    assert_eq!(rt; spelled(&SPELLINGS), 15);
+    assert_rows(&rt, spelled(&SPELLINGS), 15);
 }
 
 #[test]

@@ -1,5 +1,6 @@
 mod pieces;
 
+use crate::rows::assert_rows;
 use farm_orders::{OrdersFault, read_orders};
 use pieces::PieceDesk;
 use std::alloc::{AllocError, Global};
@@ -42,7 +43,8 @@ fn answered(alloc: Global, cut: usize) -> usize {
 }
 
 // A desk with this text, of which the read of this number fails.
-fn desk(alloc: Global, text: Vec<u8>, fails: u32) -> Result<MemDesk, AllocError> {
+fn desk(alloc: Global, text: &[u8], fails: u32) -> Result<MemDesk, AllocError> {
+    let text = text.to_vec(alloc)?;
     let fails = [fails].to_vec(alloc)?;
     MemDesk::new(alloc, text, fails, Vec::new(alloc), 0)
 }
@@ -50,27 +52,30 @@ fn desk(alloc: Global, text: Vec<u8>, fails: u32) -> Result<MemDesk, AllocError>
 #[test]
 fn texts_in_pieces(rt: HostRuntime) {
     let alloc = rt.alloc();
-    let answered = [
-        answered(alloc, 1),
-        answered(alloc, 39),
-        answered(alloc, 1000),
-    ];
-    assert_eq!(rt; answered, [4; 3]);
+    assert_rows(&rt, answered(alloc, 1), 4);
+    assert_rows(&rt, answered(alloc, 39), 4);
+    assert_rows(&rt, answered(alloc, 1000), 4);
+}
+
+// What is answered to a text of which the read of this number fails, and how many reads have failed.
+fn answer_to(
+    alloc: Global,
+    text: &[u8],
+    fails: u32,
+) -> Result<(Result<usize, OrdersFault>, u64), AllocError> {
+    let mut desk = desk(alloc, text, fails)?;
+    Ok((count(alloc, &mut desk), desk.read_faults()))
 }
 
 // Whether orders are unread where the read of this number fails, and that alone.
-fn is_unread(alloc: Global, fails: u32) -> Result<bool, AllocError> {
-    let text = b"0 open 1\n".to_vec(alloc)?;
-    let mut desk = desk(alloc, text, fails)?;
-    let unread = count(alloc, &mut desk) == Err(OrdersFault::Unread);
-    Ok(unread && desk.read_faults() == 1)
+fn is_unread(alloc: Global, fails: u32) -> bool {
+    answer_to(alloc, b"0 open 1\n", fails) == Ok((Err(OrdersFault::Unread), 1))
 }
 
 // The first read fails, or the one that would have told the end.
 #[test]
 fn a_failed_read_is_unread(rt: HostRuntime) {
-    let unread = [is_unread(rt.alloc(), 0), is_unread(rt.alloc(), 1)];
-    assert_eq!(rt; unread, [Ok(true); 2]);
+    assert!(rt; is_unread(rt.alloc(), 0) && is_unread(rt.alloc(), 1));
 }
 
 // Whether this is answered to a text of so many of one octet.
@@ -82,8 +87,8 @@ fn is_limit(
     fault: OrdersFault,
 ) -> Result<bool, AllocError> {
     let text = vec![in alloc; octet; length]?;
-    let mut desk = desk(alloc, text, fails)?;
-    Ok(count(alloc, &mut desk) == Err(fault))
+    let (answer, _) = answer_to(alloc, &text, fails)?;
+    Ok(answer == Err(fault))
 }
 
 // An octet, the length of a text of it, the read that fails, and what is answered.
@@ -109,5 +114,5 @@ fn limited(alloc: Global) -> usize {
 
 #[test]
 fn limits(rt: HostRuntime) {
-    assert_eq!(rt; limited(rt.alloc()), 5);
+    assert_rows(&rt, limited(rt.alloc()), 5);
 }

@@ -1,3 +1,4 @@
+use crate::rows::assert_rows;
 use farm_words::{Asked, Settings, WordsFault, read_words};
 use std::alloc::{AllocError, Global};
 
@@ -69,7 +70,7 @@ fn runs_asked(alloc: Global) -> usize {
 
 #[test]
 fn options_of_a_run(rt: HostRuntime) {
-    assert_eq!(rt; runs_asked(rt.alloc()), 6);
+    assert_rows(&rt, runs_asked(rt.alloc()), 6);
 }
 
 static TOOLS: [(&str, Asked); 4] = [
@@ -93,7 +94,7 @@ fn tools_asked(alloc: Global) -> usize {
 
 #[test]
 fn calls_of_tools(rt: HostRuntime) {
-    assert_eq!(rt; tools_asked(rt.alloc()), 4);
+    assert_rows(&rt, tools_asked(rt.alloc()), 4);
 }
 
 // Lines whose words ask for nothing; the last is empty.
@@ -140,19 +141,21 @@ fn is_usage(alloc: Global, line: &str) -> bool {
     is_answered(alloc, line, Err(WordsFault::Usage))
 }
 
-// The first line whose words ask for something.
-fn first_asking(alloc: Global) -> Option<&'static str> {
+// How many lines' words ask for nothing, from the first on.
+fn usages(alloc: Global) -> usize {
+    let mut usages = 0usize;
     for line in OTHER_WORDS.split('\n') {
         if !is_usage(alloc, line) {
-            return Some(line);
+            return usages;
         }
+        usages = usages.saturating_add(1);
     }
-    None
+    usages
 }
 
 #[test]
 fn other_words_are_usage(rt: HostRuntime) {
-    assert_eq!(rt; first_asking(rt.alloc()), None);
+    assert_rows(&rt, usages(rt.alloc()), 37);
 }
 
 #[test]

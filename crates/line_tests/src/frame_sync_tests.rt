@@ -1,6 +1,8 @@
 ghost use Rattle.std.specs.Prelude.{◌≡◌, ◌<◌, ◌+◌};
 
+use crate::rows::assert_rows;
 use frame_sync::{FrameSync, Yield};
+use std::process::Abort;
 
 // An uplink frame of good speech, whose sync ones begin octets 2, 4, 6 and so on; the same without the second of them;
 // and a period in which nothing matches.
@@ -45,17 +47,20 @@ fn fed(sync: &mut FrameSync, octets: &[u8; 40]) -> Option<(bool, u64)>
     told(sync.feed(octets))
 }
 
+// Asserts what is told of three periods, from the first on.
+fn assert_fed(rt: &impl Abort, periods: &[[u8; 40]; 3], wanted: [Option<(bool, u64)>; 3]) {
+    let mut sync = FrameSync::new();
+    let first = fed(&mut sync, &periods[0]);
+    let second = fed(&mut sync, &periods[1]);
+    let third = fed(&mut sync, &periods[2]);
+    assert_eq!(rt; [first, second, third], wanted);
+}
+
 // Five bits 0, then frames without a gap: the first ends in period 1.
 #[test]
 fn frames_at_five(rt: HostRuntime) {
-    let mut sync = FrameSync::new();
-    let first = fed(&mut sync, &late(0));
-    let second = fed(&mut sync, &late(0xFF));
-    let third = fed(&mut sync, &late(0xFF));
-    assert_eq!(rt;
-        [first, second, third],
-        [None, Some((true, 5)), Some((true, 325))]
-    );
+    let periods = [late(0), late(0xFF), late(0xFF)];
+    assert_fed(&rt, &periods, [None, Some((true, 5)), Some((true, 325))]);
 }
 
 static ARE_FRAMES: [bool; 8] = [true, false, false, true, false, false, false, true];
@@ -76,15 +81,11 @@ fn told_in_turn() -> usize {
 // Two misses keep the lock, and a frame between lets two more pass. The third miss gives it up.
 #[test]
 fn misses_in_a_row(rt: HostRuntime) {
-    assert_eq!(rt; told_in_turn(), 8);
+    assert_rows(&rt, told_in_turn(), 8);
 }
 
 // Nothing matches while it hunts.
 #[test]
 fn nothing_is_told_while_it_hunts(rt: HostRuntime) {
-    let mut sync = FrameSync::new();
-    let ones = fed(&mut sync, &[0xFF; 40]);
-    let zeros = fed(&mut sync, &[0; 40]);
-    let broken = fed(&mut sync, &BROKEN);
-    assert_eq!(rt; [ones, zeros, broken], [None; 3]);
+    assert_fed(&rt, &[[0xFF; 40], [0; 40], BROKEN], [None; 3]);
 }

@@ -18,6 +18,8 @@ mod frame_sync_tests;
 #[cfg(test)]
 mod pool_core_tests;
 #[cfg(test)]
+mod rows;
+#[cfg(test)]
 mod switchboard_tests;
 #[cfg(test)]
 mod trau_bits_tests;

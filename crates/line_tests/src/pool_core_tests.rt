@@ -1,7 +1,9 @@
-ghost use Rattle.std.specs.Prelude.{◌≡◌};
+ghost use Rattle.std.specs.Prelude.{◌≡◌, ◌<◌, length};
 
+use crate::rows::assert_rows;
 use pool_core::{NotLegal, Pool, PoolStep};
 use std::alloc::AllocError;
+use std::process::Abort;
 
 // What is done until the first job has two of its periods ..
 static FIRST_STEPS: [(PoolStep, bool); 2] = [
@@ -72,13 +74,20 @@ fn stepped(pool: &mut Pool, steps: &[(PoolStep, bool)]) -> usize
     stepped
 }
 
+// Asserts that all steps are so, the place of the first job between them, and that all jobs are done.
+fn assert_stolen(rt: &impl Abort, pool: &mut Pool)
+    requires { 0 < length pool.old.lens }
+{
+    assert_rows(rt, stepped(pool, &FIRST_STEPS), 2);
+    assert!(rt; pool.place(0) == 2);
+    assert_rows(rt, stepped(pool, &STEPS), 8);
+    assert!(rt; pool.all_done());
+}
+
 // Two workers, and jobs of 3 periods and of 1. The first job is stolen with one period left.
 #[test]
 fn a_job_is_stolen(rt: HostRuntime) -> Result<(), AllocError> {
     let mut pool = Pool::new(rt.alloc(), 2, &[3, 1])?;
-    let begun = stepped(&mut pool, &FIRST_STEPS);
-    assert_eq!(rt; (begun, pool.place(0)), (2, 2));
-    let stolen = stepped(&mut pool, &STEPS);
-    assert_eq!(rt; (stolen, pool.all_done()), (8, true));
+    assert_stolen(&rt, &mut pool);
     Ok(())
 }

@@ -1,7 +1,9 @@
 ghost use Rattle.std.specs.Prelude.{◌≡◌, ◌<◌, ◌≤◌, ℕ, IfOk, IsTrue};
 ghost use Rattle.switchboard.specs.State.{EndBefore, last_stamp};
 
+use crate::rows::assert_rows;
 use std::alloc::Global;
+use std::process::Abort;
 use std::test::Fail;
 use switchboard::{Act, Board, Refusal, Reply, Span};
 use trau_io::{CallEnd, Cause};
@@ -42,15 +44,17 @@ fn replied(board: &mut Board, results: &[Result<Act, Refusal>]) -> usize
     replied
 }
 
-// The same of all these orders, and whether no other is left.
-fn replied_to(
+// Asserts that all these orders are answered so, and that no other is left.
+fn assert_replied(
+    rt: &impl Abort,
     alloc: Global,
     orders: &[u8],
     results: &[Result<Act, Refusal>],
-) -> Result<(usize, bool), Fail> {
+) -> Result<(), Fail> {
     let mut board = board_of(alloc, orders)?;
-    let replied = replied(&mut board, results);
-    Ok((replied, board.next_stamp() == None))
+    assert_rows(rt, replied(&mut board, results), results.len());
+    assert!(rt; board.next_stamp() == None);
+    Ok(())
 }
 
 static TWO_PERIODS: &[u8] =
@@ -85,11 +89,7 @@ static TWO_RESULTS: [Result<Act, Refusal>; 13] = [
 // Two periods, with each refusal once.
 #[test]
 fn orders_are_accepted_or_refused(rt: HostRuntime) -> Result<(), Fail> {
-    assert_eq!(rt;
-        replied_to(rt.alloc(), TWO_PERIODS, &TWO_RESULTS)?,
-        (13, true)
-    );
-    Ok(())
+    assert_replied(&rt, rt.alloc(), TWO_PERIODS, &TWO_RESULTS)
 }
 
 static THREE_PERIODS: &[u8] =
@@ -155,11 +155,7 @@ static THREE_RESULTS: [Result<Act, Refusal>; 27] = [
 // Of several refusals that hold the first comes.
 #[test]
 fn tests_of_an_order_go_in_their_order(rt: HostRuntime) -> Result<(), Fail> {
-    assert_eq!(rt;
-        replied_to(rt.alloc(), THREE_PERIODS, &THREE_RESULTS)?,
-        (27, true)
-    );
-    Ok(())
+    assert_replied(&rt, rt.alloc(), THREE_PERIODS, &THREE_RESULTS)
 }
 
 // Whether an order of period 0 is executed.
@@ -242,6 +238,6 @@ static REFUSED: Reply = Reply {
 fn ends_lower_a_span(rt: HostRuntime) -> Result<(), Fail> {
     let orders = b"0 open 7\n0 open 9\n0 bridge 7 9\n40 unbridge 9\n";
     let mut board = board_of(rt.alloc(), orders)?;
-    assert_eq!(rt; reply_after_both(&mut board), Some(REFUSED));
+    assert!(rt; reply_after_both(&mut board) == Some(REFUSED));
     Ok(())
 }

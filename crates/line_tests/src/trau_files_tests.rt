@@ -1,4 +1,5 @@
 // What no proof sees: the system's files and streams.
+use crate::rows::assert_rows;
 use std::io::{ErrorKind, Read, Write};
 use std::{fs, io};
 use trau_files::{FileTrunk, StdDesk};
@@ -20,32 +21,33 @@ enum Step {
     Remove(&'static str),
     // A file holds these octets.
     Holds(&'static str, &'static [u8]),
-    // A read of at most four octets gives so many, and leaves these in the place of four octets 0.
-    Gives(Side, usize, [u8; 4]),
-    // The next octet of a line.
-    Next(Side, u8),
-    // A read fails, and doesn't only find the line's end.
-    ReadFails(Side),
-    // A line takes octets at once.
-    Takes(Side, &'static [u8]),
-    WriteFails(Side),
+    // A read of at most so many octets, one to four, gives so many or fails, and leaves these of four octets 0.
+    Reads(Side, usize, Option<usize>, [u8; 4]),
+    // A line takes so many of these octets, or fails.
+    Writes(Side, &'static [u8], Option<usize>),
 }
 
-// Whether a read of at most four octets gives so many, and leaves these.
-fn gives(
+// Whether a read of at most so many octets gives this, and leaves these.
+fn reads(
     trunk: &mut FileTrunk<'_, HostRuntime>,
     line: Line,
-    count: usize,
+    most: usize,
+    given: Option<usize>,
     octets: &[u8; 4],
 ) -> bool {
     let mut read = [0; 4];
-    trunk.read(line, &mut read).ok() == Some(count) && read == *octets
+    let most = most.max(1).min(4);
+    trunk.read(line, &mut read[..most]).ok() == given && read == *octets
 }
 
-// Whether this is the next octet of a line.
-fn is_next(trunk: &mut FileTrunk<'_, HostRuntime>, line: Line, octet: u8) -> bool {
-    let mut read = [0];
-    trunk.read(line, &mut read).ok() == Some(1) && read[0] == octet
+// Whether a line takes so many of these octets.
+fn writes(
+    trunk: &mut FileTrunk<'_, HostRuntime>,
+    line: Line,
+    octets: &[u8],
+    taken: Option<usize>,
+) -> bool {
+    !octets.is_empty() && trunk.write(line, octets).ok() == taken
 }
 
 // Whether a file holds these octets.
@@ -56,33 +58,22 @@ fn holds(rt: &HostRuntime, name: &str, octets: &[u8]) -> bool {
     }
 }
 
-// Whether a line takes octets at once.
-fn takes(trunk: &mut FileTrunk<'_, HostRuntime>, line: Line, octets: &[u8]) -> bool {
-    !octets.is_empty() && trunk.write(line, octets).ok() == Some(octets.len())
-}
-
 // Whether a step is done, and comes to what it tells.
 fn is_done(rt: &HostRuntime, trunk: &mut FileTrunk<'_, HostRuntime>, step: &Step) -> bool {
     match step {
         Step::Make(name, octets) => fs::write(rt, *name, *octets).is_ok(),
         Step::Remove(name) => fs::remove_file(rt, *name).is_ok(),
         Step::Holds(name, octets) => holds(rt, name, octets),
-        Step::Gives(side, count, octets) => gives(trunk, line(*side), *count, octets),
-        Step::Next(side, octet) => is_next(trunk, line(*side), *octet),
-        Step::ReadFails(side) => trunk.read(line(*side), &mut [0]).is_err(),
-        Step::Takes(side, octets) => takes(trunk, line(*side), octets),
-        Step::WriteFails(side) => trunk.write(line(*side), &[8]).is_err(),
+        Step::Reads(side, most, given, octets) => reads(trunk, line(*side), *most, *given, octets),
+        Step::Writes(side, octets, taken) => writes(trunk, line(*side), octets, *taken),
     }
 }
 
-// How many steps from the first on are done.
-fn done(rt: &HostRuntime, steps: &[Step]) -> usize {
-    let Ok(mut trunk) = FileTrunk::new(rt.alloc(), rt) else {
-        return 0;
-    };
-    let mut done = 0;
+// How many steps from the first on are done with a trunk.
+fn done_with(rt: &HostRuntime, trunk: &mut FileTrunk<'_, HostRuntime>, steps: &[Step]) -> usize {
+    let mut done = 0usize;
     for step in steps {
-        if !is_done(rt, &mut trunk, step) {
+        if !is_done(rt, trunk, step) {
             return done;
         }
         done = done.saturating_add(1);
@@ -90,74 +81,82 @@ fn done(rt: &HostRuntime, steps: &[Step]) -> usize {
     done
 }
 
+// The same with a new trunk.
+fn done(rt: &HostRuntime, steps: &[Step]) -> usize {
+    match FileTrunk::new(rt.alloc(), rt) {
+        Ok(mut trunk) => done_with(rt, &mut trunk, steps),
+        Err(_) => 0,
+    }
+}
+
 static FILES: [Step; 11] = [
     Step::Make("4096.up", &[1, 2, 3, 4, 5]),
     Step::Make("9.out", &[9; 9]),
-    Step::Gives(Side::Up, 4, [1, 2, 3, 4]),
-    Step::Gives(Side::Up, 1, [5, 0, 0, 0]),
-    Step::Gives(Side::Up, 0, [0; 4]),
-    Step::Gives(Side::Out, 4, [9; 4]),
-    Step::Takes(Side::Out, &[6]),
-    Step::Takes(Side::Out, &[7, 8]),
+    Step::Reads(Side::Up, 4, Some(4), [1, 2, 3, 4]),
+    Step::Reads(Side::Up, 4, Some(1), [5, 0, 0, 0]),
+    Step::Reads(Side::Up, 4, Some(0), [0; 4]),
+    Step::Reads(Side::Out, 4, Some(4), [9; 4]),
+    Step::Writes(Side::Out, &[6], Some(1)),
+    Step::Writes(Side::Out, &[7, 8], Some(2)),
     Step::Holds("9.out", &[6, 7, 8]),
     Step::Remove("4096.up"),
-    Step::ReadFails(Side::Up),
+    Step::Reads(Side::Up, 1, None, [0; 4]),
 ];
 
 #[test]
 fn lines_are_files(rt: HostRuntime) {
-    assert_eq!(rt; done(&rt, &FILES), 11);
+    assert_rows(&rt, done(&rt, &FILES), 11);
 }
 
 static READS_IN_TURN: [Step; 7] = [
     Step::Make("4096.up", &[1, 2, 3]),
     Step::Make("9.out", &[4, 5, 6]),
-    Step::Next(Side::Up, 1),
-    Step::Next(Side::Out, 4),
-    Step::Next(Side::Up, 2),
-    Step::Takes(Side::Out, &[7]),
-    Step::Next(Side::Up, 3),
+    Step::Reads(Side::Up, 1, Some(1), [1, 0, 0, 0]),
+    Step::Reads(Side::Out, 1, Some(1), [4, 0, 0, 0]),
+    Step::Reads(Side::Up, 1, Some(1), [2, 0, 0, 0]),
+    Step::Writes(Side::Out, &[7], Some(1)),
+    Step::Reads(Side::Up, 1, Some(1), [3, 0, 0, 0]),
 ];
 
 // Each line goes on at its own octet: also where another was read or written in between.
 #[test]
 fn lines_are_read_in_turn(rt: HostRuntime) {
-    assert_eq!(rt; done(&rt, &READS_IN_TURN), 7);
+    assert_rows(&rt, done(&rt, &READS_IN_TURN), 7);
 }
 
 static WRITES_IN_TURN: [Step; 5] = [
-    Step::Takes(Side::Out, &[7]),
-    Step::Takes(Side::Up, &[8]),
-    Step::Takes(Side::Out, &[9]),
+    Step::Writes(Side::Out, &[7], Some(1)),
+    Step::Writes(Side::Up, &[8], Some(1)),
+    Step::Writes(Side::Out, &[9], Some(1)),
     Step::Holds("9.out", &[7, 9]),
-    Step::Next(Side::Up, 8),
+    Step::Reads(Side::Up, 1, Some(1), [8, 0, 0, 0]),
 ];
 
 #[test]
 fn lines_are_written_in_turn(rt: HostRuntime) {
-    assert_eq!(rt; done(&rt, &WRITES_IN_TURN), 5);
+    assert_rows(&rt, done(&rt, &WRITES_IN_TURN), 5);
 }
 
 static REMOVED_FILES: [Step; 13] = [
     Step::Make("4096.up", &[1, 2, 3]),
-    Step::Next(Side::Up, 1),
-    Step::Takes(Side::Out, &[7]),
+    Step::Reads(Side::Up, 1, Some(1), [1, 0, 0, 0]),
+    Step::Writes(Side::Out, &[7], Some(1)),
     Step::Remove("4096.up"),
     Step::Remove("9.out"),
-    Step::Next(Side::Up, 2),
-    Step::Takes(Side::Out, &[8]),
-    Step::ReadFails(Side::Out),
-    Step::ReadFails(Side::Up),
+    Step::Reads(Side::Up, 1, Some(1), [2, 0, 0, 0]),
+    Step::Writes(Side::Out, &[8], Some(1)),
+    Step::Reads(Side::Out, 1, None, [0; 4]),
+    Step::Reads(Side::Up, 1, None, [0; 4]),
     Step::Make("4096.up", &[4, 5, 6]),
-    Step::Next(Side::Up, 6),
-    Step::Takes(Side::Up, &[9]),
-    Step::WriteFails(Side::Out),
+    Step::Reads(Side::Up, 1, Some(1), [6, 0, 0, 0]),
+    Step::Writes(Side::Up, &[9], Some(1)),
+    Step::Writes(Side::Out, &[8], None),
 ];
 
 // The file that was used last is open and outlives its name; any other is looked for by its name.
 #[test]
 fn a_removed_file_goes_on_while_it_is_open(rt: HostRuntime) {
-    assert_eq!(rt; done(&rt, &REMOVED_FILES), 13);
+    assert_rows(&rt, done(&rt, &REMOVED_FILES), 13);
 }
 
 // Is interrupted before each call that moves anything.
@@ -212,6 +211,13 @@ fn hears(
     desk.read(octets).ok() == Some(count)
 }
 
+// Whether three octets are read, the last one over the first.
+fn is_heard(desk: &mut StdDesk<Interrupted<&[u8]>, &mut Vec<u8>>) -> bool {
+    let mut octets = [0; 2];
+    let all = hears(desk, &mut octets, 2) && hears(desk, &mut octets, 1);
+    all && octets == [7, 6] && hears(desk, &mut octets, 0)
+}
+
 // Whether a desk takes these two octets at once.
 fn is_told(desk: &mut StdDesk<&[u8], Interrupted<&mut Vec<u8>>>, octets: &[u8; 2]) -> bool {
     desk.write(octets).ok() == Some(2)
@@ -219,14 +225,10 @@ fn is_told(desk: &mut StdDesk<&[u8], Interrupted<&mut Vec<u8>>>, octets: &[u8; 2
 
 #[test]
 fn a_desk_is_a_reader(rt: HostRuntime) {
-    let mut octets = [0; 2];
     let mut text = Vec::new(rt.alloc());
     let orders = Interrupted::new([5, 6, 7].as_slice());
     let mut desk = StdDesk::new(orders, &mut text);
-    assert!(rt; hears(&mut desk, &mut octets, 2));
-    assert!(rt; hears(&mut desk, &mut octets, 1));
-    assert!(rt; octets == [7, 6]);
-    assert!(rt; hears(&mut desk, &mut octets, 0));
+    assert!(rt; is_heard(&mut desk));
 }
 
 #[test]

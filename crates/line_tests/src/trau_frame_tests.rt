@@ -1,3 +1,4 @@
+use crate::rows::assert_rows;
 use trau_bits::{pack, unpack};
 use trau_frame::{Class, DownFrame, Kind, UpFrame, read_up, sync_matches, write_down, write_up};
 
@@ -121,7 +122,7 @@ fn classes_read() -> usize {
 
 #[test]
 fn classes_are_read(rt: HostRuntime) {
-    assert_eq!(rt; classes_read(), 8);
+    assert_rows(&rt, classes_read(), 8);
 }
 
 // Whether a frame with this octet at place 2 is unusable and of this kind.

@@ -1,5 +1,4 @@
 use std::alloc::{AllocError, Global};
-use std::test::Fail;
 use trau_io::{
     Desk, Failed, Filled, Line, MemDesk, MemTrunk, Side, Trunk, read_block, tell, write_all,
 };
@@ -30,12 +29,22 @@ fn set(
     trunk.set(alloc, line, octets, cuts, fails, room)
 }
 
+// Up has these octets, and no other line any.
+fn trunk_with_up(
+    alloc: Global,
+    octets: &[u8],
+    cuts: &[u32],
+    fails: &[u32],
+) -> Result<MemTrunk, AllocError> {
+    let mut trunk = MemTrunk::new(alloc)?;
+    set(alloc, &mut trunk, UP, octets, cuts, fails, 0)?;
+    Ok(trunk)
+}
+
 // Up has nine octets, in cuts of 0 (which counts as 1), 2 and 100, and the fourth call fails.
 fn nine_octets(alloc: Global) -> Result<MemTrunk, AllocError> {
-    let mut trunk = MemTrunk::new(alloc)?;
     let octets = [1, 2, 3, 4, 5, 6, 7, 8, 9];
-    set(alloc, &mut trunk, UP, &octets, &[0, 2, 100], &[3], 0)?;
-    Ok(trunk)
+    trunk_with_up(alloc, &octets, &[0, 2, 100], &[3])
 }
 
 // What is answered to reads of at most four octets.
@@ -53,13 +62,18 @@ fn reads_answered(trunk: &mut MemTrunk, octets: &mut [u8; 4]) -> usize {
     answered
 }
 
+// Whether all are answered so, and leave what they read last; one has failed.
+fn is_read_in_cuts(trunk: &mut MemTrunk) -> bool {
+    let mut octets = [0; 4];
+    let all = reads_answered(trunk, &mut octets) == 6;
+    all && octets == [8, 9, 6, 7] && trunk.faults(UP) == 1
+}
+
 // Past the cuts there are none.
 #[test]
-fn a_line_is_read_in_its_cuts(rt: HostRuntime) -> Result<(), Fail> {
+fn a_line_is_read_in_its_cuts(rt: HostRuntime) -> Result<(), AllocError> {
     let mut trunk = nine_octets(rt.alloc())?;
-    let mut octets = [0; 4];
-    assert_eq!(rt; reads_answered(&mut trunk, &mut octets), 6);
-    assert!(rt; octets == [8, 9, 6, 7] && trunk.faults(UP) == 1);
+    assert!(rt; is_read_in_cuts(&mut trunk));
     Ok(())
 }
 
@@ -69,7 +83,7 @@ fn is_closed(trunk: &mut MemTrunk) -> bool {
 }
 
 #[test]
-fn all_other_lines_are_empty_and_without_room(rt: HostRuntime) -> Result<(), Fail> {
+fn all_other_lines_are_empty_and_without_room(rt: HostRuntime) -> Result<(), AllocError> {
     let mut trunk = nine_octets(rt.alloc())?;
     assert!(rt; is_closed(&mut trunk));
     Ok(())
@@ -77,8 +91,7 @@ fn all_other_lines_are_empty_and_without_room(rt: HostRuntime) -> Result<(), Fai
 
 // Up has ten octets and Down room for seven, both in cuts.
 fn ten_octets(alloc: Global) -> Result<MemTrunk, AllocError> {
-    let mut trunk = MemTrunk::new(alloc)?;
-    set(alloc, &mut trunk, UP, &[7; 10], &[3, 1], &[], 0)?;
+    let mut trunk = trunk_with_up(alloc, &[7; 10], &[3, 1], &[])?;
     set(alloc, &mut trunk, DOWN, &[], &[2, 3], &[], 7)?;
     Ok(trunk)
 }
@@ -100,11 +113,15 @@ fn transfers(trunk: &mut MemTrunk) -> bool {
     whole && fills(trunk, &mut block, Filled::Ended(4)) && !takes(trunk, &block)
 }
 
+// Whether it does, and Down then has its seven octets and one call that failed.
+fn fills_down(trunk: &mut MemTrunk) -> bool {
+    transfers(trunk) && trunk.written(DOWN) == [7; 7].as_slice() && trunk.faults(DOWN) == 1
+}
+
 #[test]
-fn a_whole_transfer_goes_on_over_cuts(rt: HostRuntime) -> Result<(), Fail> {
+fn a_whole_transfer_goes_on_over_cuts(rt: HostRuntime) -> Result<(), AllocError> {
     let mut trunk = ten_octets(rt.alloc())?;
-    assert!(rt; transfers(&mut trunk));
-    assert!(rt; trunk.written(DOWN) == [7; 7].as_slice() && trunk.faults(DOWN) == 1);
+    assert!(rt; fills_down(&mut trunk));
     Ok(())
 }
 
@@ -124,16 +141,16 @@ fn has_failed(desk: &MemDesk, reads: u64, writes: u64) -> bool {
     desk.read_faults() == reads && desk.write_faults() == writes
 }
 
-// Whether the first read fails, and the next ones give all eight octets.
+// Whether the first read fails, that alone, and the next ones give all eight octets.
 fn is_heard(desk: &mut MemDesk) -> bool {
     let first = hears(desk, Err(Failed)) && hears(desk, Ok(6));
-    first && hears(desk, Ok(2)) && hears(desk, Ok(0))
+    first && hears(desk, Ok(2)) && hears(desk, Ok(0)) && has_failed(desk, 1, 0)
 }
 
 #[test]
-fn a_desk_is_read_as_it_was_told(rt: HostRuntime) -> Result<(), Fail> {
+fn a_desk_is_read_as_it_was_told(rt: HostRuntime) -> Result<(), AllocError> {
     let mut desk = desk(rt.alloc())?;
-    assert!(rt; is_heard(&mut desk) && has_failed(&desk, 1, 0));
+    assert!(rt; is_heard(&mut desk));
     Ok(())
 }
 
@@ -142,15 +159,15 @@ fn is_told(desk: &mut MemDesk) -> bool {
     tell(desk, b"usage\n").is_ok()
 }
 
-// Whether it takes the first usage, not the second one, and three octets of the third.
+// Whether it takes the first usage, not the second one, and three octets of the third: two writes fail.
 fn is_told_once(desk: &mut MemDesk) -> bool {
     let once = is_told(desk) && !is_told(desk) && !is_told(desk);
-    once && desk.text() == b"usage\nusa".as_slice()
+    once && desk.text() == b"usage\nusa".as_slice() && has_failed(desk, 0, 2)
 }
 
 #[test]
-fn a_desk_fails_as_it_was_told(rt: HostRuntime) -> Result<(), Fail> {
+fn a_desk_fails_as_it_was_told(rt: HostRuntime) -> Result<(), AllocError> {
     let mut desk = desk(rt.alloc())?;
-    assert!(rt; is_told_once(&mut desk) && has_failed(&desk, 0, 2));
+    assert!(rt; is_told_once(&mut desk));
     Ok(())
 }

@@ -1,3 +1,4 @@
+use crate::rows::assert_rows;
 use std::alloc::{AllocError, Global};
 use trau_orders::{DtxMode, Order, OrderFault, Orders, What};
 
@@ -59,7 +60,7 @@ fn answered(alloc: Global) -> usize {
 
 #[test]
 fn orders_are_counted_or_refused(rt: HostRuntime) {
-    assert_eq!(rt; answered(rt.alloc()), 25);
+    assert_rows(&rt, answered(rt.alloc()), 25);
 }
 
 // Whether this is answered to a text of so many of one octet.
@@ -95,7 +96,7 @@ fn limited(alloc: Global) -> usize {
 
 #[test]
 fn limits(rt: HostRuntime) {
-    assert_eq!(rt; limited(rt.alloc()), 4);
+    assert_rows(&rt, limited(rt.alloc()), 4);
 }
 
 // So many lines with an order.
