@@ -8,7 +8,7 @@
 //!
 //! `block` has what blocks are coded to, `blocks` codes them, `encoder` is the whole. Definitions:
 //! `specs/Encoded.antt` (all frames from home, as one list), `specs/Blocks.antt` (its blocks), `specs/Step.antt`
-//! (from frame to frame).
+//! (from frame to frame), `specs/Coded.antt` (what the structs say).
 #![tactic(auto)]
 
 mod block;

@@ -8,7 +8,8 @@
 //!
 //! Definitions: `specs/Widths.antt` (the table of widths), `specs/FieldBits.antt` (the bits of fields),
 //! `specs/Bits260.antt` (the 260 bits of a frame), `specs/Places.antt` (the same by absolute places),
-//! `specs/Fields.antt` (the fields as plain lists, and those that 260 bits carry), `specs/Silence.antt`.
+//! `specs/Fields.antt` (the fields as plain lists, and those that 260 bits carry), `specs/Silence.antt`;
+//! `specs/Block.antt` (one block by itself), `specs/Shape.antt` (the lengths of the arrays).
 #![tactic(auto)]
 
 mod block;
