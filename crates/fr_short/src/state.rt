@@ -1,4 +1,5 @@
 //! What one direction of the short-term filters remembers.
+
 ghost use Rattle.std.specs.Prelude.{◌≡◌, List, [], ◌∷◌};
 ghost use Rattle.fr_short.specs.Ratios.{AreRatioCodes};
 ghost use Rattle.fr_short.specs.Memory.{ShortMemory, home_memory};

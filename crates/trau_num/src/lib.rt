@@ -16,8 +16,8 @@ mod random;
 mod wide;
 mod words;
 
-pub use long_words::{clamp_long, l_add, l_mult, l_sub, norm};
-pub use products::{minus, plus, product, scaled};
+pub use long_words::{l_add, l_mult, l_sub, norm};
+pub use products::{plus, product, scaled};
 pub use random::Draw;
-pub use wide::{clamp_wide, minus_wide, plus_wide, scaled_wide};
+pub use wide::{minus_wide, plus_wide};
 pub use words::{abs16, add, clamp, div_q15, mult, mult_r, shl16, sub};

@@ -5,8 +5,8 @@ ghost use Rattle.trau_num.specs.Num.{clamp32, l_add_of, l_sub_of, l_mult_of, nor
 
 use crate::products::full_product;
 
-/// The long word that is nearest.
-pub fn clamp_long(x: i64) -> i32
+// The long word that is nearest.
+fn clamp_long(x: i64) -> i32
     ensures { result ≡ clamp32 x }
 {
     x.clamp(i64::from(i32::MIN), i64::from(i32::MAX)) as i32
