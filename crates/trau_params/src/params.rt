@@ -103,8 +103,8 @@ impl Params {
         }
     }
 
-    /// The lengths of the arrays, for proofs: that of a row of pulses shows only where the row is read.
-    pub fn shape(self)
+    // The lengths of the arrays, for proofs: that of a row of pulses shows only where the row is read.
+    pub(crate) fn shape(self)
         ensures { HasShape self }
     {
         let _first = self.block(0);

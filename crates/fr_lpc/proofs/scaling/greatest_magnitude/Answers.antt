@@ -3,7 +3,7 @@ use Rattle.std.proofs.lemmas.Int.{to_z-of_z, ints}
 use Rattle.std.proofs.lemmas.List.{take_all}
 use Rattle.fr_lpc.specs.Scaling.{entry}
 use Rattle.fr_lpc.proofs.Scaled.{peak_more, peak_bounds}
-use Rattle.fr_lpc.proofs.scaling.peak.Goals as goal
+use Rattle.fr_lpc.proofs.scaling.greatest_magnitude.Goals as goal
 
 pub loop-k-preserved : goal.loop-k-preserved
 loop-k-preserved c =
