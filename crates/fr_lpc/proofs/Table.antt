@@ -1,6 +1,6 @@
 -- Table 4.1, place by place.
 use Rattle.std.proofs.Common.{◌≡◌, ℕ, zero, suc, ◌-◌, ◌^◌, ◌<◌, pos, ◌-ℤ◌, ◌≤ℤ◌, get_or, refl, arith}
-use Rattle.fr_lpc.specs.Scaling.{entry}
+use Rattle.trau_num.specs.Num.{entry}
 use Rattle.fr_lpc.specs.Ratios.{least, most, code_widths}
 
 -- what holds at each of eight places

@@ -2,8 +2,7 @@
 use Rattle.std.specs.Prelude.{ℕ, ◌^◌, ◌<◌, ℤ, pos, neg_ℤ, ◌-ℤ◌, ◌*ℤ◌, if◌then◌else◌, int_lt, List, [], ◌∷◌, map, unsigned_abs, slice_index}
 use Rattle.std.specs.List.{range_with_len}
 use Rattle.std.specs.Int.{is_negative, int_max, int_min}
-use Rattle.trau_num.specs.Num.{add_of, mult_of, abs_of, floor_shr}
-use Rattle.fr_lpc.specs.Scaling.{entry}
+use Rattle.trau_num.specs.Num.{add_of, mult_of, abs_of, floor_shr, entry}
 use Rattle.fr_lpc.specs.Autocorrelation.{autocorrelations_of_frame}
 use Rattle.fr_lpc.specs.Reflection.{reflection_coefficients}
 

@@ -1,7 +1,7 @@
 //! Log area ratios and their codes (GSM 06.10, sections 4.2.6 and 4.2.7).
 
 ghost use Rattle.std.specs.Prelude.{◌≡◌, ℕ, ◌^◌, ◌<◌, ◌≤◌, pos, ◌+ℤ◌, ◌-ℤ◌, ◌≤ℤ◌, unsigned_abs, slice_index};
-ghost use Rattle.fr_lpc.specs.Scaling.{entry};
+ghost use Rattle.trau_num.specs.Num.{entry};
 ghost use Rattle.fr_lpc.specs.Ratios.{ratio_magnitude, ratio_of, ratios_of, gains, offsets, least, most, quantised_ratio, ratio_code, ratio_codes, code_widths, AreRatioCodes};
 
 use trau_num::{abs16, add, mult};

@@ -1,8 +1,8 @@
 //! The scaling of a frame around its autocorrelation (GSM 06.10, section 4.2.4).
 
 ghost use Rattle.std.specs.Prelude.{◌≡◌, ℕ, ◌+◌, ◌^◌, ◌<◌, ◌≤◌, pos, ◌≤ℤ◌, length, unsigned_abs};
-ghost use Rattle.trau_num.specs.Num.{abs_of};
-ghost use Rattle.fr_lpc.specs.Scaling.{entry, AreWithin, peak_of, scaling_of_peak, scaling_of, scaled_sample, scaled_down, scaled_up};
+ghost use Rattle.trau_num.specs.Num.{abs_of, entry};
+ghost use Rattle.fr_lpc.specs.Scaling.{AreWithin, peak_of, scaling_of_peak, scaling_of, scaled_sample, scaled_down, scaled_up};
 
 use trau_num::{abs16, mult_r, norm, shl16};
 

@@ -1,7 +1,7 @@
 -- Decoded log area ratios (GSM 06.10, sections 4.2.8 and 4.3.3).
-use Rattle.std.specs.Prelude.{ℕ, ◌^◌, ◌<◌, ℤ, pos, neg_ℤ, ◌+ℤ◌, ◌*ℤ◌, List, [], ◌∷◌, map, slice_index, slice_index_or}
+use Rattle.std.specs.Prelude.{ℕ, ◌^◌, ◌<◌, ℤ, pos, neg_ℤ, ◌+ℤ◌, ◌*ℤ◌, List, [], ◌∷◌, map, slice_index}
 use Rattle.std.specs.List.{range_with_len}
-use Rattle.trau_num.specs.Num.{add_of, sub_of, mult_r_of}
+use Rattle.trau_num.specs.Num.{add_of, sub_of, mult_r_of, entry}
 
 -- the widths of the eight codes, in bits (table 1.1)
 abbrev pub code_widths : List ℕ
@@ -10,10 +10,6 @@ code_widths = 6 ∷ 6 ∷ 5 ∷ 5 ∷ 4 ∷ 4 ∷ 3 ∷ 3 ∷ []
 -- each of the eight codes is within its width
 abbrev pub AreRatioCodes : List ℕ → Type 0
 AreRatioCodes codes = (i : ℕ) → i < 8 → slice_index codes i < 2 ^ slice_index code_widths i
-
--- the entry of place i
-abbrev pub entry : List ℤ → ℕ → ℤ
-entry xs i = slice_index_or xs i (pos 0)
 
 -- B of table 4.1
 abbrev pub offsets : List ℤ

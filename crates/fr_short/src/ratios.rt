@@ -1,7 +1,8 @@
 //! Decoded log area ratios (GSM 06.10, section 4.2.8).
 
 ghost use Rattle.std.specs.Prelude.{◌≡◌, ℕ, ◌<◌, pos, ◌+ℤ◌, ◌-ℤ◌, ◌*ℤ◌};
-ghost use Rattle.fr_short.specs.Ratios.{AreRatioCodes, entry, least, offsets, inverses, decoded_ratio, decoded_ratios};
+ghost use Rattle.trau_num.specs.Num.{entry};
+ghost use Rattle.fr_short.specs.Ratios.{AreRatioCodes, least, offsets, inverses, decoded_ratio, decoded_ratios};
 
 use trau_num::{add, clamp, mult_r};
 

@@ -1,6 +1,6 @@
 use Rattle.std.proofs.Common.{◌≡◌, ◌<◌, ◌-◌, ◌^◌, pos, ◌-ℤ◌, ◌+ℤ◌, ◌≤ℤ◌, get_or, ℕ, ℤ, arith, rules, FitsSigned, w16}
 use Rattle.std.proofs.lemmas.Int.{to_z-of_z, ints}
-use Rattle.fr_lpc.specs.Scaling.{entry}
+use Rattle.trau_num.specs.Num.{entry}
 use Rattle.fr_lpc.specs.Ratios.{least, most, code_widths}
 use Rattle.fr_lpc.proofs.Table.{least-most, span, width_bound}
 use Rattle.fr_lpc.proofs.ratios.code_at.Goals as goal

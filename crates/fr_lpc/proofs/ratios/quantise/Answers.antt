@@ -1,7 +1,7 @@
 use Rattle.std.proofs.Common.{ℕ, ◌<◌, ◌^◌, get_or, refl, arith, rules, FitsSigned, w16}
 use Rattle.std.proofs.lemmas.Int.{to_z-of_z}
 use Rattle.trau_num.proofs.Fill.{fill_none, fill_next, fill_all}
-use Rattle.fr_lpc.specs.Scaling.{entry}
+use Rattle.trau_num.specs.Num.{entry}
 use Rattle.fr_lpc.specs.Ratios.{ratio_codes, code_widths}
 use Rattle.fr_lpc.proofs.Places.{each_next}
 use Rattle.fr_lpc.proofs.ratios.quantise.Goals as goal

@@ -1,6 +1,6 @@
 use Rattle.std.proofs.Common.{ℕ, ◌<◌, ◌^◌, get_or}
 use Rattle.trau_num.proofs.Fill.{Filled}
-use Rattle.fr_lpc.specs.Scaling.{entry}
+use Rattle.trau_num.specs.Num.{entry}
 use Rattle.fr_lpc.specs.Ratios.{ratio_code, gains, offsets, least, most, code_widths}
 use Rattle.fr_lpc.proofs.ratios.quantise.Given as goal
 

@@ -1,6 +1,6 @@
 use Rattle.std.proofs.Common.{◌+◌, ◌^◌, rules, FitsSigned, w16}
 use Rattle.std.proofs.lemmas.Int.{to_z-of_z}
-use Rattle.fr_lpc.specs.Scaling.{entry}
+use Rattle.trau_num.specs.Num.{entry}
 use Rattle.fr_lpc.proofs.Scaled.{sample_room}
 use Rattle.fr_lpc.proofs.scaling.scaling.Goals as goal
 

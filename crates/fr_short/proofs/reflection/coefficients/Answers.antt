@@ -1,7 +1,7 @@
 use Rattle.std.proofs.Common.{pos, rules, ◌∙◌, FitsSigned, w16, ap, ◌≤◌, unsigned_abs, arith}
 use Rattle.std.proofs.lemmas.Int.{to_z-of_z}
 use Rattle.trau_num.proofs.Fill.{fill_next, fill_all}
-use Rattle.fr_short.specs.Ratios.{entry}
+use Rattle.trau_num.specs.Num.{entry}
 use Rattle.fr_short.specs.Reflection.{reflection_of, coefficients_of}
 use Rattle.fr_short.proofs.Each.{each_next}
 use Rattle.fr_short.proofs.reflection.coefficients.Goals as goal
