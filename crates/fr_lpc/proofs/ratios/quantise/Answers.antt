@@ -1,10 +1,9 @@
 use Rattle.std.proofs.Common.{ℕ, ◌<◌, ◌^◌, get_or, refl, arith, rules, FitsSigned, w16}
 use Rattle.std.proofs.lemmas.Int.{to_z-of_z}
-use Rattle.trau_num.proofs.Fill.{fill_none, fill_next, fill_all}
+use Rattle.trau_num.proofs.Fill.{fill_none, fill_next, fill_all, each_next}
 use Rattle.trau_num.specs.Num.{entry}
 use Rattle.trau_params.specs.Widths.{larc_widths}
 use Rattle.fr_lpc.specs.Ratios.{ratio_codes}
-use Rattle.fr_lpc.proofs.Places.{each_next}
 use Rattle.fr_lpc.proofs.ratios.quantise.Goals as goal
 
 pub loop-i-init : goal.loop-i-init
