@@ -1,5 +1,5 @@
 -- Lists of words, by place.
-use Rattle.std.proofs.Common.{◌≡◌, ℕ, ◌+◌, ◌<◌, suc, ℤ, pos, get_or, set, length, List, [], ◌∷◌, refl, arith, sym, subst, inl, inr}
+use Rattle.std.proofs.Common.{◌≡◌, ℕ, ◌<◌, suc, ℤ, pos, get_or, set, length, List, [], ◌∷◌, refl, arith, sym, subst, inl, inr}
 use Rattle.std.proofs.lemmas.Bool.{cases_eq}
 use Rattle.std.proofs.lemmas.List.{get_or-set_same, get_or-set_other}
 
