@@ -1,4 +1,4 @@
--- The widths of the fields of a frame, in bits and in the order in which the fields stand (GSM 06.10, table 1.1).
+-- The widths and offsets of the fields of a frame, in bits and in the order in which the fields stand (GSM 06.10, table 1.1).
 use Rattle.std.specs.Prelude.{ℕ, ◌+◌, ◌^◌, ◌<◌, List, [], ◌∷◌, replicate, sum, All, slice_index}
 
 -- LARc 1 to 8
