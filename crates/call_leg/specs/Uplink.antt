@@ -8,7 +8,7 @@ use Rattle.trau_frame.specs.Role.{Control, bit_with}
 use Rattle.trau_frame.specs.Frame.{number_of, data_of}
 use Rattle.trau_frame.specs.UpFrame.{kind_of, class_of}
 use Rattle.trau_params.specs.Fields.{Fields}
-use Rattle.rx_muting.specs.Muting.{silent_fields}
+use Rattle.trau_params.specs.Silence.{silent_fields}
 use Rattle.frame_sync.specs.declared.yields.Yield.{Yield}
 use Rattle.frame_sync.specs.declared.yields.Yield.TheVariants as yields
 use Rattle.rx_handler.specs.Heard.{Heard, Lost, heard_frame}

@@ -12,7 +12,7 @@ use Rattle.fr_short.specs.Memory as short
 use Rattle.fr_short.specs.Ratios.{decoded_ratios}
 use Rattle.fr_short.specs.Reflection.{coefficients_at}
 use Rattle.fr_short.specs.Synthesis as lattice
-use Rattle.fr_decoder.specs.Decoded.{blocks_of, residuals_of, last_msr, samples_of}
+use Rattle.fr_decoder.specs.Decoded.{blocks_of, residuals_of, last_msr, samples_of, all_samples}
 use Rattle.fr_decoder.specs.Deemphasis.{deemphasised, last_of, truncated}
 use Rattle.fr_decoder.specs.Step as decoder
 use Rattle.fr_decoder.proofs.Runs.{add_fits}
@@ -93,6 +93,16 @@ frame-stands f past m h =
       },
       ap (map truncated) msr,
     )
+
+-- frames one after another
+pub in_turn : (past : List Fields) → decoder.Stands past (decoder.decoded_in_turn past).1 × ((decoder.decoded_in_turn past).0 ≡ all_samples past)
+unfolding decoder.decoded_in_turn all_samples
+in_turn [] = (home-stands, refl)
+in_turn (f ∷ past) =
+    let memory = (decoder.decoded_in_turn past).1 in
+    let before = in_turn past in
+    let newest = frame-stands f past memory before.0 in
+    (newest.0, ap (λ xs. xs ++ (decoder.decoded_frame memory f).0) before.1 ∙ ap (λ xs. all_samples past ++ xs) newest.1)
 
 -- ---- how many samples there are
 

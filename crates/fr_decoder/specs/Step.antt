@@ -1,5 +1,5 @@
 -- The decoder from frame to frame (GSM 06.10, section 4.3).
-use Rattle.std.specs.Prelude.{◌≡◌, ℤ, pos, List, ◌++◌, map}
+use Rattle.std.specs.Prelude.{◌≡◌, ℤ, pos, List, [], ◌∷◌, ◌++◌, map}
 use Rattle.trau_params.specs.Fields.{Fields}
 use Rattle.fr_long.specs.Memory as ltp
 use Rattle.fr_short.specs.Memory as short
@@ -34,6 +34,14 @@ decoded_frame memory f =
     let short = lattice.synthesised_frame memory.short_term f.larc long.0 in
     let msr = deemphasised memory.msr short.0 in
     (map truncated msr, record { long_term = long.1; short_term = short.1; msr = last_of memory.msr msr })
+
+-- frames one after another from home, the newest first: all samples, and the memory after them
+unfoldable pub decoded_in_turn : List Fields → List ℤ × DecoderMemory
+decoded_in_turn [] = ([], home_memory)
+decoded_in_turn (f ∷ past) =
+    let before = decoded_in_turn past in
+    let newest = decoded_frame before.1 f in
+    (before.0 ++ newest.0, newest.1)
 
 -- the memory is that of these frames from home
 pub record Stands (past : List Fields) (memory : DecoderMemory) : Type 0 where

@@ -1,4 +1,5 @@
-// The decoder of one call.
+//! The decoder of one call.
+
 ghost use Rattle.std.specs.Prelude.{◌≡◌, List, [], ◌∷◌};
 ghost use Rattle.trau_params.specs.Fields.{Fields, fields_of};
 ghost use Rattle.fr_decoder.specs.Decoded.{samples_of};

@@ -1,4 +1,5 @@
-// De-emphasis and truncation (GSM 06.10, sections 4.3.5 to 4.3.7).
+//! De-emphasis and truncation (GSM 06.10, sections 4.3.5 to 4.3.7).
+
 ghost use Rattle.std.specs.Prelude.{◌≡◌, FitsSigned, map};
 ghost use Rattle.std.specs.Int.{w16};
 ghost use Rattle.fr_decoder.specs.Deemphasis.{deemphasised, last_of, truncated};
@@ -16,7 +17,7 @@ fn narrow(x: i32) -> i16
 
 /// De-emphasises the samples `s` of a frame into `msr`, after the last one `before` of the frame before, and
 /// answers the last.
-pub fn deemphasise(before: i16, s: &[i16; 160], msr: &mut [i16; 160]) -> i16
+pub(crate) fn deemphasise(before: i16, s: &[i16; 160], msr: &mut [i16; 160]) -> i16
     ensures samples { msr.new ≡ deemphasised before s.now }
     ensures last { result ≡ last_of before (deemphasised before s.now) }
 {
@@ -37,7 +38,7 @@ fn truncated(msr: i16) -> i16
 }
 
 /// Truncates de-emphasised samples to 13 bits, left-justified in 16.
-pub fn truncate(msr: &[i16; 160], x: &mut [i16; 160])
+pub(crate) fn truncate(msr: &[i16; 160], x: &mut [i16; 160])
     ensures { x.new ≡ map truncated msr.now }
 {
     for k in 0..160 {

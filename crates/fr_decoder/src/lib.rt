@@ -5,12 +5,16 @@
 //! A frame goes through the stages of the standard: its four blocks of pulses (`fr_rpe`), long-term synthesis
 //! (`fr_long`), short-term synthesis (`fr_short`), and here de-emphasis and truncation.
 //!
+//! `residual` has the four blocks, `deemphasis` the last two steps, `decoder` the whole, `laws` a law.
+//!
 //! Definitions: `specs/Decoded.antt` (all frames from home, as one list), `specs/Blocks.antt` and
 //! `specs/Deemphasis.antt` (its parts), `specs/Step.antt` (from frame to frame).
 #![tactic(auto)]
 
 mod decoder;
 mod deemphasis;
+mod laws;
 mod residual;
 
 pub use decoder::Decoder;
+pub use laws::whole_list;

@@ -1,4 +1,5 @@
-// The residual of a frame's four blocks (GSM 06.10, sections 4.3.1 and 4.3.2).
+//! The residual of a frame's four blocks (GSM 06.10, sections 4.3.1 and 4.3.2).
+
 ghost use Rattle.std.specs.Prelude.{◌≡◌, ◌<◌, ◌≤◌, ℕ, List, [], ◌∷◌, ◌++◌, ◌+◌, take};
 ghost use Rattle.fr_long.specs.Memory.{Stands, synthesised};
 ghost use Rattle.fr_long.specs.Synthesis.{LtpBlock, residual_of};
@@ -32,7 +33,7 @@ fn put(frame: &mut [i16; 160], start: usize, block: &[i16; 40])
 
 /// The reconstructed residual of a frame, 160 samples of 16 bits.
 #[tactic(auto, unfolding(crate::specs::Blocks::frame_residual, crate::specs::Step::synthesised_blocks))]
-pub fn residual(long_term: &mut LtpDecoder, p: &Params) -> [i16; 160]
+pub(crate) fn residual(long_term: &mut LtpDecoder, p: &Params) -> [i16; 160]
     ensures step { synthesised_blocks long_term.old (fields_of p.now) ≡ (result, long_term.new) }
     ensures history { (past : List LtpBlock) → Stands past long_term.old →
         Stands (four_blocks (fields_of p.now) past) long_term.new × (result ≡ frame_residual (fields_of p.now) past) }

@@ -1,5 +1,5 @@
 -- One frame, by the memory before it and by all frames of the past.
-use Rattle.std.proofs.Common.{◌≡◌, ℕ, ℤ, List, [], ◌∷◌, refl, ap, subst, ◌∙◌}
+use Rattle.std.proofs.Common.{◌≡◌, ℕ, ℤ, List, [], ◌∷◌, ◌++◌, refl, ap, subst, ◌∙◌}
 use Rattle.fr_pre.specs.Memory as pre
 use Rattle.fr_pre.specs.History as preprocessing
 use Rattle.fr_pre.specs.Preprocessing.{preprocessed_frame}
@@ -12,8 +12,8 @@ use Rattle.fr_short.specs.Reflection.{coefficients_at}
 use Rattle.fr_short.specs.Analysis.{SampleFrame, sample_frame, analysed_samples, analysed_frame, newest_sample_ratios, analysis_of, AnalysisStands}
 use Rattle.fr_long.specs.Prediction.{HistoryStands}
 use Rattle.fr_encoder.specs.Blocks.{BlockFields, block_fields, four_blocks}
-use Rattle.fr_encoder.specs.Encoded.{Encoded, sample_frames, residual_of, reconstructed, encoding_of}
-use Rattle.fr_encoder.specs.Step.{EncoderMemory, home_memory, next_blocks, encoded_frame, Stands}
+use Rattle.fr_encoder.specs.Encoded.{Encoded, sample_frames, residual_of, reconstructed, encoding_of, all_encodings}
+use Rattle.fr_encoder.specs.Step.{EncoderMemory, home_memory, next_blocks, encoded_frame, encoded_in_turn, Stands}
 use Rattle.fr_encoder.proofs.Coding.{blocks-stand}
 
 -- what is told of the fields, the ratios before they were coded, the blocks' maxima and the peak
@@ -96,3 +96,13 @@ frame-stands x past m h =
     one_history x first.0 lost short'.0 past first.1 short'.1 blocks.1 larc (ratios_of_frame first.0) (block_fields blocks.0) (peak_of first.0)
     (history m.preprocessing first.1 x first.0 refl past h.preprocessing) refl refl refl refl
     (analysis-stands larc lost (sample_frames past) m.short_term h.short_term) (third.0, ap block_fields third.1)
+
+-- frames one after another
+pub in_turn : (past : List (List ℤ)) → Stands past (encoded_in_turn past).1 × ((encoded_in_turn past).0 ≡ all_encodings past)
+unfolding encoded_in_turn all_encodings
+in_turn [] = (home-stands, refl)
+in_turn (x ∷ past) =
+    let memory = (encoded_in_turn past).1 in
+    let before = in_turn past in
+    let newest = frame-stands x past memory before.0 in
+    (newest.0, ap (λ es. es ++ (encoded_frame memory x).0 ∷ []) before.1 ∙ ap (λ e. all_encodings past ++ e ∷ []) newest.1)

@@ -42,6 +42,14 @@ encoded_frame memory x =
     let long = next_blocks memory.long_term short.0 in
     (encoding pre.0 (block_fields long.0), record { preprocessing = pre.1; short_term = short.1; long_term = long.1 })
 
+-- frames one after another from home, the newest first: all encodings, and the memory after them
+unfoldable pub encoded_in_turn : List (List ℤ) → List Encoded × EncoderMemory
+encoded_in_turn [] = ([], home_memory)
+encoded_in_turn (x ∷ past) =
+    let before = encoded_in_turn past in
+    let newest = encoded_frame before.1 x in
+    (before.0 ++ newest.0 ∷ [], newest.1)
+
 -- the memory is that of these frames from home
 pub record Stands (past : List (List ℤ)) (memory : EncoderMemory) : Type 0 where
   pub preprocessing : preprocessing.Stands past memory.preprocessing

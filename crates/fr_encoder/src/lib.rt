@@ -6,13 +6,15 @@
 //! four blocks in turn through long-term prediction (`fr_long`) and pulse coding (`fr_rpe`). What the transmit side
 //! averages and decides on comes beside the parameters.
 //!
-//! `block` has what blocks are coded to, `blocks` codes them, `encoder` is the whole. Definitions:
+//! `block` has what blocks are coded to, `blocks` codes them, `encoder` is the whole, `laws` has a law. Definitions:
 //! `specs/Encoded.antt` (all frames from home, as one list), `specs/Blocks.antt` (its blocks), `specs/Step.antt`
-//! (from frame to frame).
+//! (from frame to frame), `specs/Coded.antt` (what the structs say).
 #![tactic(auto)]
 
 mod block;
 mod blocks;
 mod encoder;
+mod laws;
 
 pub use encoder::Encoder;
+pub use laws::whole_list;

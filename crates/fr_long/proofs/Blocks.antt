@@ -1,13 +1,12 @@
 -- Folds over the places of a block, and the room that scaling leaves.
-use Rattle.std.proofs.Common.{◌≡◌, ℕ, ◌+◌, ◌-◌, ◌*◌, ◌/◌, ◌^◌, ◌<◌, ◌≤◌, ℤ, pos, negsuc, ◌≤ℤ◌, ◌*ℤ◌, unsigned_abs, FitsSigned, w16, w32, fold, map, ⊎_elim, inl, inr, subst, below_more, List, get_or, set, length, to_z, of_z, ◌+ℤ◌, [], ◌∷◌, ap, sym, ◌∙◌, arith}
+use Rattle.std.proofs.Common.{◌≡◌, ℕ, ◌+◌, ◌-◌, ◌*◌, ◌/◌, ◌^◌, ◌<◌, ◌≤◌, ℤ, pos, negsuc, ◌≤ℤ◌, ◌*ℤ◌, unsigned_abs, FitsSigned, w16, w32, fold, map, ⊎_elim, to_z, of_z, ◌+ℤ◌, [], ◌∷◌, ap, ◌∙◌, arith}
 use Rattle.std.specs.List.{range_with_len}
 use Rattle.std.proofs.lemmas.Int.{ints, to_z-of_z, unsigned_abs-mul}
 use Rattle.std.proofs.lemmas.Grind.{fold-append}
 use Rattle.std.proofs.lemmas.Nat.{pow-add, pow_pos}
 use Rattle.std.proofs.Math.Nat.{pow-le-pow_right, mul-le-mul_right, mul-le-mul_left, div-lt_iff_lt-mul}
-use Rattle.std.proofs.lemmas.List.{get_or-set_same, get_or-set_other}
 use Rattle.std.proofs.lemmas.List.FromFn.{map-range_with_len_more}
-use Rattle.std.proofs.lemmas.Bool.{cases_lt, cases_eq}
+use Rattle.std.proofs.lemmas.Bool.{cases_lt}
 use Rattle.trau_num.specs.Num.{clamp32, abs_of, floor_shr, l_mult_of}
 
 -- one place more
@@ -81,24 +80,6 @@ sum_more f k x s p e es ep = let more = fold_more ◌+ℤ◌ f k in omega (arith
 -- 40 halves, doubled
 pub doubled_fits : (half : ℤ) (k : ℕ) → unsigned_abs half ≤ 16777216 * k → k ≤ 40 → FitsSigned w32 (half *ℤ pos 2)
 doubled_fits half k h l = omega (arith, ints)
-
--- each of the first n places meets P
-abbrev pub Each : (ℤ → Type 0) → List ℤ → ℕ → Type 0
-Each P xs n = (k : ℕ) → k < n → P (get_or xs k (pos 0))
-
--- a write of a number that meets P keeps this
-each_set : (P : ℤ → Type 0) (xs : List ℤ) (n i : ℕ) (x : ℤ) → i < length xs → Each P xs n → P x → Each P (set xs i x) n
-each_set P xs n i x l h p k b =
-    elim (cases_eq k i) [
-      | inl e ↦ let same : get_or (set xs i x) k (pos 0) ≡ x = rw e (get_or-set_same xs i x (pos 0) l) in subst P (sym same) p
-      | inr ne ↦ subst P (sym (get_or-set_other xs i k x (pos 0) ne)) (h k b)
-    ]
-
--- and one at the next place extends it
-pub each_next : (P : ℤ → Type 0) (xs : List ℤ) (i : ℕ) (x : ℤ) → i < length xs → Each P xs i → P x → Each P (set xs i x) (i + 1)
-each_next P xs i x l h p =
-    below_more (λ k. P (get_or (set xs i x) k (pos 0))) i (each_set P xs i i x l h p)
-    (subst P (sym (get_or-set_same xs i x (pos 0) l)) p)
 
 -- a sample shifted down is a word
 pub small_word : (z : ℤ) → unsigned_abs z ≤ 4096 → FitsSigned w16 z

@@ -10,9 +10,9 @@ use Rattle.std.proofs.lemmas.List.{get_or_past, length-append}
 use Rattle.std.proofs.lemmas.List.FromFn.{map-range_with_len_more}
 use Rattle.std.proofs.lemmas.Grind.{fold-append}
 use Rattle.std.proofs.lemmas.Bool.{cases_lt}
-use Rattle.trau_num.specs.Num.{l_mult_of}
+use Rattle.trau_num.specs.Num.{l_mult_of, entry}
 use Rattle.fr_long.specs.Lanes.{sums_of_pairs}
-use Rattle.fr_long.specs.Scaling.{sample, AreScaled}
+use Rattle.fr_long.specs.Scaling.{AreScaled}
 use Rattle.fr_long.specs.Synthesis.{sample_before}
 use Rattle.fr_long.proofs.Blocks.{fold_more, doubled_small}
 
@@ -151,7 +151,7 @@ small_term wt v k l scaled word =
 -- a term of a correlation
 pub doubled_term : (wt earlier : List ℤ) (lag k : ℕ) → length wt ≡ 40 → length earlier ≡ 120 → lag ≤ 120 → AreScaled wt →
     (k < 40 → Within 32768 (get_or earlier (120 - lag + k) (pos 0))) →
-    product_at wt earlier (120 - lag) k *ℤ pos 2 ≡ l_mult_of (sample wt k) (sample_before earlier lag k)
+    product_at wt earlier (120 - lag) k *ℤ pos 2 ≡ l_mult_of (entry wt k) (sample_before earlier lag k)
 doubled_term wt earlier lag k lw le m scaled word =
     let place : 120 - lag + k ≡ length earlier + k - lag = omega arith in
     doubled_small (get_or wt k (pos 0)) (get_or earlier (120 - lag + k) (pos 0)) (small_term wt (get_or earlier (120 - lag + k) (pos 0)) k lw scaled word) ∙

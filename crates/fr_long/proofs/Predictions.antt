@@ -5,10 +5,10 @@ use Rattle.std.proofs.lemmas.Int.{ints}
 use Rattle.std.proofs.lemmas.Bool.{cases_lt}
 use Rattle.std.proofs.lemmas.List.{length-append, length-replicate}
 use Rattle.std.proofs.lemmas.List.FromFn.{length-map-range_with_len}
-use Rattle.trau_num.specs.Num.{add_of, mult_r_of, l_mult_of, floor_shr}
+use Rattle.trau_num.specs.Num.{add_of, mult_r_of, l_mult_of, floor_shr, entry}
 use Rattle.fr_long.specs.Gain.{gain_of}
 use Rattle.fr_long.specs.Memory.{last_120}
-use Rattle.fr_long.specs.Scaling.{sample, scaling_of, scaled_down}
+use Rattle.fr_long.specs.Scaling.{scaling_of, scaled_down}
 use Rattle.fr_long.specs.Lag.{correlation_of, IsBest, IsChosen, IsLag, greatest_of}
 use Rattle.fr_long.specs.GainCode.{energy_of, power_of, code_of}
 use Rattle.fr_long.specs.Prediction.{correlation_of_block, l_max_of, predicted_of, rest_of, IsPrediction, reconstructed_of, updated, SamePrediction, after_zeros, HistoryStands}
@@ -33,7 +33,7 @@ predicts d earlier wt scal nc bc correlation l_max l_power dpp e ew es lag ec em
 correlation-last_120 : (wt xs : List ℤ) (lag : ℕ) → 120 ≤ length xs → lag ≤ 120 → correlation_of wt (last_120 xs) lag ≡ correlation_of wt xs lag
 unfolding correlation_of
 correlation-last_120 wt xs lag l h =
-    λ i. fold ◌+ℤ◌ (pos 0) (map (λ k. l_mult_of (sample wt k) (sample_before-last_120 xs lag k l h i)) (range_with_len 0 40))
+    λ i. fold ◌+ℤ◌ (pos 0) (map (λ k. l_mult_of (entry wt k) (sample_before-last_120 xs lag k l h i)) (range_with_len 0 40))
 
 power-last_120 : (xs : List ℤ) (lag : ℕ) → 120 ≤ length xs → lag ≤ 120 → power_of (last_120 xs) lag ≡ power_of xs lag
 unfolding power_of
@@ -93,7 +93,7 @@ by_history past residuals d nc bc dpp e h p =
 
 length-reconstructed : (dpp ep : List ℤ) → length (reconstructed_of dpp ep) ≡ 40
 unfolding reconstructed_of
-length-reconstructed dpp ep = length-map-range_with_len {X = ℤ} (λ k. add_of (sample ep k) (sample dpp k)) 0 40
+length-reconstructed dpp ep = length-map-range_with_len {X = ℤ} (λ k. add_of (entry ep k) (entry dpp k)) 0 40
 
 -- one block more
 pub one_update : (past residuals dpp ep next : List ℤ) → HistoryStands past residuals → next ≡ updated residuals dpp ep →

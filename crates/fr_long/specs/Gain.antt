@@ -1,9 +1,10 @@
 -- The coded gain of a block (GSM 06.10, section 4.2.11).
-use Rattle.std.specs.Prelude.{ℕ, ℤ, pos, List, [], ◌∷◌, slice_index_or}
+use Rattle.std.specs.Prelude.{ℕ, ℤ, pos, List, [], ◌∷◌}
+use Rattle.trau_num.specs.Num.{entry}
 
 -- QLB: the gain that each code stands for (table 4.3b)
 abbrev pub quantised_gains : List ℤ
 quantised_gains = pos 3277 ∷ pos 11469 ∷ pos 21299 ∷ pos 32767 ∷ []
 
 abbrev pub gain_of : ℕ → ℤ
-gain_of bc = slice_index_or quantised_gains bc (pos 0)
+gain_of bc = entry quantised_gains bc

@@ -1,8 +1,7 @@
 -- The choice of the coded gain of a block (GSM 06.10, section 4.2.11).
 use Rattle.std.specs.Prelude.{ℕ, ◌^◌, Bool, ℤ, pos, ◌+ℤ◌, ◌*ℤ◌, if◌then◌else◌, int_le, List, [], ◌∷◌, map, fold, unsigned_abs}
 use Rattle.std.specs.List.{range_with_len}
-use Rattle.trau_num.specs.Num.{mult_of, l_mult_of, norm_of, floor_shr}
-use Rattle.fr_long.specs.Scaling.{sample}
+use Rattle.trau_num.specs.Num.{mult_of, l_mult_of, norm_of, floor_shr, entry}
 use Rattle.fr_long.specs.Synthesis.{sample_before}
 
 -- the energy of one residual, shifted down by 3
@@ -19,7 +18,7 @@ decision_levels = pos 6554 ∷ pos 16384 ∷ pos 26214 ∷ []
 
 -- R <= mult(S, DLB[bc])
 abbrev pub is_within : ℤ → ℤ → ℕ → Bool
-is_within r s bc = int_le r (mult_of s (sample decision_levels bc))
+is_within r s bc = int_le r (mult_of s (entry decision_levels bc))
 
 -- the least of 0, 1 and 2 within whose level R lies, or 3 where there is none
 unfoldable pub code_of_words : ℤ → ℤ → ℕ

@@ -1,13 +1,12 @@
 -- The lag of a block (GSM 06.10, section 4.2.11).
 use Rattle.std.specs.Prelude.{◌≡◌, ℕ, ◌<◌, ◌≤◌, ℤ, pos, ◌+ℤ◌, ◌<ℤ◌, ◌≤ℤ◌, ◌⊎◌, if◌then◌else◌, int_lt, List, map, fold}
 use Rattle.std.specs.List.{range_with_len}
-use Rattle.trau_num.specs.Num.{l_mult_of}
-use Rattle.fr_long.specs.Scaling.{sample}
+use Rattle.trau_num.specs.Num.{l_mult_of, entry}
 use Rattle.fr_long.specs.Synthesis.{sample_before}
 
 -- the correlation of a scaled block with the 40 residuals a lag before: the sum over k = 0 to 39 of L_mult(wt[k], dp[k - lag])
 unfoldable pub correlation_of : List ℤ → List ℤ → ℕ → ℤ
-correlation_of wt earlier lag = fold ◌+ℤ◌ (pos 0) (map (λ k. l_mult_of (sample wt k) (sample_before earlier lag k)) (range_with_len 0 40))
+correlation_of wt earlier lag = fold ◌+ℤ◌ (pos 0) (map (λ k. l_mult_of (entry wt k) (sample_before earlier lag k)) (range_with_len 0 40))
 
 -- the correlation at this lag is positive, and not below that at any other
 pub record IsBest (correlation : ℕ → ℤ) (lag : ℕ) : Type 0 where

@@ -1,11 +1,11 @@
 -- The prediction of a block, and the residual that is reconstructed after it (GSM 06.10, sections 4.2.11, 4.2.12 and 4.2.18).
 use Rattle.std.specs.Prelude.{◌≡◌, ℕ, ◌-◌, ℤ, pos, List, ◌++◌, map, drop, replicate}
 use Rattle.std.specs.List.{range_with_len}
-use Rattle.trau_num.specs.Num.{add_of, sub_of, mult_r_of, floor_shr}
+use Rattle.trau_num.specs.Num.{add_of, sub_of, mult_r_of, floor_shr, entry}
 use Rattle.fr_long.specs.Gain.{gain_of}
 use Rattle.fr_long.specs.Synthesis.{sample_before}
 use Rattle.fr_long.specs.Memory.{last_120}
-use Rattle.fr_long.specs.Scaling.{sample, scaling_of, scaled_down}
+use Rattle.fr_long.specs.Scaling.{scaling_of, scaled_down}
 use Rattle.fr_long.specs.Lag.{correlation_of, IsLag, greatest_of}
 use Rattle.fr_long.specs.GainCode.{power_of, code_of}
 
@@ -23,7 +23,7 @@ predicted_of earlier nc bc = map (λ k. mult_r_of (gain_of bc) (sample_before ea
 
 -- e[0] to e[39]: the block less its prediction
 unfoldable pub rest_of : List ℤ → List ℤ → List ℤ
-rest_of d dpp = map (λ k. sub_of (sample d k) (sample dpp k)) (range_with_len 0 40)
+rest_of d dpp = map (λ k. sub_of (entry d k) (entry dpp k)) (range_with_len 0 40)
 
 -- the lag, the coded gain, the prediction and the rest of block d after the earlier residuals
 pub record IsPrediction (d earlier : List ℤ) (nc bc : ℕ) (dpp e : List ℤ) : Type 0 where
@@ -41,7 +41,7 @@ pub record SamePrediction (nc bc : ℕ) (dpp e : List ℤ) (nc' bc' : ℕ) (dpp'
 
 -- dp[0] to dp[39]: the pulses of a block, and its prediction
 unfoldable pub reconstructed_of : List ℤ → List ℤ → List ℤ
-reconstructed_of dpp ep = map (λ k. add_of (sample ep k) (sample dpp k)) (range_with_len 0 40)
+reconstructed_of dpp ep = map (λ k. add_of (entry ep k) (entry dpp k)) (range_with_len 0 40)
 
 -- the last 120 residuals after one block more
 unfoldable pub updated : List ℤ → List ℤ → List ℤ → List ℤ

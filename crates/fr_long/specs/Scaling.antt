@@ -1,16 +1,12 @@
 -- The scaling of a block before the search for its lag (GSM 06.10, section 4.2.11).
-use Rattle.std.specs.Prelude.{ℕ, ◌-◌, ◌*◌, ◌^◌, ◌<◌, ◌≤◌, ◌==◌, ℤ, pos, if◌then◌else◌, List, map, fold, unsigned_abs, slice_index_or}
+use Rattle.std.specs.Prelude.{ℕ, ◌-◌, ◌*◌, ◌^◌, ◌<◌, ◌≤◌, ◌==◌, ℤ, pos, if◌then◌else◌, List, map, fold, unsigned_abs}
 use Rattle.std.specs.Int.{int_max}
 use Rattle.std.specs.List.{range_with_len}
-use Rattle.trau_num.specs.Num.{abs_of, norm_of, floor_shr}
-
--- the sample of place k
-abbrev pub sample : List ℤ → ℕ → ℤ
-sample xs k = slice_index_or xs k (pos 0)
+use Rattle.trau_num.specs.Num.{abs_of, norm_of, floor_shr, entry}
 
 -- dmax: the greatest magnitude of d[0] to d[39]
 unfoldable pub peak_of : List ℤ → ℤ
-peak_of d = fold int_max (pos 0) (map (λ k. abs_of (sample d k)) (range_with_len 0 40))
+peak_of d = fold int_max (pos 0) (map (λ k. abs_of (entry d k)) (range_with_len 0 40))
 
 -- scal, by dmax: 6 - norm(dmax * 2^16) where norm is at most 6, and 0 where it is greater or dmax is 0
 unfoldable pub scaling_of_peak : ℕ → ℕ
@@ -22,8 +18,8 @@ scaling_of d = scaling_of_peak (unsigned_abs (peak_of d))
 
 -- wt[0] to wt[39]: the samples shifted down by scal
 unfoldable pub scaled_down : List ℤ → ℕ → List ℤ
-scaled_down d scal = map (λ k. floor_shr (sample d k) scal) (range_with_len 0 40)
+scaled_down d scal = map (λ k. floor_shr (entry d k) scal) (range_with_len 0 40)
 
 -- no magnitude is above 512
 abbrev pub AreScaled : List ℤ → Type 0
-AreScaled wt = (k : ℕ) → k < 40 → unsigned_abs (sample wt k) ≤ 512
+AreScaled wt = (k : ℕ) → k < 40 → unsigned_abs (entry wt k) ≤ 512

@@ -1,7 +1,7 @@
 -- Long-term synthesis of all blocks from home (GSM 06.10, section 4.3.2). A history has the newest block first.
-use Rattle.std.specs.Prelude.{ℕ, ◌+◌, ◌-◌, Bool, ◌&&◌, nat_le, if◌then◌else◌, ℤ, pos, List, [], ◌∷◌, ◌++◌, length, map, replicate, slice_index_or}
+use Rattle.std.specs.Prelude.{ℕ, ◌+◌, ◌-◌, Bool, ◌&&◌, nat_le, if◌then◌else◌, ℤ, pos, List, [], ◌∷◌, ◌++◌, length, map, replicate}
 use Rattle.std.specs.List.{range_with_len}
-use Rattle.trau_num.specs.Num.{add_of, mult_r_of}
+use Rattle.trau_num.specs.Num.{add_of, mult_r_of, entry}
 use Rattle.fr_long.specs.Gain.{gain_of}
 
 -- a block as it is received: its lag, its coded gain, and the 40 samples of its pulses
@@ -24,12 +24,12 @@ lag_in_force (b ∷ past) = if is_lag b.nc then b.nc else lag_in_force past
 
 -- drp[k - lag], where drp[-1] is the last of the earlier residuals
 abbrev pub sample_before : List ℤ → ℕ → ℕ → ℤ
-sample_before earlier lag k = slice_index_or earlier (length earlier + k - lag) (pos 0)
+sample_before earlier lag k = entry earlier (length earlier + k - lag)
 
 -- drp[0] to drp[39]: each sample of the pulses, and the gain times the sample that lies a lag before
 unfoldable pub residual_after : List ℤ → ℕ → ℕ → List ℤ → List ℤ
 residual_after earlier lag bc erp =
-    map (λ k. add_of (slice_index_or erp k (pos 0)) (mult_r_of (gain_of bc) (sample_before earlier lag k))) (range_with_len 0 40)
+    map (λ k. add_of (entry erp k) (mult_r_of (gain_of bc) (sample_before earlier lag k))) (range_with_len 0 40)
 
 -- all residuals, the oldest first: 120 zeros, and then those of each block
 unfoldable pub residuals_of : List LtpBlock → List ℤ

@@ -5,9 +5,10 @@
 //! an instruction on words of 16 bits, and four lags at a time, whose lanes are then added by pairs too.
 //! Each factor is so small that no sum of 40 products leaves 32 bits, in whatever order they are added.
 
-ghost use Rattle.std.specs.Prelude.{◌≡◌, ℕ, ◌+◌, ◌-◌, ◌*◌, ◌<◌, ◌≤◌, ◌++◌, pos, ◌+ℤ◌, ◌*ℤ◌, unsigned_abs, slice_index_or, length, fold, FitsSigned};
+ghost use Rattle.std.specs.Prelude.{◌≡◌, ℕ, ◌+◌, ◌-◌, ◌*◌, ◌<◌, ◌≤◌, ◌++◌, pos, ◌+ℤ◌, ◌*ℤ◌, unsigned_abs, length, fold, FitsSigned};
 ghost use Rattle.std.specs.Int.{w16};
 ghost use Rattle.std.specs.Simd.Lanes.{chunk, zip2, Each1};
+ghost use Rattle.trau_num.specs.Num.{entry};
 ghost use Rattle.fr_long.specs.Lanes.{sums_of_pairs};
 ghost use Rattle.fr_long.specs.Scaling.{AreScaled};
 ghost use Rattle.fr_long.specs.Lag.{correlation_of};
@@ -18,7 +19,7 @@ use std::simd::prelude::*;
 /// lag stands 40 places before it.
 pub(crate) fn correlate(wt: &[i16; 40], earlier: &[i16; 120]) -> [i32; 81]
     requires { AreScaled wt.now }
-    ensures { (lag : ℕ) → 40 ≤ lag → lag ≤ 120 → slice_index_or result (lag - 40) (pos 0) ≡ correlation_of wt.now earlier.now lag }
+    ensures { (lag : ℕ) → 40 ≤ lag → lag ≤ 120 → entry result (lag - 40) ≡ correlation_of wt.now earlier.now lag }
 {
     let past = copied(earlier);
     let mut all = [0; 81];
@@ -35,7 +36,7 @@ pub(crate) fn correlate(wt: &[i16; 40], earlier: &[i16; 120]) -> [i32; 81]
 /// The residuals, read one by one, each of which is so known to be a word.
 fn copied(earlier: &[i16; 120]) -> [i16; 120]
     ensures value { result ≡ earlier.now }
-    ensures words { (k : ℕ) → FitsSigned w16 (slice_index_or result k (pos 0)) }
+    ensures words { (k : ℕ) → FitsSigned w16 (entry result k) }
 {
     let mut copy = [0; 120];
     for k in 0..120 {
@@ -51,10 +52,10 @@ fn copied(earlier: &[i16; 120]) -> [i16; 120]
 #[inline(never)]
 fn four(wt: &[i16; 40], earlier: &[i16; 120], lag: u8) -> i32x4
     requires scaled { AreScaled wt.now }
-    requires words { (k : ℕ) → FitsSigned w16 (slice_index_or earlier.now k (pos 0)) }
+    requires words { (k : ℕ) → FitsSigned w16 (entry earlier.now k) }
     requires at_least { 40 ≤ lag }
     requires at_most { lag ≤ 117 }
-    ensures value { (k : ℕ) → k < 4 → slice_index_or result k (pos 0) *ℤ pos 2 ≡ correlation_of wt.now earlier.now (lag + k) }
+    ensures value { (k : ℕ) → k < 4 → entry result k *ℤ pos 2 ≡ correlation_of wt.now earlier.now (lag + k) }
     ensures length { length result ≡ 4 }
     ensures small { Each1 (λ x. unsigned_abs x ≤ 671088640) result }
 {
@@ -70,7 +71,7 @@ fn four(wt: &[i16; 40], earlier: &[i16; 120], lag: u8) -> i32x4
 /// Four sums of ten products each, which are together half of the correlation at a lag.
 fn lag_sums(wt: &[i16; 40], earlier: &[i16; 120], lag: u8) -> i32x4
     requires scaled { AreScaled wt.now }
-    requires words { (k : ℕ) → FitsSigned w16 (slice_index_or earlier.now k (pos 0)) }
+    requires words { (k : ℕ) → FitsSigned w16 (entry earlier.now k) }
     requires at_least { 40 ≤ lag }
     requires at_most { lag ≤ 120 }
     ensures length { length result ≡ 4 }
@@ -89,7 +90,7 @@ fn lag_sums(wt: &[i16; 40], earlier: &[i16; 120], lag: u8) -> i32x4
 /// The eight samples from place `at` on.
 fn eight(samples: &[i16], at: usize) -> i32x8
     requires place { at + 8 ≤ length samples.now }
-    requires words { (k : ℕ) → FitsSigned w16 (slice_index_or samples.now k (pos 0)) }
+    requires words { (k : ℕ) → FitsSigned w16 (entry samples.now k) }
     ensures value { result ≡ chunk at 8 samples.now }
     ensures words { Each1 (λ x. unsigned_abs x ≤ 32768) result }
 {

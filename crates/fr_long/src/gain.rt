@@ -3,6 +3,7 @@
 ghost use Rattle.std.specs.Prelude.{◌≡◌, ℕ, ◌≤◌, pos, ◌≤ℤ◌};
 ghost use Rattle.fr_long.specs.Gain.{gain_of};
 
+// QLB of table 4.3b.
 const QUANTISED_GAINS: [i16; 4] = [3277, 11469, 21299, 32767];
 
 /// The gain that a code of 2 bits stands for, a fraction of 15 bits.

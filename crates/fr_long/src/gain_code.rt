@@ -6,6 +6,7 @@ ghost use Rattle.fr_long.specs.GainCode.{is_within, code_of_words, high_word_of,
 
 use trau_num::{mult, norm};
 
+// DLB of table 4.3a.
 const DECISION_LEVELS: [i16; 3] = [6554, 16384, 26214];
 
 /// The greatest correlation of a block that was shifted down by `scal`, shifted down to the scale of the

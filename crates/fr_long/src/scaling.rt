@@ -4,8 +4,8 @@
 //! stays within 32 bits.
 
 ghost use Rattle.std.specs.Prelude.{◌≡◌, ℕ, ◌*◌, ◌^◌, ◌<◌, ◌≤◌, pos, ◌≤ℤ◌, unsigned_abs};
-ghost use Rattle.trau_num.specs.Num.{abs_of};
-ghost use Rattle.fr_long.specs.Scaling.{sample, peak_of, scaling_of_peak, scaled_down, AreScaled};
+ghost use Rattle.trau_num.specs.Num.{abs_of, entry};
+ghost use Rattle.fr_long.specs.Scaling.{peak_of, scaling_of_peak, scaled_down, AreScaled};
 
 use trau_num::{abs16, norm};
 
@@ -13,7 +13,7 @@ use trau_num::{abs16, norm};
 pub(crate) fn peak(d: &[i16; 40]) -> i16
     ensures value { result ≡ peak_of d.now }
     ensures not_negative { pos 0 ≤ℤ result }
-    ensures greatest { (k : ℕ) → k < 40 → abs_of (sample d.now k) ≤ℤ result }
+    ensures greatest { (k : ℕ) → k < 40 → abs_of (entry d.now k) ≤ℤ result }
 {
     let mut peak = 0;
     for k in 0..40 {
@@ -38,7 +38,7 @@ pub(crate) fn scaling(peak: i16) -> u8
 
 /// The block shifted down, where the greatest magnitude leaves room.
 pub(crate) fn scaled(d: &[i16; 40], peak: i16, scal: u8) -> [i16; 40]
-    requires peak { (k : ℕ) → k < 40 → abs_of (sample d.now k) ≤ℤ peak }
+    requires peak { (k : ℕ) → k < 40 → abs_of (entry d.now k) ≤ℤ peak }
     requires at_most_6 { scal ≤ 6 }
     requires room { unsigned_abs peak < 512 * 2 ^ scal }
     ensures value { result ≡ scaled_down d.now scal }

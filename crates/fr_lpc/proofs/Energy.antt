@@ -6,8 +6,8 @@ use Rattle.std.proofs.lemmas.Int.{ints, unsigned_abs-mul}
 use Rattle.std.proofs.lemmas.List.{get_or_past}
 use Rattle.std.proofs.lemmas.List.FromFn.{map-range_with_len_more}
 use Rattle.std.proofs.lemmas.List.Sums.{fold-append}
-use Rattle.trau_num.specs.Num.{clamp32, l_mult_of}
-use Rattle.fr_lpc.specs.Scaling.{entry, AreWithin}
+use Rattle.trau_num.specs.Num.{clamp32, l_mult_of, entry}
+use Rattle.fr_lpc.specs.Scaling.{AreWithin}
 use Rattle.fr_lpc.specs.Autocorrelation.{autocorrelation_of}
 
 -- twice a small product isn't clamped

@@ -5,8 +5,7 @@ use Rattle.std.proofs.lemmas.Bool.{cases_eq, cases_lt}
 use Rattle.std.proofs.lemmas.Grind.{common_steps}
 use Rattle.std.proofs.lemmas.List.FromFn.{fill_by_all}
 use Rattle.std.specs.List.{range_with_len}
-use Rattle.trau_num.specs.Num.{add_of, mult_r_of}
-use Rattle.fr_lpc.specs.Scaling.{entry}
+use Rattle.trau_num.specs.Num.{add_of, mult_r_of, entry}
 use Rattle.fr_lpc.specs.Reflection.{next_p, next_k}
 
 -- the places below m have the new values, and the others the old ones

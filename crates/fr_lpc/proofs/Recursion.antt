@@ -1,8 +1,7 @@
 -- The recursion that finds the reflection coefficients one by one.
 use Rattle.std.proofs.Common.{◌≡◌, ℕ, suc, ℤ, ◌+◌, ◌-◌, ◌<◌, ◌≤◌, pos, true, false, get_or, set, length, List, [], ◌∷◌, ◌++◌, take, drop, replicate, int_lt, refl, sym, ap, ◌∙◌, arith}
 use Rattle.std.proofs.lemmas.List.{get_or-drop, length-drop, take_more_set, take_all, append_assoc, append-nil, take-append-drop}
-use Rattle.trau_num.specs.Num.{abs_of}
-use Rattle.fr_lpc.specs.Scaling.{entry}
+use Rattle.trau_num.specs.Num.{abs_of, entry}
 use Rattle.fr_lpc.specs.Reflection.{coefficient_of, p_after, k_after, coefficients_from}
 
 all_zeros : (xs : List ℤ) → ((j : ℕ) → get_or xs j (pos 0) ≡ pos 0) → xs ≡ replicate (length xs) (pos 0)

@@ -7,8 +7,8 @@ use Rattle.std.proofs.lemmas.List.Edits.{map_over_more}
 use Rattle.std.proofs.lemmas.List.Elements.{All-get_or}
 use Rattle.std.proofs.lemmas.List.Sums.{fold-append}
 use Rattle.std.proofs.Math.Nat.{pow-le-pow_right, mul-le-mul_left, mul-le-mul_right}
-use Rattle.trau_num.specs.Num.{clamp16, abs_of, mult_r_of, floor_shr}
-use Rattle.fr_lpc.specs.Scaling.{entry, AreWithin, scaled_sample}
+use Rattle.trau_num.specs.Num.{clamp16, abs_of, mult_r_of, floor_shr, entry}
+use Rattle.fr_lpc.specs.Scaling.{AreWithin, scaled_sample}
 
 -- one sample more
 pub peak_more : (s : List ℤ) (k : ℕ) (most a : ℤ) → k < length s → most ≡ fold int_max (pos 0) (map abs_of (take k s)) → a ≡ abs_of (entry s k) →

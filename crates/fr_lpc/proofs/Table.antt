@@ -1,7 +1,9 @@
 -- Table 4.1, place by place.
 use Rattle.std.proofs.Common.{◌≡◌, ℕ, zero, suc, ◌-◌, ◌^◌, ◌<◌, pos, ◌-ℤ◌, ◌≤ℤ◌, get_or, refl, arith}
-use Rattle.fr_lpc.specs.Scaling.{entry}
-use Rattle.fr_lpc.specs.Ratios.{least, most, code_widths}
+use Rattle.trau_num.specs.Num.{entry}
+use Rattle.trau_params.specs.Ratios.{least}
+use Rattle.trau_params.specs.Widths.{larc_widths}
+use Rattle.fr_lpc.specs.Ratios.{most}
 
 -- what holds at each of eight places
 by_place : (P : ℕ → Type 0) → P 0 → P 1 → P 2 → P 3 → P 4 → P 5 → P 6 → P 7 → (i : ℕ) → i < 8 → P i
@@ -21,9 +23,9 @@ least-most =
     by_place (λ i. entry least i ≤ℤ entry most i) (record { le = tt }) (record { le = tt }) (record { le = tt }) (record { le = tt }) (record { le = tt }) (record { le = tt }) (record { le = tt }) (record { le = tt })
 
 -- the values from MIC to MAC are as many as a code of the place's width can tell apart
-pub span : (i : ℕ) → i < 8 → entry most i -ℤ entry least i ≡ pos (2 ^ get_or code_widths i 0 - 1)
-span = by_place (λ i. entry most i -ℤ entry least i ≡ pos (2 ^ get_or code_widths i 0 - 1)) refl refl refl refl refl refl refl refl
+pub span : (i : ℕ) → i < 8 → entry most i -ℤ entry least i ≡ pos (2 ^ get_or larc_widths i 0 - 1)
+span = by_place (λ i. entry most i -ℤ entry least i ≡ pos (2 ^ get_or larc_widths i 0 - 1)) refl refl refl refl refl refl refl refl
 
 -- a width is 3 to 6 bits
-pub width_bound : (i : ℕ) → i < 8 → 2 ^ get_or code_widths i 0 - 1 < 64
-width_bound = by_place (λ i. 2 ^ get_or code_widths i 0 - 1 < 64) (omega arith) (omega arith) (omega arith) (omega arith) (omega arith) (omega arith) (omega arith) (omega arith)
+pub width_bound : (i : ℕ) → i < 8 → 2 ^ get_or larc_widths i 0 - 1 < 64
+width_bound = by_place (λ i. 2 ^ get_or larc_widths i 0 - 1 < 64) (omega arith) (omega arith) (omega arith) (omega arith) (omega arith) (omega arith) (omega arith) (omega arith)

@@ -1,8 +1,8 @@
 -- The autocorrelation of a frame (GSM 06.10, section 4.2.4).
 use Rattle.std.specs.Prelude.{ℕ, ◌-◌, ◌<◌, ℤ, pos, ◌+ℤ◌, ◌≤ℤ◌, List, map, fold, length, unsigned_abs}
 use Rattle.std.specs.List.{range_with_len}
-use Rattle.trau_num.specs.Num.{l_mult_of}
-use Rattle.fr_lpc.specs.Scaling.{entry, scaling_of, scaled_down}
+use Rattle.trau_num.specs.Num.{l_mult_of, entry}
+use Rattle.fr_lpc.specs.Scaling.{scaling_of, scaled_down}
 
 -- L_ACF[k]: the sum over i = k to 159 of twice the product of s[i] and s[i - k]
 unfoldable pub autocorrelation_of : List ℤ → ℕ → ℤ

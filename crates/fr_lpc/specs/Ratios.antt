@@ -1,9 +1,9 @@
 -- Log area ratios and their codes (GSM 06.10, sections 4.2.6 and 4.2.7).
-use Rattle.std.specs.Prelude.{ℕ, ◌^◌, ◌<◌, ℤ, pos, neg_ℤ, ◌-ℤ◌, ◌*ℤ◌, if◌then◌else◌, int_lt, List, [], ◌∷◌, map, unsigned_abs, slice_index}
+use Rattle.std.specs.Prelude.{ℕ, ℤ, pos, neg_ℤ, ◌-ℤ◌, ◌*ℤ◌, if◌then◌else◌, int_lt, List, [], ◌∷◌, map, unsigned_abs}
 use Rattle.std.specs.List.{range_with_len}
 use Rattle.std.specs.Int.{is_negative, int_max, int_min}
-use Rattle.trau_num.specs.Num.{add_of, mult_of, abs_of, floor_shr}
-use Rattle.fr_lpc.specs.Scaling.{entry}
+use Rattle.trau_num.specs.Num.{add_of, mult_of, abs_of, floor_shr, entry}
+use Rattle.trau_params.specs.Ratios.{offsets, least}
 use Rattle.fr_lpc.specs.Autocorrelation.{autocorrelations_of_frame}
 use Rattle.fr_lpc.specs.Reflection.{reflection_coefficients}
 
@@ -30,15 +30,7 @@ ratios_of_frame s = ratios_of (reflection_coefficients (autocorrelations_of_fram
 abbrev pub gains : List ℤ
 gains = pos 20480 ∷ pos 20480 ∷ pos 20480 ∷ pos 20480 ∷ pos 13964 ∷ pos 15360 ∷ pos 8534 ∷ pos 9036 ∷ []
 
--- B of table 4.1
-abbrev pub offsets : List ℤ
-offsets = pos 0 ∷ pos 0 ∷ pos 2048 ∷ neg_ℤ (pos 2560) ∷ pos 94 ∷ neg_ℤ (pos 1792) ∷ neg_ℤ (pos 341) ∷ neg_ℤ (pos 1144) ∷ []
-
--- MIC of table 4.1, the least value of a quantised ratio
-abbrev pub least : List ℤ
-least = neg_ℤ (pos 32) ∷ neg_ℤ (pos 32) ∷ neg_ℤ (pos 16) ∷ neg_ℤ (pos 16) ∷ neg_ℤ (pos 8) ∷ neg_ℤ (pos 8) ∷ neg_ℤ (pos 4) ∷ neg_ℤ (pos 4) ∷ []
-
--- MAC of table 4.1, the greatest
+-- MAC of table 4.1, the greatest value of a quantised ratio
 abbrev pub most : List ℤ
 most = pos 31 ∷ pos 31 ∷ pos 15 ∷ pos 15 ∷ pos 7 ∷ pos 7 ∷ pos 3 ∷ pos 3 ∷ []
 
@@ -54,11 +46,3 @@ ratio_code a b mic mac lar = unsigned_abs (int_max mic (int_min (quantised_ratio
 unfoldable pub ratio_codes : List ℤ → List ℕ
 ratio_codes lar =
     map (λ i. ratio_code (entry gains i) (entry offsets i) (entry least i) (entry most i) (entry lar i)) (range_with_len 0 8)
-
--- the widths of the eight codes, in bits (table 1.1)
-abbrev pub code_widths : List ℕ
-code_widths = 6 ∷ 6 ∷ 5 ∷ 5 ∷ 4 ∷ 4 ∷ 3 ∷ 3 ∷ []
-
--- each of the eight codes is within its width
-abbrev pub AreRatioCodes : List ℕ → Type 0
-AreRatioCodes codes = (i : ℕ) → i < 8 → slice_index codes i < 2 ^ slice_index code_widths i

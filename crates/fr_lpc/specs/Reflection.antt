@@ -2,8 +2,7 @@
 use Rattle.std.specs.Prelude.{ℕ, zero, suc, ◌+◌, ◌^◌, ◌==◌, ℤ, pos, neg_ℤ, ◌*ℤ◌, if◌then◌else◌, nat_le, int_lt, List, [], ◌∷◌, map, replicate, unsigned_abs}
 use Rattle.std.specs.List.{range_with_len}
 use Rattle.std.specs.Int.{is_positive}
-use Rattle.trau_num.specs.Num.{add_of, mult_r_of, abs_of, div_of, norm_of, floor_shr}
-use Rattle.fr_lpc.specs.Scaling.{entry}
+use Rattle.trau_num.specs.Num.{add_of, mult_r_of, abs_of, div_of, norm_of, floor_shr, entry}
 
 -- ACF[i]: the high words of the autocorrelations, after the left shifts that normalise the first
 unfoldable pub normalised : List ℤ → List ℤ

@@ -1,11 +1,7 @@
 -- The scaling of a frame around its autocorrelation (GSM 06.10, section 4.2.4).
-use Rattle.std.specs.Prelude.{ℕ, ◌-◌, ◌*◌, ◌^◌, ◌<◌, ◌≤◌, ◌==◌, ℤ, pos, if◌then◌else◌, List, map, fold, length, unsigned_abs, slice_index_or}
+use Rattle.std.specs.Prelude.{ℕ, ◌-◌, ◌*◌, ◌^◌, ◌<◌, ◌≤◌, ◌==◌, ℤ, pos, if◌then◌else◌, List, map, fold, length, unsigned_abs}
 use Rattle.std.specs.Int.{int_max}
-use Rattle.trau_num.specs.Num.{abs_of, mult_r_of, shl_of, norm_of, floor_shr}
-
--- the entry of place i
-abbrev pub entry : List ℤ → ℕ → ℤ
-entry xs i = slice_index_or xs i (pos 0)
+use Rattle.trau_num.specs.Num.{abs_of, mult_r_of, shl_of, norm_of, floor_shr, entry}
 
 -- no entry's magnitude is above the bound
 abbrev pub AreWithin : ℕ → List ℤ → Type 0

@@ -1,8 +1,9 @@
 //! The linear prediction of one frame.
 
 ghost use Rattle.std.specs.Prelude.{◌≡◌};
+ghost use Rattle.trau_params.specs.Widths.{FitLarc};
 ghost use Rattle.fr_lpc.specs.Scaling.{samples_after};
-ghost use Rattle.fr_lpc.specs.Ratios.{ratio_codes, ratios_of_frame, AreRatioCodes};
+ghost use Rattle.fr_lpc.specs.Ratios.{ratio_codes, ratios_of_frame};
 
 use crate::autocorrelation::autocorrelate;
 use crate::ratios::{log_area_ratios, quantise};
@@ -16,7 +17,7 @@ pub struct Lpc {
     pub larc: [u8; 8],
     /// The log area ratios LAR 1 to 8, before quantisation.
     pub lar: [i16; 8],
-    pub ghost larc_fit: { AreRatioCodes larc },
+    pub ghost larc_fit: { FitLarc larc },
 }
 
 /// Finds the linear prediction of a frame `s` of 160 preprocessed samples of 16 bits (a period of 20 ms), and

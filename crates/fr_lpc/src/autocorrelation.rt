@@ -1,8 +1,8 @@
 //! The autocorrelation of a frame (GSM 06.10, section 4.2.4).
 
 ghost use Rattle.std.specs.Prelude.{◌≡◌, ℕ, ◌<◌, ◌≤◌, pos, ◌*ℤ◌, ◌≤ℤ◌, length, unsigned_abs};
-ghost use Rattle.trau_num.specs.Num.{l_mult_of};
-ghost use Rattle.fr_lpc.specs.Scaling.{entry, AreWithin};
+ghost use Rattle.trau_num.specs.Num.{l_mult_of, entry};
+ghost use Rattle.fr_lpc.specs.Scaling.{AreWithin};
 ghost use Rattle.fr_lpc.specs.Autocorrelation.{autocorrelation_of, autocorrelations_of, IsGreatestFirst};
 
 #[tactic(auto, unfolding(trau_num::specs::Num::l_mult_of))]

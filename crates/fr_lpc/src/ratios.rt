@@ -1,19 +1,16 @@
 //! Log area ratios and their codes (GSM 06.10, sections 4.2.6 and 4.2.7).
 
 ghost use Rattle.std.specs.Prelude.{◌≡◌, ℕ, ◌^◌, ◌<◌, ◌≤◌, pos, ◌+ℤ◌, ◌-ℤ◌, ◌≤ℤ◌, unsigned_abs, slice_index};
-ghost use Rattle.fr_lpc.specs.Scaling.{entry};
-ghost use Rattle.fr_lpc.specs.Ratios.{ratio_magnitude, ratio_of, ratios_of, gains, offsets, least, most, quantised_ratio, ratio_code, ratio_codes, code_widths, AreRatioCodes};
+ghost use Rattle.trau_num.specs.Num.{entry};
+ghost use Rattle.trau_params.specs.Ratios.{offsets, least};
+ghost use Rattle.trau_params.specs.Widths.{larc_widths, FitLarc};
+ghost use Rattle.fr_lpc.specs.Ratios.{ratio_magnitude, ratio_of, ratios_of, gains, most, quantised_ratio, ratio_code, ratio_codes};
 
 use trau_num::{abs16, add, mult};
+use trau_params::ratios::{LEAST, OFFSETS};
 
 // A of table 4.1.
 const GAINS: [i16; 8] = [20480, 20480, 20480, 20480, 13964, 15360, 8534, 9036];
-
-// B of table 4.1.
-const OFFSETS: [i16; 8] = [0, 0, 2048, -2560, 94, -1792, -341, -1144];
-
-// MIC of table 4.1.
-const LEAST: [i16; 8] = [-32, -32, -16, -16, -8, -8, -4, -4];
 
 // MAC of table 4.1.
 const MOST: [i16; 8] = [31, 31, 15, 15, 7, 7, 3, 3];
@@ -74,7 +71,7 @@ fn code(gain: i16, offset: i16, least: i16, most: i16, lar: i16) -> u8
 fn code_at(i: usize, lar: i16) -> u8
     requires { i < 8 }
     ensures value { result ≡ ratio_code (entry gains i) (entry offsets i) (entry least i) (entry most i) lar }
-    ensures width { result < 2 ^ slice_index code_widths i }
+    ensures width { result < 2 ^ slice_index larc_widths i }
 {
     code(GAINS[i], OFFSETS[i], LEAST[i], MOST[i], lar)
 }
@@ -83,7 +80,7 @@ fn code_at(i: usize, lar: i16) -> u8
 #[tactic(auto, unfolding(crate::specs::Ratios::ratio_codes))]
 pub fn quantise(lar: &[i16; 8]) -> [u8; 8]
     ensures value { result ≡ ratio_codes lar.now }
-    ensures widths { AreRatioCodes result }
+    ensures widths { FitLarc result }
 {
     let mut larc = [0; 8];
     for i in 0..8 {

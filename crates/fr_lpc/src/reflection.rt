@@ -1,8 +1,7 @@
 //! Reflection coefficients (GSM 06.10, section 4.2.5).
 
 ghost use Rattle.std.specs.Prelude.{◌≡◌, ℕ, ◌+◌, ◌-◌, ◌*◌, ◌^◌, ◌<◌, ◌≤◌, pos, neg_ℤ, ◌*ℤ◌, ◌<ℤ◌, ◌≤ℤ◌, unsigned_abs};
-ghost use Rattle.trau_num.specs.Num.{abs_of, floor_shr};
-ghost use Rattle.fr_lpc.specs.Scaling.{entry};
+ghost use Rattle.trau_num.specs.Num.{abs_of, floor_shr, entry};
 ghost use Rattle.fr_lpc.specs.Autocorrelation.{IsGreatestFirst};
 ghost use Rattle.fr_lpc.specs.Reflection.{normalised, coefficient_of, p_after, k_after, coefficients_from, reflection_coefficients};
 

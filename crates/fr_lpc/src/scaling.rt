@@ -1,14 +1,22 @@
 //! The scaling of a frame around its autocorrelation (GSM 06.10, section 4.2.4).
 
 ghost use Rattle.std.specs.Prelude.{◌≡◌, ℕ, ◌+◌, ◌^◌, ◌<◌, ◌≤◌, pos, ◌≤ℤ◌, length, unsigned_abs};
-ghost use Rattle.trau_num.specs.Num.{abs_of};
-ghost use Rattle.fr_lpc.specs.Scaling.{entry, AreWithin, peak_of, scaling_of_peak, scaling_of, scaled_sample, scaled_down, scaled_up};
+ghost use Rattle.trau_num.specs.Num.{abs_of, entry};
+ghost use Rattle.fr_lpc.specs.Scaling.{AreWithin, peak_of, scaling_of_peak, scaling_of, scaled_sample, scaled_down, scaled_up};
 
 use trau_num::{abs16, mult_r, norm, shl16};
 
 /// The peak of a frame: the greatest magnitude of its 160 samples.
-#[tactic(auto, unfolding(crate::specs::Scaling::peak_of))]
 pub fn peak(s: &[i16; 160]) -> i16
+    ensures value { result ≡ peak_of s.now }
+    ensures not_negative { pos 0 ≤ℤ result }
+    ensures greatest { (i : ℕ) → i < length s.now → abs_of (entry s.now i) ≤ℤ result }
+{
+    greatest_magnitude(s)
+}
+
+#[tactic(auto, unfolding(crate::specs::Scaling::peak_of))]
+fn greatest_magnitude(s: &[i16; 160]) -> i16
     ensures value { result ≡ peak_of s.now }
     ensures not_negative { pos 0 ≤ℤ result }
     ensures greatest { (i : ℕ) → i < length s.now → abs_of (entry s.now i) ≤ℤ result }
@@ -42,7 +50,7 @@ pub(crate) fn scaling(s: &[i16; 160]) -> u8
     ensures at_most_4 { result ≤ 4 }
     ensures room { AreWithin (2 ^ (11 + result)) s.now }
 {
-    scaling_of_peak(peak(s))
+    scaling_of_peak(greatest_magnitude(s))
 }
 
 #[tactic(auto, unfolding(crate::specs::Scaling::scaled_sample))]

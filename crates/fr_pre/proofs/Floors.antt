@@ -2,6 +2,7 @@
 use Rattle.std.proofs.Common.{◌≡◌, ℤ, pos, negsuc, ◌+ℤ◌, ◌-ℤ◌, ◌*ℤ◌, ◌<ℤ◌, ◌≤ℤ◌, neg_ℤ, arith, ap, ◌∙◌}
 use Rattle.std.proofs.lemmas.Int.{ints}
 use Rattle.trau_num.specs.Num.{floor_shr, clamp16, clamp32, mult_r_of, l_add_of}
+use Rattle.trau_num.proofs.Fitting.{word_stays}
 use Rattle.fr_pre.specs.Offsets.{IsOffset, IsDownscaled, next_offset, without_offset}
 use Rattle.fr_pre.specs.Preprocessing.{next_l_z2, offset_free}
 
@@ -30,9 +31,6 @@ offset_stays offset so o s =
     let high = f.high in
     omega (arith, ints)
 
-clamp16_none : (z : ℤ) → neg_ℤ (pos 32768) ≤ℤ z → z ≤ℤ pos 32767 → clamp16 z ≡ z
-clamp16_none z l h = grind (arith, ints)
-
 clamp32_none : (z : ℤ) → neg_ℤ (pos 2147483648) ≤ℤ z → z ≤ℤ pos 2147483647 → clamp32 z ≡ z
 clamp32_none z l h = grind (arith, ints)
 
@@ -56,9 +54,7 @@ lower_word l msp held f g =
     let fh = f.high in
     let gl = g.low in
     let gh = g.high in
-    let low : neg_ℤ (pos 32768) ≤ℤ held = omega (arith, ints) in
-    let high : held ≤ℤ pos 32767 = omega (arith, ints) in
-    clamp16_none held low high
+    word_stays held (omega (arith, ints))
 
 -- an offset and a downscaled sample are within a long word
 within_long : (so offset : ℤ) → IsDownscaled so → IsOffset offset → clamp32 (offset +ℤ so *ℤ pos 32768) ≡ offset +ℤ so *ℤ pos 32768

@@ -4,7 +4,8 @@ use Rattle.std.proofs.lemmas.Int.{ints}
 use Rattle.std.proofs.lemmas.List.{drop_all}
 use Rattle.fr_pre.specs.Memory.{PreMemory, home_memory}
 use Rattle.fr_pre.specs.Preprocessing.{downscaled, next_l_z2, offset_free, preemphasised, preprocessed_sample, preprocessed_frame}
-use Rattle.fr_pre.specs.Offsets.{place, next_offset, without_offset, IsDownscaled, IsOffset, AreDownscaled, AreOffsets, AreFree, ArePreemphasised}
+use Rattle.trau_num.specs.Num.{entry}
+use Rattle.fr_pre.specs.Offsets.{next_offset, without_offset, IsDownscaled, IsOffset, AreDownscaled, AreOffsets, AreFree, ArePreemphasised}
 use Rattle.fr_pre.specs.History.{samples_of, Stands, memory_after, newest_preprocessed}
 use Rattle.fr_pre.proofs.Floors.{sum_goes_on, rounds_on}
 
@@ -20,9 +21,9 @@ pub record Passes (z1 offset mp : ℤ) (x so offsets sof s : List ℤ) : Type 0 
 
 -- the memory before sample k
 abbrev memory_at : ℤ → List ℤ → List ℤ → List ℤ → ℕ → PreMemory
-memory_at offset so offsets sof k = record { z1 = place so k; l_z2 = place (offset ∷ offsets) k +ℤ place so k *ℤ pos 32768; mp = place sof k }
+memory_at offset so offsets sof k = record { z1 = entry so k; l_z2 = entry (offset ∷ offsets) k +ℤ entry so k *ℤ pos 32768; mp = entry sof k }
 
-offset_within : (offset : ℤ) (so offsets : List ℤ) (k : ℕ) → k < 160 → IsOffset offset → AreOffsets offset so offsets → IsOffset (place (offset ∷ offsets) k)
+offset_within : (offset : ℤ) (so offsets : List ℤ) (k : ℕ) → k < 160 → IsOffset offset → AreOffsets offset so offsets → IsOffset (entry (offset ∷ offsets) k)
 offset_within offset so offsets zero h o a = o
 offset_within offset so offsets (suc j) h o a = a.within j (omega arith)
 
@@ -52,14 +53,14 @@ rest z1 offset mp x so offsets sof s p (suc n) k e =
     let h : k < 160 = omega (arith, e) in
     let hx : k < length x = omega arith in
     let hs : k < length s = omega arith in
-    let ex : drop k x ≡ place x k ∷ drop (suc k) x = drop-cons x k (pos 0) hx in
-    let es : drop k s ≡ place s k ∷ drop (suc k) s = drop-cons s k (pos 0) hs in
+    let ex : drop k x ≡ entry x k ∷ drop (suc k) x = drop-cons x k (pos 0) hx in
+    let es : drop k s ≡ entry s k ∷ drop (suc k) s = drop-cons s k (pos 0) hs in
     let next : suc k ≡ k + 1 = omega arith in
-    let e_so : place so (suc k) ≡ downscaled (place x k) = rw next (p.downscaled.each k h) in
-    let e_sof : place sof (suc k) ≡ without_offset (place so (suc k)) (place offsets k) = rw next (p.freed.each k h) in
-    let e_s : place s k ≡ preemphasised (place sof k) (place sof (suc k)) = rw next (p.preemphasised.each k h) in
-    let o : preprocessed_sample (memory_at offset so offsets sof k) (place x k) ≡ (place s k, memory_at offset so offsets sof (suc k)) =
-    one (memory_at offset so offsets sof k) (place so (suc k)) (place (offset ∷ offsets) k) (place offsets k) (place sof (suc k)) (place s k) (place x k)
+    let e_so : entry so (suc k) ≡ downscaled (entry x k) = rw next (p.downscaled.each k h) in
+    let e_sof : entry sof (suc k) ≡ without_offset (entry so (suc k)) (entry offsets k) = rw next (p.freed.each k h) in
+    let e_s : entry s k ≡ preemphasised (entry sof k) (entry sof (suc k)) = rw next (p.preemphasised.each k h) in
+    let o : preprocessed_sample (memory_at offset so offsets sof k) (entry x k) ≡ (entry s k, memory_at offset so offsets sof (suc k)) =
+    one (memory_at offset so offsets sof k) (entry so (suc k)) (entry (offset ∷ offsets) k) (entry offsets k) (entry sof (suc k)) (entry s k) (entry x k)
     (p.downscaled.within k (omega arith)) (p.downscaled.within (suc k) (omega arith)) (offset_within offset so offsets k h p.before p.followed) (p.followed.within k h)
     refl e_so (p.followed.each k h) e_sof e_s in
     let r = rest z1 offset mp x so offsets sof s p n (suc k) (omega (arith, e)) in
@@ -67,8 +68,8 @@ rest z1 offset mp x so offsets sof s p (suc n) k e =
 
 -- the frame
 pub frame : (z1 l mp offset l' : ℤ) (x so offsets sof s : List ℤ) → Passes z1 offset mp x so offsets sof s → offset ≡ l -ℤ z1 *ℤ pos 32768 →
-    l' ≡ place offsets 159 +ℤ place so 160 *ℤ pos 32768 →
-    preprocessed_frame (record { z1 = z1; l_z2 = l; mp = mp }) x ≡ (s, record { z1 = place so 160; l_z2 = l'; mp = place sof 160 })
+    l' ≡ entry offsets 159 +ℤ entry so 160 *ℤ pos 32768 →
+    preprocessed_frame (record { z1 = z1; l_z2 = l; mp = mp }) x ≡ (s, record { z1 = entry so 160; l_z2 = l'; mp = entry sof 160 })
 frame z1 l mp offset l' x so offsets sof s p e e' =
     let r = rest z1 offset mp x so offsets sof s p 160 0 refl in
     let el : l ≡ offset +ℤ z1 *ℤ pos 32768 = omega (arith, ints) in

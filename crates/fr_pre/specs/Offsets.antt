@@ -1,12 +1,8 @@
 -- Offset compensation by what it takes away (GSM 06.10, section 4.2.2): L_z2 is 2^15 of the downscaled sample and an
 -- offset, which follows the mean of the samples slowly, with the other sign.
-use Rattle.std.specs.Prelude.{◌≡◌, ℕ, ◌+◌, ◌<◌, ◌≤◌, ◌^◌, ℤ, pos, ◌+ℤ◌, ◌-ℤ◌, ◌*ℤ◌, List, ◌∷◌, unsigned_abs, slice_index_or}
-use Rattle.trau_num.specs.Num.{clamp16, floor_shr}
+use Rattle.std.specs.Prelude.{◌≡◌, ℕ, ◌+◌, ◌<◌, ◌≤◌, ◌^◌, ℤ, pos, ◌+ℤ◌, ◌-ℤ◌, ◌*ℤ◌, List, ◌∷◌, unsigned_abs}
+use Rattle.trau_num.specs.Num.{clamp16, floor_shr, entry}
 use Rattle.fr_pre.specs.Preprocessing.{downscaled, preemphasised}
-
--- the number at place k of a list
-abbrev pub place : List ℤ → ℕ → ℤ
-place xs k = slice_index_or xs k (pos 0)
 
 -- the offset at the sample after so: 32735 / 2^15 of the offset at so, rounded, less 33 so; 1081344 is 33 * 2^15
 unfoldable pub next_offset : ℤ → ℤ → ℤ
@@ -26,20 +22,20 @@ IsOffset offset = unsigned_abs offset ≤ 2 ^ 29
 
 -- the downscaled samples of a frame, after the last of the frame before
 pub record AreDownscaled (before : ℤ) (x so : List ℤ) : Type 0 where
-  pub first : place so 0 ≡ before
-  pub each : (k : ℕ) → k < 160 → place so (k + 1) ≡ downscaled (place x k)
-  pub within : (k : ℕ) → k < 161 → IsDownscaled (place so k)
+  pub first : entry so 0 ≡ before
+  pub each : (k : ℕ) → k < 160 → entry so (k + 1) ≡ downscaled (entry x k)
+  pub within : (k : ℕ) → k < 161 → IsDownscaled (entry so k)
 
 -- the offset at each sample of a frame, of which the first follows the offset before
 pub record AreOffsets (before : ℤ) (so offsets : List ℤ) : Type 0 where
-  pub each : (k : ℕ) → k < 160 → place offsets k ≡ next_offset (place (before ∷ offsets) k) (place so k)
-  pub within : (k : ℕ) → k < 160 → IsOffset (place offsets k)
+  pub each : (k : ℕ) → k < 160 → entry offsets k ≡ next_offset (entry (before ∷ offsets) k) (entry so k)
+  pub within : (k : ℕ) → k < 160 → IsOffset (entry offsets k)
 
 -- the samples without their offsets, after the last of the frame before
 pub record AreFree (before : ℤ) (so offsets sof : List ℤ) : Type 0 where
-  pub first : place sof 0 ≡ before
-  pub each : (k : ℕ) → k < 160 → place sof (k + 1) ≡ without_offset (place so (k + 1)) (place offsets k)
+  pub first : entry sof 0 ≡ before
+  pub each : (k : ℕ) → k < 160 → entry sof (k + 1) ≡ without_offset (entry so (k + 1)) (entry offsets k)
 
 -- the samples after preemphasis
 pub record ArePreemphasised (sof s : List ℤ) : Type 0 where
-  pub each : (k : ℕ) → k < 160 → place s k ≡ preemphasised (place sof k) (place sof (k + 1))
+  pub each : (k : ℕ) → k < 160 → entry s k ≡ preemphasised (entry sof k) (entry sof (k + 1))

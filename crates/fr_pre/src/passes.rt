@@ -3,7 +3,8 @@
 //! Only the offset of one sample depends on that of the sample before, so it has a loop of its own.
 
 ghost use Rattle.std.specs.Prelude.{◌≡◌, ℕ, ◌<◌};
-ghost use Rattle.fr_pre.specs.Offsets.{IsDownscaled, IsOffset, place, AreDownscaled, AreOffsets, AreFree, ArePreemphasised};
+ghost use Rattle.trau_num.specs.Num.{entry};
+ghost use Rattle.fr_pre.specs.Offsets.{IsDownscaled, IsOffset, AreDownscaled, AreOffsets, AreFree, ArePreemphasised};
 ghost use Rattle.fr_pre.specs.Preprocessing.{downscaled, preemphasised};
 
 use crate::compensation::{narrow_offset, next_offset, without_offset};
@@ -41,7 +42,7 @@ pub(crate) fn downscale(before: i16, x: &[i16; 160]) -> [i16; 161]
 /// the frame before.
 pub(crate) fn follow(before: i64, so: &[i16; 161]) -> [i32; 160]
     requires offset { IsOffset before }
-    requires samples { (k : ℕ) → k < 161 → IsDownscaled (place so.now k) }
+    requires samples { (k : ℕ) → k < 161 → IsDownscaled (entry so.now k) }
     ensures { AreOffsets before so.now result }
 {
     let mut offsets = [0; 160];
@@ -55,7 +56,7 @@ pub(crate) fn follow(before: i64, so: &[i16; 161]) -> [i32; 160]
 
 /// The samples without their offsets, after the last one `before` of the frame before.
 pub(crate) fn compensate(before: i16, so: &[i16; 161], offsets: &[i32; 160]) -> [i16; 161]
-    requires { (k : ℕ) → k < 160 → IsOffset (place offsets.now k) }
+    requires { (k : ℕ) → k < 160 → IsOffset (entry offsets.now k) }
     ensures { AreFree before so.now offsets.now result }
 {
     let mut sof = [0; 161];

@@ -1,8 +1,8 @@
 -- Quantisation of a block's maximum and of its pulses (GSM 06.10, section 4.2.15).
-use Rattle.std.specs.Prelude.{ℕ, ◌+◌, ◌*◌, ◌/◌, ◌^◌, ◌<◌, zero, suc, ℤ, pos, ◌+ℤ◌, ◌*ℤ◌, unsigned_abs, if◌then◌else◌, ◌==◌, List, [], ◌∷◌, map, fold, slice_index_or}
+use Rattle.std.specs.Prelude.{ℕ, ◌+◌, ◌*◌, ◌/◌, ◌^◌, ◌<◌, zero, suc, ℤ, pos, ◌+ℤ◌, ◌*ℤ◌, unsigned_abs, if◌then◌else◌, ◌==◌, List, [], ◌∷◌, map, fold}
 use Rattle.std.specs.Int.{int_max}
 use Rattle.std.specs.List.{range_with_len}
-use Rattle.trau_num.specs.Num.{abs_of, mult_of, floor_shr}
+use Rattle.trau_num.specs.Num.{abs_of, mult_of, floor_shr, entry}
 use Rattle.fr_rpe.specs.declared.scale.Scale.{Scale}
 use Rattle.fr_rpe.specs.Scale.{scale_of, shift_of}
 
@@ -24,7 +24,7 @@ abbrev pub inverses : List ℤ
 inverses = pos 29128 ∷ pos 26215 ∷ pos 23832 ∷ pos 21846 ∷ pos 20165 ∷ pos 18725 ∷ pos 17476 ∷ pos 16384 ∷ []
 
 abbrev pub inverse_of : ℕ → ℤ
-inverse_of mantissa = slice_index_or inverses mantissa (pos 0)
+inverse_of mantissa = entry inverses mantissa
 
 -- xM << (6 - exp): a pulse at the level of its scale
 abbrev pub levelled : Scale → ℤ → ℤ
@@ -36,7 +36,7 @@ code_of scale pulse = unsigned_abs (floor_shr (mult_of (levelled scale pulse) (i
 
 -- the codes of the thirteen pulses of a block with this coded maximum
 unfoldable pub codes_of : ℕ → List ℤ → List ℕ
-codes_of xmaxc pulses = map (λ i. code_of (scale_of xmaxc) (slice_index_or pulses i (pos 0))) (range_with_len 0 13)
+codes_of xmaxc pulses = map (λ i. code_of (scale_of xmaxc) (entry pulses i)) (range_with_len 0 13)
 
 -- a magnitude for which a scale has room: at its level it is below the mantissa's next step
 abbrev pub HasRoom : Scale → ℕ → Type 0

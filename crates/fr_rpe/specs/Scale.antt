@@ -1,5 +1,6 @@
 -- Exponent and mantissa of a block maximum (GSM 06.10, section 4.2.15).
-use Rattle.std.specs.Prelude.{ℕ, ◌+◌, ◌-◌, ◌*◌, ◌/◌, zero, suc, ℤ, pos, neg_ℤ, ◌-ℤ◌, unsigned_abs, if◌then◌else◌, nat_le, ◌==◌, List, [], ◌∷◌, slice_index_or}
+use Rattle.std.specs.Prelude.{ℕ, ◌+◌, ◌-◌, ◌*◌, ◌/◌, zero, suc, ℤ, pos, neg_ℤ, ◌-ℤ◌, unsigned_abs, if◌then◌else◌, nat_le, ◌==◌, List, [], ◌∷◌}
+use Rattle.trau_num.specs.Num.{entry}
 use Rattle.fr_rpe.specs.declared.scale.Scale.{Scale}
 
 -- FAC: the factor of each mantissa (table 4.6)
@@ -7,7 +8,7 @@ abbrev pub factors : List ℤ
 factors = pos 18431 ∷ pos 20479 ∷ pos 22527 ∷ pos 24575 ∷ pos 26623 ∷ pos 28671 ∷ pos 30719 ∷ pos 32767 ∷ []
 
 abbrev pub factor_of : ℕ → ℤ
-factor_of mantissa = slice_index_or factors mantissa (pos 0)
+factor_of mantissa = entry factors mantissa
 
 -- At most n times, a mantissa of at most 7 is doubled and one more, and the exponent falls by one. At last 8 is taken off the mantissa.
 abbrev pub normalised : ℕ → ℤ → ℕ → Scale

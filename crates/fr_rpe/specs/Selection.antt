@@ -1,11 +1,11 @@
 -- Which of the four grids of a block is coded (GSM 06.10, section 4.2.14).
-use Rattle.std.specs.Prelude.{ℕ, ◌+◌, ◌*◌, ◌^◌, ◌<◌, ◌≡◌, zero, suc, ℤ, pos, ◌+ℤ◌, ◌<ℤ◌, ◌≤ℤ◌, int_lt, if◌then◌else◌, List, map, fold, slice_index_or}
+use Rattle.std.specs.Prelude.{ℕ, ◌+◌, ◌*◌, ◌^◌, ◌<◌, ◌≡◌, zero, suc, ℤ, pos, ◌+ℤ◌, ◌<ℤ◌, ◌≤ℤ◌, int_lt, if◌then◌else◌, List, map, fold}
 use Rattle.std.specs.List.{range_with_len}
-use Rattle.trau_num.specs.Num.{l_mult_of, floor_shr}
+use Rattle.trau_num.specs.Num.{l_mult_of, floor_shr, entry}
 
 -- xM of the grid that starts at m: thirteen samples, three apart
 unfoldable pub pulses_on_grid : List ℤ → ℕ → List ℤ
-pulses_on_grid x m = map (λ i. slice_index_or x (m + 3 * i) (pos 0)) (range_with_len 0 13)
+pulses_on_grid x m = map (λ i. entry x (m + 3 * i)) (range_with_len 0 13)
 
 -- what one sample adds to its grid's energy: twice the square of a quarter of it
 unfoldable pub sample_energy : ℤ → ℤ
@@ -13,7 +13,7 @@ sample_energy x = l_mult_of (floor_shr x 2) (floor_shr x 2)
 
 -- EM: the energy of the first n samples of the grid that starts at m
 unfoldable pub energy_up_to : ℕ → List ℤ → ℕ → ℤ
-energy_up_to n x m = fold ◌+ℤ◌ (pos 0) (map (λ i. sample_energy (slice_index_or x (m + 3 * i) (pos 0))) (range_with_len 0 n))
+energy_up_to n x m = fold ◌+ℤ◌ (pos 0) (map (λ i. sample_energy (entry x (m + 3 * i))) (range_with_len 0 n))
 
 -- the energy of the whole grid that starts at m
 abbrev pub grid_energy : List ℤ → ℕ → ℤ
@@ -36,6 +36,6 @@ pub record IsStrongestGrid (x : List ℤ) (m : ℕ) : Type 0 where
 
 -- the energies of the first n samples of each grid, which are at most n times that of a sample
 pub record AreEnergies (n : ℕ) (x sums : List ℤ) : Type 0 where
-  pub each : (m : ℕ) → m < 4 → slice_index_or sums m (pos 0) ≡ energy_up_to n x m
-  pub at_least : (m : ℕ) → m < 4 → pos 0 ≤ℤ slice_index_or sums m (pos 0)
-  pub at_most : (m : ℕ) → m < 4 → slice_index_or sums m (pos 0) ≤ℤ pos (2 ^ 27 * n)
+  pub each : (m : ℕ) → m < 4 → entry sums m ≡ energy_up_to n x m
+  pub at_least : (m : ℕ) → m < 4 → pos 0 ≤ℤ entry sums m
+  pub at_most : (m : ℕ) → m < 4 → entry sums m ≤ℤ pos (2 ^ 27 * n)

@@ -1,7 +1,7 @@
 -- The block filter that weighs the residual of long-term prediction (GSM 06.10, section 4.2.13).
-use Rattle.std.specs.Prelude.{ℕ, ◌+◌, ◌-◌, ℤ, pos, neg_ℤ, ◌+ℤ◌, ◌*ℤ◌, if◌then◌else◌, nat_lt, List, [], ◌∷◌, map, fold, slice_index_or}
+use Rattle.std.specs.Prelude.{ℕ, ◌+◌, ◌-◌, ℤ, pos, neg_ℤ, ◌+ℤ◌, ◌*ℤ◌, if◌then◌else◌, nat_lt, List, [], ◌∷◌, map, fold}
 use Rattle.std.specs.List.{range_with_len}
-use Rattle.trau_num.specs.Num.{clamp16, floor_shr}
+use Rattle.trau_num.specs.Num.{clamp16, floor_shr, entry}
 
 -- H: the filter's impulse response (table 4.4)
 abbrev pub impulse_response : List ℤ
@@ -11,7 +11,7 @@ impulse_response =
 
 -- e[p - 5], which is 0 outside of the block
 abbrev pub sample_around : List ℤ → ℕ → ℤ
-sample_around e p = if nat_lt p 5 then pos 0 else slice_index_or e (p - 5) (pos 0)
+sample_around e p = if nat_lt p 5 then pos 0 else entry e (p - 5)
 
 -- the block with five zeros on both sides
 unfoldable pub padded_block : List ℤ → List ℤ
@@ -20,7 +20,7 @@ padded_block e = map (sample_around e) (range_with_len 0 50)
 -- the sum of e[k + i - 5] * H[i] over i of 0 to 10, over a padded block, and the rounding of the shift to come
 unfoldable pub weighted_sum : List ℤ → ℕ → ℤ
 weighted_sum padded k =
-    fold ◌+ℤ◌ (pos 4096) (map (λ i. slice_index_or impulse_response i (pos 0) *ℤ slice_index_or padded (k + i) (pos 0)) (range_with_len 0 11))
+    fold ◌+ℤ◌ (pos 4096) (map (λ i. entry impulse_response i *ℤ entry padded (k + i)) (range_with_len 0 11))
 
 -- x: the weighted block of 40 samples
 unfoldable pub weighted_block : List ℤ → List ℤ

@@ -7,7 +7,7 @@ ghost use Rattle.fr_rpe.specs.Encoding.{mc_of, xmax_of, xmaxc_of, xmc_of};
 ghost use Rattle.fr_rpe.specs.Pulses.{block_of};
 
 use crate::decode::decode_block;
-use crate::maximum::{maximum, quantise_max};
+use crate::maximum::{coded, maximum};
 use crate::quantisation::codes;
 use crate::rpe::Rpe;
 use crate::selection::{pulses_on_grid, strongest_grid};
@@ -27,7 +27,7 @@ pub fn encode_block(e: &[i16; 40]) -> Rpe
     let mc = strongest_grid(&x);
     let pulses = pulses_on_grid(&x, mc);
     let xmax = maximum(&pulses);
-    let xmaxc = quantise_max(xmax);
+    let xmaxc = coded(xmax.unsigned_abs());
     let xmc = codes(&pulses, xmaxc);
     let ep = decode_block(mc, xmaxc, &xmc);
     Rpe {

@@ -8,8 +8,9 @@
 //!
 //! `weighting` filters the block, `selection` chooses the grid, `maximum` codes the maximum, `scale` has
 //! the exponent and mantissa of a coded maximum, `quantisation` codes the pulses, `decode` is the way back
-//! to a block, `rpe` the parameters, `encode` the whole. Definitions: `specs/Weighting.antt`,
-//! `specs/Selection.antt`, `specs/Quantisation.antt`, `specs/Scale.antt`, `specs/Pulses.antt`.
+//! to a block, `rpe` the parameters, `encode` the whole. Definitions: `specs/Encoding.antt` (the parameters
+//! of a block), made of `specs/Weighting.antt`, `specs/Selection.antt` and `specs/Quantisation.antt`;
+//! `specs/Scale.antt` (what a coded maximum stands for); `specs/Pulses.antt` (the way back).
 #![tactic(auto)]
 
 mod decode;

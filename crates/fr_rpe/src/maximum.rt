@@ -26,13 +26,13 @@ pub fn quantise_max(xmax: i16) -> u8
     requires { pos 0 ≤ℤ xmax }
     ensures value { result ≡ coded_maximum (unsigned_abs xmax) }
     ensures below_64 { result < 64 }
-    ensures room { HasRoom (scale_of result) (unsigned_abs xmax) }
 {
     coded(xmax.unsigned_abs())
 }
 
+/// The same, with what the coding of the pulses needs: that the code leaves room for the maximum.
 #[tactic(auto, unfolding(crate::specs::Quantisation::coded_maximum))]
-fn coded(xmax: u16) -> u8
+pub(crate) fn coded(xmax: u16) -> u8
     requires { xmax < 2 ^ 15 }
     ensures value { result ≡ coded_maximum xmax }
     ensures below_64 { result < 64 }

@@ -15,8 +15,10 @@ impl Scale {
     ghost use Rattle.fr_rpe.specs.Scale.{scale_of, shift_of, factor_of};
     ghost use Rattle.fr_rpe.specs.Quantisation.{inverse_of};
 
+    // FAC of table 4.6.
     const FACTORS: [i16; 8] = [18431, 20479, 22527, 24575, 26623, 28671, 30719, 32767];
 
+    // NRFAC of table 4.5.
     const INVERSES: [i16; 8] = [29128, 26215, 23832, 21846, 20165, 18725, 17476, 16384];
 
     /// The scale that a coded maximum of 6 bits stands for.
@@ -74,6 +76,7 @@ impl Scale {
     {
         Self::FACTORS[self.mantissa as usize]
     }
+
     /// The inverse of the mantissa, as a fraction of 15 bits.
     pub(crate) fn inverse(self) -> i16
         requires { self.mantissa < 8 }

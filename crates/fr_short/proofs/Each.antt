@@ -1,5 +1,5 @@
 -- Lists of words, by place.
-use Rattle.std.proofs.Common.{◌≡◌, ℕ, ◌+◌, ◌<◌, suc, ℤ, pos, get_or, set, length, List, [], ◌∷◌, refl, arith, sym, subst, below_more, inl, inr}
+use Rattle.std.proofs.Common.{◌≡◌, ℕ, ◌<◌, suc, ℤ, pos, get_or, set, length, List, [], ◌∷◌, refl, arith, sym, subst, inl, inr}
 use Rattle.std.proofs.lemmas.Bool.{cases_eq}
 use Rattle.std.proofs.lemmas.List.{get_or-set_same, get_or-set_other}
 
@@ -14,12 +14,6 @@ each_set P xs n i x l h p k b =
       | inl e ↦ let same : get_or (set xs i x) k (pos 0) ≡ x = rw e (get_or-set_same xs i x (pos 0) l) in subst P (sym same) p
       | inr ne ↦ subst P (sym (get_or-set_other xs i k x (pos 0) ne)) (h k b)
     ]
-
--- and one at the next place extends it
-pub each_next : (P : ℤ → Type 0) (xs : List ℤ) (i : ℕ) (x : ℤ) → i < length xs → Each P xs i → P x → Each P (set xs i x) (i + 1)
-each_next P xs i x l h p =
-    below_more (λ k. P (get_or (set xs i x) k (pos 0))) i (each_set P xs i i x l h p)
-    (subst P (sym (get_or-set_same xs i x (pos 0) l)) p)
 
 -- lists of one length that agree at each place are one
 pub same_words : (xs ys : List ℤ) → length xs ≡ length ys → ((k : ℕ) → k < length xs → get_or xs k (pos 0) ≡ get_or ys k (pos 0)) → xs ≡ ys

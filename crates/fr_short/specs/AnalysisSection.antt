@@ -1,7 +1,6 @@
 -- One section of the analysis lattice over the samples of a frame (GSM 06.10, section 4.2.10).
 use Rattle.std.specs.Prelude.{ℕ, ℤ, List, ◌∷◌}
-use Rattle.trau_num.specs.Num.{add_of, mult_r_of}
-use Rattle.fr_short.specs.Ratios.{entry}
+use Rattle.trau_num.specs.Num.{add_of, mult_r_of, entry}
 
 -- u at sample k: at the first what the frame before left, and then the sav of the sample before
 abbrev pub u_at : ℤ → List ℤ → ℕ → ℤ

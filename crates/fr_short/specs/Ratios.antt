@@ -1,27 +1,8 @@
 -- Decoded log area ratios (GSM 06.10, sections 4.2.8 and 4.3.3).
-use Rattle.std.specs.Prelude.{ℕ, ◌^◌, ◌<◌, ℤ, pos, neg_ℤ, ◌+ℤ◌, ◌*ℤ◌, List, [], ◌∷◌, map, slice_index, slice_index_or}
+use Rattle.std.specs.Prelude.{ℕ, ℤ, pos, ◌+ℤ◌, ◌*ℤ◌, List, [], ◌∷◌, map, slice_index}
 use Rattle.std.specs.List.{range_with_len}
-use Rattle.trau_num.specs.Num.{add_of, sub_of, mult_r_of}
-
--- the widths of the eight codes, in bits (table 1.1)
-abbrev pub code_widths : List ℕ
-code_widths = 6 ∷ 6 ∷ 5 ∷ 5 ∷ 4 ∷ 4 ∷ 3 ∷ 3 ∷ []
-
--- each of the eight codes is within its width
-abbrev pub AreRatioCodes : List ℕ → Type 0
-AreRatioCodes codes = (i : ℕ) → i < 8 → slice_index codes i < 2 ^ slice_index code_widths i
-
--- the entry of place i
-abbrev pub entry : List ℤ → ℕ → ℤ
-entry xs i = slice_index_or xs i (pos 0)
-
--- B of table 4.1
-abbrev pub offsets : List ℤ
-offsets = pos 0 ∷ pos 0 ∷ pos 2048 ∷ neg_ℤ (pos 2560) ∷ pos 94 ∷ neg_ℤ (pos 1792) ∷ neg_ℤ (pos 341) ∷ neg_ℤ (pos 1144) ∷ []
-
--- MIC of table 4.1, the least value of a quantised ratio
-abbrev pub least : List ℤ
-least = neg_ℤ (pos 32) ∷ neg_ℤ (pos 32) ∷ neg_ℤ (pos 16) ∷ neg_ℤ (pos 16) ∷ neg_ℤ (pos 8) ∷ neg_ℤ (pos 8) ∷ neg_ℤ (pos 4) ∷ neg_ℤ (pos 4) ∷ []
+use Rattle.trau_num.specs.Num.{add_of, sub_of, mult_r_of, entry}
+use Rattle.trau_params.specs.Ratios.{offsets, least}
 
 -- INVA of table 4.2
 abbrev pub inverses : List ℤ

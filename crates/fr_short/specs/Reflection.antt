@@ -2,8 +2,7 @@
 use Rattle.std.specs.Prelude.{ℕ, ℤ, pos, neg_ℤ, ◌+ℤ◌, ◌*ℤ◌, ◌==◌, if◌then◌else◌, nat_lt, int_lt, List, map}
 use Rattle.std.specs.List.{range_with_len}
 use Rattle.std.specs.Int.{is_negative}
-use Rattle.trau_num.specs.Num.{add_of, abs_of, floor_shr}
-use Rattle.fr_short.specs.Ratios.{entry}
+use Rattle.trau_num.specs.Num.{add_of, abs_of, floor_shr, entry}
 
 -- the part of a frame that sample k lies in: samples 0 to 12, 13 to 26, 27 to 39, 40 to 159
 unfoldable pub part_of : ℕ → ℕ

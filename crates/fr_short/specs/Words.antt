@@ -1,11 +1,12 @@
 -- Ranges of the numbers that the filters compute with (GSM 06.10, section 4).
-use Rattle.std.specs.Prelude.{ℕ, ◌<◌, ◌≤◌, ℤ, pos, List, unsigned_abs, FitsSigned, slice_index_or}
+use Rattle.std.specs.Prelude.{ℕ, ◌<◌, ◌≤◌, ℤ, List, unsigned_abs, FitsSigned}
 use Rattle.std.specs.Int.{w16}
+use Rattle.trau_num.specs.Num.{entry}
 
 -- each of eight numbers is a word: it fits 16 bits
 abbrev pub AreWords : List ℤ → Type 0
-AreWords xs = (i : ℕ) → i < 8 → FitsSigned w16 (slice_index_or xs i (pos 0))
+AreWords xs = (i : ℕ) → i < 8 → FitsSigned w16 (entry xs i)
 
 -- each of eight numbers is a factor from -32767 to 32767, so that its rounded product with a word is a word
 abbrev pub AreFactors : List ℤ → Type 0
-AreFactors xs = (i : ℕ) → i < 8 → unsigned_abs (slice_index_or xs i (pos 0)) ≤ 32767
+AreFactors xs = (i : ℕ) → i < 8 → unsigned_abs (entry xs i) ≤ 32767

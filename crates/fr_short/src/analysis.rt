@@ -4,7 +4,7 @@
 //! before; so a loop over the samples can do several at once.
 
 ghost use Rattle.std.specs.Prelude.{◌≡◌, ℕ, ◌<◌, ◌≤◌, unsigned_abs, slice_index_or, [], ◌+◌, nat_lt, if◌then◌else◌};
-ghost use Rattle.fr_short.specs.Ratios.{entry};
+ghost use Rattle.trau_num.specs.Num.{entry};
 ghost use Rattle.fr_short.specs.Reflection.{coefficients_at, part_of, part_start};
 ghost use Rattle.fr_short.specs.Analysis.{analysed_samples};
 ghost use Rattle.fr_short.specs.AnalysisSection.{u_at, next_d, next_sav};

@@ -10,7 +10,8 @@
 //! the lattices, `state` what one direction remembers from frame to frame.
 //!
 //! Definitions: `specs/Ratios.antt`, `specs/Reflection.antt`, `specs/Memory.antt`, `specs/Analysis.antt`,
-//! `specs/Synthesis.antt`.
+//! `specs/Synthesis.antt`; `specs/AnalysisSection.antt` (one section of the analysis lattice over a frame),
+//! `specs/Words.antt` (the ranges of what the lattices compute with).
 #![tactic(auto)]
 
 mod analysis;

@@ -1,15 +1,13 @@
 //! Decoded log area ratios (GSM 06.10, section 4.2.8).
 
 ghost use Rattle.std.specs.Prelude.{◌≡◌, ℕ, ◌<◌, pos, ◌+ℤ◌, ◌-ℤ◌, ◌*ℤ◌};
-ghost use Rattle.fr_short.specs.Ratios.{AreRatioCodes, entry, least, offsets, inverses, decoded_ratio, decoded_ratios};
+ghost use Rattle.trau_num.specs.Num.{entry};
+ghost use Rattle.trau_params.specs.Ratios.{offsets, least};
+ghost use Rattle.trau_params.specs.Widths.{FitLarc};
+ghost use Rattle.fr_short.specs.Ratios.{inverses, decoded_ratio, decoded_ratios};
 
 use trau_num::{add, clamp, mult_r};
-
-// B of table 4.1.
-const OFFSETS: [i16; 8] = [0, 0, 2048, -2560, 94, -1792, -341, -1144];
-
-// MIC of table 4.1.
-const LEAST: [i16; 8] = [-32, -32, -16, -16, -8, -8, -4, -4];
+use trau_params::ratios::{LEAST, OFFSETS};
 
 // INVA of table 4.2.
 const INVERSES: [i16; 8] = [13107, 13107, 13107, 13107, 19223, 17476, 31454, 29708];
@@ -39,7 +37,7 @@ fn ratio_at(i: usize, code: u8) -> i16
 /// bits; GSM 06.10, section 4.2.8).
 #[tactic(auto, unfolding(crate::specs::Ratios::decoded_ratios))]
 pub fn decode_larc(larc: &[u8; 8]) -> [i16; 8]
-    requires { AreRatioCodes larc.now }
+    requires { FitLarc larc.now }
     ensures { result ≡ decoded_ratios larc.now }
 {
     let mut ratios = [0; 8];

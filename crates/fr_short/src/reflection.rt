@@ -1,7 +1,7 @@
 //! Reflection coefficients in force in each part of a frame (GSM 06.10, section 4.2.9).
 
 ghost use Rattle.std.specs.Prelude.{◌≡◌, ℕ, ◌<◌, ◌≤◌, pos, ◌≤ℤ◌, unsigned_abs, slice_index_or, []};
-ghost use Rattle.fr_short.specs.Ratios.{entry};
+ghost use Rattle.trau_num.specs.Num.{entry};
 ghost use Rattle.fr_short.specs.Reflection.{part_start, interpolated_ratio, coefficient_magnitude, reflection_of, coefficients_of};
 ghost use Rattle.fr_short.specs.Words.{AreFactors};
 

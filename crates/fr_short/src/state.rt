@@ -1,6 +1,7 @@
 //! What one direction of the short-term filters remembers.
+
 ghost use Rattle.std.specs.Prelude.{◌≡◌, List, [], ◌∷◌};
-ghost use Rattle.fr_short.specs.Ratios.{AreRatioCodes};
+ghost use Rattle.trau_params.specs.Widths.{FitLarc};
 ghost use Rattle.fr_short.specs.Memory.{ShortMemory, home_memory};
 ghost use Rattle.fr_short.specs.Synthesis.{ResidualFrame, residual_frame, synthesised_frame, synthesis_of, Stands};
 ghost use Rattle.fr_short.specs.Analysis.{SampleFrame, sample_frame, analysed_frame, analysis_of, AnalysisStands};
@@ -43,7 +44,7 @@ impl ShortState {
     /// each within its width (GSM 06.10, section 4.3.4). What `s` held before is lost.
     #[tactic(auto, unfolding(crate::specs::Synthesis::synthesised_frame, crate::specs::Synthesis::newest_ratios, crate::specs::Synthesis::synthesis_of))]
     pub fn synthesise_frame(&mut self, larc: &[u8; 8], d: &[i16; 160], s: &mut [i16; 160])
-        requires { AreRatioCodes larc.now }
+        requires { FitLarc larc.now }
         ensures samples { s.new ≡ (synthesised_frame self.old larc.now d.now).0 }
         ensures memory { self.new ≡ (synthesised_frame self.old larc.now d.now).1 }
 
@@ -63,7 +64,7 @@ impl ShortState {
     /// eight codes of the frame's log area ratios, each within its width (GSM 06.10, section 4.2.10).
     #[tactic(auto, unfolding(crate::specs::Analysis::analysed_frame, crate::specs::Analysis::newest_sample_ratios, crate::specs::Analysis::analysis_of))]
     pub fn analyse_frame(&mut self, larc: &[u8; 8], s: &mut [i16; 160])
-        requires { AreRatioCodes larc.now }
+        requires { FitLarc larc.now }
         ensures residual { s.new ≡ (analysed_frame self.old larc.now s.old).0 }
         ensures memory { self.new ≡ (analysed_frame self.old larc.now s.old).1 }
 

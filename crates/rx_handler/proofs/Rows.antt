@@ -1,9 +1,10 @@
 -- Worked rows of call 7.
 use Rattle.std.proofs.Common.{◌≡◌, refl, ℕ, ◌*◌, true, false, List, [], ◌∷◌, map, replicate}
 use Rattle.trau_params.specs.Fields.{Fields}
+use Rattle.trau_params.specs.Silence.{silent_fields}
 use Rattle.trau_num.specs.Random as random
 use Rattle.rx_muting.specs.Draws.{state_after, draw_of}
-use Rattle.rx_muting.specs.Muting.{lowered_maxima, silent_fields}
+use Rattle.rx_muting.specs.Muting.{lowered_maxima}
 use Rattle.rx_subst.specs.Lost.{lost_of, muted_of, random_grids}
 use Rattle.rx_noise.specs.Noise.{noise_of, noise_at}
 use Rattle.rx_handler.specs.Heard.{Heard, Good, Sid, Lost}

@@ -4,8 +4,8 @@
 //! of silence descriptors: both lower the block maxima by steps, draw some fields from the call's random source, and
 //! end in the frame of silence. `levels` has the muting, `draws` the laws of draws by their numbers.
 //!
-//! Definitions: `specs/Draws.antt` (the draws of a source by their numbers), `specs/Muting.antt` (lowered maxima,
-//! silence). The numbers are this project's profile, within the demands of GSM 06.11 and GSM 06.12.
+//! Definitions: `specs/Draws.antt` (the draws of a source by their numbers), `specs/Muting.antt` (lowered
+//! maxima). The numbers are this project's profile, within the demands of GSM 06.11 and GSM 06.12.
 #![tactic(auto)]
 
 pub mod draws;

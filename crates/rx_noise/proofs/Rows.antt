@@ -1,9 +1,10 @@
 -- Worked values: the first draws of call 7, and the level of a fall.
 use Rattle.std.proofs.Common.{◌≡◌, refl, [], ◌∷◌, take, replicate}
 use Rattle.trau_params.specs.Fields.{Fields}
+use Rattle.trau_params.specs.Silence.{silent_fields}
 use Rattle.trau_num.specs.Random.{next_state, drawn_number}
 use Rattle.rx_muting.specs.Draws.{state_after, draw_of}
-use Rattle.rx_muting.specs.Muting.{lowered_maxima, silent_fields}
+use Rattle.rx_muting.specs.Muting.{lowered_maxima}
 use Rattle.rx_noise.specs.Noise.{noise_grids, noise_pulses, noise_at, noise_of}
 
 abbrev descriptor : Fields

@@ -3,7 +3,8 @@
 use Rattle.std.specs.Prelude.{ℕ, ◌+◌, ◌*◌, if◌then◌else◌, nat_le, List, [], ◌∷◌, map, replicate}
 use Rattle.std.specs.List.{range_with_len}
 use Rattle.trau_params.specs.Fields.{Fields}
-use Rattle.rx_muting.specs.Muting.{lowered_maxima, silent_fields}
+use Rattle.trau_params.specs.Silence.{silent_fields}
+use Rattle.rx_muting.specs.Muting.{lowered_maxima}
 
 -- the grids: the first of the fourteen draws of each block
 unfoldable pub noise_grids : (ℕ → ℕ → ℕ) → List ℕ

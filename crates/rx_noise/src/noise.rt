@@ -16,7 +16,7 @@ const SILENT: u8 = 17;
 /// The noise frame of the silence descriptor `sid`, whose level has fallen for `fall` periods, at most 17: the
 /// spectrum and the level of the descriptor, 4 off each block maximum for each period of the fall, and grids and
 /// pulses that `draw` gives. From 17 periods on it is silence, for which nothing is drawn.
-#[tactic(auto, using(rx_muting::proofs::Silent::silence_fields), unfolding(crate::specs::Noise::noise_of))]
+#[tactic(auto, unfolding(crate::specs::Noise::noise_of))]
 pub fn noise_frame(sid: &Params, fall: u8, draw: &mut Draw) -> Params
     requires { fall ≤ 17 }
     ensures fields { fields_of result ≡ noise_of (fields_of sid.now) fall (draw_of draw.old.r) }

@@ -1,9 +1,10 @@
 -- Worked values of a frame with each block maximum 20, in call 7.
 use Rattle.std.proofs.Common.{◌≡◌, refl, [], ◌∷◌, replicate}
 use Rattle.trau_params.specs.Fields.{Fields}
+use Rattle.trau_params.specs.Silence.{silent_fields}
 use Rattle.trau_num.specs.Random.{next_state, drawn_number}
 use Rattle.rx_muting.specs.Draws.{state_after, draw_of}
-use Rattle.rx_muting.specs.Muting.{lowered_maxima, silent_fields}
+use Rattle.rx_muting.specs.Muting.{lowered_maxima}
 use Rattle.rx_subst.specs.Lost.{random_grids, muted_of, lost_of}
 
 abbrev good : Fields

@@ -3,7 +3,8 @@
 use Rattle.std.specs.Prelude.{ℕ, ◌-◌, if◌then◌else◌, nat_le, List, map}
 use Rattle.std.specs.List.{range_with_len}
 use Rattle.trau_params.specs.Fields.{Fields}
-use Rattle.rx_muting.specs.Muting.{lowered_maxima, silent_fields}
+use Rattle.trau_params.specs.Silence.{silent_fields}
+use Rattle.rx_muting.specs.Muting.{lowered_maxima}
 
 -- a grid for each block, one draw each
 unfoldable pub random_grids : (ℕ → ℕ → ℕ) → List ℕ

@@ -16,7 +16,7 @@ const SILENT: u8 = 17;
 /// The frame for the `n`-th lost period after the good frame `last`, 1 to 17: the good frame itself in the first; in
 /// the next its block maxima less by 4 for each period since, with grids that `draw` gives; silence in the 17th. In
 /// the first and the 17th nothing is drawn.
-#[tactic(auto, using(rx_muting::proofs::Silent::silence_fields), unfolding(crate::specs::Lost::lost_of, rx_muting::specs::Draws::state_after))]
+#[tactic(auto, unfolding(crate::specs::Lost::lost_of, rx_muting::specs::Draws::state_after))]
 pub fn lost_frame(last: &Params, n: u8, draw: &mut Draw) -> Params
     requires low { 1 ≤ n }
     requires high { n ≤ 17 }

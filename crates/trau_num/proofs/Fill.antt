@@ -1,7 +1,8 @@
 -- Lists of a fixed size that a loop fills: `f k` at each place k.
-use Rattle.std.proofs.Common.{◌≡◌, ℕ, ◌+◌, ◌<◌, ◌≤◌, get_or, set, length, map, List, ◌∙◌, arith}
+use Rattle.std.proofs.Common.{◌≡◌, ℕ, ◌+◌, ◌<◌, ◌≤◌, get_or, set, length, map, List, ◌∙◌, inl, inr, arith}
 use Rattle.std.specs.List.{range_with_len}
-use Rattle.std.proofs.lemmas.List.{length-set}
+use Rattle.std.proofs.lemmas.Bool.{cases_eq}
+use Rattle.std.proofs.lemmas.List.{length-set, get_or-set_same, get_or-set_other}
 use Rattle.std.proofs.lemmas.List.Edits.{fill_by_more}
 use Rattle.std.proofs.lemmas.List.FromFn.{fill_by_all}
 
@@ -28,3 +29,11 @@ fill_next d f xs n i x l h e =
 pub fill_all : {X : Type 0} (d : X) (f : ℕ → X) (xs : List X) (n i : ℕ) →
     n ≤ i → Filled d f xs n i → xs ≡ map f (range_with_len 0 n)
 fill_all d f xs n i l h = fill_by_all f xs n d h.count (λ k b. let within : k < i = omega arith in h.each k within)
+
+-- what each of the first i places meets, the next one filled meets too
+pub each_next : {X : Type 0} (P : ℕ → X → Type 0) (d : X) (xs : List X) (i : ℕ) (x : X) → i < length xs → P i x →
+    ((k : ℕ) → k < i → P k (get_or xs k d)) → (k : ℕ) → k < i + 1 → P k (get_or (set xs i x) k d)
+each_next P d xs i x l here h k m = elim (cases_eq k i) [
+  | inl e ↦ rw (e, get_or-set_same xs i x d l) here
+  | inr n ↦ rw (get_or-set_other xs i k x d n) (h k (omega arith))
+]

@@ -1,5 +1,5 @@
 -- Saturating arithmetic: each operation of GSM 06.10, section 4, is the exact whole number, clamped to its type.
-use Rattle.std.specs.Prelude.{ℕ, ◌*◌, ◌/◌, ◌^◌, ℤ, pos, ◌+ℤ◌, ◌-ℤ◌, ◌*ℤ◌, unsigned_abs, nat_eq, nat_lt, count_by, if◌then◌else◌}
+use Rattle.std.specs.Prelude.{ℕ, ◌*◌, ◌/◌, ◌^◌, ℤ, pos, ◌+ℤ◌, ◌-ℤ◌, ◌*ℤ◌, unsigned_abs, nat_eq, nat_lt, count_by, if◌then◌else◌, List, slice_index_or}
 use Rattle.std.specs.Int.{w16, w32, saturate_signed, int_shr}
 use Rattle.std.specs.List.{range_with_len}
 
@@ -60,3 +60,7 @@ l_mult_of a b = clamp32 (a *ℤ b *ℤ pos 2)
 -- norm: how many of the shifts by 0 to 29 leave v below 2^30; one shift for each of them brings v to 2^30 or above
 unfoldable pub norm_of : ℕ → ℕ
 norm_of v = count_by (λ k. nat_lt (v * 2 ^ k) (2 ^ 30)) (range_with_len 0 30)
+
+-- the number at place i of a list
+abbrev pub entry : List ℤ → ℕ → ℤ
+entry xs i = slice_index_or xs i (pos 0)

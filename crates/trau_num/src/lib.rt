@@ -1,10 +1,10 @@
 //! Saturating arithmetic of the full rate codec (GSM 06.10, section 4), and this project's random source.
 //!
-//! The lowest crate: every stage of the codec, the receive side and the transmit side compute with
-//! these calls. Each is the exact whole number, clamped to its type; that of -32768 and -32768 is no
-//! case of its own, since the clamp gives it. `words` has the operations on 16 bits, `long_words`
-//! those on 32 bits, `products` the sums of a word and a rounded product that the filters are made of,
-//! `wide` the same on words that are kept in 32 bits, `random` the random source.
+//! The lowest crate: every stage of the codec computes with these calls, and the receive side draws
+//! from the source. Each operation is the exact whole number, clamped to its type; that of -32768 and
+//! -32768 is no case of its own, since the clamp gives it. `words` has the operations on 16 bits,
+//! `long_words` those on 32 bits, `products` the sum of a word and a rounded product that filters are
+//! made of, `wide` the same on words that are kept in 32 bits, `random` the random source.
 //!
 //! Definitions: `specs/Num.antt` and `specs/Random.antt`. `proofs/Fill.antt` has lemmas for lists of a
 //! fixed size that a loop fills place by place; the crates above share them.
@@ -16,8 +16,8 @@ mod random;
 mod wide;
 mod words;
 
-pub use long_words::{clamp_long, l_add, l_mult, l_sub, norm};
-pub use products::{minus, plus, product, scaled};
+pub use long_words::{l_add, l_mult, l_sub, norm};
+pub use products::{plus, product, scaled};
 pub use random::Draw;
-pub use wide::{clamp_wide, minus_wide, plus_wide, scaled_wide};
+pub use wide::{minus_wide, plus_wide};
 pub use words::{abs16, add, clamp, div_q15, mult, mult_r, shl16, sub};

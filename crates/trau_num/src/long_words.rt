@@ -5,14 +5,14 @@ ghost use Rattle.trau_num.specs.Num.{clamp32, l_add_of, l_sub_of, l_mult_of, nor
 
 use crate::products::full_product;
 
-/// The long word that is nearest.
-pub fn clamp_long(x: i64) -> i32
+// The long word that is nearest.
+fn clamp_long(x: i64) -> i32
     ensures { result ≡ clamp32 x }
 {
     x.clamp(i64::from(i32::MIN), i64::from(i32::MAX)) as i32
 }
 
-/// The sum.
+/// The sum, clamped to 32 bits.
 #[tactic(auto, unfolding(crate::specs::Num::l_add_of))]
 pub fn l_add(a: i32, b: i32) -> i32
     ensures { result ≡ l_add_of a b }
@@ -20,7 +20,7 @@ pub fn l_add(a: i32, b: i32) -> i32
     clamp_long(i64::from(a) + i64::from(b))
 }
 
-/// The difference.
+/// The difference, clamped to 32 bits.
 #[tactic(auto, unfolding(crate::specs::Num::l_sub_of))]
 pub fn l_sub(a: i32, b: i32) -> i32
     ensures { result ≡ l_sub_of a b }

@@ -1,10 +1,10 @@
-//! Products in 32 bits, and the sums of a word and a rounded product that filters are made of.
+//! Products in 32 bits, and the sum of a word and a rounded product that filters are made of.
 //!
 //! A factor above -32768, such as each reflection coefficient of the codec, keeps a rounded product
 //! within a word; so no clamp is needed between product and sum.
 
 ghost use Rattle.std.specs.Prelude.{◌≡◌, ℕ, ◌^◌, ◌≤◌, pos, neg_ℤ, ◌*ℤ◌, ◌≤ℤ◌, unsigned_abs};
-ghost use Rattle.trau_num.specs.Num.{add_of, sub_of, mult_r_of};
+ghost use Rattle.trau_num.specs.Num.{add_of, mult_r_of};
 
 use crate::words::clamp;
 
@@ -42,13 +42,4 @@ pub fn plus(base: i16, factor: i16, value: i16) -> i16
     ensures { result ≡ add_of base (mult_r_of factor value) }
 {
     clamp(i32::from(base) + scaled(factor, value))
-}
-
-/// The word `base` less a rounded product.
-#[tactic(auto, unfolding(crate::specs::Num::sub_of))]
-pub fn minus(base: i16, factor: i16, value: i16) -> i16
-    requires { neg_ℤ (pos 32767) ≤ℤ factor }
-    ensures { result ≡ sub_of base (mult_r_of factor value) }
-{
-    clamp(i32::from(base) - scaled(factor, value))
 }

@@ -6,6 +6,7 @@ ghost use Rattle.trau_num.specs.Random.{next_state, drawn_number};
 /// The random source of a call, which starts at the call's number.
 #[derive(Clone, Copy, Debug, PartialEq, Eq)]
 pub struct Draw {
+    /// The state: any word of 16 bits.
     pub r: u16,
 }
 

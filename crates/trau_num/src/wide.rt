@@ -8,8 +8,8 @@ ghost use Rattle.trau_num.specs.Num.{clamp16, add_of, sub_of, mult_r_of};
 
 use crate::words::clamp;
 
-/// The word that is nearest, for values that seldom lie outside.
-pub fn clamp_wide(x: i32) -> i32
+// The word that is nearest, for values that seldom lie outside.
+fn clamp_wide(x: i32) -> i32
     ensures value { result ≡ clamp16 x }
     ensures bound { unsigned_abs result ≤ 32768 }
 {
@@ -30,9 +30,9 @@ fn clamp_outside(x: i32) -> i32
     i32::from(clamp(x))
 }
 
-/// The rounded product of a factor above -32768 and a word.
+// The rounded product of a factor above -32768 and a word.
 #[tactic(auto, unfolding(crate::specs::Num::mult_r_of))]
-pub fn scaled_wide(factor: i32, value: i32) -> i32
+fn scaled_wide(factor: i32, value: i32) -> i32
     requires factor { unsigned_abs factor ≤ 32767 }
     requires value { unsigned_abs value ≤ 32768 }
     ensures value { result ≡ mult_r_of factor value }

@@ -12,7 +12,7 @@ pub fn clamp(x: i32) -> i16
     x.clamp(i32::from(i16::MIN), i32::from(i16::MAX)) as i16
 }
 
-/// The sum.
+/// The sum, clamped to 16 bits.
 #[tactic(auto, unfolding(crate::specs::Num::add_of))]
 pub fn add(a: i16, b: i16) -> i16
     ensures { result ≡ add_of a b }
@@ -20,7 +20,7 @@ pub fn add(a: i16, b: i16) -> i16
     clamp(i32::from(a) + i32::from(b))
 }
 
-/// The difference.
+/// The difference, clamped to 16 bits.
 #[tactic(auto, unfolding(crate::specs::Num::sub_of))]
 pub fn sub(a: i16, b: i16) -> i16
     ensures { result ≡ sub_of a b }
@@ -28,7 +28,7 @@ pub fn sub(a: i16, b: i16) -> i16
     clamp(i32::from(a) - i32::from(b))
 }
 
-/// The product of two fractions of 15 bits, rounded down.
+/// The product of two fractions of 15 bits, rounded down; 32767 for -32768 and -32768.
 #[tactic(auto, unfolding(crate::specs::Num::mult_of))]
 pub fn mult(a: i16, b: i16) -> i16
     ensures { result ≡ mult_of a b }
@@ -36,7 +36,7 @@ pub fn mult(a: i16, b: i16) -> i16
     clamp(full_product(a, b) >> 15)
 }
 
-/// The product of two fractions of 15 bits, rounded to the nearest.
+/// The product of two fractions of 15 bits, rounded to the nearest; 32767 for -32768 and -32768.
 #[tactic(auto, unfolding(crate::specs::Num::mult_r_of))]
 pub fn mult_r(a: i16, b: i16) -> i16
     ensures { result ≡ mult_r_of a b }
@@ -44,16 +44,17 @@ pub fn mult_r(a: i16, b: i16) -> i16
     clamp((full_product(a, b) + 16384) >> 15)
 }
 
-/// The magnitude.
+/// The magnitude; 32767 for -32768.
 #[tactic(auto, unfolding(crate::specs::Num::abs_of))]
 pub fn abs16(a: i16) -> i16
     ensures value { result ≡ abs_of a }
     ensures not_negative { pos 0 ≤ℤ result }
 {
-    if a == i16::MIN { i16::MAX } else { a.abs() }
+    a.saturating_abs()
 }
 
-/// The quotient of two fractions of 15 bits, of which the second isn't the lesser, rounded down.
+/// The quotient of two fractions of 15 bits, of which the second isn't the lesser, rounded down: 32767 where
+/// they are equal, and 0 for 0 and 0.
 #[tactic(auto, unfolding(crate::specs::Num::div_of))]
 pub fn div_q15(num: i16, den: i16) -> i16
     requires not_negative { pos 0 ≤ℤ num }
@@ -68,7 +69,7 @@ pub fn div_q15(num: i16, den: i16) -> i16
     quotient.min(32767) as i16
 }
 
-/// The word times 2 to the power of `n`, which is at most 15.
+/// The word times 2 to the power of `n`, which is at most 15; clamped to 16 bits.
 #[tactic(auto, unfolding(crate::specs::Num::shl_of))]
 pub fn shl16(a: i16, n: u8) -> i16
     requires { n ≤ 15 }

@@ -2,7 +2,7 @@
 use Rattle.std.specs.Prelude.{ℕ, ◌+◌, ◌*◌, ◌^◌, List, map, sum, take, slice_index}
 use Rattle.std.specs.List.{range_with_len}
 use Rattle.trau_params.specs.declared.params.Params.{Params}
-use Rattle.trau_params.specs.Widths.{larc_widths, nc_width, bc_width, mc_width, xmaxc_width, xmc_width}
+use Rattle.trau_params.specs.Widths.{larc_widths, nc_width, bc_width, mc_width, xmaxc_width, xmc_width, block_size, nc_offset, bc_offset, mc_offset, xmaxc_offset, xmc_offset}
 
 -- the fields: LARc 1 to 8, and of each of the four blocks lag, gain, grid, block maximum and thirteen pulses
 pub record Fields : Type 0 where
@@ -21,17 +21,21 @@ fields_of p = record { larc = p.larc; nc = p.nc; bc = p.bc; mc = p.mc; xmaxc = p
 unfoldable pub number_at : List ℕ → ℕ → ℕ → ℕ
 number_at bits offset width = sum (map (λ t. slice_index bits (offset + t) * 2 ^ t) (range_with_len 0 width))
 
--- the field of each of the four blocks, 56 bits apart
+-- the field of each of the four blocks, which stand one behind the other
 abbrev pub block_numbers : List ℕ → ℕ → ℕ → List ℕ
-block_numbers bits offset width = map (λ j. number_at bits (offset + 56 * j) width) (range_with_len 0 4)
+block_numbers bits offset width = map (λ j. number_at bits (offset + block_size * j) width) (range_with_len 0 4)
+
+-- the thirteen pulses from `offset` on
+abbrev pub pulse_numbers : List ℕ → ℕ → List ℕ
+pulse_numbers bits offset = map (λ i. number_at bits (offset + xmc_width * i) xmc_width) (range_with_len 0 13)
 
 -- the fields that 260 bits carry
 unfoldable pub fields_in : List ℕ → Fields
 fields_in bits = record {
   larc = map (λ i. number_at bits (sum (take i larc_widths)) (slice_index larc_widths i)) (range_with_len 0 8);
-  nc = block_numbers bits 36 nc_width;
-  bc = block_numbers bits 43 bc_width;
-  mc = block_numbers bits 45 mc_width;
-  xmaxc = block_numbers bits 47 xmaxc_width;
-  xmc = map (λ j. map (λ i. number_at bits (53 + 56 * j + 3 * i) xmc_width) (range_with_len 0 13)) (range_with_len 0 4);
+  nc = block_numbers bits nc_offset nc_width;
+  bc = block_numbers bits bc_offset bc_width;
+  mc = block_numbers bits mc_offset mc_width;
+  xmaxc = block_numbers bits xmaxc_offset xmaxc_width;
+  xmc = map (λ j. pulse_numbers bits (xmc_offset + block_size * j)) (range_with_len 0 4);
 }

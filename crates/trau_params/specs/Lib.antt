@@ -3,6 +3,7 @@ pub mod Block
 pub mod FieldBits
 pub mod Fields
 pub mod Places
+pub mod Ratios
 pub mod Shape
 pub mod Silence
 pub mod Widths

@@ -1,16 +1,18 @@
 -- The frame that stands for silence (this project's profile).
-use Rattle.std.specs.Prelude.{◌≡◌, ℕ, List, [], ◌∷◌, replicate}
-use Rattle.trau_params.specs.declared.params.Params.{Params}
+use Rattle.std.specs.Prelude.{ℕ, List, [], ◌∷◌, replicate}
+use Rattle.trau_params.specs.Fields.{Fields}
 
 -- the thirteen pulses of each of its blocks
 abbrev pub silent_pulses : List ℕ
 silent_pulses = 3 ∷ 4 ∷ 3 ∷ 4 ∷ 4 ∷ 3 ∷ 3 ∷ 3 ∷ 3 ∷ 4 ∷ 4 ∷ 3 ∷ 3 ∷ []
 
--- the frame is the one of silence
-pub record IsSilence (p : Params) : Type 0 where
-  pub larc : p.larc ≡ 42 ∷ 39 ∷ 21 ∷ 10 ∷ 9 ∷ 4 ∷ 3 ∷ 2 ∷ []
-  pub nc : p.nc ≡ replicate 4 40
-  pub bc : p.bc ≡ replicate 4 0
-  pub mc : p.mc ≡ replicate 4 1
-  pub xmaxc : p.xmaxc ≡ replicate 4 0
-  pub xmc : p.xmc ≡ replicate 4 silent_pulses
+-- its fields
+abbrev pub silent_fields : Fields
+silent_fields = record {
+  larc = 42 ∷ 39 ∷ 21 ∷ 10 ∷ 9 ∷ 4 ∷ 3 ∷ 2 ∷ [];
+  nc = replicate 4 40;
+  bc = replicate 4 0;
+  mc = replicate 4 1;
+  xmaxc = replicate 4 0;
+  xmc = replicate 4 silent_pulses;
+}

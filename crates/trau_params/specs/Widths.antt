@@ -1,5 +1,5 @@
--- The widths of the fields of a frame, in bits and in the order in which the fields stand (GSM 06.10, table 1.1).
-use Rattle.std.specs.Prelude.{ℕ, ◌^◌, ◌<◌, List, [], ◌∷◌, replicate, All, slice_index}
+-- The widths and offsets of the fields of a frame, in bits and in the order in which the fields stand (GSM 06.10, table 1.1).
+use Rattle.std.specs.Prelude.{ℕ, ◌+◌, ◌^◌, ◌<◌, List, [], ◌∷◌, replicate, sum, All, slice_index}
 
 -- LARc 1 to 8
 abbrev pub larc_widths : List ℕ
@@ -26,6 +26,29 @@ pulse_widths = replicate 13 xmc_width
 
 abbrev pub block_widths : List ℕ
 block_widths = nc_width ∷ bc_width ∷ mc_width ∷ xmaxc_width ∷ pulse_widths
+
+-- how many bits the eight LARc have, and each block
+abbrev pub larc_size : ℕ
+larc_size = sum larc_widths
+
+abbrev pub block_size : ℕ
+block_size = sum block_widths
+
+-- where the fields of the first block stand: each behind the one before it, the first behind the LARc
+abbrev pub nc_offset : ℕ
+nc_offset = larc_size
+
+abbrev pub bc_offset : ℕ
+bc_offset = nc_offset + nc_width
+
+abbrev pub mc_offset : ℕ
+mc_offset = bc_offset + bc_width
+
+abbrev pub xmaxc_offset : ℕ
+xmaxc_offset = mc_offset + mc_width
+
+abbrev pub xmc_offset : ℕ
+xmc_offset = xmaxc_offset + xmaxc_width
 
 -- each LARc fits its width
 abbrev pub FitLarc : List ℕ → Type 0

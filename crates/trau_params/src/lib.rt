@@ -4,17 +4,20 @@
 //! repeat, weaken and average it. The 260 bits are what a TRAU frame carries as bits D1 to D260.
 //! `params` has the frame of parameters, `silent_frame` the one of silence, `trace` what the encoder tells
 //! beside a frame, `block` one quarter of a frame, `fields` the bits of single fields, `widths` the table of
-//! widths, `laws` the laws.
+//! widths, `ratios` the numbers that the coder and the decoder of LARc share, `laws` the laws.
 //!
-//! Definitions: `specs/Widths.antt` (the table of widths), `specs/FieldBits.antt` (the bits of fields),
-//! `specs/Bits260.antt` (the 260 bits of a frame), `specs/Places.antt` (the same by absolute places),
-//! `specs/Fields.antt` (the fields as plain lists, and those that 260 bits carry), `specs/Silence.antt`.
+//! Definitions: `specs/Widths.antt` (the widths and offsets of the fields), `specs/FieldBits.antt` (the bits of
+//! fields), `specs/Bits260.antt` (the 260 bits of a frame), `specs/Places.antt` (the same by absolute places),
+//! `specs/Fields.antt` (the fields as plain lists, and those that 260 bits carry), `specs/Silence.antt`,
+//! `specs/Ratios.antt` (offsets and least values of the ratios); `specs/Block.antt` (one block by itself),
+//! `specs/Shape.antt` (the lengths of the arrays).
 #![tactic(auto)]
 
 mod block;
 mod fields;
 mod laws;
 mod params;
+pub mod ratios;
 mod silent_frame;
 mod trace;
 mod widths;

@@ -11,11 +11,17 @@ use crate::widths::{BLOCK_BITS, LARC_BITS};
 /// gain, the grid, the block maximum and thirteen pulses.
 #[derive(Clone, Copy, Debug, PartialEq, Eq)]
 pub struct Params {
+    /// LARc 1 to 8, of 6, 6, 5, 5, 4, 4, 3 and 3 bits.
     pub larc: [u8; 8],
+    /// Nc, the lag of each block, 7 bits; an encoder gives 40 to 120.
     pub nc: [u8; 4],
+    /// bc, the code of its gain, 2 bits.
     pub bc: [u8; 4],
+    /// Mc, its grid position, 2 bits.
     pub mc: [u8; 4],
+    /// xmaxc, its coded maximum, 6 bits.
     pub xmaxc: [u8; 4],
+    /// xMc, the codes of its thirteen pulses, 3 bits each.
     pub xmc: [[u8; 13]; 4],
     pub ghost larc_fit: { FitLarc larc },
     pub ghost nc_fit: { FitWidth nc_width nc },
@@ -97,8 +103,8 @@ impl Params {
         }
     }
 
-    /// The lengths of the arrays, for proofs: that of a row of pulses shows only where the row is read.
-    pub fn shape(self)
+    // The lengths of the arrays, for proofs: that of a row of pulses shows only where the row is read.
+    pub(crate) fn shape(self)
         ensures { HasShape self }
     {
         let _first = self.block(0);

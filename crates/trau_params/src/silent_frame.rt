@@ -1,12 +1,14 @@
 //! The frame that stands for silence (this project's profile).
 
-ghost use Rattle.trau_params.specs.Silence.{IsSilence};
+ghost use Rattle.std.specs.Prelude.{◌≡◌};
+ghost use Rattle.trau_params.specs.Fields.{fields_of};
+ghost use Rattle.trau_params.specs.Silence.{silent_fields};
 
 use crate::params::Params;
 
 /// The frame that is decoded where nothing else is at hand.
 pub fn silence() -> Params
-    ensures { IsSilence result }
+    ensures { fields_of result ≡ silent_fields }
 {
     let pulses = [3, 4, 3, 4, 4, 3, 3, 3, 3, 4, 4, 3, 3];
     Params {

@@ -6,7 +6,9 @@ ghost use Rattle.std.specs.Prelude.{pos, ◌≤ℤ◌, All};
 /// and the four block maxima.
 #[derive(Clone, Copy, Debug, PartialEq, Eq)]
 pub struct Trace {
+    /// LAR 1 to 8, before they were coded (GSM 06.10, section 4.2.6).
     pub lar: [i16; 8],
+    /// xmax of each block, 0 to 32767, before it was coded (GSM 06.10, section 4.2.15).
     pub xmax: [i16; 4],
     pub ghost xmax_not_negative: { All (λ x. pos 0 ≤ℤ x) xmax },
 }

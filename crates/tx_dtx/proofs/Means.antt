@@ -3,7 +3,7 @@ use Rattle.std.proofs.Common.{◌≡◌, ℕ, ℤ, pos, ◌+ℤ◌, ◌≤ℤ◌
 use Rattle.std.specs.List.{range_with_len}
 use Rattle.std.proofs.lemmas.Int.{ints}
 use Rattle.std.proofs.lemmas.List.Elements.{All-head, All-tail}
-use Rattle.fr_lpc.specs.Scaling.{entry}
+use Rattle.trau_num.specs.Num.{entry}
 use Rattle.tx_dtx.specs.Stretch.{Measures}
 use Rattle.tx_dtx.specs.SilenceDescriptor.{total, mean_ratio, mean_maximum, sid_of}
 use Rattle.trau_params.specs.Fields.{Fields}

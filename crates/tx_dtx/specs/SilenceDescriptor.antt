@@ -1,9 +1,8 @@
 -- The silence descriptor (SID) of four frames (GSM 06.12; the numbers are this project's profile).
 use Rattle.std.specs.Prelude.{ℕ, ℤ, pos, ◌+ℤ◌, List, [], ◌∷◌, map, replicate, unsigned_abs}
 use Rattle.std.specs.List.{range_with_len}
-use Rattle.trau_num.specs.Num.{floor_shr}
+use Rattle.trau_num.specs.Num.{floor_shr, entry}
 use Rattle.trau_params.specs.Fields.{Fields}
-use Rattle.fr_lpc.specs.Scaling.{entry}
 use Rattle.fr_lpc.specs.Ratios.{ratio_codes}
 use Rattle.fr_rpe.specs.Quantisation.{coded_maximum}
 use Rattle.tx_dtx.specs.Stretch.{Measures}

@@ -2,9 +2,8 @@
 
 ghost use Rattle.std.specs.Prelude.{◌≡◌, ℕ, pos, neg_ℤ, ◌+ℤ◌, ◌≤ℤ◌, [], ◌∷◌, map};
 ghost use Rattle.std.specs.List.{range_with_len};
-ghost use Rattle.trau_num.specs.Num.{floor_shr};
+ghost use Rattle.trau_num.specs.Num.{floor_shr, entry};
 ghost use Rattle.trau_params.specs.Fields.{fields_of};
-ghost use Rattle.fr_lpc.specs.Scaling.{entry};
 ghost use Rattle.tx_dtx.specs.Stretch.{measures_of};
 ghost use Rattle.tx_dtx.specs.SilenceDescriptor.{total, mean_ratio, mean_maximum, sid_of};
 

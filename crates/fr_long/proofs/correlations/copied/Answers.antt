@@ -3,8 +3,7 @@ use Rattle.std.proofs.lemmas.Int.{ints, to_z-of_z}
 use Rattle.std.proofs.lemmas.Simd.{pick_l_whole}
 use Rattle.std.proofs.lemmas.List.{get_or_past}
 use Rattle.std.proofs.lemmas.Bool.{cases_lt}
-use Rattle.trau_num.proofs.Fill.{fill_next, fill_all}
-use Rattle.fr_long.proofs.Blocks.{each_next}
+use Rattle.trau_num.proofs.Fill.{fill_next, fill_all, each_next}
 use Rattle.fr_long.proofs.correlations.copied.Goals as goal
 
 pub loop-k-preserved : goal.loop-k-preserved
@@ -12,7 +11,7 @@ loop-k-preserved c =
     let fits : FitsSigned w16 (get_or c.args.earlier.now c.loop-k.k (pos 0)) = search rules in
     simp to_z-of_z (record {
       filled = fill_next (pos 0) _ c.loop-k.copy 120 c.loop-k.k _ c.loop-k-test.true c.loop-k.invariant.filled refl;
-      words = each_next (FitsSigned w16) c.loop-k.copy c.loop-k.k _ (omega arith) c.loop-k.invariant.words fits;
+      words = each_next (λ k. FitsSigned w16) (pos 0) c.loop-k.copy c.loop-k.k _ (omega arith) fits c.loop-k.invariant.words;
     })
 
 pub returns-clause-value : goal.returns-clause-value

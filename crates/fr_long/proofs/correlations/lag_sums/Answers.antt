@@ -5,8 +5,7 @@ use Rattle.std.proofs.lemmas.Int.{ints}
 use Rattle.std.proofs.lemmas.Simd.{Each1-weaker, length-zip2}
 use Rattle.std.proofs.lemmas.List.{length-map}
 use Rattle.fr_long.specs.Lanes.{sums_of_pairs}
-use Rattle.trau_num.specs.Num.{l_mult_of}
-use Rattle.fr_long.specs.Scaling.{sample}
+use Rattle.trau_num.specs.Num.{l_mult_of, entry}
 use Rattle.fr_long.specs.Synthesis.{sample_before}
 use Rattle.fr_long.specs.Lag.{correlation_of}
 use Rattle.fr_long.proofs.Lanes.{Within, scaled_all, row, length_pairs, pairs_within, product_at, passed_scaled_within, passed_words_within, row_passed, row_within, row_length, lanes_passed, next_within, next_passed, eight_more, doubled_sum, doubled_term, words_more}
@@ -73,7 +72,7 @@ returns-clause-value c =
     let words = c.loop-block.invariant.words in
     let terms = λ (k : ℕ). doubled_term c.args.wt.now c.args.earlier.now c.args.lag k (omega arith) (omega arith) (omega arith) c.requires.scaled (λ b. words k (omega arith)) in
     ap (λ z. z *ℤ pos 2) (c.loop-block.invariant.value ∙ ap (λ n. fold ◌+ℤ◌ (pos 0) (map (product_at c.args.wt.now c.args.earlier.now (120 - c.args.lag)) (range_with_len 0 n))) last) ∙
-    doubled_sum (product_at c.args.wt.now c.args.earlier.now (120 - c.args.lag)) (λ k. l_mult_of (sample c.args.wt.now k) (sample_before c.args.earlier.now c.args.lag k)) terms (range_with_len 0 40) (pos 0) (pos 0) refl
+    doubled_sum (product_at c.args.wt.now c.args.earlier.now (120 - c.args.lag)) (λ k. l_mult_of (entry c.args.wt.now k) (sample_before c.args.earlier.now c.args.lag k)) terms (range_with_len 0 40) (pos 0) (pos 0) refl
 
 pub returns-clause-small : goal.returns-clause-small
 returns-clause-small c =

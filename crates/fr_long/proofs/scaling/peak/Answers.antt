@@ -2,8 +2,8 @@ use Rattle.std.proofs.Common.{◌≡◌, ◌≤ℤ◌, get_or, pos, rules, arith
 use Rattle.std.specs.Int.{int_max}
 use Rattle.std.specs.Ordering.{ord_max}
 use Rattle.std.proofs.lemmas.Int.{to_z-of_z, ints, clamps}
-use Rattle.trau_num.specs.Num.{abs_of}
-use Rattle.fr_long.specs.Scaling.{sample, peak_of}
+use Rattle.trau_num.specs.Num.{abs_of, entry}
+use Rattle.fr_long.specs.Scaling.{peak_of}
 use Rattle.fr_long.proofs.Blocks.{fold_more}
 use Rattle.fr_long.proofs.scaling.peak.Goals as goal
 
@@ -31,9 +31,9 @@ loop-k-preserved c =
     let grown = bounds (to_z w16 c.loop-k.peak-bits) (abs_of (get_or c.args.d.now c.loop-k.k (pos 0))) c.max-peak.result e c.loop-k.invariant.not_negative in
     simp to_z-of_z (record {
       value = e ∙ ap (λ s. int_max s (abs_of (get_or c.args.d.now c.loop-k.k (pos 0)))) c.loop-k.invariant.value ∙
-          sym (fold_more int_max (λ k. abs_of (sample c.args.d.now k)) c.loop-k.k);
+          sym (fold_more int_max (λ k. abs_of (entry c.args.d.now k)) c.loop-k.k);
       not_negative = grown.0;
-      greatest = below_more (λ k. abs_of (sample c.args.d.now k) ≤ℤ c.max-peak.result) c.loop-k.k (λ k l. grown.2 _ (c.loop-k.invariant.greatest k l)) grown.1;
+      greatest = below_more (λ k. abs_of (entry c.args.d.now k) ≤ℤ c.max-peak.result) c.loop-k.k (λ k l. grown.2 _ (c.loop-k.invariant.greatest k l)) grown.1;
     })
 
 pub returns-clause-value : goal.returns-clause-value

@@ -1,9 +1,9 @@
 use Rattle.std.proofs.Common.{◌≤◌, get_or, pos, rules, arith, refl, unsigned_abs, FitsSigned, w16}
 use Rattle.std.proofs.lemmas.Int.{to_z-of_z}
 use Rattle.trau_num.specs.Num.{floor_shr}
-use Rattle.trau_num.proofs.Fill.{fill_next, fill_all}
+use Rattle.trau_num.proofs.Fill.{fill_next, fill_all, each_next}
 use Rattle.fr_long.specs.Scaling.{scaled_down}
-use Rattle.fr_long.proofs.Blocks.{each_next, small_word, shifted_within}
+use Rattle.fr_long.proofs.Blocks.{small_word, shifted_within}
 use Rattle.fr_long.proofs.scaling.scaled.Goals as goal
 
 pub loop-k-preserved : goal.loop-k-preserved
@@ -14,7 +14,7 @@ loop-k-preserved c =
     let f : FitsSigned w16 (floor_shr (get_or c.args.d.now c.loop-k.k (pos 0)) c.args.scal) = small_word (floor_shr (get_or c.args.d.now c.loop-k.k (pos 0)) c.args.scal) (omega (arith, small)) in
     simp to_z-of_z (record {
       filled = fill_next (pos 0) _ c.loop-k.wt 40 c.loop-k.k _ c.loop-k-test.true c.loop-k.invariant.filled refl;
-      scaled = each_next (λ w. unsigned_abs w ≤ 512) c.loop-k.wt c.loop-k.k _ (omega arith) c.loop-k.invariant.scaled small;
+      scaled = each_next (λ k w. unsigned_abs w ≤ 512) (pos 0) c.loop-k.wt c.loop-k.k _ (omega arith) small c.loop-k.invariant.scaled;
     })
 
 pub returns-clause-value : goal.returns-clause-value

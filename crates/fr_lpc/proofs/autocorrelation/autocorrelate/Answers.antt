@@ -1,10 +1,9 @@
 use Rattle.std.proofs.Common.{◌≡◌, ◌<◌, ◌≤◌, ℕ, ℤ, pos, refl, unsigned_abs, arith, FitsSigned, w32}
 use Rattle.std.proofs.lemmas.Int.{to_z-of_z}
-use Rattle.trau_num.proofs.Fill.{fill_none, fill_next, fill_all}
-use Rattle.fr_lpc.specs.Scaling.{entry}
+use Rattle.trau_num.proofs.Fill.{fill_none, fill_next, fill_all, each_next}
+use Rattle.trau_num.specs.Num.{entry}
 use Rattle.fr_lpc.specs.Autocorrelation.{autocorrelation_of, autocorrelations_of}
 use Rattle.fr_lpc.proofs.Energy.{greatest_first}
-use Rattle.fr_lpc.proofs.Places.{each_next}
 use Rattle.fr_lpc.proofs.autocorrelation.autocorrelate.Goals as goal
 
 pub loop-k-init : goal.loop-k-init

@@ -1,7 +1,7 @@
 use Rattle.std.proofs.Common.{◌≡◌, ℕ, ℤ, ◌+◌, ◌-◌, ◌≤◌, pos, ◌+ℤ◌, ◌*ℤ◌, fold, map, arith, rules, ◌∙◌, ap, FitsSigned, w16, w32, to_z, of_z}
 use Rattle.std.specs.List.{range_with_len}
 use Rattle.std.proofs.lemmas.Int.{to_z-of_z, ints}
-use Rattle.fr_lpc.specs.Scaling.{entry}
+use Rattle.trau_num.specs.Num.{entry}
 use Rattle.fr_lpc.proofs.Energy.{sum_more}
 use Rattle.fr_lpc.proofs.autocorrelation.autocorrelation.Goals as goal
 

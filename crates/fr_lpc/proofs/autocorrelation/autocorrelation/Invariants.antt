@@ -1,7 +1,6 @@
 use Rattle.std.proofs.Common.{◌≡◌, ◌-◌, ◌*◌, ◌≤◌, pos, ◌+ℤ◌, ◌*ℤ◌, fold, map, unsigned_abs}
 use Rattle.std.specs.List.{range_with_len}
-use Rattle.trau_num.specs.Num.{l_mult_of}
-use Rattle.fr_lpc.specs.Scaling.{entry}
+use Rattle.trau_num.specs.Num.{l_mult_of, entry}
 use Rattle.fr_lpc.proofs.autocorrelation.autocorrelation.Given as goal
 
 abbrev pub invariant-loop-i : goal.invariant-loop-i

@@ -1,7 +1,9 @@
 use Rattle.std.proofs.Common.{◌≡◌, ◌<◌, ◌-◌, ◌^◌, pos, ◌-ℤ◌, ◌+ℤ◌, ◌≤ℤ◌, get_or, ℕ, ℤ, arith, rules, FitsSigned, w16}
 use Rattle.std.proofs.lemmas.Int.{to_z-of_z, ints}
-use Rattle.fr_lpc.specs.Scaling.{entry}
-use Rattle.fr_lpc.specs.Ratios.{least, most, code_widths}
+use Rattle.trau_num.specs.Num.{entry}
+use Rattle.trau_params.specs.Ratios.{least}
+use Rattle.trau_params.specs.Widths.{larc_widths}
+use Rattle.fr_lpc.specs.Ratios.{most}
 use Rattle.fr_lpc.proofs.Table.{least-most, span, width_bound}
 use Rattle.fr_lpc.proofs.ratios.code_at.Goals as goal
 
@@ -28,7 +30,7 @@ returns-clause-width c =
     let l : FitsSigned w16 (entry least c.args.i) = search rules in
     let m : FitsSigned w16 (entry most c.args.i) = search rules in
     let b = simp to_z-of_z at c.code.ensures.bound in
-    fits (entry least c.args.i) (entry most c.args.i) (2 ^ get_or code_widths c.args.i 0) c.code.result (span c.args.i c.requires) (least-most c.args.i c.requires) b (search rules)
+    fits (entry least c.args.i) (entry most c.args.i) (2 ^ get_or larc_widths c.args.i 0) c.code.result (span c.args.i c.requires) (least-most c.args.i c.requires) b (search rules)
 
 pub returns-clause-value : goal.returns-clause-value
 returns-clause-value c = search rules

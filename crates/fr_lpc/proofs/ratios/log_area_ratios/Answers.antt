@@ -1,7 +1,7 @@
 use Rattle.std.proofs.Common.{pos, rules, ◌∙◌, FitsSigned, w16}
 use Rattle.std.proofs.lemmas.Int.{to_z-of_z}
 use Rattle.trau_num.proofs.Fill.{fill_next, fill_all}
-use Rattle.fr_lpc.specs.Scaling.{entry}
+use Rattle.trau_num.specs.Num.{entry}
 use Rattle.fr_lpc.specs.Ratios.{ratios_of}
 use Rattle.fr_lpc.proofs.ratios.log_area_ratios.Goals as goal
 

@@ -1,6 +1,6 @@
 use Rattle.std.proofs.Common.{pos}
 use Rattle.trau_num.proofs.Fill.{Filled}
-use Rattle.fr_lpc.specs.Scaling.{entry}
+use Rattle.trau_num.specs.Num.{entry}
 use Rattle.fr_lpc.specs.Ratios.{ratio_of}
 use Rattle.fr_lpc.proofs.ratios.log_area_ratios.Given as goal
 

@@ -1,9 +1,9 @@
 use Rattle.std.proofs.Common.{ℕ, ◌<◌, ◌^◌, get_or, refl, arith, rules, FitsSigned, w16}
 use Rattle.std.proofs.lemmas.Int.{to_z-of_z}
-use Rattle.trau_num.proofs.Fill.{fill_none, fill_next, fill_all}
-use Rattle.fr_lpc.specs.Scaling.{entry}
-use Rattle.fr_lpc.specs.Ratios.{ratio_codes, code_widths}
-use Rattle.fr_lpc.proofs.Places.{each_next}
+use Rattle.trau_num.proofs.Fill.{fill_none, fill_next, fill_all, each_next}
+use Rattle.trau_num.specs.Num.{entry}
+use Rattle.trau_params.specs.Widths.{larc_widths}
+use Rattle.fr_lpc.specs.Ratios.{ratio_codes}
 use Rattle.fr_lpc.proofs.ratios.quantise.Goals as goal
 
 pub loop-i-init : goal.loop-i-init
@@ -16,7 +16,7 @@ loop-i-preserved c =
     let value = rw (to_z-of_z w16 _ ratio) at c.code_at.ensures.value in
     record {
       filled = fill_next 0 _ c.loop-i.larc 8 c.loop-i.i _ c.loop-i-test.true old.filled value;
-      widths = each_next (λ (k code : ℕ). code < 2 ^ get_or code_widths k 0) 0 c.loop-i.larc c.loop-i.i c.code_at.result (omega (arith, old.filled.count)) c.code_at.ensures.width old.widths;
+      widths = each_next (λ (k code : ℕ). code < 2 ^ get_or larc_widths k 0) 0 c.loop-i.larc c.loop-i.i c.code_at.result (omega (arith, old.filled.count)) c.code_at.ensures.width old.widths;
     }
 
 pub returns-clause-value : goal.returns-clause-value

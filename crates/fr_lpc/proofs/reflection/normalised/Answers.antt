@@ -1,9 +1,8 @@
 use Rattle.std.proofs.Common.{ℕ, ◌*◌, ◌^◌, ◌<◌, ◌≤◌, pos, ◌≤ℤ◌, ◌<ℤ◌, unsigned_abs, rules, arith, ◌∙◌, ap, ℤ, FitsSigned, w16, w32}
 use Rattle.std.proofs.lemmas.Int.{to_z-of_z, ints}
 use Rattle.std.proofs.Math.Nat.{mul-le-mul_right}
-use Rattle.trau_num.specs.Num.{floor_shr}
+use Rattle.trau_num.specs.Num.{floor_shr, entry}
 use Rattle.trau_num.proofs.Fill.{fill_next, fill_all}
-use Rattle.fr_lpc.specs.Scaling.{entry}
 use Rattle.fr_lpc.specs.Reflection.{normalised}
 use Rattle.fr_lpc.proofs.reflection.normalised.Goals as goal
 

@@ -1,7 +1,6 @@
 use Rattle.std.proofs.Common.{pos, ◌*ℤ◌, ◌^◌}
-use Rattle.trau_num.specs.Num.{floor_shr}
+use Rattle.trau_num.specs.Num.{floor_shr, entry}
 use Rattle.trau_num.proofs.Fill.{Filled}
-use Rattle.fr_lpc.specs.Scaling.{entry}
 use Rattle.fr_lpc.proofs.reflection.normalised.Given as goal
 
 abbrev pub invariant-loop-i : goal.invariant-loop-i

@@ -1,7 +1,7 @@
 use Rattle.std.proofs.Common.{◌≡◌, ◌-◌, arith, rules, ◌∙◌, pos, FitsSigned, w16}
 use Rattle.std.proofs.lemmas.Int.{to_z-of_z}
 use Rattle.std.proofs.lemmas.List.{length-set, get_or-set_other}
-use Rattle.fr_lpc.specs.Scaling.{entry}
+use Rattle.trau_num.specs.Num.{entry}
 use Rattle.fr_lpc.specs.Reflection.{p_after, k_after}
 use Rattle.fr_lpc.proofs.Recursion.{stopped, found, finished}
 use Rattle.fr_lpc.proofs.reflection.recursion.Goals as goal

@@ -1,7 +1,6 @@
 use Rattle.std.proofs.Common.{◌≡◌, ◌+◌, ◌∙◌, refl, arith, rules, FitsSigned, w16}
 use Rattle.std.proofs.lemmas.Int.{to_z-of_z}
-use Rattle.trau_num.specs.Num.{add_of, mult_r_of}
-use Rattle.fr_lpc.specs.Scaling.{entry}
+use Rattle.trau_num.specs.Num.{add_of, mult_r_of, entry}
 use Rattle.fr_lpc.specs.Reflection.{p_after, k_after}
 use Rattle.fr_lpc.proofs.Over.{over_first, over_same, over_next, over_end, next_p-within, next_k-within, next_p-past, next_k-past}
 use Rattle.fr_lpc.proofs.reflection.step.Goals as goal

@@ -1,8 +1,8 @@
 use Rattle.std.proofs.Common.{ℤ, arith, rules, refl, ◌∙◌, FitsSigned, w16}
 use Rattle.std.proofs.lemmas.Bool.{ne_eqb}
 use Rattle.std.proofs.lemmas.Int.{to_z-of_z}
-use Rattle.trau_num.specs.Num.{shl_of}
-use Rattle.fr_lpc.specs.Scaling.{entry, scaled_up}
+use Rattle.trau_num.specs.Num.{shl_of, entry}
+use Rattle.fr_lpc.specs.Scaling.{scaled_up}
 use Rattle.fr_lpc.proofs.Scaled.{over_more, over_all}
 use Rattle.fr_lpc.proofs.scaling.scale_up.Goals as goal
 

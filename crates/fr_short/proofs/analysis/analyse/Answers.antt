@@ -1,6 +1,6 @@
 use Rattle.std.proofs.Common.{◌≡◌, ℕ, ◌<◌, ◌∙◌, ap, refl, rules, length, List, ℤ, get_or, pos, FitsSigned, w16}
 use Rattle.std.proofs.lemmas.Int.{to_z-of_z}
-use Rattle.fr_short.specs.Ratios.{entry}
+use Rattle.trau_num.specs.Num.{entry}
 use Rattle.fr_short.specs.Reflection.{coefficients_of, coefficients_at, part_of}
 use Rattle.fr_short.proofs.Parts.{part_within}
 use Rattle.fr_short.proofs.BySection.{sectioned_none, sectioned_next, sectioned_all}

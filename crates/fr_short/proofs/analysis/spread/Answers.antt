@@ -1,6 +1,6 @@
 use Rattle.std.proofs.Common.{get_or, [], rules, FitsSigned, w16}
 use Rattle.std.proofs.lemmas.Int.{to_z-of_z}
-use Rattle.fr_short.specs.Ratios.{entry}
+use Rattle.trau_num.specs.Num.{entry}
 use Rattle.fr_short.specs.Reflection.{part_start}
 use Rattle.fr_short.proofs.Parts.{by_parts}
 use Rattle.fr_short.proofs.analysis.spread.Goals as goal

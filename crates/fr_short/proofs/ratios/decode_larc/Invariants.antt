@@ -1,6 +1,8 @@
 use Rattle.std.proofs.Common.{get_or, pos}
 use Rattle.trau_num.proofs.Fill.{Filled}
-use Rattle.fr_short.specs.Ratios.{entry, decoded_ratio, least, offsets, inverses}
+use Rattle.trau_num.specs.Num.{entry}
+use Rattle.trau_params.specs.Ratios.{offsets, least}
+use Rattle.fr_short.specs.Ratios.{decoded_ratio, inverses}
 use Rattle.fr_short.proofs.ratios.decode_larc.Given as goal
 
 abbrev pub invariant-loop-i : goal.invariant-loop-i

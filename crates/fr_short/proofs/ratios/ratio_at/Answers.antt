@@ -1,6 +1,8 @@
 use Rattle.std.proofs.Common.{◌∙◌, rules, FitsSigned, w16}
 use Rattle.std.proofs.lemmas.Int.{to_z-of_z}
-use Rattle.fr_short.specs.Ratios.{entry, least, offsets, inverses}
+use Rattle.trau_num.specs.Num.{entry}
+use Rattle.trau_params.specs.Ratios.{offsets, least}
+use Rattle.fr_short.specs.Ratios.{inverses}
 use Rattle.fr_short.proofs.ratios.ratio_at.Goals as goal
 
 pub returns : goal.returns

@@ -1,9 +1,8 @@
 use Rattle.std.proofs.Common.{pos, rules, ◌∙◌, FitsSigned, w16, ap, ◌≤◌, unsigned_abs, arith}
 use Rattle.std.proofs.lemmas.Int.{to_z-of_z}
-use Rattle.trau_num.proofs.Fill.{fill_next, fill_all}
-use Rattle.fr_short.specs.Ratios.{entry}
+use Rattle.trau_num.proofs.Fill.{fill_next, fill_all, each_next}
+use Rattle.trau_num.specs.Num.{entry}
 use Rattle.fr_short.specs.Reflection.{reflection_of, coefficients_of}
-use Rattle.fr_short.proofs.Each.{each_next}
 use Rattle.fr_short.proofs.reflection.coefficients.Goals as goal
 
 pub loop-i-preserved : goal.loop-i-preserved
@@ -17,7 +16,7 @@ loop-i-preserved c =
     let count = c.loop-i.invariant.filled.count in
     simp to_z-of_z (record {
       filled = fill_next (pos 0) _ c.loop-i.rs 8 c.loop-i.i c.reflection.result c.loop-i-test.true c.loop-i.invariant.filled (e ∙ ap reflection_of f);
-      factors = each_next (λ r. unsigned_abs r ≤ 32767) c.loop-i.rs c.loop-i.i c.reflection.result (omega arith) c.loop-i.invariant.factors c.reflection.ensures.bound;
+      factors = each_next (λ k r. unsigned_abs r ≤ 32767) (pos 0) c.loop-i.rs c.loop-i.i c.reflection.result (omega arith) c.reflection.ensures.bound c.loop-i.invariant.factors;
     })
 
 pub returns-clause-value : goal.returns-clause-value

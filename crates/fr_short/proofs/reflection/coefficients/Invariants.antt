@@ -1,6 +1,6 @@
 use Rattle.std.proofs.Common.{◌≤◌, unsigned_abs, pos}
 use Rattle.trau_num.proofs.Fill.{Filled}
-use Rattle.fr_short.specs.Ratios.{entry}
+use Rattle.trau_num.specs.Num.{entry}
 use Rattle.fr_short.specs.Reflection.{reflection_of, interpolated_ratio}
 use Rattle.fr_short.proofs.Each.{Each}
 use Rattle.fr_short.proofs.reflection.coefficients.Given as goal

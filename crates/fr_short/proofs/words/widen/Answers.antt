@@ -1,7 +1,7 @@
 use Rattle.std.proofs.Common.{get_or, pos, rules, arith, sym, ◌∙◌, FitsSigned, w16, w32}
 use Rattle.std.proofs.lemmas.Int.{to_z-of_z}
-use Rattle.trau_num.proofs.Fill.{fill_next}
-use Rattle.fr_short.proofs.Each.{each_next, same_words}
+use Rattle.trau_num.proofs.Fill.{fill_next, each_next}
+use Rattle.fr_short.proofs.Each.{same_words}
 use Rattle.fr_short.proofs.words.widen.Goals as goal
 
 pub loop-i-preserved : goal.loop-i-preserved
@@ -12,7 +12,7 @@ loop-i-preserved c =
     let count = c.loop-i.invariant.filled.count in
     simp to_z-of_z (record {
       filled = fill_next (pos 0) _ c.loop-i.wide 8 c.loop-i.i c.from.result c.loop-i-test.true c.loop-i.invariant.filled e;
-      words = each_next (FitsSigned w16) c.loop-i.wide c.loop-i.i c.from.result (omega arith) c.loop-i.invariant.words (rw e x);
+      words = each_next (λ k. FitsSigned w16) (pos 0) c.loop-i.wide c.loop-i.i c.from.result (omega arith) (rw e x) c.loop-i.invariant.words;
     })
 
 pub returns-clause-value : goal.returns-clause-value

@@ -1,6 +1,6 @@
 use Rattle.std.proofs.Common.{FitsSigned, ◌≡◌, pos, ◌+ℤ◌, ◌≤ℤ◌, w16, w32, arith, rules, sym, subst}
 use Rattle.std.proofs.lemmas.Int.{to_z-of_z, ints}
-use Rattle.fr_lpc.specs.Scaling.{entry}
+use Rattle.trau_num.specs.Num.{entry}
 use Rattle.tx_dtx.specs.SilenceDescriptor.{total}
 use Rattle.tx_dtx.proofs.Means.{two_sums, total-not_negative}
 use Rattle.tx_dtx.proofs.sid.maxima.Goals as goal

@@ -1,7 +1,7 @@
 use Rattle.std.proofs.Common.{pos, refl, rules, ◌∙◌, FitsSigned, w16}
 use Rattle.std.proofs.lemmas.Int.{to_z-of_z}
 use Rattle.trau_num.proofs.Fill.{fill_none, fill_next, fill_all}
-use Rattle.fr_lpc.specs.Scaling.{entry}
+use Rattle.trau_num.specs.Num.{entry}
 use Rattle.tx_dtx.specs.SilenceDescriptor.{mean_ratio}
 use Rattle.tx_dtx.proofs.sid.mean_ratios.Goals as goal
 

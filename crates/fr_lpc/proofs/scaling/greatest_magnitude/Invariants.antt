@@ -1,8 +1,7 @@
 use Rattle.std.proofs.Common.{◌≡◌, ℕ, ◌<◌, ◌≤◌, pos, map, take, fold, unsigned_abs}
 use Rattle.std.specs.Int.{int_max}
-use Rattle.trau_num.specs.Num.{abs_of}
-use Rattle.fr_lpc.specs.Scaling.{entry}
-use Rattle.fr_lpc.proofs.scaling.peak.Given as goal
+use Rattle.trau_num.specs.Num.{abs_of, entry}
+use Rattle.fr_lpc.proofs.scaling.greatest_magnitude.Given as goal
 
 abbrev pub invariant-loop-k : goal.invariant-loop-k
 invariant-loop-k l = record {

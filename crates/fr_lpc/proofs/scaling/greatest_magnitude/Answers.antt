@@ -1,9 +1,9 @@
 use Rattle.std.proofs.Common.{◌≡◌, ◌≤◌, take, arith, rules, ◌∙◌, unsigned_abs, below_more, FitsSigned, w16}
 use Rattle.std.proofs.lemmas.Int.{to_z-of_z, ints}
 use Rattle.std.proofs.lemmas.List.{take_all}
-use Rattle.fr_lpc.specs.Scaling.{entry}
+use Rattle.trau_num.specs.Num.{entry}
 use Rattle.fr_lpc.proofs.Scaled.{peak_more, peak_bounds}
-use Rattle.fr_lpc.proofs.scaling.peak.Goals as goal
+use Rattle.fr_lpc.proofs.scaling.greatest_magnitude.Goals as goal
 
 pub loop-k-preserved : goal.loop-k-preserved
 loop-k-preserved c =

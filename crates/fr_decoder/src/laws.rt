@@ -1,0 +1,12 @@
+//! A law of the definitions.
+
+ghost use Rattle.std.specs.Prelude.{◌≡◌, List, reverse};
+ghost use Rattle.trau_params.specs.Fields.{Fields};
+ghost use Rattle.fr_decoder.specs.Decoded.{decoded};
+ghost use Rattle.fr_decoder.specs.Step.{decoded_in_turn, Stands};
+
+/// Frames that are decoded one after another from home give the decoded list, and a memory that stands for them.
+pub fn whole_list()
+    ensures samples { (frames : List Fields) → (decoded_in_turn (reverse frames)).0 ≡ decoded frames }
+    ensures memory { (past : List Fields) → Stands past (decoded_in_turn past).1 }
+{}

@@ -1,0 +1,9 @@
+use Rattle.std.proofs.Common.{reverse}
+use Rattle.fr_encoder.proofs.Frames.{in_turn}
+use Rattle.fr_encoder.proofs.laws.whole_list.Goals as goal
+
+pub returns-clause-encodings : goal.returns-clause-encodings
+returns-clause-encodings c = λ frames. (in_turn (reverse frames)).1
+
+pub returns-clause-memory : goal.returns-clause-memory
+returns-clause-memory c = λ past. (in_turn past).0
