@@ -34,7 +34,7 @@ home_down = record {
   coder = home_coder;
   level = pos 256;
   mode = Uplink;
-  uplink = false;
+  dtxd = false;
   quiet = true;
   bridged = false;
   sent = 0;
@@ -53,7 +53,7 @@ asked m (Some field) = align.after_ask m field
 
 -- what the downlink side takes from the uplink
 abbrev pub after_sighting : DownMemory → Sighting → Bool → DownMemory
-after_sighting d s quiet = record d { align = asked d.align (field_of s); uplink = dtxd_after s d.uplink; quiet = quiet }
+after_sighting d s quiet = record d { align = asked d.align (field_of s); dtxd = dtxd_after s d.dtxd; quiet = quiet }
 
 -- the octets of a frame that is decoded, and of a period in which none is
 abbrev pub played_frame : decoder.DecoderMemory → Fields → List ℕ × decoder.DecoderMemory
@@ -139,7 +139,7 @@ after_made d next shift = record {
   coder = next.1;
   level = d.level;
   mode = d.mode;
-  uplink = d.uplink;
+  dtxd = d.dtxd;
   quiet = d.quiet;
   bridged = d.bridged;
   sent = if not (length d.waiting == 0) then in_u32 (d.sent + 1) else d.sent;
@@ -147,7 +147,7 @@ after_made d next shift = record {
 }
 
 unfoldable pub frame_made : DownMemory → DownMemory
-frame_made d = after_made d (next_by d.waiting d.coder d.framer.held d.quiet d.level (dtx_in d.mode d.uplink)) (align.adopted d.align)
+frame_made d = after_made d (next_by d.waiting d.coder d.framer.held d.quiet d.level (dtx_in d.mode d.dtxd)) (align.adopted d.align)
 
 -- one frame is made, if 160 octets are held
 abbrev pub frame_tried : DownMemory → DownMemory

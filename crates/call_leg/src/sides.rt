@@ -48,7 +48,7 @@ impl DownSide {
             coder: Coder::home(),
             level: 256,
             mode: DtxMode::Uplink,
-            uplink: false,
+            dtxd: false,
             quiet: true,
             bridged: false,
             sent: 0,
@@ -62,7 +62,7 @@ impl DownSide {
         ensures step { down_memory self.new ≡ after_sighting (down_memory self.old) (sighting_of found.now) quiet }
     {
         ask(&mut self.align, field(found));
-        self.uplink = dtxd(found, self.uplink);
+        self.dtxd = dtxd(found, self.dtxd);
         self.quiet = quiet;
     }
 
