@@ -1,5 +1,6 @@
 pub mod Places
 pub mod RowPlaces
+pub mod Copied
 pub mod ReadRows
 pub mod WrittenRows
 pub mod Again
