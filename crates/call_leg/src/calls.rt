@@ -1,6 +1,6 @@
 //! The calls of a leg.
 
-ghost use Rattle.std.specs.Prelude.{◌≡◌, ◌≤◌, ◌<◌, ◌+◌, ℕ, ℤ, pos, ◌≤ℤ◌, true, false, Option, Some, None, is_some, List, [], ◌∷◌, length, IfOk};
+ghost use Rattle.std.specs.Prelude.{◌≡◌, ◌≤◌, ◌<◌, ◌+◌, ℕ, ℤ, pos, ◌≤ℤ◌, true, false, not, ◌&&◌, ◌==◌, Option, Some, None, is_some, List, [], ◌∷◌, length, IfOk};
 ghost use Rattle.trau_bits.specs.Bits.{bits_of};
 ghost use Rattle.trau_params.specs.Bits260.{bits260};
 ghost use Rattle.rx_handler.specs.State.{effective_fields};
@@ -156,6 +156,7 @@ impl Leg {
 
     /// Whether it isn't bridged and a handed frame waits. Between periods at most one waits.
     pub fn draining(&self) -> bool
+        ensures memory { result ≡ (not self.now.down.bridged && not (length self.now.down.waiting == 0)) }
         ensures value { (call : ℕ) (ts : List CallPeriod) (now : Settings) → Stands call ts now self.now → result ≡ is_draining ts now }
         ensures one { (call : ℕ) (ts : List CallPeriod) (now : Settings) → Stands call ts now self.now → length self.now.down.waiting ≤ 1 }
     {
@@ -183,14 +184,16 @@ impl Leg {
 
     /// How many handed frames were sent in the latest bridge.
     pub fn sent(&self) -> u32
-        ensures { (call : ℕ) (ts : List CallPeriod) (now : Settings) → Stands call ts now self.now → result ≡ sent_now ts now }
+        ensures memory { result ≡ self.now.down.sent }
+        ensures history { (call : ℕ) (ts : List CallPeriod) (now : Settings) → Stands call ts now self.now → result ≡ sent_now ts now }
     {
         self.down.sent
     }
 
     /// What was counted of the call's periods.
     pub fn counts(&self) -> Counts
-        ensures { (call : ℕ) (ts : List CallPeriod) (now : Settings) → Stands call ts now self.now → result ≡ call_counts ts }
+        ensures memory { result ≡ record self.now.counts { made = self.now.down.made } }
+        ensures history { (call : ℕ) (ts : List CallPeriod) (now : Settings) → Stands call ts now self.now → result ≡ call_counts ts }
     {
         Counts {
             made: self.down.made,
