@@ -1,5 +1,5 @@
 -- A leg from call to call.
-use Rattle.std.specs.Prelude.{ℕ, ◌+◌, ℤ, pos, Bool, true, false, not, ◌||◌, ◌==◌, nat_le, if◌then◌else◌, Option, Some, None, List, [], ◌∷◌, ◌++◌, length, take, drop, replicate}
+use Rattle.std.specs.Prelude.{ℕ, ◌+◌, ℤ, pos, Bool, true, false, not, ◌||◌, ◌==◌, nat_le, if◌then◌else◌, Option, Some, None, List, [], ◌∷◌, ◌++◌, length, take, drop}
 use Rattle.circular_buffer.specs.Buffer.{keep_last}
 use Rattle.trau_params.specs.Fields.{Fields}
 use Rattle.trau_params.specs.Bits260.{bits260}
@@ -19,7 +19,7 @@ use Rattle.down_framer.specs.Memory as framer
 use Rattle.call_leg.specs.Uplink.{Sighting, sighting_in, heard_as, field_of, dtxd_after, is_quiet, handed_fields}
 use Rattle.call_leg.specs.Periods.{dtx_in}
 use Rattle.call_leg.specs.Counted.{no_counts, counted}
-use Rattle.call_leg.specs.Out.{compressed}
+use Rattle.call_leg.specs.Out.{idle_octets, compressed}
 use Rattle.call_leg.specs.Down.{expanded, coded_as, speech}
 use Rattle.call_leg.specs.Memory.{CoderMemory, home_coder, DownMemory, LegMemory}
 use Rattle.call_leg.specs.Places.{in_u32, in_u64}
@@ -60,7 +60,7 @@ abbrev pub played_frame : decoder.DecoderMemory → Fields → List ℕ × decod
 played_frame m p = let decoded = decoder.decoded_frame m p in (compressed decoded.0, decoded.1)
 
 abbrev pub played_none : List ℕ × decoder.DecoderMemory
-played_none = (replicate 160 213, decoder.home_memory)
+played_none = (idle_octets, decoder.home_memory)
 
 abbrev pub played : decoder.DecoderMemory → EffectiveFields → Bool → List ℕ × decoder.DecoderMemory
 played m Quiet alone = played_none
