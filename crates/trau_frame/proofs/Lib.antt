@@ -4,5 +4,6 @@ pub mod Copied
 pub mod ReadRows
 pub mod WrittenRows
 pub mod Again
+pub mod Words
 pub mod Relayed
 pub mod UpAgain
