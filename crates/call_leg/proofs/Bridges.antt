@@ -48,7 +48,7 @@ halfway-short c ts now up d h = subst (λ z. length z ≤ 1) (sym (h.waits.2 ∙
 
 pub hand-stands : (c : ℕ) (ts : List CallPeriod) (now : Settings) (up : List ℕ) (x x1 : List ℕ) (d d1 : DownMemory) → Halfway c ts now up None d → x ≡ x1 →
     d1.waiting ≡ d.waiting ++ x ∷ [] →
-    d1.framer ≡ d.framer → d1.align ≡ d.align → d1.coder ≡ d.coder → d1.level ≡ d.level → d1.mode ≡ d.mode → d1.uplink ≡ d.uplink → d1.quiet ≡ d.quiet → d1.bridged ≡ d.bridged → d1.sent ≡ d.sent → d1.made ≡ d.made →
+    d1.framer ≡ d.framer → d1.align ≡ d.align → d1.coder ≡ d.coder → d1.level ≡ d.level → d1.mode ≡ d.mode → d1.dtxd ≡ d.dtxd → d1.quiet ≡ d.quiet → d1.bridged ≡ d.bridged → d1.sent ≡ d.sent → d1.made ≡ d.made →
     Halfway c ts now up (Some x1) d1
 hand-stands c ts now up x x1 d d1 h ex eq ef al co lv md ul qt br sn mn = record {
   long = h.long;
@@ -62,7 +62,7 @@ hand-stands c ts now up x x1 d d1 h ex eq ef al co lv md ul qt br sn mn = record
   made = mn ∙ h.made;
   level = lv ∙ h.level;
   mode = md ∙ h.mode;
-  uplink = ul ∙ h.uplink;
+  dtxd = ul ∙ h.dtxd;
   quiet = qt ∙ h.quiet;
   bridged = br ∙ h.bridged;
   alone = h.alone;
@@ -120,7 +120,7 @@ plain-new c (t ∷ past) =
 
 pub begins : (c : ℕ) (ts : List CallPeriod) (now : Settings) (d d1 : DownMemory) → due (down_periods ts) (frames_of ts) ≡ None → Between c ts now d →
     d1.align.kept ≡ d.align.kept → d1.align.frozen ≡ true → encoder.Stands [] d1.coder.encoder → tx.Stands [] d1.coder.tx → d1.bridged ≡ true →
-    d1.framer ≡ d.framer → d1.waiting ≡ d.waiting → d1.level ≡ d.level → d1.mode ≡ d.mode → d1.uplink ≡ d.uplink → d1.sent ≡ 0 → d1.made ≡ d.made → Between c ts (with_bridge now) d1
+    d1.framer ≡ d.framer → d1.waiting ≡ d.waiting → d1.level ≡ d.level → d1.mode ≡ d.mode → d1.dtxd ≡ d.dtxd → d1.sent ≡ 0 → d1.made ≡ d.made → Between c ts (with_bridge now) d1
 begins c ts now d d1 n h ek ez en tx br ef qu lv md ul sn mn = record {
   long = h.long;
   history = h.history;
@@ -133,7 +133,7 @@ begins c ts now d d1 n h ek ez en tx br ef qu lv md ul sn mn = record {
   made = mn ∙ h.made;
   level = lv ∙ h.level;
   mode = md ∙ h.mode;
-  uplink = ul ∙ h.uplink;
+  dtxd = ul ∙ h.dtxd;
   bridged = br;
   alone = λ e. n;
   goes_on = λ e. refl;
@@ -141,7 +141,7 @@ begins c ts now d d1 n h ek ez en tx br ef qu lv md ul sn mn = record {
 
 pub ends : (c : ℕ) (ts : List CallPeriod) (now : Settings) (d d1 : DownMemory) → now.bridged ≡ true → Between c ts now d →
     d1.align.kept ≡ d.align.kept → d1.align.frozen ≡ (d.align.frozen && (false || not (length d.waiting == 0))) → d1.bridged ≡ false →
-    d1.framer ≡ d.framer → d1.waiting ≡ d.waiting → d1.coder ≡ d.coder → d1.level ≡ d.level → d1.mode ≡ d.mode → d1.uplink ≡ d.uplink → d1.sent ≡ d.sent → d1.made ≡ d.made → Between c ts (without_bridge now) d1
+    d1.framer ≡ d.framer → d1.waiting ≡ d.waiting → d1.coder ≡ d.coder → d1.level ≡ d.level → d1.mode ≡ d.mode → d1.dtxd ≡ d.dtxd → d1.sent ≡ d.sent → d1.made ≡ d.made → Between c ts (without_bridge now) d1
 ends c ts now d d1 b h ek ez br ef qu co lv md ul sn mn = record {
   long = h.long;
   history = h.history;
@@ -154,7 +154,7 @@ ends c ts now d d1 b h ek ez br ef qu co lv md ul sn mn = record {
   made = mn ∙ h.made;
   level = lv ∙ h.level;
   mode = md ∙ h.mode;
-  uplink = ul ∙ h.uplink;
+  dtxd = ul ∙ h.dtxd;
   bridged = br;
   alone = h.alone;
   goes_on = λ e. absurd (true≢false (sym e));

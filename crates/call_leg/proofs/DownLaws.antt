@@ -141,14 +141,14 @@ made-inside : (call : ℕ) (t : CallPeriod) (past : List CallPeriod) (fs : List 
 unfolding frame_made
 made-inside call t past fs d r h =
     let f = next t past fs in
-    let on = dtx_in d.mode d.uplink in
+    let on = dtx_in d.mode d.dtxd in
     let made = next_by d.waiting d.coder d.framer.held d.quiet d.level on in
     let bits = frames.down_bits made.0 in
     let adopted = align.adopted d.align in
     let es = adopted-shift d.align in
     let legal : IsShift adopted.0 = subst IsShift (sym (es ∙ shift_is call t past fs d h r)) (IsShift-shift_due (down_periods (t ∷ past)) fs) in
     let fr = next-stands call f fs d.waiting d.coder d.framer.held d.quiet d.level on (waits-first (t ∷ past) fs d.waiting h.waits) h.quiet h.level
-    (ap (λ m. dtx_in m d.uplink) h.mode ∙ ap (λ u. dtx_in t.mode u) h.uplink) (ap (take 160) h.places.held)
+    (ap (λ m. dtx_in m d.dtxd) h.mode ∙ ap (λ u. dtx_in t.mode u) h.dtxd) (ap (take 160) h.places.held)
     (subst (λ e. CoderStands (coded_stretch call e fs) d.coder) (sym (begun-same (t ∷ past))) h.coded) in
     inside-next call t past fs d _ bits adopted.0 h r (length-down_bits made.0) (ap frames.down_bits fr.1) legal es refl fr.0
     (thawed-kept adopted.1 d.bridged (drop 1 d.waiting) ∙ adopted-kept d.align)

@@ -25,6 +25,6 @@ pub record Inside (call : ℕ) (t : CallPeriod) (past : List CallPeriod) (fs : L
   pub made : d.made ≡ in_u64 (length fs)
   pub level : d.level ≡ t.level
   pub mode : d.mode ≡ t.mode
-  pub uplink : d.uplink ≡ dtxd_of (t ∷ past)
+  pub dtxd : d.dtxd ≡ dtxd_of (t ∷ past)
   pub quiet : d.quiet ≡ quiet_now call (t ∷ past)
   pub bridged : d.bridged ≡ is_some t.handed

@@ -88,7 +88,7 @@ history-more c ts now up handed pcm d b h = (h.history, h.alone, λ e. h.goes_on
 pub enter : (c : ℕ) (ts : List CallPeriod) (now : Settings) (up : List ℕ) (handed : Option (List ℕ)) (pcm : List ℕ) (d d1 : DownMemory) →
     length pcm ≡ 160 → is_some handed ≡ now.bridged → Halfway c ts now up handed d →
     ((pcm0 line : List ℕ) (out start : ℕ) → Holds pcm0 line out start d.framer → Holds (pcm0 ++ pcm) line out start d1.framer) →
-    d1.align ≡ d.align → d1.waiting ≡ d.waiting → d1.coder ≡ d.coder → d1.level ≡ d.level → d1.mode ≡ d.mode → d1.uplink ≡ d.uplink → d1.quiet ≡ d.quiet → d1.bridged ≡ d.bridged → d1.sent ≡ d.sent → d1.made ≡ d.made →
+    d1.align ≡ d.align → d1.waiting ≡ d.waiting → d1.coder ≡ d.coder → d1.level ≡ d.level → d1.mode ≡ d.mode → d1.dtxd ≡ d.dtxd → d1.quiet ≡ d.quiet → d1.bridged ≡ d.bridged → d1.sent ≡ d.sent → d1.made ≡ d.made →
     Inside c (period_with now up pcm handed) ts (frames_of ts) d1
 enter c ts now up handed pcm d d1 lp b h pl al qu co lv md ul qt br sn mn =
     let t : CallPeriod = period_with now up pcm handed in
@@ -110,7 +110,7 @@ enter c ts now up handed pcm d d1 lp b h pl al qu co lv md ul qt br sn mn =
       sent = sn ∙ h.sent ∙ ap (λ e. in_u32 (carried e (frames_of ts))) (begun-more now up pcm handed ts);
       level = lv ∙ h.level;
       mode = md ∙ h.mode;
-      uplink = ul ∙ h.uplink;
+      dtxd = ul ∙ h.dtxd;
       quiet = qt ∙ h.quiet;
       bridged = br ∙ h.bridged ∙ sym b;
     }
@@ -120,7 +120,7 @@ enter c ts now up handed pcm d d1 lp b h pl al qu co lv md ul qt br sn mn =
 pub leave : (c : ℕ) (ts : List CallPeriod) (now : Settings) (up : List ℕ) (handed : Option (List ℕ)) (pcm : List ℕ) (d d2 : DownMemory) → is_some handed ≡ now.bridged → Halfway c ts now up handed d →
     Inside c (period_with now up pcm handed) ts (frames_of (period_with now up pcm handed ∷ ts)) d2 → (d3 : DownMemory) →
     ((pcm0 line : List ℕ) (out start : ℕ) → Holds pcm0 line out start d2.framer → Holds pcm0 line (out + 320) start d3.framer) →
-    d3.align ≡ d2.align → d3.waiting ≡ d2.waiting → d3.coder ≡ d2.coder → d3.level ≡ d2.level → d3.mode ≡ d2.mode → d3.uplink ≡ d2.uplink → d3.bridged ≡ d2.bridged → d3.sent ≡ d2.sent → d3.made ≡ d2.made →
+    d3.align ≡ d2.align → d3.waiting ≡ d2.waiting → d3.coder ≡ d2.coder → d3.level ≡ d2.level → d3.mode ≡ d2.mode → d3.dtxd ≡ d2.dtxd → d3.bridged ≡ d2.bridged → d3.sent ≡ d2.sent → d3.made ≡ d2.made →
     Between c (period_with now up pcm handed ∷ ts) (later now) d3
 leave c ts now up handed pcm d d2 b h i d3 pl al qu co lv md ul br sn mn =
     let t : CallPeriod = period_with now up pcm handed in
@@ -139,7 +139,7 @@ leave c ts now up handed pcm d d2 b h i d3 pl al qu co lv md ul br sn mn =
       made = mn ∙ i.made;
       level = lv ∙ i.level;
       mode = md ∙ i.mode;
-      uplink = ul ∙ i.uplink;
+      dtxd = ul ∙ i.dtxd;
       bridged = br ∙ i.bridged ∙ b;
       alone = λ e. absurd (true≢false (sym e));
       goes_on = λ e. b ∙ e;

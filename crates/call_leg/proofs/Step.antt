@@ -72,7 +72,7 @@ pub inside-next : (c : ℕ) (t : CallPeriod) (past : List CallPeriod) (fs : List
     new.align.kept ≡ (if old.align.frozen then old.align.kept else None) →
     new.align.frozen ≡ (old.align.frozen && (old.bridged || not (length new.waiting == 0))) →
     ((pcm line : List ℕ) (out start : ℕ) → out ≤ length line → Holds pcm line out start old.framer → Holds pcm (line ++ frame_on_line shift b) out (start + octets_of shift) new.framer) →
-    new.level ≡ old.level → new.mode ≡ old.mode → new.uplink ≡ old.uplink → new.quiet ≡ old.quiet → new.bridged ≡ old.bridged →
+    new.level ≡ old.level → new.mode ≡ old.mode → new.dtxd ≡ old.dtxd → new.quiet ≡ old.quiet → new.bridged ≡ old.bridged →
     new.sent ≡ (if not (length old.waiting == 0) then min (old.sent + 1) 4294967295 else old.sent) →
     new.made ≡ in_u64 (old.made + 1) →
     Inside c t past (next t past fs ∷ fs) new
@@ -110,7 +110,7 @@ inside-next c t past fs old new b shift h r lb eb sh es eq cd ek ef pl lv md up 
       made = mn ∙ made-next (length fs) old.made h.made;
       level = lv ∙ h.level;
       mode = md ∙ h.mode;
-      uplink = up ∙ h.uplink;
+      dtxd = up ∙ h.dtxd;
       quiet = qu ∙ h.quiet;
       bridged = br ∙ h.bridged;
     }

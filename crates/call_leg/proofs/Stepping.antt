@@ -58,31 +58,31 @@ code-step m octets level on x p q t peak sp bits e1 t1 ee ex es eb =
 -- a memory by its fields
 abbrev by_fields : framer.FramerMemory → align.AlignMemory → List (List ℕ) → CoderMemory → ℤ → DtxMode → Bool → Bool → Bool → ℕ → ℕ → DownMemory
 by_fields f a w c l m u q b s n =
-    record { framer = f; align = a; waiting = w; coder = c; level = l; mode = m; uplink = u; quiet = q; bridged = b; sent = s; made = n }
+    record { framer = f; align = a; waiting = w; coder = c; level = l; mode = m; dtxd = u; quiet = q; bridged = b; sent = s; made = n }
 
 same : (old d : DownMemory) (n : DownFrame × CoderMemory) (s : ℤ × align.AlignMemory) → d.framer ≡ framer.after_frame old.framer (frames.down_bits n.0) s.0 → d.align ≡ thawed s.1 old.bridged (drop 1 old.waiting) →
-    d.waiting ≡ drop 1 old.waiting → d.coder ≡ n.1 → d.level ≡ old.level → d.mode ≡ old.mode → d.uplink ≡ old.uplink → d.quiet ≡ old.quiet → d.bridged ≡ old.bridged →
+    d.waiting ≡ drop 1 old.waiting → d.coder ≡ n.1 → d.level ≡ old.level → d.mode ≡ old.mode → d.dtxd ≡ old.dtxd → d.quiet ≡ old.quiet → d.bridged ≡ old.bridged →
     d.sent ≡ (if not (length old.waiting == 0) then in_u32 (old.sent + 1) else old.sent) → d.made ≡ in_u64 (old.made + 1) → d ≡ after_made old n s
 same old d n s a b c e f g h i j k l =
-    ap (λ (z : framer.FramerMemory). by_fields z d.align d.waiting d.coder d.level d.mode d.uplink d.quiet d.bridged d.sent d.made) a
-    ∙ ap (λ (z : align.AlignMemory). by_fields (framer.after_frame old.framer (frames.down_bits n.0) s.0) z d.waiting d.coder d.level d.mode d.uplink d.quiet d.bridged d.sent d.made) b
-    ∙ ap (λ (z : List (List ℕ)). by_fields (framer.after_frame old.framer (frames.down_bits n.0) s.0) (thawed s.1 old.bridged (drop 1 old.waiting)) z d.coder d.level d.mode d.uplink d.quiet d.bridged d.sent d.made) c
-    ∙ ap (λ (z : CoderMemory). by_fields (framer.after_frame old.framer (frames.down_bits n.0) s.0) (thawed s.1 old.bridged (drop 1 old.waiting)) (drop 1 old.waiting) z d.level d.mode d.uplink d.quiet d.bridged d.sent d.made) e
-    ∙ ap (λ (z : ℤ). by_fields (framer.after_frame old.framer (frames.down_bits n.0) s.0) (thawed s.1 old.bridged (drop 1 old.waiting)) (drop 1 old.waiting) n.1 z d.mode d.uplink d.quiet d.bridged d.sent d.made) f
-    ∙ ap (λ (z : DtxMode). by_fields (framer.after_frame old.framer (frames.down_bits n.0) s.0) (thawed s.1 old.bridged (drop 1 old.waiting)) (drop 1 old.waiting) n.1 old.level z d.uplink d.quiet d.bridged d.sent d.made) g
+    ap (λ (z : framer.FramerMemory). by_fields z d.align d.waiting d.coder d.level d.mode d.dtxd d.quiet d.bridged d.sent d.made) a
+    ∙ ap (λ (z : align.AlignMemory). by_fields (framer.after_frame old.framer (frames.down_bits n.0) s.0) z d.waiting d.coder d.level d.mode d.dtxd d.quiet d.bridged d.sent d.made) b
+    ∙ ap (λ (z : List (List ℕ)). by_fields (framer.after_frame old.framer (frames.down_bits n.0) s.0) (thawed s.1 old.bridged (drop 1 old.waiting)) z d.coder d.level d.mode d.dtxd d.quiet d.bridged d.sent d.made) c
+    ∙ ap (λ (z : CoderMemory). by_fields (framer.after_frame old.framer (frames.down_bits n.0) s.0) (thawed s.1 old.bridged (drop 1 old.waiting)) (drop 1 old.waiting) z d.level d.mode d.dtxd d.quiet d.bridged d.sent d.made) e
+    ∙ ap (λ (z : ℤ). by_fields (framer.after_frame old.framer (frames.down_bits n.0) s.0) (thawed s.1 old.bridged (drop 1 old.waiting)) (drop 1 old.waiting) n.1 z d.mode d.dtxd d.quiet d.bridged d.sent d.made) f
+    ∙ ap (λ (z : DtxMode). by_fields (framer.after_frame old.framer (frames.down_bits n.0) s.0) (thawed s.1 old.bridged (drop 1 old.waiting)) (drop 1 old.waiting) n.1 old.level z d.dtxd d.quiet d.bridged d.sent d.made) g
     ∙ ap (λ (z : Bool). by_fields (framer.after_frame old.framer (frames.down_bits n.0) s.0) (thawed s.1 old.bridged (drop 1 old.waiting)) (drop 1 old.waiting) n.1 old.level old.mode z d.quiet d.bridged d.sent d.made) h
-    ∙ ap (λ (z : Bool). by_fields (framer.after_frame old.framer (frames.down_bits n.0) s.0) (thawed s.1 old.bridged (drop 1 old.waiting)) (drop 1 old.waiting) n.1 old.level old.mode old.uplink z d.bridged d.sent d.made) i
-    ∙ ap (λ (z : Bool). by_fields (framer.after_frame old.framer (frames.down_bits n.0) s.0) (thawed s.1 old.bridged (drop 1 old.waiting)) (drop 1 old.waiting) n.1 old.level old.mode old.uplink old.quiet z d.sent d.made) j
-    ∙ ap (λ (z : ℕ). by_fields (framer.after_frame old.framer (frames.down_bits n.0) s.0) (thawed s.1 old.bridged (drop 1 old.waiting)) (drop 1 old.waiting) n.1 old.level old.mode old.uplink old.quiet old.bridged z d.made) k
-    ∙ ap (λ (z : ℕ). by_fields (framer.after_frame old.framer (frames.down_bits n.0) s.0) (thawed s.1 old.bridged (drop 1 old.waiting)) (drop 1 old.waiting) n.1 old.level old.mode old.uplink old.quiet old.bridged (if not (length old.waiting == 0) then in_u32 (old.sent + 1) else old.sent) z) l
+    ∙ ap (λ (z : Bool). by_fields (framer.after_frame old.framer (frames.down_bits n.0) s.0) (thawed s.1 old.bridged (drop 1 old.waiting)) (drop 1 old.waiting) n.1 old.level old.mode old.dtxd z d.bridged d.sent d.made) i
+    ∙ ap (λ (z : Bool). by_fields (framer.after_frame old.framer (frames.down_bits n.0) s.0) (thawed s.1 old.bridged (drop 1 old.waiting)) (drop 1 old.waiting) n.1 old.level old.mode old.dtxd old.quiet z d.sent d.made) j
+    ∙ ap (λ (z : ℕ). by_fields (framer.after_frame old.framer (frames.down_bits n.0) s.0) (thawed s.1 old.bridged (drop 1 old.waiting)) (drop 1 old.waiting) n.1 old.level old.mode old.dtxd old.quiet old.bridged z d.made) k
+    ∙ ap (λ (z : ℕ). by_fields (framer.after_frame old.framer (frames.down_bits n.0) s.0) (thawed s.1 old.bridged (drop 1 old.waiting)) (drop 1 old.waiting) n.1 old.level old.mode old.dtxd old.quiet old.bridged (if not (length old.waiting == 0) then in_u32 (old.sent + 1) else old.sent) z) l
 
 -- one frame is made
-pub make-step : (old new : DownMemory) (f : DownFrame) (bits : List ℕ) (shift : ℤ) (align1 : align.AlignMemory) (on waits waited : Bool) → on ≡ dtx_in old.mode old.uplink →
+pub make-step : (old new : DownMemory) (f : DownFrame) (bits : List ℕ) (shift : ℤ) (align1 : align.AlignMemory) (on waits waited : Bool) → on ≡ dtx_in old.mode old.dtxd →
     next_by old.waiting old.coder old.framer.held old.quiet old.level on ≡ (f, new.coder) → bits ≡ frames.down_bits f → align.adopted old.align ≡ (shift, align1) →
     new.framer ≡ framer.after_frame old.framer bits shift → new.waiting ≡ drop 1 old.waiting →
     waits ≡ not (length new.waiting == 0) → new.align ≡ (if old.bridged || waits then align1 else align.after_thaw align1) →
     waited ≡ not (length old.waiting == 0) → new.sent ≡ (if waited then in_u32 (old.sent + 1) else old.sent) → new.made ≡ in_u64 (old.made + 1) →
-    new.level ≡ old.level → new.mode ≡ old.mode → new.uplink ≡ old.uplink → new.quiet ≡ old.quiet → new.bridged ≡ old.bridged →
+    new.level ≡ old.level → new.mode ≡ old.mode → new.dtxd ≡ old.dtxd → new.quiet ≡ old.quiet → new.bridged ≡ old.bridged →
     new ≡ frame_made old
 unfolding frame_made
 make-step old new f bits shift align1 on waits waited eo en eb es ef ew ewa ea ewd esn em lv md ul qt br =

@@ -37,7 +37,7 @@ pub record DownMemory : Type 0 where
   pub coder : CoderMemory
   pub level : ℤ
   pub mode : DtxMode
-  pub uplink : Bool
+  pub dtxd : Bool
   pub quiet : Bool
   pub bridged : Bool
   pub sent : ℕ
@@ -62,7 +62,7 @@ down_memory d = record {
   coder = coder_memory d.coder;
   level = d.level;
   mode = d.mode;
-  uplink = d.uplink;
+  dtxd = d.dtxd;
   quiet = d.quiet;
   bridged = d.bridged;
   sent = d.sent;

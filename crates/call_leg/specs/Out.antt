@@ -25,9 +25,13 @@ plain_stretch call epoch [] = []
 plain_stretch call epoch (t ∷ past) =
     plain_with (effective_now call (t ∷ past)) (not (is_some t.handed) && bridges_begun (t ∷ past) == epoch) (plain_stretch call epoch past)
 
--- the octets of the newest frame of a stretch, decoded from home over the whole stretch; 0xD5 where there is none
+-- the octets of a period in which the line is idle: 0xD5 (this project's profile)
+abbrev pub idle_octets : List ℕ
+idle_octets = replicate 160 213
+
+-- the octets of the newest frame of a stretch, decoded from home over the whole stretch; idle where there is none
 abbrev pub decoded_octets : List Fields → List ℕ
-decoded_octets [] = replicate 160 213
+decoded_octets [] = idle_octets
 decoded_octets (p ∷ before) = compressed (samples_of p before)
 
 -- the 160 octets of the newest period

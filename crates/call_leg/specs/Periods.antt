@@ -60,7 +60,7 @@ abbrev pub dtxd_of : List CallPeriod → Bool
 dtxd_of [] = false
 dtxd_of (t ∷ past) = dtxd_after (sighting_after past t.up) (dtxd_of past)
 
--- whether DTX is on, where the uplink asks so
+-- whether DTX is on in this mode; `asked` is what the uplink asks for
 abbrev pub dtx_in : DtxMode → Bool → Bool
 dtx_in On asked = true
 dtx_in Off asked = false

@@ -51,7 +51,7 @@ pub record Between (call : ℕ) (ts : List CallPeriod) (now : Settings) (d : Dow
   pub made : d.made ≡ in_u64 (length (frames_of ts))
   pub level : d.level ≡ now.level
   pub mode : d.mode ≡ now.mode
-  pub uplink : d.uplink ≡ dtxd_of ts
+  pub dtxd : d.dtxd ≡ dtxd_of ts
   pub bridged : d.bridged ≡ now.bridged
   -- a bridge starts only where no frame waits, and goes on without a gap
   pub alone : now.starts ≡ true → due (down_periods ts) (frames_of ts) ≡ None
@@ -70,7 +70,7 @@ pub record Halfway (call : ℕ) (ts : List CallPeriod) (now : Settings) (up : Li
   pub made : d.made ≡ in_u64 (length (frames_of ts))
   pub level : d.level ≡ now.level
   pub mode : d.mode ≡ now.mode
-  pub uplink : d.uplink ≡ dtxd_after (sighting_after ts up) (dtxd_of ts)
+  pub dtxd : d.dtxd ≡ dtxd_after (sighting_after ts up) (dtxd_of ts)
   pub quiet : d.quiet ≡ is_quiet (effective_of call (heard_as (sighting_after ts up) ∷ heard_of ts))
   pub bridged : d.bridged ≡ now.bridged
   pub alone : now.starts ≡ true → due (down_periods ts) (frames_of ts) ≡ None

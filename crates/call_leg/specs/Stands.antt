@@ -20,6 +20,10 @@ pub record Stands (call : ℕ) (ts : List CallPeriod) (now : Settings) (m : LegM
   pub counts : m.counts ≡ sightings_counted ts
   pub down : Between call ts now m.down
 
+-- P holds of whatever call the leg stands for, the periods that it had, and the settings for its next one
+abbrev pub OfItsCall : LegMemory → (ℕ → List CallPeriod → Settings → Type 0) → Type 0
+OfItsCall m P = (call : ℕ) (ts : List CallPeriod) (now : Settings) → Stands call ts now m → P call ts now
+
 -- Between the halves of a period: the octets of the Up line were worked, and `handed` was handed over.
 pub record Midway (call : ℕ) (ts : List CallPeriod) (now : Settings) (up : List ℕ) (handed : Option (List ℕ)) (m : LegMemory) : Type 0 where
   pub search : search.Stands (up ∷ ups_of ts) m.search

@@ -1,5 +1,5 @@
 -- A leg from call to call.
-use Rattle.std.specs.Prelude.{ℕ, ◌+◌, ℤ, pos, Bool, true, false, not, ◌||◌, ◌==◌, nat_le, if◌then◌else◌, Option, Some, None, List, [], ◌∷◌, ◌++◌, length, take, drop, replicate}
+use Rattle.std.specs.Prelude.{ℕ, ◌+◌, ℤ, pos, Bool, true, false, not, ◌||◌, ◌==◌, nat_le, if◌then◌else◌, Option, Some, None, List, [], ◌∷◌, ◌++◌, length, take, drop}
 use Rattle.circular_buffer.specs.Buffer.{keep_last}
 use Rattle.trau_params.specs.Fields.{Fields}
 use Rattle.trau_params.specs.Bits260.{bits260}
@@ -19,7 +19,7 @@ use Rattle.down_framer.specs.Memory as framer
 use Rattle.call_leg.specs.Uplink.{Sighting, sighting_in, heard_as, field_of, dtxd_after, is_quiet, handed_fields}
 use Rattle.call_leg.specs.Periods.{dtx_in}
 use Rattle.call_leg.specs.Counted.{no_counts, counted}
-use Rattle.call_leg.specs.Out.{compressed}
+use Rattle.call_leg.specs.Out.{idle_octets, compressed}
 use Rattle.call_leg.specs.Down.{expanded, coded_as, speech}
 use Rattle.call_leg.specs.Memory.{CoderMemory, home_coder, DownMemory, LegMemory}
 use Rattle.call_leg.specs.Places.{in_u32, in_u64}
@@ -34,7 +34,7 @@ home_down = record {
   coder = home_coder;
   level = pos 256;
   mode = Uplink;
-  uplink = false;
+  dtxd = false;
   quiet = true;
   bridged = false;
   sent = 0;
@@ -53,14 +53,14 @@ asked m (Some field) = align.after_ask m field
 
 -- what the downlink side takes from the uplink
 abbrev pub after_sighting : DownMemory → Sighting → Bool → DownMemory
-after_sighting d s quiet = record d { align = asked d.align (field_of s); uplink = dtxd_after s d.uplink; quiet = quiet }
+after_sighting d s quiet = record d { align = asked d.align (field_of s); dtxd = dtxd_after s d.dtxd; quiet = quiet }
 
 -- the octets of a frame that is decoded, and of a period in which none is
 abbrev pub played_frame : decoder.DecoderMemory → Fields → List ℕ × decoder.DecoderMemory
 played_frame m p = let decoded = decoder.decoded_frame m p in (compressed decoded.0, decoded.1)
 
 abbrev pub played_none : List ℕ × decoder.DecoderMemory
-played_none = (replicate 160 213, decoder.home_memory)
+played_none = (idle_octets, decoder.home_memory)
 
 abbrev pub played : decoder.DecoderMemory → EffectiveFields → Bool → List ℕ × decoder.DecoderMemory
 played m Quiet alone = played_none
@@ -139,7 +139,7 @@ after_made d next shift = record {
   coder = next.1;
   level = d.level;
   mode = d.mode;
-  uplink = d.uplink;
+  dtxd = d.dtxd;
   quiet = d.quiet;
   bridged = d.bridged;
   sent = if not (length d.waiting == 0) then in_u32 (d.sent + 1) else d.sent;
@@ -147,7 +147,7 @@ after_made d next shift = record {
 }
 
 unfoldable pub frame_made : DownMemory → DownMemory
-frame_made d = after_made d (next_by d.waiting d.coder d.framer.held d.quiet d.level (dtx_in d.mode d.uplink)) (align.adopted d.align)
+frame_made d = after_made d (next_by d.waiting d.coder d.framer.held d.quiet d.level (dtx_in d.mode d.dtxd)) (align.adopted d.align)
 
 -- one frame is made, if 160 octets are held
 abbrev pub frame_tried : DownMemory → DownMemory

@@ -1,12 +1,8 @@
 -- What the uplink of a call tells, one period at a time (the frames of GSM 08.60; what they ask is this project's profile).
-use Rattle.std.specs.Prelude.{ℕ, Bool, true, false, ◌==◌, Option, Some, None, List}
+use Rattle.std.specs.Prelude.{ℕ, Bool, true, false, Option, Some, None}
 use Rattle.trau_frame.specs.declared.frames.Kind.{Kind}
 use Rattle.trau_frame.specs.declared.frames.Kind.TheVariants as kinds
-use Rattle.trau_frame.specs.declared.frames.Class.{Class}
-use Rattle.trau_frame.specs.declared.frames.UpFrame.{UpFrame}
-use Rattle.trau_frame.specs.Role.{Control, bit_with}
-use Rattle.trau_frame.specs.Frame.{number_of, data_of}
-use Rattle.trau_frame.specs.UpFrame.{kind_of, class_of}
+use Rattle.trau_frame.specs.UpFrame.{UpWords, words_in, words_of}
 use Rattle.trau_params.specs.Fields.{Fields}
 use Rattle.trau_params.specs.Silence.{silent_fields}
 use Rattle.frame_sync.specs.declared.yields.Yield.{Yield}
@@ -15,26 +11,6 @@ use Rattle.rx_handler.specs.Heard.{Heard, Lost, heard_frame}
 use Rattle.rx_handler.specs.Origin.{EffectiveFields, Quiet, Speech, Made}
 use Rattle.call_leg.specs.declared.found.Found.{Found}
 use Rattle.call_leg.specs.declared.found.Found.TheVariants as found
-
--- what an uplink frame says
-pub record UpWords : Type 0 where
-  pub kind : Kind
-  pub class : Class
-  pub taf : Bool
-  pub dtxd : Bool
-  pub align : ℕ
-  pub d : List ℕ
-
--- by its 320 bits: C6 to C11 are the time alignment field, C15 is TAF and C17 is DTXd
-unfoldable pub words_in : List ℕ → UpWords
-words_in bits = record {
-  kind = kind_of bits;
-  class = class_of bits;
-  taf = bit_with bits (Control 15) == 1;
-  dtxd = bit_with bits (Control 17) == 1;
-  align = number_of bits 6 6;
-  d = data_of bits;
-}
 
 -- what a period brings: no yield of the search, a miss, or a frame
 pub data Sighting : Type 0 where
@@ -46,10 +22,7 @@ sighting_in None = Nothing
 sighting_in (Some (yields.Miss p)) = Missed
 sighting_in (Some (yields.Frame p bits)) = Framed (words_in bits)
 
--- the same of what the code reads
-abbrev pub words_of : UpFrame → UpWords
-words_of f = record { kind = f.kind; class = f.class; taf = f.taf; dtxd = f.dtxd; align = f.align; d = f.d }
-
+-- the same of what the code finds
 abbrev pub sighting_of : Found → Sighting
 sighting_of found.Nothing = Nothing
 sighting_of found.Missed = Missed

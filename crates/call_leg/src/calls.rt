@@ -1,6 +1,6 @@
 //! The calls of a leg.
 
-ghost use Rattle.std.specs.Prelude.{◌≡◌, ◌≤◌, ◌<◌, ◌+◌, ℕ, ℤ, pos, ◌≤ℤ◌, true, false, Option, Some, None, is_some, List, [], ◌∷◌, length, IfOk};
+ghost use Rattle.std.specs.Prelude.{◌≡◌, ◌≤◌, ◌<◌, ◌+◌, ℕ, ℤ, pos, ◌≤ℤ◌, true, false, not, ◌&&◌, ◌==◌, Option, Some, None, is_some, List, [], ◌∷◌, length, IfOk};
 ghost use Rattle.trau_bits.specs.Bits.{bits_of};
 ghost use Rattle.trau_params.specs.Bits260.{bits260};
 ghost use Rattle.rx_handler.specs.State.{effective_fields};
@@ -12,7 +12,7 @@ ghost use Rattle.call_leg.specs.Counted.{call_counts};
 ghost use Rattle.call_leg.specs.Out.{out_of};
 ghost use Rattle.call_leg.specs.Down.{down_periods, frames_of, down_now};
 ghost use Rattle.call_leg.specs.Places.{sent_now, is_draining};
-ghost use Rattle.call_leg.specs.Stands.{Stands, Midway};
+ghost use Rattle.call_leg.specs.Stands.{Stands, OfItsCall, Midway};
 ghost use Rattle.call_leg.specs.Step.{home_leg, up_worked, with_down, after_handing, down_worked, begin_bridge, bridge_over, set_level, set_mode, period_worked};
 
 use crate::leg::Leg;
@@ -65,13 +65,13 @@ impl Leg {
         ensures periods { self.new.search.periods ≡ self.old.search.periods + 1 }
 
         // After the periods of any call, the next one's uplink half is worked ..
-        ensures history { (call : ℕ) (ts : List CallPeriod) (now : Settings) → Stands call ts now self.old → Midway call ts now up.now None self.new }
+        ensures history { OfItsCall self.old (λ call ts now. Midway call ts now up.now None self.new) }
 
         // .. and its effective frame and octets are those of the call.
-        ensures effective { (call : ℕ) (ts : List CallPeriod) (now : Settings) (pcm : List ℕ) (handed : Option (List ℕ)) → Stands call ts now self.old →
-            effective_fields result ≡ effective_now call (period_with now up.now pcm handed ∷ ts) }
-        ensures out { (call : ℕ) (ts : List CallPeriod) (now : Settings) (pcm : List ℕ) (handed : Option (List ℕ)) → Stands call ts now self.old →
-            is_some handed ≡ now.bridged → out.new ≡ out_of call (period_with now up.now pcm handed ∷ ts) }
+        ensures effective { (pcm : List ℕ) (handed : Option (List ℕ)) → OfItsCall self.old (λ call ts now.
+            effective_fields result ≡ effective_now call (period_with now up.now pcm handed ∷ ts)) }
+        ensures out { (pcm : List ℕ) (handed : Option (List ℕ)) → OfItsCall self.old (λ call ts now.
+            is_some handed ≡ now.bridged → out.new ≡ out_of call (period_with now up.now pcm handed ∷ ts)) }
     {
         let yielded = self.search.feed(up);
         let found = read(&yielded);
@@ -122,12 +122,12 @@ impl Leg {
         requires { self.old.search.periods < 4294967295 }
         ensures step { period_worked self.old up.now pcm.now ≡ (out.new, bits_of down.new, self.new) }
         ensures periods { self.new.search.periods ≡ self.old.search.periods + 1 }
-        ensures history { (call : ℕ) (ts : List CallPeriod) (now : Settings) → now.bridged ≡ false → Stands call ts now self.old →
-            Stands call (period_with now up.now pcm.now None ∷ ts) (later now) self.new }
-        ensures out { (call : ℕ) (ts : List CallPeriod) (now : Settings) → now.bridged ≡ false → Stands call ts now self.old →
-            out.new ≡ out_of call (period_with now up.now pcm.now None ∷ ts) }
-        ensures down { (call : ℕ) (ts : List CallPeriod) (now : Settings) → now.bridged ≡ false → Stands call ts now self.old →
-            bits_of down.new ≡ down_now call (period_with now up.now pcm.now None ∷ ts) }
+        ensures history { OfItsCall self.old (λ call ts now.
+            now.bridged ≡ false → Stands call (period_with now up.now pcm.now None ∷ ts) (later now) self.new) }
+        ensures out { OfItsCall self.old (λ call ts now.
+            now.bridged ≡ false → out.new ≡ out_of call (period_with now up.now pcm.now None ∷ ts)) }
+        ensures down { OfItsCall self.old (λ call ts now.
+            now.bridged ≡ false → bits_of down.new ≡ down_now call (period_with now up.now pcm.now None ∷ ts)) }
     {
         self.up_half(up, out);
         self.down_half(pcm, down);
@@ -137,8 +137,8 @@ impl Leg {
     pub fn bridge_on(&mut self)
         ensures periods { self.new.search.periods ≡ self.old.search.periods }
         ensures step { self.new ≡ begin_bridge self.old }
-        ensures history { (call : ℕ) (ts : List CallPeriod) (now : Settings) → due (down_periods ts) (frames_of ts) ≡ None → Stands call ts now self.old →
-            Stands call ts (with_bridge now) self.new }
+        ensures history { OfItsCall self.old (λ call ts now.
+            due (down_periods ts) (frames_of ts) ≡ None → Stands call ts (with_bridge now) self.new) }
     {
         self.decoder = Decoder::home();
         self.down.bridge_on();
@@ -148,16 +148,16 @@ impl Leg {
     pub fn bridge_off(&mut self)
         ensures periods { self.new.search.periods ≡ self.old.search.periods }
         ensures step { self.new ≡ with_down self.old (bridge_over self.old.down) }
-        ensures history { (call : ℕ) (ts : List CallPeriod) (now : Settings) → now.bridged ≡ true → Stands call ts now self.old →
-            Stands call ts (without_bridge now) self.new }
+        ensures history { OfItsCall self.old (λ call ts now. now.bridged ≡ true → Stands call ts (without_bridge now) self.new) }
     {
         self.down.bridge_off();
     }
 
     /// Whether it isn't bridged and a handed frame waits. Between periods at most one waits.
     pub fn draining(&self) -> bool
-        ensures value { (call : ℕ) (ts : List CallPeriod) (now : Settings) → Stands call ts now self.now → result ≡ is_draining ts now }
-        ensures one { (call : ℕ) (ts : List CallPeriod) (now : Settings) → Stands call ts now self.now → length self.now.down.waiting ≤ 1 }
+        ensures memory { result ≡ (not self.now.down.bridged && not (length self.now.down.waiting == 0)) }
+        ensures value { OfItsCall self.now (λ call ts now. result ≡ is_draining ts now) }
+        ensures one { OfItsCall self.now (λ call ts now. length self.now.down.waiting ≤ 1) }
     {
         self.down.draining()
     }
@@ -167,7 +167,7 @@ impl Leg {
         requires { pos 0 ≤ℤ level }
         ensures step { self.new ≡ with_down self.old (set_level level self.old.down) }
         ensures periods { self.new.search.periods ≡ self.old.search.periods }
-        ensures history { (call : ℕ) (ts : List CallPeriod) (now : Settings) → Stands call ts now self.old → Stands call ts (with_level level now) self.new }
+        ensures history { OfItsCall self.old (λ call ts now. Stands call ts (with_level level now) self.new) }
     {
         self.down.level = level;
     }
@@ -176,21 +176,23 @@ impl Leg {
     pub fn set_dtx(&mut self, mode: DtxMode)
         ensures step { self.new ≡ with_down self.old (set_mode mode self.old.down) }
         ensures periods { self.new.search.periods ≡ self.old.search.periods }
-        ensures history { (call : ℕ) (ts : List CallPeriod) (now : Settings) → Stands call ts now self.old → Stands call ts (with_mode mode now) self.new }
+        ensures history { OfItsCall self.old (λ call ts now. Stands call ts (with_mode mode now) self.new) }
     {
         self.down.mode = mode;
     }
 
     /// How many handed frames were sent in the latest bridge.
     pub fn sent(&self) -> u32
-        ensures { (call : ℕ) (ts : List CallPeriod) (now : Settings) → Stands call ts now self.now → result ≡ sent_now ts now }
+        ensures memory { result ≡ self.now.down.sent }
+        ensures history { OfItsCall self.now (λ call ts now. result ≡ sent_now ts now) }
     {
         self.down.sent
     }
 
     /// What was counted of the call's periods.
     pub fn counts(&self) -> Counts
-        ensures { (call : ℕ) (ts : List CallPeriod) (now : Settings) → Stands call ts now self.now → result ≡ call_counts ts }
+        ensures memory { result ≡ record self.now.counts { made = self.now.down.made } }
+        ensures history { OfItsCall self.now (λ call ts now. result ≡ call_counts ts) }
     {
         Counts {
             made: self.down.made,

@@ -22,7 +22,7 @@ pub(crate) struct Coder {
     pub(crate) tx: Tx,
 }
 
-/// Whether DTX is on, where the uplink asks so.
+/// Whether DTX is on in this mode; `asked` is what the uplink asks for.
 pub(crate) fn dtx_on(mode: DtxMode, asked: bool) -> bool
     ensures { result ≡ dtx_in mode asked }
 {

@@ -87,7 +87,7 @@ impl DownSide {
         let waited = !self.waiting.is_empty();
         self.sent = counted(self.sent, waited);
         self.made = one_made(self.made);
-        let on = dtx_on(self.mode, self.uplink);
+        let on = dtx_on(self.mode, self.dtxd);
         let frame = next_frame(
             &mut self.waiting,
             &mut self.coder,

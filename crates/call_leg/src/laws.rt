@@ -14,7 +14,7 @@ ghost use Rattle.call_leg.specs.Settings.{Settings, new_settings, later, with_le
 ghost use Rattle.call_leg.specs.Out.{out_of};
 ghost use Rattle.call_leg.specs.Down.{down_periods, frames_of, down_made, down_now, down_line};
 ghost use Rattle.call_leg.specs.Memory.{LegMemory};
-ghost use Rattle.call_leg.specs.Stands.{Stands, Midway};
+ghost use Rattle.call_leg.specs.Stands.{Stands, OfItsCall, Midway};
 ghost use Rattle.call_leg.specs.Step.{home_leg, up_worked, with_down, after_handing, down_worked, period_worked, set_level, set_mode, begin_bridge, bridge_over};
 
 /// The Down line of a call is the front of the downlink that is made: 320 bits a period.
@@ -43,12 +43,12 @@ pub fn a_new_leg_stands()
 /// The uplink half of a period, with its 40 octets of the Up line: what it leaves, its effective frame, and its octets
 /// of the Out line.
 pub fn the_uplink_half_stands()
-    ensures stands { (call : ℕ) (ts : List CallPeriod) (now : Settings) (up : List ℕ) (m : LegMemory) → length up ≡ 40 → Stands call ts now m →
-        Midway call ts now up None (up_worked m up).2 }
-    ensures effective { (call : ℕ) (ts : List CallPeriod) (now : Settings) (up pcm : List ℕ) (handed : Option (List ℕ)) (m : LegMemory) → length up ≡ 40 → Stands call ts now m →
-        (up_worked m up).0 ≡ effective_now call (period_with now up pcm handed ∷ ts) }
-    ensures out { (call : ℕ) (ts : List CallPeriod) (now : Settings) (up pcm : List ℕ) (handed : Option (List ℕ)) (m : LegMemory) → length up ≡ 40 → is_some handed ≡ now.bridged →
-        Stands call ts now m → (up_worked m up).1 ≡ out_of call (period_with now up pcm handed ∷ ts) }
+    ensures stands { (up : List ℕ) (m : LegMemory) → length up ≡ 40 → OfItsCall m (λ call ts now.
+        Midway call ts now up None (up_worked m up).2) }
+    ensures effective { (up pcm : List ℕ) (handed : Option (List ℕ)) (m : LegMemory) → length up ≡ 40 → OfItsCall m (λ call ts now.
+        (up_worked m up).0 ≡ effective_now call (period_with now up pcm handed ∷ ts)) }
+    ensures out { (up pcm : List ℕ) (handed : Option (List ℕ)) (m : LegMemory) → length up ≡ 40 → OfItsCall m (λ call ts now.
+        is_some handed ≡ now.bridged → (up_worked m up).1 ≡ out_of call (period_with now up pcm handed ∷ ts)) }
 {}
 
 /// The handing over of a partner's effective frame, between the halves of a period.
@@ -68,28 +68,28 @@ pub fn the_downlink_half_stands()
 /// A whole period of a leg that isn't bridged: what it leaves, its octets of the Out line, and its bits of the Down
 /// line.
 pub fn the_period_stands()
-    ensures stands { (call : ℕ) (ts : List CallPeriod) (now : Settings) (up pcm : List ℕ) (m : LegMemory) → length up ≡ 40 → length pcm ≡ 160 → now.bridged ≡ false → Stands call ts now m →
-        Stands call (period_with now up pcm None ∷ ts) (later now) (period_worked m up pcm).2 }
-    ensures out { (call : ℕ) (ts : List CallPeriod) (now : Settings) (up pcm : List ℕ) (m : LegMemory) → length up ≡ 40 → length pcm ≡ 160 → now.bridged ≡ false → Stands call ts now m →
-        (period_worked m up pcm).0 ≡ out_of call (period_with now up pcm None ∷ ts) }
-    ensures down { (call : ℕ) (ts : List CallPeriod) (now : Settings) (up pcm : List ℕ) (m : LegMemory) → length up ≡ 40 → length pcm ≡ 160 → now.bridged ≡ false → Stands call ts now m →
-        (period_worked m up pcm).1 ≡ down_now call (period_with now up pcm None ∷ ts) }
+    ensures stands { (up pcm : List ℕ) (m : LegMemory) → length up ≡ 40 → length pcm ≡ 160 → OfItsCall m (λ call ts now.
+        now.bridged ≡ false → Stands call (period_with now up pcm None ∷ ts) (later now) (period_worked m up pcm).2) }
+    ensures out { (up pcm : List ℕ) (m : LegMemory) → length up ≡ 40 → length pcm ≡ 160 → OfItsCall m (λ call ts now.
+        now.bridged ≡ false → (period_worked m up pcm).0 ≡ out_of call (period_with now up pcm None ∷ ts)) }
+    ensures down { (up pcm : List ℕ) (m : LegMemory) → length up ≡ 40 → length pcm ≡ 160 → OfItsCall m (λ call ts now.
+        now.bridged ≡ false → (period_worked m up pcm).1 ≡ down_now call (period_with now up pcm None ∷ ts)) }
 {}
 
 /// Orders between periods: the level and the DTX mode are set, a bridge begins where no handed frame waits, and a
 /// bridge ends.
 pub fn orders_stand()
-    ensures level { (call : ℕ) (ts : List CallPeriod) (now : Settings) (level : ℤ) (m : LegMemory) → Stands call ts now m →
-        Stands call ts (with_level level now) (with_down m (set_level level m.down)) }
-    ensures mode { (call : ℕ) (ts : List CallPeriod) (now : Settings) (mode : DtxMode) (m : LegMemory) → Stands call ts now m →
-        Stands call ts (with_mode mode now) (with_down m (set_mode mode m.down)) }
-    ensures begin { (call : ℕ) (ts : List CallPeriod) (now : Settings) (m : LegMemory) → due (down_periods ts) (frames_of ts) ≡ None → Stands call ts now m →
-        Stands call ts (with_bridge now) (begin_bridge m) }
-    ensures end { (call : ℕ) (ts : List CallPeriod) (now : Settings) (m : LegMemory) → now.bridged ≡ true → Stands call ts now m →
-        Stands call ts (without_bridge now) (with_down m (bridge_over m.down)) }
+    ensures level { (level : ℤ) (m : LegMemory) → OfItsCall m (λ call ts now.
+        Stands call ts (with_level level now) (with_down m (set_level level m.down))) }
+    ensures mode { (mode : DtxMode) (m : LegMemory) → OfItsCall m (λ call ts now.
+        Stands call ts (with_mode mode now) (with_down m (set_mode mode m.down))) }
+    ensures begin { (m : LegMemory) → OfItsCall m (λ call ts now.
+        due (down_periods ts) (frames_of ts) ≡ None → Stands call ts (with_bridge now) (begin_bridge m)) }
+    ensures end { (m : LegMemory) → OfItsCall m (λ call ts now.
+        now.bridged ≡ true → Stands call ts (without_bridge now) (with_down m (bridge_over m.down))) }
 {}
 
 /// A leg's search counts the periods of its call.
 pub fn the_periods_are_counted()
-    ensures { (call : ℕ) (ts : List CallPeriod) (now : Settings) (m : LegMemory) → Stands call ts now m → m.search.periods ≡ length ts }
+    ensures { (m : LegMemory) → OfItsCall m (λ call ts now. m.search.periods ≡ length ts) }
 {}

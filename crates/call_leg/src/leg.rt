@@ -9,6 +9,11 @@ use trau_io::Counts;
 
 /// The leg of one call. It is alone, bridged or draining: within a bridge its partner's frames go out on its downlink,
 /// and it drains where one of them still waits after the bridge.
+///
+/// A period is `up_half`, within a bridge `hand` with the partner's effective frame, and `down_half`; of a leg that
+/// isn't bridged, `period` is both halves. Level, DTX and bridges are set between periods, and a bridge begins only
+/// while no handed frame waits (`draining` is false). Calls in another order are safe and do their one step (`step`);
+/// the clauses on a call's history then say nothing.
 #[derive(Drop)]
 pub struct Leg {
     pub(crate) search: FrameSync,

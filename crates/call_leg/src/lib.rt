@@ -10,9 +10,10 @@
 //! `side` and `sides` the downlink side, `coder` and `down` the way down; `laws` has the laws.
 //!
 //! Definitions: `specs/Periods.antt` (the periods of a call), `specs/Uplink.antt` (what its uplink tells),
-//! `specs/Out.antt` and `specs/Down.antt` (its outgoing lines), `specs/Counted.antt`, `specs/Places.antt` and
-//! `specs/Stands.antt` (what a leg holds after all periods so far), `specs/Memory.antt` (what it keeps),
-//! `specs/Step.antt` (one call after another).
+//! `specs/Settings.antt` (what is set for its next period), `specs/Out.antt` and `specs/Down.antt` (its outgoing lines),
+//! `specs/Waiting.antt` (the handed frames that wait), `specs/Counted.antt`, `specs/Places.antt` and `specs/Stands.antt`
+//! (what a leg holds after all periods so far), `specs/Memory.antt` (what it keeps), `specs/Step.antt` (one call after
+//! another).
 #![tactic(auto)]
 
 mod calls;

@@ -20,7 +20,7 @@ pub(crate) struct DownSide {
     pub(crate) level: i16,
     pub(crate) mode: DtxMode,
     // DTXd of the last uplink speech frame.
-    pub(crate) uplink: bool,
+    pub(crate) dtxd: bool,
     // Whether the period's effective frame is quiet.
     pub(crate) quiet: bool,
     pub(crate) bridged: bool,

@@ -1,13 +1,10 @@
 //! The downlink side of a leg, beside its half of a period.
 
-ghost use Rattle.std.specs.Prelude.{◌≡◌, ◌<◌, ℕ, List, IfOk, IfSome};
+ghost use Rattle.std.specs.Prelude.{◌≡◌, ◌<◌, not, ◌&&◌, ◌==◌, length, IfOk, IfSome};
 ghost use Rattle.down_framer.specs.Memory.{IsBetween};
 ghost use Rattle.rx_handler.specs.State.{effective_fields};
 ghost use Rattle.call_leg.specs.Uplink.{sighting_of};
-ghost use Rattle.call_leg.specs.Periods.{CallPeriod};
-ghost use Rattle.call_leg.specs.Settings.{Settings};
 ghost use Rattle.call_leg.specs.Memory.{down_memory};
-ghost use Rattle.call_leg.specs.Places.{Between, is_draining};
 ghost use Rattle.call_leg.specs.Step.{home_down, asked, after_sighting, after_handing, bridge_begun, bridge_over};
 
 use crate::coder::Coder;
@@ -48,7 +45,7 @@ impl DownSide {
             coder: Coder::home(),
             level: 256,
             mode: DtxMode::Uplink,
-            uplink: false,
+            dtxd: false,
             quiet: true,
             bridged: false,
             sent: 0,
@@ -62,7 +59,7 @@ impl DownSide {
         ensures step { down_memory self.new ≡ after_sighting (down_memory self.old) (sighting_of found.now) quiet }
     {
         ask(&mut self.align, field(found));
-        self.uplink = dtxd(found, self.uplink);
+        self.dtxd = dtxd(found, self.dtxd);
         self.quiet = quiet;
     }
 
@@ -99,7 +96,7 @@ impl DownSide {
 
     /// Whether no bridge is on and a handed frame waits.
     pub(crate) fn draining(&self) -> bool
-        ensures { (call : ℕ) (ts : List CallPeriod) (now : Settings) → Between call ts now (down_memory self.now) → result ≡ is_draining ts now }
+        ensures { result ≡ (not self.now.bridged && not (length self.now.waiting.items == 0)) }
     {
         !self.bridged && !self.waiting.is_empty()
     }

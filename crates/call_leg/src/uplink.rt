@@ -11,7 +11,6 @@ use trau_frame::{Class, Kind, read_up};
 use trau_io::Counts;
 
 /// Reads the frame that a yield carries.
-#[tactic(auto, unfolding(crate::specs::Uplink::words_in))]
 pub(crate) fn read(found: &Option<Yield>) -> Found
     requires { IfSome found.now CarriesFrame }
     ensures { sighting_of result ≡ sighting_in found.now }

@@ -7,13 +7,13 @@ use Rattle.trau_orders.specs.declared.order.DtxMode.TheVariants.{Uplink}
 use Rattle.trau_frame.specs.DownFrame.{down_bits, down_control}
 use Rattle.trau_frame.specs.Frame.{number_of, data_of, frame_bits}
 use Rattle.trau_frame.specs.Role.{role_of, place_of}
+use Rattle.trau_frame.specs.UpFrame.{words_in}
 use Rattle.trau_frame.specs.declared.frames.DownFrame.TheVariants as frames
 use Rattle.frame_sync.specs.Match.{is_match, frame_at}
 use Rattle.frame_sync.specs.Periods.{each_yield, searched, first_match, line_bits, mode_after}
 use Rattle.rx_handler.specs.Effective.{effective_at, origin_at, latest_anchor}
 use Rattle.fr_decoder.specs.Decoded.{decoded}
 use Rattle.time_align.specs.Shift.{shift_of}
-use Rattle.call_leg.specs.Uplink.{words_in}
 use Rattle.call_leg.specs.Periods.{CallPeriod}
 use Rattle.call_leg.specs.Out.{compressed}
 use Rattle.call_output.specs.Stretches.{stretches}

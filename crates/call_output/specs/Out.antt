@@ -1,11 +1,11 @@
 -- The Out line of a call as a whole: what its uplink says, decoded (GSM 06.10; when nothing is decoded is this
 -- project's profile). All lists have the oldest first.
-use Rattle.std.specs.Prelude.{ℕ, Bool, not, ◌&&◌, if◌then◌else◌, Option, Some, None, is_some, option_to_list, List, [], ◌∷◌, map, replicate}
+use Rattle.std.specs.Prelude.{ℕ, Bool, not, ◌&&◌, if◌then◌else◌, Option, Some, None, is_some, option_to_list, List, [], ◌∷◌, map}
 use Rattle.std.specs.List.{flat_map}
 use Rattle.trau_params.specs.Fields.{Fields}
 use Rattle.fr_decoder.specs.Decoded.{decoded}
 use Rattle.rx_handler.specs.Origin.{EffectiveFields, Quiet, Speech, Made}
-use Rattle.call_leg.specs.Out.{compressed}
+use Rattle.call_leg.specs.Out.{idle_octets, compressed}
 use Rattle.call_output.specs.Stretches.{stretches}
 use Rattle.call_output.specs.Call.{Call, each_period, effective, item_at, starts_at}
 
@@ -33,7 +33,7 @@ goes_on a b = is_some a.parameters && is_some b.parameters && not b.starts
 
 -- the octets of a plain stretch, decoded from home over all its parameters, and of a period that isn't plain
 abbrev pub octets_of : List Fields → List ℕ
-octets_of [] = replicate 160 213
+octets_of [] = idle_octets
 octets_of (p ∷ ps) = compressed (decoded (p ∷ ps))
 
 -- the parameters of a stretch, of which a period that isn't plain has none

@@ -54,7 +54,7 @@ fn step_of(shift: i16) -> usize
     ensures value { result ≡ octets_of shift }
     ensures within { (158 ≤ result) × (result ≤ 316) }
 {
-    if shift < 0 { 158 } else { 160 + shift as usize }
+    (160 + shift) as usize
 }
 
 impl Framer {

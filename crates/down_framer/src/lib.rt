@@ -6,9 +6,12 @@
 //! octets are taken a second time and the frame goes without its four T bits. One octet of the exchange's line is two
 //! bits of the downlink, so what is held, in store and to be skipped is always balanced.
 //!
-//! `framer` has the two rings, `laws` what the definitions have in common. Definitions: `specs/Made.antt` (the made frames and the downlink, by absolute places),
-//! `specs/ByNumber.antt` (the same frame by frame, over a list of bridges), `specs/Places.antt` (what a framer holds, by
-//! absolute places), `specs/Memory.antt` (one call after another). Used by a call's leg.
+//! `framer` has the two rings, `laws` what the definitions have in common. Used by a call's leg.
+//!
+//! Definitions: `specs/Made.antt` (the made frames and the downlink, by absolute places), `specs/Bridges.antt` (where a
+//! bridge may start), `specs/ByNumber.antt` (the made frames one by one, over a list of bridges), `specs/Places.antt`
+//! (what a framer holds, by absolute places), `specs/Memory.antt` (one call after another), `specs/Rings.antt` (what its
+//! two rings keep).
 #![tactic(auto)]
 
 mod framer;

@@ -16,7 +16,7 @@ use Rattle.trau_frame.specs.declared.frames.Class.{Class}
 use Rattle.trau_frame.specs.declared.frames.Class.TheVariants as classes
 use Rattle.trau_frame.specs.Role.{Data, bit_with}
 use Rattle.trau_frame.specs.Frame.{data_of}
-use Rattle.trau_frame.specs.UpFrame.{kind_of, class_of}
+use Rattle.trau_frame.specs.UpFrame.{kind_of, class_of, words_in}
 use Rattle.trau_frame.specs.Relay.{IsGoodSpeech}
 use Rattle.trau_frame.proofs.RowPlaces.{bit-below}
 use Rattle.trau_frame.proofs.ReadRows.{data_of-below}
@@ -30,7 +30,7 @@ use Rattle.rx_handler.specs.Origin.{Speech}
 use Rattle.rx_handler.specs.Past.{anchor_of, effective_of}
 use Rattle.switchboard.specs.declared.act.Span as board
 use Rattle.switchboard.specs.Calls.{opened_at}
-use Rattle.call_leg.specs.Uplink.{Framed, sighting_in, heard_as, words_in, handed_fields}
+use Rattle.call_leg.specs.Uplink.{Framed, sighting_in, heard_as, handed_fields}
 use Rattle.call_leg.specs.Periods.{effective_now}
 use Rattle.call_output.specs.Call.{yield_at, effective}
 use Rattle.call_output.specs.History.{IsCallHistory, call_of}

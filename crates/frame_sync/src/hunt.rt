@@ -32,6 +32,7 @@ pub(crate) fn find_match(window: &[u8; 640], first: usize) -> Option<usize>
     ensures none { IfNone result (NoMatch (bit_in window.now) first 321) }
 {
     let mut zeros = 0;
+    // Place 320 is the last whose frame ends in the window, and its sixteenth zero stands at 335.
     for end in first..336 {
         zeros = zeros_after(zeros, window[end]);
         if zeros >= 16 && ones_match(window, end - 15) {

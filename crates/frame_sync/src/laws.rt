@@ -17,7 +17,7 @@ pub fn periods_give_all_yields()
     ensures { (periods : List (List ℕ)) → ArePeriods periods → Yields (all_bits periods) (all_yields periods) }
 {}
 
-/// A list of bits has one list of yields.
+/// A list of bits has one list of yields at most. (`periods_give_all_yields`: that of whole periods has one.)
 pub fn one_list()
     ensures { (bits : List ℕ) (ys zs : List Yield) → Yields bits ys → Yields bits zs → ys ≡ zs }
 {}

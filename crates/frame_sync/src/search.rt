@@ -43,12 +43,8 @@ fn joined(last: &[u8; 320], bits: &[u8; 320]) -> [u8; 640]
     ensures { result ≡ last.now ++ bits.now }
 {
     let mut window = [0; 640];
-    for i in 0..320 {
-        window[i] = last[i];
-    }
-    for i in 0..320 {
-        window[320 + i] = bits[i];
-    }
+    window[..320].copy_from_slice(last);
+    window[320..].copy_from_slice(bits);
     window
 }
 

@@ -3,7 +3,7 @@ use trau_params::Params;
 /// What the receive side hands on for a period.
 #[derive(Clone, Copy, Debug, PartialEq, Eq)]
 pub enum Effective {
-    /// Nothing was heard yet, or an idle frame was the last.
+    /// No good speech and no silence descriptor came yet, or none since the last idle frame.
     Quiet,
     /// A good speech frame, unchanged.
     Speech(Params),

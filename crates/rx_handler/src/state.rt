@@ -12,8 +12,8 @@ pub(crate) struct LostRow {
     ghost stops: { periods ≤ 17 },
 }
 
-/// How the level of noise falls: the silence descriptors that were missed, two at most, and the periods since the
-/// second of them, 17 at most.
+/// How the level of noise falls: the silence descriptors that were missed, two at most, and the periods from the
+/// second of them on, 17 at most.
 #[derive(Clone, Copy)]
 pub(crate) struct Fall {
     pub(crate) missed: u8,

@@ -1,41 +1,57 @@
 -- Data bits are read row by row.
-use Rattle.std.proofs.Common.{◌≡◌, ℕ, ◌+◌, ◌*◌, ◌<◌, List, map, length, get_or, set, refl, sym, ◌∙◌, subst, arith}
+use Rattle.std.proofs.Common.{◌≡◌, ℕ, ◌+◌, ◌-◌, ◌*◌, ◌<◌, ◌≤◌, List, map, length, get_or, slice_range, refl, sym, ap, ◌∙◌, subst, arith, inl, inr}
 use Rattle.std.specs.List.{range_with_len}
-use Rattle.std.proofs.lemmas.List.{length-set}
-use Rattle.std.proofs.lemmas.List.Edits.{fill_by_more}
+use Rattle.std.proofs.lemmas.Bool.{cases_lt}
 use Rattle.std.proofs.lemmas.List.FromFn.{length-map-range_with_len, get_or-map-range_with_len}
 use Rattle.std.proofs.lemmas.Grind.{same_number_lists}
+use borrow.Rule.Slice.PartMut.{put_mid}
 use Rattle.trau_bits.specs.Bits.{AreBits}
 use Rattle.trau_frame.specs.Role.{Data, place_of, bit_with}
 use Rattle.trau_frame.specs.Frame.{data_of}
 use Rattle.trau_frame.proofs.RowPlaces.{place_of-row, place_of-last, bit-below}
+use Rattle.trau_frame.proofs.Copied.{get_or-part, get_or-put_mid_below, get_or-put_mid, length-put_mid}
 
 -- the first n data bits are read
 pub record IsRead (bits d : List ℕ) (n : ℕ) : Type 0 where
   pub count : length d ≡ 260
   pub each : (k : ℕ) → k < n → get_or d k 0 ≡ bit_with bits (Data (k + 1))
 
-pub read_next : (bits d : List ℕ) (k m place : ℕ) → k < 260 → place_of (Data (k + 1)) ≡ place → m ≡ k + 1 →
-    IsRead bits d k → IsRead bits (set d k (get_or bits place 0)) m
-read_next bits d k m place l e next h =
+-- bits that stand one behind another, copied as a whole
+read_part : (bits d ys : List ℕ) (from place n k m : ℕ) → from + n ≤ 260 → place + n ≤ length bits → k ≡ n → m ≡ from + n →
+    ((j : ℕ) → j < n → place_of (Data (from + j + 1)) ≡ place + j) → length ys ≡ n → ys ≡ slice_range bits place (place + n) →
+    IsRead bits d from → IsRead bits (put_mid from k d ys) m
+read_part bits d ys from place n k m within inside width next stand len same h =
     let count = h.count in
     record {
-      count = length-set d k _ ∙ count;
-      each = rw (next, ← e) (fill_by_more (λ k. bit_with bits (Data (k + 1))) d k 0 (omega arith) h.each);
+      count = length-put_mid from k d ys (omega arith) (omega arith) ∙ count;
+      each = λ i below. elim (cases_lt i from) [
+        | inl before ↦ get_or-put_mid_below from k d ys i before (omega arith) ∙ h.each i before
+        | inr here ↦
+            let j : ℕ = i - from in
+            let small : j < n = omega arith in
+            let index : from + j ≡ i = omega arith in
+            ap (λ i. get_or (put_mid from k d ys) i 0) (sym index) ∙
+            get_or-put_mid from k d ys j (omega arith) (omega arith) ∙
+            ap (λ l. get_or l j 0) same ∙ get_or-part bits place n j inside small ∙
+            ap (λ p. get_or bits p 0) (sym (stand j small)) ∙
+            ap (λ i. bit_with bits (Data (i + 1))) index
+      ];
     }
 
 -- fifteen data bits
-pub read_row : (bits d : List ℕ) (row j : ℕ) → row < 17 → j < 15 → IsRead bits d (15 * row + j) →
-    IsRead bits (set d (15 * row + j) (get_or bits (32 + 16 * row + 1 + j) 0)) (15 * row + (j + 1))
-read_row bits d row j r l h =
-    read_next bits d (15 * row + j) (15 * row + (j + 1)) (32 + 16 * row + 1 + j) (omega arith)
-    (place_of-row row j (15 * row + j + 1) r l refl) (omega arith) h
+pub read_row : (bits d ys : List ℕ) (row k : ℕ) → row < 17 → length bits ≡ 320 → k ≡ 15 → length ys ≡ 15 →
+    ys ≡ slice_range bits (32 + 16 * row + 1) (32 + 16 * row + 1 + 15) → IsRead bits d (15 * row) →
+    IsRead bits (put_mid (15 * row) k d ys) (15 * (row + 1))
+read_row bits d ys row k r all width len same h =
+    read_part bits d ys (15 * row) (32 + 16 * row + 1) 15 k (15 * (row + 1)) (omega arith) (omega arith) width (omega arith)
+    (λ j l. place_of-row row j (15 * row + j + 1) r l refl) len same h
 
 -- the last five data bits
-pub read_last : (bits d : List ℕ) (n : ℕ) → n < 5 → IsRead bits d (255 + n) →
-    IsRead bits (set d (255 + n) (get_or bits (305 + n) 0)) (255 + (n + 1))
-read_last bits d n l h =
-    read_next bits d (255 + n) (255 + (n + 1)) (305 + n) (omega arith) (place_of-last n (255 + n + 1) l refl) (omega arith) h
+pub read_last : (bits d ys : List ℕ) → length bits ≡ 320 → length ys ≡ 5 → ys ≡ slice_range bits 305 310 →
+    IsRead bits d 255 → IsRead bits (put_mid 255 5 d ys) 260
+read_last bits d ys all len same h =
+    read_part bits d ys 255 305 5 5 260 (omega arith) (omega arith) refl refl
+    (λ j l. place_of-last j (255 + j + 1) l refl) len same h
 
 pub read_to : (bits d : List ℕ) (n m : ℕ) → n ≡ m → IsRead bits d n → IsRead bits d m
 read_to bits d n m e h = subst (IsRead bits d) e h

@@ -7,8 +7,8 @@ use Rattle.trau_frame.specs.declared.frames.Class.{Class}
 use Rattle.trau_frame.specs.declared.frames.Class.TheVariants.{Good, Sid, InvalidSid, Unusable}
 use Rattle.trau_frame.specs.declared.frames.UpFrame.{UpFrame}
 use Rattle.trau_frame.specs.Role.{Control, bit_with}
-use Rattle.trau_frame.specs.Frame.{Synced, number_of}
-use Rattle.trau_frame.specs.UpFrame.{kind_by, class_by, class_at, kind_of, Says}
+use Rattle.trau_frame.specs.Frame.{Synced, number_of, data_of}
+use Rattle.trau_frame.specs.UpFrame.{kind_by, class_by, class_at, kind_of, class_of, words_in, Says}
 use Rattle.trau_frame.specs.UpBits.{up_pattern, bfi_of, sid_of, up_control_bit, up_control, up_bits, FitsKind, SameFrame}
 use Rattle.trau_frame.proofs.Again.{synced-frame_bits, bit_with-frame_bits, data_of-frame_bits}
 
@@ -90,29 +90,22 @@ flag-again false = refl
 
 -- ---- all of it
 
-pub says-up_bits : (f : UpFrame) → length f.d ≡ 260 → FitsKind f.kind f.class → Says (up_bits f) f
+data-again : (f : UpFrame) → length f.d ≡ 260 → data_of (up_bits f) ≡ f.d
 unfolding up_bits
+data-again f count = data_of-frame_bits (up_control f) f.d count
+
+pub says-up_bits : (f : UpFrame) → length f.d ≡ 260 → FitsKind f.kind f.class → Says (up_bits f) f
+unfolding words_in
 says-up_bits f count fits =
     let kind : kind_of (up_bits f) ≡ f.kind = ap kind_by (pattern-again f) ∙ kind-again f.kind in
     let bfi : bit_with (up_bits f) (Control 12) ≡ bfi_of f.class = control-again f 12 (omega arith) (omega arith) in
     let sid : number_of (up_bits f) 13 2 ≡ sid_of f.class = sid-again f in
-    record {
-      kind = sym kind;
-      class = sym (rw (kind, bfi, sid) (class-again f.kind f.class fits));
-      taf = sym (ap (λ b. b == 1) (control-again f 15 (omega arith) (omega arith)) ∙ flag-again f.taf);
-      dtxd = sym (ap (λ b. b == 1) (control-again f 17 (omega arith) (omega arith)) ∙ flag-again f.dtxd);
-      align = sym (align-again f);
-      data_bits = sym (data_of-frame_bits (up_control f) f.d count);
-    }
+    let class : class_of (up_bits f) ≡ f.class = rw (kind, bfi, sid) (class-again f.kind f.class fits) in
+    let taf = ap (λ b. b == 1) (control-again f 15 (omega arith) (omega arith)) ∙ flag-again f.taf in
+    let dtxd = ap (λ b. b == 1) (control-again f 17 (omega arith) (omega arith)) ∙ flag-again f.dtxd in
+    let align = align-again f in
+    let d = data-again f count in
+    cc
 
 pub same-up_bits : (f g : UpFrame) → length f.d ≡ 260 → FitsKind f.kind f.class → Says (up_bits f) g → SameFrame f g
-same-up_bits f g count fits says =
-    let own = says-up_bits f count fits in
-    record {
-      kind = own.kind ∙ sym says.kind;
-      class = own.class ∙ sym says.class;
-      taf = own.taf ∙ sym says.taf;
-      dtxd = own.dtxd ∙ sym says.dtxd;
-      align = own.align ∙ sym says.align;
-      data_bits = own.data_bits ∙ sym says.data_bits;
-    }
+same-up_bits f g count fits says = says-up_bits f count fits ∙ sym says

@@ -1,17 +1,17 @@
 -- A frame is written row by row.
-use Rattle.std.proofs.Common.{◌≡◌, ℕ, ◌+◌, ◌-◌, ◌*◌, ◌<◌, ◌≤◌, List, map, replicate, length, get_or, set, refl, sym, ap, ◌∙◌, subst, arith, rules, slice_range, inl, inr}
+use Rattle.std.proofs.Common.{◌≡◌, ℕ, ◌+◌, ◌-◌, ◌*◌, ◌<◌, ◌≤◌, List, map, replicate, length, get_or, set, refl, sym, ap, ◌∙◌, subst, arith, slice_range, inl, inr}
 use Rattle.std.specs.List.{range_with_len}
-use Rattle.std.proofs.lemmas.List.{length-set, get_or-replicate, places}
+use Rattle.std.proofs.lemmas.List.{length-set, get_or-replicate}
 use Rattle.std.proofs.lemmas.List.Edits.{fill_by_more}
 use Rattle.std.proofs.lemmas.List.FromFn.{fill_by_all, length-map-range_with_len, get_or-map-range_with_len}
 use Rattle.std.proofs.lemmas.Bool.{cases_lt}
-use Rattle.std.proofs.lemmas.Grind.{elements}
 use borrow.Rule.Slice.PartMut.{put_mid}
 use Rattle.trau_bits.specs.Bits.{AreBits}
 use Rattle.trau_frame.specs.Role.{Role, Sync, Control, Data, Time, role_of, place_of, IsWithin}
 use Rattle.trau_frame.specs.Frame.{bit_for, frame_bits, IsWritten}
 use Rattle.trau_frame.proofs.Places.{role_of-zeros, role_of-ones, role_of-within}
 use Rattle.trau_frame.proofs.RowPlaces.{place_of-row, place_of-last, place_of-low, place_of-high, place_of-time, role_of-at, bit-below}
+use Rattle.trau_frame.proofs.Copied.{get_or-part, get_or-put_mid_below, get_or-put_mid, length-put_mid}
 
 pub written_next : (control d bits : List ℕ) (n x : ℕ) → n < 320 → IsWritten control d bits n → x ≡ bit_for control d (role_of n) →
     IsWritten control d (set bits n x) (n + 1)
@@ -83,18 +83,6 @@ written_all control d bits h = fill_by_all (λ i. bit_for control d (role_of i))
 
 -- ---- a row copied as a whole
 
-get_or-put_mid_below : (a k : ℕ) (xs ys : List ℕ) (i : ℕ) → i < a → a ≤ length xs → get_or (put_mid a k xs ys) i 0 ≡ get_or xs i 0
-get_or-put_mid_below a k xs ys i h l = search (rules, places)
-
-get_or-put_mid : (a k : ℕ) (xs ys : List ℕ) (j : ℕ) → a ≤ length xs → j < length ys → get_or (put_mid a k xs ys) (a + j) 0 ≡ get_or ys j 0
-get_or-put_mid a k xs ys j h l = search (rules, places)
-
-length-put_mid : (a k : ℕ) (xs ys : List ℕ) → a + k ≤ length xs → length ys ≡ k → length (put_mid a k xs ys) ≡ length xs
-length-put_mid a k xs ys h l = search (rules, places)
-
-get_or-part : (d : List ℕ) (b j : ℕ) → b + 15 ≤ length d → j < 15 → get_or (slice_range d b (b + 15)) j 0 ≡ get_or d (b + j) 0
-get_or-part d b j h l = grind (arith, elements)
-
 pub written_part : (control d bits ys : List ℕ) (row k : ℕ) → row < 17 → k ≡ 15 → length d ≡ 260 → length ys ≡ 15 →
     ys ≡ slice_range d (15 * row) (15 * row + 15) → IsWritten control d bits (32 + 16 * row + 1) →
     IsWritten control d (put_mid (32 + 16 * row + 1) k bits ys) (32 + 16 * row + 16)
@@ -111,7 +99,7 @@ written_part control d bits ys row k r fifteen len part same h =
             let index : 15 * row + j + 1 - 1 ≡ 15 * row + j = omega arith in
             ap (λ n. get_or (put_mid (32 + 16 * row + 1) k bits ys) n 0) (sym place) ∙
             get_or-put_mid (32 + 16 * row + 1) k bits ys j (omega arith) (omega arith) ∙
-            ap (λ l. get_or l j 0) same ∙ get_or-part d (15 * row) j (omega arith) small ∙
+            ap (λ l. get_or l j 0) same ∙ get_or-part d (15 * row) 15 j (omega arith) small ∙
             ap (λ n. get_or d n 0) (sym index) ∙
             sym (ap (bit_for control d) (role_of-at (Data (15 * row + j + 1)) i (omega arith, omega arith) (place_of-row row j (15 * row + j + 1) r small refl ∙ place)))
       ];

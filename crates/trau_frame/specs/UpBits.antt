@@ -8,6 +8,7 @@ use Rattle.trau_frame.specs.declared.frames.Class.{Class}
 use Rattle.trau_frame.specs.declared.frames.Class.TheVariants.{Good, Sid, InvalidSid, Unusable}
 use Rattle.trau_frame.specs.declared.frames.UpFrame.{UpFrame}
 use Rattle.trau_frame.specs.Frame.{frame_bits}
+use Rattle.trau_frame.specs.UpFrame.{words_of}
 
 -- the number in C1 to C5: 00010 for speech, 10000 for idle and 11111 for other frames
 abbrev pub up_pattern : Kind → ℕ
@@ -56,10 +57,5 @@ FitsKind Idle class = class ≡ Unusable
 FitsKind Other class = class ≡ Unusable
 
 -- both frames say the same
-pub record SameFrame (f g : UpFrame) : Type 0 where
-  pub kind : f.kind ≡ g.kind
-  pub class : f.class ≡ g.class
-  pub taf : f.taf ≡ g.taf
-  pub dtxd : f.dtxd ≡ g.dtxd
-  pub align : f.align ≡ g.align
-  pub data_bits : f.d ≡ g.d
+abbrev pub SameFrame : UpFrame → UpFrame → Type 0
+SameFrame f g = words_of f ≡ words_of g

@@ -1,5 +1,5 @@
 -- What the bits of an uplink frame say (this project's profile, in the manner of GSM 08.60 and GSM 06.31).
-use Rattle.std.specs.Prelude.{◌≡◌, ℕ, if◌then◌else◌, ◌==◌, List}
+use Rattle.std.specs.Prelude.{◌≡◌, ℕ, Bool, if◌then◌else◌, ◌==◌, List}
 use Rattle.trau_frame.specs.declared.frames.Kind.{Kind}
 use Rattle.trau_frame.specs.declared.frames.Kind.TheVariants.{Speech, Idle, Other}
 use Rattle.trau_frame.specs.declared.frames.Class.{Class}
@@ -36,11 +36,30 @@ kind_of bits = kind_by (number_of bits 1 5)
 abbrev pub class_of : List ℕ → Class
 class_of bits = class_at (kind_of bits) (bit_with bits (Control 12)) (number_of bits 13 2)
 
--- the frame is what the bits say: C6 to C11 are the time alignment field, C15 is TAF and C17 is DTXd
-pub record Says (bits : List ℕ) (f : UpFrame) : Type 0 where
-  pub kind : f.kind ≡ kind_of bits
-  pub class : f.class ≡ class_of bits
-  pub taf : f.taf ≡ (bit_with bits (Control 15) == 1)
-  pub dtxd : f.dtxd ≡ (bit_with bits (Control 17) == 1)
-  pub align : f.align ≡ number_of bits 6 6
-  pub data_bits : f.d ≡ data_of bits
+-- what an uplink frame says
+pub record UpWords : Type 0 where
+  pub kind : Kind
+  pub class : Class
+  pub taf : Bool
+  pub dtxd : Bool
+  pub align : ℕ
+  pub d : List ℕ
+
+-- by its 320 bits: C6 to C11 are the time alignment field, C15 is TAF and C17 is DTXd
+unfoldable pub words_in : List ℕ → UpWords
+words_in bits = record {
+  kind = kind_of bits;
+  class = class_of bits;
+  taf = bit_with bits (Control 15) == 1;
+  dtxd = bit_with bits (Control 17) == 1;
+  align = number_of bits 6 6;
+  d = data_of bits;
+}
+
+-- the same of what the code reads
+abbrev pub words_of : UpFrame → UpWords
+words_of f = record { kind = f.kind; class = f.class; taf = f.taf; dtxd = f.dtxd; align = f.align; d = f.d }
+
+-- the frame is what the bits say
+abbrev pub Says : List ℕ → UpFrame → Type 0
+Says bits f = words_of f ≡ words_in bits

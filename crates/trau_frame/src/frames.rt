@@ -4,7 +4,9 @@ ghost use Rattle.trau_bits.specs.Bits.{AreBits};
 /// What a frame carries, by its bits C1 to C5.
 #[derive(Clone, Copy, Debug, PartialEq, Eq)]
 pub enum Kind {
+    /// A speech frame, good or bad, or one with a silence descriptor.
     Speech,
+    /// An idle frame, which carries no speech.
     Idle,
     /// Any other pattern.
     Other,
@@ -27,7 +29,9 @@ pub enum Class {
 /// A frame from a base station.
 #[derive(Clone, Copy)]
 pub struct UpFrame {
+    /// What it carries, by C1 to C5.
     pub kind: Kind,
+    /// What it is worth, by C12 to C14; Unusable where it isn't speech.
     pub class: Class,
     /// Time alignment flag: a silence descriptor is due in this period (GSM 06.31).
     pub taf: bool,
@@ -44,6 +48,7 @@ pub struct UpFrame {
 /// A frame to a base station.
 #[derive(Clone, Copy)]
 pub enum DownFrame {
+    /// No speech: its data bits are ones.
     Idle,
     Speech {
         /// Bits D1 to D260, the codec's parameters.

@@ -1,8 +1,8 @@
 ghost use Rattle.std.specs.Prelude.{◌≡◌, ◌+◌, ◌<◌, ◌≤◌, ◌^◌, ◌==◌};
 ghost use Rattle.trau_bits.specs.Bits.{AreBits};
 ghost use Rattle.trau_frame.specs.Role.{Control, bit_with};
-ghost use Rattle.trau_frame.specs.Frame.{Synced, number_of};
-ghost use Rattle.trau_frame.specs.UpFrame.{kind_by, class_at, Says};
+ghost use Rattle.trau_frame.specs.Frame.{Synced, number_of, data_of};
+ghost use Rattle.trau_frame.specs.UpFrame.{kind_by, class_at, kind_of, class_of, Says};
 
 use crate::frames::{Class, Kind, UpFrame};
 use crate::rows::{control, data};
@@ -59,10 +59,16 @@ fn class(kind: Kind, bfi: u8, sid: u8) -> Class
 /// Reads an uplink frame from 320 bits that carry the sync pattern. A frame of another kind than speech has the
 /// class Unusable; its alignment field, TAF, DTXd and data bits are read all the same. Spare and time bits are
 /// not looked at.
+#[tactic(auto, unfolding(crate::specs::UpFrame::words_in))]
 pub fn read_up(bits: &[u8; 320]) -> UpFrame
     requires bits { AreBits bits.now }
     requires synced { Synced bits.now }
-    ensures { Says bits.now result }
+    ensures says { Says bits.now result }
+
+    // By the parts that most callers take.
+    ensures kind { result.kind ≡ kind_of bits.now }
+    ensures class { result.class ≡ class_of bits.now }
+    ensures data_bits { result.d ≡ data_of bits.now }
 {
     let kind = kind(number(bits, 1, 5));
     UpFrame {

@@ -25,7 +25,11 @@ pub fn control(bits: &[u8; 320], c: usize) -> u8
     ensures value { result ≡ bit_with bits.now (Control c) }
     ensures bit { result < 2 }
 {
-    if c <= 15 { bits[c + 16] } else { bits[c + 294] }
+    if c <= 15 {
+        bits[ROW + c]
+    } else {
+        bits[LAST_ROW + 6 + (c - 16)]
+    }
 }
 
 /// Data bits D1 to D260.
@@ -36,13 +40,12 @@ pub fn data(bits: &[u8; 320]) -> [u8; 260]
 {
     let mut d = [0; 260];
     for row in 0..DATA_ROWS {
-        for j in 0..ROW_DATA {
-            d[ROW_DATA * row + j] = bits[FIRST_ROW + ROW * row + 1 + j];
-        }
+        let place = FIRST_ROW + ROW * row + 1;
+        d[ROW_DATA * row..ROW_DATA * row + ROW_DATA].copy_from_slice(
+            &bits[place..place + ROW_DATA],
+        );
     }
-    for n in 0..5 {
-        d[255 + n] = bits[LAST_ROW + 1 + n];
-    }
+    d[255..].copy_from_slice(&bits[LAST_ROW + 1..LAST_ROW + 6]);
     d
 }
 

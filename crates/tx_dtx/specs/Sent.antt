@@ -10,7 +10,7 @@ abbrev pub pause_of : List Coded → ℕ
 pause_of [] = 0
 pause_of (f ∷ fs) = if is_active f then 0 else suc (pause_of fs)
 
--- a SID is made of an inactive frame and the four inactive ones before it
+-- a SID is made at an inactive frame that has four inactive ones just before it; it is made of the newest four
 abbrev pub is_sid_place : List Coded → Bool
 is_sid_place fs = nat_le 5 (pause_of fs)
 

@@ -21,9 +21,9 @@ returns-clause-history c = λ call ts now h.
     subst (Midway call ts now c.args.up.now None) (ap (λ (r : EffectiveFields × List ℕ × LegMemory). r.2) (returns-clause-step c)) (up-stands call ts now c.args.up.now c.args.self.now c.told-up h)
 
 pub returns-clause-effective : goal.returns-clause-effective
-returns-clause-effective c = λ call ts now pcm handed h.
+returns-clause-effective c = λ pcm handed call ts now h.
     sym (ap (λ (r : EffectiveFields × List ℕ × LegMemory). r.0) (returns-clause-step c)) ∙ up-effective call ts now c.args.up.now pcm handed c.args.self.now c.told-up h
 
 pub returns-clause-out : goal.returns-clause-out
-returns-clause-out c = λ call ts now pcm handed h b.
+returns-clause-out c = λ pcm handed call ts now h b.
     sym (ap (λ (r : EffectiveFields × List ℕ × LegMemory). r.1) (returns-clause-step c)) ∙ up-plays call ts now c.args.up.now pcm handed c.args.self.now c.told-up b h

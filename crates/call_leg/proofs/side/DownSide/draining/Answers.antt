@@ -1,9 +1,6 @@
 use Rattle.std.proofs.Common.{sym, ap, ◌∙◌, not, ◌&&◌, length}
 use Rattle.std.specs.Prelude.{◌==◌}
-use Rattle.call_leg.specs.Memory.{down_memory}
-use Rattle.call_leg.proofs.Bridges.{drains}
 use Rattle.call_leg.proofs.side.DownSide.draining.Goals as goal
 
 pub returns-then-not-self : goal.returns-then-not-self
-returns-then-not-self c = λ call ts now h.
-    ap not c.is_empty.ensures ∙ sym (ap (λ z. not z && not (length c.args.self.now.waiting.items == 0)) c.if-not-self.true) ∙ drains call ts now (down_memory c.args.self.now) h
+returns-then-not-self c = ap not c.is_empty.ensures ∙ sym (ap (λ z. not z && not (length c.args.self.now.waiting.items == 0)) c.if-not-self.true)
