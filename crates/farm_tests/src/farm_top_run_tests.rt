@@ -305,6 +305,9 @@ fn is_as_in_one_piece<R: Abort + Threads + Wait + Sync>(rt: &R, alloc: Global, c
 #[test]
 fn pieces_change_no_octet(rt: HostRuntime) {
     for cut in &[1, 39, 41] {
-        assert!(rt; is_as_in_one_piece(&rt, rt.alloc(), *cut), "pieces of {cut}");
+        assert!(rt;
+            is_as_in_one_piece(&rt, rt.alloc(), *cut),
+            "pieces of {cut}"
+        );
     }
 }

@@ -86,9 +86,9 @@ fn carry_tool<R: Abort + Threads + Wait + Sync>(
     (outcome, trunk)
 }
 
-// A tool that fails: in pieces of this size, how many octets are sent where read n of its line fails, n from 0, and how
-// many where write n fails.
-type Turn = (u32, &'static [usize], &'static [usize]);
+// The size of the pieces, and how many calls of each line fail in turn; how many octets are sent where read n fails, n from
+// 0, and how many where write n fails.
+type Turn = (u32, u32, &'static [usize], &'static [usize]);
 
 // A tool with the line that it writes, and what it leaves.
 struct Row {
@@ -99,7 +99,7 @@ struct Row {
     text: &'static str,
     in_failed: &'static str,
     out_failed: &'static str,
-    turns: [Turn; 2],
+    turns: &'static [Turn],
 }
 
 static ROWS: [Row; 3] = [
@@ -110,9 +110,9 @@ static ROWS: [Row; 3] = [
         text: "relay frames 2\n",
         in_failed: "line 7 up failed\n",
         out_failed: "line 7 down failed\n",
-        turns: [
-            (39, &[0, 0, 40, 40, 80], &[0, 39, 40, 79]),
-            (1000, &[0, 40, 80], &[0, 40]),
+        turns: &[
+            (39, 6, &[0, 0, 40, 40, 80], &[0, 39, 40, 79]),
+            (1000, 4, &[0, 40, 80], &[0, 40]),
         ],
     },
     Row {
@@ -122,13 +122,14 @@ static ROWS: [Row; 3] = [
         text: "decode frames 2\n",
         in_failed: "line 7 up failed\n",
         out_failed: "line 7 out failed\n",
-        turns: [
+        turns: &[
             (
                 39,
+                11,
                 &[0, 0, 160, 160, 320],
                 &[0, 39, 78, 117, 156, 160, 199, 238, 277, 316],
             ),
-            (1000, &[0, 160, 320], &[0, 160]),
+            (1000, 4, &[0, 160, 320], &[0, 160]),
         ],
     },
     Row {
@@ -138,13 +139,14 @@ static ROWS: [Row; 3] = [
         text: "encode frames 2 left 10\n",
         in_failed: "line 7 pcm failed\n",
         out_failed: "line 7 down failed\n",
-        turns: [
+        turns: &[
             (
                 39,
+                13,
                 &[0, 0, 0, 0, 0, 40, 40, 40, 40, 40, 80, 80],
                 &[0, 39, 40, 79],
             ),
-            (1000, &[0, 40, 80, 80], &[0, 40]),
+            (1000, 5, &[0, 40, 80, 80], &[0, 40]),
         ],
     },
 ];
@@ -188,33 +190,45 @@ fn fails_as_due<R: Abort + Threads + Wait + Sync>(
     row: &Row,
     turn: &Turn,
     number: u32,
+    all: &[u8],
 ) -> bool {
-    let (cut, reads, writes) = turn;
+    let (cut, _calls, reads, writes) = turn;
     let read = due(row, number, 6, row.in_failed, reads);
     let write = due(row, number, 6, row.out_failed, writes);
     let told = due(row, number, 4, "", &[row.sent]);
-    let (_outcome, calm) = carry_tool(rt, alloc, row.tool, *cut, (NONE, NONE, NONE));
+    leaves(rt, alloc, row, *cut, (number, NONE, NONE), read, all)
+        && leaves(rt, alloc, row, *cut, (NONE, number, NONE), write, all)
+        && leaves(rt, alloc, row, *cut, (NONE, NONE, number), told, all)
+}
+
+// How many calls fail as due, in turn.
+fn failed_as_due<R: Abort + Threads + Wait + Sync>(
+    rt: &R,
+    alloc: Global,
+    row: &Row,
+    turn: &Turn,
+) -> u32 {
+    let (_outcome, calm) = carry_tool(rt, alloc, row.tool, turn.0, (NONE, NONE, NONE));
     let all = calm.written(line(7, row.outgoing));
-    let left = [
-        leaves(rt, alloc, row, *cut, (number, NONE, NONE), read, all),
-        leaves(rt, alloc, row, *cut, (NONE, number, NONE), write, all),
-        leaves(rt, alloc, row, *cut, (NONE, NONE, number), told, all),
-    ];
-    left == [true; 3]
+    for number in 0..turn.1 {
+        if !fails_as_due(rt, alloc, row, turn, number, all) {
+            return number;
+        }
+    }
+    turn.1
 }
 
 #[test]
 fn each_call_of_the_outside_fails_in_turn(rt: HostRuntime) {
     for row in &ROWS {
-        for turn in &row.turns {
-            for number in 0..13 {
-                assert!(rt;
-                    fails_as_due(&rt, rt.alloc(), row, turn, number),
-                    "{} in pieces of {}, call {number}",
-                    row.tool,
-                    turn.0
-                );
-            }
+        for turn in row.turns {
+            let failed = failed_as_due(&rt, rt.alloc(), row, turn);
+            assert!(rt;
+                failed == turn.1,
+                "{} in pieces of {}, call {failed}",
+                row.tool,
+                turn.0
+            );
         }
     }
 }
