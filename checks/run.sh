@@ -36,6 +36,16 @@ size() {
     [ "$(wc -c <"$2")" = "$3" ] || fail "$1: $2 has $(wc -c <"$2") octets"
 }
 
+ones() {
+    head -c "$1" /dev/zero | tr '\0' '\377'
+}
+
+# An idle frame of a downlink.
+idle() {
+    printf '\000\000\270\017'
+    ones 36
+}
+
 # Lines of call 1: an uplink without a frame, an idle Pcm line, three periods each.
 head -c 120 /dev/zero >1.up
 head -c 480 /dev/zero | tr '\0' '\325' >1.pcm
@@ -48,7 +58,11 @@ counts 1 good 0 sid 0 invalid 0 bad 0 idle 0 other 0 miss 0 none 3 made 3
 end period 3 calls 1 left 0
 TEXT
 cmp 1.out 1.pcm || fail "one call: Out"
-size "one call" 1.down 120
+{
+    ones 40
+    idle
+    idle
+} | cmp - 1.down || fail "one call: Down"
 
 run ''
 expect "no orders" 0 <<'TEXT'
@@ -176,13 +190,25 @@ TEXT
 size "a downlink that can't be written" 7.out 480
 
 # Two calls of twelve good frames each are bridged for six periods; call 9's fourth frame asks for a shift of 156 octets
-# before that, so call 7's first frame waits for one period, and the last goes out in the period of the bridge's end.
+# before that, so call 8's first frame waits for one period, and the last goes out in the period of the bridge's end.
+# Octet 5 of a frame, where eight of its data bits stand, is its number; call 9 begins with 16.
 python3 - <<'END'
-data = "8209BA1AE4288012A492A492A2808124C924C924A8009249924992458002A492A492"
-frame = bytes.fromhex("00008800" + data + "A6FF")
-shifted = bytes.fromhex("00008A70" + data + "A6FF")
-open("8.up", "wb").write(frame * 12)
-open("9.up", "wb").write(frame * 3 + shifted + frame * 8)
+def frame(head, octet, tail):
+    data = f"82{octet:02X}BA1AE4288012A492A492A2808124C924C924A8009249924992458002A492A492"
+    return bytes.fromhex(head + data + tail)
+
+def up(octet, head="00008800"):
+    return frame(head, octet, "A6FF")
+
+def down(octet):
+    return frame("0000F00F", octet, "A7FF")
+
+open("8.up", "wb").write(b"".join(up(k) for k in range(12)))
+open("9.up", "wb").write(b"".join(up(16 + k, "00008A70" if k == 3 else "00008800") for k in range(12)))
+open("of8", "wb").write(b"".join(down(k) for k in range(4, 10)))
+open("of9", "wb").write(b"".join(down(16 + k) for k in range(4, 10)))
+# 33 frames of silence.
+open("silence.up", "wb").write(up(9) * 33)
 for call in (8, 9):
     open(f"{call}.pcm", "wb").write(b"\xd5" * 1920)
 END
@@ -197,6 +223,14 @@ bridged() {
     fi
 }
 bridged "a bridge" '4 bridge 8 9\n10 unbridge 8\n' 'bridge 8 9 from 4 to 10 sent 6 6 lost 0 0'
+# Call 8 sends a frame in each period, behind 40 octets of ones. Call 9 sends none in period 4: behind its first four
+# frames, in octets 40 to 199, stand two ones for each of the 156 octets, and then the frames of call 8.
+tail -c +201 8.down | head -c 240 | cmp - of9 || fail "a bridge: Down of call 8"
+{
+    ones 39
+    cat of8
+} >wanted
+tail -c +201 9.down | head -c 279 | cmp - wanted || fail "a bridge: Down of call 9"
 bridged "a call that ends with its bridge" '4 bridge 8 9\n10 unbridge 8\n10 close 9\n' 'bridge 8 9 from 4 to 10 sent 5 6 lost 1 0'
 bridged "a bridge of no period" '4 bridge 8 9\n4 unbridge 8\n' 'bridge 8 9 from 4 to 4 sent 0 0 lost 0 0'
 
@@ -232,7 +266,7 @@ cd ..
 mkdir alone
 cd alone
 head -c 1213 /dev/zero >7.up
-cat ../8.up ../8.up ../8.up | head -c 1320 >9.up
+cp ../silence.up 9.up
 cat ../8.pcm ../8.pcm ../8.pcm | head -c 5280 >7.pcm
 cp 7.pcm 9.pcm
 run '0 open 7\n0 open 9\n0 bridge 7 9'
@@ -250,7 +284,7 @@ cd ..
 
 # Frames that begin within an octet: the first ends in period 1, so nothing is heard in period 0.
 python3 - <<'END'
-frame = open("8.up", "rb").read(40)
+frame = open("silence.up", "rb").read(40)
 bits = "00000" + "".join(f"{octet:08b}" for octet in frame * 3) + "000"
 open("10.up", "wb").write(bytes(int(bits[i : i + 8], 2) for i in range(0, len(bits), 8)))
 open("10.pcm", "wb").write(b"\xd5" * 640)

@@ -1,4 +1,4 @@
-ghost use Rattle.std.specs.Prelude.{◌≤ℤ◌, pos};
+ghost use Rattle.std.specs.Prelude.{◌≤◌, ◌≤ℤ◌, pos};
 
 use trau_params::{Params, Trace, silence};
 use tx_dtx::Tx;
@@ -81,13 +81,18 @@ fn last_sent(tx: &mut Tx) -> (Params, bool) {
     sent
 }
 
-fn expected() -> Params {
+// A descriptor with the codes of ratios 1 and 2, and of each maximum.
+fn descriptor(first: u8, second: u8, maximum: u8) -> Params
+    requires first { first ≤ 63 }
+    requires second { second ≤ 63 }
+    requires maximum { maximum ≤ 63 }
+{
     Params::new(
-        [31, 37, 20, 11, 8, 5, 3, 2],
+        [first, second, 20, 11, 8, 5, 3, 2],
         [0; 4],
         [0; 4],
         [0; 4],
-        [15; 4],
+        [maximum; 4],
         [[0; 13]; 4],
     )
 }
@@ -97,10 +102,14 @@ fn sends(tx: &mut Tx, level: i16, wanted: (Params, bool)) -> bool {
     tx.send(&silence(), &QUIET, 0, level, true) == wanted
 }
 
+// From the fifth frame of a pause on each has a new descriptor of the last four; a new pause soon after has the last one.
+// Of the sixth the means are -307, 3500 and 383, of the seventh -205, 3000 and 255.
 #[test]
 fn a_sid_of_the_last_four_frames(rt: HostRuntime) {
     let mut tx = Tx::home();
-    assert!(rt; last_sent(&mut tx) == (expected(), false));
+    assert!(rt; last_sent(&mut tx) == (descriptor(31, 37, 15), false));
+    assert!(rt; sends(&mut tx, 1, (descriptor(32, 36, 11), false)));
+    assert!(rt; sends(&mut tx, 1, (descriptor(32, 36, 7), false)));
     assert!(rt; sends(&mut tx, 0, (silence(), true)));
-    assert!(rt; sends(&mut tx, 1, (expected(), false)));
+    assert!(rt; sends(&mut tx, 1, (descriptor(32, 36, 7), false)));
 }

@@ -1,111 +1,99 @@
 //! The cases: what goes into the codec and the search, and the answers to it.
 
-use crate::comparison::{Answers, Comparison, MISSING};
+use crate::comparison::{Answers, Comparison};
 use crate::{alaw, decoder, encoder, farm, search};
 use std::{fs, io};
 
-/// What is compared with the answers. The first five need no file of what goes in, and name that of the answers once more.
+/// What is compared with the answers, with the files that go in.
 #[derive(Clone, Copy)]
 enum Kind {
     /// The A-law of all samples.
     Compress,
     /// The samples of all octets.
     Expand,
+    /// The A-law of the samples of an aligned uplink.
+    Codes(&'static str),
+    /// These samples themselves.
+    Samples(&'static str),
+    /// The parameters of the frames of a Pcm line.
+    Parameters(&'static str),
     /// The downlink frame of silence.
     Silence,
+    /// The counts of what stands on each uplink of a farm.
+    Counts(&'static [&'static str]),
     /// What the search finds on lines with one frame.
     Offsets,
     /// And on lines with several.
     Lines,
-    /// The A-law of the samples of an aligned uplink.
-    Codes,
-    /// These samples themselves.
-    Samples,
-    /// The parameters of the frames of a Pcm line.
-    Parameters,
-    /// The counts of what stands on each uplink of a farm.
-    Counts,
 }
 
-/// A case: what its line begins with, the files that go in, and that of the answers to all of them.
+/// A case: what its line begins with, and the file of the answers.
 pub(crate) struct Case {
-    kind: Kind,
     name: &'static str,
-    given: &'static [&'static str],
+    kind: Kind,
     answers: &'static str,
 }
 
 pub(crate) static CASES: [Case; 11] = [
     Case {
-        kind: Kind::Compress,
         name: "alaw compress",
-        given: &["alaw_compress.bin"],
+        kind: Kind::Compress,
         answers: "alaw_compress.bin",
     },
     Case {
-        kind: Kind::Expand,
         name: "alaw expand",
-        given: &["alaw_expand.txt"],
+        kind: Kind::Expand,
         answers: "alaw_expand.txt",
     },
     Case {
-        kind: Kind::Codes,
         name: "decode speech-en-m3.up",
-        given: &["speech-en-m3.up"],
+        kind: Kind::Codes("speech-en-m3.up"),
         answers: "speech-en-m3.out",
     },
     Case {
-        kind: Kind::Codes,
         name: "decode speech-loud-m7.up",
-        given: &["speech-loud-m7.up"],
+        kind: Kind::Codes("speech-loud-m7.up"),
         answers: "speech-loud-m7.out",
     },
     Case {
-        kind: Kind::Codes,
         name: "decode harsh.up",
-        given: &["harsh.up"],
+        kind: Kind::Codes("harsh.up"),
         answers: "harsh.out",
     },
     Case {
-        kind: Kind::Samples,
         name: "samples harsh.up",
-        given: &["harsh.samples.up"],
+        kind: Kind::Samples("harsh.samples.up"),
         answers: "harsh.samples.txt",
     },
     Case {
-        kind: Kind::Parameters,
         name: "encode harsh.pcm",
-        given: &["harsh.pcm"],
+        kind: Kind::Parameters("harsh.pcm"),
         answers: "harsh.parameters.txt",
     },
     Case {
-        kind: Kind::Silence,
         name: "encode silence",
-        given: &["silence.down"],
+        kind: Kind::Silence,
         answers: "silence.down",
     },
     Case {
-        kind: Kind::Counts,
         name: "search farm-report.txt",
-        given: &[
+        kind: Kind::Counts(&[
             "farm-1.up",
             "farm-2.up",
             "farm-3.up",
             "farm-4.up",
             "farm-5.up",
-        ],
+        ]),
         answers: "farm-calls.txt",
     },
     Case {
-        kind: Kind::Offsets,
         name: "search offsets",
-        given: &["offsets.txt"],
+        kind: Kind::Offsets,
         answers: "offsets.txt",
     },
     Case {
-        kind: Kind::Lines,
         name: "search lines",
-        given: &["lines.txt"],
+        kind: Kind::Lines,
         answers: "lines.txt",
     },
 ];
@@ -113,37 +101,42 @@ pub(crate) static CASES: [Case; 11] = [
 /// The answers of a file: octets, or a text.
 fn answers_of(kind: Kind, octets: &[u8]) -> Answers<'_> {
     match kind {
-        Kind::Compress | Kind::Silence | Kind::Codes => Answers::Octets(octets.iter()),
+        Kind::Compress | Kind::Silence | Kind::Codes(_) => Answers::Octets(octets.iter()),
         _ => Answers::of_text(octets),
     }
 }
 
-fn compare(comparison: &mut Comparison, kind: Kind, given: &[u8]) {
+/// Compares what comes of what goes in.
+fn compare(rt: &HostRuntime, comparison: &mut Comparison, kind: Kind) -> io::Result<()> {
     match kind {
         Kind::Compress => alaw::compress_all(comparison),
         Kind::Expand => alaw::expand_all(comparison),
+        Kind::Codes(up) | Kind::Samples(up) => {
+            let up = fs::read(rt, up)?;
+            decoder::decode_line(comparison, up.as_slice());
+        }
+        Kind::Parameters(pcm) => {
+            let pcm = fs::read(rt, pcm)?;
+            encoder::encode_line(comparison, pcm.as_slice());
+        }
         Kind::Silence => encoder::encode_silence(comparison),
+        Kind::Counts(ups) => {
+            for up in ups {
+                let up = fs::read(rt, up)?;
+                farm::count_call(comparison, up.as_slice());
+            }
+        }
         Kind::Offsets => search::search_offsets(comparison),
         Kind::Lines => search::search_lines(comparison),
-        Kind::Codes => {
-            decoder::decode_line(comparison, given);
-            // (no answer is left)
-            comparison.compare_next(MISSING);
-        }
-        Kind::Samples => decoder::decode_line(comparison, given),
-        Kind::Parameters => encoder::encode_line(comparison, given),
-        Kind::Counts => farm::count_call(comparison, given),
     }
+    Ok(())
 }
 
 /// Prints the line of a case.
 pub(crate) fn print(rt: &HostRuntime, case: &Case) -> io::Result<()> {
     let answers = fs::read(rt, case.answers)?;
     let mut comparison = Comparison::new(answers_of(case.kind, answers.as_slice()));
-    for name in case.given {
-        let given = fs::read(rt, name)?;
-        compare(&mut comparison, case.kind, given.as_slice());
-    }
+    compare(rt, &mut comparison, case.kind)?;
     comparison.end();
     comparison.print(rt, case.name)
 }

@@ -5,7 +5,7 @@ use std::{io, slice};
 use trau_alaw::compress;
 
 /// An answer that is missing or no number: no value of a case.
-pub(crate) const MISSING: i32 = i32::MIN;
+const MISSING: i32 = i32::MIN;
 
 /// The recorded answers that are still to come.
 #[derive(Drop)]

@@ -1,6 +1,6 @@
 // The command `run`, with the lines and the orders in memory: what it answers, tells and writes.
 use crate::farm_top_tests::{Outcome, carry};
-use crate::lines::{Laid, NONE, line, trunk_of};
+use crate::lines::{Laid, NONE, late_frames, line, put, trunk_of};
 use pool_run::OpenGate;
 use std::alloc::Global;
 use std::process::Abort;
@@ -278,4 +278,36 @@ fn failing_lines_change_no_other(rt: HostRuntime) {
     assert!(rt; is_same(&failing, &calm, line(9, Down)) && is_same(&failing, &calm, line(9, Out)));
     let failing = after(&rt, rt.alloc(), NONE, 0);
     assert!(rt; is_same(&failing, &calm, line(7, Out)));
+}
+
+// The lines after a run of three periods of call 7, whose frames begin within an octet, in pieces of this size.
+fn in_pieces<R: Abort + Threads + Wait + Sync>(rt: &R, alloc: Global, cut: u32) -> MemTrunk {
+    let lines = [
+        (7, Pcm, 480, cut, NONE),
+        (7, Down, 0, cut, NONE),
+        (7, Out, 0, cut, NONE),
+    ];
+    let mut trunk = trunk_of(rt, alloc, &lines);
+    let up = late_frames(rt, alloc, 120);
+    put(rt, alloc, &mut trunk, line(7, Up), up, cut, NONE);
+    let _outcome = carry(rt, alloc, &["run"], &mut trunk, OPEN_7, NONE, &OpenGate);
+    trunk
+}
+
+// Whether the octets of Down and Out are all there, and those of a run in one piece.
+fn is_as_in_one_piece<R: Abort + Threads + Wait + Sync>(rt: &R, alloc: Global, cut: u32) -> bool {
+    let whole = in_pieces(rt, alloc, ALL);
+    let pieces = in_pieces(rt, alloc, cut);
+    let same = is_same(&pieces, &whole, line(7, Down)) && is_same(&pieces, &whole, line(7, Out));
+    same && lengths(&pieces) == [120, 480, 0, 0]
+}
+
+#[test]
+fn pieces_change_no_octet(rt: HostRuntime) {
+    for cut in &[1, 39, 41] {
+        assert!(rt;
+            is_as_in_one_piece(&rt, rt.alloc(), *cut),
+            "pieces of {cut}"
+        );
+    }
 }

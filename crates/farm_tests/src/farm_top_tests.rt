@@ -25,12 +25,11 @@ fn desk_of(rt: &impl Abort, alloc: Global, orders: &str, fails: u32) -> MemDesk 
     MemDesk::new(alloc, orders, Vec::new(alloc), fails, 10_000).expect(rt, "memory")
 }
 
-// What a command answers and tells, and how many writes of the desk failed.
+// What a command answers and tells.
 #[derive(Drop)]
 pub(crate) struct Outcome {
     pub(crate) status: u8,
     text: Vec<u8>,
-    faults: u64,
 }
 
 impl Outcome {
@@ -55,12 +54,7 @@ pub(crate) fn carry<R: Abort + Threads + Wait + Sync, G: Gate + Sync>(
     let mut desk = desk_of(rt, alloc, orders, fails);
     let status = farm_top(rt, alloc, &words, trunk, &mut desk, gate);
     let text = desk.text().to_vec(alloc).expect(rt, "memory");
-    let faults = desk.write_faults();
-    Outcome {
-        status,
-        text,
-        faults,
-    }
+    Outcome { status, text }
 }
 
 // Which call of the incoming lines fails, which of the outgoing ones, and which of the desk.
@@ -92,147 +86,173 @@ fn carry_tool<R: Abort + Threads + Wait + Sync>(
     (outcome, trunk)
 }
 
-// A tool with the sides of its lines, and what it leaves where nothing fails.
+// The size of the pieces, and how many calls of each line fail in turn; how many octets are sent where read n fails, n from
+// 0, and how many where write n fails.
+type Turn = (u32, u32, &'static [usize], &'static [usize]);
+
+// A tool with the line that it writes, and what it leaves.
 struct Row {
     tool: &'static str,
-    incoming: Side,
     outgoing: Side,
-    // The octets that a block makes.
-    size: usize,
+    // How many octets are sent where nothing fails.
+    sent: usize,
     text: &'static str,
     in_failed: &'static str,
     out_failed: &'static str,
+    turns: &'static [Turn],
 }
 
 static ROWS: [Row; 3] = [
     Row {
         tool: "relay",
-        incoming: Up,
         outgoing: Down,
-        size: 40,
+        sent: 80,
         text: "relay frames 2\n",
         in_failed: "line 7 up failed\n",
         out_failed: "line 7 down failed\n",
+        turns: &[
+            (39, 6, &[0, 0, 40, 40, 80], &[0, 39, 40, 79]),
+            (1000, 4, &[0, 40, 80], &[0, 40]),
+        ],
     },
     Row {
         tool: "decode",
-        incoming: Up,
         outgoing: Out,
-        size: 160,
+        sent: 320,
         text: "decode frames 2\n",
         in_failed: "line 7 up failed\n",
         out_failed: "line 7 out failed\n",
+        turns: &[
+            (
+                39,
+                11,
+                &[0, 0, 160, 160, 320],
+                &[0, 39, 78, 117, 156, 160, 199, 238, 277, 316],
+            ),
+            (1000, 4, &[0, 160, 320], &[0, 160]),
+        ],
     },
     Row {
         tool: "encode",
-        incoming: Pcm,
         outgoing: Down,
-        size: 40,
+        sent: 80,
         text: "encode frames 2 left 10\n",
         in_failed: "line 7 pcm failed\n",
         out_failed: "line 7 down failed\n",
+        turns: &[
+            (
+                39,
+                13,
+                &[0, 0, 0, 0, 0, 40, 40, 40, 40, 40, 80, 80],
+                &[0, 39, 40, 79],
+            ),
+            (1000, 5, &[0, 40, 80, 80], &[0, 40]),
+        ],
     },
 ];
 
-// The status and the text that are due, by the counts of faults.
-fn due(row: &Row, trunk: &MemTrunk, outcome: &Outcome) -> (u8, &'static str) {
-    if trunk.faults(line(7, row.incoming)) > 0 {
-        (6, row.in_failed)
-    } else if trunk.faults(line(7, row.outgoing)) > 0 {
-        (6, row.out_failed)
-    } else if outcome.faults > 0 {
-        (4, "")
-    } else {
-        (0, row.text)
+// A status, a text, and how many octets are sent.
+type Due = (u8, &'static str, usize);
+
+// What is due where call `number` fails: this status and text where it comes, and what is sent before it.
+fn due(row: &Row, number: u32, status: u8, text: &'static str, sent: &[usize]) -> Due {
+    match sent.get(number as usize) {
+        Some(sent) => (status, text, *sent),
+        None => (0, row.text, row.sent),
     }
 }
 
-// Whether all that earlier blocks make is written; where no line failed, all of both.
-fn is_sent(row: &Row, trunk: &MemTrunk, status: u8) -> bool {
-    let sent = trunk.written(line(7, row.outgoing)).len();
-    if status != 6 {
-        sent.checked_div(row.size) == Some(2)
-    } else {
-        trunk.faults(line(7, row.incoming)) == 0 || sent.checked_rem(row.size) == Some(0)
-    }
+// Whether octets are the first `length` of all.
+fn is_front(octets: &[u8], length: usize, all: &[u8]) -> bool {
+    octets.len() == length && all.starts_with(octets)
 }
 
-// Whether a command in which one call failed answered and left what is due.
-fn is_due(row: &Row, trunk: &MemTrunk, outcome: &Outcome) -> bool {
-    let (status, text) = due(row, trunk, outcome);
-    outcome.is(status, text) && is_sent(row, trunk, status)
-}
-
-// Whether a command in which one call fails leaves what is due.
-fn leaves_what_is_due<R: Abort + Threads + Wait + Sync>(
+// Whether a command in which one call fails leaves what is due, of all that is sent where none fails.
+fn leaves<R: Abort + Threads + Wait + Sync>(
     rt: &R,
     alloc: Global,
     row: &Row,
     cut: u32,
     faults: Faults,
+    due: Due,
+    all: &[u8],
 ) -> bool {
+    let (status, text, sent) = due;
     let (outcome, trunk) = carry_tool(rt, alloc, row.tool, cut, faults);
-    is_due(row, &trunk, &outcome)
+    outcome.is(status, text) && is_front(trunk.written(line(7, row.outgoing)), sent, all)
 }
 
-// Whether a command leaves what is due where call `number` of the incoming lines fails, of the outgoing ones, or of the
+// Whether a command leaves what is due where call `number` of the incoming line fails, of the outgoing one, or of the
 // desk.
 fn fails_as_due<R: Abort + Threads + Wait + Sync>(
     rt: &R,
     alloc: Global,
     row: &Row,
-    cut: u32,
+    turn: &Turn,
     number: u32,
+    all: &[u8],
 ) -> bool {
-    let faults = [
-        (number, NONE, NONE),
-        (NONE, number, NONE),
-        (NONE, NONE, number),
-    ];
-    for each in &faults {
-        if !leaves_what_is_due(rt, alloc, row, cut, *each) {
-            return false;
-        }
-    }
-    true
+    let (cut, _calls, reads, writes) = turn;
+    let read = due(row, number, 6, row.in_failed, reads);
+    let write = due(row, number, 6, row.out_failed, writes);
+    let told = due(row, number, 4, "", &[row.sent]);
+    leaves(rt, alloc, row, *cut, (number, NONE, NONE), read, all)
+        && leaves(rt, alloc, row, *cut, (NONE, number, NONE), write, all)
+        && leaves(rt, alloc, row, *cut, (NONE, NONE, number), told, all)
 }
 
-// The pieces of the lines, and how many calls fail in turn.
-static TURNS: [(u32, u32); 2] = [(39, 12), (1000, 3)];
+// How many calls fail as due, in turn.
+fn failed_as_due<R: Abort + Threads + Wait + Sync>(
+    rt: &R,
+    alloc: Global,
+    row: &Row,
+    turn: &Turn,
+) -> u32 {
+    let (_outcome, calm) = carry_tool(rt, alloc, row.tool, turn.0, (NONE, NONE, NONE));
+    let all = calm.written(line(7, row.outgoing));
+    for number in 0..turn.1 {
+        if !fails_as_due(rt, alloc, row, turn, number, all) {
+            return number;
+        }
+    }
+    turn.1
+}
 
 #[test]
 fn each_call_of_the_outside_fails_in_turn(rt: HostRuntime) {
     for row in &ROWS {
-        for (cut, calls) in &TURNS {
-            for number in 0..*calls {
-                assert!(rt;
-                    fails_as_due(&rt, rt.alloc(), row, *cut, number),
-                    "{} in pieces of {cut}, call {number}",
-                    row.tool
-                );
-            }
+        for turn in row.turns {
+            let failed = failed_as_due(&rt, rt.alloc(), row, turn);
+            assert!(rt;
+                failed == turn.1,
+                "{} in pieces of {}, call {failed}",
+                row.tool,
+                turn.0
+            );
         }
     }
 }
 
-// A read that fails, or a write, and what is answered and told.
-type List = (u32, u32, u8, &'static str);
+// The size of the pieces of the line, a read that fails, or a write, and what is answered and told.
+type List = (u32, u32, u32, u8, &'static str);
 
-static LISTS: [List; 7] = [
-    (0, 9, 6, "line 7 up failed\n"),
-    (1, 9, 6, "0 good\nline 7 up failed\n"),
-    (2, 9, 6, "0 good\n320 good\nline 7 up failed\n"),
-    (9, 0, 4, ""),
-    (9, 1, 4, "0 good\n"),
-    (9, 2, 4, "0 good\n320 good\n"),
-    (9, 9, 0, "0 good\n320 good\nframes 2 left 0\n"),
+static LISTS: [List; 9] = [
+    (1000, 0, 9, 6, "line 7 up failed\n"),
+    (1000, 1, 9, 6, "0 good\nline 7 up failed\n"),
+    (1000, 2, 9, 6, "0 good\n320 good\nline 7 up failed\n"),
+    (1000, 9, 0, 4, ""),
+    (1000, 9, 1, 4, "0 good\n"),
+    (1000, 9, 2, 4, "0 good\n320 good\n"),
+    (1000, 9, 9, 0, "0 good\n320 good\nframes 2 left 0\n"),
+    (39, 3, 9, 6, "0 good\nline 7 up failed\n"),
+    (39, 9, 9, 0, "0 good\n320 good\nframes 2 left 0\n"),
 ];
 
 // Whether the list of an uplink of two frames, where a read of the line fails, or a write of the desk, is as given.
 fn is_listed<R: Abort + Threads + Wait + Sync>(rt: &R, alloc: Global, list: &List) -> bool {
-    let (read, write, due, text) = list;
+    let (cut, read, write, due, text) = list;
     let faults = (*read, NONE, *write);
-    let (outcome, _trunk) = carry_tool(rt, alloc, "frames", 1000, faults);
+    let (outcome, _trunk) = carry_tool(rt, alloc, "frames", *cut, faults);
     outcome.is(*due, text)
 }
 
@@ -241,9 +261,10 @@ fn a_list_ends_where_a_call_fails(rt: HostRuntime) {
     for list in &LISTS {
         assert!(rt;
             is_listed(&rt, rt.alloc(), list),
-            "read {} or write {} fails",
+            "pieces of {}, read {} or write {} fails",
             list.0,
-            list.1
+            list.1,
+            list.2
         );
     }
 }

@@ -35,14 +35,39 @@ fn octets(rt: &impl Abort, alloc: Global, side: Side, count: usize) -> Vec<u8> {
     octets
 }
 
+// Good uplink frames behind five bits 0, so that each begins within an octet.
+pub(crate) fn late_frames(rt: &impl Abort, alloc: Global, count: usize) -> Vec<u8> {
+    let mut octets = octets(rt, alloc, Side::Up, count);
+    let mut last = 0u8;
+    for octet in octets.iter_mut() {
+        let next = *octet;
+        *octet = last << 3 | next >> 5;
+        last = next;
+    }
+    octets
+}
+
+// Puts a line in place with these octets on it.
+pub(crate) fn put(
+    rt: &impl Abort,
+    alloc: Global,
+    trunk: &mut MemTrunk,
+    line: Line,
+    octets: Vec<u8>,
+    cut: u32,
+    fails: u32,
+) {
+    let cuts = vec![in alloc; cut; 500].expect(rt, "memory");
+    let fails = vec![in alloc; fails; 1].expect(rt, "memory");
+    let set = trunk.set(alloc, line, octets, cuts, fails, 50_000);
+    set.expect(rt, "memory");
+}
+
 // Puts a line in place.
 fn lay(rt: &impl Abort, alloc: Global, trunk: &mut MemTrunk, laid: &Laid) {
     let (call, side, count, cut, fails) = laid;
-    let contents = octets(rt, alloc, *side, *count);
-    let cuts = vec![in alloc; *cut; 500].expect(rt, "memory");
-    let fails = vec![in alloc; *fails; 1].expect(rt, "memory");
-    let set = trunk.set(alloc, line(*call, *side), contents, cuts, fails, 50_000);
-    set.expect(rt, "memory");
+    let octets = octets(rt, alloc, *side, *count);
+    put(rt, alloc, trunk, line(*call, *side), octets, *cut, *fails);
 }
 
 // Lines with these in place.
