@@ -20,6 +20,7 @@ pub mod Rising
 pub mod Finishing
 pub mod LastEnds
 pub mod Counts
+pub mod Sides
 pub mod WorkedRound
 pub mod Reach
 pub mod RoundCalls

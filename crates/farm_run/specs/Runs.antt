@@ -14,6 +14,7 @@ use Rattle.switchboard.specs.Calls.{opened_at}
 use Rattle.switchboard.specs.Ends.{start_of, end_of}
 use Rattle.farm_report.specs.View.{ReportView}
 use Rattle.round_lines.specs.Places.{name_of}
+use Rattle.round_lines.specs.Rounds.{IsIncoming, IsOutgoing}
 use Rattle.farm_output.specs.Run.{Run, Incoming, given_in, done_in, periods_in}
 use Rattle.farm_output.specs.Lines.{out_of_call, down_of_call}
 use Rattle.farm_output.specs.Facts.{report_of}
@@ -29,6 +30,11 @@ IsListed lines c s = Contains (map name_of lines) (c, s)
 pub record TellsFailed (before now : ℕ → Side → LineState) (lines : List Line) : Type 0 where
   pub rose : (c : ℕ) (s : Side) → IsListed lines c s → Rose (before c s).faults (now c s).faults
   pub kept : (c : ℕ) (s : Side) → (IsListed lines c s → ⊥) → (now c s).faults ≡ (before c s).faults
+
+-- No incoming line was written, and no outgoing line was read.
+pub record KeepsSides (before now : ℕ → Side → LineState) : Type 0 where
+  pub incoming : (c : ℕ) (s : Side) → IsIncoming s → (now c s).written ≡ (before c s).written
+  pub outgoing : (c : ℕ) (s : Side) → IsOutgoing s → (now c s).to_come ≡ (before c s).to_come
 
 -- ---- where nothing fails
 
@@ -79,9 +85,11 @@ pub record Leaves (r : Run) (before now : ℕ → Side → LineState) : Type 0 w
   pub pcm_read : (c : ℕ) → IsOpened r c → EndedByOrder (cause_in r c) → IsReadTo (now c Pcm) (160 * length (periods_in r c)) (r.lines c).pcm
   pub others : (c : ℕ) (s : Side) → (IsOpened r c → ⊥) → now c s ≡ before c s
 
--- A run of these orders: its report lists the lines that failed. Where none did, it left on the lines what the run of
--- these orders over these lines gives, and the report is that run's.
+-- A run of these orders: it only reads incoming lines and only writes outgoing ones, and its report lists the lines that
+-- failed. Where none did, it left on the lines what the run of these orders over these lines gives, and the report is that
+-- run's.
 pub record Runs (orders : List Order) (pace : Pace) (before now : ℕ → Side → LineState) (report : ReportView) : Type 0 where
   pub failed : TellsFailed before now report.failed
+  pub sides : KeepsSides before now
   pub leaves : (r : Run) → IsRunOver orders pace.periods before r → NoneRose before now → Leaves r before now
   pub reports : (r : Run) → IsRunOver orders pace.periods before r → NoneRose before now → report ≡ report_of r []

@@ -11,6 +11,7 @@ use Rattle.farm_run.proofs.Making.{IsMade, made_octets, made_open, made_partners
 use Rattle.farm_run.proofs.WorkedRound as parts
 use Rattle.farm_run.proofs.WorkedRound.{FilledRound, WorkedRound}
 use Rattle.farm_run.proofs.Counts.{fell_round, tells_round}
+use Rattle.farm_run.proofs.Sides.{sides_round}
 use Rattle.farm_run.proofs.RoundClock.{tells_numbers, tells_open, tells_apart, tells_late, clock_after}
 use Rattle.farm_run.proofs.RoundLines.{clock_is, ends_are, told_is}
 use Rattle.farm_run.proofs.RoundTallies.{tallies_after}
@@ -119,6 +120,9 @@ returns-clause-later g c = fell_round _ _ _ _ _ _ _ (round g c)
 pub returns-clause-failed : goal.returns-clause-failed
 returns-clause-failed g c = tells_round _ _ _ _ _ _ _ (round g c)
 
+pub returns-clause-sides : goal.returns-clause-sides
+returns-clause-sides g c = sides_round _ _ _ _ _ _ _ (round g c)
+
 -- where the run goes on, the round is one of it
 in_run : (g : Over) (c : goal.After-drain g) (r : Run) (first : _) → c.args.clock + c.args.periods ≤ r.periods → IsAtClock r c.args.clock c.args.board.now c.args.farm.groups first (g.T.Trunk.lines c.args.trunk.now) →
     IsRound r c.args.clock c.args.periods c.args.board.now.done c.args.board.now.left
@@ -154,6 +158,7 @@ returns-in_err-round g c =
       ended = IfOk-from_err _ _ no;
       later = IfOk-from_err _ _ no;
       failed = λ first later told. IfOk-from_err _ _ no;
+      sides = IfOk-from_err _ _ no;
       run = λ r first readable l at calm. IfOk-from_err _ _ no;
       ends = λ r first readable l at calm. IfOk-from_err _ _ no;
     }
@@ -168,6 +173,7 @@ returns-in_err-tell_ends g c =
       ended = IfOk-from_err _ _ no;
       later = IfOk-from_err _ _ no;
       failed = λ first later told. IfOk-from_err _ _ no;
+      sides = IfOk-from_err _ _ no;
       run = λ r first readable l at calm. IfOk-from_err _ _ no;
       ends = λ r first readable l at calm. IfOk-from_err _ _ no;
     }
