@@ -47,7 +47,7 @@ pub fell_none : (lines : ℕ → Side → LineState) → NeverFell lines lines
 fell_none lines c s = omega arith
 
 pub tells_none : (lines : ℕ → Side → LineState) → TellsFailed lines lines []
-tells_none lines = record { rose = λ c s h. (let l = h.1 in absurd (omega arith)); kept = λ c s h. refl }
+tells_none lines = record { rose = λ c s h. (let l = h.1 in absurd (omega arith)); kept = λ c s h. refl; order = λ i j d l m. absurd (omega arith) }
 
 none_worked : (r : Run) (c : ℕ) → worked_to r 0 c ≡ 0
 none_worked r c = by (end_in r c) (start_of (done_in r) c)

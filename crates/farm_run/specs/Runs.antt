@@ -2,6 +2,7 @@
 -- it, `now` those after it.
 use Rattle.std.specs.Prelude.{◌≡◌, ℕ, ◌*◌, true, false, Some, is_some, List, [], length, map, drop}
 use Rattle.std.specs.List.{Contains}
+use Rattle.std.specs.List.Sorted.{IsNonDecreasingBy}
 use Rattle.std.specs.Io.KnownBytes.{Appends}
 use Rattle.trau_io.specs.declared.line.Line.{Line}
 use Rattle.trau_io.specs.declared.line.Side.{Side}
@@ -9,6 +10,7 @@ use Rattle.trau_io.specs.declared.line.Side.TheVariants.{Up, Pcm, Down, Out}
 use Rattle.trau_io.specs.declared.ends.Cause.{Cause}
 use Rattle.trau_io.specs.declared.ends.Cause.TheVariants.{Closed, End, Fault, Limit}
 use Rattle.trau_io.specs.Lines.{LineState, Rose}
+use Rattle.trau_io.specs.Places.{place_of}
 use Rattle.trau_orders.specs.declared.order.Order.{Order}
 use Rattle.switchboard.specs.Calls.{opened_at}
 use Rattle.switchboard.specs.Ends.{start_of, end_of}
@@ -26,10 +28,12 @@ use Rattle.farm_run.specs.declared.pace.Pace.{Pace}
 abbrev pub IsListed : List Line → ℕ → Side → Type 0
 IsListed lines c s = Contains (map name_of lines) (c, s)
 
--- The lines that are listed are those whose count of faults rose.
+-- The lines that are listed are those whose count of faults rose, by their calls' numbers, and those of a call in the order
+-- Up, Pcm, Down, Out.
 pub record TellsFailed (before now : ℕ → Side → LineState) (lines : List Line) : Type 0 where
   pub rose : (c : ℕ) (s : Side) → IsListed lines c s → Rose (before c s).faults (now c s).faults
   pub kept : (c : ℕ) (s : Side) → (IsListed lines c s → ⊥) → (now c s).faults ≡ (before c s).faults
+  pub order : IsNonDecreasingBy (λ l. place_of l.call l.side) lines
 
 -- No incoming line was written, and no outgoing line was read.
 pub record KeepsSides (before now : ℕ → Side → LineState) : Type 0 where
