@@ -8,6 +8,7 @@ pub mod RoundEnds
 pub mod Told
 pub mod SeatEnds
 pub mod Worked
+pub mod RoundTaken
 pub mod Seats
 pub mod Ending
 pub mod Reporting

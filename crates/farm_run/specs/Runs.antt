@@ -68,25 +68,25 @@ pub record IsRunOver (orders : List Order) (periods : ℕ) (before : ℕ → Sid
 abbrev pub cause_in : Run → ℕ → Cause
 cause_in r c = (end_of (given_in r) r.periods (done_in r) c (start_of (done_in r) c)).cause
 
--- an order ended the call, or the run
-abbrev pub EndedByOrder : Cause → Type 0
-EndedByOrder Closed = Unit {0}
-EndedByOrder Limit = Unit {0}
-EndedByOrder (End side left) = ⊥
-EndedByOrder (Fault side) = ⊥
+-- the call's lines didn't end it: an order closed it, or the run ended
+abbrev pub IsCutOff : Cause → Type 0
+IsCutOff Closed = Unit {0}
+IsCutOff Limit = Unit {0}
+IsCutOff (End side left) = ⊥
+IsCutOff (Fault side) = ⊥
 
 -- Of a line that told these octets exactly those of n periods were read, so many a period.
 abbrev pub IsReadTo : LineState → ℕ → List ℕ → Type 0
 IsReadTo now octets line = now.to_come ≡ Some (drop octets line)
 
 -- What a run leaves: the outgoing lines of each call that it opened have gained exactly what the run gives, and of the
--- incoming lines of a call that an order or the run ended exactly the octets of its periods were read. The lines of all
--- other calls are as they were, their counts included.
+-- incoming lines of a call that they didn't end exactly the octets of its periods were read. The lines of all other calls
+-- are as they were, their counts included.
 pub record Leaves (r : Run) (before now : ℕ → Side → LineState) : Type 0 where
   pub out : (c : ℕ) → IsOpened r c → Appends (before c Out).written (now c Out).written (out_of_call r c)
   pub down : (c : ℕ) → IsOpened r c → Appends (before c Down).written (now c Down).written (down_of_call r c)
-  pub up_read : (c : ℕ) → IsOpened r c → EndedByOrder (cause_in r c) → IsReadTo (now c Up) (40 * length (periods_in r c)) (r.lines c).up
-  pub pcm_read : (c : ℕ) → IsOpened r c → EndedByOrder (cause_in r c) → IsReadTo (now c Pcm) (160 * length (periods_in r c)) (r.lines c).pcm
+  pub up_read : (c : ℕ) → IsOpened r c → IsCutOff (cause_in r c) → IsReadTo (now c Up) (40 * length (periods_in r c)) (r.lines c).up
+  pub pcm_read : (c : ℕ) → IsOpened r c → IsCutOff (cause_in r c) → IsReadTo (now c Pcm) (160 * length (periods_in r c)) (r.lines c).pcm
   pub others : (c : ℕ) (s : Side) → (IsOpened r c → ⊥) → now c s ≡ before c s
 
 -- A run of these orders: it only reads incoming lines and only writes outgoing ones, and its report lists the lines that

@@ -8,9 +8,9 @@
 //!
 //! Definitions: `specs/Runs.antt` (what a run leaves on the lines and reports), `specs/Clock.antt` (what holds at its
 //! clock), `specs/Match.antt` (what ties board and farm to each other, and to what a run gives by its definition in
-//! `farm_output`), `specs/Going.antt` (what a round takes of the calls and where it leaves them), `specs/Ending.antt` (ends
-//! as they are told), `specs/Journal.antt` (what is noted), `specs/Noted.antt` (when that is right, so that at the run's end
-//! the report is the definition's), `specs/Facts.antt` (what the report says of it), `specs/Pace.antt`.
+//! `farm_output`), `specs/Going.antt` (how far the calls come in a round), `specs/Ending.antt` (ends as they are told),
+//! `specs/Journal.antt` (what is noted), `specs/Noted.antt` (when that is right, so that at the run's end the report is the
+//! definition's), `specs/Facts.antt` (what the report says of it), `specs/Pace.antt`.
 //! How orders, rounds and ends follow each other is this project's profile.
 #![tactic(auto)]
 

@@ -12,7 +12,7 @@ use Rattle.farm_run.specs.Clock.{IsAtClock, AreReadable}
 use Rattle.farm_run.proofs.Counts.{fell_more, still_none, none_since}
 use Rattle.farm_run.proofs.Clocks.{fell_none, tells_none, at_first, clock_on, goes_on, none_alive, none_among}
 use Rattle.farm_run.proofs.Sides.{sides_none, sides_more}
-use Rattle.farm_run.specs.Going.{IsRound}
+use Rattle.farm_run.proofs.RoundTaken.{IsRound}
 use Rattle.farm_run.specs.Noted.{IsKnown}
 use Rattle.farm_run.proofs.NotedRounds.{truly_same}
 use Rattle.farm_run.proofs.Knowing.{known_start, known_idle, known_round}

@@ -4,7 +4,7 @@ use Rattle.round_lines.specs.Rounds.{seat_end}
 use Rattle.switchboard.specs.State.{State, last_stamp, orders_of}
 use Rattle.farm_output.specs.Run.{Run}
 use Rattle.farm_rounds.specs.Working.{RoundMemory, GainsFailed}
-use Rattle.farm_run.specs.Going.{IsRound}
+use Rattle.farm_run.proofs.RoundTaken.{IsRound}
 use Rattle.farm_run.specs.Clock.{IsAtClock}
 use Rattle.farm_run.proofs.Told.{told_done, told_orders}
 use Rattle.farm_run.proofs.Making.{IsMade, made_octets, made_open, made_partners, made_stands, made_tallies}
