@@ -3,7 +3,7 @@
 //! Above the board (`switchboard`) and the farm (`farm_rounds`), which it keeps in step, and below the top call, which hands
 //! it the orders that were read and tells the report. `clock` goes from the orders of a period to a round of periods, and
 //! on to the run's end: `orders` has the orders of the clock executed and carried out, `ends` has the board told of the calls
-//! that end, `journal` (with `exchange`) notes what the report needs to know of the past, `facts` makes the report of it,
+//! that end, `journal` (with `notes`) notes what the report needs to know of the past, `facts` makes the report of it,
 //! and `finish` ends a run with it. `pace` says how a run is worked.
 //!
 //! Definitions: `specs/Runs.antt` (what a run leaves on the lines and reports), `specs/Clock.antt` (what holds at its
@@ -16,10 +16,10 @@
 
 mod clock;
 mod ends;
-mod exchange;
 mod facts;
 mod finish;
 mod journal;
+mod notes;
 mod orders;
 mod pace;
 
