@@ -78,7 +78,7 @@ fn work_round<R: Threads + Wait + Sync, T: Trunk, G: Gate + Sync>(
     ensures later { IfOk result (λ farm. NeverFell (T.lines trunk.old) (T.lines trunk.new)) }
     ensures failed { (first : ℕ → Side → LineState) → NeverFell first (T.lines trunk.old) → TellsFailed first (T.lines trunk.old) farm.failed →
         IfOk result (λ after. TellsFailed first (T.lines trunk.new) after.failed) }
-    ensures sides { IfOk result (λ farm. KeepsSides (T.lines trunk.old) (T.lines trunk.new)) }
+    ensures sides { KeepsSides (T.lines trunk.old) (T.lines trunk.new) }
 
     // Where nothing fails, the run goes on; the ends of calls are noted, and their counts are kept.
     ensures run { (r : Run) (first : ℕ → Side → LineState) → AreReadable r → clock + periods ≤ r.periods → IsAtClock r clock board.old farm.groups first (T.lines trunk.old) →
@@ -128,7 +128,7 @@ fn work_all<R: Threads + Wait + Sync, T: Trunk, G: Gate + Sync>(
     // The farm lists exactly the lines whose counts rose, and where none did, the run is at its end. Incoming lines are
     // only read, and outgoing ones only written.
     ensures failed { IfOk result (λ farm. TellsFailed (T.lines trunk.old) (T.lines trunk.new) farm.failed) }
-    ensures sides { IfOk result (λ farm. KeepsSides (T.lines trunk.old) (T.lines trunk.new)) }
+    ensures sides { KeepsSides (T.lines trunk.old) (T.lines trunk.new) }
     ensures run { (r : Run) → IsRunOver (orders_of board.old) pace.now.periods (T.lines trunk.old) r → NoneRose (T.lines trunk.old) (T.lines trunk.new) →
         IfOk result (λ farm. IsAtClock r r.periods board.new farm.groups (T.lines trunk.old) (T.lines trunk.new)) }
     ensures known { (r : Run) → IsRunOver (orders_of board.old) pace.now.periods (T.lines trunk.old) r → NoneRose (T.lines trunk.old) (T.lines trunk.new) →
@@ -167,7 +167,8 @@ fn run_board<R: Threads + Wait + Sync, T: Trunk, G: Gate + Sync>(
     requires none_done { board.old.done ≡ [] }
     requires count { count ≡ length (orders_of board.old) }
     requires few { count ≤ 65536 }
-    ensures { IfOk result (λ report. Runs (orders_of board.old) pace.now (T.lines trunk.old) (T.lines trunk.new) report) }
+    ensures runs { IfOk result (λ report. Runs (orders_of board.old) pace.now (T.lines trunk.old) (T.lines trunk.new) report) }
+    ensures sides { KeepsSides (T.lines trunk.old) (T.lines trunk.new) }
 {
     let mut journal = Journal::new(alloc)?;
     let farm = work_all(rt, alloc, board, &mut journal, pace, trunk, gate)?;
@@ -186,7 +187,10 @@ pub fn run<R: Threads + Wait + Sync, T: Trunk, G: Gate + Sync>(
     gate: &G,
 ) -> Result<Report, AllocError>
     requires { IsPace pace.now }
-    ensures { IfOk result (λ report. Runs orders pace.now (T.lines trunk.old) (T.lines trunk.new) report) }
+    ensures runs { IfOk result (λ report. Runs orders pace.now (T.lines trunk.old) (T.lines trunk.new) report) }
+
+    // Incoming lines are only read and outgoing ones only written, also where there was no memory.
+    ensures sides { KeepsSides (T.lines trunk.old) (T.lines trunk.new) }
 {
     let count = orders.list().len();
     let mut board = Board::new(alloc, orders)?;

@@ -167,17 +167,17 @@ returns-clause-known g c = λ r run none.
 pub returns-in_err-farm : goal.returns-in_err-farm
 returns-in_err-farm g c =
     let no = c.from_residual.ensures.0 in
-    record { clock = IfOk-from_err _ _ no; kept = IfOk-from_err _ _ no; failed = IfOk-from_err _ _ no; sides = IfOk-from_err _ _ no; run = λ r run none. IfOk-from_err _ _ no; known = λ r run none. IfOk-from_err _ _ no }
+    record { clock = IfOk-from_err _ _ no; kept = IfOk-from_err _ _ no; failed = IfOk-from_err _ _ no; sides = sides_none _; run = λ r run none. IfOk-from_err _ _ no; known = λ r run none. IfOk-from_err _ _ no }
 
 pub returns-in_err-execute_orders : goal.returns-in_err-execute_orders
 returns-in_err-execute_orders g c =
     let no = c.from_residual-in_err-execute_orders.ensures.0 in
-    record { clock = IfOk-from_err _ _ no; kept = IfOk-from_err _ _ no; failed = IfOk-from_err _ _ no; sides = IfOk-from_err _ _ no; run = λ r run none. IfOk-from_err _ _ no; known = λ r run none. IfOk-from_err _ _ no }
+    record { clock = IfOk-from_err _ _ no; kept = IfOk-from_err _ _ no; failed = IfOk-from_err _ _ no; sides = c.loop-clock.invariant.sides; run = λ r run none. IfOk-from_err _ _ no; known = λ r run none. IfOk-from_err _ _ no }
 
 pub returns-in_err-farm-2 : goal.returns-in_err-farm-2
 returns-in_err-farm-2 g c =
     let no = c.from_residual-in_err-farm-2.ensures.0 in
-    record { clock = IfOk-from_err _ _ no; kept = IfOk-from_err _ _ no; failed = IfOk-from_err _ _ no; sides = IfOk-from_err _ _ no; run = λ r run none. IfOk-from_err _ _ no; known = λ r run none. IfOk-from_err _ _ no }
+    record { clock = IfOk-from_err _ _ no; kept = IfOk-from_err _ _ no; failed = IfOk-from_err _ _ no; sides = sides_more _ _ _ c.loop-clock.invariant.sides c.work_round.ensures.sides; run = λ r run none. IfOk-from_err _ _ no; known = λ r run none. IfOk-from_err _ _ no }
 
 pub idle_until-clock-requires-clause-clock : goal.idle_until-clock-requires-clause-clock
 idle_until-clock-requires-clause-clock g c = c.loop-clock-test.true

@@ -11,7 +11,7 @@ use Rattle.farm_run.proofs.Making.{IsMade, made_octets, made_open, made_partners
 use Rattle.farm_run.proofs.WorkedRound as parts
 use Rattle.farm_run.proofs.WorkedRound.{FilledRound, WorkedRound}
 use Rattle.farm_run.proofs.Counts.{fell_round, tells_round}
-use Rattle.farm_run.proofs.Sides.{sides_round}
+use Rattle.farm_run.proofs.Sides.{sides_none, sides_more, sides_filled, sides_drained}
 use Rattle.farm_run.proofs.RoundClock.{tells_numbers, tells_open, tells_apart, tells_late, clock_after}
 use Rattle.farm_run.proofs.RoundLines.{clock_is, ends_are, told_is}
 use Rattle.farm_run.proofs.RoundTallies.{tallies_after}
@@ -121,7 +121,10 @@ pub returns-clause-failed : goal.returns-clause-failed
 returns-clause-failed g c = tells_round _ _ _ _ _ _ _ (round g c)
 
 pub returns-clause-sides : goal.returns-clause-sides
-returns-clause-sides g c = sides_round _ _ _ _ _ _ _ (round g c)
+returns-clause-sides g c =
+    let fill = c.fill.ensures in
+    let drain = c.drain.ensures in
+    sides_more _ _ _ (sides_filled _ _ c.in_ok-round.round.seats c.fill.new.self.seats _ fill.fills fill.others) (sides_drained _ _ c.work-worked.result.seats drain.drains.0 _ drain.drains.1 drain.others)
 
 -- where the run goes on, the round is one of it
 in_run : (g : Over) (c : goal.After-drain g) (r : Run) (first : _) → c.args.clock + c.args.periods ≤ r.periods → IsAtClock r c.args.clock c.args.board.now c.args.farm.groups first (g.T.Trunk.lines c.args.trunk.now) →
@@ -158,7 +161,7 @@ returns-in_err-round g c =
       ended = IfOk-from_err _ _ no;
       later = IfOk-from_err _ _ no;
       failed = λ first later told. IfOk-from_err _ _ no;
-      sides = IfOk-from_err _ _ no;
+      sides = sides_none _;
       run = λ r first readable l at calm. IfOk-from_err _ _ no;
       ends = λ r first readable l at calm. IfOk-from_err _ _ no;
     }
@@ -173,7 +176,7 @@ returns-in_err-tell_ends g c =
       ended = IfOk-from_err _ _ no;
       later = IfOk-from_err _ _ no;
       failed = λ first later told. IfOk-from_err _ _ no;
-      sides = IfOk-from_err _ _ no;
+      sides = sides_filled _ _ c.in_ok-round.round.seats c.fill.new.self.seats _ c.fill.ensures.fills c.fill.ensures.others;
       run = λ r first readable l at calm. IfOk-from_err _ _ no;
       ends = λ r first readable l at calm. IfOk-from_err _ _ no;
     }
