@@ -29,12 +29,12 @@ seat_place seats zero c = inr (λ k l e. absurd (omega arith))
 seat_place seats (suc n) c = elim (seat_place seats n c) [
   | inl m ↦ inl (m.0, (let l = m.1 in omega arith), m.2)
   | inr none ↦ elim (cases_Bool (c == call_at seats n)) [
-      | inl q ↦ inl (n, omega arith, eqb-true c (call_at seats n) q)
-      | inr q ↦ inr (λ k l e. elim (cases_lt k n) [
-          | inl less ↦ none k less e
-          | inr more ↦ let last : k ≡ n = omega arith in true≢false (sym (eq-eqb c (call_at seats n) (e ∙ ap (call_at seats) last)) ∙ q)
-        ])
-    ]
+    | inl q ↦ inl (n, omega arith, eqb-true c (call_at seats n) q)
+    | inr q ↦ inr (λ k l e. elim (cases_lt k n) [
+      | inl less ↦ none k less e
+      | inr more ↦ let last : k ≡ n = omega arith in true≢false (sym (eq-eqb c (call_at seats n) (e ∙ ap (call_at seats) last)) ∙ q)
+    ])
+  ]
 ]
 
 module _ (before now : ℕ → Side → LineState) (seats after : List SeatMemory) (n : ℕ) where

@@ -8,8 +8,8 @@ ghost use Rattle.switchboard.specs.Runs.{AllEnded};
 ghost use Rattle.farm_rounds.specs.Histories.{CallHistory, GroupsStand};
 ghost use Rattle.farm_run.specs.Facts.{span_line, span_lines, kept_in, call_line, settled_each};
 
-use crate::notes::BridgeNote;
 use crate::journal::Journal;
+use crate::notes::BridgeNote;
 use farm_report::{CallLine, Report, SpanLine};
 use farm_rounds::Farm;
 use std::alloc::{AllocError, Global};
