@@ -81,16 +81,8 @@ impl Journal {
             sent_by_a: 0,
             sent_by_b: 0,
         })?;
-        let from = self.calls[a as usize].from;
-        self.calls[a as usize] = Opening {
-            from,
-            bridge: Some(place),
-        };
-        let from = self.calls[b as usize].from;
-        self.calls[b as usize] = Opening {
-            from,
-            bridge: Some(place),
-        };
+        self.calls[a as usize].bridge = Some(place);
+        self.calls[b as usize].bridge = Some(place);
         Ok(())
     }
 
