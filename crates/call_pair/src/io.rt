@@ -77,7 +77,7 @@ impl LegIo {
         }
     }
 
-    /// The buffers, for the next round.
+    /// The buffers, whose Out and Down are to be written.
     pub fn into_buffers(self) -> Buffers
         ensures up { result.up.items ≡ self.up }
         ensures pcm { result.pcm.items ≡ self.pcm }

@@ -14,10 +14,10 @@ use Rattle.farm_rounds.specs.declared.call.Call.{Call}
 use Rattle.farm_rounds.specs.declared.call.Group.{Group}
 use Rattle.farm_rounds.specs.declared.call.Group.TheVariants.{One, Two}
 use Rattle.farm_rounds.specs.Calls.{holds, group_in, call_in, partner_in, call_of, partner_of, other_of, pair_of, size_of, calls_held}
-use Rattle.farm_rounds.specs.Groups.{IsCall, IsGroup, AreGroups, Exchanges}
+use Rattle.farm_rounds.specs.Groups.{IsCall, IsGroup, AreGroups}
 use Rattle.farm_rounds.specs.Acts.{joined, parted, set_by, group_set, IsOpen, Fits, IsSetting, Applied}
 use Rattle.farm_rounds.proofs.Finding.{found_there, found_only, found_moved}
-use Rattle.farm_rounds.proofs.Exchanging.{exchanged}
+use Rattle.farm_rounds.proofs.Exchanging.{Exchanges, exchanged}
 use Rattle.farm_rounds.proofs.Orders.{changes, joined_calls, joined_partners, parted_calls, parted_partners, ended_calls, ended_partners, freed_calls, set_one, set_low, set_high, pair_count, parted_count, other_count}
 
 -- ---- one group

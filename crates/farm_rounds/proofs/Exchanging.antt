@@ -3,13 +3,20 @@ use Rattle.std.proofs.Common.{◌≡◌, ℕ, ◌+◌, ◌≤◌, None, List, []
 use Rattle.std.specs.Prelude.{if◌then◌else◌}
 use Rattle.std.specs.Option.{option_or}
 use Rattle.std.specs.List.{count_by, sum_by, list_any, All}
+use Rattle.std.specs.List.Sorted.{IsPermutation}
 use Rattle.std.proofs.lemmas.List.Sums.{sum_by-append}
 use Rattle.std.proofs.lemmas.List.Elements.{All-append, All-tail}
 use Rattle.std.proofs.lemmas.List.Sorted.{IsPermutation-sym, sum_by-IsPermutation, All-permutation}
 use Rattle.farm_rounds.specs.declared.call.Group.{Group}
 use Rattle.farm_rounds.specs.Calls.{holds, group_in, size_of, calls_held}
-use Rattle.farm_rounds.specs.Groups.{IsGroup, AreGroups, Exchanges}
+use Rattle.farm_rounds.specs.Groups.{IsGroup, AreGroups}
 use Rattle.farm_rounds.proofs.Finding.{found_exchanged}
+
+-- the groups `out` were taken out, and the groups `into` were put in, in whatever order
+pub record Exchanges (out into before now : List Group) : Type 0 where
+  pub others : List Group
+  pub old : IsPermutation before (out ++ others)
+  pub new : IsPermutation now (into ++ others)
 
 -- the second part of what all have
 pub All-second : {X : Type 0} (P : X → Type 0) (xs ys : List X) → All P (xs ++ ys) → All P ys

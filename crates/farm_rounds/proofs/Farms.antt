@@ -17,11 +17,11 @@ use Rattle.trau_io.specs.declared.line.Line.{Line}
 use Rattle.farm_rounds.specs.declared.tally.Tally.{Tally}
 use Rattle.farm_rounds.specs.Memory.{FarmMemory, no_tally, new_farm}
 use Rattle.farm_rounds.specs.Numbers.{IsRising, is_among}
-use Rattle.farm_rounds.specs.Groups.{IsCall, IsGroup, AreGroups, AreLive, Exchanges}
+use Rattle.farm_rounds.specs.Groups.{IsCall, IsGroup, AreGroups, AreLive}
 use Rattle.farm_rounds.specs.Histories.{GroupsStand}
 use Rattle.farm_rounds.specs.Acts.{new_call, joined, parted, set_by, freed, calls_after, IsOpen, Fits, Stays, Applied}
 use Rattle.farm_rounds.proofs.Finding.{none_passes, counted_none}
-use Rattle.farm_rounds.proofs.Exchanging.{exchanged}
+use Rattle.farm_rounds.proofs.Exchanging.{Exchanges, exchanged}
 use Rattle.farm_rounds.proofs.Orders.{opened_calls, opened_partners}
 use Rattle.farm_rounds.proofs.Applying.{found_group}
 

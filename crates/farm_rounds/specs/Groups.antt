@@ -1,7 +1,6 @@
--- The groups of a farm: each call is in one of them, and an order exchanges some of them for others.
-use Rattle.std.specs.Prelude.{◌≡◌, ℕ, ◌≤◌, ◌<◌, is_some, List, ◌++◌, length}
+-- The groups of a farm: each call is in one of them.
+use Rattle.std.specs.Prelude.{◌≡◌, ℕ, ◌≤◌, ◌<◌, is_some, List, length}
 use Rattle.std.specs.List.{All, count_by}
-use Rattle.std.specs.List.Sorted.{IsPermutation}
 use Rattle.farm_rounds.specs.declared.call.Call.{Call}
 use Rattle.farm_rounds.specs.declared.call.Group.{Group}
 use Rattle.farm_rounds.specs.declared.call.Group.TheVariants.{One, Two}
@@ -22,12 +21,6 @@ IsGroup most (Two x y) = IsCall most x × IsCall most y × (x.number < y.number)
 pub record AreGroups (most : ℕ) (groups : List Group) : Type 0 where
   pub apart : (c : ℕ) → count_by (holds c) groups ≤ 1
   pub each : All (IsGroup most) groups
-
--- the groups `out` were taken out, and the groups `into` were put in, in whatever order
-pub record Exchanges (out into before now : List Group) : Type 0 where
-  pub others : List Group
-  pub old : IsPermutation before (out ++ others)
-  pub new : IsPermutation now (into ++ others)
 
 -- the numbers of the calls that are open, and how many there are
 pub record AreLive (live : List ℕ) (groups : List Group) : Type 0 where

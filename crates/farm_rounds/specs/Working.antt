@@ -3,7 +3,8 @@ use Rattle.std.specs.Prelude.{◌≡◌, ℕ, Bool, Option, Some, None, if◌the
 use Rattle.std.specs.List.{All, list_any}
 use Rattle.trau_io.specs.declared.ends.CallEnd.{CallEnd}
 use Rattle.trau_io.specs.declared.line.Line.{Line}
-use Rattle.std.specs.List.Sorted.{IsPermutation}
+use Rattle.trau_io.specs.Places.{place_of}
+use Rattle.std.specs.List.Sorted.{IsPermutation, IsNonDecreasingBy}
 use Rattle.round_lines.specs.Places.{name_of, failed_in_round}
 use Rattle.round_lines.specs.Seats.{SeatMemory}
 use Rattle.round_lines.specs.Rounds.{Rising, seat_at, call_at}
@@ -72,8 +73,10 @@ that_stays stays (Some p) = if stays p then Some p else None
 abbrev pub partner_past : (ℕ → Bool) → (ℕ → Option ℕ) → ℕ → Option ℕ
 partner_past stays partner c = if stays c then that_stays stays (partner c) else None
 
--- the lines that failed are those from before and those that failed in the round, in whatever order
+-- The lines that failed are those from before and those that failed in the round, by their calls' numbers, and those of a
+-- call in the order Up, Pcm, Down, Out.
 pub record GainsFailed (before now : List Line) (seats : List SeatMemory) : Type 0 where
   pub lines : List Line
   pub told : map name_of lines ≡ map name_of before ++ flat_map (λ s. failed_in_round s.place) seats
-  pub sorted : IsPermutation lines now
+  pub same : IsPermutation lines now
+  pub order : IsNonDecreasingBy (λ l. place_of l.call l.side) now

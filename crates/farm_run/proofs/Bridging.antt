@@ -13,9 +13,9 @@ use Rattle.switchboard.proofs.Steps.{part_kept}
 use Rattle.farm_rounds.specs.declared.tally.Tally.{Tally}
 use Rattle.farm_rounds.specs.Calls.{IsNumber}
 use Rattle.farm_output.specs.Run.{Run}
-use Rattle.farm_run.specs.declared.exchange.Opening.{Opening}
-use Rattle.farm_run.specs.declared.exchange.Exchange.{Exchange}
-use Rattle.farm_run.specs.Journal.{JournalMemory, no_opening, opening_of, no_exchange, bridged_at, with_bridge}
+use Rattle.farm_run.specs.declared.notes.Opening.{Opening}
+use Rattle.farm_run.specs.declared.notes.BridgeNote.{BridgeNote}
+use Rattle.farm_run.specs.Journal.{JournalMemory, no_opening, opening_of, no_note, bridged_at, with_bridge}
 use Rattle.farm_run.specs.Noted.{bridge_at, is_opened, noted_sent, EndsNoted, PlacesNoted, SentNoted, IsKept, IsNoted}
 use Rattle.farm_run.proofs.Following.{no}
 use Rattle.farm_run.proofs.Settling.{left_true, or_this}
@@ -73,7 +73,7 @@ module _ (r : Run) (ds now : List Done) (ended : ℕ → Bool) (j : JournalMemor
   abbrev calls : List Opening
   calls = bridged_at b place (bridged_at a place j.calls)
 
-  abbrev made : Exchange
+  abbrev made : BridgeNote
   made = record { a = a; b = b; sent_by_a = 0; sent_by_b = 0 }
 
   numbers : IsNumber a × IsNumber b
@@ -137,7 +137,7 @@ module _ (r : Run) (ds now : List Done) (ended : ℕ → Bool) (j : JournalMemor
   sent : SentNoted r now (λ c. false) (with_bridge a b j)
   sent c k l g i = elim (which k l) [
     | inl m ↦
-        ap (noted_sent c) (get_or_append_left j.bridges (made ∷ []) no_exchange k m)
+        ap (noted_sent c) (get_or_append_left j.bridges (made ∷ []) no_note k m)
         ∙ s c k (let c = p.count in omega arith) (sym (joins_same h.front (bridges ds) c k h.sides) ∙ sym (ap (joins c) (there k m)) ∙ g) (λ e. settles e (cases_Bool (c == a || c == b)))
     | inr q ↦ absurd (no false refl (i (place_is c (sym (joins_last c) ∙ sym (ap (joins c) at_last) ∙ ap (λ (k : ℕ). joins c (bridge_at now k)) (sym q) ∙ g) ∙ ap Some (sym q))))
   ]
@@ -156,8 +156,8 @@ module _ (r : Run) (ds now : List Done) (ended : ℕ → Bool) (j : JournalMemor
       latest = λ c o. latest c (sym (h.opened c) ∙ o);
       count = length-append j.bridges (made ∷ []) ∙ let e = long in omega arith;
       calls = λ k. (
-        pushed (λ (x : Exchange). x.a) (λ (x : Bridge). x.a) no_exchange no_bridge j.bridges h.front made h.last (sym count) (λ k. (p.calls k).0 ∙ sym (let sides = h.sides in sides.a k)) (sym h.calls.0) k ∙ ap (λ (bs : List Bridge). (get_or bs k no_bridge).a) (sym h.all),
-        pushed (λ (x : Exchange). x.b) (λ (x : Bridge). x.b) no_exchange no_bridge j.bridges h.front made h.last (sym count) (λ k. (p.calls k).1 ∙ sym (let sides = h.sides in sides.b k)) (sym h.calls.1) k ∙ ap (λ (bs : List Bridge). (get_or bs k no_bridge).b) (sym h.all),
+        pushed (λ (x : BridgeNote). x.a) (λ (x : Bridge). x.a) no_note no_bridge j.bridges h.front made h.last (sym count) (λ k. (p.calls k).0 ∙ sym (let sides = h.sides in sides.a k)) (sym h.calls.0) k ∙ ap (λ (bs : List Bridge). (get_or bs k no_bridge).a) (sym h.all),
+        pushed (λ (x : BridgeNote). x.b) (λ (x : Bridge). x.b) no_note no_bridge j.bridges h.front made h.last (sym count) (λ k. (p.calls k).1 ∙ sym (let sides = h.sides in sides.b k)) (sym h.calls.1) k ∙ ap (λ (bs : List Bridge). (get_or bs k no_bridge).b) (sym h.all),
       );
       apart = apart;
     };

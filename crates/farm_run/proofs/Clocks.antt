@@ -31,7 +31,7 @@ use Rattle.farm_run.specs.Noted.{IsAtEnd, IsKnown}
 use Rattle.farm_output.specs.Lines.{out_line, down_octets}
 use Rattle.farm_output.proofs.Standing.{gone_later}
 use Rattle.farm_output.proofs.SoFar.{so_far_at_first, so_far_later}
-use Rattle.farm_run.specs.Runs.{IsOpened, TellsFailed, NoneRose, IsRunOver, Leaves, Runs}
+use Rattle.farm_run.specs.Runs.{IsOpened, TellsFailed, KeepsSides, NoneRose, IsRunOver, Leaves, Runs}
 use Rattle.farm_run.specs.declared.pace.Pace.{Pace}
 use Rattle.farm_run.specs.Match.{AtClock, past_if, histories_at}
 use Rattle.farm_run.specs.Clock.{end_in, worked_to, IsReadWhole, LinesAt, IsAtClock, NeverFell}
@@ -47,7 +47,7 @@ pub fell_none : (lines : ℕ → Side → LineState) → NeverFell lines lines
 fell_none lines c s = omega arith
 
 pub tells_none : (lines : ℕ → Side → LineState) → TellsFailed lines lines []
-tells_none lines = record { rose = λ c s h. (let l = h.1 in absurd (omega arith)); kept = λ c s h. refl }
+tells_none lines = record { rose = λ c s h. (let l = h.1 in absurd (omega arith)); kept = λ c s h. refl; order = λ i j d l m. absurd (omega arith) }
 
 none_worked : (r : Run) (c : ℕ) → worked_to r 0 c ≡ 0
 none_worked r c = by (end_in r c) (start_of (done_in r) c)
@@ -194,13 +194,14 @@ none_listed first now (x ∷ lines) h n = absurd (n x.call x.side (h.rose x.call
 
 -- **So the report of a run at its end tells what the run gives.**
 pub run_told : {E : Type 0} (os : List Order) (pace : Pace) (first now : ℕ → Side → LineState) (b : State) (farm : FarmMemory) (journal : JournalMemory) (count : ℕ) (o : Result ReportView E) → orders_of b ≡ os →
-    TellsFailed first now farm.failed →
+    TellsFailed first now farm.failed → KeepsSides first now →
     ((r : Run) → IsRunOver os pace.periods first r → NoneRose first now → IsAtClock r r.periods b farm.groups first now) → ((r : Run) → IsRunOver os pace.periods first r → NoneRose first now → IsKnown r r.periods b farm.tallies journal) →
     IfOk o (λ report. report.failed ≡ farm.failed) → count ≡ length os →
     IfOk o (λ report. (r : Run) (t : ℕ) → IsAtEnd r t b farm.groups farm.tallies journal → r.periods ≡ pace.periods → length r.orders ≡ count → report ≡ report_of r report.failed) → IfOk o (λ report. Runs os pace first now report)
-run_told os pace first now b farm journal count (Err e) kept tells goes known f number g = tt
-run_told os pace first now b farm journal count (Ok report) kept tells goes known f number g = record {
+run_told os pace first now b farm journal count (Err e) kept tells sides goes known f number g = tt
+run_told os pace first now b farm journal count (Ok report) kept tells sides goes known f number g = record {
   failed = subst (λ (ls : List Line). TellsFailed first now ls) (sym f) tells;
+  sides = sides;
   leaves = λ r run none. leaves_all r b farm.groups first now (goes r run none);
   reports = λ r run none.
       let at = goes r run none in

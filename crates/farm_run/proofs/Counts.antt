@@ -109,12 +109,12 @@ listed_seat (x ∷ seats) y h = elim (Contains-append_cases (failed_in_round x.p
 -- **The lines that are listed after a round are those from before and those that its seats' marks tell.**
 listed_before : (before now : List Line) (seats : List SeatMemory) (y : Name) → GainsFailed before now seats → Contains (map name_of before) y ⊎ Contains (names seats) y → Contains (map name_of now) y
 listed_before before now seats y g h =
-    Contains-permutation (map name_of g.lines) (map name_of now) y (IsPermutation-map name_of g.lines now g.sorted)
+    Contains-permutation (map name_of g.lines) (map name_of now) y (IsPermutation-map name_of g.lines now g.same)
     (subst (λ xs. Contains xs y) (sym g.told) (elim h [ inl a ↦ Contains-append_left (map name_of before) (names seats) y a | inr b ↦ Contains-append_right (map name_of before) (names seats) y b ]))
 
 listed_after : (before now : List Line) (seats : List SeatMemory) (y : Name) → GainsFailed before now seats → Contains (map name_of now) y → Contains (map name_of before) y ⊎ Contains (names seats) y
 listed_after before now seats y g h = Contains-append_cases (map name_of before) (names seats) y
-    (subst (λ xs. Contains xs y) g.told (Contains-permutation (map name_of now) (map name_of g.lines) y (IsPermutation-map name_of now g.lines (IsPermutation-sym g.lines now g.sorted)) h))
+    (subst (λ xs. Contains xs y) g.told (Contains-permutation (map name_of now) (map name_of g.lines) y (IsPermutation-map name_of now g.lines (IsPermutation-sym g.lines now g.same)) h))
 
 module _ (t n : ℕ) (farm after : FarmMemory) (before now : ℕ → Side → LineState) (ends : List CallEnd) (w : WorkedRound t n farm after before now ends) where
   long : length w.drained ≡ length farm.live
@@ -143,7 +143,7 @@ module _ (t n : ℕ) (farm after : FarmMemory) (before now : ℕ → Side → Li
 
   -- **The farm goes on listing exactly the lines whose counts rose.**
   pub tells_round : (first : ℕ → Side → LineState) → NeverFell first before → TellsFailed first before farm.failed → TellsFailed first now after.failed
-  tells_round first l h = record { rose = rose; kept = kept }
+  tells_round first l h = record { rose = rose; kept = kept; order = w.gains.order }
     where
       rose : (c : ℕ) (s : Side) → Contains (map name_of after.failed) (c, s) → Rose (first c s).faults (now c s).faults
       rose c s k = elim (listed_after farm.failed after.failed w.drained (c, s) w.gains k) [

@@ -8,7 +8,7 @@ use Rattle.farm_rounds.specs.declared.tally.Tally.{Tally}
 use Rattle.farm_output.specs.Run.{Run, given_in, whole_in, done_in}
 use Rattle.farm_output.proofs.Lists.{each_weaker}
 use Rattle.farm_run.specs.Journal.{JournalMemory, new_journal}
-use Rattle.farm_run.specs.Going.{IsRound}
+use Rattle.farm_run.proofs.RoundTaken.{IsRound}
 use Rattle.farm_run.specs.Clock.{EndsRound}
 use Rattle.farm_run.specs.Noted.{IsKnown, Noted, TellsTruly}
 use Rattle.farm_run.proofs.RoundEnds.{end_within, ends_there}

@@ -8,6 +8,7 @@ pub mod RoundEnds
 pub mod Told
 pub mod SeatEnds
 pub mod Worked
+pub mod RoundTaken
 pub mod Seats
 pub mod Ending
 pub mod Reporting
@@ -20,6 +21,7 @@ pub mod Rising
 pub mod Finishing
 pub mod LastEnds
 pub mod Counts
+pub mod Sides
 pub mod WorkedRound
 pub mod Reach
 pub mod RoundCalls

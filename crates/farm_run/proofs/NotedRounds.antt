@@ -30,9 +30,10 @@ use Rattle.farm_output.proofs.Settling.{start_is}
 use Rattle.farm_output.proofs.Standing.{open_facts}
 use Rattle.farm_output.proofs.Going.{start_run}
 use Rattle.farm_output.proofs.Sent.{sent_at_end}
-use Rattle.farm_run.specs.declared.exchange.Opening.{Opening}
+use Rattle.farm_run.specs.declared.notes.Opening.{Opening}
 use Rattle.farm_run.specs.Journal.{JournalMemory, no_opening, opening_of, new_journal, with_ends}
-use Rattle.farm_run.specs.Going.{IsRound, IsSeat, places_in, ends_within, told_after, is_told}
+use Rattle.farm_run.specs.Going.{places_in, ends_within, told_after, is_told}
+use Rattle.farm_run.proofs.RoundTaken.{IsRound, IsSeat}
 use Rattle.farm_run.specs.Ending.{AreApart}
 use Rattle.farm_run.specs.Noted.{is_opened, ended_at, IsKept, Noted, TellsTruly}
 use Rattle.farm_run.proofs.Rounds.{shut_after}

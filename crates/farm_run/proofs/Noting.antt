@@ -16,7 +16,7 @@ use Rattle.farm_rounds.specs.declared.tally.Tally.{Tally}
 use Rattle.farm_rounds.specs.Calls.{IsNumber}
 use Rattle.farm_output.specs.Run.{Run}
 use Rattle.farm_output.proofs.Lists.{each_append, each_weaker}
-use Rattle.farm_run.specs.declared.exchange.Opening.{Opening}
+use Rattle.farm_run.specs.declared.notes.Opening.{Opening}
 use Rattle.farm_run.specs.Journal.{JournalMemory, no_opening, opening_of, with_opening, with_ends}
 use Rattle.farm_run.specs.Going.{is_told}
 use Rattle.farm_run.specs.Ending.{AreApart}

@@ -19,7 +19,8 @@ use Rattle.farm_output.specs.Now.{handed_now, settings_now}
 use Rattle.farm_output.proofs.SoFar.{standing_now}
 use Rattle.farm_output.proofs.Bridging.{bridge_each, joins_other}
 use Rattle.farm_output.proofs.Going.{ups_periods, item_ups}
-use Rattle.farm_run.specs.Going.{IsRound, IsFed, places_in, start_at}
+use Rattle.farm_run.specs.Going.{places_in}
+use Rattle.farm_run.proofs.RoundTaken.{IsRound, IsFed, start_at}
 use Rattle.farm_run.proofs.Rounds.{IsOpenAt, open_at, bridge_open, bridge_at_place, bridge_after_round, bridge_kept, settings_kept, but_for_bridge, place_more}
 
 -- ---- the calls of a bridge

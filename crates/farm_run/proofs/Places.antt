@@ -5,8 +5,8 @@ use Rattle.std.proofs.lemmas.Bool.{cases_eq}
 use Rattle.std.proofs.lemmas.List.Elements.{All-nil}
 use Rattle.trau_io.specs.declared.ends.CallEnd.{CallEnd}
 use Rattle.farm_rounds.specs.Calls.{IsNumber}
-use Rattle.farm_run.specs.declared.exchange.Opening.{Opening}
-use Rattle.farm_run.specs.declared.exchange.Exchange.{Exchange}
+use Rattle.farm_run.specs.declared.notes.Opening.{Opening}
+use Rattle.farm_run.specs.declared.notes.BridgeNote.{BridgeNote}
 use Rattle.farm_run.specs.Journal.{HaveNumbers, IsJournal, no_opening, opening_of}
 
 none_opened : (n c : ℕ) → opening_of (replicate n no_opening) c ≡ no_opening
@@ -17,7 +17,7 @@ none_opened (suc n) (suc c) = none_opened n c
 nowhere : (o : Option ℕ) (k : ℕ) → o ≡ None → o ≡ Some k → ⊥
 nowhere o k none some = cc
 
-pub journal-new : (calls : List Opening) (ends : List CallEnd) (bridges : List Exchange) → calls ≡ replicate 4097 no_opening → ends ≡ [] → IsJournal calls ends bridges
+pub journal-new : (calls : List Opening) (ends : List CallEnd) (bridges : List BridgeNote) → calls ≡ replicate 4097 no_opening → ends ≡ [] → IsJournal calls ends bridges
 journal-new calls ends bridges e n = record {
   long = ap length e ∙ length-replicate 4097 no_opening;
   numbers = subst HaveNumbers (sym n) (All-nil (λ e. IsNumber e.call));
@@ -25,14 +25,14 @@ journal-new calls ends bridges e n = record {
 }
 
 -- the place that is noted of a call is that of a bridge
-pub place_known : (calls : List Opening) (ends : List CallEnd) (bridges : List Exchange) (c k : ℕ) (o : Opening) → IsJournal calls ends bridges → c < 4097 →
+pub place_known : (calls : List Opening) (ends : List CallEnd) (bridges : List BridgeNote) (c k : ℕ) (o : Opening) → IsJournal calls ends bridges → c < 4097 →
     o ≡ get_or calls c o → o.bridge ≡ Some k → k < length bridges
 place_known calls ends bridges c k o j h e b =
     let long = j.long in
     j.places c k (ap (λ (x : Opening). x.bridge) (get_or_default calls c no_opening o (omega arith) ∙ sym e) ∙ b)
 
 -- a call that is opened has no bridge
-pub journal-opened : (calls : List Opening) (ends : List CallEnd) (bridges : List Exchange) (c period : ℕ) → IsJournal calls ends bridges → c < 4097 →
+pub journal-opened : (calls : List Opening) (ends : List CallEnd) (bridges : List BridgeNote) (c period : ℕ) → IsJournal calls ends bridges → c < 4097 →
     IsJournal (set calls c (record { from = period; bridge = None })) ends bridges
 journal-opened calls ends bridges c period j less = record {
   long = length-set calls c opened ∙ j.long;

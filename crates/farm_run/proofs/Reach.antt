@@ -18,7 +18,8 @@ use Rattle.farm_output.proofs.Settling.{start_is, closed_stamp, at_of, end_by, e
 use Rattle.farm_output.proofs.SoFar.{standing_now, standing_rest, standing_end, done-rest, rest_in, rest_above, rest_from, so_far_later}
 use Rattle.farm_output.proofs.Ending.{end_closed, end_lacks}
 use Rattle.farm_output.proofs.Going.{opened_run}
-use Rattle.farm_run.specs.Going.{IsRound, places_in, ends_within}
+use Rattle.farm_run.specs.Going.{places_in, ends_within}
+use Rattle.farm_run.proofs.RoundTaken.{IsRound}
 use Rattle.farm_run.specs.Runs.{IsOpened}
 use Rattle.farm_run.specs.Clock.{end_in, worked_to}
 use Rattle.farm_run.proofs.Rounds.{open_at, no_order, has_place}

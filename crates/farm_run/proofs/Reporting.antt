@@ -14,8 +14,8 @@ use Rattle.farm_rounds.specs.declared.tally.Tally.{Tally}
 use Rattle.farm_rounds.specs.Calls.{call_in, partner_in}
 use Rattle.farm_rounds.specs.Memory.{tally_in}
 use Rattle.farm_rounds.specs.Histories.{CallHistory, CallStands, GroupsStand, kept_of, tally_of}
-use Rattle.farm_run.specs.declared.exchange.Opening.{Opening}
-use Rattle.farm_run.specs.declared.exchange.Exchange.{Exchange}
+use Rattle.farm_run.specs.declared.notes.Opening.{Opening}
+use Rattle.farm_run.specs.declared.notes.BridgeNote.{BridgeNote}
 use Rattle.farm_run.specs.Journal.{JournalMemory, opening_of, settled}
 use Rattle.farm_run.specs.Facts.{span_lines, kept_in, call_line, settled_each}
 use Rattle.farm_run.proofs.Ending.{front}
@@ -68,13 +68,13 @@ length-numbered n [] = refl
 length-numbered n (d ∷ ds) = ap suc (length-numbered (n + 1) ds)
 
 -- Where the bridges or the spans have ended, no line is left.
-pub no_lines : (spans : List Span) (bridges : List Exchange) → (length spans ≡ 0) ⊎ (length bridges ≡ 0) → span_lines spans bridges ≡ []
+pub no_lines : (spans : List Span) (bridges : List BridgeNote) → (length spans ≡ 0) ⊎ (length bridges ≡ 0) → span_lines spans bridges ≡ []
 no_lines [] bridges h = refl
 no_lines (s ∷ spans) [] h = refl
 no_lines (s ∷ spans) (x ∷ bridges) h = elim h [ inl e ↦ absurd (omega arith) | inr e ↦ absurd (omega arith) ]
 
 -- **There is a line for each span, where there is a bridge for each.**
-pub spans_told : (spans : List Span) (bridges : List Exchange) → length spans ≤ length bridges → map (λ (l : SpanLine). l.span) (span_lines spans bridges) ≡ spans
+pub spans_told : (spans : List Span) (bridges : List BridgeNote) → length spans ≤ length bridges → map (λ (l : SpanLine). l.span) (span_lines spans bridges) ≡ spans
 spans_told [] bridges l = refl
 spans_told (s ∷ spans) [] l = absurd (omega arith)
 spans_told (s ∷ spans) (x ∷ bridges) l = ap (λ ss. s ∷ ss) (spans_told spans bridges (omega arith))

@@ -28,7 +28,8 @@ use Rattle.farm_rounds.proofs.Working.{goes_on_at}
 use Rattle.farm_output.specs.Run.{Run, whole_in}
 use Rattle.farm_output.proofs.SoFar.{standing_now}
 use Rattle.farm_output.proofs.Going.{opened_run}
-use Rattle.farm_run.specs.Going.{IsRound, IsTaken, IsSeat, places_in, has_seat}
+use Rattle.farm_run.specs.Going.{places_in}
+use Rattle.farm_run.proofs.RoundTaken.{IsRound, IsTaken, IsSeat, has_seat}
 use Rattle.farm_run.specs.Runs.{IsOpened, NoneRose}
 use Rattle.farm_run.specs.Match.{Matches}
 use Rattle.farm_run.specs.Clock.{IsAtClock}

@@ -19,7 +19,8 @@ use Rattle.farm_output.proofs.Settling.{at_of}
 use Rattle.farm_output.proofs.SoFar.{standing_now}
 use Rattle.farm_output.proofs.Ending.{end_lacks, end_limit}
 use Rattle.farm_output.proofs.Going.{start_run}
-use Rattle.farm_run.specs.Going.{IsRound, IsTaken, places_in, ends_within}
+use Rattle.farm_run.specs.Going.{places_in, ends_within}
+use Rattle.farm_run.proofs.RoundTaken.{IsRound, IsTaken}
 use Rattle.farm_run.proofs.Rounds.{IsOpenAt, open_at, no_order}
 
 -- ---- the run's end

@@ -41,8 +41,9 @@ use Rattle.farm_output.specs.Run.{Run, given_in, whole_in, done_in, periods_to}
 use Rattle.farm_output.specs.Now.{IsSoFar, settings_now}
 use Rattle.farm_output.specs.Lines.{out_line, down_octets}
 use Rattle.farm_output.proofs.SoFar.{standing_now}
-use Rattle.farm_run.specs.Going.{IsRound, places_in, ends_within, told_after, is_told}
-use Rattle.farm_run.specs.Runs.{IsOpened, NoneRose, EndedByOrder, IsReadTo, cause_in}
+use Rattle.farm_run.specs.Going.{places_in, ends_within, told_after, is_told}
+use Rattle.farm_run.proofs.RoundTaken.{IsRound}
+use Rattle.farm_run.specs.Runs.{IsOpened, NoneRose, IsCutOff, IsReadTo, cause_in}
 use Rattle.farm_run.specs.Match.{Matches, past_if, histories_at}
 use Rattle.farm_run.specs.Clock.{end_in, worked_to, IsReadWhole, LinesAt, AreSound, IsAtClock}
 use Rattle.farm_run.proofs.Rounds.{open_at, open_after, shut_after}
@@ -68,11 +69,11 @@ gained first before between now was stands octets front all clean sound calm sam
     let c = clean sound (λ q. calm (subst (λ (l : LineState). Rose l.faults now.faults) same q)) in
     (c.0, subst (Appends first.written now.written) (sym is) (Appends-trans _ _ _ _ _ so_far (subst (λ (l : LineState). Appends l.written now.written octets) same c.1)))
 
--- the lines end no call by an order
-not_by_lines : (k : ℕ) (g : Given) → EndedByOrder (lack_of k g) → ⊥
+-- a call that its lines end isn't cut off
+not_by_lines : (k : ℕ) (g : Given) → IsCutOff (lack_of k g) → ⊥
 not_by_lines k g = by (nat_lt g.up (40 * (k + 1))) g.up_failed g.pcm_failed
   where
-    by : (a u p : Bool) → EndedByOrder (if a then (if u then Fault Up else End Up (g.up - 40 * k)) else if p then Fault Pcm else End Pcm (g.pcm - 160 * k)) → ⊥
+    by : (a u p : Bool) → IsCutOff (if a then (if u then Fault Up else End Up (g.up - 40 * k)) else if p then Fault Pcm else End Pcm (g.pcm - 160 * k)) → ⊥
     by true true p h = h
     by true false p h = h
     by false u true h = h
@@ -261,7 +262,7 @@ module _ (r : Run) (t n : ℕ) (b : State) (farm after : FarmMemory) (first befo
         let ends : ends_within r b.done t n c ≡ true = ap (λ (x : Bool). x && nat_lt (places_in r b.done t n c) n) o ∙ lt-ltb (places_in r b.done t n c) n l in
         let cause : cause_in r c ≡ lack_of (whole_in r c) (given_in r c) =
         ap (λ (s : ℕ). cause_of (end_of (given_in r) r.periods (done_in r) c s)) (start_kept r t n b.done b.left c h o) ∙ ap cause_of (end_within r t n b.done b.left c h ends) in
-        absurd (not_by_lines (whole_in r c) (given_in r c) (subst EndedByOrder cause q))
+        absurd (not_by_lines (whole_in r c) (given_in r c) (subst IsCutOff cause q))
     | inr l ↦ most n (start_of b.done c + whole_in r c - t) l
   ]
     where

@@ -18,7 +18,8 @@ use Rattle.farm_rounds.specs.Working.{goes_on_call}
 use Rattle.farm_rounds.specs.RoundHistories.{history_with, worked_histories}
 use Rattle.farm_output.specs.Run.{Run, whole_in, periods_to}
 use Rattle.farm_output.specs.Now.{settings_now}
-use Rattle.farm_run.specs.Going.{IsRound, places_in, ends_within}
+use Rattle.farm_run.specs.Going.{places_in, ends_within}
+use Rattle.farm_run.proofs.RoundTaken.{IsRound}
 use Rattle.farm_run.specs.Runs.{NoneRose}
 use Rattle.farm_run.specs.Match.{Matches, past_if, histories_at}
 use Rattle.farm_run.specs.Clock.{IsAtClock, KeepsTallies}

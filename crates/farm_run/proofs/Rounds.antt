@@ -22,7 +22,8 @@ use Rattle.farm_output.proofs.Settling.{start_is}
 use Rattle.farm_output.proofs.SoFar.{standing_now}
 use Rattle.farm_output.proofs.Bridging.{open_has, bridge_later, bridge_after, same_settings, settings_later}
 use Rattle.farm_output.proofs.Going.{period_by, periods_more}
-use Rattle.farm_run.specs.Going.{IsRound, IsFed, places_in, start_at}
+use Rattle.farm_run.specs.Going.{places_in}
+use Rattle.farm_run.proofs.RoundTaken.{IsRound, IsFed, start_at}
 
 -- ---- an open call
 

@@ -12,7 +12,8 @@ use Rattle.round_lines.specs.Places as places
 use Rattle.round_lines.specs.Rounds.{Rising, call_at, seat_end}
 use Rattle.farm_output.specs.Run.{Run, given_in, whole_in, done_in}
 use Rattle.farm_output.proofs.Settling.{at_of}
-use Rattle.farm_run.specs.Going.{IsRound, IsSeat, places_in, ends_within, has_seat, is_told}
+use Rattle.farm_run.specs.Going.{places_in, ends_within, is_told}
+use Rattle.farm_run.proofs.RoundTaken.{IsRound, IsSeat, has_seat}
 use Rattle.farm_run.specs.Ending.{AreApart}
 use Rattle.farm_run.proofs.RoundEnds.{end_within, ends_there, round_end}
 

@@ -13,12 +13,12 @@ use Rattle.switchboard.proofs.Steps.{part_kept}
 use Rattle.farm_rounds.specs.declared.tally.Tally.{Tally}
 use Rattle.farm_output.specs.Run.{Run}
 use Rattle.farm_output.specs.Facts.{sent_by}
-use Rattle.farm_run.specs.declared.exchange.Opening.{Opening}
-use Rattle.farm_run.specs.declared.exchange.Exchange.{Exchange}
-use Rattle.farm_run.specs.Journal.{JournalMemory, opening_of, no_exchange, with_sent, sent_at, settled}
+use Rattle.farm_run.specs.declared.notes.Opening.{Opening}
+use Rattle.farm_run.specs.declared.notes.BridgeNote.{BridgeNote}
+use Rattle.farm_run.specs.Journal.{JournalMemory, opening_of, no_note, with_sent, sent_at, settled}
 use Rattle.farm_run.specs.Facts.{settled_each}
 use Rattle.farm_run.specs.Going.{is_told}
-use Rattle.farm_run.specs.Noted.{span_at, bridge_at, is_opened, exchange_at, noted_sent, PlacesNoted, SentNoted, IsKept}
+use Rattle.farm_run.specs.Noted.{span_at, bridge_at, is_opened, note_at, noted_sent, PlacesNoted, SentNoted, IsKept}
 use Rattle.farm_run.proofs.Following.{no}
 
 -- one of two facts holds where the other doesn't
@@ -32,18 +32,18 @@ right_true true b e h = cc
 
 -- ---- one bridge
 
--- an exchange is that of a bridge of this call
-abbrev pub joins_in : ℕ → Exchange → Bool
+-- a note is that of a bridge of this call
+abbrev pub joins_in : ℕ → BridgeNote → Bool
 joins_in c x = c == x.a || c == x.b
 
-with_a : (c v : ℕ) (x : Exchange) → (with_sent c v x).a ≡ x.a
+with_a : (c v : ℕ) (x : BridgeNote) → (with_sent c v x).a ≡ x.a
 with_a c v x = by (c == x.a)
   where
     by : (b : Bool) → (if b then record x { sent_by_a = v } else record x { sent_by_b = v }).a ≡ x.a
     by true = refl
     by false = refl
 
-with_b : (c v : ℕ) (x : Exchange) → (with_sent c v x).b ≡ x.b
+with_b : (c v : ℕ) (x : BridgeNote) → (with_sent c v x).b ≡ x.b
 with_b c v x = by (c == x.a)
   where
     by : (b : Bool) → (if b then record x { sent_by_a = v } else record x { sent_by_b = v }).b ≡ x.b
@@ -51,7 +51,7 @@ with_b c v x = by (c == x.a)
     by false = refl
 
 -- what a call has sent is noted of it
-sent_itself : (c v : ℕ) (x : Exchange) → noted_sent c (with_sent c v x) ≡ v
+sent_itself : (c v : ℕ) (x : BridgeNote) → noted_sent c (with_sent c v x) ≡ v
 sent_itself c v x = by (c == x.a) refl
   where
     by : (b : Bool) → (c == x.a) ≡ b → noted_sent c (if b then record x { sent_by_a = v } else record x { sent_by_b = v }) ≡ v
@@ -59,7 +59,7 @@ sent_itself c v x = by (c == x.a) refl
     by false q = ap (λ (s : Bool). if s then x.sent_by_a else v) q
 
 -- and not of the other one
-sent_other : (c d v : ℕ) (x : Exchange) → joins_in c x ≡ true → joins_in d x ≡ true → d ≢ c → noted_sent d (with_sent c v x) ≡ noted_sent d x
+sent_other : (c d v : ℕ) (x : BridgeNote) → joins_in c x ≡ true → joins_in d x ≡ true → d ≢ c → noted_sent d (with_sent c v x) ≡ noted_sent d x
 sent_other c d v x p q n = by (c == x.a) (d == x.a) refl refl
   where
     by : (s t : Bool) → (c == x.a) ≡ s → (d == x.a) ≡ t →
@@ -71,17 +71,17 @@ sent_other c d v x p q n = by (c == x.a) (d == x.a) refl refl
 
 -- ---- the calls and the number of the bridges stay
 
-sent_a : (c v : ℕ) (o : Option ℕ) (xs : List Exchange) (k : ℕ) → (exchange_at (sent_at c v o xs) k).a ≡ (exchange_at xs k).a
+sent_a : (c v : ℕ) (o : Option ℕ) (xs : List BridgeNote) (k : ℕ) → (note_at (sent_at c v o xs) k).a ≡ (note_at xs k).a
 sent_a c v None xs k = refl
-sent_a c v (Some m) xs k = part_kept (λ (x : Exchange). x.a) no_exchange xs m (with_sent c v (exchange_at xs m)) (with_a c v (exchange_at xs m)) k
+sent_a c v (Some m) xs k = part_kept (λ (x : BridgeNote). x.a) no_note xs m (with_sent c v (note_at xs m)) (with_a c v (note_at xs m)) k
 
-sent_b : (c v : ℕ) (o : Option ℕ) (xs : List Exchange) (k : ℕ) → (exchange_at (sent_at c v o xs) k).b ≡ (exchange_at xs k).b
+sent_b : (c v : ℕ) (o : Option ℕ) (xs : List BridgeNote) (k : ℕ) → (note_at (sent_at c v o xs) k).b ≡ (note_at xs k).b
 sent_b c v None xs k = refl
-sent_b c v (Some m) xs k = part_kept (λ (x : Exchange). x.b) no_exchange xs m (with_sent c v (exchange_at xs m)) (with_b c v (exchange_at xs m)) k
+sent_b c v (Some m) xs k = part_kept (λ (x : BridgeNote). x.b) no_note xs m (with_sent c v (note_at xs m)) (with_b c v (note_at xs m)) k
 
-sent_long : (c v : ℕ) (o : Option ℕ) (xs : List Exchange) → length (sent_at c v o xs) ≡ length xs
+sent_long : (c v : ℕ) (o : Option ℕ) (xs : List BridgeNote) → length (sent_at c v o xs) ≡ length xs
 sent_long c v None xs = refl
-sent_long c v (Some m) xs = length-set xs m (with_sent c v (exchange_at xs m))
+sent_long c v (Some m) xs = length-set xs m (with_sent c v (note_at xs m))
 
 pub places_settled : (ds : List Done) (j : JournalMemory) (c v : ℕ) → PlacesNoted ds j → PlacesNoted ds (settled c v j)
 places_settled ds j c v p =
@@ -96,9 +96,9 @@ places_settled ds j c v p =
       apart = p.apart;
     }
 
--- the calls of an exchange are those of the bridge
-pub joins_noted : (ds : List Done) (j : JournalMemory) (c k : ℕ) → PlacesNoted ds j → joins_in c (exchange_at j.bridges k) ≡ joins c (bridge_at ds k)
-joins_noted ds j c k p = ap (λ (a : ℕ). c == a || c == (exchange_at j.bridges k).b) (p.calls k).0 ∙ ap (λ (b : ℕ). c == (bridge_at ds k).a || c == b) (p.calls k).1
+-- the calls of a note are those of its bridge
+pub joins_noted : (ds : List Done) (j : JournalMemory) (c k : ℕ) → PlacesNoted ds j → joins_in c (note_at j.bridges k) ≡ joins c (bridge_at ds k)
+joins_noted ds j c k p = ap (λ (a : ℕ). c == a || c == (note_at j.bridges k).b) (p.calls k).0 ∙ ap (λ (b : ℕ). c == (bridge_at ds k).a || c == b) (p.calls k).1
 
 -- ---- what is noted of a call's latest bridge
 
@@ -111,16 +111,16 @@ pub sent_settled : (r : Run) (ds : List Done) (was : ℕ → Bool) (j : JournalM
 sent_settled r ds was j c v p o s right = λ d k l m h. by d k l m h (opening_of j.calls c).bridge refl (p.latest c o)
   where
     by : (d k : ℕ) → k < length (bridges ds) → joins d (bridge_at ds k) ≡ true → ((opening_of j.calls d).bridge ≡ Some k → or_this was c d ≡ true) → (place : Option ℕ) → (opening_of j.calls c).bridge ≡ place →
-        IsLatest (bridges ds) c place → noted_sent d (exchange_at (sent_at c v place j.bridges) k) ≡ sent_by r (span_at r k) d
+        IsLatest (bridges ds) c place → noted_sent d (note_at (sent_at c v place j.bridges) k) ≡ sent_by r (span_at r k) d
     by d k l m h None e never = elim (cases_eq d c) [
       | inl q ↦ absurd (no (joins c (bridge_at ds k)) (never k l) (subst (λ (d : ℕ). joins d (bridge_at ds k) ≡ true) q m))
       | inr n ↦ s d k l m (λ g. left_true (was d) (d == c) (ne_eqb d c n) (h g))
     ]
     by d k l m h (Some place) e latest = elim (cases_eq k place) [
       | inl q ↦ subst (λ (k : ℕ). k < length (bridges ds) → joins d (bridge_at ds k) ≡ true → ((opening_of j.calls d).bridge ≡ Some k → or_this was c d ≡ true) →
-          noted_sent d (exchange_at (set j.bridges place (with_sent c v (exchange_at j.bridges place))) k) ≡ sent_by r (span_at r k) d) (sym q) (here d) l m h
+          noted_sent d (note_at (set j.bridges place (with_sent c v (note_at j.bridges place))) k) ≡ sent_by r (span_at r k) d) (sym q) (here d) l m h
       | inr n ↦
-          ap (noted_sent d) (get_or-set_other j.bridges place k (with_sent c v (exchange_at j.bridges place)) no_exchange n)
+          ap (noted_sent d) (get_or-set_other j.bridges place k (with_sent c v (note_at j.bridges place)) no_note n)
           ∙ s d k l m (λ g. elim (cases_eq d c) [
             | inl q ↦ absurd (n (places k place (sym g ∙ ap (λ (d : ℕ). (opening_of j.calls d).bridge) q ∙ e)))
             | inr f ↦ left_true (was d) (d == c) (ne_eqb d c f) (h g)
@@ -131,16 +131,16 @@ sent_settled r ds was j c v p o s right = λ d k l m h. by d k l m h (opening_of
         places a b q = cc
 
         here : (d : ℕ) → place < length (bridges ds) → joins d (bridge_at ds place) ≡ true → ((opening_of j.calls d).bridge ≡ Some place → or_this was c d ≡ true) →
-            noted_sent d (exchange_at (set j.bridges place (with_sent c v (exchange_at j.bridges place))) place) ≡ sent_by r (span_at r place) d
+            noted_sent d (note_at (set j.bridges place (with_sent c v (note_at j.bridges place))) place) ≡ sent_by r (span_at r place) d
         here d l m h =
             let count = p.count in
-            ap (noted_sent d) (get_or-set_same j.bridges place (with_sent c v (exchange_at j.bridges place)) no_exchange (omega arith))
+            ap (noted_sent d) (get_or-set_same j.bridges place (with_sent c v (note_at j.bridges place)) no_note (omega arith))
             ∙ elim (cases_eq d c) [
               | inl q ↦
-                  ap (λ (d : ℕ). noted_sent d (with_sent c v (exchange_at j.bridges place))) q ∙ sent_itself c v (exchange_at j.bridges place) ∙ right place e
+                  ap (λ (d : ℕ). noted_sent d (with_sent c v (note_at j.bridges place))) q ∙ sent_itself c v (note_at j.bridges place) ∙ right place e
                   ∙ ap (sent_by r (span_at r place)) (sym q)
               | inr n ↦
-                  sent_other c d v (exchange_at j.bridges place) (joins_noted ds j c place p ∙ latest.1) (joins_noted ds j d place p ∙ m) n
+                  sent_other c d v (note_at j.bridges place) (joins_noted ds j c place p ∙ latest.1) (joins_noted ds j d place p ∙ m) n
                   ∙ s d place l m (λ g. left_true (was d) (d == c) (ne_eqb d c n) (h g))
             ]
 

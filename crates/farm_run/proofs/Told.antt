@@ -16,7 +16,8 @@ use Rattle.farm_output.specs.Now.{IsSoFar}
 use Rattle.farm_output.proofs.Settling.{start_is}
 use Rattle.farm_output.proofs.Standing.{open_facts, open_from, gone_is}
 use Rattle.farm_output.proofs.SoFar.{so_far_later}
-use Rattle.farm_run.specs.Going.{IsRound, places_in, ends_within, told_after, is_told}
+use Rattle.farm_run.specs.Going.{places_in, ends_within, told_after, is_told}
+use Rattle.farm_run.proofs.RoundTaken.{IsRound}
 
 -- **A run so far goes on to the end of the round.**
 pub round_over : (r : Run) (t n : ℕ) (ds : List Done) (left : List Order) → IsRound r t n ds left → IsSoFar r (t + n) ds left

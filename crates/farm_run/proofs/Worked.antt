@@ -20,7 +20,7 @@ use Rattle.call_pair.proofs.Lengths.{length-out_of, length-down_octets}
 use Rattle.farm_output.specs.Run.{Run, whole_in, periods_to}
 use Rattle.farm_output.specs.Now.{settings_now}
 use Rattle.farm_output.specs.Lines.{out_line, down_octets}
-use Rattle.farm_run.specs.Going.{IsRound, IsFed, IsTaken, start_at}
+use Rattle.farm_run.proofs.RoundTaken.{IsRound, IsFed, IsTaken, start_at}
 use Rattle.farm_run.proofs.Rounds.{alone_worked, alone_settings}
 use Rattle.farm_run.proofs.Partners.{bridged_worked, bridged_settings}
 use Rattle.farm_run.proofs.RoundEnds.{whole_taken}

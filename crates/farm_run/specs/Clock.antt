@@ -24,7 +24,7 @@ use Rattle.farm_run.specs.Going.{places_in, ends_within, is_told, told_after}
 use Rattle.farm_run.specs.Journal.{JournalMemory, with_ends}
 use Rattle.farm_run.specs.Ending.{AreApart}
 use Rattle.farm_run.specs.Match.{Follows}
-use Rattle.farm_run.specs.Runs.{IsOpened, EndedByOrder, IsReadTo, cause_in}
+use Rattle.farm_run.specs.Runs.{IsOpened, IsCutOff, IsReadTo, cause_in}
 
 -- the first period that a call doesn't have
 abbrev pub end_in : Run → ℕ → ℕ
@@ -37,7 +37,7 @@ worked_to r t c = min t (end_in r c) - start_of (done_in r) c
 -- Of a call's incoming lines exactly the octets of its periods are read, as long as it goes on; and also afterwards, where
 -- they didn't end it.
 abbrev pub IsReadWhole : Run → ℕ → ℕ → Type 0
-IsReadWhole r t c = (t ≤ end_in r c) ⊎ EndedByOrder (cause_in r c)
+IsReadWhole r t c = (t ≤ end_in r c) ⊎ IsCutOff (cause_in r c)
 
 -- The outgoing lines of each call of the run have gained what its periods before the clock give, and its incoming lines
 -- have given these periods' octets. The lines of all other calls are as they were.

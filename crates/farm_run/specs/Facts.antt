@@ -8,17 +8,17 @@ use Rattle.farm_report.specs.declared.report.CallLine.{CallLine}
 use Rattle.farm_rounds.specs.declared.tally.Tally.{Tally}
 use Rattle.farm_rounds.specs.Memory.{tally_in}
 use Rattle.farm_rounds.specs.Histories.{CallHistory, kept_of}
-use Rattle.farm_run.specs.declared.exchange.Opening.{Opening}
-use Rattle.farm_run.specs.declared.exchange.Exchange.{Exchange}
+use Rattle.farm_run.specs.declared.notes.Opening.{Opening}
+use Rattle.farm_run.specs.declared.notes.BridgeNote.{BridgeNote}
 use Rattle.farm_run.specs.Journal.{JournalMemory, opening_of, settled}
 
 -- A bridge's line: frames of one call are sent by the other; of the bridge's periods those without a sent frame are lost.
-abbrev pub span_line : Span → Exchange → SpanLine
+abbrev pub span_line : Span → BridgeNote → SpanLine
 span_line s x =
     let periods = s.to - s.from in
     record { span = s; sent_a = x.sent_by_b; sent_b = x.sent_by_a; lost_a = periods - x.sent_by_b; lost_b = periods - x.sent_by_a }
 
-abbrev pub span_lines : List Span → List Exchange → List SpanLine
+abbrev pub span_lines : List Span → List BridgeNote → List SpanLine
 span_lines spans bridges = map (λ p. span_line p.0 p.1) (zip spans bridges)
 
 -- what was counted of a call: of an open one over its periods, of an ended one what is kept

@@ -7,14 +7,14 @@ use Rattle.switchboard.specs.declared.act.Act.TheVariants as act
 use Rattle.farm_rounds.specs.Calls.{IsNumber}
 use Rattle.trau_io.specs.declared.ends.CallEnd.{CallEnd}
 use Rattle.trau_io.specs.declared.ends.Cause.TheVariants.{Closed}
-use Rattle.farm_run.specs.declared.exchange.Opening.{Opening}
-use Rattle.farm_run.specs.declared.exchange.Exchange.{Exchange}
+use Rattle.farm_run.specs.declared.notes.Opening.{Opening}
+use Rattle.farm_run.specs.declared.notes.BridgeNote.{BridgeNote}
 
 -- what is known of each call, by its number; the ends of calls and the bridges, in the order in which they came
 pub record JournalMemory : Type 0 where
   pub calls : List Opening
   pub ends : List CallEnd
-  pub bridges : List Exchange
+  pub bridges : List BridgeNote
 
 -- of a call that wasn't opened
 abbrev pub no_opening : Opening
@@ -32,7 +32,7 @@ abbrev pub HaveNumbers : List CallEnd → Type 0
 HaveNumbers ends = All (λ e. IsNumber e.call) ends
 
 -- there is an entry for each call number, the places are those of bridges, and the ends those of calls
-pub record IsJournal (calls : List Opening) (ends : List CallEnd) (bridges : List Exchange) : Type 0 where
+pub record IsJournal (calls : List Opening) (ends : List CallEnd) (bridges : List BridgeNote) : Type 0 where
   pub long : length calls ≡ 4097
   pub numbers : HaveNumbers ends
   pub places : (c k : ℕ) → (opening_of calls c).bridge ≡ Some k → k < length bridges
@@ -63,15 +63,15 @@ with_bridge a b j = record j {
 }
 
 -- a call has sent so many handed frames in a bridge
-abbrev pub with_sent : ℕ → ℕ → Exchange → Exchange
+abbrev pub with_sent : ℕ → ℕ → BridgeNote → BridgeNote
 with_sent c sent x = if c == x.a then record x { sent_by_a = sent } else record x { sent_by_b = sent }
 
-abbrev pub no_exchange : Exchange
-no_exchange = record { a = 0; b = 0; sent_by_a = 0; sent_by_b = 0 }
+abbrev pub no_note : BridgeNote
+no_note = record { a = 0; b = 0; sent_by_a = 0; sent_by_b = 0 }
 
-abbrev pub sent_at : ℕ → ℕ → Option ℕ → List Exchange → List Exchange
+abbrev pub sent_at : ℕ → ℕ → Option ℕ → List BridgeNote → List BridgeNote
 sent_at c sent None bridges = bridges
-sent_at c sent (Some k) bridges = set bridges k (with_sent c sent (get_or bridges k no_exchange))
+sent_at c sent (Some k) bridges = set bridges k (with_sent c sent (get_or bridges k no_note))
 
 -- and in its latest one, if it has been bridged
 abbrev pub settled : ℕ → ℕ → JournalMemory → JournalMemory

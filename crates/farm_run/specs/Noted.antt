@@ -19,9 +19,9 @@ use Rattle.farm_rounds.specs.Calls.{IsNumber}
 use Rattle.farm_rounds.specs.Memory.{tally_in}
 use Rattle.farm_output.specs.Run.{Run, given_in, whole_in, done_in, spans_in, periods_in}
 use Rattle.farm_output.specs.Facts.{sent_by}
-use Rattle.farm_run.specs.declared.exchange.Opening.{Opening}
-use Rattle.farm_run.specs.declared.exchange.Exchange.{Exchange}
-use Rattle.farm_run.specs.Journal.{JournalMemory, opening_of, no_exchange}
+use Rattle.farm_run.specs.declared.notes.Opening.{Opening}
+use Rattle.farm_run.specs.declared.notes.BridgeNote.{BridgeNote}
+use Rattle.farm_run.specs.Journal.{JournalMemory, opening_of, no_note}
 use Rattle.farm_run.specs.Going.{is_told}
 use Rattle.farm_run.specs.Ending.{AreApart}
 use Rattle.farm_run.specs.Match.{Follows}
@@ -47,11 +47,11 @@ is_opened ds c = is_some (opened_at c ds)
 
 -- ---- what is noted of it
 
-abbrev pub exchange_at : List Exchange → ℕ → Exchange
-exchange_at xs k = get_or xs k no_exchange
+abbrev pub note_at : List BridgeNote → ℕ → BridgeNote
+note_at xs k = get_or xs k no_note
 
 -- what is noted as sent by one of a bridge's calls
-abbrev pub noted_sent : ℕ → Exchange → ℕ
+abbrev pub noted_sent : ℕ → BridgeNote → ℕ
 noted_sent c x = if c == x.a then x.sent_by_a else x.sent_by_b
 
 -- Each end is the run's, no call has two, and these calls have one.
@@ -68,13 +68,13 @@ pub record PlacesNoted (ds : List Done) (j : JournalMemory) : Type 0 where
   pub from : (c : ℕ) → is_opened ds c ≡ true → (opening_of j.calls c).from ≡ start_of ds c
   pub latest : (c : ℕ) → is_opened ds c ≡ true → IsLatest (bridges ds) c (opening_of j.calls c).bridge
   pub count : length j.bridges ≡ length (bridges ds)
-  pub calls : (k : ℕ) → ((exchange_at j.bridges k).a ≡ (bridge_at ds k).a) × ((exchange_at j.bridges k).b ≡ (bridge_at ds k).b)
+  pub calls : (k : ℕ) → ((note_at j.bridges k).a ≡ (bridge_at ds k).a) × ((note_at j.bridges k).b ≡ (bridge_at ds k).b)
   pub apart : (k : ℕ) → k < length (bridges ds) → (bridge_at ds k).a ≢ (bridge_at ds k).b
 
 -- What each call has sent in each of its bridges is noted; in its latest one only where it is settled.
 abbrev pub SentNoted : Run → List Done → (ℕ → Bool) → JournalMemory → Type 0
 SentNoted r ds settled j = (c k : ℕ) → k < length (bridges ds) → joins c (bridge_at ds k) ≡ true → ((opening_of j.calls c).bridge ≡ Some k → settled c ≡ true) →
-    noted_sent c (exchange_at j.bridges k) ≡ sent_by r (span_at r k) c
+    noted_sent c (note_at j.bridges k) ≡ sent_by r (span_at r k) c
 
 -- What is kept of a call is that of all its periods, and of its latest bridge.
 pub record IsKept (r : Run) (calls : List Opening) (c : ℕ) (kept : Tally) : Type 0 where

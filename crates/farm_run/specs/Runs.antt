@@ -2,6 +2,7 @@
 -- it, `now` those after it.
 use Rattle.std.specs.Prelude.{◌≡◌, ℕ, ◌*◌, true, false, Some, is_some, List, [], length, map, drop}
 use Rattle.std.specs.List.{Contains}
+use Rattle.std.specs.List.Sorted.{IsNonDecreasingBy}
 use Rattle.std.specs.Io.KnownBytes.{Appends}
 use Rattle.trau_io.specs.declared.line.Line.{Line}
 use Rattle.trau_io.specs.declared.line.Side.{Side}
@@ -9,11 +10,13 @@ use Rattle.trau_io.specs.declared.line.Side.TheVariants.{Up, Pcm, Down, Out}
 use Rattle.trau_io.specs.declared.ends.Cause.{Cause}
 use Rattle.trau_io.specs.declared.ends.Cause.TheVariants.{Closed, End, Fault, Limit}
 use Rattle.trau_io.specs.Lines.{LineState, Rose}
+use Rattle.trau_io.specs.Places.{place_of}
 use Rattle.trau_orders.specs.declared.order.Order.{Order}
 use Rattle.switchboard.specs.Calls.{opened_at}
 use Rattle.switchboard.specs.Ends.{start_of, end_of}
 use Rattle.farm_report.specs.View.{ReportView}
 use Rattle.round_lines.specs.Places.{name_of}
+use Rattle.round_lines.specs.Rounds.{IsIncoming, IsOutgoing}
 use Rattle.farm_output.specs.Run.{Run, Incoming, given_in, done_in, periods_in}
 use Rattle.farm_output.specs.Lines.{out_of_call, down_of_call}
 use Rattle.farm_output.specs.Facts.{report_of}
@@ -25,10 +28,17 @@ use Rattle.farm_run.specs.declared.pace.Pace.{Pace}
 abbrev pub IsListed : List Line → ℕ → Side → Type 0
 IsListed lines c s = Contains (map name_of lines) (c, s)
 
--- The lines that are listed are those whose count of faults rose.
+-- The lines that are listed are those whose count of faults rose, by their calls' numbers, and those of a call in the order
+-- Up, Pcm, Down, Out.
 pub record TellsFailed (before now : ℕ → Side → LineState) (lines : List Line) : Type 0 where
   pub rose : (c : ℕ) (s : Side) → IsListed lines c s → Rose (before c s).faults (now c s).faults
   pub kept : (c : ℕ) (s : Side) → (IsListed lines c s → ⊥) → (now c s).faults ≡ (before c s).faults
+  pub order : IsNonDecreasingBy (λ l. place_of l.call l.side) lines
+
+-- No incoming line was written, and no outgoing line was read.
+pub record KeepsSides (before now : ℕ → Side → LineState) : Type 0 where
+  pub incoming : (c : ℕ) (s : Side) → IsIncoming s → (now c s).written ≡ (before c s).written
+  pub outgoing : (c : ℕ) (s : Side) → IsOutgoing s → (now c s).to_come ≡ (before c s).to_come
 
 -- ---- where nothing fails
 
@@ -58,30 +68,32 @@ pub record IsRunOver (orders : List Order) (periods : ℕ) (before : ℕ → Sid
 abbrev pub cause_in : Run → ℕ → Cause
 cause_in r c = (end_of (given_in r) r.periods (done_in r) c (start_of (done_in r) c)).cause
 
--- an order ended the call, or the run
-abbrev pub EndedByOrder : Cause → Type 0
-EndedByOrder Closed = Unit {0}
-EndedByOrder Limit = Unit {0}
-EndedByOrder (End side left) = ⊥
-EndedByOrder (Fault side) = ⊥
+-- the call's lines didn't end it: an order closed it, or the run ended
+abbrev pub IsCutOff : Cause → Type 0
+IsCutOff Closed = Unit {0}
+IsCutOff Limit = Unit {0}
+IsCutOff (End side left) = ⊥
+IsCutOff (Fault side) = ⊥
 
 -- Of a line that told these octets exactly those of n periods were read, so many a period.
 abbrev pub IsReadTo : LineState → ℕ → List ℕ → Type 0
 IsReadTo now octets line = now.to_come ≡ Some (drop octets line)
 
 -- What a run leaves: the outgoing lines of each call that it opened have gained exactly what the run gives, and of the
--- incoming lines of a call that an order or the run ended exactly the octets of its periods were read. The lines of all
--- other calls are as they were, their counts included.
+-- incoming lines of a call that they didn't end exactly the octets of its periods were read. The lines of all other calls
+-- are as they were, their counts included.
 pub record Leaves (r : Run) (before now : ℕ → Side → LineState) : Type 0 where
   pub out : (c : ℕ) → IsOpened r c → Appends (before c Out).written (now c Out).written (out_of_call r c)
   pub down : (c : ℕ) → IsOpened r c → Appends (before c Down).written (now c Down).written (down_of_call r c)
-  pub up_read : (c : ℕ) → IsOpened r c → EndedByOrder (cause_in r c) → IsReadTo (now c Up) (40 * length (periods_in r c)) (r.lines c).up
-  pub pcm_read : (c : ℕ) → IsOpened r c → EndedByOrder (cause_in r c) → IsReadTo (now c Pcm) (160 * length (periods_in r c)) (r.lines c).pcm
+  pub up_read : (c : ℕ) → IsOpened r c → IsCutOff (cause_in r c) → IsReadTo (now c Up) (40 * length (periods_in r c)) (r.lines c).up
+  pub pcm_read : (c : ℕ) → IsOpened r c → IsCutOff (cause_in r c) → IsReadTo (now c Pcm) (160 * length (periods_in r c)) (r.lines c).pcm
   pub others : (c : ℕ) (s : Side) → (IsOpened r c → ⊥) → now c s ≡ before c s
 
--- A run of these orders: its report lists the lines that failed. Where none did, it left on the lines what the run of
--- these orders over these lines gives, and the report is that run's.
+-- A run of these orders: it only reads incoming lines and only writes outgoing ones, and its report lists the lines that
+-- failed. Where none did, it left on the lines what the run of these orders over these lines gives, and the report is that
+-- run's.
 pub record Runs (orders : List Order) (pace : Pace) (before now : ℕ → Side → LineState) (report : ReportView) : Type 0 where
   pub failed : TellsFailed before now report.failed
+  pub sides : KeepsSides before now
   pub leaves : (r : Run) → IsRunOver orders pace.periods before r → NoneRose before now → Leaves r before now
   pub reports : (r : Run) → IsRunOver orders pace.periods before r → NoneRose before now → report ≡ report_of r []

@@ -11,7 +11,7 @@ ghost use Rattle.farm_run.specs.Match.{AtClock};
 ghost use Rattle.farm_run.specs.Pace.{IsPace};
 ghost use Rattle.farm_run.specs.Journal.{new_journal};
 ghost use Rattle.farm_run.specs.Noted.{IsKnown};
-ghost use Rattle.farm_run.specs.Runs.{TellsFailed, NoneRose, IsRunOver, Runs};
+ghost use Rattle.farm_run.specs.Runs.{TellsFailed, KeepsSides, NoneRose, IsRunOver, Runs};
 ghost use Rattle.farm_run.specs.Clock.{NeverFell, AreReadable, IsAtClock, EndsRound};
 
 use crate::ends::tell_ends;
@@ -73,10 +73,12 @@ fn work_round<R: Threads + Wait + Sync, T: Trunk, G: Gate + Sync>(
     ensures last { IfOk result (λ farm. last_stamp board.new.done ≡ last_stamp board.old.done) }
     ensures ended { IfOk result (λ farm. farm.ended ≤ clock + periods) }
 
-    // Whatever fails, the farm goes on listing exactly the lines whose counts rose.
+    // Whatever fails, the farm goes on listing exactly the lines whose counts rose, and incoming lines are only read and
+    // outgoing ones only written.
     ensures later { IfOk result (λ farm. NeverFell (T.lines trunk.old) (T.lines trunk.new)) }
     ensures failed { (first : ℕ → Side → LineState) → NeverFell first (T.lines trunk.old) → TellsFailed first (T.lines trunk.old) farm.failed →
         IfOk result (λ after. TellsFailed first (T.lines trunk.new) after.failed) }
+    ensures sides { KeepsSides (T.lines trunk.old) (T.lines trunk.new) }
 
     // Where nothing fails, the run goes on; the ends of calls are noted, and their counts are kept.
     ensures run { (r : Run) (first : ℕ → Side → LineState) → AreReadable r → clock + periods ≤ r.periods → IsAtClock r clock board.old farm.groups first (T.lines trunk.old) →
@@ -123,8 +125,10 @@ fn work_all<R: Threads + Wait + Sync, T: Trunk, G: Gate + Sync>(
     ensures clock { IfOk result (λ farm. AtClock pace.now.periods board.new farm.groups) }
     ensures kept { IfOk result (λ farm. orders_of board.new ≡ orders_of board.old) }
 
-    // The farm lists exactly the lines whose counts rose, and where none did, the run is at its end.
+    // The farm lists exactly the lines whose counts rose, and where none did, the run is at its end. Incoming lines are
+    // only read, and outgoing ones only written.
     ensures failed { IfOk result (λ farm. TellsFailed (T.lines trunk.old) (T.lines trunk.new) farm.failed) }
+    ensures sides { KeepsSides (T.lines trunk.old) (T.lines trunk.new) }
     ensures run { (r : Run) → IsRunOver (orders_of board.old) pace.now.periods (T.lines trunk.old) r → NoneRose (T.lines trunk.old) (T.lines trunk.new) →
         IfOk result (λ farm. IsAtClock r r.periods board.new farm.groups (T.lines trunk.old) (T.lines trunk.new)) }
     ensures known { (r : Run) → IsRunOver (orders_of board.old) pace.now.periods (T.lines trunk.old) r → NoneRose (T.lines trunk.old) (T.lines trunk.new) →
@@ -163,7 +167,8 @@ fn run_board<R: Threads + Wait + Sync, T: Trunk, G: Gate + Sync>(
     requires none_done { board.old.done ≡ [] }
     requires count { count ≡ length (orders_of board.old) }
     requires few { count ≤ 65536 }
-    ensures { IfOk result (λ report. Runs (orders_of board.old) pace.now (T.lines trunk.old) (T.lines trunk.new) report) }
+    ensures runs { IfOk result (λ report. Runs (orders_of board.old) pace.now (T.lines trunk.old) (T.lines trunk.new) report) }
+    ensures sides { KeepsSides (T.lines trunk.old) (T.lines trunk.new) }
 {
     let mut journal = Journal::new(alloc)?;
     let farm = work_all(rt, alloc, board, &mut journal, pace, trunk, gate)?;
@@ -182,7 +187,10 @@ pub fn run<R: Threads + Wait + Sync, T: Trunk, G: Gate + Sync>(
     gate: &G,
 ) -> Result<Report, AllocError>
     requires { IsPace pace.now }
-    ensures { IfOk result (λ report. Runs orders pace.now (T.lines trunk.old) (T.lines trunk.new) report) }
+    ensures runs { IfOk result (λ report. Runs orders pace.now (T.lines trunk.old) (T.lines trunk.new) report) }
+
+    // Incoming lines are only read and outgoing ones only written, also where there was no memory.
+    ensures sides { KeepsSides (T.lines trunk.old) (T.lines trunk.new) }
 {
     let count = orders.list().len();
     let mut board = Board::new(alloc, orders)?;

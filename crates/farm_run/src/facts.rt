@@ -8,15 +8,15 @@ ghost use Rattle.switchboard.specs.Runs.{AllEnded};
 ghost use Rattle.farm_rounds.specs.Histories.{CallHistory, GroupsStand};
 ghost use Rattle.farm_run.specs.Facts.{span_line, span_lines, kept_in, call_line, settled_each};
 
-use crate::exchange::Exchange;
 use crate::journal::Journal;
+use crate::notes::BridgeNote;
 use farm_report::{CallLine, Report, SpanLine};
 use farm_rounds::Farm;
 use std::alloc::{AllocError, Global};
 use switchboard::{Board, Span};
 
 // A bridge's line. A call hands a frame over in each period of the bridge; those that its partner hasn't sent are lost.
-fn span_line(span: &Span, bridge: &Exchange) -> SpanLine
+fn span_line(span: &Span, bridge: &BridgeNote) -> SpanLine
     ensures { result ≡ span_line span.now bridge.now }
 {
     let periods = span.to.saturating_sub(span.from);
@@ -32,7 +32,7 @@ fn span_line(span: &Span, bridge: &Exchange) -> SpanLine
 fn span_lines(
     alloc: Global,
     spans: &[Span],
-    bridges: &[Exchange],
+    bridges: &[BridgeNote],
 ) -> Result<Vec<SpanLine>, AllocError>
     ensures { IfOk result (λ lines. lines.items ≡ span_lines spans.now bridges.now) }
 {

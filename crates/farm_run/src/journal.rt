@@ -4,7 +4,7 @@ ghost use Rattle.std.specs.Prelude.{◌≡◌, ◌<◌, IfOk};
 ghost use Rattle.farm_rounds.specs.Calls.{IsNumber};
 ghost use Rattle.farm_run.specs.Journal.{HaveNumbers, new_journal, settled, opening_of, with_opening, with_end, with_bridge};
 
-use crate::exchange::{Exchange, Opening};
+use crate::notes::{BridgeNote, Opening};
 use std::alloc::{AllocError, Global};
 use std::marker::Model;
 use trau_io::CallEnd;
@@ -15,7 +15,7 @@ use trau_io::CallEnd;
 pub(crate) struct Journal {
     calls: Vec<Opening>,
     ends: Vec<CallEnd>,
-    bridges: Vec<Exchange>,
+    bridges: Vec<BridgeNote>,
 }
 
 impl Model for Journal {
@@ -75,22 +75,14 @@ impl Journal {
         ensures { IfOk result (λ u. self.new ≡ with_bridge a b self.old) }
     {
         let place = self.bridges.len();
-        self.bridges.push(Exchange {
+        self.bridges.push(BridgeNote {
             a,
             b,
             sent_by_a: 0,
             sent_by_b: 0,
         })?;
-        let from = self.calls[a as usize].from;
-        self.calls[a as usize] = Opening {
-            from,
-            bridge: Some(place),
-        };
-        let from = self.calls[b as usize].from;
-        self.calls[b as usize] = Opening {
-            from,
-            bridge: Some(place),
-        };
+        self.calls[a as usize].bridge = Some(place);
+        self.calls[b as usize].bridge = Some(place);
         Ok(())
     }
 
@@ -102,12 +94,12 @@ impl Journal {
         if let Some(place) = self.calls[call as usize].bridge {
             let bridge = self.bridges[place];
             self.bridges[place] = if call == bridge.a {
-                Exchange {
+                BridgeNote {
                     sent_by_a: sent,
                     ..bridge
                 }
             } else {
-                Exchange {
+                BridgeNote {
                     sent_by_b: sent,
                     ..bridge
                 }
@@ -132,7 +124,7 @@ impl Journal {
     }
 
     /// The bridges so far, in the order in which they began.
-    pub(crate) fn bridges(&self) -> &[Exchange]
+    pub(crate) fn bridges(&self) -> &[BridgeNote]
         ensures { result.now ≡ self.now.bridges }
     {
         self.bridges.as_slice()

@@ -3,23 +3,23 @@
 //! Above the board (`switchboard`) and the farm (`farm_rounds`), which it keeps in step, and below the top call, which hands
 //! it the orders that were read and tells the report. `clock` goes from the orders of a period to a round of periods, and
 //! on to the run's end: `orders` has the orders of the clock executed and carried out, `ends` has the board told of the calls
-//! that end, `journal` (with `exchange`) notes what the report needs to know of the past, `facts` makes the report of it,
+//! that end, `journal` (with `notes`) notes what the report needs to know of the past, `facts` makes the report of it,
 //! and `finish` ends a run with it. `pace` says how a run is worked.
 //!
 //! Definitions: `specs/Runs.antt` (what a run leaves on the lines and reports), `specs/Clock.antt` (what holds at its
 //! clock), `specs/Match.antt` (what ties board and farm to each other, and to what a run gives by its definition in
-//! `farm_output`), `specs/Going.antt` (what a round takes of the calls and where it leaves them), `specs/Ending.antt` (ends
-//! as they are told), `specs/Journal.antt` (what is noted), `specs/Noted.antt` (when that is right, so that at the run's end
-//! the report is the definition's), `specs/Facts.antt` (what the report says of it), `specs/Pace.antt`.
+//! `farm_output`), `specs/Going.antt` (how far the calls come in a round), `specs/Ending.antt` (ends as they are told),
+//! `specs/Journal.antt` (what is noted), `specs/Noted.antt` (when that is right, so that at the run's end the report is the
+//! definition's), `specs/Facts.antt` (what the report says of it), `specs/Pace.antt`.
 //! How orders, rounds and ends follow each other is this project's profile.
 #![tactic(auto)]
 
 mod clock;
 mod ends;
-mod exchange;
 mod facts;
 mod finish;
 mod journal;
+mod notes;
 mod orders;
 mod pace;
 

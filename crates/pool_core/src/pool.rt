@@ -5,7 +5,7 @@ ghost use Rattle.std.specs.List.{Contains};
 ghost use Rattle.std.proofs.Common.{get_or};
 ghost use Rattle.pool_core.specs.declared.step.PoolStep.{PoolStep as OneStep};
 ghost use Rattle.pool_core.specs.declared.pool.Waiting.{Waiting as OneWaiting};
-ghost use Rattle.pool_core.specs.Machine.{start_of, dealt, place, deque, hand, is_worker, can_take, is_under_way, is_complete, is_legal, Takes, taken, run, pushed, completed, moved, stepped, answer_of, times, all_done};
+ghost use Rattle.pool_core.specs.Machine.{start_of, dealt, place, deque, hand, is_worker, can_take, is_under_way, is_complete, is_legal, Takes, taken, run, pushed, completed, moved, stepped, answer_of, all_done};
 ghost use Rattle.pool_core.specs.Steps.{after, runs};
 ghost use Rattle.pool_core.specs.Waiting.{jobs_of, IsFront};
 
@@ -101,13 +101,6 @@ impl Pool {
         self.places[job as usize]
     }
 
-    /// Each job is in exactly one deque, in exactly one hand, or done.
-    pub fn has_each_job_once(&self)
-        ensures { (job : ℕ) → job < length self.now.lens → times job self.now ≡ 1 }
-    {
-        let _ = &self.lens;
-    }
-
     fn is_legal(&self, step: PoolStep) -> bool
         ensures { result ≡ is_legal self.now step }
     {
@@ -116,7 +109,7 @@ impl Pool {
             PoolStep::Steal { thief, victim } => {
                 self.is_worker(thief)
                     && self.is_worker(victim)
-                    && !(thief == victim)
+                    && thief != victim
                     && self.can_take(thief, victim)
             }
             PoolStep::Run { worker, periods } => {

@@ -5,7 +5,7 @@ use Rattle.farm_rounds.specs.declared.call.Call.{Call}
 use Rattle.farm_rounds.specs.declared.call.Group.{Group}
 use Rattle.farm_rounds.specs.declared.call.Group.TheVariants.{One, Two}
 use Rattle.farm_rounds.specs.Calls.{other_of}
-use Rattle.farm_rounds.specs.Groups.{Exchanges}
+use Rattle.farm_rounds.proofs.Exchanging.{Exchanges}
 use Rattle.farm_rounds.specs.Acts.{parted}
 use Rattle.farm_rounds.proofs.Applying.{end_one_applied, end_two_applied}
 use Rattle.farm_rounds.proofs.groups.end.Goals as goal

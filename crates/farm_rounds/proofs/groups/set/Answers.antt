@@ -2,7 +2,7 @@ use Rattle.std.proofs.Common.{sym, ◌∙◌, subst, ap, List, [], ◌∷◌, �
 use Rattle.std.specs.List.Sorted.{IsPermutation}
 use Rattle.std.proofs.lemmas.List.Sorted.{IsPermutation-to_front}
 use Rattle.farm_rounds.specs.declared.call.Group.{Group}
-use Rattle.farm_rounds.specs.Groups.{Exchanges}
+use Rattle.farm_rounds.proofs.Exchanging.{Exchanges}
 use Rattle.farm_rounds.specs.Acts.{group_set}
 use Rattle.farm_rounds.proofs.Applying.{set_applied, open_found}
 use Rattle.farm_rounds.proofs.groups.set.Goals as goal

@@ -1,20 +1,20 @@
-use Rattle.std.proofs.Common.{◌≡◌, ap, ◌∙◌, sym, subst, ℕ, true, arith}
+use Rattle.std.proofs.Common.{◌≡◌, ap, ◌∙◌, sym, subst, ℕ, true, false, arith}
 use Rattle.call_leg.specs.Memory.{LegMemory}
-use Rattle.round_lines.specs.Transfer.{has_failed}
 use Rattle.round_lines.specs.Seats.{SeatMemory}
 use Rattle.farm_rounds.specs.declared.call.Call.{Call}
 use Rattle.farm_rounds.specs.Numbers.{is_among}
 use Rattle.farm_rounds.specs.Rounds.{call_from}
 use Rattle.farm_rounds.specs.RoundHistories.{seat_of}
+use Rattle.farm_rounds.specs.Settling.{told_by}
 use Rattle.farm_rounds.specs.Working.{goes_on_call}
 use Rattle.farm_rounds.proofs.Settling.{left_on, left_off, settled_on, settled_off}
 use Rattle.farm_rounds.proofs.settle.keep.Goals as goal
 
--- a call, with what its seat tells
-abbrev told : ℕ → LegMemory → SeatMemory → Call
-told n m s = record { number = n; leg = m; down_failed = has_failed s.place.down; out_failed = has_failed s.place.out }
+-- a call, with nothing told of its outgoing lines
+abbrev untold : ℕ → LegMemory → Call
+untold n m = record { number = n; leg = m; down_failed = false; out_failed = false }
 
-told_same : (n k : ℕ) (m l : LegMemory) (s t : SeatMemory) → n ≡ k → m ≡ l → s ≡ t → told n m s ≡ told k l t
+told_same : (n k : ℕ) (m l : LegMemory) (s t : SeatMemory) → n ≡ k → m ≡ l → s ≡ t → told_by s (untold n m) ≡ told_by t (untold k l)
 told_same n k m l s t a b e = cc
 
 pub seat_for-seat-requires-clause-seats : goal.seat_for-seat-requires-clause-seats

@@ -9,11 +9,11 @@ use Rattle.farm_run.specs.Runs.{Runs}
 use Rattle.farm_run.proofs.Clocks.{clock_first}
 use Rattle.farm_run.proofs.clock.run.Goals as goal
 
-pub returns : goal.returns
-returns g c =
+pub returns-clause-runs : goal.returns-clause-runs
+returns-clause-runs g c =
     let first : ℕ → Side → LineState = g.T.Trunk.lines c.args.trunk.now in
     let now : ℕ → Side → LineState = g.T.Trunk.lines c.run_board.new.trunk in
-    subst (λ (os : List Order). IfOk c.run_board.result (λ report. Runs os c.args.pace.now first now report)) (ap (λ (s : State). orders_of s) c.in_ok-board.ensures.start) c.run_board.ensures
+    subst (λ (os : List Order). IfOk c.run_board.result (λ report. Runs os c.args.pace.now first now report)) (ap (λ (s : State). orders_of s) c.in_ok-board.ensures.start) c.run_board.ensures.runs
 
 pub run_board-requires-clause-pace : goal.run_board-requires-clause-pace
 run_board-requires-clause-pace g c κs lives = c.requires

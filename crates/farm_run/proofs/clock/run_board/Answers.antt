@@ -5,9 +5,9 @@ use Rattle.switchboard.specs.State.{orders_of}
 use Rattle.farm_run.proofs.Clocks.{run_told}
 use Rattle.farm_run.proofs.clock.run_board.Goals as goal
 
-pub returns : goal.returns
-returns g c =
+pub returns-clause-runs : goal.returns-clause-runs
+returns-clause-runs g c =
     let first : ℕ → Side → LineState = g.T.Trunk.lines c.args.trunk.now in
     let e = c.in_ok-farm.ensures in
-    run_told (orders_of c.args.board.now) c.args.pace.now first (g.T.Trunk.lines c.work_all.new.trunk) c.work_all.new.board c.in_ok-farm.farm c.work_all.new.journal _ c.finish.result e.kept e.failed
+    run_told (orders_of c.args.board.now) c.args.pace.now first (g.T.Trunk.lines c.work_all.new.trunk) c.work_all.new.board c.in_ok-farm.farm c.work_all.new.journal _ c.finish.result e.kept e.failed e.sides
     e.run e.known c.finish.ensures.failed c.requires.count c.finish.ensures.reports

@@ -11,7 +11,8 @@ use Rattle.farm_run.specs.Runs.{TellsFailed}
 use Rattle.farm_run.specs.Clock.{IsAtClock, AreReadable}
 use Rattle.farm_run.proofs.Counts.{fell_more, still_none, none_since}
 use Rattle.farm_run.proofs.Clocks.{fell_none, tells_none, at_first, clock_on, goes_on, none_alive, none_among}
-use Rattle.farm_run.specs.Going.{IsRound}
+use Rattle.farm_run.proofs.Sides.{sides_none, sides_more}
+use Rattle.farm_run.proofs.RoundTaken.{IsRound}
 use Rattle.farm_run.specs.Noted.{IsKnown}
 use Rattle.farm_run.proofs.NotedRounds.{truly_same}
 use Rattle.farm_run.proofs.Knowing.{known_start, known_idle, known_round}
@@ -30,6 +31,7 @@ loop-clock-init g c =
       kept = refl;
       later = fell_none lines;
       failed = subst (λ (ls : List Line). TellsFailed lines lines ls) (sym (ap (λ (f : FarmMemory). f.failed) e.value)) (tells_none lines);
+      sides = sides_none lines;
       run = λ r run none. at_first r c.args.board.now c.in_ok-farm.farm.groups c.args.pace.now.periods lines c.requires.clock.orders c.requires.none_done empty e.history run;
       known = λ r run none. known_start r c.args.board.now c.in_ok-farm.farm.tallies c.args.journal.now c.requires.clock.ends c.requires.none_done c.requires.none_noted;
     }
@@ -76,6 +78,7 @@ loop-clock-preserved-then-is_empty g c =
       kept = e.kept ∙ inv.kept;
       later = inv.later;
       failed = subst (λ (ls : List Line). TellsFailed first now ls) (sym e.failed) inv.failed;
+      sides = inv.sides;
       run = λ r run none.
           let was = inv.run r run none in
           let periods : r.periods ≡ c.args.pace.now.periods = run.same_periods in
@@ -110,6 +113,7 @@ loop-clock-preserved g c =
       kept = w.kept ∙ e.kept ∙ inv.kept;
       later = fell_more first before now inv.later w.later;
       failed = w.failed first inv.later (subst (λ (ls : List Line). TellsFailed first before ls) (sym e.failed) inv.failed);
+      sides = sides_more first before now inv.sides w.sides;
       run = λ r run none.
           let was = inv.run r run (still_none first before now w.later none) in
           let periods : r.periods ≡ c.args.pace.now.periods = run.same_periods in
@@ -145,6 +149,9 @@ returns-clause-kept g c = c.loop-clock.invariant.kept
 pub returns-clause-failed : goal.returns-clause-failed
 returns-clause-failed g c = c.loop-clock.invariant.failed
 
+pub returns-clause-sides : goal.returns-clause-sides
+returns-clause-sides g c = c.loop-clock.invariant.sides
+
 pub returns-clause-run : goal.returns-clause-run
 returns-clause-run g c = λ r run none.
     let inv = c.loop-clock.invariant in
@@ -160,17 +167,17 @@ returns-clause-known g c = λ r run none.
 pub returns-in_err-farm : goal.returns-in_err-farm
 returns-in_err-farm g c =
     let no = c.from_residual.ensures.0 in
-    record { clock = IfOk-from_err _ _ no; kept = IfOk-from_err _ _ no; failed = IfOk-from_err _ _ no; run = λ r run none. IfOk-from_err _ _ no; known = λ r run none. IfOk-from_err _ _ no }
+    record { clock = IfOk-from_err _ _ no; kept = IfOk-from_err _ _ no; failed = IfOk-from_err _ _ no; sides = sides_none _; run = λ r run none. IfOk-from_err _ _ no; known = λ r run none. IfOk-from_err _ _ no }
 
 pub returns-in_err-execute_orders : goal.returns-in_err-execute_orders
 returns-in_err-execute_orders g c =
     let no = c.from_residual-in_err-execute_orders.ensures.0 in
-    record { clock = IfOk-from_err _ _ no; kept = IfOk-from_err _ _ no; failed = IfOk-from_err _ _ no; run = λ r run none. IfOk-from_err _ _ no; known = λ r run none. IfOk-from_err _ _ no }
+    record { clock = IfOk-from_err _ _ no; kept = IfOk-from_err _ _ no; failed = IfOk-from_err _ _ no; sides = c.loop-clock.invariant.sides; run = λ r run none. IfOk-from_err _ _ no; known = λ r run none. IfOk-from_err _ _ no }
 
 pub returns-in_err-farm-2 : goal.returns-in_err-farm-2
 returns-in_err-farm-2 g c =
     let no = c.from_residual-in_err-farm-2.ensures.0 in
-    record { clock = IfOk-from_err _ _ no; kept = IfOk-from_err _ _ no; failed = IfOk-from_err _ _ no; run = λ r run none. IfOk-from_err _ _ no; known = λ r run none. IfOk-from_err _ _ no }
+    record { clock = IfOk-from_err _ _ no; kept = IfOk-from_err _ _ no; failed = IfOk-from_err _ _ no; sides = sides_more _ _ _ c.loop-clock.invariant.sides c.work_round.ensures.sides; run = λ r run none. IfOk-from_err _ _ no; known = λ r run none. IfOk-from_err _ _ no }
 
 pub idle_until-clock-requires-clause-clock : goal.idle_until-clock-requires-clause-clock
 idle_until-clock-requires-clause-clock g c = c.loop-clock-test.true

@@ -4,13 +4,14 @@ use Rattle.round_lines.specs.Rounds.{seat_end}
 use Rattle.switchboard.specs.State.{State, last_stamp, orders_of}
 use Rattle.farm_output.specs.Run.{Run}
 use Rattle.farm_rounds.specs.Working.{RoundMemory, GainsFailed}
-use Rattle.farm_run.specs.Going.{IsRound}
+use Rattle.farm_run.proofs.RoundTaken.{IsRound}
 use Rattle.farm_run.specs.Clock.{IsAtClock}
 use Rattle.farm_run.proofs.Told.{told_done, told_orders}
 use Rattle.farm_run.proofs.Making.{IsMade, made_octets, made_open, made_partners, made_stands, made_tallies}
 use Rattle.farm_run.proofs.WorkedRound as parts
 use Rattle.farm_run.proofs.WorkedRound.{FilledRound, WorkedRound}
 use Rattle.farm_run.proofs.Counts.{fell_round, tells_round}
+use Rattle.farm_run.proofs.Sides.{sides_none, sides_more, sides_filled, sides_drained}
 use Rattle.farm_run.proofs.RoundClock.{tells_numbers, tells_open, tells_apart, tells_late, clock_after}
 use Rattle.farm_run.proofs.RoundLines.{clock_is, ends_are, told_is}
 use Rattle.farm_run.proofs.RoundTallies.{tallies_after}
@@ -119,6 +120,12 @@ returns-clause-later g c = fell_round _ _ _ _ _ _ _ (round g c)
 pub returns-clause-failed : goal.returns-clause-failed
 returns-clause-failed g c = tells_round _ _ _ _ _ _ _ (round g c)
 
+pub returns-clause-sides : goal.returns-clause-sides
+returns-clause-sides g c =
+    let fill = c.fill.ensures in
+    let drain = c.drain.ensures in
+    sides_more _ _ _ (sides_filled _ _ c.in_ok-round.round.seats c.fill.new.self.seats _ fill.fills fill.others) (sides_drained _ _ c.work-worked.result.seats drain.drains.0 _ drain.drains.1 drain.others)
+
 -- where the run goes on, the round is one of it
 in_run : (g : Over) (c : goal.After-drain g) (r : Run) (first : _) → c.args.clock + c.args.periods ≤ r.periods → IsAtClock r c.args.clock c.args.board.now c.args.farm.groups first (g.T.Trunk.lines c.args.trunk.now) →
     IsRound r c.args.clock c.args.periods c.args.board.now.done c.args.board.now.left
@@ -154,6 +161,7 @@ returns-in_err-round g c =
       ended = IfOk-from_err _ _ no;
       later = IfOk-from_err _ _ no;
       failed = λ first later told. IfOk-from_err _ _ no;
+      sides = sides_none _;
       run = λ r first readable l at calm. IfOk-from_err _ _ no;
       ends = λ r first readable l at calm. IfOk-from_err _ _ no;
     }
@@ -168,6 +176,7 @@ returns-in_err-tell_ends g c =
       ended = IfOk-from_err _ _ no;
       later = IfOk-from_err _ _ no;
       failed = λ first later told. IfOk-from_err _ _ no;
+      sides = sides_filled _ _ c.in_ok-round.round.seats c.fill.new.self.seats _ c.fill.ensures.fills c.fill.ensures.others;
       run = λ r first readable l at calm. IfOk-from_err _ _ no;
       ends = λ r first readable l at calm. IfOk-from_err _ _ no;
     }

@@ -5,8 +5,8 @@ use Rattle.farm_report.specs.declared.report.CallLine.{CallLine}
 use Rattle.switchboard.specs.declared.act.Span.{Span}
 use Rattle.switchboard.specs.State.{told_in}
 use Rattle.switchboard.specs.Ends.{spans_now, spans_of}
-use Rattle.farm_run.specs.declared.exchange.Exchange.{Exchange}
-use Rattle.farm_run.specs.declared.exchange.Opening.{Opening}
+use Rattle.farm_run.specs.declared.notes.BridgeNote.{BridgeNote}
+use Rattle.farm_run.specs.declared.notes.Opening.{Opening}
 use Rattle.farm_run.specs.Journal.{JournalMemory}
 use Rattle.farm_run.specs.Facts.{kept_in, call_line, span_lines}
 use Rattle.farm_run.proofs.Reporting.{length-numbered}
@@ -62,10 +62,10 @@ pub returns-clause-spans : goal.returns-clause-spans
 returns-clause-spans c = λ h g.
     let bridges = c.bridges.ensures ∙ ap (λ (j : JournalMemory). j.bridges) (c.settle_all.ensures.settled h g) in
     c.in_ok-span_lines.ensures ∙ ap (λ (ss : List Span). span_lines ss c.bridges.result.now) c.spans.ensures.now
-    ∙ ap (λ (bs : List Exchange). span_lines (spans_now (told_in c.args.board.now) c.args.board.now.done) bs) bridges
+    ∙ ap (λ (bs : List BridgeNote). span_lines (spans_now (told_in c.args.board.now) c.args.board.now.done) bs) bridges
 
 pub returns-clause-whole : goal.returns-clause-whole
 returns-clause-whole c = λ h given periods g all.
     let bridges = c.bridges.ensures ∙ ap (λ (j : JournalMemory). j.bridges) (c.settle_all.ensures.settled h g) in
     c.in_ok-span_lines.ensures ∙ ap (λ (ss : List Span). span_lines ss c.bridges.result.now) (c.spans.ensures.whole given periods all)
-    ∙ ap (λ (bs : List Exchange). span_lines (spans_of given periods c.args.board.now.done) bs) bridges
+    ∙ ap (λ (bs : List BridgeNote). span_lines (spans_of given periods c.args.board.now.done) bs) bridges

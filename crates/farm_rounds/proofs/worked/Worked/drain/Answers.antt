@@ -1,6 +1,8 @@
-use Rattle.std.proofs.Common.{◌≡◌, sym, ap, ◌∙◌, subst, List, ◌++◌, length, take, drop, arith}
+use Rattle.std.proofs.Common.{rules, ◌≡◌, sym, ap, ◌∙◌, subst, List, ◌++◌, length, take, drop, arith}
 use Rattle.std.specs.Prelude.{map, flat_map}
+use Rattle.std.proofs.lemmas.List.Sorted.{IsNonDecreasingBy-from_sort_by_key}
 use Rattle.trau_io.specs.declared.line.Line.{Line}
+use Rattle.trau_io.specs.Places.{place_of}
 use Rattle.round_lines.specs.Places.{name_of, failed_in_round}
 use Rattle.round_lines.specs.Seats.{SeatMemory, Drains}
 use Rattle.round_lines.specs.Rounds.{Each, KeepsButEach, IsOutgoing, Rising}
@@ -105,7 +107,12 @@ returns-clause-drains g c =
     ∙ ap (λ (ss : List SeatMemory). map name_of c.args.self.failed ++ flat_map (λ (s : SeatMemory). failed_in_round s.place) ss) (c.deref.ensures.value ∙ seats_back g c) in (
       c.drain_seats.new.seats,
       drains g c,
-      record { lines = c.list_failed.new.failed.items; told = told; sorted = c.sort_unstable_by_key.ensures.permutation },
+      record {
+        lines = c.list_failed.new.failed.items;
+        told = told;
+        same = c.sort_unstable_by_key.ensures.permutation;
+        order = IsNonDecreasingBy-from_sort_by_key (λ (l : Line). place_of l.call l.side) _ c.sort_unstable_by_key.ensures.sorted (λ a r q k. search rules);
+      },
       (whole g c).failed,
       number g c,
     )

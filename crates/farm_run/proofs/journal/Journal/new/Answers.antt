@@ -1,6 +1,6 @@
 use Rattle.std.proofs.Common.{◌≡◌, ap, ◌∙◌, List, [], replicate}
-use Rattle.farm_run.specs.declared.exchange.Opening.{Opening}
-use Rattle.farm_run.specs.declared.exchange.Exchange.{Exchange}
+use Rattle.farm_run.specs.declared.notes.Opening.{Opening}
+use Rattle.farm_run.specs.declared.notes.BridgeNote.{BridgeNote}
 use Rattle.trau_io.specs.declared.ends.CallEnd.{CallEnd}
 use Rattle.farm_run.specs.Journal.{no_opening}
 use Rattle.farm_run.proofs.Places.{journal-new}
@@ -16,4 +16,4 @@ pub returns : goal.returns
 returns c =
     ap (λ (xs : List Opening). record { calls = xs; ends = c.new.result.items; bridges = c.new-2.result.items }) (calls c)
     ∙ ap (λ (xs : List CallEnd). record { calls = replicate 4097 no_opening; ends = xs; bridges = c.new-2.result.items }) c.new.ensures.items
-    ∙ ap (λ (xs : List Exchange). record { calls = replicate 4097 no_opening; ends = []; bridges = xs }) c.new-2.ensures.items
+    ∙ ap (λ (xs : List BridgeNote). record { calls = replicate 4097 no_opening; ends = []; bridges = xs }) c.new-2.ensures.items

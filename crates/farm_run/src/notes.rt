@@ -11,7 +11,7 @@ pub(crate) struct Opening {
 
 /// A bridge, with the handed frames that each of its calls has sent.
 #[derive(Clone, Copy)]
-pub(crate) struct Exchange {
+pub(crate) struct BridgeNote {
     pub(crate) a: u32,
     pub(crate) b: u32,
     pub(crate) sent_by_a: u32,
