@@ -1,14 +1,25 @@
 -- From the answer to a text to that of the desk whose reads gave it, and to that of a desk that tells its text.
-use Rattle.std.proofs.Common.{◌≡◌, inl, inr, ℕ, ◌≤◌, List, ◌++◌, length, take, Result, Ok, Err, Option, Some, None, sym, ◌∙◌, ap, subst, append-nil, length-append, length-take, arith}
+use Rattle.std.proofs.Common.{◌≡◌, inl, inr, ℕ, ◌<◌, ◌≤◌, List, ◌++◌, length, take, Result, Ok, Err, Option, Some, None, sym, ◌∙◌, ap, subst, append-nil, length-append, length-take, arith}
 use Rattle.std.specs.Prelude.{IsErrOf}
 use Rattle.std.specs.Io.KnownBytes.{Consumes, IsAtEnd}
 use Rattle.trau_io.specs.Desks.{DeskState}
+use Rattle.trau_orders.specs.declared.fault.OrderFault.{OrderFault}
+use Rattle.trau_orders.specs.declared.fault.OrderFault.TheVariants as orders
 use Rattle.trau_orders.specs.declared.order.Order.{Order}
+use Rattle.trau_orders.specs.Text.{text_lines, IsFirstBad, IsWithin}
 use Rattle.farm_orders.specs.declared.fault.OrdersFault.{OrdersFault}
 use Rattle.farm_orders.specs.declared.fault.OrdersFault.TheVariants.{Unread, TooLong, Line, Memory}
 use Rattle.trau_io.specs.declared.transfer.Filled.TheVariants as filled
 use Rattle.farm_orders.specs.Block.{FillsBlock}
-use Rattle.farm_orders.specs.Reading.{AnswersText, AnswersReads, ReadsOrders, AnswersTold}
+use Rattle.farm_orders.specs.Reading.{AnswersText, AnswersReads, ReadsOrders, AnswersTold, fault_of}
+
+-- a text's own fault is the answer to it
+pub faulty : (text : List ℕ) (read : Result (List Order) OrderFault) (fault : OrderFault) → read ≡ Err fault → (IsErrOf read orders.TooLong → 1048576 < length text) → (IsErrOf read orders.TooMany → 65536 < length (text_lines text)) →
+    ((n : ℕ) → IsErrOf read (orders.Line n) → IsWithin text × IsFirstBad (text_lines text) n) → AnswersText text (Err (fault_of fault))
+faulty text read orders.TooLong is long many bad = inl (long is)
+faulty text read orders.TooMany is long many bad = inr (many is)
+faulty text read (orders.Line n) is long many bad = bad n is
+faulty text read orders.Memory is long many bad = tt
 
 -- the answer to a text is that of a desk at its end that gave it
 pub ended : (now : DeskState) (text : List ℕ) (result : Result (List Order) OrdersFault) → IsAtEnd now.to_come → length text ≤ 1048576 → AnswersText text result → AnswersReads now text result

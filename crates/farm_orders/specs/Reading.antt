@@ -2,21 +2,26 @@
 use Rattle.std.specs.Prelude.{◌≡◌, ◌<◌, ◌≤◌, ◌⊎◌, ℕ, List, length, Result, Ok, Err}
 use Rattle.std.specs.Io.KnownBytes.{Consumes, IsAtEnd}
 use Rattle.trau_io.specs.Desks.{DeskState}
-use Rattle.trau_orders.specs.Text.{text_lines, AreLines, IsFirstBad}
+use Rattle.trau_orders.specs.Text.{text_lines, AreLines, IsFirstBad, IsWithin, IsBeyond}
+use Rattle.trau_orders.specs.declared.fault.OrderFault.{OrderFault}
+use Rattle.trau_orders.specs.declared.fault.OrderFault.TheVariants as orders
 use Rattle.trau_orders.specs.declared.order.Order.{Order}
 use Rattle.farm_orders.specs.declared.fault.OrdersFault.{OrdersFault}
 use Rattle.farm_orders.specs.declared.fault.OrdersFault.TheVariants.{Unread, TooLong, Line, Memory}
 
--- a text within the limits: at most 1,048,576 octets and at most 65,536 lines
-abbrev pub IsWithin : List ℕ → Type 0
-IsWithin text = (length text ≤ 1048576) × (length (text_lines text) ≤ 65536)
+-- the fault that a text's own fault comes to
+abbrev pub fault_of : OrderFault → OrdersFault
+fault_of orders.TooLong = TooLong
+fault_of orders.TooMany = TooLong
+fault_of (orders.Line n) = Line n
+fault_of orders.Memory = Memory
 
 -- the answer to a whole text: its orders, or that it isn't within the limits, or its first line that isn't in the
 -- grammar; or want of memory
 abbrev pub AnswersText : List ℕ → Result (List Order) OrdersFault → Type 0
 AnswersText text (Ok orders) = IsWithin text × AreLines (text_lines text) orders
 AnswersText text (Err Unread) = ⊥
-AnswersText text (Err TooLong) = (1048576 < length text) ⊎ (65536 < length (text_lines text))
+AnswersText text (Err TooLong) = IsBeyond text
 AnswersText text (Err (Line n)) = IsWithin text × IsFirstBad (text_lines text) n
 AnswersText text (Err Memory) = Unit {0}
 

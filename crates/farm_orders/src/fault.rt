@@ -1,5 +1,7 @@
 // Why the orders of a run aren't taken.
+use std::alloc::AllocError;
 use thiserror::Error;
+use trau_orders::OrderFault;
 
 /// Why the orders of a run aren't taken.
 #[derive(Clone, Copy, Debug, Drop, PartialEq, Eq, Error)]
@@ -15,4 +17,30 @@ pub enum OrdersFault {
     Line(u32),
     #[error("no memory")]
     Memory,
+}
+
+impl From<AllocError> for OrdersFault {
+    ghost use Rattle.std.specs.Prelude.{◌≡◌};
+    ghost use Rattle.farm_orders.specs.declared.fault.OrdersFault.TheVariants.{Memory};
+
+    ghost from_gives = { λ _ fault. fault ≡ Memory };
+
+    fn from(_: AllocError) -> OrdersFault {
+        OrdersFault::Memory
+    }
+}
+
+impl From<OrderFault> for OrdersFault {
+    ghost use Rattle.std.specs.Prelude.{◌≡◌};
+    ghost use Rattle.farm_orders.specs.Reading.{fault_of};
+
+    ghost from_gives = { λ fault told. told ≡ fault_of fault };
+
+    fn from(fault: OrderFault) -> OrdersFault {
+        match fault {
+            OrderFault::TooLong | OrderFault::TooMany => OrdersFault::TooLong,
+            OrderFault::Line(number) => OrdersFault::Line(number),
+            OrderFault::Memory => OrdersFault::Memory,
+        }
+    }
 }

@@ -7,7 +7,7 @@ use crate::OrdersFault;
 use crate::block::fill;
 use std::alloc::{AllocError, Global};
 use trau_io::{Desk, Filled};
-use trau_orders::{OrderFault, Orders};
+use trau_orders::Orders;
 
 // One octet more than the orders may have.
 const ROOM: usize = 1_048_577;
@@ -23,13 +23,7 @@ fn block_of(alloc: Global, size: usize) -> Result<Vec<u8>, AllocError>
 fn orders_of(alloc: Global, text: &[u8]) -> Result<Orders, OrdersFault>
     ensures { AnswersText text.now result }
 {
-    match Orders::parse(alloc, text) {
-        Ok(orders) => Ok(orders),
-        Err(OrderFault::TooLong) => Err(OrdersFault::TooLong),
-        Err(OrderFault::TooMany) => Err(OrdersFault::TooLong),
-        Err(OrderFault::Line(number)) => Err(OrdersFault::Line(number)),
-        Err(OrderFault::Memory) => Err(OrdersFault::Memory),
-    }
+    Ok(Orders::parse(alloc, text)?)
 }
 
 /// Reads the orders of a run from the desk, to the end of their text or until just past its limit of 1,048,576 octets.
@@ -50,9 +44,7 @@ pub fn read_orders<D: Desk>(alloc: Global, desk: &mut D) -> Result<Orders, Order
     // Of a desk that tells its text, the answer is that of the whole text.
     ensures told { (text : List ℕ) → (D.desk desk.old).to_come ≡ Some text → AnswersTold text result }
 {
-    let Ok(mut block) = block_of(alloc, ROOM) else {
-        return Err(OrdersFault::Memory);
-    };
+    let mut block = block_of(alloc, ROOM)?;
     match fill(desk, &mut block) {
         Filled::Whole => Err(OrdersFault::TooLong),
         Filled::Ended(length) => orders_of(alloc, &block[..length]),

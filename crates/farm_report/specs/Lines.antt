@@ -2,12 +2,11 @@
 -- line of a call that failed, and one for the end.
 use Rattle.std.specs.Prelude.{ℕ, max, List, [], ◌∷◌, ◌++◌, length, codes, decimal, Result, Ok, Err}
 use Rattle.std.specs.List.{flat_map, fold}
-use Rattle.trau_io.specs.declared.line.Side.{Side}
-use Rattle.trau_io.specs.declared.line.Side.TheVariants.{Up, Pcm, Down, Out}
 use Rattle.trau_io.specs.declared.line.Line.{Line}
 use Rattle.trau_io.specs.declared.ends.Cause.{Cause}
 use Rattle.trau_io.specs.declared.ends.Cause.TheVariants.{Closed, End, Fault, Limit}
 use Rattle.trau_io.specs.declared.ends.Counts.{Counts}
+use Rattle.trau_io.specs.Texts.{failed_text, side_word}
 use Rattle.switchboard.specs.declared.act.Act.{Act}
 use Rattle.switchboard.specs.declared.act.Refusal.{Refusal}
 use Rattle.switchboard.specs.declared.act.Refusal.TheVariants.{AlreadyOpen, NotOpen, Bridged, NotBridged, SameCall, Draining, NumberUsed}
@@ -21,12 +20,6 @@ abbrev pub line_of : List (List ℕ) → List ℕ
 line_of [] = codes "\n"
 line_of (word ∷ []) = word ++ codes "\n"
 line_of (word ∷ next ∷ words) = word ++ (codes " " ++ line_of (next ∷ words))
-
-abbrev pub side_word : Side → List ℕ
-side_word Up = codes "up"
-side_word Pcm = codes "pcm"
-side_word Down = codes "down"
-side_word Out = codes "out"
 
 -- the refusals are numbered
 abbrev pub number_of : Refusal → ℕ
@@ -99,7 +92,7 @@ call_lines c = end_line c ++ counts_line c.end.call c.counts
 
 -- line C up failed
 abbrev pub failed_line : Line → List ℕ
-failed_line line = line_of (codes "line" ∷ decimal line.call ∷ side_word line.side ∷ codes "failed" ∷ [])
+failed_line line = failed_text line.call line.side
 
 -- the greatest end of the calls, or 0 where there are none
 abbrev pub last_end : List CallLine → ℕ

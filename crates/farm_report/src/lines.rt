@@ -1,7 +1,8 @@
 // The lines of a report, each written at the end of a text. A text is of no use where memory ran out. A line is mostly a
 // table of its numbers, each behind its words: one loop writes them all.
 ghost use Rattle.std.specs.Prelude.{◌≡◌, ◌++◌, ◌∷◌, [], ℕ, List, codes, decimal, OnOk, string_bytes};
-ghost use Rattle.farm_report.specs.Lines.{line_of, side_word, reply_line, span_line, cause_words, call_lines, end_line, counts_line, failed_line, last_line, last_end};
+ghost use Rattle.trau_io.specs.Texts.{side_word};
+ghost use Rattle.farm_report.specs.Lines.{line_of, reply_line, span_line, cause_words, call_lines, end_line, counts_line, failed_line, last_line, last_end};
 ghost use Rattle.farm_report.specs.Numbered.{numbered};
 
 use crate::{CallLine, SpanLine};
@@ -18,22 +19,11 @@ pub(crate) trait Told {
         ensures { OnOk result (string_bytes text.new ≡ string_bytes text.old ++ lines self.now) };
 }
 
-fn side_word(side: Side) -> &'static str
-    ensures { result.now ≡ side_word side }
-{
-    match side {
-        Side::Up => "up",
-        Side::Pcm => "pcm",
-        Side::Down => "down",
-        Side::Out => "out",
-    }
-}
-
 // A side's word between other words.
 fn put_side(text: &mut String, before: &str, side: Side, after: &str) -> Result<(), AllocError>
     ensures { OnOk result (string_bytes text.new ≡ string_bytes text.old ++ (before.now ++ (side_word side ++ after.now))) }
 {
-    write!(text, "{before}{}{after}", side_word(side))
+    write!(text, "{before}{}{after}", side.word())
 }
 
 // Numbers, each behind its words, and then the words of the end.

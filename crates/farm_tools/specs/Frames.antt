@@ -5,6 +5,7 @@ use Rattle.trau_io.specs.declared.line.Side.{Side}
 use Rattle.trau_io.specs.declared.line.Side.TheVariants.{Up}
 use Rattle.trau_io.specs.Lines.{LineState, OthersStay, Rose}
 use Rattle.trau_io.specs.Desks.{DeskState}
+use Rattle.trau_io.specs.Texts.{failed_text}
 use Rattle.trau_io.specs.Transfer.{Tells}
 use Rattle.frame_sync.specs.Periods.{ArePeriods, all_yields}
 use Rattle.frame_listing.specs.declared.list.ListEnd.{ListEnd}
@@ -14,7 +15,6 @@ use Rattle.frame_listing.specs.Texts.{listed}
 use Rattle.farm_tools.specs.declared.end.ToolEnd.{ToolEnd}
 use Rattle.farm_tools.specs.declared.end.ToolEnd.TheVariants.{Done, LineFault, DeskFault, Memory}
 use Rattle.farm_tools.specs.Causes.{IsCalm}
-use Rattle.farm_tools.specs.Tools.{failed_text}
 
 -- the last line of text: how many yields were listed and how many octets are left, or that the line failed; where the desk failed there is none
 abbrev pub list_text : ℕ → ListEnd → List ℕ

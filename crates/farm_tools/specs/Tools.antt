@@ -1,9 +1,9 @@
 -- A whole tool: its run, its text and its end (this project's profile).
 use Rattle.std.specs.Prelude.{◌≡◌, ◌⊎◌, ℕ, List, ◌++◌, codes, decimal, Ok, Err}
 use Rattle.trau_io.specs.declared.line.Side.{Side}
-use Rattle.trau_io.specs.declared.line.Side.TheVariants.{Up, Pcm, Down, Out}
 use Rattle.trau_io.specs.Lines.{LineState}
 use Rattle.trau_io.specs.Desks.{DeskState}
+use Rattle.trau_io.specs.Texts.{failed_text}
 use Rattle.trau_io.specs.Transfer.{Tells}
 use Rattle.farm_tools.specs.declared.end.Tool.{Tool}
 use Rattle.farm_tools.specs.declared.end.Tool.TheVariants.{Relay, Decode, Encode}
@@ -13,17 +13,6 @@ use Rattle.farm_tools.specs.declared.end.ToolEnd.{ToolEnd}
 use Rattle.farm_tools.specs.declared.end.ToolEnd.TheVariants.{Done, LineFault, DeskFault, Refused, Memory}
 use Rattle.farm_tools.specs.Made.{in_side, name_of, out_side}
 use Rattle.farm_tools.specs.Runs.{AllButTwo, Runs}
-
--- the word for a side
-abbrev pub side_name : Side → List ℕ
-side_name Up = codes "up"
-side_name Pcm = codes "pcm"
-side_name Down = codes "down"
-side_name Out = codes "out"
-
--- the text of a line that failed
-abbrev pub failed_text : ℕ → Side → List ℕ
-failed_text call side = codes "line " ++ (decimal call ++ (codes " " ++ (side_name side ++ codes " failed\n")))
 
 -- what the text says of the octets that are left of the incoming line
 abbrev pub left_text : Tool → ℕ → List ℕ

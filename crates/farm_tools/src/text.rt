@@ -1,9 +1,10 @@
 // The words, lines and texts of tools.
 ghost use Rattle.std.specs.Prelude.{◌≡◌, IfOk, string_bytes};
+ghost use Rattle.trau_io.specs.Texts.{failed_text};
 ghost use Rattle.farm_tools.specs.Blocks.{block_length};
 ghost use Rattle.farm_tools.specs.Made.{in_side, name_of, out_side};
 ghost use Rattle.farm_tools.specs.declared.end.RunEnd.TheVariants as run;
-ghost use Rattle.farm_tools.specs.Tools.{side_name, failed_text, text_of};
+ghost use Rattle.farm_tools.specs.Tools.{text_of};
 
 use crate::end::{RunEnd, Tool};
 use std::alloc::{AllocError, Global};
@@ -52,22 +53,11 @@ impl Tool {
     }
 }
 
-fn side_name(side: Side) -> &'static str
-    ensures { result.now ≡ side_name side }
-{
-    match side {
-        Side::Up => "up",
-        Side::Pcm => "pcm",
-        Side::Down => "down",
-        Side::Out => "out",
-    }
-}
-
 /// The text of a line that failed.
 pub fn failed_text(alloc: Global, call: u32, side: Side) -> Result<String, AllocError>
     ensures { IfOk result (λ text. string_bytes text ≡ failed_text call side) }
 {
-    let name = side_name(side);
+    let name = side.word();
     format!(in alloc; "line {call} {name} failed\n")
 }
 

@@ -7,10 +7,10 @@ use Rattle.trau_io.specs.declared.line.Line.{Line as TheLine}
 use Rattle.trau_io.specs.Lines.{LineState, Rose}
 use Rattle.trau_io.specs.Desks.{DeskState}
 use Rattle.trau_orders.specs.declared.order.Order.{Order}
-use Rattle.trau_orders.specs.Text.{text_lines, IsFirstBad, GoodOrBad}
+use Rattle.trau_orders.specs.Text.{text_lines, IsFirstBad, IsWithin, GoodOrBad}
 use Rattle.farm_orders.specs.declared.fault.OrdersFault.{OrdersFault}
 use Rattle.farm_orders.specs.declared.fault.OrdersFault.TheVariants.{Unread, TooLong, Line, Memory}
-use Rattle.farm_orders.specs.Reading.{IsWithin, ReadsOrders, AnswersTold}
+use Rattle.farm_orders.specs.Reading.{ReadsOrders, AnswersTold}
 use Rattle.farm_report.specs.View.{ReportView}
 use Rattle.farm_run.specs.Runs.{IsListed, Runs, TellsFailed}
 use Rattle.farm_words.specs.declared.asked.Settings.{Settings}

@@ -4,8 +4,7 @@ use Rattle.std.specs.Io.KnownBytes.{Consumes, IsAtEnd}
 use Rattle.trau_io.specs.declared.line.Side.{Side}
 use Rattle.trau_io.specs.Lines.{LineState, Rose}
 use Rattle.trau_io.specs.Desks.{DeskState}
-use Rattle.trau_orders.specs.Text.{text_lines, IsFirstBad}
-use Rattle.farm_orders.specs.Reading.{IsWithin}
+use Rattle.trau_orders.specs.Text.{text_lines, IsFirstBad, IsWithin, IsBeyond}
 use Rattle.farm_top.specs.Farm.{AllStay, TextOut, line_text}
 
 -- the orders were read to their end and are within the limits, line n is the first that isn't in the grammar, and the
@@ -41,7 +40,7 @@ pub record RunCauses (before now : ℕ → Side → LineState) (desk desk' : Des
   pub refused : status ≡ 2 → ReadsBadLine desk desk'
   pub told_refused : (text : List ℕ) (n : ℕ) → desk.to_come ≡ Some text → IsWithin text → IsFirstBad (text_lines text) n → (status ≡ 2) ⊎ (status ≡ 3) ⊎ (status ≡ 5)
   pub too_long : status ≡ 7 → ReadsTooLong desk desk'
-  pub told_too_long : (text : List ℕ) → desk.to_come ≡ Some text → (1048576 < length text) ⊎ (65536 < length (text_lines text)) → (status ≡ 3) ⊎ (status ≡ 5) ⊎ (status ≡ 7)
+  pub told_too_long : (text : List ℕ) → desk.to_come ≡ Some text → IsBeyond text → (status ≡ 3) ⊎ (status ≡ 5) ⊎ (status ≡ 7)
   pub unused : (status ≡ 2) ⊎ (status ≡ 3) ⊎ (status ≡ 7) → AllStay before now
   pub desk_failed : status ≡ 4 → Rose desk.write_faults desk'.write_faults
   pub desk_rose : desk.write_faults < desk'.write_faults → (status ≡ 2) ⊎ (status ≡ 3) ⊎ (status ≡ 4) ⊎ (status ≡ 5) ⊎ (status ≡ 7)

@@ -5,8 +5,7 @@ use Rattle.trau_io.specs.declared.line.Side.{Side}
 use Rattle.trau_io.specs.Lines.{LineState}
 use Rattle.trau_io.specs.Desks.{DeskState}
 use Rattle.trau_orders.specs.declared.order.Order.{Order}
-use Rattle.trau_orders.specs.Text.{text_lines, AreLines}
-use Rattle.farm_orders.specs.Reading.{IsWithin}
+use Rattle.trau_orders.specs.Text.{text_lines, AreLines, IsWithin}
 use Rattle.farm_output.specs.Run.{Run}
 use Rattle.farm_output.specs.Facts.{report_of}
 use Rattle.farm_report.specs.Lines.{report_text}

@@ -1,3 +1,4 @@
 -- Lemmas on words.
 pub mod Asking
+mod Found
 mod Matched

@@ -1,4 +1,5 @@
 // What words ask for, and why they aren't taken.
+use std::alloc::AllocError;
 use thiserror::Error;
 
 /// How a run is to work.
@@ -37,4 +38,15 @@ pub enum WordsFault {
     Usage,
     #[error("no memory")]
     Memory,
+}
+
+impl From<AllocError> for WordsFault {
+    ghost use Rattle.std.specs.Prelude.{◌≡◌};
+    ghost use Rattle.farm_words.specs.declared.asked.WordsFault.TheVariants.{Memory};
+
+    ghost from_gives = { λ _ fault. fault ≡ Memory };
+
+    fn from(_: AllocError) -> WordsFault {
+        WordsFault::Memory
+    }
 }

@@ -80,14 +80,9 @@ pub(crate) fn read_run(alloc: Global, options: &[String]) -> Result<Settings, Wo
     ensures ok { IfOk result (λ s. AreOptions (map (λ w. string_bytes w) options.now) s) }
     ensures usage { IsErrOf result WordsFault.Usage → (s : TheSettings) → AreOptions (map (λ w. string_bytes w) options.now) s → ⊥ }
 {
-    let Ok(command) = run_command(alloc) else {
-        return Err(WordsFault::Memory);
-    };
+    let command = run_command(alloc)?;
     match command.try_get_matches_from(options) {
-        Ok(matches) => match settings_of(&matches) {
-            Some(settings) => Ok(settings),
-            None => Err(WordsFault::Usage),
-        },
+        Ok(matches) => settings_of(&matches).ok_or(WordsFault::Usage),
         Err(error) if error.kind() == ErrorKind::OutOfMemory => Err(WordsFault::Memory),
         Err(_) => Err(WordsFault::Usage),
     }

@@ -42,13 +42,7 @@ pub fn read_words(alloc: Global, words: &[String]) -> Result<Asked, WordsFault>
     ensures memory { IsErrOf result WordsFault.Memory → (options : List (List ℕ)) × (map (λ w. string_bytes w) words.now ≡ codes "run" ∷ options) }
 {
     if let Some(options) = options_of_run(words) {
-        return match read_run(alloc, options) {
-            Ok(settings) => Ok(Asked::Run(settings)),
-            Err(fault) => Err(fault),
-        };
+        return read_run(alloc, options).map(Asked::Run);
     }
-    match read_tool(words) {
-        Some(asked) => Ok(asked),
-        None => Err(WordsFault::Usage),
-    }
+    read_tool(words).ok_or(WordsFault::Usage)
 }

@@ -167,6 +167,10 @@ module _ (sync sync' : SyncMemory) (u0 u1 u2 : LineState) (k0 k1 k2 : DeskState)
         moves = subst (λ l. Moves u0 u2 k0 k2 l told) (sym (append-nil (concat periods))) (moves_now one.given one.told (Some cut.found) cut.takes one.moves);
         ends = record {
           nothing_more = refl;
+          earlier = so_far.periods;
+          period = one.given;
+          split = refl;
+          reached = omega (arith, length-append (listed so_far.periods) one.told);
           proper = omega (arith, cut.proper, length-append (listed so_far.periods) one.told, ap length all ∙ length-append (listed so_far.periods) (line_of cut.found));
           front = front_of (listed so_far.periods) one.told (line_of cut.found) cut.front ∙ ap (λ l. take (length told) l) (sym all);
           up_same = cut.up_same ∙ so_far.calm.up_same;

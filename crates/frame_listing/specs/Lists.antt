@@ -1,5 +1,5 @@
 -- A whole listing: from the octets of an uplink to lines of text.
-use Rattle.std.specs.Prelude.{◌≡◌, ◌⊎◌, ℕ, ◌-◌, ◌^◌, ◌<◌, ◌≤◌, List, [], ◌++◌, length, take}
+use Rattle.std.specs.Prelude.{◌≡◌, ◌⊎◌, ℕ, ◌-◌, ◌^◌, ◌<◌, ◌≤◌, List, [], ◌∷◌, ◌++◌, length, take}
 use Rattle.std.specs.List.{concat}
 use Rattle.std.specs.Io.KnownBytes.{Consumes, Appends, IsAtEnd}
 use Rattle.trau_io.specs.Lines.{LineState, Rose}
@@ -36,9 +36,14 @@ pub record FailsToRead (up up' : LineState) (desk desk' : DeskState) (periods : 
   pub rose : Rose up.faults up'.faults
   pub desk_same : desk'.write_faults ≡ desk.write_faults
 
--- the desk failed inside the line of text of the last period's yield, and holds a proper front of the periods' lines
+-- the desk failed inside the line of text of the last period's yield: nothing was read behind that period, and the desk holds
+-- all earlier lines and a proper front of its line
 pub record FailsToTell (up up' : LineState) (desk desk' : DeskState) (periods : List (List ℕ)) (last told : List ℕ) : Type 0 where
   pub nothing_more : last ≡ []
+  pub earlier : List (List ℕ)
+  pub period : List ℕ
+  pub split : periods ≡ earlier ++ period ∷ []
+  pub reached : length (listed earlier) ≤ length told
   pub proper : length told < length (listed periods)
   pub front : told ≡ take (length told) (listed periods)
   pub up_same : up'.faults ≡ up.faults

@@ -2,7 +2,7 @@
 use Rattle.std.proofs.Common.{◌≡◌, refl, sym, ap, ◌∙◌, subst, ℕ, zero, suc, ◌+◌, ◌<◌, ◌≤◌, true, Option, Some, None, List, [], ◌∷◌, ◌++◌, length, map, get_or, set, drop, replicate, arith}
 use Rattle.std.specs.Prelude.{Result, Ok, Err, is_some, IfSome}
 use Rattle.std.specs.List.{filter_map}
-use Rattle.std.proofs.lemmas.List.{length-append, length-map, map-set, set-get_or}
+use Rattle.std.proofs.lemmas.List.{length-append, length-map, length-replicate, length-set, map-set, set-get_or}
 use Rattle.trau_orders.specs.declared.order.Order.{Order}
 use Rattle.trau_orders.specs.Lists.{AreOrders, NamesCalls}
 use Rattle.switchboard.specs.declared.act.Act.{Act}
@@ -107,6 +107,11 @@ told_same r t (Ok (act.LevelSet c v)) = refl
 told_same r t (Ok (act.DtxSet c m)) = refl
 told_same r t (Err e) = refl
 
+pub calls_same : (r : Rows) (t : ℕ) (x : Result Act Refusal) → length (applied r t x).calls ≡ length r.calls
+calls_same r t x =
+    let gone : Call → Option ℕ = λ e. e.gone in
+    sym (length-map (applied r t x).calls gone) ∙ ap length (told_same r t x) ∙ length-map r.calls gone
+
 pub most_same : (r : Rows) (t : ℕ) (x : Result Act Refusal) → (applied r t x).most ≡ r.most
 most_same r t (Ok (act.Opened c)) = refl
 most_same r t (Ok (act.Closed c None)) = refl
@@ -155,6 +160,7 @@ board-new os t a e = subst (λ (t : Rows). IsBoard os [] t) (sym e) (record {
   few = omega arith;
   numbered = sym (ap (numbered 0) (dones-nil os));
   most = refl;
+  places = length-replicate 4097 never;
   stands = subst (λ (ds : List Done). Stands (rows (replicate 4097 never) [] [] (length os)) ds) (sym (dones-nil os)) (record {
     opened = λ c h. ap (λ (e : Call). e.opened) (never_at 4097 c);
     closed = λ c h. ap (λ (e : Call). e.closed) (never_at 4097 c);
@@ -198,6 +204,7 @@ board-more os xs r o b z next n told =
       numbered = ap (λ ys. ys ++ x ∷ []) b.numbered ∙ ap (λ k. numbered 0 (dones os xs) ++ record { order = k; result = x.result } ∷ []) (let l = length-dones os xs b.few in omega arith)
           ∙ sym (ap (numbered 0) e ∙ numbered-more 0 (dones os xs) (record { order = o; result = x.result }));
       most = most_same r o.stamp x.result ∙ b.most;
+      places = calls_same r o.stamp x.result ∙ b.places;
       stands = subst (λ (ds : List Done). Stands (applied r o.stamp x.result) ds) (sym e) (stands_more r (dones os xs) o.stamp o.what b.stands z (last-before os xs o b.orders next) told n);
     }
 
@@ -237,6 +244,7 @@ board-told os xs r c at b z late o =
       few = b.few;
       numbered = b.numbered;
       most = b.most;
+      places = length-set r.calls c e ∙ b.places;
       stands = record {
         opened = λ k h. field_kept (λ (x : Call). x.opened) r.calls c e refl k ∙ b.stands.opened k h;
         closed = λ k h. field_kept (λ (x : Call). x.closed) r.calls c e refl k ∙ b.stands.closed k h;

@@ -2,7 +2,7 @@
 use Rattle.std.proofs.Common.{◌≡◌, refl, sym, ap, ◌∙◌, subst, ℕ, ◌<◌, ◌≤◌, Bool, true, false, Option, Some, None, List, [], ◌∷◌, ◌++◌, length, arith, inl, inr}
 use Rattle.std.specs.Prelude.{Result, Ok, Err, not, ◌&&◌, ◌||◌, ◌==◌, if◌then◌else◌, is_some, option_map, find, IfOk, IfSome, OnErr}
 use Rattle.std.proofs.lemmas.Bool.{cases_lt, eqb-true}
-use Rattle.std.proofs.lemmas.List.{length-map, length-set}
+use Rattle.std.proofs.lemmas.List.{length-set}
 use Rattle.std.proofs.lemmas.List.Elements.{All-from_get_or}
 use Rattle.trau_orders.specs.declared.order.Order.{Order}
 use Rattle.trau_orders.specs.declared.order.What.{What}
@@ -29,7 +29,7 @@ use Rattle.switchboard.proofs.Tables.{joins_left, joins_right, table_parted, bri
 use Rattle.switchboard.proofs.Replies.{IsRefused, Joined, open_accepted, close_accepted, bridge_accepted, unbridge_accepted, level_accepted, dtx_accepted}
 use Rattle.switchboard.proofs.Moves.{IsSome_before, latest_live, never_opened, bridge_found, over_before}
 use Rattle.switchboard.proofs.Partners.{partner_in, was_opened, past, named, latest_any, latest_at, latest_is, partner_some, other_a, other_b, this_pair, pairs_in, shut_open, shut_partner, parted_partner, bridged_partner, opened_was, opened_open, opened_partner}
-use Rattle.switchboard.proofs.Boards.{Ready, reply_at, gone_same, told_is, told_same, last-before, next_of, told_of, execute_board}
+use Rattle.switchboard.proofs.Boards.{Ready, reply_at, gone_same, told_is, calls_same, last-before, next_of, told_of, execute_board}
 
 -- ---- an accepted order, in the table
 
@@ -211,6 +211,10 @@ sized_by r now s len = record {
   named = λ k l. let x = bridge_at_place r k in (named r now x.a k s len l (joins_left x.a x refl), named r now x.b k s len l (joins_right x.b x refl));
 }
 
+-- the places and numbers that a board's table keeps are there
+pub board_sized : (os : List Order) (xs : List Reply) (r : Rows) → IsBoard os xs r → IsSized r.calls r.bridges
+board_sized os xs r b = sized_by r _ b.stands.table b.places
+
 opened_agrees : (r : Rows) (ds : List Done) (c : ℕ) → Stands r ds → length r.calls ≡ 4097 → is_some (opened_at c ds) ≡ was_opened r c
 opened_agrees r ds c s len = elim (cases_lt c 4097) [
   | inl h ↦ sym (ap is_some (s.opened c h))
@@ -268,11 +272,6 @@ changes r n s m t a x y v = record {
 pub each_ok : (x : Result Act Refusal) (P Q : Act → Type 0) → ((a : Act) → P a → Q a) → IfOk x P → IfOk x Q
 each_ok (Ok a) P Q h p = h a p
 each_ok (Err e) P Q h p = tt
-
-calls_same : (r : Rows) (t : ℕ) (x : Result Act Refusal) → length (applied r t x).calls ≡ length r.calls
-calls_same r t x =
-    let gone : Call → Option ℕ = λ e. e.gone in
-    sym (length-map (applied r t x).calls gone) ∙ ap length (told_same r t x) ∙ length-map r.calls gone
 
 -- an order
 pub execute_changes : (os : List Order) (xs ys : List Reply) (r n : Rows) (s : State) (o : Order) (x : Result Act Refusal) → Ready os xs r s o → x ≡ reply_from (known_in r o.stamp) o.what →

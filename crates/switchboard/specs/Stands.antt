@@ -62,11 +62,14 @@ dones _ _ = []
 abbrev pub state_of : List Order → List Reply → Rows → State
 state_of os xs r = record { left = drop (length xs) os; done = dones os xs; told = map (λ e. e.gone) r.calls }
 
+-- orders, the replies to the first of them and a table stand for a board: the table is that of these replies, with a place
+-- for each call number
 pub record IsBoard (os : List Order) (xs : List Reply) (r : Rows) : Type 0 where
   pub orders : AreOrders os
   pub few : length xs ≤ length os
   pub numbered : xs ≡ numbered 0 (dones os xs)
   pub most : r.most ≡ length os
+  pub places : length r.calls ≡ 4097
   pub stands : Stands r (dones os xs)
 
 -- no stamp of a list is below the first

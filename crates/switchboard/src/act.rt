@@ -31,7 +31,7 @@ pub enum Act {
     Bridged { a: u32, b: u32 },
     /// The two calls stand as the order that made the bridge named them.
     Unbridged { a: u32, b: u32 },
-    /// The level from which the call's samples count as speech, 0 to 32,767.
+    /// The peak from which a frame of the call counts as speech, 0 to 32,767.
     LevelSet { call: u32, level: i16 },
     DtxSet { call: u32, mode: DtxMode },
 }

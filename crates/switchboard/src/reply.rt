@@ -1,12 +1,12 @@
 // The reply to an order, from the table: the tests of the order one after another, of which the first that fails
 // refuses it.
 
-ghost use Rattle.std.specs.Prelude.{◌≡◌, ◌<◌, length};
+ghost use Rattle.std.specs.Prelude.{◌≡◌, ◌<◌, ℕ, not, option_map, length};
 ghost use Rattle.std.specs.List.{filter_map};
 ghost use Rattle.trau_orders.specs.Lists.{NamesCalls};
 ghost use Rattle.switchboard.specs.Bridges.{other};
-ghost use Rattle.switchboard.specs.Replies.{not_open, bridged, draining, reply_from};
-ghost use Rattle.switchboard.specs.Rows.{known_in, passes, span_in, applied};
+ghost use Rattle.switchboard.specs.Replies.{refuse_if, draining, reply_from};
+ghost use Rattle.switchboard.specs.Rows.{is_open_in, bridge_in, known_in, passes, span_in, applied};
 ghost use Rattle.switchboard.specs.Stands.{InTable};
 
 use crate::table::{Bridge, Table};
@@ -20,18 +20,17 @@ impl Table {
         ensures value { result ≡ reply_from (known_in self.now order.now.stamp) order.now.what }
         ensures calls { InTable result }
     {
-        let stamp = order.stamp;
         match order.what {
-            What::OpenCall(call) => self.open_reply(call, stamp),
-            What::CloseCall(call) => self.close_reply(call, stamp),
-            What::Bridge(a, b) => self.bridge_reply(a, b, stamp),
-            What::Unbridge(call) => self.unbridge_reply(call, stamp),
+            What::OpenCall(call) => self.open_reply(call),
+            What::CloseCall(call) => self.close_reply(call),
+            What::Bridge(a, b) => self.bridge_reply(a, b, order.stamp),
+            What::Unbridge(call) => self.unbridge_reply(call),
             What::Level(call, level) => {
-                self.must_be_open(call, stamp)?;
+                self.must_be_open(call)?;
                 Ok(Act::LevelSet { call, level })
             }
             What::Dtx(call, mode) => {
-                self.must_be_open(call, stamp)?;
+                self.must_be_open(call)?;
                 Ok(Act::DtxSet { call, mode })
             }
         }
@@ -59,9 +58,9 @@ impl Table {
         }
     }
 
-    fn open_reply(&self, call: u32, stamp: u32) -> Result<Act, Refusal>
+    fn open_reply(&self, call: u32) -> Result<Act, Refusal>
         requires { call < 4097 }
-        ensures value { result ≡ reply_from (known_in self.now stamp) (What.OpenCall call) }
+        ensures value { (t : ℕ) → result ≡ reply_from (known_in self.now t) (What.OpenCall call) }
         ensures calls { InTable result }
     {
         if self.is_open(call) {
@@ -73,16 +72,13 @@ impl Table {
         Ok(Act::Opened { call })
     }
 
-    fn close_reply(&self, call: u32, stamp: u32) -> Result<Act, Refusal>
+    fn close_reply(&self, call: u32) -> Result<Act, Refusal>
         requires { call < 4097 }
-        ensures value { result ≡ reply_from (known_in self.now stamp) (What.CloseCall call) }
+        ensures value { (t : ℕ) → result ≡ reply_from (known_in self.now t) (What.CloseCall call) }
         ensures calls { InTable result }
     {
-        self.must_be_open(call, stamp)?;
-        let partner = match self.bridge_of(call) {
-            None => None,
-            Some(bridge) => Some(bridge.other(call)),
-        };
+        self.must_be_open(call)?;
+        let partner = self.bridge_of(call).map(|bridge| bridge.other(call));
         Ok(Act::Closed { call, partner })
     }
 
@@ -95,21 +91,21 @@ impl Table {
         if a == b {
             return Err(Refusal::SameCall { call: a });
         }
-        self.must_be_open(a, stamp)?;
-        self.must_be_open(b, stamp)?;
-        self.must_be_alone(a, stamp)?;
-        self.must_be_alone(b, stamp)?;
+        self.must_be_open(a)?;
+        self.must_be_open(b)?;
+        self.must_be_alone(a)?;
+        self.must_be_alone(b)?;
         self.must_not_drain(a, stamp)?;
         self.must_not_drain(b, stamp)?;
         Ok(Act::Bridged { a, b })
     }
 
-    fn unbridge_reply(&self, call: u32, stamp: u32) -> Result<Act, Refusal>
+    fn unbridge_reply(&self, call: u32) -> Result<Act, Refusal>
         requires { call < 4097 }
-        ensures value { result ≡ reply_from (known_in self.now stamp) (What.Unbridge call) }
+        ensures value { (t : ℕ) → result ≡ reply_from (known_in self.now t) (What.Unbridge call) }
         ensures calls { InTable result }
     {
-        self.must_be_open(call, stamp)?;
+        self.must_be_open(call)?;
         match self.bridge_of(call) {
             None => Err(Refusal::NotBridged { call }),
             Some(bridge) => Ok(Act::Unbridged {
@@ -119,9 +115,9 @@ impl Table {
         }
     }
 
-    fn must_be_open(&self, call: u32, stamp: u32) -> Result<(), Refusal>
+    fn must_be_open(&self, call: u32) -> Result<(), Refusal>
         requires { call < 4097 }
-        ensures { result ≡ passes (not_open (known_in self.now stamp) call) }
+        ensures { result ≡ passes (refuse_if (not (is_open_in self.now call)) (Refusal.NotOpen call)) }
     {
         if self.is_open(call) {
             Ok(())
@@ -130,9 +126,9 @@ impl Table {
         }
     }
 
-    fn must_be_alone(&self, call: u32, stamp: u32) -> Result<(), Refusal>
+    fn must_be_alone(&self, call: u32) -> Result<(), Refusal>
         requires { call < 4097 }
-        ensures { result ≡ passes (bridged (known_in self.now stamp) call) }
+        ensures { result ≡ passes (option_map (λ x. Refusal.Bridged call (other call x)) (bridge_in self.now call)) }
     {
         match self.bridge_of(call) {
             None => Ok(()),

@@ -2,7 +2,7 @@
 
 ghost use Rattle.std.specs.Prelude.{◌≡◌, ◌<◌, ◌≤◌, [], length, IfOk, IfSome, replicate, slice_set};
 ghost use Rattle.std.specs.List.{filter_map, insert};
-ghost use Rattle.switchboard.specs.Rows.{IsSized, never, call_in, bridge_at_place, ended_at_place, is_open_in, has_ended_in, bridge_in, bridge_ended_in, end_in, span_in, position_in, opened_in, closed_in, bridged_in, parted_in, spans_ended_in, gone_in_rows, call_ended_in};
+ghost use Rattle.switchboard.specs.Rows.{never, call_in, bridge_at_place, ended_at_place, is_open_in, has_ended_in, bridge_in, bridge_ended_in, end_in, span_in, position_in, opened_in, closed_in, bridged_in, parted_in, spans_ended_in, gone_in_rows, call_ended_in};
 ghost use Rattle.switchboard.specs.Ends.{least, span_to};
 
 use crate::Span;
@@ -74,13 +74,6 @@ impl Table {
         })
     }
 
-    /// Hands on that there is a place for each call number: a caller sees no more than the rows of a table.
-    pub fn sized(&self)
-        ensures { IsSized self.now.calls self.now.bridges }
-    {
-        let _ = &self.calls;
-    }
-
     /// The spans of the bridges that have ended.
     pub fn spans(&self) -> &[Span]
         ensures { result.now ≡ self.now.spans }
@@ -95,7 +88,7 @@ impl Table {
         ensures { result ≡ is_open_in self.now call }
     {
         let call = self.calls[call as usize];
-        call.opened.is_some() && !call.closed.is_some() && !call.gone.is_some()
+        call.opened.is_some() && call.closed.is_none() && call.gone.is_none()
     }
 
     pub fn has_ended(&self, call: u32) -> bool

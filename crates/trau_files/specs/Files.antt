@@ -1,20 +1,14 @@
 -- Lines as files: their names, and what is known of them (this project's profile).
-use Rattle.std.specs.Prelude.{◌≡◌, ℕ, ◌+◌, ◌-◌, ◌^◌, min, List, ◌++◌, Option, Some, None, Result, Ok, Err, codes, decimal, slice_get}
+use Rattle.std.specs.Prelude.{◌≡◌, ℕ, ◌+◌, ◌-◌, ◌^◌, min, List, ◌++◌, Option, Some, None, Result, Ok, Err, codes, decimal, slice_get, slice_set}
 use Rattle.trau_io.specs.declared.line.Failed.{Failed}
 use Rattle.trau_io.specs.declared.line.Side.{Side}
-use Rattle.trau_io.specs.declared.line.Side.TheVariants.{Up, Pcm, Down, Out}
 use Rattle.trau_io.specs.Lines.{LineState}
 use Rattle.trau_io.specs.Places.{place_of}
+use Rattle.trau_io.specs.Texts.{side_word}
 
-abbrev pub ending_of : Side → List ℕ
-ending_of Up = codes ".up"
-ending_of Pcm = codes ".pcm"
-ending_of Down = codes ".down"
-ending_of Out = codes ".out"
-
--- the name of a line's file: the call's number, a dot and the side
+-- the name of a line's file: the call's number, a dot and the side's word
 abbrev pub file_name : ℕ → Side → List ℕ
-file_name call side = decimal call ++ ending_of side
+file_name call side = decimal call ++ (codes "." ++ side_word side)
 
 -- a line in a file: how many octets were read and written, and how often it failed
 pub record FileLine : Type 0 where
@@ -67,3 +61,22 @@ StandsAt file call side at = file ≡ Some (record { call = call; side = side; a
 abbrev pub open_after : {E : Type 0} → ℕ → Side → ℕ → Result ℕ E → Option OpenLine
 open_after call side at (Ok n) = Some (record { call = call; side = side; at = raised at n })
 open_after call side at (Err e) = None
+
+-- all lines, and the files that are open
+pub record TrunkFiles : Type 0 where
+  pub lines : List FileLine
+  pub files : OpenFiles
+
+-- the trunk after a read of a line that stood so, with this answer: it took the line's next octets, and nothing else
+abbrev pub trunk_after_read : TrunkFiles → ℕ → Side → FileLine → Result ℕ Failed → TrunkFiles
+trunk_after_read t call side l result = record {
+  lines = slice_set t.lines (place_of call side) (after_read l result);
+  files = record t.files { reading = open_after call side l.read result };
+}
+
+-- the trunk after a write of a line that stood so, with this answer: it went behind the octets written before
+abbrev pub trunk_after_write : TrunkFiles → ℕ → Side → FileLine → Result ℕ Failed → TrunkFiles
+trunk_after_write t call side l result = record {
+  lines = slice_set t.lines (place_of call side) (after_write l result);
+  files = record t.files { writing = open_after call side l.written result };
+}

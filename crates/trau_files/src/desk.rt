@@ -2,7 +2,7 @@
 ghost use Rattle.std.specs.Prelude.{◌≡◌};
 ghost use Rattle.trau_io.specs.Desks.{DeskState};
 
-use crate::retry::{read_again, write_again};
+use crate::retry::{read_again, write_some};
 use std::io::{Read, Write};
 use std::marker::Model;
 use trau_io::{Desk, Failed};
@@ -51,10 +51,9 @@ impl<R: Read + Drop, W: Write + Drop> Desk for StdDesk<R, W> {
     }
 
     fn write(&mut self, bytes: &[u8]) -> Result<usize, Failed> {
-        match write_again(&mut self.output, bytes) {
-            // A writer that takes nothing would be asked for ever.
-            Ok(count) if count > 0 => Ok(count),
-            _ => {
+        match write_some(&mut self.output, bytes) {
+            Ok(count) => Ok(count),
+            Err(_) => {
                 self.write_faults = self.write_faults.saturating_add(1);
                 Err(Failed)
             }

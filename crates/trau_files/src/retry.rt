@@ -28,8 +28,8 @@ pub fn read_again<R: Read>(reader: &mut R, buf: &mut [u8]) -> io::Result<usize>
     Err(io::Error::from(ErrorKind::Interrupted))
 }
 
-/// One write, made again where a signal interrupted it.
-pub fn write_again<W: Write>(writer: &mut W, bytes: &[u8]) -> io::Result<usize>
+// One write, made again where a signal interrupted it.
+fn write_again<W: Write>(writer: &mut W, bytes: &[u8]) -> io::Result<usize>
     ensures bound { WritesAtMost result bytes.now }
     ensures octets { WriteAppends (W.contents writer.old) (W.contents writer.new) result bytes.now }
 {
@@ -47,6 +47,7 @@ pub fn write_again<W: Write>(writer: &mut W, bytes: &[u8]) -> io::Result<usize>
 pub fn write_some<W: Write>(writer: &mut W, bytes: &[u8]) -> io::Result<usize>
     ensures some { IfOk result (λ n. 0 < n) }
     ensures bound { WritesAtMost result bytes.now }
+    ensures octets { WriteAppends (W.contents writer.old) (W.contents writer.new) result bytes.now }
 {
     match write_again(writer, bytes) {
         Ok(0) => Err(io::Error::from(ErrorKind::WriteZero)),

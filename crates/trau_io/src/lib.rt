@@ -3,12 +3,13 @@
 //! Below everything that reads or writes: tools, rounds and the top call move octets through the two
 //! traits of this crate and know nothing else of the outside. `MemTrunk` and `MemDesk` hold everything
 //! in memory and tell all of it, with cuts, failures and room set by their maker; files and the
-//! standard streams stand in the program's own crate. Beside the traits stand the plain values that tell
-//! a call's end and its counts.
+//! standard streams stand in `trau_files`. Beside the traits stand the plain values that tell a call's
+//! end and its counts.
 //!
 //! The meanings of lines and desks, and all limits, are this project's profile.
 //! Definitions: `specs/Lines.antt` and `specs/Desks.antt` (what one call does), `specs/Transfer.antt`
-//! (what a whole transfer does), `specs/Memory.antt` (lines in memory), `specs/Places.antt` (tables of all lines).
+//! (what a whole transfer does), `specs/Memory.antt` (lines in memory), `specs/Places.antt` (tables of all lines),
+//! `specs/Texts.antt` (how texts name a line).
 #![tactic(auto)]
 
 mod desk;

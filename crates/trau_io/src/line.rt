@@ -14,6 +14,24 @@ pub enum Side {
     Out,
 }
 
+impl Side {
+    ghost use Rattle.std.specs.Prelude.{◌≡◌, length};
+    ghost use Rattle.trau_io.specs.Texts.{side_word};
+
+    /// The word for the side, in texts and in the names of files.
+    pub fn word(self) -> &'static str
+        ensures word { result.now ≡ side_word self }
+        ensures short { length result.now ≤ 4 }
+    {
+        match self {
+            Side::Up => "up",
+            Side::Pcm => "pcm",
+            Side::Down => "down",
+            Side::Out => "out",
+        }
+    }
+}
+
 /// A line: a call's number, 1 to 4,096, and a side.
 #[derive(Clone, Copy, Debug, PartialEq, Eq)]
 pub struct Line {

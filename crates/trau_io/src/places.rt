@@ -1,6 +1,7 @@
 // A table of all lines.
 ghost use Rattle.std.specs.Prelude.{◌≡◌, ◌<◌};
 ghost use Rattle.trau_io.specs.Places.{number_of_side, place_of};
+ghost use Rattle.trau_io.specs.declared.places.TheConstants.{PLACES};
 
 use crate::{Line, Side};
 
@@ -23,7 +24,7 @@ fn number_of(side: Side) -> usize
 /// The place of a line in a list of all lines.
 pub fn place(line: Line) -> usize
     ensures value { result ≡ place_of line.call line.side }
-    ensures within { result < 16388 }
+    ensures within { result < PLACES }
 {
     4 * line.call as usize + number_of(line.side)
 }

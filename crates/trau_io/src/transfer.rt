@@ -3,7 +3,7 @@ ghost use Rattle.std.specs.Prelude.{◌≤◌, length};
 ghost use Rattle.trau_io.specs.Lines.{OthersStay};
 ghost use Rattle.trau_io.specs.Transfer.{ReadsBlock, WritesAll, Tells};
 
-use crate::{Desk, Line, Trunk};
+use crate::{Desk, Failed, Line, Trunk};
 
 /// How a block was filled: wholly, or with so many octets before the line ended or failed.
 #[derive(Clone, Copy, Debug, PartialEq, Eq)]
@@ -30,30 +30,24 @@ pub fn read_block<T: Trunk>(trunk: &mut T, line: Line, block: &mut [u8]) -> Fill
 }
 
 /// Writes all the octets to a line, or a proper front of them where it fails.
-pub fn write_all<T: Trunk>(trunk: &mut T, line: Line, bytes: &[u8]) -> Result<(), crate::Failed>
+pub fn write_all<T: Trunk>(trunk: &mut T, line: Line, bytes: &[u8]) -> Result<(), Failed>
     ensures this { WritesAll (T.lines trunk.old line.call line.side) (T.lines trunk.new line.call line.side) result bytes.now }
     ensures others { OthersStay (T.lines trunk.old) (T.lines trunk.new) line.call line.side }
 {
     let mut sent = 0;
     while sent < bytes.len() {
-        match trunk.write(line, &bytes[sent..]) {
-            Ok(count) => sent += count,
-            Err(failed) => return Err(failed),
-        }
+        sent += trunk.write(line, &bytes[sent..])?;
     }
     Ok(())
 }
 
 /// Writes a whole text to the desk, or a proper front of it where the desk fails.
-pub fn tell<D: Desk>(desk: &mut D, text: &[u8]) -> Result<(), crate::Failed>
+pub fn tell<D: Desk>(desk: &mut D, text: &[u8]) -> Result<(), Failed>
     ensures { Tells (D.desk desk.old) (D.desk desk.new) result text.now }
 {
     let mut sent = 0;
     while sent < text.len() {
-        match desk.write(&text[sent..]) {
-            Ok(count) => sent += count,
-            Err(failed) => return Err(failed),
-        }
+        sent += desk.write(&text[sent..])?;
     }
     Ok(())
 }

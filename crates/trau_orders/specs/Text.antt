@@ -1,5 +1,5 @@
 -- The grammar of a text of orders, line by line (this project's profile).
-use Rattle.std.specs.Prelude.{ℕ, ◌+◌, ◌-◌, ◌<◌, ◌≤◌, ◌≡◌, ◌==◌, if◌then◌else◌, List, [], ◌∷◌, length, take}
+use Rattle.std.specs.Prelude.{ℕ, ◌+◌, ◌-◌, ◌<◌, ◌≤◌, ◌≡◌, ◌⊎◌, ◌==◌, if◌then◌else◌, List, [], ◌∷◌, length, take}
 use Rattle.std.specs.List.{onto_first}
 use Rattle.std.proofs.Common.{get_or}
 use Rattle.trau_orders.specs.declared.order.Order.{Order}
@@ -9,6 +9,14 @@ use Rattle.trau_orders.specs.Grammar.{IsLine}
 unfoldable pub text_lines : List ℕ → List (List ℕ)
 text_lines [] = []
 text_lines (b ∷ bs) = if b == 10 then [] ∷ text_lines bs else onto_first b (text_lines bs)
+
+-- a text within the limits: at most 1,048,576 octets and at most 65,536 lines
+abbrev pub IsWithin : List ℕ → Type 0
+IsWithin text = (length text ≤ 1048576) × (length (text_lines text) ≤ 65536)
+
+-- a text that isn't: more octets, or more lines
+abbrev pub IsBeyond : List ℕ → Type 0
+IsBeyond text = (1048576 < length text) ⊎ (65536 < length (text_lines text))
 
 -- these are the lines of these orders, one for one, and no stamp is below that of the line before
 pub record AreLines (lines : List (List ℕ)) (orders : List Order) : Type 0 where

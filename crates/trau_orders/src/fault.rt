@@ -1,4 +1,6 @@
 // Why a text of orders isn't taken.
+use crate::Order;
+use std::alloc::AllocFailed;
 use thiserror::Error;
 
 /// Why a text of orders isn't taken.
@@ -15,4 +17,15 @@ pub enum OrderFault {
     TooMany,
     #[error("no memory")]
     Memory,
+}
+
+impl From<AllocFailed<Order>> for OrderFault {
+    ghost use Rattle.std.specs.Prelude.{◌≡◌};
+    ghost use Rattle.trau_orders.specs.declared.fault.OrderFault.TheVariants.{Memory};
+
+    ghost from_gives = { λ _ fault. fault ≡ Memory };
+
+    fn from(_: AllocFailed<Order>) -> OrderFault {
+        OrderFault::Memory
+    }
 }

@@ -1,7 +1,8 @@
 // The orders of a run.
 ghost use Rattle.std.specs.Prelude.{◌≡◌, ◌<◌, ◌≤◌, ◌↔◌, ℕ, length, IfOk, IsErrOf};
 ghost use Rattle.trau_orders.specs.Lists.{AreOrders};
-ghost use Rattle.trau_orders.specs.Text.{text_lines, AreLines, IsFirstBad};
+ghost use Rattle.trau_orders.specs.Text.{text_lines, AreLines, IsFirstBad, IsWithin};
+ghost use Rattle.trau_orders.specs.declared.list.TheConstants.{MOST_OCTETS, MOST_LINES};
 
 use crate::text::{count_lines, orders_of};
 use crate::{Order, OrderFault};
@@ -35,10 +36,10 @@ impl Orders {
     /// `TooMany`, else one with a line that isn't in the grammar `Line`, with the number of the first.
     pub fn parse(alloc: Global, text: &[u8]) -> Result<Orders, OrderFault>
         ensures ok { IfOk result (λ orders. AreLines (text_lines text.now) orders) }
-        ensures few { IfOk result (λ orders. (length text.now ≤ 1048576) × (length (text_lines text.now) ≤ 65536)) }
-        ensures too_long { IsErrOf result OrderFault.TooLong ↔ (1048576 < length text.now) }
-        ensures too_many { IsErrOf result OrderFault.TooMany ↔ ((length text.now ≤ 1048576) × (65536 < length (text_lines text.now))) }
-        ensures bad { (n : ℕ) → IsErrOf result (OrderFault.Line n) → (length text.now ≤ 1048576) × (length (text_lines text.now) ≤ 65536) × IsFirstBad (text_lines text.now) n }
+        ensures within { IfOk result (λ orders. IsWithin text.now) }
+        ensures too_long { IsErrOf result OrderFault.TooLong ↔ (MOST_OCTETS < length text.now) }
+        ensures too_many { IsErrOf result OrderFault.TooMany ↔ ((length text.now ≤ MOST_OCTETS) × (MOST_LINES < length (text_lines text.now))) }
+        ensures bad { (n : ℕ) → IsErrOf result (OrderFault.Line n) → IsWithin text.now × IsFirstBad (text_lines text.now) n }
     {
         if text.len() > MOST_OCTETS {
             return Err(OrderFault::TooLong);

@@ -62,9 +62,7 @@ pub(crate) fn orders_of(alloc: Global, text: &[u8]) -> Result<Vec<Order>, OrderF
         let Some(order) = next_order(line, &orders) else {
             return Err(OrderFault::Line(orders.len() as u32 + 1));
         };
-        if orders.push(order).is_err() {
-            return Err(OrderFault::Memory);
-        }
+        orders.push(order)?;
         rest = after;
     }
     Ok(orders)

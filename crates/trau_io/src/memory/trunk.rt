@@ -2,6 +2,7 @@
 ghost use Rattle.std.specs.Prelude.{◌≡◌, ◌≢◌, ◌<◌, ◌≤◌, ℕ, List, [], Some, vec_len, length, All, slice_get, slice_index_or, slice_set, IfSome, IfOk, OnOk, OnErr};
 ghost use Rattle.trau_io.specs.Lines.{Reads, Writes, OthersStay};
 ghost use Rattle.trau_io.specs.Places.{place_of};
+ghost use Rattle.trau_io.specs.declared.places.TheConstants.{PLACES};
 ghost use Rattle.trau_io.specs.Memory.{MemoryLine, new_line, states_of, read_answer, write_answer, after_read, after_write};
 
 use super::line::MemLine;
@@ -20,13 +21,13 @@ impl Model for MemTrunk {
 
     ghost view = { λ t. t.lines.items };
 
-    ghost invariant = { λ t. vec_len t.lines ≡ 16388 };
+    ghost invariant = { λ t. vec_len t.lines ≡ PLACES };
 }
 
 impl MemTrunk {
     /// All lines empty, without room and without faults.
     pub fn new(alloc: Global) -> Result<MemTrunk, AllocError>
-        ensures number { IfOk result (λ t. length t ≡ 16388) }
+        ensures number { IfOk result (λ t. length t ≡ PLACES) }
         ensures each { IfOk result (λ t. All (λ l. l ≡ new_line [] [] [] 0) t) }
     {
         let mut lines = Vec::with_capacity(alloc, PLACES)?;

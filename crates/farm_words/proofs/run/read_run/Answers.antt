@@ -1,13 +1,14 @@
-use Rattle.std.proofs.Common.{refl, sym}
+use Rattle.std.proofs.Common.{sym}
+use Rattle.farm_words.proofs.Found.{found_ok, not_found}
 use Rattle.farm_words.proofs.Matched.{same_texts, read_rows, taken}
 use Rattle.farm_words.proofs.run.read_run.Goals as goal
 
-pub returns-in-Some-clause-ok : goal.returns-in-Some-clause-ok
-returns-in-Some-clause-ok c =
-    let read = read_rows _ _ _ c.in-Ok.ensures c.in-Ok-try_get_matches_from.ensures.matches in
-    record { taken = taken _ _ c.in-Ok.ensures c.in-Ok-try_get_matches_from.ensures.kinds; gives = same_texts _ _ _ read c.in-Some.ensures.some }
+pub returns-in-Ok-clause-ok : goal.returns-in-Ok-clause-ok
+returns-in-Ok-clause-ok c =
+    let read = read_rows _ _ _ c.in_ok-command.ensures c.in-Ok.ensures.matches in
+    found_ok _ _ _ _ _ c.ok_or.ensures.value c.settings_of.ensures.some (λ s gives. record { taken = taken _ _ c.in_ok-command.ensures c.in-Ok.ensures.kinds; gives = same_texts _ _ _ read gives })
 
-pub returns-in-Ok-try_get_matches_from-clause-usage : goal.returns-in-Ok-try_get_matches_from-clause-usage
-returns-in-Ok-try_get_matches_from-clause-usage c = λ usage s are.
-    let read = read_rows _ _ _ c.in-Ok.ensures c.in-Ok-try_get_matches_from.ensures.matches in
-    c.in-None.ensures.none refl s (same_texts _ _ s (λ id. sym (read id)) are.gives)
+pub returns-in-Ok-clause-usage : goal.returns-in-Ok-clause-usage
+returns-in-Ok-clause-usage c = λ usage s are.
+    let read = read_rows _ _ _ c.in_ok-command.ensures c.in-Ok.ensures.matches in
+    c.settings_of.ensures.none (not_found _ _ _ c.ok_or.ensures.value usage) s (same_texts _ _ s (λ id. sym (read id)) are.gives)

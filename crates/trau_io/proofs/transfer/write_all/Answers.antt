@@ -3,6 +3,6 @@ use Rattle.trau_io.proofs.transfer.write_all.Goals as goal
 
 pub loop-sent-preserved : goal.loop-sent-preserved
 loop-sent-preserved g c = record {
-  this = sent_more _ _ _ _ _ _ _ c.loop-sent.invariant.this c.in-Ok.ensures.this (rest_of c.loop-sent.sent c.args.bytes.now);
-  others = others_more _ _ _ _ _ c.loop-sent.invariant.others c.in-Ok.ensures.others;
+  this = sent_more _ _ _ _ _ _ _ c.loop-sent.invariant.this c.in_ok-sent.ensures.this (rest_of c.loop-sent.sent c.args.bytes.now);
+  others = others_more _ _ _ _ _ c.loop-sent.invariant.others c.in_ok-sent.ensures.others;
 }
