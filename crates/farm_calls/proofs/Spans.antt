@@ -80,7 +80,7 @@ abbrev spans_from : Run → ℕ → List Bridge → List Span
 spans_from r c xs = map (span_for r c) (filter (begins_in r c) (map (span_in r) xs))
 
 length-items : (r : Run) (c : ℕ) (x : board.Span) → length (span_for r c x).items ≡ x.to - x.from
-length-items r c x = length-map-range_with_len (item_in r (partner_in c x)) x.from (x.to - x.from)
+length-items r c x = length-map-range_with_len _ x.from (x.to - x.from)
 
 placed : (low s from to e items : ℕ) → low + s ≤ from → s ≤ from → from ≤ to → to ≤ e → from < e → items ≡ to - from →
     (low ≤ from - s) × (from - s < e - s) × (to - s ≤ e - s) × (from - s + items ≡ to - s)
