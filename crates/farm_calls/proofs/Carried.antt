@@ -9,10 +9,10 @@ use Rattle.switchboard.specs.declared.act.Span as board
 use Rattle.down_framer.specs.ByNumber.{when, count_from, item_of}
 use Rattle.call_output.specs.Call.{Call, Span}
 use Rattle.call_output.specs.Down.{bridge_of, first_frames, frame_at, HasItem}
-use Rattle.farm_output.specs.Run.{Run, spans_in, is_of}
+use Rattle.farm_output.specs.Run.{Run, spans_in, start_in, end_in, is_of}
 use Rattle.farm_output.proofs.Lists.{each_map, each_filter, each_passes, each_both, each_weaker}
-use Rattle.farm_calls.specs.Whole.{start_in, end_in, begins_in, span_for, whole_call, IsBridged}
-use Rattle.farm_calls.specs.Sent.{HasHanded}
+use Rattle.farm_calls.specs.Whole.{begins_in, span_for, whole_call, IsBridged}
+use Rattle.farm_calls.specs.Sent.{CarriesHanded}
 use Rattle.farm_calls.proofs.Spans.{LiesIn, spans_lie}
 
 -- the span that a carried item is of
@@ -48,7 +48,7 @@ spans_of_run r c a =
 
 -- **What a frame carries is handed over in a period of a bridge.**
 pub carried_only : (r : Run) (c j h : ℕ) → AreOrders r.orders → (frame_at (whole_call r c) j).carries ≡ Some h →
-    (x : board.Span) × IsBridged r c (start_in r c + h) x × HasHanded r c x (start_in r c + h) j
+    (x : board.Span) × IsBridged r c (start_in r c + h) x × CarriesHanded r c (start_in r c + h) x j
 carried_only r c j h a e =
     let call = whole_call r c in
     let s = item_span (IsSpanOf r c) call j h call.spans (spans_of_run r c a) e in

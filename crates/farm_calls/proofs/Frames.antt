@@ -37,9 +37,9 @@ use Rattle.call_output.specs.History.{IsCallHistory, call_of}
 use Rattle.call_output.proofs.Ranges.{IsPeriod}
 use Rattle.call_output.proofs.Reading.{LooksBack, yield-period, effective-period}
 use Rattle.call_output.proofs.Whole.{history-whole, call-whole}
-use Rattle.farm_output.specs.Run.{Run, done_in, partner_in, up_in, ups_to, item_of, heard_by, period_of, periods_to, periods_in}
+use Rattle.farm_output.specs.Run.{Run, done_in, start_in, end_in, partner_in, up_in, ups_to, item_of, heard_by, period_of, periods_to, periods_in}
 use Rattle.farm_output.proofs.Going.{ups_periods, item_ups}
-use Rattle.farm_calls.specs.Whole.{start_in, end_in, count_in, whole_call, IsBridged, item_for, yield_on, frame_on}
+use Rattle.farm_calls.specs.Whole.{count_in, whole_call, IsBridged, item_for, yield_on, frame_on}
 use Rattle.farm_calls.proofs.Periods.{is_whole, history_same}
 use Rattle.farm_calls.proofs.Items.{bridged_lies, partner_bridged, both_have, counted, item_found}
 

@@ -8,13 +8,13 @@ use Rattle.trau_orders.specs.Lists.{AreOrders}
 use Rattle.switchboard.specs.declared.act.Span as board
 use Rattle.switchboard.specs.declared.table.Bridge.{Bridge}
 use Rattle.switchboard.specs.Bridges.{bridges, joins}
-use Rattle.farm_output.specs.Run.{Run, whole_in, given_in, done_in, spans_in, is_of, partner_in, span_at, handed_to, ups_to, item_of}
+use Rattle.farm_output.specs.Run.{Run, whole_in, given_in, done_in, spans_in, start_in, end_in, is_of, partner_in, span_at, handed_to, ups_to, item_of}
 use Rattle.farm_output.proofs.Lists.{each_all, each_weaker, find_none, found, none_each, AtMostOne, one_weaker, one_found}
 use Rattle.farm_output.proofs.Standing.{Standing, NeverOverlap, IsSoundBridge, over_by}
 use Rattle.farm_output.proofs.Settling.{covers, to_of}
 use Rattle.farm_output.proofs.SoFar.{standing_end}
 use Rattle.farm_output.proofs.History.{over_within}
-use Rattle.farm_calls.specs.Whole.{start_in, end_in, item_in, IsBridged, item_for}
+use Rattle.farm_calls.specs.Whole.{item_in, IsBridged, item_for}
 use Rattle.farm_calls.proofs.Spans.{LiesIn, span_in, spans_lie, handed_in}
 
 -- ---- the span of a period
@@ -67,8 +67,11 @@ partner_bridged r c t x b = record { span = b.span; call = by (c == x.a); begun 
     by true = or_right (x.b == x.a) (x.b == x.b) (eq-eqb x.b x.b refl)
     by false = or_left (x.a == x.a) (x.a == x.b) (eq-eqb x.a x.a refl)
 
+pub span_lies : (r : Run) (c : ℕ) (x : board.Span) → AreOrders r.orders → Contains (spans_in r) x → is_of c x ≡ true → LiesIn r c x
+span_lies r c x a = All-contains (λ x. is_of c x ≡ true → LiesIn r c x) (spans_in r) x (All-from_recursion (λ x. is_of c x ≡ true → LiesIn r c x) (spans_in r) (spans_lie r c a))
+
 pub bridged_lies : (r : Run) (c t : ℕ) (x : board.Span) → AreOrders r.orders → IsBridged r c t x → LiesIn r c x
-bridged_lies r c t x a b = All-contains (λ x. is_of c x ≡ true → LiesIn r c x) (spans_in r) x (All-from_recursion (λ x. is_of c x ≡ true → LiesIn r c x) (spans_in r) (spans_lie r c a)) b.span b.call
+bridged_lies r c t x a b = span_lies r c x a b.span b.call
 
 pub has_period : (r : Run) (c t : ℕ) (x : board.Span) → AreOrders r.orders → IsBridged r c t x → (start_in r c ≤ t) × (t < end_in r c)
 has_period r c t x a b =

@@ -7,3 +7,4 @@ pub mod Places
 pub mod Sent
 pub mod Carried
 pub mod OnLine
+pub mod Going

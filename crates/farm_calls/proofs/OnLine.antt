@@ -1,27 +1,26 @@
 -- Where the bits of a frame stand on the Down line.
-use Rattle.std.proofs.Common.{◌≡◌, refl, sym, ap, ◌∙◌, ℕ, zero, suc, ◌+◌, ◌-◌, ◌*◌, ◌<◌, ◌≤◌, ℤ, pos, Option, Some, None, List, [], ◌∷◌, ◌++◌, length, reverse, replicate, get_or, inl, inr, arith, append_assoc, length-append}
+use Rattle.std.proofs.Common.{◌≡◌, refl, sym, ap, ◌∙◌, ℕ, zero, suc, ◌+◌, ◌-◌, ◌*◌, ◌<◌, ◌≤◌, Some, List, [], ◌∷◌, ◌++◌, length, reverse, replicate, get_or, inl, inr, arith, append_assoc, length-append}
 use Rattle.std.specs.List.{flat_map, zip}
 use Rattle.std.proofs.lemmas.Bool.{cases_lt}
 use Rattle.std.proofs.lemmas.List.{append-nil, length-reverse, length-replicate, length-take, get_or-take, get_or-append-add, get_or_append_left}
 use Rattle.std.proofs.lemmas.List.Concat.{flat_map-append}
 use Rattle.trau_frame.specs.DownFrame.{down_bits}
 use Rattle.trau_frame.proofs.Again.{length-down_bits}
-use Rattle.time_align.specs.Shift.{latest_shift}
 use Rattle.trau_orders.specs.Lists.{AreOrders}
 use Rattle.switchboard.specs.declared.act.Span as board
 use Rattle.down_framer.specs.Made.{frame_on_line}
-use Rattle.down_framer.specs.ByNumber.{when, fields_to, numbered_start}
+use Rattle.down_framer.specs.ByNumber.{numbered_start}
 use Rattle.down_framer.proofs.Store.{length-frame_on_line}
-use Rattle.call_output.specs.Call.{Call, periods, fields}
+use Rattle.call_output.specs.Call.{Call, periods}
 use Rattle.call_output.specs.Down.{first_frames, frame_at, made, down_frames, bits_on_line, line, down}
 use Rattle.call_output.proofs.Stretched.{reverse-more}
 use Rattle.call_output.proofs.Sending.{zip-more}
-use Rattle.farm_output.specs.Run.{Run}
-use Rattle.farm_calls.specs.Whole.{start_in, whole_call, IsBridged}
-use Rattle.farm_calls.specs.Sent.{frame_count, sent_frame, place_in, HasHanded}
+use Rattle.farm_output.specs.Run.{Run, start_in}
+use Rattle.farm_calls.specs.Whole.{whole_call}
+use Rattle.farm_calls.specs.Sent.{frame_count, sent_frame, place_in, Sends}
 use Rattle.farm_calls.proofs.Periods.{is_whole}
 use Rattle.farm_calls.proofs.Items.{bridged_lies}
-use Rattle.farm_calls.proofs.Places.{shift_allowed}
+use Rattle.farm_calls.proofs.Places.{shift_allowed, unshifted}
 use Rattle.farm_calls.proofs.Sent.{made_first, frame_sent, sent_more, length-sent, CarriesItems, handed_carried, frame_is}
 
 -- ---- the line, frame by frame
@@ -69,12 +68,6 @@ line_front call j (suc m) l = elim (cases_lt m j) [
 
 -- ---- a frame that carries an item
 
-unshifted : (call : Call) (j h : ℕ) → (frame_at call j).carries ≡ Some h → (frame_at call j).shift ≡ pos 0
-unshifted call j h e =
-    let before = first_frames call j in
-    let asked = latest_shift (fields_to (fields call) (when (numbered_start before)) before) in
-    ap (λ (o : Option ℕ). elim o as (λ x. ℤ) [ None ↦ asked | Some h ↦ pos 0 ]) e
-
 bit_on_line : (call : Call) (j h m k : ℕ) → j < m → k < 320 → (frame_at call j).carries ≡ Some h →
     get_or (line_to call m) (320 + 2 * (frame_at call j).start + k) 0 ≡ get_or (down_bits (frame_sent call j)) k 0
 bit_on_line call j h m k l b e =
@@ -89,13 +82,13 @@ bit_on_line call j h m k l b e =
     ∙ get_or-append-add (line_to call j) (bits ++ front.0) k 0 ∙ get_or_append_left bits front.0 0 k (omega arith)
 
 -- **Its bits stand on the Down line one after another.**
-pub handed_on_line : CarriesItems → (r : Run) (c t j k : ℕ) (x : board.Span) → AreOrders r.orders → IsBridged r c t x → j < frame_count r c → HasHanded r c x t j → k < 320 →
+pub handed_on_line : CarriesItems → (r : Run) (c t : ℕ) (x : board.Span) (j k : ℕ) → AreOrders r.orders → Sends r c t x j → k < 320 →
     place_in r c j + k < length (down (whole_call r c)) → get_or (down (whole_call r c)) (place_in r c j + k) 0 ≡ get_or (down_bits (sent_frame r c j)) k 0
-handed_on_line items r c t j k x a b l h m n =
+handed_on_line items r c t x j k a s m n =
     let call = whole_call r c in
-    let whole = is_whole r c a (bridged_lies r c t x a b).known in
+    let whole = is_whole r c a (bridged_lies r c t x a s.bridged).known in
     let long = length-take (320 * periods call) (line call (made call)) in
     get_or-take (320 * periods call) (line call (made call)) (place_in r c j + k) 0 (omega arith)
     ∙ ap (λ fs. get_or (line call fs) (place_in r c j + k) 0) (made_first call whole)
-    ∙ bit_on_line call j (t - start_in r c) (frame_count r c) k l m (handed_carried items r c t j x a b l h)
-    ∙ ap (λ f. get_or (down_bits f) k 0) (sym (frame_is r c t j x a b l))
+    ∙ bit_on_line call j (t - start_in r c) (frame_count r c) k s.made m (handed_carried items r c t x j a s)
+    ∙ ap (λ f. get_or (down_bits f) k 0) (sym (frame_is r c t x j a s))

@@ -12,13 +12,13 @@ use Rattle.call_leg.specs.Out.{out_of}
 use Rattle.call_output.specs.Call.{Setting, periods, setting_at}
 use Rattle.call_output.specs.History as call
 use Rattle.call_output.specs.Whole.{AreSpans, IsWhole, period_at, first_periods, history_of}
-use Rattle.farm_output.specs.Run.{Run, given_in, whole_in, done_in, period_of, periods_to, periods_in}
+use Rattle.farm_output.specs.Run.{Run, given_in, whole_in, done_in, start_in, end_in, period_of, periods_to, periods_in}
 use Rattle.farm_output.specs.Lines as run
 use Rattle.farm_output.proofs.SoFar.{standing_end}
 use Rattle.farm_output.proofs.Settling.{start_is}
 use Rattle.farm_output.proofs.Settled.{same_period}
 use Rattle.farm_output.proofs.History.{ends_within}
-use Rattle.farm_calls.specs.Whole.{start_in, end_in, count_in, setting_in, whole_call}
+use Rattle.farm_calls.specs.Whole.{count_in, setting_in, whole_call}
 use Rattle.farm_calls.proofs.Spans.{spans_ordered, starts_in, handed_in}
 
 -- ---- its lines
@@ -44,7 +44,7 @@ count_given r c a o =
 sized : (n up pcm : ℕ) → n ≤ min (up / 40) (pcm / 160) → (40 * n ≤ up) × (160 * n ≤ pcm)
 sized n up pcm l = (omega arith, omega arith)
 
-count_periods : (r : Run) (c : ℕ) → periods (whole_call r c) ≡ count_in r c
+pub count_periods : (r : Run) (c : ℕ) → periods (whole_call r c) ≡ count_in r c
 count_periods r c = length-map-range_with_len (λ k. setting_in r c (start_in r c + k)) 0 (count_in r c)
 
 -- **It is a whole call.**

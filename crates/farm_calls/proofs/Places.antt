@@ -1,10 +1,11 @@
 -- Which frame has which item: those from the first one made in the span on, one after another.
-use Rattle.std.proofs.Common.{◌≡◌, refl, sym, ap, ◌∙◌, subst, ℕ, zero, suc, ◌+◌, ◌-◌, ◌*◌, ◌<◌, ◌≤◌, Bool, true, false, ◌∷◌, length, map, inl, inr, ◌⊎◌, arith}
+use Rattle.std.proofs.Common.{◌≡◌, refl, sym, ap, ◌∙◌, subst, ℕ, zero, suc, ◌+◌, ◌-◌, ◌*◌, ◌<◌, ◌≤◌, ℤ, pos, Bool, true, false, Option, Some, None, ◌∷◌, length, map, inl, inr, ◌⊎◌, arith}
 use Rattle.std.specs.Prelude.{if◌then◌else◌, nat_le, filter, ◌↔◌}
 use Rattle.std.proofs.lemmas.Bool.{cases_Bool, cases_lt, lt-leb, le-leb, leb-true, leb-false}
 use Rattle.time_align.specs.Shift.{latest_shift, IsShift}
 use Rattle.time_align.proofs.Shifts.{IsShift-latest_shift}
-use Rattle.down_framer.specs.ByNumber.{when, count_from, item_of, fields_to, numbered_start}
+use Rattle.down_framer.specs.Made.{octets_of}
+use Rattle.down_framer.specs.ByNumber.{NumberedFrame, when, count_from, item_of, fields_to, numbered_start}
 use Rattle.down_framer.proofs.Timing.{octets_of-bounds, none_or}
 use Rattle.call_output.specs.Call.{Call, Span, fields}
 use Rattle.call_output.specs.Down.{bridge_of, first_frames, frame_at, HasItem}
@@ -13,7 +14,7 @@ use Rattle.farm_calls.specs.Sent.{IsFirst}
 
 -- ---- frames start one after another
 
-made_later : (call : Call) (i j : ℕ) → i ≤ j → when (frame_at call i).start ≤ when (frame_at call j).start
+pub made_later : (call : Call) (i j : ℕ) → i ≤ j → when (frame_at call i).start ≤ when (frame_at call j).start
 made_later call i j l = rounded (numbered_start (first_frames call i)) (numbered_start (first_frames call j)) (later_starts (map bridge_of call.spans) (fields call) i j l)
   where
     rounded : (a b : ℕ) → a ≤ b → when a ≤ when b
@@ -107,3 +108,58 @@ first_made call span =
   where
     rounded : (from start : ℕ) → 160 * from ≤ start → from ≤ when start
     rounded from start l = omega arith
+
+-- **It starts less than a period after the span.**
+pub first_start : (call : Call) (span : Span) (first : ℕ) → IsFirst call span first → (frame_at call first).start ≤ 160 * span.from + 156
+first_start call span zero f = omega arith
+first_start call span (suc n) f =
+    let before = f.first n (omega arith) in
+    let far = (octets_of-bounds (frame_at call n).shift (shift_allowed call n)).1 in
+    omega arith
+
+-- ---- frames that carry items start 160 octets after one another
+
+pub unshifted : (call : Call) (j h : ℕ) → (frame_at call j).carries ≡ Some h → (frame_at call j).shift ≡ pos 0
+unshifted call j h e =
+    let before = first_frames call j in
+    let asked = latest_shift (fields_to (fields call) (when (numbered_start before)) before) in
+    ap (λ (o : Option ℕ). elim o as (λ x. ℤ) [ None ↦ asked | Some h ↦ pos 0 ]) e
+
+pub item_start : (call : Call) (first m : ℕ) → ((i : ℕ) → i < m → (h : ℕ) × ((frame_at call (first + i)).carries ≡ Some h)) →
+    (frame_at call (first + m)).start ≡ (frame_at call first).start + 160 * m
+item_start call first zero h =
+    let e : first + 0 ≡ first = omega arith in
+    ap (λ k. (frame_at call k).start) e ∙ (let q : (frame_at call first).start ≡ (frame_at call first).start + 160 * 0 = omega arith in q)
+item_start call first (suc m) h =
+    let e : first + suc m ≡ suc (first + m) = omega arith in
+    let rest = item_start call first m (λ i l. h i (omega arith)) in
+    let item = h m (omega arith) in
+    ap (λ k. (frame_at call k).start) e
+    ∙ ap (λ shift. (frame_at call (first + m)).start + octets_of shift) (unshifted call (first + m) item.0 item.1)
+    ∙ (let q : (frame_at call (first + m)).start + 160 ≡ (frame_at call first).start + 160 * suc m = omega arith in q)
+
+-- ---- how many of the first frames are such
+
+abbrev pub count : (NumberedFrame → Bool) → Call → ℕ → ℕ
+count p call m = length (filter p (first_frames call m))
+
+pub count_more : (p : NumberedFrame → Bool) (call : Call) (k m : ℕ) → k ≤ m → count p call k ≤ count p call m
+count_more p call k zero l = let e : 0 ≡ k = omega arith in subst (λ k. count p call k ≤ count p call 0) e (omega arith)
+count_more p call k (suc m) l = elim (cases_lt m k) [
+  | inl now ↦ let e : suc m ≡ k = omega arith in subst (λ k. count p call k ≤ count p call (suc m)) e (omega arith)
+  | inr before ↦ by (p (frame_at call m)) (count_more p call k m before)
+]
+  where
+    by : (b : Bool) → count p call k ≤ count p call m → count p call k ≤ length (if b then frame_at call m ∷ filter p (first_frames call m) else filter p (first_frames call m))
+    by true rest = omega arith
+    by false rest = rest
+
+-- where m frames after one another are
+pub count_all : (p : NumberedFrame → Bool) (call : Call) (k m : ℕ) → ((i : ℕ) → i < m → p (frame_at call (k + i)) ≡ true) → m ≤ count p call (k + m)
+count_all p call k zero h = omega arith
+count_all p call k (suc m) h =
+    let e : suc (k + m) ≡ k + suc m = omega arith in
+    let rest = count_all p call k m (λ i l. h i (omega arith)) in
+    let one : count p call (suc (k + m)) ≡ suc (count p call (k + m)) =
+    ap (λ (b : Bool). length (if b then frame_at call (k + m) ∷ filter p (first_frames call (k + m)) else filter p (first_frames call (k + m)))) (h m (omega arith)) in
+    subst (λ n. suc m ≤ count p call n) e (omega arith)

@@ -21,9 +21,9 @@ use Rattle.call_output.proofs.Items.{made-in_order}
 use Rattle.call_output.proofs.Frames.{made-read, first-read}
 use Rattle.call_output.proofs.Sending.{frame_after, adds-frame}
 use Rattle.call_output.proofs.Whole.{history-whole, call-whole}
-use Rattle.farm_output.specs.Run.{Run, done_in, spans_in, is_of}
-use Rattle.farm_calls.specs.Whole.{start_in, end_in, begins_in, span_for, whole_call, IsBridged, item_for}
-use Rattle.farm_calls.specs.Sent.{frame_count, sent_frames, sent_frame, HasHanded, IsFirst}
+use Rattle.farm_output.specs.Run.{Run, done_in, spans_in, start_in, end_in, is_of}
+use Rattle.farm_calls.specs.Whole.{begins_in, span_for, whole_call, IsBridged, item_for}
+use Rattle.farm_calls.specs.Sent.{frame_count, sent_frames, sent_frame, CarriesHanded, Sends, IsFirst}
 use Rattle.farm_calls.proofs.Periods.{is_whole}
 use Rattle.farm_calls.proofs.Items.{bridged_lies}
 use Rattle.farm_calls.proofs.Places.{item_place, first_made}
@@ -83,7 +83,7 @@ each_sent r c a o = ap (λ fs. length (down_frames (whole_call r c) fs)) (made_f
 split_at : {X : Type 0} (xs : List X) (x : X) → Contains xs x → (front : List X) × (back : List X) × (xs ≡ front ++ x ∷ back)
 split_at xs x h = (take h.0 xs, drop (h.0 + 1) xs, sym (take-append-drop h.0 xs) ∙ ap (λ z. take h.0 xs ++ z) (drop_more xs h.0 x h.1 ∙ ap (λ y. y ∷ drop (h.0 + 1) xs) h.2))
 
-kept_among : {X Y : Type 0} (q : X → Bool) (f : X → Y) (xs : List X) (x : X) → Contains xs x → q x ≡ true → (front : List Y) × (back : List Y) × (map f (filter q xs) ≡ front ++ f x ∷ back)
+pub kept_among : {X Y : Type 0} (q : X → Bool) (f : X → Y) (xs : List X) (x : X) → Contains xs x → q x ≡ true → (front : List Y) × (back : List Y) × (map f (filter q xs) ≡ front ++ f x ∷ back)
 kept_among q f xs x h k =
     let s = split_at xs x h in (
       map f (filter q s.0),
@@ -91,7 +91,7 @@ kept_among q f xs x h k =
       ap (λ xs. map f (filter q xs)) s.2 ∙ ap (map f) (filter-append q s.0 (x ∷ s.1) ∙ ap (λ (b : Bool). filter q s.0 ++ (if b then x ∷ filter q s.1 else filter q s.1)) k) ∙ map-append f (filter q s.0) (x ∷ filter q s.1),
     )
 
-bridged_begins : (r : Run) (c t : ℕ) (x : board.Span) → AreOrders r.orders → IsBridged r c t x → begins_in r c x ≡ true
+pub bridged_begins : (r : Run) (c t : ℕ) (x : board.Span) → AreOrders r.orders → IsBridged r c t x → begins_in r c x ≡ true
 bridged_begins r c t x a b =
     let k = bridged_lies r c t x a b in
     and_from (is_of c x) (nat_lt x.from (end_in r c)) b.call (lt-ltb x.from (end_in r c) (within x.from t x.to (end_in r c) b.begun b.lasts k.over))
@@ -105,48 +105,46 @@ CarriesItems = (call : Call) (before after : List Span) (span : Span) (j i : ℕ
     (frame_at call j).carries ≡ Some (span.from + i)
 
 -- **The frame that has what is handed over in a period carries that period.**
-pub handed_carried : CarriesItems → (r : Run) (c t j : ℕ) (x : board.Span) → AreOrders r.orders → IsBridged r c t x → j < frame_count r c → HasHanded r c x t j →
-    (frame_at (whole_call r c) j).carries ≡ Some (t - start_in r c)
-handed_carried items r c t j x a b l h =
-    let k = bridged_lies r c t x a b in
-    let among = kept_among (begins_in r c) (span_for r c) (spans_in r) x b.span (bridged_begins r c t x a b) in
-    items (whole_call r c) among.0 among.1 (span_for r c x) j (t - x.from) (is_whole r c a k.known) among.2 l h ∙ ap Some (counted (start_in r c) x.from t k.opened b.begun)
+pub handed_carried : CarriesItems → (r : Run) (c t : ℕ) (x : board.Span) (j : ℕ) → AreOrders r.orders → Sends r c t x j → (frame_at (whole_call r c) j).carries ≡ Some (t - start_in r c)
+handed_carried items r c t x j a s =
+    let k = bridged_lies r c t x a s.bridged in
+    let among = kept_among (begins_in r c) (span_for r c) (spans_in r) x s.bridged.span (bridged_begins r c t x a s.bridged) in
+    items (whole_call r c) among.0 among.1 (span_for r c x) j (t - x.from) (is_whole r c a k.known) among.2 s.made s.carries ∙ ap Some (counted (start_in r c) x.from t k.opened s.bridged.begun)
   where
     counted : (s from t : ℕ) → s ≤ from → from ≤ t → from - s + (t - from) ≡ t - s
     counted s from t k l = omega arith
 
-pub frame_is : (r : Run) (c t j : ℕ) (x : board.Span) → AreOrders r.orders → IsBridged r c t x → j < frame_count r c → sent_frame r c j ≡ frame_sent (whole_call r c) j
-frame_is r c t j x a b l =
+pub frame_is : (r : Run) (c t : ℕ) (x : board.Span) (j : ℕ) → AreOrders r.orders → Sends r c t x j → sent_frame r c j ≡ frame_sent (whole_call r c) j
+frame_is r c t x j a s =
     let call = whole_call r c in
-    let whole = is_whole r c a (bridged_lies r c t x a b).known in
-    ap (λ fs. get_or (down_frames call fs) j Idle) (made_first call whole) ∙ sent_at call (frame_count r c) j l
+    let whole = is_whole r c a (bridged_lies r c t x a s.bridged).known in
+    ap (λ fs. get_or (down_frames call fs) j Idle) (made_first call whole) ∙ sent_at call (frame_count r c) j s.made
 
 -- **It is the speech frame of what is handed over.**
-pub sent_handed : CarriesItems → (r : Run) (c t j : ℕ) (x : board.Span) (item : List ℕ) → AreOrders r.orders → IsBridged r c t x → j < frame_count r c → HasHanded r c x t j → item_for r c t ≡ Some item →
-    sent_frame r c j ≡ Speech item true
-sent_handed items r c t j x item a b l h e =
-    frame_is r c t j x a b l ∙ carrying (whole_call r c) j (t - start_in r c) (handed_carried items r c t j x a b l h) ∙ ap (λ o. Speech (unwrap_or o []) true) e
+pub sent_handed : CarriesItems → (r : Run) (c t : ℕ) (x : board.Span) (j : ℕ) (item : List ℕ) → AreOrders r.orders → Sends r c t x j → item_for r c t ≡ Some item → sent_frame r c j ≡ Speech item true
+sent_handed items r c t x j item a s e =
+    frame_is r c t x j a s ∙ carrying (whole_call r c) j (t - start_in r c) (handed_carried items r c t x j a s) ∙ ap (λ o. Speech (unwrap_or o []) true) e
 
 -- ---- in order, and once
 
 -- **What is handed over in a period goes out in the first frame made in the span, or as many frames after it.**
-pub handed_place : (r : Run) (c t first j : ℕ) (x : board.Span) → AreOrders r.orders → IsBridged r c t x → IsFirst (whole_call r c) (span_for r c x) first → HasHanded r c x t j ↔ (j ≡ first + (t - x.from))
-handed_place r c t first j x a b f =
+pub handed_place : (r : Run) (c t : ℕ) (x : board.Span) (first j : ℕ) → AreOrders r.orders → IsBridged r c t x → IsFirst (whole_call r c) (span_for r c x) first → CarriesHanded r c t x j ↔ (j ≡ first + (t - x.from))
+handed_place r c t x first j a b f =
     let k = bridged_lies r c t x a b in
     item_place (whole_call r c) (span_for r c x) first j (t - x.from) f (within (start_in r c) x.from t x.to k.opened b.begun b.lasts)
   where
     within : (s from t to : ℕ) → s ≤ from → from ≤ t → t < to → t - from < (to - s) - (from - s)
     within s from t to k l m = omega arith
 
-pub handed_in_order : (r : Run) (c t u j k : ℕ) (x : board.Span) → AreOrders r.orders → IsBridged r c t x → IsBridged r c u x → HasHanded r c x t j → HasHanded r c x u k → t < u → j < k
-handed_in_order r c t u j k x a b d h g l =
+pub handed_in_order : (r : Run) (c t u : ℕ) (x : board.Span) (j k : ℕ) → AreOrders r.orders → IsBridged r c t x → IsBridged r c u x → CarriesHanded r c t x j → CarriesHanded r c u x k → t < u → j < k
+handed_in_order r c t u x j k a b d h g l =
     let f = first_made (whole_call r c) (span_for r c x) in
-    ordered x.from t u f.0 j k b.begun l ((handed_place r c t f.0 j x a b f.1).0 h) ((handed_place r c u f.0 k x a d f.1).0 g)
+    ordered x.from t u f.0 j k b.begun l ((handed_place r c t x f.0 j a b f.1).0 h) ((handed_place r c u x f.0 k a d f.1).0 g)
   where
     ordered : (from t u first j k : ℕ) → from ≤ t → t < u → j ≡ first + (t - from) → k ≡ first + (u - from) → j < k
     ordered from t u first j k l m p q = omega arith
 
-pub handed_once : (r : Run) (c t j k : ℕ) (x : board.Span) → AreOrders r.orders → IsBridged r c t x → HasHanded r c x t j → HasHanded r c x t k → j ≡ k
-handed_once r c t j k x a b h g =
+pub handed_once : (r : Run) (c t : ℕ) (x : board.Span) (j k : ℕ) → AreOrders r.orders → IsBridged r c t x → CarriesHanded r c t x j → CarriesHanded r c t x k → j ≡ k
+handed_once r c t x j k a b h g =
     let f = first_made (whole_call r c) (span_for r c x) in
-    (handed_place r c t f.0 j x a b f.1).0 h ∙ sym ((handed_place r c t f.0 k x a b f.1).0 g)
+    (handed_place r c t x f.0 j a b f.1).0 h ∙ sym ((handed_place r c t x f.0 k a b f.1).0 g)

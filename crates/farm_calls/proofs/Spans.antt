@@ -12,13 +12,13 @@ use Rattle.switchboard.specs.Bridges.{bridges, joins}
 use Rattle.switchboard.specs.Ends.{span_of}
 use Rattle.call_output.specs.Call.{Span, item_at, starts_at}
 use Rattle.call_output.specs.Whole.{AreSpans}
-use Rattle.farm_output.specs.Run.{Run, whole_in, given_in, done_in, spans_in, is_of, partner_in, handed_to}
+use Rattle.farm_output.specs.Run.{Run, whole_in, given_in, done_in, spans_in, start_in, end_in, is_of, partner_in, handed_to}
 use Rattle.farm_output.proofs.Lists.{each_both, each_map, each_weaker}
 use Rattle.farm_output.proofs.Standing.{Standing, IsSoundBridge, NeverOverlap, over_by}
 use Rattle.farm_output.proofs.Settling.{start_is, to_of, covers}
 use Rattle.farm_output.proofs.SoFar.{standing_end}
 use Rattle.farm_output.proofs.History.{over_within}
-use Rattle.farm_calls.specs.Whole.{start_in, end_in, count_in, item_in, begins_in, span_for, spans_for}
+use Rattle.farm_calls.specs.Whole.{count_in, item_in, begins_in, span_for, spans_for}
 use Rattle.farm_calls.proofs.InTime.{IsInTime, bridges_in_time, ends_after}
 
 -- ---- a bridge's span within a call
@@ -80,7 +80,7 @@ abbrev spans_from : Run → ℕ → List Bridge → List Span
 spans_from r c xs = map (span_for r c) (filter (begins_in r c) (map (span_in r) xs))
 
 length-items : (r : Run) (c : ℕ) (x : board.Span) → length (span_for r c x).items ≡ x.to - x.from
-length-items r c x = length-map-range_with_len (item_in r (partner_in c x)) x.from (x.to - x.from)
+length-items r c x = length-map-range_with_len _ x.from (x.to - x.from)
 
 placed : (low s from to e items : ℕ) → low + s ≤ from → s ≤ from → from ≤ to → to ≤ e → from < e → items ≡ to - from →
     (low ≤ from - s) × (from - s < e - s) × (to - s ≤ e - s) × (from - s + items ≡ to - s)

@@ -1,5 +1,5 @@
--- The frames of a call's downlink, and which of them has what its partner hands over in a period. Frames are numbered
--- from 0.
+-- The frames of a call's downlink, and which of them carries what its partner hands over in a period. Frames are
+-- numbered from 0.
 use Rattle.std.specs.Prelude.{◌≤◌, ◌<◌, ℕ, ◌+◌, ◌-◌, ◌*◌, List, length, slice_index_or}
 use Rattle.trau_frame.specs.declared.frames.DownFrame.{DownFrame}
 use Rattle.trau_frame.specs.declared.frames.DownFrame.TheVariants.{Idle}
@@ -8,7 +8,7 @@ use Rattle.down_framer.specs.ByNumber.{when}
 use Rattle.call_output.specs.Call.{Call, Span}
 use Rattle.call_output.specs.Down.{frame_at, made, HasItem, down_frames}
 use Rattle.farm_output.specs.Run.{Run}
-use Rattle.farm_calls.specs.Whole.{span_for, whole_call}
+use Rattle.farm_calls.specs.Whole.{span_for, whole_call, IsBridged}
 
 -- how many frames a call makes, these frames as they are sent, and frame j
 abbrev pub frame_count : Run → ℕ → ℕ
@@ -24,9 +24,15 @@ sent_frame r c j = slice_index_or (sent_frames r c) j Idle
 abbrev pub place_in : Run → ℕ → ℕ → ℕ
 place_in r c j = 320 + 2 * (frame_at (whole_call r c) j).start
 
--- frame j of call c has what is handed over in period t of the run, one of span x
-abbrev pub HasHanded : Run → ℕ → board.Span → ℕ → ℕ → Type 0
-HasHanded r c x t j = HasItem (whole_call r c) (span_for r c x) j (t - x.from)
+-- frame j of call c carries what the call is handed in period t of the run, one of span x
+abbrev pub CarriesHanded : Run → ℕ → ℕ → board.Span → ℕ → Type 0
+CarriesHanded r c t x j = HasItem (whole_call r c) (span_for r c x) j (t - x.from)
+
+-- the call makes this frame, and so what it is handed in that period of the bridge goes out in it
+pub record Sends (r : Run) (c t : ℕ) (x : board.Span) (j : ℕ) : Type 0 where
+  pub bridged : IsBridged r c t x
+  pub made : j < frame_count r c
+  pub carries : CarriesHanded r c t x j
 
 -- the first frame made in a span's first period or later
 pub record IsFirst (call : Call) (span : Span) (j : ℕ) : Type 0 where

@@ -4,19 +4,12 @@ use Rattle.std.specs.Prelude.{◌≡◌, ◌≤◌, ◌<◌, ℕ, ◌+◌, ◌-�
 use Rattle.std.specs.List.{range_with_len}
 use Rattle.trau_orders.specs.declared.order.DtxMode.TheVariants.{Uplink}
 use Rattle.switchboard.specs.declared.act.Span as board
-use Rattle.switchboard.specs.Ends.{start_of, ends_at}
 use Rattle.frame_sync.specs.declared.yields.Yield.{Yield}
 use Rattle.rx_handler.specs.Origin.{EffectiveFields}
 use Rattle.call_output.specs.Call.{Call, Setting, Span, yield_at, effective, item_at}
-use Rattle.farm_output.specs.Run.{Run, given_in, done_in, spans_in, level_after, mode_after, done_to, ups_to, item_of, is_of, partner_in}
+use Rattle.farm_output.specs.Run.{Run, done_in, spans_in, start_in, end_in, level_after, mode_after, done_to, ups_to, item_of, is_of, partner_in}
 
--- the period of the run at which a call begins, the first one that it doesn't have, and how many it has
-abbrev pub start_in : Run → ℕ → ℕ
-start_in r c = start_of (done_in r) c
-
-abbrev pub end_in : Run → ℕ → ℕ
-end_in r c = ends_at (given_in r) r.periods (done_in r) c
-
+-- how many periods a call has
 abbrev pub count_in : Run → ℕ → ℕ
 count_in r c = end_in r c - start_in r c
 

@@ -1,6 +1,6 @@
 //! Laws of a run's calls, each the contract of a function that does nothing.
 
-ghost use Rattle.std.specs.Prelude.{◌≡◌, ◌≤◌, ◌<◌, ◌↔◌, ℕ, ◌+◌, ◌-◌, true, Some, None, is_some, List, length, slice_index};
+ghost use Rattle.std.specs.Prelude.{◌≡◌, ◌≤◌, ◌<◌, ◌↔◌, ℕ, ◌+◌, ◌-◌, true, Some, None, is_some, List, length, filter, slice_index, Contains};
 ghost use Rattle.trau_bits.specs.Bits.{octets_of};
 ghost use Rattle.trau_params.specs.Bits260.{bits260};
 ghost use Rattle.trau_frame.specs.declared.frames.DownFrame.TheVariants.{Speech};
@@ -14,12 +14,13 @@ ghost use Rattle.frame_sync.specs.declared.yields.Yield.TheVariants.{Frame};
 ghost use Rattle.call_leg.specs.Uplink.{handed_fields};
 ghost use Rattle.call_output.specs.Call.{Call, Span as CallSpan};
 ghost use Rattle.call_output.specs.Out.{out};
-ghost use Rattle.call_output.specs.Down.{frame_at, down};
+ghost use Rattle.call_output.specs.Down.{frame_at, made, down};
 ghost use Rattle.call_output.specs.Whole.{IsWhole, history_of};
-ghost use Rattle.farm_output.specs.Run.{Run, done_in, partner_in, periods_in};
+ghost use Rattle.farm_output.specs.Run.{Run, done_in, spans_in, start_in, end_in, partner_in, periods_in};
 ghost use Rattle.farm_output.specs.Lines.{out_of_call, down_of_call};
-ghost use Rattle.farm_calls.specs.Whole.{start_in, end_in, span_for, whole_call, IsBridged, item_for, yield_on, frame_on};
-ghost use Rattle.farm_calls.specs.Sent.{frame_count, sent_frames, sent_frame, place_in, HasHanded, IsFirst};
+ghost use Rattle.farm_output.specs.Facts.{carries_in, sent_by, span_line};
+ghost use Rattle.farm_calls.specs.Whole.{span_for, whole_call, IsBridged, item_for, yield_on, frame_on};
+ghost use Rattle.farm_calls.specs.Sent.{frame_count, sent_frames, sent_frame, place_in, CarriesHanded, Sends, IsFirst};
 
 use call_output::{a_call_by_its_periods, frames_of_a_call};
 use rx_handler::laws::{the_newest_is_the_last, the_table_looks_back};
@@ -66,32 +67,43 @@ pub fn items_go_out_in_order_and_once()
     ensures each { (r : Run) (c : ℕ) → AreOrders r.orders → is_some (opened_at c (done_in r)) ≡ true →
         length (sent_frames r c) ≡ frame_count r c }
 
-    // The frame that has what is handed over in period t is a speech frame, SP 1, of the partner's effective frame;
-    ensures sent { (r : Run) (c t j : ℕ) (x : Span) → AreOrders r.orders → IsBridged r c t x → j < frame_count r c → HasHanded r c x t j →
+    // What is handed over in a period goes out in a frame that the call makes, but that of the call's very last period,
+    // which may be lost.
+    ensures goes { (r : Run) (c t : ℕ) (x : Span) → AreOrders r.orders → IsBridged r c t x → t + 1 < end_in r c → (j : ℕ) × Sends r c t x j }
+
+    // This frame is a speech frame, SP 1, of the partner's effective frame;
+    ensures sent { (r : Run) (c t : ℕ) (x : Span) (j : ℕ) → AreOrders r.orders → Sends r c t x j →
         sent_frame r c j ≡ Speech (bits260 (handed_fields (frame_on r (partner_in c x) t))) true }
 
     // a good speech frame's 260 bits go out unchanged.
-    ensures good { (r : Run) (c t j : ℕ) (x : Span) (p : ℕ) (bits : List ℕ) → AreOrders r.orders → IsBridged r c t x → j < frame_count r c → HasHanded r c x t j →
+    ensures good { (r : Run) (c t : ℕ) (x : Span) (j p : ℕ) (bits : List ℕ) → AreOrders r.orders → Sends r c t x j →
         yield_on r (partner_in c x) t ≡ Some (Frame p bits) → IsGoodSpeech bits → sent_frame r c j ≡ Speech (data_of bits) true }
 
     // Its 320 bits stand on the Down line one after another, as far as the line goes.
-    ensures on_line { (r : Run) (c t j k : ℕ) (x : Span) → AreOrders r.orders → IsBridged r c t x → j < frame_count r c → HasHanded r c x t j →
+    ensures on_line { (r : Run) (c t : ℕ) (x : Span) (j k : ℕ) → AreOrders r.orders → Sends r c t x j →
         k < 320 → place_in r c j + k < length (down (whole_call r c)) →
         slice_index (down (whole_call r c)) (place_in r c j + k) ≡ slice_index (down_bits (sent_frame r c j)) k }
 
     // A frame carries nothing else: period h of the call is one of a bridge.
     ensures only { (r : Run) (c j h : ℕ) → AreOrders r.orders → (frame_at (whole_call r c) j).carries ≡ Some h →
-        (x : Span) × IsBridged r c (start_in r c + h) x × HasHanded r c x (start_in r c + h) j }
+        (x : Span) × IsBridged r c (start_in r c + h) x × CarriesHanded r c (start_in r c + h) x j }
 
     // Period by period it goes out in the first frame made in the span and in those after it, one for each;
     ensures first { (call : Call) (span : CallSpan) → (first : ℕ) × IsFirst call span first }
-    ensures place { (r : Run) (c t first j : ℕ) (x : Span) → AreOrders r.orders → IsBridged r c t x → IsFirst (whole_call r c) (span_for r c x) first →
-        HasHanded r c x t j ↔ (j ≡ first + (t - x.from)) }
+    ensures place { (r : Run) (c t : ℕ) (x : Span) (first j : ℕ) → AreOrders r.orders → IsBridged r c t x →
+        IsFirst (whole_call r c) (span_for r c x) first → CarriesHanded r c t x j ↔ (j ≡ first + (t - x.from)) }
 
     // so in order, and each at most once.
-    ensures in_order { (r : Run) (c t u j k : ℕ) (x : Span) → AreOrders r.orders → IsBridged r c t x → IsBridged r c u x →
-        HasHanded r c x t j → HasHanded r c x u k → t < u → j < k }
-    ensures once { (r : Run) (c t j k : ℕ) (x : Span) → AreOrders r.orders → IsBridged r c t x → HasHanded r c x t j → HasHanded r c x t k → j ≡ k }
+    ensures in_order { (r : Run) (c t u : ℕ) (x : Span) (j k : ℕ) → AreOrders r.orders → IsBridged r c t x → IsBridged r c u x →
+        CarriesHanded r c t x j → CarriesHanded r c u x k → t < u → j < k }
+    ensures once { (r : Run) (c t : ℕ) (x : Span) (j k : ℕ) → AreOrders r.orders → IsBridged r c t x →
+        CarriesHanded r c t x j → CarriesHanded r c t x k → j ≡ k }
+
+    // The report counts what goes out: the frames made that carry what was handed over in the span. In each direction at
+    // most one is lost.
+    ensures counted { (r : Run) (c : ℕ) (x : Span) → AreOrders r.orders → is_some (opened_at c (done_in r)) ≡ true →
+        sent_by r x c ≡ length (filter (λ f. carries_in (x.from - start_in r c) (x.to - start_in r c) f.carries) (made (whole_call r c))) }
+    ensures lost { (r : Run) (x : Span) → AreOrders r.orders → Contains (spans_in r) x → ((span_line r x).lost_a ≤ 1) × ((span_line r x).lost_b ≤ 1) }
 {
     items_are_the_partners_frames();
     frames_of_a_call();

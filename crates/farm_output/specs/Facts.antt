@@ -4,7 +4,7 @@ use Rattle.std.specs.List.{range_with_len}
 use Rattle.trau_io.specs.declared.line.Line.{Line}
 use Rattle.switchboard.specs.declared.act.Span.{Span}
 use Rattle.switchboard.specs.Calls.{opened_at}
-use Rattle.switchboard.specs.Ends.{end_of, start_of}
+use Rattle.switchboard.specs.Ends.{end_of}
 use Rattle.switchboard.specs.Runs.{left_of}
 use Rattle.switchboard.specs.State.{numbered}
 use Rattle.farm_report.specs.declared.report.CallLine.{CallLine}
@@ -13,14 +13,14 @@ use Rattle.farm_report.specs.View.{ReportView}
 use Rattle.call_leg.specs.Periods.{CallPeriod}
 use Rattle.call_leg.specs.Counted.{call_counts}
 use Rattle.call_leg.specs.Down.{frames_of}
-use Rattle.farm_output.specs.Run.{Run, given_in, done_in, spans_in, periods_in}
+use Rattle.farm_output.specs.Run.{Run, given_in, done_in, spans_in, start_in, periods_in}
 
 -- the calls that were opened, in rising number
 abbrev pub calls_in : Run → List ℕ
 calls_in r = filter (λ c. is_some (opened_at c (done_in r))) (range_with_len 1 4096)
 
 abbrev pub call_line : Run → ℕ → CallLine
-call_line r c = let from = start_of (done_in r) c in record {
+call_line r c = let from = start_in r c in record {
   end = end_of (given_in r) r.periods (done_in r) c from;
   from = from;
   counts = call_counts (periods_in r c);
@@ -36,7 +36,7 @@ abbrev pub sent_in : ℕ → ℕ → List CallPeriod → ℕ
 sent_in s e ts = length (filter (λ f. carries_in s e f.carries) (frames_of ts))
 
 abbrev pub sent_by : Run → Span → ℕ → ℕ
-sent_by r x c = let from = start_of (done_in r) c in sent_in (x.from - from) (x.to - from) (periods_in r c)
+sent_by r x c = let from = start_in r c in sent_in (x.from - from) (x.to - from) (periods_in r c)
 
 -- what a call hands over and its partner doesn't send is lost
 abbrev pub span_line : Run → Span → SpanLine

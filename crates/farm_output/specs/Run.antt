@@ -48,6 +48,13 @@ done_in r = done_of (whole_in r) r.periods r.orders
 abbrev pub spans_in : Run → List Span
 spans_in r = spans_of (given_in r) r.periods (done_in r)
 
+-- the period of the run at which a call begins, and the first one that it doesn't have
+abbrev pub start_in : Run → ℕ → ℕ
+start_in r c = start_of (done_in r) c
+
+abbrev pub end_in : Run → ℕ → ℕ
+end_in r c = ends_at (given_in r) r.periods (done_in r) c
+
 -- ---- settings
 
 abbrev pub level_by : ℕ → Result Act Refusal → ℤ → ℤ
@@ -110,11 +117,11 @@ span_at r c t = find (λ x. is_of c x && nat_le x.from t && nat_lt t x.to) (span
 
 -- what is handed to a call in period t: its partner's frame of that period, within a span
 abbrev pub handed_to : Run → ℕ → ℕ → Option (List ℕ)
-handed_to r c t = option_map (λ x. let d = partner_in c x in item_of d (ups_to r d (t + 1 - start_of (done_in r) d))) (span_at r c t)
+handed_to r c t = option_map (λ x. let d = partner_in c x in item_of d (ups_to r d (t + 1 - start_in r d))) (span_at r c t)
 
 -- period k of a call, counted from its opening
 unfoldable pub period_of : Run → ℕ → ℕ → CallPeriod
-period_of r c k = let t = start_of (done_in r) c + k in record {
+period_of r c k = let t = start_in r c + k in record {
   up = up_in r c k;
   pcm = pcm_in r c k;
   level = level_after c (pos 256) (done_to t (done_in r));
@@ -130,4 +137,4 @@ periods_to r c (suc k) = period_of r c k ∷ periods_to r c k
 
 -- all of them, from its opening to its end
 abbrev pub periods_in : Run → ℕ → List CallPeriod
-periods_in r c = periods_to r c (ends_at (given_in r) r.periods (done_in r) c - start_of (done_in r) c)
+periods_in r c = periods_to r c (end_in r c - start_in r c)

@@ -18,7 +18,7 @@ ghost use Rattle.switchboard.specs.Bridges.{bridges, bridge_of, other, joins};
 ghost use Rattle.switchboard.specs.Stands.{IsLatest};
 ghost use Rattle.switchboard.specs.State.{first_stamp, numbered};
 ghost use Rattle.switchboard.specs.Runs.{executed, left_of, IsRun};
-ghost use Rattle.switchboard.specs.Ends.{lack_of, end_of, start_of, ends_at, spans_of};
+ghost use Rattle.switchboard.specs.Ends.{lack_of, end_of, start_of, spans_of};
 ghost use Rattle.down_framer.specs.Made.{due};
 ghost use Rattle.down_framer.specs.Bridges.{IsHistory};
 ghost use Rattle.call_leg.specs.Uplink.{handed_fields};
@@ -27,7 +27,7 @@ ghost use Rattle.call_leg.specs.Settings.{Settings, later, without_bridge, perio
 ghost use Rattle.call_leg.specs.Down.{down_periods, frames_of};
 ghost use Rattle.call_leg.specs.Counted.{call_counts};
 ghost use Rattle.call_leg.specs.Places.{sent_now};
-ghost use Rattle.farm_output.specs.Run.{Run, given_in, whole_in, done_in, spans_in, up_in, pcm_in, ups_to, item_of, period_of, periods_to};
+ghost use Rattle.farm_output.specs.Run.{Run, given_in, whole_in, done_in, spans_in, start_in, end_in, up_in, pcm_in, ups_to, item_of, period_of, periods_to};
 ghost use Rattle.farm_output.specs.Lines.{out_line, down_octets, out_of_call, down_of_call};
 ghost use Rattle.farm_output.specs.Facts.{call_line, span_line, sent_by, report_of};
 ghost use Rattle.farm_output.specs.Now.{IsSoFar, NoOrderTo, has_period, bridge_now, handed_now, period_now, settings_now, settings_in, changed_by, after_periods};
@@ -59,7 +59,7 @@ pub fn runs_are_whole()
     ensures left { (r : Run) (t : ℕ) (ds : List Done) (left : List Order) → IsSoFar r t ds left →
         IfSome (first_stamp left) (λ s. r.periods ≤ s) → left_of r.periods r.orders ≡ left }
     ensures opened { (r : Run) (t : ℕ) (ds : List Done) (left : List Order) (c s : ℕ) → IsSoFar r t ds left →
-        opened_at c ds ≡ Some s → start_of (done_in r) c ≡ s }
+        opened_at c ds ≡ Some s → start_in r c ≡ s }
 {}
 
 /// Period u of an open call is settled once the orders up to it were executed: no later order and no end changes it.
@@ -143,7 +143,7 @@ pub fn ends_are_known()
         end_of (given_in r) r.periods (done_in r) c s ≡ record { call = c; at = s + whole_in r c; cause = lack_of (whole_in r c) (given_in r c) } }
     ensures at { (r : Run) (ds : List Done) (left : List Order) (c s : ℕ) → IsSoFar r (s + whole_in r c) ds left →
         opened_at c ds ≡ Some s → closed_at c ds ≡ None → s + whole_in r c ≤ r.periods →
-        ends_at (given_in r) r.periods (done_in r) c ≡ s + whole_in r c }
+        end_in r c ≡ s + whole_in r c }
     ensures limit { (r : Run) (t : ℕ) (ds : List Done) (left : List Order) (c s : ℕ) → IsSoFar r t ds left →
         IfSome (first_stamp left) (λ s. r.periods ≤ s) → closed_at c ds ≡ None → r.periods ≤ s + whole_in r c →
         end_of (given_in r) r.periods (done_in r) c s ≡ record { call = c; at = r.periods; cause = Limit } }
@@ -206,6 +206,6 @@ pub fn sent_frames_are_told()
         opened_at c ds ≡ Some s → IsLatest (bridges ds) c (Some k) →
         sent_by r (get_or (spans_in r) k x) c ≡ sent_now (periods_to r c (t - s)) (settings_now r ds t c) }
     ensures end { (r : Run) (t : ℕ) (ds : List Done) (left : List Order) (c s k : ℕ) (x : Span) → IsSoFar r t ds left →
-        opened_at c ds ≡ Some s → IsLatest (bridges ds) c (Some k) → ends_at (given_in r) r.periods (done_in r) c ≡ t →
+        opened_at c ds ≡ Some s → IsLatest (bridges ds) c (Some k) → end_in r c ≡ t →
         sent_by r (get_or (spans_in r) k x) c ≡ sent_now (periods_to r c (t - s)) (settings_now r ds t c) }
 {}

@@ -182,12 +182,12 @@ module _ (good : GoodOrBad) (s : Settings) (before now : ℕ → Side → LineSt
 
   follows_causes : (reading : Result (List Order) OrdersFault) → ReadsOrders desk read reading → ((text : List ℕ) → desk.to_come ≡ Some text → AnswersTold text reading) →
       (IsErrOf reading Unread → Rose desk.read_faults read.read_faults) → ((IsErrOf reading Unread → ⊥) → read.read_faults ≡ desk.read_faults) →
-      read.write_faults ≡ desk.write_faults → FollowsReading reading s before now read desk' status → RunCauses before now desk desk' status
-  follows_causes (Ok orders) reads told unread calm silent (inl ran) = reported orders (calm (λ e. cc)) silent told ran.report ran.runs ran.tells
-  follows_causes (Ok orders) reads told unread calm silent (inr ends) = lacks (calm (λ e. cc)) ends
-  follows_causes (Err Unread) reads told unread calm silent (stay, ends) =
+      read.written ≡ desk.written → read.write_faults ≡ desk.write_faults → FollowsReading reading s before now read desk' status → RunCauses before now desk desk' status
+  follows_causes (Ok orders) reads told unread calm written silent (inl ran) = reported orders (calm (λ e. cc)) silent told ran.report ran.runs ran.tells
+  follows_causes (Ok orders) reads told unread calm written silent (inr ends) = lacks (calm (λ e. cc)) ends
+  follows_causes (Err Unread) reads told unread calm written silent (stay, ends) =
       unread_causes before now desk desk' status ends.status_is (subst (λ n. Rose desk.read_faults n) (sym ends.text_out.tells.read_faults) (unread refl)) stay
-  follows_causes (Err TooLong) reads told unread calm silent (stay, ends) =
+  follows_causes (Err TooLong) reads told unread calm written silent (stay, ends) =
       let same = sym ends.text_out.tells.to_come in
       long_causes before now desk desk' status ends.status_is (ends.text_out.tells.read_faults ∙ calm (λ e. cc)) stay
       (record {
@@ -196,7 +196,7 @@ module _ (good : GoodOrBad) (s : Settings) (before now : ℕ → Side → LineSt
         long = subst (λ t. (length reads.given ≡ 1048577) ⊎ (IsAtEnd t × (65536 < length (text_lines reads.given)))) same reads.answer;
       })
       told
-  follows_causes (Err (Line n)) reads told unread calm silent (stay, inl ends) =
+  follows_causes (Err (Line n)) reads told unread calm written silent (stay, inl ends) =
       let same = sym ends.text_out.tells.to_come in
       bad_causes before now desk desk' status ends.status_is (ends.text_out.tells.read_faults ∙ calm (λ e. cc)) stay
       (record {
@@ -207,13 +207,15 @@ module _ (good : GoodOrBad) (s : Settings) (before now : ℕ → Side → LineSt
         within = reads.answer.1.0;
         first_bad = reads.answer.1.1;
         read = read;
+        written = written;
+        write_faults = silent;
         text_out = ends.text_out;
       })
       (λ text e. (told text e).0)
-  follows_causes (Err (Line n)) reads told unread calm silent (stay, inr ends) = lacks (calm (λ e. cc)) ends
-  follows_causes (Err Memory) reads told unread calm silent (stay, ends) = lacks (calm (λ e. cc)) ends
+  follows_causes (Err (Line n)) reads told unread calm written silent (stay, inr ends) = lacks (calm (λ e. cc)) ends
+  follows_causes (Err Memory) reads told unread calm written silent (stay, ends) = lacks (calm (λ e. cc)) ends
 
 module _ (good : GoodOrBad) (s : Settings) (before now : ℕ → Side → LineState) (desk desk' : DeskState) (status : ℕ) where
   pub run_causes : CarriesRun s before now desk desk' status → RunCauses before now desk desk' status
-  run_causes (inl ran) = follows_causes good s before now desk ran.read desk' status ran.reading ran.reads ran.told ran.unread ran.calm ran.write_faults ran.follows
+  run_causes (inl ran) = follows_causes good s before now desk ran.read desk' status ran.reading ran.reads ran.told ran.unread ran.calm ran.written ran.write_faults ran.follows
   run_causes (inr (stay, ends)) = memory_causes before now desk desk' status ends.status_is ends.text_out.tells.read_faults

@@ -1,4 +1,5 @@
--- What a run leaves of which no count rose: it ended well, unless there was no memory.
+-- What a run leaves of which no count rose: it ended well, unless there was no memory. Whatever the desk did, its lines
+-- have what the run gives.
 use Rattle.std.proofs.Common.{◌≡◌, ◌≢◌, ◌⊎◌, inl, inr, ℕ, List, [], ◌∷◌, Result, Ok, Err, Option, Some, None, refl, sym, ◌∙◌, ap, subst, arith}
 use Rattle.std.specs.Prelude.{IsErrOf}
 use Rattle.std.specs.Io.KnownBytes.{Appends, Consumes, IsAtEnd}
@@ -18,7 +19,7 @@ use Rattle.farm_run.specs.declared.pace.Pace.{Pace}
 use Rattle.farm_run.specs.Runs.{IsRunOver, NoneRose, Runs, TellsFailed}
 use Rattle.farm_tools.specs.Causes.{IsCalm}
 use Rattle.farm_words.specs.declared.asked.Settings.{Settings}
-use Rattle.farm_top.specs.Farm.{CarriesRun, FollowsReading, TellsReport, pace_of, status_of_run}
+use Rattle.farm_top.specs.Farm.{CarriesRun, FollowsReading, RunsAndTells, TellsReport, pace_of, status_of_run}
 use Rattle.farm_top.specs.FarmClean.{CleanFarm, IsCalmRun, TellsOrders}
 use Rattle.farm_top.proofs.FarmCausing.{first_rose, not_long}
 
@@ -73,6 +74,27 @@ module _ (s : Settings) (before now : ℕ → Side → LineState) (desk read des
   followed good one told (Err TooLong) reads answers unread written silent (stay, ends) = absurd (not_long told.text told.within answers)
   followed good one told (Err (Line n)) reads answers unread written silent (stay, ends) = absurd (good (text_lines told.text) orders n told.spelled answers.1)
   followed good one told (Err Memory) reads answers unread written silent (stay, ends) = inl ends.status_is
+
+-- ---- whatever the desk did
+
+module _ (one : SpellsOneList) (s : Settings) (before now : ℕ → Side → LineState) (desk desk' : DeskState) (status : ℕ) (orders : List Order)
+    (told : TellsOrders orders desk) (due : (status ≡ 0) ⊎ (status ≡ 4)) where
+  ran_by : (read : DeskState) (reading : Result (List Order) OrdersFault) → AnswersTold told.text reading → FollowsReading reading s before now read desk' status →
+      RunsAndTells orders (pace_of s) before now read desk' status
+  ran_by read (Ok taken) answers (inl ran) = subst (λ (os : List Order). RunsAndTells os (pace_of s) before now read desk' status) (one (text_lines told.text) taken orders answers.1 told.spelled) ran
+  ran_by read (Ok taken) answers (inr ends) = let is = ends.status_is in absurd (omega (arith, due, is))
+  ran_by read (Err Unread) answers (stay, ends) = let is = ends.status_is in absurd (omega (arith, due, is))
+  ran_by read (Err TooLong) answers (stay, ends) = let is = ends.status_is in absurd (omega (arith, due, is))
+  ran_by read (Err (Line n)) answers (stay, inl ends) = let is = ends.status_is in absurd (omega (arith, due, is))
+  ran_by read (Err (Line n)) answers (stay, inr ends) = let is = ends.status_is in absurd (omega (arith, due, is))
+  ran_by read (Err Memory) answers (stay, ends) = let is = ends.status_is in absurd (omega (arith, due, is))
+
+  -- after 0 and 4 the orders were run
+  pub ran_to_end : CarriesRun s before now desk desk' status → (read : DeskState) × RunsAndTells orders (pace_of s) before now read desk' status
+  ran_to_end (inl ran) = (ran.read, ran_by ran.read ran.reading (ran.told told.text told.told) ran.follows)
+  ran_to_end (inr (stay, ends)) = let is = ends.status_is in absurd (omega (arith, due, is))
+
+-- ---- where nothing fails
 
 module _ (good : GoodOrBad) (one : SpellsOneList) (s : Settings) (before now : ℕ → Side → LineState) (desk desk' : DeskState) (status : ℕ) (orders : List Order)
     (told : TellsOrders orders desk) (calm : IsCalmRun before now desk desk') where

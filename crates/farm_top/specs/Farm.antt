@@ -10,11 +10,13 @@ use Rattle.trau_orders.specs.declared.order.Order.{Order}
 use Rattle.farm_orders.specs.declared.fault.OrdersFault.{OrdersFault}
 use Rattle.farm_orders.specs.declared.fault.OrdersFault.TheVariants.{Unread, TooLong, Line, Memory}
 use Rattle.farm_orders.specs.Reading.{ReadsOrders, AnswersTold}
+use Rattle.farm_output.specs.Run.{Run}
 use Rattle.farm_report.specs.Lines.{report_text}
 use Rattle.farm_report.specs.View.{ReportView}
 use Rattle.farm_run.specs.declared.pace.Pace.{Pace}
-use Rattle.farm_run.specs.Runs.{Runs}
+use Rattle.farm_run.specs.Runs.{IsRunOver, NoneRose, Runs}
 use Rattle.farm_words.specs.declared.asked.Settings.{Settings}
+use Rattle.farm_top.specs.Headline.{Headline}
 
 -- a text went out, or a proper front of it before the desk failed
 pub record TextOut (before now : DeskState) (text : List ℕ) : Type 0 where
@@ -63,10 +65,12 @@ TellsReport report desk desk' status =
     ⊎ ((status ≡ 4) × Tells desk desk' (Err (record {})) (report_text report))
     ⊎ LacksMemory desk desk' status
 
--- orders that were taken are run over the lines, and the report is told
+-- Orders that were taken are run over the lines, and the report is told. Where no count of a line rose, the outgoing lines
+-- have what the run gives each call as a whole, whatever the desk did.
 pub record RunsAndTells (orders : List Order) (pace : Pace) (before now : ℕ → Side → LineState) (desk desk' : DeskState) (status : ℕ) : Type 0 where
   pub report : ReportView
   pub runs : Runs orders pace before now report
+  pub headline : (r : Run) → IsRunOver orders pace.periods before r → NoneRose before now → Headline r before now
   pub tells : TellsReport report desk desk' status
 
 -- what follows the reading: the run, unless there was no memory for it; or the refusal of the orders, and no line was used

@@ -8,7 +8,7 @@ use Rattle.trau_orders.specs.Text.{text_lines, IsFirstBad, IsWithin, IsBeyond}
 use Rattle.farm_top.specs.Farm.{AllStay, TextOut, line_text}
 
 -- the orders were read to their end and are within the limits, line n is the first that isn't in the grammar, and the
--- text says so
+-- desk, to which nothing was written while it was read, was told so
 pub record ReadsBadLine (desk desk' : DeskState) : Type 0 where
   pub given : List ℕ
   pub n : ℕ
@@ -17,6 +17,8 @@ pub record ReadsBadLine (desk desk' : DeskState) : Type 0 where
   pub within : IsWithin given
   pub first_bad : IsFirstBad (text_lines given) n
   pub read : DeskState
+  pub written : read.written ≡ desk.written
+  pub write_faults : read.write_faults ≡ desk.write_faults
   pub text_out : TextOut read desk' (line_text n)
 
 -- the orders were read to just past the limit of octets, or to their end, and are too many lines

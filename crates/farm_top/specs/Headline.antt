@@ -1,5 +1,5 @@
 -- What a run leaves on the outgoing lines of its calls, each call told as a whole (this project's profile).
-use Rattle.std.specs.Prelude.{◌≡◌, ◌≤◌, ◌<◌, ◌↔◌, ℕ, ◌+◌, ◌-◌, true, Some, None, List, [], length, map, slice_index}
+use Rattle.std.specs.Prelude.{◌≡◌, ◌≤◌, ◌<◌, ◌↔◌, ℕ, ◌+◌, ◌-◌, true, Some, None, List, [], length, map, slice_index, Contains}
 use Rattle.std.specs.Io.KnownBytes.{Appends}
 use Rattle.trau_bits.specs.Bits.{octets_of}
 use Rattle.trau_params.specs.Bits260.{bits260}
@@ -14,11 +14,11 @@ use Rattle.frame_sync.specs.declared.yields.Yield.TheVariants.{Frame}
 use Rattle.switchboard.specs.declared.act.Span.{Span}
 use Rattle.call_leg.specs.Uplink.{handed_fields}
 use Rattle.call_output.specs.Out.{out}
-use Rattle.call_output.specs.Down.{down}
-use Rattle.farm_output.specs.Run.{Run, spans_in, partner_in}
-use Rattle.farm_output.specs.Facts.{report_of}
-use Rattle.farm_calls.specs.Whole.{start_in, end_in, span_for, whole_call, IsBridged, item_for, yield_on, frame_on}
-use Rattle.farm_calls.specs.Sent.{frame_count, sent_frame, place_in, HasHanded, IsFirst}
+use Rattle.call_output.specs.Down.{frame_at, down}
+use Rattle.farm_output.specs.Run.{Run, spans_in, start_in, end_in, partner_in}
+use Rattle.farm_output.specs.Facts.{span_line, report_of}
+use Rattle.farm_calls.specs.Whole.{span_for, whole_call, IsBridged, item_for, yield_on, frame_on}
+use Rattle.farm_calls.specs.Sent.{sent_frame, place_in, CarriesHanded, Sends, IsFirst}
 use Rattle.farm_run.specs.Runs.{IsOpened}
 
 -- A call is handed nothing but its partner's effective frames, as 260 bits, in the periods of their bridge, whose span is
@@ -28,18 +28,23 @@ pub record HandsOver (r : Run) : Type 0 where
   pub within : (c t : ℕ) (x : Span) → IsBridged r c t x → item_for r c t ≡ Some (bits260 (handed_fields (frame_on r (partner_in c x) t)))
   pub outside : (c t : ℕ) → start_in r c ≤ t → t < end_in r c → ((x : Span) → IsBridged r c t x → ⊥) → item_for r c t ≡ None
 
--- What a call is handed in period t of a bridge goes out in a frame that it makes, in as many behind the first frame made
--- in the bridge as t lies behind the bridge's start: a good speech frame's 260 bits unchanged, with SP 1. This frame's 320
--- bits stand on the Down line one after another, as far as the line goes. So what is handed later goes out in a later frame,
--- and each once.
+-- What a call is handed in a period of a bridge goes out in a frame that it makes, but that of the call's very last period,
+-- which may be lost: a good speech frame's 260 bits unchanged, with SP 1. This frame's 320 bits stand on the Down line one
+-- after another, as far as the line goes, and no frame carries anything else. It lies as many frames behind the first one
+-- made in the bridge as the period lies behind the bridge's start. So what is handed later goes out in a later frame, and
+-- each once. Of a bridge one frame at most is lost in each direction, which the report counts.
 pub record GoesOut (r : Run) : Type 0 where
-  pub place : (c t first j : ℕ) (x : Span) → IsBridged r c t x → IsFirst (whole_call r c) (span_for r c x) first → HasHanded r c x t j ↔ (j ≡ first + (t - x.from))
-  pub unchanged : (c t j : ℕ) (x : Span) (p : ℕ) (bits : List ℕ) → IsBridged r c t x → j < frame_count r c → HasHanded r c x t j →
-      yield_on r (partner_in c x) t ≡ Some (Frame p bits) → IsGoodSpeech bits → sent_frame r c j ≡ Speech (data_of bits) true
-  pub on_line : (c t j k : ℕ) (x : Span) → IsBridged r c t x → j < frame_count r c → HasHanded r c x t j → k < 320 →
-      place_in r c j + k < length (down (whole_call r c)) → slice_index (down (whole_call r c)) (place_in r c j + k) ≡ slice_index (down_bits (sent_frame r c j)) k
-  pub in_order : (c t u j k : ℕ) (x : Span) → IsBridged r c t x → IsBridged r c u x → HasHanded r c x t j → HasHanded r c x u k → t < u → j < k
-  pub once : (c t j k : ℕ) (x : Span) → IsBridged r c t x → HasHanded r c x t j → HasHanded r c x t k → j ≡ k
+  pub goes : (c t : ℕ) (x : Span) → IsBridged r c t x → t + 1 < end_in r c → (j : ℕ) × Sends r c t x j
+  pub unchanged : (c t : ℕ) (x : Span) (j p : ℕ) (bits : List ℕ) → Sends r c t x j → yield_on r (partner_in c x) t ≡ Some (Frame p bits) → IsGoodSpeech bits →
+      sent_frame r c j ≡ Speech (data_of bits) true
+  pub on_line : (c t : ℕ) (x : Span) (j k : ℕ) → Sends r c t x j → k < 320 → place_in r c j + k < length (down (whole_call r c)) →
+      slice_index (down (whole_call r c)) (place_in r c j + k) ≡ slice_index (down_bits (sent_frame r c j)) k
+  pub only : (c j h : ℕ) → (frame_at (whole_call r c) j).carries ≡ Some h → (x : Span) × IsBridged r c (start_in r c + h) x × CarriesHanded r c (start_in r c + h) x j
+  pub first : (c : ℕ) (x : Span) → (first : ℕ) × IsFirst (whole_call r c) (span_for r c x) first
+  pub place : (c t : ℕ) (x : Span) (first j : ℕ) → IsBridged r c t x → IsFirst (whole_call r c) (span_for r c x) first → CarriesHanded r c t x j ↔ (j ≡ first + (t - x.from))
+  pub in_order : (c t u : ℕ) (x : Span) (j k : ℕ) → IsBridged r c t x → IsBridged r c u x → CarriesHanded r c t x j → CarriesHanded r c u x k → t < u → j < k
+  pub once : (c t : ℕ) (x : Span) (j k : ℕ) → IsBridged r c t x → CarriesHanded r c t x j → CarriesHanded r c t x k → j ≡ k
+  pub lost : (x : Span) → Contains (spans_in r) x → ((span_line r x).lost_a ≤ 1) × ((span_line r x).lost_b ≤ 1)
 
 -- The octets written on a call's outgoing lines are the definition's octets of the call as a whole: of its own incoming
 -- lines and orders and, only between a bridge's reported start and end, of its partner's uplink; there each good speech

@@ -1,10 +1,14 @@
 -- The words of the command line, by what they ask for (this project's profile).
-use Rattle.std.specs.Prelude.{◌≡◌, ◌⊎◌, ℕ, List, ◌∷◌, codes}
+use Rattle.std.specs.Prelude.{◌≡◌, ◌⊎◌, ℕ, String, string_bytes, List, ◌∷◌, map, codes}
 use Rattle.farm_tools.specs.declared.end.Tool.{Tool}
 use Rattle.farm_tools.specs.Made.{name_of}
 use Rattle.farm_words.specs.declared.asked.Settings.{Settings}
 use Rattle.farm_words.specs.Run.{AsksRun}
 use Rattle.farm_words.specs.Words.{Names}
+
+-- the octets of the words
+abbrev pub spelled : {Z : Type 0} → List (String Z) → List (List ℕ)
+spelled words = map (λ w. string_bytes w) words
 
 -- the words ask for a tool that works one line into another, as `relay 7`
 abbrev pub AsksFor : List (List ℕ) → Tool → ℕ → Type 0

@@ -1,10 +1,20 @@
 // The command `run`: the orders from the desk, the run over the lines, and its report to the desk.
+ghost use Rattle.std.specs.Prelude.{ℕ};
+ghost use Rattle.trau_io.specs.declared.line.Side.{Side};
+ghost use Rattle.trau_io.specs.Lines.{LineState};
+ghost use Rattle.trau_orders.specs.Lists.{AreOrders};
+ghost use Rattle.farm_output.specs.Run.{Run as TheRun};
 ghost use Rattle.farm_run.specs.Pace.{IsPace};
+ghost use Rattle.farm_run.specs.Runs.{Leaves};
 ghost use Rattle.farm_top.specs.Farm.{EndsWith, LacksMemory, RefusesOrders, RunsFarm, TellsReport, pace_of};
+ghost use Rattle.farm_top.specs.Headline.{Headline};
 
 use crate::status::{
     DESK_READ_FAULT, DESK_WRITE_FAULT, DONE, LINE_FAILED, NO_MEMORY, ORDERS_REFUSED,
     ORDERS_TOO_LONG,
+};
+use farm_calls::{
+    items_are_the_partners_frames, items_go_out_in_order_and_once, lines_are_of_whole_calls,
 };
 use farm_orders::{OrdersFault, read_orders};
 use farm_report::{Report, write_report};
@@ -63,6 +73,15 @@ fn tell_report<D: Desk>(alloc: Global, report: &Report, desk: &mut D) -> u8
     }
 }
 
+// A law: what a run leaves on outgoing lines are the lines of whole calls, and its bridges hand frames over.
+fn lines_have_the_headline()
+    ensures { (r : TheRun) (before now : ℕ → Side → LineState) → AreOrders r.orders → Leaves r before now → Headline r before now }
+{
+    lines_are_of_whole_calls();
+    items_are_the_partners_frames();
+    items_go_out_in_order_and_once();
+}
+
 /// Reads the orders from the desk, runs them over the lines of the trunk, and tells the report.
 pub(crate) fn run_farm<R: Threads + Wait + Sync, T: Trunk, D: Desk, G: Gate + Sync>(
     rt: &R,
@@ -85,6 +104,7 @@ pub(crate) fn run_farm<R: Threads + Wait + Sync, T: Trunk, D: Desk, G: Gate + Sy
         slice: settings.slice,
         periods: settings.periods,
     };
+    lines_have_the_headline();
     match run(rt, alloc, &pace, orders, trunk, gate) {
         Ok(report) => tell_report(alloc, &report, desk),
         Err(_) => no_memory(desk),

@@ -1,9 +1,9 @@
 // The top call: the words in, the octets and the text out, and the status.
-ghost use Rattle.std.specs.Prelude.{◌≡◌, ◌≢◌, ◌≤◌, ◌⊎◌, ℕ, List, map, string_bytes, codes};
+ghost use Rattle.std.specs.Prelude.{◌≡◌, ◌≢◌, ◌≤◌, ◌⊎◌, ℕ, List, codes};
 ghost use Rattle.trau_io.specs.declared.line.Side.TheVariants.{Up};
 ghost use Rattle.trau_orders.specs.declared.order.Order.{Order};
 ghost use Rattle.farm_output.specs.Run.{Run};
-ghost use Rattle.farm_run.specs.Runs.{IsRunOver};
+ghost use Rattle.farm_run.specs.Runs.{IsRunOver, Leaves, NoneRose};
 ghost use Rattle.farm_tools.specs.declared.end.Tool.{Tool};
 ghost use Rattle.farm_tools.specs.Causes.{Causes};
 ghost use Rattle.farm_tools.specs.Clean.{CleanRun};
@@ -15,13 +15,10 @@ ghost use Rattle.farm_top.specs.FarmCauses.{RunCauses};
 ghost use Rattle.farm_top.specs.Headline.{Headline};
 ghost use Rattle.farm_top.specs.FarmClean.{CleanFarm, IsCalmRun, TellsOrders};
 ghost use Rattle.farm_top.specs.Top.{Answers, Carries, CarriesAsked, CarriesFrames, IsInRange};
-ghost use Rattle.farm_top.specs.Words.{AreCommand, AsksFor, AsksForFrames, AsksForRun, BeginWithRun};
+ghost use Rattle.farm_top.specs.Words.{AreCommand, AsksFor, AsksForFrames, AsksForRun, BeginWithRun, spelled};
 
 use crate::farm::{no_memory, run_farm};
 use crate::status::{DESK_WRITE_FAULT, DONE, FRAME_REFUSED, LINE_FAILED, NO_MEMORY, USAGE};
-use farm_calls::{
-    items_are_the_partners_frames, items_go_out_in_order_and_once, lines_are_of_whole_calls,
-};
 use farm_tools::{Tool, ToolEnd, decode, encode, frames, relay};
 use farm_words::{Asked, WordsFault, read_words};
 use pool_run::Gate;
@@ -156,61 +153,64 @@ pub fn farm_top<R: Threads + Wait + Sync, T: Trunk, D: Desk, G: Gate + Sync>(
 ) -> u8
     // Status 1 comes exactly where the words are no command's, and then no line is used. Behind `run`, want of memory may
     // come in its place.
-    ensures usage { (AreCommand (map (λ w. string_bytes w) words.now) → ⊥) →
-        (result ≡ 1) ⊎ (BeginWithRun (map (λ w. string_bytes w) words.now) × LacksMemory (D.desk desk.old) (D.desk desk.new) result) }
-    ensures usage_only { AreCommand (map (λ w. string_bytes w) words.now) → result ≢ 1 }
+    ensures usage { (AreCommand (spelled words.now) → ⊥) →
+        (result ≡ 1) ⊎ (BeginWithRun (spelled words.now) × LacksMemory (D.desk desk.old) (D.desk desk.new) result) }
+    ensures usage_only { AreCommand (spelled words.now) → result ≢ 1 }
     ensures usage_text { result ≡ 1 → TextOut (D.desk desk.old) (D.desk desk.new) (codes "usage\n") }
-    ensures unused { (AreCommand (map (λ w. string_bytes w) words.now) → ⊥) → AllStay (T.lines trunk.old) (T.lines trunk.new) }
+    ensures unused { (AreCommand (spelled words.now) → ⊥) → AllStay (T.lines trunk.old) (T.lines trunk.new) }
 
     // What a command does, whatever fails.
-    ensures command { (t : Tool) (c : ℕ) → AsksFor (map (λ w. string_bytes w) words.now) t c →
+    ensures command { (t : Tool) (c : ℕ) → AsksFor (spelled words.now) t c →
         Carries t (T.lines trunk.old) (T.lines trunk.new) (D.desk desk.old) (D.desk desk.new) c result }
-    ensures frames { (c : ℕ) → AsksForFrames (map (λ w. string_bytes w) words.now) c →
+    ensures frames { (c : ℕ) → AsksForFrames (spelled words.now) c →
         CarriesFrames (T.lines trunk.old) (T.lines trunk.new) (D.desk desk.old) (D.desk desk.new) c result }
-    ensures run { (s : Settings) → AsksForRun (map (λ w. string_bytes w) words.now) s →
+    ensures run { (s : Settings) → AsksForRun (spelled words.now) s →
         CarriesRun s (T.lines trunk.old) (T.lines trunk.new) (D.desk desk.old) (D.desk desk.new) result }
 
     // Why each of its statuses comes.
-    ensures causes { (t : Tool) (c : ℕ) → AsksFor (map (λ w. string_bytes w) words.now) t c →
+    ensures causes { (t : Tool) (c : ℕ) → AsksFor (spelled words.now) t c →
         Causes t c (T.lines trunk.old) (T.lines trunk.new) (D.desk desk.old) (D.desk desk.new) result }
-    ensures frames_causes { (c : ℕ) → AsksForFrames (map (λ w. string_bytes w) words.now) c →
+    ensures frames_causes { (c : ℕ) → AsksForFrames (spelled words.now) c →
         FramesCauses (T.lines trunk.old c Up) (T.lines trunk.new c Up) (D.desk desk.old) (D.desk desk.new) result }
-    ensures run_causes { (s : Settings) → AsksForRun (map (λ w. string_bytes w) words.now) s →
+    ensures run_causes { (s : Settings) → AsksForRun (spelled words.now) s →
         RunCauses (T.lines trunk.old) (T.lines trunk.new) (D.desk desk.old) (D.desk desk.new) result }
 
     // Orders in the grammar and within the limits are run to the end where no count rises, unless there is no memory. What
     // the run of these orders over the told lines gives is then exactly what the lines and the desk have gained.
-    ensures run_complete { (s : Settings) → AsksForRun (map (λ w. string_bytes w) words.now) s →
+    ensures run_complete { (s : Settings) → AsksForRun (spelled words.now) s →
         (orders : List Order) → TellsOrders orders (D.desk desk.old) →
         IsCalmRun (T.lines trunk.old) (T.lines trunk.new) (D.desk desk.old) (D.desk desk.new) → (result ≡ 0) ⊎ (result ≡ 5) }
-    ensures run_clean { (s : Settings) → AsksForRun (map (λ w. string_bytes w) words.now) s →
+    ensures run_clean { (s : Settings) → AsksForRun (spelled words.now) s →
         (orders : List Order) → TellsOrders orders (D.desk desk.old) →
         IsCalmRun (T.lines trunk.old) (T.lines trunk.new) (D.desk desk.old) (D.desk desk.new) → result ≢ 5 →
         (r : Run) → IsRunOver orders s.periods (T.lines trunk.old) r →
         CleanFarm r (T.lines trunk.old) (T.lines trunk.new) (D.desk desk.old) (D.desk desk.new) result }
 
+    // Whatever the desk does, where no line's count rises the lines have exactly what the run gives them.
+    ensures run_leaves { (s : Settings) → AsksForRun (spelled words.now) s →
+        (orders : List Order) → TellsOrders orders (D.desk desk.old) →
+        NoneRose (T.lines trunk.old) (T.lines trunk.new) → (result ≡ 0) ⊎ (result ≡ 4) →
+        (r : Run) → IsRunOver orders s.periods (T.lines trunk.old) r → Leaves r (T.lines trunk.old) (T.lines trunk.new) }
+
     // The headline. Whatever the cuts of reads and writes, the orders, the workers, batch and slices and the interleaving of
     // the workers, the octets written on a call's outgoing lines are those of the definition of the call as a whole, of its
     // own incoming lines and orders and, only between a bridge's reported start and end, of its partner's uplink; there each
-    // good speech frame's 260 bits go out unchanged, in order and once.
-    ensures headline { (s : Settings) → AsksForRun (map (λ w. string_bytes w) words.now) s →
+    // good speech frame's 260 bits go out unchanged, in order and once. Of orders that the desk doesn't tell, the clause `run`
+    // says it.
+    ensures headline { (s : Settings) → AsksForRun (spelled words.now) s →
         (orders : List Order) → TellsOrders orders (D.desk desk.old) →
-        IsCalmRun (T.lines trunk.old) (T.lines trunk.new) (D.desk desk.old) (D.desk desk.new) → result ≢ 5 →
+        NoneRose (T.lines trunk.old) (T.lines trunk.new) → (result ≡ 0) ⊎ (result ≡ 4) →
         (r : Run) → IsRunOver orders s.periods (T.lines trunk.old) r → Headline r (T.lines trunk.old) (T.lines trunk.new) }
 
     // Where nothing fails and the outside tells what it holds, the outgoing line has gained exactly what is made of
     // the incoming line's blocks up to the first refused one, and the desk exactly the text.
-    ensures clean { (t : Tool) (c : ℕ) → AsksFor (map (λ w. string_bytes w) words.now) t c →
+    ensures clean { (t : Tool) (c : ℕ) → AsksFor (spelled words.now) t c →
         CleanRun t c (T.lines trunk.old) (T.lines trunk.new) (D.desk desk.old) (D.desk desk.new) result }
-    ensures frames_clean { (c : ℕ) → AsksForFrames (map (λ w. string_bytes w) words.now) c →
+    ensures frames_clean { (c : ℕ) → AsksForFrames (spelled words.now) c →
         CleanFrames c (T.lines trunk.old c Up) (T.lines trunk.new c Up) (D.desk desk.old) (D.desk desk.new) result }
 {
-    // Laws: lines spell one list of orders at most, and then have no bad one; what a run leaves are the lines of whole calls,
-    // and its bridges hand frames over.
+    // A law: lines spell one list of orders at most, and then have no bad one.
     one_answer();
-    lines_are_of_whole_calls();
-    items_are_the_partners_frames();
-    items_go_out_in_order_and_once();
     match read_words(alloc, words) {
         Ok(asked) => carry_out(rt, alloc, asked, trunk, desk, gate),
         Err(WordsFault::Usage) => {

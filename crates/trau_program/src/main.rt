@@ -8,8 +8,9 @@
 #![tactic(auto)]
 
 ghost use Rattle.std.specs.Prelude.{◌≡◌};
+ghost use Rattle.farm_top.specs.Farm.{TextOut};
 ghost use Rattle.trau_program.specs.declared.Refusal.TheVariants.{NoMemory};
-ghost use Rattle.trau_program.specs.Refusals.{status_of, text_of, IsTold};
+ghost use Rattle.trau_program.specs.Refusals.{status_of, text_of};
 
 use farm_top::farm_top;
 use pool_run::OpenGate;
@@ -80,7 +81,7 @@ fn run<R: Env + Files + AllocGlobal + Threads + Wait + Sync, I: Read + Drop, O: 
 // Tells why the top call isn't made. A desk that fails here changes nothing of the status.
 fn refuse<D: Desk>(desk: &mut D, refusal: Refusal) -> u8
     ensures status { result ≡ status_of refusal }
-    ensures text { IsTold (D.desk desk.old) (D.desk desk.new) (text_of refusal) }
+    ensures text { TextOut (D.desk desk.old) (D.desk desk.new) (text_of refusal) }
 {
     let _ = tell(desk, refusal.text());
     refusal.status()

@@ -4,6 +4,6 @@ use Rattle.trau_program.proofs.refuse.Goals as goal
 
 pub returns-clause-text : goal.returns-clause-text
 returns-clause-text g c = record {
-  answer = c.tell.result;
+  result = c.tell.result;
   tells = subst (λ text. Tells (g.D.Desk.desk c.args.desk.now) (g.D.Desk.desk c.tell.new.desk) c.tell.result text) c.text.ensures c.tell.ensures;
 }

@@ -4,6 +4,7 @@ use Rattle.call_leg.specs.Uplink.{handed_fields}
 use Rattle.farm_output.specs.Run.{partner_in}
 use Rattle.farm_calls.specs.Whole.{frame_on}
 use Rattle.farm_calls.proofs.Carried.{carried_only}
+use Rattle.farm_calls.proofs.Going.{handed_goes, sent_counted, one_lost}
 use Rattle.farm_calls.proofs.OnLine.{handed_on_line}
 use Rattle.farm_calls.proofs.Places.{first_made}
 use Rattle.farm_calls.proofs.Sent.{each_sent, sent_handed, handed_place, handed_in_order, handed_once}
@@ -12,14 +13,17 @@ use Rattle.farm_calls.proofs.laws.items_go_out_in_order_and_once.Goals as goal
 pub returns-clause-each : goal.returns-clause-each
 returns-clause-each g = each_sent
 
+pub returns-clause-goes : goal.returns-clause-goes
+returns-clause-goes g = handed_goes g.frames_of_a_call.ensures.items g.frames_of_a_call.ensures.enough
+
 pub returns-clause-sent : goal.returns-clause-sent
-returns-clause-sent g = λ r c t j x a b l h.
-    sent_handed g.frames_of_a_call.ensures.items r c t j x (bits260 (handed_fields (frame_on r (partner_in c x) t))) a b l h
-    (g.items_are_the_partners_frames.ensures.frame r c t x a b)
+returns-clause-sent g = λ r c t x j a s.
+    sent_handed g.frames_of_a_call.ensures.items r c t x j (bits260 (handed_fields (frame_on r (partner_in c x) t))) a s
+    (g.items_are_the_partners_frames.ensures.frame r c t x a s.bridged)
 
 pub returns-clause-good : goal.returns-clause-good
-returns-clause-good g = λ r c t j x p bits a b l h y s.
-    sent_handed g.frames_of_a_call.ensures.items r c t j x (data_of bits) a b l h (g.items_are_the_partners_frames.ensures.good r c t x p bits a b y s)
+returns-clause-good g = λ r c t x j p bits a s y good.
+    sent_handed g.frames_of_a_call.ensures.items r c t x j (data_of bits) a s (g.items_are_the_partners_frames.ensures.good r c t x p bits a s.bridged y good)
 
 pub returns-clause-on_line : goal.returns-clause-on_line
 returns-clause-on_line g = handed_on_line g.frames_of_a_call.ensures.items
@@ -38,3 +42,9 @@ returns-clause-in_order g = handed_in_order
 
 pub returns-clause-once : goal.returns-clause-once
 returns-clause-once g = handed_once
+
+pub returns-clause-counted : goal.returns-clause-counted
+returns-clause-counted g = sent_counted
+
+pub returns-clause-lost : goal.returns-clause-lost
+returns-clause-lost g = one_lost g.frames_of_a_call.ensures.items g.frames_of_a_call.ensures.enough

@@ -1,15 +1,17 @@
-use Rattle.std.proofs.Common.{◌≡◌, inl, inr, ℕ, refl, arith, rules}
+use Rattle.std.proofs.Common.{◌≡◌, ◌⊎◌, inl, inr, ℕ, refl, arith, rules}
 use Rattle.farm_top.specs.Top.{IsInRange}
 use Rattle.farm_top.proofs.Asking.{is_command, no_command, no_listing, no_tool, in_range, tool_carried, listing_carried, run_carried}
 use Rattle.farm_top.proofs.Carrying.{causes, clean, listing_causes, listing_clean}
 use Rattle.farm_top.proofs.FarmCausing.{run_causes}
-use Rattle.farm_top.proofs.FarmCleaning.{run_clean, run_complete}
+use Rattle.farm_top.proofs.FarmCleaning.{ran_to_end, run_clean, run_complete}
 use Rattle.farm_top.proofs.Ending.{not_usage}
-use Rattle.farm_top.proofs.Headlining.{headline_of, hands_over, goes_out, are_orders}
 use Rattle.farm_top.proofs.top.farm_top.Goals as goal
 
 not_five : (status : ℕ) → status ≡ 1 → status ≡ 5 → ⊥
 not_five status one five = omega (arith, one, five)
+
+not_due : (status : ℕ) → (status ≡ 0) ⊎ (status ≡ 4) → status ≡ 5 → ⊥
+not_due status due five = omega (arith, due, five)
 
 pub carry_out-requires : goal.carry_out-requires
 carry_out-requires g c = let range : IsInRange c.in-Ok.asked = in_range _ _ c.in-Ok.ensures.ok in search rules
@@ -51,14 +53,13 @@ returns-in-Ok-clause-run_complete g c = λ s asks orders told calm. run_complete
 pub returns-in-Ok-clause-run_clean : goal.returns-in-Ok-clause-run_clean
 returns-in-Ok-clause-run_clean g c = λ s asks orders told calm. run_clean c.one_answer.ensures.good c.one_answer.ensures.orders s _ _ _ _ _ orders told calm (returns-in-Ok-clause-run g c s asks)
 
+pub returns-in-Ok-clause-run_leaves : goal.returns-in-Ok-clause-run_leaves
+returns-in-Ok-clause-run_leaves g c = λ s asks orders told none due r over.
+    (ran_to_end c.one_answer.ensures.orders s _ _ _ _ _ orders told due (returns-in-Ok-clause-run g c s asks)).1.runs.leaves r over none
+
 pub returns-in-Ok-clause-headline : goal.returns-in-Ok-clause-headline
-returns-in-Ok-clause-headline g c = λ s asks orders told calm not r over.
-    let are = are_orders r s.periods orders _ _ told over in
-    let lines = c.lines_are_of_whole_calls.ensures in
-    let clean = returns-in-Ok-clause-run_clean g c s asks orders told calm not r over in
-    headline_of r _ _ (λ n opened. lines.out r n are opened) (λ n opened. lines.down r n are opened) (hands_over r (λ n t x. c.items_are_the_partners_frames.ensures.frame r n t x are) (λ n t. c.items_are_the_partners_frames.ensures.none r n t are))
-    (goes_out r (λ n t first j x. c.items_go_out_in_order_and_once.ensures.place r n t first j x are) (λ n t j x p bits. c.items_go_out_in_order_and_once.ensures.good r n t j x p bits are) (λ n t j k x. c.items_go_out_in_order_and_once.ensures.on_line r n t j k x are)
-    (λ n t u j k x. c.items_go_out_in_order_and_once.ensures.in_order r n t u j k x are) (λ n t j k x. c.items_go_out_in_order_and_once.ensures.once r n t j k x are)) clean.leaves
+returns-in-Ok-clause-headline g c = λ s asks orders told none due r over.
+    (ran_to_end c.one_answer.ensures.orders s _ _ _ _ _ orders told due (returns-in-Ok-clause-run g c s asks)).1.headline r over none
 
 pub returns-in-Ok-clause-clean : goal.returns-in-Ok-clause-clean
 returns-in-Ok-clause-clean g c = λ t n asks. clean _ _ _ _ n _ t (returns-in-Ok-clause-command g c t n asks)
@@ -87,6 +88,9 @@ returns-in-Err-Usage-clause-frames_causes g c = λ n asks. absurd (no_command _ 
 
 pub returns-in-Err-Usage-clause-run_causes : goal.returns-in-Err-Usage-clause-run_causes
 returns-in-Err-Usage-clause-run_causes g c = λ s asks. absurd (no_command _ (c.in-Err-Usage.ensures.usage (search rules)) (inr (inr (s, asks))))
+
+pub returns-in-Err-Usage-clause-run_leaves : goal.returns-in-Err-Usage-clause-run_leaves
+returns-in-Err-Usage-clause-run_leaves g c = λ s asks. absurd (no_command _ (c.in-Err-Usage.ensures.usage (search rules)) (inr (inr (s, asks))))
 
 pub returns-in-Err-Usage-clause-headline : goal.returns-in-Err-Usage-clause-headline
 returns-in-Err-Usage-clause-headline g c = λ s asks. absurd (no_command _ (c.in-Err-Usage.ensures.usage (search rules)) (inr (inr (s, asks))))
@@ -137,8 +141,11 @@ returns-in-Err-Memory-clause-run_complete g c = λ s asks orders told calm. run_
 pub returns-in-Err-Memory-clause-run_clean : goal.returns-in-Err-Memory-clause-run_clean
 returns-in-Err-Memory-clause-run_clean g c = λ s asks orders told calm. run_clean c.one_answer.ensures.good c.one_answer.ensures.orders s _ _ _ _ _ orders told calm (returns-in-Err-Memory-clause-run g c s asks)
 
+pub returns-in-Err-Memory-clause-run_leaves : goal.returns-in-Err-Memory-clause-run_leaves
+returns-in-Err-Memory-clause-run_leaves g c = λ s asks orders told none due. absurd (not_due _ due c.no_memory.ensures.status_is)
+
 pub returns-in-Err-Memory-clause-headline : goal.returns-in-Err-Memory-clause-headline
-returns-in-Err-Memory-clause-headline g c = λ s asks orders told calm not. absurd (not c.no_memory.ensures.status_is)
+returns-in-Err-Memory-clause-headline g c = λ s asks orders told none due. absurd (not_due _ due c.no_memory.ensures.status_is)
 
 pub returns-in-Err-Memory-clause-clean : goal.returns-in-Err-Memory-clause-clean
 returns-in-Err-Memory-clause-clean g c = λ t n asks. absurd (no_tool _ t n (c.in-Err-Memory.ensures.memory (search rules)) asks)
