@@ -47,7 +47,7 @@ def check(command, status):
 
 
 def clear(command):
-    """Removes what an earlier run made. Where a file that is there is cut short, this system's disk would have it written
+    """Removes what an earlier run made. Where a file that is there is cut short, some file systems (ext4) have it written
     out when it is closed, and the command would wait for that."""
     for pattern in [*command.makes, *([command.output] if command.output else [])]:
         for path in glob.glob(os.path.join(command.folder, pattern)):

@@ -8,9 +8,9 @@ output and standard error together. Each session begins in a folder of its own u
 and `tools` and the scripts `trau` and `demo`, as the top of the repository has them. Nothing is written elsewhere, but
 with --write, which puts the real output into the documents. Fenced blocks are not run.
 
-Three things more are compared: that the files exist to which a document's links lead; that a fenced block whose first
-line names a file, as ```rust crates/C/src/lib.rt, stands in that file word for word; and that each function stands in
-the file that a row of a table names, `CRATE/src/FILE.rt` in its first column and the functions in its second.
+Three things more are compared: that the files and headings exist to which a document's links lead; that a fenced block
+whose first line names a file, as ```rust crates/C/src/lib.rt, stands in that file word for word; and that each function
+stands in the file that a row of a table names, `CRATE/src/FILE.rt` in its first column and the functions in its second.
 """
 
 import difflib
@@ -31,9 +31,12 @@ INDENT = "    "
 
 
 def documents():
-    """The documents that show commands, in a fixed order."""
-    fixed = [TOP / "README.md", TOP / "examples/README.md", TOP / "tools/README.md"]
-    return [path for path in fixed + sorted(TOP.glob("docs/**/*.md")) if path.exists()]
+    """All documents of the repository but those that are made, README.md first."""
+    found = []
+    for folder, names, files in os.walk(TOP):
+        names[:] = [name for name in names if name != "out" and not name.startswith(".")]
+        found += [pathlib.Path(folder, name) for name in files if name.endswith(".md")]
+    return sorted(found, key=lambda path: (len(path.parts), path))
 
 
 def sessions(lines):
@@ -122,12 +125,21 @@ def run(session, folder):
     return [line.rstrip() for line in text.splitlines()]
 
 
+def headings(text):
+    """What a link calls each heading: its words in small letters without signs, and a hyphen for each space."""
+    shown = re.sub(r"^(```+|~~~+).*?^\1\s*$", "", text, flags=re.M | re.S)
+    return {re.sub(r"[^\w -]", "", words).lower().replace(" ", "-") for words in re.findall(r"^#+ (.+?) *$", shown, re.M)}
+
+
 def links(path, text):
     """The links of a document that lead nowhere."""
     found = []
-    for link in re.findall(r"\]\(([^)#: ]+)(?:#[^)]*)?\)", text):
-        if not (path.parent / link).exists():
-            found.append(f"no file {link}")
+    for name, heading in re.findall(r"\]\(([^)#: ]*)(?:#([^)]*))?\)", text):
+        target = path.parent / name if name else path
+        if not target.exists():
+            found.append(f"no file {name}")
+        elif heading and heading not in headings(target.read_text()):
+            found.append(f"no heading {name}#{heading}")
     return found
 
 

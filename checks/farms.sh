@@ -1,13 +1,13 @@
 #!/bin/sh
-# `trau run` on three recorded farms (checks/farms/README.md): each outgoing line and the report, octet for octet, with
-# each of the command lines of checks/farms/words.txt.
+# `trau run` on three recorded farms (checks/farms/README.md): each outgoing line and the report, octet for octet, and that the
+# incoming lines stay as they were, with each of the command lines of checks/farms/words.txt.
 set -eu
 top=$(cd "$(dirname "$0")/.." && pwd)
 work=$(mktemp -d)
 trap 'rm -rf "$work"' EXIT
 failed=0
 
-# lay NAME: puts the farm's incoming lines and orders into $work/given, and what must come into $work/wanted
+# lay NAME: puts the farm's incoming lines and orders into $work/given, and these with what must come into $work/wanted
 lay() {
     rm -rf "$work/given" "$work/wanted"
     mkdir "$work/given" "$work/wanted"
@@ -29,6 +29,7 @@ lay() {
         *) cp "$file" "$work/wanted" ;;
         esac
     done
+    cp "$work"/given/* "$work/wanted"
 }
 
 # compare NAME WORDS..: runs the farm in a folder of its own
@@ -39,7 +40,6 @@ compare() {
     cp -r "$work/given" "$work/run"
     status=0
     (cd "$work/run" && "$top/trau" "$@" <orders.txt >report.txt) || status=$?
-    (cd "$work/run" && rm -f ./*.up ./*.pcm orders.txt)
     if [ "$status" = 0 ] && diff -r "$work/wanted" "$work/run" >"$work/differences"; then
         echo "ok $name: $*"
     else

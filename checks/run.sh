@@ -275,12 +275,19 @@ printf '0 open 1' | "$top/trau" run >/dev/full || status=$?
 : >text
 expect "a full standard output" 4 </dev/null
 
-# Little memory.
-status=0
-(ulimit -v 3000 && printf '0 open 1' | "${TRAU_PROGRAM:-$top/crates/trau_program/out/trau_program}" run) >text || status=$?
-expect "little memory" 5 <<'TEXT'
-no memory
-TEXT
+# With less and less memory the program ends with status 5 and its text, until it can't be started at all.
+echo '0 open 1' >one
+met=0
+for limit in 6000 5000 4000 3600 3400 3200 3000 2900 2800 2700 2600 2500; do
+    status=0
+    (ulimit -v "$limit" && exec "${TRAU_PROGRAM:-$top/crates/trau_program/out/trau_program}" run) >text 2>/dev/null <one || status=$?
+    case "$status $(cat text)" in
+    "5 no memory") met=$((met + 1)) ;;
+    "0 order 1 ok"*"end period 3 calls 1 left 0") ;;
+    *) break ;;
+    esac
+done
+if [ "$met" -gt 0 ]; then echo "ok want of memory ($met limits)"; else fail "want of memory: no limit gave status 5"; fi
 
 # As many calls as there are numbers, a period each: all end with their lines.
 head -c 40 1.up >up

@@ -1,11 +1,7 @@
 #!/bin/sh
-# The tools of tools/: their tests, and the worked examples of tools/README.md.
+# The tests of tools/. (The commands that tools/README.md shows: checks/documents.sh.)
 set -eu
 top=$(cd "$(dirname "$0")/.." && pwd)
-if ! command -v python3 >/dev/null; then
-    echo "skipped: no Python 3"
-    exit 0
-fi
 work=$(mktemp -d)
 trap 'rm -rf "$work"' EXIT
 export PYTHONDONTWRITEBYTECODE=1

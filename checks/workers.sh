@@ -1,5 +1,5 @@
 #!/bin/sh
-# `trau run` of eight calls by 500 periods, with speech, silence, losses, slips, DTX and two bridges: whatever the batch, the
+# `trau run` of eight calls by 500 periods, with speech, silence, losses, slips, DTX and three bridges: whatever the batch, the
 # workers and the slices, each line and the report are the same, octet for octet.
 set -eu
 top=$(cd "$(dirname "$0")/.." && pwd)
