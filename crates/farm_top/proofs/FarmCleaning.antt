@@ -68,7 +68,7 @@ module _ (s : Settings) (before now : ℕ → Side → LineState) (desk read des
       let all_read : read.to_come ≡ Some [] = none_left told.text reads.given read.to_come (subst (λ (o : Option (List ℕ)). Consumes o read.to_come reads.given) told.told reads.consumed) reads.answer.0 in
       let same : taken ≡ orders = one (text_lines told.text) taken orders answers.1 told.spelled in
       reported written silent all_read ran.report (subst (λ (os : List Order). Runs os (pace_of s) before now ran.report) same ran.runs) ran.tells
-  followed good one told (Ok taken) reads answers unread written silent (inr ends) = inl ends.status_is
+  followed good one told (Ok taken) reads answers unread written silent (inr (sides, ends)) = inl ends.status_is
   followed good one told (Err Unread) reads answers unread written silent (stay, ends) =
       absurd (not_rose desk.read_faults desk'.read_faults calm.reading (subst (λ (n : ℕ). Rose desk.read_faults n) (sym ends.text_out.tells.read_faults) (unread refl)))
   followed good one told (Err TooLong) reads answers unread written silent (stay, ends) = absurd (not_long told.text told.within answers)
@@ -82,7 +82,7 @@ module _ (one : SpellsOneList) (s : Settings) (before now : ℕ → Side → Lin
   ran_by : (read : DeskState) (reading : Result (List Order) OrdersFault) → AnswersTold told.text reading → FollowsReading reading s before now read desk' status →
       RunsAndTells orders (pace_of s) before now read desk' status
   ran_by read (Ok taken) answers (inl ran) = subst (λ (os : List Order). RunsAndTells os (pace_of s) before now read desk' status) (one (text_lines told.text) taken orders answers.1 told.spelled) ran
-  ran_by read (Ok taken) answers (inr ends) = let is = ends.status_is in absurd (omega (arith, due, is))
+  ran_by read (Ok taken) answers (inr (sides, ends)) = let is = ends.status_is in absurd (omega (arith, due, is))
   ran_by read (Err Unread) answers (stay, ends) = let is = ends.status_is in absurd (omega (arith, due, is))
   ran_by read (Err TooLong) answers (stay, ends) = let is = ends.status_is in absurd (omega (arith, due, is))
   ran_by read (Err (Line n)) answers (stay, inl ends) = let is = ends.status_is in absurd (omega (arith, due, is))

@@ -14,7 +14,7 @@ use Rattle.farm_output.specs.Run.{Run}
 use Rattle.farm_report.specs.Lines.{report_text}
 use Rattle.farm_report.specs.View.{ReportView}
 use Rattle.farm_run.specs.declared.pace.Pace.{Pace}
-use Rattle.farm_run.specs.Runs.{IsRunOver, NoneRose, Runs}
+use Rattle.farm_run.specs.Runs.{IsRunOver, KeepsSides, NoneRose, Runs}
 use Rattle.farm_words.specs.declared.asked.Settings.{Settings}
 use Rattle.farm_top.specs.Headline.{Headline}
 
@@ -73,9 +73,10 @@ pub record RunsAndTells (orders : List Order) (pace : Pace) (before now : ℕ �
   pub headline : (r : Run) → IsRunOver orders pace.periods before r → NoneRose before now → Headline r before now
   pub tells : TellsReport report desk desk' status
 
--- what follows the reading: the run, unless there was no memory for it; or the refusal of the orders, and no line was used
+-- what follows the reading: the run, unless there was no memory for it, and then too incoming lines were only read and
+-- outgoing ones only written; or the refusal of the orders, and no line was used
 abbrev pub FollowsReading : Result (List Order) OrdersFault → Settings → (ℕ → Side → LineState) → (ℕ → Side → LineState) → DeskState → DeskState → ℕ → Type 0
-FollowsReading (Ok orders) s before now desk desk' status = RunsAndTells orders (pace_of s) before now desk desk' status ⊎ LacksMemory desk desk' status
+FollowsReading (Ok orders) s before now desk desk' status = RunsAndTells orders (pace_of s) before now desk desk' status ⊎ (KeepsSides before now × LacksMemory desk desk' status)
 FollowsReading (Err fault) s before now desk desk' status = AllStay before now × RefusesOrders fault desk desk' status
 
 -- a whole command `run`, whatever fails: the desk is read, and what follows is by the reading
