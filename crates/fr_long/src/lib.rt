@@ -22,7 +22,7 @@ mod encoder;
 mod gain;
 mod gain_code;
 mod lag;
-mod law;
+mod laws;
 mod ltp;
 mod memory;
 mod scaling;
@@ -30,5 +30,5 @@ mod sums;
 
 pub use decoder::LtpDecoder;
 pub use encoder::LtpHistory;
-pub use law::one_prediction;
+pub use laws::{one_lag, one_prediction};
 pub use ltp::Ltp;
