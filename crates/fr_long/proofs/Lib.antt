@@ -4,3 +4,4 @@ pub mod Lags
 pub mod Lanes
 pub mod Predictions
 pub mod Search
+pub mod Words

@@ -1,5 +1,6 @@
 -- The lag of a block (GSM 06.10, section 4.2.11).
-use Rattle.std.specs.Prelude.{◌≡◌, ℕ, ◌<◌, ◌≤◌, ℤ, pos, ◌+ℤ◌, ◌<ℤ◌, ◌≤ℤ◌, ◌⊎◌, Bool, ◌&&◌, if◌then◌else◌, int_lt, int_le, List, map, fold}
+use Rattle.std.specs.Prelude.{◌≡◌, ℕ, ◌<◌, ◌≤◌, ℤ, pos, ◌+ℤ◌, ◌<ℤ◌, ◌≤ℤ◌, ◌⊎◌, Bool, ◌&&◌, if◌then◌else◌, int_lt, int_le, List, map, fold, FitsSigned}
+use Rattle.std.specs.Int.{w16}
 use Rattle.std.specs.List.{range_with_len, find, list_all}
 use Rattle.std.specs.Option.{unwrap_or}
 use Rattle.trau_num.specs.Num.{l_mult_of, entry}
@@ -8,6 +9,10 @@ use Rattle.fr_long.specs.Synthesis.{sample_before}
 -- the correlation of a scaled block with the 40 residuals a lag before: the sum over k = 0 to 39 of L_mult(wt[k], dp[k - lag])
 unfoldable pub correlation_of : List ℤ → List ℤ → ℕ → ℤ
 correlation_of wt earlier lag = fold ◌+ℤ◌ (pos 0) (map (λ k. l_mult_of (entry wt k) (sample_before earlier lag k)) (range_with_len 0 40))
+
+-- each residual is a word of 16 bits
+abbrev pub AreWords : List ℤ → Type 0
+AreWords earlier = (k : ℕ) → FitsSigned w16 (entry earlier k)
 
 -- the lags of 40 to 120
 unfoldable pub lags : List ℕ

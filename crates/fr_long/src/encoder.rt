@@ -21,9 +21,15 @@ pub struct LtpHistory {
 }
 
 impl Model for LtpHistory {
+    ghost use Rattle.std.specs.Prelude.{ℤ, List};
+    ghost use Rattle.fr_long.specs.Lag.{AreWords};
+
     ghost Value = { List ℤ };
 
     ghost view = { λ history. history.dp };
+
+    // What a read of lanes doesn't tell.
+    ghost invariant = { λ history. AreWords history.dp };
 }
 
 impl LtpHistory {
