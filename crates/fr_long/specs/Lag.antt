@@ -14,7 +14,7 @@ correlation_of wt earlier lag = fold ◌+ℤ◌ (pos 0) (map (λ k. l_mult_of (e
 abbrev pub AreWords : List ℤ → Type 0
 AreWords earlier = (k : ℕ) → FitsSigned w16 (entry earlier k)
 
--- the lags of 40 to 120
+-- the lags that a block can have: 40 to 120
 unfoldable pub lags : List ℕ
 lags = range_with_len 40 81
 
@@ -23,22 +23,22 @@ unfoldable pub is_best : (ℕ → ℤ) → ℕ → Bool
 is_best correlation lag =
     int_lt (pos 0) (correlation lag) && list_all (λ other. int_le (correlation other) (correlation lag)) lags
 
--- Nc: the least of the best lags, or 40 where there is none, which is where no lag has a positive correlation
+-- Nc: the least of the best lags, or 40 where there is none, since no correlation is positive
 unfoldable pub lag_of : (ℕ → ℤ) → ℕ
 lag_of correlation = unwrap_or (find (is_best correlation) lags) 40
 
--- the same said as a property: the lag is one of the best
+-- the same as properties of a lag: it is one of the best
 pub record IsBest (correlation : ℕ → ℤ) (lag : ℕ) : Type 0 where
   pub positive : pos 0 <ℤ correlation lag
   pub greatest : (other : ℕ) → 40 ≤ other → other ≤ 120 → correlation other ≤ℤ correlation lag
 
--- the lag is the least of the best, or 40 where no lag has a positive correlation
+-- it is the least of the best, or 40 where no correlation is positive
 abbrev pub IsChosen : (ℕ → ℤ) → ℕ → Type 0
 IsChosen correlation lag =
     (IsBest correlation lag × ((other : ℕ) → 40 ≤ other → other < lag → correlation other <ℤ correlation lag)) ⊎
     ((lag ≡ 40) × ((other : ℕ) → 40 ≤ other → other ≤ 120 → correlation other ≤ℤ pos 0))
 
--- and it is one of 40 to 120
+-- it is one of 40 to 120, and so chosen
 pub record IsLag (correlation : ℕ → ℤ) (lag : ℕ) : Type 0 where
   pub at_least : 40 ≤ lag
   pub at_most : lag ≤ 120

@@ -45,7 +45,7 @@ prediction_of d earlier =
     let dpp = predicted_of earlier nc bc in
     record { nc = nc; bc = bc; dpp = dpp; e = rest_of d dpp }
 
--- the same said as a property
+-- the same as a property of a prediction
 pub record IsPrediction (d earlier : List ℤ) (p : Prediction) : Type 0 where
   pub lag : IsLag (correlation_of_block d earlier) p.nc
   pub gain : p.bc ≡ code_of (l_max_of d earlier p.nc) (power_of earlier p.nc)

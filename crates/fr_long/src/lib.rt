@@ -8,7 +8,7 @@
 //! into the history. `scaling`, `lag` over `correlations`, `sums` and `gain_code` are its steps. The
 //! decoding side is `LtpDecoder`. It takes a block of pulses from `fr_rpe` and adds the prediction back;
 //! short-term synthesis takes the reconstructed residual from there. Both use the gains of `gain` and the
-//! `memory` of 120 samples.
+//! `memory` of 120 samples. `laws` says that a block has one lag and one prediction.
 //!
 //! Definitions: `specs/Prediction.antt` is what the encoder answers and keeps, made of `specs/Scaling.antt`,
 //! `specs/Lag.antt` and `specs/GainCode.antt`; `specs/Synthesis.antt` is the decoder over all blocks from

@@ -20,7 +20,7 @@ energy_up_to n x m = fold ◌+ℤ◌ (pos 0) (map (λ i. sample_energy (entry x 
 abbrev pub grid_energy : List ℤ → ℕ → ℤ
 grid_energy x m = energy_up_to 13 x m
 
--- the four grids, by the places that they start at
+-- the four grids, each by the place that it starts at
 unfoldable pub grids : List ℕ
 grids = range_with_len 0 4
 
@@ -28,7 +28,7 @@ grids = range_with_len 0 4
 unfoldable pub is_strongest : List ℤ → ℕ → Bool
 is_strongest x m = list_all (λ n. int_le (grid_energy x n) (grid_energy x m)) grids
 
--- Mc: the first of the four grids than which none has more energy (there is one, so the 0 behind the search is never taken)
+-- Mc: the first of the strongest grids (there is one, so no block gets the 0 for none)
 unfoldable pub grid_of : List ℤ → ℕ
 grid_of x = unwrap_or (find (is_strongest x) grids) 0
 
