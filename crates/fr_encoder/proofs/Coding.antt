@@ -1,42 +1,39 @@
 -- The blocks of a frame.
 use Rattle.std.proofs.Common.{◌≡◌, ℕ, ℤ, List, [], ◌∷◌, ◌++◌, drop, refl, sym, All}
 use Rattle.std.proofs.lemmas.List.Elements.{All-cons, All-nil}
-use Rattle.fr_long.specs.GainCode.{power_of, code_of}
-use Rattle.fr_long.specs.Prediction.{correlation_of_block, l_max_of, predicted_of, rest_of, IsPrediction, reconstructed_of, updated, after_zeros, HistoryStands}
+use Rattle.fr_long.specs.Prediction.{Prediction, prediction_of, reconstructed_of, updated, after_zeros, HistoryStands}
 use Rattle.fr_long.proofs.Predictions.{by_history, one_update}
 use Rattle.fr_rpe.specs.Encoding.{mc_of, xmaxc_of, xmc_of, xmax_of}
 use Rattle.fr_rpe.specs.Pulses.{block_of}
-use Rattle.fr_encoder.specs.Blocks.{CodedBlock, lag_of, coded_block, block_at, block_after, four_blocks}
+use Rattle.fr_encoder.specs.Blocks.{CodedBlock, coded_block, block_at, block_after, four_blocks}
 use Rattle.fr_encoder.specs.Step.{next_block, next_blocks}
-use Rattle.fr_encoder.proofs.Lags.{lag_is, IsLag-lag_of}
 
 -- a block that is predicted so, and whose rest has these codes
-pub coded : (d earlier : List ℤ) (nc bc : ℕ) (dpp e : List ℤ) (mc xmaxc : ℕ) (xmc : List ℕ) (xmax : ℤ) (ep : List ℤ) →
-    IsPrediction d earlier nc bc dpp e → mc ≡ mc_of e → xmaxc ≡ xmaxc_of e → xmc ≡ xmc_of e → xmax ≡ xmax_of e →
-    ep ≡ block_of (mc_of e) (xmaxc_of e) (xmc_of e) →
-    coded_block d earlier ≡ (record { nc = nc; bc = bc; mc = mc; xmaxc = xmaxc; xmc = xmc; xmax = xmax }, reconstructed_of dpp ep)
+coded : (d earlier : List ℤ) (p : Prediction) (mc xmaxc : ℕ) (xmc : List ℕ) (xmax : ℤ) (ep : List ℤ) →
+    p ≡ prediction_of d earlier → mc ≡ mc_of p.e → xmaxc ≡ xmaxc_of p.e → xmc ≡ xmc_of p.e → xmax ≡ xmax_of p.e →
+    ep ≡ block_of (mc_of p.e) (xmaxc_of p.e) (xmc_of p.e) →
+    coded_block d earlier ≡ (record { nc = p.nc; bc = p.bc; mc = mc; xmaxc = xmaxc; xmc = xmc; xmax = xmax }, reconstructed_of p.dpp ep)
 unfolding coded_block
-coded d earlier nc bc dpp e mc xmaxc xmc xmax ep h em ea ec ex ep' =
-    rw (sym (lag_is _ nc h.lag), sym h.gain, sym h.predicted, sym h.rest, sym ep', sym em, sym ea, sym ec, sym ex) refl
+coded d earlier p mc xmaxc xmc xmax ep h em ea ec ex ep' = rw (sym h, sym ep', sym em, sym ea, sym ec, sym ex) refl
 
 -- and what it leaves
-pub one_step : (d residuals next : List ℤ) (nc bc : ℕ) (dpp e : List ℤ) (mc xmaxc : ℕ) (xmc : List ℕ) (xmax : ℤ) (ep : List ℤ) →
-    IsPrediction d residuals nc bc dpp e → mc ≡ mc_of e → xmaxc ≡ xmaxc_of e → xmc ≡ xmc_of e → xmax ≡ xmax_of e →
-    ep ≡ block_of (mc_of e) (xmaxc_of e) (xmc_of e) → next ≡ updated residuals dpp ep →
-    next_block residuals d ≡ (record { nc = nc; bc = bc; mc = mc; xmaxc = xmaxc; xmc = xmc; xmax = xmax }, next)
+pub one_step : (d residuals next : List ℤ) (p : Prediction) (mc xmaxc : ℕ) (xmc : List ℕ) (xmax : ℤ) (ep : List ℤ) →
+    p ≡ prediction_of d residuals → mc ≡ mc_of p.e → xmaxc ≡ xmaxc_of p.e → xmc ≡ xmc_of p.e → xmax ≡ xmax_of p.e →
+    ep ≡ block_of (mc_of p.e) (xmaxc_of p.e) (xmc_of p.e) → next ≡ updated residuals p.dpp ep →
+    next_block residuals d ≡ (record { nc = p.nc; bc = p.bc; mc = mc; xmaxc = xmaxc; xmc = xmc; xmax = xmax }, next)
 unfolding next_block updated
-one_step d residuals next nc bc dpp e mc xmaxc xmc xmax ep h em ea ec ex ep' next' =
-    let this = coded d residuals nc bc dpp e mc xmaxc xmc xmax ep h em ea ec ex ep' in
+one_step d residuals next p mc xmaxc xmc xmax ep h em ea ec ex ep' next' =
+    let this = coded d residuals p mc xmaxc xmc xmax ep h em ea ec ex ep' in
     rw (this, next') refl
 
 -- the same after all reconstructed residuals of a past
-pub one_history : (d past next : List ℤ) (nc bc : ℕ) (dpp e : List ℤ) (mc xmaxc : ℕ) (xmc : List ℕ) (xmax : ℤ) (ep : List ℤ) →
-    IsPrediction d (after_zeros past) nc bc dpp e → mc ≡ mc_of e → xmaxc ≡ xmaxc_of e → xmc ≡ xmc_of e → xmax ≡ xmax_of e →
-    ep ≡ block_of (mc_of e) (xmaxc_of e) (xmc_of e) → HistoryStands (past ++ reconstructed_of dpp ep) next →
-    HistoryStands (block_after past d).1 next × (record { nc = nc; bc = bc; mc = mc; xmaxc = xmaxc; xmc = xmc; xmax = xmax } ≡ (block_after past d).0)
+pub one_history : (d past next : List ℤ) (p : Prediction) (mc xmaxc : ℕ) (xmc : List ℕ) (xmax : ℤ) (ep : List ℤ) →
+    p ≡ prediction_of d (after_zeros past) → mc ≡ mc_of p.e → xmaxc ≡ xmaxc_of p.e → xmc ≡ xmc_of p.e → xmax ≡ xmax_of p.e →
+    ep ≡ block_of (mc_of p.e) (xmaxc_of p.e) (xmc_of p.e) → HistoryStands (past ++ reconstructed_of p.dpp ep) next →
+    HistoryStands (block_after past d).1 next × (record { nc = p.nc; bc = p.bc; mc = mc; xmaxc = xmaxc; xmc = xmc; xmax = xmax } ≡ (block_after past d).0)
 unfolding block_after
-one_history d past next nc bc dpp e mc xmaxc xmc xmax ep h em ea ec ex ep' stands =
-    let this = coded d (after_zeros past) nc bc dpp e mc xmaxc xmc xmax ep h em ea ec ex ep' in
+one_history d past next p mc xmaxc xmc xmax ep h em ea ec ex ep' stands =
+    let this = coded d (after_zeros past) p mc xmaxc xmc xmax ep h em ea ec ex ep' in
     rw this (stands, refl)
 
 -- the steps of four blocks are the step of the frame
@@ -80,14 +77,10 @@ updated_is residuals dpp ep = refl
 block-stands : (d residuals : List ℤ) → IsCoded residuals d (next_block residuals d).0 (next_block residuals d).1
 unfolding next_block coded_block
 block-stands d residuals = λ past h.
-    let nc = lag_of (correlation_of_block d residuals) in
-    let bc = code_of (l_max_of d residuals nc) (power_of residuals nc) in
-    let dpp = predicted_of residuals nc bc in
-    let e = rest_of d dpp in
-    let here : IsPrediction d residuals nc bc dpp e = record { lag = IsLag-lag_of (correlation_of_block d residuals); gain = refl; predicted = refl; rest = refl } in
-    let ep = block_of (mc_of e) (xmaxc_of e) (xmc_of e) in
-    one_history d past (drop 40 residuals ++ reconstructed_of dpp ep) nc bc dpp e _ _ _ _ ep (by_history past residuals d nc bc dpp e h here) refl refl refl refl refl
-    (one_update past residuals dpp ep (drop 40 residuals ++ reconstructed_of dpp ep) h (updated_is residuals dpp ep))
+    let p = prediction_of d residuals in
+    let ep = block_of (mc_of p.e) (xmaxc_of p.e) (xmc_of p.e) in
+    one_history d past (drop 40 residuals ++ reconstructed_of p.dpp ep) p _ _ _ _ ep (by_history past residuals d h) refl refl refl refl refl
+    (one_update past residuals p.dpp ep (drop 40 residuals ++ reconstructed_of p.dpp ep) h (updated_is residuals p.dpp ep))
 
 pub blocks-stand : (s residuals past : List ℤ) → HistoryStands past residuals →
     HistoryStands (four_blocks past s).1 (next_blocks residuals s).1 × ((next_blocks residuals s).0 ≡ (four_blocks past s).0)

@@ -1,4 +1,3 @@
--- Lemmas on lags and blocks.
-mod Lags
+-- Lemmas on blocks and frames.
 mod Coding
 pub mod Frames

@@ -1,16 +1,8 @@
 -- The coding of a frame's four blocks (GSM 06.10, sections 4.2.11 to 4.2.18).
-use Rattle.std.specs.Prelude.{ℕ, ◌+◌, ◌*◌, ℤ, pos, if◌then◌else◌, int_lt, List, [], ◌∷◌, ◌++◌, take, drop, map}
-use Rattle.fr_long.specs.GainCode.{power_of, code_of}
-use Rattle.fr_long.specs.Prediction.{correlation_of_block, l_max_of, predicted_of, rest_of, reconstructed_of, after_zeros}
+use Rattle.std.specs.Prelude.{ℕ, ◌*◌, ℤ, List, [], ◌∷◌, ◌++◌, take, drop, map}
+use Rattle.fr_long.specs.Prediction.{prediction_of, reconstructed_of, after_zeros}
 use Rattle.fr_rpe.specs.Encoding.{mc_of, xmaxc_of, xmc_of, xmax_of}
 use Rattle.fr_rpe.specs.Pulses.{block_of}
-use Rattle.fr_rpe.specs.Selection.{least_greatest}
-
--- Nc: the least lag of 40 to 120 with the greatest correlation, or 40 where that isn't positive
-unfoldable pub lag_of : (ℕ → ℤ) → ℕ
-lag_of correlation =
-    let best = 40 + least_greatest (λ i. correlation (40 + i)) 80 in
-    if int_lt (pos 0) (correlation best) then best else 40
 
 -- what a block is coded to, and its maximum before it was coded
 pub record CodedBlock : Type 0 where
@@ -24,12 +16,9 @@ pub record CodedBlock : Type 0 where
 -- block d of 40 residuals after the earlier reconstructed ones: what it is coded to, and its reconstructed residuals
 unfoldable pub coded_block : List ℤ → List ℤ → CodedBlock × List ℤ
 coded_block d earlier =
-    let nc = lag_of (correlation_of_block d earlier) in
-    let bc = code_of (l_max_of d earlier nc) (power_of earlier nc) in
-    let dpp = predicted_of earlier nc bc in
-    let e = rest_of d dpp in (
-      record { nc = nc; bc = bc; mc = mc_of e; xmaxc = xmaxc_of e; xmc = xmc_of e; xmax = xmax_of e },
-      reconstructed_of dpp (block_of (mc_of e) (xmaxc_of e) (xmc_of e)),
+    let p = prediction_of d earlier in (
+      record { nc = p.nc; bc = p.bc; mc = mc_of p.e; xmaxc = xmaxc_of p.e; xmc = xmc_of p.e; xmax = xmax_of p.e },
+      reconstructed_of p.dpp (block_of (mc_of p.e) (xmaxc_of p.e) (xmc_of p.e)),
     )
 
 -- block j of a frame's residual

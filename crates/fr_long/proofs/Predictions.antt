@@ -1,25 +1,26 @@
--- A prediction by the last 120 residuals is one by all earlier residuals.
-use Rattle.std.proofs.Common.{◌≡◌, ℕ, ℤ, ◌-◌, ◌≤◌, ◌<◌, pos, ◌+ℤ◌, int_lt, if◌then◌else◌, List, ◌++◌, length, drop, map, fold, replicate, sym, ap, subst, ◌∙◌, inl, inr, ⊎_elim, append_assoc, arith}
+-- A block has one prediction, and that by the last 120 residuals is that by all earlier residuals.
+use Rattle.std.proofs.Common.{◌≡◌, ℕ, ℤ, ◌-◌, ◌≤◌, pos, ◌+ℤ◌, int_lt, if◌then◌else◌, List, ◌++◌, length, drop, map, fold, replicate, refl, sym, ap, subst, ◌∙◌, inl, inr, ⊎_elim, append_assoc, arith}
 use Rattle.std.specs.List.{range_with_len}
 use Rattle.std.proofs.lemmas.Int.{ints}
-use Rattle.std.proofs.lemmas.Bool.{cases_lt}
 use Rattle.std.proofs.lemmas.List.{length-append, length-replicate}
 use Rattle.std.proofs.lemmas.List.FromFn.{length-map-range_with_len}
 use Rattle.trau_num.specs.Num.{add_of, mult_r_of, l_mult_of, floor_shr, entry}
 use Rattle.fr_long.specs.Gain.{gain_of}
 use Rattle.fr_long.specs.Memory.{last_120}
 use Rattle.fr_long.specs.Scaling.{scaling_of, scaled_down}
-use Rattle.fr_long.specs.Lag.{correlation_of, IsBest, IsChosen, IsLag, greatest_of}
+use Rattle.fr_long.specs.Lag.{correlation_of, lag_of, IsBest, IsChosen, IsLag, greatest_of}
 use Rattle.fr_long.specs.GainCode.{energy_of, power_of, code_of}
-use Rattle.fr_long.specs.Prediction.{correlation_of_block, l_max_of, predicted_of, rest_of, IsPrediction, reconstructed_of, updated, SamePrediction, after_zeros, HistoryStands}
+use Rattle.fr_long.specs.Prediction.{correlation_of_block, l_max_of, predicted_of, rest_of, Prediction, prediction_of, IsPrediction, reconstructed_of, updated, after_zeros, HistoryStands}
+use Rattle.fr_long.proofs.Lags.{lag_is, has_lag}
 use Rattle.fr_long.proofs.Histories.{sample_before-last_120, last_120-append}
 
 -- what the code computes is a prediction
-pub predicts : (d earlier wt : List ℤ) (scal nc bc : ℕ) (correlation l_max l_power : ℤ) (dpp e : List ℤ) →
-    wt ≡ scaled_down d scal → scal ≡ scaling_of d → IsLag (correlation_of wt earlier) nc → correlation ≡ greatest_of (correlation_of wt earlier) nc →
-    l_max ≡ floor_shr correlation (6 - scal) → l_power ≡ power_of earlier nc → bc ≡ code_of l_max l_power →
-    dpp ≡ predicted_of earlier nc bc → e ≡ rest_of d dpp → IsPrediction d earlier nc bc dpp e
-predicts d earlier wt scal nc bc correlation l_max l_power dpp e ew es lag ec em ep eb predicted rest =
+pub predicts : (d earlier wt : List ℤ) (scal : ℕ) (correlation l_max l_power : ℤ) (p : Prediction) →
+    wt ≡ scaled_down d scal → scal ≡ scaling_of d → IsLag (correlation_of wt earlier) p.nc → correlation ≡ greatest_of (correlation_of wt earlier) p.nc →
+    l_max ≡ floor_shr correlation (6 - scal) → l_power ≡ power_of earlier p.nc → p.bc ≡ code_of l_max l_power →
+    p.dpp ≡ predicted_of earlier p.nc p.bc → p.e ≡ rest_of d p.dpp → IsPrediction d earlier p
+predicts d earlier wt scal correlation l_max l_power p ew es lag ec em ep eb predicted rest =
+    let nc = p.nc in
     let w : wt ≡ scaled_down d (scaling_of d) = ew ∙ ap (scaled_down d) es in
     let greatest : correlation ≡ greatest_of (correlation_of_block d earlier) nc = ec ∙ ap (λ x. greatest_of (correlation_of x earlier) nc) w in
     let most : l_max ≡ l_max_of d earlier nc = em ∙ ap (λ x. floor_shr x (6 - scal)) greatest ∙ ap (λ s. floor_shr (greatest_of (correlation_of_block d earlier) nc) (6 - s)) es in
@@ -29,6 +30,24 @@ predicts d earlier wt scal nc bc correlation l_max l_power dpp e ew es lag ec em
       predicted = predicted;
       rest = rest;
     }
+
+-- and all predictions are the one of the definition
+pub is_prediction : (d earlier : List ℤ) → IsPrediction d earlier (prediction_of d earlier)
+unfolding prediction_of
+is_prediction d earlier = record { lag = has_lag (correlation_of_block d earlier); gain = refl; predicted = refl; rest = refl }
+
+pub prediction_is : (d earlier : List ℤ) (p : Prediction) → IsPrediction d earlier p → p ≡ prediction_of d earlier
+unfolding prediction_of
+prediction_is d earlier p h =
+    let nc = lag_of (correlation_of_block d earlier) in
+    let lag : p.nc ≡ nc = lag_is (correlation_of_block d earlier) p.nc h.lag in
+    let gain = h.gain ∙ ap (λ n. code_of (l_max_of d earlier n) (power_of earlier n)) lag in
+    let predicted = h.predicted ∙ ap (λ n. predicted_of earlier n p.bc) lag ∙ ap (predicted_of earlier nc) gain in
+    let rest = h.rest ∙ ap (rest_of d) predicted in
+    λ i. record { nc = lag i; bc = gain i; dpp = predicted i; e = rest i }
+
+pub same : (d earlier : List ℤ) (p q : Prediction) → IsPrediction d earlier p → IsPrediction d earlier q → p ≡ q
+same d earlier p q h k = prediction_is d earlier p h ∙ sym (prediction_is d earlier q k)
 
 correlation-last_120 : (wt xs : List ℤ) (lag : ℕ) → 120 ≤ length xs → lag ≤ 120 → correlation_of wt (last_120 xs) lag ≡ correlation_of wt xs lag
 unfolding correlation_of
@@ -68,8 +87,9 @@ same_lag f g lag e h =
     }
 
 -- no prediction looks back further than the last 120
-pub by_all : (d xs : List ℤ) (nc bc : ℕ) (dpp e : List ℤ) → 120 ≤ length xs → IsPrediction d (last_120 xs) nc bc dpp e → IsPrediction d xs nc bc dpp e
-by_all d xs nc bc dpp e l h =
+by_all : (d xs : List ℤ) (p : Prediction) → 120 ≤ length xs → IsPrediction d (last_120 xs) p → IsPrediction d xs p
+by_all d xs p l h =
+    let nc = p.nc in
     let most = h.lag.at_most in
     let scal = scaling_of d in
     let wt = scaled_down d scal in
@@ -78,18 +98,19 @@ by_all d xs nc bc dpp e l h =
       gain = h.gain ∙
           ap (λ x. code_of (floor_shr (if int_lt (pos 0) x then x else pos 0) (6 - scal)) (power_of (last_120 xs) nc)) (correlation-last_120 wt xs nc l most) ∙
           ap (code_of (l_max_of d xs nc)) (power-last_120 xs nc l most);
-      predicted = h.predicted ∙ predicted-last_120 xs nc bc l most;
+      predicted = h.predicted ∙ predicted-last_120 xs nc p.bc l most;
       rest = h.rest;
     }
 
 length-after_zeros : (past : List ℤ) → 120 ≤ length (after_zeros past)
 length-after_zeros past = omega (arith, length-append (replicate 120 (pos 0)) past, length-replicate 120 (pos 0))
 
--- the same of a history that stands
-pub by_history : (past residuals d : List ℤ) (nc bc : ℕ) (dpp e : List ℤ) → HistoryStands past residuals →
-    IsPrediction d residuals nc bc dpp e → IsPrediction d (after_zeros past) nc bc dpp e
-by_history past residuals d nc bc dpp e h p =
-    by_all d (after_zeros past) nc bc dpp e (length-after_zeros past) (subst (λ xs. IsPrediction d xs nc bc dpp e) h.residuals_are p)
+-- a history that stands has the prediction of all earlier residuals
+pub by_history : (past residuals d : List ℤ) → HistoryStands past residuals → prediction_of d residuals ≡ prediction_of d (after_zeros past)
+by_history past residuals d h =
+    let all = after_zeros past in
+    ap (prediction_of d) h.residuals_are ∙
+    prediction_is d all (prediction_of d (last_120 all)) (by_all d all (prediction_of d (last_120 all)) (length-after_zeros past) (is_prediction d (last_120 all)))
 
 length-reconstructed : (dpp ep : List ℤ) → length (reconstructed_of dpp ep) ≡ 40
 unfolding reconstructed_of
@@ -104,34 +125,3 @@ one_update past residuals dpp ep next h e = record {
       sym (last_120-append (after_zeros past) (reconstructed_of dpp ep) (length-after_zeros past) (length-reconstructed dpp ep)) ∙
       ap last_120 (append_assoc (replicate 120 (pos 0)) past (reconstructed_of dpp ep));
 }
-
--- a chosen lag is not below another one
-not_below : (f : ℕ → ℤ) (m n : ℕ) → IsLag f m → IsLag f n → m < n → ⊥
-not_below f m n hm hn l =
-    let low = hm.at_least in
-    let high = hm.at_most in
-    let low' = hn.at_least in
-    ⊎_elim
-    (λ p. let less = p.1 m low l in ⊎_elim (λ q. let above = q.0.greatest n hn.at_least hn.at_most in omega (arith, ints)) (λ q. let none = q.1 n hn.at_least hn.at_most in let more = p.0.positive in omega (arith, ints)) hm.chosen)
-    (λ p. let e = p.0 in omega arith)
-    hn.chosen
-
-one_lag : (f : ℕ → ℤ) (m n : ℕ) → IsLag f m → IsLag f n → m ≡ n
-one_lag f m n hm hn =
-    ⊎_elim (λ l. absurd (not_below f m n hm hn l))
-    (λ l. ⊎_elim (λ k. absurd (not_below f n m hn hm k)) (λ k. omega arith) (cases_lt n m))
-    (cases_lt m n)
-
--- all else follows from the lag
-pub same : (d earlier : List ℤ) (nc bc nc' bc' : ℕ) (dpp e dpp' e' : List ℤ) →
-    IsPrediction d earlier nc bc dpp e → IsPrediction d earlier nc' bc' dpp' e' → SamePrediction nc bc dpp e nc' bc' dpp' e'
-same d earlier nc bc nc' bc' dpp e dpp' e' h h' =
-    let lag = one_lag (correlation_of_block d earlier) nc nc' h.lag h'.lag in
-    let gain : bc ≡ bc' = h.gain ∙ ap (λ n. code_of (l_max_of d earlier n) (power_of earlier n)) lag ∙ sym h'.gain in
-    let predicted : dpp ≡ dpp' = h.predicted ∙ ap (λ n. predicted_of earlier n bc) lag ∙ ap (predicted_of earlier nc') gain ∙ sym h'.predicted in
-    record {
-      lag = lag;
-      gain = gain;
-      predicted = predicted;
-      rest = h.rest ∙ ap (rest_of d) predicted ∙ sym h'.rest;
-    }

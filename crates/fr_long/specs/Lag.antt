@@ -1,6 +1,8 @@
 -- The lag of a block (GSM 06.10, section 4.2.11).
-use Rattle.std.specs.Prelude.{◌≡◌, ℕ, ◌<◌, ◌≤◌, ℤ, pos, ◌+ℤ◌, ◌<ℤ◌, ◌≤ℤ◌, ◌⊎◌, if◌then◌else◌, int_lt, List, map, fold}
-use Rattle.std.specs.List.{range_with_len}
+use Rattle.std.specs.Prelude.{◌≡◌, ℕ, ◌<◌, ◌≤◌, ℤ, pos, ◌+ℤ◌, ◌<ℤ◌, ◌≤ℤ◌, ◌⊎◌, Bool, ◌&&◌, if◌then◌else◌, int_lt, int_le, List, map, fold, FitsSigned}
+use Rattle.std.specs.Int.{w16}
+use Rattle.std.specs.List.{range_with_len, find, list_all}
+use Rattle.std.specs.Option.{unwrap_or}
 use Rattle.trau_num.specs.Num.{l_mult_of, entry}
 use Rattle.fr_long.specs.Synthesis.{sample_before}
 
@@ -8,18 +10,35 @@ use Rattle.fr_long.specs.Synthesis.{sample_before}
 unfoldable pub correlation_of : List ℤ → List ℤ → ℕ → ℤ
 correlation_of wt earlier lag = fold ◌+ℤ◌ (pos 0) (map (λ k. l_mult_of (entry wt k) (sample_before earlier lag k)) (range_with_len 0 40))
 
+-- each residual is a word of 16 bits
+abbrev pub AreWords : List ℤ → Type 0
+AreWords earlier = (k : ℕ) → FitsSigned w16 (entry earlier k)
+
+-- the lags that a block can have: 40 to 120
+unfoldable pub lags : List ℕ
+lags = range_with_len 40 81
+
 -- the correlation at this lag is positive, and not below that at any other
+unfoldable pub is_best : (ℕ → ℤ) → ℕ → Bool
+is_best correlation lag =
+    int_lt (pos 0) (correlation lag) && list_all (λ other. int_le (correlation other) (correlation lag)) lags
+
+-- Nc: the least of the best lags, or 40 where there is none, since no correlation is positive
+unfoldable pub lag_of : (ℕ → ℤ) → ℕ
+lag_of correlation = unwrap_or (find (is_best correlation) lags) 40
+
+-- the same as properties of a lag: it is one of the best
 pub record IsBest (correlation : ℕ → ℤ) (lag : ℕ) : Type 0 where
   pub positive : pos 0 <ℤ correlation lag
   pub greatest : (other : ℕ) → 40 ≤ other → other ≤ 120 → correlation other ≤ℤ correlation lag
 
--- Nc: the least of the best lags, or 40 where no lag has a positive correlation
+-- it is the least of the best, or 40 where no correlation is positive
 abbrev pub IsChosen : (ℕ → ℤ) → ℕ → Type 0
 IsChosen correlation lag =
     (IsBest correlation lag × ((other : ℕ) → 40 ≤ other → other < lag → correlation other <ℤ correlation lag)) ⊎
     ((lag ≡ 40) × ((other : ℕ) → 40 ≤ other → other ≤ 120 → correlation other ≤ℤ pos 0))
 
--- Nc, of 40 to 120
+-- it is one of 40 to 120, and so chosen
 pub record IsLag (correlation : ℕ → ℤ) (lag : ℕ) : Type 0 where
   pub at_least : 40 ≤ lag
   pub at_most : lag ≤ 120

@@ -6,7 +6,8 @@ use Rattle.fr_long.specs.Gain.{gain_of}
 use Rattle.fr_long.specs.Synthesis.{sample_before}
 use Rattle.fr_long.specs.Memory.{last_120}
 use Rattle.fr_long.specs.Scaling.{scaling_of, scaled_down}
-use Rattle.fr_long.specs.Lag.{correlation_of, IsLag, greatest_of}
+use Rattle.fr_long.specs.declared.ltp.Ltp.{Ltp}
+use Rattle.fr_long.specs.Lag.{correlation_of, lag_of, IsLag, greatest_of}
 use Rattle.fr_long.specs.GainCode.{power_of, code_of}
 
 -- the correlation of a block at each lag, the block shifted down by scal
@@ -25,19 +26,31 @@ predicted_of earlier nc bc = map (λ k. mult_r_of (gain_of bc) (sample_before ea
 unfoldable pub rest_of : List ℤ → List ℤ → List ℤ
 rest_of d dpp = map (λ k. sub_of (entry d k) (entry dpp k)) (range_with_len 0 40)
 
--- the lag, the coded gain, the prediction and the rest of block d after the earlier residuals
-pub record IsPrediction (d earlier : List ℤ) (nc bc : ℕ) (dpp e : List ℤ) : Type 0 where
-  pub lag : IsLag (correlation_of_block d earlier) nc
-  pub gain : bc ≡ code_of (l_max_of d earlier nc) (power_of earlier nc)
-  pub predicted : dpp ≡ predicted_of earlier nc bc
-  pub rest : e ≡ rest_of d dpp
+-- what is predicted of a block: its lag, its coded gain, the prediction, and what that leaves of it
+pub record Prediction : Type 0 where
+  pub nc : ℕ
+  pub bc : ℕ
+  pub dpp : List ℤ
+  pub e : List ℤ
 
--- two predictions are the same
-pub record SamePrediction (nc bc : ℕ) (dpp e : List ℤ) (nc' bc' : ℕ) (dpp' e' : List ℤ) : Type 0 where
-  pub lag : nc ≡ nc'
-  pub gain : bc ≡ bc'
-  pub predicted : dpp ≡ dpp'
-  pub rest : e ≡ e'
+-- the same of what the encoder gives
+abbrev pub fields_of : Ltp → Prediction
+fields_of ltp = record { nc = ltp.nc; bc = ltp.bc; dpp = ltp.dpp; e = ltp.e }
+
+-- the prediction of block d after the earlier residuals
+unfoldable pub prediction_of : List ℤ → List ℤ → Prediction
+prediction_of d earlier =
+    let nc = lag_of (correlation_of_block d earlier) in
+    let bc = code_of (l_max_of d earlier nc) (power_of earlier nc) in
+    let dpp = predicted_of earlier nc bc in
+    record { nc = nc; bc = bc; dpp = dpp; e = rest_of d dpp }
+
+-- the same as a property of a prediction
+pub record IsPrediction (d earlier : List ℤ) (p : Prediction) : Type 0 where
+  pub lag : IsLag (correlation_of_block d earlier) p.nc
+  pub gain : p.bc ≡ code_of (l_max_of d earlier p.nc) (power_of earlier p.nc)
+  pub predicted : p.dpp ≡ predicted_of earlier p.nc p.bc
+  pub rest : p.e ≡ rest_of d p.dpp
 
 -- dp[0] to dp[39]: the pulses of a block, and its prediction
 unfoldable pub reconstructed_of : List ℤ → List ℤ → List ℤ

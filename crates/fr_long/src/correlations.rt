@@ -11,38 +11,26 @@ ghost use Rattle.std.specs.Simd.Lanes.{chunk, zip2, Each1};
 ghost use Rattle.trau_num.specs.Num.{entry};
 ghost use Rattle.fr_long.specs.Lanes.{sums_of_pairs};
 ghost use Rattle.fr_long.specs.Scaling.{AreScaled};
-ghost use Rattle.fr_long.specs.Lag.{correlation_of};
+ghost use Rattle.fr_long.specs.Lag.{correlation_of, AreWords};
 
 use std::simd::prelude::*;
 
 /// The correlations of a scaled block with the residuals that lie 40 to 120 samples before it: that at a
 /// lag stands 40 places before it.
 pub(crate) fn correlate(wt: &[i16; 40], earlier: &[i16; 120]) -> [i32; 81]
-    requires { AreScaled wt.now }
+    requires scaled { AreScaled wt.now }
+    requires words { AreWords earlier.now }
     ensures { (lag : ℕ) → 40 ≤ lag → lag ≤ 120 → entry result (lag - 40) ≡ correlation_of wt.now earlier.now lag }
 {
-    let past = copied(earlier);
     let mut all = [0; 81];
     for group in 0..21 {
         let first = (4 * group).min(77);
-        let halves = four(wt, &past, 40 + first as u8).to_array();
+        let halves = four(wt, earlier, 40 + first as u8).to_array();
         for lane in 0..4 {
             all[first + lane] = halves[lane] * 2;
         }
     }
     all
-}
-
-/// The residuals, read one by one, each of which is so known to be a word.
-fn copied(earlier: &[i16; 120]) -> [i16; 120]
-    ensures value { result ≡ earlier.now }
-    ensures words { (k : ℕ) → FitsSigned w16 (entry result k) }
-{
-    let mut copy = [0; 120];
-    for k in 0..120 {
-        copy[k] = earlier[k];
-    }
-    copy
 }
 
 /// Half of the correlations at four lags, from `lag` on.
@@ -52,7 +40,7 @@ fn copied(earlier: &[i16; 120]) -> [i16; 120]
 #[inline(never)]
 fn four(wt: &[i16; 40], earlier: &[i16; 120], lag: u8) -> i32x4
     requires scaled { AreScaled wt.now }
-    requires words { (k : ℕ) → FitsSigned w16 (entry earlier.now k) }
+    requires words { AreWords earlier.now }
     requires at_least { 40 ≤ lag }
     requires at_most { lag ≤ 117 }
     ensures value { (k : ℕ) → k < 4 → entry result k *ℤ pos 2 ≡ correlation_of wt.now earlier.now (lag + k) }
@@ -71,7 +59,7 @@ fn four(wt: &[i16; 40], earlier: &[i16; 120], lag: u8) -> i32x4
 /// Four sums of ten products each, which are together half of the correlation at a lag.
 fn lag_sums(wt: &[i16; 40], earlier: &[i16; 120], lag: u8) -> i32x4
     requires scaled { AreScaled wt.now }
-    requires words { (k : ℕ) → FitsSigned w16 (entry earlier.now k) }
+    requires words { AreWords earlier.now }
     requires at_least { 40 ≤ lag }
     requires at_most { lag ≤ 120 }
     ensures length { length result ≡ 4 }
@@ -90,7 +78,7 @@ fn lag_sums(wt: &[i16; 40], earlier: &[i16; 120], lag: u8) -> i32x4
 /// The eight samples from place `at` on.
 fn eight(samples: &[i16], at: usize) -> i32x8
     requires place { at + 8 ≤ length samples.now }
-    requires words { (k : ℕ) → FitsSigned w16 (entry samples.now k) }
+    requires words { AreWords samples.now }
     ensures value { result ≡ chunk at 8 samples.now }
     ensures words { Each1 (λ x. unsigned_abs x ≤ 32768) result }
 {

@@ -21,14 +21,21 @@ pub struct LtpHistory {
 }
 
 impl Model for LtpHistory {
+    ghost use Rattle.std.specs.Prelude.{ℤ, List};
+    ghost use Rattle.fr_long.specs.Lag.{AreWords};
+
     ghost Value = { List ℤ };
 
     ghost view = { λ history. history.dp };
+
+    // What a read of lanes doesn't tell.
+    ghost invariant = { λ history. AreWords history.dp };
 }
 
 impl LtpHistory {
     ghost use Rattle.std.specs.Prelude.{pos, [], ◌++◌, replicate};
-    ghost use Rattle.fr_long.specs.Prediction.{IsPrediction, updated, after_zeros, HistoryStands};
+    ghost use Rattle.fr_long.specs.Lag.{lag_of};
+    ghost use Rattle.fr_long.specs.Prediction.{correlation_of_block, prediction_of, fields_of, IsPrediction, updated, after_zeros, HistoryStands};
 
     /// The home state, before any block.
     pub fn home() -> Self
@@ -41,9 +48,11 @@ impl LtpHistory {
     /// The lag and gain that predict a block of 40 samples of the short-term residual best, the
     /// prediction, and what is left to be coded.
     pub fn predict(&self, d: &[i16; 40]) -> Ltp
-        ensures step { IsPrediction d.now self.now result.nc result.bc result.dpp result.e }
+        ensures lag { result.nc ≡ lag_of (correlation_of_block d.now self.now) }
+        ensures step { fields_of result ≡ prediction_of d.now self.now }
+        ensures prediction { IsPrediction d.now self.now (fields_of result) }
         ensures history { (past : List ℤ) → HistoryStands past self.now →
-            IsPrediction d.now (after_zeros past) result.nc result.bc result.dpp result.e }
+            (fields_of result ≡ prediction_of d.now (after_zeros past)) × IsPrediction d.now (after_zeros past) (fields_of result) }
     {
         let peak = peak(d);
         let scal = scaling(peak);

@@ -2,7 +2,7 @@
 
 ghost use Rattle.std.specs.Prelude.{◌≡◌, pos, ◌≤ℤ◌};
 ghost use Rattle.fr_long.specs.Scaling.{AreScaled};
-ghost use Rattle.fr_long.specs.Lag.{correlation_of, IsLag, greatest_of};
+ghost use Rattle.fr_long.specs.Lag.{correlation_of, AreWords, IsLag, greatest_of};
 
 use crate::correlations::correlate;
 
@@ -15,7 +15,8 @@ pub(crate) struct Best {
 
 /// The lag of a scaled block after the last 120 residuals.
 pub(crate) fn search(wt: &[i16; 40], earlier: &[i16; 120]) -> Best
-    requires { AreScaled wt.now }
+    requires scaled { AreScaled wt.now }
+    requires words { AreWords earlier.now }
     ensures lag { IsLag (correlation_of wt.now earlier.now) result.lag }
     ensures correlation { result.correlation ≡ greatest_of (correlation_of wt.now earlier.now) result.lag }
     ensures not_negative { pos 0 ≤ℤ result.correlation }

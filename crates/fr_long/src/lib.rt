@@ -8,7 +8,7 @@
 //! into the history. `scaling`, `lag` over `correlations`, `sums` and `gain_code` are its steps. The
 //! decoding side is `LtpDecoder`. It takes a block of pulses from `fr_rpe` and adds the prediction back;
 //! short-term synthesis takes the reconstructed residual from there. Both use the gains of `gain` and the
-//! `memory` of 120 samples.
+//! `memory` of 120 samples. `laws` says that a block has one lag and one prediction.
 //!
 //! Definitions: `specs/Prediction.antt` is what the encoder answers and keeps, made of `specs/Scaling.antt`,
 //! `specs/Lag.antt` and `specs/GainCode.antt`; `specs/Synthesis.antt` is the decoder over all blocks from
@@ -22,7 +22,7 @@ mod encoder;
 mod gain;
 mod gain_code;
 mod lag;
-mod law;
+mod laws;
 mod ltp;
 mod memory;
 mod scaling;
@@ -30,5 +30,5 @@ mod sums;
 
 pub use decoder::LtpDecoder;
 pub use encoder::LtpHistory;
-pub use law::one_prediction;
+pub use laws::{one_lag, one_prediction};
 pub use ltp::Ltp;

@@ -1,6 +1,7 @@
 -- Which of the four grids of a block is coded (GSM 06.10, section 4.2.14).
-use Rattle.std.specs.Prelude.{ℕ, ◌+◌, ◌*◌, ◌^◌, ◌<◌, ◌≡◌, zero, suc, ℤ, pos, ◌+ℤ◌, ◌<ℤ◌, ◌≤ℤ◌, int_lt, if◌then◌else◌, List, map, fold}
-use Rattle.std.specs.List.{range_with_len}
+use Rattle.std.specs.Prelude.{ℕ, ◌+◌, ◌*◌, ◌^◌, ◌<◌, ◌≡◌, Bool, ℤ, pos, ◌+ℤ◌, ◌<ℤ◌, ◌≤ℤ◌, int_le, List, map, fold}
+use Rattle.std.specs.List.{range_with_len, find, list_all}
+use Rattle.std.specs.Option.{unwrap_or}
 use Rattle.trau_num.specs.Num.{l_mult_of, floor_shr, entry}
 
 -- xM of the grid that starts at m: thirteen samples, three apart
@@ -19,14 +20,17 @@ energy_up_to n x m = fold ◌+ℤ◌ (pos 0) (map (λ i. sample_energy (entry x 
 abbrev pub grid_energy : List ℤ → ℕ → ℤ
 grid_energy x m = energy_up_to 13 x m
 
--- the least of the numbers 0 to n at which f is greatest
-abbrev pub least_greatest : (ℕ → ℤ) → ℕ → ℕ
-least_greatest f zero = 0
-least_greatest f (suc n) = if int_lt (f (least_greatest f n)) (f (suc n)) then suc n else least_greatest f n
+-- the four grids, each by the place that it starts at
+unfoldable pub grids : List ℕ
+grids = range_with_len 0 4
 
--- Mc: the least of the four grids with the greatest energy
+-- no grid has more energy than the grid m
+unfoldable pub is_strongest : List ℤ → ℕ → Bool
+is_strongest x m = list_all (λ n. int_le (grid_energy x n) (grid_energy x m)) grids
+
+-- Mc: the first of the strongest grids (there is one, so no block gets the 0 for none)
 unfoldable pub grid_of : List ℤ → ℕ
-grid_of x = least_greatest (grid_energy x) 3
+grid_of x = unwrap_or (find (is_strongest x) grids) 0
 
 -- no grid has more energy than the grid m, and each before it has less
 pub record IsStrongestGrid (x : List ℤ) (m : ℕ) : Type 0 where

@@ -1,3 +1,4 @@
 pub mod Fill
 pub mod Fitting
+pub mod Greatest
 pub mod LeftShifts

@@ -6,8 +6,9 @@
 //! `long_words` those on 32 bits, `products` the sum of a word and a rounded product that filters are
 //! made of, `wide` the same on words that are kept in 32 bits, `random` the random source.
 //!
-//! Definitions: `specs/Num.antt` and `specs/Random.antt`. `proofs/Fill.antt` has lemmas for lists of a
-//! fixed size that a loop fills place by place; the crates above share them.
+//! Definitions: `specs/Num.antt` and `specs/Random.antt`. Lemmas that the crates above share: `proofs/Fill.antt`
+//! (lists of a fixed size that a loop fills place by place) and `proofs/Greatest.antt` (a search for the least
+//! number at which a function is greatest).
 #![tactic(auto)]
 
 mod long_words;

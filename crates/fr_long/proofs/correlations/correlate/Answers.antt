@@ -22,7 +22,7 @@ loop-lane-preserved c =
     subst (λ zs. to_z w32 (of_z w32 (to_z w32 (of_z w32 (get_or zs c.loop-lane.lane (pos 0))) *ℤ pos 2)) ≡ get_or r c.loop-lane.lane (pos 0) *ℤ pos 2) (sym (kept 671088640 r (omega arith) c.four.ensures.small)) (omega (arith, ints)) in
     let place : 40 + c.min-first.result + c.loop-lane.lane ≡ 40 + at = omega arith in
     let here : x ≡ correlation_of c.args.wt.now c.args.earlier.now (40 + at) =
-    doubled ∙ c.four.ensures.value c.loop-lane.lane c.loop-lane-test.true ∙ ap (λ past. correlation_of c.args.wt.now past (40 + c.min-first.result + c.loop-lane.lane)) c.copied-past.ensures.value ∙
+    doubled ∙ c.four.ensures.value c.loop-lane.lane c.loop-lane-test.true ∙
     ap (correlation_of c.args.wt.now c.args.earlier.now) place in
     let first : c.min-first.result ≤ 77 = search rules in
     let long = c.loop-lane.invariant.long in
