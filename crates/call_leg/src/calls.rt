@@ -1,6 +1,7 @@
 //! The calls of a leg.
 
 ghost use Rattle.std.specs.Prelude.{◌≡◌, ◌≤◌, ◌<◌, ◌+◌, ℕ, ℤ, pos, ◌≤ℤ◌, true, false, not, ◌&&◌, ◌==◌, Option, Some, None, is_some, List, [], ◌∷◌, length, IfOk};
+ghost use Rattle.call_number.specs.CallNumber.{IsCallNumber};
 ghost use Rattle.trau_bits.specs.Bits.{bits_of};
 ghost use Rattle.trau_params.specs.Bits260.{bits260};
 ghost use Rattle.rx_handler.specs.State.{effective_fields};
@@ -30,8 +31,7 @@ impl Leg {
     /// The leg of a call with this number, 1 to 4,096, before its first period: alone, with level 256 and DTX as the
     /// uplink asks.
     pub fn new(alloc: Global, call: u32) -> Result<Leg, AllocError>
-        requires low { 1 ≤ call }
-        requires high { call ≤ 4096 }
+        requires { IsCallNumber call }
         ensures value { IfOk result (λ leg. leg ≡ home_leg call) }
         ensures history { IfOk result (λ leg. Stands call [] new_settings leg) }
         ensures periods { IfOk result (λ leg. leg.search.periods ≡ 0) }

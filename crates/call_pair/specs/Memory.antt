@@ -1,5 +1,6 @@
 -- What a job keeps of a call.
 use Rattle.std.specs.Prelude.{◌≡◌, ℕ, ◌+◌, ◌-◌, ◌*◌, ◌≤◌, List, length}
+use Rattle.call_number.specs.CallNumber.{IsCallNumber}
 use Rattle.call_leg.specs.Memory.{LegMemory}
 
 -- the octets of a call in a round: what its Up and Pcm lines gave, what its Out and Down lines get; how many periods
@@ -32,13 +33,8 @@ pub record HaveRoom (up pcm out down : List ℕ) (given : ℕ) : Type 0 where
   pub out_room : length out ≡ 160 * periods
   pub down_room : length down ≡ 40 * periods
 
--- a call's number
-pub record IsCall (call : ℕ) : Type 0 where
-  pub low : 1 ≤ call
-  pub high : call ≤ 4096
-
 pub record IsIo (io : IoMemory) : Type 0 where
-  pub number : IsCall io.call
+  pub number : IsCallNumber io.call
   pub room : HaveRoom io.up io.pcm io.out io.down io.given
   pub within : io.done ≤ io.given
 

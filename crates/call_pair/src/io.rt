@@ -2,7 +2,8 @@
 
 ghost use Rattle.std.specs.Prelude.{◌≡◌, ◌<◌, [], IsTrue, true};
 ghost use Rattle.trau_bits.specs.Bits.{bits_of, octets_of};
-ghost use Rattle.call_pair.specs.Memory.{HaveRoom, IsCall};
+ghost use Rattle.call_number.specs.CallNumber.{IsCallNumber};
+ghost use Rattle.call_pair.specs.Memory.{HaveRoom};
 ghost use Rattle.call_pair.specs.Places.{up_at, pcm_at, with_out, with_place, has_place};
 
 use std::alloc::Global;
@@ -45,7 +46,7 @@ impl Model for LegIo {
 impl LegIo {
     /// No period of the call with this number, 1 to 4,096. Takes no memory.
     pub fn none(alloc: Global, call: u32) -> LegIo
-        requires { IsCall call }
+        requires { IsCallNumber call }
         ensures { result ≡ record { call = call; up = []; pcm = []; out = []; down = []; given = 0; done = 0 } }
     {
         LegIo {
@@ -61,7 +62,7 @@ impl LegIo {
 
     /// So many periods of the call with this number, 1 to 4,096, none of them done. The buffers have room for them.
     pub fn new(call: u32, buffers: Buffers, given: u32) -> LegIo
-        requires call { IsCall call }
+        requires call { IsCallNumber call }
         requires room { HaveRoom buffers.up.items buffers.pcm.items buffers.out.items buffers.down.items given }
         ensures { result ≡ record { call = call; up = buffers.up.items; pcm = buffers.pcm.items; out = buffers.out.items; down = buffers.down.items; given = given; done = 0 } }
     {

@@ -1,5 +1,5 @@
 ghost use Rattle.std.specs.Prelude.{◌≡◌, ◌<◌, ◌+◌, ◌≤ℤ◌, pos, IfOk};
-ghost use Rattle.call_pair.specs.Memory.{IsCall};
+ghost use Rattle.call_number.specs.CallNumber.{IsCallNumber};
 
 use call_leg::Leg;
 use std::alloc::{AllocError, Global};
@@ -25,7 +25,7 @@ fn up(field: u8, d: u8) -> [u8; 40] {
 }
 
 fn new_leg(alloc: Global, call: u32) -> Result<Leg, AllocError>
-    requires { IsCall call }
+    requires { IsCallNumber call }
     ensures { IfOk result (λ l. l.search.periods ≡ 0) }
 {
     Leg::new(alloc, call)
@@ -288,8 +288,8 @@ fn drains_two(leg: &mut Leg) -> bool
 
 // The legs of two calls.
 fn two_legs(alloc: Global, first: u32, second: u32) -> Result<(Leg, Leg), AllocError>
-    requires first { IsCall first }
-    requires second { IsCall second }
+    requires first { IsCallNumber first }
+    requires second { IsCallNumber second }
     ensures first { IfOk result (λ legs. legs.0.search.periods ≡ 0) }
     ensures second { IfOk result (λ legs. legs.1.search.periods ≡ 0) }
 {

@@ -1,5 +1,5 @@
 ghost use Rattle.std.specs.Prelude.{◌≡◌, ◌<◌, ◌≤◌, ◌+◌, IfOk};
-ghost use Rattle.call_pair.specs.Memory.{IsCall};
+ghost use Rattle.call_number.specs.CallNumber.{IsCallNumber};
 
 use call_leg::Leg;
 use call_pair::{Buffers, Half, Job, LegIo};
@@ -53,7 +53,7 @@ fn lines_with(ds: [u8; 4]) -> Lines {
 }
 
 fn new_leg(alloc: Global, call: u32) -> Result<Leg, AllocError>
-    requires { IsCall call }
+    requires { IsCallNumber call }
     ensures { IfOk result (λ l. l.search.periods ≡ 0) }
 {
     Leg::new(alloc, call)
@@ -61,7 +61,7 @@ fn new_leg(alloc: Global, call: u32) -> Result<Leg, AllocError>
 
 // Memory for the lines of a call, with so many of these periods.
 fn io_of(alloc: Global, call: u32, lines: &Lines, given: u32) -> Result<LegIo, AllocError>
-    requires call { IsCall call }
+    requires call { IsCallNumber call }
     requires given { given ≤ 4 }
     ensures { IfOk result (λ io. io.call ≡ call) }
 {
@@ -76,7 +76,7 @@ fn io_of(alloc: Global, call: u32, lines: &Lines, given: u32) -> Result<LegIo, A
 
 // A new call with them.
 fn half(alloc: Global, call: u32, lines: &Lines, given: u32) -> Result<Half, AllocError>
-    requires call { IsCall call }
+    requires call { IsCallNumber call }
     requires given { given ≤ 4 }
     ensures { IfOk result (λ h. (h.io.call ≡ call) × (h.leg.search.periods ≡ 0)) }
 {

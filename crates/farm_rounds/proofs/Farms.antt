@@ -12,7 +12,8 @@ use Rattle.switchboard.specs.declared.act.Act.TheVariants as act
 use Rattle.farm_rounds.specs.declared.call.Call.{Call}
 use Rattle.farm_rounds.specs.declared.call.Group.{Group}
 use Rattle.farm_rounds.specs.declared.call.Group.TheVariants.{One, Two}
-use Rattle.farm_rounds.specs.Calls.{IsNumber, holds, group_in, call_in, call_of, calls_held}
+use Rattle.call_number.specs.CallNumber.{IsCallNumber}
+use Rattle.farm_rounds.specs.Calls.{holds, group_in, call_in, call_of, calls_held}
 use Rattle.trau_io.specs.declared.line.Line.{Line}
 use Rattle.farm_rounds.specs.declared.tally.Tally.{Tally}
 use Rattle.farm_rounds.specs.Memory.{FarmMemory, no_tally, new_farm}
@@ -122,18 +123,18 @@ stay_live most a live before now s k p = record {
 -- ---- numbers
 
 -- an open call has a number from 1 to 4,096
-pub open_number : (most : ℕ) (gs : List Group) (c : ℕ) → AreGroups most gs → IsOpen gs c → IsNumber c
+pub open_number : (most : ℕ) (gs : List Group) (c : ℕ) → AreGroups most gs → IsOpen gs c → IsCallNumber c
 open_number most gs c k o = go (group_in gs c) refl o where
-  go : (r : Option Group) → group_in gs c ≡ r → is_some (option_map (call_of c) r) ≡ true → IsNumber c
+  go : (r : Option Group) → group_in gs c ≡ r → is_some (option_map (call_of c) r) ≡ true → IsCallNumber c
   go None e t = absurd (let f : false ≡ true = t in cc)
   go (Some (One x)) e t =
       let h = found_group most gs c (One x) k e in
-      subst IsNumber (eqb-true x.number c h.1) h.0.number
+      subst IsCallNumber (eqb-true x.number c h.1) h.0.number
   go (Some (Two x y)) e t =
       let h = found_group most gs c (Two x y) k e in
       elim (cases_Bool (x.number == c)) [
-        | inl u ↦ subst IsNumber (eqb-true x.number c u) h.0.0.number
-        | inr f ↦ subst IsNumber (eqb-true y.number c (simp f at h.1)) h.0.1.number
+        | inl u ↦ subst IsCallNumber (eqb-true x.number c u) h.0.0.number
+        | inr f ↦ subst IsCallNumber (eqb-true y.number c (simp f at h.1)) h.0.1.number
       ]
 
 -- ---- a farm with no call

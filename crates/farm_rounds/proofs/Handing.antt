@@ -6,6 +6,7 @@ use Rattle.std.specs.List.{All}
 use Rattle.std.proofs.lemmas.List.Elements.{All-same, All-set, All-get_or}
 use Rattle.std.proofs.lemmas.Bool.{cases_Bool, cases_eq, cases_lt, eqb-true, eq-eqb, ne_eqb, or_cases}
 use Rattle.std.proofs.lemmas.List.{length-set, get_or-set_same, get_or-set_other, map-set, length-map, get_or-map}
+use Rattle.call_number.specs.CallNumber.{IsCallNumber}
 use Rattle.call_pair.specs.declared.job.Job.{Job}
 use Rattle.call_pair.specs.declared.job.Job.TheVariants.{One, Two}
 use Rattle.call_leg.specs.Memory.{LegMemory}
@@ -225,20 +226,20 @@ turn_handed before now next entries seats n k j s io rising have h l bound es ek
 
 -- ---- buffers of the round's length
 
-sound_made : (s : SeatMemory) → Fits s.place.periods s.up s.pcm s.down s.out → 1 ≤ s.place.call → s.place.call ≤ 4096 → whole_in s.place ≤ s.place.periods → IsIo (octets_of s)
-sound_made s fits low high bound = record {
-  number = record { low = low; high = high };
+sound_made : (s : SeatMemory) → Fits s.place.periods s.up s.pcm s.down s.out → IsCallNumber s.place.call → whole_in s.place ≤ s.place.periods → IsIo (octets_of s)
+sound_made s fits number bound = record {
+  number = number;
   room = record { periods = s.place.periods; enough = bound; up_room = fits.up; pcm_room = fits.pcm; out_room = fits.out; down_room = fits.down };
   within = omega arith;
 }
 
 pub sound_more : (seats : List SeatMemory) (n : ℕ) (s : SeatMemory) (p : PlaceMemory) (call : ℕ) → AreSound seats n → s ≡ seat_at seats n → Fits s.place.periods s.up s.pcm s.down s.out → p ≡ s.place →
-    call ≡ p.call → 1 ≤ call → call ≤ 4096 → whole_in s.place ≤ s.place.periods → AreSound seats (n + 1)
-sound_more seats n s p call sofar es fits ep ec low high bound k l = elim (cases_lt k n) [
+    call ≡ p.call → IsCallNumber call → whole_in s.place ≤ s.place.periods → AreSound seats (n + 1)
+sound_more seats n s p call sofar es fits ep ec is_number bound k l = elim (cases_lt k n) [
   | inl less ↦ sofar k less
   | inr more ↦
       let at : k ≡ n = omega (arith, l, more) in
       let number : call ≡ s.place.call = ec ∙ ap (λ (q : PlaceMemory). q.call) ep in
       subst (λ (x : SeatMemory). IsIo (octets_of x) × (whole_in x.place ≤ x.place.periods)) (es ∙ ap (λ (m : ℕ). seat_at seats m) (sym at))
-      (sound_made s fits (omega (arith, low, number)) (omega (arith, high, number)) bound, bound)
+      (sound_made s fits (subst IsCallNumber number is_number) bound, bound)
 ]

@@ -15,7 +15,8 @@ use Rattle.farm_rounds.specs.declared.tally.Tally.{Tally}
 use Rattle.farm_rounds.specs.declared.call.Call.{Call}
 use Rattle.farm_rounds.specs.declared.call.Group.{Group}
 use Rattle.farm_rounds.specs.declared.call.Group.TheVariants.{One, Two}
-use Rattle.farm_rounds.specs.Calls.{IsNumber, holds, group_in, size_of, calls_held}
+use Rattle.call_number.specs.CallNumber.{IsCallNumber}
+use Rattle.farm_rounds.specs.Calls.{holds, group_in, size_of, calls_held}
 use Rattle.farm_rounds.specs.Groups.{IsCall, IsGroup, AreGroups, AreLive}
 use Rattle.farm_rounds.specs.Rounds.{no_job, job_at, HasJob, entry_at, HaveEntries, AreSeats, IsTimely, job_made, group_from, groups_from}
 use Rattle.farm_rounds.specs.Working.{IsRound}
@@ -29,7 +30,7 @@ use Rattle.farm_rounds.proofs.Working.{timely_half}
 pub live_found : (live : List ℕ) (gs : List Group) → AreLive live gs → (k : ℕ) → k < length live → is_some (group_in gs (slice_index live k)) ≡ true
 live_found live gs l k lk = sym (some_group gs (slice_index live k)) ∙ sym (l.numbers (slice_index live k)) ∙ there live (slice_index live k) k lk refl
 
-pub live_number : (most : ℕ) (live : List ℕ) (gs : List Group) → AreGroups most gs → AreLive live gs → (k : ℕ) → k < length live → IsNumber (slice_index live k)
+pub live_number : (most : ℕ) (live : List ℕ) (gs : List Group) → AreGroups most gs → AreLive live gs → (k : ℕ) → k < length live → IsCallNumber (slice_index live k)
 live_number most live gs a l k lk = open_number most gs (slice_index live k) a (sym (l.numbers (slice_index live k)) ∙ there live (slice_index live k) k lk refl)
 
 pub few_live : (most : ℕ) (live : List ℕ) (gs : List Group) → AreGroups most gs → AreLive live gs → length live ≤ 4096

@@ -8,7 +8,8 @@ use Rattle.call_leg.specs.Step.{home_leg, with_down, begin_bridge, bridge_over, 
 use Rattle.farm_rounds.specs.declared.call.Call.{Call}
 use Rattle.farm_rounds.specs.declared.call.Group.{Group}
 use Rattle.farm_rounds.specs.declared.call.Group.TheVariants.{One, Two}
-use Rattle.farm_rounds.specs.Calls.{IsNumber, call_in, partner_in, calls_held}
+use Rattle.call_number.specs.CallNumber.{IsCallNumber}
+use Rattle.farm_rounds.specs.Calls.{call_in, partner_in, calls_held}
 use Rattle.farm_rounds.specs.Groups.{AreGroups}
 
 -- ---- one call
@@ -92,7 +93,7 @@ IsOpen groups c = is_some (call_in groups c) ≡ true
 -- What an act names is as the switchboard found it: an opened call wasn't open, the others are; a bridge joins two
 -- different calls that aren't bridged, and is the one that is there when it ends.
 abbrev pub Fits : List Group → Act → Type 0
-Fits groups (Opened c) = IsNumber c × (call_in groups c ≡ None)
+Fits groups (Opened c) = IsCallNumber c × (call_in groups c ≡ None)
 Fits groups (Closed c p) = IsOpen groups c × (partner_in groups c ≡ p)
 Fits groups (Bridged a b) = (a ≢ b) × IsOpen groups a × IsOpen groups b × (partner_in groups a ≡ None) × (partner_in groups b ≡ None)
 Fits groups (Unbridged a b) = partner_in groups a ≡ Some b

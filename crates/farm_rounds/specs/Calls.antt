@@ -6,10 +6,6 @@ use Rattle.farm_rounds.specs.declared.call.Call.{Call}
 use Rattle.farm_rounds.specs.declared.call.Group.{Group}
 use Rattle.farm_rounds.specs.declared.call.Group.TheVariants.{One, Two}
 
--- the numbers of calls: 1 to 4,096
-abbrev pub IsNumber : ℕ → Type 0
-IsNumber c = (1 ≤ c) × (c ≤ 4096)
-
 -- whether a call is one of these
 abbrev pub holds : ℕ → Group → Bool
 holds c (One x) = x.number == c

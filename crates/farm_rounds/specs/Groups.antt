@@ -4,12 +4,13 @@ use Rattle.std.specs.List.{All, count_by}
 use Rattle.farm_rounds.specs.declared.call.Call.{Call}
 use Rattle.farm_rounds.specs.declared.call.Group.{Group}
 use Rattle.farm_rounds.specs.declared.call.Group.TheVariants.{One, Two}
-use Rattle.farm_rounds.specs.Calls.{IsNumber, holds, call_in, calls_held}
+use Rattle.call_number.specs.CallNumber.{IsCallNumber}
+use Rattle.farm_rounds.specs.Calls.{holds, call_in, calls_held}
 use Rattle.farm_rounds.specs.Numbers.{IsRising, is_among}
 
 -- a call whose leg has worked at most so many periods
 pub record IsCall (most : ℕ) (x : Call) : Type 0 where
-  pub number : IsNumber x.number
+  pub number : IsCallNumber x.number
   pub worked : x.leg.search.periods ≤ most
 
 -- the calls of a group: of two, the lower number stands first

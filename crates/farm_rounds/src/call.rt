@@ -4,7 +4,8 @@ ghost use Rattle.std.specs.Prelude.{◌≡◌, ℕ, List, IfOk};
 ghost use Rattle.call_leg.specs.Periods.{CallPeriod};
 ghost use Rattle.call_leg.specs.Settings.{Settings};
 ghost use Rattle.call_leg.specs.Stands.{Stands};
-ghost use Rattle.farm_rounds.specs.Calls.{IsNumber, holds, call_of, other_of, pair_of};
+ghost use Rattle.call_number.specs.CallNumber.{IsCallNumber};
+ghost use Rattle.farm_rounds.specs.Calls.{holds, call_of, other_of, pair_of};
 ghost use Rattle.farm_rounds.specs.declared.call.Group.TheVariants.{Two};
 ghost use Rattle.farm_rounds.specs.Acts.{HasLevel, new_call, joined, parted, set_by, group_set};
 ghost use Rattle.farm_rounds.specs.Histories.{tally_of};
@@ -34,7 +35,7 @@ pub(crate) enum Group {
 impl Call {
     /// A call before its first period.
     pub(crate) fn new(alloc: Global, number: u32) -> Result<Call, AllocError>
-        requires { IsNumber number }
+        requires { IsCallNumber number }
         ensures { IfOk result (λ call. call ≡ new_call number) }
     {
         Ok(Call {

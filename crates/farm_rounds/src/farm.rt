@@ -10,7 +10,8 @@ ghost use Rattle.call_leg.specs.Counted.{call_counts};
 ghost use Rattle.call_leg.specs.Places.{sent_now};
 ghost use Rattle.call_leg.specs.Stands.{Stands};
 ghost use Rattle.farm_rounds.specs.declared.call.Call.{Call};
-ghost use Rattle.farm_rounds.specs.Calls.{IsNumber, call_in, partner_in};
+ghost use Rattle.call_number.specs.CallNumber.{IsCallNumber};
+ghost use Rattle.farm_rounds.specs.Calls.{call_in, partner_in};
 ghost use Rattle.farm_rounds.specs.Groups.{AreGroups};
 ghost use Rattle.farm_rounds.specs.Numbers.{IsRising, is_among};
 ghost use Rattle.farm_rounds.specs.Memory.{FarmMemory, new_farm, tally_in};
@@ -22,13 +23,11 @@ use crate::groups;
 use crate::live::{add_number, remove_number};
 use crate::tally::{NO_TALLY, Tally};
 use call_leg::Leg;
+use call_number::NUMBERS;
 use std::alloc::{AllocError, Global};
 use std::marker::Model;
 use switchboard::Act;
 use trau_io::{Counts, Line};
-
-/// Call numbers are below this.
-const NUMBERS: usize = 4097;
 
 /// All open calls with their legs, what was counted of each ended call, and the lines that have failed.
 #[derive(Drop)]
@@ -43,6 +42,7 @@ pub struct Farm {
 
 impl Model for Farm {
     ghost use Rattle.std.specs.Prelude.{◌≡◌, ◌≤◌, length, vec_capacity};
+    ghost use Rattle.call_number.specs.declared.TheConstants.{NUMBERS};
     ghost use Rattle.farm_rounds.specs.Groups.{AreGroups, AreLive};
     ghost use Rattle.farm_rounds.specs.Memory.{FarmMemory};
 
@@ -50,7 +50,7 @@ impl Model for Farm {
 
     ghost view = { λ f. record { groups = f.groups.items; live = f.live.items; tallies = f.tallies.items; failed = f.failed.items; ended = f.end } };
 
-    ghost invariant = { λ f. AreGroups f.end f.groups.items × AreLive f.live.items f.groups.items × (length f.tallies.items ≡ 4097) × (length f.live.items ≤ vec_capacity f.groups) };
+    ghost invariant = { λ f. AreGroups f.end f.groups.items × AreLive f.live.items f.groups.items × (length f.tallies.items ≡ NUMBERS) × (length f.live.items ≤ vec_capacity f.groups) };
 }
 
 impl Farm {
@@ -153,7 +153,7 @@ impl Farm {
 
     // What is kept of a call that isn't open.
     fn tally(&self, call: u32) -> Tally
-        requires { call < 4097 }
+        requires { call < NUMBERS }
         ensures { result ≡ tally_in self.now.tallies call }
     {
         self.tallies[call as usize]
@@ -161,7 +161,7 @@ impl Farm {
 
     /// What was counted of a call so far, or until it ended.
     pub fn counts(&self, call: u32) -> Counts
-        requires { IsNumber call }
+        requires { IsCallNumber call }
         ensures live { (h : ℕ → Option CallHistory) (x : CallHistory) → GroupsStand h self.now.groups → h call ≡ Some x → result ≡ call_counts x.periods }
         ensures ended { call_in self.now.groups call ≡ None → result ≡ (tally_in self.now.tallies call).counts }
     {
@@ -173,7 +173,7 @@ impl Farm {
 
     /// How many handed frames were sent in a call's latest bridge so far, or until it ended; 0 before its first bridge.
     pub fn sent(&self, call: u32) -> u32
-        requires { IsNumber call }
+        requires { IsCallNumber call }
         ensures live { (h : ℕ → Option CallHistory) (x : CallHistory) → GroupsStand h self.now.groups → h call ≡ Some x → result ≡ sent_now x.periods x.now }
         ensures ended { call_in self.now.groups call ≡ None → result ≡ (tally_in self.now.tallies call).sent }
     {

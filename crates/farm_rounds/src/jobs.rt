@@ -6,7 +6,8 @@ ghost use Rattle.std.specs.List.Sorted.{IsPermutation, IsNonDecreasingBy};
 ghost use Rattle.round_lines.specs.Rounds.{Rising, seat_at};
 ghost use Rattle.call_pair.specs.Memory.{places_left};
 ghost use Rattle.call_pair.specs.Jobs.{with_io};
-ghost use Rattle.farm_rounds.specs.Calls.{IsNumber, holds, group_in, call_of};
+ghost use Rattle.call_number.specs.CallNumber.{IsCallNumber};
+ghost use Rattle.farm_rounds.specs.Calls.{holds, group_in, call_of};
 ghost use Rattle.farm_rounds.specs.Groups.{IsGroup, AreGroups, AreLive};
 ghost use Rattle.farm_rounds.specs.Numbers.{IsRising, is_among};
 ghost use Rattle.farm_rounds.specs.Rounds.{IsTimely, first_of, job_made, half_made, entry_of, HaveEntries, BringCalls, AreSeats, jobs_in, job_at, half_at, HasJob, SameLegs, HaveJobs, HaveTimeUntil, HaveTime, AreHanded, AreSound, AreReady, AreTaken, Works, entry_at};
@@ -123,7 +124,7 @@ fn job_of(alloc: Global, group: Group) -> Job
 }
 
 fn half_of(alloc: Global, call: Call) -> Half
-    requires number { IsNumber call.number }
+    requires number { IsCallNumber call.number }
     requires periods { call.leg.search.periods ≤ 4294967295 }
     ensures { result ≡ half_made call }
 {
@@ -142,7 +143,7 @@ pub(crate) fn make_seats(
     periods: u32,
 ) -> Result<Vec<Seat>, AllocError>
     requires length { length entries.now ≡ length live.now }
-    requires numbers { (k : ℕ) → k < length live.now → IsNumber (slice_index live.now k) }
+    requires numbers { (k : ℕ) → k < length live.now → IsCallNumber (slice_index live.now k) }
     requires some { 1 ≤ periods }
     requires few { periods ≤ 250 }
     ensures seats { IfOk result (λ seats. AreSeats live.now entries.now periods seats.items (length live.now)) }

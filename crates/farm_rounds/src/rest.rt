@@ -1,6 +1,7 @@
 //! The parts of a farm, while its calls are at work.
 
 ghost use Rattle.std.specs.Prelude.{◌≡◌, ◌+◌, ◌*◌, ◌≤◌, length, IfOk, vec_capacity};
+ghost use Rattle.call_number.specs.declared.TheConstants.{NUMBERS};
 ghost use Rattle.farm_rounds.specs.Groups.{AreGroups, AreLive};
 
 use crate::call::Group;
@@ -27,7 +28,7 @@ impl Rest {
         ensures failed { IfOk result (λ rest. rest.failed.items ≡ farm.failed) }
         ensures sound { IfOk result (λ rest. AreGroups farm.ended farm.groups) }
         ensures alive { IfOk result (λ rest. AreLive farm.live farm.groups) }
-        ensures kept { IfOk result (λ rest. length farm.tallies ≡ 4097) }
+        ensures kept { IfOk result (λ rest. length farm.tallies ≡ NUMBERS) }
         ensures places { IfOk result (λ rest. length farm.live ≤ vec_capacity rest.groups) }
         ensures lines { IfOk result (λ rest. length farm.failed + 4 * length farm.live ≤ vec_capacity rest.failed) }
     {

@@ -1,6 +1,7 @@
 //! The calls after a round.
 
 ghost use Rattle.std.specs.Prelude.{◌≡◌, ◌≢◌, ◌<◌, ◌≤◌, ℕ, Some, true, [], ◌∷◌, length, vec_capacity};
+ghost use Rattle.call_number.specs.declared.TheConstants.{NUMBERS};
 ghost use Rattle.round_lines.specs.Transfer.{has_failed};
 ghost use Rattle.farm_rounds.specs.declared.call.Call.{Call};
 ghost use Rattle.farm_rounds.specs.declared.call.Group.TheVariants.{One};
@@ -132,7 +133,7 @@ fn settle(
     requires known { (c : ℕ) → holds c (group_from job) ≡ true → is_among numbers.now c ≡ true }
     requires present { (c : ℕ) → holds c (group_from job) ≡ true → is_among live.old.items c ≡ true }
     requires group { IsGroup 4294967295 (group_from job) }
-    requires tallies { length tallies.old ≡ 4097 }
+    requires tallies { length tallies.old ≡ NUMBERS }
     ensures left { result ≡ group_left (goes_on_call seats.now) (seat_of seats.now) (group_from job) }
     ensures settled { Settled (goes_on_call seats.now) (group_from job ∷ []) live.old.items live.new.items tallies.old tallies.new }
 {
@@ -164,7 +165,7 @@ pub(crate) fn settle_all(
     requires groups { AreGroups 4294967295 (groups_from (jobs_in jobs.items)) }
     requires live { AreLive live.old.items (groups_from (jobs_in jobs.items)) }
     requires room { length live.old.items ≤ vec_capacity groups.old }
-    requires tallies { length tallies.old ≡ 4097 }
+    requires tallies { length tallies.old ≡ NUMBERS }
     ensures groups { groups.new.items ≡ groups_left (goes_on_call seats.now) (seat_of seats.now) (groups_from (jobs_in jobs.items)) }
     ensures settled { Settled (goes_on_call seats.now) (groups_from (jobs_in jobs.items)) live.old.items live.new.items tallies.old tallies.new }
     ensures capacity { vec_capacity groups.new ≡ vec_capacity groups.old }

@@ -11,7 +11,7 @@ use Rattle.switchboard.specs.Ends.{start_of}
 use Rattle.switchboard.specs.Stands.{IsLatest}
 use Rattle.switchboard.proofs.Steps.{part_kept}
 use Rattle.farm_rounds.specs.declared.tally.Tally.{Tally}
-use Rattle.farm_rounds.specs.Calls.{IsNumber}
+use Rattle.call_number.specs.CallNumber.{IsCallNumber}
 use Rattle.farm_output.specs.Run.{Run}
 use Rattle.farm_run.specs.declared.notes.Opening.{Opening}
 use Rattle.farm_run.specs.declared.notes.BridgeNote.{BridgeNote}
@@ -76,7 +76,7 @@ module _ (r : Run) (ds now : List Done) (ended : ℕ → Bool) (j : JournalMemor
   abbrev made : BridgeNote
   made = record { a = a; b = b; sent_by_a = 0; sent_by_b = 0 }
 
-  numbers : IsNumber a × IsNumber b
+  numbers : IsCallNumber a × IsCallNumber b
   numbers = (p.numbers a h.both.0, p.numbers b h.both.1)
 
   count : length h.front ≡ place

@@ -10,7 +10,8 @@ use Rattle.switchboard.specs.State.{State, gone_in}
 use Rattle.switchboard.specs.Open.{opened_now, open_now, partner_now, open_after, partner_after, Finds}
 use Rattle.farm_rounds.specs.declared.call.Call.{Call}
 use Rattle.farm_rounds.specs.declared.call.Group.{Group}
-use Rattle.farm_rounds.specs.Calls.{IsNumber, call_in, partner_in}
+use Rattle.call_number.specs.CallNumber.{IsCallNumber}
+use Rattle.farm_rounds.specs.Calls.{call_in, partner_in}
 use Rattle.farm_rounds.specs.Acts.{new_call, joined, parted, set_by, changed, freed, calls_after, partners_after, Fits}
 use Rattle.farm_run.specs.Match.{Matches, AreNumbers}
 
@@ -150,9 +151,9 @@ partner_same (act.LevelSet n level) f g e c = e c
 partner_same (act.DtxSet n mode) f g e c = e c
 
 -- the calls that are open after an order have numbers of calls
-numbered : (b : State) (a : Act) → Finds a (opened_now b) (open_now b) (partner_now b) → ((c : ℕ) → open_now b c ≡ true → IsNumber c) → (c : ℕ) → open_after a (open_now b) c ≡ true → IsNumber c
+numbered : (b : State) (a : Act) → Finds a (opened_now b) (open_now b) (partner_now b) → ((c : ℕ) → open_now b c ≡ true → IsCallNumber c) → (c : ℕ) → open_after a (open_now b) c ≡ true → IsCallNumber c
 numbered b (act.Opened n) f h c e = elim (cases_eq c n) [
-  | inl q ↦ subst IsNumber (sym q) (omega (arith, f.0.0), omega (arith, f.0.1))
+  | inl q ↦ subst IsCallNumber (sym q) (omega (arith, f.0.0), omega (arith, f.0.1))
   | inr q ↦ h c (other (c == n) (open_now b c) q.0 e)
 ]
   where

@@ -13,7 +13,7 @@ use Rattle.switchboard.specs.Ends.{start_of}
 use Rattle.switchboard.specs.Stands.{IsLatest}
 use Rattle.switchboard.proofs.Appending.{after}
 use Rattle.farm_rounds.specs.declared.tally.Tally.{Tally}
-use Rattle.farm_rounds.specs.Calls.{IsNumber}
+use Rattle.call_number.specs.CallNumber.{IsCallNumber}
 use Rattle.farm_output.specs.Run.{Run}
 use Rattle.farm_output.proofs.Lists.{each_append, each_weaker}
 use Rattle.farm_run.specs.declared.notes.Opening.{Opening}
@@ -154,7 +154,7 @@ kept_same r calls now c x e k = record { counts = k.counts; sent = λ p f. k.sen
 -- ---- a call is opened
 
 pub record IsOpening (ds now : List Done) (m t : ℕ) : Type 0 where
-  pub number : IsNumber m
+  pub number : IsCallNumber m
   pub new : is_opened ds m ≡ false
   pub opened : (c : ℕ) → is_opened now c ≡ (c == m || is_opened ds c)
   pub start : (c : ℕ) → is_opened ds c ≡ true → start_of now c ≡ start_of ds c
@@ -190,8 +190,8 @@ module _ (r : Run) (ds now : List Done) (ended : ℕ → Bool) (j : JournalMemor
   joins_no : (k : ℕ) → k < length (bridges now) → joins m (bridge_at now k) ≡ false
   joins_no k l = joins_same (bridges now) (bridges ds) m k h.sides ∙ h.alone k (within k l)
 
-  number : (c : ℕ) → is_opened now c ≡ true → IsNumber c
-  number c o = elim (which c o) [ inl q ↦ subst IsNumber (sym q) h.number | inr q ↦ p.numbers c q.1 ]
+  number : (c : ℕ) → is_opened now c ≡ true → IsCallNumber c
+  number c o = elim (which c o) [ inl q ↦ subst IsCallNumber (sym q) h.number | inr q ↦ p.numbers c q.1 ]
 
   from : (c : ℕ) → is_opened now c ≡ true → (opening_of calls c).from ≡ start_of now c
   from c o = elim (which c o) [

@@ -4,7 +4,7 @@ use Rattle.std.proofs.lemmas.List.{length-replicate, get_or_default, length-set,
 use Rattle.std.proofs.lemmas.Bool.{cases_eq}
 use Rattle.std.proofs.lemmas.List.Elements.{All-nil}
 use Rattle.trau_io.specs.declared.ends.CallEnd.{CallEnd}
-use Rattle.farm_rounds.specs.Calls.{IsNumber}
+use Rattle.call_number.specs.CallNumber.{IsCallNumber}
 use Rattle.farm_run.specs.declared.notes.Opening.{Opening}
 use Rattle.farm_run.specs.declared.notes.BridgeNote.{BridgeNote}
 use Rattle.farm_run.specs.Journal.{HaveNumbers, IsJournal, no_opening, opening_of}
@@ -20,7 +20,7 @@ nowhere o k none some = cc
 pub journal-new : (calls : List Opening) (ends : List CallEnd) (bridges : List BridgeNote) → calls ≡ replicate 4097 no_opening → ends ≡ [] → IsJournal calls ends bridges
 journal-new calls ends bridges e n = record {
   long = ap length e ∙ length-replicate 4097 no_opening;
-  numbers = subst HaveNumbers (sym n) (All-nil (λ e. IsNumber e.call));
+  numbers = subst HaveNumbers (sym n) (All-nil (λ e. IsCallNumber e.call));
   places = λ c k h. absurd (nowhere _ k (ap (λ (o : Opening). o.bridge) (ap (λ xs. opening_of xs c) e ∙ none_opened 4097 c)) h);
 }
 

@@ -15,7 +15,8 @@ use Rattle.round_lines.specs.Rounds.{seat_at, call_at, seat_end, no_seat}
 use Rattle.switchboard.specs.Ends.{lack_of}
 use Rattle.switchboard.specs.State.{State, first_stamp, last_stamp}
 use Rattle.switchboard.specs.Open.{open_now, partner_now, ArePairs}
-use Rattle.farm_rounds.specs.Calls.{IsNumber, call_in, partner_in}
+use Rattle.call_number.specs.CallNumber.{IsCallNumber}
+use Rattle.farm_rounds.specs.Calls.{call_in, partner_in}
 use Rattle.farm_rounds.specs.Memory.{FarmMemory}
 use Rattle.farm_rounds.specs.Working.{goes_on_call, that_stays}
 use Rattle.farm_output.proofs.Lists.{each_weaker}
@@ -33,7 +34,7 @@ use Rattle.farm_run.proofs.WorkedRound.{WorkedRound, FilledRound, front, front_f
 pub record IsRight (t n : ℕ) (b : State) (e : CallEnd) : Type 0 where
   pub from : t ≤ e.at
   pub before : e.at < t + n
-  pub number : IsNumber e.call
+  pub number : IsCallNumber e.call
   pub open_now : open_now b e.call ≡ true
 
 module _ (t n : ℕ) (b : State) (farm : FarmMemory) (before between : ℕ → Side → LineState) (planned filled worked : List SeatMemory) (ends : List CallEnd)
@@ -88,7 +89,7 @@ module _ (t n : ℕ) (b : State) (farm : FarmMemory) (before between : ℕ → S
 
   -- **So the board can be told of these ends.**
   pub tells_numbers : HaveNumbers ends
-  tells_numbers = All-from_recursion (λ e. IsNumber e.call) ends (each_weaker (IsRight t n b) (λ e. IsNumber e.call) ends (λ e q. q.number) ends_right)
+  tells_numbers = All-from_recursion (λ e. IsCallNumber e.call) ends (each_weaker (IsRight t n b) (λ e. IsCallNumber e.call) ends (λ e q. q.number) ends_right)
 
   pub tells_open : AreOpen b ends
   tells_open = All-from_recursion (λ e. open_now b e.call ≡ true) ends (each_weaker (IsRight t n b) (λ e. open_now b e.call ≡ true) ends (λ e q. q.open_now) ends_right)

@@ -4,7 +4,7 @@ use Rattle.std.specs.List.{All}
 use Rattle.std.proofs.Common.{get_or, set}
 use Rattle.switchboard.specs.declared.act.Act.{Act}
 use Rattle.switchboard.specs.declared.act.Act.TheVariants as act
-use Rattle.farm_rounds.specs.Calls.{IsNumber}
+use Rattle.call_number.specs.CallNumber.{IsCallNumber}
 use Rattle.trau_io.specs.declared.ends.CallEnd.{CallEnd}
 use Rattle.trau_io.specs.declared.ends.Cause.TheVariants.{Closed}
 use Rattle.farm_run.specs.declared.notes.Opening.{Opening}
@@ -29,7 +29,7 @@ new_journal = record { calls = replicate 4097 no_opening; ends = []; bridges = [
 
 -- the ends are those of calls
 abbrev pub HaveNumbers : List CallEnd → Type 0
-HaveNumbers ends = All (λ e. IsNumber e.call) ends
+HaveNumbers ends = All (λ e. IsCallNumber e.call) ends
 
 -- there is an entry for each call number, the places are those of bridges, and the ends those of calls
 pub record IsJournal (calls : List Opening) (ends : List CallEnd) (bridges : List BridgeNote) : Type 0 where

@@ -13,20 +13,21 @@ use Rattle.switchboard.specs.Open.{open_now, partner_now}
 use Rattle.farm_output.specs.Run.{Run, whole_in, periods_to}
 use Rattle.farm_output.specs.Now.{IsSoFar, settings_now}
 use Rattle.farm_rounds.specs.declared.call.Group.{Group}
-use Rattle.farm_rounds.specs.Calls.{IsNumber, call_in, partner_in}
+use Rattle.call_number.specs.CallNumber.{IsCallNumber}
+use Rattle.farm_rounds.specs.Calls.{call_in, partner_in}
 use Rattle.farm_rounds.specs.Histories.{CallHistory, GroupsStand}
 
 -- the same calls are open, each has the same partner, and their numbers are those of calls
 pub record Matches (b : State) (groups : List Group) : Type 0 where
   pub is_open : (c : ℕ) → is_some (call_in groups c) ≡ open_now b c
   pub partner : (c : ℕ) → partner_in groups c ≡ partner_now b c
-  pub number : (c : ℕ) → open_now b c ≡ true → IsNumber c
+  pub number : (c : ℕ) → open_now b c ≡ true → IsCallNumber c
 
 -- the calls that the run notes something of have numbers of calls
 abbrev pub AreNumbers : Act → Type 0
-AreNumbers (act.Opened c) = IsNumber c
-AreNumbers (act.Closed c p) = IsNumber c
-AreNumbers (act.Bridged a b) = IsNumber a × IsNumber b
+AreNumbers (act.Opened c) = IsCallNumber c
+AreNumbers (act.Closed c p) = IsCallNumber c
+AreNumbers (act.Bridged a b) = IsCallNumber a × IsCallNumber b
 AreNumbers _ = Unit {0}
 
 -- At the clock t no order that is left has a smaller stamp, no executed one a greater one, and all ends that were told lie

@@ -15,7 +15,7 @@ use Rattle.switchboard.specs.Ends.{end_of, start_of, ends_at}
 use Rattle.call_leg.specs.Counted.{call_counts}
 use Rattle.farm_rounds.specs.declared.call.Group.{Group}
 use Rattle.farm_rounds.specs.declared.tally.Tally.{Tally}
-use Rattle.farm_rounds.specs.Calls.{IsNumber}
+use Rattle.call_number.specs.CallNumber.{IsCallNumber}
 use Rattle.farm_rounds.specs.Memory.{tally_in}
 use Rattle.farm_output.specs.Run.{Run, given_in, whole_in, done_in, spans_in, periods_in}
 use Rattle.farm_output.specs.Facts.{sent_by}
@@ -64,7 +64,7 @@ pub record EndsNoted (r : Run) (ended : ℕ → Bool) (ends : List CallEnd) : Ty
 -- two calls.
 pub record PlacesNoted (ds : List Done) (j : JournalMemory) : Type 0 where
   pub long : length j.calls ≡ 4097
-  pub numbers : (c : ℕ) → is_opened ds c ≡ true → IsNumber c
+  pub numbers : (c : ℕ) → is_opened ds c ≡ true → IsCallNumber c
   pub from : (c : ℕ) → is_opened ds c ≡ true → (opening_of j.calls c).from ≡ start_of ds c
   pub latest : (c : ℕ) → is_opened ds c ≡ true → IsLatest (bridges ds) c (opening_of j.calls c).bridge
   pub count : length j.bridges ≡ length (bridges ds)

@@ -4,7 +4,7 @@ ghost use Rattle.std.specs.Prelude.{◌≡◌, ◌≤◌, ◌&&◌, ℕ, not, tr
 ghost use Rattle.std.specs.List.{All};
 ghost use Rattle.switchboard.specs.State.{last_stamp};
 ghost use Rattle.switchboard.specs.Open.{open_now, partner_now};
-ghost use Rattle.farm_rounds.specs.Calls.{IsNumber};
+ghost use Rattle.call_number.specs.CallNumber.{IsCallNumber};
 ghost use Rattle.farm_rounds.specs.Numbers.{IsRising, is_among};
 ghost use Rattle.farm_run.specs.Journal.{HaveNumbers, with_ends};
 ghost use Rattle.farm_run.specs.Going.{told_after, is_told};
@@ -51,7 +51,7 @@ pub(crate) fn end_all(
 ) -> Result<(), AllocError>
     requires rising { IsRising calls.now }
     requires open { All (λ c. open_now board.old c ≡ true) calls.now }
-    requires numbers { All IsNumber calls.now }
+    requires numbers { All IsCallNumber calls.now }
     requires late { last_stamp board.old.done ≤ at }
     ensures told { IfOk result (λ u. board.new ≡ told_after board.old (map (limit_at at) calls.now)) }
     ensures noted { IfOk result (λ u. journal.new ≡ with_ends (map (limit_at at) calls.now) journal.old) }

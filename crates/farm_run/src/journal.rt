@@ -1,10 +1,11 @@
 //! What the report needs to know of the past.
 
 ghost use Rattle.std.specs.Prelude.{◌≡◌, ◌<◌, IfOk};
-ghost use Rattle.farm_rounds.specs.Calls.{IsNumber};
+ghost use Rattle.call_number.specs.CallNumber.{IsCallNumber};
 ghost use Rattle.farm_run.specs.Journal.{HaveNumbers, new_journal, settled, opening_of, with_opening, with_end, with_bridge};
 
 use crate::notes::{BridgeNote, Opening};
+use call_number::NUMBERS;
 use std::alloc::{AllocError, Global};
 use std::marker::Model;
 use trau_io::CallEnd;
@@ -28,9 +29,6 @@ impl Model for Journal {
     ghost invariant = { λ j. IsJournal j.calls.items j.ends.items j.bridges.items };
 }
 
-// Call numbers are below it.
-const NUMBERS: usize = 4097;
-
 const NOT_OPENED: Opening = Opening {
     from: 0,
     bridge: None,
@@ -50,7 +48,7 @@ impl Journal {
 
     /// A call is opened at a period.
     pub(crate) fn open(&mut self, call: u32, period: u32)
-        requires { call < 4097 }
+        requires { call < NUMBERS }
         ensures { self.new ≡ with_opening call period self.old }
     {
         self.calls[call as usize] = Opening {
@@ -61,7 +59,7 @@ impl Journal {
 
     /// A call ends.
     pub(crate) fn end(&mut self, end: CallEnd) -> Result<(), AllocError>
-        requires { IsNumber end.call }
+        requires { IsCallNumber end.call }
         ensures { IfOk result (λ u. self.new ≡ with_end end self.old) }
     {
         self.ends.push(end)?;
@@ -70,8 +68,8 @@ impl Journal {
 
     /// A bridge of two calls begins.
     pub(crate) fn bridge(&mut self, a: u32, b: u32) -> Result<(), AllocError>
-        requires a { a < 4097 }
-        requires b { b < 4097 }
+        requires a { a < NUMBERS }
+        requires b { b < NUMBERS }
         ensures { IfOk result (λ u. self.new ≡ with_bridge a b self.old) }
     {
         let place = self.bridges.len();
@@ -88,7 +86,7 @@ impl Journal {
 
     /// A call has sent so many handed frames in its latest bridge, if it has been bridged.
     pub(crate) fn settle(&mut self, call: u32, sent: u32)
-        requires { call < 4097 }
+        requires { call < NUMBERS }
         ensures { self.new ≡ settled call sent self.old }
     {
         if let Some(place) = self.calls[call as usize].bridge {
@@ -109,7 +107,7 @@ impl Journal {
 
     /// The period at which a call was opened.
     pub(crate) fn from(&self, call: u32) -> u32
-        requires { call < 4097 }
+        requires { call < NUMBERS }
         ensures { result ≡ (opening_of self.now.calls call).from }
     {
         self.calls[call as usize].from

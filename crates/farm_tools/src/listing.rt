@@ -1,5 +1,6 @@
 // The listing of frames as a tool.
 ghost use Rattle.std.specs.Prelude.{◌≡◌, ◌≤◌, IfOk, string_bytes};
+ghost use Rattle.call_number.specs.CallNumber.{IsCallNumber};
 ghost use Rattle.trau_io.specs.declared.line.Side.TheVariants.{Up};
 ghost use Rattle.farm_tools.specs.Frames.{CleanFrames, FramesCauses, FramesRun, IsListEnd, TellsListEnd, list_text};
 ghost use Rattle.farm_tools.specs.Tools.{status_of};
@@ -23,8 +24,7 @@ fn list_text(alloc: Global, call: u32, end: ListEnd) -> Result<String, AllocErro
 
 // The end of the tool whose listing ended so and whose last line went out.
 fn list_end(call: u32, end: ListEnd) -> ToolEnd
-    requires low { 1 ≤ call }
-    requires high { call ≤ 4096 }
+    requires { IsCallNumber call }
     ensures { IsListEnd call end result }
 {
     match end {
@@ -39,8 +39,7 @@ fn list_end(call: u32, end: ListEnd) -> ToolEnd
 
 // Tells the last line of text of a listing.
 fn tell_end<D: Desk>(alloc: Global, call: u32, end: ListEnd, desk: &mut D) -> ToolEnd
-    requires low { 1 ≤ call }
-    requires high { call ≤ 4096 }
+    requires { IsCallNumber call }
     ensures { TellsListEnd call end (D.desk desk.old) (D.desk desk.new) result }
 {
     let Ok(text) = list_text(alloc, call, end) else {
@@ -57,8 +56,7 @@ fn tell_end<D: Desk>(alloc: Global, call: u32, end: ListEnd, desk: &mut D) -> To
 /// `good`, `sid`, `invalid`, `bad`, `idle`, `other` or `miss`. A rest of less than a period is left. At the end it tells
 /// `frames N left R`, N being the number of yields, or `line C up failed`. It never answers Refused.
 pub fn frames<T: Trunk, D: Desk>(alloc: Global, call: u32, trunk: &mut T, desk: &mut D) -> ToolEnd
-    requires low { 1 ≤ call }
-    requires high { call ≤ 4096 }
+    requires { IsCallNumber call }
     ensures runs { FramesRun (T.lines trunk.old) (T.lines trunk.new) (D.desk desk.old) (D.desk desk.new) call result }
     ensures causes { FramesCauses (T.lines trunk.old call Up) (T.lines trunk.new call Up) (D.desk desk.old) (D.desk desk.new) (status_of result) }
     ensures clean { CleanFrames call (T.lines trunk.old call Up) (T.lines trunk.new call Up) (D.desk desk.old) (D.desk desk.new) (status_of result) }

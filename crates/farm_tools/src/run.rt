@@ -1,5 +1,6 @@
 // The run of a tool over the blocks of a line.
 ghost use Rattle.std.specs.Prelude.{◌≡◌, ◌≤◌, ◌<◌, List, [], ℕ, length};
+ghost use Rattle.call_number.specs.CallNumber.{IsCallNumber};
 ghost use Rattle.farm_tools.specs.Blocks.{block_length};
 ghost use Rattle.farm_tools.specs.Made.{in_side, out_side};
 ghost use Rattle.farm_tools.specs.Runs.{AllButTwo, Runs};
@@ -35,8 +36,7 @@ fn ended_inside(tool: Tool, count: usize) -> BlockEnd
 
 // Takes one block, and writes what the work makes of it.
 fn run_block<T: Trunk>(work: &mut Work, call: u32, trunk: &mut T) -> BlockEnd
-    requires low { 1 ≤ call }
-    requires high { call ≤ 4096 }
+    requires { IsCallNumber call }
     ensures same { tool_of work.new ≡ tool_of work.old }
     ensures block { RunsOn work.old work.new (T.lines trunk.old call (in_side (tool_of work.old))) (T.lines trunk.new call (in_side (tool_of work.old))) (T.lines trunk.old call (out_side (tool_of work.old))) (T.lines trunk.new call (out_side (tool_of work.old))) result }
     ensures others { AllButTwo (T.lines trunk.old) (T.lines trunk.new) call (in_side (tool_of work.old)) (out_side (tool_of work.old)) }
@@ -70,8 +70,7 @@ fn run_block<T: Trunk>(work: &mut Work, call: u32, trunk: &mut T) -> BlockEnd
 /// Runs a tool over the blocks of a call's line, up to the first refused block or the end of the line, which
 /// 4,294,967,295 blocks count as too.
 pub fn run_tool<T: Trunk>(tool: Tool, call: u32, trunk: &mut T) -> RunEnd
-    requires low { 1 ≤ call }
-    requires high { call ≤ 4096 }
+    requires { IsCallNumber call }
     ensures runs { Runs tool (T.lines trunk.old call (in_side tool)) (T.lines trunk.new call (in_side tool)) (T.lines trunk.old call (out_side tool)) (T.lines trunk.new call (out_side tool)) result }
     ensures others { AllButTwo (T.lines trunk.old) (T.lines trunk.new) call (in_side tool) (out_side tool) }
 {

@@ -1,5 +1,6 @@
 // The tools.
 ghost use Rattle.std.specs.Prelude.{◌≡◌, ◌≤◌};
+ghost use Rattle.call_number.specs.CallNumber.{IsCallNumber};
 ghost use Rattle.farm_tools.specs.declared.end.Tool.TheVariants as tool;
 ghost use Rattle.farm_tools.specs.Causes.{Causes};
 ghost use Rattle.farm_tools.specs.Clean.{CleanRun};
@@ -13,8 +14,7 @@ use trau_io::{Desk, Line, Trunk, tell};
 
 // The end of a tool whose run ended so and whose text went out.
 fn end_of(tool: Tool, call: u32, end: RunEnd) -> ToolEnd
-    requires low { 1 ≤ call }
-    requires high { call ≤ 4096 }
+    requires { IsCallNumber call }
     ensures { IsEndOf tool call end result }
 {
     match end {
@@ -38,8 +38,7 @@ fn work<T: Trunk, D: Desk>(
     trunk: &mut T,
     desk: &mut D,
 ) -> ToolEnd
-    requires low { 1 ≤ call }
-    requires high { call ≤ 4096 }
+    requires { IsCallNumber call }
     ensures { ToolRuns tool (T.lines trunk.old) (T.lines trunk.new) (D.desk desk.old) (D.desk desk.new) call result }
 {
     let end = run_tool(tool, call, trunk);
@@ -57,8 +56,7 @@ fn work<T: Trunk, D: Desk>(
 /// speech frame or that the line's end cuts short. At the end it tells `relay frames N`, `relay refused N` or
 /// `line C SIDE failed`, one line of text.
 pub fn relay<T: Trunk, D: Desk>(alloc: Global, call: u32, trunk: &mut T, desk: &mut D) -> ToolEnd
-    requires low { 1 ≤ call }
-    requires high { call ≤ 4096 }
+    requires { IsCallNumber call }
     ensures runs { ToolRuns tool.Relay (T.lines trunk.old) (T.lines trunk.new) (D.desk desk.old) (D.desk desk.new) call result }
     ensures causes { Causes tool.Relay call (T.lines trunk.old) (T.lines trunk.new) (D.desk desk.old) (D.desk desk.new) (status_of result) }
     ensures clean { CleanRun tool.Relay call (T.lines trunk.old) (T.lines trunk.new) (D.desk desk.old) (D.desk desk.new) (status_of result) }
@@ -70,8 +68,7 @@ pub fn relay<T: Trunk, D: Desk>(alloc: Global, call: u32, trunk: &mut T, desk: &
 /// octets (G.711) of its samples, decoded from home over all blocks so far (GSM 06.10). It stops as `relay` does,
 /// and tells `decode frames N`, `decode refused N` or `line C SIDE failed`.
 pub fn decode<T: Trunk, D: Desk>(alloc: Global, call: u32, trunk: &mut T, desk: &mut D) -> ToolEnd
-    requires low { 1 ≤ call }
-    requires high { call ≤ 4096 }
+    requires { IsCallNumber call }
     ensures runs { ToolRuns tool.Decode (T.lines trunk.old) (T.lines trunk.new) (D.desk desk.old) (D.desk desk.new) call result }
     ensures causes { Causes tool.Decode call (T.lines trunk.old) (T.lines trunk.new) (D.desk desk.old) (D.desk desk.new) (status_of result) }
     ensures clean { CleanRun tool.Decode call (T.lines trunk.old) (T.lines trunk.new) (D.desk desk.old) (D.desk desk.new) (status_of result) }
@@ -83,8 +80,7 @@ pub fn decode<T: Trunk, D: Desk>(alloc: Global, call: u32, trunk: &mut T, desk: 
 /// of their samples, encoded from home over all blocks so far (GSM 06.10), with SP 1. A rest of less than a block
 /// is left; no block is refused. It tells `encode frames N left R` or `line C SIDE failed`.
 pub fn encode<T: Trunk, D: Desk>(alloc: Global, call: u32, trunk: &mut T, desk: &mut D) -> ToolEnd
-    requires low { 1 ≤ call }
-    requires high { call ≤ 4096 }
+    requires { IsCallNumber call }
     ensures runs { ToolRuns tool.Encode (T.lines trunk.old) (T.lines trunk.new) (D.desk desk.old) (D.desk desk.new) call result }
     ensures causes { Causes tool.Encode call (T.lines trunk.old) (T.lines trunk.new) (D.desk desk.old) (D.desk desk.new) (status_of result) }
     ensures clean { CleanRun tool.Encode call (T.lines trunk.old) (T.lines trunk.new) (D.desk desk.old) (D.desk desk.new) (status_of result) }

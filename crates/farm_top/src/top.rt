@@ -1,5 +1,6 @@
 // The top call: the words in, the octets and the text out, and the status.
 ghost use Rattle.std.specs.Prelude.{◌≡◌, ◌≢◌, ◌≤◌, ◌⊎◌, ℕ, List, codes};
+ghost use Rattle.call_number.specs.CallNumber.{IsCallNumber};
 ghost use Rattle.trau_io.specs.declared.line.Side.TheVariants.{Up};
 ghost use Rattle.trau_orders.specs.declared.order.Order.{Order};
 ghost use Rattle.farm_output.specs.Run.{Run};
@@ -49,8 +50,7 @@ fn work<T: Trunk, D: Desk>(
     trunk: &mut T,
     desk: &mut D,
 ) -> ToolEnd
-    requires low { 1 ≤ call }
-    requires high { call ≤ 4096 }
+    requires { IsCallNumber call }
     ensures { ToolRuns tool (T.lines trunk.old) (T.lines trunk.new) (D.desk desk.old) (D.desk desk.new) call result }
 {
     match tool {
@@ -79,8 +79,7 @@ fn carry_tool<T: Trunk, D: Desk>(
     trunk: &mut T,
     desk: &mut D,
 ) -> u8
-    requires low { 1 ≤ call }
-    requires high { call ≤ 4096 }
+    requires { IsCallNumber call }
     ensures { Carries tool (T.lines trunk.old) (T.lines trunk.new) (D.desk desk.old) (D.desk desk.new) call result }
 {
     let end = work(alloc, tool, call, trunk, desk);

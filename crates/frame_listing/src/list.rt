@@ -1,5 +1,6 @@
 // A listing, period by period.
 ghost use Rattle.std.specs.Prelude.{◌≡◌, ◌≤◌, ◌<◌, ◌+◌};
+ghost use Rattle.call_number.specs.CallNumber.{IsCallNumber};
 ghost use Rattle.trau_io.specs.declared.line.Side.TheVariants.{Up};
 ghost use Rattle.trau_io.specs.Lines.{OthersStay};
 ghost use Rattle.frame_listing.specs.Lists.{Lists};
@@ -41,8 +42,7 @@ fn list_period<T: Trunk, D: Desk>(
     trunk: &mut T,
     desk: &mut D,
 ) -> PeriodEnd
-    requires low { 1 ≤ call }
-    requires high { call ≤ 4096 }
+    requires number { IsCallNumber call }
     requires fewer { sync.old.periods < 4294967295 }
     ensures period { ListsOn sync.old sync.new (T.lines trunk.old call Up) (T.lines trunk.new call Up) (D.desk desk.old) (D.desk desk.new) result }
     ensures others { OthersStay (T.lines trunk.old) (T.lines trunk.new) call Up }
@@ -69,8 +69,7 @@ fn list_period<T: Trunk, D: Desk>(
 /// Lists the yields of the search on a call's uplink, a line of text each, up to the end of the line, which
 /// 4,294,967,295 periods count as too.
 pub fn list_frames<T: Trunk, D: Desk>(call: u32, trunk: &mut T, desk: &mut D) -> ListEnd
-    requires low { 1 ≤ call }
-    requires high { call ≤ 4096 }
+    requires { IsCallNumber call }
     ensures lists { Lists (T.lines trunk.old call Up) (T.lines trunk.new call Up) (D.desk desk.old) (D.desk desk.new) result }
     ensures others { OthersStay (T.lines trunk.old) (T.lines trunk.new) call Up }
 {

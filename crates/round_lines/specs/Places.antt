@@ -1,6 +1,7 @@
 -- A call's place in a round: its number, the round's periods, and how its four lines stand (this project's profile).
 use Rattle.std.specs.Prelude.{◌≡◌, ℕ, ◌+◌, ◌*◌, ◌≤◌, ◌==◌, Bool, true, false, if◌then◌else◌, Option, Some, None, List, [], ◌∷◌}
 use Rattle.std.specs.List.{filter_map}
+use Rattle.call_number.specs.CallNumber.{IsCallNumber}
 use Rattle.trau_io.specs.declared.line.Line.{Line}
 use Rattle.trau_io.specs.declared.line.Side.{Side}
 use Rattle.trau_io.specs.declared.line.Side.TheVariants.{Up, Pcm, Down, Out}
@@ -21,10 +22,9 @@ pub record PlaceMemory : Type 0 where
   pub down : Outlet
   pub out : Outlet
 
--- Calls are numbered from 1 to 4,096, a round has 1 to 250 periods, and no more octets are taken than these have: 40 each of Up, 160 of Pcm.
+-- A round has 1 to 250 periods, and no more octets are taken than these have: 40 each of Up, 160 of Pcm.
 pub record IsPlace (p : PlaceMemory) : Type 0 where
-  pub low : 1 ≤ p.call
-  pub high : p.call ≤ 4096
+  pub number : IsCallNumber p.call
   pub some : 1 ≤ p.periods
   pub few : p.periods ≤ 250
   pub up : p.up.count ≤ 40 * p.periods

@@ -1,5 +1,6 @@
 //! How a call's lines stand in a round.
 ghost use Rattle.std.specs.Prelude.{◌≡◌, if◌then◌else◌, ◌-◌, ◌+◌, ◌*◌, ◌≤◌, ◌<◌, ◌^◌, ◌++◌, map, vec_len, vec_capacity};
+ghost use Rattle.call_number.specs.CallNumber.{IsCallNumber};
 ghost use Rattle.trau_io.specs.declared.ends.Cause.TheVariants.{End, Fault};
 ghost use Rattle.switchboard.specs.Ends.{lack_of};
 ghost use Rattle.round_lines.specs.Places.{outlet_before, new_place, given_in, whole_in, end_in_round, fails_in, failed_in_round, name_of};
@@ -68,8 +69,7 @@ fn cause_of(side: Side, taken: Taken, whole: usize) -> Cause
 impl Place {
     /// A place before its call's first read; the flags say which outgoing lines failed in earlier rounds.
     pub(crate) fn new(call: u32, periods: u32, down_failed: bool, out_failed: bool) -> Place
-        requires low { 1 ≤ call }
-        requires high { call ≤ 4096 }
+        requires number { IsCallNumber call }
         requires some { 1 ≤ periods }
         requires few { periods ≤ 250 }
         ensures { result ≡ new_place call periods down_failed out_failed }
@@ -87,8 +87,7 @@ impl Place {
     /// The call's number, 1 to 4,096.
     pub fn call(&self) -> u32
         ensures value { result ≡ self.now.call }
-        ensures low { 1 ≤ result }
-        ensures high { result ≤ 4096 }
+        ensures number { IsCallNumber result }
     {
         self.call
     }

@@ -1,5 +1,6 @@
 //! A call's seat in a round: how its lines stand, and the buffers of their octets.
 ghost use Rattle.std.specs.Prelude.{◌≡◌, ◌≤◌, length, IfOk};
+ghost use Rattle.call_number.specs.CallNumber.{IsCallNumber};
 ghost use Rattle.trau_io.specs.declared.line.Side.TheVariants.{Up, Pcm, Down, Out};
 ghost use Rattle.trau_io.specs.Lines.{OthersStay};
 ghost use Rattle.round_lines.specs.Transfer.{Takes, Gives};
@@ -48,8 +49,7 @@ impl Seat {
         down_failed: bool,
         out_failed: bool,
     ) -> Result<Seat, AllocError>
-        requires low { 1 ≤ call }
-        requires high { call ≤ 4096 }
+        requires number { IsCallNumber call }
         requires some { 1 ≤ periods }
         requires few { periods ≤ 250 }
         ensures { IfOk result (λ s. s ≡ new_seat call periods down_failed out_failed) }

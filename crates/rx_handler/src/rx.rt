@@ -2,6 +2,7 @@
 
 ghost use Rattle.std.specs.Prelude.{◌≡◌, ℕ, ◌≤◌, List, [], ◌∷◌, length, reverse};
 ghost use Rattle.std.specs.Option.{option_copied};
+ghost use Rattle.call_number.specs.CallNumber.{IsCallNumber};
 ghost use Rattle.rx_handler.specs.Heard.{Heard, heard_of};
 ghost use Rattle.rx_handler.specs.Effective.{effective_at, heard_in};
 ghost use Rattle.rx_handler.specs.Past.{effective_of};
@@ -33,8 +34,7 @@ impl Rx {
     /// The receive side at the start of a call with this number, 1 to 4,096, at which its random source starts.
     #[tactic(auto, unfolding(crate::specs::Past::anchor_of, crate::specs::Past::drawn, rx_muting::specs::Draws::state_after))]
     pub fn new(call: u32) -> Rx
-        requires low { 1 ≤ call }
-        requires high { call ≤ 4096 }
+        requires { IsCallNumber call }
         ensures value { result ≡ first_memory call }
         ensures history { Stands call [] result }
     {

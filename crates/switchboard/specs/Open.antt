@@ -1,7 +1,7 @@
 -- What a step of the board changes of who is open, and who is bridged with whom, with no history at hand.
 use Rattle.std.specs.Prelude.{◌≡◌, ℕ, ◌<◌, ◌≢◌, Bool, true, false, ◌||◌, if◌then◌else◌, ◌==◌, Option, Some, None, is_some, option_map, IfSome, IfOk, List}
 use Rattle.std.specs.List.{All}
-use Rattle.trau_orders.specs.Lists.{IsCall}
+use Rattle.call_number.specs.CallNumber.{IsCallNumber}
 use Rattle.switchboard.specs.declared.act.Act.{Act}
 use Rattle.switchboard.specs.declared.act.Act.TheVariants as act
 use Rattle.switchboard.specs.declared.act.Reply.{Reply}
@@ -68,7 +68,7 @@ partner_after _ partner c = partner c
 -- What an accepted order finds: a new number, or open calls; of calls to be bridged neither has a partner, and of those to be
 -- parted each is the other's.
 abbrev pub Finds : Act → (ℕ → Bool) → (ℕ → Bool) → (ℕ → Option ℕ) → Type 0
-Finds (act.Opened n) opened is_open partner = IsCall n × (opened n ≡ false)
+Finds (act.Opened n) opened is_open partner = IsCallNumber n × (opened n ≡ false)
 Finds (act.Closed n p) opened is_open partner = (is_open n ≡ true) × (partner n ≡ p)
 Finds (act.Bridged a b) opened is_open partner = (a ≢ b) × ((is_open a ≡ true) × (is_open b ≡ true)) × ((partner a ≡ None) × (partner b ≡ None))
 Finds (act.Unbridged a b) opened is_open partner = ((is_open a ≡ true) × (is_open b ≡ true)) × ((partner a ≡ Some b) × (partner b ≡ Some a))

@@ -3,7 +3,7 @@ use Rattle.std.specs.Prelude.{ℕ, pos, ◌≤ℤ◌, Bool, not, if◌then◌els
 use Rattle.trau_orders.specs.declared.order.Order.{Order}
 use Rattle.trau_orders.specs.declared.order.What.{What}
 use Rattle.trau_orders.specs.declared.order.What.TheVariants as what
-use Rattle.trau_orders.specs.Lists.{IsCall}
+use Rattle.call_number.specs.CallNumber.{IsCallNumber}
 use Rattle.switchboard.specs.declared.act.Act.{Act}
 use Rattle.switchboard.specs.declared.act.Act.TheVariants as act
 use Rattle.switchboard.specs.declared.act.Refusal.{Refusal}
@@ -93,7 +93,7 @@ reply_from k w = elim (first_of_tests (tests k w)) [ None ↦ Ok (act_of k w) | 
 
 -- A call that is opened has a number of a call, and a level that is set is no number below 0.
 abbrev pub IsInRange : Act → Type 0
-IsInRange (act.Opened c) = IsCall c
+IsInRange (act.Opened c) = IsCallNumber c
 IsInRange (act.LevelSet c v) = pos 0 ≤ℤ v
 IsInRange _ = Unit {0}
 

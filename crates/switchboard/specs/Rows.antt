@@ -2,6 +2,7 @@
 use Rattle.std.specs.Prelude.{◌≡◌, ◌<◌, ℕ, Bool, not, ◌&&◌, if◌then◌else◌, nat_lt, Option, Some, None, is_some, is_none, option_map, IfSome, Result, Ok, Err, List, [], ◌∷◌, ◌++◌, length, take}
 use Rattle.std.proofs.Common.{get_or, set}
 use Rattle.std.specs.List.{filter_map, insert}
+use Rattle.call_number.specs.declared.TheConstants.{NUMBERS}
 use Rattle.switchboard.specs.declared.act.Act.{Act}
 use Rattle.switchboard.specs.declared.act.Act.TheVariants as act
 use Rattle.switchboard.specs.declared.act.Refusal.{Refusal}
@@ -24,9 +25,9 @@ never = record { opened = None; closed = None; gone = None; bridge = None }
 
 -- there is a place for each call number, and the places and numbers that are kept are there
 pub record IsSized (calls : List Call) (bridges : List Bridge) : Type 0 where
-  pub all : length calls ≡ 4097
+  pub all : length calls ≡ NUMBERS
   pub places : (c : ℕ) → IfSome (get_or calls c never).bridge (λ k. k < length bridges)
-  pub named : (k : ℕ) → k < length bridges → ((get_or bridges k no_bridge).a < 4097) × ((get_or bridges k no_bridge).b < 4097)
+  pub named : (k : ℕ) → k < length bridges → ((get_or bridges k no_bridge).a < NUMBERS) × ((get_or bridges k no_bridge).b < NUMBERS)
 
 -- ---- what is read
 

@@ -4,6 +4,7 @@ use Rattle.std.proofs.Common.{get_or}
 use Rattle.std.specs.List.{filter_map}
 use Rattle.trau_orders.specs.declared.order.Order.{Order}
 use Rattle.trau_orders.specs.Lists.{AreOrders}
+use Rattle.call_number.specs.declared.TheConstants.{NUMBERS}
 use Rattle.switchboard.specs.declared.act.Act.{Act}
 use Rattle.switchboard.specs.declared.act.Act.TheVariants as act
 use Rattle.switchboard.specs.declared.act.Refusal.{Refusal}
@@ -37,7 +38,7 @@ pub record IsSound (r : Rows) (now : ℕ) (x : Bridge) : Type 0 where
 -- the calls and bridges of a table at a time: a call's earlier bridges were over before its later ones began, and a call
 -- that wasn't opened wasn't closed and has no end
 pub record IsTable (r : Rows) (now : ℕ) : Type 0 where
-  pub latest : (c : ℕ) → c < 4097 → IsLatest r.bridges c (call_in r c).bridge
+  pub latest : (c : ℕ) → c < NUMBERS → IsLatest r.bridges c (call_in r c).bridge
   pub sound : (k : ℕ) → k < length r.bridges → IsSound r now (bridge_at_place r k)
   pub over : (c i j : ℕ) → i < j → j < length r.bridges → joins c (bridge_at_place r i) ≡ true → joins c (bridge_at_place r j) ≡ true →
       IsOver r (bridge_at_place r j).from (bridge_at_place r i)
@@ -48,9 +49,9 @@ pub record IsTable (r : Rows) (now : ℕ) : Type 0 where
 
 -- the table of a list of executed orders
 pub record Stands (r : Rows) (ds : List Done) : Type 0 where
-  pub opened : (c : ℕ) → c < 4097 → (call_in r c).opened ≡ opened_at c ds
-  pub closed : (c : ℕ) → c < 4097 → (call_in r c).closed ≡ closed_at c ds
-  pub inside : (c : ℕ) → is_some (opened_at c ds) ≡ true → c < 4097
+  pub opened : (c : ℕ) → c < NUMBERS → (call_in r c).opened ≡ opened_at c ds
+  pub closed : (c : ℕ) → c < NUMBERS → (call_in r c).closed ≡ closed_at c ds
+  pub inside : (c : ℕ) → is_some (opened_at c ds) ≡ true → c < NUMBERS
   pub bridges : r.bridges ≡ bridges ds
   pub table : IsTable r (last_stamp ds)
 
@@ -69,7 +70,7 @@ pub record IsBoard (os : List Order) (xs : List Reply) (r : Rows) : Type 0 where
   pub few : length xs ≤ length os
   pub numbered : xs ≡ numbered 0 (dones os xs)
   pub most : r.most ≡ length os
-  pub places : length r.calls ≡ 4097
+  pub places : length r.calls ≡ NUMBERS
   pub stands : Stands r (dones os xs)
 
 -- no stamp of a list is below the first
@@ -78,8 +79,8 @@ pub record AreRising (os : List Order) : Type 0 where
 
 -- the calls of an act are in the table
 abbrev pub InTable : Result Act Refusal → Type 0
-InTable (Ok (act.Opened c)) = c < 4097
-InTable (Ok (act.Closed c p)) = c < 4097
-InTable (Ok (act.Bridged a b)) = (a < 4097) × (b < 4097)
-InTable (Ok (act.Unbridged a b)) = a < 4097
+InTable (Ok (act.Opened c)) = c < NUMBERS
+InTable (Ok (act.Closed c p)) = c < NUMBERS
+InTable (Ok (act.Bridged a b)) = (a < NUMBERS) × (b < NUMBERS)
+InTable (Ok (act.Unbridged a b)) = a < NUMBERS
 InTable _ = Unit {0}

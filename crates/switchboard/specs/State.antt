@@ -2,6 +2,7 @@
 use Rattle.std.specs.Prelude.{◌+◌, ◌<◌, ℕ, Bool, if◌then◌else◌, ◌==◌, Option, Some, None, is_some, IfSome, List, [], ◌∷◌, ◌++◌, length, map, drop, replicate}
 use Rattle.std.proofs.Common.{get_or, set}
 use Rattle.trau_orders.specs.declared.order.Order.{Order}
+use Rattle.call_number.specs.declared.TheConstants.{NUMBERS}
 use Rattle.switchboard.specs.declared.act.Reply.{Reply}
 use Rattle.switchboard.specs.Calls.{Done}
 use Rattle.switchboard.specs.Replies.{reply_to}
@@ -27,7 +28,7 @@ EndBefore t s = (c : ℕ) → IfSome (told_in s c) (λ at. at < t)
 
 -- a board before the first order
 abbrev pub start_of : List Order → State
-start_of os = record { left = os; done = []; told = replicate 4097 None }
+start_of os = record { left = os; done = []; told = replicate NUMBERS None }
 
 -- all orders, whether executed or left
 abbrev pub orders_of : State → List Order

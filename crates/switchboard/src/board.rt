@@ -14,6 +14,7 @@ ghost use Rattle.switchboard.specs.Open.{opened_now, open_now, partner_now, open
 
 use crate::table::Table;
 use crate::{Reply, Span};
+use call_number::NUMBERS;
 use std::alloc::{AllocError, Global};
 use std::marker::Model;
 use trau_io::CallEnd;
@@ -152,7 +153,7 @@ impl Board {
     pub fn is_open(&self, call: u32) -> bool
         ensures { result ≡ is_open (gone_in self.now) self.now.done call }
     {
-        call < 4097 && self.table.is_open(call)
+        (call as usize) < NUMBERS && self.table.is_open(call)
     }
 
     /// Is told that the lines of an open call ended it, or that the run has no further periods for it. The end is not

@@ -3,6 +3,7 @@
 
 ghost use Rattle.std.specs.Prelude.{◌≡◌, ◌<◌, ℕ, not, option_map, length};
 ghost use Rattle.std.specs.List.{filter_map};
+ghost use Rattle.call_number.specs.declared.TheConstants.{NUMBERS};
 ghost use Rattle.trau_orders.specs.Lists.{NamesCalls};
 ghost use Rattle.switchboard.specs.Bridges.{other};
 ghost use Rattle.switchboard.specs.Replies.{refuse_if, draining, reply_from};
@@ -59,7 +60,7 @@ impl Table {
     }
 
     fn open_reply(&self, call: u32) -> Result<Act, Refusal>
-        requires { call < 4097 }
+        requires { call < NUMBERS }
         ensures value { (t : ℕ) → result ≡ reply_from (known_in self.now t) (What.OpenCall call) }
         ensures calls { InTable result }
     {
@@ -73,7 +74,7 @@ impl Table {
     }
 
     fn close_reply(&self, call: u32) -> Result<Act, Refusal>
-        requires { call < 4097 }
+        requires { call < NUMBERS }
         ensures value { (t : ℕ) → result ≡ reply_from (known_in self.now t) (What.CloseCall call) }
         ensures calls { InTable result }
     {
@@ -83,8 +84,8 @@ impl Table {
     }
 
     fn bridge_reply(&self, a: u32, b: u32, stamp: u32) -> Result<Act, Refusal>
-        requires a { a < 4097 }
-        requires b { b < 4097 }
+        requires a { a < NUMBERS }
+        requires b { b < NUMBERS }
         ensures value { result ≡ reply_from (known_in self.now stamp) (What.Bridge a b) }
         ensures calls { InTable result }
     {
@@ -101,7 +102,7 @@ impl Table {
     }
 
     fn unbridge_reply(&self, call: u32) -> Result<Act, Refusal>
-        requires { call < 4097 }
+        requires { call < NUMBERS }
         ensures value { (t : ℕ) → result ≡ reply_from (known_in self.now t) (What.Unbridge call) }
         ensures calls { InTable result }
     {
@@ -116,7 +117,7 @@ impl Table {
     }
 
     fn must_be_open(&self, call: u32) -> Result<(), Refusal>
-        requires { call < 4097 }
+        requires { call < NUMBERS }
         ensures { result ≡ passes (refuse_if (not (is_open_in self.now call)) (Refusal.NotOpen call)) }
     {
         if self.is_open(call) {
@@ -127,7 +128,7 @@ impl Table {
     }
 
     fn must_be_alone(&self, call: u32) -> Result<(), Refusal>
-        requires { call < 4097 }
+        requires { call < NUMBERS }
         ensures { result ≡ passes (option_map (λ x. Refusal.Bridged call (other call x)) (bridge_in self.now call)) }
     {
         match self.bridge_of(call) {
@@ -140,7 +141,7 @@ impl Table {
     }
 
     fn must_not_drain(&self, call: u32, stamp: u32) -> Result<(), Refusal>
-        requires { call < 4097 }
+        requires { call < NUMBERS }
         ensures { result ≡ passes (draining (known_in self.now stamp) call) }
     {
         match self.bridge_ended(call, stamp) {

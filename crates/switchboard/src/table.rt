@@ -6,11 +6,9 @@ ghost use Rattle.switchboard.specs.Rows.{never, call_in, bridge_at_place, ended_
 ghost use Rattle.switchboard.specs.Ends.{least, span_to};
 
 use crate::Span;
+use call_number::NUMBERS;
 use std::alloc::{AllocError, Global};
 use std::marker::Model;
-
-/// Call numbers are below this.
-const NUMBERS: usize = 4097;
 
 /// What is known of a call number.
 #[derive(Clone, Copy)]
@@ -64,7 +62,7 @@ impl Model for Table {
 impl Table {
     /// A table with no call opened, and with room for `most` bridges.
     pub fn new(alloc: Global, most: usize) -> Result<Table, AllocError>
-        ensures { IfOk result (λ t. t ≡ record { calls = replicate 4097 never; bridges = []; spans = []; most = most }) }
+        ensures { IfOk result (λ t. t ≡ record { calls = replicate NUMBERS never; bridges = []; spans = []; most = most }) }
     {
         Ok(Table {
             calls: vec![in alloc; NEVER_OPENED; NUMBERS]?,
@@ -84,7 +82,7 @@ impl Table {
     // ---- what is read
 
     pub fn is_open(&self, call: u32) -> bool
-        requires { call < 4097 }
+        requires { call < NUMBERS }
         ensures { result ≡ is_open_in self.now call }
     {
         let call = self.calls[call as usize];
@@ -92,7 +90,7 @@ impl Table {
     }
 
     pub fn has_ended(&self, call: u32) -> bool
-        requires { call < 4097 }
+        requires { call < NUMBERS }
         ensures { result ≡ has_ended_in self.now call }
     {
         self.calls[call as usize].opened.is_some() && !self.is_open(call)
@@ -100,9 +98,9 @@ impl Table {
 
     /// The bridge of a call that lasts.
     pub fn bridge_of(&self, call: u32) -> Option<Bridge>
-        requires { call < 4097 }
+        requires { call < NUMBERS }
         ensures value { result ≡ bridge_in self.now call }
-        ensures calls { IfSome result (λ x. (x.a < 4097) × (x.b < 4097)) }
+        ensures calls { IfSome result (λ x. (x.a < NUMBERS) × (x.b < NUMBERS)) }
     {
         let bridge = self.bridge_at(self.place_of(call)?);
         if bridge.ended.is_none() && self.is_open(bridge.a) && self.is_open(bridge.b) {
@@ -114,7 +112,7 @@ impl Table {
 
     /// The bridge of a call that an order with this stamp ended.
     pub fn bridge_ended(&self, call: u32, stamp: u32) -> Option<Bridge>
-        requires { call < 4097 }
+        requires { call < NUMBERS }
         ensures { result ≡ bridge_ended_in self.now stamp call }
     {
         let bridge = self.bridge_at(self.place_of(call)?);
@@ -127,8 +125,8 @@ impl Table {
 
     // Where a bridge has ended.
     fn end_of(&self, bridge: &Bridge) -> Option<u32>
-        requires a { bridge.now.a < 4097 }
-        requires b { bridge.now.b < 4097 }
+        requires a { bridge.now.a < NUMBERS }
+        requires b { bridge.now.b < NUMBERS }
         ensures { result ≡ end_in self.now bridge.now }
     {
         let calls = least(
@@ -154,7 +152,7 @@ impl Table {
 
     // The place of a call's latest bridge.
     fn place_of(&self, call: u32) -> Option<usize>
-        requires { call < 4097 }
+        requires { call < NUMBERS }
         ensures value { result ≡ (call_in self.now call).bridge }
         ensures place { IfSome result (λ k. k < length self.now.bridges) }
     {
@@ -164,8 +162,8 @@ impl Table {
     fn bridge_at(&self, place: usize) -> Bridge
         requires { place < length self.now.bridges }
         ensures value { result ≡ bridge_at_place self.now place }
-        ensures a { result.a < 4097 }
-        ensures b { result.b < 4097 }
+        ensures a { result.a < NUMBERS }
+        ensures b { result.b < NUMBERS }
     {
         self.bridges[place]
     }
@@ -174,7 +172,7 @@ impl Table {
 
     /// An order opens a call.
     pub fn open(&mut self, call: u32, stamp: u32)
-        requires { call < 4097 }
+        requires { call < NUMBERS }
         ensures { self.new ≡ opened_in self.old stamp call }
     {
         self.calls[call as usize].opened = Some(stamp);
@@ -182,7 +180,7 @@ impl Table {
 
     /// An order closes a call.
     pub fn close(&mut self, call: u32, stamp: u32)
-        requires { call < 4097 }
+        requires { call < NUMBERS }
         ensures { self.new ≡ closed_in self.old stamp call }
     {
         self.calls[call as usize].closed = Some(stamp);
@@ -190,8 +188,8 @@ impl Table {
 
     /// An order bridges two calls.
     pub fn join(&mut self, a: u32, b: u32, stamp: u32)
-        requires a { a < 4097 }
-        requires b { b < 4097 }
+        requires a { a < NUMBERS }
+        requires b { b < NUMBERS }
         requires room { length self.old.bridges < self.old.most }
         ensures { self.new ≡ bridged_in self.old stamp a b }
     {
@@ -208,7 +206,7 @@ impl Table {
 
     /// An order ends the latest bridge of a call, which lasted until now.
     pub fn part(&mut self, call: u32, stamp: u32)
-        requires call { call < 4097 }
+        requires call { call < NUMBERS }
         requires spans { self.old.spans ≡ filter_map (span_in self.old) self.old.bridges }
         requires room { length self.old.spans < self.old.most }
         ensures { self.new ≡ parted_in self.old stamp call }
@@ -225,7 +223,7 @@ impl Table {
     /// The lines of a call end it at a period, and with it its latest bridge: the end of that one is lowered where it
     /// was later.
     pub fn end_call(&mut self, call: u32, at: u32)
-        requires call { call < 4097 }
+        requires call { call < NUMBERS }
         requires spans { self.old.spans ≡ filter_map (span_in self.old) self.old.bridges }
         requires few { length self.old.bridges ≤ self.old.most }
         ensures { self.new ≡ call_ended_in self.old at call }
@@ -235,7 +233,7 @@ impl Table {
     }
 
     fn end_span(&mut self, call: u32, at: u32)
-        requires call { call < 4097 }
+        requires call { call < NUMBERS }
         requires spans { self.old.spans ≡ filter_map (span_in self.old) self.old.bridges }
         requires few { length self.old.bridges ≤ self.old.most }
         ensures { self.new ≡ spans_ended_in self.old at call }
@@ -255,7 +253,7 @@ impl Table {
     }
 
     fn mark_gone(&mut self, call: u32, at: u32)
-        requires { call < 4097 }
+        requires { call < NUMBERS }
         ensures { self.new ≡ gone_in_rows self.old at call }
     {
         self.calls[call as usize].gone = Some(at);

@@ -1,5 +1,5 @@
 // The name of a line, and the one answer of a call that the outside refused.
-ghost use Rattle.std.specs.Prelude.{◌≤◌};
+ghost use Rattle.call_number.specs.CallNumber.{IsCallNumber};
 
 /// Which of a call's four lines.
 #[derive(Clone, Copy, Debug, PartialEq, Eq)]
@@ -15,7 +15,7 @@ pub enum Side {
 }
 
 impl Side {
-    ghost use Rattle.std.specs.Prelude.{◌≡◌, length};
+    ghost use Rattle.std.specs.Prelude.{◌≡◌, ◌≤◌, length};
     ghost use Rattle.trau_io.specs.Texts.{side_word};
 
     /// The word for the side, in texts and in the names of files.
@@ -37,8 +37,7 @@ impl Side {
 pub struct Line {
     pub call: u32,
     pub side: Side,
-    pub ghost low: { 1 ≤ call },
-    pub ghost high: { call ≤ 4096 },
+    pub ghost number: { IsCallNumber call },
 }
 
 /// The outside failed at this call, and its count of faults says so.

@@ -4,10 +4,10 @@ ghost use Rattle.trau_io.specs.Places.{number_of_side, place_of};
 ghost use Rattle.trau_io.specs.declared.places.TheConstants.{PLACES};
 
 use crate::{Line, Side};
+use call_number::NUMBERS;
 
-/// How many places a list of all lines has: four for each call number up to 4,096, and four that no
-/// line has for 0.
-pub const PLACES: usize = 4 * 4097;
+/// How many places a list of all lines has: four for each call number, and four that no line has for 0.
+pub const PLACES: usize = 4 * NUMBERS;
 
 fn number_of(side: Side) -> usize
     ensures value { result ≡ number_of_side side }

@@ -4,10 +4,11 @@ use Rattle.trau_orders.specs.declared.order.What.{What}
 use Rattle.trau_orders.specs.declared.order.What.TheVariants.{OpenCall, CloseCall, Bridge, Unbridge, Level, Dtx}
 use Rattle.trau_orders.specs.declared.order.Order.{Order}
 use Rattle.trau_orders.specs.Grammar.{IsNamed, IsInRange}
-use Rattle.trau_orders.specs.Lists.{IsCall, NamesCalls, HasLevel, AreOrders}
+use Rattle.call_number.specs.CallNumber.{IsCallNumber}
+use Rattle.trau_orders.specs.Lists.{NamesCalls, HasLevel, AreOrders}
 use Rattle.trau_orders.specs.Text.{AreLines}
 
-is_call : (c : ℕ) → IsNamed c → IsCall c
+is_call : (c : ℕ) → IsNamed c → IsCallNumber c
 is_call c is = (is.0, omega (arith, is.1))
 
 names_calls : (what : What) → IsInRange what → NamesCalls what

@@ -1,22 +1,19 @@
 -- Lists of orders, as a text of orders gives them (this project's profile).
 use Rattle.std.specs.Prelude.{ℕ, ◌<◌, ◌≤◌, List, length, pos, ◌≤ℤ◌}
 use Rattle.std.proofs.Common.{get_or}
+use Rattle.call_number.specs.CallNumber.{IsCallNumber}
 use Rattle.trau_orders.specs.declared.order.Order.{Order}
 use Rattle.trau_orders.specs.declared.order.What.{What}
 use Rattle.trau_orders.specs.declared.order.What.TheVariants.{OpenCall, CloseCall, Bridge, Unbridge, Level, Dtx}
 
--- a call's number, as lines and tables of calls take it
-abbrev pub IsCall : ℕ → Type 0
-IsCall c = (1 ≤ c) × (c ≤ 4096)
-
 -- what is named are calls
 abbrev pub NamesCalls : What → Type 0
-NamesCalls (OpenCall c) = IsCall c
-NamesCalls (CloseCall c) = IsCall c
-NamesCalls (Bridge a b) = IsCall a × IsCall b
-NamesCalls (Unbridge c) = IsCall c
-NamesCalls (Level c v) = IsCall c
-NamesCalls (Dtx c m) = IsCall c
+NamesCalls (OpenCall c) = IsCallNumber c
+NamesCalls (CloseCall c) = IsCallNumber c
+NamesCalls (Bridge a b) = IsCallNumber a × IsCallNumber b
+NamesCalls (Unbridge c) = IsCallNumber c
+NamesCalls (Level c v) = IsCallNumber c
+NamesCalls (Dtx c m) = IsCallNumber c
 
 -- a level, if one is ordered, is no number below 0
 abbrev pub HasLevel : What → Type 0

@@ -78,7 +78,7 @@ loop-seat-preserved c =
       ];
       sound = subst (λ (m : ℕ). AreSound c.args.seats.items m) (sym (length-append c.loop-seat.yielded (c.in-Some.seat ∷ [])))
           (sound_more c.args.seats.items (length c.loop-seat.yielded) c.in-Some.seat c.into_parts-place.result.0 c.call.result c.loop-seat.invariant.sound item c.into_parts-place.ensures.fits c.into_parts-place.ensures.place
-          c.call.ensures.value c.call.ensures.low c.call.ensures.high (omega (arith, c.whole.ensures.bound, c.whole.ensures.value, ap (λ (p : PlaceMemory). p.periods) c.into_parts-place.ensures.place, ap (λ (p : PlaceMemory). whole_in p) c.into_parts-place.ensures.place)));
+          c.call.ensures.value c.call.ensures.number (omega (arith, c.whole.ensures.bound, c.whole.ensures.value, ap (λ (p : PlaceMemory). p.periods) c.into_parts-place.ensures.place, ap (λ (p : PlaceMemory). whole_in p) c.into_parts-place.ensures.place)));
       handed = subst (λ (m : ℕ). HandedIn (jobs_in c.args.jobs.now) (jobs_in c.swap_in.new.jobs) c.args.entries.now c.args.seats.items m) (sym (length-append c.loop-seat.yielded (c.in-Some.seat ∷ [])))
           (turn_handed (jobs_in c.args.jobs.now) (jobs_in c.loop-seat.jobs) (jobs_in c.swap_in.new.jobs) c.args.entries.now c.args.seats.items (length c.loop-seat.yielded) c.len.result c.job_place.result c.in-Some.seat c.new-io.result
           c.requires.rising c.requires.jobs c.loop-seat.invariant.handed turn.0 (omega (arith, c.whole.ensures.bound, c.whole.ensures.value, ap (λ (p : PlaceMemory). p.periods) c.into_parts-place.ensures.place, ap (λ (p : PlaceMemory). whole_in p) c.into_parts-place.ensures.place)) item index c.job_place.ensures made c.swap_in.ensures.jobs);

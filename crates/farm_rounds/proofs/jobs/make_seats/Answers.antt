@@ -26,11 +26,8 @@ returns-in_err-seats c = let no = c.from_residual.ensures.0 in record { seats = 
 pub push_reserved-requires : goal.push_reserved-requires
 push_reserved-requires c = let i = c.loop-k.invariant in omega (arith, i.long, i.room)
 
-pub new-requires-clause-low : goal.new-requires-clause-low
-new-requires-clause-low c = (c.requires.numbers c.loop-k.k c.loop-k-test.true).0
-
-pub new-requires-clause-high : goal.new-requires-clause-high
-new-requires-clause-high c = (c.requires.numbers c.loop-k.k c.loop-k-test.true).1
+pub new-requires-clause-number : goal.new-requires-clause-number
+new-requires-clause-number c = c.requires.numbers c.loop-k.k c.loop-k-test.true
 
 pub loop-k-preserved : goal.loop-k-preserved
 loop-k-preserved c =

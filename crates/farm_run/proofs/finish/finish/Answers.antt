@@ -1,6 +1,6 @@
 use Rattle.std.proofs.Common.{◌≡◌, sym, ◌∙◌, ℕ, true}
 use Rattle.switchboard.specs.Open.{open_now}
-use Rattle.farm_rounds.specs.Calls.{IsNumber}
+use Rattle.call_number.specs.CallNumber.{IsCallNumber}
 use Rattle.farm_rounds.specs.Numbers.{is_among}
 use Rattle.farm_run.proofs.LastEnds.{all_among, reported_ok}
 use Rattle.farm_run.proofs.finish.finish.Goals as goal
@@ -9,7 +9,7 @@ pub end_all-requires-clause-open : goal.end_all-requires-clause-open
 end_all-requires-clause-open c = all_among (λ d. open_now c.args.board.now d ≡ true) c.live_calls.result.now (λ d q. sym (c.requires.matches.is_open d) ∙ sym (c.live_calls.ensures.calls d) ∙ q)
 
 pub end_all-requires-clause-numbers : goal.end_all-requires-clause-numbers
-end_all-requires-clause-numbers c = all_among IsNumber c.live_calls.result.now (λ d q. c.requires.matches.number d (sym (c.requires.matches.is_open d) ∙ sym (c.live_calls.ensures.calls d) ∙ q))
+end_all-requires-clause-numbers c = all_among IsCallNumber c.live_calls.result.now (λ d q. c.requires.matches.number d (sym (c.requires.matches.is_open d) ∙ sym (c.live_calls.ensures.calls d) ∙ q))
 
 pub returns-clause-reports : goal.returns-clause-reports
 returns-clause-reports c =
