@@ -124,6 +124,9 @@ pub begins : (c : ℕ) (ts : List CallPeriod) (now : Settings) (d d1 : DownMemor
 begins c ts now d d1 n h ek ez en tx br ef qu lv md ul sn mn = record {
   long = h.long;
   history = h.history;
+  ahead = h.ahead;
+  come = h.come;
+  line = h.line;
   places = subst (λ z. Holds (pcm_of ts) (down_made c (frames_of ts)) (320 * length (down_periods ts)) (next_start (frames_of ts)) z) (sym ef) h.places;
   waits = subst (Waits ts (frames_of ts)) (sym qu) h.waits;
   kept = ek ∙ h.kept;
@@ -145,6 +148,9 @@ pub ends : (c : ℕ) (ts : List CallPeriod) (now : Settings) (d d1 : DownMemory)
 ends c ts now d d1 b h ek ez br ef qu co lv md ul sn mn = record {
   long = h.long;
   history = h.history;
+  ahead = h.ahead;
+  come = h.come;
+  line = h.line;
   places = subst (λ z. Holds (pcm_of ts) (down_made c (frames_of ts)) (320 * length (down_periods ts)) (next_start (frames_of ts)) z) (sym ef) h.places;
   waits = subst (Waits ts (frames_of ts)) (sym qu) h.waits;
   kept = ek ∙ h.kept;

@@ -3,6 +3,7 @@ pub mod Mapping
 pub mod Shifts
 pub mod Queue
 pub mod Enter
+pub mod Numbered
 pub mod Period
 pub mod Stretch
 pub mod Step

@@ -15,11 +15,12 @@ use Rattle.down_framer.specs.Made.{due}
 use Rattle.call_leg.specs.Periods.{CallPeriod}
 use Rattle.call_leg.specs.Settings.{Settings, new_settings, with_level, with_mode, with_bridge, without_bridge}
 use Rattle.call_leg.specs.Down.{down_periods, frames_of}
-use Rattle.call_leg.specs.Memory.{LegMemory}
+use Rattle.call_leg.specs.Memory.{LegMemory, periods_of_leg}
 use Rattle.call_leg.specs.Places.{Between}
 use Rattle.call_leg.specs.Stands.{Stands}
 use Rattle.call_leg.specs.Step.{home_down, home_leg, with_down, set_level, set_mode, bridge_begun, begin_bridge, bridge_over}
 use Rattle.call_leg.proofs.Heard.{length-ups_of}
+use Rattle.call_leg.proofs.Numbered.{next-ahead, all-come, length-made}
 use Rattle.call_leg.proofs.Bridges.{plain-new, begins, ends}
 use Rattle.call_leg.proofs.DownLaws.{home_tx-stands, thawed-kept, thawed-frozen}
 
@@ -35,6 +36,9 @@ level-stands call ts now level m h =
       down = record {
         long = d.long;
         history = d.history;
+        ahead = d.ahead;
+        come = d.come;
+        line = d.line;
         places = d.places;
         waits = d.waits;
         kept = d.kept;
@@ -63,6 +67,9 @@ mode-stands call ts now mode m h =
       down = record {
         long = d.long;
         history = d.history;
+        ahead = d.ahead;
+        come = d.come;
+        line = d.line;
         places = d.places;
         waits = d.waits;
         kept = d.kept;
@@ -101,7 +108,7 @@ end-stands call ts now m b h = record {
 }
 
 -- the search counts the periods
-pub periods-counted : (call : ℕ) (ts : List CallPeriod) (now : Settings) (m : LegMemory) → Stands call ts now m → m.search.periods ≡ length ts
+pub periods-counted : (call : ℕ) (ts : List CallPeriod) (now : Settings) (m : LegMemory) → Stands call ts now m → periods_of_leg m ≡ length ts
 periods-counted call ts now m h = ap (λ (s : search.SyncMemory). s.periods) h.search.after ∙ length-ups_of ts
 
 -- before the first period
@@ -109,6 +116,9 @@ pub home-between : (call : ℕ) → Between call [] new_settings home_down
 home-between call = record {
   long = refl;
   history = tt;
+  ahead = next-ahead [];
+  come = all-come [];
+  line = length-made call [];
   places = record { held = refl; to_skip = refl; stored = refl };
   waits = record { each = λ n. refl };
   kept = refl;

@@ -7,11 +7,9 @@ use Rattle.time_align.specs.Shift.{latest_ask}
 use Rattle.down_framer.specs.Made.{Period, MadeFrame, next_start, due, fields_since, grown, next_frame, made_frames}
 use Rattle.down_framer.specs.Bridges.{IsHistory}
 use Rattle.down_framer.specs.Places.{Holds}
-use Rattle.trau_frame.proofs.Again.{length-down_bits}
 use Rattle.down_framer.proofs.Timing.{AreMade-made_frames}
-use Rattle.down_framer.proofs.Store.{length-line_of, AreInTurn-made_frames}
 use Rattle.call_leg.specs.Periods.{CallPeriod, pcm_of, bridges_begun}
-use Rattle.call_leg.specs.Down.{down_period, down_periods, frames_of, coded_stretch, frame_now, bits_now, down_made}
+use Rattle.call_leg.specs.Down.{down_period, down_periods, frames_of, coded_stretch, down_made}
 use Rattle.call_leg.specs.Waiting.{Waits}
 use Rattle.call_leg.specs.Settings.{Settings, epoch_now, later, period_with}
 use Rattle.call_leg.specs.Memory.{DownMemory, CoderStands}
@@ -19,6 +17,7 @@ use Rattle.call_leg.specs.Places.{Halfway, Between, carried, in_u32}
 use Rattle.call_leg.proofs.Inside.{Inside}
 use Rattle.call_leg.proofs.Queue.{waits-some}
 use Rattle.call_leg.proofs.Enter.{waits-enter}
+use Rattle.call_leg.proofs.Numbered.{next-ahead, all-come, length-made}
 
 -- ---- fields since the last frame that carried nothing
 
@@ -99,7 +98,7 @@ enter c ts now up handed pcm d d1 lp b h pl al qu co lv md ul qt br sn mn =
     record {
       long = length-append (pcm_of ts) pcm ∙ omega arith;
       low = a.low;
-      line = length-line_of (bits_now c) (λ fs. length-down_bits (frame_now c fs)) (frames_of ts) (AreInTurn-made_frames (down_periods ts));
+      line = length-made c ts;
       places = pl (pcm_of ts) (down_made c (frames_of ts)) (320 * length (down_periods ts)) (next_start (frames_of ts)) h.places;
       waits = subst (Waits (t ∷ ts) (frames_of ts)) (sym (qu ∙ h.waits.2)) v;
       kept = ap (λ z. z.kept) al ∙ h.kept ∙ sym (ap latest_ask (since-more (down_period t ts) (down_periods ts) (frames_of ts) (made-before (down_periods ts))));
@@ -129,6 +128,9 @@ leave c ts now up handed pcm d d2 b h i d3 pl al qu co lv md ul br sn mn =
     record {
       long = long ∙ omega arith;
       history = history-more c ts now up handed pcm d b h;
+      ahead = next-ahead (t ∷ ts);
+      come = all-come (t ∷ ts);
+      line = length-made c (t ∷ ts);
       places = subst (λ n. Holds (pcm_of (t ∷ ts)) (down_made c (frames_of (t ∷ ts))) n (next_start (frames_of (t ∷ ts))) d3.framer) e
           (pl (pcm_of (t ∷ ts)) (down_made c (frames_of (t ∷ ts))) (320 * length (down_periods ts)) (next_start (frames_of (t ∷ ts))) i.places);
       waits = subst (Waits (t ∷ ts) (frames_of (t ∷ ts))) (sym qu) i.waits;

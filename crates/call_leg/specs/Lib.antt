@@ -4,6 +4,7 @@ pub mod Settings
 pub mod Counted
 pub mod Out
 pub mod Down
+pub mod Numbered
 pub mod Waiting
 pub mod Memory
 pub mod Places

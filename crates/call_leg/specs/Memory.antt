@@ -50,6 +50,10 @@ pub record LegMemory : Type 0 where
   pub counts : Counts
   pub down : DownMemory
 
+-- how many periods the leg has had: its search counts them
+abbrev pub periods_of_leg : LegMemory → ℕ
+periods_of_leg m = m.search.periods
+
 -- of the code's structs
 abbrev pub coder_memory : Coder → CoderMemory
 coder_memory s = record { encoder = s.encoder; tx = s.tx }

@@ -1,5 +1,5 @@
 -- The law of places: what the downlink side of a leg holds, by the periods so far. Lists have the newest first.
-use Rattle.std.specs.Prelude.{◌≡◌, ℕ, ◌*◌, true, not, ◌&&◌, ◌||◌, ◌==◌, if◌then◌else◌, Bool, Option, None, is_some, List, [], ◌∷◌, ◌++◌, length, option_to_list, suc, min}
+use Rattle.std.specs.Prelude.{◌≡◌, ℕ, ◌+◌, ◌*◌, ◌<◌, ◌≤◌, true, not, ◌&&◌, ◌||◌, ◌==◌, if◌then◌else◌, Bool, Option, None, is_some, List, [], ◌∷◌, ◌++◌, length, All, option_to_list, suc, min}
 use Rattle.time_align.specs.Shift.{latest_ask}
 use Rattle.down_framer.specs.Made.{next_start, due, fields_since}
 use Rattle.down_framer.specs.Bridges.{IsHistory, in_bridge}
@@ -36,6 +36,12 @@ in_u64 n = min n 18446744073709551615
 pub record Between (call : ℕ) (ts : List CallPeriod) (now : Settings) (d : DownMemory) : Type 0 where
   pub long : length (pcm_of ts) ≡ 160 * length (down_periods ts)
   pub history : IsHistory (down_periods ts)
+  -- as many frames are made as the least number of a frame whose 160 octets haven't all come: the next one's haven't ..
+  pub ahead : 160 * length ts < next_start (frames_of ts) + 160
+  -- .. and those of each made frame have
+  pub come : All (λ f. f.start + 160 ≤ 160 * length ts) (frames_of ts)
+  -- the downlink made so far: 320 bits, and two for each octet before the next frame
+  pub line : length (down_made call (frames_of ts)) ≡ 320 + 2 * next_start (frames_of ts)
   -- held are the octets of the Pcm line from the next frame's start on, or so many are to be skipped as it lies past
   -- the line; in store is what is made of the downlink and not yet out
   pub places : Holds (pcm_of ts) (down_made call (frames_of ts)) (320 * length (down_periods ts)) (next_start (frames_of ts)) d.framer

@@ -12,6 +12,7 @@ ghost use Rattle.call_leg.specs.Settings.{Settings, new_settings, later, with_le
 ghost use Rattle.call_leg.specs.Counted.{call_counts};
 ghost use Rattle.call_leg.specs.Out.{out_of};
 ghost use Rattle.call_leg.specs.Down.{down_periods, frames_of, down_now};
+ghost use Rattle.call_leg.specs.Memory.{periods_of_leg};
 ghost use Rattle.call_leg.specs.Places.{sent_now, is_draining};
 ghost use Rattle.call_leg.specs.Stands.{Stands, OfItsCall, Midway};
 ghost use Rattle.call_leg.specs.Step.{home_leg, up_worked, with_down, after_handing, down_worked, begin_bridge, bridge_over, set_level, set_mode, period_worked};
@@ -34,7 +35,7 @@ impl Leg {
         requires { IsCallNumber call }
         ensures value { IfOk result (λ leg. leg ≡ home_leg call) }
         ensures history { IfOk result (λ leg. Stands call [] new_settings leg) }
-        ensures periods { IfOk result (λ leg. leg.search.periods ≡ 0) }
+        ensures periods { IfOk result (λ leg. periods_of_leg leg ≡ 0) }
     {
         let down = DownSide::new(alloc)?;
         let counts = Counts {
@@ -60,9 +61,9 @@ impl Leg {
     /// The uplink half of a period: takes its 40 octets of the Up line, gives its 160 of the Out line, and answers its
     /// effective frame. A call has at most 4,294,967,295 periods.
     pub fn up_half(&mut self, up: &[u8; 40], out: &mut [u8; 160]) -> Effective
-        requires { self.old.search.periods < 4294967295 }
+        requires { periods_of_leg self.old < 4294967295 }
         ensures step { up_worked self.old up.now ≡ (effective_fields result, out.new, self.new) }
-        ensures periods { self.new.search.periods ≡ self.old.search.periods + 1 }
+        ensures periods { periods_of_leg self.new ≡ periods_of_leg self.old + 1 }
 
         // After the periods of any call, the next one's uplink half is worked ..
         ensures history { OfItsCall self.old (λ call ts now. Midway call ts now up.now None self.new) }
@@ -84,7 +85,7 @@ impl Leg {
 
     /// Takes the partner's effective frame of the period, between the halves of a period within a bridge.
     pub fn hand(&mut self, e: Effective)
-        ensures periods { self.new.search.periods ≡ self.old.search.periods }
+        ensures periods { periods_of_leg self.new ≡ periods_of_leg self.old }
         ensures step { self.new ≡ with_down self.old (after_handing self.old.down (effective_fields e)) }
         ensures history { (call : ℕ) (ts : List CallPeriod) (now : Settings) (up : List ℕ) → Midway call ts now up None self.old →
             Midway call ts now up (Some (bits260 (handed_fields (effective_fields e)))) self.new }
@@ -96,7 +97,7 @@ impl Leg {
     pub fn down_half(&mut self, pcm: &[u8; 160], down: &mut [u8; 40])
         ensures step { self.new ≡ with_down self.old self.new.down }
         ensures bits { down_worked self.old.down pcm.now ≡ (bits_of down.new, self.new.down) }
-        ensures periods { self.new.search.periods ≡ self.old.search.periods }
+        ensures periods { periods_of_leg self.new ≡ periods_of_leg self.old }
 
         // After the uplink half of a call's next period, and within a bridge the handing over, the period is worked ..
         ensures history { (call : ℕ) (ts : List CallPeriod) (now : Settings) (up : List ℕ) (handed : Option (List ℕ)) →
@@ -119,9 +120,9 @@ impl Leg {
         out: &mut [u8; 160],
         down: &mut [u8; 40],
     )
-        requires { self.old.search.periods < 4294967295 }
+        requires { periods_of_leg self.old < 4294967295 }
         ensures step { period_worked self.old up.now pcm.now ≡ (out.new, bits_of down.new, self.new) }
-        ensures periods { self.new.search.periods ≡ self.old.search.periods + 1 }
+        ensures periods { periods_of_leg self.new ≡ periods_of_leg self.old + 1 }
         ensures history { OfItsCall self.old (λ call ts now.
             now.bridged ≡ false → Stands call (period_with now up.now pcm.now None ∷ ts) (later now) self.new) }
         ensures out { OfItsCall self.old (λ call ts now.
@@ -135,7 +136,7 @@ impl Leg {
 
     /// A bridge is on from the next period on. No handed frame may wait.
     pub fn bridge_on(&mut self)
-        ensures periods { self.new.search.periods ≡ self.old.search.periods }
+        ensures periods { periods_of_leg self.new ≡ periods_of_leg self.old }
         ensures step { self.new ≡ begin_bridge self.old }
         ensures history { OfItsCall self.old (λ call ts now.
             due (down_periods ts) (frames_of ts) ≡ None → Stands call ts (with_bridge now) self.new) }
@@ -146,7 +147,7 @@ impl Leg {
 
     /// The bridge is off from the next period on.
     pub fn bridge_off(&mut self)
-        ensures periods { self.new.search.periods ≡ self.old.search.periods }
+        ensures periods { periods_of_leg self.new ≡ periods_of_leg self.old }
         ensures step { self.new ≡ with_down self.old (bridge_over self.old.down) }
         ensures history { OfItsCall self.old (λ call ts now. now.bridged ≡ true → Stands call ts (without_bridge now) self.new) }
     {
@@ -166,7 +167,7 @@ impl Leg {
     pub fn set_level(&mut self, level: i16)
         requires { pos 0 ≤ℤ level }
         ensures step { self.new ≡ with_down self.old (set_level level self.old.down) }
-        ensures periods { self.new.search.periods ≡ self.old.search.periods }
+        ensures periods { periods_of_leg self.new ≡ periods_of_leg self.old }
         ensures history { OfItsCall self.old (λ call ts now. Stands call ts (with_level level now) self.new) }
     {
         self.down.level = level;
@@ -175,7 +176,7 @@ impl Leg {
     /// Sets when DTX is on, from the next period on.
     pub fn set_dtx(&mut self, mode: DtxMode)
         ensures step { self.new ≡ with_down self.old (set_mode mode self.old.down) }
-        ensures periods { self.new.search.periods ≡ self.old.search.periods }
+        ensures periods { periods_of_leg self.new ≡ periods_of_leg self.old }
         ensures history { OfItsCall self.old (λ call ts now. Stands call ts (with_mode mode now) self.new) }
     {
         self.down.mode = mode;

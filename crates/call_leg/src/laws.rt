@@ -1,19 +1,22 @@
 //! Laws of a call, each the contract of a function that does nothing: of its lines, and of what each call makes of any
 //! memory that stands for the periods so far. Periods have the newest first.
 
-ghost use Rattle.std.specs.Prelude.{◌≡◌, ◌<◌, ℕ, ◌*◌, ℤ, true, false, Option, Some, None, is_some, IfSome, All, List, [], ◌∷◌, length, take};
+ghost use Rattle.std.specs.Prelude.{◌≡◌, ◌≤◌, ◌<◌, ℕ, ◌+◌, ◌*◌, ℤ, true, false, Option, Some, None, is_some, IfSome, All, List, [], ◌∷◌, length, map, take};
 ghost use Rattle.trau_orders.specs.declared.order.DtxMode.{DtxMode};
 ghost use Rattle.trau_bits.specs.Bits.{AreBits};
 ghost use Rattle.trau_params.specs.Fields.{Fields};
 ghost use Rattle.trau_params.specs.Bits260.{bits260};
 ghost use Rattle.rx_handler.specs.Origin.{EffectiveFields};
-ghost use Rattle.down_framer.specs.Made.{due};
+ghost use Rattle.down_framer.specs.Made.{due, next_start};
+ghost use Rattle.down_framer.specs.Bridges.{IsHistory};
+ghost use Rattle.down_framer.specs.ByNumber.{numbered_of, AreInTime};
 ghost use Rattle.call_leg.specs.Uplink.{handed_fields};
 ghost use Rattle.call_leg.specs.Periods.{CallPeriod, effective_now};
 ghost use Rattle.call_leg.specs.Settings.{Settings, new_settings, later, with_level, with_mode, with_bridge, without_bridge, period_with};
 ghost use Rattle.call_leg.specs.Out.{out_of};
 ghost use Rattle.call_leg.specs.Down.{down_periods, frames_of, down_made, down_now, down_line};
-ghost use Rattle.call_leg.specs.Memory.{LegMemory};
+ghost use Rattle.call_leg.specs.Numbered.{first_frames, start_of};
+ghost use Rattle.call_leg.specs.Memory.{LegMemory, periods_of_leg};
 ghost use Rattle.call_leg.specs.Stands.{Stands, OfItsCall, Midway};
 ghost use Rattle.call_leg.specs.Step.{home_leg, up_worked, with_down, after_handing, down_worked, period_worked, set_level, set_mode, begin_bridge, bridge_over};
 
@@ -89,7 +92,35 @@ pub fn orders_stand()
         now.bridged ≡ true → Stands call ts (without_bridge now) (with_down m (bridge_over m.down))) }
 {}
 
-/// A leg's search counts the periods of its call.
+/// A leg counts the periods of its call.
 pub fn the_periods_are_counted()
-    ensures { (m : LegMemory) → OfItsCall m (λ call ts now. m.search.periods ≡ length ts) }
+    ensures { (m : LegMemory) → OfItsCall m (λ call ts now. periods_of_leg m ≡ length ts) }
+{}
+
+/// Between periods at most one handed frame waits.
+pub fn one_frame_waits()
+    ensures { (m : LegMemory) → OfItsCall m (λ call ts now. length m.down.waiting ≤ 1) }
+{}
+
+/// After any periods each frame is made whose 160 octets of the Pcm line have come, in the period that brought the last
+/// of them, and no other.
+pub fn the_frames_are_made_in_time()
+    ensures { (ts : List CallPeriod) → AreInTime (length ts) (frames_of ts) }
+{}
+
+/// The frames that are made in a call's periods are the first ones by number, over the call's bridges and alignment
+/// fields: as many as the least number of a frame whose 160 octets haven't all come. Each bridge must start where no
+/// handed frame waits, and go on without a gap, as in the periods of every leg (`history`).
+pub fn the_frames_are_made_by_number()
+    ensures frames { (ts : List CallPeriod) → IsHistory (down_periods ts) →
+        map numbered_of (frames_of ts) ≡ first_frames ts (length (frames_of ts)) }
+    ensures next { (ts : List CallPeriod) → IsHistory (down_periods ts) → start_of ts (length (frames_of ts)) ≡ next_start (frames_of ts) }
+    ensures ahead { (ts : List CallPeriod) → IsHistory (down_periods ts) → 160 * length ts < start_of ts (length (frames_of ts)) + 160 }
+    ensures least { (ts : List CallPeriod) (j : ℕ) → IsHistory (down_periods ts) → j < length (frames_of ts) → start_of ts j + 160 ≤ 160 * length ts }
+    ensures history { (m : LegMemory) → OfItsCall m (λ call ts now. IsHistory (down_periods ts)) }
+{}
+
+/// The downlink that is made in a call's periods: 320 bits, and two for each octet of the Pcm line before the next frame.
+pub fn the_downlink_has_its_length()
+    ensures { (call : ℕ) (ts : List CallPeriod) → length (down_made call (frames_of ts)) ≡ 320 + 2 * next_start (frames_of ts) }
 {}

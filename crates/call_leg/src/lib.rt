@@ -11,9 +11,9 @@
 //!
 //! Definitions: `specs/Periods.antt` (the periods of a call), `specs/Uplink.antt` (what its uplink tells),
 //! `specs/Settings.antt` (what is set for its next period), `specs/Out.antt` and `specs/Down.antt` (its outgoing lines),
-//! `specs/Waiting.antt` (the handed frames that wait), `specs/Counted.antt`, `specs/Places.antt` and `specs/Stands.antt`
-//! (what a leg holds after all periods so far), `specs/Memory.antt` (what it keeps), `specs/Step.antt` (one call after
-//! another).
+//! `specs/Numbered.antt` (its made frames by number), `specs/Waiting.antt` (the handed frames that wait),
+//! `specs/Counted.antt`, `specs/Places.antt` and `specs/Stands.antt` (what a leg holds after all periods so far),
+//! `specs/Memory.antt` (what it keeps), `specs/Step.antt` (one call after another).
 #![tactic(auto)]
 
 mod calls;

@@ -1,6 +1,6 @@
 //! The downlink side of a leg, beside its half of a period.
 
-ghost use Rattle.std.specs.Prelude.{◌≡◌, ◌<◌, not, ◌&&◌, ◌==◌, length, IfOk, IfSome};
+ghost use Rattle.std.specs.Prelude.{◌≡◌, not, ◌&&◌, ◌==◌, length, IfOk};
 ghost use Rattle.down_framer.specs.Memory.{IsBetween};
 ghost use Rattle.rx_handler.specs.State.{effective_fields};
 ghost use Rattle.call_leg.specs.Uplink.{sighting_of};
@@ -22,7 +22,6 @@ use trau_orders::DtxMode;
 
 // Asks for the shift of a field, if there is one.
 fn ask(align: &mut Align, field: Option<u8>)
-    requires { IfSome field (λ f. f < 64) }
     ensures { align.new ≡ asked align.old field }
 {
     if let Some(field) = field {

@@ -24,8 +24,7 @@ pub(crate) fn read(found: &Option<Yield>) -> Found
 
 /// The alignment field of a frame of speech or idle.
 pub(crate) fn field(found: &Found) -> Option<u8>
-    ensures value { result ≡ field_of (sighting_of found.now) }
-    ensures within { IfSome result (λ field. field < 64) }
+    ensures { result ≡ field_of (sighting_of found.now) }
 {
     match found {
         Found::Frame(f) => match f.kind {

@@ -1,7 +1,7 @@
 -- What a job keeps of a call.
 use Rattle.std.specs.Prelude.{◌≡◌, ℕ, ◌+◌, ◌-◌, ◌*◌, ◌≤◌, List, length}
 use Rattle.call_number.specs.CallNumber.{IsCallNumber}
-use Rattle.call_leg.specs.Memory.{LegMemory}
+use Rattle.call_leg.specs.Memory.{LegMemory, periods_of_leg}
 
 -- the octets of a call in a round: what its Up and Pcm lines gave, what its Out and Down lines get; how many periods
 -- are given, and how many of them are done
@@ -40,4 +40,4 @@ pub record IsIo (io : IoMemory) : Type 0 where
 
 -- A call has at most 4,294,967,295 periods: those that the leg has worked, and those that are left.
 abbrev pub periods_of : HalfMemory → ℕ
-periods_of h = h.leg.search.periods + places_left h.io
+periods_of h = periods_of_leg h.leg + places_left h.io

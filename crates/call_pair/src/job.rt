@@ -1,6 +1,7 @@
 //! A job of one call, or of the two calls of a bridge.
 
 ghost use Rattle.std.specs.Prelude.{◌≡◌, ◌+◌, ◌<◌, ◌≤◌, ◌↔◌, IsTrue};
+ghost use Rattle.call_leg.specs.Memory.{periods_of_leg};
 ghost use Rattle.call_pair.specs.Memory.{places_left};
 ghost use Rattle.call_pair.specs.Turn.{turned, pair_turned};
 ghost use Rattle.call_pair.specs.Places.{has_place};
@@ -24,7 +25,7 @@ pub enum Job {
 impl Half {
     // Puts octets in place of the half's own.
     fn swap(&mut self, io: LegIo) -> LegIo
-        requires { 0 < places_left io → self.old.leg.search.periods + places_left io ≤ 4294967295 }
+        requires { 0 < places_left io → periods_of_leg self.old.leg + places_left io ≤ 4294967295 }
         ensures half { self.new ≡ half_with self.old io }
         ensures io { result ≡ self.old.io }
     {
@@ -49,7 +50,7 @@ impl Job {
     /// so few periods that the call can have those that are left.
     pub fn swap_io(&mut self, io: LegIo) -> LegIo
         requires call { IsTrue (has_call self.old io.call) }
-        requires periods { 0 < places_left io → (half_of self.old io.call).leg.search.periods + places_left io ≤ 4294967295 }
+        requires periods { 0 < places_left io → periods_of_leg (half_of self.old io.call).leg + places_left io ≤ 4294967295 }
         ensures job { self.new ≡ with_io self.old io }
         ensures octets { result ≡ (half_of self.old io.call).io }
     {

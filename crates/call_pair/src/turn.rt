@@ -3,6 +3,7 @@
 ghost use Rattle.std.specs.Prelude.{◌≡◌, ◌+◌, ◌<◌, true, if◌then◌else◌, ◌==◌};
 ghost use Rattle.trau_bits.specs.Bits.{octets_of};
 ghost use Rattle.rx_handler.specs.State.{effective_fields};
+ghost use Rattle.call_leg.specs.Memory.{periods_of_leg};
 ghost use Rattle.call_leg.specs.Step.{up_worked, with_down, down_worked};
 ghost use Rattle.call_pair.specs.Places.{up_at, pcm_at, with_out, with_place, has_place};
 ghost use Rattle.call_pair.specs.Turn.{alone, effective, bridged, left_alone};
@@ -15,11 +16,11 @@ use rx_handler::Effective;
 // The uplink half of the next place.
 fn work_up(leg: &mut Leg, io: &mut LegIo) -> Effective
     requires place { has_place io.old ≡ true }
-    requires periods { leg.old.search.periods < 4294967295 }
+    requires periods { periods_of_leg leg.old < 4294967295 }
     ensures effective { effective_fields result ≡ (up_worked leg.old (up_at io.old.done io.old)).0 }
     ensures io { io.new ≡ with_out io.old (up_worked leg.old (up_at io.old.done io.old)).1 }
     ensures leg { leg.new ≡ (up_worked leg.old (up_at io.old.done io.old)).2 }
-    ensures periods { leg.new.search.periods ≡ leg.old.search.periods + 1 }
+    ensures periods { periods_of_leg leg.new ≡ periods_of_leg leg.old + 1 }
 {
     let mut out = [0; 160];
     let e = leg.up_half(&io.up_next(), &mut out);
@@ -32,7 +33,7 @@ fn work_down(leg: &mut Leg, io: &mut LegIo)
     requires { has_place io.old ≡ true }
     ensures io { io.new ≡ with_place io.old (octets_of (down_worked leg.old.down (pcm_at io.old.done io.old)).0) }
     ensures leg { leg.new ≡ with_down leg.old (down_worked leg.old.down (pcm_at io.old.done io.old)).1 }
-    ensures periods { leg.new.search.periods ≡ leg.old.search.periods }
+    ensures periods { periods_of_leg leg.new ≡ periods_of_leg leg.old }
 {
     let mut down = [0; 40];
     leg.down_half(&io.pcm_next(), &mut down);

@@ -10,6 +10,7 @@ use Rattle.std.specs.List.Sorted.{IsPermutation}
 use Rattle.std.proofs.lemmas.List.Sorted.{IsPermutation-trans, IsPermutation-cons, IsPermutation-to_front, IsPermutation-append_comm, sum_by-IsPermutation}
 use Rattle.switchboard.specs.declared.act.Act.{Act}
 use Rattle.switchboard.specs.declared.act.Act.TheVariants as act
+use Rattle.call_leg.specs.Memory.{periods_of_leg}
 use Rattle.farm_rounds.specs.declared.call.Call.{Call}
 use Rattle.farm_rounds.specs.declared.call.Group.{Group}
 use Rattle.farm_rounds.specs.declared.call.Group.TheVariants.{One, Two}
@@ -81,7 +82,7 @@ bridged gs a b = go (group_in gs a) refl where
 pair_size : (x y : Call) → size_of (pair_of x y) ≡ 2
 pair_size x y = elim (cases_Bool (nat_lt x.number y.number)) [ inl t ↦ simp t refl | inr f ↦ simp f refl ]
 
-pub moved_call : (most : ℕ) (x y : Call) → y.number ≡ x.number → y.leg.search.periods ≡ x.leg.search.periods → IsCall most x → IsCall most y
+pub moved_call : (most : ℕ) (x y : Call) → y.number ≡ x.number → periods_of_leg y.leg ≡ periods_of_leg x.leg → IsCall most x → IsCall most y
 moved_call most x y n p h = record { number = (omega (arith, n, h.number.0), omega (arith, n, h.number.1)); worked = omega (arith, p, h.worked) }
 
 pair_group : (most : ℕ) (x y : Call) → x.number ≢ y.number → IsCall most x → IsCall most y → IsGroup most (pair_of x y)
@@ -241,7 +242,7 @@ set_number (act.Unbridged c d) x = refl
 set_number (act.LevelSet c level) x = refl
 set_number (act.DtxSet c mode) x = refl
 
-set_periods : (a : Act) (x : Call) → (set_by a x).leg.search.periods ≡ x.leg.search.periods
+set_periods : (a : Act) (x : Call) → periods_of_leg (set_by a x).leg ≡ periods_of_leg x.leg
 set_periods (act.Opened c) x = refl
 set_periods (act.Closed c p) x = refl
 set_periods (act.Bridged c d) x = refl

@@ -9,7 +9,7 @@ use Rattle.std.proofs.lemmas.List.{length-set, get_or-set_same, get_or-set_other
 use Rattle.call_number.specs.CallNumber.{IsCallNumber}
 use Rattle.call_pair.specs.declared.job.Job.{Job}
 use Rattle.call_pair.specs.declared.job.Job.TheVariants.{One, Two}
-use Rattle.call_leg.specs.Memory.{LegMemory}
+use Rattle.call_leg.specs.Memory.{LegMemory, periods_of_leg}
 use Rattle.round_lines.specs.Places.{PlaceMemory, whole_in}
 use Rattle.call_pair.specs.Memory.{IoMemory, IsIo, places_left}
 use Rattle.call_pair.specs.Jobs.{has_call, half_of, with_io}
@@ -89,7 +89,7 @@ pub groups_kept : (jobs : List Job) (k : ℕ) (io : IoMemory) → k < length job
 groups_kept jobs k io l t = map-set_same group_from jobs k (with_io (job_at jobs k) io) no_job (with_group (job_at jobs k) io t)
 
 -- the time that its calls have
-pub with_time : (most : ℕ) (j : Job) (io : IoMemory) → has_call j io.call ≡ true → IsTimely most j → (half_of j io.call).leg.search.periods + places_left io ≤ most → IsTimely most (with_io j io)
+pub with_time : (most : ℕ) (j : Job) (io : IoMemory) → has_call j io.call ≡ true → IsTimely most j → periods_of_leg (half_of j io.call).leg + places_left io ≤ most → IsTimely most (with_io j io)
 with_time most (One h) io t k l = l
 with_time most (Two a b) io t k l = elim (cases_Bool (a.io.call == io.call)) [
   | inl u ↦ simp u (simp u at l, k.1)
@@ -111,7 +111,7 @@ job_read bs k b l =
 pub record HandedIn (before now : List Job) (entries : List Entry) (seats : List SeatMemory) (n : ℕ) : Type 0 where
   pub same : SameLegs before now
   pub handed : AreHanded now entries seats n
-  pub timely : (most : ℕ) → All (IsTimely most) before → ((k : ℕ) → k < length seats → (half_at before (entry_at entries k).job (call_at seats k)).leg.search.periods + (seat_at seats k).place.periods ≤ most) → All (IsTimely most) now
+  pub timely : (most : ℕ) → All (IsTimely most) before → ((k : ℕ) → k < length seats → periods_of_leg (half_at before (entry_at entries k).job (call_at seats k)).leg + (seat_at seats k).place.periods ≤ most) → All (IsTimely most) now
 
 pub handed_none : (before : List Job) (entries : List Entry) (seats : List SeatMemory) → HandedIn before before entries seats 0
 handed_none before entries seats = record {
@@ -169,8 +169,8 @@ handed_more before now next entries seats n rising have l bound h e =
       ];
       timely = λ most all time.
           let before_all = h.timely most all time in
-          let leg : (half_at now place io.call).leg.search.periods ≡ (half_at before place (call_at seats n)).leg.search.periods = ap (λ (m : LegMemory). m.search.periods) (h.same.legs place (call_at seats n)) in
-          let fits : (half_at now place io.call).leg.search.periods + places_left io ≤ most = omega (arith, leg, time n l, bound) in
+          let leg : periods_of_leg (half_at now place io.call).leg ≡ periods_of_leg (half_at before place (call_at seats n)).leg = ap periods_of_leg (h.same.legs place (call_at seats n)) in
+          let fits : periods_of_leg (half_at now place io.call).leg + places_left io ≤ most = omega (arith, leg, time n l, bound) in
           All-same (IsTimely most) next (slice_set now place (with_io (job_at now place) io)) e
           (All-set (IsTimely most) now place (with_io (job_at now place) io) (with_time most (job_at now place) io has.1 (All-get_or (IsTimely most) now place no_job has.0 before_all) fits) before_all);
     }
@@ -204,13 +204,13 @@ turn_job before now entries seats n k j s io have same l es ek ej ei =
 
 pub turn_time : (before now : List Job) (entries : List Entry) (seats : List SeatMemory) (n k j : ℕ) (s : SeatMemory) (io : IoMemory) → HaveTime before entries seats →
     SameLegs before now → n < length seats → s ≡ seat_at seats n → k ≡ n → j ≡ (entry_at entries k).job → io ≡ octets_of s → whole_in s.place ≤ s.place.periods →
-    (half_at now j io.call).leg.search.periods + places_left io ≤ 4294967295
+    periods_of_leg (half_at now j io.call).leg + places_left io ≤ 4294967295
 turn_time before now entries seats n k j s io time same l es ek ej ei bound =
     let place : j ≡ (entry_at entries n).job = ej ∙ ap (λ (m : ℕ). (entry_at entries m).job) ek in
     let call : io.call ≡ call_at seats n = ap (λ (x : IoMemory). x.call) ei ∙ ap (λ (x : SeatMemory). x.place.call) es in
-    let leg : (half_at now j io.call).leg.search.periods ≡ (half_at before (entry_at entries n).job (call_at seats n)).leg.search.periods =
-    ap (λ (m : ℕ). (half_at now m io.call).leg.search.periods) place ∙ ap (λ (c : ℕ). (half_at now (entry_at entries n).job c).leg.search.periods) call
-    ∙ ap (λ (x : LegMemory). x.search.periods) (same.legs (entry_at entries n).job (call_at seats n)) in
+    let leg : periods_of_leg (half_at now j io.call).leg ≡ periods_of_leg (half_at before (entry_at entries n).job (call_at seats n)).leg =
+    ap (λ (m : ℕ). periods_of_leg (half_at now m io.call).leg) place ∙ ap (λ (c : ℕ). periods_of_leg (half_at now (entry_at entries n).job c).leg) call
+    ∙ ap periods_of_leg (same.legs (entry_at entries n).job (call_at seats n)) in
     let left : places_left io ≡ whole_in s.place - 0 = ap (λ (x : IoMemory). places_left x) ei in
     let periods : s.place.periods ≡ (seat_at seats n).place.periods = ap (λ (x : SeatMemory). x.place.periods) es in
     omega (arith, leg, left, periods, bound, time n l)

@@ -4,7 +4,7 @@ use Rattle.std.specs.Prelude.{◌==◌, ◌||◌}
 use Rattle.std.proofs.lemmas.Bool.{cases_Bool, ltb-true}
 use Rattle.frame_sync.specs.Step.{next_period}
 use Rattle.rx_handler.specs.Origin.{EffectiveFields}
-use Rattle.call_leg.specs.Memory.{LegMemory}
+use Rattle.call_leg.specs.Memory.{LegMemory, periods_of_leg}
 use Rattle.call_leg.specs.Step.{up_worked}
 use Rattle.call_pair.specs.declared.job.Job.{Job}
 use Rattle.call_pair.specs.declared.job.Job.TheVariants.{One, Two}
@@ -27,7 +27,7 @@ half-refl h = record { call = refl; up = refl; pcm = refl; given = refl; periods
 pub half-trans : (h g f : HalfMemory) → KeptHalf h g → KeptHalf g f → KeptHalf h f
 half-trans h g f p q = record { call = q.call ∙ p.call; up = q.up ∙ p.up; pcm = q.pcm ∙ p.pcm; given = q.given ∙ p.given; periods = q.periods ∙ p.periods }
 
-worked_periods : (m : LegMemory) (up : List ℕ) → (up_worked m up).2.search.periods ≡ m.search.periods + 1
+worked_periods : (m : LegMemory) (up : List ℕ) → periods_of_leg (up_worked m up).2 ≡ periods_of_leg m + 1
 unfolding up_worked next_period
 worked_periods m up = refl
 
@@ -41,7 +41,7 @@ alone_keeps h t = record {
   up = refl;
   pcm = refl;
   given = refl;
-  periods = ap (λ (n : ℕ). n + (h.io.given - (h.io.done + 1))) (worked_periods h.leg _) ∙ one_period h.leg.search.periods h.io.done h.io.given t;
+  periods = ap (λ (n : ℕ). n + (h.io.given - (h.io.done + 1))) (worked_periods h.leg _) ∙ one_period (periods_of_leg h.leg) h.io.done h.io.given t;
 }
 
 bridged_keeps : (h : HalfMemory) (e : EffectiveFields) → has_place h.io ≡ true → KeptHalf h (bridged h e)
@@ -50,7 +50,7 @@ bridged_keeps h e t = record {
   up = refl;
   pcm = refl;
   given = refl;
-  periods = ap (λ (n : ℕ). n + (h.io.given - (h.io.done + 1))) (worked_periods h.leg _) ∙ one_period h.leg.search.periods h.io.done h.io.given t;
+  periods = ap (λ (n : ℕ). n + (h.io.given - (h.io.done + 1))) (worked_periods h.leg _) ∙ one_period (periods_of_leg h.leg) h.io.done h.io.given t;
 }
 
 left_alone_keeps : (h : HalfMemory) (others : ℕ) → has_place h.io ≡ true → KeptHalf h (left_alone h others)
@@ -59,7 +59,7 @@ left_alone_keeps h others t = elim (cases_Bool (h.io.done == others)) [
   | inr e ↦ simp e (alone_keeps_of h.leg refl)
 ]
   where
-    alone_keeps_of : (m : LegMemory) → m.search.periods ≡ h.leg.search.periods → KeptHalf h (alone (record { leg = m; io = h.io }))
+    alone_keeps_of : (m : LegMemory) → periods_of_leg m ≡ periods_of_leg h.leg → KeptHalf h (alone (record { leg = m; io = h.io }))
     alone_keeps_of m p =
         let k = alone_keeps (record { leg = m; io = h.io }) t in
         record { call = k.call; up = k.up; pcm = k.pcm; given = k.given; periods = k.periods ∙ ap (λ (n : ℕ). n + (h.io.given - h.io.done)) p }

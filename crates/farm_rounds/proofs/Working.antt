@@ -7,6 +7,7 @@ use Rattle.std.proofs.lemmas.Bool.{cases_Bool, cases_order, eq-eqb, ne_eqb, and_
 use Rattle.std.proofs.lemmas.List.{length-map, get_or-map, drop_all, append-nil, take_all}
 use Rattle.std.proofs.lemmas.List.Elements.{All-from_get_or, All-cons, All-head, All-tail, All-get_or}
 use Rattle.std.proofs.lemmas.List.Sums.{sum_by-cons}
+use Rattle.call_leg.specs.Memory.{periods_of_leg}
 use Rattle.call_pair.specs.declared.job.Job.{Job}
 use Rattle.call_pair.specs.declared.job.Job.TheVariants.{One, Two}
 use Rattle.call_pair.specs.Memory.{IoMemory, HalfMemory, periods_of}
@@ -139,7 +140,7 @@ ready_out most before jobs after entries seats apart last have rising same hande
           let j = job_at jobs (entry_at entries k).job in
           let kept = kept_half j (finished j) (call_at seats k) (finished_keeps j) in
           let t = timely_half most j (call_at seats k) (All-get_or (IsTimely most) jobs (entry_at entries k).job no_job (theirs k lk).0 timely) in
-          let leg : (half_of_seat after entries apart k).leg.search.periods ≡ (half_of (finished j) (call_at seats k)).leg.search.periods = ap (λ (h : HalfMemory). h.leg.search.periods) (half k lk) in
+          let leg : periods_of_leg (half_of_seat after entries apart k).leg ≡ periods_of_leg (half_of (finished j) (call_at seats k)).leg = ap (λ (h : HalfMemory). periods_of_leg h.leg) (half k lk) in
           omega (arith, leg, kept.periods, t, last);
       long = λ k l.
           let lk : k < length seats = omega (arith, l, number) in
@@ -192,8 +193,8 @@ filled r seats i number call periods = record {
   rising = rising_same r.seats seats number call i.rising;
   time = λ k l.
       let lk : k < length r.seats = omega (arith, l, number) in
-      let leg : (half_at r.jobs (entry_at r.entries k).job (call_at seats k)).leg.search.periods ≡ (half_at r.jobs (entry_at r.entries k).job (call_at r.seats k)).leg.search.periods =
-      ap (λ (c : ℕ). (half_at r.jobs (entry_at r.entries k).job c).leg.search.periods) (call k lk) in
+      let leg : periods_of_leg (half_at r.jobs (entry_at r.entries k).job (call_at seats k)).leg ≡ periods_of_leg (half_at r.jobs (entry_at r.entries k).job (call_at r.seats k)).leg =
+      ap (λ (c : ℕ). periods_of_leg (half_at r.jobs (entry_at r.entries k).job c).leg) (call k lk) in
       omega (arith, leg, periods k lk, i.time k lk);
   timely = i.timely;
   within = λ k l. let lk : k < length r.seats = omega (arith, l, number) in omega (arith, periods k lk, i.within k lk);

@@ -1,6 +1,7 @@
 -- The groups of a farm: each call is in one of them.
 use Rattle.std.specs.Prelude.{◌≡◌, ℕ, ◌≤◌, ◌<◌, is_some, List, length}
 use Rattle.std.specs.List.{All, count_by}
+use Rattle.call_leg.specs.Memory.{periods_of_leg}
 use Rattle.farm_rounds.specs.declared.call.Call.{Call}
 use Rattle.farm_rounds.specs.declared.call.Group.{Group}
 use Rattle.farm_rounds.specs.declared.call.Group.TheVariants.{One, Two}
@@ -11,7 +12,7 @@ use Rattle.farm_rounds.specs.Numbers.{IsRising, is_among}
 -- a call whose leg has worked at most so many periods
 pub record IsCall (most : ℕ) (x : Call) : Type 0 where
   pub number : IsCallNumber x.number
-  pub worked : x.leg.search.periods ≤ most
+  pub worked : periods_of_leg x.leg ≤ most
 
 -- the calls of a group: of two, the lower number stands first
 abbrev pub IsGroup : ℕ → Group → Type 0

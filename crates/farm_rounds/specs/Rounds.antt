@@ -6,6 +6,7 @@ use Rattle.std.specs.Global.{Box}
 use Rattle.round_lines.specs.Places.{PlaceMemory, whole_in}
 use Rattle.round_lines.specs.Seats.{SeatMemory, new_seat}
 use Rattle.round_lines.specs.Rounds.{no_seat, seat_at, call_at}
+use Rattle.call_leg.specs.Memory.{periods_of_leg}
 use Rattle.call_leg.specs.Step.{home_leg}
 use Rattle.call_pair.specs.declared.job.Job.{Job}
 use Rattle.call_pair.specs.declared.job.Job.TheVariants as job
@@ -92,7 +93,7 @@ AreSound seats n = (k : ℕ) → k < n → IsIo (octets_of (seat_at seats k)) ×
 -- with those of the round no call has more periods than these ..
 abbrev pub HaveTimeUntil : ℕ → List Job → List Entry → List SeatMemory → Type 0
 HaveTimeUntil most jobs entries seats = (k : ℕ) → k < length seats →
-    (half_at jobs (entry_at entries k).job (call_at seats k)).leg.search.periods + (seat_at seats k).place.periods ≤ most
+    periods_of_leg (half_at jobs (entry_at entries k).job (call_at seats k)).leg + (seat_at seats k).place.periods ≤ most
 
 -- .. and none has more than a call can have
 abbrev pub HaveTime : List Job → List Entry → List SeatMemory → Type 0
@@ -116,7 +117,7 @@ half_of_seat jobs entries places k = half_at jobs (entry_at entries k).job (plac
 
 -- no leg has worked more periods than a call has
 abbrev pub HaveWorked : List Job → List Entry → List PlaceMemory → Type 0
-HaveWorked jobs entries places = (k : ℕ) → k < length places → (half_of_seat jobs entries places k).leg.search.periods ≤ 4294967295
+HaveWorked jobs entries places = (k : ℕ) → k < length places → periods_of_leg (half_of_seat jobs entries places k).leg ≤ 4294967295
 
 -- the buffers have the round's length
 abbrev pub HaveLengths : List Job → List Entry → List PlaceMemory → Type 0

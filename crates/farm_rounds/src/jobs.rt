@@ -4,6 +4,7 @@ ghost use Rattle.std.specs.Prelude.{◌≡◌, ◌≢◌, ◌+◌, ◌*◌, ◌<
 ghost use Rattle.std.specs.List.{All};
 ghost use Rattle.std.specs.List.Sorted.{IsPermutation, IsNonDecreasingBy};
 ghost use Rattle.round_lines.specs.Rounds.{Rising, seat_at};
+ghost use Rattle.call_leg.specs.Memory.{periods_of_leg};
 ghost use Rattle.call_pair.specs.Memory.{places_left};
 ghost use Rattle.call_pair.specs.Jobs.{with_io};
 ghost use Rattle.call_number.specs.CallNumber.{IsCallNumber};
@@ -125,7 +126,7 @@ fn job_of(alloc: Global, group: Group) -> Job
 
 fn half_of(alloc: Global, call: Call) -> Half
     requires number { IsCallNumber call.number }
-    requires periods { call.leg.search.periods ≤ 4294967295 }
+    requires periods { periods_of_leg call.leg ≤ 4294967295 }
     ensures { result ≡ half_made call }
 {
     let Call { number, leg, .. } = call;
@@ -166,7 +167,7 @@ pub(crate) fn make_seats(
 // Puts octets in place of those of their call in its job.
 fn swap_in(jobs: &mut [Box<Job>], place: usize, io: LegIo) -> LegIo
     requires job { HasJob (jobs_in jobs.old) place io.call }
-    requires time { (half_at (jobs_in jobs.old) place io.call).leg.search.periods + places_left io ≤ 4294967295 }
+    requires time { periods_of_leg (half_at (jobs_in jobs.old) place io.call).leg + places_left io ≤ 4294967295 }
     ensures jobs { jobs_in jobs.new ≡ slice_set (jobs_in jobs.old) place (with_io (job_at (jobs_in jobs.old) place) io) }
     ensures io { result ≡ (half_at (jobs_in jobs.old) place io.call).io }
 {

@@ -1,7 +1,8 @@
 -- The shifts that alignment fields ask for (this project's profile, in the manner of GSM 08.60).
 use Rattle.std.specs.Prelude.{◌≡◌, ◌≤◌, ℕ, ◌*◌, ℤ, pos, negsuc, if◌then◌else◌, ◌==◌, nat_le, Option, Some, None, unwrap_or, List, [], ◌∷◌}
 
--- the shift of a field, in octets of the Pcm line: four for each step, two more, or two octets back
+-- The shift of a field, in octets of the Pcm line: four for each step, two more, or two octets back. Fields 0 and 40 to
+-- 61 ask for none, and no more does a number beyond the 6 bits of a field.
 unfoldable pub shift_of : ℕ → Option ℤ
 shift_of field =
     if field == 0 then None

@@ -1,6 +1,6 @@
 //! The shift that waits for the next downlink frame.
 
-ghost use Rattle.std.specs.Prelude.{◌≡◌, ◌≤◌, List, [], ◌∷◌};
+ghost use Rattle.std.specs.Prelude.{◌≡◌, List, [], ◌∷◌};
 ghost use Rattle.time_align.specs.Shift.{IsShift};
 ghost use Rattle.time_align.specs.Memory.{new_memory, after_ask, after_freeze, after_thaw, adopted};
 ghost use Rattle.time_align.specs.History.{Event, Asks, Freezes, Thaws, Adopts, shift_now, Stands};
@@ -39,13 +39,15 @@ impl Align {
         }
     }
 
-    /// Takes the alignment field of an uplink frame of speech or idle, of 6 bits. A field that asks for no shift leaves
-    /// what was asked before.
+    /// Takes the alignment field of an uplink frame of speech or idle. A field that asks for no shift leaves what was
+    /// asked before; so does a number that isn't of 6 bits.
     pub fn ask(&mut self, field: u8)
-        requires { field ≤ 63 }
         ensures step { self.new ≡ after_ask self.old field }
         ensures history { (past : List Event) → Stands past self.old → Stands (Asks field ∷ past) self.new }
     {
+        if field > 63 {
+            return;
+        }
         if let Some(shift) = shift_of(field) {
             self.kept = Some(shift);
         }

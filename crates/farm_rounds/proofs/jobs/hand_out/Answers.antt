@@ -2,7 +2,7 @@ use Rattle.std.proofs.Common.{rules, ◌≡◌, refl, ◌+◌, ◌-◌, ◌*◌,
 use Rattle.std.specs.Prelude.{slice_set}
 use Rattle.std.proofs.lemmas.Iterator.Adapters.{YieldsList-from_vec}
 use Rattle.std.proofs.lemmas.Iterator.Consumers.{YieldsList-turn, YieldsList-end}
-use Rattle.call_leg.specs.Memory.{LegMemory}
+use Rattle.call_leg.specs.Memory.{periods_of_leg}
 use Rattle.call_pair.specs.Memory.{IoMemory, HalfMemory, places_left}
 use Rattle.call_pair.specs.Jobs.{with_io}
 use Rattle.round_lines.specs.Places.{PlaceMemory}
@@ -47,8 +47,8 @@ swap_in-io-requires-clause-time c =
     let call : c.none-none.result.call ≡ c.in-Some.place.call = ap (λ (x : IoMemory). x.call) c.none-none.ensures ∙ c.call.ensures.value in
     let half = take_half (jobs_in c.args.jobs.now) (jobs_in c.loop-place.jobs) c.args.entries.now c.args.apart.items n c.len.result c.job_place.result c.in-Some.place c.none-none.result item index c.job_place.ensures call in
     let left : places_left c.none-none.result ≡ 0 - 0 = ap (λ (x : IoMemory). places_left x) c.none-none.ensures in
-    let leg : (half_at (jobs_in c.loop-place.jobs) c.job_place.result c.none-none.result.call).leg.search.periods ≡ (half_of_seat (jobs_in c.args.jobs.now) c.args.entries.now c.args.apart.items n).leg.search.periods =
-    ap (λ (h : HalfMemory). h.leg.search.periods) half ∙ ap (λ (x : LegMemory). x.search.periods) (c.loop-place.invariant.taken.same.legs (entry_at c.args.entries.now n).job (place_at c.args.apart.items n).call) in
+    let leg : periods_of_leg (half_at (jobs_in c.loop-place.jobs) c.job_place.result c.none-none.result.call).leg ≡ periods_of_leg (half_of_seat (jobs_in c.args.jobs.now) c.args.entries.now c.args.apart.items n).leg =
+    ap (λ (h : HalfMemory). periods_of_leg h.leg) half ∙ ap periods_of_leg (c.loop-place.invariant.taken.same.legs (entry_at c.args.entries.now n).job (place_at c.args.apart.items n).call) in
     omega (arith, leg, left, c.requires.ready.time n turn.0)
 
 pub from_parts-requires : goal.from_parts-requires

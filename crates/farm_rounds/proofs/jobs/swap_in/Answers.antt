@@ -1,6 +1,7 @@
 use Rattle.std.proofs.Common.{ap, ◌∙◌, sym, subst, IsTrue, arith}
 use Rattle.std.specs.Global.{Box}
 use Rattle.std.proofs.lemmas.List.{length-map}
+use Rattle.call_leg.specs.Memory.{periods_of_leg}
 use Rattle.call_pair.specs.declared.job.Job.{Job}
 use Rattle.call_pair.specs.Jobs.{has_call, half_of, with_io}
 use Rattle.farm_rounds.proofs.Handing.{job_set, job_read}
@@ -22,7 +23,7 @@ swap_io-requires-clause-call c =
 pub swap_io-requires-clause-periods : goal.swap_io-requires-clause-periods
 swap_io-requires-clause-periods c =
     let read = job_read c.args.jobs.now c.args.place c.index-jobs-place.result c.requires.job.0 in
-    λ _. omega (arith, c.requires.time, ap (λ (j : Job). (half_of j c.args.io.call).leg.search.periods) (c.deref_mut.ensures.value ∙ read))
+    λ _. omega (arith, c.requires.time, ap (λ (j : Job). periods_of_leg (half_of j c.args.io.call).leg) (c.deref_mut.ensures.value ∙ read))
 
 pub returns-clause-io : goal.returns-clause-io
 returns-clause-io c =

@@ -1,0 +1,14 @@
+-- The made frames of a call by their numbers, over its bridges and the alignment fields of all its periods. Lists have
+-- the newest first.
+use Rattle.std.specs.Prelude.{ℕ, List}
+use Rattle.down_framer.specs.ByNumber.{NumberedFrame, bridges_in, fields_in, numbered, numbered_start}
+use Rattle.call_leg.specs.Periods.{CallPeriod}
+use Rattle.call_leg.specs.Down.{down_periods}
+
+-- the first j frames
+abbrev pub first_frames : List CallPeriod → ℕ → List NumberedFrame
+first_frames ts j = numbered (bridges_in (down_periods ts)) (fields_in (down_periods ts)) j
+
+-- the octet of the Pcm line with which frame j starts
+abbrev pub start_of : List CallPeriod → ℕ → ℕ
+start_of ts j = numbered_start (first_frames ts j)
