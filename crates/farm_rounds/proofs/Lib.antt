@@ -20,3 +20,4 @@ pub mod Planned
 pub mod Finished
 pub mod JobSeats
 pub mod Works
+pub mod Running

@@ -1,8 +1,8 @@
 -- A round that is planned.
-use Rattle.std.proofs.Common.{◌≡◌, refl, sym, ap, ◌∙◌, subst, ℕ, ◌+◌, ◌<◌, ◌≤◌, Bool, true, List, [], ◌∷◌, length, arith}
+use Rattle.std.proofs.Common.{◌≡◌, refl, sym, ap, ◌∙◌, subst, ℕ, ◌+◌, ◌*◌, ◌<◌, ◌≤◌, Bool, true, List, [], ◌∷◌, length, arith}
 use Rattle.std.specs.Prelude.{if◌then◌else◌, ◌||◌, map, reverse, is_some, slice_index}
 use Rattle.std.specs.List.{count_by, list_any, All}
-use Rattle.std.proofs.lemmas.List.{length-map}
+use Rattle.std.proofs.lemmas.List.{length-map, length-replicate}
 use Rattle.std.proofs.lemmas.List.Elements.{All-nil, All-cons, All-head, All-tail, All-get_or, All-weaker}
 use Rattle.std.proofs.lemmas.List.Sums.{sum_by-cons}
 use Rattle.std.proofs.lemmas.List.Sorted.{IsPermutation-reverse, All-permutation, sum_by-IsPermutation, list_any-IsPermutation, length_permutation}
@@ -139,6 +139,11 @@ planned before start periods gs live kept failed jobs entries seats later last a
           omega (arith, t, length_of k (omega (arith, lk, number)));
       timely = subst (λ (js : List Job). All (IsTimely (start + periods)) js) (sym ej) (made_timely (start + periods) gs (each_weaker before (start + periods) gs (omega (arith, later)) a.each));
       within = λ k lk. omega (arith, length_of k (omega (arith, lk, number)));
+      room = λ k lk.
+          let it = are k (omega (arith, lk, number)) in (
+            ap (λ (s : SeatMemory). length s.up) it ∙ length-replicate (40 * periods) 0 ∙ ap (λ (s : SeatMemory). 40 * s.place.periods) (sym it),
+            ap (λ (s : SeatMemory). length s.pcm) it ∙ length-replicate (160 * periods) 0 ∙ ap (λ (s : SeatMemory). 160 * s.place.periods) (sym it),
+          );
       last = last;
       groups = subst (λ (js : List Job). AreGroups (start + periods) (groups_from js)) (sym ej) (made_groups (start + periods) gs (same_groups before (start + periods) gs (omega (arith, later)) a));
       alive = subst (λ (js : List Job). AreLive live (groups_from js)) (sym ej) (made_live live gs l);

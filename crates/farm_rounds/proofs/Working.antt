@@ -12,13 +12,15 @@ use Rattle.call_pair.specs.declared.job.Job.{Job}
 use Rattle.call_pair.specs.declared.job.Job.TheVariants.{One, Two}
 use Rattle.call_pair.specs.Memory.{IoMemory, HalfMemory, periods_of}
 use Rattle.call_pair.specs.Jobs.{has_call, half_of, finished}
+use Rattle.trau_io.specs.declared.line.Side.{Side}
+use Rattle.trau_io.specs.Lines.{LineState}
 use Rattle.round_lines.specs.Places.{PlaceMemory}
-use Rattle.round_lines.specs.Seats.{SeatMemory}
+use Rattle.round_lines.specs.Seats.{SeatMemory, Fills}
 use Rattle.round_lines.specs.Rounds.{Rising, no_seat, seat_at, call_at}
 use Rattle.farm_rounds.specs.declared.entry.Entry.{Entry}
 use Rattle.farm_rounds.specs.Calls.{holds, size_of, calls_held}
 use Rattle.farm_rounds.specs.Groups.{IsCall, IsGroup, AreGroups, AreLive}
-use Rattle.farm_rounds.specs.Rounds.{no_job, AreReady, jobs_in, job_at, half_at, HasJob, SameLegs, entry_at, HaveJobs, AreHanded, AreSound, HaveTimeUntil, seat_with, Works, IsTimely, call_from, group_from, groups_from, place_at, half_of_seat, AreTaken}
+use Rattle.farm_rounds.specs.Rounds.{no_job, AreReady, jobs_in, job_at, half_at, HasJob, SameLegs, entry_at, HaveJobs, AreHanded, AreSound, HaveTimeUntil, seat_with, Works, IsTimely, call_from, group_from, groups_from, place_at, half_of_seat, AreTaken, IsShort}
 use Rattle.std.proofs.lemmas.List.Folds.{list_any_at, list_any_none}
 use Rattle.farm_rounds.specs.Settling.{goes_on_in}
 use Rattle.farm_rounds.specs.Working.{RoundMemory, goes_on_call, IsRound}
@@ -184,8 +186,9 @@ abbrev pub with_seats : RoundMemory → List SeatMemory → RoundMemory
 with_seats r seats = record { start = r.start; ended = r.ended; live = r.live; tallies = r.tallies; failed = r.failed; jobs = r.jobs; entries = r.entries; seats = seats }
 
 pub filled : (r : RoundMemory) (seats : List SeatMemory) → IsRound r → length seats ≡ length r.seats → ((k : ℕ) → k < length r.seats → call_at seats k ≡ call_at r.seats k) →
-    ((k : ℕ) → k < length r.seats → (seat_at seats k).place.periods ≡ (seat_at r.seats k).place.periods) → IsRound (with_seats r seats)
-filled r seats i number call periods = record {
+    ((k : ℕ) → k < length r.seats → (seat_at seats k).place.periods ≡ (seat_at r.seats k).place.periods) →
+    ((k : ℕ) → k < length r.seats → (length (seat_at seats k).up ≡ length (seat_at r.seats k).up) × (length (seat_at seats k).pcm ≡ length (seat_at r.seats k).pcm)) → IsRound (with_seats r seats)
+filled r seats i number call periods long = record {
   long = i.long ∙ sym number;
   numbers = number ∙ i.numbers;
   aligned = λ k l. let lk : k < length r.seats = omega (arith, l, number) in call k lk ∙ i.aligned k lk;
@@ -198,11 +201,24 @@ filled r seats i number call periods = record {
       omega (arith, leg, periods k lk, i.time k lk);
   timely = i.timely;
   within = λ k l. let lk : k < length r.seats = omega (arith, l, number) in omega (arith, periods k lk, i.within k lk);
+  room = λ k l.
+      let lk : k < length r.seats = omega (arith, l, number) in (
+        (long k lk).0 ∙ (i.room k lk).0 ∙ ap (λ (n : ℕ). 40 * n) (sym (periods k lk)),
+        (long k lk).1 ∙ (i.room k lk).1 ∙ ap (λ (n : ℕ). 160 * n) (sym (periods k lk)),
+      );
   last = i.last;
   groups = i.groups;
   alive = i.alive;
   kept = i.kept;
 }
+
+-- a line that failed didn't fill its buffer
+pub is_short : (before now : Side → LineState) (s t : SeatMemory) → Fills before now s t → (length s.up ≡ 40 * s.place.periods) × (length s.pcm ≡ 160 * s.place.periods) → IsShort t.place
+is_short before now s t f room =
+    let periods : t.place.periods ≡ s.place.periods = ap (λ (x : SeatMemory). x.place.periods) f.kept in (
+      λ e. omega (arith, f.up.short e, f.up_length, room.0, periods),
+      λ e. omega (arith, f.pcm.short e, f.pcm_length, room.1, periods),
+    )
 
 -- ---- the calls that go on
 

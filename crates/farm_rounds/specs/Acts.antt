@@ -100,6 +100,11 @@ Fits groups (Unbridged a b) = partner_in groups a ≡ Some b
 Fits groups (LevelSet c level) = IsOpen groups c × (pos 0 ≤ℤ level)
 Fits groups (DtxSet c mode) = IsOpen groups c
 
+-- it opens a call
+abbrev pub IsOpening : Act → Type 0
+IsOpening (Opened c) = Unit {0}
+IsOpening _ = ⊥
+
 -- the calls stay the same ones
 abbrev pub Stays : Act → Type 0
 Stays (Opened c) = ⊥

@@ -9,3 +9,4 @@ pub mod Rounds
 pub mod Settling
 pub mod Working
 pub mod RoundHistories
+pub mod Finishing

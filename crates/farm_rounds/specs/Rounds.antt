@@ -90,6 +90,15 @@ AreHanded jobs entries seats n = (k : ℕ) → k < n → (half_at jobs (entry_at
 abbrev pub AreSound : List SeatMemory → ℕ → Type 0
 AreSound seats n = (k : ℕ) → k < n → IsIo (octets_of (seat_at seats k)) × (whole_in (seat_at seats k).place ≤ (seat_at seats k).place.periods)
 
+-- the incoming buffers have the round's length
+abbrev pub HaveRoom : List SeatMemory → Type 0
+HaveRoom seats = (k : ℕ) → k < length seats →
+    let s = seat_at seats k in (length s.up ≡ 40 * s.place.periods) × (length s.pcm ≡ 160 * s.place.periods)
+
+-- an incoming line that failed gave fewer octets than the round takes of it: 40 a period of Up, 160 of Pcm
+abbrev pub IsShort : PlaceMemory → Type 0
+IsShort p = (p.up.failed ≡ true → p.up.count < 40 * p.periods) × (p.pcm.failed ≡ true → p.pcm.count < 160 * p.periods)
+
 -- with those of the round no call has more periods than these ..
 abbrev pub HaveTimeUntil : ℕ → List Job → List Entry → List SeatMemory → Type 0
 HaveTimeUntil most jobs entries seats = (k : ℕ) → k < length seats →

@@ -13,7 +13,7 @@ use Rattle.farm_rounds.specs.declared.entry.Entry.{Entry}
 use Rattle.farm_rounds.specs.declared.tally.Tally.{Tally}
 use Rattle.farm_rounds.specs.Groups.{AreGroups, AreLive}
 use Rattle.farm_rounds.specs.Settling.{goes_on_in}
-use Rattle.farm_rounds.specs.Rounds.{HaveJobs, HaveTimeUntil, IsTimely, groups_from}
+use Rattle.farm_rounds.specs.Rounds.{HaveJobs, HaveRoom, HaveTimeUntil, IsTimely, groups_from}
 
 -- what is seen of a round: its first period and the first one after it, the open calls' numbers, what is kept of ended
 -- calls, the lines that failed before, the calls' jobs and where they are, and their seats
@@ -36,6 +36,7 @@ pub record IsRound (r : RoundMemory) : Type 0 where
   pub time : HaveTimeUntil r.ended r.jobs r.entries r.seats
   pub timely : All (IsTimely r.ended) r.jobs
   pub within : (k : ℕ) → k < length r.seats → r.start + (seat_at r.seats k).place.periods ≡ r.ended
+  pub room : HaveRoom r.seats
   pub last : r.ended ≤ 4294967295
   pub groups : AreGroups r.ended (groups_from r.jobs)
   pub alive : AreLive r.live (groups_from r.jobs)

@@ -15,7 +15,7 @@ ghost use Rattle.farm_rounds.specs.Calls.{call_in, partner_in};
 ghost use Rattle.farm_rounds.specs.Groups.{AreGroups};
 ghost use Rattle.farm_rounds.specs.Numbers.{IsRising, is_among};
 ghost use Rattle.farm_rounds.specs.Memory.{FarmMemory, new_farm, tally_in};
-ghost use Rattle.farm_rounds.specs.Acts.{IsOpen, Fits, Stays, Applied, calls_after, partners_after};
+ghost use Rattle.farm_rounds.specs.Acts.{IsOpen, IsOpening, Fits, Stays, Applied, calls_after, partners_after};
 ghost use Rattle.farm_rounds.specs.Histories.{CallHistory, GroupsStand, NoneDrains, histories_after, tallies_after, tally_of};
 
 use crate::call::{Call, Group};
@@ -79,6 +79,7 @@ impl Farm {
         ensures failed { self.new.failed ≡ self.old.failed }
         ensures ended { self.new.ended ≡ self.old.ended }
         ensures refused { IfErr result (λ e. self.new ≡ self.old) }
+        ensures memory { IfErr result (λ e. IsOpening act.now) }
 
         // For all periods that the calls may have had: each call goes on with its own, and of one that ends its counts are
         // kept.

@@ -9,7 +9,8 @@ ghost use Rattle.farm_rounds.specs.Calls.{call_in, partner_in};
 ghost use Rattle.farm_rounds.specs.Groups.{AreGroups, AreLive};
 ghost use Rattle.farm_rounds.specs.Numbers.{IsRising};
 ghost use Rattle.farm_rounds.specs.Histories.{CallHistory, GroupsStand};
-ghost use Rattle.farm_rounds.specs.Rounds.{groups_from, jobs_in, job_made, HaveEntries, BringCalls, AreSeats};
+ghost use Rattle.farm_rounds.specs.Rounds.{groups_from, jobs_in, job_made, IsShort, HaveEntries, BringCalls, AreSeats};
+ghost use Rattle.farm_rounds.specs.Finishing.{finished_jobs, seat_left};
 ghost use Rattle.farm_rounds.specs.RoundHistories.{seat_for, worked_histories, WorkedStand, AreWorked};
 
 use crate::entry::Entry;
@@ -117,6 +118,9 @@ impl Round {
         ensures kept { self.new ≡ record self.old { seats = self.new.seats } }
         ensures number { length self.new.seats ≡ length self.old.seats }
         ensures rising { Rising self.new.seats }
+
+        // A line that failed gave fewer octets than the round takes of it.
+        ensures short { (k : ℕ) → k < length self.new.seats → IsShort (seat_at self.new.seats k).place }
     {
         fill_seats(trunk, &mut self.seats);
     }
@@ -142,6 +146,11 @@ impl Round {
         ensures rising { Rising result.seats }
         ensures partners { (c : ℕ) → partner_in (groups_from result.jobs) c ≡ partner_in (groups_from self.jobs) c }
         ensures ends { result.ends ≡ filter_map (seat_end self.start) result.seats }
+
+        // Each job, with the octets of its calls' seats, is run to its end, and they are as it leaves them: the jobs have its
+        // calls and legs, in the same order, and each seat has its call's buffers.
+        ensures jobs { groups_from result.jobs ≡ groups_from (finished_jobs self) }
+        ensures buffers { result.seats ≡ map (seat_left (finished_jobs self)) self.seats }
 
         // For all periods that the calls may have had: each has had those of the round too, and its outgoing buffers
         // begin with their octets.

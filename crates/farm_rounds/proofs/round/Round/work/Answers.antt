@@ -4,6 +4,7 @@ use Rattle.farm_rounds.specs.Rounds.{jobs_in, HaveJobs, HaveTime, Works}
 use Rattle.farm_rounds.specs.Working.{RoundMemory, IsRound}
 use Rattle.farm_rounds.proofs.JobSeats.{worked_rising}
 use Rattle.farm_rounds.proofs.Works.{worked_round, worked_partner, worked_call, worked_octets}
+use Rattle.farm_rounds.proofs.Running.{worked_jobs, worked_buffers}
 use Rattle.farm_rounds.proofs.round.Round.work.Goals as goal
 
 pub work_jobs-jobs-requires-clause-entries : goal.work_jobs-jobs-requires-clause-entries
@@ -92,3 +93,19 @@ returns-clause-octets g c =
 
 pub returns-clause-ends : goal.returns-clause-ends
 returns-clause-ends g c = search rules
+
+pub returns-clause-jobs : goal.returns-clause-jobs
+returns-clause-jobs g c =
+    let i = c.self.inside in
+    let after = jobs_in c.work_jobs-jobs.result.0.items in
+    let worked = c.work_jobs-jobs.result.1.items in
+    let w : Works (jobs_in i.jobs.items) i.entries.items i.seats.items after worked = subst (λ (es : List Entry). Works (jobs_in i.jobs.items) es i.seats.items after worked) c.deref.ensures.value c.work_jobs-jobs.ensures in
+    worked_jobs c.args.self after worked (subst (λ (r : RoundMemory). IsRound r) c.self.view_is c.self.invariant.0) (subst (λ (r : RoundMemory). Works r.jobs r.entries r.seats after worked) c.self.view_is w)
+
+pub returns-clause-buffers : goal.returns-clause-buffers
+returns-clause-buffers g c =
+    let i = c.self.inside in
+    let after = jobs_in c.work_jobs-jobs.result.0.items in
+    let worked = c.work_jobs-jobs.result.1.items in
+    let w : Works (jobs_in i.jobs.items) i.entries.items i.seats.items after worked = subst (λ (es : List Entry). Works (jobs_in i.jobs.items) es i.seats.items after worked) c.deref.ensures.value c.work_jobs-jobs.ensures in
+    worked_buffers c.args.self after worked (subst (λ (r : RoundMemory). IsRound r) c.self.view_is c.self.invariant.0) (subst (λ (r : RoundMemory). Works r.jobs r.entries r.seats after worked) c.self.view_is w)
