@@ -1,12 +1,12 @@
 -- The clock of a run at its start, where it goes on with no call open, and at its end.
-use Rattle.std.proofs.Common.{◌≡◌, refl, sym, ap, ◌∙◌, subst, ℕ, ◌+◌, ◌-◌, ◌*◌, ◌<◌, ◌≤◌, Bool, true, false, not, ◌&&◌, Option, Some, None, List, [], ◌∷◌, ◌++◌, length, map, drop, inl, inr, arith}
+use Rattle.std.proofs.Common.{◌≡◌, refl, sym, ap, ◌∙◌, subst, ℕ, ◌+◌, ◌-◌, ◌*◌, ◌<◌, ◌≤◌, Bool, true, false, not, ◌&&◌, Option, Some, None, List, [], ◌∷◌, ◌++◌, length, map, drop, inl, inr, arith, append-nil}
 use Rattle.std.specs.Prelude.{min, ◌==◌, is_some, IfSome, Result, Ok, Err, IfOk}
 use Rattle.std.specs.Io.KnownBytes.{Appends}
 use Rattle.std.proofs.KnownBytes.{Appends-nil}
 use Rattle.std.proofs.lemmas.Bool.{eqb-true, true≢false}
 use Rattle.trau_io.specs.declared.line.Line.{Line}
 use Rattle.trau_io.specs.declared.line.Side.{Side}
-use Rattle.trau_io.specs.declared.line.Side.TheVariants.{Down, Out}
+use Rattle.trau_io.specs.declared.line.Side.TheVariants.{Up, Pcm, Down, Out}
 use Rattle.trau_io.specs.Lines.{LineState}
 use Rattle.trau_bits.specs.Bits.{octets_of}
 use Rattle.trau_bits.proofs.Octets.{length-octets_of}
@@ -31,7 +31,10 @@ use Rattle.farm_run.specs.Noted.{IsAtEnd, IsKnown}
 use Rattle.farm_output.specs.Lines.{out_line, down_octets}
 use Rattle.farm_output.proofs.Standing.{gone_later}
 use Rattle.farm_output.proofs.SoFar.{so_far_at_first, so_far_later}
-use Rattle.farm_run.specs.Runs.{IsOpened, TellsFailed, KeepsSides, NoneRose, IsRunOver, Leaves, Runs}
+use Rattle.farm_run.specs.Runs.{IsOpened, TellsFailed, KeepsSides, ReadsOn, NoneRose, IsRunOver, IsWritten, IsReadTo, is_listed, Leaves, Runs}
+use Rattle.farm_run.specs.Standing.{Standing, standing, KnowsListed, HasFlags, IsToCome, never_given}
+use Rattle.farm_run.proofs.Meeting.{told_first}
+use Rattle.farm_run.proofs.Being.{there_is}
 use Rattle.farm_run.specs.declared.pace.Pace.{Pace}
 use Rattle.farm_run.specs.Match.{AtClock, past_if, histories_at}
 use Rattle.farm_run.specs.Clock.{end_in, worked_to, IsReadWhole, LinesAt, IsAtClock, NeverFell}
@@ -62,12 +65,12 @@ no_octets c = by (octets_of []) (length-octets_of [] 0 refl)
     by [] e = refl
     by (x ∷ xs) e = absurd (omega arith)
 
-lines_at_first : (r : Run) (os : List Order) (periods : ℕ) (lines : ℕ → Side → LineState) → IsRunOver os periods lines r → LinesAt r 0 lines lines
-lines_at_first r os periods lines run = record {
+lines_at_first : (r : Run) (os : List Order) (periods : ℕ) (lines : ℕ → Side → LineState) (last : Standing) → IsRunOver os periods last.listed lines last.lines r → LinesAt r 0 last (is_listed []) lines lines
+lines_at_first r os periods lines last run = record {
   out = λ c i. subst (λ (k : ℕ). Appends (lines c Out).written (lines c Out).written (out_line c (periods_to r c k))) (sym (none_worked r c)) (Appends-nil (lines c Out).written);
   down = λ c i. subst (λ (k : ℕ). Appends (lines c Down).written (lines c Down).written (down_octets c (periods_to r c k))) (sym (none_worked r c)) (subst (Appends (lines c Down).written (lines c Down).written) (sym (no_octets c)) (Appends-nil (lines c Down).written));
-  up_read = λ c i q. (run.told c i).up_octets ∙ ap (λ (k : ℕ). Some (drop (40 * k) (r.lines c).up)) (sym (none_worked r c));
-  pcm_read = λ c i q. (run.told c i).pcm_octets ∙ ap (λ (k : ℕ). Some (drop (160 * k) (r.lines c).pcm)) (sym (none_worked r c));
+  up_read = λ c i q. told_first (last.listed c Up) (lines c Up) (last.lines c Up) (r.lines c).up (run.up c i) ∙ ap (λ (k : ℕ). Some (drop (40 * k) (r.lines c).up ++ never_given (last.listed c Up) (last.lines c Up))) (sym (none_worked r c));
+  pcm_read = λ c i q. told_first (last.listed c Pcm) (lines c Pcm) (last.lines c Pcm) (r.lines c).pcm (run.pcm c i) ∙ ap (λ (k : ℕ). Some (drop (160 * k) (r.lines c).pcm ++ never_given (last.listed c Pcm) (last.lines c Pcm))) (sym (none_worked r c));
   others = λ c s none. refl;
 }
 
@@ -86,9 +89,9 @@ clock_first b orders none untold shut alone = record {
     by (o ∷ os) = omega arith
 
 -- **A run begins with no call.**
-pub at_first : (r : Run) (b : State) (groups : List Group) (periods : ℕ) (lines : ℕ → Side → LineState) → AreOrders (orders_of b) → b.done ≡ [] → groups ≡ [] → GroupsStand (λ c. None) groups →
-    IsRunOver (orders_of b) periods lines r → IsAtClock r 0 b groups lines lines
-at_first r b groups periods lines a none empty g run =
+pub at_first : (r : Run) (b : State) (groups : List Group) (periods : ℕ) (lines : ℕ → Side → LineState) (last : Standing) → AreOrders (orders_of b) → b.done ≡ [] → GroupsStand (λ c. None) groups →
+    IsRunOver (orders_of b) periods last.listed lines last.lines r → IsAtClock r 0 b groups [] last lines lines
+at_first r b groups periods lines last a none g run =
     let left : b.left ≡ r.orders = sym (ap (λ (ds : List Done). map (λ (d : Done). d.order) ds ++ b.left) none) ∙ sym run.same_orders in
     record {
       follows = record {
@@ -96,9 +99,20 @@ at_first r b groups periods lines a none empty g run =
         tells = λ c o k. let q = sym (ap (λ (ds : List Done). is_some (opened_at c ds)) none) ∙ o in cc;
         stands = subst (λ (ds : List Done). GroupsStand (histories_at r ds 0) groups) (sym none) g;
       };
-      sound = record { calls = λ c x e. (let q : None ≡ Some x = sym (ap (λ (gs : List Group). call_in gs c) empty) ∙ e in cc) };
-      lines = lines_at_first r (orders_of b) periods lines run;
+      lines = lines_at_first r (orders_of b) periods lines last run;
     }
+
+-- **Before the first round no line is listed.**
+pub knows_first : (b : State) (groups : List Group) → groups ≡ [] → KnowsListed b groups []
+knows_first b groups empty = record {
+  opened = λ c s l. cc;
+  ended = λ c s i l. cc;
+  calls = λ c x e. (let q : None ≡ Some x = sym (ap (λ (gs : List Group). call_in gs c) empty) ∙ e in cc);
+}
+
+-- what is listed at the run's end is what the run says
+pub flags_of : (r : Run) (os : List Order) (periods : ℕ) (first : ℕ → Side → LineState) (last : Standing) → IsRunOver os periods last.listed first last.lines r → HasFlags r last
+flags_of r os periods first last run = record { up = run.up_failed; pcm = run.pcm_failed }
 
 -- ---- no call is open
 
@@ -116,7 +130,7 @@ clock_on t u b groups a l n = record {
     by None h = tt
     by (Some at) h = omega arith
 
-module _ (r : Run) (t u : ℕ) (b : State) (groups : List Group) (first now : ℕ → Side → LineState) (at : IsAtClock r t b groups first now) (l : t ≤ u) (w : u ≤ r.periods)
+module _ (r : Run) (t u : ℕ) (b : State) (groups : List Group) (failed : List Line) (last : Standing) (first now : ℕ → Side → LineState) (at : IsAtClock r t b groups failed last first now) (l : t ≤ u) (w : u ≤ r.periods)
     (n : IfSome (first_stamp b.left) (λ s. u ≤ s)) (shut : (c : ℕ) → is_open (gone_at (whole_in r) t b.done) b.done c ≡ false) where
   shut_then : (c : ℕ) → is_open (gone_at (whole_in r) u b.done) b.done c ≡ false
   shut_then c = let e : t + (u - t) ≡ u = omega arith in subst (λ (v : ℕ). is_open (gone_at (whole_in r) v b.done) b.done c ≡ false) e (shut_after r t (u - t) b.done c (shut c))
@@ -145,19 +159,18 @@ module _ (r : Run) (t u : ℕ) (b : State) (groups : List Group) (first now : �
   earlier c (inr q) = inr q
 
   -- **So do the board, the farm and the lines.**
-  pub goes_on : IsAtClock r u b groups first now
+  pub goes_on : IsAtClock r u b groups failed last first now
   goes_on = record {
     follows = record {
       so_far = so_far_later r t u b.done b.left at.follows.so_far l n;
       tells = tells_on;
       stands = λ c. subst (λ (x : Option CallHistory). CallStands c x (call_in groups c) (partner_in groups c)) (same_none c) (at.follows.stands c);
     };
-    sound = at.sound;
     lines = record {
-      out = λ c i. subst (λ (k : ℕ). Appends (first c Out).written (now c Out).written (out_line c (periods_to r c k))) (sym (idle c i)) (at.lines.out c i);
-      down = λ c i. subst (λ (k : ℕ). Appends (first c Down).written (now c Down).written (down_octets c (periods_to r c k))) (sym (idle c i)) (at.lines.down c i);
-      up_read = λ c i q. at.lines.up_read c i (earlier c q) ∙ ap (λ (k : ℕ). Some (drop (40 * k) (r.lines c).up)) (sym (idle c i));
-      pcm_read = λ c i q. at.lines.pcm_read c i (earlier c q) ∙ ap (λ (k : ℕ). Some (drop (160 * k) (r.lines c).pcm)) (sym (idle c i));
+      out = λ c i. subst (λ (k : ℕ). IsWritten (is_listed failed c Out) (first c Out) (now c Out) (out_line c (periods_to r c k))) (sym (idle c i)) (at.lines.out c i);
+      down = λ c i. subst (λ (k : ℕ). IsWritten (is_listed failed c Down) (first c Down) (now c Down) (down_octets c (periods_to r c k))) (sym (idle c i)) (at.lines.down c i);
+      up_read = λ c i q. at.lines.up_read c i (earlier c q) ∙ ap (λ (k : ℕ). Some (drop (40 * k) (r.lines c).up ++ never_given (last.listed c Up) (last.lines c Up))) (sym (idle c i));
+      pcm_read = λ c i q. at.lines.pcm_read c i (earlier c q) ∙ ap (λ (k : ℕ). Some (drop (160 * k) (r.lines c).pcm ++ never_given (last.listed c Pcm) (last.lines c Pcm))) (sym (idle c i));
       others = at.lines.others;
     };
   }
@@ -174,16 +187,21 @@ none_alive r t b groups a tells none c = sym (open_told (whole_in r) t b tells c
 
 -- ---- the end
 
+-- a line that didn't fail holds the rest of its octets
+rest_of : (fails : Bool) (now end : LineState) (k : ℕ) (line : List ℕ) → fails ≡ false → IsToCome now k line (never_given fails end) → IsReadTo now k line
+rest_of false now end k line e h = h ∙ ap Some (append-nil (drop k line))
+rest_of true now end k line e h = cc
+
 -- **At the run's end it has left on the lines what it gives.**
-pub leaves_all : (r : Run) (b : State) (groups : List Group) (first now : ℕ → Side → LineState) → IsAtClock r r.periods b groups first now → Leaves r first now
-leaves_all r b groups first now at =
+pub leaves_all : (r : Run) (b : State) (groups : List Group) (failed : List Line) (first now : ℕ → Side → LineState) → IsAtClock r r.periods b groups failed (standing b failed now) first now → Leaves r (is_listed failed) first now
+leaves_all r b groups failed first now at =
     let all : (c : ℕ) → worked_to r r.periods c ≡ end_in r c - start_of (done_in r) c = λ c. worked_all r r.periods b.done b.left c at.follows.so_far in
     let long : (c : ℕ) → worked_to r r.periods c ≡ length (periods_in r c) = λ c. all c ∙ sym (length-periods_to r c (end_in r c - start_of (done_in r) c)) in
     record {
-      out = λ c i. subst (λ (k : ℕ). Appends (first c Out).written (now c Out).written (out_line c (periods_to r c k))) (all c) (at.lines.out c i);
-      down = λ c i. subst (λ (k : ℕ). Appends (first c Down).written (now c Down).written (down_octets c (periods_to r c k))) (all c) (at.lines.down c i);
-      up_read = λ c i q. at.lines.up_read c i (inr q) ∙ ap (λ (k : ℕ). Some (drop (40 * k) (r.lines c).up)) (long c);
-      pcm_read = λ c i q. at.lines.pcm_read c i (inr q) ∙ ap (λ (k : ℕ). Some (drop (160 * k) (r.lines c).pcm)) (long c);
+      out = λ c i. subst (λ (k : ℕ). IsWritten (is_listed failed c Out) (first c Out) (now c Out) (out_line c (periods_to r c k))) (all c) (at.lines.out c i);
+      down = λ c i. subst (λ (k : ℕ). IsWritten (is_listed failed c Down) (first c Down) (now c Down) (down_octets c (periods_to r c k))) (all c) (at.lines.down c i);
+      up_read = λ c i f q. rest_of (is_listed failed c Up) (now c Up) (now c Up) (40 * worked_to r r.periods c) (r.lines c).up f (at.lines.up_read c i (inr q)) ∙ ap (λ (k : ℕ). Some (drop (40 * k) (r.lines c).up)) (long c);
+      pcm_read = λ c i f q. rest_of (is_listed failed c Pcm) (now c Pcm) (now c Pcm) (160 * worked_to r r.periods c) (r.lines c).pcm f (at.lines.pcm_read c i (inr q)) ∙ ap (λ (k : ℕ). Some (drop (160 * k) (r.lines c).pcm)) (long c);
       others = at.lines.others;
     }
 
@@ -194,18 +212,34 @@ none_listed first now (x ∷ lines) h n = absurd (n x.call x.side (h.rose x.call
 
 -- **So the report of a run at its end tells what the run gives.**
 pub run_told : {E : Type 0} (os : List Order) (pace : Pace) (first now : ℕ → Side → LineState) (b : State) (farm : FarmMemory) (journal : JournalMemory) (count : ℕ) (o : Result ReportView E) → orders_of b ≡ os →
-    TellsFailed first now farm.failed → KeepsSides first now →
-    ((r : Run) → IsRunOver os pace.periods first r → NoneRose first now → IsAtClock r r.periods b farm.groups first now) → ((r : Run) → IsRunOver os pace.periods first r → NoneRose first now → IsKnown r r.periods b farm.tallies journal) →
+    TellsFailed first now farm.failed → KeepsSides first now → ReadsOn first now →
+    ((r : Run) → IsRunOver os r.periods (is_listed farm.failed) first now r → pace.periods ≤ r.periods → IsAtClock r pace.periods b farm.groups farm.failed (standing b farm.failed now) first now) →
+    ((r : Run) → IsRunOver os r.periods (is_listed farm.failed) first now r → pace.periods ≤ r.periods → IsKnown r pace.periods b farm.tallies journal) →
     IfOk o (λ report. report.failed ≡ farm.failed) → count ≡ length os →
     IfOk o (λ report. (r : Run) (t : ℕ) → IsAtEnd r t b farm.groups farm.tallies journal → r.periods ≡ pace.periods → length r.orders ≡ count → report ≡ report_of r report.failed) → IfOk o (λ report. Runs os pace first now report)
-run_told os pace first now b farm journal count (Err e) kept tells sides goes known f number g = tt
-run_told os pace first now b farm journal count (Ok report) kept tells sides goes known f number g = record {
+run_told os pace first now b farm journal count (Err e) kept tells sides reads goes known f number g = tt
+run_told os pace first now b farm journal count (Ok report) kept tells sides reads goes known f number g = record {
   failed = subst (λ (ls : List Line). TellsFailed first now ls) (sym f) tells;
   sides = sides;
-  leaves = λ r run none. leaves_all r b farm.groups first now (goes r run none);
-  reports = λ r run none.
-      let at = goes r run none in
-      let knows = known r run none in
-      g r r.periods (record { follows = at.follows; none_left = at.follows.so_far.ahead; clock = λ c o. refl; truly = knows.truly; noted = knows.noted }) run.same_periods (ap length run.same_orders ∙ sym number)
-      ∙ ap (report_of r) (f ∙ none_listed first now farm.failed tells none);
+  reads = reads;
+  there = λ told. there_is os pace.periods (is_listed report.failed) first now (λ c s i. let octets = told c s i in let k = reads c s octets.0 i octets.1 in (octets.0, k.0, octets.1, k.1));
+  leaves = λ r run. subst (λ (ls : List Line). Leaves r (is_listed ls) first now) (sym f) (leaves_all r b farm.groups farm.failed first now (at r (over r run)));
+  reports = λ r run.
+      let is = over r run in
+      let here = at r is in
+      let knows = subst (λ (p : ℕ). IsKnown r p b farm.tallies journal) (sym run.same_periods) (known r (within r is) (least r run)) in
+      g r r.periods (record { follows = here.follows; none_left = here.follows.so_far.ahead; clock = λ c o. refl; truly = knows.truly; noted = knows.noted }) run.same_periods (ap length run.same_orders ∙ sym number);
 }
+  where
+    over : (r : Run) → IsRunOver os pace.periods (is_listed report.failed) first now r → IsRunOver os pace.periods (is_listed farm.failed) first now r
+    over r run = subst (λ (ls : List Line). IsRunOver os pace.periods (is_listed ls) first now r) f run
+
+    -- the run, to its own number of periods
+    within : (r : Run) → IsRunOver os pace.periods (is_listed farm.failed) first now r → IsRunOver os r.periods (is_listed farm.failed) first now r
+    within r run = subst (λ (p : ℕ). IsRunOver os p (is_listed farm.failed) first now r) (sym run.same_periods) run
+
+    least : (r : Run) → IsRunOver os pace.periods (is_listed report.failed) first now r → pace.periods ≤ r.periods
+    least r run = let e = run.same_periods in omega (arith, e)
+
+    at : (r : Run) → IsRunOver os pace.periods (is_listed farm.failed) first now r → IsAtClock r r.periods b farm.groups farm.failed (standing b farm.failed now) first now
+    at r run = let e = run.same_periods in subst (λ (p : ℕ). IsAtClock r p b farm.groups farm.failed (standing b farm.failed now) first now) (sym e) (goes r (within r run) (omega (arith, e)))

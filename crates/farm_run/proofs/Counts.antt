@@ -18,7 +18,7 @@ use Rattle.farm_rounds.specs.Numbers.{is_among}
 use Rattle.farm_rounds.specs.Memory.{FarmMemory}
 use Rattle.farm_rounds.specs.Working.{GainsFailed}
 use Rattle.farm_run.proofs.WorkedRound.{WorkedRound, among_place, seat_facts, drained_call, tells_seat, lines_kept, down_between, out_between, up_after, pcm_after}
-use Rattle.farm_run.specs.Runs.{NoneRose, TellsFailed}
+use Rattle.farm_run.specs.Runs.{TellsFailed}
 use Rattle.farm_run.specs.Clock.{NeverFell}
 
 -- **A count that rose since some time rose since any earlier one, and is no less than it was.**
@@ -27,12 +27,6 @@ rose_before first before now l r = omega arith
 
 pub rose_after : (first before now : ℕ) → before ≤ now → Rose first before → Rose first now
 rose_after first before now l r = omega arith
-
-pub still_none : (first before now : ℕ → Side → LineState) → NeverFell before now → NoneRose first now → NoneRose first before
-still_none first before now l n c s r = n c s (rose_after (first c s).faults (before c s).faults (now c s).faults (l c s) r)
-
-pub none_since : (first before now : ℕ → Side → LineState) → NeverFell first before → NoneRose first now → NoneRose before now
-none_since first before now l n c s r = n c s (rose_before (first c s).faults (before c s).faults (now c s).faults (l c s) r)
 
 pub fell_more : (first before now : ℕ → Side → LineState) → NeverFell first before → NeverFell before now → NeverFell first now
 fell_more first before now l m c s = let a = l c s in let b = m c s in omega arith
@@ -44,13 +38,13 @@ one_of y x zero l e = e
 one_of y x (suc k) l e = absurd (omega arith)
 
 -- the first element, or one behind it
-cons_cases : {X : Type 0} (y : X) (xs : List X) (x : X) → Contains (y ∷ xs) x → (y ≡ x) ⊎ Contains xs x
+pub cons_cases : {X : Type 0} (y : X) (xs : List X) (x : X) → Contains (y ∷ xs) x → (y ≡ x) ⊎ Contains xs x
 cons_cases y xs x h = elim (Contains-append_cases (y ∷ []) xs x h) [ inl a ↦ inl (one_of y x a.0 a.1 a.2) | inr b ↦ inr b ]
 
-none_in : {X : Type 0} (x : X) → Contains [] x → ⊥
+pub none_in : {X : Type 0} (x : X) → Contains [] x → ⊥
 none_in x h = let l = h.1 in absurd (omega arith)
 
-abbrev Name : Type 0
+abbrev pub Name : Type 0
 Name = ℕ × Side
 
 -- the lines of a call that failed are those sides whose mark says so
@@ -81,23 +75,23 @@ a_side Down = (2, omega arith, refl)
 a_side Out = (3, omega arith, refl)
 
 -- the lines of all seats' calls that failed
-abbrev names : List SeatMemory → List Name
+abbrev pub names : List SeatMemory → List Name
 names seats = flat_map (λ s. failed_in_round s.place) seats
 
-seat_listed : (seats : List SeatMemory) (k : ℕ) (s : Side) → k < length seats → fails_in (seat_at seats k).place s ≡ true → Contains (names seats) (call_at seats k, s)
+pub seat_listed : (seats : List SeatMemory) (k : ℕ) (s : Side) → k < length seats → fails_in (seat_at seats k).place s ≡ true → Contains (names seats) (call_at seats k, s)
 seat_listed [] k s l e = absurd (omega arith)
 seat_listed (x ∷ seats) zero s l e = Contains-append_left (failed_in_round x.place) (names seats) (x.place.call, s) (listed_side x.place sides s (a_side s) e)
 seat_listed (x ∷ seats) (suc k) s l e = Contains-append_right (failed_in_round x.place) (names seats) (call_at seats k, s) (seat_listed seats k s (omega arith) e)
 
 -- the seat that a name is listed by
-record Lists (seats : List SeatMemory) (y : Name) : Type 0 where
+pub record Lists (seats : List SeatMemory) (y : Name) : Type 0 where
   pub k : ℕ
   pub within : k < length seats
   pub side : Side
   pub name : y ≡ (call_at seats k, side)
   pub fails : fails_in (seat_at seats k).place side ≡ true
 
-listed_seat : (seats : List SeatMemory) (y : Name) → Contains (names seats) y → Lists seats y
+pub listed_seat : (seats : List SeatMemory) (y : Name) → Contains (names seats) y → Lists seats y
 listed_seat [] y h = absurd (none_in y h)
 listed_seat (x ∷ seats) y h = elim (Contains-append_cases (failed_in_round x.place) (names seats) y h) [
   | inl a ↦ let l = side_listed x.place sides y a in record { k = 0; within = omega arith; side = l.0; name = l.1; fails = l.2 }
@@ -107,12 +101,12 @@ listed_seat (x ∷ seats) y h = elim (Contains-append_cases (failed_in_round x.p
 -- ---- a round
 
 -- **The lines that are listed after a round are those from before and those that its seats' marks tell.**
-listed_before : (before now : List Line) (seats : List SeatMemory) (y : Name) → GainsFailed before now seats → Contains (map name_of before) y ⊎ Contains (names seats) y → Contains (map name_of now) y
+pub listed_before : (before now : List Line) (seats : List SeatMemory) (y : Name) → GainsFailed before now seats → Contains (map name_of before) y ⊎ Contains (names seats) y → Contains (map name_of now) y
 listed_before before now seats y g h =
     Contains-permutation (map name_of g.lines) (map name_of now) y (IsPermutation-map name_of g.lines now g.same)
     (subst (λ xs. Contains xs y) (sym g.told) (elim h [ inl a ↦ Contains-append_left (map name_of before) (names seats) y a | inr b ↦ Contains-append_right (map name_of before) (names seats) y b ]))
 
-listed_after : (before now : List Line) (seats : List SeatMemory) (y : Name) → GainsFailed before now seats → Contains (map name_of now) y → Contains (map name_of before) y ⊎ Contains (names seats) y
+pub listed_after : (before now : List Line) (seats : List SeatMemory) (y : Name) → GainsFailed before now seats → Contains (map name_of now) y → Contains (map name_of before) y ⊎ Contains (names seats) y
 listed_after before now seats y g h = Contains-append_cases (map name_of before) (names seats) y
     (subst (λ xs. Contains xs y) g.told (Contains-permutation (map name_of now) (map name_of g.lines) y (IsPermutation-map name_of now g.lines (IsPermutation-sym g.lines now g.same)) h))
 

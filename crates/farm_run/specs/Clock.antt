@@ -1,9 +1,9 @@
 -- What holds at the clock t of a run, over the lines that its calls were opened with and those that they have now (this
 -- project's profile).
-use Rattle.std.specs.Prelude.{◌≡◌, ◌⊎◌, ◌≤◌, ◌+◌, ◌-◌, ◌*◌, ℕ, min, true, false, Some, List}
+use Rattle.std.specs.Prelude.{◌≡◌, ◌⊎◌, ◌≤◌, ◌+◌, ◌-◌, ◌*◌, ℕ, Bool, min, true, false, List}
 use Rattle.std.specs.List.{AllByRecursion}
-use Rattle.std.specs.Io.KnownBytes.{Appends}
 use Rattle.trau_io.specs.declared.ends.CallEnd.{CallEnd}
+use Rattle.trau_io.specs.declared.line.Line.{Line}
 use Rattle.trau_io.specs.declared.line.Side.{Side}
 use Rattle.trau_io.specs.declared.line.Side.TheVariants.{Up, Pcm, Down, Out}
 use Rattle.trau_io.specs.Lines.{LineState}
@@ -14,17 +14,16 @@ use Rattle.call_leg.specs.Settings.{Settings}
 use Rattle.farm_output.specs.Run.{Run, given_in, done_in, periods_to}
 use Rattle.farm_output.specs.Now.{settings_now}
 use Rattle.farm_output.specs.Lines.{out_line, down_octets}
-use Rattle.farm_rounds.specs.declared.call.Call.{Call}
 use Rattle.farm_rounds.specs.declared.call.Group.{Group}
 use Rattle.farm_rounds.specs.declared.tally.Tally.{Tally}
-use Rattle.farm_rounds.specs.Calls.{call_in}
 use Rattle.farm_rounds.specs.Memory.{tally_in}
 use Rattle.farm_rounds.specs.Histories.{tally_of}
 use Rattle.farm_run.specs.Going.{places_in, ends_within, is_told, told_after}
 use Rattle.farm_run.specs.Journal.{JournalMemory, with_ends}
 use Rattle.farm_run.specs.Ending.{AreApart}
 use Rattle.farm_run.specs.Match.{Follows}
-use Rattle.farm_run.specs.Runs.{IsOpened, IsCutOff, IsReadTo, cause_in}
+use Rattle.farm_run.specs.Runs.{IsOpened, IsWritten, IsCutOff, cause_in, is_listed}
+use Rattle.farm_run.specs.Standing.{Standing, IsToCome, never_given}
 
 -- the first period that a call doesn't have
 abbrev pub end_in : Run → ℕ → ℕ
@@ -39,28 +38,25 @@ worked_to r t c = min t (end_in r c) - start_of (done_in r) c
 abbrev pub IsReadWhole : Run → ℕ → ℕ → Type 0
 IsReadWhole r t c = (t ≤ end_in r c) ⊎ IsCutOff (cause_in r c)
 
--- The outgoing lines of each call of the run have gained what its periods before the clock give, and its incoming lines
--- have given these periods' octets. The lines of all other calls are as they were.
-pub record LinesAt (r : Run) (t : ℕ) (before now : ℕ → Side → LineState) : Type 0 where
-  pub out : (c : ℕ) → IsOpened r c → Appends (before c Out).written (now c Out).written (out_line c (periods_to r c (worked_to r t c)))
-  pub down : (c : ℕ) → IsOpened r c → Appends (before c Down).written (now c Down).written (down_octets c (periods_to r c (worked_to r t c)))
-  pub up_read : (c : ℕ) → IsOpened r c → IsReadWhole r t c → IsReadTo (now c Up) (40 * worked_to r t c) (r.lines c).up
-  pub pcm_read : (c : ℕ) → IsOpened r c → IsReadWhole r t c → IsReadTo (now c Pcm) (160 * worked_to r t c) (r.lines c).pcm
+-- The outgoing lines of each call of the run have gained what its periods before the clock give, those that are listed a
+-- proper front of it, and its incoming lines have given these periods' octets: behind them are to come the run's octets that
+-- are left, and what the lines never give. The lines of all other calls are as they were. `last` is what is known at the
+-- run's end.
+pub record LinesAt (r : Run) (t : ℕ) (last : Standing) (listed : ℕ → Side → Bool) (before now : ℕ → Side → LineState) : Type 0 where
+  pub out : (c : ℕ) → IsOpened r c → IsWritten (listed c Out) (before c Out) (now c Out) (out_line c (periods_to r c (worked_to r t c)))
+  pub down : (c : ℕ) → IsOpened r c → IsWritten (listed c Down) (before c Down) (now c Down) (down_octets c (periods_to r c (worked_to r t c)))
+  pub up_read : (c : ℕ) → IsOpened r c → IsReadWhole r t c → IsToCome (now c Up) (40 * worked_to r t c) (r.lines c).up (never_given (last.listed c Up) (last.lines c Up))
+  pub pcm_read : (c : ℕ) → IsOpened r c → IsReadWhole r t c → IsToCome (now c Pcm) (160 * worked_to r t c) (r.lines c).pcm (never_given (last.listed c Pcm) (last.lines c Pcm))
   pub others : (c : ℕ) (s : Side) → (IsOpened r c → ⊥) → now c s ≡ before c s
 
 -- no count of a line's faults is below what it was
 abbrev pub NeverFell : (ℕ → Side → LineState) → (ℕ → Side → LineState) → Type 0
 NeverFell before now = (c : ℕ) (s : Side) → (before c s).faults ≤ (now c s).faults
 
--- no outgoing line of an open call is known to have failed
-pub record AreSound (groups : List Group) : Type 0 where
-  pub calls : (c : ℕ) (x : Call) → call_in groups c ≡ Some x → (x.down_failed ≡ false) × (x.out_failed ≡ false)
-
--- the board, the farm and the lines are those of the run at its clock
-pub record IsAtClock (r : Run) (t : ℕ) (b : State) (groups : List Group) (before now : ℕ → Side → LineState) : Type 0 where
+-- the board, the farm and the lines are those of the run at its clock; these lines are listed as failed
+pub record IsAtClock (r : Run) (t : ℕ) (b : State) (groups : List Group) (failed : List Line) (last : Standing) (before now : ℕ → Side → LineState) : Type 0 where
   pub follows : Follows r t b groups
-  pub sound : AreSound groups
-  pub lines : LinesAt r t before now
+  pub lines : LinesAt r t last (is_listed failed) before now
 
 -- Of the calls that their lines end within a round of n periods from t on the counts of all their periods are kept, with
 -- settings that are the run's but for level, mode and bridge; what is kept of all others is as it was.
@@ -80,8 +76,3 @@ pub record EndsRound (r : Run) (t n : ℕ) (was is : State) (old new : JournalMe
   pub apart : AreApart ends
   pub told : (c : ℕ) → is_told c ends ≡ ends_within r was.done t n c
   pub tallies : KeepsTallies r t n was.done before now
-
--- no read of a run's incoming lines fails
-pub record AreReadable (r : Run) : Type 0 where
-  pub up_sound : (c : ℕ) → (r.lines c).up_failed ≡ false
-  pub pcm_sound : (c : ℕ) → (r.lines c).pcm_failed ≡ false

@@ -1,7 +1,8 @@
 //! What the report needs to know of the past.
 
-ghost use Rattle.std.specs.Prelude.{◌≡◌, ◌<◌, IfOk};
+ghost use Rattle.std.specs.Prelude.{◌≡◌, ◌<◌, false, IfOk};
 ghost use Rattle.farm_rounds.specs.Calls.{IsNumber};
+ghost use Rattle.farm_run.specs.Going.{is_told};
 ghost use Rattle.farm_run.specs.Journal.{HaveNumbers, new_journal, settled, opening_of, with_opening, with_end, with_bridge};
 
 use crate::notes::{BridgeNote, Opening};
@@ -19,13 +20,14 @@ pub(crate) struct Journal {
 }
 
 impl Model for Journal {
+    ghost use Rattle.std.specs.Prelude.{◌≤◌, vec_capacity};
     ghost use Rattle.farm_run.specs.Journal.{JournalMemory, IsJournal};
 
     ghost Value = { JournalMemory };
 
     ghost view = { λ j. record { calls = j.calls.items; ends = j.ends.items; bridges = j.bridges.items } };
 
-    ghost invariant = { λ j. IsJournal j.calls.items j.ends.items j.bridges.items };
+    ghost invariant = { λ j. IsJournal j.calls.items j.ends.items j.bridges.items × (4097 ≤ vec_capacity j.ends) };
 }
 
 // Call numbers are below it.
@@ -37,13 +39,15 @@ const NOT_OPENED: Opening = Opening {
 };
 
 impl Journal {
-    /// The journal before the first order.
+    /// The journal before the first order, with room for the end of each call.
     pub(crate) fn new(alloc: Global) -> Result<Journal, AllocError>
         ensures { IfOk result (λ j. j ≡ new_journal) }
     {
+        let calls = vec![in alloc; NOT_OPENED; NUMBERS]?;
+        let ends = Vec::with_capacity(alloc, NUMBERS)?;
         Ok(Journal {
-            calls: vec![in alloc; NOT_OPENED; NUMBERS]?,
-            ends: Vec::new(alloc),
+            calls,
+            ends,
             bridges: Vec::new(alloc),
         })
     }
@@ -59,13 +63,13 @@ impl Journal {
         };
     }
 
-    /// A call ends.
-    pub(crate) fn end(&mut self, end: CallEnd) -> Result<(), AllocError>
-        requires { IsNumber end.call }
-        ensures { IfOk result (λ u. self.new ≡ with_end end self.old) }
+    /// A call ends, whose end isn't noted. It takes no memory.
+    pub(crate) fn end(&mut self, end: CallEnd)
+        requires number { IsNumber end.call }
+        requires new { is_told end.call self.old.ends ≡ false }
+        ensures { self.new ≡ with_end end self.old }
     {
-        self.ends.push(end)?;
-        Ok(())
+        self.ends.push_reserved(end);
     }
 
     /// A bridge of two calls begins.

@@ -184,7 +184,7 @@ module _ (good : GoodOrBad) (s : Settings) (before now : ℕ → Side → LineSt
       (IsErrOf reading Unread → Rose desk.read_faults read.read_faults) → ((IsErrOf reading Unread → ⊥) → read.read_faults ≡ desk.read_faults) →
       read.written ≡ desk.written → read.write_faults ≡ desk.write_faults → FollowsReading reading s before now read desk' status → RunCauses before now desk desk' status
   follows_causes (Ok orders) reads told unread calm written silent (inl ran) = reported orders (calm (λ e. cc)) silent told ran.report ran.runs ran.tells
-  follows_causes (Ok orders) reads told unread calm written silent (inr (sides, ends)) = lacks (calm (λ e. cc)) ends
+  follows_causes (Ok orders) reads told unread calm written silent (inr (sides, cut, ends)) = lacks (calm (λ e. cc)) ends
   follows_causes (Err Unread) reads told unread calm written silent (stay, ends) =
       unread_causes before now desk desk' status ends.status_is (subst (λ n. Rose desk.read_faults n) (sym ends.text_out.tells.read_faults) (unread refl)) stay
   follows_causes (Err TooLong) reads told unread calm written silent (stay, ends) =

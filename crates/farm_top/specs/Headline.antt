@@ -1,6 +1,5 @@
 -- What a run leaves on the outgoing lines of its calls, each call told as a whole (this project's profile).
-use Rattle.std.specs.Prelude.{◌≡◌, ◌≤◌, ◌<◌, ◌↔◌, ℕ, ◌+◌, ◌-◌, true, Some, None, List, [], length, map, slice_index, Contains}
-use Rattle.std.specs.Io.KnownBytes.{Appends}
+use Rattle.std.specs.Prelude.{◌≡◌, ◌≤◌, ◌<◌, ◌↔◌, ℕ, ◌+◌, ◌-◌, Bool, true, Some, None, List, [], length, map, slice_index, Contains}
 use Rattle.trau_bits.specs.Bits.{octets_of}
 use Rattle.trau_params.specs.Bits260.{bits260}
 use Rattle.trau_io.specs.declared.line.Side.{Side}
@@ -19,7 +18,7 @@ use Rattle.farm_output.specs.Run.{Run, spans_in, start_in, end_in, partner_in}
 use Rattle.farm_output.specs.Facts.{span_line, report_of}
 use Rattle.farm_calls.specs.Whole.{span_for, whole_call, IsBridged, item_for, yield_on, frame_on}
 use Rattle.farm_calls.specs.Sent.{sent_frame, place_in, CarriesHanded, Sends, IsFirst}
-use Rattle.farm_run.specs.Runs.{IsOpened}
+use Rattle.farm_run.specs.Runs.{IsOpened, IsWritten}
 
 -- A call is handed nothing but its partner's effective frames, as 260 bits, in the periods of their bridge, whose span is
 -- one of those that are reported.
@@ -48,9 +47,9 @@ pub record GoesOut (r : Run) : Type 0 where
 
 -- The octets written on a call's outgoing lines are the definition's octets of the call as a whole: of its own incoming
 -- lines and orders and, only between a bridge's reported start and end, of its partner's uplink; there each good speech
--- frame's 260 bits go out unchanged, in order and once.
-pub record Headline (r : Run) (before now : ℕ → Side → LineState) : Type 0 where
-  pub out_line : (c : ℕ) → IsOpened r c → Appends (before c Out).written (now c Out).written (out (whole_call r c))
-  pub down_line : (c : ℕ) → IsOpened r c → Appends (before c Down).written (now c Down).written (octets_of (down (whole_call r c)))
+-- frame's 260 bits go out unchanged, in order and once. A line that failed holds a proper front of its octets.
+pub record Headline (r : Run) (fails : ℕ → Side → Bool) (before now : ℕ → Side → LineState) : Type 0 where
+  pub out_line : (c : ℕ) → IsOpened r c → IsWritten (fails c Out) (before c Out) (now c Out) (out (whole_call r c))
+  pub down_line : (c : ℕ) → IsOpened r c → IsWritten (fails c Down) (before c Down) (now c Down) (octets_of (down (whole_call r c)))
   pub hands_over : HandsOver r
   pub goes_out : GoesOut r

@@ -1,0 +1,78 @@
+-- The lines that are listed as failed, as a test.
+use Rattle.std.proofs.Common.{◌≡◌, refl, sym, ap, ◌∙◌, ℕ, Bool, true, false, List, [], ◌∷◌, map, inl, inr, ◌⊎◌, arith}
+use Rattle.std.specs.Prelude.{◌==◌, ◌||◌}
+use Rattle.std.specs.List.{Contains}
+use Rattle.std.proofs.lemmas.Bool.{eq-eqb, eqb-true, true≢false}
+use Rattle.std.proofs.lemmas.List.Elements.{Contains-append_right}
+use Rattle.trau_io.specs.declared.line.Line.{Line}
+use Rattle.trau_io.specs.declared.line.Side.{Side}
+use Rattle.trau_io.specs.declared.line.Side.TheVariants.{Up, Pcm, Down, Out}
+use Rattle.trau_io.specs.Places.{place_of}
+use Rattle.round_lines.specs.Places.{name_of}
+use Rattle.trau_io.specs.Lines.{LineState}
+use Rattle.farm_run.specs.Runs.{is_listed, TellsFailed}
+use Rattle.farm_run.specs.Fronts.{AreFailures}
+use Rattle.farm_run.proofs.Counts.{cons_cases, none_in}
+
+-- ---- tests
+
+pub or_cases : (p q : Bool) → (p || q) ≡ true → (p ≡ true) ⊎ (q ≡ true)
+or_cases true q e = inl refl
+or_cases false q e = inr e
+
+pub or_first : (p q : Bool) → p ≡ true → (p || q) ≡ true
+or_first true q e = refl
+or_first false q e = cc
+
+pub or_second : (p q : Bool) → q ≡ true → (p || q) ≡ true
+or_second true q e = refl
+or_second false q e = e
+
+pub same_test : (p q : Bool) → (p ≡ true → q ≡ true) → (q ≡ true → p ≡ true) → p ≡ q
+same_test true q f g = sym (f refl)
+same_test false true f g = g refl
+same_test false false f g = refl
+
+pub is_false : (p : Bool) → (p ≡ true → ⊥) → p ≡ false
+is_false true h = absurd (h refl)
+is_false false h = refl
+
+-- ---- places of lines
+
+-- no two lines have one place
+one_line : (c d : ℕ) (s z : Side) → place_of d z ≡ place_of c s → (d ≡ c) × (z ≡ s)
+one_line c d Up Up e = (omega (arith, e), refl)
+one_line c d Up Pcm e = absurd (omega (arith, e))
+one_line c d Up Down e = absurd (omega (arith, e))
+one_line c d Up Out e = absurd (omega (arith, e))
+one_line c d Pcm Up e = absurd (omega (arith, e))
+one_line c d Pcm Pcm e = (omega (arith, e), refl)
+one_line c d Pcm Down e = absurd (omega (arith, e))
+one_line c d Pcm Out e = absurd (omega (arith, e))
+one_line c d Down Up e = absurd (omega (arith, e))
+one_line c d Down Pcm e = absurd (omega (arith, e))
+one_line c d Down Down e = (omega (arith, e), refl)
+one_line c d Down Out e = absurd (omega (arith, e))
+one_line c d Out Up e = absurd (omega (arith, e))
+one_line c d Out Pcm e = absurd (omega (arith, e))
+one_line c d Out Down e = absurd (omega (arith, e))
+one_line c d Out Out e = (omega (arith, e), refl)
+
+-- **A line is listed where its name is told.**
+pub listed_name : (lines : List Line) (c : ℕ) (s : Side) → is_listed lines c s ≡ true → Contains (map name_of lines) (c, s)
+listed_name [] c s e = cc
+listed_name (l ∷ lines) c s e = elim (or_cases (place_of l.call l.side == place_of c s) (is_listed lines c s) e) [
+  | inl q ↦ let p = one_line c l.call s l.side (eqb-true (place_of l.call l.side) (place_of c s) q) in (0, omega arith, ap (λ (d : ℕ). (d, l.side)) p.0 ∙ ap (λ (z : Side). (c, z)) p.1)
+  | inr q ↦ Contains-append_right (name_of l ∷ []) (map name_of lines) (c, s) (listed_name lines c s q)
+]
+
+pub name_listed : (lines : List Line) (c : ℕ) (s : Side) → Contains (map name_of lines) (c, s) → is_listed lines c s ≡ true
+name_listed [] c s h = absurd (none_in (c, s) h)
+name_listed (l ∷ lines) c s h = elim (cons_cases (name_of l) (map name_of lines) (c, s) h) [
+  | inl q ↦ or_first (place_of l.call l.side == place_of c s) (is_listed lines c s) (eq-eqb (place_of l.call l.side) (place_of c s) (ap (λ (y : ℕ × Side). place_of y.0 y.1) q))
+  | inr m ↦ or_second (place_of l.call l.side == place_of c s) (is_listed lines c s) (name_listed lines c s m)
+]
+
+-- **The counts of the listed lines rose, and no others.**
+pub failures_of : (before now : ℕ → Side → LineState) (lines : List Line) → TellsFailed before now lines → AreFailures (is_listed lines) before now
+failures_of before now lines h = record { rose = λ c s l. h.rose c s (listed_name lines c s l); kept = λ c s l. h.kept c s (λ k. true≢false (sym (name_listed lines c s k) ∙ l)) }
