@@ -35,6 +35,7 @@ use Rattle.farm_run.specs.Runs.{IsOpened, TellsFailed, KeepsSides, ReadsOn, None
 use Rattle.farm_run.specs.Standing.{Standing, standing, KnowsListed, HasFlags, IsToCome, never_given}
 use Rattle.farm_run.proofs.Meeting.{told_first}
 use Rattle.farm_run.proofs.Being.{there_is}
+use Rattle.farm_run.proofs.Listed.{listed_head}
 use Rattle.farm_run.specs.declared.pace.Pace.{Pace}
 use Rattle.farm_run.specs.Match.{AtClock, past_if, histories_at}
 use Rattle.farm_run.specs.Clock.{end_in, worked_to, IsReadWhole, LinesAt, IsAtClock, NeverFell}
@@ -50,7 +51,7 @@ pub fell_none : (lines : ℕ → Side → LineState) → NeverFell lines lines
 fell_none lines c s = omega arith
 
 pub tells_none : (lines : ℕ → Side → LineState) → TellsFailed lines lines []
-tells_none lines = record { rose = λ c s h. (let l = h.1 in absurd (omega arith)); kept = λ c s h. refl; order = λ i j d l m. absurd (omega arith) }
+tells_none lines = record { failures = record { rose = λ c s h. cc; kept = λ c s h. refl }; order = λ k l. absurd (omega arith) }
 
 none_worked : (r : Run) (c : ℕ) → worked_to r 0 c ≡ 0
 none_worked r c = by (end_in r c) (start_of (done_in r) c)
@@ -208,7 +209,7 @@ leaves_all r b groups failed first now at =
 -- **Where no count rose, no line is listed.**
 pub none_listed : (first now : ℕ → Side → LineState) (lines : List Line) → TellsFailed first now lines → NoneRose first now → lines ≡ []
 none_listed first now [] h n = refl
-none_listed first now (x ∷ lines) h n = absurd (n x.call x.side (h.rose x.call x.side (0, omega arith, refl)))
+none_listed first now (x ∷ lines) h n = absurd (n x.call x.side (h.failures.rose x.call x.side (listed_head x lines)))
 
 -- **So the report of a run at its end tells what the run gives.**
 pub run_told : {E : Type 0} (os : List Order) (pace : Pace) (first now : ℕ → Side → LineState) (b : State) (farm : FarmMemory) (journal : JournalMemory) (count : ℕ) (o : Result ReportView E) → orders_of b ≡ os →

@@ -11,14 +11,14 @@ use Rattle.switchboard.specs.Ends.{start_of}
 use Rattle.switchboard.specs.State.{State}
 use Rattle.farm_rounds.specs.declared.call.Group.{Group}
 use Rattle.farm_output.specs.Run.{Run, done_in}
-use Rattle.farm_run.specs.Runs.{TellsFailed, ReadsOn, IsRunOver, is_listed}
+use Rattle.farm_run.specs.Runs.{TellsFailed, KeepsSides, ReadsOn, IsRunOver, is_listed}
 use Rattle.farm_run.specs.Standing.{standing}
 use Rattle.farm_run.specs.Fronts.{LeavesFronts, IsCutShort}
 use Rattle.farm_run.specs.Clock.{end_in, worked_to, IsAtClock}
 use Rattle.farm_run.proofs.Being.{there_is}
 use Rattle.farm_run.proofs.Clocks.{tells_none}
+use Rattle.farm_run.proofs.Sides.{sides_none}
 use Rattle.farm_run.proofs.Gaining.{out_front, down_front}
-use Rattle.farm_run.proofs.Listed.{failures_of}
 
 pub on_err : {T E P : Type 0} (o : Result T E) → P → OnErr o P
 on_err (Ok x) p = tt
@@ -36,11 +36,12 @@ fronts_at r t b groups failed first now at = record {
     least e s = omega arith
 
 -- **A run that ends at a clock is cut short there.**
-pub cut_at : (os : List Order) (periods t : ℕ) (b : State) (groups : List Group) (failed : List Line) (first now : ℕ → Side → LineState) → TellsFailed first now failed → ReadsOn first now →
+pub cut_at : (os : List Order) (periods t : ℕ) (b : State) (groups : List Group) (failed : List Line) (first now : ℕ → Side → LineState) → TellsFailed first now failed → KeepsSides first now → ReadsOn first now →
     ((r : Run) → IsRunOver os r.periods (is_listed failed) first now r → periods ≤ r.periods → IsAtClock r t b groups failed (standing b failed now) first now) → IsCutShort os periods first now
-cut_at os periods t b groups failed first now tells reads goes = record {
+cut_at os periods t b groups failed first now tells sides reads goes = record {
   fails = is_listed failed;
-  told = failures_of first now failed tells;
+  told = tells.failures;
+  sides = sides;
   reads = reads;
   there = λ told. there_is os periods (is_listed failed) first now (λ c s i. let octets = told c s i in let k = reads c s octets.0 i octets.1 in (octets.0, k.0, octets.1, k.1));
   fronts = λ r run.
@@ -52,7 +53,8 @@ cut_at os periods t b groups failed first now tells reads goes = record {
 pub cut_first : (os : List Order) (periods : ℕ) (lines : ℕ → Side → LineState) → IsCutShort os periods lines lines
 cut_first os periods lines = record {
   fails = is_listed [];
-  told = failures_of lines lines [] (tells_none lines);
+  told = (tells_none lines).failures;
+  sides = sides_none lines;
   reads = λ c s octets i e. (0, e);
   there = λ told. there_is os periods (is_listed []) lines lines (λ c s i. let octets = told c s i in (octets.0, 0, octets.1, octets.1));
   fronts = λ r run. record { out = λ c i. (0, Appends-nil (lines c Out).written); down = λ c i. (0, Appends-nil (lines c Down).written); others = λ c s none. refl };

@@ -20,6 +20,7 @@ pub mod Boards
 pub mod FewEnds
 pub mod Cutting
 pub mod RoundListed
+pub mod ListedOnce
 pub mod RoundSeats
 pub mod Ending
 pub mod Reporting

@@ -1,18 +1,28 @@
 -- The lines that are listed as failed, as a test.
-use Rattle.std.proofs.Common.{◌≡◌, refl, sym, ap, ◌∙◌, ℕ, Bool, true, false, List, [], ◌∷◌, map, inl, inr, ◌⊎◌, arith}
+use Rattle.std.proofs.Common.{◌≡◌, refl, sym, ap, ◌∙◌, ℕ, zero, suc, ◌<◌, Bool, true, false, List, [], ◌∷◌, length, map, get_or, inl, inr, ◌⊎◌, arith}
 use Rattle.std.specs.Prelude.{◌==◌, ◌||◌}
 use Rattle.std.specs.List.{Contains}
 use Rattle.std.proofs.lemmas.Bool.{eq-eqb, eqb-true, true≢false}
-use Rattle.std.proofs.lemmas.List.Elements.{Contains-append_right}
+use Rattle.std.proofs.lemmas.List.Elements.{Contains-append_right, Contains-append_cases}
 use Rattle.trau_io.specs.declared.line.Line.{Line}
 use Rattle.trau_io.specs.declared.line.Side.{Side}
 use Rattle.trau_io.specs.declared.line.Side.TheVariants.{Up, Pcm, Down, Out}
 use Rattle.trau_io.specs.Places.{place_of}
 use Rattle.round_lines.specs.Places.{name_of}
-use Rattle.trau_io.specs.Lines.{LineState}
-use Rattle.farm_run.specs.Runs.{is_listed, TellsFailed}
-use Rattle.farm_run.specs.Fronts.{AreFailures}
-use Rattle.farm_run.proofs.Counts.{cons_cases, none_in}
+use Rattle.farm_run.specs.Runs.{is_listed}
+
+-- ---- members of lists
+
+one_of : {X : Type 0} (y x : X) (k : ℕ) → k < length (y ∷ []) → get_or (y ∷ []) k x ≡ x → y ≡ x
+one_of y x zero l e = e
+one_of y x (suc k) l e = absurd (omega arith)
+
+-- the first element, or one behind it
+pub cons_cases : {X : Type 0} (y : X) (xs : List X) (x : X) → Contains (y ∷ xs) x → (y ≡ x) ⊎ Contains xs x
+cons_cases y xs x h = elim (Contains-append_cases (y ∷ []) xs x h) [ inl a ↦ inl (one_of y x a.0 a.1 a.2) | inr b ↦ inr b ]
+
+pub none_in : {X : Type 0} (x : X) → Contains [] x → ⊥
+none_in x h = let l = h.1 in absurd (omega arith)
 
 -- ---- tests
 
@@ -40,7 +50,7 @@ is_false false h = refl
 -- ---- places of lines
 
 -- no two lines have one place
-one_line : (c d : ℕ) (s z : Side) → place_of d z ≡ place_of c s → (d ≡ c) × (z ≡ s)
+pub one_line : (c d : ℕ) (s z : Side) → place_of d z ≡ place_of c s → (d ≡ c) × (z ≡ s)
 one_line c d Up Up e = (omega (arith, e), refl)
 one_line c d Up Pcm e = absurd (omega (arith, e))
 one_line c d Up Down e = absurd (omega (arith, e))
@@ -73,6 +83,6 @@ name_listed (l ∷ lines) c s h = elim (cons_cases (name_of l) (map name_of line
   | inr m ↦ or_second (place_of l.call l.side == place_of c s) (is_listed lines c s) (name_listed lines c s m)
 ]
 
--- **The counts of the listed lines rose, and no others.**
-pub failures_of : (before now : ℕ → Side → LineState) (lines : List Line) → TellsFailed before now lines → AreFailures (is_listed lines) before now
-failures_of before now lines h = record { rose = λ c s l. h.rose c s (listed_name lines c s l); kept = λ c s l. h.kept c s (λ k. true≢false (sym (name_listed lines c s k) ∙ l)) }
+-- the first line of a list is listed
+pub listed_head : (l : Line) (lines : List Line) → is_listed (l ∷ lines) l.call l.side ≡ true
+listed_head l lines = or_first (place_of l.call l.side == place_of l.call l.side) (is_listed lines l.call l.side) (eq-eqb (place_of l.call l.side) (place_of l.call l.side) refl)

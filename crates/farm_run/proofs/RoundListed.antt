@@ -1,7 +1,8 @@
 -- What is known of the listed lines after a round, and how a run goes on in it, whatever fails.
-use Rattle.std.proofs.Common.{◌≡◌, refl, sym, ap, ◌∙◌, subst, ℕ, ◌*◌, ◌/◌, ◌<◌, Bool, true, false, not, ◌&&◌, Option, Some, None, List, length, drop, inl, inr, ◌⊎◌, arith}
+use Rattle.std.proofs.Common.{◌≡◌, refl, sym, ap, ◌∙◌, subst, ℕ, ◌*◌, ◌/◌, ◌<◌, Bool, true, false, not, ◌&&◌, Option, Some, None, List, length, map, drop, inl, inr, ◌⊎◌, arith}
 use Rattle.std.specs.Prelude.{min, ◌==◌, ◌||◌, is_some, slice_index}
 use Rattle.std.specs.List.{Contains}
+use Rattle.std.specs.List.Sorted.{IsStrictlyIncreasing}
 use Rattle.std.specs.Io.KnownBytes.{Consumes}
 use Rattle.std.proofs.lemmas.Bool.{cases_Bool, cases_lt, ne_eqb, and_parts, true≢false}
 use Rattle.std.proofs.Math.Seq.{drop-append_seam}
@@ -34,6 +35,7 @@ use Rattle.farm_run.specs.Runs.{is_listed, ReadsOn}
 use Rattle.farm_run.specs.Standing.{Standing, standing, is_over, GoesOn, KnowsListed, HasFlags, MeetsRun}
 use Rattle.farm_run.proofs.Told.{told_done}
 use Rattle.farm_run.proofs.Listed.{listed_name, name_listed, or_cases, or_first, or_second, same_test, is_false}
+use Rattle.farm_run.proofs.ListedOnce.{line_place, listed_once}
 use Rattle.farm_run.proofs.Boards.{not_over, over_shut, open_opened, over_told}
 use Rattle.farm_run.proofs.Counts.{Lists, names, seat_listed, listed_seat, listed_before, listed_after, seat_cases}
 use Rattle.farm_run.proofs.RoundClock as round_clock
@@ -80,6 +82,11 @@ stands_is false before now was stands octets q g = elim (cases_Bool (has_failed 
     calm Sound e = refl
     calm FailedBefore e = cc
     calm FailedNow e = cc
+
+-- one that had failed before is passed over
+passed_over : (b : Bool) (before now : LineState) (was stands : Outlet) (octets : List ℕ) → was ≡ outlet_before b → b ≡ true → Gives before now was stands octets → fails_now stands ≡ false
+passed_over true before now was stands octets q e g = ap fails_now ((g.passed (ap has_failed q)).1 ∙ q)
+passed_over false before now was stands octets q e g = cc
 
 fewer_up : (p : PlaceMemory) (n : ℕ) → p.up.count < 40 * n → places.whole_in p < n
 fewer_up p n l = by p.up.count p.pcm.count l
@@ -286,6 +293,27 @@ module _ (t n : ℕ) (b : State) (farm after : FarmMemory) (before now : ℕ →
       let s = seated k c l e in
       stands_is s.call.out_failed _ _ _ (seat_at w.drained k).place.out _ (worked_out _ _ _ _ _ _ _ _ s.facts.front) s.facts.drains.out
       ∙ ap (λ (x : Bool). x || fails_now (seat_at w.drained k).place.out) (knows.calls c s.call s.called).1 ∙ sym (listed_seated k c Out l e)
+
+  -- **A line that was listed doesn't fail in the round.**
+  fails_once : (k c : ℕ) (side : Side) → k < length farm.live → slice_index farm.live k ≡ c → is_listed farm.failed c side ≡ true → fails_in (seat_at w.drained k).place side ≡ false
+  fails_once k c Up l e q = absurd (true≢false (sym q ∙ not_listed k c Up l e tt))
+  fails_once k c Pcm l e q = absurd (true≢false (sym q ∙ not_listed k c Pcm l e tt))
+  fails_once k c Down l e q =
+      let s = seated k c l e in
+      passed_over s.call.down_failed _ _ _ (seat_at w.drained k).place.down _ (worked_down _ _ _ _ _ _ _ _ s.facts.front) ((knows.calls c s.call s.called).0 ∙ q) s.facts.drains.down
+  fails_once k c Out l e q =
+      let s = seated k c l e in
+      passed_over s.call.out_failed _ _ _ (seat_at w.drained k).place.out _ (worked_out _ _ _ _ _ _ _ _ s.facts.front) ((knows.calls c s.call s.called).1 ∙ q) s.facts.drains.out
+
+  -- **So each is listed once.**
+  pub order_after : IsStrictlyIncreasing (map line_place farm.failed) → IsStrictlyIncreasing (map line_place after.failed)
+  order_after = listed_once farm.failed after.failed w.drained w.gains rising none
+    where
+      none : (y : ℕ × Side) → Contains (map name_of farm.failed) y → Contains (names w.drained) y → ⊥
+      none y a b =
+          let m = listed_seat w.drained y b in
+          let p = marked y.0 y.1 m in
+          true≢false (sym p.2 ∙ fails_once m.k y.0 y.1 p.0 p.1 (name_listed farm.failed y.0 y.1 a))
 
   -- ---- behind the round
 

@@ -24,11 +24,11 @@ use Rattle.farm_run.specs.Runs.{IsRunOver, IsWritten, Leaves, NoneRose, Runs, Te
 use Rattle.farm_run.specs.Fronts.{HasFront, IsCutShort}
 use Rattle.farm_run.proofs.Clocks.{none_listed}
 use Rattle.farm_run.proofs.Cutting.{cut_first}
-use Rattle.farm_run.proofs.Listed.{failures_of}
 use Rattle.farm_tools.specs.Causes.{IsCalm}
 use Rattle.farm_words.specs.declared.asked.Settings.{Settings}
 use Rattle.farm_top.specs.Farm.{AllStay, CarriesRun, FollowsReading, RunsAndTells, TellsReport, pace_of, status_of_run}
-use Rattle.farm_top.specs.FarmClean.{CleanFarm, IsCalmRun, RunEnded, RunTold, TellsOrders}
+use Rattle.farm_top.specs.FarmClean.{CleanFarm, IsCalmRun, TellsOrders}
+use Rattle.farm_top.specs.FarmEnded.{GainsFront, RunEnded}
 use Rattle.farm_top.specs.Headline.{Headline}
 use Rattle.farm_top.proofs.FarmCausing.{first_rose, not_long}
 
@@ -48,6 +48,11 @@ not_rose before now calm rose = omega (arith, calm.0, calm.1, rose)
 none_left : (text given : List ℕ) (now : Option (List ℕ)) → Consumes (Some text) now given → IsAtEnd now → now ≡ Some []
 none_left text given None consumed end = absurd consumed
 none_left text given (Some rest) consumed end = ap Some end
+
+-- the status of a run isn't that of a failed desk
+not_four : (lines : List TheLine) → 4 ≡ status_of_run lines → ⊥
+not_four [] e = absurd (omega (arith, e))
+not_four (line ∷ lines) e = absurd (omega (arith, e))
 
 -- a run of which no line rose lists none
 done_of : (before now : ℕ → Side → LineState) → NoneRose before now → (lines : List TheLine) → TellsFailed before now lines → status_of_run lines ≡ 0
@@ -77,7 +82,7 @@ module _ (s : Settings) (before now : ℕ → Side → LineState) (desk read des
       let all_read : read.to_come ≡ Some [] = none_left told.text reads.given read.to_come (subst (λ (o : Option (List ℕ)). Consumes o read.to_come reads.given) told.told reads.consumed) reads.answer.0 in
       let same : taken ≡ orders = one (text_lines told.text) taken orders answers.1 told.spelled in
       reported written silent all_read ran.report (subst (λ (os : List Order). Runs os (pace_of s) before now ran.report) same ran.runs) ran.tells
-  followed good one told (Ok taken) reads answers unread written silent (inr (sides, cut, ends)) = inl ends.status_is
+  followed good one told (Ok taken) reads answers unread written silent (inr (cut, ends)) = inl ends.status_is
   followed good one told (Err Unread) reads answers unread written silent (stay, ends) =
       absurd (not_rose desk.read_faults desk'.read_faults calm.reading (subst (λ (n : ℕ). Rose desk.read_faults n) (sym ends.text_out.tells.read_faults) (unread refl)))
   followed good one told (Err TooLong) reads answers unread written silent (stay, ends) = absurd (not_long told.text told.within answers)
@@ -103,7 +108,7 @@ module _ (one : SpellsOneList) (s : Settings) (before now : ℕ → Side → Lin
     all_read = none_left told.text reads.given read.to_come (subst (λ (o : Option (List ℕ)). Consumes o read.to_come reads.given) told.told reads.consumed) reads.answer.0;
     told = subst (λ (os : List Order). RunsAndTells os (pace_of s) before now read desk' status) (one (text_lines told.text) taken orders answers.1 told.spelled) ran;
   }
-  ran_by read (Ok taken) reads answers written (inr (sides, cut, ends)) = let is = ends.status_is in absurd (omega (arith, due, is))
+  ran_by read (Ok taken) reads answers written (inr (cut, ends)) = let is = ends.status_is in absurd (omega (arith, due, is))
   ran_by read (Err Unread) reads answers written (stay, ends) = let is = ends.status_is in absurd (omega (arith, due, is))
   ran_by read (Err TooLong) reads answers written (stay, ends) = let is = ends.status_is in absurd (omega (arith, due, is))
   ran_by read (Err (Line n)) reads answers written (stay, inl ends) = let is = ends.status_is in absurd (omega (arith, due, is))
@@ -115,16 +120,47 @@ module _ (one : SpellsOneList) (s : Settings) (before now : ℕ → Side → Lin
   ran_to_end (inl ran) = ran_by ran.read ran.reading ran.reads (ran.told told.text told.told) ran.written ran.follows
   ran_to_end (inr (stay, ends)) = let is = ends.status_is in absurd (omega (arith, due, is))
 
-  -- **So the lines have what the run gives.**
-  pub run_ended : CarriesRun s before now desk desk' status → RunEnded orders s.periods before now
+  -- the report's text went out, or, with status 4, a proper front of it
+  whole_out : (report : ReportView) (read : DeskState) → status ≢ 4 → TellsReport report read desk' status → Appends read.written desk'.written (report_text report)
+  whole_out report read not (inl (is, tells)) = tells.ok
+  whole_out report read not (inr (inl (is, tells))) = absurd (not is)
+  whole_out report read not (inr (inr ends)) = let is = ends.status_is in absurd (omega (arith, due, is))
+
+  front_out : (report : ReportView) (read : DeskState) → status ≡ 4 → TellsReport report read desk' status → GainsFront read.written desk'.written (report_text report)
+  front_out report read four (inl (is, tells)) = absurd (not_four report.failed (sym four ∙ is))
+  front_out report read four (inr (inl (is, tells))) = tells.err
+  front_out report read four (inr (inr ends)) = let is = ends.status_is in absurd (omega (arith, due, is))
+
+  status_of : (report : ReportView) (read : DeskState) → TellsReport report read desk' status → (status ≡ 4) ⊎ (status ≡ status_of_run report.failed)
+  status_of report read (inl (is, tells)) = inr is
+  status_of report read (inr (inl (is, tells))) = inl is
+  status_of report read (inr (inr ends)) = let is = ends.status_is in absurd (omega (arith, due, is))
+
+  read_whole : (report : ReportView) (read : DeskState) → TellsReport report read desk' status → desk'.to_come ≡ read.to_come
+  read_whole report read (inl (is, tells)) = tells.to_come
+  read_whole report read (inr (inl (is, tells))) = tells.to_come
+  read_whole report read (inr (inr ends)) = ends.text_out.tells.to_come
+
+  -- **So lines and report are those of the run.**
+  pub run_ended : CarriesRun s before now desk desk' status → RunEnded orders s.periods before now desk desk' status
   run_ended carried =
-      let ran = (ran_to_end carried).told in
+      let ran = ran_to_end carried in
+      let report = ran.told.report in
+      let runs = ran.told.runs in
       record {
-        fails = is_listed ran.report.failed;
-        told = failures_of before now ran.report.failed ran.runs.failed;
-        there = ran.runs.there;
-        leaves = ran.runs.leaves;
-        headline = ran.headline;
+        failed = report.failed;
+        told = runs.failed;
+        status_is = status_of report ran.read ran.told.tells;
+        sides = runs.sides;
+        reads = runs.reads;
+        leaves = runs.leaves;
+        headline = ran.told.headline;
+        text = λ not r over. subst (λ (x : ReportView). Appends desk.written desk'.written (report_text x)) (runs.reports r over)
+            (subst (λ (w : Option (List ℕ)). Appends w desk'.written (report_text report)) ran.written (whole_out report ran.read not ran.told.tells));
+        front = λ four r over. subst (λ (x : ReportView). GainsFront desk.written desk'.written (report_text x)) (runs.reports r over)
+            (subst (λ (w : Option (List ℕ)). GainsFront w desk'.written (report_text report)) ran.written (front_out report ran.read four ran.told.tells));
+        all_read = read_whole report ran.read ran.told.tells ∙ ran.all_read;
+        there = runs.there;
       }
 
   -- where no count rose no line is listed
@@ -141,28 +177,6 @@ module _ (one : SpellsOneList) (s : Settings) (before now : ℕ → Side → Lin
       let e = unlisted none carried in
       subst (λ (ls : List TheLine). Headline r (is_listed ls) before now) e ((ran_to_end carried).told.headline r (subst (λ (ls : List TheLine). IsRunOver orders s.periods (is_listed ls) before now r) (sym e) over))
 
-  -- **And after 0 and 6 the report was told.**
-  pub run_told : (status ≡ 0) ⊎ (status ≡ 6) → CarriesRun s before now desk desk' status → RunTold orders s.periods before now desk desk'
-  run_told well carried = by (ran_to_end carried)
-    where
-      out : (report : ReportView) (read : DeskState) → TellsReport report read desk' status → Tells read desk' (Ok tt) (report_text report)
-      out report read (inl (is, tells)) = tells
-      out report read (inr (inl (is, tells))) = absurd (omega (arith, well, is))
-      out report read (inr (inr ends)) = let is = ends.status_is in absurd (omega (arith, well, is))
-
-      by : Ran orders (pace_of s) before now desk desk' status → RunTold orders s.periods before now desk desk'
-      by ran =
-          let report = ran.told.report in
-          let tells = out report ran.read ran.told.tells in
-          record {
-            failed = report.failed;
-            told = failures_of before now report.failed ran.told.runs.failed;
-            there = ran.told.runs.there;
-            text = λ r over. subst (λ (x : ReportView). Appends desk.written desk'.written (report_text x)) (ran.told.runs.reports r over)
-                (subst (λ (w : Option (List ℕ)). Appends w desk'.written (report_text report)) ran.written tells.ok);
-            all_read = tells.to_come ∙ ran.all_read;
-          }
-
 -- ---- where there was no memory
 
 -- what a line holds is a front of it
@@ -173,7 +187,8 @@ front_whole true first now octets w = (w.0, w.2)
 cut_whole : (orders : List Order) (pace : Pace) (before now : ℕ → Side → LineState) (report : ReportView) → Runs orders pace before now report → IsCutShort orders pace.periods before now
 cut_whole orders pace before now report runs = record {
   fails = is_listed report.failed;
-  told = failures_of before now report.failed runs.failed;
+  told = runs.failed.failures;
+  sides = runs.sides;
   reads = runs.reads;
   there = runs.there;
   fronts = λ r over.
@@ -196,7 +211,7 @@ module _ (one : SpellsOneList) (s : Settings) (before now : ℕ → Side → Lin
   cut_by : (read : DeskState) (reading : Result (List Order) OrdersFault) → AnswersTold told.text reading → FollowsReading reading s before now read desk' status → IsCutShort orders s.periods before now
   cut_by read (Ok taken) answers (inl ran) =
       subst (λ (os : List Order). IsCutShort os s.periods before now) (one (text_lines told.text) taken orders answers.1 told.spelled) (cut_whole taken (pace_of s) before now ran.report ran.runs)
-  cut_by read (Ok taken) answers (inr (sides, cut, ends)) = subst (λ (os : List Order). IsCutShort os s.periods before now) (one (text_lines told.text) taken orders answers.1 told.spelled) cut
+  cut_by read (Ok taken) answers (inr (cut, ends)) = subst (λ (os : List Order). IsCutShort os s.periods before now) (one (text_lines told.text) taken orders answers.1 told.spelled) cut
   cut_by read (Err Unread) answers (stay, ends) = cut_none orders s.periods before now stay
   cut_by read (Err TooLong) answers (stay, ends) = cut_none orders s.periods before now stay
   cut_by read (Err (Line n)) answers (stay, ends) = cut_none orders s.periods before now stay

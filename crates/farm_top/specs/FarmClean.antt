@@ -1,7 +1,6 @@
--- What the command `run` leaves where the outside tells what it holds, and where nothing fails (this project's profile).
-use Rattle.std.specs.Prelude.{◌≡◌, ℕ, Bool, false, List, [], Some}
+-- What the command `run` leaves where the outside tells what it holds and nothing fails (this project's profile).
+use Rattle.std.specs.Prelude.{◌≡◌, ℕ, false, List, [], Some}
 use Rattle.std.specs.Io.KnownBytes.{Appends}
-use Rattle.trau_io.specs.declared.line.Line.{Line}
 use Rattle.trau_io.specs.declared.line.Side.{Side}
 use Rattle.trau_io.specs.Lines.{LineState}
 use Rattle.trau_io.specs.Desks.{DeskState}
@@ -10,10 +9,8 @@ use Rattle.trau_orders.specs.Text.{text_lines, AreLines, IsWithin}
 use Rattle.farm_output.specs.Run.{Run}
 use Rattle.farm_output.specs.Facts.{report_of}
 use Rattle.farm_report.specs.Lines.{report_text}
-use Rattle.farm_run.specs.Runs.{NoneRose, AreTold, IsRunOver, Leaves, is_listed}
-use Rattle.farm_run.specs.Fronts.{AreFailures}
+use Rattle.farm_run.specs.Runs.{NoneRose, Leaves}
 use Rattle.farm_tools.specs.Causes.{IsCalm}
-use Rattle.farm_top.specs.Headline.{Headline}
 
 -- the desk tells a text within the limits, whose lines are those of these orders
 pub record TellsOrders (orders : List Order) (desk : DeskState) : Type 0 where
@@ -34,22 +31,4 @@ pub record CleanFarm (r : Run) (before now : ℕ → Side → LineState) (desk d
   pub done : status ≡ 0
   pub leaves : Leaves r (λ c s. false) before now
   pub text : Appends desk.written desk'.written (report_text (report_of r []))
-  pub all_read : desk'.to_come ≡ Some []
-
--- A run of these orders that was carried to its end: the counts of the lines that failed rose, and no others, and the lines
--- have what the run over what they gave gives. There is such a run where the lines tell what they hold.
-pub record RunEnded (orders : List Order) (periods : ℕ) (before now : ℕ → Side → LineState) : Type 0 where
-  pub fails : ℕ → Side → Bool
-  pub told : AreFailures fails before now
-  pub there : AreTold before → (r : Run) × IsRunOver orders periods fails before now r
-  pub leaves : (r : Run) → IsRunOver orders periods fails before now r → Leaves r fails before now
-  pub headline : (r : Run) → IsRunOver orders periods fails before now r → Headline r fails before now
-
--- A run whose report was told: the desk gained exactly the text of the run's report, with the lines that failed, and the
--- orders were read to their end.
-pub record RunTold (orders : List Order) (periods : ℕ) (before now : ℕ → Side → LineState) (desk desk' : DeskState) : Type 0 where
-  pub failed : List Line
-  pub told : AreFailures (is_listed failed) before now
-  pub there : AreTold before → (r : Run) × IsRunOver orders periods (is_listed failed) before now r
-  pub text : (r : Run) → IsRunOver orders periods (is_listed failed) before now r → Appends desk.written desk'.written (report_text (report_of r failed))
   pub all_read : desk'.to_come ≡ Some []

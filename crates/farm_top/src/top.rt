@@ -14,7 +14,8 @@ ghost use Rattle.farm_words.specs.declared.asked.Settings.{Settings};
 ghost use Rattle.farm_top.specs.Farm.{AllStay, CarriesRun, LacksMemory, TextOut};
 ghost use Rattle.farm_top.specs.FarmCauses.{RunCauses};
 ghost use Rattle.farm_top.specs.Headline.{Headline};
-ghost use Rattle.farm_top.specs.FarmClean.{CleanFarm, IsCalmRun, RunEnded, RunTold, TellsOrders};
+ghost use Rattle.farm_top.specs.FarmClean.{CleanFarm, IsCalmRun, TellsOrders};
+ghost use Rattle.farm_top.specs.FarmEnded.{RunEnded};
 ghost use Rattle.farm_top.specs.Top.{Answers, Carries, CarriesAsked, CarriesFrames, IsInRange};
 ghost use Rattle.farm_top.specs.Words.{AreCommand, AsksFor, AsksForFrames, AsksForRun, BeginWithRun, spelled};
 
@@ -188,15 +189,14 @@ pub fn farm_top<R: Threads + Wait + Sync, T: Trunk, D: Desk, G: Gate + Sync>(
         CleanFarm r (T.lines trunk.old) (T.lines trunk.new) (D.desk desk.old) (D.desk desk.new) result }
 
     // Whatever the desk does and whichever lines fail, a run that was carried to its end leaves on the lines what the run of
-    // these orders over what the lines gave gives, and has the headline. Its report tells the lines that failed.
+    // these orders over what the lines gave gives, and has the headline. The desk gained the report's text with the lines that
+    // failed, or a proper front of it.
     ensures run_ended { (s : Settings) → AsksForRun (spelled words.now) s →
         (orders : List Order) → TellsOrders orders (D.desk desk.old) → (result ≡ 0) ⊎ (result ≡ 4) ⊎ (result ≡ 6) →
-        RunEnded orders s.periods (T.lines trunk.old) (T.lines trunk.new) }
-    ensures run_told { (s : Settings) → AsksForRun (spelled words.now) s →
-        (orders : List Order) → TellsOrders orders (D.desk desk.old) → (result ≡ 0) ⊎ (result ≡ 6) →
-        RunTold orders s.periods (T.lines trunk.old) (T.lines trunk.new) (D.desk desk.old) (D.desk desk.new) }
+        RunEnded orders s.periods (T.lines trunk.old) (T.lines trunk.new) (D.desk desk.old) (D.desk desk.new) result }
 
-    // Where there was no memory, each outgoing line holds a front of what the run gives.
+    // Where there was no memory, each outgoing line holds a front of what the run gives, and the lines of calls that it doesn't
+    // open are as they were.
     ensures run_cut_short { (s : Settings) → AsksForRun (spelled words.now) s →
         (orders : List Order) → TellsOrders orders (D.desk desk.old) → result ≡ 5 →
         IsCutShort orders s.periods (T.lines trunk.old) (T.lines trunk.new) }

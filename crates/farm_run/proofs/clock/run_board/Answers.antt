@@ -17,7 +17,7 @@ pub returns-clause-cut : goal.returns-clause-cut
 returns-clause-cut g c =
     let first : ℕ → Side → LineState = g.T.Trunk.lines c.args.trunk.now in
     let e = c.in_ok-farm.ensures in
-    on_err c.finish.result (cut_at (orders_of c.args.board.now) c.args.pace.now.periods c.args.pace.now.periods c.work_all.new.board c.in_ok-farm.farm.groups c.in_ok-farm.farm.failed first (g.T.Trunk.lines c.work_all.new.trunk) e.failed e.reads e.run)
+    on_err c.finish.result (cut_at (orders_of c.args.board.now) c.args.pace.now.periods c.args.pace.now.periods c.work_all.new.board c.in_ok-farm.farm.groups c.in_ok-farm.farm.failed first (g.T.Trunk.lines c.work_all.new.trunk) e.failed e.sides e.reads e.run)
 
 pub returns-in_err-journal-clause-cut : goal.returns-in_err-journal-clause-cut
 returns-in_err-journal-clause-cut g c = on_err _ (cut_first (orders_of c.args.board.now) c.args.pace.now.periods (g.T.Trunk.lines c.args.trunk.now))

@@ -241,7 +241,7 @@ returns-in_err-execute_orders g c =
       reads = IfOk-from_err _ _ no;
       run = IfOk-from_err _ _ no;
       known = IfOk-from_err _ _ no;
-      cut = on_err _ (cut_at (orders_of c.args.board.now) c.args.pace.now.periods c.loop-clock.clock c.loop-clock.board c.loop-clock.farm.groups c.loop-clock.farm.failed (g.T.Trunk.lines c.args.trunk.now) now inv.failed inv.reads
+      cut = on_err _ (cut_at (orders_of c.args.board.now) c.args.pace.now.periods c.loop-clock.clock c.loop-clock.board c.loop-clock.farm.groups c.loop-clock.farm.failed (g.T.Trunk.lines c.args.trunk.now) now inv.failed inv.sides inv.reads
           (λ r run least. inv.run r (standing c.loop-clock.board c.loop-clock.farm.failed now) run least (stays _)));
     }
 
@@ -262,7 +262,7 @@ returns-in_err-farm-2 g c =
       run = IfOk-from_err _ _ no;
       known = IfOk-from_err _ _ no;
       cut = on_err _ (subst (IsCutShort (orders_of c.args.board.now) c.args.pace.now.periods first) (sym same)
-          (cut_at (orders_of c.args.board.now) c.args.pace.now.periods c.loop-clock.clock c.loop-clock.board c.loop-clock.farm.groups c.loop-clock.farm.failed first now inv.failed inv.reads
+          (cut_at (orders_of c.args.board.now) c.args.pace.now.periods c.loop-clock.clock c.loop-clock.board c.loop-clock.farm.groups c.loop-clock.farm.failed first now inv.failed inv.sides inv.reads
           (λ r run least. inv.run r (standing c.loop-clock.board c.loop-clock.farm.failed now) run least (stays _))));
     }
 

@@ -11,7 +11,7 @@ use Rattle.farm_run.specs.Journal.{JournalMemory}
 use Rattle.farm_run.proofs.Cutting.{on_err}
 use Rattle.farm_run.proofs.FewEnds.{new_ends, shut_more}
 use Rattle.farm_run.specs.Standing.{Standing, standing, GoesOn, HasFlags, MeetsRun}
-use Rattle.farm_run.proofs.RoundListed.{knows_after, goes_after, meets_run}
+use Rattle.farm_run.proofs.RoundListed.{order_after, knows_after, goes_after, meets_run}
 use Rattle.farm_run.proofs.Told.{told_done, told_orders}
 use Rattle.farm_run.proofs.Making.{IsMade, made_octets, made_open, made_partners, made_stands, made_tallies}
 use Rattle.farm_run.proofs.WorkedRound as parts
@@ -133,7 +133,9 @@ pub returns-clause-later : goal.returns-clause-later
 returns-clause-later g c = fell_round _ _ _ _ _ _ _ (round g c)
 
 pub returns-clause-failed : goal.returns-clause-failed
-returns-clause-failed g c = tells_round _ _ _ _ _ _ _ (round g c)
+returns-clause-failed g c = λ first later failed.
+    let told = c.tell_ends.ensures in
+    tells_round _ _ _ _ _ _ _ (round g c) first later failed (order_after _ _ c.args.board.now _ _ _ _ _ (round g c) c.requires.clock c.requires.knows c.tell_ends.new.board told.told told.open failed.order)
 
 pub returns-clause-sides : goal.returns-clause-sides
 returns-clause-sides g c =

@@ -4,7 +4,7 @@ use Rattle.farm_top.proofs.Asking.{is_command, no_command, no_listing, no_tool, 
 use Rattle.farm_top.proofs.Carrying.{causes, clean, listing_causes, listing_clean}
 use Rattle.farm_top.proofs.FarmCausing.{run_causes}
 use Rattle.farm_run.proofs.Cutting.{cut_first}
-use Rattle.farm_top.proofs.FarmCleaning.{run_clean, run_complete, run_cut_short, run_ended, run_headline, run_leaves, run_told}
+use Rattle.farm_top.proofs.FarmCleaning.{run_clean, run_complete, run_cut_short, run_ended, run_headline, run_leaves}
 use Rattle.farm_top.proofs.Ending.{not_usage}
 use Rattle.farm_top.proofs.top.farm_top.Goals as goal
 
@@ -17,10 +17,6 @@ not_due status due five = omega (arith, due, five)
 calm_due : (status : ℕ) → (status ≡ 0) ⊎ (status ≡ 4) → (status ≡ 0) ⊎ (status ≡ 4) ⊎ (status ≡ 6)
 calm_due status (inl e) = inl e
 calm_due status (inr e) = inr (inl e)
-
-told_due : (status : ℕ) → (status ≡ 0) ⊎ (status ≡ 6) → (status ≡ 0) ⊎ (status ≡ 4) ⊎ (status ≡ 6)
-told_due status (inl e) = inl e
-told_due status (inr e) = inr (inr e)
 
 not_ended : (status : ℕ) → (status ≡ 0) ⊎ (status ≡ 4) ⊎ (status ≡ 6) → status ≡ 5 → ⊥
 not_ended status due five = omega (arith, due, five)
@@ -68,9 +64,6 @@ returns-in-Ok-clause-run_clean g c = λ s asks orders told calm. run_clean c.one
 pub returns-in-Ok-clause-run_ended : goal.returns-in-Ok-clause-run_ended
 returns-in-Ok-clause-run_ended g c = λ s asks orders told due. run_ended c.one_answer.ensures.orders s _ _ _ _ _ orders told due (returns-in-Ok-clause-run g c s asks)
 
-pub returns-in-Ok-clause-run_told : goal.returns-in-Ok-clause-run_told
-returns-in-Ok-clause-run_told g c = λ s asks orders told well. run_told c.one_answer.ensures.orders s _ _ _ _ _ orders told (told_due _ well) well (returns-in-Ok-clause-run g c s asks)
-
 pub returns-in-Ok-clause-run_cut_short : goal.returns-in-Ok-clause-run_cut_short
 returns-in-Ok-clause-run_cut_short g c = λ s asks orders told five. run_cut_short c.one_answer.ensures.orders s _ _ _ _ _ orders told (returns-in-Ok-clause-run g c s asks)
 
@@ -112,9 +105,6 @@ returns-in-Err-Usage-clause-run_causes g c = λ s asks. absurd (no_command _ (c.
 
 pub returns-in-Err-Usage-clause-run_ended : goal.returns-in-Err-Usage-clause-run_ended
 returns-in-Err-Usage-clause-run_ended g c = λ s asks. absurd (no_command _ (c.in-Err-Usage.ensures.usage (search rules)) (inr (inr (s, asks))))
-
-pub returns-in-Err-Usage-clause-run_told : goal.returns-in-Err-Usage-clause-run_told
-returns-in-Err-Usage-clause-run_told g c = λ s asks. absurd (no_command _ (c.in-Err-Usage.ensures.usage (search rules)) (inr (inr (s, asks))))
 
 pub returns-in-Err-Usage-clause-run_cut_short : goal.returns-in-Err-Usage-clause-run_cut_short
 returns-in-Err-Usage-clause-run_cut_short g c = λ s asks. absurd (no_command _ (c.in-Err-Usage.ensures.usage (search rules)) (inr (inr (s, asks))))
@@ -173,9 +163,6 @@ returns-in-Err-Memory-clause-run_clean g c = λ s asks orders told calm. run_cle
 
 pub returns-in-Err-Memory-clause-run_ended : goal.returns-in-Err-Memory-clause-run_ended
 returns-in-Err-Memory-clause-run_ended g c = λ s asks orders told due. absurd (not_ended _ due c.no_memory.ensures.status_is)
-
-pub returns-in-Err-Memory-clause-run_told : goal.returns-in-Err-Memory-clause-run_told
-returns-in-Err-Memory-clause-run_told g c = λ s asks orders told due. absurd (not_ended _ (told_due _ due) c.no_memory.ensures.status_is)
 
 pub returns-in-Err-Memory-clause-run_cut_short : goal.returns-in-Err-Memory-clause-run_cut_short
 returns-in-Err-Memory-clause-run_cut_short g c = λ s asks orders told five. cut_first orders s.periods (g.T.Trunk.lines c.args.trunk.now)
