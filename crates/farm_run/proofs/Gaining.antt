@@ -12,7 +12,7 @@ use Rattle.trau_bits.proofs.Octets.{length-octets_of, get_or-octets_of}
 use Rattle.call_leg.specs.Periods.{CallPeriod}
 use Rattle.call_leg.specs.Out.{out_of}
 use Rattle.call_leg.specs.Down.{down_now, down_line}
-use Rattle.call_leg.proofs.LineLaws.{length-down_now}
+use Rattle.call_leg.proofs.LineLaws.{length-out_of, length-down_now}
 use Rattle.trau_io.specs.Lines.{LineState}
 use Rattle.round_lines.specs.declared.transfer.Outlet.{Outlet}
 use Rattle.round_lines.specs.Transfer.{Gives, has_failed}
@@ -83,6 +83,15 @@ length-down_line call (t ∷ past) = omega (arith, length-append (down_line call
 
 down_more : (call : ℕ) (t : CallPeriod) (past : List CallPeriod) → down_octets call (t ∷ past) ≡ down_octets call past ++ octets_of (down_now call (t ∷ past))
 down_more call t past = octets_of-append (down_line call past) (down_now call (t ∷ past)) (40 * length past) (omega (arith, length-down_line call past))
+
+-- ---- lengths
+
+pub length-out_line : (c : ℕ) (ts : List CallPeriod) → length (out_line c ts) ≡ 160 * length ts
+length-out_line c [] = refl
+length-out_line c (t ∷ past) = omega (arith, length-append (out_line c past) (out_of c (t ∷ past)), length-out_line c past, length-out_of c (t ∷ past))
+
+pub length-down_octets : (c : ℕ) (ts : List CallPeriod) → length (down_octets c ts) ≡ 40 * length ts
+length-down_octets c ts = omega (arith, long (down_line c ts), length-down_line c ts)
 
 -- ---- of more periods
 

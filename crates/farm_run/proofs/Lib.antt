@@ -41,6 +41,7 @@ pub mod RoundPast
 pub mod RoundClock
 pub mod RoundLines
 pub mod RoundTallies
+pub mod RoundShort
 pub mod Making
 pub mod Clocks
 pub mod Knowing

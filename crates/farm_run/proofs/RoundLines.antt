@@ -1,8 +1,9 @@
 -- A round leaves the board, the farm and the lines as the run has them behind it.
-use Rattle.std.proofs.Common.{◌≡◌, refl, sym, ap, ◌∙◌, subst, ℕ, ◌+◌, ◌-◌, ◌*◌, ◌≤◌, Bool, true, false, not, ◌&&◌, ◌||◌, Option, Some, None, List, ◌++◌, take, drop, inl, inr, arith, mul-add}
+use Rattle.std.proofs.Common.{◌≡◌, refl, sym, ap, ◌∙◌, subst, ℕ, ◌+◌, ◌-◌, ◌*◌, ◌≤◌, Bool, true, false, not, ◌&&◌, ◌||◌, Option, Some, None, List, ◌++◌, length, take, drop, inl, inr, arith, mul-add}
 use Rattle.std.specs.Prelude.{min, ◌==◌, if◌then◌else◌, is_some, nat_lt, option_map}
 use Rattle.std.specs.List.{AllByRecursion}
 use Rattle.std.proofs.lemmas.Bool.{cases_Bool, cases_lt, lt-ltb, eqb-true}
+use Rattle.std.proofs.lemmas.List.{drop-append-le}
 use Rattle.trau_io.specs.declared.ends.CallEnd.{CallEnd}
 use Rattle.trau_io.specs.declared.ends.Cause.{Cause}
 use Rattle.trau_io.specs.declared.ends.Cause.TheVariants.{End, Fault}
@@ -29,7 +30,7 @@ use Rattle.farm_rounds.specs.Histories.{CallHistory, CallStands, GroupsStand}
 use Rattle.farm_rounds.specs.Rounds.{octets_of, seat_with}
 use Rattle.farm_rounds.specs.Working.{goes_on_call}
 use Rattle.farm_rounds.specs.RoundHistories.{history_with, worked_histories, those_that}
-use Rattle.farm_output.specs.Run.{Run, given_in, whole_in, done_in, periods_to}
+use Rattle.farm_output.specs.Run.{Run, given_in, whole_in, done_in, periods_to, end_in}
 use Rattle.farm_output.specs.Now.{IsSoFar, settings_now}
 use Rattle.farm_output.specs.Lines.{out_line, down_octets}
 use Rattle.farm_output.proofs.SoFar.{standing_now}
@@ -38,15 +39,15 @@ use Rattle.farm_run.proofs.RoundTaken.{IsRound}
 use Rattle.farm_run.specs.Runs.{IsOpened, IsWritten, IsCutOff, cause_in, is_listed}
 use Rattle.farm_run.specs.Match.{AtClock, Matches, past_if, histories_at}
 use Rattle.farm_run.specs.Standing.{Standing, standing, KnowsListed, MeetsRun, IsToCome, never_given}
-use Rattle.farm_run.specs.Clock.{end_in, worked_to, IsReadWhole, LinesAt, IsAtClock}
+use Rattle.farm_run.specs.Clock.{worked_to, IsReadWhole, LinesAt, WrittenFrom, IsAtClock}
 use Rattle.farm_run.proofs.Rounds.{open_at, open_after, shut_after}
 use Rattle.farm_run.proofs.RoundEnds.{end_within, start_kept}
 use Rattle.farm_run.proofs.Told.{told_done, told_left, round_over, gone_round}
 use Rattle.farm_run.proofs.SeatEnds.{each_end, told_seats}
-use Rattle.farm_run.proofs.Worked.{out_written, down_written}
+use Rattle.farm_run.proofs.Worked.{out_written, down_written, length-periods_to}
 use Rattle.farm_run.proofs.Reach.{end_after, worked_now, worked_then, worked_idle}
 use Rattle.farm_run.proofs.WorkedRound.{WorkedRound, lines_kept, down_between, out_between}
-use Rattle.farm_run.proofs.Gaining.{gains}
+use Rattle.farm_run.proofs.Gaining.{gains, length-out_line, length-down_octets}
 use Rattle.farm_run.proofs.RoundListed.{listed_kept, was_down, was_out, stands_down, stands_out}
 use Rattle.farm_run.proofs.RoundCalls.{OpenSeat, open_seat, open_is, opened_is, all_seats, all_have_seats, ends_filled, goes_on_is}
 use Rattle.farm_run.proofs.RoundPast.{IsPast, worked_past}
@@ -72,7 +73,7 @@ stand_same : (h k : ℕ → Option CallHistory) (groups : List Group) → ((c : 
 stand_same h k groups e g = λ c. subst (λ x. CallStands c x (call_in groups c) (partner_in groups c)) (e c) (g c)
 
 module _ (r : Run) (t n : ℕ) (b : State) (farm after : FarmMemory) (first before now : ℕ → Side → LineState) (ends : List CallEnd)
-    (w : WorkedRound t n farm after before now ends) (h : IsRound r t n b.done b.left) (m : Matches b farm.groups) (b' : State) (last : Standing) (at : IsAtClock r t b farm.groups farm.failed last first before)
+    (w : WorkedRound t n farm after before now ends) (h : IsRound r t n b.done b.left) (m : Matches b farm.groups) (b' : State) (last : Standing) (at : IsAtClock r t b farm.groups last first before)
     (meets : MeetsRun r n w.filled (standing b' after.failed now) last) (a : AtClock t b farm.groups) (knows : KnowsListed b farm.groups farm.failed) (told : b' ≡ told_after b ends)
     (open_then : (c : ℕ) → open_now b' c ≡ (open_now b c && not (is_told c ends))) where
   abbrev alive : ℕ → Bool
@@ -229,28 +230,70 @@ module _ (r : Run) (t n : ℕ) (b : State) (farm after : FarmMemory) (first befo
       ∙ ap (λ (xs : List ℕ). down_octets c (periods_to r c (t - start_of b.done c)) ++ xs) (sym (ap seats.down_of (seat_left c o) ∙ ap (λ (k : ℕ). take (40 * k) (left_io c o).down) s.whole))
       ∙ sym (ap (λ (k : ℕ). down_octets c (periods_to r c k) ++ seats.down_of (seat_at w.worked s.k)) (worked_now r t n b.done b.left c h o))
 
-  -- **It gains that, or a proper front of it.**
-  wrote_out : (c : ℕ) → alive c ≡ true → IsWritten (is_listed after.failed c Out) (first c Out) (now c Out) (out_line c (periods_to r c (worked_to r (t + n) c)))
-  wrote_out c o =
+  -- ---- what is written, from a period on
+
+  -- no fewer periods lie before a later clock
+  sooner : (from c : ℕ) → from ≤ t → worked_to r from c ≤ worked_to r t c
+  sooner from c l = by (end_in r c) (start_of (done_in r) c)
+    where
+      by : (e s : ℕ) → min from e - s ≤ min t e - s
+      by e s = omega arith
+
+  -- **A line gains that, or a proper front of it.**
+  wrote_out : (from : ℕ) → from ≤ t → WrittenFrom r from t (is_listed farm.failed) first before → (c : ℕ) → alive c ≡ true →
+      IsWritten (is_listed after.failed c Out) (first c Out) (now c Out) (drop (160 * worked_to r from c) (out_line c (periods_to r c (worked_to r (t + n) c))))
+  wrote_out from l wrote c o =
       let s = seat c o in
-      let front = out_line c (periods_to r c (worked_to r t c)) in
-      let was = at.lines.out c (opened_is r t n b farm after first before now ends w h m b' last at meets c o) in
-      subst (λ (x : Bool). IsWritten x (first c Out) (now c Out) (out_line c (periods_to r c (worked_to r (t + n) c)))) (stands_out t n b farm after before now ends w a knows b' told open_then s.k c s.within s.here)
-      (subst (IsWritten (has_failed (seat_at w.drained s.k).place.out) (first c Out) (now c Out)) (sym (grown_out c o))
+      let k = 160 * worked_to r from c in
+      let old = out_line c (periods_to r c (worked_to r t c)) in
+      let front = drop k old in
+      let fits : k ≤ length old = omega (arith, length-out_line c (periods_to r c (worked_to r t c)), length-periods_to r c (worked_to r t c), sooner from c l) in
+      let was = wrote.out c (opened_is r t n b farm after first before now ends w h m b' last at meets c o) in
+      subst (λ (x : Bool). IsWritten x (first c Out) (now c Out) (drop k (out_line c (periods_to r c (worked_to r (t + n) c))))) (stands_out t n b farm after before now ends w a knows b' told open_then s.k c s.within s.here)
+      (subst (IsWritten (has_failed (seat_at w.drained s.k).place.out) (first c Out) (now c Out)) (sym (ap (drop k) (grown_out c o) ∙ drop-append-le k old (seats.out_of (seat_at w.worked s.k)) fits))
       (gains (first c Out) (w.between c Out) (now c Out) (seat_at w.worked s.k).place.out (seat_at w.drained s.k).place.out front (seats.out_of (seat_at w.worked s.k)) s.facts.drains.out
       (subst (λ (x : Bool). IsWritten x (first c Out) (w.between c Out) front) (sym (was_out t n b farm after before now ends w a knows b' told open_then s.k c s.within s.here))
       (subst (λ (l : LineState). IsWritten (is_listed farm.failed c Out) (first c Out) l front) (sym (out_between t n farm after before now ends w c)) was))))
 
-  wrote_down : (c : ℕ) → alive c ≡ true → IsWritten (is_listed after.failed c Down) (first c Down) (now c Down) (down_octets c (periods_to r c (worked_to r (t + n) c)))
-  wrote_down c o =
+  wrote_down : (from : ℕ) → from ≤ t → WrittenFrom r from t (is_listed farm.failed) first before → (c : ℕ) → alive c ≡ true →
+      IsWritten (is_listed after.failed c Down) (first c Down) (now c Down) (drop (40 * worked_to r from c) (down_octets c (periods_to r c (worked_to r (t + n) c))))
+  wrote_down from l wrote c o =
       let s = seat c o in
-      let front = down_octets c (periods_to r c (worked_to r t c)) in
-      let was = at.lines.down c (opened_is r t n b farm after first before now ends w h m b' last at meets c o) in
-      subst (λ (x : Bool). IsWritten x (first c Down) (now c Down) (down_octets c (periods_to r c (worked_to r (t + n) c)))) (stands_down t n b farm after before now ends w a knows b' told open_then s.k c s.within s.here)
-      (subst (IsWritten (has_failed (seat_at w.drained s.k).place.down) (first c Down) (now c Down)) (sym (grown_down c o))
+      let k = 40 * worked_to r from c in
+      let old = down_octets c (periods_to r c (worked_to r t c)) in
+      let front = drop k old in
+      let fits : k ≤ length old = omega (arith, length-down_octets c (periods_to r c (worked_to r t c)), length-periods_to r c (worked_to r t c), sooner from c l) in
+      let was = wrote.down c (opened_is r t n b farm after first before now ends w h m b' last at meets c o) in
+      subst (λ (x : Bool). IsWritten x (first c Down) (now c Down) (drop k (down_octets c (periods_to r c (worked_to r (t + n) c))))) (stands_down t n b farm after before now ends w a knows b' told open_then s.k c s.within s.here)
+      (subst (IsWritten (has_failed (seat_at w.drained s.k).place.down) (first c Down) (now c Down)) (sym (ap (drop k) (grown_down c o) ∙ drop-append-le k old (seats.down_of (seat_at w.worked s.k)) fits))
       (gains (first c Down) (w.between c Down) (now c Down) (seat_at w.worked s.k).place.down (seat_at w.drained s.k).place.down front (seats.down_of (seat_at w.worked s.k)) s.facts.drains.down
       (subst (λ (x : Bool). IsWritten x (first c Down) (w.between c Down) front) (sym (was_down t n b farm after before now ends w a knows b' told open_then s.k c s.within s.here))
       (subst (λ (l : LineState). IsWritten (is_listed farm.failed c Down) (first c Down) l front) (sym (down_between t n farm after before now ends w c)) was))))
+
+  -- **What is written after the round.**
+  pub written_after : (from : ℕ) → from ≤ t → WrittenFrom r from t (is_listed farm.failed) first before → WrittenFrom r from (t + n) (is_listed after.failed) first now
+  written_after from l wrote = record { out = out; down = down }
+    where
+      still : (c : ℕ) (s : Side) → alive c ≡ false → is_listed after.failed c s ≡ is_listed farm.failed c s
+      still c s o = listed_kept t n b farm after before now ends w a knows b' told open_then c s (shut c o)
+
+      out : (c : ℕ) → IsOpened r c → IsWritten (is_listed after.failed c Out) (first c Out) (now c Out) (drop (160 * worked_to r from c) (out_line c (periods_to r c (worked_to r (t + n) c))))
+      out c i = elim (cases_Bool (alive c)) [
+        | inl o ↦ wrote_out from l wrote c o
+        | inr o ↦ subst (λ (k : ℕ). IsWritten (is_listed after.failed c Out) (first c Out) (now c Out) (drop (160 * worked_to r from c) (out_line c (periods_to r c k)))) (sym (idle c i o))
+            (subst (λ (l : LineState). IsWritten (is_listed after.failed c Out) (first c Out) l (drop (160 * worked_to r from c) (out_line c (periods_to r c (worked_to r t c))))) (sym (kept c o Out))
+            (subst (λ (x : Bool). IsWritten x (first c Out) (before c Out) (drop (160 * worked_to r from c) (out_line c (periods_to r c (worked_to r t c))))) (sym (still c Out o)) (wrote.out c i)))
+      ]
+
+      down : (c : ℕ) → IsOpened r c → IsWritten (is_listed after.failed c Down) (first c Down) (now c Down) (drop (40 * worked_to r from c) (down_octets c (periods_to r c (worked_to r (t + n) c))))
+      down c i = elim (cases_Bool (alive c)) [
+        | inl o ↦ wrote_down from l wrote c o
+        | inr o ↦ subst (λ (k : ℕ). IsWritten (is_listed after.failed c Down) (first c Down) (now c Down) (drop (40 * worked_to r from c) (down_octets c (periods_to r c k)))) (sym (idle c i o))
+            (subst (λ (l : LineState). IsWritten (is_listed after.failed c Down) (first c Down) l (drop (40 * worked_to r from c) (down_octets c (periods_to r c (worked_to r t c))))) (sym (kept c o Down))
+            (subst (λ (x : Bool). IsWritten x (first c Down) (before c Down) (drop (40 * worked_to r from c) (down_octets c (periods_to r c (worked_to r t c))))) (sym (still c Down o)) (wrote.down c i)))
+      ]
+
+  -- ---- what is read
 
   -- a call whose incoming lines are read whole has all periods of the round
   reads_all : (c : ℕ) → alive c ≡ true → IsReadWhole r (t + n) c → places_in r b.done t n c ≡ n
@@ -282,31 +325,12 @@ module _ (r : Run) (t n : ℕ) (b : State) (farm after : FarmMemory) (first befo
       spread k = mul-add m k n
 
   -- **The lines after the round.**
-  pub lines_after : LinesAt r (t + n) last (is_listed after.failed) first now
-  lines_after = record { out = out; down = down; up_read = up_read; pcm_read = pcm_read; others = others }
+  pub lines_after : LinesAt r (t + n) last first now
+  lines_after = record { up_read = up_read; pcm_read = pcm_read; others = others }
     where
       earlier : (c : ℕ) → IsReadWhole r (t + n) c → IsReadWhole r t c
       earlier c (inl l) = inl (omega arith)
       earlier c (inr q) = inr q
-
-      still : (c : ℕ) (s : Side) → alive c ≡ false → is_listed after.failed c s ≡ is_listed farm.failed c s
-      still c s o = listed_kept t n b farm after before now ends w a knows b' told open_then c s (shut c o)
-
-      out : (c : ℕ) → IsOpened r c → IsWritten (is_listed after.failed c Out) (first c Out) (now c Out) (out_line c (periods_to r c (worked_to r (t + n) c)))
-      out c i = elim (cases_Bool (alive c)) [
-        | inl o ↦ wrote_out c o
-        | inr o ↦ subst (λ (k : ℕ). IsWritten (is_listed after.failed c Out) (first c Out) (now c Out) (out_line c (periods_to r c k))) (sym (idle c i o))
-            (subst (λ (l : LineState). IsWritten (is_listed after.failed c Out) (first c Out) l (out_line c (periods_to r c (worked_to r t c)))) (sym (kept c o Out))
-            (subst (λ (x : Bool). IsWritten x (first c Out) (before c Out) (out_line c (periods_to r c (worked_to r t c)))) (sym (still c Out o)) (at.lines.out c i)))
-      ]
-
-      down : (c : ℕ) → IsOpened r c → IsWritten (is_listed after.failed c Down) (first c Down) (now c Down) (down_octets c (periods_to r c (worked_to r (t + n) c)))
-      down c i = elim (cases_Bool (alive c)) [
-        | inl o ↦ wrote_down c o
-        | inr o ↦ subst (λ (k : ℕ). IsWritten (is_listed after.failed c Down) (first c Down) (now c Down) (down_octets c (periods_to r c k))) (sym (idle c i o))
-            (subst (λ (l : LineState). IsWritten (is_listed after.failed c Down) (first c Down) l (down_octets c (periods_to r c (worked_to r t c)))) (sym (kept c o Down))
-            (subst (λ (x : Bool). IsWritten x (first c Down) (before c Down) (down_octets c (periods_to r c (worked_to r t c)))) (sym (still c Down o)) (at.lines.down c i)))
-      ]
 
       up_read : (c : ℕ) → IsOpened r c → IsReadWhole r (t + n) c → IsToCome (now c Up) (40 * worked_to r (t + n) c) (r.lines c).up (never_given (last.listed c Up) (last.lines c Up))
       up_read c i q = elim (cases_Bool (alive c)) [
@@ -329,7 +353,7 @@ module _ (r : Run) (t n : ℕ) (b : State) (farm after : FarmMemory) (first befo
       ]
 
   -- **Board, farm and lines are those of the run behind the round.**
-  pub clock_is : IsAtClock r (t + n) b' after.groups after.failed last first now
+  pub clock_is : IsAtClock r (t + n) b' after.groups last first now
   clock_is =
       let done : b'.done ≡ b.done = ap (λ (s : State). s.done) told ∙ told_done b ends in
       let left : b'.left ≡ b.left = ap (λ (s : State). s.left) told ∙ told_left b ends in

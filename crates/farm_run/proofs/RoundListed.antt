@@ -88,13 +88,13 @@ passed_over : (b : Bool) (before now : LineState) (was stands : Outlet) (octets 
 passed_over true before now was stands octets q e g = ap fails_now ((g.passed (ap has_failed q)).1 ∙ q)
 passed_over false before now was stands octets q e g = cc
 
-fewer_up : (p : PlaceMemory) (n : ℕ) → p.up.count < 40 * n → places.whole_in p < n
+pub fewer_up : (p : PlaceMemory) (n : ℕ) → p.up.count < 40 * n → places.whole_in p < n
 fewer_up p n l = by p.up.count p.pcm.count l
   where
     by : (u v : ℕ) → u < 40 * n → min (u / 40) (v / 160) < n
     by u v l = omega arith
 
-fewer_pcm : (p : PlaceMemory) (n : ℕ) → p.pcm.count < 160 * n → places.whole_in p < n
+pub fewer_pcm : (p : PlaceMemory) (n : ℕ) → p.pcm.count < 160 * n → places.whole_in p < n
 fewer_pcm p n l = by p.up.count p.pcm.count l
   where
     by : (u v : ℕ) → v < 160 * n → min (u / 40) (v / 160) < n

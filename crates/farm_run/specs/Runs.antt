@@ -1,6 +1,6 @@
 -- What a run leaves on the lines of its calls, and what it reports, whatever fails (this project's profile). `before` are
 -- the lines before it, `now` those after it.
-use Rattle.std.specs.Prelude.{◌≡◌, ◌<◌, ℕ, ◌*◌, Bool, true, false, ◌==◌, Some, is_some, List, ◌++◌, length, map, take, drop}
+use Rattle.std.specs.Prelude.{◌≡◌, ◌<◌, ◌≤◌, ℕ, ◌+◌, ◌-◌, ◌*◌, Bool, true, false, ◌==◌, Some, is_some, List, ◌++◌, length, map, take, drop}
 use Rattle.std.specs.List.{list_any}
 use Rattle.std.specs.List.Sorted.{IsStrictlyIncreasing}
 use Rattle.std.specs.Io.KnownBytes.{Appends}
@@ -16,7 +16,7 @@ use Rattle.switchboard.specs.Calls.{opened_at}
 use Rattle.switchboard.specs.Ends.{start_of, end_of}
 use Rattle.farm_report.specs.View.{ReportView}
 use Rattle.round_lines.specs.Rounds.{IsIncoming, IsOutgoing}
-use Rattle.farm_output.specs.Run.{Run, given_in, done_in, periods_in}
+use Rattle.farm_output.specs.Run.{Run, given_in, done_in, start_in, end_in, periods_in}
 use Rattle.farm_output.specs.Lines.{out_of_call, down_of_call}
 use Rattle.farm_output.specs.Facts.{report_of}
 use Rattle.farm_run.specs.declared.pace.Pace.{Pace}
@@ -110,6 +110,20 @@ pub record Leaves (r : Run) (fails : ℕ → Side → Bool) (before now : ℕ �
   -- the lines of all other calls are as they were, their counts included
   pub others : (c : ℕ) (s : Side) → (IsOpened r c → ⊥) → now c s ≡ before c s
 
+-- An incoming line failed while a round was read, the periods of the run from `from` up to, without it, `until`: its call
+-- ended in this round, and the line gave fewer octets, so many a period, than all of the call's periods up to the round's end
+-- take of it.
+pub record FailedIn (r : Run) (c octets : ℕ) (line : List ℕ) (from until : ℕ) : Type 0 where
+  pub begun : from ≤ end_in r c
+  pub over : end_in r c < until
+  pub within : until ≤ r.periods
+  pub short : length line < octets * (until - start_in r c)
+
+-- so did each incoming line that failed, in a round of at most `batch` periods
+pub record FailedShort (r : Run) (batch : ℕ) (fails : ℕ → Side → Bool) : Type 0 where
+  pub up : (c : ℕ) → fails c Up ≡ true → (from : ℕ) × (until : ℕ) × (until ≤ from + batch) × FailedIn r c 40 (r.lines c).up from until
+  pub pcm : (c : ℕ) → fails c Pcm ≡ true → (from : ℕ) × (until : ℕ) × (until ≤ from + batch) × FailedIn r c 160 (r.lines c).pcm from until
+
 -- A run of these orders, whatever fails.
 pub record Runs (orders : List Order) (pace : Pace) (before now : ℕ → Side → LineState) (report : ReportView) : Type 0 where
   -- the report lists the lines that failed
@@ -117,8 +131,10 @@ pub record Runs (orders : List Order) (pace : Pace) (before now : ℕ → Side �
   -- incoming lines are only read, from the front, and outgoing ones only written
   pub sides : KeepsSides before now
   pub reads : ReadsOn before now
-  -- lines and report are those of the run of these orders over what the lines gave ..
+  -- lines and report are those of the run of these orders over what the lines gave;
   pub leaves : (r : Run) → IsRunOver orders pace.periods (is_listed report.failed) before now r → Leaves r (is_listed report.failed) before now
   pub reports : (r : Run) → IsRunOver orders pace.periods (is_listed report.failed) before now r → report ≡ report_of r report.failed
-  -- .. and there is such a run wherever the lines tell what they hold
+  -- in this run each incoming line that failed did so short of what a round takes of it
+  pub short : (r : Run) → IsRunOver orders pace.periods (is_listed report.failed) before now r → FailedShort r pace.batch (is_listed report.failed)
+  -- and there is such a run wherever the lines tell what they hold
   pub there : AreTold before → (r : Run) × IsRunOver orders pace.periods (is_listed report.failed) before now r

@@ -7,16 +7,17 @@ use Rattle.farm_rounds.specs.declared.call.Group.{Group}
 use Rattle.farm_rounds.specs.Memory.{FarmMemory}
 use Rattle.farm_rounds.specs.Numbers.{is_among}
 use Rattle.farm_run.specs.Match.{AtClock}
-use Rattle.farm_run.specs.Runs.{TellsFailed, is_listed}
+use Rattle.farm_run.specs.Runs.{TellsFailed, FailedShort, is_listed}
 use Rattle.farm_run.specs.Standing.{Standing, standing, GoesOn, KnowsListed}
-use Rattle.farm_run.specs.Clock.{LinesAt, IsAtClock}
+use Rattle.farm_run.specs.Clock.{IsAtClock, WrittenFrom}
 use Rattle.farm_output.specs.Run.{Run}
 use Rattle.switchboard.specs.State.{orders_of}
 use Rattle.farm_run.specs.Fronts.{IsCutShort}
-use Rattle.farm_run.proofs.Cutting.{on_err, cut_at, cut_first}
+use Rattle.farm_run.proofs.Cutting.{cut_at, cut_first, cut_from}
 use Rattle.farm_run.proofs.Counts.{fell_more}
 use Rattle.farm_run.proofs.Meeting.{stays, further, ordered, reads_more}
-use Rattle.farm_run.proofs.Clocks.{fell_none, tells_none, at_first, knows_first, flags_of, clock_on, goes_on, none_alive, none_among}
+use Rattle.farm_run.proofs.Clocks.{fell_none, tells_none, at_first, written_first, knows_first, flags_of, clock_on, goes_on, written_on, none_alive, none_among}
+use Rattle.farm_run.proofs.RoundShort.{short_none, short_more}
 use Rattle.farm_run.proofs.Sides.{sides_none, sides_more}
 use Rattle.farm_run.proofs.RoundTaken.{IsRound}
 use Rattle.farm_run.specs.Noted.{IsKnown}
@@ -44,8 +45,9 @@ loop-clock-init g c =
       reads = λ d s octets i e. (0, e);
       shut = λ d t. let q = sym (ap (λ (j : JournalMemory). is_told d j.ends) c.requires.none_noted) ∙ t in cc;
       knows = subst (λ (ls : List Line). KnowsListed c.args.board.now c.in_ok-farm.farm.groups ls) (sym none) (knows_first c.args.board.now c.in_ok-farm.farm.groups empty);
-      run = λ r last run least on. subst (λ (ls : List Line). IsAtClock r 0 c.args.board.now c.in_ok-farm.farm.groups ls last lines lines) (sym none)
-          (at_first r c.args.board.now c.in_ok-farm.farm.groups r.periods lines last c.requires.clock.orders c.requires.none_done e.history run);
+      run = λ r last run least on. at_first r c.args.board.now c.in_ok-farm.farm.groups r.periods lines last c.requires.clock.orders c.requires.none_done e.history run;
+      wrote = λ r last run least on. subst (λ (ls : List Line). WrittenFrom r 0 0 (is_listed ls) lines lines) (sym none) (written_first r 0 lines);
+      short = λ r last run least on. subst (λ (ls : List Line). FailedShort r c.args.pace.now.batch (is_listed ls)) (sym none) (short_none r c.args.pace.now.batch);
       known = λ r last run least on. known_start r c.args.board.now c.in_ok-farm.farm.tallies c.args.journal.now c.requires.clock.ends c.requires.none_done c.requires.none_noted;
     }
 
@@ -106,10 +108,17 @@ loop-clock-preserved-then-is_empty g c =
       knows = e.knows inv.knows;
       run = λ r last run least on.
           let was = inv.run r last run least (before last on) in
-          let at : IsAtClock r t b groups c.execute_orders.new.farm.failed last first now =
-          record { follows = e.follows r (omega (arith, c.loop-clock-test.true, least)) was.follows; lines = subst (λ (ls : List Line). LinesAt r t last (is_listed ls) first now) (sym e.failed) was.lines } in
-          goes_on r t u b groups c.execute_orders.new.farm.failed last first now at later (omega (arith, idle.within, least)) clear
+          let at : IsAtClock r t b groups last first now = record { follows = e.follows r (omega (arith, c.loop-clock-test.true, least)) was.follows; lines = was.lines } in
+          goes_on r t u b groups last first now at later (omega (arith, idle.within, least)) clear
           (none_alive r t b groups e.clock at.follows.tells (λ d. sym (c.live_calls.ensures.calls d) ∙ none_among c.live_calls.result.now d (sym c.is_empty.ensures ∙ c.if-is_empty.true)));
+      wrote = λ r last run least on.
+          let was = inv.run r last run least (before last on) in
+          let at : IsAtClock r t b groups last first now = record { follows = e.follows r (omega (arith, c.loop-clock-test.true, least)) was.follows; lines = was.lines } in
+          written_on r t u b groups last first now at later (omega (arith, idle.within, least)) clear
+          (none_alive r t b groups e.clock at.follows.tells (λ d. sym (c.live_calls.ensures.calls d) ∙ none_among c.live_calls.result.now d (sym c.is_empty.ensures ∙ c.if-is_empty.true)))
+          0 (is_listed c.execute_orders.new.farm.failed)
+          (subst (λ (ls : List Line). WrittenFrom r 0 t (is_listed ls) first now) (sym e.failed) (inv.wrote r last run least (before last on)));
+      short = λ r last run least on. subst (λ (ls : List Line). FailedShort r c.args.pace.now.batch (is_listed ls)) (sym e.failed) (inv.short r last run least (before last on));
       known = λ r last run least on.
           let was = inv.run r last run least (before last on) in
           let known = inv.known r last run least (before last on) in
@@ -149,6 +158,16 @@ loop-clock-preserved g c =
       run = λ r last run least on.
           let was = inv.run r last run least (earlier last on) in
           w.run r first last (flags_of r _ r.periods first last run) (omega (arith, within, least)) (at r last (omega (arith, c.loop-clock-test.true, least)) was) on;
+      wrote = λ r last run least on.
+          let was = inv.run r last run least (earlier last on) in
+          w.wrote 0 (omega arith) r first last (flags_of r _ r.periods first last run) (omega (arith, within, least)) (at r last (omega (arith, c.loop-clock-test.true, least)) was)
+          (subst (λ (ls : List Line). WrittenFrom r 0 t (is_listed ls) first before) (sym e.failed) (inv.wrote r last run least (earlier last on))) on;
+      short = λ r last run least on.
+          let was = inv.run r last run least (earlier last on) in
+          let batch = c.round_periods-periods.ensures.batch in
+          short_more r c.args.pace.now.batch t (t + c.round_periods-periods.result) c.execute_orders.new.farm.failed c.in_ok-farm-2.farm.failed (omega (arith, batch))
+          (w.short r first last (flags_of r _ r.periods first last run) (omega (arith, within, least)) (at r last (omega (arith, c.loop-clock-test.true, least)) was) on)
+          (subst (λ (ls : List Line). FailedShort r c.args.pace.now.batch (is_listed ls)) (sym e.failed) (inv.short r last run least (earlier last on)));
       known = λ r last run least on.
           let was = inv.run r last run least (earlier last on) in
           let known = inv.known r last run least (earlier last on) in
@@ -171,16 +190,13 @@ loop-clock-preserved g c =
         (further _ _ _ c.in_ok-farm-2.ensures.goes on)
 
     -- the run after the orders of the clock
-    at : (r : Run) (last : Standing) → c.loop-clock.clock < r.periods → IsAtClock r c.loop-clock.clock c.loop-clock.board c.loop-clock.farm.groups c.loop-clock.farm.failed last (g.T.Trunk.lines c.args.trunk.now) (g.T.Trunk.lines c.loop-clock.trunk) →
-        IsAtClock r c.loop-clock.clock c.execute_orders.new.board c.execute_orders.new.farm.groups c.execute_orders.new.farm.failed last (g.T.Trunk.lines c.args.trunk.now) (g.T.Trunk.lines c.loop-clock.trunk)
-    at r last under was = record {
-      follows = c.in_ok-execute_orders.ensures.follows r under was.follows;
-      lines = subst (λ (ls : List Line). LinesAt r c.loop-clock.clock last (is_listed ls) (g.T.Trunk.lines c.args.trunk.now) (g.T.Trunk.lines c.loop-clock.trunk)) (sym c.in_ok-execute_orders.ensures.failed) was.lines;
-    }
+    at : (r : Run) (last : Standing) → c.loop-clock.clock < r.periods → IsAtClock r c.loop-clock.clock c.loop-clock.board c.loop-clock.farm.groups last (g.T.Trunk.lines c.args.trunk.now) (g.T.Trunk.lines c.loop-clock.trunk) →
+        IsAtClock r c.loop-clock.clock c.execute_orders.new.board c.execute_orders.new.farm.groups last (g.T.Trunk.lines c.args.trunk.now) (g.T.Trunk.lines c.loop-clock.trunk)
+    at r last under was = record { follows = c.in_ok-execute_orders.ensures.follows r under was.follows; lines = was.lines }
 
 pub returns-clause-clock : goal.returns-clause-clock
 returns-clause-clock g c =
-    let ended : c.loop-clock.clock ≡ c.args.pace.now.periods = omega (arith, c.loop-clock.invariant.within, c.loop-clock-test.false) in
+    let ended : c.loop-clock.clock ≡ c.args.until = omega (arith, c.loop-clock.invariant.within, c.loop-clock-test.false) in
     subst (λ (t : ℕ). AtClock t c.loop-clock.board c.loop-clock.farm.groups) ended c.loop-clock.invariant.clock
 
 pub returns-clause-shut : goal.returns-clause-shut
@@ -201,14 +217,23 @@ returns-clause-reads g c = c.loop-clock.invariant.reads
 pub returns-clause-run : goal.returns-clause-run
 returns-clause-run g c = λ r run least.
     let inv = c.loop-clock.invariant in
-    let ended : c.loop-clock.clock ≡ c.args.pace.now.periods = omega (arith, inv.within, c.loop-clock-test.false) in
+    let ended : c.loop-clock.clock ≡ c.args.until = omega (arith, inv.within, c.loop-clock-test.false) in
     let last : Standing = standing c.loop-clock.board c.loop-clock.farm.failed (g.T.Trunk.lines c.loop-clock.trunk) in
-    subst (λ (t : ℕ). IsAtClock r t c.loop-clock.board c.loop-clock.farm.groups c.loop-clock.farm.failed last (g.T.Trunk.lines c.args.trunk.now) (g.T.Trunk.lines c.loop-clock.trunk)) ended (inv.run r last run least (stays last))
+    subst (λ (t : ℕ). IsAtClock r t c.loop-clock.board c.loop-clock.farm.groups last (g.T.Trunk.lines c.args.trunk.now) (g.T.Trunk.lines c.loop-clock.trunk)) ended (inv.run r last run least (stays last))
+
+pub returns-clause-wrote : goal.returns-clause-wrote
+returns-clause-wrote g c = λ r run least.
+    let inv = c.loop-clock.invariant in
+    let ended : c.loop-clock.clock ≡ c.args.until = omega (arith, inv.within, c.loop-clock-test.false) in
+    subst (λ (t : ℕ). WrittenFrom r 0 t (is_listed c.loop-clock.farm.failed) (g.T.Trunk.lines c.args.trunk.now) (g.T.Trunk.lines c.loop-clock.trunk)) ended (inv.wrote r _ run least (stays _))
+
+pub returns-clause-short : goal.returns-clause-short
+returns-clause-short g c = λ r run least. c.loop-clock.invariant.short r _ run least (stays _)
 
 pub returns-clause-known : goal.returns-clause-known
 returns-clause-known g c = λ r run least.
     let inv = c.loop-clock.invariant in
-    let ended : c.loop-clock.clock ≡ c.args.pace.now.periods = omega (arith, inv.within, c.loop-clock-test.false) in
+    let ended : c.loop-clock.clock ≡ c.args.until = omega (arith, inv.within, c.loop-clock-test.false) in
     let last : Standing = standing c.loop-clock.board c.loop-clock.farm.failed (g.T.Trunk.lines c.loop-clock.trunk) in
     subst (λ (t : ℕ). IsKnown r t c.loop-clock.board c.loop-clock.farm.tallies c.loop-clock.journal) ended (inv.known r last run least (stays last))
 
@@ -223,8 +248,10 @@ returns-in_err-farm g c =
       sides = sides_none _;
       reads = IfOk-from_err _ _ no;
       run = IfOk-from_err _ _ no;
+      wrote = IfOk-from_err _ _ no;
+      short = IfOk-from_err _ _ no;
       known = IfOk-from_err _ _ no;
-      cut = on_err _ (cut_first (orders_of c.args.board.now) c.args.pace.now.periods (g.T.Trunk.lines c.args.trunk.now));
+      cut = cut_from _ (orders_of c.args.board.now) c.args.until _ _ (λ periods l. cut_first (orders_of c.args.board.now) periods (g.T.Trunk.lines c.args.trunk.now));
     }
 
 pub returns-in_err-execute_orders : goal.returns-in_err-execute_orders
@@ -240,9 +267,12 @@ returns-in_err-execute_orders g c =
       sides = inv.sides;
       reads = IfOk-from_err _ _ no;
       run = IfOk-from_err _ _ no;
+      wrote = IfOk-from_err _ _ no;
+      short = IfOk-from_err _ _ no;
       known = IfOk-from_err _ _ no;
-      cut = on_err _ (cut_at (orders_of c.args.board.now) c.args.pace.now.periods c.loop-clock.clock c.loop-clock.board c.loop-clock.farm.groups c.loop-clock.farm.failed (g.T.Trunk.lines c.args.trunk.now) now inv.failed inv.sides inv.reads
-          (λ r run least. inv.run r (standing c.loop-clock.board c.loop-clock.farm.failed now) run least (stays _)));
+      cut = cut_from _ (orders_of c.args.board.now) c.args.until _ _ (λ periods l. cut_at (orders_of c.args.board.now) periods c.loop-clock.clock c.loop-clock.board c.loop-clock.farm.groups c.loop-clock.farm.failed (g.T.Trunk.lines c.args.trunk.now) now inv.failed inv.sides inv.reads
+          (λ r run least. inv.run r (standing c.loop-clock.board c.loop-clock.farm.failed now) run (omega (arith, l, least)) (stays _))
+          (λ r run least. inv.wrote r (standing c.loop-clock.board c.loop-clock.farm.failed now) run (omega (arith, l, least)) (stays _)));
     }
 
 pub returns-in_err-farm-2 : goal.returns-in_err-farm-2
@@ -260,10 +290,13 @@ returns-in_err-farm-2 g c =
       sides = sides_more _ _ _ inv.sides c.work_round.ensures.sides;
       reads = IfOk-from_err _ _ no;
       run = IfOk-from_err _ _ no;
+      wrote = IfOk-from_err _ _ no;
+      short = IfOk-from_err _ _ no;
       known = IfOk-from_err _ _ no;
-      cut = on_err _ (subst (IsCutShort (orders_of c.args.board.now) c.args.pace.now.periods first) (sym same)
-          (cut_at (orders_of c.args.board.now) c.args.pace.now.periods c.loop-clock.clock c.loop-clock.board c.loop-clock.farm.groups c.loop-clock.farm.failed first now inv.failed inv.sides inv.reads
-          (λ r run least. inv.run r (standing c.loop-clock.board c.loop-clock.farm.failed now) run least (stays _))));
+      cut = cut_from _ (orders_of c.args.board.now) c.args.until _ _ (λ periods l. subst (IsCutShort (orders_of c.args.board.now) periods first) (sym same)
+          (cut_at (orders_of c.args.board.now) periods c.loop-clock.clock c.loop-clock.board c.loop-clock.farm.groups c.loop-clock.farm.failed first now inv.failed inv.sides inv.reads
+          (λ r run least. inv.run r (standing c.loop-clock.board c.loop-clock.farm.failed now) run (omega (arith, l, least)) (stays _))
+          (λ r run least. inv.wrote r (standing c.loop-clock.board c.loop-clock.farm.failed now) run (omega (arith, l, least)) (stays _))));
     }
 
 pub idle_until-clock-requires-clause-clock : goal.idle_until-clock-requires-clause-clock

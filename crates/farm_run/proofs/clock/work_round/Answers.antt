@@ -19,7 +19,8 @@ use Rattle.farm_run.proofs.WorkedRound.{FilledRound, WorkedRound}
 use Rattle.farm_run.proofs.Counts.{fell_round, tells_round}
 use Rattle.farm_run.proofs.Sides.{sides_none, sides_more, sides_filled, sides_drained}
 use Rattle.farm_run.proofs.RoundClock.{tells_numbers, tells_open, tells_apart, tells_late, clock_after}
-use Rattle.farm_run.proofs.RoundLines.{clock_is, ends_are, told_is}
+use Rattle.farm_run.proofs.RoundLines.{clock_is, ends_are, told_is, written_after}
+use Rattle.farm_run.proofs.RoundShort.{short_after}
 use Rattle.farm_run.proofs.RoundTallies.{tallies_after}
 use Rattle.std.proofs.lemmas.Result.{IfOk-from_err}
 use Rattle.farm_run.proofs.clock.work_round.Goals as goal
@@ -145,7 +146,7 @@ returns-clause-sides g c =
 
 -- where the run goes on, the round is one of it
 in_run : (g : Over) (c : goal.After-drain g) (r : Run) (first : _) (last : Standing) → c.args.clock + c.args.periods ≤ r.periods →
-    IsAtClock r c.args.clock c.args.board.now c.args.farm.groups c.args.farm.failed last first (g.T.Trunk.lines c.args.trunk.now) →
+    IsAtClock r c.args.clock c.args.board.now c.args.farm.groups last first (g.T.Trunk.lines c.args.trunk.now) →
     IsRound r c.args.clock c.args.periods c.args.board.now.done c.args.board.now.left
 in_run g c r first last l at = record { so_far = at.follows.so_far; some = c.requires.some; within = l; clear = c.requires.clear }
 
@@ -170,6 +171,16 @@ pub returns-clause-run : goal.returns-clause-run
 returns-clause-run g c = λ r first last flags l at on.
     let told = c.tell_ends.ensures in
     clock_is r _ _ c.args.board.now _ _ first _ _ _ (round g c) (in_run g c r first last l at) c.requires.clock.matches c.tell_ends.new.board last at (meets g c r last flags on) c.requires.clock c.requires.knows told.told told.open
+
+pub returns-clause-wrote : goal.returns-clause-wrote
+returns-clause-wrote g c = λ from before r first last flags l at wrote on.
+    let told = c.tell_ends.ensures in
+    written_after r _ _ c.args.board.now _ _ first _ _ _ (round g c) (in_run g c r first last l at) c.requires.clock.matches c.tell_ends.new.board last at (meets g c r last flags on) c.requires.clock c.requires.knows told.told told.open from before wrote
+
+pub returns-clause-short : goal.returns-clause-short
+returns-clause-short g c = λ r first last flags l at on.
+    let told = c.tell_ends.ensures in
+    short_after r _ _ c.args.board.now _ _ first _ _ _ (round g c) (in_run g c r first last l at) c.requires.clock.matches c.tell_ends.new.board last at (meets g c r last flags on) c.requires.clock c.requires.knows told.told told.open
 
 pub returns-clause-ends : goal.returns-clause-ends
 returns-clause-ends g c = λ r first last flags l at on.
@@ -205,6 +216,8 @@ returns-in_err-round g c =
       knows = IfOk-from_err _ _ no;
       run = λ r first last flags l at. IfOk-from_err _ _ no;
       ends = λ r first last flags l at. IfOk-from_err _ _ no;
+      wrote = λ from before r first last flags l at wrote. IfOk-from_err _ _ no;
+      short = λ r first last flags l at. IfOk-from_err _ _ no;
       cut = on_err _ refl;
     }
 

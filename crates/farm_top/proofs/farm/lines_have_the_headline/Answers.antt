@@ -18,6 +18,7 @@ returns g = λ r fails before now are leaves.
       place = λ c t x first j. sent.place r c t x first j are;
       in_order = λ c t u x j k. sent.in_order r c t u x j k are;
       once = λ c t x j k. sent.once r c t x j k are;
+      one_waits = λ c u t x. sent.one_waits r c u t x are;
       lost = λ x. sent.lost r x are;
     })
     leaves
