@@ -142,7 +142,7 @@ module _ (one : SpellsOneList) (s : Settings) (before now : ℕ → Side → Lin
   read_whole report read (inr (inr ends)) = ends.text_out.tells.to_come
 
   -- **So lines and report are those of the run.**
-  pub run_ended : CarriesRun s before now desk desk' status → RunEnded orders s.periods before now desk desk' status
+  pub run_ended : CarriesRun s before now desk desk' status → RunEnded orders s before now desk desk' status
   run_ended carried =
       let ran = ran_to_end carried in
       let report = ran.told.report in
@@ -160,6 +160,7 @@ module _ (one : SpellsOneList) (s : Settings) (before now : ℕ → Side → Lin
         front = λ four r over. subst (λ (x : ReportView). GainsFront desk.written desk'.written (report_text x)) (runs.reports r over)
             (subst (λ (w : Option (List ℕ)). GainsFront w desk'.written (report_text report)) ran.written (front_out report ran.read four ran.told.tells));
         all_read = read_whole report ran.read ran.told.tells ∙ ran.all_read;
+        short = runs.short;
         there = runs.there;
       }
 

@@ -9,7 +9,8 @@ use Rattle.trau_orders.specs.declared.order.Order.{Order}
 use Rattle.farm_output.specs.Run.{Run}
 use Rattle.farm_output.specs.Facts.{report_of}
 use Rattle.farm_report.specs.Lines.{report_text}
-use Rattle.farm_run.specs.Runs.{AreTold, IsRunOver, KeepsSides, Leaves, ReadsOn, TellsFailed, is_listed}
+use Rattle.farm_run.specs.Runs.{AreTold, FailedShort, IsRunOver, KeepsSides, Leaves, ReadsOn, TellsFailed, is_listed}
+use Rattle.farm_words.specs.declared.asked.Settings.{Settings}
 use Rattle.farm_top.specs.Farm.{status_of_run}
 use Rattle.farm_top.specs.Headline.{Headline}
 
@@ -18,7 +19,7 @@ abbrev pub GainsFront : Option (List ℕ) → Option (List ℕ) → List ℕ →
 GainsFront before now text = (n : ℕ) × (n < length text) × Appends before now (take n text)
 
 -- A run of these orders that was carried to its end, whatever failed.
-pub record RunEnded (orders : List Order) (periods : ℕ) (before now : ℕ → Side → LineState) (desk desk' : DeskState) (status : ℕ) : Type 0 where
+pub record RunEnded (orders : List Order) (s : Settings) (before now : ℕ → Side → LineState) (desk desk' : DeskState) (status : ℕ) : Type 0 where
   -- the lines that failed, each once: none with status 0, some with 6
   pub failed : List Line
   pub told : TellsFailed before now failed
@@ -27,12 +28,14 @@ pub record RunEnded (orders : List Order) (periods : ℕ) (before now : ℕ → 
   pub sides : KeepsSides before now
   pub reads : ReadsOn before now
   -- the lines have what the run of these orders over what the lines gave gives them, and so the headline
-  pub leaves : (r : Run) → IsRunOver orders periods (is_listed failed) before now r → Leaves r (is_listed failed) before now
-  pub headline : (r : Run) → IsRunOver orders periods (is_listed failed) before now r → Headline r (is_listed failed) before now
+  pub leaves : (r : Run) → IsRunOver orders s.periods (is_listed failed) before now r → Leaves r (is_listed failed) before now
+  pub headline : (r : Run) → IsRunOver orders s.periods (is_listed failed) before now r → Headline r (is_listed failed) before now
   -- the desk gained exactly the text of this run's report, with the lines that failed; with status 4 a proper front of it
-  pub text : status ≢ 4 → (r : Run) → IsRunOver orders periods (is_listed failed) before now r → Appends desk.written desk'.written (report_text (report_of r failed))
-  pub front : status ≡ 4 → (r : Run) → IsRunOver orders periods (is_listed failed) before now r → GainsFront desk.written desk'.written (report_text (report_of r failed))
+  pub text : status ≢ 4 → (r : Run) → IsRunOver orders s.periods (is_listed failed) before now r → Appends desk.written desk'.written (report_text (report_of r failed))
+  pub front : status ≡ 4 → (r : Run) → IsRunOver orders s.periods (is_listed failed) before now r → GainsFront desk.written desk'.written (report_text (report_of r failed))
   -- the orders were read to their end
   pub all_read : desk'.to_come ≡ Some []
+  -- an incoming line failed short of what its round takes of it
+  pub short : (r : Run) → IsRunOver orders s.periods (is_listed failed) before now r → FailedShort r s.batch (is_listed failed)
   -- there is such a run wherever the lines tell what they hold
-  pub there : AreTold before → (r : Run) × IsRunOver orders periods (is_listed failed) before now r
+  pub there : AreTold before → (r : Run) × IsRunOver orders s.periods (is_listed failed) before now r

@@ -193,7 +193,7 @@ pub fn farm_top<R: Threads + Wait + Sync, T: Trunk, D: Desk, G: Gate + Sync>(
     // failed, or a proper front of it.
     ensures run_ended { (s : Settings) → AsksForRun (spelled words.now) s →
         (orders : List Order) → TellsOrders orders (D.desk desk.old) → (result ≡ 0) ⊎ (result ≡ 4) ⊎ (result ≡ 6) →
-        RunEnded orders s.periods (T.lines trunk.old) (T.lines trunk.new) (D.desk desk.old) (D.desk desk.new) result }
+        RunEnded orders s (T.lines trunk.old) (T.lines trunk.new) (D.desk desk.old) (D.desk desk.new) result }
 
     // Where there was no memory, each outgoing line holds a front of what the run gives, and the lines of calls that it doesn't
     // open are as they were.
