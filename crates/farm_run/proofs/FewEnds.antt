@@ -1,14 +1,14 @@
 -- The ends that are noted are those of calls that are open no more, no two of one call, so there are few.
-use Rattle.std.proofs.Common.{◌≡◌, refl, sym, ap, ◌∙◌, ℕ, ◌<◌, ◌≤◌, Bool, true, false, not, ◌&&◌, List, [], ◌∷◌, ◌++◌, length, map, inl, inr, arith}
+use Rattle.std.proofs.Common.{◌≡◌, refl, sym, ap, ◌∙◌, ℕ, ◌+◌, ◌<◌, ◌≤◌, Bool, true, false, not, ◌&&◌, List, [], ◌∷◌, ◌++◌, length, map, inl, inr, arith}
 use Rattle.std.specs.Prelude.{◌==◌, ◌||◌, if◌then◌else◌, is_some, eqb}
 use Rattle.std.specs.List.{All, AllByRecursion, IsDistinct, list_any}
 use Rattle.std.proofs.lemmas.Bool.{eqb-true, true≢false}
-use Rattle.std.proofs.lemmas.List.{length-map}
+use Rattle.std.proofs.lemmas.List.{length-append, length-map}
 use Rattle.std.proofs.lemmas.List.Elements.{recursion_from_All, All-from_recursion}
 use Rattle.std.proofs.lemmas.Map.Steps.{length-le_from_distinct_below}
 use Rattle.trau_io.specs.declared.ends.CallEnd.{CallEnd}
 use Rattle.switchboard.specs.Calls.{Done, opened_at}
-use Rattle.switchboard.specs.State.{State}
+use Rattle.switchboard.specs.State.{State, orders_of}
 use Rattle.switchboard.specs.Open.{opened_now, open_now, partner_now, opened_after, open_after, Finds}
 use Rattle.switchboard.specs.declared.act.Act.{Act}
 use Rattle.switchboard.specs.declared.act.Act.TheVariants as act
@@ -145,3 +145,13 @@ new_limits s noted at calls h o = All-from_recursion (λ e. is_told e.call noted
     each : (calls : List ℕ) → AllByRecursion (λ c. open_now s c ≡ true) calls → AllByRecursion (λ e. is_told e.call noted ≡ false) (map (limit_at at) calls)
     each [] o = tt
     each (c ∷ calls) o = (none_noted s noted c h o.0, each calls o.1)
+
+-- ---- few bridges
+
+-- **As many orders are executed as aren't left.**
+pub orders_long : (s : State) → length (orders_of s) ≡ length s.done + length s.left
+orders_long s = length-append (map (λ (d : Done). d.order) s.done) s.left ∙ ap (λ (n : ℕ). n + length s.left) (length-map s.done (λ (d : Done). d.order))
+
+-- **An order that was left is executed.**
+pub one_more : (b n : State) → length n.left + 1 ≡ length b.left → orders_of n ≡ orders_of b → (length b.done < length (orders_of b)) × (length n.done ≡ length b.done + 1)
+one_more b n fewer kept = (omega (arith, fewer, orders_long b), omega (arith, fewer, orders_long b, orders_long n, ap length kept))

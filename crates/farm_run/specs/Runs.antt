@@ -38,6 +38,10 @@ pub record TellsFailed (before now : ℕ → Side → LineState) (lines : List L
   -- each stands behind those of smaller numbers, and none stands twice
   pub order : IsStrictlyIncreasing (map (λ l. place_of l.call l.side) lines)
 
+-- no line failed
+abbrev pub none_fails : ℕ → Side → Bool
+none_fails c s = false
+
 -- no count of a line rose, and none stands at its last value
 abbrev pub NoneRose : (ℕ → Side → LineState) → (ℕ → Side → LineState) → Type 0
 NoneRose before now = (c : ℕ) (s : Side) → Rose (before c s).faults (now c s).faults → ⊥

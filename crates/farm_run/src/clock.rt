@@ -69,6 +69,7 @@ fn work_round<R: Threads + Wait + Sync, T: Trunk, G: Gate + Sync>(
     requires live { (c : ℕ) → is_among farm.live c ≡ is_some (call_in farm.groups c) }
     requires knows { KnowsListed board.old farm.groups farm.failed }
     requires shut { AreShut board.old journal.old.ends }
+    requires bridges { length journal.old.bridges ≤ length board.old.done }
     requires ended { farm.ended ≤ clock }
     requires some { 1 ≤ periods }
     requires few { periods ≤ 250 }
@@ -76,6 +77,7 @@ fn work_round<R: Threads + Wait + Sync, T: Trunk, G: Gate + Sync>(
     requires clear { IfSome (first_stamp board.old.left) (λ s. clock + periods ≤ s) }
     ensures clock { IfOk result (λ farm. AtClock (clock + periods) board.new farm.groups) }
     ensures shut { IfOk result (λ farm. AreShut board.new journal.new.ends) }
+    ensures bridges { IfOk result (λ farm. length journal.new.bridges ≤ length board.new.done) }
     ensures kept { IfOk result (λ farm. orders_of board.new ≡ orders_of board.old) }
     ensures last { IfOk result (λ farm. last_stamp board.new.done ≡ last_stamp board.old.done) }
     ensures ended { IfOk result (λ farm. farm.ended ≤ clock + periods) }
@@ -150,6 +152,7 @@ fn work_all<R: Threads + Wait + Sync, T: Trunk, G: Gate + Sync>(
     requires clock { AtClock 0 board.old [] }
     requires none_done { board.old.done ≡ [] }
     requires none_noted { journal.old ≡ new_journal }
+    requires few { length (orders_of board.old) ≤ 65536 }
     ensures clock { IfOk result (λ farm. AtClock until board.new farm.groups) }
     ensures shut { IfOk result (λ farm. AreShut board.new journal.new.ends) }
     ensures kept { IfOk result (λ farm. orders_of board.new ≡ orders_of board.old) }

@@ -1,6 +1,6 @@
 //! The orders of the clock.
 
-ghost use Rattle.std.specs.Prelude.{◌≡◌, ◌<◌, ◌+◌, ℕ, true, false, Option, length, IfOk, IfSome};
+ghost use Rattle.std.specs.Prelude.{◌≡◌, ◌<◌, ◌≤◌, ◌+◌, ℕ, true, false, Option, length, IfOk, IfSome};
 ghost use Rattle.switchboard.specs.State.{first_stamp, orders_of};
 ghost use Rattle.farm_rounds.specs.Histories.{CallHistory, GroupsStand};
 ghost use Rattle.farm_output.specs.Run.{Run};
@@ -17,13 +17,15 @@ use std::alloc::{AllocError, Global};
 use switchboard::{Act, Board};
 use trau_io::{CallEnd, Cause};
 
-// Notes what an accepted order is about to do at a period.
-fn note(act: &Act, period: u32, farm: &Farm, journal: &mut Journal) -> Result<(), AllocError>
+// Notes what an accepted order is about to do at a period. It takes no memory.
+fn note(act: &Act, period: u32, farm: &Farm, journal: &mut Journal)
     requires numbers { AreNumbers act.now }
     requires once { ClosesOnce act.now journal.old.ends }
-    ensures ends { IfOk result (λ u. journal.new.ends ≡ ends_noted act.now period journal.old.ends) }
-    ensures noted { IfOk result (λ u. (h : ℕ → Option CallHistory) → GroupsStand h farm.now.groups →
-        journal.new ≡ noted_by act.now period (λ c. (kept_in farm.now.tallies h c).sent) journal.old) }
+    requires room { length journal.old.bridges < 65536 }
+    ensures ends { journal.new.ends ≡ ends_noted act.now period journal.old.ends }
+    ensures bridges { length journal.new.bridges ≤ length journal.old.bridges + 1 }
+    ensures noted { (h : ℕ → Option CallHistory) → GroupsStand h farm.now.groups →
+        journal.new ≡ noted_by act.now period (λ c. (kept_in farm.now.tallies h c).sent) journal.old }
 {
     match *act {
         Act::Opened { call } => journal.open(call, period),
@@ -35,15 +37,14 @@ fn note(act: &Act, period: u32, farm: &Farm, journal: &mut Journal) -> Result<()
         Act::Bridged { a, b } => {
             journal.settle(a, farm.sent(a));
             journal.settle(b, farm.sent(b));
-            journal.bridge(a, b)?;
+            journal.bridge(a, b);
         }
         Act::Unbridged { .. } | Act::LevelSet { .. } | Act::DtxSet { .. } => {}
     }
-    Ok(())
 }
 
 // Executes the next order where its stamp is the clock, and carries it out where it is accepted. Answers whether there
-// was one.
+// was one. Of its orders at most one makes each bridge that is noted.
 fn execute(
     alloc: Global,
     board: &mut Board,
@@ -53,8 +54,11 @@ fn execute(
 ) -> Result<bool, AllocError>
     requires clock { AtClock clock board.old farm.old.groups }
     requires shut { AreShut board.old journal.old.ends }
+    requires few { length (orders_of board.old) ≤ 65536 }
+    requires bridges { length journal.old.bridges ≤ length board.old.done }
     ensures clock { IfOk result (λ more. AtClock clock board.new farm.new.groups) }
     ensures shut { IfOk result (λ more. AreShut board.new journal.new.ends) }
+    ensures bridges { IfOk result (λ more. length journal.new.bridges ≤ length board.new.done) }
     ensures kept { orders_of board.new ≡ orders_of board.old }
     ensures done { IfOk result (λ more. more ≡ false → IfSome (first_stamp board.new.left) (λ s. clock < s)) }
     ensures left { IfOk result (λ more. more ≡ true → length board.new.left + 1 ≡ length board.old.left) }
@@ -73,7 +77,7 @@ fn execute(
         return Ok(false);
     };
     if let Ok(act) = reply.result {
-        note(&act, clock, farm, journal)?;
+        note(&act, clock, farm, journal);
         farm.apply(alloc, &act)?;
     }
     Ok(true)
@@ -89,8 +93,11 @@ pub(crate) fn execute_orders(
 ) -> Result<(), AllocError>
     requires clock { AtClock clock board.old farm.old.groups }
     requires shut { AreShut board.old journal.old.ends }
+    requires few { length (orders_of board.old) ≤ 65536 }
+    requires bridges { length journal.old.bridges ≤ length board.old.done }
     ensures clock { IfOk result (λ u. AtClock clock board.new farm.new.groups) }
     ensures shut { IfOk result (λ u. AreShut board.new journal.new.ends) }
+    ensures bridges { IfOk result (λ u. length journal.new.bridges ≤ length board.new.done) }
     ensures kept { orders_of board.new ≡ orders_of board.old }
     ensures done { IfOk result (λ u. IfSome (first_stamp board.new.left) (λ s. clock < s)) }
     ensures ended { IfOk result (λ u. farm.new.ended ≡ farm.old.ended) }

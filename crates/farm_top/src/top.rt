@@ -1,9 +1,9 @@
 // The top call: the words in, the octets and the text out, and the status.
-ghost use Rattle.std.specs.Prelude.{◌≡◌, ◌≢◌, ◌≤◌, ◌⊎◌, ℕ, false, List, codes};
+ghost use Rattle.std.specs.Prelude.{◌≡◌, ◌≢◌, ◌≤◌, ◌⊎◌, ℕ, List, codes};
 ghost use Rattle.trau_io.specs.declared.line.Side.TheVariants.{Up};
 ghost use Rattle.trau_orders.specs.declared.order.Order.{Order};
 ghost use Rattle.farm_output.specs.Run.{Run};
-ghost use Rattle.farm_run.specs.Runs.{IsRunOver, Leaves, NoneRose};
+ghost use Rattle.farm_run.specs.Runs.{IsRunOver, Leaves, NoneRose, none_fails};
 ghost use Rattle.farm_run.specs.Fronts.{IsCutShort};
 ghost use Rattle.farm_tools.specs.declared.end.Tool.{Tool};
 ghost use Rattle.farm_tools.specs.Causes.{Causes};
@@ -185,7 +185,7 @@ pub fn farm_top<R: Threads + Wait + Sync, T: Trunk, D: Desk, G: Gate + Sync>(
     ensures run_clean { (s : Settings) → AsksForRun (spelled words.now) s →
         (orders : List Order) → TellsOrders orders (D.desk desk.old) →
         IsCalmRun (T.lines trunk.old) (T.lines trunk.new) (D.desk desk.old) (D.desk desk.new) → result ≢ 5 →
-        (r : Run) → IsRunOver orders s.periods (λ c side. false) (T.lines trunk.old) (T.lines trunk.new) r →
+        (r : Run) → IsRunOver orders s.periods none_fails (T.lines trunk.old) (T.lines trunk.new) r →
         CleanFarm r (T.lines trunk.old) (T.lines trunk.new) (D.desk desk.old) (D.desk desk.new) result }
 
     // Whatever the desk does and whichever lines fail, a run that was carried to its end leaves on the lines what the run of
@@ -205,7 +205,7 @@ pub fn farm_top<R: Threads + Wait + Sync, T: Trunk, D: Desk, G: Gate + Sync>(
     ensures run_leaves { (s : Settings) → AsksForRun (spelled words.now) s →
         (orders : List Order) → TellsOrders orders (D.desk desk.old) →
         NoneRose (T.lines trunk.old) (T.lines trunk.new) → (result ≡ 0) ⊎ (result ≡ 4) →
-        (r : Run) → IsRunOver orders s.periods (λ c side. false) (T.lines trunk.old) (T.lines trunk.new) r → Leaves r (λ c side. false) (T.lines trunk.old) (T.lines trunk.new) }
+        (r : Run) → IsRunOver orders s.periods none_fails (T.lines trunk.old) (T.lines trunk.new) r → Leaves r none_fails (T.lines trunk.old) (T.lines trunk.new) }
 
     // The headline. Whatever the cuts of reads and writes, the orders, the workers, batch and slices and the interleaving of
     // the workers, the octets written on a call's outgoing lines are those of the definition of the call as a whole, of its
@@ -215,7 +215,7 @@ pub fn farm_top<R: Threads + Wait + Sync, T: Trunk, D: Desk, G: Gate + Sync>(
     ensures headline { (s : Settings) → AsksForRun (spelled words.now) s →
         (orders : List Order) → TellsOrders orders (D.desk desk.old) →
         NoneRose (T.lines trunk.old) (T.lines trunk.new) → (result ≡ 0) ⊎ (result ≡ 4) →
-        (r : Run) → IsRunOver orders s.periods (λ c side. false) (T.lines trunk.old) (T.lines trunk.new) r → Headline r (λ c side. false) (T.lines trunk.old) (T.lines trunk.new) }
+        (r : Run) → IsRunOver orders s.periods none_fails (T.lines trunk.old) (T.lines trunk.new) r → Headline r none_fails (T.lines trunk.old) (T.lines trunk.new) }
 
     // Where nothing fails and the outside tells what it holds, the outgoing line has gained exactly what is made of
     // the incoming line's blocks up to the first refused one, and the desk exactly the text.

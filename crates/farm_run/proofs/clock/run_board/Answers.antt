@@ -13,6 +13,9 @@ returns-clause-runs g c =
     run_told (orders_of c.args.board.now) c.args.pace.now first (g.T.Trunk.lines c.work_all.new.trunk) c.work_all.new.board c.in_ok-farm.farm c.work_all.new.journal _ c.finish.result
     (record { tells = e.failed; sides = e.sides; reads = e.reads; at = e.run; wrote = e.wrote; short = e.short; known = e.known }) c.finish.ensures.failed c.requires.count c.finish.ensures.reports
 
+pub work_all-requires-clause-few : goal.work_all-requires-clause-few
+work_all-requires-clause-few g c κs lives = omega (arith, c.requires.count, c.requires.few)
+
 pub returns-clause-cut : goal.returns-clause-cut
 returns-clause-cut g c =
     let first : ℕ → Side → LineState = g.T.Trunk.lines c.args.trunk.now in

@@ -1,4 +1,4 @@
-use Rattle.std.proofs.Common.{◌≡◌, refl, sym, ap, ◌∙◌, subst, ℕ, ◌+◌, ◌<◌, ◌≤◌, Option, List, arith}
+use Rattle.std.proofs.Common.{◌≡◌, refl, sym, ap, ◌∙◌, subst, ℕ, ◌+◌, ◌<◌, ◌≤◌, Option, List, length, arith}
 use Rattle.std.specs.Prelude.{IfSome}
 use Rattle.trau_io.specs.declared.line.Line.{Line}
 use Rattle.trau_io.specs.declared.line.Side.{Side}
@@ -44,6 +44,7 @@ loop-clock-init g c =
       sides = sides_none lines;
       reads = λ d s octets i e. (0, e);
       shut = λ d t. let q = sym (ap (λ (j : JournalMemory). is_told d j.ends) c.requires.none_noted) ∙ t in cc;
+      bridges = (let q = ap (λ (j : JournalMemory). length j.bridges) c.requires.none_noted in omega (arith, q));
       knows = subst (λ (ls : List Line). KnowsListed c.args.board.now c.in_ok-farm.farm.groups ls) (sym none) (knows_first c.args.board.now c.in_ok-farm.farm.groups empty);
       run = λ r last run least on. at_first r c.args.board.now c.in_ok-farm.farm.groups r.periods lines last c.requires.clock.orders c.requires.none_done e.history run;
       wrote = λ r last run least on. subst (λ (ls : List Line). WrittenFrom r 0 0 (is_listed ls) lines lines) (sym none) (written_first r 0 lines);
@@ -65,6 +66,15 @@ work_round-requires-clause-clock g c κs lives = c.in_ok-execute_orders.ensures.
 
 pub work_round-requires-clause-knows : goal.work_round-requires-clause-knows
 work_round-requires-clause-knows g c κs lives = c.in_ok-execute_orders.ensures.knows c.loop-clock.invariant.knows
+
+pub execute_orders-requires-clause-few : goal.execute_orders-requires-clause-few
+execute_orders-requires-clause-few g c = omega (arith, ap length c.loop-clock.invariant.kept, c.requires.few)
+
+pub execute_orders-requires-clause-bridges : goal.execute_orders-requires-clause-bridges
+execute_orders-requires-clause-bridges g c = c.loop-clock.invariant.bridges
+
+pub work_round-requires-clause-bridges : goal.work_round-requires-clause-bridges
+work_round-requires-clause-bridges g c κs lives = c.in_ok-execute_orders.ensures.bridges
 
 pub work_round-requires-clause-shut : goal.work_round-requires-clause-shut
 work_round-requires-clause-shut g c κs lives = c.in_ok-execute_orders.ensures.shut
@@ -105,6 +115,7 @@ loop-clock-preserved-then-is_empty g c =
       sides = inv.sides;
       reads = inv.reads;
       shut = e.shut;
+      bridges = e.bridges;
       knows = e.knows inv.knows;
       run = λ r last run least on.
           let was = inv.run r last run least (before last on) in
@@ -154,6 +165,7 @@ loop-clock-preserved g c =
       sides = sides_more first before now inv.sides w.sides;
       reads = reads_more first before now inv.reads w.goes.read_on;
       shut = w.shut;
+      bridges = w.bridges;
       knows = w.knows;
       run = λ r last run least on.
           let was = inv.run r last run least (earlier last on) in

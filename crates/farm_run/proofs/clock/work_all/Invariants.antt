@@ -1,4 +1,4 @@
-use Rattle.std.proofs.Common.{◌≡◌, ◌≤◌, ◌-◌}
+use Rattle.std.proofs.Common.{◌≡◌, ◌≤◌, ◌-◌, length}
 use Rattle.switchboard.specs.State.{orders_of}
 use Rattle.farm_output.specs.Run.{Run}
 use Rattle.farm_run.specs.Match.{AtClock}
@@ -20,6 +20,7 @@ invariant-loop-clock g l = record {
   sides : KeepsSides (g.T.Trunk.lines l.initial.trunk) (g.T.Trunk.lines l.trunk);
   reads : ReadsOn (g.T.Trunk.lines l.initial.trunk) (g.T.Trunk.lines l.trunk);
   shut : AreShut l.board l.journal.ends;
+  bridges : length l.journal.bridges ≤ length l.board.done;
   knows : KnowsListed l.board l.farm.groups l.farm.failed;
   run : (r : Run) (last : Standing) → IsRunOver (orders_of l.initial.board) r.periods last.listed (g.T.Trunk.lines l.initial.trunk) last.lines r → l.until ≤ r.periods →
       GoesOn (standing l.board l.farm.failed (g.T.Trunk.lines l.trunk)) last → IsAtClock r l.clock l.board l.farm.groups last (g.T.Trunk.lines l.initial.trunk) (g.T.Trunk.lines l.trunk);

@@ -1,4 +1,4 @@
-use Rattle.std.proofs.Common.{refl, sym, ap, ◌∙◌, subst, ℕ, ◌+◌, ◌≤◌, arith}
+use Rattle.std.proofs.Common.{refl, sym, ap, ◌∙◌, subst, ℕ, ◌+◌, ◌≤◌, length, arith}
 use Rattle.std.specs.List.{filter_map}
 use Rattle.round_lines.specs.Rounds.{seat_end}
 use Rattle.switchboard.specs.State.{State, last_stamp, orders_of}
@@ -124,6 +124,13 @@ returns-clause-shut g c =
     subst (λ (j : JournalMemory). AreShut c.tell_ends.new.board j.ends) (sym told.noted)
     (shut_more c.args.board.now c.tell_ends.new.board c.args.journal.now.ends c.ends.result.now c.requires.shut (tells_open _ _ c.args.board.now _ _ _ _ _ _ _ (parts.front _ _ _ _ _ _ _ (round g c)) c.requires.clock) told.told told.open)
 
+pub returns-clause-bridges : goal.returns-clause-bridges
+returns-clause-bridges g c =
+    let told = c.tell_ends.ensures in
+    let noted = ap (λ (j : JournalMemory). length j.bridges) told.noted in
+    let done = ap length (ap (λ (s : State). s.done) told.told ∙ told_done c.args.board.now c.ends.result.now) in
+    omega (arith, noted, done, c.requires.bridges)
+
 pub returns-clause-kept : goal.returns-clause-kept
 returns-clause-kept g c = ap (λ (s : State). orders_of s) c.tell_ends.ensures.told ∙ told_orders c.args.board.now c.ends.result.now
 
@@ -206,6 +213,7 @@ returns-in_err-round g c =
     record {
       clock = IfOk-from_err _ _ no;
       shut = IfOk-from_err _ _ no;
+      bridges = IfOk-from_err _ _ no;
       kept = IfOk-from_err _ _ no;
       last = IfOk-from_err _ _ no;
       ended = IfOk-from_err _ _ no;

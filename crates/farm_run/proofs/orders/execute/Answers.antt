@@ -1,4 +1,4 @@
-use Rattle.std.proofs.Common.{◌≡◌, ℕ, sym, ap, ◌∙◌, subst, arith, refl, List}
+use Rattle.std.proofs.Common.{◌≡◌, ◌≤◌, ℕ, sym, ap, ◌∙◌, subst, arith, refl, List, length}
 use Rattle.std.specs.Prelude.{IfOk, OnErr, Err, is_some}
 use Rattle.trau_orders.specs.Lists.{AreOrders}
 use Rattle.switchboard.specs.declared.act.Act.{Act}
@@ -12,7 +12,7 @@ use Rattle.farm_run.proofs.Matching.{fits, named, matches_more, matches_same}
 use Rattle.farm_run.proofs.Following.{due_of, told_kept, left_fewer, ahead_more, follows_more, follows_same}
 use Rattle.farm_run.specs.Standing.{KnowsListed}
 use Rattle.farm_run.specs.Ending.{AreShut}
-use Rattle.farm_run.proofs.FewEnds.{closes_once, shut_ordered, shut_same}
+use Rattle.farm_run.proofs.FewEnds.{closes_once, one_more, shut_ordered, shut_same}
 use Rattle.farm_run.proofs.Boards.{over_turned, knows_more, knows_same}
 use Rattle.trau_io.specs.declared.line.Line.{Line}
 use Rattle.switchboard.specs.State.{State}
@@ -29,6 +29,21 @@ pub note-requires-clause-once : goal.note-requires-clause-once
 note-requires-clause-once c =
     closes_once c.args.board.now c.args.journal.now.ends c.in-Ok.act c.requires.shut
     (subst (λ x. IfOk x (λ (a : Act). Finds a (opened_now c.args.board.now) (open_now c.args.board.now) (partner_now c.args.board.now))) c.in-Ok.is c.in-Some.ensures.finds)
+
+pub note-requires-clause-room : goal.note-requires-clause-room
+note-requires-clause-room c =
+    let more = one_more c.args.board.now c.turn.new.self (left_fewer _ _ _ _ (due_of c.args.board.now c.turn.new.self c.args.clock c.in-Some.reply (sym c.in-Some.is ∙ c.turn.ensures.answer) c.turn.ensures.state)) c.turn.ensures.kept in
+    omega (arith, more.0, c.requires.few, c.requires.bridges)
+
+pub returns-in_ok-apply-clause-bridges : goal.returns-in_ok-apply-clause-bridges
+returns-in_ok-apply-clause-bridges c =
+    let more = one_more c.args.board.now c.turn.new.self (left_fewer _ _ _ _ (due_of c.args.board.now c.turn.new.self c.args.clock c.in-Some.reply (sym c.in-Some.is ∙ c.turn.ensures.answer) c.turn.ensures.state)) c.turn.ensures.kept in
+    omega (arith, more.1, c.requires.bridges, c.note.ensures.bridges)
+
+pub returns-in_default-result-clause-bridges : goal.returns-in_default-result-clause-bridges
+returns-in_default-result-clause-bridges c =
+    let more = one_more c.args.board.now c.turn.new.self (left_fewer _ _ _ _ (due_of c.args.board.now c.turn.new.self c.args.clock c.in-Some.reply (sym c.in-Some.is ∙ c.turn.ensures.answer) c.turn.ensures.state)) c.turn.ensures.kept in
+    omega (arith, more.1, c.requires.bridges)
 
 pub turn-requires-clause-orders : goal.turn-requires-clause-orders
 turn-requires-clause-orders c = c.requires.clock.ahead
@@ -96,7 +111,7 @@ returns-in_ok-apply-clause-noted c = λ r under f noted.
     let e = c.in-Some.ensures in
     let farm = c.args.farm.now in
     let h = histories_at r b.done c.args.clock in
-    subst (λ (j : JournalMemory). Noted r n.done c.args.clock j c.apply.new.self.tallies) (sym (c.in_ok-note.ensures.noted h f.stands))
+    subst (λ (j : JournalMemory). Noted r n.done c.args.clock j c.apply.new.self.tallies) (sym (c.note.ensures.noted h f.stands))
     (noted_accepted r c.args.clock b n c.in-Some.reply farm.groups c.apply.new.self.groups (due_of b n c.args.clock c.in-Some.reply (sym c.in-Some.is ∙ c.turn.ensures.answer) c.turn.ensures.state)
     under f (returns-in_ok-apply-clause-follows c r under f) c.args.journal.now farm.tallies c.apply.new.self.tallies noted c.in-Ok.act c.in-Ok.is
     (subst (λ x. IfOk x (λ (a : Act). Finds a (opened_now b) (open_now b) (partner_now b))) c.in-Ok.is e.finds)
@@ -130,7 +145,7 @@ returns-in_ok-apply-clause-shut c =
     let b = c.args.board.now in
     let n = c.turn.new.self in
     let e = c.in-Some.ensures in
-    subst (AreShut n) (sym c.in_ok-note.ensures.ends) (shut_ordered b n c.args.journal.now.ends c.in-Ok.act c.args.clock c.requires.shut
+    subst (AreShut n) (sym c.note.ensures.ends) (shut_ordered b n c.args.journal.now.ends c.in-Ok.act c.args.clock c.requires.shut
     (subst (λ x. IfOk x (λ (a : Act). Finds a (opened_now b) (open_now b) (partner_now b))) c.in-Ok.is e.finds)
     (subst (λ x. IfOk x (λ (a : Act). (c' : ℕ) → opened_now n c' ≡ opened_after a (opened_now b) c')) c.in-Ok.is e.opened)
     (subst (λ x. IfOk x (λ (a : Act). (c' : ℕ) → open_now n c' ≡ open_after a (open_now b) c')) c.in-Ok.is e.open))
@@ -209,6 +224,9 @@ returns-in_default-clause-clock c = subst (λ (s : State). AtClock c.args.clock 
 pub returns-in_default-clause-shut : goal.returns-in_default-clause-shut
 returns-in_default-clause-shut c = subst (λ (s : State). AreShut s c.args.journal.now.ends) (same_board c) c.requires.shut
 
+pub returns-in_default-clause-bridges : goal.returns-in_default-clause-bridges
+returns-in_default-clause-bridges c = subst (λ (s : State). length c.args.journal.now.bridges ≤ length s.done) (same_board c) c.requires.bridges
+
 pub returns-in_default-clause-left : goal.returns-in_default-clause-left
 returns-in_default-clause-left c = λ e. cc
 
@@ -221,30 +239,13 @@ returns-in_default-clause-follows c = λ r under f. subst (λ (s : State). Follo
 pub returns-in_default-clause-noted : goal.returns-in_default-clause-noted
 returns-in_default-clause-noted c = λ r under f noted. subst (λ (s : State). Noted r s.done c.args.clock c.args.journal.now c.args.farm.now.tallies) (same_board c) noted
 
-pub returns-in_err-note : goal.returns-in_err-note
-returns-in_err-note c =
+pub returns-in_err-apply : goal.returns-in_err-apply
+returns-in_err-apply c =
     let no = c.from_residual.ensures.0 in
     record {
       clock = IfOk-from_err _ _ no;
       shut = IfOk-from_err _ _ no;
-      kept = c.turn.ensures.kept;
-      done = IfOk-from_err _ _ no;
-      left = IfOk-from_err _ _ no;
-      ended = IfOk-from_err _ _ no;
-      failed = IfOk-from_err _ _ no;
-      knows = λ knows. IfOk-from_err _ _ no;
-      over = over_turned c.args.board.now c.turn.new.self _ c.turn.ensures.state;
-      follows = λ r under f. IfOk-from_err _ _ no;
-      told = told_kept c.args.board.now c.turn.new.self _ c.turn.ensures.state;
-      noted = λ r under f noted. IfOk-from_err _ _ no;
-    }
-
-pub returns-in_err-apply : goal.returns-in_err-apply
-returns-in_err-apply c =
-    let no = c.from_residual-in_err-apply.ensures.0 in
-    record {
-      clock = IfOk-from_err _ _ no;
-      shut = IfOk-from_err _ _ no;
+      bridges = IfOk-from_err _ _ no;
       kept = c.turn.ensures.kept;
       done = IfOk-from_err _ _ no;
       left = IfOk-from_err _ _ no;

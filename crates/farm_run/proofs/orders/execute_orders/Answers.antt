@@ -1,4 +1,4 @@
-use Rattle.std.proofs.Common.{refl, ◌∙◌}
+use Rattle.std.proofs.Common.{refl, ap, ◌∙◌, length, arith}
 use Rattle.std.proofs.lemmas.Result.{IfOk-from_err}
 use Rattle.farm_run.proofs.orders.execute_orders.Goals as goal
 
@@ -6,6 +6,7 @@ pub loop-init : goal.loop-init
 loop-init c = record {
   clock = c.requires.clock;
   shut = c.requires.shut;
+  bridges = c.requires.bridges;
   kept = refl;
   ended = refl;
   failed = refl;
@@ -23,6 +24,7 @@ loop-preserved c =
     record {
       clock = e.clock;
       shut = e.shut;
+      bridges = e.bridges;
       kept = c.execute.ensures.kept ∙ inv.kept;
       ended = e.ended ∙ inv.ended;
       failed = e.failed ∙ inv.failed;
@@ -36,6 +38,12 @@ loop-preserved c =
 pub execute-requires-clause-clock : goal.execute-requires-clause-clock
 execute-requires-clause-clock c = c.loop.invariant.clock
 
+pub execute-requires-clause-few : goal.execute-requires-clause-few
+execute-requires-clause-few c = omega (arith, ap length c.loop.invariant.kept, c.requires.few)
+
+pub execute-requires-clause-bridges : goal.execute-requires-clause-bridges
+execute-requires-clause-bridges c = c.loop.invariant.bridges
+
 pub execute-requires-clause-shut : goal.execute-requires-clause-shut
 execute-requires-clause-shut c = c.loop.invariant.shut
 
@@ -46,6 +54,7 @@ returns c =
     record {
       clock = e.clock;
       shut = e.shut;
+      bridges = e.bridges;
       kept = c.execute.ensures.kept ∙ inv.kept;
       done = e.done c.if-branch.false;
       ended = e.ended ∙ inv.ended;
@@ -63,6 +72,7 @@ returns-in_err-execute c =
     record {
       clock = IfOk-from_err _ _ no;
       shut = IfOk-from_err _ _ no;
+      bridges = IfOk-from_err _ _ no;
       kept = c.execute.ensures.kept ∙ c.loop.invariant.kept;
       done = IfOk-from_err _ _ no;
       ended = IfOk-from_err _ _ no;

@@ -1,4 +1,4 @@
-use Rattle.std.proofs.Common.{◌≡◌, ◌<◌, ℕ, true, length}
+use Rattle.std.proofs.Common.{◌≡◌, ◌<◌, ◌≤◌, ℕ, true, length}
 use Rattle.switchboard.specs.State.{orders_of}
 use Rattle.farm_output.specs.Run.{Run}
 use Rattle.farm_run.specs.Match.{AtClock, Follows}
@@ -11,6 +11,7 @@ abbrev pub invariant-loop : goal.invariant-loop
 invariant-loop l = record {
   clock : AtClock l.clock l.board l.farm.groups;
   shut : AreShut l.board l.journal.ends;
+  bridges : length l.journal.bridges ≤ length l.board.done;
   kept : orders_of l.board ≡ orders_of l.initial.board;
   ended : l.farm.ended ≡ l.initial.farm.ended;
   failed : l.farm.failed ≡ l.initial.farm.failed;
