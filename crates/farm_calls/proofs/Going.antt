@@ -1,6 +1,6 @@
 -- What a call is handed goes out: the frames that carry it are made in the period in which it is handed over or in the
 -- next one.
-use Rattle.std.proofs.Common.{◌≡◌, refl, sym, ap, ◌∙◌, subst, ℕ, zero, suc, ◌+◌, ◌-◌, ◌*◌, ◌<◌, ◌≤◌, Bool, true, false, List, [], ◌∷◌, ◌++◌, length, map, reverse, inl, inr, arith, length-append}
+use Rattle.std.proofs.Common.{◌≡◌, refl, sym, ap, ◌∙◌, subst, ℕ, zero, suc, ◌+◌, ◌-◌, ◌*◌, ◌<◌, ◌≤◌, Bool, true, false, Some, List, [], ◌∷◌, ◌++◌, length, map, reverse, inl, inr, arith, length-append}
 use Rattle.std.specs.Prelude.{if◌then◌else◌, nat_lt, is_some, filter, Contains}
 use Rattle.std.proofs.lemmas.Bool.{cases_lt, and_from, le-leb, lt-ltb, or_left, or_right, eq-eqb}
 use Rattle.std.proofs.lemmas.List.{length-reverse}
@@ -19,7 +19,7 @@ use Rattle.call_output.proofs.Whole.{history-whole, call-whole}
 use Rattle.farm_output.specs.Run.{Run, done_in, spans_in, start_in, end_in, is_of, periods_in}
 use Rattle.farm_output.specs.Facts.{carries_in, sent_by, span_line}
 use Rattle.farm_calls.specs.Whole.{begins_in, span_for, whole_call, IsBridged}
-use Rattle.farm_calls.specs.Sent.{frame_count, Sends, IsFirst}
+use Rattle.farm_calls.specs.Sent.{frame_count, CarriesHanded, Sends, Waits, IsFirst}
 use Rattle.farm_calls.proofs.Spans.{LiesIn}
 use Rattle.farm_calls.proofs.Periods.{is_whole, history_same, count_periods}
 use Rattle.farm_calls.proofs.Items.{span_lies, bridged_lies}
@@ -81,6 +81,45 @@ handed_goes items enough r c t x a b l =
   where
     placed : (s from t to e : ℕ) → s ≤ from → from ≤ t → t < to → t + 1 < e → (suc (t - from) ≤ (to - s) - (from - s)) × (from - s + suc (t - from) < e - s)
     placed s from t to e k l m n = (omega arith, omega arith)
+
+-- ---- and soon
+
+-- **It goes out in a frame that is made in the period in which it is handed over or in the next one.**
+pub handed_soon : CarriesItems → AreEnough → (r : Run) (c t : ℕ) (x : board.Span) (j : ℕ) → AreOrders r.orders → IsBridged r c t x → CarriesHanded r c t x j →
+    let made = start_in r c + when (frame_at (whole_call r c) j).start in (t ≤ made) × (made ≤ t + 1)
+handed_soon items enough r c t x j a b h =
+    let call = whole_call r c in
+    let span = span_for r c x in
+    let k = bridged_lies r c t x a b in
+    let among = kept_among (begins_in r c) (span_for r c) (spans_in r) x b.span (bridged_begins r c t x a b) in
+    let f = first_made call span in
+    let n = placed (start_in r c) x.from t x.to (end_in r c) k.opened b.begun b.lasts k.over in
+    let before : span.from + (t - x.from) < periods call = subst (λ n. x.from - start_in r c + (t - x.from) < n) (sym (count_periods r c)) n.1 in
+    let made = items_made items enough call among.0 among.1 span f.0 (is_whole r c a k.known) among.2 f.1 (t - x.from) n.0 before in
+    let each : (i : ℕ) → i < t - x.from → (h : ℕ) × ((frame_at call (f.0 + i)).carries ≡ Some h) = λ i l. (span.from + i, items call among.0 among.1 span (f.0 + i) i (is_whole r c a k.known) among.2 (made i l) ((item_place call span f.0 (f.0 + i) i f.1 (less i l n.0)).1 refl)) in
+    let start : (frame_at call (f.0 + (t - x.from))).start ≡ (frame_at call f.0).start + 160 * (t - x.from) = item_start call f.0 (t - x.from) each in
+    let place : j ≡ f.0 + (t - x.from) = (handed_place r c t x f.0 j a b f.1).0 h in
+    let here : (frame_at call j).start ≡ (frame_at call f.0).start + 160 * (t - x.from) = ap (λ (i : ℕ). (frame_at call i).start) place ∙ start in
+    soon (start_in r c) x.from t (frame_at call f.0).start (frame_at call j).start k.opened b.begun f.1.begun (first_start call span f.0 f.1) here
+  where
+    placed : (s from t to e : ℕ) → s ≤ from → from ≤ t → t < to → to ≤ e → (t - from ≤ (to - s) - (from - s)) × (from - s + (t - from) < e - s)
+    placed s from t to e k l m n = (omega arith, omega arith)
+
+    less : (i : ℕ) → i < t - x.from → t - x.from ≤ (span_for r c x).to - (span_for r c x).from → i < (span_for r c x).to - (span_for r c x).from
+    less i l m = omega arith
+
+    soon : (s from t first start : ℕ) → s ≤ from → from ≤ t → from - s ≤ when first → first ≤ 160 * (from - s) + 156 → start ≡ first + 160 * (t - from) → (t ≤ s + when start) × (s + when start ≤ t + 1)
+    soon s from t first start k l m n e = (omega arith, omega arith)
+
+-- **So between periods only that of the period just over waits.**
+pub one_waits : CarriesItems → AreEnough → (r : Run) (c u t : ℕ) (x : board.Span) → AreOrders r.orders → Waits r c u t x → u ≡ t + 1
+one_waits items enough r c u t x a w =
+    let f = first_made (whole_call r c) (span_for r c x) in
+    let h : CarriesHanded r c t x (f.0 + (t - x.from)) = (handed_place r c t x f.0 (f.0 + (t - x.from)) a w.bridged f.1).1 refl in
+    let soon = (handed_soon items enough r c t x (f.0 + (t - x.from)) a w.bridged h).1 in
+    let unsent = w.unsent (f.0 + (t - x.from)) h in
+    let handed = w.handed in
+    omega (arith, soon, unsent, handed)
 
 -- ---- how many go out
 

@@ -7,7 +7,7 @@ use Rattle.switchboard.specs.declared.act.Span as board
 use Rattle.down_framer.specs.ByNumber.{when}
 use Rattle.call_output.specs.Call.{Call, Span}
 use Rattle.call_output.specs.Down.{frame_at, made, HasItem, down_frames}
-use Rattle.farm_output.specs.Run.{Run}
+use Rattle.farm_output.specs.Run.{Run, start_in}
 use Rattle.farm_calls.specs.Whole.{span_for, whole_call, IsBridged}
 
 -- how many frames a call makes, these frames as they are sent, and frame j
@@ -33,6 +33,13 @@ pub record Sends (r : Run) (c t : ℕ) (x : board.Span) (j : ℕ) : Type 0 where
   pub bridged : IsBridged r c t x
   pub made : j < frame_count r c
   pub carries : CarriesHanded r c t x j
+
+-- Between periods, as period u of the run begins, what call c is handed in an earlier period t of span x waits: no frame
+-- that was made before carries it.
+pub record Waits (r : Run) (c u t : ℕ) (x : board.Span) : Type 0 where
+  pub bridged : IsBridged r c t x
+  pub handed : t < u
+  pub unsent : (j : ℕ) → CarriesHanded r c t x j → u ≤ start_in r c + when (frame_at (whole_call r c) j).start
 
 -- the first frame made in a span's first period or later
 pub record IsFirst (call : Call) (span : Span) (j : ℕ) : Type 0 where

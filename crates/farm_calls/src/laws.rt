@@ -12,6 +12,7 @@ ghost use Rattle.switchboard.specs.declared.act.Span.{Span};
 ghost use Rattle.switchboard.specs.Calls.{opened_at};
 ghost use Rattle.frame_sync.specs.declared.yields.Yield.TheVariants.{Frame};
 ghost use Rattle.call_leg.specs.Uplink.{handed_fields};
+ghost use Rattle.down_framer.specs.ByNumber.{when};
 ghost use Rattle.call_output.specs.Call.{Call, Span as CallSpan};
 ghost use Rattle.call_output.specs.Out.{out};
 ghost use Rattle.call_output.specs.Down.{frame_at, made, down};
@@ -20,7 +21,7 @@ ghost use Rattle.farm_output.specs.Run.{Run, done_in, spans_in, start_in, end_in
 ghost use Rattle.farm_output.specs.Lines.{out_of_call, down_of_call};
 ghost use Rattle.farm_output.specs.Facts.{carries_in, sent_by, span_line};
 ghost use Rattle.farm_calls.specs.Whole.{span_for, whole_call, IsBridged, item_for, yield_on, frame_on};
-ghost use Rattle.farm_calls.specs.Sent.{frame_count, sent_frames, sent_frame, place_in, CarriesHanded, Sends, IsFirst};
+ghost use Rattle.farm_calls.specs.Sent.{frame_count, sent_frames, sent_frame, place_in, CarriesHanded, Sends, Waits, IsFirst};
 
 use call_output::{a_call_by_its_periods, frames_of_a_call};
 use rx_handler::laws::{the_newest_is_the_last, the_table_looks_back};
@@ -98,6 +99,12 @@ pub fn items_go_out_in_order_and_once()
         CarriesHanded r c t x j → CarriesHanded r c u x k → t < u → j < k }
     ensures once { (r : Run) (c t : ℕ) (x : Span) (j k : ℕ) → AreOrders r.orders → IsBridged r c t x →
         CarriesHanded r c t x j → CarriesHanded r c t x k → j ≡ k }
+
+    // It is made in the period in which it is handed over or in the next one. So between periods at most one handed frame
+    // waits: that of the period just over.
+    ensures soon { (r : Run) (c t : ℕ) (x : Span) (j : ℕ) → AreOrders r.orders → IsBridged r c t x → CarriesHanded r c t x j →
+        let made = start_in r c + when (frame_at (whole_call r c) j).start in (t ≤ made) × (made ≤ t + 1) }
+    ensures one_waits { (r : Run) (c u t : ℕ) (x : Span) → AreOrders r.orders → Waits r c u t x → u ≡ t + 1 }
 
     // The report counts what goes out: the frames made that carry what was handed over in the span. In each direction at
     // most one is lost.

@@ -1,12 +1,13 @@
 -- The clock of a run at its start, where it goes on with no call open, and at its end.
-use Rattle.std.proofs.Common.{◌≡◌, refl, sym, ap, ◌∙◌, subst, ℕ, ◌+◌, ◌-◌, ◌*◌, ◌<◌, ◌≤◌, Bool, true, false, not, ◌&&◌, Option, Some, None, List, [], ◌∷◌, ◌++◌, length, map, drop, inl, inr, arith}
+use Rattle.std.proofs.Common.{◌≡◌, refl, sym, ap, ◌∙◌, subst, ℕ, ◌+◌, ◌-◌, ◌*◌, ◌<◌, ◌≤◌, Bool, true, false, not, ◌&&◌, Option, Some, None, List, [], ◌∷◌, ◌++◌, length, map, drop, inl, inr, arith, append-nil}
 use Rattle.std.specs.Prelude.{min, ◌==◌, is_some, IfSome, Result, Ok, Err, IfOk}
 use Rattle.std.specs.Io.KnownBytes.{Appends}
 use Rattle.std.proofs.KnownBytes.{Appends-nil}
 use Rattle.std.proofs.lemmas.Bool.{eqb-true, true≢false}
+use Rattle.std.proofs.lemmas.List.{drop_all}
 use Rattle.trau_io.specs.declared.line.Line.{Line}
 use Rattle.trau_io.specs.declared.line.Side.{Side}
-use Rattle.trau_io.specs.declared.line.Side.TheVariants.{Down, Out}
+use Rattle.trau_io.specs.declared.line.Side.TheVariants.{Up, Pcm, Down, Out}
 use Rattle.trau_io.specs.Lines.{LineState}
 use Rattle.trau_bits.specs.Bits.{octets_of}
 use Rattle.trau_bits.proofs.Octets.{length-octets_of}
@@ -22,7 +23,7 @@ use Rattle.farm_rounds.specs.Calls.{call_in, partner_in}
 use Rattle.farm_rounds.specs.Numbers.{is_among}
 use Rattle.farm_rounds.specs.Memory.{FarmMemory}
 use Rattle.farm_rounds.specs.Histories.{CallHistory, CallStands, GroupsStand}
-use Rattle.farm_output.specs.Run.{Run, whole_in, done_in, periods_to, periods_in}
+use Rattle.farm_output.specs.Run.{Run, whole_in, done_in, periods_to, periods_in, end_in}
 use Rattle.farm_output.specs.Now.{IsSoFar, settings_now}
 use Rattle.farm_output.specs.Facts.{report_of}
 use Rattle.farm_report.specs.View.{ReportView}
@@ -31,10 +32,14 @@ use Rattle.farm_run.specs.Noted.{IsAtEnd, IsKnown}
 use Rattle.farm_output.specs.Lines.{out_line, down_octets}
 use Rattle.farm_output.proofs.Standing.{gone_later}
 use Rattle.farm_output.proofs.SoFar.{so_far_at_first, so_far_later}
-use Rattle.farm_run.specs.Runs.{IsOpened, TellsFailed, KeepsSides, NoneRose, IsRunOver, Leaves, Runs}
+use Rattle.farm_run.specs.Runs.{IsOpened, TellsFailed, KeepsSides, ReadsOn, NoneRose, IsRunOver, IsWritten, IsReadTo, is_listed, Leaves, FailedShort, Runs}
+use Rattle.farm_run.specs.Standing.{Standing, standing, KnowsListed, HasFlags, IsToCome, never_given}
+use Rattle.farm_run.proofs.Meeting.{told_first}
+use Rattle.farm_run.proofs.Being.{there_is}
+use Rattle.farm_run.proofs.Listed.{listed_head}
 use Rattle.farm_run.specs.declared.pace.Pace.{Pace}
 use Rattle.farm_run.specs.Match.{AtClock, past_if, histories_at}
-use Rattle.farm_run.specs.Clock.{end_in, worked_to, IsReadWhole, LinesAt, IsAtClock, NeverFell}
+use Rattle.farm_run.specs.Clock.{worked_to, IsReadWhole, LinesAt, WrittenFrom, IsAtClock, NeverFell}
 use Rattle.farm_run.proofs.Rounds.{shut_after}
 use Rattle.farm_run.proofs.Worked.{length-periods_to}
 use Rattle.farm_run.proofs.Following.{open_told}
@@ -47,7 +52,7 @@ pub fell_none : (lines : ℕ → Side → LineState) → NeverFell lines lines
 fell_none lines c s = omega arith
 
 pub tells_none : (lines : ℕ → Side → LineState) → TellsFailed lines lines []
-tells_none lines = record { rose = λ c s h. (let l = h.1 in absurd (omega arith)); kept = λ c s h. refl; order = λ i j d l m. absurd (omega arith) }
+tells_none lines = record { failures = record { rose = λ c s h. cc; kept = λ c s h. refl }; order = λ k l. absurd (omega arith) }
 
 none_worked : (r : Run) (c : ℕ) → worked_to r 0 c ≡ 0
 none_worked r c = by (end_in r c) (start_of (done_in r) c)
@@ -62,14 +67,25 @@ no_octets c = by (octets_of []) (length-octets_of [] 0 refl)
     by [] e = refl
     by (x ∷ xs) e = absurd (omega arith)
 
-lines_at_first : (r : Run) (os : List Order) (periods : ℕ) (lines : ℕ → Side → LineState) → IsRunOver os periods lines r → LinesAt r 0 lines lines
-lines_at_first r os periods lines run = record {
-  out = λ c i. subst (λ (k : ℕ). Appends (lines c Out).written (lines c Out).written (out_line c (periods_to r c k))) (sym (none_worked r c)) (Appends-nil (lines c Out).written);
-  down = λ c i. subst (λ (k : ℕ). Appends (lines c Down).written (lines c Down).written (down_octets c (periods_to r c k))) (sym (none_worked r c)) (subst (Appends (lines c Down).written (lines c Down).written) (sym (no_octets c)) (Appends-nil (lines c Down).written));
-  up_read = λ c i q. (run.told c i).up_octets ∙ ap (λ (k : ℕ). Some (drop (40 * k) (r.lines c).up)) (sym (none_worked r c));
-  pcm_read = λ c i q. (run.told c i).pcm_octets ∙ ap (λ (k : ℕ). Some (drop (160 * k) (r.lines c).pcm)) (sym (none_worked r c));
+lines_at_first : (r : Run) (os : List Order) (periods : ℕ) (lines : ℕ → Side → LineState) (last : Standing) → IsRunOver os periods last.listed lines last.lines r → LinesAt r 0 last lines lines
+lines_at_first r os periods lines last run = record {
+  up_read = λ c i q. told_first (last.listed c Up) (lines c Up) (last.lines c Up) (r.lines c).up (run.up c i) ∙ ap (λ (k : ℕ). Some (drop (40 * k) (r.lines c).up ++ never_given (last.listed c Up) (last.lines c Up))) (sym (none_worked r c));
+  pcm_read = λ c i q. told_first (last.listed c Pcm) (lines c Pcm) (last.lines c Pcm) (r.lines c).pcm (run.pcm c i) ∙ ap (λ (k : ℕ). Some (drop (160 * k) (r.lines c).pcm ++ never_given (last.listed c Pcm) (last.lines c Pcm))) (sym (none_worked r c));
   others = λ c s none. refl;
 }
+
+-- **Nothing is written, from whichever period on.**
+pub written_first : (r : Run) (from : ℕ) (lines : ℕ → Side → LineState) → WrittenFrom r from 0 (is_listed []) lines lines
+written_first r from lines = record { out = λ c i. none (160 * worked_to r from c) (lines c Out) _ (out c); down = λ c i. none (40 * worked_to r from c) (lines c Down) _ (down c) }
+  where
+    out : (c : ℕ) → out_line c (periods_to r c (worked_to r 0 c)) ≡ []
+    out c = ap (λ (k : ℕ). out_line c (periods_to r c k)) (none_worked r c)
+
+    down : (c : ℕ) → down_octets c (periods_to r c (worked_to r 0 c)) ≡ []
+    down c = ap (λ (k : ℕ). down_octets c (periods_to r c k)) (none_worked r c) ∙ no_octets c
+
+    none : (k : ℕ) (l : LineState) (octets : List ℕ) → octets ≡ [] → Appends l.written l.written (drop k octets)
+    none k l octets e = subst (Appends l.written l.written) (sym (ap (drop k) e ∙ drop_all k [] (omega arith))) (Appends-nil l.written)
 
 -- **Before the first order board and farm stand at the clock 0.**
 pub clock_first : (b : State) → AreOrders (orders_of b) → b.done ≡ [] → EndBefore 0 b → ((c : ℕ) → open_now b c ≡ false) → ((c : ℕ) → partner_now b c ≡ None) → AtClock 0 b []
@@ -86,9 +102,9 @@ clock_first b orders none untold shut alone = record {
     by (o ∷ os) = omega arith
 
 -- **A run begins with no call.**
-pub at_first : (r : Run) (b : State) (groups : List Group) (periods : ℕ) (lines : ℕ → Side → LineState) → AreOrders (orders_of b) → b.done ≡ [] → groups ≡ [] → GroupsStand (λ c. None) groups →
-    IsRunOver (orders_of b) periods lines r → IsAtClock r 0 b groups lines lines
-at_first r b groups periods lines a none empty g run =
+pub at_first : (r : Run) (b : State) (groups : List Group) (periods : ℕ) (lines : ℕ → Side → LineState) (last : Standing) → AreOrders (orders_of b) → b.done ≡ [] → GroupsStand (λ c. None) groups →
+    IsRunOver (orders_of b) periods last.listed lines last.lines r → IsAtClock r 0 b groups last lines lines
+at_first r b groups periods lines last a none g run =
     let left : b.left ≡ r.orders = sym (ap (λ (ds : List Done). map (λ (d : Done). d.order) ds ++ b.left) none) ∙ sym run.same_orders in
     record {
       follows = record {
@@ -96,9 +112,20 @@ at_first r b groups periods lines a none empty g run =
         tells = λ c o k. let q = sym (ap (λ (ds : List Done). is_some (opened_at c ds)) none) ∙ o in cc;
         stands = subst (λ (ds : List Done). GroupsStand (histories_at r ds 0) groups) (sym none) g;
       };
-      sound = record { calls = λ c x e. (let q : None ≡ Some x = sym (ap (λ (gs : List Group). call_in gs c) empty) ∙ e in cc) };
-      lines = lines_at_first r (orders_of b) periods lines run;
+      lines = lines_at_first r (orders_of b) periods lines last run;
     }
+
+-- **Before the first round no line is listed.**
+pub knows_first : (b : State) (groups : List Group) → groups ≡ [] → KnowsListed b groups []
+knows_first b groups empty = record {
+  opened = λ c s l. cc;
+  ended = λ c s i l. cc;
+  calls = λ c x e. (let q : None ≡ Some x = sym (ap (λ (gs : List Group). call_in gs c) empty) ∙ e in cc);
+}
+
+-- what is listed at the run's end is what the run says
+pub flags_of : (r : Run) (os : List Order) (periods : ℕ) (first : ℕ → Side → LineState) (last : Standing) → IsRunOver os periods last.listed first last.lines r → HasFlags r last
+flags_of r os periods first last run = record { up = run.up_failed; pcm = run.pcm_failed }
 
 -- ---- no call is open
 
@@ -116,7 +143,7 @@ clock_on t u b groups a l n = record {
     by None h = tt
     by (Some at) h = omega arith
 
-module _ (r : Run) (t u : ℕ) (b : State) (groups : List Group) (first now : ℕ → Side → LineState) (at : IsAtClock r t b groups first now) (l : t ≤ u) (w : u ≤ r.periods)
+module _ (r : Run) (t u : ℕ) (b : State) (groups : List Group) (last : Standing) (first now : ℕ → Side → LineState) (at : IsAtClock r t b groups last first now) (l : t ≤ u) (w : u ≤ r.periods)
     (n : IfSome (first_stamp b.left) (λ s. u ≤ s)) (shut : (c : ℕ) → is_open (gone_at (whole_in r) t b.done) b.done c ≡ false) where
   shut_then : (c : ℕ) → is_open (gone_at (whole_in r) u b.done) b.done c ≡ false
   shut_then c = let e : t + (u - t) ≡ u = omega arith in subst (λ (v : ℕ). is_open (gone_at (whole_in r) v b.done) b.done c ≡ false) e (shut_after r t (u - t) b.done c (shut c))
@@ -145,21 +172,24 @@ module _ (r : Run) (t u : ℕ) (b : State) (groups : List Group) (first now : �
   earlier c (inr q) = inr q
 
   -- **So do the board, the farm and the lines.**
-  pub goes_on : IsAtClock r u b groups first now
+  pub goes_on : IsAtClock r u b groups last first now
   goes_on = record {
     follows = record {
       so_far = so_far_later r t u b.done b.left at.follows.so_far l n;
       tells = tells_on;
       stands = λ c. subst (λ (x : Option CallHistory). CallStands c x (call_in groups c) (partner_in groups c)) (same_none c) (at.follows.stands c);
     };
-    sound = at.sound;
     lines = record {
-      out = λ c i. subst (λ (k : ℕ). Appends (first c Out).written (now c Out).written (out_line c (periods_to r c k))) (sym (idle c i)) (at.lines.out c i);
-      down = λ c i. subst (λ (k : ℕ). Appends (first c Down).written (now c Down).written (down_octets c (periods_to r c k))) (sym (idle c i)) (at.lines.down c i);
-      up_read = λ c i q. at.lines.up_read c i (earlier c q) ∙ ap (λ (k : ℕ). Some (drop (40 * k) (r.lines c).up)) (sym (idle c i));
-      pcm_read = λ c i q. at.lines.pcm_read c i (earlier c q) ∙ ap (λ (k : ℕ). Some (drop (160 * k) (r.lines c).pcm)) (sym (idle c i));
+      up_read = λ c i q. at.lines.up_read c i (earlier c q) ∙ ap (λ (k : ℕ). Some (drop (40 * k) (r.lines c).up ++ never_given (last.listed c Up) (last.lines c Up))) (sym (idle c i));
+      pcm_read = λ c i q. at.lines.pcm_read c i (earlier c q) ∙ ap (λ (k : ℕ). Some (drop (160 * k) (r.lines c).pcm ++ never_given (last.listed c Pcm) (last.lines c Pcm))) (sym (idle c i));
       others = at.lines.others;
     };
+  }
+
+  pub written_on : (from : ℕ) (listed : ℕ → Side → Bool) → WrittenFrom r from t listed first now → WrittenFrom r from u listed first now
+  written_on from listed wrote = record {
+    out = λ c i. subst (λ (k : ℕ). IsWritten (listed c Out) (first c Out) (now c Out) (drop (160 * worked_to r from c) (out_line c (periods_to r c k)))) (sym (idle c i)) (wrote.out c i);
+    down = λ c i. subst (λ (k : ℕ). IsWritten (listed c Down) (first c Down) (now c Down) (drop (40 * worked_to r from c) (down_octets c (periods_to r c k)))) (sym (idle c i)) (wrote.down c i);
   }
 
 -- no number is among none
@@ -174,38 +204,78 @@ none_alive r t b groups a tells none c = sym (open_told (whole_in r) t b tells c
 
 -- ---- the end
 
+-- a line that didn't fail holds the rest of its octets
+rest_of : (fails : Bool) (now end : LineState) (k : ℕ) (line : List ℕ) → fails ≡ false → IsToCome now k line (never_given fails end) → IsReadTo now k line
+rest_of false now end k line e h = h ∙ ap Some (append-nil (drop k line))
+rest_of true now end k line e h = cc
+
+-- **From period 0 on is all that was written.**
+pub all_out : (r : Run) (t c : ℕ) (listed : ℕ → Side → Bool) (first now : ℕ → Side → LineState) → WrittenFrom r 0 t listed first now → IsOpened r c → IsWritten (listed c Out) (first c Out) (now c Out) (out_line c (periods_to r c (worked_to r t c)))
+all_out r t c listed first now wrote i = subst (λ (k : ℕ). IsWritten (listed c Out) (first c Out) (now c Out) (drop (160 * k) (out_line c (periods_to r c (worked_to r t c))))) (none_worked r c) (wrote.out c i)
+
+pub all_down : (r : Run) (t c : ℕ) (listed : ℕ → Side → Bool) (first now : ℕ → Side → LineState) → WrittenFrom r 0 t listed first now → IsOpened r c → IsWritten (listed c Down) (first c Down) (now c Down) (down_octets c (periods_to r c (worked_to r t c)))
+all_down r t c listed first now wrote i = subst (λ (k : ℕ). IsWritten (listed c Down) (first c Down) (now c Down) (drop (40 * k) (down_octets c (periods_to r c (worked_to r t c))))) (none_worked r c) (wrote.down c i)
+
 -- **At the run's end it has left on the lines what it gives.**
-pub leaves_all : (r : Run) (b : State) (groups : List Group) (first now : ℕ → Side → LineState) → IsAtClock r r.periods b groups first now → Leaves r first now
-leaves_all r b groups first now at =
+pub leaves_all : (r : Run) (b : State) (groups : List Group) (failed : List Line) (first now : ℕ → Side → LineState) → IsAtClock r r.periods b groups (standing b failed now) first now →
+    WrittenFrom r 0 r.periods (is_listed failed) first now → Leaves r (is_listed failed) first now
+leaves_all r b groups failed first now at wrote =
     let all : (c : ℕ) → worked_to r r.periods c ≡ end_in r c - start_of (done_in r) c = λ c. worked_all r r.periods b.done b.left c at.follows.so_far in
     let long : (c : ℕ) → worked_to r r.periods c ≡ length (periods_in r c) = λ c. all c ∙ sym (length-periods_to r c (end_in r c - start_of (done_in r) c)) in
     record {
-      out = λ c i. subst (λ (k : ℕ). Appends (first c Out).written (now c Out).written (out_line c (periods_to r c k))) (all c) (at.lines.out c i);
-      down = λ c i. subst (λ (k : ℕ). Appends (first c Down).written (now c Down).written (down_octets c (periods_to r c k))) (all c) (at.lines.down c i);
-      up_read = λ c i q. at.lines.up_read c i (inr q) ∙ ap (λ (k : ℕ). Some (drop (40 * k) (r.lines c).up)) (long c);
-      pcm_read = λ c i q. at.lines.pcm_read c i (inr q) ∙ ap (λ (k : ℕ). Some (drop (160 * k) (r.lines c).pcm)) (long c);
+      out = λ c i. subst (λ (k : ℕ). IsWritten (is_listed failed c Out) (first c Out) (now c Out) (out_line c (periods_to r c k))) (all c) (all_out r r.periods c (is_listed failed) first now wrote i);
+      down = λ c i. subst (λ (k : ℕ). IsWritten (is_listed failed c Down) (first c Down) (now c Down) (down_octets c (periods_to r c k))) (all c) (all_down r r.periods c (is_listed failed) first now wrote i);
+      up_read = λ c i f q. rest_of (is_listed failed c Up) (now c Up) (now c Up) (40 * worked_to r r.periods c) (r.lines c).up f (at.lines.up_read c i (inr q)) ∙ ap (λ (k : ℕ). Some (drop (40 * k) (r.lines c).up)) (long c);
+      pcm_read = λ c i f q. rest_of (is_listed failed c Pcm) (now c Pcm) (now c Pcm) (160 * worked_to r r.periods c) (r.lines c).pcm f (at.lines.pcm_read c i (inr q)) ∙ ap (λ (k : ℕ). Some (drop (160 * k) (r.lines c).pcm)) (long c);
       others = at.lines.others;
     }
 
 -- **Where no count rose, no line is listed.**
 pub none_listed : (first now : ℕ → Side → LineState) (lines : List Line) → TellsFailed first now lines → NoneRose first now → lines ≡ []
 none_listed first now [] h n = refl
-none_listed first now (x ∷ lines) h n = absurd (n x.call x.side (h.rose x.call x.side (0, omega arith, refl)))
+none_listed first now (x ∷ lines) h n = absurd (n x.call x.side (h.failures.rose x.call x.side (listed_head x lines)))
+
+-- what is known of each run over these lines at its end
+pub record AtEnd (os : List Order) (pace : Pace) (first now : ℕ → Side → LineState) (b : State) (farm : FarmMemory) (journal : JournalMemory) : Type 0 where
+  pub tells : TellsFailed first now farm.failed
+  pub sides : KeepsSides first now
+  pub reads : ReadsOn first now
+  pub at : (r : Run) → IsRunOver os r.periods (is_listed farm.failed) first now r → pace.periods ≤ r.periods → IsAtClock r pace.periods b farm.groups (standing b farm.failed now) first now
+  pub wrote : (r : Run) → IsRunOver os r.periods (is_listed farm.failed) first now r → pace.periods ≤ r.periods → WrittenFrom r 0 pace.periods (is_listed farm.failed) first now
+  pub short : (r : Run) → IsRunOver os r.periods (is_listed farm.failed) first now r → pace.periods ≤ r.periods → FailedShort r pace.batch (is_listed farm.failed)
+  pub known : (r : Run) → IsRunOver os r.periods (is_listed farm.failed) first now r → pace.periods ≤ r.periods → IsKnown r pace.periods b farm.tallies journal
 
 -- **So the report of a run at its end tells what the run gives.**
-pub run_told : {E : Type 0} (os : List Order) (pace : Pace) (first now : ℕ → Side → LineState) (b : State) (farm : FarmMemory) (journal : JournalMemory) (count : ℕ) (o : Result ReportView E) → orders_of b ≡ os →
-    TellsFailed first now farm.failed → KeepsSides first now →
-    ((r : Run) → IsRunOver os pace.periods first r → NoneRose first now → IsAtClock r r.periods b farm.groups first now) → ((r : Run) → IsRunOver os pace.periods first r → NoneRose first now → IsKnown r r.periods b farm.tallies journal) →
+pub run_told : {E : Type 0} (os : List Order) (pace : Pace) (first now : ℕ → Side → LineState) (b : State) (farm : FarmMemory) (journal : JournalMemory) (count : ℕ) (o : Result ReportView E) → AtEnd os pace first now b farm journal →
     IfOk o (λ report. report.failed ≡ farm.failed) → count ≡ length os →
     IfOk o (λ report. (r : Run) (t : ℕ) → IsAtEnd r t b farm.groups farm.tallies journal → r.periods ≡ pace.periods → length r.orders ≡ count → report ≡ report_of r report.failed) → IfOk o (λ report. Runs os pace first now report)
-run_told os pace first now b farm journal count (Err e) kept tells sides goes known f number g = tt
-run_told os pace first now b farm journal count (Ok report) kept tells sides goes known f number g = record {
-  failed = subst (λ (ls : List Line). TellsFailed first now ls) (sym f) tells;
-  sides = sides;
-  leaves = λ r run none. leaves_all r b farm.groups first now (goes r run none);
-  reports = λ r run none.
-      let at = goes r run none in
-      let knows = known r run none in
-      g r r.periods (record { follows = at.follows; none_left = at.follows.so_far.ahead; clock = λ c o. refl; truly = knows.truly; noted = knows.noted }) run.same_periods (ap length run.same_orders ∙ sym number)
-      ∙ ap (report_of r) (f ∙ none_listed first now farm.failed tells none);
+run_told os pace first now b farm journal count (Err e) end f number g = tt
+run_told os pace first now b farm journal count (Ok report) end f number g = record {
+  failed = subst (λ (ls : List Line). TellsFailed first now ls) (sym f) end.tells;
+  sides = end.sides;
+  reads = end.reads;
+  leaves = λ r run.
+      let is = over r run in
+      subst (λ (ls : List Line). Leaves r (is_listed ls) first now) (sym f) (leaves_all r b farm.groups farm.failed first now (at r is)
+      (subst (λ (p : ℕ). WrittenFrom r 0 p (is_listed farm.failed) first now) (sym run.same_periods) (end.wrote r (within r is) (least r run))));
+  reports = λ r run.
+      let is = over r run in
+      let here = at r is in
+      let knows = subst (λ (p : ℕ). IsKnown r p b farm.tallies journal) (sym run.same_periods) (end.known r (within r is) (least r run)) in
+      g r r.periods (record { follows = here.follows; none_left = here.follows.so_far.ahead; clock = λ c o. refl; truly = knows.truly; noted = knows.noted }) run.same_periods (ap length run.same_orders ∙ sym number);
+  short = λ r run. subst (λ (ls : List Line). FailedShort r pace.batch (is_listed ls)) (sym f) (end.short r (within r (over r run)) (least r run));
+  there = λ told. there_is os pace.periods (is_listed report.failed) first now (λ c s i. let octets = told c s i in let k = end.reads c s octets.0 i octets.1 in (octets.0, k.0, octets.1, k.1));
 }
+  where
+    over : (r : Run) → IsRunOver os pace.periods (is_listed report.failed) first now r → IsRunOver os pace.periods (is_listed farm.failed) first now r
+    over r run = subst (λ (ls : List Line). IsRunOver os pace.periods (is_listed ls) first now r) f run
+
+    -- the run, to its own number of periods
+    within : (r : Run) → IsRunOver os pace.periods (is_listed farm.failed) first now r → IsRunOver os r.periods (is_listed farm.failed) first now r
+    within r run = subst (λ (p : ℕ). IsRunOver os p (is_listed farm.failed) first now r) (sym run.same_periods) run
+
+    least : (r : Run) → IsRunOver os pace.periods (is_listed report.failed) first now r → pace.periods ≤ r.periods
+    least r run = let e = run.same_periods in omega (arith, e)
+
+    at : (r : Run) → IsRunOver os pace.periods (is_listed farm.failed) first now r → IsAtClock r r.periods b farm.groups (standing b farm.failed now) first now
+    at r run = let e = run.same_periods in subst (λ (p : ℕ). IsAtClock r p b farm.groups (standing b farm.failed now) first now) (sym e) (end.at r (within r run) (omega (arith, e)))

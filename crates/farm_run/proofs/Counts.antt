@@ -2,13 +2,15 @@
 use Rattle.std.proofs.Common.{◌≡◌, refl, sym, ap, ◌∙◌, subst, ℕ, suc, zero, ◌<◌, ◌≤◌, Bool, true, false, Some, None, List, [], ◌∷◌, length, map, get_or, inl, inr, ◌⊎◌, arith}
 use Rattle.std.specs.Prelude.{if◌then◌else◌, is_some, slice_index}
 use Rattle.std.specs.List.{Contains, filter_map, flat_map, cons_option}
-use Rattle.std.proofs.lemmas.Bool.{cases_Bool}
+use Rattle.std.specs.List.Sorted.{IsStrictlyIncreasing}
+use Rattle.std.proofs.lemmas.Bool.{cases_Bool, true≢false}
 use Rattle.std.proofs.lemmas.List.Elements.{Contains-append_left, Contains-append_right, Contains-append_cases}
 use Rattle.std.proofs.lemmas.List.Sorted.{Contains-permutation, IsPermutation-map, IsPermutation-sym}
 use Rattle.trau_io.specs.declared.line.Line.{Line}
 use Rattle.trau_io.specs.declared.line.Side.{Side}
 use Rattle.trau_io.specs.declared.line.Side.TheVariants.{Up, Pcm, Down, Out}
 use Rattle.trau_io.specs.Lines.{LineState, Rose}
+use Rattle.trau_io.specs.Places.{place_of}
 use Rattle.trau_io.specs.declared.ends.CallEnd.{CallEnd}
 use Rattle.round_lines.specs.Places.{PlaceMemory, fails_in, sides, name_of, name_where_failed, failed_in_round}
 use Rattle.round_lines.specs.Seats.{SeatMemory}
@@ -18,8 +20,9 @@ use Rattle.farm_rounds.specs.Numbers.{is_among}
 use Rattle.farm_rounds.specs.Memory.{FarmMemory}
 use Rattle.farm_rounds.specs.Working.{GainsFailed}
 use Rattle.farm_run.proofs.WorkedRound.{WorkedRound, among_place, seat_facts, drained_call, tells_seat, lines_kept, down_between, out_between, up_after, pcm_after}
-use Rattle.farm_run.specs.Runs.{NoneRose, TellsFailed}
+use Rattle.farm_run.specs.Runs.{is_listed, TellsFailed}
 use Rattle.farm_run.specs.Clock.{NeverFell}
+use Rattle.farm_run.proofs.Listed.{cons_cases, none_in, listed_name, name_listed, is_false}
 
 -- **A count that rose since some time rose since any earlier one, and is no less than it was.**
 pub rose_before : (first before now : ℕ) → first ≤ before → Rose before now → Rose first now
@@ -28,29 +31,12 @@ rose_before first before now l r = omega arith
 pub rose_after : (first before now : ℕ) → before ≤ now → Rose first before → Rose first now
 rose_after first before now l r = omega arith
 
-pub still_none : (first before now : ℕ → Side → LineState) → NeverFell before now → NoneRose first now → NoneRose first before
-still_none first before now l n c s r = n c s (rose_after (first c s).faults (before c s).faults (now c s).faults (l c s) r)
-
-pub none_since : (first before now : ℕ → Side → LineState) → NeverFell first before → NoneRose first now → NoneRose before now
-none_since first before now l n c s r = n c s (rose_before (first c s).faults (before c s).faults (now c s).faults (l c s) r)
-
 pub fell_more : (first before now : ℕ → Side → LineState) → NeverFell first before → NeverFell before now → NeverFell first now
 fell_more first before now l m c s = let a = l c s in let b = m c s in omega arith
 
--- ---- members of lists
+-- ---- the lines that failed in a round
 
-one_of : {X : Type 0} (y x : X) (k : ℕ) → k < length (y ∷ []) → get_or (y ∷ []) k x ≡ x → y ≡ x
-one_of y x zero l e = e
-one_of y x (suc k) l e = absurd (omega arith)
-
--- the first element, or one behind it
-cons_cases : {X : Type 0} (y : X) (xs : List X) (x : X) → Contains (y ∷ xs) x → (y ≡ x) ⊎ Contains xs x
-cons_cases y xs x h = elim (Contains-append_cases (y ∷ []) xs x h) [ inl a ↦ inl (one_of y x a.0 a.1 a.2) | inr b ↦ inr b ]
-
-none_in : {X : Type 0} (x : X) → Contains [] x → ⊥
-none_in x h = let l = h.1 in absurd (omega arith)
-
-abbrev Name : Type 0
+abbrev pub Name : Type 0
 Name = ℕ × Side
 
 -- the lines of a call that failed are those sides whose mark says so
@@ -81,23 +67,23 @@ a_side Down = (2, omega arith, refl)
 a_side Out = (3, omega arith, refl)
 
 -- the lines of all seats' calls that failed
-abbrev names : List SeatMemory → List Name
+abbrev pub names : List SeatMemory → List Name
 names seats = flat_map (λ s. failed_in_round s.place) seats
 
-seat_listed : (seats : List SeatMemory) (k : ℕ) (s : Side) → k < length seats → fails_in (seat_at seats k).place s ≡ true → Contains (names seats) (call_at seats k, s)
+pub seat_listed : (seats : List SeatMemory) (k : ℕ) (s : Side) → k < length seats → fails_in (seat_at seats k).place s ≡ true → Contains (names seats) (call_at seats k, s)
 seat_listed [] k s l e = absurd (omega arith)
 seat_listed (x ∷ seats) zero s l e = Contains-append_left (failed_in_round x.place) (names seats) (x.place.call, s) (listed_side x.place sides s (a_side s) e)
 seat_listed (x ∷ seats) (suc k) s l e = Contains-append_right (failed_in_round x.place) (names seats) (call_at seats k, s) (seat_listed seats k s (omega arith) e)
 
 -- the seat that a name is listed by
-record Lists (seats : List SeatMemory) (y : Name) : Type 0 where
+pub record Lists (seats : List SeatMemory) (y : Name) : Type 0 where
   pub k : ℕ
   pub within : k < length seats
   pub side : Side
   pub name : y ≡ (call_at seats k, side)
   pub fails : fails_in (seat_at seats k).place side ≡ true
 
-listed_seat : (seats : List SeatMemory) (y : Name) → Contains (names seats) y → Lists seats y
+pub listed_seat : (seats : List SeatMemory) (y : Name) → Contains (names seats) y → Lists seats y
 listed_seat [] y h = absurd (none_in y h)
 listed_seat (x ∷ seats) y h = elim (Contains-append_cases (failed_in_round x.place) (names seats) y h) [
   | inl a ↦ let l = side_listed x.place sides y a in record { k = 0; within = omega arith; side = l.0; name = l.1; fails = l.2 }
@@ -107,12 +93,12 @@ listed_seat (x ∷ seats) y h = elim (Contains-append_cases (failed_in_round x.p
 -- ---- a round
 
 -- **The lines that are listed after a round are those from before and those that its seats' marks tell.**
-listed_before : (before now : List Line) (seats : List SeatMemory) (y : Name) → GainsFailed before now seats → Contains (map name_of before) y ⊎ Contains (names seats) y → Contains (map name_of now) y
+pub listed_before : (before now : List Line) (seats : List SeatMemory) (y : Name) → GainsFailed before now seats → Contains (map name_of before) y ⊎ Contains (names seats) y → Contains (map name_of now) y
 listed_before before now seats y g h =
     Contains-permutation (map name_of g.lines) (map name_of now) y (IsPermutation-map name_of g.lines now g.same)
     (subst (λ xs. Contains xs y) (sym g.told) (elim h [ inl a ↦ Contains-append_left (map name_of before) (names seats) y a | inr b ↦ Contains-append_right (map name_of before) (names seats) y b ]))
 
-listed_after : (before now : List Line) (seats : List SeatMemory) (y : Name) → GainsFailed before now seats → Contains (map name_of now) y → Contains (map name_of before) y ⊎ Contains (names seats) y
+pub listed_after : (before now : List Line) (seats : List SeatMemory) (y : Name) → GainsFailed before now seats → Contains (map name_of now) y → Contains (map name_of before) y ⊎ Contains (names seats) y
 listed_after before now seats y g h = Contains-append_cases (map name_of before) (names seats) y
     (subst (λ xs. Contains xs y) g.told (Contains-permutation (map name_of now) (map name_of g.lines) y (IsPermutation-map name_of now g.lines (IsPermutation-sym g.lines now g.same)) h))
 
@@ -142,12 +128,12 @@ module _ (t n : ℕ) (farm after : FarmMemory) (before now : ℕ → Side → Li
       side Out u p d o = omega (arith, o, faults (out_between t n farm after before now ends w c))
 
   -- **The farm goes on listing exactly the lines whose counts rose.**
-  pub tells_round : (first : ℕ → Side → LineState) → NeverFell first before → TellsFailed first before farm.failed → TellsFailed first now after.failed
-  tells_round first l h = record { rose = rose; kept = kept; order = w.gains.order }
+  pub tells_round : (first : ℕ → Side → LineState) → NeverFell first before → TellsFailed first before farm.failed → IsStrictlyIncreasing (map (λ l. place_of l.call l.side) after.failed) → TellsFailed first now after.failed
+  tells_round first l h order = record { failures = record { rose = rose; kept = kept }; order = order }
     where
-      rose : (c : ℕ) (s : Side) → Contains (map name_of after.failed) (c, s) → Rose (first c s).faults (now c s).faults
-      rose c s k = elim (listed_after farm.failed after.failed w.drained (c, s) w.gains k) [
-        | inl a ↦ rose_after (first c s).faults (before c s).faults (now c s).faults (fell_round c s) (h.rose c s a)
+      rose : (c : ℕ) (s : Side) → is_listed after.failed c s ≡ true → Rose (first c s).faults (now c s).faults
+      rose c s k = elim (listed_after farm.failed after.failed w.drained (c, s) w.gains (listed_name after.failed c s k)) [
+        | inl a ↦ rose_after (first c s).faults (before c s).faults (now c s).faults (fell_round c s) (h.failures.rose c s (name_listed farm.failed c s a))
         | inr b ↦ rose_before (first c s).faults (before c s).faults (now c s).faults (l c s) (by (listed_seat w.drained (c, s) b))
       ]
         where
@@ -159,9 +145,12 @@ module _ (t n : ℕ) (farm after : FarmMemory) (before now : ℕ → Side → Li
               subst (λ s. Rose (before c s).faults (now c s).faults) sided
               (subst (λ d. Rose (before d m.side).faults (now d m.side).faults) called ((tells_seat _ _ _ _ _ _ _ _ _ _ f.2 m.side).rose m.fails))
 
-      kept : (c : ℕ) (s : Side) → (Contains (map name_of after.failed) (c, s) → ⊥) → (now c s).faults ≡ (first c s).faults
-      kept c s none = same ∙ h.kept c s (λ a. none (listed_before farm.failed after.failed w.drained (c, s) w.gains (inl a)))
+      kept : (c : ℕ) (s : Side) → is_listed after.failed c s ≡ false → (now c s).faults ≡ (first c s).faults
+      kept c s not = same ∙ h.failures.kept c s (is_false (is_listed farm.failed c s) (λ a. none (listed_before farm.failed after.failed w.drained (c, s) w.gains (inl (listed_name farm.failed c s a)))))
         where
+          none : Contains (map name_of after.failed) (c, s) → ⊥
+          none m = true≢false (sym (name_listed after.failed c s m) ∙ not)
+
           same : (now c s).faults ≡ (before c s).faults
           same = elim (seat_cases c) [
             | inl m ↦

@@ -34,7 +34,7 @@ is_false : (b : Bool) → (b ≡ true → ⊥) → b ≡ false
 is_false false h = refl
 is_false true h = absurd (h refl)
 
-turn : (m n : ℕ) → (m == n) ≡ (n == m)
+pub turn : (m n : ℕ) → (m == n) ≡ (n == m)
 turn m n = elim (cases_Bool (m == n)) [
   | inl q ↦ q ∙ sym (eq-eqb n m (sym (eqb-true m n q)))
   | inr q ↦ q ∙ sym (is_false (n == m) (λ k. let f = eq-eqb m n (sym (eqb-true n m k)) in cc))

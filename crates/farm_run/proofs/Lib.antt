@@ -10,6 +10,18 @@ pub mod SeatEnds
 pub mod Worked
 pub mod RoundTaken
 pub mod Seats
+pub mod Giving
+pub mod Meeting
+pub mod Gaining
+pub mod Being
+pub mod Taking
+pub mod Listed
+pub mod Boards
+pub mod FewEnds
+pub mod Cutting
+pub mod RoundListed
+pub mod ListedOnce
+pub mod RoundSeats
 pub mod Ending
 pub mod Reporting
 pub mod Settling
@@ -29,7 +41,7 @@ pub mod RoundPast
 pub mod RoundClock
 pub mod RoundLines
 pub mod RoundTallies
+pub mod RoundShort
 pub mod Making
 pub mod Clocks
-pub mod Sound
 pub mod Knowing

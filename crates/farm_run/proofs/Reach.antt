@@ -9,7 +9,7 @@ use Rattle.switchboard.specs.Ends.{start_of, end_of, ends_at, lack_of}
 use Rattle.trau_io.specs.declared.ends.Cause.TheVariants.{Limit}
 use Rattle.switchboard.specs.State.{first_stamp}
 use Rattle.switchboard.proofs.Appending.{or_else}
-use Rattle.farm_output.specs.Run.{Run, given_in, whole_in, done_in}
+use Rattle.farm_output.specs.Run.{Run, given_in, whole_in, done_in, end_in}
 use Rattle.farm_output.specs.Now.{IsSoFar, NoOrderTo, has_period}
 use Rattle.farm_output.proofs.Lists.{found}
 use Rattle.farm_output.proofs.Executing.{opened-append}
@@ -21,7 +21,7 @@ use Rattle.farm_output.proofs.Going.{opened_run}
 use Rattle.farm_run.specs.Going.{places_in, ends_within}
 use Rattle.farm_run.proofs.RoundTaken.{IsRound}
 use Rattle.farm_run.specs.Runs.{IsOpened}
-use Rattle.farm_run.specs.Clock.{end_in, worked_to}
+use Rattle.farm_run.specs.Clock.{worked_to}
 use Rattle.farm_run.proofs.Rounds.{open_at, no_order, has_place}
 use Rattle.farm_run.proofs.RoundEnds.{ends_there, start_kept}
 

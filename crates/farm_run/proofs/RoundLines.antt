@@ -1,24 +1,19 @@
--- A round in which no line fails leaves the board, the farm and the lines as the run has them behind it.
-use Rattle.std.proofs.Common.{◌≡◌, refl, sym, ap, ◌∙◌, subst, ℕ, ◌+◌, ◌-◌, ◌*◌, ◌≤◌, Bool, true, false, not, ◌&&◌, ◌||◌, Option, Some, None, List, ◌++◌, take, drop, inl, inr, arith, mul-add}
+-- A round leaves the board, the farm and the lines as the run has them behind it.
+use Rattle.std.proofs.Common.{◌≡◌, refl, sym, ap, ◌∙◌, subst, ℕ, ◌+◌, ◌-◌, ◌*◌, ◌≤◌, Bool, true, false, not, ◌&&◌, ◌||◌, Option, Some, None, List, ◌++◌, length, take, drop, inl, inr, arith, mul-add}
 use Rattle.std.specs.Prelude.{min, ◌==◌, if◌then◌else◌, is_some, nat_lt, option_map}
 use Rattle.std.specs.List.{AllByRecursion}
-use Rattle.std.specs.Io.KnownBytes.{Appends}
-use Rattle.std.proofs.KnownBytes.{Appends-trans}
-use Rattle.std.proofs.lemmas.Bool.{cases_Bool, and_parts, cases_lt, lt-ltb, eqb-true}
+use Rattle.std.proofs.lemmas.Bool.{cases_Bool, cases_lt, lt-ltb, eqb-true}
+use Rattle.std.proofs.lemmas.List.{drop-append-le}
 use Rattle.trau_io.specs.declared.ends.CallEnd.{CallEnd}
 use Rattle.trau_io.specs.declared.ends.Cause.{Cause}
 use Rattle.trau_io.specs.declared.ends.Cause.TheVariants.{End, Fault}
 use Rattle.trau_io.specs.declared.line.Side.{Side}
 use Rattle.trau_io.specs.declared.line.Side.TheVariants.{Up, Pcm, Down, Out}
-use Rattle.trau_io.specs.Lines.{LineState, Rose}
-use Rattle.round_lines.specs.declared.transfer.Outlet.{Outlet}
-use Rattle.round_lines.specs.declared.transfer.Outlet.TheVariants.{Sound}
-use Rattle.round_lines.specs.Transfer.{GivesClean, has_failed}
-use Rattle.round_lines.specs.Places.{outlet_before}
+use Rattle.trau_io.specs.Lines.{LineState}
+use Rattle.round_lines.specs.Transfer.{has_failed}
 use Rattle.round_lines.specs.Seats as seats
 use Rattle.round_lines.specs.Seats.{SeatMemory, down_of}
-use Rattle.round_lines.specs.Rounds.{Rising, seat_at}
-use Rattle.round_lines.proofs.Each.{still_rising}
+use Rattle.round_lines.specs.Rounds.{seat_at}
 use Rattle.switchboard.specs.Calls.{Done, opened_at, closed_at, is_open, gone_at}
 use Rattle.switchboard.specs.Ends.{Given, lack_of, end_of, start_of}
 use Rattle.switchboard.specs.State.{State, gone_in}
@@ -28,46 +23,34 @@ use Rattle.call_leg.specs.Periods.{CallPeriod}
 use Rattle.call_leg.specs.Settings.{Settings}
 use Rattle.call_pair.specs.History.{io_after}
 use Rattle.call_pair.specs.Memory.{IoMemory}
-use Rattle.farm_rounds.specs.declared.call.Call.{Call}
 use Rattle.farm_rounds.specs.declared.call.Group.{Group}
 use Rattle.farm_rounds.specs.Calls.{call_in, partner_in}
-use Rattle.farm_rounds.specs.Numbers.{is_among}
 use Rattle.farm_rounds.specs.Memory.{FarmMemory}
 use Rattle.farm_rounds.specs.Histories.{CallHistory, CallStands, GroupsStand}
 use Rattle.farm_rounds.specs.Rounds.{octets_of, seat_with}
 use Rattle.farm_rounds.specs.Working.{goes_on_call}
-use Rattle.farm_rounds.specs.RoundHistories.{seat_of, history_with, worked_histories, those_that}
-use Rattle.farm_output.specs.Run.{Run, given_in, whole_in, done_in, periods_to}
+use Rattle.farm_rounds.specs.RoundHistories.{history_with, worked_histories, those_that}
+use Rattle.farm_output.specs.Run.{Run, given_in, whole_in, done_in, periods_to, end_in}
 use Rattle.farm_output.specs.Now.{IsSoFar, settings_now}
 use Rattle.farm_output.specs.Lines.{out_line, down_octets}
 use Rattle.farm_output.proofs.SoFar.{standing_now}
 use Rattle.farm_run.specs.Going.{places_in, ends_within, told_after, is_told}
 use Rattle.farm_run.proofs.RoundTaken.{IsRound}
-use Rattle.farm_run.specs.Runs.{IsOpened, NoneRose, IsCutOff, IsReadTo, cause_in}
-use Rattle.farm_run.specs.Match.{Matches, past_if, histories_at}
-use Rattle.farm_run.specs.Clock.{end_in, worked_to, IsReadWhole, LinesAt, AreSound, IsAtClock}
+use Rattle.farm_run.specs.Runs.{IsOpened, IsWritten, IsCutOff, cause_in, is_listed}
+use Rattle.farm_run.specs.Match.{AtClock, Matches, past_if, histories_at}
+use Rattle.farm_run.specs.Standing.{Standing, standing, KnowsListed, MeetsRun, IsToCome, never_given}
+use Rattle.farm_run.specs.Clock.{worked_to, IsReadWhole, LinesAt, WrittenFrom, IsAtClock}
 use Rattle.farm_run.proofs.Rounds.{open_at, open_after, shut_after}
 use Rattle.farm_run.proofs.RoundEnds.{end_within, start_kept}
 use Rattle.farm_run.proofs.Told.{told_done, told_left, round_over, gone_round}
 use Rattle.farm_run.proofs.SeatEnds.{each_end, told_seats}
-use Rattle.farm_run.proofs.Worked.{out_written, down_written}
+use Rattle.farm_run.proofs.Worked.{out_written, down_written, length-periods_to}
 use Rattle.farm_run.proofs.Reach.{end_after, worked_now, worked_then, worked_idle}
-use Rattle.farm_run.proofs.WorkedRound.{WorkedRound, worked_down, worked_out, drained_call, lines_kept, down_between, out_between}
-use Rattle.farm_run.proofs.RoundCalls.{OpenSeat, open_seat, open_is, opened_is, seat_of_at, all_seats, all_have_seats, ends_filled, goes_on_is}
+use Rattle.farm_run.proofs.WorkedRound.{WorkedRound, lines_kept, down_between, out_between}
+use Rattle.farm_run.proofs.Gaining.{gains, length-out_line, length-down_octets}
+use Rattle.farm_run.proofs.RoundListed.{listed_kept, was_down, was_out, stands_down, stands_out}
+use Rattle.farm_run.proofs.RoundCalls.{OpenSeat, open_seat, open_is, opened_is, all_seats, all_have_seats, ends_filled, goes_on_is}
 use Rattle.farm_run.proofs.RoundPast.{IsPast, worked_past}
-
--- ---- a line that gains
-
-not_failed : (b : Bool) → b ≡ false → has_failed (outlet_before b) ≡ false
-not_failed false e = refl
-not_failed true e = cc
-
--- of an outgoing line that didn't fail
-gained : (first before between now : LineState) (was stands : Outlet) (octets front all : List ℕ) → GivesClean between now was stands octets → has_failed was ≡ false → (Rose before.faults now.faults → ⊥) → between ≡ before →
-    Appends first.written before.written front → all ≡ front ++ octets → (stands ≡ Sound) × Appends first.written now.written all
-gained first before between now was stands octets front all clean sound calm same so_far is =
-    let c = clean sound (λ q. calm (subst (λ (l : LineState). Rose l.faults now.faults) same q)) in
-    (c.0, subst (Appends first.written now.written) (sym is) (Appends-trans _ _ _ _ _ so_far (subst (λ (l : LineState). Appends l.written now.written octets) same c.1)))
 
 -- a call that its lines end isn't cut off
 not_by_lines : (k : ℕ) (g : Given) → IsCutOff (lack_of k g) → ⊥
@@ -90,16 +73,17 @@ stand_same : (h k : ℕ → Option CallHistory) (groups : List Group) → ((c : 
 stand_same h k groups e g = λ c. subst (λ x. CallStands c x (call_in groups c) (partner_in groups c)) (e c) (g c)
 
 module _ (r : Run) (t n : ℕ) (b : State) (farm after : FarmMemory) (first before now : ℕ → Side → LineState) (ends : List CallEnd)
-    (w : WorkedRound t n farm after before now ends) (h : IsRound r t n b.done b.left) (m : Matches b farm.groups) (at : IsAtClock r t b farm.groups first before)
-    (calm : NoneRose before now) (up_sound : (c : ℕ) → (r.lines c).up_failed ≡ false) (pcm_sound : (c : ℕ) → (r.lines c).pcm_failed ≡ false) where
+    (w : WorkedRound t n farm after before now ends) (h : IsRound r t n b.done b.left) (m : Matches b farm.groups) (b' : State) (last : Standing) (at : IsAtClock r t b farm.groups last first before)
+    (meets : MeetsRun r n w.filled (standing b' after.failed now) last) (a : AtClock t b farm.groups) (knows : KnowsListed b farm.groups farm.failed) (told : b' ≡ told_after b ends)
+    (open_then : (c : ℕ) → open_now b' c ≡ (open_now b c && not (is_told c ends))) where
   abbrev alive : ℕ → Bool
   alive = is_open (gone_at (whole_in r) t b.done) b.done
 
   abbrev Seat : ℕ → Type 0
-  Seat c = OpenSeat r t n b farm after first before now ends w h m at calm up_sound pcm_sound c
+  Seat c = OpenSeat r t n b farm after first before now ends w h m b' last at meets c
 
   abbrev seat : (c : ℕ) → alive c ≡ true → Seat c
-  seat c o = open_seat r t n b farm after first before now ends w h m at calm up_sound pcm_sound c o
+  seat c o = open_seat r t n b farm after first before now ends w h m b' last at meets c o
 
   abbrev hs : ℕ → Option CallHistory
   hs = histories_at r b.done t
@@ -108,29 +92,29 @@ module _ (r : Run) (t n : ℕ) (b : State) (farm after : FarmMemory) (first befo
   worked_at_end = worked_histories w.filled (partner_in farm.groups) hs
 
   abbrev Past : ℕ → CallHistory → Type 0
-  Past c x = IsPast r t n b farm after first before now ends w h m at calm up_sound pcm_sound c x
+  Past c x = IsPast r t n b farm after first before now ends w h m b' last at meets c x
 
   abbrev past : (c : ℕ) → alive c ≡ true → (x : CallHistory) × (worked_at_end c ≡ Some x) × Past c x
-  past c o = worked_past r t n b farm after first before now ends w h m at calm up_sound pcm_sound c o
+  past c o = worked_past r t n b farm after first before now ends w h m b' last at meets c o
 
   goes : (c : ℕ) → alive c ≡ true → goes_on_call w.worked c ≡ (places_in r b.done t n c == n)
-  goes c o = goes_on_is r t n b farm after first before now ends w h m at calm up_sound pcm_sound c o
+  goes c o = goes_on_is r t n b farm after first before now ends w h m b' last at meets c o
 
   -- ---- the board and the farm
 
   -- **The ends that are told are those of exactly the calls that end within the round.**
   pub told_is : (c : ℕ) → is_told c ends ≡ ends_within r b.done t n c
   told_is c =
-      ap (is_told c) (ends_filled r t n b farm after first before now ends w h m at calm up_sound pcm_sound)
-      ∙ told_seats r t n b.done b.left w.filled h (all_seats r t n b farm after first before now ends w h m at calm up_sound pcm_sound)
-      (all_have_seats r t n b farm after first before now ends w h m at calm up_sound pcm_sound) c
+      ap (is_told c) (ends_filled r t n b farm after first before now ends w h m b' last at meets)
+      ∙ told_seats r t n b.done b.left w.filled h (all_seats r t n b farm after first before now ends w h m b' last at meets)
+      (all_have_seats r t n b farm after first before now ends w h m b' last at meets) c
 
   -- each is the run's end of its call
   pub ends_are : AllByRecursion (λ e. (ends_within r b.done t n e.call ≡ true) × (e ≡ end_of (given_in r) r.periods (done_in r) e.call (start_of b.done e.call))) ends
   ends_are = subst (AllByRecursion (λ e. (ends_within r b.done t n e.call ≡ true) × (e ≡ end_of (given_in r) r.periods (done_in r) e.call (start_of b.done e.call))))
-      (sym (ends_filled r t n b farm after first before now ends w h m at calm up_sound pcm_sound))
+      (sym (ends_filled r t n b farm after first before now ends w h m b' last at meets))
       (each_end (λ e. (ends_within r b.done t n e.call ≡ true) × (e ≡ end_of (given_in r) r.periods (done_in r) e.call (start_of b.done e.call))) r t n b.done b.left w.filled h
-      (all_seats r t n b farm after first before now ends w h m at calm up_sound pcm_sound) right)
+      (all_seats r t n b farm after first before now ends w h m b' last at meets) right)
     where
       right : (c : ℕ) → ends_within r b.done t n c ≡ true → let e = end_of (given_in r) r.periods (done_in r) c (start_of b.done c) in
           (ends_within r b.done t n e.call ≡ true) × (e ≡ end_of (given_in r) r.periods (done_in r) e.call (start_of b.done e.call))
@@ -138,13 +122,13 @@ module _ (r : Run) (t n : ℕ) (b : State) (farm after : FarmMemory) (first befo
           let same = ap call_is (end_within r t n b.done b.left c h q) in
           (ap (ends_within r b.done t n) same ∙ q, ap (λ (d : ℕ). end_of (given_in r) r.periods (done_in r) d (start_of b.done d)) (sym same))
 
-  tells_after : (b' : State) → b' ≡ told_after b ends → ((c : ℕ) → open_now b' c ≡ (open_now b c && not (is_told c ends))) → TellsEnds (whole_in r) (t + n) b'
-  tells_after b' told o c opened unclosed =
+  tells_after : TellsEnds (whole_in r) (t + n) b'
+  tells_after c opened unclosed =
       let same : b'.done ≡ b.done = ap (λ (s : State). s.done) told ∙ told_done b ends in
       let opened' : is_some (opened_at c b.done) ≡ true = ap (λ ds. is_some (opened_at c ds)) (sym same) ∙ opened in
       let unclosed' : closed_at c b.done ≡ None = ap (closed_at c) (sym same) ∙ unclosed in
       by (is_some (opened_at c b'.done)) (is_some (opened_at c b.done)) (is_some (closed_at c b'.done)) (is_some (closed_at c b.done)) (gone_in b' c) (gone_in b c) (is_told c ends)
-      opened opened' (ap is_some unclosed) (ap is_some unclosed') (o c)
+      opened opened' (ap is_some unclosed) (ap is_some unclosed') (open_then c)
       ∙ ap (λ (x : Bool). x || is_told c ends) (at.follows.tells c opened' unclosed')
       ∙ ap (λ (x : Bool). gone_at (whole_in r) t b.done c || x) (told_is c)
       ∙ sym (gone_round r t n b.done c opened' unclosed')
@@ -197,7 +181,7 @@ module _ (r : Run) (t n : ℕ) (b : State) (farm after : FarmMemory) (first befo
   -- ---- the lines
 
   shut : (c : ℕ) → alive c ≡ false → is_some (call_in farm.groups c) ≡ false
-  shut c o = open_is r t n b farm after first before now ends w h m at calm up_sound pcm_sound c ∙ o
+  shut c o = open_is r t n b farm after first before now ends w h m b' last at meets c ∙ o
 
   idle : (c : ℕ) → IsOpened r c → alive c ≡ false → worked_to r (t + n) c ≡ worked_to r t c
   idle c i o =
@@ -221,35 +205,95 @@ module _ (r : Run) (t n : ℕ) (b : State) (farm after : FarmMemory) (first befo
       ∙ ap (λ (k : ℕ). seat_with x.place (io_after k p.0.periods (octets_of x))) s.whole
       ∙ ap (λ (ts : List CallPeriod). seat_with x.place (io_after (places_in r b.done t n c) ts (octets_of x))) p.2.periods
 
-  wrote_out : (c : ℕ) (o : alive c ≡ true) → let s = seat c o in
-      ((seat_at w.drained s.k).place.out ≡ Sound) × Appends (first c Out).written (now c Out).written (out_line c (periods_to r c (worked_to r (t + n) c)))
-  wrote_out c o =
+  -- **What a line is to have gained grows by what goes out of the call's seat.**
+  pub grown_out : (c : ℕ) (o : alive c ≡ true) → let s = seat c o in
+      out_line c (periods_to r c (worked_to r (t + n) c)) ≡ out_line c (periods_to r c (worked_to r t c)) ++ seats.out_of (seat_at w.worked s.k)
+  grown_out c o =
       let s = seat c o in
       let k = places_in r b.done t n c in
       let x = seat_at w.filled s.k in
       let begun = (open_at r t b.done c (standing_now r t b.done b.left h.so_far) o).begun in
-      gained (first c Out) (before c Out) (w.between c Out) (now c Out) (seat_at w.worked s.k).place.out (seat_at w.drained s.k).place.out (seats.out_of (seat_at w.worked s.k))
-      (out_line c (periods_to r c (t - start_of b.done c))) (out_line c (periods_to r c (worked_to r (t + n) c)))
-      s.facts.drains.out_clean (ap has_failed (worked_out _ _ _ _ _ _ _ _ s.facts.front) ∙ not_failed s.call.out_failed (at.sound.calls c s.call s.called).1) (calm c Out) (out_between t n farm after before now ends w c)
-      (subst (λ (k : ℕ). Appends (first c Out).written (before c Out).written (out_line c (periods_to r c k))) (worked_now r t n b.done b.left c h o) (at.lines.out c (opened_is r t n b farm after first before now ends w h m at calm up_sound pcm_sound c o)))
-      (ap (λ (k : ℕ). out_line c (periods_to r c k)) (worked_then r t n b.done b.left c h o)
+      ap (λ (k : ℕ). out_line c (periods_to r c k)) (worked_then r t n b.done b.left c h o)
       ∙ out_written r t k b.done c (octets_of x) (left_io c o) begun s.number refl
-      ∙ ap (λ (xs : List ℕ). out_line c (periods_to r c (t - start_of b.done c)) ++ xs) (sym (ap seats.out_of (seat_left c o) ∙ ap (λ (k : ℕ). take (160 * k) (left_io c o).out) s.whole)))
+      ∙ ap (λ (xs : List ℕ). out_line c (periods_to r c (t - start_of b.done c)) ++ xs) (sym (ap seats.out_of (seat_left c o) ∙ ap (λ (k : ℕ). take (160 * k) (left_io c o).out) s.whole))
+      ∙ sym (ap (λ (k : ℕ). out_line c (periods_to r c k) ++ seats.out_of (seat_at w.worked s.k)) (worked_now r t n b.done b.left c h o))
 
-  wrote_down : (c : ℕ) (o : alive c ≡ true) → let s = seat c o in
-      ((seat_at w.drained s.k).place.down ≡ Sound) × Appends (first c Down).written (now c Down).written (down_octets c (periods_to r c (worked_to r (t + n) c)))
-  wrote_down c o =
+  pub grown_down : (c : ℕ) (o : alive c ≡ true) → let s = seat c o in
+      down_octets c (periods_to r c (worked_to r (t + n) c)) ≡ down_octets c (periods_to r c (worked_to r t c)) ++ seats.down_of (seat_at w.worked s.k)
+  grown_down c o =
       let s = seat c o in
       let k = places_in r b.done t n c in
       let x = seat_at w.filled s.k in
       let begun = (open_at r t b.done c (standing_now r t b.done b.left h.so_far) o).begun in
-      gained (first c Down) (before c Down) (w.between c Down) (now c Down) (seat_at w.worked s.k).place.down (seat_at w.drained s.k).place.down (seats.down_of (seat_at w.worked s.k))
-      (down_octets c (periods_to r c (t - start_of b.done c))) (down_octets c (periods_to r c (worked_to r (t + n) c)))
-      s.facts.drains.down_clean (ap has_failed (worked_down _ _ _ _ _ _ _ _ s.facts.front) ∙ not_failed s.call.down_failed (at.sound.calls c s.call s.called).0) (calm c Down) (down_between t n farm after before now ends w c)
-      (subst (λ (k : ℕ). Appends (first c Down).written (before c Down).written (down_octets c (periods_to r c k))) (worked_now r t n b.done b.left c h o) (at.lines.down c (opened_is r t n b farm after first before now ends w h m at calm up_sound pcm_sound c o)))
-      (ap (λ (k : ℕ). down_octets c (periods_to r c k)) (worked_then r t n b.done b.left c h o)
+      ap (λ (k : ℕ). down_octets c (periods_to r c k)) (worked_then r t n b.done b.left c h o)
       ∙ down_written r t k b.done c (octets_of x) (left_io c o) begun s.number refl
-      ∙ ap (λ (xs : List ℕ). down_octets c (periods_to r c (t - start_of b.done c)) ++ xs) (sym (ap seats.down_of (seat_left c o) ∙ ap (λ (k : ℕ). take (40 * k) (left_io c o).down) s.whole)))
+      ∙ ap (λ (xs : List ℕ). down_octets c (periods_to r c (t - start_of b.done c)) ++ xs) (sym (ap seats.down_of (seat_left c o) ∙ ap (λ (k : ℕ). take (40 * k) (left_io c o).down) s.whole))
+      ∙ sym (ap (λ (k : ℕ). down_octets c (periods_to r c k) ++ seats.down_of (seat_at w.worked s.k)) (worked_now r t n b.done b.left c h o))
+
+  -- ---- what is written, from a period on
+
+  -- no fewer periods lie before a later clock
+  sooner : (from c : ℕ) → from ≤ t → worked_to r from c ≤ worked_to r t c
+  sooner from c l = by (end_in r c) (start_of (done_in r) c)
+    where
+      by : (e s : ℕ) → min from e - s ≤ min t e - s
+      by e s = omega arith
+
+  -- **A line gains that, or a proper front of it.**
+  wrote_out : (from : ℕ) → from ≤ t → WrittenFrom r from t (is_listed farm.failed) first before → (c : ℕ) → alive c ≡ true →
+      IsWritten (is_listed after.failed c Out) (first c Out) (now c Out) (drop (160 * worked_to r from c) (out_line c (periods_to r c (worked_to r (t + n) c))))
+  wrote_out from l wrote c o =
+      let s = seat c o in
+      let k = 160 * worked_to r from c in
+      let old = out_line c (periods_to r c (worked_to r t c)) in
+      let front = drop k old in
+      let fits : k ≤ length old = omega (arith, length-out_line c (periods_to r c (worked_to r t c)), length-periods_to r c (worked_to r t c), sooner from c l) in
+      let was = wrote.out c (opened_is r t n b farm after first before now ends w h m b' last at meets c o) in
+      subst (λ (x : Bool). IsWritten x (first c Out) (now c Out) (drop k (out_line c (periods_to r c (worked_to r (t + n) c))))) (stands_out t n b farm after before now ends w a knows b' told open_then s.k c s.within s.here)
+      (subst (IsWritten (has_failed (seat_at w.drained s.k).place.out) (first c Out) (now c Out)) (sym (ap (drop k) (grown_out c o) ∙ drop-append-le k old (seats.out_of (seat_at w.worked s.k)) fits))
+      (gains (first c Out) (w.between c Out) (now c Out) (seat_at w.worked s.k).place.out (seat_at w.drained s.k).place.out front (seats.out_of (seat_at w.worked s.k)) s.facts.drains.out
+      (subst (λ (x : Bool). IsWritten x (first c Out) (w.between c Out) front) (sym (was_out t n b farm after before now ends w a knows b' told open_then s.k c s.within s.here))
+      (subst (λ (l : LineState). IsWritten (is_listed farm.failed c Out) (first c Out) l front) (sym (out_between t n farm after before now ends w c)) was))))
+
+  wrote_down : (from : ℕ) → from ≤ t → WrittenFrom r from t (is_listed farm.failed) first before → (c : ℕ) → alive c ≡ true →
+      IsWritten (is_listed after.failed c Down) (first c Down) (now c Down) (drop (40 * worked_to r from c) (down_octets c (periods_to r c (worked_to r (t + n) c))))
+  wrote_down from l wrote c o =
+      let s = seat c o in
+      let k = 40 * worked_to r from c in
+      let old = down_octets c (periods_to r c (worked_to r t c)) in
+      let front = drop k old in
+      let fits : k ≤ length old = omega (arith, length-down_octets c (periods_to r c (worked_to r t c)), length-periods_to r c (worked_to r t c), sooner from c l) in
+      let was = wrote.down c (opened_is r t n b farm after first before now ends w h m b' last at meets c o) in
+      subst (λ (x : Bool). IsWritten x (first c Down) (now c Down) (drop k (down_octets c (periods_to r c (worked_to r (t + n) c))))) (stands_down t n b farm after before now ends w a knows b' told open_then s.k c s.within s.here)
+      (subst (IsWritten (has_failed (seat_at w.drained s.k).place.down) (first c Down) (now c Down)) (sym (ap (drop k) (grown_down c o) ∙ drop-append-le k old (seats.down_of (seat_at w.worked s.k)) fits))
+      (gains (first c Down) (w.between c Down) (now c Down) (seat_at w.worked s.k).place.down (seat_at w.drained s.k).place.down front (seats.down_of (seat_at w.worked s.k)) s.facts.drains.down
+      (subst (λ (x : Bool). IsWritten x (first c Down) (w.between c Down) front) (sym (was_down t n b farm after before now ends w a knows b' told open_then s.k c s.within s.here))
+      (subst (λ (l : LineState). IsWritten (is_listed farm.failed c Down) (first c Down) l front) (sym (down_between t n farm after before now ends w c)) was))))
+
+  -- **What is written after the round.**
+  pub written_after : (from : ℕ) → from ≤ t → WrittenFrom r from t (is_listed farm.failed) first before → WrittenFrom r from (t + n) (is_listed after.failed) first now
+  written_after from l wrote = record { out = out; down = down }
+    where
+      still : (c : ℕ) (s : Side) → alive c ≡ false → is_listed after.failed c s ≡ is_listed farm.failed c s
+      still c s o = listed_kept t n b farm after before now ends w a knows b' told open_then c s (shut c o)
+
+      out : (c : ℕ) → IsOpened r c → IsWritten (is_listed after.failed c Out) (first c Out) (now c Out) (drop (160 * worked_to r from c) (out_line c (periods_to r c (worked_to r (t + n) c))))
+      out c i = elim (cases_Bool (alive c)) [
+        | inl o ↦ wrote_out from l wrote c o
+        | inr o ↦ subst (λ (k : ℕ). IsWritten (is_listed after.failed c Out) (first c Out) (now c Out) (drop (160 * worked_to r from c) (out_line c (periods_to r c k)))) (sym (idle c i o))
+            (subst (λ (l : LineState). IsWritten (is_listed after.failed c Out) (first c Out) l (drop (160 * worked_to r from c) (out_line c (periods_to r c (worked_to r t c))))) (sym (kept c o Out))
+            (subst (λ (x : Bool). IsWritten x (first c Out) (before c Out) (drop (160 * worked_to r from c) (out_line c (periods_to r c (worked_to r t c))))) (sym (still c Out o)) (wrote.out c i)))
+      ]
+
+      down : (c : ℕ) → IsOpened r c → IsWritten (is_listed after.failed c Down) (first c Down) (now c Down) (drop (40 * worked_to r from c) (down_octets c (periods_to r c (worked_to r (t + n) c))))
+      down c i = elim (cases_Bool (alive c)) [
+        | inl o ↦ wrote_down from l wrote c o
+        | inr o ↦ subst (λ (k : ℕ). IsWritten (is_listed after.failed c Down) (first c Down) (now c Down) (drop (40 * worked_to r from c) (down_octets c (periods_to r c k)))) (sym (idle c i o))
+            (subst (λ (l : LineState). IsWritten (is_listed after.failed c Down) (first c Down) l (drop (40 * worked_to r from c) (down_octets c (periods_to r c (worked_to r t c))))) (sym (kept c o Down))
+            (subst (λ (x : Bool). IsWritten x (first c Down) (before c Down) (drop (40 * worked_to r from c) (down_octets c (periods_to r c (worked_to r t c))))) (sym (still c Down o)) (wrote.down c i)))
+      ]
+
+  -- ---- what is read
 
   -- a call whose incoming lines are read whole has all periods of the round
   reads_all : (c : ℕ) → alive c ≡ true → IsReadWhole r (t + n) c → places_in r b.done t n c ≡ n
@@ -281,78 +325,44 @@ module _ (r : Run) (t n : ℕ) (b : State) (farm after : FarmMemory) (first befo
       spread k = mul-add m k n
 
   -- **The lines after the round.**
-  pub lines_after : LinesAt r (t + n) first now
-  lines_after = record { out = out; down = down; up_read = up_read; pcm_read = pcm_read; others = others }
+  pub lines_after : LinesAt r (t + n) last first now
+  lines_after = record { up_read = up_read; pcm_read = pcm_read; others = others }
     where
       earlier : (c : ℕ) → IsReadWhole r (t + n) c → IsReadWhole r t c
       earlier c (inl l) = inl (omega arith)
       earlier c (inr q) = inr q
 
-      out : (c : ℕ) → IsOpened r c → Appends (first c Out).written (now c Out).written (out_line c (periods_to r c (worked_to r (t + n) c)))
-      out c i = elim (cases_Bool (alive c)) [
-        | inl o ↦ (wrote_out c o).1
-        | inr o ↦ subst (λ (k : ℕ). Appends (first c Out).written (now c Out).written (out_line c (periods_to r c k))) (sym (idle c i o))
-            (subst (λ (l : LineState). Appends (first c Out).written l.written (out_line c (periods_to r c (worked_to r t c)))) (sym (kept c o Out)) (at.lines.out c i))
-      ]
-
-      down : (c : ℕ) → IsOpened r c → Appends (first c Down).written (now c Down).written (down_octets c (periods_to r c (worked_to r (t + n) c)))
-      down c i = elim (cases_Bool (alive c)) [
-        | inl o ↦ (wrote_down c o).1
-        | inr o ↦ subst (λ (k : ℕ). Appends (first c Down).written (now c Down).written (down_octets c (periods_to r c k))) (sym (idle c i o))
-            (subst (λ (l : LineState). Appends (first c Down).written l.written (down_octets c (periods_to r c (worked_to r t c)))) (sym (kept c o Down)) (at.lines.down c i))
-      ]
-
-      up_read : (c : ℕ) → IsOpened r c → IsReadWhole r (t + n) c → IsReadTo (now c Up) (40 * worked_to r (t + n) c) (r.lines c).up
+      up_read : (c : ℕ) → IsOpened r c → IsReadWhole r (t + n) c → IsToCome (now c Up) (40 * worked_to r (t + n) c) (r.lines c).up (never_given (last.listed c Up) (last.lines c Up))
       up_read c i q = elim (cases_Bool (alive c)) [
-        | inl o ↦ (seat c o).up_left ∙ ap (λ (k : ℕ). Some (drop k (r.lines c).up)) (sym (read_to c 40 o q))
-        | inr o ↦ ap (λ (l : LineState). l.to_come) (kept c o Up) ∙ at.lines.up_read c i (earlier c q) ∙ ap (λ (k : ℕ). Some (drop (40 * k) (r.lines c).up)) (sym (idle c i o))
+        | inl o ↦ (seat c o).up_left ∙ ap (λ (k : ℕ). Some (drop k (r.lines c).up ++ never_given (last.listed c Up) (last.lines c Up))) (sym (read_to c 40 o q))
+        | inr o ↦ ap (λ (l : LineState). l.to_come) (kept c o Up) ∙ at.lines.up_read c i (earlier c q)
+            ∙ ap (λ (k : ℕ). Some (drop (40 * k) (r.lines c).up ++ never_given (last.listed c Up) (last.lines c Up))) (sym (idle c i o))
       ]
 
-      pcm_read : (c : ℕ) → IsOpened r c → IsReadWhole r (t + n) c → IsReadTo (now c Pcm) (160 * worked_to r (t + n) c) (r.lines c).pcm
+      pcm_read : (c : ℕ) → IsOpened r c → IsReadWhole r (t + n) c → IsToCome (now c Pcm) (160 * worked_to r (t + n) c) (r.lines c).pcm (never_given (last.listed c Pcm) (last.lines c Pcm))
       pcm_read c i q = elim (cases_Bool (alive c)) [
-        | inl o ↦ (seat c o).pcm_left ∙ ap (λ (k : ℕ). Some (drop k (r.lines c).pcm)) (sym (read_to c 160 o q))
-        | inr o ↦ ap (λ (l : LineState). l.to_come) (kept c o Pcm) ∙ at.lines.pcm_read c i (earlier c q) ∙ ap (λ (k : ℕ). Some (drop (160 * k) (r.lines c).pcm)) (sym (idle c i o))
+        | inl o ↦ (seat c o).pcm_left ∙ ap (λ (k : ℕ). Some (drop k (r.lines c).pcm ++ never_given (last.listed c Pcm) (last.lines c Pcm))) (sym (read_to c 160 o q))
+        | inr o ↦ ap (λ (l : LineState). l.to_come) (kept c o Pcm) ∙ at.lines.pcm_read c i (earlier c q)
+            ∙ ap (λ (k : ℕ). Some (drop (160 * k) (r.lines c).pcm ++ never_given (last.listed c Pcm) (last.lines c Pcm))) (sym (idle c i o))
       ]
 
       others : (c : ℕ) (s : Side) → (IsOpened r c → ⊥) → now c s ≡ first c s
       others c s none = elim (cases_Bool (alive c)) [
-        | inl o ↦ absurd (none (opened_is r t n b farm after first before now ends w h m at calm up_sound pcm_sound c o))
+        | inl o ↦ absurd (none (opened_is r t n b farm after first before now ends w h m b' last at meets c o))
         | inr o ↦ kept c o s ∙ at.lines.others c s none
       ]
 
-  -- ---- the calls that go on
-
-  drained_rising : Rising w.drained
-  drained_rising = still_rising w.worked w.drained w.worked_rising w.drained_number (λ k l. ap (λ (s : SeatMemory). s.place.call) (w.drains k l).kept)
-
-  sound_after : AreSound after.groups
-  sound_after = record { calls = known }
-    where
-      known : (c : ℕ) (x : Call) → call_in after.groups c ≡ Some x → (x.down_failed ≡ false) × (x.out_failed ≡ false)
-      known c x e =
-          let o : alive c ≡ true = sym (open_is r t n b farm after first before now ends w h m at calm up_sound pcm_sound c) ∙ sym (w.live c)
-          ∙ (and_parts (is_among farm.live c) (goes_on_call w.worked c) (sym (w.is_open c) ∙ ap is_some e)).0 in
-          let s = seat c o in
-          let l = s.within in
-          let known = w.know c x e in
-          let found : seat_of w.drained c ≡ seat_at w.drained s.k =
-          ap (seat_of w.drained) (sym (drained_call _ _ _ _ _ _ _ _ _ _ s.facts)) ∙ seat_of_at w.drained s.k drained_rising (omega (arith, l, w.drained_number, w.worked_number, w.filled_number, w.number)) in (
-            known.0 ∙ ap (λ (s : SeatMemory). has_failed s.place.down) found ∙ ap has_failed (wrote_down c o).0,
-            known.1 ∙ ap (λ (s : SeatMemory). has_failed s.place.out) found ∙ ap has_failed (wrote_out c o).0,
-          )
-
   -- **Board, farm and lines are those of the run behind the round.**
-  pub clock_is : (b' : State) → b' ≡ told_after b ends → ((c : ℕ) → open_now b' c ≡ (open_now b c && not (is_told c ends))) → IsAtClock r (t + n) b' after.groups first now
-  clock_is b' told o =
+  pub clock_is : IsAtClock r (t + n) b' after.groups last first now
+  clock_is =
       let done : b'.done ≡ b.done = ap (λ (s : State). s.done) told ∙ told_done b ends in
       let left : b'.left ≡ b.left = ap (λ (s : State). s.left) told ∙ told_left b ends in
       record {
         follows = record {
           so_far = subst (λ (ds : List Done). IsSoFar r (t + n) ds b'.left) (sym done) (subst (IsSoFar r (t + n) b.done) (sym left) (round_over r t n b.done b.left h));
-          tells = tells_after b' told o;
+          tells = tells_after;
           stands = stand_same (those_that (goes_on_call w.worked) worked_at_end) (histories_at r b'.done (t + n)) after.groups
               (λ c. histories_after c ∙ ap (λ (ds : List Done). histories_at r ds (t + n) c) (sym done)) (w.stands hs at.follows.stands);
         };
-        sound = sound_after;
         lines = lines_after;
       }

@@ -1,4 +1,4 @@
--- What a round in which no line fails adds to what the calls have had.
+-- What a round adds to what the calls have had.
 use Rattle.std.proofs.Common.{◌≡◌, refl, sym, ap, ◌∙◌, subst, ℕ, ◌+◌, ◌-◌, ◌≤◌, Bool, true, false, ◌&&◌, Option, Some, None, List, arith}
 use Rattle.std.specs.Prelude.{min, if◌then◌else◌, is_none, option_map, nat_lt, find}
 use Rattle.std.proofs.lemmas.Bool.{and_parts, and_from}
@@ -25,8 +25,8 @@ use Rattle.farm_output.specs.Run.{Run, whole_in, periods_to}
 use Rattle.farm_output.specs.Now.{settings_now}
 use Rattle.farm_run.specs.Going.{places_in}
 use Rattle.farm_run.proofs.RoundTaken.{IsRound, IsFed}
-use Rattle.farm_run.specs.Runs.{NoneRose}
 use Rattle.farm_run.specs.Match.{Matches, past_if, histories_at}
+use Rattle.farm_run.specs.Standing.{Standing, standing, MeetsRun}
 use Rattle.farm_run.specs.Clock.{IsAtClock}
 use Rattle.farm_run.proofs.Rounds.{alone_worked, alone_settings, settings_kept, bridge_open}
 use Rattle.farm_run.proofs.Partners.{bridged_worked, bridged_settings, both_calls}
@@ -54,8 +54,8 @@ starts_past k others now = by (nat_lt others k)
     by false = refl
 
 module _ (r : Run) (t n : ℕ) (b : State) (farm after : FarmMemory) (first before now : ℕ → Side → LineState) (ends : List CallEnd)
-    (w : WorkedRound t n farm after before now ends) (h : IsRound r t n b.done b.left) (m : Matches b farm.groups) (at : IsAtClock r t b farm.groups first before)
-    (calm : NoneRose before now) (up_sound : (c : ℕ) → (r.lines c).up_failed ≡ false) (pcm_sound : (c : ℕ) → (r.lines c).pcm_failed ≡ false) where
+    (w : WorkedRound t n farm after before now ends) (h : IsRound r t n b.done b.left) (m : Matches b farm.groups) (b' : State) (last : Standing) (at : IsAtClock r t b farm.groups last first before)
+    (meets : MeetsRun r n w.filled (standing b' after.failed now) last) where
   abbrev is_alive : ℕ → Bool
   is_alive = is_open (gone_at (whole_in r) t b.done) b.done
 
@@ -63,10 +63,10 @@ module _ (r : Run) (t n : ℕ) (b : State) (farm after : FarmMemory) (first befo
   bridge_at = bridge_of (gone_at (whole_in r) t b.done) b.done
 
   abbrev Seat : ℕ → Type 0
-  Seat c = OpenSeat r t n b farm after first before now ends w h m at calm up_sound pcm_sound c
+  Seat c = OpenSeat r t n b farm after first before now ends w h m b' last at meets c
 
   abbrev seat : (c : ℕ) → is_alive c ≡ true → Seat c
-  seat c o = open_seat r t n b farm after first before now ends w h m at calm up_sound pcm_sound c o
+  seat c o = open_seat r t n b farm after first before now ends w h m b' last at meets c o
 
   -- **A call's partner is the other call of its bridge.**
   partner_is : (c : ℕ) → partner_in farm.groups c ≡ option_map (other c) (bridge_at c)

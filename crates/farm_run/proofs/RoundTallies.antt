@@ -1,4 +1,4 @@
--- What is kept of the calls that end within a round in which no line fails.
+-- What is kept of the calls that end within a round.
 use Rattle.std.proofs.Common.{◌≡◌, refl, sym, ap, ◌∙◌, ℕ, ◌+◌, ◌-◌, ◌<◌, Bool, true, false, ◌&&◌, Option, List, inl, inr, arith}
 use Rattle.std.specs.Prelude.{min, ◌==◌, if◌then◌else◌, nat_lt, option_map}
 use Rattle.std.proofs.lemmas.Bool.{cases_lt, lt-ltb, ltb-true, eq-eqb, ne_eqb, and_parts}
@@ -20,16 +20,16 @@ use Rattle.farm_output.specs.Run.{Run, whole_in, periods_to}
 use Rattle.farm_output.specs.Now.{settings_now}
 use Rattle.farm_run.specs.Going.{places_in, ends_within}
 use Rattle.farm_run.proofs.RoundTaken.{IsRound}
-use Rattle.farm_run.specs.Runs.{NoneRose}
 use Rattle.farm_run.specs.Match.{Matches, past_if, histories_at}
+use Rattle.farm_run.specs.Standing.{Standing, standing, MeetsRun}
 use Rattle.farm_run.specs.Clock.{IsAtClock, KeepsTallies}
 use Rattle.farm_run.proofs.WorkedRound.{WorkedRound}
 use Rattle.farm_run.proofs.RoundCalls.{goes_on_is}
 use Rattle.farm_run.proofs.RoundPast.{worked_past}
 
 module _ (r : Run) (t n : ℕ) (b : State) (farm after : FarmMemory) (first before now : ℕ → Side → LineState) (ends : List CallEnd)
-    (w : WorkedRound t n farm after before now ends) (h : IsRound r t n b.done b.left) (m : Matches b farm.groups) (at : IsAtClock r t b farm.groups first before)
-    (calm : NoneRose before now) (up_sound : (c : ℕ) → (r.lines c).up_failed ≡ false) (pcm_sound : (c : ℕ) → (r.lines c).pcm_failed ≡ false) where
+    (w : WorkedRound t n farm after before now ends) (h : IsRound r t n b.done b.left) (m : Matches b farm.groups) (b' : State) (last : Standing) (at : IsAtClock r t b farm.groups last first before)
+    (meets : MeetsRun r n w.filled (standing b' after.failed now) last) where
   abbrev alive : ℕ → Bool
   alive = is_open (gone_at (whole_in r) t b.done) b.done
 
@@ -43,14 +43,14 @@ module _ (r : Run) (t n : ℕ) (b : State) (farm after : FarmMemory) (first befo
   kept c = w.tallies (histories_at r b.done t) at.follows.stands c
 
   goes : (c : ℕ) → alive c ≡ true → goes_on_call w.worked c ≡ (places_in r b.done t n c == n)
-  goes c o = goes_on_is r t n b farm after first before now ends w h m at calm up_sound pcm_sound c o
+  goes c o = goes_on_is r t n b farm after first before now ends w h m b' last at meets c o
 
   ended : (c : ℕ) → ends_within r b.done t n c ≡ true → (last : Settings) × (last.starts ≡ (settings_now r b.done (t + places_in r b.done t n c) c).starts)
       × (tally_in after.tallies c ≡ tally_of (periods_to r c (t + places_in r b.done t n c - start_of b.done c)) last)
   ended c e =
       let parts = and_parts (alive c) (nat_lt (places_in r b.done t n c) n) e in
       let less = ltb-true (places_in r b.done t n c) n parts.1 in
-      let p = worked_past r t n b farm after first before now ends w h m at calm up_sound pcm_sound c parts.0 in (
+      let p = worked_past r t n b farm after first before now ends w h m b' last at meets c parts.0 in (
         p.0.now,
         p.2.starts,
         kept c ∙ ap (λ (x : Bool). if x then was c else kept_of (worked_at_end c) (was c)) (goes c parts.0 ∙ ne_eqb (places_in r b.done t n c) n (apart (places_in r b.done t n c) less))

@@ -17,7 +17,7 @@ pub sides_more : (first before now : ℕ → Side → LineState) → KeepsSides 
 sides_more first before now was is = record { incoming = λ c s i. is.incoming c s i ∙ was.incoming c s i; outgoing = λ c s o. is.outgoing c s o ∙ was.outgoing c s o }
 
 -- no line is both read and written
-not_both : (s : Side) → IsIncoming s → IsOutgoing s → ⊥
+pub not_both : (s : Side) → IsIncoming s → IsOutgoing s → ⊥
 not_both Up i o = o
 not_both Pcm i o = o
 not_both Down i o = i

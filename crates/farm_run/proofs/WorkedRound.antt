@@ -20,6 +20,7 @@ use Rattle.farm_rounds.specs.Histories.{CallHistory, GroupsStand, kept_of}
 use Rattle.farm_rounds.specs.Working.{GainsFailed, goes_on_call, partner_past}
 use Rattle.farm_rounds.specs.RoundHistories.{seat_for, worked_histories, AreWorked, KnowFailed, those_that}
 use Rattle.farm_rounds.proofs.Rising.{there}
+use Rattle.farm_run.proofs.Sides.{not_both}
 
 -- what a round of n periods from t on did to the farm and the lines, and the ends that it told
 pub record WorkedRound (t n : ℕ) (farm after : FarmMemory) (before now : ℕ → Side → LineState) (ends : List CallEnd) : Type 0 where
@@ -189,6 +190,9 @@ module _ (t n : ℕ) (farm after : FarmMemory) (before now : ℕ → Side → Li
 
   pub pcm_after : (c : ℕ) → now c Pcm ≡ w.between c Pcm
   pcm_after c = w.drained_others c Pcm (λ k l e h. h)
+
+  pub incoming_after : (c : ℕ) (s : Side) → IsIncoming s → now c s ≡ w.between c s
+  incoming_after c s i = w.drained_others c s (λ k l e o. not_both s i o)
 
   -- **The lines of a call that isn't open stay as they were.**
   pub lines_kept : (c : ℕ) → is_some (call_in farm.groups c) ≡ false → (s : Side) → now c s ≡ before c s

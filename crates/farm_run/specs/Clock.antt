@@ -1,87 +1,83 @@
--- What holds at the clock t of a run, over the lines that its calls were opened with and those that they have now (this
--- project's profile).
-use Rattle.std.specs.Prelude.{◌≡◌, ◌⊎◌, ◌≤◌, ◌+◌, ◌-◌, ◌*◌, ℕ, min, true, false, Some, List}
+-- What holds at the clock t of a run (this project's profile). `before` are the lines before the run, `now` those at the clock.
+use Rattle.std.specs.Prelude.{◌≡◌, ◌⊎◌, ◌≤◌, ◌+◌, ◌-◌, ◌*◌, ℕ, Bool, min, true, false, List, drop}
 use Rattle.std.specs.List.{AllByRecursion}
-use Rattle.std.specs.Io.KnownBytes.{Appends}
 use Rattle.trau_io.specs.declared.ends.CallEnd.{CallEnd}
 use Rattle.trau_io.specs.declared.line.Side.{Side}
 use Rattle.trau_io.specs.declared.line.Side.TheVariants.{Up, Pcm, Down, Out}
 use Rattle.trau_io.specs.Lines.{LineState}
 use Rattle.switchboard.specs.Calls.{Done}
-use Rattle.switchboard.specs.Ends.{start_of, end_of, ends_at}
+use Rattle.switchboard.specs.Ends.{start_of, end_of}
 use Rattle.switchboard.specs.State.{State}
 use Rattle.call_leg.specs.Settings.{Settings}
-use Rattle.farm_output.specs.Run.{Run, given_in, done_in, periods_to}
+use Rattle.farm_output.specs.Run.{Run, given_in, done_in, start_in, end_in, periods_to}
 use Rattle.farm_output.specs.Now.{settings_now}
 use Rattle.farm_output.specs.Lines.{out_line, down_octets}
-use Rattle.farm_rounds.specs.declared.call.Call.{Call}
 use Rattle.farm_rounds.specs.declared.call.Group.{Group}
 use Rattle.farm_rounds.specs.declared.tally.Tally.{Tally}
-use Rattle.farm_rounds.specs.Calls.{call_in}
 use Rattle.farm_rounds.specs.Memory.{tally_in}
 use Rattle.farm_rounds.specs.Histories.{tally_of}
 use Rattle.farm_run.specs.Going.{places_in, ends_within, is_told, told_after}
 use Rattle.farm_run.specs.Journal.{JournalMemory, with_ends}
 use Rattle.farm_run.specs.Ending.{AreApart}
 use Rattle.farm_run.specs.Match.{Follows}
-use Rattle.farm_run.specs.Runs.{IsOpened, IsCutOff, IsReadTo, cause_in}
-
--- the first period that a call doesn't have
-abbrev pub end_in : Run → ℕ → ℕ
-end_in r c = ends_at (given_in r) r.periods (done_in r) c
+use Rattle.farm_run.specs.Runs.{IsOpened, IsWritten, IsCutOff, FailedIn, cause_in}
+use Rattle.farm_run.specs.Standing.{Standing, IsToCome, never_given}
 
 -- how many periods of a call lie before the clock
 abbrev pub worked_to : Run → ℕ → ℕ → ℕ
-worked_to r t c = min t (end_in r c) - start_of (done_in r) c
+worked_to r t c = min t (end_in r c) - start_in r c
 
 -- Of a call's incoming lines exactly the octets of its periods are read, as long as it goes on; and also afterwards, where
 -- they didn't end it.
 abbrev pub IsReadWhole : Run → ℕ → ℕ → Type 0
 IsReadWhole r t c = (t ≤ end_in r c) ⊎ IsCutOff (cause_in r c)
 
--- The outgoing lines of each call of the run have gained what its periods before the clock give, and its incoming lines
--- have given these periods' octets. The lines of all other calls are as they were.
-pub record LinesAt (r : Run) (t : ℕ) (before now : ℕ → Side → LineState) : Type 0 where
-  pub out : (c : ℕ) → IsOpened r c → Appends (before c Out).written (now c Out).written (out_line c (periods_to r c (worked_to r t c)))
-  pub down : (c : ℕ) → IsOpened r c → Appends (before c Down).written (now c Down).written (down_octets c (periods_to r c (worked_to r t c)))
-  pub up_read : (c : ℕ) → IsOpened r c → IsReadWhole r t c → IsReadTo (now c Up) (40 * worked_to r t c) (r.lines c).up
-  pub pcm_read : (c : ℕ) → IsOpened r c → IsReadWhole r t c → IsReadTo (now c Pcm) (160 * worked_to r t c) (r.lines c).pcm
+-- What the lines of the run's calls have given at the clock; `last` is how the run stands at its end.
+pub record LinesAt (r : Run) (t : ℕ) (last : Standing) (before now : ℕ → Side → LineState) : Type 0 where
+  -- an incoming line has given the octets of its call's periods before the clock; to come are the run's octets that are left,
+  -- and behind them what the line never gives
+  pub up_read : (c : ℕ) → IsOpened r c → IsReadWhole r t c → IsToCome (now c Up) (40 * worked_to r t c) (r.lines c).up (never_given (last.listed c Up) (last.lines c Up))
+  pub pcm_read : (c : ℕ) → IsOpened r c → IsReadWhole r t c → IsToCome (now c Pcm) (160 * worked_to r t c) (r.lines c).pcm (never_given (last.listed c Pcm) (last.lines c Pcm))
+  -- the lines of calls that the run doesn't open are as they were
   pub others : (c : ℕ) (s : Side) → (IsOpened r c → ⊥) → now c s ≡ before c s
+
+-- What the outgoing lines of the run's calls have gained at the clock t: the octets of their periods before it, but of none
+-- before period `from` of the run; those that are listed as failed a proper front of them.
+pub record WrittenFrom (r : Run) (from t : ℕ) (listed : ℕ → Side → Bool) (before now : ℕ → Side → LineState) : Type 0 where
+  pub out : (c : ℕ) → IsOpened r c → IsWritten (listed c Out) (before c Out) (now c Out) (drop (160 * worked_to r from c) (out_line c (periods_to r c (worked_to r t c))))
+  pub down : (c : ℕ) → IsOpened r c → IsWritten (listed c Down) (before c Down) (now c Down) (drop (40 * worked_to r from c) (down_octets c (periods_to r c (worked_to r t c))))
 
 -- no count of a line's faults is below what it was
 abbrev pub NeverFell : (ℕ → Side → LineState) → (ℕ → Side → LineState) → Type 0
 NeverFell before now = (c : ℕ) (s : Side) → (before c s).faults ≤ (now c s).faults
 
--- no outgoing line of an open call is known to have failed
-pub record AreSound (groups : List Group) : Type 0 where
-  pub calls : (c : ℕ) (x : Call) → call_in groups c ≡ Some x → (x.down_failed ≡ false) × (x.out_failed ≡ false)
-
--- the board, the farm and the lines are those of the run at its clock
-pub record IsAtClock (r : Run) (t : ℕ) (b : State) (groups : List Group) (before now : ℕ → Side → LineState) : Type 0 where
+-- board, farm and lines are those of the run at its clock
+pub record IsAtClock (r : Run) (t : ℕ) (b : State) (groups : List Group) (last : Standing) (before now : ℕ → Side → LineState) : Type 0 where
   pub follows : Follows r t b groups
-  pub sound : AreSound groups
-  pub lines : LinesAt r t before now
+  pub lines : LinesAt r t last before now
 
--- Of the calls that their lines end within a round of n periods from t on the counts of all their periods are kept, with
--- settings that are the run's but for level, mode and bridge; what is kept of all others is as it was.
+-- What is kept in a round of n periods, from t on, of the calls that their lines end within it.
 pub record KeepsTallies (r : Run) (t n : ℕ) (ds : List Done) (before now : List Tally) : Type 0 where
+  -- the counts of all their periods, with settings that are the run's but for level, mode and bridge
   pub ended : (c : ℕ) → ends_within r ds t n c ≡ true →
       (last : Settings) × (last.starts ≡ (settings_now r ds (t + places_in r ds t n c) c).starts)
       × (tally_in now c ≡ tally_of (periods_to r c (t + places_in r ds t n c - start_of ds c)) last)
+  -- of all others what was kept before
   pub others : (c : ℕ) → ends_within r ds t n c ≡ false → tally_in now c ≡ tally_in before c
 
--- What a round of n periods from t on tells the board, notes and keeps of the calls that their lines end within it: their
--- ends, which are the run's, and the counts of their periods.
+-- What a round of n periods, from t on, tells the board, notes and keeps of the calls that their lines end within it.
 pub record EndsRound (r : Run) (t n : ℕ) (was is : State) (old new : JournalMemory) (before now : List Tally) : Type 0 where
+  -- the ends that the board is told and that are noted
   pub ends : List CallEnd
   pub board : is ≡ told_after was ends
   pub noted : new ≡ with_ends ends old
+  -- they are those of exactly these calls, one of each, and the run's
   pub each : AllByRecursion (λ e. (ends_within r was.done t n e.call ≡ true) × (e ≡ end_of (given_in r) r.periods (done_in r) e.call (start_of was.done e.call))) ends
   pub apart : AreApart ends
   pub told : (c : ℕ) → is_told c ends ≡ ends_within r was.done t n c
   pub tallies : KeepsTallies r t n was.done before now
 
--- no read of a run's incoming lines fails
-pub record AreReadable (r : Run) : Type 0 where
-  pub up_sound : (c : ℕ) → (r.lines c).up_failed ≡ false
-  pub pcm_sound : (c : ℕ) → (r.lines c).pcm_failed ≡ false
+-- Each incoming line that is listed after the round from t up to u, and wasn't before, failed in it.
+pub record FailedInRound (r : Run) (t u : ℕ) (was is : ℕ → Side → Bool) : Type 0 where
+  pub up : (c : ℕ) → was c Up ≡ false → is c Up ≡ true → FailedIn r c 40 (r.lines c).up t u
+  pub pcm : (c : ℕ) → was c Pcm ≡ false → is c Pcm ≡ true → FailedIn r c 160 (r.lines c).pcm t u

@@ -1,5 +1,5 @@
 -- What is kept of a run for its report (this project's profile).
-use Rattle.std.specs.Prelude.{◌≡◌, ℕ, ◌<◌, ◌==◌, if◌then◌else◌, Option, Some, None, List, [], ◌∷◌, ◌++◌, length, replicate}
+use Rattle.std.specs.Prelude.{◌≡◌, ℕ, false, ◌<◌, ◌==◌, if◌then◌else◌, Option, Some, None, List, [], ◌∷◌, ◌++◌, length, replicate}
 use Rattle.std.specs.List.{All}
 use Rattle.std.proofs.Common.{get_or, set}
 use Rattle.switchboard.specs.declared.act.Act.{Act}
@@ -7,6 +7,8 @@ use Rattle.switchboard.specs.declared.act.Act.TheVariants as act
 use Rattle.call_number.specs.CallNumber.{IsCallNumber}
 use Rattle.trau_io.specs.declared.ends.CallEnd.{CallEnd}
 use Rattle.trau_io.specs.declared.ends.Cause.TheVariants.{Closed}
+use Rattle.farm_run.specs.Going.{is_told}
+use Rattle.farm_run.specs.Ending.{AreApart}
 use Rattle.farm_run.specs.declared.notes.Opening.{Opening}
 use Rattle.farm_run.specs.declared.notes.BridgeNote.{BridgeNote}
 
@@ -31,13 +33,24 @@ new_journal = record { calls = replicate 4097 no_opening; ends = []; bridges = [
 abbrev pub HaveNumbers : List CallEnd → Type 0
 HaveNumbers ends = All (λ e. IsCallNumber e.call) ends
 
--- there is an entry for each call number, the places are those of bridges, and the ends those of calls
+-- there is an entry for each call number, the places are those of bridges, and the ends those of calls, no two of one call
 pub record IsJournal (calls : List Opening) (ends : List CallEnd) (bridges : List BridgeNote) : Type 0 where
   pub long : length calls ≡ 4097
   pub numbers : HaveNumbers ends
+  pub apart : AreApart ends
   pub places : (c k : ℕ) → (opening_of calls c).bridge ≡ Some k → k < length bridges
 
 -- ---- what is noted
+
+-- an order doesn't close a call whose end is noted
+abbrev pub ClosesOnce : Act → List CallEnd → Type 0
+ClosesOnce (act.Closed c p) ends = is_told c ends ≡ false
+ClosesOnce _ ends = Unit {0}
+
+-- the ends that are noted after it
+abbrev pub ends_noted : Act → ℕ → List CallEnd → List CallEnd
+ends_noted (act.Closed c p) period ends = ends ++ record { call = c; at = period; cause = Closed } ∷ []
+ends_noted _ period ends = ends
 
 -- a call is opened
 abbrev pub with_opening : ℕ → ℕ → JournalMemory → JournalMemory

@@ -7,4 +7,6 @@ pub mod Ending
 pub mod Facts
 pub mod Noted
 pub mod Runs
+pub mod Standing
+pub mod Fronts
 pub mod Clock

@@ -1,8 +1,8 @@
--- What a run leaves on the lines of its calls, and what it reports (this project's profile). `before` are the lines before
--- it, `now` those after it.
-use Rattle.std.specs.Prelude.{◌≡◌, ℕ, ◌*◌, true, false, Some, is_some, List, [], length, map, drop}
-use Rattle.std.specs.List.{Contains}
-use Rattle.std.specs.List.Sorted.{IsNonDecreasingBy}
+-- What a run leaves on the lines of its calls, and what it reports, whatever fails (this project's profile). `before` are
+-- the lines before it, `now` those after it.
+use Rattle.std.specs.Prelude.{◌≡◌, ◌<◌, ◌≤◌, ℕ, ◌+◌, ◌-◌, ◌*◌, Bool, true, false, ◌==◌, Some, is_some, List, ◌++◌, length, map, take, drop}
+use Rattle.std.specs.List.{list_any}
+use Rattle.std.specs.List.Sorted.{IsStrictlyIncreasing}
 use Rattle.std.specs.Io.KnownBytes.{Appends}
 use Rattle.trau_io.specs.declared.line.Line.{Line}
 use Rattle.trau_io.specs.declared.line.Side.{Side}
@@ -15,54 +15,73 @@ use Rattle.trau_orders.specs.declared.order.Order.{Order}
 use Rattle.switchboard.specs.Calls.{opened_at}
 use Rattle.switchboard.specs.Ends.{start_of, end_of}
 use Rattle.farm_report.specs.View.{ReportView}
-use Rattle.round_lines.specs.Places.{name_of}
 use Rattle.round_lines.specs.Rounds.{IsIncoming, IsOutgoing}
-use Rattle.farm_output.specs.Run.{Run, Incoming, given_in, done_in, periods_in}
+use Rattle.farm_output.specs.Run.{Run, given_in, done_in, start_in, end_in, periods_in}
 use Rattle.farm_output.specs.Lines.{out_of_call, down_of_call}
 use Rattle.farm_output.specs.Facts.{report_of}
 use Rattle.farm_run.specs.declared.pace.Pace.{Pace}
 
--- ---- whatever fails
+-- ---- the lines that failed
 
--- the line of a call on a side is one of these
-abbrev pub IsListed : List Line → ℕ → Side → Type 0
-IsListed lines c s = Contains (map name_of lines) (c, s)
+-- The count of each line that failed rose, and that of each other line is as it was.
+pub record AreFailures (fails : ℕ → Side → Bool) (before now : ℕ → Side → LineState) : Type 0 where
+  pub rose : (c : ℕ) (s : Side) → fails c s ≡ true → Rose (before c s).faults (now c s).faults
+  pub kept : (c : ℕ) (s : Side) → fails c s ≡ false → (now c s).faults ≡ (before c s).faults
 
--- The lines that are listed are those whose count of faults rose, by their calls' numbers, and those of a call in the order
--- Up, Pcm, Down, Out.
+-- whether the line of a call on a side is one of these
+abbrev pub is_listed : List Line → ℕ → Side → Bool
+is_listed lines c s = list_any (λ l. place_of l.call l.side == place_of c s) lines
+
+-- These are the lines that failed, each once: by their calls' numbers, and those of a call in the order Up, Pcm, Down, Out.
 pub record TellsFailed (before now : ℕ → Side → LineState) (lines : List Line) : Type 0 where
-  pub rose : (c : ℕ) (s : Side) → IsListed lines c s → Rose (before c s).faults (now c s).faults
-  pub kept : (c : ℕ) (s : Side) → (IsListed lines c s → ⊥) → (now c s).faults ≡ (before c s).faults
-  pub order : IsNonDecreasingBy (λ l. place_of l.call l.side) lines
+  pub failures : AreFailures (is_listed lines) before now
+  -- each stands behind those of smaller numbers, and none stands twice
+  pub order : IsStrictlyIncreasing (map (λ l. place_of l.call l.side) lines)
+
+-- no line failed
+abbrev pub none_fails : ℕ → Side → Bool
+none_fails c s = false
+
+-- no count of a line rose, and none stands at its last value
+abbrev pub NoneRose : (ℕ → Side → LineState) → (ℕ → Side → LineState) → Type 0
+NoneRose before now = (c : ℕ) (s : Side) → Rose (before c s).faults (now c s).faults → ⊥
+
+-- ---- what is read and written at all
 
 -- No incoming line was written, and no outgoing line was read.
 pub record KeepsSides (before now : ℕ → Side → LineState) : Type 0 where
   pub incoming : (c : ℕ) (s : Side) → IsIncoming s → (now c s).written ≡ (before c s).written
   pub outgoing : (c : ℕ) (s : Side) → IsOutgoing s → (now c s).to_come ≡ (before c s).to_come
 
--- ---- where nothing fails
+-- Of an incoming line that told its octets, some of the first were read, and it tells the others.
+abbrev pub ReadsOn : (ℕ → Side → LineState) → (ℕ → Side → LineState) → Type 0
+ReadsOn before now = (c : ℕ) (s : Side) (octets : List ℕ) → IsIncoming s → (before c s).to_come ≡ Some octets → (k : ℕ) × ((now c s).to_come ≡ Some (drop k octets))
 
--- no count of a line rose, and none stands at its last value
-abbrev pub NoneRose : (ℕ → Side → LineState) → (ℕ → Side → LineState) → Type 0
-NoneRose before now = (c : ℕ) (s : Side) → Rose (before c s).faults (now c s).faults → ⊥
+-- the incoming lines tell what they hold
+abbrev pub AreTold : (ℕ → Side → LineState) → Type 0
+AreTold lines = (c : ℕ) (s : Side) → IsIncoming s → (octets : List ℕ) × ((lines c s).to_come ≡ Some octets)
+
+-- ---- the run of the definition: `fails` tells which lines failed in it
 
 -- an order of the run opened the call
 abbrev pub IsOpened : Run → ℕ → Type 0
 IsOpened r c = is_some (opened_at c (done_in r)) ≡ true
 
--- a call's incoming lines tell their octets
-pub record AreTold (up pcm : LineState) (l : Incoming) : Type 0 where
-  pub up_octets : up.to_come ≡ Some l.up
-  pub pcm_octets : pcm.to_come ≡ Some l.pcm
+-- The octets of an incoming line are its contents, or, where a read of it failed in the run, the octets that its reads gave
+-- before that: a line that failed isn't read again, and so what it still holds are the others.
+abbrev pub IsGiven : Bool → LineState → LineState → List ℕ → Type 0
+IsGiven false before now octets = before.to_come ≡ Some octets
+IsGiven true before now octets = (rest : List ℕ) × (before.to_come ≡ Some (octets ++ rest)) × (now.to_come ≡ Some rest)
 
--- The run of these orders over these lines, to this number of periods: the incoming lines of the calls that it opens
--- tell what they hold, and no line fails.
-pub record IsRunOver (orders : List Order) (periods : ℕ) (before : ℕ → Side → LineState) (r : Run) : Type 0 where
+-- The run of these orders, to this number of periods, over what these lines gave until they ended or failed.
+pub record IsRunOver (orders : List Order) (periods : ℕ) (fails : ℕ → Side → Bool) (before now : ℕ → Side → LineState) (r : Run) : Type 0 where
   pub same_orders : r.orders ≡ orders
   pub same_periods : r.periods ≡ periods
-  pub told : (c : ℕ) → IsOpened r c → AreTold (before c Up) (before c Pcm) (r.lines c)
-  pub up_sound : (c : ℕ) → (r.lines c).up_failed ≡ false
-  pub pcm_sound : (c : ℕ) → (r.lines c).pcm_failed ≡ false
+  -- the incoming lines of the calls that it opens
+  pub up : (c : ℕ) → IsOpened r c → IsGiven (fails c Up) (before c Up) (now c Up) (r.lines c).up
+  pub pcm : (c : ℕ) → IsOpened r c → IsGiven (fails c Pcm) (before c Pcm) (now c Pcm) (r.lines c).pcm
+  pub up_failed : (c : ℕ) → (r.lines c).up_failed ≡ fails c Up
+  pub pcm_failed : (c : ℕ) → (r.lines c).pcm_failed ≡ fails c Pcm
 
 -- why a call ended
 abbrev pub cause_in : Run → ℕ → Cause
@@ -75,25 +94,51 @@ IsCutOff Limit = Unit {0}
 IsCutOff (End side left) = ⊥
 IsCutOff (Fault side) = ⊥
 
--- Of a line that told these octets exactly those of n periods were read, so many a period.
+-- of a line that told these octets exactly the first n were read
 abbrev pub IsReadTo : LineState → ℕ → List ℕ → Type 0
-IsReadTo now octets line = now.to_come ≡ Some (drop octets line)
+IsReadTo now n octets = now.to_come ≡ Some (drop n octets)
 
--- What a run leaves: the outgoing lines of each call that it opened have gained exactly what the run gives, and of the
--- incoming lines of a call that they didn't end exactly the octets of its periods were read. The lines of all other calls
--- are as they were, their counts included.
-pub record Leaves (r : Run) (before now : ℕ → Side → LineState) : Type 0 where
-  pub out : (c : ℕ) → IsOpened r c → Appends (before c Out).written (now c Out).written (out_of_call r c)
-  pub down : (c : ℕ) → IsOpened r c → Appends (before c Down).written (now c Down).written (down_of_call r c)
-  pub up_read : (c : ℕ) → IsOpened r c → IsCutOff (cause_in r c) → IsReadTo (now c Up) (40 * length (periods_in r c)) (r.lines c).up
-  pub pcm_read : (c : ℕ) → IsOpened r c → IsCutOff (cause_in r c) → IsReadTo (now c Pcm) (160 * length (periods_in r c)) (r.lines c).pcm
+-- An outgoing line has gained all these octets, or, where it failed, a proper front of them.
+abbrev pub IsWritten : Bool → LineState → LineState → List ℕ → Type 0
+IsWritten false before now octets = Appends before.written now.written octets
+IsWritten true before now octets = (n : ℕ) × (n < length octets) × Appends before.written now.written (take n octets)
+
+-- What a run leaves on the lines.
+pub record Leaves (r : Run) (fails : ℕ → Side → Bool) (before now : ℕ → Side → LineState) : Type 0 where
+  -- the outgoing lines of each call that it opened have what the run gives them
+  pub out : (c : ℕ) → IsOpened r c → IsWritten (fails c Out) (before c Out) (now c Out) (out_of_call r c)
+  pub down : (c : ℕ) → IsOpened r c → IsWritten (fails c Down) (before c Down) (now c Down) (down_of_call r c)
+  -- of the incoming lines of a call that they didn't end exactly the octets of its periods were read
+  pub up_read : (c : ℕ) → IsOpened r c → fails c Up ≡ false → IsCutOff (cause_in r c) → IsReadTo (now c Up) (40 * length (periods_in r c)) (r.lines c).up
+  pub pcm_read : (c : ℕ) → IsOpened r c → fails c Pcm ≡ false → IsCutOff (cause_in r c) → IsReadTo (now c Pcm) (160 * length (periods_in r c)) (r.lines c).pcm
+  -- the lines of all other calls are as they were, their counts included
   pub others : (c : ℕ) (s : Side) → (IsOpened r c → ⊥) → now c s ≡ before c s
 
--- A run of these orders: it only reads incoming lines and only writes outgoing ones, and its report lists the lines that
--- failed. Where none did, it left on the lines what the run of these orders over these lines gives, and the report is that
--- run's.
+-- An incoming line failed while a round was read, the periods of the run from `from` up to, without it, `until`: its call
+-- ended in this round, and the line gave fewer octets, so many a period, than all of the call's periods up to the round's end
+-- take of it.
+pub record FailedIn (r : Run) (c octets : ℕ) (line : List ℕ) (from until : ℕ) : Type 0 where
+  pub begun : from ≤ end_in r c
+  pub over : end_in r c < until
+  pub within : until ≤ r.periods
+  pub short : length line < octets * (until - start_in r c)
+
+-- so did each incoming line that failed, in a round of at most `batch` periods
+pub record FailedShort (r : Run) (batch : ℕ) (fails : ℕ → Side → Bool) : Type 0 where
+  pub up : (c : ℕ) → fails c Up ≡ true → (from : ℕ) × (until : ℕ) × (until ≤ from + batch) × FailedIn r c 40 (r.lines c).up from until
+  pub pcm : (c : ℕ) → fails c Pcm ≡ true → (from : ℕ) × (until : ℕ) × (until ≤ from + batch) × FailedIn r c 160 (r.lines c).pcm from until
+
+-- A run of these orders, whatever fails.
 pub record Runs (orders : List Order) (pace : Pace) (before now : ℕ → Side → LineState) (report : ReportView) : Type 0 where
+  -- the report lists the lines that failed
   pub failed : TellsFailed before now report.failed
+  -- incoming lines are only read, from the front, and outgoing ones only written
   pub sides : KeepsSides before now
-  pub leaves : (r : Run) → IsRunOver orders pace.periods before r → NoneRose before now → Leaves r before now
-  pub reports : (r : Run) → IsRunOver orders pace.periods before r → NoneRose before now → report ≡ report_of r []
+  pub reads : ReadsOn before now
+  -- lines and report are those of the run of these orders over what the lines gave;
+  pub leaves : (r : Run) → IsRunOver orders pace.periods (is_listed report.failed) before now r → Leaves r (is_listed report.failed) before now
+  pub reports : (r : Run) → IsRunOver orders pace.periods (is_listed report.failed) before now r → report ≡ report_of r report.failed
+  -- in this run each incoming line that failed did so short of what a round takes of it
+  pub short : (r : Run) → IsRunOver orders pace.periods (is_listed report.failed) before now r → FailedShort r pace.batch (is_listed report.failed)
+  -- and there is such a run wherever the lines tell what they hold
+  pub there : AreTold before → (r : Run) × IsRunOver orders pace.periods (is_listed report.failed) before now r

@@ -1,6 +1,6 @@
 //! The ends of calls.
 
-ghost use Rattle.std.specs.Prelude.{◌≡◌, ◌≤◌, ◌&&◌, ℕ, not, true, false, map, IfOk};
+ghost use Rattle.std.specs.Prelude.{◌≡◌, ◌≤◌, ◌&&◌, ℕ, not, true, false, map};
 ghost use Rattle.std.specs.List.{All};
 ghost use Rattle.switchboard.specs.State.{last_stamp};
 ghost use Rattle.switchboard.specs.Open.{open_now, partner_now};
@@ -8,57 +8,48 @@ ghost use Rattle.call_number.specs.CallNumber.{IsCallNumber};
 ghost use Rattle.farm_rounds.specs.Numbers.{IsRising, is_among};
 ghost use Rattle.farm_run.specs.Journal.{HaveNumbers, with_ends};
 ghost use Rattle.farm_run.specs.Going.{told_after, is_told};
-ghost use Rattle.farm_run.specs.Ending.{AreOpen, AreApart, AreLate, partner_past, limit_at};
+ghost use Rattle.farm_run.specs.Ending.{AreOpen, AreApart, AreLate, AreNew, partner_past, limit_at};
 
 use crate::journal::Journal;
-use std::alloc::AllocError;
 use switchboard::Board;
 use trau_io::{CallEnd, Cause};
 
 /// Tells the board of the ends of calls that are open, no call's twice, and notes them. No end is below the stamp of an
-/// executed order. An error says that there was no memory.
-pub(crate) fn tell_ends(
-    board: &mut Board,
-    journal: &mut Journal,
-    ends: &[CallEnd],
-) -> Result<(), AllocError>
+/// executed order. It takes no memory.
+pub(crate) fn tell_ends(board: &mut Board, journal: &mut Journal, ends: &[CallEnd])
     requires numbers { HaveNumbers ends.now }
     requires open { AreOpen board.old ends.now }
     requires apart { AreApart ends.now }
     requires late { AreLate board.old ends.now }
-    ensures told { IfOk result (λ u. board.new ≡ told_after board.old ends.now) }
-    ensures noted { IfOk result (λ u. journal.new ≡ with_ends ends.now journal.old) }
+    requires new { AreNew journal.old.ends ends.now }
+    ensures told { board.new ≡ told_after board.old ends.now }
+    ensures noted { journal.new ≡ with_ends ends.now journal.old }
 
     // Their calls are open no more, and neither they nor their partners have one.
-    ensures open { IfOk result (λ u. (c : ℕ) → open_now board.new c ≡ (open_now board.old c && not (is_told c ends.now))) }
-    ensures partner { IfOk result (λ u. (c : ℕ) → partner_now board.new c ≡ partner_past ends.now (partner_now board.old) c) }
+    ensures open { (c : ℕ) → open_now board.new c ≡ (open_now board.old c && not (is_told c ends.now)) }
+    ensures partner { (c : ℕ) → partner_now board.new c ≡ partner_past ends.now (partner_now board.old) c }
 {
     board.bridges_join_two();
     for end in ends {
         board.ended(*end);
-        journal.end(*end)?;
+        journal.end(*end);
     }
-    Ok(())
 }
 
 /// Tells the board that the run has no period from `at` on for these calls, which are open and whose numbers rise, and
-/// notes their ends. An error says that there was no memory.
-pub(crate) fn end_all(
-    board: &mut Board,
-    journal: &mut Journal,
-    calls: &[u32],
-    at: u32,
-) -> Result<(), AllocError>
+/// notes their ends. It takes no memory.
+pub(crate) fn end_all(board: &mut Board, journal: &mut Journal, calls: &[u32], at: u32)
     requires rising { IsRising calls.now }
     requires open { All (λ c. open_now board.old c ≡ true) calls.now }
     requires numbers { All IsCallNumber calls.now }
     requires late { last_stamp board.old.done ≤ at }
-    ensures told { IfOk result (λ u. board.new ≡ told_after board.old (map (limit_at at) calls.now)) }
-    ensures noted { IfOk result (λ u. journal.new ≡ with_ends (map (limit_at at) calls.now) journal.old) }
+    requires new { AreNew journal.old.ends (map (limit_at at) calls.now) }
+    ensures told { board.new ≡ told_after board.old (map (limit_at at) calls.now) }
+    ensures noted { journal.new ≡ with_ends (map (limit_at at) calls.now) journal.old }
 
     // They are open no more; where they are all that were open, no call is.
-    ensures open { IfOk result (λ u. (c : ℕ) → open_now board.new c ≡ (open_now board.old c && not (is_among calls.now c))) }
-    ensures none { IfOk result (λ u. ((c : ℕ) → is_among calls.now c ≡ open_now board.old c) → (c : ℕ) → open_now board.new c ≡ false) }
+    ensures open { (c : ℕ) → open_now board.new c ≡ (open_now board.old c && not (is_among calls.now c)) }
+    ensures none { ((c : ℕ) → is_among calls.now c ≡ open_now board.old c) → (c : ℕ) → open_now board.new c ≡ false }
 {
     for call in calls {
         let end = CallEnd {
@@ -67,7 +58,6 @@ pub(crate) fn end_all(
             cause: Cause::Limit,
         };
         board.ended(end);
-        journal.end(end)?;
+        journal.end(end);
     }
-    Ok(())
 }

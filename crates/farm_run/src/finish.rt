@@ -5,6 +5,7 @@ ghost use Rattle.switchboard.specs.State.{last_stamp};
 ghost use Rattle.farm_output.specs.Run.{Run};
 ghost use Rattle.farm_output.specs.Facts.{report_of};
 ghost use Rattle.farm_run.specs.Match.{Matches};
+ghost use Rattle.farm_run.specs.Ending.{AreShut};
 ghost use Rattle.farm_run.specs.Noted.{IsAtEnd};
 
 use crate::ends::end_all;
@@ -28,12 +29,13 @@ pub(crate) fn finish(
     requires few { orders ≤ 65536 }
     requires matches { Matches board.old farm.now.groups }
     requires late { last_stamp board.old.done ≤ periods }
+    requires shut { AreShut board.old journal.old.ends }
     ensures failed { IfOk result (λ report. report.failed ≡ farm.now.failed) }
 
     // At the end of a run it is the report of the definition, with the lines that failed.
     ensures reports { IfOk result (λ report. (r : Run) (t : ℕ) → IsAtEnd r t board.old farm.now.groups farm.now.tallies journal.old →
         r.periods ≡ periods → length r.orders ≡ orders → report ≡ report_of r report.failed) }
 {
-    end_all(board, journal, farm.live_calls(), periods)?;
+    end_all(board, journal, farm.live_calls(), periods);
     report(alloc, board, farm, journal, orders)
 }

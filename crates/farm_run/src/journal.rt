@@ -1,7 +1,8 @@
 //! What the report needs to know of the past.
 
-ghost use Rattle.std.specs.Prelude.{◌≡◌, ◌<◌, IfOk};
+ghost use Rattle.std.specs.Prelude.{◌≡◌, ◌<◌, false, length, IfOk};
 ghost use Rattle.call_number.specs.CallNumber.{IsCallNumber};
+ghost use Rattle.farm_run.specs.Going.{is_told};
 ghost use Rattle.farm_run.specs.Journal.{HaveNumbers, new_journal, settled, opening_of, with_opening, with_end, with_bridge};
 
 use crate::notes::{BridgeNote, Opening};
@@ -20,14 +21,18 @@ pub(crate) struct Journal {
 }
 
 impl Model for Journal {
+    ghost use Rattle.std.specs.Prelude.{◌≤◌, vec_capacity};
     ghost use Rattle.farm_run.specs.Journal.{JournalMemory, IsJournal};
 
     ghost Value = { JournalMemory };
 
     ghost view = { λ j. record { calls = j.calls.items; ends = j.ends.items; bridges = j.bridges.items } };
 
-    ghost invariant = { λ j. IsJournal j.calls.items j.ends.items j.bridges.items };
+    ghost invariant = { λ j. IsJournal j.calls.items j.ends.items j.bridges.items × (4097 ≤ vec_capacity j.ends) × (65536 ≤ vec_capacity j.bridges) };
 }
+
+// A run has at most so many orders, and each bridge is made by one.
+const ORDERS: usize = 65536;
 
 const NOT_OPENED: Opening = Opening {
     from: 0,
@@ -35,14 +40,17 @@ const NOT_OPENED: Opening = Opening {
 };
 
 impl Journal {
-    /// The journal before the first order.
+    /// The journal before the first order, with the room of all that it will ever note: it takes no memory afterwards.
     pub(crate) fn new(alloc: Global) -> Result<Journal, AllocError>
         ensures { IfOk result (λ j. j ≡ new_journal) }
     {
+        let calls = vec![in alloc; NOT_OPENED; NUMBERS]?;
+        let ends = Vec::with_capacity(alloc, NUMBERS)?;
+        let bridges = Vec::with_capacity(alloc, ORDERS)?;
         Ok(Journal {
-            calls: vec![in alloc; NOT_OPENED; NUMBERS]?,
-            ends: Vec::new(alloc),
-            bridges: Vec::new(alloc),
+            calls,
+            ends,
+            bridges,
         })
     }
 
@@ -57,31 +65,31 @@ impl Journal {
         };
     }
 
-    /// A call ends.
-    pub(crate) fn end(&mut self, end: CallEnd) -> Result<(), AllocError>
-        requires { IsCallNumber end.call }
-        ensures { IfOk result (λ u. self.new ≡ with_end end self.old) }
+    /// A call ends, whose end isn't noted.
+    pub(crate) fn end(&mut self, end: CallEnd)
+        requires number { IsCallNumber end.call }
+        requires new { is_told end.call self.old.ends ≡ false }
+        ensures { self.new ≡ with_end end self.old }
     {
-        self.ends.push(end)?;
-        Ok(())
+        self.ends.push_reserved(end);
     }
 
-    /// A bridge of two calls begins.
-    pub(crate) fn bridge(&mut self, a: u32, b: u32) -> Result<(), AllocError>
+    /// A bridge of two calls begins, after fewer bridges than a run can have orders.
+    pub(crate) fn bridge(&mut self, a: u32, b: u32)
         requires a { a < NUMBERS }
         requires b { b < NUMBERS }
-        ensures { IfOk result (λ u. self.new ≡ with_bridge a b self.old) }
+        requires room { length self.old.bridges < 65536 }
+        ensures { self.new ≡ with_bridge a b self.old }
     {
         let place = self.bridges.len();
-        self.bridges.push(BridgeNote {
+        self.bridges.push_reserved(BridgeNote {
             a,
             b,
             sent_by_a: 0,
             sent_by_b: 0,
-        })?;
+        });
         self.calls[a as usize].bridge = Some(place);
         self.calls[b as usize].bridge = Some(place);
-        Ok(())
     }
 
     /// A call has sent so many handed frames in its latest bridge, if it has been bridged.

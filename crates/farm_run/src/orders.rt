@@ -1,13 +1,14 @@
 //! The orders of the clock.
 
-ghost use Rattle.std.specs.Prelude.{◌≡◌, ◌<◌, ◌+◌, ℕ, true, false, Option, length, IfOk, IfSome};
+ghost use Rattle.std.specs.Prelude.{◌≡◌, ◌<◌, ◌≤◌, ◌+◌, ℕ, true, false, Option, length, IfOk, IfSome};
 ghost use Rattle.switchboard.specs.State.{first_stamp, orders_of};
 ghost use Rattle.farm_rounds.specs.Histories.{CallHistory, GroupsStand};
 ghost use Rattle.farm_output.specs.Run.{Run};
 ghost use Rattle.farm_run.specs.Match.{AreNumbers, AtClock, Follows};
-ghost use Rattle.farm_run.specs.Journal.{noted_by};
+ghost use Rattle.farm_run.specs.Ending.{AreShut};
+ghost use Rattle.farm_run.specs.Journal.{ClosesOnce, ends_noted, noted_by};
 ghost use Rattle.farm_run.specs.Facts.{kept_in};
-ghost use Rattle.farm_run.specs.Clock.{AreSound};
+ghost use Rattle.farm_run.specs.Standing.{is_over, KnowsListed};
 ghost use Rattle.farm_run.specs.Noted.{Noted};
 
 use crate::journal::Journal;
@@ -16,11 +17,15 @@ use std::alloc::{AllocError, Global};
 use switchboard::{Act, Board};
 use trau_io::{CallEnd, Cause};
 
-// Notes what an accepted order is about to do at a period.
-fn note(act: &Act, period: u32, farm: &Farm, journal: &mut Journal) -> Result<(), AllocError>
-    requires { AreNumbers act.now }
-    ensures { IfOk result (λ u. (h : ℕ → Option CallHistory) → GroupsStand h farm.now.groups →
-        journal.new ≡ noted_by act.now period (λ c. (kept_in farm.now.tallies h c).sent) journal.old) }
+// Notes what an accepted order is about to do at a period. It takes no memory.
+fn note(act: &Act, period: u32, farm: &Farm, journal: &mut Journal)
+    requires numbers { AreNumbers act.now }
+    requires once { ClosesOnce act.now journal.old.ends }
+    requires room { length journal.old.bridges < 65536 }
+    ensures ends { journal.new.ends ≡ ends_noted act.now period journal.old.ends }
+    ensures bridges { length journal.new.bridges ≤ length journal.old.bridges + 1 }
+    ensures noted { (h : ℕ → Option CallHistory) → GroupsStand h farm.now.groups →
+        journal.new ≡ noted_by act.now period (λ c. (kept_in farm.now.tallies h c).sent) journal.old }
 {
     match *act {
         Act::Opened { call } => journal.open(call, period),
@@ -28,19 +33,18 @@ fn note(act: &Act, period: u32, farm: &Farm, journal: &mut Journal) -> Result<()
             call,
             at: period,
             cause: Cause::Closed,
-        })?,
+        }),
         Act::Bridged { a, b } => {
             journal.settle(a, farm.sent(a));
             journal.settle(b, farm.sent(b));
-            journal.bridge(a, b)?;
+            journal.bridge(a, b);
         }
         Act::Unbridged { .. } | Act::LevelSet { .. } | Act::DtxSet { .. } => {}
     }
-    Ok(())
 }
 
 // Executes the next order where its stamp is the clock, and carries it out where it is accepted. Answers whether there
-// was one.
+// was one. Of its orders at most one makes each bridge that is noted.
 fn execute(
     alloc: Global,
     board: &mut Board,
@@ -48,14 +52,20 @@ fn execute(
     journal: &mut Journal,
     clock: u32,
 ) -> Result<bool, AllocError>
-    requires { AtClock clock board.old farm.old.groups }
+    requires clock { AtClock clock board.old farm.old.groups }
+    requires shut { AreShut board.old journal.old.ends }
+    requires few { length (orders_of board.old) ≤ 65536 }
+    requires bridges { length journal.old.bridges ≤ length board.old.done }
     ensures clock { IfOk result (λ more. AtClock clock board.new farm.new.groups) }
+    ensures shut { IfOk result (λ more. AreShut board.new journal.new.ends) }
+    ensures bridges { IfOk result (λ more. length journal.new.bridges ≤ length board.new.done) }
     ensures kept { orders_of board.new ≡ orders_of board.old }
     ensures done { IfOk result (λ more. more ≡ false → IfSome (first_stamp board.new.left) (λ s. clock < s)) }
     ensures left { IfOk result (λ more. more ≡ true → length board.new.left + 1 ≡ length board.old.left) }
     ensures ended { IfOk result (λ more. farm.new.ended ≡ farm.old.ended) }
     ensures failed { IfOk result (λ more. farm.new.failed ≡ farm.old.failed) }
-    ensures sound { AreSound farm.old.groups → IfOk result (λ more. AreSound farm.new.groups) }
+    ensures knows { KnowsListed board.old farm.old.groups farm.old.failed → IfOk result (λ more. KnowsListed board.new farm.new.groups farm.new.failed) }
+    ensures over { (c : ℕ) → is_over board.old c ≡ true → is_over board.new c ≡ true }
     ensures follows { (r : Run) → clock < r.periods → Follows r clock board.old farm.old.groups → IfOk result (λ more. Follows r clock board.new farm.new.groups) }
     ensures told { board.new.told ≡ board.old.told }
 
@@ -67,7 +77,7 @@ fn execute(
         return Ok(false);
     };
     if let Ok(act) = reply.result {
-        note(&act, clock, farm, journal)?;
+        note(&act, clock, farm, journal);
         farm.apply(alloc, &act)?;
     }
     Ok(true)
@@ -81,13 +91,19 @@ pub(crate) fn execute_orders(
     journal: &mut Journal,
     clock: u32,
 ) -> Result<(), AllocError>
-    requires { AtClock clock board.old farm.old.groups }
+    requires clock { AtClock clock board.old farm.old.groups }
+    requires shut { AreShut board.old journal.old.ends }
+    requires few { length (orders_of board.old) ≤ 65536 }
+    requires bridges { length journal.old.bridges ≤ length board.old.done }
     ensures clock { IfOk result (λ u. AtClock clock board.new farm.new.groups) }
+    ensures shut { IfOk result (λ u. AreShut board.new journal.new.ends) }
+    ensures bridges { IfOk result (λ u. length journal.new.bridges ≤ length board.new.done) }
     ensures kept { orders_of board.new ≡ orders_of board.old }
     ensures done { IfOk result (λ u. IfSome (first_stamp board.new.left) (λ s. clock < s)) }
     ensures ended { IfOk result (λ u. farm.new.ended ≡ farm.old.ended) }
     ensures failed { IfOk result (λ u. farm.new.failed ≡ farm.old.failed) }
-    ensures sound { AreSound farm.old.groups → IfOk result (λ u. AreSound farm.new.groups) }
+    ensures knows { KnowsListed board.old farm.old.groups farm.old.failed → IfOk result (λ u. KnowsListed board.new farm.new.groups farm.new.failed) }
+    ensures over { (c : ℕ) → is_over board.old c ≡ true → is_over board.new c ≡ true }
     ensures follows { (r : Run) → clock < r.periods → Follows r clock board.old farm.old.groups → IfOk result (λ u. Follows r clock board.new farm.new.groups) }
     ensures told { board.new.told ≡ board.old.told }
 

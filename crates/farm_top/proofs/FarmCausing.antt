@@ -12,7 +12,8 @@ use Rattle.farm_orders.specs.declared.fault.OrdersFault.{OrdersFault}
 use Rattle.farm_orders.specs.declared.fault.OrdersFault.TheVariants.{Unread, TooLong, Line, Memory}
 use Rattle.farm_orders.specs.Reading.{ReadsOrders, AnswersTold}
 use Rattle.farm_report.specs.View.{ReportView}
-use Rattle.farm_run.specs.Runs.{IsListed, Runs, TellsFailed}
+use Rattle.farm_run.specs.Runs.{Runs, TellsFailed}
+use Rattle.farm_run.proofs.Listed.{listed_head}
 use Rattle.farm_words.specs.declared.asked.Settings.{Settings}
 use Rattle.farm_top.specs.Farm.{AllStay, CarriesRun, FollowsReading, LacksMemory, TellsReport, pace_of, status_of_run}
 use Rattle.farm_top.specs.FarmCauses.{ReadsBadLine, ReadsTooLong, RunCauses, SomeRose}
@@ -22,13 +23,9 @@ pub not_long : (text : List ℕ) → IsWithin text → (1048576 < length text) �
 not_long text within (inl long) = omega (arith, within.0, long)
 not_long text within (inr long) = omega (arith, within.1, long)
 
--- a run that lists no line
-none_listed : (c : ℕ) (s : Side) → IsListed [] c s → ⊥
-none_listed c s listed = let below : listed.0 < 0 = listed.1 in omega (arith, below)
-
--- and one that lists some
+-- a run that lists some line
 pub first_rose : (before now : ℕ → Side → LineState) (line : TheLine) (lines : List TheLine) → TellsFailed before now (line ∷ lines) → SomeRose before now
-first_rose before now line lines failed = (line.call, line.side, failed.rose line.call line.side (0, omega arith, refl))
+first_rose before now line lines failed = (line.call, line.side, failed.failures.rose line.call line.side (listed_head line lines))
 
 -- of lines that are as they were no count rose
 stayed : (before now : ℕ → Side → LineState) → AllStay before now → (c : ℕ) (s : Side) → (before c s).faults < (now c s).faults → ⊥
@@ -146,8 +143,8 @@ module _ (before now : ℕ → Side → LineState) (desk desk' : DeskState) (sta
     desk_failed = λ e. absurd (omega (arith, e, is));
     desk_rose = λ more. absurd (omega (arith, more, silent));
     line_failed = λ e. absurd (omega (arith, e, is));
-    line_rose = λ c s rose. let same : (now c s).faults ≡ (before c s).faults = failed.kept c s (none_listed c s) in absurd (omega (arith, rose, same));
-    done = λ _ c s. failed.kept c s (none_listed c s);
+    line_rose = λ c s rose. let same : (now c s).faults ≡ (before c s).faults = failed.failures.kept c s refl in absurd (omega (arith, rose, same));
+    done = λ _ c s. failed.failures.kept c s refl;
   }
   told_causes (line ∷ lines) is failed calm silent told_within told_good = record {
     known = inr (inr (inr (inr (inr (inl is)))));
@@ -184,7 +181,7 @@ module _ (good : GoodOrBad) (s : Settings) (before now : ℕ → Side → LineSt
       (IsErrOf reading Unread → Rose desk.read_faults read.read_faults) → ((IsErrOf reading Unread → ⊥) → read.read_faults ≡ desk.read_faults) →
       read.written ≡ desk.written → read.write_faults ≡ desk.write_faults → FollowsReading reading s before now read desk' status → RunCauses before now desk desk' status
   follows_causes (Ok orders) reads told unread calm written silent (inl ran) = reported orders (calm (λ e. cc)) silent told ran.report ran.runs ran.tells
-  follows_causes (Ok orders) reads told unread calm written silent (inr (sides, ends)) = lacks (calm (λ e. cc)) ends
+  follows_causes (Ok orders) reads told unread calm written silent (inr (cut, ends)) = lacks (calm (λ e. cc)) ends
   follows_causes (Err Unread) reads told unread calm written silent (stay, ends) =
       unread_causes before now desk desk' status ends.status_is (subst (λ n. Rose desk.read_faults n) (sym ends.text_out.tells.read_faults) (unread refl)) stay
   follows_causes (Err TooLong) reads told unread calm written silent (stay, ends) =

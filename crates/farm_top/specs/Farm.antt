@@ -14,7 +14,8 @@ use Rattle.farm_output.specs.Run.{Run}
 use Rattle.farm_report.specs.Lines.{report_text}
 use Rattle.farm_report.specs.View.{ReportView}
 use Rattle.farm_run.specs.declared.pace.Pace.{Pace}
-use Rattle.farm_run.specs.Runs.{IsRunOver, KeepsSides, NoneRose, Runs}
+use Rattle.farm_run.specs.Runs.{IsRunOver, Runs, is_listed}
+use Rattle.farm_run.specs.Fronts.{IsCutShort}
 use Rattle.farm_words.specs.declared.asked.Settings.{Settings}
 use Rattle.farm_top.specs.Headline.{Headline}
 
@@ -65,18 +66,18 @@ TellsReport report desk desk' status =
     ⊎ ((status ≡ 4) × Tells desk desk' (Err (record {})) (report_text report))
     ⊎ LacksMemory desk desk' status
 
--- Orders that were taken are run over the lines, and the report is told. Where no count of a line rose, the outgoing lines
--- have what the run gives each call as a whole, whatever the desk did.
+-- Orders that were taken are run over the lines, and the report is told, whatever failed. The outgoing lines have the headline,
+-- whatever the desk did.
 pub record RunsAndTells (orders : List Order) (pace : Pace) (before now : ℕ → Side → LineState) (desk desk' : DeskState) (status : ℕ) : Type 0 where
   pub report : ReportView
   pub runs : Runs orders pace before now report
-  pub headline : (r : Run) → IsRunOver orders pace.periods before r → NoneRose before now → Headline r before now
+  pub headline : (r : Run) → IsRunOver orders pace.periods (is_listed report.failed) before now r → Headline r (is_listed report.failed) before now
   pub tells : TellsReport report desk desk' status
 
--- what follows the reading: the run, unless there was no memory for it, and then too incoming lines were only read and
--- outgoing ones only written; or the refusal of the orders, and no line was used
+-- What follows the reading: the run of the orders, unless want of memory cut it short; or the refusal of the orders, and no
+-- line was used.
 abbrev pub FollowsReading : Result (List Order) OrdersFault → Settings → (ℕ → Side → LineState) → (ℕ → Side → LineState) → DeskState → DeskState → ℕ → Type 0
-FollowsReading (Ok orders) s before now desk desk' status = RunsAndTells orders (pace_of s) before now desk desk' status ⊎ (KeepsSides before now × LacksMemory desk desk' status)
+FollowsReading (Ok orders) s before now desk desk' status = RunsAndTells orders (pace_of s) before now desk desk' status ⊎ (IsCutShort orders s.periods before now × LacksMemory desk desk' status)
 FollowsReading (Err fault) s before now desk desk' status = AllStay before now × RefusesOrders fault desk desk' status
 
 -- a whole command `run`, whatever fails: the desk is read, and what follows is by the reading

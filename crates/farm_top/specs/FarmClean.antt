@@ -1,4 +1,4 @@
--- What the command `run` leaves where nothing fails and the outside tells what it holds (this project's profile).
+-- What the command `run` leaves where the outside tells what it holds and nothing fails (this project's profile).
 use Rattle.std.specs.Prelude.{◌≡◌, ℕ, List, [], Some}
 use Rattle.std.specs.Io.KnownBytes.{Appends}
 use Rattle.trau_io.specs.declared.line.Side.{Side}
@@ -9,7 +9,7 @@ use Rattle.trau_orders.specs.Text.{text_lines, AreLines, IsWithin}
 use Rattle.farm_output.specs.Run.{Run}
 use Rattle.farm_output.specs.Facts.{report_of}
 use Rattle.farm_report.specs.Lines.{report_text}
-use Rattle.farm_run.specs.Runs.{NoneRose, Leaves}
+use Rattle.farm_run.specs.Runs.{NoneRose, Leaves, none_fails}
 use Rattle.farm_tools.specs.Causes.{IsCalm}
 
 -- the desk tells a text within the limits, whose lines are those of these orders
@@ -29,6 +29,6 @@ pub record IsCalmRun (before now : ℕ → Side → LineState) (desk desk' : Des
 -- run's report, in which no line failed, and the orders were read to their end.
 pub record CleanFarm (r : Run) (before now : ℕ → Side → LineState) (desk desk' : DeskState) (status : ℕ) : Type 0 where
   pub done : status ≡ 0
-  pub leaves : Leaves r before now
+  pub leaves : Leaves r none_fails before now
   pub text : Appends desk.written desk'.written (report_text (report_of r []))
   pub all_read : desk'.to_come ≡ Some []

@@ -1,6 +1,5 @@
 -- What a run leaves on the outgoing lines of its calls, each call told as a whole (this project's profile).
-use Rattle.std.specs.Prelude.{◌≡◌, ◌≤◌, ◌<◌, ◌↔◌, ℕ, ◌+◌, ◌-◌, true, Some, None, List, [], length, map, slice_index, Contains}
-use Rattle.std.specs.Io.KnownBytes.{Appends}
+use Rattle.std.specs.Prelude.{◌≡◌, ◌≤◌, ◌<◌, ◌↔◌, ℕ, ◌+◌, ◌-◌, Bool, true, Some, None, List, [], length, map, slice_index, Contains}
 use Rattle.trau_bits.specs.Bits.{octets_of}
 use Rattle.trau_params.specs.Bits260.{bits260}
 use Rattle.trau_io.specs.declared.line.Side.{Side}
@@ -18,39 +17,44 @@ use Rattle.call_output.specs.Down.{frame_at, down}
 use Rattle.farm_output.specs.Run.{Run, spans_in, start_in, end_in, partner_in}
 use Rattle.farm_output.specs.Facts.{span_line, report_of}
 use Rattle.farm_calls.specs.Whole.{span_for, whole_call, IsBridged, item_for, yield_on, frame_on}
-use Rattle.farm_calls.specs.Sent.{sent_frame, place_in, CarriesHanded, Sends, IsFirst}
-use Rattle.farm_run.specs.Runs.{IsOpened}
+use Rattle.farm_calls.specs.Sent.{sent_frame, place_in, CarriesHanded, Sends, Waits, IsFirst}
+use Rattle.farm_run.specs.Runs.{IsOpened, IsWritten}
 
--- A call is handed nothing but its partner's effective frames, as 260 bits, in the periods of their bridge, whose span is
--- one of those that are reported.
+-- What a call is handed in the periods of a bridge: its partner's effective frames, as 260 bits, and nothing else.
 pub record HandsOver (r : Run) : Type 0 where
+  -- the bridges' spans are those that the report tells
   pub reported : map (λ l. l.span) (report_of r []).spans ≡ spans_in r
   pub within : (c t : ℕ) (x : Span) → IsBridged r c t x → item_for r c t ≡ Some (bits260 (handed_fields (frame_on r (partner_in c x) t)))
   pub outside : (c t : ℕ) → start_in r c ≤ t → t < end_in r c → ((x : Span) → IsBridged r c t x → ⊥) → item_for r c t ≡ None
 
--- What a call is handed in a period of a bridge goes out in a frame that it makes, but that of the call's very last period,
--- which may be lost: a good speech frame's 260 bits unchanged, with SP 1. This frame's 320 bits stand on the Down line one
--- after another, as far as the line goes, and no frame carries anything else. It lies as many frames behind the first one
--- made in the bridge as the period lies behind the bridge's start. So what is handed later goes out in a later frame, and
--- each once. Of a bridge one frame at most is lost in each direction, which the report counts.
+-- What a call is handed goes out on its Down line, each frame once and in order, and nothing else is carried.
 pub record GoesOut (r : Run) : Type 0 where
+  -- what it is handed in a period of a bridge goes out in a frame that it makes, but that of the call's very last period,
+  -- which may be lost: a good speech frame's 260 bits unchanged, with SP 1
   pub goes : (c t : ℕ) (x : Span) → IsBridged r c t x → t + 1 < end_in r c → (j : ℕ) × Sends r c t x j
   pub unchanged : (c t : ℕ) (x : Span) (j p : ℕ) (bits : List ℕ) → Sends r c t x j → yield_on r (partner_in c x) t ≡ Some (Frame p bits) → IsGoodSpeech bits →
       sent_frame r c j ≡ Speech (data_of bits) true
+  -- the frame's 320 bits stand on the Down line one after another, as far as the line goes
   pub on_line : (c t : ℕ) (x : Span) (j k : ℕ) → Sends r c t x j → k < 320 → place_in r c j + k < length (down (whole_call r c)) →
       slice_index (down (whole_call r c)) (place_in r c j + k) ≡ slice_index (down_bits (sent_frame r c j)) k
+  -- no frame carries anything else
   pub only : (c j h : ℕ) → (frame_at (whole_call r c) j).carries ≡ Some h → (x : Span) × IsBridged r c (start_in r c + h) x × CarriesHanded r c (start_in r c + h) x j
+  -- it lies as many frames behind the first one made in the bridge as the period lies behind the bridge's start; so what
+  -- is handed later goes out in a later frame, and each once
   pub first : (c : ℕ) (x : Span) → (first : ℕ) × IsFirst (whole_call r c) (span_for r c x) first
   pub place : (c t : ℕ) (x : Span) (first j : ℕ) → IsBridged r c t x → IsFirst (whole_call r c) (span_for r c x) first → CarriesHanded r c t x j ↔ (j ≡ first + (t - x.from))
   pub in_order : (c t u : ℕ) (x : Span) (j k : ℕ) → IsBridged r c t x → IsBridged r c u x → CarriesHanded r c t x j → CarriesHanded r c u x k → t < u → j < k
   pub once : (c t : ℕ) (x : Span) (j k : ℕ) → IsBridged r c t x → CarriesHanded r c t x j → CarriesHanded r c t x k → j ≡ k
+  -- between periods at most one handed frame waits, that of the period just over
+  pub one_waits : (c u t : ℕ) (x : Span) → Waits r c u t x → u ≡ t + 1
+  -- of a bridge one frame at most is lost in each direction, which the report counts
   pub lost : (x : Span) → Contains (spans_in r) x → ((span_line r x).lost_a ≤ 1) × ((span_line r x).lost_b ≤ 1)
 
--- The octets written on a call's outgoing lines are the definition's octets of the call as a whole: of its own incoming
--- lines and orders and, only between a bridge's reported start and end, of its partner's uplink; there each good speech
--- frame's 260 bits go out unchanged, in order and once.
-pub record Headline (r : Run) (before now : ℕ → Side → LineState) : Type 0 where
-  pub out_line : (c : ℕ) → IsOpened r c → Appends (before c Out).written (now c Out).written (out (whole_call r c))
-  pub down_line : (c : ℕ) → IsOpened r c → Appends (before c Down).written (now c Down).written (octets_of (down (whole_call r c)))
+-- The headline: the octets written on a call's outgoing lines are the definition's octets of the call as a whole, of its own
+-- incoming lines and orders and, only between a bridge's reported start and end, of its partner's uplink; there each good
+-- speech frame's 260 bits go out unchanged, in order and once. A line that failed holds a proper front of its octets.
+pub record Headline (r : Run) (fails : ℕ → Side → Bool) (before now : ℕ → Side → LineState) : Type 0 where
+  pub out_line : (c : ℕ) → IsOpened r c → IsWritten (fails c Out) (before c Out) (now c Out) (out (whole_call r c))
+  pub down_line : (c : ℕ) → IsOpened r c → IsWritten (fails c Down) (before c Down) (now c Down) (octets_of (down (whole_call r c)))
   pub hands_over : HandsOver r
   pub goes_out : GoesOut r

@@ -1,6 +1,7 @@
 -- What the top call does.
 pub mod Farm
 pub mod FarmCauses
+pub mod FarmEnded
 pub mod FarmClean
 pub mod Headline
 pub mod Top

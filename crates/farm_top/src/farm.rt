@@ -1,5 +1,5 @@
 // The command `run`: the orders from the desk, the run over the lines, and its report to the desk.
-ghost use Rattle.std.specs.Prelude.{ℕ};
+ghost use Rattle.std.specs.Prelude.{ℕ, Bool};
 ghost use Rattle.trau_io.specs.declared.line.Side.{Side};
 ghost use Rattle.trau_io.specs.Lines.{LineState};
 ghost use Rattle.trau_orders.specs.Lists.{AreOrders};
@@ -75,7 +75,7 @@ fn tell_report<D: Desk>(alloc: Global, report: &Report, desk: &mut D) -> u8
 
 // A law: what a run leaves on outgoing lines are the lines of whole calls, and its bridges hand frames over.
 fn lines_have_the_headline()
-    ensures { (r : TheRun) (before now : ℕ → Side → LineState) → AreOrders r.orders → Leaves r before now → Headline r before now }
+    ensures { (r : TheRun) (fails : ℕ → Side → Bool) (before now : ℕ → Side → LineState) → AreOrders r.orders → Leaves r fails before now → Headline r fails before now }
 {
     lines_are_of_whole_calls();
     items_are_the_partners_frames();

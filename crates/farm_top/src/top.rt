@@ -4,7 +4,8 @@ ghost use Rattle.call_number.specs.CallNumber.{IsCallNumber};
 ghost use Rattle.trau_io.specs.declared.line.Side.TheVariants.{Up};
 ghost use Rattle.trau_orders.specs.declared.order.Order.{Order};
 ghost use Rattle.farm_output.specs.Run.{Run};
-ghost use Rattle.farm_run.specs.Runs.{IsRunOver, Leaves, NoneRose};
+ghost use Rattle.farm_run.specs.Runs.{IsRunOver, Leaves, NoneRose, none_fails};
+ghost use Rattle.farm_run.specs.Fronts.{IsCutShort};
 ghost use Rattle.farm_tools.specs.declared.end.Tool.{Tool};
 ghost use Rattle.farm_tools.specs.Causes.{Causes};
 ghost use Rattle.farm_tools.specs.Clean.{CleanRun};
@@ -15,6 +16,7 @@ ghost use Rattle.farm_top.specs.Farm.{AllStay, CarriesRun, LacksMemory, TextOut}
 ghost use Rattle.farm_top.specs.FarmCauses.{RunCauses};
 ghost use Rattle.farm_top.specs.Headline.{Headline};
 ghost use Rattle.farm_top.specs.FarmClean.{CleanFarm, IsCalmRun, TellsOrders};
+ghost use Rattle.farm_top.specs.FarmEnded.{RunEnded};
 ghost use Rattle.farm_top.specs.Top.{Answers, Carries, CarriesAsked, CarriesFrames, IsInRange};
 ghost use Rattle.farm_top.specs.Words.{AreCommand, AsksFor, AsksForFrames, AsksForRun, BeginWithRun, spelled};
 
@@ -182,24 +184,37 @@ pub fn farm_top<R: Threads + Wait + Sync, T: Trunk, D: Desk, G: Gate + Sync>(
     ensures run_clean { (s : Settings) → AsksForRun (spelled words.now) s →
         (orders : List Order) → TellsOrders orders (D.desk desk.old) →
         IsCalmRun (T.lines trunk.old) (T.lines trunk.new) (D.desk desk.old) (D.desk desk.new) → result ≢ 5 →
-        (r : Run) → IsRunOver orders s.periods (T.lines trunk.old) r →
+        (r : Run) → IsRunOver orders s.periods none_fails (T.lines trunk.old) (T.lines trunk.new) r →
         CleanFarm r (T.lines trunk.old) (T.lines trunk.new) (D.desk desk.old) (D.desk desk.new) result }
 
-    // Whatever the desk does, where no line's count rises the lines have exactly what the run gives them.
+    // Whatever the desk does and whichever lines fail, a run that was carried to its end leaves on the lines what the run of
+    // these orders over what the lines gave gives, and has the headline. The desk gained the report's text with the lines that
+    // failed, or a proper front of it.
+    ensures run_ended { (s : Settings) → AsksForRun (spelled words.now) s →
+        (orders : List Order) → TellsOrders orders (D.desk desk.old) → (result ≡ 0) ⊎ (result ≡ 4) ⊎ (result ≡ 6) →
+        RunEnded orders s (T.lines trunk.old) (T.lines trunk.new) (D.desk desk.old) (D.desk desk.new) result }
+
+    // Where there was no memory, each outgoing line holds a front of what the run gives, and the lines of calls that it doesn't
+    // open are as they were.
+    ensures run_cut_short { (s : Settings) → AsksForRun (spelled words.now) s →
+        (orders : List Order) → TellsOrders orders (D.desk desk.old) → result ≡ 5 →
+        IsCutShort orders s.periods (T.lines trunk.old) (T.lines trunk.new) }
+
+    // Where no line's count rises the lines have exactly what the run gives them.
     ensures run_leaves { (s : Settings) → AsksForRun (spelled words.now) s →
         (orders : List Order) → TellsOrders orders (D.desk desk.old) →
         NoneRose (T.lines trunk.old) (T.lines trunk.new) → (result ≡ 0) ⊎ (result ≡ 4) →
-        (r : Run) → IsRunOver orders s.periods (T.lines trunk.old) r → Leaves r (T.lines trunk.old) (T.lines trunk.new) }
+        (r : Run) → IsRunOver orders s.periods none_fails (T.lines trunk.old) (T.lines trunk.new) r → Leaves r none_fails (T.lines trunk.old) (T.lines trunk.new) }
 
     // The headline. Whatever the cuts of reads and writes, the orders, the workers, batch and slices and the interleaving of
     // the workers, the octets written on a call's outgoing lines are those of the definition of the call as a whole, of its
     // own incoming lines and orders and, only between a bridge's reported start and end, of its partner's uplink; there each
     // good speech frame's 260 bits go out unchanged, in order and once. Of orders that the desk doesn't tell, the clause `run`
-    // says it.
+    // says it, and where lines fail, the clause `run_ended`.
     ensures headline { (s : Settings) → AsksForRun (spelled words.now) s →
         (orders : List Order) → TellsOrders orders (D.desk desk.old) →
         NoneRose (T.lines trunk.old) (T.lines trunk.new) → (result ≡ 0) ⊎ (result ≡ 4) →
-        (r : Run) → IsRunOver orders s.periods (T.lines trunk.old) r → Headline r (T.lines trunk.old) (T.lines trunk.new) }
+        (r : Run) → IsRunOver orders s.periods none_fails (T.lines trunk.old) (T.lines trunk.new) r → Headline r none_fails (T.lines trunk.old) (T.lines trunk.new) }
 
     // Where nothing fails and the outside tells what it holds, the outgoing line has gained exactly what is made of
     // the incoming line's blocks up to the first refused one, and the desk exactly the text.

@@ -4,7 +4,7 @@ use Rattle.call_leg.specs.Uplink.{handed_fields}
 use Rattle.farm_output.specs.Run.{partner_in}
 use Rattle.farm_calls.specs.Whole.{frame_on}
 use Rattle.farm_calls.proofs.Carried.{carried_only}
-use Rattle.farm_calls.proofs.Going.{handed_goes, sent_counted, one_lost}
+use Rattle.farm_calls.proofs.Going.{handed_goes, handed_soon, one_waits, sent_counted, one_lost}
 use Rattle.farm_calls.proofs.OnLine.{handed_on_line}
 use Rattle.farm_calls.proofs.Places.{first_made}
 use Rattle.farm_calls.proofs.Sent.{each_sent, sent_handed, handed_place, handed_in_order, handed_once}
@@ -42,6 +42,12 @@ returns-clause-in_order g = handed_in_order
 
 pub returns-clause-once : goal.returns-clause-once
 returns-clause-once g = handed_once
+
+pub returns-clause-soon : goal.returns-clause-soon
+returns-clause-soon g = handed_soon g.frames_of_a_call.ensures.items g.frames_of_a_call.ensures.enough
+
+pub returns-clause-one_waits : goal.returns-clause-one_waits
+returns-clause-one_waits g = one_waits g.frames_of_a_call.ensures.items g.frames_of_a_call.ensures.enough
 
 pub returns-clause-counted : goal.returns-clause-counted
 returns-clause-counted g = sent_counted

@@ -1,4 +1,4 @@
-use Rattle.std.proofs.Common.{ap, ◌∙◌, subst, ℕ, ◌+◌, ◌≤◌, arith}
+use Rattle.std.proofs.Common.{refl, sym, ap, ◌∙◌, subst, ℕ, ◌+◌, ◌≤◌, length, arith}
 use Rattle.std.specs.List.{filter_map}
 use Rattle.round_lines.specs.Rounds.{seat_end}
 use Rattle.switchboard.specs.State.{State, last_stamp, orders_of}
@@ -6,6 +6,12 @@ use Rattle.farm_output.specs.Run.{Run}
 use Rattle.farm_rounds.specs.Working.{RoundMemory, GainsFailed}
 use Rattle.farm_run.proofs.RoundTaken.{IsRound}
 use Rattle.farm_run.specs.Clock.{IsAtClock}
+use Rattle.farm_run.specs.Ending.{AreShut}
+use Rattle.farm_run.specs.Journal.{JournalMemory}
+use Rattle.farm_run.proofs.Cutting.{on_err}
+use Rattle.farm_run.proofs.FewEnds.{new_ends, shut_more}
+use Rattle.farm_run.specs.Standing.{Standing, standing, GoesOn, HasFlags, MeetsRun}
+use Rattle.farm_run.proofs.RoundListed.{order_after, knows_after, goes_after, meets_run}
 use Rattle.farm_run.proofs.Told.{told_done, told_orders}
 use Rattle.farm_run.proofs.Making.{IsMade, made_octets, made_open, made_partners, made_stands, made_tallies}
 use Rattle.farm_run.proofs.WorkedRound as parts
@@ -13,7 +19,8 @@ use Rattle.farm_run.proofs.WorkedRound.{FilledRound, WorkedRound}
 use Rattle.farm_run.proofs.Counts.{fell_round, tells_round}
 use Rattle.farm_run.proofs.Sides.{sides_none, sides_more, sides_filled, sides_drained}
 use Rattle.farm_run.proofs.RoundClock.{tells_numbers, tells_open, tells_apart, tells_late, clock_after}
-use Rattle.farm_run.proofs.RoundLines.{clock_is, ends_are, told_is}
+use Rattle.farm_run.proofs.RoundLines.{clock_is, ends_are, told_is, written_after}
+use Rattle.farm_run.proofs.RoundShort.{short_after}
 use Rattle.farm_run.proofs.RoundTallies.{tallies_after}
 use Rattle.std.proofs.lemmas.Result.{IfOk-from_err}
 use Rattle.farm_run.proofs.clock.work_round.Goals as goal
@@ -49,6 +56,9 @@ tell_ends-requires-clause-apart g c = tells_apart _ _ c.args.board.now _ _ _ _ _
 
 pub tell_ends-requires-clause-late : goal.tell_ends-requires-clause-late
 tell_ends-requires-clause-late g c = tells_late _ _ c.args.board.now _ _ _ _ _ _ _ (front g c) c.requires.clock
+
+pub tell_ends-requires-clause-new : goal.tell_ends-requires-clause-new
+tell_ends-requires-clause-new g c = new_ends c.args.board.now c.args.journal.now.ends c.ends.result.now c.requires.shut (tells_open _ _ c.args.board.now _ _ _ _ _ _ _ (front g c) c.requires.clock)
 
 -- the whole round
 round : (g : Over) (c : goal.After-drain g) → WorkedRound c.args.clock c.args.periods c.args.farm c.drain.result (g.T.Trunk.lines c.args.trunk.now) (g.T.Trunk.lines c.drain.new.trunk) c.ends.result.now
@@ -105,20 +115,35 @@ round g c =
 
 pub returns-clause-clock : goal.returns-clause-clock
 returns-clause-clock g c =
-    let told = c.in_ok-tell_ends.ensures in
+    let told = c.tell_ends.ensures in
     clock_after _ _ c.args.board.now _ _ _ _ _ (round g c) c.requires.clock c.tell_ends.new.board c.bridges_join_two.ensures c.requires.clear told.told told.open told.partner
 
+pub returns-clause-shut : goal.returns-clause-shut
+returns-clause-shut g c =
+    let told = c.tell_ends.ensures in
+    subst (λ (j : JournalMemory). AreShut c.tell_ends.new.board j.ends) (sym told.noted)
+    (shut_more c.args.board.now c.tell_ends.new.board c.args.journal.now.ends c.ends.result.now c.requires.shut (tells_open _ _ c.args.board.now _ _ _ _ _ _ _ (parts.front _ _ _ _ _ _ _ (round g c)) c.requires.clock) told.told told.open)
+
+pub returns-clause-bridges : goal.returns-clause-bridges
+returns-clause-bridges g c =
+    let told = c.tell_ends.ensures in
+    let noted = ap (λ (j : JournalMemory). length j.bridges) told.noted in
+    let done = ap length (ap (λ (s : State). s.done) told.told ∙ told_done c.args.board.now c.ends.result.now) in
+    omega (arith, noted, done, c.requires.bridges)
+
 pub returns-clause-kept : goal.returns-clause-kept
-returns-clause-kept g c = ap (λ (s : State). orders_of s) c.in_ok-tell_ends.ensures.told ∙ told_orders c.args.board.now c.ends.result.now
+returns-clause-kept g c = ap (λ (s : State). orders_of s) c.tell_ends.ensures.told ∙ told_orders c.args.board.now c.ends.result.now
 
 pub returns-clause-last : goal.returns-clause-last
-returns-clause-last g c = ap (λ (s : State). last_stamp s.done) c.in_ok-tell_ends.ensures.told ∙ ap last_stamp (told_done c.args.board.now c.ends.result.now)
+returns-clause-last g c = ap (λ (s : State). last_stamp s.done) c.tell_ends.ensures.told ∙ ap last_stamp (told_done c.args.board.now c.ends.result.now)
 
 pub returns-clause-later : goal.returns-clause-later
 returns-clause-later g c = fell_round _ _ _ _ _ _ _ (round g c)
 
 pub returns-clause-failed : goal.returns-clause-failed
-returns-clause-failed g c = tells_round _ _ _ _ _ _ _ (round g c)
+returns-clause-failed g c = λ first later failed.
+    let told = c.tell_ends.ensures in
+    tells_round _ _ _ _ _ _ _ (round g c) first later failed (order_after _ _ c.args.board.now _ _ _ _ _ (round g c) c.requires.clock c.requires.knows c.tell_ends.new.board told.told told.open failed.order)
 
 pub returns-clause-sides : goal.returns-clause-sides
 returns-clause-sides g c =
@@ -127,28 +152,59 @@ returns-clause-sides g c =
     sides_more _ _ _ (sides_filled _ _ c.in_ok-round.round.seats c.fill.new.self.seats _ fill.fills fill.others) (sides_drained _ _ c.work-worked.result.seats drain.drains.0 _ drain.drains.1 drain.others)
 
 -- where the run goes on, the round is one of it
-in_run : (g : Over) (c : goal.After-drain g) (r : Run) (first : _) → c.args.clock + c.args.periods ≤ r.periods → IsAtClock r c.args.clock c.args.board.now c.args.farm.groups first (g.T.Trunk.lines c.args.trunk.now) →
+in_run : (g : Over) (c : goal.After-drain g) (r : Run) (first : _) (last : Standing) → c.args.clock + c.args.periods ≤ r.periods →
+    IsAtClock r c.args.clock c.args.board.now c.args.farm.groups last first (g.T.Trunk.lines c.args.trunk.now) →
     IsRound r c.args.clock c.args.periods c.args.board.now.done c.args.board.now.left
-in_run g c r first l at = record { so_far = at.follows.so_far; some = c.requires.some; within = l; clear = c.requires.clear }
+in_run g c r first last l at = record { so_far = at.follows.so_far; some = c.requires.some; within = l; clear = c.requires.clear }
+
+pub returns-clause-goes : goal.returns-clause-goes
+returns-clause-goes g c =
+    let told = c.tell_ends.ensures in
+    goes_after _ _ c.args.board.now _ _ _ _ _ (round g c) c.requires.clock c.requires.knows c.tell_ends.new.board told.told told.open
+
+pub returns-clause-knows : goal.returns-clause-knows
+returns-clause-knows g c =
+    let told = c.tell_ends.ensures in
+    knows_after _ _ c.args.board.now _ _ _ _ _ (round g c) c.requires.clock c.requires.knows c.tell_ends.new.board told.told told.open
+
+-- the round is that of a run that goes on from behind it
+meets : (g : Over) (c : goal.After-drain g) (r : Run) (last : Standing) → HasFlags r last → GoesOn (standing c.tell_ends.new.board c.drain.result.failed (g.T.Trunk.lines c.drain.new.trunk)) last →
+    MeetsRun r c.args.periods (round g c).filled (standing c.tell_ends.new.board c.drain.result.failed (g.T.Trunk.lines c.drain.new.trunk)) last
+meets g c r last flags on =
+    let told = c.tell_ends.ensures in
+    meets_run _ _ c.args.board.now _ _ _ _ _ (round g c) c.requires.clock c.requires.knows c.tell_ends.new.board told.told told.open r last flags on
 
 pub returns-clause-run : goal.returns-clause-run
-returns-clause-run g c = λ r first readable l at calm.
-    let told = c.in_ok-tell_ends.ensures in
-    clock_is r _ _ c.args.board.now _ _ first _ _ _ (round g c) (in_run g c r first l at) c.requires.clock.matches at calm readable.up_sound readable.pcm_sound c.tell_ends.new.board told.told told.open
+returns-clause-run g c = λ r first last flags l at on.
+    let told = c.tell_ends.ensures in
+    clock_is r _ _ c.args.board.now _ _ first _ _ _ (round g c) (in_run g c r first last l at) c.requires.clock.matches c.tell_ends.new.board last at (meets g c r last flags on) c.requires.clock c.requires.knows told.told told.open
+
+pub returns-clause-wrote : goal.returns-clause-wrote
+returns-clause-wrote g c = λ from before r first last flags l at wrote on.
+    let told = c.tell_ends.ensures in
+    written_after r _ _ c.args.board.now _ _ first _ _ _ (round g c) (in_run g c r first last l at) c.requires.clock.matches c.tell_ends.new.board last at (meets g c r last flags on) c.requires.clock c.requires.knows told.told told.open from before wrote
+
+pub returns-clause-short : goal.returns-clause-short
+returns-clause-short g c = λ r first last flags l at on.
+    let told = c.tell_ends.ensures in
+    short_after r _ _ c.args.board.now _ _ first _ _ _ (round g c) (in_run g c r first last l at) c.requires.clock.matches c.tell_ends.new.board last at (meets g c r last flags on) c.requires.clock c.requires.knows told.told told.open
 
 pub returns-clause-ends : goal.returns-clause-ends
-returns-clause-ends g c = λ r first readable l at calm.
+returns-clause-ends g c = λ r first last flags l at on.
+    let told = c.tell_ends.ensures in
     let w = round g c in
-    let h = in_run g c r first l at in
+    let h = in_run g c r first last l at in
     let m = c.requires.clock.matches in
+    let met = meets g c r last flags on in
+    let b' = c.tell_ends.new.board in
     record {
       ends = c.ends.result.now;
-      board = c.in_ok-tell_ends.ensures.told;
-      noted = c.in_ok-tell_ends.ensures.noted;
-      each = ends_are r _ _ c.args.board.now _ _ first _ _ _ w h m at calm readable.up_sound readable.pcm_sound;
+      board = told.told;
+      noted = told.noted;
+      each = ends_are r _ _ c.args.board.now _ _ first _ _ _ w h m b' last at met c.requires.clock c.requires.knows told.told told.open;
       apart = tells_apart _ _ c.args.board.now _ _ _ _ _ _ _ (parts.front _ _ _ _ _ _ _ w) c.requires.clock;
-      told = told_is r _ _ c.args.board.now _ _ first _ _ _ w h m at calm readable.up_sound readable.pcm_sound;
-      tallies = tallies_after r _ _ c.args.board.now _ _ first _ _ _ w h m at calm readable.up_sound readable.pcm_sound;
+      told = told_is r _ _ c.args.board.now _ _ first _ _ _ w h m b' last at met c.requires.clock c.requires.knows told.told told.open;
+      tallies = tallies_after r _ _ c.args.board.now _ _ first _ _ _ w h m b' last at met;
     }
 
 pub returns-in_err-round : goal.returns-in_err-round
@@ -156,29 +212,21 @@ returns-in_err-round g c =
     let no = c.from_residual.ensures.0 in
     record {
       clock = IfOk-from_err _ _ no;
+      shut = IfOk-from_err _ _ no;
+      bridges = IfOk-from_err _ _ no;
       kept = IfOk-from_err _ _ no;
       last = IfOk-from_err _ _ no;
       ended = IfOk-from_err _ _ no;
       later = IfOk-from_err _ _ no;
       failed = λ first later told. IfOk-from_err _ _ no;
       sides = sides_none _;
-      run = λ r first readable l at calm. IfOk-from_err _ _ no;
-      ends = λ r first readable l at calm. IfOk-from_err _ _ no;
-    }
-
-pub returns-in_err-tell_ends : goal.returns-in_err-tell_ends
-returns-in_err-tell_ends g c =
-    let no = c.from_residual-in_err-tell_ends.ensures.0 in
-    record {
-      clock = IfOk-from_err _ _ no;
-      kept = IfOk-from_err _ _ no;
-      last = IfOk-from_err _ _ no;
-      ended = IfOk-from_err _ _ no;
-      later = IfOk-from_err _ _ no;
-      failed = λ first later told. IfOk-from_err _ _ no;
-      sides = sides_filled _ _ c.in_ok-round.round.seats c.fill.new.self.seats _ c.fill.ensures.fills c.fill.ensures.others;
-      run = λ r first readable l at calm. IfOk-from_err _ _ no;
-      ends = λ r first readable l at calm. IfOk-from_err _ _ no;
+      goes = IfOk-from_err _ _ no;
+      knows = IfOk-from_err _ _ no;
+      run = λ r first last flags l at. IfOk-from_err _ _ no;
+      ends = λ r first last flags l at. IfOk-from_err _ _ no;
+      wrote = λ from before r first last flags l at wrote. IfOk-from_err _ _ no;
+      short = λ r first last flags l at. IfOk-from_err _ _ no;
+      cut = on_err _ refl;
     }
 
 pub returns-clause-ended : goal.returns-clause-ended

@@ -1,7 +1,11 @@
-use Rattle.std.proofs.Common.{◌<◌, arith, length, map, get_or}
+use Rattle.std.proofs.Common.{◌≡◌, sym, ap, subst, ◌<◌, false, arith, length, map, get_or, take}
+use Rattle.trau_io.specs.declared.ends.CallEnd.{CallEnd}
+use Rattle.farm_run.specs.Going.{is_told}
+use Rattle.farm_run.specs.Journal.{JournalMemory}
+use Rattle.farm_run.proofs.FewEnds.{not_noted}
 use Rattle.std.proofs.lemmas.List.{length-map}
 use Rattle.farm_run.specs.Ending.{limit_at}
-use Rattle.farm_run.proofs.Ending.{limits_apart, limit_there, limits_open, none_open, IsTold, none_told, no_ends_noted, all_noted, noted_more, told_step, told_open, told_late, told_all}
+use Rattle.farm_run.proofs.Ending.{apart_front, limits_apart, limit_there, limits_open, none_open, IsTold, none_told, no_ends_noted, all_noted, noted_more, told_step, told_open, told_late, told_all}
 use Rattle.farm_run.proofs.ends.end_all.Goals as goal
 
 pub loop-call-init : goal.loop-call-init
@@ -18,8 +22,19 @@ ended-requires-clause-open c =
 pub ended-requires-clause-late : goal.ended-requires-clause-late
 ended-requires-clause-late c = told_late c.args.board.now c.loop-call.board _ _ c.loop-call.invariant.told c.requires.late
 
-pub end-requires : goal.end-requires
-end-requires c = c.requires.numbers c.loop-call.call-index 0 c.loop-call-test.true
+pub end-requires-clause-number : goal.end-requires-clause-number
+end-requires-clause-number c = c.requires.numbers c.loop-call.call-index 0 c.loop-call-test.true
+
+pub end-requires-clause-new : goal.end-requires-clause-new
+end-requires-clause-new c =
+    let calls = c.args.calls.now in
+    let ends = map (limit_at c.args.at) calls in
+    let i = c.loop-call.call-index in
+    let e = limit_at c.args.at (get_or calls i 0) in
+    let within : i < length ends = omega (arith, c.loop-call-test.true, length-map calls (limit_at c.args.at)) in
+    let is = limit_there c.args.at calls i c.loop-call-test.true in
+    not_noted c.args.journal.now.ends (take i ends) e _ (ap (λ (j : JournalMemory). j.ends) c.loop-call.invariant.noted)
+    (subst (λ (x : CallEnd). is_told x.call c.args.journal.now.ends ≡ false) (sym is) (c.requires.new i e within)) (apart_front ends i e (limits_apart c.args.at calls c.requires.rising) within is)
 
 pub loop-call-preserved : goal.loop-call-preserved
 loop-call-preserved c =
@@ -31,7 +46,7 @@ loop-call-preserved c =
     let is = limit_there c.args.at calls i c.loop-call-test.true in
     record {
       told = told_step c.args.board.now c.loop-call.board c.ended.new.self ends i e within is c.ended.ensures.state c.ended.ensures.open c.loop-call.invariant.told;
-      noted = noted_more ends i e c.args.journal.now c.loop-call.journal c.end.new.self within is c.in_ok-end.ensures c.loop-call.invariant.noted;
+      noted = noted_more ends i e c.args.journal.now c.loop-call.journal c.end.new.self within is c.end.ensures c.loop-call.invariant.noted;
     }
 
 -- at the loop's end they are all told

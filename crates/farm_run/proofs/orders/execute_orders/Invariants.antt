@@ -1,18 +1,22 @@
-use Rattle.std.proofs.Common.{◌≡◌, ◌<◌, length}
+use Rattle.std.proofs.Common.{◌≡◌, ◌<◌, ◌≤◌, ℕ, true, length}
 use Rattle.switchboard.specs.State.{orders_of}
 use Rattle.farm_output.specs.Run.{Run}
 use Rattle.farm_run.specs.Match.{AtClock, Follows}
-use Rattle.farm_run.specs.Clock.{AreSound}
+use Rattle.farm_run.specs.Standing.{is_over, KnowsListed}
 use Rattle.farm_run.specs.Noted.{Noted}
+use Rattle.farm_run.specs.Ending.{AreShut}
 use Rattle.farm_run.proofs.orders.execute_orders.Given as goal
 
 abbrev pub invariant-loop : goal.invariant-loop
 invariant-loop l = record {
   clock : AtClock l.clock l.board l.farm.groups;
+  shut : AreShut l.board l.journal.ends;
+  bridges : length l.journal.bridges ≤ length l.board.done;
   kept : orders_of l.board ≡ orders_of l.initial.board;
   ended : l.farm.ended ≡ l.initial.farm.ended;
   failed : l.farm.failed ≡ l.initial.farm.failed;
-  sound : AreSound l.initial.farm.groups → AreSound l.farm.groups;
+  knows : KnowsListed l.initial.board l.initial.farm.groups l.initial.farm.failed → KnowsListed l.board l.farm.groups l.farm.failed;
+  over : (c : ℕ) → is_over l.initial.board c ≡ true → is_over l.board c ≡ true;
   follows : (r : Run) → l.clock < r.periods → Follows r l.clock l.initial.board l.initial.farm.groups → Follows r l.clock l.board l.farm.groups;
   told : l.board.told ≡ l.initial.board.told;
   noted : (r : Run) → l.clock < r.periods → Follows r l.clock l.initial.board l.initial.farm.groups → Noted r l.initial.board.done l.clock l.initial.journal l.initial.farm.tallies → Noted r l.board.done l.clock l.journal l.farm.tallies;

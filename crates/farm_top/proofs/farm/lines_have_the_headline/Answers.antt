@@ -3,11 +3,11 @@ use Rattle.farm_top.proofs.Headlining.{headline_of, spans_told}
 use Rattle.farm_top.proofs.farm.lines_have_the_headline.Goals as goal
 
 pub returns : goal.returns
-returns g = λ r before now are leaves.
+returns g = λ r fails before now are leaves.
     let lines = g.lines_are_of_whole_calls.ensures in
     let items = g.items_are_the_partners_frames.ensures in
     let sent = g.items_go_out_in_order_and_once.ensures in
-    headline_of r before now (λ c opened. lines.out r c are opened) (λ c opened. lines.down r c are opened)
+    headline_of r fails before now (λ c opened. lines.out r c are opened) (λ c opened. lines.down r c are opened)
     (record { reported = spans_told r (spans_in r); within = λ c t x. items.frame r c t x are; outside = λ c t. items.none r c t are })
     (record {
       goes = λ c t x. sent.goes r c t x are;
@@ -18,6 +18,7 @@ returns g = λ r before now are leaves.
       place = λ c t x first j. sent.place r c t x first j are;
       in_order = λ c t u x j k. sent.in_order r c t u x j k are;
       once = λ c t x j k. sent.once r c t x j k are;
+      one_waits = λ c u t x. sent.one_waits r c u t x are;
       lost = λ x. sent.lost r x are;
     })
     leaves

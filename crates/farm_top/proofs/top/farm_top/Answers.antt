@@ -3,7 +3,8 @@ use Rattle.farm_top.specs.Top.{IsInRange}
 use Rattle.farm_top.proofs.Asking.{is_command, no_command, no_listing, no_tool, in_range, tool_carried, listing_carried, run_carried}
 use Rattle.farm_top.proofs.Carrying.{causes, clean, listing_causes, listing_clean}
 use Rattle.farm_top.proofs.FarmCausing.{run_causes}
-use Rattle.farm_top.proofs.FarmCleaning.{ran_to_end, run_clean, run_complete}
+use Rattle.farm_run.proofs.Cutting.{cut_first}
+use Rattle.farm_top.proofs.FarmCleaning.{run_clean, run_complete, run_cut_short, run_ended, run_headline, run_leaves}
 use Rattle.farm_top.proofs.Ending.{not_usage}
 use Rattle.farm_top.proofs.top.farm_top.Goals as goal
 
@@ -12,6 +13,13 @@ not_five status one five = omega (arith, one, five)
 
 not_due : (status : ℕ) → (status ≡ 0) ⊎ (status ≡ 4) → status ≡ 5 → ⊥
 not_due status due five = omega (arith, due, five)
+
+calm_due : (status : ℕ) → (status ≡ 0) ⊎ (status ≡ 4) → (status ≡ 0) ⊎ (status ≡ 4) ⊎ (status ≡ 6)
+calm_due status (inl e) = inl e
+calm_due status (inr e) = inr (inl e)
+
+not_ended : (status : ℕ) → (status ≡ 0) ⊎ (status ≡ 4) ⊎ (status ≡ 6) → status ≡ 5 → ⊥
+not_ended status due five = omega (arith, due, five)
 
 pub carry_out-requires : goal.carry_out-requires
 carry_out-requires g c = let range : IsInRange c.in-Ok.asked = in_range _ _ c.in-Ok.ensures.ok in search rules
@@ -53,13 +61,19 @@ returns-in-Ok-clause-run_complete g c = λ s asks orders told calm. run_complete
 pub returns-in-Ok-clause-run_clean : goal.returns-in-Ok-clause-run_clean
 returns-in-Ok-clause-run_clean g c = λ s asks orders told calm. run_clean c.one_answer.ensures.good c.one_answer.ensures.orders s _ _ _ _ _ orders told calm (returns-in-Ok-clause-run g c s asks)
 
+pub returns-in-Ok-clause-run_ended : goal.returns-in-Ok-clause-run_ended
+returns-in-Ok-clause-run_ended g c = λ s asks orders told due. run_ended c.one_answer.ensures.orders s _ _ _ _ _ orders told due (returns-in-Ok-clause-run g c s asks)
+
+pub returns-in-Ok-clause-run_cut_short : goal.returns-in-Ok-clause-run_cut_short
+returns-in-Ok-clause-run_cut_short g c = λ s asks orders told five. run_cut_short c.one_answer.ensures.orders s _ _ _ _ _ orders told (returns-in-Ok-clause-run g c s asks)
+
 pub returns-in-Ok-clause-run_leaves : goal.returns-in-Ok-clause-run_leaves
 returns-in-Ok-clause-run_leaves g c = λ s asks orders told none due r over.
-    (ran_to_end c.one_answer.ensures.orders s _ _ _ _ _ orders told due (returns-in-Ok-clause-run g c s asks)).1.runs.leaves r over none
+    run_leaves c.one_answer.ensures.orders s _ _ _ _ _ orders told (calm_due _ due) none (returns-in-Ok-clause-run g c s asks) r over
 
 pub returns-in-Ok-clause-headline : goal.returns-in-Ok-clause-headline
 returns-in-Ok-clause-headline g c = λ s asks orders told none due r over.
-    (ran_to_end c.one_answer.ensures.orders s _ _ _ _ _ orders told due (returns-in-Ok-clause-run g c s asks)).1.headline r over none
+    run_headline c.one_answer.ensures.orders s _ _ _ _ _ orders told (calm_due _ due) none (returns-in-Ok-clause-run g c s asks) r over
 
 pub returns-in-Ok-clause-clean : goal.returns-in-Ok-clause-clean
 returns-in-Ok-clause-clean g c = λ t n asks. clean _ _ _ _ n _ t (returns-in-Ok-clause-command g c t n asks)
@@ -88,6 +102,12 @@ returns-in-Err-Usage-clause-frames_causes g c = λ n asks. absurd (no_command _ 
 
 pub returns-in-Err-Usage-clause-run_causes : goal.returns-in-Err-Usage-clause-run_causes
 returns-in-Err-Usage-clause-run_causes g c = λ s asks. absurd (no_command _ (c.in-Err-Usage.ensures.usage (search rules)) (inr (inr (s, asks))))
+
+pub returns-in-Err-Usage-clause-run_ended : goal.returns-in-Err-Usage-clause-run_ended
+returns-in-Err-Usage-clause-run_ended g c = λ s asks. absurd (no_command _ (c.in-Err-Usage.ensures.usage (search rules)) (inr (inr (s, asks))))
+
+pub returns-in-Err-Usage-clause-run_cut_short : goal.returns-in-Err-Usage-clause-run_cut_short
+returns-in-Err-Usage-clause-run_cut_short g c = λ s asks. absurd (no_command _ (c.in-Err-Usage.ensures.usage (search rules)) (inr (inr (s, asks))))
 
 pub returns-in-Err-Usage-clause-run_leaves : goal.returns-in-Err-Usage-clause-run_leaves
 returns-in-Err-Usage-clause-run_leaves g c = λ s asks. absurd (no_command _ (c.in-Err-Usage.ensures.usage (search rules)) (inr (inr (s, asks))))
@@ -140,6 +160,12 @@ returns-in-Err-Memory-clause-run_complete g c = λ s asks orders told calm. run_
 
 pub returns-in-Err-Memory-clause-run_clean : goal.returns-in-Err-Memory-clause-run_clean
 returns-in-Err-Memory-clause-run_clean g c = λ s asks orders told calm. run_clean c.one_answer.ensures.good c.one_answer.ensures.orders s _ _ _ _ _ orders told calm (returns-in-Err-Memory-clause-run g c s asks)
+
+pub returns-in-Err-Memory-clause-run_ended : goal.returns-in-Err-Memory-clause-run_ended
+returns-in-Err-Memory-clause-run_ended g c = λ s asks orders told due. absurd (not_ended _ due c.no_memory.ensures.status_is)
+
+pub returns-in-Err-Memory-clause-run_cut_short : goal.returns-in-Err-Memory-clause-run_cut_short
+returns-in-Err-Memory-clause-run_cut_short g c = λ s asks orders told five. cut_first orders s.periods (g.T.Trunk.lines c.args.trunk.now)
 
 pub returns-in-Err-Memory-clause-run_leaves : goal.returns-in-Err-Memory-clause-run_leaves
 returns-in-Err-Memory-clause-run_leaves g c = λ s asks orders told none due. absurd (not_due _ due c.no_memory.ensures.status_is)

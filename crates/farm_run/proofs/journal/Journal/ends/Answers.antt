@@ -7,4 +7,4 @@ pub returns-clause-ends : goal.returns-clause-ends
 returns-clause-ends c = c.as_slice.ensures.value ∙ ap (λ (j : JournalMemory). j.ends) c.self.view_is
 
 pub returns-clause-numbers : goal.returns-clause-numbers
-returns-clause-numbers c = subst (λ (es : List CallEnd). HaveNumbers es) (sym c.as_slice.ensures.value) c.self.invariant.numbers
+returns-clause-numbers c = subst (λ (es : List CallEnd). HaveNumbers es) (sym c.as_slice.ensures.value) c.self.invariant.0.numbers

@@ -1,4 +1,4 @@
-use Rattle.std.proofs.Common.{◌≡◌, ap, ◌∙◌, List, [], replicate}
+use Rattle.std.proofs.Common.{◌≡◌, ap, ◌∙◌, arith, List, [], replicate}
 use Rattle.farm_run.specs.declared.notes.Opening.{Opening}
 use Rattle.farm_run.specs.declared.notes.BridgeNote.{BridgeNote}
 use Rattle.trau_io.specs.declared.ends.CallEnd.{CallEnd}
@@ -6,14 +6,14 @@ use Rattle.farm_run.specs.Journal.{no_opening}
 use Rattle.farm_run.proofs.Places.{journal-new}
 use Rattle.farm_run.proofs.journal.Journal.new.Goals as goal
 
-calls : (c : goal.After-new-2) → c.in_ok-vec.field-0.items ≡ replicate 4097 no_opening
-calls c = c.in_ok-vec.ensures.items_if_clones_equal (λ y h. h)
+calls : (c : goal.In_ok-bridges) → c.in_ok-calls.calls.items ≡ replicate 4097 no_opening
+calls c = c.in_ok-calls.ensures.items_if_clones_equal (λ y h. h)
 
 pub invariant_of-result : goal.invariant_of-result
-invariant_of-result c = journal-new _ _ _ (calls c) c.new.ensures.items
+invariant_of-result c = (journal-new _ _ _ (calls c) c.in_ok-ends.ensures.items, omega (arith, c.in_ok-ends.ensures.capacity), omega (arith, c.in_ok-bridges.ensures.capacity))
 
 pub returns : goal.returns
 returns c =
-    ap (λ (xs : List Opening). record { calls = xs; ends = c.new.result.items; bridges = c.new-2.result.items }) (calls c)
-    ∙ ap (λ (xs : List CallEnd). record { calls = replicate 4097 no_opening; ends = xs; bridges = c.new-2.result.items }) c.new.ensures.items
-    ∙ ap (λ (xs : List BridgeNote). record { calls = replicate 4097 no_opening; ends = []; bridges = xs }) c.new-2.ensures.items
+    ap (λ (xs : List Opening). record { calls = xs; ends = c.in_ok-ends.ends.items; bridges = c.in_ok-bridges.bridges.items }) (calls c)
+    ∙ ap (λ (xs : List CallEnd). record { calls = replicate 4097 no_opening; ends = xs; bridges = c.in_ok-bridges.bridges.items }) c.in_ok-ends.ensures.items
+    ∙ ap (λ (xs : List BridgeNote). record { calls = replicate 4097 no_opening; ends = []; bridges = xs }) c.in_ok-bridges.ensures.items

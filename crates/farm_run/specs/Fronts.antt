@@ -1,0 +1,36 @@
+-- What a run that want of memory cut short leaves on the lines (this project's profile). `before` are the lines before it,
+-- `now` those after it.
+use Rattle.std.specs.Prelude.{◌≡◌, ℕ, Bool, List, take}
+use Rattle.std.specs.Io.KnownBytes.{Appends}
+use Rattle.trau_io.specs.declared.line.Side.{Side}
+use Rattle.trau_io.specs.declared.line.Side.TheVariants.{Down, Out}
+use Rattle.trau_io.specs.Lines.{LineState}
+use Rattle.trau_orders.specs.declared.order.Order.{Order}
+use Rattle.farm_output.specs.Run.{Run}
+use Rattle.farm_output.specs.Lines.{out_of_call, down_of_call}
+use Rattle.farm_run.specs.Runs.{AreFailures, IsOpened, IsRunOver, AreTold, KeepsSides, ReadsOn}
+
+-- a line has gained a front of these octets
+abbrev pub HasFront : LineState → LineState → List ℕ → Type 0
+HasFront before now octets = (n : ℕ) × Appends before.written now.written (take n octets)
+
+-- What a run leaves on the lines where it stops before its end.
+pub record LeavesFronts (r : Run) (before now : ℕ → Side → LineState) : Type 0 where
+  -- the outgoing lines of each call that it opens have gained a front of what the run gives them
+  pub out : (c : ℕ) → IsOpened r c → HasFront (before c Out) (now c Out) (out_of_call r c)
+  pub down : (c : ℕ) → IsOpened r c → HasFront (before c Down) (now c Down) (down_of_call r c)
+  -- the lines of all other calls are as they were, their counts included
+  pub others : (c : ℕ) (s : Side) → (IsOpened r c → ⊥) → now c s ≡ before c s
+
+-- A run of these orders that want of memory cut short. It has no report, so these clauses tell which lines failed.
+pub record IsCutShort (orders : List Order) (periods : ℕ) (before now : ℕ → Side → LineState) : Type 0 where
+  -- the lines that failed
+  pub fails : ℕ → Side → Bool
+  pub told : AreFailures fails before now
+  -- incoming lines were only read, from the front, and outgoing ones only written
+  pub sides : KeepsSides before now
+  pub reads : ReadsOn before now
+  -- each outgoing line holds a front of what the whole run over what the lines gave gives it ..
+  pub fronts : (r : Run) → IsRunOver orders periods fails before now r → LeavesFronts r before now
+  -- .. and there is such a run wherever the lines tell what they hold
+  pub there : AreTold before → (r : Run) × IsRunOver orders periods fails before now r

@@ -1,0 +1,41 @@
+-- What the command `run` leaves where the desk tells its orders, whatever fails (this project's profile).
+use Rattle.std.specs.Prelude.{◌≡◌, ◌≢◌, ◌⊎◌, ◌<◌, ℕ, List, [], Option, Some, length, take}
+use Rattle.std.specs.Io.KnownBytes.{Appends}
+use Rattle.trau_io.specs.declared.line.Line.{Line}
+use Rattle.trau_io.specs.declared.line.Side.{Side}
+use Rattle.trau_io.specs.Lines.{LineState}
+use Rattle.trau_io.specs.Desks.{DeskState}
+use Rattle.trau_orders.specs.declared.order.Order.{Order}
+use Rattle.farm_output.specs.Run.{Run}
+use Rattle.farm_output.specs.Facts.{report_of}
+use Rattle.farm_report.specs.Lines.{report_text}
+use Rattle.farm_run.specs.Runs.{AreTold, FailedShort, IsRunOver, KeepsSides, Leaves, ReadsOn, TellsFailed, is_listed}
+use Rattle.farm_words.specs.declared.asked.Settings.{Settings}
+use Rattle.farm_top.specs.Farm.{status_of_run}
+use Rattle.farm_top.specs.Headline.{Headline}
+
+-- a proper front of a text was gained
+abbrev pub GainsFront : Option (List ℕ) → Option (List ℕ) → List ℕ → Type 0
+GainsFront before now text = (n : ℕ) × (n < length text) × Appends before now (take n text)
+
+-- A run of these orders that was carried to its end, whatever failed.
+pub record RunEnded (orders : List Order) (s : Settings) (before now : ℕ → Side → LineState) (desk desk' : DeskState) (status : ℕ) : Type 0 where
+  -- the lines that failed, each once: none with status 0, some with 6
+  pub failed : List Line
+  pub told : TellsFailed before now failed
+  pub status_is : (status ≡ 4) ⊎ (status ≡ status_of_run failed)
+  -- incoming lines were only read, from the front, and outgoing ones only written
+  pub sides : KeepsSides before now
+  pub reads : ReadsOn before now
+  -- the lines have what the run of these orders over what the lines gave gives them, and so the headline
+  pub leaves : (r : Run) → IsRunOver orders s.periods (is_listed failed) before now r → Leaves r (is_listed failed) before now
+  pub headline : (r : Run) → IsRunOver orders s.periods (is_listed failed) before now r → Headline r (is_listed failed) before now
+  -- the desk gained exactly the text of this run's report, with the lines that failed; with status 4 a proper front of it
+  pub text : status ≢ 4 → (r : Run) → IsRunOver orders s.periods (is_listed failed) before now r → Appends desk.written desk'.written (report_text (report_of r failed))
+  pub front : status ≡ 4 → (r : Run) → IsRunOver orders s.periods (is_listed failed) before now r → GainsFront desk.written desk'.written (report_text (report_of r failed))
+  -- the orders were read to their end
+  pub all_read : desk'.to_come ≡ Some []
+  -- an incoming line failed short of what its round takes of it
+  pub short : (r : Run) → IsRunOver orders s.periods (is_listed failed) before now r → FailedShort r s.batch (is_listed failed)
+  -- there is such a run wherever the lines tell what they hold
+  pub there : AreTold before → (r : Run) × IsRunOver orders s.periods (is_listed failed) before now r
