@@ -1,5 +1,5 @@
 -- The calls of a farm, by their numbers (this project's profile).
-use Rattle.std.specs.Prelude.{ℕ, ◌≤◌, nat_lt, ◌==◌, ◌||◌, if◌then◌else◌, Bool, Option, Some, None, List}
+use Rattle.std.specs.Prelude.{ℕ, nat_lt, ◌==◌, ◌||◌, if◌then◌else◌, Bool, Option, Some, None, List}
 use Rattle.std.specs.Option.{option_map, option_and_then}
 use Rattle.std.specs.List.{find, sum_by}
 use Rattle.farm_rounds.specs.declared.call.Call.{Call}

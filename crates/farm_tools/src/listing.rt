@@ -1,5 +1,5 @@
 // The listing of frames as a tool.
-ghost use Rattle.std.specs.Prelude.{◌≡◌, ◌≤◌, IfOk, string_bytes};
+ghost use Rattle.std.specs.Prelude.{◌≡◌, IfOk, string_bytes};
 ghost use Rattle.call_number.specs.CallNumber.{IsCallNumber};
 ghost use Rattle.trau_io.specs.declared.line.Side.TheVariants.{Up};
 ghost use Rattle.farm_tools.specs.Frames.{CleanFrames, FramesCauses, FramesRun, IsListEnd, TellsListEnd, list_text};

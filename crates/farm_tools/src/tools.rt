@@ -1,5 +1,4 @@
 // The tools.
-ghost use Rattle.std.specs.Prelude.{◌≡◌, ◌≤◌};
 ghost use Rattle.call_number.specs.CallNumber.{IsCallNumber};
 ghost use Rattle.farm_tools.specs.declared.end.Tool.TheVariants as tool;
 ghost use Rattle.farm_tools.specs.Causes.{Causes};

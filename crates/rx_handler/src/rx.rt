@@ -1,6 +1,6 @@
 //! The receive side of a call.
 
-ghost use Rattle.std.specs.Prelude.{◌≡◌, ℕ, ◌≤◌, List, [], ◌∷◌, length, reverse};
+ghost use Rattle.std.specs.Prelude.{◌≡◌, ℕ, List, [], ◌∷◌, length, reverse};
 ghost use Rattle.std.specs.Option.{option_copied};
 ghost use Rattle.call_number.specs.CallNumber.{IsCallNumber};
 ghost use Rattle.rx_handler.specs.Heard.{Heard, heard_of};
