@@ -16,15 +16,15 @@ abbrev pub AreApart : List CallEnd → Type 0
 AreApart [] = Unit {0}
 AreApart (e ∷ ends) = (is_told e.call ends ≡ false) × AreApart ends
 
--- their calls were opened and are open no more
+-- the calls of these ends were opened and are open no more
 abbrev pub AreShut : State → List CallEnd → Type 0
 AreShut s ends = (c : ℕ) → is_told c ends ≡ true → (opened_now s c ≡ true) × (open_now s c ≡ false)
 
--- none is of a call whose end is one of those
+-- none of these ends is of a call whose end is noted already
 abbrev pub AreNew : List CallEnd → List CallEnd → Type 0
 AreNew noted ends = All (λ e. is_told e.call noted ≡ false) ends
 
--- none is below the stamp of an executed order
+-- none of these ends lies before the stamp of an executed order
 abbrev pub AreLate : State → List CallEnd → Type 0
 AreLate s ends = All (λ e. last_stamp s.done ≤ e.at) ends
 

@@ -42,12 +42,12 @@ pub record IsJournal (calls : List Opening) (ends : List CallEnd) (bridges : Lis
 
 -- ---- what is noted
 
--- an order doesn't close a call whose end is noted
+-- of a call that an order closes no end is noted yet
 abbrev pub ClosesOnce : Act → List CallEnd → Type 0
 ClosesOnce (act.Closed c p) ends = is_told c ends ≡ false
 ClosesOnce _ ends = Unit {0}
 
--- the ends that are noted after it
+-- the ends that are noted once an order of this period is
 abbrev pub ends_noted : Act → ℕ → List CallEnd → List CallEnd
 ends_noted (act.Closed c p) period ends = ends ++ record { call = c; at = period; cause = Closed } ∷ []
 ends_noted _ period ends = ends
