@@ -18,9 +18,9 @@ from trau_frames import FRAME_BITS, FRAME_OCTETS, PCM_OCTETS, Refusal, Sort, Yie
 
 
 def yields_of(octets: bytes) -> List[Optional[Yield]]:
-    """What each period of an uplink yields, a period of 40 octets after another."""
+    """What each whole period of an uplink yields, a period of 40 octets after another."""
     periods: List[Optional[Yield]] = [None] * (len(octets) // FRAME_OCTETS)
-    for each in trau_frames.search(trau_frames.bits_of(octets)):
+    for each in trau_frames.search(trau_frames.bits_of(octets[: len(periods) * FRAME_OCTETS])):
         periods[each.period()] = each
     return periods
 
