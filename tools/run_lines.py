@@ -182,3 +182,80 @@ def read_calls(folder: Path, report: run_texts.Report, numbers: Optional[Sequenc
             calls[number] = Call(number, span, sides)
             calls[number].search(folder, report.bridges)
     return calls
+
+
+class Asked(NamedTuple):
+    """A shift that frames in a row ask for while a bridge keeps the timing as it is: the first period, and how many ask."""
+
+    period: int
+    octets: int
+    times: int
+
+
+def asked_while_frozen(call: Call, bridges: Sequence[Bridge]) -> List[Asked]:
+    """The shifts of a call's downlink that are asked for in its bridges."""
+    spans = [range(bridge.start, bridge.end) for bridge in bridges if call.number in bridge.calls]
+    found: List[Asked] = []
+    for period, each in enumerate(call.yields, call.span.start):
+        octets = asked_by(each) if any(period in span for span in spans) else 0
+        last = found[-1] if found else None
+        if octets and last and (last.octets, last.period + last.times) == (octets, period):
+            found[-1] = last._replace(times=last.times + 1)
+        elif octets:
+            found.append(Asked(period, octets, 1))
+    return found
+
+
+# A run as a whole
+
+
+@dataclass(frozen=True)
+class Answered:
+    """An order that was executed, with its reply."""
+
+    order: run_texts.Order
+    reply: run_texts.Reply
+
+    def told(self) -> str:
+        """The order and its answer, in words."""
+        answer = "" if self.reply.refusal is None else f" - refused: {run_texts.REFUSALS[self.reply.refusal]}"
+        return f"order {self.order.number}: {self.order.words}{answer}"
+
+
+@dataclass
+class Run:
+    """A run: its executed orders, and its bridges and calls, those that aren't left out."""
+
+    orders: List[Answered]
+    bridges: List[Bridge]
+    calls: List[Call]
+    folder: Path
+
+    @staticmethod
+    def read(folder: Path, orders: Path, report_name: Path, numbers: Optional[Sequence[int]] = None) -> Run:
+        """Reads a run, and holds its report to its orders, and its uplinks to its report."""
+        report = run_texts.read_report(report_name)
+        if not report.calls:
+            raise Refusal(f"{report_name}: is of a run without calls")
+        given = run_texts.read_orders(orders)
+        run_texts.hold_to_orders(report_name, report, given, run_texts.periods_told(report, given))
+        absent = sorted(set(numbers or ()) - report.calls.keys())
+        if absent:
+            raise Refusal(f"{report_name}: has no call {absent[0]}")
+        calls = list(read_calls(folder, report, numbers).values())
+        shown = {call.number for call in calls}
+        answered = [Answered(order, reply) for order, reply in zip(given, report.replies)]
+        return Run(
+            [each for each in answered if shown & set(each.order.calls)],
+            [bridge for bridge in report.bridges if shown & set(bridge.calls)],
+            calls,
+            folder,
+        )
+
+    def start(self) -> int:
+        """The first period in which a call is open."""
+        return min(call.span.start for call in self.calls)
+
+    def end(self) -> int:
+        """The period at which the last call ends."""
+        return max(call.span.end for call in self.calls)

@@ -340,3 +340,12 @@ def hold_to_orders(name: Path, report: Report, orders: Sequence[Order], periods:
     for call, span in report.calls.items():
         if span.end > periods or (span.end == periods) != (span.cause == "limit"):
             raise Refusal(f"{name}: has call {call} to {span.end} {span.cause}, which isn't of a run to period {periods}")
+
+
+def periods_told(report: Report, orders: Sequence[Order]) -> int:
+    """The number of periods at which a run of these orders ended, as far as its report tells."""
+    limits = [span.end for span in report.calls.values() if span.cause == "limit"]
+    if limits:
+        return limits[0]
+    executed = len(report.replies)
+    return orders[executed].stamp if executed < len(orders) else MOST_PERIODS
