@@ -16,7 +16,7 @@ from typing import Any, Dict, Iterable, Iterator, List, NamedTuple, Optional, Se
 import run_lines
 import trau_frames
 from run_lines import Heard
-from trau_frames import GSM_OCTETS, IDLE_OCTET, PCM_OCTETS, Parameters, Refusal, Sort, SpeechControl
+from trau_frames import GSM_OCTETS, IDLE_OCTET, PCM_OCTETS, PERIODS_A_SECOND, Parameters, Refusal, Sort, SpeechControl
 
 PCMU, GSM, PCMA = 0, 3, 8
 NAMES = {PCMU: "pcmu", GSM: "gsm", PCMA: "pcma"}
@@ -32,20 +32,23 @@ def library(part: str) -> Any:
     try:
         return importlib.import_module(f"dpkt.{part}")
     except ImportError:
-        raise Refusal("captures need the library dpkt; apt-get install python3-dpkt, or pip install dpkt, brings it") from None
+        raise Refusal(
+            "captures need the library dpkt; apt-get install python3-dpkt, or pip install dpkt, brings it"
+        ) from None
 
 
 # Packets of a capture
 
 
 class Packet(NamedTuple):
-    """An RTP packet: its number in the capture, from 1 as other programs count, and what it says."""
+    """An RTP packet: its number in the capture, from 1 as other programs count, what it says, and when it was captured."""
 
     number: int
     kind: int
     sequence: int
     stamp: int
     payload: bytes
+    time: float
 
 
 class Flow(NamedTuple):
@@ -71,8 +74,8 @@ LINKS = {
 }
 
 
-def datagrams(name: Path, content: bytes) -> Iterator[Tuple[int, Any, Any]]:
-    """The datagrams of a capture, each with its number, its IP packet and its UDP packet."""
+def datagrams(name: Path, content: bytes) -> Iterator[Tuple[int, float, Any, Any]]:
+    """The datagrams of a capture, each with its number, its time, its IP packet and its UDP packet."""
     ip, ip6, udp, errors = library("ip").IP, library("ip6").IP6, library("udp").UDP, library("dpkt")
     try:
         reader = library("pcap").UniversalReader(io.BytesIO(content))
@@ -81,14 +84,14 @@ def datagrams(name: Path, content: bytes) -> Iterator[Tuple[int, Any, Any]]:
             raise Refusal(f"{name}: has a kind of link, {link}, that isn't known here")
         module, kind = LINKS[link]
         unpack = getattr(library(module), kind)
-        for number, (_, octets) in enumerate(reader, 1):
+        for number, (time, octets) in enumerate(reader, 1):
             try:
                 packet = unpack(octets)
             except errors.UnpackError:
                 continue
             outer = packet if isinstance(packet, ip) else packet.data
             if isinstance(outer, (ip, ip6)) and isinstance(outer.data, udp):
-                yield number, outer, outer.data
+                yield number, float(time), outer, outer.data
     except (errors.Error, ValueError) as failure:
         raise Refusal(f"{name}: isn't a capture: {str(failure)[:80]}") from None
 
@@ -111,7 +114,7 @@ def streams_of(name: Path, content: bytes) -> Dict[Flow, List[Packet]]:
     """The RTP packets of a capture by their flows, in their order; flows without speech of the three kinds are left out."""
     rtp_kind, errors = library("rtp").RTP, library("dpkt")
     streams: Dict[Flow, List[Packet]] = {}
-    for number, outer, datagram in datagrams(name, content):
+    for number, time, outer, datagram in datagrams(name, content):
         try:
             rtp = rtp_kind(bytes(datagram.data))
         except errors.UnpackError:
@@ -121,7 +124,7 @@ def streams_of(name: Path, content: bytes) -> Dict[Flow, List[Packet]]:
         if len(datagram.data) < datagram.ulen - 8 and rtp.pt in NAMES:
             raise Refusal(f"{name}: packet {number} wasn't captured whole")
         flow = Flow(address(outer.src, datagram.sport), address(outer.dst, datagram.dport), rtp.ssrc)
-        streams.setdefault(flow, []).append(Packet(number, rtp.pt, rtp.seq, rtp.ts, payload_of(rtp)))
+        streams.setdefault(flow, []).append(Packet(number, rtp.pt, rtp.seq, rtp.ts, payload_of(rtp), time))
     return {flow: packets for flow, packets in streams.items() if any(packet.kind in NAMES for packet in packets)}
 
 
@@ -138,19 +141,31 @@ def kind_of(packets: Sequence[Packet]) -> int:
     return kinds[0]
 
 
-def chosen(name: Path, streams: Dict[Flow, List[Packet]], number: Optional[int]) -> List[Packet]:
-    """The packets of the stream with this number, counted from 1, or of the only one."""
+def listed(streams: Dict[Flow, List[Packet]]) -> str:
+    """The streams of a capture, in words."""
+    return "; ".join(
+        f"{place} is {flow.said()}, packets {len(packets)}, {kinds_said(packets)}"
+        for place, (flow, packets) in enumerate(streams.items(), 1)
+    )
+
+
+def chosen(name: Path, streams: Dict[Flow, List[Packet]], option: str, number: Optional[int]) -> List[Packet]:
+    """The packets of the stream with the number that an option gives, counted from 1, or of the only one."""
     if not streams:
         raise Refusal(f"{name}: has no RTP stream with GSM, PCMA or PCMU")
     if number is None and len(streams) == 1:
         number = 1
     if number is None or not 1 <= number <= len(streams):
-        listed = "; ".join(
-            f"{place} is {flow.said()}, packets {len(packets)}, {kinds_said(packets)}"
-            for place, (flow, packets) in enumerate(streams.items(), 1)
-        )
-        raise Refusal(f"{name}: has {len(streams)} streams, one of which --stream names: {listed}")
+        raise Refusal(f"{name}: has {len(streams)} streams, one of which {option} names: {listed(streams)}")
     return list(streams.values())[number - 1]
+
+
+def periods_between(name: Path, since: Sequence[Packet], packets: Sequence[Packet]) -> int:
+    """How many periods a stream begins later in its capture than another."""
+    passed = packets[0].time - since[0].time
+    if passed < 0:
+        raise Refusal(f"{name}: the stream begins {-passed:.2f} s before that of --since")
+    return round(passed * PERIODS_A_SECOND)
 
 
 # A stream in the order of its time stamps
@@ -219,7 +234,9 @@ def units_of(name: Path, packet: Packet, kind: int) -> List[Any]:
 def gap(name: Path, missing: int, units: int, size: int, packet: Packet) -> Iterator[Stretch]:
     """The stretches between two packets: first what the missing packets held, if they were like the one before."""
     if units * size > LONGEST_GAP:
-        raise Refusal(f"{name}: the time stamp of packet {packet.number} is {units * size / SAMPLES_A_SECOND:.0f} s behind")
+        raise Refusal(
+            f"{name}: the time stamp of packet {packet.number} is {units * size / SAMPLES_A_SECOND:.0f} s behind"
+        )
     lost = max(0, min(units, missing))
     if lost:
         yield Lost(lost)
@@ -231,22 +248,22 @@ def stretches(name: Path, packets: Sequence[Packet], kind: int, counts: Counts) 
     """A stream from its first packet with speech on. Units that overlap with those before are left out."""
     size = FRAME_SAMPLES if kind == GSM else 1
     first: Optional[int] = None
-    place, length, sequence = 0, 0, 0
-    lacking = 0
+    place, length, missing = 0, 0, 0
+    following = 0
     for packet in in_order(packets, counts):
         units = units_of(name, packet, kind)
-        lacking += packet.sequence - sequence - 1 if first is not None else 0
-        sequence = packet.sequence
+        missing += packet.sequence - following
+        following = packet.sequence + 1
         if not units:
             counts.others += 1
             continue
-        first = packet.stamp if first is None else first
+        if first is None:
+            first, missing = packet.stamp, 0
         begin = round((packet.stamp - first) / size)
-        yield from gap(name, lacking * length, begin - place, size, packet)
-        units = units[max(0, place - begin) :]
-        if units:
-            yield units
-        place, length, lacking = max(place, begin) + len(units), max(1, len(units)), 0
+        yield from gap(name, missing * length, begin - place, size, packet)
+        if begin + len(units) > place:
+            yield units[max(0, place - begin) :]
+        place, length, missing = max(place, begin + len(units)), len(units), 0
 
 
 # To lines
@@ -294,24 +311,31 @@ def pcm_of(found: Iterable[Stretch], alaw: bytes) -> bytes:
     return b"".join(octets)
 
 
-def line_of(name: Path, content: bytes, number: Optional[int]) -> Tuple[bytes, str]:
-    """A line of a capture's stream, an uplink of GSM and a Pcm line of the others; and what was found."""
-    packets = chosen(name, streams_of(name, content), number)
+def total(found: Sequence[Stretch], kind: type) -> int:
+    """How many units the stretches of a kind have."""
+    return sum(len(each) if isinstance(each, list) else each.units for each in found if isinstance(each, kind))
+
+
+def line_of(name: Path, content: bytes, number: Optional[int], since: Optional[int]) -> Tuple[bytes, str]:
+    """A line of a capture's stream, an uplink of GSM and a Pcm line of the others, from the beginning of another stream on if
+    one is given; and what was found."""
+    streams = streams_of(name, content)
+    packets = chosen(name, streams, "--stream", number)
+    lead = 0 if since is None else periods_between(name, chosen(name, streams, "--since", since), packets)
     kind = kind_of(packets)
     counts = Counts()
     found = list(stretches(name, packets, kind, counts))
-    lost = sum(each.units for each in found if isinstance(each, Lost))
-    paused = sum(each.units for each in found if isinstance(each, Paused))
-    came = sum(len(each) for each in found if isinstance(each, list))
     said = (
         f"pcap {NAMES[kind]} packets {counts.packets} late {counts.late} doubled {counts.doubled} others {counts.others}"
-        f" {'frames' if kind == GSM else 'octets'} {came} lost {lost} paused {paused}"
+        f" {'frames' if kind == GSM else 'octets'} {total(found, list)} lost {total(found, Lost)} paused {total(found, Paused)}"
+        f" lead {lead}"
     )
     if kind == GSM:
-        return uplink_of(found), said
-    line = pcm_of(found, alaw_by_mu_law() if kind == PCMU else bytes(range(256)))
+        return lead * IDLE_UPLINK + uplink_of(found), said
+    idle = bytes([IDLE_OCTET])
+    line = lead * PCM_OCTETS * idle + pcm_of(found, alaw_by_mu_law() if kind == PCMU else bytes(range(256)))
     padded = -len(line) % PCM_OCTETS
-    return line + padded * bytes([IDLE_OCTET]), f"{said} padded {padded}"
+    return line + padded * idle, f"{said} padded {padded}"
 
 
 # From lines
@@ -379,7 +403,9 @@ def datagram_of(stream: int, kind: int, sequence: int, marked: bool, sound: Soun
     udp.ulen = len(udp)
     packet = library("ip").IP(src=bytes([10, 0, 0, stream]), dst=bytes([10, 0, 1, stream]), p=17, ttl=64, data=udp)
     packet.len = len(packet)
-    return bytes(library("ethernet").Ethernet(src=bytes([2, 0, 0, 0, 0, 1]), dst=bytes([2, 0, 0, 0, 0, 2]), data=packet))
+    return bytes(
+        library("ethernet").Ethernet(src=bytes([2, 0, 0, 0, 0, 1]), dst=bytes([2, 0, 0, 0, 0, 2]), data=packet)
+    )
 
 
 def packets_of(stream: int, kind: int, sounds: Iterable[Sound]) -> Iterator[Tuple[float, bytes]]:

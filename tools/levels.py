@@ -21,6 +21,4 @@ def level(octets: bytes) -> float:
 
 def levels(octets: bytes) -> List[float]:
     """The level of each whole period of a line."""
-    return [
-        level(octets[place : place + PCM_OCTETS]) for place in range(0, len(octets) - PCM_OCTETS + 1, PCM_OCTETS)
-    ]
+    return [level(octets[place : place + PCM_OCTETS]) for place in range(0, len(octets) - PCM_OCTETS + 1, PCM_OCTETS)]

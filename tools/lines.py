@@ -203,7 +203,7 @@ def sound(words: argparse.Namespace, given: bytes) -> Made:
 
 def pcap(words: argparse.Namespace, given: bytes) -> Made:
     """An uplink or a Pcm line, from a stream of a capture."""
-    return Made(*captures.line_of(words.given, given, words.stream))
+    return Made(*captures.line_of(words.given, given, words.stream, words.since))
 
 
 def capture(words: argparse.Namespace, given: bytes) -> Made:
@@ -485,12 +485,18 @@ def parser() -> argparse.ArgumentParser:
         "Makes a line of an RTP stream of a capture (pcap or pcapng), by its time stamps: an uplink of GSM (payload type 3), a\n"
         "Pcm line of PCMA (8) or PCMU (0). Packets that are missing become unusable frames, or idle octets; where nothing was\n"
         "sent there are idle frames, or idle octets. Says `pcap gsm packets N late A doubled B others C frames D lost E paused\n"
-        "F`, or `octets D .. padded G`: packets that came after later ones, that came again, and that have no speech. Needs the\n"
-        "library dpkt.",
+        "F lead G`, or `octets D .. padded H`: packets that came after later ones, that came again, and that have no speech; and\n"
+        "the periods before the first. Needs the library dpkt.",
         "call.pcapng 7.up",
     )
     added.add_argument(
         "--stream", type=int, metavar="N", help="the stream, counted from 1, of a capture with several; without it these are told"
+    )
+    added.add_argument(
+        "--since",
+        type=int,
+        metavar="N",
+        help="the line begins when this stream began, by the times of the capture: so the lines of a call keep step",
     )
 
     added = command(

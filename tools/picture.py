@@ -93,7 +93,9 @@ def signed(octets: int) -> str:
 class Picture:
     """A picture of a run from a period on to another, which is drawn from the back to the front."""
 
-    def __init__(self, run: Run, width: int, shape: Shape, first: Optional[int] = None, last: Optional[int] = None) -> None:
+    def __init__(
+        self, run: Run, width: int, shape: Shape, first: Optional[int] = None, last: Optional[int] = None
+    ) -> None:
         self.run = run
         self.shape = shape
         self.first = run.start() if first is None else first
@@ -265,7 +267,9 @@ class Picture:
         def level(colour: str) -> Callable[[float, float], None]:
             return lambda x, y: self.line(x - 13, y, x + 13, y, colour, 2)
 
-        entries = [(look.words, swatch(look, 14)) for look in Look] + [(look.words, swatch(look, 8)) for look in DownLook]
+        entries = [(look.words, swatch(look, 14)) for look in Look] + [
+            (look.words, swatch(look, 8)) for look in DownLook
+        ]
         if self.shape.level:
             entries += [("level of Out", level(OUT_COLOUR)), ("level of Pcm", level(PCM_COLOUR))]
         return entries + [
@@ -315,7 +319,9 @@ class Picture:
             return
         upper, lower = sorted(self.bridge_top(number) for number in bridge.calls)
         left, right = self.x(bridge.start), self.x(bridge.end)
-        self.box(left, upper + self.shape.bridge, right - left, lower - upper - self.shape.bridge, colour, fill_opacity=0.045)
+        self.box(
+            left, upper + self.shape.bridge, right - left, lower - upper - self.shape.bridge, colour, fill_opacity=0.045
+        )
         for x in (left, right):
             self.line(x, upper, x, lower, colour, 1.5)
 
@@ -361,13 +367,17 @@ class Picture:
         frame = {"fill": "none", "stroke": INK, "stroke_width": 0.75, "pointer_events": "none"}
         self.box(left, top, right - left, self.shape.band, **frame)
         opening = f"call {call.number} opened at period {call.span.start} ({seconds(call.span.start)})"
-        ending = f"call {call.number} ended at period {call.span.end} ({seconds(call.span.end)}): {self.end_words(call)}"
+        ending = (
+            f"call {call.number} ended at period {call.span.end} ({seconds(call.span.end)}): {self.end_words(call)}"
+        )
         for period, title in ((call.span.start, opening), (call.span.end, ending)):
             if self.first <= period <= self.last:
                 self.line(self.x(period), top - 2, self.x(period), top + self.shape.band + 2, INK, 2, title)
         if self.end_words(call):
             size = "tiny halo" if self.shape is COMPACT else "halo"
-            self.add("text", ending, self.end_words(call), x=right + 8, y=top + self.shape.band / 2 + 4, **{"class": size})
+            self.add(
+                "text", ending, self.end_words(call), x=right + 8, y=top + self.shape.band / 2 + 4, **{"class": size}
+            )
         self.draw_shifts(call, top)
 
     def draw_band(self, call: Call, values: Sequence, kinds, top: float, height: float, what: str) -> None:
@@ -425,9 +435,7 @@ class Picture:
 
     def draw_shifts(self, call: Call, top: float) -> None:
         """Marks of the shifts of a call's downlink, with their octets where there is room, and of those that wait."""
-        waiting = [
-            asked for asked in run_lines.asked_while_frozen(call, self.run.bridges) if self.shows(asked.period)
-        ]
+        waiting = [asked for asked in run_lines.asked_while_frozen(call, self.run.bridges) if self.shows(asked.period)]
         for asked in waiting:
             title = (
                 f"call {call.number}, from period {asked.period} ({seconds(asked.period)}) on: {counted(asked.times, 'frame')}"
@@ -435,7 +443,9 @@ class Picture:
             )
             self.triangle(self.mark_of(asked.period), top - 3, title, filled=False)
         shifts = [(call.span.start + made.period(), made.shift) for made in call.made if made.shift]
-        marks = sorted({self.mark_of(period) for period, _ in shifts} | {self.mark_of(asked.period) for asked in waiting})
+        marks = sorted(
+            {self.mark_of(period) for period, _ in shifts} | {self.mark_of(asked.period) for asked in waiting}
+        )
         free = 0.0
         for period, octets in shifts:
             if self.shows(period):
@@ -445,7 +455,9 @@ class Picture:
         """Where the mark of a period's shift points."""
         return self.x(period) + self.scale / 2
 
-    def draw_shift(self, call: Call, top: float, period: int, octets: int, marks: Sequence[float], free: float) -> float:
+    def draw_shift(
+        self, call: Call, top: float, period: int, octets: int, marks: Sequence[float], free: float
+    ) -> float:
         """The mark of a shift, its octets where no other mark or text is in the way, and where the room behind them begins."""
         x = self.mark_of(period)
         title = (

@@ -230,7 +230,9 @@ def compare(words: argparse.Namespace) -> Told:
     for number in numbers:
         start = min(report.calls[number].start for report in reports if number in report.calls)
         for side in SIDES:
-            row = row_of_line(number, side, start, *(line_of(folder, number, side) for folder in (words.one, words.other)))
+            row = row_of_line(
+                number, side, start, *(line_of(folder, number, side) for folder in (words.one, words.other))
+            )
             rows += [row] if row else []
     return Told(COMPARE_COLUMNS, rows, {"calls": len(numbers), "differences": rows}, 1 if rows else 0)
 
@@ -361,12 +363,14 @@ def parser() -> argparse.ArgumentParser:
         sync,
         "where and why an uplink lost sync",
         "A row for each loss of an uplink, which is misses in a row: the bit at which the first frame was due, its period, the\n"
-        "number of misses, the places within that frame of the sync bits that broke, from where on the search hunted (- where it\n"
-        "stayed locked), the next match at any bit, by how many bits it stands beside the places due, and the next frame that the\n"
-        "search found. JSON has the broken bits of all misses. Bits and periods are counted from the line's start.",
+        "number of misses, the places within that frame of the sync bits that broke, from where on the search hunted (- where\n"
+        "it stayed locked), the next match at any bit, by how many bits it stands beside the places due, and the next frame that\n"
+        "the search found. JSON has the broken bits of all misses. Bits and periods are counted from the line's start.",
     )
     added.add_argument("uplink", type=Path, metavar="UPLINK", help="the Up line")
-    added.add_argument("--frames", type=Path, metavar="FILE", help="what `trau frames` told of the line, which is held to it")
+    added.add_argument(
+        "--frames", type=Path, metavar="FILE", help="what `trau frames` told of the line, which is held to it"
+    )
     return words
 
 

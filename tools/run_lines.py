@@ -170,7 +170,9 @@ class Call:
         counts = {**{sort.value: sorts[sort] for sort in Sort}, "made": len(self.made)}
         for what, count in counts.items():
             if self.span.counts[what] != count:
-                raise Refusal(f"{name}: gives {what} {count}, and the report has {self.span.counts[what]}: it is of another run")
+                raise Refusal(
+                    f"{name}: gives {what} {count}, and the report has {self.span.counts[what]}: it is of another run"
+                )
 
 
 def read_calls(folder: Path, report: run_texts.Report, numbers: Optional[Sequence[int]] = None) -> Dict[int, Call]:

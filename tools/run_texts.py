@@ -158,7 +158,8 @@ class Bridge:
     def line(self) -> str:
         """The report's line of this bridge."""
         a, b = self.calls
-        return f"bridge {a} {b} from {self.start} to {self.end} sent {self.sent[0]} {self.sent[1]} lost {self.lost[0]} {self.lost[1]}"
+        frames = f"sent {self.sent[0]} {self.sent[1]} lost {self.lost[0]} {self.lost[1]}"
+        return f"bridge {a} {b} from {self.start} to {self.end} {frames}"
 
 
 @dataclass(frozen=True)
@@ -339,7 +340,9 @@ def hold_to_orders(name: Path, report: Report, orders: Sequence[Order], periods:
         raise Refusal(f"{name}: has other bridges than these orders make")
     for call, span in report.calls.items():
         if span.end > periods or (span.end == periods) != (span.cause == "limit"):
-            raise Refusal(f"{name}: has call {call} to {span.end} {span.cause}, which isn't of a run to period {periods}")
+            raise Refusal(
+                f"{name}: has call {call} to {span.end} {span.cause}, which isn't of a run to period {periods}"
+            )
 
 
 def periods_told(report: Report, orders: Sequence[Order]) -> int:

@@ -144,9 +144,7 @@ def split(words: argparse.Namespace) -> int:
     if os.path.lexists(words.cut):
         raise Refusal(f"{words.cut}: is there already; a farm is cut into a new folder")
     opened = {order.calls[0] for order in orders if order.verb == "open"}
-    pieces = [
-        (sum(periods_of(words.folder, call) for call in calls & opened), calls) for calls in components(orders)
-    ]
+    pieces = [(sum(periods_of(words.folder, call) for call in calls & opened), calls) for calls in components(orders)]
     parts = parts_of(pieces, words.parts)
     place = Path(tempfile.mkdtemp(dir=words.cut.absolute().parent, prefix=f".{words.cut.name}."))
     try:
@@ -333,11 +331,19 @@ def parser() -> argparse.ArgumentParser:
     )
     cutting.add_argument("folder", type=Path, metavar="FOLDER", help="the farm: its lines and orders")
     cutting.add_argument("cut", type=Path, metavar="CUT", help="the folder that is made")
-    cutting.add_argument("--parts", type=number_within(1, 1024), required=True, metavar="K", help="at most so many parts")
-    cutting.add_argument("--orders", type=Path, metavar="FILE", help="the orders of the run (default FOLDER/orders.txt)")
+    cutting.add_argument(
+        "--parts", type=number_within(1, 1024), required=True, metavar="K", help="at most so many parts"
+    )
+    cutting.add_argument(
+        "--orders", type=Path, metavar="FILE", help="the orders of the run (default FOLDER/orders.txt)"
+    )
     cutting.add_argument("--copy", action="store_true", help="copies of the incoming lines in place of links")
-    cutting.add_argument("--trau", default=program_beside(), metavar="PROGRAM", help="the program (default %(default)s)")
-    cutting.add_argument("--workers", type=number_within(1, 64), default=1, metavar="N", help="as of trau run (default 1)")
+    cutting.add_argument(
+        "--trau", default=program_beside(), metavar="PROGRAM", help="the program (default %(default)s)"
+    )
+    cutting.add_argument(
+        "--workers", type=number_within(1, 64), default=1, metavar="N", help="as of trau run (default 1)"
+    )
     cutting.add_argument("--batch", type=number_within(1, 250), metavar="N", help="as of trau run")
     cutting.add_argument("--periods", type=number_within(1, MOST_PERIODS), metavar="N", help="as of trau run")
     cutting.set_defaults(carried_out=split)
@@ -346,9 +352,9 @@ def parser() -> argparse.ArgumentParser:
         help="joins the reports of the parts",
         formatter_class=argparse.RawDescriptionHelpFormatter,
         allow_abbrev=False,
-        description="Writes the report of the one run to standard output; the status is 0, or 6 where lines failed, as of the one\n"
-        "run. With lines that were copied, brings the outgoing ones to the farm's folder. Parts that have no whole report, or one\n"
-        "that isn't of their orders and their number of periods, are told, and then nothing is written and the status is 2.",
+        description="Writes the report of the one run to standard output; the status is 0, or 6 where lines failed, as of the\n"
+        "one run. With lines that were copied, brings the outgoing ones to the farm's folder. Parts that have no whole report, or\n"
+        "one that isn't of their orders and their number of periods, are told, and then nothing is written and the status is 2.",
     )
     joining.add_argument("cut", type=Path, metavar="CUT", help="the folder that `split` made")
     joining.set_defaults(carried_out=merge)

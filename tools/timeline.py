@@ -61,19 +61,29 @@ def parser() -> argparse.ArgumentParser:
         allow_abbrev=False,
     )
     words.add_argument("folder", type=Path, metavar="FOLDER", help="the folder of the run, with the calls' lines")
-    words.add_argument("picture", type=Path, metavar="OUT", help="the picture that is written: OUT.svg, or OUT.html which zooms")
+    words.add_argument(
+        "picture", type=Path, metavar="OUT", help="the picture that is written: OUT.svg, or OUT.html which zooms"
+    )
     words.add_argument("--orders", type=Path, metavar="FILE", help="the orders of the run (default FOLDER/orders.txt)")
     words.add_argument("--report", type=Path, metavar="FILE", help="the report of the run (default FOLDER/report.txt)")
-    words.add_argument("--width", type=int, default=1300, metavar="PIXELS", help="the width of all periods (default 1300)")
-    words.add_argument("--calls", type=calls_named, metavar="CALLS", help="these calls alone: parts A and A-B with commas")
-    words.add_argument("--from", type=period_named, dest="first", metavar="PERIOD", help="the first period that is drawn")
-    words.add_argument("--to", type=period_named, dest="last", metavar="PERIOD", help="the one after the last that is drawn")
+    words.add_argument(
+        "--width", type=int, default=1300, metavar="PIXELS", help="the width of all periods (default 1300)"
+    )
+    words.add_argument(
+        "--calls", type=calls_named, metavar="CALLS", help="these calls alone: parts A and A-B with commas"
+    )
+    words.add_argument(
+        "--from", type=period_named, dest="first", metavar="PERIOD", help="the first period that is drawn"
+    )
+    words.add_argument(
+        "--to", type=period_named, dest="last", metavar="PERIOD", help="the one after the last that is drawn"
+    )
     words.add_argument(
         "--rows",
         choices=("auto", "full", "plain", "compact"),
         default="auto",
-        help=f"full: with the levels of Out and Pcm; plain: without them; compact: narrow; auto: full up to {MOST_FULL_ROWS} calls,"
-        " compact for more",
+        help="full: with the levels of Out and Pcm; plain: without them; compact: narrow; auto: full up to"
+        f" {MOST_FULL_ROWS} calls, compact for more",
     )
     return words
 

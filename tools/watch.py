@@ -106,7 +106,7 @@ class Pace(NamedTuple):
 
     @staticmethod
     def of(runs: Sequence[Watched], first: Progress) -> Pace:
-        """Of one run from its beginning, of several from the first look, since those that have ended don't tell when they began."""
+        """Of one run from its beginning; of several from the first look, since those that ended don't tell when they began."""
         return Pace(first.began, 0) if len(runs) == 1 else Pace(time.time(), first.periods)
 
     def seconds_left(self, progress: Progress, expected: int) -> Optional[float]:
@@ -206,7 +206,9 @@ def parser() -> argparse.ArgumentParser:
     words.add_argument("--periods", type=int, default=MOST_PERIODS, metavar="N", help="as of trau run")
     words.add_argument("--interval", type=float, default=1.0, metavar="SECONDS", help="between two looks (default 1)")
     words.add_argument("--once", action="store_true", help="look once")
-    words.add_argument("--plain", action="store_true", help="lines of text also where there is a terminal and the library tqdm")
+    words.add_argument(
+        "--plain", action="store_true", help="lines of text also where there is a terminal and the library tqdm"
+    )
     return words
 
 

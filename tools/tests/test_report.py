@@ -52,7 +52,9 @@ class Text(Told):
             self.assertEqual([int(row["call"]) for row in rows], list(read.calls))
             for row, told in zip(rows, whole["calls"]):
                 self.assertEqual(row, {key: str(value) for key, value in told.items()})
-                self.assertIn(f"call {row['call']} from {row['start']} to {row['end']} {row['cause']}\n", file.read_text())
+                self.assertIn(
+                    f"call {row['call']} from {row['start']} to {row['end']} {row['cause']}\n", file.read_text()
+                )
 
     def test_lines_that_failed(self):
         counts = "good 0 sid 0 invalid 0 bad 0 idle 0 other 0 miss 0 none 0 made 0"
@@ -74,7 +76,10 @@ class Text(Told):
 
 class Calls(Told):
     def test_heard(self):
-        sorts = [Sort(word) for word in "bad sid bad good miss none good idle invalid bad good other sid invalid good".split()]
+        sorts = [
+            Sort(word)
+            for word in "bad sid bad good miss none good idle invalid bad good other sid invalid good".split()
+        ]
         wanted = "quiet noise noise speech lost lost speech quiet quiet quiet speech lost noise noise speech"
         self.assertEqual([value.value for value in run_lines.heard(sorts)], wanted.split())
 
@@ -164,7 +169,9 @@ class Compared(Told):
 
     def test_reports(self):
         text = (self.other / "report.txt").read_text()
-        text = text.replace("order 14 refused 5 call 3", "order 14 ok").replace("from 22 to 95 sent 73 73", "from 22 to 95 sent 73 72")
+        text = text.replace("order 14 refused 5 call 3", "order 14 ok").replace(
+            "from 22 to 95 sent 73 73", "from 22 to 95 sent 73 72"
+        )
         text = text.replace("sent 73 72 lost 0 0", "sent 73 72 lost 0 1").replace("made 75", "made 74")
         (self.other / "report.txt").write_text(text)
         self.assertEqual([row["what"] for row in self.compare(1)], ["order 14", "bridge 1", "counts"])

@@ -85,7 +85,12 @@ class Reports(unittest.TestCase):
         lines = FARMS[0][1].read_bytes().splitlines(True)
         for number, line in enumerate(lines):
             others = lines[:number] + lines[number + 1 :]
-            for changed in (others, lines[:number] + [line, line] + lines[number + 1 :], [*others, line], [line, *others]):
+            for changed in (
+                others,
+                lines[:number] + [line, line] + lines[number + 1 :],
+                [*others, line],
+                [line, *others],
+            ):
                 # That a bridge's line or the last order is wanting the orders tell alone.
                 if changed != lines and not line.startswith((b"bridge", b"order 18")):
                     with self.subTest(line), self.assertRaises(Refusal):

@@ -63,7 +63,9 @@ class Farms(InFolder):
         cut = self.folder / f"cut-{len(list(self.folder.iterdir()))}"
         status, out, err = self.run_tool(shard.main, "split", farm, cut, "--parts", parts, *words)
         self.assertEqual((status, err), (0, ""))
-        self.assertRegex(out, r"^shard parts \d+ components \d+ calls \d+ orders \d+ largest \d+ heaviest \d+ of \d+\n$")
+        self.assertRegex(
+            out, r"^shard parts \d+ components \d+ calls \d+ orders \d+ largest \d+ heaviest \d+ of \d+\n$"
+        )
         return cut
 
     def give_reports(self, cut, report):
@@ -163,7 +165,9 @@ class Farms(InFolder):
         report = run_texts.read_report(farm / "report.txt")
         cut = self.split(farm, 2, "--periods", 153)
         self.give_reports(cut, report)
-        self.assert_refused(shard.main, ["merge", cut], "which isn't of a run to period 153; was this part run by other words?")
+        self.assert_refused(
+            shard.main, ["merge", cut], "which isn't of a run to period 153; was this part run by other words?"
+        )
 
     def test_refused_words(self):
         farm = self.lay("mixed")
@@ -175,11 +179,20 @@ class Farms(InFolder):
             self.assertFalse(cut.exists())
             self.assertEqual([path.name for path in self.folder.iterdir() if path.name.startswith(".")], [])
 
-        refused("names call 1025; the calls of one farm are 1 to 1,024", farm, cut, "--parts", 2, "--orders", self.path("bad.txt"))
+        refused(
+            "names call 1025; the calls of one farm are 1 to 1,024",
+            farm,
+            cut,
+            "--parts",
+            2,
+            "--orders",
+            self.path("bad.txt"),
+        )
         refused("--parts", farm, cut)
         refused("0 isn't 1 to 1,024", farm, cut, "--parts", 0)
         refused("251 isn't 1 to 250", farm, cut, "--parts", 2, "--batch", 251)
         refused("No such file", self.folder / "gone", cut, "--parts", 2)
+        (farm / "4.out").unlink()
         (farm / "4.out").mkdir()
         refused("4.out: isn't a file; only links", farm, cut, "--parts", 2, "--copy")
         self.assert_refused(shard.main, ["split", farm, farm, "--parts", 2], "is there already")

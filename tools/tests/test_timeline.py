@@ -3,6 +3,7 @@ picture and the page, and what is refused."""
 
 import re
 import shutil
+import subprocess
 import unittest
 import xml.etree.ElementTree as ElementTree
 from collections import Counter
@@ -19,6 +20,19 @@ from run_lines import Answered, Call, Run
 from run_texts import Bridge, Order, Reply, Span
 
 SVG = "{http://www.w3.org/2000/svg}"
+CHROMIUM = shutil.which("chromium")
+
+# Turns the wheel, presses a key and a button, and tells which part of the picture is seen each time.
+ZOOMING = """<script>
+const seenBoxes = [picture.getAttribute("viewBox")];
+picture.dispatchEvent(new WheelEvent("wheel", { deltaY: -100, clientX: 300, clientY: 200, cancelable: true }));
+seenBoxes.push(picture.getAttribute("viewBox"));
+document.dispatchEvent(new KeyboardEvent("keydown", { key: "ArrowRight" }));
+seenBoxes.push(picture.getAttribute("viewBox"));
+document.getElementById("whole").click();
+seenBoxes.push(picture.getAttribute("viewBox"));
+document.title = "seen " + seenBoxes.join(" | ");
+</script>"""
 
 
 def lay(name, folder):
@@ -261,7 +275,8 @@ class Pictures(InFolder):
         _, titles, _ = self.drawn()
         asked = [title for title in titles if "which waits until after it" in title]
         self.assertEqual(len(asked), 8)
-        self.assertIn("call 3, from period 124 (2.48 s) on: 1 frame in a bridge asked for +132 octets, which waits until after it", asked)
+        told = "call 3, from period 124 (2.48 s) on: 1 frame in a bridge asked for +132 octets, which waits until after it"
+        self.assertIn(told, asked)
 
     def test_page(self):
         status, _, err = self.run_tool(timeline.main, self.folder, self.folder / "run.html")
@@ -270,6 +285,23 @@ class Pictures(InFolder):
         self.drawn()
         self.assertIn((self.folder / "run.svg").read_text(), page)
         self.assertNotRegex(page.replace("http://www.w3.org/2000/svg", ""), "https?:|src=|href=|@import|url\\((?!#)")
+
+    @unittest.skipUnless(CHROMIUM, "no program chromium")
+    def test_page_zooms(self):
+        self.run_tool(timeline.main, self.folder, self.folder / "run.html")
+        page = (self.folder / "run.html").read_text()
+        self.path("zoomed.html", page.replace("</body>", ZOOMING + "</body>").encode())
+        words = [CHROMIUM, "--headless", "--no-sandbox", "--disable-gpu", f"--user-data-dir={self.folder / 'chromium'}"]
+        ran = subprocess.run(
+            [*words, "--dump-dom", (self.folder / "zoomed.html").as_uri()], stdout=subprocess.PIPE, stderr=subprocess.DEVNULL
+        )
+        boxes = re.search("<title>seen (.*?)</title>", ran.stdout.decode())[1].split(" | ")
+        before, near, moved, whole = ([float(each) for each in box.split(" ")] for box in boxes)
+        self.assertAlmostEqual(near[2], before[2] / 1.25, places=1)
+        self.assertEqual((moved[1:], moved[0] > near[0]), (near[1:], True))
+        self.assertEqual(whole[:2], [0, 0])
+        root = ElementTree.fromstring(re.search("<svg.*</svg>", page, re.S)[0])
+        self.assertEqual(whole[2:], [float(root.get("width")), float(root.get("height"))])
 
     def refused(self, part, *words):
         self.assert_refused(timeline.main, [self.folder, self.folder / "run.svg", *words], part)

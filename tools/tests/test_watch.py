@@ -14,6 +14,8 @@ class Watching(InFolder):
     def setUp(self):
         super().setUp()
         lay("mixed", self.folder)
+        for line in self.folder.glob("*.out"):
+            line.unlink()
         self.report = (self.folder / "report.txt").read_bytes()
 
     def watch(self, *words):
