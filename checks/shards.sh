@@ -91,6 +91,17 @@ for name in mixed harsh; do
     compare "$name" 2 "" --periods 100
 done
 
+# A refused bridge that names a bridged call: what is told of it needs that call's part.
+trouble() {
+    sed '/^20 bridge 2 2$/a 20 bridge 3 1' "$1/orders.txt" >"$1/orders"
+    mv "$1/orders" "$1/orders.txt"
+}
+compare clean 9 ""
+grep -q '^order 10 refused 3 call 1 partner 2$' "$work/cut.report" || {
+    echo "FAILED: no refusal for a bridged call"
+    failed=1
+}
+
 # Lines that fail: a missing one, a folder in place of an outgoing one; an older outgoing line, and orders without a last LF.
 trouble() {
     rm "$1/3.pcm"
@@ -122,7 +133,10 @@ expect() {
 # A part that fails, here for want of a program, is told and run again alone; so is one that was run by other words.
 status=0
 TRAU=$work/none sh "$work/cut/1/run.sh" 2>/dev/null || status=$?
-[ "$status" = 127 ] || failed=1
+[ "$status" = 127 ] || {
+    echo "FAILED: a part without a program ended with $status"
+    failed=1
+}
 expect 2 "no whole report of part 1; run again: sh $work/cut/1/run.sh"
 (cd "$work/cut/1" && "$top/trau" run --periods 90 <orders.txt >report.txt) || true
 echo 0 >"$work/cut/1/status"
