@@ -392,12 +392,11 @@ SOUNDS = {
     "out": (PCMA, sounds_of_alaw),
 }
 FIRST_PORT = 5004  # that of RTP, by which other programs know it
-LONGEST_STAMP = STAMPS - 1
 
 
 def datagram_of(stream: int, kind: int, sequence: int, marked: bool, sound: Sound) -> bytes:
     """The Ethernet frame of a packet of a stream."""
-    rtp = library("rtp").RTP(seq=sequence % SEQUENCES, ts=sound.stamp & LONGEST_STAMP, ssrc=stream, data=sound.payload)
+    rtp = library("rtp").RTP(seq=sequence % SEQUENCES, ts=sound.stamp % STAMPS, ssrc=stream, data=sound.payload)
     rtp.version, rtp.pt, rtp.m = 2, kind, marked
     udp = library("udp").UDP(sport=FIRST_PORT + 2 * stream, dport=FIRST_PORT, data=bytes(rtp))
     udp.ulen = len(udp)

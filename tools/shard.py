@@ -19,7 +19,7 @@ import sys
 import tempfile
 from dataclasses import dataclass
 from pathlib import Path
-from typing import Dict, FrozenSet, Iterator, List, Optional, Sequence, Tuple
+from typing import Callable, Dict, FrozenSet, Iterator, List, Optional, Sequence, Tuple
 
 import run_texts
 import trau_frames
@@ -294,7 +294,7 @@ def merge(words: argparse.Namespace) -> int:
 # The words of the command line
 
 
-def number_within(least: int, most: int):
+def number_within(least: int, most: int) -> Callable[[str], int]:
     """Reads a number between these ends."""
 
     def read(word: str) -> int:

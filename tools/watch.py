@@ -13,7 +13,7 @@ import sys
 import time
 from dataclasses import dataclass
 from pathlib import Path
-from typing import Any, Dict, List, NamedTuple, Optional, Sequence
+from typing import Any, Dict, List, NamedTuple, Optional, Sequence, Union
 
 import run_texts
 import trau_frames
@@ -147,7 +147,7 @@ class Bar:
         self.bar.close()
 
 
-def display(words: argparse.Namespace, expected: int):
+def display(words: argparse.Namespace, expected: int) -> Union[Bar, PlainLines]:
     """A bar at a terminal where there is the library for it, else plain lines."""
     if not words.plain and sys.stdout.isatty():
         try:
