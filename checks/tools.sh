@@ -9,7 +9,8 @@ failed=0
 
 for test in "$top"/tools/tests/test_*.py; do
     if python3 "$test" >"$work/said" 2>&1; then
-        echo "ok $(basename "$test" .py): $(sed -n 's/^Ran \([0-9]* tests*\) .*/\1/p' "$work/said")"
+        skipped=$(sed -n 's/^OK (skipped=\([0-9]*\))/, \1 of them skipped for want of a library or a program/p' "$work/said")
+        echo "ok $(basename "$test" .py): $(sed -n 's/^Ran \([0-9]* tests*\) .*/\1/p' "$work/said")$skipped"
     else
         echo "FAILED $(basename "$test" .py):"
         cat "$work/said"

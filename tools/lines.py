@@ -1,5 +1,6 @@
 #!/usr/bin/env python3
-"""Makes recorded lines of what people have, and back: speech frames of libgsm, WAV files and raw A-law; and damages uplinks.
+"""Makes recorded lines of what people have, and back: speech frames of libgsm, WAV files, raw A-law, and captures of network
+packets; and damages uplinks.
 
 Every command reads one file and writes another, and says in one line on standard output what it did. What it doesn't
 take gets one line on standard error and status 2, and then nothing is written.
@@ -18,6 +19,7 @@ from dataclasses import dataclass, replace
 from pathlib import Path
 from typing import Callable, List, NamedTuple, Optional, Sequence, Set, Tuple
 
+import captures
 import trau_frames
 from trau_frames import FRAME_BITS, IDLE_OCTET, PCM_OCTETS, Parameters, Refusal, Sort, SpeechControl
 
@@ -194,6 +196,20 @@ def sound(words: argparse.Namespace, given: bytes) -> Made:
     if sys.byteorder == "big":
         samples.byteswap()
     return Made(wav_of(WAV_LINEAR, 16, samples.tobytes()), said)
+
+
+# Captures of network packets: to a line, and from lines
+
+
+def pcap(words: argparse.Namespace, given: bytes) -> Made:
+    """An uplink or a Pcm line, from a stream of a capture."""
+    return Made(*captures.line_of(words.given, given, words.stream, words.since))
+
+
+def capture(words: argparse.Namespace, given: bytes) -> Made:
+    """A capture, from lines of calls."""
+    more = [(name, trau_frames.read_file(name)) for name in words.also]
+    return Made(*captures.capture_of([(words.given, given), *more]))
 
 
 # Damage to an uplink
@@ -463,6 +479,40 @@ def parser() -> argparse.ArgumentParser:
     kind.add_argument("--raw", action="store_true", help="A-law octets and nothing else")
 
     added = command(
+        pcap,
+        "IN.pcap",
+        "OUT",
+        "Makes a line of an RTP stream of a capture (pcap or pcapng), by its time stamps: an uplink of GSM (payload type 3), a\n"
+        "Pcm line of PCMA (8) or PCMU (0). Packets that are missing become unusable frames, or idle octets; where nothing was\n"
+        "sent there are idle frames, or idle octets. Says `pcap gsm packets N late A doubled B others C frames D lost E paused\n"
+        "F lead G`, or `octets D .. padded H`: packets that came after later ones, that came again, and that have no speech; and\n"
+        "the periods before the first. Needs the library dpkt.",
+        "call.pcapng 7.up",
+    )
+    added.add_argument(
+        "--stream", type=int, metavar="N", help="the stream, counted from 1, of a capture with several; without it these are told"
+    )
+    added.add_argument(
+        "--since",
+        type=int,
+        metavar="N",
+        help="the line begins when this stream began, by the times of the capture: so the lines of a call keep step",
+    )
+
+    added = command(
+        capture,
+        "LINE",
+        "OUT.pcap",
+        "Makes a capture with an RTP stream of a line, which Wireshark plays: GSM of an Up or Down line, PCMA of a Pcm or Out\n"
+        "line, by the line's name. Lost speech has no packet, a pause has comfort noise, and an idle frame gives nothing. Says\n"
+        "`capture streams N packets M`. Needs the library dpkt.",
+        "7.down call.pcap --also 7.out",
+    )
+    added.add_argument(
+        "--also", type=Path, action="append", default=[], metavar="LINE", help="a further line, as a stream of its own"
+    )
+
+    added = command(
         damage,
         "IN.up",
         "OUT.up",
@@ -508,7 +558,7 @@ def main(words: Sequence[str]) -> int:
     asked = parser().parse_args(words)
     try:
         made = asked.made(asked, trau_frames.read_file(asked.given))
-        trau_frames.write_file(asked.new, made.content, [asked.given])
+        trau_frames.write_file(asked.new, made.content, [asked.given, *getattr(asked, "also", [])])
     except Refusal as refusal:
         print(f"lines.py: {refusal}", file=sys.stderr)
         return 2

@@ -1,18 +1,38 @@
 """Tests of timeline.py: its search against the reports of three recorded farms, its shifts against their downlinks, the
-picture, and what is refused."""
+picture and the page, and what is refused."""
 
 import re
 import shutil
+import subprocess
 import unittest
 import xml.etree.ElementTree as ElementTree
 from collections import Counter
 
 from support import CODEC, EXAMPLES, TOP, InFolder
 
+import levels
+import looks
+import picture
+import run_lines
 import timeline
 import trau_frames
+from run_lines import Answered, Call, Run
+from run_texts import Bridge, Order, Reply, Span
 
 SVG = "{http://www.w3.org/2000/svg}"
+CHROMIUM = shutil.which("chromium")
+
+# Turns the wheel, presses a key and a button, and tells which part of the picture is seen each time.
+ZOOMING = """<script>
+const seenBoxes = [picture.getAttribute("viewBox")];
+picture.dispatchEvent(new WheelEvent("wheel", { deltaY: -100, clientX: 300, clientY: 200, cancelable: true }));
+seenBoxes.push(picture.getAttribute("viewBox"));
+document.dispatchEvent(new KeyboardEvent("keydown", { key: "ArrowRight" }));
+seenBoxes.push(picture.getAttribute("viewBox"));
+document.getElementById("whole").click();
+seenBoxes.push(picture.getAttribute("viewBox"));
+document.title = "seen " + seenBoxes.join(" | ");
+</script>"""
 
 
 def lay(name, folder):
@@ -22,12 +42,36 @@ def lay(name, folder):
         sources = [EXAMPLES / "farm", EXAMPLES / "farm" / "wanted"]
     for source in sources:
         for file in source.iterdir():
-            if re.fullmatch(r"\d+\.(up|pcm|down)|orders\.txt|report\.txt", file.name):
+            if re.fullmatch(r"\d+\.(up|pcm|down|out)|orders\.txt|report\.txt", file.name):
                 shutil.copyfile(file, folder / file.name)
     if name == "harsh":
         for call in range(1, 6):
             shutil.copyfile(CODEC / f"farm-{call}.up", folder / f"{call}.up")
         shutil.copyfile(CODEC / "farm-report.txt", folder / "report.txt")
+
+
+class Parts(unittest.TestCase):
+    def test_digital_milliwatt(self):
+        # G.711: these eight octets again and again are a sine of 1000 Hz at 0 dBm0.
+        octets = 20 * bytes([0x34, 0x21, 0x21, 0x34, 0xB4, 0xA1, 0xA1, 0xB4])
+        self.assertAlmostEqual(levels.level(octets), 0, places=1)
+        self.assertEqual(len(levels.levels(3 * octets + octets[:9])), 3)
+        self.assertLess(levels.level(160 * bytes([0xD5])), -66)
+
+    def test_a_column_shows_its_gravest_period(self):
+        values = 100 * [looks.Look.GOOD]
+        values[41] = looks.Look.BAD
+        values[77] = looks.Look.SID
+        stretches = list(looks.columns(values, looks.Look, 10))
+        self.assertEqual([(each.start, each.end) for each in stretches], [(0, 40), (40, 50), (50, 70), (70, 80), (80, 100)])
+        self.assertEqual([each.look.name for each in stretches], ["GOOD", "BAD", "GOOD", "SID", "GOOD"])
+        self.assertEqual(stretches[1].said(), "good speech, 9; lost: unusable elsewhere, 1")
+        self.assertEqual(list(looks.columns([None] * 7, looks.DownLook, 3)), [])
+
+    def test_partners_are_neighbours(self):
+        self.assertEqual(looks.order_of_rows([1, 2, 3, 4, 5], [(2, 4), (1, 3)]), [1, 3, 2, 4, 5])
+        self.assertEqual(looks.order_of_rows([1, 2, 3, 4, 5], [(5, 1), (1, 3), (3, 5)]), [1, 5, 3, 2, 4])
+        self.assertEqual(looks.order_of_rows([7, 2], [(7, 9), (2, 2)]), [2, 7])
 
 
 class Farms(InFolder):
@@ -37,7 +81,7 @@ class Farms(InFolder):
             folder.mkdir()
             lay(name, folder)
             with self.subTest(name):
-                yield name, folder, timeline.Run.read(folder, folder / "orders.txt", folder / "report.txt")
+                yield name, folder, Run.read(folder, folder / "orders.txt", folder / "report.txt")
 
     def test_counts(self):
         calls = {}
@@ -45,9 +89,8 @@ class Farms(InFolder):
             report = (folder / "report.txt").read_text()
             for call in run.calls:
                 sorts = Counter(call.sorts())
-                made, _ = timeline.downlink_of(call, run.bridges)
                 counts = " ".join(f"{sort.value} {sorts[sort]}" for sort in trau_frames.Sort)
-                self.assertIn(f"\ncounts {call.number} {counts} made {made}\n", report)
+                self.assertIn(f"\ncounts {call.number} {counts} made {len(call.made)}\n", report)
             calls[name] = len(run.calls)
         self.assertEqual(calls, {"mixed": 4, "clean": 4, "harsh": 5})
 
@@ -60,7 +103,7 @@ class Farms(InFolder):
                 starts = [found.start() for found in trau_frames.FRAME_OF_DOWNLINK.finditer(bits)]
                 shifts = [(after - before - 320) // 2 for before, after in zip(starts, starts[1:])]
                 wanted = [shift for shift in shifts if shift]
-                octets = [shift.octets for shift in call.shifts]
+                octets = [made.shift for made in call.made if made.shift]
                 self.assertEqual(octets[: len(wanted)], wanted)
                 self.assertLessEqual(len(octets) - len(wanted), 1)
                 seen.update(wanted)
@@ -82,50 +125,59 @@ class Farms(InFolder):
             lay(name, self.folder / name)
         uplinks = [*sorted((self.folder / "harsh").glob("*.up")), *sorted((self.folder / "mixed").glob("*.up"))]
         bridges = [
-            timeline.Bridge((1, 7), 20, 160, (140, 140), (0, 0)),
-            timeline.Bridge((8, 3), 101, 333, (232, 232), (0, 0)),
-            timeline.Bridge((7, 1), 301, 500, (199, 199), (0, 0)),
+            Bridge((1, 7), 20, 160, (140, 140), (0, 0)),
+            Bridge((8, 3), 101, 333, (232, 232), (0, 0)),
+            Bridge((7, 1), 301, 500, (199, 199), (0, 0)),
         ]
         calls = []
         for number, uplink in enumerate(uplinks[:8], 1):
-            call = timeline.Call(number, number, number + 500, "end up 0")
-            call.yields = timeline.yields_of((7 * uplink.read_bytes())[:20000])
+            call = Call(number, Span(number, number + 500, "end up 0", {}))
+            call.yields = run_lines.yields_of((7 * uplink.read_bytes())[:20000])
+            call.made = run_lines.frames_made(number, number, call.yields, bridges)
             sorts = Counter(call.sorts())
-            call.counts = {sort.value: sorts[sort] for sort in trau_frames.Sort}
-            call.shifts = timeline.downlink_of(call, bridges)[1]
+            call.span.counts.update({sort.value: sorts[sort] for sort in trau_frames.Sort})
             calls.append(call)
-        orders = [timeline.Order(number, call.start, f"open {call.number}", None) for number, call in enumerate(calls, 1)]
-        orders += [timeline.Order(9, 120, "bridge 1 8", 3), timeline.Order(10, 120, "unbridge 2", 4)]
-        run = timeline.Run(orders, bridges, calls)
-        self.check_picture(run, ElementTree.fromstring(timeline.Picture(run, 1300).draw()))
+        words = [(call.number, f"open {call.number}", None) for call in calls] + [(120, "bridge 1 8", 3), (120, "unbridge 2", 4)]
+        orders = [
+            Answered(Order(number, stamp, text.split(" ")[0], (1,), text), Reply(refusal))
+            for number, (stamp, text, refusal) in enumerate(words, 1)
+        ]
+        run = Run(orders, bridges, calls, self.folder)
+        for shape in (picture.FULL, picture.WITHOUT_LEVELS, picture.COMPACT):
+            for width in (1300, 250):
+                drawn = picture.Picture(run, width, shape).draw()
+                self.check_picture(run, ElementTree.fromstring(drawn))
 
     def check_picture(self, run, root):
         titles = [title.text for title in root.iter(f"{SVG}title")]
         texts = [text.text for text in root.iter(f"{SVG}text")]
         for call in run.calls:
-            # The runs of equal periods are the whole call, each from where the one before ends.
-            place, looks = call.start, Counter()
+            # The stretches of periods are the whole call, each from where the one before ends.
+            place, seen = call.span.start, Counter()
             for title in titles:
-                found = re.match(rf"call {call.number} from (\d+) to (\d+) \(.*\): (.*), (\d+) periods?$", title)
+                found = re.match(rf"call {call.number} from (\d+) to (\d+) \(.*?\): (.*)$", title)
                 if found:
                     self.assertEqual(int(found[1]), place)
                     place = int(found[2])
-                    self.assertEqual(place - int(found[1]), int(found[4]))
-                    looks[found[3]] += int(found[4])
-            self.assertEqual(place, call.end)
-            unusable = looks[timeline.Look.BAD.words] + looks[timeline.Look.PAUSE.words]
-            self.assertEqual(unusable, call.counts["bad"])
-            for look in timeline.Look:
-                if look not in (timeline.Look.BAD, timeline.Look.PAUSE):
-                    self.assertEqual(looks[look.words], call.counts[look.name.lower()])
-            self.assertIn(call.cause, texts)
-            self.assertEqual(sum(title.startswith(f"call {call.number}, period ") for title in titles), len(call.shifts))
+                    parts = re.findall(r"([^;]+), (\d+)(?: periods?)?(?:; |$)", found[3])
+                    self.assertEqual(place - int(found[1]), sum(int(count) for _, count in parts))
+                    seen.update({words: int(count) for words, count in parts})
+            self.assertEqual(place, call.span.end)
+            unusable = seen[looks.Look.BAD.words] + seen[looks.Look.PAUSE.words]
+            self.assertEqual(unusable, call.span.counts["bad"])
+            for look in looks.Look:
+                if look not in (looks.Look.BAD, looks.Look.PAUSE):
+                    self.assertEqual(seen[look.words], call.span.counts[look.name.lower()])
+            self.assertIn(call.span.cause, texts)
+            shifts = sum(made.shift != 0 for made in call.made)
+            self.assertEqual(sum(title.startswith(f"call {call.number}, period ") for title in titles), shifts)
         for bridge in run.bridges:
             a, b = bridge.calls
             self.assertEqual(sum(title.startswith(f"bridge of {a} and {b} from {bridge.start} ") for title in titles), 2)
         told = "\n".join(titles)
         for order in run.orders:
             self.assertIn(order.told(), told)
+            self.assertTrue(any(text.endswith(order.told()) for text in texts))
         self.assert_inside(root)
 
     def assert_inside(self, root):
@@ -174,6 +226,83 @@ class Pictures(InFolder):
         self.assertEqual((status, out, err), (0, "timeline calls 1 from 5 to 5 bridges 0 shifts 0 refused 0\n", ""))
         self.assertIn("fault up, up failed, pcm failed", (self.folder / "run.svg").read_text())
 
+        # The same once more, over the picture that is there: the call has no line that could be an input.
+        self.assertEqual(self.run_tool(timeline.main, self.folder, self.folder / "run.svg")[0], 0)
+
+    def drawn(self, *words):
+        status, out, err = self.run_tool(timeline.main, self.folder, self.folder / "run.svg", *words)
+        self.assertEqual((status, err), (0, ""))
+        root = ElementTree.parse(self.folder / "run.svg").getroot()
+        return out, [title.text for title in root.iter(f"{SVG}title")], [text.text for text in root.iter(f"{SVG}text")]
+
+    def test_some_calls(self):
+        out, titles, texts = self.drawn("--calls", "1,3")
+        self.assertEqual(out, "timeline calls 2 from 0 to 153 bridges 1 shifts 8 refused 1\n")
+        self.assertIn("call 3", texts)
+        self.assertNotIn("call 2", texts)
+        self.assertTrue(any("bridge of 1 and 3 from 120" in title for title in titles))
+        self.assertFalse(any("bridge of 2 and 4" in title for title in titles))
+        # A bridge with a call that isn't drawn is a bar all the same.
+        out, titles, texts = self.drawn("--calls", "2")
+        self.assertEqual(sum("bridge of 2 and 4" in title for title in titles), 1)
+        self.assertIn("bridge with call 4", texts)
+
+    def test_some_periods(self):
+        out, titles, texts = self.drawn("--from", "50", "--to", "110")
+        spans = [re.match(r"call \d (?:downlink )?from (\d+) to (\d+) ", title) for title in titles]
+        spans = [(int(found[1]), int(found[2])) for found in spans if found]
+        self.assertEqual((min(start for start, _ in spans), max(end for _, end in spans)), (50, 110))
+        self.assertIn("4 calls, 2 bridges, periods from 50 to 110 (1.00 s to 2.20 s)", texts)
+        self.assertIn("closed", texts)  # call 2
+        self.assertNotIn("period 0 (0.00 s), order 1: open 1", texts)
+        self.assertIn("period 100 (2.00 s), order 13: close 2", texts)
+        out, _, _ = self.drawn("--from", "101")
+        self.assertEqual(out, "timeline calls 2 from 0 to 153 bridges 2 shifts 8 refused 1\n")
+
+    def test_downlinks(self):
+        _, titles, _ = self.drawn()
+        self.assertIn("call 2 downlink from 23 to 96 (0.46 s to 1.92 s): downlink: handed over in a bridge, 73 periods", titles)
+        self.assertIn("call 3 downlink from 74 to 77 (1.48 s to 1.54 s): downlink: idle, 3 periods", titles)
+        self.assertTrue(any("downlink: silence descriptor" in title for title in titles))
+        for side in ("Out", "Pcm"):
+            self.assertIn(f"call 2: level of {side}", titles)
+        for line in [*self.folder.glob("*.down"), *self.folder.glob("*.out"), *self.folder.glob("*.pcm")]:
+            line.unlink()
+        _, titles, _ = self.drawn()
+        self.assertFalse(any("downlink from" in title or "level of" in title for title in titles))
+
+    def test_shifts_that_wait(self):
+        _, titles, _ = self.drawn()
+        asked = [title for title in titles if "which waits until after it" in title]
+        self.assertEqual(len(asked), 8)
+        told = "call 3, from period 124 (2.48 s) on: 1 frame in a bridge asked for +132 octets, which waits until after it"
+        self.assertIn(told, asked)
+
+    def test_page(self):
+        status, _, err = self.run_tool(timeline.main, self.folder, self.folder / "run.html")
+        self.assertEqual((status, err), (0, ""))
+        page = (self.folder / "run.html").read_text()
+        self.drawn()
+        self.assertIn((self.folder / "run.svg").read_text(), page)
+        self.assertNotRegex(page.replace("http://www.w3.org/2000/svg", ""), "https?:|src=|href=|@import|url\\((?!#)")
+
+    @unittest.skipUnless(CHROMIUM, "no program chromium")
+    def test_page_zooms(self):
+        self.run_tool(timeline.main, self.folder, self.folder / "run.html")
+        page = (self.folder / "run.html").read_text()
+        self.path("zoomed.html", page.replace("</body>", ZOOMING + "</body>").encode())
+        words = [CHROMIUM, "--headless", "--no-sandbox", "--disable-gpu", f"--user-data-dir={self.folder / 'chromium'}"]
+        ran = subprocess.run(
+            [*words, "--dump-dom", (self.folder / "zoomed.html").as_uri()], stdout=subprocess.PIPE, stderr=subprocess.DEVNULL
+        )
+        boxes = re.search("<title>seen (.*?)</title>", ran.stdout.decode())[1].split(" | ")
+        before, near, moved, whole = ([float(each) for each in box.split(" ")] for box in boxes)
+        self.assertAlmostEqual(near[2], before[2] / 1.25, places=1)
+        self.assertEqual((moved[1:], moved[0] > near[0]), (near[1:], True))
+        self.assertEqual(whole[:2], [0, 0])
+        root = ElementTree.fromstring(re.search("<svg.*</svg>", page, re.S)[0])
+        self.assertEqual(whole[2:], [float(root.get("width")), float(root.get("height"))])
+
     def refused(self, part, *words):
         self.assert_refused(timeline.main, [self.folder, self.folder / "run.svg", *words], part)
 
@@ -187,26 +316,28 @@ class Pictures(InFolder):
 
     def test_refused_texts(self):
         for name, old, new, part in (
-            ("report.txt", b"good 61", b"good 60", "2.up: gives good 61, and the report has 60"),
+            ("report.txt", b"good 61 sid 3", b"good 60 sid 4", "2.up: gives good 61, and the report has 60"),
             ("report.txt", b"made 55", b"made 54", "3.up: gives made 55, and the report has 54"),
-            ("report.txt", b"from 0 to 153", b"from 0 to 154", "1.up: has 6120 octets, fewer than 154 periods need"),
+            ("report.txt", b"from 0 to 153", b"from 0 to 154", "isn't one of a report there"),
             ("report.txt", b"order 5 ok", b"order 6 ok", "line 5 isn't one of a report"),
             ("report.txt", b"order 5 ok", b"order 5 refused 8 call 3", "line 5 isn't one of a report"),
             ("report.txt", b"order 1 ok", b"\xff", "line 1 isn't one of a report"),
-            ("report.txt", b"bridge 1 3", b"bridge 1 5", "has a bridge that isn't within its calls"),
-            ("report.txt", b"from 120 to 131", b"from 120 to 132", "has a bridge that isn't within its calls"),
+            ("report.txt", b"bridge 1 3", b"bridge 1 5", "has a bridge of call 5, and no such call"),
+            ("report.txt", b"from 120 to 131", b"from 120 to 132", "isn't one of a report there"),
             ("report.txt", b"counts 4", b"counts 5", "isn't one of a report"),
             ("report.txt", b"end period", b"end of period", "isn't one of a report"),
-            ("report.txt", b"left 0\n", b"left 0\norder 19 ok\n", "line 30 isn't one of a report"),
-            ("report.txt", b"left 0\n", b"left 1\n", "orders.txt: has 18 orders, and the report speaks of 19"),
-            ("orders.txt", b"73 open 3", b"74 open 3", "open other calls"),
+            ("report.txt", b"left 0\n", b"left 0\norder 19 ok\n", "isn't a whole report"),
+            ("report.txt", b"left 0\n", b"left 1\n", "speaks of 18 orders and 1 left"),
+            ("orders.txt", b"20 open 4", b"19 open 4", "other calls than these orders"),
             ("orders.txt", b"73 open 3", b"x open 3", "line 11 isn't an order"),
-            ("orders.txt", b"0 open 1\n", b"", "has 17 orders, and the report speaks of 18"),
+            ("orders.txt", b"0 open 1\n", b"", "these orders to period 4294967295 give 17 and 0"),
         ):
             with self.subTest(new):
                 undo = self.changed(name, old, new)
-                self.refused(part)
-                undo()
+                try:
+                    self.refused(part)
+                finally:
+                    undo()
 
     def test_refused_files(self):
         (self.folder / "3.up").write_bytes((self.folder / "3.up").read_bytes()[40:])
@@ -220,8 +351,17 @@ class Pictures(InFolder):
         self.path("report.txt", b"")
         self.refused("isn't a whole report")
         self.refused("isn't 200 to", "--width", "5")
+        for calls in ("0", "1025", "3-2", "x", "1,", ""):
+            self.refused("isn't a call A or calls A-B", "--calls", calls)
+        self.refused("invalid choice", "--rows", "wide")
         self.refused("--width", "--width", "wide")
         self.assert_refused(timeline.main, [self.folder / "gone", self.folder / "run.svg"], "No such file")
+
+    def test_refused_parts(self):
+        self.refused("report.txt: has no call 5", "--calls", "1-7")
+        self.refused("there are no periods from 9 to 9", "--from", "9", "--to", "9")
+        self.refused("no call is open from 200 to 300", "--from", "200", "--to", "300")
+        self.refused("isn't 0 to 4,294,967,295", "--from", "-1")
 
     def test_never_an_input(self):
         for name in ("1.up", "orders.txt", "report.txt"):

@@ -1,0 +1,435 @@
+"""Speech in captures of network packets: RTP (RFC 3550, RFC 3551) with full rate speech, A-law or mu-law to the lines of a call,
+and lines to captures that others play.
+
+The library dpkt reads and writes the files of captures and their packets; without it, what is here is refused with a word.
+"""
+
+from __future__ import annotations
+
+import importlib
+import io
+import ipaddress
+from dataclasses import dataclass
+from pathlib import Path
+from typing import Any, Dict, Iterable, Iterator, List, NamedTuple, Optional, Sequence, Tuple, Union
+
+import run_lines
+import trau_frames
+from run_lines import Heard
+from trau_frames import GSM_OCTETS, IDLE_OCTET, PCM_OCTETS, PERIODS_A_SECOND, Parameters, Refusal, Sort, SpeechControl
+
+PCMU, GSM, PCMA = 0, 3, 8
+NAMES = {PCMU: "pcmu", GSM: "gsm", PCMA: "pcma"}
+RTCP_KINDS = range(72, 77)
+SAMPLES_A_SECOND = 8000
+FRAME_SAMPLES = 160
+SEQUENCES, STAMPS = 1 << 16, 1 << 32
+LONGEST_GAP = 3600 * SAMPLES_A_SECOND
+
+
+def library(part: str) -> Any:
+    """A part of the library dpkt."""
+    try:
+        return importlib.import_module(f"dpkt.{part}")
+    except ImportError:
+        raise Refusal(
+            "captures need the library dpkt; apt-get install python3-dpkt, or pip install dpkt, brings it"
+        ) from None
+
+
+# Packets of a capture
+
+
+class Packet(NamedTuple):
+    """An RTP packet: its number in the capture, from 1 as other programs count, what it says, and when it was captured."""
+
+    number: int
+    kind: int
+    sequence: int
+    stamp: int
+    payload: bytes
+    time: float
+
+
+class Flow(NamedTuple):
+    """Where the packets of a stream go from and to, and their source's name."""
+
+    source: str
+    target: str
+    name: int
+
+    def said(self) -> str:
+        """The flow in words."""
+        return f"{self.source} to {self.target} ssrc 0x{self.name:08x}"
+
+
+# How packets begin, by the capture's kind of link.
+LINKS = {
+    0: ("loopback", "Loopback"),
+    1: ("ethernet", "Ethernet"),
+    12: ("ip", "IP"),
+    101: ("ip", "IP"),
+    113: ("sll", "SLL"),
+    276: ("sll2", "SLL2"),
+}
+
+
+def datagrams(name: Path, content: bytes) -> Iterator[Tuple[int, float, Any, Any]]:
+    """The datagrams of a capture, each with its number, its time, its IP packet and its UDP packet."""
+    ip, ip6, udp, errors = library("ip").IP, library("ip6").IP6, library("udp").UDP, library("dpkt")
+    try:
+        reader = library("pcap").UniversalReader(io.BytesIO(content))
+        link = reader.datalink()
+        if link not in LINKS:
+            raise Refusal(f"{name}: has a kind of link, {link}, that isn't known here")
+        module, kind = LINKS[link]
+        unpack = getattr(library(module), kind)
+        for number, (time, octets) in enumerate(reader, 1):
+            try:
+                packet = unpack(octets)
+            except errors.UnpackError:
+                continue
+            outer = packet if isinstance(packet, ip) else packet.data
+            if isinstance(outer, (ip, ip6)) and isinstance(outer.data, udp):
+                yield number, float(time), outer, outer.data
+    except (errors.Error, ValueError) as failure:
+        raise Refusal(f"{name}: isn't a capture: {str(failure)[:80]}") from None
+
+
+def payload_of(rtp: Any) -> bytes:
+    """The payload of an RTP packet, without the extension of its head and without padding."""
+    payload = bytes(rtp.data)
+    if rtp.x:
+        payload = payload[4 + 4 * int.from_bytes(payload[2:4], "big") :]
+    return payload[: len(payload) - payload[-1]] if rtp.p and payload else payload
+
+
+def address(octets: bytes, port: int) -> str:
+    """An address with its port, in words."""
+    read = ipaddress.ip_address(octets)
+    return f"[{read}]:{port}" if read.version == 6 else f"{read}:{port}"
+
+
+def streams_of(name: Path, content: bytes) -> Dict[Flow, List[Packet]]:
+    """The RTP packets of a capture by their flows, in their order; flows without speech of the three kinds are left out."""
+    rtp_kind, errors = library("rtp").RTP, library("dpkt")
+    streams: Dict[Flow, List[Packet]] = {}
+    for number, time, outer, datagram in datagrams(name, content):
+        try:
+            rtp = rtp_kind(bytes(datagram.data))
+        except errors.UnpackError:
+            continue
+        if rtp.version != 2 or rtp.pt in RTCP_KINDS:
+            continue
+        if len(datagram.data) < datagram.ulen - 8 and rtp.pt in NAMES:
+            raise Refusal(f"{name}: packet {number} wasn't captured whole")
+        flow = Flow(address(outer.src, datagram.sport), address(outer.dst, datagram.dport), rtp.ssrc)
+        streams.setdefault(flow, []).append(Packet(number, rtp.pt, rtp.seq, rtp.ts, payload_of(rtp), time))
+    return {flow: packets for flow, packets in streams.items() if any(packet.kind in NAMES for packet in packets)}
+
+
+def kinds_said(packets: Sequence[Packet]) -> str:
+    """The kinds of speech of a stream, in words."""
+    return " and ".join(NAMES[kind] for kind in sorted({packet.kind for packet in packets} & NAMES.keys()))
+
+
+def kind_of(packets: Sequence[Packet]) -> int:
+    """The kind of speech of a stream."""
+    kinds = sorted({packet.kind for packet in packets} & NAMES.keys())
+    if len(kinds) > 1:
+        raise Refusal(f"this stream has speech of several kinds: {kinds_said(packets)}")
+    return kinds[0]
+
+
+def listed(streams: Dict[Flow, List[Packet]]) -> str:
+    """The streams of a capture, in words."""
+    return "; ".join(
+        f"{place} is {flow.said()}, packets {len(packets)}, {kinds_said(packets)}"
+        for place, (flow, packets) in enumerate(streams.items(), 1)
+    )
+
+
+def chosen(name: Path, streams: Dict[Flow, List[Packet]], option: str, number: Optional[int]) -> List[Packet]:
+    """The packets of the stream with the number that an option gives, counted from 1, or of the only one."""
+    if not streams:
+        raise Refusal(f"{name}: has no RTP stream with GSM, PCMA or PCMU")
+    if number is None and len(streams) == 1:
+        number = 1
+    if number is None or not 1 <= number <= len(streams):
+        raise Refusal(f"{name}: has {len(streams)} streams, one of which {option} names: {listed(streams)}")
+    return list(streams.values())[number - 1]
+
+
+def periods_between(name: Path, since: Sequence[Packet], packets: Sequence[Packet]) -> int:
+    """How many periods a stream begins later in its capture than another."""
+    passed = packets[0].time - since[0].time
+    if passed < 0:
+        raise Refusal(f"{name}: the stream begins {-passed:.2f} s before that of --since")
+    return round(passed * PERIODS_A_SECOND)
+
+
+# A stream in the order of its time stamps
+
+
+@dataclass
+class Counts:
+    """What was told by the numbers of packets."""
+
+    packets: int = 0
+    late: int = 0
+    doubled: int = 0
+    others: int = 0
+
+
+class Lost(NamedTuple):
+    """So many units that were sent and didn't come."""
+
+    units: int
+
+
+class Paused(NamedTuple):
+    """So many units in which nothing was sent."""
+
+    units: int
+
+
+# A stretch of a stream: units that came, or none. A unit is a frame of GSM, or a sample.
+Stretch = Union[List[Any], Lost, Paused]
+
+
+def near(value: int, before: int, size: int) -> int:
+    """The number with this remainder by `size` that is nearest to another."""
+    return before + (value - before + size // 2) % size - size // 2
+
+
+def in_order(packets: Sequence[Packet], counts: Counts) -> List[Packet]:
+    """The packets by their numbers, which are counted on where they begin anew; each number once."""
+    found: Dict[int, Packet] = {}
+    newest = packets[0].sequence
+    stamp = packets[0].stamp
+    for packet in packets:
+        sequence, stamp = near(packet.sequence, newest, SEQUENCES), near(packet.stamp, stamp, STAMPS)
+        counts.packets += 1
+        if sequence in found:
+            counts.doubled += 1
+            continue
+        counts.late += sequence < newest
+        newest = max(newest, sequence)
+        found[sequence] = packet._replace(sequence=sequence, stamp=stamp)
+    return [found[sequence] for sequence in sorted(found)]
+
+
+def units_of(name: Path, packet: Packet, kind: int) -> List[Any]:
+    """The units of a packet: frames of GSM, or octets of which each is a sample; none of a packet of another kind."""
+    if packet.kind != kind:
+        return []
+    if kind != GSM:
+        return list(packet.payload)
+    frames = [packet.payload[place : place + GSM_OCTETS] for place in range(0, len(packet.payload), GSM_OCTETS)]
+    if any(len(frame) != GSM_OCTETS or frame[0] >> 4 != trau_frames.GSM_MAGIC for frame in frames):
+        raise Refusal(f"{name}: packet {packet.number} has no whole frames of GSM")
+    return frames
+
+
+def gap(name: Path, missing: int, units: int, size: int, packet: Packet) -> Iterator[Stretch]:
+    """The stretches between two packets: first what the missing packets held, if they were like the one before."""
+    if units * size > LONGEST_GAP:
+        raise Refusal(
+            f"{name}: the time stamp of packet {packet.number} is {units * size / SAMPLES_A_SECOND:.0f} s behind"
+        )
+    lost = max(0, min(units, missing))
+    if lost:
+        yield Lost(lost)
+    if units > lost:
+        yield Paused(units - lost)
+
+
+def stretches(name: Path, packets: Sequence[Packet], kind: int, counts: Counts) -> Iterator[Stretch]:
+    """A stream from its first packet with speech on. Units that overlap with those before are left out."""
+    size = FRAME_SAMPLES if kind == GSM else 1
+    first: Optional[int] = None
+    place, length, missing = 0, 0, 0
+    following = 0
+    for packet in in_order(packets, counts):
+        units = units_of(name, packet, kind)
+        missing += packet.sequence - following
+        following = packet.sequence + 1
+        if not units:
+            counts.others += 1
+            continue
+        if first is None:
+            first, missing = packet.stamp, 0
+        begin = round((packet.stamp - first) / size)
+        yield from gap(name, missing * length, begin - place, size, packet)
+        if begin + len(units) > place:
+            yield units[max(0, place - begin) :]
+        place, length, missing = max(place, begin + len(units)), len(units), 0
+
+
+# To lines
+
+IDLE_UPLINK = trau_frames.octets_of(trau_frames.frame_of(trau_frames.IDLE_UP + "000000" + 10 * "1", 260 * "1"))
+LOST_UPLINK = trau_frames.octets_of(trau_frames.frame_of(SpeechControl(bad=True).bits(), trau_frames.SILENCE.bits()))
+
+
+def expand_mu_law(octet: int) -> int:
+    """The sample, of 16 bits, of a mu-law octet (G.711)."""
+    plain = octet ^ 0xFF
+    magnitude = (((plain & 15) << 3) + 132 << (plain >> 4 & 7)) - 132
+    return -magnitude if plain & 0x80 else magnitude
+
+
+def alaw_by_mu_law() -> bytes:
+    """The A-law octet of each mu-law octet, by the sample that it stands for."""
+    octets = trau_frames.octets_by_sample()
+    return bytes(octets[expand_mu_law(octet) % 65536] for octet in range(256))
+
+
+def uplink_of(found: Iterable[Stretch]) -> bytes:
+    """An uplink: good speech frames, unusable ones for those that were lost, and idle ones where nothing was sent."""
+    frames: List[bytes] = []
+    control = SpeechControl().bits()
+    for stretch in found:
+        if isinstance(stretch, Lost):
+            frames.append(stretch.units * LOST_UPLINK)
+        elif isinstance(stretch, Paused):
+            frames.append(stretch.units * IDLE_UPLINK)
+        else:
+            data = (trau_frames.data_of_gsm(frame) for frame in stretch)
+            frames += [trau_frames.octets_of(trau_frames.frame_of(control, bits)) for bits in data]
+    return b"".join(frames)
+
+
+def pcm_of(found: Iterable[Stretch], alaw: bytes) -> bytes:
+    """A Pcm line, as far as it goes: of each octet the one of A-law by a table, and idle ones where none came."""
+    octets: List[bytes] = []
+    for stretch in found:
+        if isinstance(stretch, (Lost, Paused)):
+            octets.append(stretch.units * bytes([IDLE_OCTET]))
+        else:
+            octets.append(bytes(stretch).translate(alaw))
+    return b"".join(octets)
+
+
+def total(found: Sequence[Stretch], kind: type) -> int:
+    """How many units the stretches of a kind have."""
+    return sum(len(each) if isinstance(each, list) else each.units for each in found if isinstance(each, kind))
+
+
+def line_of(name: Path, content: bytes, number: Optional[int], since: Optional[int]) -> Tuple[bytes, str]:
+    """A line of a capture's stream, an uplink of GSM and a Pcm line of the others, from the beginning of another stream on if
+    one is given; and what was found."""
+    streams = streams_of(name, content)
+    packets = chosen(name, streams, "--stream", number)
+    lead = 0 if since is None else periods_between(name, chosen(name, streams, "--since", since), packets)
+    kind = kind_of(packets)
+    counts = Counts()
+    found = list(stretches(name, packets, kind, counts))
+    said = (
+        f"pcap {NAMES[kind]} packets {counts.packets} late {counts.late} doubled {counts.doubled} others {counts.others}"
+        f" {'frames' if kind == GSM else 'octets'} {total(found, list)} lost {total(found, Lost)} paused {total(found, Paused)}"
+        f" lead {lead}"
+    )
+    if kind == GSM:
+        return lead * IDLE_UPLINK + uplink_of(found), said
+    idle = bytes([IDLE_OCTET])
+    line = lead * PCM_OCTETS * idle + pcm_of(found, alaw_by_mu_law() if kind == PCMU else bytes(range(256)))
+    padded = -len(line) % PCM_OCTETS
+    return line + padded * idle, f"{said} padded {padded}"
+
+
+# From lines
+
+
+class Sound(NamedTuple):
+    """What is sent at a time, in samples from the line's start: a payload, or None for one that is lost."""
+
+    stamp: int
+    payload: Optional[bytes]
+
+
+def sounds_of_uplink(octets: bytes) -> Iterator[Sound]:
+    """What an uplink gives: good frames; lost ones; comfort noise in pauses; nothing elsewhere."""
+    yields = run_lines.yields_of(octets)
+    sorts = [run_lines.sort_of(each) for each in yields]
+    source = trau_frames.RandomSource(1)
+    descriptor = trau_frames.SILENCE
+    for period, (each, sort, value) in enumerate(zip(yields, sorts, run_lines.heard(sorts))):
+        stamp = period * FRAME_SAMPLES
+        if sort is Sort.SID:
+            descriptor = Parameters.read(trau_frames.data_of(each.frame))
+        if value is Heard.SPEECH:
+            yield Sound(stamp, trau_frames.gsm_of_data(trau_frames.data_of(each.frame)))
+        elif value is Heard.NOISE:
+            yield Sound(stamp, trau_frames.gsm_of_data(trau_frames.noise(descriptor, source).bits()))
+        elif value is Heard.LOST:
+            yield Sound(stamp, None)
+
+
+def sounds_of_downlink(octets: bytes) -> Iterator[Sound]:
+    """What a downlink gives, at the time of each frame: speech, comfort noise for silence descriptors, nothing for idle ones."""
+    source = trau_frames.RandomSource(1)
+    bits = trau_frames.bits_of(octets)
+    for found in trau_frames.FRAME_OF_DOWNLINK.finditer(bits):
+        control, data = trau_frames.control_of(found.group()), trau_frames.data_of(found.group())
+        if control.startswith(trau_frames.SPEECH_DOWN):
+            if control[15] == "0":
+                data = trau_frames.noise(Parameters.read(data), source).bits()
+            # Two bits of the line are the time of a sample.
+            yield Sound(found.start() // 2, trau_frames.gsm_of_data(data))
+
+
+def sounds_of_alaw(octets: bytes) -> Iterator[Sound]:
+    """What a line of A-law gives."""
+    for place in range(0, len(octets), PCM_OCTETS):
+        yield Sound(place, octets[place : place + PCM_OCTETS])
+
+
+SOUNDS = {
+    "up": (GSM, sounds_of_uplink),
+    "down": (GSM, sounds_of_downlink),
+    "pcm": (PCMA, sounds_of_alaw),
+    "out": (PCMA, sounds_of_alaw),
+}
+FIRST_PORT = 5004  # that of RTP, by which other programs know it
+
+
+def datagram_of(stream: int, kind: int, sequence: int, marked: bool, sound: Sound) -> bytes:
+    """The Ethernet frame of a packet of a stream."""
+    rtp = library("rtp").RTP(seq=sequence % SEQUENCES, ts=sound.stamp % STAMPS, ssrc=stream, data=sound.payload)
+    rtp.version, rtp.pt, rtp.m = 2, kind, marked
+    udp = library("udp").UDP(sport=FIRST_PORT + 2 * stream, dport=FIRST_PORT, data=bytes(rtp))
+    udp.ulen = len(udp)
+    packet = library("ip").IP(src=bytes([10, 0, 0, stream]), dst=bytes([10, 0, 1, stream]), p=17, ttl=64, data=udp)
+    packet.len = len(packet)
+    return bytes(
+        library("ethernet").Ethernet(src=bytes([2, 0, 0, 0, 0, 1]), dst=bytes([2, 0, 0, 0, 0, 2]), data=packet)
+    )
+
+
+def packets_of(stream: int, kind: int, sounds: Iterable[Sound]) -> Iterator[Tuple[float, bytes]]:
+    """The packets of a stream with their times. A lost one takes a number; the first one behind a gap is marked."""
+    following: Optional[int] = None
+    for sequence, sound in enumerate(sounds):
+        if sound.payload is not None:
+            marked = following is None or sound.stamp > following + FRAME_SAMPLES // 2
+            yield sound.stamp / SAMPLES_A_SECOND, datagram_of(stream, kind, sequence, marked, sound)
+        following = sound.stamp + FRAME_SAMPLES
+
+
+def capture_of(lines: Sequence[Tuple[Path, bytes]]) -> Tuple[bytes, str]:
+    """A capture of the lines, each a stream; and what it has."""
+    packets: List[Tuple[float, bytes]] = []
+    for stream, (name, octets) in enumerate(lines, 1):
+        side = name.suffix[1:]
+        if side not in SOUNDS:
+            raise Refusal(f"{name}: the name of a line ends with .up, .down, .pcm or .out")
+        kind, sounds = SOUNDS[side]
+        packets += packets_of(stream, kind, sounds(octets))
+    if not packets:
+        raise Refusal(f"{lines[0][0]}: gives no speech to send")
+    file = io.BytesIO()
+    writer = library("pcap").Writer(file, snaplen=65535)
+    for time, octets in sorted(packets, key=lambda packet: packet[0]):
+        writer.writepkt(octets, ts=time)
+    return file.getvalue(), f"capture streams {len(lines)} packets {len(packets)}"

@@ -1,0 +1,118 @@
+"""How the periods of a call look in a picture: what they are called, and their colours, of a palette that colour-blind people
+tell apart; and columns of periods, where these are narrower than can be drawn."""
+
+from __future__ import annotations
+
+import enum
+from collections import Counter
+from itertools import groupby
+from typing import Any, Iterator, List, NamedTuple, Optional, Sequence
+
+from run_lines import Call, Sent, sent
+from trau_frames import FRAME_BITS, Sort
+
+
+class Look(enum.Enum):
+    """What a period of an uplink yields. Those that stand later hide those before in a column."""
+
+    GOOD = ("good speech", "#0072B2")
+    PAUSE = ("pause: unusable after a descriptor", "#CFE9F8")
+    SID = ("silence descriptor", "#56B4E9")
+    IDLE = ("idle", "#9E9E9E")
+    OTHER = ("other kind of frame", "#F0E442")
+    NONE = ("nothing yielded", "url(#nothing)")
+    INVALID = ("invalid silence descriptor", "#AA3377")
+    MISS = ("missed: no frame where one is due", "#1A1A1A")
+    BAD = ("lost: unusable elsewhere", "#D55E00")
+
+    def __init__(self, words: str, colour: str) -> None:
+        self.words = words
+        self.colour = colour
+
+
+class DownLook(enum.Enum):
+    """What begins in a period of a downlink. Those that stand later hide those before in a column."""
+
+    SPEECH = ("downlink: speech", "#3C9BD1")
+    HANDED = ("downlink: handed over in a bridge", "#009E73")
+    SILENCE = ("downlink: silence descriptor", "#B9D9EC")
+    IDLE = ("downlink: idle", "#BDBDBD")
+    OTHER = ("downlink: another frame", "#F0E442")
+
+    def __init__(self, words: str, colour: str) -> None:
+        self.words = words
+        self.colour = colour
+
+
+def looks(sorts: Sequence[Sort]) -> Iterator[Look]:
+    """How the periods of an uplink look. An unusable frame after a silence descriptor is a pause, in which none is sent."""
+    pausing = False
+    for sort in sorts:
+        if sort in (Sort.GOOD, Sort.SID, Sort.IDLE):
+            pausing = sort is Sort.SID
+        yield Look.PAUSE if pausing and sort is Sort.BAD else Look[sort.name]
+
+
+DOWN_LOOKS = {
+    Sent.SPEECH: DownLook.SPEECH,
+    Sent.SILENCE: DownLook.SILENCE,
+    Sent.IDLE: DownLook.IDLE,
+    Sent.HANDED: DownLook.HANDED,
+    Sent.OTHER: DownLook.OTHER,
+}
+
+
+def down_looks(call: Call, bits: str) -> List[Optional[DownLook]]:
+    """How the periods of a downlink look, by the last frame that begins in each; None where none does."""
+    periods: List[Optional[DownLook]] = [None] * call.periods()
+    for made in call.made:
+        period, kind = made.place() // FRAME_BITS, sent(made, bits)
+        if period < len(periods) and kind is not None:
+            periods[period] = DOWN_LOOKS[kind]
+    return periods
+
+
+class Stretch(NamedTuple):
+    """Periods in a row that are drawn alike: their first, the one after the last, the look, and how many have which look."""
+
+    start: int
+    end: int
+    look: Any
+    counts: Counter
+
+    def said(self) -> str:
+        """What the periods are, in words."""
+        if len(self.counts) == 1:
+            return f"{self.look.words}, {self.end - self.start} period{'' if self.end - self.start == 1 else 's'}"
+        return "; ".join(f"{look.words}, {self.counts[look]}" for look in type(self.look) if self.counts[look])
+
+
+def columns(values: Sequence[Any], kinds: Any, size: int) -> Iterator[Stretch]:
+    """Stretches of columns of so many periods each. A column has the look that stands last among those of its periods."""
+    gravest = {look: place for place, look in enumerate(kinds)}
+    starts = range(0, len(values), size)
+    heads = [max(values[start : start + size], key=lambda look: gravest.get(look, -1)) for start in starts]
+    place = 0
+    for look, run in groupby(heads):
+        end = min(len(values), place + size * sum(1 for _ in run))
+        if look is not None:
+            yield Stretch(place, end, look, Counter(value for value in values[place:end] if value is not None))
+        place = end
+
+
+def order_of_rows(numbers: Sequence[int], pairs: Sequence[Sequence[int]]) -> List[int]:
+    """The calls in the order of their rows: each partner of a bridge, in the order of the bridges, next to its call if it can."""
+    partners = {number: [] for number in numbers}
+    for a, b in pairs:
+        if a in partners and b in partners:
+            partners[a].append(b)
+            partners[b].append(a)
+    rows: List[int] = []
+    for number in sorted(numbers):
+        waiting = [number]
+        while waiting:
+            call = waiting.pop()
+            if call not in rows:
+                rows.append(call)
+                waiting += reversed(partners[call])
+    return rows

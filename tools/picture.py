@@ -1,0 +1,516 @@
+"""The picture of a run as SVG: a row for each call, with what its uplink and its downlink held, levels, bridges and shifts;
+the orders above, and their words below."""
+
+from __future__ import annotations
+
+import xml.etree.ElementTree as ElementTree
+from dataclasses import dataclass
+from itertools import groupby
+from typing import Callable, Dict, List, Optional, Sequence, Tuple
+
+import levels
+import looks
+import run_lines
+import trau_frames
+from looks import DownLook, Look, Stretch
+from run_lines import Answered, Call, Run
+from run_texts import Bridge
+from trau_frames import PERIODS_A_SECOND
+
+# Lengths are in pixels.
+LEFT, TOP, RIGHT = 130, 24, 24
+ORDERS = 34
+LEGEND_ROW = 22
+LETTER = 0.62  # the width of a letter, as a part of its size, on the safe side
+TICK_ROOM = 64
+LEAST_WIDTH = 900
+LEAST_COLUMN = 1.5
+LIST_ROW = 15
+MOST_LISTED = 3000
+BRIDGE_COLOURS = ("#3B3B98", "#8A4F1D", "#48606E", "#7B2D8B")
+INK, PALE, GRID, ALARM = "#222222", "#F4F4F4", "#DDDDDD", "#B00020"
+OUT_COLOUR, PCM_COLOUR = "#0072B2", "#D55E00"
+LOWEST_LEVEL = -60
+
+STYLE = """
+text { font-family: 'DejaVu Sans', Verdana, Arial, sans-serif; font-size: 12px; fill: #222222 }
+.head { font-size: 17px; font-weight: bold }
+.name { font-size: 13px; font-weight: bold }
+.small { font-size: 11px; fill: #555555 }
+.tiny { font-size: 10px }
+.alarm { fill: #B00020 }
+.white { fill: #FFFFFF; pointer-events: none }
+.halo { stroke: #FFFFFF; stroke-width: 3px; stroke-linejoin: round; paint-order: stroke }
+"""
+
+
+@dataclass(frozen=True)
+class Shape:
+    """The heights of the parts of a row, from its top: marks of shifts, uplink, downlink, levels, bridges."""
+
+    marks: int
+    band: int
+    down: int
+    level: int
+    bridge: int
+    space: int
+
+    def height(self) -> int:
+        """The height of a row."""
+        return self.marks + self.band + self.down + self.level + self.bridge + self.space
+
+
+FULL = Shape(marks=16, band=22, down=12, level=30, bridge=15, space=9)
+WITHOUT_LEVELS = Shape(marks=16, band=22, down=12, level=0, bridge=15, space=5)
+COMPACT = Shape(marks=9, band=10, down=7, level=0, bridge=5, space=2)
+
+
+def text_width(text: str, size: float) -> float:
+    """At most so wide is a text of letters of a size."""
+    return len(text) * size * LETTER
+
+
+def seconds(period: int) -> str:
+    """When a period begins."""
+    return f"{period / PERIODS_A_SECOND:.2f} s"
+
+
+def span(start: int, end: int) -> str:
+    """From the start of a period to that of another, in the manner of the report."""
+    return f"from {start} to {end} ({seconds(start)} to {seconds(end)})"
+
+
+def counted(number: int, what: str) -> str:
+    """A number of things."""
+    return f"{number} {what}{'' if number == 1 else 's'}"
+
+
+def signed(octets: int) -> str:
+    """A shift, with its sign."""
+    return f"{octets:+d}".replace("-", "\u2212")
+
+
+class Picture:
+    """A picture of a run from a period on to another, which is drawn from the back to the front."""
+
+    def __init__(
+        self, run: Run, width: int, shape: Shape, first: Optional[int] = None, last: Optional[int] = None
+    ) -> None:
+        self.run = run
+        self.shape = shape
+        self.first = run.start() if first is None else first
+        self.last = max(self.first + 1, run.end() if last is None else last)
+        self.scale = min(TICK_ROOM, width / (self.last - self.first))
+        self.column = max(1, round(LEAST_COLUMN / self.scale)) if self.scale < LEAST_COLUMN else 1
+        self.plot_right = self.x(self.last)
+        ends = [self.x(call.span.end) + 8 + text_width(self.end_words(call), 12) for call in run.calls]
+        self.width = max([LEAST_WIDTH, self.plot_right + 12, *ends]) + RIGHT
+        self.place_rows()
+        self.root = ElementTree.Element(
+            "svg",
+            {
+                "xmlns": "http://www.w3.org/2000/svg",
+                "width": f"{self.width:.0f}",
+                "height": f"{self.height:.0f}",
+                "viewBox": f"0 0 {self.width:.0f} {self.height:.0f}",
+            },
+        )
+
+    # Places
+
+    def place_rows(self) -> None:
+        """Places the parts of the picture below one another."""
+        entries = self.legend()
+        self.legend_step = max(text_width(words, 12) for words, _ in entries) + 46
+        self.legend_rows = -(-len(entries) // max(1, int((self.width - LEFT) // self.legend_step)))
+        self.legend_top = TOP + 34
+        self.orders_top = self.legend_top + self.legend_rows * LEGEND_ROW + 16
+        self.rows_top = self.orders_top + ORDERS
+        rows = looks.order_of_rows([call.number for call in self.run.calls], [each.calls for each in self.run.bridges])
+        self.rows: Dict[int, float] = {
+            number: self.rows_top + self.shape.height() * place for place, number in enumerate(rows)
+        }
+        self.axis = self.rows_top + self.shape.height() * len(rows)
+        self.list_top = self.axis + 62
+        listed = self.listed_orders()
+        self.list_step = max([text_width(words, 11) for words, _ in listed], default=0.0) + 24
+        across = max(1, int((self.width - LEFT) // self.list_step))
+        self.list_rows = -(-len(listed) // across)
+        self.height = self.list_top + (self.list_rows * LIST_ROW + 34 if listed else 0)
+
+    def x(self, period: float) -> float:
+        """Where a period begins, or the edge that is next to it."""
+        return LEFT + self.scale * (min(max(period, self.first), self.last) - self.first)
+
+    def shows(self, period: int) -> bool:
+        """Whether a period is within the picture."""
+        return self.first <= period < self.last
+
+    def band_top(self, call: int) -> float:
+        """Where the band of a call's uplink begins."""
+        return self.rows[call] + self.shape.marks
+
+    def down_top(self, call: int) -> float:
+        """Where the strip of a call's downlink begins."""
+        return self.band_top(call) + self.shape.band + 1
+
+    def level_top(self, call: int) -> float:
+        """Where the levels of a call's lines begin."""
+        return self.band_top(call) + self.shape.band + self.shape.down + 2
+
+    def bridge_top(self, call: int) -> float:
+        """Where the bars of a call's bridges begin."""
+        return self.band_top(call) + self.shape.band + self.shape.down + self.shape.level + 1
+
+    # Pieces
+
+    def add(self, name: str, title: str = "", text: str = "", **attributes: object) -> ElementTree.Element:
+        """Adds an element, whose tooltip is the title."""
+        values = {
+            key.replace("_", "-"): f"{value:.2f}".rstrip("0").rstrip(".") if isinstance(value, float) else str(value)
+            for key, value in attributes.items()
+        }
+        element = ElementTree.SubElement(self.root, name, values)
+        if title:
+            ElementTree.SubElement(element, "title").text = title
+        if text:
+            element.text = text
+        return element
+
+    def text(self, x: float, y: float, text: str, kind: str = "", anchor: str = "start") -> None:
+        attributes = {"class": kind} if kind else {}
+        self.add("text", text=text, x=float(x), y=float(y), text_anchor=anchor, **attributes)
+
+    def box(self, x: float, y: float, width: float, height: float, fill: str, title: str = "", **more: object) -> None:
+        self.add("rect", title, x=float(x), y=float(y), width=float(width), height=float(height), fill=fill, **more)
+
+    def line(self, x1: float, y1: float, x2: float, y2: float, stroke: str, width: float = 1, title: str = "") -> None:
+        places = {"x1": float(x1), "y1": float(y1), "x2": float(x2), "y2": float(y2)}
+        self.add("line", title, stroke=stroke, stroke_width=width, **places)
+
+    def triangle(self, x: float, y: float, title: str = "", filled: bool = True) -> None:
+        """The mark of a shift, which points down at a place; one that waits isn't filled."""
+        look = {"fill": INK} if filled else {"fill": "#FFFFFF", "stroke": INK, "stroke_width": 1}
+        self.add("path", title, d=f"M{x - 4:.2f} {y - 7:.2f}h8l-4 7z", **look)
+
+    def tick(self, x: float, y: float, title: str = "") -> None:
+        """The mark of orders, around a place."""
+        self.line(x, y - 6, x, y + 6, INK, 2, title)
+
+    def cross(self, x: float, y: float, title: str = "") -> None:
+        """The mark of orders with a refused one among them."""
+        shape = f"M{x - 5:.2f} {y - 5:.2f}l10 10m-10 0l10 -10"
+        self.add("path", title, d=shape, stroke=ALARM, stroke_width=2.5, fill="none")
+
+    # Layers
+
+    def draw(self) -> bytes:
+        """The picture's file."""
+        self.add("title", text="The periods of a run's calls")
+        self.add("style", text=STYLE)
+        self.draw_hatching()
+        self.box(0, 0, self.width, self.height, "#FFFFFF")
+        self.draw_head()
+        self.draw_legend()
+        self.draw_axis()
+        bridges = [
+            (bridge, BRIDGE_COLOURS[number % len(BRIDGE_COLOURS)])
+            for number, bridge in enumerate(self.run.bridges)
+            if bridge.start < self.last and bridge.end >= self.first
+        ]
+        for bridge, colour in bridges:
+            self.draw_link(bridge, colour)
+        for call in self.run.calls:
+            self.draw_call(call)
+        for bridge, colour in bridges:
+            self.draw_bridge(bridge, colour)
+        self.draw_orders()
+        self.draw_list()
+        ElementTree.indent(self.root, " ")
+        return ElementTree.tostring(self.root, "utf-8") + b"\n"
+
+    def draw_hatching(self) -> None:
+        """The pattern of periods that yield nothing."""
+        attributes = {"id": "nothing", "width": "5", "height": "5", "patternUnits": "userSpaceOnUse"}
+        pattern = ElementTree.SubElement(self.add("defs"), "pattern", attributes, patternTransform="rotate(45)")
+        ElementTree.SubElement(pattern, "rect", width="5", height="5", fill="#FFFFFF")
+        ElementTree.SubElement(pattern, "rect", width="1.4", height="5", fill="#777777")
+
+    def draw_head(self) -> None:
+        """What the picture shows, in words."""
+        calls, bridges = counted(len(self.run.calls), "call"), counted(len(self.run.bridges), "bridge")
+        self.text(LEFT, TOP + 10, f"{calls}, {bridges}, periods {span(self.first, self.last)}", "head")
+        if self.column > 1:
+            told = f"a column is {counted(self.column, 'period')}, and shows its gravest"
+            self.text(LEFT, TOP + 28, told, "small")
+
+    def legend(self) -> List[Tuple[str, Callable[[float, float], None]]]:
+        """What the legend says, and what draws a sample of it around a place."""
+
+        def swatch(look, height: int) -> Callable[[float, float], None]:
+            return lambda x, y: self.box(x - 13, y - height / 2, 26, height, look.colour, stroke=INK, stroke_width=0.75)
+
+        def bridge(x: float, y: float) -> None:
+            self.box(x - 13, y - 6, 26, 12, BRIDGE_COLOURS[0])
+
+        def shift(x: float, y: float) -> None:
+            self.triangle(x - 9, y + 4)
+            self.text(x - 3, y + 4, "+2", "tiny")
+
+        def waiting(x: float, y: float) -> None:
+            self.triangle(x - 9, y + 4, filled=False)
+
+        def orders(x: float, y: float) -> None:
+            self.tick(x - 9, y)
+            self.cross(x + 6, y)
+
+        def level(colour: str) -> Callable[[float, float], None]:
+            return lambda x, y: self.line(x - 13, y, x + 13, y, colour, 2)
+
+        entries = [(look.words, swatch(look, 14)) for look in Look] + [
+            (look.words, swatch(look, 8)) for look in DownLook
+        ]
+        if self.shape.level:
+            entries += [("level of Out", level(OUT_COLOUR)), ("level of Pcm", level(PCM_COLOUR))]
+        return entries + [
+            ("bridge, over its periods", bridge),
+            ("the downlink's timing shifts, in octets", shift),
+            ("a shift is asked for, and waits", waiting),
+            ("orders; a refused one among them", orders),
+        ]
+
+    def draw_legend(self) -> None:
+        """The legend, column after column."""
+        for number, (words, sample) in enumerate(self.legend()):
+            column, row = divmod(number, self.legend_rows)
+            x, y = LEFT + column * self.legend_step, self.legend_top + row * LEGEND_ROW
+            sample(x + 13, y + 7)
+            self.text(x + 34, y + 11, words)
+
+    def draw_axis(self) -> None:
+        """Grid, axis, and the tracks of the rows."""
+        for call in self.rows:
+            self.box(LEFT, self.band_top(call), self.plot_right - LEFT, self.shape.band, PALE)
+        step = self.tick_step()
+        for period in range(-(-self.first // step) * step, self.last + 1, step):
+            x = self.x(period)
+            self.line(x, self.orders_top, x, self.axis + 6, GRID)
+            self.line(x, self.axis, x, self.axis + 6, INK)
+            self.text(x, self.axis + 22, f"{period / PERIODS_A_SECOND:g}", "", "middle")
+            self.text(x, self.axis + 40, str(period), "small", "middle")
+        self.line(LEFT, self.axis, self.plot_right, self.axis, INK)
+        self.text(LEFT - 34, self.axis + 22, "seconds", "", "end")
+        self.text(LEFT - 34, self.axis + 40, "period", "small", "end")
+
+    def tick_step(self) -> int:
+        """The periods between two marks of the axis."""
+        step = 1
+        while True:
+            for times in (1, 2.5, 5):
+                if times * step == int(times * step) and times * step * self.scale >= TICK_ROOM:
+                    return int(times * step)
+            step *= 10
+
+    # Bridges
+
+    def draw_link(self, bridge: Bridge, colour: str) -> None:
+        """What ties the rows of a bridge's calls, behind the rows between them."""
+        if not all(call in self.rows for call in bridge.calls):
+            return
+        upper, lower = sorted(self.bridge_top(number) for number in bridge.calls)
+        left, right = self.x(bridge.start), self.x(bridge.end)
+        self.box(
+            left, upper + self.shape.bridge, right - left, lower - upper - self.shape.bridge, colour, fill_opacity=0.045
+        )
+        for x in (left, right):
+            self.line(x, upper, x, lower, colour, 1.5)
+
+    def draw_bridge(self, bridge: Bridge, colour: str) -> None:
+        """The bar of a bridge in the rows of its calls."""
+        left, right = self.x(bridge.start), self.x(bridge.end)
+        a, b = bridge.calls
+        title = (
+            f"bridge of {a} and {b} {span(bridge.start, bridge.end)}: {bridge.sent[0]} frames of {a} sent by {b},"
+            f" {bridge.sent[1]} of {b} by {a}; lost {bridge.lost[0]} and {bridge.lost[1]}"
+        )
+        for number, partner in (bridge.calls, bridge.calls[::-1]):
+            if number not in self.rows:
+                continue
+            top = self.bridge_top(number)
+            self.box(left, top, max(right - left, 2), self.shape.bridge - 3, colour, title)
+            if self.shape is not COMPACT:
+                fitting = (f"bridge with call {partner}", f"with {partner}", str(partner), "")
+                words = next(words for words in fitting if text_width(words, 10) + 6 <= right - left or not words)
+                self.text((left + right) / 2, top + 9.5, words, "tiny white", "middle")
+
+    # Calls
+
+    def end_words(self, call: Call) -> str:
+        """Why a call ended, and which of its lines failed; nothing where its end isn't in the picture."""
+        if not self.first <= call.span.end <= self.last:
+            return ""
+        return ", ".join([call.span.cause, *(f"{side} failed" for side in call.failed)])
+
+    def draw_call(self, call: Call) -> None:
+        """The row of a call."""
+        top = self.band_top(call.number)
+        left, right = self.x(call.span.start), self.x(call.span.end)
+        if self.shape is COMPACT:
+            self.text(LEFT - 14, top + 9, f"call {call.number}", "tiny", "end")
+        else:
+            self.text(LEFT - 34, top + 11, f"call {call.number}", "name", "end")
+            self.text(LEFT - 34, top + 26, f"{call.span.start} to {call.span.end}", "small", "end")
+        self.draw_band(call, list(looks.looks(call.sorts())), Look, top, self.shape.band, "")
+        self.draw_downlink(call)
+        if self.shape.level:
+            self.draw_levels(call)
+        frame = {"fill": "none", "stroke": INK, "stroke_width": 0.75, "pointer_events": "none"}
+        self.box(left, top, right - left, self.shape.band, **frame)
+        opening = f"call {call.number} opened at period {call.span.start} ({seconds(call.span.start)})"
+        ending = (
+            f"call {call.number} ended at period {call.span.end} ({seconds(call.span.end)}): {self.end_words(call)}"
+        )
+        for period, title in ((call.span.start, opening), (call.span.end, ending)):
+            if self.first <= period <= self.last:
+                self.line(self.x(period), top - 2, self.x(period), top + self.shape.band + 2, INK, 2, title)
+        if self.end_words(call):
+            size = "tiny halo" if self.shape is COMPACT else "halo"
+            self.add(
+                "text", ending, self.end_words(call), x=right + 8, y=top + self.shape.band / 2 + 4, **{"class": size}
+            )
+        self.draw_shifts(call, top)
+
+    def draw_band(self, call: Call, values: Sequence, kinds, top: float, height: float, what: str) -> None:
+        """The periods of a call by their looks."""
+        start = max(call.span.start, self.first)
+        shown = values[start - call.span.start : max(0, self.last - call.span.start)]
+        sharp = {"shape_rendering": "crispEdges"} if self.scale >= 1 else {}
+        stretch: Stretch
+        for stretch in looks.columns(shown, kinds, self.column):
+            left, right = start + stretch.start, start + stretch.end
+            title = f"call {call.number} {what}{span(left, right)}: {stretch.said()}"
+            self.box(self.x(left), top, self.scale * (right - left), height, stretch.look.colour, title, **sharp)
+
+    def draw_downlink(self, call: Call) -> None:
+        """The strip of a call's downlink, where there is the line."""
+        octets = self.octets(call, "down")
+        if octets:
+            values = looks.down_looks(call, trau_frames.bits_of(octets))
+            top = self.down_top(call.number)
+            self.draw_band(call, values, DownLook, top, self.shape.down - 3, "downlink ")
+
+    def octets(self, call: Call, side: str) -> bytes:
+        """The octets of a line, none where there is no such file."""
+        if not (self.run.folder / f"{call.number}.{side}").is_file():
+            return b""
+        return call.octets(self.run.folder, side)
+
+    def draw_levels(self, call: Call) -> None:
+        """The levels of a call's Pcm and Out line."""
+        top, height = self.level_top(call.number), self.shape.level - 4
+        drawn = [(side, colour, self.octets(call, side)) for side, colour in (("pcm", PCM_COLOUR), ("out", OUT_COLOUR))]
+        if not any(octets for _, _, octets in drawn):
+            return
+        for level in (0, LOWEST_LEVEL):
+            y = top + height * level / LOWEST_LEVEL
+            self.line(LEFT, y, self.plot_right, y, GRID, 0.75)
+            self.text(LEFT - 4, y + 4, f"{level} dBm0".replace("-", "\u2212"), "tiny", "end")
+        for side, colour, octets in drawn:
+            steps = self.level_steps(call, levels.levels(octets), top, height)
+            if steps:
+                title = f"call {call.number}: level of {side.capitalize()}"
+                self.add("path", title, d=steps, fill="none", stroke=colour, stroke_width=1.1)
+
+    def level_steps(self, call: Call, values: Sequence[float], top: float, height: float) -> str:
+        """The path of a line's levels, of each column the loudest period's."""
+        start = max(call.span.start, self.first)
+        shown = values[start - call.span.start : max(0, self.last - call.span.start)]
+        steps: List[str] = []
+        for place, head in enumerate(range(0, len(shown), self.column)):
+            level = min(0, max(LOWEST_LEVEL, *shown[head : head + self.column]))
+            y = top + height * level / LOWEST_LEVEL
+            left, right = self.x(start + head), self.x(start + min(head + self.column, len(shown)))
+            steps.append(f"M{left:.1f} {y:.1f}H{right:.1f}" if place == 0 else f"V{y:.1f}H{right:.1f}")
+        return "".join(steps)
+
+    def draw_shifts(self, call: Call, top: float) -> None:
+        """Marks of the shifts of a call's downlink, with their octets where there is room, and of those that wait."""
+        waiting = [asked for asked in run_lines.asked_while_frozen(call, self.run.bridges) if self.shows(asked.period)]
+        for asked in waiting:
+            title = (
+                f"call {call.number}, from period {asked.period} ({seconds(asked.period)}) on: {counted(asked.times, 'frame')}"
+                f" in a bridge asked for {asked.octets:+d} octets, which waits until after it"
+            )
+            self.triangle(self.mark_of(asked.period), top - 3, title, filled=False)
+        shifts = [(call.span.start + made.period(), made.shift) for made in call.made if made.shift]
+        marks = sorted(
+            {self.mark_of(period) for period, _ in shifts} | {self.mark_of(asked.period) for asked in waiting}
+        )
+        free = 0.0
+        for period, octets in shifts:
+            if self.shows(period):
+                free = self.draw_shift(call, top, period, octets, marks, free)
+
+    def mark_of(self, period: int) -> float:
+        """Where the mark of a period's shift points."""
+        return self.x(period) + self.scale / 2
+
+    def draw_shift(
+        self, call: Call, top: float, period: int, octets: int, marks: Sequence[float], free: float
+    ) -> float:
+        """The mark of a shift, its octets where no other mark or text is in the way, and where the room behind them begins."""
+        x = self.mark_of(period)
+        title = (
+            f"call {call.number}, period {period} ({seconds(period)}): the downlink's timing moves by"
+            f" {octets:+d} octets of the Pcm line ({octets / 8:+g} ms)"
+        )
+        self.triangle(x, top - 3, title)
+        end = x + 6 + text_width(signed(octets), 10)
+        following = next((mark for mark in marks if mark > x), float("inf"))
+        if self.shape is COMPACT or x < free or end + 4 > following:
+            return free
+        self.text(x + 6, top - 4, signed(octets), "tiny halo")
+        return end
+
+    # Orders
+
+    def shown_orders(self) -> List[Answered]:
+        """The orders within the picture, those at its end included."""
+        return [each for each in self.run.orders if self.first <= each.order.stamp <= self.last]
+
+    def draw_orders(self) -> None:
+        """A mark at each period that has orders."""
+        label = LEFT - 14 if self.shape is COMPACT else LEFT - 34
+        self.text(label, self.orders_top + 12, "orders", "name", "end")
+        shown = self.shown_orders()
+        for stamp, given in groupby(shown, lambda each: each.order.stamp):
+            orders = list(given)
+            told = "\n".join([f"period {stamp} ({seconds(stamp)})", *(each.told() for each in orders)])
+            mark = self.tick if all(each.reply.refusal is None for each in orders) else self.cross
+            mark(self.x(stamp), self.orders_top + 8, told)
+        missing = len(self.run.orders) - len(shown)
+        if missing:
+            self.text(self.plot_right + 10, self.orders_top + 12, f"and {missing} at other times", "small")
+
+    def listed_orders(self) -> List[Tuple[str, str]]:
+        """The words of the orders, as they stand below the picture, and how they are written."""
+        shown = self.shown_orders()
+        listed = [
+            (
+                f"period {each.order.stamp} ({seconds(each.order.stamp)}), {each.told()}",
+                "small" if each.reply.refusal is None else "small alarm",
+            )
+            for each in shown[:MOST_LISTED]
+        ]
+        if len(shown) > MOST_LISTED:
+            listed.append((f"and {len(shown) - MOST_LISTED} more", "small"))
+        return listed
+
+    def draw_list(self) -> None:
+        """The words of the orders, column after column."""
+        listed = self.listed_orders()
+        if listed:
+            self.text(LEFT, self.list_top + 8, "orders", "name")
+        for number, (words, kind) in enumerate(listed):
+            column, row = divmod(number, self.list_rows)
+            self.text(LEFT + column * self.list_step, self.list_top + 28 + row * LIST_ROW, words, kind)

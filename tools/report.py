@@ -1,0 +1,390 @@
+#!/usr/bin/env python3
+"""Tells of a run what its report and its lines say, as text, JSON or CSV.
+
+`text` gives a report, whole and checked against its grammar; `calls` gives of each call the losses, pauses and comfort noise
+of its lines; `compare` says what differs between two runs, and from which period on; `sync` says where and why the search
+for frames lost an uplink.
+"""
+
+from __future__ import annotations
+
+import argparse
+import csv
+import io
+import json
+import sys
+from collections import Counter
+from itertools import groupby
+from pathlib import Path
+from typing import Any, Callable, Dict, Iterator, List, NamedTuple, Optional, Sequence, Tuple
+
+import run_lines
+import run_texts
+import sync_losses
+import trau_frames
+from run_lines import Call, Heard, Sent
+from run_texts import SIDES, Report
+from trau_frames import FRAME_BITS, FRAME_OCTETS, PCM_OCTETS, PERIODS_A_SECOND, Refusal
+
+Row = Dict[str, Any]
+
+
+class Told(NamedTuple):
+    """What a command tells: rows of the same columns for text and CSV, the whole for JSON, and the status."""
+
+    columns: Sequence[str]
+    rows: List[Row]
+    whole: Any
+    status: int = 0
+
+
+# The report's text
+
+
+def whole_report(report: Report) -> Row:
+    """A report, with names for all that it says."""
+    return {
+        "orders": [
+            {"order": order, **{name: value for name, value in reply._asdict().items() if value is not None}}
+            for order, reply in enumerate(report.replies, 1)
+        ],
+        "bridges": [
+            {"calls": each.calls, "start": each.start, "end": each.end, "sent": each.sent, "lost": each.lost}
+            for each in report.bridges
+        ],
+        "calls": rows_of_calls(report),
+        "failed": [{"call": failed.call, "side": SIDES[failed.side]} for failed in report.failed],
+        "end": report.end(),
+        "left": report.left,
+    }
+
+
+def rows_of_calls(report: Report) -> List[Row]:
+    """A report's calls with their counts and their lines that failed."""
+    return [
+        {
+            "call": number,
+            "start": span.start,
+            "end": span.end,
+            "cause": span.cause,
+            **span.counts,
+            "failed": " ".join(SIDES[failed.side] for failed in report.failed if failed.call == number),
+        }
+        for number, span in report.calls.items()
+    ]
+
+
+REPORT_COLUMNS = ("call", "start", "end", "cause", *run_texts.YIELDS, "made", "failed")
+
+
+def text(words: argparse.Namespace) -> Told:
+    """A report."""
+    report = run_texts.read_report(words.report)
+    return Told(REPORT_COLUMNS, rows_of_calls(report), whole_report(report))
+
+
+# Losses, pauses and comfort noise of the calls
+
+CALL_COLUMNS = (
+    *("call", "periods", "speech", "lost", "rate", "longest", "from"),
+    *("pauses", "noise", "longest_pause", "pause_from", "descriptors", "quiet"),
+    *("down_frames", "down_speech", "down_descriptors", "down_idle", "down_handed"),
+)
+
+
+def stretches(values: Sequence[Heard], wanted: Heard) -> List[Tuple[int, int]]:
+    """How long each stretch of a value is, and where it begins."""
+    found, place = [], 0
+    for value, run in groupby(values):
+        length = sum(1 for _ in run)
+        if value is wanted:
+            found.append((length, place))
+        place += length
+    return found
+
+
+def longest_of(found: Sequence[Tuple[int, int]], start: int) -> Tuple[int, Optional[int]]:
+    """The length of the first of the longest stretches, and the period of the run at which it begins."""
+    if not found:
+        return 0, None
+    length, place = max(found, key=lambda stretch: (stretch[0], -stretch[1]))
+    return length, start + place
+
+
+def row_of_call(folder: Path, call: Call) -> Row:
+    """What a call's uplink and downlink say of losses and pauses."""
+    values = list(run_lines.heard(call.sorts()))
+    counts = Counter(values)
+    speech, lost = counts[Heard.SPEECH], counts[Heard.LOST]
+    pauses = stretches(values, Heard.NOISE)
+    longest, start = longest_of(stretches(values, Heard.LOST), call.span.start)
+    longest_pause, pause_start = longest_of(pauses, call.span.start)
+    bits = trau_frames.bits_of(call.octets(folder, "down"))
+    down = Counter(run_lines.sent(made, bits) for made in call.made)
+    return {
+        "call": call.number,
+        "periods": call.periods(),
+        "speech": speech,
+        "lost": lost,
+        "rate": round(lost / (speech + lost), 4) if speech + lost else None,
+        "longest": longest,
+        "from": start,
+        "pauses": len(pauses),
+        "noise": counts[Heard.NOISE],
+        "longest_pause": longest_pause,
+        "pause_from": pause_start,
+        "descriptors": call.span.counts["sid"],
+        "quiet": counts[Heard.QUIET],
+        "down_frames": sum(down.values()) - down[None],
+        "down_speech": down[Sent.SPEECH],
+        "down_descriptors": down[Sent.SILENCE],
+        "down_idle": down[Sent.IDLE],
+        "down_handed": down[Sent.HANDED],
+    }
+
+
+def calls(words: argparse.Namespace) -> Told:
+    """The calls of a run by their lines."""
+    report = run_texts.read_report(words.report or words.folder / "report.txt")
+    rows = [row_of_call(words.folder, call) for call in run_lines.read_calls(words.folder, report).values()]
+    return Told(CALL_COLUMNS, rows, rows)
+
+
+# Two runs
+
+OCTETS_OF_SIDE = dict(zip(SIDES, (FRAME_OCTETS, PCM_OCTETS, FRAME_OCTETS, PCM_OCTETS)))
+COMPARE_COLUMNS = ("call", "what", "period", "seconds", "octet", "periods", "one", "other")
+
+
+def line_of(folder: Path, number: int, side: str) -> Optional[bytes]:
+    """The octets of a line, or None where there is none."""
+    name = folder / f"{number}.{side}"
+    return trau_frames.read_file(name) if name.exists() else None
+
+
+def periods_that_differ(one: bytes, other: bytes, octets: int) -> List[int]:
+    """The periods, from the first of the lines, in which they differ."""
+    last = -(-max(len(one), len(other)) // octets)
+    return [
+        period
+        for period in range(last)
+        if one[period * octets : (period + 1) * octets] != other[period * octets : (period + 1) * octets]
+    ]
+
+
+def first_octet_that_differs(one: bytes, other: bytes, start: int) -> int:
+    """The first octet from a start on in which two lines differ, or the end of the shorter."""
+    for place, (a, b) in enumerate(zip(one[start:], other[start:]), start):
+        if a != b:
+            return place
+    return min(len(one), len(other))
+
+
+def row_of_line(number: int, side: str, start: int, one: Optional[bytes], other: Optional[bytes]) -> Optional[Row]:
+    """What differs between two lines of a call, or None."""
+    if one == other:
+        return None
+    octets = OCTETS_OF_SIDE[side]
+    row: Row = {"call": number, "what": side}
+    if one is None or other is None:
+        return {**row, "one": said_of_size(one), "other": said_of_size(other)}
+    periods = periods_that_differ(one, other, octets)
+    octet = first_octet_that_differs(one, other, periods[0] * octets)
+    period = start + periods[0]
+    row.update(period=period, seconds=period / PERIODS_A_SECOND, octet=octet, periods=len(periods))
+    if len(one) != len(other):
+        row.update(one=said_of_size(one), other=said_of_size(other))
+    return row
+
+
+def said_of_size(line: Optional[bytes]) -> str:
+    """How long a line is, in words."""
+    return "no line" if line is None else f"{len(line)} octets"
+
+
+def rows_of_reports(one: Report, other: Report) -> Iterator[Row]:
+    """What differs between two reports."""
+    for number in range(max(len(one.replies), len(other.replies))):
+        said = [each.replies[number].line(number + 1) if number < len(each.replies) else "-" for each in (one, other)]
+        if said[0] != said[1]:
+            yield {"what": f"order {number + 1}", "one": said[0], "other": said[1]}
+    for number in range(max(len(one.bridges), len(other.bridges))):
+        said = [each.bridges[number].line() if number < len(each.bridges) else "-" for each in (one, other)]
+        if said[0] != said[1]:
+            yield {"what": f"bridge {number + 1}", "one": said[0], "other": said[1]}
+    for number in sorted({*one.calls, *other.calls}):
+        said = [each.calls[number].lines(number) if number in each.calls else ["-", "-"] for each in (one, other)]
+        for what, a, b in zip(("span", "counts"), *said):
+            if a != b:
+                yield {"call": number, "what": what, "one": a, "other": b}
+    for failed in sorted({*one.failed} ^ {*other.failed}):
+        said = [failed.line() if failed in each.failed else "-" for each in (one, other)]
+        yield {"call": failed.call, "what": "failed", "one": said[0], "other": said[1]}
+
+
+def compare(words: argparse.Namespace) -> Told:
+    """What differs between two runs; the status is 1 where anything does."""
+    reports = [run_texts.read_report(folder / "report.txt") for folder in (words.one, words.other)]
+    rows = list(rows_of_reports(*reports))
+    numbers = sorted({*reports[0].calls, *reports[1].calls})
+    for number in numbers:
+        start = min(report.calls[number].start for report in reports if number in report.calls)
+        for side in SIDES:
+            row = row_of_line(
+                number, side, start, *(line_of(folder, number, side) for folder in (words.one, words.other))
+            )
+            rows += [row] if row else []
+    return Told(COMPARE_COLUMNS, rows, {"calls": len(numbers), "differences": rows}, 1 if rows else 0)
+
+
+# Where an uplink lost sync
+
+SYNC_COLUMNS = ("due", "period", "misses", "broken", "hunted_from", "match", "slip", "found", "found_period")
+
+
+def period_of(place: Optional[int]) -> Optional[int]:
+    """The period, from the line's first, that holds the last bit of a frame at a place."""
+    return None if place is None else (place + FRAME_BITS - 1) // FRAME_BITS
+
+
+def row_of_loss(loss: sync_losses.Loss) -> Row:
+    """A loss, for text and CSV: of its first miss the sync bits that broke."""
+    return {
+        "due": loss.due(),
+        "period": period_of(loss.due()),
+        "misses": len(loss.misses),
+        "broken": " ".join(map(str, loss.misses[0].broken)),
+        "hunted_from": loss.unlocked(),
+        "match": loss.match,
+        "slip": loss.slip(),
+        "found": loss.found,
+        "found_period": period_of(loss.found),
+    }
+
+
+def sync(words: argparse.Namespace) -> Told:
+    """Where an uplink lost sync."""
+    frames = trau_frames.read_file(words.frames) if words.frames else None
+    trace = sync_losses.trace_of(words.uplink, trau_frames.read_file(words.uplink), frames)
+    rows = [row_of_loss(loss) for loss in trace.losses]
+    whole = {
+        "periods": trace.periods,
+        "frames": trace.frames,
+        "misses": trace.misses,
+        "first": trace.first,
+        "losses": [
+            {**row, "broken": [{"place": miss.place, "sync_bits": miss.broken} for miss in loss.misses]}
+            for row, loss in zip(rows, trace.losses)
+        ],
+    }
+    return Told(SYNC_COLUMNS, rows, whole)
+
+
+# How it is told
+
+
+def as_text(told: Told) -> str:
+    """A table of the rows, with `-` where there is nothing."""
+    table = [list(told.columns)]
+    for row in told.rows:
+        values = (row.get(column) for column in told.columns)
+        table.append(["-" if value is None or value == "" else str(value) for value in values])
+    wide = [max(len(line[place]) for line in table) for place in range(len(told.columns))]
+    return "".join("  ".join(cell.ljust(width) for cell, width in zip(line, wide)).rstrip() + "\n" for line in table)
+
+
+def as_csv(told: Told) -> str:
+    """The rows as comma-separated values, the names of the columns first."""
+    text_file = io.StringIO()
+    writer = csv.DictWriter(text_file, told.columns, restval="", lineterminator="\n")
+    writer.writeheader()
+    writer.writerows(told.rows)
+    return text_file.getvalue()
+
+
+def as_json(told: Told) -> str:
+    """The whole as JSON."""
+    return json.dumps(told.whole, indent=2) + "\n"
+
+
+# The words of the command line
+
+
+def parser() -> argparse.ArgumentParser:
+    """The words of the command line."""
+    words = trau_frames.Words(
+        description=__doc__,
+        epilog="example: report.py text report.txt --json",
+        formatter_class=argparse.RawDescriptionHelpFormatter,
+        allow_abbrev=False,
+    )
+    commands = words.add_subparsers(dest="command", required=True, metavar="COMMAND")
+
+    def command(made: Callable[[argparse.Namespace], Told], line: str, more: str) -> argparse.ArgumentParser:
+        """Adds a command."""
+        added = commands.add_parser(
+            made.__name__,
+            help=line,
+            description=more,
+            formatter_class=argparse.RawDescriptionHelpFormatter,
+            allow_abbrev=False,
+        )
+        form = added.add_mutually_exclusive_group()
+        form.add_argument("--json", dest="form", action="store_const", const=as_json, help="JSON in place of a table")
+        form.add_argument("--csv", dest="form", action="store_const", const=as_csv, help="CSV in place of a table")
+        added.set_defaults(made=made, form=as_text)
+        return added
+
+    added = command(
+        text,
+        "a report, whole and checked",
+        "Reads a report; what isn't one, octet for octet as the program writes it, is refused. The table and CSV have a row for\n"
+        "each call; JSON has the replies to the orders and the bridges too.",
+    )
+    added.add_argument("report", type=Path, metavar="REPORT", help="the text that `trau run` wrote")
+    added = command(
+        calls,
+        "losses, pauses and comfort noise of each call",
+        "A row for each call of a run. Of the uplink: periods of speech, of speech that is lost, the part of lost ones in both\n"
+        "(the frame erasure rate), the longest loss and the period at which it begins; pauses, the periods of comfort noise in\n"
+        "them, the longest one; silence descriptors; periods that are quiet. Of the downlink: its frames by what they are.",
+    )
+    added.add_argument("folder", type=Path, metavar="FOLDER", help="the folder of the run")
+    added.add_argument("--report", type=Path, metavar="FILE", help="the report of the run (default FOLDER/report.txt)")
+    added = command(
+        compare,
+        "what differs between two runs",
+        "A row for each line of the reports, and each line of octets, that differs between two runs; of lines the first period\n"
+        "and octet, and how many periods differ. The status is 0 where nothing differs, 1 where anything does.",
+    )
+    added.add_argument("one", type=Path, metavar="ONE", help="the folder of a run, with its report.txt")
+    added.add_argument("other", type=Path, metavar="OTHER", help="that of another")
+    added = command(
+        sync,
+        "where and why an uplink lost sync",
+        "A row for each loss of an uplink, which is misses in a row: the bit at which the first frame was due, its period, the\n"
+        "number of misses, the places within that frame of the sync bits that broke, from where on the search hunted (- where\n"
+        "it stayed locked), the next match at any bit, by how many bits it stands beside the places due, and the next frame that\n"
+        "the search found. JSON has the broken bits of all misses. Bits and periods are counted from the line's start.",
+    )
+    added.add_argument("uplink", type=Path, metavar="UPLINK", help="the Up line")
+    added.add_argument(
+        "--frames", type=Path, metavar="FILE", help="what `trau frames` told of the line, which is held to it"
+    )
+    return words
+
+
+def main(words: Sequence[str]) -> int:
+    """Carries out the words of the command line, and gives the status."""
+    asked = parser().parse_args(words)
+    try:
+        told = asked.made(asked)
+    except Refusal as refusal:
+        print(f"report.py: {refusal}", file=sys.stderr)
+        return 2
+    sys.stdout.write(asked.form(told))
+    return told.status
+
+
+if __name__ == "__main__":
+    sys.exit(main(sys.argv[1:]))

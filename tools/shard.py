@@ -1,0 +1,377 @@
+#!/usr/bin/env python3
+"""Cuts a farm into parts that run apart from one another, on this machine or others, and joins their reports.
+
+The octets of a call depend on its own lines and orders, and on the partner of its bridges. So calls that a `bridge` order
+names stay together, also where it is refused, since a refusal looks at both; all others may run anywhere. What is joined is
+the report of the one run, octet for octet, and the status is that of the one run.
+"""
+
+from __future__ import annotations
+
+import argparse
+import json
+import os
+import re
+import shlex
+import shutil
+import stat
+import sys
+import tempfile
+from dataclasses import dataclass
+from pathlib import Path
+from typing import Callable, Dict, FrozenSet, Iterator, List, Optional, Sequence, Tuple
+
+import run_texts
+import trau_frames
+from run_texts import MOST_PERIODS, SIDES, Bridge, FailedLine, Order, Reply, Report, Span
+from trau_frames import FRAME_OCTETS, PCM_OCTETS, Refusal
+
+CUT = "cut.json"
+ORDERS = "orders.txt"
+REPORT = "report.txt"
+STATUS = "status"
+SCRIPT = "run.sh"
+INCOMING, OUTGOING = SIDES[:2], SIDES[2:]
+STATUSES_WITH_A_REPORT = (0, 6)
+
+SCRIPT_TEXT = """#!/bin/sh
+# Runs this part of a farm, and keeps its report and its status. Ends with 0 where there is a whole report, which may name
+# lines that failed. TRAU names another program than that of the machine on which the farm was cut.
+cd "$(dirname "$0")" || exit 2
+rm -f status
+program=${{TRAU:-}}
+[ -n "$program" ] || program={trau}
+status=0
+"$program" run {words} <orders.txt >report.txt || status=$?
+echo "$status" >status
+case $status in 0 | 6) exit 0 ;; *) exit "$status" ;; esac
+"""
+
+# The cut
+
+
+def components(orders: Sequence[Order]) -> List[FrozenSet[int]]:
+    """The calls that the orders name, in sets that `bridge` orders join, by their least calls."""
+    joined: Dict[int, FrozenSet[int]] = {}
+    for order in orders:
+        sets = {joined.get(call, frozenset([call])) for call in order.calls}
+        together = frozenset().union(*sets)
+        if len(sets) > 1 or not together <= joined.keys():
+            joined.update(dict.fromkeys(together, together))
+    return sorted(set(joined.values()), key=min)
+
+
+def periods_of(folder: Path, call: int) -> int:
+    """How many periods the lines of a call have."""
+    sizes = []
+    for side, octets in zip(INCOMING, (FRAME_OCTETS, PCM_OCTETS)):
+        line = folder / f"{call}.{side}"
+        sizes.append(line.stat().st_size // octets if line.is_file() else 0)
+    return min(sizes)
+
+
+@dataclass
+class Part:
+    """Calls that run together, and how many periods their lines have."""
+
+    calls: FrozenSet[int] = frozenset()
+    periods: int = 0
+
+
+def parts_of(pieces: Sequence[Tuple[int, FrozenSet[int]]], count: int) -> List[Part]:
+    """At most so many parts of about the same work: the heaviest piece goes first, to the part that has least."""
+    parts = [Part() for _ in range(count)]
+    for periods, calls in sorted(pieces, key=lambda piece: (-piece[0], min(piece[1]))):
+        least = min(parts, key=lambda part: (part.periods, len(part.calls)))
+        least.calls |= calls
+        least.periods += periods
+    return [part for part in parts if part.calls]
+
+
+def lay_line(source: Path, target: Path, side: str, copied: bool) -> None:
+    """Puts a line into a part: a link, which makes an outgoing file too; or a copy of an incoming one."""
+    if not copied:
+        target.symlink_to(Path(os.path.abspath(source)))
+    elif os.path.lexists(source) and not source.is_file():
+        raise Refusal(f"{source}: isn't a file; only links to such lines can be cut, without --copy")
+    elif side in INCOMING and source.is_file():
+        shutil.copyfile(source, target)
+
+
+def script_of(words: argparse.Namespace) -> str:
+    """The script that runs a part."""
+    options = [("--workers", words.workers), ("--batch", words.batch), ("--periods", words.periods)]
+    said = " ".join(f"{name} {value}" for name, value in options if value is not None)
+    return SCRIPT_TEXT.format(trau=shlex.quote(words.trau), words=said)
+
+
+def lay_part(folder: Path, words: argparse.Namespace, orders: Sequence[Order]) -> None:
+    """Makes the folder of a part."""
+    folder.mkdir()
+    (folder / ORDERS).write_text("".join(f"{order.line()}\n" for order in orders))
+    script = folder / SCRIPT
+    script.write_text(script_of(words))
+    script.chmod(script.stat().st_mode | stat.S_IXUSR | stat.S_IXGRP | stat.S_IXOTH)
+    for call in {order.calls[0] for order in orders if order.verb == "open"}:
+        for side in SIDES:
+            name = f"{call}.{side}"
+            lay_line(words.folder / name, folder / name, side, words.copy)
+
+
+def lay_cut(place: Path, words: argparse.Namespace, orders: Sequence[Order], parts: Sequence[Part]) -> None:
+    """Makes the folder of a cut farm: a folder for each part, and what the joining needs."""
+    numbers = []
+    for number, part in enumerate(parts):
+        own = [order for order in orders if order.calls[0] in part.calls]
+        numbers.append([order.number for order in own])
+        lay_part(place / str(number), words, own)
+    (place / ORDERS).write_text("".join(f"{order.line()}\n" for order in orders))
+    told = {
+        "farm": os.path.abspath(words.folder),
+        "copied": words.copy,
+        "periods": words.periods or MOST_PERIODS,
+        "orders_of_parts": numbers,
+    }
+    (place / CUT).write_text(json.dumps(told) + "\n")
+
+
+def split(words: argparse.Namespace) -> int:
+    """Cuts a farm."""
+    name = words.orders or words.folder / ORDERS
+    orders = run_texts.read_orders(name)
+    if not words.folder.is_dir():
+        raise Refusal(f"{words.folder}: isn't a folder")
+    if os.path.lexists(words.cut):
+        raise Refusal(f"{words.cut}: is there already; a farm is cut into a new folder")
+    opened = {order.calls[0] for order in orders if order.verb == "open"}
+    pieces = [(sum(periods_of(words.folder, call) for call in calls & opened), calls) for calls in components(orders)]
+    parts = parts_of(pieces, words.parts)
+    place = Path(tempfile.mkdtemp(dir=words.cut.absolute().parent, prefix=f".{words.cut.name}."))
+    try:
+        lay_cut(place, words, orders, parts)
+        place.chmod(0o777 & ~current_mask())
+        place.rename(words.cut)
+    except BaseException:
+        shutil.rmtree(place)
+        raise
+    largest = max((periods for periods, _ in pieces), default=0)
+    heaviest = max((part.periods for part in parts), default=0)
+    print(
+        f"shard parts {len(parts)} components {len(pieces)} calls {len(opened)} orders {len(orders)}"
+        f" largest {largest} heaviest {heaviest} of {sum(periods for periods, _ in pieces)}"
+    )
+    return 0
+
+
+def current_mask() -> int:
+    """The mask of new files' modes."""
+    mask = os.umask(0)
+    os.umask(mask)
+    return mask
+
+
+# The joining
+
+
+@dataclass
+class Cut:
+    """A cut farm."""
+
+    folder: Path
+    farm: Path
+    copied: bool
+    periods: int
+    orders: List[Order]
+    orders_of_parts: List[List[int]]
+
+    @staticmethod
+    def read(folder: Path) -> Cut:
+        """Reads what the cutting told."""
+        name = folder / CUT
+        try:
+            told = json.loads(trau_frames.read_file(name))
+            orders = run_texts.read_orders(folder / ORDERS)
+            parts = told["orders_of_parts"]
+            if sorted(number for part in parts for number in part) != [order.number for order in orders]:
+                raise ValueError
+            return Cut(folder, Path(told["farm"]), told["copied"], told["periods"], orders, parts)
+        except (ValueError, KeyError, TypeError):
+            raise Refusal(f"{name}: isn't what the cutting of a farm tells") from None
+
+    def part(self, number: int) -> Path:
+        """The folder of a part."""
+        return self.folder / str(number)
+
+
+def status_of(folder: Path) -> Optional[int]:
+    """The status with which a part was run, or None where it wasn't."""
+    try:
+        return int((folder / STATUS).read_text())
+    except (OSError, ValueError):
+        return None
+
+
+def check_all_were_run(cut: Cut) -> None:
+    """Refuses a cut whose parts weren't all run, and says how these are."""
+    lacking = [
+        number
+        for number in range(len(cut.orders_of_parts))
+        if status_of(cut.part(number)) not in STATUSES_WITH_A_REPORT
+    ]
+    if lacking:
+        said = " ".join(str(number) for number in lacking)
+        again = "; ".join(f"sh {shlex.quote(str(cut.part(number) / SCRIPT))}" for number in lacking[:4])
+        more = "; .." if len(lacking) > 4 else ""
+        raise Refusal(f"{cut.folder}: no whole report of part {said}; run again: {again}{more}")
+
+
+def report_of_part(cut: Cut, number: int) -> Report:
+    """The report of a part, held to its orders."""
+    name = cut.part(number) / REPORT
+    own = [cut.orders[order - 1] for order in cut.orders_of_parts[number]]
+    try:
+        report = run_texts.read_report(name)
+        run_texts.hold_to_orders(name, report, own, cut.periods)
+        if report.status() != status_of(cut.part(number)):
+            raise Refusal(f"{name}: isn't the report of a run with this part's status")
+        return report
+    except Refusal as refusal:
+        script = shlex.quote(str(cut.part(number) / SCRIPT))
+        raise Refusal(f"{refusal}; was this part run by other words? run it again: sh {script}") from None
+
+
+def accepted_bridges(cut: Cut, number: int, report: Report) -> Iterator[Tuple[int, Bridge]]:
+    """The bridges of a part, each with the number of its order; a report lists them as they were accepted."""
+    bridges = iter(report.bridges)
+    for order, reply in zip(cut.orders_of_parts[number], report.replies):
+        if reply.refusal is None and cut.orders[order - 1].verb == "bridge":
+            yield order, next(bridges)
+
+
+def join(cut: Cut) -> Report:
+    """The report of the one run."""
+    replies: Dict[int, Reply] = {}
+    bridges: Dict[int, Bridge] = {}
+    calls: Dict[int, Span] = {}
+    failed: List[FailedLine] = []
+    left = 0
+    for number, orders in enumerate(cut.orders_of_parts):
+        report = report_of_part(cut, number)
+        replies.update(zip(orders, report.replies))
+        bridges.update(accepted_bridges(cut, number, report))
+        calls.update(report.calls)
+        failed += report.failed
+        left += report.left
+    return Report(
+        [replies[order] for order in sorted(replies)],
+        [bridges[order] for order in sorted(bridges)],
+        dict(sorted(calls.items())),
+        sorted(failed),
+        left,
+    )
+
+
+def outgoing_lines(cut: Cut) -> Iterator[Path]:
+    """The outgoing lines in the parts of a copied cut."""
+    for number in range(len(cut.orders_of_parts)):
+        for line in sorted(cut.part(number).iterdir()):
+            if re.fullmatch(rf"\d+\.(?:{'|'.join(OUTGOING)})", line.name, re.ASCII):
+                yield line
+
+
+def merge(words: argparse.Namespace) -> int:
+    """Joins the reports of a cut farm, and where the lines were copied brings the outgoing ones to the farm's folder."""
+    cut = Cut.read(words.cut)
+    check_all_were_run(cut)
+    report = join(cut)
+    if cut.copied:
+        for line in outgoing_lines(cut):
+            trau_frames.write_file(cut.farm / line.name, trau_frames.read_file(line), [])
+    sys.stdout.write(report.text())
+    return report.status()
+
+
+# The words of the command line
+
+
+def number_within(least: int, most: int) -> Callable[[str], int]:
+    """Reads a number between these ends."""
+
+    def read(word: str) -> int:
+        if not run_texts.is_whole_number(word) or not least <= int(word) <= most:
+            raise argparse.ArgumentTypeError(f"{word} isn't {least:,} to {most:,}")
+        return int(word)
+
+    return read
+
+
+def program_beside() -> str:
+    """The script `trau` of the repository that has this tool, or else the program of that name on the path."""
+    beside = Path(__file__).resolve().parents[1] / "trau"
+    return str(beside) if beside.is_file() else "trau"
+
+
+def parser() -> argparse.ArgumentParser:
+    """The words of the command line."""
+    words = trau_frames.Words(
+        description=__doc__,
+        epilog="example: shard.py split farm cut --parts 4; parallel sh {}/run.sh ::: cut/[0-9]*; shard.py merge cut >report.txt",
+        formatter_class=argparse.RawDescriptionHelpFormatter,
+        allow_abbrev=False,
+    )
+    commands = words.add_subparsers(dest="command", required=True, metavar="COMMAND")
+    cutting = commands.add_parser(
+        "split",
+        help="makes a folder with the parts of a farm",
+        formatter_class=argparse.RawDescriptionHelpFormatter,
+        allow_abbrev=False,
+        description="Makes the folder CUT with the parts 0, 1 and so on, each with its orders, links to its lines in FOLDER, and\n"
+        "`run.sh`, which runs it. Says `shard parts K components M calls C orders N largest L heaviest H of P`: the calls that\n"
+        "are opened; and in periods of their lines the largest component, the heaviest part, and all of them.",
+    )
+    cutting.add_argument("folder", type=Path, metavar="FOLDER", help="the farm: its lines and orders")
+    cutting.add_argument("cut", type=Path, metavar="CUT", help="the folder that is made")
+    cutting.add_argument(
+        "--parts", type=number_within(1, 1024), required=True, metavar="K", help="at most so many parts"
+    )
+    cutting.add_argument(
+        "--orders", type=Path, metavar="FILE", help="the orders of the run (default FOLDER/orders.txt)"
+    )
+    cutting.add_argument("--copy", action="store_true", help="copies of the incoming lines in place of links")
+    cutting.add_argument(
+        "--trau", default=program_beside(), metavar="PROGRAM", help="the program (default %(default)s)"
+    )
+    cutting.add_argument(
+        "--workers", type=number_within(1, 64), default=1, metavar="N", help="as of trau run (default 1)"
+    )
+    cutting.add_argument("--batch", type=number_within(1, 250), metavar="N", help="as of trau run")
+    cutting.add_argument("--periods", type=number_within(1, MOST_PERIODS), metavar="N", help="as of trau run")
+    cutting.set_defaults(carried_out=split)
+    joining = commands.add_parser(
+        "merge",
+        help="joins the reports of the parts",
+        formatter_class=argparse.RawDescriptionHelpFormatter,
+        allow_abbrev=False,
+        description="Writes the report of the one run to standard output; the status is 0, or 6 where lines failed, as of the\n"
+        "one run. With lines that were copied, brings the outgoing ones to the farm's folder. Parts that have no whole report, or\n"
+        "one that isn't of their orders and their number of periods, are told, and then nothing is written and the status is 2.",
+    )
+    joining.add_argument("cut", type=Path, metavar="CUT", help="the folder that `split` made")
+    joining.set_defaults(carried_out=merge)
+    return words
+
+
+def main(words: Sequence[str]) -> int:
+    """Carries out the words of the command line, and gives the status."""
+    asked = parser().parse_args(words)
+    try:
+        return asked.carried_out(asked)
+    except Refusal as refusal:
+        print(f"shard.py: {refusal}", file=sys.stderr)
+    except OSError as failure:
+        print(f"shard.py: {failure.filename}: {failure.strerror}", file=sys.stderr)
+    return 2
+
+
+if __name__ == "__main__":
+    sys.exit(main(sys.argv[1:]))

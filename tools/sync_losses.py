@@ -1,0 +1,109 @@
+"""Where and why the search for frames lost an uplink: which of the 35 sync bits broke, what the search did, and where the next
+match stands."""
+
+from __future__ import annotations
+
+from dataclasses import dataclass, field
+from pathlib import Path
+from typing import Iterator, List, Optional, Sequence
+
+import trau_frames
+from trau_frames import FRAME, FRAME_BITS, MISSES_THAT_UNLOCK, Refusal, Yield
+
+SYNC_ZEROS = tuple(range(16))
+SYNC_ONES = tuple(range(16, FRAME_BITS, 16))
+
+
+def broken_bits(bits: str, place: int) -> List[int]:
+    """The places, from 0 to 319 in a frame that begins here, of the sync bits that don't match."""
+    frame = bits[place : place + FRAME_BITS]
+    return [at for at in SYNC_ZEROS if frame[at] != "0"] + [at for at in SYNC_ONES if frame[at] != "1"]
+
+
+@dataclass
+class Miss:
+    """A frame that was due at a place, and the sync bits that broke there."""
+
+    place: int
+    broken: List[int]
+
+
+@dataclass
+class Loss:
+    """Misses in a row, behind a frame; the next frame that the search found, and the next match at any bit."""
+
+    misses: List[Miss] = field(default_factory=list)
+    found: Optional[int] = None
+    match: Optional[int] = None
+
+    def due(self) -> int:
+        """Where the first missed frame was due."""
+        return self.misses[0].place
+
+    def unlocked(self) -> Optional[int]:
+        """From where on the search hunted, or None where it stayed locked."""
+        if len(self.misses) < MISSES_THAT_UNLOCK:
+            return None
+        return self.misses[-1].place + FRAME_BITS
+
+    def slip(self) -> Optional[int]:
+        """By how many bits the next match stands beside the places where frames were due, -159 to 160; None without one."""
+        if self.match is None:
+            return None
+        offset = (self.match - self.due()) % FRAME_BITS
+        return offset if offset <= FRAME_BITS // 2 else offset - FRAME_BITS
+
+
+def losses_of(bits: str, yields: Sequence[Yield]) -> Iterator[Loss]:
+    """The losses of an uplink, in their order."""
+    loss = Loss()
+    for each in yields:
+        if each.frame is None:
+            loss.misses.append(Miss(each.place, broken_bits(bits, each.place)))
+        elif loss.misses:
+            loss.found = each.place
+            yield matched(bits, loss)
+            loss = Loss()
+    if loss.misses:
+        yield matched(bits, loss)
+
+
+def matched(bits: str, loss: Loss) -> Loss:
+    """The loss with the next match at any bit, behind the frame before it."""
+    # A match may begin inside the frame before, where bits were left out.
+    match = FRAME.search(bits, max(0, loss.due() - FRAME_BITS + 1))
+    return Loss(loss.misses, loss.found, match.start() if match else None)
+
+
+def first_frame(yields: Sequence[Yield]) -> Optional[int]:
+    """Where the first frame stands."""
+    return yields[0].place if yields else None
+
+
+def text_of_frames(yields: Sequence[Yield], octets: int) -> str:
+    """What `trau frames` tells of an uplink of so many octets that has these yields."""
+    lines = [f"{each.place} {each.sort().value}\n" for each in yields]
+    return "".join(lines) + f"frames {len(yields)} left {octets % trau_frames.FRAME_OCTETS}\n"
+
+
+@dataclass
+class Trace:
+    """An uplink as it was searched."""
+
+    periods: int
+    frames: int
+    misses: int
+    first: Optional[int]
+    losses: List[Loss]
+
+
+def trace_of(name: Path, octets: bytes, frames_text: Optional[bytes]) -> Trace:
+    """Searches an uplink; and holds what `trau frames` told of it to that, where it is given."""
+    periods = len(octets) // trau_frames.FRAME_OCTETS
+    bits = trau_frames.bits_of(octets[: periods * trau_frames.FRAME_OCTETS])
+    yields = list(trau_frames.search(bits))
+    if frames_text is not None and frames_text != text_of_frames(yields, len(octets)).encode():
+        raise Refusal(f"{name}: the command `frames` tells other frames: it is of another line")
+    losses = list(losses_of(bits, yields))
+    misses = sum(len(loss.misses) for loss in losses)
+    return Trace(periods, len(yields) - misses, misses, first_frame(yields), losses)

@@ -1,0 +1,237 @@
+"""Tests of captures.py: captures of RTP that GStreamer (GSM) and ffmpeg (PCMA, PCMU) sent and tshark recorded, beside the fields
+that tshark reads of them; damaged ones; and lines out to captures. They need the library dpkt, and are skipped without it."""
+
+import importlib.util
+import io
+import unittest
+from collections import Counter
+
+from support import DATA, EXAMPLES, InFolder
+
+import captures
+import lines
+import trau_frames
+from trau_frames import IDLE_OCTET, Sort
+
+HAS_DPKT = importlib.util.find_spec("dpkt") is not None
+CAPTURES = {"gsm": "gsm.pcap", "pcma": "pcma.pcapng", "pcmu": "pcmu.pcap"}
+
+
+def fields(kind):
+    """What tshark tells of each RTP packet: its number, payload type, sequence number, time stamp and payload."""
+    rows = [line.split("\t") for line in (DATA / f"{kind}.txt").read_text().splitlines()]
+    return [(*map(int, row[:4]), bytes.fromhex(row[4])) for row in rows]
+
+
+class WithoutTheLibrary(InFolder):
+    def test_mu_law(self):
+        # The ends and the middle of the table of G.711, in 16 bits.
+        wanted = {0xFF: 0, 0x7F: 0, 0x80: 32124, 0x00: -32124, 0xFE: 8, 0xF0: 120, 0xEF: 132, 0x10: -15996}
+        self.assertEqual({octet: captures.expand_mu_law(octet) for octet in wanted}, wanted)
+        self.assertEqual(len(set(map(captures.expand_mu_law, range(256)))), 255)
+
+    def test_idle_and_lost_frames(self):
+        for octets, sort in ((captures.IDLE_UPLINK, Sort.IDLE), (captures.LOST_UPLINK, Sort.BAD)):
+            self.assertEqual([each.sort() for each in trau_frames.search(trau_frames.bits_of(octets))], [sort])
+
+    @unittest.skipIf(HAS_DPKT, "dpkt is there")
+    def test_asked_for_with_a_word(self):
+        words = ["pcap", DATA / "gsm.pcap", self.folder / "7.up"]
+        self.assert_refused(lines.main, words, "captures need the library dpkt; apt-get install python3-dpkt")
+
+
+@unittest.skipUnless(HAS_DPKT, "no library dpkt")
+class Captures(InFolder):
+    def pcap(self, given, *words):
+        status, out, err = self.run_tool(lines.main, "pcap", given, self.folder / "line", *words)
+        self.assertEqual((status, err), (0, ""))
+        return out, (self.folder / "line").read_bytes()
+
+    def test_packets_are_those_that_tshark_reads(self):
+        for kind, name in CAPTURES.items():
+            (packets,) = captures.streams_of(name, (DATA / name).read_bytes()).values()
+            self.assertEqual([packet[:5] for packet in packets], fields(kind))
+
+    def test_gsm(self):
+        frames = b"".join(row[4] for row in fields("gsm"))
+        said, line = self.pcap(DATA / "gsm.pcap")
+        self.assertEqual(said, "pcap gsm packets 30 late 0 doubled 0 others 0 frames 30 lost 0 paused 0 lead 0\n")
+        self.run_tool(lines.main, "uplink", self.path("7.gsm", frames), self.folder / "7.up")
+        self.assertEqual(line, self.path("7.up").read_bytes())
+
+    def test_pcma_and_pcmu(self):
+        octets = b"".join(row[4] for row in fields("pcma"))
+        said, line = self.pcap(DATA / "pcma.pcapng")
+        self.assertEqual(
+            said, "pcap pcma packets 17 late 0 doubled 0 others 0 octets 4800 lost 0 paused 0 lead 0 padded 0\n"
+        )
+        self.assertEqual(line, octets)
+        # Both are of one sound, so their samples are near to one another: a step of the loudest segment is 2048.
+        _, other = self.pcap(DATA / "pcmu.pcap")
+        far = max(abs(trau_frames.expand(a) - trau_frames.expand(b)) for a, b in zip(line, other))
+        self.assertLessEqual(far, 2048)
+
+    # Captures that a program changed on the way
+
+    def packets(self, kind="gsm"):
+        """The packets of a capture, with their times."""
+        reader = captures.library("pcap").UniversalReader(io.BytesIO((DATA / CAPTURES[kind]).read_bytes()))
+        return reader.datalink(), [octets for _, octets in reader]
+
+    def changed(self, change, kind="gsm"):
+        """What is made of a capture whose list of packets was changed."""
+        link, packets = self.packets(kind)
+        file = io.BytesIO()
+        writer = captures.library("pcap").Writer(file, linktype=link)
+        for place, octets in enumerate(change(packets)):
+            writer.writepkt(octets, ts=place / 50)
+        return self.pcap(self.path("changed.pcap", file.getvalue()))
+
+    def sorts(self, line):
+        return [each.sort().value for each in trau_frames.search(trau_frames.bits_of(line))]
+
+    def rewritten(self, octets, change):
+        """An Ethernet frame whose RTP packet was changed."""
+        ethernet = captures.library("ethernet").Ethernet(octets)
+        rtp = captures.library("rtp").RTP(bytes(ethernet.data.data.data))
+        change(rtp)
+        ethernet.data.data.data = bytes(rtp)
+        ethernet.data.data.ulen = 8 + len(rtp)
+        ethernet.data.len = 28 + len(rtp)
+        ethernet.data.sum = ethernet.data.data.sum = 0
+        return bytes(ethernet)
+
+    def test_lost(self):
+        said, line = self.changed(lambda packets: packets[:7] + packets[9:20] + packets[21:])
+        self.assertEqual(said, "pcap gsm packets 27 late 0 doubled 0 others 0 frames 27 lost 3 paused 0 lead 0\n")
+        self.assertEqual([place for place, sort in enumerate(self.sorts(line)) if sort == "bad"], [7, 8, 20])
+        said, line = self.changed(lambda packets: packets[:4] + packets[6:], "pcma")
+        whole = b"".join(row[4] for row in fields("pcma"))
+        place, length = self.places("pcma", 3), self.places("pcma", 5) - self.places("pcma", 3)
+        self.assertIn(f"lost {length} paused 0", said)
+        self.assertEqual(line, whole[:place] + bytes([IDLE_OCTET]) * length + whole[place + length :])
+
+    def places(self, kind, number):
+        """The octet at which a packet begins."""
+        return sum(len(row[4]) for row in fields(kind)[:number])
+
+    def test_late_and_doubled(self):
+        whole = self.pcap(DATA / "gsm.pcap")[1]
+        said, line = self.changed(lambda packets: packets[:5] + [packets[7], packets[5], packets[6]] + packets[8:])
+        self.assertEqual(said, "pcap gsm packets 30 late 2 doubled 0 others 0 frames 30 lost 0 paused 0 lead 0\n")
+        self.assertEqual(line, whole)
+        said, line = self.changed(lambda packets: packets[:5] + packets[3:5] + packets[5:])
+        self.assertEqual(said, "pcap gsm packets 32 late 0 doubled 2 others 0 frames 30 lost 0 paused 0 lead 0\n")
+        self.assertEqual(line, whole)
+        # The first packet of all comes late.
+        said, line = self.changed(lambda packets: [packets[1], packets[0]] + packets[2:])
+        self.assertIn("late 1 doubled 0", said)
+        self.assertEqual(line, whole)
+
+    def test_numbers_that_begin_anew(self):
+        whole = self.pcap(DATA / "gsm.pcap")[1]
+        first = fields("gsm")[0]
+
+        def moved(rtp):
+            rtp.seq = (rtp.seq - first[2] + 65520) % 65536
+            rtp.ts = (rtp.ts - first[3] + 4294966000) % 4294967296
+
+        said, line = self.changed(lambda packets: [self.rewritten(octets, moved) for octets in packets])
+        self.assertEqual(said, "pcap gsm packets 30 late 0 doubled 0 others 0 frames 30 lost 0 paused 0 lead 0\n")
+        self.assertEqual(line, whole)
+
+    def test_pauses_and_other_kinds(self):
+        def later(rtp):
+            rtp.ts = (rtp.ts + 5 * 160) % 4294967296
+
+        said, line = self.changed(
+            lambda packets: packets[:10] + [self.rewritten(octets, later) for octets in packets[10:]]
+        )
+        self.assertEqual(said, "pcap gsm packets 30 late 0 doubled 0 others 0 frames 30 lost 0 paused 5 lead 0\n")
+        self.assertEqual(self.sorts(line)[9:16], ["good", *5 * ["idle"], "good"])
+
+        def digit(rtp):
+            rtp.pt, rtp.data = 101, bytes(4)
+
+        said, line = self.changed(
+            lambda packets: packets[:10] + [self.rewritten(octets, digit) for octets in packets[10:12]] + packets[12:]
+        )
+        self.assertEqual(said, "pcap gsm packets 30 late 0 doubled 0 others 2 frames 28 lost 0 paused 2 lead 0\n")
+        self.assertEqual(self.sorts(line)[9:13], ["good", "idle", "idle", "good"])
+
+    def test_lines_that_keep_step(self):
+        # Two streams of one capture, the second of which begins 0.12 s after the first: ffmpeg sends a packet of RTCP before.
+        file = io.BytesIO()
+        writer = captures.library("pcap").Writer(file)
+        for start, kind in ((7.0, "gsm"), (7.101, "pcmu")):
+            for place, octets in enumerate(self.packets(kind)[1]):
+                writer.writepkt(octets, ts=start + place / 50)
+        both = self.path("both.pcap", file.getvalue())
+        gsm, pcmu = self.pcap(DATA / "gsm.pcap")[1], self.pcap(DATA / "pcmu.pcap")[1]
+        self.assertEqual(self.pcap(both, "--stream", "1", "--since", "1")[1], gsm)
+        said, line = self.pcap(both, "--stream", "2", "--since", "1")
+        self.assertIn(" lead 6 padded 0\n", said)
+        self.assertEqual(line, bytes([IDLE_OCTET]) * 960 + pcmu)
+        words = ["pcap", both, self.folder / "line", "--stream", "1", "--since", "2"]
+        self.assert_refused(lines.main, words, "the stream begins 0.12 s before that of --since")
+
+    def test_heads_with_extension_and_padding(self):
+        whole = self.pcap(DATA / "gsm.pcap")[1]
+
+        def wider(rtp):
+            rtp.x = rtp.p = 1
+            rtp.data = bytes([0xBE, 0xDE, 0, 1, 1, 2, 3, 4]) + bytes(rtp.data) + bytes([0, 0, 3])
+
+        self.assertEqual(self.changed(lambda packets: [self.rewritten(octets, wider) for octets in packets])[1], whole)
+
+    # Lines out
+
+    def capture(self, *words):
+        status, out, err = self.run_tool(lines.main, "capture", *words)
+        self.assertEqual((status, err), (0, ""))
+        return out
+
+    def test_lines_there_and_back(self):
+        said = self.capture(EXAMPLES / "7.up", self.folder / "7.pcap", "--also", EXAMPLES / "farm" / "1.pcm")
+        self.assertEqual(said, "capture streams 2 packets 469\n")
+        status, _, err = self.run_tool(lines.main, "pcap", self.path("7.pcap"), self.folder / "line")
+        self.assertEqual(status, 2)
+        self.assertIn(
+            "has 2 streams, one of which --stream names: 1 is 10.0.0.1:5006 to 10.0.1.1:5004 ssrc 0x00000001", err
+        )
+        self.assertEqual(self.pcap(self.path("7.pcap"), "--stream", "1")[1], (EXAMPLES / "7.up").read_bytes())
+        self.assertEqual(self.pcap(self.path("7.pcap"), "--stream", "2")[1], (EXAMPLES / "farm" / "1.pcm").read_bytes())
+
+    def test_what_each_frame_gives(self):
+        folder = EXAMPLES / "farm"
+        for call in (1, 2, 3, 4):
+            octets = (folder / f"{call}.up").read_bytes()
+            counts = Counter(each.payload is None for each in captures.sounds_of_uplink(octets))
+            self.capture(folder / f"{call}.up", self.folder / "c.pcap")
+            said, line = self.pcap(self.path("c.pcap"))
+            self.assertIn(f"packets {counts[False]} late 0 doubled 0 others 0 frames {counts[False]} ", said)
+            self.assertLessEqual(self.sorts(line).count("bad"), counts[True])
+            self.capture(folder / "wanted" / f"{call}.down", self.folder / "d.pcap")
+            self.run_tool(lines.main, "gsm", folder / "wanted" / f"{call}.down", self.folder / "d.gsm")
+            frames = self.path("d.gsm").read_bytes()
+            (packets,) = captures.streams_of("d", self.path("d.pcap").read_bytes()).values()
+            self.assertEqual(b"".join(packet.payload for packet in packets), frames)
+
+    def test_refused(self):
+        def refused(part, *words):
+            self.assert_refused(lines.main, words, part)
+
+        line = self.folder / "line"
+        refused("isn't a capture", "pcap", EXAMPLES / "7.up", line)
+        refused("isn't a capture", "pcap", self.path("empty", b""), line)
+        refused("has 1 streams, one of which", "pcap", DATA / "gsm.pcap", line, "--stream", "2")
+        octets = (DATA / "gsm.pcap").read_bytes()
+        refused("isn't a capture", "pcap", self.path("cut.pcap", octets[:30]), line)
+        refused("has no RTP stream", "pcap", self.path("none.pcap", octets[:24]), line)
+        refused("the name of a line ends with", "capture", DATA / "speech.gsm", line)
+        refused("gives no speech", "capture", self.path("9.up", bytes(400)), line)
+        refused("is an input", "capture", EXAMPLES / "7.up", self.path("8.up", bytes(40)), "--also", self.path("8.up"))
+
+
+if __name__ == "__main__":
+    unittest.main()

@@ -1,0 +1,228 @@
+"""Tests of report.py: reports as JSON and CSV, the losses and pauses of calls, two runs beside each other, and lost sync."""
+
+import csv
+import io
+import json
+import shutil
+import unittest
+from collections import Counter
+
+from support import EXAMPLES, InFolder
+from test_timeline import lay
+
+import report
+import run_lines
+import run_texts
+import trau_frames
+from run_lines import Heard, Sent
+from trau_frames import IDLE_OCTET, PCM_OCTETS, Sort
+
+
+def lay_run(name, folder):
+    """Lays a recorded farm with its Out lines too."""
+    folder.mkdir()
+    lay(name, folder)
+    source = EXAMPLES / "farm" / "wanted"
+    for out in source.glob("*.out") if name == "mixed" else ():
+        shutil.copyfile(out, folder / out.name)
+    return folder
+
+
+class Told(InFolder):
+    def told(self, *words, status=0):
+        got, out, err = self.run_tool(report.main, *words)
+        self.assertEqual((got, err), (status, ""))
+        return out
+
+    def rows(self, *words, status=0):
+        return list(csv.DictReader(io.StringIO(self.told(*words, "--csv", status=status))))
+
+
+class Text(Told):
+    def test_json_and_csv(self):
+        for name in ("mixed", "clean", "harsh"):
+            file = lay_run(name, self.folder / name) / "report.txt"
+            read = run_texts.read_report(file)
+            whole = json.loads(self.told("text", file, "--json"))
+            self.assertEqual(len(whole["orders"]), len(read.replies))
+            self.assertEqual(sum("refusal" in order for order in whole["orders"]), file.read_text().count("refused"))
+            self.assertEqual([bridge["sent"] for bridge in whole["bridges"]], [list(b.sent) for b in read.bridges])
+            self.assertEqual((whole["end"], whole["left"]), (read.end(), read.left))
+            rows = self.rows("text", file)
+            self.assertEqual([int(row["call"]) for row in rows], list(read.calls))
+            for row, told in zip(rows, whole["calls"]):
+                self.assertEqual(row, {key: str(value) for key, value in told.items()})
+                self.assertIn(
+                    f"call {row['call']} from {row['start']} to {row['end']} {row['cause']}\n", file.read_text()
+                )
+
+    def test_lines_that_failed(self):
+        counts = "good 0 sid 0 invalid 0 bad 0 idle 0 other 0 miss 0 none 0 made 0"
+        text = f"order 1 ok\ncall 9 from 5 to 5 fault up\ncounts 9 {counts}\nline 9 up failed\nline 9 pcm failed\n"
+        file = self.path("report.txt", (text + "end period 5 calls 1 left 1\n").encode())
+        self.assertEqual(self.rows("text", file)[0]["failed"], "up pcm")
+        self.assertEqual(json.loads(self.told("text", file, "--json"))["failed"][1], {"call": 9, "side": "pcm"})
+
+    def test_refused(self):
+        file = lay_run("mixed", self.folder / "mixed") / "report.txt"
+        text = file.read_text()
+        for changed in (text[:-1], text.replace("good 61", "good 60"), "", "no memory\n"):
+            file.write_text(changed)
+            self.assert_refused(report.main, ["text", file, "--json"], "report.txt: ")
+        self.assert_refused(report.main, ["text", file, "--json", "--csv"], "not allowed with")
+        self.assert_refused(report.main, [], "COMMAND")
+        self.assert_refused(report.main, ["text", self.folder / "gone"], "No such file")
+
+
+class Calls(Told):
+    def test_heard(self):
+        sorts = [
+            Sort(word)
+            for word in "bad sid bad good miss none good idle invalid bad good other sid invalid good".split()
+        ]
+        wanted = "quiet noise noise speech lost lost speech quiet quiet quiet speech lost noise noise speech"
+        self.assertEqual([value.value for value in run_lines.heard(sorts)], wanted.split())
+
+    def test_quiet_periods_are_idle_on_the_out_lines(self):
+        # A period outside of bridges is 160 idle octets where nothing is to be heard, and speech or noise mostly isn't.
+        folder = lay_run("mixed", self.folder / "mixed")
+        read = run_texts.read_report(folder / "report.txt")
+        seen = Counter()
+        for call in run_lines.read_calls(folder, read).values():
+            spans = [bridge for bridge in read.bridges if call.number in bridge.calls]
+            octets = call.octets(folder, "out")
+            for number, value in enumerate(run_lines.heard(call.sorts())):
+                period = call.span.start + number
+                if not any(bridge.start <= period < bridge.end for bridge in spans):
+                    idle = octets[number * PCM_OCTETS : (number + 1) * PCM_OCTETS] == bytes([IDLE_OCTET]) * PCM_OCTETS
+                    seen[value, idle] += 1
+        self.assertEqual(seen[Heard.QUIET, False], 0)
+        self.assertGreater(seen[Heard.QUIET, True], 0)
+        self.assertGreater(seen[Heard.SPEECH, False], 9 * seen[Heard.SPEECH, True])
+
+    def test_frames_of_the_downlinks(self):
+        # The frames stand at their places, and are those that a search at any bit finds.
+        for name in ("mixed", "clean", "harsh"):
+            folder = lay_run(name, self.folder / name)
+            read = run_texts.read_report(folder / "report.txt")
+            for call in run_lines.read_calls(folder, read).values():
+                bits = trau_frames.bits_of(call.octets(folder, "down"))
+                kinds = Counter(run_lines.sent(made, bits) for made in call.made)
+                self.assertEqual(kinds[Sent.OTHER], 0)
+                found = list(trau_frames.frames_of_downlink(bits))
+                self.assertLessEqual(sum(kinds.values()) - kinds[None] - len(found), 0)
+                speech = sum(frame[17:22] == trau_frames.SPEECH_DOWN for frame in found)
+                whole = kinds[Sent.SPEECH] + kinds[Sent.SILENCE] + kinds[Sent.HANDED]
+                self.assertIn(speech - whole, (0, 1))
+            for bridge in read.bridges:
+                self.assertLessEqual(bridge.sent[0], bridge.end - bridge.start)
+
+    def test_rows(self):
+        folder = lay_run("mixed", self.folder / "mixed")
+        rows = {row["call"]: row for row in self.rows("calls", folder)}
+        self.assertEqual(list(rows), ["1", "2", "3", "4"])
+        for number, row in rows.items():
+            parts = sum(int(row[what]) for what in ("speech", "lost", "noise", "quiet"))
+            self.assertEqual(parts, int(row["periods"]))
+        self.assertEqual(rows["1"]["rate"], "0.3673")
+        self.assertEqual((rows["1"]["longest"], rows["1"]["from"]), ("18", "89"))
+        self.assertEqual((rows["4"]["rate"], rows["4"]["from"]), ("", ""))
+        self.assertEqual(json.loads(self.told("calls", folder, "--json"))[3]["rate"], None)
+        self.assertIn("0.3673", self.told("calls", folder))
+
+    def test_of_another_run(self):
+        folder = lay_run("mixed", self.folder / "mixed")
+        shutil.copyfile(folder / "1.up", folder / "2.up")
+        self.assert_refused(report.main, ["calls", folder], "2.up: gives good")
+        (folder / "2.up").unlink()
+        self.assert_refused(report.main, ["calls", folder], "2.up: No such file")
+
+
+class Compared(Told):
+    def setUp(self):
+        super().setUp()
+        self.one = lay_run("mixed", self.folder / "one")
+        self.other = lay_run("mixed", self.folder / "other")
+
+    def compare(self, status):
+        return self.rows("compare", self.one, self.other, status=status)
+
+    def change(self, name, place, octet):
+        octets = bytearray((self.other / name).read_bytes())
+        octets[place] = octet
+        (self.other / name).write_bytes(octets)
+
+    def test_same(self):
+        self.assertEqual(self.compare(0), [])
+
+    def test_lines(self):
+        self.change("3.out", 20 * 160 + 7, 0x11)
+        self.change("3.out", 25 * 160, 0x11)
+        (self.other / "2.down").write_bytes((self.one / "2.down").read_bytes()[:-100])
+        (self.other / "4.out").unlink()
+        down, out, gone = self.compare(1)
+        self.assertEqual((down["call"], down["what"], down["period"], down["octet"]), ("2", "down", "97", "3900"))
+        self.assertEqual((down["periods"], down["one"], down["other"]), ("3", "4000 octets", "3900 octets"))
+        self.assertEqual((out["call"], out["what"], out["period"], out["seconds"]), ("3", "out", "93", "1.86"))
+        self.assertEqual((out["octet"], out["periods"], out["one"]), ("3207", "2", ""))
+        self.assertEqual((gone["call"], gone["other"]), ("4", "no line"))
+
+    def test_reports(self):
+        text = (self.other / "report.txt").read_text()
+        text = text.replace("order 14 refused 5 call 3", "order 14 ok").replace(
+            "from 22 to 95 sent 73 73", "from 22 to 95 sent 73 72"
+        )
+        text = text.replace("sent 73 72 lost 0 0", "sent 73 72 lost 0 1").replace("made 75", "made 74")
+        (self.other / "report.txt").write_text(text)
+        self.assertEqual([row["what"] for row in self.compare(1)], ["order 14", "bridge 1", "counts"])
+        (self.other / "report.txt").write_text("")
+        self.assert_refused(report.main, ["compare", self.one, self.other], "isn't a whole report")
+
+
+class Sync(Told):
+    def sync(self, octets, *words):
+        return json.loads(self.told("sync", self.path("9.up", octets), "--json", *words))
+
+    def setUp(self):
+        super().setUp()
+        self.frames = (EXAMPLES / "7.up").read_bytes()[: 20 * 40]
+
+    def test_no_loss(self):
+        told = self.sync(self.frames)
+        self.assertEqual((told["frames"], told["misses"], told["first"], told["losses"]), (20, 0, 0, []))
+        self.assertEqual(self.told("sync", self.path("9.up")), "  ".join(report.SYNC_COLUMNS) + "\n")
+
+    def test_broken_bits(self):
+        octets = bytearray(self.frames)
+        octets[5 * 40] ^= 0x81  # two of the sync zeros
+        octets[5 * 40 + 38] ^= 0x80  # the last sync one
+        (loss,) = self.sync(octets)["losses"]
+        self.assertEqual((loss["due"], loss["period"], loss["misses"], loss["hunted_from"]), (1600, 5, 1, None))
+        self.assertEqual(loss["broken"], [{"place": 1600, "sync_bits": [0, 7, 304]}])
+        self.assertEqual((loss["match"], loss["slip"], loss["found"], loss["found_period"]), (1920, 0, 1920, 6))
+
+    def test_slips(self):
+        bits = trau_frames.bits_of(self.frames)
+        for slip, found in ((3, 9 * 320 + 3), (-5, 10 * 320 - 5), (160, 9 * 320 + 160)):
+            place = 6 * 320
+            slipped = bits[:place] + "1" * slip + bits[place:] if slip > 0 else bits[: place + slip] + bits[place:]
+            slipped += "1" * (-len(slipped) % 320)
+            (loss,) = self.sync(trau_frames.octets_of(slipped))["losses"]
+            self.assertEqual((loss["misses"], loss["hunted_from"], loss["slip"]), (3, 9 * 320, slip))
+            self.assertEqual((loss["match"], loss["found"]), (place + slip, found))
+
+    def test_no_next_match(self):
+        (loss,) = self.sync(self.frames[:80] + bytes(200))["losses"]
+        self.assertEqual((loss["match"], loss["slip"], loss["found"], loss["misses"]), (None, None, None, 3))
+        self.assertEqual([len(miss["sync_bits"]) for miss in loss["broken"]], [19, 19, 19])
+
+    def test_frames_text(self):
+        text = "".join(f"{place * 320} good\n" for place in range(20)) + "frames 20 left 3\n"
+        told = self.path("frames.txt", text.encode())
+        self.assertEqual(self.sync(self.frames + b"abc", "--frames", told)["frames"], 20)
+        line = self.path("9.up", self.frames)
+        self.assert_refused(report.main, ["sync", line, "--frames", told], "the command `frames` tells other frames")
+
+
+if __name__ == "__main__":
+    unittest.main()

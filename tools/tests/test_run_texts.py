@@ -1,0 +1,131 @@
+"""Tests of run_texts.py: the grammar of orders and of reports, on the texts of three recorded farms and on damaged ones."""
+
+import unittest
+from pathlib import Path
+
+from support import CODEC, EXAMPLES, TOP, InFolder
+
+import run_texts
+from trau_frames import Refusal
+
+FARMS = (
+    (EXAMPLES / "farm" / "orders.txt", EXAMPLES / "farm" / "wanted" / "report.txt"),
+    (TOP / "checks" / "farms" / "clean" / "orders.txt", TOP / "checks" / "farms" / "clean" / "report.txt"),
+    (TOP / "checks" / "farms" / "harsh" / "orders.txt", CODEC / "farm-report.txt"),
+)
+NAME = Path("text")
+
+
+class Orders(InFolder):
+    def test_each_line_comes_back(self):
+        for name, _ in FARMS:
+            orders = run_texts.read_orders(name)
+            self.assertEqual("".join(f"{order.line()}\n" for order in orders), name.read_text())
+            self.assertEqual([order.number for order in orders], list(range(1, len(orders) + 1)))
+
+    def test_ends_of_ranges(self):
+        text = b"0 open 1024\n0 level 1024 32767\n0 level 1 0\n0 dtx 1 off\n4294967294 close 1024"
+        self.assertEqual(len(run_texts.orders_of(NAME, text)), 5)
+        self.assertEqual(run_texts.orders_of(NAME, b""), [])
+
+    def test_refused(self):
+        for text in (
+            "0 open 01",
+            "00 open 1",
+            "-1 open 1",
+            "4294967295 open 1",
+            "0 open 0",
+            "0 open 1025",
+            "0 open",
+            "0 open 1 2",
+            "0 bridge 1",
+            "0 level 1 32768",
+            "0 dtx 1 maybe",
+            "0 close 1 ",
+            " 0 close 1",
+            "0  close 1",
+            "0 close 1\r",
+            "0 shut 1",
+            "0",
+            "",
+            "\xb2 open 1",
+        ):
+            with self.subTest(text), self.assertRaisesRegex(Refusal, "text: line 2 "):
+                run_texts.orders_of(NAME, f"0 open 1\n{text}\n0 open 2".encode("latin-1"))
+        with self.assertRaisesRegex(Refusal, "line 2 has a stamp below"):
+            run_texts.orders_of(NAME, b"5 open 1\n4 open 2\n")
+        with self.assertRaisesRegex(Refusal, "names call 1025; the calls of one farm are 1 to 1,024"):
+            run_texts.orders_of(NAME, b"5 open 1025\n")
+
+    def test_limits(self):
+        self.assertEqual(len(run_texts.orders_of(NAME, 65536 * b"0 open 1\n")), 65536)
+        for text in (65537 * b"0 open 1\n", b"0 open 1" * 131073):
+            with self.assertRaisesRegex(Refusal, "orders too long"):
+                run_texts.orders_of(NAME, text)
+
+
+class Reports(unittest.TestCase):
+    def test_each_comes_back(self):
+        for orders, name in FARMS:
+            report = run_texts.read_report(name)
+            self.assertEqual(report.text(), name.read_text())
+            run_texts.hold_to_orders(name, report, run_texts.read_orders(orders), run_texts.MOST_PERIODS)
+
+    def test_no_front_and_no_rest_is_a_report(self):
+        text = FARMS[0][1].read_bytes()
+        ends = [place + 1 for place, octet in enumerate(text) if octet == 10]
+        for end in (0, *ends[:-1], len(text) - 1):
+            with self.assertRaisesRegex(Refusal, "isn't a whole report"):
+                run_texts.report_of(NAME, text[:end])
+        for start in ends[:-1]:
+            with self.assertRaises(Refusal):
+                run_texts.report_of(NAME, text[start:])
+
+    def test_no_line_may_be_wanting_doubled_or_elsewhere(self):
+        lines = FARMS[0][1].read_bytes().splitlines(True)
+        for number, line in enumerate(lines):
+            others = lines[:number] + lines[number + 1 :]
+            for changed in (
+                others,
+                lines[:number] + [line, line] + lines[number + 1 :],
+                [*others, line],
+                [line, *others],
+            ):
+                # That a bridge's line or the last order is wanting the orders tell alone.
+                if changed != lines and not line.startswith((b"bridge", b"order 18")):
+                    with self.subTest(line), self.assertRaises(Refusal):
+                        run_texts.report_of(NAME, b"".join(changed))
+
+    def test_wrong_sums(self):
+        text = FARMS[0][1].read_bytes()
+        for old, new in (
+            (b"good 61", b"good 60"),
+            (b"sent 73 73", b"sent 73 72"),
+            (b"lost 0 0", b"lost 1 0"),
+            (b"end period 153", b"end period 152"),
+            (b"calls 4 left", b"calls 5 left"),
+            (b"call 3 from 73 to 131", b"call 3 from 73 to 72"),
+            (b"order 14 refused 5 call 3", b"order 14 refused 5 call 3 partner 1"),
+            (b"order 14 refused 5 call 3", b"order 14 refused 3 call 3"),
+            (b"bridge 1 3", b"bridge 1 5"),
+            (b"call 1 from", b"call 01 from"),
+            (b"end up 0", b"end up 00"),
+        ):
+            self.assertIn(old, text)
+            with self.subTest(new), self.assertRaises(Refusal):
+                run_texts.report_of(NAME, text.replace(old, new, 1))
+
+    def test_reports_of_other_orders(self):
+        name, orders = FARMS[0][1], run_texts.read_orders(FARMS[0][0])
+        report = run_texts.read_report(name)
+        for others in (orders[:-1], orders[1:], orders + orders[-1:]):
+            with self.assertRaises(Refusal):
+                run_texts.hold_to_orders(name, report, others, run_texts.MOST_PERIODS)
+        for periods in (131, 144, 145, 152, 153):
+            with self.assertRaises(Refusal):
+                run_texts.hold_to_orders(name, report, orders, periods)
+        run_texts.hold_to_orders(name, report, orders, 154)
+
+
+if __name__ == "__main__":
+    unittest.main()

@@ -1,0 +1,235 @@
+#!/usr/bin/env python3
+"""Shows how far a run is, and when it will be done, while `trau run <orders.txt >report.txt` works in a folder.
+
+It looks at the sizes of the lines, and writes nothing. A run writes its report at its end in one piece: as long as the
+report's file is empty, the run is on, and outgoing lines that are older than this file are of an earlier run.
+"""
+
+from __future__ import annotations
+
+import argparse
+import importlib
+import sys
+import time
+from dataclasses import dataclass
+from pathlib import Path
+from typing import Any, Dict, List, NamedTuple, Optional, Sequence, Union
+
+import run_texts
+import trau_frames
+from run_texts import MOST_PERIODS, Order
+from trau_frames import FRAME_OCTETS, PCM_OCTETS, Refusal
+
+
+def whole_periods(name: Path, octets: int) -> int:
+    """How many whole periods a line has."""
+    return name.stat().st_size // octets if name.is_file() else 0
+
+
+def expected_periods(folder: Path, orders: Sequence[Order], periods: int) -> Dict[int, int]:
+    """How many periods each call will have, if no line fails and its orders are accepted."""
+    opened: Dict[int, int] = {}
+    closed: Dict[int, int] = {}
+    for order in orders:
+        call = order.calls[0]
+        if order.verb == "open":
+            opened.setdefault(call, order.stamp)
+        elif order.verb == "close" and call in opened:
+            closed.setdefault(call, order.stamp)
+    expected = {}
+    for call, start in opened.items():
+        lines = min(
+            whole_periods(folder / f"{call}.up", FRAME_OCTETS), whole_periods(folder / f"{call}.pcm", PCM_OCTETS)
+        )
+        expected[call] = max(0, min(lines, closed.get(call, periods) - start, periods - start))
+    return expected
+
+
+class Progress(NamedTuple):
+    """How far runs are: periods of calls that are on the lines, and calls that are done; when the first run began, and
+    whether all have ended."""
+
+    periods: int
+    calls: int
+    began: float
+    ended: bool
+
+
+@dataclass
+class Watched:
+    """The folder of a run."""
+
+    folder: Path
+    report: Path
+    expected: Dict[int, int]
+
+    @staticmethod
+    def read(folder: Path, words: argparse.Namespace) -> Watched:
+        """Reads the orders of the run."""
+        orders = run_texts.read_orders(words.orders or folder / "orders.txt")
+        report = words.report or folder / "report.txt"
+        return Watched(folder, report, expected_periods(folder, orders, words.periods))
+
+    def done(self, call: int, began: float) -> int:
+        """How many periods of a call are on its Out line."""
+        line = self.folder / f"{call}.out"
+        if not line.is_file() or line.stat().st_mtime < began:
+            return 0
+        return min(self.expected[call], whole_periods(line, PCM_OCTETS))
+
+    def progress(self) -> Progress:
+        """How far this run is."""
+        if not self.report.is_file():
+            return Progress(0, 0, time.time(), False)
+        told = self.report.stat()
+        if told.st_size:
+            return Progress(sum(self.expected.values()), len(self.expected), told.st_mtime, True)
+        done = {call: self.done(call, told.st_mtime) for call in self.expected}
+        calls = sum(done[call] == self.expected[call] for call in done)
+        return Progress(sum(done.values()), calls, told.st_mtime, False)
+
+
+def progress_of(runs: Sequence[Watched]) -> Progress:
+    """How far all runs are together."""
+    each = [run.progress() for run in runs]
+    began = min((one.began for one in each if not one.ended), default=time.time())
+    return Progress(
+        sum(one.periods for one in each), sum(one.calls for one in each), began, all(one.ended for one in each)
+    )
+
+
+class Pace(NamedTuple):
+    """What a pace is measured from: a time, and the periods that were done then."""
+
+    time: float
+    periods: int
+
+    @staticmethod
+    def of(runs: Sequence[Watched], first: Progress) -> Pace:
+        """Of one run from its beginning; of several from the first look, since those that ended don't tell when they began."""
+        return Pace(first.began, 0) if len(runs) == 1 else Pace(time.time(), first.periods)
+
+    def seconds_left(self, progress: Progress, expected: int) -> Optional[float]:
+        """When it will be done if it goes on like this, or None where nothing went yet."""
+        went, passed = progress.periods - self.periods, time.time() - self.time
+        if progress.ended or went <= 0 or passed <= 0:
+            return None
+        return passed * (expected - progress.periods) / went
+
+
+def said(progress: Progress, expected: int, calls: int, left: Optional[float]) -> str:
+    """The progress in one line."""
+    percent = 100 * progress.periods // expected if expected else 100
+    until = "" if left is None else f", {left:.0f} s left"
+    return f"watch periods {progress.periods} of {expected}, {percent} %, calls done {progress.calls} of {calls}{until}"
+
+
+class PlainLines:
+    """Shows the progress as lines of text."""
+
+    def show(self, progress: Progress, line: str) -> None:
+        print(line, flush=True)
+
+    def close(self) -> None:
+        pass
+
+
+class Bar:
+    """Shows the progress as a bar of the library tqdm."""
+
+    def __init__(self, tqdm: Any, expected: int) -> None:
+        self.bar = tqdm.tqdm(total=expected, unit=" periods", file=sys.stdout)
+
+    def show(self, progress: Progress, line: str) -> None:
+        self.bar.update(progress.periods - self.bar.n)
+
+    def close(self) -> None:
+        self.bar.close()
+
+
+def display(words: argparse.Namespace, expected: int) -> Union[Bar, PlainLines]:
+    """A bar at a terminal where there is the library for it, else plain lines."""
+    if not words.plain and sys.stdout.isatty():
+        try:
+            return Bar(importlib.import_module("tqdm"), expected)
+        except ImportError:
+            pass
+    return PlainLines()
+
+
+def text_of_ends(runs: Sequence[Watched]) -> List[str]:
+    """What runs told that ended without a report."""
+    told = []
+    for run in runs:
+        text = trau_frames.read_file(run.report)
+        try:
+            run_texts.report_of(run.report, text)
+        except Refusal:
+            first = text.decode("latin-1").split("\n")[0]
+            told.append(f"{run.folder}: ended without a report: {first[:60]}")
+    return told
+
+
+def watch(words: argparse.Namespace) -> int:
+    """Shows the progress until all runs have ended, or once."""
+    runs = [Watched.read(folder, words) for folder in words.folders]
+    expected = sum(sum(run.expected.values()) for run in runs)
+    calls = sum(len(run.expected) for run in runs)
+    shown = display(words, expected)
+    pace: Optional[Pace] = None
+    while True:
+        progress = progress_of(runs)
+        pace = pace or Pace.of(runs, progress)
+        left = pace.seconds_left(progress, expected)
+        shown.show(progress, said(progress, expected, calls, left))
+        if progress.ended or words.once:
+            break
+        time.sleep(words.interval)
+    shown.close()
+    ends = text_of_ends(runs) if progress.ended else []
+    for line in ends:
+        print(f"watch.py: {line}", file=sys.stderr)
+    return 1 if ends else 0
+
+
+def parser() -> argparse.ArgumentParser:
+    """The words of the command line."""
+    words = trau_frames.Words(
+        description=__doc__,
+        epilog="example: watch.py farm; or of a farm that was cut: watch.py cut/[0-9]*",
+        formatter_class=argparse.RawDescriptionHelpFormatter,
+        allow_abbrev=False,
+    )
+    words.add_argument("folders", type=Path, nargs="+", metavar="FOLDER", help="the folder of a run, or of several")
+    words.add_argument("--orders", type=Path, metavar="FILE", help="the orders of the run (default FOLDER/orders.txt)")
+    words.add_argument("--report", type=Path, metavar="FILE", help="the report of the run (default FOLDER/report.txt)")
+    words.add_argument("--periods", type=int, default=MOST_PERIODS, metavar="N", help="as of trau run")
+    words.add_argument("--interval", type=float, default=1.0, metavar="SECONDS", help="between two looks (default 1)")
+    words.add_argument("--once", action="store_true", help="look once")
+    words.add_argument(
+        "--plain", action="store_true", help="lines of text also where there is a terminal and the library tqdm"
+    )
+    return words
+
+
+def main(words: Sequence[str]) -> int:
+    """Carries out the words of the command line: 0 where all runs ended with a report, or are on; 1 where one has none."""
+    reader = parser()
+    asked = reader.parse_args(words)
+    if not 0.01 <= asked.interval <= 3600:
+        reader.error(f"--interval {asked.interval} isn't 0.01 to 3600")
+    if not 1 <= asked.periods <= MOST_PERIODS:
+        reader.error(f"--periods {asked.periods} isn't 1 to {MOST_PERIODS:,}")
+    if len(asked.folders) > 1 and (asked.orders or asked.report):
+        reader.error("--orders and --report are of one folder")
+    try:
+        return watch(asked)
+    except Refusal as refusal:
+        print(f"watch.py: {refusal}", file=sys.stderr)
+        return 2
+    except KeyboardInterrupt:
+        return 130
+
+
+if __name__ == "__main__":
+    sys.exit(main(sys.argv[1:]))
