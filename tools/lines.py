@@ -71,7 +71,7 @@ def data_of_wav(name: Path, given: bytes) -> List[str]:
 
 def uplink(words: argparse.Namespace, given: bytes) -> Made:
     """An uplink of good speech frames, from frames of libgsm or from those of a WAV file."""
-    frames = data_of_wav(words.given, given) if given[:4] == b"RIFF" else data_of_file(words.given, given)
+    frames = data_of_wav(words.given, given) if is_wav(given) else data_of_file(words.given, given)
     control = SpeechControl(dtxd=words.dtxd == 1).bits()
     line = b"".join(trau_frames.octets_of(trau_frames.frame_of(control, data)) for data in frames)
     return Made(line, f"uplink frames {len(frames)}")
@@ -137,9 +137,14 @@ class Wav:
     data: bytes
 
 
+def is_wav(content: bytes) -> bool:
+    """Whether this is a WAV file, of any kind."""
+    return content[:4] == b"RIFF" and content[8:12] == b"WAVE"
+
+
 def read_wav(name: Path, content: bytes) -> Wav:
     """Reads a WAV file of any kind."""
-    if content[:4] != b"RIFF" or content[8:12] != b"WAVE":
+    if not is_wav(content):
         raise Refusal(f"{name}: isn't a WAV file; raw A-law octets are taken with --raw")
     form, place = None, 12
     while place + 8 <= len(content):
@@ -205,7 +210,7 @@ OCTETS_SEARCHED = 4000
 
 def raw_alaw(name: Path, octets: bytes) -> bytes:
     """The octets of a file of A-law alone; a file of another kind is refused, where that shows."""
-    if octets[:4] == b"RIFF":
+    if is_wav(octets):
         raise Refusal(f"{name}: is a WAV file and no raw A-law; pcm takes it without --raw")
     is_named = name.suffix in (".up", ".down")
     if is_named or trau_frames.FRAME_OF_DOWNLINK.search(trau_frames.bits_of(octets[:OCTETS_SEARCHED])):

@@ -17,7 +17,7 @@ from collections import Counter
 from dataclasses import dataclass, field
 from itertools import groupby
 from pathlib import Path
-from typing import Callable, Dict, Iterator, List, Optional, Sequence, Tuple
+from typing import Callable, Dict, Iterator, List, NamedTuple, Optional, Sequence, Tuple
 
 import trau_frames
 from trau_frames import FRAME_OCTETS, PCM_OCTETS, PERIODS_A_SECOND, Refusal, Sort, Yield
@@ -303,6 +303,20 @@ def looks(sorts: Sequence[Sort]) -> Iterator[Look]:
         yield Look.PAUSE if pausing and sort is Sort.BAD else Look[sort.name]
 
 
+# Each is drawn wherever it comes, be it for one period of thousands in a pixel.
+LOSSES = (Look.BAD, Look.INVALID, Look.OTHER, Look.MISS, Look.NONE)
+
+
+class Stretch(NamedTuple):
+    """A stretch of the periods of a call that is drawn in one piece: from where to where, and the looks that are shown, one
+    above another, with what is said of it."""
+
+    left: float
+    right: float
+    shown: Tuple[Look, ...]
+    title: str
+
+
 # Lengths are in pixels.
 LEFT, TOP, RIGHT = 120, 24, 24
 ROW, MARKS, BAND, BRIDGE = 68, 16, 24, 15
@@ -550,13 +564,13 @@ class Picture:
         left, right = self.x(call.start), self.x(call.end)
         self.text(LEFT - 14, top + 11, f"call {call.number}", "name", "end")
         self.text(LEFT - 14, top + 26, f"{call.start} to {call.end}", "small", "end")
-        sharp = {"shape_rendering": "crispEdges"} if self.scale >= 1 else {}
-        place = call.start
-        for look, periods in groupby(looks(call.sorts())):
-            end = place + sum(1 for _ in periods)
-            title = f"call {call.number} {span(place, end)}: {look.words}, {counted(end - place, 'period')}"
-            self.box(self.x(place), top, self.scale * (end - place), BAND, look.colour, title, **sharp)
-            place = end
+        for stretch in self.runs(call) if self.scale >= 1 else self.columns(call):
+            high = BAND / len(stretch.shown)
+            for number, look in enumerate(stretch.shown):
+                place = top + high * number
+                self.box(
+                    stretch.left, place, stretch.right - stretch.left, high, look.colour, stretch.title, shape_rendering="crispEdges"
+                )
         frame = {"fill": "none", "stroke": INK, "stroke_width": 0.75, "pointer_events": "none"}
         self.box(left, top, right - left, BAND, **frame)
         opening = f"call {call.number} opened at period {call.start} ({seconds(call.start)})"
@@ -565,6 +579,34 @@ class Picture:
             self.line(x, top - 2, x, top + BAND + 2, INK, 2, title)
         self.add("text", ending, self.end_words(call), x=right + 8, y=float(top + 16), **{"class": "halo"})
         self.draw_shifts(call, top)
+
+    def runs(self, call: Call) -> Iterator[Stretch]:
+        """The periods of a call, where each has a pixel or more: runs of equal ones."""
+        place = call.start
+        for look, periods in groupby(looks(call.sorts())):
+            end = place + sum(1 for _ in periods)
+            title = f"call {call.number} {span(place, end)}: {look.words}, {counted(end - place, 'period')}"
+            yield Stretch(self.x(place), self.x(end), (look,), title)
+            place = end
+
+    def columns(self, call: Call) -> Iterator[Stretch]:
+        """The periods of a call, where a pixel has several: runs of pixels that show the same. A pixel shows each loss that is
+        in it, and where there is none what most of its periods are."""
+        pixels: Dict[int, Counter] = {}
+        for period, look in enumerate(looks(call.sorts()), call.start):
+            pixels.setdefault(int(self.x(period)), Counter())[look] += 1
+        place = call.start
+        for shown, columns in groupby(pixels.items(), lambda column: self.shown(column[1])):
+            run = list(columns)
+            counts = sum((counts for _, counts in run), Counter())
+            end = place + sum(counts.values())
+            told = ", ".join(f"{look.words}, {counted(counts[look], 'period')}" for look in Look if counts[look])
+            yield Stretch(run[0][0], run[-1][0] + 1, shown, f"call {call.number} {span(place, end)}: {told}")
+            place = end
+
+    def shown(self, counts: Counter) -> Tuple[Look, ...]:
+        """What a pixel shows of the looks of its periods."""
+        return tuple(look for look in LOSSES if counts[look]) or (counts.most_common(1)[0][0],)
 
     def draw_shifts(self, call: Call, top: float) -> None:
         """Marks of the shifts of a call's downlink, with their octets where there is room."""

@@ -99,6 +99,37 @@ class Farms(InFolder):
         run = timeline.Run(orders, bridges, calls)
         self.check_picture(run, ElementTree.fromstring(timeline.Picture(run, 1300).draw()))
 
+    def test_losses_of_a_long_run(self):
+        # 100,000 periods in 1,000 pixels. One of each loss, each in the middle of good frames, and two in one pixel.
+        sorts = [trau_frames.Sort.GOOD] * 100000
+        lost = {1050: "BAD", 20050: "MISS", 30050: "OTHER", 40050: "INVALID", 50050: "NONE", 60010: "BAD", 60090: "MISS"}
+        for period, name in lost.items():
+            sorts[period] = trau_frames.Sort[name]
+        call = timeline.Call(7, 0, 100000, "end up 0", {}, [])
+        call.sorts = lambda: sorts
+        run = timeline.Run([timeline.Order(1, 0, "open 7", None)], [], [call])
+        picture = timeline.Picture(run, 1000)
+        root = ElementTree.fromstring(picture.draw())
+        boxes = [box for box in root.iter(f"{SVG}rect") if (box.findtext(f"{SVG}title") or "").startswith("call 7 from")]
+        for period, name in lost.items():
+            at = picture.x(period)
+            colours = {
+                box.get("fill"): float(box.get("height"))
+                for box in boxes
+                if float(box.get("x")) <= at < float(box.get("x")) + float(box.get("width"))
+            }
+            both = {timeline.Look.BAD.colour: 12.0, timeline.Look.MISS.colour: 12.0}
+            self.assertEqual(colours, both if period > 60000 else {timeline.Look[name].colour: 24.0}, name)
+        for box in boxes:
+            self.assertGreaterEqual(float(box.get("width")), 1)
+            self.assertEqual(float(box.get("x")), int(float(box.get("x"))))
+            self.assertEqual(box.get("shape-rendering"), "crispEdges")
+        # The boxes are next to one another, and no loss is in a box of another colour.
+        self.assertEqual(sum(float(box.get("width")) * float(box.get("height")) for box in boxes), 24 * 1000)
+        titles = [box.findtext(f"{SVG}title") for box in boxes]
+        self.assertIn("call 7 from 1000 to 1100 (20.00 s to 22.00 s): good speech, 99 periods, lost: unusable elsewhere, 1 period", titles)
+        self.assert_inside(root)
+
     def check_picture(self, run, root):
         titles = [title.text for title in root.iter(f"{SVG}title")]
         texts = [text.text for text in root.iter(f"{SVG}text")]
@@ -222,6 +253,16 @@ class Pictures(InFolder):
         self.refused("isn't 200 to", "--width", "5")
         self.refused("--width", "--width", "wide")
         self.assert_refused(timeline.main, [self.folder / "gone", self.folder / "run.svg"], "No such file")
+
+    def test_a_missing_line_and_an_older_picture(self):
+        # The uplink of a call without periods is an input that need not be there; the picture is written over the older one.
+        counts = "good 0 sid 0 invalid 0 bad 0 idle 0 other 0 miss 0 none 0 made 0"
+        report = f"order 1 ok\ncall 9 from 5 to 5 fault up\ncounts 9 {counts}\nline 9 up failed\nend period 5 calls 1 left 0\n"
+        self.path("report.txt", report.encode())
+        self.path("orders.txt", b"5 open 9\n")
+        for _ in range(2):
+            status, out, err = self.run_tool(timeline.main, self.folder, self.folder / "run.svg")
+            self.assertEqual((status, out, err), (0, "timeline calls 1 from 5 to 5 bridges 0 shifts 0 refused 0\n", ""))
 
     def test_never_an_input(self):
         for name in ("1.up", "orders.txt", "report.txt"):
