@@ -260,7 +260,8 @@ def check(words: argparse.Namespace) -> int:
     text = Text.read(octets)
     said = [(line, "; ".join(faults)) for line, faults in text.faults.items()]
     warned = warnings_of(text.orders, words.lines)
-    for line, what in sorted(said + [(line, f"warning: {what}") for line, what in warned]):
+    said += [(line, f"warning: {what}") for line, what in warned]
+    for line, what in sorted(said, key=lambda each: each[0]):
         print(f"line {line}: {what}")
     too_long = len(octets) > MOST_OCTETS or text.lines > MOST_LINES
     if too_long:
