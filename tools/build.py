@@ -34,6 +34,7 @@ DISK_OF_THE_PROGRAM = 300_000_000
 MEMORY_OF_A_CHECK = 2_500_000_000
 
 KILLED = re.compile(r"failed \(-9\)")
+UNPROVED = re.compile(r"^\w+ \S+: (not proved|no proof)|^error")
 
 
 # What is to be built, and what there is to build it with
@@ -145,7 +146,7 @@ class Progress:
 
     def words(self) -> str:
         """How far the work is."""
-        return f"crate {self.done} of {self.crates}, functions {self.functions}, {self.minutes()} minutes, {self.step}"
+        return f"crate {self.done} of {self.crates}, functions {self.functions}, {self.minutes()} minutes: {self.step}"
 
     def clear(self) -> None:
         """Removes the line that moves."""
@@ -160,16 +161,8 @@ class Progress:
             self.stream.flush()
 
     def at(self, step: str) -> None:
-        """The work comes to a step that is no crate's."""
+        """The work comes to a step, as a crate that is done."""
         self.step = step
-        if not self.moves:
-            self.say(self.words())
-
-    def proved(self, crate: str, functions: int) -> None:
-        """A crate is done."""
-        self.done += 1
-        self.functions += functions
-        self.step = f"{crate} is proved"
         if not self.moves:
             self.say(self.words())
 
@@ -207,22 +200,45 @@ class Toolchain:
         yield str(ran.returncode)
 
 
+class Crates:
+    """Reads what rt says of crates that it proves side by side: as each is done `== NAME`, and then what its check said."""
+
+    def __init__(self, progress: Progress) -> None:
+        self.progress = progress
+        self.crate: Optional[str] = None  # of which the words come
+        self.was_killed = False
+
+    def tell(self) -> None:
+        """Says of the last crate that it is done, once."""
+        if self.crate:
+            self.progress.at(self.crate)
+        self.crate = None
+
+    def read(self, line: str) -> None:
+        """Reads a line."""
+        if line.startswith("== "):
+            self.tell()
+            if line != "== summary":
+                self.crate = line[3:]
+                self.progress.done += 1
+        elif line.startswith("logic=proved "):
+            self.progress.functions += int(re.search(r"functions=(\d+)|$", line)[1] or 0)
+            self.tell()
+        elif UNPROVED.search(line):
+            self.progress.say(line)
+        elif line.startswith("rt: waiting for another rt"):
+            self.progress.say("another rt works in these folders; this one waits for it")
+        self.was_killed = self.was_killed or bool(KILLED.search(line))
+
+
 def prove(rt: Toolchain, progress: Progress, at_once: int) -> bool:
     """Proves all crates that the program stands on, and itself, so many side by side. Where one was killed, as for want of
     memory, it goes on with one at a time."""
-    crate, functions, status, was_killed = None, 0, "", False
+    crates, status = Crates(progress), ""
     for line in rt.lines("all", "check", "--jobs", str(at_once)):
+        crates.read(line)
         status = line
-        if line.startswith("== "):
-            if crate:
-                progress.proved(crate, functions)
-            crate, functions = (None if line == "== summary" else line[3:]), 0
-        elif line.startswith("logic=proved "):
-            functions += int(re.search(r"functions=(\d+)|$", line)[1] or 0)
-        elif line.startswith("rt: waiting for another rt"):
-            progress.say("another rt works in these folders; this one waits for it")
-        was_killed = was_killed or bool(KILLED.search(line))
-    if status != "0" and was_killed and at_once > 1:
+    if status != "0" and crates.was_killed and at_once > 1:
         progress.say("a check was killed, likely for want of memory; it goes on with one at a time")
         progress.done = 0
         return prove(rt, progress, 1)
