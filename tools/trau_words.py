@@ -163,7 +163,7 @@ def help_text() -> str:
     lines += table(FILES)
     lines += ["", "Statuses:", ""]
     lines += table((str(status.number), status.means) for status in STATUSES)
-    lines += ["", "./demo runs an example. README.md and docs/ tell the rest."]
+    lines += ["", "demo, beside this script, runs an example; docs/ tells the rest."]
     return "\n".join(lines) + "\n"
 
 
