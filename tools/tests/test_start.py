@@ -97,13 +97,12 @@ class Started(InFolder):
         )
         return ended.returncode, ended.stdout.decode(), ended.stderr.decode()
 
-    def at_terminal(self, *words, name="trau", keys=b"", **changes):
-        """The status, and all that is written to a terminal, at which the script is started."""
+    def at_terminal(self, *words, name="trau", stops_at=None, **changes):
+        """The status, and all that is written to a terminal, at which the script is started; control-C comes at a text."""
         pid, terminal = pty.fork()
         if pid == 0:
             os.chdir(self.folder)
             os.execve(self.top / name, [name, *words], {**self.surroundings, "TERM": "dumb", **changes})
-        os.write(terminal, keys)
         said = b""
         while select.select([terminal], [], [], 20)[0]:
             try:
@@ -113,6 +112,9 @@ class Started(InFolder):
             if not piece:
                 break
             said += piece
+            if stops_at and stops_at in said:
+                os.write(terminal, b"\x03")
+                stops_at = None
         return os.waitstatus_to_exitcode(os.waitpid(pid, 0)[1]), said.decode().replace("\r\n", "\n")
 
     def built(self):
@@ -202,6 +204,14 @@ class TheFirstStart(Started):
             self.assertIn("broken off; the next start goes on from here", ran.stderr.read())
             self.assertEqual(ran.wait(), 130)
             self.assertLess(time.monotonic() - begun, 20)
+
+    def test_control_c(self):
+        begun = time.monotonic()
+        status, said = self.at_terminal("relay", "7", stops_at=b"crate 4 of 4", FAILS="sleep")
+        self.assertIn("broken off; the next start goes on from here", said[-300:])
+        self.assertNotEqual(status, 0)
+        self.assertLess(time.monotonic() - begun, 20)
+        self.assertIn("the program: relay 7\n", self.at_terminal("relay", "7")[1])
 
     def test_processors_and_memory(self):
         with mock.patch.dict(os.environ, {"TRAU_JOBS": ""}):
