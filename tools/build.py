@@ -228,6 +228,8 @@ class Crates:
             self.progress.say(line)
         elif line.startswith("rt: waiting for another rt"):
             self.progress.say("another rt works in these folders; this one waits for it")
+        elif "another copy of the repository is building" in line:
+            self.progress.say(line)
         self.was_killed = self.was_killed or bool(KILLED.search(line))
 
 

@@ -9,6 +9,7 @@ import signal
 import subprocess
 import sys
 import time
+import types
 import unittest
 from unittest import mock
 
@@ -226,7 +227,7 @@ class TheFirstStart(Started):
 
     def test_too_little_disk(self):
         def usage(_):
-            return shutil._ntuple_diskusage(10**12, 10**12, 5 * 10**8)
+            return types.SimpleNamespace(free=5 * 10**8)
 
         with mock.patch.object(shutil, "disk_usage", usage):
             with self.assertRaisesRegex(trau_frames.Refusal, r"too little disk: this needs 0\.7 GB, and .* has 0\.5 GB left"):
@@ -310,6 +311,9 @@ class Demo(Started):
             self.assertEqual((status, out), (2, ""))
             self.assertIn("usage: demo [FOLDER]", err)
         (self.tools / "rt").unlink()
+        status, out, err = self.trau(name="demo")
+        self.assertEqual((status, out, err.count("\n")), (2, "", 1))
+        self.assertIn("isn't on the path", err)
         self.assertEqual(self.trau("--unproved", name="demo"), (2, "", "demo: the Rattle toolchain's command rt isn't on the path\n"))
 
 
