@@ -566,11 +566,10 @@ class Picture:
         self.text(LEFT - 14, top + 26, f"{call.start} to {call.end}", "small", "end")
         for stretch in self.runs(call) if self.scale >= 1 else self.columns(call):
             high = BAND / len(stretch.shown)
+            wide = stretch.right - stretch.left
             for number, look in enumerate(stretch.shown):
-                place = top + high * number
-                self.box(
-                    stretch.left, place, stretch.right - stretch.left, high, look.colour, stretch.title, shape_rendering="crispEdges"
-                )
+                place, sharp = top + high * number, "crispEdges"
+                self.box(stretch.left, place, wide, high, look.colour, stretch.title, shape_rendering=sharp)
         frame = {"fill": "none", "stroke": INK, "stroke_width": 0.75, "pointer_events": "none"}
         self.box(left, top, right - left, BAND, **frame)
         opening = f"call {call.number} opened at period {call.start} ({seconds(call.start)})"

@@ -28,7 +28,8 @@ TOP = Path(__file__).resolve().parents[1]
 PROGRAM = TOP / "crates" / "trau_program" / "out" / "trau_program"
 
 SCRIPTS = ("trau", "demo")
-TOOLS = ("lines.py", "orders.py", "timeline.py", "trau_frames.py", "trau_words.py", "help.txt", "README.md")
+TOOLS = ("lines.py", "orders.py", "timeline.py")
+BESIDE_TOOLS = ("trau_frames.py", "trau_words.py", "help.txt", "README.md")
 DOCUMENTS = ("FILES.md", "OPERATORS.md", "INSTALL.md", "commands")
 EXAMPLES = re.compile(r"README\.md|7\.up|farm/(\d+\.(up|pcm)|orders\.txt|wanted/[\w.]+)")
 
@@ -98,8 +99,8 @@ def members(state: State) -> Dict[str, Member]:
     found["VERSION"] = Member(f"trau {state.commit} of {state.date}, proved with {kit()}\n".encode())
     found["trau.1"] = Member(trau_words.man_page(f"trau {state.commit}", state.date).encode())
     found["trau.bash"] = Member(trau_words.completion().encode())
-    for name in TOOLS:
-        found[f"tools/{name}"] = Member(trau_frames.read_file(TOP / "tools" / name), name in ("lines.py", "orders.py", "timeline.py"))
+    for name in TOOLS + BESIDE_TOOLS:
+        found[f"tools/{name}"] = Member(trau_frames.read_file(TOP / "tools" / name), name in TOOLS)
     for name, path in files_below(TOP / "examples").items():
         if EXAMPLES.fullmatch(name):
             found[f"examples/{name}"] = Member(trau_frames.read_file(path))

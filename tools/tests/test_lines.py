@@ -70,9 +70,8 @@ class Frames(InFolder):
         for data in (block, block + b"\0", 3 * block + b"\0"):
             said = self.lines("uplink", self.path("x.wav", wav(tag=49, bits=0, data=data)), self.path("x.up"))
             self.assertEqual(said, f"uplink frames {2 * (len(data) // 65)}\n")
-        self.assert_refused(
-            lines.main, ["uplink", self.path("x.wav", wav(tag=49, bits=0, data=block + b"x")), self.path("y.up")], "66 octets of GSM"
-        )
+        other = self.path("x.wav", wav(tag=49, bits=0, data=block + b"x"))
+        self.assert_refused(lines.main, ["uplink", other, self.path("y.up")], "66 octets of GSM")
 
     def test_every_bit_of_both_frames_of_a_block(self):
         for place in range(520):

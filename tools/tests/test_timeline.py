@@ -127,7 +127,8 @@ class Farms(InFolder):
         # The boxes are next to one another, and no loss is in a box of another colour.
         self.assertEqual(sum(float(box.get("width")) * float(box.get("height")) for box in boxes), 24 * 1000)
         titles = [box.findtext(f"{SVG}title") for box in boxes]
-        self.assertIn("call 7 from 1000 to 1100 (20.00 s to 22.00 s): good speech, 99 periods, lost: unusable elsewhere, 1 period", titles)
+        lost_one = "good speech, 99 periods, lost: unusable elsewhere, 1 period"
+        self.assertIn(f"call 7 from 1000 to 1100 (20.00 s to 22.00 s): {lost_one}", titles)
         self.assert_inside(root)
 
     def check_picture(self, run, root):
