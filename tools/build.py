@@ -33,6 +33,9 @@ DISK_OF_A_CRATE = 100_000_000
 DISK_OF_THE_PROGRAM = 300_000_000
 MEMORY_OF_A_CHECK = 2_500_000_000
 
+# How long it takes from nothing (docs/INSTALL.md).
+TIME = "some 12 minutes on four processors, and 18 on two"
+
 KILLED = re.compile(r"failed \(-9\)")
 UNPROVED = re.compile(r"^\w+ \S+: (not proved|no proof)|^error")
 
@@ -80,9 +83,7 @@ def processors() -> int:
 
 def free_memory() -> int:
     """The free memory in octets, within the limit of this process's group."""
-    for line in Path("/proc/meminfo").read_text().splitlines():
-        if line.startswith("MemAvailable:"):
-            found = 1024 * int(line.split()[1])
+    found = 1024 * int(re.search(r"MemAvailable:\s+(\d+)", Path("/proc/meminfo").read_text())[1])
     limit, used = number_in("/sys/fs/cgroup/memory.max"), number_in("/sys/fs/cgroup/memory.current")
     return min(found, limit - used) if limit and used else found
 
@@ -228,6 +229,8 @@ class Crates:
             self.progress.say(line)
         elif line.startswith("rt: waiting for another rt"):
             self.progress.say("another rt works in these folders; this one waits for it")
+        elif "another copy of the repository is building" in line:
+            self.progress.say(line)
         self.was_killed = self.was_killed or bool(KILLED.search(line))
 
 
@@ -268,13 +271,12 @@ def build(top: Path, program: str) -> int:
     at_once, disk = jobs(), check_disk(top, crates)
     log = top / "crates" / program / "out" / "trau.log"
     log.parent.mkdir(exist_ok=True)
-    print(
-        f"trau: the program isn't built, or a source changed: its {len(crates)} crates are proved, {at_once} at a time, and then it"
-        f" is built\ntrau: from nothing that takes some 12 minutes on four processors, and 18 on two; {disk}\n"
-        f"trau: what the toolchain says goes to {log}",
-        file=sys.stderr,
-        flush=True,
-    )
+    for line in (
+        f"the program isn't built, or a source changed: its {len(crates)} crates are proved, {at_once} at a time, and then it is built",
+        f"from nothing that takes {TIME}; {disk}",
+        f"what the toolchain says goes to {log}",
+    ):
+        print(f"trau: {line}", file=sys.stderr, flush=True)
     with open(log, "w", encoding="utf-8") as said, Progress(len(crates), sys.stderr) as progress:
         rt = Toolchain(log.parent.parent, said)
         built = prove(rt, progress, at_once)

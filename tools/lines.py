@@ -62,12 +62,14 @@ def data_of_wav(name: Path, given: bytes) -> List[str]:
             f" sox {quoted} -r {SAMPLES_A_SECOND} -c 1 NEW.gsm"
         )
     size = trau_frames.WAV_BLOCK_OCTETS
-    if (wav.channels, wav.samples_a_second) != (1, SAMPLES_A_SECOND) or not wav.data or len(wav.data) % size:
+    # sox counts the octet that makes an odd number of octets even.
+    octets = wav.data[:-1] if len(wav.data) % size == 1 and wav.data[-1] == 0 else wav.data
+    if (wav.channels, wav.samples_a_second) != (1, SAMPLES_A_SECOND) or not octets or len(octets) % size:
         raise Refusal(
             f"{name}: has {wav.samples_a_second} Hz, channels {wav.channels} and {len(wav.data)} octets of GSM frames; needed is"
             f" {SAMPLES_A_SECOND} Hz mono in blocks of {size} octets"
         )
-    blocks = (wav.data[place : place + size] for place in range(0, len(wav.data), size))
+    blocks = (octets[place : place + size] for place in range(0, len(octets), size))
     return [data for block in blocks for data in trau_frames.data_of_wav_block(block)]
 
 

@@ -277,9 +277,9 @@ def main(words: Sequence[str]) -> int:
     added = commands.add_parser(
         "check",
         help="says what is wrong with orders",
-        description="Says of each bad line what is wrong, with the line's number as `orders line N` of `trau run` gives it, and of\n"
-        "each order that the run will refuse the refusal's number and cause. The last line counts: `orders N bad B warnings W`.\n"
-        "Status 0: the orders are taken. Status 1: they aren't, as a line is bad or they are too long. Status 2: no orders.",
+        description="Says of each bad line what is wrong, with its number as `orders line N` of `trau run` gives it, and of each\n"
+        "order that the run will refuse the refusal's number and cause. The last line counts: `orders N bad B warnings W`.\n"
+        "Status 0: the orders are taken. Status 1: they aren't: a line is bad, or they are too long. Status 2: no orders.",
         epilog="example: orders.py check orders.txt --lines .",
         formatter_class=argparse.RawDescriptionHelpFormatter,
         allow_abbrev=False,

@@ -29,7 +29,7 @@ PROGRAM = TOP / "crates" / "trau_program" / "out" / "trau_program"
 
 SCRIPTS = ("trau", "demo")
 TOOLS = ("lines.py", "orders.py", "report.py", "shard.py", "timeline.py", "watch.py")
-PARTS_OF_TOOLS = (
+BESIDE_TOOLS = (
     *("captures.py", "levels.py", "looks.py", "picture.py", "picture_page.py", "run_lines.py", "run_texts.py", "sync_losses.py"),
     *("trau_frames.py", "trau_words.py", "help.txt", "README.md"),
 )
@@ -102,7 +102,7 @@ def members(state: State) -> Dict[str, Member]:
     found["VERSION"] = Member(f"trau {state.commit} of {state.date}, proved with {kit()}\n".encode())
     found["trau.1"] = Member(trau_words.man_page(f"trau {state.commit}", state.date).encode())
     found["trau.bash"] = Member(trau_words.completion().encode())
-    for name in (*TOOLS, *PARTS_OF_TOOLS):
+    for name in (*TOOLS, *BESIDE_TOOLS):
         found[f"tools/{name}"] = Member(trau_frames.read_file(TOP / "tools" / name), name in TOOLS)
     for name, path in files_below(TOP / "examples").items():
         if EXAMPLES.fullmatch(name):

@@ -10,7 +10,7 @@ from __future__ import annotations
 import argparse
 import sys
 from dataclasses import dataclass
-from typing import Iterable, List, Optional, Sequence, Tuple
+from typing import Iterable, List, Sequence, Tuple
 
 import trau_frames
 
@@ -20,7 +20,7 @@ PURPOSE = "the box between GSM base stations and the exchange, on recorded lines
 
 @dataclass(frozen=True)
 class Command:
-    """A command, with its words behind the name, what it does, and its outgoing lines."""
+    """A command, with its words behind the name, and what it does, with the lines that it takes and writes."""
 
     name: str
     words: str
@@ -238,8 +238,8 @@ CALLS_WITH = """    {names})
 
 def completion() -> str:
     """What completes the words of a command line in bash: commands, options, and the calls that have lines in this folder."""
-    of_up = "|".join(command.name for command in COMMANDS if command.does.find("C.up") >= 0)
-    of_pcm = "|".join(command.name for command in COMMANDS if command.does.find("C.pcm") >= 0)
+    of_up = "|".join(command.name for command in COMMANDS if "C.up" in command.does)
+    of_pcm = "|".join(command.name for command in COMMANDS if "C.pcm" in command.does)
     return COMPLETION.format(
         commands=" ".join(command.name for command in COMMANDS),
         options=" ".join(option.name for option in OPTIONS),

@@ -65,6 +65,14 @@ class Frames(InFolder):
             self.assertEqual(self.lines("uplink", DATA / name, self.path(f"{name}.up")), "uplink frames 40\n")
         self.assertEqual(self.path("sox.wav.up").read_bytes(), self.path("sox.gsm.up").read_bytes())
 
+    def test_a_wav_file_of_an_odd_number_of_blocks(self):
+        block = (DATA / "sox.wav").read_bytes()[60:125]
+        for data in (block, block + b"\0", 3 * block + b"\0"):
+            said = self.lines("uplink", self.path("x.wav", wav(tag=49, bits=0, data=data)), self.path("x.up"))
+            self.assertEqual(said, f"uplink frames {2 * (len(data) // 65)}\n")
+        other = self.path("x.wav", wav(tag=49, bits=0, data=block + b"x"))
+        self.assert_refused(lines.main, ["uplink", other, self.path("y.up")], "66 octets of GSM")
+
     def test_every_bit_of_both_frames_of_a_block(self):
         for place in range(520):
             block = bytearray(65)
@@ -172,7 +180,7 @@ class Frames(InFolder):
             (b"", "0 octets are no frames of libgsm"),
             (b"RIFF" + bytes(29), "begins at octet 0"),
             (wav(data=bytes(66)), "is a WAV file of samples and not of GSM frames; sox makes frames"),
-            (wav(tag=49, bits=0, data=bytes(66)), "66 octets of GSM frames"),
+            (wav(tag=49, bits=0, data=bytes(67)), "67 octets of GSM frames"),
             (wav(tag=49, bits=0, data=b""), "0 octets of GSM frames"),
             (wav(tag=49, bits=0, rate=11025, data=bytes(65)), "has 11025 Hz"),
             (speech[:-1], "1319 octets are no frames"),

@@ -9,6 +9,7 @@ import signal
 import subprocess
 import sys
 import time
+import types
 import unittest
 from unittest import mock
 
@@ -127,7 +128,7 @@ class TheFirstStart(Started):
         status, out, err = self.trau("run", "--workers", "2")
         self.assertEqual((status, out), (0, "the program: run --workers 2\n"))
         said = re.sub(r"\d+:\d\d minutes|[\d.]+ GB that are free", "..", err).splitlines()
-        self.assertEqual(said[0], "trau: the program isn't built, or a source changed: its 4 crates are proved, 2 at a time, and then it is built")
+        self.assertIn("a source changed: its 4 crates are proved, 2 at a time, and then it is built", said[0])
         self.assertIn("0.7 GB of disk, of ..", said[1])
         self.assertEqual(
             said[3:],
@@ -171,7 +172,7 @@ class TheFirstStart(Started):
         status, out, err = self.trau("run")
         self.assertEqual((status, out), (125, ""))
         self.assertEqual(err.count("\n"), 1)
-        self.assertIn("rt, which proves and builds it, isn't on the path", err)
+        self.assertIn("rt, which proving and building needs, isn't on the path", err)
         self.assertFalse((self.top / "crates" / "trau_program" / "out").exists())
 
     def test_failures(self):
@@ -226,7 +227,7 @@ class TheFirstStart(Started):
 
     def test_too_little_disk(self):
         def usage(_):
-            return shutil._ntuple_diskusage(10**12, 10**12, 5 * 10**8)
+            return types.SimpleNamespace(free=5 * 10**8)
 
         with mock.patch.object(shutil, "disk_usage", usage):
             with self.assertRaisesRegex(trau_frames.Refusal, r"too little disk: this needs 0\.7 GB, and .* has 0\.5 GB left"):
@@ -310,7 +311,11 @@ class Demo(Started):
             self.assertEqual((status, out), (2, ""))
             self.assertIn("usage: demo [FOLDER]", err)
         (self.tools / "rt").unlink()
-        self.assertEqual(self.trau("--unproved", name="demo"), (2, "", "demo: the Rattle toolchain's command rt isn't on the path\n"))
+        status, out, err = self.trau(name="demo")
+        self.assertEqual((status, out, err.count("\n")), (2, "", 1))
+        self.assertIn("isn't on the path", err)
+        missing = "demo: the Rattle toolchain's command rt isn't on the path\n"
+        self.assertEqual(self.trau("--unproved", name="demo"), (2, "", missing))
 
 
 if __name__ == "__main__":
