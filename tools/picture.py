@@ -123,7 +123,7 @@ class Picture:
         entries = self.legend()
         self.legend_step = max(text_width(words, 12) for words, _ in entries) + 46
         self.legend_rows = -(-len(entries) // max(1, int((self.width - LEFT) // self.legend_step)))
-        self.legend_top = TOP + 34
+        self.legend_top = TOP + (46 if self.column > 1 else 34)
         self.orders_top = self.legend_top + self.legend_rows * LEGEND_ROW + 16
         self.rows_top = self.orders_top + ORDERS
         rows = looks.order_of_rows([call.number for call in self.run.calls], [each.calls for each in self.run.bridges])
