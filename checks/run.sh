@@ -132,10 +132,10 @@ end period 3 calls 1 left 1
 TEXT
 size "an end before the orders'" 3.out 480
 
-# Words.
+# Words. (To --help the script says a help on standard error.)
 for words in '--workers 0' '--batch 2 --batch 3' '--slice 251' '--periods' '--workers 1 x' '--help'; do
     # shellcheck disable=SC2086
-    run '0 open 1' $words
+    run '0 open 1' $words 2>/dev/null
     expect "words $words" 1 <<'TEXT'
 usage
 TEXT
@@ -308,6 +308,25 @@ status=0
 printf '0 open 1' | "$top/trau" run >/dev/full || status=$?
 : >text
 expect "a full standard output" 4 </dev/null
+
+# Lines that grow past the limit of the size of files, 512 octets here: without the script the signal SIGXFSZ ends the program.
+mkdir large
+cd large
+head -c 600 /dev/zero >3.up
+head -c 2400 /dev/zero >3.pcm
+status=0
+echo '0 open 3' | sh -c 'ulimit -f 1 && exec "$0" run' "$top/trau" >text || status=$?
+expect "a limit of the size of files" 6 <<'TEXT'
+order 1 ok
+call 3 from 0 to 15 end up 0
+counts 3 good 0 sid 0 invalid 0 bad 0 idle 0 other 0 miss 0 none 15 made 15
+line 3 down failed
+line 3 out failed
+end period 15 calls 1 left 0
+TEXT
+size "a limit of the size of files" 3.down 512
+size "a limit of the size of files" 3.out 512
+cd ..
 
 # With less and less memory the program ends with status 5 and its text, until it can't be started at all.
 echo '0 open 1' >one

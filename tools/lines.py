@@ -2,8 +2,9 @@
 """Makes recorded lines of what people have, and back: speech frames of libgsm, WAV files, raw A-law, and captures of network
 packets; and damages uplinks.
 
-Every command reads one file and writes another, and says in one line on standard output what it did. What it doesn't
-take gets one line on standard error and status 2, and then nothing is written.
+Every command reads one file and writes another (`idle` reads none), and says in one line on standard output what it did;
+`-` stands for standard input and output, and where the file goes there, the line goes to standard error. What it doesn't take
+gets one line on standard error and status 2, and then nothing is written.
 """
 
 from __future__ import annotations
@@ -39,22 +40,45 @@ Command = Callable[[argparse.Namespace, bytes], Made]
 # Speech frames of libgsm: to an uplink, and from a downlink
 
 
-def uplink(words: argparse.Namespace, given: bytes) -> Made:
-    """An uplink of good speech frames, from frames of libgsm."""
+def data_of_file(name: Path, given: bytes) -> List[str]:
+    """D1 to D260 of each frame of a file of libgsm frames."""
     size = trau_frames.GSM_OCTETS
-    if given[:4] == b"RIFF":
-        name = shlex.quote(str(words.given))
-        raise Refusal(f"{words.given}: is a WAV file; sox makes frames of libgsm of it: sox {name} -r 8000 -c 1 NEW.gsm")
     if not given or len(given) % size:
-        raise Refusal(f"{words.given}: {len(given)} octets are no frames of libgsm, which have {size} octets each")
-    control = SpeechControl(dtxd=words.dtxd == 1).bits()
-    frames = []
-    for place in range(0, len(given), size):
+        raise Refusal(f"{name}: {len(given)} octets are no frames of libgsm, which have {size} octets each")
+    places = range(0, len(given), size)
+    for place in places:
         if given[place] >> 4 != trau_frames.GSM_MAGIC:
-            raise Refusal(f"{words.given}: no frame of libgsm begins at octet {place}: its first four bits aren't 1101")
-        data = trau_frames.data_of_gsm(given[place : place + size])
-        frames.append(trau_frames.octets_of(trau_frames.frame_of(control, data)))
-    return Made(b"".join(frames), f"uplink frames {len(frames)}")
+            raise Refusal(f"{name}: no frame of libgsm begins at octet {place}: its first four bits aren't 1101")
+    return [trau_frames.data_of_gsm(given[place : place + size]) for place in places]
+
+
+def data_of_wav(name: Path, given: bytes) -> List[str]:
+    """D1 to D260 of each frame of a WAV file of speech frames, two in a block of 65 octets."""
+    wav = read_wav(name, given)
+    if wav.tag != WAV_GSM:
+        quoted = shlex.quote(str(name))
+        raise Refusal(
+            f"{name}: is a WAV file of samples and not of GSM frames; sox makes frames of libgsm of it:"
+            f" sox {quoted} -r {SAMPLES_A_SECOND} -c 1 NEW.gsm"
+        )
+    size = trau_frames.WAV_BLOCK_OCTETS
+    # sox counts the octet that makes an odd number of octets even.
+    octets = wav.data[:-1] if len(wav.data) % size == 1 and wav.data[-1] == 0 else wav.data
+    if (wav.channels, wav.samples_a_second) != (1, SAMPLES_A_SECOND) or not octets or len(octets) % size:
+        raise Refusal(
+            f"{name}: has {wav.samples_a_second} Hz, channels {wav.channels} and {len(wav.data)} octets of GSM frames; needed is"
+            f" {SAMPLES_A_SECOND} Hz mono in blocks of {size} octets"
+        )
+    blocks = (octets[place : place + size] for place in range(0, len(octets), size))
+    return [data for block in blocks for data in trau_frames.data_of_wav_block(block)]
+
+
+def uplink(words: argparse.Namespace, given: bytes) -> Made:
+    """An uplink of good speech frames, from frames of libgsm or from those of a WAV file."""
+    frames = data_of_wav(words.given, given) if is_wav(given) else data_of_file(words.given, given)
+    control = SpeechControl(dtxd=words.dtxd == 1).bits()
+    line = b"".join(trau_frames.octets_of(trau_frames.frame_of(control, data)) for data in frames)
+    return Made(line, f"uplink frames {len(frames)}")
 
 
 def sort_of_downlink_frame(control: str) -> str:
@@ -81,14 +105,19 @@ def gsm(words: argparse.Namespace, given: bytes) -> Made:
     counts: Counter = Counter()
     frames = []
     outside = len(bits)
+    of_uplink = 0
     for frame in trau_frames.frames_of_downlink(bits):
         outside -= len(frame)
-        sort = sort_of_downlink_frame(trau_frames.control_of(frame))
+        control = trau_frames.control_of(frame)
+        sort = sort_of_downlink_frame(control)
         counts[sort] += 1
+        of_uplink += control.startswith(trau_frames.SPEECH_UP)
         data = treated(trau_frames.data_of(frame), treatments[sort], source)
         if data is not None:
             frames.append(trau_frames.gsm_of_data(data))
     found = " ".join(f"{sort} {counts[sort]}" for sort in treatments) + f" outside {outside}"
+    if of_uplink and of_uplink == sum(counts.values()):
+        raise Refusal(f"{words.given}: is an uplink; trau relay first, which makes a downlink of it")
     if not frames:
         raise Refusal(f"{words.given}: no frame of a downlink that would be written: {found}")
     return Made(b"".join(frames), f"gsm frames {len(frames)} found {found}")
@@ -96,7 +125,7 @@ def gsm(words: argparse.Namespace, given: bytes) -> Made:
 
 # A-law octets and samples: to a Pcm line, and from an Out line
 
-WAV_LINEAR, WAV_ALAW, WAV_EXTENSIBLE = 1, 6, 0xFFFE
+WAV_LINEAR, WAV_ALAW, WAV_GSM, WAV_EXTENSIBLE = 1, 6, 0x31, 0xFFFE
 # A program that writes WAV to a pipe can't know the size and puts a great number in its place.
 WAV_LEAST_UNKNOWN_SIZE = 0x7FFF0000
 
@@ -112,9 +141,14 @@ class Wav:
     data: bytes
 
 
+def is_wav(content: bytes) -> bool:
+    """Whether this is a WAV file, of any kind."""
+    return content[:4] == b"RIFF" and content[8:12] == b"WAVE"
+
+
 def read_wav(name: Path, content: bytes) -> Wav:
     """Reads a WAV file of any kind."""
-    if content[:4] != b"RIFF" or content[8:12] != b"WAVE":
+    if not is_wav(content):
         raise Refusal(f"{name}: isn't a WAV file; raw A-law octets are taken with --raw")
     form, place = None, 12
     while place + 8 <= len(content):
@@ -140,6 +174,8 @@ def alaw_of_wav(name: Path, content: bytes) -> bytes:
     """The A-law octets of a WAV file's samples."""
     wav = read_wav(name, content)
     kind = (wav.tag, wav.sample_bits)
+    if wav.tag == WAV_GSM:
+        raise Refusal(f"{name}: has GSM frames and no samples; lines.py uplink makes an uplink of it, without transcoding")
     if (wav.channels, wav.samples_a_second) != (1, SAMPLES_A_SECOND) or kind not in ((WAV_LINEAR, 16), (WAV_ALAW, 8)):
         raise Refusal(
             f"{name}: has {wav.samples_a_second} Hz, channels {wav.channels}, bits {wav.sample_bits}, format {wav.tag}; needed"
@@ -172,9 +208,23 @@ def wav_of(tag: int, sample_bits: int, data: bytes) -> bytes:
     return struct.pack("<4sI", b"RIFF", len(body)) + body
 
 
+# So much of a file is searched for a frame of a line of frames. In other octets its 35 sync bits don't occur by chance.
+OCTETS_SEARCHED = 4000
+
+
+def raw_alaw(name: Path, octets: bytes) -> bytes:
+    """The octets of a file of A-law alone; a file of another kind is refused, where that shows."""
+    if is_wav(octets):
+        raise Refusal(f"{name}: is a WAV file and no raw A-law; pcm takes it without --raw")
+    is_named = name.suffix in (".up", ".down")
+    if is_named or trau_frames.FRAME_OF_DOWNLINK.search(trau_frames.bits_of(octets[:OCTETS_SEARCHED])):
+        raise Refusal(f"{name}: is a line of frames and no A-law; trau decode makes A-law of an uplink")
+    return octets
+
+
 def pcm(words: argparse.Namespace, given: bytes) -> Made:
     """A Pcm line of whole periods, from a WAV file or raw A-law."""
-    octets = given if words.raw else alaw_of_wav(words.given, given)
+    octets = raw_alaw(words.given, given) if words.raw else alaw_of_wav(words.given, given)
     if not octets:
         raise Refusal(f"{words.given}: holds no samples")
     padded = -len(octets) % PCM_OCTETS
@@ -184,7 +234,7 @@ def pcm(words: argparse.Namespace, given: bytes) -> Made:
 
 def sound(words: argparse.Namespace, given: bytes) -> Made:
     """A WAV file or raw A-law, from an Out line."""
-    if not given:
+    if not raw_alaw(words.given, given):
         raise Refusal(f"{words.given}: holds no octets")
     said = f"sound samples {len(given)}"
     if words.raw:
@@ -210,6 +260,23 @@ def capture(words: argparse.Namespace, given: bytes) -> Made:
     """A capture, from lines of calls."""
     more = [(name, trau_frames.read_file(name)) for name in words.also]
     return Made(*captures.capture_of([(words.given, given), *more]))
+
+
+# An idle line
+
+MOST_PERIODS = 1_000_000
+
+
+def idle(words: argparse.Namespace, _: bytes) -> Made:
+    """An idle line of A-law."""
+    return Made(bytes([IDLE_OCTET]) * PCM_OCTETS * words.periods, f"idle periods {words.periods}")
+
+
+def periods_word(word: str) -> int:
+    """A number of periods."""
+    if not re.fullmatch(r"\d{1,7}", word, re.ASCII) or not 1 <= int(word) <= MOST_PERIODS:
+        raise argparse.ArgumentTypeError(f"'{word}' isn't 1 to {MOST_PERIODS}")
+    return int(word)
 
 
 # Damage to an uplink
@@ -404,7 +471,8 @@ def parser() -> argparse.ArgumentParser:
     commands = program.add_subparsers(metavar="COMMAND", required=True, parser_class=trau_frames.Words)
 
     def command(made: Command, given: str, new: str, told: str, example: str) -> argparse.ArgumentParser:
-        """A command that is carried out by `made`, from a file of the kind `given` to one of the kind `new`."""
+        """A command that is carried out by `made`, from a file of the kind `given`, or from so many PERIODS, to one of the
+        kind `new`."""
         added = commands.add_parser(
             made.__name__,
             help=f"{given} to {new}",
@@ -414,8 +482,14 @@ def parser() -> argparse.ArgumentParser:
             allow_abbrev=False,
         )
         added.set_defaults(made=made)
-        added.add_argument("given", type=Path, metavar=given, help="the file that is read")
-        added.add_argument("new", type=Path, metavar=new, help="the file that is written, never the one that is read")
+        if given == "PERIODS":
+            added.set_defaults(given=None)
+            added.add_argument("periods", type=periods_word, metavar=given, help="how many periods of 20 ms")
+        else:
+            added.add_argument("given", type=Path, metavar=given, help="the file that is read, or - for standard input")
+        added.add_argument(
+            "new", type=Path, metavar=new, help="the file that is written, or - for standard output; never the one that is read"
+        )
         return added
 
     added = command(
@@ -423,7 +497,8 @@ def parser() -> argparse.ArgumentParser:
         "IN.gsm",
         "OUT.up",
         "Makes an uplink of good speech frames from frames of libgsm, of 33 octets each, as toast, sox and ffmpeg write\n"
-        "them to .gsm files. Says `uplink frames N`.",
+        "them to .gsm files, or from a WAV file of GSM frames, two in a block of 65 octets. Nothing is transcoded: the 260\n"
+        "bits of a frame stay as they are. Says `uplink frames N`.",
         "call.gsm 7.up --dtxd 1",
     )
     added.add_argument(
@@ -477,6 +552,14 @@ def parser() -> argparse.ArgumentParser:
     kind = added.add_mutually_exclusive_group()
     kind.add_argument("--alaw", action="store_true", help="the samples of the WAV file are A-law, as on the line")
     kind.add_argument("--raw", action="store_true", help="A-law octets and nothing else")
+
+    command(
+        idle,
+        "PERIODS",
+        "OUT.pcm",
+        "Makes an idle Pcm line of so many periods, with which an uplink alone can be run. Says `idle periods N`.",
+        "312 7.pcm",
+    )
 
     added = command(
         pcap,
@@ -556,13 +639,14 @@ def parser() -> argparse.ArgumentParser:
 def main(words: Sequence[str]) -> int:
     """Carries out the words of the command line, and gives the status."""
     asked = parser().parse_args(words)
+    inputs = [asked.given] if asked.given else []
     try:
-        made = asked.made(asked, trau_frames.read_file(asked.given))
-        trau_frames.write_file(asked.new, made.content, [asked.given, *getattr(asked, "also", [])])
+        made = asked.made(asked, b"".join(map(trau_frames.read_file, inputs)))
+        trau_frames.write_file(asked.new, made.content, [*inputs, *getattr(asked, "also", [])])
     except Refusal as refusal:
         print(f"lines.py: {refusal}", file=sys.stderr)
         return 2
-    print(made.said)
+    print(made.said, file=sys.stderr if asked.new == trau_frames.STREAM else sys.stdout)
     return 0
 
 

@@ -6,24 +6,24 @@ from __future__ import annotations
 import enum
 from collections import Counter
 from itertools import groupby
-from typing import Any, Iterator, List, NamedTuple, Optional, Sequence
+from typing import Any, Dict, Iterator, List, NamedTuple, Optional, Sequence, Tuple
 
 from run_lines import Call, Sent, sent
 from trau_frames import FRAME_BITS, Sort
 
 
 class Look(enum.Enum):
-    """What a period of an uplink yields. Those that stand later hide those before in a column."""
+    """What a period of an uplink yields."""
 
     GOOD = ("good speech", "#0072B2")
-    PAUSE = ("pause: unusable after a descriptor", "#CFE9F8")
     SID = ("silence descriptor", "#56B4E9")
+    PAUSE = ("pause: unusable after a descriptor", "#CFE9F8")
+    BAD = ("lost: unusable elsewhere", "#D55E00")
+    INVALID = ("invalid silence descriptor", "#AA3377")
     IDLE = ("idle", "#9E9E9E")
     OTHER = ("other kind of frame", "#F0E442")
-    NONE = ("nothing yielded", "url(#nothing)")
-    INVALID = ("invalid silence descriptor", "#AA3377")
     MISS = ("missed: no frame where one is due", "#1A1A1A")
-    BAD = ("lost: unusable elsewhere", "#D55E00")
+    NONE = ("nothing yielded", "url(#nothing)")
 
     def __init__(self, words: str, colour: str) -> None:
         self.words = words
@@ -31,7 +31,7 @@ class Look(enum.Enum):
 
 
 class DownLook(enum.Enum):
-    """What begins in a period of a downlink. Those that stand later hide those before in a column."""
+    """What begins in a period of a downlink."""
 
     SPEECH = ("downlink: speech", "#3C9BD1")
     HANDED = ("downlink: handed over in a bridge", "#009E73")
@@ -42,6 +42,11 @@ class DownLook(enum.Enum):
     def __init__(self, words: str, colour: str) -> None:
         self.words = words
         self.colour = colour
+
+
+# Each is drawn wherever it comes, be it for one period of thousands in a column.
+LOSSES = (Look.BAD, Look.INVALID, Look.OTHER, Look.MISS, Look.NONE)
+DOWN_LOSSES = (DownLook.OTHER,)
 
 
 def looks(sorts: Sequence[Sort]) -> Iterator[Look]:
@@ -73,36 +78,43 @@ def down_looks(call: Call, bits: str) -> List[Optional[DownLook]]:
 
 
 class Stretch(NamedTuple):
-    """Periods in a row that are drawn alike: their first, the one after the last, the look, and how many have which look."""
+    """Periods in a row that are drawn alike: their first, the one after the last, the looks that are shown, one above another,
+    and how many have which look."""
 
     start: int
     end: int
-    look: Any
+    shown: Tuple[Any, ...]
     counts: Counter
 
     def said(self) -> str:
         """What the periods are, in words."""
-        if len(self.counts) == 1:
-            return f"{self.look.words}, {self.end - self.start} period{'' if self.end - self.start == 1 else 's'}"
-        return "; ".join(f"{look.words}, {self.counts[look]}" for look in type(self.look) if self.counts[look])
+        looks_here = [look for look in type(self.shown[0]) if self.counts[look]]
+        return ", ".join(
+            f"{look.words}, {self.counts[look]} period{'' if self.counts[look] == 1 else 's'}" for look in looks_here
+        )
 
 
-def columns(values: Sequence[Any], kinds: Any, size: int) -> Iterator[Stretch]:
-    """Stretches of columns of so many periods each. A column has the look that stands last among those of its periods."""
-    gravest = {look: place for place, look in enumerate(kinds)}
+def shown_of(counts: Counter, losses: Sequence[Any]) -> Tuple[Any, ...]:
+    """What a column shows of the looks of its periods: each loss, and where there is none what most of them are."""
+    return tuple(look for look in losses if counts[look]) or tuple(look for look, _ in counts.most_common(1))
+
+
+def columns(values: Sequence[Any], losses: Sequence[Any], size: int) -> Iterator[Stretch]:
+    """Stretches of columns of so many periods each that show the same; nothing where all periods of a column are None."""
     starts = range(0, len(values), size)
-    heads = [max(values[start : start + size], key=lambda look: gravest.get(look, -1)) for start in starts]
+    counted = [Counter(value for value in values[start : start + size] if value is not None) for start in starts]
     place = 0
-    for look, run in groupby(heads):
-        end = min(len(values), place + size * sum(1 for _ in run))
-        if look is not None:
-            yield Stretch(place, end, look, Counter(value for value in values[place:end] if value is not None))
+    for shown, run in groupby(counted, lambda counts: shown_of(counts, losses)):
+        each = list(run)
+        end = min(len(values), place + size * len(each))
+        if shown:
+            yield Stretch(place, end, shown, sum(each, Counter()))
         place = end
 
 
 def order_of_rows(numbers: Sequence[int], pairs: Sequence[Sequence[int]]) -> List[int]:
     """The calls in the order of their rows: each partner of a bridge, in the order of the bridges, next to its call if it can."""
-    partners = {number: [] for number in numbers}
+    partners: Dict[int, List[int]] = {number: [] for number in numbers}
     for a, b in pairs:
         if a in partners and b in partners:
             partners[a].append(b)

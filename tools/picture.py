@@ -12,7 +12,7 @@ import levels
 import looks
 import run_lines
 import trau_frames
-from looks import DownLook, Look, Stretch
+from looks import DOWN_LOSSES, LOSSES, DownLook, Look
 from run_lines import Answered, Call, Run
 from run_texts import Bridge
 from trau_frames import PERIODS_A_SECOND
@@ -123,7 +123,7 @@ class Picture:
         entries = self.legend()
         self.legend_step = max(text_width(words, 12) for words, _ in entries) + 46
         self.legend_rows = -(-len(entries) // max(1, int((self.width - LEFT) // self.legend_step)))
-        self.legend_top = TOP + 34
+        self.legend_top = TOP + (46 if self.column > 1 else 34)
         self.orders_top = self.legend_top + self.legend_rows * LEGEND_ROW + 16
         self.rows_top = self.orders_top + ORDERS
         rows = looks.order_of_rows([call.number for call in self.run.calls], [each.calls for each in self.run.bridges])
@@ -241,7 +241,7 @@ class Picture:
         calls, bridges = counted(len(self.run.calls), "call"), counted(len(self.run.bridges), "bridge")
         self.text(LEFT, TOP + 10, f"{calls}, {bridges}, periods {span(self.first, self.last)}", "head")
         if self.column > 1:
-            told = f"a column is {counted(self.column, 'period')}, and shows its gravest"
+            told = f"a column is {counted(self.column, 'period')}, and shows each loss in it, or else what most are"
             self.text(LEFT, TOP + 28, told, "small")
 
     def legend(self) -> List[Tuple[str, Callable[[float, float], None]]]:
@@ -360,7 +360,7 @@ class Picture:
         else:
             self.text(LEFT - 34, top + 11, f"call {call.number}", "name", "end")
             self.text(LEFT - 34, top + 26, f"{call.span.start} to {call.span.end}", "small", "end")
-        self.draw_band(call, list(looks.looks(call.sorts())), Look, top, self.shape.band, "")
+        self.draw_band(call, list(looks.looks(call.sorts())), LOSSES, top, self.shape.band, "")
         self.draw_downlink(call)
         if self.shape.level:
             self.draw_levels(call)
@@ -380,16 +380,17 @@ class Picture:
             )
         self.draw_shifts(call, top)
 
-    def draw_band(self, call: Call, values: Sequence, kinds, top: float, height: float, what: str) -> None:
+    def draw_band(self, call: Call, values: Sequence, losses: Sequence, top: float, height: float, what: str) -> None:
         """The periods of a call by their looks."""
         start = max(call.span.start, self.first)
         shown = values[start - call.span.start : max(0, self.last - call.span.start)]
-        sharp = {"shape_rendering": "crispEdges"} if self.scale >= 1 else {}
-        stretch: Stretch
-        for stretch in looks.columns(shown, kinds, self.column):
+        for stretch in looks.columns(shown, losses, self.column):
             left, right = start + stretch.start, start + stretch.end
             title = f"call {call.number} {what}{span(left, right)}: {stretch.said()}"
-            self.box(self.x(left), top, self.scale * (right - left), height, stretch.look.colour, title, **sharp)
+            high = height / len(stretch.shown)
+            for number, look in enumerate(stretch.shown):
+                place = {"x": self.x(left), "y": top + high * number, "width": self.x(right) - self.x(left), "height": high}
+                self.box(**place, fill=look.colour, title=title, shape_rendering="crispEdges")
 
     def draw_downlink(self, call: Call) -> None:
         """The strip of a call's downlink, where there is the line."""
@@ -397,7 +398,7 @@ class Picture:
         if octets:
             values = looks.down_looks(call, trau_frames.bits_of(octets))
             top = self.down_top(call.number)
-            self.draw_band(call, values, DownLook, top, self.shape.down - 3, "downlink ")
+            self.draw_band(call, values, DOWN_LOSSES, top, self.shape.down - 3, "downlink ")
 
     def octets(self, call: Call, side: str) -> bytes:
         """The octets of a line, none where there is no such file."""

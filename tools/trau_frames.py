@@ -10,6 +10,7 @@ import argparse
 import enum
 import os
 import re
+import sys
 from dataclasses import dataclass
 from pathlib import Path
 from typing import Iterable, Iterator, NoReturn, Optional, Tuple
@@ -180,6 +181,15 @@ def data_of_gsm(octets: bytes) -> str:
     return fields_reversed(bits_of(octets)[4:])
 
 
+WAV_BLOCK_OCTETS = 65  # two frames of 260 bits, each octet with its least significant bit first
+
+
+def data_of_wav_block(octets: bytes) -> Tuple[str, str]:
+    """D1 to D260 of both frames of a block of a WAV file of GSM frames."""
+    bits = bits_of(octets[::-1])[::-1]
+    return bits[:260], bits[260:]
+
+
 def gsm_of_data(data: str) -> bytes:
     """The libgsm frame of D1 to D260."""
     return octets_of(f"{GSM_MAGIC:04b}" + fields_reversed(data))
@@ -284,35 +294,47 @@ def octets_by_sample() -> bytes:
 
 # Files
 
+STREAM = Path("-")  # standard input, or standard output
+
 
 def read_file(path: Path) -> bytes:
-    """The octets of a file."""
+    """The octets of a file, or of standard input."""
     try:
-        return path.read_bytes()
+        return sys.stdin.buffer.read() if path == STREAM else path.read_bytes()
     except OSError as failure:
         raise Refusal(f"{path}: {failure.strerror}") from None
 
 
 def write_file(path: Path, content: bytes, inputs: Iterable[Path]) -> None:
-    """Writes a file as a whole or not at all, and never over one of the inputs."""
-    target = Path(os.path.realpath(path))
-    part = target.with_name(f".{target.name}.{os.getpid()}.part")
+    """Writes a file as a whole or not at all, and never over one of the inputs; or writes to standard output."""
     try:
-        if target.exists():
-            if not target.is_file():
-                raise Refusal(f"{path}: isn't a file that can be written")
-            if any(target.samefile(given) for given in inputs):
-                raise Refusal(f"{path}: is an input, which isn't written over")
-        with open(part, "xb") as file:
-            try:
-                file.write(content)
-                file.close()
-                os.replace(part, target)
-            except BaseException:
-                part.unlink()
-                raise
+        if path == STREAM:
+            sys.stdout.buffer.write(content)
+            sys.stdout.buffer.flush()
+        else:
+            replace_file(path, content, inputs)
     except OSError as failure:
         raise Refusal(f"{path}: {failure.strerror}") from None
+
+
+def replace_file(path: Path, content: bytes, inputs: Iterable[Path]) -> None:
+    """Puts a whole file in the place of what is there."""
+    target = Path(os.path.realpath(path))
+    part = target.with_name(f".{target.name}.{os.getpid()}.part")
+    if target.exists():
+        if not target.is_file():
+            raise Refusal(f"{path}: isn't a file that can be written")
+        # An input may be missing, as the uplink of a call without periods.
+        if any(given.exists() and target.samefile(given) for given in inputs):
+            raise Refusal(f"{path}: is an input, which isn't written over")
+    with open(part, "xb") as file:
+        try:
+            file.write(content)
+            file.close()
+            os.replace(part, target)
+        except BaseException:
+            part.unlink()
+            raise
 
 
 class Words(argparse.ArgumentParser):

@@ -59,6 +59,32 @@ class Frames(InFolder):
         self.assertEqual(said, "uplink frames 40\n")
         self.assertEqual(self.path("7.up").read_bytes(), (EXAMPLES / "7.up").read_bytes()[:1600])
 
+    def test_uplink_of_a_wav_file_of_gsm_frames(self):
+        # sox wrote the same samples (those of speech.gsm) to both files: sox.gsm has a frame in 33 octets, sox.wav two in 65.
+        for name in ("sox.wav", "sox.gsm"):
+            self.assertEqual(self.lines("uplink", DATA / name, self.path(f"{name}.up")), "uplink frames 40\n")
+        self.assertEqual(self.path("sox.wav.up").read_bytes(), self.path("sox.gsm.up").read_bytes())
+
+    def test_a_wav_file_of_an_odd_number_of_blocks(self):
+        block = (DATA / "sox.wav").read_bytes()[60:125]
+        for data in (block, block + b"\0", 3 * block + b"\0"):
+            said = self.lines("uplink", self.path("x.wav", wav(tag=49, bits=0, data=data)), self.path("x.up"))
+            self.assertEqual(said, f"uplink frames {2 * (len(data) // 65)}\n")
+        other = self.path("x.wav", wav(tag=49, bits=0, data=block + b"x"))
+        self.assert_refused(lines.main, ["uplink", other, self.path("y.up")], "66 octets of GSM")
+
+    def test_every_bit_of_both_frames_of_a_block(self):
+        for place in range(520):
+            block = bytearray(65)
+            block[place // 8] = 1 << place % 8
+            bits = "0" * place + "1" + "0" * (519 - place)
+            self.assertEqual(trau_frames.data_of_wav_block(bytes(block)), (bits[:260], bits[260:]))
+
+    def test_an_uplink_with_other_frames_is_an_uplink(self):
+        line = trau_frames.bits_of((EXAMPLES / "7.up").read_bytes()[:800])
+        self.path("7.up", trau_frames.octets_of("11111" + line + "111"))
+        self.assert_refused(lines.main, ["gsm", self.path("7.up"), self.path("new")], "is an uplink; trau relay first")
+
     def test_dtxd(self):
         self.lines("uplink", DATA / "speech.gsm", self.path("7.up"), "--dtxd", "1")
         self.assertEqual(set(control_bits(self.path("7.up").read_bytes())), {SpeechControl(dtxd=True)})
@@ -152,7 +178,11 @@ class Frames(InFolder):
         new = self.path("new")
         for content, part in (
             (b"", "0 octets are no frames of libgsm"),
-            (b"RIFF" + bytes(29), "is a WAV file; sox makes frames"),
+            (b"RIFF" + bytes(29), "begins at octet 0"),
+            (wav(data=bytes(66)), "is a WAV file of samples and not of GSM frames; sox makes frames"),
+            (wav(tag=49, bits=0, data=bytes(67)), "67 octets of GSM frames"),
+            (wav(tag=49, bits=0, data=b""), "0 octets of GSM frames"),
+            (wav(tag=49, bits=0, rate=11025, data=bytes(65)), "has 11025 Hz"),
             (speech[:-1], "1319 octets are no frames"),
             (speech[:33] + b"\x00" + speech[34:], "begins at octet 33"),
         ):
@@ -161,7 +191,7 @@ class Frames(InFolder):
         self.assert_refused(lines.main, ["uplink", self.folder, new], "Is a directory")
         self.assert_refused(lines.main, ["uplink", DATA / "speech.gsm", new, "--dtxd", "2"], "--dtxd")
         self.assert_refused(lines.main, ["uplink", DATA / "speech.gsm", self.path("no") / "new"], "No such file")
-        self.assert_refused(lines.main, ["gsm", self.path("7.up", (EXAMPLES / "7.up").read_bytes()), new], "other 312")
+        self.assert_refused(lines.main, ["gsm", self.path("7.up", (EXAMPLES / "7.up").read_bytes()), new], "trau relay first")
         for content in (b"", b"\xff" * 4000, bytes(4000)):
             self.assert_refused(lines.main, ["gsm", self.path("bad.down", content), new], "no frame of a downlink")
         self.assert_refused(lines.main, ["gsm", DATA / "speech.gsm", new, "--silence", "loud"], "--silence")
@@ -244,6 +274,31 @@ class Sound(InFolder):
         self.assert_refused(lines.main, ["pcm", self.path("empty", b""), new, "--raw"], "holds no samples")
         self.assert_refused(lines.main, ["sound", self.path("empty"), new], "holds no octets")
         self.assert_refused(lines.main, ["sound", self.path("7.out", b"\xd5"), new, "--raw", "--alaw"], "not allowed")
+        self.assert_refused(lines.main, ["pcm", DATA / "sox.wav", new], "has GSM frames and no samples")
+
+    def test_what_is_no_alaw(self):
+        new = self.path("new")
+        frames = (EXAMPLES / "7.up").read_bytes()[:400]
+        down = (EXAMPLES / "farm" / "wanted" / "2.down").read_bytes()
+        for words in (["sound"], ["sound", "--raw"], ["pcm", "--raw"]):
+            command, *options = words
+            for name, content, part in (
+                ("x.wav", wav(), "is a WAV file and no raw A-law"),
+                ("1.up", frames, "is a line of frames"),
+                ("1.up", bytes(160), "is a line of frames"),
+                ("other", frames, "is a line of frames"),
+                ("other", b"\xff\xff" + down, "is a line of frames"),
+            ):
+                self.assert_refused(lines.main, [command, self.path(name, content), new, *options], part)
+        # A-law of speech, and zeros, which are A-law too, are taken.
+        for content in ((EXAMPLES / "farm" / "wanted" / "1.out").read_bytes(), bytes(320)):
+            self.lines("sound", self.path("1.out", content), new)
+
+    def test_idle(self):
+        self.assertEqual(self.lines("idle", "3", self.path("7.pcm")), "idle periods 3\n")
+        self.assertEqual(self.path("7.pcm").read_bytes(), 480 * b"\xd5")
+        for word in ("0", "-1", "x", "1000001", "٣"):
+            self.assert_refused(lines.main, ["idle", word, self.path("8.pcm")], "idle: ")
 
 
 class Damage(InFolder):
@@ -384,9 +439,25 @@ class TheFileThatIsWritten(InFolder):
         self.assert_refused(lines.main, ["upline"], "upline")
         self.assert_refused(lines.main, ["uplink", DATA / "speech.gsm"], "OUT.up")
 
+    def test_streams(self):
+        tool, speech = support.TOOLS / "lines.py", (DATA / "speech.gsm").read_bytes()
+        self.run_tool(lines.main, "uplink", DATA / "speech.gsm", self.path("7.up"))
+        for new, out, err in (
+            ("-", self.path("7.up").read_bytes(), b"uplink frames 40\n"),
+            (self.path("8.up"), b"uplink frames 40\n", b""),
+        ):
+            ended = subprocess.run([sys.executable, tool, "uplink", "-", new], input=speech, capture_output=True)
+            self.assertEqual((ended.returncode, ended.stdout, ended.stderr), (0, out, err))
+        self.assertEqual(self.path("8.up").read_bytes(), self.path("7.up").read_bytes())
+        ended = subprocess.run([sys.executable, tool, "uplink", "-", "-"], input=b"x", capture_output=True)
+        self.assertEqual((ended.returncode, ended.stdout), (2, b""))
+        self.assertEqual(ended.stderr, b"lines.py: -: 1 octets are no frames of libgsm, which have 33 octets each\n")
+        ended = subprocess.run([sys.executable, tool, "idle", "1", "-"], capture_output=True)
+        self.assertEqual((ended.stdout, ended.stderr), (160 * b"\xd5", b"idle periods 1\n"))
+
     def test_as_a_program(self):
         tool = support.TOOLS / "lines.py"
-        for words in ([], ["uplink"], ["gsm"], ["pcm"], ["sound"], ["damage"]):
+        for words in ([], ["uplink"], ["gsm"], ["pcm"], ["sound"], ["idle"], ["damage"]):
             ended = subprocess.run([sys.executable, tool, *words, "--help"], capture_output=True, text=True)
             self.assertEqual((ended.returncode, ended.stderr), (0, ""))
             self.assertIn("example: lines.py" if words else "COMMAND", ended.stdout)

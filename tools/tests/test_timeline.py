@@ -7,6 +7,7 @@ import subprocess
 import unittest
 import xml.etree.ElementTree as ElementTree
 from collections import Counter
+from itertools import groupby
 
 from support import CODEC, EXAMPLES, TOP, InFolder
 
@@ -58,15 +59,16 @@ class Parts(unittest.TestCase):
         self.assertEqual(len(levels.levels(3 * octets + octets[:9])), 3)
         self.assertLess(levels.level(160 * bytes([0xD5])), -66)
 
-    def test_a_column_shows_its_gravest_period(self):
+    def test_a_column_shows_each_loss(self):
         values = 100 * [looks.Look.GOOD]
-        values[41] = looks.Look.BAD
-        values[77] = looks.Look.SID
-        stretches = list(looks.columns(values, looks.Look, 10))
+        values[41], values[44], values[46] = looks.Look.MISS, looks.Look.BAD, looks.Look.SID
+        values[70:76] = 6 * [looks.Look.SID]
+        stretches = list(looks.columns(values, looks.LOSSES, 10))
         self.assertEqual([(each.start, each.end) for each in stretches], [(0, 40), (40, 50), (50, 70), (70, 80), (80, 100)])
-        self.assertEqual([each.look.name for each in stretches], ["GOOD", "BAD", "GOOD", "SID", "GOOD"])
-        self.assertEqual(stretches[1].said(), "good speech, 9; lost: unusable elsewhere, 1")
-        self.assertEqual(list(looks.columns([None] * 7, looks.DownLook, 3)), [])
+        shown = [" ".join(look.name for look in each.shown) for each in stretches]
+        self.assertEqual(shown, ["GOOD", "BAD MISS", "GOOD", "SID", "GOOD"])
+        self.assertEqual(stretches[3].said(), "good speech, 4 periods, silence descriptor, 6 periods")
+        self.assertEqual(list(looks.columns([None] * 7, looks.DOWN_LOSSES, 3)), [])
 
     def test_partners_are_neighbours(self):
         self.assertEqual(looks.order_of_rows([1, 2, 3, 4, 5], [(2, 4), (1, 3)]), [1, 3, 2, 4, 5])
@@ -148,20 +150,54 @@ class Farms(InFolder):
                 drawn = picture.Picture(run, width, shape).draw()
                 self.check_picture(run, ElementTree.fromstring(drawn))
 
+    def test_losses_of_a_long_run(self):
+        # 100,000 periods in 1,000 pixels. One of each loss, each in the middle of good frames, and two in one column.
+        sorts = [trau_frames.Sort.GOOD] * 100000
+        lost = {1060: "BAD", 20050: "MISS", 30050: "OTHER", 40060: "INVALID", 50050: "NONE", 60010: "BAD", 60090: "MISS"}
+        for period, name in lost.items():
+            sorts[period] = trau_frames.Sort[name]
+        call = Call(7, Span(0, 100000, "end up 0", {}))
+        call.sorts = lambda: sorts
+        run = Run([Answered(Order(1, 0, "open", (7,), "open 7"), Reply())], [], [call], self.folder)
+        drawn = picture.Picture(run, 1000, picture.FULL)
+        root = ElementTree.fromstring(drawn.draw())
+        boxes = [box for box in root.iter(f"{SVG}rect") if (box.findtext(f"{SVG}title") or "").startswith("call 7 from")]
+        height = float(picture.FULL.band)
+        for period, name in lost.items():
+            at = drawn.x(period)
+            colours = {
+                box.get("fill"): float(box.get("height"))
+                for box in boxes
+                if float(box.get("x")) <= at < float(box.get("x")) + float(box.get("width"))
+            }
+            both = {looks.Look.BAD.colour: height / 2, looks.Look.MISS.colour: height / 2}
+            self.assertEqual(colours, both if period > 60000 else {looks.Look[name].colour: height}, name)
+        for box in boxes:
+            self.assertGreaterEqual(float(box.get("width")), 1)
+        # The boxes are next to one another, and no loss is in a box of another colour.
+        area = sum(float(box.get("width")) * float(box.get("height")) for box in boxes)
+        self.assertAlmostEqual(area, height * 1000, delta=1)
+        titles = [box.findtext(f"{SVG}title") for box in boxes]
+        told = "call 7 from 1050 to 1200 (21.00 s to 24.00 s): good speech, 149 periods, lost: unusable elsewhere, 1 period"
+        self.assertIn(told, titles)
+        self.assert_inside(root)
+
     def check_picture(self, run, root):
         titles = [title.text for title in root.iter(f"{SVG}title")]
         texts = [text.text for text in root.iter(f"{SVG}text")]
         for call in run.calls:
             # The stretches of periods are the whole call, each from where the one before ends.
             place, seen = call.span.start, Counter()
-            for title in titles:
+            # A column that shows two losses has two boxes.
+            for title, _ in groupby(titles):
                 found = re.match(rf"call {call.number} from (\d+) to (\d+) \(.*?\): (.*)$", title)
                 if found:
                     self.assertEqual(int(found[1]), place)
                     place = int(found[2])
-                    parts = re.findall(r"([^;]+), (\d+)(?: periods?)?(?:; |$)", found[3])
-                    self.assertEqual(place - int(found[1]), sum(int(count) for _, count in parts))
-                    seen.update({words: int(count) for words, count in parts})
+                    parts = {look.words: re.search(rf"(?:^|, ){look.words}, (\d+) period", found[3]) for look in looks.Look}
+                    counts = {words: int(part[1]) for words, part in parts.items() if part}
+                    self.assertEqual(place - int(found[1]), sum(counts.values()))
+                    seen.update(counts)
             self.assertEqual(place, call.span.end)
             unusable = seen[looks.Look.BAD.words] + seen[looks.Look.PAUSE.words]
             self.assertEqual(unusable, call.span.counts["bad"])
@@ -225,9 +261,6 @@ class Pictures(InFolder):
         status, out, err = self.run_tool(timeline.main, self.folder, self.folder / "run.svg")
         self.assertEqual((status, out, err), (0, "timeline calls 1 from 5 to 5 bridges 0 shifts 0 refused 0\n", ""))
         self.assertIn("fault up, up failed, pcm failed", (self.folder / "run.svg").read_text())
-
-        # The same once more, over the picture that is there: the call has no line that could be an input.
-        self.assertEqual(self.run_tool(timeline.main, self.folder, self.folder / "run.svg")[0], 0)
 
     def drawn(self, *words):
         status, out, err = self.run_tool(timeline.main, self.folder, self.folder / "run.svg", *words)
@@ -362,6 +395,16 @@ class Pictures(InFolder):
         self.refused("there are no periods from 9 to 9", "--from", "9", "--to", "9")
         self.refused("no call is open from 200 to 300", "--from", "200", "--to", "300")
         self.refused("isn't 0 to 4,294,967,295", "--from", "-1")
+
+    def test_a_missing_line_and_an_older_picture(self):
+        # The uplink of a call without periods is an input that need not be there; the picture is written over the older one.
+        counts = "good 0 sid 0 invalid 0 bad 0 idle 0 other 0 miss 0 none 0 made 0"
+        report = f"order 1 ok\ncall 9 from 5 to 5 fault up\ncounts 9 {counts}\nline 9 up failed\nend period 5 calls 1 left 0\n"
+        self.path("report.txt", report.encode())
+        self.path("orders.txt", b"5 open 9\n")
+        for _ in range(2):
+            status, out, err = self.run_tool(timeline.main, self.folder, self.folder / "run.svg")
+            self.assertEqual((status, out, err), (0, "timeline calls 1 from 5 to 5 bridges 0 shifts 0 refused 0\n", ""))
 
     def test_never_an_input(self):
         for name in ("1.up", "orders.txt", "report.txt"):

@@ -1,0 +1,112 @@
+"""Tests of trau_words.py: its commands, options, statuses and orders are those of the documents, help.txt is what it makes, and
+the man page and the completion are taken by the programs that read them."""
+
+import re
+import shutil
+import subprocess
+import unittest
+
+from support import TOOLS, TOP, InFolder
+
+import orders
+import trau_words
+
+DOCS = TOP / "docs"
+
+
+def rows(text, cells):
+    """The rows of a table whose first cells match these patterns, as the groups of all of them."""
+    pattern = r"^\| *" + r" *\| *".join(cells) + r" *\|"
+    return re.findall(pattern, text, re.M)
+
+
+class Documents(unittest.TestCase):
+    def test_commands(self):
+        pages = {path.stem: path.read_text() for path in (DOCS / "commands").glob("*.md")}
+        self.assertEqual(set(pages), {command.name for command in trau_words.COMMANDS})
+        readme = (TOP / "README.md").read_text()
+        for command in trau_words.COMMANDS:
+            self.assertRegex(readme, rf"\[?`trau {command.name}( C)?`")
+            shown = re.search(r"^    trau (.*)$", pages[command.name], re.M)[1].split()
+            self.assertEqual(shown[0], command.name)
+            if command.words == "C":
+                self.assertEqual(shown[1:], ["C"])
+                # Each side that the help names is on the command's page.
+                for side in re.findall(r"C\.(\w+)", command.does):
+                    self.assertIn(f"`C.{side}`", pages[command.name])
+
+    def test_options(self):
+        text = (DOCS / "commands" / "run.md").read_text()
+        found = {name: values for name, *values in rows(text, ["`(--\\w+)`", "([\\d,]+) to ([\\d,]+)", "([\\d,]+)"])}
+        wanted = {
+            option.name: [trau_words.grouped(number) for number in (option.least, option.most, option.default)]
+            for option in trau_words.OPTIONS
+        }
+        self.assertEqual(found, wanted)
+
+    def test_statuses(self):
+        # The pages of the commands, each with some; a text that two commands tell in their own words is told of both.
+        statuses = {status.number: status for status in trau_words.STATUSES}
+        told = set()
+        for page in (DOCS / "commands").glob("*.md"):
+            for number, text in rows(page.read_text(), ["(\\d+)", "[^|]+", "([^|]+?)"]):
+                told.add(int(number))
+                for word in re.findall(r"`(usage|orders [^`]*|no memory|relay refused N|decode refused N)`", text):
+                    self.assertIn(word, statuses[int(number)].text, (page.name, number))
+        self.assertEqual(told, set(statuses) - {125})
+        self.assertIn("| 125 |", (TOP / "README.md").read_text() + (DOCS / "INSTALL.md").read_text())
+
+    def test_orders(self):
+        text = (DOCS / "OPERATORS.md").read_text()
+        table = text[text.index("| Order |") : text.index("## When")]
+        shown = {" ".join(words.split()[1:2]) for words in re.findall(r"`(S [^`]+)`", table)}
+        self.assertEqual(shown, {order.words.split()[1] for order in trau_words.ORDERS})
+        self.assertEqual(shown, set(orders.FORMS))
+
+    def test_help(self):
+        self.assertEqual((TOOLS / "help.txt").read_text(), trau_words.help_text(), "tools/trau_words.py help >tools/help.txt")
+        self.assertTrue(all(len(line) < 80 for line in trau_words.help_text().splitlines()))
+        for made in (trau_words.help_text(), trau_words.man_page("trau x", "2026-01-01").replace("\\-", "-")):
+            for word in [command.name for command in trau_words.COMMANDS] + [option.name for option in trau_words.OPTIONS]:
+                self.assertIn(word, made)
+
+
+class ManPage(InFolder):
+    @unittest.skipUnless(shutil.which("groff"), "there is no groff")
+    def test_no_warnings(self):
+        page = trau_words.man_page("trau x", "2026-01-01").encode()
+        ended = subprocess.run(["groff", "-man", "-ww", "-Tascii", "-P-cbou"], input=page, capture_output=True)
+        self.assertEqual((ended.returncode, ended.stderr), (0, b""))
+        text = " ".join(ended.stdout.decode().split())
+        self.assertIn("TRAU(1)", text)
+        self.assertIn("trau run [--workers N] [--batch N] [--slice N] [--periods N] <ORDERS", text)
+        self.assertIn("The period at which the run ends (1 to 4,294,967,295, else 4,294,967,295).", text)
+        self.assertIn("2 Line N of the orders isn't in the grammar: orders line N.", text)
+
+
+@unittest.skipUnless(shutil.which("bash"), "there is no bash")
+class Completion(InFolder):
+    def completed(self, *words):
+        """What bash makes of the last word of these."""
+        self.path("completion", trau_words.completion().encode())
+        script = '. ./completion; COMP_WORDS=("$@"); COMP_CWORD=$(($# - 1)); _trau; echo "${COMPREPLY[*]}"'
+        ended = subprocess.run(["bash", "-c", script, "bash", "trau", *words], cwd=self.folder, capture_output=True, text=True)
+        self.assertEqual((ended.returncode, ended.stderr), (0, ""))
+        return ended.stdout.split()
+
+    def test_words(self):
+        for name in ("7.up", "12.up", "8.pcm", "7.down", "x.up"):
+            self.path(name, b"")
+        self.assertEqual(self.completed("r"), ["run", "relay"])
+        self.assertEqual(self.completed("--"), ["--help", "--version"])
+        self.assertEqual(self.completed("run", "--"), ["--workers", "--batch", "--slice", "--periods"])
+        self.assertEqual(self.completed("run", "--workers", "2", "--b"), ["--batch"])
+        self.assertEqual(self.completed("run", "--workers", ""), [])
+        self.assertEqual(self.completed("relay", ""), ["12", "7"])
+        self.assertEqual(self.completed("encode", ""), ["8"])
+        self.assertEqual(self.completed("frames", "7", ""), [])
+        self.assertEqual(self.completed("what", ""), [])
+
+
+if __name__ == "__main__":
+    unittest.main()

@@ -1,0 +1,149 @@
+"""Makes a package of the proved program: a tarball with the program, the scripts, a man page, completion of words in bash,
+examples, the tools, SHA256SUMS and a script `install`. Where it is installed it needs the C library alone; the tools need
+Python 3 there.
+
+The program is the one that `trau` proves and builds, which comes first where a source changed. The same sources and program give
+the same octets.
+"""
+
+from __future__ import annotations
+
+import argparse
+import gzip
+import hashlib
+import io
+import os
+import re
+import subprocess
+import sys
+import tarfile
+from pathlib import Path
+from typing import Dict, NamedTuple, Sequence
+
+import trau_frames
+import trau_words
+from trau_frames import Refusal
+
+TOP = Path(__file__).resolve().parents[1]
+PROGRAM = TOP / "crates" / "trau_program" / "out" / "trau_program"
+
+SCRIPTS = ("trau", "demo")
+TOOLS = ("lines.py", "orders.py", "report.py", "shard.py", "timeline.py", "watch.py")
+BESIDE_TOOLS = (
+    *("captures.py", "levels.py", "looks.py", "picture.py", "picture_page.py", "run_lines.py", "run_texts.py", "sync_losses.py"),
+    *("trau_frames.py", "trau_words.py", "help.txt", "README.md"),
+)
+DOCUMENTS = ("CLUSTER.md", "FILES.md", "OPERATORS.md", "INSTALL.md", "commands")
+EXAMPLES = re.compile(r"README\.md|7\.up|farm/(\d+\.(up|pcm)|orders\.txt|wanted/[\w.]+)")
+
+
+class Member(NamedTuple):
+    """A file of the package: its content, and whether it is a program."""
+
+    content: bytes
+    runs: bool = False
+
+
+class State(NamedTuple):
+    """What is packed: the commit's short name and date, and the seconds since 1970 that all files have."""
+
+    commit: str
+    date: str
+    seconds: int
+
+    def name(self) -> str:
+        """The name of the package."""
+        return f"trau-{self.date.replace('-', '')}-{self.commit}-{os.uname().machine}"
+
+
+def git(*words: str) -> str:
+    """What git says of this repository."""
+    try:
+        ran = subprocess.run(["git", "-C", str(TOP), *words], capture_output=True, text=True, check=True)
+    except (OSError, subprocess.CalledProcessError):
+        raise Refusal(f"{TOP}: git doesn't tell the state of this repository") from None
+    return ran.stdout.strip()
+
+
+def state_of_repository() -> State:
+    """The state that is packed. Files that git doesn't know aren't packed, and a changed file shows in the name."""
+    commit, date, seconds = git("log", "-1", "--format=%h %cs %ct").split()
+    changed = "-changed" if git("status", "--porcelain", "--untracked-files=no") else ""
+    return State(commit + changed, date, int(seconds))
+
+
+def proved_program() -> bytes:
+    """The program, which the script `trau` proves and builds where it isn't."""
+    ran = subprocess.run([TOP / "trau"], stdin=subprocess.DEVNULL, stdout=subprocess.PIPE)
+    if (ran.returncode, ran.stdout) != (1, b"usage\n"):
+        raise Refusal("there is no program that is proved and built")
+    return trau_frames.read_file(Path(os.environ.get("TRAU_PROGRAM") or PROGRAM))
+
+
+def kit() -> str:
+    """The kit that the program was proved with."""
+    try:
+        return subprocess.run(["rt", "version"], capture_output=True, text=True, check=True).stdout.strip()
+    except (OSError, subprocess.CalledProcessError):
+        raise Refusal("the Rattle toolchain's command rt isn't on the path, so its kit isn't known") from None
+
+
+def files_below(folder: Path) -> Dict[str, Path]:
+    """The files that git knows below a folder, by their names in it."""
+    names = git("ls-files", "-z", "--", str(folder)).split("\0")
+    return {str((TOP / name).relative_to(folder)): TOP / name for name in names if name}
+
+
+def members(state: State) -> Dict[str, Member]:
+    """The files of the package, by their names in it."""
+    found = {name: Member(trau_frames.read_file(TOP / name), True) for name in SCRIPTS}
+    found["install"] = Member(trau_frames.read_file(TOP / "tools" / "install"), True)
+    found["trau_program"] = Member(proved_program(), True)
+    found["VERSION"] = Member(f"trau {state.commit} of {state.date}, proved with {kit()}\n".encode())
+    found["trau.1"] = Member(trau_words.man_page(f"trau {state.commit}", state.date).encode())
+    found["trau.bash"] = Member(trau_words.completion().encode())
+    for name in (*TOOLS, *BESIDE_TOOLS):
+        found[f"tools/{name}"] = Member(trau_frames.read_file(TOP / "tools" / name), name in TOOLS)
+    for name, path in files_below(TOP / "examples").items():
+        if EXAMPLES.fullmatch(name):
+            found[f"examples/{name}"] = Member(trau_frames.read_file(path))
+    for name, path in files_below(TOP / "docs").items():
+        if name.split("/")[0] in DOCUMENTS:
+            found[f"docs/{name}"] = Member(trau_frames.read_file(path))
+    sums = [f"{hashlib.sha256(member.content).hexdigest()}  {name}\n" for name, member in sorted(found.items())]
+    found["SHA256SUMS"] = Member("".join(sums).encode())
+    return found
+
+
+def tarball(state: State, found: Dict[str, Member]) -> bytes:
+    """The octets of the package."""
+    packed = io.BytesIO()
+    with gzip.GzipFile(fileobj=packed, mode="wb", mtime=state.seconds, filename="") as zipped:
+        with tarfile.open(fileobj=zipped, mode="w", format=tarfile.USTAR_FORMAT) as tar:
+            for name, member in sorted(found.items()):
+                info = tarfile.TarInfo(f"{state.name()}/{name}")
+                info.size, info.mtime = len(member.content), state.seconds
+                info.mode = 0o755 if member.runs else 0o644
+                tar.addfile(info, io.BytesIO(member.content))
+    return packed.getvalue()
+
+
+def main(words: Sequence[str]) -> int:
+    """Carries out the words of the command line, and gives the status."""
+    parser = trau_frames.Words(
+        prog="package", description=__doc__, formatter_class=argparse.RawDescriptionHelpFormatter, allow_abbrev=False
+    )
+    parser.add_argument("folder", type=Path, metavar="FOLDER", help="the folder that the tarball is written to")
+    asked = parser.parse_args(words)
+    try:
+        if not asked.folder.is_dir():
+            raise Refusal(f"{asked.folder}: isn't a folder")
+        state = state_of_repository()
+        content = tarball(state, members(state))
+        new = asked.folder / f"{state.name()}.tar.gz"
+        trau_frames.write_file(new, content, [])
+    except Refusal as refusal:
+        print(f"package: {refusal}", file=sys.stderr)
+        return 2
+    print(f"package {new} octets {len(content)} sha256 {hashlib.sha256(content).hexdigest()}")
+    return 0

@@ -1,0 +1,264 @@
+#!/usr/bin/env python3
+"""The commands, options and statuses of trau, in one place, and what is made of them: the help of the script `trau`
+(help.txt), the man page and the completion of words in bash.
+
+The documents say the same at greater length; the tests of the tools hold both to each other.
+"""
+
+from __future__ import annotations
+
+import argparse
+import sys
+from dataclasses import dataclass
+from typing import Iterable, List, Sequence, Tuple
+
+import trau_frames
+
+NAME = "trau"
+PURPOSE = "the box between GSM base stations and the exchange, on recorded lines"
+
+
+@dataclass(frozen=True)
+class Command:
+    """A command, with its words behind the name, and what it does, with the lines that it takes and writes."""
+
+    name: str
+    words: str
+    does: str
+
+
+@dataclass(frozen=True)
+class Option:
+    """An option of `run`, with the range of its value, and its value where it isn't given."""
+
+    name: str
+    least: int
+    most: int
+    default: int
+    means: str
+
+
+@dataclass(frozen=True)
+class Status:
+    """A status of the program, and the text on standard output."""
+
+    number: int
+    means: str
+    text: str
+
+
+@dataclass(frozen=True)
+class Order:
+    """An order of a run."""
+
+    words: str
+    does: str
+
+
+CALL = "C"
+COMMANDS = (
+    Command(
+        "run",
+        "[OPTIONS] <ORDERS",
+        "reads orders from standard input, works the calls that they open on their lines, writes their outgoing lines, and tells"
+        " the report",
+    ),
+    Command("relay", CALL, "takes C.up, and writes its good speech frames to C.down with the same 260 data bits"),
+    Command("decode", CALL, "takes C.up, and writes the A-law of its good speech frames to C.out"),
+    Command("encode", CALL, "takes C.pcm, and writes its speech frames to C.down"),
+    Command("frames", CALL, "searches C.up for frames at any bit, and tells a line of text for each; it writes no line"),
+)
+
+OPTIONS = (
+    Option("--workers", 1, 64, 4, "the threads that work the calls"),
+    Option("--batch", 1, 250, 50, "the most periods that are read, worked and written at a time"),
+    Option("--slice", 1, 250, 5, "the periods of a call that are worked in one go"),
+    Option("--periods", 1, 4294967295, 4294967295, "the period at which the run ends"),
+)
+
+ORDERS = (
+    Order("S open C", "the call begins"),
+    Order("S close C", "the call ends"),
+    Order("S bridge C D", "frames of the two calls are handed over without decoding"),
+    Order("S unbridge C", "they are handed over no more"),
+    Order("S level C V", "frames whose peak is below this level count as such without speech"),
+    Order("S dtx C on|off|uplink", "silence descriptors in place of frames without speech: always, never, or as the uplink asks"),
+)
+
+STATUSES = (
+    Status(0, "the command was carried to its end, and no line failed", "the command's text; of run, the report"),
+    Status(1, "these words are no command", "usage"),
+    Status(2, "line N of the orders isn't in the grammar", "orders line N"),
+    Status(3, "standard input failed while the orders were read", "orders unread"),
+    Status(4, "standard output failed while the command's text went out", "the beginning of the text"),
+    Status(5, "want of memory", "no memory"),
+    Status(6, "a line failed", "line C up failed, with the line's side; the report, which names the lines"),
+    Status(7, "the orders have more than 1,048,576 octets or more than 65,536 lines", "orders too long"),
+    Status(8, "a block isn't a good speech frame", "relay refused N, decode refused N"),
+    Status(125, "(of the script trau) there is no program to run", ""),
+)
+
+FILES = (
+    ("C.up", "from the base station: TRAU frames, 40 octets in a period of 20 ms"),
+    ("C.pcm", "from the exchange: A-law, 160 octets in a period"),
+    ("C.down", "to the base station: TRAU frames"),
+    ("C.out", "to the exchange: A-law"),
+)
+
+NOTE_ON_FILES = (
+    "Lines are files of the current folder. C is a call's number, 1 to 1,024, in decimal digits without leading zeros. The"
+    " commands of one call write the same files as run does."
+)
+NOTE_ON_ORDERS = "An order is a line of words with one space between. S is the period at whose start it takes effect."
+NOTE_ON_HELP = (
+    "help, --help, and no words at a terminal, print a help on standard error, and --version says there what is installed;"
+    " the program's own answer to these words is usage, with status 1."
+)
+
+
+# Text of lines
+
+
+def folded(words: str, indent: str, width: int = 79) -> List[str]:
+    """The words in lines that aren't longer than the width, each behind the indent."""
+    lines, line = [], indent
+    for word in words.split():
+        if line.strip() and len(line) + 1 + len(word) > width:
+            lines.append(line)
+            line = indent
+        line += word if line == indent else f" {word}"
+    return lines + [line]
+
+
+def table(rows: Iterable[Tuple[str, str]]) -> List[str]:
+    """Rows of what is named and what is said of it."""
+    rows = list(rows)
+    wide = 2 + max(len(name) for name, _ in rows)
+    lines = []
+    for name, said in rows:
+        first, *others = folded(said, (2 + wide) * " ")
+        lines += [f"  {name:{wide}}" + first.lstrip(), *others]
+    return lines
+
+
+def grouped(number: int) -> str:
+    """A number as the documents write it."""
+    return f"{number:,}"
+
+
+def range_of(option: Option) -> str:
+    """The range of an option's value."""
+    return f"{grouped(option.least)} to {grouped(option.most)}, else {grouped(option.default)}"
+
+
+def help_text() -> str:
+    """What the script `trau` says where it is asked for help."""
+    lines = [f"{NAME}: {PURPOSE}", ""]
+    lines += table((f"{NAME} {command.name} {command.words}", command.does) for command in COMMANDS)
+    lines += ["", "Options of run:", ""]
+    lines += table((f"{option.name} N", f"{option.means} ({range_of(option)})") for option in OPTIONS)
+    lines += ["", *folded(NOTE_ON_ORDERS, ""), ""]
+    lines += table((order.words, order.does) for order in ORDERS)
+    lines += ["", *folded(NOTE_ON_FILES, ""), ""]
+    lines += table(FILES)
+    lines += ["", "Statuses:", ""]
+    lines += table((str(status.number), status.means) for status in STATUSES)
+    lines += ["", "demo, beside this script, runs an example; docs/ tells the rest."]
+    return "\n".join(lines) + "\n"
+
+
+# The man page
+
+
+def escaped(words: str) -> str:
+    """Words as troff takes them."""
+    return words.replace("\\", "\\e").replace("-", "\\-").replace("'", "\\(aq")
+
+
+def paragraphs(rows: Iterable[Tuple[str, str]]) -> List[str]:
+    """Rows of a man page."""
+    return [line for name, said in rows for line in (".TP", f".B {escaped(name)}", escaped(said[0].upper() + said[1:]) + ".")]
+
+
+def man_page(version: str, date: str) -> str:
+    """The man page of this version."""
+    lines = [
+        f'.TH TRAU 1 "{escaped(date)}" "{escaped(version)}" "User Commands"',
+        ".SH NAME",
+        f"{NAME} \\- {escaped(PURPOSE)}",
+        ".SH SYNOPSIS",
+    ]
+    for number, command in enumerate(COMMANDS):
+        options = "".join(f" [{option.name} N]" for option in OPTIONS) if command.name == "run" else f" {CALL}"
+        orders = " <ORDERS" if command.name == "run" else ""
+        lines += [".br"] * (number > 0) + [f".B {NAME} {command.name}{escaped(options + orders)}"]
+    lines += [".SH COMMANDS", escaped(NOTE_ON_FILES)]
+    lines += paragraphs((f"{command.name} {command.words}", command.does) for command in COMMANDS)
+    lines += [".PP", escaped(NOTE_ON_HELP)]
+    lines += [".SH OPTIONS OF RUN", "A value is the next word, or stands behind an equals sign. Each option stands once at most."]
+    lines += paragraphs((f"{option.name} N", f"{option.means} ({range_of(option)})") for option in OPTIONS)
+    lines += [".SH ORDERS", escaped(NOTE_ON_ORDERS)]
+    lines += paragraphs((order.words, order.does) for order in ORDERS)
+    lines += [".SH FILES", *paragraphs(FILES)]
+    lines += [".SH EXIT STATUS", "Behind the meaning stands the text on standard output."]
+    said = ((str(each.number), each.means + (f": {each.text}" if each.text else "")) for each in STATUSES)
+    return "\n".join([*lines, *paragraphs(said)]) + "\n"
+
+
+# Completion in bash
+
+COMPLETION = """# Completion of the words of trau in bash.
+_trau() {{
+    local word=${{COMP_WORDS[COMP_CWORD]}} before=${{COMP_WORDS[COMP_CWORD - 1]}} name
+    COMPREPLY=()
+    if [ "$COMP_CWORD" = 1 ]; then
+        COMPREPLY=($(compgen -W "{commands} help --help --version" -- "$word"))
+        return
+    fi
+    case ${{COMP_WORDS[1]}} in
+    run)
+        case $before in
+        {valued}) ;;
+        *) COMPREPLY=($(compgen -W "{options}" -- "$word")) ;;
+        esac
+        ;;
+{calls}    esac
+}}
+complete -F _trau trau
+"""
+
+CALLS_WITH = """    {names})
+        [ "$COMP_CWORD" = 2 ] || return
+        for name in [1-9]*.{side}; do
+            [ -f "$name" ] && COMPREPLY+=($(compgen -W "${{name%.{side}}}" -- "$word"))
+        done
+        ;;
+"""
+
+
+def completion() -> str:
+    """What completes the words of a command line in bash: commands, options, and the calls that have lines in this folder."""
+    of_up = "|".join(command.name for command in COMMANDS if "C.up" in command.does)
+    of_pcm = "|".join(command.name for command in COMMANDS if "C.pcm" in command.does)
+    return COMPLETION.format(
+        commands=" ".join(command.name for command in COMMANDS),
+        options=" ".join(option.name for option in OPTIONS),
+        valued=" | ".join(option.name for option in OPTIONS),
+        calls=CALLS_WITH.format(names=of_up, side="up") + CALLS_WITH.format(names=of_pcm, side="pcm"),
+    )
+
+
+def main(words: Sequence[str]) -> int:
+    """Prints what is asked for, and gives the status."""
+    parser = trau_frames.Words(
+        description=__doc__, formatter_class=argparse.RawDescriptionHelpFormatter, allow_abbrev=False
+    )
+    parser.add_argument("what", choices=("help", "man", "completion"), help="what is printed")
+    asked = parser.parse_args(words)
+    made = {"help": help_text, "man": lambda: man_page("trau", ""), "completion": completion}
+    sys.stdout.write(made[asked.what]())
+    return 0
+
+
+if __name__ == "__main__":
+    sys.exit(main(sys.argv[1:]))
