@@ -1,4 +1,5 @@
 ghost use Rattle.std.specs.Prelude.{◌≡◌, ◌<◌, ◌+◌, ◌≤ℤ◌, pos, IfOk};
+ghost use Rattle.call_leg.specs.Memory.{periods_of_leg};
 ghost use Rattle.call_number.specs.CallNumber.{IsCallNumber};
 
 use call_leg::Leg;
@@ -26,27 +27,27 @@ fn up(field: u8, d: u8) -> [u8; 40] {
 
 fn new_leg(alloc: Global, call: u32) -> Result<Leg, AllocError>
     requires { IsCallNumber call }
-    ensures { IfOk result (λ l. l.search.periods ≡ 0) }
+    ensures { IfOk result (λ l. periods_of_leg l ≡ 0) }
 {
     Leg::new(alloc, call)
 }
 
 fn begin_bridge(leg: &mut Leg)
-    ensures { leg.new.search.periods ≡ leg.old.search.periods }
+    ensures { periods_of_leg leg.new ≡ periods_of_leg leg.old }
 {
     leg.bridge_on();
 }
 
 fn end_bridge(leg: &mut Leg)
-    ensures { leg.new.search.periods ≡ leg.old.search.periods }
+    ensures { periods_of_leg leg.new ≡ periods_of_leg leg.old }
 {
     leg.bridge_off();
 }
 
 // Works a period in which the exchange says the same octet all the time: the octets of the Out and Down lines.
 fn period_of(leg: &mut Leg, up: &[u8; 40], octet: u8) -> ([u8; 160], [u8; 40])
-    requires { leg.old.search.periods < 100 }
-    ensures { leg.new.search.periods ≡ leg.old.search.periods + 1 }
+    requires { periods_of_leg leg.old < 100 }
+    ensures { periods_of_leg leg.new ≡ periods_of_leg leg.old + 1 }
 {
     let mut out = [0; 160];
     let mut down = [0; 40];
@@ -56,16 +57,16 @@ fn period_of(leg: &mut Leg, up: &[u8; 40], octet: u8) -> ([u8; 160], [u8; 40])
 
 // The same of a silent exchange.
 fn period(leg: &mut Leg, up: &[u8; 40]) -> ([u8; 160], [u8; 40])
-    requires { leg.old.search.periods < 100 }
-    ensures { leg.new.search.periods ≡ leg.old.search.periods + 1 }
+    requires { periods_of_leg leg.old < 100 }
+    ensures { periods_of_leg leg.new ≡ periods_of_leg leg.old + 1 }
 {
     period_of(leg, up, 0xD5)
 }
 
 // Whether the exchange hears silence in a period without a frame, and the base station gets these octets.
 fn is_quiet(leg: &mut Leg, wanted: &[u8; 40]) -> bool
-    requires { leg.old.search.periods < 100 }
-    ensures { leg.new.search.periods ≡ leg.old.search.periods + 1 }
+    requires { periods_of_leg leg.old < 100 }
+    ensures { periods_of_leg leg.new ≡ periods_of_leg leg.old + 1 }
 {
     let (out, down) = period(leg, &[0; 40]);
     out == [0xD5; 160] && down == *wanted
@@ -102,7 +103,7 @@ fn idle() -> [u8; 40] {
 
 // Whether three such periods give 320 ones and two idle frames.
 fn three_are_quiet(leg: &mut Leg) -> bool
-    requires { leg.old.search.periods < 50 }
+    requires { periods_of_leg leg.old < 50 }
 {
     let idle = idle();
     is_quiet(leg, &ONES) && is_quiet(leg, &idle) && is_quiet(leg, &idle)
@@ -153,8 +154,8 @@ static SHIFTS: [Shift; 5] = [
 
 // Works such a period: whether its Down line is so.
 fn sends(leg: &mut Leg, shift: &Shift) -> bool
-    requires { leg.old.search.periods < 100 }
-    ensures { leg.new.search.periods ≡ leg.old.search.periods + 1 }
+    requires { periods_of_leg leg.old < 100 }
+    ensures { periods_of_leg leg.new ≡ periods_of_leg leg.old + 1 }
 {
     let down = period(leg, &up(shift.field, 9)).1;
     down.starts_with(shift.begin) && down.ends_with(shift.end)
@@ -162,7 +163,7 @@ fn sends(leg: &mut Leg, shift: &Shift) -> bool
 
 // The same of all five.
 fn sends_all(leg: &mut Leg) -> bool
-    requires { leg.old.search.periods ≡ 0 }
+    requires { periods_of_leg leg.old ≡ 0 }
 {
     for k in 0..5 {
         if !sends(leg, &SHIFTS[k]) {
@@ -189,10 +190,10 @@ fn shifts_move_the_frames(rt: HostRuntime) -> Result<(), Fail> {
 // Works a period of two bridged legs: both uplink halves, the handing over, both downlink halves. Answers the Down
 // octets of the second.
 fn bridged(a: &mut Leg, b: &mut Leg, d: u8) -> [u8; 40]
-    requires first { a.old.search.periods < 100 }
-    requires second { b.old.search.periods < 100 }
-    ensures first { a.new.search.periods ≡ a.old.search.periods + 1 }
-    ensures second { b.new.search.periods ≡ b.old.search.periods + 1 }
+    requires first { periods_of_leg a.old < 100 }
+    requires second { periods_of_leg b.old < 100 }
+    ensures first { periods_of_leg a.new ≡ periods_of_leg a.old + 1 }
+    ensures second { periods_of_leg b.new ≡ periods_of_leg b.old + 1 }
 {
     let (mut out, mut down) = ([0; 160], [0; 40]);
     let e = a.up_half(&up(0, d), &mut out);
@@ -206,10 +207,10 @@ fn bridged(a: &mut Leg, b: &mut Leg, d: u8) -> [u8; 40]
 
 // Four periods of two legs alone; octets of the second are to be skipped from the last of them on.
 fn four_alone(a: &mut Leg, b: &mut Leg)
-    requires first { a.old.search.periods ≡ 0 }
-    requires second { b.old.search.periods ≡ 0 }
-    ensures first { a.new.search.periods ≡ 4 }
-    ensures second { b.new.search.periods ≡ 4 }
+    requires first { periods_of_leg a.old ≡ 0 }
+    requires second { periods_of_leg b.old ≡ 0 }
+    ensures first { periods_of_leg a.new ≡ 4 }
+    ensures second { periods_of_leg b.new ≡ 4 }
 {
     for k in 0..4u8 {
         period(a, &up(0, k));
@@ -219,10 +220,10 @@ fn four_alone(a: &mut Leg, b: &mut Leg)
 
 // Six periods of two bridged legs: of each the fifth octet of the second's Down line.
 fn six_bridged(a: &mut Leg, b: &mut Leg) -> [u8; 6]
-    requires first { a.old.search.periods ≡ 4 }
-    requires second { b.old.search.periods ≡ 4 }
-    ensures first { a.new.search.periods ≡ 10 }
-    ensures second { b.new.search.periods ≡ 10 }
+    requires first { periods_of_leg a.old ≡ 4 }
+    requires second { periods_of_leg b.old ≡ 4 }
+    ensures first { periods_of_leg a.new ≡ 10 }
+    ensures second { periods_of_leg b.new ≡ 10 }
 {
     let mut octets = [0; 6];
     for k in 4..10u8 {
@@ -233,8 +234,8 @@ fn six_bridged(a: &mut Leg, b: &mut Leg) -> [u8; 6]
 
 // Begins a bridge of two legs.
 fn begin_bridges(a: &mut Leg, b: &mut Leg)
-    ensures first { a.new.search.periods ≡ a.old.search.periods }
-    ensures second { b.new.search.periods ≡ b.old.search.periods }
+    ensures first { periods_of_leg a.new ≡ periods_of_leg a.old }
+    ensures second { periods_of_leg b.new ≡ periods_of_leg b.old }
 {
     begin_bridge(a);
     begin_bridge(b);
@@ -242,8 +243,8 @@ fn begin_bridges(a: &mut Leg, b: &mut Leg)
 
 // Ends it.
 fn end_bridges(a: &mut Leg, b: &mut Leg)
-    ensures first { a.new.search.periods ≡ a.old.search.periods }
-    ensures second { b.new.search.periods ≡ b.old.search.periods }
+    ensures first { periods_of_leg a.new ≡ periods_of_leg a.old }
+    ensures second { periods_of_leg b.new ≡ periods_of_leg b.old }
 {
     end_bridge(a);
     end_bridge(b);
@@ -260,17 +261,17 @@ fn drains(leg: &Leg) -> bool {
 // Works a period alone: the octet at this place of its Down line.
 fn octet_sent(leg: &mut Leg, place: usize) -> u8
     requires place { place < 40 }
-    requires periods { leg.old.search.periods < 100 }
-    ensures { leg.new.search.periods ≡ leg.old.search.periods + 1 }
+    requires periods { periods_of_leg leg.old < 100 }
+    ensures { periods_of_leg leg.new ≡ periods_of_leg leg.old + 1 }
 {
     period(leg, &up(0, 9)).1[place]
 }
 
 // Four periods of two new legs alone, and a bridge of six that goes on: whether the frames 4 to 7 of the first went out.
 fn go_on_to_a_bridge(a: &mut Leg, b: &mut Leg) -> bool
-    requires first { a.old.search.periods ≡ 0 }
-    requires second { b.old.search.periods ≡ 0 }
-    ensures { b.new.search.periods ≡ 10 }
+    requires first { periods_of_leg a.old ≡ 0 }
+    requires second { periods_of_leg b.old ≡ 0 }
+    ensures { periods_of_leg b.new ≡ 10 }
 {
     four_alone(a, b);
     begin_bridges(a, b);
@@ -280,7 +281,7 @@ fn go_on_to_a_bridge(a: &mut Leg, b: &mut Leg) -> bool
 
 // Whether the frames 8 and 9 of the first leg go out of the second after their bridge, and are the last.
 fn drains_two(leg: &mut Leg) -> bool
-    requires { leg.old.search.periods < 50 }
+    requires { periods_of_leg leg.old < 50 }
 {
     let two = octet_sent(leg, 4) == 8 && octet_sent(leg, 4) == 9;
     two && has_sent(leg, 6) && !drains(leg)
@@ -290,8 +291,8 @@ fn drains_two(leg: &mut Leg) -> bool
 fn two_legs(alloc: Global, first: u32, second: u32) -> Result<(Leg, Leg), AllocError>
     requires first { IsCallNumber first }
     requires second { IsCallNumber second }
-    ensures first { IfOk result (λ legs. legs.0.search.periods ≡ 0) }
-    ensures second { IfOk result (λ legs. legs.1.search.periods ≡ 0) }
+    ensures first { IfOk result (λ legs. periods_of_leg legs.0 ≡ 0) }
+    ensures second { IfOk result (λ legs. periods_of_leg legs.1 ≡ 0) }
 {
     let a = new_leg(alloc, first)?;
     let b = new_leg(alloc, second)?;
@@ -300,7 +301,7 @@ fn two_legs(alloc: Global, first: u32, second: u32) -> Result<(Leg, Leg), AllocE
 
 // Ends the bridge: whether the first sent six frames and is done, and the second sent five and goes on.
 fn second_goes_on(a: &mut Leg, b: &mut Leg) -> bool
-    ensures { b.new.search.periods ≡ b.old.search.periods }
+    ensures { periods_of_leg b.new ≡ periods_of_leg b.old }
 {
     let sent = has_sent(a, 6) && has_sent(b, 5);
     end_bridges(a, b);
@@ -309,8 +310,8 @@ fn second_goes_on(a: &mut Leg, b: &mut Leg) -> bool
 
 // All three of two new legs.
 fn frames_go_out_in_order(a: &mut Leg, b: &mut Leg) -> bool
-    requires first { a.old.search.periods ≡ 0 }
-    requires second { b.old.search.periods ≡ 0 }
+    requires first { periods_of_leg a.old ≡ 0 }
+    requires second { periods_of_leg b.old ≡ 0 }
 {
     go_on_to_a_bridge(a, b) && second_goes_on(a, b) && drains_two(b)
 }
@@ -327,10 +328,10 @@ fn handed_frames_go_out_in_order(rt: HostRuntime) -> Result<(), Fail> {
 // Works a bridge of one period with this octet of the first leg: whether the second has sent no frame at its start, and
 // one at its end.
 fn sends_one(a: &mut Leg, b: &mut Leg, d: u8) -> bool
-    requires first { a.old.search.periods < 100 }
-    requires second { b.old.search.periods < 100 }
-    ensures first { a.new.search.periods ≡ a.old.search.periods + 1 }
-    ensures second { b.new.search.periods ≡ b.old.search.periods + 1 }
+    requires first { periods_of_leg a.old < 100 }
+    requires second { periods_of_leg b.old < 100 }
+    ensures first { periods_of_leg a.new ≡ periods_of_leg a.old + 1 }
+    ensures second { periods_of_leg b.new ≡ periods_of_leg b.old + 1 }
 {
     begin_bridges(a, b);
     let none = has_sent(b, 0);
@@ -341,10 +342,10 @@ fn sends_one(a: &mut Leg, b: &mut Leg, d: u8) -> bool
 
 // A period of both legs alone: the sixth octet of the second's Down line.
 fn after_bridge(a: &mut Leg, b: &mut Leg) -> u8
-    requires first { a.old.search.periods < 100 }
-    requires second { b.old.search.periods < 100 }
-    ensures first { a.new.search.periods ≡ a.old.search.periods + 1 }
-    ensures second { b.new.search.periods ≡ b.old.search.periods + 1 }
+    requires first { periods_of_leg a.old < 100 }
+    requires second { periods_of_leg b.old < 100 }
+    ensures first { periods_of_leg a.new ≡ periods_of_leg a.old + 1 }
+    ensures second { periods_of_leg b.new ≡ periods_of_leg b.old + 1 }
 {
     period(a, &up(0, 9));
     octet_sent(b, 5)
@@ -352,10 +353,10 @@ fn after_bridge(a: &mut Leg, b: &mut Leg) -> u8
 
 // The same; and whether none waits then, and the frame goes out in the next period.
 fn hands_one(a: &mut Leg, b: &mut Leg, d: u8) -> bool
-    requires first { a.old.search.periods < 50 }
-    requires second { b.old.search.periods < 50 }
-    ensures first { a.new.search.periods ≡ a.old.search.periods + 2 }
-    ensures second { b.new.search.periods ≡ b.old.search.periods + 2 }
+    requires first { periods_of_leg a.old < 50 }
+    requires second { periods_of_leg b.old < 50 }
+    ensures first { periods_of_leg a.new ≡ periods_of_leg a.old + 2 }
+    ensures second { periods_of_leg b.new ≡ periods_of_leg b.old + 2 }
 {
     let one = sends_one(a, b, d) && !drains(b);
     after_bridge(a, b) == d && one
@@ -363,8 +364,8 @@ fn hands_one(a: &mut Leg, b: &mut Leg, d: u8) -> bool
 
 // The same of two bridges, with a period alone between them.
 fn hands_one_each(a: &mut Leg, b: &mut Leg) -> bool
-    requires first { a.old.search.periods ≡ 0 }
-    requires second { b.old.search.periods ≡ 0 }
+    requires first { periods_of_leg a.old ≡ 0 }
+    requires second { periods_of_leg b.old ≡ 0 }
 {
     let first = hands_one(a, b, 1);
     after_bridge(a, b);
@@ -381,16 +382,16 @@ fn bridges_of_one_period(rt: HostRuntime) -> Result<(), Fail> {
 
 // Works a period of good speech in which the exchange speaks.
 fn spoken(leg: &mut Leg) -> ([u8; 160], [u8; 40])
-    requires { leg.old.search.periods < 100 }
-    ensures { leg.new.search.periods ≡ leg.old.search.periods + 1 }
+    requires { periods_of_leg leg.old < 100 }
+    ensures { periods_of_leg leg.new ≡ periods_of_leg leg.old + 1 }
 {
     period_of(leg, &up(0, 9), 0x2A)
 }
 
 // Works two of them: the Out octets of the first, and the Down octets of both.
 fn two_spoken(leg: &mut Leg) -> ([u8; 160], [u8; 40], [u8; 40])
-    requires { leg.old.search.periods < 50 }
-    ensures { leg.new.search.periods ≡ leg.old.search.periods + 2 }
+    requires { periods_of_leg leg.old < 50 }
+    ensures { periods_of_leg leg.new ≡ periods_of_leg leg.old + 2 }
 {
     let (out, first) = spoken(leg);
     let second = spoken(leg).1;
@@ -399,7 +400,7 @@ fn two_spoken(leg: &mut Leg) -> ([u8; 160], [u8; 40], [u8; 40])
 
 // Works two periods, a bridge without any, and two more: whether what was heard and sent first comes again.
 fn goes_home(leg: &mut Leg) -> bool
-    requires { leg.old.search.periods ≡ 0 }
+    requires { periods_of_leg leg.old ≡ 0 }
 {
     let (home, _, first) = two_spoken(leg);
     begin_bridge(leg);
@@ -419,7 +420,7 @@ fn a_bridge_without_periods_goes_home(rt: HostRuntime) -> Result<(), Fail> {
 // Sets DTX on, and this level.
 fn with_level(leg: &mut Leg, level: i16)
     requires { pos 0 ≤ℤ level }
-    ensures { leg.new.search.periods ≡ leg.old.search.periods }
+    ensures { periods_of_leg leg.new ≡ periods_of_leg leg.old }
 {
     leg.set_dtx(DtxMode::On);
     leg.set_level(level);
@@ -427,16 +428,16 @@ fn with_level(leg: &mut Leg, level: i16)
 
 // Works a period of good speech and a silent exchange: whether its frame has SP 1.
 fn is_speech(leg: &mut Leg) -> bool
-    requires { leg.old.search.periods < 100 }
-    ensures { leg.new.search.periods ≡ leg.old.search.periods + 1 }
+    requires { periods_of_leg leg.old < 100 }
+    ensures { periods_of_leg leg.new ≡ periods_of_leg leg.old + 1 }
 {
     octet_sent(leg, 38) & 2 == 2
 }
 
 // Works two of them.
 fn two_periods(leg: &mut Leg)
-    requires { leg.old.search.periods < 50 }
-    ensures { leg.new.search.periods ≡ leg.old.search.periods + 2 }
+    requires { periods_of_leg leg.old < 50 }
+    ensures { periods_of_leg leg.new ≡ periods_of_leg leg.old + 2 }
 {
     is_speech(leg);
     is_speech(leg);
@@ -444,7 +445,7 @@ fn two_periods(leg: &mut Leg)
 
 // Works five periods below the level and two at level 0: whether of the last three the middle one alone has SP 0.
 fn one_is_silence(leg: &mut Leg) -> bool
-    requires { leg.old.search.periods ≡ 0 }
+    requires { periods_of_leg leg.old ≡ 0 }
 {
     with_level(leg, 32767);
     two_periods(leg);
@@ -465,20 +466,20 @@ fn silence_by_level(rt: HostRuntime) -> Result<(), Fail> {
 
 // Works a period of both legs: whether their octets are the same.
 fn are_alike(a: &mut Leg, b: &mut Leg, d: u8) -> bool
-    requires first { a.old.search.periods < 100 }
-    requires second { b.old.search.periods < 100 }
-    ensures first { a.new.search.periods ≡ a.old.search.periods + 1 }
-    ensures second { b.new.search.periods ≡ b.old.search.periods + 1 }
+    requires first { periods_of_leg a.old < 100 }
+    requires second { periods_of_leg b.old < 100 }
+    ensures first { periods_of_leg a.new ≡ periods_of_leg a.old + 1 }
+    ensures second { periods_of_leg b.new ≡ periods_of_leg b.old + 1 }
 {
     period(a, &up(0, d)) == period(b, &up(0, d))
 }
 
 // The same, where the first leg is in another thread.
 fn are_alike_in_threads(rt: &impl Threads, a: &mut Leg, b: &mut Leg) -> bool
-    requires first { a.old.search.periods < 100 }
-    requires second { b.old.search.periods < 100 }
-    ensures first { a.new.search.periods ≡ a.old.search.periods + 1 }
-    ensures second { b.new.search.periods ≡ b.old.search.periods + 1 }
+    requires first { periods_of_leg a.old < 100 }
+    requires second { periods_of_leg b.old < 100 }
+    ensures first { periods_of_leg a.new ≡ periods_of_leg a.old + 1 }
+    ensures second { periods_of_leg b.new ≡ periods_of_leg b.old + 1 }
 {
     let up = up(0, 4);
     let (one, other) = join_mut(rt, &mut || period(a, &up), &mut || period(b, &up));
@@ -487,8 +488,8 @@ fn are_alike_in_threads(rt: &impl Threads, a: &mut Leg, b: &mut Leg) -> bool
 
 // The same of a period before the threads, in them, and after them.
 fn stay_alike(rt: &impl Threads, a: &mut Leg, b: &mut Leg) -> bool
-    requires first { a.old.search.periods ≡ 0 }
-    requires second { b.old.search.periods ≡ 0 }
+    requires first { periods_of_leg a.old ≡ 0 }
+    requires second { periods_of_leg b.old ≡ 0 }
 {
     are_alike(a, b, 3) && are_alike_in_threads(rt, a, b) && are_alike(a, b, 5)
 }

@@ -1,4 +1,5 @@
 ghost use Rattle.std.specs.Prelude.{◌≡◌, ◌<◌, ◌≤◌, ◌+◌, IfOk};
+ghost use Rattle.call_leg.specs.Memory.{periods_of_leg};
 ghost use Rattle.call_number.specs.CallNumber.{IsCallNumber};
 
 use call_leg::Leg;
@@ -54,7 +55,7 @@ fn lines_with(ds: [u8; 4]) -> Lines {
 
 fn new_leg(alloc: Global, call: u32) -> Result<Leg, AllocError>
     requires { IsCallNumber call }
-    ensures { IfOk result (λ l. l.search.periods ≡ 0) }
+    ensures { IfOk result (λ l. periods_of_leg l ≡ 0) }
 {
     Leg::new(alloc, call)
 }
@@ -78,7 +79,7 @@ fn io_of(alloc: Global, call: u32, lines: &Lines, given: u32) -> Result<LegIo, A
 fn half(alloc: Global, call: u32, lines: &Lines, given: u32) -> Result<Half, AllocError>
     requires call { IsCallNumber call }
     requires given { given ≤ 4 }
-    ensures { IfOk result (λ h. (h.io.call ≡ call) × (h.leg.search.periods ≡ 0)) }
+    ensures { IfOk result (λ h. (h.io.call ≡ call) × (periods_of_leg h.leg ≡ 0)) }
 {
     let io = io_of(alloc, call, lines, given)?;
     let leg = new_leg(alloc, call)?;
@@ -88,8 +89,8 @@ fn half(alloc: Global, call: u32, lines: &Lines, given: u32) -> Result<Half, All
 // The uplink half of period k, by the leg's own call.
 fn hear(leg: &mut Leg, lines: &mut Lines, k: usize) -> Effective
     requires place { k < 4 }
-    requires periods { leg.old.search.periods < 100 }
-    ensures { leg.new.search.periods ≡ leg.old.search.periods + 1 }
+    requires periods { periods_of_leg leg.old < 100 }
+    ensures { periods_of_leg leg.new ≡ periods_of_leg leg.old + 1 }
 {
     let mut octets = [0; 40];
     octets.copy_from_slice(&lines.up[40 * k..40 * k + 40]);
@@ -102,7 +103,7 @@ fn hear(leg: &mut Leg, lines: &mut Lines, k: usize) -> Effective
 // Its downlink half.
 fn speak(leg: &mut Leg, lines: &mut Lines, k: usize)
     requires { k < 4 }
-    ensures { leg.new.search.periods ≡ leg.old.search.periods }
+    ensures { periods_of_leg leg.new ≡ periods_of_leg leg.old }
 {
     let mut octets = [0; 160];
     octets.copy_from_slice(&lines.pcm[160 * k..160 * k + 160]);
@@ -114,8 +115,8 @@ fn speak(leg: &mut Leg, lines: &mut Lines, k: usize)
 // A period alone.
 fn alone(leg: &mut Leg, lines: &mut Lines, k: usize)
     requires place { k < 4 }
-    requires periods { leg.old.search.periods < 100 }
-    ensures { leg.new.search.periods ≡ leg.old.search.periods + 1 }
+    requires periods { periods_of_leg leg.old < 100 }
+    ensures { periods_of_leg leg.new ≡ periods_of_leg leg.old + 1 }
 {
     hear(leg, lines, k);
     speak(leg, lines, k);
@@ -124,10 +125,10 @@ fn alone(leg: &mut Leg, lines: &mut Lines, k: usize)
 // A period of two bridged legs.
 fn bridged(a: &mut Leg, first: &mut Lines, b: &mut Leg, second: &mut Lines, k: usize)
     requires place { k < 4 }
-    requires first { a.old.search.periods < 100 }
-    requires second { b.old.search.periods < 100 }
-    ensures first { a.new.search.periods ≡ a.old.search.periods + 1 }
-    ensures second { b.new.search.periods ≡ b.old.search.periods + 1 }
+    requires first { periods_of_leg a.old < 100 }
+    requires second { periods_of_leg b.old < 100 }
+    ensures first { periods_of_leg a.new ≡ periods_of_leg a.old + 1 }
+    ensures second { periods_of_leg b.new ≡ periods_of_leg b.old + 1 }
 {
     let e = hear(a, first, k);
     let f = hear(b, second, k);
@@ -208,8 +209,8 @@ fn one_call_has_its_octets(rt: HostRuntime) -> Result<(), Fail> {
 
 // New legs of the calls 7 and 9.
 fn two_legs(alloc: Global) -> Result<(Leg, Leg), AllocError>
-    ensures first { IfOk result (λ legs. legs.0.search.periods ≡ 0) }
-    ensures second { IfOk result (λ legs. legs.1.search.periods ≡ 0) }
+    ensures first { IfOk result (λ legs. periods_of_leg legs.0 ≡ 0) }
+    ensures second { IfOk result (λ legs. periods_of_leg legs.1 ≡ 0) }
 {
     let a = new_leg(alloc, 7)?;
     let b = new_leg(alloc, 9)?;
@@ -218,8 +219,8 @@ fn two_legs(alloc: Global) -> Result<(Leg, Leg), AllocError>
 
 // Begins a bridge of two legs.
 fn begin_bridge(a: &mut Leg, b: &mut Leg)
-    ensures first { a.new.search.periods ≡ a.old.search.periods }
-    ensures second { b.new.search.periods ≡ b.old.search.periods }
+    ensures first { periods_of_leg a.new ≡ periods_of_leg a.old }
+    ensures second { periods_of_leg b.new ≡ periods_of_leg b.old }
 {
     a.bridge_on();
     b.bridge_on();
@@ -227,9 +228,9 @@ fn begin_bridge(a: &mut Leg, b: &mut Leg)
 
 // Works the periods 0 and 1 of two legs that are bridged.
 fn work_two_bridged(a: &mut Leg, first: &mut Lines, b: &mut Leg, second: &mut Lines)
-    requires first { a.old.search.periods < 50 }
-    requires second { b.old.search.periods < 50 }
-    ensures { a.new.search.periods ≡ a.old.search.periods + 2 }
+    requires first { periods_of_leg a.old < 50 }
+    requires second { periods_of_leg b.old < 50 }
+    ensures { periods_of_leg a.new ≡ periods_of_leg a.old + 2 }
 {
     bridged(a, first, b, second, 0);
     bridged(a, first, b, second, 1);
@@ -237,7 +238,7 @@ fn work_two_bridged(a: &mut Leg, first: &mut Lines, b: &mut Leg, second: &mut Li
 
 // Works the periods 2 and 3 of a leg whose bridge ends.
 fn work_two_alone(leg: &mut Leg, lines: &mut Lines)
-    requires { leg.old.search.periods < 50 }
+    requires { periods_of_leg leg.old < 50 }
 {
     leg.bridge_off();
     alone(leg, lines, 2);
@@ -264,8 +265,8 @@ fn lines_of_two() -> (Lines, Lines) {
 
 // Call 7 with four periods of its lines, and call 9 with two.
 fn two_halves(alloc: Global, first: &Lines, second: &Lines) -> Result<(Half, Half), AllocError>
-    ensures first { IfOk result (λ hs. (hs.0.io.call ≡ 7) × (hs.0.leg.search.periods ≡ 0)) }
-    ensures second { IfOk result (λ hs. (hs.1.io.call ≡ 9) × (hs.1.leg.search.periods ≡ 0)) }
+    ensures first { IfOk result (λ hs. (hs.0.io.call ≡ 7) × (periods_of_leg hs.0.leg ≡ 0)) }
+    ensures second { IfOk result (λ hs. (hs.1.io.call ≡ 9) × (periods_of_leg hs.1.leg ≡ 0)) }
 {
     let a = half(alloc, 7, first, 4)?;
     let b = half(alloc, 9, second, 2)?;
