@@ -9,7 +9,7 @@ use std::thread::Threads;
 use trau_io::Side::{Down, Out, Pcm, Up};
 use trau_io::{MemTrunk, Side};
 
-// How many octets the calls before each of the first ten moved: rounds of 4, 7, 7, 7 and 5 periods, in pieces.
+// How many octets the calls before each of the first ten move: rounds of 4, 7, 7, 7 and 5 periods, in pieces.
 const BEFORE_40: [usize; 10] = [0, 150, 160, 310, 440, 590, 720, 870, 1000, 1150];
 
 const BEFORE_160: [usize; 10] = [0, 600, 640, 1240, 1760, 2360, 2880, 3480, 4000, 4600];
@@ -96,7 +96,7 @@ fn is_incoming(side: Side) -> bool {
     side == Up || side == Pcm
 }
 
-// The same with one line that fails at call `number`.
+// The lines of both calls, of which this one fails at call `number`.
 fn failed_at(rt: &impl Abort, alloc: Global, row: &Failing, number: u32) -> MemTrunk {
     let mut trunk = calm(rt, alloc);
     let octets = match row.side {
@@ -108,7 +108,7 @@ fn failed_at(rt: &impl Abort, alloc: Global, row: &Failing, number: u32) -> MemT
     trunk
 }
 
-// The same with the octets that an incoming line gave before it failed.
+// The lines of both calls, of which this incoming one has the octets that were given before it failed, and never fails.
 fn given(rt: &impl Abort, alloc: Global, row: &Failing, before: usize) -> MemTrunk {
     let mut trunk = calm(rt, alloc);
     lay(rt, alloc, &mut trunk, row.call, row.side, before, NONE);
