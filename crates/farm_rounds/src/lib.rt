@@ -14,7 +14,7 @@
 //! Definitions: `specs/Calls.antt` (the calls of a farm by their numbers), `specs/Acts.antt` (what an order does),
 //! `specs/Histories.antt` (the periods that the calls had), `specs/Memory.antt`, `specs/Groups.antt` and
 //! `specs/Numbers.antt` (what a farm keeps); `specs/Rounds.antt` (jobs and seats), `specs/Working.antt` (what a round
-//! keeps), `specs/Settling.antt` (what is left of a job).
+//! keeps), `specs/Finishing.antt` (its jobs run to their ends), `specs/Settling.antt` (what is left of a job).
 #![tactic(auto)]
 
 mod call;

@@ -147,8 +147,8 @@ impl Round {
         ensures partners { (c : ℕ) → partner_in (groups_from result.jobs) c ≡ partner_in (groups_from self.jobs) c }
         ensures ends { result.ends ≡ filter_map (seat_end self.start) result.seats }
 
-        // Each job, with the octets of its calls' seats, is run to its end, and they are as it leaves them: the jobs have its
-        // calls and legs, in the same order, and each seat has its call's buffers.
+        // Each job takes the octets of its calls' seats and is run to its end, job by job, in their order. What it leaves is
+        // kept: its calls with their legs, and in each seat the buffers of its call.
         ensures jobs { groups_from result.jobs ≡ groups_from (finished_jobs self) }
         ensures buffers { result.seats ≡ map (seat_left (finished_jobs self)) self.seats }
 

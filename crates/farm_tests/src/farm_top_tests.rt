@@ -9,7 +9,7 @@ use std::thread::Threads;
 use trau_io::Side::{Down, Out, Pcm, Up};
 use trau_io::{MemDesk, MemTrunk, Side};
 
-fn words_of(rt: &impl Abort, alloc: Global, texts: &[&str]) -> Vec<String> {
+pub(crate) fn words_of(rt: &impl Abort, alloc: Global, texts: &[&str]) -> Vec<String> {
     let mut words = Vec::new(alloc);
     for text in texts {
         let word = String::from_str(alloc, text).expect(rt, "memory");
@@ -50,9 +50,21 @@ pub(crate) fn carry<R: Abort + Threads + Wait + Sync, G: Gate + Sync>(
     fails: u32,
     gate: &G,
 ) -> Outcome {
-    let words = words_of(rt, alloc, texts);
     let mut desk = desk_of(rt, alloc, orders, fails);
-    let status = farm_top(rt, alloc, &words, trunk, &mut desk, gate);
+    carry_at(rt, alloc, texts, trunk, &mut desk, gate)
+}
+
+// Carries out the command of these words at this desk.
+pub(crate) fn carry_at<R: Abort + Threads + Wait + Sync, G: Gate + Sync>(
+    rt: &R,
+    alloc: Global,
+    texts: &[&str],
+    trunk: &mut MemTrunk,
+    desk: &mut MemDesk,
+    gate: &G,
+) -> Outcome {
+    let words = words_of(rt, alloc, texts);
+    let status = farm_top(rt, alloc, &words, trunk, desk, gate);
     let text = desk.text().to_vec(alloc).expect(rt, "memory");
     Outcome { status, text }
 }

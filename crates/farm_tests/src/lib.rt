@@ -5,7 +5,15 @@
 #![tactic(auto)]
 
 #[cfg(test)]
+mod desk;
+#[cfg(test)]
+mod farm_top_desk_tests;
+#[cfg(test)]
+mod farm_top_faults_tests;
+#[cfg(test)]
 mod farm_top_gate_tests;
+#[cfg(test)]
+mod farm_top_rows_tests;
 #[cfg(test)]
 mod farm_top_run_tests;
 #[cfg(test)]
@@ -16,3 +24,5 @@ mod held;
 mod lines;
 #[cfg(test)]
 mod pool_run_tests;
+#[cfg(test)]
+mod two_calls;

@@ -47,6 +47,26 @@ pub(crate) fn late_frames(rt: &impl Abort, alloc: Global, count: usize) -> Vec<u
     octets
 }
 
+// Octets that tell the periods and the calls apart: good uplink frames with the number of the period in their data bits, and
+// a Pcm line that changes.
+pub(crate) fn numbered(
+    rt: &impl Abort,
+    alloc: Global,
+    side: Side,
+    call: u32,
+    count: usize,
+) -> Vec<u8> {
+    let mut octets = octets(rt, alloc, side, count);
+    for (place, octet) in octets.iter_mut().enumerate() {
+        if side != Side::Up {
+            *octet = (place % 251) as u8 ^ (call % 256) as u8;
+        } else if place % 40 == 5 {
+            *octet = (place / 40 % 256) as u8 ^ (call % 256) as u8;
+        }
+    }
+    octets
+}
+
 // Puts a line in place with these octets on it.
 pub(crate) fn put(
     rt: &impl Abort,

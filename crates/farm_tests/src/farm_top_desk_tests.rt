@@ -1,0 +1,62 @@
+// The command `run` over two calls, of which the desk fails once at each of its first ten reads and writes: 20 runs.
+use crate::desk::{FailingDesk, WRITTEN};
+use crate::lines::NONE;
+use crate::two_calls::{ORDERS, Outcome, calm, carry, carry_calm, is_written};
+use std::alloc::Global;
+use std::process::Abort;
+use std::sync::Wait;
+use std::thread::Threads;
+use trau_io::MemTrunk;
+
+// Whether a run in which read `number` of the desk fails is refused and uses no line.
+fn is_unread<R: Abort + Threads + Wait + Sync>(
+    rt: &R,
+    alloc: Global,
+    number: u32,
+    unused: &MemTrunk,
+) -> bool {
+    let desk = FailingDesk::new(rt, alloc, ORDERS, number, NONE);
+    let run = carry(rt, alloc, calm(rt, alloc), desk);
+    let is_told = run.desk.text() == "orders unread\n".as_bytes();
+    run.status == 3 && is_told && is_written(&run.trunk, unused)
+}
+
+// Whether a text is the front of a report that the writes before write `number` told.
+fn is_front(text: &[u8], number: u32, report: &[u8]) -> bool {
+    let length = number as usize * WRITTEN;
+    text.len() == length && length < report.len() && report.starts_with(text)
+}
+
+// Whether a run in which write `number` of the desk fails leaves a front of the report, and all lines whole.
+fn is_untold<R: Abort + Threads + Wait + Sync>(
+    rt: &R,
+    alloc: Global,
+    number: u32,
+    whole: &Outcome,
+) -> bool {
+    let desk = FailingDesk::new(rt, alloc, ORDERS, NONE, number);
+    let run = carry(rt, alloc, calm(rt, alloc), desk);
+    let is_told = is_front(run.desk.text(), number, whole.desk.text());
+    run.status == 4 && is_told && is_written(&run.trunk, &whole.trunk)
+}
+
+// How many of the first ten reads and writes of the desk fail as they should, in turn.
+fn desk_fails<R: Abort + Threads + Wait + Sync>(rt: &R, alloc: Global) -> u32 {
+    let unused = calm(rt, alloc);
+    let whole = carry_calm(rt, alloc, calm(rt, alloc));
+    for number in 0..10 {
+        let read = is_unread(rt, alloc, number, &unused);
+        let write = is_untold(rt, alloc, number, &whole);
+        if !read || !write {
+            return number;
+        }
+    }
+    10
+}
+
+// The desk fails at each of its first ten reads, and at each of its first ten writes.
+#[test]
+fn the_desk_fails_at_each_call(rt: HostRuntime) {
+    let number = desk_fails(&rt, rt.alloc());
+    assert!(rt; number == 10, "call {number}");
+}

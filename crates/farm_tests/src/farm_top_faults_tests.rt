@@ -1,0 +1,223 @@
+// The command `run` over two calls, of which each line fails once at each of its first ten calls: 80 runs. Each is compared
+// with a run over the octets that were given, of which no call fails.
+use crate::lines::{NONE, line};
+use crate::two_calls::{OF_40, OF_160, Outcome, calm, carry_calm, lay};
+use std::alloc::Global;
+use std::process::Abort;
+use std::sync::Wait;
+use std::thread::Threads;
+use trau_io::Side::{Down, Out, Pcm, Up};
+use trau_io::{MemTrunk, Side};
+
+// How many octets the calls before each of the first ten move: rounds of 4, 7, 7, 7 and 5 periods, in pieces.
+const BEFORE_40: [usize; 10] = [0, 150, 160, 310, 440, 590, 720, 870, 1000, 1150];
+
+const BEFORE_160: [usize; 10] = [0, 600, 640, 1240, 1760, 2360, 2880, 3480, 4000, 4600];
+
+// A line that fails, what the report has of it, and how many octets the calls before each of the first ten moved.
+struct Failing {
+    call: u32,
+    side: Side,
+    // How the line of its call begins, and how it ends where the call's lines fail.
+    head: &'static str,
+    cause: &'static str,
+    told: &'static str,
+    before: [usize; 10],
+}
+
+static LINES: [Failing; 8] = [
+    Failing {
+        call: 7,
+        side: Up,
+        head: "call 7 ",
+        cause: " fault up",
+        told: "line 7 up failed\n",
+        before: BEFORE_40,
+    },
+    Failing {
+        call: 7,
+        side: Pcm,
+        head: "call 7 ",
+        cause: " fault pcm",
+        told: "line 7 pcm failed\n",
+        before: BEFORE_160,
+    },
+    Failing {
+        call: 7,
+        side: Down,
+        head: "call 7 ",
+        cause: "",
+        told: "line 7 down failed\n",
+        before: BEFORE_40,
+    },
+    Failing {
+        call: 7,
+        side: Out,
+        head: "call 7 ",
+        cause: "",
+        told: "line 7 out failed\n",
+        before: BEFORE_160,
+    },
+    Failing {
+        call: 9,
+        side: Up,
+        head: "call 9 ",
+        cause: " fault up",
+        told: "line 9 up failed\n",
+        before: BEFORE_40,
+    },
+    Failing {
+        call: 9,
+        side: Pcm,
+        head: "call 9 ",
+        cause: " fault pcm",
+        told: "line 9 pcm failed\n",
+        before: BEFORE_160,
+    },
+    Failing {
+        call: 9,
+        side: Down,
+        head: "call 9 ",
+        cause: "",
+        told: "line 9 down failed\n",
+        before: BEFORE_40,
+    },
+    Failing {
+        call: 9,
+        side: Out,
+        head: "call 9 ",
+        cause: "",
+        told: "line 9 out failed\n",
+        before: BEFORE_160,
+    },
+];
+
+fn is_incoming(side: Side) -> bool {
+    side == Up || side == Pcm
+}
+
+// The lines of both calls, of which this one fails at call `number`.
+fn failed_at(rt: &impl Abort, alloc: Global, row: &Failing, number: u32) -> MemTrunk {
+    let mut trunk = calm(rt, alloc);
+    let octets = match row.side {
+        Up => OF_40,
+        Pcm => OF_160,
+        Down | Out => 0,
+    };
+    lay(rt, alloc, &mut trunk, row.call, row.side, octets, number);
+    trunk
+}
+
+// The lines of both calls, of which this incoming one has the octets that were given before it failed, and never fails.
+fn given(rt: &impl Abort, alloc: Global, row: &Failing, before: usize) -> MemTrunk {
+    let mut trunk = calm(rt, alloc);
+    lay(rt, alloc, &mut trunk, row.call, row.side, before, NONE);
+    trunk
+}
+
+// The report of the run over the octets that were given, as it is where the line failed: its call ends by the fault, and
+// the line is listed before the last line.
+fn told_of(rt: &impl Abort, alloc: Global, row: &Failing, calm: &[u8]) -> String {
+    let calm = str::from_utf8(calm).expect(rt, "text");
+    let mut told = String::new(alloc);
+    for text in calm.lines() {
+        if text.starts_with("end ") {
+            told.push_str(row.told).expect(rt, "memory");
+        }
+        let ended = is_incoming(row.side) && text.starts_with(row.head);
+        match text.split_once(" end ") {
+            Some((front, _)) if ended => {
+                told.push_str(front).expect(rt, "memory");
+                told.push_str(row.cause).expect(rt, "memory");
+            }
+            _ => told.push_str(text).expect(rt, "memory"),
+        }
+        told.push('\n').expect(rt, "memory");
+    }
+    told
+}
+
+// Whether a line got what it got in another run; where it failed, the first `before` octets of that.
+fn has_front(
+    trunk: &MemTrunk,
+    other: &MemTrunk,
+    row: &Failing,
+    before: usize,
+    call: u32,
+    side: Side,
+) -> bool {
+    let got = trunk.written(line(call, side));
+    let whole = other.written(line(call, side));
+    if call == row.call && side == row.side {
+        got.len() == before && before < whole.len() && whole.starts_with(got)
+    } else {
+        got == whole
+    }
+}
+
+// Whether each outgoing line has what it should, and the failed one failed once.
+fn have_fronts(trunk: &MemTrunk, other: &MemTrunk, row: &Failing, before: usize) -> bool {
+    has_front(trunk, other, row, before, 7, Down)
+        && has_front(trunk, other, row, before, 7, Out)
+        && has_front(trunk, other, row, before, 9, Down)
+        && has_front(trunk, other, row, before, 9, Out)
+        && trunk.faults(line(row.call, row.side)) == 1
+}
+
+// Whether a run in which a line fails at call `number` is as that over the octets that were given.
+fn is_as_given<R: Abort + Threads + Wait + Sync>(
+    rt: &R,
+    alloc: Global,
+    row: &Failing,
+    number: u32,
+    before: usize,
+    given: &Outcome,
+) -> bool {
+    let run = carry_calm(rt, alloc, failed_at(rt, alloc, row, number));
+    let told = told_of(rt, alloc, row, given.desk.text());
+    run.status == 6
+        && given.status == 0
+        && run.desk.text() == told.as_bytes()
+        && have_fronts(&run.trunk, &given.trunk, row, before)
+}
+
+// How many of the first ten calls of an incoming line fail as they should, in turn.
+fn incoming_fails<R: Abort + Threads + Wait + Sync>(rt: &R, alloc: Global, row: &Failing) -> u32 {
+    for number in 0..10u32 {
+        let before = row.before[number as usize];
+        let given = carry_calm(rt, alloc, given(rt, alloc, row, before));
+        if !is_as_given(rt, alloc, row, number, before, &given) {
+            return number;
+        }
+    }
+    10
+}
+
+// The same of an outgoing line: the octets that were given are all.
+fn outgoing_fails<R: Abort + Threads + Wait + Sync>(
+    rt: &R,
+    alloc: Global,
+    row: &Failing,
+    whole: &Outcome,
+) -> u32 {
+    for number in 0..10u32 {
+        if !is_as_given(rt, alloc, row, number, row.before[number as usize], whole) {
+            return number;
+        }
+    }
+    10
+}
+
+// Two calls of 30 periods, in rounds of at most 7: each line fails at each of its first ten calls.
+#[test]
+fn each_line_fails_at_each_call(rt: HostRuntime) {
+    let whole = carry_calm(&rt, rt.alloc(), calm(&rt, rt.alloc()));
+    for row in &LINES {
+        let number = if is_incoming(row.side) {
+            incoming_fails(&rt, rt.alloc(), row)
+        } else {
+            outgoing_fails(&rt, rt.alloc(), row, &whole)
+        };
+        assert!(rt; number == 10, "{}call {number}", row.told);
+    }
+}

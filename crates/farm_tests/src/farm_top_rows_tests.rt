@@ -1,0 +1,243 @@
+// The command `run` where a line is short or fails, or the desk: values that were worked by hand from the rules.
+use crate::farm_top_tests::{Outcome, carry, carry_at};
+use crate::lines::{Laid, NONE, line, put, trunk_of};
+use pool_run::OpenGate;
+use std::alloc::Global;
+use std::process::Abort;
+use std::sync::Wait;
+use std::thread::Threads;
+use trau_io::Side::{Down, Out, Pcm, Up};
+use trau_io::{Line, MemDesk, MemTrunk};
+
+// In one piece.
+const ALL: u32 = 10_000;
+
+// A run of call 1 over three periods of an uplink without a frame and of silence, or less; and what comes of it.
+struct Row {
+    // How many octets lie on Up and on Pcm.
+    up: usize,
+    pcm: usize,
+    // Which write of Out fails, which read of the desk, and for how many octets the desk has room.
+    out_fails: u32,
+    desk_fails: u32,
+    room: u32,
+    status: u8,
+    text: &'static str,
+    // How many octets Down and Out get, of those of three whole periods.
+    down: usize,
+    out: usize,
+}
+
+static ROWS: [Row; 5] = [
+    // Up is one octet short of three periods.
+    Row {
+        up: 119,
+        pcm: 480,
+        out_fails: NONE,
+        desk_fails: NONE,
+        room: 1000,
+        status: 0,
+        text: "order 1 ok
+call 1 from 0 to 2 end up 39
+counts 1 good 0 sid 0 invalid 0 bad 0 idle 0 other 0 miss 0 none 2 made 2
+end period 2 calls 1 left 0
+",
+        down: 80,
+        out: 320,
+    },
+    // Pcm is.
+    Row {
+        up: 120,
+        pcm: 479,
+        out_fails: NONE,
+        desk_fails: NONE,
+        room: 1000,
+        status: 0,
+        text: "order 1 ok
+call 1 from 0 to 2 end pcm 159
+counts 1 good 0 sid 0 invalid 0 bad 0 idle 0 other 0 miss 0 none 2 made 2
+end period 2 calls 1 left 0
+",
+        down: 80,
+        out: 320,
+    },
+    // Out fails at its first write: Down is whole.
+    Row {
+        up: 120,
+        pcm: 480,
+        out_fails: 0,
+        desk_fails: NONE,
+        room: 1000,
+        status: 6,
+        text: "order 1 ok
+call 1 from 0 to 3 end up 0
+counts 1 good 0 sid 0 invalid 0 bad 0 idle 0 other 0 miss 0 none 3 made 3
+line 1 out failed
+end period 3 calls 1 left 0
+",
+        down: 120,
+        out: 0,
+    },
+    // The desk fails at its first read: no line is used.
+    Row {
+        up: 120,
+        pcm: 480,
+        out_fails: NONE,
+        desk_fails: 0,
+        room: 1000,
+        status: 3,
+        text: "orders unread\n",
+        down: 0,
+        out: 0,
+    },
+    // The desk has room for five octets: both lines are whole.
+    Row {
+        up: 120,
+        pcm: 480,
+        out_fails: NONE,
+        desk_fails: NONE,
+        room: 5,
+        status: 4,
+        text: "order",
+        down: 120,
+        out: 480,
+    },
+];
+
+// So many octets of this value.
+fn octets(rt: &impl Abort, alloc: Global, octet: u8, count: usize) -> Vec<u8> {
+    vec![in alloc; octet; count].expect(rt, "memory")
+}
+
+// The lines of call 1.
+fn lines_of(rt: &impl Abort, alloc: Global, row: &Row) -> MemTrunk {
+    let mut trunk = MemTrunk::new(alloc).expect(rt, "memory");
+    let up = octets(rt, alloc, 0, row.up);
+    let pcm = octets(rt, alloc, 0xD5, row.pcm);
+    let none = Vec::new(alloc);
+    put(rt, alloc, &mut trunk, line(1, Up), up, ALL, NONE);
+    put(rt, alloc, &mut trunk, line(1, Pcm), pcm, ALL, NONE);
+    put(rt, alloc, &mut trunk, line(1, Down), none, ALL, NONE);
+    let none = Vec::new(alloc);
+    put(
+        rt,
+        alloc,
+        &mut trunk,
+        line(1, Out),
+        none,
+        ALL,
+        row.out_fails,
+    );
+    trunk
+}
+
+// The desk of a row.
+fn desk_of(rt: &impl Abort, alloc: Global, row: &Row) -> MemDesk {
+    let orders = b"0 open 1\n".to_vec(alloc).expect(rt, "memory");
+    let fails = vec![in alloc; row.desk_fails; 1].expect(rt, "memory");
+    MemDesk::new(alloc, orders, fails, Vec::new(alloc), row.room).expect(rt, "memory")
+}
+
+// An octet of Down: one period of ones, and then idle frames.
+fn down_at(place: usize) -> u8 {
+    match place % 40 {
+        _ if place < 40 => 0xFF,
+        0 | 1 => 0,
+        2 => 0xB8,
+        3 => 0x0F,
+        _ => 0xFF,
+    }
+}
+
+// Whether Down and Out got what their row has.
+fn is_written(trunk: &MemTrunk, row: &Row) -> bool {
+    let down = trunk.written(line(1, Down));
+    let out = trunk.written(line(1, Out));
+    let mut downs = down.iter().enumerate();
+    down.len() == row.down
+        && out.len() == row.out
+        && downs.all(|(place, octet)| *octet == down_at(place))
+        && out.iter().all(|octet| *octet == 0xD5)
+}
+
+// Whether of a run comes what its row has.
+fn comes_of<R: Abort + Threads + Wait + Sync>(rt: &R, alloc: Global, row: &Row) -> bool {
+    let mut trunk = lines_of(rt, alloc, row);
+    let mut desk = desk_of(rt, alloc, row);
+    let outcome = carry_at(rt, alloc, &["run"], &mut trunk, &mut desk, &OpenGate);
+    outcome.is(row.status, row.text) && is_written(&trunk, row)
+}
+
+#[test]
+fn one_call_at_its_limits(rt: HostRuntime) {
+    for row in &ROWS {
+        assert!(rt; comes_of(&rt, rt.alloc(), row), "{}", row.text);
+    }
+}
+
+// Three calls of 20 periods: of Pcm of call 7 the second read fails, after 400 octets, and the first write of Down of call 9.
+fn of_three(pcm_fails: u32, down_fails: u32) -> [Laid; 12] {
+    [
+        (7, Up, 20 * 40, ALL, NONE),
+        (7, Pcm, 20 * 160, 400, pcm_fails),
+        (7, Down, 0, ALL, NONE),
+        (7, Out, 0, ALL, NONE),
+        (8, Up, 20 * 40, ALL, NONE),
+        (8, Pcm, 20 * 160, ALL, NONE),
+        (8, Down, 0, ALL, NONE),
+        (8, Out, 0, ALL, NONE),
+        (9, Up, 20 * 40, ALL, NONE),
+        (9, Pcm, 20 * 160, ALL, NONE),
+        (9, Down, 0, ALL, down_fails),
+        (9, Out, 0, ALL, NONE),
+    ]
+}
+
+const TEXT_OF_THREE: &str = "order 1 ok
+order 2 ok
+order 3 ok
+call 7 from 0 to 2 fault pcm
+counts 7 good 2 sid 0 invalid 0 bad 0 idle 0 other 0 miss 0 none 0 made 2
+call 8 from 0 to 20 end up 0
+counts 8 good 20 sid 0 invalid 0 bad 0 idle 0 other 0 miss 0 none 0 made 20
+call 9 from 0 to 20 end up 0
+counts 9 good 20 sid 0 invalid 0 bad 0 idle 0 other 0 miss 0 none 0 made 20
+line 7 pcm failed
+line 9 down failed
+end period 20 calls 3 left 0
+";
+
+// Runs the three calls. Answers what comes of it, and the lines afterwards.
+fn carry_three<R: Abort + Threads + Wait + Sync>(
+    rt: &R,
+    alloc: Global,
+    pcm_fails: u32,
+    down_fails: u32,
+) -> (Outcome, MemTrunk) {
+    let mut trunk = trunk_of(rt, alloc, &of_three(pcm_fails, down_fails));
+    let orders = "0 open 7\n0 open 8\n0 open 9\n";
+    let outcome = carry(rt, alloc, &["run"], &mut trunk, orders, NONE, &OpenGate);
+    (outcome, trunk)
+}
+
+// Whether a line is whole, and the same in two runs.
+fn is_same(one: &MemTrunk, other: &MemTrunk, line: Line, count: usize) -> bool {
+    let octets = one.written(line);
+    octets.len() == count && octets == other.written(line)
+}
+
+// Whether two failing lines leave call 8, and Out of call 9, as they are where nothing fails.
+fn two_fail<R: Abort + Threads + Wait + Sync>(rt: &R, alloc: Global) -> bool {
+    let (_outcome, calm) = carry_three(rt, alloc, NONE, NONE);
+    let (outcome, trunk) = carry_three(rt, alloc, 1, 0);
+    outcome.is(6, TEXT_OF_THREE)
+        && is_same(&trunk, &calm, line(8, Down), 800)
+        && is_same(&trunk, &calm, line(8, Out), 3200)
+        && is_same(&trunk, &calm, line(9, Out), 3200)
+        && trunk.written(line(9, Down)).is_empty()
+}
+
+#[test]
+fn two_lines_of_three_calls_fail(rt: HostRuntime) {
+    assert!(rt; two_fail(&rt, rt.alloc()), "calls 7, 8 and 9");
+}

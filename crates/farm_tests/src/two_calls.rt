@@ -1,0 +1,97 @@
+// Two calls of 30 periods, which a bridge joins at period 4, in rounds of at most 7 periods.
+use crate::desk::FailingDesk;
+use crate::farm_top_tests::words_of;
+use crate::lines::{NONE, line, numbered, put};
+use farm_top::farm_top;
+use pool_run::OpenGate;
+use std::alloc::Global;
+use std::process::Abort;
+use std::sync::Wait;
+use std::thread::Threads;
+use trau_io::Side::{Down, Out, Pcm, Up};
+use trau_io::{MemTrunk, Side};
+
+pub(crate) const ORDERS: &str = "0 open 7\n0 open 9\n4 bridge 7 9\n";
+
+static WORDS: [&str; 5] = ["run", "--batch", "7", "--workers", "1"];
+
+// The octets of 30 periods.
+pub(crate) const OF_40: usize = 1200;
+
+pub(crate) const OF_160: usize = 4800;
+
+// The most octets that a call of such a line moves.
+const CUT_40: u32 = 150;
+
+const CUT_160: u32 = 600;
+
+// Puts a line in place that has so many octets, and of which this call fails.
+pub(crate) fn lay(
+    rt: &impl Abort,
+    alloc: Global,
+    trunk: &mut MemTrunk,
+    call: u32,
+    side: Side,
+    octets: usize,
+    fails: u32,
+) {
+    let cut = match side {
+        Up | Down => CUT_40,
+        Pcm | Out => CUT_160,
+    };
+    let octets = numbered(rt, alloc, side, call, octets);
+    put(rt, alloc, trunk, line(call, side), octets, cut, fails);
+}
+
+// The lines of both calls, of which no call fails.
+pub(crate) fn calm(rt: &impl Abort, alloc: Global) -> MemTrunk {
+    let mut trunk = MemTrunk::new(alloc).expect(rt, "memory");
+    for call in &[7, 9] {
+        lay(rt, alloc, &mut trunk, *call, Up, OF_40, NONE);
+        lay(rt, alloc, &mut trunk, *call, Pcm, OF_160, NONE);
+        lay(rt, alloc, &mut trunk, *call, Down, 0, NONE);
+        lay(rt, alloc, &mut trunk, *call, Out, 0, NONE);
+    }
+    trunk
+}
+
+// What comes of a run: its status, its text, and the lines afterwards.
+#[derive(Drop)]
+pub(crate) struct Outcome {
+    pub(crate) status: u8,
+    pub(crate) desk: FailingDesk,
+    pub(crate) trunk: MemTrunk,
+}
+
+// Carries out the run over these lines, at this desk.
+pub(crate) fn carry<R: Abort + Threads + Wait + Sync>(
+    rt: &R,
+    alloc: Global,
+    mut trunk: MemTrunk,
+    mut desk: FailingDesk,
+) -> Outcome {
+    let words = words_of(rt, alloc, &WORDS);
+    let status = farm_top(rt, alloc, &words, &mut trunk, &mut desk, &OpenGate);
+    Outcome {
+        status,
+        desk,
+        trunk,
+    }
+}
+
+// Carries out the run over these lines, at a desk of which no call fails.
+pub(crate) fn carry_calm<R: Abort + Threads + Wait + Sync>(
+    rt: &R,
+    alloc: Global,
+    trunk: MemTrunk,
+) -> Outcome {
+    carry(rt, alloc, trunk, FailingDesk::calm(rt, alloc, ORDERS))
+}
+
+// Whether the outgoing lines got the same in two runs.
+pub(crate) fn is_written(trunk: &MemTrunk, other: &MemTrunk) -> bool {
+    trunk.written(line(7, Down)) == other.written(line(7, Down))
+        && trunk.written(line(7, Out)) == other.written(line(7, Out))
+        && trunk.written(line(9, Down)) == other.written(line(9, Down))
+        && trunk.written(line(9, Out)) == other.written(line(9, Out))
+}
