@@ -127,7 +127,8 @@ fn carry_out<R: Threads + Wait + Sync, T: Trunk, D: Desk, G: Gate + Sync>(
 /// else 4), `--batch` (the most periods of a round, 1 to 250, else 50), `--slice` (the most periods of a call that are
 /// worked at a time, 1 to 250, else 5) and `--periods` (the most periods of the run, 1 to 4,294,967,295, else that). The
 /// workers steal calls half done from one another, and each slice of a call passes the gate. The run waits for them, so what
-/// is said of it holds if the call returns; the other commands return.
+/// is said of it holds if `farm_top` returns. That the other commands return is proved of their functions in `farm_tools`
+/// (`relay`, `decode`, `encode`, `frames`), and not of `farm_top`, which waits as a whole.
 ///
 /// | Status | Comes | Text on the desk |
 /// |---|---|---|
