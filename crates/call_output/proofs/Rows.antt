@@ -9,7 +9,7 @@ use Rattle.trau_frame.specs.Frame.{number_of, data_of, frame_bits}
 use Rattle.trau_frame.specs.Role.{role_of, place_of}
 use Rattle.trau_frame.specs.UpFrame.{words_in}
 use Rattle.trau_frame.specs.declared.frames.DownFrame.TheVariants as frames
-use Rattle.frame_sync.specs.Match.{is_match, frame_at}
+use Rattle.trau_frame.specs.Match.{is_match, frame_at}
 use Rattle.frame_sync.specs.Periods.{each_yield, searched, first_match, line_bits, mode_after}
 use Rattle.rx_handler.specs.Effective.{effective_at, origin_at, latest_anchor}
 use Rattle.fr_decoder.specs.Decoded.{decoded}

@@ -11,8 +11,8 @@ use Rattle.trau_bits.specs.Bits.{bit_of, bits_of}
 use Rattle.trau_bits.proofs.BitList.{length-bits_of, get_or-bits_of}
 use Rattle.frame_sync.specs.declared.yields.Yield.{Yield}
 use Rattle.frame_sync.specs.Yields.{Yields}
-use Rattle.frame_sync.specs.Periods.{line_bits, mode_after, each_yield, ArePeriods, all_yields, yield_in, ends_in}
-use Rattle.frame_sync.proofs.Whole.{given-past}
+use Rattle.frame_sync.specs.Periods.{line_bits, each_yield, ArePeriods, all_yields, yield_in, ends_in}
+use Rattle.frame_sync.proofs.Whole.{yields-past}
 use Rattle.frame_sync.proofs.Unique.{same_yields}
 use Rattle.frame_sync.proofs.Order.{filter-yields}
 use Rattle.call_leg.specs.Periods.{CallPeriod, ups_of}
@@ -61,8 +61,7 @@ are_periods (t ∷ past) h =
 
 yields-up : (ts : List CallPeriod) → All (λ t. length t.up ≡ 40) ts → Yields (bits_of (up_of ts)) (flat_map option_to_list (each_yield (ups_of ts)))
 yields-up ts h =
-    let given = given-past (ups_of ts) (are_periods ts h) in
-    subst (λ bits. Yields bits (flat_map option_to_list (each_yield (ups_of ts)))) (line_bits-up ts) (mode_after (ups_of ts), given.gives, given.none)
+    subst (λ bits. Yields bits (flat_map option_to_list (each_yield (ups_of ts)))) (line_bits-up ts) (yields-past (ups_of ts) (are_periods ts h))
 
 pub yield-ends : (number : ℕ) (ts : List CallPeriod) (ys : List Yield) (k : ℕ) → IsCallHistory ts → Yields (bits_of (call_of number ts).up) ys → k < periods (call_of number ts) →
     filter (ends_in k) ys ≡ option_to_list (yield_at (call_of number ts) k)

@@ -22,7 +22,7 @@ use Rattle.trau_frame.proofs.RowPlaces.{bit-below}
 use Rattle.trau_frame.proofs.ReadRows.{data_of-below}
 use Rattle.frame_sync.specs.declared.yields.Yield.{Yield}
 use Rattle.frame_sync.specs.declared.yields.Yield.TheVariants.{Frame}
-use Rattle.frame_sync.specs.Match.{bit_in}
+use Rattle.trau_frame.specs.Match.{bit_in}
 use Rattle.frame_sync.specs.Periods.{line_bits, mode_after, yield_of, CarriesFrame}
 use Rattle.frame_sync.proofs.Searched.{carries-searched}
 use Rattle.rx_handler.specs.Heard.{Heard, Good, heard_frame}

@@ -8,7 +8,8 @@ use Rattle.trau_frame.specs.declared.frames.Class.TheVariants.{Good, Sid, Invali
 use Rattle.trau_frame.specs.UpFrame.{kind_of, class_of}
 use Rattle.frame_sync.specs.declared.yields.Yield.{Yield}
 use Rattle.frame_sync.specs.declared.yields.Yield.TheVariants.{Frame, Miss}
-use Rattle.frame_sync.specs.Periods.{all_yields, place_of}
+use Rattle.frame_sync.specs.Yields.{place_of}
+use Rattle.frame_sync.specs.Periods.{all_yields}
 
 -- the word for a frame by its kind and class
 abbrev pub word_by : Kind → Class → List ℕ

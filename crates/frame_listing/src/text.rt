@@ -1,6 +1,7 @@
 // The texts of yields.
 ghost use Rattle.std.specs.Prelude.{◌≡◌, ◌≤◌, ◌<◌, ◌^◌, length};
-ghost use Rattle.frame_sync.specs.Periods.{CarriesFrame, place_of};
+ghost use Rattle.frame_sync.specs.Yields.{place_of};
+ghost use Rattle.frame_sync.specs.Periods.{CarriesFrame};
 ghost use Rattle.frame_listing.specs.Texts.{line_of, word_by, word_of};
 
 use arrayvec::ArrayString;

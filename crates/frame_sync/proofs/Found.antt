@@ -2,7 +2,7 @@
 use Rattle.std.proofs.Common.{◌≡◌, ℕ, zero, suc, ◌+◌, ◌<◌, ◌≤◌, true, false, Option, Some, None, refl, sym, ap, subst, arith, inl, inr}
 use Rattle.std.specs.Option.{MatchOption}
 use Rattle.std.proofs.lemmas.Bool.{cases_lt, cases_Bool}
-use Rattle.frame_sync.specs.Match.{is_match}
+use Rattle.trau_frame.specs.Match.{is_match}
 use Rattle.frame_sync.specs.Yields.{NoMatch}
 use Rattle.frame_sync.specs.Periods.{first_match}
 

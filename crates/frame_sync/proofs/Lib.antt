@@ -1,8 +1,8 @@
-pub mod Matches
 pub mod Scan
 pub mod Found
 pub mod Searched
 pub mod Steps
+pub mod Modes
 pub mod Whole
 pub mod Unique
 pub mod Order

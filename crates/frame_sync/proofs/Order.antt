@@ -1,5 +1,5 @@
 -- Periods with the oldest first, and the yield of each.
-use Rattle.std.proofs.Common.{◌≡◌, ℕ, ◌*◌, ◌<◌, ◌≤◌, true, false, List, [], ◌∷◌, ◌++◌, length, length-append, get_or, filter, reverse, Option, Some, None, IfSome, option_to_list, refl, sym, ap, ◌∙◌, subst, arith, inl, inr, ◌⊎◌}
+use Rattle.std.proofs.Common.{◌≡◌, ℕ, suc, ◌*◌, ◌<◌, ◌≤◌, true, false, List, [], ◌∷◌, ◌++◌, length, length-append, get_or, filter, reverse, Option, Some, None, IfSome, option_to_list, refl, sym, ap, ◌∙◌, subst, arith, inl, inr, ◌⊎◌}
 use Rattle.std.specs.List.{flat_map}
 use Rattle.std.proofs.lemmas.Bool.{cases_lt}
 use Rattle.std.proofs.lemmas.Bool.Decides.{nat_tests}
@@ -9,12 +9,14 @@ use Rattle.std.proofs.lemmas.Grind.{flat_map-append}
 use Rattle.std.proofs.Math.Seq.{get_or-append_seam}
 use Rattle.trau_bits.specs.Bits.{bits_of}
 use Rattle.frame_sync.specs.declared.yields.Yield.{Yield}
-use Rattle.frame_sync.specs.Match.{bit_in}
+use Rattle.trau_frame.specs.Match.{bit_in}
 use Rattle.frame_sync.specs.Yields.{Yields}
+use Rattle.frame_sync.specs.Step.{SyncMemory, next_period, Stands}
 use Rattle.frame_sync.specs.Periods.{line_bits, mode_after, yield_of, each_yield, ArePeriods, yield_in, all_yields, all_bits, EndsIn, ends_in}
 use Rattle.frame_sync.proofs.Searched.{ends-searched}
-use Rattle.frame_sync.proofs.Steps.{near-mode_after}
-use Rattle.frame_sync.proofs.Whole.{flat_map-one, given-past}
+use Rattle.frame_sync.proofs.Steps.{near-mode_after, stands-next}
+use Rattle.frame_sync.proofs.Unique.{same_yields}
+use Rattle.frame_sync.proofs.Whole.{flat_map-one, yields-past}
 
 -- ---- the oldest first
 
@@ -39,9 +41,8 @@ are_periods-reverse (octets ∷ periods) h =
 
 pub all_yields-are : (periods : List (List ℕ)) → ArePeriods periods → Yields (all_bits periods) (all_yields periods)
 all_yields-are periods h =
-    let given = given-past (reverse periods) (are_periods-reverse periods h) in
     let bits : line_bits (reverse periods) ≡ all_bits periods = line_bits-is (reverse periods) ∙ ap all_bits (reverse-reverse periods) in
-    subst (λ b. Yields b (all_yields periods)) bits (mode_after (reverse periods), given.gives, given.none)
+    subst (λ b. Yields b (all_yields periods)) bits (yields-past (reverse periods) (are_periods-reverse periods h))
 
 length-each_yield : (past : List (List ℕ)) → length (each_yield past) ≡ length past
 unfolding each_yield
@@ -128,3 +129,21 @@ filter-past (octets ∷ past) k h = elim (cases_lt k (length past)) [
 pub filter-yields : (periods : List (List ℕ)) (k : ℕ) → k < length periods →
     filter (ends_in k) (all_yields periods) ≡ option_to_list (yield_in periods k)
 filter-yields periods k h = filter-past (reverse periods) k (subst (λ n. k < n) (sym (length-reverse periods)) h)
+
+-- ---- of all yields of all bits, the one in the newest period
+
+newest-of-all : (octets : List ℕ) (past : List (List ℕ)) (ys : List Yield) → ArePeriods (octets ∷ past) → Yields (all_bits (reverse (octets ∷ past))) ys →
+    filter (ends_in (length past)) ys ≡ option_to_list (yield_of octets past)
+newest-of-all octets past ys h y =
+    let same : ys ≡ all_yields (reverse (octets ∷ past)) =
+    same_yields (all_bits (reverse (octets ∷ past))) ys (all_yields (reverse (octets ∷ past))) y (all_yields-are (reverse (octets ∷ past)) (are_periods-reverse (octets ∷ past) h)) in
+    let count : length (reverse (octets ∷ past)) ≡ suc (length past) = length-reverse (octets ∷ past) in
+    ap (filter (ends_in (length past))) same ∙ filter-yields (reverse (octets ∷ past)) (length past) (omega arith) ∙
+    ap (λ l. option_to_list (get_or (each_yield l) (length past) None)) (reverse-reverse (octets ∷ past)) ∙ ap option_to_list (each_yield-newest octets past)
+
+pub fed-of-all : (memory after : SyncMemory) (octets : List ℕ) (y : Option Yield) → length octets ≡ 40 → next_period memory octets ≡ (y, after) →
+    (past : List (List ℕ)) (ys : List Yield) → Stands past memory → Yields (all_bits (reverse (octets ∷ past))) ys →
+    filter (ends_in (length past)) ys ≡ option_to_list y
+fed-of-all memory after octets y count step past ys s all =
+    let next = stands-next memory after octets y count step past s in
+    newest-of-all octets past ys next.0.periods all ∙ sym (ap option_to_list next.1)

@@ -1,9 +1,9 @@
 -- Zeros are counted bit by bit, and behind sixteen of them a match is looked for.
 use Rattle.std.proofs.Common.{◌≡◌, ℕ, ◌+◌, ◌-◌, ◌*◌, ◌<◌, ◌≤◌, Bool, true, false, if◌then◌else◌, ◌==◌, List, get_or, refl, subst, arith, inl, inr}
 use Rattle.std.proofs.lemmas.Bool.{cases_lt, cases_eq, eq-eqb, ne_eqb}
-use Rattle.frame_sync.specs.Match.{bit_in, is_match}
+use Rattle.trau_frame.specs.Match.{bit_in, is_match}
 use Rattle.frame_sync.specs.Yields.{NoMatch}
-use Rattle.frame_sync.proofs.Matches.{match_zeros, match_ones, match_from}
+use Rattle.trau_frame.proofs.Matches.{match_zeros, match_ones, match_from}
 
 -- `run_length` bits before place `end` are zeros, and no more of those from `first` on
 pub record Counted (w : List ℕ) (first end run_length : ℕ) : Type 0 where

@@ -8,7 +8,7 @@ use Rattle.trau_bits.proofs.BitList.{length-bits_of}
 use Rattle.trau_frame.proofs.RowPlaces.{bit-below}
 use Rattle.frame_sync.specs.declared.yields.Mode.{Mode}
 use Rattle.frame_sync.specs.declared.yields.Yield.{Yield}
-use Rattle.frame_sync.specs.Match.{bit_in}
+use Rattle.trau_frame.specs.Match.{bit_in}
 use Rattle.frame_sync.specs.Periods.{searched, line_bits, mode_after, yield_of, ArePeriods, EndsIn, CarriesFrame}
 use Rattle.frame_sync.specs.Step.{SyncMemory, bit_of_two, next_period, last_bits, memory_after, Stands, IsNear}
 use Rattle.frame_sync.proofs.Searched.{Agrees, near-searched, ends-searched, carries-searched, searched-agrees}

@@ -11,11 +11,12 @@ use Rattle.frame_sync.specs.declared.yields.Mode.{Mode}
 use Rattle.frame_sync.specs.declared.yields.Mode.TheVariants.{Hunting, Locked}
 use Rattle.frame_sync.specs.declared.yields.Yield.{Yield}
 use Rattle.frame_sync.specs.declared.yields.Yield.TheVariants.{Frame, Miss}
-use Rattle.frame_sync.specs.Match.{bit_in, is_match, frame_at}
-use Rattle.frame_sync.specs.Yields.{after_miss, Gives, GiveAll, NoneEnds}
-use Rattle.frame_sync.specs.Periods.{found_in, hunted, due, searched, line_bits, mode_after, each_yield, ArePeriods}
+use Rattle.trau_frame.specs.Match.{bit_in, is_match, frame_at}
+use Rattle.frame_sync.specs.Yields.{Yields}
+use Rattle.frame_sync.specs.Periods.{after_miss, found_in, hunted, due, searched, line_bits, mode_after, each_yield, ArePeriods}
 use Rattle.frame_sync.specs.Step.{IsNear}
-use Rattle.frame_sync.proofs.Matches.{is_match-same, frame_at-same}
+use Rattle.trau_frame.proofs.Matches.{is_match-same, frame_at-same}
+use Rattle.frame_sync.proofs.Modes.{Gives, GiveAll, NoneEnds, all-follow}
 use Rattle.frame_sync.proofs.Searched.{Looked, looked}
 use Rattle.frame_sync.proofs.Steps.{near-mode_after, length-line_bits}
 
@@ -124,9 +125,9 @@ pub flat_map-one : (ys : List (Option Yield)) (y : Option Yield) → flat_map op
 flat_map-one ys y = flat_map-append option_to_list ys (y ∷ []) ∙ ap (λ l. flat_map option_to_list ys ++ l) (append-nil (option_to_list y))
 
 -- these yields come first, and no other ends in the bits
-pub record Given (bits : List ℕ) (ys : List Yield) (last : Mode) : Type 0 where
-  pub gives : GiveAll bits (Hunting 0) ys last
-  pub none : NoneEnds bits (length bits) last
+record Given (bits : List ℕ) (ys : List Yield) (last : Mode) : Type 0 where
+  gives : GiveAll bits (Hunting 0) ys last
+  none : NoneEnds bits (length bits) last
 
 given-adds : (bits : List ℕ) (ys : List Yield) (mode : Mode) (y : Option Yield) (after : Mode) → GiveAll bits (Hunting 0) ys mode → Adds bits mode y after →
     Given bits (ys ++ option_to_list y) after
@@ -139,7 +140,7 @@ given-adds bits ys mode (Some y) after g a = record {
   none = a.1;
 }
 
-pub given-past : (past : List (List ℕ)) → ArePeriods past → Given (line_bits past) (flat_map option_to_list (each_yield past)) (mode_after past)
+given-past : (past : List (List ℕ)) → ArePeriods past → Given (line_bits past) (flat_map option_to_list (each_yield past)) (mode_after past)
 unfolding line_bits mode_after each_yield
 given-past [] h = record { gives = refl; none = λ q a b. absurd (omega arith) }
 given-past (octets ∷ past) h =
@@ -156,3 +157,8 @@ given-past (octets ∷ past) h =
     (given-adds (line_bits past ++ bits_of octets) (flat_map option_to_list (each_yield past)) (mode_after past) found.0 found.1
     (give_all-more (line_bits past) (bits_of octets) (Hunting 0) (flat_map option_to_list (each_yield past)) (mode_after past) old.gives)
     (adds-searched (line_bits past ++ bits_of octets) (320 * length past) (mode_after past) count (near-mode_after past) none))
+
+pub yields-past : (past : List (List ℕ)) → ArePeriods past → Yields (line_bits past) (flat_map option_to_list (each_yield past))
+yields-past past h =
+    let given = given-past past h in
+    all-follow (line_bits past) (flat_map option_to_list (each_yield past)) (mode_after past) given.gives given.none

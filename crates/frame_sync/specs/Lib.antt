@@ -1,4 +1,3 @@
-pub mod Match
 pub mod Yields
 pub mod Periods
 pub mod Step

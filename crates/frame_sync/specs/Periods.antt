@@ -1,5 +1,6 @@
--- The yield of each period. A period has 40 octets; a history has the newest period first.
-use Rattle.std.specs.Prelude.{ℕ, zero, suc, ◌+◌, ◌-◌, ◌*◌, ◌≡◌, ◌≤◌, ◌<◌, Bool, true, false, ◌&&◌, if◌then◌else◌, nat_le, nat_lt, max, List, [], ◌∷◌, ◌++◌, length, All, reverse, slice_index_or, Option, Some, None, option_to_list}
+-- The yield of each period, by what the search looks for next. A period has 40 octets; a history has the newest period
+-- first.
+use Rattle.std.specs.Prelude.{ℕ, zero, suc, ◌+◌, ◌-◌, ◌*◌, ◌≡◌, ◌≤◌, ◌<◌, Bool, true, false, ◌&&◌, if◌then◌else◌, ◌==◌, nat_le, nat_lt, max, List, [], ◌∷◌, ◌++◌, length, All, reverse, slice_index_or, Option, Some, None, option_to_list}
 use Rattle.std.specs.List.{flat_map}
 use Rattle.trau_bits.specs.Bits.{AreBits, bits_of}
 use Rattle.trau_frame.specs.Frame.{Synced}
@@ -7,8 +8,12 @@ use Rattle.frame_sync.specs.declared.yields.Mode.{Mode}
 use Rattle.frame_sync.specs.declared.yields.Mode.TheVariants.{Hunting, Locked}
 use Rattle.frame_sync.specs.declared.yields.Yield.{Yield}
 use Rattle.frame_sync.specs.declared.yields.Yield.TheVariants.{Frame, Miss}
-use Rattle.frame_sync.specs.Match.{bit_in, is_match, frame_at}
-use Rattle.frame_sync.specs.Yields.{after_miss}
+use Rattle.trau_frame.specs.Match.{bit_in, is_match, frame_at}
+use Rattle.frame_sync.specs.Yields.{place_of}
+
+-- what comes after a miss at p and so many misses in a row before it: the third gives the lock up
+abbrev pub after_miss : ℕ → ℕ → Mode
+after_miss p misses = if misses == 2 then Hunting (p + 320) else Locked (p + 320) (misses + 1)
 
 -- the least of `count` places from `first` on that matches
 unfoldable pub first_match : (ℕ → ℕ) → ℕ → ℕ → Option ℕ
@@ -68,11 +73,6 @@ all_yields periods = flat_map option_to_list (each_yield (reverse periods))
 -- all their bits in order
 abbrev pub all_bits : List (List ℕ) → List ℕ
 all_bits periods = flat_map bits_of periods
-
--- the place of a yield
-abbrev pub place_of : Yield → ℕ
-place_of (Frame p f) = p
-place_of (Miss p) = p
 
 -- the last of a yield's 320 bits is one of bits 320 k to 320 k + 319
 abbrev pub EndsIn : ℕ → Yield → Type 0

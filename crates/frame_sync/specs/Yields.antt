@@ -1,44 +1,51 @@
--- The yields of the search over a whole list of bits. When the search locks, and when it gives the lock up, is this
--- project's profile.
-use Rattle.std.specs.Prelude.{◌≡◌, ℕ, ◌+◌, ◌<◌, ◌≤◌, true, false, if◌then◌else◌, ◌==◌, List, [], ◌∷◌, length}
-use Rattle.frame_sync.specs.declared.yields.Mode.{Mode}
-use Rattle.frame_sync.specs.declared.yields.Mode.TheVariants.{Hunting, Locked}
+-- All yields of the search over a whole list of bits, by what lies before each. When the search locks, and when it gives
+-- the lock up, is this project's profile.
+use Rattle.std.specs.Prelude.{◌≡◌, ℕ, ◌+◌, ◌<◌, ◌≤◌, Bool, true, false, if◌then◌else◌, List, [], ◌∷◌, ◌++◌, length, reverse}
+use Rattle.trau_frame.specs.Match.{bit_in, is_match, frame_at}
 use Rattle.frame_sync.specs.declared.yields.Yield.{Yield}
 use Rattle.frame_sync.specs.declared.yields.Yield.TheVariants.{Frame, Miss}
-use Rattle.frame_sync.specs.Match.{bit_in, is_match, frame_at}
 
 -- no place from `low` on and before `high` matches
 abbrev pub NoMatch : (ℕ → ℕ) → ℕ → ℕ → Type 0
 NoMatch line low high = (q : ℕ) → low ≤ q → q < high → is_match line q ≡ false
 
--- what comes after a miss at p: the third in a row gives the lock up, and the search hunts from p + 320 on
-abbrev pub after_miss : ℕ → ℕ → Mode
-after_miss p misses = if misses == 2 then Hunting (p + 320) else Locked (p + 320) (misses + 1)
+-- p is the least place from `low` on that matches
+abbrev pub IsFirstMatch : (ℕ → ℕ) → ℕ → ℕ → Type 0
+IsFirstMatch line low p = (low ≤ p) × NoMatch line low p × (is_match line p ≡ true)
 
--- In the first mode the bits give this yield, and the second mode follows. Hunting, the yield is a frame at the least
--- place that matches; locked, it is at the next place, a frame exactly where that matches.
-abbrev pub Gives : List ℕ → Mode → Yield → Mode → Type 0
-Gives bits (Hunting low) (Frame p f) after =
-    (low ≤ p) × NoMatch (bit_in bits) low p × (is_match (bit_in bits) p ≡ true) ×
-    (p + 320 ≤ length bits) × (f ≡ frame_at (bit_in bits) p) × (after ≡ Locked (p + 320) 0)
-Gives bits (Hunting low) (Miss p) after = ⊥
-Gives bits (Locked next misses) (Frame p f) after =
-    (p ≡ next) × (is_match (bit_in bits) p ≡ true) ×
-    (p + 320 ≤ length bits) × (f ≡ frame_at (bit_in bits) p) × (after ≡ Locked (p + 320) 0)
-Gives bits (Locked next misses) (Miss p) after =
-    (p ≡ next) × (is_match (bit_in bits) p ≡ false) ×
-    (p + 320 ≤ length bits) × (after ≡ after_miss p misses)
+-- what is yielded at place p: a frame where the sync bits match, else a miss
+abbrev pub frame_or_miss : (ℕ → ℕ) → ℕ → Yield
+frame_or_miss line p = if is_match line p then Frame p (frame_at line p) else Miss p
 
--- one yield after another
-abbrev pub GiveAll : List ℕ → Mode → List Yield → Mode → Type 0
-GiveAll bits mode [] last = last ≡ mode
-GiveAll bits mode (y ∷ ys) last = (after : Mode) × Gives bits mode y after × GiveAll bits after ys last
+-- the place of a yield
+abbrev pub place_of : Yield → ℕ
+place_of (Frame p f) = p
+place_of (Miss p) = p
 
--- no further yield has its last bit among the first `end` bits
-abbrev pub NoneEnds : List ℕ → ℕ → Mode → Type 0
-NoneEnds bits end (Hunting low) = (q : ℕ) → low ≤ q → q + 320 ≤ end → is_match (bit_in bits) q ≡ false
-NoneEnds bits end (Locked next misses) = end < next + 320
+-- the place behind the 320 bits of the newest of the yields so far, which have the newest first
+abbrev pub end_of : List Yield → ℕ
+end_of [] = 0
+end_of (y ∷ older) = place_of y + 320
 
--- these are all yields whose last bit is among the bits, in order
+-- whether the search hunts after these yields, the newest first: before any yield, and behind three misses in a row,
+-- which give the lock up. (What a hunt finds is a frame, so that there are never four.)
+abbrev pub hunts : List Yield → Bool
+hunts [] = true
+hunts (Miss p ∷ Miss q ∷ Miss r ∷ older) = true
+hunts (y ∷ older) = false
+
+-- the next yield of the bits after these, the newest first
+pub record Follows (bits : List ℕ) (past : List Yield) (y : Yield) : Type 0 where
+  -- hunting, it is at the least place that matches, from the end of the newest on
+  pub hunting : hunts past ≡ true → IsFirstMatch (bit_in bits) (end_of past) (place_of y)
+  -- else at that end
+  pub locked : hunts past ≡ false → place_of y ≡ end_of past
+  pub kind : y ≡ frame_or_miss (bit_in bits) (place_of y)
+  -- its last bit is one of the bits
+  pub within : place_of y + 320 ≤ length bits
+
+-- these are all yields of the bits, in order: each follows those before it, and none follows them all
 abbrev pub Yields : List ℕ → List Yield → Type 0
-Yields bits ys = (last : Mode) × GiveAll bits (Hunting 0) ys last × NoneEnds bits (length bits) last
+Yields bits ys =
+    ((before after : List Yield) (y : Yield) → ys ≡ before ++ y ∷ after → Follows bits (reverse before) y) ×
+    ((y : Yield) → Follows bits (reverse ys) y → ⊥)

@@ -4,9 +4,8 @@ ghost use Rattle.std.specs.Prelude.{◌≡◌, ◌+◌, ◌-◌, ◌≤◌, ◌<
 ghost use Rattle.trau_bits.specs.Bits.{AreBits};
 ghost use Rattle.frame_sync.specs.declared.yields.Mode.TheVariants.{Hunting, Locked};
 ghost use Rattle.frame_sync.specs.declared.yields.Yield.TheVariants.{Frame};
-ghost use Rattle.frame_sync.specs.Match.{bit_in, frame_at};
-ghost use Rattle.frame_sync.specs.Yields.{after_miss};
-ghost use Rattle.frame_sync.specs.Periods.{searched};
+ghost use Rattle.trau_frame.specs.Match.{bit_in, frame_at};
+ghost use Rattle.frame_sync.specs.Periods.{after_miss, searched};
 ghost use Rattle.frame_sync.specs.Step.{bit_of_two, IsNear};
 
 use crate::hunt::find_match;

@@ -1,7 +1,7 @@
 //! The first match in two periods of bits.
 
 ghost use Rattle.std.specs.Prelude.{◌≡◌, ℕ, ◌+◌, ◌*◌, ◌≤◌, ◌<◌, ◌↔◌, ◌==◌, if◌then◌else◌, IsTrue, IfSome, IfNone, slice_index, true};
-ghost use Rattle.frame_sync.specs.Match.{bit_in, is_match};
+ghost use Rattle.trau_frame.specs.Match.{bit_in, is_match};
 ghost use Rattle.frame_sync.specs.Yields.{NoMatch};
 
 /// Whether the nineteen sync ones of the frame at place `o` are there.

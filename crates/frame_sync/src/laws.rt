@@ -1,16 +1,9 @@
 //! Laws of yields, each the contract of a function that does nothing. Lists of periods have the oldest first here.
 
-ghost use Rattle.std.specs.Prelude.{◌≡◌, ℕ, ◌<◌, ◌↔◌, true, List, [], ◌∷◌, ◌++◌, length, reverse, filter, option_to_list};
-ghost use Rattle.trau_frame.specs.Frame.{Synced};
+ghost use Rattle.std.specs.Prelude.{◌≡◌, ℕ, ◌<◌, List, [], ◌∷◌, ◌++◌, length, reverse, filter, option_to_list};
 ghost use Rattle.frame_sync.specs.declared.yields.Yield.{Yield};
-ghost use Rattle.frame_sync.specs.Match.{is_match, frame_at};
 ghost use Rattle.frame_sync.specs.Yields.{Yields};
 ghost use Rattle.frame_sync.specs.Periods.{ArePeriods, all_bits, all_yields, yield_in, yield_of, ends_in};
-
-/// A place matches exactly where the 320 bits from it on carry the sync pattern.
-pub fn matches_are_sync_patterns()
-    ensures { (line : ℕ → ℕ) (p : ℕ) → (is_match line p ≡ true) ↔ Synced (frame_at line p) }
-{}
 
 /// The yields of the periods of a line, one after another, are the yields of all its bits.
 pub fn periods_give_all_yields()

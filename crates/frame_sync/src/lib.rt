@@ -10,7 +10,7 @@
 //! first of those is there, no sixteen zeros end in the sixteen bits from it on: so a bit costs a few operations,
 //! whatever the line holds.
 //!
-//! Definitions: `specs/Match.antt` (the pattern at a place), `specs/Yields.antt` (all yields of a whole line),
+//! Definitions: `specs/Yields.antt` (all yields of a whole line, over `specs/Match.antt` of `trau_frame`),
 //! `specs/Periods.antt` (the yield of each period), `specs/Step.antt` (what is kept, and one step of it).
 #![tactic(auto)]
 

@@ -49,8 +49,10 @@ fn joined(last: &[u8; 320], bits: &[u8; 320]) -> [u8; 640]
 }
 
 impl FrameSync {
-    ghost use Rattle.std.specs.Prelude.{ℕ, ◌+◌, ◌<◌, List, [], ◌∷◌, IfSome};
-    ghost use Rattle.frame_sync.specs.Periods.{yield_of, CarriesFrame, EndsIn};
+    ghost use Rattle.std.specs.Prelude.{ℕ, ◌+◌, ◌<◌, List, [], ◌∷◌, length, reverse, filter, option_to_list, IfSome};
+    ghost use Rattle.frame_sync.specs.declared.yields.Yield.{Yield};
+    ghost use Rattle.frame_sync.specs.Yields.{Yields};
+    ghost use Rattle.frame_sync.specs.Periods.{all_bits, yield_of, ends_in, CarriesFrame, EndsIn};
     ghost use Rattle.frame_sync.specs.Step.{home_memory, next_period, Stands};
 
     /// The search before the first period, which hunts.
@@ -72,9 +74,14 @@ impl FrameSync {
         ensures step { next_period self.old octets.now ≡ (result, self.new) }
         ensures counted { self.new.periods ≡ self.old.periods + 1 }
 
-        // After any past, the answer is the yield of this period.
+        // After any past, the answer is the yield of this period ..
         ensures history { (past : List (List ℕ)) → Stands past self.old →
             Stands (octets.now ∷ past) self.new × (result ≡ yield_of octets.now past) }
+
+        // .. which is, of all yields of all bits so far, the one that ends in this period, or none where none does.
+        ensures whole { (past : List (List ℕ)) (ys : List Yield) → Stands past self.old →
+            Yields (all_bits (reverse (octets.now ∷ past))) ys →
+            filter (ends_in (length past)) ys ≡ option_to_list result }
 
         // A frame has 320 bits with the sync pattern, and a yield ends in this period.
         ensures frame { IfSome result CarriesFrame }

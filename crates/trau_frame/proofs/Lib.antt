@@ -7,3 +7,4 @@ pub mod Again
 pub mod Words
 pub mod Relayed
 pub mod UpAgain
+pub mod Matches

@@ -4,3 +4,4 @@ pub mod UpFrame
 pub mod UpBits
 pub mod DownFrame
 pub mod Relay
+pub mod Match

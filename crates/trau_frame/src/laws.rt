@@ -7,6 +7,7 @@ ghost use Rattle.trau_frame.specs.Frame.{Synced, data_of, frame_bits};
 ghost use Rattle.trau_frame.specs.UpFrame.{Says};
 ghost use Rattle.trau_frame.specs.UpBits.{up_bits, FitsKind, SameFrame};
 ghost use Rattle.trau_frame.specs.DownFrame.{down_bits};
+ghost use Rattle.trau_frame.specs.Match.{is_match, frame_at};
 ghost use Rattle.trau_frame.specs.Relay.{IsGoodSpeech, relayed_bits};
 
 use crate::frames::{Class, DownFrame, Kind};
@@ -41,4 +42,9 @@ pub fn written_uplink_is_read()
     ensures synced { (f : UpFrame) → Synced (up_bits f) }
     ensures says { (f : UpFrame) → length f.d ≡ 260 → FitsKind f.kind f.class → Says (up_bits f) f }
     ensures same { (f g : UpFrame) → length f.d ≡ 260 → FitsKind f.kind f.class → Says (up_bits f) g → SameFrame f g }
+{}
+
+/// A place of a line matches exactly where the 320 bits from it on carry the sync pattern.
+pub fn matches_are_sync_patterns()
+    ensures { (line : ℕ → ℕ) (p : ℕ) → (is_match line p ≡ true) ↔ Synced (frame_at line p) }
 {}

@@ -10,7 +10,8 @@
 //! of fifteen data bits, and a last row with the rest. Each row but the first begins with a sync one.
 //!
 //! Definitions: `specs/Role.antt` (the role of each place), `specs/Frame.antt`, `specs/UpFrame.antt` (what is read),
-//! `specs/UpBits.antt` and `specs/DownFrame.antt` (what is written), and `specs/Relay.antt`.
+//! `specs/UpBits.antt` and `specs/DownFrame.antt` (what is written), `specs/Relay.antt`, and `specs/Match.antt` (the sync
+//! pattern at any place of a line).
 #![tactic(auto)]
 
 mod frames;

@@ -2,8 +2,8 @@ use Rattle.std.proofs.Common.{◌≡◌, ◌+◌, ◌-◌, ◌<◌, ◌≤◌, �
 use Rattle.std.proofs.lemmas.List.Elements.{All-take, All-drop}
 use Rattle.std.proofs.lemmas.Grind.{elements, same_number_lists}
 use Rattle.trau_bits.specs.Bits.{AreBits}
-use Rattle.frame_sync.specs.Match.{bit_in, frame_at}
-use Rattle.frame_sync.proofs.Matches.{length-frame_at, get_or-frame_at}
+use Rattle.trau_frame.specs.Match.{bit_in, frame_at}
+use Rattle.trau_frame.proofs.Matches.{length-frame_at, get_or-frame_at}
 use Rattle.frame_sync.proofs.advance.frame_from.Goals as goal
 
 get_or-part : (w : List ℕ) (o i : ℕ) → o + 320 ≤ length w → i < 320 → get_or (slice_range w o (o + 320)) i 0 ≡ get_or w (o + i) 0

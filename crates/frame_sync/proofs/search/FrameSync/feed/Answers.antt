@@ -3,6 +3,7 @@ use Rattle.std.proofs.lemmas.List.Elements.{All-append}
 use Rattle.trau_bits.specs.Bits.{AreBits}
 use Rattle.frame_sync.specs.Step.{next_period}
 use Rattle.frame_sync.proofs.Steps.{next_period-went, near-went, ends-went, carries-went, stands-next}
+use Rattle.frame_sync.proofs.Order.{fed-of-all}
 use Rattle.frame_sync.proofs.search.FrameSync.feed.Goals as goal
 
 pub invariant_of-self : goal.invariant_of-self
@@ -20,6 +21,9 @@ returns-clause-step c =
 
 pub returns-clause-history : goal.returns-clause-history
 returns-clause-history c = stands-next c.args.self.now _ c.args.octets.now c.advance-found.result.0 c.told-octets (returns-clause-step c)
+
+pub returns-clause-whole : goal.returns-clause-whole
+returns-clause-whole c = fed-of-all c.args.self.now _ c.args.octets.now c.advance-found.result.0 c.told-octets (returns-clause-step c)
 
 pub returns-clause-frame : goal.returns-clause-frame
 returns-clause-frame c =

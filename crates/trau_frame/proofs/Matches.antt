@@ -7,7 +7,7 @@ use Rattle.std.proofs.lemmas.Grind.{common_steps, same_number_lists}
 use Rattle.trau_frame.specs.Role.{Role, Sync, Control, Data, Time, role_of}
 use Rattle.trau_frame.specs.Frame.{Synced}
 use Rattle.trau_frame.proofs.Places as places
-use Rattle.frame_sync.specs.Match.{fits, is_match, frame_at}
+use Rattle.trau_frame.specs.Match.{fits, is_match, frame_at}
 
 -- ---- tests of each number of a range
 
