@@ -1,12 +1,11 @@
 -- Uplinks as no base station sends them (this project's profile).
-use Rattle.std.specs.Prelude.{ℕ, ◌+◌, ◌*◌, ◌%◌, ◌==◌, false, if◌then◌else◌, List, [], ◌∷◌, map, replicate, slice_index}
+use Rattle.std.specs.Prelude.{ℕ, ◌*◌, ◌%◌, ◌==◌, false, if◌then◌else◌, List, [], ◌∷◌, map, replicate, slice_index}
 use Rattle.std.specs.List.{range_with_len, flat_map}
 use Rattle.trau_bits.specs.Bits.{octets_of}
 use Rattle.trau_params.specs.Fields.{Fields}
 use Rattle.trau_params.specs.Bits260.{bits260}
 use Rattle.trau_frame.specs.declared.frames.Kind.TheVariants.{Speech}
 use Rattle.trau_frame.specs.declared.frames.Class.TheVariants.{Good}
-use Rattle.trau_frame.specs.UpFrame.{UpWords}
 use Rattle.trau_frame.specs.UpBits.{bits_saying}
 
 -- what the encoder makes of a frame of zero samples from its home state
@@ -21,15 +20,15 @@ quiet_fields = record {
 }
 
 -- the bits of a good speech frame with this alignment field and these data bits; TAF and DTXd are 0
-abbrev pub good_bits : ℕ → List ℕ → List ℕ
+unfoldable pub good_bits : ℕ → List ℕ → List ℕ
 good_bits align d = bits_saying (record { kind = Speech; class = Good; taf = false; dtxd = false; align = align; d = d })
 
 -- those of a quiet one
-abbrev pub quiet_bits : ℕ → List ℕ
+unfoldable pub quiet_bits : ℕ → List ℕ
 quiet_bits align = good_bits align (bits260 quiet_fields)
 
 -- the bits of a period where the line is the first 305 bits of a quiet frame again and again
-abbrev pub cut_bits : ℕ → List ℕ
+unfoldable pub cut_bits : ℕ → List ℕ
 cut_bits period = map (λ p. slice_index (quiet_bits 0) (p % 305)) (range_with_len (320 * period) 320)
 
 -- the 40 octets of a period, by the kind of line:

@@ -17,7 +17,7 @@ impl Generator {
         ensures { result.x ≡ state_at seed call 0 }
     {
         Generator {
-            x: ((u64::from(seed) * 4096 + u64::from(call)) % 4_294_967_296) as u32,
+            x: ((seed as u64 * 4096 + call as u64) % 4_294_967_296) as u32,
         }
     }
 
@@ -26,7 +26,7 @@ impl Generator {
         ensures now { (seed call n : ℕ) → self.old.x ≡ state_at seed call n → self.new.x ≡ state_at seed call (n + 1) }
         ensures draw { (seed call n : ℕ) → self.old.x ≡ state_at seed call n → result ≡ draw seed call n }
     {
-        self.x = ((1_664_525 * u64::from(self.x) + 1_013_904_223) % 4_294_967_296) as u32;
+        self.x = ((1_664_525 * self.x as u64 + 1_013_904_223) % 4_294_967_296) as u32;
         (self.x / 16_777_216) as u8
     }
 

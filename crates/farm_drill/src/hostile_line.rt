@@ -26,6 +26,7 @@ fn quiet_data() -> [u8; 260]
 }
 
 /// The bits of a good frame with this alignment field and these data bits.
+#[tactic(auto, unfolding(crate::specs::Hostile::good_bits))]
 fn good(align: u8, d: [u8; 260]) -> [u8; 320]
     requires align { align ≤ 63 }
     requires bits { AreBits d }
@@ -43,6 +44,7 @@ fn good(align: u8, d: [u8; 260]) -> [u8; 320]
 }
 
 /// The bits of a quiet frame with this alignment field.
+#[tactic(auto, unfolding(crate::specs::Hostile::quiet_bits))]
 fn quiet(align: u8) -> [u8; 320]
     requires { align ≤ 63 }
     ensures value { result ≡ quiet_bits align }
@@ -66,6 +68,7 @@ fn cut(period: u32) -> [u8; 320]
 }
 
 /// The octets of a period of a hostile line.
+#[tactic(auto, unfolding(crate::specs::Hostile::hostile_octets))]
 fn period_octets(kind: u8, period: u32) -> [u8; 40]
     requires kind { kind ≤ 5 }
     requires period { period ≤ 1000 }

@@ -1,59 +1,58 @@
 //! The text of a drill's orders. A text is of no use where memory ran out.
 
-ghost use Rattle.std.specs.Prelude.{◌≡◌, ◌++◌, ◌≤◌, map, OnOk, IfOk, string_bytes};
+ghost use Rattle.std.specs.Prelude.{◌≡◌, ◌++◌, ◌∷◌, [], ◌≤◌, map, filter, OnOk, IfOk, string_bytes};
 ghost use Rattle.std.specs.List.{range_with_len};
 ghost use Rattle.trau_orders.specs.Text.{text_lines, AreLines, IsWithin};
 ghost use Rattle.farm_drill.specs.Orders.{opening, bridging, unbridging, is_bridged, bridged_calls, order_text, text_of, drilled_orders};
 
 use std::alloc::{AllocError, Global};
 
-// Each of these writes the line of an order at the end of a text.
-
 fn put_opening(text: &mut String, call: u32) -> Result<(), AllocError>
     ensures { OnOk result (string_bytes text.new ≡ string_bytes text.old ++ order_text (opening call)) }
 {
-    write!(text, "0 open {call}\n")
+    let stamp = 0u32;
+    write!(text, "{stamp} open {call}\n")
 }
 
+// The order that the call's bridge begins, if the call is one whose bridge is ordered.
 fn put_bridging(text: &mut String, periods: u32, call: u32) -> Result<(), AllocError>
     requires { call ≤ 256 }
-    ensures { OnOk result (string_bytes text.new ≡ string_bytes text.old ++ order_text (bridging periods call)) }
+    ensures { OnOk result (string_bytes text.new ≡ string_bytes text.old ++ text_of (map (bridging periods) (filter is_bridged (call ∷ [])))) }
 {
+    if call % 4 != 1 {
+        return Ok(());
+    }
     write!(text, "{} bridge {call} {}\n", periods / 4, call + 1)
 }
 
+// And the order that it ends.
 fn put_unbridging(text: &mut String, periods: u32, call: u32) -> Result<(), AllocError>
-    ensures { OnOk result (string_bytes text.new ≡ string_bytes text.old ++ order_text (unbridging periods call)) }
+    ensures { OnOk result (string_bytes text.new ≡ string_bytes text.old ++ text_of (map (unbridging periods) (filter is_bridged (call ∷ [])))) }
 {
+    if call % 4 != 1 {
+        return Ok(());
+    }
     write!(text, "{} unbridge {call}\n", periods / 2)
 }
-
-// And these the lines of all orders of a kind.
 
 fn put_openings(text: &mut String, calls: u32) -> Result<(), AllocError>
     requires { calls ≤ 256 }
     ensures { OnOk result (string_bytes text.new ≡ string_bytes text.old ++ text_of (map opening (range_with_len 1 calls))) }
 {
     for earlier in 0..calls {
-        put_opening(text, earlier + 1)?;
+        put_opening(text, 1 + earlier)?;
     }
     Ok(())
 }
 
-fn is_bridged(call: u32) -> bool
-    ensures { result ≡ is_bridged call }
-{
-    call % 4 == 1
-}
+// Both stop before the last call, which has none after it.
 
 fn put_bridgings(text: &mut String, calls: u32, periods: u32) -> Result<(), AllocError>
     requires { calls ≤ 256 }
     ensures { OnOk result (string_bytes text.new ≡ string_bytes text.old ++ text_of (map (bridging periods) (bridged_calls calls))) }
 {
-    for call in 1..calls {
-        if is_bridged(call) {
-            put_bridging(text, periods, call)?;
-        }
+    for earlier in 0..calls.saturating_sub(1) {
+        put_bridging(text, periods, 1 + earlier)?;
     }
     Ok(())
 }
@@ -62,10 +61,8 @@ fn put_unbridgings(text: &mut String, calls: u32, periods: u32) -> Result<(), Al
     requires { calls ≤ 256 }
     ensures { OnOk result (string_bytes text.new ≡ string_bytes text.old ++ text_of (map (unbridging periods) (bridged_calls calls))) }
 {
-    for call in 1..calls {
-        if is_bridged(call) {
-            put_unbridging(text, periods, call)?;
-        }
+    for earlier in 0..calls.saturating_sub(1) {
+        put_unbridging(text, periods, 1 + earlier)?;
     }
     Ok(())
 }
