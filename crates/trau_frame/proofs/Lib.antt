@@ -8,3 +8,4 @@ pub mod Words
 pub mod Relayed
 pub mod UpAgain
 pub mod Matches
+mod Apart

@@ -8,33 +8,33 @@ use Rattle.trau_frame.specs.declared.frames.Class.TheVariants.{Good, Sid, Invali
 use Rattle.trau_frame.specs.declared.frames.UpFrame.{UpFrame}
 use Rattle.trau_frame.specs.Role.{Control, bit_with}
 use Rattle.trau_frame.specs.Frame.{Synced, number_of, data_of}
-use Rattle.trau_frame.specs.UpFrame.{kind_by, class_by, class_at, kind_of, class_of, words_in, Says}
-use Rattle.trau_frame.specs.UpBits.{up_pattern, bfi_of, sid_of, up_control_bit, up_control, up_bits, FitsKind, SameFrame}
+use Rattle.trau_frame.specs.UpFrame.{kind_by, class_by, class_at, kind_of, class_of, words_in, words_of, Says}
+use Rattle.trau_frame.specs.UpBits.{up_pattern, bfi_of, sid_of, up_control_bit, up_control, bits_saying, up_bits, FitsKind, SameFrame}
 use Rattle.trau_frame.proofs.Again.{synced-frame_bits, bit_with-frame_bits, data_of-frame_bits}
 
 pub synced-up_bits : (f : UpFrame) → Synced (up_bits f)
-unfolding up_bits
-synced-up_bits f = synced-frame_bits (up_control f) f.d
+unfolding bits_saying
+synced-up_bits f = synced-frame_bits (up_control (words_of f)) f.d
 
 -- ---- control bits
 
-control-again : (f : UpFrame) (c : ℕ) → 1 ≤ c → c ≤ 21 → bit_with (up_bits f) (Control c) ≡ up_control_bit f c
-unfolding up_bits up_control
+control-again : (f : UpFrame) (c : ℕ) → 1 ≤ c → c ≤ 21 → bit_with (up_bits f) (Control c) ≡ up_control_bit (words_of f) c
+unfolding bits_saying up_control
 control-again f c low high =
-    bit_with-frame_bits (up_control f) f.d (Control c) (low, high) ∙
-    get_or-map-range_with_len (up_control_bit f) 1 21 (c - 1) c 0 (omega arith) (omega arith)
+    bit_with-frame_bits (up_control (words_of f)) f.d (Control c) (low, high) ∙
+    get_or-map-range_with_len (up_control_bit (words_of f)) 1 21 (c - 1) c 0 (omega arith) (omega arith)
 
 -- the number in n bits from `first` on, the first of them the highest
 number_by : (ℕ → ℕ) → ℕ → ℕ → ℕ
 number_by bit first zero = 0
 number_by bit first (suc n) = 2 * number_by bit first n + bit (first + n)
 
-number_of-up_bits : (f : UpFrame) (first n : ℕ) → 1 ≤ first → first + n ≤ 22 → number_of (up_bits f) first n ≡ number_by (up_control_bit f) first n
+number_of-up_bits : (f : UpFrame) (first n : ℕ) → 1 ≤ first → first + n ≤ 22 → number_of (up_bits f) first n ≡ number_by (up_control_bit (words_of f)) first n
 unfolding number_of number_by
 number_of-up_bits f first zero l h = refl
 number_of-up_bits f first (suc n) l h =
-    let e : number_of (up_bits f) first n ≡ number_by (up_control_bit f) first n = number_of-up_bits f first n l (omega (arith, h)) in
-    let b : bit_with (up_bits f) (Control (first + n)) ≡ up_control_bit f (first + n) = control-again f (first + n) (omega arith) (omega (arith, h)) in
+    let e : number_of (up_bits f) first n ≡ number_by (up_control_bit (words_of f)) first n = number_of-up_bits f first n l (omega (arith, h)) in
+    let b : bit_with (up_bits f) (Control (first + n)) ≡ up_control_bit (words_of f) (first + n) = control-again f (first + n) (omega arith) (omega (arith, h)) in
     cc
 
 up_pattern-below : (kind : Kind) → up_pattern kind < 32
@@ -91,8 +91,8 @@ flag-again false = refl
 -- ---- all of it
 
 data-again : (f : UpFrame) → length f.d ≡ 260 → data_of (up_bits f) ≡ f.d
-unfolding up_bits
-data-again f count = data_of-frame_bits (up_control f) f.d count
+unfolding bits_saying
+data-again f count = data_of-frame_bits (up_control (words_of f)) f.d count
 
 pub says-up_bits : (f : UpFrame) → length f.d ≡ 260 → FitsKind f.kind f.class → Says (up_bits f) f
 unfolding words_in

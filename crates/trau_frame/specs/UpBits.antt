@@ -8,7 +8,7 @@ use Rattle.trau_frame.specs.declared.frames.Class.{Class}
 use Rattle.trau_frame.specs.declared.frames.Class.TheVariants.{Good, Sid, InvalidSid, Unusable}
 use Rattle.trau_frame.specs.declared.frames.UpFrame.{UpFrame}
 use Rattle.trau_frame.specs.Frame.{frame_bits}
-use Rattle.trau_frame.specs.UpFrame.{words_of}
+use Rattle.trau_frame.specs.UpFrame.{UpWords, words_of}
 
 -- the number in C1 to C5: 00010 for speech, 10000 for idle and 11111 for other frames
 abbrev pub up_pattern : Kind → ℕ
@@ -32,23 +32,27 @@ sid_of Unusable = 0
 
 -- control bit c: the pattern in C1 to C5, the alignment field in C6 to C11, the class in C12 to C14, TAF in C15,
 -- DTXd in C17, and 1 in the spare bits
-abbrev pub up_control_bit : UpFrame → ℕ → ℕ
-up_control_bit f c =
-    if nat_le c 5 then bit_at (up_pattern f.kind) (5 - c)
-    else if nat_le c 11 then bit_at f.align (11 - c)
-    else if c == 12 then bfi_of f.class
-    else if nat_le c 14 then bit_at (sid_of f.class) (14 - c)
-    else if c == 15 then (if f.taf then 1 else 0)
-    else if c == 17 then (if f.dtxd then 1 else 0)
+abbrev pub up_control_bit : UpWords → ℕ → ℕ
+up_control_bit w c =
+    if nat_le c 5 then bit_at (up_pattern w.kind) (5 - c)
+    else if nat_le c 11 then bit_at w.align (11 - c)
+    else if c == 12 then bfi_of w.class
+    else if nat_le c 14 then bit_at (sid_of w.class) (14 - c)
+    else if c == 15 then (if w.taf then 1 else 0)
+    else if c == 17 then (if w.dtxd then 1 else 0)
     else 1
 
 -- C1 to C21
-unfoldable pub up_control : UpFrame → List ℕ
-up_control f = map (up_control_bit f) (range_with_len 1 21)
+unfoldable pub up_control : UpWords → List ℕ
+up_control w = map (up_control_bit w) (range_with_len 1 21)
 
--- the 320 bits of the frame
-unfoldable pub up_bits : UpFrame → List ℕ
-up_bits f = frame_bits (up_control f) f.d
+-- the 320 bits of the frame that says this
+unfoldable pub bits_saying : UpWords → List ℕ
+bits_saying w = frame_bits (up_control w) w.d
+
+-- the same of what the code writes
+abbrev pub up_bits : UpFrame → List ℕ
+up_bits f = bits_saying (words_of f)
 
 -- a class that a frame of this kind is read with: any for speech, and Unusable for the others
 abbrev pub FitsKind : Kind → Class → Type 0

@@ -1,6 +1,6 @@
 //! Laws of frames, each the contract of a function that does nothing.
 
-ghost use Rattle.std.specs.Prelude.{◌≡◌, ◌≢◌, ◌<◌, ◌≤◌, ◌-◌, ◌↔◌, ℕ, List, length, slice_index, true};
+ghost use Rattle.std.specs.Prelude.{◌≡◌, ◌≢◌, ◌+◌, ◌<◌, ◌≤◌, ◌-◌, ◌↔◌, ℕ, List, length, slice_index, true};
 ghost use Rattle.trau_frame.specs.declared.frames.UpFrame.{UpFrame};
 ghost use Rattle.trau_frame.specs.Role.{Role, Sync, Control, role_of, place_of, bit_with, IsWithin};
 ghost use Rattle.trau_frame.specs.Frame.{Synced, data_of, frame_bits};
@@ -47,4 +47,10 @@ pub fn written_uplink_is_read()
 /// A place of a line matches exactly where the 320 bits from it on carry the sync pattern.
 pub fn matches_are_sync_patterns()
     ensures { (line : ℕ → ℕ) (p : ℕ) → (is_match line p ≡ true) ↔ Synced (frame_at line p) }
+{}
+
+/// Two places of one line that match are 305 bits apart or more: nearer, a sync zero of the one would be a sync one of
+/// the other.
+pub fn matching_places_stand_apart()
+    ensures { (line : ℕ → ℕ) (p q : ℕ) → is_match line p ≡ true → is_match line q ≡ true → p < q → p + 305 ≤ q }
 {}

@@ -3,6 +3,7 @@ ghost use Rattle.std.specs.Int.{bit_at};
 ghost use Rattle.trau_bits.specs.Bits.{AreBits};
 ghost use Rattle.trau_frame.specs.DownFrame.{HasBits, down_bits, down_control, down_data};
 ghost use Rattle.trau_frame.specs.UpBits.{up_pattern, bfi_of, sid_of, up_control_bit, up_control, up_bits};
+ghost use Rattle.trau_frame.specs.UpFrame.{words_of};
 
 use crate::frames::{Class, DownFrame, Kind, UpFrame};
 use crate::rows::write_frame;
@@ -93,7 +94,7 @@ fn bit(number: u8, k: usize) -> u8
 fn up_control_bit(f: &UpFrame, c: usize) -> u8
     requires low { 1 ≤ c }
     requires high { c ≤ 21 }
-    ensures value { result ≡ up_control_bit f.now c }
+    ensures value { result ≡ up_control_bit (words_of f.now) c }
     ensures bit { result < 2 }
 {
     match c {
@@ -109,7 +110,7 @@ fn up_control_bit(f: &UpFrame, c: usize) -> u8
 
 /// C1 to C21 of an uplink frame.
 fn up_control(f: &UpFrame) -> [u8; 21]
-    ensures value { result ≡ up_control f.now }
+    ensures value { result ≡ up_control (words_of f.now) }
     ensures are_bits { AreBits result }
 {
     let mut control = [0; 21];
@@ -121,7 +122,7 @@ fn up_control(f: &UpFrame) -> [u8; 21]
 
 /// Writes an uplink frame over all 320 bits: its kind, alignment field, class, TAF, DTXd and data bits. Spare and
 /// time bits are 1.
-#[tactic(auto, unfolding(crate::specs::UpBits::up_bits))]
+#[tactic(auto, unfolding(crate::specs::UpBits::bits_saying))]
 pub fn write_up(f: &UpFrame, bits: &mut [u8; 320])
     ensures bits { bits.new ≡ up_bits f.now }
     ensures are_bits { AreBits bits.new }

@@ -1,7 +1,7 @@
 -- The words of lines, the lines of texts, and what is known of orders that are read from them.
 mod Words
 mod OneOrder
-mod TextLines
+pub mod TextLines
 mod Reading
 pub mod Known
 mod FirstBad

@@ -1,0 +1,18 @@
+use Rattle.std.proofs.Common.{rules, ◌≡◌, ◌++◌, ◌+◌, ◌/◌, List, ℕ, string_bytes, sym, ap, ◌∙◌}
+use Rattle.std.specs.Prelude.{codes, decimal, OnOk}
+use Rattle.std.proofs.lemmas.List.{append-nil}
+use Rattle.std.proofs.lemmas.Result.{on_ok_weaker}
+use Rattle.farm_drill.specs.Orders.{bridging}
+use Rattle.farm_drill.proofs.Texts.{bridging-text, one_bridged, none_bridged}
+use Rattle.farm_drill.proofs.orders.put_bridging.Goals as goal
+
+pub returns-then-call-ne1 : goal.returns-then-call-ne1
+returns-then-call-ne1 c =
+    sym (append-nil (string_bytes c.args.text.now))
+    ∙ ap (λ (t : List ℕ). string_bytes c.args.text.now ++ t) (sym (none_bridged (bridging c.args.periods) c.args.call c.if-call-ne1.true))
+
+pub returns : goal.returns
+returns c =
+    let put : OnOk c.write.result (string_bytes c.write.new.self ≡ string_bytes c.args.text.now ++ (decimal (c.args.periods / 4) ++ (codes " bridge " ++ (decimal c.args.call ++ (codes " " ++ (decimal (c.args.call + 1) ++ codes "\n")))))) = search rules in
+    on_ok_weaker c.write.result
+    (λ h. h ∙ ap (λ (t : List ℕ). string_bytes c.args.text.now ++ t) (sym (one_bridged (bridging c.args.periods) c.args.call c.if-call-ne1.false ∙ bridging-text c.args.periods c.args.call))) put

@@ -1,0 +1,23 @@
+use Rattle.std.proofs.Common.{◌≡◌, ◌++◌, ◌-◌, List, ℕ, map, string_bytes, sym, ap, ◌∙◌, arith}
+use Rattle.std.specs.Prelude.{filter}
+use Rattle.std.specs.List.{range_with_len}
+use Rattle.std.proofs.lemmas.List.{append-nil}
+use Rattle.farm_drill.specs.Orders.{bridging, is_bridged, text_of}
+use Rattle.farm_drill.proofs.Texts.{text-none, bridges-more, bridged-is}
+use Rattle.farm_drill.proofs.orders.put_bridgings.Goals as goal
+
+pub loop-earlier-init : goal.loop-earlier-init
+loop-earlier-init c =
+    sym (append-nil (string_bytes c.args.text.now)) ∙ ap (λ (t : List ℕ). string_bytes c.args.text.now ++ t) (sym text-none)
+
+pub loop-earlier-preserved : goal.loop-earlier-preserved
+loop-earlier-preserved c =
+    bridges-more (bridging c.args.periods) (string_bytes c.args.text.now) (string_bytes c.put_bridging.new.text) (string_bytes c.loop-earlier.text) c.loop-earlier.earlier
+    c.loop-earlier.invariant c.in_ok-put_bridging.ensures
+
+pub returns : goal.returns
+returns c =
+    let all : c.loop-earlier.earlier ≡ c.args.calls - 1 = omega (arith, c.loop-earlier.auto.earlier-end, c.loop-earlier-test.false, c.saturating_sub-earlier-end.ensures) in
+    c.loop-earlier.invariant
+    ∙ ap (λ (cs : List ℕ). string_bytes c.args.text.now ++ text_of (map (bridging c.args.periods) cs))
+    (ap (λ (n : ℕ). filter is_bridged (range_with_len 1 n)) all ∙ sym (bridged-is c.args.calls))

@@ -1,0 +1,7 @@
+use Rattle.std.proofs.Common.{◌≡◌, ◌++◌, map, string_bytes}
+use Rattle.std.specs.List.{range_with_len}
+use Rattle.farm_drill.specs.Orders.{opening, text_of}
+use Rattle.farm_drill.proofs.orders.put_openings.Given as goal
+
+abbrev pub invariant-loop-earlier : goal.invariant-loop-earlier
+invariant-loop-earlier l = string_bytes l.text ≡ string_bytes l.initial.text ++ text_of (map opening (range_with_len 1 l.earlier))

@@ -1,0 +1,109 @@
+//! The lines of a drilled call.
+
+ghost use Rattle.std.specs.Prelude.{◌≡◌, ◌-◌, ◌≤◌, [], slice_set, IfOk, OnOk};
+ghost use Rattle.trau_io.specs.Places.{place_of};
+ghost use Rattle.trau_io.specs.Memory.{new_line};
+ghost use Rattle.farm_drill.specs.Lines.{up_line, pcm_line, AreDrilled};
+
+use crate::draws::Generator;
+use crate::periods::{pcm, uplink};
+use std::alloc::{AllocError, Global};
+use trau_io::{Line, MemTrunk, Side};
+
+/// Octets of an outgoing line in a period of 20 ms.
+const DOWN_OCTETS: u32 = 40;
+
+const OUT_OCTETS: u32 = 160;
+
+/// What a call's lines give.
+#[derive(Drop)]
+struct Incoming {
+    up: Vec<u8>,
+    pcm: Vec<u8>,
+}
+
+/// The octets of a call's incoming lines. Their memory is taken before the first draw.
+fn draw_lines(alloc: Global, seed: u32, call: u32, periods: u32) -> Result<Incoming, AllocError>
+    requires call { call ≤ 256 }
+    requires periods { periods ≤ 1000 }
+    ensures up { IfOk result (λ lines. lines.up.items ≡ up_line seed call periods) }
+    ensures pcm { IfOk result (λ lines. lines.pcm.items ≡ pcm_line seed call periods) }
+{
+    let mut up_octets = Vec::with_capacity(alloc, 40 * periods as usize)?;
+    let mut pcm_octets = Vec::with_capacity(alloc, 160 * periods as usize)?;
+    let mut generator = Generator::new(seed, call);
+    for period in 0..periods {
+        up_octets.extend_from_slice(&uplink(&mut generator, period))?;
+        pcm_octets.extend_from_slice(&pcm(&mut generator, period))?;
+    }
+    Ok(Incoming {
+        up: up_octets,
+        pcm: pcm_octets,
+    })
+}
+
+/// Sets a line of which no operation is cut or fails.
+fn set_line(
+    trunk: &mut MemTrunk,
+    alloc: Global,
+    line: Line,
+    contents: Vec<u8>,
+    room: u32,
+) -> Result<(), AllocError>
+    ensures { OnOk result (trunk.new ≡ slice_set trunk.old (place_of line.call line.side) (new_line contents.items [] [] room)) }
+{
+    trunk.set(
+        alloc,
+        line,
+        contents,
+        Vec::new(alloc),
+        Vec::new(alloc),
+        room,
+    )
+}
+
+/// Sets the four lines of a call, where those of the calls before it are set.
+pub(crate) fn set_call(
+    trunk: &mut MemTrunk,
+    alloc: Global,
+    seed: u32,
+    call: u32,
+    periods: u32,
+) -> Result<(), AllocError>
+    requires low { 1 ≤ call }
+    requires high { call ≤ 256 }
+    requires periods { periods ≤ 1000 }
+    ensures { OnOk result (AreDrilled seed (call - 1) periods trunk.old → AreDrilled seed call periods trunk.new) }
+{
+    let Incoming { up, pcm } = draw_lines(alloc, seed, call, periods)?;
+    set_line(
+        trunk,
+        alloc,
+        Line {
+            call,
+            side: Side::Up,
+        },
+        up,
+        1,
+    )?;
+    set_line(
+        trunk,
+        alloc,
+        Line {
+            call,
+            side: Side::Pcm,
+        },
+        pcm,
+        1,
+    )?;
+    let down = Line {
+        call,
+        side: Side::Down,
+    };
+    set_line(trunk, alloc, down, Vec::new(alloc), DOWN_OCTETS * periods)?;
+    let out = Line {
+        call,
+        side: Side::Out,
+    };
+    set_line(trunk, alloc, out, Vec::new(alloc), OUT_OCTETS * periods)
+}

@@ -1,0 +1,83 @@
+//! The text of a drill's orders. A text is of no use where memory ran out.
+
+ghost use Rattle.std.specs.Prelude.{◌≡◌, ◌++◌, ◌∷◌, [], ◌≤◌, map, filter, OnOk, IfOk, string_bytes};
+ghost use Rattle.std.specs.List.{range_with_len};
+ghost use Rattle.trau_orders.specs.Text.{text_lines, AreLines, IsWithin};
+ghost use Rattle.farm_drill.specs.Orders.{opening, bridging, unbridging, is_bridged, bridged_calls, order_text, text_of, drilled_orders};
+
+use std::alloc::{AllocError, Global};
+
+fn put_opening(text: &mut String, call: u32) -> Result<(), AllocError>
+    ensures { OnOk result (string_bytes text.new ≡ string_bytes text.old ++ order_text (opening call)) }
+{
+    let stamp = 0u32;
+    write!(text, "{stamp} open {call}\n")
+}
+
+// The order that the call's bridge begins, if the call is one whose bridge is ordered.
+fn put_bridging(text: &mut String, periods: u32, call: u32) -> Result<(), AllocError>
+    requires { call ≤ 256 }
+    ensures { OnOk result (string_bytes text.new ≡ string_bytes text.old ++ text_of (map (bridging periods) (filter is_bridged (call ∷ [])))) }
+{
+    if call % 4 != 1 {
+        return Ok(());
+    }
+    write!(text, "{} bridge {call} {}\n", periods / 4, call + 1)
+}
+
+// And the order that it ends.
+fn put_unbridging(text: &mut String, periods: u32, call: u32) -> Result<(), AllocError>
+    ensures { OnOk result (string_bytes text.new ≡ string_bytes text.old ++ text_of (map (unbridging periods) (filter is_bridged (call ∷ [])))) }
+{
+    if call % 4 != 1 {
+        return Ok(());
+    }
+    write!(text, "{} unbridge {call}\n", periods / 2)
+}
+
+fn put_openings(text: &mut String, calls: u32) -> Result<(), AllocError>
+    requires { calls ≤ 256 }
+    ensures { OnOk result (string_bytes text.new ≡ string_bytes text.old ++ text_of (map opening (range_with_len 1 calls))) }
+{
+    for earlier in 0..calls {
+        put_opening(text, 1 + earlier)?;
+    }
+    Ok(())
+}
+
+// Both stop before the last call, which has none after it.
+
+fn put_bridgings(text: &mut String, calls: u32, periods: u32) -> Result<(), AllocError>
+    requires { calls ≤ 256 }
+    ensures { OnOk result (string_bytes text.new ≡ string_bytes text.old ++ text_of (map (bridging periods) (bridged_calls calls))) }
+{
+    for earlier in 0..calls.saturating_sub(1) {
+        put_bridging(text, periods, 1 + earlier)?;
+    }
+    Ok(())
+}
+
+fn put_unbridgings(text: &mut String, calls: u32, periods: u32) -> Result<(), AllocError>
+    requires { calls ≤ 256 }
+    ensures { OnOk result (string_bytes text.new ≡ string_bytes text.old ++ text_of (map (unbridging periods) (bridged_calls calls))) }
+{
+    for earlier in 0..calls.saturating_sub(1) {
+        put_unbridging(text, periods, 1 + earlier)?;
+    }
+    Ok(())
+}
+
+/// The text of a drill's orders.
+pub(crate) fn orders_text(alloc: Global, calls: u32, periods: u32) -> Result<Vec<u8>, AllocError>
+    requires calls { calls ≤ 256 }
+    requires periods { periods ≤ 1000 }
+    ensures text { IfOk result (λ text. text.items ≡ text_of (drilled_orders calls periods)) }
+    ensures orders { IfOk result (λ text. AreLines (text_lines text.items) (drilled_orders calls periods)) }
+    ensures within { IfOk result (λ text. IsWithin text.items) }
+{
+    let mut text = String::new(alloc);
+    put_openings(&mut text, calls)?;
+    put_bridgings(&mut text, calls, periods)?;
+    put_unbridgings(&mut text, calls, periods)?;
+    Ok(text.into_bytes())
+}

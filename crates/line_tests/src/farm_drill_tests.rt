@@ -1,0 +1,75 @@
+//! Values that another program worked out: it was written from the same rules, and told of each line its octets.
+use farm_drill::{drill, hostile};
+use std::alloc::{AllocError, Global};
+use trau_io::{Filled, Line, MemTrunk, Side, Trunk, read_block};
+
+// The FNV-1a sum of 32 bits of some octets.
+fn sum(octets: &[u8]) -> u32 {
+    let mut sum = 2_166_136_261u32;
+    for octet in octets {
+        sum = (sum ^ u32::from(*octet)).wrapping_mul(16_777_619);
+    }
+    sum
+}
+
+// The sum of what an incoming line gives, where that is so many octets.
+fn sum_of_line(
+    alloc: Global,
+    trunk: &mut MemTrunk,
+    call: u32,
+    side: Side,
+    count: usize,
+) -> Result<Option<u32>, AllocError> {
+    let line = Line {
+        call: call.clamp(1, 4096),
+        side,
+    };
+    let mut octets = vec![in alloc; 0; count]?;
+    let whole = read_block(trunk, line, &mut octets) == Filled::Whole;
+    let at_end = trunk.read(line, &mut [0]) == Ok(0);
+    Ok(if whole && at_end {
+        Some(sum(&octets))
+    } else {
+        None
+    })
+}
+
+// The drill of three calls and 30 periods from seed 7. By call, the sums of Up and Pcm.
+static SUMS: [(u32, u32, u32); 3] = [
+    (1, 1_314_134_350, 2_143_392_773),
+    (2, 1_665_212_962, 2_143_392_773),
+    (3, 787_943_159, 2_143_392_773),
+];
+
+#[test]
+fn drills_as_another_program(rt: HostRuntime) {
+    let alloc = rt.alloc();
+    let (mut trunk, text) = drill(alloc, 7, 3, 30).expect(&rt, "memory");
+    let orders = "0 open 1\n0 open 2\n0 open 3\n7 bridge 1 2\n15 unbridge 1\n";
+    assert_eq!(rt; text.as_slice(), orders.as_bytes());
+    for &(call, up, pcm) in &SUMS {
+        let on_up = sum_of_line(alloc, &mut trunk, call, Side::Up, 1200).expect(&rt, "memory");
+        assert_eq!(rt; on_up, Some(up), "up of {call}");
+        let on_pcm = sum_of_line(alloc, &mut trunk, call, Side::Pcm, 4800).expect(&rt, "memory");
+        assert_eq!(rt; on_pcm, Some(pcm), "pcm of {call}");
+    }
+}
+
+// By kind, the periods and the sum of the line.
+static HOSTILE_SUMS: [(u8, u32, u32); 6] = [
+    (0, 10, 3_963_512_581),
+    (1, 10, 2_171_686_517),
+    (2, 10, 508_848_001),
+    (3, 100, 3_836_687_365),
+    (4, 10, 2_150_481_225),
+    (5, 10, 3_153_489_213),
+];
+
+#[test]
+fn is_hostile_as_another_program(rt: HostRuntime) {
+    let alloc = rt.alloc();
+    for &(kind, periods, wanted) in &HOSTILE_SUMS {
+        let line = hostile(alloc, kind.min(5), periods.min(1000)).expect(&rt, "memory");
+        assert_eq!(rt; sum(&line), wanted, "kind {kind}");
+    }
+}
