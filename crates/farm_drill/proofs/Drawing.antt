@@ -1,5 +1,5 @@
 -- Draws by their numbers, as the generator goes on.
-use Rattle.std.proofs.Common.{◌≡◌, ℕ, ◌+◌, ◌*◌, ◌/◌, ◌%◌, ◌^◌, ◌<◌, List, length, map, get_or, add-one, refl, sym, ◌∙◌, subst, arith}
+use Rattle.std.proofs.Common.{◌≡◌, ◌≢◌, ℕ, ◌+◌, ◌*◌, ◌/◌, ◌%◌, ◌^◌, ◌<◌, List, length, map, get_or, add-one, refl, sym, ◌∙◌, subst, arith}
 use Rattle.std.specs.List.{range_with_len}
 use Rattle.std.proofs.lemmas.List.FromFn.{length-map-range_with_len, get_or-map-range_with_len}
 use Rattle.std.proofs.lemmas.Grind.{same_number_lists}
@@ -28,5 +28,5 @@ all_from f first count xs long each =
 pub next-loud : (period : ℕ) → period / 32 % 2 ≡ 1 → first_loud_draw period + 160 ≡ first_draw (period + 1)
 next-loud period loud = omega (arith, loud)
 
-pub next-quiet : (period : ℕ) → period / 32 % 2 ≡ 0 → first_loud_draw period ≡ first_draw (period + 1)
+pub next-quiet : (period : ℕ) → period / 32 % 2 ≢ 1 → first_loud_draw period ≡ first_draw (period + 1)
 next-quiet period quiet = omega (arith, quiet)

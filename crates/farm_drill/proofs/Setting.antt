@@ -73,8 +73,8 @@ pub none_set : (seed periods : ℕ) (lines : List MemoryLine) → length lines �
 none_set seed periods lines long all = record {
   count = long;
   each = λ call s h.
-    let inside : place_of call s < length lines = omega (arith, long, within call s h) in
-    slice_get-get_or lines (place_of call s) (new_line [] [] [] 0) inside ∙ ap Some (all (place_of call s) (new_line [] [] [] 0) inside ∙ sym (drilled-none seed periods call s));
+      let inside : place_of call s < length lines = omega (arith, long, within call s h) in
+      slice_get-get_or lines (place_of call s) (new_line [] [] [] 0) inside ∙ ap Some (all (place_of call s) (new_line [] [] [] 0) inside ∙ sym (drilled-none seed periods call s));
 }
 
 -- the lines of a call set one after the other

@@ -49,10 +49,10 @@ fits-opening call low high = record {
   stamp = omega arith;
   in_range = (low, omega (arith, high));
   one_line = lacks_both (decimal 0) (codes " open " ++ decimal call) (lacks_digits 0 (omega arith))
-  (lacks_both (codes " open ") (decimal call) (lacks_letters (codes " open ") refl) (lacks_digits call (omega (arith, high))));
+      (lacks_both (codes " open ") (decimal call) (lacks_letters (codes " open ") refl) (lacks_digits call (omega (arith, high))));
   short = (let n = length-decimal-le 10 call (omega arith) (omega (arith, high)) (omega (arith, high)) in
-  let z = length-decimal-le 10 0 (omega arith) (omega arith) (omega arith) in
-  omega (arith, n, z, length-append (decimal 0) (codes " open " ++ decimal call)));
+      let z = length-decimal-le 10 0 (omega arith) (omega arith) (omega arith) in
+      omega (arith, n, z, length-append (decimal 0) (codes " open " ++ decimal call)));
 }
 
 fits-bridging : (periods call : ℕ) → periods ≤ 1000 → 1 ≤ call → call ≤ 255 → Fits (bridging periods call)
@@ -68,9 +68,9 @@ fits-bridging periods call few low high =
       stamp = omega (arith, q);
       in_range = ((low, omega (arith, high)), (omega arith, omega (arith, high)));
       one_line = lacks_both (decimal (periods / 4)) rest (lacks_digits (periods / 4) (omega (arith, q)))
-      (lacks_both (codes " bridge ") (decimal call ++ (codes " " ++ decimal (call + 1))) (lacks_letters (codes " bridge ") refl)
-      (lacks_both (decimal call) (codes " " ++ decimal (call + 1)) (lacks_digits call (omega (arith, high)))
-      (lacks_both (codes " ") (decimal (call + 1)) (lacks_letters (codes " ") refl) (lacks_digits (call + 1) (omega (arith, more))))));
+          (lacks_both (codes " bridge ") (decimal call ++ (codes " " ++ decimal (call + 1))) (lacks_letters (codes " bridge ") refl)
+          (lacks_both (decimal call) (codes " " ++ decimal (call + 1)) (lacks_digits call (omega (arith, high)))
+          (lacks_both (codes " ") (decimal (call + 1)) (lacks_letters (codes " ") refl) (lacks_digits (call + 1) (omega (arith, more))))));
       short = omega (arith, a, b, d, length-append (decimal (periods / 4)) rest, length-append (decimal call) (codes " " ++ decimal (call + 1)));
     }
 
@@ -84,7 +84,7 @@ fits-unbridging periods call few low high =
       stamp = omega (arith, q);
       in_range = (low, omega (arith, high));
       one_line = lacks_both (decimal (periods / 2)) (codes " unbridge " ++ decimal call) (lacks_digits (periods / 2) (omega (arith, q)))
-      (lacks_both (codes " unbridge ") (decimal call) (lacks_letters (codes " unbridge ") refl) (lacks_digits call (omega (arith, high))));
+          (lacks_both (codes " unbridge ") (decimal call) (lacks_letters (codes " unbridge ") refl) (lacks_digits call (omega (arith, high))));
       short = omega (arith, a, b, length-append (decimal (periods / 2)) (codes " unbridge " ++ decimal call));
     }
 
@@ -219,10 +219,10 @@ spelled text calls periods few short same =
     subst (λ (ls : List (List ℕ)). AreLines ls os) (sym (ap text_lines same ∙ text-lines os fit)) (record {
       one_each = length-map os line_of;
       spelled = λ k d l.
-        let one : Fits (get_or os k d) = fit-at os k d fit l in
-        record { stamp = one.stamp; in_range = one.in_range; spelled = get_or-map line_of os k d [] l };
+          let one : Fits (get_or os k d) = fit-at os k d fit l in
+          record { stamp = one.stamp; in_range = one.in_range; spelled = get_or-map line_of os k d [] l };
       rising = λ k d l.
-        subst (λ (n : ℕ). (get_or os k d).stamp ≤ (get_or os n d).stamp) (sym (add-one k)) (rises-next 0 os k d (drilled-rises calls periods) (omega (arith, l)));
+          subst (λ (n : ℕ). (get_or os k d).stamp ≤ (get_or os n d).stamp) (sym (add-one k)) (rises-next 0 os k d (drilled-rises calls periods) (omega (arith, l)));
     })
 
 pub short_enough : (text : List ℕ) (calls periods : ℕ) → calls ≤ 256 → periods ≤ 1000 → text ≡ text_of (drilled_orders calls periods) → IsWithin text

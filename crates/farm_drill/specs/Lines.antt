@@ -20,8 +20,9 @@ up_line seed call periods = flat_map (up_octets seed call) (range_with_len 0 per
 unfoldable pub pcm_line : ℕ → ℕ → ℕ → List ℕ
 pcm_line seed call periods = flat_map (pcm_octets seed call) (range_with_len 0 periods)
 
--- the four lines of a call. The outgoing ones have room for its periods, 40 and 160 octets each; the incoming ones, to
--- which no call writes, have room for one octet. None of a line's operations is cut or fails
+-- the four lines of a call. The outgoing ones have room for its periods, 40 and 160 octets each. The incoming ones have
+-- room for one octet, though nobody writes to them: a line that has room left never refused an octet. No operation on a
+-- line is cut or made to fail
 abbrev pub line_of_call : ℕ → ℕ → ℕ → Side → MemoryLine
 line_of_call seed call periods Up = new_line (up_line seed call periods) [] [] 1
 line_of_call seed call periods Pcm = new_line (pcm_line seed call periods) [] [] 1

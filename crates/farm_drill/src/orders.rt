@@ -3,7 +3,7 @@
 ghost use Rattle.std.specs.Prelude.{◌≡◌, ◌++◌, ◌∷◌, [], ◌≤◌, map, filter, OnOk, IfOk, string_bytes};
 ghost use Rattle.std.specs.List.{range_with_len};
 ghost use Rattle.trau_orders.specs.Text.{text_lines, AreLines, IsWithin};
-ghost use Rattle.farm_drill.specs.Orders.{opening, bridging, unbridging, is_bridged, bridged_calls, order_text, text_of, drilled_orders};
+ghost use Rattle.farm_drill.specs.Orders.{opening, bridging, unbridging, is_bridged, order_text, text_of, drilled_orders};
 
 use std::alloc::{AllocError, Global};
 
@@ -45,23 +45,23 @@ fn put_openings(text: &mut String, calls: u32) -> Result<(), AllocError>
     Ok(())
 }
 
-// Both stop before the last call, which has none after it.
-
-fn put_bridgings(text: &mut String, calls: u32, periods: u32) -> Result<(), AllocError>
-    requires { calls ≤ 256 }
-    ensures { OnOk result (string_bytes text.new ≡ string_bytes text.old ++ text_of (map (bridging periods) (bridged_calls calls))) }
+// The orders that bridges of calls 1 to `count` begin.
+fn put_bridgings(text: &mut String, count: u32, periods: u32) -> Result<(), AllocError>
+    requires { count ≤ 256 }
+    ensures { OnOk result (string_bytes text.new ≡ string_bytes text.old ++ text_of (map (bridging periods) (filter is_bridged (range_with_len 1 count)))) }
 {
-    for earlier in 0..calls.saturating_sub(1) {
+    for earlier in 0..count {
         put_bridging(text, periods, 1 + earlier)?;
     }
     Ok(())
 }
 
-fn put_unbridgings(text: &mut String, calls: u32, periods: u32) -> Result<(), AllocError>
-    requires { calls ≤ 256 }
-    ensures { OnOk result (string_bytes text.new ≡ string_bytes text.old ++ text_of (map (unbridging periods) (bridged_calls calls))) }
+// And those that they end.
+fn put_unbridgings(text: &mut String, count: u32, periods: u32) -> Result<(), AllocError>
+    requires { count ≤ 256 }
+    ensures { OnOk result (string_bytes text.new ≡ string_bytes text.old ++ text_of (map (unbridging periods) (filter is_bridged (range_with_len 1 count)))) }
 {
-    for earlier in 0..calls.saturating_sub(1) {
+    for earlier in 0..count {
         put_unbridging(text, periods, 1 + earlier)?;
     }
     Ok(())
@@ -77,7 +77,9 @@ pub(crate) fn orders_text(alloc: Global, calls: u32, periods: u32) -> Result<Vec
 {
     let mut text = String::new(alloc);
     put_openings(&mut text, calls)?;
-    put_bridgings(&mut text, calls, periods)?;
-    put_unbridgings(&mut text, calls, periods)?;
+    // No call is after the last one.
+    let followed = calls.saturating_sub(1);
+    put_bridgings(&mut text, followed, periods)?;
+    put_unbridgings(&mut text, followed, periods)?;
     Ok(text.into_bytes())
 }

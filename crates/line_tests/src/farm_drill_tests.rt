@@ -1,4 +1,4 @@
-//! Values that another program worked out: it was written from the same rules, and told of each line its octets.
+//! Sums of lines that other programs made, which were written from the same rules.
 use farm_drill::{drill, hostile};
 use std::alloc::{AllocError, Global};
 use trau_io::{Filled, Line, MemTrunk, Side, Trunk, read_block};
@@ -34,25 +34,35 @@ fn sum_of_line(
     })
 }
 
-// The drill of three calls and 30 periods from seed 7. By call, the sums of Up and Pcm.
-static SUMS: [(u32, u32, u32); 3] = [
-    (1, 1_314_134_350, 2_143_392_773),
-    (2, 1_665_212_962, 2_143_392_773),
-    (3, 787_943_159, 2_143_392_773),
+// Seed, calls, periods; a call, and the sums of its Up and Pcm line. The Pcm line is quiet for the first 32 periods, then
+// loud for 32, and so on.
+static SUMS: [(u32, u32, u32, u32, u32, u32); 4] = [
+    (7, 3, 30, 1, 1_314_134_350, 2_143_392_773),
+    (7, 3, 30, 3, 787_943_159, 2_143_392_773),
+    (4_294_967_295, 6, 140, 5, 164_405_353, 2_432_531_562),
+    (4_294_967_295, 6, 140, 6, 4_124_660_262, 114_896_368),
 ];
 
 #[test]
 fn drills_as_another_program(rt: HostRuntime) {
     let alloc = rt.alloc();
-    let (mut trunk, text) = drill(alloc, 7, 3, 30).expect(&rt, "memory");
-    let orders = "0 open 1\n0 open 2\n0 open 3\n7 bridge 1 2\n15 unbridge 1\n";
-    assert_eq!(rt; text.as_slice(), orders.as_bytes());
-    for &(call, up, pcm) in &SUMS {
-        let on_up = sum_of_line(alloc, &mut trunk, call, Side::Up, 1200).expect(&rt, "memory");
+    for &(seed, calls, periods, call, up, pcm) in &SUMS {
+        let periods = periods.min(1000);
+        let (mut trunk, _text) = drill(alloc, seed, calls.min(256), periods).expect(&rt, "memory");
+        let octets = 40 * periods as usize;
+        let on_up = sum_of_line(alloc, &mut trunk, call, Side::Up, octets).expect(&rt, "memory");
         assert_eq!(rt; on_up, Some(up), "up of {call}");
-        let on_pcm = sum_of_line(alloc, &mut trunk, call, Side::Pcm, 4800).expect(&rt, "memory");
+        let octets = 160 * periods as usize;
+        let on_pcm = sum_of_line(alloc, &mut trunk, call, Side::Pcm, octets).expect(&rt, "memory");
         assert_eq!(rt; on_pcm, Some(pcm), "pcm of {call}");
     }
+}
+
+#[test]
+fn orders_as_another_program(rt: HostRuntime) {
+    let (_trunk, text) = drill(rt.alloc(), 7, 3, 30).expect(&rt, "memory");
+    let orders = "0 open 1\n0 open 2\n0 open 3\n7 bridge 1 2\n15 unbridge 1\n";
+    assert_eq!(rt; text.as_slice(), orders.as_bytes());
 }
 
 // By kind, the periods and the sum of the line.

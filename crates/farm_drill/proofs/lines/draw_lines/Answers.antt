@@ -15,11 +15,11 @@ loop-period-preserved c =
     record {
       now = c.pcm.ensures.now seed call loud;
       up = c.in_ok-extend_from_slice.ensures.items ∙ ap (λ (xs : List ℕ). xs ++ c.uplink.result) before.up
-      ∙ ap (λ (xs : List ℕ). flat_map (up_octets seed call) (range_with_len 0 period) ++ xs) (c.uplink.ensures.octets seed call before.now)
-      ∙ sym (line-more (up_octets seed call) period);
+          ∙ ap (λ (xs : List ℕ). flat_map (up_octets seed call) (range_with_len 0 period) ++ xs) (c.uplink.ensures.octets seed call before.now)
+          ∙ sym (line-more (up_octets seed call) period);
       pcm = c.in_ok-extend_from_slice-2.ensures.items ∙ ap (λ (xs : List ℕ). xs ++ c.pcm.result) before.pcm
-      ∙ ap (λ (xs : List ℕ). flat_map (pcm_octets seed call) (range_with_len 0 period) ++ xs) (c.pcm.ensures.octets seed call loud)
-      ∙ sym (line-more (pcm_octets seed call) period);
+          ∙ ap (λ (xs : List ℕ). flat_map (pcm_octets seed call) (range_with_len 0 period) ++ xs) (c.pcm.ensures.octets seed call loud)
+          ∙ sym (line-more (pcm_octets seed call) period);
     }
 
 pub returns-clause-up : goal.returns-clause-up

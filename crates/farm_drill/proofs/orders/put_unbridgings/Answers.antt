@@ -1,9 +1,9 @@
-use Rattle.std.proofs.Common.{◌≡◌, ◌++◌, ◌-◌, List, ℕ, map, string_bytes, sym, ap, ◌∙◌, arith}
+use Rattle.std.proofs.Common.{◌≡◌, ◌++◌, List, ℕ, map, string_bytes, sym, ap, ◌∙◌, arith}
 use Rattle.std.specs.Prelude.{filter}
 use Rattle.std.specs.List.{range_with_len}
 use Rattle.std.proofs.lemmas.List.{append-nil}
 use Rattle.farm_drill.specs.Orders.{unbridging, is_bridged, text_of}
-use Rattle.farm_drill.proofs.Texts.{text-none, bridges-more, bridged-is}
+use Rattle.farm_drill.proofs.Texts.{text-none, bridges-more}
 use Rattle.farm_drill.proofs.orders.put_unbridgings.Goals as goal
 
 pub loop-earlier-init : goal.loop-earlier-init
@@ -17,7 +17,5 @@ loop-earlier-preserved c =
 
 pub returns : goal.returns
 returns c =
-    let all : c.loop-earlier.earlier ≡ c.args.calls - 1 = omega (arith, c.loop-earlier.auto.earlier-end, c.loop-earlier-test.false, c.saturating_sub-earlier-end.ensures) in
-    c.loop-earlier.invariant
-    ∙ ap (λ (cs : List ℕ). string_bytes c.args.text.now ++ text_of (map (unbridging c.args.periods) cs))
-    (ap (λ (n : ℕ). filter is_bridged (range_with_len 1 n)) all ∙ sym (bridged-is c.args.calls))
+    let all : c.loop-earlier.earlier ≡ c.args.count = omega (arith, c.loop-earlier.auto.earlier-end, c.loop-earlier-test.false) in
+    c.loop-earlier.invariant ∙ ap (λ (n : ℕ). string_bytes c.args.text.now ++ text_of (map (unbridging c.args.periods) (filter is_bridged (range_with_len 1 n)))) all
