@@ -4,4 +4,5 @@ pub mod Lags
 pub mod Lanes
 pub mod Predictions
 pub mod Search
+pub mod Tops
 pub mod Words

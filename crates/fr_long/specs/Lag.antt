@@ -1,5 +1,5 @@
 -- The lag of a block (GSM 06.10, section 4.2.11).
-use Rattle.std.specs.Prelude.{◌≡◌, ℕ, ◌<◌, ◌≤◌, ℤ, pos, ◌+ℤ◌, ◌<ℤ◌, ◌≤ℤ◌, ◌⊎◌, Bool, ◌&&◌, if◌then◌else◌, int_lt, int_le, List, map, fold, FitsSigned}
+use Rattle.std.specs.Prelude.{◌≡◌, ℕ, ◌+◌, ◌-◌, ◌<◌, ◌≤◌, ℤ, pos, ◌+ℤ◌, ◌*ℤ◌, ◌<ℤ◌, ◌≤ℤ◌, ◌⊎◌, Bool, ◌&&◌, if◌then◌else◌, int_lt, int_le, List, map, fold, FitsSigned}
 use Rattle.std.specs.Int.{w16}
 use Rattle.std.specs.List.{range_with_len, find, list_all}
 use Rattle.std.specs.Option.{unwrap_or}
@@ -9,6 +9,10 @@ use Rattle.fr_long.specs.Synthesis.{sample_before}
 -- the correlation of a scaled block with the 40 residuals a lag before: the sum over k = 0 to 39 of L_mult(wt[k], dp[k - lag])
 unfoldable pub correlation_of : List ℤ → List ℤ → ℕ → ℤ
 correlation_of wt earlier lag = fold ◌+ℤ◌ (pos 0) (map (λ k. l_mult_of (entry wt k) (sample_before earlier lag k)) (range_with_len 0 40))
+
+-- the same as a plain sum, which it is where no product is clamped: over k = 0 to 39 of 2 * wt[k] * past[120 - lag + k]
+abbrev pub sum_of_products : List ℤ → List ℤ → ℕ → ℤ
+sum_of_products wt past lag = fold ◌+ℤ◌ (pos 0) (map (λ k. entry wt k *ℤ entry past (120 - lag + k) *ℤ pos 2) (range_with_len 0 40))
 
 -- each residual is a word of 16 bits
 abbrev pub AreWords : List ℤ → Type 0
@@ -47,3 +51,9 @@ pub record IsLag (correlation : ℕ → ℤ) (lag : ℕ) : Type 0 where
 -- the correlation at the lag of a block, or 0 where none is positive
 abbrev pub greatest_of : (ℕ → ℤ) → ℕ → ℤ
 greatest_of correlation lag = if int_lt (pos 0) (correlation lag) then correlation lag else pos 0
+
+-- a number that none of the first n places is above: that of one of them, or 0 where none is positive
+pub record IsTop (xs : List ℤ) (n : ℕ) (top : ℤ) : Type 0 where
+  pub not_negative : pos 0 ≤ℤ top
+  pub bound : (k : ℕ) → k < n → entry xs k ≤ℤ top
+  pub reached : (top ≡ pos 0) ⊎ ((k : ℕ) × (k < n) × (entry xs k ≡ top))

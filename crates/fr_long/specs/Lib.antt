@@ -1,7 +1,6 @@
 pub mod Gain
 pub mod GainCode
 pub mod Lag
-pub mod Lanes
 pub mod Memory
 pub mod Prediction
 pub mod Scaling

@@ -6,21 +6,44 @@
 //! Each factor is so small that no sum of 40 products leaves 32 bits, in whatever order they are added.
 
 ghost use Rattle.std.specs.Prelude.{◌≡◌, ℕ, ◌+◌, ◌-◌, ◌*◌, ◌<◌, ◌≤◌, ◌++◌, pos, ◌+ℤ◌, ◌*ℤ◌, unsigned_abs, length, fold, FitsSigned};
-ghost use Rattle.std.specs.Int.{w16};
+ghost use Rattle.std.specs.Int.{w16, w32};
 ghost use Rattle.std.specs.Simd.Lanes.{chunk, zip2, Each1};
 ghost use Rattle.trau_num.specs.Num.{entry};
-ghost use Rattle.fr_long.specs.Lanes.{sums_of_pairs};
+ghost use Rattle.trau_lanes.specs.Lanes.{sums_of_pairs};
 ghost use Rattle.fr_long.specs.Scaling.{AreScaled};
-ghost use Rattle.fr_long.specs.Lag.{correlation_of, AreWords};
+ghost use Rattle.fr_long.specs.Lag.{correlation_of, sum_of_products, AreWords};
 
 use std::simd::prelude::*;
+use trau_lanes::{neighbours, products, sums, wide};
 
-/// The correlations of a scaled block with the residuals that lie 40 to 120 samples before it: that at a
-/// lag stands 40 places before it.
-pub(crate) fn correlate(wt: &[i16; 40], earlier: &[i16; 120]) -> [i32; 81]
+/// The correlations of a block `wt`, scaled to magnitudes up to 512, with the last 120 residuals `past`, the
+/// newest last, at the lags of 40 to 120 samples: the sum over k = 0 to 39 of
+/// `2 * wt[k] * past[120 - lag + k]` is number `lag - 40`.
+pub fn correlate(wt: &[i16; 40], past: &[i16; 120]) -> [i32; 81]
+    requires { AreScaled wt.now }
+    ensures { (lag : ℕ) → 40 ≤ lag → lag ≤ 120 → entry result (lag - 40) ≡ sum_of_products wt.now past.now lag }
+{
+    correlations(wt, &copied(past))
+}
+
+/// The residuals, read one by one, each of which is so known to be a word.
+fn copied(past: &[i16; 120]) -> [i16; 120]
+    ensures value { result ≡ past.now }
+    ensures words { AreWords result }
+{
+    let mut copy = [0; 120];
+    for k in 0..120 {
+        copy[k] = past[k];
+    }
+    copy
+}
+
+/// The same correlations, of residuals that are known to be words.
+pub(crate) fn correlations(wt: &[i16; 40], earlier: &[i16; 120]) -> [i32; 81]
     requires scaled { AreScaled wt.now }
     requires words { AreWords earlier.now }
-    ensures { (lag : ℕ) → 40 ≤ lag → lag ≤ 120 → entry result (lag - 40) ≡ correlation_of wt.now earlier.now lag }
+    ensures value { (lag : ℕ) → 40 ≤ lag → lag ≤ 120 → entry result (lag - 40) ≡ correlation_of wt.now earlier.now lag }
+    ensures longs { (k : ℕ) → FitsSigned w32 (entry result k) }
 {
     let mut all = [0; 81];
     for group in 0..21 {
@@ -83,44 +106,6 @@ fn eight(samples: &[i16], at: usize) -> i32x8
     ensures words { Each1 (λ x. unsigned_abs x ≤ 32768) result }
 {
     wide(i16x8::from_slice(&samples[at..]))
-}
-
-/// Eight samples in lanes of 32 bits.
-fn wide(samples: i16x8) -> i32x8
-    requires { Each1 (FitsSigned w16) samples }
-    ensures { result ≡ samples }
-{
-    samples.cast::<i32>()
-}
-
-/// The products of eight samples of a scaled block with eight residuals.
-fn products(wt: i32x8, earlier: i32x8) -> i32x8
-    requires scaled { Each1 (λ x. unsigned_abs x ≤ 512) wt }
-    requires words { Each1 (λ x. unsigned_abs x ≤ 32768) earlier }
-    ensures { result ≡ zip2 ◌*ℤ◌ wt earlier }
-{
-    wt * earlier
-}
-
-/// The sums of the lanes of two vectors.
-fn sums(a: i32x4, b: i32x4) -> i32x4
-    requires small_a { Each1 (λ x. unsigned_abs x ≤ 1073741823) a }
-    requires small_b { Each1 (λ x. unsigned_abs x ≤ 1073741823) b }
-    ensures { result ≡ zip2 ◌+ℤ◌ a b }
-{
-    a + b
-}
-
-/// The sums of neighbouring lanes of a vector.
-fn neighbours(lanes: i32x8) -> i32x4
-    requires length { length lanes ≡ 8 }
-    requires small { Each1 (λ x. unsigned_abs x ≤ 1073741823) lanes }
-    ensures { result ≡ sums_of_pairs lanes }
-{
-    let (even, odd) = lanes
-        .extract::<0, 4>()
-        .deinterleave(lanes.extract::<4, 4>());
-    even + odd
 }
 
 /// The sums of neighbouring lanes of one vector, and then of another.

@@ -12,8 +12,7 @@
 //!
 //! Definitions: `specs/Prediction.antt` is what the encoder answers and keeps, made of `specs/Scaling.antt`,
 //! `specs/Lag.antt` and `specs/GainCode.antt`; `specs/Synthesis.antt` is the decoder over all blocks from
-//! home, `specs/Memory.antt` from block to block; `specs/Gain.antt` has the gains, and `specs/Lanes.antt` what
-//! is said of lanes.
+//! home, `specs/Memory.antt` from block to block; `specs/Gain.antt` has the gains.
 #![tactic(auto)]
 
 mod correlations;
@@ -28,6 +27,7 @@ mod memory;
 mod scaling;
 mod sums;
 
+pub use correlations::correlate;
 pub use decoder::LtpDecoder;
 pub use encoder::LtpHistory;
 pub use laws::{one_lag, one_prediction};

@@ -8,7 +8,7 @@ use Rattle.std.proofs.lemmas.List.FromFn.{map-range_with_len_more}
 use Rattle.std.proofs.lemmas.List.Sums.{fold-append}
 use Rattle.trau_num.specs.Num.{clamp32, l_mult_of, entry}
 use Rattle.fr_lpc.specs.Scaling.{AreWithin}
-use Rattle.fr_lpc.specs.Autocorrelation.{autocorrelation_of}
+use Rattle.fr_lpc.specs.Autocorrelation.{autocorrelation_of, sum_of_products}
 
 -- twice a small product isn't clamped
 pub unclamped : (a b z : ℤ) → z ≡ a *ℤ b → unsigned_abs z ≤ 4194304 → l_mult_of a b ≡ z *ℤ pos 2
@@ -128,3 +128,28 @@ greatest_first s h k l =
     let part : energy s (160 - k) ≤ energy s (160 - k + k) = energy_le s (160 - k) k in
     let front' : energy s (160 - k + k) ≡ energy s 160 = ap (energy s) front in
     omega (arith, ints)
+
+-- a sum of halves, doubled
+doubled_sum : (g f : ℕ → ℤ) → ((k : ℕ) → g k *ℤ pos 2 ≡ f k) → (ks : List ℕ) (s t : ℤ) → s *ℤ pos 2 ≡ t →
+    fold ◌+ℤ◌ s (map g ks) *ℤ pos 2 ≡ fold ◌+ℤ◌ t (map f ks)
+doubled_sum g f h [] s t e = e
+doubled_sum g f h (k ∷ ks) s t e = let here = h k in doubled_sum g f h ks (s +ℤ g k) (t +ℤ f k) (omega (arith, ints))
+
+-- half of it, as eight lanes sum it
+abbrev pub plain_sum : List ℤ → ℕ → ℤ
+plain_sum s k = fold ◌+ℤ◌ (pos 0) (map (λ i. entry s i *ℤ entry s (i - k)) (range_with_len k (160 - k)))
+
+-- an autocorrelation is twice the plain sum
+pub plain_doubled : (s : List ℤ) → AreWithin 2048 s → (k : ℕ) → autocorrelation_of s k ≡ plain_sum s k *ℤ pos 2
+unfolding autocorrelation_of
+plain_doubled s h k =
+    sym (doubled_sum (λ i. entry s i *ℤ entry s (i - k)) (λ i. l_mult_of (entry s i) (entry s (i - k)))
+    (λ i. sym (unclamped (entry s i) (entry s (i - k)) (entry s i *ℤ entry s (i - k)) refl (small_product (entry s i) (entry s (i - k)) (within_all s h i) (within_all s h (i - k)))))
+    (range_with_len k (160 - k)) (pos 0) (pos 0) refl)
+
+-- which is the sum of the doubled products
+pub plainly : (s : List ℤ) → AreWithin 2048 s → (k : ℕ) → autocorrelation_of s k ≡ sum_of_products s k
+unfolding autocorrelation_of
+plainly s h k = λ j.
+    fold ◌+ℤ◌ (pos 0)
+    (map (λ i. unclamped (entry s i) (entry s (i - k)) (entry s i *ℤ entry s (i - k)) refl (small_product (entry s i) (entry s (i - k)) (within_all s h i) (within_all s h (i - k))) j) (range_with_len k (160 - k)))

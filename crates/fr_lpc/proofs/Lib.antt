@@ -3,3 +3,4 @@ pub mod Over
 pub mod Recursion
 pub mod Scaled
 pub mod Table
+mod Dots

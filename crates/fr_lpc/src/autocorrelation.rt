@@ -1,46 +1,69 @@
 //! The autocorrelation of a frame (GSM 06.10, section 4.2.4).
 
-ghost use Rattle.std.specs.Prelude.{◌≡◌, ℕ, ◌<◌, ◌≤◌, pos, ◌*ℤ◌, ◌≤ℤ◌, length, unsigned_abs};
-ghost use Rattle.trau_num.specs.Num.{l_mult_of, entry};
+ghost use Rattle.std.specs.Prelude.{◌≡◌, ℕ, ◌+◌, ◌<◌, ◌≤◌, pos, ◌*ℤ◌, ◌≤ℤ◌, length, unsigned_abs};
+ghost use Rattle.std.specs.Simd.Lanes.{chunk};
+ghost use Rattle.trau_num.specs.Num.{entry};
 ghost use Rattle.fr_lpc.specs.Scaling.{AreWithin};
-ghost use Rattle.fr_lpc.specs.Autocorrelation.{autocorrelation_of, autocorrelations_of, IsGreatestFirst};
+ghost use Rattle.fr_lpc.specs.Autocorrelation.{autocorrelation_of, autocorrelations_of, sum_of_products, IsGreatestFirst};
 
-#[tactic(auto, unfolding(trau_num::specs::Num::l_mult_of))]
-fn half_product(a: i16, b: i16) -> i32
-    requires a { unsigned_abs a ≤ 2048 }
-    requires b { unsigned_abs b ≤ 2048 }
-    ensures value { l_mult_of a b ≡ result *ℤ pos 2 }
-    ensures bound { unsigned_abs result ≤ 4194304 }
+use std::simd::prelude::*;
+use trau_lanes::{neighbours, products, sums, wide};
+
+// Eight of some scaled samples, from place `at` on.
+fn eight(samples: &[i16], at: usize) -> i32x8
+    requires place { at + 8 ≤ length samples.now }
+    requires scaled { (k : ℕ) → unsigned_abs (entry samples.now k) ≤ 2048 }
+    ensures { result ≡ chunk at 8 samples.now }
 {
-    i32::from(a) * i32::from(b)
+    wide(i16x8::from_slice(&samples[at..]))
 }
 
-// The autocorrelation at lag `k`. The doubling that each product has in the standard is one of the sum.
-#[tactic(auto, unfolding(crate::specs::Autocorrelation::autocorrelation_of))]
-fn autocorrelation(s: &[i16; 160], k: usize) -> i32
+// The samples behind eight zeros.
+fn delayed(s: &[i16; 160]) -> [i16; 168]
+    ensures zeros { (k : ℕ) → k < 8 → entry result k ≡ pos 0 }
+    ensures samples { (k : ℕ) → k < 160 → entry result (8 + k) ≡ entry s.now k }
+{
+    let mut past = [0; 168];
+    for k in 0..160 {
+        past[8 + k] = s[k];
+    }
+    past
+}
+
+// The autocorrelation at lag `k`, from the samples and the same behind eight zeros. The doubling that each product
+// has in the standard is one of the sum.
+fn autocorrelation(s: &[i16; 160], past: &[i16; 168], k: usize) -> i32
     requires lag { k ≤ 8 }
     requires scaled { AreWithin 2048 s.now }
+    requires zeros { (i : ℕ) → i < 8 → entry past.now i ≡ pos 0 }
+    requires samples { (i : ℕ) → i < 160 → entry past.now (8 + i) ≡ entry s.now i }
     ensures value { result ≡ autocorrelation_of s.now k }
     ensures bound { unsigned_abs result ≤ 1342177280 }
 {
-    let mut half = 0;
-    for i in k..160 {
-        half += half_product(s[i], s[i - k]);
+    let start = 8 - k;
+    let mut halves = i32x4::splat(0);
+    for block in 0..20 {
+        let products = products(eight(s, 8 * block), eight(past, start + 8 * block));
+        halves = sums(halves, neighbours(products));
     }
-    half * 2
+    let halves = halves.to_array();
+    (halves[0] + halves[1] + halves[2] + halves[3]) * 2
 }
 
-/// The autocorrelations of the scaled samples at lags 0 to 8.
+/// The autocorrelations at lags 0 to 8 of samples `s`, scaled to magnitudes up to 2,048: the sum over i = k to 159
+/// of `2 * s[i] * s[i - k]` is number k.
 #[tactic(auto, unfolding(crate::specs::Autocorrelation::autocorrelations_of))]
-pub(crate) fn autocorrelate(s: &[i16; 160]) -> [i32; 9]
+pub fn autocorrelate(s: &[i16; 160]) -> [i32; 9]
     requires { AreWithin 2048 s.now }
     ensures value { result ≡ autocorrelations_of s.now }
+    ensures sums { (k : ℕ) → k ≤ 8 → entry result k ≡ sum_of_products s.now k }
     ensures bound { AreWithin 1342177280 result }
     ensures greatest_first { IsGreatestFirst result }
 {
+    let past = delayed(s);
     let mut acf = [0; 9];
     for k in 0..9 {
-        acf[k] = autocorrelation(s, k);
+        acf[k] = autocorrelation(s, &past, k);
     }
     acf
 }

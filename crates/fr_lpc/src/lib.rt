@@ -18,5 +18,6 @@ mod reflection;
 mod scaling;
 
 pub use analysis::{Lpc, analyse};
+pub use autocorrelation::autocorrelate;
 pub use ratios::quantise;
 pub use scaling::peak;

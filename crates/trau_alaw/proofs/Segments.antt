@@ -1,7 +1,6 @@
 -- The steps of the eight segments of A-law, computed.
-use Rattle.std.proofs.Common.{◌≡◌, ℕ, ◌+◌, ◌-◌, ◌*◌, ◌/◌, ◌%◌, ◌^◌, ◌<◌, ◌≤◌, zero, suc, max, inl, inr, arith}
+use Rattle.std.proofs.Common.{◌≡◌, ℕ, ◌+◌, ◌-◌, ◌*◌, ◌/◌, ◌%◌, ◌^◌, ◌<◌, ◌≤◌, zero, suc, min, inl, inr, arith}
 use Rattle.std.proofs.lemmas.Bool.{cases_lt}
-use Rattle.std.proofs.Math.Nat.{pow-le-pow_right}
 use Rattle.trau_alaw.specs.Alaw.{alaw_least, alaw_width}
 
 -- what holds at each of 0 to 7
@@ -42,49 +41,47 @@ pub record IsAt (segment step magnitude : ℕ) : Type 0 where
   pub at_least : alaw_least segment step ≤ magnitude
   pub within : magnitude < alaw_least segment step + alaw_width segment
 
--- the step that the code finds: `doublings` is how far the highest bit lies above bit 8
-abbrev IsFound : ℕ → ℕ → Type 0
-IsFound magnitude doublings =
-    2 ^ (doublings + 8) ≤ max magnitude 511 → max magnitude 511 < 2 * 2 ^ (doublings + 8) →
-    (quarter : ℕ) → quarter ≡ magnitude / 2 ^ (doublings + 4) →
-    (16 * doublings + quarter < 128) × IsAt ((16 * doublings + quarter) / 16) ((16 * doublings + quarter) % 16) magnitude
-
 at_place : (number segment step magnitude : ℕ) → number / 16 ≡ segment → number % 16 ≡ step →
     alaw_least segment step ≤ magnitude → magnitude < alaw_least segment step + alaw_width segment →
     IsAt (number / 16) (number % 16) magnitude
 at_place number segment step magnitude e f l u = rw (e, f) (record { at_least = l; within = u })
 
-first_two : (magnitude quarter : ℕ) → max magnitude 511 < 512 → quarter ≡ magnitude / 16 →
-    (16 * 0 + quarter < 128) × IsAt ((16 * 0 + quarter) / 16) ((16 * 0 + quarter) % 16) magnitude
-first_two magnitude quarter u e =
-    elim (cases_lt quarter 16) [
-      | inl l ↦ (omega arith, at_place (16 * 0 + quarter) 0 quarter magnitude (omega arith) (omega arith) (omega arith) (omega arith))
-      | inr l ↦ (omega arith, at_place (16 * 0 + quarter) 1 (quarter - 16) magnitude (omega arith) (omega arith) (omega arith) (omega arith))
+-- the least of the seven lines at a magnitude, as the code takes it
+pub record IsLeast (m v : ℕ) : Type 0 where
+  pub low : ℕ
+  pub middle : ℕ
+  pub high : ℕ
+  pub low_is : low ≡ min (m / 16) (m / 32 + 16)
+  pub middle_is : middle ≡ min (m / 64 + 32) (m / 128 + 48)
+  pub high_is : high ≡ min (m / 256 + 64) (m / 512 + 80)
+  pub is : v ≡ min (min (min low middle) high) (m / 1024 + 96)
+
+-- in each segment it is that segment's own
+pub found : (m v : ℕ) → m < 32768 → IsLeast m v → IsAt (v / 16) (v % 16) m
+found m v b l =
+    let a = l.low_is in
+    let c = l.middle_is in
+    let d = l.high_is in
+    let is = l.is in
+    elim (cases_lt m 256) [
+      | inl h ↦ let e : v ≡ m / 16 = omega arith in at_place v 0 (m / 16) m (omega arith) (omega arith) (omega arith) (omega arith)
+      | inr g ↦ elim (cases_lt m 512) [
+        | inl h ↦ let e : v ≡ m / 16 = omega arith in at_place v 1 (m / 16 - 16) m (omega arith) (omega arith) (omega arith) (omega arith)
+        | inr g ↦ elim (cases_lt m 1024) [
+          | inl h ↦ let e : v ≡ m / 32 + 16 = omega arith in at_place v 2 (m / 32 - 16) m (omega arith) (omega arith) (omega arith) (omega arith)
+          | inr g ↦ elim (cases_lt m 2048) [
+            | inl h ↦ let e : v ≡ m / 64 + 32 = omega arith in at_place v 3 (m / 64 - 16) m (omega arith) (omega arith) (omega arith) (omega arith)
+            | inr g ↦ elim (cases_lt m 4096) [
+              | inl h ↦ let e : v ≡ m / 128 + 48 = omega arith in at_place v 4 (m / 128 - 16) m (omega arith) (omega arith) (omega arith) (omega arith)
+              | inr g ↦ elim (cases_lt m 8192) [
+                | inl h ↦ let e : v ≡ m / 256 + 64 = omega arith in at_place v 5 (m / 256 - 16) m (omega arith) (omega arith) (omega arith) (omega arith)
+                | inr g ↦ elim (cases_lt m 16384) [
+                  | inl h ↦ let e : v ≡ m / 512 + 80 = omega arith in at_place v 6 (m / 512 - 16) m (omega arith) (omega arith) (omega arith) (omega arith)
+                  | inr g ↦ let e : v ≡ m / 1024 + 96 = omega arith in at_place v 7 (m / 1024 - 16) m (omega arith) (omega arith) (omega arith) (omega arith)
+                ]
+              ]
+            ]
+          ]
+        ]
+      ]
     ]
-
-pub found : (magnitude doublings : ℕ) → magnitude < 32768 → doublings < 8 → IsFound magnitude doublings
-found magnitude doublings m l =
-    of_eight (IsFound magnitude)
-    (λ p q n e. first_two magnitude n q e)
-    (λ p q n e. (omega arith, at_place (16 * 1 + n) 2 (n - 16) magnitude (omega arith) (omega arith) (omega arith) (omega arith)))
-    (λ p q n e. (omega arith, at_place (16 * 2 + n) 3 (n - 16) magnitude (omega arith) (omega arith) (omega arith) (omega arith)))
-    (λ p q n e. (omega arith, at_place (16 * 3 + n) 4 (n - 16) magnitude (omega arith) (omega arith) (omega arith) (omega arith)))
-    (λ p q n e. (omega arith, at_place (16 * 4 + n) 5 (n - 16) magnitude (omega arith) (omega arith) (omega arith) (omega arith)))
-    (λ p q n e. (omega arith, at_place (16 * 5 + n) 6 (n - 16) magnitude (omega arith) (omega arith) (omega arith) (omega arith)))
-    (λ p q n e. (omega arith, at_place (16 * 6 + n) 7 (n - 16) magnitude (omega arith) (omega arith) (omega arith) (omega arith)))
-    (λ p q n e. absurd (omega arith))
-    doublings l
-
--- the same from the power of two that is next below
-pub found_from_power : (magnitude top power quarter : ℕ) → magnitude < 32768 → top ≡ max magnitude 511 →
-    2 ^ power ≤ top → top < 2 * 2 ^ power → quarter ≡ magnitude / 2 ^ (power - 8 + 4) →
-    (16 * (power - 8) + quarter < 128) ×
-    IsAt ((16 * (power - 8) + quarter) / 16) ((16 * (power - 8) + quarter) % 16) magnitude
-found_from_power magnitude top power quarter m t l u e =
-    let low : power ≤ 7 → 2 ^ power ≤ 2 ^ 7 = λ h. pow-le-pow_right (omega arith) h in
-    let high : 15 ≤ power → 2 ^ 15 ≤ 2 ^ power = λ h. pow-le-pow_right (omega arith) h in
-    let from : 8 ≤ power = grind (arith, low) in
-    let to : power < 15 = grind (arith, high) in
-    let same : power - 8 + 8 ≡ power = omega arith in
-    found magnitude (power - 8) m (omega arith)
-    (rw same (omega arith)) (rw same (omega arith)) quarter e

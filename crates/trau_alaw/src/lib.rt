@@ -64,13 +64,16 @@ fn magnitude_of(x: i16) -> u16
 // The segment (three bits) and the step (four bits) whose interval has the magnitude.
 //
 // A segment from 1 on has the magnitudes with one highest bit, and its step is the four bits below;
-// segment 0 goes on below segment 1 in the same steps.
+// segment 0 goes on below segment 1 in the same steps. So the seven bits grow along seven lines, each half as
+// steep as the one before, and are the least of them: no branch, and a loop over samples does several at once.
 fn segment_and_step(magnitude: u16) -> u8
     requires { magnitude < 32768 }
     ensures below { result < 128 }
     ensures at_least { alaw_least (result / 16) (result % 16) ≤ magnitude }
     ensures within { magnitude < alaw_least (result / 16) (result % 16) + alaw_width (result / 16) }
 {
-    let doublings = magnitude.max(511).ilog2() - 8;
-    (16 * doublings + u32::from(magnitude >> (doublings + 4))) as u8
+    let low = (magnitude >> 4).min((magnitude >> 5) + 16);
+    let middle = ((magnitude >> 6) + 32).min((magnitude >> 7) + 48);
+    let high = ((magnitude >> 8) + 64).min((magnitude >> 9) + 80);
+    low.min(middle).min(high).min((magnitude >> 10) + 96) as u8
 }

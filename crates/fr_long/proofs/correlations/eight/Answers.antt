@@ -2,7 +2,9 @@ use Rattle.std.proofs.lemmas.Simd.{Each1-weaker}
 use Rattle.std.proofs.lemmas.Int.{ints}
 use Rattle.std.proofs.Common.{◌≡◌, arith, map, to_z, of_z, ap, sym, subst, ◌∙◌, FitsSigned, w16, w32}
 use Rattle.std.specs.Simd.Lanes.{chunk, Each1}
-use Rattle.fr_long.proofs.Lanes.{Within, eight_words, eight_numbers, lanes_kept}
+use Rattle.trau_lanes.proofs.Eight.{lanes_kept}
+use Rattle.trau_lanes.proofs.LaneDots.{Within}
+use Rattle.fr_long.proofs.Lanes.{eight_words, eight_numbers}
 use Rattle.fr_long.proofs.correlations.eight.Goals as goal
 
 pub wide-requires : goal.wide-requires

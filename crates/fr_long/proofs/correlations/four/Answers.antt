@@ -2,8 +2,9 @@ use Rattle.std.proofs.Common.{◌≡◌, ◌+◌, pos, arith, ap, sym, subst, �
 use Rattle.std.specs.Simd.Lanes.{Each1}
 use Rattle.std.proofs.lemmas.List.{length-map}
 use Rattle.fr_long.specs.Lag.{correlation_of}
-use Rattle.fr_long.specs.Lanes.{sums_of_pairs}
-use Rattle.fr_long.proofs.Lanes.{Within, kept, both_passed, both_is, both_within, both_length, four_totals, four_lanes}
+use Rattle.trau_lanes.specs.Lanes.{sums_of_pairs}
+use Rattle.trau_lanes.proofs.LaneDots.{Within}
+use Rattle.fr_long.proofs.Lanes.{kept, both_passed, both_is, both_within, both_length, four_totals, four_lanes}
 use Rattle.fr_long.proofs.correlations.four.Goals as goal
 
 pub both-front-requires-clause-small : goal.both-front-requires-clause-small

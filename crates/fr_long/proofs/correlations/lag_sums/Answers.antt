@@ -4,22 +4,23 @@ use Rattle.std.specs.Simd.Lanes.{Each1}
 use Rattle.std.proofs.lemmas.Int.{ints}
 use Rattle.std.proofs.lemmas.Simd.{Each1-weaker, length-zip2}
 use Rattle.std.proofs.lemmas.List.{length-map}
-use Rattle.fr_long.specs.Lanes.{sums_of_pairs}
+use Rattle.trau_lanes.specs.Lanes.{sums_of_pairs}
 use Rattle.trau_num.specs.Num.{l_mult_of, entry}
 use Rattle.fr_long.specs.Synthesis.{sample_before}
 use Rattle.fr_long.specs.Lag.{correlation_of}
-use Rattle.fr_long.proofs.Lanes.{Within, scaled_all, row, length_pairs, pairs_within, product_at, passed_scaled_within, passed_words_within, row_passed, row_within, row_length, lanes_passed, next_within, next_passed, eight_more, doubled_sum, doubled_term, words_more}
+use Rattle.trau_lanes.proofs.LaneDots.{Within, row, length_pairs, pairs_within, product_at, row_length, lanes_passed, eight_more}
+use Rattle.fr_long.proofs.Lanes.{scaled_all, passed_scaled_within, passed_words_within, row_passed, row_within, next_within, next_passed, doubled_sum, doubled_term, words_more}
 use Rattle.fr_long.proofs.correlations.lag_sums.Goals as goal
 
 pub eight-requires-clause-words : goal.eight-requires-clause-words
 eight-requires-clause-words c = λ k. let small : Within 512 (get_or c.args.wt.now k (pos 0)) = scaled_all c.args.wt.now (omega arith) c.requires.scaled k in omega (arith, ints)
 
-pub products-products-requires-clause-scaled : goal.products-products-requires-clause-scaled
-products-products-requires-clause-scaled c =
-    passed_scaled_within c.args.wt.now c.eight.result (8 * c.loop-block.block) (omega arith) c.requires.scaled c.eight.ensures.value
+pub products-products-requires-clause-words_a : goal.products-products-requires-clause-words_a
+products-products-requires-clause-words_a c =
+    Each1-weaker (Within 512) (Within 32767) (λ x h. omega arith) _ (passed_scaled_within c.args.wt.now c.eight.result (8 * c.loop-block.block) (omega arith) c.requires.scaled c.eight.ensures.value)
 
-pub products-products-requires-clause-words : goal.products-products-requires-clause-words
-products-products-requires-clause-words c = passed_words_within c.eight-in-loop-block.result c.eight-in-loop-block.ensures.words
+pub products-products-requires-clause-words_b : goal.products-products-requires-clause-words_b
+products-products-requires-clause-words_b c = passed_words_within c.eight-in-loop-block.result c.eight-in-loop-block.ensures.words
 
 pub neighbours-requires-clause-small : goal.neighbours-requires-clause-small
 neighbours-requires-clause-small c =

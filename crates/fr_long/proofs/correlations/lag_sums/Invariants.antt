@@ -1,7 +1,7 @@
 use Rattle.std.proofs.Common.{◌≡◌, ℕ, ◌+◌, ◌<◌, get_or, ◌-◌, ◌*◌, pos, ◌+ℤ◌, fold, map, length, to_z, w32}
 use Rattle.std.specs.List.{range_with_len}
 use Rattle.std.specs.Simd.Lanes.{Each1}
-use Rattle.fr_long.proofs.Lanes.{product_at, Within}
+use Rattle.trau_lanes.proofs.LaneDots.{product_at, Within}
 use Rattle.fr_long.proofs.correlations.lag_sums.Given as goal
 
 abbrev pub invariant-loop-block : goal.invariant-loop-block

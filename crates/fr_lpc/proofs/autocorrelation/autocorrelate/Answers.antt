@@ -1,9 +1,9 @@
-use Rattle.std.proofs.Common.{◌≡◌, ◌<◌, ◌≤◌, ℕ, ℤ, pos, refl, unsigned_abs, arith, FitsSigned, w32}
+use Rattle.std.proofs.Common.{◌≡◌, ◌<◌, ◌≤◌, ℕ, ℤ, pos, refl, unsigned_abs, arith, ◌∙◌, FitsSigned, w32}
 use Rattle.std.proofs.lemmas.Int.{to_z-of_z}
 use Rattle.trau_num.proofs.Fill.{fill_none, fill_next, fill_all, each_next}
 use Rattle.trau_num.specs.Num.{entry}
 use Rattle.fr_lpc.specs.Autocorrelation.{autocorrelation_of, autocorrelations_of}
-use Rattle.fr_lpc.proofs.Energy.{greatest_first}
+use Rattle.fr_lpc.proofs.Energy.{greatest_first, plainly}
 use Rattle.fr_lpc.proofs.autocorrelation.autocorrelate.Goals as goal
 
 pub loop-k-init : goal.loop-k-init
@@ -35,3 +35,6 @@ returns-clause-greatest_first c =
     let here : entry c.loop-k.acf k ≡ autocorrelation_of c.args.s.now k = filled.each k within in
     let e = greatest_first c.args.s.now c.requires k (omega arith) in
     rw (here, first) e
+
+pub returns-clause-sums : goal.returns-clause-sums
+returns-clause-sums c = λ k l. c.loop-k.invariant.filled.each k (omega arith) ∙ plainly c.args.s.now c.requires k

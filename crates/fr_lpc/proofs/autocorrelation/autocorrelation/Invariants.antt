@@ -1,10 +1,12 @@
-use Rattle.std.proofs.Common.{◌≡◌, ◌-◌, ◌*◌, ◌≤◌, pos, ◌+ℤ◌, ◌*ℤ◌, fold, map, unsigned_abs}
+use Rattle.std.proofs.Common.{◌≡◌, ◌-◌, ◌*◌, pos, ◌+ℤ◌, fold, map, length, to_z, w32}
 use Rattle.std.specs.List.{range_with_len}
-use Rattle.trau_num.specs.Num.{l_mult_of, entry}
+use Rattle.std.specs.Simd.Lanes.{Each1}
+use Rattle.trau_lanes.proofs.LaneDots.{product_at, Within}
 use Rattle.fr_lpc.proofs.autocorrelation.autocorrelation.Given as goal
 
-abbrev pub invariant-loop-i : goal.invariant-loop-i
-invariant-loop-i l = record {
-  sum : l.half *ℤ pos 2 ≡ fold ◌+ℤ◌ (pos 0) (map (λ i. l_mult_of (entry l.s i) (entry l.s (i - l.k))) (range_with_len l.k (l.i - l.k)));
-  bound : unsigned_abs l.half ≤ 4194304 * (l.i - l.k);
+abbrev pub invariant-loop-block : goal.invariant-loop-block
+invariant-loop-block l = record {
+  length_is : length l.halves ≡ 4;
+  value : fold ◌+ℤ◌ (pos 0) (map (to_z w32) l.halves) ≡ fold ◌+ℤ◌ (pos 0) (map (product_at l.s l.past (8 - l.fn.k)) (range_with_len 0 (8 * l.block)));
+  small : Each1 (Within (8388608 * l.block)) (map (to_z w32) l.halves);
 }

@@ -1,0 +1,4 @@
+pub mod Eight
+pub mod LaneSums
+pub mod LaneProducts
+pub mod LaneDots
