@@ -1,5 +1,5 @@
 -- What the parts of a pool keep.
-use Rattle.std.proofs.Common.{◌≡◌, ℕ, suc, ◌+◌, ◌<◌, List, [], ◌∷◌, ◌++◌, length, map, All, set, get_or, None, sym, refl, ap, ◌∙◌, subst, arith}
+use Rattle.std.proofs.Common.{◌≡◌, ℕ, zero, suc, ◌+◌, ◌<◌, List, [], ◌∷◌, ◌++◌, length, map, All, set, get_or, None, sym, refl, ap, ◌∙◌, subst, arith}
 use Rattle.std.specs.Global.{Global, Box}
 use Rattle.std.proofs.lemmas.List.Elements.{All-append, All-cons}
 use Rattle.std.proofs.Math.ListN.{length-set}
@@ -98,3 +98,12 @@ module _ {W : Type 0} (finish : W → W) (thieves : List (Thief W)) where
     ready = λ k m h. (each k m (omega arith)).ready;
     parts = λ k m h. let h' : k < length ms = omega arith in omega (arith, (each k m h').parts, pool.parts k m h');
   }
+
+  -- of some workers the first ones moved
+  pub first_moved : (ms ls ns : List (Member W)) → length ns ≡ length ms → ((k : ℕ) (m : Member W) → k < length ms → Moves finish thieves (get_or ms k m) None (get_or ns k m) None)
+      → ((k : ℕ) (m : Member W) → k < length (ms ++ ls) → IsReady finish thieves (get_or (ms ++ ls) k m)) → (k : ℕ) (m : Member W) → k < length (ms ++ ls) → Moves finish thieves (get_or (ms ++ ls) k m) None (get_or (ns ++ ls) k m) None
+  first_moved [] ls [] len each ready k m h = record { ready = ready k m h; deque = refl; parts = refl; balance = λ h. refl }
+  first_moved [] ls (n ∷ ns) len each ready k m h = absurd (omega arith)
+  first_moved (m ∷ ms) ls [] len each ready k d h = absurd (omega arith)
+  first_moved (m ∷ ms) ls (n ∷ ns) len each ready zero d h = each 0 d (omega arith)
+  first_moved (m ∷ ms) ls (n ∷ ns) len each ready (suc k) d h = first_moved ms ls ns (omega arith) (λ j d i. each (suc j) d (omega arith)) (λ j d i. ready (suc j) d (omega arith)) k d (omega arith)

@@ -5,7 +5,8 @@
 //! make "finished" exact. The crates above put a call's two halves, or those of a bridged pair, with the octets of a
 //! round into a job.
 //!
-//! A worker has a thread and a deque. At the start job i stands in the deque of worker i mod the number of workers. A
+//! A worker has a deque. No more of them work than there are jobs: a single one works in the thread of the caller, and of
+//! more each has a thread of its own. At the start job i stands in the deque of worker i mod the number of workers. A
 //! worker takes the front job of its own deque, or else of another's, beginning with its neighbour's, runs one slice of
 //! it, and puts it at the back of its own deque until it is finished. It ends where it has no job in hand and found every
 //! deque empty. When all have ended, the caller looks through the deques once more and runs what it finds there.

@@ -2,7 +2,7 @@
 
 ghost use Rattle.std.specs.Prelude.{◌≡◌, ℕ, ◌+◌, ◌^◌, ◌<◌, ◌≤◌, length, map, vec_len, All, None, slice_index_or};
 ghost use Rattle.pool_run.specs.Deque.{weigh, entry_of};
-ghost use Rattle.pool_run.specs.Member.{Moves};
+ghost use Rattle.pool_run.specs.Member.{IsReady, Moves};
 ghost use Rattle.pool_run.specs.Pool.{IsPool, IsSettled, all_given, all_obtained, entries_from};
 ghost use Rattle.pool_run.specs.Room.{IsRoom, RoomLeft};
 
@@ -16,8 +16,9 @@ use std::thread;
 use std::thread::Threads;
 
 /// Runs each job to its end, in slices of `slice` places: as many jobs as were given, in their order, each the finished
-/// job of the given one. The slices are run by the room's workers, each in a thread of its own, and each between the
-/// calls of the gate. Takes no memory for the jobs, and is never refused.
+/// job of the given one. The slices are run by the room's workers, as many as there are jobs at most, and each between the
+/// calls of the gate. A single worker works in the caller's thread; of more, each has a thread of its own. Takes no memory
+/// for the jobs, and is never refused.
 pub fn run_pool<R: Threads + Wait + Sync, W: Work + Send, G: Gate + Sync>(
     rt: &R,
     room: PoolRoom<W>,
@@ -63,8 +64,9 @@ fn run_workers<R: Threads + Wait + Sync, W: Work + Send, G: Gate + Sync>(
     ensures settled { All (IsSettled W.finish) members.new }
     ensures entries { (h : _) → all_given W.finish h members.new ≡ all_obtained h members.new + weigh h (entries_from W.finish 0 jobs.items) }
 {
+    let workers = jobs.len().clamp(1, members.len());
     place(thieves, members, jobs);
-    work_all(rt, thieves, members, slice, gate);
+    work_first(rt, thieves, members, workers, slice, gate);
     join_all(thieves, members);
     audit_all(members);
 }
@@ -100,7 +102,26 @@ fn place_at<W: Work>(thieves: &[Thief<W>], members: &mut [Member<W>], at: usize,
     push_reserved(&mut members[at].own, task);
 }
 
-// Each worker in a thread of its own, until all have ended.
+// The first workers, so many, work until all have ended. The others have nothing to do.
+fn work_first<R: Threads + Wait + Sync, W: Work + Send, G: Gate + Sync>(
+    rt: &R,
+    thieves: &[Thief<W>],
+    members: &mut [Member<W>],
+    workers: usize,
+    slice: u32,
+    gate: &G,
+)
+    requires pool { IsPool W.finish thieves.now members.old }
+    requires some { 0 < workers }
+    requires few { workers ≤ length members.old }
+    requires slice { 1 ≤ slice }
+    ensures { (k : ℕ) (m : _) → k < length members.old → Moves W.finish thieves.now (slice_index_or members.old k m) None (slice_index_or members.new k m) None }
+{
+    let (first, _) = members.split_at_mut(workers);
+    work_all(rt, thieves, first, slice, gate);
+}
+
+// Each worker in a thread of its own, until all have ended; a single one in the caller's thread.
 fn work_all<R: Threads + Wait + Sync, W: Work + Send, G: Gate + Sync>(
     rt: &R,
     thieves: &[Thief<W>],
@@ -108,7 +129,7 @@ fn work_all<R: Threads + Wait + Sync, W: Work + Send, G: Gate + Sync>(
     slice: u32,
     gate: &G,
 )
-    requires pool { IsPool W.finish thieves.now members.old }
+    requires ready { (k : ℕ) (m : _) → k < length members.old → IsReady W.finish thieves.now (slice_index_or members.old k m) }
     requires some { 0 < length members.old }
     requires slice { 1 ≤ slice }
     ensures { (k : ℕ) (m : _) → k < length members.old → Moves W.finish thieves.now (slice_index_or members.old k m) None (slice_index_or members.new k m) None }

@@ -36,9 +36,9 @@ impl<W: Work> Model for PoolRoom<W> {
 }
 
 impl<W: Work> PoolRoom<W> {
-    /// Room for `most` jobs, at most 4,096, in a pool of 1 to 64 workers: the workers' deques and passes, and the lists
-    /// of the jobs that they finish and of the answer. As any worker may come to have every job, each list and each
-    /// deque has room for all.
+    /// Room for `most` jobs, at most 4,096, in a pool of 1 to 64 workers, or of fewer where there are fewer jobs: the
+    /// workers' deques and passes, and the lists of the jobs that they finish and of the answer. As any worker may come to
+    /// have every job, each list and each deque has room for all.
     pub fn reserve(alloc: Global, workers: u32, most: u32) -> Result<PoolRoom<W>, AllocError>
         requires some { 0 < workers }
         requires few { workers ≤ 64 }
@@ -46,7 +46,8 @@ impl<W: Work> PoolRoom<W> {
         ensures { IfOk result (λ room. room ≡ most) }
     {
         let jobs = most as usize;
-        let (mut members, thieves) = new_members(alloc, workers as usize, jobs)?;
+        let workers = workers.min(most.max(1)) as usize;
+        let (mut members, thieves) = new_members(alloc, workers, jobs)?;
         give_rows(alloc, thieves.as_slice(), members.as_mut_slice())?;
         let finished = Vec::with_capacity(alloc, jobs)?;
         let answer = Vec::with_capacity(alloc, jobs)?;

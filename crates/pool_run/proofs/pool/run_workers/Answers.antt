@@ -4,7 +4,7 @@ use Rattle.pool_run.proofs.Joining.{pool_shared, all_owners}
 use Rattle.pool_run.proofs.pool.run_workers.Goals as goal
 
 pub join_all-requires : goal.join_all-requires
-join_all-requires g c = pool_shared g.W.Work.finish c.args.thieves.now c.work_all.new.members (pool_moved g.W.Work.finish c.args.thieves.now c.place.new.members c.work_all.new.members c.place.ensures.pool (omega arith) c.work_all.ensures)
+join_all-requires g c = pool_shared g.W.Work.finish c.args.thieves.now c.work_first.new.members (pool_moved g.W.Work.finish c.args.thieves.now c.place.new.members c.work_first.new.members c.place.ensures.pool (omega arith) c.work_first.ensures)
 
 pub audit_all-requires : goal.audit_all-requires
 audit_all-requires g c = all_owners g.W.Work.finish c.args.thieves.now c.join_all.new.members c.join_all.ensures.shared (λ i h. c.join_all.ensures.joined i (omega arith))
@@ -17,7 +17,7 @@ returns-clause-entries g c = λ h.
       c.audit_all.ensures.obtained h,
       c.join_all.ensures.given h,
       c.join_all.ensures.obtained h,
-      sums_moved g.W.Work.finish c.args.thieves.now c.place.new.members c.work_all.new.members (omega arith) c.work_all.ensures h,
+      sums_moved g.W.Work.finish c.args.thieves.now c.place.new.members c.work_first.new.members (omega arith) c.work_first.ensures h,
       c.place.ensures.given h,
       c.place.ensures.obtained h,
       c.requires.room.given h,
