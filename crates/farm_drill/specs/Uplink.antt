@@ -9,8 +9,8 @@ use Rattle.trau_frame.specs.UpFrame.{UpWords}
 use Rattle.trau_frame.specs.UpBits.{bits_saying}
 use Rattle.farm_drill.specs.Draws.{draw, drawn_bits, first_draw}
 
--- by a period's first draw: of 256 periods 200 have good speech, 20 a silence descriptor, 10 an invalid one, 14 an
--- unusable frame, 6 an idle frame, and 6 no frame
+-- by a period's first draw: of its 256 values 200 give good speech, 20 a silence descriptor, 10 an invalid one, 14 an
+-- unusable frame, 6 an idle frame, which is unusable too, and 6 no frame
 abbrev pub class_drawn : ℕ → Class
 class_drawn t =
     if nat_lt t 200 then Good
