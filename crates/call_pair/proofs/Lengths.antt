@@ -14,7 +14,8 @@ use Rattle.fr_short.specs.Synthesis.{filtered_samples, sections_after, synthesis
 use Rattle.fr_short.specs.Ratios.{decoded_ratios}
 use Rattle.fr_short.specs.Reflection.{coefficients_at}
 use Rattle.fr_decoder.specs.Blocks.{ltp_block, one_block, two_blocks, three_blocks, frame_residual}
-use Rattle.fr_decoder.specs.Deemphasis.{deemphasised, truncated}
+use Rattle.fr_short.specs.Deemphasis.{deemphasised}
+use Rattle.fr_decoder.specs.Deemphasis.{truncated}
 use Rattle.fr_decoder.specs.Decoded.{blocks_of, residuals_of, last_msr, samples_of}
 use Rattle.down_framer.specs.Made.{line_of, made_frames}
 use Rattle.down_framer.proofs.Store.{made-far}

@@ -1,6 +1,7 @@
 ghost use Rattle.std.specs.Prelude.{◌<◌};
+ghost use Rattle.fr_long.specs.Scaling.{AreScaled};
 
-use fr_long::{Ltp, LtpDecoder, LtpHistory};
+use fr_long::{Ltp, LtpDecoder, LtpHistory, correlate};
 
 // One sample at the front of a block.
 fn pulse() -> [i16; 40] {
@@ -101,4 +102,29 @@ fn predicts_two_blocks_in_turn(rt: HostRuntime) {
     let second = history.predict(&block(&[(1, -400), (15, 900)]));
     assert!(rt; has_codes(&first, 117, 2) && has_samples(&first, 14, -975, 26, 45));
     assert!(rt; has_codes(&second, 55, 1) && has_samples(&second, 16, 105, 29, 341));
+}
+
+#[test]
+fn correlates_the_loudest_block(rt: HostRuntime) {
+    assert!(rt; correlate(&[-512; 40], &[-32768; 120]) == [1342177280; 81]);
+}
+
+// A block of one sample.
+fn unit() -> [i16; 40]
+    ensures { AreScaled result }
+{
+    let mut wt = [0; 40];
+    wt[0] = 1;
+    wt
+}
+
+// Each residual is its own place, of which 120 is the newest sample's end.
+#[test]
+fn correlates_with_the_residual_a_lag_before(rt: HostRuntime) {
+    let mut past = [0; 120];
+    for k in 0..120 {
+        past[k] = k as i16;
+    }
+    let correlations = correlate(&unit(), &past);
+    assert!(rt; [correlations[0], correlations[80]] == [160, 0]);
 }

@@ -1,4 +1,4 @@
-use fr_lpc::{analyse, peak, quantise};
+use fr_lpc::{analyse, autocorrelate, peak, quantise};
 
 // Whether a frame has these ratios and these codes of them.
 fn gives(s: &mut [i16; 160], lar: [i16; 8], larc: [u8; 8]) -> bool {
@@ -52,4 +52,11 @@ fn loses_low_bits(rt: HostRuntime) {
     let lar = [3541, 8782, 1098, -2471, 4914, 7102, -11737, 71];
     let larc = [36, 43, 21, 8, 12, 11, 0, 2];
     assert!(rt; gives(&mut s, lar, larc) && s.starts_with(&[-4000, 1742, -518, -2778]));
+}
+
+// The sum of 160 or of 152 products, each doubled.
+#[test]
+fn correlates_the_loudest_scaled_frame(rt: HostRuntime) {
+    let acf = autocorrelate(&[2048; 160]);
+    assert!(rt; [acf[0], acf[8]] == [1342177280, 1275068416]);
 }

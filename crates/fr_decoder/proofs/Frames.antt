@@ -13,7 +13,8 @@ use Rattle.fr_short.specs.Ratios.{decoded_ratios}
 use Rattle.fr_short.specs.Reflection.{coefficients_at}
 use Rattle.fr_short.specs.Synthesis as lattice
 use Rattle.fr_decoder.specs.Decoded.{blocks_of, residuals_of, last_msr, samples_of, all_samples}
-use Rattle.fr_decoder.specs.Deemphasis.{deemphasised, last_of, truncated}
+use Rattle.fr_short.specs.Deemphasis.{deemphasised, last_of}
+use Rattle.fr_decoder.specs.Deemphasis.{truncated}
 use Rattle.fr_decoder.specs.Step as decoder
 use Rattle.fr_decoder.proofs.Runs.{add_fits}
 use Rattle.fr_long.specs.Synthesis.{LtpBlock, residual_of}

@@ -6,7 +6,8 @@ use Rattle.fr_short.specs.Memory as short
 use Rattle.fr_short.specs.Synthesis as lattice
 use Rattle.fr_decoder.specs.Blocks.{ltp_block}
 use Rattle.fr_decoder.specs.Decoded.{blocks_of, residuals_of, last_msr}
-use Rattle.fr_decoder.specs.Deemphasis.{deemphasised, last_of, truncated}
+use Rattle.fr_short.specs.Deemphasis.{deemphasised, last_of}
+use Rattle.fr_decoder.specs.Deemphasis.{truncated}
 
 -- what the decoder keeps: the memories of long-term and short-term synthesis, and the last de-emphasised sample
 pub record DecoderMemory : Type 0 where

@@ -5,7 +5,7 @@ ghost use Rattle.trau_params.specs.Fields.{Fields, fields_of};
 ghost use Rattle.fr_decoder.specs.Decoded.{samples_of};
 ghost use Rattle.fr_decoder.specs.Step.{DecoderMemory, home_memory, decoded_frame, Stands};
 
-use crate::deemphasis::{deemphasise, truncate};
+use crate::deemphasis::truncate;
 use crate::residual::residual;
 use fr_long::LtpDecoder;
 use fr_short::ShortState;
@@ -51,9 +51,10 @@ impl Decoder {
             Stands (fields_of p.now ∷ past) self.new × (x.new ≡ samples_of (fields_of p.now) past) }
     {
         let d = residual(&mut self.long_term, p);
-        let (mut s, mut msr) = ([0; 160], [0; 160]);
-        self.short_term.synthesise_frame(&p.larc, &d, &mut s);
-        self.msr = deemphasise(self.msr, &s, &mut msr);
+        let mut msr = [0; 160];
+        self.msr = self
+            .short_term
+            .synthesise_deemphasised(&p.larc, &d, self.msr, &mut msr);
         truncate(&msr, x);
     }
 }

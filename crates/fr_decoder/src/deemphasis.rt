@@ -1,33 +1,11 @@
-//! De-emphasis and truncation (GSM 06.10, sections 4.3.5 to 4.3.7).
+//! Truncation (GSM 06.10, sections 4.3.6 and 4.3.7).
 
 ghost use Rattle.std.specs.Prelude.{◌≡◌, FitsSigned, map};
 ghost use Rattle.std.specs.Int.{w16};
-ghost use Rattle.fr_decoder.specs.Deemphasis.{deemphasised, last_of, truncated};
+ghost use Rattle.fr_short.specs.Deemphasis.{deemphasised, last_of};
+ghost use Rattle.fr_decoder.specs.Deemphasis.{truncated};
 
-use trau_num::{add, plus_wide};
-
-const FACTOR: i32 = 28180;
-
-fn narrow(x: i32) -> i16
-    requires { FitsSigned w16 x }
-    ensures { result ≡ x }
-{
-    x as i16
-}
-
-/// De-emphasises the samples `s` of a frame into `msr`, after the last one `before` of the frame before, and
-/// answers the last.
-pub(crate) fn deemphasise(before: i16, s: &[i16; 160], msr: &mut [i16; 160]) -> i16
-    ensures samples { msr.new ≡ deemphasised before s.now }
-    ensures last { result ≡ last_of before (deemphasised before s.now) }
-{
-    let mut last = i32::from(before);
-    for k in 0..160 {
-        last = plus_wide(i32::from(s[k]), FACTOR, last);
-        msr[k] = narrow(last);
-    }
-    narrow(last)
-}
+use trau_num::add;
 
 // Doubles a sample and drops its three lowest bits.
 #[tactic(auto, unfolding(crate::specs::Deemphasis::truncated))]

@@ -1,5 +1,5 @@
 mod Each
-mod Sections
+mod Behind
 mod Runs
 mod Parts
 mod Over

@@ -5,3 +5,5 @@ pub mod Synthesis
 pub mod Analysis
 pub mod AnalysisSection
 pub mod Words
+pub mod Lanes
+pub mod Deemphasis

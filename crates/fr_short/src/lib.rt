@@ -19,7 +19,6 @@ mod ratios;
 mod reflection;
 mod state;
 mod synthesis;
-mod words;
 
 pub use ratios::decode_larc;
 pub use state::ShortState;

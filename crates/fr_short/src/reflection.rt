@@ -5,7 +5,6 @@ ghost use Rattle.trau_num.specs.Num.{entry};
 ghost use Rattle.fr_short.specs.Reflection.{part_start, interpolated_ratio, coefficient_magnitude, reflection_of, coefficients_of};
 ghost use Rattle.fr_short.specs.Words.{AreFactors};
 
-use crate::words::widen;
 use trau_num::{abs16, add};
 
 /// The first sample of a part of a frame, and for part 4 the end of the frame.
@@ -81,19 +80,5 @@ pub(crate) fn parts(old: &[i16; 8], new: &[i16; 8]) -> [[i16; 8]; 4]
         coefficients(old, new, 1),
         coefficients(old, new, 2),
         coefficients(old, new, 3),
-    ]
-}
-
-/// The coefficients in each part, in 32 bits.
-pub(crate) fn wide_parts(old: &[i16; 8], new: &[i16; 8]) -> [[i32; 8]; 4]
-    ensures value { (p : ℕ) → p < 4 → slice_index_or result p [] ≡ coefficients_of old.now new.now p }
-    ensures factors { (p : ℕ) → p < 4 → AreFactors (slice_index_or result p []) }
-{
-    let parts = parts(old, new);
-    [
-        widen(&parts[0]),
-        widen(&parts[1]),
-        widen(&parts[2]),
-        widen(&parts[3]),
     ]
 }

@@ -4,12 +4,12 @@ ghost use Rattle.std.specs.Prelude.{◌≡◌, List, [], ◌∷◌};
 ghost use Rattle.trau_params.specs.Widths.{FitLarc};
 ghost use Rattle.fr_short.specs.Memory.{ShortMemory, home_memory};
 ghost use Rattle.fr_short.specs.Synthesis.{ResidualFrame, residual_frame, synthesised_frame, synthesis_of, Stands};
+ghost use Rattle.fr_short.specs.Deemphasis.{deemphasised, last_of};
 ghost use Rattle.fr_short.specs.Analysis.{SampleFrame, sample_frame, analysed_frame, analysis_of, AnalysisStands};
 
 use crate::analysis::analyse;
 use crate::ratios::decode_larc;
-use crate::synthesis::filter;
-use crate::words::{narrow, widen};
+use crate::synthesis::{filter, filter_deemphasised};
 use std::marker::Model;
 
 /// The state of the short-term filter in one direction of one call: the previous frame's decoded ratios and
@@ -54,10 +54,34 @@ impl ShortState {
             × (s.new ≡ (synthesis_of (residual_frame larc.now d.now ∷ past)).0) }
     {
         let ratios = decode_larc(larc);
-        let mut sections = widen(&self.sections);
-        filter(&self.ratios, &ratios, &mut sections, d, s);
+        filter(&self.ratios, &ratios, &mut self.sections, d, s);
         self.ratios = ratios;
-        self.sections = narrow(&sections);
+    }
+
+    /// The same with de-emphasis after it (GSM 06.10, section 4.3.5), into `msr`. `before` is the last de-emphasised
+    /// sample of the frame before; that of this frame is answered.
+    #[tactic(auto, unfolding(crate::specs::Synthesis::synthesised_frame, crate::specs::Synthesis::newest_ratios, crate::specs::Synthesis::synthesis_of))]
+    pub fn synthesise_deemphasised(
+        &mut self,
+        larc: &[u8; 8],
+        d: &[i16; 160],
+        before: i16,
+        msr: &mut [i16; 160],
+    ) -> i16
+        requires { FitLarc larc.now }
+        ensures samples { msr.new ≡ deemphasised before (synthesised_frame self.old larc.now d.now).0 }
+        ensures last { result ≡ last_of before (deemphasised before (synthesised_frame self.old larc.now d.now).0) }
+        ensures memory { self.new ≡ (synthesised_frame self.old larc.now d.now).1 }
+
+        // After the frames of any past, this one is the newest.
+        ensures history { (past : List ResidualFrame) → Stands past self.old
+            → Stands (residual_frame larc.now d.now ∷ past) self.new
+            × (msr.new ≡ deemphasised before (synthesis_of (residual_frame larc.now d.now ∷ past)).0) }
+    {
+        let ratios = decode_larc(larc);
+        let last = filter_deemphasised(&self.ratios, &ratios, &mut self.sections, d, before, msr);
+        self.ratios = ratios;
+        last
     }
 
     /// Filters the 160 samples `s` of a frame, preprocessed, into their residual, which it leaves in `s`, with the

@@ -1,51 +1,147 @@
-//! The synthesis lattice (GSM 06.10, section 4.3.4), with its values and coefficients in 32 bits inside a frame.
+//! The synthesis lattice (GSM 06.10, section 4.3.4), with the eight sections of a sample in the lanes of a vector.
+//!
+//! Lane 0 is the last section, which a sample passes first. The rounded products with what the sections hold
+//! don't wait for one another; the words behind each section do. They are guessed as sums that wrap, which
+//! takes three steps, and checked: where no difference is clamped, and seldom is one, the guess stands.
 
-ghost use Rattle.std.specs.Prelude.{◌≡◌, FitsSigned};
-ghost use Rattle.std.specs.Int.{w16};
-ghost use Rattle.fr_short.specs.Words.{AreWords, AreFactors};
+ghost use Rattle.std.specs.Prelude.{◌≡◌, pos, reverse, length};
+ghost use Rattle.trau_num.specs.Num.{add_of, mult_r_of};
+ghost use Rattle.trau_lanes.specs.Lanes.{EightWords, EightFactors};
 ghost use Rattle.fr_short.specs.Reflection.{coefficients_at};
 ghost use Rattle.fr_short.specs.Synthesis.{synthesis_lattice, sections_after, filtered_samples};
+ghost use Rattle.fr_short.specs.Deemphasis.{deemphasised, last_of};
+ghost use Rattle.fr_short.specs.Lanes.{words_behind};
 
-use crate::reflection::{part_start, wide_parts};
-use crate::words::narrow_word;
-use trau_num::{minus_wide, plus_wide};
+use crate::reflection::{part_start, parts};
+use std::simd::prelude::*;
+use trau_lanes::{minus_lanes, plus_lanes, scaled_lanes, shift_in};
+use trau_num::{add, mult_r, sub};
 
-// Passes one sample through the eight sections, the last one first. What the last one would store is never read.
-fn pass(rs: &[i32; 8], vs: &mut [i32; 8], sample: i32) -> i32
-    requires factors { AreFactors rs.now }
-    requires words { AreWords vs.old }
-    requires sample { FitsSigned w16 sample }
-    ensures value { result ≡ (synthesis_lattice rs.now vs.old sample).0 }
-    ensures sections { vs.new ≡ sections_after (synthesis_lattice rs.now vs.old sample) }
-    ensures words { AreWords vs.new }
-    ensures word { FitsSigned w16 result }
+// The words behind each section, one after the other.
+#[cold]
+#[inline(never)]
+fn in_turn(sample: i16, steps: i16x8) -> i16x8
+    requires { EightWords steps }
+    ensures { result ≡ words_behind sample steps }
 {
-    let mut s = minus_wide(sample, rs[7], vs[7]);
-    for i in (0..7).rev() {
-        s = minus_wide(s, rs[i], vs[i]);
-        vs[i + 1] = plus_wide(vs[i], rs[i], s);
+    let steps = steps.to_array();
+    let mut words = [0; 8];
+    let mut s = sample;
+    for i in 0..8 {
+        s = sub(s, steps[i]);
+        words[i] = s;
     }
-    vs[0] = s;
-    s
+    i16x8::from_array(words)
+}
+
+// The sample less the steps up to each lane, which are the words behind each section where none is clamped.
+fn guess(sample: i16, steps: i16x8) -> i16x8
+    requires { length steps ≡ 8 }
+    ensures { EightWords result }
+{
+    let zero = i16x8::splat(0);
+    let one = i16x8::from_array([sample, 0, 0, 0, 0, 0, 0, 0]) - steps;
+    let two = one + zero.shuffle(one, [0, 8, 9, 10, 11, 12, 13, 14]);
+    let four = two + zero.shuffle(two, [0, 0, 8, 9, 10, 11, 12, 13]);
+    four + zero.shuffle(four, [0, 0, 0, 0, 8, 9, 10, 11])
+}
+
+// The words behind each section, from what is subtracted in each.
+fn behind(sample: i16, steps: i16x8) -> i16x8
+    requires { EightWords steps }
+    ensures value { result ≡ words_behind sample steps }
+    ensures words { EightWords result }
+{
+    let guess = guess(sample, steps);
+    if minus_lanes(shift_in(sample, guess), steps)
+        .simd_ne(guess)
+        .any()
+    {
+        in_turn(sample, steps)
+    } else {
+        guess
+    }
+}
+
+// Passes one sample through the eight sections, the last one first.
+fn pass(rs: i16x8, vs: &mut i16x8, sample: i16) -> i16
+    requires factors { EightFactors rs }
+    requires words { EightWords vs.old }
+    ensures value { result ≡ (synthesis_lattice (reverse rs) (reverse vs.old) sample).0 }
+    ensures sections { reverse vs.new ≡ sections_after (synthesis_lattice (reverse rs) (reverse vs.old) sample) }
+    ensures words { EightWords vs.new }
+{
+    let words = behind(sample, scaled_lanes(rs, *vs));
+    let stored = plus_lanes(*vs, scaled_lanes(rs, words));
+    *vs = stored.shuffle(words, [1, 2, 3, 4, 5, 6, 7, 15]);
+    words.to_array()[7]
+}
+
+// The last of eight words in the first lane.
+fn backwards(words: &[i16; 8]) -> i16x8
+    ensures value { result ≡ reverse words.now }
+    ensures words { EightWords result }
+{
+    i16x8::from_array([
+        words[7], words[6], words[5], words[4], words[3], words[2], words[1], words[0],
+    ])
 }
 
 /// Filters the residual `d` of a frame between the previous frame's ratios and this frame's.
 pub(crate) fn filter(
     old: &[i16; 8],
     new: &[i16; 8],
-    vs: &mut [i32; 8],
+    sections: &mut [i16; 8],
     d: &[i16; 160],
     s: &mut [i16; 160],
 )
-    requires { AreWords vs.old }
-    ensures samples { s.new ≡ (filtered_samples (coefficients_at old.now new.now) 0 vs.old d.now).0 }
-    ensures sections { vs.new ≡ (filtered_samples (coefficients_at old.now new.now) 0 vs.old d.now).1 }
-    ensures words { AreWords vs.new }
+    ensures samples { s.new ≡ (filtered_samples (coefficients_at old.now new.now) 0 sections.old d.now).0 }
+    ensures sections { sections.new ≡ (filtered_samples (coefficients_at old.now new.now) 0 sections.old d.now).1 }
 {
-    let parts = wide_parts(old, new);
+    let parts = parts(old, new);
+    let mut vs = backwards(sections);
     for part in 0..4 {
+        let rs = backwards(&parts[part]);
         for k in part_start(part)..part_start(part + 1) {
-            s[k] = narrow_word(pass(&parts[part], vs, i32::from(d[k])));
+            s[k] = pass(rs, &mut vs, d[k]);
         }
     }
+    *sections = vs.reverse().to_array();
+}
+
+// One sample of de-emphasis, after the last one before it.
+fn deemphasise(sample: i16, before: i16) -> i16
+    ensures { result ≡ add_of sample (mult_r_of (pos 28180) before) }
+{
+    add(sample, mult_r(28180, before))
+}
+
+/// The same with de-emphasis of each sample, into `msr` after the last one `before` of the frame before; answers the
+/// last.
+///
+/// Both in one loop, since each waits for the sample before, and so one has its time while the other waits.
+pub(crate) fn filter_deemphasised(
+    old: &[i16; 8],
+    new: &[i16; 8],
+    sections: &mut [i16; 8],
+    d: &[i16; 160],
+    before: i16,
+    msr: &mut [i16; 160],
+) -> i16
+    ensures samples { msr.new ≡ deemphasised before (filtered_samples (coefficients_at old.now new.now) 0 sections.old d.now).0 }
+    ensures last { result ≡ last_of before (deemphasised before (filtered_samples (coefficients_at old.now new.now) 0 sections.old d.now).0) }
+    ensures sections { sections.new ≡ (filtered_samples (coefficients_at old.now new.now) 0 sections.old d.now).1 }
+{
+    let parts = parts(old, new);
+    let mut vs = backwards(sections);
+    let mut last = before;
+    for part in 0..4 {
+        let rs = backwards(&parts[part]);
+        for k in part_start(part)..part_start(part + 1) {
+            last = deemphasise(pass(rs, &mut vs, d[k]), last);
+            msr[k] = last;
+        }
+    }
+    *sections = vs.reverse().to_array();
+    last
 }

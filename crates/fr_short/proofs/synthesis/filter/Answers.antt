@@ -1,63 +1,74 @@
-use Rattle.std.proofs.Common.{◌≡◌, ◌+◌, ◌<◌, ◌≤◌, sym, rules, arith, ◌∙◌, get_or, pos, FitsSigned, w16, w32, ap}
+use Rattle.std.proofs.Common.{◌≡◌, ◌+◌, ◌<◌, ◌≤◌, ap, sym, subst, arith, ◌∙◌, reverse, length, get_or, pos, refl, FitsSigned, w16, to_z, rules, ℕ, ℤ, List}
 use Rattle.std.proofs.lemmas.Int.{to_z-of_z}
-use Rattle.fr_short.specs.Reflection.{coefficients_of, part_of, part_start}
+use Rattle.std.proofs.lemmas.List.{reverse-reverse, length-map}
+use Rattle.trau_lanes.specs.Lanes.{EightFactors}
+use Rattle.trau_lanes.proofs.Eight.{words_kept, words_passed, factors_passed}
+use Rattle.fr_short.specs.Reflection.{coefficients_of, coefficients_at, part_of, part_start}
+use Rattle.fr_short.specs.Words.{AreFactors}
+use Rattle.fr_short.proofs.Behind.{turned_factors, turned_back}
 use Rattle.fr_short.proofs.Parts.{in_part, parts_follow, frame_ends}
-use Rattle.fr_short.proofs.Runs.{run_start, run_next, run_end}
+use Rattle.fr_short.proofs.Runs.{Run, run_start, run_next, run_end}
 use Rattle.fr_short.proofs.synthesis.filter.Goals as goal
+
+eight : (old new : List ℤ) (p : ℕ) → length (coefficients_of old new p) ≡ 8
+unfolding coefficients_of
+eight old new p = refl
+
+-- the coefficients of a part, turned and turned back
+factors_of : (xs rs ys : List ℤ) → xs ≡ ys → length ys ≡ 8 → AreFactors xs → rs ≡ reverse xs → EightFactors rs
+factors_of xs rs ys e l f er = subst EightFactors (sym er) (turned_factors xs (ap length e ∙ l) f)
 
 pub loop-part-init : goal.loop-part-init
 unfolding part_start
-loop-part-init c = run_start _ _ _ _ (c.told-s ∙ sym c.told-d) c.requires
-
-pub loop-k-init : goal.loop-k-init
-loop-k-init c = rw c.part_start-k.ensures.value c.loop-part.invariant
-
-pub pass-requires : goal.pass-requires
-pass-requires c =
-    let fx : FitsSigned w16 (get_or c.args.d.now c.loop-k.k (pos 0)) = search rules in
-    let ff : FitsSigned w32 c.from.result = record { sfits = c.from.type_inv } in
+loop-part-init c =
+    let e = ap reverse (words_kept c.backwards-vs.result c.backwards-vs.ensures.words ∙ c.backwards-vs.ensures.value) ∙ reverse-reverse c.args.sections.now in
     record {
-      factors = c.wide_parts-parts.ensures.factors c.loop-part.part c.loop-part-test.true;
-      words = c.loop-k.invariant.words;
-      sample = rw (to_z-of_z w32 _ ff, c.from.ensures, to_z-of_z w16 _ fx) fx;
+      run = subst (λ vs. Run (coefficients_at c.args.old.now c.args.new.now) c.args.sections.now c.args.d.now vs c.args.s.now 0) (sym e) (run_start _ _ _ _ (c.told-s ∙ sym c.told-d));
+      words = words_passed _ c.backwards-vs.ensures.words;
     }
 
-pub narrow_word-requires : goal.narrow_word-requires
-narrow_word-requires c =
-    let fp : FitsSigned w32 c.pass.result = record { sfits = c.pass.type_inv } in
-    rw (to_z-of_z w32 _ fp) c.pass.ensures.word
+pub loop-k-init : goal.loop-k-init
+loop-k-init c = record { run = rw c.part_start-k.ensures.value c.loop-part.invariant.run; words = c.loop-part.invariant.words }
+
+pub pass-requires-clause-factors : goal.pass-requires-clause-factors
+pass-requires-clause-factors c =
+    let p = c.loop-part.part in
+    let l = c.loop-part-test.true in
+    factors_passed c.backwards-rs.result (factors_of _ _ _ (c.parts-parts.ensures.value p l) (eight _ _ p) (c.parts-parts.ensures.factors p l) c.backwards-rs.ensures.value)
+
+pub pass-requires-clause-words : goal.pass-requires-clause-words
+pass-requires-clause-words c = c.loop-k.invariant.words
 
 pub loop-k-preserved : goal.loop-k-preserved
 loop-k-preserved c =
-    let fx : FitsSigned w16 (get_or c.args.d.now c.loop-k.k (pos 0)) = search rules in
-    let fp : FitsSigned w32 c.pass.result = search rules in
-    let ff : FitsSigned w32 c.from.result = search rules in
-    let fn : FitsSigned w16 c.narrow_word.result = search rules in
     let low : part_start c.loop-part.part ≤ c.loop-k.k = omega arith in
     let high : c.loop-k.k < part_start (c.loop-part.part + 1) = omega arith in
     let here : part_of c.loop-k.k ≡ c.loop-part.part = in_part c.loop-part.part c.loop-k.k c.loop-part-test.true low high in
-    let r = c.wide_parts-parts.ensures.value c.loop-part.part c.loop-part-test.true ∙ ap (coefficients_of c.args.old.now c.args.new.now) (sym here) in
-    let y = simp to_z-of_z at c.from.ensures in
-    let n = simp to_z-of_z at c.narrow_word.ensures in
-    let x = simp to_z-of_z at c.pass.ensures.value in
-    let vs = simp to_z-of_z at c.pass.ensures.sections in
-    simp to_z-of_z (run_next _ _ c.args.d.now _ _ _ _ c.from.result c.narrow_word.result _ (omega arith) c.loop-k.invariant r y (n ∙ x) vs c.pass.ensures.words)
+    let r = ap reverse (words_kept c.backwards-rs.result c.backwards-rs.ensures.words ∙ c.backwards-rs.ensures.value) ∙ reverse-reverse _ ∙
+    c.parts-parts.ensures.value c.loop-part.part c.loop-part-test.true ∙ ap (coefficients_of c.args.old.now c.args.new.now) (sym here) in
+    let fx : FitsSigned w16 (get_or c.args.d.now c.loop-k.k (pos 0)) = search rules in
+    let fp : FitsSigned w16 c.pass.result = search rules in
+    let y = to_z-of_z w16 (get_or c.args.d.now c.loop-k.k (pos 0)) fx in
+    let x = to_z-of_z w16 c.pass.result fp ∙ c.pass.ensures.value in
+    let vs = ap reverse (words_kept c.pass.new.vs c.pass.ensures.words) ∙ c.pass.ensures.sections in
+    record {
+      run = run_next _ _ c.args.d.now _ c.loop-k.s _ c.loop-k.k _ _ _ (omega arith) c.loop-k.invariant.run r y x vs;
+      words = words_passed _ c.pass.ensures.words;
+    }
 
 pub loop-part-preserved : goal.loop-part-preserved
 loop-part-preserved c =
     let follow : part_start c.loop-part.part ≤ part_start (c.loop-part.part + 1) = parts_follow c.loop-part.part c.loop-part-test.true in
     let end : c.loop-k.k ≡ part_start (c.loop-part.part + 1) = omega arith in
-    rw (← end) c.loop-k.invariant
+    record { run = rw (← end) c.loop-k.invariant.run; words = c.loop-k.invariant.words }
 
 pub returns-clause-samples : goal.returns-clause-samples
 returns-clause-samples c =
     let end = frame_ends c.loop-part.part c.loop-part-test.false in
-    (run_end _ _ c.args.d.now _ _ _ (omega arith) c.loop-part.invariant).0
+    (run_end _ _ c.args.d.now _ _ _ (omega arith) c.loop-part.invariant.run).0
 
 pub returns-clause-sections : goal.returns-clause-sections
 returns-clause-sections c =
     let end = frame_ends c.loop-part.part c.loop-part-test.false in
-    (run_end _ _ c.args.d.now _ _ _ (omega arith) c.loop-part.invariant).1
-
-pub returns-clause-words : goal.returns-clause-words
-returns-clause-words c = c.loop-part.invariant.words
+    let long : length c.loop-part.vs ≡ 8 = sym (length-map c.loop-part.vs (to_z w16)) ∙ c.loop-part.invariant.words.eight in
+    turned_back c.loop-part.vs long ∙ (run_end _ _ c.args.d.now _ _ _ (omega arith) c.loop-part.invariant.run).1

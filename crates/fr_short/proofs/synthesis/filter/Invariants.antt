@@ -1,9 +1,17 @@
+use Rattle.std.proofs.Common.{reverse, map, to_z, w16}
+use Rattle.trau_lanes.specs.Lanes.{EightWords}
 use Rattle.fr_short.specs.Reflection.{coefficients_at, part_start}
 use Rattle.fr_short.proofs.Runs.{Run}
 use Rattle.fr_short.proofs.synthesis.filter.Given as goal
 
 abbrev pub invariant-loop-part : goal.invariant-loop-part
-invariant-loop-part l = Run (coefficients_at l.old l.new) l.initial.vs l.d l.vs l.s (part_start l.part)
+invariant-loop-part l = record {
+  run : Run (coefficients_at l.old l.new) l.fn.sections l.d (reverse (map (to_z w16) l.vs)) l.s (part_start l.part);
+  words : EightWords (map (to_z w16) l.vs);
+}
 
 abbrev pub invariant-loop-k : goal.invariant-loop-k
-invariant-loop-k l = Run (coefficients_at l.old l.new) l.fn.vs l.d l.vs l.s l.k
+invariant-loop-k l = record {
+  run : Run (coefficients_at l.old l.new) l.fn.sections l.d (reverse (map (to_z w16) l.vs)) l.s l.k;
+  words : EightWords (map (to_z w16) l.vs);
+}

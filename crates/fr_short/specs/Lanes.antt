@@ -1,0 +1,8 @@
+-- One sample through the sections of synthesis in lanes, the last section in lane 0.
+use Rattle.std.specs.Prelude.{ℤ, List, [], ◌∷◌}
+use Rattle.trau_num.specs.Num.{sub_of}
+
+-- the words behind each section: each is the one before it, and the first the sample, less what is subtracted there
+abbrev pub words_behind : ℤ → List ℤ → List ℤ
+words_behind s [] = []
+words_behind s (m ∷ ms) = sub_of s m ∷ words_behind (sub_of s m) ms
