@@ -1,5 +1,6 @@
 -- What a farm keeps (this project's profile).
 use Rattle.std.specs.Prelude.{ℕ, List, [], replicate, slice_index_or}
+use Rattle.call_number.specs.declared.TheConstants.{NUMBERS}
 use Rattle.trau_io.specs.declared.line.Line.{Line}
 use Rattle.call_leg.specs.Counted.{no_counts}
 use Rattle.farm_rounds.specs.declared.call.Group.{Group}
@@ -24,4 +25,4 @@ tally_in tallies c = slice_index_or tallies c no_tally
 
 -- a farm with no call
 abbrev pub new_farm : FarmMemory
-new_farm = record { groups = []; live = []; tallies = replicate 4097 no_tally; failed = []; ended = 0 }
+new_farm = record { groups = []; live = []; tallies = replicate NUMBERS no_tally; failed = []; ended = 0 }

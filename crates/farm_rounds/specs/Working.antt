@@ -5,6 +5,7 @@ use Rattle.trau_io.specs.declared.ends.CallEnd.{CallEnd}
 use Rattle.trau_io.specs.declared.line.Line.{Line}
 use Rattle.trau_io.specs.Places.{place_of}
 use Rattle.std.specs.List.Sorted.{IsPermutation, IsNonDecreasingBy}
+use Rattle.call_number.specs.declared.TheConstants.{NUMBERS}
 use Rattle.round_lines.specs.Places.{name_of, failed_in_round}
 use Rattle.round_lines.specs.Seats.{SeatMemory}
 use Rattle.round_lines.specs.Rounds.{Rising, seat_at, call_at}
@@ -40,7 +41,7 @@ pub record IsRound (r : RoundMemory) : Type 0 where
   pub last : r.ended ≤ 4294967295
   pub groups : AreGroups r.ended (groups_from r.jobs)
   pub alive : AreLive r.live (groups_from r.jobs)
-  pub kept : length r.tallies ≡ 4097
+  pub kept : length r.tallies ≡ NUMBERS
 
 -- what is seen of a round that is worked
 pub record WorkedMemory : Type 0 where
@@ -59,7 +60,7 @@ pub record IsWorked (r : WorkedMemory) : Type 0 where
   pub groups : AreGroups r.ended (groups_from r.jobs)
   pub last : r.ended ≤ 4294967295
   pub alive : AreLive r.live (groups_from r.jobs)
-  pub kept : length r.tallies ≡ 4097
+  pub kept : length r.tallies ≡ NUMBERS
 
 -- a call goes on where its seat has all periods of the round
 abbrev pub goes_on_call : List SeatMemory → ℕ → Bool

@@ -2,6 +2,7 @@
 use Rattle.std.specs.Prelude.{◌≡◌, ℕ, false, ◌<◌, ◌==◌, if◌then◌else◌, Option, Some, None, List, [], ◌∷◌, ◌++◌, length, replicate}
 use Rattle.std.specs.List.{All}
 use Rattle.std.proofs.Common.{get_or, set}
+use Rattle.call_number.specs.declared.TheConstants.{NUMBERS}
 use Rattle.switchboard.specs.declared.act.Act.{Act}
 use Rattle.switchboard.specs.declared.act.Act.TheVariants as act
 use Rattle.call_number.specs.CallNumber.{IsCallNumber}
@@ -27,7 +28,7 @@ opening_of calls c = get_or calls c no_opening
 
 -- before the first order
 abbrev pub new_journal : JournalMemory
-new_journal = record { calls = replicate 4097 no_opening; ends = []; bridges = [] }
+new_journal = record { calls = replicate NUMBERS no_opening; ends = []; bridges = [] }
 
 -- the ends are those of calls
 abbrev pub HaveNumbers : List CallEnd → Type 0
@@ -35,7 +36,7 @@ HaveNumbers ends = All (λ e. IsCallNumber e.call) ends
 
 -- there is an entry for each call number, the places are those of bridges, and the ends those of calls, no two of one call
 pub record IsJournal (calls : List Opening) (ends : List CallEnd) (bridges : List BridgeNote) : Type 0 where
-  pub long : length calls ≡ 4097
+  pub long : length calls ≡ NUMBERS
   pub numbers : HaveNumbers ends
   pub apart : AreApart ends
   pub places : (c k : ℕ) → (opening_of calls c).bridge ≡ Some k → k < length bridges

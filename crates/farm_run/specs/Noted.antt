@@ -3,6 +3,7 @@
 use Rattle.std.specs.Prelude.{◌≡◌, ◌≢◌, ℕ, ◌<◌, ◌==◌, if◌then◌else◌, ◌≤◌, true, false, Bool, Some, is_some, IfSome, List, length}
 use Rattle.std.specs.List.{AllByRecursion}
 use Rattle.std.proofs.Common.{get_or}
+use Rattle.call_number.specs.declared.TheConstants.{NUMBERS}
 use Rattle.trau_io.specs.declared.ends.CallEnd.{CallEnd}
 use Rattle.switchboard.specs.declared.act.Span.{Span}
 use Rattle.switchboard.specs.declared.table.Bridge.{Bridge}
@@ -63,7 +64,7 @@ pub record EndsNoted (r : Run) (ended : ℕ → Bool) (ends : List CallEnd) : Ty
 -- Of each call that was opened, by its number, its first period and its latest bridge are noted, and of each bridge its
 -- two calls.
 pub record PlacesNoted (ds : List Done) (j : JournalMemory) : Type 0 where
-  pub long : length j.calls ≡ 4097
+  pub long : length j.calls ≡ NUMBERS
   pub numbers : (c : ℕ) → is_opened ds c ≡ true → IsCallNumber c
   pub from : (c : ℕ) → is_opened ds c ≡ true → (opening_of j.calls c).from ≡ start_of ds c
   pub latest : (c : ℕ) → is_opened ds c ≡ true → IsLatest (bridges ds) c (opening_of j.calls c).bridge

@@ -22,13 +22,14 @@ pub(crate) struct Journal {
 
 impl Model for Journal {
     ghost use Rattle.std.specs.Prelude.{◌≤◌, vec_capacity};
+    ghost use Rattle.call_number.specs.declared.TheConstants.{NUMBERS};
     ghost use Rattle.farm_run.specs.Journal.{JournalMemory, IsJournal};
 
     ghost Value = { JournalMemory };
 
     ghost view = { λ j. record { calls = j.calls.items; ends = j.ends.items; bridges = j.bridges.items } };
 
-    ghost invariant = { λ j. IsJournal j.calls.items j.ends.items j.bridges.items × (4097 ≤ vec_capacity j.ends) × (65536 ≤ vec_capacity j.bridges) };
+    ghost invariant = { λ j. IsJournal j.calls.items j.ends.items j.bridges.items × (NUMBERS ≤ vec_capacity j.ends) × (65536 ≤ vec_capacity j.bridges) };
 }
 
 // A run has at most so many orders, and each bridge is made by one.

@@ -1,8 +1,6 @@
 //! Truncation (GSM 06.10, sections 4.3.6 and 4.3.7).
 
-ghost use Rattle.std.specs.Prelude.{◌≡◌, FitsSigned, map};
-ghost use Rattle.std.specs.Int.{w16};
-ghost use Rattle.fr_short.specs.Deemphasis.{deemphasised, last_of};
+ghost use Rattle.std.specs.Prelude.{◌≡◌, map};
 ghost use Rattle.fr_decoder.specs.Deemphasis.{truncated};
 
 use trau_num::add;

@@ -42,7 +42,7 @@ pub(crate) fn search(wt: &[i16; 40], earlier: &[i16; 120]) -> Best
 
 /// The greatest of the correlations, or 0 where none is positive.
 ///
-/// Eight at a time; the last eight begin a place early, and so have seven that were there before.
+/// Eight at a time; the last eight begin seven places early, and so have seven that were there before.
 fn greatest(correlations: &[i32; 81]) -> i32
     requires { (k : ℕ) → FitsSigned w32 (entry correlations.now k) }
     ensures { IsTop correlations.now 81 result }
