@@ -264,7 +264,7 @@ run_told os pace first now b farm journal count (Ok report) end f number g = rec
       let knows = subst (λ (p : ℕ). IsKnown r p b farm.tallies journal) (sym run.same_periods) (end.known r (within r is) (least r run)) in
       g r r.periods (record { follows = here.follows; none_left = here.follows.so_far.ahead; clock = λ c o. refl; truly = knows.truly; noted = knows.noted }) run.same_periods (ap length run.same_orders ∙ sym number);
   short = λ r run. subst (λ (ls : List Line). FailedShort r pace.batch (is_listed ls)) (sym f) (end.short r (within r (over r run)) (least r run));
-  there = λ told. there_is os pace.periods (is_listed report.failed) first now (λ c s i. let octets = told c s i in let k = end.reads c s octets.0 i octets.1 in (octets.0, k.0, octets.1, k.1));
+  there = λ are told. there_is os pace.periods (is_listed report.failed) first now are (λ c s n i. let octets = told c s n i in let k = end.reads c s octets.0 i octets.1 in (octets.0, k.0, octets.1, k.1));
 }
   where
     over : (r : Run) → IsRunOver os pace.periods (is_listed report.failed) first now r → IsRunOver os pace.periods (is_listed farm.failed) first now r

@@ -55,7 +55,7 @@ cut_at os periods t b groups failed first now tells sides reads goes wrote = rec
       let e = run.same_periods in
       let is = subst (λ (p : ℕ). IsRunOver os p (is_listed failed) first now r) (sym e) run in
       fronts_at r t b groups failed first now (goes r is (omega (arith, e))) (wrote r is (omega (arith, e)));
-  there = λ told. there_is os periods (is_listed failed) first now (λ c s i. let octets = told c s i in let k = reads c s octets.0 i octets.1 in (octets.0, k.0, octets.1, k.1));
+  there = λ are told. there_is os periods (is_listed failed) first now are (λ c s n i. let octets = told c s n i in let k = reads c s octets.0 i octets.1 in (octets.0, k.0, octets.1, k.1));
 }
 
 -- **So is one that didn't begin.**
@@ -65,6 +65,6 @@ cut_first os periods lines = record {
   told = (tells_none lines).failures;
   sides = sides_none lines;
   reads = λ c s octets i e. (0, e);
-  there = λ told. there_is os periods (is_listed []) lines lines (λ c s i. let octets = told c s i in (octets.0, 0, octets.1, octets.1));
+  there = λ are told. there_is os periods (is_listed []) lines lines are (λ c s n i. let octets = told c s n i in (octets.0, 0, octets.1, octets.1));
   fronts = λ r run. record { out = λ c i. (0, Appends-nil (lines c Out).written); down = λ c i. (0, Appends-nil (lines c Down).written); others = λ c s none. refl };
 }

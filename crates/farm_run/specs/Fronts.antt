@@ -6,6 +6,7 @@ use Rattle.trau_io.specs.declared.line.Side.{Side}
 use Rattle.trau_io.specs.declared.line.Side.TheVariants.{Down, Out}
 use Rattle.trau_io.specs.Lines.{LineState}
 use Rattle.trau_orders.specs.declared.order.Order.{Order}
+use Rattle.trau_orders.specs.Lists.{AreOrders}
 use Rattle.farm_output.specs.Run.{Run}
 use Rattle.farm_output.specs.Lines.{out_of_call, down_of_call}
 use Rattle.farm_run.specs.Runs.{AreFailures, IsOpened, IsRunOver, AreTold, KeepsSides, ReadsOn}
@@ -32,5 +33,5 @@ pub record IsCutShort (orders : List Order) (periods : ℕ) (before now : ℕ �
   pub reads : ReadsOn before now
   -- each outgoing line holds a front of what the whole run over what the lines gave gives it ..
   pub fronts : (r : Run) → IsRunOver orders periods fails before now r → LeavesFronts r before now
-  -- .. and there is such a run wherever the lines tell what they hold
-  pub there : AreTold before → (r : Run) × IsRunOver orders periods fails before now r
+  -- .. and there is such a run of orders that are in range, wherever the lines tell what they hold
+  pub there : AreOrders orders → AreTold before → (r : Run) × IsRunOver orders periods fails before now r

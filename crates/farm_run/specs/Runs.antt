@@ -11,7 +11,9 @@ use Rattle.trau_io.specs.declared.ends.Cause.{Cause}
 use Rattle.trau_io.specs.declared.ends.Cause.TheVariants.{Closed, End, Fault, Limit}
 use Rattle.trau_io.specs.Lines.{LineState, Rose}
 use Rattle.trau_io.specs.Places.{place_of}
+use Rattle.call_number.specs.CallNumber.{IsCallNumber}
 use Rattle.trau_orders.specs.declared.order.Order.{Order}
+use Rattle.trau_orders.specs.Lists.{AreOrders}
 use Rattle.switchboard.specs.Calls.{opened_at}
 use Rattle.switchboard.specs.Ends.{start_of, end_of}
 use Rattle.farm_report.specs.View.{ReportView}
@@ -57,9 +59,9 @@ pub record KeepsSides (before now : ℕ → Side → LineState) : Type 0 where
 abbrev pub ReadsOn : (ℕ → Side → LineState) → (ℕ → Side → LineState) → Type 0
 ReadsOn before now = (c : ℕ) (s : Side) (octets : List ℕ) → IsIncoming s → (before c s).to_come ≡ Some octets → (k : ℕ) × ((now c s).to_come ≡ Some (drop k octets))
 
--- the incoming lines tell what they hold
+-- the incoming lines of all calls tell what they hold
 abbrev pub AreTold : (ℕ → Side → LineState) → Type 0
-AreTold lines = (c : ℕ) (s : Side) → IsIncoming s → (octets : List ℕ) × ((lines c s).to_come ≡ Some octets)
+AreTold lines = (c : ℕ) (s : Side) → IsCallNumber c → IsIncoming s → (octets : List ℕ) × ((lines c s).to_come ≡ Some octets)
 
 -- ---- the run of the definition: `fails` tells which lines failed in it
 
@@ -140,5 +142,5 @@ pub record Runs (orders : List Order) (pace : Pace) (before now : ℕ → Side �
   pub reports : (r : Run) → IsRunOver orders pace.periods (is_listed report.failed) before now r → report ≡ report_of r report.failed
   -- in this run each incoming line that failed did so short of what a round takes of it
   pub short : (r : Run) → IsRunOver orders pace.periods (is_listed report.failed) before now r → FailedShort r pace.batch (is_listed report.failed)
-  -- and there is such a run wherever the lines tell what they hold
-  pub there : AreTold before → (r : Run) × IsRunOver orders pace.periods (is_listed report.failed) before now r
+  -- and there is such a run of orders that are in range, wherever the lines tell what they hold
+  pub there : AreOrders orders → AreTold before → (r : Run) × IsRunOver orders pace.periods (is_listed report.failed) before now r

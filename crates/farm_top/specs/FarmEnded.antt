@@ -6,6 +6,7 @@ use Rattle.trau_io.specs.declared.line.Side.{Side}
 use Rattle.trau_io.specs.Lines.{LineState}
 use Rattle.trau_io.specs.Desks.{DeskState}
 use Rattle.trau_orders.specs.declared.order.Order.{Order}
+use Rattle.trau_orders.specs.Lists.{AreOrders}
 use Rattle.farm_output.specs.Run.{Run}
 use Rattle.farm_output.specs.Facts.{report_of}
 use Rattle.farm_report.specs.Lines.{report_text}
@@ -37,5 +38,5 @@ pub record RunEnded (orders : List Order) (s : Settings) (before now : ℕ → S
   pub all_read : desk'.to_come ≡ Some []
   -- an incoming line failed short of what its round takes of it
   pub short : (r : Run) → IsRunOver orders s.periods (is_listed failed) before now r → FailedShort r s.batch (is_listed failed)
-  -- there is such a run wherever the lines tell what they hold
-  pub there : AreTold before → (r : Run) × IsRunOver orders s.periods (is_listed failed) before now r
+  -- there is such a run of orders that are in range, wherever the lines tell what they hold
+  pub there : AreOrders orders → AreTold before → (r : Run) × IsRunOver orders s.periods (is_listed failed) before now r
