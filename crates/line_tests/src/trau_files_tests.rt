@@ -5,7 +5,7 @@ use std::{fs, io};
 use trau_files::{FileTrunk, StdDesk};
 use trau_io::{Desk, Line, Side, Trunk};
 
-// The lines of the tests are Up of call 4096, and Out and Pcm of call 9.
+// The lines of the tests are Up of call 4096 and Out of call 9.
 fn line(side: Side) -> Line {
     match side {
         Side::Up => Line { call: 4096, side },
@@ -89,7 +89,7 @@ fn done(rt: &HostRuntime, steps: &[Step]) -> usize {
     }
 }
 
-static FILES: [Step; 10] = [
+static FILES: [Step; 11] = [
     Step::Make("4096.up", &[1, 2, 3, 4, 5]),
     Step::Make("9.out", &[9; 9]),
     Step::Reads(Side::Up, 4, Some(4), [1, 2, 3, 4]),
@@ -99,12 +99,13 @@ static FILES: [Step; 10] = [
     Step::Writes(Side::Out, &[6], Some(1)),
     Step::Writes(Side::Out, &[7, 8], Some(2)),
     Step::Holds("9.out", &[6, 7, 8]),
-    Step::Reads(Side::Pcm, 1, None, [0; 4]),
+    Step::Remove("4096.up"),
+    Step::Reads(Side::Up, 1, None, [0; 4]),
 ];
 
 #[test]
 fn lines_are_files(rt: HostRuntime) {
-    assert_rows(&rt, done(&rt, &FILES), 10);
+    assert_rows(&rt, done(&rt, &FILES), 11);
 }
 
 static READS_IN_TURN: [Step; 7] = [
@@ -136,7 +137,7 @@ fn lines_are_written_in_turn(rt: HostRuntime) {
     assert_rows(&rt, done(&rt, &WRITES_IN_TURN), 5);
 }
 
-static REMOVED_FILES: [Step; 11] = [
+static REMOVED_FILES: [Step; 13] = [
     Step::Make("4096.up", &[1, 2, 3]),
     Step::Reads(Side::Up, 1, Some(1), [1, 0, 0, 0]),
     Step::Writes(Side::Out, &[7], Some(1)),
@@ -145,15 +146,17 @@ static REMOVED_FILES: [Step; 11] = [
     Step::Reads(Side::Up, 1, Some(1), [2, 0, 0, 0]),
     Step::Writes(Side::Out, &[8], Some(1)),
     Step::Reads(Side::Out, 1, None, [0; 4]),
+    Step::Reads(Side::Up, 1, None, [0; 4]),
     Step::Make("4096.up", &[4, 5, 6]),
-    Step::Reads(Side::Up, 1, Some(1), [3, 0, 0, 0]),
-    Step::Writes(Side::Out, &[8], Some(1)),
+    Step::Reads(Side::Up, 1, Some(1), [6, 0, 0, 0]),
+    Step::Writes(Side::Up, &[9], Some(1)),
+    Step::Writes(Side::Out, &[8], None),
 ];
 
-// A file that is open outlives its name; a file that isn't is looked for by its name.
+// The file that was used last is open and outlives its name; any other is looked for by its name.
 #[test]
 fn a_removed_file_goes_on_while_it_is_open(rt: HostRuntime) {
-    assert_rows(&rt, done(&rt, &REMOVED_FILES), 11);
+    assert_rows(&rt, done(&rt, &REMOVED_FILES), 13);
 }
 
 // Is interrupted before each call that moves anything.

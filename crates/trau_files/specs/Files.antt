@@ -1,5 +1,5 @@
 -- Lines as files: their names, and what is known of them (this project's profile).
-use Rattle.std.specs.Prelude.{◌≡◌, ◌⊎◌, ℕ, Bool, true, false, ◌+◌, ◌-◌, ◌^◌, min, List, ◌++◌, Option, Some, None, Result, Ok, Err, codes, decimal, slice_get, slice_set, slice_index_or}
+use Rattle.std.specs.Prelude.{◌≡◌, ℕ, ◌+◌, ◌-◌, ◌^◌, min, List, ◌++◌, Option, Some, None, Result, Ok, Err, codes, decimal, slice_get, slice_set}
 use Rattle.trau_io.specs.declared.line.Failed.{Failed}
 use Rattle.trau_io.specs.declared.line.Side.{Side}
 use Rattle.trau_io.specs.Lines.{LineState}
@@ -42,41 +42,41 @@ known_of (Some l) = state_of l
 abbrev pub states_of : List FileLine → ℕ → Side → LineState
 states_of lines call side = known_of (slice_get lines (place_of call side))
 
--- a line's file that is open, to be written or else to be read, and the octet at which it stands
+-- a line's file that is open, and the octet at which it stands
 pub record OpenLine : Type 0 where
   pub call : ℕ
   pub side : Side
-  pub is_written : Bool
   pub at : ℕ
 
--- an open file is this line's, is open for this, and stands at this octet
-abbrev pub StandsAt : Option OpenLine → ℕ → Side → Bool → ℕ → Type 0
-StandsAt file call side is_written at = file ≡ Some (record { call = call; side = side; is_written = is_written; at = at })
+-- the files that are open: the one that was read last, and the one that was written last
+pub record OpenFiles : Type 0 where
+  pub reading : Option OpenLine
+  pub writing : Option OpenLine
 
--- the line's file after a call at this octet with this answer: it stands behind the octets that were moved, and a fault closes it
-abbrev pub open_after : {E : Type 0} → ℕ → Side → Bool → ℕ → Result ℕ E → Option OpenLine
-open_after call side is_written at (Ok n) = Some (record { call = call; side = side; is_written = is_written; at = raised at n })
-open_after call side is_written at (Err e) = None
+-- an open file is this line's and stands at this octet
+abbrev pub StandsAt : Option OpenLine → ℕ → Side → ℕ → Type 0
+StandsAt file call side at = file ≡ Some (record { call = call; side = side; at = at })
 
--- at each seat the file stays open, or is closed
-abbrev pub OpenBefore : List (Option OpenLine) → List (Option OpenLine) → Type 0
-OpenBefore old new = (k : ℕ) → (slice_index_or new k None ≡ slice_index_or old k None) ⊎ (slice_index_or new k None ≡ None)
+-- the file that is open after a call at this octet of a line with this answer
+abbrev pub open_after : {E : Type 0} → ℕ → Side → ℕ → Result ℕ E → Option OpenLine
+open_after call side at (Ok n) = Some (record { call = call; side = side; at = raised at n })
+open_after call side at (Err e) = None
 
--- at each seat the file stays open, or is closed, or is this one now
-abbrev pub OpenAfter : List (Option OpenLine) → List (Option OpenLine) → Option OpenLine → Type 0
-OpenAfter old new this = (k : ℕ) → (slice_index_or new k None ≡ slice_index_or old k None) ⊎ (slice_index_or new k None ≡ None) ⊎ (slice_index_or new k None ≡ this)
-
--- all lines, and the files that are open, each in a seat
+-- all lines, and the files that are open
 pub record TrunkFiles : Type 0 where
   pub lines : List FileLine
-  pub files : List (Option OpenLine)
+  pub files : OpenFiles
 
--- a read of a line that stood so, with this answer: it took the line's next octets, and nothing else
-pub record TrunkReads (old new : TrunkFiles) (call : ℕ) (side : Side) (l : FileLine) (result : Result ℕ Failed) : Type 0 where
-  pub lines : new.lines ≡ slice_set old.lines (place_of call side) (after_read l result)
-  pub files : OpenAfter old.files new.files (open_after call side false l.read result)
+-- the trunk after a read of a line that stood so, with this answer: it took the line's next octets, and nothing else
+abbrev pub trunk_after_read : TrunkFiles → ℕ → Side → FileLine → Result ℕ Failed → TrunkFiles
+trunk_after_read t call side l result = record {
+  lines = slice_set t.lines (place_of call side) (after_read l result);
+  files = record t.files { reading = open_after call side l.read result };
+}
 
--- a write of a line that stood so, with this answer: it went behind the octets written before
-pub record TrunkWrites (old new : TrunkFiles) (call : ℕ) (side : Side) (l : FileLine) (result : Result ℕ Failed) : Type 0 where
-  pub lines : new.lines ≡ slice_set old.lines (place_of call side) (after_write l result)
-  pub files : OpenAfter old.files new.files (open_after call side true l.written result)
+-- the trunk after a write of a line that stood so, with this answer: it went behind the octets written before
+abbrev pub trunk_after_write : TrunkFiles → ℕ → Side → FileLine → Result ℕ Failed → TrunkFiles
+trunk_after_write t call side l result = record {
+  lines = slice_set t.lines (place_of call side) (after_write l result);
+  files = record t.files { writing = open_after call side l.written result };
+}
