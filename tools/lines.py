@@ -126,7 +126,7 @@ def gsm(words: argparse.Namespace, given: bytes) -> Made:
 # A-law octets and samples: to a Pcm line, and from an Out line
 
 WAV_LINEAR, WAV_ALAW, WAV_GSM, WAV_EXTENSIBLE = 1, 6, 0x31, 0xFFFE
-# A program that writes WAV to a pipe can't know the size and puts a great number in its place.
+# A program that writes WAV to a pipe can't know the size and puts a great number there.
 WAV_LEAST_UNKNOWN_SIZE = 0x7FFF0000
 
 
@@ -364,7 +364,7 @@ def lost(frame: str) -> str:
 
 
 def paused(frame: str, number: int, begins: bool) -> str:
-    """A speech frame's place in a pause: a silence descriptor where the pause begins and where TAF is 1, else unusable."""
+    """What a speech frame becomes in a pause: a silence descriptor where the pause begins and where TAF is 1, else unusable."""
     taf = number % FRAMES_FROM_TAF_TO_TAF == FRAMES_FROM_TAF_TO_TAF - 1
     describes = begins or taf
     control = replace(
@@ -610,12 +610,12 @@ def parser() -> argparse.ArgumentParser:
         "--sid",
         type=Frames.parse,
         metavar="FRAMES",
-        help="put a pause in the place of speech frames: a silence descriptor at its start and at each 24th frame (23, 47"
+        help="put a pause instead of speech frames: a silence descriptor at its start and at each 24th frame (23, 47"
         " and so on), which has TAF 1, and unusable frames between. A descriptor has the spectrum of the frame that it"
         " replaces, and the least of its block maxima",
     )
     added.add_argument("--drop", type=Frames.parse, metavar="FRAMES", help="mark speech frames as unusable: BFI 1")
-    added.add_argument("--zero", type=Frames.parse, metavar="FRAMES", help="put 320 zeros in the place of speech frames")
+    added.add_argument("--zero", type=Frames.parse, metavar="FRAMES", help="put 320 zeros instead of speech frames")
     added.add_argument(
         "--align",
         type=align_word,

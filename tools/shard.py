@@ -337,7 +337,7 @@ def parser() -> argparse.ArgumentParser:
     cutting.add_argument(
         "--orders", type=Path, metavar="FILE", help="the orders of the run (default FOLDER/orders.txt)"
     )
-    cutting.add_argument("--copy", action="store_true", help="copies of the incoming lines in place of links")
+    cutting.add_argument("--copy", action="store_true", help="copies of the incoming lines instead of links")
     cutting.add_argument(
         "--trau", default=program_beside(), metavar="PROGRAM", help="the program (default %(default)s)"
     )
