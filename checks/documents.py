@@ -126,7 +126,7 @@ def run(session, folder):
 
 
 def headings(text):
-    """What a link calls each heading: its words in small letters without signs, and a hyphen for each space."""
+    """The name that a link has for each heading: its words in small letters without signs, and a hyphen for each space."""
     shown = re.sub(r"^(```+|~~~+).*?^\1\s*$", "", text, flags=re.M | re.S)
     return {re.sub(r"[^\w -]", "", words).lower().replace(" ", "-") for words in re.findall(r"^#+ (.+?) *$", shown, re.M)}
 

@@ -102,7 +102,7 @@ grep -q '^order 10 refused 3 call 1 partner 2$' "$work/cut.report" || {
     failed=1
 }
 
-# Lines that fail: a missing one, a folder in place of an outgoing one; an older outgoing line, and orders without a last LF.
+# Lines that fail: a missing one, a folder instead of an outgoing one; an older outgoing line, and orders without a last LF.
 trouble() {
     rm "$1/3.pcm"
     mkdir "$1/1.down"

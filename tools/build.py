@@ -5,7 +5,7 @@ It says on standard error how far it is: on a terminal one line that moves, else
 toolchain says goes to out/trau.log in the program's crate. Status 0: the program is proved and built. Status 1: it isn't, and
 the log's last lines are shown. Status 2: nothing was begun, since something is missing.
 
-The script `trau` calls it where the program isn't built, or a source changed since; by hand that is `./trau </dev/null`.
+The script `trau` starts it where the program isn't built, or a source changed since; by hand that is `./trau </dev/null`.
 """
 
 from __future__ import annotations

@@ -126,7 +126,7 @@ def gsm(words: argparse.Namespace, given: bytes) -> Made:
 # A-law octets and samples: to a Pcm line, and from an Out line
 
 WAV_LINEAR, WAV_ALAW, WAV_GSM, WAV_EXTENSIBLE = 1, 6, 0x31, 0xFFFE
-# A program that writes WAV to a pipe can't know the size and puts a great number in its place.
+# A program that writes WAV to a pipe can't know the size and puts a great number there.
 WAV_LEAST_UNKNOWN_SIZE = 0x7FFF0000
 
 
@@ -364,7 +364,7 @@ def lost(frame: str) -> str:
 
 
 def paused(frame: str, number: int, begins: bool) -> str:
-    """A speech frame's place in a pause: a silence descriptor where the pause begins and where TAF is 1, else unusable."""
+    """What a speech frame becomes in a pause: a silence descriptor where the pause begins and where TAF is 1, else unusable."""
     taf = number % FRAMES_FROM_TAF_TO_TAF == FRAMES_FROM_TAF_TO_TAF - 1
     describes = begins or taf
     control = replace(
@@ -463,36 +463,35 @@ def damage(words: argparse.Namespace, given: bytes) -> Made:
 # The words of the command line
 
 
-def parser() -> argparse.ArgumentParser:
-    """The parser of the words."""
-    program = trau_frames.Words(
-        description=__doc__, formatter_class=argparse.RawDescriptionHelpFormatter, allow_abbrev=False
+def command(
+    commands: argparse._SubParsersAction, made: Command, given: str, new: str, told: str, example: str
+) -> argparse.ArgumentParser:
+    """A command that is carried out by `made`, from a file of the kind `given`, or from so many PERIODS, to one of the
+    kind `new`."""
+    added = commands.add_parser(
+        made.__name__,
+        help=f"{given} to {new}",
+        description=told,
+        epilog=f"example: lines.py {made.__name__} {example}",
+        formatter_class=argparse.RawDescriptionHelpFormatter,
+        allow_abbrev=False,
     )
-    commands = program.add_subparsers(metavar="COMMAND", required=True, parser_class=trau_frames.Words)
+    added.set_defaults(made=made)
+    if given == "PERIODS":
+        added.set_defaults(given=None)
+        added.add_argument("periods", type=periods_word, metavar=given, help="how many periods of 20 ms")
+    else:
+        added.add_argument("given", type=Path, metavar=given, help="the file that is read, or - for standard input")
+    added.add_argument(
+        "new", type=Path, metavar=new, help="the file that is written, or - for standard output; never the one that is read"
+    )
+    return added
 
-    def command(made: Command, given: str, new: str, told: str, example: str) -> argparse.ArgumentParser:
-        """A command that is carried out by `made`, from a file of the kind `given`, or from so many PERIODS, to one of the
-        kind `new`."""
-        added = commands.add_parser(
-            made.__name__,
-            help=f"{given} to {new}",
-            description=told,
-            epilog=f"example: lines.py {made.__name__} {example}",
-            formatter_class=argparse.RawDescriptionHelpFormatter,
-            allow_abbrev=False,
-        )
-        added.set_defaults(made=made)
-        if given == "PERIODS":
-            added.set_defaults(given=None)
-            added.add_argument("periods", type=periods_word, metavar=given, help="how many periods of 20 ms")
-        else:
-            added.add_argument("given", type=Path, metavar=given, help="the file that is read, or - for standard input")
-        added.add_argument(
-            "new", type=Path, metavar=new, help="the file that is written, or - for standard output; never the one that is read"
-        )
-        return added
 
+def add_uplink(commands: argparse._SubParsersAction) -> None:
+    """Adds the command `uplink`: frames of libgsm to an uplink."""
     added = command(
+        commands,
         uplink,
         "IN.gsm",
         "OUT.up",
@@ -509,7 +508,11 @@ def parser() -> argparse.ArgumentParser:
         help="DTXd of all frames: whether the downlink may send silence descriptors (default 0, it may not)",
     )
 
+
+def add_gsm(commands: argparse._SubParsersAction) -> None:
+    """Adds the command `gsm`: a downlink to frames of libgsm."""
     added = command(
+        commands,
         gsm,
         "IN.down",
         "OUT.gsm",
@@ -532,7 +535,11 @@ def parser() -> argparse.ArgumentParser:
         help="what is written for an idle frame: nothing (default), or a frame of silence, which keeps the time",
     )
 
+
+def add_pcm(commands: argparse._SubParsersAction) -> None:
+    """Adds the command `pcm`: a WAV file or raw A-law to a Pcm line."""
     added = command(
+        commands,
         pcm,
         "IN",
         "OUT.pcm",
@@ -542,7 +549,11 @@ def parser() -> argparse.ArgumentParser:
     )
     added.add_argument("--raw", action="store_true", help="the file has A-law octets and nothing else")
 
+
+def add_sound(commands: argparse._SubParsersAction) -> None:
+    """Adds the command `sound`: an Out line to a WAV file."""
     added = command(
+        commands,
         sound,
         "IN.out",
         "OUT",
@@ -553,7 +564,11 @@ def parser() -> argparse.ArgumentParser:
     kind.add_argument("--alaw", action="store_true", help="the samples of the WAV file are A-law, as on the line")
     kind.add_argument("--raw", action="store_true", help="A-law octets and nothing else")
 
+
+def add_idle(commands: argparse._SubParsersAction) -> None:
+    """Adds the command `idle`: an idle Pcm line."""
     command(
+        commands,
         idle,
         "PERIODS",
         "OUT.pcm",
@@ -561,7 +576,11 @@ def parser() -> argparse.ArgumentParser:
         "312 7.pcm",
     )
 
+
+def add_pcap(commands: argparse._SubParsersAction) -> None:
+    """Adds the command `pcap`: a capture to a line."""
     added = command(
+        commands,
         pcap,
         "IN.pcap",
         "OUT",
@@ -582,7 +601,11 @@ def parser() -> argparse.ArgumentParser:
         help="the line begins when this stream began, by the times of the capture: so the lines of a call keep step",
     )
 
+
+def add_capture(commands: argparse._SubParsersAction) -> None:
+    """Adds the command `capture`: lines to a capture."""
     added = command(
+        commands,
         capture,
         "LINE",
         "OUT.pcap",
@@ -595,7 +618,11 @@ def parser() -> argparse.ArgumentParser:
         "--also", type=Path, action="append", default=[], metavar="LINE", help="a further line, as a stream of its own"
     )
 
+
+def add_damage(commands: argparse._SubParsersAction) -> None:
+    """Adds the command `damage`: a damaged uplink."""
     added = command(
+        commands,
         damage,
         "IN.up",
         "OUT.up",
@@ -610,12 +637,11 @@ def parser() -> argparse.ArgumentParser:
         "--sid",
         type=Frames.parse,
         metavar="FRAMES",
-        help="put a pause in the place of speech frames: a silence descriptor at its start and at each 24th frame (23, 47"
-        " and so on), which has TAF 1, and unusable frames between. A descriptor has the spectrum of the frame that it"
-        " replaces, and the least of its block maxima",
+        help="put a pause instead of speech frames: a silence descriptor at its start and at each 24th frame (23, 47"
+        " and so on), which has TAF 1, and unusable frames between. A descriptor has the frame's spectrum and its least block maximum",
     )
     added.add_argument("--drop", type=Frames.parse, metavar="FRAMES", help="mark speech frames as unusable: BFI 1")
-    added.add_argument("--zero", type=Frames.parse, metavar="FRAMES", help="put 320 zeros in the place of speech frames")
+    added.add_argument("--zero", type=Frames.parse, metavar="FRAMES", help="put 320 zeros instead of speech frames")
     added.add_argument(
         "--align",
         type=align_word,
@@ -633,6 +659,16 @@ def parser() -> argparse.ArgumentParser:
         help="put so many ones before a frame or, with a minus, leave out so many bits before it, up to 320; may stand more"
         " than once. Ones then fill the line up to a whole period",
     )
+
+
+def parser() -> argparse.ArgumentParser:
+    """The parser of the words."""
+    program = trau_frames.Words(
+        description=__doc__, formatter_class=argparse.RawDescriptionHelpFormatter, allow_abbrev=False
+    )
+    commands = program.add_subparsers(metavar="COMMAND", required=True, parser_class=trau_frames.Words)
+    for add in (add_uplink, add_gsm, add_pcm, add_sound, add_idle, add_pcap, add_capture, add_damage):
+        add(commands)
     return program
 
 

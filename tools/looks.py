@@ -1,4 +1,4 @@
-"""How the periods of a call look in a picture: what they are called, and their colours, of a palette that colour-blind people
+"""How the periods of a call look in a picture: their names, and their colours, of a palette that colour-blind people
 tell apart; and columns of periods, where these are narrower than can be drawn."""
 
 from __future__ import annotations

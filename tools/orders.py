@@ -11,37 +11,29 @@ import re
 import sys
 from dataclasses import dataclass, field
 from pathlib import Path
-from typing import Dict, List, NamedTuple, Optional, Sequence, Tuple
+from typing import Dict, List, Optional, Sequence, Tuple
 
 import trau_frames
-from run_texts import MOST_CALLS, MOST_LEVEL, MOST_ORDER_OCTETS, MOST_ORDERS, MOST_PERIODS
+from run_texts import (
+    FORMS,
+    MODES,
+    MOST_CALLS,
+    MOST_LEVEL,
+    MOST_ORDER_OCTETS,
+    MOST_ORDERS,
+    MOST_PERIODS,
+    Order,
+    read_order,
+)
 from trau_frames import FRAME_OCTETS, PCM_OCTETS, Refusal
 
 BYTE_ORDER_MARK = b"\xef\xbb\xbf"
 
-# What the words behind an order's name are.
-FORMS = {
-    "open": ("call",),
-    "close": ("call",),
-    "bridge": ("call", "call"),
-    "unbridge": ("call",),
-    "level": ("call", "level"),
-    "dtx": ("call", "mode"),
-}
+# The words behind an order's name, as the documents show them; of the others C alone.
 SHOWN = {"bridge": "C D", "level": "C V", "dtx": "C on|off|uplink"}
-MODES = ("on", "off", "uplink")
 
 
 # The grammar
-
-
-class Order(NamedTuple):
-    """An order that is in the grammar, with the line's number."""
-
-    line: int
-    stamp: int
-    name: str
-    calls: Tuple[int, ...]
 
 
 def grouped(number: int) -> str:
@@ -140,9 +132,7 @@ class Text:
             if faults:
                 text.faults[number] = faults
             else:
-                _, name, *given = words.split(" ")
-                calls = [int(word) for kind, word in zip(FORMS[name], given) if kind == "call"]
-                text.orders.append(Order(number, int(stamp), name, tuple(calls)))
+                text.orders.append(read_order(number, words, int(stamp)))
         return text
 
 
@@ -186,18 +176,18 @@ class Board:
     def refusal(self, order: Order) -> Optional[Tuple[int, str]]:
         """The refusal of an order, by its number and in words, or None."""
         first = order.calls[0]
-        if order.name == "open":
+        if order.verb == "open":
             if first in self.ends:
                 return 1, f"call {first} is open since line {self.used[first]}"
             return (7, f"call {first} was opened by line {self.used[first]}") if first in self.used else None
-        if order.name == "bridge" and first == order.calls[1]:
+        if order.verb == "bridge" and first == order.calls[1]:
             return 5, f"a bridge of call {first} with itself"
         for call in order.calls:
             if call not in self.ends:
                 return 2, f"call {call} " + ("has ended" if call in self.used else "isn't open")
-        if order.name == "unbridge":
+        if order.verb == "unbridge":
             return None if first in self.partners else (4, f"call {first} isn't bridged")
-        if order.name == "bridge":
+        if order.verb == "bridge":
             for call in order.calls:
                 if call in self.partners:
                     return 3, f"call {call} is bridged with call {self.partners[call]}"
@@ -213,15 +203,15 @@ class Board:
         if refusal:
             return refusal
         first = order.calls[0]
-        if order.name == "open":
-            self.used[first] = order.line
+        if order.verb == "open":
+            self.used[first] = order.number
             self.ends[first] = None if self.folder is None else order.stamp + periods_of(self.folder, first)
-        elif order.name == "bridge":
+        elif order.verb == "bridge":
             first, second = order.calls
             self.partners.update({first: second, second: first})
-        elif order.name in ("unbridge", "close"):
+        elif order.verb in ("unbridge", "close"):
             self.part(first, order.stamp)
-            if order.name == "close":
+            if order.verb == "close":
                 del self.ends[first]
         return None
 
@@ -238,9 +228,9 @@ def warnings_of(orders: Sequence[Order], folder: Optional[Path]) -> List[Tuple[i
     for order in orders:
         refusal = board.execute(order)
         if refusal:
-            found.append((order.line, f"the run will refuse it ({refusal[0]}): {refusal[1]}"))
-        elif order.name == "open" and folder is not None:
-            found += [(order.line, f"there is no {name}: the line will fail") for name in missing_lines(folder, order)]
+            found.append((order.number, f"the run will refuse it ({refusal[0]}): {refusal[1]}"))
+        elif order.verb == "open" and folder is not None:
+            found += [(order.number, f"there is no {name}: the line will fail") for name in missing_lines(folder, order)]
     return found
 
 

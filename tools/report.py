@@ -266,6 +266,8 @@ def sync(words: argparse.Namespace) -> Told:
     """Where an uplink lost sync."""
     frames = trau_frames.read_file(words.frames) if words.frames else None
     trace = sync_losses.trace_of(words.uplink, trau_frames.read_file(words.uplink), frames)
+    if not trace.frames:
+        raise Refusal(f"{words.uplink}: has no frame at any bit; is it an uplink?")
     rows = [row_of_loss(loss) for loss in trace.losses]
     whole = {
         "periods": trace.periods,
@@ -330,8 +332,8 @@ def parser() -> argparse.ArgumentParser:
             allow_abbrev=False,
         )
         form = added.add_mutually_exclusive_group()
-        form.add_argument("--json", dest="form", action="store_const", const=as_json, help="JSON in place of a table")
-        form.add_argument("--csv", dest="form", action="store_const", const=as_csv, help="CSV in place of a table")
+        form.add_argument("--json", dest="form", action="store_const", const=as_json, help="JSON instead of a table")
+        form.add_argument("--csv", dest="form", action="store_const", const=as_csv, help="CSV instead of a table")
         added.set_defaults(made=made, form=as_text)
         return added
 

@@ -34,7 +34,7 @@ class Heard(enum.Enum):
     """What a period of an uplink gives to be heard, or handed over."""
 
     SPEECH = "speech"
-    LOST = "lost"  # made in place of lost speech
+    LOST = "lost"  # made instead of lost speech
     NOISE = "noise"  # comfort noise, in a pause
     QUIET = "quiet"  # nothing: before the first frame that can be used, and after an idle frame
 

@@ -66,8 +66,9 @@ FORMS = {
     "bridge": ("call", "call"),
     "unbridge": ("call",),
     "level": ("call", "level"),
-    "dtx": ("call", "switch"),
+    "dtx": ("call", "mode"),
 }
+MODES = ("on", "off", "uplink")
 
 
 class NoOrder(Exception):
@@ -87,7 +88,7 @@ def is_value(word: str, form: str) -> bool:
     """Whether a word is a level, or a setting of discontinuous transmission."""
     if form == "level":
         return is_whole_number(word) and int(word) <= MOST_LEVEL
-    return word in ("on", "off", "uplink")
+    return word in MODES
 
 
 def read_order(number: int, line: str, least_stamp: int) -> Order:
@@ -178,7 +179,7 @@ class Span:
 
 
 class FailedLine(NamedTuple):
-    """A line that failed: its call, and the place of its side among the four."""
+    """A line that failed: its call, and the index of its side among the four."""
 
     call: int
     side: int

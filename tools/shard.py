@@ -311,15 +311,8 @@ def program_beside() -> str:
     return str(beside) if beside.is_file() else "trau"
 
 
-def parser() -> argparse.ArgumentParser:
-    """The words of the command line."""
-    words = trau_frames.Words(
-        description=__doc__,
-        epilog="example: shard.py split farm cut --parts 4; parallel sh {}/run.sh ::: cut/[0-9]*; shard.py merge cut >report.txt",
-        formatter_class=argparse.RawDescriptionHelpFormatter,
-        allow_abbrev=False,
-    )
-    commands = words.add_subparsers(dest="command", required=True, metavar="COMMAND")
+def add_split(commands: argparse._SubParsersAction) -> None:
+    """Adds the command `split`."""
     cutting = commands.add_parser(
         "split",
         help="makes a folder with the parts of a farm",
@@ -337,7 +330,7 @@ def parser() -> argparse.ArgumentParser:
     cutting.add_argument(
         "--orders", type=Path, metavar="FILE", help="the orders of the run (default FOLDER/orders.txt)"
     )
-    cutting.add_argument("--copy", action="store_true", help="copies of the incoming lines in place of links")
+    cutting.add_argument("--copy", action="store_true", help="copies of the incoming lines instead of links")
     cutting.add_argument(
         "--trau", default=program_beside(), metavar="PROGRAM", help="the program (default %(default)s)"
     )
@@ -347,6 +340,10 @@ def parser() -> argparse.ArgumentParser:
     cutting.add_argument("--batch", type=number_within(1, 250), metavar="N", help="as of trau run")
     cutting.add_argument("--periods", type=number_within(1, MOST_PERIODS), metavar="N", help="as of trau run")
     cutting.set_defaults(carried_out=split)
+
+
+def add_merge(commands: argparse._SubParsersAction) -> None:
+    """Adds the command `merge`."""
     joining = commands.add_parser(
         "merge",
         help="joins the reports of the parts",
@@ -358,6 +355,19 @@ def parser() -> argparse.ArgumentParser:
     )
     joining.add_argument("cut", type=Path, metavar="CUT", help="the folder that `split` made")
     joining.set_defaults(carried_out=merge)
+
+
+def parser() -> argparse.ArgumentParser:
+    """The words of the command line."""
+    words = trau_frames.Words(
+        description=__doc__,
+        epilog="example: shard.py split farm cut --parts 4; parallel sh {}/run.sh ::: cut/[0-9]*; shard.py merge cut >report.txt",
+        formatter_class=argparse.RawDescriptionHelpFormatter,
+        allow_abbrev=False,
+    )
+    commands = words.add_subparsers(dest="command", required=True, metavar="COMMAND")
+    add_split(commands)
+    add_merge(commands)
     return words
 
 

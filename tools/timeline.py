@@ -24,6 +24,7 @@ from run_texts import MOST_CALLS, MOST_PERIODS
 from trau_frames import Refusal
 
 MOST_FULL_ROWS = 40
+PICTURES = (".svg", ".html")  # how the names of pictures end
 
 
 def calls_named(word: str) -> List[int]:
@@ -96,6 +97,8 @@ def inputs_of(asked: argparse.Namespace, run: Run) -> List[Path]:
 
 def draw(asked: argparse.Namespace) -> Run:
     """Draws the picture, and gives the run."""
+    if asked.picture.suffix not in PICTURES:
+        raise Refusal(f"{asked.picture}: a picture's name ends with {' or '.join(PICTURES)}")
     run = Run.read(asked.folder, asked.orders, asked.report, asked.calls)
     first = run.start() if asked.first is None else asked.first
     last = max(first + 1, run.end()) if asked.last is None else asked.last

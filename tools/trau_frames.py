@@ -318,7 +318,7 @@ def write_file(path: Path, content: bytes, inputs: Iterable[Path]) -> None:
 
 
 def replace_file(path: Path, content: bytes, inputs: Iterable[Path]) -> None:
-    """Puts a whole file in the place of what is there."""
+    """Puts a whole file over what is there."""
     target = Path(os.path.realpath(path))
     part = target.with_name(f".{target.name}.{os.getpid()}.part")
     if target.exists():

@@ -31,7 +31,7 @@ SCRIPTS = ("trau", "demo")
 TOOLS = ("lines.py", "orders.py", "report.py", "shard.py", "timeline.py", "watch.py")
 BESIDE_TOOLS = (
     *("captures.py", "levels.py", "looks.py", "picture.py", "picture_page.py", "run_lines.py", "run_texts.py", "sync_losses.py"),
-    *("trau_frames.py", "trau_words.py", "help.txt", "README.md"),
+    *("trau_frames.py", "trau_words.py", "help.txt", "README.md", "farm.svg"),
 )
 DOCUMENTS = ("CLUSTER.md", "FILES.md", "OPERATORS.md", "INSTALL.md", "commands")
 EXAMPLES = re.compile(r"README\.md|7\.up|farm/(\d+\.(up|pcm)|orders\.txt|wanted/[\w.]+)")
@@ -80,10 +80,18 @@ def proved_program() -> bytes:
     return trau_frames.read_file(Path(os.environ.get("TRAU_PROGRAM") or PROGRAM))
 
 
-def kit() -> str:
-    """The kit that the program was proved with."""
+def is_given() -> bool:
+    """Whether TRAU_PROGRAM names another program than the one that is proved and built here."""
+    given = os.environ.get("TRAU_PROGRAM")
+    return bool(given) and Path(given).resolve() != PROGRAM.resolve()
+
+
+def origin() -> str:
+    """The kit that the program was proved with; of a given program nobody here knows whether it was proved."""
+    if is_given():
+        return "with a program that TRAU_PROGRAM named"
     try:
-        return subprocess.run(["rt", "version"], capture_output=True, text=True, check=True).stdout.strip()
+        return "proved with " + subprocess.run(["rt", "version"], capture_output=True, text=True, check=True).stdout.strip()
     except (OSError, subprocess.CalledProcessError):
         raise Refusal("the Rattle toolchain's command rt isn't on the path, so its kit isn't known") from None
 
@@ -99,7 +107,7 @@ def members(state: State) -> Dict[str, Member]:
     found = {name: Member(trau_frames.read_file(TOP / name), True) for name in SCRIPTS}
     found["install"] = Member(trau_frames.read_file(TOP / "tools" / "install"), True)
     found["trau_program"] = Member(proved_program(), True)
-    found["VERSION"] = Member(f"trau {state.commit} of {state.date}, proved with {kit()}\n".encode())
+    found["VERSION"] = Member(f"trau {state.commit} of {state.date}, {origin()}\n".encode())
     found["trau.1"] = Member(trau_words.man_page(f"trau {state.commit}", state.date).encode())
     found["trau.bash"] = Member(trau_words.completion().encode())
     for name in (*TOOLS, *BESIDE_TOOLS):

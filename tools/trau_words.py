@@ -82,7 +82,7 @@ ORDERS = (
     Order("S bridge C D", "frames of the two calls are handed over without decoding"),
     Order("S unbridge C", "they are handed over no more"),
     Order("S level C V", "frames whose peak is below this level count as such without speech"),
-    Order("S dtx C on|off|uplink", "silence descriptors in place of frames without speech: always, never, or as the uplink asks"),
+    Order("S dtx C on|off|uplink", "silence descriptors instead of frames without speech: always, never, or as the uplink asks"),
 )
 
 STATUSES = (

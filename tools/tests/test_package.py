@@ -2,11 +2,14 @@
 
 import hashlib
 import os
+import re
 import subprocess
 import tarfile
 import unittest
 
 from support import EXAMPLES, TOOLS, TOP, InFolder
+
+import trau_package
 
 # A path without the toolchain, and without anything that is installed by hand.
 PLAIN_PATH = "/usr/bin:/bin"
@@ -62,7 +65,7 @@ class Package(InFolder):
         package = self.unpack(self.make())
         status, out, err = self.said(package / "trau", "--version")
         self.assertEqual((status, out), (1, "usage\n"))
-        self.assertRegex(err, r"^trau [0-9a-f]+(-changed)? of \d{4}-\d\d-\d\d, proved with rattle-kit-")
+        self.assertRegex(err, r"^trau [0-9a-f]+(-changed)? of \d{4}-\d\d-\d\d, " + re.escape(trau_package.origin()))
         status, out, err = self.said(package / "demo")
         self.assertEqual((status, err), (0, ""))
         self.assertIn("octet for octet what is recorded in examples/farm/wanted", out)

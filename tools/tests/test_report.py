@@ -216,6 +216,10 @@ class Sync(Told):
         self.assertEqual((loss["match"], loss["slip"], loss["found"], loss["misses"]), (None, None, None, 3))
         self.assertEqual([len(miss["sync_bits"]) for miss in loss["broken"]], [19, 19, 19])
 
+    def test_no_frame(self):
+        line = self.path("9.up", bytes(80))
+        self.assert_refused(report.main, ["sync", line], "has no frame at any bit; is it an uplink?")
+
     def test_frames_text(self):
         text = "".join(f"{place * 320} good\n" for place in range(20)) + "frames 20 left 3\n"
         told = self.path("frames.txt", text.encode())

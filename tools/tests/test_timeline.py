@@ -407,8 +407,13 @@ class Pictures(InFolder):
             self.assertEqual((status, out, err), (0, "timeline calls 1 from 5 to 5 bridges 0 shifts 0 refused 0\n", ""))
 
     def test_never_an_input(self):
-        for name in ("1.up", "orders.txt", "report.txt"):
-            self.assert_refused(timeline.main, [self.folder, self.folder / name], "is an input")
+        shutil.copy(self.folder / "orders.txt", self.folder / "orders.svg")
+        words = [self.folder, self.folder / "orders.svg", "--orders", self.folder / "orders.svg"]
+        self.assert_refused(timeline.main, words, "is an input")
+
+    def test_names_of_pictures(self):
+        for name in ("1.up", "orders.txt", "run.png", "run"):
+            self.assert_refused(timeline.main, [self.folder, self.folder / name], "a picture's name ends with .svg or .html")
 
 
 if __name__ == "__main__":
