@@ -4,6 +4,7 @@ use Rattle.std.specs.Prelude.{All, nat_le}
 use Rattle.std.proofs.lemmas.Bool.{le-leb, lt-leb, cases_eq, cases_lt}
 use Rattle.std.proofs.lemmas.List.{length-set, get_or-set_same, get_or-set_other}
 use Rattle.std.proofs.lemmas.Option.{slice_get-get_or}
+use Rattle.call_number.specs.declared.TheConstants.{NUMBERS}
 use Rattle.trau_io.specs.declared.line.Side.{Side}
 use Rattle.trau_io.specs.declared.line.Side.TheVariants.{Up, Pcm, Down, Out}
 use Rattle.trau_io.specs.Places.{number_of_side, place_of}
@@ -18,7 +19,7 @@ small Pcm = omega arith
 small Down = omega arith
 small Out = omega arith
 
-within : (call : ℕ) (s : Side) → call ≤ 4096 → place_of call s < 16388
+within : (call : ℕ) (s : Side) → call < NUMBERS → place_of call s < 16388
 within call s h = omega (arith, h, small s)
 
 other_call : (c call : ℕ) (s side : Side) → c ≢ call → place_of c s ≢ place_of call side
@@ -148,13 +149,13 @@ module _ (seed call periods : ℕ) (before : List MemoryLine) (low : 1 ≤ call)
       past_out (place_of call Down) (omega (arith, high)) (λ e. absurd (omega (arith, e))) ∙ get-same with_pcm (place_of call Down) (at Down) (omega (arith, high, long_pcm))
   here Out = get-same with_down (place_of call Out) (at Out) (omega (arith, high, long_down))
 
-  elsewhere : (c : ℕ) (s : Side) → c ≤ 4096 → c ≢ call → slice_get with_out (place_of c s) ≡ slice_get before (place_of c s)
+  elsewhere : (c : ℕ) (s : Side) → c < NUMBERS → c ≢ call → slice_get with_out (place_of c s) ≡ slice_get before (place_of c s)
   elsewhere c s h other =
       let inside : place_of c s < 16388 = within c s h in
       past_out (place_of c s) inside (other_call c call s Out other) ∙ past_down (place_of c s) inside (other_call c call s Down other)
       ∙ past_pcm (place_of c s) inside (other_call c call s Pcm other) ∙ past_up (place_of c s) inside (other_call c call s Up other)
 
-  each : (c : ℕ) (s : Side) → c ≤ 4096 → slice_get with_out (place_of c s) ≡ Some (drilled_line seed call periods c s)
+  each : (c : ℕ) (s : Side) → c < NUMBERS → slice_get with_out (place_of c s) ≡ Some (drilled_line seed call periods c s)
   unfolding at
   each c s h = elim (cases_eq c call) [
     | inl same ↦

@@ -1,6 +1,7 @@
 -- The lines of a drill, as lines in memory (this project's profile).
-use Rattle.std.specs.Prelude.{◌≡◌, ℕ, ◌*◌, ◌≤◌, nat_le, ◌&&◌, if◌then◌else◌, List, [], length, replicate, Some, slice_get}
+use Rattle.std.specs.Prelude.{◌≡◌, ℕ, ◌*◌, ◌<◌, nat_le, ◌&&◌, if◌then◌else◌, List, [], length, replicate, Some, slice_get}
 use Rattle.std.specs.List.{range_with_len, flat_map}
+use Rattle.call_number.specs.declared.TheConstants.{NUMBERS}
 use Rattle.trau_io.specs.declared.line.Side.{Side}
 use Rattle.trau_io.specs.declared.line.Side.TheVariants.{Up, Pcm, Down, Out}
 use Rattle.trau_io.specs.declared.places.TheConstants.{PLACES}
@@ -20,9 +21,9 @@ up_line seed call periods = flat_map (up_octets seed call) (range_with_len 0 per
 unfoldable pub pcm_line : ℕ → ℕ → ℕ → List ℕ
 pcm_line seed call periods = flat_map (pcm_octets seed call) (range_with_len 0 periods)
 
--- the four lines of a call. The outgoing ones have room for its periods, 40 and 160 octets each. The incoming ones have
--- room for one octet, though nobody writes to them: a line that has room left never refused an octet. No operation on a
--- line is cut or made to fail
+-- the four lines of a call. No operation on them is cut or made to fail. The outgoing ones have room for its periods, 40
+-- and 160 octets each. Nobody writes to the incoming ones; they have room for one octet, so that of any of the four that
+-- isn't full one can say: it has room left, so it never failed
 abbrev pub line_of_call : ℕ → ℕ → ℕ → Side → MemoryLine
 line_of_call seed call periods Up = new_line (up_line seed call periods) [] [] 1
 line_of_call seed call periods Pcm = new_line (pcm_line seed call periods) [] [] 1
@@ -38,4 +39,4 @@ drilled_line seed calls periods call side =
 -- these are all lines of a drill
 pub record AreDrilled (seed calls periods : ℕ) (lines : List MemoryLine) : Type 0 where
   pub count : length lines ≡ PLACES
-  pub each : (call : ℕ) (side : Side) → call ≤ 4096 → slice_get lines (place_of call side) ≡ Some (drilled_line seed calls periods call side)
+  pub each : (call : ℕ) (side : Side) → call < NUMBERS → slice_get lines (place_of call side) ≡ Some (drilled_line seed calls periods call side)

@@ -1,8 +1,8 @@
 //! Lines and orders that are made from a number, to try a farm at any size without a recording, and uplinks as no base
 //! station sends them.
 //!
-//! Right below the top call: `drill` makes the lines of a whole farm in memory, and the text of its orders, for
-//! `farm_top` to run. `hostile` makes the Up line of one call.
+//! `drill` makes the lines of a whole farm, and the text of its orders, for a run over lines in memory. `hostile` makes the
+//! Up line of one call.
 //!
 //! `draws` has the generator, `frames` the octets of a frame, `periods` those of a call's period, `lines` the lines of a
 //! call, `orders` the text, `farm` the whole; `hostile_line` the hostile uplinks.

@@ -1,6 +1,7 @@
 //! The lines of a drilled call.
 
 ghost use Rattle.std.specs.Prelude.{◌≡◌, ◌-◌, ◌≤◌, [], slice_set, IfOk, OnOk};
+ghost use Rattle.call_number.specs.CallNumber.{IsCallNumber};
 ghost use Rattle.trau_io.specs.Places.{place_of};
 ghost use Rattle.trau_io.specs.Memory.{new_line};
 ghost use Rattle.farm_drill.specs.Lines.{up_line, pcm_line, AreDrilled};
@@ -46,20 +47,17 @@ fn draw_lines(alloc: Global, seed: u32, call: u32, periods: u32) -> Result<Incom
 fn set_line(
     trunk: &mut MemTrunk,
     alloc: Global,
-    line: Line,
+    call: u32,
+    side: Side,
     contents: Vec<u8>,
     room: u32,
 ) -> Result<(), AllocError>
-    ensures { OnOk result (trunk.new ≡ slice_set trunk.old (place_of line.call line.side) (new_line contents.items [] [] room)) }
+    requires { IsCallNumber call }
+    ensures { OnOk result (trunk.new ≡ slice_set trunk.old (place_of call side) (new_line contents.items [] [] room)) }
 {
-    trunk.set(
-        alloc,
-        line,
-        contents,
-        Vec::new(alloc),
-        Vec::new(alloc),
-        room,
-    )
+    let line = Line { call, side };
+    let (cuts, fails) = (Vec::new(alloc), Vec::new(alloc));
+    trunk.set(alloc, line, contents, cuts, fails, room)
 }
 
 /// Sets the four lines of a call, where those of the calls before it are set.
@@ -76,34 +74,9 @@ pub(crate) fn set_call(
     ensures { OnOk result (AreDrilled seed (call - 1) periods trunk.old → AreDrilled seed call periods trunk.new) }
 {
     let Incoming { up, pcm } = draw_lines(alloc, seed, call, periods)?;
-    set_line(
-        trunk,
-        alloc,
-        Line {
-            call,
-            side: Side::Up,
-        },
-        up,
-        1,
-    )?;
-    set_line(
-        trunk,
-        alloc,
-        Line {
-            call,
-            side: Side::Pcm,
-        },
-        pcm,
-        1,
-    )?;
-    let down = Line {
-        call,
-        side: Side::Down,
-    };
-    set_line(trunk, alloc, down, Vec::new(alloc), DOWN_OCTETS * periods)?;
-    let out = Line {
-        call,
-        side: Side::Out,
-    };
-    set_line(trunk, alloc, out, Vec::new(alloc), OUT_OCTETS * periods)
+    let (down, out) = (DOWN_OCTETS * periods, OUT_OCTETS * periods);
+    set_line(trunk, alloc, call, Side::Up, up, 1)?;
+    set_line(trunk, alloc, call, Side::Pcm, pcm, 1)?;
+    set_line(trunk, alloc, call, Side::Down, Vec::new(alloc), down)?;
+    set_line(trunk, alloc, call, Side::Out, Vec::new(alloc), out)
 }

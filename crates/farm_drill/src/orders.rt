@@ -14,7 +14,7 @@ fn put_opening(text: &mut String, call: u32) -> Result<(), AllocError>
     write!(text, "{stamp} open {call}\n")
 }
 
-// The order that the call's bridge begins, if the call is one whose bridge is ordered.
+// The order that begins the call's bridge, if one is ordered.
 fn put_bridging(text: &mut String, periods: u32, call: u32) -> Result<(), AllocError>
     requires { call ≤ 256 }
     ensures { OnOk result (string_bytes text.new ≡ string_bytes text.old ++ text_of (map (bridging periods) (filter is_bridged (call ∷ [])))) }
@@ -25,7 +25,7 @@ fn put_bridging(text: &mut String, periods: u32, call: u32) -> Result<(), AllocE
     write!(text, "{} bridge {call} {}\n", periods / 4, call + 1)
 }
 
-// And the order that it ends.
+// And the one that ends it.
 fn put_unbridging(text: &mut String, periods: u32, call: u32) -> Result<(), AllocError>
     ensures { OnOk result (string_bytes text.new ≡ string_bytes text.old ++ text_of (map (unbridging periods) (filter is_bridged (call ∷ [])))) }
 {
@@ -45,7 +45,7 @@ fn put_openings(text: &mut String, calls: u32) -> Result<(), AllocError>
     Ok(())
 }
 
-// The orders that bridges of calls 1 to `count` begin.
+// The orders that begin the bridges of calls 1 to `count`.
 fn put_bridgings(text: &mut String, count: u32, periods: u32) -> Result<(), AllocError>
     requires { count ≤ 256 }
     ensures { OnOk result (string_bytes text.new ≡ string_bytes text.old ++ text_of (map (bridging periods) (filter is_bridged (range_with_len 1 count)))) }
@@ -56,7 +56,7 @@ fn put_bridgings(text: &mut String, count: u32, periods: u32) -> Result<(), Allo
     Ok(())
 }
 
-// And those that they end.
+// And those that end them.
 fn put_unbridgings(text: &mut String, count: u32, periods: u32) -> Result<(), AllocError>
     requires { count ≤ 256 }
     ensures { OnOk result (string_bytes text.new ≡ string_bytes text.old ++ text_of (map (unbridging periods) (filter is_bridged (range_with_len 1 count)))) }
