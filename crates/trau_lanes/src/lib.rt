@@ -34,16 +34,19 @@ pub fn minus_lanes(a: i16x8, b: i16x8) -> i16x8
 }
 
 /// The rounded product of each factor and word.
+///
+/// It is the high half of the doubled factor's product, with one word up or down for what doubling wraps off, and with the
+/// highest bit of the low half. Where a factor stays in a loop the compiler doubles it once.
 pub fn scaled_lanes(factors: i16x8, values: i16x8) -> i16x8
     requires factors { EightFactors factors }
     requires values { EightWords values }
     ensures { result ≡ zip2 mult_r_of factors values }
 {
-    let high = ((factors.cast::<i32>() * values.cast::<i32>()) >> i32x8::splat(16)).cast::<i16>();
-    let low = factors * values;
-    let half = (low >> i16x8::splat(1)) & i16x8::splat(32767);
-    let carry = ((half + i16x8::splat(8192)) >> i16x8::splat(14)) & i16x8::splat(3);
-    plus_lanes(high, high + carry)
+    let twice = factors + factors;
+    let over = ((factors >> i16x8::splat(14)) + i16x8::splat(1)) >> i16x8::splat(1);
+    let high = ((twice.cast::<i32>() * values.cast::<i32>()) >> i32x8::splat(16)).cast::<i16>();
+    let carry = ((twice * values) >> i16x8::splat(15)) & i16x8::splat(1);
+    high + over * values + carry
 }
 
 /// The lanes moved up by one place, with a word in the first.
