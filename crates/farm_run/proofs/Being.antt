@@ -2,7 +2,7 @@
 use Rattle.std.proofs.Common.{◌≡◌, refl, sym, ap, subst, ◌∙◌, ℕ, suc, ◌<◌, ◌-◌, Bool, true, false, Option, Some, is_some, Result, Ok, Err, List, [], ◌∷◌, ◌++◌, length, take, drop, get_or, inl, inr, arith, append-nil}
 use Rattle.std.specs.Prelude.{unwrap_or, option_map, find, filter, nat_lt, if◌then◌else◌, IfOk}
 use Rattle.std.specs.List.{AllByRecursion}
-use Rattle.std.proofs.lemmas.Bool.{cases_lt, cases_eq, eqb-true}
+use Rattle.std.proofs.lemmas.Bool.{cases_Bool, cases_lt, eqb-true}
 use Rattle.std.proofs.lemmas.List.{length-drop, take-append-drop, take_all, drop_all}
 use Rattle.trau_io.specs.declared.line.Side.{Side}
 use Rattle.trau_io.specs.declared.line.Side.TheVariants.{Up, Pcm}
@@ -87,7 +87,7 @@ named c (Err r) h e = cc
 
 some_named : (c : ℕ) (ds : List Done) → AllByRecursion IsDoneInRange ds → is_some (opened_at c ds) ≡ true → IsCallNumber c
 some_named c [] h o = cc
-some_named c (d ∷ ds) h o = elim (cases_eq (is_this c (opened_by d.result))) [
+some_named c (d ∷ ds) h o = elim (cases_Bool (is_this c (opened_by d.result))) [
   | inl e ↦ named c d.result h.0 e
   | inr e ↦ some_named c ds h.1 (ap (λ (b : Bool). is_some (option_map (λ (d : Done). d.order.stamp) (if b then Some d else find (λ (d : Done). is_this c (opened_by d.result)) ds))) (sym e) ∙ o)
 ]
