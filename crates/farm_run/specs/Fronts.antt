@@ -23,7 +23,7 @@ pub record LeavesFronts (r : Run) (before now : ℕ → Side → LineState) : Ty
   -- the lines of all other calls are as they were, their counts included
   pub others : (c : ℕ) (s : Side) → (IsOpened r c → ⊥) → now c s ≡ before c s
 
--- A run of these orders that want of memory cut short. It has no report, so these clauses tell which lines failed.
+-- A run of these orders that want of memory cut short. Its report isn't told, so these clauses tell which lines failed.
 pub record IsCutShort (orders : List Order) (periods : ℕ) (before now : ℕ → Side → LineState) : Type 0 where
   -- the lines that failed
   pub fails : ℕ → Side → Bool
