@@ -34,7 +34,7 @@ DISK_OF_THE_PROGRAM = 300_000_000
 MEMORY_OF_A_CHECK = 2_500_000_000
 
 # How long it takes from nothing (docs/INSTALL.md).
-TIME = "some 12 minutes on four processors, and 18 on two"
+TIME = "some 15 minutes on four processors, and 20 on two"
 
 KILLED = re.compile(r"failed \(-9\)")
 UNPROVED = re.compile(r"^\w+ \S+: (not proved|no proof)|^error")
