@@ -14,9 +14,19 @@ pub(crate) fn loud() -> Params {
     )
 }
 
+// One with each block maximum 4.
+pub(crate) fn low() -> Params {
+    let p = loud();
+    Params::new(p.larc, p.nc, p.bc, p.mc, [4; 4], p.xmc)
+}
+
 fn up(kind: Kind, class: Class, taf: bool) -> UpFrame {
+    up_with(kind, class, taf, &loud())
+}
+
+fn up_with(kind: Kind, class: Class, taf: bool, p: &Params) -> UpFrame {
     let mut d = [0; 260];
-    loud().to_bits(&mut d);
+    p.to_bits(&mut d);
     UpFrame {
         kind,
         class,
@@ -35,6 +45,7 @@ enum Coming {
     Good,
     GoodBetween,
     Sid,
+    LowSid,
     Invalid,
     InvalidBetween,
     Bad,
@@ -46,6 +57,7 @@ enum Coming {
 fn frame(coming: Coming) -> Option<UpFrame> {
     let (kind, class, taf) = match coming {
         Coming::Nothing => return None,
+        Coming::LowSid => return Some(up_with(Kind::Speech, Class::Sid, true, &low())),
         Coming::Good => (Kind::Speech, Class::Good, true),
         Coming::GoodBetween => (Kind::Speech, Class::Good, false),
         Coming::Sid => (Kind::Speech, Class::Sid, true),
@@ -211,4 +223,46 @@ fn noise_falls_from_the_second_missed_descriptor(rt: HostRuntime) {
     assert!(rt; fade(&mut rx, &[4, 0, 0, 0, 0, 0, 0, 0, 0, 0, 0, 0, 0]));
     assert!(rt; are_silence(&mut rx));
     assert!(rt; gives(&mut rx, Coming::GoodBetween, Effective::Speech(loud())));
+}
+
+static DOWN: [(Coming, u8); 10] = [
+    (Coming::Sid, 20),
+    (Coming::LowSid, 18),
+    (Coming::Nothing, 16),
+    (Coming::Nothing, 14),
+    (Coming::Nothing, 12),
+    (Coming::Nothing, 10),
+    (Coming::Nothing, 8),
+    (Coming::Nothing, 6),
+    (Coming::Nothing, 4),
+    (Coming::Nothing, 4),
+];
+
+static TURNED: [(Coming, u8); 11] = [
+    (Coming::Sid, 20),
+    (Coming::LowSid, 18),
+    (Coming::Nothing, 16),
+    (Coming::Sid, 16),
+    (Coming::Nothing, 17),
+    (Coming::Nothing, 17),
+    (Coming::Nothing, 18),
+    (Coming::Nothing, 18),
+    (Coming::Nothing, 19),
+    (Coming::Nothing, 19),
+    (Coming::Nothing, 20),
+];
+
+// A new descriptor is approached in eight steps from where the noise stands, and from itself once the level has fallen.
+#[test]
+fn noise_moves(rt: HostRuntime) {
+    let fallen = [
+        (Coming::Sid, 20),
+        (Coming::Missed, 20),
+        (Coming::Missed, 16),
+        (Coming::LowSid, 4),
+        (Coming::Sid, 6),
+    ];
+    assert!(rt; are_made(&mut Rx::new(7), &DOWN));
+    assert!(rt; are_made(&mut Rx::new(7), &TURNED));
+    assert!(rt; are_made(&mut Rx::new(7), &fallen));
 }

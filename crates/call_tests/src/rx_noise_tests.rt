@@ -1,5 +1,5 @@
-use crate::rx_handler_tests::loud;
-use rx_noise::noise_frame;
+use crate::rx_handler_tests::{loud, low};
+use rx_noise::{mix, noise_frame};
 use trau_num::Draw;
 use trau_params::{Params, silence};
 
@@ -23,4 +23,32 @@ fn noise_falls_to_silence(rt: HostRuntime) {
     assert!(rt; has_values(&first) && has_draws(&first));
     assert!(rt; noise_frame(&sid, 1, &mut draw).xmaxc == [16; 4]);
     assert!(rt; noise_frame(&sid, 17, &mut draw) == silence());
+}
+
+// A descriptor whose ratios, lags and maxima are all other ones.
+fn other() -> Params {
+    let p = loud();
+    Params::new(
+        [9, 2, 0, 31, 12, 6, 0, 7],
+        [40; 4],
+        p.bc,
+        p.mc,
+        [0, 63, 21, 20],
+        p.xmc,
+    )
+}
+
+// Each ratio and each maximum is the floor of its mean, and the lags are the new ones'.
+#[test]
+fn a_descriptor_is_approached(rt: HostRuntime) {
+    let first = mix(&loud(), &other(), 1);
+    assert!(rt;
+        first.larc == [2, 2, 2, 7, 5, 6, 6, 0]
+            && first.xmaxc == [17, 25, 20, 20]
+            && first.nc == [40; 4]
+    );
+    let fifth = mix(&loud(), &other(), 5);
+    assert!(rt; fifth.larc == [6, 2, 1, 20, 9, 6, 2, 4] && fifth.xmaxc == [7, 46, 20, 20]);
+    assert!(rt; mix(&loud(), &other(), 8) == other());
+    assert!(rt; mix(&low(), &low(), 3) == low());
 }

@@ -2,3 +2,4 @@ mod Rows
 pub mod Steps
 mod Places
 mod Runs
+mod Moving

@@ -1,14 +1,17 @@
 -- One more period of a history is one step of the table of states.
-use Rattle.std.proofs.Common.{◌≡◌, refl, ap, ◌∙◌, sym, ℕ, ◌+◌, min, suc, Bool, true, false, List, [], ◌∷◌, length, arith}
+use Rattle.std.proofs.Common.{◌≡◌, refl, ap, ◌∙◌, sym, ℕ, ◌+◌, ◌≤◌, min, suc, Bool, true, false, if◌then◌else◌, List, [], ◌∷◌, length, ◌⊎◌, inl, inr, arith}
 use Rattle.std.specs.Prelude.{◌==◌}
 use Rattle.std.proofs.lemmas.Grind.{common_steps}
 use Rattle.std.proofs.Math.Path.{fun_ext}
+use Rattle.trau_params.specs.Fields.{Fields}
+use Rattle.rx_noise.specs.Mix.{mix_of}
+use Rattle.rx_noise.proofs.Mixing.{mix_of-one}
 use Rattle.rx_muting.specs.Draws.{state_after, draw_of, draws_from}
 use Rattle.rx_muting.proofs.Numbered.{draw_of-state_after, state_after-state_after}
 use Rattle.rx_handler.specs.Heard.{Heard, Good, Sid, Idle, Lost}
-use Rattle.rx_handler.specs.Origin.{Origin, frame_of, draws_of, EffectiveFields}
-use Rattle.rx_handler.specs.Past.{Anchor, NoAnchor, AtGood, AtSid, anchor_of, one_more, missed_in, periods_of_fall, origin_from, drawn, effective_of}
-use Rattle.rx_handler.specs.Table.{RxState, Speech, Noise, RxMemory, missed_after, fall_after, state_after_loss, next_state, origin_by, received, state_at, Stands}
+use Rattle.rx_handler.specs.Origin.{Origin, NoiseFrame, frame_of, draws_of, EffectiveFields}
+use Rattle.rx_handler.specs.Past.{Anchor, NoAnchor, AtGood, AtSid, anchor_of, one_more, missed_in, periods_of_fall, moved, start_from, old_of, origin_from, origin_of, drawn, effective_of}
+use Rattle.rx_handler.specs.Table.{RxState, Speech, Noise, RxMemory, missed_after, fall_after, state_after_loss, state_after_sid, next_state, origin_by, received, first_step, step_of, state_from, state_at, Stands}
 
 missed_more : (missed : Bool) (since : List Heard) → min (missed_in (Lost missed ∷ since)) 2 ≡ missed_after (min (missed_in since) 2) missed
 missed_more true since = let e : missed_in (Lost true ∷ since) ≡ suc (missed_in since) = refl in omega arith
@@ -19,28 +22,81 @@ fall_more : (missed : Bool) (since : List Heard) →
 unfolding periods_of_fall
 fall_more missed since = grind (arith, common_steps)
 
-loss_more : (missed : Bool) (a : Anchor) → state_at (one_more (Lost missed) a) ≡ state_after_loss (state_at a) missed
-loss_more missed NoAnchor = refl
-loss_more missed (AtGood p since) = ap (Speech p) (let e : min (suc (length since)) 17 ≡ min (min (length since) 17 + 1) 17 = omega arith in e)
-loss_more missed (AtSid q since) =
+loss_more : (missed : Bool) (old : Fields → Fields) (step : ℕ) (a : Anchor) →
+    state_from old (min (step + 1) 8) (one_more (Lost missed) a) ≡ state_after_loss (state_from old step a) missed
+loss_more missed old step NoAnchor = refl
+loss_more missed old step (AtGood p since) = ap (Speech p) (let e : min (suc (length since)) 17 ≡ min (min (length since) 17 + 1) 17 = omega arith in e)
+loss_more missed old step (AtSid q since) =
     let count = missed_more missed since in
     let fall = fall_more missed since in
-    ap (λ k. Noise q k (min (periods_of_fall (Lost missed ∷ since)) 17)) count ∙
-    ap (λ f. Noise q (missed_after (min (missed_in since) 2) missed) f) (fall ∙ ap (λ k. fall_after k (min (periods_of_fall since) 17)) count)
+    ap (λ k. Noise (old q) q (min (step + 1) 8) k (min (periods_of_fall (Lost missed ∷ since)) 17)) count ∙
+    ap (λ f. Noise (old q) q (min (step + 1) 8) (missed_after (min (missed_in since) 2) missed) f) (fall ∙ ap (λ k. fall_after k (min (periods_of_fall since) 17)) count)
 
-pub state-more : (y : Heard) (past : List Heard) → state_at (anchor_of (y ∷ past)) ≡ next_state (state_at (anchor_of past)) y
-unfolding anchor_of periods_of_fall
+-- ---- the step of the table
+
+-- the step is the one by numbers, or the descriptor is approached from itself
+abbrev Near : (Fields → Fields) → ℕ → Anchor → Type 0
+Near old step NoAnchor = Unit {0}
+Near old step (AtGood p since) = Unit {0}
+Near old step (AtSid q since) = (step ≡ min (length since + 1) 8) ⊎ ((old q ≡ q) × (step ≤ 8))
+
+near_first : (q : Fields) (a : Anchor) (old : Fields → Fields) → Near (start_from a old) (first_step a) (AtSid q [])
+near_first q NoAnchor old = inr (refl, omega arith)
+near_first q (AtGood p since) old = inr (refl, omega arith)
+near_first q (AtSid r since) old = inl refl
+
+near_more : (missed : Bool) (old : Fields → Fields) (step : ℕ) (a : Anchor) → Near old step a → Near old (min (step + 1) 8) (one_more (Lost missed) a)
+near_more missed old step NoAnchor n = tt
+near_more missed old step (AtGood p since) n = tt
+near_more missed old step (AtSid q since) n = elim n [
+  | inl e ↦ inl (let f : min (step + 1) 8 ≡ min (suc (length since) + 1) 8 = omega arith in f)
+  | inr s ↦ inr (s.0, omega arith)
+]
+
+near : (past : List Heard) → Near (λ q. old_of past q) (step_of past) (anchor_of past)
+unfolding anchor_of old_of step_of
+near [] = tt
+near (Good p ∷ past) = tt
+near (Sid q ∷ past) = near_first q (anchor_of past) (λ r. old_of past r)
+near (Idle ∷ past) = tt
+near (Lost missed ∷ past) = near_more missed (λ q. old_of past q) (step_of past) (anchor_of past) (near past)
+
+-- so the noise stands where it does by numbers
+moved_same : (old q : Fields) (step : ℕ) (since : List Heard) → (step ≡ min (length since + 1) 8) ⊎ ((old ≡ q) × (step ≤ 8)) → mix_of old q step ≡ moved old q since
+moved_same old q step since n = elim n [
+  | inl e ↦ ap (mix_of old q) e
+  | inr s ↦
+      let e = s.0 in
+      rw e (mix_of-one q step s.1 ∙ sym (mix_of-one q (min (length since + 1) 8) (omega arith)))
+]
+
+-- ---- one period more
+
+-- a fall that has begun has begun up to 17
+begun_same : (fall : ℕ) → (min fall 17 == 0) ≡ (fall == 0)
+begun_same fall = grind (arith, common_steps)
+
+sid_more : (q : Fields) (a : Anchor) (old : Fields → Fields) (step : ℕ) → Near old step a →
+    Noise (start_from a old q) q (first_step a) 0 0 ≡ state_after_sid (state_from old step a) q
+sid_more q NoAnchor old step n = refl
+sid_more q (AtGood p since) old step n = refl
+sid_more q (AtSid r since) old step n =
+    ap (λ base. Noise (if periods_of_fall since == 0 then base else q) q 1 0 0) (sym (moved_same (old r) r step since n)) ∙
+    ap (λ b. Noise (if b then mix_of (old r) r step else q) q 1 0 0) (sym (begun_same (periods_of_fall since)))
+
+pub state-more : (y : Heard) (past : List Heard) → state_at (y ∷ past) ≡ next_state (state_at past) y
+unfolding anchor_of periods_of_fall old_of step_of
 state-more (Good p) past = refl
-state-more (Sid q) past = refl
+state-more (Sid q) past = sid_more q (anchor_of past) (λ r. old_of past r) (step_of past) (near past)
 state-more Idle past = refl
-state-more (Lost missed) past = loss_more missed (anchor_of past)
+state-more (Lost missed) past = loss_more missed (λ q. old_of past q) (step_of past) (anchor_of past)
 
 -- the frame of a period is made from the same by its anchor and by the state after it
-origin_same : (a : Anchor) → origin_by (state_at a) ≡ origin_from a
-origin_same NoAnchor = refl
-origin_same (AtGood p []) = refl
-origin_same (AtGood p (y ∷ since)) = let e : (min (suc (length since)) 17 == 0) ≡ false = grind arith in rw e
-origin_same (AtSid q since) = refl
+origin_same : (old : Fields → Fields) (step : ℕ) (a : Anchor) → Near old step a → origin_by (state_from old step a) ≡ origin_from old a
+origin_same old step NoAnchor n = refl
+origin_same old step (AtGood p []) n = refl
+origin_same old step (AtGood p (y ∷ since)) n = let e : (min (suc (length since)) 17 == 0) ≡ false = grind arith in rw e
+origin_same old step (AtSid q since) n = ap (λ base. NoiseFrame base (min (periods_of_fall since) 17)) (moved_same (old q) q step since n)
 
 -- the frames of a source that has come this far are those by the numbers of all draws
 from_here : (origin : Origin) (call first : ℕ) → frame_of origin (draw_of (state_after call first)) ≡ frame_of origin (draws_from call first)
@@ -51,9 +107,9 @@ pub received_more : (call : ℕ) (past : List Heard) (memory : RxMemory) (y : He
     received memory y ≡ (answer, after) → Stands call past memory → Stands call (y ∷ past) after × (answer ≡ effective_of call (y ∷ past))
 unfolding received drawn effective_of
 received_more call past memory y answer after step stands =
-    let origin : Origin = origin_from (anchor_of (y ∷ past)) in
-    let state : next_state memory.state y ≡ state_at (anchor_of (y ∷ past)) = ap (λ s. next_state s y) stands.state ∙ sym (state-more y past) in
-    let same : origin_by (next_state memory.state y) ≡ origin = ap origin_by state ∙ origin_same (anchor_of (y ∷ past)) in
+    let origin : Origin = origin_of (y ∷ past) in
+    let state : next_state memory.state y ≡ state_at (y ∷ past) = ap (λ s. next_state s y) stands.state ∙ sym (state-more y past) in
+    let same : origin_by (next_state memory.state y) ≡ origin = ap origin_by state ∙ origin_same (λ q. old_of (y ∷ past) q) (step_of (y ∷ past)) (anchor_of (y ∷ past)) (near (y ∷ past)) in
     let source : memory.source ≡ state_after call (drawn past) = stands.source in
     let frame : frame_of (origin_by (next_state memory.state y)) (draw_of memory.source) ≡ frame_of origin (draws_from call (drawn past)) =
     ap (λ o. frame_of o (draw_of memory.source)) same ∙ ap (λ r. frame_of origin (draw_of r)) source ∙ from_here origin call (drawn past) in

@@ -1,9 +1,11 @@
 -- The effective frame of each period of a call, by looking back over what was heard in its periods, numbered from 0
 -- (this project's profile, where GSM 06.11, 06.12 and 06.31 leave it open).
-use Rattle.std.specs.Prelude.{ℕ, ◌+◌, ◌-◌, zero, suc, min, Bool, true, false, if◌then◌else◌, ◌==◌, Option, Some, None, List, map, filter, length, slice_get, slice_index_or}
+use Rattle.std.specs.Prelude.{◌≡◌, ℕ, ◌+◌, ◌-◌, zero, suc, min, Bool, true, false, if◌then◌else◌, ◌==◌, Option, Some, None, List, map, filter, length, slice_get, slice_index_or}
 use Rattle.std.specs.List.{range_with_len}
 use Rattle.std.specs.Option.{option_map_or}
+use Rattle.trau_params.specs.Fields.{Fields}
 use Rattle.rx_muting.specs.Draws.{draws_from}
+use Rattle.rx_noise.specs.Mix.{mix_of}
 use Rattle.rx_handler.specs.Heard.{Heard, Good, Sid, Idle, Lost}
 use Rattle.rx_handler.specs.Origin.{Origin, NoFrame, GoodFrame, LostFrame, NoiseFrame, draws_of, frame_of, EffectiveFields}
 
@@ -34,10 +36,33 @@ missed_since heard g k = filter (λ i. is_missed (heard i)) (range_with_len (g +
 unfoldable pub fall_at : (ℕ → Heard) → ℕ → ℕ → ℕ
 fall_at heard g k = option_map_or (λ t. min (k - t + 1) 17) (slice_get (missed_since heard g k) 1) 0
 
+-- where the noise stands in period k that approaches descriptor q of period g from `old`: a step further in each period
+abbrev pub approached : Fields → Fields → ℕ → ℕ → Fields
+approached old q g k = mix_of old q (min (k - g + 1) 8)
+
+-- from where a descriptor q that comes after period k is approached, where the latest anchor not after k is period g and
+-- was heard as this: from the noise of period k, if that has one whose level hasn't begun to fall, and else from itself
+abbrev pub start_after : (ℕ → Heard) → ℕ → (Fields → Fields) → Fields → ℕ → Heard → Fields
+start_after heard k old q g (Good p) = q
+start_after heard k old q g (Sid r) = if fall_at heard g k == 0 then approached (old r) r g k else q
+start_after heard k old q g Idle = q
+start_after heard k old q g (Lost missed) = q
+
+-- from where descriptor q is approached in period k, where q is the latest anchor not after k
+unfoldable pub old_at : (ℕ → Heard) → ℕ → Fields → Fields
+old_at heard zero q = q
+old_at heard (suc k) q =
+    if is_anchor (heard (suc k)) then option_map_or (λ g. start_after heard k (λ r. old_at heard k r) q g (heard g)) (latest_anchor heard k) q
+    else old_at heard k q
+
+-- where the noise stands in period k, where descriptor q of period g is the latest anchor not after k
+abbrev pub base_at : (ℕ → Heard) → ℕ → ℕ → Fields → Fields
+base_at heard k g q = approached (old_at heard k q) q g k
+
 -- what the frame of period k is made from, where the latest anchor is period g and was heard as this
 abbrev pub origin_after : (ℕ → Heard) → ℕ → ℕ → Heard → Origin
 origin_after heard k g (Good p) = if g == k then GoodFrame p else LostFrame p (min (k - g) 17)
-origin_after heard k g (Sid q) = NoiseFrame q (fall_at heard g k)
+origin_after heard k g (Sid q) = NoiseFrame (base_at heard k g q) (fall_at heard g k)
 origin_after heard k g Idle = NoFrame
 origin_after heard k g (Lost missed) = NoFrame
 
@@ -52,6 +77,10 @@ draws_before heard (suc k) = draws_before heard k + draws_of (origin_at heard k)
 -- the effective frame of period k of a call with this number, whose random source starts at it
 unfoldable pub effective_at : ℕ → (ℕ → Heard) → ℕ → EffectiveFields
 effective_at call heard k = frame_of (origin_at heard k) (draws_from call (draws_before heard k))
+
+-- the latest anchor not after period k is period g, and there came descriptor q
+abbrev pub IsNoise : (ℕ → Heard) → ℕ → ℕ → Fields → Type 0
+IsNoise heard k g q = (latest_anchor heard k ≡ Some g) × (heard g ≡ Sid q)
 
 -- what was heard in period k, where this was heard in all periods, the oldest first
 abbrev pub heard_in : List Heard → ℕ → Heard

@@ -10,7 +10,7 @@ pub data EffectiveFields : Type 0 where
   Speech Made : Fields → EffectiveFields
 
 -- what it is made from: nothing; a good speech frame; the last good speech frame, and how many periods ago it came;
--- or the last silence descriptor, and for how many periods its level has fallen
+-- or where the noise stands on its way to the last silence descriptor, and for how many periods its level has fallen
 pub data Origin : Type 0 where
   NoFrame : Origin
   GoodFrame : Fields → Origin

@@ -10,7 +10,7 @@ use Rattle.rx_handler.specs.Table as table
 abbrev pub state_of : State → table.RxState
 state_of states.Quiet = table.Quiet
 state_of (states.Speech lost) = table.Speech (fields_of lost.last) lost.periods
-state_of (states.Noise pause) = table.Noise (fields_of pause.sid) pause.fall.missed pause.fall.periods
+state_of (states.Noise pause) = table.Noise (fields_of pause.old) (fields_of pause.sid) pause.step pause.fall.missed pause.fall.periods
 
 abbrev pub effective_fields : Effective → EffectiveFields
 effective_fields answers.Quiet = Quiet

@@ -9,7 +9,7 @@ ghost use Rattle.rx_handler.specs.State.{state_of, effective_fields};
 
 use crate::effective::Effective;
 use crate::state::{LostRow, State};
-use rx_noise::noise_frame;
+use rx_noise::{mix, noise_frame};
 use rx_subst::lost_frame;
 use trau_num::Draw;
 
@@ -22,7 +22,10 @@ pub(crate) fn frame(state: &State, draw: &mut Draw) -> Effective
     match state {
         State::Quiet => Effective::Quiet,
         State::Speech(row) => speech_frame(row, draw),
-        State::Noise(pause) => Effective::Made(noise_frame(&pause.sid, pause.fall.periods, draw)),
+        State::Noise(pause) => {
+            let sid = mix(&pause.old, &pause.sid, pause.step);
+            Effective::Made(noise_frame(&sid, pause.fall.periods, draw))
+        }
     }
 }
 

@@ -4,10 +4,11 @@ ghost use Rattle.std.specs.Prelude.{◌≡◌};
 ghost use Rattle.std.specs.Option.{option_copied};
 ghost use Rattle.rx_handler.specs.Heard.{heard_of, heard_frame};
 ghost use Rattle.trau_params.specs.Fields.{fields_of};
-ghost use Rattle.rx_handler.specs.Table.{missed_after, fall_after, state_after_loss, next_state, Speech, Noise};
+ghost use Rattle.rx_handler.specs.Table.{missed_after, fall_after, state_after_loss, state_after_sid, next_state, Speech};
 ghost use Rattle.rx_handler.specs.State.{state_of};
 
 use crate::state::{Fall, LostRow, Pause, State};
+use rx_noise::mix;
 use trau_frame::{Class, Kind, UpFrame};
 use trau_params::Params;
 
@@ -26,7 +27,7 @@ fn hear_frame(state: &mut State, f: &UpFrame)
 {
     match (f.kind, f.class) {
         (Kind::Speech, Class::Good) => *state = speech(Params::from_bits(&f.d)),
-        (Kind::Speech, Class::Sid) => *state = noise(Params::from_bits(&f.d)),
+        (Kind::Speech, Class::Sid) => *state = noise(state, Params::from_bits(&f.d)),
         (Kind::Speech, Class::InvalidSid) => lose(state, false),
         (Kind::Speech, Class::Unusable) => lose(state, f.taf),
         (Kind::Idle, _) => *state = State::Quiet,
@@ -41,17 +42,35 @@ fn speech(last: Params) -> State
     State::Speech(LostRow { last, periods: 0 })
 }
 
-// A new descriptor is taken at once.
-fn noise(sid: Params) -> State
-    ensures { state_of result ≡ Noise (fields_of sid) 0 0 }
+// A new descriptor: noise that hasn't begun to fall goes on from where it stands, all other noise is there at once.
+fn noise(before: &State, sid: Params) -> State
+    ensures { state_of result ≡ state_after_sid (state_of before.now) (fields_of sid) }
 {
-    State::Noise(Pause {
-        sid,
-        fall: Fall {
-            missed: 0,
-            periods: 0,
-        },
-    })
+    let fall = Fall {
+        missed: 0,
+        periods: 0,
+    };
+    match before {
+        State::Quiet | State::Speech(_) => State::Noise(Pause {
+            old: sid,
+            sid,
+            step: 8,
+            fall,
+        }),
+        State::Noise(pause) => {
+            let old = if pause.fall.periods == 0 {
+                mix(&pause.old, &pause.sid, pause.step)
+            } else {
+                sid
+            };
+            State::Noise(Pause {
+                old,
+                sid,
+                step: 1,
+                fall,
+            })
+        }
+    }
 }
 
 // A period in which none of good speech, a silence descriptor and an idle frame came. `missed` tells whether it was
@@ -62,7 +81,10 @@ fn lose(state: &mut State, missed: bool)
     match state {
         State::Quiet => {}
         State::Speech(row) => row.periods = (row.periods + 1).min(17),
-        State::Noise(pause) => pause.fall = fall_on(pause.fall, missed),
+        State::Noise(pause) => {
+            pause.step = (pause.step + 1).min(8);
+            pause.fall = fall_on(pause.fall, missed);
+        }
     }
 }
 

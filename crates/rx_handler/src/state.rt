@@ -22,11 +22,15 @@ pub(crate) struct Fall {
     ghost periods_stop: { periods ≤ 17 },
 }
 
-/// A pause of the far side: what its noise is made from, and how it falls.
+/// A pause of the far side: from where its noise approaches which descriptor, the step of eight, and how it falls.
 #[derive(Clone, Copy)]
 pub(crate) struct Pause {
+    pub(crate) old: Params,
     pub(crate) sid: Params,
+    pub(crate) step: u8,
     pub(crate) fall: Fall,
+    ghost begun: { 1 ≤ step },
+    ghost step_stops: { step ≤ 8 },
 }
 
 #[derive(Clone, Copy)]

@@ -1,3 +1,4 @@
 mod Drawn
 mod Falls
 mod Rows
+pub mod Mixing

@@ -5,11 +5,16 @@
 //! far its level has fallen since descriptors stopped coming, and the call's random source, and makes a frame that the
 //! decoder takes in the place of speech. Used by `rx_handler`, which says how far the level has fallen.
 //!
-//! Definition: `specs/Noise.antt`. GSM 06.12 says what a noise frame is made from; the numbers are this project's
-//! profile.
+//! A new descriptor is approached in eight steps: `mix` gives the descriptor that is reached after some of them.
+//!
+//! Definitions: `specs/Noise.antt` (a noise frame), `specs/Mix.antt` (the way from one descriptor to the next). GSM 06.12
+//! says what a noise frame is made from; the numbers are this project's profile.
 #![tactic(auto)]
 
+mod approach;
 mod excitation;
+pub mod laws;
 mod noise;
 
+pub use approach::mix;
 pub use noise::noise_frame;

@@ -1,0 +1,61 @@
+//! A descriptor on its way to the next one.
+
+ghost use Rattle.std.specs.Prelude.{◌≡◌, ◌≤◌, ◌<◌, ℕ};
+ghost use Rattle.trau_params.specs.Fields.{fields_of};
+ghost use Rattle.trau_params.specs.Widths.{FitLarc, FitWidth, xmaxc_width};
+ghost use Rattle.rx_noise.specs.Mix.{mixed, all_mixed, mix_of};
+
+use trau_params::Params;
+
+// One code after `i` of the eight steps. It fits where both do.
+fn code(old: u8, new: u8, i: u8) -> u8
+    requires steps { i ≤ 8 }
+    ensures value { result ≡ mixed i old new }
+    ensures fits { (n : ℕ) → old < n → new < n → result < n }
+{
+    let sum = u16::from(old) * u16::from(8 - i) + u16::from(new) * u16::from(i);
+    (sum / 8) as u8
+}
+
+// The ratios after `i` of the eight steps.
+fn ratios(old: &[u8; 8], new: &[u8; 8], i: u8) -> [u8; 8]
+    requires old { FitLarc old.now }
+    requires new { FitLarc new.now }
+    requires steps { i ≤ 8 }
+    ensures value { result ≡ all_mixed i old.now new.now }
+    ensures fit { FitLarc result }
+{
+    let mut larc = [0; 8];
+    for j in 0..8 {
+        larc[j] = code(old[j], new[j], i);
+    }
+    larc
+}
+
+// The block maxima after `i` of the eight steps.
+fn maxima(old: &[u8; 4], new: &[u8; 4], i: u8) -> [u8; 4]
+    requires old { FitWidth xmaxc_width old.now }
+    requires new { FitWidth xmaxc_width new.now }
+    requires steps { i ≤ 8 }
+    ensures value { result ≡ all_mixed i old.now new.now }
+    ensures fit { FitWidth xmaxc_width result }
+{
+    let mut xmaxc = [0; 4];
+    for j in 0..4 {
+        xmaxc[j] = code(old[j], new[j], i);
+    }
+    xmaxc
+}
+
+/// The silence descriptor after `i` of the eight steps, 1 to 8, from `old` to `new`: each ratio and each block maximum
+/// is `(old * (8 - i) + new * i) / 8`, all else is that of `new`.
+#[tactic(auto, unfolding(crate::specs::Mix::mix_of))]
+pub fn mix(old: &Params, new: &Params, i: u8) -> Params
+    requires low { 1 ≤ i }
+    requires high { i ≤ 8 }
+    ensures { fields_of result ≡ mix_of (fields_of old.now) (fields_of new.now) i }
+{
+    let larc = ratios(&old.larc, &new.larc, i);
+    let xmaxc = maxima(&old.xmaxc, &new.xmaxc, i);
+    Params::new(larc, new.nc, new.bc, new.mc, xmaxc, new.xmc)
+}
