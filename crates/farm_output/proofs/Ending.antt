@@ -1,7 +1,7 @@
 -- The ends of calls, known in their round.
 use Rattle.std.proofs.Common.{◌≡◌, refl, sym, ap, ◌∙◌, subst, ℕ, ◌+◌, ◌<◌, ◌≤◌, Bool, Option, Some, None, List, [], ◌∷◌, ◌++◌, map, arith, true, false}
 use Rattle.std.specs.Prelude.{is_some, length, IfSome, not, nat_le, nat_lt, filter, if◌then◌else◌}
-use Rattle.std.specs.List.{AllByRecursion, range_with_len}
+use Rattle.std.specs.List.{AllByRecursion}
 use Rattle.std.proofs.lemmas.Bool.{leb-true, le-leb, lt-leb, le-ltb, lt-ltb}
 use Rattle.std.proofs.lemmas.List.{append-nil}
 use Rattle.std.proofs.lemmas.List.Elements.{filter-append, recursion_from_All}
@@ -16,7 +16,7 @@ use Rattle.switchboard.proofs.Appending.{or_else}
 use Rattle.farm_output.specs.Run.{Run, given_in, whole_in, done_in}
 use Rattle.trau_io.specs.declared.line.Line.{Line}
 use Rattle.farm_report.specs.View.{ReportView}
-use Rattle.farm_output.specs.Facts.{call_line, span_line, report_of}
+use Rattle.farm_output.specs.Facts.{opened_calls, call_line, span_line, report_of}
 use Rattle.farm_output.specs.Now.{IsSoFar, NoOrderTo}
 use Rattle.farm_output.proofs.Executing.{closed-append, added}
 use Rattle.farm_output.proofs.Standing.{closed_kept, opened_kept}
@@ -105,7 +105,7 @@ pub report_end : (r : Run) (t : ℕ) (ds : List Done) (left : List Order) (faile
     report_of r failed ≡ record {
       replies = numbered 0 ds;
       spans = map (span_line r) (spans_of (given_in r) r.periods ds);
-      calls = map (call_line r) (filter (λ c. is_some (opened_at c ds)) (range_with_len 1 4096));
+      calls = map (call_line r) (opened_calls ds);
       failed = failed;
       left = length left;
     }
@@ -113,14 +113,14 @@ report_end r t ds left failed so n =
     ap {B = ReportView} (λ ds. record {
       replies = numbered 0 ds;
       spans = map (span_line r) (spans_of (given_in r) r.periods ds);
-      calls = map (call_line r) (filter (λ c. is_some (opened_at c ds)) (range_with_len 1 4096));
+      calls = map (call_line r) (opened_calls ds);
       failed = failed;
       left = length (left_of r.periods r.orders);
     }) (all_done r t ds left so n)
     ∙ ap {B = ReportView} (λ os. record {
       replies = numbered 0 ds;
       spans = map (span_line r) (spans_of (given_in r) r.periods ds);
-      calls = map (call_line r) (filter (λ c. is_some (opened_at c ds)) (range_with_len 1 4096));
+      calls = map (call_line r) (opened_calls ds);
       failed = failed;
       left = length os;
     }) (all_left r t ds left so n)

@@ -1,9 +1,9 @@
 -- The report of a run.
 use Rattle.std.specs.Prelude.{ℕ, ◌-◌, Bool, false, ◌&&◌, nat_le, nat_lt, Option, Some, None, is_some, List, length, map, filter}
-use Rattle.std.specs.List.{range_with_len}
+use Rattle.call_number.specs.CallNumber.{call_numbers}
 use Rattle.trau_io.specs.declared.line.Line.{Line}
 use Rattle.switchboard.specs.declared.act.Span.{Span}
-use Rattle.switchboard.specs.Calls.{opened_at}
+use Rattle.switchboard.specs.Calls.{Done, opened_at}
 use Rattle.switchboard.specs.Ends.{end_of}
 use Rattle.switchboard.specs.Runs.{left_of}
 use Rattle.switchboard.specs.State.{numbered}
@@ -15,9 +15,12 @@ use Rattle.call_leg.specs.Counted.{call_counts}
 use Rattle.call_leg.specs.Down.{frames_of}
 use Rattle.farm_output.specs.Run.{Run, given_in, done_in, spans_in, start_in, periods_in}
 
--- the calls that were opened, in rising number
+-- the calls that these orders opened, in rising number
+abbrev pub opened_calls : List Done → List ℕ
+opened_calls ds = filter (λ c. is_some (opened_at c ds)) call_numbers
+
 abbrev pub calls_in : Run → List ℕ
-calls_in r = filter (λ c. is_some (opened_at c (done_in r))) (range_with_len 1 4096)
+calls_in r = opened_calls (done_in r)
 
 abbrev pub call_line : Run → ℕ → CallLine
 call_line r c = let from = start_in r c in record {

@@ -2,7 +2,6 @@
 //! to what the whole run gives.
 
 ghost use Rattle.std.specs.Prelude.{◌≡◌, ◌≤◌, ◌<◌, ◌+◌, ◌-◌, ℕ, Bool, true, not, ◌&&◌, ◌||◌, ◌==◌, if◌then◌else◌, nat_lt, Option, Some, None, is_some, IfSome, Ok, List, [], ◌∷◌, ◌++◌, map, filter, length};
-ghost use Rattle.std.specs.List.{range_with_len};
 ghost use Rattle.std.proofs.Common.{get_or};
 ghost use Rattle.trau_io.specs.declared.line.Line.{Line};
 ghost use Rattle.trau_io.specs.declared.ends.CallEnd.{CallEnd};
@@ -29,7 +28,7 @@ ghost use Rattle.call_leg.specs.Counted.{call_counts};
 ghost use Rattle.call_leg.specs.Places.{sent_now};
 ghost use Rattle.farm_output.specs.Run.{Run, given_in, whole_in, done_in, spans_in, start_in, end_in, up_in, pcm_in, ups_to, item_of, period_of, periods_to};
 ghost use Rattle.farm_output.specs.Lines.{out_line, down_octets, out_of_call, down_of_call};
-ghost use Rattle.farm_output.specs.Facts.{call_line, span_line, sent_by, report_of};
+ghost use Rattle.farm_output.specs.Facts.{opened_calls, call_line, span_line, sent_by, report_of};
 ghost use Rattle.farm_output.specs.Now.{IsSoFar, NoOrderTo, has_period, bridge_now, handed_now, period_now, settings_now, settings_in, changed_by, after_periods};
 
 /// Orders are executed in one go or in several alike. Those that are executed later leave the earlier ones as they
@@ -187,7 +186,7 @@ pub fn whole_runs_are_reported()
         IfSome (first_stamp left) (λ s. r.periods ≤ s) → report_of r failed ≡ record {
           replies = numbered 0 ds;
           spans = map (span_line r) (spans_of (given_in r) r.periods ds);
-          calls = map (call_line r) (filter (λ c. is_some (opened_at c ds)) (range_with_len 1 4096));
+          calls = map (call_line r) (opened_calls ds);
           failed = failed;
           left = length left;
         } }
