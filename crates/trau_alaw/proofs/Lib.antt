@@ -1,3 +1,6 @@
-pub mod Intervals
+pub mod Laid
+pub mod MuOctets
+pub mod MuSegments
 pub mod Octets
+mod Rows
 pub mod Segments

@@ -1,17 +1,18 @@
 -- Companding (G.711): an octet stands for an interval of values of 16 bits.
-use Rattle.std.specs.Prelude.{◌≡◌, ℕ, ◌+◌, ◌/◌, ◌<◌, ℤ, pos, negsuc, neg_ℤ, FitsSigned, Bool, not, ◌&&◌, nat_le, nat_lt, IsTrue, if◌then◌else◌}
+use Rattle.std.specs.Prelude.{◌≡◌, ℕ, ◌+◌, ◌<◌, ℤ, pos, negsuc, neg_ℤ, FitsSigned, Bool, not, ◌&&◌, nat_le, nat_lt, IsTrue, if◌then◌else◌}
 use Rattle.std.specs.Int.{w16}
 use Rattle.std.specs.List.{range_with_len, position_or_len}
 
--- the values of one sign whose magnitudes are `width` many from `least` on
+-- the values of one sign whose magnitudes are `width` many from `least` on, and the magnitude that stands for them
 pub record Interval : Type 0 where
   pub is_positive : Bool
   pub least : ℕ
   pub width : ℕ
+  pub centre : ℕ
 
 -- a companding law: the interval of each octet
-abbrev pub Law : Type 0
-Law = ℕ → Interval
+abbrev pub Companding : Type 0
+Companding = ℕ → Interval
 
 -- the magnitude of a value: x where it isn't negative, and -1 - x where it is
 abbrev pub magnitude : ℤ → ℕ
@@ -29,18 +30,18 @@ holds i (negsuc n) = not i.is_positive && has_magnitude i n
 
 -- the middle of the interval, with its sign
 abbrev pub middle : Interval → ℤ
-middle i = if i.is_positive then pos (i.least + i.width / 2) else neg_ℤ (pos (i.least + i.width / 2))
+middle i = if i.is_positive then pos i.centre else neg_ℤ (pos i.centre)
 
 -- the octet whose interval holds the value; a law has one for each value of 16 bits
-unfoldable pub octet_of : Law → ℤ → ℕ
+unfoldable pub octet_of : Companding → ℤ → ℕ
 octet_of law x = position_or_len (λ octet. holds (law octet) x) (range_with_len 0 256)
 
 -- the octet's interval holds the value, and no other octet's does
-pub record IsOnlyOctet (law : Law) (x : ℤ) (octet : ℕ) : Type 0 where
+pub record IsOnlyOctet (law : Companding) (x : ℤ) (octet : ℕ) : Type 0 where
   pub is_octet : octet < 256
   pub within : IsTrue (holds (law octet) x)
   pub only : (other : ℕ) → other < 256 → IsTrue (holds (law other) x) → other ≡ octet
 
 -- the law's intervals part the values of 16 bits: each value lies in exactly one
-abbrev pub PartsWords : Law → Type 0
+abbrev pub PartsWords : Companding → Type 0
 PartsWords law = (x : ℤ) → FitsSigned w16 x → (octet : ℕ) × IsOnlyOctet law x octet

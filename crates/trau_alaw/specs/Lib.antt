@@ -1,2 +1,4 @@
 pub mod Alaw
 pub mod Companding
+pub mod Laws
+pub mod Mulaw

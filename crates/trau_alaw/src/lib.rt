@@ -1,20 +1,60 @@
-//! A-law of a PCM line (G.711, table 1a).
+//! A-law and mu-law of a PCM line (G.711, tables 1a and 2a).
 //!
 //! Between the Pcm and Out lines of a call and the codec: an octet of the line stands for a sample of
 //! 16 bits, and a sample is sent as the octet whose interval holds it. Both ways are computed without a
 //! table.
 //!
 //! Definitions: `specs/Companding.antt` says what any companding law is, from the interval of each octet;
-//! `specs/Alaw.antt` has the intervals of A-law.
+//! `specs/Alaw.antt` has the intervals of A-law, `specs/Mulaw.antt` those of mu-law, and `specs/Laws.antt` names the two.
 #![tactic(auto)]
 
 mod laws;
+mod mulaw;
 
 ghost use Rattle.std.specs.Prelude.{◌≡◌, ◌+◌, ◌/◌, ◌%◌, ◌<◌, ◌≤◌};
 ghost use Rattle.trau_alaw.specs.Companding.{magnitude, middle, octet_of, IsOnlyOctet};
 ghost use Rattle.trau_alaw.specs.Alaw.{alaw, alaw_least, alaw_width};
+ghost use Rattle.trau_alaw.specs.Laws.{companding, idle_of};
 
-pub use laws::{intervals_part_the_words, recompress};
+pub use laws::{intervals_part_the_words, recompress, recompress_law};
+
+/// The law of a PCM line.
+#[derive(Clone, Copy, Debug, PartialEq, Eq)]
+pub enum Law {
+    A,
+    Mu,
+}
+
+/// The sample of 16 bits that an octet of a line with this law stands for.
+pub fn expand_law(law: Law, octet: u8) -> i16
+    ensures { result ≡ middle (companding law octet) }
+{
+    match law {
+        Law::A => expand(octet),
+        Law::Mu => mulaw::expand(octet),
+    }
+}
+
+/// The octet that a sample of 16 bits is sent as on a line with this law.
+pub fn compress_law(law: Law, x: i16) -> u8
+    ensures value { result ≡ octet_of (companding law) x }
+    ensures only { IsOnlyOctet (companding law) x result }
+{
+    match law {
+        Law::A => compress(x),
+        Law::Mu => mulaw::compress(x),
+    }
+}
+
+/// The octet of a line with this law on which nothing is said.
+pub fn idle_octet(law: Law) -> u8
+    ensures { result ≡ idle_of law }
+{
+    match law {
+        Law::A => 0xD5,
+        Law::Mu => 0xFF,
+    }
+}
 
 /// The sample of 16 bits that an octet stands for: the middle of its interval.
 pub fn expand(octet: u8) -> i16
