@@ -342,6 +342,26 @@ for limit in 6000 5000 4000 3600 3400 3200 3000 2900 2800 2700 2600 2500; do
 done
 if [ "$met" -gt 0 ]; then echo "ok want of memory ($met limits)"; else fail "want of memory: no limit gave status 5"; fi
 
+# With 8 descriptors, five of them for the 48 lines of twelve calls, report and lines are those without that limit.
+mkdir descriptors
+cd descriptors
+for call in 1 2 3 4 5 6 7 8 9 10 11 12; do
+    cp ../1.up $call.up
+    cp ../1.pcm $call.pcm
+    echo "0 open $call"
+done >orders
+"$top/trau" run --batch 1 <orders >report
+mkdir free
+mv report ./*.down ./*.out free
+status=0
+(ulimit -n 8 && exec "${TRAU_PROGRAM:-$top/crates/trau_program/out/trau_program}" run --batch 1) <orders >report || status=$?
+same=0
+for file in report *.down *.out; do
+    if cmp "$file" "free/$file"; then same=$((same + 1)); fi
+done
+cd ..
+if [ "$status" = 0 ] && [ "$same" = 25 ]; then echo "ok 8 descriptors"; else fail "8 descriptors: status $status, $same files the same"; fi
+
 # As many calls as there are numbers, a period each: all end with their lines.
 head -c 40 1.up >up
 head -c 160 1.pcm >pcm

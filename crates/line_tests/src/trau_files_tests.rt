@@ -1,11 +1,12 @@
-// What no proof sees: the system's files and streams.
+//! What no proof sees: the system's files and streams.
+
 use crate::rows::assert_rows;
 use std::io::{ErrorKind, Read, Write};
 use std::{fs, io};
 use trau_files::{FileTrunk, StdDesk};
 use trau_io::{Desk, Line, Side, Trunk};
 
-// The lines of the tests are Up of call 4096 and Out of call 9.
+// The lines of the tests are Up of call 4096, and Out and Pcm of call 9.
 fn line(side: Side) -> Line {
     match side {
         Side::Up => Line { call: 4096, side },
@@ -89,7 +90,7 @@ fn done(rt: &HostRuntime, steps: &[Step]) -> usize {
     }
 }
 
-static FILES: [Step; 11] = [
+static FILES: [Step; 10] = [
     Step::Make("4096.up", &[1, 2, 3, 4, 5]),
     Step::Make("9.out", &[9; 9]),
     Step::Reads(Side::Up, 4, Some(4), [1, 2, 3, 4]),
@@ -99,13 +100,12 @@ static FILES: [Step; 11] = [
     Step::Writes(Side::Out, &[6], Some(1)),
     Step::Writes(Side::Out, &[7, 8], Some(2)),
     Step::Holds("9.out", &[6, 7, 8]),
-    Step::Remove("4096.up"),
-    Step::Reads(Side::Up, 1, None, [0; 4]),
+    Step::Reads(Side::Pcm, 1, None, [0; 4]),
 ];
 
 #[test]
 fn lines_are_files(rt: HostRuntime) {
-    assert_rows(&rt, done(&rt, &FILES), 11);
+    assert_rows(&rt, done(&rt, &FILES), 10);
 }
 
 static READS_IN_TURN: [Step; 7] = [
@@ -137,7 +137,7 @@ fn lines_are_written_in_turn(rt: HostRuntime) {
     assert_rows(&rt, done(&rt, &WRITES_IN_TURN), 5);
 }
 
-static REMOVED_FILES: [Step; 13] = [
+static REMOVED_FILES: [Step; 11] = [
     Step::Make("4096.up", &[1, 2, 3]),
     Step::Reads(Side::Up, 1, Some(1), [1, 0, 0, 0]),
     Step::Writes(Side::Out, &[7], Some(1)),
@@ -146,17 +146,48 @@ static REMOVED_FILES: [Step; 13] = [
     Step::Reads(Side::Up, 1, Some(1), [2, 0, 0, 0]),
     Step::Writes(Side::Out, &[8], Some(1)),
     Step::Reads(Side::Out, 1, None, [0; 4]),
-    Step::Reads(Side::Up, 1, None, [0; 4]),
     Step::Make("4096.up", &[4, 5, 6]),
-    Step::Reads(Side::Up, 1, Some(1), [6, 0, 0, 0]),
-    Step::Writes(Side::Up, &[9], Some(1)),
+    Step::Reads(Side::Up, 1, Some(1), [3, 0, 0, 0]),
     Step::Writes(Side::Out, &[8], None),
 ];
 
-// The file that was used last is open and outlives its name; any other is looked for by its name.
+// A file that is open outlives its name; a file that isn't is looked for by its name.
 #[test]
 fn a_removed_file_goes_on_while_it_is_open(rt: HostRuntime) {
-    assert_rows(&rt, done(&rt, &REMOVED_FILES), 13);
+    assert_rows(&rt, done(&rt, &REMOVED_FILES), 11);
+}
+
+// Whether 300 calls' Out lines take this octet each, in turn.
+fn are_written(trunk: &mut FileTrunk<'_, HostRuntime>, octet: u8) -> bool {
+    let side = Side::Out;
+    for call in 1..=300u32 {
+        if trunk.write(Line { call, side }, &[octet]).ok() != Some(1) {
+            return false;
+        }
+    }
+    true
+}
+
+// How many of the 300 files hold these octets, from the first on.
+fn held(rt: &HostRuntime, octets: &[u8]) -> usize {
+    let mut count = 0usize;
+    for call in 1..=300u32 {
+        match format!(in rt.alloc(); "{call}.out") {
+            Ok(name) if holds(rt, name.as_str(), octets) => count = count.saturating_add(1),
+            _ => return count,
+        }
+    }
+    count
+}
+
+// There are more lines than files that stay open.
+#[test]
+fn many_lines_are_written_in_turn(rt: HostRuntime) {
+    let mut trunk = FileTrunk::new(rt.alloc(), &rt).expect(&rt, "memory");
+    for octet in 1..=3u8 {
+        assert!(rt; are_written(&mut trunk, octet));
+    }
+    assert_rows(&rt, held(&rt, &[1, 2, 3]), 300);
 }
 
 // Is interrupted before each call that moves anything.

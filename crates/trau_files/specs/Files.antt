@@ -1,10 +1,12 @@
 -- Lines as files: their names, and what is known of them (this project's profile).
-use Rattle.std.specs.Prelude.{◌≡◌, ℕ, ◌+◌, ◌-◌, ◌^◌, min, List, ◌++◌, Option, Some, None, Result, Ok, Err, codes, decimal, slice_get, slice_set}
+use Rattle.std.specs.Prelude.{◌≡◌, ◌⊎◌, ℕ, ◌+◌, ◌-◌, ◌^◌, min, List, length, ◌++◌, Option, Some, None, IfSome, Result, Ok, Err, codes, decimal, slice_get, slice_set, slice_index_or}
 use Rattle.trau_io.specs.declared.line.Failed.{Failed}
 use Rattle.trau_io.specs.declared.line.Side.{Side}
 use Rattle.trau_io.specs.Lines.{LineState}
 use Rattle.trau_io.specs.Places.{place_of}
 use Rattle.trau_io.specs.Texts.{side_word}
+use Rattle.trau_files.specs.declared.trunk.seats.Access.{Access}
+use Rattle.trau_files.specs.declared.trunk.seats.Access.TheVariants.{Reading, Writing}
 
 -- the name of a line's file: the call's number, a dot and the side's word
 abbrev pub file_name : ℕ → Side → List ℕ
@@ -42,41 +44,56 @@ known_of (Some l) = state_of l
 abbrev pub states_of : List FileLine → ℕ → Side → LineState
 states_of lines call side = known_of (slice_get lines (place_of call side))
 
--- a line's file that is open, and the octet at which it stands
+-- a line's file that is open: for what, and at which octet it stands
 pub record OpenLine : Type 0 where
   pub call : ℕ
   pub side : Side
+  pub access : Access
   pub at : ℕ
 
--- the files that are open: the one that was read last, and the one that was written last
-pub record OpenFiles : Type 0 where
-  pub reading : Option OpenLine
-  pub writing : Option OpenLine
+-- an open file is this line's, is open for this, and stands at this octet
+abbrev pub StandsAt : Option OpenLine → ℕ → Side → Access → ℕ → Type 0
+StandsAt file call side access at = file ≡ Some (record { call = call; side = side; access = access; at = at })
 
--- an open file is this line's and stands at this octet
-abbrev pub StandsAt : Option OpenLine → ℕ → Side → ℕ → Type 0
-StandsAt file call side at = file ≡ Some (record { call = call; side = side; at = at })
+-- the line's file after a call at this octet with this answer: it stands behind the octets that were moved, and a fault closes it
+abbrev pub open_after : {E : Type 0} → ℕ → Side → Access → ℕ → Result ℕ E → Option OpenLine
+open_after call side access at (Ok n) = Some (record { call = call; side = side; access = access; at = raised at n })
+open_after call side access at (Err e) = None
 
--- the file that is open after a call at this octet of a line with this answer
-abbrev pub open_after : {E : Type 0} → ℕ → Side → ℕ → Result ℕ E → Option OpenLine
-open_after call side at (Ok n) = Some (record { call = call; side = side; at = raised at n })
-open_after call side at (Err e) = None
+-- the files that are open, each in a seat: the one in this seat
+abbrev pub in_seat : List (Option OpenLine) → ℕ → Option OpenLine
+in_seat seats k = slice_index_or seats k None
+
+-- of this line just this file is open, or none
+pub record IsFileOf (seats : List (Option OpenLine)) (call : ℕ) (side : Side) (file : Option OpenLine) : Type 0 where
+  pub only : (k : ℕ) (o : OpenLine) → in_seat seats k ≡ Some o → o.call ≡ call → o.side ≡ side → file ≡ Some o
+  pub there : IfSome file (λ o. (k : ℕ) × (in_seat seats k ≡ Some o))
+
+-- nothing was opened: each seat has the file that it had, or none
+abbrev pub Closes : List (Option OpenLine) → List (Option OpenLine) → Type 0
+Closes old new = (k : ℕ) → (in_seat new k ≡ in_seat old k) ⊎ (in_seat new k ≡ None)
+
+-- of this line just this file is open now, or none; of the others none that wasn't
+pub record OpenAfter (old new : List (Option OpenLine)) (call : ℕ) (side : Side) (file : Option OpenLine) : Type 0 where
+  pub this : IsFileOf new call side file
+  pub others : (k : ℕ) → (in_seat new k ≡ in_seat old k) ⊎ (in_seat new k ≡ None) ⊎ (in_seat new k ≡ file)
+  pub number : length new ≡ length old
+
+-- a line's file is in the seat that the line's entry names
+abbrev pub AreSeated : List (Option OpenLine) → List ℕ → Type 0
+AreSeated seats seat_of = (k : ℕ) (o : OpenLine) → in_seat seats k ≡ Some o → slice_index_or seat_of (place_of o.call o.side) 0 ≡ k
 
 -- all lines, and the files that are open
 pub record TrunkFiles : Type 0 where
   pub lines : List FileLine
-  pub files : OpenFiles
+  pub files : List (Option OpenLine)
 
--- the trunk after a read of a line that stood so, with this answer: it took the line's next octets, and nothing else
-abbrev pub trunk_after_read : TrunkFiles → ℕ → Side → FileLine → Result ℕ Failed → TrunkFiles
-trunk_after_read t call side l result = record {
-  lines = slice_set t.lines (place_of call side) (after_read l result);
-  files = record t.files { reading = open_after call side l.read result };
-}
+-- a read of a line that stood so, with this answer: it took the line's next octets, and nothing else
+pub record TrunkReads (old new : TrunkFiles) (call : ℕ) (side : Side) (l : FileLine) (result : Result ℕ Failed) : Type 0 where
+  pub lines : new.lines ≡ slice_set old.lines (place_of call side) (after_read l result)
+  pub files : OpenAfter old.files new.files call side (open_after call side Reading l.read result)
 
--- the trunk after a write of a line that stood so, with this answer: it went behind the octets written before
-abbrev pub trunk_after_write : TrunkFiles → ℕ → Side → FileLine → Result ℕ Failed → TrunkFiles
-trunk_after_write t call side l result = record {
-  lines = slice_set t.lines (place_of call side) (after_write l result);
-  files = record t.files { writing = open_after call side l.written result };
-}
+-- a write of a line that stood so, with this answer: it went behind the octets written before
+pub record TrunkWrites (old new : TrunkFiles) (call : ℕ) (side : Side) (l : FileLine) (result : Result ℕ Failed) : Type 0 where
+  pub lines : new.lines ≡ slice_set old.lines (place_of call side) (after_write l result)
+  pub files : OpenAfter old.files new.files call side (open_after call side Writing l.written result)

@@ -1,13 +1,15 @@
-// The lines as files of the current folder: `7.up`, `7.pcm`, `7.down` and `7.out` of call 7.
+//! The lines as files of the current folder: `7.up`, `7.pcm`, `7.down` and `7.out` of call 7.
+
 ghost use Rattle.std.specs.Prelude.{◌≡◌, ◌<◌, None, All, vec_len, length, slice_get, IfSome, IfOk};
 ghost use Rattle.trau_io.specs.Lines.{Reads, Writes, OthersStay};
 ghost use Rattle.trau_io.specs.Places.{place_of};
 ghost use Rattle.trau_io.specs.declared.places.TheConstants.{PLACES};
-ghost use Rattle.trau_files.specs.Files.{TrunkFiles, states_of, trunk_after_read, trunk_after_write};
+ghost use Rattle.trau_files.specs.Files.{TrunkFiles, TrunkReads, TrunkWrites, states_of};
 
 mod file;
 mod name;
 mod open;
+mod seats;
 
 use file::LineFile;
 use open::LineFiles;
@@ -16,10 +18,10 @@ use std::marker::Model;
 use std::rt::Files;
 use trau_io::{Failed, Line, PLACES, Trunk, place};
 
-/// All lines of a farm, each a file. The file that was read last and the one that was written last stay
-/// open, and the same line goes on there; any other is opened anew, so that the number of open files is
-/// no limit. It tells how often each line failed, which files are open and at which octet each line goes on, and
-/// nothing of the lines' contents.
+/// All lines of a farm, each a file. The first 255 that are opened stay open, and of the others the last one; fewer where
+/// the system gives fewer. A line goes on in its open file; without one its file is opened anew, so that the number of
+/// open files is no limit. It tells how often each line failed, which files are open and at which octet each line goes on,
+/// and nothing of the lines' contents.
 #[derive(Drop)]
 pub struct FileTrunk<'a, R: Files> {
     files: LineFiles<'a, R>,
@@ -39,13 +41,14 @@ impl<'a, R: Files> FileTrunk<'a, R> {
     pub fn new(alloc: Global, files: &'a R) -> Result<FileTrunk<'a, R>, AllocError>
         ensures number { IfOk result (λ t. length t.lines ≡ PLACES) }
         ensures each { IfOk result (λ t. All (λ l. l ≡ record { read = 0; written = 0; faults = 0 }) t.lines) }
-        ensures closed { IfOk result (λ t. t.files ≡ record { reading = None; writing = None }) }
+        ensures seats { IfOk result (λ t. length t.files ≡ 256) }
+        ensures closed { IfOk result (λ t. All (λ seat. seat ≡ None) t.files) }
     {
         let mut lines = Vec::with_capacity(alloc, PLACES)?;
         for _ in 0..PLACES {
             lines.push_reserved(LineFile::new());
         }
-        let files = LineFiles::new(files);
+        let files = LineFiles::new(alloc, files)?;
         Ok(FileTrunk { files, lines })
     }
 }
@@ -57,7 +60,7 @@ impl<'a, R: Files> Trunk for FileTrunk<'a, R> {
         requires { 0 < length buf.old }
         ensures this { Reads (states_of self.old.lines line.call line.side) (states_of self.new.lines line.call line.side) result buf.new }
         ensures others { OthersStay (states_of self.old.lines) (states_of self.new.lines) line.call line.side }
-        ensures after { IfSome (slice_get self.old.lines (place_of line.call line.side)) (λ l. self.new ≡ trunk_after_read self.old line.call line.side l result) }
+        ensures after { IfSome (slice_get self.old.lines (place_of line.call line.side)) (λ l. TrunkReads self.old self.new line.call line.side l result) }
     {
         self.lines[place(line)].read(&mut self.files, line, buf)
     }
@@ -66,7 +69,7 @@ impl<'a, R: Files> Trunk for FileTrunk<'a, R> {
         requires { 0 < length bytes.now }
         ensures this { Writes (states_of self.old.lines line.call line.side) (states_of self.new.lines line.call line.side) result bytes.now }
         ensures others { OthersStay (states_of self.old.lines) (states_of self.new.lines) line.call line.side }
-        ensures after { IfSome (slice_get self.old.lines (place_of line.call line.side)) (λ l. self.new ≡ trunk_after_write self.old line.call line.side l result) }
+        ensures after { IfSome (slice_get self.old.lines (place_of line.call line.side)) (λ l. TrunkWrites self.old self.new line.call line.side l result) }
     {
         self.lines[place(line)].write(&mut self.files, line, bytes)
     }

@@ -1,7 +1,9 @@
-// One line as a file.
+//! One line as a file.
+
 ghost use Rattle.std.specs.Prelude.{◌≡◌, ◌≤◌};
 ghost use Rattle.trau_io.specs.Lines.{Reads, Writes};
-ghost use Rattle.trau_files.specs.Files.{FileLine, raised, after_read, after_write, open_after, state_of};
+ghost use Rattle.trau_files.specs.declared.trunk.seats.Access.TheVariants.{Reading, Writing};
+ghost use Rattle.trau_files.specs.Files.{FileLine, OpenAfter, raised, after_read, after_write, open_after, state_of};
 
 use super::open::LineFiles;
 use std::marker::Model;
@@ -43,7 +45,7 @@ impl LineFile {
     ) -> Result<usize, Failed>
         ensures reads { Reads (state_of self.old) (state_of self.new) result buf.new }
         ensures after { self.new ≡ after_read self.old result }
-        ensures place { files.new ≡ record files.old { reading = open_after line.call line.side self.old.read result } }
+        ensures place { OpenAfter files.old files.new line.call line.side (open_after line.call line.side Reading self.old.read result) }
     {
         match files.read_at(line, self.read, buf) {
             Ok(count) => {
@@ -64,7 +66,7 @@ impl LineFile {
     ) -> Result<usize, Failed>
         ensures writes { Writes (state_of self.old) (state_of self.new) result bytes.now }
         ensures after { self.new ≡ after_write self.old result }
-        ensures place { files.new ≡ record files.old { writing = open_after line.call line.side self.old.written result } }
+        ensures place { OpenAfter files.old files.new line.call line.side (open_after line.call line.side Writing self.old.written result) }
     {
         match files.write_at(line, self.written, bytes) {
             Ok(count) => {

@@ -1,10 +1,14 @@
-// The files of lines, of which few are open.
-ghost use Rattle.std.specs.Prelude.{◌≡◌, ◌<◌, IfOk, IfSome, None};
+//! The files of lines, of which some are open.
+
+ghost use Rattle.std.specs.Prelude.{◌≡◌, ◌<◌, length, IfOk, All, None};
 ghost use Rattle.std.specs.Io.{ReadsAtMost, WritesAtMost};
-ghost use Rattle.trau_files.specs.Files.{OpenFiles, OpenLine, StandsAt, open_after};
+ghost use Rattle.trau_files.specs.declared.trunk.seats.Access.TheVariants.{Reading, Writing};
+ghost use Rattle.trau_files.specs.Files.{IsFileOf, Closes, OpenAfter, open_after};
 
 use super::name::name_of;
+use super::seats::{Access, OpenFile, Seats};
 use crate::retry::{read_again, write_some};
+use std::alloc::{AllocError, Global};
 use std::fs::OpenOptions;
 use std::io;
 use std::io::{Seek, SeekFrom};
@@ -12,59 +16,53 @@ use std::marker::Model;
 use std::rt::Files;
 use trau_io::Line;
 
-// A line's file that is open, and the octet at which it stands.
-#[derive(Drop)]
-struct OpenFile<F: Drop> {
-    file: F,
-    line: Line,
-    at: u64,
-}
+// The system's errors where no descriptor is left: in the whole system, and in this process.
+const NONE_IN_SYSTEM: i32 = 23;
 
-impl<F: Drop> Model for OpenFile<F> {
-    ghost Value = { OpenLine };
+const NONE_IN_PROCESS: i32 = 24;
 
-    ghost view = { λ o. record { call = o.line.call; side = o.line.side; at = o.at } };
-}
-
-/// The files of all lines. Two of them at most are open: the one that was read last, and the one that
-/// was written last. A fault closes it.
+/// The files of all lines. The first 255 that are opened stay open, and of the others the last one; fewer where the system
+/// gives fewer. A fault closes the file.
 #[derive(Drop)]
 pub struct LineFiles<'a, R: Files> {
     files: &'a R,
-    read_last: Option<OpenFile<R::File>>,
-    written_last: Option<OpenFile<R::File>>,
+    seats: Seats<R::File>,
 }
 
 impl<'a, R: Files> Model for LineFiles<'a, R> {
-    ghost Value = { OpenFiles };
+    ghost use Rattle.std.specs.Prelude.{List, Option};
+    ghost use Rattle.trau_files.specs.Files.{OpenLine};
 
-    ghost view = { λ f. record { reading = f.read_last; writing = f.written_last } };
+    ghost Value = { List (Option OpenLine) };
+
+    ghost view = { λ f. f.seats };
 }
 
 impl<'a, R: Files> LineFiles<'a, R> {
     /// No file is open yet.
-    pub fn new(files: &'a R) -> LineFiles<'a, R>
-        ensures { result ≡ record { reading = None; writing = None } }
+    pub fn new(alloc: Global, files: &'a R) -> Result<LineFiles<'a, R>, AllocError>
+        ensures number { IfOk result (λ seats. length seats ≡ 256) }
+        ensures closed { IfOk result (All (λ seat. seat ≡ None)) }
     {
-        LineFiles {
-            files,
-            read_last: None,
-            written_last: None,
-        }
+        let seats = Seats::new(alloc)?;
+        Ok(LineFiles { files, seats })
     }
 
     /// Moves octets of a line's file, from this octet on, into the front of `buf`.
     pub fn read_at(&mut self, line: Line, at: u64, buf: &mut [u8]) -> io::Result<usize>
         ensures bound { ReadsAtMost result buf.new }
-        ensures kept { self.new ≡ record self.old { reading = open_after line.call line.side at result } }
+        ensures open { OpenAfter self.old self.new line.call line.side (open_after line.call line.side Reading at result) }
     {
-        let mut file = match taken(&mut self.read_last, line, at) {
-            Some(file) => file,
-            None => open_to_read(self.files, line, at)?,
-        };
+        let access = Access::Reading;
+        let mut file = self.take(line, access, at)?;
         let count = read_again(&mut file, buf)?;
         let at = at.saturating_add(count as u64);
-        self.read_last = Some(OpenFile { file, line, at });
+        self.seats.put(OpenFile {
+            file,
+            line,
+            access,
+            at,
+        });
         Ok(count)
     }
 
@@ -72,45 +70,67 @@ impl<'a, R: Files> LineFiles<'a, R> {
     pub fn write_at(&mut self, line: Line, at: u64, bytes: &[u8]) -> io::Result<usize>
         ensures some { IfOk result (λ n. 0 < n) }
         ensures bound { WritesAtMost result bytes.now }
-        ensures kept { self.new ≡ record self.old { writing = open_after line.call line.side at result } }
+        ensures open { OpenAfter self.old self.new line.call line.side (open_after line.call line.side Writing at result) }
     {
-        let mut file = match taken(&mut self.written_last, line, at) {
-            Some(file) => file,
-            None => open_to_write(self.files, line, at)?,
-        };
+        let access = Access::Writing;
+        let mut file = self.take(line, access, at)?;
         let count = write_some(&mut file, bytes)?;
         let at = at.saturating_add(count as u64);
-        self.written_last = Some(OpenFile { file, line, at });
+        self.seats.put(OpenFile {
+            file,
+            line,
+            access,
+            at,
+        });
         Ok(count)
     }
-}
 
-// The open file where it is this line's and stands at this octet; else it is closed.
-fn taken<F: Drop>(kept: &mut Option<OpenFile<F>>, line: Line, at: u64) -> Option<F>
-    ensures none { kept.new ≡ None }
-    ensures stands { IfSome result (λ file. StandsAt kept.old line.call line.side at) }
-{
-    match kept.take() {
-        Some(kept) if kept.line == line && kept.at == at => Some(kept.file),
-        _ => None,
+    // The line's file, which stands at this octet: taken out of its seat, or opened.
+    fn take(&mut self, line: Line, access: Access, at: u64) -> io::Result<R::File>
+        ensures closed { IsFileOf self.new line.call line.side None }
+        ensures others { Closes self.old self.new }
+        ensures number { length self.new ≡ length self.old }
+    {
+        match self.seats.take(line, access, at) {
+            Some(file) => Ok(file),
+            None => self.open(line, access, at),
+        }
+    }
+
+    // Opens a line's file, for which the next seat is free then. Where no descriptor is left another one is closed first.
+    fn open(&mut self, line: Line, access: Access, at: u64) -> io::Result<R::File>
+        requires { IsFileOf self.old line.call line.side None }
+        ensures closed { IsFileOf self.new line.call line.side None }
+        ensures others { Closes self.old self.new }
+        ensures number { length self.new ≡ length self.old }
+    {
+        self.seats.free_next();
+        let file = match open_at(self.files, line, access, at) {
+            Err(fault) if is_for_want(&fault) => {
+                self.seats.lessen();
+                open_at(self.files, line, access, at)?
+            }
+            opened => opened?,
+        };
+        self.seats.give_next(line);
+        Ok(file)
     }
 }
 
-fn open_to_read<R: Files>(files: &R, line: Line, at: u64) -> io::Result<R::File> {
-    let mut how = OpenOptions::new();
-    how.read(true);
-    open_at(files, &how, line, at)
+// Whether a file wasn't opened because no descriptor is left.
+fn is_for_want(fault: &io::Error) -> bool {
+    matches!(fault.raw_os_error(), Some(NONE_IN_SYSTEM | NONE_IN_PROCESS))
 }
 
 // Where nothing has been written yet, an older file of this name is emptied or a new one is made.
-fn open_to_write<R: Files>(files: &R, line: Line, at: u64) -> io::Result<R::File> {
-    let is_first = at == 0;
+fn open_at<R: Files>(files: &R, line: Line, access: Access, at: u64) -> io::Result<R::File> {
+    let is_written = access == Access::Writing;
+    let is_first = is_written && at == 0;
     let mut how = OpenOptions::new();
-    how.write(true).create(is_first).truncate(is_first);
-    open_at(files, &how, line, at)
-}
-
-fn open_at<R: Files>(files: &R, how: &OpenOptions, line: Line, at: u64) -> io::Result<R::File> {
+    how.read(!is_written)
+        .write(is_written)
+        .create(is_first)
+        .truncate(is_first);
     let name = name_of(line);
     let mut file = how.open(files, name.as_str())?;
     file.seek(SeekFrom::Start(at))?;

@@ -1,0 +1,2 @@
+-- Lemmas on files that are open.
+pub mod Seating
