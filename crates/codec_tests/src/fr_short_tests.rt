@@ -1,4 +1,9 @@
+ghost use Rattle.std.specs.Prelude.{◌<◌};
+ghost use Rattle.trau_params.specs.Widths.{FitLarc};
+
+use crate::plain_filters::{PlainFilter, deemphasised};
 use fr_short::{ShortState, decode_larc};
+use trau_num::Draw;
 
 // Ratio i is twice mult_r(INVA, (code + MIC) * 1024 - 2 * B), by hand:
 // 1 to 4: 0, 0, 4096 - 4096 and -5120 + 5120 are 0.
@@ -64,4 +69,112 @@ fn analyses_two_frames(rt: HostRuntime) {
         -32113, -21501, -25998, -23634, -28525, -32768, -31236, -31217,
     ];
     assert!(rt; has_ends(&s, samples));
+}
+
+// How loud a frame of random samples is: shifted down by so many places, or each sample the greatest or the least.
+#[derive(Clone, Copy, Drop)]
+enum Level {
+    Shifted(u8),
+    Clamping,
+}
+
+static LEVELS: [Level; 5] = [
+    Level::Clamping,
+    Level::Shifted(0),
+    Level::Shifted(2),
+    Level::Shifted(4),
+    Level::Shifted(8),
+];
+
+fn random_sample(random: &mut Draw, level: Level) -> i16 {
+    let is_low = random.next(2) == 0;
+    match level {
+        Level::Shifted(places) => random.r.cast_signed() >> (places % 16),
+        Level::Clamping if is_low => i16::MIN,
+        Level::Clamping => i16::MAX,
+    }
+}
+
+fn random_frame(random: &mut Draw, level: Level) -> [i16; 160] {
+    let mut s = [0; 160];
+    for k in 0..160 {
+        s[k] = random_sample(random, level);
+    }
+    s
+}
+
+// The codes of one of six frames: the greatest and the least ratios, these in turn, and others.
+fn random_codes(random: &mut Draw) -> [u8; 8]
+    ensures { FitLarc result }
+{
+    match random.next(6) {
+        0 => [63, 63, 31, 31, 15, 15, 7, 7],
+        1 => [0, 0, 0, 0, 0, 0, 0, 0],
+        2 => [63, 0, 31, 0, 15, 0, 7, 0],
+        3 => [0, 63, 0, 31, 0, 15, 0, 7],
+        4 => [50, 20, 25, 10, 12, 6, 5, 2],
+        _ => [42, 39, 21, 10, 9, 4, 3, 2],
+    }
+}
+
+// Whether so many frames, each from the ones before it, are synthesised as the standard writes it.
+fn synthesises_plainly(level: Level, frames: u32) -> bool {
+    let mut random = Draw { r: 1 };
+    let mut state = ShortState::home();
+    let mut plain = PlainFilter::home();
+    let mut s = [0; 160];
+    for _ in 0..frames {
+        let larc = random_codes(&mut random);
+        let d = random_frame(&mut random, level);
+        state.synthesise_frame(&larc, &d, &mut s);
+        if s != plain.synthesise(&larc, &d) {
+            return false;
+        }
+    }
+    true
+}
+
+// The same with de-emphasis.
+fn synthesises_deemphasised_plainly(level: Level, frames: u32) -> bool {
+    let mut random = Draw { r: 2 };
+    let mut state = ShortState::home();
+    let mut plain = PlainFilter::home();
+    let mut last = 0;
+    let mut msr = [0; 160];
+    for _ in 0..frames {
+        let larc = random_codes(&mut random);
+        let d = random_frame(&mut random, level);
+        let before = last;
+        last = state.synthesise_deemphasised(&larc, &d, before, &mut msr);
+        if msr != deemphasised(&plain.synthesise(&larc, &d), before) || last != msr[159] {
+            return false;
+        }
+    }
+    true
+}
+
+// Whether so many frames, each from the ones before it, are analysed as the standard writes it.
+fn analyses_plainly(level: Level, frames: u32) -> bool {
+    let mut random = Draw { r: 3 };
+    let mut state = ShortState::home();
+    let mut plain = PlainFilter::home();
+    for _ in 0..frames {
+        let larc = random_codes(&mut random);
+        let mut s = random_frame(&mut random, level);
+        let d = plain.analyse(&larc, &s);
+        state.analyse_frame(&larc, &mut s);
+        if s != d {
+            return false;
+        }
+    }
+    true
+}
+
+#[test]
+fn lattices_are_those_of_the_standard(rt: HostRuntime) {
+    for level in &LEVELS {
+        assert!(rt; synthesises_plainly(*level, 200));
+        assert!(rt; synthesises_deemphasised_plainly(*level, 200));
+        assert!(rt; analyses_plainly(*level, 200));
+    }
 }

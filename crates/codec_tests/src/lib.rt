@@ -19,6 +19,8 @@ mod fr_rpe_tests;
 #[cfg(test)]
 mod fr_short_tests;
 #[cfg(test)]
+mod plain_filters;
+#[cfg(test)]
 mod trau_alaw_tests;
 #[cfg(test)]
 mod trau_num_tests;

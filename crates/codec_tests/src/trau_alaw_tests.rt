@@ -1,4 +1,6 @@
-use trau_alaw::{compress, expand, recompress};
+use trau_alaw::{
+    Law, compress, compress_law, expand, expand_law, idle_octet, recompress, recompress_law,
+};
 
 #[test]
 fn expands_the_ends(rt: HostRuntime) {
@@ -26,4 +28,68 @@ fn first_changed() -> Option<u8> {
 #[test]
 fn gives_all_octets_back(rt: HostRuntime) {
     assert_eq!(rt; first_changed(), None);
+}
+
+// The octet of a sample, by the greatest segment that begins at its magnitude or below (G.711, table 1a).
+fn plain_octet(x: i16) -> u8 {
+    let sign = if x < 0 { 0u8 } else { 128 };
+    let magnitude = if x < 0 { !x } else { x }.cast_unsigned();
+    let mut code = (magnitude / 16 % 16) as u8;
+    for segment in 1..8u8 {
+        if magnitude >> (segment + 7) > 0 {
+            code = 16 * segment + ((magnitude >> (segment + 3)) % 16) as u8;
+        }
+    }
+    (sign | code) ^ 0x55
+}
+
+// The first sample that is compressed to another octet.
+fn first_apart() -> Option<i16> {
+    for x in i16::MIN..=i16::MAX {
+        if compress(x) != plain_octet(x) {
+            return Some(x);
+        }
+    }
+    None
+}
+
+#[test]
+fn compresses_all_samples_plainly(rt: HostRuntime) {
+    assert_eq!(rt; first_apart(), None);
+}
+
+// Whether all octets of mu-law but 0x7F come back.
+fn all_but_one_come_back() -> bool {
+    for octet in 0..=255 {
+        let comes_back = recompress_law(Law::Mu, octet) == octet;
+        if comes_back == (octet == 0x7F) {
+            return false;
+        }
+    }
+    true
+}
+
+fn mulaw(octet: u8) -> i16 {
+    expand_law(Law::Mu, octet)
+}
+
+fn to_mulaw(x: i16) -> u8 {
+    compress_law(Law::Mu, x)
+}
+
+#[test]
+fn mulaw_at_its_ends(rt: HostRuntime) {
+    let samples = [mulaw(0xFF), mulaw(0x7F), mulaw(0xFE), mulaw(0x80), mulaw(0)];
+    assert!(rt; samples == [0, 0, 8, 32124, -32124]);
+    let least = [
+        to_mulaw(0),
+        to_mulaw(3),
+        to_mulaw(4),
+        to_mulaw(-1),
+        to_mulaw(-5),
+    ];
+    let greatest = [to_mulaw(32767), to_mulaw(-32768)];
+    assert!(rt; least == [0xFF, 0xFF, 0xFE, 0x7F, 0x7E] && greatest == [0x80, 0x00]);
+    assert!(rt; all_but_one_come_back());
+    assert!(rt; [idle_octet(Law::A), idle_octet(Law::Mu)] == [0xD5, 0xFF]);
 }

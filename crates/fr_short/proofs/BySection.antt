@@ -68,13 +68,13 @@ sectioned_none rs us s lu ls =
     let e : analysed_samples rs 0 us s ≡ beyond rs 0 160 0 us (λ j. get_or s j (pos 0)) (λ j. get_or s j (pos 0)) = beyond_none rs 160 0 us s ls in
     record { us_count = lu; ds_count = ls; savs_count = ls; out = ap (λ x. x.0) (sym e); kept = ap (λ x. x.1) (sym e) }
 
-pub sectioned_next : (rs : ℕ → List ℤ) (us0 s us ds savs rs_i ds' savs' : List ℤ) (i : ℕ) (u last : ℤ) → i < 8 → ((j : ℕ) → length (rs j) ≡ 8) →
+pub sectioned_next : (rs : ℕ → List ℤ) (rs_i : ℕ → ℤ) (us0 s us ds savs ds' savs' : List ℤ) (i : ℕ) (u last : ℤ) → i < 8 → ((j : ℕ) → length (rs j) ≡ 8) →
     length ds' ≡ 160 → length savs' ≡ 160 → Sectioned rs us0 s us ds savs i → u ≡ get_or us i (pos 0) →
-    ((j : ℕ) → j < 160 → get_or rs_i j (pos 0) ≡ get_or (rs j) i (pos 0)) →
+    ((j : ℕ) → j < 160 → rs_i j ≡ get_or (rs j) i (pos 0)) →
     ((j : ℕ) → j < 160 → get_or ds' j (pos 0) ≡ next_d rs_i u ds savs j) →
     ((j : ℕ) → j < 160 → get_or savs' j (pos 0) ≡ next_sav rs_i u ds savs j) →
     last ≡ u_at u savs 160 → Sectioned rs us0 s (set us i last) ds' savs' (i + 1)
-sectioned_next rs us0 s us ds savs rs_i ds' savs' i u last l long ld ls h eu er ed es el =
+sectioned_next rs rs_i us0 s us ds savs ds' savs' i u last l long ld ls h eu er ed es el =
     let us_count = h.us_count in
     let i1 : i + 1 ≡ suc i = omega arith in
     let e : drop i us ≡ u ∷ drop (i + 1) us = rw (i1, eu) (drop-cons us i (pos 0) (omega arith)) in

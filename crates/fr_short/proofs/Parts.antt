@@ -22,12 +22,20 @@ pub part_within : (k : ℕ) → part_of k < 4
 unfolding part_of
 part_within k = grind arith
 
--- a number for each part, written part by part
-pub by_parts : (g : ℕ → ℤ) (k : ℕ) (x0 x1 x2 x3 x4 : ℤ) → k < 160 →
+-- the first three parts are the first 40 samples
+pub front_ends : (p : ℕ) → p < 3 → part_start (p + 1) ≤ 40
+unfolding part_start
+front_ends p l = grind arith
+
+pub rest_is_last : (k : ℕ) → 40 ≤ k → part_of k ≡ 3
+unfolding part_of
+rest_is_last k l = grind arith
+
+-- a number for each of the first three parts, written part by part
+pub by_parts : (g : ℕ → ℤ) (k : ℕ) (x0 x1 x2 x3 : ℤ) → k < 40 →
     (k < part_start 1 → x1 ≡ (if nat_lt k (part_start 0) then x0 else g 0)) →
     (k < part_start 2 → x2 ≡ (if nat_lt k (part_start 1) then x1 else g 1)) →
     (k < part_start 3 → x3 ≡ (if nat_lt k (part_start 2) then x2 else g 2)) →
-    (k < part_start 4 → x4 ≡ (if nat_lt k (part_start 3) then x3 else g 3)) →
-    x4 ≡ g (part_of k)
+    x3 ≡ g (part_of k)
 unfolding part_of part_start
-by_parts g k x0 x1 x2 x3 x4 l a b c d = grind arith
+by_parts g k x0 x1 x2 x3 l a b c = grind arith

@@ -1,20 +1,22 @@
 //! The analysis lattice (GSM 06.10, section 4.2.10), one section after the other over the whole frame.
 //!
 //! In a section no sample waits for the one before it, since what it takes from that one came from the section
-//! before; so a loop over the samples can do several at once.
+//! before; so the compiler makes lanes of a loop over the samples, several at once. Three quarters of a frame are its last
+//! part, in which the section has one coefficient: that has a loop of its own.
 
 ghost use Rattle.std.specs.Prelude.{◌≡◌, ℕ, ◌<◌, ◌≤◌, unsigned_abs, slice_index_or, [], ◌+◌, nat_lt, if◌then◌else◌};
-ghost use Rattle.trau_num.specs.Num.{entry};
-ghost use Rattle.fr_short.specs.Reflection.{coefficients_at, part_of, part_start};
+ghost use Rattle.trau_num.specs.Num.{add_of, mult_r_of, entry};
+ghost use Rattle.fr_short.specs.Reflection.{coefficients_at, part_start};
 ghost use Rattle.fr_short.specs.Analysis.{analysed_samples};
-ghost use Rattle.fr_short.specs.AnalysisSection.{u_at, next_d, next_sav};
+ghost use Rattle.fr_short.specs.AnalysisSection.{coefficient_at, u_at, next_d, next_sav};
+ghost use Rattle.fr_short.specs.Words.{AreFactors};
 
 use crate::reflection::{part_start, parts};
 use trau_num::plus;
 
-// Fills the places of a part with r; those of earlier parts stay.
-fn fill_part(rs: &mut [i16; 160], part: usize, r: i16)
-    requires { part < 4 }
+// Fills the places of one of the first three parts with r; those of earlier parts stay.
+fn fill_part(rs: &mut [i16; 40], part: usize, r: i16)
+    requires { part < 3 }
     ensures { (k : ℕ) → k < part_start (part + 1) → entry rs.new k ≡ (if nat_lt k (part_start part) then entry rs.old k else r) }
 {
     for k in part_start(part)..part_start(part + 1) {
@@ -22,31 +24,55 @@ fn fill_part(rs: &mut [i16; 160], part: usize, r: i16)
     }
 }
 
-// The coefficient of section i at each sample.
-fn spread(parts: &[[i16; 8]; 4], i: usize, rs: &mut [i16; 160])
+// The coefficient of section i at each sample of the first three parts.
+fn spread(parts: &[[i16; 8]; 4], i: usize) -> [i16; 40]
     requires { i < 8 }
-    ensures { (k : ℕ) → k < 160 → entry rs.new k ≡ entry (slice_index_or parts.now (part_of k) []) i }
+    ensures { (k : ℕ) → k < 40 → entry result k ≡ coefficient_at parts.now i k }
 {
-    fill_part(rs, 0, parts[0][i]);
-    fill_part(rs, 1, parts[1][i]);
-    fill_part(rs, 2, parts[2][i]);
-    fill_part(rs, 3, parts[3][i]);
+    let mut rs = [0; 40];
+    fill_part(&mut rs, 0, parts[0][i]);
+    fill_part(&mut rs, 1, parts[1][i]);
+    fill_part(&mut rs, 2, parts[2][i]);
+    rs
 }
 
-// Passes d and sav of each sample through a section, and gives the u that it leaves to the next frame.
-fn pass(rs: &[i16; 160], first: i16, ds: &mut [i16; 160], savs: &mut [i16; 160]) -> i16
-    requires { (k : ℕ) → k < 160 → unsigned_abs (entry rs.now k) ≤ 32767 }
-    ensures ds { (k : ℕ) → k < 160 → entry ds.new k ≡ next_d rs.now first ds.old savs.old k }
-    ensures savs { (k : ℕ) → k < 160 → entry savs.new k ≡ next_sav rs.now first ds.old savs.old k }
+// Both outputs of a section with coefficient r, of which u is what the sample before left.
+fn outputs(r: i16, u: i16, d: i16) -> (i16, i16)
+    requires { unsigned_abs r ≤ 32767 }
+    ensures d { result.0 ≡ add_of d (mult_r_of r u) }
+    ensures sav { result.1 ≡ add_of u (mult_r_of r d) }
+{
+    (plus(d, r, u), plus(u, r, d))
+}
+
+// Passes d and sav of each sample through section i, and gives the u that it leaves to the next frame.
+fn pass(
+    parts: &[[i16; 8]; 4],
+    i: usize,
+    first: i16,
+    ds: &mut [i16; 160],
+    savs: &mut [i16; 160],
+) -> i16
+    requires section { i < 8 }
+    requires factors { (p : ℕ) → p < 4 → AreFactors (slice_index_or parts.now p []) }
+    ensures ds { (k : ℕ) → k < 160 → entry ds.new k ≡ next_d (coefficient_at parts.now i) first ds.old savs.old k }
+    ensures savs { (k : ℕ) → k < 160 → entry savs.new k ≡ next_sav (coefficient_at parts.now i) first ds.old savs.old k }
     ensures last { result ≡ u_at first savs.old 160 }
 {
+    let rs = spread(parts, i);
     let mut u = first;
-    for k in 0..160 {
-        let d = ds[k];
-        let sav = savs[k];
-        ds[k] = plus(d, rs[k], u);
-        savs[k] = plus(u, rs[k], d);
-        u = sav;
+    for k in 0..40 {
+        let (d, sav) = outputs(rs[k], u, ds[k]);
+        u = savs[k];
+        ds[k] = d;
+        savs[k] = sav;
+    }
+    let r = parts[3][i];
+    for k in 40..160 {
+        let (d, sav) = outputs(r, u, ds[k]);
+        u = savs[k];
+        ds[k] = d;
+        savs[k] = sav;
     }
     u
 }
@@ -58,9 +84,7 @@ pub(crate) fn analyse(old: &[i16; 8], new: &[i16; 8], us: &mut [i16; 8], s: &mut
 {
     let parts = parts(old, new);
     let mut savs = *s;
-    let mut rs = [0; 160];
     for i in 0..8 {
-        spread(&parts, i, &mut rs);
-        us[i] = pass(&rs, us[i], s, &mut savs);
+        us[i] = pass(&parts, i, us[i], s, &mut savs);
     }
 }

@@ -1,7 +1,8 @@
-use Rattle.std.proofs.Common.{◌≡◌, ℕ, ◌<◌, ◌∙◌, ap, refl, rules, length, List, ℤ, get_or, pos, FitsSigned, w16}
+use Rattle.std.proofs.Common.{◌≡◌, ℕ, ◌<◌, ap, refl, rules, length, List, ℤ, get_or, pos, FitsSigned, w16}
 use Rattle.std.proofs.lemmas.Int.{to_z-of_z}
 use Rattle.trau_num.specs.Num.{entry}
 use Rattle.fr_short.specs.Reflection.{coefficients_of, coefficients_at, part_of}
+use Rattle.fr_short.specs.AnalysisSection.{coefficient_at}
 use Rattle.fr_short.proofs.Parts.{part_within}
 use Rattle.fr_short.proofs.BySection.{sectioned_none, sectioned_next, sectioned_all}
 use Rattle.fr_short.proofs.analysis.analyse.Goals as goal
@@ -18,11 +19,12 @@ loop-i-preserved c =
     let fp : FitsSigned w16 c.pass.result = search rules in
     let fu : FitsSigned w16 (get_or c.loop-i.us c.loop-i.i (pos 0)) = search rules in
     let i = c.loop-i.i in
-    let r : (k : ℕ) → k < 160 → entry c.spread.new.rs k ≡ entry (coefficients_at c.args.old.now c.args.new.now k) i =
-    λ k l. c.spread.ensures k l ∙ ap (λ rs. entry rs i) (c.parts-parts.ensures.value (part_of k) (part_within k)) in
+    let parts = c.parts-parts.result in
+    let r : (k : ℕ) → k < 160 → coefficient_at parts i k ≡ entry (coefficients_at c.args.old.now c.args.new.now k) i =
+    λ k l. ap (λ rs. entry rs i) (c.parts-parts.ensures.value (part_of k) (part_within k)) in
     let ds = simp to_z-of_z at c.pass.ensures.ds in
     let savs = simp to_z-of_z at c.pass.ensures.savs in
-    simp to_z-of_z (sectioned_next _ _ _ c.loop-i.us c.loop-i.s c.loop-i.savs c.spread.new.rs c.pass.new.ds c.pass.new.savs i (get_or c.loop-i.us i (pos 0)) c.pass.result
+    simp to_z-of_z (sectioned_next _ (coefficient_at parts i) _ _ c.loop-i.us c.loop-i.s c.loop-i.savs c.pass.new.ds c.pass.new.savs i (get_or c.loop-i.us i (pos 0)) c.pass.result
     c.loop-i-test.true (eight _ _) c.pass.array_long c.pass.array_long2 c.loop-i.invariant refl r ds savs c.pass.ensures.last)
 
 pub returns-clause-residual : goal.returns-clause-residual
@@ -30,6 +32,3 @@ returns-clause-residual c = (sectioned_all _ _ _ _ _ _ _ c.loop-i-test.false (ei
 
 pub returns-clause-sections : goal.returns-clause-sections
 returns-clause-sections c = (sectioned_all _ _ _ _ _ _ _ c.loop-i-test.false (eight _ _) c.loop-i.invariant).1
-
-pub pass-requires : goal.pass-requires
-pass-requires c = λ k l. rw (c.spread.ensures k l) (c.parts-parts.ensures.factors (part_of k) (part_within k) c.loop-i.i c.loop-i-test.true)

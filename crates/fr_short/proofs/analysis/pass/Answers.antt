@@ -1,44 +1,36 @@
-use Rattle.std.proofs.Common.{◌≤◌, ◌≤ℤ◌, ℤ, neg_ℤ, get_or, pos, unsigned_abs, arith, rules, FitsSigned, w16, to_z}
-use Rattle.std.proofs.lemmas.Int.{to_z-of_z, ints}
-use Rattle.fr_short.proofs.Passes.{passing_start, passing_next}
+use Rattle.std.proofs.Common.{◌≡◌, ◌≤◌, ℤ, List, [], get_or, pos, sym, ap, arith, rules, FitsSigned, w16, to_z}
+use Rattle.std.proofs.lemmas.Int.{to_z-of_z}
+use Rattle.trau_num.specs.Num.{entry}
+use Rattle.fr_short.specs.AnalysisSection.{coefficient_at}
+use Rattle.fr_short.proofs.Parts.{rest_is_last}
+use Rattle.fr_short.proofs.Passes.{passing_next}
 use Rattle.fr_short.proofs.analysis.pass.Goals as goal
-
-not_least : (r : ℤ) → unsigned_abs r ≤ 32767 → neg_ℤ (pos 32767) ≤ℤ r
-not_least r h = omega (arith, ints)
-
-pub plus-requires : goal.plus-requires
-plus-requires c =
-    let fr : FitsSigned w16 (get_or c.args.rs.now c.loop-k.k (pos 0)) = search rules in
-    rw (to_z-of_z w16 _ fr) (not_least _ (c.requires c.loop-k.k c.loop-k-test.true))
-
-pub plus-requires-in-loop-k : goal.plus-requires-in-loop-k
-plus-requires-in-loop-k c =
-    let fr : FitsSigned w16 (get_or c.args.rs.now c.loop-k.k (pos 0)) = search rules in
-    rw (to_z-of_z w16 _ fr) (not_least _ (c.requires c.loop-k.k c.loop-k-test.true))
-
-pub loop-k-init : goal.loop-k-init
-loop-k-init c = passing_start c.args.rs.now _ c.args.ds.now c.args.savs.now c.told-ds c.told-savs
 
 pub loop-k-preserved : goal.loop-k-preserved
 loop-k-preserved c =
     let ff = c.ranges.first in
-    let fx : FitsSigned w16 c.plus.result = search rules in
-    let fy : FitsSigned w16 c.plus-in-loop-k.result = search rules in
-    let fd : FitsSigned w16 (get_or c.loop-k.ds c.loop-k.k (pos 0)) = search rules in
-    let fs : FitsSigned w16 (get_or c.loop-k.savs c.loop-k.k (pos 0)) = search rules in
-    let fr : FitsSigned w16 (get_or c.args.rs.now c.loop-k.k (pos 0)) = search rules in
-    simp to_z-of_z (passing_next c.args.rs.now c.args.first c.args.ds.now c.args.savs.now c.loop-k.ds c.loop-k.savs (to_z w16 c.loop-k.u-bits) c.loop-k.k
-    c.plus.result c.plus-in-loop-k.result c.loop-k-test.true (simp to_z-of_z at c.loop-k.invariant)
-    (simp to_z-of_z at c.plus.ensures) (simp to_z-of_z at c.plus-in-loop-k.ensures))
+    let k = c.loop-k.k in
+    let fx : FitsSigned w16 c.outputs-d.result.0 = search rules in
+    let fy : FitsSigned w16 c.outputs-d.result.1 = search rules in
+    let fd : FitsSigned w16 (get_or c.loop-k.ds k (pos 0)) = search rules in
+    let fs : FitsSigned w16 (get_or c.loop-k.savs k (pos 0)) = search rules in
+    let fr : FitsSigned w16 (get_or c.spread-rs.result k (pos 0)) = search rules in
+    simp to_z-of_z (passing_next (coefficient_at c.args.parts.now c.args.i) c.args.first c.args.ds.now c.args.savs.now c.loop-k.ds c.loop-k.savs
+    (get_or c.spread-rs.result k (pos 0)) (to_z w16 c.loop-k.u-bits) k c.outputs-d.result.0 c.outputs-d.result.1 (omega arith) (c.spread-rs.ensures k c.loop-k-test.true)
+    (simp to_z-of_z at c.loop-k.invariant) (simp to_z-of_z at c.outputs-d.ensures.d) (simp to_z-of_z at c.outputs-d.ensures.sav))
 
-pub returns-clause-ds : goal.returns-clause-ds
-returns-clause-ds c =
+pub loop-k-2-preserved : goal.loop-k-2-preserved
+loop-k-2-preserved c =
     let ff = c.ranges.first in
-    let inv = simp to_z-of_z at c.loop-k.invariant in
-    λ k l. inv.ds_over.written k (omega arith)
-
-pub returns-clause-savs : goal.returns-clause-savs
-returns-clause-savs c =
-    let ff = c.ranges.first in
-    let inv = simp to_z-of_z at c.loop-k.invariant in
-    λ k l. inv.savs_over.written k (omega arith)
+    let k = c.loop-k-2.k in
+    let last : List ℤ = get_or c.args.parts.now 3 [] in
+    let from : 40 ≤ k = omega arith in
+    let r : get_or last c.args.i (pos 0) ≡ coefficient_at c.args.parts.now c.args.i k = ap (λ p. entry (get_or c.args.parts.now p []) c.args.i) (sym (rest_is_last k from)) in
+    let fx : FitsSigned w16 c.outputs-d-in-loop-k-2.result.0 = search rules in
+    let fy : FitsSigned w16 c.outputs-d-in-loop-k-2.result.1 = search rules in
+    let fd : FitsSigned w16 (get_or c.loop-k-2.ds k (pos 0)) = search rules in
+    let fs : FitsSigned w16 (get_or c.loop-k-2.savs k (pos 0)) = search rules in
+    let fr : FitsSigned w16 (get_or last c.args.i (pos 0)) = search rules in
+    simp to_z-of_z (passing_next (coefficient_at c.args.parts.now c.args.i) c.args.first c.args.ds.now c.args.savs.now c.loop-k-2.ds c.loop-k-2.savs
+    (get_or last c.args.i (pos 0)) (to_z w16 c.loop-k-2.u-bits) k c.outputs-d-in-loop-k-2.result.0 c.outputs-d-in-loop-k-2.result.1 (omega arith) r
+    (simp to_z-of_z at c.loop-k-2.invariant) (simp to_z-of_z at c.outputs-d-in-loop-k-2.ensures.d) (simp to_z-of_z at c.outputs-d-in-loop-k-2.ensures.sav))

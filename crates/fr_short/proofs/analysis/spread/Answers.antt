@@ -11,9 +11,7 @@ returns c = λ k l.
     let f0 : FitsSigned w16 (entry (get_or c.args.parts.now 0 []) c.args.i) = search rules in
     let f1 : FitsSigned w16 (entry (get_or c.args.parts.now 1 []) c.args.i) = search rules in
     let f2 : FitsSigned w16 (entry (get_or c.args.parts.now 2 []) c.args.i) = search rules in
-    let f3 : FitsSigned w16 (entry (get_or c.args.parts.now 3 []) c.args.i) = search rules in
-    by_parts (λ p. entry (get_or c.args.parts.now p []) c.args.i) k _ _ _ _ _ l
+    by_parts (λ p. entry (get_or c.args.parts.now p []) c.args.i) k _ _ _ _ l
     (simp to_z-of_z at (c.fill_part.ensures k))
     (simp to_z-of_z at (c.fill_part-2.ensures k))
     (simp to_z-of_z at (c.fill_part-3.ensures k))
-    (simp to_z-of_z at (c.fill_part-4.ensures k))
