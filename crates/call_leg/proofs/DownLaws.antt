@@ -43,7 +43,7 @@ use Rattle.call_leg.proofs.Upward.{plain-more}
 
 -- ---- the handing over
 
-one_more : (q : List (List ℕ)) (x : List ℕ) → length q ≤ 1 → keep_last 2 (q ++ x ∷ []) ≡ q ++ x ∷ []
+pub one_more : (q : List (List ℕ)) (x : List ℕ) → length q ≤ 1 → keep_last 2 (q ++ x ∷ []) ≡ q ++ x ∷ []
 one_more q x l =
     let n = length-append q (x ∷ []) in
     let z : length (q ++ x ∷ []) - 2 ≡ 0 = omega arith in
@@ -169,7 +169,7 @@ tried-inside call t past fs d h =
 
 -- ---- the downlink half
 
-half-stands : (call : ℕ) (ts : List CallPeriod) (now : Settings) (up pcm : List ℕ) (handed : Option (List ℕ)) (d : DownMemory) → length pcm ≡ 160 → is_some handed ≡ now.bridged →
+pub half-stands : (call : ℕ) (ts : List CallPeriod) (now : Settings) (up pcm : List ℕ) (handed : Option (List ℕ)) (d : DownMemory) → length pcm ≡ 160 → is_some handed ≡ now.bridged →
     Halfway call ts now up handed d → Between call (period_with now up pcm handed ∷ ts) (later now) (down_worked d pcm).1
     × ((down_worked d pcm).0 ≡ down_now call (period_with now up pcm handed ∷ ts))
 unfolding down_worked

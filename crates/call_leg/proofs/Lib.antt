@@ -17,3 +17,4 @@ pub mod UpLaws
 pub mod DownLaws
 pub mod OrderLaws
 pub mod LineLaws
+pub mod HalfLaws

@@ -32,7 +32,7 @@ played-plain : (p : Fields) (past : List Fields) (m : decoder.DecoderMemory) (al
 played-plain p past m true h = let d = decoding.frame-stands p past m h in (d.0, ap compressed d.1)
 played-plain p past m false h = (decoding.home-stands, refl)
 
-played-stands : (e : EffectiveFields) (alone : Bool) (past : List Fields) (m : decoder.DecoderMemory) → decoder.Stands past m →
+pub played-stands : (e : EffectiveFields) (alone : Bool) (past : List Fields) (m : decoder.DecoderMemory) → decoder.Stands past m →
     decoder.Stands (plain_with e alone past) (played m e alone).1 × ((played m e alone).0 ≡ decoded_octets (plain_with e alone past))
 played-stands Quiet alone past m h = (decoding.home-stands, refl)
 played-stands (Speech p) alone past m h = played-plain p past m alone h
@@ -48,7 +48,7 @@ asked-frozen : (m : AlignMemory) (field : Option ℕ) → (asked m field).frozen
 asked-frozen m None = refl
 asked-frozen m (Some field) = refl
 
-hear-stands : (call : ℕ) (ts : List CallPeriod) (now : Settings) (up : List ℕ) (s : Sighting) (quiet : Bool) (d : DownMemory) → s ≡ sighting_after ts up →
+pub hear-stands : (call : ℕ) (ts : List CallPeriod) (now : Settings) (up : List ℕ) (s : Sighting) (quiet : Bool) (d : DownMemory) → s ≡ sighting_after ts up →
     quiet ≡ is_quiet (effective_of call (heard_as (sighting_after ts up) ∷ heard_of ts)) → Between call ts now d → Halfway call ts now up None (after_sighting d s quiet)
 hear-stands call ts now up s quiet d es eq h =
     let before = fields_since (down_periods ts) (frames_of ts) in
@@ -73,41 +73,41 @@ hear-stands call ts now up s quiet d es eq h =
 
 -- ---- the half
 
-abbrev found_in : LegMemory → List ℕ → Sighting
-found_in m up = sighting_in (search.next_period m.search up).0
+abbrev pub found_in : search.SyncMemory → List ℕ → Sighting
+found_in m up = sighting_in (search.next_period m up).0
 
 -- what the search finds, and the effective frame
-hears : (call : ℕ) (ts : List CallPeriod) (now : Settings) (up : List ℕ) (m : LegMemory) → length up ≡ 40 → Stands call ts now m →
-    (found_in m up ≡ sighting_after ts up) × ((rx.received m.rx (heard_as (found_in m up))).0 ≡ effective_of call (heard_as (sighting_after ts up) ∷ heard_of ts))
-hears call ts now up m l h =
-    let found = search.next_period m.search up in
-    let s = stands-next m.search found.1 up found.0 l refl (ups_of ts) h.search in
+pub hears : (call : ℕ) (ts : List CallPeriod) (up : List ℕ) (m : search.SyncMemory) (r : rx.RxMemory) → length up ≡ 40 → search.Stands (ups_of ts) m → rx.Stands call (heard_of ts) r →
+    (found_in m up ≡ sighting_after ts up) × ((rx.received r (heard_as (found_in m up))).0 ≡ effective_of call (heard_as (sighting_after ts up) ∷ heard_of ts))
+hears call ts up m r l h k =
+    let found = search.next_period m up in
+    let s = stands-next m found.1 up found.0 l refl (ups_of ts) h in
     let es = sighted ts up found.0 (found_in m up) s.1 refl in
-    let heard = rx.received m.rx (heard_as (found_in m up)) in
-    let r = received_more call (heard_of ts) m.rx (heard_as (found_in m up)) heard.0 heard.1 refl h.rx in
-    (es, r.1 ∙ ap (λ z. effective_of call (heard_as z ∷ heard_of ts)) es)
+    let heard = rx.received r (heard_as (found_in m up)) in
+    let t = received_more call (heard_of ts) r (heard_as (found_in m up)) heard.0 heard.1 refl k in
+    (es, t.1 ∙ ap (λ z. effective_of call (heard_as z ∷ heard_of ts)) es)
 
 pub up-stands : (call : ℕ) (ts : List CallPeriod) (now : Settings) (up : List ℕ) (m : LegMemory) → length up ≡ 40 → Stands call ts now m →
     Midway call ts now up None (up_worked m up).2
 unfolding up_worked
 up-stands call ts now up m l h =
     let found = search.next_period m.search up in
-    let heard = rx.received m.rx (heard_as (found_in m up)) in
-    let e = hears call ts now up m l h in
-    up-midway call ts now up m _ (found_in m up) heard.0 h e.0 (stands-next m.search found.1 up found.0 l refl (ups_of ts) h.search).0
-    (received_more call (heard_of ts) m.rx (heard_as (found_in m up)) heard.0 heard.1 refl h.rx).0 e.1
+    let heard = rx.received m.rx (heard_as (found_in m.search up)) in
+    let e = hears call ts up m.search m.rx l h.search h.rx in
+    up-midway call ts now up m _ (found_in m.search up) heard.0 h e.0 (stands-next m.search found.1 up found.0 l refl (ups_of ts) h.search).0
+    (received_more call (heard_of ts) m.rx (heard_as (found_in m.search up)) heard.0 heard.1 refl h.rx).0 e.1
     (played-stands heard.0 (not m.down.bridged) (plain_stretch call (epoch_now ts now) ts) m.decoder h.decoder).0 refl
-    (hear-stands call ts now up (found_in m up) (is_quiet heard.0) m.down e.0 (ap is_quiet e.1) h.down)
+    (hear-stands call ts now up (found_in m.search up) (is_quiet heard.0) m.down e.0 (ap is_quiet e.1) h.down)
 
 pub up-effective : (call : ℕ) (ts : List CallPeriod) (now : Settings) (up pcm : List ℕ) (handed : Option (List ℕ)) (m : LegMemory) → length up ≡ 40 → Stands call ts now m →
     (up_worked m up).0 ≡ effective_now call (period_with now up pcm handed ∷ ts)
 unfolding up_worked
-up-effective call ts now up pcm handed m l h = (hears call ts now up m l h).1
+up-effective call ts now up pcm handed m l h = (hears call ts up m.search m.rx l h.search h.rx).1
 
 pub up-plays : (call : ℕ) (ts : List CallPeriod) (now : Settings) (up pcm : List ℕ) (handed : Option (List ℕ)) (m : LegMemory) → length up ≡ 40 → is_some handed ≡ now.bridged →
     Stands call ts now m → (up_worked m up).1 ≡ out_of call (period_with now up pcm handed ∷ ts)
 unfolding up_worked
 up-plays call ts now up pcm handed m l b h =
-    let heard = rx.received m.rx (heard_as (found_in m up)) in
-    up-out call ts now up pcm handed m heard.0 _ h (hears call ts now up m l h).1 b
+    let heard = rx.received m.rx (heard_as (found_in m.search up)) in
+    up-out call ts now up pcm handed m.down.bridged heard.0 _ h.down.bridged (hears call ts up m.search m.rx l h.search h.rx).1 b
     (played-stands heard.0 (not m.down.bridged) (plain_stretch call (epoch_now ts now) ts) m.decoder h.decoder).1

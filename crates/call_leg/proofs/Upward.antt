@@ -57,11 +57,11 @@ up-midway call ts now up m m1 s e h es se rs ee ds cs hs =
     }
 
 -- and its octets are those of the call
-pub up-out : (call : ℕ) (ts : List CallPeriod) (now : Settings) (up pcm : List ℕ) (handed : Option (List ℕ)) (m : LegMemory) (e : EffectiveFields) (out : List ℕ) → Stands call ts now m →
+pub up-out : (call : ℕ) (ts : List CallPeriod) (now : Settings) (up pcm : List ℕ) (handed : Option (List ℕ)) (bridged : Bool) (e : EffectiveFields) (out : List ℕ) → bridged ≡ now.bridged →
     e ≡ effective_of call (heard_as (sighting_after ts up) ∷ heard_of ts) → is_some handed ≡ now.bridged →
-    out ≡ decoded_octets (plain_with e (not m.down.bridged) (plain_stretch call (epoch_now ts now) ts)) → out ≡ out_of call (period_with now up pcm handed ∷ ts)
-up-out call ts now up pcm handed m e out h ee b eo =
+    out ≡ decoded_octets (plain_with e (not bridged) (plain_stretch call (epoch_now ts now) ts)) → out ≡ out_of call (period_with now up pcm handed ∷ ts)
+up-out call ts now up pcm handed bridged e out eb ee b eo =
     let q : EffectiveFields = effective_of call (heard_as (sighting_after ts up) ∷ heard_of ts) in
-    eo ∙ ap (λ z. decoded_octets (plain_with z (not m.down.bridged) (plain_stretch call (epoch_now ts now) ts))) ee
-    ∙ ap (λ z. decoded_octets (plain_with q (not z) (plain_stretch call (epoch_now ts now) ts))) h.down.bridged
+    eo ∙ ap (λ z. decoded_octets (plain_with z (not bridged) (plain_stretch call (epoch_now ts now) ts))) ee
+    ∙ ap (λ z. decoded_octets (plain_with q (not z) (plain_stretch call (epoch_now ts now) ts))) eb
     ∙ ap decoded_octets (plain-more call ts now up pcm handed b)

@@ -10,3 +10,4 @@ pub mod Memory
 pub mod Places
 pub mod Stands
 pub mod Step
+pub mod Halves

@@ -16,9 +16,10 @@ ghost use Rattle.call_leg.specs.Settings.{Settings, new_settings, later, with_le
 ghost use Rattle.call_leg.specs.Out.{out_of};
 ghost use Rattle.call_leg.specs.Down.{down_periods, frames_of, down_made, down_now, down_line};
 ghost use Rattle.call_leg.specs.Numbered.{first_frames, start_of};
-ghost use Rattle.call_leg.specs.Memory.{LegMemory, periods_of_leg};
+ghost use Rattle.call_leg.specs.Memory.{DownMemory, LegMemory, periods_of_leg};
 ghost use Rattle.call_leg.specs.Stands.{Stands, OfItsCall, Midway};
 ghost use Rattle.call_leg.specs.Step.{home_leg, up_worked, with_down, after_handing, down_worked, period_worked, set_level, set_mode, begin_bridge, bridge_over};
+ghost use Rattle.call_leg.specs.Halves.{up_of, joined, Note, up_turned, noted, down_turned};
 
 /// The Down line of a call is the front of the downlink that is made: 320 bits a period.
 pub fn the_down_line_is_made()
@@ -123,4 +124,13 @@ pub fn the_frames_are_made_by_number()
 /// The downlink that is made in a call's periods: 320 bits, and two for each octet of the Pcm line before the next frame.
 pub fn the_downlink_has_its_length()
     ensures { (call : ℕ) (ts : List CallPeriod) → length (down_made call (frames_of ts)) ≡ 320 + 2 * next_start (frames_of ts) }
+{}
+
+/// The uplink half of a leg's period is a period of its uplink half, whose note its downlink half hears. So a period of a
+/// leg is one of each of its halves.
+pub fn the_halves_are_the_leg()
+    ensures leg { (m : LegMemory) → joined (up_of m) m.down ≡ m }
+    ensures up { (m : LegMemory) (up : List ℕ) → let t = up_turned (up_of m) up in up_worked m up ≡ (t.0.eff, t.1, joined t.2 (noted m.down t.0)) }
+    ensures down { (d : DownMemory) (n : Note) (pcm : List ℕ) → down_turned d n None pcm ≡ down_worked (noted d n) pcm }
+    ensures handed { (d : DownMemory) (n : Note) (e : EffectiveFields) (pcm : List ℕ) → down_turned d n (Some e) pcm ≡ down_worked (after_handing (noted d n) e) pcm }
 {}

@@ -7,24 +7,29 @@
 //! (`tx_dtx`) and puts the frames on the line. Within a bridge the partner's effective frames go out in place of its own.
 //!
 //! `leg` has what is kept, `calls` the calls; `found` and `uplink` what a period of the uplink brings, `up` the way up;
-//! `side` and `sides` the downlink side, `coder` and `down` the way down; `laws` has the laws.
+//! `side` and `sides` the downlink side, `coder` and `down` the way down; `halves` has the two halves of a leg apart, and
+//! `turns` their calls; `laws` has the laws.
 //!
 //! Definitions: `specs/Periods.antt` (the periods of a call), `specs/Uplink.antt` (what its uplink tells),
 //! `specs/Settings.antt` (what is set for its next period), `specs/Out.antt` and `specs/Down.antt` (its outgoing lines),
 //! `specs/Numbered.antt` (its made frames by number), `specs/Waiting.antt` (the handed frames that wait),
 //! `specs/Counted.antt`, `specs/Places.antt` and `specs/Stands.antt` (what a leg holds after all periods so far),
-//! `specs/Memory.antt` (what it keeps), `specs/Step.antt` (one call after another).
+//! `specs/Memory.antt` (what it keeps), `specs/Step.antt` (one call after another), `specs/Halves.antt` (the two halves of a
+//! leg apart).
 #![tactic(auto)]
 
 mod calls;
 mod coder;
 mod down;
 mod found;
+mod halves;
 pub mod laws;
 mod leg;
 mod side;
 mod sides;
+mod turns;
 mod up;
 mod uplink;
 
+pub use halves::{DownLeg, UpLeg, UpNote};
 pub use leg::Leg;

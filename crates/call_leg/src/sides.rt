@@ -1,17 +1,19 @@
 //! The downlink side of a leg, beside its half of a period.
 
-ghost use Rattle.std.specs.Prelude.{◌≡◌, not, ◌&&◌, ◌==◌, length, IfOk};
+ghost use Rattle.std.specs.Prelude.{◌≡◌, ◌<◌, not, ◌&&◌, ◌==◌, length, IfOk, IfSome, option_copied};
 ghost use Rattle.down_framer.specs.Memory.{IsBetween};
 ghost use Rattle.rx_handler.specs.State.{effective_fields};
 ghost use Rattle.call_leg.specs.Uplink.{sighting_of};
 ghost use Rattle.call_leg.specs.Memory.{down_memory};
 ghost use Rattle.call_leg.specs.Step.{home_down, asked, after_sighting, after_handing, bridge_begun, bridge_over};
+ghost use Rattle.call_leg.specs.Halves.{noted, handed_to, item_of};
 
 use crate::coder::Coder;
 use crate::down::thaw_at_end;
 use crate::found::Found;
+use crate::halves::UpNote;
 use crate::side::DownSide;
-use crate::up::handed;
+use crate::up::{handed, is_quiet};
 use crate::uplink::{dtxd, field};
 use circular_buffer::HeapCircularBuffer;
 use down_framer::Framer;
@@ -62,6 +64,18 @@ impl DownSide {
         self.quiet = quiet;
     }
 
+    /// Hears what a note of the uplink tells.
+    pub(crate) fn note(&mut self, note: &UpNote)
+        ensures framer { self.new.framer ≡ self.old.framer }
+        ensures step { down_memory self.new ≡ noted (down_memory self.old) note.now }
+    {
+        self.align.ask(note.ask);
+        if let Some(dtxd) = note.dtx {
+            self.dtxd = dtxd;
+        }
+        self.quiet = is_quiet(&note.eff);
+    }
+
     /// Takes the partner's effective frame of the period.
     pub(crate) fn hand(&mut self, e: &Effective)
         ensures framer { self.new.framer ≡ self.old.framer }
@@ -70,6 +84,16 @@ impl DownSide {
         let mut bits = [0; 260];
         handed(e).to_bits(&mut bits);
         self.waiting.push_back(bits);
+    }
+
+    /// Takes the partner's effective frame of the period, if there is one.
+    pub(crate) fn hand_item(&mut self, item: Option<&Effective>)
+        ensures framer { self.new.framer ≡ self.old.framer }
+        ensures step { down_memory self.new ≡ handed_to (down_memory self.old) (item_of (option_copied item.entry)) }
+    {
+        if let Some(e) = item {
+            self.hand(e);
+        }
     }
 
     /// A bridge is on from the next period on.

@@ -1,8 +1,9 @@
 //! What a period of the uplink brings.
 
-ghost use Rattle.std.specs.Prelude.{◌≡◌, ◌<◌, ◌+◌, IfSome};
+ghost use Rattle.std.specs.Prelude.{◌≡◌, ◌<◌, ◌≤◌, ◌+◌, IfSome, unwrap_or};
 ghost use Rattle.frame_sync.specs.Periods.{CarriesFrame};
 ghost use Rattle.call_leg.specs.Uplink.{sighting_in, sighting_of, field_of, dtxd_after};
+ghost use Rattle.call_leg.specs.Halves.{dtx_told};
 ghost use Rattle.call_leg.specs.Counted.{counted, counted_frame, sighted_in};
 
 use crate::found::Found;
@@ -30,6 +31,30 @@ pub(crate) fn field(found: &Found) -> Option<u8>
         Found::Frame(f) => match f.kind {
             Kind::Speech | Kind::Idle => Some(f.align),
             Kind::Other => None,
+        },
+        Found::Nothing | Found::Missed => None,
+    }
+}
+
+/// The same, and 0 where there is none.
+pub(crate) fn asked(found: &Found) -> u8
+    ensures value { result ≡ unwrap_or (field_of (sighting_of found.now)) 0 }
+    ensures within { result ≤ 63 }
+{
+    match field(found) {
+        Some(field) => field,
+        None => 0,
+    }
+}
+
+/// DTXd of a speech frame, where one came.
+pub(crate) fn dtx_told(found: &Found) -> Option<bool>
+    ensures { result ≡ dtx_told (sighting_of found.now) }
+{
+    match found {
+        Found::Frame(f) => match f.kind {
+            Kind::Speech => Some(f.dtxd),
+            Kind::Idle | Kind::Other => None,
         },
         Found::Nothing | Found::Missed => None,
     }

@@ -4,3 +4,7 @@ pub mod Places
 pub mod Octets
 pub mod Steps
 pub mod Runs
+pub mod Joined
+pub mod Sequences
+pub mod Phased
+pub mod Telling

@@ -40,3 +40,6 @@ is_below m n h = grind (arith, nat_tests)
 
 pub not_below : (m n : ℕ) → n ≤ m → ltb m n ≡ false
 not_below m n h = grind (arith, nat_tests)
+
+pub is_before : (m n : ℕ) → m < n → (m == n) ≡ false
+is_before m n h = grind (arith, nat_tests)

@@ -1,21 +1,21 @@
 -- Jobs from place to place, for every history of their calls.
-use Rattle.std.proofs.Common.{◌≡◌, ℕ, zero, suc, ◌+◌, ◌<◌, ◌≤◌, max, ltb, Bool, true, false, if◌then◌else◌, Option, Some, None, List, ◌∷◌, length, refl, sym, ap, subst, ◌∙◌, ⊎_elim, arith}
+use Rattle.std.proofs.Common.{◌≡◌, ℕ, zero, suc, ◌+◌, ◌<◌, ◌≤◌, max, min, ltb, Bool, true, false, if◌then◌else◌, Option, Some, None, List, ◌∷◌, length, refl, sym, ap, subst, ◌∙◌, ⊎_elim, arith}
 use Rattle.std.proofs.lemmas.Bool.{cases_lt}
 use Rattle.trau_params.specs.Bits260.{bits260}
-use Rattle.rx_handler.specs.Origin.{EffectiveFields}
+use Rattle.rx_handler.specs.Origin.{EffectiveFields, Quiet}
 use Rattle.call_leg.specs.Uplink.{handed_fields}
 use Rattle.call_leg.specs.Periods.{CallPeriod, effective_now}
 use Rattle.call_leg.specs.Settings.{Settings, without_bridge}
 use Rattle.call_pair.specs.Memory.{IoMemory, HalfMemory, IsIo, places_left}
+use Rattle.call_pair.specs.declared.job.Job.{Job}
+use Rattle.call_pair.specs.declared.job.Job.TheVariants.{One, Two}
 use Rattle.call_pair.specs.Places.{has_place}
-use Rattle.call_pair.specs.Turn.{alone, effective, bridged, left_alone, turned, pair_turned}
+use Rattle.call_pair.specs.Turn.{effective, half_turned, half_turned_if, turned}
 use Rattle.call_pair.specs.Jobs.{job_left, after_turns, finished}
 use Rattle.call_pair.specs.History.{Start, settings_at, period_at, alone_periods, handed_at, bridged_periods, settings_past, Begins, HasWorked}
 use Rattle.call_pair.specs.Finished.{HasWorkedBridged, OneWorked, TwoWorked}
-use Rattle.call_pair.specs.declared.job.Job.{Job}
-use Rattle.call_pair.specs.declared.job.Job.TheVariants.{One, Two}
-use Rattle.call_pair.proofs.Places.{is_below, not_below}
-use Rattle.call_pair.proofs.Steps.{alone-worked, effective-is, bridged-worked, first_left-worked, later_left-worked}
+use Rattle.call_pair.proofs.Places.{is_below, not_below, is_same, is_past, is_before}
+use Rattle.call_pair.proofs.Steps.{alone, tells, bridged, left_alone, turned-alone, turned-bridged, tells-is, turned-ends, left_alone-is, alone-worked, effective-is, bridged-worked, first_left-worked, later_left-worked}
 
 -- ---- what a half tells of its places
 
@@ -34,7 +34,7 @@ begun s h b = record {
 begun-left : (s : Start) (h : HalfMemory) → Begins s h → places_left h.io ≡ s.io.given
 begun-left s h b = ap places_left b.io ∙ (let e = b.none_done in omega arith)
 
-still-bridged : (k : ℕ) (now : Settings) → (settings_at k now).bridged ≡ now.bridged
+pub still-bridged : (k : ℕ) (now : Settings) → (settings_at k now).bridged ≡ now.bridged
 still-bridged zero now = refl
 still-bridged (suc k) now = still-bridged k now
 
@@ -48,8 +48,8 @@ many-bridged (suc k) a b = omega (arith, many-bridged k a b)
 
 -- ---- one call
 
-turned-one : (h : HalfMemory) → has_place h.io ≡ true → turned (One h) ≡ One (alone h)
-turned-one h e = ap (λ (b : Bool). if b then One (alone h) else One h) e
+turned-one : (h : HalfMemory) → has_place h.io ≡ true → h.leg.down.bridged ≡ false → turned (One h) ≡ One (alone h)
+turned-one h e off = ap (λ (b : Bool). One (half_turned_if b 0 Quiet h)) e ∙ ap One (turned-alone 0 Quiet h off)
 
 one-runs : (s : Start) (n k : ℕ) (h : HalfMemory) → IsIo s.io → s.now.bridged ≡ false → k + n ≡ s.io.given →
     HasWorked s k (alone_periods k s) (settings_at k s.now) h → OneWorked s (after_turns n (One h))
@@ -64,7 +64,7 @@ one-runs s (suc n) k h room b e w =
     let below : k < s.io.given = omega arith in
     let more : suc k + n ≡ s.io.given = omega arith in
     let next = alone-worked s k (alone_periods k s) (settings_at k s.now) h room (many-alone k s) below (still-bridged k s.now ∙ b) w in
-    subst (λ (job : Job). OneWorked s (after_turns n job)) (sym (turned-one h (placed s k (alone_periods k s) (settings_at k s.now) h w ∙ is_below k s.io.given below)))
+    subst (λ (job : Job). OneWorked s (after_turns n job)) (sym (turned-one h (placed s k (alone_periods k s) (settings_at k s.now) h w ∙ is_below k s.io.given below) (w.leg.down.bridged ∙ still-bridged k s.now ∙ b)))
     (one-runs s n (suc k) (alone h) room b more next)
 
 pub one-finished : (s : Start) (h : HalfMemory) → Begins s h → s.now.bridged ≡ false → OneWorked s (finished (One h))
@@ -73,23 +73,47 @@ one-finished s h start b = one-runs s (places_left h.io) 0 h start.octets b (ome
 -- ---- two calls
 
 -- by whether each has a place
-turned-two : (g h : HalfMemory) (x y : Bool) → has_place g.io ≡ x → has_place h.io ≡ y → turned (Two g h) ≡ pair_turned g h x y
-turned-two g h x y e f = ap (λ (b : Bool). pair_turned g h b (has_place h.io)) e ∙ ap (pair_turned g h x) f
+turned-two : (g h : HalfMemory) (x y : Bool) (m : ℕ) → has_place g.io ≡ x → has_place h.io ≡ y → min g.io.given h.io.given ≡ m →
+    turned (Two g h) ≡ Two (half_turned_if x m (effective m h) g) (half_turned_if y m (effective m g) h)
+turned-two g h x y m e f l =
+    ap (λ (n : ℕ). Two (half_turned_if (has_place g.io) n (effective n h) g) (half_turned_if (has_place h.io) n (effective n g) h)) l
+    ∙ ap (λ (b : Bool). Two (half_turned_if b m (effective m h) g) (half_turned_if (has_place h.io) m (effective m g) h)) e
+    ∙ ap (λ (b : Bool). Two (half_turned_if x m (effective m h) g) (half_turned_if b m (effective m g) h)) f
 
 -- after k places of a call whose partner had fewer or as many
 abbrev Left : Start → Start → ℕ → HalfMemory → Type 0
 Left a b k g = HasWorked a k (bridged_periods k a b) (settings_past k b.io.given a.now) g
 
 -- what is set past the partner's places, and not past them
-set-past : (k others : ℕ) (now : Settings) (b : Bool) → ltb others k ≡ b → settings_past k others now ≡ (if b then without_bridge (settings_at k now) else settings_at k now)
+pub set-past : (k others : ℕ) (now : Settings) (b : Bool) → ltb others k ≡ b → settings_past k others now ≡ (if b then without_bridge (settings_at k now) else settings_at k now)
 set-past k others now b e = ap (λ (x : Bool). if x then without_bridge (settings_at k now) else settings_at k now) e
 
 -- what is handed over, while there is a place and past all of them
-handed-none : (k : ℕ) (s : Start) (ts : List CallPeriod) → s.io.given ≤ k → handed_at k s ts ≡ None
+pub handed-none : (k : ℕ) (s : Start) (ts : List CallPeriod) → s.io.given ≤ k → handed_at k s ts ≡ None
 handed-none k s ts h = ap (λ (x : Bool). if x then Some (bits260 (handed_fields (effective_now s.io.call (period_at k s None ∷ ts)))) else None) (not_below k s.io.given h)
 
-handed-some : (k : ℕ) (s : Start) (ts : List CallPeriod) → k < s.io.given → handed_at k s ts ≡ Some (bits260 (handed_fields (effective_now s.io.call (period_at k s None ∷ ts))))
+pub handed-some : (k : ℕ) (s : Start) (ts : List CallPeriod) → k < s.io.given → handed_at k s ts ≡ Some (bits260 (handed_fields (effective_now s.io.call (period_at k s None ∷ ts))))
 handed-some k s ts h = ap (λ (x : Bool). if x then Some (bits260 (handed_fields (effective_now s.io.call (period_at k s None ∷ ts)))) else None) (is_below k s.io.given h)
+
+done-is : (s : Start) (k : ℕ) (ts : List CallPeriod) (now : Settings) (h : HalfMemory) → HasWorked s k ts now h → h.io.done ≡ k
+done-is s k ts now h w = ap (λ (io : IoMemory). io.done) w.io
+
+-- a place of a half whose partner has none left, whatever is told to it
+left-turned : (a b : Start) (k : ℕ) (e : EffectiveFields) (g : HalfMemory) → a.now.bridged ≡ true → b.io.given ≤ k →
+    Left a b k g → half_turned b.io.given e g ≡ left_alone g b.io.given
+left-turned a b k e g on from w =
+    let ts = bridged_periods k a b in
+    let others = b.io.given in
+    let first = λ (same : k ≤ others).
+    let w0 = subst (λ (set : Settings). HasWorked a k ts set g) (set-past k others a.now false (not_below others k same)) w in
+    let d = done-is a k ts (settings_at k a.now) g w0 in
+    let t = is_same g.io.done others (omega arith) in
+    turned-ends others e g (w0.leg.down.bridged ∙ still-bridged k a.now ∙ on) t ∙ sym (left_alone-is g others true t) in
+    let later = λ (past : others < k).
+    let w0 = subst (λ (set : Settings). HasWorked a k ts set g) (set-past k others a.now true (is_below others k past)) w in
+    let d = done-is a k ts (without_bridge (settings_at k a.now)) g w0 in
+    turned-alone others e g w0.leg.down.bridged ∙ sym (left_alone-is g others false (is_past g.io.done others (omega arith))) in
+    ⊎_elim later first (cases_lt others k)
 
 -- a place more of a call that is left alone
 left-more : (a b : Start) (k : ℕ) (g : HalfMemory) → IsIo a.io → a.now.bridged ≡ true → b.io.given ≤ k → k < a.io.given →
@@ -124,7 +148,10 @@ first-runs a b (suc n) k g h room on from e w v =
     let place = placed a k (bridged_periods k a b) (settings_past k b.io.given a.now) g w ∙ is_below k a.io.given below in
     let none = placed b b.io.given (bridged_periods b.io.given b a) (settings_past b.io.given a.io.given b.now) h v ∙ not_below b.io.given b.io.given (omega arith) in
     let others = given-is b b.io.given (bridged_periods b.io.given b a) (settings_past b.io.given a.io.given b.now) h v in
-    subst (λ (job : Job). TwoWorked a b (after_turns n job)) (sym (turned-two g h true false place none ∙ ap (λ (m : ℕ). Two (left_alone g m) h) others))
+    let own = given-is a k (bridged_periods k a b) (settings_past k b.io.given a.now) g w in
+    let least : min g.io.given h.io.given ≡ b.io.given = omega arith in
+    subst (λ (job : Job). TwoWorked a b (after_turns n job))
+    (sym (turned-two g h true false b.io.given place none least ∙ ap (λ (x : HalfMemory). Two x h) (left-turned a b k (effective b.io.given h) g on from w)))
     (first-runs a b n (suc k) (left_alone g b.io.given) h room on later more (left-more a b k g room on from below w) v)
 
 -- the second goes on alone
@@ -140,7 +167,10 @@ second-runs a b (suc n) k g h room on from e w v =
     let place = placed b k (bridged_periods k b a) (settings_past k a.io.given b.now) h v ∙ is_below k b.io.given below in
     let none = placed a a.io.given (bridged_periods a.io.given a b) (settings_past a.io.given b.io.given a.now) g w ∙ not_below a.io.given a.io.given (omega arith) in
     let others = given-is a a.io.given (bridged_periods a.io.given a b) (settings_past a.io.given b.io.given a.now) g w in
-    subst (λ (job : Job). TwoWorked a b (after_turns n job)) (sym (turned-two g h false true none place ∙ ap (λ (m : ℕ). Two g (left_alone h m)) others))
+    let own = given-is b k (bridged_periods k b a) (settings_past k a.io.given b.now) h v in
+    let least : min g.io.given h.io.given ≡ a.io.given = omega arith in
+    subst (λ (job : Job). TwoWorked a b (after_turns n job))
+    (sym (turned-two g h false true a.io.given none place least ∙ ap (Two g) (left-turned b a k (effective a.io.given g) h on from v)))
     (second-runs a b n (suc k) g (left_alone h a.io.given) room on later more w (left-more b a k h room on from below v))
 
 -- after k places of a call and as many of its partner
@@ -154,14 +184,30 @@ both-left a b k g within w =
 
 -- a place more of a call in a bridge
 both-more : (a b : Start) (k : ℕ) (g h : HalfMemory) → IsIo a.io → IsIo b.io → a.now.bridged ≡ true → k < a.io.given → k < b.io.given →
-    Both a b k g → Both b a k h → Both a b (suc k) (bridged g (effective h))
+    Both a b k g → Both b a k h → Both a b (suc k) (bridged g (tells h))
 both-more a b k g h room room' on below below' w v =
     let ts = bridged_periods k a b in
     let us = bridged_periods k b a in
-    let heard : effective h ≡ effective_now b.io.call (period_at k b None ∷ us) = effective-is b k us (settings_at k b.now) h room' below' v in
+    let heard : tells h ≡ effective_now b.io.call (period_at k b None ∷ us) = effective-is b k us (settings_at k b.now) h room' below' v in
     let handed = ap (λ (e : EffectiveFields). Some (bits260 (handed_fields e))) heard ∙ sym (handed-some k b us below') in
-    subst (λ (x : Option (List ℕ)). HasWorked a (suc k) (period_at k a x ∷ ts) (settings_at (suc k) a.now) (bridged g (effective h))) handed
-    (bridged-worked a k ts (settings_at k a.now) g (effective h) room (many-bridged k a b) below (still-bridged k a.now ∙ on) w)
+    subst (λ (x : Option (List ℕ)). HasWorked a (suc k) (period_at k a x ∷ ts) (settings_at (suc k) a.now) (bridged g (tells h))) handed
+    (bridged-worked a k ts (settings_at k a.now) g (tells h) room (many-bridged k a b) below (still-bridged k a.now ∙ on) w)
+
+-- a place of two halves that both have one
+both-turned : (a b : Start) (k : ℕ) (g h : HalfMemory) → a.now.bridged ≡ true → b.now.bridged ≡ true → k < a.io.given → k < b.io.given → Both a b k g → Both b a k h →
+    let m = min g.io.given h.io.given in
+    Two (half_turned m (effective m h) g) (half_turned m (effective m g) h) ≡ Two (bridged g (tells h)) (bridged h (tells g))
+both-turned a b k g h on on' below below' w v =
+    let m = min g.io.given h.io.given in
+    let e = given-is a k (bridged_periods k a b) (settings_at k a.now) g w in
+    let e' = given-is b k (bridged_periods k b a) (settings_at k b.now) h v in
+    let d = done-is a k (bridged_periods k a b) (settings_at k a.now) g w in
+    let d' = done-is b k (bridged_periods k b a) (settings_at k b.now) h v in
+    let t = is_before g.io.done m (omega arith) in
+    let t' = is_before h.io.done m (omega arith) in
+    let f = turned-bridged m (effective m h) g (w.leg.down.bridged ∙ still-bridged k a.now ∙ on) t ∙ ap (bridged g) (tells-is m h t') in
+    let f' = turned-bridged m (effective m g) h (v.leg.down.bridged ∙ still-bridged k b.now ∙ on') t' ∙ ap (bridged h) (tells-is m g t) in
+    ap (λ (x : HalfMemory). Two x (half_turned m (effective m g) h)) f ∙ ap (Two (bridged g (tells h))) f'
 
 both-run : (a b : Start) (n k : ℕ) (g h : HalfMemory) → IsIo a.io → IsIo b.io → a.now.bridged ≡ true → b.now.bridged ≡ true →
     k ≤ a.io.given → k ≤ b.io.given → k + n ≡ max a.io.given b.io.given →
@@ -179,8 +225,8 @@ both-run a b (suc n) k g h room room' on on' within within' e w v =
     let both = λ (lt : k < a.io.given) (lt' : k < b.io.given).
     let place = placed a k (bridged_periods k a b) (settings_at k a.now) g w ∙ is_below k a.io.given lt in
     let place' = placed b k (bridged_periods k b a) (settings_at k b.now) h v ∙ is_below k b.io.given lt' in
-    subst (λ (job : Job). TwoWorked a b (after_turns n job)) (sym (turned-two g h true true place place'))
-    (both-run a b n (suc k) (bridged g (effective h)) (bridged h (effective g)) room room' on on' (omega arith) (omega arith) (omega arith)
+    subst (λ (job : Job). TwoWorked a b (after_turns n job)) (sym (turned-two g h true true (min g.io.given h.io.given) place place' refl ∙ both-turned a b k g h on on' lt lt' w v))
+    (both-run a b n (suc k) (bridged g (tells h)) (bridged h (tells g)) room room' on on' (omega arith) (omega arith) (omega arith)
     (both-more a b k g h room room' on lt lt' w v) (both-more b a k h g room' room on' lt' lt v w)) in
     ⊎_elim (λ (lt' : k < b.io.given). ⊎_elim (λ (lt : k < a.io.given). both lt lt') (λ (le : a.io.given ≤ k). own le lt') (cases_lt k a.io.given)) others (cases_lt k b.io.given)
 

@@ -1,20 +1,76 @@
 -- One place of a half more, for every history of its call.
-use Rattle.std.proofs.Common.{◌≡◌, ◌==◌, ℕ, suc, ◌<◌, ◌≤◌, length, Bool, true, false, if◌then◌else◌, Some, None, List, ◌∷◌, refl, sym, ap, subst, ◌∙◌}
+use Rattle.std.proofs.Common.{◌≡◌, ◌==◌, ◌&&◌, ℕ, suc, ◌<◌, ◌≤◌, length, Bool, true, false, if◌then◌else◌, Some, None, List, ◌∷◌, refl, sym, ap, subst, ◌∙◌}
 use Rattle.trau_params.specs.Bits260.{bits260}
+use Rattle.trau_bits.specs.Bits.{octets_of}
+use Rattle.call_leg.specs.Memory.{LegMemory}
 use Rattle.rx_handler.specs.Origin.{EffectiveFields}
 use Rattle.call_leg.specs.Uplink.{handed_fields}
 use Rattle.call_leg.specs.Periods.{CallPeriod, effective_now}
 use Rattle.call_leg.specs.Settings.{Settings, later, without_bridge, period_with}
-use Rattle.call_leg.specs.Step.{up_worked, with_down, after_handing, down_worked}
+use Rattle.call_leg.specs.Step.{up_worked, with_down, after_handing, down_worked, period_worked}
 use Rattle.call_leg.proofs.UpLaws.{up-stands, up-effective, up-plays}
 use Rattle.call_leg.proofs.DownLaws.{handing-stands, down-stands}
 use Rattle.call_leg.proofs.OrderLaws.{end-stands}
 use Rattle.call_pair.specs.Memory.{IoMemory, HalfMemory, IsIo}
-use Rattle.call_pair.specs.Places.{up_at, pcm_at}
-use Rattle.call_pair.specs.Turn.{alone, effective, bridged, unbridged, left_alone}
+use Rattle.call_pair.specs.Places.{up_at, pcm_at, with_out, with_place}
+use Rattle.call_pair.specs.Turn.{unbridged, leg_at, effective, place_worked, half_turned}
 use Rattle.call_pair.specs.History.{Start, HasWorked}
 use Rattle.call_pair.proofs.Octets.{io_more}
 use Rattle.call_pair.proofs.Places.{length-up_at, length-pcm_at, is_same, is_past}
+
+-- ---- a place of a half, by whether it lies in a bridge
+
+-- a period of a call that lies in no bridge
+abbrev pub alone : HalfMemory → HalfMemory
+alone h =
+    let worked = period_worked h.leg (up_at h.io.done h.io) (pcm_at h.io.done h.io) in
+    record { leg = worked.2; io = with_place (with_out h.io worked.0) (octets_of worked.1) }
+
+-- the effective frame of the next place
+abbrev pub tells : HalfMemory → EffectiveFields
+tells h = (up_worked h.leg (up_at h.io.done h.io)).0
+
+-- a period within a bridge
+abbrev pub bridged : HalfMemory → EffectiveFields → HalfMemory
+bridged h handed =
+    let first = up_worked h.leg (up_at h.io.done h.io) in
+    let last = down_worked (after_handing first.2.down handed) (pcm_at h.io.done h.io) in
+    record { leg = with_down first.2 last.1; io = with_place (with_out h.io first.1) (octets_of last.0) }
+
+-- a period of a half whose partner, with so many places, has none left
+abbrev pub left_alone : HalfMemory → ℕ → HalfMemory
+left_alone h others = alone (record { leg = if h.io.done == others then unbridged h.leg else h.leg; io = h.io })
+
+abbrev by_flag : Bool → EffectiveFields → LegMemory → IoMemory → HalfMemory
+by_flag b partner leg io =
+    let first = up_worked leg (up_at io.done io) in
+    let down = if b then after_handing first.2.down partner else first.2.down in
+    let last = down_worked down (pcm_at io.done io) in
+    record { leg = with_down first.2 last.1; io = with_place (with_out io first.1) (octets_of last.0) }
+
+pub turned-alone : (m : ℕ) (e : EffectiveFields) (h : HalfMemory) → h.leg.down.bridged ≡ false → half_turned m e h ≡ alone h
+turned-alone m e h off =
+    ap (λ (b : Bool). place_worked e (if b && h.io.done == m then unbridged h.leg else h.leg) h.io) off ∙ ap (λ (b : Bool). by_flag b e h.leg h.io) off
+
+leg-same : (m : ℕ) (h : HalfMemory) → (h.io.done == m) ≡ false → leg_at m h ≡ h.leg
+leg-same m h t = ap (λ (b : Bool). if h.leg.down.bridged && b then unbridged h.leg else h.leg) t ∙ go h.leg.down.bridged
+  where
+    go : (b : Bool) → (if b && false then unbridged h.leg else h.leg) ≡ h.leg
+    go true = refl
+    go false = refl
+
+pub turned-bridged : (m : ℕ) (e : EffectiveFields) (h : HalfMemory) → h.leg.down.bridged ≡ true → (h.io.done == m) ≡ false → half_turned m e h ≡ bridged h e
+turned-bridged m e h on t = ap (λ (l : LegMemory). place_worked e l h.io) (leg-same m h t) ∙ ap (λ (b : Bool). by_flag b e h.leg h.io) on
+
+pub tells-is : (m : ℕ) (h : HalfMemory) → (h.io.done == m) ≡ false → effective m h ≡ tells h
+tells-is m h t = ap (λ (l : LegMemory). (up_worked l (up_at h.io.done h.io)).0) (leg-same m h t)
+
+pub turned-ends : (m : ℕ) (e : EffectiveFields) (h : HalfMemory) → h.leg.down.bridged ≡ true → (h.io.done == m) ≡ true → half_turned m e h ≡ alone (record { leg = unbridged h.leg; io = h.io })
+turned-ends m e h on t =
+    ap (λ (b : Bool). place_worked e (if b && h.io.done == m then unbridged h.leg else h.leg) h.io) on
+    ∙ ap (λ (b : Bool). place_worked e (if b then unbridged h.leg else h.leg) h.io) t
+
+-- ---- a place more
 
 -- a period that lies in no bridge
 pub alone-worked : (s : Start) (k : ℕ) (ts : List CallPeriod) (now : Settings) (h : HalfMemory) → IsIo s.io → k ≤ length ts → k < s.io.given → now.bridged ≡ false →
@@ -33,7 +89,7 @@ alone-worked s k ts now h room enough below b w =
 
 -- the effective frame of the next place, whatever is handed over in it
 pub effective-is : (s : Start) (k : ℕ) (ts : List CallPeriod) (now : Settings) (h : HalfMemory) → IsIo s.io → k < s.io.given →
-    HasWorked s k ts now h → effective h ≡ effective_now s.io.call (period_with now (up_at k s.io) (pcm_at k s.io) None ∷ ts)
+    HasWorked s k ts now h → tells h ≡ effective_now s.io.call (period_with now (up_at k s.io) (pcm_at k s.io) None ∷ ts)
 effective-is s k ts now h room below w =
     ap (λ (io : IoMemory). (up_worked h.leg (up_at io.done io)).0) w.io ∙
     up-effective s.io.call ts now (up_at k s.io) (pcm_at k s.io) None h.leg (length-up_at s.io k room below) w.leg
@@ -56,7 +112,7 @@ bridged-worked s k ts now h e room enough below b w =
       leg = last.0;
     })
 
-left_alone-is : (h : HalfMemory) (others : ℕ) (b : Bool) → (h.io.done == others) ≡ b → left_alone h others ≡ alone (record { leg = if b then unbridged h.leg else h.leg; io = h.io })
+pub left_alone-is : (h : HalfMemory) (others : ℕ) (b : Bool) → (h.io.done == others) ≡ b → left_alone h others ≡ alone (record { leg = if b then unbridged h.leg else h.leg; io = h.io })
 left_alone-is h others b e = ap (λ (x : Bool). alone (record { leg = if x then unbridged h.leg else h.leg; io = h.io })) e
 
 -- the first period after the partner's places

@@ -1,12 +1,37 @@
--- What one turn of a job keeps.
-use Rattle.std.proofs.Common.{◌≡◌, ℕ, zero, suc, ◌+◌, ◌-◌, ◌<◌, max, ltb, Bool, true, false, refl, ap, ◌∙◌, arith}
+-- What one turn keeps.
+use Rattle.std.proofs.Common.{◌≡◌, ℕ, zero, suc, ◌+◌, ◌-◌, ◌<◌, min, ltb, Bool, true, false, if◌then◌else◌, refl, ap, ◌∙◌, arith}
+use Rattle.std.specs.Prelude.{◌==◌, ◌||◌}
 use Rattle.std.proofs.lemmas.Bool.Decides.{nat_tests}
-use Rattle.call_pair.specs.Memory.{HalfMemory, places_left}
-use Rattle.call_pair.specs.Places.{has_place}
-use Rattle.call_pair.specs.Turn.{turned, pair_turned}
-use Rattle.call_pair.specs.Jobs.{job_left, job_call, after_turns, finished, has_call}
+use Rattle.rx_handler.specs.Origin.{EffectiveFields}
+use Rattle.call_pair.specs.Memory.{HalfMemory}
 use Rattle.call_pair.specs.declared.job.Job.{Job}
 use Rattle.call_pair.specs.declared.job.Job.TheVariants.{One, Two}
+use Rattle.call_pair.specs.Places.{has_place}
+use Rattle.call_pair.specs.Turn.{effective, half_turned_if, turned}
+use Rattle.call_pair.specs.Jobs.{after_turns, has_call}
+use Rattle.call_pair.specs.Phases.{CallMemory, place_in, call_turned, after_call_turns, call_left, call_finished}
+use Rattle.call_pair.specs.declared.call_job.Phase.{Phase}
+use Rattle.call_pair.specs.declared.call_job.Phase.TheVariants.{First, Second}
+
+-- ---- the calls of a job
+
+half_call : (b : Bool) (m : ℕ) (e : EffectiveFields) (h : HalfMemory) → (half_turned_if b m e h).io.call ≡ h.io.call
+half_call true m e h = refl
+half_call false m e h = refl
+
+turn_keeps : (job : Job) (call : ℕ) → has_call (turned job) call ≡ has_call job call
+turn_keeps (One h) call = ap (λ n. n == call) (half_call (has_place h.io) 0 _ h)
+turn_keeps (Two a b) call =
+    let m = min a.io.given b.io.given in
+    let g = half_turned_if (has_place b.io) m (effective m a) b in
+    ap (λ n. n == call || g.io.call == call) (half_call (has_place a.io) m (effective m b) a) ∙ ap (λ n. a.io.call == call || n == call) (half_call (has_place b.io) m (effective m a) b)
+
+-- turns keep the calls of a job
+pub turns_keep : (n : ℕ) (job : Job) (call : ℕ) → has_call (after_turns n job) call ≡ has_call job call
+turns_keep zero job call = refl
+turns_keep (suc n) job call = turns_keep n (turned job) call ∙ turn_keeps job call
+
+-- ---- the job of a call
 
 -- a place more is done
 one_fewer : (done given : ℕ) → ltb done given ≡ true → given - (done + 1) + 1 ≡ given - done
@@ -16,57 +41,38 @@ one_fewer done given e = grind (arith, nat_tests)
 pub none_left : (done given : ℕ) → ltb done given ≡ false → given - done ≡ 0
 none_left done given e = grind (arith, nat_tests)
 
-one_left : (h : HalfMemory) (b : Bool) → has_place h.io ≡ b → 0 < places_left h.io → job_left (turned (One h)) + 1 ≡ places_left h.io
-one_left h true e some = rw e (one_fewer h.io.done h.io.given e)
-one_left h false e some = absurd (omega (arith, none_left h.io.done h.io.given e))
+place_left : (p : Phase) (j : CallMemory) → has_place j.io ≡ true → call_left (place_in p j) + 1 ≡ call_left j
+place_left First j e = one_fewer j.io.done j.io.given e
+place_left Second j e = one_fewer j.io.done j.io.given e
 
-pair_left : (a b : HalfMemory) (x y : Bool) → has_place a.io ≡ x → has_place b.io ≡ y → 0 < max (places_left a.io) (places_left b.io) →
-    job_left (pair_turned a b x y) + 1 ≡ max (places_left a.io) (places_left b.io)
-pair_left a b true true e f some = omega (arith, one_fewer a.io.done a.io.given e, one_fewer b.io.done b.io.given f)
-pair_left a b true false e f some = omega (arith, one_fewer a.io.done a.io.given e, none_left b.io.done b.io.given f)
-pair_left a b false true e f some = omega (arith, none_left a.io.done a.io.given e, one_fewer b.io.done b.io.given f)
-pair_left a b false false e f some = absurd (omega (arith, none_left a.io.done a.io.given e, none_left b.io.done b.io.given f))
+place_call : (p : Phase) (j : CallMemory) → (place_in p j).io.call ≡ j.io.call
+place_call First j = refl
+place_call Second j = refl
 
-pub turn_left : (job : Job) → 0 < job_left job → job_left (turned job) + 1 ≡ job_left job
-turn_left (One h) some = one_left h (has_place h.io) refl some
-turn_left (Two a b) some = pair_left a b (has_place a.io) (has_place b.io) refl refl some
+pub turned_is : (j : CallMemory) (b : Bool) → has_place j.io ≡ b → call_turned j ≡ (if b then place_in j.phase j else j)
+turned_is j b e = ap (λ (x : Bool). if x then place_in j.phase j else j) e
 
-one_call : (h : HalfMemory) (b : Bool) → has_place h.io ≡ b → job_call (turned (One h)) ≡ h.io.call
-one_call h true e = rw e refl
-one_call h false e = rw e refl
+pub call_turn_left : (j : CallMemory) → 0 < call_left j → call_left (call_turned j) + 1 ≡ call_left j
+call_turn_left j some = go (has_place j.io) refl
+  where
+    go : (b : Bool) → has_place j.io ≡ b → call_left (call_turned j) + 1 ≡ call_left j
+    go true e = ap (λ m. call_left m + 1) (turned_is j true e) ∙ place_left j.phase j e
+    go false e = absurd (omega (arith, none_left j.io.done j.io.given e))
 
-pair_call : (a b : HalfMemory) (x y : Bool) → job_call (pair_turned a b x y) ≡ a.io.call
-pair_call a b true true = refl
-pair_call a b true false = refl
-pair_call a b false true = refl
-pair_call a b false false = refl
+pub call_turn_call : (j : CallMemory) → (call_turned j).io.call ≡ j.io.call
+call_turn_call j = go (has_place j.io) refl
+  where
+    go : (b : Bool) → has_place j.io ≡ b → (call_turned j).io.call ≡ j.io.call
+    go true e = ap (λ (m : CallMemory). m.io.call) (turned_is j true e) ∙ place_call j.phase j
+    go false e = ap (λ (m : CallMemory). m.io.call) (turned_is j false e)
 
-pub turn_call : (job : Job) → job_call (turned job) ≡ job_call job
-turn_call (One h) = one_call h (has_place h.io) refl
-turn_call (Two a b) = pair_call a b (has_place a.io) (has_place b.io)
+run_more : (n m : ℕ) (j : CallMemory) → n + 1 ≡ m → after_call_turns n (call_turned j) ≡ after_call_turns m j
+run_more n zero j e = absurd (omega arith)
+run_more n (suc m) j e = let k : n ≡ m = omega arith in ap (λ (i : ℕ). after_call_turns i (call_turned j)) k
 
-run_more : (n m : ℕ) (job : Job) → n + 1 ≡ m → after_turns n (turned job) ≡ after_turns m job
-run_more n zero job e = absurd (omega arith)
-run_more n (suc m) job e = let k : n ≡ m = omega arith in ap (λ (i : ℕ). after_turns i (turned job)) k
+pub call_turn_finish : (j : CallMemory) → 0 < call_left j → call_finished (call_turned j) ≡ call_finished j
+call_turn_finish j some = run_more (call_left (call_turned j)) (call_left j) j (call_turn_left j some)
 
-pub turn_finish : (job : Job) → 0 < job_left job → finished (turned job) ≡ finished job
-turn_finish job some = run_more (job_left (turned job)) (job_left job) job (turn_left job some)
-
-one_keeps : (h : HalfMemory) (call : ℕ) (b : Bool) → has_place h.io ≡ b → has_call (turned (One h)) call ≡ has_call (One h) call
-one_keeps h call true e = rw e refl
-one_keeps h call false e = rw e refl
-
-pair_keeps : (a b : HalfMemory) (call : ℕ) (x y : Bool) → has_call (pair_turned a b x y) call ≡ has_call (Two a b) call
-pair_keeps a b call true true = refl
-pair_keeps a b call true false = refl
-pair_keeps a b call false true = refl
-pair_keeps a b call false false = refl
-
-turn_keeps : (job : Job) (call : ℕ) → has_call (turned job) call ≡ has_call job call
-turn_keeps (One h) call = one_keeps h call (has_place h.io) refl
-turn_keeps (Two a b) call = pair_keeps a b call (has_place a.io) (has_place b.io)
-
--- turns keep the calls of a job
-pub turns_keep : (n : ℕ) (job : Job) (call : ℕ) → has_call (after_turns n job) call ≡ has_call job call
-turns_keep zero job call = refl
-turns_keep (suc n) job call = turns_keep n (turned job) call ∙ turn_keeps job call
+-- a place is left where one is
+pub some_left : (done given : ℕ) → ltb done given ≡ true → 0 < given - done
+some_left done given e = grind (arith, nat_tests)

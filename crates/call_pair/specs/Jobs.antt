@@ -1,9 +1,9 @@
 -- A job from its start to its end, and its octets.
 use Rattle.std.specs.Prelude.{ℕ, zero, suc, max, Bool, ◌==◌, ◌||◌, if◌then◌else◌}
 use Rattle.call_pair.specs.Memory.{IoMemory, HalfMemory, places_left}
-use Rattle.call_pair.specs.Turn.{turned}
 use Rattle.call_pair.specs.declared.job.Job.{Job}
 use Rattle.call_pair.specs.declared.job.Job.TheVariants.{One, Two}
+use Rattle.call_pair.specs.Turn.{turned}
 
 -- the places that are left: of two halves, those of the longer
 abbrev pub job_left : Job → ℕ

@@ -2,5 +2,8 @@ pub mod Memory
 pub mod Places
 pub mod Turn
 pub mod Jobs
+pub mod Phases
+pub mod Kept
 pub mod History
 pub mod Finished
+pub mod Told

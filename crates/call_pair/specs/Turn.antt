@@ -1,47 +1,47 @@
 -- One turn of a job: the next place of its call, or of each of its two calls.
-use Rattle.std.specs.Prelude.{ℕ, Bool, true, false, ◌==◌, if◌then◌else◌}
+use Rattle.std.specs.Prelude.{ℕ, Bool, true, false, ◌==◌, ◌&&◌, min, if◌then◌else◌}
 use Rattle.trau_bits.specs.Bits.{octets_of}
-use Rattle.rx_handler.specs.Origin.{EffectiveFields}
+use Rattle.rx_handler.specs.Origin.{EffectiveFields, Quiet}
 use Rattle.call_leg.specs.Memory.{LegMemory}
-use Rattle.call_leg.specs.Step.{up_worked, with_down, after_handing, down_worked, period_worked, bridge_over}
-use Rattle.call_pair.specs.Memory.{HalfMemory}
-use Rattle.call_pair.specs.Places.{up_at, pcm_at, with_out, with_place, has_place}
+use Rattle.call_leg.specs.Step.{up_worked, with_down, after_handing, down_worked, bridge_over}
+use Rattle.call_pair.specs.Memory.{IoMemory, HalfMemory}
 use Rattle.call_pair.specs.declared.job.Job.{Job}
 use Rattle.call_pair.specs.declared.job.Job.TheVariants.{One, Two}
-
--- a period of a call that lies in no bridge
-abbrev pub alone : HalfMemory → HalfMemory
-alone h =
-    let worked = period_worked h.leg (up_at h.io.done h.io) (pcm_at h.io.done h.io) in
-    record { leg = worked.2; io = with_place (with_out h.io worked.0) (octets_of worked.1) }
-
--- the effective frame of the next place
-abbrev pub effective : HalfMemory → EffectiveFields
-effective h = (up_worked h.leg (up_at h.io.done h.io)).0
-
--- a period within a bridge: the uplink half, the partner's effective frame, which is handed over, and the downlink half
-abbrev pub bridged : HalfMemory → EffectiveFields → HalfMemory
-bridged h handed =
-    let first = up_worked h.leg (up_at h.io.done h.io) in
-    let last = down_worked (after_handing first.2.down handed) (pcm_at h.io.done h.io) in
-    record { leg = with_down first.2 last.1; io = with_place (with_out h.io first.1) (octets_of last.0) }
+use Rattle.call_pair.specs.Places.{up_at, pcm_at, with_out, with_place, has_place}
 
 -- the bridge is off
 abbrev pub unbridged : LegMemory → LegMemory
 unbridged m = with_down m (bridge_over m.down)
 
--- A period of a half whose partner has no place left: the bridge goes off before the first of them, which is that after
--- the `others` places of the partner.
-abbrev pub left_alone : HalfMemory → ℕ → HalfMemory
-left_alone h others = alone (record { leg = if h.io.done == others then unbridged h.leg else h.leg; io = h.io })
+-- the leg of a half before its next place: a bridge that it has ends at place m
+abbrev pub leg_at : ℕ → HalfMemory → LegMemory
+leg_at m h = if h.leg.down.bridged && h.io.done == m then unbridged h.leg else h.leg
 
--- two halves, by whether each has a place left
-abbrev pub pair_turned : HalfMemory → HalfMemory → Bool → Bool → Job
-pair_turned a b true true = Two (bridged a (effective b)) (bridged b (effective a))
-pair_turned a b true false = Two (left_alone a b.io.given) b
-pair_turned a b false true = Two a (left_alone b a.io.given)
-pair_turned a b false false = Two a b
+-- the effective frame of the next place
+abbrev pub effective : ℕ → HalfMemory → EffectiveFields
+effective m h = (up_worked (leg_at m h) (up_at h.io.done h.io)).0
 
+-- The next place of a leg: the uplink half, within a bridge the partner's effective frame, which is handed over, and the
+-- downlink half.
+abbrev pub place_worked : EffectiveFields → LegMemory → IoMemory → HalfMemory
+place_worked partner leg io =
+    let first = up_worked leg (up_at io.done io) in
+    let down = if leg.down.bridged then after_handing first.2.down partner else first.2.down in
+    let last = down_worked down (pcm_at io.done io) in
+    record { leg = with_down first.2 last.1; io = with_place (with_out io first.1) (octets_of last.0) }
+
+-- the next place of a half, by the effective frame that its partner has there
+abbrev pub half_turned : ℕ → EffectiveFields → HalfMemory → HalfMemory
+half_turned m partner h = place_worked partner (leg_at m h) h.io
+
+-- The next place of a half, if it has one left.
+abbrev pub half_turned_if : Bool → ℕ → EffectiveFields → HalfMemory → HalfMemory
+half_turned_if true m partner h = half_turned m partner h
+half_turned_if false m partner h = h
+
+-- Of two halves a bridge ends behind the places of the shorter. What a half without a place would tell is told to none.
 abbrev pub turned : Job → Job
-turned (One h) = if has_place h.io then One (alone h) else One h
-turned (Two a b) = pair_turned a b (has_place a.io) (has_place b.io)
+turned (One h) = One (half_turned_if (has_place h.io) 0 Quiet h)
+turned (Two a b) =
+    let m = min a.io.given b.io.given in
+    Two (half_turned_if (has_place a.io) m (effective m b) a) (half_turned_if (has_place b.io) m (effective m a) b)

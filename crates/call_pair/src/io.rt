@@ -1,10 +1,11 @@
 //! The octets of a call in a round.
 
-ghost use Rattle.std.specs.Prelude.{◌≡◌, ◌<◌, [], IsTrue, true};
+ghost use Rattle.std.specs.Prelude.{◌≡◌, ◌<◌, ◌≤◌, [], IsTrue, true};
 ghost use Rattle.trau_bits.specs.Bits.{bits_of, octets_of};
 ghost use Rattle.call_number.specs.CallNumber.{IsCallNumber};
 ghost use Rattle.call_pair.specs.Memory.{HaveRoom};
 ghost use Rattle.call_pair.specs.Places.{up_at, pcm_at, with_out, with_place, has_place};
+ghost use Rattle.call_pair.specs.Phases.{one_done};
 
 use std::alloc::Global;
 use std::marker::Model;
@@ -145,5 +146,21 @@ impl LegIo {
         let start = 40 * self.done as usize;
         self.down[start..start + 40].copy_from_slice(octets);
         self.done += 1;
+    }
+
+    /// One place of the uplink is done.
+    pub(crate) fn count_place(&mut self)
+        requires { has_place self.old ≡ true }
+        ensures { self.new ≡ one_done self.old }
+    {
+        self.done += 1;
+    }
+
+    /// No place is done from now on.
+    pub(crate) fn start_again(&mut self)
+        ensures io { self.new ≡ record self.old { done = 0 } }
+        ensures within { self.old.done ≤ self.old.given }
+    {
+        self.done = 0;
     }
 }

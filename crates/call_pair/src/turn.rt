@@ -1,79 +1,81 @@
-//! One period of a half, and of two halves that are bridged.
+//! One place of each half of a call.
 
-ghost use Rattle.std.specs.Prelude.{◌≡◌, ◌+◌, ◌<◌, true, if◌then◌else◌, ◌==◌};
+ghost use Rattle.std.specs.Prelude.{◌≡◌, ◌==◌, ◌&&◌, ◌+◌, ◌<◌, true, length, map, option_copied, if◌then◌else◌};
 ghost use Rattle.trau_bits.specs.Bits.{octets_of};
 ghost use Rattle.rx_handler.specs.State.{effective_fields};
-ghost use Rattle.call_leg.specs.Memory.{periods_of_leg};
-ghost use Rattle.call_leg.specs.Step.{up_worked, with_down, down_worked};
+ghost use Rattle.call_leg.specs.Step.{bridge_over};
+ghost use Rattle.call_leg.specs.Halves.{up_turned, down_turned, up_unbridged, item_of};
 ghost use Rattle.call_pair.specs.Places.{up_at, pcm_at, with_out, with_place, has_place};
-ghost use Rattle.call_pair.specs.Turn.{alone, effective, bridged, left_alone};
+ghost use Rattle.call_pair.specs.Phases.{up_before, down_before, item_if, note_at, frame_at, one_done};
 
-use crate::half::Half;
 use crate::io::LegIo;
-use call_leg::Leg;
+use call_leg::{DownLeg, UpLeg, UpNote};
 use rx_handler::Effective;
 
-// The uplink half of the next place.
-fn work_up(leg: &mut Leg, io: &mut LegIo) -> Effective
+// A bridge that the half has goes off, if it ends here.
+fn end_up(up: &mut UpLeg, ends: bool)
+    ensures up { up.new ≡ (if up.old.bridged && ends then up_unbridged up.old else up.old) }
+    ensures periods { up.new.search.periods ≡ up.old.search.periods }
+{
+    if up.bridged() && ends {
+        up.bridge_off();
+    }
+}
+
+fn end_down(down: &mut DownLeg, ends: bool)
+    ensures { down.new ≡ (if down.old.bridged && ends then bridge_over down.old else down.old) }
+{
+    if down.bridged() && ends {
+        down.bridge_off();
+    }
+}
+
+// The frame of place k, if the half is bridged.
+fn item_at(partner: &[Effective], k: usize, on: bool) -> Option<&Effective>
+    requires { on ≡ true → k < length partner.now }
+    ensures { item_of (option_copied result) ≡ item_if on (frame_at k (map effective_fields partner.now)) }
+{
+    if on { Some(&partner[k]) } else { None }
+}
+
+/// The next place of the uplink half, with which it is done.
+pub(crate) fn work_up(up: &mut UpLeg, io: &mut LegIo, bridge_end: u32) -> UpNote
     requires place { has_place io.old ≡ true }
-    requires periods { periods_of_leg leg.old < 4294967295 }
-    ensures effective { effective_fields result ≡ (up_worked leg.old (up_at io.old.done io.old)).0 }
-    ensures io { io.new ≡ with_out io.old (up_worked leg.old (up_at io.old.done io.old)).1 }
-    ensures leg { leg.new ≡ (up_worked leg.old (up_at io.old.done io.old)).2 }
-    ensures periods { periods_of_leg leg.new ≡ periods_of_leg leg.old + 1 }
+    requires periods { up.old.search.periods < 4294967295 }
+    ensures note { result ≡ (up_turned (up_before bridge_end io.old.done up.old) (up_at io.old.done io.old)).0 }
+    ensures io { io.new ≡ one_done (with_out io.old (up_turned (up_before bridge_end io.old.done up.old) (up_at io.old.done io.old)).1) }
+    ensures up { up.new ≡ (up_turned (up_before bridge_end io.old.done up.old) (up_at io.old.done io.old)).2 }
+    ensures periods { up.new.search.periods ≡ up.old.search.periods + 1 }
 {
+    end_up(up, io.done == bridge_end);
     let mut out = [0; 160];
-    let e = leg.up_half(&io.up_next(), &mut out);
+    let note = up.turn(&io.up_next(), &mut out);
     io.put_out(&out);
-    e
+    io.count_place();
+    note
 }
 
-// The downlink half of the next place, with which it is done.
-fn work_down(leg: &mut Leg, io: &mut LegIo)
-    requires { has_place io.old ≡ true }
-    ensures io { io.new ≡ with_place io.old (octets_of (down_worked leg.old.down (pcm_at io.old.done io.old)).0) }
-    ensures leg { leg.new ≡ with_down leg.old (down_worked leg.old.down (pcm_at io.old.done io.old)).1 }
-    ensures periods { periods_of_leg leg.new ≡ periods_of_leg leg.old }
+/// The next place of the downlink half, with which it is done.
+pub(crate) fn work_down(
+    down: &mut DownLeg,
+    io: &mut LegIo,
+    notes: &[UpNote],
+    partner: &[Effective],
+    bridge_end: u32,
+)
+    requires place { has_place io.old ≡ true }
+    requires notes { io.old.done < length notes.now }
+    requires partner { (down_before bridge_end io.old.done down.old).bridged ≡ true → io.old.done < length partner.now }
+    ensures io { let c = down_before bridge_end io.old.done down.old in
+        io.new ≡ with_place io.old (octets_of (down_turned c (note_at io.old.done notes.now) (item_if c.bridged (frame_at io.old.done (map effective_fields partner.now))) (pcm_at io.old.done io.old)).0) }
+    ensures down { let c = down_before bridge_end io.old.done down.old in
+        down.new ≡ (down_turned c (note_at io.old.done notes.now) (item_if c.bridged (frame_at io.old.done (map effective_fields partner.now))) (pcm_at io.old.done io.old)).1 }
+    ensures bridged { down.new.bridged ≡ (down_before bridge_end io.old.done down.old).bridged }
 {
-    let mut down = [0; 40];
-    leg.down_half(&io.pcm_next(), &mut down);
-    io.put_down(&down);
-}
-
-impl Half {
-    /// A period that lies in no bridge.
-    pub(crate) fn work_alone(&mut self)
-        requires { has_place self.old.io ≡ true }
-        ensures { self.new ≡ alone self.old }
-    {
-        work_up(&mut self.leg, &mut self.io);
-        work_down(&mut self.leg, &mut self.io);
-    }
-
-    /// A period after the partner's places, which are so many: the bridge is off.
-    pub(crate) fn work_left_alone(&mut self, others: u32)
-        requires { has_place self.old.io ≡ true }
-        ensures { self.new ≡ left_alone self.old others }
-    {
-        if self.io.done == others {
-            self.leg.bridge_off();
-        }
-        self.work_alone();
-    }
-}
-
-/// A period within a bridge: both uplink halves, then each call's effective frame is handed to the other, then both
-/// downlink halves.
-pub(crate) fn work_bridged(a: &mut Half, b: &mut Half)
-    requires first { has_place a.old.io ≡ true }
-    requires second { has_place b.old.io ≡ true }
-    ensures first { a.new ≡ bridged a.old (effective b.old) }
-    ensures second { b.new ≡ bridged b.old (effective a.old) }
-{
-    let first = work_up(&mut a.leg, &mut a.io);
-    let second = work_up(&mut b.leg, &mut b.io);
-    a.leg.hand(second);
-    b.leg.hand(first);
-    work_down(&mut a.leg, &mut a.io);
-    work_down(&mut b.leg, &mut b.io);
+    end_down(down, io.done == bridge_end);
+    let k = io.done as usize;
+    let item = item_at(partner, k, down.bridged());
+    let mut octets = [0; 40];
+    down.turn(&notes[k], item, &io.pcm_next(), &mut octets);
+    io.put_down(&octets);
 }

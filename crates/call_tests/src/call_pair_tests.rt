@@ -3,7 +3,7 @@ ghost use Rattle.call_leg.specs.Memory.{periods_of_leg};
 ghost use Rattle.call_number.specs.CallNumber.{IsCallNumber};
 
 use call_leg::Leg;
-use call_pair::{Buffers, Half, Job, LegIo};
+use call_pair::{Buffers, CallJob, LegIo, Phase};
 use pool_run::Work;
 use rx_handler::Effective;
 use std::alloc::{AllocError, Global};
@@ -64,7 +64,8 @@ fn new_leg(alloc: Global, call: u32) -> Result<Leg, AllocError>
 fn io_of(alloc: Global, call: u32, lines: &Lines, given: u32) -> Result<LegIo, AllocError>
     requires call { IsCallNumber call }
     requires given { given ≤ 4 }
-    ensures { IfOk result (λ io. io.call ≡ call) }
+    ensures given { IfOk result (λ io. io.given ≡ given) }
+    ensures done { IfOk result (λ io. io.done ≡ 0) }
 {
     let buffers = Buffers {
         up: Vec::from_array(alloc, lines.up)?,
@@ -73,17 +74,6 @@ fn io_of(alloc: Global, call: u32, lines: &Lines, given: u32) -> Result<LegIo, A
         down: Vec::from_array(alloc, lines.down)?,
     };
     Ok(LegIo::new(call, buffers, given))
-}
-
-// A new call with them.
-fn half(alloc: Global, call: u32, lines: &Lines, given: u32) -> Result<Half, AllocError>
-    requires call { IsCallNumber call }
-    requires given { given ≤ 4 }
-    ensures { IfOk result (λ h. (h.io.call ≡ call) × (periods_of_leg h.leg ≡ 0)) }
-{
-    let io = io_of(alloc, call, lines, given)?;
-    let leg = new_leg(alloc, call)?;
-    Ok(Half { leg, io })
 }
 
 // The uplink half of period k, by the leg's own call.
@@ -143,36 +133,64 @@ fn has_octets(io: &LegIo, want: &Lines) -> bool {
     io.out.as_slice() == want.out.as_slice() && io.down.as_slice() == want.down.as_slice()
 }
 
-// Whether a job is of one call, with these octets.
-fn is_one(job: &Job, want: &Lines) -> bool {
-    match job {
-        Job::One(half) => has_octets(&half.io, want),
-        Job::Two(_first, _second) => false,
+// Works a job to the end of its phase, in slices of so many places and of one.
+fn work<W: Work>(job: &mut W, early: u32)
+    requires { 1 ≤ early }
+    ensures { job.new ≡ W.finish job.old }
+{
+    job.slice(early);
+    while !job.finished() {
+        job.slice(1);
     }
 }
 
-// Whether a job is of two calls, with these octets.
-fn is_two(job: &Job, first: &Lines, second: &Lines) -> bool {
-    match job {
-        Job::One(_half) => false,
-        Job::Two(a, b) => has_octets(&a.io, first) && has_octets(&b.io, second),
+// The first phase of a new leg with so many periods of these lines, worked.
+fn heard(
+    alloc: Global,
+    leg: Leg,
+    call: u32,
+    lines: &Lines,
+    given: u32,
+    bridge_end: u32,
+) -> Result<CallJob, AllocError>
+    requires call { IsCallNumber call }
+    requires given { given ≤ 4 }
+    requires periods { periods_of_leg leg ≡ 0 }
+{
+    let io = io_of(alloc, call, lines, given)?;
+    let notes = Vec::with_capacity(alloc, 4)?;
+    let mut job = CallJob::new(leg, io, notes, Vec::new(alloc), bridge_end);
+    work(&mut job, 2);
+    Ok(job)
+}
+
+// The effective frames of all periods of a job.
+fn frames_of(alloc: Global, job: &CallJob) -> Result<Vec<Effective>, AllocError> {
+    let mut frames = Vec::with_capacity(alloc, 4)?;
+    for k in 0..job.notes.len() {
+        frames.push(job.frame(k))?;
     }
+    Ok(frames)
 }
 
-// Works so many places of a job: whether it is finished then.
-fn finished_after(job: &mut Job, places: u32) -> bool
-    requires { 1 ≤ places }
-{
-    job.slice(places);
-    job.finished()
-}
-
-// Whether a job isn't finished after so many places, and is after so many more.
-fn finished_between(job: &mut Job, early: u32, late: u32) -> bool
-    requires early { 1 ≤ early }
-    requires late { 1 ≤ late }
-{
-    !finished_after(job, early) && finished_after(job, late)
+// Works the second phase of a job with these frames of its partner, where the first is done: whether it was.
+fn speak_all(job: &mut CallJob, frames: Vec<Effective>) -> bool {
+    match job.phase {
+        Phase::First => {
+            let enough = job.bridge_end as usize <= frames.len();
+            drop(job.swap_partner(frames));
+            if !enough || !job.finished() {
+                return false;
+            }
+            job.turn_down();
+            work(job, 1);
+            true
+        }
+        Phase::Second => {
+            drop(frames);
+            false
+        }
+    }
 }
 
 // Works three periods of call 7 by the leg's own calls.
@@ -181,29 +199,6 @@ fn work_three(alloc: Global, lines: &mut Lines) -> Result<(), AllocError> {
     for k in 0..3 {
         alone(&mut leg, lines, k);
     }
-    Ok(())
-}
-
-// Works a job of call 7 with three of the periods of its lines, in slices of two: whether it ends with these octets.
-fn three_of_four(alloc: Global, given: &Lines, want: &Lines) -> Result<bool, AllocError> {
-    let mut job = Job::One(half(alloc, 7, given, 3)?);
-    let worked = finished_between(&mut job, 2, 2) && is_one(&job, want);
-    drop(job);
-    Ok(worked)
-}
-
-// Whether it ends with those that the leg's own calls give.
-fn has_its_octets(alloc: Global) -> Result<bool, AllocError> {
-    let given = lines_with([3, 5, 8, 13]);
-    let mut want = lines_with([3, 5, 8, 13]);
-    work_three(alloc, &mut want)?;
-    three_of_four(alloc, &given, &want)
-}
-
-// Three of four periods of one call.
-#[test]
-fn one_call_has_its_octets(rt: HostRuntime) -> Result<(), Fail> {
-    assert!(rt; has_its_octets(rt.alloc())?);
     Ok(())
 }
 
@@ -263,33 +258,46 @@ fn lines_of_two() -> (Lines, Lines) {
     (lines_with([3, 5, 8, 13]), lines_with([21, 34, 55, 89]))
 }
 
-// Call 7 with four periods of its lines, and call 9 with two.
-fn two_halves(alloc: Global, first: &Lines, second: &Lines) -> Result<(Half, Half), AllocError>
-    ensures first { IfOk result (λ hs. (hs.0.io.call ≡ 7) × (periods_of_leg hs.0.leg ≡ 0)) }
-    ensures second { IfOk result (λ hs. (hs.1.io.call ≡ 9) × (periods_of_leg hs.1.leg ≡ 0)) }
-{
-    let a = half(alloc, 7, first, 4)?;
-    let b = half(alloc, 9, second, 2)?;
-    Ok((a, b))
+// Three of four periods of one call: whether its two phases end with the octets that the leg's own calls give.
+fn has_its_octets(alloc: Global) -> Result<bool, AllocError> {
+    let given = lines_with([3, 5, 8, 13]);
+    let mut want = lines_with([3, 5, 8, 13]);
+    work_three(alloc, &mut want)?;
+    let mut job = heard(alloc, new_leg(alloc, 7)?, 7, &given, 3, 0)?;
+    let spoke = speak_all(&mut job, Vec::new(alloc));
+    Ok(spoke && has_octets(&job.io, &want))
 }
 
-// The job of both, bridged.
-fn longer_and_shorter(alloc: Global) -> Result<Job, AllocError> {
-    let (first, second) = lines_of_two();
-    let (mut long, mut short) = two_halves(alloc, &first, &second)?;
-    begin_bridge(&mut long.leg, &mut short.leg);
-    Ok(Job::Two(long, short))
+#[test]
+fn one_call_has_its_octets(rt: HostRuntime) -> Result<(), Fail> {
+    assert!(rt; has_its_octets(rt.alloc())?);
+    Ok(())
 }
 
-// Works that job, in slices of three and one: whether it ends with these octets.
+// The first phases of call 7 with four periods of its lines and of call 9 with two, bridged.
+fn both_heard(
+    alloc: Global,
+    given: &Lines,
+    others: &Lines,
+) -> Result<(CallJob, CallJob), AllocError> {
+    let (mut a, mut b) = two_legs(alloc)?;
+    begin_bridge(&mut a, &mut b);
+    let long = heard(alloc, a, 7, given, 4, 2)?;
+    let short = heard(alloc, b, 9, others, 2, 2)?;
+    Ok((long, short))
+}
+
+// Whether both phases of both end with these octets.
 fn four_and_two(alloc: Global, first: &Lines, second: &Lines) -> Result<bool, AllocError> {
-    let mut job = longer_and_shorter(alloc)?;
-    let worked = finished_between(&mut job, 3, 1) && is_two(&job, first, second);
-    drop(job);
-    Ok(worked)
+    let (given, others) = lines_of_two();
+    let (mut long, mut short) = both_heard(alloc, &given, &others)?;
+    let of_long = frames_of(alloc, &long)?;
+    let of_short = frames_of(alloc, &short)?;
+    let both = speak_all(&mut short, of_long) && speak_all(&mut long, of_short);
+    Ok(both && has_octets(&long.io, first) && has_octets(&short.io, second))
 }
 
-// Whether it ends with those that the legs' own calls give.
+// Whether they end with those that the legs' own calls give.
 fn longer_goes_on_alone(alloc: Global) -> Result<bool, AllocError> {
     let (mut first, mut second) = lines_of_two();
     work_two_and_two(alloc, &mut first, &mut second)?;
@@ -300,47 +308,5 @@ fn longer_goes_on_alone(alloc: Global) -> Result<bool, AllocError> {
 #[test]
 fn the_longer_of_two_goes_on_alone(rt: HostRuntime) -> Result<(), Fail> {
     assert!(rt; longer_goes_on_alone(rt.alloc())?);
-    Ok(())
-}
-
-// A job of the calls 7 and 9, and what was taken from call 9.
-fn taken_of_second(alloc: Global, given: &Lines) -> Result<(Job, LegIo), AllocError> {
-    let (first, second) = two_halves(alloc, given, given)?;
-    let mut job = Job::Two(first, second);
-    let taken = job.swap_io(LegIo::none(alloc, 9));
-    Ok((job, taken))
-}
-
-// Whether the octets are of this call, which has so many periods.
-fn is_of(io: &LegIo, call: u32, periods: u32) -> bool {
-    io.call == call && io.given == periods
-}
-
-// Whether a job has four periods of call 7, and none of call 9.
-fn has_the_first_alone(job: &Job) -> bool {
-    match job {
-        Job::One(_half) => false,
-        Job::Two(first, second) => is_of(&first.io, 7, 4) && is_of(&second.io, 9, 0),
-    }
-}
-
-// Whether this Pcm line comes back.
-fn gives_pcm(io: LegIo, want: &Lines) -> bool {
-    io.into_buffers().pcm.as_slice() == want.pcm.as_slice()
-}
-
-// Whether what was taken from call 9 is all that it had, and call 7 keeps its own.
-fn takes_of_second(alloc: Global, given: &Lines) -> Result<bool, AllocError> {
-    let (job, taken) = taken_of_second(alloc, given)?;
-    let parted = is_of(&taken, 9, 2) && has_the_first_alone(&job);
-    drop(job);
-    Ok(gives_pcm(taken, given) && parted)
-}
-
-// A job's octets are taken and given by the number of their call.
-#[test]
-fn octets_go_to_their_call(rt: HostRuntime) -> Result<(), Fail> {
-    let given = lines_with([3, 5, 8, 13]);
-    assert!(rt; takes_of_second(rt.alloc(), &given)?);
     Ok(())
 }

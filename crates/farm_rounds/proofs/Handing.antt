@@ -1,11 +1,10 @@
 -- Octets that go into jobs.
 use Rattle.std.proofs.Common.{◌≡◌, ◌≢◌, refl, sym, ap, ◌∙◌, subst, ℕ, zero, suc, ◌+◌, ◌-◌, ◌<◌, ◌≤◌, true, false, List, [], ◌∷◌, length, get_or, arith, inl, inr}
 use Rattle.std.specs.Prelude.{◌==◌, ◌||◌, slice_set}
-use Rattle.std.specs.Global.{Box}
 use Rattle.std.specs.List.{All}
 use Rattle.std.proofs.lemmas.List.Elements.{All-same, All-set, All-get_or}
 use Rattle.std.proofs.lemmas.Bool.{cases_Bool, cases_eq, cases_lt, eqb-true, eq-eqb, ne_eqb, or_cases}
-use Rattle.std.proofs.lemmas.List.{length-set, get_or-set_same, get_or-set_other, map-set, length-map, get_or-map}
+use Rattle.std.proofs.lemmas.List.{get_or_default, length-set, get_or-set_same, get_or-set_other, map-set, length-map, get_or-map}
 use Rattle.call_number.specs.CallNumber.{IsCallNumber}
 use Rattle.call_pair.specs.declared.job.Job.{Job}
 use Rattle.call_pair.specs.declared.job.Job.TheVariants.{One, Two}
@@ -19,7 +18,8 @@ use Rattle.std.proofs.Math.Seq.{map-set_same}
 use Rattle.farm_rounds.specs.declared.call.Call.{Call}
 use Rattle.farm_rounds.specs.declared.call.Group.TheVariants as group
 use Rattle.farm_rounds.specs.declared.entry.Entry.{Entry}
-use Rattle.farm_rounds.specs.Rounds.{no_job, call_from, group_from, groups_from, IsTimely, jobs_in, job_at, half_at, HasJob, SameLegs, HaveJobs, HaveTime, AreHanded, AreSound, entry_at, octets_of}
+use Rattle.farm_rounds.specs.Phased.{IsFresh, AreWithin}
+use Rattle.farm_rounds.specs.Rounds.{no_job, call_from, group_from, groups_from, IsTimely, job_at, half_at, HasJob, SameLegs, HaveJobs, HaveTime, AreHanded, AreSound, entry_at, octets_of}
 
 abbrev make_call : ℕ → LegMemory → Call
 make_call n m = record { number = n; leg = m; down_failed = false; out_failed = false }
@@ -96,21 +96,25 @@ with_time most (Two a b) io t k l = elim (cases_Bool (a.io.call == io.call)) [
   | inr f ↦ simp f (k.0, simp f at l)
 ]
 
+-- none of its places is done
+pub with_fresh : (most : ℕ) (j : Job) (io : IoMemory) → IsFresh most j → io.done ≡ 0 → io.given ≤ most → IsFresh most (with_io j io)
+with_fresh most (One h) io k e l = (e, l)
+with_fresh most (Two a b) io k e l = elim (cases_Bool (a.io.call == io.call)) [
+  | inl u ↦ simp u ((e, l), k.1)
+  | inr f ↦ simp f (k.0, (e, l))
+]
+
 -- ---- jobs by their places
 
-pub job_set : (bs : List (Box Job)) (k : ℕ) (b : Box Job) (j : Job) → b.value ≡ j → jobs_in (slice_set bs k b) ≡ slice_set (jobs_in bs) k j
-job_set bs k b j e = map-set (λ (x : Box Job). x.value) bs k b ∙ ap (λ (x : Job). slice_set (jobs_in bs) k x) e
-
-pub job_read : (bs : List (Box Job)) (k : ℕ) (b : Box Job) → k < length (jobs_in bs) → (get_or bs k b).value ≡ job_at (jobs_in bs) k
-job_read bs k b l =
-    let within : k < length bs = omega (arith, l, length-map bs (λ (x : Box Job). x.value)) in
-    sym (get_or-map (λ (x : Box Job). x.value) bs k b no_job within)
+pub job_read : (jobs : List Job) (k : ℕ) (d : Job) → k < length jobs → get_or jobs k d ≡ job_at jobs k
+job_read jobs k d l = get_or_default jobs k d no_job l
 
 -- ---- all seats
 
 pub record HandedIn (before now : List Job) (entries : List Entry) (seats : List SeatMemory) (n : ℕ) : Type 0 where
   pub same : SameLegs before now
   pub handed : AreHanded now entries seats n
+  pub fresh : (most : ℕ) → All (IsFresh most) before → AreWithin most seats → All (IsFresh most) now
   pub timely : (most : ℕ) → All (IsTimely most) before → ((k : ℕ) → k < length seats → periods_of_leg (half_at before (entry_at entries k).job (call_at seats k)).leg + (seat_at seats k).place.periods ≤ most) → All (IsTimely most) now
 
 pub handed_none : (before : List Job) (entries : List Entry) (seats : List SeatMemory) → HandedIn before before entries seats 0
@@ -118,6 +122,7 @@ handed_none before entries seats = record {
   same = record { number = refl; calls = λ j c. refl; legs = λ j c. refl; groups = refl };
   handed = λ k l. absurd (omega arith);
   timely = λ most all time. all;
+  fresh = λ most all within. all;
 }
 
 -- the job of seat n's call
@@ -173,6 +178,11 @@ handed_more before now next entries seats n rising have l bound h e =
           let fits : periods_of_leg (half_at now place io.call).leg + places_left io ≤ most = omega (arith, leg, time n l, bound) in
           All-same (IsTimely most) next (slice_set now place (with_io (job_at now place) io)) e
           (All-set (IsTimely most) now place (with_io (job_at now place) io) (with_time most (job_at now place) io has.1 (All-get_or (IsTimely most) now place no_job has.0 before_all) fits) before_all);
+      fresh = λ most all within.
+          let before_all = h.fresh most all within in
+          All-same (IsFresh most) next (slice_set now place (with_io (job_at now place) io)) e
+          (All-set (IsFresh most) now place (with_io (job_at now place) io)
+          (with_fresh most (job_at now place) io (All-get_or (IsFresh most) now place no_job has.0 before_all) refl (omega (arith, bound, within n l))) before_all);
     }
 
 -- ---- the seat of a turn

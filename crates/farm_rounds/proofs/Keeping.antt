@@ -1,16 +1,16 @@
 -- What the run of a job keeps: its calls, the octets that they take, and how many periods they have in all.
 use Rattle.std.proofs.Common.{◌≡◌, refl, ap, ◌∙◌, ℕ, zero, suc, ◌+◌, ◌-◌, ltb, Bool, true, false, List, arith, inl, inr}
-use Rattle.std.specs.Prelude.{◌==◌, ◌||◌}
+use Rattle.std.specs.Prelude.{◌==◌, ◌||◌, ◌&&◌, min, if◌then◌else◌}
 use Rattle.std.proofs.lemmas.Bool.{cases_Bool, ltb-true}
 use Rattle.frame_sync.specs.Step.{next_period}
-use Rattle.rx_handler.specs.Origin.{EffectiveFields}
+use Rattle.rx_handler.specs.Origin.{EffectiveFields, Quiet}
 use Rattle.call_leg.specs.Memory.{LegMemory, periods_of_leg}
 use Rattle.call_leg.specs.Step.{up_worked}
 use Rattle.call_pair.specs.declared.job.Job.{Job}
 use Rattle.call_pair.specs.declared.job.Job.TheVariants.{One, Two}
 use Rattle.call_pair.specs.Memory.{HalfMemory, periods_of}
 use Rattle.call_pair.specs.Places.{has_place}
-use Rattle.call_pair.specs.Turn.{alone, bridged, effective, left_alone, unbridged, pair_turned, turned}
+use Rattle.call_pair.specs.Turn.{effective, unbridged, leg_at, place_worked, half_turned, half_turned_if, turned}
 use Rattle.call_pair.specs.Jobs.{job_left, after_turns, finished, has_call, half_of}
 
 -- of a half
@@ -35,34 +35,26 @@ worked_periods m up = refl
 one_period : (p done given : ℕ) → ltb done given ≡ true → p + 1 + (given - (done + 1)) ≡ p + (given - done)
 one_period p done given t = let l = ltb-true done given t in omega arith
 
-alone_keeps : (h : HalfMemory) → has_place h.io ≡ true → KeptHalf h (alone h)
-alone_keeps h t = record {
+-- its place is worked by a leg that has worked as many periods
+place_keeps : (h : HalfMemory) (m : LegMemory) (e : EffectiveFields) → has_place h.io ≡ true → periods_of_leg m ≡ periods_of_leg h.leg → KeptHalf h (place_worked e m h.io)
+place_keeps h m e t p = record {
   call = refl;
   up = refl;
   pcm = refl;
   given = refl;
-  periods = ap (λ (n : ℕ). n + (h.io.given - (h.io.done + 1))) (worked_periods h.leg _) ∙ one_period (periods_of_leg h.leg) h.io.done h.io.given t;
+  periods = ap (λ (n : ℕ). n + (h.io.given - (h.io.done + 1))) (worked_periods m _) ∙ one_period (periods_of_leg m) h.io.done h.io.given t ∙ ap (λ (n : ℕ). n + (h.io.given - h.io.done)) p;
 }
 
-bridged_keeps : (h : HalfMemory) (e : EffectiveFields) → has_place h.io ≡ true → KeptHalf h (bridged h e)
-bridged_keeps h e t = record {
-  call = refl;
-  up = refl;
-  pcm = refl;
-  given = refl;
-  periods = ap (λ (n : ℕ). n + (h.io.given - (h.io.done + 1))) (worked_periods h.leg _) ∙ one_period (periods_of_leg h.leg) h.io.done h.io.given t;
-}
+leg_keeps : (h : HalfMemory) (b : Bool) → periods_of_leg (if b then unbridged h.leg else h.leg) ≡ periods_of_leg h.leg
+leg_keeps h true = refl
+leg_keeps h false = refl
 
-left_alone_keeps : (h : HalfMemory) (others : ℕ) → has_place h.io ≡ true → KeptHalf h (left_alone h others)
-left_alone_keeps h others t = elim (cases_Bool (h.io.done == others)) [
-  | inl e ↦ simp e (alone_keeps_of (unbridged h.leg) refl)
-  | inr e ↦ simp e (alone_keeps_of h.leg refl)
-]
-  where
-    alone_keeps_of : (m : LegMemory) → periods_of_leg m ≡ periods_of_leg h.leg → KeptHalf h (alone (record { leg = m; io = h.io }))
-    alone_keeps_of m p =
-        let k = alone_keeps (record { leg = m; io = h.io }) t in
-        record { call = k.call; up = k.up; pcm = k.pcm; given = k.given; periods = k.periods ∙ ap (λ (n : ℕ). n + (h.io.given - h.io.done)) p }
+turn_keeps : (m : ℕ) (e : EffectiveFields) (h : HalfMemory) → has_place h.io ≡ true → KeptHalf h (half_turned m e h)
+turn_keeps m e h t = place_keeps h (leg_at m h) e t (leg_keeps h (h.leg.down.bridged && h.io.done == m))
+
+if_keeps : (b : Bool) (m : ℕ) (e : EffectiveFields) (h : HalfMemory) → has_place h.io ≡ b → KeptHalf h (half_turned_if b m e h)
+if_keeps true m e h t = turn_keeps m e h t
+if_keeps false m e h t = half-refl h
 
 -- of a job
 abbrev pub KeptJob : Job → Job → Type 0
@@ -82,18 +74,11 @@ job-trans (Two a b) (One g) l p q = absurd p
 job-trans (One h) (One g) (Two e f) p q = absurd q
 job-trans (Two a b) (Two c d) (One f) p q = absurd q
 
-pair_keeps : (a b : HalfMemory) (x y : Bool) → has_place a.io ≡ x → has_place b.io ≡ y → KeptJob (Two a b) (pair_turned a b x y)
-pair_keeps a b true true e f = (bridged_keeps a (effective b) e, bridged_keeps b (effective a) f)
-pair_keeps a b true false e f = (left_alone_keeps a b.io.given e, half-refl b)
-pair_keeps a b false true e f = (half-refl a, left_alone_keeps b a.io.given f)
-pair_keeps a b false false e f = (half-refl a, half-refl b)
-
-one_keeps : (h : HalfMemory) → KeptJob (One h) (turned (One h))
-one_keeps h = elim (cases_Bool (has_place h.io)) [ inl t ↦ simp t (alone_keeps h t) | inr f ↦ simp f (half-refl h) ]
-
 turned_keeps : (j : Job) → KeptJob j (turned j)
-turned_keeps (One h) = one_keeps h
-turned_keeps (Two a b) = pair_keeps a b (has_place a.io) (has_place b.io) refl refl
+turned_keeps (One h) = if_keeps (has_place h.io) 0 Quiet h refl
+turned_keeps (Two a b) =
+    let m = min a.io.given b.io.given in
+    (if_keeps (has_place a.io) m (effective m b) a refl, if_keeps (has_place b.io) m (effective m a) b refl)
 
 turns_keep : (n : ℕ) (j : Job) → KeptJob j (after_turns n j)
 turns_keep zero j = job-refl j

@@ -3,7 +3,6 @@ use Rattle.std.proofs.Common.{◌≡◌, refl, sym, ap, ◌∙◌, subst, ℕ, �
 use Rattle.std.specs.Prelude.{if◌then◌else◌, is_some, map, reverse, slice_index}
 use Rattle.std.specs.Option.{option_or, option_map}
 use Rattle.std.specs.List.{All, count_by}
-use Rattle.std.specs.Global.{Box}
 use Rattle.std.proofs.lemmas.List.Elements.{All-head}
 use Rattle.std.proofs.lemmas.Bool.{cases_Bool, false≢true}
 use Rattle.std.proofs.lemmas.List.{reverse-append, map-append, append-nil, get_or_append_left, get_or_push}
@@ -19,7 +18,7 @@ use Rattle.farm_rounds.specs.Calls.{holds, group_in, call_in, call_of}
 use Rattle.farm_rounds.specs.Groups.{IsGroup}
 use Rattle.farm_rounds.proofs.Finding.{found_moved}
 use Rattle.farm_rounds.proofs.Exchanging.{All-second}
-use Rattle.farm_rounds.specs.Rounds.{no_job, jobs_in, job_at, HasJob, entry_at, job_made, entry_of, HaveEntries, BringCalls}
+use Rattle.farm_rounds.specs.Rounds.{no_job, job_at, HasJob, entry_at, job_made, entry_of, HaveEntries, BringCalls}
 
 pub made_has : (g : Group) (c : ℕ) → has_call (job_made g) c ≡ holds c g
 made_has (One x) c = refl
@@ -74,9 +73,8 @@ last_each most old live groups next g jobs entries m e all =
     let whole : old ≡ next ++ g ∷ m.rest = m.split ∙ ap (λ (gs : List Group). gs ++ m.rest) e ∙ append_assoc next (g ∷ []) m.rest in
     All-head (IsGroup most) g m.rest (All-second (IsGroup most) next (g ∷ m.rest) (subst (λ (gs : List Group). All (IsGroup most) gs) whole all))
 
-pub job_pushed : (bs after : List (Box Job)) (b : Box Job) (g : Group) (j : Job) → after ≡ bs ++ b ∷ [] → b.value ≡ j → j ≡ job_made g → jobs_in after ≡ jobs_in bs ++ job_made g ∷ []
-job_pushed bs after b g j e ev ej =
-    ap (λ (x : List (Box Job)). jobs_in x) e ∙ map-append (λ (x : Box Job). x.value) bs (b ∷ []) ∙ ap (λ (x : Job). jobs_in bs ++ x ∷ []) (ev ∙ ej)
+pub job_pushed : (jobs after : List Job) (j : Job) (g : Group) → after ≡ jobs ++ j ∷ [] → j ≡ job_made g → after ≡ jobs ++ job_made g ∷ []
+job_pushed jobs after j g e ej = e ∙ ap (λ (x : Job). jobs ++ x ∷ []) ej
 
 pub made_more : (old : List Group) (live : List ℕ) (groups next : List Group) (g : Group) (jobs after : List Job) (entries entered : List Entry) → Made old live groups jobs entries →
     groups ≡ next ++ g ∷ [] → after ≡ jobs ++ job_made g ∷ [] → length entered ≡ length entries →

@@ -11,7 +11,6 @@ use Rattle.std.proofs.lemmas.List.{take-append-drop, map-id}
 use Rattle.std.proofs.lemmas.Iterator.{YieldsList}
 use Rattle.std.proofs.lemmas.Iterator.Consumers.{YieldsList-so_far, YieldsList-turn}
 use Rattle.std.specs.Iterator.{Yields}
-use Rattle.std.specs.Global.{Box}
 use Rattle.call_leg.specs.Memory.{LegMemory}
 use Rattle.call_leg.specs.Stands.{Stands}
 use Rattle.call_pair.specs.declared.job.Job.{Job}
@@ -24,7 +23,7 @@ use Rattle.farm_rounds.specs.Calls.{holds, group_in, call_in, call_of}
 use Rattle.farm_rounds.specs.Groups.{IsGroup, AreGroups, AreLive}
 use Rattle.farm_rounds.specs.Memory.{tally_in}
 use Rattle.farm_rounds.specs.Numbers.{IsRising, is_among}
-use Rattle.farm_rounds.specs.Rounds.{jobs_in, group_from, groups_from}
+use Rattle.farm_rounds.specs.Rounds.{group_from, groups_from}
 use Rattle.farm_rounds.specs.Settling.{told_by, call_left, group_left, groups_left, ended_in, ended_of, KeepsTally, Settled}
 use Rattle.farm_rounds.proofs.Finding.{cases_zero, none_counted, not_found}
 use Rattle.farm_rounds.proofs.Exchanging.{All-second}
@@ -252,20 +251,20 @@ room_left stays seat all gs groups g live l n e = omega (arith, ap length e, few
 
 -- ---- the jobs
 
-pub groups_append : (xs ys : List (Box Job)) → groups_from (jobs_in (xs ++ ys)) ≡ groups_from (jobs_in xs) ++ groups_from (jobs_in ys)
+pub groups_append : (xs ys : List Job) → groups_from ((xs ++ ys)) ≡ groups_from xs ++ groups_from ys
 groups_append [] ys = refl
-groups_append (x ∷ xs) ys = ap (λ (gs : List Group). group_from x.value ∷ gs) (groups_append xs ys)
+groups_append (x ∷ xs) ys = ap (λ (gs : List Group). group_from x ∷ gs) (groups_append xs ys)
 
 -- the groups of the jobs that a loop has had, and of the next one
-pub next_job : {S : Type 0} {steps : S → Option (Box Job) → S → Type 0} {s : S} (bs xs : List (Box Job)) (t u : S) (r : Option (Box Job)) (b : Box Job) (j : Job) → YieldsList steps (λ y. y) s bs → Yields steps s xs t →
-    r ≡ Some b → steps t r u → j ≡ b.value → AreNext (groups_from (jobs_in bs)) (groups_from (jobs_in xs)) (group_from j)
+pub next_job : {S : Type 0} {steps : S → Option Job → S → Type 0} {s : S} (bs xs : List Job) (t u : S) (r : Option Job) (b : Job) (j : Job) → YieldsList steps (λ y. y) s bs → Yields steps s xs t →
+    r ≡ Some b → steps t r u → j ≡ b → AreNext (groups_from bs) (groups_from xs) (group_from j)
 next_job {S} {steps} {s} bs xs t u r b j all some is step e =
     let n = length xs in
     let turn = YieldsList-turn all xs t some r u b is step in
     let front : take n bs ≡ xs = sym (sym (map-id xs) ∙ YieldsList-so_far all xs t some) in
-    let rest : drop n bs ≡ b ∷ drop (n + 1) bs = rw add-one (drop-cons bs n b turn.0 ∙ ap (λ (x : Box Job). x ∷ drop (suc n) bs) (sym turn.1)) in
-    let whole : bs ≡ xs ++ b ∷ drop (n + 1) bs = sym (take-append-drop n bs) ∙ ap (λ (ys : List (Box Job)). ys ++ drop n bs) front ∙ ap (λ (ys : List (Box Job)). xs ++ ys) rest in (
-      groups_from (jobs_in (drop (n + 1) bs)),
-      ap (λ (ys : List (Box Job)). groups_from (jobs_in ys)) whole ∙ groups_append xs (b ∷ drop (n + 1) bs)
-          ∙ ap (λ (i : Job). groups_from (jobs_in xs) ++ group_from i ∷ groups_from (jobs_in (drop (n + 1) bs))) (sym e),
+    let rest : drop n bs ≡ b ∷ drop (n + 1) bs = rw add-one (drop-cons bs n b turn.0 ∙ ap (λ (x : Job). x ∷ drop (suc n) bs) (sym turn.1)) in
+    let whole : bs ≡ xs ++ b ∷ drop (n + 1) bs = sym (take-append-drop n bs) ∙ ap (λ (ys : List Job). ys ++ drop n bs) front ∙ ap (λ (ys : List Job). xs ++ ys) rest in (
+      groups_from ((drop (n + 1) bs)),
+      ap (λ (ys : List Job). groups_from ys) whole ∙ groups_append xs (b ∷ drop (n + 1) bs)
+          ∙ ap (λ (i : Job). groups_from xs ++ group_from i ∷ groups_from ((drop (n + 1) bs))) (sym e),
     )

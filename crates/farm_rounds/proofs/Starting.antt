@@ -18,6 +18,7 @@ use Rattle.farm_rounds.specs.declared.call.Group.TheVariants.{One, Two}
 use Rattle.call_number.specs.CallNumber.{IsCallNumber}
 use Rattle.farm_rounds.specs.Calls.{holds, group_in, size_of, calls_held}
 use Rattle.farm_rounds.specs.Groups.{IsCall, IsGroup, AreGroups, AreLive}
+use Rattle.farm_rounds.specs.Phased.{IsFresh}
 use Rattle.farm_rounds.specs.Rounds.{no_job, job_at, HasJob, entry_at, HaveEntries, AreSeats, IsTimely, job_made, group_from, groups_from}
 use Rattle.farm_rounds.specs.Working.{IsRound}
 use Rattle.farm_rounds.proofs.Rising.{there, rising_far}
@@ -117,6 +118,15 @@ same_groups a most gs l k = record { apart = k.apart; each = each_weaker a most 
 
 -- ---- the round
 
+-- the jobs of a round have no place before the reads
+made_fresh : (gs : List Group) → All (IsFresh 0) (map job_made gs)
+made_fresh [] = All-nil (IsFresh 0)
+made_fresh (g ∷ gs) = All-cons (IsFresh 0) (job_made g) (map job_made gs) (one g) (made_fresh gs)
+  where
+    one : (g : Group) → IsFresh 0 (job_made g)
+    one (One x) = (refl, omega arith)
+    one (Two x y) = ((refl, omega arith), (refl, omega arith))
+
 pub planned : (before start periods : ℕ) (gs : List Group) (live : List ℕ) (kept : List Tally) (failed : List Line) (jobs : List Job) (entries : List Entry) (seats : List SeatMemory) → before ≤ start → start + periods ≤ 4294967295 →
     AreGroups before gs → AreLive live gs → length kept ≡ 4097 → jobs ≡ map job_made (reverse gs) → HaveEntries jobs entries live → length entries ≡ length live → AreSeats live entries periods seats (length live) → length seats ≡ length live →
     IsRound (record { start = start; ended = start + periods; live = live; tallies = kept; failed = failed; jobs = jobs; entries = entries; seats = seats })
@@ -148,4 +158,5 @@ planned before start periods gs live kept failed jobs entries seats later last a
       groups = subst (λ (js : List Job). AreGroups (start + periods) (groups_from js)) (sym ej) (made_groups (start + periods) gs (same_groups before (start + periods) gs (omega (arith, later)) a));
       alive = subst (λ (js : List Job). AreLive live (groups_from js)) (sym ej) (made_live live gs l);
       kept = k;
+      fresh = subst (λ (js : List Job). All (IsFresh 0) js) (sym ej) (made_fresh (reverse gs));
     }

@@ -1,7 +1,6 @@
 -- A round from its plan to its end.
 use Rattle.std.proofs.Common.{◌≡◌, refl, sym, ap, ◌∙◌, subst, ℕ, zero, suc, ◌+◌, ◌*◌, ◌<◌, ◌≤◌, Bool, false, List, [], ◌∷◌, ◌++◌, length, take, drop, arith, inl, inr}
 use Rattle.std.specs.Prelude.{if◌then◌else◌, ◌==◌, ◌||◌, ◌&&◌, map}
-use Rattle.std.specs.Global.{Box}
 use Rattle.std.specs.List.{count_by, list_any, All}
 use Rattle.std.proofs.lemmas.Bool.{cases_Bool, cases_order, eq-eqb, ne_eqb, and_from, and_left, and_right}
 use Rattle.std.proofs.lemmas.List.{length-map, get_or-map, drop_all, append-nil, take_all}
@@ -20,7 +19,7 @@ use Rattle.round_lines.specs.Rounds.{Rising, no_seat, seat_at, call_at}
 use Rattle.farm_rounds.specs.declared.entry.Entry.{Entry}
 use Rattle.farm_rounds.specs.Calls.{holds, size_of, calls_held}
 use Rattle.farm_rounds.specs.Groups.{IsCall, IsGroup, AreGroups, AreLive}
-use Rattle.farm_rounds.specs.Rounds.{no_job, AreReady, jobs_in, job_at, half_at, HasJob, SameLegs, entry_at, HaveJobs, AreHanded, AreSound, HaveTimeUntil, seat_with, Works, IsTimely, call_from, group_from, groups_from, place_at, half_of_seat, AreTaken, IsShort}
+use Rattle.farm_rounds.specs.Rounds.{no_job, AreReady, job_at, half_at, HasJob, SameLegs, entry_at, HaveJobs, AreHanded, AreSound, HaveTimeUntil, seat_with, Works, IsTimely, call_from, group_from, groups_from, place_at, half_of_seat, AreTaken, IsShort}
 use Rattle.std.proofs.lemmas.List.Folds.{list_any_at, list_any_none}
 use Rattle.farm_rounds.specs.Settling.{goes_on_in}
 use Rattle.farm_rounds.specs.Working.{RoundMemory, goes_on_call, IsRound}
@@ -102,17 +101,7 @@ finished_live live js l = record {
   count = held_same js ∙ l.count;
 }
 
-pub jobs_finished : (bs : List (Box Job)) → map (λ (b : Box Job). finished b.value) bs ≡ map finished (jobs_in bs)
-jobs_finished [] = refl
-jobs_finished (b ∷ bs) = ap (λ (js : List Job). finished b.value ∷ js) (jobs_finished bs)
-
 -- ---- the work
-
--- the jobs that ran are the finished ones of those that took octets, which were written back over the first ones
-pub ran : (len : ℕ) (first taken run given : List (Box Job)) → len ≡ length first → length taken ≡ length first →
-    map (λ (b : Box Job). b.value) run ≡ map (λ (b : Box Job). finished b.value) (take len (taken ++ drop (length taken) first)) → given ≡ run → jobs_in given ≡ map finished (jobs_in taken)
-ran len first taken run given el et er eg =
-    ap (λ (bs : List (Box Job)). jobs_in bs) eg ∙ er ∙ ap (λ (bs : List (Box Job)). map (λ (b : Box Job). finished b.value) bs) (back len taken first el et) ∙ jobs_finished taken
 
 place_of_seat : (seats : List SeatMemory) (k : ℕ) → place_at (map (λ (s : SeatMemory). s.place) seats) k ≡ (seat_at seats k).place
 place_of_seat [] k = refl
@@ -210,6 +199,7 @@ filled r seats i number call periods long = record {
   groups = i.groups;
   alive = i.alive;
   kept = i.kept;
+  fresh = i.fresh;
 }
 
 -- a line that failed didn't fill its buffer

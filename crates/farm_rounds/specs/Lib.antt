@@ -6,6 +6,8 @@ pub mod Memory
 pub mod Acts
 pub mod Histories
 pub mod Rounds
+pub mod Phased
+pub mod WorkRooms
 pub mod Settling
 pub mod Working
 pub mod RoundHistories

@@ -2,7 +2,6 @@
 use Rattle.std.specs.Prelude.{◌≡◌, ℕ, ◌+◌, ◌*◌, ◌<◌, ◌≤◌, true, false, Some, List, [], length, map, slice_index, slice_index_or}
 use Rattle.std.specs.Option.{option_map}
 use Rattle.std.specs.List.{All}
-use Rattle.std.specs.Global.{Box}
 use Rattle.round_lines.specs.Places.{PlaceMemory, whole_in}
 use Rattle.round_lines.specs.Seats.{SeatMemory, new_seat}
 use Rattle.round_lines.specs.Rounds.{no_seat, seat_at, call_at}
@@ -19,9 +18,6 @@ use Rattle.farm_rounds.specs.declared.entry.Entry.{Entry}
 use Rattle.farm_rounds.specs.Calls.{call_in}
 
 -- ---- jobs
-
-abbrev pub jobs_in : List (Box Job) → List Job
-jobs_in boxes = map (λ b. b.value) boxes
 
 -- no period of a call
 abbrev pub no_octets : ℕ → IoMemory

@@ -14,6 +14,7 @@ use Rattle.farm_rounds.specs.declared.entry.Entry.{Entry}
 use Rattle.farm_rounds.specs.declared.tally.Tally.{Tally}
 use Rattle.farm_rounds.specs.Groups.{AreGroups, AreLive}
 use Rattle.farm_rounds.specs.Settling.{goes_on_in}
+use Rattle.farm_rounds.specs.Phased.{IsFresh}
 use Rattle.farm_rounds.specs.Rounds.{HaveJobs, HaveRoom, HaveTimeUntil, IsTimely, groups_from}
 
 -- what is seen of a round: its first period and the first one after it, the open calls' numbers, what is kept of ended
@@ -42,6 +43,7 @@ pub record IsRound (r : RoundMemory) : Type 0 where
   pub groups : AreGroups r.ended (groups_from r.jobs)
   pub alive : AreLive r.live (groups_from r.jobs)
   pub kept : length r.tallies ≡ NUMBERS
+  pub fresh : All (IsFresh 0) r.jobs
 
 -- what is seen of a round that is worked
 pub record WorkedMemory : Type 0 where

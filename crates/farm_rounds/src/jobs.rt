@@ -8,16 +8,20 @@ ghost use Rattle.call_leg.specs.Memory.{periods_of_leg};
 ghost use Rattle.call_pair.specs.Memory.{places_left};
 ghost use Rattle.call_pair.specs.Jobs.{with_io};
 ghost use Rattle.call_number.specs.CallNumber.{IsCallNumber};
-ghost use Rattle.farm_rounds.specs.Calls.{holds, group_in, call_of};
+ghost use Rattle.farm_rounds.specs.Calls.{holds, group_in, call_of, calls_held};
 ghost use Rattle.farm_rounds.specs.Groups.{IsGroup, AreGroups, AreLive};
 ghost use Rattle.farm_rounds.specs.Numbers.{IsRising, is_among};
-ghost use Rattle.farm_rounds.specs.Rounds.{IsTimely, first_of, job_made, half_made, entry_of, HaveEntries, BringCalls, AreSeats, jobs_in, job_at, half_at, HasJob, SameLegs, HaveJobs, HaveTimeUntil, HaveTime, AreHanded, AreSound, AreReady, AreTaken, Works, entry_at};
+ghost use Rattle.farm_rounds.specs.Phased.{IsFresh, AreEmptyFor, AreWithin};
+ghost use Rattle.farm_rounds.specs.WorkRooms.{HasRoom};
+ghost use Rattle.farm_rounds.specs.Rounds.{groups_from, IsTimely, first_of, job_made, half_made, entry_of, HaveEntries, BringCalls, AreSeats, job_at, half_at, HasJob, SameLegs, HaveJobs, HaveTimeUntil, HaveTime, AreHanded, AreSound, AreReady, AreTaken, Works, entry_at};
 
 use crate::call::{Call, Group};
 use crate::entry::{Entry, NO_ENTRY};
 use crate::live::place_in;
+use crate::phases::{PhasesRoom, empty_lists, take_list, work_phases};
+use call_leg::UpNote;
 use call_pair::{Buffers, Half, Job, LegIo};
-use pool_run::{Gate, PoolRoom, run_pool};
+use pool_run::Gate;
 use round_lines::{Place, Seat};
 use std::alloc::{AllocError, Global};
 use std::sync::Wait;
@@ -38,11 +42,11 @@ pub(crate) fn make_jobs(
     alloc: Global,
     groups: &mut Vec<Group>,
     live: &[u32],
-) -> Result<(Vec<Box<Job>>, Vec<Entry>), AllocError>
+) -> Result<(Vec<Job>, Vec<Entry>), AllocError>
     requires live { AreLive live.now groups.old.items }
     requires groups { AreGroups 4294967295 groups.old.items }
-    ensures jobs { IfOk result (λ made. jobs_in made.0.items ≡ map job_made (reverse groups.old.items)) }
-    ensures entries { IfOk result (λ made. HaveEntries (jobs_in made.0.items) made.1.items live.now) }
+    ensures jobs { IfOk result (λ made. made.0.items ≡ map job_made (reverse groups.old.items)) }
+    ensures entries { IfOk result (λ made. HaveEntries made.0.items made.1.items live.now) }
     ensures calls { IfOk result (λ made. BringCalls groups.old.items made.1.items live.now) }
     ensures length { IfOk result (λ made. length made.1.items ≡ length live.now) }
     ensures empty { IfOk result (λ made. groups.new.items ≡ []) }
@@ -59,14 +63,14 @@ fn jobs_of(
     groups: &mut Vec<Group>,
     live: &[u32],
     entries: &mut [Entry],
-) -> Result<Vec<Box<Job>>, AllocError>
+) -> Result<Vec<Job>, AllocError>
     requires rising { IsRising live.now }
     requires length { length entries.old ≡ length live.now }
     requires found { (k : ℕ) → k < length live.now → is_some (group_in groups.old.items (slice_index live.now k)) ≡ true }
     requires present { (c : ℕ) → is_some (group_in groups.old.items c) ≡ true → is_among live.now c ≡ true }
     requires groups { AreGroups 4294967295 groups.old.items }
-    ensures jobs { IfOk result (λ jobs. jobs_in jobs.items ≡ map job_made (reverse groups.old.items)) }
-    ensures entries { IfOk result (λ jobs. HaveEntries (jobs_in jobs.items) entries.new live.now) }
+    ensures jobs { IfOk result (λ jobs. jobs.items ≡ map job_made (reverse groups.old.items)) }
+    ensures entries { IfOk result (λ jobs. HaveEntries jobs.items entries.new live.now) }
     ensures calls { IfOk result (λ jobs. BringCalls groups.old.items entries.new live.now) }
     ensures length { length entries.new ≡ length entries.old }
     ensures empty { IfOk result (λ jobs. groups.new.items ≡ []) }
@@ -75,7 +79,7 @@ fn jobs_of(
     let mut jobs = Vec::with_capacity(alloc, groups.len())?;
     while let Some(group) = groups.pop() {
         enter(live, entries, jobs.len(), &group);
-        jobs.push_reserved(Box::new(alloc, job_of(alloc, group))?);
+        jobs.push_reserved(job_of(alloc, group)?);
     }
     Ok(jobs)
 }
@@ -114,26 +118,23 @@ fn enter_call(live: &[u32], entries: &mut [Entry], job: usize, call: &Call)
     };
 }
 
-fn job_of(alloc: Global, group: Group) -> Job
+fn job_of(alloc: Global, group: Group) -> Result<Job, AllocError>
     requires { IsGroup 4294967295 group }
-    ensures { result ≡ job_made group }
+    ensures { IfOk result (λ job. job ≡ job_made group) }
 {
-    match group {
-        Group::One(only) => Job::One(half_of(alloc, only)),
-        Group::Two(low, high) => Job::Two(half_of(alloc, low), half_of(alloc, high)),
-    }
+    Ok(match group {
+        Group::One(only) => Job::One(half_of(alloc, only)?),
+        Group::Two(low, high) => Job::Two(half_of(alloc, low)?, half_of(alloc, high)?),
+    })
 }
 
-fn half_of(alloc: Global, call: Call) -> Half
+fn half_of(alloc: Global, call: Call) -> Result<Half, AllocError>
     requires number { IsCallNumber call.number }
     requires periods { periods_of_leg call.leg ≤ 4294967295 }
-    ensures { result ≡ half_made call }
+    ensures { IfOk result (λ half. half ≡ half_made call) }
 {
     let Call { number, leg, .. } = call;
-    Half {
-        leg,
-        io: LegIo::none(alloc, number),
-    }
+    Half::new(alloc, number, leg)
 }
 
 // The seats of the open calls.
@@ -164,14 +165,17 @@ pub(crate) fn make_seats(
     Ok(seats)
 }
 
-// Puts octets in place of those of their call in its job.
-fn swap_in(jobs: &mut [Box<Job>], place: usize, io: LegIo) -> LegIo
-    requires job { HasJob (jobs_in jobs.old) place io.call }
-    requires time { periods_of_leg (half_at (jobs_in jobs.old) place io.call).leg + places_left io ≤ 4294967295 }
-    ensures jobs { jobs_in jobs.new ≡ slice_set (jobs_in jobs.old) place (with_io (job_at (jobs_in jobs.old) place) io) }
-    ensures io { result ≡ (half_at (jobs_in jobs.old) place io.call).io }
+// Puts octets in place of those of their call in its job, with room for its notes.
+fn swap_in(jobs: &mut [Job], place: usize, io: LegIo, notes: Vec<UpNote>) -> LegIo
+    requires job { HasJob jobs.old place io.call }
+    requires time { periods_of_leg (half_at jobs.old place io.call).leg + places_left io ≤ 4294967295 }
+    requires none_done { io.done ≡ 0 }
+    requires empty { notes.items ≡ [] }
+    requires room { io.given ≤ vec_capacity notes }
+    ensures jobs { jobs.new ≡ slice_set jobs.old place (with_io (job_at jobs.old place) io) }
+    ensures io { result ≡ (half_at jobs.old place io.call).io }
 {
-    jobs[place].swap_io(io)
+    jobs[place].swap_io(io, notes)
 }
 
 // Where the job of a seat's call is.
@@ -183,24 +187,35 @@ fn job_place(entries: &[Entry], seat: usize) -> usize
 }
 
 // The buffers of each seat go into the call's job ..
-fn hand_in(seats: Vec<Seat>, entries: &[Entry], jobs: &mut [Box<Job>], apart: &mut Vec<Place>)
+fn hand_in(
+    seats: Vec<Seat>,
+    entries: &[Entry],
+    jobs: &mut [Job],
+    apart: &mut Vec<Place>,
+    notes: Vec<Vec<UpNote>>,
+)
     requires entries { length entries.now ≡ length seats.items }
-    requires jobs { HaveJobs (jobs_in jobs.old) entries.now seats.items }
-    requires time { HaveTime (jobs_in jobs.old) entries.now seats.items }
+    requires jobs { HaveJobs jobs.old entries.now seats.items }
+    requires time { HaveTime jobs.old entries.now seats.items }
     requires rising { Rising seats.items }
     requires none { apart.old.items ≡ [] }
     requires room { length seats.items ≤ vec_capacity apart.old }
-    ensures same { SameLegs (jobs_in jobs.old) (jobs_in jobs.new) }
-    ensures handed { AreHanded (jobs_in jobs.new) entries.now seats.items (length seats.items) }
+    requires lists { length seats.items ≤ vec_len notes }
+    requires notes { (k : ℕ) → k < length seats.items → AreEmptyFor (seat_at seats.items k).place.periods notes.items }
+    ensures same { SameLegs jobs.old jobs.new }
+    ensures handed { AreHanded jobs.new entries.now seats.items (length seats.items) }
     ensures apart { apart.new.items ≡ map (λ s. s.place) seats.items }
     ensures long { (k : ℕ) → k < length seats.items → length (seat_at seats.items k).up ≡ 40 * (seat_at seats.items k).place.periods }
     ensures sound { AreSound seats.items (length seats.items) }
-    ensures timely { (most : ℕ) → All (IsTimely most) (jobs_in jobs.old) → HaveTimeUntil most (jobs_in jobs.old) entries.now seats.items → All (IsTimely most) (jobs_in jobs.new) }
+    ensures timely { (most : ℕ) → All (IsTimely most) jobs.old → HaveTimeUntil most jobs.old entries.now seats.items → All (IsTimely most) jobs.new }
+    ensures fresh { (most : ℕ) → All (IsFresh most) jobs.old → AreWithin most seats.items → All (IsFresh most) jobs.new }
 {
+    let mut notes = notes;
     for seat in seats {
         let (place, buffers) = seat.into_parts();
         let io = LegIo::new(place.call(), for_job(buffers), place.whole());
-        let _ = swap_in(jobs, job_place(entries, apart.len()), io);
+        let list = take_list(&mut notes);
+        let _ = swap_in(jobs, job_place(entries, apart.len()), io, list);
         apart.push_reserved(place);
     }
 }
@@ -210,48 +225,57 @@ fn hand_out(
     alloc: Global,
     apart: Vec<Place>,
     entries: &[Entry],
-    jobs: &mut [Box<Job>],
+    jobs: &mut [Job],
     worked: &mut Vec<Seat>,
 )
     requires entries { length entries.now ≡ length apart.items }
-    requires ready { AreReady (jobs_in jobs.old) entries.now apart.items }
+    requires ready { AreReady jobs.old entries.now apart.items }
     requires none { worked.old.items ≡ [] }
     requires room { length apart.items ≤ vec_capacity worked.old }
-    ensures same { SameLegs (jobs_in jobs.old) (jobs_in jobs.new) }
-    ensures worked { AreTaken (jobs_in jobs.old) entries.now apart.items worked.new.items (length apart.items) }
+    ensures same { SameLegs jobs.old jobs.new }
+    ensures worked { AreTaken jobs.old entries.now apart.items worked.new.items (length apart.items) }
     ensures length { length worked.new.items ≡ length apart.items }
 {
     for place in apart {
         let none = LegIo::none(alloc, place.call());
-        let io = swap_in(jobs, job_place(entries, worked.len()), none);
+        let io = swap_in(
+            jobs,
+            job_place(entries, worked.len()),
+            none,
+            Vec::new(alloc),
+        );
         worked.push_reserved(Seat::from_parts(place, for_seat(io.into_buffers())));
     }
 }
 
-/// The memory that the work needs: for the seats without their buffers, for the worked ones, and that of the pool.
+/// The memory that the work needs: for the seats without their buffers, for the worked ones, for what the uplink of each
+/// call tells, and that of the phases.
 #[derive(Drop)]
 pub(crate) struct WorkRoom {
     pub(crate) apart: Vec<Place>,
     pub(crate) worked: Vec<Seat>,
-    pub(crate) pool: PoolRoom<Job>,
+    pub(crate) notes: Vec<Vec<UpNote>>,
+    pub(crate) phases: PhasesRoom,
 }
 
 impl WorkRoom {
-    /// For so many calls, at most 4,096, in a pool of 1 to 64 workers.
-    pub(crate) fn reserve(alloc: Global, calls: usize, workers: u32) -> Result<WorkRoom, AllocError>
+    /// For so many calls, at most 4,096, and periods, in a pool of 1 to 64 workers.
+    pub(crate) fn reserve(
+        alloc: Global,
+        calls: usize,
+        periods: u32,
+        workers: u32,
+    ) -> Result<WorkRoom, AllocError>
         requires calls { calls ≤ 4096 }
         requires some { 1 ≤ workers }
         requires few { workers ≤ 64 }
-        ensures no_place { IfOk result (λ room. room.apart.items ≡ []) }
-        ensures no_seat { IfOk result (λ room. room.worked.items ≡ []) }
-        ensures places { IfOk result (λ room. vec_capacity room.apart ≡ calls) }
-        ensures seats { IfOk result (λ room. vec_capacity room.worked ≡ calls) }
-        ensures pool { IfOk result (λ room. room.pool ≡ calls) }
+        ensures { IfOk result (λ room. HasRoom calls periods room) }
     {
         Ok(WorkRoom {
             apart: Vec::with_capacity(alloc, calls)?,
             worked: Vec::with_capacity(alloc, calls)?,
-            pool: PoolRoom::reserve(alloc, workers, calls as u32)?,
+            notes: empty_lists(alloc, calls, periods as usize)?,
+            phases: PhasesRoom::reserve(alloc, calls, periods, workers)?,
         })
     }
 }
@@ -263,31 +287,31 @@ pub(crate) fn work_jobs<R: Threads + Wait + Sync, G: Gate + Sync>(
     alloc: Global,
     entries: &[Entry],
     seats: Vec<Seat>,
-    mut jobs: Vec<Box<Job>>,
+    mut jobs: Vec<Job>,
     room: WorkRoom,
     slice: u32,
     gate: &G,
-) -> (Vec<Box<Job>>, Vec<Seat>)
+) -> (Vec<Job>, Vec<Seat>)
     requires slice { 1 ≤ slice }
     requires entries { length entries.now ≡ length seats.items }
-    requires jobs { HaveJobs (jobs_in jobs.items) entries.now seats.items }
-    requires time { HaveTime (jobs_in jobs.items) entries.now seats.items }
-    requires timely { All (IsTimely 4294967295) (jobs_in jobs.items) }
+    requires jobs { HaveJobs jobs.items entries.now seats.items }
+    requires time { HaveTime jobs.items entries.now seats.items }
+    requires timely { All (IsTimely 4294967295) jobs.items }
     requires rising { Rising seats.items }
-    requires no_place { room.apart.items ≡ [] }
-    requires no_seat { room.worked.items ≡ [] }
-    requires places { length seats.items ≤ vec_capacity room.apart }
-    requires seats { length seats.items ≤ vec_capacity room.worked }
-    requires pool { vec_len jobs ≤ room.pool }
-    ensures { Works (jobs_in jobs.items) entries.now seats.items (jobs_in result.0.items) result.1.items }
+    requires room { HasRoom (length seats.items) room.phases.periods room }
+    requires calls { calls_held (groups_from jobs.items) ≡ length seats.items }
+    requires fresh { All (IsFresh room.phases.periods) jobs.items }
+    requires within { AreWithin room.phases.periods seats.items }
+    ensures { Works jobs.items entries.now seats.items result.0.items result.1.items }
 {
     let WorkRoom {
         mut apart,
         mut worked,
-        pool,
+        notes,
+        phases,
     } = room;
-    hand_in(seats, entries, &mut jobs, &mut apart);
-    let mut jobs = run_pool(rt, pool, jobs, slice, gate);
+    hand_in(seats, entries, &mut jobs, &mut apart, notes);
+    let mut jobs = work_phases(rt, jobs, phases, slice, gate);
     hand_out(alloc, apart, entries, &mut jobs, &mut worked);
     (jobs, worked)
 }

@@ -9,7 +9,8 @@ ghost use Rattle.farm_rounds.specs.Calls.{call_in, partner_in};
 ghost use Rattle.farm_rounds.specs.Groups.{AreGroups, AreLive};
 ghost use Rattle.farm_rounds.specs.Numbers.{IsRising};
 ghost use Rattle.farm_rounds.specs.Histories.{CallHistory, GroupsStand};
-ghost use Rattle.farm_rounds.specs.Rounds.{groups_from, jobs_in, job_made, IsShort, HaveEntries, BringCalls, AreSeats};
+ghost use Rattle.farm_rounds.specs.WorkRooms.{HasRoom};
+ghost use Rattle.farm_rounds.specs.Rounds.{groups_from, job_made, IsShort, HaveEntries, BringCalls, AreSeats};
 ghost use Rattle.farm_rounds.specs.Finishing.{finished_jobs, seat_left};
 ghost use Rattle.farm_rounds.specs.RoundHistories.{seat_for, worked_histories, WorkedStand, AreWorked};
 
@@ -34,7 +35,7 @@ pub struct Round {
     start: u32,
     end: u32,
     rest: Rest,
-    jobs: Vec<Box<Job>>,
+    jobs: Vec<Job>,
     // Seat by seat, where the call's job is; the calls' numbers rise.
     entries: Vec<Entry>,
     seats: Vec<Seat>,
@@ -45,18 +46,19 @@ pub struct Round {
 }
 
 impl Model for Round {
-    ghost use Rattle.std.specs.Prelude.{◌≡◌, ◌+◌, ◌*◌, ◌≤◌, [], length, vec_len, vec_capacity};
-    ghost use Rattle.farm_rounds.specs.Rounds.{jobs_in};
+    ghost use Rattle.std.specs.Prelude.{◌≡◌, ◌+◌, ◌*◌, ◌≤◌, [], length, vec_capacity};
     ghost use Rattle.farm_rounds.specs.Working.{RoundMemory, IsRound};
+    ghost use Rattle.farm_rounds.specs.WorkRooms.{HasRoom};
 
     ghost Value = { RoundMemory };
 
-    ghost view = { λ r. record { start = r.start; ended = r.end; live = r.rest.live.items; tallies = r.rest.tallies.items; failed = r.rest.failed.items; jobs = jobs_in r.jobs.items; entries = r.entries.items; seats = r.seats.items } };
+    ghost view = { λ r. record { start = r.start; ended = r.end; live = r.rest.live.items; tallies = r.rest.tallies.items; failed = r.rest.failed.items; jobs = r.jobs.items; entries = r.entries.items; seats = r.seats.items } };
 
-    ghost invariant = { λ r. IsRound (record { start = r.start; ended = r.end; live = r.rest.live.items; tallies = r.rest.tallies.items; failed = r.rest.failed.items; jobs = jobs_in r.jobs.items; entries = r.entries.items; seats = r.seats.items })
-        × (r.rest.groups.items ≡ []) × (r.numbers.items ≡ r.rest.live.items) × (r.room.apart.items ≡ []) × (r.room.worked.items ≡ []) × (r.ends.items ≡ [])
-        × (length r.rest.live.items ≤ vec_capacity r.rest.groups) × (length r.rest.live.items ≤ vec_capacity r.room.apart) × (length r.rest.live.items ≤ vec_capacity r.room.worked)
-        × (length r.rest.live.items ≤ vec_capacity r.ends) × (vec_len r.jobs ≤ r.room.pool) × (length r.rest.failed.items + 4 * length r.rest.live.items ≤ vec_capacity r.rest.failed) };
+    ghost invariant = { λ r. IsRound (record { start = r.start; ended = r.end; live = r.rest.live.items; tallies = r.rest.tallies.items; failed = r.rest.failed.items; jobs = r.jobs.items; entries = r.entries.items; seats = r.seats.items })
+        × (r.rest.groups.items ≡ []) × (r.numbers.items ≡ r.rest.live.items) × (r.ends.items ≡ [])
+        × (length r.rest.live.items ≤ vec_capacity r.rest.groups) × (length r.rest.live.items ≤ vec_capacity r.ends)
+        × (r.start + r.room.phases.periods ≡ r.end) × HasRoom (length r.rest.live.items) r.room.phases.periods r.room
+        × (length r.rest.failed.items + 4 * length r.rest.live.items ≤ vec_capacity r.rest.failed) };
 }
 
 impl Round {
@@ -94,7 +96,7 @@ impl Round {
         ensures stands { IfOk result (λ r. (h : ℕ → Option CallHistory) → GroupsStand h farm.groups → GroupsStand h (groups_from r.jobs)) }
     {
         let mut rest = Rest::new(farm)?;
-        let (numbers, ends, room) = reserve(alloc, &rest.live, workers)?;
+        let (numbers, ends, room) = reserve(alloc, &rest.live, periods, workers)?;
         put_in_order(&mut rest.groups);
         let (jobs, entries, seats) = make_jobs_and_seats(alloc, &mut rest, periods)?;
         Ok(Round {
@@ -188,6 +190,7 @@ impl Round {
 fn reserve(
     alloc: Global,
     live: &[u32],
+    periods: u32,
     workers: u32,
 ) -> Result<(Vec<u32>, Vec<CallEnd>, WorkRoom), AllocError>
     requires calls { length live.now ≤ 4096 }
@@ -196,15 +199,11 @@ fn reserve(
     ensures numbers { IfOk result (λ made. made.0.items ≡ live.now) }
     ensures no_end { IfOk result (λ made. made.1.items ≡ []) }
     ensures ends { IfOk result (λ made. length live.now ≤ vec_capacity made.1) }
-    ensures no_place { IfOk result (λ made. made.2.apart.items ≡ []) }
-    ensures no_seat { IfOk result (λ made. made.2.worked.items ≡ []) }
-    ensures places { IfOk result (λ made. vec_capacity made.2.apart ≡ length live.now) }
-    ensures seats { IfOk result (λ made. vec_capacity made.2.worked ≡ length live.now) }
-    ensures pool { IfOk result (λ made. made.2.pool ≡ length live.now) }
+    ensures room { IfOk result (λ made. HasRoom (length live.now) periods made.2) }
 {
     let numbers = live.to_vec(alloc)?;
     let ends = Vec::with_capacity(alloc, live.len())?;
-    let room = WorkRoom::reserve(alloc, live.len(), workers)?;
+    let room = WorkRoom::reserve(alloc, live.len(), periods, workers)?;
     Ok((numbers, ends, room))
 }
 
@@ -213,13 +212,13 @@ fn make_jobs_and_seats(
     alloc: Global,
     rest: &mut Rest,
     periods: u32,
-) -> Result<(Vec<Box<Job>>, Vec<Entry>, Vec<Seat>), AllocError>
+) -> Result<(Vec<Job>, Vec<Entry>, Vec<Seat>), AllocError>
     requires live { AreLive rest.old.live.items rest.old.groups.items }
     requires groups { AreGroups 4294967295 rest.old.groups.items }
     requires some { 1 ≤ periods }
     requires few { periods ≤ 250 }
-    ensures jobs { IfOk result (λ made. jobs_in made.0.items ≡ map job_made (reverse rest.old.groups.items)) }
-    ensures entries { IfOk result (λ made. HaveEntries (jobs_in made.0.items) made.1.items rest.old.live.items) }
+    ensures jobs { IfOk result (λ made. made.0.items ≡ map job_made (reverse rest.old.groups.items)) }
+    ensures entries { IfOk result (λ made. HaveEntries made.0.items made.1.items rest.old.live.items) }
     ensures calls { IfOk result (λ made. BringCalls rest.old.groups.items made.1.items rest.old.live.items) }
     ensures number { IfOk result (λ made. length made.1.items ≡ length rest.old.live.items) }
     ensures seats { IfOk result (λ made. AreSeats rest.old.live.items made.1.items periods made.2.items (length rest.old.live.items)) }

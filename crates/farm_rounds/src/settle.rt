@@ -10,7 +10,7 @@ ghost use Rattle.farm_rounds.specs.Groups.{IsGroup, AreGroups, AreLive};
 ghost use Rattle.farm_rounds.specs.Memory.{tally_in};
 ghost use Rattle.farm_rounds.specs.Numbers.{IsRising, is_among};
 ghost use Rattle.farm_rounds.specs.RoundHistories.{seat_of};
-ghost use Rattle.farm_rounds.specs.Rounds.{call_from, group_from, groups_from, jobs_in};
+ghost use Rattle.farm_rounds.specs.Rounds.{call_from, group_from, groups_from};
 ghost use Rattle.farm_rounds.specs.Settling.{HaveSeats, KeepsTally, Settled, call_left, goes_on_in, group_left, groups_left, together_of};
 ghost use Rattle.farm_rounds.specs.Working.{goes_on_call};
 
@@ -54,7 +54,7 @@ fn leg_of(half: Half) -> (u32, Leg)
     ensures number { result.0 ≡ half.io.call }
     ensures leg { result.1 ≡ half.leg }
 {
-    let Half { leg, io } = half;
+    let (leg, io) = half.into_parts();
     (io.call, leg)
 }
 
@@ -152,7 +152,7 @@ fn settle(
 
 /// The calls of all jobs that go on after the round. `numbers` are those of the open calls before it.
 pub(crate) fn settle_all(
-    jobs: Vec<Box<Job>>,
+    jobs: Vec<Job>,
     seats: &[Seat],
     numbers: &[u32],
     groups: &mut Vec<Group>,
@@ -162,16 +162,16 @@ pub(crate) fn settle_all(
     requires seats { HaveSeats numbers.now seats.now }
     requires numbers { numbers.now ≡ live.old.items }
     requires none { groups.old.items ≡ [] }
-    requires groups { AreGroups 4294967295 (groups_from (jobs_in jobs.items)) }
-    requires live { AreLive live.old.items (groups_from (jobs_in jobs.items)) }
+    requires groups { AreGroups 4294967295 (groups_from jobs.items) }
+    requires live { AreLive live.old.items (groups_from jobs.items) }
     requires room { length live.old.items ≤ vec_capacity groups.old }
     requires tallies { length tallies.old ≡ NUMBERS }
-    ensures groups { groups.new.items ≡ groups_left (goes_on_call seats.now) (seat_of seats.now) (groups_from (jobs_in jobs.items)) }
-    ensures settled { Settled (goes_on_call seats.now) (groups_from (jobs_in jobs.items)) live.old.items live.new.items tallies.old tallies.new }
+    ensures groups { groups.new.items ≡ groups_left (goes_on_call seats.now) (seat_of seats.now) (groups_from jobs.items) }
+    ensures settled { Settled (goes_on_call seats.now) (groups_from jobs.items) live.old.items live.new.items tallies.old tallies.new }
     ensures capacity { vec_capacity groups.new ≡ vec_capacity groups.old }
 {
     for job in jobs {
-        if let Some(group) = settle(numbers, live, tallies, seats, Box::into_inner(job)) {
+        if let Some(group) = settle(numbers, live, tallies, seats, job) {
             groups.push_reserved(group);
         }
     }

@@ -14,7 +14,7 @@ pub trait Work: Drop {
     /// The number of its call.
     ghost number: { Self → ℕ };
 
-    /// The number of its call; of a bridged pair, the lower one.
+    /// The number of its call.
     fn call(&self) -> u32
         ensures { result ≡ number self.now };
 

@@ -1,6 +1,6 @@
 use Rattle.std.proofs.Common.{◌≡◌, sym, ap, ◌∙◌, subst, List, ◌++◌, length, take, drop, arith}
 use Rattle.farm_rounds.specs.declared.entry.Entry.{Entry}
-use Rattle.farm_rounds.specs.Rounds.{jobs_in, HaveEntries, BringCalls}
+use Rattle.farm_rounds.specs.Rounds.{HaveEntries, BringCalls}
 use Rattle.farm_rounds.proofs.Starting.{live_found}
 use Rattle.farm_rounds.proofs.Planned.{live_present}
 use Rattle.farm_rounds.proofs.Working.{back}
@@ -30,7 +30,7 @@ whole c =
 pub returns : goal.returns
 returns c = record {
   jobs = c.in_ok-jobs.ensures.jobs;
-  entries = subst (λ (es : List Entry). HaveEntries (jobs_in c.in_ok-jobs.jobs.items) es c.args.live.now) (sym (whole c)) c.in_ok-jobs.ensures.entries;
+  entries = subst (λ (es : List Entry). HaveEntries c.in_ok-jobs.jobs.items es c.args.live.now) (sym (whole c)) c.in_ok-jobs.ensures.entries;
   calls = subst (λ (es : List Entry). BringCalls c.args.groups.now.items es c.args.live.now) (sym (whole c)) c.in_ok-jobs.ensures.calls;
   length = omega (arith, ap length (whole c), c.jobs_of.ensures.length, ap length c.deref_mut.ensures.value, c.in_ok-entries.ensures.len);
   empty = c.in_ok-jobs.ensures.empty;

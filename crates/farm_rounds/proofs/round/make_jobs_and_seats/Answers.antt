@@ -2,7 +2,7 @@ use Rattle.std.proofs.Common.{refl, sym, ap, ◌∙◌, subst, ℕ, List, length
 use Rattle.std.proofs.lemmas.Result.{IfOk-from_err}
 use Rattle.farm_rounds.specs.declared.entry.Entry.{Entry}
 use Rattle.farm_rounds.specs.Groups.{AreLive}
-use Rattle.farm_rounds.specs.Rounds.{jobs_in, HaveEntries, BringCalls, AreSeats}
+use Rattle.farm_rounds.specs.Rounds.{HaveEntries, BringCalls, AreSeats}
 use Rattle.farm_rounds.proofs.Starting.{live_number}
 use Rattle.farm_rounds.proofs.round.make_jobs_and_seats.Goals as goal
 
@@ -18,7 +18,7 @@ pub make_seats-requires-clause-length : goal.make_seats-requires-clause-length
 make_seats-requires-clause-length c = ap length c.deref-3.ensures.value ∙ c.in_ok-jobs.ensures.length ∙ ap length (c.deref.ensures.value ∙ sym c.deref-2.ensures.value)
 
 pub returns-clause-entries : goal.returns-clause-entries
-returns-clause-entries c = subst (λ (xs : List ℕ). HaveEntries (jobs_in c.in_ok-jobs.jobs.items) c.in_ok-jobs.entries.items xs) c.deref.ensures.value c.in_ok-jobs.ensures.entries
+returns-clause-entries c = subst (λ (xs : List ℕ). HaveEntries c.in_ok-jobs.jobs.items c.in_ok-jobs.entries.items xs) c.deref.ensures.value c.in_ok-jobs.ensures.entries
 
 pub returns-clause-calls : goal.returns-clause-calls
 returns-clause-calls c = subst (λ (xs : List ℕ). BringCalls c.args.rest.now.groups.items c.in_ok-jobs.entries.items xs) c.deref.ensures.value c.in_ok-jobs.ensures.calls

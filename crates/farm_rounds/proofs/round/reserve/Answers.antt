@@ -8,11 +8,7 @@ returns-in_err-numbers c =
       numbers = IfOk-from_err _ _ no;
       no_end = IfOk-from_err _ _ no;
       ends = IfOk-from_err _ _ no;
-      no_place = IfOk-from_err _ _ no;
-      no_seat = IfOk-from_err _ _ no;
-      places = IfOk-from_err _ _ no;
-      seats = IfOk-from_err _ _ no;
-      pool = IfOk-from_err _ _ no;
+      room = IfOk-from_err _ _ no;
     }
 
 pub returns-in_err-ends : goal.returns-in_err-ends
@@ -22,11 +18,7 @@ returns-in_err-ends c =
       numbers = IfOk-from_err _ _ no;
       no_end = IfOk-from_err _ _ no;
       ends = IfOk-from_err _ _ no;
-      no_place = IfOk-from_err _ _ no;
-      no_seat = IfOk-from_err _ _ no;
-      places = IfOk-from_err _ _ no;
-      seats = IfOk-from_err _ _ no;
-      pool = IfOk-from_err _ _ no;
+      room = IfOk-from_err _ _ no;
     }
 
 pub returns-in_err-room : goal.returns-in_err-room
@@ -36,9 +28,5 @@ returns-in_err-room c =
       numbers = IfOk-from_err _ _ no;
       no_end = IfOk-from_err _ _ no;
       ends = IfOk-from_err _ _ no;
-      no_place = IfOk-from_err _ _ no;
-      no_seat = IfOk-from_err _ _ no;
-      places = IfOk-from_err _ _ no;
-      seats = IfOk-from_err _ _ no;
-      pool = IfOk-from_err _ _ no;
+      room = IfOk-from_err _ _ no;
     }

@@ -1,7 +1,7 @@
 use Rattle.std.proofs.Common.{◌≡◌, ◌<◌, sym, ap, ◌∙◌, subst, ℕ, List, ◌++◌, length, take, drop, arith}
 use Rattle.round_lines.specs.Seats.{SeatMemory, Fills}
 use Rattle.round_lines.specs.Rounds.{KeepsButEach, IsIncoming, Rising, seat_at, call_at}
-use Rattle.farm_rounds.specs.Rounds.{jobs_in, IsShort}
+use Rattle.farm_rounds.specs.Rounds.{IsShort}
 use Rattle.farm_rounds.specs.Working.{RoundMemory, IsRound}
 use Rattle.farm_rounds.proofs.Working.{back, filled, is_short}
 use Rattle.farm_rounds.proofs.round.Round.fill.Goals as goal
@@ -11,7 +11,7 @@ invariant_of-self g c =
     let i = c.self.inside in
     let whole = back i.seats.len c.fill_seats.new.seats i.seats.items (omega (arith, c.deref_mut.ensures.len, ap length c.deref_mut.ensures.value)) (c.fill_seats.ensures.number ∙ ap length c.deref_mut.ensures.value) in
     let fills = subst (λ (ss : List SeatMemory). (k : ℕ) → k < length ss → Fills (g.T.Trunk.lines c.args.trunk.now (call_at ss k)) (g.T.Trunk.lines c.fill_seats.new.trunk (call_at ss k)) (seat_at ss k) (seat_at c.fill_seats.new.seats k)) c.deref_mut.ensures.value c.fill_seats.ensures.fills in (
-      subst (λ (ss : List SeatMemory). IsRound (record { start = i.start; ended = i.end; live = i.rest.live.items; tallies = i.rest.tallies.items; failed = i.rest.failed.items; jobs = jobs_in i.jobs.items; entries = i.entries.items; seats = ss })) (sym whole)
+      subst (λ (ss : List SeatMemory). IsRound (record { start = i.start; ended = i.end; live = i.rest.live.items; tallies = i.rest.tallies.items; failed = i.rest.failed.items; jobs = i.jobs.items; entries = i.entries.items; seats = ss })) (sym whole)
           (filled _ c.fill_seats.new.seats c.self.invariant.0 (c.fill_seats.ensures.number ∙ ap length c.deref_mut.ensures.value) (λ k l. ap (λ (s : SeatMemory). s.place.call) (fills k l).kept) (λ k l. ap (λ (s : SeatMemory). s.place.periods) (fills k l).kept) (λ k l. ((fills k l).up_length, (fills k l).pcm_length))),
       c.self.invariant.1,
       c.self.invariant.2,
@@ -21,9 +21,6 @@ invariant_of-self g c =
       c.self.invariant.6,
       c.self.invariant.7,
       c.self.invariant.8,
-      c.self.invariant.9,
-      c.self.invariant.10,
-      c.self.invariant.11,
     )
 
 pub returns-clause-fills : goal.returns-clause-fills

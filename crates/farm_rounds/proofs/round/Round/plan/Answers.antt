@@ -1,17 +1,15 @@
 use Rattle.std.proofs.Common.{◌≡◌, refl, ◌+◌, ◌≤◌, sym, ap, ◌∙◌, subst, ℕ, List, length, arith}
-use Rattle.std.specs.Global.{Box}
 use Rattle.std.specs.Vec.{vec_capacity}
 use Rattle.std.specs.List.Sorted.{IsPermutation}
-use Rattle.std.proofs.lemmas.List.{length-map}
 use Rattle.std.proofs.lemmas.Result.{IfOk-from_err}
 use Rattle.call_pair.specs.declared.job.Job.{Job}
 use Rattle.farm_rounds.specs.declared.call.Group.{Group}
 use Rattle.farm_rounds.specs.declared.rest.Rest.{Rest}
 use Rattle.farm_rounds.specs.Groups.{AreLive}
-use Rattle.farm_rounds.specs.Rounds.{jobs_in, BringCalls, AreSeats}
+use Rattle.farm_rounds.specs.Rounds.{BringCalls, AreSeats}
+use Rattle.farm_rounds.specs.WorkRooms.{HasRoom}
 use Rattle.farm_rounds.specs.Working.{IsRound}
-use Rattle.farm_rounds.proofs.Applying.{few_groups}
-use Rattle.farm_rounds.proofs.Starting.{few_live, same_groups, made_number, planned}
+use Rattle.farm_rounds.proofs.Starting.{few_live, same_groups, planned}
 use Rattle.farm_rounds.proofs.Planned.{moved_groups, moved_live, planned_open, planned_partner, planned_stand, planned_order, planned_seat}
 use Rattle.farm_rounds.proofs.round.Round.plan.Goals as goal
 
@@ -82,23 +80,20 @@ invariant_of-result c =
     let entries = c.in_ok-jobs.entries.items in
     let seats = c.in_ok-jobs.seats.items in
     let alive : AreLive r.live.items sorted = subst (λ (xs : List ℕ). AreLive xs sorted) (sym told.live) (moved_live f.live f.groups sorted (same c.put_in_order.new.groups.items c.in_ok-rest.ensures.groups c.put_in_order.ensures.same) told.alive) in
-    let number : length jobs ≡ length sorted = sym (length-map jobs (λ (b : Box Job). b.value)) ∙ made_number sorted (jobs_in jobs) made.jobs in
     let same_live = ap (λ (x : Rest). length x.live.items) others in
     let same_failed = ap (λ (x : Rest). length x.failed.items) others in
     let counted = ap length c.deref.ensures.value in (
-      subst (λ (x : Rest). IsRound (record { start = c.args.start; ended = c.args.start + c.args.periods; live = x.live.items; tallies = x.tallies.items; failed = x.failed.items; jobs = jobs_in jobs; entries = entries; seats = seats })) (sym others)
-          (planned f.ended c.args.start c.args.periods sorted r.live.items r.tallies.items r.failed.items (jobs_in jobs) entries seats c.requires.later c.requires.last
+      subst (λ (x : Rest). IsRound (record { start = c.args.start; ended = c.args.start + c.args.periods; live = x.live.items; tallies = x.tallies.items; failed = x.failed.items; jobs = jobs; entries = entries; seats = seats })) (sym others)
+          (planned f.ended c.args.start c.args.periods sorted r.live.items r.tallies.items r.failed.items jobs entries seats c.requires.later c.requires.last
           (moved_groups f.ended f.groups sorted (same c.put_in_order.new.groups.items c.in_ok-rest.ensures.groups c.put_in_order.ensures.same) told.sound) alive (ap length told.tallies ∙ told.kept) made.jobs made.entries made.number made.seats made.length),
       made.empty,
       room.numbers ∙ c.deref.ensures.value ∙ sym (ap (λ (x : Rest). x.live.items) others),
-      room.no_place,
-      room.no_seat,
       room.no_end,
       omega (arith, same_live, told.places, ap length told.live, c.put_in_order.ensures.capacity, c.make_jobs_and_seats.ensures.capacity),
-      omega (arith, same_live, counted, room.places),
-      omega (arith, same_live, counted, room.seats),
       omega (arith, same_live, counted, room.ends),
-      omega (arith, counted, number, few_groups sorted, alive.count, room.pool),
+      ap (λ (n : ℕ). c.args.start + n) room.room.phases.periods,
+      subst (λ (n : ℕ). HasRoom n c.in_ok-numbers.room.phases.periods c.in_ok-numbers.room) (counted ∙ sym same_live)
+          (subst (λ (n : ℕ). HasRoom (length c.deref.result.now) n c.in_ok-numbers.room) (sym room.room.phases.periods) room.room),
       omega (arith, same_live, same_failed, told.lines, ap length told.live, ap length told.failed, ap (λ (x : Rest). vec_capacity x.failed) others),
     )
 

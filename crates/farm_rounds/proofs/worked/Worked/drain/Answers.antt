@@ -9,7 +9,7 @@ use Rattle.round_lines.specs.Rounds.{Each, KeepsButEach, IsOutgoing, Rising}
 use Rattle.farm_rounds.specs.declared.tally.Tally.{Tally}
 use Rattle.farm_rounds.specs.Groups.{AreGroups}
 use Rattle.farm_rounds.specs.Memory.{tally_in}
-use Rattle.farm_rounds.specs.Rounds.{jobs_in, groups_from}
+use Rattle.farm_rounds.specs.Rounds.{groups_from}
 use Rattle.farm_rounds.specs.Settling.{Settled, groups_left, goes_on_in}
 use Rattle.farm_rounds.specs.Working.{WorkedMemory, IsWorked, goes_on_call}
 use Rattle.farm_rounds.specs.RoundHistories.{seat_of}
@@ -41,10 +41,10 @@ whole g c =
     let now = c.drain_seats.new.seats in
     let after : c.deref-2.result.now ≡ now = c.deref-2.ensures.value ∙ seats_back g c in
     let same : GoAsBefore c.args.self.seats now = λ k l. let kept = (drains g c k l).kept in (ap (λ (s : SeatMemory). s.place.call) kept, ap (λ (s : SeatMemory). goes_on_in s) kept) in
-    let here = subst (λ (ss : List SeatMemory). c.settle_all.new.groups.items ≡ groups_left (goes_on_call ss) (seat_of ss) (groups_from (jobs_in i.jobs.items))) after c.settle_all.ensures.groups in
+    let here = subst (λ (ss : List SeatMemory). c.settle_all.new.groups.items ≡ groups_left (goes_on_call ss) (seat_of ss) (groups_from i.jobs.items)) after c.settle_all.ensures.groups in
     let left = subst (λ (r : WorkedMemory). c.settle_all.new.groups.items ≡ groups_left (goes_on_call now) (seat_of now) (groups_from r.jobs)) c.self.view_is here in
-    let first = subst (λ (ss : List SeatMemory). Settled (goes_on_call ss) (groups_from (jobs_in i.jobs.items)) i.rest.live.items c.settle_all.new.live.items c.deref_mut-2.result.now c.settle_all.new.tallies) after c.settle_all.ensures.settled in
-    let second = subst (λ (ts : List Tally). Settled (goes_on_call now) (groups_from (jobs_in i.jobs.items)) i.rest.live.items c.settle_all.new.live.items ts c.settle_all.new.tallies) c.deref_mut-2.ensures.value first in
+    let first = subst (λ (ss : List SeatMemory). Settled (goes_on_call ss) (groups_from i.jobs.items) i.rest.live.items c.settle_all.new.live.items c.deref_mut-2.result.now c.settle_all.new.tallies) after c.settle_all.ensures.settled in
+    let second = subst (λ (ts : List Tally). Settled (goes_on_call now) (groups_from i.jobs.items) i.rest.live.items c.settle_all.new.live.items ts c.settle_all.new.tallies) c.deref_mut-2.ensures.value first in
     let settled = subst (λ (r : WorkedMemory). Settled (goes_on_call now) (groups_from r.jobs) r.live c.settle_all.new.live.items r.tallies c.settle_all.new.tallies) c.self.view_is second in
     drained c.args.self now c.settle_all.new.groups.items c.settle_all.new.live.items c.settle_all.new.tallies (subst IsWorked c.self.view_is c.self.invariant.0) (number g c) same left settled
 
@@ -80,7 +80,7 @@ pub settle_all-requires-clause-none : goal.settle_all-requires-clause-none
 settle_all-requires-clause-none g c = c.self.invariant.1
 
 pub settle_all-requires-clause-groups : goal.settle_all-requires-clause-groups
-settle_all-requires-clause-groups g c = same_groups c.self.inside.end 4294967295 (groups_from (jobs_in c.self.inside.jobs.items)) c.self.invariant.0.last c.self.invariant.0.groups
+settle_all-requires-clause-groups g c = same_groups c.self.inside.end 4294967295 (groups_from c.self.inside.jobs.items) c.self.invariant.0.last c.self.invariant.0.groups
 
 pub settle_all-requires-clause-live : goal.settle_all-requires-clause-live
 settle_all-requires-clause-live g c = c.self.invariant.0.alive

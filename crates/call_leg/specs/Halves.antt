@@ -1,0 +1,116 @@
+-- The two halves of a leg, apart: the uplink half tells the downlink half what it heard. Lists have the newest first.
+use Rattle.std.specs.Prelude.{◌≡◌, ℕ, Bool, false, not, Option, Some, None, option_map, unwrap_or, List, ◌∷◌}
+use Rattle.trau_frame.specs.declared.frames.Kind.{Kind}
+use Rattle.trau_frame.specs.declared.frames.Kind.TheVariants as kinds
+use Rattle.trau_io.specs.declared.ends.Counts.{Counts}
+use Rattle.trau_params.specs.Bits260.{bits260}
+use Rattle.frame_sync.specs.Step as search
+use Rattle.rx_handler.specs.declared.effective.Effective.{Effective}
+use Rattle.rx_handler.specs.Origin.{EffectiveFields}
+use Rattle.rx_handler.specs.Past.{effective_of}
+use Rattle.rx_handler.specs.State.{effective_fields}
+use Rattle.rx_handler.specs.Table as rx
+use Rattle.fr_decoder.specs.Step as decoder
+use Rattle.time_align.specs.Memory as align
+use Rattle.call_leg.specs.Uplink.{Sighting, Nothing, Missed, Framed, sighting_in, heard_as, field_of, is_quiet, handed_fields}
+use Rattle.call_leg.specs.Periods.{CallPeriod, ups_of, sighting_after, heard_of}
+use Rattle.call_leg.specs.Settings.{Settings, epoch_now}
+use Rattle.call_leg.specs.Counted.{counted, sightings_counted}
+use Rattle.call_leg.specs.Out.{plain_stretch}
+use Rattle.call_leg.specs.Memory.{DownMemory, LegMemory}
+use Rattle.call_leg.specs.Step.{played, after_handing, down_worked}
+
+-- ---- what they keep
+
+-- the uplink half: what a leg keeps beside its downlink side, and whether a bridge is on
+pub record UpMemory : Type 0 where
+  pub search : search.SyncMemory
+  pub rx : rx.RxMemory
+  pub decoder : decoder.DecoderMemory
+  pub counts : Counts
+  pub bridged : Bool
+
+-- the uplink half of a leg, and the leg of two halves; the downlink half is the leg's downlink side
+abbrev pub up_of : LegMemory → UpMemory
+up_of m = record { search = m.search; rx = m.rx; decoder = m.decoder; counts = m.counts; bridged = m.down.bridged }
+
+abbrev pub joined : UpMemory → DownMemory → LegMemory
+joined u d = record { search = u.search; rx = u.rx; decoder = u.decoder; counts = u.counts; down = d }
+
+-- ---- what a period of the uplink tells the downlink
+
+-- its effective frame; the field of a frame of speech or idle, else 0, which asks for nothing; DTXd of a speech frame
+pub record Note : Type 0 where
+  pub eff : EffectiveFields
+  pub ask : ℕ
+  pub dtx : Option Bool
+
+abbrev pub dtx_by : Kind → Bool → Option Bool
+dtx_by kinds.Speech dtxd = Some dtxd
+dtx_by kinds.Idle dtxd = None
+dtx_by kinds.Other dtxd = None
+
+abbrev pub dtx_told : Sighting → Option Bool
+dtx_told Nothing = None
+dtx_told Missed = None
+dtx_told (Framed w) = dtx_by w.kind w.dtxd
+
+abbrev pub note_of : Sighting → EffectiveFields → Note
+note_of s e = record { eff = e; ask = unwrap_or (field_of s) 0; dtx = dtx_told s }
+
+-- the note of a call's next period, with these octets of the Up line
+abbrev pub note_in : ℕ → List CallPeriod → List ℕ → Note
+note_in call ts up = note_of (sighting_after ts up) (effective_of call (heard_as (sighting_after ts up) ∷ heard_of ts))
+
+-- ---- a period of each half
+
+-- the note, the octets of the Out line, and the memory after them
+unfoldable pub up_turned : UpMemory → List ℕ → Note × List ℕ × UpMemory
+up_turned u up =
+    let found = search.next_period u.search up in
+    let heard = rx.received u.rx (heard_as (sighting_in found.0)) in
+    let out = played u.decoder heard.0 (not u.bridged) in (
+      note_of (sighting_in found.0) heard.0,
+      out.0,
+      record { search = found.1; rx = heard.1; decoder = out.1; counts = counted (sighting_in found.0) u.counts; bridged = u.bridged },
+    )
+
+-- a note is heard
+abbrev pub noted : DownMemory → Note → DownMemory
+noted d n = record d { align = align.after_ask d.align n.ask; dtxd = unwrap_or n.dtx d.dtxd; quiet = is_quiet n.eff }
+
+-- the partner's effective frame is handed over, if there is one
+abbrev pub handed_to : DownMemory → Option EffectiveFields → DownMemory
+handed_to d None = d
+handed_to d (Some e) = after_handing d e
+
+-- the bits of the Down line, and the memory after them
+unfoldable pub down_turned : DownMemory → Note → Option EffectiveFields → List ℕ → List ℕ × DownMemory
+down_turned d n item pcm = down_worked (handed_to (noted d n) item) pcm
+
+-- the bridge of an uplink half is off
+abbrev pub up_unbridged : UpMemory → UpMemory
+up_unbridged u = record u { bridged = false }
+
+-- an effective frame of the code, by its fields, if there is one
+abbrev pub item_of : Option Effective → Option EffectiveFields
+item_of item = option_map (λ e. effective_fields e) item
+
+-- the bits that are handed over of an effective frame
+abbrev pub handed_bits : Option EffectiveFields → Option (List ℕ)
+handed_bits item = option_map (λ e. bits260 (handed_fields e)) item
+
+-- ---- what a half stands for
+
+-- Between periods: the uplink half is that of a call that had these periods, with the settings `now` for the next one.
+-- It tells nothing of the Pcm line and of what was handed over. A downlink half stands for its call by `Between`.
+pub record UpStands (call : ℕ) (ts : List CallPeriod) (now : Settings) (u : UpMemory) : Type 0 where
+  pub search : search.Stands (ups_of ts) u.search
+  pub rx : rx.Stands call (heard_of ts) u.rx
+  pub decoder : decoder.Stands (plain_stretch call (epoch_now ts now) ts) u.decoder
+  pub counts : u.counts ≡ sightings_counted ts
+  pub bridged : u.bridged ≡ now.bridged
+
+-- P holds of whatever call the half stands for, the periods that it had, and the settings for its next one
+abbrev pub OfItsUp : UpMemory → (ℕ → List CallPeriod → Settings → Type 0) → Type 0
+OfItsUp u P = (call : ℕ) (ts : List CallPeriod) (now : Settings) → UpStands call ts now u → P call ts now

@@ -1,0 +1,70 @@
+//! The halves of a leg, apart, and what one tells the other.
+
+use crate::side::DownSide;
+use fr_decoder::Decoder;
+use frame_sync::FrameSync;
+use rx_handler::{Effective, Rx};
+use std::marker::Model;
+use trau_io::Counts;
+
+/// What a period of the uplink tells the downlink.
+#[derive(Drop)]
+pub struct UpNote {
+    /// The effective frame of the period.
+    pub eff: Effective,
+    /// The alignment field of a frame of speech or idle, of 6 bits; 0, which asks for nothing, where none came.
+    pub ask: u8,
+    /// DTXd of a speech frame, where one came.
+    pub dtx: Option<bool>,
+}
+
+impl Model for UpNote {
+    ghost use Rattle.std.specs.Prelude.{◌≤◌};
+    ghost use Rattle.rx_handler.specs.State.{effective_fields};
+    ghost use Rattle.call_leg.specs.Halves.{Note};
+
+    ghost Value = { Note };
+
+    ghost view = { λ n. record { eff = effective_fields n.eff; ask = n.ask; dtx = n.dtx } };
+
+    ghost invariant = { λ n. n.ask ≤ 63 };
+}
+
+/// The uplink half of a leg.
+#[derive(Drop)]
+pub struct UpLeg {
+    pub(crate) search: FrameSync,
+    pub(crate) rx: Rx,
+    pub(crate) decoder: Decoder,
+    pub(crate) counts: Counts,
+    pub(crate) bridged: bool,
+}
+
+impl Model for UpLeg {
+    ghost use Rattle.std.specs.Prelude.{◌≡◌, ◌≤◌};
+    ghost use Rattle.call_leg.specs.Counted.{sighted_in};
+    ghost use Rattle.call_leg.specs.Halves.{UpMemory};
+
+    ghost Value = { UpMemory };
+
+    ghost view = { λ u. record { search = u.search; rx = u.rx; decoder = u.decoder; counts = u.counts; bridged = u.bridged } };
+
+    ghost invariant = { λ u. (u.search.periods ≤ 4294967295) × (sighted_in u.counts ≡ u.search.periods) };
+}
+
+/// The downlink half of a leg.
+#[derive(Drop)]
+pub struct DownLeg {
+    pub(crate) side: DownSide,
+}
+
+impl Model for DownLeg {
+    ghost use Rattle.down_framer.specs.Memory.{IsBetween};
+    ghost use Rattle.call_leg.specs.Memory.{DownMemory, down_memory};
+
+    ghost Value = { DownMemory };
+
+    ghost view = { λ l. down_memory l.side };
+
+    ghost invariant = { λ l. IsBetween l.side.framer };
+}

@@ -1,0 +1,174 @@
+-- The two phases of a job, and the run place by place.
+use Rattle.std.proofs.Common.{◌≡◌, ℕ, zero, suc, ◌+◌, ◌-◌, ◌<◌, ◌≤◌, min, max, true, None, List, [], ◌∷◌, ◌++◌, length, take, get_or, length-append, refl, sym, ap, ◌∙◌, ⊎_elim, arith}
+use Rattle.std.proofs.lemmas.Bool.{cases_lt}
+use Rattle.std.proofs.lemmas.List.{get_or-take, get_or-map}
+use Rattle.std.proofs.Math.ListN.{get_or-append}
+use Rattle.std.proofs.Math.Seq.{get_or-append_seam}
+use Rattle.trau_bits.specs.Bits.{octets_of}
+use Rattle.rx_handler.specs.Origin.{EffectiveFields, Quiet}
+use Rattle.call_leg.specs.Halves.{Note, down_turned}
+use Rattle.call_pair.specs.Memory.{HalfMemory}
+use Rattle.call_pair.specs.declared.job.Job.TheVariants.{One, Two}
+use Rattle.call_pair.specs.Places.{pcm_at, with_place, has_place}
+use Rattle.call_pair.specs.Turn.{effective, half_turned_if}
+use Rattle.call_pair.specs.Jobs.{job_left, after_turns, finished}
+use Rattle.call_pair.specs.Phases.{CallMemory, down_before, item_if, frame_at, call_turned, after_call_turns, call_left, call_finished, turned_down, starting, with_partner, half_in, frames_in, effs, half_run}
+use Rattle.call_pair.specs.declared.call_job.Phase.TheVariants.{First, Second}
+use Rattle.call_pair.proofs.Places.{is_below}
+use Rattle.call_pair.proofs.Turns.{turned_is}
+use Rattle.call_pair.proofs.Sequences.{ups, told, outs, downs, lines, io_from, half_after, begin, effective-at, step}
+
+-- ---- notes
+
+unfoldable pub notes : ℕ → HalfMemory → ℕ → List Note
+notes m h zero = []
+notes m h (suc k) = notes m h k ++ (told m h k).0 ∷ []
+
+pub length-notes : (m : ℕ) (h : HalfMemory) (k : ℕ) → length (notes m h k) ≡ k
+unfolding notes
+length-notes m h zero = refl
+length-notes m h (suc k) = length-append (notes m h k) ((told m h k).0 ∷ []) ∙ (let i = length-notes m h k in omega arith)
+
+pub note-is : (m : ℕ) (h : HalfMemory) (k j : ℕ) (d : Note) → j < k → get_or (notes m h k) j d ≡ (told m h j).0
+unfolding notes
+note-is m h zero j d l = absurd (omega arith)
+note-is m h (suc k) j d l =
+    let n = length-notes m h k in
+    ⊎_elim (λ (b : j < k). get_or-append (notes m h k) ((told m h k).0 ∷ []) d j (omega arith) ∙ note-is m h k j d b)
+    (λ (g : k ≤ j).
+    let e : j ≡ length (notes m h k) = omega arith in
+    let f : k ≡ j = omega arith in
+    ap (λ i. get_or (notes m h (suc k)) i d) e ∙ get_or-append_seam (notes m h k) (told m h k).0 [] d ∙ ap (λ i. (told m h i).0) f)
+    (cases_lt j k)
+
+-- ---- the first phase
+
+abbrev pub first_after : ℕ → HalfMemory → ℕ → CallMemory
+first_after m h k = record { up = ups m h k; down = h.leg.down; io = io_from h (outs m h k) h.io.down k; notes = notes m h k; partner = []; bridge_end = m; phase = First }
+
+first-step : (m : ℕ) (h : HalfMemory) (k : ℕ) → k < h.io.given → call_turned (first_after m h k) ≡ first_after m h (suc k)
+unfolding ups outs notes
+first-step m h k l =
+    let next : k + 1 ≡ suc k = omega arith in
+    turned_is (first_after m h k) true (is_below k h.io.given l)
+    ∙ ap (λ (n : ℕ). record (first_after m h (suc k)) { io = io_from h (outs m h (suc k)) h.io.down n }) next
+
+first-run : (m : ℕ) (h : HalfMemory) (n k : ℕ) → k + n ≡ h.io.given → after_call_turns n (first_after m h k) ≡ first_after m h h.io.given
+first-run m h zero k e = let f : k ≡ h.io.given = omega arith in ap (first_after m h) f
+first-run m h (suc n) k e = ap (after_call_turns n) (first-step m h k (omega arith)) ∙ first-run m h n (suc k) (omega arith)
+
+pub first-finished : (m : ℕ) (h : HalfMemory) → h.io.done ≡ 0 → call_finished (starting m h) ≡ first_after m h h.io.given
+unfolding ups outs notes
+first-finished m h e =
+    let n : call_left (starting m h) ≡ h.io.given = omega arith in
+    ap (λ (i : ℕ). after_call_turns i (starting m h)) n
+    ∙ ap (λ (i : ℕ). after_call_turns h.io.given (record (starting m h) { io = io_from h h.io.out h.io.down i })) e
+    ∙ first-run m h h.io.given 0 (omega arith)
+
+-- ---- the second
+
+abbrev taken : List EffectiveFields → ℕ → EffectiveFields
+taken frames k = frame_at k frames
+
+abbrev second_after : ℕ → List EffectiveFields → HalfMemory → ℕ → CallMemory
+second_after m frames h k = record {
+  up = ups m h h.io.given;
+  down = downs m (taken frames) h k;
+  io = io_from h (outs m h h.io.given) (lines m (taken frames) h k) k;
+  notes = notes m h h.io.given;
+  partner = frames;
+  bridge_end = m;
+  phase = Second;
+}
+
+second-step : (m : ℕ) (frames : List EffectiveFields) (h : HalfMemory) (k : ℕ) → k < h.io.given → call_turned (second_after m frames h k) ≡ second_after m frames h (suc k)
+unfolding downs lines
+second-step m frames h k l =
+    let next : k + 1 ≡ suc k = omega arith in
+    let c = down_before m k (downs m (taken frames) h k) in
+    turned_is (second_after m frames h k) true (is_below k h.io.given l)
+    ∙ ap (λ (note : Note).
+    let w = down_turned c note (item_if c.bridged (frame_at k frames)) (pcm_at k h.io) in
+    record (second_after m frames h k) { down = w.1; io = with_place (io_from h (outs m h h.io.given) (lines m (taken frames) h k) k) (octets_of w.0) })
+    (note-is m h h.io.given k (record { eff = Quiet; ask = 0; dtx = None }) l)
+    ∙ ap (λ (n : ℕ). record (second_after m frames h (suc k)) { io = io_from h (outs m h h.io.given) (lines m (taken frames) h (suc k)) n }) next
+
+second-run : (m : ℕ) (frames : List EffectiveFields) (h : HalfMemory) (n k : ℕ) → k + n ≡ h.io.given → after_call_turns n (second_after m frames h k) ≡ second_after m frames h h.io.given
+second-run m frames h zero k e = let f : k ≡ h.io.given = omega arith in ap (second_after m frames h) f
+second-run m frames h (suc n) k e = ap (after_call_turns n) (second-step m frames h k (omega arith)) ∙ second-run m frames h n (suc k) (omega arith)
+
+-- ---- both
+
+pub run-is : (m : ℕ) (frames : List EffectiveFields) (h : HalfMemory) → h.io.done ≡ 0 → half_run m frames h ≡ half_after m (taken frames) h h.io.given
+unfolding downs lines
+run-is m frames h e =
+    let n : h.io.given - 0 ≡ h.io.given = omega arith in
+    ap (λ (j : CallMemory). half_in (call_finished (turned_down (with_partner frames j)))) (first-finished m h e)
+    ∙ ap (λ (i : ℕ). half_in (after_call_turns i (second_after m frames h 0))) n
+    ∙ ap half_in (second-run m frames h h.io.given 0 (omega arith))
+
+-- the frames that a half tells
+pub effs-are : (m : ℕ) (h : HalfMemory) (k : ℕ) → h.io.done ≡ 0 → m ≤ h.io.given → k < m → taken (effs m h) k ≡ (told m h k).0.eff
+effs-are m h k e le l =
+    let ns = notes m h h.io.given in
+    let n = length-notes m h h.io.given in
+    ap (λ (j : CallMemory). get_or (take m (frames_in j.notes)) k Quiet) (first-finished m h e)
+    ∙ get_or-take m (frames_in ns) k Quiet l
+    ∙ get_or-map (λ (x : Note). x.eff) ns k (told m h k).0 Quiet (omega arith)
+    ∙ ap (λ (x : Note). x.eff) (note-is m h h.io.given k (told m h k).0 (omega arith))
+
+-- ---- one call
+
+one-run : (items : ℕ → EffectiveFields) (h : HalfMemory) (n k : ℕ) → k + n ≡ h.io.given → after_turns n (One (half_after 0 items h (min k h.io.given))) ≡ One (half_after 0 items h h.io.given)
+one-run items h zero k e = let f : min k h.io.given ≡ h.io.given = omega arith in ap (λ (i : ℕ). One (half_after 0 items h i)) f
+one-run items h (suc n) k e = ap (λ (x : HalfMemory). after_turns n (One x)) (step 0 items h k Quiet (λ l. absurd (omega arith))) ∙ one-run items h n (suc k) (omega arith)
+
+pub one-phased : (h : HalfMemory) → h.io.done ≡ 0 → finished (One h) ≡ One (half_run 0 [] h)
+one-phased h e =
+    let items = taken [] in
+    let z : 0 ≡ min 0 h.io.given = omega arith in
+    let n : h.io.given - h.io.done ≡ h.io.given = omega arith in
+    ap (λ (i : ℕ). after_turns i (One h)) n
+    ∙ ap (λ (x : HalfMemory). after_turns h.io.given (One x)) (begin 0 items h e ∙ ap (half_after 0 items h) z)
+    ∙ one-run items h h.io.given 0 (omega arith)
+    ∙ ap One (sym (run-is 0 [] h e))
+
+-- ---- two calls
+
+two-run : (p q : ℕ → EffectiveFields) (g h : HalfMemory) → let m = min g.io.given h.io.given in
+    ((k : ℕ) → k < m → p k ≡ (told m h k).0.eff) → ((k : ℕ) → k < m → q k ≡ (told m g k).0.eff) → (n k : ℕ) → k + n ≡ max g.io.given h.io.given →
+    after_turns n (Two (half_after m p g (min k g.io.given)) (half_after m q h (min k h.io.given))) ≡ Two (half_after m p g g.io.given) (half_after m q h h.io.given)
+two-run p q g h ep eq zero k e =
+    let m = min g.io.given h.io.given in
+    let f : min k g.io.given ≡ g.io.given = omega arith in
+    let f' : min k h.io.given ≡ h.io.given = omega arith in
+    ap (λ (i : ℕ). Two (half_after m p g i) (half_after m q h (min k h.io.given))) f ∙ ap (λ (i : ℕ). Two (half_after m p g g.io.given) (half_after m q h i)) f'
+two-run p q g h ep eq (suc n) k e =
+    let m = min g.io.given h.io.given in
+    let a = half_after m p g (min k g.io.given) in
+    let b = half_after m q h (min k h.io.given) in
+    let told-b = λ (l : k < m).
+    let here : min k h.io.given ≡ k = omega arith in
+    ap (λ (i : ℕ). effective m (half_after m q h i)) here ∙ effective-at m q h k ∙ sym (ep k l) in
+    let told-a = λ (l : k < m).
+    let here : min k g.io.given ≡ k = omega arith in
+    ap (λ (i : ℕ). effective m (half_after m p g i)) here ∙ effective-at m p g k ∙ sym (eq k l) in
+    ap (λ (x : HalfMemory). after_turns n (Two x (half_turned_if (has_place b.io) m (effective m a) b))) (step m p g k (effective m b) told-b)
+    ∙ ap (λ (x : HalfMemory). after_turns n (Two (half_after m p g (min (suc k) g.io.given)) x)) (step m q h k (effective m a) told-a)
+    ∙ two-run p q g h ep eq n (suc k) (omega arith)
+
+pub two-phased : (g h : HalfMemory) → g.io.done ≡ 0 → h.io.done ≡ 0 → let m = min g.io.given h.io.given in
+    finished (Two g h) ≡ Two (half_run m (effs m h) g) (half_run m (effs m g) h)
+two-phased g h e f =
+    let m = min g.io.given h.io.given in
+    let p = taken (effs m h) in
+    let q = taken (effs m g) in
+    let z : 0 ≡ min 0 g.io.given = omega arith in
+    let z' : 0 ≡ min 0 h.io.given = omega arith in
+    let n : job_left (Two g h) ≡ max g.io.given h.io.given = omega arith in
+    ap (λ (i : ℕ). after_turns i (Two g h)) n
+    ∙ ap (λ (x : HalfMemory). after_turns (max g.io.given h.io.given) (Two x h)) (begin m p g e ∙ ap (half_after m p g) z)
+    ∙ ap (λ (x : HalfMemory). after_turns (max g.io.given h.io.given) (Two (half_after m p g (min 0 g.io.given)) x)) (begin m q h f ∙ ap (half_after m q h) z')
+    ∙ two-run p q g h (λ k l. effs-are m h k f (omega arith) l) (λ k l. effs-are m g k e (omega arith) l) (max g.io.given h.io.given) 0 (omega arith)
+    ∙ ap (λ (x : HalfMemory). Two x (half_after m q h h.io.given)) (sym (run-is m (effs m h) g e))
+    ∙ ap (Two (half_run m (effs m h) g)) (sym (run-is m (effs m g) h f))

@@ -1,0 +1,53 @@
+//! The two phases of a round: the two calls of a bridge are worked by different workers at once. No clause says so.
+
+use crate::farm_top_tests::carry;
+use crate::lines::{Laid, NONE, trunk_of};
+use crate::met::Met;
+use std::alloc::Global;
+use std::process::Abort;
+use std::sync::Wait;
+use std::thread::Threads;
+use trau_io::Side::{Down, Out, Pcm, Up};
+
+// The lines of the calls 1 and 2, with three periods each.
+static LINES: [Laid; 8] = [
+    (1, Up, 120, 1000, NONE),
+    (1, Pcm, 480, 1000, NONE),
+    (1, Down, 0, 1000, NONE),
+    (1, Out, 0, 1000, NONE),
+    (2, Up, 120, 1000, NONE),
+    (2, Pcm, 480, 1000, NONE),
+    (2, Down, 0, 1000, NONE),
+    (2, Out, 0, 1000, NONE),
+];
+
+const ORDERS: &str = "0 open 1\n0 open 2\n0 bridge 1 2\n";
+
+// Runs both calls, bridged from the first period on, in slices of one period. Answers the status.
+fn run_met<R: Abort + Threads + Wait + Sync>(
+    rt: &R,
+    alloc: Global,
+    workers: &'static str,
+    gate: &Met,
+) -> u8 {
+    let mut trunk = trunk_of(rt, alloc, &LINES);
+    let words = ["run", "--workers", workers, "--slice", "1"];
+    carry(rt, alloc, &words, &mut trunk, ORDERS, NONE, gate).status
+}
+
+// Each call starts in a deque of its own, and neither worker can go on with the first slice of a phase before the other
+// has begun it.
+#[test]
+fn both_calls_of_a_bridge_are_at_work_at_once(rt: HostRuntime) {
+    let gate = Met::new(5_000_000);
+    assert!(rt; run_met(&rt, rt.alloc(), "2", &gate) == 0);
+    assert!(rt; gate.used_up() == 0);
+}
+
+// A single worker uses the turns up, at the start of each phase, and the run is done all the same.
+#[test]
+fn one_worker_uses_the_turns_up(rt: HostRuntime) {
+    let gate = Met::new(1000);
+    assert!(rt; run_met(&rt, rt.alloc(), "1", &gate) == 0);
+    assert!(rt; gate.used_up() == 2);
+}

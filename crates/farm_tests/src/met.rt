@@ -1,0 +1,60 @@
+//! A gate that shows that the two calls of a bridge are at work at once, in both phases of a round of three periods.
+
+use pool_run::Gate;
+use std::sync::atomic::{AtomicU32, Ordering};
+use std::thread;
+
+// Holds the first and the fourth slice of each of the calls 1 and 2 until the same slice of the other was begun. In slices
+// of one period those are the first of each phase.
+#[derive(Drop)]
+pub(crate) struct Met {
+    // How often a wait looks for what it waits for.
+    turns: u32,
+    begun_of_1: AtomicU32,
+    begun_of_2: AtomicU32,
+    used_up: AtomicU32,
+}
+
+impl Met {
+    pub(crate) fn new(turns: u32) -> Met {
+        Met {
+            turns,
+            begun_of_1: AtomicU32::new(0),
+            begun_of_2: AtomicU32::new(0),
+            used_up: AtomicU32::new(0),
+        }
+    }
+
+    // How many waits used up their turns.
+    pub(crate) fn used_up(&self) -> u32 {
+        self.used_up.load(Ordering::SeqCst)
+    }
+
+    // Waits until a call has begun so many slices.
+    fn wait_for(&self, begun: &AtomicU32, slices: u32) {
+        for _ in 0..self.turns {
+            if begun.load(Ordering::SeqCst) >= slices {
+                return;
+            }
+            thread::yield_now();
+        }
+        let _ = self.used_up.fetch_add(1, Ordering::SeqCst);
+    }
+}
+
+impl Gate for Met {
+    fn before(&self, call: u32) {
+        let (own, other) = if call == 1 {
+            (&self.begun_of_1, &self.begun_of_2)
+        } else {
+            (&self.begun_of_2, &self.begun_of_1)
+        };
+        match own.fetch_add(1, Ordering::SeqCst) {
+            0 => self.wait_for(other, 1),
+            3 => self.wait_for(other, 4),
+            _ => {}
+        }
+    }
+
+    fn after(&self, _call: u32) {}
+}
