@@ -1,0 +1,11 @@
+-- Lemmas on channels.
+pub mod Channels
+pub mod Blocks
+pub mod Ending
+pub mod Groups
+pub mod Merged
+pub mod Merging
+pub mod Reading
+pub mod Splitting
+pub mod Taking
+pub mod Writing

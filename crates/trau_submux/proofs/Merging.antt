@@ -1,0 +1,248 @@
+-- Four channels, one block after another.
+use Rattle.std.proofs.Common.{◌≡◌, inl, inr, ⊎_elim, ◌⊎◌, ℕ, ◌+◌, ◌-◌, ◌*◌, ◌/◌, ◌<◌, ◌≤◌, min, List, [], ◌∷◌, ◌++◌, length, take, get_or, All, refl, sym, ◌∙◌, ap, subst, arith, length-append, append-nil}
+use Rattle.std.specs.Io.KnownBytes.{Appends, IsAtEnd}
+use Rattle.std.proofs.KnownBytes.{Appends-nil, Consumes-nil}
+use Rattle.std.proofs.Math.Seq.{take-append-add}
+use Rattle.std.proofs.lemmas.Bool.{cases_eq, cases_lt}
+use Rattle.std.proofs.lemmas.List.{length-take, length-take-le, take_all}
+use Rattle.std.proofs.lemmas.List.Elements.{All-nil}
+use Rattle.trau_io.specs.declared.line.Line.{Line}
+use Rattle.trau_io.specs.declared.line.Side.TheVariants.{Up, Out}
+use Rattle.trau_io.specs.Lines.{LineState, Rose}
+use Rattle.trau_bits.specs.Bits.{bits_of}
+use Rattle.trau_bits.proofs.BitList.{length-bits_of}
+use Rattle.trau_submux.specs.declared.join.BlockEnd.TheVariants as block
+use Rattle.trau_submux.specs.declared.join.MergeEnd.TheVariants.{Done, LineFailed}
+use Rattle.trau_submux.specs.Channels.{IsMerged, subchannel}
+use Rattle.trau_submux.specs.Lines.{Gains, GainsFront, Gives}
+use Rattle.trau_submux.specs.Merges.{AreRead, Before, BlockEndsAs, EndsChannels, FailsAt, IsFewest, Merges, Takes, most_of_channel}
+use Rattle.trau_submux.proofs.Channels.{length-subchannel}
+use Rattle.trau_submux.proofs.Merged.{merged-append}
+use Rattle.trau_submux.proofs.Splitting.{front_on, gains_on, gives_on}
+
+-- n whole blocks of each line are taken, and what they make is written
+pub record MergeSoFar (ups ups' : ℕ → LineState) (out out' : LineState) (n octets : ℕ) : Type 0 where
+  pub given : ℕ → List ℕ
+  pub whole : (j : ℕ) → j < 4 → length (given j) ≡ 40 * n
+  pub octets_are : octets ≡ 160 * n
+  pub gives : (j : ℕ) → j < 4 → Gives (ups j) (ups' j) (given j)
+  pub calm : (j : ℕ) → j < 4 → (ups' j).faults ≡ (ups j).faults
+  pub sent : List ℕ
+  pub merged : IsMerged sent given
+  pub gained : Gains out out' sent
+
+pub at_start : (ups : ℕ → LineState) (out : LineState) → MergeSoFar ups ups out out 0 0
+at_start ups out = record {
+  given = λ j. [];
+  whole = λ j below. refl;
+  octets_are = refl;
+  gives = λ j below. record { read = Consumes-nil (ups j).to_come; written = refl; later = omega arith };
+  calm = λ j below. refl;
+  sent = [];
+  merged = record { are_octets = All-nil (λ octet. octet < 256); carries = λ j below. none (subchannel j []) (bits_of []) (length-subchannel j []) (length-bits_of []) };
+  gained = record { written = Appends-nil out.written; to_come = refl; calm = refl };
+}
+  where
+    none : (xs ys : List ℕ) → length xs ≡ 2 * 0 → length ys ≡ 8 * 0 → xs ≡ ys
+    none [] [] e f = refl
+    none [] (y ∷ ys) e f = absurd (omega (arith, f))
+    none (x ∷ xs) ys e f = absurd (omega (arith, e))
+
+-- octets that are merged of so many octets of each channel are four times as many
+length-merged : (octets : List ℕ) (chans : ℕ → List ℕ) (m : ℕ) → length (chans 0) ≡ m → IsMerged octets chans → length octets ≡ 4 * m
+length-merged octets chans m long merged = omega (arith, length-subchannel 0 octets, ap length (merged.carries 0 (omega arith)), length-bits_of (chans 0), long)
+
+-- what a line gave of a block in which one of the four failed
+record PieceHolds (ups ups' : ℕ → LineState) (failed j : ℕ) (list : List ℕ) : Type 0 where
+  gives : Gives (ups j) (ups' j) list
+  part : length list ≤ 40
+  unread : failed < j → list ≡ []
+  fewer : j ≡ failed → length list < 40
+  ended : j < failed → length list < 40 → IsAtEnd (ups' j).to_come
+  calm : (j ≡ failed → ⊥) → (ups' j).faults ≡ (ups j).faults
+
+record Piece (ups ups' : ℕ → LineState) (failed j : ℕ) : Type 0 where
+  list : List ℕ
+  holds : j < 4 → PieceHolds ups ups' failed j list
+
+module _ (u0 u1 u2 : ℕ → LineState) (o0 o1 o2 : LineState) (call n octets : ℕ) (so_far : MergeSoFar u0 u1 o0 o1 n octets) where
+  module _ (t : Takes u1 u2) where
+    abbrev joined : ℕ → List ℕ
+    joined j = so_far.given j ++ t.given j
+
+    gives_more : (j : ℕ) → j < 4 → Gives (u0 j) (u2 j) (joined j)
+    gives_more j below = gives_on _ _ _ _ _ (so_far.gives j below) (t.each j below).gives
+
+    calm_more : (j : ℕ) → j < 4 → (u2 j).faults ≡ (u0 j).faults
+    calm_more j below = (t.each j below).calm ∙ so_far.calm j below
+
+    merged_more : IsMerged (so_far.sent ++ t.octets) (λ j. so_far.given j ++ take t.used (t.given j))
+    merged_more = merged-append so_far.sent t.octets so_far.given (λ j. take t.used (t.given j)) so_far.merged t.merged
+
+    length-joined : (j : ℕ) → j < 4 → length (joined j) ≡ 40 * n + length (t.given j)
+    length-joined j below = length-append (so_far.given j) (t.given j) ∙ ap (λ m. m + length (t.given j)) (so_far.whole j below)
+
+    used-joined : (j : ℕ) → j < 4 → take (40 * n + t.used) (joined j) ≡ so_far.given j ++ take t.used (t.given j)
+    used-joined j below = ap (λ m. take (m + t.used) (joined j)) (sym (so_far.whole j below)) ∙ take-append-add (so_far.given j) (t.given j) t.used
+
+    pub one_more : t.used ≡ 40 → Gains o1 o2 t.octets → MergeSoFar u0 u2 o0 o2 (n + 1) (octets + 160)
+    one_more is gained =
+        let all : (j : ℕ) → j < 4 → length (t.given j) ≡ 40 = λ j below. omega (arith, is, t.fewest.least j below, (t.each j below).bound) in
+        record {
+          given = joined;
+          whole = λ j below. omega (arith, length-joined j below, all j below);
+          octets_are = omega (arith, so_far.octets_are);
+          gives = gives_more;
+          calm = calm_more;
+          sent = so_far.sent ++ t.octets;
+          merged = record {
+            are_octets = merged_more.are_octets;
+            carries = λ j below. merged_more.carries j below ∙ ap (λ l. bits_of (so_far.given j ++ l)) (take_all t.used (t.given j) (omega (arith, is, all j below)));
+          };
+          gained = gains_on _ _ _ _ _ so_far.gained gained;
+        }
+
+    pub ended : (counts left : List ℕ) (used : ℕ) → n < 4294967295 → t.used < 40 → ((j : ℕ) → j < 4 → get_or counts j 0 ≡ length (t.given j)) → Gains o1 o2 t.octets →
+        ((j : ℕ) → j < 4 → used ≤ get_or counts j 0) → ((j : ℕ) × (j < 4) × (used ≡ get_or counts j 0)) → ((j : ℕ) → j < 4 → get_or left j 0 ≡ get_or counts j 0 - used) →
+        Merges u0 u2 o0 o2 call (Done (octets + 4 * used) left)
+    ended counts left used few short told gained least one left_are =
+        let same : used ≡ t.used = omega (arith, least t.fewest.one t.fewest.below, told t.fewest.one t.fewest.below, t.fewest.is, t.fewest.least one.0 one.1, told one.0 one.1, one.2) in
+        record {
+          given = joined;
+          gives = gives_more;
+          ends = record {
+            used = 40 * n + t.used;
+            read = record {
+              fewest = record {
+                least = λ j below. omega (arith, length-joined j below, t.fewest.least j below);
+                one = t.fewest.one;
+                below = t.fewest.below;
+                is = omega (arith, length-joined t.fewest.one t.fewest.below, t.fewest.is);
+              };
+              few = omega (arith, few, short);
+              last = inr (omega (arith, few, short), λ j below. last j below);
+            };
+            octets_are = omega (arith, so_far.octets_are, same);
+            left_are = λ j below. omega (arith, left_are j below, told j below, length-joined j below, same);
+            sent = so_far.sent ++ t.octets;
+            merged = record { are_octets = merged_more.are_octets; carries = λ j below. merged_more.carries j below ∙ ap bits_of (sym (used-joined j below)) };
+            gained = gains_on _ _ _ _ _ so_far.gained gained;
+            calm = calm_more;
+          };
+        }
+      where
+        last : (j : ℕ) → j < 4 → (length (joined j) ≡ 40 * ((40 * n + t.used) / 40 + 1)) ⊎ ((length (joined j) < 40 * ((40 * n + t.used) / 40 + 1)) × IsAtEnd (u2 j).to_come)
+        last j below =
+            let blocks : (40 * n + t.used) / 40 ≡ n = omega (arith, short) in
+            elim (cases_eq (length (t.given j)) 40) [
+              | inl whole ↦ inl (omega (arith, blocks, whole, length-joined j below))
+              | inr part ↦
+                  let bound = (t.each j below).bound in
+                  inr (omega (arith, blocks, part, bound, length-joined j below), (t.each j below).ended (omega (arith, part, bound)))
+            ]
+
+    pub failed_to_write : n < 4294967295 → (line : Line) → line.call ≡ call → line.side ≡ Out → GainsFront o1 o2 t.octets → Merges u0 u2 o0 o2 call (LineFailed line)
+    failed_to_write few line number side here = record {
+      given = joined;
+      gives = gives_more;
+      ends = inr (record {
+        number = number;
+        side = side;
+        earlier = so_far.given;
+        last = t.given;
+        before = record { number = n; few = omega arith; whole = so_far.whole; part = λ j below. (t.each j below).bound; split = λ j below. refl };
+        ended = λ j below. (t.each j below).ended;
+        used = t.used;
+        fewest = t.fewest;
+        sent = so_far.sent ++ t.octets;
+        merged = merged_more;
+        here = record {
+          count = length so_far.sent + here.count;
+          proper = omega (arith, here.proper, length-append so_far.sent t.octets);
+          written = front_on o0 o1 o2 so_far.sent t.octets (so_far.sent ++ t.octets) here.count refl so_far.gained here.written;
+          to_come = here.to_come ∙ so_far.gained.to_come;
+          rose = subst (λ m. Rose m o2.faults) so_far.gained.calm here.rose;
+        };
+        reached = omega (arith, length-merged so_far.sent so_far.given (40 * n) (so_far.whole 0 (omega arith)) so_far.merged);
+        calm = calm_more;
+      });
+    }
+
+  -- a line failed while the four were read
+  module _ (k : ℕ) (at : FailsAt u1 u2 k) where
+    -- what a line gave of the block
+    piece : (j : ℕ) → Piece u1 u2 k j
+    piece j = elim (cases_lt j k) [
+      | inl less ↦
+          let gave = (at.before j less).2 in
+          record { list = take (at.before j less).1 (at.before j less).0; holds = λ below. record { gives = gave.gives; part = length-part (at.before j less).1 (at.before j less).0 gave.bound; unread = λ above. absurd (omega arith); fewer = λ e. absurd (omega arith); ended = λ _ short. gave.ended (omega (arith, short, gave.whole, gave.bound, length-take-le (at.before j less).1 (at.before j less).0 (omega (arith, gave.whole, gave.bound)))); calm = λ ne. gave.calm } }
+      | inr more ↦ elim (cases_eq j k) [
+        | inl e ↦ subst (Piece u1 u2 k) (sym e) (record { list = at.here.given; holds = λ below. record { gives = at.here.gives; part = omega (arith, at.here.part); unread = λ above. absurd (omega arith); fewer = λ _. at.here.part; ended = λ less _. absurd (omega arith); calm = λ ne. absurd (ne refl) } })
+        | inr ne ↦ record { list = []; holds = λ below. untouched j (omega arith) (at.behind j (omega arith) below) }
+      ]
+    ]
+      where
+        length-part : (count : ℕ) (block : List ℕ) → count ≤ 40 → length (take count block) ≤ 40
+        length-part count block bound = omega (arith, length-take count block, bound)
+
+        untouched : (j : ℕ) → k < j → u2 j ≡ u1 j → PieceHolds u1 u2 k j []
+        untouched j more same = record {
+          gives = subst (λ l. Gives (u1 j) l []) (sym same) (record { read = Consumes-nil (u1 j).to_come; written = refl; later = omega arith });
+          part = omega arith;
+          unread = λ above. refl;
+          fewer = λ _. omega arith;
+          ended = λ less _. absurd (omega arith);
+          calm = λ ne. ap (λ l. l.faults) same;
+        }
+
+    pub failed_to_read : n < 4294967295 → (line : Line) → line.call ≡ call + k → line.side ≡ Up → o2 ≡ o1 → Merges u0 u2 o0 o2 call (LineFailed line)
+    failed_to_read few line number side same = record {
+      given = λ j. so_far.given j ++ (piece j).list;
+      gives = λ j below. gives_on _ _ _ _ _ (so_far.gives j below) ((piece j).holds below).gives;
+      ends = inl (record {
+        failed = k;
+        number = number;
+        side = side;
+        one = at.one;
+        earlier = so_far.given;
+        last = λ j. (piece j).list;
+        before = record { number = n; few = omega arith; whole = so_far.whole; part = λ j below. ((piece j).holds below).part; split = λ j below. refl };
+        part_failed = ((piece k).holds at.one).fewer refl;
+        ended = λ j less. ((piece j).holds (omega (arith, less, at.one))).ended less;
+        unread = λ j above below. ((piece j).holds below).unread above;
+        sent = so_far.sent;
+        merged = so_far.merged;
+        gained = subst (λ l. Gains o0 l so_far.sent) (sym same) so_far.gained;
+        rose = subst (λ m. Rose m (u2 k).faults) (so_far.calm k at.one) at.here.rose;
+        calm = λ j below ne. ((piece j).holds below).calm ne ∙ so_far.calm j below;
+      });
+    }
+
+  -- one block, and how it ended
+  pub on_whole : BlockEndsAs u1 u2 o1 o2 call block.Whole → MergeSoFar u0 u2 o0 o2 (n + 1) (octets + 160)
+  on_whole one = one_more one.0 one.1 one.2
+
+  pub on_failed : n < 4294967295 → (line : Line) → BlockEndsAs u1 u2 o1 o2 call (block.Failed line) → Merges u0 u2 o0 o2 call (LineFailed line)
+  on_failed few line (inl read) = failed_to_read read.0 read.3 few line read.1 read.2 read.4
+  on_failed few line (inr write) = failed_to_write write.0 few line write.1 write.2 write.3
+
+-- so many blocks were taken that no more are
+pub at_last : (u0 u1 : ℕ → LineState) (o0 o1 : LineState) (call n octets : ℕ) (left : List ℕ) → MergeSoFar u0 u1 o0 o1 n octets → n ≡ 4294967295 → ((j : ℕ) → j < 4 → get_or left j 0 ≡ 0) → Merges u0 u1 o0 o1 call (Done octets left)
+at_last u0 u1 o0 o1 call n octets left so_far last none = record {
+  given = so_far.given;
+  gives = so_far.gives;
+  ends = record {
+    used = 40 * n;
+    read = record {
+      fewest = record { least = λ j below. omega (arith, so_far.whole j below); one = 0; below = omega arith; is = sym (so_far.whole 0 (omega arith)) };
+      few = omega (arith, last);
+      last = inl (omega (arith, last), so_far.whole);
+    };
+    octets_are = omega (arith, so_far.octets_are);
+    left_are = λ j below. omega (arith, none j below, so_far.whole j below);
+    sent = so_far.sent;
+    merged = record { are_octets = so_far.merged.are_octets; carries = λ j below. so_far.merged.carries j below ∙ ap bits_of (sym (take_all (40 * n) (so_far.given j) (omega (arith, so_far.whole j below)))) };
+    gained = so_far.gained;
+    calm = so_far.calm;
+  };
+}

@@ -1,0 +1,42 @@
+-- The lines of a slot and of its four channels, those of four calls that follow one another (this project's profile).
+use Rattle.std.specs.Prelude.{◌≡◌, ◌⊎◌, ℕ, ◌+◌, ◌*◌, ◌-◌, ◌^◌, ◌<◌, ◌≤◌, List, take, length}
+use Rattle.std.specs.Io.KnownBytes.{Appends, Consumes}
+use Rattle.trau_io.specs.declared.line.Side.{Side}
+use Rattle.trau_io.specs.Lines.{LineState, Rose}
+
+-- the most octets of a slot that a command takes: 4,294,967,295 blocks of 160
+abbrev pub most_octets : ℕ
+most_octets = 160 * (2 ^ 32 - 1)
+
+-- lines of all calls as those of the channels of a slot: channel j has the line of call C + j
+abbrev pub channel_lines : (ℕ → Side → LineState) → ℕ → Side → ℕ → LineState
+channel_lines lines call side j = lines (call + j) side
+
+-- every line but these four is as it was, its count included
+abbrev pub AllButFour : (ℕ → Side → LineState) → (ℕ → Side → LineState) → ℕ → Side → Type 0
+AllButFour before now call side = (c : ℕ) (s : Side) → ((j : ℕ) → j < 4 → c ≡ call + j → s ≡ side → ⊥) → now c s ≡ before c s
+
+-- every line but that of the slot and those of the channels is as it was
+abbrev pub AllButFive : (ℕ → Side → LineState) → (ℕ → Side → LineState) → ℕ → Side → Side → Type 0
+AllButFive before now call slot_side side =
+    (c : ℕ) (s : Side) → (c ≡ call → s ≡ slot_side → ⊥) → ((j : ℕ) → j < 4 → c ≡ call + j → s ≡ side → ⊥) → now c s ≡ before c s
+
+-- an incoming line gave these octets
+pub record Gives (inc inc' : LineState) (given : List ℕ) : Type 0 where
+  pub read : Consumes inc.to_come inc'.to_come given
+  pub written : inc'.written ≡ inc.written
+  pub later : inc.faults ≤ inc'.faults
+
+-- an outgoing line gained these octets and didn't fail
+pub record Gains (out out' : LineState) (sent : List ℕ) : Type 0 where
+  pub written : Appends out.written out'.written sent
+  pub to_come : out'.to_come ≡ out.to_come
+  pub calm : out'.faults ≡ out.faults
+
+-- an outgoing line failed, and gained a proper front of these octets
+pub record GainsFront (out out' : LineState) (sent : List ℕ) : Type 0 where
+  pub count : ℕ
+  pub proper : count < length sent
+  pub written : Appends out.written out'.written (take count sent)
+  pub to_come : out'.to_come ≡ out.to_come
+  pub rose : Rose out.faults out'.faults

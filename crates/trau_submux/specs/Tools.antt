@@ -1,0 +1,119 @@
+-- The commands `split` and `merge`: their texts, their ends, why each comes, and what they leave without faults (this project's profile).
+use Rattle.std.specs.Prelude.{◌≡◌, ◌⊎◌, ℕ, ◌+◌, ◌*◌, ◌-◌, ◌/◌, ◌%◌, ◌^◌, ◌<◌, List, ◌++◌, length, take, drop, slice_index, codes, decimal, Some, Ok, Err}
+use Rattle.trau_io.specs.declared.line.Side.{Side}
+use Rattle.trau_io.specs.declared.line.Side.TheVariants.{Up, Pcm, Down, Out}
+use Rattle.trau_io.specs.Lines.{LineState, Rose}
+use Rattle.trau_io.specs.Desks.{DeskState}
+use Rattle.trau_io.specs.Texts.{failed_text}
+use Rattle.trau_io.specs.Transfer.{Tells}
+use Rattle.farm_tools.specs.declared.end.ToolEnd.{ToolEnd}
+use Rattle.farm_tools.specs.declared.end.ToolEnd.TheVariants as tool
+use Rattle.farm_tools.specs.Causes.{IsCalm}
+use Rattle.trau_submux.specs.declared.cut.SplitEnd.{SplitEnd}
+use Rattle.trau_submux.specs.declared.cut.SplitEnd.TheVariants as split
+use Rattle.trau_submux.specs.declared.join.MergeEnd.{MergeEnd}
+use Rattle.trau_submux.specs.declared.join.MergeEnd.TheVariants as merge
+use Rattle.trau_submux.specs.Channels.{IsMerged, channel}
+use Rattle.trau_submux.specs.Lines.{AllButFive, channel_lines, most_octets}
+use Rattle.trau_submux.specs.Merges.{AreRead, Merges}
+use Rattle.trau_submux.specs.Splits.{Splits, whole_groups}
+
+-- the text of a split's end: the octets of the slot that were taken, and those left behind the last whole group of four
+abbrev pub split_text : SplitEnd → List ℕ
+split_text (split.Done octets left) = codes "split octets " ++ (decimal octets ++ (codes " left " ++ (decimal left ++ codes "\n")))
+split_text (split.LineFailed line) = failed_text line.call line.side
+
+-- two numbers, each behind a space
+abbrev pub two_text : ℕ → ℕ → List ℕ
+two_text first second = codes " " ++ (decimal first ++ (codes " " ++ decimal second))
+
+-- the text of a merge's end: the octets of the slot that were written, and what is left of each channel's line
+abbrev pub merge_text : MergeEnd → List ℕ
+merge_text (merge.Done octets left) =
+    codes "merge octets " ++ (decimal octets ++ (codes " left" ++ (two_text (slice_index left 0) (slice_index left 1) ++ (two_text (slice_index left 2) (slice_index left 3) ++ codes "\n"))))
+merge_text (merge.LineFailed line) = failed_text line.call line.side
+
+-- the end of the tool is that of its work
+abbrev pub split_end : SplitEnd → ToolEnd
+split_end (split.Done octets left) = tool.Done
+split_end (split.LineFailed line) = tool.LineFault line
+
+abbrev pub merge_end : MergeEnd → ToolEnd
+merge_end (merge.Done octets left) = tool.Done
+merge_end (merge.LineFailed line) = tool.LineFault line
+
+-- the text went out, and the tool ended so; or a proper front of it did before the desk failed
+abbrev pub TellsText : List ℕ → ToolEnd → DeskState → DeskState → ToolEnd → Type 0
+TellsText text end desk desk' result =
+    ((result ≡ end) × Tells desk desk' (Ok tt) text) ⊎ ((result ≡ tool.DeskFault) × Tells desk desk' (Err (record {})) text)
+
+-- the whole command `split`, whatever fails
+pub record SplitRun (before now : ℕ → Side → LineState) (desk desk' : DeskState) (call : ℕ) (result : ToolEnd) : Type 0 where
+  pub end : SplitEnd
+  pub splits : Splits (before call Pcm) (now call Pcm) (channel_lines before call Down) (channel_lines now call Down) call end
+  pub others : AllButFive before now call Pcm Down
+  pub tells : TellsText (split_text end) (split_end end) desk desk' result
+
+-- the whole command `merge`, whatever fails
+pub record MergeRun (before now : ℕ → Side → LineState) (desk desk' : DeskState) (call : ℕ) (result : ToolEnd) : Type 0 where
+  pub end : MergeEnd
+  pub merges : Merges (channel_lines before call Up) (channel_lines now call Up) (before call Out) (now call Out) call end
+  pub others : AllButFive before now call Out Up
+  pub tells : TellsText (merge_text end) (merge_end end) desk desk' result
+
+-- 4 comes exactly where the desk's writing count rose, 6 exactly where the count of the slot's line or of a channel's rose and 4 isn't due, and else 0
+pub record SlotCauses (slot slot' : LineState) (channels channels' : ℕ → LineState) (desk desk' : DeskState) (status : ℕ) : Type 0 where
+  pub known : (status ≡ 0) ⊎ (status ≡ 4) ⊎ (status ≡ 6)
+  pub desk_failed : status ≡ 4 → Rose desk.write_faults desk'.write_faults
+  pub desk_rose : desk.write_faults < desk'.write_faults → status ≡ 4
+  pub line_failed : status ≡ 6 → Rose slot.faults slot'.faults ⊎ ((j : ℕ) × (j < 4) × Rose (channels j).faults (channels' j).faults)
+  pub slot_rose : slot.faults < slot'.faults → (status ≡ 4) ⊎ (status ≡ 6)
+  pub channel_rose : (j : ℕ) → j < 4 → (channels j).faults < (channels' j).faults → (status ≡ 4) ⊎ (status ≡ 6)
+
+abbrev pub SplitCauses : (ℕ → Side → LineState) → (ℕ → Side → LineState) → DeskState → DeskState → ℕ → ℕ → Type 0
+SplitCauses before now desk desk' call status = SlotCauses (before call Pcm) (now call Pcm) (channel_lines before call Down) (channel_lines now call Down) desk desk' status
+
+abbrev pub MergeCauses : (ℕ → Side → LineState) → (ℕ → Side → LineState) → DeskState → DeskState → ℕ → ℕ → Type 0
+MergeCauses before now desk desk' call status = SlotCauses (before call Out) (now call Out) (channel_lines before call Up) (channel_lines now call Up) desk desk' status
+
+-- no count of these lines rose, nor that of the desk's writing
+pub record AreCalm (slot slot' : LineState) (channels channels' : ℕ → LineState) (desk desk' : DeskState) : Type 0 where
+  pub slot_calm : IsCalm slot.faults slot'.faults
+  pub channels_calm : (j : ℕ) → j < 4 → IsCalm (channels j).faults (channels' j).faults
+  pub desk_calm : IsCalm desk.write_faults desk'.write_faults
+
+-- what `split` leaves of a slot that held `octets`: each channel's line has gained its channel of the whole groups of four, and the desk the text
+pub record LeavesSplit (pcm' : LineState) (downs' : ℕ → LineState) (desk' : DeskState) (octets : List ℕ) (held : ℕ → List ℕ) (text : List ℕ) (status : ℕ) : Type 0 where
+  pub slot_holds : pcm'.to_come ≡ Some (drop most_octets octets)
+  pub channels_hold : (j : ℕ) → j < 4 → (downs' j).written ≡ Some (held j ++ channel j (whole_groups (take most_octets octets)))
+  pub desk_holds : desk'.written ≡ Some (text ++ split_text (split.Done (length (whole_groups (take most_octets octets))) (length (take most_octets octets) % 4)))
+  pub done : status ≡ 0
+
+-- the command where nothing failed, of lines and a desk that tell what they hold
+abbrev pub CleanSplit : (ℕ → Side → LineState) → (ℕ → Side → LineState) → DeskState → DeskState → ℕ → ℕ → Type 0
+CleanSplit before now desk desk' call status =
+    AreCalm (before call Pcm) (now call Pcm) (channel_lines before call Down) (channel_lines now call Down) desk desk' →
+    (octets text : List ℕ) (held : ℕ → List ℕ) → (before call Pcm).to_come ≡ Some octets → ((j : ℕ) → j < 4 → (before (call + j) Down).written ≡ Some (held j)) → desk.written ≡ Some text →
+    LeavesSplit (now call Pcm) (channel_lines now call Down) desk' octets held text status
+
+-- what `merge` leaves of four lines that held `lists`: the slot has gained the octets that as many of each line make as the shortest of them has, and the desk the text
+pub record LeavesMerge (ups' : ℕ → LineState) (out' : LineState) (desk' : DeskState) (lists : ℕ → List ℕ) (held text : List ℕ) (status : ℕ) : Type 0 where
+  pub given : ℕ → List ℕ
+  pub rest : ℕ → List ℕ
+  pub parts : (j : ℕ) → j < 4 → lists j ≡ given j ++ rest j
+  pub channels_hold : (j : ℕ) → j < 4 → (ups' j).to_come ≡ Some (rest j)
+  pub used : ℕ
+  pub read : AreRead ups' given used
+  pub sent : List ℕ
+  pub merged : IsMerged sent (λ j. take used (given j))
+  pub slot_holds : out'.written ≡ Some (held ++ sent)
+  pub left : List ℕ
+  pub left_are : (j : ℕ) → j < 4 → slice_index left j ≡ length (given j) - used
+  pub desk_holds : desk'.written ≡ Some (text ++ merge_text (merge.Done (4 * used) left))
+  pub done : status ≡ 0
+
+abbrev pub CleanMerge : (ℕ → Side → LineState) → (ℕ → Side → LineState) → DeskState → DeskState → ℕ → ℕ → Type 0
+CleanMerge before now desk desk' call status =
+    AreCalm (before call Out) (now call Out) (channel_lines before call Up) (channel_lines now call Up) desk desk' →
+    (lists : ℕ → List ℕ) (held text : List ℕ) → ((j : ℕ) → j < 4 → (before (call + j) Up).to_come ≡ Some (lists j)) → (before call Out).written ≡ Some held → desk.written ≡ Some text →
+    LeavesMerge (channel_lines now call Up) (now call Out) desk' lists held text status

@@ -1,0 +1,77 @@
+//! The texts of the commands.
+ghost use Rattle.std.specs.Prelude.{◌≡◌, ◌≤◌, length};
+ghost use Rattle.trau_io.specs.Texts.{failed_text};
+ghost use Rattle.trau_submux.specs.Tools.{merge_text, split_text, two_text};
+
+use crate::cut::SplitEnd;
+use crate::join::MergeEnd;
+use arrayvec::ArrayString;
+use itoa::Buffer;
+use trau_io::Line;
+
+// The text of a line that failed.
+fn failed_line(line: Line) -> ArrayString<128>
+    ensures { result.bytes ≡ failed_text line.call line.side }
+{
+    let mut digits = Buffer::new();
+    let mut text = ArrayString::new();
+    text.push_str("line ");
+    text.push_str(digits.format(line.call));
+    text.push_str(" ");
+    text.push_str(line.side.word());
+    text.push_str(" failed\n");
+    text
+}
+
+/// The text of a split's end, one line.
+pub(crate) fn text_of_split(end: SplitEnd) -> ArrayString<128>
+    ensures { result.bytes ≡ split_text end }
+{
+    match end {
+        SplitEnd::Done(octets, left) => {
+            let mut digits = Buffer::new();
+            let mut text = ArrayString::new();
+            text.push_str("split octets ");
+            text.push_str(digits.format(octets));
+            text.push_str(" left ");
+            text.push_str(digits.format(left));
+            text.push_str("\n");
+            text
+        }
+        SplitEnd::LineFailed(line) => failed_line(line),
+    }
+}
+
+// Two numbers, each behind a space.
+fn two_numbers(first: u32, second: u32) -> ArrayString<32>
+    ensures bytes { result.bytes ≡ two_text first second }
+    ensures short { length result.bytes ≤ 22 }
+{
+    let mut digits = Buffer::new();
+    let mut text = ArrayString::new();
+    text.push_str(" ");
+    text.push_str(digits.format(first));
+    text.push_str(" ");
+    text.push_str(digits.format(second));
+    text
+}
+
+/// The text of a merge's end, one line.
+pub(crate) fn text_of_merge(end: MergeEnd) -> ArrayString<128>
+    ensures { result.bytes ≡ merge_text end }
+{
+    match end {
+        MergeEnd::Done(octets, left) => {
+            let mut digits = Buffer::new();
+            let mut text = ArrayString::new();
+            text.push_str("merge octets ");
+            text.push_str(digits.format(octets));
+            text.push_str(" left");
+            text.push_str(two_numbers(left[0], left[1]).as_str());
+            text.push_str(two_numbers(left[2], left[3]).as_str());
+            text.push_str("\n");
+            text
+        }
+        MergeEnd::LineFailed(line) => failed_line(line),
+    }
+}
