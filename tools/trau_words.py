@@ -29,7 +29,7 @@ class Command:
 
 @dataclass(frozen=True)
 class Option:
-    """An option of `run`, with the range of its value, and its value where it isn't given."""
+    """An option of `run` or `drill`, with the range of its value, and its value where it isn't given."""
 
     name: str
     least: int
@@ -63,10 +63,18 @@ COMMANDS = (
         "reads orders from standard input, works the calls that they open on their lines, writes their outgoing lines, and tells"
         " the report",
     ),
+    Command(
+        "drill",
+        "[OPTIONS]",
+        "draws lines and orders from a number, works them in memory as run does, and tells the report, with sums of what goes"
+        " out; it uses no file",
+    ),
     Command("relay", CALL, "takes C.up, and writes its good speech frames to C.down with the same 260 data bits"),
     Command("decode", CALL, "takes C.up, and writes the A-law of its good speech frames to C.out"),
     Command("encode", CALL, "takes C.pcm, and writes its speech frames to C.down"),
     Command("frames", CALL, "searches C.up for frames at any bit, and tells a line of text for each; it writes no line"),
+    Command("split", CALL, "takes the time slot C.pcm, and writes its four channels to the Down lines of calls C to C + 3"),
+    Command("merge", CALL, "takes C.up and the Up lines of the next three calls as four channels, and writes the time slot C.out"),
 )
 
 OPTIONS = (
@@ -75,6 +83,15 @@ OPTIONS = (
     Option("--slice", 1, 250, 5, "the periods of a call that are worked in one go"),
     Option("--periods", 1, 4294967295, 4294967295, "the period at which the run ends"),
 )
+
+DRILL_OPTIONS = (
+    *OPTIONS[:3],
+    Option("--periods", 1, 1000, 200, "the periods of the drill"),
+    Option("--seed", 0, 4294967295, 1, "the number that lines and orders are drawn from"),
+    Option("--calls", 1, 256, 64, "the calls of the drill"),
+)
+
+OPTIONS_OF = {"run": OPTIONS, "drill": DRILL_OPTIONS}
 
 ORDERS = (
     Order("S open C", "the call begins"),
@@ -86,7 +103,7 @@ ORDERS = (
 )
 
 STATUSES = (
-    Status(0, "the command was carried to its end, and no line failed", "the command's text; of run, the report"),
+    Status(0, "the command was carried to its end, and no line failed", "the command's text; of run and drill, the report"),
     Status(1, "these words are no command", "usage"),
     Status(2, "line N of the orders isn't in the grammar", "orders line N"),
     Status(3, "standard input failed while the orders were read", "orders unread"),
@@ -155,8 +172,9 @@ def help_text() -> str:
     """What the script `trau` says where it is asked for help."""
     lines = [f"{NAME}: {PURPOSE}", ""]
     lines += table((f"{NAME} {command.name} {command.words}", command.does) for command in COMMANDS)
-    lines += ["", "Options of run:", ""]
-    lines += table((f"{option.name} N", f"{option.means} ({range_of(option)})") for option in OPTIONS)
+    for command, options in OPTIONS_OF.items():
+        lines += ["", f"Options of {command}:", ""]
+        lines += table((f"{option.name} N", f"{option.means} ({range_of(option)})") for option in options)
     lines += ["", *folded(NOTE_ON_ORDERS, ""), ""]
     lines += table((order.words, order.does) for order in ORDERS)
     lines += ["", *folded(NOTE_ON_FILES, ""), ""]
@@ -189,14 +207,16 @@ def man_page(version: str, date: str) -> str:
         ".SH SYNOPSIS",
     ]
     for number, command in enumerate(COMMANDS):
-        options = "".join(f" [{option.name} N]" for option in OPTIONS) if command.name == "run" else f" {CALL}"
+        options = "".join(f" [{option.name} N]" for option in OPTIONS_OF.get(command.name, ())) or f" {CALL}"
         orders = " <ORDERS" if command.name == "run" else ""
         lines += [".br"] * (number > 0) + [f".B {NAME} {command.name}{escaped(options + orders)}"]
     lines += [".SH COMMANDS", escaped(NOTE_ON_FILES)]
     lines += paragraphs((f"{command.name} {command.words}", command.does) for command in COMMANDS)
     lines += [".PP", escaped(NOTE_ON_HELP)]
-    lines += [".SH OPTIONS OF RUN", "A value is the next word, or stands behind an equals sign. Each option stands once at most."]
-    lines += paragraphs((f"{option.name} N", f"{option.means} ({range_of(option)})") for option in OPTIONS)
+    for name, options in OPTIONS_OF.items():
+        lines += [f".SH OPTIONS OF {name.upper()}"]
+        lines += ["A value is the next word, or stands behind an equals sign. Each option stands once at most."]
+        lines += paragraphs((f"{option.name} N", f"{option.means} ({range_of(option)})") for option in options)
     lines += [".SH ORDERS", escaped(NOTE_ON_ORDERS)]
     lines += paragraphs((order.words, order.does) for order in ORDERS)
     lines += [".SH FILES", *paragraphs(FILES)]
@@ -216,15 +236,17 @@ _trau() {{
         return
     fi
     case ${{COMP_WORDS[1]}} in
-    run)
+{optioned}{calls}    esac
+}}
+complete -F _trau trau
+"""
+
+OPTIONS_WITH = """    {name})
         case $before in
         {valued}) ;;
         *) COMPREPLY=($(compgen -W "{options}" -- "$word")) ;;
         esac
         ;;
-{calls}    esac
-}}
-complete -F _trau trau
 """
 
 CALLS_WITH = """    {names})
@@ -242,8 +264,14 @@ def completion() -> str:
     of_pcm = "|".join(command.name for command in COMMANDS if "C.pcm" in command.does)
     return COMPLETION.format(
         commands=" ".join(command.name for command in COMMANDS),
-        options=" ".join(option.name for option in OPTIONS),
-        valued=" | ".join(option.name for option in OPTIONS),
+        optioned="".join(
+            OPTIONS_WITH.format(
+                name=name,
+                options=" ".join(option.name for option in options),
+                valued=" | ".join(option.name for option in options),
+            )
+            for name, options in OPTIONS_OF.items()
+        ),
         calls=CALLS_WITH.format(names=of_up, side="up") + CALLS_WITH.format(names=of_pcm, side="pcm"),
     )
 

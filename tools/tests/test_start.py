@@ -243,7 +243,9 @@ class TheFirstStart(Started):
         crates = set(build.crates_of(TOP))
         self.assertEqual(
             crates - set(build.needed(TOP, build.PROGRAM)),
-            {"call_tests", "codec_tests", "codec_vectors", "farm_drill", "farm_tests", "line_tests", "pool_core"},
+            {
+                "call_tests", "ccu_end", "codec_tests", "codec_vectors", "farm_checkpoint", "farm_live", "farm_tests", "line_tests", "pool_core",
+            },
         )
         self.assert_refused(build.main, ["--top", self.top, "--program", "gone"], "has no line of gone")
         self.assert_refused(build.main, ["now"], "unrecognized")
@@ -253,7 +255,7 @@ class Help(Started):
     HELP = (TOP / "tools" / "help.txt").read_text()
 
     def test_before_any_proof(self):
-        for words in (["help"], ["--help"], ["-h"], ["help", "run"], ["run", "--help"], ["relay", "--help"]):
+        for words in (["help"], ["--help"], ["-h"], ["help", "run"], ["run", "--help"], ["drill", "--help"], ["relay", "--help"]):
             self.assertEqual(self.trau(*words), (1, "usage\n", self.HELP), words)
         self.assertEqual(self.at_terminal(), (1, self.HELP + "usage\n"))
         self.assertFalse(self.asked.exists())

@@ -36,13 +36,14 @@ class Documents(unittest.TestCase):
                     self.assertIn(f"`C.{side}`", pages[command.name])
 
     def test_options(self):
-        text = (DOCS / "commands" / "run.md").read_text()
-        found = {name: values for name, *values in rows(text, ["`(--\\w+)`", "([\\d,]+) to ([\\d,]+)", "([\\d,]+)"])}
-        wanted = {
-            option.name: [trau_words.grouped(number) for number in (option.least, option.most, option.default)]
-            for option in trau_words.OPTIONS
-        }
-        self.assertEqual(found, wanted)
+        for command, options in trau_words.OPTIONS_OF.items():
+            text = (DOCS / "commands" / f"{command}.md").read_text()
+            found = {name: values for name, *values in rows(text, ["`(--\\w+)`", "([\\d,]+) to ([\\d,]+)", "([\\d,]+)"])}
+            wanted = {
+                option.name: [trau_words.grouped(number) for number in (option.least, option.most, option.default)]
+                for option in options
+            }
+            self.assertEqual(found, wanted, command)
 
     def test_statuses(self):
         # The pages of the commands, each with some; a text that two commands tell in their own words is told of both.
@@ -67,7 +68,7 @@ class Documents(unittest.TestCase):
         self.assertEqual((TOOLS / "help.txt").read_text(), trau_words.help_text(), "tools/trau_words.py help >tools/help.txt")
         self.assertTrue(all(len(line) < 80 for line in trau_words.help_text().splitlines()))
         for made in (trau_words.help_text(), trau_words.man_page("trau x", "2026-01-01").replace("\\-", "-")):
-            for word in [command.name for command in trau_words.COMMANDS] + [option.name for option in trau_words.OPTIONS]:
+            for word in [command.name for command in trau_words.COMMANDS] + [option.name for option in trau_words.DRILL_OPTIONS]:
                 self.assertIn(word, made)
 
 
@@ -102,6 +103,9 @@ class Completion(InFolder):
         self.assertEqual(self.completed("run", "--"), ["--workers", "--batch", "--slice", "--periods"])
         self.assertEqual(self.completed("run", "--workers", "2", "--b"), ["--batch"])
         self.assertEqual(self.completed("run", "--workers", ""), [])
+        self.assertEqual(self.completed("d"), ["drill", "decode"])
+        self.assertEqual(self.completed("drill", "--"), ["--workers", "--batch", "--slice", "--periods", "--seed", "--calls"])
+        self.assertEqual(self.completed("drill", "--seed", ""), [])
         self.assertEqual(self.completed("relay", ""), ["12", "7"])
         self.assertEqual(self.completed("encode", ""), ["8"])
         self.assertEqual(self.completed("frames", "7", ""), [])

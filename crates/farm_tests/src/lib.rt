@@ -7,21 +7,31 @@
 #[cfg(test)]
 mod desk;
 #[cfg(test)]
+mod endless;
+#[cfg(test)]
 mod farm_top_desk_tests;
+#[cfg(test)]
+mod farm_top_drill_tests;
 #[cfg(test)]
 mod farm_top_faults_tests;
 #[cfg(test)]
 mod farm_top_gate_tests;
 #[cfg(test)]
+mod farm_top_phases_tests;
+#[cfg(test)]
 mod farm_top_rows_tests;
 #[cfg(test)]
 mod farm_top_run_tests;
+#[cfg(test)]
+mod farm_top_slots_tests;
 #[cfg(test)]
 mod farm_top_tests;
 #[cfg(test)]
 mod held;
 #[cfg(test)]
 mod lines;
+#[cfg(test)]
+mod met;
 #[cfg(test)]
 mod pool_run_tests;
 #[cfg(test)]

@@ -1,5 +1,5 @@
 -- What the words ask for, and that it is carried out.
-use Rattle.std.proofs.Common.{◌≡◌, inl, inr, ℕ, ◌≤◌, List, Option, Some, None, length, ap, subst, arith}
+use Rattle.std.proofs.Common.{◌≡◌, ◌⊎◌, inl, inr, ℕ, ◌+◌, ◌*◌, ◌≤◌, List, Option, Some, None, length, get_or, refl, ap, subst, arith}
 use Rattle.std.specs.Prelude.{codes}
 use Rattle.trau_io.specs.declared.line.Side.{Side}
 use Rattle.trau_io.specs.Lines.{LineState}
@@ -7,16 +7,19 @@ use Rattle.trau_io.specs.Desks.{DeskState}
 use Rattle.farm_tools.specs.declared.end.Tool.{Tool}
 use Rattle.farm_tools.specs.declared.end.Tool.TheVariants as tool
 use Rattle.farm_words.specs.declared.asked.Asked.{Asked}
-use Rattle.farm_words.specs.declared.asked.Asked.TheVariants.{Run, Relay, Frames, Encode, Decode}
+use Rattle.farm_words.specs.declared.asked.Asked.TheVariants.{Run, Drill, Relay, Frames, Encode, Decode, Split, Merge}
 use Rattle.farm_words.specs.declared.asked.Settings.{Settings}
 use Rattle.farm_words.specs.Asking.{Asks}
-use Rattle.farm_words.specs.Run.{GivesSettings, IsValueOf}
+use Rattle.farm_words.specs.Options.{BeginWith, GivesSettings, IsValueOf}
 use Rattle.farm_words.specs.Words.{Names}
+use Rattle.farm_words.specs.Slots.{NamesSlot}
 use Rattle.farm_words.proofs.Asking.{one_asked}
 use Rattle.farm_run.specs.Pace.{IsPace}
-use Rattle.farm_top.specs.Farm.{RunsFarm, pace_of}
+use Rattle.farm_top.specs.Drill.{CarriesDrill}
+use Rattle.farm_top.specs.Farm.{AllStay, RunsFarm, pace_of}
+use Rattle.farm_top.specs.Slots.{MergeEnds, SplitEnds}
 use Rattle.farm_top.specs.Top.{Carries, CarriesAsked, CarriesFrames, IsInRange}
-use Rattle.farm_top.specs.Words.{AreCommand, AsksFor, AsksForFrames, AsksForRun, BeginWithRun}
+use Rattle.farm_top.specs.Words.{AreCommand, AsksFor, AsksForDrill, AsksForFrames, AsksForMerge, AsksForRun, AsksForSplit, TakeOptions}
 
 -- a tool's work on a call
 abbrev pub asked_of : Tool → ℕ → Asked
@@ -31,53 +34,114 @@ asks_tool words tool.Encode c asks = asks
 
 -- words that ask for something are those of a command
 pub is_command : (words : List (List ℕ)) (a : Asked) → Asks words a → AreCommand words
-is_command words (Run s) asks = inr (inr (s, asks))
+is_command words (Run s) asks = inr (inr (inl (s, asks)))
+is_command words (Drill seed calls s) asks = inr (inr (inr (inl (seed, calls, s, asks))))
 is_command words (Relay c) asks = inl (tool.Relay, c, asks)
 is_command words (Frames c) asks = inr (inl (c, asks))
 is_command words (Encode c) asks = inl (tool.Encode, c, asks)
 is_command words (Decode c) asks = inl (tool.Decode, c, asks)
+is_command words (Split c) asks = inr (inr (inr (inr (inl (c, asks)))))
+is_command words (Merge c) asks = inr (inr (inr (inr (inr (c, asks)))))
 
 -- and those of a command ask for something
 pub no_command : (words : List (List ℕ)) → ((a : Asked) → Asks words a → ⊥) → AreCommand words → ⊥
 no_command words none (inl (t, c, asks)) = none (asked_of t c) (asks_tool words t c asks)
 no_command words none (inr (inl (c, asks))) = none (Frames c) asks
-no_command words none (inr (inr (s, asks))) = none (Run s) asks
+no_command words none (inr (inr (inl (s, asks)))) = none (Run s) asks
+no_command words none (inr (inr (inr (inl (seed, calls, s, asks))))) = none (Drill seed calls s) asks
+no_command words none (inr (inr (inr (inr (inl (c, asks)))))) = none (Split c) asks
+no_command words none (inr (inr (inr (inr (inr (c, asks)))))) = none (Merge c) asks
 
--- words that begin with `run` aren't those of a tool
-named_run : (words : List (List ℕ)) (name : List ℕ) (c : ℕ) → BeginWithRun words → Names words name c → name ≡ codes "run"
-named_run words name c run names =
+-- words that begin with a command that takes options aren't those of a tool
+first_word : (words : List (List ℕ)) (command name : List ℕ) (c : ℕ) → BeginWith command words → Names words name c → name ≡ command
+first_word words command name c begin names =
     let is = names.spelled in
-    let also = run.1 in
+    let also = begin.1 in
     cc
 
-pub no_tool : (words : List (List ℕ)) (t : Tool) (c : ℕ) → BeginWithRun words → AsksFor words t c → ⊥
-no_tool words tool.Relay c run asks = let count : 5 ≡ 3 = ap length (named_run words _ c run asks) in omega (arith, count)
-no_tool words tool.Decode c run asks = let count : 6 ≡ 3 = ap length (named_run words _ c run asks) in omega (arith, count)
-no_tool words tool.Encode c run asks = let count : 6 ≡ 3 = ap length (named_run words _ c run asks) in omega (arith, count)
+-- no tool's word has the length of `run`, or the first letter and the length of `drill`
+tag : List ℕ → ℕ
+tag word = get_or word 0 0 + 1000 * length word
 
-pub no_listing : (words : List (List ℕ)) (c : ℕ) → BeginWithRun words → AsksForFrames words c → ⊥
-no_listing words c run asks = let count : 6 ≡ 3 = ap length (named_run words _ c run asks) in omega (arith, count)
+not_named : (words : List (List ℕ)) (name : List ℕ) (c : ℕ) → TakeOptions words → Names words name c → (tag name ≡ 3114) ⊎ (tag name ≡ 5100)
+unfolding tag
+not_named words name c (inl run) names = inl (ap tag (first_word words (codes "run") name c run names))
+not_named words name c (inr drill) names = inr (ap tag (first_word words (codes "drill") name c drill names))
+
+relay_is : tag (codes "relay") ≡ 5114
+unfolding tag
+relay_is = refl
+
+decode_is : tag (codes "decode") ≡ 6100
+unfolding tag
+decode_is = refl
+
+encode_is : tag (codes "encode") ≡ 6101
+unfolding tag
+encode_is = refl
+
+frames_is : tag (codes "frames") ≡ 6102
+unfolding tag
+frames_is = refl
+
+pub no_tool : (words : List (List ℕ)) (t : Tool) (c : ℕ) → TakeOptions words → AsksFor words t c → ⊥
+no_tool words tool.Relay c take asks = let k = not_named words _ c take asks in let is = relay_is in omega (arith, k, is)
+no_tool words tool.Decode c take asks = let k = not_named words _ c take asks in let is = decode_is in omega (arith, k, is)
+no_tool words tool.Encode c take asks = let k = not_named words _ c take asks in let is = encode_is in omega (arith, k, is)
+
+pub no_listing : (words : List (List ℕ)) (c : ℕ) → TakeOptions words → AsksForFrames words c → ⊥
+no_listing words c take asks = let k = not_named words _ c take asks in let is = frames_is in omega (arith, k, is)
+
+slot_word : (words : List (List ℕ)) (command name : List ℕ) (c : ℕ) → BeginWith command words → NamesSlot words name c → name ≡ command
+slot_word words command name c begin names =
+    let is = names.spelled in
+    let also = begin.1 in
+    cc
+
+not_slot : (words : List (List ℕ)) (name : List ℕ) (c : ℕ) → TakeOptions words → NamesSlot words name c → (tag name ≡ 3114) ⊎ (tag name ≡ 5100)
+unfolding tag
+not_slot words name c (inl run) names = inl (ap tag (slot_word words (codes "run") name c run names))
+not_slot words name c (inr drill) names = inr (ap tag (slot_word words (codes "drill") name c drill names))
+
+split_is : tag (codes "split") ≡ 5115
+unfolding tag
+split_is = refl
+
+merge_is : tag (codes "merge") ≡ 5109
+unfolding tag
+merge_is = refl
+
+pub no_split : (words : List (List ℕ)) (c : ℕ) → TakeOptions words → AsksForSplit words c → ⊥
+no_split words c take asks = let k = not_slot words _ c take asks in let is = split_is in omega (arith, k, is)
+
+pub no_merge : (words : List (List ℕ)) (c : ℕ) → TakeOptions words → AsksForMerge words c → ⊥
+no_merge words c take asks = let k = not_slot words _ c take asks in let is = merge_is in omega (arith, k, is)
 
 -- a value of an option is in the range that its default is in
 value_in : (text : Option (List ℕ)) (low high default n : ℕ) → low ≤ default → default ≤ high → IsValueOf text low high default n → (low ≤ n) × (n ≤ high)
 value_in None low high default n above below is = (omega (arith, above, is), omega (arith, below, is))
 value_in (Some text) low high default n above below is = (is.at_least, is.at_most)
 
-pace_in : (text_of : List ℕ → Option (List ℕ)) (s : Settings) → GivesSettings text_of s → IsPace (pace_of s)
-pace_in text_of s gives =
+pace_in : (most default : ℕ) (text_of : List ℕ → Option (List ℕ)) (s : Settings) → 1 ≤ default → default ≤ most → GivesSettings most default text_of s → IsPace (pace_of s) × (s.periods ≤ most)
+pace_in most default text_of s some within gives =
     let workers = value_in _ 1 64 4 s.workers (omega arith) (omega arith) gives.workers in
     let batch = value_in _ 1 250 50 s.batch (omega arith) (omega arith) gives.batch in
     let slice = value_in _ 1 250 5 s.slice (omega arith) (omega arith) gives.slice in
-    let periods = value_in _ 1 4294967295 4294967295 s.periods (omega arith) (omega arith) gives.periods in
-    record { some_workers = workers.0; few_workers = workers.1; some_periods = batch.0; few_periods = batch.1; slice = slice.0; periods = periods.0 }
+    let periods = value_in _ 1 most default s.periods some within gives.periods in
+    (record { some_workers = workers.0; few_workers = workers.1; some_periods = batch.0; few_periods = batch.1; slice = slice.0; periods = periods.0 }, periods.1)
 
 -- what words ask for is in its ranges
 pub in_range : (words : List (List ℕ)) (a : Asked) → Asks words a → IsInRange a
-in_range words (Run s) asks = pace_in _ s asks.are.gives
+in_range words (Run s) asks = (pace_in 4294967295 4294967295 _ s (omega arith) (omega arith) asks.are.gives).0
+in_range words (Drill seed calls s) asks =
+    let pace = pace_in 1000 200 _ s (omega arith) (omega arith) asks.are.gives.settings in
+    ((value_in _ 1 256 64 calls (omega arith) (omega arith) asks.are.gives.calls).1, pace.1, pace.0)
 in_range words (Relay c) asks = (asks.low, asks.high)
 in_range words (Frames c) asks = (asks.low, asks.high)
 in_range words (Encode c) asks = (asks.low, asks.high)
 in_range words (Decode c) asks = (asks.low, asks.high)
+in_range words (Split c) asks = (asks.low, asks.high)
+in_range words (Merge c) asks = (asks.low, asks.high)
 
 module _ (words : List (List ℕ)) (a : Asked) (meant : Asks words a) (before now : ℕ → Side → LineState) (desk desk' : DeskState) (status : ℕ) where
   carries_tool : (t : Tool) (c : ℕ) → CarriesAsked (asked_of t c) before now desk desk' status → Carries t before now desk desk' c status
@@ -94,3 +158,12 @@ module _ (words : List (List ℕ)) (a : Asked) (meant : Asks words a) (before no
 
   pub run_carried : CarriesAsked a before now desk desk' status → (s : Settings) → AsksForRun words s → RunsFarm s before now desk desk' status
   run_carried done s asks = subst (λ b. CarriesAsked b before now desk desk' status) (one_asked words a (Run s) meant asks) done
+
+  pub drill_carried : CarriesAsked a before now desk desk' status → (seed calls : ℕ) (s : Settings) → AsksForDrill words seed calls s → AllStay before now × CarriesDrill seed calls s.periods desk desk' status
+  drill_carried done seed calls s asks = subst (λ b. CarriesAsked b before now desk desk' status) (one_asked words a (Drill seed calls s) meant asks) done
+
+  pub split_carried : CarriesAsked a before now desk desk' status → (c : ℕ) → AsksForSplit words c → SplitEnds before now desk desk' c status
+  split_carried done c asks = subst (λ b. CarriesAsked b before now desk desk' status) (one_asked words a (Split c) meant asks) done
+
+  pub merge_carried : CarriesAsked a before now desk desk' status → (c : ℕ) → AsksForMerge words c → MergeEnds before now desk desk' c status
+  merge_carried done c asks = subst (λ b. CarriesAsked b before now desk desk' status) (one_asked words a (Merge c) meant asks) done

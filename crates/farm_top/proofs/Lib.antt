@@ -1,6 +1,7 @@
 -- Lemmas on the top call.
 mod Asking
 mod Carrying
+mod Drilling
 mod Ending
 mod FarmCausing
 mod FarmCleaning

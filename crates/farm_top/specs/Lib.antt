@@ -1,8 +1,10 @@
 -- What the top call does.
+pub mod Drill
 pub mod Farm
 pub mod FarmCauses
 pub mod FarmEnded
 pub mod FarmClean
 pub mod Headline
+pub mod Slots
 pub mod Top
 pub mod Words

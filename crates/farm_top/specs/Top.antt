@@ -11,8 +11,10 @@ use Rattle.farm_tools.specs.declared.end.Tool.TheVariants as tool
 use Rattle.farm_tools.specs.Tools.{ToolRuns, status_of}
 use Rattle.farm_run.specs.Pace.{IsPace}
 use Rattle.farm_words.specs.declared.asked.Asked.{Asked}
-use Rattle.farm_words.specs.declared.asked.Asked.TheVariants.{Run, Relay, Frames, Encode, Decode}
-use Rattle.farm_top.specs.Farm.{RunsFarm, TextOut, pace_of}
+use Rattle.farm_words.specs.declared.asked.Asked.TheVariants.{Run, Drill, Relay, Frames, Encode, Decode, Split, Merge}
+use Rattle.farm_top.specs.Drill.{CarriesDrill}
+use Rattle.farm_top.specs.Slots.{MergeEnds, SplitEnds}
+use Rattle.farm_top.specs.Farm.{AllStay, RunsFarm, TextOut, pace_of}
 
 -- after a command that ended so and left the desk so: the status is that of the end, and where there was no memory the desk is told
 pub record Answers (end : ToolEnd) (left desk' : DeskState) (status : ℕ) : Type 0 where
@@ -34,18 +36,24 @@ pub record CarriesFrames (before now : ℕ → Side → LineState) (desk desk' :
   pub runs : FramesRun before now desk left call end
   pub answers : Answers end left desk' status
 
--- what is asked for is in its ranges: a run's pace, or the call of a tool
+-- what is asked for is in its ranges: a run's pace, a drill's calls and periods, the call of a tool, or the first call of a slot
 abbrev pub IsInRange : Asked → Type 0
 IsInRange (Run s) = IsPace (pace_of s)
+IsInRange (Drill seed calls s) = (calls ≤ 256) × (s.periods ≤ 1000) × IsPace (pace_of s)
 IsInRange (Relay c) = (1 ≤ c) × (c ≤ 1024)
 IsInRange (Frames c) = (1 ≤ c) × (c ≤ 1024)
 IsInRange (Encode c) = (1 ≤ c) × (c ≤ 1024)
 IsInRange (Decode c) = (1 ≤ c) × (c ≤ 1024)
+IsInRange (Split c) = (1 ≤ c) × (c ≤ 4093)
+IsInRange (Merge c) = (1 ≤ c) × (c ≤ 4093)
 
 -- what is asked for was carried out, whatever fails
 abbrev pub CarriesAsked : Asked → (ℕ → Side → LineState) → (ℕ → Side → LineState) → DeskState → DeskState → ℕ → Type 0
 CarriesAsked (Run s) before now desk desk' status = RunsFarm s before now desk desk' status
+CarriesAsked (Drill seed calls s) before now desk desk' status = AllStay before now × CarriesDrill seed calls s.periods desk desk' status
 CarriesAsked (Relay c) before now desk desk' status = Carries tool.Relay before now desk desk' c status
 CarriesAsked (Frames c) before now desk desk' status = CarriesFrames before now desk desk' c status
 CarriesAsked (Encode c) before now desk desk' status = Carries tool.Encode before now desk desk' c status
 CarriesAsked (Decode c) before now desk desk' status = Carries tool.Decode before now desk desk' c status
+CarriesAsked (Split c) before now desk desk' status = SplitEnds before now desk desk' c status
+CarriesAsked (Merge c) before now desk desk' status = MergeEnds before now desk desk' c status

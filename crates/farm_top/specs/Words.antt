@@ -1,9 +1,12 @@
 -- The words of the command line, by what they ask for (this project's profile).
-use Rattle.std.specs.Prelude.{◌≡◌, ◌⊎◌, ℕ, String, string_bytes, List, ◌∷◌, map, codes}
+use Rattle.std.specs.Prelude.{◌⊎◌, ℕ, String, string_bytes, List, map, codes}
 use Rattle.farm_tools.specs.declared.end.Tool.{Tool}
 use Rattle.farm_tools.specs.Made.{name_of}
 use Rattle.farm_words.specs.declared.asked.Settings.{Settings}
+use Rattle.farm_words.specs.Drill.{AsksDrill}
+use Rattle.farm_words.specs.Options.{BeginWith}
 use Rattle.farm_words.specs.Run.{AsksRun}
+use Rattle.farm_words.specs.Slots.{NamesSlot}
 use Rattle.farm_words.specs.Words.{Names}
 
 -- the octets of the words
@@ -22,13 +25,27 @@ AsksForFrames words call = Names words (codes "frames") call
 abbrev pub AsksForRun : List (List ℕ) → Settings → Type 0
 AsksForRun words settings = AsksRun words settings
 
+-- they ask for a drill of so many calls, from this seed, with these settings, as `drill --calls 2`
+abbrev pub AsksForDrill : List (List ℕ) → ℕ → ℕ → Settings → Type 0
+AsksForDrill words seed calls settings = AsksDrill words seed calls settings
+
+-- they ask for a time slot to be cut into channels, or put together of them, as `split 7`
+abbrev pub AsksForSplit : List (List ℕ) → ℕ → Type 0
+AsksForSplit words call = NamesSlot words (codes "split") call
+
+abbrev pub AsksForMerge : List (List ℕ) → ℕ → Type 0
+AsksForMerge words call = NamesSlot words (codes "merge") call
+
 -- they are those of a command
 abbrev pub AreCommand : List (List ℕ) → Type 0
 AreCommand words =
     ((tool : Tool) × (call : ℕ) × AsksFor words tool call)
     ⊎ ((call : ℕ) × AsksForFrames words call)
     ⊎ ((settings : Settings) × AsksForRun words settings)
+    ⊎ ((seed : ℕ) × (calls : ℕ) × (settings : Settings) × AsksForDrill words seed calls settings)
+    ⊎ ((call : ℕ) × AsksForSplit words call)
+    ⊎ ((call : ℕ) × AsksForMerge words call)
 
--- the first of them is `run`, whatever stands behind it
-abbrev pub BeginWithRun : List (List ℕ) → Type 0
-BeginWithRun words = (options : List (List ℕ)) × (words ≡ codes "run" ∷ options)
+-- the first of them is `run` or `drill`, whatever stands behind it
+abbrev pub TakeOptions : List (List ℕ) → Type 0
+TakeOptions words = BeginWith (codes "run") words ⊎ BeginWith (codes "drill") words

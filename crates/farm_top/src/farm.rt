@@ -1,4 +1,5 @@
-// The command `run`: the orders from the desk, the run over the lines, and its report to the desk.
+//! The command `run`: the orders from the desk, the run over the lines, and its report to the desk.
+
 ghost use Rattle.std.specs.Prelude.{ℕ, Bool};
 ghost use Rattle.trau_io.specs.declared.line.Side.{Side};
 ghost use Rattle.trau_io.specs.Lines.{LineState};
@@ -74,7 +75,7 @@ fn tell_report<D: Desk>(alloc: Global, report: &Report, desk: &mut D) -> u8
 }
 
 // A law: what a run leaves on outgoing lines are the lines of whole calls, and its bridges hand frames over.
-fn lines_have_the_headline()
+pub(crate) fn lines_have_the_headline()
     ensures { (r : TheRun) (fails : ℕ → Side → Bool) (before now : ℕ → Side → LineState) → AreOrders r.orders → Leaves r fails before now → Headline r fails before now }
 {
     lines_are_of_whole_calls();

@@ -1,4 +1,5 @@
-// The top call: the words in, the octets and the text out, and the status.
+//! The top call: the words in, the octets and the text out, and the status.
+
 ghost use Rattle.std.specs.Prelude.{◌≡◌, ◌≢◌, ◌⊎◌, ℕ, List, codes};
 ghost use Rattle.call_number.specs.CallNumber.{IsCallNumber};
 ghost use Rattle.trau_io.specs.declared.line.Side.TheVariants.{Up};
@@ -12,15 +13,19 @@ ghost use Rattle.farm_tools.specs.Clean.{CleanRun};
 ghost use Rattle.farm_tools.specs.Frames.{CleanFrames, FramesCauses};
 ghost use Rattle.farm_tools.specs.Tools.{ToolRuns, status_of};
 ghost use Rattle.farm_words.specs.declared.asked.Settings.{Settings};
+ghost use Rattle.farm_top.specs.Drill.{DrillEnds};
 ghost use Rattle.farm_top.specs.Farm.{AllStay, CarriesRun, LacksMemory, TextOut};
 ghost use Rattle.farm_top.specs.FarmCauses.{RunCauses};
 ghost use Rattle.farm_top.specs.Headline.{Headline};
 ghost use Rattle.farm_top.specs.FarmClean.{CleanFarm, IsCalmRun, TellsOrders};
 ghost use Rattle.farm_top.specs.FarmEnded.{RunEnded};
+ghost use Rattle.farm_top.specs.Slots.{MergeEnds, SplitEnds};
 ghost use Rattle.farm_top.specs.Top.{Answers, Carries, CarriesAsked, CarriesFrames, IsInRange};
-ghost use Rattle.farm_top.specs.Words.{AreCommand, AsksFor, AsksForFrames, AsksForRun, BeginWithRun, spelled};
+ghost use Rattle.farm_top.specs.Words.{AreCommand, AsksFor, AsksForDrill, AsksForFrames, AsksForMerge, AsksForRun, AsksForSplit, TakeOptions, spelled};
 
+use crate::drill::drill_farm;
 use crate::farm::{no_memory, run_farm};
+use crate::slots::{carry_merge, carry_split};
 use crate::status::{DESK_WRITE_FAULT, DONE, FRAME_REFUSED, LINE_FAILED, NO_MEMORY, USAGE};
 use farm_tools::{Tool, ToolEnd, decode, encode, frames, relay};
 use farm_words::{Asked, WordsFault, read_words};
@@ -32,7 +37,7 @@ use trau_io::{Desk, Trunk, tell};
 use trau_orders::one_answer;
 
 // The status that stands for a tool's end.
-fn status_of_end(end: ToolEnd) -> u8
+pub(crate) fn status_of_end(end: ToolEnd) -> u8
     ensures { result ≡ status_of end }
 {
     match end {
@@ -102,6 +107,11 @@ fn carry_out<R: Threads + Wait + Sync, T: Trunk, D: Desk, G: Gate + Sync>(
 {
     match asked {
         Asked::Run(settings) => run_farm(rt, alloc, settings, trunk, desk, gate),
+        Asked::Drill {
+            seed,
+            calls,
+            settings,
+        } => drill_farm(rt, alloc, seed, calls, settings, desk, gate),
         Asked::Relay(call) => carry_tool(alloc, Tool::Relay, call, trunk, desk),
         Asked::Decode(call) => carry_tool(alloc, Tool::Decode, call, trunk, desk),
         Asked::Encode(call) => carry_tool(alloc, Tool::Encode, call, trunk, desk),
@@ -109,6 +119,8 @@ fn carry_out<R: Threads + Wait + Sync, T: Trunk, D: Desk, G: Gate + Sync>(
             let end = frames(alloc, call, trunk, desk);
             answer(end, desk)
         }
+        Asked::Split(call) => carry_split(call, trunk, desk),
+        Asked::Merge(call) => carry_merge(call, trunk, desk),
     }
 }
 
@@ -128,12 +140,21 @@ fn carry_out<R: Threads + Wait + Sync, T: Trunk, D: Desk, G: Gate + Sync>(
 /// worked at a time, 1 to 250, else 5) and `--periods` (the most periods of the run, 1 to 4,294,967,295, else that). The
 /// workers steal calls half done from one another, and each slice of a call passes the gate. The run waits for them, so what
 /// is said of it holds if `farm_top` returns. That the other commands return is proved of their functions in `farm_tools`
-/// (`relay`, `decode`, `encode`, `frames`), and not of `farm_top`, which waits as a whole.
+/// (`relay`, `decode`, `encode`, `frames`) and `trau_submux` (`split`, `merge`), and not of `farm_top`, which waits as a whole.
+///
+/// The command `split C` cuts the time slot on call C's Pcm line, 64 kbit/s, into its four channels of 16 kbit/s, on the Down
+/// lines of the calls C to C + 3; `merge C` puts the channels on the Up lines of these calls together to the slot on C's Out
+/// line. C is 1 to 4,093. Both take no memory and never answer 5.
+///
+/// The command `drill` draws the lines and orders of `--calls` calls (1 to 256, else 64) from `--seed` (0 to 4,294,967,295,
+/// else 1), runs them over lines in memory for `--periods` periods (1 to 1,000, else 200), and tells the report, with the
+/// sums of the octets of each call's outgoing lines behind it. It has the other options of `run` too. It uses no line of
+/// the trunk and reads nothing of the desk; the last sentences on `run` hold of it too. It may answer 0, 4 and 5.
 ///
 /// | Status | Comes | Text on the desk |
 /// |---|---|---|
-/// | 0 | the incoming line was worked to its end, or to 4,294,967,295 blocks; the run ended and no line's count rose | `relay frames N`, `decode frames N`, `encode frames N left R`; `frames N left R` behind a line of text for each of its N yields; the report |
-/// | 1 | exactly where the words aren't those of a command (or 5, behind `run`) | `usage` |
+/// | 0 | the incoming line was worked to its end, or to 4,294,967,295 blocks; the run or the drill ended and no line's count rose | `relay frames N`, `decode frames N`, `encode frames N left R`; `frames N left R` behind a line of text for each of its N yields; `split octets N left R`, `merge octets N left A B C D`; the report; the report and the sums |
+/// | 1 | exactly where the words aren't those of a command (or 5, behind `run` and `drill`) | `usage` |
 /// | 2 | a line of the orders isn't in their grammar, N being the first | `orders line N` |
 /// | 3 | the desk failed while the orders were read | `orders unread` |
 /// | 4 | the desk failed while the command's text went out | a proper front of the command's text |
@@ -153,10 +174,10 @@ pub fn farm_top<R: Threads + Wait + Sync, T: Trunk, D: Desk, G: Gate + Sync>(
     desk: &mut D,
     gate: &G,
 ) -> u8
-    // Status 1 comes exactly where the words are no command's, and then no line is used. Behind `run`, want of memory may
-    // come in its place.
+    // Status 1 comes exactly where the words are no command's, and then no line is used. Behind `run` and `drill`, want of
+    // memory may come in its place.
     ensures usage { (AreCommand (spelled words.now) → ⊥) →
-        (result ≡ 1) ⊎ (BeginWithRun (spelled words.now) × LacksMemory (D.desk desk.old) (D.desk desk.new) result) }
+        (result ≡ 1) ⊎ (TakeOptions (spelled words.now) × LacksMemory (D.desk desk.old) (D.desk desk.new) result) }
     ensures usage_only { AreCommand (spelled words.now) → result ≢ 1 }
     ensures usage_text { result ≡ 1 → TextOut (D.desk desk.old) (D.desk desk.new) (codes "usage\n") }
     ensures unused { (AreCommand (spelled words.now) → ⊥) → AllStay (T.lines trunk.old) (T.lines trunk.new) }
@@ -168,6 +189,12 @@ pub fn farm_top<R: Threads + Wait + Sync, T: Trunk, D: Desk, G: Gate + Sync>(
         CarriesFrames (T.lines trunk.old) (T.lines trunk.new) (D.desk desk.old) (D.desk desk.new) c result }
     ensures run { (s : Settings) → AsksForRun (spelled words.now) s →
         CarriesRun s (T.lines trunk.old) (T.lines trunk.new) (D.desk desk.old) (D.desk desk.new) result }
+
+    // A drill uses no line of the trunk. Its text is a function of the seed, the calls and the periods. It never answers that a
+    // line failed.
+    ensures drill { (seed calls : ℕ) (s : Settings) → AsksForDrill (spelled words.now) seed calls s →
+        DrillEnds seed calls s.periods (T.lines trunk.old) (T.lines trunk.new) (D.desk desk.old) (D.desk desk.new) result }
+    ensures drill_never_fails { (seed calls : ℕ) (s : Settings) → AsksForDrill (spelled words.now) seed calls s → result ≢ 6 }
 
     // Why each of its statuses comes.
     ensures causes { (t : Tool) (c : ℕ) → AsksFor (spelled words.now) t c →
@@ -223,6 +250,13 @@ pub fn farm_top<R: Threads + Wait + Sync, T: Trunk, D: Desk, G: Gate + Sync>(
         CleanRun t c (T.lines trunk.old) (T.lines trunk.new) (D.desk desk.old) (D.desk desk.new) result }
     ensures frames_clean { (c : ℕ) → AsksForFrames (spelled words.now) c →
         CleanFrames c (T.lines trunk.old c Up) (T.lines trunk.new c Up) (D.desk desk.old) (D.desk desk.new) result }
+
+    // The commands on time slots: what they do whatever fails, why each of their statuses comes, and what the lines and the
+    // desk have gained where nothing fails.
+    ensures split { (c : ℕ) → AsksForSplit (spelled words.now) c →
+        SplitEnds (T.lines trunk.old) (T.lines trunk.new) (D.desk desk.old) (D.desk desk.new) c result }
+    ensures merge { (c : ℕ) → AsksForMerge (spelled words.now) c →
+        MergeEnds (T.lines trunk.old) (T.lines trunk.new) (D.desk desk.old) (D.desk desk.new) c result }
 {
     // A law: lines spell one list of orders at most, and then have no bad one.
     one_answer();

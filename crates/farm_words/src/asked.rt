@@ -1,4 +1,5 @@
-// What words ask for, and why they aren't taken.
+//! What words ask for, and why they aren't taken.
+
 use std::alloc::AllocError;
 use thiserror::Error;
 
@@ -20,6 +21,12 @@ pub struct Settings {
 pub enum Asked {
     /// A run of all calls that orders open.
     Run(Settings),
+    /// A run of so many calls, 1 to 256, over lines in memory that are drawn from a seed, for at most 1,000 periods.
+    Drill {
+        seed: u32,
+        calls: u32,
+        settings: Settings,
+    },
     /// The good speech frames of a call's uplink, bits unchanged, on its downlink.
     Relay(u32),
     /// The listing of the frames of a call's uplink.
@@ -28,6 +35,10 @@ pub enum Asked {
     Encode(u32),
     /// The good speech frames of a call's uplink, decoded, on its Out line.
     Decode(u32),
+    /// The time slot on a call's Pcm line, cut into four channels for this call's Down line and the next three's: 1 to 4,093.
+    Split(u32),
+    /// The channels on a call's Up line and the next three's, put together to a time slot: 1 to 4,093.
+    Merge(u32),
 }
 
 /// Why words aren't taken.

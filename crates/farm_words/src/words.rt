@@ -1,20 +1,24 @@
-// All words.
-ghost use Rattle.std.specs.Prelude.{◌≡◌, ◌∷◌, ℕ, List, IfOk, IfSome, IsNone, IsErrOf, map, string_bytes, codes};
+//! All words.
+
+ghost use Rattle.std.specs.Prelude.{◌≡◌, ◌⊎◌, ◌∷◌, ℕ, List, IfOk, IfSome, IsNone, IsErrOf, map, string_bytes, codes};
 ghost use Rattle.farm_words.specs.declared.asked.Asked.{Asked as OneAsked};
 ghost use Rattle.farm_words.specs.Asking.{Asks};
+ghost use Rattle.farm_words.specs.Options.{BeginWith};
 
+use crate::drill::read_drill;
 use crate::run::read_run;
+use crate::slots::read_slot;
 use crate::tools::read_tool;
 use crate::{Asked, WordsFault};
 use std::alloc::Global;
 
-// The words behind `run`, if that is the first.
-fn options_of_run(words: &[String]) -> Option<&[String]>
-    ensures some { IfSome result (λ options. map (λ w. string_bytes w) words.now ≡ codes "run" ∷ map (λ w. string_bytes w) options.now) }
-    ensures none { IsNone result → (options : List (List ℕ)) → map (λ w. string_bytes w) words.now ≡ codes "run" ∷ options → ⊥ }
+// The words behind this one, if it is the first.
+fn options_of<'a>(words: &'a [String], command: &str) -> Option<&'a [String]>
+    ensures some { IfSome result (λ options. map (λ w. string_bytes w) words.now ≡ command.now ∷ map (λ w. string_bytes w) options.now) }
+    ensures none { IsNone result → (options : List (List ℕ)) → map (λ w. string_bytes w) words.now ≡ command.now ∷ options → ⊥ }
 {
     match words {
-        [name, options @ ..] if name.as_str() == "run" => Some(options),
+        [name, options @ ..] if name.as_str() == command => Some(options),
         _ => None,
     }
 }
@@ -24,25 +28,40 @@ fn options_of_run(words: &[String]) -> Option<&[String]>
 /// | Words | What they ask for |
 /// |---|---|
 /// | `relay C`, `frames C`, `encode C`, `decode C` | a tool's work on call C, 1 to 1,024 |
+/// | `split C`, `merge C` | a time slot cut into channels, or put together of them, call C being 1 to 4,093 |
 /// | `run` and its options | a run |
+/// | `drill` and its options | a drill |
 ///
 /// Numbers are in decimal digits without leading zeros.
 ///
 /// The options of `run` are `--workers` (1 to 64, else 4), `--batch` (1 to 250, else 50), `--slice` (1 to 250, else 5)
 /// and `--periods` (1 to 4,294,967,295, else that), each at most once and in any order, with a value as the next word
-/// or behind `=` in the same one. A last word `--` is taken.
+/// or behind `=` in the same one. A last word `--` is taken. `drill` has these too, but for `--periods` (1 to 1,000, else
+/// 200), and `--seed` (0 to 4,294,967,295, else 1) and `--calls` (1 to 256, else 64).
 ///
-/// Other words are `Usage`. `Memory` may come in place of any answer of `run`.
+/// Other words are `Usage`. `Memory` may come in place of any answer of `run` and `drill`.
 pub fn read_words(alloc: Global, words: &[String]) -> Result<Asked, WordsFault>
     // What is answered is what the words ask for.
     ensures ok { IfOk result (λ asked. Asks (map (λ w. string_bytes w) words.now) asked) }
     // Usage comes only where they ask for nothing.
     ensures usage { IsErrOf result WordsFault.Usage → (asked : OneAsked) → Asks (map (λ w. string_bytes w) words.now) asked → ⊥ }
-    // Memory comes only behind `run`.
-    ensures memory { IsErrOf result WordsFault.Memory → (options : List (List ℕ)) × (map (λ w. string_bytes w) words.now ≡ codes "run" ∷ options) }
+    // Memory comes only behind `run` and `drill`.
+    ensures memory { IsErrOf result WordsFault.Memory →
+        BeginWith (codes "run") (map (λ w. string_bytes w) words.now) ⊎ BeginWith (codes "drill") (map (λ w. string_bytes w) words.now) }
 {
-    if let Some(options) = options_of_run(words) {
+    if let Some(options) = options_of(words, "run") {
         return read_run(alloc, options).map(Asked::Run);
     }
-    read_tool(words).ok_or(WordsFault::Usage)
+    if let Some(options) = options_of(words, "drill") {
+        let drilled = read_drill(alloc, options)?;
+        return Ok(Asked::Drill {
+            seed: drilled.seed,
+            calls: drilled.calls,
+            settings: drilled.settings,
+        });
+    }
+    if let Some(asked) = read_tool(words) {
+        return Ok(asked);
+    }
+    read_slot(words).ok_or(WordsFault::Usage)
 }

@@ -1,7 +1,8 @@
 use Rattle.std.proofs.Common.{◌≡◌, ◌⊎◌, inl, inr, ℕ, refl, arith, rules}
 use Rattle.farm_top.specs.Top.{IsInRange}
-use Rattle.farm_top.proofs.Asking.{is_command, no_command, no_listing, no_tool, in_range, tool_carried, listing_carried, run_carried}
+use Rattle.farm_top.proofs.Asking.{drill_carried, is_command, no_command, merge_carried, no_listing, no_merge, no_split, no_tool, in_range, tool_carried, listing_carried, run_carried, split_carried}
 use Rattle.farm_top.proofs.Carrying.{causes, clean, listing_causes, listing_clean}
+use Rattle.farm_top.proofs.Drilling.{drill_ends, not_six}
 use Rattle.farm_top.proofs.FarmCausing.{run_causes}
 use Rattle.farm_run.proofs.Cutting.{cut_first}
 use Rattle.farm_top.proofs.FarmCleaning.{run_clean, run_complete, run_cut_short, run_ended, run_headline, run_leaves}
@@ -45,6 +46,12 @@ returns-in-Ok-clause-frames g c = listing_carried _ _ c.in-Ok.ensures.ok _ _ _ _
 
 pub returns-in-Ok-clause-run : goal.returns-in-Ok-clause-run
 returns-in-Ok-clause-run g c = λ s asks. inl (run_carried _ _ c.in-Ok.ensures.ok _ _ _ _ _ c.carry_out.ensures s asks)
+
+pub returns-in-Ok-clause-drill : goal.returns-in-Ok-clause-drill
+returns-in-Ok-clause-drill g c = λ seed calls s asks. drill_ends seed calls s.periods _ _ _ _ _ (drill_carried _ _ c.in-Ok.ensures.ok _ _ _ _ _ c.carry_out.ensures seed calls s asks)
+
+pub returns-in-Ok-clause-drill_never_fails : goal.returns-in-Ok-clause-drill_never_fails
+returns-in-Ok-clause-drill_never_fails g c = λ seed calls s asks. not_six _ (returns-in-Ok-clause-drill g c seed calls s asks).known
 
 pub returns-in-Ok-clause-causes : goal.returns-in-Ok-clause-causes
 returns-in-Ok-clause-causes g c = λ t n asks. causes _ _ _ _ n _ t (returns-in-Ok-clause-command g c t n asks)
@@ -92,7 +99,13 @@ pub returns-in-Err-Usage-clause-frames : goal.returns-in-Err-Usage-clause-frames
 returns-in-Err-Usage-clause-frames g c = λ n asks. absurd (no_command _ (c.in-Err-Usage.ensures.usage (search rules)) (inr (inl (n, asks))))
 
 pub returns-in-Err-Usage-clause-run : goal.returns-in-Err-Usage-clause-run
-returns-in-Err-Usage-clause-run g c = λ s asks. absurd (no_command _ (c.in-Err-Usage.ensures.usage (search rules)) (inr (inr (s, asks))))
+returns-in-Err-Usage-clause-run g c = λ s asks. absurd (no_command _ (c.in-Err-Usage.ensures.usage (search rules)) (inr (inr (inl (s, asks)))))
+
+pub returns-in-Err-Usage-clause-drill : goal.returns-in-Err-Usage-clause-drill
+returns-in-Err-Usage-clause-drill g c = λ seed calls s asks. absurd (no_command _ (c.in-Err-Usage.ensures.usage (search rules)) (inr (inr (inr (inl (seed, calls, s, asks))))))
+
+pub returns-in-Err-Usage-clause-drill_never_fails : goal.returns-in-Err-Usage-clause-drill_never_fails
+returns-in-Err-Usage-clause-drill_never_fails g c = λ seed calls s asks. absurd (no_command _ (c.in-Err-Usage.ensures.usage (search rules)) (inr (inr (inr (inl (seed, calls, s, asks))))))
 
 pub returns-in-Err-Usage-clause-causes : goal.returns-in-Err-Usage-clause-causes
 returns-in-Err-Usage-clause-causes g c = λ t n asks. absurd (no_command _ (c.in-Err-Usage.ensures.usage (search rules)) (inl (t, n, asks)))
@@ -101,19 +114,19 @@ pub returns-in-Err-Usage-clause-frames_causes : goal.returns-in-Err-Usage-clause
 returns-in-Err-Usage-clause-frames_causes g c = λ n asks. absurd (no_command _ (c.in-Err-Usage.ensures.usage (search rules)) (inr (inl (n, asks))))
 
 pub returns-in-Err-Usage-clause-run_causes : goal.returns-in-Err-Usage-clause-run_causes
-returns-in-Err-Usage-clause-run_causes g c = λ s asks. absurd (no_command _ (c.in-Err-Usage.ensures.usage (search rules)) (inr (inr (s, asks))))
+returns-in-Err-Usage-clause-run_causes g c = λ s asks. absurd (no_command _ (c.in-Err-Usage.ensures.usage (search rules)) (inr (inr (inl (s, asks)))))
 
 pub returns-in-Err-Usage-clause-run_ended : goal.returns-in-Err-Usage-clause-run_ended
-returns-in-Err-Usage-clause-run_ended g c = λ s asks. absurd (no_command _ (c.in-Err-Usage.ensures.usage (search rules)) (inr (inr (s, asks))))
+returns-in-Err-Usage-clause-run_ended g c = λ s asks. absurd (no_command _ (c.in-Err-Usage.ensures.usage (search rules)) (inr (inr (inl (s, asks)))))
 
 pub returns-in-Err-Usage-clause-run_cut_short : goal.returns-in-Err-Usage-clause-run_cut_short
-returns-in-Err-Usage-clause-run_cut_short g c = λ s asks. absurd (no_command _ (c.in-Err-Usage.ensures.usage (search rules)) (inr (inr (s, asks))))
+returns-in-Err-Usage-clause-run_cut_short g c = λ s asks. absurd (no_command _ (c.in-Err-Usage.ensures.usage (search rules)) (inr (inr (inl (s, asks)))))
 
 pub returns-in-Err-Usage-clause-run_leaves : goal.returns-in-Err-Usage-clause-run_leaves
-returns-in-Err-Usage-clause-run_leaves g c = λ s asks. absurd (no_command _ (c.in-Err-Usage.ensures.usage (search rules)) (inr (inr (s, asks))))
+returns-in-Err-Usage-clause-run_leaves g c = λ s asks. absurd (no_command _ (c.in-Err-Usage.ensures.usage (search rules)) (inr (inr (inl (s, asks)))))
 
 pub returns-in-Err-Usage-clause-headline : goal.returns-in-Err-Usage-clause-headline
-returns-in-Err-Usage-clause-headline g c = λ s asks. absurd (no_command _ (c.in-Err-Usage.ensures.usage (search rules)) (inr (inr (s, asks))))
+returns-in-Err-Usage-clause-headline g c = λ s asks. absurd (no_command _ (c.in-Err-Usage.ensures.usage (search rules)) (inr (inr (inl (s, asks)))))
 
 pub returns-in-Err-Usage-clause-clean : goal.returns-in-Err-Usage-clause-clean
 returns-in-Err-Usage-clause-clean g c = λ t n asks. absurd (no_command _ (c.in-Err-Usage.ensures.usage (search rules)) (inl (t, n, asks)))
@@ -122,12 +135,12 @@ pub returns-in-Err-Usage-clause-frames_clean : goal.returns-in-Err-Usage-clause-
 returns-in-Err-Usage-clause-frames_clean g c = λ n asks. absurd (no_command _ (c.in-Err-Usage.ensures.usage (search rules)) (inr (inl (n, asks))))
 
 pub returns-in-Err-Usage-clause-run_complete : goal.returns-in-Err-Usage-clause-run_complete
-returns-in-Err-Usage-clause-run_complete g c = λ s asks. absurd (no_command _ (c.in-Err-Usage.ensures.usage (search rules)) (inr (inr (s, asks))))
+returns-in-Err-Usage-clause-run_complete g c = λ s asks. absurd (no_command _ (c.in-Err-Usage.ensures.usage (search rules)) (inr (inr (inl (s, asks)))))
 
 pub returns-in-Err-Usage-clause-run_clean : goal.returns-in-Err-Usage-clause-run_clean
-returns-in-Err-Usage-clause-run_clean g c = λ s asks. absurd (no_command _ (c.in-Err-Usage.ensures.usage (search rules)) (inr (inr (s, asks))))
+returns-in-Err-Usage-clause-run_clean g c = λ s asks. absurd (no_command _ (c.in-Err-Usage.ensures.usage (search rules)) (inr (inr (inl (s, asks)))))
 
--- there was no memory for the words, which begin with `run`
+-- there was no memory for the words, which begin with `run` or `drill`
 pub returns-in-Err-Memory-clause-usage : goal.returns-in-Err-Memory-clause-usage
 returns-in-Err-Memory-clause-usage g c = λ _. inr (c.in-Err-Memory.ensures.memory (search rules), c.no_memory.ensures)
 
@@ -145,6 +158,12 @@ returns-in-Err-Memory-clause-frames g c = λ n asks. absurd (no_listing _ n (c.i
 
 pub returns-in-Err-Memory-clause-run : goal.returns-in-Err-Memory-clause-run
 returns-in-Err-Memory-clause-run g c = λ s asks. inr ((λ n side. refl), c.no_memory.ensures)
+
+pub returns-in-Err-Memory-clause-drill : goal.returns-in-Err-Memory-clause-drill
+returns-in-Err-Memory-clause-drill g c = λ seed calls s asks. drill_ends seed calls s.periods _ _ _ _ _ ((λ n side. refl), inr c.no_memory.ensures)
+
+pub returns-in-Err-Memory-clause-drill_never_fails : goal.returns-in-Err-Memory-clause-drill_never_fails
+returns-in-Err-Memory-clause-drill_never_fails g c = λ seed calls s asks. not_six _ (returns-in-Err-Memory-clause-drill g c seed calls s asks).known
 
 pub returns-in-Err-Memory-clause-causes : goal.returns-in-Err-Memory-clause-causes
 returns-in-Err-Memory-clause-causes g c = λ t n asks. absurd (no_tool _ t n (c.in-Err-Memory.ensures.memory (search rules)) asks)
@@ -178,3 +197,21 @@ returns-in-Err-Memory-clause-clean g c = λ t n asks. absurd (no_tool _ t n (c.i
 
 pub returns-in-Err-Memory-clause-frames_clean : goal.returns-in-Err-Memory-clause-frames_clean
 returns-in-Err-Memory-clause-frames_clean g c = λ n asks. absurd (no_listing _ n (c.in-Err-Memory.ensures.memory (search rules)) asks)
+
+pub returns-in-Ok-clause-split : goal.returns-in-Ok-clause-split
+returns-in-Ok-clause-split g c = split_carried _ _ c.in-Ok.ensures.ok _ _ _ _ _ c.carry_out.ensures
+
+pub returns-in-Err-Usage-clause-split : goal.returns-in-Err-Usage-clause-split
+returns-in-Err-Usage-clause-split g c = λ n asks. absurd (no_command _ (c.in-Err-Usage.ensures.usage (search rules)) (inr (inr (inr (inr (inl (n, asks)))))))
+
+pub returns-in-Err-Memory-clause-split : goal.returns-in-Err-Memory-clause-split
+returns-in-Err-Memory-clause-split g c = λ n asks. absurd (no_split _ n (c.in-Err-Memory.ensures.memory (search rules)) asks)
+
+pub returns-in-Ok-clause-merge : goal.returns-in-Ok-clause-merge
+returns-in-Ok-clause-merge g c = merge_carried _ _ c.in-Ok.ensures.ok _ _ _ _ _ c.carry_out.ensures
+
+pub returns-in-Err-Usage-clause-merge : goal.returns-in-Err-Usage-clause-merge
+returns-in-Err-Usage-clause-merge g c = λ n asks. absurd (no_command _ (c.in-Err-Usage.ensures.usage (search rules)) (inr (inr (inr (inr (inr (n, asks)))))))
+
+pub returns-in-Err-Memory-clause-merge : goal.returns-in-Err-Memory-clause-merge
+returns-in-Err-Memory-clause-merge g c = λ n asks. absurd (no_merge _ n (c.in-Err-Memory.ensures.memory (search rules)) asks)

@@ -1,0 +1,6 @@
+-- Lemmas on drills.
+mod Adding
+mod Opened
+mod Quiet
+mod Rooms
+mod Telling

@@ -1,0 +1,46 @@
+-- A drill as a run, and its text (this project's profile).
+use Rattle.std.specs.Prelude.{◌≡◌, ◌≤◌, ℕ, ◌^◌, ◌%◌, false, List, [], ◌∷◌, ◌++◌, codes, decimal}
+use Rattle.std.specs.List.{sum, flat_map}
+use Rattle.trau_io.specs.declared.line.Side.{Side}
+use Rattle.trau_io.specs.Lines.{LineState}
+use Rattle.trau_io.specs.Memory.{state_of}
+use Rattle.trau_orders.specs.Lists.{AreOrders}
+use Rattle.farm_drill.specs.Lines.{up_line, pcm_line, line_of_call}
+use Rattle.farm_drill.specs.Orders.{drilled_orders}
+use Rattle.farm_output.specs.Run.{Run}
+use Rattle.farm_output.specs.Lines.{out_of_call, down_of_call}
+use Rattle.farm_output.specs.Facts.{report_of, calls_in}
+use Rattle.farm_report.specs.Lines.{line_of, report_text}
+use Rattle.farm_run.specs.Runs.{Leaves, none_fails}
+
+-- the run of a drill: its orders over its lines, of which none fails, to the last of its periods
+abbrev pub drilled_run : ℕ → ℕ → ℕ → Run
+drilled_run seed calls periods = record {
+  lines = λ c. record { up = up_line seed c periods; pcm = pcm_line seed c periods; up_failed = false; pcm_failed = false };
+  orders = drilled_orders calls periods;
+  periods = periods;
+}
+
+-- the sum of a line's octets, modulo 2^32
+abbrev pub sum_of : List ℕ → ℕ
+sum_of octets = sum octets % 2 ^ 32
+
+-- sum C out X down Y
+abbrev pub sum_line : ℕ → List ℕ → List ℕ → List ℕ
+sum_line call out down = line_of (codes "sum" ∷ decimal call ∷ codes "out" ∷ decimal (sum_of out) ∷ codes "down" ∷ decimal (sum_of down) ∷ [])
+
+-- The text of a run of which no line fails, with its sums: the report, and a line for each call, in rising order of their
+-- numbers, of what the run gives its outgoing lines.
+unfoldable pub text_with_sums : Run → List ℕ
+text_with_sums r = report_text (report_of r []) ++ flat_map (λ c. sum_line c (out_of_call r c) (down_of_call r c)) (calls_in r)
+
+-- A drill leaves on lines of its own what its run gives them, whatever its workers did, and none of them failed; and this is
+-- its text.
+pub record IsDrilled (seed calls periods : ℕ) (text : List ℕ) : Type 0 where
+  pub before : ℕ → Side → LineState
+  pub now : ℕ → Side → LineState
+  pub lines : (c : ℕ) (s : Side) → 1 ≤ c → c ≤ calls → before c s ≡ state_of (line_of_call seed c periods s)
+  pub ordered : AreOrders (drilled_orders calls periods)
+  pub leaves : Leaves (drilled_run seed calls periods) none_fails before now
+  pub calm : (c : ℕ) (s : Side) → 1 ≤ c → c ≤ calls → (now c s).faults ≡ 0
+  pub spelled : text ≡ text_with_sums (drilled_run seed calls periods)

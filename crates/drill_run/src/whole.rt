@@ -1,0 +1,62 @@
+//! A whole drill.
+
+ghost use Rattle.std.specs.Prelude.{◌≡◌, ◌≤◌, ℕ, IfOk, string_bytes};
+ghost use Rattle.trau_orders.specs.Text.{text_lines, AreLines, IsFirstBad, IsWithin};
+ghost use Rattle.farm_run.specs.Pace.{IsPace};
+ghost use Rattle.drill_run.specs.Drilled.{IsDrilled};
+
+use crate::sums::put_sums;
+use crate::trunk::DrillTrunk;
+use farm_drill::drill;
+use farm_report::write_report;
+use farm_run::{Pace, run};
+use pool_run::Gate;
+use std::alloc::{AllocError, Global};
+use std::sync::Wait;
+use std::thread::Threads;
+use trau_orders::{OrderFault, Orders, one_answer};
+
+// The orders of a text that has no bad line.
+fn orders_of(alloc: Global, text: &[u8]) -> Result<Orders, AllocError>
+    requires within { IsWithin text.now }
+    requires good { (n : ℕ) → IsFirstBad (text_lines text.now) n → ⊥ }
+    ensures { IfOk result (λ orders. AreLines (text_lines text.now) orders) }
+{
+    match Orders::parse(alloc, text) {
+        Ok(orders) => Ok(orders),
+        Err(OrderFault::Memory) => Err(AllocError),
+        Err(OrderFault::TooLong) => unreachable!(),
+        Err(OrderFault::TooMany) => unreachable!(),
+        Err(OrderFault::Line(_)) => unreachable!(),
+    }
+}
+
+/// A drill of so many calls, 1 to 256, whose lines are drawn from a seed: they are run over lines in memory at this pace, for
+/// its number of periods, at most 1,000. The answer is the report and, for each call, the sums of the octets of its outgoing
+/// lines. An error says that there was no memory.
+///
+/// The run waits for its workers: that it returns isn't proved.
+pub fn run_drill<R: Threads + Wait + Sync, G: Gate + Sync>(
+    rt: &R,
+    alloc: Global,
+    seed: u32,
+    calls: u32,
+    pace: &Pace,
+    gate: &G,
+) -> Result<String, AllocError>
+    requires calls { calls ≤ 256 }
+    requires pace { IsPace pace.now }
+    requires periods { pace.now.periods ≤ 1000 }
+    ensures { IfOk result (λ text. IsDrilled seed calls pace.now.periods (string_bytes text)) }
+{
+    // A law: lines spell one list of orders at most, and then have no bad one.
+    one_answer();
+    let (lines, text) = drill(alloc, seed, calls, pace.periods)?;
+    let orders = orders_of(alloc, &text)?;
+    let mut trunk = DrillTrunk::new(lines, calls, pace.periods);
+    let report = run(rt, alloc, pace, orders, &mut trunk, gate)?;
+    trunk.has_rooms();
+    let mut text = write_report(alloc, &report)?;
+    put_sums(&mut text, &trunk, &report.calls)?;
+    Ok(text)
+}

@@ -1,0 +1,51 @@
+-- The command `drill`: a run over lines of its own, its report and its sums (this project's profile).
+use Rattle.std.specs.Prelude.{◌≡◌, ◌⊎◌, ◌<◌, ℕ, List, codes, Ok, Err}
+use Rattle.std.specs.Io.KnownBytes.{Appends}
+use Rattle.trau_io.specs.declared.line.Side.{Side}
+use Rattle.trau_io.specs.Lines.{LineState, Rose}
+use Rattle.trau_io.specs.Desks.{DeskState}
+use Rattle.trau_io.specs.Transfer.{Tells}
+use Rattle.drill_run.specs.Drilled.{IsDrilled, drilled_run, text_with_sums}
+use Rattle.farm_run.specs.Runs.{none_fails}
+use Rattle.farm_tools.specs.Causes.{IsCalm}
+use Rattle.farm_top.specs.Farm.{AllStay, LacksMemory, TextOut}
+use Rattle.farm_top.specs.FarmEnded.{GainsFront}
+use Rattle.farm_top.specs.Headline.{Headline}
+
+-- A drill whose text is this one: its own lines hold what its run gives them, none of them failed, and the run has the headline.
+pub record HasDrilled (seed calls periods : ℕ) (text : List ℕ) : Type 0 where
+  pub drilled : IsDrilled seed calls periods text
+  pub headline : Headline (drilled_run seed calls periods) none_fails drilled.before drilled.now
+
+-- a text went out, or a proper front of it before the desk failed
+abbrev pub TellsWhole : List ℕ → DeskState → DeskState → ℕ → Type 0
+TellsWhole text desk desk' status = ((status ≡ 0) × Tells desk desk' (Ok tt) text) ⊎ ((status ≡ 4) × Tells desk desk' (Err (record {})) text)
+
+-- a drill was carried to its end, and its text told
+pub record TellsDrill (seed calls periods : ℕ) (desk desk' : DeskState) (status : ℕ) : Type 0 where
+  pub text : List ℕ
+  pub has : HasDrilled seed calls periods text
+  pub tells : TellsWhole text desk desk' status
+
+-- a whole command `drill`, whatever the desk does, or there was no memory
+abbrev pub CarriesDrill : ℕ → ℕ → ℕ → DeskState → DeskState → ℕ → Type 0
+CarriesDrill seed calls periods desk desk' status = TellsDrill seed calls periods desk desk' status ⊎ LacksMemory desk desk' status
+
+-- What the command leaves, and why its statuses come. Which text it is hangs on the seed, the calls and the periods alone.
+pub record DrillEnds (seed calls periods : ℕ) (before now : ℕ → Side → LineState) (desk desk' : DeskState) (status : ℕ) : Type 0 where
+  -- it never answers that a line failed, as none of its own does
+  pub known : (status ≡ 0) ⊎ (status ≡ 4) ⊎ (status ≡ 5)
+  -- no line of the trunk is used, and nothing is read of the desk
+  pub unused : AllStay before now
+  pub unread : desk'.to_come ≡ desk.to_come
+  pub read_faults : desk'.read_faults ≡ desk.read_faults
+  -- the desk gained exactly the report and the sums of the drill's run; with status 4 a proper front of these
+  pub text : status ≡ 0 → Appends desk.written desk'.written (text_with_sums (drilled_run seed calls periods))
+  pub front : status ≡ 4 → GainsFront desk.written desk'.written (text_with_sums (drilled_run seed calls periods))
+  pub no_memory : status ≡ 5 → TextOut desk desk' (codes "no memory\n")
+  -- with both the run was carried to its end over lines of the drill's own
+  pub ran : (status ≡ 0) ⊎ (status ≡ 4) → HasDrilled seed calls periods (text_with_sums (drilled_run seed calls periods))
+  -- 4 comes exactly where the desk's writing count rose; it yields to 5, want of memory
+  pub desk_failed : status ≡ 4 → Rose desk.write_faults desk'.write_faults
+  pub desk_rose : desk.write_faults < desk'.write_faults → (status ≡ 4) ⊎ (status ≡ 5)
+  pub complete : IsCalm desk.write_faults desk'.write_faults → (status ≡ 0) ⊎ (status ≡ 5)

@@ -1,0 +1,55 @@
+//! The command `drill`: a run over lines of its own, and its report and sums to the desk.
+
+ghost use Rattle.std.specs.Prelude.{◌≤◌};
+ghost use Rattle.farm_run.specs.Pace.{IsPace};
+ghost use Rattle.farm_top.specs.Drill.{CarriesDrill, TellsWhole};
+ghost use Rattle.farm_top.specs.Farm.{pace_of};
+
+use crate::farm::{lines_have_the_headline, no_memory};
+use crate::status::{DESK_WRITE_FAULT, DONE};
+use drill_run::run_drill;
+use farm_run::Pace;
+use farm_words::Settings;
+use pool_run::Gate;
+use std::alloc::Global;
+use std::sync::Wait;
+use std::thread::Threads;
+use trau_io::{Desk, tell};
+
+// Tells the text of a command that was carried to its end.
+fn tell_whole<D: Desk>(desk: &mut D, text: &[u8]) -> u8
+    ensures { TellsWhole text.now (D.desk desk.old) (D.desk desk.new) result }
+{
+    match tell(desk, text) {
+        Ok(()) => DONE,
+        Err(_) => DESK_WRITE_FAULT,
+    }
+}
+
+/// Makes the lines and orders of a drill, runs these over those, and tells the report and the sums.
+pub(crate) fn drill_farm<R: Threads + Wait + Sync, D: Desk, G: Gate + Sync>(
+    rt: &R,
+    alloc: Global,
+    seed: u32,
+    calls: u32,
+    settings: Settings,
+    desk: &mut D,
+    gate: &G,
+) -> u8
+    requires calls { calls ≤ 256 }
+    requires periods { settings.periods ≤ 1000 }
+    requires pace { IsPace (pace_of settings) }
+    ensures { CarriesDrill seed calls settings.periods (D.desk desk.old) (D.desk desk.new) result }
+{
+    let pace = Pace {
+        workers: settings.workers,
+        batch: settings.batch,
+        slice: settings.slice,
+        periods: settings.periods,
+    };
+    lines_have_the_headline();
+    match run_drill(rt, alloc, seed, calls, &pace, gate) {
+        Ok(text) => tell_whole(desk, text.as_bytes()),
+        Err(_) => no_memory(desk),
+    }
+}
