@@ -1,5 +1,5 @@
 -- Worked cases of the downlink, by computing.
-use Rattle.std.proofs.Common.{◌≡◌, refl, ℕ, ◌+◌, Bool, true, false, Option, Some, None, List, [], ◌∷◌, ◌++◌, map, take, replicate, reverse}
+use Rattle.std.proofs.Common.{◌≡◌, refl, ℕ, ◌+◌, Bool, true, false, Option, Some, None, List, [], ◌∷◌, ◌++◌, map, take, drop, replicate, reverse, pos, negsuc}
 use Rattle.time_align.specs.Shift.{shift_of}
 use Rattle.down_framer.specs.Made.{Period, MadeFrame, made_frames, line_of}
 use Rattle.down_framer.specs.ByNumber.{Bridge, numbered, bridges_in, fields_in, numbered_of}
@@ -35,6 +35,20 @@ marked (f ∷ fs) = marks f.start
 line : line_of marked (made_frames shifted) ≡ replicate 320 1 ++ marks 0 ++ replicate 312 1 ++ take 316 (marks 316) ++ marks 474 ++ marks 634
 unfolding shift_of marked
 line = refl
+
+-- ---- field 63 in each of 100 periods: each frame takes 158 octets, but frame 80, the second that period 79 makes
+
+abbrev early : List (Period (Unit {0}))
+early = map alone (replicate 100 63)
+
+shifts_early : map (λ f. f.shift) (reverse (made_frames early)) ≡ replicate 80 (negsuc 1) ++ pos 0 ∷ replicate 20 (negsuc 1)
+unfolding shift_of
+shifts_early = refl
+
+-- two frames of one period, and where the next one starts
+early_80 : map {B = ℕ × ℕ} (λ f. (f.period, f.start)) (take 3 (drop 79 (reverse (made_frames early)))) ≡ (79, 12482) ∷ (79, 12640) ∷ (80, 12800) ∷ []
+unfolding shift_of
+early_80 = refl
 
 -- ---- a bridge from 4 to 10, and field 39 in period 3
 
