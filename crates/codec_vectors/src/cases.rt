@@ -1,7 +1,7 @@
-//! The cases: what goes into the codec and the search, and the answers to it.
+//! The cases: what goes into the codec, the search and the base station's end, and the answers to it.
 
 use crate::comparison::{Answers, Comparison};
-use crate::{alaw, decoder, encoder, farm, search};
+use crate::{alaw, decoder, encoder, farm, search, station};
 use std::{fs, io};
 
 /// What is compared with the answers, with the files that go in.
@@ -11,6 +11,10 @@ enum Kind {
     Compress,
     /// The samples of all octets.
     Expand,
+    /// The mu-law of all samples.
+    CompressMulaw,
+    /// The samples of all octets of mu-law.
+    ExpandMulaw,
     /// The A-law of the samples of an aligned uplink.
     Codes(&'static str),
     /// These samples themselves.
@@ -25,6 +29,10 @@ enum Kind {
     Offsets,
     /// And on lines with several.
     Lines,
+    /// The frames that a base station finds on a downlink.
+    Found(&'static str),
+    /// What it sends up, where it wants frames at a place.
+    Asked(&'static str, u16),
 }
 
 /// A case: what its line begins with, and the file of the answers.
@@ -34,7 +42,7 @@ pub(crate) struct Case {
     answers: &'static str,
 }
 
-pub(crate) static CASES: [Case; 11] = [
+pub(crate) static CASES: [Case; 17] = [
     Case {
         name: "alaw compress",
         kind: Kind::Compress,
@@ -44,6 +52,16 @@ pub(crate) static CASES: [Case; 11] = [
         name: "alaw expand",
         kind: Kind::Expand,
         answers: "alaw_expand.txt",
+    },
+    Case {
+        name: "mulaw compress",
+        kind: Kind::CompressMulaw,
+        answers: "mulaw_compress.bin",
+    },
+    Case {
+        name: "mulaw expand",
+        kind: Kind::ExpandMulaw,
+        answers: "mulaw_expand.txt",
     },
     Case {
         name: "decode speech-en-m3.up",
@@ -96,12 +114,33 @@ pub(crate) static CASES: [Case; 11] = [
         kind: Kind::Lines,
         answers: "lines.txt",
     },
+    Case {
+        name: "find follow-4.down",
+        kind: Kind::Found("follow-4.down"),
+        answers: "follow-4.txt",
+    },
+    Case {
+        name: "ask follow-4.down",
+        kind: Kind::Asked("follow-4.down", 4),
+        answers: "follow-4.up",
+    },
+    Case {
+        name: "find follow-100.down",
+        kind: Kind::Found("follow-100.down"),
+        answers: "follow-100.txt",
+    },
+    Case {
+        name: "ask follow-100.down",
+        kind: Kind::Asked("follow-100.down", 100),
+        answers: "follow-100.up",
+    },
 ];
 
 /// The answers of a file: octets, or a text.
 fn answers_of(kind: Kind, octets: &[u8]) -> Answers<'_> {
     match kind {
-        Kind::Compress | Kind::Silence | Kind::Codes(_) => Answers::Octets(octets.iter()),
+        Kind::Compress | Kind::CompressMulaw | Kind::Silence | Kind::Codes(_) | Kind::Asked(..) =>
+            Answers::Octets(octets.iter()),
         _ => Answers::of_text(octets),
     }
 }
@@ -111,6 +150,8 @@ fn compare(rt: &HostRuntime, comparison: &mut Comparison, kind: Kind) -> io::Res
     match kind {
         Kind::Compress => alaw::compress_all(comparison),
         Kind::Expand => alaw::expand_all(comparison),
+        Kind::CompressMulaw => alaw::compress_all_mulaw(comparison),
+        Kind::ExpandMulaw => alaw::expand_all_mulaw(comparison),
         Kind::Codes(up) | Kind::Samples(up) => {
             let up = fs::read(rt, up)?;
             decoder::decode_line(comparison, up.as_slice());
@@ -128,6 +169,14 @@ fn compare(rt: &HostRuntime, comparison: &mut Comparison, kind: Kind) -> io::Res
         }
         Kind::Offsets => search::search_offsets(comparison),
         Kind::Lines => search::search_lines(comparison),
+        Kind::Found(line) => {
+            let line = fs::read(rt, line)?;
+            station::find_all(comparison, line.as_slice());
+        }
+        Kind::Asked(line, want) => {
+            let line = fs::read(rt, line)?;
+            station::answer_all(comparison, line.as_slice(), want);
+        }
     }
     Ok(())
 }

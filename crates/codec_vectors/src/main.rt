@@ -1,4 +1,5 @@
-//! Runs recorded vectors through the codec and the search for frames, and prints a line for each case.
+//! Runs recorded vectors through the codec, the search for frames and the base station's end, and prints a line for each
+//! case.
 //!
 //! The answers lie in `data/`, and README.md tells whose they are.
 //! A case that agrees prints how many values were compared; one that doesn't prints the first difference.
@@ -12,6 +13,7 @@ mod decoder;
 mod encoder;
 mod farm;
 mod search;
+mod station;
 
 use std::io;
 

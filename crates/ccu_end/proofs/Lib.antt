@@ -1,0 +1,13 @@
+pub mod Reading
+pub mod Searching
+pub mod Lines
+pub mod Shifts
+pub mod Shifted
+mod Once
+mod Rows
+mod Alike
+mod Longer
+mod Waits
+mod Periods
+mod Said
+mod Every

@@ -1,0 +1,24 @@
+use Rattle.std.proofs.Common.{IfSome, sym, subst, rules}
+use Rattle.ccu_end.specs.Found.{HaveBits}
+use Rattle.ccu_end.specs.Heard.{frames_of}
+use Rattle.ccu_end.proofs.Waits.{last-bits}
+use Rattle.ccu_end.proofs.Periods.{stands-next}
+use Rattle.ccu_end.proofs.station.Ccu.feed.Goals as goal
+
+pub returns-clause-history : goal.returns-clause-history
+returns-clause-history c =
+    stands-next c.args.self.now _ c.args.octets.now _ c.told-octets
+    (record {
+      frames = search rules;
+      low = search rules;
+      counted = search rules;
+      last = search rules;
+      want = search rules;
+      waiting = search rules;
+      answer = search rules;
+    })
+
+pub answer_with-self-inside-requires-clause-bits : goal.answer_with-self-inside-requires-clause-bits
+answer_with-self-inside-requires-clause-bits c =
+    subst (λ x. IfSome x HaveBits) (sym c.last_of-last.ensures)
+    (last-bits (frames_of c.take_period-heard.result) c.take_period-heard.ensures.are_bits)

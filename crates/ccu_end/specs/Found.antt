@@ -1,0 +1,92 @@
+-- The frames that a base station finds on a downlink (GSM 08.60; how it searches is this project's profile), and those
+-- that were made. Lists of found frames have the oldest first, lists of periods and of made frames the newest.
+use Rattle.std.specs.Prelude.{◌≡◌, ◌≤◌, ◌<◌, ℕ, ◌+◌, ◌*◌, ℤ, Bool, true, false, ◌&&◌, nat_le, Some, IfSome, List, [], ◌∷◌, ◌++◌, length, replicate, filter}
+use Rattle.std.specs.List.{flat_map}
+use Rattle.time_align.specs.Shift.{IsShift}
+use Rattle.trau_frame.specs.declared.frames.DownFrame.{DownFrame}
+use Rattle.trau_frame.specs.DownFrame.{HasBits, down_bits}
+use Rattle.trau_frame.specs.Match.{bit_in, is_match, frame_at}
+use Rattle.down_framer.specs.Made.{MadeFrame, octets_of, frame_on_line, line_of}
+use Rattle.ccu_end.specs.declared.finds.Found.{Found as Place}
+use Rattle.ccu_end.specs.Read.{down_frame_in, HasLength}
+
+-- a found frame: its place, and what it says
+abbrev pub FoundFrame : Type 0
+FoundFrame = Place
+
+-- what it carries are bits
+abbrev pub HaveBits : FoundFrame → Type 0
+HaveBits f = IfSome f.frame HasBits
+
+-- the 35 sync bits stand at p, and the first 316 bits from p on are there
+abbrev pub is_found_at : List ℕ → ℕ → Bool
+is_found_at bits p = nat_le (p + 316) (length bits) && is_match (bit_in bits) p
+
+-- No place from `low` on and before `high` has a frame.
+abbrev pub NoneFound : List ℕ → ℕ → ℕ → Type 0
+NoneFound bits low high = (q : ℕ) → low ≤ q → q < high → is_found_at bits q ≡ false
+
+-- These are all frames found from `low` on: each at the least place, and the next one is looked for 316 bits on.
+abbrev pub FoundFrom : List ℕ → ℕ → List FoundFrame → Type 0
+FoundFrom bits low [] = (q : ℕ) → low ≤ q → is_found_at bits q ≡ false
+FoundFrom bits low (f ∷ fs) =
+    (low ≤ f.place) × NoneFound bits low f.place × (is_found_at bits f.place ≡ true) ×
+    (f.frame ≡ down_frame_in (frame_at (bit_in bits) f.place)) × FoundFrom bits (f.place + 316) fs
+
+-- these are all frames found in a list of bits
+abbrev pub Found : List ℕ → List FoundFrame → Type 0
+Found bits fs = FoundFrom bits 0 fs
+
+-- ---- those that were made, where `frame` is the newest of some frames
+
+-- the downlink as far as it is made
+abbrev pub downlink : {A : Type 0} → (List (MadeFrame A) → DownFrame) → List (MadeFrame A) → List ℕ
+downlink frame fs = line_of (λ gs. down_bits (frame gs)) fs
+
+-- a frame that starts at an octet of the Pcm line stands two bits for each octet behind the first 320 bits
+abbrev pub place_of : {A : Type 0} → MadeFrame A → ℕ
+place_of f = 320 + 2 * f.start
+
+-- each of them has 260 data bits or is idle
+abbrev pub HaveLength : {A : Type 0} → (List (MadeFrame A) → DownFrame) → List (MadeFrame A) → Type 0
+HaveLength frame [] = Unit {0}
+HaveLength frame (f ∷ fs) = HasLength (frame (f ∷ fs)) × HaveLength frame fs
+
+-- the frames, each at its place
+abbrev pub as_made : {A : Type 0} → (List (MadeFrame A) → DownFrame) → List (MadeFrame A) → List FoundFrame
+as_made frame [] = []
+as_made frame (f ∷ fs) = as_made frame fs ++ (record { place = place_of f; frame = Some (frame (f ∷ fs)) }) ∷ []
+
+-- those of which the first 316 bits are among the first n of the line
+abbrev pub all_within : ℕ → List FoundFrame → List FoundFrame
+all_within n fs = filter (λ f. nat_le (f.place + 316) n) fs
+
+-- ---- frames and their shifts, the oldest first, whoever made them
+
+abbrev pub Shifted : Type 0
+Shifted = ℤ × DownFrame
+
+-- 320 ones, and then each frame with what its shift adds or leaves out
+abbrev pub shifted_line : List Shifted → List ℕ
+shifted_line xs = replicate 320 1 ++ flat_map (λ x. frame_on_line x.0 (down_bits x.1)) xs
+
+-- each frame has 260 data bits or is idle, and each shift is one that a framer takes
+abbrev pub AreShifted : List Shifted → Type 0
+AreShifted [] = Unit {0}
+AreShifted (x ∷ xs) = IsShift x.0 × HasLength x.1 × AreShifted xs
+
+-- the first one at p, and each further one 320 bits and two for each octet of the shift after the one before
+abbrev pub found_from : ℕ → List Shifted → List FoundFrame
+found_from p [] = []
+found_from p (x ∷ xs) = record { place = p; frame = Some x.1 } ∷ found_from (p + 2 * octets_of x.0) xs
+
+-- ---- places by shifts, the oldest first
+
+-- a shift moves the next place by two bits for each of its octets: it stands 320 bits and the shift after the one before
+abbrev pub places_from : ℕ → List ℤ → List ℕ
+places_from p [] = []
+places_from p (v ∷ vs) = p ∷ places_from (p + 2 * octets_of v) vs
+
+abbrev pub shifts_of : {A : Type 0} → List (MadeFrame A) → List ℤ
+shifts_of [] = []
+shifts_of (f ∷ fs) = shifts_of fs ++ f.shift ∷ []

@@ -1,0 +1,126 @@
+//! What is sent up: the alignment that is asked for, and the speech that was heard.
+
+ghost use Rattle.std.specs.Prelude.{◌≡◌, ◌≤◌, ◌<◌, ◌^◌, true, false, None, All, IfNone, IfSome};
+ghost use Rattle.trau_bits.specs.Bits.{AreBits};
+ghost use Rattle.trau_frame.specs.UpFrame.{words_of};
+ghost use Rattle.ccu_end.specs.Found.{HaveBits};
+ghost use Rattle.ccu_end.specs.Heard.{frames_of};
+ghost use Rattle.ccu_end.specs.Asked.{last_of, offset_of, field_by, speech_in, up_words};
+ghost use Rattle.ccu_end.specs.Step.{wait_next, waits_over, field_now};
+
+use crate::finds::{Found, Heard};
+use trau_frame::{Class, DownFrame, Kind, UpFrame};
+
+/// A request that waits ends with the eighth frame.
+const LAST_FRAME: u8 = 7;
+
+/// Whether a request still waits, where one more frame is found at `place`; the next one was looked for from `low` on.
+fn wait_next(waiting: Option<u8>, low: u64, place: u64) -> Option<u8>
+    requires { low < 2 ^ 62 }
+    ensures { result ≡ wait_next waiting low place }
+{
+    let count = waiting?;
+    if place == low + 4 && count < LAST_FRAME {
+        Some(count + 1)
+    } else {
+        None
+    }
+}
+
+/// The same where the frames of a period are found.
+pub(crate) fn wait_over(waiting: Option<u8>, low: u64, heard: &Heard) -> Option<u8>
+    requires low { low < 2 ^ 62 }
+    requires places { All (λ f. f.place < 2 ^ 61) (frames_of heard.now) }
+    requires none { IfNone heard.now.first (heard.now.second ≡ None) }
+    ensures { result ≡ waits_over waiting low (frames_of heard.now) }
+{
+    let Some(first) = heard.first else {
+        return waiting;
+    };
+    let waiting = wait_next(waiting, low, first.place);
+    let Some(second) = heard.second else {
+        return waiting;
+    };
+    wait_next(waiting, first.place + 316, second.place)
+}
+
+/// The last of the frames of a period.
+pub(crate) fn last_of(heard: &Heard) -> Option<Found>
+    ensures { result ≡ last_of (frames_of heard.now) }
+{
+    heard.second.or(heard.first)
+}
+
+/// By how many bits the wanted place lies behind `place`, modulo 320.
+fn offset_of(want: u16, place: u64) -> u64
+    requires { want ≤ 316 }
+    ensures value { result ≡ offset_of want place }
+    ensures bound { result < 320 }
+{
+    (u64::from(want) + 320 - place % 320) % 320
+}
+
+/// The alignment field that asks for frames so many bits later.
+fn field_by(offset: u64) -> u8
+    requires { offset < 320 }
+    ensures value { result ≡ field_by offset }
+    ensures six_bits { result ≤ 63 }
+{
+    match offset {
+        8.. => (offset / 8) as u8,
+        4 => 62,
+        _ => 0,
+    }
+}
+
+/// The field of a period whose last frame this is: 0 where there is none, and while a request waits.
+pub(crate) fn field_where(waiting: Option<u8>, want: u16, last: Option<Found>) -> u8
+    requires { want ≤ 316 }
+    ensures value { result ≡ field_now waiting want last }
+    ensures six_bits { result ≤ 63 }
+{
+    match (waiting, last) {
+        (None, Some(found)) => field_by(offset_of(want, found.place)),
+        _ => 0,
+    }
+}
+
+/// The data bits of a speech frame.
+fn speech_in(last: Option<Found>) -> Option<[u8; 260]>
+    requires { IfSome last HaveBits }
+    ensures value { result ≡ speech_in last }
+    ensures are_bits { IfSome result AreBits }
+{
+    match last?.frame? {
+        DownFrame::Speech { d, .. } => Some(d),
+        DownFrame::Idle => None,
+    }
+}
+
+/// An uplink frame with TAF 0 and DTXd 1.
+fn up_frame(kind: Kind, class: Class, align: u8, d: [u8; 260]) -> UpFrame
+    requires six_bits { align ≤ 63 }
+    requires bits { AreBits d }
+    ensures { words_of result ≡ record { kind = kind; class = class; taf = false; dtxd = true; align = align; d = d } }
+{
+    UpFrame {
+        kind,
+        class,
+        taf: false,
+        dtxd: true,
+        align,
+        d,
+    }
+}
+
+/// The uplink frame with the speech of this frame, or else an idle one.
+pub(crate) fn answer_with(last: Option<Found>, align: u8) -> UpFrame
+    requires bits { IfSome last HaveBits }
+    requires six_bits { align ≤ 63 }
+    ensures { words_of result ≡ up_words (speech_in last) align }
+{
+    match speech_in(last) {
+        Some(d) => up_frame(Kind::Speech, Class::Good, align, d),
+        None => up_frame(Kind::Idle, Class::Unusable, align, [1; 260]),
+    }
+}

@@ -1,0 +1,51 @@
+//! A downlink frame is read.
+
+ghost use Rattle.std.specs.Prelude.{◌≡◌, ◌+◌, ◌≤◌, ◌<◌, IfSome, true};
+ghost use Rattle.trau_bits.specs.Bits.{AreBits};
+ghost use Rattle.trau_frame.specs.Frame.{Synced, number_of};
+ghost use Rattle.trau_frame.specs.DownFrame.{HasBits};
+ghost use Rattle.trau_frame.specs.Match.{bit_in, is_match, frame_at};
+ghost use Rattle.ccu_end.specs.Read.{down_frame_in, Alike};
+
+use trau_frame::{DownFrame, read_up};
+
+/// The number in C1 to C5.
+#[tactic(auto, unfolding(trau_frame::specs::Frame::number_of, trau_frame::specs::Role::place_of))]
+fn pattern(bits: &[u8; 320]) -> u8
+    requires { AreBits bits.now }
+    ensures { result ≡ number_of bits.now 1 5 }
+{
+    16 * bits[17] + 8 * bits[18] + 4 * bits[19] + 2 * bits[20] + bits[21]
+}
+
+/// The first 316 bits of the frame at place `o` of the window, and zeros for its time bits, which say nothing.
+fn frame_from(window: &[u8; 640], o: usize) -> [u8; 320]
+    requires within { o ≤ 324 }
+    requires bits { AreBits window.now }
+    ensures same { Alike result (frame_at (bit_in window.now) o) }
+    ensures are_bits { AreBits result }
+{
+    let mut bits = [0; 320];
+    bits[..316].copy_from_slice(&window[o..o + 316]);
+    bits
+}
+
+/// What the frame at place `o` of the window says. Its data bits stand where those of an uplink frame do.
+pub(crate) fn read_down(window: &[u8; 640], o: usize) -> Option<DownFrame>
+    requires within { o ≤ 324 }
+    requires bits { AreBits window.now }
+    requires synced { is_match (bit_in window.now) o ≡ true }
+    ensures value { result ≡ down_frame_in (frame_at (bit_in window.now) o) }
+    ensures are_bits { IfSome result HasBits }
+{
+    let bits = frame_from(window, o);
+    let d = read_up(&bits).d;
+    match pattern(&bits) {
+        0b01110 => Some(DownFrame::Idle),
+        0b11100 => Some(DownFrame::Speech {
+            d,
+            sp: bits[310] == 1,
+        }),
+        _ => None,
+    }
+}

@@ -1,0 +1,183 @@
+//! The end of one downlink.
+
+ghost use Rattle.std.specs.Prelude.{◌≡◌, ◌++◌, ◌+◌, ◌*◌, ◌≤◌, ◌<◌, ◌^◌, None, replicate, All, IfSome, IfNone};
+ghost use Rattle.trau_bits.specs.Bits.{AreBits};
+ghost use Rattle.ccu_end.specs.Found.{HaveBits};
+ghost use Rattle.ccu_end.specs.Heard.{frames_of};
+ghost use Rattle.ccu_end.specs.Window.{IsNext, NoneNext, AreNext, low_after};
+
+use crate::asking::{answer_with, field_where, last_of, wait_over};
+use crate::finds::{Found, Heard};
+use crate::frame::read_down;
+use crate::hunt::find_match;
+use std::marker::Model;
+use trau_bits::unpack;
+use trau_frame::{UpFrame, write_up};
+
+/// A base station's end of one downlink.
+#[derive(Drop)]
+pub struct Ccu {
+    /// The periods so far.
+    periods: u32,
+    /// The bits of the last one.
+    last: [u8; 320],
+    /// The place behind the newest frame: the next one is looked for from there on.
+    low: u64,
+    /// The wanted place modulo 320.
+    want: u16,
+    /// While a request waits, the number of frames found since the period that sent it.
+    waiting: Option<u8>,
+    /// What is sent up in this period.
+    answer: UpFrame,
+    ghost wanted: { want ≤ 316 },
+}
+
+impl Model for Ccu {
+    ghost use Rattle.std.specs.Prelude.{◌*◌, ◌≤◌};
+    ghost use Rattle.trau_bits.specs.Bits.{AreBits};
+    ghost use Rattle.trau_frame.specs.UpFrame.{words_of};
+    ghost use Rattle.ccu_end.specs.Heard.{CcuMemory};
+
+    ghost Value = { CcuMemory };
+
+    ghost view = { λ s. record { periods = s.periods; last = s.last; low = s.low; want = s.want; waiting = s.waiting; answer = words_of s.answer } };
+
+    ghost invariant = { λ s. (s.low ≤ 320 * s.periods) × AreBits s.last };
+}
+
+/// A period of zeros.
+fn zeros() -> [u8; 320]
+    ensures value { result ≡ replicate 320 0 }
+    ensures are_bits { AreBits result }
+{
+    [0; 320]
+}
+
+/// The bits of two periods.
+fn joined(last: &[u8; 320], bits: &[u8; 320]) -> [u8; 640]
+    ensures { result ≡ last.now ++ bits.now }
+{
+    let mut window = [0; 640];
+    window[..320].copy_from_slice(last);
+    window[320..].copy_from_slice(bits);
+    window
+}
+
+/// The least frame from place `low` on whose bit 315 is one of the period that begins at place `base`; `low` goes behind
+/// its first 316 bits. The window has the bits of the period before and of this one.
+fn take_next(window: &[u8; 640], base: u64, low: &mut u64) -> Option<Found>
+    requires small { base < 2 ^ 60 }
+    requires near { low.old ≤ base + 320 }
+    requires bits { AreBits window.now }
+    ensures found { IfSome result (λ f. IsNext window.now base low.old f × (low.new ≡ f.place + 316)) }
+    ensures none { IfNone result (NoneNext window.now base low.old (base + 5) × (low.new ≡ low.old)) }
+    ensures are_bits { IfSome result HaveBits }
+{
+    let first = (*low).max(base.saturating_sub(315));
+    let o = find_match(window, (first + 320 - base) as usize)?;
+    let place = base + o as u64 - 320;
+    *low = place + 316;
+    Some(Found {
+        place,
+        frame: read_down(window, o),
+    })
+}
+
+/// The frames found in the period that begins at place `base`, from place `low` on, which goes behind them.
+fn take_period(window: &[u8; 640], base: u64, low: &mut u64) -> Heard
+    requires small { base < 2 ^ 60 }
+    requires near { low.old ≤ base }
+    requires bits { AreBits window.now }
+    ensures frames { AreNext window.now base low.old (frames_of result) }
+    ensures low { low.new ≡ low_after low.old (frames_of result) }
+    ensures near { low.new ≤ base + 320 }
+    ensures none { IfNone result.first (result.second ≡ None) }
+    ensures are_bits { All HaveBits (frames_of result) }
+{
+    let first = take_next(window, base, low);
+    let second = if first.is_some() {
+        take_next(window, base, low)
+    } else {
+        None
+    };
+    Heard { first, second }
+}
+
+impl Ccu {
+    ghost use Rattle.std.specs.Prelude.{ℕ, ◌%◌, List, [], ◌∷◌};
+    ghost use Rattle.trau_bits.specs.Bits.{bits_of};
+    ghost use Rattle.ccu_end.specs.Found.{FoundFrame};
+    ghost use Rattle.trau_frame.specs.UpBits.{bits_saying};
+    ghost use Rattle.ccu_end.specs.Heard.{Stands};
+    ghost use Rattle.ccu_end.specs.Asked.{asked};
+    ghost use Rattle.ccu_end.specs.Step.{waiting_after, answer_after};
+
+    /// The end before the first period, which wants frames at places that are `want` modulo 320: a multiple of 4, at most
+    /// 316.
+    pub fn new(want: u16) -> Ccu
+        requires high { want ≤ 316 }
+        requires fours { want % 4 ≡ 0 }
+        ensures want { result.want ≡ want }
+        ensures history { Stands [] [] result }
+    {
+        Ccu {
+            periods: 0,
+            last: zeros(),
+            low: 0,
+            want,
+            waiting: None,
+            answer: answer_with(None, 0),
+        }
+    }
+
+    /// Takes the 40 octets of the next period, and gives the frames found in it. A line has at most 4,294,967,295
+    /// periods.
+    pub fn feed(&mut self, octets: &[u8; 40]) -> Heard
+        requires { self.old.periods < 4294967295 }
+
+        // By the bits of the period before and of this one.
+        ensures frames { AreNext (self.old.last ++ bits_of octets.now) (320 * self.old.periods) self.old.low (frames_of result) }
+        ensures low { self.new.low ≡ low_after self.old.low (frames_of result) }
+        ensures counted { self.new.periods ≡ self.old.periods + 1 }
+        ensures last { self.new.last ≡ bits_of octets.now }
+        ensures waiting { self.new.waiting ≡ waiting_after self.old.waiting self.old.low self.old.want (frames_of result) }
+        ensures answer { self.new.answer ≡ answer_after self.old.waiting self.old.low self.old.want (frames_of result) }
+        ensures want { self.new.want ≡ self.old.want }
+
+        // After any past, all frames found in its periods and these are those found in all bits so far, each in the
+        // period of its bit 315.
+        ensures history { (past : List (List ℕ)) (heard : List (List FoundFrame)) → Stands past heard self.old →
+            Stands (octets.now ∷ past) (frames_of result ∷ heard) self.new }
+
+        ensures none { IfNone result.first (result.second ≡ None) }
+        ensures are_bits { All HaveBits (frames_of result) }
+    {
+        let mut bits = [0; 320];
+        unpack(octets, &mut bits);
+        let window = joined(&self.last, &bits);
+        let low = self.low;
+        let heard = take_period(&window, 320 * u64::from(self.periods), &mut self.low);
+        let waiting = wait_over(self.waiting, low, &heard);
+        let last = last_of(&heard);
+        let field = field_where(waiting, self.want, last);
+        self.waiting = if field == 0 { waiting } else { Some(0) };
+        self.answer = answer_with(last, field);
+        self.periods += 1;
+        self.last = bits;
+        heard
+    }
+
+    /// Writes the uplink frame of the period that was fed last over all bits: the speech of the last frame found in it,
+    /// or else an idle frame, with the alignment that is asked for.
+    pub fn answer(&mut self, bits: &mut [u8; 320])
+        ensures same { self.new ≡ self.old }
+        ensures bits { bits.new ≡ bits_saying self.old.answer }
+        ensures are_bits { AreBits bits.new }
+
+        // After any past, it is what is asked by the frames found in its periods.
+        ensures history { (past : List (List ℕ)) (heard : List (List FoundFrame)) → Stands past heard self.old →
+            bits.new ≡ bits_saying (asked self.old.want heard) }
+    {
+        write_up(&self.answer, bits);
+    }
+}
