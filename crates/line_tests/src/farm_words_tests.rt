@@ -73,6 +73,62 @@ fn options_of_a_run(rt: HostRuntime) {
     assert_rows(&rt, runs_asked(rt.alloc()), 6);
 }
 
+// Drills, with their seed and calls, and their workers, batch, slice and periods.
+static DRILLS: [(&str, [u32; 2], [u32; 4]); 6] = [
+    ("drill", [1, 64], [4, 50, 5, 200]),
+    (
+        "drill --seed 0 --calls 1 --periods 1",
+        [0, 1],
+        [4, 50, 5, 1],
+    ),
+    (
+        "drill --seed=4294967295 --calls=256 --periods=1000 --workers=64 --batch=250 --slice=250",
+        [4_294_967_295, 256],
+        [64, 250, 250, 1000],
+    ),
+    (
+        "drill --slice 9 --calls 2 --workers 5 --seed 7",
+        [7, 2],
+        [5, 50, 9, 200],
+    ),
+    ("drill --", [1, 64], [4, 50, 5, 200]),
+    ("drill --batch 7 --", [1, 64], [4, 7, 5, 200]),
+];
+
+// Whether a line asks for a drill of these.
+fn is_drill(alloc: Global, line: &str, made_of: &[u32; 2], settings: &[u32; 4]) -> bool {
+    let [seed, calls] = *made_of;
+    let [workers, batch, slice, periods] = *settings;
+    let drill = Asked::Drill {
+        seed,
+        calls,
+        settings: Settings {
+            workers,
+            batch,
+            slice,
+            periods,
+        },
+    };
+    is_answered(alloc, line, Ok(drill))
+}
+
+// How many of the drills are asked for so, from the first on.
+fn drills_asked(alloc: Global) -> usize {
+    let mut asked = 0usize;
+    for (line, made_of, settings) in &DRILLS {
+        if !is_drill(alloc, line, made_of, settings) {
+            return asked;
+        }
+        asked = asked.saturating_add(1);
+    }
+    asked
+}
+
+#[test]
+fn options_of_a_drill(rt: HostRuntime) {
+    assert_rows(&rt, drills_asked(rt.alloc()), 6);
+}
+
 static TOOLS: [(&str, Asked); 4] = [
     ("relay 7", Asked::Relay(7)),
     ("frames 1", Asked::Frames(1)),
@@ -131,8 +187,23 @@ relay 7 --
 relay -- 7
 relay 7 7
 relays 7
-drill
+run --seed 1
+run --calls 2
 drill 7
+drill --calls 0
+drill --calls 257
+drill --calls 02
+drill --periods 0
+drill --periods 1001
+drill --seed 4294967296
+drill --seed -1
+drill --seed 00
+drill --seed 1 --seed=1
+drill --seed
+drill --workers 65
+drill --call 2
+drill --help
+drills
 7
 ";
 
@@ -155,7 +226,7 @@ fn usages(alloc: Global) -> usize {
 
 #[test]
 fn other_words_are_usage(rt: HostRuntime) {
-    assert_rows(&rt, usages(rt.alloc()), 37);
+    assert_rows(&rt, usages(rt.alloc()), 52);
 }
 
 #[test]

@@ -8,6 +8,8 @@
 #[cfg(test)]
 mod decimal_number_tests;
 #[cfg(test)]
+mod farm_checkpoint_tests;
+#[cfg(test)]
 mod farm_drill_tests;
 #[cfg(test)]
 mod farm_orders_tests;

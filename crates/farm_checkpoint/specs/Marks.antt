@@ -1,0 +1,35 @@
+-- The mark of a checkpoint (this project's profile).
+use Rattle.std.specs.Prelude.{ℕ, ◌<◌, ◌≤◌, List}
+use Rattle.std.specs.List.{All, AllPairs}
+use Rattle.call_number.specs.CallNumber.{IsCallNumber}
+use Rattle.farm_checkpoint.specs.declared.mark.MarkCall.{MarkCall}
+
+-- what is seen of a mark
+pub record MarkView : Type 0 where
+  pub period : ℕ
+  pub calls : List MarkCall
+
+-- each call's number is below those of all later ones
+abbrev pub NumbersRise : List MarkCall → Type 0
+NumbersRise calls = AllPairs (λ earlier later. earlier.call < later.call) calls
+
+-- a call that may be live at the start of a period: it has a call's number, and began before
+pub record IsLive (period : ℕ) (call : MarkCall) : Type 0 where
+  pub number : IsCallNumber call.call
+  pub opened : call.from < period
+
+-- live calls, in the order of their numbers
+pub record AreLive (period : ℕ) (calls : List MarkCall) : Type 0 where
+  pub each : All (IsLive period) calls
+  pub rising : NumbersRise calls
+
+-- its sums are numbers modulo 2 ^ 32
+abbrev pub HasSums : MarkCall → Type 0
+HasSums call = (call.out ≤ 4294967295) × (call.down ≤ 4294967295)
+
+-- a mark's period is one behind which a run may stand, its calls are live there, and its sums are sums
+pub record IsMark (mark : MarkView) : Type 0 where
+  pub at_least : 1 ≤ mark.period
+  pub at_most : mark.period ≤ 4294967295
+  pub live : AreLive mark.period mark.calls
+  pub sums : All HasSums mark.calls
