@@ -9,7 +9,11 @@ mod call_leg_tests;
 #[cfg(test)]
 mod call_pair_tests;
 #[cfg(test)]
+mod ccu_end_tests;
+#[cfg(test)]
 mod down_framer_tests;
+#[cfg(test)]
+mod farm_live_tests;
 #[cfg(test)]
 mod rx_handler_tests;
 #[cfg(test)]

@@ -1,0 +1,10 @@
+use Rattle.std.proofs.Common.{refl}
+use Rattle.call_leg.specs.Settings.{new_settings}
+use Rattle.farm_live.proofs.book.period.Goals as goal
+
+pub returns-clause-worked : goal.returns-clause-worked
+returns-clause-worked c call ts stands = (
+  c.period.ensures.history call ts new_settings stands refl,
+  c.period.ensures.out call ts new_settings stands refl,
+  c.period.ensures.down call ts new_settings stands refl,
+)

@@ -1,0 +1,5 @@
+use Rattle.farm_live.proofs.Slots.{begins}
+use Rattle.farm_live.proofs.slot.new_slot.Goals as goal
+
+pub ruled-requires-clause-rule : goal.ruled-requires-clause-rule
+ruled-requires-clause-rule c = begins

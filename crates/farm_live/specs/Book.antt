@@ -1,0 +1,82 @@
+-- The book of a call, as its callers see it, and when its history is legal.
+use Rattle.std.specs.Prelude.{◌≡◌, ℕ, suc, Bool, ◌==◌, ◌&&◌, None, List, [], ◌∷◌, ◌++◌, map, filter}
+use Rattle.trau_bits.specs.Bits.{bits_of}
+use Rattle.call_leg.specs.Periods.{CallPeriod}
+use Rattle.call_leg.specs.Settings.{new_settings, period_with}
+use Rattle.call_leg.specs.Out.{out_of}
+use Rattle.call_leg.specs.Down.{down_now}
+use Rattle.farm_live.specs.declared.post.BookOf.{BookOf}
+use Rattle.farm_live.specs.declared.post.Post.{Post}
+use Rattle.farm_live.specs.declared.post.Entry.{Entry}
+
+-- what it is of, the history, and the posts that wait
+pub record Known : Type 0 where
+  pub is_of : BookOf
+  pub history : List Entry
+  pub inbox : List Post
+
+abbrev pub no_call : BookOf
+no_call = record { call = 0; room = 0 }
+
+-- a book before it has a call
+abbrev pub no_book : Known
+no_book = record { is_of = no_call; history = []; inbox = [] }
+
+-- the book of a new call
+abbrev pub empty_book : BookOf → Known
+empty_book is_of = record { is_of = is_of; history = []; inbox = [] }
+
+-- the posts of the history, and then those that wait
+unfoldable pub record_of : Known → List Post
+record_of k = map (λ e. e.post) k.history ++ k.inbox
+
+-- those of one caller
+abbrev pub of_caller : ℕ → List Post → List Post
+of_caller c ps = filter (λ p. p.caller == c) ps
+
+-- their numbers go up by one from n on
+abbrev pub NumberedFrom : ℕ → List Post → Type 0
+NumberedFrom n [] = Unit {0}
+NumberedFrom n (p ∷ ps) = (p.number ≡ n) × NumberedFrom (suc n) ps
+
+-- ---- a call without orders: A-law, level 256, DTX as the uplink asks, no bridge
+
+-- the period of an entry
+abbrev pub period_of : Post → CallPeriod
+period_of p = period_with new_settings p.up p.pcm None
+
+-- the periods after these (the newest first) and a history (the oldest first)
+abbrev pub periods_after : List CallPeriod → List Entry → List CallPeriod
+periods_after ts [] = ts
+periods_after ts (e ∷ es) = periods_after (period_of e.post ∷ ts) es
+
+-- the octets of each entry are those that the call's definition gives its period after all before it
+abbrev pub IsWorkedFrom : ℕ → List CallPeriod → List Entry → Type 0
+IsWorkedFrom call ts [] = Unit {0}
+IsWorkedFrom call ts (e ∷ es) =
+    (e.out ≡ out_of call (period_of e.post ∷ ts)) × (bits_of e.down ≡ down_now call (period_of e.post ∷ ts))
+    × IsWorkedFrom call (period_of e.post ∷ ts) es
+
+-- a history of a call from its first period on
+abbrev pub IsLegal : ℕ → List Entry → Type 0
+IsLegal call es = IsWorkedFrom call [] es
+
+-- ---- what is done with a book
+
+-- a post at the back of the inbox
+abbrev pub with_post : Known → Post → Known
+with_post k x = record { is_of = k.is_of; history = k.history; inbox = k.inbox ++ x ∷ [] }
+
+-- the first post was worked: its entry is one more at the end of the history
+pub record Worked (old : Known) (e : Entry) (new : Known) : Type 0 where
+  pub first : (rest : List Post) × (old.inbox ≡ e.post ∷ rest) × (new.inbox ≡ rest)
+  pub history : new.history ≡ old.history ++ e ∷ []
+  pub is_of : new.is_of ≡ old.is_of
+
+-- an entry is that of a caller's post with this number
+abbrev pub is_of_post : ℕ → ℕ → Entry → Bool
+is_of_post caller number e = (e.post.caller == caller) && (e.post.number == number)
+
+-- the most posts that a call can have: 64 callers, with 16,777,216 each
+abbrev pub most_posts : ℕ
+most_posts = 1073741824

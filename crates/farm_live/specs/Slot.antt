@@ -1,0 +1,171 @@
+-- The rule of one slot: there is one book, in the slot or in one caller's hand. It begins with all that any caller saw of
+-- it, and each caller's posts in it are those that the caller made, numbered in order.
+use Rattle.std.specs.Prelude.{◌≡◌, ◌⊎◌, ℕ, zero, suc, ◌+◌, ◌*◌, ◌<◌, ◌≤◌, Bool, true, false, ◌==◌, List, [], ◌∷◌, ◌++◌, length, drop, take}
+use mathlib.Core.Option.{some}
+use lib.ListN.{get_elem?}
+use Rattle.farm_live.specs.declared.post.Post.{Post}
+use Rattle.farm_live.specs.declared.slot.View.{View}
+use Rattle.farm_live.specs.declared.slot.Token.{Token}
+use Rattle.farm_live.specs.declared.slot.Token.TheVariants.{Here, Out}
+use Rattle.farm_live.specs.declared.slot.Taken.{Taken}
+use Rattle.farm_live.specs.declared.slot.Taken.TheVariants.{Got, Busy, Again}
+use Rattle.farm_live.specs.Book.{Known, no_book, no_call, record_of, of_caller, NumberedFrom, most_posts}
+
+abbrev pub StartsWith : {X : Type 0} → List X → List X → Type 0
+StartsWith {X} longer begin = (rest : List X) × (longer ≡ begin ++ rest)
+
+abbrev pub weigh : {X : Type 0} → (X → ℕ) → List X → ℕ
+weigh h [] = 0
+weigh h (x ∷ xs) = h x + weigh h xs
+
+abbrev pub bit : Bool → ℕ
+bit true = 1
+bit false = 0
+
+-- how often a number stands in a list
+abbrev pub is_at : ℕ → ℕ → ℕ
+is_at c d = bit (d == c)
+
+abbrev pub times : ℕ → List ℕ → ℕ
+times c ds = weigh (is_at c) ds
+
+-- n numbers from k on
+abbrev pub ascending : ℕ → ℕ → List ℕ
+ascending k zero = []
+ascending k (suc n) = k ∷ ascending (suc k) n
+
+-- the numbers of all callers that a slot can have
+unfoldable pub all_callers : List ℕ
+all_callers = ascending 0 64
+
+-- ---- what the slot holds
+
+abbrev pub books : Token → ℕ
+books (Here b) = 1
+books Out = 0
+
+abbrev pub IsBook : Known → Token → Type 0
+IsBook now (Here b) = b ≡ now
+IsBook now Out = Unit {0}
+
+abbrev pub AllBooks : Known → List Token → Type 0
+AllBooks now [] = Unit {0}
+AllBooks now (x ∷ xs) = IsBook now x × AllBooks now xs
+
+-- ---- what the callers know
+
+-- the book begins with what was seen of it: the history with the history, the record with the record
+pub record BeginsWith (now : Known) (seen : Known) : Type 0 where
+  pub history : StartsWith now.history seen.history
+  pub posts : StartsWith (record_of now) (record_of seen)
+
+abbrev pub AllSeen : Known → List Known → Type 0
+AllSeen now [] = Unit {0}
+AllSeen now (k ∷ ks) = BeginsWith now k × AllSeen now ks
+
+abbrev pub number_of_callers : View → ℕ
+number_of_callers v = weigh (λ _. 1) v.callers
+
+-- of one's own callers all posts were made here, and of others none
+abbrev pub own_posts : ℕ → List Post → List Post
+own_posts zero posts = []
+own_posts (suc n) posts = posts
+
+pub record Fits (now : Known) (v : View) : Type 0 where
+  pub held : v.holds ≡ true → v.taken ≡ now
+  pub seen : AllSeen now v.seen
+  pub made : (c : ℕ) → of_caller c v.made ≡ own_posts (times c v.callers) (of_caller c (record_of now))
+  pub is_of : (c : ℕ) → 0 < times c v.callers → v.is_of ≡ now.is_of
+  pub few : length v.made ≤ 16777216 * number_of_callers v
+
+-- each caller's posts are numbered in order, and there are no callers but all
+pub record IsRecord (posts : List Post) : Type 0 where
+  pub numbered : (c : ℕ) → NumberedFrom 0 (of_caller c posts)
+  pub known : (c : ℕ) → times c all_callers ≡ 0 → of_caller c posts ≡ []
+
+abbrev pub IsSlot : List Token → List View → Type 0
+IsSlot items views =
+    (now : Known)
+    × (weigh (λ v. bit v.holds) views + weigh books items ≡ 1)
+    × AllBooks now items
+    × IsRecord (record_of now)
+    × ((h : ℕ → ℕ) → weigh (λ v. weigh h v.callers) views ≡ weigh h all_callers)
+    × ((port : ℕ) (v : View) → get_elem? views port ≡ some v → Fits now v)
+    × (length (record_of now) ≡ weigh (λ v. length v.made) views)
+
+-- ---- the steps
+
+-- the first view holds a book that isn't there yet, and has all callers' numbers
+abbrev pub founder : View
+founder = record { callers = all_callers; is_of = no_call; holds = true; taken = no_book; seen = []; made = []; takings = 0; misses = 0 }
+
+-- the first number goes to a new view, which has seen as much, and the others stay
+abbrev pub rest_of : View → View
+rest_of v = record v { callers = drop 1 v.callers }
+
+abbrev pub first_of : View → View
+first_of v = record { callers = take 1 v.callers; is_of = v.is_of; holds = false; taken = no_book; seen = v.seen; made = []; takings = 0; misses = 0 }
+
+-- one view takes in another, which is then spent
+abbrev pub both_of : View → View → View
+both_of v w = record {
+  callers = v.callers ++ w.callers;
+  is_of = v.is_of;
+  holds = v.holds;
+  taken = v.taken;
+  seen = v.seen ++ w.seen;
+  made = v.made ++ w.made;
+  takings = v.takings + w.takings;
+  misses = v.misses + w.misses;
+}
+
+abbrev pub spent : View
+spent = record { callers = []; is_of = no_call; holds = false; taken = no_book; seen = []; made = []; takings = 0; misses = 0 }
+
+-- no book was found
+abbrev pub missed : View → View
+missed v = record v { misses = v.misses + 1 }
+
+-- the book was taken
+abbrev pub took : View → Known → View
+took v b = record v { holds = true; taken = b; seen = b ∷ []; takings = v.takings + 1 }
+
+-- what the rule tells of a book that was taken
+pub record Tells (v : View) (b : Known) : Type 0 where
+  pub seen : AllSeen b v.seen
+  pub made : (c : ℕ) → of_caller c v.made ≡ own_posts (times c v.callers) (of_caller c (record_of b))
+  pub is_of : (c : ℕ) → 0 < times c v.callers → v.is_of ≡ b.is_of
+  pub posts : IsRecord (record_of b)
+  pub few : length (record_of b) ≤ most_posts
+  pub mine : length v.made ≤ 16777216 * number_of_callers v
+
+abbrev pub Took : View → Token → View → Type 0
+Took v (Here b) w = (w ≡ took v b) × Tells v b
+Took v Out w = w ≡ missed v
+
+-- the posts that are in the book and weren't when it was taken
+abbrev pub added : View → Known → List Post
+added v b = drop (length (record_of v.taken)) (record_of b)
+
+-- the book was given back
+abbrev pub gave : View → Known → View
+gave v b = record v { is_of = b.is_of; holds = false; seen = b ∷ []; made = v.made ++ added v b }
+
+abbrev pub Gave : View → Token → View → Type 0
+Gave v (Here b) w = w ≡ gave v b
+Gave v Out w = w ≡ v
+
+-- it may be given back like this: it begins with what was taken, and the posts that are new are numbered on, and are
+-- of this view's callers
+pub record May (v : View) (b : Known) : Type 0 where
+  pub begins : BeginsWith b v.taken
+  pub own : (c : ℕ) → times c v.callers ≡ 0 → of_caller c (added v b) ≡ []
+  pub numbered : (c : ℕ) → NumberedFrom (length (of_caller c v.made)) (of_caller c (added v b))
+  pub few : length (v.made ++ added v b) ≤ 16777216 * number_of_callers v
+  -- it is of the same call, or this view has all callers
+  pub is_of : (b.is_of ≡ v.taken.is_of) × (v.is_of ≡ v.taken.is_of) ⊎ ((h : ℕ → ℕ) → weigh h v.callers ≡ weigh h all_callers)
+
+abbrev pub MatchTaken : Taken → (Known → Type 0) → Type 0 → Type 0 → Type 0
+MatchTaken (Got b) book busy again = book b
+MatchTaken Busy book busy again = busy
+MatchTaken Again book busy again = again

@@ -1,0 +1,140 @@
+//! A call's book: its leg, its history, and the posts that wait.
+
+ghost use Rattle.std.specs.Prelude.{◌≡◌, ◌<◌, ◌↔◌, ◌+◌, IsTrue, false, [], ◌∷◌, ◌++◌, length, find, IfOk, MatchResult, MatchOption};
+ghost use Rattle.call_number.specs.CallNumber.{IsCallNumber};
+ghost use Rattle.call_leg.specs.Memory.{periods_of_leg};
+ghost use Rattle.farm_live.specs.Step.{WorksOn};
+ghost use Rattle.farm_live.specs.Book.{Known, empty_book, with_post, Worked, IsLegal, is_of_post};
+
+use crate::post::{BookOf, Entry, Post};
+use call_leg::Leg;
+use circular_buffer::HeapCircularBuffer;
+use std::alloc::{AllocError, Global};
+use std::marker::Model;
+
+/// The book of a call. Whoever has it owns the call.
+#[derive(Drop)]
+pub struct Book {
+    of: BookOf,
+    leg: Leg,
+    history: Vec<Entry>,
+    inbox: HeapCircularBuffer<Post>,
+    left: Vec<Post>,
+}
+
+impl Model for Book {
+    ghost use Rattle.std.specs.Prelude.{◌≡◌, ◌≤◌, [], length, vec_capacity};
+    ghost use Rattle.call_leg.specs.Settings.{new_settings};
+    ghost use Rattle.call_leg.specs.Memory.{periods_of_leg};
+    ghost use Rattle.call_leg.specs.Stands.{Stands};
+    ghost use Rattle.farm_live.specs.Book.{Known, IsLegal, periods_after};
+
+    ghost Value = { Known };
+
+    ghost view = { λ b. record { is_of = b.of; history = b.history.items; inbox = b.inbox.items } };
+
+    ghost invariant = { λ b. IsLegal b.of.call b.history.items × Stands b.of.call (periods_after [] b.history.items) new_settings b.leg × (periods_of_leg b.leg ≡ length b.history.items) × (b.of.room ≡ b.inbox.capacity) × (b.left.items ≡ []) × (b.inbox.capacity ≤ vec_capacity b.left) };
+}
+
+impl Book {
+    /// The book of a new call, with room for the posts that may wait, twice: for the inbox, and for what is left of it
+    /// at the end.
+    pub(crate) fn new(alloc: Global, of: BookOf) -> Result<Book, AllocError>
+        requires { IsCallNumber of.call }
+        ensures { IfOk result (λ b. b ≡ empty_book of) }
+    {
+        Ok(Book {
+            of,
+            leg: Leg::new(alloc, of.call)?,
+            history: Vec::new(alloc),
+            inbox: HeapCircularBuffer::with_capacity(alloc, of.room as usize)?,
+            left: Vec::with_capacity(alloc, of.room as usize)?,
+        })
+    }
+
+    /// How many posts were worked.
+    pub(crate) fn len(&self) -> usize
+        ensures { result ≡ length self.now.history }
+    {
+        self.history.len()
+    }
+
+    /// Puts a post at the back of the inbox, if there is room.
+    pub(crate) fn post(&mut self, post: Post) -> bool
+        ensures room { IsTrue result ↔ (length self.old.inbox < self.old.is_of.room) }
+        ensures ok { IsTrue result → self.new ≡ with_post self.old post }
+        ensures full { result ≡ false → (self.new ≡ self.old) × (length self.old.inbox ≡ self.old.is_of.room) }
+    {
+        if self.inbox.len() == self.inbox.capacity() {
+            return false;
+        }
+        self.inbox.try_push_back(post).is_ok()
+    }
+
+    /// Works the first post, if there is one.
+    pub(crate) fn work(&mut self) -> Result<Option<Entry>, AllocError>
+        requires few { length self.old.history < 4294967295 }
+        ensures answer { MatchResult result (λ r. MatchOption r ((self.old.inbox ≡ []) × (self.new ≡ self.old)) (λ e. Worked self.old e self.new)) (λ _. self.new ≡ self.old) }
+        ensures legal { IsLegal self.new.is_of.call self.new.history }
+    {
+        if self.inbox.is_empty() {
+            return Ok(None);
+        }
+        self.history.reserve(1)?;
+        let Some(post) = self.inbox.pop_front() else {
+            return Ok(None);
+        };
+        let entry = period(&mut self.leg, post);
+        self.history.push_reserved(entry);
+        Ok(Some(entry))
+    }
+
+    /// The entry of a caller's post with this number.
+    pub(crate) fn find(&self, of: u32, number: u32) -> Option<Entry>
+        ensures { result ≡ find (is_of_post of number) self.now.history }
+    {
+        for k in 0..self.history.len() {
+            let entry = self.history[k];
+            if is_of_post(&entry, of, number) {
+                return Some(entry);
+            }
+        }
+        None
+    }
+
+    /// The history, and the posts that are left.
+    pub(crate) fn close(self) -> (Vec<Entry>, Vec<Post>)
+        ensures { (result.0.items ≡ self.history) × (result.1.items ≡ self.inbox) }
+    {
+        let Book {
+            of: _,
+            leg: _,
+            history,
+            mut inbox,
+            mut left,
+        } = self;
+        while let Some(post) = inbox.pop_front() {
+            left.push_reserved(post);
+        }
+        (history, left)
+    }
+}
+
+// Works a post as the next period of a leg.
+fn period(leg: &mut Leg, post: Post) -> Entry
+    requires few { periods_of_leg leg.old < 4294967295 }
+    ensures post { result.post ≡ post }
+    ensures periods { periods_of_leg leg.new ≡ periods_of_leg leg.old + 1 }
+    ensures worked { WorksOn leg.old result leg.new }
+{
+    let mut out = [0; 160];
+    let mut down = [0; 40];
+    leg.period(&post.up, &post.pcm, &mut out, &mut down);
+    Entry { post, out, down }
+}
+
+fn is_of_post(entry: &Entry, of: u32, number: u32) -> bool
+    ensures { result ≡ is_of_post of number entry.now }
+{
+    entry.post.caller == of && entry.post.number == number
+}

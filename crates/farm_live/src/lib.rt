@@ -1,0 +1,36 @@
+//! A live farm: callers on threads of their own post periods to calls, and any caller works any call.
+//!
+//! Each call has a book: its leg (`call_leg`), its history, which is the posts that were worked with the octets that came
+//! of them, and its inbox, the posts that wait. The book moves through a slot, a queue with room for one; whoever took
+//! it owns the call, and gives it back within the same function. One that finds the book taken answers that the call is
+//! busy, and waits for nobody; only the end of a farm waits for each book.
+//!
+//! The rule of a slot ties all callers' passes of it together. From it come the promises: a history is that of one call
+//! whose periods are worked one after another; it begins with all that a caller saw of it before; each caller's posts
+//! stand in it, and then in the inbox, once and in order. Whether a post is ever worked, in which order posts of different callers are, and that
+//! the functions return (they wait for a queue) is not proved.
+//!
+//! - `post`: what callers post, and what comes of it.
+//! - `book`: the book of a call.
+//! - `slot`: the rule of one slot, and the steps that keep it.
+//! - `turns`: what a caller's functions do with one slot.
+//! - `opening`: a new farm's slots and seats.
+//! - `closing`: what its callers know, put together.
+//! - `live`: the farm.
+//!
+//! It stands beside the runs of recorded lines (`farm_run`): there the clock gives each call its periods, here its callers
+//! do. Calls have A-law lines, level 256, discontinuous transmission as the uplink asks, and no bridges. Posts, books and
+//! slots are this project's own. No command uses this crate yet.
+#![tactic(auto)]
+
+pub mod book;
+mod closing;
+mod live;
+mod opening;
+mod post;
+pub mod slot;
+mod turns;
+
+pub use live::{Caller, Closed, Live, PostFault};
+pub use post::{BookOf, Entry, Post};
+pub use turns::{Look, Turn};

@@ -1,0 +1,168 @@
+//! The slot of a call: the rule that holds whoever takes the book, and the steps that keep it.
+//!
+//! A slot is a queue for one token. It has the book, or a mark that a caller has it in hand, so it never counts as
+//! empty: taking the book puts the mark there, and giving it back takes the mark away. Each caller has a pass of the
+//! slot, whose view says what the caller knows: what it saw of the book, and what it posted. The rule ties all views to
+//! the book as it is now.
+
+ghost use Rattle.std.specs.Prelude.{◌≡◌, ◌<◌, true, false, [], ◌∷◌};
+ghost use Rattle.crossbeam_queue.specs.Passes.{view, IsSamePass, IsPassOf, ruled_capacity};
+ghost use Rattle.farm_live.specs.declared.slot.Token.TheVariants.{Here, Out};
+ghost use Rattle.farm_live.specs.Slot.{MatchTaken, Took, Gave, May, first_of, rest_of, both_of};
+
+use crate::book::Book;
+use crate::post::{BookOf, Post};
+use crossbeam_queue::protocol::{Join, Outcome, Protocol, Split};
+use crossbeam_queue::{Pass, RuledArrayQueue};
+use std::alloc::{AllocError, Global};
+use std::collections::LinkedList;
+use std::sync::Wait;
+
+/// What lies in a slot: the book, or a mark that a caller has it.
+#[derive(Drop)]
+pub enum Token {
+    /// The book.
+    Here(Book),
+    /// A caller has it.
+    Out,
+}
+
+/// What a caller knows of a call. No value of it is made.
+///
+/// `callers` has the numbers of the callers whose view it is: one of each that `new` makes, all that are left for the
+/// last, and more where views are joined. `taken` is the book as it was taken last, `seen` what was last seen of it, and
+/// `made` the posts that were accepted. `takings` counts how often the book was taken, `misses` how often another had it.
+pub struct View {
+    pub callers: LinkedList<u32>,
+    pub is_of: BookOf,
+    pub holds: bool,
+    pub taken: Book,
+    pub seen: LinkedList<Book>,
+    pub made: LinkedList<Post>,
+    pub takings: u64,
+    pub misses: u64,
+}
+
+/// The rule.
+pub struct OneBook;
+
+impl Protocol<Token, View> for OneBook {
+    ghost use Rattle.farm_live.specs.Slot.{IsSlot, founder};
+
+    ghost holds = { IsSlot };
+
+    ghost first = { founder };
+}
+
+/// Takes what lies in the slot.
+pub struct Takes;
+
+impl Outcome<Token, View> for Takes {
+    ghost use Rattle.farm_live.specs.Slot.{Took};
+
+    ghost then = { Took };
+}
+
+/// Puts the mark there, or takes it away, which changes nothing that is known.
+pub struct Marks;
+
+impl Outcome<Token, View> for Marks {
+    ghost use Rattle.std.specs.Prelude.{◌≡◌};
+
+    ghost then = { λ v _ w. w ≡ v };
+}
+
+/// Gives the book back.
+pub struct Gives;
+
+impl Outcome<Token, View> for Gives {
+    ghost use Rattle.farm_live.specs.Slot.{Gave};
+
+    ghost then = { Gave };
+}
+
+/// One caller more, and one less.
+pub struct Callers;
+
+impl Split<View> for Callers {
+    ghost use Rattle.farm_live.specs.Slot.{first_of, rest_of};
+
+    ghost left = { rest_of };
+
+    ghost right = { first_of };
+}
+
+impl Join<View> for Callers {
+    ghost use Rattle.farm_live.specs.Slot.{both_of, spent};
+
+    ghost both = { both_of };
+
+    ghost spent = { spent };
+}
+
+/// The slot of a call.
+pub type Slot = RuledArrayQueue<Token, View, OneBook>;
+
+/// A caller's pass of a slot. It has no bytes.
+pub type SlotPass = Pass<Token, View>;
+
+/// What came of taking the book: the book; that another caller has it; or nothing.
+#[derive(Drop)]
+pub enum Taken {
+    Got(Book),
+    Busy,
+    Again,
+}
+
+/// A slot without a book, and the pass of all callers, which has it in hand.
+pub fn new_slot(alloc: Global) -> Result<(Slot, SlotPass), AllocError>
+    ensures { Rattle.std.specs.Prelude.IfOk result (λ r. IsPassOf r.0 r.1 × (ruled_capacity r.0 ≡ 1) × (view r.1 ≡ Rattle.farm_live.specs.Slot.founder)) }
+{
+    Slot::ruled(alloc, 1)
+}
+
+/// Takes the book, if the slot has it.
+pub fn take_book<R: Wait>(rt: &R, slot: &Slot, me: &mut SlotPass) -> Taken
+    requires slot { IsPassOf slot.now me.old × (ruled_capacity slot.now ≡ 1) }
+    requires free { (view me.old).holds ≡ false }
+    ensures slot { IsSamePass me.old me.new }
+    ensures taken { MatchTaken result (λ b. Took (view me.old) (Here b) (view me.new)) (Took (view me.old) Out (view me.new)) (view me.new ≡ view me.old) }
+{
+    match slot.force_push_as::<Marks, Takes, R>(rt, me, Token::Out) {
+        Some(Token::Here(book)) => Taken::Got(book),
+        Some(Token::Out) => Taken::Busy,
+        None => Taken::Again,
+    }
+}
+
+/// Gives the book back. The slot is never full.
+pub fn give_back<R: Wait>(rt: &R, slot: &Slot, me: &mut SlotPass, book: Book)
+    requires slot { IsPassOf slot.now me.old × (ruled_capacity slot.now ≡ 1) }
+    requires held { (view me.old).holds ≡ true }
+    requires may { May (view me.old) book }
+    ensures slot { IsSamePass me.old me.new }
+    ensures given { Gave (view me.old) (Here book) (view me.new) }
+{
+    let _ = slot.force_push_as::<Gives, Marks, R>(rt, me, Token::Here(book));
+}
+
+/// Gives the first caller's number to a new pass.
+pub fn pass_of_first(slot: &Slot, me: &mut SlotPass) -> SlotPass
+    requires slot { IsPassOf slot.now me.old }
+    requires fresh { (view me.old).made ≡ [] }
+    ensures slot { IsSamePass me.old me.new × IsPassOf slot.now result }
+    ensures views { (view me.new ≡ rest_of (view me.old)) × (view result ≡ first_of (view me.old)) }
+{
+    slot.another::<Callers>(me)
+}
+
+/// Takes in what another pass knows.
+pub fn take_in(slot: &Slot, me: &mut SlotPass, other: SlotPass)
+    requires slot { IsPassOf slot.now me.old × IsPassOf slot.now other }
+    requires free { (view other).holds ≡ false }
+    requires same { (view me.old).is_of ≡ (view other).is_of }
+    ensures slot { IsSamePass me.old me.new }
+    ensures both { view me.new ≡ both_of (view me.old) (view other) }
+{
+    slot.absorb::<Callers>(me, other)
+}
