@@ -82,6 +82,16 @@ def peak_kilobytes(command):
         return int(lines.read().split()[-1])
 
 
+def system_calls(command):
+    """How many calls of the system a command and its threads make, as strace counts them."""
+    clear(command)
+    report = os.path.join(command.folder, "strace.out")
+    check(command, start(command, ["strace", "-f", "-c", "-o", report]).wait())
+    with open(report) as lines:
+        counts = [line.split()[3] for line in lines if line.split()[-1:] == ["total"]]
+    return int(counts[-1])
+
+
 def instructions(command):
     """The instructions of a command by function, as callgrind counts them."""
     say(f"callgrind: {text_of(command)}")

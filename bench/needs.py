@@ -14,11 +14,17 @@ def has_header(header):
     return subprocess.run(["gcc", "-E", "-"], input=given, capture_output=True).returncode == 0
 
 
-def missing():
-    """Lines that say what is missing, and of which Debian package."""
-    lines = [f"{name}: apt-get install {package}" for name, package in PROGRAMS.items() if not shutil.which(name)]
+def missing_programs(programs):
+    """Lines that say which of these programs, or GNU time, is missing, and of which Debian package."""
+    lines = [f"{name}: apt-get install {package}" for name, package in programs.items() if not shutil.which(name)]
     if not os.access(GNU_TIME, os.X_OK):
         lines.append(f"{GNU_TIME}: apt-get install time")
+    return lines
+
+
+def missing():
+    """The same of all that bench/run needs."""
+    lines = missing_programs(PROGRAMS)
     if shutil.which("gcc"):
         lines += [f"{name}: apt-get install {package}" for name, package in HEADERS.items() if not has_header(name)]
     return lines
