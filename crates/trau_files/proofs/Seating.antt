@@ -1,8 +1,8 @@
 -- Seats after a file is put into one, and after a line is given one.
 use Rattle.std.proofs.Common.{◌≡◌, ◌⊎◌, ◌<◌, ℕ, zero, suc, List, [], ◌∷◌, length, Option, None, Some, All, slice_set, slice_index_or, length-set, refl, sym, ◌∙◌, ap, arith, inl, inr}
 use Rattle.trau_io.specs.declared.line.Side.{Side}
-use Rattle.trau_io.specs.declared.line.Side.TheVariants.{Up, Pcm, Down, Out}
-use Rattle.trau_io.specs.Places.{number_of_side, place_of}
+use Rattle.trau_io.specs.Places.{place_of}
+use Rattle.trau_io.proofs.Tables.{same_line}
 use Rattle.trau_files.specs.Files.{OpenLine, IsFileOf, OpenAfter, AreSeated, in_seat}
 
 -- an element is the one that was put there, or as before
@@ -17,30 +17,6 @@ set_there : {X : Type 0} (xs : List X) (i : ℕ) (y d : X) → i < length xs →
 set_there [] i y d within = absurd (omega arith)
 set_there (x ∷ xs) zero y d within = refl
 set_there (x ∷ xs) (suc i) y d within = set_there xs i y d (omega arith)
-
-small : (s : Side) → number_of_side s < 4
-small Up = omega arith
-small Pcm = omega arith
-small Down = omega arith
-small Out = omega arith
-
-abbrev side_of : ℕ → Side
-side_of zero = Up
-side_of (suc zero) = Pcm
-side_of (suc (suc zero)) = Down
-side_of n = Out
-
-side_of-number : (s : Side) → side_of (number_of_side s) ≡ s
-side_of-number Up = refl
-side_of-number Pcm = refl
-side_of-number Down = refl
-side_of-number Out = refl
-
--- a place is one line's
-same_line : (c d : ℕ) (s t : Side) → place_of c s ≡ place_of d t → (c ≡ d) × (s ≡ t)
-same_line c d s t same =
-    let number : number_of_side s ≡ number_of_side t = omega (arith, same, small s, small t) in
-    (omega (arith, same, number), sym (side_of-number s) ∙ ap side_of number ∙ side_of-number t)
 
 empty : (seats : List (Option OpenLine)) → All (λ seat. seat ≡ None) seats → (k : ℕ) → in_seat seats k ≡ None
 empty [] none k = refl

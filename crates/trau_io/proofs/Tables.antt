@@ -24,6 +24,12 @@ side_of-number Pcm = refl
 side_of-number Down = refl
 side_of-number Out = refl
 
+-- a place is one line's
+pub same_line : (c d : ℕ) (s t : Side) → place_of c s ≡ place_of d t → (c ≡ d) × (s ≡ t)
+same_line c d s t same =
+    let number : number_of_side s ≡ number_of_side t = omega (arith, same, small s, small t) in
+    (omega (arith, same, number), sym (side_of-number s) ∙ ap side_of number ∙ side_of-number t)
+
 get-set_same : {X : Type 0} (xs : List X) (i : ℕ) (x : X) → i < length xs → slice_get (slice_set xs i x) i ≡ Some x
 get-set_same [] i x within = absurd (omega arith)
 get-set_same (y ∷ ys) zero x within = refl
@@ -42,9 +48,7 @@ known_in known table call side = known (slice_get table (place_of call side))
 
 others_set : {X : Type 0} (known : Option X → LineState) (table : List X) (call : ℕ) (side : Side) (x : X) → OthersStay (known_in known table) (known_in known (slice_set table (place_of call side) x)) call side
 others_set known table call side x c s other =
-    ap known (get-set_other table (place_of call side) (place_of c s) x (λ same.
-    let number : number_of_side s ≡ number_of_side side = omega (arith, same, small s, small side) in
-    other (omega (arith, same, number)) (sym (side_of-number s) ∙ ap side_of number ∙ side_of-number side)))
+    ap known (get-set_other table (place_of call side) (place_of c s) x (λ same. let one = same_line c call s side same in other one.0 one.1))
 
 -- one line's place holds another value now
 pub record Replaced {X : Type 0} (known : Option X → LineState) (before now : List X) (call : ℕ) (side : Side) (old new : X) : Type 0 where
