@@ -20,7 +20,10 @@ mod finds;
 mod frame;
 mod hunt;
 pub mod laws;
+mod recording;
 mod station;
+mod text;
 
 pub use finds::{Found, Heard};
+pub use recording::follow;
 pub use station::Ccu;
