@@ -37,7 +37,10 @@ pub enum Asked {
     Decode(u32),
     /// The downlink recorded on a call's Up line, 1 to 4,096, followed as its base station would that wants frames at places
     /// that are `want` modulo 320: 0 to 316, a multiple of 4.
-    Follow { call: u32, want: u16 },
+    Follow {
+        call: u32,
+        want: u16,
+    },
     /// The time slot on a call's Pcm line, cut into four channels for this call's Down line and the next three's: 1 to 4,093.
     Split(u32),
     /// The channels on a call's Up line and the next three's, put together to a time slot: 1 to 4,093.
