@@ -1,21 +1,18 @@
 -- Why the command `follow` ends as it does, and what it leaves without faults.
-use Rattle.std.proofs.Common.{◌≡◌, inl, inr, ⊎_elim, ◌⊎◌, ℕ, ◌≤◌, ◌++◌, List, length, Some, Ok, refl, sym, ◌∙◌, ap, subst, arith}
+use Rattle.std.proofs.Common.{◌≡◌, inl, inr, ⊎_elim, ℕ, ◌≤◌, ◌++◌, List, length, Some, refl, sym, ◌∙◌, ap, subst, arith}
 use Rattle.std.specs.Io.KnownBytes.{Appends}
 use Rattle.std.proofs.KnownBytes.{Appends-trans}
 use Rattle.trau_io.specs.declared.line.Side.{Side}
-use Rattle.trau_io.specs.declared.line.Side.TheVariants.{Up, Down}
 use Rattle.trau_io.specs.Lines.{LineState, Rose}
 use Rattle.trau_io.specs.Desks.{DeskState}
-use Rattle.trau_io.specs.Transfer.{Tells}
 use Rattle.farm_tools.specs.declared.end.ToolEnd.{ToolEnd}
 use Rattle.farm_tools.specs.declared.end.ToolEnd.TheVariants as tool
-use Rattle.farm_tools.specs.Causes.{IsCalm}
 use Rattle.farm_tools.specs.Tools.{status_of}
 use Rattle.farm_tools.proofs.Cleaning.{consumed, appended, at_end}
 use Rattle.ccu_end.specs.declared.recording.FollowEnd.{FollowEnd}
 use Rattle.ccu_end.specs.declared.recording.FollowEnd.TheVariants.{Done, ReadFailed, WriteFailed, DeskFailed}
 use Rattle.ccu_end.specs.Heard.{all_of}
-use Rattle.ccu_end.specs.Told.{listed, sent_up}
+use Rattle.ccu_end.specs.Told.{listed}
 use Rattle.ccu_end.specs.Follows.{Follows}
 use Rattle.ccu_end.specs.Tool.{AreCalm, CleanFollow, FollowCauses, FollowRun, HasCauses, IsFaultOf, LeavesFollowed, TellsLast, last_text}
 

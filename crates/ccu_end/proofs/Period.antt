@@ -1,5 +1,5 @@
 -- One period of a followed downlink.
-use Rattle.std.proofs.Common.{◌≡◌, ℕ, ◌<◌, ◌≤◌, ◌++◌, List, [], length, take, Option, Some, None, Ok, Err, refl, sym, ◌∙◌, ap, subst, arith, length-take}
+use Rattle.std.proofs.Common.{◌≡◌, ℕ, ◌+◌, ◌<◌, ◌≤◌, List, [], ◌∷◌, length, take, Option, Some, None, Result, Ok, Err, refl, sym, ◌∙◌, ap, subst, arith, length-take}
 use Rattle.std.specs.Prelude.{option_to_list}
 use Rattle.std.specs.Io.KnownBytes.{Appends, Consumes}
 use Rattle.std.proofs.KnownBytes.{Appends-nil}
@@ -7,14 +7,14 @@ use Rattle.trau_io.specs.declared.line.Side.{Side}
 use Rattle.trau_io.specs.declared.line.Side.TheVariants.{Up, Down}
 use Rattle.trau_io.specs.declared.transfer.Filled.{Filled}
 use Rattle.trau_io.specs.declared.transfer.Filled.TheVariants as filled
+use Rattle.trau_io.specs.declared.line.Failed.{Failed}
 use Rattle.trau_io.specs.Lines.{LineState, OthersStay, Rose}
 use Rattle.trau_io.specs.Desks.{DeskState}
 use Rattle.trau_io.specs.Transfer.{given_of, ReadsBlock, Tells, WritesAll}
-use Rattle.farm_tools.specs.Runs.{AllButTwo}
 use Rattle.ccu_end.specs.declared.finds.Heard.{Heard}
 use Rattle.ccu_end.specs.declared.recording.PeriodEnd.TheVariants.{Taken, LineEnded, ReadFailed, WriteFailed, DeskFailed}
 use Rattle.ccu_end.specs.Found.{FoundFrame}
-use Rattle.ccu_end.specs.Heard.{CcuMemory, frames_of}
+use Rattle.ccu_end.specs.Heard.{CcuMemory, Stands, frames_of}
 use Rattle.ccu_end.specs.Told.{lines_of, octets_saying}
 use Rattle.ccu_end.specs.Follows.{Gains, Gives, Hears, Moves}
 use Rattle.ccu_end.specs.FollowStep.{FollowsOn, Takes}
@@ -27,10 +27,15 @@ at_most_one : {X : Type 0} (o : Option X) → length (option_to_list o) ≤ 1
 at_most_one None = omega arith
 at_most_one (Some x) = omega arith
 
-pub at_most_two : (h : Heard) → length (frames_of h) ≤ 2
+at_most_two : (h : Heard) → length (frames_of h) ≤ 2
 at_most_two h = grind (arith, at_most_one h.first, at_most_one h.second)
 
--- a call on the Up line leaves the Down line as it was, one on the Down line the Up line, and both all others
+-- what a period that is fed gives
+pub takes_by : (ccu fed : CcuMemory) (block : List ℕ) (h : Heard) → length block ≡ 40 → fed.periods ≡ ccu.periods + 1 → fed.want ≡ ccu.want →
+    ((past : List (List ℕ)) (heard : List (List FoundFrame)) → Stands past heard ccu → Stands (block ∷ past) (frames_of h ∷ heard) fed) → Takes ccu fed block (frames_of h)
+takes_by ccu fed block h long counted want history = record { long = long; counted = counted; want = want; few = at_most_two h; history = history }
+
+-- a call on the Up line leaves the Down line as it was, and one on the Down line the Up line
 up_is_not_down : Up ≡ Down → ⊥
 up_is_not_down e = cc
 
@@ -39,12 +44,6 @@ down_stays before now call others = others call Down (λ same side. up_is_not_do
 
 pub up_stays : (before now : ℕ → Side → LineState) (call : ℕ) → OthersStay before now call Down → now call Up ≡ before call Up
 up_stays before now call others = others call Up (λ same side. up_is_not_down side)
-
-pub others_both : (a b c : ℕ → Side → LineState) (call : ℕ) → OthersStay a b call Up → OthersStay b c call Down → AllButTwo a c call Up Down
-others_both a b c call first second = λ k side up down. second k side down ∙ first k side up
-
-pub others_one : (a b : ℕ → Side → LineState) (call : ℕ) → OthersStay a b call Up → AllButTwo a b call Up Down
-others_one a b call first = λ k side up down. first k side up
 
 stay_gains : (d d' : LineState) → d' ≡ d → Gains d d' []
 stay_gains d d' same = record {
@@ -99,7 +98,13 @@ module _ (ccu ccu' : CcuMemory) (u u' d d' : LineState) (k : DeskState) (block :
 
 -- a whole period, in which these frames were found: it was read, then its answer was written, and then its frames were told
 module _ (ccu ccu' : CcuMemory) (u u1 u2 d d1 d2 : LineState) (k : DeskState) (block : List ℕ) (found : List FoundFrame)
-    (read : ReadsBlock u u1 filled.Whole block) (up_same : u2 ≡ u1) (down_same : d1 ≡ d) (takes : Takes ccu ccu' block found) where
+    (read : ReadsBlock u u1 filled.Whole block) (up_same : u2 ≡ u1) (down_same : d1 ≡ d) (fed : CcuMemory) (same : ccu' ≡ fed) (takes_fed : Takes ccu fed block found) where
+  takes : Takes ccu ccu' block found
+  takes = subst (λ (s : CcuMemory). Takes ccu s block found) (sym same) takes_fed
+
+  answers : (r : Result (Unit {0}) Failed) → WritesAll d1 d2 r (octets_saying fed.answer) → WritesAll d1 d2 r (octets_saying ccu'.answer)
+  answers r w = subst (λ (s : CcuMemory). WritesAll d1 d2 r (octets_saying s.answer)) (sym same) w
+
   gives : Gives u u2 block
   gives = record {
     read = subst (λ (l : LineState). Consumes u.to_come l.to_come block) (sym up_same) read.given;
@@ -117,8 +122,9 @@ module _ (ccu ccu' : CcuMemory) (u u1 u2 d d1 d2 : LineState) (k : DeskState) (b
   up_calm : u2.faults ≡ u.faults
   up_calm = ap (λ (l : LineState). l.faults) up_same ∙ read.stopped
 
-  pub half_answered : WritesAll d1 d2 (Err (record {})) (octets_saying ccu'.answer) → FollowsOn ccu ccu' u u2 d d2 k k WriteFailed
-  half_answered w =
+  pub half_answered : WritesAll d1 d2 (Err (record {})) (octets_saying fed.answer) → FollowsOn ccu ccu' u u2 d d2 k k WriteFailed
+  half_answered w_fed =
+      let w = answers (Err (record {})) w_fed in
       let octets = octets_saying ccu'.answer in
       let front = w.err in
       let long : length (take front.0 octets) ≡ front.0 = take_short front.0 octets front.1 in
@@ -139,7 +145,10 @@ module _ (ccu ccu' : CcuMemory) (u u1 u2 d d1 d2 : LineState) (k : DeskState) (b
         };
       }
 
-  module _ (k' : DeskState) (w : WritesAll d1 d2 (Ok tt) (octets_saying ccu'.answer)) where
+  module _ (k' : DeskState) (w_fed : WritesAll d1 d2 (Ok tt) (octets_saying fed.answer)) where
+    w : WritesAll d1 d2 (Ok tt) (octets_saying ccu'.answer)
+    w = answers (Ok tt) w_fed
+
     down_calm : d2.faults ≡ d.faults
     down_calm = w.cause.ok ∙ ap (λ (o : LineState). o.faults) down_same
 
