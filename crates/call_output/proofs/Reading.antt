@@ -146,7 +146,7 @@ effective-period look who ts t past h p =
     ap (λ us. effective_at who.number (heard_in (reverse (heard_of us))) (length past)) (sym p.1) ∙
     ap (λ ys. effective_at who.number (heard_in (reverse ys)) (length past)) more.1 ∙
     ap (λ ys. effective_at who.number (heard_in ys) (length past)) (reverse-append more.0 now) ∙
-    effective-front look who (reverse now) (reverse more.0) (length past) (omega arith) ∙
+    effective-front look who.number (reverse now) (reverse more.0) (length past) (omega arith) ∙
     ap (effective_at who.number (heard_in (reverse now))) (sym n) ∙ sym (look.newest who.number (heard_as (sighting_after past t.up)) (heard_of past))
 
 -- ---- fields and settings
