@@ -57,6 +57,7 @@ pub handing-stands : (who : Who) (ts : List CallPeriod) (now : Settings) (up : L
 handing-stands who ts now up e m h =
     let x = bits260 (handed_fields e) in
     record {
+      law = h.law;
       search = h.search;
       rx = h.rx;
       decoder = h.decoder;
@@ -194,6 +195,7 @@ pub down-stands : (who : Who) (ts : List CallPeriod) (now : Settings) (up pcm : 
 down-stands who ts now up pcm handed m l b h =
     let half = half-stands who ts now up pcm handed m.down l b h.down in (
       record {
+        law = h.law;
         search = h.search;
         rx = h.rx;
         decoder = subst (λ z. decoder.Stands z m.decoder) (plain-more who.number ts now up pcm handed b) h.decoder;

@@ -39,10 +39,10 @@ use Rattle.call_leg.proofs.DownLaws.{one_more, half-stands, thawed-kept, thawed-
 -- ---- a leg and its halves
 
 pub split-stands : (who : Who) (ts : List CallPeriod) (now : Settings) (m : LegMemory) → Stands who ts now m → UpStands who ts now (up_of m)
-split-stands who ts now m h = record { law = h.down.law; search = h.search; rx = h.rx; decoder = h.decoder; counts = h.counts; bridged = h.down.bridged }
+split-stands who ts now m h = record { law = h.law; search = h.search; rx = h.rx; decoder = h.decoder; counts = h.counts; bridged = h.down.bridged }
 
 pub join-stands : (who : Who) (ts : List CallPeriod) (now : Settings) (u : UpMemory) (d : DownMemory) → UpStands who ts now u → Between who ts now d → Stands who ts now (joined u d)
-join-stands who ts now u d h k = record { search = h.search; rx = h.rx; decoder = h.decoder; counts = h.counts; down = k }
+join-stands who ts now u d h k = record { law = h.law; search = h.search; rx = h.rx; decoder = h.decoder; counts = h.counts; down = k }
 
 -- ---- what a note tells
 
@@ -73,8 +73,8 @@ halves-worked m up =
     let found = search.next_period m.search up in
     let s = sighting_in found.0 in
     let heard = rx.received m.rx (heard_as s) in
-    let out = played m.down.law m.decoder heard.0 (not m.down.bridged) in
-    ap (λ (d : DownMemory). (heard.0, out.0, joined (record { law = m.down.law; search = found.1; rx = heard.1; decoder = out.1; counts = counted s m.counts; bridged = m.down.bridged }) d)) (sym (noted-is m.down s heard.0))
+    let out = played m.law m.decoder heard.0 (not m.down.bridged) in
+    ap (λ (d : DownMemory). (heard.0, out.0, joined (record { law = m.law; search = found.1; rx = heard.1; decoder = out.1; counts = counted s m.counts; bridged = m.down.bridged }) d)) (sym (noted-is m.down s heard.0))
 
 -- ---- the uplink half
 

@@ -30,6 +30,7 @@ pub level-stands : (who : Who) (ts : List CallPeriod) (now : Settings) (level : 
 level-stands who ts now level m h =
     let d = h.down in
     record {
+      law = h.law;
       search = h.search;
       rx = h.rx;
       decoder = h.decoder;
@@ -62,6 +63,7 @@ pub mode-stands : (who : Who) (ts : List CallPeriod) (now : Settings) (mode : Dt
 mode-stands who ts now mode m h =
     let d = h.down in
     record {
+      law = h.law;
       search = h.search;
       rx = h.rx;
       decoder = h.decoder;
@@ -92,6 +94,7 @@ mode-stands who ts now mode m h =
 pub begin-stands : (who : Who) (ts : List CallPeriod) (now : Settings) (m : LegMemory) → due (down_periods ts) (frames_of ts) ≡ None → Stands who ts now m →
     Stands who ts (with_bridge now) (begin_bridge m)
 begin-stands who ts now m n h = record {
+  law = h.law;
   search = h.search;
   rx = h.rx;
   decoder = subst (λ z. decoder.Stands z decoder.home_memory) (sym (plain-new who.number ts)) decoding.home-stands;
@@ -102,6 +105,7 @@ begin-stands who ts now m n h = record {
 pub end-stands : (who : Who) (ts : List CallPeriod) (now : Settings) (m : LegMemory) → now.bridged ≡ true → Stands who ts now m →
     Stands who ts (without_bridge now) (with_down m (bridge_over m.down))
 end-stands who ts now m b h = record {
+  law = h.law;
   search = h.search;
   rx = h.rx;
   decoder = h.decoder;
@@ -148,6 +152,7 @@ home_rx call = record { state = refl; source = refl }
 
 pub new-stands : (who : Who) → Stands who [] new_settings (home_leg who)
 new-stands who = record {
+  law = refl;
   search = home_search;
   rx = home_rx who.number;
   decoder = decoding.home-stands;

@@ -108,9 +108,9 @@ half-step old d0 d1 d2 new pcm bits e0 e1 e2 en eb =
 
 -- the uplink half
 pub up-step : (m : LegMemory) (up : List ℕ) (y : Option Yield) (found : search.SyncMemory) (s : Sighting) (e : EffectiveFields) (heard : rx.RxMemory) (out : List ℕ) (decoder1 : decoder.DecoderMemory) (n : Counts) (d : DownMemory) (quiet : Bool) →
-    search.next_period m.search up ≡ (y, found) → s ≡ sighting_in y → rx.received m.rx (heard_as s) ≡ (e, heard) → played m.down.law m.decoder e (not m.down.bridged) ≡ (out, decoder1) →
+    search.next_period m.search up ≡ (y, found) → s ≡ sighting_in y → rx.received m.rx (heard_as s) ≡ (e, heard) → played m.law m.decoder e (not m.down.bridged) ≡ (out, decoder1) →
     n ≡ counted s m.counts → quiet ≡ is_quiet e → d ≡ after_sighting m.down s quiet →
-    up_worked m up ≡ (e, out, record { search = found; rx = heard; decoder = decoder1; counts = n; down = d })
+    up_worked m up ≡ (e, out, record { law = m.law; search = found; rx = heard; decoder = decoder1; counts = n; down = d })
 unfolding up_worked
 up-step m up y found s e heard out decoder1 n d quiet ey es er ep en eq ed =
     let s1 = sighting_in y in
@@ -119,11 +119,11 @@ up-step m up y found s e heard out decoder1 n d quiet ey es er ep en eq ed =
     let en1 : n ≡ counted (sighting_in y) m.counts = en ∙ ap (λ z. counted z m.counts) es in
     ap (λ (f : Option Yield × search.SyncMemory).
     let h = rx.received m.rx (heard_as (sighting_in f.0)) in
-    let o = played m.down.law m.decoder h.0 (not m.down.bridged) in
-    (h.0, o.0, record { search = f.1; rx = h.1; decoder = o.1; counts = counted (sighting_in f.0) m.counts; down = after_sighting m.down (sighting_in f.0) (is_quiet h.0) })) ey
+    let o = played m.law m.decoder h.0 (not m.down.bridged) in
+    (h.0, o.0, record { law = m.law; search = f.1; rx = h.1; decoder = o.1; counts = counted (sighting_in f.0) m.counts; down = after_sighting m.down (sighting_in f.0) (is_quiet h.0) })) ey
     ∙ ap (λ (h : EffectiveFields × rx.RxMemory).
-    let o = played m.down.law m.decoder h.0 (not m.down.bridged) in
-    (h.0, o.0, record { search = found; rx = h.1; decoder = o.1; counts = counted (sighting_in y) m.counts; down = after_sighting m.down (sighting_in y) (is_quiet h.0) })) er1
-    ∙ ap (λ (o : List ℕ × decoder.DecoderMemory). (e, o.0, record { search = found; rx = heard; decoder = o.1; counts = counted (sighting_in y) m.counts; down = after_sighting m.down (sighting_in y) (is_quiet e) })) ep
-    ∙ ap (λ z. (e, out, record { search = found; rx = heard; decoder = decoder1; counts = z; down = after_sighting m.down (sighting_in y) (is_quiet e) })) (sym en1)
-    ∙ ap (λ z. (e, out, record { search = found; rx = heard; decoder = decoder1; counts = n; down = z })) (sym ed1)
+    let o = played m.law m.decoder h.0 (not m.down.bridged) in
+    (h.0, o.0, record { law = m.law; search = found; rx = h.1; decoder = o.1; counts = counted (sighting_in y) m.counts; down = after_sighting m.down (sighting_in y) (is_quiet h.0) })) er1
+    ∙ ap (λ (o : List ℕ × decoder.DecoderMemory). (e, o.0, record { law = m.law; search = found; rx = heard; decoder = o.1; counts = counted (sighting_in y) m.counts; down = after_sighting m.down (sighting_in y) (is_quiet e) })) ep
+    ∙ ap (λ z. (e, out, record { law = m.law; search = found; rx = heard; decoder = decoder1; counts = z; down = after_sighting m.down (sighting_in y) (is_quiet e) })) (sym en1)
+    ∙ ap (λ z. (e, out, record { law = m.law; search = found; rx = heard; decoder = decoder1; counts = n; down = z })) (sym ed1)

@@ -98,9 +98,9 @@ up-stands who ts now up m l h =
     let found = search.next_period m.search up in
     let heard = rx.received m.rx (heard_as (found_in m.search up)) in
     let e = hears who.number ts up m.search m.rx l h.search h.rx in
-    up-midway who ts now up m _ (found_in m.search up) heard.0 h e.0 (stands-next m.search found.1 up found.0 l refl (ups_of ts) h.search).0
+    up-midway who ts now up m _ (found_in m.search up) heard.0 h refl e.0 (stands-next m.search found.1 up found.0 l refl (ups_of ts) h.search).0
     (received_more who.number (heard_of ts) m.rx (heard_as (found_in m.search up)) heard.0 heard.1 refl h.rx).0 e.1
-    (played-stands m.down.law heard.0 (not m.down.bridged) (plain_stretch who.number (epoch_now ts now) ts) m.decoder h.decoder).0 refl
+    (played-stands m.law heard.0 (not m.down.bridged) (plain_stretch who.number (epoch_now ts now) ts) m.decoder h.decoder).0 refl
     (hear-stands who ts now up (found_in m.search up) (is_quiet heard.0) m.down e.0 (ap is_quiet e.1) h.down)
 
 pub up-effective : (who : Who) (ts : List CallPeriod) (now : Settings) (up pcm : List ℕ) (handed : Option (List ℕ)) (m : LegMemory) → length up ≡ 40 → Stands who ts now m →
@@ -113,5 +113,5 @@ pub up-plays : (who : Who) (ts : List CallPeriod) (now : Settings) (up pcm : Lis
 unfolding up_worked
 up-plays who ts now up pcm handed m l b h =
     let heard = rx.received m.rx (heard_as (found_in m.search up)) in
-    up-out who ts now up pcm handed m.down.law m.down.bridged heard.0 _ h.down.law h.down.bridged (hears who.number ts up m.search m.rx l h.search h.rx).1 b
-    (played-stands m.down.law heard.0 (not m.down.bridged) (plain_stretch who.number (epoch_now ts now) ts) m.decoder h.decoder).1
+    up-out who ts now up pcm handed m.law m.down.bridged heard.0 _ h.law h.down.bridged (hears who.number ts up m.search m.rx l h.search h.rx).1 b
+    (played-stands m.law heard.0 (not m.down.bridged) (plain_stretch who.number (epoch_now ts now) ts) m.decoder h.decoder).1

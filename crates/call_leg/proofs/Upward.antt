@@ -42,14 +42,15 @@ plain-more call ts now up pcm handed b =
     ap (λ k. plain_with e (not now.bridged) (plain_stretch call k ts)) (begun-more now up pcm handed ts) ∙ ap (λ z. plain_with e z (plain_stretch call n ts)) same
 
 -- the uplink half is worked
-pub up-midway : (who : Who) (ts : List CallPeriod) (now : Settings) (up : List ℕ) (m m1 : LegMemory) (s : Sighting) (e : EffectiveFields) → Stands who ts now m →
+pub up-midway : (who : Who) (ts : List CallPeriod) (now : Settings) (up : List ℕ) (m m1 : LegMemory) (s : Sighting) (e : EffectiveFields) → Stands who ts now m → m1.law ≡ m.law →
     s ≡ sighting_after ts up → search.Stands (up ∷ ups_of ts) m1.search → rx.Stands who.number (heard_as s ∷ heard_of ts) m1.rx →
     e ≡ effective_of who.number (heard_as (sighting_after ts up) ∷ heard_of ts) →
     decoder.Stands (plain_with e (not m.down.bridged) (plain_stretch who.number (epoch_now ts now) ts)) m1.decoder →
     m1.counts ≡ counted s m.counts → Halfway who ts now up None m1.down → Midway who ts now up None m1
-up-midway who ts now up m m1 s e h es se rs ee ds cs hs =
+up-midway who ts now up m m1 s e h la es se rs ee ds cs hs =
     let q : EffectiveFields = effective_of who.number (heard_as (sighting_after ts up) ∷ heard_of ts) in
     record {
+      law = la ∙ h.law;
       search = se;
       rx = subst (λ z. rx.Stands who.number (heard_as z ∷ heard_of ts) m1.rx) es rs;
       decoder = subst (λ z. decoder.Stands (plain_with q (not z) (plain_stretch who.number (epoch_now ts now) ts)) m1.decoder) h.down.bridged

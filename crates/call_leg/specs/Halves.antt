@@ -24,7 +24,7 @@ use Rattle.call_leg.specs.Step.{played, after_handing, down_worked}
 
 -- ---- what they keep
 
--- the uplink half: what a leg keeps beside its downlink side, and of that side the law and whether a bridge is on
+-- the uplink half: what a leg keeps beside its downlink side, and whether a bridge is on
 pub record UpMemory : Type 0 where
   pub law : Law
   pub search : search.SyncMemory
@@ -35,10 +35,10 @@ pub record UpMemory : Type 0 where
 
 -- the uplink half of a leg, and the leg of two halves; the downlink half is the leg's downlink side
 abbrev pub up_of : LegMemory → UpMemory
-up_of m = record { law = m.down.law; search = m.search; rx = m.rx; decoder = m.decoder; counts = m.counts; bridged = m.down.bridged }
+up_of m = record { law = m.law; search = m.search; rx = m.rx; decoder = m.decoder; counts = m.counts; bridged = m.down.bridged }
 
 abbrev pub joined : UpMemory → DownMemory → LegMemory
-joined u d = record { search = u.search; rx = u.rx; decoder = u.decoder; counts = u.counts; down = d }
+joined u d = record { law = u.law; search = u.search; rx = u.rx; decoder = u.decoder; counts = u.counts; down = d }
 
 -- ---- what a period of the uplink tells the downlink
 

@@ -45,7 +45,9 @@ pub record DownMemory : Type 0 where
   pub sent : ℕ
   pub made : ℕ
 
+-- a leg: the call's law, what the way up keeps, and the downlink side
 pub record LegMemory : Type 0 where
+  pub law : Law
   pub search : SyncMemory
   pub rx : RxMemory
   pub decoder : DecoderMemory

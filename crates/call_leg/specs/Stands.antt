@@ -15,6 +15,7 @@ use Rattle.call_leg.specs.Places.{Between, Halfway}
 
 -- Between periods: the leg is that of a call that had these periods, with the settings `now` for the next one.
 pub record Stands (who : Who) (ts : List CallPeriod) (now : Settings) (m : LegMemory) : Type 0 where
+  pub law : m.law ≡ who.law
   pub search : search.Stands (ups_of ts) m.search
   pub rx : rx.Stands who.number (heard_of ts) m.rx
   pub decoder : decoder.Stands (plain_stretch who.number (epoch_now ts now) ts) m.decoder
@@ -27,6 +28,7 @@ OfItsCall m P = (who : Who) (ts : List CallPeriod) (now : Settings) → Stands w
 
 -- Between the halves of a period: the octets of the Up line were worked, and `handed` was handed over.
 pub record Midway (who : Who) (ts : List CallPeriod) (now : Settings) (up : List ℕ) (handed : Option (List ℕ)) (m : LegMemory) : Type 0 where
+  pub law : m.law ≡ who.law
   pub search : search.Stands (up ∷ ups_of ts) m.search
   pub rx : rx.Stands who.number (heard_as (sighting_after ts up) ∷ heard_of ts) m.rx
   pub decoder : decoder.Stands (plain_with (effective_of who.number (heard_as (sighting_after ts up) ∷ heard_of ts)) (not now.bridged) (plain_stretch who.number (epoch_now ts now) ts)) m.decoder

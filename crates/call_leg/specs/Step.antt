@@ -46,7 +46,7 @@ home_down law = record {
 }
 
 abbrev pub home_leg : Who → LegMemory
-home_leg who = record { search = search.home_memory; rx = rx.first_memory who.number; decoder = decoder.home_memory; counts = no_counts; down = home_down who.law }
+home_leg who = record { law = who.law; search = search.home_memory; rx = rx.first_memory who.number; decoder = decoder.home_memory; counts = no_counts; down = home_down who.law }
 
 -- ---- the uplink half
 
@@ -76,10 +76,11 @@ unfoldable pub up_worked : LegMemory → List ℕ → EffectiveFields × List �
 up_worked m up =
     let found = search.next_period m.search up in
     let heard = rx.received m.rx (heard_as (sighting_in found.0)) in
-    let out = played m.down.law m.decoder heard.0 (not m.down.bridged) in (
+    let out = played m.law m.decoder heard.0 (not m.down.bridged) in (
       heard.0,
       out.0,
       record {
+        law = m.law;
         search = found.1;
         rx = heard.1;
         decoder = out.1;

@@ -52,6 +52,7 @@ impl Leg {
             made: 0,
         };
         Ok(Leg {
+            law,
             search: FrameSync::new(),
             rx: Rx::new(call),
             decoder: Decoder::home(),
@@ -80,13 +81,7 @@ impl Leg {
         let found = read(&yielded);
         count(&mut self.counts, &found);
         let e = hear(&mut self.rx, &found);
-        play(
-            &mut self.decoder,
-            self.down.law,
-            &e,
-            !self.down.bridged,
-            out,
-        );
+        play(&mut self.decoder, self.law, &e, !self.down.bridged, out);
         self.down.hear(&found, is_quiet(&e));
         e
     }

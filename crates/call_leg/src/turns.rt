@@ -26,6 +26,7 @@ impl Leg {
         ensures history { OfItsCall self (λ who ts now. UpStands who ts now result.0 × Between who ts now result.1) }
     {
         let Leg {
+            law,
             search,
             rx,
             decoder,
@@ -33,7 +34,7 @@ impl Leg {
             down,
         } = self;
         let up = UpLeg {
-            law: down.law,
+            law,
             search,
             rx,
             decoder,
@@ -49,7 +50,7 @@ impl Leg {
         ensures history { (who : Who) (ts : List CallPeriod) (now : Settings) → UpStands who ts now up → Between who ts now down → Stands who ts now result }
     {
         let UpLeg {
-            law: _,
+            law,
             search,
             rx,
             decoder,
@@ -58,6 +59,7 @@ impl Leg {
         } = up;
         let DownLeg { side } = down;
         Leg {
+            law,
             search,
             rx,
             decoder,
@@ -105,12 +107,11 @@ impl UpLeg {
         }
     }
 
-    /// Has from now on the law of the downlink half, and a bridge exactly where that has one, as in the leg of both.
+    /// Has a bridge from now on exactly where the downlink half has one, as in the leg of both.
     pub fn agree(&mut self, down: &DownLeg)
         ensures step { self.new ≡ up_of (joined self.old down.now) }
         ensures periods { self.new.search.periods ≤ 4294967295 }
     {
-        self.law = down.side.law;
         self.bridged = down.bridged();
     }
 

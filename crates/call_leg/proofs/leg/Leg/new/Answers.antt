@@ -9,6 +9,7 @@ pub returns-clause-history : goal.returns-clause-history
 returns-clause-history c =
     let who : Who = record { number = c.args.call; law = c.args.law } in
     record {
+      law = refl;
       search = c.new-2.ensures.history;
       rx = c.new-3.ensures.history;
       decoder = c.home.ensures.history;
