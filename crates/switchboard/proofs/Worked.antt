@@ -2,7 +2,7 @@
 use Rattle.std.proofs.Common.{◌≡◌, refl, ℕ, ◌+◌, true, false, Some, None, List, [], ◌∷◌, length, map, drop, if◌then◌else◌}
 use Rattle.std.specs.Prelude.{◌==◌}
 use Rattle.std.specs.Prelude.{Result, Ok, Err, pos}
-use Rattle.trau_alaw.specs.declared.Law.TheVariants.{A}
+use Rattle.trau_alaw.specs.declared.Law.TheVariants.{A, Mu}
 use Rattle.trau_orders.specs.declared.order.Order.{Order}
 use Rattle.trau_orders.specs.declared.order.What.{What}
 use Rattle.trau_orders.specs.declared.order.What.TheVariants.{OpenCall, CloseCall, Bridge, Unbridge, Level}
@@ -12,7 +12,7 @@ use Rattle.switchboard.specs.declared.act.Act.{Act}
 use Rattle.switchboard.specs.declared.act.Act.TheVariants as act
 use Rattle.switchboard.specs.declared.act.Refusal.{Refusal}
 use Rattle.switchboard.specs.declared.act.Refusal.TheVariants as refusal
-use Rattle.switchboard.specs.Calls.{Done}
+use Rattle.switchboard.specs.Calls.{Done, law_at}
 use Rattle.switchboard.specs.Runs.{done_of, left_of}
 use Rattle.switchboard.specs.Ends.{Given, end_of, spans_of, whole_of}
 
@@ -24,16 +24,21 @@ replies whole orders = map (λ d. d.result) (done_of whole 1000 orders)
 
 orders : List Order
 orders =
-    at 0 (OpenCall 1 A) ∷ at 0 (OpenCall 2 A) ∷ at 0 (OpenCall 3 A) ∷
-    at 0 (OpenCall 1 A) ∷ at 0 (Bridge 1 1) ∷ at 0 (Bridge 1 2) ∷ at 0 (Bridge 3 2) ∷ at 0 (Unbridge 3) ∷
+    at 0 (OpenCall 1 A) ∷ at 0 (OpenCall 2 A) ∷ at 0 (OpenCall 3 Mu) ∷
+    at 0 (OpenCall 1 Mu) ∷ at 0 (Bridge 1 1) ∷ at 0 (Bridge 1 2) ∷ at 0 (Bridge 3 2) ∷ at 0 (Unbridge 3) ∷
     at 1 (Unbridge 2) ∷ at 1 (Bridge 3 1) ∷ at 1 (CloseCall 3) ∷ at 1 (OpenCall 3 A) ∷ at 1 (Level 9 (pos 0)) ∷ []
 
 the_replies : replies (λ c. 2) orders ≡
-    Ok (act.Opened 1 A) ∷ Ok (act.Opened 2 A) ∷ Ok (act.Opened 3 A) ∷
+    Ok (act.Opened 1 A) ∷ Ok (act.Opened 2 A) ∷ Ok (act.Opened 3 Mu) ∷
     Err (refusal.AlreadyOpen 1) ∷ Err (refusal.SameCall 1) ∷ Ok (act.Bridged 1 2) ∷ Err (refusal.Bridged 2 1) ∷ Err (refusal.NotBridged 3) ∷
     Ok (act.Unbridged 1 2) ∷ Err (refusal.Draining 1 2) ∷ Ok (act.Closed 3 None) ∷ Err (refusal.NumberUsed 3) ∷ Err (refusal.NotOpen 9) ∷ []
 unfolding orders
 the_replies = refl
+
+-- The law is that of the order that opened the call, and no refused order's.
+the_laws : map (λ c. law_at c (done_of (λ c. 2) 1000 orders)) (1 ∷ 3 ∷ []) ≡ A ∷ Mu ∷ []
+unfolding orders
+the_laws = refl
 
 -- At a stamp equal to its natural end a call is still open and bridged; past it neither.
 late : List Order
