@@ -40,10 +40,10 @@ pub record CarriesFrames (before now : ℕ → Side → LineState) (desk desk' :
 abbrev pub IsInRange : Asked → Type 0
 IsInRange (Run s) = IsPace (pace_of s)
 IsInRange (Drill seed calls s) = (calls ≤ 256) × (s.periods ≤ 1000) × IsPace (pace_of s)
-IsInRange (Relay c) = (1 ≤ c) × (c ≤ 1024)
-IsInRange (Frames c) = (1 ≤ c) × (c ≤ 1024)
-IsInRange (Encode c) = (1 ≤ c) × (c ≤ 1024)
-IsInRange (Decode c) = (1 ≤ c) × (c ≤ 1024)
+IsInRange (Relay c) = (1 ≤ c) × (c ≤ 4096)
+IsInRange (Frames c) = (1 ≤ c) × (c ≤ 4096)
+IsInRange (Encode c) = (1 ≤ c) × (c ≤ 4096)
+IsInRange (Decode c) = (1 ≤ c) × (c ≤ 4096)
 IsInRange (Split c) = (1 ≤ c) × (c ≤ 4093)
 IsInRange (Merge c) = (1 ≤ c) × (c ≤ 4093)
 
