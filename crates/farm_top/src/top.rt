@@ -133,7 +133,7 @@ fn carry_out<R: Threads + Wait + Sync, T: Trunk, D: Desk, G: Gate + Sync>(
 /// The commands are `relay C`, which copies the good speech frames of a call's uplink, bits unchanged, to its
 /// downlink, `decode C`, which decodes them to its Out line, `encode C`, which encodes its Pcm line to downlink
 /// frames, and `frames C`, which searches its uplink for frames and tells a line of text for each; C is the call's
-/// number, 1 to 1,024, in decimal digits without leading zeros. An uplink is cut into blocks of 40 octets, and in
+/// number, 1 to 4,096, in decimal digits without leading zeros. An uplink is cut into blocks of 40 octets, and in
 /// `relay` and `decode` the first block that isn't a good speech frame ends the command. A Pcm line is cut into blocks
 /// of 160 octets. What `encode` and `frames` leave of the line behind the last whole block is told and not used.
 ///

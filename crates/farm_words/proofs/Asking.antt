@@ -43,14 +43,14 @@ same_head f [] a y ys long is e = absurd (omega arith)
 same_head f (x ∷ xs) a y ys long is e = cc
 
 -- a tool's two words
-named : (words : List Text) (name number command : Text) (c call : ℕ) → words ≡ name ∷ number ∷ [] → IsNumber 1 1024 number call → Names words command c → (name ≡ command) × (c ≡ call)
+named : (words : List Text) (name number command : Text) (c call : ℕ) → words ≡ name ∷ number ∷ [] → IsNumber 1 4096 number call → Names words command c → (name ≡ command) × (c ≡ call)
 named words name number command c call are is names =
     let spelled = names.spelled in
     let same : name ≡ command = cc in
     let digits : number ≡ decimal c = cc in
     (same, decimal_injective c call (omega (arith, names.high)) (omega (arith, is.at_most)) (sym digits ∙ is.spelled))
 
-pub tool_on : (words : List Text) (name number : Text) (a : Asked) (call : ℕ) → words ≡ name ∷ number ∷ [] → IsNumber 1 1024 number call → AsksTool words a → IsToolOn a name call
+pub tool_on : (words : List Text) (name number : Text) (a : Asked) (call : ℕ) → words ≡ name ∷ number ∷ [] → IsNumber 1 4096 number call → AsksTool words a → IsToolOn a name call
 tool_on words name number (Run s) call are is asks = absurd asks
 tool_on words name number (Drill seed calls s) call are is asks = absurd asks
 tool_on words name number (Relay c) call are is asks = named words name number _ c call are is asks

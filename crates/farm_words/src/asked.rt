@@ -16,7 +16,7 @@ pub struct Settings {
     pub periods: u32,
 }
 
-/// What the words ask for. The tools name a call, 1 to 1,024.
+/// What the words ask for. The tools name a call, 1 to 4,096.
 #[derive(Clone, Copy, Debug, PartialEq, Eq)]
 pub enum Asked {
     /// A run of all calls that orders open.

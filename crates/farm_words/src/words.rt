@@ -28,7 +28,7 @@ fn options_of<'a>(words: &'a [String], command: &str) -> Option<&'a [String]>
 ///
 /// | Words | What they ask for |
 /// |---|---|
-/// | `relay C`, `frames C`, `encode C`, `decode C` | a tool's work on call C, 1 to 1,024 |
+/// | `relay C`, `frames C`, `encode C`, `decode C` | a tool's work on call C, 1 to 4,096 |
 /// | `follow C W` | the base station's end of a downlink on call C, 1 to 4,096; W is 0 to 316, a multiple of 4 |
 /// | `split C`, `merge C` | a time slot cut into channels, or put together of them, call C being 1 to 4,093 |
 /// | `run` and its options | a run |

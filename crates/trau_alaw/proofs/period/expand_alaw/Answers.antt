@@ -1,10 +1,10 @@
 use Rattle.std.proofs.Common.{sym, refl, rules, arith, FitsSigned, w16}
 use Rattle.std.proofs.lemmas.Int.{to_z-of_z}
-use Rattle.trau_alaw.specs.Alaw.{alaw}
 use Rattle.trau_alaw.specs.Companding.{middle}
-use Rattle.call_leg.specs.Down.{expanded}
-use Rattle.call_leg.proofs.Mapping.{run_next, run_end}
-use Rattle.call_leg.proofs.coder.expand_all.Goals as goal
+use Rattle.trau_alaw.specs.Alaw.{alaw}
+use Rattle.trau_alaw.specs.Period.{expanded}
+use Rattle.trau_alaw.proofs.Mapping.{run_next, run_end}
+use Rattle.trau_alaw.proofs.period.expand_alaw.Goals as goal
 
 pub loop-k-init : goal.loop-k-init
 loop-k-init c = record { count = sym c.told-octets; done = refl }
