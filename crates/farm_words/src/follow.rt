@@ -3,10 +3,8 @@
 ghost use Rattle.std.specs.Prelude.{◌≡◌, ◌≤◌, ◌%◌, ℕ, IfSome, IsNone, map, string_bytes};
 ghost use Rattle.farm_words.specs.Follow.{IsWanted, NamesFollow};
 
+use crate::tools::HIGHEST_CALL;
 use decimal_number::number_of_text;
-
-/// The highest number of a call.
-const HIGHEST_CALL: u32 = 4096;
 
 /// The last wanted place that is below 320 and a multiple of 4.
 const HIGHEST_WANT: u32 = 316;
