@@ -1,0 +1,3 @@
+-- Lemmas on the frames of calls.
+mod Shapes
+mod Legs
