@@ -1,4 +1,5 @@
 -- Lemmas on the frames of calls.
 mod Shapes
+mod Effective
 mod Legs
 mod Calls

@@ -1,9 +1,11 @@
 //! Laws of a call's downlink as it is heard, each the contract of a function that does nothing.
 
-ghost use Rattle.std.specs.Prelude.{◌≡◌, ◌*◌, List, length, map};
+ghost use Rattle.std.specs.Prelude.{◌≡◌, ℕ, ◌*◌, List, length, map};
+ghost use Rattle.trau_params.specs.Bits260.{bits260};
 ghost use Rattle.ccu_end.specs.Found.{Found, all_within, as_made, places_from};
 ghost use Rattle.call_leg.specs.Who.{Who};
-ghost use Rattle.call_leg.specs.Periods.{CallPeriod};
+ghost use Rattle.call_leg.specs.Uplink.{handed_fields};
+ghost use Rattle.call_leg.specs.Periods.{CallPeriod, effective_now};
 ghost use Rattle.call_leg.specs.Down.{down_line, frame_now, frames_of};
 ghost use Rattle.call_output.specs.Call.{Call, periods};
 ghost use Rattle.call_output.specs.Down.{down, down_frames, made};
@@ -12,6 +14,11 @@ ghost use Rattle.call_heard.specs.Heard.{HandsFrames, heard_of};
 ghost use Rattle.call_heard.specs.Items.{HandFrames};
 
 use rx_handler::laws::{the_newest_is_the_last, the_table_looks_back};
+
+/// What a call hands over in a period are 260 bits, whatever its uplink: those of its effective frame, or of silence.
+pub fn handed_frames_have_260_bits()
+    ensures { (number : ℕ) (ts : List CallPeriod) → length (bits260 (handed_fields (effective_now number ts))) ≡ 260 }
+{}
 
 /// On the Down line of any history of a call, exactly the made frames are found, each at its place and with what was sent in
 /// it, as far as its first 316 bits are there. A history has the newest period first.
