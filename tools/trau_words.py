@@ -101,6 +101,7 @@ OPTIONS_OF = {"run": OPTIONS, "drill": DRILL_OPTIONS}
 
 ORDERS = (
     Order("S open C", "the call begins"),
+    Order("S open C mulaw", "it begins, with mu-law from and to the exchange in place of A-law"),
     Order("S close C", "the call ends"),
     Order("S bridge C D", "frames of the two calls are handed over without decoding"),
     Order("S unbridge C", "they are handed over no more"),
@@ -123,13 +124,13 @@ STATUSES = (
 
 FILES = (
     ("C.up", "from the base station: TRAU frames, 40 octets in a period of 20 ms"),
-    ("C.pcm", "from the exchange: A-law, 160 octets in a period"),
+    ("C.pcm", "from the exchange: A-law or mu-law, 160 octets in a period"),
     ("C.down", "to the base station: TRAU frames"),
-    ("C.out", "to the exchange: A-law"),
+    ("C.out", "to the exchange: A-law or mu-law"),
 )
 
 NOTE_ON_FILES = (
-    "Lines are files of the current folder. C is a call's number, 1 to 1,024, in decimal digits without leading zeros. The"
+    "Lines are files of the current folder. C is a call's number, 1 to 4,096, in decimal digits without leading zeros. The"
     " commands of one call write the same files as run does."
 )
 NOTE_ON_ORDERS = "An order is a line of words with one space between. S is the period at whose start it takes effect."
