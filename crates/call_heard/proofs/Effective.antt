@@ -78,13 +78,13 @@ shape-mix old new i before after = record {
 
 -- ---- what is heard
 
-abbrev IsShaped : Heard → Type 0
+abbrev pub IsShaped : Heard → Type 0
 IsShaped (Good p) = HasShape p
 IsShaped (Sid q) = HasShape q
 IsShaped Idle = Unit {0}
 IsShaped (Lost missed) = Unit {0}
 
-abbrev AreShaped : List Heard → Type 0
+abbrev pub AreShaped : List Heard → Type 0
 AreShaped [] = Unit {0}
 AreShaped (y ∷ past) = IsShaped y × AreShaped past
 

@@ -3,3 +3,4 @@ mod Shapes
 mod Effective
 mod Legs
 mod Calls
+mod Runs
