@@ -75,6 +75,12 @@ COMMANDS = (
     Command("frames", CALL, "searches C.up for frames at any bit, and tells a line of text for each; it writes no line"),
     Command("split", CALL, "takes the time slot C.pcm, and writes its four channels to the Down lines of calls C to C + 3"),
     Command("merge", CALL, "takes C.up and the Up lines of the next three calls as four channels, and writes the time slot C.out"),
+    Command(
+        "follow",
+        "C W",
+        "takes C.up as a downlink, tells a line of text for each frame that a base station finds on it, and writes to C.down what"
+        " it sends up, asking for frames at W modulo 320, 0 to 316 and a multiple of 4",
+    ),
 )
 
 OPTIONS = (
@@ -208,7 +214,7 @@ def man_page(version: str, date: str) -> str:
         ".SH SYNOPSIS",
     ]
     for number, command in enumerate(COMMANDS):
-        options = "".join(f" [{option.name} N]" for option in OPTIONS_OF.get(command.name, ())) or f" {CALL}"
+        options = "".join(f" [{option.name} N]" for option in OPTIONS_OF.get(command.name, ())) or f" {command.words}"
         orders = " <ORDERS" if command.name == "run" else ""
         lines += [".br"] * (number > 0) + [f".B {NAME} {command.name}{escaped(options + orders)}"]
     lines += [".SH COMMANDS", escaped(NOTE_ON_FILES)]
