@@ -18,6 +18,8 @@ use Rattle.farm_rounds.specs.Numbers.{is_among}
 use Rattle.farm_rounds.specs.Rounds.{no_job, job_at, HasJob, entry_at, octets_of, call_from, group_from, groups_from, Works}
 use Rattle.farm_rounds.specs.RoundHistories.{seat_of}
 use Rattle.farm_rounds.specs.Working.{RoundMemory, IsRound, goes_on_call}
+use Rattle.farm_rounds.specs.Ordered.{job_in}
+use Rattle.farm_rounds.proofs.Ordering.{among_at}
 use Rattle.farm_rounds.proofs.Finding.{found_there, found_only}
 use Rattle.farm_rounds.proofs.Settling.{some_group}
 use Rattle.farm_rounds.proofs.Handing.{same_read, its_job}
@@ -27,9 +29,6 @@ use Rattle.farm_rounds.proofs.Seating.{seat_of_at}
 use Rattle.farm_rounds.proofs.Finished.{Seated}
 
 -- ---- the job of a call
-
-abbrev pub job_in : List Job → ℕ → Option Job
-job_in jobs c = find (λ j. has_call j c) jobs
 
 holds_from : (j : Job) (c : ℕ) → holds c (group_from j) ≡ has_call j c
 holds_from (One h) c = refl
@@ -61,15 +60,6 @@ job_count (j ∷ jobs) c =
 
 pub job_found : (jobs : List Job) (j c : ℕ) → count_by (λ x. has_call x c) jobs ≤ 1 → HasJob jobs j c → job_in jobs c ≡ Some (job_at jobs j)
 job_found jobs j c few has = found_only (λ x. has_call x c) jobs (job_at jobs j) j has.0 (same_read jobs j (job_at jobs j) no_job has.0) has.1 few
-
--- ---- the seat of a call
-
-among_at : (xs : List ℕ) (c : ℕ) → is_among xs c ≡ true → (k : ℕ) × (k < length xs) × (slice_index xs k ≡ c)
-among_at [] c t = absurd (false≢true t)
-among_at (x ∷ xs) c t = elim (cases_Bool (x == c)) [
-  | inl u ↦ (0, omega arith, eqb-true x c u)
-  | inr f ↦ let r = among_at xs c (ap (λ (b : Bool). b || is_among xs c) (sym f) ∙ t) in (suc r.0, omega (arith, r.1), r.2)
-]
 
 -- ---- both
 

@@ -24,6 +24,7 @@ mod farm;
 mod groups;
 mod jobs;
 mod live;
+mod order;
 mod phases;
 mod rest;
 mod round;
