@@ -17,6 +17,7 @@ pub mod Drained
 pub mod Working
 pub mod Starting
 pub mod Ordering
+pub mod Meeting
 pub mod Phasing
 pub mod Rooms
 pub mod Planned

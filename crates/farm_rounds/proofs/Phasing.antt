@@ -21,7 +21,7 @@ use Rattle.call_pair.proofs.Turns.{call_turn_left, call_turn_call}
 use Rattle.call_pair.proofs.Phased.{length-notes, first-finished, one-phased, two-phased}
 use Rattle.farm_rounds.specs.declared.call.Group.{Group}
 use Rattle.farm_rounds.specs.declared.order.Party.{Party}
-use Rattle.farm_rounds.specs.Calls.{holds, group_in, call_in}
+use Rattle.farm_rounds.specs.Calls.{holds, group_in, call_in, size_of, calls_held}
 use Rattle.farm_rounds.specs.Groups.{IsGroup, AreGroups, AreLive}
 use Rattle.farm_rounds.specs.Numbers.{IsRising, is_among}
 use Rattle.farm_rounds.specs.Ordered.{AreSpread, AreRun, IsApart, IsHeld, IsParty, IsPlaceOf, job_in, names, other_named, party_of, slot_at, bridge_end_of, start_of}
@@ -228,6 +228,15 @@ all_parties most [] a = All-nil IsParty
 all_parties most (j ∷ js) a =
     All-cons IsParty (party_of j) (map party_of js) (its_party most j (All-head (IsGroup most) (group_from j) (groups_from js) a)) (all_parties most js (All-tail (IsGroup most) (group_from j) (groups_from js) a))
 
+-- there are no more jobs than calls
+pub few_jobs : (js : List Job) → length js ≤ calls_held (groups_from js)
+few_jobs [] = omega arith
+few_jobs (j ∷ js) = let i = few_jobs js in let s = one j in omega (arith, i, s, sum_by-cons size_of (group_from j) (groups_from js))
+  where
+    one : (j : Job) → 1 ≤ size_of (group_from j)
+    one (job.One h) = omega arith
+    one (job.Two a b) = omega arith
+
 -- the job of the call at a place
 pub record JobAt (jobs : List Job) (most c : ℕ) : Type 0 where
   pub its : Job
@@ -334,7 +343,7 @@ module _ (numbers : List ℕ) (jobs : List Job) (most : ℕ) (groups : AreGroups
 
         -- ---- the second phase
 
-        module _ (ms : List (Box CallMemory)) (long : length ms ≡ length ts)
+        module _ (ms : List (Box CallMemory)) (many : length ms ≡ length ts)
             (met : (k : ℕ) → k < length ts → call_in_place ms k ≡ heard_from (call_in_place ts (slice_index partners k)) (call_in_place ts k)) where
           met_there : (k : ℕ) (j : JobAt jobs most (slice_index numbers k)) → k < length numbers →
               call_in_place ms k ≡ heard_from (first_of_call j.its (other_named (party_of j.its) (slice_index numbers k))) (first_of_call j.its (slice_index numbers k))
@@ -344,22 +353,22 @@ module _ (numbers : List ℕ) (jobs : List Job) (most : ℕ) (groups : AreGroups
 
           pub met_order : IsRising (map (λ (j : CallMemory). j.io.call) (calls_in ms))
           met_order =
-              rising_of numbers (calls_in ms) (length-map ms (λ (b : Box CallMemory). b.value) ∙ long ∙ told_number)
+              rising_of numbers (calls_in ms) (length-map ms (λ (b : Box CallMemory). b.value) ∙ many ∙ told_number)
               (λ k l.
-                  let j = job_at_place k l in
-                  ap (λ (x : CallMemory). x.io.call) (met_there k j l) ∙ finished_call (start_of j.its (slice_index numbers k)) ∙ half_call j.its (slice_index numbers k) j.has)
+              let j = job_at_place k l in
+              ap (λ (x : CallMemory). x.io.call) (met_there k j l) ∙ finished_call (start_of j.its (slice_index numbers k)) ∙ half_call j.its (slice_index numbers k) j.has)
               live.rising
 
           module _ (rs : List (Box CallMemory)) (g : calls_in rs ≡ map call_finished (calls_in ms)) (after : List (Option (Box CallMemory))) (h : after ≡ map Some rs) where
             ran_number : length rs ≡ length numbers
             ran_number =
-                sym (length-map rs (λ (b : Box CallMemory). b.value)) ∙ ap length g ∙ length-map (calls_in ms) call_finished ∙ length-map ms (λ (b : Box CallMemory). b.value) ∙ long ∙ told_number
+                sym (length-map rs (λ (b : Box CallMemory). b.value)) ∙ ap length g ∙ length-map (calls_in ms) call_finished ∙ length-map ms (λ (b : Box CallMemory). b.value) ∙ many ∙ told_number
 
             ran_there : (k : ℕ) (j : JobAt jobs most (slice_index numbers k)) → k < length numbers → slot_at after k ≡ Some (second_of_call j.its (slice_index numbers k))
             ran_there k j l =
                 ap (λ (o : List (Option (Box CallMemory))). slot_at o k) h ∙ slot_seated rs k (omega (arith, l, ran_number))
                 ∙ ap (λ (cs : List CallMemory). Some (get_or cs k no_call)) g
-                ∙ ap (λ (x : CallMemory). Some x) (get_or-map call_finished (calls_in ms) k no_call no_call (omega (arith, l, long, told_number, length-map ms (λ (b : Box CallMemory). b.value))) ∙ ap call_finished (met_there k j l))
+                ∙ ap (λ (x : CallMemory). Some x) (get_or-map call_finished (calls_in ms) k no_call no_call (omega (arith, l, many, told_number, length-map ms (λ (b : Box CallMemory). b.value))) ∙ ap call_finished (met_there k j l))
 
             pub after_number : length after ≡ length numbers
             after_number = ap length h ∙ length-map rs Some ∙ ran_number

@@ -4,12 +4,9 @@ use Rattle.std.specs.Global.{Vec}
 use Rattle.std.specs.Vec.{vec_capacity}
 use Rattle.std.specs.List.{All}
 use Rattle.std.proofs.lemmas.List.Elements.{All-weaker}
-use Rattle.std.proofs.lemmas.List.Sums.{sum_by-cons}
 use Rattle.call_pair.specs.declared.job.Job.{Job}
 use Rattle.call_pair.specs.declared.job.Job.TheVariants.{One, Two}
-use Rattle.farm_rounds.specs.Calls.{size_of, calls_held}
-use Rattle.farm_rounds.specs.Phased.{IsFresh, HasNoneDone, AreEmptyFor, is_pair_job, size_if, sizes}
-use Rattle.farm_rounds.specs.Rounds.{group_from, groups_from}
+use Rattle.farm_rounds.specs.Phased.{IsFresh, HasNoneDone, AreEmptyFor}
 
 -- lists with room for more
 pub empty_less : {X : Type 0} (most few : ℕ) (lists : List (Vec X)) → few ≤ most → AreEmptyFor most lists → AreEmptyFor few lists

@@ -102,7 +102,13 @@ fn turn_down(job: &mut CallJob, frames: Vec<Effective>)
 }
 
 // A call between the phases: it hears its partner's frames, for which there is a list, and its second phase begins.
-fn meet(jobs: &mut [Box<CallJob>], call: usize, partner: usize, mut frames: Vec<Effective>, periods: u32)
+fn meet(
+    jobs: &mut [Box<CallJob>],
+    call: usize,
+    partner: usize,
+    mut frames: Vec<Effective>,
+    periods: u32,
+)
     requires call { call < length jobs.old }
     requires partner { partner < length jobs.old }
     requires told { IsTold periods (call_in_place jobs.old call) (call_in_place jobs.old partner) }

@@ -45,10 +45,10 @@ jobs_more numbers before now whole seen p done next front back same sofar made e
     let first : done ≡ map finished r.front =
     sofar r.front (r.last ∷ back) (e ∙ ap (λ (xs : List Job). map party_of xs) parts) (subst (λ (xs : List Job). IsApart xs) parts apart) (subst (λ (xs : List Job). AreRun xs numbers before) parts run) r.before in
     let last : next ≡ finished r.last = made r.last (sym r.is) (λ k l t.
-        let has : has_call r.last (slice_index numbers k) ≡ true = sym (named_has r.last (slice_index numbers k)) ∙ ap (λ (q : Party). names q (slice_index numbers k)) r.is ∙ t in
-        let few = subst (λ (xs : List Job). count_by (λ x. has_call x (slice_index numbers k)) xs ≤ 1) parts (apart (slice_index numbers k)) in
-        ap (λ (o : Option CallMemory). option_map half_in o) (same k l t)
-        ∙ run k r.last l (ap (λ (xs : List Job). job_in xs (slice_index numbers k)) parts ∙ found_between (λ (x : Job). has_call x (slice_index numbers k)) r.front r.last back few has)) in
+    let has : has_call r.last (slice_index numbers k) ≡ true = sym (named_has r.last (slice_index numbers k)) ∙ ap (λ (q : Party). names q (slice_index numbers k)) r.is ∙ t in
+    let few = subst (λ (xs : List Job). count_by (λ x. has_call x (slice_index numbers k)) xs ≤ 1) parts (apart (slice_index numbers k)) in
+    ap (λ (o : Option CallMemory). option_map half_in o) (same k l t)
+    ∙ run k r.last l (ap (λ (xs : List Job). job_in xs (slice_index numbers k)) parts ∙ found_between (λ (x : Job). has_call x (slice_index numbers k)) r.front r.last back few has)) in
     ap (λ (js : List Job). js ++ next ∷ []) first ∙ ap (λ (j : Job). map finished r.front ++ j ∷ []) last ∙ sym (map-append finished r.front (r.last ∷ [])) ∙ ap (λ (xs : List Job). map finished xs) (sym r.parts)
 
 pub loop-party-init : goal.loop-party-init
