@@ -1,12 +1,12 @@
 -- The calls of a round's jobs in rising order of their numbers.
-use Rattle.std.proofs.Common.{◌≡◌, ◌≢◌, refl, sym, ap, ◌∙◌, subst, ℕ, zero, suc, ◌+◌, ◌<◌, ◌≤◌, Bool, true, false, Option, Some, None, List, [], ◌∷◌, ◌++◌, length, length-append, map, arith, inl, inr}
+use Rattle.std.proofs.Common.{◌≡◌, ◌≢◌, refl, sym, ap, ◌∙◌, subst, ℕ, suc, ◌+◌, ◌<◌, ◌≤◌, Bool, true, false, Option, Some, None, List, [], ◌∷◌, ◌++◌, length, map, arith, inl, inr}
 use Rattle.std.specs.Prelude.{if◌then◌else◌, ◌==◌, ◌||◌, slice_index}
 use Rattle.std.specs.Option.{option_or, option_map}
 use Rattle.std.specs.Global.{Box}
 use Rattle.std.specs.List.{find, count_by, list_any}
-use Rattle.std.proofs.lemmas.Bool.{cases_Bool, eq-eqb, eqb-true, ne_eqb, or_parts, or_left, or_right}
+use Rattle.std.proofs.lemmas.Bool.{cases_Bool, eq-eqb, eqb-true, or_left, or_right}
 use Rattle.std.proofs.lemmas.List.{map-append}
-use Rattle.std.proofs.lemmas.List.Folds.{find-append, list_any-append}
+use Rattle.std.proofs.lemmas.List.Folds.{find-append}
 use Rattle.std.proofs.lemmas.List.Sums.{sum_by-cons, sum_by-append}
 use Rattle.call_pair.specs.declared.job.Job.{Job}
 use Rattle.call_pair.specs.declared.job.Job.TheVariants as job
@@ -16,7 +16,7 @@ use Rattle.call_pair.specs.Phases.{CallMemory, half_in}
 use Rattle.farm_rounds.specs.declared.order.Party.{Party}
 use Rattle.farm_rounds.specs.declared.order.Party.TheVariants.{One, Two}
 use Rattle.farm_rounds.specs.Numbers.{is_among}
-use Rattle.farm_rounds.specs.Ordered.{AreSpread, IsApart, IsPlaceOf, IsParty, job_in, names, other_named, party_of, slot_at, start_of}
+use Rattle.farm_rounds.specs.Ordered.{AreSpread, IsApart, IsPlaceOf, job_in, names, other_named, party_of, slot_at, start_of}
 use Rattle.farm_rounds.proofs.Finding.{none_counted, not_found, or_none}
 use Rattle.farm_rounds.proofs.Finished.{first_half, second_half}
 use Rattle.farm_rounds.proofs.Keeping.{KeptJob, finished_keeps}

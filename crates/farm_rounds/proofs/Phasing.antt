@@ -1,11 +1,11 @@
 -- The two phases of a round's work are the runs of its jobs.
-use Rattle.std.proofs.Common.{◌≡◌, ◌≢◌, refl, sym, ap, ◌∙◌, subst, ℕ, zero, suc, ◌+◌, ◌<◌, ◌≤◌, min, Bool, true, false, Option, Some, None, List, [], ◌∷◌, ◌++◌, length, map, take, drop, get_or, arith, inl, inr, ◌⊎◌}
+use Rattle.std.proofs.Common.{◌≡◌, ◌≢◌, refl, sym, ap, ◌∙◌, subst, ℕ, zero, suc, ◌+◌, ◌<◌, ◌≤◌, min, Bool, true, false, Option, Some, None, List, [], ◌∷◌, ◌++◌, length, map, take, drop, get_or, arith, inl, inr}
 use Rattle.std.specs.Prelude.{◌==◌, ◌||◌, if◌then◌else◌, is_some, slice_index}
 use Rattle.std.specs.Option.{option_map}
 use Rattle.std.specs.Global.{Box}
 use Rattle.std.specs.List.{All, list_any, count_by}
-use Rattle.std.proofs.lemmas.Bool.{cases_Bool, false≢true, eq-eqb, eqb-true, ne_eqb, or_left, or_right, or_cases}
-use Rattle.std.proofs.lemmas.List.{map-append, length-map, map-id, take-append-drop, get_or-map}
+use Rattle.std.proofs.lemmas.Bool.{cases_Bool, false≢true, eq-eqb, eqb-true, or_left, or_right, or_cases}
+use Rattle.std.proofs.lemmas.List.{length-map, map-id, take-append-drop, get_or-map}
 use Rattle.std.proofs.lemmas.List.Elements.{All-nil, All-cons, All-head, All-tail, All-get_or, All-from_get_or}
 use Rattle.std.proofs.lemmas.List.Sums.{sum_by-cons}
 use Rattle.std.proofs.lemmas.Iterator.Consumers.{YieldsList-turn, YieldsList-so_far}
@@ -19,12 +19,11 @@ use Rattle.call_pair.specs.Jobs.{has_call, half_of, finished}
 use Rattle.call_pair.specs.Phases.{CallMemory, call_turned, after_call_turns, call_left, call_finished, turned_down, starting, with_partner, half_in, frames_in, effs, half_run}
 use Rattle.call_pair.proofs.Turns.{call_turn_left, call_turn_call}
 use Rattle.call_pair.proofs.Phased.{length-notes, first-finished, one-phased, two-phased}
-use Rattle.farm_rounds.specs.declared.call.Group.{Group}
 use Rattle.farm_rounds.specs.declared.order.Party.{Party}
-use Rattle.farm_rounds.specs.Calls.{holds, group_in, call_in, size_of, calls_held}
+use Rattle.farm_rounds.specs.Calls.{holds, size_of, calls_held}
 use Rattle.farm_rounds.specs.Groups.{IsGroup, AreGroups, AreLive}
 use Rattle.farm_rounds.specs.Numbers.{IsRising, is_among}
-use Rattle.farm_rounds.specs.Ordered.{AreSpread, AreRun, IsApart, IsHeld, IsParty, IsPlaceOf, job_in, names, other_named, party_of, slot_at, bridge_end_of, start_of}
+use Rattle.farm_rounds.specs.Ordered.{AreSpread, AreRun, IsApart, IsHeld, IsParty, job_in, names, other_named, party_of, slot_at, start_of}
 use Rattle.farm_rounds.specs.Phased.{IsFresh, IsFreshHalf, calls_in, call_in_place, no_call, heard_from, IsTold}
 use Rattle.farm_rounds.specs.Rounds.{group_from, groups_from}
 use Rattle.farm_rounds.proofs.Applying.{found_group}

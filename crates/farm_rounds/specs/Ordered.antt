@@ -1,5 +1,5 @@
 -- The calls of a round's jobs in rising order of their numbers. A call's place is that of its number.
-use Rattle.std.specs.Prelude.{◌≡◌, ◌≢◌, ℕ, ◌<◌, ◌≤◌, min, ◌==◌, ◌||◌, if◌then◌else◌, Bool, Option, Some, None, List, length, map, slice_index, get_or}
+use Rattle.std.specs.Prelude.{◌≡◌, ℕ, ◌<◌, ◌≤◌, min, ◌==◌, ◌||◌, if◌then◌else◌, Bool, Option, Some, None, List, length, map, slice_index, get_or}
 use Rattle.std.specs.Option.{option_map}
 use Rattle.std.specs.List.{find, count_by}
 use Rattle.std.specs.Global.{Box}

@@ -1,5 +1,6 @@
 -- A round worked in two phases: the jobs of the calls.
 use Rattle.std.specs.Prelude.{◌≡◌, ℕ, ◌<◌, ◌≤◌, List, [], map, take, length, get_or}
+use Rattle.trau_alaw.specs.declared.Law.TheVariants.{A}
 use Rattle.std.specs.List.{All}
 use Rattle.std.specs.Global.{Box, Vec}
 use Rattle.std.specs.Vec.{vec_capacity}
@@ -41,7 +42,7 @@ calls_in boxes = map (λ b. b.value) boxes
 
 -- stands where there is no job of a call
 abbrev pub no_call : CallMemory
-no_call = starting 0 (record { leg = home_leg 0; io = no_octets 0 })
+no_call = starting 0 (record { leg = home_leg (record { number = 0; law = A }); io = no_octets 0 })
 
 abbrev pub call_in_place : List (Box CallMemory) → ℕ → CallMemory
 call_in_place boxes k = get_or (calls_in boxes) k no_call

@@ -1,8 +1,8 @@
-use Rattle.std.proofs.Common.{rules, ◌≡◌, refl, sym, ap, ◌∙◌, subst, ℕ, ◌+◌, ◌<◌, ◌≤◌, Bool, true, false, Option, Some, List, [], ◌∷◌, ◌++◌, length, length-append, append_assoc, map, drop, arith}
+use Rattle.std.proofs.Common.{rules, ◌≡◌, refl, sym, ap, ◌∙◌, subst, ℕ, ◌+◌, ◌<◌, ◌≤◌, true, false, Option, Some, List, [], ◌∷◌, ◌++◌, length, length-append, append_assoc, map, drop, arith}
 use Rattle.std.specs.Prelude.{◌||◌, slice_index}
 use Rattle.std.specs.Option.{option_map}
 use Rattle.std.specs.Global.{Box}
-use Rattle.std.specs.List.{All, count_by, list_any}
+use Rattle.std.specs.List.{count_by, list_any}
 use Rattle.std.proofs.lemmas.Bool.{or_left, or_right, or_parts}
 use Rattle.std.proofs.lemmas.List.{map-id, map-append, append-nil}
 use Rattle.std.proofs.lemmas.List.Elements.{All-get_or}
@@ -15,7 +15,7 @@ use Rattle.call_pair.specs.Phases.{CallMemory, half_in}
 use Rattle.farm_rounds.specs.declared.order.Party.{Party}
 use Rattle.farm_rounds.specs.Numbers.{is_among}
 use Rattle.farm_rounds.specs.Ordered.{AreRun, IsApart, IsHeld, IsParty, job_in, names, party_of, slot_at}
-use Rattle.farm_rounds.proofs.Ordering.{Last, last_of, named_has, none_before, found_between}
+use Rattle.farm_rounds.proofs.Ordering.{last_of, named_has, none_before, found_between}
 use Rattle.farm_rounds.proofs.Phasing.{whole_at}
 use Rattle.farm_rounds.proofs.order.gather.Goals as goal
 

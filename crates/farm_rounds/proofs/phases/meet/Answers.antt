@@ -1,4 +1,4 @@
-use Rattle.std.proofs.Common.{refl, sym, ap, ◌∙◌, arith}
+use Rattle.std.proofs.Common.{ap, ◌∙◌}
 use Rattle.call_pair.specs.Phases.{CallMemory}
 use Rattle.farm_rounds.proofs.Meeting.{place_set, place_other, place_read, heard}
 use Rattle.farm_rounds.proofs.phases.meet.Goals as goal

@@ -1,7 +1,6 @@
-use Rattle.std.proofs.Common.{◌≡◌, ◌<◌, refl, sym, ap, ◌∙◌, subst, ℕ, length, arith}
+use Rattle.std.proofs.Common.{refl, arith}
 use Rattle.std.specs.Prelude.{slice_index}
-use Rattle.call_pair.specs.Phases.{CallMemory}
-use Rattle.farm_rounds.specs.Phased.{call_in_place, IsTold}
+use Rattle.farm_rounds.specs.Phased.{call_in_place}
 use Rattle.farm_rounds.proofs.Meeting.{notes_kept, told_by_notes, met_more}
 use Rattle.farm_rounds.proofs.phases.meet_all.Goals as goal
 

@@ -1,10 +1,8 @@
-use Rattle.std.proofs.Common.{◌≡◌, ◌≢◌, refl, sym, ap, ◌∙◌, subst, ℕ, ◌<◌, ◌≤◌, true, Option, Some, None, List, [], ◌∷◌, ◌++◌, length, map, take, drop, arith}
+use Rattle.std.proofs.Common.{◌≡◌, ◌≢◌, sym, ap, ◌∙◌, subst, ℕ, ◌<◌, ◌≤◌, true, Option, Some, None, List, ◌++◌, length, map, take, drop, arith}
 use Rattle.std.specs.Prelude.{slice_index}
 use Rattle.std.specs.Global.{Box}
 use Rattle.std.specs.List.{All, count_by, list_any}
 use Rattle.std.proofs.lemmas.List.{length-map}
-use Rattle.call_pair.specs.declared.job.Job.{Job}
-use Rattle.call_pair.specs.Jobs.{has_call}
 use Rattle.call_pair.specs.Phases.{CallMemory, call_finished}
 use Rattle.farm_rounds.specs.declared.order.Party.{Party}
 use Rattle.farm_rounds.specs.Numbers.{IsRising, is_among}
