@@ -90,7 +90,7 @@ ups-stand a b h s on (suc k) le =
     (subst (λ (p : CallPeriod). UpStands (who_of a) (p ∷ bridged_periods k a b) (later r.now) (up_turned (up_before m k u) (up_at k a.io)).2) (r.same (pcm_at k a.io) handed) t))
 
 note-told : (a b : Start) (h : HalfMemory) → Begins a h → a.now.bridged ≡ true → (k : ℕ) → k < a.io.given →
-    (told (min a.io.given b.io.given) h k).0 ≡ note_in (who_of a) (bridged_periods k a b) (up_at k a.io)
+    (told (min a.io.given b.io.given) h k).0 ≡ note_in a.io.call (bridged_periods k a b) (up_at k a.io)
 note-told a b h s on k l =
     let m = min a.io.given b.io.given in
     let u = ups m h k in
@@ -114,7 +114,7 @@ alone-stand s h b off (suc k) le =
     subst (λ (io : IoMemory). UpStands (who_of s) (alone_periods (suc k) s) (settings_at (suc k) s.now) (up_turned (up_before 0 k u) (up_at k io)).2) (sym b.io)
     (subst (λ (v : UpMemory). UpStands (who_of s) (alone_periods (suc k) s) (settings_at (suc k) s.now) (up_turned v (up_at k s.io)).2) (sym (before-off k u (w.bridged ∙ flag))) t)
 
-alone-told : (s : Start) (h : HalfMemory) → Begins s h → s.now.bridged ≡ false → (k : ℕ) → k < s.io.given → (told 0 h k).0 ≡ note_in (who_of s) (alone_periods k s) (up_at k s.io)
+alone-told : (s : Start) (h : HalfMemory) → Begins s h → s.now.bridged ≡ false → (k : ℕ) → k < s.io.given → (told 0 h k).0 ≡ note_in s.io.call (alone_periods k s) (up_at k s.io)
 alone-told s h b off k l =
     let u = ups 0 h k in
     let w = alone-stand s h b off k (omega arith) in
@@ -177,7 +177,7 @@ first-told a b g h s t on too =
     }
 
 pub frames-told : (a b : Start) (g h : HalfMemory) → Begins a g → Begins b h → a.now.bridged ≡ true → b.now.bridged ≡ true →
-    let m = min g.io.given h.io.given in (k : ℕ) → k < m → frame_at k (effs m g) ≡ (note_in (who_of a) (bridged_periods k a b) (up_at k a.io)).eff
+    let m = min g.io.given h.io.given in (k : ℕ) → k < m → frame_at k (effs m g) ≡ (note_in a.io.call (bridged_periods k a b) (up_at k a.io)).eff
 frames-told a b g h s t on too k l =
     let m = min g.io.given h.io.given in
     let n : g.io.given ≡ a.io.given = ap (λ (io : IoMemory). io.given) s.io in

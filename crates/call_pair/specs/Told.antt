@@ -13,7 +13,7 @@ use Rattle.call_pair.specs.Phases.{CallMemory, note_at}
 -- call's periods before place k.
 pub record UpRun (s : Start) (before : ℕ → List CallPeriod) (now : Settings) (j : CallMemory) : Type 0 where
   pub all : length j.notes ≡ s.io.given
-  pub notes : (k : ℕ) → k < s.io.given → note_at k j.notes ≡ note_in (who_of s) (before k) (up_at k s.io)
+  pub notes : (k : ℕ) → k < s.io.given → note_at k j.notes ≡ note_in s.io.call (before k) (up_at k s.io)
   pub out : j.io.out ≡ outs_of (who_of s) s.io.given (before s.io.given) ++ drop (160 * s.io.given) s.io.out
   pub up : UpStands (who_of s) (before s.io.given) now j.up
 
