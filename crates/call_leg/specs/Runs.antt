@@ -48,7 +48,7 @@ EndsAt h m n handed = (k : ℕ) → k < n → is_some (handed k) ≡ (h.now.brid
 pub record UpRun (h : LegHistory) (ups : ℕ → List ℕ) (m n : ℕ) (notes : List Note) (octets : List ℕ) : Type 0 where
   pub all : length notes ≡ n
   pub told : (pcms : ℕ → List ℕ) (handed : ℕ → Option (List ℕ)) → EndsAt h m n handed → (k : ℕ) (none : Note) → k < n →
-      get_or notes k none ≡ note_in h.who (periods_run h ups pcms handed k) (ups k)
+      get_or notes k none ≡ note_in h.who.number (periods_run h ups pcms handed k) (ups k)
   pub out : (pcms : ℕ → List ℕ) (handed : ℕ → Option (List ℕ)) → EndsAt h m n handed → octets ≡ outs_run h ups pcms handed n
 
 -- ---- the downlink half
@@ -60,7 +60,7 @@ handed_run h items k = if h.now.bridged && nat_lt k (length items) then Some (bi
 
 -- the notes are those that these octets of the Up line tell
 abbrev pub AreNotes : LegHistory → (ℕ → List ℕ) → (ℕ → List ℕ) → List EffectiveFields → ℕ → List Note → Type 0
-AreNotes h ups pcms items n notes = (k : ℕ) (none : Note) → k < n → get_or notes k none ≡ note_in h.who (periods_run h ups pcms (handed_run h items) k) (ups k)
+AreNotes h ups pcms items n notes = (k : ℕ) (none : Note) → k < n → get_or notes k none ≡ note_in h.who.number (periods_run h ups pcms (handed_run h items) k) (ups k)
 
 -- The run of a downlink half: the Down octets that these octets of the Pcm line give after the history of the leg, with
 -- these notes and items, whichever octets of the Up line told the notes.

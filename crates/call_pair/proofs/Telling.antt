@@ -156,7 +156,7 @@ module _ (s : Start) (h : HalfMemory) (m : ℕ) (b : Begins s h) where
         (subst (λ (set : Settings). UpStands (who_of s) (seen (suc k)) set (up_turned u (up_at k s.io)).2) (set-next m k s.now)
         (subst (λ (p : CallPeriod). UpStands (who_of s) (p ∷ seen k) (later (set_for m k s.now)) (up_turned u (up_at k s.io)).2) (set-period m k s.now (up_at k s.io) (pcms k) (handed k)) t))
 
-    note-told : (k : ℕ) → k < s.io.given → (told m h k).0 ≡ note_in (who_of s) (seen k) (up_at k s.io)
+    note-told : (k : ℕ) → k < s.io.given → (told m h k).0 ≡ note_in s.io.call (seen k) (up_at k s.io)
     note-told k l =
         let u = up_before m k (ups m h k) in
         ap (λ (io : IoMemory). (up_turned u (up_at k io)).0) b.io
@@ -239,7 +239,7 @@ module _ (s : Start) (h : HalfMemory) (m : ℕ) (b : Begins s h) where
         if-some true x = refl
         if-some false x = refl
 
-    module _ (heard : ℕ → List ℕ) (n : (k : ℕ) → k < s.io.given → (told m h k).0 ≡ note_in (who_of s) (periods_run (history_of s) heard (pcms_in s) given_to k) (heard k)) where
+    module _ (heard : ℕ → List ℕ) (n : (k : ℕ) → k < s.io.given → (told m h k).0 ≡ note_in s.io.call (periods_run (history_of s) heard (pcms_in s) given_to k) (heard k)) where
       abbrev had : ℕ → List CallPeriod
       had k = periods_run (history_of s) heard (pcms_in s) given_to k
 
@@ -310,11 +310,11 @@ module _ (s : Start) (h : HalfMemory) (m : ℕ) (b : Begins s h) where
           ∙ written-seam (downs_said m (taken frames) h k) s.io.down o (40 * k) 40 (long-said k (omega arith)) one ∙ ap (λ (i : ℕ). (downs_said m (taken frames) h k ++ o) ++ drop i s.io.down) end
 
     -- the notes are those of the call's own Up octets
-    own-notes : (k : ℕ) → k < s.io.given → (told m h k).0 ≡ note_in (who_of s) (periods_run (history_of s) (ups_in s) (pcms_in s) given_to k) (ups_in s k)
+    own-notes : (k : ℕ) → k < s.io.given → (told m h k).0 ≡ note_in s.io.call (periods_run (history_of s) (ups_in s) (pcms_in s) given_to k) (ups_in s k)
     own-notes k l = note-told (pcms_in s) given_to items-end k l
 
     other-notes : (heard : ℕ → List ℕ) → AreNotes (history_of s) heard (pcms_in s) frames s.io.given (notes m h h.io.given) →
-        (k : ℕ) → k < s.io.given → (told m h k).0 ≡ note_in (who_of s) (periods_run (history_of s) heard (pcms_in s) given_to k) (heard k)
+        (k : ℕ) → k < s.io.given → (told m h k).0 ≡ note_in s.io.call (periods_run (history_of s) heard (pcms_in s) given_to k) (heard k)
     other-notes heard a k l = sym (note-is m h h.io.given k (told m h k).0 (omega (arith, l, given-is))) ∙ a k (told m h k).0 l
 
     down-run : DownRun (history_of s) (notes m h h.io.given) frames (pcms_in s) s.io.given (downs_said m (taken frames) h s.io.given)
@@ -403,7 +403,7 @@ handed-ends a b on k l =
     (cases_lt k b.io.given)
 
 pub frames-told : (a b : Start) (g h : HalfMemory) → Begins a g → Begins b h → a.now.bridged ≡ true → b.now.bridged ≡ true →
-    let m = min g.io.given h.io.given in (k : ℕ) → k < m → frame_at k (effs m g) ≡ (note_in (who_of a) (bridged_periods k a b) (up_at k a.io)).eff
+    let m = min g.io.given h.io.given in (k : ℕ) → k < m → frame_at k (effs m g) ≡ (note_in a.io.call (bridged_periods k a b) (up_at k a.io)).eff
 frames-told a b g h s t on too k l =
     let m = min g.io.given h.io.given in
     let n : g.io.given ≡ a.io.given = ap (λ (io : IoMemory). io.given) s.io in
@@ -412,4 +412,4 @@ frames-told a b g h s t on too k l =
     let below : k < a.io.given = omega (arith, n, l) in
     effs-are m g k (none-done a g m s) within l ∙ ap (λ (i : ℕ). (told i g k).0.eff) end
     ∙ ap (λ (x : Note). x.eff) (note-told a g (min a.io.given b.io.given) s (pcms_in a) (λ (i : ℕ). handed_at i b (bridged_periods i b a)) (handed-ends a b on) k below)
-    ∙ ap (λ (ts : List CallPeriod). (note_in (who_of a) ts (up_at k a.io)).eff) (same-periods a b k)
+    ∙ ap (λ (ts : List CallPeriod). (note_in a.io.call ts (up_at k a.io)).eff) (same-periods a b k)

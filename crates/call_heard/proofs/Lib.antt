@@ -1,0 +1,4 @@
+-- Lemmas on the frames of calls.
+mod Shapes
+mod Legs
+mod Calls

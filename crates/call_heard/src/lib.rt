@@ -1,0 +1,11 @@
+//! What a base station finds on a call's downlink: laws, and no code.
+//!
+//! A call's leg (`call_leg`) makes its downlink frame by frame, and a base station's end (`ccu_end`) looks for frames on it. Here
+//! the two meet: the frames found on a call's Down line are exactly those that were made, each at its place and with what was
+//! sent in it. Nothing here runs: the crate is for readers of a call's contract, and for crates that tell of whole calls.
+//!
+//! `laws` has the laws. Definitions: `specs/Items.antt` (what is handed over to a call has 260 bits), `specs/Heard.antt` (the
+//! frames of a call's downlink as a base station should find them).
+#![tactic(auto)]
+
+pub mod laws;
