@@ -15,7 +15,7 @@
 //! outgoing lines), `specs/Numbered.antt` (its made frames by number), `specs/Waiting.antt` (the handed frames that wait),
 //! `specs/Counted.antt`, `specs/Places.antt` and `specs/Stands.antt` (what a leg holds after all periods so far),
 //! `specs/Memory.antt` (what it keeps), `specs/Step.antt` (one call after another), `specs/Halves.antt` (the two halves of a
-//! leg apart).
+//! leg apart) and `specs/Runs.antt` (their runs over some periods).
 #![tactic(auto)]
 
 mod calls;
