@@ -1,3 +1,4 @@
+pub mod Who
 pub mod Periods
 pub mod Uplink
 pub mod Settings

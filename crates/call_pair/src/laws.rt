@@ -9,7 +9,7 @@ ghost use Rattle.call_pair.specs.Jobs.{finished, has_call};
 ghost use Rattle.call_leg.specs.Halves.{note_in};
 ghost use Rattle.call_pair.specs.Places.{up_at};
 ghost use Rattle.call_pair.specs.Phases.{first_phase, second_phase, half_run, effs, frame_at};
-ghost use Rattle.call_pair.specs.History.{Start, Begins, settings_at, settings_past, alone_periods, bridged_periods};
+ghost use Rattle.call_pair.specs.History.{Start, who_of, Begins, settings_at, settings_past, alone_periods, bridged_periods};
 ghost use Rattle.call_pair.specs.Told.{UpRun, DownRun};
 ghost use Rattle.call_pair.specs.Finished.{OneWorked, TwoWorked};
 
@@ -47,7 +47,7 @@ pub fn the_first_phase_is_told()
     ensures bridged { (a b : Start) (g h : HalfMemory) → Begins a g → Begins b h → a.now.bridged ≡ true → b.now.bridged ≡ true →
         UpRun a (λ k. bridged_periods k a b) (settings_past a.io.given b.io.given a.now) (first_phase (min a.io.given b.io.given) g) }
     ensures frames { (a b : Start) (g h : HalfMemory) → Begins a g → Begins b h → a.now.bridged ≡ true → b.now.bridged ≡ true →
-        let m = min g.io.given h.io.given in (k : ℕ) → k < m → frame_at k (effs m g) ≡ (note_in a.io.call (bridged_periods k a b) (up_at k a.io)).eff }
+        let m = min g.io.given h.io.given in (k : ℕ) → k < m → frame_at k (effs m g) ≡ (note_in (who_of a) (bridged_periods k a b) (up_at k a.io)).eff }
 {}
 
 /// The second phase gives the run of a downlink half, of a call that lies in no bridge and of one with a partner, whose

@@ -6,6 +6,7 @@ use call_leg::Leg;
 use std::alloc::{AllocError, Global};
 use std::test::Fail;
 use std::thread::{Threads, join_mut};
+use trau_alaw::Law;
 use trau_io::Counts;
 use trau_orders::DtxMode;
 
@@ -29,7 +30,13 @@ fn new_leg(alloc: Global, call: u32) -> Result<Leg, AllocError>
     requires { IsCallNumber call }
     ensures { IfOk result (λ l. periods_of_leg l ≡ 0) }
 {
-    Leg::new(alloc, call)
+    Leg::new(alloc, call, Law::A)
+}
+
+fn mulaw_leg(alloc: Global) -> Result<Leg, AllocError>
+    ensures { IfOk result (λ l. periods_of_leg l ≡ 0) }
+{
+    Leg::new(alloc, 4096, Law::Mu)
 }
 
 fn begin_bridge(leg: &mut Leg)
@@ -114,6 +121,15 @@ fn three_are_quiet(leg: &mut Leg) -> bool
 fn without_frames_the_call_is_quiet(rt: HostRuntime) -> Result<(), Fail> {
     let mut leg = new_leg(rt.alloc(), 1)?;
     assert!(rt; three_are_quiet(&mut leg) && counted_alone(&leg, 3));
+    Ok(())
+}
+
+// The same on a line with mu-law: the exchange hears its silence.
+#[test]
+fn a_quiet_call_of_mulaw_sends_its_silence(rt: HostRuntime) -> Result<(), Fail> {
+    let mut leg = mulaw_leg(rt.alloc())?;
+    let (out, down) = period_of(&mut leg, &[0; 40], 0xFF);
+    assert!(rt; out == [0xFF; 160] && down == ONES);
     Ok(())
 }
 

@@ -15,6 +15,8 @@ mod farm_top_drill_tests;
 #[cfg(test)]
 mod farm_top_faults_tests;
 #[cfg(test)]
+mod farm_top_follow_tests;
+#[cfg(test)]
 mod farm_top_gate_tests;
 #[cfg(test)]
 mod farm_top_phases_tests;

@@ -7,7 +7,7 @@ use Rattle.trau_io.specs.Desks.{DeskState}
 use Rattle.farm_tools.specs.declared.end.Tool.{Tool}
 use Rattle.farm_tools.specs.declared.end.Tool.TheVariants as tool
 use Rattle.farm_words.specs.declared.asked.Asked.{Asked}
-use Rattle.farm_words.specs.declared.asked.Asked.TheVariants.{Run, Drill, Relay, Frames, Encode, Decode, Split, Merge}
+use Rattle.farm_words.specs.declared.asked.Asked.TheVariants.{Run, Drill, Relay, Frames, Encode, Decode, Follow, Split, Merge}
 use Rattle.farm_words.specs.declared.asked.Settings.{Settings}
 use Rattle.farm_words.specs.Asking.{Asks}
 use Rattle.farm_words.specs.Options.{BeginWith, GivesSettings, IsValueOf}
@@ -17,9 +17,10 @@ use Rattle.farm_words.proofs.Asking.{one_asked}
 use Rattle.farm_run.specs.Pace.{IsPace}
 use Rattle.farm_top.specs.Drill.{CarriesDrill}
 use Rattle.farm_top.specs.Farm.{AllStay, RunsFarm, pace_of}
+use Rattle.farm_top.specs.Follow.{FollowEnds}
 use Rattle.farm_top.specs.Slots.{MergeEnds, SplitEnds}
 use Rattle.farm_top.specs.Top.{Carries, CarriesAsked, CarriesFrames, IsInRange}
-use Rattle.farm_top.specs.Words.{AreCommand, AsksFor, AsksForDrill, AsksForFrames, AsksForMerge, AsksForRun, AsksForSplit, TakeOptions}
+use Rattle.farm_top.specs.Words.{AreCommand, AsksFor, AsksForDrill, AsksForFollow, AsksForFrames, AsksForMerge, AsksForRun, AsksForSplit, TakeOptions}
 
 -- a tool's work on a call
 abbrev pub asked_of : Tool → ℕ → Asked
@@ -41,7 +42,8 @@ is_command words (Frames c) asks = inr (inl (c, asks))
 is_command words (Encode c) asks = inl (tool.Encode, c, asks)
 is_command words (Decode c) asks = inl (tool.Decode, c, asks)
 is_command words (Split c) asks = inr (inr (inr (inr (inl (c, asks)))))
-is_command words (Merge c) asks = inr (inr (inr (inr (inr (c, asks)))))
+is_command words (Merge c) asks = inr (inr (inr (inr (inr (inl (c, asks))))))
+is_command words (Follow c want) asks = inr (inr (inr (inr (inr (inr (c, want, asks))))))
 
 -- and those of a command ask for something
 pub no_command : (words : List (List ℕ)) → ((a : Asked) → Asks words a → ⊥) → AreCommand words → ⊥
@@ -50,7 +52,8 @@ no_command words none (inr (inl (c, asks))) = none (Frames c) asks
 no_command words none (inr (inr (inl (s, asks)))) = none (Run s) asks
 no_command words none (inr (inr (inr (inl (seed, calls, s, asks))))) = none (Drill seed calls s) asks
 no_command words none (inr (inr (inr (inr (inl (c, asks)))))) = none (Split c) asks
-no_command words none (inr (inr (inr (inr (inr (c, asks)))))) = none (Merge c) asks
+no_command words none (inr (inr (inr (inr (inr (inl (c, asks))))))) = none (Merge c) asks
+no_command words none (inr (inr (inr (inr (inr (inr (c, want, asks))))))) = none (Follow c want) asks
 
 -- words that begin with a command that takes options aren't those of a tool
 first_word : (words : List (List ℕ)) (command name : List ℕ) (c : ℕ) → BeginWith command words → Names words name c → name ≡ command
@@ -140,6 +143,7 @@ in_range words (Relay c) asks = (asks.low, asks.high)
 in_range words (Frames c) asks = (asks.low, asks.high)
 in_range words (Encode c) asks = (asks.low, asks.high)
 in_range words (Decode c) asks = (asks.low, asks.high)
+in_range words (Follow c want) asks = (asks.low, asks.high, asks.wanted.high, asks.wanted.fours)
 in_range words (Split c) asks = (asks.low, asks.high)
 in_range words (Merge c) asks = (asks.low, asks.high)
 
@@ -161,6 +165,9 @@ module _ (words : List (List ℕ)) (a : Asked) (meant : Asks words a) (before no
 
   pub drill_carried : CarriesAsked a before now desk desk' status → (seed calls : ℕ) (s : Settings) → AsksForDrill words seed calls s → AllStay before now × CarriesDrill seed calls s.periods desk desk' status
   drill_carried done seed calls s asks = subst (λ b. CarriesAsked b before now desk desk' status) (one_asked words a (Drill seed calls s) meant asks) done
+
+  pub follow_carried : CarriesAsked a before now desk desk' status → (c want : ℕ) → AsksForFollow words c want → FollowEnds before now desk desk' c want status
+  follow_carried done c want asks = subst (λ b. CarriesAsked b before now desk desk' status) (one_asked words a (Follow c want) meant asks) done
 
   pub split_carried : CarriesAsked a before now desk desk' status → (c : ℕ) → AsksForSplit words c → SplitEnds before now desk desk' c status
   split_carried done c asks = subst (λ b. CarriesAsked b before now desk desk' status) (one_asked words a (Split c) meant asks) done

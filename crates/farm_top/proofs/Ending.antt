@@ -6,7 +6,7 @@ use Rattle.trau_io.specs.Desks.{DeskState}
 use Rattle.trau_orders.specs.Text.{GoodOrBad}
 use Rattle.farm_tools.specs.declared.end.Tool.TheVariants as tool
 use Rattle.farm_words.specs.declared.asked.Asked.{Asked}
-use Rattle.farm_words.specs.declared.asked.Asked.TheVariants.{Run, Drill, Relay, Frames, Encode, Decode, Split, Merge}
+use Rattle.farm_words.specs.declared.asked.Asked.TheVariants.{Run, Drill, Relay, Frames, Encode, Decode, Follow, Split, Merge}
 use Rattle.farm_top.specs.Top.{CarriesAsked}
 use Rattle.farm_top.proofs.Carrying.{causes, listing_causes}
 use Rattle.farm_top.proofs.Drilling.{drill_ends}
@@ -20,5 +20,6 @@ module _ (good : GoodOrBad) (before now : ℕ → Side → LineState) (desk desk
   not_usage (Frames c) done one = let known = (listing_causes before now desk desk' c status done).known in omega (arith, one, known)
   not_usage (Encode c) done one = let known = (causes before now desk desk' c status tool.Encode done).known in omega (arith, one, known)
   not_usage (Decode c) done one = let known = (causes before now desk desk' c status tool.Decode done).known in omega (arith, one, known)
+  not_usage (Follow c want) done one = let known = done.causes.known in omega (arith, one, known)
   not_usage (Split c) done one = let known = done.causes.known in omega (arith, one, known)
   not_usage (Merge c) done one = let known = done.causes.known in omega (arith, one, known)

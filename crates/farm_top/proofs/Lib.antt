@@ -5,4 +5,5 @@ mod Drilling
 mod Ending
 mod FarmCausing
 mod FarmCleaning
+mod Following
 mod Headlining

@@ -3,6 +3,7 @@ pub mod Drill
 pub mod Farm
 pub mod FarmCauses
 pub mod FarmEnded
+pub mod Follow
 pub mod FarmClean
 pub mod Headline
 pub mod Slots

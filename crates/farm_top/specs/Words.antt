@@ -4,6 +4,7 @@ use Rattle.farm_tools.specs.declared.end.Tool.{Tool}
 use Rattle.farm_tools.specs.Made.{name_of}
 use Rattle.farm_words.specs.declared.asked.Settings.{Settings}
 use Rattle.farm_words.specs.Drill.{AsksDrill}
+use Rattle.farm_words.specs.Follow.{NamesFollow}
 use Rattle.farm_words.specs.Options.{BeginWith}
 use Rattle.farm_words.specs.Run.{AsksRun}
 use Rattle.farm_words.specs.Slots.{NamesSlot}
@@ -36,6 +37,10 @@ AsksForSplit words call = NamesSlot words (codes "split") call
 abbrev pub AsksForMerge : List (List ℕ) → ℕ → Type 0
 AsksForMerge words call = NamesSlot words (codes "merge") call
 
+-- they ask for the base station's end of a downlink, which wants frames at such places, as `follow 7 0`
+abbrev pub AsksForFollow : List (List ℕ) → ℕ → ℕ → Type 0
+AsksForFollow words call want = NamesFollow words call want
+
 -- they are those of a command
 abbrev pub AreCommand : List (List ℕ) → Type 0
 AreCommand words =
@@ -45,6 +50,7 @@ AreCommand words =
     ⊎ ((seed : ℕ) × (calls : ℕ) × (settings : Settings) × AsksForDrill words seed calls settings)
     ⊎ ((call : ℕ) × AsksForSplit words call)
     ⊎ ((call : ℕ) × AsksForMerge words call)
+    ⊎ ((call : ℕ) × (want : ℕ) × AsksForFollow words call want)
 
 -- the first of them is `run` or `drill`, whatever stands behind it
 abbrev pub TakeOptions : List (List ℕ) → Type 0

@@ -19,12 +19,14 @@ ghost use Rattle.farm_top.specs.FarmCauses.{RunCauses};
 ghost use Rattle.farm_top.specs.Headline.{Headline};
 ghost use Rattle.farm_top.specs.FarmClean.{CleanFarm, IsCalmRun, TellsOrders};
 ghost use Rattle.farm_top.specs.FarmEnded.{RunEnded};
+ghost use Rattle.farm_top.specs.Follow.{FollowEnds};
 ghost use Rattle.farm_top.specs.Slots.{MergeEnds, SplitEnds};
 ghost use Rattle.farm_top.specs.Top.{Answers, Carries, CarriesAsked, CarriesFrames, IsInRange};
-ghost use Rattle.farm_top.specs.Words.{AreCommand, AsksFor, AsksForDrill, AsksForFrames, AsksForMerge, AsksForRun, AsksForSplit, TakeOptions, spelled};
+ghost use Rattle.farm_top.specs.Words.{AreCommand, AsksFor, AsksForDrill, AsksForFollow, AsksForFrames, AsksForMerge, AsksForRun, AsksForSplit, TakeOptions, spelled};
 
 use crate::drill::drill_farm;
 use crate::farm::{no_memory, run_farm};
+use crate::follow::carry_follow;
 use crate::slots::{carry_merge, carry_split};
 use crate::status::{DESK_WRITE_FAULT, DONE, FRAME_REFUSED, LINE_FAILED, NO_MEMORY, USAGE};
 use farm_tools::{Tool, ToolEnd, decode, encode, frames, relay};
@@ -119,6 +121,7 @@ fn carry_out<R: Threads + Wait + Sync, T: Trunk, D: Desk, G: Gate + Sync>(
             let end = frames(alloc, call, trunk, desk);
             answer(end, desk)
         }
+        Asked::Follow { call, want } => carry_follow(call, want, trunk, desk),
         Asked::Split(call) => carry_split(call, trunk, desk),
         Asked::Merge(call) => carry_merge(call, trunk, desk),
     }
@@ -130,7 +133,7 @@ fn carry_out<R: Threads + Wait + Sync, T: Trunk, D: Desk, G: Gate + Sync>(
 /// The commands are `relay C`, which copies the good speech frames of a call's uplink, bits unchanged, to its
 /// downlink, `decode C`, which decodes them to its Out line, `encode C`, which encodes its Pcm line to downlink
 /// frames, and `frames C`, which searches its uplink for frames and tells a line of text for each; C is the call's
-/// number, 1 to 1,024, in decimal digits without leading zeros. An uplink is cut into blocks of 40 octets, and in
+/// number, 1 to 4,096, in decimal digits without leading zeros. An uplink is cut into blocks of 40 octets, and in
 /// `relay` and `decode` the first block that isn't a good speech frame ends the command. A Pcm line is cut into blocks
 /// of 160 octets. What `encode` and `frames` leave of the line behind the last whole block is told and not used.
 ///
@@ -140,11 +143,17 @@ fn carry_out<R: Threads + Wait + Sync, T: Trunk, D: Desk, G: Gate + Sync>(
 /// worked at a time, 1 to 250, else 5) and `--periods` (the most periods of the run, 1 to 4,294,967,295, else that). The
 /// workers steal calls half done from one another, and each slice of a call passes the gate. The run waits for them, so what
 /// is said of it holds if `farm_top` returns. That the other commands return is proved of their functions in `farm_tools`
-/// (`relay`, `decode`, `encode`, `frames`) and `trau_submux` (`split`, `merge`), and not of `farm_top`, which waits as a whole.
+/// (`relay`, `decode`, `encode`, `frames`), `trau_submux` (`split`, `merge`) and `ccu_end` (`follow`), and not of `farm_top`,
+/// which waits as a whole.
 ///
 /// The command `split C` cuts the time slot on call C's Pcm line, 64 kbit/s, into its four channels of 16 kbit/s, on the Down
 /// lines of the calls C to C + 3; `merge C` puts the channels on the Up lines of these calls together to the slot on C's Out
 /// line. C is 1 to 4,093. Both take no memory and never answer 5.
+///
+/// The command `follow C W` is the base station's end: it takes call C's Up line, C being 1 to 4,096, as a recorded downlink,
+/// finds its frames at any bit and tells a line of text for each, and writes to Down what a base station would send up that
+/// wants frames at places that are W modulo 320, W being 0 to 316 and a multiple of 4: the speech that it heard, and the
+/// alignment that it asks for. It takes no memory and never answers 5.
 ///
 /// The command `drill` draws the lines and orders of `--calls` calls (1 to 256, else 64) from `--seed` (0 to 4,294,967,295,
 /// else 1), runs them over lines in memory for `--periods` periods (1 to 1,000, else 200), and tells the report, with the
@@ -153,13 +162,13 @@ fn carry_out<R: Threads + Wait + Sync, T: Trunk, D: Desk, G: Gate + Sync>(
 ///
 /// | Status | Comes | Text on the desk |
 /// |---|---|---|
-/// | 0 | the incoming line was worked to its end, or to 4,294,967,295 blocks; the run or the drill ended and no line's count rose | `relay frames N`, `decode frames N`, `encode frames N left R`; `frames N left R` behind a line of text for each of its N yields; `split octets N left R`, `merge octets N left A B C D`; the report; the report and the sums |
+/// | 0 | the incoming line was worked to its end, or to 4,294,967,295 blocks; the run or the drill ended and no line's count rose | `relay frames N`, `decode frames N`, `encode frames N left R`; `frames N left R` behind a line of text for each of its N yields; `split octets N left R`, `merge octets N left A B C D`; `follow frames N left R` behind a line of text for each of its N frames; the report; the report and the sums |
 /// | 1 | exactly where the words aren't those of a command (or 5, behind `run` and `drill`) | `usage` |
 /// | 2 | a line of the orders isn't in their grammar, N being the first | `orders line N` |
 /// | 3 | the desk failed while the orders were read | `orders unread` |
 /// | 4 | the desk failed while the command's text went out | a proper front of the command's text |
 /// | 5 | want of memory | `no memory` |
-/// | 6 | the count of a line of the command rose | `line C up failed`, with the line's side, behind the lines of text that `frames` had told; the report |
+/// | 6 | the count of a line of the command rose | `line C up failed`, with the line's side, behind the lines of text that `frames` or `follow` had told; the report |
 /// | 7 | the orders have more than 1,048,576 octets or more than 65,536 lines | `orders too long` |
 /// | 8 | only of `relay` and `decode`: a block of the uplink isn't a good speech frame, or the line ended inside it | `relay refused N`, `decode refused N`, N being the number of blocks before it |
 ///
@@ -257,6 +266,10 @@ pub fn farm_top<R: Threads + Wait + Sync, T: Trunk, D: Desk, G: Gate + Sync>(
         SplitEnds (T.lines trunk.old) (T.lines trunk.new) (D.desk desk.old) (D.desk desk.new) c result }
     ensures merge { (c : ℕ) → AsksForMerge (spelled words.now) c →
         MergeEnds (T.lines trunk.old) (T.lines trunk.new) (D.desk desk.old) (D.desk desk.new) c result }
+
+    // The same of the base station's end.
+    ensures follow { (c want : ℕ) → AsksForFollow (spelled words.now) c want →
+        FollowEnds (T.lines trunk.old) (T.lines trunk.new) (D.desk desk.old) (D.desk desk.new) c want result }
 {
     // A law: lines spell one list of orders at most, and then have no bad one.
     one_answer();

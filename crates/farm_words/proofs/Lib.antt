@@ -1,4 +1,5 @@
 -- Lemmas on words.
 pub mod Asking
+mod Following
 mod Found
 mod Matched

@@ -1,6 +1,7 @@
 -- What words ask for.
 pub mod Asking
 pub mod Drill
+pub mod Follow
 pub mod Options
 pub mod Run
 pub mod Slots

@@ -1,7 +1,7 @@
 -- The words of the commands on time slots (this project's profile).
 use Rattle.std.specs.Prelude.{◌≡◌, ℕ, ◌≤◌, List, [], ◌∷◌, codes, decimal}
 use Rattle.farm_words.specs.declared.asked.Asked.{Asked}
-use Rattle.farm_words.specs.declared.asked.Asked.TheVariants.{Run, Drill, Relay, Frames, Encode, Decode, Split, Merge}
+use Rattle.farm_words.specs.declared.asked.Asked.TheVariants.{Run, Drill, Relay, Frames, Encode, Decode, Follow, Split, Merge}
 
 -- a command's word and the first of four calls, 1 to 4,093, in decimal digits without leading zeros
 pub record NamesSlot (words : List (List ℕ)) (name : List ℕ) (call : ℕ) : Type 0 where
@@ -17,6 +17,7 @@ IsSlotOn (Relay c) name call = ⊥
 IsSlotOn (Frames c) name call = ⊥
 IsSlotOn (Encode c) name call = ⊥
 IsSlotOn (Decode c) name call = ⊥
+IsSlotOn (Follow c want) name call = ⊥
 IsSlotOn (Split c) name call = (name ≡ codes "split") × (c ≡ call)
 IsSlotOn (Merge c) name call = (name ≡ codes "merge") × (c ≡ call)
 
@@ -28,5 +29,6 @@ AsksSlot words (Relay c) = ⊥
 AsksSlot words (Frames c) = ⊥
 AsksSlot words (Encode c) = ⊥
 AsksSlot words (Decode c) = ⊥
+AsksSlot words (Follow c want) = ⊥
 AsksSlot words (Split c) = NamesSlot words (codes "split") c
 AsksSlot words (Merge c) = NamesSlot words (codes "merge") c

@@ -16,7 +16,7 @@ pub struct Settings {
     pub periods: u32,
 }
 
-/// What the words ask for. The tools name a call, 1 to 1,024.
+/// What the words ask for. The tools name a call, 1 to 4,096.
 #[derive(Clone, Copy, Debug, PartialEq, Eq)]
 pub enum Asked {
     /// A run of all calls that orders open.
@@ -35,6 +35,12 @@ pub enum Asked {
     Encode(u32),
     /// The good speech frames of a call's uplink, decoded, on its Out line.
     Decode(u32),
+    /// The downlink recorded on a call's Up line, 1 to 4,096, followed as its base station would that wants frames at places
+    /// that are `want` modulo 320: 0 to 316, a multiple of 4.
+    Follow {
+        call: u32,
+        want: u16,
+    },
     /// The time slot on a call's Pcm line, cut into four channels for this call's Down line and the next three's: 1 to 4,093.
     Split(u32),
     /// The channels on a call's Up line and the next three's, put together to a time slot: 1 to 4,093.

@@ -5,16 +5,18 @@
 //! words says which it takes and what each option's value is.
 //!
 //! `asked` has what words can ask for, `words` the whole reading, `tools` the words of the four tools, `slots` those of the
-//! commands on time slots, `run` and `drill` those of a run and of a drill, `options` what these two share, `laws` the law
+//! commands on time slots, `follow` those of the base station's end, `run` and `drill` those of a run and of a drill, `options` what these two share, `laws` the law
 //! that words ask for one thing.
 //!
 //! The commands, their options and ranges are this project's profile.
 //! Definitions: `specs/Words.antt` (a command's word and a call), `specs/Slots.antt` (a command on a time slot),
+//! `specs/Follow.antt` (the base station's end),
 //! `specs/Options.antt`, `specs/Run.antt` and `specs/Drill.antt` (the options of a run and of a drill), `specs/Asking.antt` (what all words ask for).
 #![tactic(auto)]
 
 mod asked;
 mod drill;
+mod follow;
 mod laws;
 mod options;
 mod run;

@@ -6,6 +6,7 @@ ghost use Rattle.farm_words.specs.Asking.{Asks};
 ghost use Rattle.farm_words.specs.Options.{BeginWith};
 
 use crate::drill::read_drill;
+use crate::follow::read_follow;
 use crate::run::read_run;
 use crate::slots::read_slot;
 use crate::tools::read_tool;
@@ -27,7 +28,8 @@ fn options_of<'a>(words: &'a [String], command: &str) -> Option<&'a [String]>
 ///
 /// | Words | What they ask for |
 /// |---|---|
-/// | `relay C`, `frames C`, `encode C`, `decode C` | a tool's work on call C, 1 to 1,024 |
+/// | `relay C`, `frames C`, `encode C`, `decode C` | a tool's work on call C, 1 to 4,096 |
+/// | `follow C W` | the base station's end of a downlink on call C, 1 to 4,096; W is 0 to 316, a multiple of 4 |
 /// | `split C`, `merge C` | a time slot cut into channels, or put together of them, call C being 1 to 4,093 |
 /// | `run` and its options | a run |
 /// | `drill` and its options | a drill |
@@ -62,6 +64,12 @@ pub fn read_words(alloc: Global, words: &[String]) -> Result<Asked, WordsFault>
     }
     if let Some(asked) = read_tool(words) {
         return Ok(asked);
+    }
+    if let Some(followed) = read_follow(words) {
+        return Ok(Asked::Follow {
+            call: followed.call,
+            want: followed.want,
+        });
     }
     read_slot(words).ok_or(WordsFault::Usage)
 }

@@ -4,16 +4,8 @@ use Rattle.std.proofs.lemmas.List.{length-set, drop_all, take_all, append-nil}
 use Rattle.std.proofs.lemmas.Grind.{take-set_at}
 use Rattle.trau_num.specs.Num.{add_of, mult_r_of}
 use Rattle.fr_short.specs.Deemphasis.{deemphasised, last_of}
+use Rattle.fr_short.specs.Steps.{followed}
 use Rattle.fr_short.specs.Synthesis.{synthesis_lattice, sections_after, filtered_samples}
-
--- k samples are done, and what is left gives the rest
-pub record Run (rs : ℕ → List ℤ) (start d vs s : List ℤ) (k : ℕ) : Type 0 where
-  pub count : length s ≡ length d
-  pub samples : take k s ++ (filtered_samples rs k vs (drop k d)).0 ≡ (filtered_samples rs 0 start d).0
-  pub state : (filtered_samples rs k vs (drop k d)).1 ≡ (filtered_samples rs 0 start d).1
-
-pub run_start : (rs : ℕ → List ℤ) (start d s : List ℤ) → length s ≡ length d → Run rs start d start s 0
-run_start rs start d s l = record { count = l; samples = refl; state = refl }
 
 -- one sample y of the definition, with the coefficients r
 one : (rs : ℕ → List ℤ) (k : ℕ) (vs d r : List ℤ) (y x : ℤ) (vs' : List ℤ) → k < length d → r ≡ rs k → y ≡ get_or d k (pos 0) →
@@ -22,46 +14,33 @@ one : (rs : ℕ → List ℤ) (k : ℕ) (vs d r : List ℤ) (y x : ℤ) (vs' : L
 unfolding filtered_samples
 one rs k vs d r y x vs' h er ey ex ev = let e = drop-cons d k (pos 0) h in rw (ex, ev, er, ey, e, add-one) refl
 
-pub run_next : (rs : ℕ → List ℤ) (start d vs s r : List ℤ) (k : ℕ) (y x : ℤ) (vs' : List ℤ) → k < length d → Run rs start d vs s k →
-    r ≡ rs k → y ≡ get_or d k (pos 0) → x ≡ (synthesis_lattice r vs y).0 → vs' ≡ sections_after (synthesis_lattice r vs y) →
-    Run rs start d vs' (set s k x) (k + 1)
-run_next rs start d vs s r k y x vs' h run er ey ex ev =
-    let o = one rs k vs d r y x vs' h er ey ex ev in
-    let count = run.count in
-    let t : take (k + 1) (set s k x) ≡ take k s ++ x ∷ [] = take-set_at s k (k + 1) x refl (omega arith) in
-    record {
-      count = length-set s k x ∙ count;
-      samples = rw (t, append_assoc) (rw o at run.samples);
-      state = rw o at run.state;
-    }
+-- what is made of samples as they are, and by de-emphasis
+pub followed_plain : (before : ℤ) (xs : List ℤ) → followed (λ sample last. sample) before xs ≡ xs
+followed_plain before [] = refl
+followed_plain before (x ∷ xs) = ap (λ l. x ∷ l) (followed_plain x xs)
 
-pub run_end : (rs : ℕ → List ℤ) (start d vs s : List ℤ) (k : ℕ) → length d ≤ k → Run rs start d vs s k →
-    (s ≡ (filtered_samples rs 0 start d).0) × (vs ≡ (filtered_samples rs 0 start d).1)
-unfolding filtered_samples
-run_end rs start d vs s k h r =
-    let count = r.count in
-    let e : drop k d ≡ [] = drop_all k d h in
-    let t : take k s ≡ s = take_all k s (omega arith) in
-    (rw (t, e, append-nil) at r.samples, rw e at r.state)
+pub followed_emphasis : (before : ℤ) (xs : List ℤ) → followed (λ sample last. add_of sample (mult_r_of (pos 28180) last)) before xs ≡ deemphasised before xs
+followed_emphasis before [] = refl
+followed_emphasis before (x ∷ xs) = ap (λ l. add_of x (mult_r_of (pos 28180) before) ∷ l) (followed_emphasis (add_of x (mult_r_of (pos 28180) before)) xs)
 
--- the same with de-emphasis after each sample: the last msr goes on
-pub record EmphasisRun (rs : ℕ → List ℤ) (start d : List ℤ) (before : ℤ) (vs : List ℤ) (last : ℤ) (s : List ℤ) (k : ℕ) : Type 0 where
+-- k samples are done, of which the last was made so, and what is left gives the rest
+pub record Run (f : ℤ → ℤ → ℤ) (rs : ℕ → List ℤ) (start d : List ℤ) (before : ℤ) (vs : List ℤ) (last : ℤ) (s : List ℤ) (k : ℕ) : Type 0 where
   pub count : length s ≡ length d
-  pub samples : take k s ++ deemphasised last (filtered_samples rs k vs (drop k d)).0 ≡ deemphasised before (filtered_samples rs 0 start d).0
-  pub newest : last_of last (deemphasised last (filtered_samples rs k vs (drop k d)).0) ≡ last_of before (deemphasised before (filtered_samples rs 0 start d).0)
+  pub samples : take k s ++ followed f last (filtered_samples rs k vs (drop k d)).0 ≡ followed f before (filtered_samples rs 0 start d).0
+  pub newest : last_of last (followed f last (filtered_samples rs k vs (drop k d)).0) ≡ last_of before (followed f before (filtered_samples rs 0 start d).0)
   pub state : (filtered_samples rs k vs (drop k d)).1 ≡ (filtered_samples rs 0 start d).1
 
-pub emphasis_start : (rs : ℕ → List ℤ) (start d : List ℤ) (before : ℤ) (s : List ℤ) → length s ≡ length d → EmphasisRun rs start d before start before s 0
-emphasis_start rs start d before s l = record { count = l; samples = refl; newest = refl; state = refl }
+pub run_start : (f : ℤ → ℤ → ℤ) (rs : ℕ → List ℤ) (start d : List ℤ) (before : ℤ) (s : List ℤ) → length s ≡ length d → Run f rs start d before start before s 0
+run_start f rs start d before s l = record { count = l; samples = refl; newest = refl; state = refl }
 
-pub emphasis_next : (rs : ℕ → List ℤ) (start d : List ℤ) (before : ℤ) (vs : List ℤ) (last : ℤ) (s r : List ℤ) (k : ℕ) (y x m : ℤ) (vs' : List ℤ) → k < length d →
-    EmphasisRun rs start d before vs last s k → r ≡ rs k → y ≡ get_or d k (pos 0) → x ≡ (synthesis_lattice r vs y).0 → vs' ≡ sections_after (synthesis_lattice r vs y) →
-    m ≡ add_of x (mult_r_of (pos 28180) last) → EmphasisRun rs start d before vs' m (set s k m) (k + 1)
-emphasis_next rs start d before vs last s r k y x m vs' h run er ey ex ev em =
+pub run_next : (f : ℤ → ℤ → ℤ) (rs : ℕ → List ℤ) (start d : List ℤ) (before : ℤ) (vs : List ℤ) (last : ℤ) (s r : List ℤ) (k : ℕ) (y x m : ℤ) (vs' : List ℤ) → k < length d →
+    Run f rs start d before vs last s k → r ≡ rs k → y ≡ get_or d k (pos 0) → x ≡ (synthesis_lattice r vs y).0 → vs' ≡ sections_after (synthesis_lattice r vs y) →
+    m ≡ f x last → Run f rs start d before vs' m (set s k m) (k + 1)
+run_next f rs start d before vs last s r k y x m vs' h run er ey ex ev em =
     let o = one rs k vs d r y x vs' h er ey ex ev in
     let rest : List ℤ = (filtered_samples rs (k + 1) vs' (drop (k + 1) d)).0 in
-    let e : deemphasised last (filtered_samples rs k vs (drop k d)).0 ≡ m ∷ deemphasised m rest =
-    ap (λ z. deemphasised last z.0) o ∙ ap (λ n. n ∷ deemphasised n rest) (sym em) in
+    let e : followed f last (filtered_samples rs k vs (drop k d)).0 ≡ m ∷ followed f m rest =
+    ap (λ z. followed f last z.0) o ∙ ap (λ n. n ∷ followed f n rest) (sym em) in
     let count = run.count in
     let t : take (k + 1) (set s k m) ≡ take k s ++ m ∷ [] = take-set_at s k (k + 1) m refl (omega arith) in
     record {
@@ -71,10 +50,10 @@ emphasis_next rs start d before vs last s r k y x m vs' h run er ey ex ev em =
       state = rw o at run.state;
     }
 
-pub emphasis_end : (rs : ℕ → List ℤ) (start d : List ℤ) (before : ℤ) (vs : List ℤ) (last : ℤ) (s : List ℤ) (k : ℕ) → length d ≤ k → EmphasisRun rs start d before vs last s k →
-    (s ≡ deemphasised before (filtered_samples rs 0 start d).0) × (last ≡ last_of before (deemphasised before (filtered_samples rs 0 start d).0)) × (vs ≡ (filtered_samples rs 0 start d).1)
+pub run_end : (f : ℤ → ℤ → ℤ) (rs : ℕ → List ℤ) (start d : List ℤ) (before : ℤ) (vs : List ℤ) (last : ℤ) (s : List ℤ) (k : ℕ) → length d ≤ k → Run f rs start d before vs last s k →
+    (s ≡ followed f before (filtered_samples rs 0 start d).0) × (last ≡ last_of before (followed f before (filtered_samples rs 0 start d).0)) × (vs ≡ (filtered_samples rs 0 start d).1)
 unfolding filtered_samples
-emphasis_end rs start d before vs last s k h r =
+run_end f rs start d before vs last s k h r =
     let count = r.count in
     let e : drop k d ≡ [] = drop_all k d h in
     let t : take k s ≡ s = take_all k s (omega arith) in

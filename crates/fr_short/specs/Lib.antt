@@ -1,6 +1,7 @@
 pub mod Ratios
 pub mod Reflection
 pub mod Memory
+pub mod Steps
 pub mod Synthesis
 pub mod Analysis
 pub mod AnalysisSection

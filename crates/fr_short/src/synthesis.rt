@@ -4,12 +4,13 @@
 //! don't wait for one another; the words behind each section do. They are guessed as sums that wrap, which
 //! takes three steps, and checked: where no difference is clamped, and seldom is one, the guess stands.
 
-ghost use Rattle.std.specs.Prelude.{◌≡◌, pos, reverse, length};
+ghost use Rattle.std.specs.Prelude.{◌≡◌, ℤ, pos, reverse, length};
 ghost use Rattle.trau_num.specs.Num.{add_of, mult_r_of};
 ghost use Rattle.trau_lanes.specs.Lanes.{EightWords, EightFactors};
 ghost use Rattle.fr_short.specs.Reflection.{coefficients_at};
 ghost use Rattle.fr_short.specs.Synthesis.{synthesis_lattice, sections_after, filtered_samples};
 ghost use Rattle.fr_short.specs.Deemphasis.{deemphasised, last_of};
+ghost use Rattle.fr_short.specs.Steps.{followed};
 ghost use Rattle.fr_short.specs.Lanes.{words_behind};
 
 use crate::reflection::{part_start, parts};
@@ -87,6 +88,66 @@ fn backwards(words: &[i16; 8]) -> i16x8
     ])
 }
 
+// What is made of each sample that leaves the sections, with what was made of the sample before.
+trait Step {
+    ghost next: { ℤ → ℤ → ℤ };
+
+    fn next(sample: i16, before: i16) -> i16
+        ensures { result ≡ next sample before };
+}
+
+// Samples as they are.
+struct Plain;
+
+impl Step for Plain {
+    ghost next = { λ sample before. sample };
+
+    fn next(sample: i16, _before: i16) -> i16 {
+        sample
+    }
+}
+
+// De-emphasis after the last sample that was de-emphasised.
+struct Emphasis;
+
+impl Step for Emphasis {
+    ghost next = { λ sample before. add_of sample (mult_r_of (pos 28180) before) };
+
+    fn next(sample: i16, before: i16) -> i16 {
+        add(sample, mult_r(28180, before))
+    }
+}
+
+// Filters the residual `d` of a frame between the previous frame's ratios and this frame's, with a step behind each sample;
+// `before` is what was made of the last sample of the frame before, and that of this frame is answered.
+//
+// Both in one loop, since each waits for the sample before, and so one has its time while the other waits.
+fn filter_by<S: Step>(
+    old: &[i16; 8],
+    new: &[i16; 8],
+    sections: &mut [i16; 8],
+    d: &[i16; 160],
+    before: i16,
+    made: &mut [i16; 160],
+) -> i16
+    ensures samples { made.new ≡ followed S.next before (filtered_samples (coefficients_at old.now new.now) 0 sections.old d.now).0 }
+    ensures last { result ≡ last_of before (followed S.next before (filtered_samples (coefficients_at old.now new.now) 0 sections.old d.now).0) }
+    ensures sections { sections.new ≡ (filtered_samples (coefficients_at old.now new.now) 0 sections.old d.now).1 }
+{
+    let parts = parts(old, new);
+    let mut vs = backwards(sections);
+    let mut last = before;
+    for part in 0..4 {
+        let rs = backwards(&parts[part]);
+        for k in part_start(part)..part_start(part + 1) {
+            last = S::next(pass(rs, &mut vs, d[k]), last);
+            made[k] = last;
+        }
+    }
+    *sections = vs.reverse().to_array();
+    last
+}
+
 /// Filters the residual `d` of a frame between the previous frame's ratios and this frame's.
 pub(crate) fn filter(
     old: &[i16; 8],
@@ -98,28 +159,11 @@ pub(crate) fn filter(
     ensures samples { s.new ≡ (filtered_samples (coefficients_at old.now new.now) 0 sections.old d.now).0 }
     ensures sections { sections.new ≡ (filtered_samples (coefficients_at old.now new.now) 0 sections.old d.now).1 }
 {
-    let parts = parts(old, new);
-    let mut vs = backwards(sections);
-    for part in 0..4 {
-        let rs = backwards(&parts[part]);
-        for k in part_start(part)..part_start(part + 1) {
-            s[k] = pass(rs, &mut vs, d[k]);
-        }
-    }
-    *sections = vs.reverse().to_array();
-}
-
-// One sample of de-emphasis, after the last one before it.
-fn deemphasise(sample: i16, before: i16) -> i16
-    ensures { result ≡ add_of sample (mult_r_of (pos 28180) before) }
-{
-    add(sample, mult_r(28180, before))
+    filter_by::<Plain>(old, new, sections, d, 0, s);
 }
 
 /// The same with de-emphasis of each sample, into `msr` after the last one `before` of the frame before; answers the
 /// last.
-///
-/// Both in one loop, since each waits for the sample before, and so one has its time while the other waits.
 pub(crate) fn filter_deemphasised(
     old: &[i16; 8],
     new: &[i16; 8],
@@ -132,16 +176,5 @@ pub(crate) fn filter_deemphasised(
     ensures last { result ≡ last_of before (deemphasised before (filtered_samples (coefficients_at old.now new.now) 0 sections.old d.now).0) }
     ensures sections { sections.new ≡ (filtered_samples (coefficients_at old.now new.now) 0 sections.old d.now).1 }
 {
-    let parts = parts(old, new);
-    let mut vs = backwards(sections);
-    let mut last = before;
-    for part in 0..4 {
-        let rs = backwards(&parts[part]);
-        for k in part_start(part)..part_start(part + 1) {
-            last = deemphasise(pass(rs, &mut vs, d[k]), last);
-            msr[k] = last;
-        }
-    }
-    *sections = vs.reverse().to_array();
-    last
+    filter_by::<Emphasis>(old, new, sections, d, before, msr)
 }

@@ -10,7 +10,7 @@ ghost use Rattle.switchboard.specs.State.{start_of, orders_of, first_of, first_s
 ghost use Rattle.switchboard.specs.Runs.{IsRun, TellsEnds, AllEnded, IsUnchanged};
 ghost use Rattle.switchboard.specs.Stands.{AreRising};
 ghost use Rattle.switchboard.specs.Ends.{Given, spans_now, spans_of};
-ghost use Rattle.switchboard.specs.Open.{opened_now, open_now, partner_now, opened_after, open_after, partner_after, open_without, partner_without, ArePairs, IfAccepted, Finds, Rests, IsAsBefore};
+ghost use Rattle.switchboard.specs.Open.{opened_now, open_now, law_now, partner_now, opened_after, open_after, law_after, partner_after, open_without, partner_without, ArePairs, IfAccepted, Finds, Rests, IsAsBefore};
 
 use crate::table::Table;
 use crate::{Reply, Span};
@@ -97,11 +97,13 @@ impl Board {
         // A refused order changes nothing.
         ensures refused { IfSome result (λ reply. OnErr reply.result (IsUnchanged self.old self.new)) }
 
-        // What an accepted order finds, and what it changes of who was opened, who is open and who is bridged with whom.
+        // What an accepted order finds, and what it changes of who was opened, who is open, by which law, and who is bridged
+        // with whom.
         ensures finds { IfAccepted result (λ act. Finds act (opened_now self.old) (open_now self.old) (partner_now self.old)) }
         ensures rests { IfAccepted result (λ act. Rests act (told_in self.old) (bridges self.old.done) period) }
         ensures opened { IfAccepted result (λ act. (c : ℕ) → opened_now self.new c ≡ opened_after act (opened_now self.old) c) }
         ensures open { IfAccepted result (λ act. (c : ℕ) → open_now self.new c ≡ open_after act (open_now self.old) c) }
+        ensures law { IfAccepted result (λ act. (c : ℕ) → law_now self.new c ≡ law_after act (law_now self.old) c) }
         ensures partner { IfAccepted result (λ act. (c : ℕ) → partner_now self.new c ≡ partner_after act (partner_now self.old) c) }
 
         // Where no order is due, or it is refused, these stay.
@@ -137,6 +139,7 @@ impl Board {
         ensures rests { IfOk result.result (λ act. Rests act (told_in self.old) (bridges self.old.done) order.now.stamp) }
         ensures opened { IfOk result.result (λ act. (c : ℕ) → opened_now self.new c ≡ opened_after act (opened_now self.old) c) }
         ensures open { IfOk result.result (λ act. (c : ℕ) → open_now self.new c ≡ open_after act (open_now self.old) c) }
+        ensures law { IfOk result.result (λ act. (c : ℕ) → law_now self.new c ≡ law_after act (law_now self.old) c) }
         ensures partner { IfOk result.result (λ act. (c : ℕ) → partner_now self.new c ≡ partner_after act (partner_now self.old) c) }
     {
         let result = self.table.reply_to(order);

@@ -1,9 +1,10 @@
 -- Seats after a file is put into one, and after a line is given one.
-use Rattle.std.proofs.Common.{◌≡◌, ◌⊎◌, ◌<◌, ℕ, zero, suc, List, [], ◌∷◌, length, Option, None, Some, All, slice_set, slice_index_or, length-set, refl, sym, ◌∙◌, ap, arith, inl, inr}
+use Rattle.std.proofs.Common.{◌≡◌, ◌⊎◌, Result, IfSome, subst, ◌<◌, ℕ, zero, suc, List, [], ◌∷◌, length, Option, None, Some, All, slice_set, slice_index_or, length-set, refl, sym, ◌∙◌, ap, arith, inl, inr}
+use Rattle.std.proofs.lemmas.List.{get_or_read_under}
 use Rattle.trau_io.specs.declared.line.Side.{Side}
 use Rattle.trau_io.specs.Places.{place_of}
 use Rattle.trau_io.proofs.Tables.{same_line}
-use Rattle.trau_files.specs.Files.{OpenLine, IsFileOf, OpenAfter, AreSeated, in_seat}
+use Rattle.trau_files.specs.Files.{OpenLine, IsFileOf, OpenAfter, AreSeated, in_seat, open_after}
 
 -- an element is the one that was put there, or as before
 set_place : {X : Type 0} (xs : List X) (i : ℕ) (y d : X) (k : ℕ) → ((k ≡ i) × (slice_index_or (slice_set xs i y) k d ≡ y)) ⊎ (slice_index_or (slice_set xs i y) k d ≡ slice_index_or xs k d)
@@ -59,3 +60,85 @@ open_after_put seats seat_of file seat is within seated =
       others = λ k. elim (set_place seats seat (Some file) None k) [ inl s ↦ inr (inr s.1) | inr s ↦ inl s ];
       number = length-set seats seat (Some file);
     }
+
+-- the file in a seat is moved on, or closed
+pub moved_to : (seats : List (Option OpenLine)) (seat_of : List ℕ) (o : OpenLine) (seat : ℕ) (file : Option OpenLine) → in_seat seats seat ≡ Some o → seat < length seats → AreSeated seats seat_of → OpenAfter seats (slice_set seats seat file) o.call o.side file
+moved_to seats seat_of o seat file was within seated =
+    let put = set_there seats seat file None within in
+    record {
+      this = record {
+        only = λ k o' there call side. elim (set_place seats seat file None k) [
+          | inl s ↦ sym s.1 ∙ there
+          | inr s ↦
+              let same : k ≡ seat = same_seat seat_of o o' seat k (sym (seated seat o was)) (seated k o' (sym s ∙ there)) call side in
+              sym put ∙ ap (in_seat (slice_set seats seat file)) (sym same) ∙ there
+        ];
+        there = found file put;
+      };
+      others = λ k. elim (set_place seats seat file None k) [ inl s ↦ inr (inr s.1) | inr s ↦ inl s ];
+      number = length-set seats seat file;
+    }
+  where
+    found : (file : Option OpenLine) → in_seat (slice_set seats seat file) seat ≡ file → IfSome file (λ x. (k : ℕ) × (in_seat (slice_set seats seat file) k ≡ Some x))
+    found None put = tt
+    found (Some x) put = (seat, put)
+
+pub moved_after : {E : Type 0} (seats : List (Option OpenLine)) (seat_of : List ℕ) (seat : ℕ) (old file : Option OpenLine) (result : Result ℕ E) → in_seat seats seat ≡ old → seat < length seats → AreSeated seats seat_of →
+    IfSome old (λ o. file ≡ open_after o.call o.side o.access o.at result) → IfSome (in_seat seats seat) (λ o. OpenAfter seats (slice_set seats seat file) o.call o.side (open_after o.call o.side o.access o.at result))
+moved_after seats seat_of seat old file result was within seated after =
+    subst (λ x. IfSome x (λ o. OpenAfter seats (slice_set seats seat file) o.call o.side (open_after o.call o.side o.access o.at result))) (sym was) (moved old was after)
+  where
+    moved : (old : Option OpenLine) → in_seat seats seat ≡ old → IfSome old (λ o. file ≡ open_after o.call o.side o.access o.at result) → IfSome old (λ o. OpenAfter seats (slice_set seats seat file) o.call o.side (open_after o.call o.side o.access o.at result))
+    moved None was after = tt
+    moved (Some o) was after = subst (OpenAfter seats (slice_set seats seat file) o.call o.side) after (moved_to seats seat_of o seat file was within seated)
+
+-- a line without an open file is given a seat, and its file is put there
+pub given_and_put : (seats : List (Option OpenLine)) (seat_of : List ℕ) (file : OpenLine) (p seat : ℕ) → p ≡ place_of file.call file.side → p < length seat_of → seat < length seats → IsFileOf seats file.call file.side None → AreSeated seats seat_of →
+    AreSeated (slice_set seats seat (Some file)) (slice_set seat_of p seat) × OpenAfter seats (slice_set seats seat (Some file)) file.call file.side (Some file) × (in_seat (slice_set seats seat (Some file)) seat ≡ Some file)
+given_and_put seats seat_of file p seat at room within closed seated =
+    let given = seated_elsewhere seats seat_of file.call file.side p seat at closed seated in
+    let named : seat ≡ slice_index_or (slice_set seat_of p seat) (place_of file.call file.side) 0 = sym (set_there seat_of p seat 0 room) ∙ ap (λ i. slice_index_or (slice_set seat_of p seat) i 0) at in
+    (seated_after seats (slice_set seat_of p seat) file seat named given, open_after_put seats (slice_set seat_of p seat) file seat named within given, set_there seats seat (Some file) None within)
+
+-- the file in a line's seat stays, or is closed
+module _ (seats : List (Option OpenLine)) (seat_of : List ℕ) (seat : ℕ) (file : Option OpenLine) (within : seat < length seats) (seated : AreSeated seats seat_of) where
+  kept_or_none : (file ≡ in_seat seats seat) ⊎ (file ≡ None) → (k : ℕ) → (in_seat (slice_set seats seat file) k ≡ in_seat seats k) ⊎ (in_seat (slice_set seats seat file) k ≡ None)
+  kept_or_none others k =
+      elim (set_place seats seat file None k) [
+        | inl s ↦ elim others [ inl e ↦ inl (s.1 ∙ e ∙ ap (in_seat seats) (sym s.0)) | inr e ↦ inr (s.1 ∙ e) ]
+        | inr s ↦ inl s
+      ]
+
+  pub seated_still : (file ≡ in_seat seats seat) ⊎ (file ≡ None) → AreSeated (slice_set seats seat file) seat_of
+  seated_still others k o there = elim (kept_or_none others k) [ inl e ↦ seated k o (sym e ∙ there) | inr e ↦ let none = e in cc ]
+
+  pub none_open : (call : ℕ) (side : Side) → seat ≡ slice_index_or seat_of (place_of call side) 0 → (file ≡ in_seat seats seat) ⊎ (file ≡ None) → IfSome file (λ o. o.call ≡ call → o.side ≡ side → ⊥) →
+      IsFileOf (slice_set seats seat file) call side None
+  none_open call side named others other = record {
+    only = λ k o there c s. absurd (refused file other o (sym (set_there seats seat file None within) ∙ ap (in_seat (slice_set seats seat file)) (sym (here k o there c s)) ∙ there) c s);
+    there = tt;
+  }
+    where
+      here : (k : ℕ) (o : OpenLine) → in_seat (slice_set seats seat file) k ≡ Some o → o.call ≡ call → o.side ≡ side → k ≡ seat
+      here k o there c s = let at = seated_still others k o there in cc
+
+      refused : (file : Option OpenLine) → IfSome file (λ o. o.call ≡ call → o.side ≡ side → ⊥) → (o : OpenLine) → file ≡ Some o → o.call ≡ call → o.side ≡ side → ⊥
+      refused None other o e c s = cc
+      refused (Some x) other o e c s = let same : x ≡ o = cc in other (ap (λ (y : OpenLine). y.call) same ∙ c) (ap (λ (y : OpenLine). y.side) same ∙ s)
+
+-- a line's seat, and what was read there
+pub record IsSeatOf (seats : List (Option OpenLine)) (seat_of : List ℕ) (call : ℕ) (side : Side) (seat : ℕ) (was : Option OpenLine) : Type 0 where
+  pub within : seat < length seats
+  pub here : in_seat seats seat ≡ was
+  pub named : seat ≡ slice_index_or seat_of (place_of call side) 0
+
+pub seat_read : (seats : List (Option OpenLine)) (seat_of : List ℕ) (call : ℕ) (side : Side) (p seat : ℕ) (was : Option OpenLine) → length seats ≡ 256 → length seat_of ≡ 16388 → seat < 256 → p < 16388 → p ≡ place_of call side →
+    seat ≡ slice_index_or seat_of p seat → was ≡ slice_index_or seats seat was → IsSeatOf seats seat_of call side seat was
+seat_read seats seat_of call side p seat was count places low room at read there = record {
+  within = omega (arith, count);
+  here = sym (get_or_read_under seats seat 256 was None there low (sym count));
+  named = get_or_read_under seat_of p 16388 seat 0 read room (sym places) ∙ ap (λ i. slice_index_or seat_of i 0) at;
+}
+
+pub kept_or_closed : {here was file : Option OpenLine} → here ≡ was → (file ≡ was) ⊎ (file ≡ None) → (file ≡ here) ⊎ (file ≡ None)
+kept_or_closed e others = elim others [ inl k ↦ inl (k ∙ sym e) | inr n ↦ inr n ]

@@ -60,6 +60,11 @@ abbrev pub open_after : {E : Type 0} → ℕ → Side → Access → ℕ → Res
 open_after call side access at (Ok n) = Some (record { call = call; side = side; access = access; at = raised at n })
 open_after call side access at (Err e) = None
 
+-- the line's file after an opening with this answer: it stands at this octet, or isn't open
+abbrev pub opened : {A E : Type 0} → ℕ → Side → Access → ℕ → Result A E → Option OpenLine
+opened call side access at (Ok a) = Some (record { call = call; side = side; access = access; at = at })
+opened call side access at (Err e) = None
+
 -- the files that are open, each in a seat: the one in this seat
 abbrev pub in_seat : List (Option OpenLine) → ℕ → Option OpenLine
 in_seat seats k = slice_index_or seats k None

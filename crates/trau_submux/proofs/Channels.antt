@@ -1,5 +1,5 @@
 -- Which bits of a slot a channel has, and what four octets give it.
-use Rattle.std.proofs.Common.{◌≡◌, ℕ, ◌+◌, ◌-◌, ◌*◌, ◌/◌, ◌%◌, ◌^◌, ◌<◌, ◌≤◌, zero, suc, List, [], ◌∷◌, ◌++◌, length, get_or, All, refl, sym, ap, ◌∙◌, arith}
+use Rattle.std.proofs.Common.{◌≡◌, ℕ, ◌+◌, ◌-◌, ◌*◌, ◌/◌, ◌%◌, ◌<◌, ◌≤◌, zero, suc, List, [], ◌∷◌, ◌++◌, length, get_or, All, refl, sym, ap, ◌∙◌, arith}
 use Rattle.std.specs.Int.{bit_at}
 use Rattle.std.proofs.lemmas.Grind.{flat_map-append, get_or_default_zero, same_number_lists}
 use Rattle.std.proofs.lemmas.Nat.Bits.{bit_at-lt}
@@ -214,16 +214,3 @@ pub slot_again : (chans : List (List ℕ)) (ys octets : List ℕ) → AreGathere
 slot_again chans ys octets gather long fit are =
     one_slot_at ys octets (λ k below. rw (gather.each k (omega (arith, gather.long, below))) (gathered-below _ _ _ _ _)) (λ k below. fit k 0 below)
     (λ j below. gathered_carries chans ys gather j below ∙ ap bits_of (are j below) ∙ bits_of-channel j octets 40 long)
-
--- rows of every fourth octet, gathered for a channel, are the channel
-pub rows_gathered : (j : ℕ) (slot a b c d ys : List ℕ) → j < 4 → length slot ≡ 160 → length ys ≡ 40 →
-    ((m : ℕ) → m < 40 → get_or a m 0 ≡ get_or slot (4 * m + 0) 0) → ((m : ℕ) → m < 40 → get_or b m 0 ≡ get_or slot (4 * m + 1) 0) →
-    ((m : ℕ) → m < 40 → get_or c m 0 ≡ get_or slot (4 * m + 2) 0) → ((m : ℕ) → m < 40 → get_or d m 0 ≡ get_or slot (4 * m + 3) 0) →
-    ((m : ℕ) → m < 40 → get_or ys m 0 ≡ gathered j (get_or a m 0) (get_or b m 0) (get_or c m 0) (get_or d m 0)) → ys ≡ channel j slot
-rows_gathered j slot a b c d ys small long short first second third fourth each = gathered_channel j slot ys 40 small long short (λ m below.
-    let at : 4 * m + 0 ≡ 4 * m = omega arith in
-    each m below
-    ∙ ap (λ o. gathered j o (get_or b m 0) (get_or c m 0) (get_or d m 0)) (first m below ∙ ap (λ i. get_or slot i 0) at)
-    ∙ ap (λ o. gathered j (get_or slot (4 * m) 0) o (get_or c m 0) (get_or d m 0)) (second m below)
-    ∙ ap (λ o. gathered j (get_or slot (4 * m) 0) (get_or slot (4 * m + 1) 0) o (get_or d m 0)) (third m below)
-    ∙ ap (λ o. gathered j (get_or slot (4 * m) 0) (get_or slot (4 * m + 1) 0) (get_or slot (4 * m + 2) 0) o) (fourth m below))

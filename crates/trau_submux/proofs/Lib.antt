@@ -5,7 +5,9 @@ pub mod Ending
 pub mod Groups
 pub mod Merged
 pub mod Merging
+pub mod Parts
 pub mod Reading
 pub mod Splitting
 pub mod Taking
+pub mod Vectors
 pub mod Writing

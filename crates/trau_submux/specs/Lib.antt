@@ -3,6 +3,7 @@ pub mod Channels
 pub mod Lines
 pub mod Merges
 pub mod Pairs
+pub mod Squares
 pub mod Splits
 pub mod Tools
 pub mod Writing

@@ -5,6 +5,10 @@ use Rattle.std.specs.Prelude.{ℕ, ◌+◌, ◌-◌, ◌*◌, ◌/◌, ◌%◌, 
 abbrev pub pair_at : ℕ → ℕ → ℕ
 pair_at j octet = octet / 2 ^ (6 - 2 * j) % 4
 
+-- the octet of four pairs of bits
+abbrev pub four_pairs : ℕ → ℕ → ℕ → ℕ → ℕ
+four_pairs a b c d = a * 64 + b * 16 + c * 4 + d
+
 -- the octet of the pairs of four octets
 abbrev pub gathered : ℕ → ℕ → ℕ → ℕ → ℕ → ℕ
-gathered j a b c d = pair_at j a * 64 + pair_at j b * 16 + pair_at j c * 4 + pair_at j d
+gathered j a b c d = four_pairs (pair_at j a) (pair_at j b) (pair_at j c) (pair_at j d)

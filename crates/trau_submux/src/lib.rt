@@ -14,6 +14,7 @@
 mod cut;
 mod four;
 mod join;
+mod lanes;
 pub mod laws;
 mod text;
 mod tools;

@@ -3,11 +3,10 @@
 ghost use Rattle.std.specs.Prelude.{◌≡◌, ◌<◌, length, IfOk, All, None};
 ghost use Rattle.std.specs.Io.{ReadsAtMost, WritesAtMost};
 ghost use Rattle.trau_files.specs.declared.trunk.seats.Access.TheVariants.{Reading, Writing};
-ghost use Rattle.trau_files.specs.Files.{IsFileOf, Closes, OpenAfter, open_after};
+ghost use Rattle.trau_files.specs.Files.{StandsAt, IsFileOf, OpenAfter, in_seat, open_after, opened};
 
 use super::name::name_of;
 use super::seats::{Access, OpenFile, Seats};
-use crate::retry::{read_again, write_some};
 use std::alloc::{AllocError, Global};
 use std::fs::OpenOptions;
 use std::io;
@@ -53,17 +52,8 @@ impl<'a, R: Files> LineFiles<'a, R> {
         ensures bound { ReadsAtMost result buf.new }
         ensures open { OpenAfter self.old self.new line.call line.side (open_after line.call line.side Reading at result) }
     {
-        let access = Access::Reading;
-        let mut file = self.take(line, access, at)?;
-        let count = read_again(&mut file, buf)?;
-        let at = at.saturating_add(count as u64);
-        self.seats.put(OpenFile {
-            file,
-            line,
-            access,
-            at,
-        });
-        Ok(count)
+        let seat = self.seat(line, Access::Reading, at)?;
+        self.seats.read(seat, buf)
     }
 
     /// Writes the front of `bytes` to a line's file, from this octet on, at least one octet.
@@ -72,37 +62,26 @@ impl<'a, R: Files> LineFiles<'a, R> {
         ensures bound { WritesAtMost result bytes.now }
         ensures open { OpenAfter self.old self.new line.call line.side (open_after line.call line.side Writing at result) }
     {
-        let access = Access::Writing;
-        let mut file = self.take(line, access, at)?;
-        let count = write_some(&mut file, bytes)?;
-        let at = at.saturating_add(count as u64);
-        self.seats.put(OpenFile {
-            file,
-            line,
-            access,
-            at,
-        });
-        Ok(count)
+        let seat = self.seat(line, Access::Writing, at)?;
+        self.seats.write(seat, bytes)
     }
 
-    // The line's file, which stands at this octet: taken out of its seat, or opened.
-    fn take(&mut self, line: Line, access: Access, at: u64) -> io::Result<R::File>
-        ensures closed { IsFileOf self.new line.call line.side None }
-        ensures others { Closes self.old self.new }
-        ensures number { length self.new ≡ length self.old }
+    // The seat of the line's file, which stands at this octet: the open one, or opened for it.
+    fn seat(&mut self, line: Line, access: Access, at: u64) -> io::Result<u8>
+        ensures stands { IfOk result (λ seat. StandsAt (in_seat self.new seat) line.call line.side access at) }
+        ensures open { OpenAfter self.old self.new line.call line.side (opened line.call line.side access at result) }
     {
-        match self.seats.take(line, access, at) {
-            Some(file) => Ok(file),
+        match self.seats.find(line, access, at) {
+            Some(seat) => Ok(seat),
             None => self.open(line, access, at),
         }
     }
 
-    // Opens a line's file, for which the next seat is free then. Where no descriptor is left another one is closed first.
-    fn open(&mut self, line: Line, access: Access, at: u64) -> io::Result<R::File>
+    // Opens a line's file into the next seat, which is freed before. Where no descriptor is left another one is closed first.
+    fn open(&mut self, line: Line, access: Access, at: u64) -> io::Result<u8>
         requires { IsFileOf self.old line.call line.side None }
-        ensures closed { IsFileOf self.new line.call line.side None }
-        ensures others { Closes self.old self.new }
-        ensures number { length self.new ≡ length self.old }
+        ensures stands { IfOk result (λ seat. StandsAt (in_seat self.new seat) line.call line.side access at) }
+        ensures open { OpenAfter self.old self.new line.call line.side (opened line.call line.side access at result) }
     {
         self.seats.free_next();
         let file = match open_at(self.files, line, access, at) {
@@ -112,8 +91,14 @@ impl<'a, R: Files> LineFiles<'a, R> {
             }
             opened => opened?,
         };
-        self.seats.give_next(line);
-        Ok(file)
+        Ok(
+            self.seats.put(OpenFile {
+                file,
+                line,
+                access,
+                at,
+            }),
+        )
     }
 }
 

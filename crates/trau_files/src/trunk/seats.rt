@@ -1,10 +1,14 @@
 //! Which lines' files are open.
 
-ghost use Rattle.std.specs.Prelude.{◌≡◌, ◌⊎◌, ◌<◌, length, IfOk, IfSome, None, Some, All};
+ghost use Rattle.std.specs.Prelude.{◌≡◌, ◌⊎◌, ◌<◌, length, IfOk, IfSome, IsSome, IsTrue, false, None, Some, All};
+ghost use Rattle.std.specs.Io.{ReadsAtMost, WritesAtMost};
 ghost use Rattle.trau_io.specs.declared.line.Side.{Side};
-ghost use Rattle.trau_files.specs.Files.{OpenLine, StandsAt, IsFileOf, Closes, OpenAfter};
+ghost use Rattle.trau_files.specs.Files.{OpenLine, StandsAt, IsFileOf, Closes, OpenAfter, in_seat, open_after};
 
+use crate::retry::{read_again, write_some};
 use std::alloc::{AllocError, Global};
+use std::io;
+use std::io::{Read, Write};
 use std::marker::Model;
 use trau_io::{Line, PLACES, place};
 
@@ -75,22 +79,19 @@ impl<F: Drop> Seats<F> {
         })
     }
 
-    /// Takes the line's file out of its seat, where it is open for this and stands at this octet; else it is closed.
-    pub fn take(&mut self, line: Line, access: Access, at: u64) -> Option<F>
-        ensures closed { IsFileOf self.new line.call line.side None }
+    /// The seat of the line's file, where it is open for this and stands at this octet; else it is closed.
+    pub fn find(&mut self, line: Line, access: Access, at: u64) -> Option<u8>
+        ensures stands { IfSome result (λ seat. StandsAt (in_seat self.new seat) line.call line.side access at) }
+        ensures open { IsSome result → OpenAfter self.old self.new line.call line.side (Some (record { call = line.call; side = line.side; access = access; at = at })) }
+        ensures closed { result ≡ None → IsFileOf self.new line.call line.side None }
         ensures others { Closes self.old self.new }
         ensures number { length self.new ≡ length self.old }
     {
         let seat = self.seat_of[place(line)];
-        taken(&mut self.files[seat as usize], line, access, at)
-    }
-
-    /// Puts a line's file into the line's seat.
-    pub fn put(&mut self, file: OpenFile<F>)
-        ensures { OpenAfter self.old self.new file.call file.side (Some file) }
-    {
-        let seat = self.seat_of[place(file.line)];
-        self.files[seat as usize] = Some(file);
+        if stands(&mut self.files[seat as usize], line, access, at) {
+            return Some(seat);
+        }
+        None
     }
 
     /// Closes the file in the next seat, where there is one.
@@ -111,29 +112,98 @@ impl<F: Drop> Seats<F> {
         self.free_next();
     }
 
-    /// The next seat is this line's, of which no file is open.
-    pub fn give_next(&mut self, line: Line)
-        requires { IsFileOf self.old line.call line.side None }
-        ensures { self.new ≡ self.old }
+    /// Puts a line's file, of which none is open, into the next seat, which is the line's from now on.
+    pub fn put(&mut self, file: OpenFile<F>) -> u8
+        requires { IsFileOf self.old file.call file.side None }
+        ensures there { in_seat self.new result ≡ Some file }
+        ensures open { OpenAfter self.old self.new file.call file.side (Some file) }
     {
-        self.seat_of[place(line)] = self.next;
-        self.next = self.last.min(self.next.saturating_add(1));
+        let seat = self.next;
+        self.seat_of[place(file.line)] = seat;
+        self.files[seat as usize] = Some(file);
+        self.next = self.last.min(seat.saturating_add(1));
+        seat
     }
 }
 
-// The file in a seat where it is this line's, is open for this and stands at this octet. Another line's stays, and another
+impl<F: Read + Write + Drop> Seats<F> {
+    /// Moves the next octets of the file in a seat into the front of `buf`. A fault closes the file.
+    pub fn read(&mut self, seat: u8, buf: &mut [u8]) -> io::Result<usize>
+        requires { IsSome (in_seat self.old seat) }
+        ensures bound { ReadsAtMost result buf.new }
+        ensures open { IfSome (in_seat self.old seat) (λ o. OpenAfter self.old self.new o.call o.side (open_after o.call o.side o.access o.at result)) }
+    {
+        read_in(&mut self.files[seat as usize], buf)
+    }
+
+    /// Writes the front of `bytes` to the file in a seat, at least one octet. A fault closes the file.
+    pub fn write(&mut self, seat: u8, bytes: &[u8]) -> io::Result<usize>
+        requires { IsSome (in_seat self.old seat) }
+        ensures some { IfOk result (λ n. 0 < n) }
+        ensures bound { WritesAtMost result bytes.now }
+        ensures open { IfSome (in_seat self.old seat) (λ o. OpenAfter self.old self.new o.call o.side (open_after o.call o.side o.access o.at result)) }
+    {
+        write_in(&mut self.files[seat as usize], bytes)
+    }
+}
+
+// Whether the file in a seat is this line's, is open for this and stands at this octet. Another line's stays, and another
 // one of this line is closed.
-fn taken<F: Drop>(seat: &mut Option<OpenFile<F>>, line: Line, access: Access, at: u64) -> Option<F>
-    ensures stands { IfSome result (λ _. StandsAt seat.old line.call line.side access at) }
-    ensures closed { IfSome seat.new (λ o. o.call ≡ line.call → o.side ≡ line.side → ⊥) }
+fn stands<F: Drop>(seat: &mut Option<OpenFile<F>>, line: Line, access: Access, at: u64) -> bool
+    ensures stands { IsTrue result → StandsAt seat.new line.call line.side access at }
+    ensures same { IsTrue result → seat.new ≡ seat.old }
+    ensures closed { result ≡ false → IfSome seat.new (λ o. o.call ≡ line.call → o.side ≡ line.side → ⊥) }
     ensures others { (seat.new ≡ seat.old) ⊎ (seat.new ≡ None) }
 {
-    match seat.take() {
-        Some(open) if open.line != line => {
-            *seat = Some(open);
-            None
+    match seat {
+        Some(open) if open.line != line => false,
+        Some(open) if open.access == access && open.at == at => true,
+        _ => {
+            *seat = None;
+            false
         }
-        Some(open) if open.access == access && open.at == at => Some(open.file),
-        _ => None,
+    }
+}
+
+// Reads from the file in a seat, in its place.
+fn read_in<F: Read + Drop>(seat: &mut Option<OpenFile<F>>, buf: &mut [u8]) -> io::Result<usize>
+    requires { IsSome seat.old }
+    ensures bound { ReadsAtMost result buf.new }
+    ensures after { IfSome seat.old (λ o. seat.new ≡ open_after o.call o.side o.access o.at result) }
+{
+    match seat {
+        Some(open) => match read_again(&mut open.file, buf) {
+            Ok(count) => {
+                open.at = open.at.saturating_add(count as u64);
+                Ok(count)
+            }
+            Err(fault) => {
+                *seat = None;
+                Err(fault)
+            }
+        },
+        None => unreachable!(),
+    }
+}
+
+// Writes to the file in a seat, in its place.
+fn write_in<F: Write + Drop>(seat: &mut Option<OpenFile<F>>, bytes: &[u8]) -> io::Result<usize>
+    requires { IsSome seat.old }
+    ensures some { IfOk result (λ n. 0 < n) }
+    ensures bound { WritesAtMost result bytes.now }
+    ensures after { IfSome seat.old (λ o. seat.new ≡ open_after o.call o.side o.access o.at result) }
+{
+    match seat {
+        Some(open) => match write_some(&mut open.file, bytes) {
+            Ok(count) => {
+                open.at = open.at.saturating_add(count as u64);
+                Ok(count)
+            }
+            Err(fault) => {
+                *seat = None;
+                Err(fault)
+            }
+        },
+        None => unreachable!(),
     }
 }

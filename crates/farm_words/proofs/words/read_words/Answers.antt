@@ -7,4 +7,4 @@ pub returns-in_err-drilled-clause-usage : goal.returns-in_err-drilled-clause-usa
 returns-in_err-drilled-clause-usage c = λ usage. no_drilled _ _ c.in-Some-options_of.ensures.some (c.read_drill.ensures.usage (search rules))
 
 pub returns-clause-usage : goal.returns-clause-usage
-returns-clause-usage c = λ usage. no_asked _ (c.in_default.ensures.none (search rules)) (c.in_default-options_of.ensures.none (search rules)) (c.in_default-read_tool.ensures.none (search rules)) (c.read_slot.ensures.none (not_found _ _ _ c.ok_or.ensures.value usage))
+returns-clause-usage c = λ usage. no_asked _ (c.in_default.ensures.none (search rules)) (c.in_default-options_of.ensures.none (search rules)) (c.in_default-read_tool.ensures.none (search rules)) (c.in_default-read_follow.ensures.none (search rules)) (c.read_slot.ensures.none (not_found _ _ _ c.ok_or.ensures.value usage))

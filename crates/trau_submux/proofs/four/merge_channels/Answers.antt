@@ -1,11 +1,14 @@
-use Rattle.std.proofs.Common.{◌≡◌, ℕ, ◌/◌, ◌%◌, ◌∷◌, [], ◌∙◌, get_or, arith}
-use Rattle.trau_submux.specs.Pairs.{gathered}
-use Rattle.trau_submux.proofs.Channels.{for_four}
+use Rattle.std.proofs.Common.{◌+◌, ◌*◌, arith, subst, sym}
+use Rattle.trau_submux.proofs.Parts.{Joined, joined_more, nothing_joined}
 use Rattle.trau_submux.proofs.four.merge_channels.Goals as goal
 
-pub returns-clause-octets : goal.returns-clause-octets
-returns-clause-octets c = λ i below.
-    c.loop-i.invariant.done i (omega arith)
-    ∙ for_four (λ j. get_or (get_or (c.gather_all.result ∷ c.gather_all-2.result ∷ c.gather_all-3.result ∷ c.gather_all-4.result ∷ []) j []) (i / 4) 0 ≡ gathered j (get_or c.args.first.now (i / 4) 0) (get_or c.args.second.now (i / 4) 0) (get_or c.args.third.now (i / 4) 0) (get_or c.args.fourth.now (i / 4) 0))
-    (c.gather_all.ensures.each (i / 4) (omega arith)) (c.gather_all-2.ensures.each (i / 4) (omega arith)) (c.gather_all-3.ensures.each (i / 4) (omega arith)) (c.gather_all-4.ensures.each (i / 4) (omega arith))
-    (i % 4) (omega arith)
+pub loop-part-init : goal.loop-part-init
+loop-part-init c = nothing_joined c.args.first.now c.args.second.now c.args.third.now c.args.fourth.now c.args.slot.now c.told-slot
+
+pub loop-part-preserved : goal.loop-part-preserved
+loop-part-preserved c =
+    let at = 8 * c.loop-part.part in
+    let m = 32 * (c.loop-part.part + 1) in
+    subst (λ slot. Joined c.args.first.now c.args.second.now c.args.third.now c.args.fourth.now slot m) (sym c.put_thirty_two.ensures)
+    (joined_more c.args.first.now c.args.second.now c.args.third.now c.args.fourth.now c.loop-part.slot c.eight_groups-octets.result (4 * at) m at (omega arith) (omega arith) (omega arith) c.eight_groups-octets.ensures.long c.eight_groups-octets.ensures.octets
+    (subst (Joined c.args.first.now c.args.second.now c.args.third.now c.args.fourth.now c.loop-part.slot) (omega arith) c.loop-part.invariant))

@@ -1,8 +1,6 @@
-use Rattle.std.proofs.Common.{◌≡◌, ℕ, ◌/◌, ◌%◌, ◌<◌, [], length, get_or}
+use Rattle.std.proofs.Common.{◌*◌}
+use Rattle.trau_submux.proofs.Parts.{Joined}
 use Rattle.trau_submux.proofs.four.merge_channels.Given as goal
 
-abbrev pub invariant-loop-i : goal.invariant-loop-i
-invariant-loop-i l = record {
-  long : length l.slot ≡ 160;
-  done : (k : ℕ) → k < l.i → get_or l.slot k 0 ≡ get_or (get_or l.rows (k % 4) []) (k / 4) 0;
-}
+abbrev pub invariant-loop-part : goal.invariant-loop-part
+invariant-loop-part l = Joined l.first l.second l.third l.fourth l.slot (32 * l.part)

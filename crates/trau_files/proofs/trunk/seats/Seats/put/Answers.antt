@@ -1,19 +1,29 @@
-use Rattle.std.proofs.Common.{◌≡◌, ◌<◌, ◌∙◌, ap, length, List, Option, Some, arith, slice_index_or, sym, subst, slice_set}
-use Rattle.std.proofs.lemmas.List.{get_or_read_under}
+use Rattle.std.proofs.Common.{◌≡◌, ◌∙◌, ap, length, List, Option, None, Some, arith, sym, subst, slice_set}
 use Rattle.trau_io.specs.Places.{place_of}
-use Rattle.trau_files.specs.Files.{OpenLine, OpenAfter}
-use Rattle.trau_files.proofs.Seating.{open_after_put}
+use Rattle.trau_files.specs.Files.{OpenLine, IsFileOf, OpenAfter, AreSeated, in_seat}
+use Rattle.trau_files.proofs.Seating.{given_and_put}
+use Rattle.trau_files.proofs.trunk.seats.Seats.put.Given as Given
 use Rattle.trau_files.proofs.trunk.seats.Seats.put.Goals as goal
 
-pub returns : goal.returns
-returns g c =
+-- what putting the file gives
+put : (g : Given.Over) (c : goal.After-self-3-1 g) → AreSeated (slice_set c.self.inside.files.items c.self.inside.next (Some c.args.file)) (slice_set c.self.inside.seat_of.items c.place.result c.self.inside.next)
+    × OpenAfter c.self.inside.files.items (slice_set c.self.inside.files.items c.self.inside.next (Some c.args.file)) c.args.file.call c.args.file.side (Some c.args.file)
+    × (in_seat (slice_set c.self.inside.files.items c.self.inside.next (Some c.args.file)) c.self.inside.next ≡ Some c.args.file)
+put g c =
     let files = c.self.inside.files.items in
     let seat_of = c.self.inside.seat_of.items in
     let file = c.args.file in
-    let seat = c.index-seat.result.now in
     let place : c.place.result ≡ place_of file.call file.side = c.place.ensures.value ∙ ap (λ (o : OpenLine). place_of o.call o.side) c.file.view_is in
-    let named : seat ≡ slice_index_or seat_of (place_of file.call file.side) 0 =
-    get_or_read_under seat_of c.place.result 16388 seat 0 c.index-seat.ensures c.place.ensures.within (sym c.self.invariant.1 ∙ c.self.inside.seat_of.ok.0) ∙ ap (λ i. slice_index_or seat_of i 0) place in
-    let within : seat < length files = omega (arith, c.self.invariant.0, c.self.inside.files.ok.0) in
-    let put = open_after_put files seat_of file seat named within c.self.invariant.2 in
-    subst (λ (seats : List (Option OpenLine)). OpenAfter seats (slice_set files seat (Some file)) file.call file.side (Some file)) c.self.view_is put
+    let closed = subst (λ (seats : List (Option OpenLine)). IsFileOf seats file.call file.side None) (sym c.self.view_is) c.requires in
+    let seats : length files ≡ 256 = sym c.self.inside.files.ok.0 ∙ c.self.invariant.0 in
+    let places : length seat_of ≡ 16388 = sym c.self.inside.seat_of.ok.0 ∙ c.self.invariant.1 in
+    given_and_put files seat_of file c.place.result c.self.inside.next place (omega (arith, places, c.place.ensures.within)) (omega (arith, seats, c.self.ranges)) closed c.self.invariant.2
+
+pub invariant_of-self : goal.invariant_of-self
+invariant_of-self g c = (c.self.invariant.0, c.self.invariant.1, (put g c).0)
+
+pub returns : goal.returns
+returns g c = record {
+  there = (put g c).2;
+  «open» = subst (λ (seats : List (Option OpenLine)). OpenAfter seats (slice_set c.self.inside.files.items c.self.inside.next (Some c.args.file)) c.args.file.call c.args.file.side (Some c.args.file)) c.self.view_is (put g c).1;
+}
