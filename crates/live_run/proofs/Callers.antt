@@ -14,7 +14,7 @@ use Rattle.farm_live.specs.Closing.{AreAllSeated}
 use Rattle.farm_live.proofs.NewFarm.{Line, written_back}
 use Rattle.live_run.specs.declared.posters.Poster.{Poster}
 use Rattle.live_run.specs.Posts.{drawn_posts, own_of, Knows, HasPosted, SawAll}
-use Rattle.live_run.specs.Posters.{IsReady, HasEnded, HavePosted, poster_of}
+use Rattle.live_run.specs.Posters.{IsReady, HasEnded, Ends, HavePosted, poster_of}
 use Rattle.live_run.proofs.Behind.{own_zero, none_drawn}
 use Rattle.live_run.proofs.Ended.{Ending}
 
@@ -65,14 +65,15 @@ module _ {Q A : Type 0} (seed calls callers inbox : ℕ) (slots : List (Line Q A
 
   -- .. as they are taken out of a list that was lent to the threads
   pub posters_back : {V E : Type 0} (items_of : V → List Caller) (n : ℕ) (r : Result V E) (lent new before : List Poster) (len : ℕ) → len ≡ length before → lent ≡ before → length new ≡ length lent → length lent ≡ callers →
-      ((k : ℕ) (p : Poster) → k < length lent → HasEnded seed calls callers n inbox slots k (get_or new k p)) →
+      ((k : ℕ) (p : Poster) → k < length lent → IsReady seed calls callers inbox slots k (get_or lent k p)) →
+      ((k : ℕ) (p : Poster) → k < length lent → Ends seed calls callers n inbox slots (get_or lent k p) (get_or new k p)) →
       IfOk r (λ cs. items_of cs ≡ map (λ p. p.caller) (take len (new ++ drop (length new) before))) → IfOk r (λ _. All (λ p. IsTrue p.done) (take len (new ++ drop (length new) before))) →
       IfOk r (λ cs. HavePosted seed calls callers n inbox slots (items_of cs))
-  posters_back items_of n (Err e) lent new before len long same kept count ended are done = tt
-  posters_back items_of n (Ok cs) lent new before len long same kept count ended are done =
+  posters_back items_of n (Err e) lent new before len long same kept count ready ended are done = tt
+  posters_back items_of n (Ok cs) lent new before len long same kept count ready ended are done =
       let all : length new ≡ len = kept ∙ ap length same ∙ sym long in
       let back = written_back new (drop (length new) before) len all in
-      all_posted n new (take len (new ++ drop (length new) before)) (items_of cs) back (kept ∙ count) (λ k p h. ended k p (omega (arith, h, kept))) done are
+      all_posted n new (take len (new ++ drop (length new) before)) (items_of cs) back (kept ∙ count) (λ k p h. let there : k < length lent = omega (arith, h, kept) in (ended k p there).each k (ready k p there)) done are
 
   -- the first of them works the calls to their ends
   pub first_still : (n : ℕ) (cs : List Caller) (c d : Caller) → 1 ≤ callers → c ≡ get_or cs 0 c → HavePosted seed calls callers n inbox slots cs → IsSeated inbox slots d →

@@ -165,7 +165,7 @@ number_below c some = elim (cases_lt c 64) [ inl lt ↦ lt | inr le ↦ absurd (
 
 left_of_all : (c i : ℕ) → i ≤ c → c < 64 → 0 < times c (drop i all_callers)
 unfolding all_callers
-left_of_all c i low high = number_left c i 0 64 low high
+left_of_all c i low high = number_left c i 0 64 (omega (arith, low)) (omega (arith, high))
 
 whose : (callers c : ℕ) → 1 ≤ callers → callers ≤ 64 → 0 < times c all_callers → (i : ℕ) × (i < callers) × (0 < times c (numbers_of callers i))
 whose callers c some few known =

@@ -20,7 +20,7 @@ use Rattle.farm_live.specs.declared.post.Post.{Post}
 use Rattle.farm_live.specs.declared.post.Entry.{Entry}
 use Rattle.farm_live.specs.declared.live.Caller.{Caller}
 use Rattle.farm_live.specs.declared.live.Closed.{Closed}
-use Rattle.farm_live.specs.Book.{IsLegal}
+use Rattle.farm_live.specs.Book.{who_of, IsLegal}
 use Rattle.farm_live.specs.Closing.{views_at, IsClosedBy, AreClosed}
 use Rattle.live_run.specs.Posts.{drawn_post, drawn_posts}
 use Rattle.live_run.specs.Whole.{setting, call_of_posts, ArePeriods, live_call}
@@ -43,12 +43,12 @@ length-saying seed call period =
 length-up : (seed call period : ℕ) → length (up_octets seed call period) ≡ 40
 unfolding up_octets
 length-up seed call period =
-    long_if (nat_lt (draw seed call (first_draw period)) 250) (octets_of (bits_saying (frame_drawn seed call period))) (replicate 40 0) 40 (length-saying seed call period) (length-replicate 40 0)
+    long_if (nat_lt (draw seed call (first_draw period)) 250) (octets_of (bits_saying (frame_drawn seed call period))) (replicate 40 0) 40 (length-saying seed call period) (length-replicate {A = ℕ} 40 0)
 
 length-pcm : (seed call period : ℕ) → length (pcm_octets seed call period) ≡ 160
 unfolding pcm_octets
 length-pcm seed call period =
-    long_if (is_loud period) (draws seed call (first_loud_draw period) 160) (replicate 160 213) 160 (length-map-range_with_len (draw seed call) (first_loud_draw period) 160) (length-replicate 160 213)
+    long_if (is_loud period) (draws seed call (first_loud_draw period) 160) (replicate 160 213) 160 (length-map-range_with_len (draw seed call) (first_loud_draw period) 160) (length-replicate {A = ℕ} 160 213)
 
 drawn_sized : (seed caller call n : ℕ) → ArePeriods (drawn_posts seed caller call n)
 unfolding drawn_posts
@@ -65,7 +65,7 @@ drawn_call seed caller call n =
     let up = flat_map-map (λ (p : Post). p.up) post (range_with_len 0 n) in
     let pcm = flat_map-map (λ (p : Post). p.pcm) post (range_with_len 0 n) in
     let count = length-map-range_with_len post 0 n in
-    λ i. record { number = call; up = up i; pcm = pcm i; settings = replicate (count i) setting; spans = [] }
+    λ i. record { who = who_of call; up = up i; pcm = pcm i; settings = replicate (count i) setting; spans = [] }
 
 -- ---- the lines
 

@@ -4,6 +4,7 @@ use Rattle.std.specs.List.{flat_map}
 use Rattle.std.proofs.lemmas.Bool.{true≢false}
 use Rattle.std.proofs.lemmas.List.Elements.{All-nil, All-cons, All-head, All-tail}
 use Rattle.trau_bits.specs.Bits.{bits_of}
+use Rattle.call_leg.specs.Who.{Who}
 use Rattle.call_leg.specs.Periods.{CallPeriod, pcm_of}
 use Rattle.call_leg.specs.Out.{out_of}
 use Rattle.call_leg.specs.Down.{down_line, down_now}
@@ -14,7 +15,7 @@ use Rattle.call_output.specs.History.{IsCallHistory, call_of, up_of, settings_of
 use Rattle.call_output.proofs.Yields.{bits_of-append}
 use Rattle.farm_live.specs.declared.post.Post.{Post}
 use Rattle.farm_live.specs.declared.post.Entry.{Entry}
-use Rattle.farm_live.specs.Book.{period_of, periods_after, IsWorkedFrom, IsLegal}
+use Rattle.farm_live.specs.Book.{who_of, period_of, periods_after, IsWorkedFrom, IsLegal}
 use Rattle.live_run.specs.Text.{outs_of, downs_of}
 use Rattle.live_run.specs.Whole.{setting, call_of_posts, ArePeriods}
 
@@ -39,13 +40,13 @@ spans_after : (ts : List CallPeriod) (es : List Entry) → spans_of (periods_aft
 spans_after ts [] = refl
 spans_after ts (e ∷ es) = spans_after (period_of e.post ∷ ts) es
 
-call_is : (call : ℕ) (es : List Entry) → call_of call (periods_after [] es) ≡ call_of_posts call (posts_of es)
+call_is : (call : ℕ) (es : List Entry) → call_of (who_of call) (periods_after [] es) ≡ call_of_posts call (posts_of es)
 call_is call es =
     let up = ups_after [] es in
     let pcm = pcms_after [] es in
     let settings = settings_after [] es in
     let spans : reverse (spans_of (periods_after [] es)) ≡ [] = ap reverse (spans_after [] es) in
-    λ i. record { number = call; up = up i; pcm = pcm i; settings = settings i; spans = spans i }
+    λ i. record { who = who_of call; up = up i; pcm = pcm i; settings = settings i; spans = spans i }
 
 -- ---- .. are a history of a call
 
@@ -67,17 +68,17 @@ no_periods = record { ups = All-nil (λ (t : CallPeriod). length t.up ≡ 40); p
 
 -- ---- the octets
 
-outs_after : (call : ℕ) (ts : List CallPeriod) (es : List Entry) → IsWorkedFrom call ts es → out_line call (periods_after ts es) ≡ out_line call ts ++ outs_of es
-outs_after call ts [] legal = sym (append-nil (out_line call ts))
-outs_after call ts (e ∷ es) legal =
-    outs_after call (period_of e.post ∷ ts) es legal.2 ∙ append_assoc (out_line call ts) (out_of call (period_of e.post ∷ ts)) (outs_of es)
-    ∙ ap (λ (xs : List ℕ). out_line call ts ++ (xs ++ outs_of es)) (sym legal.0)
+outs_after : (who : Who) (ts : List CallPeriod) (es : List Entry) → IsWorkedFrom who ts es → out_line who (periods_after ts es) ≡ out_line who ts ++ outs_of es
+outs_after who ts [] legal = sym (append-nil (out_line who ts))
+outs_after who ts (e ∷ es) legal =
+    outs_after who (period_of e.post ∷ ts) es legal.2 ∙ append_assoc (out_line who ts) (out_of who (period_of e.post ∷ ts)) (outs_of es)
+    ∙ ap (λ (xs : List ℕ). out_line who ts ++ (xs ++ outs_of es)) (sym legal.0)
 
-downs_after : (call : ℕ) (ts : List CallPeriod) (es : List Entry) → IsWorkedFrom call ts es → down_line call (periods_after ts es) ≡ down_line call ts ++ flat_map (λ e. bits_of e.down) es
-downs_after call ts [] legal = sym (append-nil (down_line call ts))
-downs_after call ts (e ∷ es) legal =
-    downs_after call (period_of e.post ∷ ts) es legal.2 ∙ append_assoc (down_line call ts) (down_now call (period_of e.post ∷ ts)) (flat_map (λ e. bits_of e.down) es)
-    ∙ ap (λ (xs : List ℕ). down_line call ts ++ (xs ++ flat_map (λ e. bits_of e.down) es)) (sym legal.1)
+downs_after : (who : Who) (ts : List CallPeriod) (es : List Entry) → IsWorkedFrom who ts es → down_line who (periods_after ts es) ≡ down_line who ts ++ flat_map (λ e. bits_of e.down) es
+downs_after who ts [] legal = sym (append-nil (down_line who ts))
+downs_after who ts (e ∷ es) legal =
+    downs_after who (period_of e.post ∷ ts) es legal.2 ∙ append_assoc (down_line who ts) (down_now who (period_of e.post ∷ ts)) (flat_map (λ e. bits_of e.down) es)
+    ∙ ap (λ (xs : List ℕ). down_line who ts ++ (xs ++ flat_map (λ e. bits_of e.down) es)) (sym legal.1)
 
 no_bits : bits_of [] ≡ []
 unfolding bits_of
@@ -90,8 +91,8 @@ bits_after (e ∷ es) = bits_of-append e.down (downs_of es) ∙ ap (λ (xs : Lis
 -- ---- the law
 
 module _ (call : ℕ) (es : List Entry) (sized : ArePeriods (posts_of es)) (legal : IsLegal call es) where
-  pub out_whole : ((number : ℕ) (ts : List CallPeriod) → IsCallHistory ts → out_line number ts ≡ out (call_of number ts)) → outs_of es ≡ out (call_of_posts call (posts_of es))
-  out_whole same = sym (outs_after call [] es legal) ∙ same call (periods_after [] es) (plain_after [] es sized no_periods) ∙ ap out (call_is call es)
+  pub out_whole : ((who : Who) (ts : List CallPeriod) → IsCallHistory ts → out_line who ts ≡ out (call_of who ts)) → outs_of es ≡ out (call_of_posts call (posts_of es))
+  out_whole same = sym (outs_after (who_of call) [] es legal) ∙ same (who_of call) (periods_after [] es) (plain_after [] es sized no_periods) ∙ ap out (call_is call es)
 
-  pub down_whole : ((number : ℕ) (ts : List CallPeriod) → IsCallHistory ts → down_line number ts ≡ down (call_of number ts)) → bits_of (downs_of es) ≡ down (call_of_posts call (posts_of es))
-  down_whole same = bits_after es ∙ sym (downs_after call [] es legal) ∙ same call (periods_after [] es) (plain_after [] es sized no_periods) ∙ ap down (call_is call es)
+  pub down_whole : ((who : Who) (ts : List CallPeriod) → IsCallHistory ts → down_line who ts ≡ down (call_of who ts)) → bits_of (downs_of es) ≡ down (call_of_posts call (posts_of es))
+  down_whole same = bits_after es ∙ sym (downs_after (who_of call) [] es legal) ∙ same (who_of call) (periods_after [] es) (plain_after [] es sized no_periods) ∙ ap down (call_is call es)

@@ -24,6 +24,10 @@ module _ {Q A : Type 0} where
     pub seated : IsSeated inbox slots p.caller
     pub posted : IsTrue p.done → HasPosted seed calls callers n i p.caller
 
+  -- what a thread makes of a poster: a ready one has ended
+  pub record Ends (seed calls callers n inbox : ℕ) (slots : List (Slotted (Option Token) (Doing Token View) Q A)) (old new : Poster) : Type 0 where
+    pub each : (i : ℕ) → IsReady seed calls callers inbox slots i old → HasEnded seed calls callers n inbox slots i new
+
   -- these are all callers, and each has posted n periods of each of its calls
   pub record HavePosted (seed calls callers n inbox : ℕ) (slots : List (Slotted (Option Token) (Doing Token View) Q A)) (cs : List Caller) : Type 0 where
     pub count : length cs ≡ callers

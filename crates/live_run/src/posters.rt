@@ -6,7 +6,7 @@ ghost use Rattle.farm_drill.specs.declared.draws.Generator.{Generator as TheDraw
 ghost use Rattle.farm_live.specs.Live.{view_of, IsSeated};
 ghost use Rattle.live_run.specs.Size.{IsLiveDrill};
 ghost use Rattle.live_run.specs.Posts.{Knows, IsDrawn, Moves, IsBehind, HasPosted};
-ghost use Rattle.live_run.specs.Posters.{IsReady, HasEnded, HavePosted, poster_of};
+ghost use Rattle.live_run.specs.Posters.{IsReady, HasEnded, Ends, HavePosted, poster_of};
 
 use crate::calls::post_period;
 use crate::size::LiveDrill;
@@ -121,7 +121,7 @@ fn post_periods<R: Wait, G: Gate>(
     Ok(())
 }
 
-// What a thread does.
+// Posts all periods of a poster's calls, and says whether it could.
 fn post_all<R: Wait, G: Gate>(
     rt: &R,
     alloc: Global,
@@ -140,6 +140,23 @@ fn post_all<R: Wait, G: Gate>(
     poster.done = posted.is_ok();
 }
 
+// What a thread does.
+fn run_poster<R: Wait, G: Gate>(
+    rt: &R,
+    alloc: Global,
+    live: &Live,
+    drill: &LiveDrill,
+    poster: &mut Poster,
+    gate: &G,
+)
+    requires size { IsLiveDrill drill.now }
+    requires calls { length live.now.slots.items ≡ drill.now.calls }
+    requires ready { (i : ℕ) × IsReady drill.now.seed drill.now.calls drill.now.callers live.now.inbox live.now.slots.items i poster.old }
+    ensures { Ends drill.now.seed drill.now.calls drill.now.callers drill.now.periods live.now.inbox live.now.slots.items poster.old poster.new }
+{
+    post_all(rt, alloc, live, drill, poster, gate);
+}
+
 // Each on a thread of its own, until all have ended.
 fn run_posters<R: Threads + Wait + Sync, G: Gate + Sync>(
     rt: &R,
@@ -155,14 +172,14 @@ fn run_posters<R: Threads + Wait + Sync, G: Gate + Sync>(
     requires ready { (k : ℕ) (p : _) → k < length posters.old →
         IsReady drill.now.seed drill.now.calls drill.now.callers live.now.inbox live.now.slots.items k (slice_index_or posters.old k p) }
     ensures { (k : ℕ) (p : _) → k < length posters.old →
-        HasEnded drill.now.seed drill.now.calls drill.now.callers drill.now.periods live.now.inbox live.now.slots.items k (slice_index_or posters.new k p) }
+        Ends drill.now.seed drill.now.calls drill.now.callers drill.now.periods live.now.inbox live.now.slots.items (slice_index_or posters.old k p) (slice_index_or posters.new k p) }
 {
     let threads = posters.len();
     thread::for_each_mut(
         rt,
         posters,
         threads,
-        &|_, poster| post_all(rt, alloc, live, drill, poster, gate),
+        &|_, poster| run_poster(rt, alloc, live, drill, poster, gate),
     );
 }
 

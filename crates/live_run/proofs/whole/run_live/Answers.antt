@@ -1,4 +1,4 @@
-use Rattle.std.proofs.Common.{◌≡◌, ◌<◌, ◌-◌, ℕ, List, set, length, reverse, string_bytes, sym, ap, ◌∙◌, subst, arith}
+use Rattle.std.proofs.Common.{◌≡◌, ◌<◌, ◌-◌, ℕ, List, set, get_or, length, reverse, string_bytes, sym, ap, ◌∙◌, subst, arith}
 use Rattle.std.specs.List.{range_with_len, flat_map}
 use Rattle.farm_live.specs.declared.live.Caller.{Caller}
 use Rattle.farm_live.specs.declared.live.Closed.{Closed}
@@ -43,7 +43,7 @@ returns g c =
     let have = first_still d.seed d.calls d.callers live.inbox slots d.periods callers c.index_mut.result.now first c.requires.some_callers c.index_mut.ensures.value c.in_ok-callers.ensures
     c.work_rest.ensures.farm (c.work_rest.ensures.posted d.periods) in
     let some : 0 < length callers = omega (arith, c.in_ok-callers.ensures.count, c.requires.some_callers) in
-    let saw : SawAll d.callers (d.periods - 1) d.calls _ = subst (SawAll d.callers (d.periods - 1) d.calls) (sym (at_first callers first some)) c.in_ok-work_rest.ensures.saw in
+    let saw : SawAll d.callers (d.periods - 1) d.calls (get_or all 0 first) = subst (SawAll d.callers (d.periods - 1) d.calls) (sym (at_first callers first some)) c.in_ok-work_rest.ensures.saw in
     let lines = lines_are (record { out = c.legal_histories_are_whole_calls.ensures.out; down = c.legal_histories_are_whole_calls.ensures.down })
     d.seed d.calls d.callers d.periods all first closed
     (λ k h. ending d.seed d.calls d.callers live.inbox slots d.periods all first k c.requires.some_callers c.requires.callers c.requires.some_periods count have saw h)
