@@ -129,8 +129,7 @@ no_drilled words options is none (Drill seed calls s) asks =
     let same : asks.options ≡ options = cc in
     none seed calls s (subst (λ (os : List Text). AreDrillOptions os seed calls s) same asks.are)
 no_drilled words options is none (Live s) asks = let count : 5 ≡ 4 = ap (λ (ws : List Text). length (get_or ws 0 [])) (sym is ∙ asks.spelled) in omega (arith, count)
-no_drilled words options is none (Relay c) asks = drill_is_no_tool words (Live s) drill asks = asks
-drill_is_no_tool words (Relay c) (options, is) asks
+no_drilled words options is none (Relay c) asks = drill_is_no_tool words (Relay c) (options, is) asks
 no_drilled words options is none (Frames c) asks = drill_is_no_tool words (Frames c) (options, is) asks
 no_drilled words options is none (Encode c) asks = drill_is_no_tool words (Encode c) (options, is) asks
 no_drilled words options is none (Decode c) asks = drill_is_no_tool words (Decode c) (options, is) asks
