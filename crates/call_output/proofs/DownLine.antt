@@ -145,7 +145,7 @@ stretch-placed number epoch ts (f ∷ fs) p = by (leg.is_coded number f && f.epo
 
 -- ---- the newest frame
 
-frame-placed : LooksBack → (who : Who) (ts : List CallPeriod) (f : leg.CallFrame) (fs : List leg.CallFrame) → IsCallHistory ts → ArePlaced ts (f ∷ fs) → AreInTurn (f ∷ fs) →
+pub frame-placed : LooksBack → (who : Who) (ts : List CallPeriod) (f : leg.CallFrame) (fs : List leg.CallFrame) → IsCallHistory ts → ArePlaced ts (f ∷ fs) → AreInTurn (f ∷ fs) →
     frame_after (call_of who ts) (numbered_of f) (before (goes_on (call_of who ts)) (numbered_of f) (map numbered_of fs)) ≡ leg.frame_now who (f ∷ fs)
 frame-placed look who ts f fs h p t = by f.carries (quiet_now who.number f.load) refl refl
   where

@@ -141,14 +141,15 @@ fn carry_out<R: Threads + Wait + Sync, T: Trunk, D: Desk, G: Gate + Sync>(
 /// `relay` and `decode` the first block that isn't a good speech frame ends the command. A Pcm line is cut into blocks
 /// of 160 octets. What `encode` and `frames` leave of the line behind the last whole block is told and not used.
 ///
-/// The command `run` reads orders from the desk, runs them over the lines of all calls, and tells the report, which
-/// names the lines that failed. Its options, in any order and each at most once, are `--workers` (threads, 1 to 64,
-/// else 4), `--batch` (the most periods of a round, 1 to 250, else 50), `--slice` (the most periods of a call that are
-/// worked at a time, 1 to 250, else 5) and `--periods` (the most periods of the run, 1 to 4,294,967,295, else that). The
-/// workers steal calls half done from one another, and each slice of a call passes the gate. The run waits for them, so what
-/// is said of it holds if `farm_top` returns. That the other commands return is proved of their functions in `farm_tools`
-/// (`relay`, `decode`, `encode`, `frames`), `trau_submux` (`split`, `merge`) and `ccu_end` (`follow`), and not of `farm_top`,
-/// which waits as a whole.
+/// The command `run` reads orders from the desk, runs them over the lines of all calls, 1 to 4,096, and tells the
+/// report, which names the lines that failed. A call's lines from and to the exchange are of A-law, or of mu-law where
+/// the order `open C mulaw` opened it; those of `decode`, `encode` and `drill` are of A-law. The options of `run`, in
+/// any order and each at most once, are `--workers` (threads, 1 to 64, else 4), `--batch` (the most periods of a round, 1 to 250,
+/// else 50), `--slice` (the most periods of a call that are worked at a time, 1 to 250, else 5) and `--periods` (the
+/// most periods of the run, 1 to 4,294,967,295, else that). The workers steal calls half done from one another, and
+/// each slice of a call passes the gate. The run waits for them, so what is said of it holds if `farm_top` returns.
+/// That the other commands return is proved of their functions in `farm_tools` (`relay`, `decode`, `encode`, `frames`),
+/// `trau_submux` (`split`, `merge`) and `ccu_end` (`follow`), and not of `farm_top`, which waits as a whole.
 ///
 /// The command `split C` cuts the time slot on call C's Pcm line, 64 kbit/s, into its four channels of 16 kbit/s, on the Down
 /// lines of the calls C to C + 3; `merge C` puts the channels on the Up lines of these calls together to the slot on C's Out
