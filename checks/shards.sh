@@ -170,6 +170,9 @@ done <<'END'
 0 open 1\n\n
 0 open 1\n0 open 02\n
 0 open 4096\n0 open 4097\n
+0 open 4096 mulaw
+0 open 1 alaw
+0 open 1\n0 close 1 mulaw
 4294967294 open 1
 4294967295 open 1
 7 open 1\n6 open 2

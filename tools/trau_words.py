@@ -29,7 +29,7 @@ class Command:
 
 @dataclass(frozen=True)
 class Option:
-    """An option of `run` or `drill`, with the range of its value, and its value where it isn't given."""
+    """An option of `run`, `drill` or `live`, with the range of its value, and its value where it isn't given."""
 
     name: str
     least: int
@@ -69,6 +69,12 @@ COMMANDS = (
         "draws lines and orders from a number, works them in memory as run does, and tells the report, with sums of what goes"
         " out; it uses no file",
     ),
+    Command(
+        "live",
+        "[OPTIONS]",
+        "has callers on threads of their own post periods, drawn from a number, to calls and work them, and tells sums of what"
+        " goes out; it uses no file",
+    ),
     Command("relay", CALL, "takes C.up, and writes its good speech frames to C.down with the same 260 data bits"),
     Command("decode", CALL, "takes C.up, and writes the A-law of its good speech frames to C.out"),
     Command("encode", CALL, "takes C.pcm, and writes its speech frames to C.down"),
@@ -97,7 +103,15 @@ DRILL_OPTIONS = (
     Option("--calls", 1, 256, 64, "the calls of the drill"),
 )
 
-OPTIONS_OF = {"run": OPTIONS, "drill": DRILL_OPTIONS}
+LIVE_OPTIONS = (
+    Option("--seed", 0, 4294967295, 1, "the number that periods are drawn from"),
+    Option("--calls", 1, 256, 64, "the calls"),
+    Option("--periods", 1, 1000, 200, "the periods of each call"),
+    Option("--callers", 1, 64, 4, "the callers, each on a thread of its own"),
+    Option("--inbox", 1, 1024, 8, "the posts that may wait at a call"),
+)
+
+OPTIONS_OF = {"run": OPTIONS, "drill": DRILL_OPTIONS, "live": LIVE_OPTIONS}
 
 ORDERS = (
     Order("S open C", "the call begins"),

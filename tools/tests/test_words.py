@@ -106,6 +106,7 @@ class Completion(InFolder):
         self.assertEqual(self.completed("d"), ["drill", "decode"])
         self.assertEqual(self.completed("drill", "--"), ["--workers", "--batch", "--slice", "--periods", "--seed", "--calls"])
         self.assertEqual(self.completed("drill", "--seed", ""), [])
+        self.assertEqual(self.completed("live", "--"), ["--seed", "--calls", "--periods", "--callers", "--inbox"])
         self.assertEqual(self.completed("relay", ""), ["12", "7"])
         self.assertEqual(self.completed("encode", ""), ["8"])
         self.assertEqual(self.completed("frames", "7", ""), [])

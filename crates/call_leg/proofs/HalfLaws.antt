@@ -99,7 +99,7 @@ turn-stands who ts now up pcm handed u l b h =
       bridged = h.bridged;
     }
 
-pub turn-note : (who : Who) (ts : List CallPeriod) (now : Settings) (up : List ℕ) (u : UpMemory) → length up ≡ 40 → UpStands who ts now u → (up_turned u up).0 ≡ note_in who ts up
+pub turn-note : (who : Who) (ts : List CallPeriod) (now : Settings) (up : List ℕ) (u : UpMemory) → length up ≡ 40 → UpStands who ts now u → (up_turned u up).0 ≡ note_in who.number ts up
 unfolding up_turned
 turn-note who ts now up u l h =
     let e = hears who.number ts up u.search u.rx l h.search h.rx in
@@ -121,20 +121,20 @@ up_off-stands who ts now u h = record { law = h.law; search = h.search; rx = h.r
 
 -- a note is heard, and the partner's effective frame handed over
 pub halfway_from : (who : Who) (ts : List CallPeriod) (now : Settings) (up : List ℕ) (d : DownMemory) (item : Option EffectiveFields) → Between who ts now d →
-    Halfway who ts now up (handed_bits item) (handed_to (noted d (note_in who ts up)) item)
+    Halfway who ts now up (handed_bits item) (handed_to (noted d (note_in who.number ts up)) item)
 halfway_from who ts now up d item h = go item
   where
     e : EffectiveFields
     e = effective_of who.number (heard_as (sighting_after ts up) ∷ heard_of ts)
 
-    heard : Halfway who ts now up None (noted d (note_in who ts up))
+    heard : Halfway who ts now up None (noted d (note_in who.number ts up))
     heard = subst (Halfway who ts now up None) (sym (noted-is d (sighting_after ts up) e)) (hear-stands who ts now up (sighting_after ts up) (is_quiet e) d refl refl h)
 
-    go : (item : Option EffectiveFields) → Halfway who ts now up (handed_bits item) (handed_to (noted d (note_in who ts up)) item)
+    go : (item : Option EffectiveFields) → Halfway who ts now up (handed_bits item) (handed_to (noted d (note_in who.number ts up)) item)
     go None = heard
     go (Some f) =
         let x = bits260 (handed_fields f) in
-        let m = noted d (note_in who ts up) in
+        let m = noted d (note_in who.number ts up) in
         hand-stands who ts now up x x m (after_handing m f) heard refl (one_more m.waiting x (halfway-short who ts now up m heard)) refl refl refl refl refl refl refl refl refl refl refl
 
 is_some-handed : (item : Option EffectiveFields) → is_some (handed_bits item) ≡ is_some item
@@ -142,14 +142,14 @@ is_some-handed None = refl
 is_some-handed (Some e) = refl
 
 pub down_turn-stands : (who : Who) (ts : List CallPeriod) (now : Settings) (up pcm : List ℕ) (n : Note) (item : Option EffectiveFields) (d : DownMemory) → length pcm ≡ 160 →
-    Between who ts now d → n ≡ note_in who ts up → is_some item ≡ now.bridged →
+    Between who ts now d → n ≡ note_in who.number ts up → is_some item ≡ now.bridged →
     Between who (period_with now up pcm (handed_bits item) ∷ ts) (later now) (down_turned d n item pcm).1
     × ((down_turned d n item pcm).0 ≡ down_now who (period_with now up pcm (handed_bits item) ∷ ts))
 unfolding down_turned
 down_turn-stands who ts now up pcm n item d l h e b =
     let t = period_with now up pcm (handed_bits item) in
     subst (λ (k : Note). let w = down_worked (handed_to (noted d k) item) pcm in Between who (t ∷ ts) (later now) w.1 × (w.0 ≡ down_now who (t ∷ ts))) (sym e)
-    (half-stands who ts now up pcm (handed_bits item) (handed_to (noted d (note_in who ts up)) item) l (is_some-handed item ∙ b) (halfway_from who ts now up d item h))
+    (half-stands who ts now up pcm (handed_bits item) (handed_to (noted d (note_in who.number ts up)) item) l (is_some-handed item ∙ b) (halfway_from who ts now up d item h))
 
 pub down_off-stands : (who : Who) (ts : List CallPeriod) (now : Settings) (d : DownMemory) → d.bridged ≡ true → Between who ts now d → Between who ts (without_bridge now) (bridge_over d)
 down_off-stands who ts now d b h =

@@ -62,8 +62,8 @@ abbrev pub note_of : Sighting → EffectiveFields → Note
 note_of s e = record { eff = e; ask = unwrap_or (field_of s) 0; dtx = dtx_told s }
 
 -- the note of a call's next period, with these octets of the Up line
-abbrev pub note_in : Who → List CallPeriod → List ℕ → Note
-note_in who ts up = note_of (sighting_after ts up) (effective_of who.number (heard_as (sighting_after ts up) ∷ heard_of ts))
+abbrev pub note_in : ℕ → List CallPeriod → List ℕ → Note
+note_in call ts up = note_of (sighting_after ts up) (effective_of call (heard_as (sighting_after ts up) ∷ heard_of ts))
 
 -- ---- a period of each half
 

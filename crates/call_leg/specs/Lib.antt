@@ -12,3 +12,4 @@ pub mod Places
 pub mod Stands
 pub mod Step
 pub mod Halves
+pub mod Runs

@@ -28,9 +28,9 @@ pub record CoderStands (law : Law) (stretch : List CallFrame) (m : CoderMemory) 
   pub encoder : encoder.Stands (map (samples_of law) stretch) m.encoder
   pub tx : tx.Stands (coded_frames law stretch) m.tx
 
--- the downlink side: the call's law, the bits in store and the octets held, the shift that was asked for, the handed frames that wait,
--- the coder, the settings, DTXd of the last speech frame, whether this period is quiet and lies in a bridge, how many
--- handed frames of the latest bridge were sent, and how many frames were made
+-- the downlink side: the call's law, the bits in store and the octets held, the shift that was asked for, the handed
+-- frames that wait, the coder, the settings, DTXd of the last speech frame, whether this period is quiet and lies in a
+-- bridge, how many handed frames of the latest bridge were sent, and how many frames were made
 pub record DownMemory : Type 0 where
   pub law : Law
   pub framer : FramerMemory

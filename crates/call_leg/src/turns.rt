@@ -91,7 +91,7 @@ impl UpLeg {
             UpStands who (period_with now up.now pcm handed ∷ ts) (later now) self.new) }
 
         // .. and its note and its octets are those of the call.
-        ensures note { OfItsUp self.old (λ who ts now. result ≡ note_in who ts up.now) }
+        ensures note { OfItsUp self.old (λ who ts now. result ≡ note_in who.number ts up.now) }
         ensures out { (pcm : List ℕ) (handed : Option (List ℕ)) → OfItsUp self.old (λ who ts now. is_some handed ≡ now.bridged →
             out.new ≡ out_of who (period_with now up.now pcm handed ∷ ts)) }
     {
@@ -148,12 +148,12 @@ impl DownLeg {
 
         // After the periods of any call, with the note of its next one, and an effective frame where it lies in a bridge,
         // the half stands for the call with that period more ..
-        ensures history { (who : Who) (ts : List CallPeriod) (now : Settings) (up : List ℕ) → Between who ts now self.old → note.now ≡ note_in who ts up →
+        ensures history { (who : Who) (ts : List CallPeriod) (now : Settings) (up : List ℕ) → Between who ts now self.old → note.now ≡ note_in who.number ts up →
             is_some item.entry ≡ now.bridged →
             Between who (period_with now up pcm.now (handed_bits (item_of (option_copied item.entry))) ∷ ts) (later now) self.new }
 
         // .. and its bits are those of the call.
-        ensures down { (who : Who) (ts : List CallPeriod) (now : Settings) (up : List ℕ) → Between who ts now self.old → note.now ≡ note_in who ts up →
+        ensures down { (who : Who) (ts : List CallPeriod) (now : Settings) (up : List ℕ) → Between who ts now self.old → note.now ≡ note_in who.number ts up →
             is_some item.entry ≡ now.bridged →
             bits_of down.new ≡ down_now who (period_with now up pcm.now (handed_bits (item_of (option_copied item.entry))) ∷ ts) }
     {

@@ -108,9 +108,9 @@ shifted_down = refl
 abbrev speech : List ℕ
 speech = 0 ∷ 0 ∷ 136 ∷ 0 ∷ flat_map {X = ℕ} (λ k. 128 ∷ 0 ∷ []) (replicate 18 0)
 
-abbrev speech_call : Call
-speech_call = record {
-  who = record { number = 1; law = A };
+abbrev speech_call : Law → Call
+speech_call law = record {
+  who = record { number = 1; law = law };
   up = speech ++ speech ++ speech;
   pcm = replicate 480 213;
   settings = replicate 3 (let s : Setting = record { level = pos 256; mode = Uplink } in s);
@@ -120,6 +120,10 @@ speech_call = record {
 abbrev parameters : Fields
 parameters = fields_in (data_of (bits_of speech))
 
-speech_out : out speech_call ≡ compressed A (decoded (parameters ∷ [])) ++ (compressed A (decoded (parameters ∷ parameters ∷ [])) ++ [])
+speech_out : out (speech_call A) ≡ compressed A (decoded (parameters ∷ [])) ++ (compressed A (decoded (parameters ∷ parameters ∷ [])) ++ [])
 unfolding each_yield searched first_match is_match role_of line_bits mode_after bits_of effective_at origin_at latest_anchor words_in number_of place_of frame_at
 speech_out = refl
+
+speech_mulaw : out (speech_call Mu) ≡ compressed Mu (decoded (parameters ∷ [])) ++ (compressed Mu (decoded (parameters ∷ parameters ∷ [])) ++ [])
+unfolding each_yield searched first_match is_match role_of line_bits mode_after bits_of effective_at origin_at latest_anchor words_in number_of place_of frame_at
+speech_mulaw = refl

@@ -34,7 +34,7 @@ bit_of-back xs ys k l =
     ap (λ octet. bit_at octet (7 - k % 8)) (get_or-append_right xs ys (length xs) (k / 8) 0 refl (omega arith)) ∙
     ap (λ i. bit_at (get_or ys i 0) (7 - k % 8)) octet ∙ ap (λ j. bit_at (get_or ys ((k - 8 * length xs) / 8) 0) (7 - j)) bit
 
-bits_of-append : (xs ys : List ℕ) → bits_of (xs ++ ys) ≡ bits_of xs ++ bits_of ys
+pub bits_of-append : (xs ys : List ℕ) → bits_of (xs ++ ys) ≡ bits_of xs ++ bits_of ys
 unfolding bits_of
 bits_of-append xs ys =
     let all = length-append xs ys in

@@ -13,7 +13,7 @@ use Rattle.call_leg.proofs.LineLaws.{length-out_of}
 use Rattle.call_pair.proofs.Lengths.{length-down_octets}
 
 -- octets written behind those at the front
-written-seam : (front buffer octets : List ℕ) (start n : ℕ) → length front ≡ start → length octets ≡ n →
+pub written-seam : (front buffer octets : List ℕ) (start n : ℕ) → length front ≡ start → length octets ≡ n →
     written (front ++ drop start buffer) start octets ≡ (front ++ octets) ++ drop (start + n) buffer
 written-seam front buffer octets start n e f =
     let xs = front ++ drop start buffer in

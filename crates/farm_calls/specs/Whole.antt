@@ -40,7 +40,8 @@ span_for r c x = record {
 abbrev pub spans_for : Run → ℕ → List Span
 spans_for r c = map (span_for r c) (filter (begins_in r c) (spans_in r))
 
--- the call: its number and the law of its order, what its lines give up to its end, what is in force in its periods, and its spans
+-- the call: its number and the law of its order, what its lines give up to its end, what is in force in its periods,
+-- and its spans
 abbrev pub whole_call : Run → ℕ → Call
 whole_call r c = record {
   who = who_in r c;

@@ -49,7 +49,8 @@ pub fn runs_go_on()
 {}
 
 /// What the whole run executes begins with the orders so far. The rest are those that are left, below the run's end;
-/// where none is, all is executed, and what is left stays.
+/// where none is, all is executed, and what is left stays. A call that was opened so far begins at the same period and has the
+/// same law in the whole run.
 pub fn runs_are_whole()
     ensures rest { (r : Run) (t : ℕ) (ds : List Done) (left : List Order) → IsSoFar r t ds left →
         (rest : List Done) × (done_in r ≡ ds ++ rest) × (map (λ d. d.order) rest ≡ filter (λ o. nat_lt o.stamp r.periods) left) }

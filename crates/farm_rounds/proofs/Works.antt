@@ -21,6 +21,7 @@ use Rattle.farm_rounds.specs.Groups.{AreGroups, AreLive}
 use Rattle.farm_rounds.specs.Histories.{CallHistory, whose, CallStands, GroupsStand}
 use Rattle.farm_rounds.specs.Rounds.{no_job, job_at, entry_at, octets_of, seat_with, call_from, group_from, groups_from, Works}
 use Rattle.farm_rounds.specs.RoundHistories.{worked_histories, history_with, WorkedCall, AreWorked}
+use Rattle.farm_rounds.specs.Ordered.{job_in}
 use Rattle.farm_rounds.specs.Working.{RoundMemory, IsRound, IsWorked}
 use Rattle.farm_rounds.proofs.Finding.{found_there}
 use Rattle.farm_rounds.proofs.Applying.{found_group}
@@ -29,7 +30,7 @@ use Rattle.farm_rounds.proofs.Partners.{finished_partner}
 use Rattle.farm_rounds.proofs.Working.{finished_groups, finished_live}
 use Rattle.farm_rounds.proofs.Finished.{Finished, Pair, first_half, second_half, alone_finished, pair_finished}
 use Rattle.farm_rounds.proofs.Seating.{seat_of_at}
-use Rattle.farm_rounds.proofs.JobSeats.{job_in, call_from_job, job_group, finished_job, stays, periods, its_place, worked_rising, seat_job, seated, job_other}
+use Rattle.farm_rounds.proofs.JobSeats.{call_from_job, job_group, finished_job, stays, periods, its_place, worked_rising, seat_job, seated, job_other}
 
 -- what stands for an open call
 record Told (c : ℕ) (o : Option CallHistory) (h : HalfMemory) (partner : Option ℕ) : Type 0 where

@@ -133,7 +133,7 @@ module _ (failed : List Line) where
 
   after_knows : (a : Act) (f : ℕ → Option Call) → IsNew a → ((c : ℕ) → IfSome (f c) (Knows c)) → (c : ℕ) → IfSome (calls_after a f c) (Knows c)
   after_knows (act.Opened n law) f new h c =
-      either c (n == c) (Some (new_call n)) (f c)
+      either c (n == c) (Some (new_call n law)) (f c)
       (λ e. let same = eqb-true n c e in (sym (new Down) ∙ ap (λ (d : ℕ). is_listed failed d Down) same, sym (new Out) ∙ ap (λ (d : ℕ). is_listed failed d Out) same)) (h c)
   after_knows (act.Closed n p) f new h c = either c (n == c) None (freed p parted f c) (λ e. tt) (freed_knows p parted f (λ d x k. k) h c)
   after_knows (act.Bridged a b) f new h c = changed_knows a joined (changed b joined f) (λ d x k. k) (changed_knows b joined f (λ d x k. k) h) c

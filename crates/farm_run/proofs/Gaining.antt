@@ -103,7 +103,7 @@ out_more r c m zero n e =
 out_more r c m (suc w) zero e = absurd (omega (arith, e))
 out_more r c m (suc w) (suc n) e =
     let was = out_more r c m w n (omega (arith, e)) in
-    let next = out_of c (periods_to r c (suc n)) in
+    let next = out_of (who_in r c) (periods_to r c (suc n)) in
     (was.0 ++ next, ap (λ (xs : List ℕ). xs ++ next) was.1 ∙ append_assoc (out_line (who_in r c) (periods_to r c m)) was.0 next)
 
 down_on : (r : Run) (c m w n : ℕ) → n ≡ m + w → (more : List ℕ) × (down_octets (who_in r c) (periods_to r c n) ≡ down_octets (who_in r c) (periods_to r c m) ++ more)
@@ -113,7 +113,7 @@ down_on r c m zero n e =
 down_on r c m (suc w) zero e = absurd (omega (arith, e))
 down_on r c m (suc w) (suc n) e =
     let was = down_on r c m w n (omega (arith, e)) in
-    let next = octets_of (down_now c (periods_to r c (suc n))) in
+    let next = octets_of (down_now (who_in r c) (periods_to r c (suc n))) in
     (was.0 ++ next, down_more (who_in r c) _ (periods_to r c n) ∙ ap (λ (xs : List ℕ). xs ++ next) was.1 ∙ append_assoc (down_octets (who_in r c) (periods_to r c m)) was.0 next)
 
 -- **What was written of the first m periods is a front of what any more give.**

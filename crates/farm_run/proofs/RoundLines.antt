@@ -13,7 +13,7 @@ use Rattle.trau_io.specs.Lines.{LineState}
 use Rattle.round_lines.specs.Transfer.{has_failed}
 use Rattle.round_lines.specs.Seats as seats
 use Rattle.round_lines.specs.Seats.{SeatMemory, down_of}
-use Rattle.round_lines.specs.Rounds.{seat_at}
+use Rattle.round_lines.specs.Rounds.{seat_at, call_at}
 use Rattle.switchboard.specs.Calls.{Done, opened_at, closed_at, is_open, gone_at}
 use Rattle.switchboard.specs.Ends.{Given, lack_of, end_of, start_of}
 use Rattle.switchboard.specs.State.{State, gone_in}

@@ -17,7 +17,8 @@ use Rattle.call_leg.specs.Down.{down_now}
 use Rattle.call_pair.specs.Memory.{IoMemory, HalfMemory}
 use Rattle.call_pair.specs.History.{outs_of, downs_of, io_after, HasWorked, settings_past, alone_periods}
 use Rattle.call_pair.specs.Finished.{HasWorkedAlone, HasWorkedBridged}
-use Rattle.call_pair.proofs.Lengths.{length-out_of, length-down_octets}
+use Rattle.call_leg.proofs.LineLaws.{length-out_of}
+use Rattle.call_pair.proofs.Lengths.{length-down_octets}
 use Rattle.farm_output.specs.Run.{Run, whole_in, periods_to, who_in}
 use Rattle.farm_output.specs.Now.{settings_now}
 use Rattle.farm_output.specs.Lines.{out_line, down_octets}

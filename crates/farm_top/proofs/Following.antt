@@ -11,4 +11,5 @@ follow_word words command c want begin names = ap (λ (ws : List (List ℕ)). ge
 -- they don't begin with a command that takes options
 pub no_following : (words : List (List ℕ)) (c want : ℕ) → TakeOptions words → AsksForFollow words c want → ⊥
 no_following words c want (inl run) names = let count : 6 ≡ 3 = ap length (follow_word words (codes "run") c want run names) in omega (arith, count)
-no_following words c want (inr drill) names = let count : 6 ≡ 5 = ap length (follow_word words (codes "drill") c want drill names) in omega (arith, count)
+no_following words c want (inr (inl drill)) names = let count : 6 ≡ 5 = ap length (follow_word words (codes "drill") c want drill names) in omega (arith, count)
+no_following words c want (inr (inr live)) names = let count : 6 ≡ 4 = ap length (follow_word words (codes "live") c want live names) in omega (arith, count)

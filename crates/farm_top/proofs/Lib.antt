@@ -6,4 +6,5 @@ mod Ending
 mod FarmCausing
 mod FarmCleaning
 mod Following
+mod Living
 mod Headlining

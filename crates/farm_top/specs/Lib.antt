@@ -6,6 +6,7 @@ pub mod FarmEnded
 pub mod Follow
 pub mod FarmClean
 pub mod Headline
+pub mod Live
 pub mod Slots
 pub mod Top
 pub mod Words

@@ -5,7 +5,7 @@ use Rattle.std.proofs.lemmas.Fmt.{decimal_injective}
 use Rattle.clap.specs.Words.{Text}
 use Rattle.decimal_number.specs.Number.{IsNumber}
 use Rattle.farm_words.specs.declared.asked.Asked.{Asked}
-use Rattle.farm_words.specs.declared.asked.Asked.TheVariants.{Run, Drill, Relay, Frames, Encode, Decode, Follow, Split, Merge}
+use Rattle.farm_words.specs.declared.asked.Asked.TheVariants.{Run, Drill, Live, Relay, Frames, Encode, Decode, Follow, Split, Merge}
 use Rattle.farm_words.specs.Asking.{Asks}
 use Rattle.farm_words.specs.Follow.{IsWanted, NamesFollow}
 
@@ -31,6 +31,7 @@ not_two words c want name number names is = let count : 3 ≡ 2 = ap length (sym
 pub follow_only : (words : List Text) (c want : ℕ) (b : Asked) → NamesFollow words c want → Asks words b → Follow c want ≡ b
 follow_only words c want (Run s) names asks = let count : 6 ≡ 3 = ap length (not_first words c want _ _ names asks.spelled) in absurd (omega (arith, count))
 follow_only words c want (Drill seed calls s) names asks = let count : 6 ≡ 5 = ap length (not_first words c want _ _ names asks.spelled) in absurd (omega (arith, count))
+follow_only words c want (Live s) names asks = let count : 6 ≡ 4 = ap length (not_first words c want _ _ names asks.spelled) in absurd (omega (arith, count))
 follow_only words c want (Relay n) names asks = absurd (not_two words c want _ _ names asks.spelled)
 follow_only words c want (Frames n) names asks = absurd (not_two words c want _ _ names asks.spelled)
 follow_only words c want (Encode n) names asks = absurd (not_two words c want _ _ names asks.spelled)

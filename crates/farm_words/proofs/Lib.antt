@@ -2,4 +2,5 @@
 pub mod Asking
 mod Following
 mod Found
+mod Living
 mod Matched

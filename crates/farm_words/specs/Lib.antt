@@ -2,6 +2,7 @@
 pub mod Asking
 pub mod Drill
 pub mod Follow
+pub mod Live
 pub mod Options
 pub mod Run
 pub mod Slots

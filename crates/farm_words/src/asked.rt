@@ -1,5 +1,6 @@
 //! What words ask for, and why they aren't taken.
 
+use crate::LiveSettings;
 use std::alloc::AllocError;
 use thiserror::Error;
 
@@ -27,6 +28,8 @@ pub enum Asked {
         calls: u32,
         settings: Settings,
     },
+    /// Callers on threads of their own, which post the periods of drawn calls.
+    Live(LiveSettings),
     /// The good speech frames of a call's uplink, bits unchanged, on its downlink.
     Relay(u32),
     /// The listing of the frames of a call's uplink.

@@ -1,4 +1,4 @@
--- Which calls are open. Lists of executed orders have the oldest first.
+-- Which calls are open, and by which law. Lists of executed orders have the oldest first.
 use Rattle.std.specs.Prelude.{ℕ, ◌+◌, Bool, false, not, ◌&&◌, ◌==◌, nat_lt, Option, Some, None, is_some, option_map, find, Result, Ok, List}
 use Rattle.trau_alaw.specs.declared.Law.{Law}
 use Rattle.trau_alaw.specs.declared.Law.TheVariants.{A}
@@ -17,7 +17,7 @@ abbrev pub opened_by : Result Act Refusal → Option ℕ
 opened_by (Ok (act.Opened c law)) = Some c
 opened_by _ = None
 
--- the law that it opened it with
+-- the law that it opened that call with, and A-law where it opened none
 abbrev pub law_by : Result Act Refusal → Law
 law_by (Ok (act.Opened c law)) = law
 law_by _ = A

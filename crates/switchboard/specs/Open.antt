@@ -1,4 +1,4 @@
--- What a step of the board changes of who is open, and who is bridged with whom, with no history at hand.
+-- What a step of the board changes of who is open, by which law, and who is bridged with whom, with no history at hand.
 use Rattle.std.specs.Prelude.{◌≡◌, ℕ, ◌<◌, ◌≢◌, Bool, true, false, ◌||◌, if◌then◌else◌, ◌==◌, Option, Some, None, is_some, option_map, IfSome, IfOk, List}
 use Rattle.std.specs.List.{All}
 use Rattle.call_number.specs.CallNumber.{IsCallNumber}

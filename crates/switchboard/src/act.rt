@@ -26,6 +26,7 @@ pub enum Refusal {
 /// What an accepted order does, at the start of the period that its stamp names.
 #[derive(Clone, Copy, Debug, PartialEq, Eq)]
 pub enum Act {
+    /// The law is that of the call's lines from and to the exchange.
     Opened { call: u32, law: Law },
     /// `partner` is the other call of the bridge that ends with the call; None where the call wasn't bridged.
     Closed { call: u32, partner: Option<u32> },

@@ -2,6 +2,7 @@
 
 ghost use Rattle.std.specs.Prelude.{◌≡◌, ◌<◌, ◌≤◌, ◌≢◌, ◌↔◌, ℕ, [], true, false, None, IsNone, IsSome, IfOk, IfSome, OnErr};
 ghost use Rattle.std.specs.List.{All};
+ghost use Rattle.trau_alaw.specs.declared.Law.TheVariants.{A};
 ghost use Rattle.trau_orders.specs.Lists.{NamesCalls, HasLevel};
 ghost use Rattle.switchboard.specs.Calls.{is_open};
 ghost use Rattle.switchboard.specs.Bridges.{OneLasts, bridges};
@@ -49,9 +50,10 @@ impl Board {
         ensures start { IfOk result (λ b. b ≡ start_of orders) }
         ensures untold { IfOk result (λ b. (t : ℕ) → EndBefore t b) }
 
-        // No call was opened, none is open, and none has a partner.
+        // No call was opened, none is open, none has another law than A-law, and none has a partner.
         ensures opened { IfOk result (λ b. (c : ℕ) → opened_now b c ≡ false) }
         ensures open { IfOk result (λ b. (c : ℕ) → open_now b c ≡ false) }
+        ensures law { IfOk result (λ b. (c : ℕ) → law_now b c ≡ A) }
         ensures partner { IfOk result (λ b. (c : ℕ) → partner_now b c ≡ None) }
     {
         let most = orders.list().len();
@@ -167,9 +169,10 @@ impl Board {
         ensures state { self.new ≡ told_more self.old end.call end.at }
         ensures told { (t : ℕ) → end.at < t → EndBefore t self.old → EndBefore t self.new }
 
-        // The call is open no more, and neither it nor its partner has one.
+        // The call is open no more, and neither it nor its partner has one. Laws stay.
         ensures opened { (c : ℕ) → opened_now self.new c ≡ opened_now self.old c }
         ensures open { (c : ℕ) → open_now self.new c ≡ open_without end.call (open_now self.old) c }
+        ensures law { (c : ℕ) → law_now self.new c ≡ law_now self.old c }
         ensures partner { (c : ℕ) → partner_now self.new c ≡ partner_without end.call (partner_now self.old) c }
     {
         self.table.end_call(end.call, end.at);

@@ -118,6 +118,8 @@ fn open_at<R: Files>(files: &R, line: Line, access: Access, at: u64) -> io::Resu
         .truncate(is_first);
     let name = name_of(line);
     let mut file = how.open(files, name.as_str())?;
-    file.seek(SeekFrom::Start(at))?;
+    if at > 0 {
+        file.seek(SeekFrom::Start(at))?;
+    }
     Ok(file)
 }
