@@ -7,7 +7,7 @@ import sys
 from kernels import DECODE, ENCODE
 from measure import Command, best_times, difference, peak_kilobytes, say
 
-Row = collections.namedtuple("Row", "calls batch workers times peak")
+Row = collections.namedtuple("Row", "calls periods batch workers times peak")
 
 
 def lay(bench, calls, periods):
@@ -35,22 +35,22 @@ def check_report(folder, calls, periods):
         sys.exit(f"bench: the run of {calls} calls ended with: {last}")
 
 
-def row(bench, calls, batch, workers):
-    folder = lay(bench, calls, bench.periods)
+def row(bench, calls, periods, batch, workers):
+    folder = lay(bench, calls, periods)
     command = run_of(bench, folder, batch, workers)
     times = best_times(command, bench.farm_runs)
-    check_report(folder, calls, bench.periods)
-    return Row(calls, batch, workers, times, peak_kilobytes(command))
+    check_report(folder, calls, periods)
+    return Row(calls, periods, batch, workers, times, peak_kilobytes(command))
 
 
 def sizes(bench):
     say("the farm, one worker")
-    return [row(bench, calls, batch, 1) for calls in bench.calls for batch in bench.batches]
+    return [row(bench, calls, bench.periods, batch, 1) for calls in bench.calls for batch in bench.batches]
 
 
 def workers(bench):
     say("the farm, several workers")
-    return [row(bench, bench.workers_calls, 50, workers) for workers in (1, 2, 4)]
+    return [row(bench, bench.workers_calls, bench.workers_periods, 50, workers) for workers in (1, 2, 4)]
 
 
 def period(bench):

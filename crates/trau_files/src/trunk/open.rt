@@ -78,6 +78,9 @@ impl<'a, R: Files> LineFiles<'a, R> {
     }
 
     // Opens a line's file into the next seat, which is freed before. Where no descriptor is left another one is closed first.
+    // It stays a function of its own: what it has room for would be cleared at each use of an open file.
+    #[cold]
+    #[inline(never)]
     fn open(&mut self, line: Line, access: Access, at: u64) -> io::Result<u8>
         requires { IsFileOf self.old line.call line.side None }
         ensures stands { IfOk result (λ seat. StandsAt (in_seat self.new seat) line.call line.side access at) }
