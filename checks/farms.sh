@@ -1,5 +1,5 @@
 #!/bin/sh
-# `trau run` on three recorded farms (checks/farms/README.md): each outgoing line and the report, octet for octet, and that the
+# `trau run` on four recorded farms (checks/farms/README.md): each outgoing line and the report, octet for octet, and that the
 # incoming lines stay as they were, with each of the command lines of checks/farms/words.txt.
 set -eu
 top=$(cd "$(dirname "$0")/.." && pwd)
@@ -49,7 +49,7 @@ compare() {
     fi
 }
 
-for name in mixed clean harsh; do
+for name in mixed clean harsh mulaw; do
     lay "$name"
     while read -r words; do
         # shellcheck disable=SC2086

@@ -76,7 +76,7 @@ expect "a word that isn't UTF-8" 1 "usage"
 trau
 expect "no words" 1 "usage"
 
-for words in 'relay' 'relay 0' 'encode 1025' 'relay 7 7' 'Relay 7' 'decoder 7'; do
+for words in 'relay' 'relay 0' 'encode 4097' 'relay 7 7' 'Relay 7' 'decoder 7'; do
     # shellcheck disable=SC2086
     trau $words
     expect "words $words" 1 "usage"

@@ -64,6 +64,27 @@ cmp 1.out 1.pcm || fail "one call: Out"
     idle
 } | cmp - 1.down || fail "one call: Down"
 
+# The same of the last call number, with mu-law: an idle line has the octet 0xFF.
+cp 1.up 4096.up
+ones 480 >4096.pcm
+run '0 open 4096 mulaw'
+expect "one call of mu-law" 0 <<'TEXT'
+order 1 ok
+call 4096 from 0 to 3 end up 0
+counts 4096 good 0 sid 0 invalid 0 bad 0 idle 0 other 0 miss 0 none 3 made 3
+end period 3 calls 1 left 0
+TEXT
+cmp 4096.out 4096.pcm || fail "one call of mu-law: Out"
+cmp 4096.down 1.down || fail "one call of mu-law: Down"
+run '0 open 4097'
+expect "a call number past the last" 2 <<'TEXT'
+orders line 1
+TEXT
+run '0 open 4096\n0 close 4096 mulaw'
+expect "a law where none stands" 2 <<'TEXT'
+orders line 2
+TEXT
+
 run ''
 expect "no orders" 0 <<'TEXT'
 end period 0 calls 0 left 0
@@ -212,9 +233,10 @@ open("silence.up", "wb").write(up(9) * 33)
 for call in (8, 9):
     open(f"{call}.pcm", "wb").write(b"\xd5" * 1920)
 END
-# bridged NAME ORDERS LINE: the report has the bridge's line
+# bridged NAME ORDERS LINE: the report has the bridge's line. Call 8 is opened with the law that $law names.
+law=
 bridged() {
-    run "0 open 8\n0 open 9\n$2"
+    run "0 open 8$law\n0 open 9\n$2"
     if [ "$status" = 0 ] && grep -qx "$3" text; then
         echo "ok $1"
     else
@@ -222,15 +244,25 @@ bridged() {
         cat text
     fi
 }
+# handed NAME IDLE: the frames went across, and within the bridge each Out line is idle, call 8's with the octet IDLE. Call 8
+# sends a frame in each period, behind 40 octets of ones. Call 9 sends none in period 4: behind its first four frames, in
+# octets 40 to 199, stand two ones for each of the 156 octets, and then the frames of call 8.
+handed() {
+    tail -c +201 8.down | head -c 240 | cmp - of9 || fail "$1: Down of call 8"
+    {
+        ones 39
+        cat of8
+    } >wanted
+    tail -c +201 9.down | head -c 279 | cmp - wanted || fail "$1: Down of call 9"
+    [ "$(tail -c +641 8.out | head -c 960 | tr -d "$2" | wc -c)" = 0 ] || fail "$1: Out of call 8"
+    [ "$(tail -c +641 9.out | head -c 960 | tr -d '\325' | wc -c)" = 0 ] || fail "$1: Out of call 9"
+}
 bridged "a bridge" '4 bridge 8 9\n10 unbridge 8\n' 'bridge 8 9 from 4 to 10 sent 6 6 lost 0 0'
-# Call 8 sends a frame in each period, behind 40 octets of ones. Call 9 sends none in period 4: behind its first four
-# frames, in octets 40 to 199, stand two ones for each of the 156 octets, and then the frames of call 8.
-tail -c +201 8.down | head -c 240 | cmp - of9 || fail "a bridge: Down of call 8"
-{
-    ones 39
-    cat of8
-} >wanted
-tail -c +201 9.down | head -c 279 | cmp - wanted || fail "a bridge: Down of call 9"
+handed "a bridge" '\325'
+law=' mulaw'
+bridged "a bridge between laws" '4 bridge 8 9\n10 unbridge 8\n' 'bridge 8 9 from 4 to 10 sent 6 6 lost 0 0'
+handed "a bridge between laws" '\377'
+law=
 bridged "a call that ends with its bridge" '4 bridge 8 9\n10 unbridge 8\n10 close 9\n' 'bridge 8 9 from 4 to 10 sent 5 6 lost 1 0'
 bridged "a bridge of no period" '4 bridge 8 9\n4 unbridge 8\n' 'bridge 8 9 from 4 to 4 sent 0 0 lost 0 0'
 
@@ -362,26 +394,38 @@ done
 cd ..
 if [ "$status" = 0 ] && [ "$same" = 25 ]; then echo "ok 8 descriptors"; else fail "8 descriptors: status $status, $same files the same"; fi
 
-# As many calls as there are numbers, a period each: all end with their lines.
-head -c 40 1.up >up
-head -c 160 1.pcm >pcm
-i=1
-: >orders
-while [ $i -le 1024 ]; do
-    cp up $i.up
-    cp pcm $i.pcm
-    rm -rf $i.down $i.out
-    echo "0 open $i" >>orders
-    i=$((i + 1))
-done
+# As many calls as there are numbers, three periods of silence each, every second one with mu-law: all end with their lines, and
+# calls of one law send the same. Silence is the samples 8, 0, 0, 8, 8, 8, 16.
+mkdir all
+cd all
+python3 - <<'END'
+up = open("../silence.up", "rb").read()[:120]
+for call in range(1, 4097):
+    open(f"{call}.up", "wb").write(up)
+    open(f"{call}.pcm", "wb").write((b"\xff" if call % 2 == 0 else b"\xd5") * 480)
+END
+seq 4096 | sed 's/.*/0 open &/; n; s/.*/0 open & mulaw/' >orders
 status=0
 "$top/trau" run <orders >text || status=$?
-if [ "$status" = 0 ] && [ "$(grep -c '^call [0-9]* from 0 to 1 end up 0$' text)" = 1024 ] && [ "$(tail -n 1 text)" = "end period 1 calls 1024 left 0" ]; then
-    echo "ok 1,024 calls"
+if [ "$status" = 0 ] && [ "$(grep -c '^call [0-9]* from 0 to 3 end up 0$' text)" = 4096 ] && [ "$(tail -n 1 text)" = "end period 3 calls 4096 left 0" ]; then
+    echo "ok 4,096 calls"
 else
-    fail "1,024 calls: status $status"
+    fail "4,096 calls: status $status"
 fi
-size "1,024 calls" 1024.down 40
-size "1,024 calls" 1024.out 160
+printf '\325\325\325\325\325\325\324' >alaw
+printf '\376\377\377\376\376\376\375' >mulaw
+head -c 7 1.out | cmp - alaw || fail "4,096 calls: Out of A-law"
+head -c 7 2.out | cmp - mulaw || fail "4,096 calls: Out of mu-law"
+size "4,096 calls" 1.out 480
+size "4,096 calls" 2.out 480
+size "4,096 calls" 1.down 120
+python3 - <<'END' || fail "4,096 calls: lines that differ"
+def lines(side):
+    return [open(f"{call}.{side}", "rb").read() for call in range(1, 4097)]
+
+out, down = lines("out"), lines("down")
+assert out == out[:2] * 2048 and down == down[:2] * 2048
+END
+cd ..
 
 [ "$failed" = 0 ]

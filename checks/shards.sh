@@ -1,5 +1,5 @@
 #!/bin/sh
-# Three recorded farms (checks/farms/README.md), each cut by tools/shard.py into parts that run apart: outgoing lines, joined
+# Four recorded farms (checks/farms/README.md), each cut by tools/shard.py into parts that run apart: outgoing lines, joined
 # report and status are those of one run, octet for octet. Then the same with fewer periods, lines that fail, copies of the
 # lines, and parts that fail or are run by other words.
 set -eu
@@ -18,7 +18,7 @@ lay() {
     mkdir "$2"
     case $1 in
     mixed) cp "$top"/examples/farm/*.up "$top"/examples/farm/*.pcm "$top/examples/farm/orders.txt" "$2" ;;
-    clean) cp "$top"/checks/farms/clean/*.up "$top"/checks/farms/clean/*.pcm "$top/checks/farms/clean/orders.txt" "$2" ;;
+    clean | mulaw) cp "$top/checks/farms/$1"/*.up "$top/checks/farms/$1"/*.pcm "$top/checks/farms/$1/orders.txt" "$2" ;;
     harsh)
         cp "$top"/checks/farms/harsh/*.pcm "$top/checks/farms/harsh/orders.txt" "$2"
         for call in 1 2 3 4 5; do
@@ -81,10 +81,10 @@ compare() {
 trouble() {
     :
 }
-for name in mixed clean harsh; do
+for name in mixed clean mulaw harsh; do
     compare "$name" 9 ""
 done
-# The three runs are what is recorded, too.
+# The last of the runs is what is recorded, too.
 cmp "$work/one.report" "$top/crates/codec_vectors/data/farm-report.txt" || failed=1
 for name in mixed harsh; do
     compare "$name" 2 --copy
@@ -169,7 +169,10 @@ done <<'END'
 0 open 1
 0 open 1\n\n
 0 open 1\n0 open 02\n
-0 open 1024\n0 open 1025\n
+0 open 4096\n0 open 4097\n
+0 open 4096 mulaw
+0 open 1 alaw
+0 open 1\n0 close 1 mulaw
 4294967294 open 1
 4294967295 open 1
 7 open 1\n6 open 2

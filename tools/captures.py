@@ -16,10 +16,11 @@ from typing import Any, Dict, Iterable, Iterator, List, NamedTuple, Optional, Se
 import run_lines
 import trau_frames
 from run_lines import Heard
-from trau_frames import GSM_OCTETS, IDLE_OCTET, PCM_OCTETS, PERIODS_A_SECOND, Parameters, Refusal, Sort, SpeechControl
+from trau_frames import GSM_OCTETS, PCM_OCTETS, PERIODS_A_SECOND, Law, Parameters, Refusal, Sort, SpeechControl
 
 PCMU, GSM, PCMA = 0, 3, 8
 NAMES = {PCMU: "pcmu", GSM: "gsm", PCMA: "pcma"}
+LAWS = {PCMA: Law.A, PCMU: Law.MU}
 RTCP_KINDS = range(72, 77)
 SAMPLES_A_SECOND = 8000
 FRAME_SAMPLES = 160
@@ -272,19 +273,6 @@ IDLE_UPLINK = trau_frames.octets_of(trau_frames.frame_of(trau_frames.IDLE_UP + "
 LOST_UPLINK = trau_frames.octets_of(trau_frames.frame_of(SpeechControl(bad=True).bits(), trau_frames.SILENCE.bits()))
 
 
-def expand_mu_law(octet: int) -> int:
-    """The sample, of 16 bits, of a mu-law octet (G.711)."""
-    plain = octet ^ 0xFF
-    magnitude = (((plain & 15) << 3) + 132 << (plain >> 4 & 7)) - 132
-    return -magnitude if plain & 0x80 else magnitude
-
-
-def alaw_by_mu_law() -> bytes:
-    """The A-law octet of each mu-law octet, by the sample that it stands for."""
-    octets = trau_frames.octets_by_sample()
-    return bytes(octets[expand_mu_law(octet) % 65536] for octet in range(256))
-
-
 def uplink_of(found: Iterable[Stretch]) -> bytes:
     """An uplink: good speech frames, unusable ones for those that were lost, and idle ones where nothing was sent."""
     frames: List[bytes] = []
@@ -300,14 +288,15 @@ def uplink_of(found: Iterable[Stretch]) -> bytes:
     return b"".join(frames)
 
 
-def pcm_of(found: Iterable[Stretch], alaw: bytes) -> bytes:
-    """A Pcm line, as far as it goes: of each octet the one of A-law by a table, and idle ones where none came."""
+def pcm_of(found: Iterable[Stretch], sent: Law, law: Law) -> bytes:
+    """A Pcm line, as far as it goes: each octet of the law that was sent as one of the line's, and idle ones where none came."""
+    table, idle = sent.table_to(law), bytes([law.idle()])
     octets: List[bytes] = []
     for stretch in found:
         if isinstance(stretch, (Lost, Paused)):
-            octets.append(stretch.units * bytes([IDLE_OCTET]))
+            octets.append(stretch.units * idle)
         else:
-            octets.append(bytes(stretch).translate(alaw))
+            octets.append(bytes(stretch).translate(table))
     return b"".join(octets)
 
 
@@ -316,9 +305,9 @@ def total(found: Sequence[Stretch], kind: type) -> int:
     return sum(len(each) if isinstance(each, list) else each.units for each in found if isinstance(each, kind))
 
 
-def line_of(name: Path, content: bytes, number: Optional[int], since: Optional[int]) -> Tuple[bytes, str]:
-    """A line of a capture's stream, an uplink of GSM and a Pcm line of the others, from the beginning of another stream on if
-    one is given; and what was found."""
+def line_of(name: Path, content: bytes, number: Optional[int], since: Optional[int], law: Law) -> Tuple[bytes, str]:
+    """A line of a capture's stream, an uplink of GSM and a Pcm line with this law of the others, from the beginning of another
+    stream on if one is given; and what was found."""
     streams = streams_of(name, content)
     packets = chosen(name, streams, "--stream", number)
     lead = 0 if since is None else periods_between(name, chosen(name, streams, "--since", since), packets)
@@ -332,8 +321,8 @@ def line_of(name: Path, content: bytes, number: Optional[int], since: Optional[i
     )
     if kind == GSM:
         return lead * IDLE_UPLINK + uplink_of(found), said
-    idle = bytes([IDLE_OCTET])
-    line = lead * PCM_OCTETS * idle + pcm_of(found, alaw_by_mu_law() if kind == PCMU else bytes(range(256)))
+    idle = bytes([law.idle()])
+    line = lead * PCM_OCTETS * idle + pcm_of(found, LAWS[kind], law)
     padded = -len(line) % PCM_OCTETS
     return line + padded * idle, f"{said} padded {padded}"
 
@@ -379,8 +368,8 @@ def sounds_of_downlink(octets: bytes) -> Iterator[Sound]:
             yield Sound(found.start() // 2, trau_frames.gsm_of_data(data))
 
 
-def sounds_of_alaw(octets: bytes) -> Iterator[Sound]:
-    """What a line of A-law gives."""
+def sounds_of_octets(octets: bytes) -> Iterator[Sound]:
+    """What a line from or to the exchange gives."""
     for place in range(0, len(octets), PCM_OCTETS):
         yield Sound(place, octets[place : place + PCM_OCTETS])
 
@@ -388,8 +377,8 @@ def sounds_of_alaw(octets: bytes) -> Iterator[Sound]:
 SOUNDS = {
     "up": (GSM, sounds_of_uplink),
     "down": (GSM, sounds_of_downlink),
-    "pcm": (PCMA, sounds_of_alaw),
-    "out": (PCMA, sounds_of_alaw),
+    "pcm": (PCMA, sounds_of_octets),
+    "out": (PCMA, sounds_of_octets),
 }
 FIRST_PORT = 5004  # that of RTP, by which other programs know it
 
@@ -417,14 +406,16 @@ def packets_of(stream: int, kind: int, sounds: Iterable[Sound]) -> Iterator[Tupl
         following = sound.stamp + FRAME_SAMPLES
 
 
-def capture_of(lines: Sequence[Tuple[Path, bytes]]) -> Tuple[bytes, str]:
-    """A capture of the lines, each a stream; and what it has."""
+def capture_of(lines: Sequence[Tuple[Path, bytes]], law: Law) -> Tuple[bytes, str]:
+    """A capture of the lines, each a stream, those from and to the exchange with this law; and what it has."""
     packets: List[Tuple[float, bytes]] = []
     for stream, (name, octets) in enumerate(lines, 1):
         side = name.suffix[1:]
         if side not in SOUNDS:
             raise Refusal(f"{name}: the name of a line ends with .up, .down, .pcm or .out")
         kind, sounds = SOUNDS[side]
+        if kind == PCMA and law is Law.MU:
+            kind = PCMU
         packets += packets_of(stream, kind, sounds(octets))
     if not packets:
         raise Refusal(f"{lines[0][0]}: gives no speech to send")

@@ -1,6 +1,6 @@
 #!/usr/bin/env python3
-"""Makes recorded lines of what people have, and back: speech frames of libgsm, WAV files, raw A-law, and captures of network
-packets; and damages uplinks.
+"""Makes recorded lines of what people have, and back: speech frames of libgsm, WAV files, raw A-law and mu-law, and captures of
+network packets; and damages uplinks.
 
 Every command reads one file and writes another (`idle` reads none), and says in one line on standard output what it did;
 `-` stands for standard input and output, and where the file goes there, the line goes to standard error. What it doesn't take
@@ -22,7 +22,7 @@ from typing import Callable, List, NamedTuple, Optional, Sequence, Set, Tuple
 
 import captures
 import trau_frames
-from trau_frames import FRAME_BITS, IDLE_OCTET, PCM_OCTETS, Parameters, Refusal, Sort, SpeechControl
+from trau_frames import FRAME_BITS, PCM_OCTETS, Law, Parameters, Refusal, Sort, SpeechControl
 
 SAMPLES_A_SECOND = 8000
 
@@ -123,9 +123,11 @@ def gsm(words: argparse.Namespace, given: bytes) -> Made:
     return Made(b"".join(frames), f"gsm frames {len(frames)} found {found}")
 
 
-# A-law octets and samples: to a Pcm line, and from an Out line
+# Octets of A-law or mu-law, and samples: to a Pcm line, and from an Out line
 
-WAV_LINEAR, WAV_ALAW, WAV_GSM, WAV_EXTENSIBLE = 1, 6, 0x31, 0xFFFE
+WAV_LINEAR, WAV_ALAW, WAV_MULAW, WAV_GSM, WAV_EXTENSIBLE = 1, 6, 7, 0x31, 0xFFFE
+LAWS_BY_TAG = {WAV_ALAW: Law.A, WAV_MULAW: Law.MU}
+SAMPLE_KINDS = ((WAV_LINEAR, 16), (WAV_ALAW, 8), (WAV_MULAW, 8))
 # A program that writes WAV to a pipe can't know the size and puts a great number there.
 WAV_LEAST_UNKNOWN_SIZE = 0x7FFF0000
 
@@ -149,7 +151,7 @@ def is_wav(content: bytes) -> bool:
 def read_wav(name: Path, content: bytes) -> Wav:
     """Reads a WAV file of any kind."""
     if not is_wav(content):
-        raise Refusal(f"{name}: isn't a WAV file; raw A-law octets are taken with --raw")
+        raise Refusal(f"{name}: isn't a WAV file; raw octets of a law are taken with --raw")
     form, place = None, 12
     while place + 8 <= len(content):
         chunk, size = struct.unpack_from("<4sI", content, place)
@@ -170,26 +172,26 @@ def read_wav(name: Path, content: bytes) -> Wav:
     raise Refusal(f"{name}: this WAV file has no format with data behind it")
 
 
-def alaw_of_wav(name: Path, content: bytes) -> bytes:
-    """The A-law octets of a WAV file's samples."""
+def octets_of_wav(name: Path, content: bytes, law: Law) -> bytes:
+    """The octets of a law for a WAV file's samples; those of the same law stay as they are."""
     wav = read_wav(name, content)
     kind = (wav.tag, wav.sample_bits)
     if wav.tag == WAV_GSM:
         raise Refusal(f"{name}: has GSM frames and no samples; lines.py uplink makes an uplink of it, without transcoding")
-    if (wav.channels, wav.samples_a_second) != (1, SAMPLES_A_SECOND) or kind not in ((WAV_LINEAR, 16), (WAV_ALAW, 8)):
+    if (wav.channels, wav.samples_a_second) != (1, SAMPLES_A_SECOND) or kind not in SAMPLE_KINDS:
         raise Refusal(
             f"{name}: has {wav.samples_a_second} Hz, channels {wav.channels}, bits {wav.sample_bits}, format {wav.tag}; needed"
-            f" is {SAMPLES_A_SECOND} Hz mono of 16 bits linear, or A-law; sox makes it:"
+            f" is {SAMPLES_A_SECOND} Hz mono of 16 bits linear, A-law or mu-law; sox makes it:"
             f" sox {shlex.quote(str(name))} -r {SAMPLES_A_SECOND} -c 1 -b 16 -e signed-integer NEW.wav"
         )
-    if wav.tag == WAV_ALAW:
-        return wav.data
+    if wav.tag in LAWS_BY_TAG:
+        return wav.data.translate(LAWS_BY_TAG[wav.tag].table_to(law))
     if len(wav.data) % 2:
         raise Refusal(f"{name}: its {len(wav.data)} octets of data are no samples of 16 bits")
     samples = array("H", wav.data)
     if sys.byteorder == "big":
         samples.byteswap()
-    return bytes(map(trau_frames.octets_by_sample().__getitem__, samples))
+    return bytes(map(law.octets_by_sample().__getitem__, samples))
 
 
 def wav_of(tag: int, sample_bits: int, data: bytes) -> bytes:
@@ -212,36 +214,36 @@ def wav_of(tag: int, sample_bits: int, data: bytes) -> bytes:
 OCTETS_SEARCHED = 4000
 
 
-def raw_alaw(name: Path, octets: bytes) -> bytes:
-    """The octets of a file of A-law alone; a file of another kind is refused, where that shows."""
+def raw_octets(name: Path, octets: bytes, law: Law) -> bytes:
+    """The octets of a file of a law's octets alone; a file of another kind is refused, where that shows."""
     if is_wav(octets):
-        raise Refusal(f"{name}: is a WAV file and no raw A-law; pcm takes it without --raw")
+        raise Refusal(f"{name}: is a WAV file and no raw {law.title()}; pcm takes it without --raw")
     is_named = name.suffix in (".up", ".down")
     if is_named or trau_frames.FRAME_OF_DOWNLINK.search(trau_frames.bits_of(octets[:OCTETS_SEARCHED])):
-        raise Refusal(f"{name}: is a line of frames and no A-law; trau decode makes A-law of an uplink")
+        raise Refusal(f"{name}: is a line of frames and no {law.title()}; trau decode makes A-law of an uplink")
     return octets
 
 
 def pcm(words: argparse.Namespace, given: bytes) -> Made:
-    """A Pcm line of whole periods, from a WAV file or raw A-law."""
-    octets = raw_alaw(words.given, given) if words.raw else alaw_of_wav(words.given, given)
+    """A Pcm line of whole periods, from a WAV file or raw octets of its law."""
+    octets = (raw_octets if words.raw else octets_of_wav)(words.given, given, words.law)
     if not octets:
         raise Refusal(f"{words.given}: holds no samples")
     padded = -len(octets) % PCM_OCTETS
-    line = octets + bytes([IDLE_OCTET]) * padded
+    line = octets + bytes([words.law.idle()]) * padded
     return Made(line, f"pcm periods {len(line) // PCM_OCTETS} padded {padded}")
 
 
 def sound(words: argparse.Namespace, given: bytes) -> Made:
-    """A WAV file or raw A-law, from an Out line."""
-    if not raw_alaw(words.given, given):
+    """A WAV file or raw octets, from an Out line."""
+    if not raw_octets(words.given, given, words.law):
         raise Refusal(f"{words.given}: holds no octets")
     said = f"sound samples {len(given)}"
     if words.raw:
         return Made(given, said)
-    if words.alaw:
-        return Made(wav_of(WAV_ALAW, 8, given), said)
-    expanded = [trau_frames.expand(octet) for octet in range(256)]
+    if words.tag in LAWS_BY_TAG:
+        return Made(wav_of(words.tag, 8, given.translate(words.law.table_to(LAWS_BY_TAG[words.tag]))), said)
+    expanded = [words.law.expand(octet) for octet in range(256)]
     samples = array("h", map(expanded.__getitem__, given))
     if sys.byteorder == "big":
         samples.byteswap()
@@ -253,13 +255,13 @@ def sound(words: argparse.Namespace, given: bytes) -> Made:
 
 def pcap(words: argparse.Namespace, given: bytes) -> Made:
     """An uplink or a Pcm line, from a stream of a capture."""
-    return Made(*captures.line_of(words.given, given, words.stream, words.since))
+    return Made(*captures.line_of(words.given, given, words.stream, words.since, words.law))
 
 
 def capture(words: argparse.Namespace, given: bytes) -> Made:
     """A capture, from lines of calls."""
     more = [(name, trau_frames.read_file(name)) for name in words.also]
-    return Made(*captures.capture_of([(words.given, given), *more]))
+    return Made(*captures.capture_of([(words.given, given), *more], words.law))
 
 
 # An idle line
@@ -268,8 +270,8 @@ MOST_PERIODS = 1_000_000
 
 
 def idle(words: argparse.Namespace, _: bytes) -> Made:
-    """An idle line of A-law."""
-    return Made(bytes([IDLE_OCTET]) * PCM_OCTETS * words.periods, f"idle periods {words.periods}")
+    """An idle Pcm line."""
+    return Made(bytes([words.law.idle()]) * PCM_OCTETS * words.periods, f"idle periods {words.periods}")
 
 
 def periods_word(word: str) -> int:
@@ -488,6 +490,24 @@ def command(
     return added
 
 
+def law_word(word: str) -> Law:
+    """A law."""
+    if word not in map(str, Law):
+        raise argparse.ArgumentTypeError(f"'{word}' isn't alaw or mulaw")
+    return Law(word)
+
+
+def add_law(added: argparse.ArgumentParser) -> None:
+    """Adds the option `--law` to a command."""
+    added.add_argument(
+        "--law",
+        type=law_word,
+        metavar="LAW",
+        default=Law.A,
+        help="the law of the call's lines from and to the exchange: alaw (default), or mulaw where its order is `open C mulaw`",
+    )
+
+
 def add_uplink(commands: argparse._SubParsersAction) -> None:
     """Adds the command `uplink`: frames of libgsm to an uplink."""
     added = command(
@@ -537,17 +557,19 @@ def add_gsm(commands: argparse._SubParsersAction) -> None:
 
 
 def add_pcm(commands: argparse._SubParsersAction) -> None:
-    """Adds the command `pcm`: a WAV file or raw A-law to a Pcm line."""
+    """Adds the command `pcm`: a WAV file or raw octets of a law to a Pcm line."""
     added = command(
         commands,
         pcm,
         "IN",
         "OUT.pcm",
-        "Makes a Pcm line from a WAV file of 8000 Hz, mono, 16 bits linear or A-law, or from raw A-law. The last period is\n"
-        "filled up with the idle octet 0xD5. Says `pcm periods N padded R`, R being the number of these octets.",
+        "Makes a Pcm line from a WAV file of 8000 Hz, mono, 16 bits linear, A-law or mu-law, or from raw octets of its law. The\n"
+        "last period is filled up with the idle octet, 0xD5 or 0xFF. Says `pcm periods N padded R`, R being the number of these\n"
+        "octets.",
         "call.wav 7.pcm",
     )
-    added.add_argument("--raw", action="store_true", help="the file has A-law octets and nothing else")
+    added.add_argument("--raw", action="store_true", help="the file has octets of the line's law and nothing else")
+    add_law(added)
 
 
 def add_sound(commands: argparse._SubParsersAction) -> None:
@@ -561,13 +583,18 @@ def add_sound(commands: argparse._SubParsersAction) -> None:
         "7.out call.wav",
     )
     kind = added.add_mutually_exclusive_group()
-    kind.add_argument("--alaw", action="store_true", help="the samples of the WAV file are A-law, as on the line")
-    kind.add_argument("--raw", action="store_true", help="A-law octets and nothing else")
+    for tag, law in LAWS_BY_TAG.items():
+        kind.add_argument(
+            f"--{law}", action="store_const", const=tag, dest="tag", help=f"the samples of the WAV file are {law.title()}"
+        )
+    kind.add_argument("--raw", action="store_true", help="the line's octets and nothing else")
+    added.set_defaults(tag=WAV_LINEAR)
+    add_law(added)
 
 
 def add_idle(commands: argparse._SubParsersAction) -> None:
     """Adds the command `idle`: an idle Pcm line."""
-    command(
+    added = command(
         commands,
         idle,
         "PERIODS",
@@ -575,6 +602,7 @@ def add_idle(commands: argparse._SubParsersAction) -> None:
         "Makes an idle Pcm line of so many periods, with which an uplink alone can be run. Says `idle periods N`.",
         "312 7.pcm",
     )
+    add_law(added)
 
 
 def add_pcap(commands: argparse._SubParsersAction) -> None:
@@ -600,6 +628,7 @@ def add_pcap(commands: argparse._SubParsersAction) -> None:
         metavar="N",
         help="the line begins when this stream began, by the times of the capture: so the lines of a call keep step",
     )
+    add_law(added)
 
 
 def add_capture(commands: argparse._SubParsersAction) -> None:
@@ -609,14 +638,15 @@ def add_capture(commands: argparse._SubParsersAction) -> None:
         capture,
         "LINE",
         "OUT.pcap",
-        "Makes a capture with an RTP stream of a line, which Wireshark plays: GSM of an Up or Down line, PCMA of a Pcm or Out\n"
-        "line, by the line's name. Lost speech has no packet, a pause has comfort noise, and an idle frame gives nothing. Says\n"
+        "Makes a capture with an RTP stream of a line, which Wireshark plays: GSM of an Up or Down line, PCMA or PCMU of a Pcm or\n"
+        "Out line, by the line's name and its law. Lost speech has no packet, a pause has comfort noise, and an idle frame gives nothing. Says\n"
         "`capture streams N packets M`. Needs the library dpkt.",
         "7.down call.pcap --also 7.out",
     )
     added.add_argument(
         "--also", type=Path, action="append", default=[], metavar="LINE", help="a further line, as a stream of its own"
     )
+    add_law(added)
 
 
 def add_damage(commands: argparse._SubParsersAction) -> None:

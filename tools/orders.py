@@ -16,12 +16,12 @@ from typing import Dict, List, Optional, Sequence, Tuple
 import trau_frames
 from run_texts import (
     FORMS,
-    MODES,
     MOST_CALLS,
     MOST_LEVEL,
     MOST_ORDER_OCTETS,
     MOST_ORDERS,
     MOST_PERIODS,
+    NAMES,
     Order,
     read_order,
 )
@@ -30,7 +30,10 @@ from trau_frames import FRAME_OCTETS, PCM_OCTETS, Refusal
 BYTE_ORDER_MARK = b"\xef\xbb\xbf"
 
 # The words behind an order's name, as the documents show them; of the others C alone.
-SHOWN = {"bridge": "C D", "level": "C V", "dtx": "C on|off|uplink"}
+SHOWN = {"open": "C or S open C mulaw", "bridge": "C D", "level": "C V", "dtx": "C on|off|uplink"}
+
+# The words that may stand there, as a sentence says them.
+FEW_NAMES = {"law": "mulaw, or nothing for A-law", "mode": "on, off or uplink"}
 
 
 # The grammar
@@ -87,16 +90,16 @@ def faults_of_words(words: Sequence[str]) -> List[str]:
     if name not in FORMS:
         small = f"; write {name.lower()}" if name.lower() in FORMS else f"; the orders are {', '.join(FORMS)}"
         return [each for each in faults if each] + [f"no order '{name}'{small}"]
-    form = FORMS[name]
-    if len(given) != len(form):
-        faults.append(f"too {'few' if len(given) < len(form) else 'many'} words: S {name} {SHOWN.get(name, 'C')}")
-    for kind, word in zip(form, given):
+    sizes = [len(form) for form in FORMS[name]]
+    if len(given) not in sizes:
+        faults.append(f"too {'few' if len(given) < min(sizes) else 'many'} words: S {name} {SHOWN.get(name, 'C')}")
+    for kind, word in zip(max(FORMS[name], key=len), given):
         if kind == "call":
             faults.append(fault_of_number("call", word, 1, MOST_CALLS))
         elif kind == "level":
             faults.append(fault_of_number("level", word, 0, MOST_LEVEL))
-        elif word not in MODES:
-            faults.append(f"'{word}': on, off or uplink")
+        elif word not in NAMES[kind]:
+            faults.append(f"'{word}': {FEW_NAMES[kind]}")
     return [each for each in faults if each]
 
 

@@ -417,7 +417,7 @@ class Picture:
             self.line(LEFT, y, self.plot_right, y, GRID, 0.75)
             self.text(LEFT - 4, y + 4, f"{level} dBm0".replace("-", "\u2212"), "tiny", "end")
         for side, colour, octets in drawn:
-            steps = self.level_steps(call, levels.levels(octets), top, height)
+            steps = self.level_steps(call, levels.levels(octets, call.law), top, height)
             if steps:
                 title = f"call {call.number}: level of {side.capitalize()}"
                 self.add("path", title, d=steps, fill="none", stroke=colour, stroke_width=1.1)

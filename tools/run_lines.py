@@ -12,7 +12,7 @@ from typing import Dict, Iterator, List, NamedTuple, Optional, Sequence
 import run_texts
 import trau_frames
 from run_texts import Bridge, Span
-from trau_frames import FRAME_BITS, FRAME_OCTETS, PCM_OCTETS, Refusal, Sort, Yield
+from trau_frames import FRAME_BITS, FRAME_OCTETS, PCM_OCTETS, Law, Refusal, Sort, Yield
 
 # The uplink
 
@@ -135,10 +135,11 @@ def sent(made: Made, bits: str) -> Optional[Sent]:
 
 @dataclass
 class Call:
-    """A call as the report tells of it, and as its uplink is searched."""
+    """A call as the report tells of it, and as its uplink is searched. Its law is told by the orders alone."""
 
     number: int
     span: Span
+    law: Law = Law.A
     failed: List[str] = field(default_factory=list)
     yields: List[Optional[Yield]] = field(default_factory=list)
     made: List[Made] = field(default_factory=list)
@@ -181,7 +182,7 @@ def read_calls(folder: Path, report: run_texts.Report, numbers: Optional[Sequenc
     for number, span in report.calls.items():
         if numbers is None or number in numbers:
             sides = [run_texts.SIDES[failed.side] for failed in report.failed if failed.call == number]
-            calls[number] = Call(number, span, sides)
+            calls[number] = Call(number, span, failed=sides)
             calls[number].search(folder, report.bridges)
     return calls
 
@@ -247,6 +248,9 @@ class Run:
         calls = list(read_calls(folder, report, numbers).values())
         shown = {call.number for call in calls}
         answered = [Answered(order, reply) for order, reply in zip(given, report.replies)]
+        laws = run_texts.laws_of(report, given)
+        for call in calls:
+            call.law = laws[call.number]
         return Run(
             [each for each in answered if shown & set(each.order.calls)],
             [bridge for bridge in report.bridges if shown & set(bridge.calls)],

@@ -12,10 +12,10 @@ from pathlib import Path
 from typing import Dict, List, NamedTuple, Optional, Sequence, Tuple
 
 import trau_frames
-from trau_frames import Refusal
+from trau_frames import Law, Refusal
 
 # What one run takes. A farm of more calls than these is more than one farm.
-MOST_CALLS = 1024
+MOST_CALLS = 4096
 MOST_LEVEL = 32767
 MOST_PERIODS = 4294967295
 MOST_ORDERS = 65536
@@ -58,17 +58,22 @@ class Order:
         """The order's line."""
         return f"{self.stamp} {self.words}"
 
+    def law(self) -> Law:
+        """The law of the call that it opens: A-law where it names none."""
+        return Law.MU if self.words.endswith(f" {Law.MU}") else Law.A
 
-# What stands behind the verb of an order.
+
+# What may stand behind the verb of an order.
 FORMS = {
-    "open": ("call",),
-    "close": ("call",),
-    "bridge": ("call", "call"),
-    "unbridge": ("call",),
-    "level": ("call", "level"),
-    "dtx": ("call", "mode"),
+    "open": (("call",), ("call", "law")),
+    "close": (("call",),),
+    "bridge": (("call", "call"),),
+    "unbridge": (("call",),),
+    "level": (("call", "level"),),
+    "dtx": (("call", "mode"),),
 }
-MODES = ("on", "off", "uplink")
+# The words of a law and of a mode; A-law is named by no word.
+NAMES = {"law": (str(Law.MU),), "mode": ("on", "off", "uplink")}
 
 
 class NoOrder(Exception):
@@ -85,10 +90,10 @@ def call_of(word: str) -> int:
 
 
 def is_value(word: str, form: str) -> bool:
-    """Whether a word is a level, or a setting of discontinuous transmission."""
+    """Whether a word is a level, a law, or a setting of discontinuous transmission."""
     if form == "level":
         return is_whole_number(word) and int(word) <= MOST_LEVEL
-    return word in MODES
+    return word in NAMES[form]
 
 
 def read_order(number: int, line: str, least_stamp: int) -> Order:
@@ -96,8 +101,8 @@ def read_order(number: int, line: str, least_stamp: int) -> Order:
     stamp, *words = line.split(" ")
     if not words or not is_whole_number(stamp) or not int(stamp) < MOST_PERIODS:
         raise NoOrder("isn't an order")
-    form = FORMS.get(words[0], ())
-    if len(words) != 1 + len(form):
+    form = next((form for form in FORMS.get(words[0], ()) if len(words) == 1 + len(form)), None)
+    if form is None:
         raise NoOrder("isn't an order")
     calls = tuple(call_of(word) for word, kind in zip(words[1:], form) if kind == "call")
     if not all(is_value(word, kind) for word, kind in zip(words[1:], form) if kind != "call"):
@@ -344,6 +349,12 @@ def hold_to_orders(name: Path, report: Report, orders: Sequence[Order], periods:
             raise Refusal(
                 f"{name}: has call {call} to {span.end} {span.cause}, which isn't of a run to period {periods}"
             )
+
+
+def laws_of(report: Report, orders: Sequence[Order]) -> Dict[int, Law]:
+    """The law of each call of a run of these orders: that of the order that opened it."""
+    answered = zip(orders, report.replies)
+    return {order.calls[0]: order.law() for order, reply in answered if order.verb == "open" and reply.refusal is None}
 
 
 def periods_told(report: Report, orders: Sequence[Order]) -> int:

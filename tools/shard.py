@@ -23,7 +23,7 @@ from typing import Callable, Dict, FrozenSet, Iterator, List, Optional, Sequence
 
 import run_texts
 import trau_frames
-from run_texts import MOST_PERIODS, SIDES, Bridge, FailedLine, Order, Reply, Report, Span
+from run_texts import MOST_CALLS, MOST_PERIODS, SIDES, Bridge, FailedLine, Order, Reply, Report, Span
 from trau_frames import FRAME_OCTETS, PCM_OCTETS, Refusal
 
 CUT = "cut.json"
@@ -325,7 +325,7 @@ def add_split(commands: argparse._SubParsersAction) -> None:
     cutting.add_argument("folder", type=Path, metavar="FOLDER", help="the farm: its lines and orders")
     cutting.add_argument("cut", type=Path, metavar="CUT", help="the folder that is made")
     cutting.add_argument(
-        "--parts", type=number_within(1, 1024), required=True, metavar="K", help="at most so many parts"
+        "--parts", type=number_within(1, MOST_CALLS), required=True, metavar="K", help="at most so many parts"
     )
     cutting.add_argument(
         "--orders", type=Path, metavar="FILE", help="the orders of the run (default FOLDER/orders.txt)"

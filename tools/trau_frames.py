@@ -1,7 +1,7 @@
-"""What the tools share: TRAU frames and their bits, the search for frames, full rate parameters, A-law, and files.
+"""What the tools share: TRAU frames and their bits, the search for frames, full rate parameters, A-law and mu-law, and files.
 
 Bits are texts of the characters 0 and 1, the first bit of a line first. A period is 20 ms: 40 octets of a line of frames,
-160 octets of a line of A-law.
+160 octets of a line of A-law or mu-law.
 """
 
 from __future__ import annotations
@@ -13,13 +13,12 @@ import re
 import sys
 from dataclasses import dataclass
 from pathlib import Path
-from typing import Iterable, Iterator, NoReturn, Optional, Tuple
+from typing import Iterable, Iterator, NamedTuple, NoReturn, Optional, Tuple
 
 PERIODS_A_SECOND = 50
 FRAME_BITS = 320
 FRAME_OCTETS = 40
 PCM_OCTETS = 160
-IDLE_OCTET = 0xD5
 
 
 class Refusal(Exception):
@@ -263,33 +262,83 @@ def noise(descriptor: Parameters, source: RandomSource) -> Parameters:
     return Parameters(descriptor.ratios, tuple(blocks))
 
 
-# A-law (G.711)
+# A-law and mu-law (G.711)
 
 
-def samples_of(octet: int) -> range:
-    """The samples, of 16 bits, that an A-law octet stands for."""
+class Interval(NamedTuple):
+    """The magnitudes of the samples, of 16 bits, that an octet stands for, the one in their middle, and their sign; the sample
+    -1 - x has the magnitude x."""
+
+    magnitudes: range
+    middle: int
+    negative: bool
+
+    def samples(self) -> range:
+        """The samples."""
+        least, behind = self.magnitudes.start, self.magnitudes.stop
+        return range(-behind, -least) if self.negative else range(least, behind)
+
+    def sample(self) -> int:
+        """The sample that the octet is expanded to."""
+        return -self.middle if self.negative else self.middle
+
+
+def alaw_interval(octet: int) -> Interval:
+    """What an octet of A-law stands for."""
     plain = octet ^ 0x55
-    exponent, mantissa = plain >> 4 & 7, plain & 15
-    if exponent == 0:
-        low, size = 16 * mantissa, 16
-    else:
-        low, size = 16 + mantissa << exponent + 3, 1 << exponent + 3
-    return range(low, low + size) if plain & 0x80 else range(-low - size, -low)
+    segment, step = plain >> 4 & 7, plain & 15
+    low, size = (16 * step, 16) if segment == 0 else (16 + step << segment + 3, 1 << segment + 3)
+    return Interval(range(low, low + size), low + size // 2, not plain & 0x80)
 
 
-def expand(octet: int) -> int:
-    """The sample in the middle of those that an A-law octet stands for."""
-    samples = samples_of(octet)
-    return samples.start + len(samples) // 2
+def mulaw_interval(octet: int) -> Interval:
+    """What an octet of mu-law stands for: the last interval of each sign has all magnitudes above it too."""
+    plain = octet ^ 0xFF
+    segment, step = plain >> 4 & 7, plain & 15
+    low, size = (16 + step << segment + 3) - 132, 1 << segment + 3
+    behind = 32768 if plain & 0x7F == 0x7F else low + size
+    return Interval(range(max(0, low), behind), low + size // 2, bool(plain & 0x80))
 
 
-def octets_by_sample() -> bytes:
-    """The A-law octet of each sample, at the place of the sample modulo 65,536."""
-    octets = bytearray(65536)
-    for octet in range(256):
-        for sample in samples_of(octet):
-            octets[sample % 65536] = octet
-    return bytes(octets)
+class Law(enum.Enum):
+    """The law of a line from or to the exchange; its value is its name."""
+
+    A = "alaw"
+    MU = "mulaw"
+
+    def __str__(self) -> str:
+        return self.value
+
+    def title(self) -> str:
+        """Its name in texts."""
+        return "A-law" if self is Law.A else "mu-law"
+
+    def idle(self) -> int:
+        """The octet of a line on which nothing is said."""
+        return 0xD5 if self is Law.A else 0xFF
+
+    def interval(self, octet: int) -> Interval:
+        """What an octet stands for."""
+        return alaw_interval(octet) if self is Law.A else mulaw_interval(octet)
+
+    def expand(self, octet: int) -> int:
+        """The sample in the middle of those that an octet stands for."""
+        return self.interval(octet).sample()
+
+    def octets_by_sample(self) -> bytes:
+        """The octet of each sample, at the place of the sample modulo 65,536."""
+        octets = bytearray(65536)
+        for octet in range(256):
+            for sample in self.interval(octet).samples():
+                octets[sample % 65536] = octet
+        return bytes(octets)
+
+    def table_to(self, other: Law) -> bytes:
+        """The octet of the other law for each octet of this one, by the sample that it stands for; of the same law each itself."""
+        if other is self:
+            return bytes(range(256))
+        octets = other.octets_by_sample()
+        return bytes(octets[self.expand(octet) % 65536] for octet in range(256))
 
 
 # Files

@@ -29,7 +29,7 @@ class Command:
 
 @dataclass(frozen=True)
 class Option:
-    """An option of `run` or `drill`, with the range of its value, and its value where it isn't given."""
+    """An option of `run`, `drill` or `live`, with the range of its value, and its value where it isn't given."""
 
     name: str
     least: int
@@ -69,12 +69,24 @@ COMMANDS = (
         "draws lines and orders from a number, works them in memory as run does, and tells the report, with sums of what goes"
         " out; it uses no file",
     ),
+    Command(
+        "live",
+        "[OPTIONS]",
+        "has callers on threads of their own post periods, drawn from a number, to calls and work them, and tells sums of what"
+        " goes out; it uses no file",
+    ),
     Command("relay", CALL, "takes C.up, and writes its good speech frames to C.down with the same 260 data bits"),
     Command("decode", CALL, "takes C.up, and writes the A-law of its good speech frames to C.out"),
     Command("encode", CALL, "takes C.pcm, and writes its speech frames to C.down"),
     Command("frames", CALL, "searches C.up for frames at any bit, and tells a line of text for each; it writes no line"),
     Command("split", CALL, "takes the time slot C.pcm, and writes its four channels to the Down lines of calls C to C + 3"),
     Command("merge", CALL, "takes C.up and the Up lines of the next three calls as four channels, and writes the time slot C.out"),
+    Command(
+        "follow",
+        "C W",
+        "takes C.up as a downlink, tells a line of text for each frame that a base station finds on it, and writes to C.down what"
+        " it sends up, asking for frames at W modulo 320, 0 to 316 and a multiple of 4",
+    ),
 )
 
 OPTIONS = (
@@ -91,10 +103,19 @@ DRILL_OPTIONS = (
     Option("--calls", 1, 256, 64, "the calls of the drill"),
 )
 
-OPTIONS_OF = {"run": OPTIONS, "drill": DRILL_OPTIONS}
+LIVE_OPTIONS = (
+    Option("--seed", 0, 4294967295, 1, "the number that periods are drawn from"),
+    Option("--calls", 1, 256, 64, "the calls"),
+    Option("--periods", 1, 1000, 200, "the periods of each call"),
+    Option("--callers", 1, 64, 4, "the callers, each on a thread of its own"),
+    Option("--inbox", 1, 1024, 8, "the posts that may wait at a call"),
+)
+
+OPTIONS_OF = {"run": OPTIONS, "drill": DRILL_OPTIONS, "live": LIVE_OPTIONS}
 
 ORDERS = (
     Order("S open C", "the call begins"),
+    Order("S open C mulaw", "it begins, with mu-law from and to the exchange in place of A-law"),
     Order("S close C", "the call ends"),
     Order("S bridge C D", "frames of the two calls are handed over without decoding"),
     Order("S unbridge C", "they are handed over no more"),
@@ -117,13 +138,13 @@ STATUSES = (
 
 FILES = (
     ("C.up", "from the base station: TRAU frames, 40 octets in a period of 20 ms"),
-    ("C.pcm", "from the exchange: A-law, 160 octets in a period"),
+    ("C.pcm", "from the exchange: A-law or mu-law, 160 octets in a period"),
     ("C.down", "to the base station: TRAU frames"),
-    ("C.out", "to the exchange: A-law"),
+    ("C.out", "to the exchange: A-law or mu-law"),
 )
 
 NOTE_ON_FILES = (
-    "Lines are files of the current folder. C is a call's number, 1 to 1,024, in decimal digits without leading zeros. The"
+    "Lines are files of the current folder. C is a call's number, 1 to 4,096, in decimal digits without leading zeros. The"
     " commands of one call write the same files as run does."
 )
 NOTE_ON_ORDERS = "An order is a line of words with one space between. S is the period at whose start it takes effect."
@@ -207,7 +228,7 @@ def man_page(version: str, date: str) -> str:
         ".SH SYNOPSIS",
     ]
     for number, command in enumerate(COMMANDS):
-        options = "".join(f" [{option.name} N]" for option in OPTIONS_OF.get(command.name, ())) or f" {CALL}"
+        options = "".join(f" [{option.name} N]" for option in OPTIONS_OF.get(command.name, ())) or f" {command.words}"
         orders = " <ORDERS" if command.name == "run" else ""
         lines += [".br"] * (number > 0) + [f".B {NAME} {command.name}{escaped(options + orders)}"]
     lines += [".SH COMMANDS", escaped(NOTE_ON_FILES)]

@@ -11,7 +11,7 @@ from support import DATA, EXAMPLES, InFolder
 import captures
 import lines
 import trau_frames
-from trau_frames import IDLE_OCTET, Sort
+from trau_frames import Law, Sort
 
 HAS_DPKT = importlib.util.find_spec("dpkt") is not None
 CAPTURES = {"gsm": "gsm.pcap", "pcma": "pcma.pcapng", "pcmu": "pcmu.pcap"}
@@ -27,8 +27,8 @@ class WithoutTheLibrary(InFolder):
     def test_mu_law(self):
         # The ends and the middle of the table of G.711, in 16 bits.
         wanted = {0xFF: 0, 0x7F: 0, 0x80: 32124, 0x00: -32124, 0xFE: 8, 0xF0: 120, 0xEF: 132, 0x10: -15996}
-        self.assertEqual({octet: captures.expand_mu_law(octet) for octet in wanted}, wanted)
-        self.assertEqual(len(set(map(captures.expand_mu_law, range(256)))), 255)
+        self.assertEqual({octet: Law.MU.expand(octet) for octet in wanted}, wanted)
+        self.assertEqual(len(set(map(Law.MU.expand, range(256)))), 255)
 
     def test_idle_and_lost_frames(self):
         for octets, sort in ((captures.IDLE_UPLINK, Sort.IDLE), (captures.LOST_UPLINK, Sort.BAD)):
@@ -68,8 +68,20 @@ class Captures(InFolder):
         self.assertEqual(line, octets)
         # Both are of one sound, so their samples are near to one another: a step of the loudest segment is 2048.
         _, other = self.pcap(DATA / "pcmu.pcap")
-        far = max(abs(trau_frames.expand(a) - trau_frames.expand(b)) for a, b in zip(line, other))
+        far = max(abs(Law.A.expand(a) - Law.A.expand(b)) for a, b in zip(line, other))
         self.assertLessEqual(far, 2048)
+
+    def test_pcmu_of_a_mulaw_line(self):
+        octets = b"".join(row[4] for row in fields("pcmu"))
+        _, line = self.pcap(DATA / "pcmu.pcap", "--law", "mulaw")
+        self.assertEqual(line[: len(octets)], octets)
+        self.assertEqual(set(line[len(octets) :]), {0xFF} if len(octets) % 160 else set())
+        self.assertEqual(self.pcap(DATA / "pcmu.pcap")[1][: len(octets)], octets.translate(Law.MU.table_to(Law.A)))
+        pcm, new = self.path("7.pcm", line), self.path("7.pcap")
+        self.assertEqual(self.run_tool(lines.main, "capture", pcm, new, "--law", "mulaw")[::2], (0, ""))
+        said, back = self.pcap(new, "--law", "mulaw")
+        self.assertTrue(said.startswith("pcap pcmu "))
+        self.assertEqual(back, line)
 
     # Captures that a program changed on the way
 
@@ -109,7 +121,7 @@ class Captures(InFolder):
         whole = b"".join(row[4] for row in fields("pcma"))
         place, length = self.places("pcma", 3), self.places("pcma", 5) - self.places("pcma", 3)
         self.assertIn(f"lost {length} paused 0", said)
-        self.assertEqual(line, whole[:place] + bytes([IDLE_OCTET]) * length + whole[place + length :])
+        self.assertEqual(line, whole[:place] + bytes([Law.A.idle()]) * length + whole[place + length :])
 
     def places(self, kind, number):
         """The octet at which a packet begins."""
@@ -171,7 +183,7 @@ class Captures(InFolder):
         self.assertEqual(self.pcap(both, "--stream", "1", "--since", "1")[1], gsm)
         said, line = self.pcap(both, "--stream", "2", "--since", "1")
         self.assertIn(" lead 6 padded 0\n", said)
-        self.assertEqual(line, bytes([IDLE_OCTET]) * 960 + pcmu)
+        self.assertEqual(line, bytes([Law.A.idle()]) * 960 + pcmu)
         words = ["pcap", both, self.folder / "line", "--stream", "1", "--since", "2"]
         self.assert_refused(lines.main, words, "the stream begins 0.12 s before that of --since")
 

@@ -12,7 +12,7 @@ from support import CODEC, DATA, EXAMPLES, InFolder
 
 import lines
 import trau_frames
-from trau_frames import SpeechControl
+from trau_frames import Law, SpeechControl
 
 
 def yields(octets):
@@ -36,15 +36,34 @@ def data_of_uplink(octets):
     return [trau_frames.data_of(each.frame) for each in trau_frames.search(trau_frames.bits_of(octets))]
 
 
-class Alaw(unittest.TestCase):
+class Laws(unittest.TestCase):
     def test_compress(self):
-        octets = trau_frames.octets_by_sample()
+        octets = Law.A.octets_by_sample()
         wanted = (CODEC / "alaw_compress.bin").read_bytes()
         self.assertEqual(bytes(octets[sample % 65536] for sample in range(-32768, 32768)), wanted)
 
+    def test_compress_mulaw(self):
+        octets = Law.MU.octets_by_sample()
+        wanted = (CODEC / "mulaw_compress.bin").read_bytes()
+        self.assertEqual(octets[:32768], wanted)
+        self.assertEqual(octets[:32767:-1], bytes(octet ^ 0x80 for octet in wanted))
+
     def test_expand(self):
-        wanted = [int(line) for line in (CODEC / "alaw_expand.txt").read_text().split()]
-        self.assertEqual([trau_frames.expand(octet) for octet in range(256)], wanted)
+        for law in Law:
+            wanted = [int(line) for line in (CODEC / f"{law}_expand.txt").read_text().split()]
+            self.assertEqual([law.expand(octet) for octet in range(256)], wanted)
+
+    def test_each_octet_comes_back(self):
+        for law in Law:
+            octets = law.octets_by_sample()
+            back = [octet for octet in range(256) if octets[law.expand(octet) % 65536] == octet]
+            # Mu-law has two octets of the sample 0.
+            self.assertEqual(set(range(256)) - set(back), set() if law is Law.A else {0x7F})
+
+    def test_other_law(self):
+        there, back = Law.A.table_to(Law.MU), Law.MU.table_to(Law.A)
+        self.assertEqual(bytes(range(256)), Law.MU.table_to(Law.MU))
+        self.assertEqual((there[0xD5], back[0xFF], back[0x7F], back[0x80]), (0xFE, 0xD5, 0xD5, 0xAA))
 
 
 class Frames(InFolder):
@@ -224,6 +243,46 @@ class Sound(InFolder):
         self.assertEqual(self.lines("pcm", sound, pcm, "--raw"), "pcm periods 2 padded 0\n")
         self.assertEqual(pcm.read_bytes(), line)
 
+    def test_every_octet_of_mulaw(self):
+        line = bytes(range(256)) + 64 * b"\xff"
+        out, sound, pcm = self.path("7.out", line), self.path("7.wav"), self.path("8.pcm")
+        self.lines("sound", out, sound, "--law", "mulaw")
+        samples = struct.unpack_from("<320h", sound.read_bytes(), 44)
+        self.assertEqual(list(samples), [Law.MU.expand(octet) for octet in line])
+        self.lines("pcm", sound, pcm, "--law", "mulaw")
+        self.assertEqual(pcm.read_bytes(), line.replace(b"\x7f", b"\xff"))
+        for option in ("--mulaw", "--raw"):
+            self.lines("sound", out, sound, "--law", "mulaw", option)
+            raw = [option] if option == "--raw" else []
+            self.lines("pcm", sound, pcm, "--law", "mulaw", *raw)
+            self.assertEqual(pcm.read_bytes(), line)
+
+    def test_wav_of_the_other_law(self):
+        line = bytes(range(256)) + 64 * b"\xff"
+        out, sound, pcm = self.path("7.out", line), self.path("7.wav"), self.path("8.pcm")
+        self.lines("sound", out, sound, "--law", "mulaw", "--mulaw")
+        self.assertEqual((len(sound.read_bytes()), sound.read_bytes()[20]), (58 + 320, 7))
+        self.lines("pcm", sound, pcm)
+        self.assertEqual(pcm.read_bytes(), line.translate(Law.MU.table_to(Law.A)))
+        self.lines("sound", out, sound, "--law", "mulaw", "--alaw")
+        self.assertEqual((sound.read_bytes()[20], sound.read_bytes()[58:]), (6, pcm.read_bytes()))
+        self.lines("pcm", sound, pcm, "--law", "mulaw")
+        self.assertEqual(pcm.read_bytes(), sound.read_bytes()[58:].translate(Law.A.table_to(Law.MU)))
+
+    def test_wav_of_mulaw_by_sox(self):
+        # Each octet stays as it is on a line of mu-law; the tone has half of the full scale.
+        content = (DATA / "mulaw.wav").read_bytes()
+        said = self.lines("pcm", DATA / "mulaw.wav", self.path("7.pcm"), "--law", "mulaw")
+        self.assertEqual(said, "pcm periods 2 padded 70\n")
+        self.assertEqual(self.path("7.pcm").read_bytes(), content[-250:] + 70 * b"\xff")
+        loudest = max(abs(Law.MU.expand(octet)) for octet in content[-250:])
+        self.assertAlmostEqual(loudest / 32768, 0.5, delta=0.02)
+
+    def test_the_last_period_of_mulaw(self):
+        said = self.lines("pcm", self.path("7.raw", b"\x00"), self.path("7.pcm"), "--raw", "--law", "mulaw")
+        self.assertEqual(said, "pcm periods 1 padded 159\n")
+        self.assertEqual(self.path("7.pcm").read_bytes(), b"\x00" + 159 * b"\xff")
+
     def test_every_sample(self):
         data = struct.pack("<65536h", *range(-32768, 32768))
         self.path("7.wav", wav(data=data))
@@ -260,7 +319,7 @@ class Sound(InFolder):
             (wav(rate=44100), "has 44100 Hz, channels 1"),
             (wav(channels=2), "-r 8000 -c 1 -b 16 -e signed-integer"),
             (wav(bits=8), "bits 8, format 1; needed is 8000 Hz mono"),
-            (wav(tag=7, bits=8), "format 7"),
+            (wav(tag=7, bits=16), "bits 16, format 7"),
             (wav(tag=3, bits=32), "format 3"),
             (wav(data=b"abc"), "3 octets of data"),
             (wav(data=b""), "holds no samples"),
@@ -268,7 +327,7 @@ class Sound(InFolder):
             (wav()[:40], "no format with data"),
             (b"RIFX" + wav()[4:], "isn't a WAV file"),
             (b"", "isn't a WAV file"),
-            (8000 * b"\xd5", "raw A-law octets are taken with --raw"),
+            (8000 * b"\xd5", "raw octets of a law are taken with --raw"),
         ):
             self.assert_refused(lines.main, ["pcm", self.path("bad.wav", content), new], part)
         self.assert_refused(lines.main, ["pcm", self.path("empty", b""), new, "--raw"], "holds no samples")
@@ -297,6 +356,9 @@ class Sound(InFolder):
     def test_idle(self):
         self.assertEqual(self.lines("idle", "3", self.path("7.pcm")), "idle periods 3\n")
         self.assertEqual(self.path("7.pcm").read_bytes(), 480 * b"\xd5")
+        self.lines("idle", "3", self.path("7.pcm"), "--law", "mulaw")
+        self.assertEqual(self.path("7.pcm").read_bytes(), 480 * b"\xff")
+        self.assert_refused(lines.main, ["idle", "3", self.path("8.pcm"), "--law", "ulaw"], "'ulaw' isn't alaw or mulaw")
         for word in ("0", "-1", "x", "1000001", "٣"):
             self.assert_refused(lines.main, ["idle", word, self.path("8.pcm")], "idle: ")
 

@@ -25,12 +25,12 @@ FAULTS = (
     (b"0 open 1\xc2\xa0", "octet 0xC2 at place 9 is no letter, digit or space"),
     (b"", "an empty line"),
     (b" ", "a space at its start; a space at its end"),
-    (b"0 open 1025", "call 1025: 1 to 1,024"),
-    (b"0 open 0", "call 0: 1 to 1,024"),
+    (b"0 open 4097", "call 4097: 1 to 4,096"),
+    (b"0 open 0", "call 0: 1 to 4,096"),
     (b"0 open 01", "call 01: a leading zero"),
     (b"0 open x", "call 'x': decimal digits alone make a number"),
     (b"0 open +1", "call '+1': decimal digits alone make a number"),
-    (b"0 open 99999999999999999999", "call 99999999999999999999: 1 to 1,024"),
+    (b"0 open 99999999999999999999", "call 99999999999999999999: 1 to 4,096"),
     (b"00 open 1", "stamp 00: a leading zero"),
     (b"4294967295 open 1", "stamp 4294967295: 0 to 4,294,967,294"),
     (b"open 1", "stamp 'open'"),
@@ -38,7 +38,10 @@ FAULTS = (
     (b"0 opne 1", "no order 'opne'; the orders are open, close, bridge, unbridge, level, dtx"),
     (b"0 OPEN 1", "no order 'OPEN'; write open"),
     (b"# calls", "stamp '#'"),
-    (b"0 open", "too few words: S open C"),
+    (b"0 open", "too few words: S open C or S open C mulaw"),
+    (b"0 open 1 alaw", "'alaw': mulaw, or nothing for A-law"),
+    (b"0 open 1 mulaw 2", "too many words: S open C or S open C mulaw"),
+    (b"0 close 1 mulaw", "too many words: S close C"),
     (b"0 bridge 1", "too few words: S bridge C D"),
     (b"0 bridge 1 2 3", "too many words: S bridge C D"),
     (b"0 level 1 32768", "level 32768: 0 to 32,767"),
@@ -47,7 +50,7 @@ FAULTS = (
 )
 
 # Of orders that are made at random.
-FORMS = ("open {}", "close {}", *3 * ("bridge {} {}",), *3 * ("unbridge {}",), "level {} 5")
+FORMS = ("open {}", "open {} mulaw", "close {}", *3 * ("bridge {} {}",), *3 * ("unbridge {}",), "level {} 5")
 
 
 def refusals(report):
@@ -76,12 +79,12 @@ class Orders(InFolder):
                 self.assertIn(part, said[0])
 
     def test_several_faults(self):
-        status, said = self.check(b"5 open 1\n4 open  1025\r\n\n3 open 2\n6 open 3\n")
+        status, said = self.check(b"5 open 1\n4 open  4097\r\n\n3 open 2\n6 open 3\n")
         self.assertEqual(status, 1)
         self.assertEqual(
             said,
             [
-                "line 2: a carriage return at its end; two spaces; call 1025: 1 to 1,024; stamp 4 below that of line 1, 5",
+                "line 2: a carriage return at its end; two spaces; call 4097: 1 to 4,096; stamp 4 below that of line 1, 5",
                 "line 3: an empty line",
                 "line 4: stamp 3 below that of line 1, 5",
                 "orders 5 bad 3 warnings 0",

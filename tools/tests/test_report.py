@@ -15,7 +15,7 @@ import run_lines
 import run_texts
 import trau_frames
 from run_lines import Heard, Sent
-from trau_frames import IDLE_OCTET, PCM_OCTETS, Sort
+from trau_frames import PCM_OCTETS, Law, Sort
 
 
 def lay_run(name, folder):
@@ -40,7 +40,7 @@ class Told(InFolder):
 
 class Text(Told):
     def test_json_and_csv(self):
-        for name in ("mixed", "clean", "harsh"):
+        for name in ("mixed", "clean", "harsh", "mulaw"):
             file = lay_run(name, self.folder / name) / "report.txt"
             read = run_texts.read_report(file)
             whole = json.loads(self.told("text", file, "--json"))
@@ -94,7 +94,7 @@ class Calls(Told):
             for number, value in enumerate(run_lines.heard(call.sorts())):
                 period = call.span.start + number
                 if not any(bridge.start <= period < bridge.end for bridge in spans):
-                    idle = octets[number * PCM_OCTETS : (number + 1) * PCM_OCTETS] == bytes([IDLE_OCTET]) * PCM_OCTETS
+                    idle = octets[number * PCM_OCTETS : (number + 1) * PCM_OCTETS] == bytes([Law.A.idle()]) * PCM_OCTETS
                     seen[value, idle] += 1
         self.assertEqual(seen[Heard.QUIET, False], 0)
         self.assertGreater(seen[Heard.QUIET, True], 0)
@@ -102,7 +102,7 @@ class Calls(Told):
 
     def test_frames_of_the_downlinks(self):
         # The frames stand at their places, and are those that a search at any bit finds.
-        for name in ("mixed", "clean", "harsh"):
+        for name in ("mixed", "clean", "harsh", "mulaw"):
             folder = lay_run(name, self.folder / name)
             read = run_texts.read_report(folder / "report.txt")
             for call in run_lines.read_calls(folder, read).values():

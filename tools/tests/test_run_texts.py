@@ -1,4 +1,4 @@
-"""Tests of run_texts.py: the grammar of orders and of reports, on the texts of three recorded farms and on damaged ones."""
+"""Tests of run_texts.py: the grammar of orders and of reports, on the texts of four recorded farms and on damaged ones."""
 
 import unittest
 from pathlib import Path
@@ -11,6 +11,7 @@ from trau_frames import Refusal
 FARMS = (
     (EXAMPLES / "farm" / "orders.txt", EXAMPLES / "farm" / "wanted" / "report.txt"),
     (TOP / "checks" / "farms" / "clean" / "orders.txt", TOP / "checks" / "farms" / "clean" / "report.txt"),
+    (TOP / "checks" / "farms" / "mulaw" / "orders.txt", TOP / "checks" / "farms" / "mulaw" / "report.txt"),
     (TOP / "checks" / "farms" / "harsh" / "orders.txt", CODEC / "farm-report.txt"),
 )
 NAME = Path("text")
@@ -24,7 +25,7 @@ class Orders(InFolder):
             self.assertEqual([order.number for order in orders], list(range(1, len(orders) + 1)))
 
     def test_ends_of_ranges(self):
-        text = b"0 open 1024\n0 level 1024 32767\n0 level 1 0\n0 dtx 1 off\n4294967294 close 1024"
+        text = b"0 open 4096 mulaw\n0 level 4096 32767\n0 level 1 0\n0 dtx 1 off\n4294967294 close 4096"
         self.assertEqual(len(run_texts.orders_of(NAME, text)), 5)
         self.assertEqual(run_texts.orders_of(NAME, b""), [])
 
@@ -35,7 +36,10 @@ class Orders(InFolder):
             "-1 open 1",
             "4294967295 open 1",
             "0 open 0",
-            "0 open 1025",
+            "0 open 4097",
+            "0 open 1 alaw",
+            "0 open 1 mulaw ",
+            "0 close 1 mulaw",
             "0 open",
             "0 open 1 2",
             "0 bridge 1",
@@ -54,8 +58,8 @@ class Orders(InFolder):
                 run_texts.orders_of(NAME, f"0 open 1\n{text}\n0 open 2".encode("latin-1"))
         with self.assertRaisesRegex(Refusal, "line 2 has a stamp below"):
             run_texts.orders_of(NAME, b"5 open 1\n4 open 2\n")
-        with self.assertRaisesRegex(Refusal, "names call 1025; the calls of one farm are 1 to 1,024"):
-            run_texts.orders_of(NAME, b"5 open 1025\n")
+        with self.assertRaisesRegex(Refusal, "names call 4097; the calls of one farm are 1 to 4,096"):
+            run_texts.orders_of(NAME, b"5 open 4097\n")
 
     def test_limits(self):
         self.assertEqual(len(run_texts.orders_of(NAME, 65536 * b"0 open 1\n")), 65536)

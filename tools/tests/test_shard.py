@@ -35,12 +35,12 @@ class Components(unittest.TestCase):
         self.assertEqual(self.components(), [])
         self.assertEqual(self.components("open 1", "open 2", "level 9 0"), [[1], [2], [9]])
         self.assertEqual(self.components("bridge 1 2", "bridge 3 4", "bridge 4 2", "open 5"), [[1, 2, 3, 4], [5]])
-        self.assertEqual(self.components("bridge 7 7", "bridge 7 1024"), [[7, 1024]])
+        self.assertEqual(self.components("bridge 7 7", "bridge 7 4096"), [[7, 4096]])
 
     def test_chain_of_all_calls(self):
-        lines = [f"bridge {call} {call + 1}" for call in range(1, 1024)]
+        lines = [f"bridge {call} {call + 1}" for call in range(1, 4096)]
         random.Random(1).shuffle(lines)
-        self.assertEqual(self.components(*lines, *lines[:50]), [list(range(1, 1025))])
+        self.assertEqual(self.components(*lines, *lines[:50]), [list(range(1, 4097))])
 
     def test_parts_hold_about_the_same(self):
         pieces = [(periods, frozenset([call])) for call, periods in enumerate((5, 50, 20, 20, 15), 1)]
@@ -77,7 +77,7 @@ class Farms(InFolder):
             (cut / str(number) / "status").write_text(f"{own.status()}\n")
 
     def test_reports_joined(self):
-        for name in ("mixed", "clean", "harsh"):
+        for name in ("mixed", "clean", "harsh", "mulaw"):
             farm = self.lay(name)
             report = run_texts.read_report(farm / "report.txt")
             for parts in (1, 2, 3, 9):
@@ -171,7 +171,7 @@ class Farms(InFolder):
 
     def test_refused_words(self):
         farm = self.lay("mixed")
-        self.path("bad.txt", b"0 open 1\n0 open 1025\n")
+        self.path("bad.txt", b"0 open 1\n0 open 4097\n")
         cut = self.folder / "cut"
 
         def refused(part, *words):
@@ -180,7 +180,7 @@ class Farms(InFolder):
             self.assertEqual([path.name for path in self.folder.iterdir() if path.name.startswith(".")], [])
 
         refused(
-            "names call 1025; the calls of one farm are 1 to 1,024",
+            "names call 4097; the calls of one farm are 1 to 4,096",
             farm,
             cut,
             "--parts",
@@ -189,7 +189,7 @@ class Farms(InFolder):
             self.path("bad.txt"),
         )
         refused("--parts", farm, cut)
-        refused("0 isn't 1 to 1,024", farm, cut, "--parts", 0)
+        refused("0 isn't 1 to 4,096", farm, cut, "--parts", 0)
         refused("251 isn't 1 to 250", farm, cut, "--parts", 2, "--batch", 251)
         refused("No such file", self.folder / "gone", cut, "--parts", 2)
         (farm / "4.out").unlink()

@@ -1,6 +1,7 @@
-"""Tests of timeline.py: its search against the reports of three recorded farms, its shifts against their downlinks, the
+"""Tests of timeline.py: its search against the reports of four recorded farms, its shifts against their downlinks, the
 picture and the page, and what is refused."""
 
+import math
 import re
 import shutil
 import subprocess
@@ -19,6 +20,7 @@ import timeline
 import trau_frames
 from run_lines import Answered, Call, Run
 from run_texts import Bridge, Order, Reply, Span
+from trau_frames import Law
 
 SVG = "{http://www.w3.org/2000/svg}"
 CHROMIUM = shutil.which("chromium")
@@ -59,6 +61,11 @@ class Parts(unittest.TestCase):
         self.assertEqual(len(levels.levels(3 * octets + octets[:9])), 3)
         self.assertLess(levels.level(160 * bytes([0xD5])), -66)
 
+    def test_digital_milliwatt_of_mulaw(self):
+        octets = 20 * bytes([0x1E, 0x0B, 0x0B, 0x1E, 0x9E, 0x8B, 0x8B, 0x9E])
+        self.assertAlmostEqual(levels.level(octets, Law.MU), 0, places=1)
+        self.assertEqual(levels.levels(160 * bytes([0xFF]), Law.MU), [-math.inf])
+
     def test_a_column_shows_each_loss(self):
         values = 100 * [looks.Look.GOOD]
         values[41], values[44], values[46] = looks.Look.MISS, looks.Look.BAD, looks.Look.SID
@@ -78,7 +85,7 @@ class Parts(unittest.TestCase):
 
 class Farms(InFolder):
     def runs(self):
-        for name in ("mixed", "clean", "harsh"):
+        for name in ("mixed", "clean", "harsh", "mulaw"):
             folder = self.folder / name
             folder.mkdir()
             lay(name, folder)
@@ -94,7 +101,12 @@ class Farms(InFolder):
                 counts = " ".join(f"{sort.value} {sorts[sort]}" for sort in trau_frames.Sort)
                 self.assertIn(f"\ncounts {call.number} {counts} made {len(call.made)}\n", report)
             calls[name] = len(run.calls)
-        self.assertEqual(calls, {"mixed": 4, "clean": 4, "harsh": 5})
+        self.assertEqual(calls, {"mixed": 4, "clean": 4, "harsh": 5, "mulaw": 4})
+
+    def test_laws(self):
+        laws = {name: {call.number: call.law for call in run.calls} for name, _, run in self.runs()}
+        self.assertEqual(laws["mulaw"], {1: Law.MU, 3: Law.A, 1025: Law.A, 4096: Law.MU})
+        self.assertEqual({law for name in ("mixed", "clean", "harsh") for law in laws[name].values()}, {Law.A})
 
     def test_shifts_are_those_of_the_downlinks(self):
         # Between the starts of two frames of a downlink there are 320 bits, and two more for each octet of the shift.
@@ -384,7 +396,7 @@ class Pictures(InFolder):
         self.path("report.txt", b"")
         self.refused("isn't a whole report")
         self.refused("isn't 200 to", "--width", "5")
-        for calls in ("0", "1025", "3-2", "x", "1,", ""):
+        for calls in ("0", "4097", "3-2", "x", "1,", ""):
             self.refused("isn't a call A or calls A-B", "--calls", calls)
         self.refused("invalid choice", "--rows", "wide")
         self.refused("--width", "--width", "wide")

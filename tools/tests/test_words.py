@@ -26,11 +26,11 @@ class Documents(unittest.TestCase):
         self.assertEqual(set(pages), {command.name for command in trau_words.COMMANDS})
         readme = (TOP / "README.md").read_text()
         for command in trau_words.COMMANDS:
-            self.assertRegex(readme, rf"\[?`trau {command.name}( C)?`")
+            self.assertRegex(readme, rf"\[?`trau {command.name}( C)?( W)?`")
             shown = re.search(r"^    trau (.*)$", pages[command.name], re.M)[1].split()
             self.assertEqual(shown[0], command.name)
-            if command.words == "C":
-                self.assertEqual(shown[1:], ["C"])
+            if command.words.startswith("C"):
+                self.assertEqual(shown[1:], command.words.split())
                 # Each side that the help names is on the command's page.
                 for side in re.findall(r"C\.(\w+)", command.does):
                     self.assertIn(f"`C.{side}`", pages[command.name])
@@ -106,9 +106,11 @@ class Completion(InFolder):
         self.assertEqual(self.completed("d"), ["drill", "decode"])
         self.assertEqual(self.completed("drill", "--"), ["--workers", "--batch", "--slice", "--periods", "--seed", "--calls"])
         self.assertEqual(self.completed("drill", "--seed", ""), [])
+        self.assertEqual(self.completed("live", "--"), ["--seed", "--calls", "--periods", "--callers", "--inbox"])
         self.assertEqual(self.completed("relay", ""), ["12", "7"])
         self.assertEqual(self.completed("encode", ""), ["8"])
         self.assertEqual(self.completed("frames", "7", ""), [])
+        self.assertEqual(self.completed("follow", "7"), ["7"])
         self.assertEqual(self.completed("what", ""), [])
 
 

@@ -11,6 +11,7 @@ use Rattle.down_framer.specs.Made.{Period, MadeFrame, next_start, latest_start, 
 use Rattle.down_framer.specs.Bridges.{IsHistory}
 use Rattle.down_framer.specs.Places.{Holds}
 use Rattle.down_framer.proofs.Waiting.{bridged_at-late, Phase, phase}
+use Rattle.call_leg.specs.Who.{Who}
 use Rattle.call_leg.specs.Periods.{CallPeriod, pcm_of, bridges_begun, effective_now}
 use Rattle.call_leg.specs.Down.{CallFrame, down_periods, frames_of, is_coded, coded_stretch, down_made}
 use Rattle.call_leg.specs.Out.{plain_with, plain_stretch}
@@ -43,21 +44,22 @@ queue-short past q h w = go (latest_start (down_periods past)) refl
     go (Some s) e = by_phase s e (phase (down_periods past) s h e)
 
 -- before the handing over at most one waits
-pub halfway-short : (c : ℕ) (ts : List CallPeriod) (now : Settings) (up : List ℕ) (d : DownMemory) → Halfway c ts now up None d → length d.waiting ≤ 1
-halfway-short c ts now up d h = subst (λ z. length z ≤ 1) (sym (h.waits.2 ∙ append-nil h.waits.0)) (queue-short ts h.waits.0 h.history h.waits.1)
+pub halfway-short : (who : Who) (ts : List CallPeriod) (now : Settings) (up : List ℕ) (d : DownMemory) → Halfway who ts now up None d → length d.waiting ≤ 1
+halfway-short who ts now up d h = subst (λ z. length z ≤ 1) (sym (h.waits.2 ∙ append-nil h.waits.0)) (queue-short ts h.waits.0 h.history h.waits.1)
 
-pub hand-stands : (c : ℕ) (ts : List CallPeriod) (now : Settings) (up : List ℕ) (x x1 : List ℕ) (d d1 : DownMemory) → Halfway c ts now up None d → x ≡ x1 →
+pub hand-stands : (who : Who) (ts : List CallPeriod) (now : Settings) (up : List ℕ) (x x1 : List ℕ) (d d1 : DownMemory) → Halfway who ts now up None d → x ≡ x1 →
     d1.waiting ≡ d.waiting ++ x ∷ [] →
-    d1.framer ≡ d.framer → d1.align ≡ d.align → d1.coder ≡ d.coder → d1.level ≡ d.level → d1.mode ≡ d.mode → d1.dtxd ≡ d.dtxd → d1.quiet ≡ d.quiet → d1.bridged ≡ d.bridged → d1.sent ≡ d.sent → d1.made ≡ d.made →
-    Halfway c ts now up (Some x1) d1
-hand-stands c ts now up x x1 d d1 h ex eq ef al co lv md ul qt br sn mn = record {
+    d1.law ≡ d.law → d1.framer ≡ d.framer → d1.align ≡ d.align → d1.coder ≡ d.coder → d1.level ≡ d.level → d1.mode ≡ d.mode → d1.dtxd ≡ d.dtxd → d1.quiet ≡ d.quiet → d1.bridged ≡ d.bridged → d1.sent ≡ d.sent → d1.made ≡ d.made →
+    Halfway who ts now up (Some x1) d1
+hand-stands who ts now up x x1 d d1 h ex eq la ef al co lv md ul qt br sn mn = record {
+  law = la ∙ h.law;
   long = h.long;
   history = h.history;
-  places = subst (λ z. Holds (pcm_of ts) (down_made c (frames_of ts)) (320 * length (down_periods ts)) (next_start (frames_of ts)) z) (sym ef) h.places;
+  places = subst (λ z. Holds (pcm_of ts) (down_made who (frames_of ts)) (320 * length (down_periods ts)) (next_start (frames_of ts)) z) (sym ef) h.places;
   waits = (h.waits.0, h.waits.1, eq ∙ ap (λ z. z ++ x ∷ []) (h.waits.2 ∙ append-nil h.waits.0) ∙ ap (λ z. h.waits.0 ++ z ∷ []) ex);
   kept = ap (λ z. z.kept) al ∙ h.kept;
   frozen = ap (λ z. z.frozen) al ∙ h.frozen;
-  coded = subst (CoderStands (coded_stretch c (epoch_now ts now) (frames_of ts))) (sym co) h.coded;
+  coded = subst (CoderStands who.law (coded_stretch who.number (epoch_now ts now) (frames_of ts))) (sym co) h.coded;
   sent = sn ∙ h.sent;
   made = mn ∙ h.made;
   level = lv ∙ h.level;
@@ -118,21 +120,22 @@ plain-new c (t ∷ past) =
 
 -- ---- a bridge starts, and ends
 
-pub begins : (c : ℕ) (ts : List CallPeriod) (now : Settings) (d d1 : DownMemory) → due (down_periods ts) (frames_of ts) ≡ None → Between c ts now d →
+pub begins : (who : Who) (ts : List CallPeriod) (now : Settings) (d d1 : DownMemory) → due (down_periods ts) (frames_of ts) ≡ None → Between who ts now d →
     d1.align.kept ≡ d.align.kept → d1.align.frozen ≡ true → encoder.Stands [] d1.coder.encoder → tx.Stands [] d1.coder.tx → d1.bridged ≡ true →
-    d1.framer ≡ d.framer → d1.waiting ≡ d.waiting → d1.level ≡ d.level → d1.mode ≡ d.mode → d1.dtxd ≡ d.dtxd → d1.sent ≡ 0 → d1.made ≡ d.made → Between c ts (with_bridge now) d1
-begins c ts now d d1 n h ek ez en tx br ef qu lv md ul sn mn = record {
+    d1.law ≡ d.law → d1.framer ≡ d.framer → d1.waiting ≡ d.waiting → d1.level ≡ d.level → d1.mode ≡ d.mode → d1.dtxd ≡ d.dtxd → d1.sent ≡ 0 → d1.made ≡ d.made → Between who ts (with_bridge now) d1
+begins who ts now d d1 n h ek ez en tx br la ef qu lv md ul sn mn = record {
+  law = la ∙ h.law;
   long = h.long;
   history = h.history;
   ahead = h.ahead;
   come = h.come;
   line = h.line;
-  places = subst (λ z. Holds (pcm_of ts) (down_made c (frames_of ts)) (320 * length (down_periods ts)) (next_start (frames_of ts)) z) (sym ef) h.places;
+  places = subst (λ z. Holds (pcm_of ts) (down_made who (frames_of ts)) (320 * length (down_periods ts)) (next_start (frames_of ts)) z) (sym ef) h.places;
   waits = subst (Waits ts (frames_of ts)) (sym qu) h.waits;
   kept = ek ∙ h.kept;
   frozen = ez;
-  coded = subst (λ z. CoderStands z d1.coder) (sym (coded-new c ts)) (record { encoder = en; tx = tx });
-  sent = sn ∙ sym (ap in_u32 (carried-new c ts));
+  coded = subst (λ z. CoderStands who.law z d1.coder) (sym (coded-new who.number ts)) (record { encoder = en; tx = tx });
+  sent = sn ∙ sym (ap in_u32 (carried-new who.number ts));
   made = mn ∙ h.made;
   level = lv ∙ h.level;
   mode = md ∙ h.mode;
@@ -142,20 +145,21 @@ begins c ts now d d1 n h ek ez en tx br ef qu lv md ul sn mn = record {
   goes_on = λ e. refl;
 }
 
-pub ends : (c : ℕ) (ts : List CallPeriod) (now : Settings) (d d1 : DownMemory) → now.bridged ≡ true → Between c ts now d →
+pub ends : (who : Who) (ts : List CallPeriod) (now : Settings) (d d1 : DownMemory) → now.bridged ≡ true → Between who ts now d →
     d1.align.kept ≡ d.align.kept → d1.align.frozen ≡ (d.align.frozen && (false || not (length d.waiting == 0))) → d1.bridged ≡ false →
-    d1.framer ≡ d.framer → d1.waiting ≡ d.waiting → d1.coder ≡ d.coder → d1.level ≡ d.level → d1.mode ≡ d.mode → d1.dtxd ≡ d.dtxd → d1.sent ≡ d.sent → d1.made ≡ d.made → Between c ts (without_bridge now) d1
-ends c ts now d d1 b h ek ez br ef qu co lv md ul sn mn = record {
+    d1.law ≡ d.law → d1.framer ≡ d.framer → d1.waiting ≡ d.waiting → d1.coder ≡ d.coder → d1.level ≡ d.level → d1.mode ≡ d.mode → d1.dtxd ≡ d.dtxd → d1.sent ≡ d.sent → d1.made ≡ d.made → Between who ts (without_bridge now) d1
+ends who ts now d d1 b h ek ez br la ef qu co lv md ul sn mn = record {
+  law = la ∙ h.law;
   long = h.long;
   history = h.history;
   ahead = h.ahead;
   come = h.come;
   line = h.line;
-  places = subst (λ z. Holds (pcm_of ts) (down_made c (frames_of ts)) (320 * length (down_periods ts)) (next_start (frames_of ts)) z) (sym ef) h.places;
+  places = subst (λ z. Holds (pcm_of ts) (down_made who (frames_of ts)) (320 * length (down_periods ts)) (next_start (frames_of ts)) z) (sym ef) h.places;
   waits = subst (Waits ts (frames_of ts)) (sym qu) h.waits;
   kept = ek ∙ h.kept;
   frozen = ez ∙ ap (λ z. z && not (length d.waiting == 0)) (h.frozen ∙ ap (λ z. z || is_some (due (down_periods ts) (frames_of ts))) b) ∙ waits-some ts (frames_of ts) d.waiting h.waits;
-  coded = subst (CoderStands (coded_stretch c (epoch_now ts now) (frames_of ts))) (sym co) h.coded;
+  coded = subst (CoderStands who.law (coded_stretch who.number (epoch_now ts now) (frames_of ts))) (sym co) h.coded;
   sent = sn ∙ h.sent;
   made = mn ∙ h.made;
   level = lv ∙ h.level;
@@ -166,5 +170,5 @@ ends c ts now d d1 b h ek ez br ef qu co lv md ul sn mn = record {
   goes_on = λ e. absurd (true≢false (sym e));
 }
 
-pub drains : (c : ℕ) (ts : List CallPeriod) (now : Settings) (d : DownMemory) → Between c ts now d → (not d.bridged && not (length d.waiting == 0)) ≡ is_draining ts now
-drains c ts now d h = ap (λ z. not z && not (length d.waiting == 0)) h.bridged ∙ ap (λ z. not now.bridged && z) (waits-some ts (frames_of ts) d.waiting h.waits)
+pub drains : (who : Who) (ts : List CallPeriod) (now : Settings) (d : DownMemory) → Between who ts now d → (not d.bridged && not (length d.waiting == 0)) ≡ is_draining ts now
+drains who ts now d h = ap (λ z. not z && not (length d.waiting == 0)) h.bridged ∙ ap (λ z. not now.bridged && z) (waits-some ts (frames_of ts) d.waiting h.waits)

@@ -23,10 +23,13 @@ use Rattle.down_framer.specs.Memory as framer
 use Rattle.down_framer.proofs.Calls.{put-holds, frame-holds, take-holds}
 use Rattle.down_framer.proofs.Timing.{IsShift-shift_due}
 use Rattle.down_framer.proofs.Waiting.{none_made, one_made}
+use Rattle.trau_alaw.specs.declared.Law.{Law}
+use Rattle.trau_alaw.specs.Period.{expanded}
+use Rattle.call_leg.specs.Who.{Who}
 use Rattle.call_leg.specs.Uplink.{handed_fields}
 use Rattle.call_leg.specs.Periods.{CallPeriod, pcm_of, quiet_now, handed_in, dtx_in, dtx_now, level_now}
 use Rattle.call_leg.specs.Settings.{Settings, later, period_with}
-use Rattle.call_leg.specs.Down.{CallFrame, down_period, down_periods, frames_of, coded_stretch, expanded, samples_of, coded_as, coded_after, coded_frames, speech, frame_now, down_now}
+use Rattle.call_leg.specs.Down.{CallFrame, down_period, down_periods, frames_of, coded_stretch, samples_of, coded_as, coded_after, coded_frames, speech, frame_now, down_now}
 use Rattle.call_leg.specs.Waiting.{bits_in}
 use Rattle.call_leg.specs.Memory.{CoderMemory, home_coder, CoderStands, DownMemory, LegMemory}
 use Rattle.call_leg.specs.Places.{Halfway, Between}
@@ -49,17 +52,18 @@ one_more q x l =
     let z : length (q ++ x ∷ []) - 2 ≡ 0 = omega arith in
     ap (λ k. drop k (q ++ x ∷ [])) z
 
-pub handing-stands : (call : ℕ) (ts : List CallPeriod) (now : Settings) (up : List ℕ) (e : EffectiveFields) (m : LegMemory) → Midway call ts now up None m →
-    Midway call ts now up (Some (bits260 (handed_fields e))) (with_down m (after_handing m.down e))
-handing-stands call ts now up e m h =
+pub handing-stands : (who : Who) (ts : List CallPeriod) (now : Settings) (up : List ℕ) (e : EffectiveFields) (m : LegMemory) → Midway who ts now up None m →
+    Midway who ts now up (Some (bits260 (handed_fields e))) (with_down m (after_handing m.down e))
+handing-stands who ts now up e m h =
     let x = bits260 (handed_fields e) in
     record {
+      law = h.law;
       search = h.search;
       rx = h.rx;
       decoder = h.decoder;
       counts = h.counts;
-      down = hand-stands call ts now up x x m.down (after_handing m.down e) h.down refl (one_more m.down.waiting x (halfway-short call ts now up m.down h.down))
-          refl refl refl refl refl refl refl refl refl refl;
+      down = hand-stands who ts now up x x m.down (after_handing m.down e) h.down refl (one_more m.down.waiting x (halfway-short who ts now up m.down h.down))
+          refl refl refl refl refl refl refl refl refl refl refl;
     }
 
 -- ---- the coder
@@ -67,32 +71,32 @@ handing-stands call ts now up e m h =
 pub home_tx-stands : tx.Stands [] tx.home_memory
 home_tx-stands = record { run = refl; elapsed = refl; hangs = λ l. absurd (omega arith); sid = tt; recent = refl }
 
-home-stands : CoderStands [] home_coder
-home-stands = record { encoder = encoding.home-stands; tx = home_tx-stands }
+home-stands : (law : Law) → CoderStands law [] home_coder
+home-stands law = record { encoder = encoding.home-stands; tx = home_tx-stands }
 
-own-stands : (call : ℕ) (f : CallFrame) (fs : List CallFrame) (m : CoderMemory) (held : List ℕ) (quiet : Bool) (level : ℤ) (on : Bool) → f.carries ≡ None →
-    quiet ≡ quiet_now call f.load → level ≡ level_now f.load → on ≡ dtx_now f.load → take 160 held ≡ take 160 (drop f.start (pcm_of f.load)) →
-    CoderStands (coded_stretch call f.epoch fs) m →
-    CoderStands (coded_stretch call f.epoch (f ∷ fs)) (own_next m held quiet level on).1 × ((own_next m held quiet level on).0 ≡ frame_now call (f ∷ fs))
-own-stands call f fs m held true level on e eq el eo et h =
-    (subst (λ z. CoderStands z home_coder) (sym (stretch-quiet call f.epoch f fs (sym eq))) home-stands, sym (frame-quiet call f fs e (sym eq)))
-own-stands call f fs m held false level on e eq el eo et h =
-    let before = coded_stretch call f.epoch fs in
-    let rest = map samples_of before in
-    let x = expanded (take 160 held) in
-    let se : x ≡ samples_of f = ap expanded et in
+own-stands : (who : Who) (f : CallFrame) (fs : List CallFrame) (m : CoderMemory) (held : List ℕ) (quiet : Bool) (level : ℤ) (on : Bool) → f.carries ≡ None →
+    quiet ≡ quiet_now who.number f.load → level ≡ level_now f.load → on ≡ dtx_now f.load → take 160 held ≡ take 160 (drop f.start (pcm_of f.load)) →
+    CoderStands who.law (coded_stretch who.number f.epoch fs) m →
+    CoderStands who.law (coded_stretch who.number f.epoch (f ∷ fs)) (own_next who.law m held quiet level on).1 × ((own_next who.law m held quiet level on).0 ≡ frame_now who (f ∷ fs))
+own-stands who f fs m held true level on e eq el eo et h =
+    (subst (λ z. CoderStands who.law z home_coder) (sym (stretch-quiet who.number f.epoch f fs (sym eq))) (home-stands who.law), sym (frame-quiet who f fs e (sym eq)))
+own-stands who f fs m held false level on e eq el eo et h =
+    let before = coded_stretch who.number f.epoch fs in
+    let rest = map (samples_of who.law) before in
+    let x = expanded who.law (take 160 held) in
+    let se : x ≡ samples_of who.law f = ap (expanded who.law) et in
     let coded = encoder.encoded_frame m.encoder x in
     let enc = encoding.frame-stands x rest m.encoder h.encoder in
     let c : Coded = coded_as coded.0 level on in
-    let one : c ≡ coded_after f before =
-    ap (λ z. coded_as z level on) (enc.1 ∙ ap (λ y. encoding_of y rest) se) ∙ ap (λ v. coded_as (encoding_of (samples_of f) rest) v on) el
-    ∙ ap (λ b. coded_as (encoding_of (samples_of f) rest) (level_now f.load) b) eo in
-    let sent = step-stands c (coded_frames before) m.tx h.tx in (
-      subst (λ z. CoderStands z (own_next m held false level on).1) (sym (stretch-coded call f fs e (sym eq))) (record {
+    let one : c ≡ coded_after who.law f before =
+    ap (λ z. coded_as z level on) (enc.1 ∙ ap (λ y. encoding_of y rest) se) ∙ ap (λ v. coded_as (encoding_of (samples_of who.law f) rest) v on) el
+    ∙ ap (λ b. coded_as (encoding_of (samples_of who.law f) rest) (level_now f.load) b) eo in
+    let sent = step-stands c (coded_frames who.law before) m.tx h.tx in (
+      subst (λ z. CoderStands who.law z (own_next who.law m held false level on).1) (sym (stretch-coded who.number f fs e (sym eq))) (record {
         encoder = subst (λ y. encoder.Stands (y ∷ rest) coded.1) se enc.0;
-        tx = subst (λ z. tx.Stands (z ∷ coded_frames before) (tx.stepped m.tx c).1) one sent.0;
+        tx = subst (λ z. tx.Stands (z ∷ coded_frames who.law before) (tx.stepped m.tx c).1) one sent.0;
       }),
-      ap speech (sent.1 ∙ ap (λ z. sent_of z (coded_frames before)) one) ∙ sym (frame-coded call f fs e (sym eq)),
+      ap speech (sent.1 ∙ ap (λ z. sent_of z (coded_frames who.law before)) one) ∙ sym (frame-coded who f fs e (sym eq)),
     )
 
 -- what a frame carries, by the one that waits longest
@@ -104,16 +108,16 @@ one_carried : (ts : List CallPeriod) (o : Option ℕ) (x : List ℕ) → Some x 
 one_carried ts None x e = cc
 one_carried ts (Some h) x e = (h, refl, ap (λ o. unwrap_or o []) e)
 
-next-stands : (call : ℕ) (f : CallFrame) (fs : List CallFrame) (q : List (List ℕ)) (m : CoderMemory) (held : List ℕ) (quiet : Bool) (level : ℤ) (on : Bool) →
+next-stands : (who : Who) (f : CallFrame) (fs : List CallFrame) (q : List (List ℕ)) (m : CoderMemory) (held : List ℕ) (quiet : Bool) (level : ℤ) (on : Bool) →
     slice_get q 0 ≡ bits_in f.load f.carries →
-    quiet ≡ quiet_now call f.load → level ≡ level_now f.load → on ≡ dtx_now f.load → take 160 held ≡ take 160 (drop f.start (pcm_of f.load)) →
-    CoderStands (coded_stretch call f.epoch fs) m →
-    CoderStands (coded_stretch call f.epoch (f ∷ fs)) (next_by q m held quiet level on).1 × ((next_by q m held quiet level on).0 ≡ frame_now call (f ∷ fs))
-next-stands call f fs [] m held quiet level on e eq el eo et h = own-stands call f fs m held quiet level on (none_carried f.load f.carries e) eq el eo et h
-next-stands call f fs (x ∷ more) m held quiet level on e eq el eo et h =
+    quiet ≡ quiet_now who.number f.load → level ≡ level_now f.load → on ≡ dtx_now f.load → take 160 held ≡ take 160 (drop f.start (pcm_of f.load)) →
+    CoderStands who.law (coded_stretch who.number f.epoch fs) m →
+    CoderStands who.law (coded_stretch who.number f.epoch (f ∷ fs)) (next_by who.law q m held quiet level on).1 × ((next_by who.law q m held quiet level on).0 ≡ frame_now who (f ∷ fs))
+next-stands who f fs [] m held quiet level on e eq el eo et h = own-stands who f fs m held quiet level on (none_carried f.load f.carries e) eq el eo et h
+next-stands who f fs (x ∷ more) m held quiet level on e eq el eo et h =
     let k = one_carried f.load f.carries x e in (
-      subst (λ z. CoderStands z home_coder) (sym (stretch-carries call f.epoch k.0 f fs k.1)) home-stands,
-      ap (λ b. frame.Speech b true) k.2 ∙ sym (frame-carries call k.0 f fs k.1),
+      subst (λ z. CoderStands who.law z home_coder) (sym (stretch-carries who.number f.epoch k.0 f fs k.1)) (home-stands who.law),
+      ap (λ b. frame.Speech b true) k.2 ∙ sym (frame-carries who k.0 f fs k.1),
     )
 
 -- ---- the shifts
@@ -136,63 +140,65 @@ thawed-frozen m bridged q = go m.frozen (bridged || not (length q == 0)) refl
 
 -- ---- frames are made
 
-made-inside : (call : ℕ) (t : CallPeriod) (past : List CallPeriod) (fs : List CallFrame) (d : DownMemory) → 160 ≤ length d.framer.held → Inside call t past fs d →
-    Inside call t past (next t past fs ∷ fs) (frame_made d)
+made-inside : (who : Who) (t : CallPeriod) (past : List CallPeriod) (fs : List CallFrame) (d : DownMemory) → 160 ≤ length d.framer.held → Inside who t past fs d →
+    Inside who t past (next t past fs ∷ fs) (frame_made d)
 unfolding frame_made
-made-inside call t past fs d r h =
+made-inside who t past fs d r h =
     let f = next t past fs in
     let on = dtx_in d.mode d.dtxd in
-    let made = next_by d.waiting d.coder d.framer.held d.quiet d.level on in
+    let made = next_by d.law d.waiting d.coder d.framer.held d.quiet d.level on in
     let bits = frames.down_bits made.0 in
     let adopted = align.adopted d.align in
     let es = adopted-shift d.align in
-    let legal : IsShift adopted.0 = subst IsShift (sym (es ∙ shift_is call t past fs d h r)) (IsShift-shift_due (down_periods (t ∷ past)) fs) in
-    let fr = next-stands call f fs d.waiting d.coder d.framer.held d.quiet d.level on (waits-first (t ∷ past) fs d.waiting h.waits) h.quiet h.level
+    let legal : IsShift adopted.0 = subst IsShift (sym (es ∙ shift_is who t past fs d h r)) (IsShift-shift_due (down_periods (t ∷ past)) fs) in
+    let sent = next-stands who f fs d.waiting d.coder d.framer.held d.quiet d.level on (waits-first (t ∷ past) fs d.waiting h.waits) h.quiet h.level
     (ap (λ m. dtx_in m d.dtxd) h.mode ∙ ap (λ u. dtx_in t.mode u) h.dtxd) (ap (take 160) h.places.held)
-    (subst (λ e. CoderStands (coded_stretch call e fs) d.coder) (sym (begun-same (t ∷ past))) h.coded) in
-    inside-next call t past fs d _ bits adopted.0 h r (length-down_bits made.0) (ap frames.down_bits fr.1) legal es refl fr.0
+    (subst (λ e. CoderStands who.law (coded_stretch who.number e fs) d.coder) (sym (begun-same (t ∷ past))) h.coded) in
+    let fr = subst (λ (l : Law). let n = next_by l d.waiting d.coder d.framer.held d.quiet d.level on in CoderStands who.law (coded_stretch who.number f.epoch (f ∷ fs)) n.1 × (n.0 ≡ frame_now who (f ∷ fs))) (sym h.law) sent in
+    inside-next who t past fs d _ bits adopted.0 h r (length-down_bits made.0) (ap frames.down_bits fr.1) legal es refl fr.0
     (thawed-kept adopted.1 d.bridged (drop 1 d.waiting) ∙ adopted-kept d.align)
     (thawed-frozen adopted.1 d.bridged (drop 1 d.waiting) ∙ ap (λ z. z && (d.bridged || not (length (drop 1 d.waiting) == 0))) (adopted-frozen d.align))
-    (λ pcm line out start l p. frame-holds d.framer bits adopted.0 pcm line out start r l p) refl refl refl refl refl refl refl
+    (λ pcm line out start l p. frame-holds d.framer bits adopted.0 pcm line out start r l p) refl refl refl refl refl refl refl refl
 
-tried-inside : (call : ℕ) (t : CallPeriod) (past : List CallPeriod) (fs : List CallFrame) (d : DownMemory) → Inside call t past fs d →
-    Inside call t past (grown (down_period t past) (down_periods past) fs) (frame_tried d)
-tried-inside call t past fs d h =
+tried-inside : (who : Who) (t : CallPeriod) (past : List CallPeriod) (fs : List CallFrame) (d : DownMemory) → Inside who t past fs d →
+    Inside who t past (grown (down_period t past) (down_periods past) fs) (frame_tried d)
+tried-inside who t past fs d h =
     let p = down_period t past in
     let ps = down_periods past in
     elim (cases_lt (length d.framer.held) 160) [
-      | inl l ↦ subst (λ gs. Inside call t past gs (frame_tried d)) (sym (none_made p ps fs (not_come call t past fs d h l)))
-          (subst (Inside call t past fs) (sym (cond-false (nat_le 160 (length d.framer.held)) (frame_made d) d (lt-leb _ _ l))) h)
-      | inr r ↦ subst (λ gs. Inside call t past gs (frame_tried d)) (sym (one_made p ps fs (come call t past fs d h r)))
-          (subst (Inside call t past (next t past fs ∷ fs)) (sym (cond-true (nat_le 160 (length d.framer.held)) (frame_made d) d (le-leb _ _ r))) (made-inside call t past fs d r h))
+      | inl l ↦ subst (λ gs. Inside who t past gs (frame_tried d)) (sym (none_made p ps fs (not_come who t past fs d h l)))
+          (subst (Inside who t past fs) (sym (cond-false (nat_le 160 (length d.framer.held)) (frame_made d) d (lt-leb _ _ l))) h)
+      | inr r ↦ subst (λ gs. Inside who t past gs (frame_tried d)) (sym (one_made p ps fs (come who t past fs d h r)))
+          (subst (Inside who t past (next t past fs ∷ fs)) (sym (cond-true (nat_le 160 (length d.framer.held)) (frame_made d) d (le-leb _ _ r))) (made-inside who t past fs d r h))
     ]
 
 -- ---- the downlink half
 
-pub half-stands : (call : ℕ) (ts : List CallPeriod) (now : Settings) (up pcm : List ℕ) (handed : Option (List ℕ)) (d : DownMemory) → length pcm ≡ 160 → is_some handed ≡ now.bridged →
-    Halfway call ts now up handed d → Between call (period_with now up pcm handed ∷ ts) (later now) (down_worked d pcm).1
-    × ((down_worked d pcm).0 ≡ down_now call (period_with now up pcm handed ∷ ts))
+pub half-stands : (who : Who) (ts : List CallPeriod) (now : Settings) (up pcm : List ℕ) (handed : Option (List ℕ)) (d : DownMemory) → length pcm ≡ 160 → is_some handed ≡ now.bridged →
+    Halfway who ts now up handed d → Between who (period_with now up pcm handed ∷ ts) (later now) (down_worked d pcm).1
+    × ((down_worked d pcm).0 ≡ down_now who (period_with now up pcm handed ∷ ts))
 unfolding down_worked
-half-stands call ts now up pcm handed d l b h =
+half-stands who ts now up pcm handed d l b h =
     let t : CallPeriod = period_with now up pcm handed in
     let put = with_framer d (framer.after_put d.framer pcm) in
-    let i0 = enter call ts now up handed pcm d put l b h (λ pcm0 line out start p. put-holds d.framer pcm pcm0 line out start l p) refl refl refl refl refl refl refl refl refl refl in
-    let i1 = tried-inside call t ts (frames_of ts) put i0 in
-    let i2 : Inside call t ts (frames_of (t ∷ ts)) (frame_tried (frame_tried put)) = tried-inside call t ts (grown (down_period t ts) (down_periods ts) (frames_of ts)) (frame_tried put) i1 in
+    let i0 = enter who ts now up handed pcm d put l b h (λ pcm0 line out start p. put-holds d.framer pcm pcm0 line out start l p) refl refl refl refl refl refl refl refl refl refl refl in
+    let i1 = tried-inside who t ts (frames_of ts) put i0 in
+    let i2 : Inside who t ts (frames_of (t ∷ ts)) (frame_tried (frame_tried put)) = tried-inside who t ts (grown (down_period t ts) (down_periods ts) (frames_of ts)) (frame_tried put) i1 in
     let made = frame_tried (frame_tried put) in (
-      leave call ts now up handed pcm d made b h i2 _ (λ pcm0 line out start p. take-holds made.framer pcm0 line out start p) refl refl refl refl refl refl refl refl refl,
+      leave who ts now up handed pcm d made b h i2 _ (λ pcm0 line out start p. take-holds made.framer pcm0 line out start p) refl refl refl refl refl refl refl refl refl refl,
       ap (take 320) i2.places.stored,
     )
 
-pub down-stands : (call : ℕ) (ts : List CallPeriod) (now : Settings) (up pcm : List ℕ) (handed : Option (List ℕ)) (m : LegMemory) → length pcm ≡ 160 → is_some handed ≡ now.bridged →
-    Midway call ts now up handed m → Stands call (period_with now up pcm handed ∷ ts) (later now) (with_down m (down_worked m.down pcm).1)
-    × ((down_worked m.down pcm).0 ≡ down_now call (period_with now up pcm handed ∷ ts))
-down-stands call ts now up pcm handed m l b h =
-    let half = half-stands call ts now up pcm handed m.down l b h.down in (
+pub down-stands : (who : Who) (ts : List CallPeriod) (now : Settings) (up pcm : List ℕ) (handed : Option (List ℕ)) (m : LegMemory) → length pcm ≡ 160 → is_some handed ≡ now.bridged →
+    Midway who ts now up handed m → Stands who (period_with now up pcm handed ∷ ts) (later now) (with_down m (down_worked m.down pcm).1)
+    × ((down_worked m.down pcm).0 ≡ down_now who (period_with now up pcm handed ∷ ts))
+down-stands who ts now up pcm handed m l b h =
+    let half = half-stands who ts now up pcm handed m.down l b h.down in (
       record {
+        law = h.law;
         search = h.search;
         rx = h.rx;
-        decoder = subst (λ z. decoder.Stands z m.decoder) (plain-more call ts now up pcm handed b) h.decoder;
+        decoder = subst (λ z. decoder.Stands z m.decoder) (plain-more who.number ts now up pcm handed b) h.decoder;
         counts = h.counts;
         down = half.0;
       },

@@ -1,5 +1,4 @@
 pub mod Inside
-pub mod Mapping
 pub mod Shifts
 pub mod Queue
 pub mod Enter

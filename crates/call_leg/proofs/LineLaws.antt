@@ -5,9 +5,14 @@ use Rattle.std.specs.List.{range_with_len, flat_map}
 use Rattle.std.proofs.lemmas.Bool.{cond_both}
 use Rattle.std.proofs.lemmas.List.{length-replicate, length-map}
 use Rattle.std.proofs.lemmas.List.Elements.{All-nil, All-cons, All-head, All-tail, All-replicate, All-append, All-map, All-take, All-drop}
-use Rattle.trau_alaw.specs.Alaw.{alaw}
-use Rattle.trau_alaw.specs.Companding.{octet_of}
-use Rattle.trau_alaw.proofs.Octets.{octet_of-only, parts}
+use Rattle.trau_alaw.specs.declared.Law.{Law}
+use Rattle.trau_alaw.specs.declared.Law.TheVariants.{A, Mu}
+use Rattle.trau_alaw.specs.Laws.{companding, idle_of}
+use Rattle.trau_alaw.specs.Period.{compressed}
+use Rattle.trau_alaw.specs.Companding.{PartsWords, octet_of}
+use Rattle.trau_alaw.proofs.Octets as a
+use Rattle.trau_alaw.proofs.MuOctets as mu
+use Rattle.trau_alaw.proofs.Octets.{octet_of-only}
 use Rattle.trau_bits.specs.Bits.{AreBits}
 use Rattle.trau_params.specs.Fields.{Fields}
 use Rattle.trau_params.specs.Widths.{larc_widths, block_widths}
@@ -23,39 +28,48 @@ use Rattle.fr_decoder.proofs.Frames.{length-samples_of, samples-fit}
 use Rattle.tx_dtx.specs.Sent.{sent_of}
 use Rattle.down_framer.specs.Made.{next_start, next_frame, grown, frame_on_line}
 use Rattle.down_framer.proofs.Store.{made-far}
+use Rattle.call_leg.specs.Who.{Who}
 use Rattle.call_leg.specs.Periods.{CallPeriod, quiet_now, handed_in, bridges_begun}
-use Rattle.call_leg.specs.Out.{compressed, plain_stretch, decoded_octets, out_of}
+use Rattle.call_leg.specs.Out.{plain_stretch, decoded_octets, out_of}
 use Rattle.call_leg.specs.Down.{CallFrame, down_period, down_periods, frames_of, coded_stretch, coded_after, coded_frames, speech, frame_now, bits_now, down_made, down_now}
 
 -- ---- lengths
 
-length-decoded_octets : (fs : List Fields) → length (decoded_octets fs) ≡ 160
+pub length-decoded_octets : (law : Law) (fs : List Fields) → length (decoded_octets law fs) ≡ 160
 unfolding compressed
-length-decoded_octets [] = length-replicate {A = ℕ} 160 213
-length-decoded_octets (f ∷ past) = length-map (samples_of f past) (octet_of alaw) ∙ length-samples_of f past
+length-decoded_octets law [] = length-replicate {A = ℕ} 160 (idle_of law)
+length-decoded_octets law (f ∷ past) = length-map (samples_of f past) (octet_of (companding law)) ∙ length-samples_of f past
 
-pub length-out_of : (call : ℕ) (ts : List CallPeriod) → length (out_of call ts) ≡ 160
-length-out_of call ts = length-decoded_octets (plain_stretch call (bridges_begun ts) ts)
+pub length-out_of : (who : Who) (ts : List CallPeriod) → length (out_of who ts) ≡ 160
+length-out_of who ts = length-decoded_octets who.law (plain_stretch who.number (bridges_begun ts) ts)
 
-pub length-down_now : (call : ℕ) (t : CallPeriod) (past : List CallPeriod) → length (down_now call (t ∷ past)) ≡ 320
-length-down_now call t past =
-    let line = down_made call (frames_of (t ∷ past)) in
-    let far : 320 * length (down_periods (t ∷ past)) < length line = made-far (bits_now call) (λ fs. length-down_bits (frame_now call fs)) (down_periods (t ∷ past)) in
+pub length-down_now : (who : Who) (t : CallPeriod) (past : List CallPeriod) → length (down_now who (t ∷ past)) ≡ 320
+length-down_now who t past =
+    let line = down_made who (frames_of (t ∷ past)) in
+    let far : 320 * length (down_periods (t ∷ past)) < length line = made-far (bits_now who) (λ fs. length-down_bits (frame_now who fs)) (down_periods (t ∷ past)) in
     let rest = length-drop (320 * length (down_periods past)) line in
     length-take 320 (drop (320 * length (down_periods past)) line) ∙ omega arith
 
 -- ---- octets
 
-octet-is : (x : ℤ) → FitsSigned w16 x → octet_of alaw x < 256
-octet-is x f = let p = parts x f in subst (λ n. n < 256) (octet_of-only alaw x p.0 p.1) p.1.is_octet
+idle-is : (law : Law) → idle_of law < 256
+idle-is A = omega arith
+idle-is Mu = omega arith
 
-decoded-octets : (fs : List Fields) → All (λ n. n < 256) (decoded_octets fs)
+parts : (law : Law) → PartsWords (companding law)
+parts A = a.parts
+parts Mu = mu.parts
+
+octet-is : (law : Law) (x : ℤ) → FitsSigned w16 x → octet_of (companding law) x < 256
+octet-is law x f = let p = parts law x f in subst (λ n. n < 256) (octet_of-only (companding law) x p.0 p.1) p.1.is_octet
+
+decoded-octets : (law : Law) (fs : List Fields) → All (λ n. n < 256) (decoded_octets law fs)
 unfolding compressed
-decoded-octets [] = All-replicate (λ n. n < 256) 160 213 (omega arith)
-decoded-octets (f ∷ past) = All-map (λ n. n < 256) (octet_of alaw) (samples_of f past) (λ k d l. octet-is _ (samples-fit f past k d l))
+decoded-octets law [] = All-replicate (λ n. n < 256) 160 (idle_of law) (idle-is law)
+decoded-octets law (f ∷ past) = All-map (λ n. n < 256) (octet_of (companding law)) (samples_of f past) (λ k d l. octet-is law _ (samples-fit f past k d l))
 
-pub out_of-octets : (call : ℕ) (ts : List CallPeriod) → All (λ n. n < 256) (out_of call ts)
-out_of-octets call ts = decoded-octets (plain_stretch call (bridges_begun ts) ts)
+pub out_of-octets : (who : Who) (ts : List CallPeriod) → All (λ n. n < 256) (out_of who ts)
+out_of-octets who ts = decoded-octets who.law (plain_stretch who.number (bridges_begun ts) ts)
 
 -- ---- bits
 
@@ -115,28 +129,28 @@ handed-are h (t ∷ past) k =
 abbrev pub LoadsHandBits : List CallFrame → Type 0
 LoadsHandBits fs = All (λ f. HandBits f.load) fs
 
-frame-has : (call : ℕ) (fs : List CallFrame) → LoadsHandBits fs → HasBits (frame_now call fs)
-frame-has call [] k = tt
-frame-has call (f ∷ fs) k = go f.carries
+frame-has : (who : Who) (fs : List CallFrame) → LoadsHandBits fs → HasBits (frame_now who fs)
+frame-has who [] k = tt
+frame-has who (f ∷ fs) k = go f.carries
   where
     go : (o : Option ℕ) → HasBits (elim o as (λ x. DownFrame) [
       | Some h ↦ frame.Speech (handed_in h f.load) true
-      | None ↦ if quiet_now call f.load then frame.Idle else speech (sent_of (coded_after f (coded_stretch call f.epoch fs)) (coded_frames (coded_stretch call f.epoch fs)))
+      | None ↦ if quiet_now who.number f.load then frame.Idle else speech (sent_of (coded_after who.law f (coded_stretch who.number f.epoch fs)) (coded_frames who.law (coded_stretch who.number f.epoch fs)))
     ])
     go (Some h) = handed-are h f.load (All-head (λ f. HandBits f.load) f fs k)
     go None =
-        let s = sent_of (coded_after f (coded_stretch call f.epoch fs)) (coded_frames (coded_stretch call f.epoch fs)) in
-        cond_both (quiet_now call f.load) frame.Idle (speech s) HasBits (λ y. tt) (λ n. bits260-are s.fields)
+        let s = sent_of (coded_after who.law f (coded_stretch who.number f.epoch fs)) (coded_frames who.law (coded_stretch who.number f.epoch fs)) in
+        cond_both (quiet_now who.number f.load) frame.Idle (speech s) HasBits (λ y. tt) (λ n. bits260-are s.fields)
 
 on_line-are : (v : ℤ) (bits : List ℕ) → AreBits bits → AreBits (frame_on_line v bits)
 on_line-are (pos v) bits h = All-append (λ b. b < 2) bits (replicate (2 * v) 1) h (All-replicate (λ b. b < 2) (2 * v) 1 (omega arith))
 on_line-are (negsuc v) bits h = All-take (λ b. b < 2) 316 bits h
 
-line-are : (call : ℕ) (fs : List CallFrame) → LoadsHandBits fs → AreBits (down_made call fs)
-line-are call [] k = All-replicate (λ b. b < 2) 320 1 (omega arith)
-line-are call (f ∷ fs) k =
-    All-append (λ b. b < 2) (down_made call fs) (frame_on_line f.shift (bits_now call (f ∷ fs))) (line-are call fs (All-tail (λ f. HandBits f.load) f fs k))
-    (on_line-are f.shift (bits_now call (f ∷ fs)) (down_bits-are (frame_now call (f ∷ fs)) (frame-has call (f ∷ fs) k)))
+line-are : (who : Who) (fs : List CallFrame) → LoadsHandBits fs → AreBits (down_made who fs)
+line-are who [] k = All-replicate (λ b. b < 2) 320 1 (omega arith)
+line-are who (f ∷ fs) k =
+    All-append (λ b. b < 2) (down_made who fs) (frame_on_line f.shift (bits_now who (f ∷ fs))) (line-are who fs (All-tail (λ f. HandBits f.load) f fs k))
+    (on_line-are f.shift (bits_now who (f ∷ fs)) (down_bits-are (frame_now who (f ∷ fs)) (frame-has who (f ∷ fs) k)))
 
 grown-loads : (t : CallPeriod) (past : List CallPeriod) (fs : List CallFrame) → HandBits (t ∷ past) → LoadsHandBits fs → LoadsHandBits (grown (down_period t past) (down_periods past) fs)
 grown-loads t past fs h k =
@@ -149,7 +163,7 @@ loads (t ∷ past) h =
     grown-loads t past (grown (down_period t past) (down_periods past) (frames_of past)) h
     (grown-loads t past (frames_of past) h (loads past (All-tail (λ t. IfSome t.handed (λ d. AreBits d)) t past h)))
 
-pub down_now-bits : (call : ℕ) (ts : List CallPeriod) → HandBits ts → AreBits (down_now call ts)
-down_now-bits call [] h = All-nil (λ b. b < 2)
-down_now-bits call (t ∷ past) h =
-    All-take (λ b. b < 2) 320 _ (All-drop (λ b. b < 2) (320 * length (down_periods past)) (down_made call (frames_of (t ∷ past))) (line-are call (frames_of (t ∷ past)) (loads (t ∷ past) h)))
+pub down_now-bits : (who : Who) (ts : List CallPeriod) → HandBits ts → AreBits (down_now who ts)
+down_now-bits who [] h = All-nil (λ b. b < 2)
+down_now-bits who (t ∷ past) h =
+    All-take (λ b. b < 2) 320 _ (All-drop (λ b. b < 2) (320 * length (down_periods past)) (down_made who (frames_of (t ∷ past))) (line-are who (frames_of (t ∷ past)) (loads (t ∷ past) h)))

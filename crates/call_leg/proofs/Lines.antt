@@ -4,6 +4,7 @@ use Rattle.std.proofs.lemmas.List.{append-nil, take-append-le}
 use Rattle.down_framer.specs.Made.{Period, next_start, next_frame, grown, frame_on_line}
 use Rattle.down_framer.proofs.Store.{made-far}
 use Rattle.trau_frame.proofs.Again.{length-down_bits}
+use Rattle.call_leg.specs.Who.{Who}
 use Rattle.call_leg.specs.Periods.{CallPeriod}
 use Rattle.call_leg.specs.Down.{CallFrame, down_period, down_periods, frames_of, frame_now, bits_now, down_made, down_now, down_line}
 use Rattle.call_leg.proofs.Enter.{length-down_periods}
@@ -22,30 +23,30 @@ take-more (suc k) (suc n) m [] e = take_none m
 take-more (suc k) (suc n) m (x ∷ xs) e = ap (λ zs. x ∷ zs) (take-more k n m xs (omega arith))
 
 -- a frame more only adds to the line
-grown-line : (call : ℕ) (p : Period (List CallPeriod)) (past : List (Period (List CallPeriod))) (fs : List CallFrame) →
-    (more : List ℕ) × (down_made call (grown p past fs) ≡ down_made call fs ++ more)
-grown-line call p past fs = go (nat_le (next_start fs) (160 * length past))
+grown-line : (who : Who) (p : Period (List CallPeriod)) (past : List (Period (List CallPeriod))) (fs : List CallFrame) →
+    (more : List ℕ) × (down_made who (grown p past fs) ≡ down_made who fs ++ more)
+grown-line who p past fs = go (nat_le (next_start fs) (160 * length past))
   where
-    go : (b : Bool) → (more : List ℕ) × (down_made call (if b then next_frame p past fs ∷ fs else fs) ≡ down_made call fs ++ more)
-    go true = (frame_on_line (next_frame p past fs).shift (bits_now call (next_frame p past fs ∷ fs)), refl)
-    go false = ([], sym (append-nil (down_made call fs)))
+    go : (b : Bool) → (more : List ℕ) × (down_made who (if b then next_frame p past fs ∷ fs else fs) ≡ down_made who fs ++ more)
+    go true = (frame_on_line (next_frame p past fs).shift (bits_now who (next_frame p past fs ∷ fs)), refl)
+    go false = ([], sym (append-nil (down_made who fs)))
 
-made-line : (call : ℕ) (t : CallPeriod) (past : List CallPeriod) → (more : List ℕ) × (down_made call (frames_of (t ∷ past)) ≡ down_made call (frames_of past) ++ more)
-made-line call t past =
+made-line : (who : Who) (t : CallPeriod) (past : List CallPeriod) → (more : List ℕ) × (down_made who (frames_of (t ∷ past)) ≡ down_made who (frames_of past) ++ more)
+made-line who t past =
     let p = down_period t past in
-    let one = grown-line call p (down_periods past) (frames_of past) in
-    let two = grown-line call p (down_periods past) (grown p (down_periods past) (frames_of past)) in
-    (one.0 ++ two.0, two.1 ∙ ap (λ z. z ++ two.0) one.1 ∙ append_assoc (down_made call (frames_of past)) one.0 two.0)
+    let one = grown-line who p (down_periods past) (frames_of past) in
+    let two = grown-line who p (down_periods past) (grown p (down_periods past) (frames_of past)) in
+    (one.0 ++ two.0, two.1 ∙ ap (λ z. z ++ two.0) one.1 ∙ append_assoc (down_made who (frames_of past)) one.0 two.0)
 
-pub line-is_made : (call : ℕ) (ts : List CallPeriod) → down_line call ts ≡ take (320 * length ts) (down_made call (frames_of ts))
-line-is_made call [] = refl
-line-is_made call (t ∷ past) =
+pub line-is_made : (who : Who) (ts : List CallPeriod) → down_line who ts ≡ take (320 * length ts) (down_made who (frames_of ts))
+line-is_made who [] = refl
+line-is_made who (t ∷ past) =
     let n = length-down_periods past in
-    let more = made-line call t past in
-    let far : 320 * length (down_periods past) < length (down_made call (frames_of past)) = made-far (bits_now call) (λ fs. length-down_bits (frame_now call fs)) (down_periods past) in
+    let more = made-line who t past in
+    let far : 320 * length (down_periods past) < length (down_made who (frames_of past)) = made-far (bits_now who) (λ fs. length-down_bits (frame_now who fs)) (down_periods past) in
     let here : 320 * length (down_periods past) ≡ 320 * length past = omega arith in
-    let same : take (320 * length past) (down_made call (frames_of (t ∷ past))) ≡ take (320 * length past) (down_made call (frames_of past)) =
-    ap (take (320 * length past)) more.1 ∙ take-append-le (320 * length past) (down_made call (frames_of past)) more.0 (omega arith) in
-    ap (λ z. z ++ down_now call (t ∷ past)) (line-is_made call past ∙ sym same)
-    ∙ ap (λ k. take (320 * length past) (down_made call (frames_of (t ∷ past))) ++ take 320 (drop k (down_made call (frames_of (t ∷ past))))) here
-    ∙ sym (take-more (320 * length (t ∷ past)) (320 * length past) 320 (down_made call (frames_of (t ∷ past))) (omega arith))
+    let same : take (320 * length past) (down_made who (frames_of (t ∷ past))) ≡ take (320 * length past) (down_made who (frames_of past)) =
+    ap (take (320 * length past)) more.1 ∙ take-append-le (320 * length past) (down_made who (frames_of past)) more.0 (omega arith) in
+    ap (λ z. z ++ down_now who (t ∷ past)) (line-is_made who past ∙ sym same)
+    ∙ ap (λ k. take (320 * length past) (down_made who (frames_of (t ∷ past))) ++ take 320 (drop k (down_made who (frames_of (t ∷ past))))) here
+    ∙ sym (take-more (320 * length (t ∷ past)) (320 * length past) 320 (down_made who (frames_of (t ∷ past))) (omega arith))

@@ -9,6 +9,7 @@ use Rattle.down_framer.specs.ByNumber.{Bridge, NumberedFrame, when, numbered, nu
 use Rattle.down_framer.proofs.FrameLaws.{in_time}
 use Rattle.down_framer.proofs.Numbers.{made-numbered}
 use Rattle.down_framer.proofs.Store.{length-line_of, AreInTurn-made_frames}
+use Rattle.call_leg.specs.Who.{Who}
 use Rattle.call_leg.specs.Periods.{CallPeriod}
 use Rattle.call_leg.specs.Down.{CallFrame, down_periods, frames_of, frame_now, bits_now, down_made}
 use Rattle.call_leg.specs.Numbered.{first_frames, start_of}
@@ -27,8 +28,8 @@ all-come ts =
     let t = frames-in_time ts in
     All-weaker (λ (f : CallFrame). (f.period ≡ when f.start) × (f.start + 160 ≤ 160 * length ts)) (λ (f : CallFrame). f.start + 160 ≤ 160 * length ts) (λ f x. x.1) (frames_of ts) t.made
 
-pub length-made : (call : ℕ) (ts : List CallPeriod) → length (down_made call (frames_of ts)) ≡ 320 + 2 * next_start (frames_of ts)
-length-made call ts = length-line_of (bits_now call) (λ fs. length-down_bits (frame_now call fs)) (frames_of ts) (AreInTurn-made_frames (down_periods ts))
+pub length-made : (who : Who) (ts : List CallPeriod) → length (down_made who (frames_of ts)) ≡ 320 + 2 * next_start (frames_of ts)
+length-made who ts = length-line_of (bits_now who) (λ fs. length-down_bits (frame_now who fs)) (frames_of ts) (AreInTurn-made_frames (down_periods ts))
 
 -- ---- by number
 

@@ -12,6 +12,7 @@ use Rattle.fr_decoder.specs.Step as decoder
 use Rattle.fr_decoder.proofs.Frames as decoding
 use Rattle.fr_encoder.proofs.Frames as encoding
 use Rattle.down_framer.specs.Made.{due}
+use Rattle.call_leg.specs.Who.{Who}
 use Rattle.call_leg.specs.Periods.{CallPeriod}
 use Rattle.call_leg.specs.Settings.{Settings, new_settings, with_level, with_mode, with_bridge, without_bridge}
 use Rattle.call_leg.specs.Down.{down_periods, frames_of}
@@ -24,16 +25,18 @@ use Rattle.call_leg.proofs.Numbered.{next-ahead, all-come, length-made}
 use Rattle.call_leg.proofs.Bridges.{plain-new, begins, ends}
 use Rattle.call_leg.proofs.DownLaws.{home_tx-stands, thawed-kept, thawed-frozen}
 
-pub level-stands : (call : ℕ) (ts : List CallPeriod) (now : Settings) (level : ℤ) (m : LegMemory) → Stands call ts now m →
-    Stands call ts (with_level level now) (with_down m (set_level level m.down))
-level-stands call ts now level m h =
+pub level-stands : (who : Who) (ts : List CallPeriod) (now : Settings) (level : ℤ) (m : LegMemory) → Stands who ts now m →
+    Stands who ts (with_level level now) (with_down m (set_level level m.down))
+level-stands who ts now level m h =
     let d = h.down in
     record {
+      law = h.law;
       search = h.search;
       rx = h.rx;
       decoder = h.decoder;
       counts = h.counts;
       down = record {
+        law = d.law;
         long = d.long;
         history = d.history;
         ahead = d.ahead;
@@ -55,16 +58,18 @@ level-stands call ts now level m h =
       };
     }
 
-pub mode-stands : (call : ℕ) (ts : List CallPeriod) (now : Settings) (mode : DtxMode) (m : LegMemory) → Stands call ts now m →
-    Stands call ts (with_mode mode now) (with_down m (set_mode mode m.down))
-mode-stands call ts now mode m h =
+pub mode-stands : (who : Who) (ts : List CallPeriod) (now : Settings) (mode : DtxMode) (m : LegMemory) → Stands who ts now m →
+    Stands who ts (with_mode mode now) (with_down m (set_mode mode m.down))
+mode-stands who ts now mode m h =
     let d = h.down in
     record {
+      law = h.law;
       search = h.search;
       rx = h.rx;
       decoder = h.decoder;
       counts = h.counts;
       down = record {
+        law = d.law;
         long = d.long;
         history = d.history;
         ahead = d.ahead;
@@ -86,39 +91,42 @@ mode-stands call ts now mode m h =
       };
     }
 
-pub begin-stands : (call : ℕ) (ts : List CallPeriod) (now : Settings) (m : LegMemory) → due (down_periods ts) (frames_of ts) ≡ None → Stands call ts now m →
-    Stands call ts (with_bridge now) (begin_bridge m)
-begin-stands call ts now m n h = record {
+pub begin-stands : (who : Who) (ts : List CallPeriod) (now : Settings) (m : LegMemory) → due (down_periods ts) (frames_of ts) ≡ None → Stands who ts now m →
+    Stands who ts (with_bridge now) (begin_bridge m)
+begin-stands who ts now m n h = record {
+  law = h.law;
   search = h.search;
   rx = h.rx;
-  decoder = subst (λ z. decoder.Stands z decoder.home_memory) (sym (plain-new call ts)) decoding.home-stands;
+  decoder = subst (λ z. decoder.Stands z decoder.home_memory) (sym (plain-new who.number ts)) decoding.home-stands;
   counts = h.counts;
-  down = begins call ts now m.down (bridge_begun m.down) n h.down refl refl encoding.home-stands home_tx-stands refl refl refl refl refl refl refl refl;
+  down = begins who ts now m.down (bridge_begun m.down) n h.down refl refl encoding.home-stands home_tx-stands refl refl refl refl refl refl refl refl refl;
 }
 
-pub end-stands : (call : ℕ) (ts : List CallPeriod) (now : Settings) (m : LegMemory) → now.bridged ≡ true → Stands call ts now m →
-    Stands call ts (without_bridge now) (with_down m (bridge_over m.down))
-end-stands call ts now m b h = record {
+pub end-stands : (who : Who) (ts : List CallPeriod) (now : Settings) (m : LegMemory) → now.bridged ≡ true → Stands who ts now m →
+    Stands who ts (without_bridge now) (with_down m (bridge_over m.down))
+end-stands who ts now m b h = record {
+  law = h.law;
   search = h.search;
   rx = h.rx;
   decoder = h.decoder;
   counts = h.counts;
-  down = ends call ts now m.down (bridge_over m.down) b h.down (thawed-kept m.down.align false m.down.waiting) (thawed-frozen m.down.align false m.down.waiting)
-      refl refl refl refl refl refl refl refl refl;
+  down = ends who ts now m.down (bridge_over m.down) b h.down (thawed-kept m.down.align false m.down.waiting) (thawed-frozen m.down.align false m.down.waiting)
+      refl refl refl refl refl refl refl refl refl refl;
 }
 
 -- the search counts the periods
-pub periods-counted : (call : ℕ) (ts : List CallPeriod) (now : Settings) (m : LegMemory) → Stands call ts now m → periods_of_leg m ≡ length ts
-periods-counted call ts now m h = ap (λ (s : search.SyncMemory). s.periods) h.search.after ∙ length-ups_of ts
+pub periods-counted : (who : Who) (ts : List CallPeriod) (now : Settings) (m : LegMemory) → Stands who ts now m → periods_of_leg m ≡ length ts
+periods-counted who ts now m h = ap (λ (s : search.SyncMemory). s.periods) h.search.after ∙ length-ups_of ts
 
 -- before the first period
-pub home-between : (call : ℕ) → Between call [] new_settings home_down
-home-between call = record {
+pub home-between : (who : Who) → Between who [] new_settings (home_down who.law)
+home-between who = record {
+  law = refl;
   long = refl;
   history = tt;
   ahead = next-ahead [];
   come = all-come [];
-  line = length-made call [];
+  line = length-made who [];
   places = record { held = refl; to_skip = refl; stored = refl };
   waits = record { each = λ n. refl };
   kept = refl;
@@ -142,11 +150,12 @@ home_rx : (call : ℕ) → rx.Stands call [] (rx.first_memory call)
 unfolding anchor_of drawn state_after
 home_rx call = record { state = refl; source = refl }
 
-pub new-stands : (call : ℕ) → Stands call [] new_settings (home_leg call)
-new-stands call = record {
+pub new-stands : (who : Who) → Stands who [] new_settings (home_leg who)
+new-stands who = record {
+  law = refl;
   search = home_search;
-  rx = home_rx call;
+  rx = home_rx who.number;
   decoder = decoding.home-stands;
   counts = refl;
-  down = home-between call;
+  down = home-between who;
 }

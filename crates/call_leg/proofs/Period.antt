@@ -8,6 +8,7 @@ use Rattle.down_framer.specs.Made.{Period, MadeFrame, next_start, due, fields_si
 use Rattle.down_framer.specs.Bridges.{IsHistory}
 use Rattle.down_framer.specs.Places.{Holds}
 use Rattle.down_framer.proofs.Timing.{AreMade-made_frames}
+use Rattle.call_leg.specs.Who.{Who}
 use Rattle.call_leg.specs.Periods.{CallPeriod, pcm_of, bridges_begun}
 use Rattle.call_leg.specs.Down.{down_period, down_periods, frames_of, coded_stretch, down_made}
 use Rattle.call_leg.specs.Waiting.{Waits}
@@ -80,31 +81,32 @@ begun-more now up pcm handed ts = go now.starts
 
 -- ---- a period begins
 
-pub history-more : (c : ℕ) (ts : List CallPeriod) (now : Settings) (up : List ℕ) (handed : Option (List ℕ)) (pcm : List ℕ) (d : DownMemory) → is_some handed ≡ now.bridged → Halfway c ts now up handed d →
+pub history-more : (who : Who) (ts : List CallPeriod) (now : Settings) (up : List ℕ) (handed : Option (List ℕ)) (pcm : List ℕ) (d : DownMemory) → is_some handed ≡ now.bridged → Halfway who ts now up handed d →
     IsHistory (down_periods (period_with now up pcm handed ∷ ts))
-history-more c ts now up handed pcm d b h = (h.history, h.alone, λ e. h.goes_on (sym b ∙ e))
+history-more who ts now up handed pcm d b h = (h.history, h.alone, λ e. h.goes_on (sym b ∙ e))
 
-pub enter : (c : ℕ) (ts : List CallPeriod) (now : Settings) (up : List ℕ) (handed : Option (List ℕ)) (pcm : List ℕ) (d d1 : DownMemory) →
-    length pcm ≡ 160 → is_some handed ≡ now.bridged → Halfway c ts now up handed d →
+pub enter : (who : Who) (ts : List CallPeriod) (now : Settings) (up : List ℕ) (handed : Option (List ℕ)) (pcm : List ℕ) (d d1 : DownMemory) →
+    length pcm ≡ 160 → is_some handed ≡ now.bridged → Halfway who ts now up handed d →
     ((pcm0 line : List ℕ) (out start : ℕ) → Holds pcm0 line out start d.framer → Holds (pcm0 ++ pcm) line out start d1.framer) →
-    d1.align ≡ d.align → d1.waiting ≡ d.waiting → d1.coder ≡ d.coder → d1.level ≡ d.level → d1.mode ≡ d.mode → d1.dtxd ≡ d.dtxd → d1.quiet ≡ d.quiet → d1.bridged ≡ d.bridged → d1.sent ≡ d.sent → d1.made ≡ d.made →
-    Inside c (period_with now up pcm handed) ts (frames_of ts) d1
-enter c ts now up handed pcm d d1 lp b h pl al qu co lv md ul qt br sn mn =
+    d1.law ≡ d.law → d1.align ≡ d.align → d1.waiting ≡ d.waiting → d1.coder ≡ d.coder → d1.level ≡ d.level → d1.mode ≡ d.mode → d1.dtxd ≡ d.dtxd → d1.quiet ≡ d.quiet → d1.bridged ≡ d.bridged → d1.sent ≡ d.sent → d1.made ≡ d.made →
+    Inside who (period_with now up pcm handed) ts (frames_of ts) d1
+enter who ts now up handed pcm d d1 lp b h pl la al qu co lv md ul qt br sn mn =
     let t : CallPeriod = period_with now up pcm handed in
     let a = AreMade-made_frames (down_periods ts) in
     let long = h.long in
     let q = h.waits.0 in
-    let v : Waits (t ∷ ts) (frames_of ts) (q ++ option_to_list handed) = waits-enter t ts q (history-more c ts now up handed pcm d b h) h.waits.1 in
+    let v : Waits (t ∷ ts) (frames_of ts) (q ++ option_to_list handed) = waits-enter t ts q (history-more who ts now up handed pcm d b h) h.waits.1 in
     record {
+      law = la ∙ h.law;
       long = length-append (pcm_of ts) pcm ∙ omega arith;
       low = a.low;
-      line = length-made c ts;
-      places = pl (pcm_of ts) (down_made c (frames_of ts)) (320 * length (down_periods ts)) (next_start (frames_of ts)) h.places;
+      line = length-made who ts;
+      places = pl (pcm_of ts) (down_made who (frames_of ts)) (320 * length (down_periods ts)) (next_start (frames_of ts)) h.places;
       waits = subst (Waits (t ∷ ts) (frames_of ts)) (sym (qu ∙ h.waits.2)) v;
       kept = ap (λ z. z.kept) al ∙ h.kept ∙ sym (ap latest_ask (since-more (down_period t ts) (down_periods ts) (frames_of ts) (made-before (down_periods ts))));
       frozen = ap (λ z. z.frozen) al ∙ h.frozen ∙ ap (λ z. z || is_some (due (down_periods ts) (frames_of ts))) (sym b) ∙ due-enter t ts q handed refl h.waits.1 v;
       punctual = λ e n. absurd (due-handed t ts q handed v e n);
-      coded = subst (CoderStands (coded_stretch c (bridges_begun (t ∷ ts)) (frames_of ts))) (sym co) (subst (λ e. CoderStands (coded_stretch c e (frames_of ts)) d.coder) (begun-more now up pcm handed ts) h.coded);
+      coded = subst (CoderStands who.law (coded_stretch who.number (bridges_begun (t ∷ ts)) (frames_of ts))) (sym co) (subst (λ e. CoderStands who.law (coded_stretch who.number e (frames_of ts)) d.coder) (begun-more now up pcm handed ts) h.coded);
       made = mn ∙ h.made;
       sent = sn ∙ h.sent ∙ ap (λ e. in_u32 (carried e (frames_of ts))) (begun-more now up pcm handed ts);
       level = lv ∙ h.level;
@@ -116,27 +118,28 @@ enter c ts now up handed pcm d d1 lp b h pl al qu co lv md ul qt br sn mn =
 
 -- ---- and ends
 
-pub leave : (c : ℕ) (ts : List CallPeriod) (now : Settings) (up : List ℕ) (handed : Option (List ℕ)) (pcm : List ℕ) (d d2 : DownMemory) → is_some handed ≡ now.bridged → Halfway c ts now up handed d →
-    Inside c (period_with now up pcm handed) ts (frames_of (period_with now up pcm handed ∷ ts)) d2 → (d3 : DownMemory) →
+pub leave : (who : Who) (ts : List CallPeriod) (now : Settings) (up : List ℕ) (handed : Option (List ℕ)) (pcm : List ℕ) (d d2 : DownMemory) → is_some handed ≡ now.bridged → Halfway who ts now up handed d →
+    Inside who (period_with now up pcm handed) ts (frames_of (period_with now up pcm handed ∷ ts)) d2 → (d3 : DownMemory) →
     ((pcm0 line : List ℕ) (out start : ℕ) → Holds pcm0 line out start d2.framer → Holds pcm0 line (out + 320) start d3.framer) →
-    d3.align ≡ d2.align → d3.waiting ≡ d2.waiting → d3.coder ≡ d2.coder → d3.level ≡ d2.level → d3.mode ≡ d2.mode → d3.dtxd ≡ d2.dtxd → d3.bridged ≡ d2.bridged → d3.sent ≡ d2.sent → d3.made ≡ d2.made →
-    Between c (period_with now up pcm handed ∷ ts) (later now) d3
-leave c ts now up handed pcm d d2 b h i d3 pl al qu co lv md ul br sn mn =
+    d3.law ≡ d2.law → d3.align ≡ d2.align → d3.waiting ≡ d2.waiting → d3.coder ≡ d2.coder → d3.level ≡ d2.level → d3.mode ≡ d2.mode → d3.dtxd ≡ d2.dtxd → d3.bridged ≡ d2.bridged → d3.sent ≡ d2.sent → d3.made ≡ d2.made →
+    Between who (period_with now up pcm handed ∷ ts) (later now) d3
+leave who ts now up handed pcm d d2 b h i d3 pl la al qu co lv md ul br sn mn =
     let t : CallPeriod = period_with now up pcm handed in
     let long = i.long in
     let e : 320 * length (down_periods ts) + 320 ≡ 320 * length (down_periods (t ∷ ts)) = omega arith in
     record {
+      law = la ∙ i.law;
       long = long ∙ omega arith;
-      history = history-more c ts now up handed pcm d b h;
+      history = history-more who ts now up handed pcm d b h;
       ahead = next-ahead (t ∷ ts);
       come = all-come (t ∷ ts);
-      line = length-made c (t ∷ ts);
-      places = subst (λ n. Holds (pcm_of (t ∷ ts)) (down_made c (frames_of (t ∷ ts))) n (next_start (frames_of (t ∷ ts))) d3.framer) e
-          (pl (pcm_of (t ∷ ts)) (down_made c (frames_of (t ∷ ts))) (320 * length (down_periods ts)) (next_start (frames_of (t ∷ ts))) i.places);
+      line = length-made who (t ∷ ts);
+      places = subst (λ n. Holds (pcm_of (t ∷ ts)) (down_made who (frames_of (t ∷ ts))) n (next_start (frames_of (t ∷ ts))) d3.framer) e
+          (pl (pcm_of (t ∷ ts)) (down_made who (frames_of (t ∷ ts))) (320 * length (down_periods ts)) (next_start (frames_of (t ∷ ts))) i.places);
       waits = subst (Waits (t ∷ ts) (frames_of (t ∷ ts))) (sym qu) i.waits;
       kept = ap (λ z. z.kept) al ∙ i.kept;
       frozen = ap (λ z. z.frozen) al ∙ i.frozen ∙ ap (λ z. z || is_some (due (down_periods (t ∷ ts)) (frames_of (t ∷ ts)))) b;
-      coded = subst (CoderStands (coded_stretch c (bridges_begun (t ∷ ts)) (frames_of (t ∷ ts)))) (sym co) i.coded;
+      coded = subst (CoderStands who.law (coded_stretch who.number (bridges_begun (t ∷ ts)) (frames_of (t ∷ ts)))) (sym co) i.coded;
       sent = sn ∙ i.sent;
       made = mn ∙ i.made;
       level = lv ∙ i.level;

@@ -4,6 +4,7 @@ use Rattle.std.specs.Prelude.{◌==◌}
 use Rattle.std.proofs.lemmas.Bool.{cond-true, cond-false}
 use Rattle.trau_frame.specs.declared.frames.DownFrame.{DownFrame}
 use Rattle.trau_frame.specs.declared.frames.DownFrame.TheVariants as down
+use Rattle.call_leg.specs.Who.{Who}
 use Rattle.call_leg.specs.Periods.{quiet_now, handed_in}
 use Rattle.tx_dtx.specs.Sent.{sent_of}
 use Rattle.call_leg.specs.Down.{CallFrame, is_coded, coded_stretch, coded_after, coded_frames, speech, frame_now}
@@ -18,25 +19,25 @@ stretch-coded c f fs e q =
     cond-true (is_coded c f && f.epoch == f.epoch) (f ∷ coded_stretch c f.epoch fs) []
     (both (is_none f.carries) (not (quiet_now c f.load)) (f.epoch == f.epoch) (ap is_none e) (ap not q) (eq-eqb f.epoch f.epoch refl))
 
-pub frame-coded : (c : ℕ) (f : CallFrame) (fs : List CallFrame) → f.carries ≡ None → quiet_now c f.load ≡ false →
-    frame_now c (f ∷ fs) ≡ speech (sent_of (coded_after f (coded_stretch c f.epoch fs)) (coded_frames (coded_stretch c f.epoch fs)))
-frame-coded c f fs e q =
+pub frame-coded : (who : Who) (f : CallFrame) (fs : List CallFrame) → f.carries ≡ None → quiet_now who.number f.load ≡ false →
+    frame_now who (f ∷ fs) ≡ speech (sent_of (coded_after who.law f (coded_stretch who.number f.epoch fs)) (coded_frames who.law (coded_stretch who.number f.epoch fs)))
+frame-coded who f fs e q =
     ap (λ (o : Option ℕ). elim o as (λ x. DownFrame) [
       | Some h ↦ down.Speech (handed_in h f.load) true
-      | None ↦ if quiet_now c f.load then down.Idle else speech (sent_of (coded_after f (coded_stretch c f.epoch fs)) (coded_frames (coded_stretch c f.epoch fs)))
+      | None ↦ if quiet_now who.number f.load then down.Idle else speech (sent_of (coded_after who.law f (coded_stretch who.number f.epoch fs)) (coded_frames who.law (coded_stretch who.number f.epoch fs)))
     ]) e ∙
-    cond-false (quiet_now c f.load) down.Idle (speech (sent_of (coded_after f (coded_stretch c f.epoch fs)) (coded_frames (coded_stretch c f.epoch fs)))) q
+    cond-false (quiet_now who.number f.load) down.Idle (speech (sent_of (coded_after who.law f (coded_stretch who.number f.epoch fs)) (coded_frames who.law (coded_stretch who.number f.epoch fs)))) q
 
 -- a frame that carries another one's ends it
 pub stretch-carries : (c epoch h : ℕ) (f : CallFrame) (fs : List CallFrame) → f.carries ≡ Some h → coded_stretch c epoch (f ∷ fs) ≡ []
 stretch-carries c epoch h f fs e =
     ap (λ (o : Option ℕ). if (is_none o && not (quiet_now c f.load)) && f.epoch == epoch then f ∷ coded_stretch c epoch fs else []) e
 
-pub frame-carries : (c h : ℕ) (f : CallFrame) (fs : List CallFrame) → f.carries ≡ Some h → frame_now c (f ∷ fs) ≡ down.Speech (handed_in h f.load) true
-frame-carries c h f fs e =
+pub frame-carries : (who : Who) (h : ℕ) (f : CallFrame) (fs : List CallFrame) → f.carries ≡ Some h → frame_now who (f ∷ fs) ≡ down.Speech (handed_in h f.load) true
+frame-carries who h f fs e =
     ap (λ (o : Option ℕ). elim o as (λ x. DownFrame) [
       | Some h ↦ down.Speech (handed_in h f.load) true
-      | None ↦ if quiet_now c f.load then down.Idle else speech (sent_of (coded_after f (coded_stretch c f.epoch fs)) (coded_frames (coded_stretch c f.epoch fs)))
+      | None ↦ if quiet_now who.number f.load then down.Idle else speech (sent_of (coded_after who.law f (coded_stretch who.number f.epoch fs)) (coded_frames who.law (coded_stretch who.number f.epoch fs)))
     ]) e
 
 -- a quiet period's frame ends it too
@@ -48,10 +49,10 @@ stretch-quiet c epoch f fs q =
     none true b = refl
     none false b = refl
 
-pub frame-quiet : (c : ℕ) (f : CallFrame) (fs : List CallFrame) → f.carries ≡ None → quiet_now c f.load ≡ true → frame_now c (f ∷ fs) ≡ down.Idle
-frame-quiet c f fs e q =
+pub frame-quiet : (who : Who) (f : CallFrame) (fs : List CallFrame) → f.carries ≡ None → quiet_now who.number f.load ≡ true → frame_now who (f ∷ fs) ≡ down.Idle
+frame-quiet who f fs e q =
     ap (λ (o : Option ℕ). elim o as (λ x. DownFrame) [
       | Some h ↦ down.Speech (handed_in h f.load) true
-      | None ↦ if quiet_now c f.load then down.Idle else speech (sent_of (coded_after f (coded_stretch c f.epoch fs)) (coded_frames (coded_stretch c f.epoch fs)))
+      | None ↦ if quiet_now who.number f.load then down.Idle else speech (sent_of (coded_after who.law f (coded_stretch who.number f.epoch fs)) (coded_frames who.law (coded_stretch who.number f.epoch fs)))
     ]) e ∙
-    cond-true (quiet_now c f.load) down.Idle (speech (sent_of (coded_after f (coded_stretch c f.epoch fs)) (coded_frames (coded_stretch c f.epoch fs)))) q
+    cond-true (quiet_now who.number f.load) down.Idle (speech (sent_of (coded_after who.law f (coded_stretch who.number f.epoch fs)) (coded_frames who.law (coded_stretch who.number f.epoch fs)))) q

@@ -13,10 +13,13 @@ use Rattle.fr_decoder.proofs.Frames as decoding
 use Rattle.time_align.specs.Shift.{asked_then, latest_ask}
 use Rattle.time_align.specs.Memory.{AlignMemory}
 use Rattle.down_framer.specs.Made.{fields_since}
+use Rattle.trau_alaw.specs.declared.Law.{Law}
+use Rattle.trau_alaw.specs.Period.{compressed}
+use Rattle.call_leg.specs.Who.{Who}
 use Rattle.call_leg.specs.Uplink.{Sighting, sighting_in, heard_as, field_of, dtxd_after, is_quiet}
 use Rattle.call_leg.specs.Periods.{CallPeriod, ups_of, sighting_after, heard_of, effective_now}
 use Rattle.call_leg.specs.Settings.{Settings, epoch_now, period_with}
-use Rattle.call_leg.specs.Out.{compressed, plain_with, plain_stretch, decoded_octets, out_of}
+use Rattle.call_leg.specs.Out.{plain_with, plain_stretch, decoded_octets, out_of}
 use Rattle.call_leg.specs.Down.{down_periods, frames_of}
 use Rattle.call_leg.specs.Memory.{DownMemory, LegMemory}
 use Rattle.call_leg.specs.Places.{Halfway, Between}
@@ -26,17 +29,17 @@ use Rattle.call_leg.proofs.Upward.{sighted, up-midway, up-out}
 
 -- ---- what is played out
 
-played-plain : (p : Fields) (past : List Fields) (m : decoder.DecoderMemory) (alone : Bool) → decoder.Stands past m →
-    decoder.Stands (if alone then p ∷ past else []) (if alone then played_frame m p else played_none).1
-    × ((if alone then played_frame m p else played_none).0 ≡ decoded_octets (if alone then p ∷ past else []))
-played-plain p past m true h = let d = decoding.frame-stands p past m h in (d.0, ap compressed d.1)
-played-plain p past m false h = (decoding.home-stands, refl)
+played-plain : (law : Law) (p : Fields) (past : List Fields) (m : decoder.DecoderMemory) (alone : Bool) → decoder.Stands past m →
+    decoder.Stands (if alone then p ∷ past else []) (if alone then played_frame law m p else played_none law).1
+    × ((if alone then played_frame law m p else played_none law).0 ≡ decoded_octets law (if alone then p ∷ past else []))
+played-plain law p past m true h = let d = decoding.frame-stands p past m h in (d.0, ap (compressed law) d.1)
+played-plain law p past m false h = (decoding.home-stands, refl)
 
-pub played-stands : (e : EffectiveFields) (alone : Bool) (past : List Fields) (m : decoder.DecoderMemory) → decoder.Stands past m →
-    decoder.Stands (plain_with e alone past) (played m e alone).1 × ((played m e alone).0 ≡ decoded_octets (plain_with e alone past))
-played-stands Quiet alone past m h = (decoding.home-stands, refl)
-played-stands (Speech p) alone past m h = played-plain p past m alone h
-played-stands (Made p) alone past m h = played-plain p past m alone h
+pub played-stands : (law : Law) (e : EffectiveFields) (alone : Bool) (past : List Fields) (m : decoder.DecoderMemory) → decoder.Stands past m →
+    decoder.Stands (plain_with e alone past) (played law m e alone).1 × ((played law m e alone).0 ≡ decoded_octets law (plain_with e alone past))
+played-stands law Quiet alone past m h = (decoding.home-stands, refl)
+played-stands law (Speech p) alone past m h = played-plain law p past m alone h
+played-stands law (Made p) alone past m h = played-plain law p past m alone h
 
 -- ---- what the downlink side hears
 
@@ -48,11 +51,12 @@ asked-frozen : (m : AlignMemory) (field : Option ℕ) → (asked m field).frozen
 asked-frozen m None = refl
 asked-frozen m (Some field) = refl
 
-pub hear-stands : (call : ℕ) (ts : List CallPeriod) (now : Settings) (up : List ℕ) (s : Sighting) (quiet : Bool) (d : DownMemory) → s ≡ sighting_after ts up →
-    quiet ≡ is_quiet (effective_of call (heard_as (sighting_after ts up) ∷ heard_of ts)) → Between call ts now d → Halfway call ts now up None (after_sighting d s quiet)
-hear-stands call ts now up s quiet d es eq h =
+pub hear-stands : (who : Who) (ts : List CallPeriod) (now : Settings) (up : List ℕ) (s : Sighting) (quiet : Bool) (d : DownMemory) → s ≡ sighting_after ts up →
+    quiet ≡ is_quiet (effective_of who.number (heard_as (sighting_after ts up) ∷ heard_of ts)) → Between who ts now d → Halfway who ts now up None (after_sighting d s quiet)
+hear-stands who ts now up s quiet d es eq h =
     let before = fields_since (down_periods ts) (frames_of ts) in
     record {
+      law = h.law;
       long = h.long;
       history = h.history;
       places = h.places;
@@ -87,27 +91,27 @@ hears call ts up m r l h k =
     let t = received_more call (heard_of ts) r (heard_as (found_in m up)) heard.0 heard.1 refl k in
     (es, t.1 ∙ ap (λ z. effective_of call (heard_as z ∷ heard_of ts)) es)
 
-pub up-stands : (call : ℕ) (ts : List CallPeriod) (now : Settings) (up : List ℕ) (m : LegMemory) → length up ≡ 40 → Stands call ts now m →
-    Midway call ts now up None (up_worked m up).2
+pub up-stands : (who : Who) (ts : List CallPeriod) (now : Settings) (up : List ℕ) (m : LegMemory) → length up ≡ 40 → Stands who ts now m →
+    Midway who ts now up None (up_worked m up).2
 unfolding up_worked
-up-stands call ts now up m l h =
+up-stands who ts now up m l h =
     let found = search.next_period m.search up in
     let heard = rx.received m.rx (heard_as (found_in m.search up)) in
-    let e = hears call ts up m.search m.rx l h.search h.rx in
-    up-midway call ts now up m _ (found_in m.search up) heard.0 h e.0 (stands-next m.search found.1 up found.0 l refl (ups_of ts) h.search).0
-    (received_more call (heard_of ts) m.rx (heard_as (found_in m.search up)) heard.0 heard.1 refl h.rx).0 e.1
-    (played-stands heard.0 (not m.down.bridged) (plain_stretch call (epoch_now ts now) ts) m.decoder h.decoder).0 refl
-    (hear-stands call ts now up (found_in m.search up) (is_quiet heard.0) m.down e.0 (ap is_quiet e.1) h.down)
+    let e = hears who.number ts up m.search m.rx l h.search h.rx in
+    up-midway who ts now up m _ (found_in m.search up) heard.0 h refl e.0 (stands-next m.search found.1 up found.0 l refl (ups_of ts) h.search).0
+    (received_more who.number (heard_of ts) m.rx (heard_as (found_in m.search up)) heard.0 heard.1 refl h.rx).0 e.1
+    (played-stands m.law heard.0 (not m.down.bridged) (plain_stretch who.number (epoch_now ts now) ts) m.decoder h.decoder).0 refl
+    (hear-stands who ts now up (found_in m.search up) (is_quiet heard.0) m.down e.0 (ap is_quiet e.1) h.down)
 
-pub up-effective : (call : ℕ) (ts : List CallPeriod) (now : Settings) (up pcm : List ℕ) (handed : Option (List ℕ)) (m : LegMemory) → length up ≡ 40 → Stands call ts now m →
-    (up_worked m up).0 ≡ effective_now call (period_with now up pcm handed ∷ ts)
+pub up-effective : (who : Who) (ts : List CallPeriod) (now : Settings) (up pcm : List ℕ) (handed : Option (List ℕ)) (m : LegMemory) → length up ≡ 40 → Stands who ts now m →
+    (up_worked m up).0 ≡ effective_now who.number (period_with now up pcm handed ∷ ts)
 unfolding up_worked
-up-effective call ts now up pcm handed m l h = (hears call ts up m.search m.rx l h.search h.rx).1
+up-effective who ts now up pcm handed m l h = (hears who.number ts up m.search m.rx l h.search h.rx).1
 
-pub up-plays : (call : ℕ) (ts : List CallPeriod) (now : Settings) (up pcm : List ℕ) (handed : Option (List ℕ)) (m : LegMemory) → length up ≡ 40 → is_some handed ≡ now.bridged →
-    Stands call ts now m → (up_worked m up).1 ≡ out_of call (period_with now up pcm handed ∷ ts)
+pub up-plays : (who : Who) (ts : List CallPeriod) (now : Settings) (up pcm : List ℕ) (handed : Option (List ℕ)) (m : LegMemory) → length up ≡ 40 → is_some handed ≡ now.bridged →
+    Stands who ts now m → (up_worked m up).1 ≡ out_of who (period_with now up pcm handed ∷ ts)
 unfolding up_worked
-up-plays call ts now up pcm handed m l b h =
+up-plays who ts now up pcm handed m l b h =
     let heard = rx.received m.rx (heard_as (found_in m.search up)) in
-    up-out call ts now up pcm handed m.down.bridged heard.0 _ h.down.bridged (hears call ts up m.search m.rx l h.search h.rx).1 b
-    (played-stands heard.0 (not m.down.bridged) (plain_stretch call (epoch_now ts now) ts) m.decoder h.decoder).1
+    up-out who ts now up pcm handed m.law m.down.bridged heard.0 _ h.law h.down.bridged (hears who.number ts up m.search m.rx l h.search h.rx).1 b
+    (played-stands m.law heard.0 (not m.down.bridged) (plain_stretch who.number (epoch_now ts now) ts) m.decoder h.decoder).1

@@ -1,8 +1,8 @@
 -- The Down line of a call: handed frames, idle frames and coded frames (GSM 06.10 and GSM 08.60; which of them is sent
 -- when is this project's profile). Lists have the newest period and the newest frame first.
 use Rattle.std.specs.Prelude.{ℕ, ℤ, Bool, true, not, if◌then◌else◌, ◌&&◌, ◌==◌, Some, None, is_none, is_some, List, [], ◌∷◌, ◌++◌, map, take, drop}
-use Rattle.trau_alaw.specs.Alaw.{alaw}
-use Rattle.trau_alaw.specs.Companding.{middle}
+use Rattle.trau_alaw.specs.declared.Law.{Law}
+use Rattle.trau_alaw.specs.Period.{expanded}
 use Rattle.trau_params.specs.Bits260.{bits260}
 use Rattle.trau_frame.specs.declared.frames.DownFrame.{DownFrame}
 use Rattle.trau_frame.specs.declared.frames.DownFrame.TheVariants as down
@@ -11,6 +11,7 @@ use Rattle.fr_encoder.specs.Encoded.{Encoded, encoding_of}
 use Rattle.tx_dtx.specs.Stretch.{Coded, Sent}
 use Rattle.tx_dtx.specs.Sent.{sent_of}
 use Rattle.down_framer.specs.Made.{Period, MadeFrame, made_frames, line_of, down_of}
+use Rattle.call_leg.specs.Who.{Who}
 use Rattle.call_leg.specs.Uplink.{field_of}
 use Rattle.call_leg.specs.Periods.{CallPeriod, sighting_after, pcm_of, quiet_now, handed_in, dtx_now, level_now}
 
@@ -38,26 +39,22 @@ abbrev pub coded_stretch : ℕ → ℕ → List CallFrame → List CallFrame
 coded_stretch call epoch [] = []
 coded_stretch call epoch (f ∷ fs) = if is_coded call f && f.epoch == epoch then f ∷ coded_stretch call epoch fs else []
 
--- the samples that A-law octets stand for
-unfoldable pub expanded : List ℕ → List ℤ
-expanded octets = map (λ octet. middle (alaw octet)) octets
-
--- the samples of a frame: its 160 octets of the Pcm line, expanded
-abbrev pub samples_of : CallFrame → List ℤ
-samples_of f = expanded (take 160 (drop f.start (pcm_of f.load)))
+-- the samples of a frame: its 160 octets of the Pcm line, expanded by the call's law
+abbrev pub samples_of : Law → CallFrame → List ℤ
+samples_of law f = expanded law (take 160 (drop f.start (pcm_of f.load)))
 
 -- an encoding with the level and DTX in force
 abbrev pub coded_as : Encoded → ℤ → Bool → Coded
 coded_as e level on = record { fields = e.fields; measures = record { lar = e.lar; xmax = e.xmax }; peak = e.peak; level = level; dtx = on }
 
 -- a frame after the coded frames of its stretch, encoded from home over the stretch
-abbrev pub coded_after : CallFrame → List CallFrame → Coded
-coded_after f before = coded_as (encoding_of (samples_of f) (map samples_of before)) (level_now f.load) (dtx_now f.load)
+abbrev pub coded_after : Law → CallFrame → List CallFrame → Coded
+coded_after law f before = coded_as (encoding_of (samples_of law f) (map (samples_of law) before)) (level_now f.load) (dtx_now f.load)
 
 -- all coded frames of a stretch
-abbrev pub coded_frames : List CallFrame → List Coded
-coded_frames [] = []
-coded_frames (f ∷ before) = coded_after f before ∷ coded_frames before
+abbrev pub coded_frames : Law → List CallFrame → List Coded
+coded_frames law [] = []
+coded_frames law (f ∷ before) = coded_after law f before ∷ coded_frames law before
 
 -- the speech frame in which a coded frame is sent
 abbrev pub speech : Sent → DownFrame
@@ -65,26 +62,26 @@ speech s = down.Speech (bits260 s.fields) s.sp
 
 -- What the newest frame is: the handed bits where it carries some, with SP 1; else idle where its period is quiet; else
 -- what is sent of it after the coded frames of its stretch.
-abbrev pub frame_now : ℕ → List CallFrame → DownFrame
-frame_now call [] = down.Idle
-frame_now call (f ∷ fs) = elim f.carries [
+abbrev pub frame_now : Who → List CallFrame → DownFrame
+frame_now who [] = down.Idle
+frame_now who (f ∷ fs) = elim f.carries [
   | Some h ↦ down.Speech (handed_in h f.load) true
-  | None ↦ let before = coded_stretch call f.epoch fs in
-      if quiet_now call f.load then down.Idle else speech (sent_of (coded_after f before) (coded_frames before))
+  | None ↦ let before = coded_stretch who.number f.epoch fs in
+      if quiet_now who.number f.load then down.Idle else speech (sent_of (coded_after who.law f before) (coded_frames who.law before))
 ]
 
-abbrev pub bits_now : ℕ → List CallFrame → List ℕ
-bits_now call fs = frames.down_bits (frame_now call fs)
+abbrev pub bits_now : Who → List CallFrame → List ℕ
+bits_now who fs = frames.down_bits (frame_now who fs)
 
 -- the downlink as far as it is made
-abbrev pub down_made : ℕ → List CallFrame → List ℕ
-down_made call fs = line_of (bits_now call) fs
+abbrev pub down_made : Who → List CallFrame → List ℕ
+down_made who fs = line_of (bits_now who) fs
 
 -- the 320 bits of the newest period
-abbrev pub down_now : ℕ → List CallPeriod → List ℕ
-down_now call ts = down_of (bits_now call) (down_periods ts)
+abbrev pub down_now : Who → List CallPeriod → List ℕ
+down_now who ts = down_of (bits_now who) (down_periods ts)
 
 -- the bits of the whole Down line, the first bit first
-abbrev pub down_line : ℕ → List CallPeriod → List ℕ
-down_line call [] = []
-down_line call (t ∷ past) = down_line call past ++ down_now call (t ∷ past)
+abbrev pub down_line : Who → List CallPeriod → List ℕ
+down_line who [] = []
+down_line who (t ∷ past) = down_line who past ++ down_now who (t ∷ past)

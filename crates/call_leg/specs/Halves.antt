@@ -1,5 +1,6 @@
 -- The two halves of a leg, apart: the uplink half tells the downlink half what it heard. Lists have the newest first.
 use Rattle.std.specs.Prelude.{◌≡◌, ℕ, Bool, false, not, Option, Some, None, option_map, unwrap_or, List, ◌∷◌}
+use Rattle.trau_alaw.specs.declared.Law.{Law}
 use Rattle.trau_frame.specs.declared.frames.Kind.{Kind}
 use Rattle.trau_frame.specs.declared.frames.Kind.TheVariants as kinds
 use Rattle.trau_io.specs.declared.ends.Counts.{Counts}
@@ -12,6 +13,7 @@ use Rattle.rx_handler.specs.State.{effective_fields}
 use Rattle.rx_handler.specs.Table as rx
 use Rattle.fr_decoder.specs.Step as decoder
 use Rattle.time_align.specs.Memory as align
+use Rattle.call_leg.specs.Who.{Who}
 use Rattle.call_leg.specs.Uplink.{Sighting, Nothing, Missed, Framed, sighting_in, heard_as, field_of, is_quiet, handed_fields}
 use Rattle.call_leg.specs.Periods.{CallPeriod, ups_of, sighting_after, heard_of}
 use Rattle.call_leg.specs.Settings.{Settings, epoch_now}
@@ -24,6 +26,7 @@ use Rattle.call_leg.specs.Step.{played, after_handing, down_worked}
 
 -- the uplink half: what a leg keeps beside its downlink side, and whether a bridge is on
 pub record UpMemory : Type 0 where
+  pub law : Law
   pub search : search.SyncMemory
   pub rx : rx.RxMemory
   pub decoder : decoder.DecoderMemory
@@ -32,10 +35,10 @@ pub record UpMemory : Type 0 where
 
 -- the uplink half of a leg, and the leg of two halves; the downlink half is the leg's downlink side
 abbrev pub up_of : LegMemory → UpMemory
-up_of m = record { search = m.search; rx = m.rx; decoder = m.decoder; counts = m.counts; bridged = m.down.bridged }
+up_of m = record { law = m.law; search = m.search; rx = m.rx; decoder = m.decoder; counts = m.counts; bridged = m.down.bridged }
 
 abbrev pub joined : UpMemory → DownMemory → LegMemory
-joined u d = record { search = u.search; rx = u.rx; decoder = u.decoder; counts = u.counts; down = d }
+joined u d = record { law = u.law; search = u.search; rx = u.rx; decoder = u.decoder; counts = u.counts; down = d }
 
 -- ---- what a period of the uplink tells the downlink
 
@@ -69,10 +72,10 @@ unfoldable pub up_turned : UpMemory → List ℕ → Note × List ℕ × UpMemor
 up_turned u up =
     let found = search.next_period u.search up in
     let heard = rx.received u.rx (heard_as (sighting_in found.0)) in
-    let out = played u.decoder heard.0 (not u.bridged) in (
+    let out = played u.law u.decoder heard.0 (not u.bridged) in (
       note_of (sighting_in found.0) heard.0,
       out.0,
-      record { search = found.1; rx = heard.1; decoder = out.1; counts = counted (sighting_in found.0) u.counts; bridged = u.bridged },
+      record { law = u.law; search = found.1; rx = heard.1; decoder = out.1; counts = counted (sighting_in found.0) u.counts; bridged = u.bridged },
     )
 
 -- a note is heard
@@ -104,13 +107,14 @@ handed_bits item = option_map (λ e. bits260 (handed_fields e)) item
 
 -- Between periods: the uplink half is that of a call that had these periods, with the settings `now` for the next one.
 -- It tells nothing of the Pcm line and of what was handed over. A downlink half stands for its call by `Between`.
-pub record UpStands (call : ℕ) (ts : List CallPeriod) (now : Settings) (u : UpMemory) : Type 0 where
+pub record UpStands (who : Who) (ts : List CallPeriod) (now : Settings) (u : UpMemory) : Type 0 where
+  pub law : u.law ≡ who.law
   pub search : search.Stands (ups_of ts) u.search
-  pub rx : rx.Stands call (heard_of ts) u.rx
-  pub decoder : decoder.Stands (plain_stretch call (epoch_now ts now) ts) u.decoder
+  pub rx : rx.Stands who.number (heard_of ts) u.rx
+  pub decoder : decoder.Stands (plain_stretch who.number (epoch_now ts now) ts) u.decoder
   pub counts : u.counts ≡ sightings_counted ts
   pub bridged : u.bridged ≡ now.bridged
 
 -- P holds of whatever call the half stands for, the periods that it had, and the settings for its next one
-abbrev pub OfItsUp : UpMemory → (ℕ → List CallPeriod → Settings → Type 0) → Type 0
-OfItsUp u P = (call : ℕ) (ts : List CallPeriod) (now : Settings) → UpStands call ts now u → P call ts now
+abbrev pub OfItsUp : UpMemory → (Who → List CallPeriod → Settings → Type 0) → Type 0
+OfItsUp u P = (who : Who) (ts : List CallPeriod) (now : Settings) → UpStands who ts now u → P who ts now

@@ -1,3 +1,4 @@
+pub mod Who
 pub mod Periods
 pub mod Uplink
 pub mod Settings
@@ -11,3 +12,4 @@ pub mod Places
 pub mod Stands
 pub mod Step
 pub mod Halves
+pub mod Runs

@@ -1,5 +1,6 @@
 -- What a leg keeps.
 use Rattle.std.specs.Prelude.{ℕ, ℤ, Bool, List, map}
+use Rattle.trau_alaw.specs.declared.Law.{Law}
 use Rattle.trau_orders.specs.declared.order.DtxMode.{DtxMode}
 use Rattle.trau_io.specs.declared.ends.Counts.{Counts}
 use Rattle.frame_sync.specs.Step.{SyncMemory}
@@ -22,15 +23,16 @@ pub record CoderMemory : Type 0 where
 abbrev pub home_coder : CoderMemory
 home_coder = record { encoder = encoder.home_memory; tx = tx.home_memory }
 
--- both ran from home over the coded frames of a stretch
-pub record CoderStands (stretch : List CallFrame) (m : CoderMemory) : Type 0 where
-  pub encoder : encoder.Stands (map samples_of stretch) m.encoder
-  pub tx : tx.Stands (coded_frames stretch) m.tx
+-- both ran from home over the coded frames of a stretch, whose octets are of this law
+pub record CoderStands (law : Law) (stretch : List CallFrame) (m : CoderMemory) : Type 0 where
+  pub encoder : encoder.Stands (map (samples_of law) stretch) m.encoder
+  pub tx : tx.Stands (coded_frames law stretch) m.tx
 
--- the downlink side: the bits in store and the octets held, the shift that was asked for, the handed frames that wait,
--- the coder, the settings, DTXd of the last speech frame, whether this period is quiet and lies in a bridge, how many
--- handed frames of the latest bridge were sent, and how many frames were made
+-- the downlink side: the call's law, the bits in store and the octets held, the shift that was asked for, the handed
+-- frames that wait, the coder, the settings, DTXd of the last speech frame, whether this period is quiet and lies in a
+-- bridge, how many handed frames of the latest bridge were sent, and how many frames were made
 pub record DownMemory : Type 0 where
+  pub law : Law
   pub framer : FramerMemory
   pub align : AlignMemory
   pub waiting : List (List ℕ)
@@ -43,7 +45,9 @@ pub record DownMemory : Type 0 where
   pub sent : ℕ
   pub made : ℕ
 
+-- a leg: the call's law, what the way up keeps, and the downlink side
 pub record LegMemory : Type 0 where
+  pub law : Law
   pub search : SyncMemory
   pub rx : RxMemory
   pub decoder : DecoderMemory
@@ -60,6 +64,7 @@ coder_memory s = record { encoder = s.encoder; tx = s.tx }
 
 abbrev pub down_memory : DownSide → DownMemory
 down_memory d = record {
+  law = d.law;
   framer = d.framer;
   align = d.align;
   waiting = d.waiting.items;

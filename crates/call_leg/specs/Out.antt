@@ -1,16 +1,14 @@
 -- The Out line of a call: what its uplink says, decoded (GSM 06.10; when nothing is decoded is this project's profile).
 -- Lists have the newest period first.
-use Rattle.std.specs.Prelude.{ℕ, ℤ, Bool, if◌then◌else◌, not, ◌&&◌, ◌==◌, is_some, List, [], ◌∷◌, map, replicate}
-use Rattle.trau_alaw.specs.Alaw.{alaw}
-use Rattle.trau_alaw.specs.Companding.{octet_of}
+use Rattle.std.specs.Prelude.{ℕ, Bool, if◌then◌else◌, not, ◌&&◌, ◌==◌, is_some, List, [], ◌∷◌, replicate}
+use Rattle.trau_alaw.specs.declared.Law.{Law}
+use Rattle.trau_alaw.specs.Laws.{idle_of}
+use Rattle.trau_alaw.specs.Period.{compressed}
 use Rattle.trau_params.specs.Fields.{Fields}
 use Rattle.fr_decoder.specs.Decoded.{samples_of}
 use Rattle.rx_handler.specs.Origin.{EffectiveFields, Quiet, Speech, Made}
+use Rattle.call_leg.specs.Who.{Who}
 use Rattle.call_leg.specs.Periods.{CallPeriod, effective_now, bridges_begun}
-
--- the A-law octets of samples
-unfoldable pub compressed : List ℤ → List ℕ
-compressed samples = map (octet_of alaw) samples
 
 -- A period is plain where it lies in no bridge and its effective frame isn't quiet: it goes on with the frames of the
 -- plain periods just before it, where `same` says so; any other period leaves none.
@@ -25,15 +23,15 @@ plain_stretch call epoch [] = []
 plain_stretch call epoch (t ∷ past) =
     plain_with (effective_now call (t ∷ past)) (not (is_some t.handed) && bridges_begun (t ∷ past) == epoch) (plain_stretch call epoch past)
 
--- the octets of a period in which the line is idle: 0xD5 (this project's profile)
-abbrev pub idle_octets : List ℕ
-idle_octets = replicate 160 213
+-- the octets of a period in which a line with this law is idle (this project's profile)
+abbrev pub idle_octets : Law → List ℕ
+idle_octets law = replicate 160 (idle_of law)
 
 -- the octets of the newest frame of a stretch, decoded from home over the whole stretch; idle where there is none
-abbrev pub decoded_octets : List Fields → List ℕ
-decoded_octets [] = idle_octets
-decoded_octets (p ∷ before) = compressed (samples_of p before)
+abbrev pub decoded_octets : Law → List Fields → List ℕ
+decoded_octets law [] = idle_octets law
+decoded_octets law (p ∷ before) = compressed law (samples_of p before)
 
--- the 160 octets of the newest period
-abbrev pub out_of : ℕ → List CallPeriod → List ℕ
-out_of call ts = decoded_octets (plain_stretch call (bridges_begun ts) ts)
+-- the 160 octets of the newest period: decoded where it is plain, and idle by the call's law where it isn't
+abbrev pub out_of : Who → List CallPeriod → List ℕ
+out_of who ts = decoded_octets who.law (plain_stretch who.number (bridges_begun ts) ts)

@@ -4,6 +4,7 @@ use Rattle.time_align.specs.Shift.{latest_ask}
 use Rattle.down_framer.specs.Made.{next_start, due, fields_since}
 use Rattle.down_framer.specs.Bridges.{IsHistory, in_bridge}
 use Rattle.down_framer.specs.Places.{Holds}
+use Rattle.call_leg.specs.Who.{Who}
 use Rattle.call_leg.specs.Uplink.{field_of, is_quiet, dtxd_after, heard_as}
 use Rattle.call_leg.specs.Periods.{CallPeriod, pcm_of, sighting_after, heard_of, dtxd_of}
 use Rattle.rx_handler.specs.Past.{effective_of}
@@ -33,7 +34,8 @@ abbrev pub in_u64 : ℕ → ℕ
 in_u64 n = min n 18446744073709551615
 
 -- Between periods, after all these, with the settings `now` for the next one.
-pub record Between (call : ℕ) (ts : List CallPeriod) (now : Settings) (d : DownMemory) : Type 0 where
+pub record Between (who : Who) (ts : List CallPeriod) (now : Settings) (d : DownMemory) : Type 0 where
+  pub law : d.law ≡ who.law
   pub long : length (pcm_of ts) ≡ 160 * length (down_periods ts)
   pub history : IsHistory (down_periods ts)
   -- as many frames are made as the least number of a frame whose 160 octets haven't all come: the next one's haven't ..
@@ -41,10 +43,10 @@ pub record Between (call : ℕ) (ts : List CallPeriod) (now : Settings) (d : Dow
   -- .. and those of each made frame have
   pub come : All (λ f. f.start + 160 ≤ 160 * length ts) (frames_of ts)
   -- the downlink made so far: 320 bits, and two for each octet before the next frame
-  pub line : length (down_made call (frames_of ts)) ≡ 320 + 2 * next_start (frames_of ts)
+  pub line : length (down_made who (frames_of ts)) ≡ 320 + 2 * next_start (frames_of ts)
   -- held are the octets of the Pcm line from the next frame's start on, or so many are to be skipped as it lies past
   -- the line; in store is what is made of the downlink and not yet out
-  pub places : Holds (pcm_of ts) (down_made call (frames_of ts)) (320 * length (down_periods ts)) (next_start (frames_of ts)) d.framer
+  pub places : Holds (pcm_of ts) (down_made who (frames_of ts)) (320 * length (down_periods ts)) (next_start (frames_of ts)) d.framer
   -- what was handed over in the latest bridge and no frame has carried yet
   pub waits : Waits ts (frames_of ts) d.waiting
   -- the shift asked for last since the last frame that carried nothing
@@ -52,7 +54,7 @@ pub record Between (call : ℕ) (ts : List CallPeriod) (now : Settings) (d : Dow
   -- shifts are frozen within a bridge, and as long as a frame waits
   pub frozen : d.align.frozen ≡ (now.bridged || is_some (due (down_periods ts) (frames_of ts)))
   -- the coder ran over the stretch that the next frame goes on with
-  pub coded : CoderStands (coded_stretch call (epoch_now ts now) (frames_of ts)) d.coder
+  pub coded : CoderStands who.law (coded_stretch who.number (epoch_now ts now) (frames_of ts)) d.coder
   pub sent : d.sent ≡ in_u32 (sent_now ts now)
   pub made : d.made ≡ in_u64 (length (frames_of ts))
   pub level : d.level ≡ now.level
@@ -64,20 +66,21 @@ pub record Between (call : ℕ) (ts : List CallPeriod) (now : Settings) (d : Dow
   pub goes_on : now.bridged ≡ true → (now.starts || in_bridge (down_periods ts)) ≡ true
 
 -- Between the halves of a period: its octets of the Up line are heard, and `handed` is handed over.
-pub record Halfway (call : ℕ) (ts : List CallPeriod) (now : Settings) (up : List ℕ) (handed : Option (List ℕ)) (d : DownMemory) : Type 0 where
+pub record Halfway (who : Who) (ts : List CallPeriod) (now : Settings) (up : List ℕ) (handed : Option (List ℕ)) (d : DownMemory) : Type 0 where
+  pub law : d.law ≡ who.law
   pub long : length (pcm_of ts) ≡ 160 * length (down_periods ts)
   pub history : IsHistory (down_periods ts)
-  pub places : Holds (pcm_of ts) (down_made call (frames_of ts)) (320 * length (down_periods ts)) (next_start (frames_of ts)) d.framer
+  pub places : Holds (pcm_of ts) (down_made who (frames_of ts)) (320 * length (down_periods ts)) (next_start (frames_of ts)) d.framer
   pub waits : (before : List (List ℕ)) × Waits ts (frames_of ts) before × (d.waiting ≡ before ++ option_to_list handed)
   pub kept : d.align.kept ≡ latest_ask (field_of (sighting_after ts up) ∷ fields_since (down_periods ts) (frames_of ts))
   pub frozen : d.align.frozen ≡ (now.bridged || is_some (due (down_periods ts) (frames_of ts)))
-  pub coded : CoderStands (coded_stretch call (epoch_now ts now) (frames_of ts)) d.coder
+  pub coded : CoderStands who.law (coded_stretch who.number (epoch_now ts now) (frames_of ts)) d.coder
   pub sent : d.sent ≡ in_u32 (sent_now ts now)
   pub made : d.made ≡ in_u64 (length (frames_of ts))
   pub level : d.level ≡ now.level
   pub mode : d.mode ≡ now.mode
   pub dtxd : d.dtxd ≡ dtxd_after (sighting_after ts up) (dtxd_of ts)
-  pub quiet : d.quiet ≡ is_quiet (effective_of call (heard_as (sighting_after ts up) ∷ heard_of ts))
+  pub quiet : d.quiet ≡ is_quiet (effective_of who.number (heard_as (sighting_after ts up) ∷ heard_of ts))
   pub bridged : d.bridged ≡ now.bridged
   pub alone : now.starts ≡ true → due (down_periods ts) (frames_of ts) ≡ None
   pub goes_on : now.bridged ≡ true → (now.starts || in_bridge (down_periods ts)) ≡ true

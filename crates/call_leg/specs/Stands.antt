@@ -4,6 +4,7 @@ use Rattle.frame_sync.specs.Step as search
 use Rattle.rx_handler.specs.Table as rx
 use Rattle.rx_handler.specs.Past.{effective_of}
 use Rattle.fr_decoder.specs.Step as decoder
+use Rattle.call_leg.specs.Who.{Who}
 use Rattle.call_leg.specs.Uplink.{heard_as}
 use Rattle.call_leg.specs.Periods.{CallPeriod, ups_of, sighting_after, heard_of}
 use Rattle.call_leg.specs.Settings.{Settings, epoch_now}
@@ -13,21 +14,23 @@ use Rattle.call_leg.specs.Memory.{LegMemory}
 use Rattle.call_leg.specs.Places.{Between, Halfway}
 
 -- Between periods: the leg is that of a call that had these periods, with the settings `now` for the next one.
-pub record Stands (call : ℕ) (ts : List CallPeriod) (now : Settings) (m : LegMemory) : Type 0 where
+pub record Stands (who : Who) (ts : List CallPeriod) (now : Settings) (m : LegMemory) : Type 0 where
+  pub law : m.law ≡ who.law
   pub search : search.Stands (ups_of ts) m.search
-  pub rx : rx.Stands call (heard_of ts) m.rx
-  pub decoder : decoder.Stands (plain_stretch call (epoch_now ts now) ts) m.decoder
+  pub rx : rx.Stands who.number (heard_of ts) m.rx
+  pub decoder : decoder.Stands (plain_stretch who.number (epoch_now ts now) ts) m.decoder
   pub counts : m.counts ≡ sightings_counted ts
-  pub down : Between call ts now m.down
+  pub down : Between who ts now m.down
 
 -- P holds of whatever call the leg stands for, the periods that it had, and the settings for its next one
-abbrev pub OfItsCall : LegMemory → (ℕ → List CallPeriod → Settings → Type 0) → Type 0
-OfItsCall m P = (call : ℕ) (ts : List CallPeriod) (now : Settings) → Stands call ts now m → P call ts now
+abbrev pub OfItsCall : LegMemory → (Who → List CallPeriod → Settings → Type 0) → Type 0
+OfItsCall m P = (who : Who) (ts : List CallPeriod) (now : Settings) → Stands who ts now m → P who ts now
 
 -- Between the halves of a period: the octets of the Up line were worked, and `handed` was handed over.
-pub record Midway (call : ℕ) (ts : List CallPeriod) (now : Settings) (up : List ℕ) (handed : Option (List ℕ)) (m : LegMemory) : Type 0 where
+pub record Midway (who : Who) (ts : List CallPeriod) (now : Settings) (up : List ℕ) (handed : Option (List ℕ)) (m : LegMemory) : Type 0 where
+  pub law : m.law ≡ who.law
   pub search : search.Stands (up ∷ ups_of ts) m.search
-  pub rx : rx.Stands call (heard_as (sighting_after ts up) ∷ heard_of ts) m.rx
-  pub decoder : decoder.Stands (plain_with (effective_of call (heard_as (sighting_after ts up) ∷ heard_of ts)) (not now.bridged) (plain_stretch call (epoch_now ts now) ts)) m.decoder
+  pub rx : rx.Stands who.number (heard_as (sighting_after ts up) ∷ heard_of ts) m.rx
+  pub decoder : decoder.Stands (plain_with (effective_of who.number (heard_as (sighting_after ts up) ∷ heard_of ts)) (not now.bridged) (plain_stretch who.number (epoch_now ts now) ts)) m.decoder
   pub counts : m.counts ≡ counted (sighting_after ts up) (sightings_counted ts)
-  pub down : Halfway call ts now up handed m.down
+  pub down : Halfway who ts now up handed m.down

@@ -1,6 +1,8 @@
 -- A leg from call to call.
 use Rattle.std.specs.Prelude.{ℕ, ◌+◌, ℤ, pos, Bool, true, false, not, ◌||◌, ◌==◌, nat_le, if◌then◌else◌, Option, Some, None, List, [], ◌∷◌, ◌++◌, length, take, drop}
 use Rattle.circular_buffer.specs.Buffer.{keep_last}
+use Rattle.trau_alaw.specs.declared.Law.{Law}
+use Rattle.trau_alaw.specs.Period.{expanded, compressed}
 use Rattle.trau_params.specs.Fields.{Fields}
 use Rattle.trau_params.specs.Bits260.{bits260}
 use Rattle.trau_orders.specs.declared.order.DtxMode.{DtxMode}
@@ -16,18 +18,20 @@ use Rattle.fr_encoder.specs.Step as encoder
 use Rattle.tx_dtx.specs.Step as tx
 use Rattle.time_align.specs.Memory as align
 use Rattle.down_framer.specs.Memory as framer
+use Rattle.call_leg.specs.Who.{Who}
 use Rattle.call_leg.specs.Uplink.{Sighting, sighting_in, heard_as, field_of, dtxd_after, is_quiet, handed_fields}
 use Rattle.call_leg.specs.Periods.{dtx_in}
 use Rattle.call_leg.specs.Counted.{no_counts, counted}
-use Rattle.call_leg.specs.Out.{idle_octets, compressed}
-use Rattle.call_leg.specs.Down.{expanded, coded_as, speech}
+use Rattle.call_leg.specs.Out.{idle_octets}
+use Rattle.call_leg.specs.Down.{coded_as, speech}
 use Rattle.call_leg.specs.Memory.{CoderMemory, home_coder, DownMemory, LegMemory}
 use Rattle.call_leg.specs.Places.{in_u32, in_u64}
 
 -- ---- a new leg
 
-abbrev pub home_down : DownMemory
-home_down = record {
+abbrev pub home_down : Law → DownMemory
+home_down law = record {
+  law = law;
   framer = framer.new_memory;
   align = align.new_memory;
   waiting = [];
@@ -41,8 +45,8 @@ home_down = record {
   made = 0;
 }
 
-abbrev pub home_leg : ℕ → LegMemory
-home_leg call = record { search = search.home_memory; rx = rx.first_memory call; decoder = decoder.home_memory; counts = no_counts; down = home_down }
+abbrev pub home_leg : Who → LegMemory
+home_leg who = record { law = who.law; search = search.home_memory; rx = rx.first_memory who.number; decoder = decoder.home_memory; counts = no_counts; down = home_down who.law }
 
 -- ---- the uplink half
 
@@ -56,26 +60,27 @@ abbrev pub after_sighting : DownMemory → Sighting → Bool → DownMemory
 after_sighting d s quiet = record d { align = asked d.align (field_of s); dtxd = dtxd_after s d.dtxd; quiet = quiet }
 
 -- the octets of a frame that is decoded, and of a period in which none is
-abbrev pub played_frame : decoder.DecoderMemory → Fields → List ℕ × decoder.DecoderMemory
-played_frame m p = let decoded = decoder.decoded_frame m p in (compressed decoded.0, decoded.1)
+abbrev pub played_frame : Law → decoder.DecoderMemory → Fields → List ℕ × decoder.DecoderMemory
+played_frame law m p = let decoded = decoder.decoded_frame m p in (compressed law decoded.0, decoded.1)
 
-abbrev pub played_none : List ℕ × decoder.DecoderMemory
-played_none = (idle_octets, decoder.home_memory)
+abbrev pub played_none : Law → List ℕ × decoder.DecoderMemory
+played_none law = (idle_octets law, decoder.home_memory)
 
-abbrev pub played : decoder.DecoderMemory → EffectiveFields → Bool → List ℕ × decoder.DecoderMemory
-played m Quiet alone = played_none
-played m (Speech p) alone = if alone then played_frame m p else played_none
-played m (Made p) alone = if alone then played_frame m p else played_none
+abbrev pub played : Law → decoder.DecoderMemory → EffectiveFields → Bool → List ℕ × decoder.DecoderMemory
+played law m Quiet alone = played_none law
+played law m (Speech p) alone = if alone then played_frame law m p else played_none law
+played law m (Made p) alone = if alone then played_frame law m p else played_none law
 
 -- the effective frame, the octets of the Out line, and the memory after them
 unfoldable pub up_worked : LegMemory → List ℕ → EffectiveFields × List ℕ × LegMemory
 up_worked m up =
     let found = search.next_period m.search up in
     let heard = rx.received m.rx (heard_as (sighting_in found.0)) in
-    let out = played m.decoder heard.0 (not m.down.bridged) in (
+    let out = played m.law m.decoder heard.0 (not m.down.bridged) in (
       heard.0,
       out.0,
       record {
+        law = m.law;
         search = found.1;
         rx = heard.1;
         decoder = out.1;
@@ -116,23 +121,24 @@ after_handing d e = record d { waiting = keep_last 2 (d.waiting ++ bits260 (hand
 -- ---- the downlink half
 
 -- the speech frame in which 160 octets are sent
-abbrev pub coded_next : CoderMemory → List ℕ → ℤ → Bool → DownFrame × CoderMemory
-coded_next m octets level on =
-    let encoded = encoder.encoded_frame m.encoder (expanded octets) in
+abbrev pub coded_next : Law → CoderMemory → List ℕ → ℤ → Bool → DownFrame × CoderMemory
+coded_next law m octets level on =
+    let encoded = encoder.encoded_frame m.encoder (expanded law octets) in
     let sent = tx.stepped m.tx (coded_as encoded.0 level on) in
     (speech sent.0, record { encoder = encoded.1; tx = sent.1 })
 
 -- the next frame where none waits, and where these do
-abbrev pub own_next : CoderMemory → List ℕ → Bool → ℤ → Bool → DownFrame × CoderMemory
-own_next m held quiet level on = if quiet then (frame.Idle, home_coder) else coded_next m (take 160 held) level on
+abbrev pub own_next : Law → CoderMemory → List ℕ → Bool → ℤ → Bool → DownFrame × CoderMemory
+own_next law m held quiet level on = if quiet then (frame.Idle, home_coder) else coded_next law m (take 160 held) level on
 
-abbrev pub next_by : List (List ℕ) → CoderMemory → List ℕ → Bool → ℤ → Bool → DownFrame × CoderMemory
-next_by [] m held quiet level on = own_next m held quiet level on
-next_by (x ∷ more) m held quiet level on = (frame.Speech x true, home_coder)
+abbrev pub next_by : Law → List (List ℕ) → CoderMemory → List ℕ → Bool → ℤ → Bool → DownFrame × CoderMemory
+next_by law [] m held quiet level on = own_next law m held quiet level on
+next_by law (x ∷ more) m held quiet level on = (frame.Speech x true, home_coder)
 
 -- a frame is made, with the coder after it, the shift that it adopts, and the shifts after it
 abbrev pub after_made : DownMemory → DownFrame × CoderMemory → ℤ × align.AlignMemory → DownMemory
 after_made d next shift = record {
+  law = d.law;
   framer = framer.after_frame d.framer (frames.down_bits next.0) shift.0;
   align = thawed shift.1 d.bridged (drop 1 d.waiting);
   waiting = drop 1 d.waiting;
@@ -147,7 +153,7 @@ after_made d next shift = record {
 }
 
 unfoldable pub frame_made : DownMemory → DownMemory
-frame_made d = after_made d (next_by d.waiting d.coder d.framer.held d.quiet d.level (dtx_in d.mode d.dtxd)) (align.adopted d.align)
+frame_made d = after_made d (next_by d.law d.waiting d.coder d.framer.held d.quiet d.level (dtx_in d.mode d.dtxd)) (align.adopted d.align)
 
 -- one frame is made, if 160 octets are held
 abbrev pub frame_tried : DownMemory → DownMemory

@@ -6,6 +6,7 @@ ghost use Rattle.trau_bits.specs.Bits.{bits_of};
 ghost use Rattle.trau_params.specs.Bits260.{bits260};
 ghost use Rattle.rx_handler.specs.State.{effective_fields};
 ghost use Rattle.down_framer.specs.Made.{due};
+ghost use Rattle.call_leg.specs.Who.{Who};
 ghost use Rattle.call_leg.specs.Uplink.{handed_fields};
 ghost use Rattle.call_leg.specs.Periods.{CallPeriod, effective_now};
 ghost use Rattle.call_leg.specs.Settings.{Settings, new_settings, later, with_level, with_mode, with_bridge, without_bridge, period_with};
@@ -25,19 +26,20 @@ use fr_decoder::Decoder;
 use frame_sync::FrameSync;
 use rx_handler::{Effective, Rx};
 use std::alloc::{AllocError, Global};
+use trau_alaw::Law;
 use trau_io::Counts;
 use trau_orders::DtxMode;
 
 impl Leg {
-    /// The leg of a call with this number, 1 to 4,096, before its first period: alone, with level 256 and DTX as the
-    /// uplink asks.
-    pub fn new(alloc: Global, call: u32) -> Result<Leg, AllocError>
+    /// The leg of a call with this number, 1 to 4,096, whose octets from and to the exchange are of this law, before its
+    /// first period: alone, with level 256 and DTX as the uplink asks.
+    pub fn new(alloc: Global, call: u32, law: Law) -> Result<Leg, AllocError>
         requires { IsCallNumber call }
-        ensures value { IfOk result (λ leg. leg ≡ home_leg call) }
-        ensures history { IfOk result (λ leg. Stands call [] new_settings leg) }
+        ensures value { IfOk result (λ leg. leg ≡ home_leg (record { number = call; law = law })) }
+        ensures history { IfOk result (λ leg. Stands (record { number = call; law = law }) [] new_settings leg) }
         ensures periods { IfOk result (λ leg. periods_of_leg leg ≡ 0) }
     {
-        let down = DownSide::new(alloc)?;
+        let down = DownSide::new(alloc, law)?;
         let counts = Counts {
             good: 0,
             sid: 0,
@@ -50,6 +52,7 @@ impl Leg {
             made: 0,
         };
         Ok(Leg {
+            law,
             search: FrameSync::new(),
             rx: Rx::new(call),
             decoder: Decoder::home(),
@@ -66,19 +69,19 @@ impl Leg {
         ensures periods { periods_of_leg self.new ≡ periods_of_leg self.old + 1 }
 
         // After the periods of any call, the next one's uplink half is worked ..
-        ensures history { OfItsCall self.old (λ call ts now. Midway call ts now up.now None self.new) }
+        ensures history { OfItsCall self.old (λ who ts now. Midway who ts now up.now None self.new) }
 
         // .. and its effective frame and octets are those of the call.
-        ensures effective { (pcm : List ℕ) (handed : Option (List ℕ)) → OfItsCall self.old (λ call ts now.
-            effective_fields result ≡ effective_now call (period_with now up.now pcm handed ∷ ts)) }
-        ensures out { (pcm : List ℕ) (handed : Option (List ℕ)) → OfItsCall self.old (λ call ts now.
-            is_some handed ≡ now.bridged → out.new ≡ out_of call (period_with now up.now pcm handed ∷ ts)) }
+        ensures effective { (pcm : List ℕ) (handed : Option (List ℕ)) → OfItsCall self.old (λ who ts now.
+            effective_fields result ≡ effective_now who.number (period_with now up.now pcm handed ∷ ts)) }
+        ensures out { (pcm : List ℕ) (handed : Option (List ℕ)) → OfItsCall self.old (λ who ts now.
+            is_some handed ≡ now.bridged → out.new ≡ out_of who (period_with now up.now pcm handed ∷ ts)) }
     {
         let yielded = self.search.feed(up);
         let found = read(&yielded);
         count(&mut self.counts, &found);
         let e = hear(&mut self.rx, &found);
-        play(&mut self.decoder, &e, !self.down.bridged, out);
+        play(&mut self.decoder, self.law, &e, !self.down.bridged, out);
         self.down.hear(&found, is_quiet(&e));
         e
     }
@@ -87,8 +90,8 @@ impl Leg {
     pub fn hand(&mut self, e: Effective)
         ensures periods { periods_of_leg self.new ≡ periods_of_leg self.old }
         ensures step { self.new ≡ with_down self.old (after_handing self.old.down (effective_fields e)) }
-        ensures history { (call : ℕ) (ts : List CallPeriod) (now : Settings) (up : List ℕ) → Midway call ts now up None self.old →
-            Midway call ts now up (Some (bits260 (handed_fields (effective_fields e)))) self.new }
+        ensures history { (who : Who) (ts : List CallPeriod) (now : Settings) (up : List ℕ) → Midway who ts now up None self.old →
+            Midway who ts now up (Some (bits260 (handed_fields (effective_fields e)))) self.new }
     {
         self.down.hand(&e);
     }
@@ -100,14 +103,14 @@ impl Leg {
         ensures periods { periods_of_leg self.new ≡ periods_of_leg self.old }
 
         // After the uplink half of a call's next period, and within a bridge the handing over, the period is worked ..
-        ensures history { (call : ℕ) (ts : List CallPeriod) (now : Settings) (up : List ℕ) (handed : Option (List ℕ)) →
-            is_some handed ≡ now.bridged → Midway call ts now up handed self.old →
-            Stands call (period_with now up pcm.now handed ∷ ts) (later now) self.new }
+        ensures history { (who : Who) (ts : List CallPeriod) (now : Settings) (up : List ℕ) (handed : Option (List ℕ)) →
+            is_some handed ≡ now.bridged → Midway who ts now up handed self.old →
+            Stands who (period_with now up pcm.now handed ∷ ts) (later now) self.new }
 
         // .. and its bits are those of the call.
-        ensures down { (call : ℕ) (ts : List CallPeriod) (now : Settings) (up : List ℕ) (handed : Option (List ℕ)) →
-            is_some handed ≡ now.bridged → Midway call ts now up handed self.old →
-            bits_of down.new ≡ down_now call (period_with now up pcm.now handed ∷ ts) }
+        ensures down { (who : Who) (ts : List CallPeriod) (now : Settings) (up : List ℕ) (handed : Option (List ℕ)) →
+            is_some handed ≡ now.bridged → Midway who ts now up handed self.old →
+            bits_of down.new ≡ down_now who (period_with now up pcm.now handed ∷ ts) }
     {
         self.down.half(pcm, down);
     }
@@ -123,12 +126,12 @@ impl Leg {
         requires { periods_of_leg self.old < 4294967295 }
         ensures step { period_worked self.old up.now pcm.now ≡ (out.new, bits_of down.new, self.new) }
         ensures periods { periods_of_leg self.new ≡ periods_of_leg self.old + 1 }
-        ensures history { OfItsCall self.old (λ call ts now.
-            now.bridged ≡ false → Stands call (period_with now up.now pcm.now None ∷ ts) (later now) self.new) }
-        ensures out { OfItsCall self.old (λ call ts now.
-            now.bridged ≡ false → out.new ≡ out_of call (period_with now up.now pcm.now None ∷ ts)) }
-        ensures down { OfItsCall self.old (λ call ts now.
-            now.bridged ≡ false → bits_of down.new ≡ down_now call (period_with now up.now pcm.now None ∷ ts)) }
+        ensures history { OfItsCall self.old (λ who ts now.
+            now.bridged ≡ false → Stands who (period_with now up.now pcm.now None ∷ ts) (later now) self.new) }
+        ensures out { OfItsCall self.old (λ who ts now.
+            now.bridged ≡ false → out.new ≡ out_of who (period_with now up.now pcm.now None ∷ ts)) }
+        ensures down { OfItsCall self.old (λ who ts now.
+            now.bridged ≡ false → bits_of down.new ≡ down_now who (period_with now up.now pcm.now None ∷ ts)) }
     {
         self.up_half(up, out);
         self.down_half(pcm, down);
@@ -138,8 +141,8 @@ impl Leg {
     pub fn bridge_on(&mut self)
         ensures periods { periods_of_leg self.new ≡ periods_of_leg self.old }
         ensures step { self.new ≡ begin_bridge self.old }
-        ensures history { OfItsCall self.old (λ call ts now.
-            due (down_periods ts) (frames_of ts) ≡ None → Stands call ts (with_bridge now) self.new) }
+        ensures history { OfItsCall self.old (λ who ts now.
+            due (down_periods ts) (frames_of ts) ≡ None → Stands who ts (with_bridge now) self.new) }
     {
         self.decoder = Decoder::home();
         self.down.bridge_on();
@@ -149,7 +152,7 @@ impl Leg {
     pub fn bridge_off(&mut self)
         ensures periods { periods_of_leg self.new ≡ periods_of_leg self.old }
         ensures step { self.new ≡ with_down self.old (bridge_over self.old.down) }
-        ensures history { OfItsCall self.old (λ call ts now. now.bridged ≡ true → Stands call ts (without_bridge now) self.new) }
+        ensures history { OfItsCall self.old (λ who ts now. now.bridged ≡ true → Stands who ts (without_bridge now) self.new) }
     {
         self.down.bridge_off();
     }
@@ -157,8 +160,8 @@ impl Leg {
     /// Whether it isn't bridged and a handed frame waits. Between periods at most one waits.
     pub fn draining(&self) -> bool
         ensures memory { result ≡ (not self.now.down.bridged && not (length self.now.down.waiting == 0)) }
-        ensures value { OfItsCall self.now (λ call ts now. result ≡ is_draining ts now) }
-        ensures one { OfItsCall self.now (λ call ts now. length self.now.down.waiting ≤ 1) }
+        ensures value { OfItsCall self.now (λ who ts now. result ≡ is_draining ts now) }
+        ensures one { OfItsCall self.now (λ who ts now. length self.now.down.waiting ≤ 1) }
     {
         self.down.draining()
     }
@@ -168,7 +171,7 @@ impl Leg {
         requires { pos 0 ≤ℤ level }
         ensures step { self.new ≡ with_down self.old (set_level level self.old.down) }
         ensures periods { periods_of_leg self.new ≡ periods_of_leg self.old }
-        ensures history { OfItsCall self.old (λ call ts now. Stands call ts (with_level level now) self.new) }
+        ensures history { OfItsCall self.old (λ who ts now. Stands who ts (with_level level now) self.new) }
     {
         self.down.level = level;
     }
@@ -177,7 +180,7 @@ impl Leg {
     pub fn set_dtx(&mut self, mode: DtxMode)
         ensures step { self.new ≡ with_down self.old (set_mode mode self.old.down) }
         ensures periods { periods_of_leg self.new ≡ periods_of_leg self.old }
-        ensures history { OfItsCall self.old (λ call ts now. Stands call ts (with_mode mode now) self.new) }
+        ensures history { OfItsCall self.old (λ who ts now. Stands who ts (with_mode mode now) self.new) }
     {
         self.down.mode = mode;
     }
@@ -185,7 +188,7 @@ impl Leg {
     /// How many handed frames were sent in the latest bridge.
     pub fn sent(&self) -> u32
         ensures memory { result ≡ self.now.down.sent }
-        ensures history { OfItsCall self.now (λ call ts now. result ≡ sent_now ts now) }
+        ensures history { OfItsCall self.now (λ who ts now. result ≡ sent_now ts now) }
     {
         self.down.sent
     }
@@ -193,7 +196,7 @@ impl Leg {
     /// What was counted of the call's periods.
     pub fn counts(&self) -> Counts
         ensures memory { result ≡ record self.now.counts { made = self.now.down.made } }
-        ensures history { OfItsCall self.now (λ call ts now. result ≡ call_counts ts) }
+        ensures history { OfItsCall self.now (λ who ts now. result ≡ call_counts ts) }
     {
         Counts {
             made: self.down.made,

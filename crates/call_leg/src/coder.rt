@@ -5,12 +5,11 @@ ghost use Rattle.trau_frame.specs.DownFrame.{HasBits};
 ghost use Rattle.fr_encoder.specs.Step as encoder;
 ghost use Rattle.tx_dtx.specs.Step as tx;
 ghost use Rattle.call_leg.specs.Periods.{dtx_in};
-ghost use Rattle.call_leg.specs.Down.{expanded};
 ghost use Rattle.call_leg.specs.Memory.{coder_memory};
 ghost use Rattle.call_leg.specs.Step.{coded_next};
 
 use fr_encoder::Encoder;
-use trau_alaw::expand;
+use trau_alaw::{Law, expand_all};
 use trau_frame::DownFrame;
 use trau_orders::DtxMode;
 use tx_dtx::Tx;
@@ -33,17 +32,6 @@ pub(crate) fn dtx_on(mode: DtxMode, asked: bool) -> bool
     }
 }
 
-// The samples that A-law octets stand for.
-fn expand_all(octets: &[u8; 160]) -> [i16; 160]
-    ensures { result ≡ expanded octets.now }
-{
-    let mut x = [0; 160];
-    for k in 0..160 {
-        x[k] = expand(octets[k]);
-    }
-    x
-}
-
 impl Coder {
     /// Both at home.
     pub(crate) fn home() -> Coder
@@ -56,12 +44,12 @@ impl Coder {
         }
     }
 
-    /// The frame in which 160 octets of the Pcm line are sent.
-    pub(crate) fn code(&mut self, octets: &[u8; 160], level: i16, on: bool) -> DownFrame
+    /// The frame in which 160 octets of a Pcm line with this law are sent.
+    pub(crate) fn code(&mut self, law: Law, octets: &[u8; 160], level: i16, on: bool) -> DownFrame
         ensures bits { HasBits result }
-        ensures step { coded_next (coder_memory self.old) octets.now level on ≡ (result, coder_memory self.new) }
+        ensures step { coded_next law (coder_memory self.old) octets.now level on ≡ (result, coder_memory self.new) }
     {
-        let (params, trace, peak) = self.encoder.encode(&expand_all(octets));
+        let (params, trace, peak) = self.encoder.encode(&expand_all(law, octets));
         let (sent, sp) = self.tx.send(&params, &trace, peak, level, on);
         let mut d = [0; 260];
         sent.to_bits(&mut d);

@@ -14,13 +14,21 @@ use crate::side::DownSide;
 use circular_buffer::HeapCircularBuffer;
 use down_framer::Framer;
 use time_align::Align;
+use trau_alaw::Law;
 use trau_frame::{DownFrame, write_down};
 
 // The next frame, where none waits: idle in a quiet period, else the frame of the next 160 octets.
-fn own_frame(coder: &mut Coder, framer: &Framer, quiet: bool, level: i16, on: bool) -> DownFrame
+fn own_frame(
+    coder: &mut Coder,
+    framer: &Framer,
+    law: Law,
+    quiet: bool,
+    level: i16,
+    on: bool,
+) -> DownFrame
     requires ready { 160 ≤ length framer.now.held }
     ensures bits { HasBits result }
-    ensures step { own_next (coder_memory coder.old) framer.now.held quiet level on ≡ (result, coder_memory coder.new) }
+    ensures step { own_next law (coder_memory coder.old) framer.now.held quiet level on ≡ (result, coder_memory coder.new) }
 {
     if quiet {
         *coder = Coder::home();
@@ -28,7 +36,7 @@ fn own_frame(coder: &mut Coder, framer: &Framer, quiet: bool, level: i16, on: bo
     }
     let mut octets = [0; 160];
     framer.block(&mut octets);
-    coder.code(&octets, level, on)
+    coder.code(law, &octets, level, on)
 }
 
 // The next frame: the handed one that waits longest, or else the leg's own.
@@ -36,6 +44,7 @@ fn next_frame(
     waiting: &mut HeapCircularBuffer<[u8; 260]>,
     coder: &mut Coder,
     framer: &Framer,
+    law: Law,
     quiet: bool,
     level: i16,
     on: bool,
@@ -45,13 +54,13 @@ fn next_frame(
     ensures bits { HasBits result }
     ensures waiting { waiting.new.items ≡ drop 1 waiting.old.items }
     ensures room { waiting.new.capacity ≡ waiting.old.capacity }
-    ensures step { next_by waiting.old.items (coder_memory coder.old) framer.now.held quiet level on ≡ (result, coder_memory coder.new) }
+    ensures step { next_by law waiting.old.items (coder_memory coder.old) framer.now.held quiet level on ≡ (result, coder_memory coder.new) }
 {
     if let Some(d) = waiting.pop_front() {
         *coder = Coder::home();
         return DownFrame::Speech { d, sp: true };
     }
-    own_frame(coder, framer, quiet, level, on)
+    own_frame(coder, framer, law, quiet, level, on)
 }
 
 // One more than a count, where there is one more.
@@ -92,6 +101,7 @@ impl DownSide {
             &mut self.waiting,
             &mut self.coder,
             &self.framer,
+            self.law,
             self.quiet,
             self.level,
             on,

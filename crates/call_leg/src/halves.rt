@@ -5,6 +5,7 @@ use fr_decoder::Decoder;
 use frame_sync::FrameSync;
 use rx_handler::{Effective, Rx};
 use std::marker::Model;
+use trau_alaw::Law;
 use trau_io::Counts;
 
 /// What a period of the uplink tells the downlink.
@@ -33,6 +34,7 @@ impl Model for UpNote {
 /// The uplink half of a leg.
 #[derive(Drop)]
 pub struct UpLeg {
+    pub(crate) law: Law,
     pub(crate) search: FrameSync,
     pub(crate) rx: Rx,
     pub(crate) decoder: Decoder,
@@ -47,7 +49,7 @@ impl Model for UpLeg {
 
     ghost Value = { UpMemory };
 
-    ghost view = { λ u. record { search = u.search; rx = u.rx; decoder = u.decoder; counts = u.counts; bridged = u.bridged } };
+    ghost view = { λ u. record { law = u.law; search = u.search; rx = u.rx; decoder = u.decoder; counts = u.counts; bridged = u.bridged } };
 
     ghost invariant = { λ u. (u.search.periods ≤ 4294967295) × (sighted_in u.counts ≡ u.search.periods) };
 }

@@ -10,6 +10,7 @@ ghost use Rattle.rx_handler.specs.Origin.{EffectiveFields};
 ghost use Rattle.down_framer.specs.Made.{due, next_start};
 ghost use Rattle.down_framer.specs.Bridges.{IsHistory};
 ghost use Rattle.down_framer.specs.ByNumber.{numbered_of, AreInTime};
+ghost use Rattle.call_leg.specs.Who.{Who};
 ghost use Rattle.call_leg.specs.Uplink.{handed_fields};
 ghost use Rattle.call_leg.specs.Periods.{CallPeriod, effective_now};
 ghost use Rattle.call_leg.specs.Settings.{Settings, new_settings, later, with_level, with_mode, with_bridge, without_bridge, period_with};
@@ -23,84 +24,84 @@ ghost use Rattle.call_leg.specs.Halves.{up_of, joined, Note, up_turned, noted, d
 
 /// The Down line of a call is the front of the downlink that is made: 320 bits a period.
 pub fn the_down_line_is_made()
-    ensures { (call : ℕ) (ts : List CallPeriod) → down_line call ts ≡ take (320 * length ts) (down_made call (frames_of ts)) }
+    ensures { (who : Who) (ts : List CallPeriod) → down_line who ts ≡ take (320 * length ts) (down_made who (frames_of ts)) }
 {}
 
 /// A period has 160 octets of the Out line and 320 bits of the Down line.
 pub fn the_lines_have_their_lengths()
-    ensures out { (call : ℕ) (ts : List CallPeriod) → length (out_of call ts) ≡ 160 }
-    ensures down { (call : ℕ) (t : CallPeriod) (past : List CallPeriod) → length (down_now call (t ∷ past)) ≡ 320 }
+    ensures out { (who : Who) (ts : List CallPeriod) → length (out_of who ts) ≡ 160 }
+    ensures down { (who : Who) (t : CallPeriod) (past : List CallPeriod) → length (down_now who (t ∷ past)) ≡ 320 }
 {}
 
 /// The Out line is made of octets, and the Down line of bits where only bits are handed over, as those of fields are.
 pub fn the_lines_are_octets_and_bits()
-    ensures out { (call : ℕ) (ts : List CallPeriod) → All (λ octet. octet < 256) (out_of call ts) }
-    ensures down { (call : ℕ) (ts : List CallPeriod) → All (λ t. IfSome t.handed (λ d. AreBits d)) ts → AreBits (down_now call ts) }
+    ensures out { (who : Who) (ts : List CallPeriod) → All (λ octet. octet < 256) (out_of who ts) }
+    ensures down { (who : Who) (ts : List CallPeriod) → All (λ t. IfSome t.handed (λ d. AreBits d)) ts → AreBits (down_now who ts) }
     ensures handed { (f : Fields) → AreBits (bits260 f) }
 {}
 
 /// A new leg's memory stands for a call before its first period.
 pub fn a_new_leg_stands()
-    ensures { (call : ℕ) → Stands call [] new_settings (home_leg call) }
+    ensures { (who : Who) → Stands who [] new_settings (home_leg who) }
 {}
 
 /// The uplink half of a period, with its 40 octets of the Up line: what it leaves, its effective frame, and its octets
 /// of the Out line.
 pub fn the_uplink_half_stands()
-    ensures stands { (up : List ℕ) (m : LegMemory) → length up ≡ 40 → OfItsCall m (λ call ts now.
-        Midway call ts now up None (up_worked m up).2) }
-    ensures effective { (up pcm : List ℕ) (handed : Option (List ℕ)) (m : LegMemory) → length up ≡ 40 → OfItsCall m (λ call ts now.
-        (up_worked m up).0 ≡ effective_now call (period_with now up pcm handed ∷ ts)) }
-    ensures out { (up pcm : List ℕ) (handed : Option (List ℕ)) (m : LegMemory) → length up ≡ 40 → OfItsCall m (λ call ts now.
-        is_some handed ≡ now.bridged → (up_worked m up).1 ≡ out_of call (period_with now up pcm handed ∷ ts)) }
+    ensures stands { (up : List ℕ) (m : LegMemory) → length up ≡ 40 → OfItsCall m (λ who ts now.
+        Midway who ts now up None (up_worked m up).2) }
+    ensures effective { (up pcm : List ℕ) (handed : Option (List ℕ)) (m : LegMemory) → length up ≡ 40 → OfItsCall m (λ who ts now.
+        (up_worked m up).0 ≡ effective_now who.number (period_with now up pcm handed ∷ ts)) }
+    ensures out { (up pcm : List ℕ) (handed : Option (List ℕ)) (m : LegMemory) → length up ≡ 40 → OfItsCall m (λ who ts now.
+        is_some handed ≡ now.bridged → (up_worked m up).1 ≡ out_of who (period_with now up pcm handed ∷ ts)) }
 {}
 
 /// The handing over of a partner's effective frame, between the halves of a period.
 pub fn the_handing_over_stands()
-    ensures { (call : ℕ) (ts : List CallPeriod) (now : Settings) (up : List ℕ) (e : EffectiveFields) (m : LegMemory) → Midway call ts now up None m →
-        Midway call ts now up (Some (bits260 (handed_fields e))) (with_down m (after_handing m.down e)) }
+    ensures { (who : Who) (ts : List CallPeriod) (now : Settings) (up : List ℕ) (e : EffectiveFields) (m : LegMemory) → Midway who ts now up None m →
+        Midway who ts now up (Some (bits260 (handed_fields e))) (with_down m (after_handing m.down e)) }
 {}
 
 /// The downlink half of a period, with its 160 octets of the Pcm line: what it leaves, and its bits of the Down line.
 pub fn the_downlink_half_stands()
-    ensures { (call : ℕ) (ts : List CallPeriod) (now : Settings) (up pcm : List ℕ) (handed : Option (List ℕ)) (m : LegMemory) → length pcm ≡ 160 → is_some handed ≡ now.bridged →
-        Midway call ts now up handed m →
-        Stands call (period_with now up pcm handed ∷ ts) (later now) (with_down m (down_worked m.down pcm).1)
-        × ((down_worked m.down pcm).0 ≡ down_now call (period_with now up pcm handed ∷ ts)) }
+    ensures { (who : Who) (ts : List CallPeriod) (now : Settings) (up pcm : List ℕ) (handed : Option (List ℕ)) (m : LegMemory) → length pcm ≡ 160 → is_some handed ≡ now.bridged →
+        Midway who ts now up handed m →
+        Stands who (period_with now up pcm handed ∷ ts) (later now) (with_down m (down_worked m.down pcm).1)
+        × ((down_worked m.down pcm).0 ≡ down_now who (period_with now up pcm handed ∷ ts)) }
 {}
 
 /// A whole period of a leg that isn't bridged: what it leaves, its octets of the Out line, and its bits of the Down
 /// line.
 pub fn the_period_stands()
-    ensures stands { (up pcm : List ℕ) (m : LegMemory) → length up ≡ 40 → length pcm ≡ 160 → OfItsCall m (λ call ts now.
-        now.bridged ≡ false → Stands call (period_with now up pcm None ∷ ts) (later now) (period_worked m up pcm).2) }
-    ensures out { (up pcm : List ℕ) (m : LegMemory) → length up ≡ 40 → length pcm ≡ 160 → OfItsCall m (λ call ts now.
-        now.bridged ≡ false → (period_worked m up pcm).0 ≡ out_of call (period_with now up pcm None ∷ ts)) }
-    ensures down { (up pcm : List ℕ) (m : LegMemory) → length up ≡ 40 → length pcm ≡ 160 → OfItsCall m (λ call ts now.
-        now.bridged ≡ false → (period_worked m up pcm).1 ≡ down_now call (period_with now up pcm None ∷ ts)) }
+    ensures stands { (up pcm : List ℕ) (m : LegMemory) → length up ≡ 40 → length pcm ≡ 160 → OfItsCall m (λ who ts now.
+        now.bridged ≡ false → Stands who (period_with now up pcm None ∷ ts) (later now) (period_worked m up pcm).2) }
+    ensures out { (up pcm : List ℕ) (m : LegMemory) → length up ≡ 40 → length pcm ≡ 160 → OfItsCall m (λ who ts now.
+        now.bridged ≡ false → (period_worked m up pcm).0 ≡ out_of who (period_with now up pcm None ∷ ts)) }
+    ensures down { (up pcm : List ℕ) (m : LegMemory) → length up ≡ 40 → length pcm ≡ 160 → OfItsCall m (λ who ts now.
+        now.bridged ≡ false → (period_worked m up pcm).1 ≡ down_now who (period_with now up pcm None ∷ ts)) }
 {}
 
 /// Orders between periods: the level and the DTX mode are set, a bridge begins where no handed frame waits, and a
 /// bridge ends.
 pub fn orders_stand()
-    ensures level { (level : ℤ) (m : LegMemory) → OfItsCall m (λ call ts now.
-        Stands call ts (with_level level now) (with_down m (set_level level m.down))) }
-    ensures mode { (mode : DtxMode) (m : LegMemory) → OfItsCall m (λ call ts now.
-        Stands call ts (with_mode mode now) (with_down m (set_mode mode m.down))) }
-    ensures begin { (m : LegMemory) → OfItsCall m (λ call ts now.
-        due (down_periods ts) (frames_of ts) ≡ None → Stands call ts (with_bridge now) (begin_bridge m)) }
-    ensures end { (m : LegMemory) → OfItsCall m (λ call ts now.
-        now.bridged ≡ true → Stands call ts (without_bridge now) (with_down m (bridge_over m.down))) }
+    ensures level { (level : ℤ) (m : LegMemory) → OfItsCall m (λ who ts now.
+        Stands who ts (with_level level now) (with_down m (set_level level m.down))) }
+    ensures mode { (mode : DtxMode) (m : LegMemory) → OfItsCall m (λ who ts now.
+        Stands who ts (with_mode mode now) (with_down m (set_mode mode m.down))) }
+    ensures begin { (m : LegMemory) → OfItsCall m (λ who ts now.
+        due (down_periods ts) (frames_of ts) ≡ None → Stands who ts (with_bridge now) (begin_bridge m)) }
+    ensures end { (m : LegMemory) → OfItsCall m (λ who ts now.
+        now.bridged ≡ true → Stands who ts (without_bridge now) (with_down m (bridge_over m.down))) }
 {}
 
 /// A leg counts the periods of its call.
 pub fn the_periods_are_counted()
-    ensures { (m : LegMemory) → OfItsCall m (λ call ts now. periods_of_leg m ≡ length ts) }
+    ensures { (m : LegMemory) → OfItsCall m (λ who ts now. periods_of_leg m ≡ length ts) }
 {}
 
 /// Between periods at most one handed frame waits.
 pub fn one_frame_waits()
-    ensures { (m : LegMemory) → OfItsCall m (λ call ts now. length m.down.waiting ≤ 1) }
+    ensures { (m : LegMemory) → OfItsCall m (λ who ts now. length m.down.waiting ≤ 1) }
 {}
 
 /// After any periods each frame is made whose 160 octets of the Pcm line have come, in the period that brought the last
@@ -118,12 +119,12 @@ pub fn the_frames_are_made_by_number()
     ensures next { (ts : List CallPeriod) → IsHistory (down_periods ts) → start_of ts (length (frames_of ts)) ≡ next_start (frames_of ts) }
     ensures ahead { (ts : List CallPeriod) → IsHistory (down_periods ts) → 160 * length ts < start_of ts (length (frames_of ts)) + 160 }
     ensures least { (ts : List CallPeriod) (j : ℕ) → IsHistory (down_periods ts) → j < length (frames_of ts) → start_of ts j + 160 ≤ 160 * length ts }
-    ensures history { (m : LegMemory) → OfItsCall m (λ call ts now. IsHistory (down_periods ts)) }
+    ensures history { (m : LegMemory) → OfItsCall m (λ who ts now. IsHistory (down_periods ts)) }
 {}
 
 /// The downlink that is made in a call's periods: 320 bits, and two for each octet of the Pcm line before the next frame.
 pub fn the_downlink_has_its_length()
-    ensures { (call : ℕ) (ts : List CallPeriod) → length (down_made call (frames_of ts)) ≡ 320 + 2 * next_start (frames_of ts) }
+    ensures { (who : Who) (ts : List CallPeriod) → length (down_made who (frames_of ts)) ≡ 320 + 2 * next_start (frames_of ts) }
 {}
 
 /// The uplink half of a leg's period is a period of its uplink half, whose note its downlink half hears. So a period of a

@@ -5,6 +5,7 @@ use fr_decoder::Decoder;
 use frame_sync::FrameSync;
 use rx_handler::Rx;
 use std::marker::Model;
+use trau_alaw::Law;
 use trau_io::Counts;
 
 /// The leg of one call. It is alone, bridged or draining: within a bridge its partner's frames go out on its downlink,
@@ -16,6 +17,8 @@ use trau_io::Counts;
 /// the clauses on a call's history then say nothing.
 #[derive(Drop)]
 pub struct Leg {
+    // The law of the call's octets from and to the exchange. The downlink side has it too.
+    pub(crate) law: Law,
     pub(crate) search: FrameSync,
     pub(crate) rx: Rx,
     pub(crate) decoder: Decoder,
@@ -31,7 +34,7 @@ impl Model for Leg {
 
     ghost Value = { LegMemory };
 
-    ghost view = { λ l. record { search = l.search; rx = l.rx; decoder = l.decoder; counts = l.counts; down = down_memory l.down } };
+    ghost view = { λ l. record { law = l.law; search = l.search; rx = l.rx; decoder = l.decoder; counts = l.counts; down = down_memory l.down } };
 
     ghost invariant = { λ l. (l.search.periods ≤ 4294967295) × (sighted_in l.counts ≡ l.search.periods) × IsBetween l.down.framer };
 }

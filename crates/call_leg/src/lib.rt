@@ -10,12 +10,12 @@
 //! `side` and `sides` the downlink side, `coder` and `down` the way down; `halves` has the two halves of a leg apart, and
 //! `turns` their calls; `laws` has the laws.
 //!
-//! Definitions: `specs/Periods.antt` (the periods of a call), `specs/Uplink.antt` (what its uplink tells),
-//! `specs/Settings.antt` (what is set for its next period), `specs/Out.antt` and `specs/Down.antt` (its outgoing lines),
-//! `specs/Numbered.antt` (its made frames by number), `specs/Waiting.antt` (the handed frames that wait),
+//! Definitions: `specs/Who.antt` (whose call it is), `specs/Periods.antt` (its periods), `specs/Uplink.antt` (what its
+//! uplink tells), `specs/Settings.antt` (what is set for its next period), `specs/Out.antt` and `specs/Down.antt` (its
+//! outgoing lines), `specs/Numbered.antt` (its made frames by number), `specs/Waiting.antt` (the handed frames that wait),
 //! `specs/Counted.antt`, `specs/Places.antt` and `specs/Stands.antt` (what a leg holds after all periods so far),
 //! `specs/Memory.antt` (what it keeps), `specs/Step.antt` (one call after another), `specs/Halves.antt` (the two halves of a
-//! leg apart).
+//! leg apart) and `specs/Runs.antt` (their runs over some periods).
 #![tactic(auto)]
 
 mod calls;

@@ -7,11 +7,14 @@ use crate::coder::Coder;
 use circular_buffer::HeapCircularBuffer;
 use down_framer::Framer;
 use time_align::Align;
+use trau_alaw::Law;
 use trau_orders::DtxMode;
 
 /// The downlink side of a leg.
 #[derive(Drop)]
 pub(crate) struct DownSide {
+    // The law of the call's octets from and to the exchange.
+    pub(crate) law: Law,
     pub(crate) framer: Framer,
     pub(crate) align: Align,
     // The 260 bits of each handed frame that no frame has carried yet.

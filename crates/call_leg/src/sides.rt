@@ -20,6 +20,7 @@ use down_framer::Framer;
 use rx_handler::Effective;
 use std::alloc::{AllocError, Global};
 use time_align::Align;
+use trau_alaw::Law;
 use trau_orders::DtxMode;
 
 // Asks for the shift of a field, if there is one.
@@ -32,14 +33,15 @@ fn ask(align: &mut Align, field: Option<u8>)
 }
 
 impl DownSide {
-    /// The downlink side of a new call.
-    pub(crate) fn new(alloc: Global) -> Result<DownSide, AllocError>
+    /// The downlink side of a new call whose octets are of this law.
+    pub(crate) fn new(alloc: Global, law: Law) -> Result<DownSide, AllocError>
         ensures between { IfOk result (λ d. IsBetween d.framer) }
-        ensures value { IfOk result (λ d. down_memory d ≡ home_down) }
+        ensures value { IfOk result (λ d. down_memory d ≡ home_down law) }
     {
         let framer = Framer::new(alloc)?;
         let waiting = HeapCircularBuffer::with_capacity(alloc, 2)?;
         Ok(DownSide {
+            law,
             framer,
             align: Align::new(),
             waiting,

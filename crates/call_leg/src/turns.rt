@@ -2,6 +2,7 @@
 
 ghost use Rattle.std.specs.Prelude.{◌≡◌, ◌≤◌, ◌<◌, ◌+◌, ℕ, true, is_some, Option, List, ◌∷◌, option_copied};
 ghost use Rattle.trau_bits.specs.Bits.{bits_of};
+ghost use Rattle.call_leg.specs.Who.{Who};
 ghost use Rattle.call_leg.specs.Periods.{CallPeriod};
 ghost use Rattle.call_leg.specs.Settings.{Settings, later, without_bridge, period_with};
 ghost use Rattle.call_leg.specs.Out.{out_of};
@@ -22,9 +23,10 @@ impl Leg {
     pub fn split(self) -> (UpLeg, DownLeg)
         ensures up { result.0 ≡ up_of self }
         ensures down { result.1 ≡ self.down }
-        ensures history { OfItsCall self (λ call ts now. UpStands call ts now result.0 × Between call ts now result.1) }
+        ensures history { OfItsCall self (λ who ts now. UpStands who ts now result.0 × Between who ts now result.1) }
     {
         let Leg {
+            law,
             search,
             rx,
             decoder,
@@ -32,6 +34,7 @@ impl Leg {
             down,
         } = self;
         let up = UpLeg {
+            law,
             search,
             rx,
             decoder,
@@ -44,9 +47,10 @@ impl Leg {
     /// The leg of two halves of one call that had the same periods.
     pub fn join(up: UpLeg, down: DownLeg) -> Leg
         ensures step { result ≡ joined up down }
-        ensures history { (call : ℕ) (ts : List CallPeriod) (now : Settings) → UpStands call ts now up → Between call ts now down → Stands call ts now result }
+        ensures history { (who : Who) (ts : List CallPeriod) (now : Settings) → UpStands who ts now up → Between who ts now down → Stands who ts now result }
     {
         let UpLeg {
+            law,
             search,
             rx,
             decoder,
@@ -55,6 +59,7 @@ impl Leg {
         } = up;
         let DownLeg { side } = down;
         Leg {
+            law,
             search,
             rx,
             decoder,
@@ -82,19 +87,19 @@ impl UpLeg {
 
         // After the periods of any call, whatever octets of the Pcm line and whatever handed bits its next one has, the
         // half stands for the call with that period more ..
-        ensures history { (pcm : List ℕ) (handed : Option (List ℕ)) → OfItsUp self.old (λ call ts now. is_some handed ≡ now.bridged →
-            UpStands call (period_with now up.now pcm handed ∷ ts) (later now) self.new) }
+        ensures history { (pcm : List ℕ) (handed : Option (List ℕ)) → OfItsUp self.old (λ who ts now. is_some handed ≡ now.bridged →
+            UpStands who (period_with now up.now pcm handed ∷ ts) (later now) self.new) }
 
         // .. and its note and its octets are those of the call.
-        ensures note { OfItsUp self.old (λ call ts now. result ≡ note_in call ts up.now) }
-        ensures out { (pcm : List ℕ) (handed : Option (List ℕ)) → OfItsUp self.old (λ call ts now. is_some handed ≡ now.bridged →
-            out.new ≡ out_of call (period_with now up.now pcm handed ∷ ts)) }
+        ensures note { OfItsUp self.old (λ who ts now. result ≡ note_in who.number ts up.now) }
+        ensures out { (pcm : List ℕ) (handed : Option (List ℕ)) → OfItsUp self.old (λ who ts now. is_some handed ≡ now.bridged →
+            out.new ≡ out_of who (period_with now up.now pcm handed ∷ ts)) }
     {
         let yielded = self.search.feed(up);
         let found = read(&yielded);
         count(&mut self.counts, &found);
         let eff = hear(&mut self.rx, &found);
-        play(&mut self.decoder, &eff, !self.bridged, out);
+        play(&mut self.decoder, self.law, &eff, !self.bridged, out);
         UpNote {
             eff,
             ask: asked(&found),
@@ -115,7 +120,7 @@ impl UpLeg {
         requires { self.old.bridged ≡ true }
         ensures periods { self.new.search.periods ≡ self.old.search.periods }
         ensures step { self.new ≡ up_unbridged self.old }
-        ensures history { OfItsUp self.old (λ call ts now. UpStands call ts (without_bridge now) self.new) }
+        ensures history { OfItsUp self.old (λ who ts now. UpStands who ts (without_bridge now) self.new) }
     {
         self.bridged = false;
     }
@@ -143,14 +148,14 @@ impl DownLeg {
 
         // After the periods of any call, with the note of its next one, and an effective frame where it lies in a bridge,
         // the half stands for the call with that period more ..
-        ensures history { (call : ℕ) (ts : List CallPeriod) (now : Settings) (up : List ℕ) → Between call ts now self.old → note.now ≡ note_in call ts up →
+        ensures history { (who : Who) (ts : List CallPeriod) (now : Settings) (up : List ℕ) → Between who ts now self.old → note.now ≡ note_in who.number ts up →
             is_some item.entry ≡ now.bridged →
-            Between call (period_with now up pcm.now (handed_bits (item_of (option_copied item.entry))) ∷ ts) (later now) self.new }
+            Between who (period_with now up pcm.now (handed_bits (item_of (option_copied item.entry))) ∷ ts) (later now) self.new }
 
         // .. and its bits are those of the call.
-        ensures down { (call : ℕ) (ts : List CallPeriod) (now : Settings) (up : List ℕ) → Between call ts now self.old → note.now ≡ note_in call ts up →
+        ensures down { (who : Who) (ts : List CallPeriod) (now : Settings) (up : List ℕ) → Between who ts now self.old → note.now ≡ note_in who.number ts up →
             is_some item.entry ≡ now.bridged →
-            bits_of down.new ≡ down_now call (period_with now up pcm.now (handed_bits (item_of (option_copied item.entry))) ∷ ts) }
+            bits_of down.new ≡ down_now who (period_with now up pcm.now (handed_bits (item_of (option_copied item.entry))) ∷ ts) }
     {
         self.side.note(note);
         self.side.hand_item(item);
@@ -161,7 +166,7 @@ impl DownLeg {
     pub fn bridge_off(&mut self)
         requires { self.old.bridged ≡ true }
         ensures step { self.new ≡ bridge_over self.old }
-        ensures history { (call : ℕ) (ts : List CallPeriod) (now : Settings) → Between call ts now self.old → Between call ts (without_bridge now) self.new }
+        ensures history { (who : Who) (ts : List CallPeriod) (now : Settings) → Between who ts now self.old → Between who ts (without_bridge now) self.new }
     {
         self.side.bridge_off();
     }

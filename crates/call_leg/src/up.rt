@@ -5,13 +5,12 @@ ghost use Rattle.trau_params.specs.Fields.{fields_of};
 ghost use Rattle.rx_handler.specs.Table.{received};
 ghost use Rattle.rx_handler.specs.State.{effective_fields};
 ghost use Rattle.call_leg.specs.Uplink.{heard_as, sighting_of, is_quiet, handed_fields};
-ghost use Rattle.call_leg.specs.Out.{compressed};
 ghost use Rattle.call_leg.specs.Step.{played_frame, played};
 
 use crate::found::Found;
 use fr_decoder::Decoder;
 use rx_handler::{Effective, Rx};
-use trau_alaw::compress;
+use trau_alaw::{Law, compress_all, idle_octet};
 use trau_params::{Params, silence};
 
 /// The effective frame of a period.
@@ -44,34 +43,31 @@ pub(crate) fn handed(e: &Effective) -> Params
     }
 }
 
-// The A-law octets of samples.
-fn compress_all(x: &[i16; 160], octets: &mut [u8; 160])
-    ensures { octets.new ≡ compressed x.now }
-{
-    for k in 0..160 {
-        octets[k] = compress(x[k]);
-    }
-}
-
 // The octets of the next frame of a plain stretch.
-fn decode(decoder: &mut Decoder, p: &Params, octets: &mut [u8; 160])
-    ensures { played_frame decoder.old (fields_of p.now) ≡ (octets.new, decoder.new) }
+fn decode(decoder: &mut Decoder, law: Law, p: &Params, octets: &mut [u8; 160])
+    ensures { played_frame law decoder.old (fields_of p.now) ≡ (octets.new, decoder.new) }
 {
     let mut x = [0; 160];
     decoder.decode(p, &mut x);
-    compress_all(&x, octets);
+    compress_all(law, &x, octets);
 }
 
-/// The octets of a period: decoded where it is plain, else those of a line that is quiet.
-pub(crate) fn play(decoder: &mut Decoder, e: &Effective, alone: bool, octets: &mut [u8; 160])
-    ensures { played decoder.old (effective_fields e.now) alone ≡ (octets.new, decoder.new) }
+/// The octets of a period on a line with this law: decoded where it is plain, else those of a line that is idle.
+pub(crate) fn play(
+    decoder: &mut Decoder,
+    law: Law,
+    e: &Effective,
+    alone: bool,
+    octets: &mut [u8; 160],
+)
+    ensures { played law decoder.old (effective_fields e.now) alone ≡ (octets.new, decoder.new) }
 {
     if alone {
         match e {
             Effective::Quiet => {}
-            Effective::Speech(p) | Effective::Made(p) => return decode(decoder, p, octets),
+            Effective::Speech(p) | Effective::Made(p) => return decode(decoder, law, p, octets),
         }
     }
     *decoder = Decoder::home();
-    *octets = [0xD5; 160];
+    *octets = [idle_octet(law); 160];
 }

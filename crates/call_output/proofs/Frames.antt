@@ -7,6 +7,7 @@ use Rattle.std.proofs.lemmas.List.Elements.{All-head, All-tail}
 use Rattle.down_framer.specs.Made.{MadeFrame, next_start}
 use Rattle.down_framer.specs.ByNumber.{Bridge, NumberedFrame, when, count_from, item_of, numbered, numbered_start, longer, bridges_in, fields_in, numbered_of}
 use Rattle.down_framer.proofs.FrameLaws.{in_time}
+use Rattle.call_leg.specs.Who.{Who}
 use Rattle.call_leg.specs.Periods.{CallPeriod}
 use Rattle.call_leg.specs.Down.{down_periods, frames_of}
 use Rattle.call_leg.proofs.Enter.{length-down_periods}
@@ -93,33 +94,33 @@ bridges-of : (ts : List CallPeriod) → map bridge_of (reverse (spans_of ts)) �
 bridges-of ts = map-reverse bridge_of (spans_of ts) ∙ ap reverse (bridges-read ts)
 
 -- the first frames of the call, by the periods
-pub first-read : (number : ℕ) (ts : List CallPeriod) (j : ℕ) → IsCallHistory ts →
-    first_frames (call_of number ts) j ≡ numbered (reverse (bridges_in (down_periods ts))) (fields_in (down_periods ts)) j
-first-read number ts j h =
-    ap (λ bs. numbered bs (fields (call_of number ts)) j) (bridges-of ts) ∙
-    ap (λ xs. numbered (reverse (bridges_in (down_periods ts))) xs j) (fields-read number ts h)
+pub first-read : (who : Who) (ts : List CallPeriod) (j : ℕ) → IsCallHistory ts →
+    first_frames (call_of who ts) j ≡ numbered (reverse (bridges_in (down_periods ts))) (fields_in (down_periods ts)) j
+first-read who ts j h =
+    ap (λ bs. numbered bs (fields (call_of who ts)) j) (bridges-of ts) ∙
+    ap (λ xs. numbered (reverse (bridges_in (down_periods ts))) xs j) (fields-read who ts h)
 
-among-read : (number : ℕ) (ts : List CallPeriod) (m : ℕ) → IsCallHistory ts → 2 * length ts ≤ m → made_among (call_of number ts) m ≡ map numbered_of (frames_of ts)
-among-read number ts m h l =
+among-read : (who : Who) (ts : List CallPeriod) (m : ℕ) → IsCallHistory ts → 2 * length ts ≤ m → made_among (call_of who ts) m ≡ map numbered_of (frames_of ts)
+among-read who ts m h l =
     let n = length ts in
     let bridges = reverse (bridges_in (down_periods ts)) in
     let fields = fields_in (down_periods ts) in
     let time = in_time (down_periods ts) in
     let most = frames-at_most ts in
-    ap (λ n. filter (is_within n) (first_frames (call_of number ts) m)) (length-settings_of ts) ∙
-    ap (filter (is_within n)) (first-read number ts m h) ∙
+    ap (λ n. filter (is_within n) (first_frames (call_of who ts) m)) (length-settings_of ts) ∙
+    ap (filter (is_within n)) (first-read who ts m h) ∙
     none_later bridges fields n (length (frames_of ts)) m (far_enough ts h) (omega arith) ∙
     ap (filter (is_within n)) (sym (made-in_order (down_periods ts) h.bridges)) ∙
     all_within n (frames_of ts) (subst (λ k. All (λ f. (f.period ≡ when f.start) × (f.start + 160 ≤ 160 * k)) (frames_of ts)) (length-down_periods ts) time.made)
 
-pub made-read : (number : ℕ) (ts : List CallPeriod) → IsCallHistory ts → made (call_of number ts) ≡ reverse (map numbered_of (frames_of ts))
-made-read number ts h = ap reverse (among-read number ts (2 * periods (call_of number ts)) h (let n = length-settings_of ts in omega arith))
+pub made-read : (who : Who) (ts : List CallPeriod) → IsCallHistory ts → made (call_of who ts) ≡ reverse (map numbered_of (frames_of ts))
+made-read who ts h = ap reverse (among-read who ts (2 * periods (call_of who ts)) h (let n = length-settings_of ts in omega arith))
 
-pub enough : (number : ℕ) (ts : List CallPeriod) (m : ℕ) → IsCallHistory ts → 2 * periods (call_of number ts) ≤ m →
-    made_among (call_of number ts) m ≡ made_among (call_of number ts) (2 * periods (call_of number ts))
-enough number ts m h l =
+pub enough : (who : Who) (ts : List CallPeriod) (m : ℕ) → IsCallHistory ts → 2 * periods (call_of who ts) ≤ m →
+    made_among (call_of who ts) m ≡ made_among (call_of who ts) (2 * periods (call_of who ts))
+enough who ts m h l =
     let n = length-settings_of ts in
-    among-read number ts m h (omega arith) ∙ sym (among-read number ts (2 * periods (call_of number ts)) h (omega arith))
+    among-read who ts m h (omega arith) ∙ sym (among-read who ts (2 * periods (call_of who ts)) h (omega arith))
 
 -- ---- items
 
@@ -132,18 +133,18 @@ has_item call span j i h =
     (and_from _ _ (le-leb span.from (when (frame_at call j).start) h.begun) (lt-ltb (count_from span.from fs) (span.to - span.from) (omega arith))) ∙
     ap (λ i. Some (span.from + i)) (sym number)
 
-pub item-carried : (number : ℕ) (ts : List CallPeriod) (before after : List Span) (span : Span) (j i : ℕ) → IsCallHistory ts →
-    (call_of number ts).spans ≡ before ++ span ∷ after → j < length (made (call_of number ts)) →
-    HasItem (call_of number ts) span j i → (frame_at (call_of number ts) j).carries ≡ Some (span.from + i)
-item-carried number ts before after span j i h e l has =
-    let call = call_of number ts in
+pub item-carried : (who : Who) (ts : List CallPeriod) (before after : List Span) (span : Span) (j i : ℕ) → IsCallHistory ts →
+    (call_of who ts).spans ≡ before ++ span ∷ after → j < length (made (call_of who ts)) →
+    HasItem (call_of who ts) span j i → (frame_at (call_of who ts) j).carries ≡ Some (span.from + i)
+item-carried who ts before after span j i h e l has =
+    let call = call_of who ts in
     let w = when (frame_at call j).start in
     let fs = first_frames call j in
-    let n : length (made call) ≡ length (frames_of ts) = ap length (made-read number ts h) ∙ length-reverse (map numbered_of (frames_of ts)) ∙ length-map (frames_of ts) numbered_of in
+    let n : length (made call) ≡ length (frames_of ts) = ap length (made-read who ts h) ∙ length-reverse (map numbered_of (frames_of ts)) ∙ length-map (frames_of ts) numbered_of in
     let one = one-made (down_periods ts) j h.bridges (omega arith) in
     let at : OneSpeaks (map bridge_of call.spans) w fs =
     subst (λ bs. OneSpeaks bs w fs) (sym (bridges-of ts))
-    (subst (λ fs. OneSpeaks (reverse (bridges_in (down_periods ts))) (when (numbered_start fs)) fs) (sym (first-read number ts j h)) one) in
+    (subst (λ fs. OneSpeaks (reverse (bridges_in (down_periods ts))) (when (numbered_start fs)) fs) (sym (first-read who ts j h)) one) in
     let parts : map bridge_of call.spans ≡ map bridge_of before ++ bridge_of span ∷ map bridge_of after = ap (map bridge_of) e ∙ map-append bridge_of before (span ∷ after) in
     ap (λ bs. item_of bs w fs) parts ∙
     item_of-speaks (map bridge_of before) (map bridge_of after) (bridge_of span) w (span.from + i) fs (subst (λ bs. OneSpeaks bs w fs) parts at) (has_item call span j i has)

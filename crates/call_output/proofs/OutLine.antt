@@ -5,11 +5,14 @@ use Rattle.std.specs.List.{flat_map}
 use Rattle.std.proofs.lemmas.Bool.{cases_Bool, cond-true, cond-false, true≢false}
 use Rattle.std.proofs.lemmas.List.{append-nil, map-append, reverse-append, reverse-reverse}
 use Rattle.std.proofs.lemmas.List.Concat.{flat_map-append}
+use Rattle.trau_alaw.specs.declared.Law.{Law}
+use Rattle.trau_alaw.specs.Period.{compressed}
 use Rattle.trau_params.specs.Fields.{Fields}
 use Rattle.fr_decoder.specs.Decoded.{samples_of, all_samples, decoded}
 use Rattle.rx_handler.specs.Origin.{EffectiveFields, Quiet, Speech, Made}
+use Rattle.call_leg.specs.Who.{Who}
 use Rattle.call_leg.specs.Periods.{CallPeriod, effective_now, bridges_begun}
-use Rattle.call_leg.specs.Out.{compressed, plain_with, plain_stretch, decoded_octets, out_of}
+use Rattle.call_leg.specs.Out.{plain_with, plain_stretch, decoded_octets, out_of}
 use Rattle.call_leg.proofs.Bridges.{plain-new}
 use Rattle.call_output.specs.Stretches.{stretches}
 use Rattle.call_output.specs.Call.{effective, starts_at}
@@ -29,13 +32,13 @@ decoding handed effective starts = record { parameters = if is_some handed then 
 abbrev decoding_of : ℕ → CallPeriod → List CallPeriod → Decoding
 decoding_of number t past = decoding t.handed (effective_now number (t ∷ past)) t.starts
 
-decoding-period : LooksBack → (number : ℕ) (ts : List CallPeriod) (t : CallPeriod) (past : List CallPeriod) → IsCallHistory ts → IsPeriod ts t past →
-    decoding_at (call_of number ts) (length past) ≡ decoding_of number t past
-decoding-period look number ts t past h p =
-    let call = call_of number ts in
+decoding-period : LooksBack → (who : Who) (ts : List CallPeriod) (t : CallPeriod) (past : List CallPeriod) → IsCallHistory ts → IsPeriod ts t past →
+    decoding_at (call_of who ts) (length past) ≡ decoding_of who.number t past
+decoding-period look who ts t past h p =
+    let call = call_of who ts in
     ap (λ o. decoding o (effective call (length past)) (starts_at call.spans (length past))) (item_at-period ts t past h.bridges p) ∙
-    ap (λ e. decoding t.handed e (starts_at call.spans (length past))) (effective-period look number ts t past h p) ∙
-    ap (decoding t.handed (effective_now number (t ∷ past))) (starts_at-period ts t past p)
+    ap (λ e. decoding t.handed e (starts_at call.spans (length past))) (effective-period look who ts t past h p) ∙
+    ap (decoding t.handed (effective_now who.number (t ∷ past))) (starts_at-period ts t past p)
 
 -- ---- an item more adds its own octets
 
@@ -52,44 +55,44 @@ parameters-reverse (d ∷ s) =
     ap (λ z. z ++ reverse (option_to_list d.parameters)) (parameters-reverse s) ∙
     sym (reverse-append (option_to_list d.parameters) (parameters_in s))
 
-octets-some : (ps : List Fields) (p : Fields) → octets_of (ps ++ p ∷ []) ≡ compressed (decoded (ps ++ p ∷ []))
-octets-some [] p = refl
-octets-some (q ∷ ps) p = refl
+octets-some : (law : Law) (ps : List Fields) (p : Fields) → octets_of law (ps ++ p ∷ []) ≡ compressed law (decoded (ps ++ p ∷ []))
+octets-some law [] p = refl
+octets-some law (q ∷ ps) p = refl
 
-octets-reverse : (p : Fields) (ps : List Fields) → octets_of (reverse (p ∷ ps)) ≡ compressed (all_samples (p ∷ ps))
-octets-reverse p ps =
-    ap octets_of (reverse-more p ps) ∙ octets-some (reverse ps) p ∙ ap (λ z. compressed (decoded z)) (sym (reverse-more p ps)) ∙
-    ap (λ z. compressed (all_samples z)) (reverse-reverse (p ∷ ps))
+octets-reverse : (law : Law) (p : Fields) (ps : List Fields) → octets_of law (reverse (p ∷ ps)) ≡ compressed law (all_samples (p ∷ ps))
+octets-reverse law p ps =
+    ap (octets_of law) (reverse-more p ps) ∙ octets-some law (reverse ps) p ∙ ap (λ z. compressed law (decoded z)) (sym (reverse-more p ps)) ∙
+    ap (λ z. compressed law (all_samples z)) (reverse-reverse (p ∷ ps))
 
-octets-more : (p q : Fields) (ps : List Fields) → octets_of (reverse (p ∷ q ∷ ps)) ≡ octets_of (reverse (q ∷ ps)) ++ decoded_octets (p ∷ q ∷ ps)
+octets-more : (law : Law) (p q : Fields) (ps : List Fields) → octets_of law (reverse (p ∷ q ∷ ps)) ≡ octets_of law (reverse (q ∷ ps)) ++ decoded_octets law (p ∷ q ∷ ps)
 unfolding compressed all_samples
-octets-more p q ps = octets-reverse p (q ∷ ps) ∙ parts ∙ ap (λ z. z ++ decoded_octets (p ∷ q ∷ ps)) (sym (octets-reverse q ps))
+octets-more law p q ps = octets-reverse law p (q ∷ ps) ∙ parts ∙ ap (λ z. z ++ decoded_octets law (p ∷ q ∷ ps)) (sym (octets-reverse law q ps))
   where
-    parts : compressed (all_samples (p ∷ q ∷ ps)) ≡ compressed (all_samples (q ∷ ps)) ++ decoded_octets (p ∷ q ∷ ps)
+    parts : compressed law (all_samples (p ∷ q ∷ ps)) ≡ compressed law (all_samples (q ∷ ps)) ++ decoded_octets law (p ∷ q ∷ ps)
     parts = map-append _ (all_samples (q ∷ ps)) (samples_of p (q ∷ ps))
 
-octets-one : (o : Option Fields) → octets_of (option_to_list o ++ []) ≡ decoded_octets (option_to_list o ++ [])
+octets-one : (law : Law) (o : Option Fields) → octets_of law (option_to_list o ++ []) ≡ decoded_octets law (option_to_list o ++ [])
 unfolding all_samples
-octets-one None = refl
-octets-one (Some p) = refl
+octets-one law None = refl
+octets-one law (Some p) = refl
 
 goes_on-plain : (a b : Option Fields) (starts : Bool) → (is_some a && is_some b && not starts) ≡ true → (p : Fields) × (q : Fields) × (a ≡ Some p) × (b ≡ Some q)
 goes_on-plain None b starts e = absurd (true≢false (sym e))
 goes_on-plain (Some p) None starts e = absurd (true≢false (sym e))
 goes_on-plain (Some p) (Some q) starts e = (p, q, refl, refl)
 
-adds : AddsTo goes_on stretch_octets (λ d s. decoded_octets (parameters_in (d ∷ s)))
-adds = record { first = λ d. octets-one d.parameters; more = λ d b past e. by d b past (goes_on-plain b.parameters d.parameters d.starts e) }
+adds : (law : Law) → AddsTo goes_on (stretch_octets law) (λ d s. decoded_octets law (parameters_in (d ∷ s)))
+adds law = record { first = λ d. octets-one law d.parameters; more = λ d b past e. by d b past (goes_on-plain b.parameters d.parameters d.starts e) }
   where
     by : (d b : Decoding) (past : List Decoding) → (p : Fields) × (q : Fields) × (b.parameters ≡ Some p) × (d.parameters ≡ Some q) →
-        stretch_octets (reverse (d ∷ newest goes_on b past)) ≡ stretch_octets (reverse (newest goes_on b past)) ++ decoded_octets (parameters_in (d ∷ newest goes_on b past))
+        stretch_octets law (reverse (d ∷ newest goes_on b past)) ≡ stretch_octets law (reverse (newest goes_on b past)) ++ decoded_octets law (parameters_in (d ∷ newest goes_on b past))
     by d b past s =
         let rest = parameters_in (before goes_on b past) in
         let was : parameters_in (newest goes_on b past) ≡ s.0 ∷ rest = ap (λ o. option_to_list o ++ rest) s.2 in
         let now : parameters_in (d ∷ newest goes_on b past) ≡ s.1 ∷ s.0 ∷ rest = ap (λ o. option_to_list o ++ parameters_in (newest goes_on b past)) s.3 ∙ ap (λ z. s.1 ∷ z) was in
-        ap octets_of (parameters-reverse (d ∷ newest goes_on b past) ∙ ap reverse now) ∙ octets-more s.1 s.0 rest ∙
-        ap (λ z. z ++ decoded_octets (s.1 ∷ s.0 ∷ rest)) (sym (ap octets_of (parameters-reverse (newest goes_on b past) ∙ ap reverse was))) ∙
-        ap (λ ps. stretch_octets (reverse (newest goes_on b past)) ++ decoded_octets ps) (sym now)
+        ap (octets_of law) (parameters-reverse (d ∷ newest goes_on b past) ∙ ap reverse now) ∙ octets-more law s.1 s.0 rest ∙
+        ap (λ z. z ++ decoded_octets law (s.1 ∷ s.0 ∷ rest)) (sym (ap (octets_of law) (parameters-reverse (newest goes_on b past) ∙ ap reverse was))) ∙
+        ap (λ ps. stretch_octets law (reverse (newest goes_on b past)) ++ decoded_octets law ps) (sym now)
 
 -- ---- the plain stretch is the one that the newest period goes on with
 
@@ -172,17 +175,17 @@ told-plain number (t ∷ past) =
 
 -- ---- the whole line
 
-out-each : (number : ℕ) (ts : List CallPeriod) → out_line number ts ≡ flat_map stretch_octets (stretches goes_on (reverse (each_back (decoding_of number) ts)))
-out-each number [] = refl
-out-each number (t ∷ past) =
-    let d = decoding_of number t past in
-    let ds = each_back (decoding_of number) past in
-    ap (λ z. z ++ out_of number (t ∷ past)) (out-each number past) ∙
-    ap (λ ps. flat_map stretch_octets (stretches goes_on (reverse ds)) ++ decoded_octets ps) (sym (told-plain number (t ∷ past))) ∙
-    sym (stretched-more goes_on stretch_octets (λ d s. decoded_octets (parameters_in (d ∷ s))) adds d ds)
+out-each : (who : Who) (ts : List CallPeriod) → out_line who ts ≡ flat_map (stretch_octets who.law) (stretches goes_on (reverse (each_back (decoding_of who.number) ts)))
+out-each who [] = refl
+out-each who (t ∷ past) =
+    let d = decoding_of who.number t past in
+    let ds = each_back (decoding_of who.number) past in
+    ap (λ z. z ++ out_of who (t ∷ past)) (out-each who past) ∙
+    ap (λ ps. flat_map (stretch_octets who.law) (stretches goes_on (reverse ds)) ++ decoded_octets who.law ps) (sym (told-plain who.number (t ∷ past))) ∙
+    sym (stretched-more goes_on (stretch_octets who.law) (λ d s. decoded_octets who.law (parameters_in (d ∷ s))) (adds who.law) d ds)
 
-pub out-whole : LooksBack → (number : ℕ) (ts : List CallPeriod) → IsCallHistory ts → out_line number ts ≡ out (call_of number ts)
-out-whole look number ts h =
-    out-each number ts ∙
-    sym (ap (λ ds. flat_map stretch_octets (stretches goes_on ds))
-    (each-of number ts (decoding_at (call_of number ts)) (decoding_of number) (λ t past p. decoding-period look number ts t past h p) ∙ each-reverse (decoding_of number) ts))
+pub out-whole : LooksBack → (who : Who) (ts : List CallPeriod) → IsCallHistory ts → out_line who ts ≡ out (call_of who ts)
+out-whole look who ts h =
+    out-each who ts ∙
+    sym (ap (λ ds. flat_map (stretch_octets who.law) (stretches goes_on ds))
+    (each-of who ts (decoding_at (call_of who ts)) (decoding_of who.number) (λ t past p. decoding-period look who ts t past h p) ∙ each-reverse (decoding_of who.number) ts))

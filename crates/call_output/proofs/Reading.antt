@@ -12,6 +12,7 @@ use Rattle.rx_handler.specs.Origin.{EffectiveFields, Quiet}
 use Rattle.rx_handler.specs.Past.{effective_of}
 use Rattle.rx_handler.specs.Table.{RxMemory, first_memory, received, all_received}
 use Rattle.down_framer.specs.ByNumber.{fields_in}
+use Rattle.call_leg.specs.Who.{Who}
 use Rattle.call_leg.specs.Uplink.{sighting_in, heard_as, field_of, dtxd_after}
 use Rattle.call_leg.specs.Periods.{CallPeriod, ups_of, sighting_after, heard_of, effective_now, dtxd_of, dtx_in, dtx_now}
 use Rattle.call_leg.specs.Down.{down_periods}
@@ -53,17 +54,17 @@ length-settings_of [] = refl
 length-settings_of (t ∷ past) = let n = length-settings_of past in length-append (settings_of past) (setting_of t ∷ []) ∙ omega arith
 
 -- what is said of each period, by its number
-pub each-of : {B : Type 0} (number : ℕ) (ts : List CallPeriod) (f : ℕ → B) (value : CallPeriod → List CallPeriod → B) →
-    ((t : CallPeriod) (past : List CallPeriod) → IsPeriod ts t past → f (length past) ≡ value t past) → map f (each_period (call_of number ts)) ≡ each value ts
-each-of number ts f value h = ap (λ n. map f (range_with_len 0 n)) (length-settings_of ts) ∙ each-numbered ts f value h
+pub each-of : {B : Type 0} (who : Who) (ts : List CallPeriod) (f : ℕ → B) (value : CallPeriod → List CallPeriod → B) →
+    ((t : CallPeriod) (past : List CallPeriod) → IsPeriod ts t past → f (length past) ≡ value t past) → map f (each_period (call_of who ts)) ≡ each value ts
+each-of who ts f value h = ap (λ n. map f (range_with_len 0 n)) (length-settings_of ts) ∙ each-numbered ts f value h
 
 ups-back : (ts : List CallPeriod) → each_back (λ t past. t.up) ts ≡ ups_of ts
 ups-back [] = refl
 ups-back (t ∷ past) = ap (λ z. t.up ∷ z) (ups-back past)
 
-pub ups-read : (number : ℕ) (ts : List CallPeriod) → IsCallHistory ts → up_periods (call_of number ts) ≡ reverse (ups_of ts)
-ups-read number ts h =
-    each-of number ts (λ k. take 40 (drop (40 * k) (up_of ts))) (λ t past. t.up)
+pub ups-read : (who : Who) (ts : List CallPeriod) → IsCallHistory ts → up_periods (call_of who ts) ≡ reverse (ups_of ts)
+ups-read who ts h =
+    each-of who ts (λ k. take 40 (drop (40 * k) (up_of ts))) (λ t past. t.up)
     (λ t past p.
     ap (λ us. take 40 (drop (40 * length past) (up_of us))) (sym p.1) ∙ up-at p.0 t past (subst (λ us. All (λ t. length t.up ≡ 40) us) (sym p.1) h.ups)) ∙
     each-reverse (λ t past. t.up) ts ∙ ap reverse (ups-back ts)
@@ -75,18 +76,18 @@ unfolding each_yield
 yields-each [] = refl
 yields-each (t ∷ past) = ap (λ z. z ++ yield_of t.up (ups_of past) ∷ []) (yields-each past)
 
-pub yield-period : (number : ℕ) (ts : List CallPeriod) (t : CallPeriod) (past : List CallPeriod) → IsCallHistory ts → IsPeriod ts t past →
-    yield_at (call_of number ts) (length past) ≡ yield_of t.up (ups_of past)
-yield-period number ts t past h p =
-    ap (λ us. get_or (each_yield (reverse us)) (length past) None) (ups-read number ts h) ∙
+pub yield-period : (who : Who) (ts : List CallPeriod) (t : CallPeriod) (past : List CallPeriod) → IsCallHistory ts → IsPeriod ts t past →
+    yield_at (call_of who ts) (length past) ≡ yield_of t.up (ups_of past)
+yield-period who ts t past h p =
+    ap (λ us. get_or (each_yield (reverse us)) (length past) None) (ups-read who ts h) ∙
     ap (λ us. get_or (each_yield us) (length past) None) (reverse-reverse (ups_of ts)) ∙
     ap (λ ys. get_or ys (length past) None) (yields-each ts) ∙
     each-at (λ t past. yield_of t.up (ups_of past)) None ts t past p
 
-pub seen-period : (number : ℕ) (ts : List CallPeriod) (t : CallPeriod) (past : List CallPeriod) → IsCallHistory ts → IsPeriod ts t past →
-    seen_at (call_of number ts) (length past) ≡ sighting_after past t.up
+pub seen-period : (who : Who) (ts : List CallPeriod) (t : CallPeriod) (past : List CallPeriod) → IsCallHistory ts → IsPeriod ts t past →
+    seen_at (call_of who ts) (length past) ≡ sighting_after past t.up
 unfolding sighting_after
-seen-period number ts t past h p = ap sighting_in (yield-period number ts t past h p)
+seen-period who ts t past h p = ap sighting_in (yield-period who ts t past h p)
 
 -- ---- effective frames
 
@@ -94,9 +95,9 @@ heards-back : (ts : List CallPeriod) → each_back (λ t past. heard_as (sightin
 heards-back [] = refl
 heards-back (t ∷ past) = ap (λ z. heard_as (sighting_after past t.up) ∷ z) (heards-back past)
 
-heards-read : (number : ℕ) (ts : List CallPeriod) → IsCallHistory ts → map (heard_at (call_of number ts)) (each_period (call_of number ts)) ≡ reverse (heard_of ts)
-heards-read number ts h =
-    each-of number ts (heard_at (call_of number ts)) (λ t past. heard_as (sighting_after past t.up)) (λ t past p. ap heard_as (seen-period number ts t past h p)) ∙
+heards-read : (who : Who) (ts : List CallPeriod) → IsCallHistory ts → map (heard_at (call_of who ts)) (each_period (call_of who ts)) ≡ reverse (heard_of ts)
+heards-read who ts h =
+    each-of who ts (heard_at (call_of who ts)) (λ t past. heard_as (sighting_after past t.up)) (λ t past p. ap heard_as (seen-period who ts t past h p)) ∙
     each-reverse (λ t past. heard_as (sighting_after past t.up)) ts ∙ ap reverse (heards-back ts)
 
 heards-later : (later ts : List CallPeriod) → (more : List Heard) × (heard_of (later ++ ts) ≡ more ++ heard_of ts)
@@ -134,19 +135,19 @@ effective-front look call ys zs k l =
     ap (λ es. get_or es k Quiet) same ∙ get_or_append_left (effectives call ys) more.0 Quiet k (omega arith) ∙
     get_or-map-range_with_len (effective_at call (heard_in ys)) 0 (length ys) k k Quiet l (omega arith)
 
-pub effective-period : LooksBack → (number : ℕ) (ts : List CallPeriod) (t : CallPeriod) (past : List CallPeriod) → IsCallHistory ts → IsPeriod ts t past →
-    effective (call_of number ts) (length past) ≡ effective_now number (t ∷ past)
-effective-period look number ts t past h p =
+pub effective-period : LooksBack → (who : Who) (ts : List CallPeriod) (t : CallPeriod) (past : List CallPeriod) → IsCallHistory ts → IsPeriod ts t past →
+    effective (call_of who ts) (length past) ≡ effective_now who.number (t ∷ past)
+effective-period look who ts t past h p =
     let more = heards-later p.0 (t ∷ past) in
     let now = heard_of (t ∷ past) in
     let n = length-heard_of past in
     let m = length-reverse now in
-    ap (λ ys. effective_at number (heard_in ys) (length past)) (heards-read number ts h) ∙
-    ap (λ us. effective_at number (heard_in (reverse (heard_of us))) (length past)) (sym p.1) ∙
-    ap (λ ys. effective_at number (heard_in (reverse ys)) (length past)) more.1 ∙
-    ap (λ ys. effective_at number (heard_in ys) (length past)) (reverse-append more.0 now) ∙
-    effective-front look number (reverse now) (reverse more.0) (length past) (omega arith) ∙
-    ap (effective_at number (heard_in (reverse now))) (sym n) ∙ sym (look.newest number (heard_as (sighting_after past t.up)) (heard_of past))
+    ap (λ ys. effective_at who.number (heard_in ys) (length past)) (heards-read who ts h) ∙
+    ap (λ us. effective_at who.number (heard_in (reverse (heard_of us))) (length past)) (sym p.1) ∙
+    ap (λ ys. effective_at who.number (heard_in (reverse ys)) (length past)) more.1 ∙
+    ap (λ ys. effective_at who.number (heard_in ys) (length past)) (reverse-append more.0 now) ∙
+    effective-front look who.number (reverse now) (reverse more.0) (length past) (omega arith) ∙
+    ap (effective_at who.number (heard_in (reverse now))) (sym n) ∙ sym (look.newest who.number (heard_as (sighting_after past t.up)) (heard_of past))
 
 -- ---- fields and settings
 
@@ -154,28 +155,28 @@ fields-back : (ts : List CallPeriod) → each_back (λ t past. field_of (sightin
 fields-back [] = refl
 fields-back (t ∷ past) = ap (λ z. field_of (sighting_after past t.up) ∷ z) (fields-back past)
 
-pub fields-read : (number : ℕ) (ts : List CallPeriod) → IsCallHistory ts → fields (call_of number ts) ≡ fields_in (down_periods ts)
-fields-read number ts h =
-    each-of number ts (λ k. field_of (seen_at (call_of number ts) k)) (λ t past. field_of (sighting_after past t.up)) (λ t past p. ap field_of (seen-period number ts t past h p)) ∙
+pub fields-read : (who : Who) (ts : List CallPeriod) → IsCallHistory ts → fields (call_of who ts) ≡ fields_in (down_periods ts)
+fields-read who ts h =
+    each-of who ts (λ k. field_of (seen_at (call_of who ts) k)) (λ t past. field_of (sighting_after past t.up)) (λ t past p. ap field_of (seen-period who ts t past h p)) ∙
     each-reverse (λ t past. field_of (sighting_after past t.up)) ts ∙ ap reverse (fields-back ts)
 
 settings-each : (ts : List CallPeriod) → settings_of ts ≡ each (λ t past. setting_of t) ts
 settings-each [] = refl
 settings-each (t ∷ past) = ap (λ z. z ++ setting_of t ∷ []) (settings-each past)
 
-pub setting-period : (number : ℕ) (ts : List CallPeriod) (t : CallPeriod) (past : List CallPeriod) → IsPeriod ts t past → setting_at (call_of number ts) (length past) ≡ setting_of t
-setting-period number ts t past p =
+pub setting-period : (who : Who) (ts : List CallPeriod) (t : CallPeriod) (past : List CallPeriod) → IsPeriod ts t past → setting_at (call_of who ts) (length past) ≡ setting_of t
+setting-period who ts t past p =
     ap (λ z. get_or z (length past) (record { level = pos 256; mode = Uplink })) (settings-each ts) ∙
     each-at (λ t past. setting_of t) (record { level = pos 256; mode = Uplink }) ts t past p
 
-dtxd-period : (number : ℕ) (ts : List CallPeriod) (t : CallPeriod) (past : List CallPeriod) → IsCallHistory ts → IsPeriod ts t past →
-    dtxd_at (call_of number ts) (length past) ≡ dtxd_of (t ∷ past)
-dtxd-period number ts t [] h p = ap (λ s. dtxd_after s false) (seen-period number ts t [] h p)
-dtxd-period number ts t (u ∷ past) h p =
-    ap (λ s. dtxd_after s (dtxd_at (call_of number ts) (length past))) (seen-period number ts t (u ∷ past) h p) ∙
-    ap (dtxd_after (sighting_after (u ∷ past) t.up)) (dtxd-period number ts u past h (one_before ts t u past p))
+dtxd-period : (who : Who) (ts : List CallPeriod) (t : CallPeriod) (past : List CallPeriod) → IsCallHistory ts → IsPeriod ts t past →
+    dtxd_at (call_of who ts) (length past) ≡ dtxd_of (t ∷ past)
+dtxd-period who ts t [] h p = ap (λ s. dtxd_after s false) (seen-period who ts t [] h p)
+dtxd-period who ts t (u ∷ past) h p =
+    ap (λ s. dtxd_after s (dtxd_at (call_of who ts) (length past))) (seen-period who ts t (u ∷ past) h p) ∙
+    ap (dtxd_after (sighting_after (u ∷ past) t.up)) (dtxd-period who ts u past h (one_before ts t u past p))
 
-pub dtx-period : (number : ℕ) (ts : List CallPeriod) (t : CallPeriod) (past : List CallPeriod) → IsCallHistory ts → IsPeriod ts t past →
-    dtx_at (call_of number ts) (length past) ≡ dtx_now (t ∷ past)
-dtx-period number ts t past h p =
-    ap (λ s. dtx_in s.mode (dtxd_at (call_of number ts) (length past))) (setting-period number ts t past p) ∙ ap (dtx_in t.mode) (dtxd-period number ts t past h p)
+pub dtx-period : (who : Who) (ts : List CallPeriod) (t : CallPeriod) (past : List CallPeriod) → IsCallHistory ts → IsPeriod ts t past →
+    dtx_at (call_of who ts) (length past) ≡ dtx_now (t ∷ past)
+dtx-period who ts t past h p =
+    ap (λ s. dtx_in s.mode (dtxd_at (call_of who ts) (length past))) (setting-period who ts t past p) ∙ ap (dtx_in t.mode) (dtxd-period who ts t past h p)

@@ -1,6 +1,9 @@
 -- Worked stretches, spans and lines, by computing.
 use Rattle.std.proofs.Common.{◌≡◌, refl, ℕ, pos, Bool, true, false, nat_le, Option, Some, None, List, [], ◌∷◌, ◌++◌, map, take, reverse, replicate}
 use Rattle.std.specs.List.{flat_map}
+use Rattle.trau_alaw.specs.declared.Law.{Law}
+use Rattle.trau_alaw.specs.declared.Law.TheVariants.{A, Mu}
+use Rattle.trau_alaw.specs.Period.{compressed}
 use Rattle.trau_bits.specs.Bits.{bits_of}
 use Rattle.trau_params.specs.Fields.{Fields, fields_in}
 use Rattle.trau_orders.specs.declared.order.DtxMode.TheVariants.{Uplink}
@@ -15,7 +18,6 @@ use Rattle.rx_handler.specs.Effective.{effective_at, origin_at, latest_anchor}
 use Rattle.fr_decoder.specs.Decoded.{decoded}
 use Rattle.time_align.specs.Shift.{shift_of}
 use Rattle.call_leg.specs.Periods.{CallPeriod}
-use Rattle.call_leg.specs.Out.{compressed}
 use Rattle.call_output.specs.Stretches.{stretches}
 use Rattle.call_output.specs.Call.{Call, Setting, Span, item_at, starts_at}
 use Rattle.call_output.specs.Out.{out}
@@ -50,24 +52,28 @@ starts = refl
 
 -- ---- a call of three periods whose uplink has no frame
 
-abbrev silent_call : List Span → Call
-silent_call spans = record {
-  number = 1;
+abbrev silent_call : Law → List Span → Call
+silent_call law spans = record {
+  who = record { number = 1; law = law };
   up = replicate 120 0;
   pcm = replicate 480 213;
   settings = replicate 3 (let s : Setting = record { level = pos 256; mode = Uplink } in s);
   spans = spans;
 }
 
-silent_out : out (silent_call []) ≡ replicate 480 213
+silent_out : out (silent_call A []) ≡ replicate 480 213
 unfolding each_yield searched first_match is_match role_of line_bits mode_after bits_of effective_at origin_at latest_anchor
 silent_out = refl
+
+silent_mulaw : out (silent_call Mu []) ≡ replicate 480 255
+unfolding each_yield searched first_match is_match role_of line_bits mode_after bits_of effective_at origin_at latest_anchor
+silent_mulaw = refl
 
 -- the octets of an idle frame
 abbrev idle : List ℕ
 idle = 0 ∷ 0 ∷ 184 ∷ 15 ∷ replicate 36 255
 
-silent_down : down (silent_call []) ≡ replicate 320 1 ++ bits_of idle ++ bits_of idle
+silent_down : down (silent_call A []) ≡ replicate 320 1 ++ bits_of idle ++ bits_of idle
 unfolding each_yield searched first_match is_match role_of line_bits mode_after bits_of effective_at origin_at latest_anchor down_bits down_control frame_bits
 silent_down = refl
 
@@ -75,7 +81,7 @@ silent_down = refl
 abbrev item : List ℕ
 item = 0 ∷ replicate 258 1 ++ 0 ∷ []
 
-handed_down : down (silent_call (record { from = 1; to = 2; items = item ∷ [] } ∷ [])) ≡ replicate 320 1 ++ bits_of idle ++ down_bits (frames.Speech item true)
+handed_down : down (silent_call A (record { from = 1; to = 2; items = item ∷ [] } ∷ [])) ≡ replicate 320 1 ++ bits_of idle ++ down_bits (frames.Speech item true)
 unfolding each_yield searched first_match is_match role_of line_bits mode_after bits_of effective_at origin_at latest_anchor down_bits down_control frame_bits
 handed_down = refl
 
@@ -86,7 +92,7 @@ asks = 0 ∷ 0 ∷ 194 ∷ 112 ∷ flat_map {X = ℕ} (λ k. 128 ∷ 0 ∷ []) (
 
 abbrev shifted_call : Call
 shifted_call = record {
-  number = 1;
+  who = record { number = 1; law = A };
   up = asks ++ replicate 80 0;
   pcm = replicate 480 213;
   settings = replicate 3 (let s : Setting = record { level = pos 256; mode = Uplink } in s);
@@ -102,9 +108,9 @@ shifted_down = refl
 abbrev speech : List ℕ
 speech = 0 ∷ 0 ∷ 136 ∷ 0 ∷ flat_map {X = ℕ} (λ k. 128 ∷ 0 ∷ []) (replicate 18 0)
 
-abbrev speech_call : Call
-speech_call = record {
-  number = 1;
+abbrev speech_call : Law → Call
+speech_call law = record {
+  who = record { number = 1; law = law };
   up = speech ++ speech ++ speech;
   pcm = replicate 480 213;
   settings = replicate 3 (let s : Setting = record { level = pos 256; mode = Uplink } in s);
@@ -114,6 +120,10 @@ speech_call = record {
 abbrev parameters : Fields
 parameters = fields_in (data_of (bits_of speech))
 
-speech_out : out speech_call ≡ compressed (decoded (parameters ∷ [])) ++ (compressed (decoded (parameters ∷ parameters ∷ [])) ++ [])
+speech_out : out (speech_call A) ≡ compressed A (decoded (parameters ∷ [])) ++ (compressed A (decoded (parameters ∷ parameters ∷ [])) ++ [])
 unfolding each_yield searched first_match is_match role_of line_bits mode_after bits_of effective_at origin_at latest_anchor words_in number_of place_of frame_at
 speech_out = refl
+
+speech_mulaw : out (speech_call Mu) ≡ compressed Mu (decoded (parameters ∷ [])) ++ (compressed Mu (decoded (parameters ∷ parameters ∷ [])) ++ [])
+unfolding each_yield searched first_match is_match role_of line_bits mode_after bits_of effective_at origin_at latest_anchor words_in number_of place_of frame_at
+speech_mulaw = refl

@@ -7,6 +7,7 @@ use Rattle.std.proofs.lemmas.List.Elements.{All-nil, All-cons}
 use Rattle.trau_orders.specs.declared.order.DtxMode.TheVariants.{Uplink}
 use Rattle.down_framer.specs.Bridges.{AreApart}
 use Rattle.down_framer.proofs.FrameLaws.{apart}
+use Rattle.call_leg.specs.Who.{Who}
 use Rattle.call_leg.specs.Periods.{pcm_of}
 use Rattle.call_leg.specs.Down.{down_periods}
 use Rattle.call_output.specs.Call.{Call, Setting, Span, periods, setting_at, item_at, starts_at}
@@ -316,15 +317,15 @@ history-whole call h = record {
   bridges = apart (down_periods (history_of call)) (apart-first call (periods call) (periods call) h.spans);
 }
 
-abbrev call5 : ℕ → List ℕ → List ℕ → List Setting → List Span → Call
-call5 number up pcm settings spans = record { number = number; up = up; pcm = pcm; settings = settings; spans = spans }
+abbrev call5 : Who → List ℕ → List ℕ → List Setting → List Span → Call
+call5 who up pcm settings spans = record { who = who; up = up; pcm = pcm; settings = settings; spans = spans }
 
-pub call-whole : (call : Call) → IsWhole call → call_of call.number (history_of call) ≡ call
+pub call-whole : (call : Call) → IsWhole call → call_of call.who (history_of call) ≡ call
 call-whole call h =
     let ts = history_of call in
     let up = h.up in
     let pcm = h.pcm in
-    ap (λ z. call5 call.number z (pcm_of ts) (settings_of ts) (reverse (spans_of ts))) (ups-first call (periods call) ∙ take_all (40 * periods call) call.up (omega arith)) ∙
-    ap (λ z. call5 call.number call.up z (settings_of ts) (reverse (spans_of ts))) (pcms-first call (periods call) ∙ take_all (160 * periods call) call.pcm (omega arith)) ∙
-    ap (λ z. call5 call.number call.up call.pcm z (reverse (spans_of ts))) (settings-first call (periods call) (omega arith) ∙ take_all (periods call) call.settings (omega arith)) ∙
-    ap (call5 call.number call.up call.pcm call.settings) (spans-first call (periods call) (periods call) h.spans ∙ so_far-all 0 (periods call) call.spans h.spans)
+    ap (λ z. call5 call.who z (pcm_of ts) (settings_of ts) (reverse (spans_of ts))) (ups-first call (periods call) ∙ take_all (40 * periods call) call.up (omega arith)) ∙
+    ap (λ z. call5 call.who call.up z (settings_of ts) (reverse (spans_of ts))) (pcms-first call (periods call) ∙ take_all (160 * periods call) call.pcm (omega arith)) ∙
+    ap (λ z. call5 call.who call.up call.pcm z (reverse (spans_of ts))) (settings-first call (periods call) (omega arith) ∙ take_all (periods call) call.settings (omega arith)) ∙
+    ap (call5 call.who call.up call.pcm call.settings) (spans-first call (periods call) (periods call) h.spans ∙ so_far-all 0 (periods call) call.spans h.spans)

@@ -15,6 +15,7 @@ use Rattle.frame_sync.specs.Periods.{line_bits, each_yield, ArePeriods, all_yiel
 use Rattle.frame_sync.proofs.Whole.{yields-past}
 use Rattle.frame_sync.proofs.Unique.{same_yields}
 use Rattle.frame_sync.proofs.Order.{filter-yields}
+use Rattle.call_leg.specs.Who.{Who}
 use Rattle.call_leg.specs.Periods.{CallPeriod, ups_of}
 use Rattle.call_leg.proofs.Heard.{length-ups_of}
 use Rattle.call_output.specs.Call.{periods, yield_at}
@@ -33,7 +34,7 @@ bit_of-back xs ys k l =
     ap (λ octet. bit_at octet (7 - k % 8)) (get_or-append_right xs ys (length xs) (k / 8) 0 refl (omega arith)) ∙
     ap (λ i. bit_at (get_or ys i 0) (7 - k % 8)) octet ∙ ap (λ j. bit_at (get_or ys ((k - 8 * length xs) / 8) 0) (7 - j)) bit
 
-bits_of-append : (xs ys : List ℕ) → bits_of (xs ++ ys) ≡ bits_of xs ++ bits_of ys
+pub bits_of-append : (xs ys : List ℕ) → bits_of (xs ++ ys) ≡ bits_of xs ++ bits_of ys
 unfolding bits_of
 bits_of-append xs ys =
     let all = length-append xs ys in
@@ -63,12 +64,12 @@ yields-up : (ts : List CallPeriod) → All (λ t. length t.up ≡ 40) ts → Yie
 yields-up ts h =
     subst (λ bits. Yields bits (flat_map option_to_list (each_yield (ups_of ts)))) (line_bits-up ts) (yields-past (ups_of ts) (are_periods ts h))
 
-pub yield-ends : (number : ℕ) (ts : List CallPeriod) (ys : List Yield) (k : ℕ) → IsCallHistory ts → Yields (bits_of (call_of number ts).up) ys → k < periods (call_of number ts) →
-    filter (ends_in k) ys ≡ option_to_list (yield_at (call_of number ts) k)
-yield-ends number ts ys k h y l =
+pub yield-ends : (who : Who) (ts : List CallPeriod) (ys : List Yield) (k : ℕ) → IsCallHistory ts → Yields (bits_of (call_of who ts).up) ys → k < periods (call_of who ts) →
+    filter (ends_in k) ys ≡ option_to_list (yield_at (call_of who ts) k)
+yield-ends who ts ys k h y l =
     let n = length-settings_of ts in
     let m = length-ups_of ts in
     let r = length-reverse (ups_of ts) in
     let all : flat_map option_to_list (each_yield (ups_of ts)) ≡ all_yields (reverse (ups_of ts)) = ap (λ us. flat_map option_to_list (each_yield us)) (sym (reverse-reverse (ups_of ts))) in
     ap (filter (ends_in k)) (same_yields (bits_of (up_of ts)) ys (flat_map option_to_list (each_yield (ups_of ts))) y (yields-up ts h.ups) ∙ all) ∙
-    filter-yields (reverse (ups_of ts)) k (omega arith) ∙ ap (λ us. option_to_list (yield_in us k)) (sym (ups-read number ts h))
+    filter-yields (reverse (ups_of ts)) k (omega arith) ∙ ap (λ us. option_to_list (yield_in us k)) (sym (ups-read who ts h))

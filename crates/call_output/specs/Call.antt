@@ -9,6 +9,7 @@ use Rattle.frame_sync.specs.Periods.{yield_in}
 use Rattle.rx_handler.specs.Heard.{Heard}
 use Rattle.rx_handler.specs.Origin.{EffectiveFields}
 use Rattle.rx_handler.specs.Effective.{effective_at, heard_in}
+use Rattle.call_leg.specs.Who.{Who}
 use Rattle.call_leg.specs.Uplink.{Sighting, sighting_in, heard_as, field_of, dtxd_after, is_quiet}
 use Rattle.call_leg.specs.Periods.{dtx_in}
 
@@ -24,10 +25,10 @@ pub record Span : Type 0 where
   pub to : ℕ
   pub items : List (List ℕ)
 
--- the call: its number, the octets of its Up line and of its Pcm line, what is in force in each of its periods, and its
+-- the call: whose it is, the octets of its Up line and of its Pcm line, what is in force in each of its periods, and its
 -- spans
 pub record Call : Type 0 where
-  pub number : ℕ
+  pub who : Who
   pub up : List ℕ
   pub pcm : List ℕ
   pub settings : List Setting
@@ -65,7 +66,7 @@ heard_at call k = heard_as (seen_at call k)
 
 -- the effective frame of period k, by what is heard in all periods
 abbrev pub effective : Call → ℕ → EffectiveFields
-effective call k = effective_at call.number (heard_in (map (heard_at call) (each_period call))) k
+effective call k = effective_at call.who.number (heard_in (map (heard_at call) (each_period call))) k
 
 -- whether it is quiet
 abbrev pub is_quiet_at : Call → ℕ → Bool

@@ -3,6 +3,7 @@
 -- those of the frames before one.
 use Rattle.std.specs.Prelude.{◌≡◌, ◌≤◌, ◌<◌, ℕ, ◌*◌, ◌-◌, ℤ, Bool, true, not, ◌&&◌, if◌then◌else◌, nat_le, nat_lt, Some, None, is_none, unwrap_or, List, [], ◌++◌, map, take, drop, replicate, reverse, filter}
 use Rattle.std.specs.List.{flat_map, zip, list_any, list_all}
+use Rattle.trau_alaw.specs.Period.{expanded}
 use Rattle.trau_frame.specs.declared.frames.DownFrame.{DownFrame}
 use Rattle.trau_frame.specs.declared.frames.DownFrame.TheVariants as frames
 use Rattle.trau_frame.specs.DownFrame.{down_bits}
@@ -11,7 +12,7 @@ use Rattle.tx_dtx.specs.Stretch.{Coded}
 use Rattle.tx_dtx.specs.Sent.{sent}
 use Rattle.down_framer.specs.Made.{frame_on_line}
 use Rattle.down_framer.specs.ByNumber.{Bridge, NumberedFrame, when, count_from, numbered_next, numbered}
-use Rattle.call_leg.specs.Down.{expanded, coded_as, speech}
+use Rattle.call_leg.specs.Down.{coded_as, speech}
 use Rattle.call_output.specs.Stretches.{stretches}
 use Rattle.call_output.specs.Call.{Call, Span, periods, setting_at, is_quiet_at, fields, dtx_at, item_at}
 
@@ -57,9 +58,9 @@ goes_on call f g =
     is_coded call f && is_coded call g &&
     not (list_any (λ span. nat_lt (when f.start) span.from && nat_le span.from (when g.start)) call.spans)
 
--- the samples of a frame: octets start to start + 159 of the Pcm line, expanded
+-- the samples of a frame: octets start to start + 159 of the Pcm line, expanded by the call's law
 abbrev pub samples : Call → NumberedFrame → List ℤ
-samples call f = expanded (take 160 (drop f.start call.pcm))
+samples call f = expanded call.who.law (take 160 (drop f.start call.pcm))
 
 -- an encoding with the level and DTX in force in the frame's period
 abbrev pub in_force : Call → Encoded × NumberedFrame → Coded

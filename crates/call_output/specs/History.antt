@@ -1,6 +1,7 @@
 -- The call of a history of periods. A history has the newest period first.
 use Rattle.std.specs.Prelude.{◌≡◌, ℕ, ◌+◌, if◌then◌else◌, Option, Some, None, List, [], ◌∷◌, ◌++◌, length, reverse, All}
 use Rattle.down_framer.specs.Bridges.{IsHistory}
+use Rattle.call_leg.specs.Who.{Who}
 use Rattle.call_leg.specs.Periods.{CallPeriod, pcm_of}
 use Rattle.call_leg.specs.Down.{down_periods}
 use Rattle.call_leg.specs.Out.{out_of}
@@ -42,11 +43,11 @@ abbrev pub spans_of : List CallPeriod → List Span
 spans_of [] = []
 spans_of (t ∷ past) = if t.starts then new_span (length past) t.handed ∷ spans_of past else go_on t.handed (spans_of past)
 
--- the call with this number
-abbrev pub call_of : ℕ → List CallPeriod → Call
-call_of number ts = record { number = number; up = up_of ts; pcm = pcm_of ts; settings = settings_of ts; spans = reverse (spans_of ts) }
+-- the call that has this history, and whose it is
+abbrev pub call_of : Who → List CallPeriod → Call
+call_of who ts = record { who = who; up = up_of ts; pcm = pcm_of ts; settings = settings_of ts; spans = reverse (spans_of ts) }
 
 -- the Out line, period by period
-abbrev pub out_line : ℕ → List CallPeriod → List ℕ
-out_line number [] = []
-out_line number (t ∷ past) = out_line number past ++ out_of number (t ∷ past)
+abbrev pub out_line : Who → List CallPeriod → List ℕ
+out_line who [] = []
+out_line who (t ∷ past) = out_line who past ++ out_of who (t ∷ past)

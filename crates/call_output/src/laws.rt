@@ -5,6 +5,7 @@ ghost use Rattle.trau_bits.specs.Bits.{bits_of};
 ghost use Rattle.frame_sync.specs.declared.yields.Yield.{Yield};
 ghost use Rattle.frame_sync.specs.Yields.{Yields};
 ghost use Rattle.frame_sync.specs.Periods.{ends_in};
+ghost use Rattle.call_leg.specs.Who.{Who};
 ghost use Rattle.call_leg.specs.Periods.{CallPeriod};
 ghost use Rattle.call_leg.specs.Down.{down_line};
 ghost use Rattle.call_output.specs.Out.{out};
@@ -18,9 +19,9 @@ use rx_handler::laws::{the_newest_is_the_last, the_table_looks_back};
 /// The periods of a call as a whole are a history of that call; given one after another, they make its lines.
 pub fn a_call_by_its_periods()
     ensures history { (call : Call) → IsWhole call → IsCallHistory (history_of call) }
-    ensures same { (call : Call) → IsWhole call → call_of call.number (history_of call) ≡ call }
-    ensures out { (call : Call) → IsWhole call → out_line call.number (history_of call) ≡ out call }
-    ensures down { (call : Call) → IsWhole call → down_line call.number (history_of call) ≡ down call }
+    ensures same { (call : Call) → IsWhole call → call_of call.who (history_of call) ≡ call }
+    ensures out { (call : Call) → IsWhole call → out_line call.who (history_of call) ≡ out call }
+    ensures down { (call : Call) → IsWhole call → down_line call.who (history_of call) ≡ down call }
 {
     lines_of_a_call();
 }
@@ -28,8 +29,8 @@ pub fn a_call_by_its_periods()
 /// The Out line and the Down line of any history of a call, period by period, are those of the call as a whole that it
 /// says.
 pub fn lines_of_a_call()
-    ensures out { (number : ℕ) (ts : List CallPeriod) → IsCallHistory ts → out_line number ts ≡ out (call_of number ts) }
-    ensures down { (number : ℕ) (ts : List CallPeriod) → IsCallHistory ts → down_line number ts ≡ down (call_of number ts) }
+    ensures out { (who : Who) (ts : List CallPeriod) → IsCallHistory ts → out_line who ts ≡ out (call_of who ts) }
+    ensures down { (who : Who) (ts : List CallPeriod) → IsCallHistory ts → down_line who ts ≡ down (call_of who ts) }
 {
     the_newest_is_the_last();
     the_table_looks_back();

@@ -1,9 +1,9 @@
 //! The outgoing lines of a call, as a definition over whole lines, spans and items.
 //!
 //! What a call's leg (`call_leg`) makes period by period is defined there by looking back from the newest period. Here
-//! the same two lines are defined as one would tell them of a recorded call: from the whole Up and Pcm lines, the
-//! settings of each period and the spans of its bridges with the items that were handed over in them, by absolute
-//! places, with the oldest first. Laws say that both agree, for every such call and for every history of periods.
+//! the same two lines are defined as one would tell them of a recorded call: from its number and law, the whole Up and
+//! Pcm lines, the settings of each period and the spans of its bridges with the items that were handed over in them, by
+//! absolute places, with the oldest first. Laws say that both agree, for every such call and for every history of periods.
 //! Nothing here runs: the crate is for readers of a call's contract, and for crates that tell of whole calls.
 //!
 //! `laws` has the laws. Definitions: `specs/Call.antt` (the call, its yields, effective frames and spans),

@@ -38,7 +38,7 @@ leg-before m u d io e =
 
 joined-worked : (u : UpMemory) (d : DownMemory) (up : List ℕ) → u.bridged ≡ d.bridged → let t = up_turned u up in up_worked (joined u d) up ≡ (t.0.eff, t.1, joined t.2 (noted d t.0))
 joined-worked u d up e =
-    halves-worked (joined u d) up ∙ ap (λ (f : Bool). let t = up_turned (record { search = u.search; rx = u.rx; decoder = u.decoder; counts = u.counts; bridged = f }) up in (t.0.eff, t.1, joined t.2 (noted d t.0))) (sym e)
+    halves-worked (joined u d) up ∙ ap (λ (f : Bool). let t = up_turned (record { law = u.law; search = u.search; rx = u.rx; decoder = u.decoder; counts = u.counts; bridged = f }) up in (t.0.eff, t.1, joined t.2 (noted d t.0))) (sym e)
 
 -- what is told at the next place
 pub effective-joined : (m : ℕ) (u : UpMemory) (d : DownMemory) (io : IoMemory) → u.bridged ≡ d.bridged →

@@ -2,16 +2,18 @@
 use Rattle.std.proofs.Common.{◌≡◌, ℕ, zero, suc, ◌+◌, ◌*◌, ◌≤◌, List, [], ◌∷◌, ◌++◌, length, drop, refl, sym, ap, ◌∙◌, arith}
 use Rattle.std.proofs.lemmas.List.{length-append, take_at, drop_at, drop-drop}
 use Rattle.trau_bits.specs.Bits.{octets_of}
+use Rattle.call_leg.specs.Who.{Who}
 use Rattle.call_leg.specs.Periods.{CallPeriod}
 use Rattle.call_leg.specs.Out.{out_of}
 use Rattle.call_leg.specs.Down.{down_now}
 use Rattle.call_pair.specs.Memory.{IoMemory}
 use Rattle.call_pair.specs.Places.{written, with_out, with_place}
-use Rattle.call_pair.specs.History.{Start, outs_of, downs_of, io_after}
-use Rattle.call_pair.proofs.Lengths.{length-out_of, length-down_octets}
+use Rattle.call_pair.specs.History.{Start, who_of, outs_of, downs_of, io_after}
+use Rattle.call_leg.proofs.LineLaws.{length-out_of}
+use Rattle.call_pair.proofs.Lengths.{length-down_octets}
 
 -- octets written behind those at the front
-written-seam : (front buffer octets : List ℕ) (start n : ℕ) → length front ≡ start → length octets ≡ n →
+pub written-seam : (front buffer octets : List ℕ) (start n : ℕ) → length front ≡ start → length octets ≡ n →
     written (front ++ drop start buffer) start octets ≡ (front ++ octets) ++ drop (start + n) buffer
 written-seam front buffer octets start n e f =
     let xs = front ++ drop start buffer in
@@ -21,36 +23,36 @@ written-seam front buffer octets start n e f =
     ap (λ (ys : List ℕ). ys ++ octets ++ drop (start + length octets) xs) (take_at front (drop start buffer) start e) ∙
     ap (λ (ys : List ℕ). front ++ octets ++ ys) rest
 
-length-outs_of : (call k : ℕ) (ts : List CallPeriod) → k ≤ length ts → length (outs_of call k ts) ≡ 160 * k
-length-outs_of call zero ts h = refl
-length-outs_of call (suc k) [] h = absurd (omega arith)
-length-outs_of call (suc k) (t ∷ past) h =
-    omega (arith, length-append (outs_of call k past) (out_of call (t ∷ past)), length-outs_of call k past (omega arith), length-out_of call (t ∷ past))
+length-outs_of : (who : Who) (k : ℕ) (ts : List CallPeriod) → k ≤ length ts → length (outs_of who k ts) ≡ 160 * k
+length-outs_of who zero ts h = refl
+length-outs_of who (suc k) [] h = absurd (omega arith)
+length-outs_of who (suc k) (t ∷ past) h =
+    omega (arith, length-append (outs_of who k past) (out_of who (t ∷ past)), length-outs_of who k past (omega arith), length-out_of who (t ∷ past))
 
-length-downs_of : (call k : ℕ) (ts : List CallPeriod) → k ≤ length ts → length (downs_of call k ts) ≡ 40 * k
-length-downs_of call zero ts h = refl
-length-downs_of call (suc k) [] h = absurd (omega arith)
-length-downs_of call (suc k) (t ∷ past) h =
-    omega (arith, length-append (downs_of call k past) (octets_of (down_now call (t ∷ past))), length-downs_of call k past (omega arith), length-down_octets call t past)
+length-downs_of : (who : Who) (k : ℕ) (ts : List CallPeriod) → k ≤ length ts → length (downs_of who k ts) ≡ 40 * k
+length-downs_of who zero ts h = refl
+length-downs_of who (suc k) [] h = absurd (omega arith)
+length-downs_of who (suc k) (t ∷ past) h =
+    omega (arith, length-append (downs_of who k past) (octets_of (down_now who (t ∷ past))), length-downs_of who k past (omega arith), length-down_octets who t past)
 
 -- the octets of a place more are those of the call's newest period
-pub io_more : (s : Start) (k : ℕ) (ts : List CallPeriod) (t : CallPeriod) (out down : List ℕ) → k ≤ length ts → out ≡ out_of s.io.call (t ∷ ts) →
-    down ≡ down_now s.io.call (t ∷ ts) → with_place (with_out (io_after k ts s.io) out) (octets_of down) ≡ io_after (suc k) (t ∷ ts) s.io
+pub io_more : (s : Start) (k : ℕ) (ts : List CallPeriod) (t : CallPeriod) (out down : List ℕ) → k ≤ length ts → out ≡ out_of (who_of s) (t ∷ ts) →
+    down ≡ down_now (who_of s) (t ∷ ts) → with_place (with_out (io_after (who_of s) k ts s.io) out) (octets_of down) ≡ io_after (who_of s) (suc k) (t ∷ ts) s.io
 io_more s k ts t out down enough e f =
-    let call = s.io.call in
-    let io = io_after k ts s.io in
+    let who = who_of s in
+    let io = io_after (who_of s) k ts s.io in
     let next : k + 1 ≡ suc k = omega arith in
-    let heard = out_of call (t ∷ ts) in
-    let said = octets_of (down_now call (t ∷ ts)) in
-    let shape : List ℕ → List ℕ → ℕ → IoMemory = λ x y n. record { call = call; up = s.io.up; pcm = s.io.pcm; out = x; down = y; given = s.io.given; done = n } in
+    let heard = out_of who (t ∷ ts) in
+    let said = octets_of (down_now who (t ∷ ts)) in
+    let shape : List ℕ → List ℕ → ℕ → IoMemory = λ x y n. record { call = s.io.call; up = s.io.up; pcm = s.io.pcm; out = x; down = y; given = s.io.given; done = n } in
     let end : 160 * k + 160 ≡ 160 * suc k = omega arith in
     let end' : 40 * k + 40 ≡ 40 * suc k = omega arith in
-    let outs = written-seam (outs_of call k ts) s.io.out heard (160 * k) 160 (length-outs_of call k ts enough) (length-out_of call (t ∷ ts))
-    ∙ ap (λ (m : ℕ). (outs_of call k ts ++ heard) ++ drop m s.io.out) end in
-    let downs = written-seam (downs_of call k ts) s.io.down said (40 * k) 40 (length-downs_of call k ts enough) (length-down_octets call t ts)
-    ∙ ap (λ (m : ℕ). (downs_of call k ts ++ said) ++ drop m s.io.down) end' in
+    let outs = written-seam (outs_of who k ts) s.io.out heard (160 * k) 160 (length-outs_of who k ts enough) (length-out_of who (t ∷ ts))
+    ∙ ap (λ (m : ℕ). (outs_of who k ts ++ heard) ++ drop m s.io.out) end in
+    let downs = written-seam (downs_of who k ts) s.io.down said (40 * k) 40 (length-downs_of who k ts enough) (length-down_octets who t ts)
+    ∙ ap (λ (m : ℕ). (downs_of who k ts ++ said) ++ drop m s.io.down) end' in
     ap (λ (x : List ℕ). with_place (with_out io x) (octets_of down)) e ∙
     ap (λ (x : List ℕ). with_place (with_out io heard) (octets_of x)) f ∙
     ap (λ (x : List ℕ). shape x (written io.down (40 * k) said) (k + 1)) outs ∙
-    ap (λ (y : List ℕ). shape (outs_of call (suc k) (t ∷ ts) ++ drop (160 * suc k) s.io.out) y (k + 1)) downs ∙
-    ap (λ (n : ℕ). record (io_after (suc k) (t ∷ ts) s.io) { done = n }) next
+    ap (λ (y : List ℕ). shape (outs_of who (suc k) (t ∷ ts) ++ drop (160 * suc k) s.io.out) y (k + 1)) downs ∙
+    ap (λ (n : ℕ). record (io_after (who_of s) (suc k) (t ∷ ts) s.io) { done = n }) next

@@ -12,7 +12,7 @@ use Rattle.call_pair.specs.declared.job.Job.TheVariants.{One, Two}
 use Rattle.call_pair.specs.Places.{pcm_at, with_place, has_place}
 use Rattle.call_pair.specs.Turn.{effective, half_turned_if}
 use Rattle.call_pair.specs.Jobs.{job_left, after_turns, finished}
-use Rattle.call_pair.specs.Phases.{CallMemory, down_before, item_if, frame_at, call_turned, after_call_turns, call_left, call_finished, turned_down, starting, with_partner, half_in, frames_in, effs, half_run}
+use Rattle.call_pair.specs.Phases.{CallMemory, down_before, item_if, frame_at, call_turned, after_call_turns, call_left, call_finished, turned_down, starting, with_partner, second_phase, half_in, frames_in, effs, half_run}
 use Rattle.call_pair.specs.declared.call_job.Phase.TheVariants.{First, Second}
 use Rattle.call_pair.proofs.Places.{is_below}
 use Rattle.call_pair.proofs.Turns.{turned_is}
@@ -67,10 +67,10 @@ first-finished m h e =
 
 -- ---- the second
 
-abbrev taken : List EffectiveFields → ℕ → EffectiveFields
+abbrev pub taken : List EffectiveFields → ℕ → EffectiveFields
 taken frames k = frame_at k frames
 
-abbrev second_after : ℕ → List EffectiveFields → HalfMemory → ℕ → CallMemory
+abbrev pub second_after : ℕ → List EffectiveFields → HalfMemory → ℕ → CallMemory
 second_after m frames h k = record {
   up = ups m h h.io.given;
   down = downs m (taken frames) h k;
@@ -99,13 +99,16 @@ second-run m frames h (suc n) k e = ap (after_call_turns n) (second-step m frame
 
 -- ---- both
 
-pub run-is : (m : ℕ) (frames : List EffectiveFields) (h : HalfMemory) → h.io.done ≡ 0 → half_run m frames h ≡ half_after m (taken frames) h h.io.given
+pub second-finished : (m : ℕ) (frames : List EffectiveFields) (h : HalfMemory) → h.io.done ≡ 0 → second_phase m frames h ≡ second_after m frames h h.io.given
 unfolding downs lines
-run-is m frames h e =
+second-finished m frames h e =
     let n : h.io.given - 0 ≡ h.io.given = omega arith in
-    ap (λ (j : CallMemory). half_in (call_finished (turned_down (with_partner frames j)))) (first-finished m h e)
-    ∙ ap (λ (i : ℕ). half_in (after_call_turns i (second_after m frames h 0))) n
-    ∙ ap half_in (second-run m frames h h.io.given 0 (omega arith))
+    ap (λ (j : CallMemory). call_finished (turned_down (with_partner frames j))) (first-finished m h e)
+    ∙ ap (λ (i : ℕ). after_call_turns i (second_after m frames h 0)) n
+    ∙ second-run m frames h h.io.given 0 (omega arith)
+
+pub run-is : (m : ℕ) (frames : List EffectiveFields) (h : HalfMemory) → h.io.done ≡ 0 → half_run m frames h ≡ half_after m (taken frames) h h.io.given
+run-is m frames h e = ap half_in (second-finished m frames h e)
 
 -- the frames that a half tells
 pub effs-are : (m : ℕ) (h : HalfMemory) (k : ℕ) → h.io.done ≡ 0 → m ≤ h.io.given → k < m → taken (effs m h) k ≡ (told m h k).0.eff

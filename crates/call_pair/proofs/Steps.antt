@@ -14,7 +14,7 @@ use Rattle.call_leg.proofs.OrderLaws.{end-stands}
 use Rattle.call_pair.specs.Memory.{IoMemory, HalfMemory, IsIo}
 use Rattle.call_pair.specs.Places.{up_at, pcm_at, with_out, with_place}
 use Rattle.call_pair.specs.Turn.{unbridged, leg_at, effective, place_worked, half_turned}
-use Rattle.call_pair.specs.History.{Start, HasWorked}
+use Rattle.call_pair.specs.History.{Start, who_of, HasWorked}
 use Rattle.call_pair.proofs.Octets.{io_more}
 use Rattle.call_pair.proofs.Places.{length-up_at, length-pcm_at, is_same, is_past}
 
@@ -76,14 +76,14 @@ turned-ends m e h on t =
 pub alone-worked : (s : Start) (k : ℕ) (ts : List CallPeriod) (now : Settings) (h : HalfMemory) → IsIo s.io → k ≤ length ts → k < s.io.given → now.bridged ≡ false →
     HasWorked s k ts now h → HasWorked s (suc k) (period_with now (up_at k s.io) (pcm_at k s.io) None ∷ ts) (later now) (alone h)
 alone-worked s k ts now h room enough below b w =
-    let call = s.io.call in
+    let who = who_of s in
     let up = up_at k s.io in
     let pcm = pcm_at k s.io in
     let t = period_with now up pcm None in
     let first = up_worked h.leg up in
-    let last = down-stands call ts now up pcm None first.2 (length-pcm_at s.io k room below) (sym b) (up-stands call ts now up h.leg (length-up_at s.io k room below) w.leg) in
+    let last = down-stands who ts now up pcm None first.2 (length-pcm_at s.io k room below) (sym b) (up-stands who ts now up h.leg (length-up_at s.io k room below) w.leg) in
     subst (λ (io : IoMemory). HasWorked s (suc k) (t ∷ ts) (later now) (alone (record { leg = h.leg; io = io }))) (sym w.io) (record {
-      io = io_more s k ts t first.1 (down_worked first.2.down pcm).0 enough (up-plays call ts now up pcm None h.leg (length-up_at s.io k room below) (sym b) w.leg) last.1;
+      io = io_more s k ts t first.1 (down_worked first.2.down pcm).0 enough (up-plays who ts now up pcm None h.leg (length-up_at s.io k room below) (sym b) w.leg) last.1;
       leg = last.0;
     })
 
@@ -92,23 +92,23 @@ pub effective-is : (s : Start) (k : ℕ) (ts : List CallPeriod) (now : Settings)
     HasWorked s k ts now h → tells h ≡ effective_now s.io.call (period_with now (up_at k s.io) (pcm_at k s.io) None ∷ ts)
 effective-is s k ts now h room below w =
     ap (λ (io : IoMemory). (up_worked h.leg (up_at io.done io)).0) w.io ∙
-    up-effective s.io.call ts now (up_at k s.io) (pcm_at k s.io) None h.leg (length-up_at s.io k room below) w.leg
+    up-effective (who_of s) ts now (up_at k s.io) (pcm_at k s.io) None h.leg (length-up_at s.io k room below) w.leg
 
 -- a period within a bridge
 pub bridged-worked : (s : Start) (k : ℕ) (ts : List CallPeriod) (now : Settings) (h : HalfMemory) (e : EffectiveFields) → IsIo s.io → k ≤ length ts → k < s.io.given → now.bridged ≡ true →
     HasWorked s k ts now h → HasWorked s (suc k) (period_with now (up_at k s.io) (pcm_at k s.io) (Some (bits260 (handed_fields e))) ∷ ts) (later now) (bridged h e)
 bridged-worked s k ts now h e room enough below b w =
-    let call = s.io.call in
+    let who = who_of s in
     let up = up_at k s.io in
     let pcm = pcm_at k s.io in
     let handed = Some (bits260 (handed_fields e)) in
     let t = period_with now up pcm handed in
     let first = up_worked h.leg up in
     let mid = with_down first.2 (after_handing first.2.down e) in
-    let last = down-stands call ts now up pcm handed mid (length-pcm_at s.io k room below) (sym b)
-    (handing-stands call ts now up e first.2 (up-stands call ts now up h.leg (length-up_at s.io k room below) w.leg)) in
+    let last = down-stands who ts now up pcm handed mid (length-pcm_at s.io k room below) (sym b)
+    (handing-stands who ts now up e first.2 (up-stands who ts now up h.leg (length-up_at s.io k room below) w.leg)) in
     subst (λ (io : IoMemory). HasWorked s (suc k) (t ∷ ts) (later now) (bridged (record { leg = h.leg; io = io }) e)) (sym w.io) (record {
-      io = io_more s k ts t first.1 (down_worked mid.down pcm).0 enough (up-plays call ts now up pcm handed h.leg (length-up_at s.io k room below) (sym b) w.leg) last.1;
+      io = io_more s k ts t first.1 (down_worked mid.down pcm).0 enough (up-plays who ts now up pcm handed h.leg (length-up_at s.io k room below) (sym b) w.leg) last.1;
       leg = last.0;
     })
 
@@ -120,7 +120,7 @@ pub first_left-worked : (s : Start) (k others : ℕ) (ts : List CallPeriod) (now
     HasWorked s k ts now h → HasWorked s (suc k) (period_with now (up_at k s.io) (pcm_at k s.io) None ∷ ts) (without_bridge (later now)) (left_alone h others)
 first_left-worked s k others ts now h room enough below e b w =
     let test : (h.io.done == others) ≡ true = is_same h.io.done others (ap (λ (io : IoMemory). io.done) w.io ∙ e) in
-    let off : HasWorked s k ts (without_bridge now) (record { leg = unbridged h.leg; io = h.io }) = record { io = w.io; leg = end-stands s.io.call ts now h.leg b w.leg } in
+    let off : HasWorked s k ts (without_bridge now) (record { leg = unbridged h.leg; io = h.io }) = record { io = w.io; leg = end-stands (who_of s) ts now h.leg b w.leg } in
     subst (HasWorked s (suc k) (period_with now (up_at k s.io) (pcm_at k s.io) None ∷ ts) (without_bridge (later now))) (sym (left_alone-is h others true test))
     (alone-worked s k ts (without_bridge now) (record { leg = unbridged h.leg; io = h.io }) room enough below refl off)
 

@@ -1,7 +1,9 @@
 -- What a round adds to the history of a call. Lists have the newest period first.
 use Rattle.std.specs.Prelude.{◌≡◌, ℕ, zero, suc, ◌*◌, nat_lt, if◌then◌else◌, Option, Some, None, List, [], ◌∷◌, ◌++◌, drop}
+use Rattle.trau_alaw.specs.declared.Law.{Law}
 use Rattle.trau_bits.specs.Bits.{octets_of}
 use Rattle.trau_params.specs.Bits260.{bits260}
+use Rattle.call_leg.specs.Who.{Who}
 use Rattle.call_leg.specs.Uplink.{handed_fields}
 use Rattle.call_leg.specs.Periods.{CallPeriod, effective_now}
 use Rattle.call_leg.specs.Settings.{Settings, later, without_bridge, period_with}
@@ -11,11 +13,16 @@ use Rattle.call_leg.specs.Stands.{Stands}
 use Rattle.call_pair.specs.Memory.{IoMemory, HalfMemory, IsIo}
 use Rattle.call_pair.specs.Places.{up_at, pcm_at}
 
--- a call at the start of a round: its periods so far, what is set for the next one, and its octets
+-- a call at the start of a round: the law of its octets, its periods so far, what is set for the next one, and its octets
 pub record Start : Type 0 where
+  pub law : Law
   pub past : List CallPeriod
   pub now : Settings
   pub io : IoMemory
+
+-- whose it is
+abbrev pub who_of : Start → Who
+who_of s = record { number = s.io.call; law = s.law }
 
 -- what is set for the period of place k
 abbrev pub settings_at : ℕ → Settings → Settings
@@ -52,26 +59,26 @@ settings_past k others now = if nat_lt others k then without_bridge (settings_at
 -- ---- the octets
 
 -- the octets of the Out line in the newest k of these periods, the oldest first
-abbrev pub outs_of : ℕ → ℕ → List CallPeriod → List ℕ
-outs_of call zero ts = []
-outs_of call (suc k) [] = []
-outs_of call (suc k) (t ∷ past) = outs_of call k past ++ out_of call (t ∷ past)
+abbrev pub outs_of : Who → ℕ → List CallPeriod → List ℕ
+outs_of who zero ts = []
+outs_of who (suc k) [] = []
+outs_of who (suc k) (t ∷ past) = outs_of who k past ++ out_of who (t ∷ past)
 
 -- those of the Down line
-abbrev pub downs_of : ℕ → ℕ → List CallPeriod → List ℕ
-downs_of call zero ts = []
-downs_of call (suc k) [] = []
-downs_of call (suc k) (t ∷ past) = downs_of call k past ++ octets_of (down_now call (t ∷ past))
+abbrev pub downs_of : Who → ℕ → List CallPeriod → List ℕ
+downs_of who zero ts = []
+downs_of who (suc k) [] = []
+downs_of who (suc k) (t ∷ past) = downs_of who k past ++ octets_of (down_now who (t ∷ past))
 
--- The octets of a call after its first k places, whose periods are the newest of these: Out and Down begin with those of
+-- The octets of this call after its first k places, whose periods are the newest of these: Out and Down begin with those of
 -- the periods, and are as they were behind them.
-abbrev pub io_after : ℕ → List CallPeriod → IoMemory → IoMemory
-io_after k ts io = record {
+abbrev pub io_after : Who → ℕ → List CallPeriod → IoMemory → IoMemory
+io_after who k ts io = record {
   call = io.call;
   up = io.up;
   pcm = io.pcm;
-  out = outs_of io.call k ts ++ drop (160 * k) io.out;
-  down = downs_of io.call k ts ++ drop (40 * k) io.down;
+  out = outs_of who k ts ++ drop (160 * k) io.out;
+  down = downs_of who k ts ++ drop (40 * k) io.down;
   given = io.given;
   done = k;
 }
@@ -83,9 +90,9 @@ pub record Begins (s : Start) (h : HalfMemory) : Type 0 where
   pub octets : IsIo s.io
   pub none_done : s.io.done ≡ 0
   pub io : h.io ≡ s.io
-  pub leg : Stands s.io.call s.past s.now h.leg
+  pub leg : Stands (who_of s) s.past s.now h.leg
 
 -- it has worked k places, with which the call has these periods
 pub record HasWorked (s : Start) (k : ℕ) (ts : List CallPeriod) (now : Settings) (h : HalfMemory) : Type 0 where
-  pub io : h.io ≡ io_after k ts s.io
-  pub leg : Stands s.io.call ts now h.leg
+  pub io : h.io ≡ io_after (who_of s) k ts s.io
+  pub leg : Stands (who_of s) ts now h.leg

@@ -1,23 +1,74 @@
--- What the two phases of a round give, by the history of their call.
-use Rattle.std.specs.Prelude.{◌≡◌, ℕ, ◌*◌, ◌<◌, List, ◌++◌, length, drop}
-use Rattle.call_leg.specs.Periods.{CallPeriod}
-use Rattle.call_leg.specs.Settings.{Settings}
+-- What the two phases of a round give, by the history of their call: the runs of its leg's halves.
+use Rattle.std.specs.Prelude.{◌≡◌, ℕ, ◌*◌, Option, List, [], ◌++◌, length, drop, take, min}
+use Rattle.rx_handler.specs.Origin.{EffectiveFields}
 use Rattle.call_leg.specs.Places.{Between}
-use Rattle.call_leg.specs.Halves.{note_in, UpStands}
-use Rattle.call_pair.specs.Places.{up_at}
-use Rattle.call_pair.specs.History.{Start, outs_of, downs_of}
-use Rattle.call_pair.specs.Phases.{CallMemory, note_at}
+use Rattle.call_leg.specs.Halves.{Note, UpStands}
+use Rattle.call_leg.specs.Runs.{LegHistory, UpRun, DownRun, EndsAt, AreNotes, periods_run, handed_run}
+use Rattle.call_pair.specs.Memory.{IoMemory, HalfMemory}
+use Rattle.call_pair.specs.declared.job.Job.{Job}
+use Rattle.call_pair.specs.declared.job.Job.TheVariants.{One, Two}
+use Rattle.call_pair.specs.Places.{up_at, pcm_at}
+use Rattle.call_pair.specs.History.{Start, who_of, settings_past}
+use Rattle.call_pair.specs.Phases.{CallMemory, frames_in}
 
--- The run of an uplink half: there is a note of each place, which is that of the call after the periods that it has before
--- it; the Out octets are those of the call's periods, and the half stands for the call with all of them. `before k` are the
--- call's periods before place k.
-pub record UpRun (s : Start) (before : ℕ → List CallPeriod) (now : Settings) (j : CallMemory) : Type 0 where
-  pub all : length j.notes ≡ s.io.given
-  pub notes : (k : ℕ) → k < s.io.given → note_at k j.notes ≡ note_in s.io.call (before k) (up_at k s.io)
-  pub out : j.io.out ≡ outs_of s.io.call s.io.given (before s.io.given) ++ drop (160 * s.io.given) s.io.out
-  pub up : UpStands s.io.call (before s.io.given) now j.up
+-- the history of a call's leg at the start of a round, and the octets of each place
+abbrev pub history_of : Start → LegHistory
+history_of s = record { who = who_of s; past = s.past; now = s.now }
 
--- The run of a downlink half: the Down octets are those of the call with these periods, for which the half stands.
-pub record DownRun (s : Start) (ts : List CallPeriod) (now : Settings) (j : CallMemory) : Type 0 where
-  pub down : j.io.down ≡ downs_of s.io.call s.io.given ts ++ drop (40 * s.io.given) s.io.down
-  pub stands : Between s.io.call ts now j.down
+abbrev pub ups_in : Start → ℕ → List ℕ
+ups_in s k = up_at k s.io
+
+abbrev pub pcms_in : Start → ℕ → List ℕ
+pcms_in s k = pcm_at k s.io
+
+-- ---- the phases
+
+-- The first phase gives the run of the uplink half: its notes, and its octets at the front of Out. Then the half stands for
+-- the call with the round's periods. A bridge ends at place m.
+pub record Hears (s : Start) (m : ℕ) (j : CallMemory) : Type 0 where
+  pub octets : List ℕ
+  pub run : UpRun (history_of s) (ups_in s) m s.io.given j.notes octets
+  pub out : j.io.out ≡ octets ++ drop (160 * s.io.given) s.io.out
+  pub up : (pcms : ℕ → List ℕ) (handed : ℕ → Option (List ℕ)) → EndsAt (history_of s) m s.io.given handed →
+      UpStands (who_of s) (periods_run (history_of s) (ups_in s) pcms handed s.io.given) (settings_past s.io.given m s.now) j.up
+
+-- The second phase gives the run of the downlink half, with these frames of the partner: its octets at the front of Down.
+-- Then the half stands for the call with the round's periods, whichever octets of Up told the notes.
+pub record Speaks (s : Start) (items : List EffectiveFields) (j : CallMemory) : Type 0 where
+  pub octets : List ℕ
+  pub run : DownRun (history_of s) j.notes items (pcms_in s) s.io.given octets
+  pub down : j.io.down ≡ octets ++ drop (40 * s.io.given) s.io.down
+  pub stands : (ups : ℕ → List ℕ) → AreNotes (history_of s) ups (pcms_in s) items s.io.given j.notes →
+      Between (who_of s) (periods_run (history_of s) ups (pcms_in s) (handed_run (history_of s) items) s.io.given) (settings_past s.io.given (length items) s.now) j.down
+
+-- ---- a job's run
+
+-- the octets of a call after all its places
+abbrev pub io_with : IoMemory → List ℕ → List ℕ → IoMemory
+io_with io outs downs = record { call = io.call; up = io.up; pcm = io.pcm; out = outs ++ drop (160 * io.given) io.out; down = downs ++ drop (40 * io.given) io.down; given = io.given; done = io.given }
+
+-- A half's octets are those of the run of its uplink half, which tells these notes, followed by that of its downlink half
+-- with these items.
+pub record HalfRuns (s : Start) (m : ℕ) (notes : List Note) (items : List EffectiveFields) (h : HalfMemory) : Type 0 where
+  pub outs : List ℕ
+  pub downs : List ℕ
+  pub up : UpRun (history_of s) (ups_in s) m s.io.given notes outs
+  pub down : DownRun (history_of s) notes items (pcms_in s) s.io.given downs
+  pub io : h.io ≡ io_with s.io outs downs
+
+-- the job of one call
+pub record OneRuns (s : Start) (job : Job) : Type 0 where
+  pub half : HalfMemory
+  pub notes : List Note
+  pub is_one : job ≡ One half
+  pub run : HalfRuns s 0 notes [] half
+
+-- The job of two: the items of each are the effective frames of the other, of the places that both have.
+pub record TwoRun (a b : Start) (job : Job) : Type 0 where
+  pub first : HalfMemory
+  pub second : HalfMemory
+  pub first_notes : List Note
+  pub second_notes : List Note
+  pub are_two : job ≡ Two first second
+  pub first_run : HalfRuns a (min a.io.given b.io.given) first_notes (take (min a.io.given b.io.given) (frames_in second_notes)) first
+  pub second_run : HalfRuns b (min a.io.given b.io.given) second_notes (take (min a.io.given b.io.given) (frames_in first_notes)) second

@@ -9,8 +9,8 @@ ghost use Rattle.call_pair.specs.Jobs.{finished, has_call};
 ghost use Rattle.call_leg.specs.Halves.{note_in};
 ghost use Rattle.call_pair.specs.Places.{up_at};
 ghost use Rattle.call_pair.specs.Phases.{first_phase, second_phase, half_run, effs, frame_at};
-ghost use Rattle.call_pair.specs.History.{Start, Begins, settings_at, settings_past, alone_periods, bridged_periods};
-ghost use Rattle.call_pair.specs.Told.{UpRun, DownRun};
+ghost use Rattle.call_pair.specs.History.{Start, Begins, bridged_periods};
+ghost use Rattle.call_pair.specs.Told.{Hears, Speaks, OneRuns, TwoRun};
 ghost use Rattle.call_pair.specs.Finished.{OneWorked, TwoWorked};
 
 /// The finished job of one call that lies in no bridge: its leg stands for the call with the round's periods, and its
@@ -38,14 +38,19 @@ pub fn the_phases_are_the_run()
         finished (Two g h) ≡ Two (half_run m (effs m h) g) (half_run m (effs m g) h) }
 {}
 
+/// The finished job of a call has the octets of its uplink half's run, followed by its downlink half's. Of two calls the
+/// items of each are the other's effective frames of the places that both have.
+pub fn the_run_is_that_of_the_halves()
+    ensures one { (s : Start) (h : HalfMemory) → Begins s h → OneRuns s (finished (One h)) }
+    ensures two { (a b : Start) (g h : HalfMemory) → Begins a g → Begins b h → TwoRun a b (finished (Two g h)) }
+{}
+
 /// The first phase gives the run of an uplink half, of a call that lies in no bridge and of one with a partner: a bridge
 /// ends behind the places of the shorter. What the partner gets of it are the call's effective frames of the places that
 /// both have.
 pub fn the_first_phase_is_told()
-    ensures alone { (s : Start) (h : HalfMemory) → Begins s h → s.now.bridged ≡ false →
-        UpRun s (λ k. alone_periods k s) (settings_at s.io.given s.now) (first_phase 0 h) }
-    ensures bridged { (a b : Start) (g h : HalfMemory) → Begins a g → Begins b h → a.now.bridged ≡ true → b.now.bridged ≡ true →
-        UpRun a (λ k. bridged_periods k a b) (settings_past a.io.given b.io.given a.now) (first_phase (min a.io.given b.io.given) g) }
+    ensures alone { (s : Start) (h : HalfMemory) → Begins s h → Hears s 0 (first_phase 0 h) }
+    ensures bridged { (a b : Start) (g h : HalfMemory) → Begins a g → Begins b h → Hears a (min a.io.given b.io.given) (first_phase (min a.io.given b.io.given) g) }
     ensures frames { (a b : Start) (g h : HalfMemory) → Begins a g → Begins b h → a.now.bridged ≡ true → b.now.bridged ≡ true →
         let m = min g.io.given h.io.given in (k : ℕ) → k < m → frame_at k (effs m g) ≡ (note_in a.io.call (bridged_periods k a b) (up_at k a.io)).eff }
 {}
@@ -53,8 +58,7 @@ pub fn the_first_phase_is_told()
 /// The second phase gives the run of a downlink half, of a call that lies in no bridge and of one with a partner, whose
 /// effective frames it has of the places that both have.
 pub fn the_second_phase_is_told()
-    ensures alone { (s : Start) (h : HalfMemory) → Begins s h → s.now.bridged ≡ false →
-        DownRun s (alone_periods s.io.given s) (settings_at s.io.given s.now) (second_phase 0 [] h) }
-    ensures bridged { (a b : Start) (g h : HalfMemory) → Begins a g → Begins b h → a.now.bridged ≡ true → b.now.bridged ≡ true →
-        let m = min g.io.given h.io.given in DownRun a (bridged_periods a.io.given a b) (settings_past a.io.given b.io.given a.now) (second_phase m (effs m h) g) }
+    ensures alone { (s : Start) (h : HalfMemory) → Begins s h → Speaks s [] (second_phase 0 [] h) }
+    ensures bridged { (a b : Start) (g h : HalfMemory) → Begins a g → Begins b h →
+        let m = min g.io.given h.io.given in Speaks a (effs m h) (second_phase m (effs m h) g) }
 {}

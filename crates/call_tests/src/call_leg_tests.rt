@@ -2,10 +2,12 @@ ghost use Rattle.std.specs.Prelude.{◌≡◌, ◌<◌, ◌+◌, ◌≤ℤ◌, p
 ghost use Rattle.call_leg.specs.Memory.{periods_of_leg};
 ghost use Rattle.call_number.specs.CallNumber.{IsCallNumber};
 
-use call_leg::Leg;
+use call_leg::{DownLeg, Leg, UpLeg, UpNote};
+use rx_handler::Effective;
 use std::alloc::{AllocError, Global};
 use std::test::Fail;
 use std::thread::{Threads, join_mut};
+use trau_alaw::Law;
 use trau_io::Counts;
 use trau_orders::DtxMode;
 
@@ -29,7 +31,13 @@ fn new_leg(alloc: Global, call: u32) -> Result<Leg, AllocError>
     requires { IsCallNumber call }
     ensures { IfOk result (λ l. periods_of_leg l ≡ 0) }
 {
-    Leg::new(alloc, call)
+    Leg::new(alloc, call, Law::A)
+}
+
+fn mulaw_leg(alloc: Global) -> Result<Leg, AllocError>
+    ensures { IfOk result (λ l. periods_of_leg l ≡ 0) }
+{
+    Leg::new(alloc, 4096, Law::Mu)
 }
 
 fn begin_bridge(leg: &mut Leg)
@@ -114,6 +122,15 @@ fn three_are_quiet(leg: &mut Leg) -> bool
 fn without_frames_the_call_is_quiet(rt: HostRuntime) -> Result<(), Fail> {
     let mut leg = new_leg(rt.alloc(), 1)?;
     assert!(rt; three_are_quiet(&mut leg) && counted_alone(&leg, 3));
+    Ok(())
+}
+
+// The same on a line with mu-law: the exchange hears its silence.
+#[test]
+fn a_quiet_call_of_mulaw_sends_its_silence(rt: HostRuntime) -> Result<(), Fail> {
+    let mut leg = mulaw_leg(rt.alloc())?;
+    let (out, down) = period_of(&mut leg, &[0; 40], 0xFF);
+    assert!(rt; out == [0xFF; 160] && down == ONES);
     Ok(())
 }
 
@@ -499,5 +516,85 @@ fn stay_alike(rt: &impl Threads, a: &mut Leg, b: &mut Leg) -> bool
 fn legs_go_to_other_threads(rt: HostRuntime) -> Result<(), Fail> {
     let (mut a, mut b) = two_legs(rt.alloc(), 1, 1)?;
     assert!(rt; stay_alike(&rt, &mut a, &mut b));
+    Ok(())
+}
+
+// The uplink halves of two periods of good speech with these D8 to D15: what they tell.
+fn two_heard(half: &mut UpLeg, first: u8, second: u8) -> (UpNote, UpNote)
+    requires { half.old.search.periods < 100 }
+    ensures { half.new.search.periods ≡ half.old.search.periods + 2 }
+{
+    let mut out = [0; 160];
+    let one = half.turn(&up(0, first), &mut out);
+    let other = half.turn(&up(0, second), &mut out);
+    (one, other)
+}
+
+// Their downlink halves, with these frames of the partner: the Down octets of the second.
+fn two_made(
+    half: &mut DownLeg,
+    one: &UpNote,
+    other: &UpNote,
+    first: Effective,
+    second: Effective,
+) -> [u8; 40] {
+    let mut down = [0; 40];
+    half.turn(one, Some(&first), &[0xD5; 160], &mut down);
+    half.turn(other, Some(&second), &[0xD5; 160], &mut down);
+    down
+}
+
+// Two periods of two bridged legs in two phases: all uplink halves, then all downlink halves. The legs are taken apart for
+// it and put together again.
+fn by_halves(a: Leg, b: Leg, d: u8) -> (Leg, Leg, [u8; 40])
+    requires octet { d < 100 }
+    requires first { periods_of_leg a < 50 }
+    requires second { periods_of_leg b < 50 }
+    ensures first { periods_of_leg result.0 ≡ periods_of_leg a + 2 }
+    ensures second { periods_of_leg result.1 ≡ periods_of_leg b + 2 }
+{
+    let (mut a_up, mut a_down) = a.split();
+    let (mut b_up, mut b_down) = b.split();
+    let (a0, a1) = two_heard(&mut a_up, d, d + 1);
+    let (b0, b1) = two_heard(&mut b_up, 9, 9);
+    two_made(&mut a_down, &a0, &a1, b0.eff, b1.eff);
+    let down = two_made(&mut b_down, &b0, &b1, a0.eff, a1.eff);
+    (Leg::join(a_up, a_down), Leg::join(b_up, b_down), down)
+}
+
+// The same by the legs' own calls, period by period.
+fn by_legs(a: &mut Leg, b: &mut Leg, d: u8) -> [u8; 40]
+    requires octet { d < 100 }
+    requires first { periods_of_leg a.old < 50 }
+    requires second { periods_of_leg b.old < 50 }
+    ensures first { periods_of_leg a.new ≡ periods_of_leg a.old + 2 }
+    ensures second { periods_of_leg b.new ≡ periods_of_leg b.old + 2 }
+{
+    bridged(a, b, d);
+    bridged(a, b, d + 1)
+}
+
+// Two rounds of a bridge by the legs' own calls: the last Down octets of both, and what was counted.
+fn two_by_legs(alloc: Global) -> Result<([u8; 40], [u8; 40], Counts, u32), AllocError> {
+    let (mut a, mut b) = two_legs(alloc, 5, 6)?;
+    begin_bridges(&mut a, &mut b);
+    let first = by_legs(&mut a, &mut b, 3);
+    let second = by_legs(&mut a, &mut b, 5);
+    Ok((first, second, a.counts(), b.sent()))
+}
+
+// The same by halves.
+fn two_by_halves(alloc: Global) -> Result<([u8; 40], [u8; 40], Counts, u32), AllocError> {
+    let (mut a, mut b) = two_legs(alloc, 5, 6)?;
+    begin_bridges(&mut a, &mut b);
+    let (a, b, first) = by_halves(a, b, 3);
+    let (a, b, second) = by_halves(a, b, 5);
+    Ok((first, second, a.counts(), b.sent()))
+}
+
+#[test]
+fn halves_come_together_and_apart_again(rt: HostRuntime) -> Result<(), Fail> {
+    let alloc = rt.alloc();
+    assert!(rt; two_by_halves(alloc)? == two_by_legs(alloc)?);
     Ok(())
 }

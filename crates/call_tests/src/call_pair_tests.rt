@@ -8,6 +8,7 @@ use pool_run::Work;
 use rx_handler::Effective;
 use std::alloc::{AllocError, Global};
 use std::test::Fail;
+use trau_alaw::Law;
 
 // An uplink frame of good speech, but for D8 to D15, which `up` puts in place.
 static SPEECH: [u8; 40] = [
@@ -57,7 +58,7 @@ fn new_leg(alloc: Global, call: u32) -> Result<Leg, AllocError>
     requires { IsCallNumber call }
     ensures { IfOk result (λ l. periods_of_leg l ≡ 0) }
 {
-    Leg::new(alloc, call)
+    Leg::new(alloc, call, Law::A)
 }
 
 // Memory for the lines of a call, with so many of these periods.

@@ -8,12 +8,13 @@ use call_leg::Leg;
 use ccu_end::Ccu;
 use std::alloc::{AllocError, Global};
 use std::test::Fail;
+use trau_alaw::Law;
 use trau_bits::pack;
 
 fn new_leg(alloc: Global) -> Result<Leg, AllocError>
     ensures { IfOk result (λ l. periods_of_leg l ≡ 0) }
 {
-    Leg::new(alloc, 1)
+    Leg::new(alloc, 1, Law::A)
 }
 
 // The Down octets of a period with this uplink, of a silent exchange.

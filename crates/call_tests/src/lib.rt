@@ -13,6 +13,8 @@ mod ccu_end_tests;
 #[cfg(test)]
 mod down_framer_tests;
 #[cfg(test)]
+mod farm_live_callers_tests;
+#[cfg(test)]
 mod farm_live_tests;
 #[cfg(test)]
 mod rx_handler_tests;

@@ -11,3 +11,6 @@ mod Waits
 mod Periods
 mod Said
 mod Every
+mod Period
+mod Following
+mod Ending

@@ -4,3 +4,7 @@ pub mod Window
 pub mod Heard
 pub mod Asked
 pub mod Step
+pub mod Told
+pub mod Follows
+pub mod FollowStep
+pub mod Tool

@@ -1,5 +1,4 @@
 -- Lemmas on drills.
-mod Adding
 mod Opened
 mod Quiet
 mod Rooms

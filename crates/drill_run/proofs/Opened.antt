@@ -20,7 +20,7 @@ use Rattle.farm_run.specs.Runs.{IsOpened}
 
 -- an order opens a call
 abbrev Opens : What → ℕ → Type 0
-Opens (what.OpenCall d) c = c ≡ d
+Opens (what.OpenCall d law) c = c ≡ d
 Opens (what.CloseCall d) c = ⊥
 Opens (what.Bridge a b) c = ⊥
 Opens (what.Unbridge d) c = ⊥
@@ -37,7 +37,7 @@ unbridged c d None e = cc
 unbridged c d (Some x) e = cc
 
 by_act : (k : Known) (w : What) (c : ℕ) → is_this c (opened_by (Ok (act_of k w))) ≡ true → Opens w c
-by_act k (what.OpenCall d) c e = eqb-true c d e
+by_act k (what.OpenCall d law) c e = eqb-true c d e
 by_act k (what.CloseCall d) c e = cc
 by_act k (what.Bridge a b) c e = cc
 by_act k (what.Unbridge d) c e = unbridged c d (k.bridge_of d) e

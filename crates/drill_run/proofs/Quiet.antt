@@ -16,7 +16,7 @@ use Rattle.trau_orders.specs.Lists.{AreOrders}
 use Rattle.switchboard.specs.Calls.{opened_at}
 use Rattle.farm_drill.specs.Lines.{AreDrilled, drilled_line, line_of_call}
 use Rattle.farm_drill.specs.Orders.{drilled_orders}
-use Rattle.farm_output.specs.Run.{Run, done_in, start_in, end_in, periods_in, periods_to}
+use Rattle.farm_output.specs.Run.{Run, done_in, start_in, end_in, periods_in, periods_to, who_in}
 use Rattle.farm_output.specs.Lines.{out_of_call, down_of_call}
 use Rattle.farm_output.specs.Facts.{report_of}
 use Rattle.farm_output.proofs.SoFar.{so_far_at_first}
@@ -79,12 +79,12 @@ length-periods_to r c (suc n) = ap suc (length-periods_to r c n)
 whole_out : (r : Run) (c : ℕ) → AreOrders r.orders → length (out_of_call r c) ≤ 160 * r.periods
 whole_out r c are =
     let last : end_in r c ≤ r.periods = end_within_run r 0 [] r.orders c (so_far_at_first r are) in
-    omega (arith, length-out_line c (periods_in r c), length-periods_to r c (end_in r c - start_in r c), last)
+    omega (arith, length-out_line (who_in r c) (periods_in r c), length-periods_to r c (end_in r c - start_in r c), last)
 
 whole_down : (r : Run) (c : ℕ) → AreOrders r.orders → length (down_of_call r c) ≤ 40 * r.periods
 whole_down r c are =
     let last : end_in r c ≤ r.periods = end_within_run r 0 [] r.orders c (so_far_at_first r are) in
-    omega (arith, length-down_octets c (periods_in r c), length-periods_to r c (end_in r c - start_in r c), last)
+    omega (arith, length-down_octets (who_in r c) (periods_in r c), length-periods_to r c (end_in r c - start_in r c), last)
 
 -- ---- the drill
 

@@ -26,10 +26,11 @@ use Rattle.farm_output.specs.Facts.{call_line, calls_in, report_of}
 use Rattle.farm_output.proofs.Lists.{each_map, each_passes, each_weaker}
 use Rattle.farm_report.specs.declared.report.CallLine.{CallLine}
 use Rattle.farm_report.specs.Lines.{report_text}
+use Rattle.farm_report.specs.Sums.{sum_line}
 use Rattle.farm_report.specs.View.{ReportView}
 use Rattle.farm_run.specs.declared.pace.Pace.{Pace}
 use Rattle.farm_run.specs.Runs.{IsOpened, Runs}
-use Rattle.drill_run.specs.Drilled.{IsDrilled, drilled_run, sum_line, text_with_sums}
+use Rattle.drill_run.specs.Drilled.{IsDrilled, drilled_run, text_with_sums}
 use Rattle.drill_run.specs.Rooms.{AreAmple, DrillMemory, known_lines}
 use Rattle.drill_run.proofs.Quiet.{Drilling, at_first, drill_calm, drill_leaves, drilled_calls, report_is}
 

@@ -1,6 +1,6 @@
 -- A drill as a run, and its text (this project's profile).
-use Rattle.std.specs.Prelude.{◌≡◌, ◌≤◌, ℕ, ◌^◌, ◌%◌, false, List, [], ◌∷◌, ◌++◌, codes, decimal}
-use Rattle.std.specs.List.{sum, flat_map}
+use Rattle.std.specs.Prelude.{◌≡◌, ◌≤◌, ℕ, false, List, [], ◌++◌}
+use Rattle.std.specs.List.{flat_map}
 use Rattle.trau_io.specs.declared.line.Side.{Side}
 use Rattle.trau_io.specs.Lines.{LineState}
 use Rattle.trau_io.specs.Memory.{state_of}
@@ -10,7 +10,8 @@ use Rattle.farm_drill.specs.Orders.{drilled_orders}
 use Rattle.farm_output.specs.Run.{Run}
 use Rattle.farm_output.specs.Lines.{out_of_call, down_of_call}
 use Rattle.farm_output.specs.Facts.{report_of, calls_in}
-use Rattle.farm_report.specs.Lines.{line_of, report_text}
+use Rattle.farm_report.specs.Lines.{report_text}
+use Rattle.farm_report.specs.Sums.{sum_line}
 use Rattle.farm_run.specs.Runs.{Leaves, none_fails}
 
 -- the run of a drill: its orders over its lines, of which none fails, to the last of its periods
@@ -20,14 +21,6 @@ drilled_run seed calls periods = record {
   orders = drilled_orders calls periods;
   periods = periods;
 }
-
--- the sum of a line's octets, modulo 2^32
-abbrev pub sum_of : List ℕ → ℕ
-sum_of octets = sum octets % 2 ^ 32
-
--- sum C out X down Y
-abbrev pub sum_line : ℕ → List ℕ → List ℕ → List ℕ
-sum_line call out down = line_of (codes "sum" ∷ decimal call ∷ codes "out" ∷ decimal (sum_of out) ∷ codes "down" ∷ decimal (sum_of down) ∷ [])
 
 -- The text of a run of which no line fails, with its sums: the report, and a line for each call, in rising order of their
 -- numbers, of what the run gives its outgoing lines.

@@ -1,27 +1,16 @@
 //! The sums of outgoing lines, as text.
 
-ghost use Rattle.std.specs.Prelude.{◌≡◌, ◌++◌, ◌^◌, ◌%◌, [], All, unwrap_or, OnOk, string_bytes};
+ghost use Rattle.std.specs.Prelude.{◌≡◌, ◌++◌, [], All, unwrap_or, OnOk, string_bytes};
 ghost use Rattle.std.specs.List.{flat_map};
 ghost use Rattle.trau_io.specs.declared.line.Side.TheVariants.{Down, Out};
 ghost use Rattle.call_number.specs.CallNumber.{IsCallNumber};
 ghost use Rattle.drill_run.specs.Rooms.{known_lines};
-ghost use Rattle.drill_run.specs.Drilled.{sum_of, sum_line};
+ghost use Rattle.farm_report.specs.Sums.{sum_line};
 
 use crate::trunk::DrillTrunk;
-use farm_report::CallLine;
+use farm_report::{CallLine, sum};
 use std::alloc::AllocError;
 use trau_io::{Line, Side};
-
-// The sum of octets, modulo 2^32.
-fn sum(octets: &[u8]) -> u32
-    ensures { result ≡ sum_of octets.now }
-{
-    let mut sum = 0u32;
-    for octet in octets {
-        sum = sum.wrapping_add(*octet as u32);
-    }
-    sum
-}
 
 // The sums of a call's outgoing lines, at the end of a text.
 fn put_sum(text: &mut String, trunk: &DrillTrunk, call: u32) -> Result<(), AllocError>
@@ -33,7 +22,7 @@ fn put_sum(text: &mut String, trunk: &DrillTrunk, call: u32) -> Result<(), Alloc
     let out = sum(trunk.written(Line { call, side }));
     let side = Side::Down;
     let down = sum(trunk.written(Line { call, side }));
-    write!(text, "sum {call} out {out} down {down}\n")
+    farm_report::put_sums(text, call, out, down)
 }
 
 /// The sums of these calls, in their order.

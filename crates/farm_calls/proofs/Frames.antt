@@ -37,7 +37,7 @@ use Rattle.call_output.specs.History.{IsCallHistory, call_of}
 use Rattle.call_output.proofs.Ranges.{IsPeriod}
 use Rattle.call_output.proofs.Reading.{LooksBack, yield-period, effective-period}
 use Rattle.call_output.proofs.Whole.{history-whole, call-whole}
-use Rattle.farm_output.specs.Run.{Run, done_in, start_in, end_in, partner_in, up_in, ups_to, item_of, heard_by, period_of, periods_to, periods_in}
+use Rattle.farm_output.specs.Run.{who_in, Run, done_in, start_in, end_in, partner_in, up_in, ups_to, item_of, heard_by, period_of, periods_to, periods_in}
 use Rattle.farm_output.proofs.Going.{ups_periods, item_ups}
 use Rattle.farm_calls.specs.Whole.{count_in, whole_call, IsBridged, item_for, yield_on, frame_on}
 use Rattle.farm_calls.proofs.Periods.{is_whole, history_same}
@@ -65,19 +65,19 @@ period_among r c k (suc n) l = elim (cases_lt k n) [
 as_history : (r : Run) (c k : ℕ) → HasPeriod r c k → IsCallHistory (periods_in r c)
 as_history r c k h = subst IsCallHistory (history_same r c h.orders) (history-whole (whole_call r c) (is_whole r c h.orders h.known))
 
-as_call : (r : Run) (c k : ℕ) → HasPeriod r c k → whole_call r c ≡ call_of c (periods_in r c)
-as_call r c k h = sym (call-whole (whole_call r c) (is_whole r c h.orders h.known)) ∙ ap (call_of c) (history_same r c h.orders)
+as_call : (r : Run) (c k : ℕ) → HasPeriod r c k → whole_call r c ≡ call_of (who_in r c) (periods_in r c)
+as_call r c k h = sym (call-whole (whole_call r c) (is_whole r c h.orders h.known)) ∙ ap (call_of (who_in r c)) (history_same r c h.orders)
 
 frame_known : LooksBack → (r : Run) (c k : ℕ) → HasPeriod r c k → effective (whole_call r c) k ≡ effective_now c (periods_to r c (suc k))
 frame_known look r c k h =
     ap (λ n. effective (whole_call r c) n) (sym (length-periods_to r c k)) ∙ ap (λ call. effective call (length (periods_to r c k))) (as_call r c k h)
-    ∙ effective-period look c (periods_in r c) (period_of r c k) (periods_to r c k) (as_history r c k h) (period_among r c k (count_in r c) h.within)
+    ∙ effective-period look (who_in r c) (periods_in r c) (period_of r c k) (periods_to r c k) (as_history r c k h) (period_among r c k (count_in r c) h.within)
 
 yield_known : (r : Run) (c k : ℕ) → HasPeriod r c k → yield_at (whole_call r c) k ≡ yield_of (up_in r c k) (ups_to r c k)
 unfolding period_of
 yield_known r c k h =
     ap (λ n. yield_at (whole_call r c) n) (sym (length-periods_to r c k)) ∙ ap (λ call. yield_at call (length (periods_to r c k))) (as_call r c k h)
-    ∙ yield-period c (periods_in r c) (period_of r c k) (periods_to r c k) (as_history r c k h) (period_among r c k (count_in r c) h.within)
+    ∙ yield-period (who_in r c) (periods_in r c) (period_of r c k) (periods_to r c k) (as_history r c k h) (period_among r c k (count_in r c) h.within)
     ∙ ap (yield_of (up_in r c k)) (ups_periods r c k)
 
 partner_has : (r : Run) (c t : ℕ) (x : board.Span) → AreOrders r.orders → IsBridged r c t x → HasPeriod r (partner_in c x) (t - start_in r (partner_in c x))

@@ -16,7 +16,7 @@ use Rattle.call_output.specs.Whole.{IsWhole}
 use Rattle.call_output.proofs.Stretched.{reverse-more}
 use Rattle.call_output.proofs.Frames.{made-read}
 use Rattle.call_output.proofs.Whole.{history-whole, call-whole}
-use Rattle.farm_output.specs.Run.{Run, done_in, spans_in, start_in, end_in, is_of, periods_in}
+use Rattle.farm_output.specs.Run.{who_in, Run, done_in, spans_in, start_in, end_in, is_of, periods_in}
 use Rattle.farm_output.specs.Facts.{carries_in, sent_by, span_line}
 use Rattle.farm_calls.specs.Whole.{begins_in, span_for, whole_call, IsBridged}
 use Rattle.farm_calls.specs.Sent.{frame_count, CarriesHanded, Sends, Waits, IsFirst}
@@ -153,7 +153,7 @@ sent_counted r c x a o =
     let whole = is_whole r c a o in
     let history = history_same r c a in
     let read : made (whole_call r c) ≡ reverse (map numbered_of (frames_of (periods_in r c))) =
-    ap made (sym (call-whole (whole_call r c) whole)) ∙ made-read c _ (history-whole (whole_call r c) whole) ∙ ap (λ ts. reverse (map numbered_of (frames_of ts))) history in
+    ap made (sym (call-whole (whole_call r c) whole)) ∙ made-read (who_in r c) _ (history-whole (whole_call r c) whole) ∙ ap (λ ts. reverse (map numbered_of (frames_of ts))) history in
     sym (ap (λ fs. length (filter (of_span r c x) fs)) read ∙ filter_reverse (of_span r c x) (map numbered_of (frames_of (periods_in r c))) ∙ filter_map (of_span r c x) numbered_of (frames_of (periods_in r c)))
 
 -- **Of what a call is handed in a span one frame at most is lost.**

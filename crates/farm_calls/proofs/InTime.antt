@@ -67,7 +67,7 @@ new_in_time whole ds later d (Ok (act.Bridged a b)) h above = (
   },
   tt,
 )
-new_in_time whole ds later d (Ok (act.Opened c)) h above = tt
+new_in_time whole ds later d (Ok (act.Opened c law)) h above = tt
 new_in_time whole ds later d (Ok (act.Closed c p)) h above = tt
 new_in_time whole ds later d (Ok (act.Unbridged a b)) h above = tt
 new_in_time whole ds later d (Ok (act.LevelSet c v)) h above = tt

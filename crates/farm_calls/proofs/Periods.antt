@@ -7,6 +7,7 @@ use Rattle.trau_orders.specs.declared.order.DtxMode.TheVariants.{Uplink}
 use Rattle.trau_orders.specs.Lists.{AreOrders}
 use Rattle.switchboard.specs.Calls.{opened_at}
 use Rattle.switchboard.specs.Ends.{whole_of}
+use Rattle.call_leg.specs.Who.{Who}
 use Rattle.call_leg.specs.Periods.{CallPeriod}
 use Rattle.call_leg.specs.Out.{out_of}
 use Rattle.call_output.specs.Call.{Setting, periods, setting_at}
@@ -91,6 +92,6 @@ history_same r c a = ap (first_periods (whole_call r c)) (count_periods r c) ∙
 
 -- ---- the Out line, as both crates write it
 
-pub out_lines : (c : ℕ) (ts : List CallPeriod) → run.out_line c ts ≡ call.out_line c ts
-out_lines c [] = refl
-out_lines c (t ∷ past) = ap (λ line. line ++ out_of c (t ∷ past)) (out_lines c past)
+pub out_lines : (who : Who) (ts : List CallPeriod) → run.out_line who ts ≡ call.out_line who ts
+out_lines who [] = refl
+out_lines who (t ∷ past) = ap (λ line. line ++ out_of who (t ∷ past)) (out_lines who past)

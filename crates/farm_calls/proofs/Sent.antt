@@ -10,6 +10,7 @@ use Rattle.trau_orders.specs.Lists.{AreOrders}
 use Rattle.switchboard.specs.declared.act.Span as board
 use Rattle.switchboard.specs.Calls.{opened_at}
 use Rattle.down_framer.specs.ByNumber.{when, numbered_of}
+use Rattle.call_leg.specs.Who.{Who}
 use Rattle.call_leg.specs.Periods.{CallPeriod}
 use Rattle.call_leg.specs.Down.{down_periods, frames_of}
 use Rattle.call_output.specs.Call.{Call, Span, is_quiet_at, item_at}
@@ -30,15 +31,15 @@ use Rattle.farm_calls.proofs.Places.{item_place, first_made}
 
 -- ---- the frames that are made are the first ones
 
-made_read : (number : ℕ) (ts : List CallPeriod) → IsCallHistory ts → made (call_of number ts) ≡ reverse (first_frames (call_of number ts) (length (made (call_of number ts))))
-made_read number ts h =
-    let call = call_of number ts in
-    let n : length (made call) ≡ length (frames_of ts) = ap length (made-read number ts h) ∙ length-reverse (map numbered_of (frames_of ts)) ∙ length-map (frames_of ts) numbered_of in
-    made-read number ts h ∙ ap reverse (made-in_order (down_periods ts) h.bridges) ∙ ap reverse (sym (first-read number ts (length (frames_of ts)) h))
+made_read : (who : Who) (ts : List CallPeriod) → IsCallHistory ts → made (call_of who ts) ≡ reverse (first_frames (call_of who ts) (length (made (call_of who ts))))
+made_read who ts h =
+    let call = call_of who ts in
+    let n : length (made call) ≡ length (frames_of ts) = ap length (made-read who ts h) ∙ length-reverse (map numbered_of (frames_of ts)) ∙ length-map (frames_of ts) numbered_of in
+    made-read who ts h ∙ ap reverse (made-in_order (down_periods ts) h.bridges) ∙ ap reverse (sym (first-read who ts (length (frames_of ts)) h))
     ∙ ap (λ m. reverse (first_frames call m)) (sym n)
 
 pub made_first : (call : Call) → IsWhole call → made call ≡ reverse (first_frames call (length (made call)))
-made_first call h = subst (λ call. made call ≡ reverse (first_frames call (length (made call)))) (call-whole call h) (made_read call.number (history_of call) (history-whole call h))
+made_first call h = subst (λ call. made call ≡ reverse (first_frames call (length (made call)))) (call-whole call h) (made_read call.who (history_of call) (history-whole call h))
 
 -- ---- as they are sent
 

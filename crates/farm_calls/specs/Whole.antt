@@ -7,7 +7,7 @@ use Rattle.switchboard.specs.declared.act.Span as board
 use Rattle.frame_sync.specs.declared.yields.Yield.{Yield}
 use Rattle.rx_handler.specs.Origin.{EffectiveFields}
 use Rattle.call_output.specs.Call.{Call, Setting, Span, yield_at, effective, item_at}
-use Rattle.farm_output.specs.Run.{Run, done_in, spans_in, start_in, end_in, level_after, mode_after, done_to, ups_to, item_of, is_of, partner_in}
+use Rattle.farm_output.specs.Run.{Run, who_in, done_in, spans_in, start_in, end_in, level_after, mode_after, done_to, ups_to, item_of, is_of, partner_in}
 
 -- how many periods a call has
 abbrev pub count_in : Run → ℕ → ℕ
@@ -40,10 +40,11 @@ span_for r c x = record {
 abbrev pub spans_for : Run → ℕ → List Span
 spans_for r c = map (span_for r c) (filter (begins_in r c) (spans_in r))
 
--- the call: what its lines give up to its end, what is in force in its periods, and its spans
+-- the call: its number and the law of its order, what its lines give up to its end, what is in force in its periods,
+-- and its spans
 abbrev pub whole_call : Run → ℕ → Call
 whole_call r c = record {
-  number = c;
+  who = who_in r c;
   up = take (40 * count_in r c) (r.lines c).up;
   pcm = take (160 * count_in r c) (r.lines c).pcm;
   settings = map (λ k. setting_in r c (start_in r c + k)) (range_with_len 0 (count_in r c));

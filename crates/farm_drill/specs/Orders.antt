@@ -2,12 +2,13 @@
 use Rattle.std.specs.Prelude.{ℕ, ◌+◌, ◌-◌, ◌/◌, ◌%◌, ◌==◌, Bool, List, ◌++◌, codes, map, filter}
 use Rattle.std.specs.List.{range_with_len, flat_map}
 use Rattle.trau_orders.specs.declared.order.Order.{Order}
+use Rattle.trau_alaw.specs.declared.Law.TheVariants.{A}
 use Rattle.trau_orders.specs.declared.order.What.TheVariants.{OpenCall, Bridge, Unbridge}
 use Rattle.trau_orders.specs.Grammar.{line_of}
 
 -- 0 open C
 abbrev pub opening : ℕ → Order
-opening call = record { stamp = 0; what = OpenCall call }
+opening call = record { stamp = 0; what = OpenCall call A }
 
 -- Q bridge C C+1, with Q a quarter of the periods
 abbrev pub bridging : ℕ → ℕ → Order

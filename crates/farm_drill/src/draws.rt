@@ -6,13 +6,13 @@ ghost use Rattle.farm_drill.specs.Draws.{state_at, draw, draws, drawn_bits};
 
 /// The generator of a call, behind some number of draws.
 #[derive(Drop)]
-pub(crate) struct Generator {
+pub struct Generator {
     x: u32,
 }
 
 impl Generator {
     /// Before a call's first draw.
-    pub(crate) fn new(seed: u32, call: u32) -> Generator
+    pub fn new(seed: u32, call: u32) -> Generator
         requires { call < 4096 }
         ensures { result.x ≡ state_at seed call 0 }
     {

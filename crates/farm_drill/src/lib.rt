@@ -1,8 +1,8 @@
 //! Lines and orders that are made from a number, to try a farm at any size without a recording, and uplinks as no base
 //! station sends them.
 //!
-//! `drill` makes the lines of a whole farm, and the text of its orders, for a run over lines in memory. `hostile` makes the
-//! Up line of one call.
+//! `drill` makes the lines of a whole farm, and the text of its orders, for a run over lines in memory. `uplink` and `pcm`
+//! make the periods of one call, one after the other, for callers that post them. `hostile` makes the Up line of one call.
 //!
 //! `draws` has the generator, `frames` the octets of a frame, `periods` those of a call's period, `lines` the lines of a
 //! call, `orders` the text, `farm` the whole; `hostile_line` the hostile uplinks.
@@ -20,5 +20,7 @@ mod lines;
 mod orders;
 mod periods;
 
+pub use draws::Generator;
 pub use farm::drill;
 pub use hostile_line::hostile;
+pub use periods::{pcm, uplink};

@@ -40,8 +40,8 @@ fn field(a: u8) -> u8
     }
 }
 
-/// The uplink's octets of a period. It takes the period's first 262 draws.
-pub(crate) fn uplink(generator: &mut Generator, period: u32) -> [u8; 40]
+/// The uplink's octets of a period, of which the generator is at the first draw. It takes 262 draws.
+pub fn uplink(generator: &mut Generator, period: u32) -> [u8; 40]
     ensures now { (seed call : ℕ) → generator.old.x ≡ state_at seed call (first_draw period) →
         generator.new.x ≡ state_at seed call (first_loud_draw period) }
     ensures octets { (seed call : ℕ) → generator.old.x ≡ state_at seed call (first_draw period) →
@@ -65,7 +65,7 @@ pub(crate) fn uplink(generator: &mut Generator, period: u32) -> [u8; 40]
 }
 
 /// The octets of a period from the exchange. Where the line is loud they take 160 draws, behind those for the uplink.
-pub(crate) fn pcm(generator: &mut Generator, period: u32) -> [u8; 160]
+pub fn pcm(generator: &mut Generator, period: u32) -> [u8; 160]
     ensures now { (seed call : ℕ) → generator.old.x ≡ state_at seed call (first_loud_draw period) →
         generator.new.x ≡ state_at seed call (first_draw (period + 1)) }
     ensures octets { (seed call : ℕ) → generator.old.x ≡ state_at seed call (first_loud_draw period) →

@@ -1,6 +1,8 @@
 -- The book of a call, as its callers see it, and when its history is legal.
 use Rattle.std.specs.Prelude.{◌≡◌, ℕ, suc, Bool, ◌==◌, ◌&&◌, None, List, [], ◌∷◌, ◌++◌, map, filter}
+use Rattle.trau_alaw.specs.declared.Law.TheVariants.{A}
 use Rattle.trau_bits.specs.Bits.{bits_of}
+use Rattle.call_leg.specs.Who.{Who}
 use Rattle.call_leg.specs.Periods.{CallPeriod}
 use Rattle.call_leg.specs.Settings.{new_settings, period_with}
 use Rattle.call_leg.specs.Out.{out_of}
@@ -41,6 +43,9 @@ NumberedFrom n (p ∷ ps) = (p.number ≡ n) × NumberedFrom (suc n) ps
 
 -- ---- a call without orders: A-law, level 256, DTX as the uplink asks, no bridge
 
+abbrev pub who_of : ℕ → Who
+who_of call = record { number = call; law = A }
+
 -- the period of an entry
 abbrev pub period_of : Post → CallPeriod
 period_of p = period_with new_settings p.up p.pcm None
@@ -51,15 +56,15 @@ periods_after ts [] = ts
 periods_after ts (e ∷ es) = periods_after (period_of e.post ∷ ts) es
 
 -- the octets of each entry are those that the call's definition gives its period after all before it
-abbrev pub IsWorkedFrom : ℕ → List CallPeriod → List Entry → Type 0
-IsWorkedFrom call ts [] = Unit {0}
-IsWorkedFrom call ts (e ∷ es) =
-    (e.out ≡ out_of call (period_of e.post ∷ ts)) × (bits_of e.down ≡ down_now call (period_of e.post ∷ ts))
-    × IsWorkedFrom call (period_of e.post ∷ ts) es
+abbrev pub IsWorkedFrom : Who → List CallPeriod → List Entry → Type 0
+IsWorkedFrom who ts [] = Unit {0}
+IsWorkedFrom who ts (e ∷ es) =
+    (e.out ≡ out_of who (period_of e.post ∷ ts)) × (bits_of e.down ≡ down_now who (period_of e.post ∷ ts))
+    × IsWorkedFrom who (period_of e.post ∷ ts) es
 
 -- a history of a call from its first period on
 abbrev pub IsLegal : ℕ → List Entry → Type 0
-IsLegal call es = IsWorkedFrom call [] es
+IsLegal call es = IsWorkedFrom (who_of call) [] es
 
 -- ---- what is done with a book
 

@@ -1,6 +1,7 @@
 -- One period of a book's leg.
-use Rattle.std.specs.Prelude.{◌≡◌, ℕ, List, ◌∷◌}
+use Rattle.std.specs.Prelude.{◌≡◌, List, ◌∷◌}
 use Rattle.trau_bits.specs.Bits.{bits_of}
+use Rattle.call_leg.specs.Who.{Who}
 use Rattle.call_leg.specs.Periods.{CallPeriod}
 use Rattle.call_leg.specs.Settings.{new_settings}
 use Rattle.call_leg.specs.Out.{out_of}
@@ -12,6 +13,6 @@ use Rattle.farm_live.specs.Book.{period_of}
 
 -- whatever periods a call without orders had, the entry has the octets of the next one, and the leg stands for one more
 abbrev pub WorksOn : LegMemory → Entry → LegMemory → Type 0
-WorksOn old e new = (call : ℕ) (ts : List CallPeriod) → Stands call ts new_settings old →
-    Stands call (period_of e.post ∷ ts) new_settings new
-    × (e.out ≡ out_of call (period_of e.post ∷ ts)) × (bits_of e.down ≡ down_now call (period_of e.post ∷ ts))
+WorksOn old e new = (who : Who) (ts : List CallPeriod) → Stands who ts new_settings old →
+    Stands who (period_of e.post ∷ ts) new_settings new
+    × (e.out ≡ out_of who (period_of e.post ∷ ts)) × (bits_of e.down ≡ down_now who (period_of e.post ∷ ts))

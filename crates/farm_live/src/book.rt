@@ -11,6 +11,7 @@ use call_leg::Leg;
 use circular_buffer::HeapCircularBuffer;
 use std::alloc::{AllocError, Global};
 use std::marker::Model;
+use trau_alaw::Law;
 
 /// The book of a call. Whoever has it owns the call.
 #[derive(Drop)]
@@ -27,13 +28,13 @@ impl Model for Book {
     ghost use Rattle.call_leg.specs.Settings.{new_settings};
     ghost use Rattle.call_leg.specs.Memory.{periods_of_leg};
     ghost use Rattle.call_leg.specs.Stands.{Stands};
-    ghost use Rattle.farm_live.specs.Book.{Known, IsLegal, periods_after};
+    ghost use Rattle.farm_live.specs.Book.{Known, who_of, IsLegal, periods_after};
 
     ghost Value = { Known };
 
     ghost view = { λ b. record { is_of = b.of; history = b.history.items; inbox = b.inbox.items } };
 
-    ghost invariant = { λ b. IsLegal b.of.call b.history.items × Stands b.of.call (periods_after [] b.history.items) new_settings b.leg × (periods_of_leg b.leg ≡ length b.history.items) × (b.of.room ≡ b.inbox.capacity) × (b.left.items ≡ []) × (b.inbox.capacity ≤ vec_capacity b.left) };
+    ghost invariant = { λ b. IsLegal b.of.call b.history.items × Stands (who_of b.of.call) (periods_after [] b.history.items) new_settings b.leg × (periods_of_leg b.leg ≡ length b.history.items) × (b.of.room ≡ b.inbox.capacity) × (b.left.items ≡ []) × (b.inbox.capacity ≤ vec_capacity b.left) };
 }
 
 impl Book {
@@ -45,7 +46,7 @@ impl Book {
     {
         Ok(Book {
             of,
-            leg: Leg::new(alloc, of.call)?,
+            leg: Leg::new(alloc, of.call, Law::A)?,
             history: Vec::new(alloc),
             inbox: HeapCircularBuffer::with_capacity(alloc, of.room as usize)?,
             left: Vec::with_capacity(alloc, of.room as usize)?,

@@ -48,6 +48,15 @@ pub struct Caller {
     pub(crate) seats: Vec<Seat>,
 }
 
+impl Caller {
+    /// Its number among the farm's callers, from 0.
+    pub fn number(&self) -> u32
+        ensures { result ≡ self.now.number }
+    {
+        self.number
+    }
+}
+
 /// A farm of calls, which its callers share.
 #[derive(Drop)]
 pub struct Live {

@@ -223,8 +223,8 @@ settings_more r t u ds o (Ok (act.LevelSet d v)) c s l a h q =
 settings_more r t u ds o (Ok (act.DtxSet d m)) c s l a h q =
     by_parts r t ds (done o (Ok (act.DtxSet d m))) c (started ds t c) (bridged r ds t c) (or_no _) (bridged_quiet (whole_in r) t u ds (done o (Ok (act.DtxSet d m))) c s (λ a b. refl) (λ q. refl) tt)
     ∙ set_mode (c == d) m (level_after c (pos 256) ds) (mode_after c Uplink ds) (started ds t c) (bridged r ds t c)
-settings_more r t u ds o (Ok (act.Opened d)) c s l a h q =
-    by_parts r t ds (done o (Ok (act.Opened d))) c (started ds t c) (bridged r ds t c) (or_no _) (bridged_quiet (whole_in r) t u ds (done o (Ok (act.Opened d))) c s (λ a b. refl) (λ q. refl) tt)
+settings_more r t u ds o (Ok (act.Opened d law)) c s l a h q =
+    by_parts r t ds (done o (Ok (act.Opened d law))) c (started ds t c) (bridged r ds t c) (or_no _) (bridged_quiet (whole_in r) t u ds (done o (Ok (act.Opened d law))) c s (λ a b. refl) (λ q. refl) tt)
     ∙ by (c == d) refl
   where
     fresh : c ≡ d → settings_now r ds t c ≡ new_settings

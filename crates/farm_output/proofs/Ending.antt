@@ -1,6 +1,6 @@
 -- The ends of calls, known in their round.
 use Rattle.std.proofs.Common.{◌≡◌, refl, sym, ap, ◌∙◌, subst, ℕ, ◌+◌, ◌<◌, ◌≤◌, Bool, Option, Some, None, List, [], ◌∷◌, ◌++◌, map, arith, true, false}
-use Rattle.std.specs.Prelude.{is_some, length, IfSome, not, nat_le, nat_lt, filter, if◌then◌else◌}
+use Rattle.std.specs.Prelude.{length, IfSome, not, nat_le, nat_lt, filter, if◌then◌else◌}
 use Rattle.std.specs.List.{AllByRecursion}
 use Rattle.std.proofs.lemmas.Bool.{leb-true, le-leb, lt-leb, le-ltb, lt-ltb}
 use Rattle.std.proofs.lemmas.List.{append-nil}

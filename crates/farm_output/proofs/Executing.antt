@@ -41,7 +41,7 @@ after_all later x = record x { ended = or_else x.ended (option_map (λ d. d.orde
 
 bridge_by-append : (t : ℕ) (r : Result Act Refusal) (ds later : List Done) → bridge_by t r (ds ++ later) ≡ map (after_all later) (bridge_by t r ds)
 bridge_by-append t (Ok (act.Bridged a b)) ds later = ap (λ o. record { a = a; b = b; from = t; ended = o } ∷ []) (found_append (λ d. ends_bridge a b d.result) ds later)
-bridge_by-append t (Ok (act.Opened c)) ds later = refl
+bridge_by-append t (Ok (act.Opened c law)) ds later = refl
 bridge_by-append t (Ok (act.Closed c p)) ds later = refl
 bridge_by-append t (Ok (act.Unbridged a b)) ds later = refl
 bridge_by-append t (Ok (act.LevelSet c v)) ds later = refl

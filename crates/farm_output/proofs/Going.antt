@@ -8,7 +8,7 @@ use Rattle.trau_params.specs.Bits260.{bits260}
 use Rattle.trau_orders.specs.declared.order.Order.{Order}
 use Rattle.switchboard.specs.declared.act.Act.TheVariants as act
 use Rattle.switchboard.specs.declared.table.Bridge.{Bridge}
-use Rattle.switchboard.specs.Calls.{Done, opened_at, closed_at, gone_at}
+use Rattle.switchboard.specs.Calls.{Done, opened_at, closed_at, law_at, gone_at}
 use Rattle.switchboard.specs.Runs.{IsRun}
 use Rattle.switchboard.specs.Bridges.{bridges, bridge_by, joins, other}
 use Rattle.switchboard.specs.Ends.{start_of, end_of}
@@ -19,12 +19,13 @@ use Rattle.call_leg.specs.Periods.{CallPeriod, ups_of, sighting_after, heard_of,
 use Rattle.call_leg.specs.Settings.{Settings, without_bridge, period_with}
 use Rattle.call_leg.specs.Down.{down_periods, frames_of}
 use Rattle.down_framer.specs.Made.{due}
-use Rattle.farm_output.specs.Run.{Run, given_in, periods_in, whole_in, done_in, up_in, pcm_in, ups_to, heard_by, item_of, period_of, periods_to}
+use Rattle.farm_output.specs.Run.{Run, given_in, periods_in, whole_in, done_in, law_in, up_in, pcm_in, ups_to, heard_by, item_of, period_of, periods_to}
 use Rattle.trau_io.specs.declared.ends.CallEnd.{CallEnd}
 use Rattle.farm_report.specs.declared.report.CallLine.{CallLine}
 use Rattle.call_leg.specs.Counted.{call_counts}
 use Rattle.farm_output.specs.Facts.{call_line}
 use Rattle.farm_output.specs.Now.{IsSoFar, NoOrderTo, has_period, bridge_now, handed_now, period_now, settings_now, settings_in}
+use Rattle.switchboard.proofs.GivenLaws.{law_stays}
 use Rattle.farm_output.proofs.Lists.{any_map, found}
 use Rattle.farm_output.proofs.Executing.{after_all, bridges-append}
 use Rattle.farm_output.proofs.Standing.{IsSoundBridge, gone_is, opened_kept}
@@ -70,6 +71,9 @@ opened_run r t ds left c s so o = ap (opened_at c) (done-rest r t ds left so) �
 
 pub start_run : (r : Run) (t : ℕ) (ds : List Done) (left : List Order) (c s : ℕ) → IsSoFar r t ds left → opened_at c ds ≡ Some s → start_of (done_in r) c ≡ s
 start_run r t ds left c s so o = start_is (done_in r) c s (opened_run r t ds left c s so o)
+
+pub law_run : (r : Run) (t : ℕ) (ds : List Done) (left : List Order) (c s : ℕ) → IsSoFar r t ds left → opened_at c ds ≡ Some s → law_in r c ≡ law_at c ds
+law_run r t ds left c s so o = ap (law_at c) (done-rest r t ds left so) ∙ law_stays c ds (rest_in r ds left) (ap is_some o)
 
 -- a call that no order closed is gone after a period exactly where it doesn't have it
 pub gone_after : (r : Run) (u : ℕ) (ds : List Done) (c s : ℕ) → u < r.periods → opened_at c ds ≡ Some s → closed_at c ds ≡ None → gone_at (whole_in r) (u + 1) ds c ≡ not (has_period r ds u c)

@@ -106,7 +106,7 @@ bridges_rise t (d ∷ ds) h = by d.order.stamp d.result (bridges ds) (bridge_sta
   where
     by : (u : ℕ) (r : Result Act Refusal) (xs : List Bridge) → AllByRecursion (λ x. u ≤ x.from) xs → FromsRise xs → FromsRise (bridge_by u r ds ++ xs)
     by u (Ok (act.Bridged a b)) xs k l = (k, l)
-    by u (Ok (act.Opened c)) xs k l = l
+    by u (Ok (act.Opened c law)) xs k l = l
     by u (Ok (act.Closed c p)) xs k l = l
     by u (Ok (act.Unbridged a b)) xs k l = l
     by u (Ok (act.LevelSet c v)) xs k l = l

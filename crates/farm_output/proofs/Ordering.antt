@@ -48,7 +48,7 @@ not_this c d gone ds n e = ne_eqb c d (λ q. let f = open_facts gone ds d e in l
 unset_by : (c : ℕ) (gone : ℕ → Bool) (t : ℕ) (ds : List Done) (r : Result Act Refusal) (v : ℤ) (m : DtxMode) → opened_at c ds ≡ None → ShownBy (known_of gone t ds) r → (level_by c r v ≡ v) × (mode_by c r m ≡ m)
 unset_by c gone t ds (Ok (act.LevelSet d level)) v m n h = (ap (λ (t : Bool). if t then level else v) (not_this c d gone ds n h), refl)
 unset_by c gone t ds (Ok (act.DtxSet d mode)) v m n h = (refl, ap (λ (t : Bool). if t then mode else m) (not_this c d gone ds n h))
-unset_by c gone t ds (Ok (act.Opened d)) v m n h = (refl, refl)
+unset_by c gone t ds (Ok (act.Opened d law)) v m n h = (refl, refl)
 unset_by c gone t ds (Ok (act.Closed d p)) v m n h = (refl, refl)
 unset_by c gone t ds (Ok (act.Bridged a b)) v m n h = (refl, refl)
 unset_by c gone t ds (Ok (act.Unbridged a b)) v m n h = (refl, refl)

@@ -37,7 +37,7 @@ bridge_stamps Q (d ∷ ds) h = each_append _ (bridge_by d.order.stamp d.result d
   where
     one : (Q : ℕ → Type 0) (t : ℕ) (r : Result Act Refusal) (ds : List Done) → Q t → AllByRecursion (λ x. Q x.from) (bridge_by t r ds)
     one Q t (Ok (act.Bridged a b)) ds h = (h, tt)
-    one Q t (Ok (act.Opened c)) ds h = tt
+    one Q t (Ok (act.Opened c law)) ds h = tt
     one Q t (Ok (act.Closed c p)) ds h = tt
     one Q t (Ok (act.Unbridged a b)) ds h = tt
     one Q t (Ok (act.LevelSet c v)) ds h = tt

@@ -2,6 +2,7 @@
 use Rattle.std.proofs.Common.{◌≡◌, refl, sym, ap, subst, ℕ, Bool, true, false, Option, Some, None, List, [], ◌∷◌, inl, inr}
 use Rattle.std.specs.Prelude.{Result, Ok, Err, not, option_map, ◌==◌, if◌then◌else◌}
 use Rattle.std.proofs.lemmas.Bool.{eqb-true}
+use Rattle.trau_alaw.specs.declared.Law.{Law}
 use Rattle.trau_orders.specs.declared.order.Order.{Order}
 use Rattle.trau_orders.specs.declared.order.What.{What}
 use Rattle.trau_orders.specs.declared.order.What.TheVariants as what
@@ -15,7 +16,7 @@ use Rattle.switchboard.specs.Replies.{Known, refuse_if, first_of_tests, reply_fr
 use Rattle.switchboard.proofs.Replies.{IsRefused, Joined, open_accepted, close_accepted, bridge_accepted, unbridge_accepted}
 
 abbrev pub ShownBy : Known → Result Act Refusal → Type 0
-ShownBy k (Ok (act.Opened c)) = (k.is_open c ≡ false) × (k.has_ended c ≡ false)
+ShownBy k (Ok (act.Opened c law)) = (k.is_open c ≡ false) × (k.has_ended c ≡ false)
 ShownBy k (Ok (act.Closed c p)) = (k.is_open c ≡ true) × (p ≡ option_map (other c) (k.bridge_of c))
 ShownBy k (Ok (act.Bridged a b)) = Joined k a b
 ShownBy k (Ok (act.Unbridged a b)) = (c : ℕ) × (x : Bridge) × (k.bridge_of c ≡ Some x) × (a ≡ x.a) × (b ≡ x.b)
@@ -35,7 +36,7 @@ setting k true e a h = h refl
 setting k false e a h = tt
 
 pub shown : (k : Known) (w : What) → ShownBy k (reply_from k w)
-shown k (what.OpenCall c) = elim (open_accepted k c) [ inl e ↦ refused k _ e | inr p ↦ subst (ShownBy k) (sym p.0) (p.1, p.2) ]
+shown k (what.OpenCall c law) = elim (open_accepted k c law) [ inl e ↦ refused k _ e | inr p ↦ subst (ShownBy k) (sym p.0) (p.1, p.2) ]
 shown k (what.CloseCall c) = elim (close_accepted k c) [ inl e ↦ refused k _ e | inr p ↦ subst (ShownBy k) (sym p.0) (p.1, refl) ]
 shown k (what.Bridge a b) = elim (bridge_accepted k a b) [ inl e ↦ refused k _ e | inr p ↦ subst (ShownBy k) (sym p.0) p.1 ]
 shown k (what.Unbridge c) = elim (unbridge_accepted k c) [ inl e ↦ refused k _ e | inr p ↦ subst (ShownBy k) (sym p.1) (c, p.0, p.3, refl, refl) ]
@@ -51,8 +52,8 @@ one_stamp : (t : Bool) (d : Done) (e : ℕ) → option_map (λ d. d.order.stamp)
 one_stamp true d e h = (refl, cc)
 one_stamp false d e h = cc
 
-pub opens : (c s : ℕ) (o : Order) (r : Result Act Refusal) → opened_at c (done o r ∷ []) ≡ Some s → (r ≡ Ok (act.Opened c)) × (s ≡ o.stamp)
-opens c s o (Ok (act.Opened d)) e = let h = one_stamp (c == d) (done o (Ok (act.Opened d))) s e in (ap (λ (d : ℕ). Ok (act.Opened d)) (sym (eqb-true c d h.0)), h.1)
+pub opens : (c s : ℕ) (o : Order) (r : Result Act Refusal) → opened_at c (done o r ∷ []) ≡ Some s → ((law : Law) × (r ≡ Ok (act.Opened c law))) × (s ≡ o.stamp)
+opens c s o (Ok (act.Opened d law)) e = let h = one_stamp (c == d) (done o (Ok (act.Opened d law))) s e in ((law, ap (λ (d : ℕ). Ok (act.Opened d law)) (sym (eqb-true c d h.0))), h.1)
 opens c s o (Ok (act.Closed d p)) e = cc
 opens c s o (Ok (act.Bridged a b)) e = cc
 opens c s o (Ok (act.Unbridged a b)) e = cc
@@ -62,7 +63,7 @@ opens c s o (Err f) e = cc
 
 pub closes : (c s : ℕ) (o : Order) (r : Result Act Refusal) → closed_at c (done o r ∷ []) ≡ Some s → (p : Option ℕ) × (r ≡ Ok (act.Closed c p)) × (s ≡ o.stamp)
 closes c s o (Ok (act.Closed d p)) e = let h = one_stamp (c == d) (done o (Ok (act.Closed d p))) s e in (p, ap (λ (d : ℕ). Ok (act.Closed d p)) (sym (eqb-true c d h.0)), h.1)
-closes c s o (Ok (act.Opened d)) e = cc
+closes c s o (Ok (act.Opened d law)) e = cc
 closes c s o (Ok (act.Bridged a b)) e = cc
 closes c s o (Ok (act.Unbridged a b)) e = cc
 closes c s o (Ok (act.LevelSet d v)) e = cc

@@ -198,7 +198,7 @@ parted whole t ds (Ok (act.Closed c p)) one h = by (bridge_of (gone_at whole t d
         let w : p ≡ Some (other c x) = h.1 ∙ ap (option_map (other c)) e ∙ ap (λ z. Some (other c z)) (sym (f (and_from _ _ m l))) in
         ends p (Some (other c x)) x w (closes_this c x m))
         (one_found _ (bridges ds) z (one c) e)
-parted whole t ds (Ok (act.Opened c)) one h = each_all _ (bridges ds) (λ x d q g. cc)
+parted whole t ds (Ok (act.Opened c law)) one h = each_all _ (bridges ds) (λ x d q g. cc)
 parted whole t ds (Ok (act.Bridged a b)) one h = each_all _ (bridges ds) (λ x d q g. cc)
 parted whole t ds (Ok (act.Unbridged a b)) one h = each_all _ (bridges ds) (λ x d q g. cc)
 parted whole t ds (Ok (act.LevelSet c v)) one h = each_all _ (bridges ds) (λ x d q g. cc)
@@ -300,7 +300,7 @@ sound_new whole t ds o (Ok (act.Bridged a b)) s l h = (
       },
   tt,
 )
-sound_new whole t ds o (Ok (act.Opened c)) s l h = tt
+sound_new whole t ds o (Ok (act.Opened c law)) s l h = tt
 sound_new whole t ds o (Ok (act.Closed c p)) s l h = tt
 sound_new whole t ds o (Ok (act.Unbridged a b)) s l h = tt
 sound_new whole t ds o (Ok (act.LevelSet c v)) s l h = tt
@@ -400,7 +400,7 @@ overlap_new whole t ds o (Ok (act.Bridged a b)) s l h k =
 
     over : (x : Bridge) (c : ℕ) → IsSoundBridge whole t ds x → Misses whole o.stamp ds c x → joins c x ≡ true → over_by whole o.stamp ds x ≡ true
     over x c y m j = over_now whole t o.stamp ds x y l (λ c e f. (s.closed c e f).past) (second (joins c x) _ j m.0) (second (joins c x) _ j m.1)
-overlap_new whole t ds o (Ok (act.Opened c)) s l h k = rw append-nil k
+overlap_new whole t ds o (Ok (act.Opened c law)) s l h k = rw append-nil k
 overlap_new whole t ds o (Ok (act.Closed c p)) s l h k = rw append-nil k
 overlap_new whole t ds o (Ok (act.Unbridged a b)) s l h k = rw append-nil k
 overlap_new whole t ds o (Ok (act.LevelSet c v)) s l h k = rw append-nil k

@@ -6,6 +6,7 @@ use Rattle.trau_io.specs.declared.ends.Cause.TheVariants.{End}
 use Rattle.trau_bits.specs.Bits.{octets_of}
 use Rattle.trau_orders.specs.declared.order.Order.{Order}
 use Rattle.trau_orders.specs.declared.order.What.{What}
+use Rattle.trau_alaw.specs.declared.Law.TheVariants.{A}
 use Rattle.trau_orders.specs.declared.order.What.TheVariants.{OpenCall, CloseCall, Bridge, Unbridge, Level}
 use Rattle.switchboard.specs.declared.act.Act.TheVariants as act
 use Rattle.call_leg.specs.Counted.{no_counts}
@@ -22,7 +23,7 @@ lines n = record { up = replicate (40 * n) 255; pcm = replicate (160 * n) 213; u
 
 -- one call with empty lines ends where it begins, and writes nothing
 abbrev nothing : Run
-nothing = record { lines = λ c. lines 0; orders = at 0 (OpenCall 1) ∷ []; periods = 10 }
+nothing = record { lines = λ c. lines 0; orders = at 0 (OpenCall 1 A) ∷ []; periods = 10 }
 
 nothing_ends : call_line nothing 1 ≡ record { end = record { call = 1; at = 0; cause = End Up 0 }; from = 0; counts = no_counts }
 nothing_ends = refl
@@ -32,7 +33,7 @@ unfolding octets_of
 nothing_written = (refl, refl, refl)
 
 nothing_reported : report_of nothing [] ≡ record {
-  replies = record { order = 1; result = Ok (act.Opened 1) } ∷ [];
+  replies = record { order = 1; result = Ok (act.Opened 1 A) } ∷ [];
   spans = [];
   calls = record { end = record { call = 1; at = 0; cause = End Up 0 }; from = 0; counts = no_counts } ∷ [];
   failed = [];
@@ -44,8 +45,8 @@ nothing_reported = refl
 abbrev three : Run
 three = record {
   lines = λ c. if c == 1 then lines 2 else lines 9;
-  orders = at 0 (OpenCall 1) ∷ at 0 (OpenCall 2) ∷ at 0 (OpenCall 3) ∷ at 0 (Bridge 1 2) ∷ at 3 (Bridge 2 3) ∷ at 3 (Level 3 (pos 5)) ∷ at 5 (Unbridge 3) ∷
-      at 6 (Bridge 3 2) ∷ at 6 (Unbridge 2) ∷ at 7 (CloseCall 2) ∷ at 9 (OpenCall 4) ∷ [];
+  orders = at 0 (OpenCall 1 A) ∷ at 0 (OpenCall 2 A) ∷ at 0 (OpenCall 3 A) ∷ at 0 (Bridge 1 2) ∷ at 3 (Bridge 2 3) ∷ at 3 (Level 3 (pos 5)) ∷ at 5 (Unbridge 3) ∷
+      at 6 (Bridge 3 2) ∷ at 6 (Unbridge 2) ∷ at 7 (CloseCall 2) ∷ at 9 (OpenCall 4 A) ∷ [];
   periods = 8;
 }
 

@@ -70,7 +70,7 @@ settings_in r ds t c = let now = settings_now r ds t c in if is_some (bridge_now
 
 -- what an order with this result makes of what is set for a call; a call that is closed keeps no bridge
 abbrev pub changed_by : ℕ → Result Act Refusal → Settings → Settings
-changed_by c (Ok (act.Opened d)) now = if c == d then new_settings else now
+changed_by c (Ok (act.Opened d law)) now = if c == d then new_settings else now
 changed_by c (Ok (act.Closed d partner)) now = if c == d || is_this c partner then without_bridge now else now
 changed_by c (Ok (act.Bridged a b)) now = if c == a || c == b then with_bridge now else now
 changed_by c (Ok (act.Unbridged a b)) now = if c == a || c == b then without_bridge now else now

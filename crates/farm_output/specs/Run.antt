@@ -3,6 +3,7 @@
 use Rattle.std.specs.Prelude.{ℕ, ◌+◌, ◌-◌, ◌*◌, zero, suc, ℤ, pos, Bool, ◌&&◌, ◌||◌, if◌then◌else◌, ◌==◌, nat_le, nat_lt, Option, option_map, find, Result, Ok, List, [], ◌∷◌, length, take, drop, filter}
 use Rattle.std.specs.List.{list_any}
 use Rattle.trau_params.specs.Bits260.{bits260}
+use Rattle.trau_alaw.specs.declared.Law.{Law}
 use Rattle.trau_orders.specs.declared.order.Order.{Order}
 use Rattle.trau_orders.specs.declared.order.DtxMode.{DtxMode}
 use Rattle.trau_orders.specs.declared.order.DtxMode.TheVariants.{Uplink}
@@ -10,13 +11,14 @@ use Rattle.switchboard.specs.declared.act.Act.{Act}
 use Rattle.switchboard.specs.declared.act.Act.TheVariants as act
 use Rattle.switchboard.specs.declared.act.Refusal.{Refusal}
 use Rattle.switchboard.specs.declared.act.Span.{Span}
-use Rattle.switchboard.specs.Calls.{Done}
+use Rattle.switchboard.specs.Calls.{Done, law_at}
 use Rattle.switchboard.specs.Runs.{done_of}
 use Rattle.switchboard.specs.Ends.{Given, whole_of, start_of, ends_at, spans_of}
 use Rattle.frame_sync.specs.Periods.{yield_of}
 use Rattle.rx_handler.specs.Heard.{Heard}
 use Rattle.rx_handler.specs.Past.{effective_of}
 use Rattle.call_leg.specs.Uplink.{sighting_in, heard_as, handed_fields}
+use Rattle.call_leg.specs.Who.{Who}
 use Rattle.call_leg.specs.Periods.{CallPeriod}
 
 -- what a call's incoming lines give: the octets of the Up and the Pcm line, and whether a read failed after these
@@ -54,6 +56,13 @@ start_in r c = start_of (done_in r) c
 
 abbrev pub end_in : Run → ℕ → ℕ
 end_in r c = ends_at (given_in r) r.periods (done_in r) c
+
+-- whose call it is: its number, and the law of the order that opened it
+abbrev pub law_in : Run → ℕ → Law
+law_in r c = law_at c (done_in r)
+
+abbrev pub who_in : Run → ℕ → Who
+who_in r c = record { number = c; law = law_in r c }
 
 -- ---- settings
 

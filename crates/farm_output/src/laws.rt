@@ -12,7 +12,7 @@ ghost use Rattle.trau_orders.specs.Lists.{AreOrders};
 ghost use Rattle.switchboard.specs.declared.act.Act.TheVariants as act;
 ghost use Rattle.switchboard.specs.declared.act.Span.{Span};
 ghost use Rattle.switchboard.specs.declared.table.Bridge.{Bridge};
-ghost use Rattle.switchboard.specs.Calls.{Done, opened_at, closed_at, gone_at};
+ghost use Rattle.switchboard.specs.Calls.{Done, opened_at, closed_at, law_at, gone_at};
 ghost use Rattle.switchboard.specs.Bridges.{bridges, bridge_of, other, joins};
 ghost use Rattle.switchboard.specs.Stands.{IsLatest};
 ghost use Rattle.switchboard.specs.State.{first_stamp, numbered};
@@ -26,7 +26,7 @@ ghost use Rattle.call_leg.specs.Settings.{Settings, later, without_bridge, perio
 ghost use Rattle.call_leg.specs.Down.{down_periods, frames_of};
 ghost use Rattle.call_leg.specs.Counted.{call_counts};
 ghost use Rattle.call_leg.specs.Places.{sent_now};
-ghost use Rattle.farm_output.specs.Run.{Run, given_in, whole_in, done_in, spans_in, start_in, end_in, up_in, pcm_in, ups_to, item_of, period_of, periods_to};
+ghost use Rattle.farm_output.specs.Run.{Run, given_in, whole_in, done_in, spans_in, start_in, end_in, law_in, who_in, up_in, pcm_in, ups_to, item_of, period_of, periods_to};
 ghost use Rattle.farm_output.specs.Lines.{out_line, down_octets, out_of_call, down_of_call};
 ghost use Rattle.farm_output.specs.Facts.{opened_calls, call_line, span_line, sent_by, report_of};
 ghost use Rattle.farm_output.specs.Now.{IsSoFar, NoOrderTo, has_period, bridge_now, handed_now, period_now, settings_now, settings_in, changed_by, after_periods};
@@ -49,7 +49,8 @@ pub fn runs_go_on()
 {}
 
 /// What the whole run executes begins with the orders so far. The rest are those that are left, below the run's end;
-/// where none is, all is executed, and what is left stays.
+/// where none is, all is executed, and what is left stays. A call that was opened so far begins at the same period and has the
+/// same law in the whole run.
 pub fn runs_are_whole()
     ensures rest { (r : Run) (t : ℕ) (ds : List Done) (left : List Order) → IsSoFar r t ds left →
         (rest : List Done) × (done_in r ≡ ds ++ rest) × (map (λ d. d.order) rest ≡ filter (λ o. nat_lt o.stamp r.periods) left) }
@@ -59,6 +60,8 @@ pub fn runs_are_whole()
         IfSome (first_stamp left) (λ s. r.periods ≤ s) → left_of r.periods r.orders ≡ left }
     ensures opened { (r : Run) (t : ℕ) (ds : List Done) (left : List Order) (c s : ℕ) → IsSoFar r t ds left →
         opened_at c ds ≡ Some s → start_in r c ≡ s }
+    ensures law { (r : Run) (t : ℕ) (ds : List Done) (left : List Order) (c s : ℕ) → IsSoFar r t ds left →
+        opened_at c ds ≡ Some s → law_in r c ≡ law_at c ds }
 {}
 
 /// Period u of an open call is settled once the orders up to it were executed: no later order and no end changes it.
@@ -175,9 +178,9 @@ pub fn ended_calls_are_reported()
         opened_at c ds ≡ Some s → end_of (given_in r) r.periods (done_in r) c s ≡ end →
         call_line r c ≡ record { end = end; from = s; counts = call_counts (periods_to r c (end.at - s)) } }
     ensures out { (r : Run) (t : ℕ) (ds : List Done) (left : List Order) (c s : ℕ) (end : CallEnd) → IsSoFar r t ds left →
-        opened_at c ds ≡ Some s → end_of (given_in r) r.periods (done_in r) c s ≡ end → out_of_call r c ≡ out_line c (periods_to r c (end.at - s)) }
+        opened_at c ds ≡ Some s → end_of (given_in r) r.periods (done_in r) c s ≡ end → out_of_call r c ≡ out_line (who_in r c) (periods_to r c (end.at - s)) }
     ensures down { (r : Run) (t : ℕ) (ds : List Done) (left : List Order) (c s : ℕ) (end : CallEnd) → IsSoFar r t ds left →
-        opened_at c ds ≡ Some s → end_of (given_in r) r.periods (done_in r) c s ≡ end → down_of_call r c ≡ down_octets c (periods_to r c (end.at - s)) }
+        opened_at c ds ≡ Some s → end_of (given_in r) r.periods (done_in r) c s ≡ end → down_of_call r c ≡ down_octets (who_in r c) (periods_to r c (end.at - s)) }
 {}
 
 /// The report, once no order below the run's end is left: from what was executed, and what is left.

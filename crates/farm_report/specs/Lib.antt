@@ -2,3 +2,4 @@
 pub mod View
 pub mod Lines
 pub mod Numbered
+pub mod Sums

@@ -4,14 +4,16 @@
 //! the rounds told them, and gives the text that goes to the desk.
 //!
 //! The text is this project's profile. `report` has the report, `lines` how each kind of line is written, `text` the
-//! whole.
+//! whole, `sums` a line of sums, as drills have behind or in place of a report.
 //! Definitions: `specs/Lines.antt` (each line, and the whole text), `specs/Numbered.antt` (the numbers of a line),
-//! `specs/View.antt`.
+//! `specs/Sums.antt`, `specs/View.antt`.
 #![tactic(auto)]
 
 mod lines;
 mod report;
+mod sums;
 mod text;
 
 pub use report::{CallLine, Report, SpanLine};
+pub use sums::{put_sums, sum};
 pub use text::write_report;

@@ -235,7 +235,7 @@ end_two_applied most x y c before now ex g e =
 -- ---- a level or when DTX is on is set
 
 set_number : (a : Act) (x : Call) → (set_by a x).number ≡ x.number
-set_number (act.Opened c) x = refl
+set_number (act.Opened c law) x = refl
 set_number (act.Closed c p) x = refl
 set_number (act.Bridged c d) x = refl
 set_number (act.Unbridged c d) x = refl
@@ -243,7 +243,7 @@ set_number (act.LevelSet c level) x = refl
 set_number (act.DtxSet c mode) x = refl
 
 set_periods : (a : Act) (x : Call) → periods_of_leg (set_by a x).leg ≡ periods_of_leg x.leg
-set_periods (act.Opened c) x = refl
+set_periods (act.Opened c law) x = refl
 set_periods (act.Closed c p) x = refl
 set_periods (act.Bridged c d) x = refl
 set_periods (act.Unbridged c d) x = refl
@@ -303,7 +303,7 @@ open_found gs c (act.DtxSet d mode) fits i e =
     let o : is_some (call_in gs c) ≡ true = subst (λ (k : ℕ). IsOpen gs k) (sym i) fits in
     let n : is_some (call_in gs c) ≡ false = ap (λ (r : Option Group). is_some (option_map (call_of c) r)) e in
     false≢true (sym n ∙ o)
-open_found gs c (act.Opened d) fits i e = i
+open_found gs c (act.Opened d law) fits i e = i
 open_found gs c (act.Closed d p) fits i e = i
 open_found gs c (act.Bridged d p) fits i e = i
 open_found gs c (act.Unbridged d p) fits i e = i
@@ -332,7 +332,7 @@ set_applied most a c g before now i ex k e =
       partners = λ k. (ch k).1;
       held = omega (arith, held);
     }
-    by (act.Opened d) q ch gs held = absurd q
+    by (act.Opened d law) q ch gs held = absurd q
     by (act.Closed d p) q ch gs held = absurd q
     by (act.Bridged d p) q ch gs held = absurd q
     by (act.Unbridged d p) q ch gs held = absurd q

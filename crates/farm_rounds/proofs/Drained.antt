@@ -15,7 +15,7 @@ use Rattle.farm_rounds.specs.Calls.{holds, call_of, group_in, call_in, partner_i
 use Rattle.farm_rounds.specs.Groups.{AreGroups, AreLive}
 use Rattle.farm_rounds.specs.Memory.{tally_in}
 use Rattle.farm_rounds.specs.Numbers.{is_among}
-use Rattle.farm_rounds.specs.Histories.{CallHistory, CallStands, GroupsStand, kept_of}
+use Rattle.farm_rounds.specs.Histories.{CallHistory, whose, CallStands, GroupsStand, kept_of}
 use Rattle.farm_rounds.specs.Rounds.{groups_from}
 use Rattle.farm_rounds.specs.Settling.{HaveSeats, goes_on_in, told_by, call_left, groups_left, ended_in, KeepsTally, Settled}
 use Rattle.farm_rounds.specs.Working.{WorkedMemory, IsWorked, goes_on_call, that_stays, partner_past}
@@ -115,7 +115,7 @@ module _ (stays : ℕ → Bool) (seat : ℕ → SeatMemory) (c : ℕ) where
     by : (g : Bool) (h : Option CallHistory) (o : Option Call) → WorkedCall stays c h o p → KeepsTally (if g then None else o) a b → b ≡ (if g then a else kept_of h a)
     by true h o w k = k
     by false None None w k = k
-    by false (Some t) (Some x) w k = k c t.periods t.now w.1
+    by false (Some t) (Some x) w k = k (whose c t) t.periods t.now w.1
     by false None (Some x) w k = absurd w
     by false (Some t) None w k = absurd w
 

@@ -9,6 +9,7 @@ use Rattle.std.proofs.lemmas.List.Elements.{All-nil, All-cons}
 use Rattle.std.proofs.lemmas.List.Sorted.{IsPermutation-refl, IsPermutation-to_front}
 use Rattle.switchboard.specs.declared.act.Act.{Act}
 use Rattle.switchboard.specs.declared.act.Act.TheVariants as act
+use Rattle.trau_alaw.specs.declared.Law.{Law}
 use Rattle.farm_rounds.specs.declared.call.Call.{Call}
 use Rattle.farm_rounds.specs.declared.call.Group.{Group}
 use Rattle.farm_rounds.specs.declared.call.Group.TheVariants.{One, Two}
@@ -37,27 +38,27 @@ no_group gs c = go (group_in gs c) where
   go None e = refl
   go (Some g) e = absurd (cc)
 
-pub open_applied : (most c : ℕ) (before now : List Group) → Fits before (act.Opened c) → AreGroups most before → now ≡ before ++ One (new_call c) ∷ [] → Applied most (act.Opened c) before now
-open_applied most c before now fits k e =
+pub open_applied : (most c : ℕ) (law : Law) (before now : List Group) → Fits before (act.Opened c law) → AreGroups most before → now ≡ before ++ One (new_call c law) ∷ [] → Applied most (act.Opened c law) before now
+open_applied most c law before now fits k e =
     let none = no_group before c fits.1 in
-    let ex : Exchanges [] (One (new_call c) ∷ []) before now = record {
+    let ex : Exchanges [] (One (new_call c law) ∷ []) before now = record {
       others = before;
       old = IsPermutation-refl before;
-      new = subst (λ (gs : List Group). IsPermutation gs (One (new_call c) ∷ before)) (sym e) (IsPermutation-to_front before (One (new_call c)));
+      new = subst (λ (gs : List Group). IsPermutation gs (One (new_call c law) ∷ before)) (sym e) (IsPermutation-to_front before (One (new_call c law)));
     } in
-    let call : IsCall most (new_call c) = record { number = fits.0; worked = omega arith } in
-    let each : All (IsGroup most) (One (new_call c) ∷ []) = All-cons (IsGroup most) (One (new_call c)) [] call (All-nil (IsGroup most)) in
-    let few : (d : ℕ) → count_by (holds d) (One (new_call c) ∷ []) + count_by (holds d) before ≤ 1 + count_by (holds d) [] = λ d. elim (cases_Bool (c == d)) [
+    let call : IsCall most (new_call c law) = record { number = fits.0; worked = omega arith } in
+    let each : All (IsGroup most) (One (new_call c law) ∷ []) = All-cons (IsGroup most) (One (new_call c law)) [] call (All-nil (IsGroup most)) in
+    let few : (d : ℕ) → count_by (holds d) (One (new_call c law) ∷ []) + count_by (holds d) before ≤ 1 + count_by (holds d) [] = λ d. elim (cases_Bool (c == d)) [
       | inl t ↦
           let zero_before : count_by (holds d) before ≡ 0 = subst (λ (n : ℕ). count_by (holds n) before ≡ 0) (eqb-true c d t) (counted_none (holds c) before (none_passes (holds c) before none)) in
           simp t (omega (arith, zero_before))
       | inr f ↦ simp f (omega (arith, k.apart d))
     ] in
-    let r = exchanged most [] (One (new_call c) ∷ []) before now ex k each few in
+    let r = exchanged most [] (One (new_call c law) ∷ []) before now ex k each few in
     record {
       groups = r.groups;
-      calls = opened_calls (group_in before) (group_in now) c r.found;
-      partners = opened_partners (group_in before) (group_in now) c none r.found;
+      calls = opened_calls (group_in before) (group_in now) c law r.found;
+      partners = opened_partners (group_in before) (group_in now) c law none r.found;
       held = omega (arith, r.size);
     }
 
@@ -71,9 +72,9 @@ same_freed : (p : Option ℕ) (f : ℕ → Option Call) (d : ℕ) → is_some (f
 same_freed None f d = refl
 same_freed (Some q) f d = elim (cases_Bool (q == d)) [ inl t ↦ simp t (is_some-map parted (f d)) | inr g ↦ simp g refl ]
 
-pub open_live : (most c : ℕ) (live now_live : List ℕ) (before now : List Group) → AreLive live before → Applied most (act.Opened c) before now →
+pub open_live : (most c : ℕ) (law : Law) (live now_live : List ℕ) (before now : List Group) → AreLive live before → Applied most (act.Opened c law) before now →
     ((d : ℕ) → is_among now_live d ≡ ((c == d) || is_among live d)) → IsRising now_live → length now_live ≡ length live + 1 → AreLive now_live now
-open_live most c live now_live before now k p among rising long = record {
+open_live most c law live now_live before now k p among rising long = record {
   numbers = λ d. among d ∙ elim (cases_Bool (c == d)) [
     | inl t ↦ rw (p.calls d) (simp t refl)
     | inr f ↦ rw (p.calls d) (simp f (k.numbers d))
@@ -102,7 +103,7 @@ same_open (act.Bridged b c) f d s = same_changed b joined (λ k. if c == k then 
 same_open (act.Unbridged b c) f d s = same_changed b parted (λ k. if c == k then option_map parted (f k) else f k) d ∙ same_changed c parted f d
 same_open (act.LevelSet c level) f d s = same_changed c (set_by (act.LevelSet c level)) f d
 same_open (act.DtxSet c mode) f d s = same_changed c (set_by (act.DtxSet c mode)) f d
-same_open (act.Opened c) f d s = absurd s
+same_open (act.Opened c law) f d s = absurd s
 same_open (act.Closed c p) f d s = absurd s
 
 same_held : (most : ℕ) (a : Act) (before now : List Group) → Stays a → Applied most a before now → calls_held now ≡ calls_held before
@@ -110,7 +111,7 @@ same_held most (act.Bridged b c) before now s p = omega (arith, p.held)
 same_held most (act.Unbridged b c) before now s p = omega (arith, p.held)
 same_held most (act.LevelSet c level) before now s p = omega (arith, p.held)
 same_held most (act.DtxSet c mode) before now s p = omega (arith, p.held)
-same_held most (act.Opened c) before now s p = absurd s
+same_held most (act.Opened c law) before now s p = absurd s
 same_held most (act.Closed c q) before now s p = absurd s
 
 pub stay_live : (most : ℕ) (a : Act) (live : List ℕ) (before now : List Group) → Stays a → AreLive live before → Applied most a before now → AreLive live now

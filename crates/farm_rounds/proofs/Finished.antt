@@ -15,7 +15,7 @@ use Rattle.call_pair.proofs.Places.{is_below, not_below}
 use Rattle.call_pair.proofs.Runs.{one-finished, two-finished}
 use Rattle.round_lines.specs.Places.{whole_in}
 use Rattle.round_lines.specs.Seats.{SeatMemory}
-use Rattle.farm_rounds.specs.Histories.{CallHistory}
+use Rattle.farm_rounds.specs.Histories.{CallHistory, whose}
 use Rattle.farm_rounds.specs.Rounds.{octets_of}
 use Rattle.farm_rounds.specs.Working.{that_stays}
 use Rattle.farm_rounds.specs.RoundHistories.{seat_of, start_with, history_alone, history_bridged, history_beside, history_with, worked_histories}
@@ -32,8 +32,8 @@ pub record Seated (seats : List SeatMemory) (stays : ℕ → Bool) (periods c : 
 pub record Finished (seats : List SeatMemory) (stays : ℕ → Bool) (h : ℕ → Option CallHistory) (partner : ℕ → Option ℕ) (c : ℕ) (job : Job) : Type 0 where
   pub now : CallHistory
   pub told : worked_histories seats partner h c ≡ Some now
-  pub octets : (half_of (finished job) c).io ≡ io_after (whole_in (seat_of seats c).place) now.periods (octets_of (seat_of seats c))
-  pub leg : Stands c now.periods now.now (half_of (finished job) c).leg
+  pub octets : (half_of (finished job) c).io ≡ io_after (whose c now) (whole_in (seat_of seats c).place) now.periods (octets_of (seat_of seats c))
+  pub leg : Stands (whose c now) now.periods now.now (half_of (finished job) c).leg
   pub bridged : stays c ≡ true → now.now.bridged ≡ is_some (that_stays stays (partner c))
 
 -- what is set stays set for the calls of a bridge, and the others
@@ -42,19 +42,19 @@ still_bridged zero now = refl
 still_bridged (suc k) now = still_bridged k now
 
 -- a call at the start of a round
-begins : (seats : List SeatMemory) (stays : ℕ → Bool) (periods c : ℕ) (job : Job) (x : CallHistory) → Seated seats stays periods c job → Stands c x.periods x.now (half_of job c).leg →
+begins : (seats : List SeatMemory) (stays : ℕ → Bool) (periods c : ℕ) (job : Job) (x : CallHistory) → Seated seats stays periods c job → Stands (whose c x) x.periods x.now (half_of job c).leg →
     Begins (start_with seats c x) (half_of job c)
 begins seats stays periods c job x s leg = record {
   octets = s.sound;
   none_done = refl;
   io = s.octets;
-  leg = subst (λ (n : ℕ). Stands n x.periods x.now (half_of job c).leg) (sym s.number) leg;
+  leg = subst (λ (n : ℕ). Stands (whose n x) x.periods x.now (half_of job c).leg) (sym s.number) leg;
 }
 
 -- ---- a call that lies in no bridge
 
 pub alone_finished : (seats : List SeatMemory) (stays : ℕ → Bool) (h : ℕ → Option CallHistory) (partner : ℕ → Option ℕ) (periods c : ℕ) (g : HalfMemory) (x : CallHistory) →
-    Seated seats stays periods c (One g) → h c ≡ Some x → partner c ≡ None → Stands c x.periods x.now g.leg → x.now.bridged ≡ false → Finished seats stays h partner c (One g)
+    Seated seats stays periods c (One g) → h c ≡ Some x → partner c ≡ None → Stands (whose c x) x.periods x.now g.leg → x.now.bridged ≡ false → Finished seats stays h partner c (One g)
 alone_finished seats stays h partner periods c g x s eh ep leg off =
     let start : Start = start_with seats c x in
     let done : OneWorked start (finished (One g)) = one-finished start g (begins seats stays periods c (One g) x s leg) off in
@@ -62,9 +62,10 @@ alone_finished seats stays h partner periods c g x s eh ep leg off =
     record {
       now = history_alone seats c x;
       told = ap (λ (o : Option CallHistory). option_map (history_with seats h c (partner c)) o) eh ∙ ap (λ (q : Option ℕ). Some (history_with seats h c q x)) ep;
-      octets = ap (λ (f : HalfMemory). f.io) half ∙ done.worked.io;
-      leg = subst (λ (f : HalfMemory). Stands c (history_alone seats c x).periods (history_alone seats c x).now f.leg) (sym half)
-          (subst (λ (n : ℕ). Stands n (history_alone seats c x).periods (history_alone seats c x).now done.half.leg) s.number done.worked.leg);
+      octets = ap (λ (f : HalfMemory). f.io) half ∙ done.worked.io
+          ∙ ap (λ (n : ℕ). io_after (whose n x) (whole_in (seat_of seats c).place) (history_alone seats c x).periods (octets_of (seat_of seats c))) s.number;
+      leg = subst (λ (f : HalfMemory). Stands (whose c x) (history_alone seats c x).periods (history_alone seats c x).now f.leg) (sym half)
+          (subst (λ (n : ℕ). Stands (whose n x) (history_alone seats c x).periods (history_alone seats c x).now done.half.leg) s.number done.worked.leg);
       bridged = λ on. still_bridged (whole_in (seat_of seats c).place) x.now ∙ off ∙ sym (ap (λ (q : Option ℕ). is_some (that_stays stays q)) ep);
     }
 
@@ -97,8 +98,8 @@ beside_finished seats stays h partner periods c d job other f x y s t eh ed ep o
       now = now;
       told = ap (λ (o : Option CallHistory). option_map (history_with seats h c (partner c)) o) eh ∙ ap (λ (q : Option ℕ). Some (history_with seats h c q x)) ep
           ∙ ap (λ (o : Option CallHistory). Some (history_beside seats c x d o)) ed;
-      octets = ap (λ (g : HalfMemory). g.io) half ∙ done.io;
-      leg = subst (λ (g : HalfMemory). Stands c now.periods now.now g.leg) (sym half) (subst (λ (m : ℕ). Stands m now.periods now.now f.leg) s.number done.leg);
+      octets = ap (λ (g : HalfMemory). g.io) half ∙ done.io ∙ ap (λ (m : ℕ). io_after (whose m now) n now.periods (octets_of (seat_of seats c))) s.number;
+      leg = subst (λ (g : HalfMemory). Stands (whose c now) now.periods now.now g.leg) (sym half) (subst (λ (m : ℕ). Stands (whose m now) now.periods now.now f.leg) s.number done.leg);
       bridged = λ stay.
           let full : n ≡ periods = eqb-true n periods (sym s.full ∙ stay) in
           lasts stays periods n (whole_in (seat_of seats d).place) d x.now full t.within t.full on ∙ sym (ap (λ (q : Option ℕ). is_some (that_stays stays q)) ep);
@@ -118,8 +119,8 @@ pub record Pair (h : ℕ → Option CallHistory) (partner : ℕ → Option ℕ) 
   pub second_told : h b.io.call ≡ Some second
   pub first_partner : partner a.io.call ≡ Some b.io.call
   pub second_partner : partner b.io.call ≡ Some a.io.call
-  pub first_leg : Stands a.io.call first.periods first.now a.leg
-  pub second_leg : Stands b.io.call second.periods second.now b.leg
+  pub first_leg : Stands (whose a.io.call first) first.periods first.now a.leg
+  pub second_leg : Stands (whose b.io.call second) second.periods second.now b.leg
   pub first_bridged : first.now.bridged ≡ true
   pub second_bridged : second.now.bridged ≡ true
   pub apart : a.io.call ≢ b.io.call
@@ -133,9 +134,9 @@ pair_finished seats stays h partner periods a b p s t =
     let one : Start = start_with seats m p.first in
     let two : Start = start_with seats n p.second in
     let first : Begins one a = subst (λ (g : HalfMemory). Begins one g) (first_half a b)
-    (begins seats stays periods m (Two a b) p.first s (subst (λ (g : HalfMemory). Stands m p.first.periods p.first.now g.leg) (sym (first_half a b)) p.first_leg)) in
+    (begins seats stays periods m (Two a b) p.first s (subst (λ (g : HalfMemory). Stands (whose m p.first) p.first.periods p.first.now g.leg) (sym (first_half a b)) p.first_leg)) in
     let second : Begins two b = subst (λ (g : HalfMemory). Begins two g) (second_half a b p.apart)
-    (begins seats stays periods n (Two a b) p.second t (subst (λ (g : HalfMemory). Stands n p.second.periods p.second.now g.leg) (sym (second_half a b p.apart)) p.second_leg)) in
+    (begins seats stays periods n (Two a b) p.second t (subst (λ (g : HalfMemory). Stands (whose n p.second) p.second.periods p.second.now g.leg) (sym (second_half a b p.apart)) p.second_leg)) in
     let done : TwoWorked one two (finished (Two a b)) = two-finished one two a b first second p.first_bridged p.second_bridged in
     let first_number : done.first.io.call ≡ m = ap (λ (io : IoMemory). io.call) done.first_worked.io ∙ s.number in
     let second_number : done.second.io.call ≡ n = ap (λ (io : IoMemory). io.call) done.second_worked.io ∙ t.number in

@@ -1,9 +1,9 @@
 -- Each open call of a round that is worked has one job, and one seat.
-use Rattle.std.proofs.Common.{◌≡◌, refl, sym, ap, ◌∙◌, subst, ℕ, suc, ◌+◌, ◌-◌, ◌<◌, ◌≤◌, Bool, true, false, Option, Some, List, [], ◌∷◌, length, arith, inl, inr}
-use Rattle.std.specs.Prelude.{if◌then◌else◌, ◌==◌, ◌||◌, is_some, map, slice_index}
+use Rattle.std.proofs.Common.{◌≡◌, refl, sym, ap, ◌∙◌, subst, ℕ, ◌+◌, ◌-◌, ◌<◌, ◌≤◌, Bool, true, false, Option, Some, List, [], ◌∷◌, length, arith, inl, inr}
+use Rattle.std.specs.Prelude.{if◌then◌else◌, ◌==◌, is_some, map}
 use Rattle.std.specs.Option.{option_map}
-use Rattle.std.specs.List.{find, count_by}
-use Rattle.std.proofs.lemmas.Bool.{cases_Bool, eqb-true, false≢true}
+use Rattle.std.specs.List.{count_by}
+use Rattle.std.proofs.lemmas.Bool.{cases_Bool}
 use Rattle.std.proofs.lemmas.List.Sums.{sum_by-cons}
 use Rattle.call_pair.specs.declared.job.Job.{Job}
 use Rattle.call_pair.specs.declared.job.Job.TheVariants.{One, Two}
@@ -14,10 +14,11 @@ use Rattle.round_lines.specs.Seats.{SeatMemory}
 use Rattle.round_lines.specs.Rounds.{Rising, seat_at, call_at}
 use Rattle.farm_rounds.specs.declared.call.Group.{Group}
 use Rattle.farm_rounds.specs.Calls.{holds, group_in, call_of, call_in}
-use Rattle.farm_rounds.specs.Numbers.{is_among}
 use Rattle.farm_rounds.specs.Rounds.{no_job, job_at, HasJob, entry_at, octets_of, call_from, group_from, groups_from, Works}
 use Rattle.farm_rounds.specs.RoundHistories.{seat_of}
 use Rattle.farm_rounds.specs.Working.{RoundMemory, IsRound, goes_on_call}
+use Rattle.farm_rounds.specs.Ordered.{job_in}
+use Rattle.farm_rounds.proofs.Ordering.{among_at}
 use Rattle.farm_rounds.proofs.Finding.{found_there, found_only}
 use Rattle.farm_rounds.proofs.Settling.{some_group}
 use Rattle.farm_rounds.proofs.Handing.{same_read, its_job}
@@ -27,9 +28,6 @@ use Rattle.farm_rounds.proofs.Seating.{seat_of_at}
 use Rattle.farm_rounds.proofs.Finished.{Seated}
 
 -- ---- the job of a call
-
-abbrev pub job_in : List Job → ℕ → Option Job
-job_in jobs c = find (λ j. has_call j c) jobs
 
 holds_from : (j : Job) (c : ℕ) → holds c (group_from j) ≡ has_call j c
 holds_from (One h) c = refl
@@ -61,15 +59,6 @@ job_count (j ∷ jobs) c =
 
 pub job_found : (jobs : List Job) (j c : ℕ) → count_by (λ x. has_call x c) jobs ≤ 1 → HasJob jobs j c → job_in jobs c ≡ Some (job_at jobs j)
 job_found jobs j c few has = found_only (λ x. has_call x c) jobs (job_at jobs j) j has.0 (same_read jobs j (job_at jobs j) no_job has.0) has.1 few
-
--- ---- the seat of a call
-
-among_at : (xs : List ℕ) (c : ℕ) → is_among xs c ≡ true → (k : ℕ) × (k < length xs) × (slice_index xs k ≡ c)
-among_at [] c t = absurd (false≢true t)
-among_at (x ∷ xs) c t = elim (cases_Bool (x == c)) [
-  | inl u ↦ (0, omega arith, eqb-true x c u)
-  | inr f ↦ let r = among_at xs c (ap (λ (b : Bool). b || is_among xs c) (sym f) ∙ t) in (suc r.0, omega (arith, r.1), r.2)
-]
 
 -- ---- both
 

@@ -16,6 +16,8 @@ pub mod Partners
 pub mod Drained
 pub mod Working
 pub mod Starting
+pub mod Ordering
+pub mod Meeting
 pub mod Phasing
 pub mod Rooms
 pub mod Planned

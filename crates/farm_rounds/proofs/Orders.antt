@@ -4,6 +4,7 @@ use Rattle.std.specs.Prelude.{if◌then◌else◌, ◌==◌, ◌||◌, nat_lt}
 use Rattle.std.specs.Option.{option_or, option_map, option_and_then}
 use Rattle.std.specs.List.{list_any, count_by}
 use Rattle.std.proofs.lemmas.Bool.{cases_Bool, eqb-true, ne_eqb}
+use Rattle.trau_alaw.specs.declared.Law.{Law}
 use Rattle.farm_rounds.specs.declared.call.Call.{Call}
 use Rattle.farm_rounds.specs.declared.call.Group.{Group}
 use Rattle.farm_rounds.specs.declared.call.Group.TheVariants.{One, Two}
@@ -27,11 +28,11 @@ Finds out into g n = (c : ℕ) → n c ≡ option_or (group_in into c) (if list_
 
 -- ---- a call is opened
 
-pub opened_calls : (g n : Groups) (c : ℕ) → Finds [] (One (new_call c) ∷ []) g n → (d : ℕ) → calls n d ≡ calls_after (act.Opened c) (calls g) d
-opened_calls g n c h d = elim (cases_Bool (c == d)) [ inl t ↦ simp (h d, t) refl | inr f ↦ simp (h d, f) refl ]
+pub opened_calls : (g n : Groups) (c : ℕ) (law : Law) → Finds [] (One (new_call c law) ∷ []) g n → (d : ℕ) → calls n d ≡ calls_after (act.Opened c law) (calls g) d
+opened_calls g n c law h d = elim (cases_Bool (c == d)) [ inl t ↦ simp (h d, t) refl | inr f ↦ simp (h d, f) refl ]
 
-pub opened_partners : (g n : Groups) (c : ℕ) → g c ≡ None → Finds [] (One (new_call c) ∷ []) g n → (d : ℕ) → partners n d ≡ partners_after (act.Opened c) (partners g) d
-opened_partners g n c none h d = elim (cases_Bool (c == d)) [
+pub opened_partners : (g n : Groups) (c : ℕ) (law : Law) → g c ≡ None → Finds [] (One (new_call c law) ∷ []) g n → (d : ℕ) → partners n d ≡ partners_after (act.Opened c law) (partners g) d
+opened_partners g n c law none h d = elim (cases_Bool (c == d)) [
   | inl t ↦ let gd : g d ≡ None = subst (λ (k : ℕ). g k ≡ None) (eqb-true c d t) none in simp (h d, t, gd) refl
   | inr f ↦ simp (h d, f) refl
 ]

@@ -3,6 +3,7 @@ use Rattle.std.proofs.Common.{◌≡◌, ◌≢◌, refl, sym, ap, ◌∙◌, su
 use Rattle.std.specs.Prelude.{◌==◌, is_some}
 use Rattle.std.specs.Option.{option_map, option_and_then}
 use Rattle.std.proofs.lemmas.Bool.{cases_Bool, eqb-true, eq-eqb, ne_eqb, false≢true, or_left, or_right}
+use Rattle.trau_alaw.specs.declared.Law.{Law}
 use Rattle.trau_orders.specs.declared.order.DtxMode.{DtxMode}
 use Rattle.switchboard.specs.declared.act.Act.{Act}
 use Rattle.switchboard.specs.declared.act.Act.TheVariants as act
@@ -16,7 +17,7 @@ use Rattle.farm_rounds.specs.declared.tally.Tally.{Tally}
 use Rattle.farm_rounds.specs.Calls.{holds, call_in, partner_in, partner_of}
 use Rattle.farm_rounds.specs.Groups.{AreGroups}
 use Rattle.farm_rounds.specs.Acts.{new_call, joined, parted, set_by, calls_after, partners_after, IsOpen, Fits, Stays, Applied}
-use Rattle.farm_rounds.specs.Histories.{CallHistory, CallStands, GroupsStand, NoneWaits, NoneDrains, set_now, histories_after, tally_of, kept_of, tallies_after}
+use Rattle.farm_rounds.specs.Histories.{CallHistory, whose, CallStands, GroupsStand, NoneWaits, NoneDrains, set_now, histories_after, tally_of, kept_of, tallies_after}
 use Rattle.farm_rounds.proofs.Applying.{bridged, found_group, found_other}
 
 -- ---- one call
@@ -30,28 +31,28 @@ joins : (c b : ℕ) (o : Option CallHistory) (x : Option Call) (p : Option ℕ) 
 joins c b None None p w t h = absurd (false≢true t)
 joins c b None (Some x) p w t h = absurd h
 joins c b (Some y) None p w t h = absurd h
-joins c b (Some y) (Some x) p w t h = (h.0, begin-stands c y.periods y.now x.leg w h.1, refl)
+joins c b (Some y) (Some x) p w t h = (h.0, begin-stands (whose c y) y.periods y.now x.leg w h.1, refl)
 
 parts : (c : ℕ) (o : Option CallHistory) (x : Option Call) (p : Option ℕ) → is_some p ≡ true → CallStands c o x p →
     CallStands c (option_map (set_now without_bridge) o) (option_map parted x) None
 parts c None None p t h = refl
 parts c None (Some x) p t h = absurd h
 parts c (Some y) None p t h = absurd h
-parts c (Some y) (Some x) p t h = (h.0, end-stands c y.periods y.now x.leg (h.2 ∙ t) h.1, refl)
+parts c (Some y) (Some x) p t h = (h.0, end-stands (whose c y) y.periods y.now x.leg (h.2 ∙ t) h.1, refl)
 
 sets_level : (c d : ℕ) (level : ℤ) (o : Option CallHistory) (x : Option Call) (p : Option ℕ) → CallStands c o x p →
     CallStands c (option_map (set_now (with_level level)) o) (option_map (set_by (act.LevelSet d level)) x) p
 sets_level c d level None None p h = h
 sets_level c d level None (Some x) p h = absurd h
 sets_level c d level (Some y) None p h = absurd h
-sets_level c d level (Some y) (Some x) p h = (h.0, level-stands c y.periods y.now level x.leg h.1, h.2)
+sets_level c d level (Some y) (Some x) p h = (h.0, level-stands (whose c y) y.periods y.now level x.leg h.1, h.2)
 
 sets_mode : (c d : ℕ) (mode : DtxMode) (o : Option CallHistory) (x : Option Call) (p : Option ℕ) → CallStands c o x p →
     CallStands c (option_map (set_now (with_mode mode)) o) (option_map (set_by (act.DtxSet d mode)) x) p
 sets_mode c d mode None None p h = h
 sets_mode c d mode None (Some x) p h = absurd h
 sets_mode c d mode (Some y) None p h = absurd h
-sets_mode c d mode (Some y) (Some x) p h = (h.0, mode-stands c y.periods y.now mode x.leg h.1, h.2)
+sets_mode c d mode (Some y) (Some x) p h = (h.0, mode-stands (whose c y) y.periods y.now mode x.leg h.1, h.2)
 
 -- ---- partners
 
@@ -82,12 +83,12 @@ module _ (h : ℕ → Option CallHistory) (gs : List Group) (most : ℕ) (k : Ar
   abbrev Goal : Act → ℕ → Type 0
   Goal a d = CallStands d (histories_after a h d) (calls_after a (call_in gs) d) (partners_after a (partner_in gs) d)
 
-  opened : (c : ℕ) → Fits gs (act.Opened c) → (d : ℕ) → Goal (act.Opened c) d
-  opened c fits d = elim (cases_Bool (c == d)) [
+  opened : (c : ℕ) (law : Law) → Fits gs (act.Opened c law) → (d : ℕ) → Goal (act.Opened c law) d
+  opened c law fits d = elim (cases_Bool (c == d)) [
     | inl t ↦
         let e = eqb-true c d t in
         let none : partner_in gs d ≡ None = subst (λ (n : ℕ). partner_in gs n ≡ None) e (closed_partner c (h c) (partner_in gs c) (subst (λ (x : Option Call). CallStands c (h c) x (partner_in gs c)) fits.1 (s c))) in
-        simp t (e, subst (λ (n : ℕ). Stands d [] new_settings (new_call n).leg) (sym e) (new-stands d), sym (ap is_some none))
+        simp t (e, subst (λ (n : ℕ). Stands (record { number = d; law = law }) [] new_settings (new_call n law).leg) (sym e) (new-stands (record { number = d; law = law })), sym (ap is_some none))
     | inr f ↦ simp f (s d)
   ]
 
@@ -126,7 +127,7 @@ module _ (h : ℕ → Option CallHistory) (gs : List Group) (most : ℕ) (k : Ar
   ]
 
   by_act : (a : Act) → Fits gs a → NoneDrains a h → (d : ℕ) → Goal a d
-  by_act (act.Opened c) fits w d = opened c fits d
+  by_act (act.Opened c law) fits w d = opened c law fits d
   by_act (act.Closed c p) fits w d = closed c p fits d
   by_act (act.Bridged a b) fits w d = joined_two a b fits w d
   by_act (act.Unbridged a b) fits w d = parted_two a b fits d
@@ -146,7 +147,7 @@ module _ (h : ℕ → Option CallHistory) (gs : List Group) (most : ℕ) (k : Ar
 
 -- an open call has a history
 open_stands : (c : ℕ) (o : Option CallHistory) (x : Option Call) (p : Option ℕ) → is_some x ≡ true → CallStands c o x p →
-    (y : CallHistory) × (m : Call) × (o ≡ Some y) × (x ≡ Some m) × Stands c y.periods y.now m.leg
+    (y : CallHistory) × (m : Call) × (o ≡ Some y) × (x ≡ Some m) × Stands (whose c y) y.periods y.now m.leg
 open_stands c None None p t h = absurd (false≢true t)
 open_stands c None (Some x) p t h = absurd h
 open_stands c (Some y) None p t h = absurd h
@@ -154,16 +155,16 @@ open_stands c (Some y) (Some x) p t h = (y, x, refl, refl, h.1)
 
 -- a call with a history is open
 history_stands : (c : ℕ) (o : Option CallHistory) (x : Option Call) (p : Option ℕ) (y : CallHistory) → o ≡ Some y → CallStands c o x p →
-    (m : Call) × (x ≡ Some m) × Stands c y.periods y.now m.leg
+    (m : Call) × (x ≡ Some m) × Stands (whose c y) y.periods y.now m.leg
 history_stands c o None p y e h = absurd (rw e at h)
 history_stands c o (Some x) p y e h = let g = rw e at h in (x, refl, g.1)
 
-pub standing : (h : ℕ → Option CallHistory) (gs : List Group) (c : ℕ) (y : CallHistory) → GroupsStand h gs → h c ≡ Some y → (m : Call) × (call_in gs c ≡ Some m) × Stands c y.periods y.now m.leg
+pub standing : (h : ℕ → Option CallHistory) (gs : List Group) (c : ℕ) (y : CallHistory) → GroupsStand h gs → h c ≡ Some y → (m : Call) × (call_in gs c ≡ Some m) × Stands (whose c y) y.periods y.now m.leg
 standing h gs c y s e = history_stands c (h c) (call_in gs c) (partner_in gs c) y e (s c)
 
 -- the tally of the call that ended
 pub tallied : (h : ℕ → Option CallHistory) (gs : List Group) (c : ℕ) (p : Option ℕ) (kept new : ℕ → Tally) → GroupsStand h gs → IsOpen gs c →
-    ((d : ℕ) → d ≢ c → new d ≡ kept d) → ((m : Call) (y : CallHistory) → call_in gs c ≡ Some m → Stands c y.periods y.now m.leg → new c ≡ tally_of y.periods y.now) →
+    ((d : ℕ) → d ≢ c → new d ≡ kept d) → ((m : Call) (y : CallHistory) → call_in gs c ≡ Some m → Stands (whose c y) y.periods y.now m.leg → new c ≡ tally_of y.periods y.now) →
     (d : ℕ) → new d ≡ tallies_after (act.Closed c p) h kept d
 tallied h gs c p kept new s o others this d = elim (cases_Bool (c == d)) [
   | inl t ↦ simp t (subst (λ (n : ℕ). new n ≡ kept_of (h n) (kept n)) (eqb-true c d t)
@@ -177,5 +178,5 @@ same_tallies (act.Bridged b c) h kept d s = refl
 same_tallies (act.Unbridged b c) h kept d s = refl
 same_tallies (act.LevelSet c level) h kept d s = refl
 same_tallies (act.DtxSet c mode) h kept d s = refl
-same_tallies (act.Opened c) h kept d s = absurd s
+same_tallies (act.Opened c law) h kept d s = absurd s
 same_tallies (act.Closed c p) h kept d s = absurd s

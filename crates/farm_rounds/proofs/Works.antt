@@ -18,9 +18,10 @@ use Rattle.farm_rounds.specs.declared.call.Call.{Call}
 use Rattle.farm_rounds.specs.declared.call.Group.{Group}
 use Rattle.farm_rounds.specs.Calls.{group_in, call_of, call_in, partner_of, partner_in}
 use Rattle.farm_rounds.specs.Groups.{AreGroups, AreLive}
-use Rattle.farm_rounds.specs.Histories.{CallHistory, CallStands, GroupsStand}
+use Rattle.farm_rounds.specs.Histories.{CallHistory, whose, CallStands, GroupsStand}
 use Rattle.farm_rounds.specs.Rounds.{no_job, job_at, entry_at, octets_of, seat_with, call_from, group_from, groups_from, Works}
 use Rattle.farm_rounds.specs.RoundHistories.{worked_histories, history_with, WorkedCall, AreWorked}
+use Rattle.farm_rounds.specs.Ordered.{job_in}
 use Rattle.farm_rounds.specs.Working.{RoundMemory, IsRound, IsWorked}
 use Rattle.farm_rounds.proofs.Finding.{found_there}
 use Rattle.farm_rounds.proofs.Applying.{found_group}
@@ -29,13 +30,13 @@ use Rattle.farm_rounds.proofs.Partners.{finished_partner}
 use Rattle.farm_rounds.proofs.Working.{finished_groups, finished_live}
 use Rattle.farm_rounds.proofs.Finished.{Finished, Pair, first_half, second_half, alone_finished, pair_finished}
 use Rattle.farm_rounds.proofs.Seating.{seat_of_at}
-use Rattle.farm_rounds.proofs.JobSeats.{job_in, call_from_job, job_group, finished_job, stays, periods, its_place, worked_rising, seat_job, seated, job_other}
+use Rattle.farm_rounds.proofs.JobSeats.{call_from_job, job_group, finished_job, stays, periods, its_place, worked_rising, seat_job, seated, job_other}
 
 -- what stands for an open call
 record Told (c : ℕ) (o : Option CallHistory) (h : HalfMemory) (partner : Option ℕ) : Type 0 where
   history : CallHistory
   told : o ≡ Some history
-  leg : Stands c history.periods history.now h.leg
+  leg : Stands (whose c history) history.periods history.now h.leg
   bridged : history.now.bridged ≡ is_some partner
 
 told_of : (c : ℕ) (o : Option CallHistory) (h : HalfMemory) (x : Option Call) (p : Option ℕ) → x ≡ Some (call_from h) → CallStands c o x p → Told c o h p
@@ -125,8 +126,8 @@ module _ (r : RoundMemory) (after : List Job) (worked : List SeatMemory) (i : Is
           second_told = second.told;
           first_partner = first_partner;
           second_partner = second_partner;
-          first_leg = subst (λ (g : HalfMemory). Stands m first.history.periods first.history.now g.leg) (first_half a b) first.leg;
-          second_leg = subst (λ (g : HalfMemory). Stands n second.history.periods second.history.now g.leg) (second_half a b apart) second.leg;
+          first_leg = subst (λ (g : HalfMemory). Stands (whose m first.history) first.history.periods first.history.now g.leg) (first_half a b) first.leg;
+          second_leg = subst (λ (g : HalfMemory). Stands (whose n second.history) second.history.periods second.history.now g.leg) (second_half a b apart) second.leg;
           first_bridged = first.bridged ∙ ap is_some first_partner;
           second_bridged = second.bridged ∙ ap is_some second_partner;
           apart = apart;
@@ -186,8 +187,8 @@ module _ (r : RoundMemory) (after : List Job) (worked : List SeatMemory) (i : Is
         let same : x ≡ f.now = some_same x f.now (sym e ∙ f.told) in
         let run : job_at (map finished w.handed) place ≡ finished job = get_or-map finished w.handed place no_job no_job has.0 in
         w.left k l ∙ ap (λ (j : Job). seat_with (seat_at r.seats k).place (half_of j c).io) run ∙ ap (λ (io : IoMemory). seat_with (seat_at r.seats k).place io) f.octets
-        ∙ ap (λ (s : SeatMemory). seat_with (seat_at r.seats k).place (io_after (whole_in s.place) f.now.periods (octets_of s))) (seat_of_at r.seats k i.rising l)
-        ∙ ap (λ (y : CallHistory). seat_with (seat_at r.seats k).place (io_after (whole_in (seat_at r.seats k).place) y.periods (octets_of (seat_at r.seats k)))) (sym same)
+        ∙ ap (λ (s : SeatMemory). seat_with (seat_at r.seats k).place (io_after (whose c f.now) (whole_in s.place) f.now.periods (octets_of s))) (seat_of_at r.seats k i.rising l)
+        ∙ ap (λ (y : CallHistory). seat_with (seat_at r.seats k).place (io_after (whose c y) (whole_in (seat_at r.seats k).place) y.periods (octets_of (seat_at r.seats k)))) (sym same)
       where
         some_same : (y z : CallHistory) → Some y ≡ Some z → y ≡ z
         some_same y z q = cc

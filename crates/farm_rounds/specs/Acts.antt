@@ -1,6 +1,7 @@
 -- What an accepted order does to the calls of a farm, by their numbers (this project's profile).
 use Rattle.std.specs.Prelude.{◌≡◌, ◌≢◌, ℕ, ◌+◌, pos, ◌≤ℤ◌, ◌==◌, if◌then◌else◌, true, false, Option, Some, None, is_some, List}
 use Rattle.std.specs.Option.{option_map}
+use Rattle.trau_alaw.specs.declared.Law.{Law}
 use Rattle.switchboard.specs.declared.act.Act.{Act}
 use Rattle.switchboard.specs.declared.act.Act.TheVariants.{Opened, Closed, Bridged, Unbridged, LevelSet, DtxSet}
 use Rattle.call_leg.specs.Memory.{LegMemory}
@@ -15,8 +16,8 @@ use Rattle.farm_rounds.specs.Groups.{AreGroups}
 -- ---- one call
 
 -- before its first period
-abbrev pub new_call : ℕ → Call
-new_call c = record { number = c; leg = home_leg c; down_failed = false; out_failed = false }
+abbrev pub new_call : ℕ → Law → Call
+new_call c law = record { number = c; leg = home_leg (record { number = c; law = law }); down_failed = false; out_failed = false }
 
 abbrev pub with_leg : LegMemory → Call → Call
 with_leg m x = record { number = x.number; leg = m; down_failed = x.down_failed; out_failed = x.out_failed }
@@ -58,7 +59,7 @@ freed None g f = f
 freed (Some p) g f = changed p g f
 
 abbrev pub calls_after : Act → (ℕ → Option Call) → ℕ → Option Call
-calls_after (Opened c) f = put_at c (Some (new_call c)) f
+calls_after (Opened c law) f = put_at c (Some (new_call c law)) f
 calls_after (Closed c p) f = put_at c None (freed p parted f)
 calls_after (Bridged a b) f = changed a joined (changed b joined f)
 calls_after (Unbridged a b) f = changed a parted (changed b parted f)
@@ -67,7 +68,7 @@ calls_after (DtxSet c mode) f = changed c (set_by (DtxSet c mode)) f
 
 -- how many calls are open more and less
 abbrev pub opened_by : Act → ℕ
-opened_by (Opened c) = 1
+opened_by (Opened c law) = 1
 opened_by _ = 0
 
 abbrev pub closed_by : Act → ℕ
@@ -93,7 +94,7 @@ IsOpen groups c = is_some (call_in groups c) ≡ true
 -- What an act names is as the switchboard found it: an opened call wasn't open, the others are; a bridge joins two
 -- different calls that aren't bridged, and is the one that is there when it ends.
 abbrev pub Fits : List Group → Act → Type 0
-Fits groups (Opened c) = IsCallNumber c × (call_in groups c ≡ None)
+Fits groups (Opened c law) = IsCallNumber c × (call_in groups c ≡ None)
 Fits groups (Closed c p) = IsOpen groups c × (partner_in groups c ≡ p)
 Fits groups (Bridged a b) = (a ≢ b) × IsOpen groups a × IsOpen groups b × (partner_in groups a ≡ None) × (partner_in groups b ≡ None)
 Fits groups (Unbridged a b) = partner_in groups a ≡ Some b
@@ -102,12 +103,12 @@ Fits groups (DtxSet c mode) = IsOpen groups c
 
 -- it opens a call
 abbrev pub IsOpening : Act → Type 0
-IsOpening (Opened c) = Unit {0}
+IsOpening (Opened c law) = Unit {0}
 IsOpening _ = ⊥
 
 -- the calls stay the same ones
 abbrev pub Stays : Act → Type 0
-Stays (Opened c) = ⊥
+Stays (Opened c law) = ⊥
 Stays (Closed c p) = ⊥
 Stays _ = Unit {0}
 

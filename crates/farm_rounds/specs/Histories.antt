@@ -1,7 +1,9 @@
 -- The periods that the calls of a farm had. Lists have the newest period first.
 use Rattle.std.specs.Prelude.{◌≡◌, ℕ, Option, Some, None, is_some, ◌==◌, if◌then◌else◌, List, []}
+use Rattle.trau_alaw.specs.declared.Law.{Law}
 use Rattle.switchboard.specs.declared.act.Act.{Act}
 use Rattle.switchboard.specs.declared.act.Act.TheVariants.{Opened, Closed, Bridged, Unbridged, LevelSet, DtxSet}
+use Rattle.call_leg.specs.Who.{Who}
 use Rattle.call_leg.specs.Periods.{CallPeriod}
 use Rattle.call_leg.specs.Settings.{Settings, new_settings, with_level, with_mode, with_bridge, without_bridge}
 use Rattle.call_leg.specs.Counted.{call_counts}
@@ -15,10 +17,15 @@ use Rattle.farm_rounds.specs.declared.tally.Tally.{Tally}
 use Rattle.farm_rounds.specs.Calls.{call_in, partner_in}
 use Rattle.farm_rounds.specs.Acts.{put_at, changed, freed}
 
--- the periods of a call so far, and what is set for the next one
+-- the law of a call's octets, its periods so far, and what is set for the next one
 pub record CallHistory : Type 0 where
+  pub law : Law
   pub periods : List CallPeriod
   pub now : Settings
+
+-- whose history it is, by the call's number
+abbrev pub whose : ℕ → CallHistory → Who
+whose c h = record { number = c; law = h.law }
 
 -- what is kept of a call that ends after these periods
 abbrev pub tally_of : List CallPeriod → Settings → Tally
@@ -27,7 +34,7 @@ tally_of ts now = record { counts = call_counts ts; sent = sent_now ts now }
 -- An open call stands for its periods so far, and the settings tell whether it is bridged.
 abbrev pub CallStands : ℕ → Option CallHistory → Option Call → Option ℕ → Type 0
 CallStands c None None partner = partner ≡ None
-CallStands c (Some h) (Some x) partner = (x.number ≡ c) × Stands c h.periods h.now x.leg × (h.now.bridged ≡ is_some partner)
+CallStands c (Some h) (Some x) partner = (x.number ≡ c) × Stands (whose c h) h.periods h.now x.leg × (h.now.bridged ≡ is_some partner)
 CallStands c _ _ partner = ⊥
 
 -- the groups of a farm stand for the histories of the open calls, by their numbers
@@ -37,10 +44,10 @@ GroupsStand h groups = (c : ℕ) → CallStands c (h c) (call_in groups c) (part
 -- ---- what an act does to the histories
 
 abbrev pub set_now : (Settings → Settings) → CallHistory → CallHistory
-set_now f h = record { periods = h.periods; now = f h.now }
+set_now f h = record { law = h.law; periods = h.periods; now = f h.now }
 
 abbrev pub histories_after : Act → (ℕ → Option CallHistory) → ℕ → Option CallHistory
-histories_after (Opened c) h = put_at c (Some (record { periods = []; now = new_settings })) h
+histories_after (Opened c law) h = put_at c (Some (record { law = law; periods = []; now = new_settings })) h
 histories_after (Closed c p) h = put_at c None (freed p (set_now without_bridge) h)
 histories_after (Bridged a b) h = changed a (set_now with_bridge) (changed b (set_now with_bridge) h)
 histories_after (Unbridged a b) h = changed a (set_now without_bridge) (changed b (set_now without_bridge) h)

@@ -7,6 +7,7 @@ pub mod Acts
 pub mod Histories
 pub mod Rounds
 pub mod Phased
+pub mod Ordered
 pub mod WorkRooms
 pub mod Settling
 pub mod Working

@@ -11,7 +11,7 @@ use Rattle.round_lines.specs.Rounds.{no_seat, seat_at, call_at}
 use Rattle.farm_rounds.specs.declared.call.Call.{Call}
 use Rattle.farm_rounds.specs.declared.call.Group.{Group}
 use Rattle.farm_rounds.specs.Calls.{call_in, partner_in}
-use Rattle.farm_rounds.specs.Histories.{CallHistory}
+use Rattle.farm_rounds.specs.Histories.{CallHistory, whose}
 use Rattle.farm_rounds.specs.Rounds.{octets_of, seat_with, groups_from}
 use Rattle.farm_rounds.specs.Working.{WorkedMemory, goes_on_call, that_stays}
 
@@ -30,19 +30,19 @@ seat_of seats c = unwrap_or (find (λ s. s.place.call == c) seats) no_seat
 
 -- the call at the start of the round: what it has had, and the octets of its periods in the round
 abbrev pub start_with : List SeatMemory → ℕ → CallHistory → Start
-start_with seats c x = record { past = x.periods; now = x.now; io = octets_of (seat_of seats c) }
+start_with seats c x = record { law = x.law; past = x.periods; now = x.now; io = octets_of (seat_of seats c) }
 
 -- after the round, of a call that lies in no bridge ..
 abbrev pub history_alone : List SeatMemory → ℕ → CallHistory → CallHistory
 history_alone seats c x =
     let n = whole_in (seat_of seats c).place in
-    record { periods = alone_periods n (start_with seats c x); now = settings_at n x.now }
+    record { law = x.law; periods = alone_periods n (start_with seats c x); now = settings_at n x.now }
 
 -- .. and of one that lies in a bridge with call d
 abbrev pub history_bridged : List SeatMemory → ℕ → CallHistory → ℕ → CallHistory → CallHistory
 history_bridged seats c x d y =
     let n = whole_in (seat_of seats c).place in
-    record { periods = bridged_periods n (start_with seats c x) (start_with seats d y); now = settings_past n (whole_in (seat_of seats d).place) x.now }
+    record { law = x.law; periods = bridged_periods n (start_with seats c x) (start_with seats d y); now = settings_past n (whole_in (seat_of seats d).place) x.now }
 
 abbrev pub history_beside : List SeatMemory → ℕ → CallHistory → ℕ → Option CallHistory → CallHistory
 history_beside seats c x d None = history_alone seats c x
@@ -62,7 +62,7 @@ worked_histories seats partner h c = option_map (history_with seats h c (partner
 -- goes on too.
 abbrev pub WorkedCall : (ℕ → Bool) → ℕ → Option CallHistory → Option Call → Option ℕ → Type 0
 WorkedCall stays c None None partner = partner ≡ None
-WorkedCall stays c (Some h) (Some x) partner = (x.number ≡ c) × Stands c h.periods h.now x.leg × (stays c ≡ true → h.now.bridged ≡ is_some (that_stays stays partner))
+WorkedCall stays c (Some h) (Some x) partner = (x.number ≡ c) × Stands (whose c h) h.periods h.now x.leg × (stays c ≡ true → h.now.bridged ≡ is_some (that_stays stays partner))
 WorkedCall stays c _ _ partner = ⊥
 
 abbrev pub WorkedStand : (ℕ → Option CallHistory) → WorkedMemory → Type 0
@@ -71,7 +71,7 @@ WorkedStand h r = (c : ℕ) → WorkedCall (goes_on_call r.seats) c (h c) (call_
 -- The seats after the work: Out and Down begin with the octets of the round's periods, and are as they were behind them.
 abbrev pub AreWorked : List SeatMemory → (ℕ → Option CallHistory) → List SeatMemory → Type 0
 AreWorked seats worked now = (k : ℕ) (x : CallHistory) → k < length seats → worked (call_at seats k) ≡ Some x →
-    let s = seat_at seats k in seat_at now k ≡ seat_with s.place (io_after (whole_in s.place) x.periods (octets_of s))
+    let s = seat_at seats k in seat_at now k ≡ seat_with s.place (io_after (whose (call_at seats k) x) (whole_in s.place) x.periods (octets_of s))
 
 -- ---- the calls that go on
 

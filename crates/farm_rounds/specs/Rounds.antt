@@ -1,5 +1,6 @@
 -- A round of the farm: the jobs of the calls, and their seats (this project's profile).
 use Rattle.std.specs.Prelude.{◌≡◌, ℕ, ◌+◌, ◌*◌, ◌<◌, ◌≤◌, true, false, Some, List, [], length, map, slice_index, slice_index_or}
+use Rattle.trau_alaw.specs.declared.Law.TheVariants.{A}
 use Rattle.std.specs.Option.{option_map}
 use Rattle.std.specs.List.{All}
 use Rattle.round_lines.specs.Places.{PlaceMemory, whole_in}
@@ -25,7 +26,7 @@ no_octets c = record { call = c; up = []; pcm = []; out = []; down = []; given =
 
 -- stands where there is no job
 abbrev pub no_job : Job
-no_job = job.One (record { leg = home_leg 0; io = no_octets 0 })
+no_job = job.One (record { leg = home_leg (record { number = 0; law = A }); io = no_octets 0 })
 
 abbrev pub job_at : List Job → ℕ → Job
 job_at jobs j = slice_index_or jobs j no_job

@@ -1,6 +1,7 @@
 -- The calls of a round after it. `stays` tells which calls go on, and `seat` is the seat of a call.
 use Rattle.std.specs.Prelude.{◌≡◌, ℕ, ◌+◌, ◌<◌, ◌==◌, ◌&&◌, not, if◌then◌else◌, Bool, Option, Some, None, is_some, List, length, slice_index}
 use Rattle.std.specs.List.{sum_by, filter_map}
+use Rattle.call_leg.specs.Who.{Who}
 use Rattle.call_leg.specs.Periods.{CallPeriod}
 use Rattle.call_leg.specs.Settings.{Settings}
 use Rattle.call_leg.specs.Stands.{Stands}
@@ -66,7 +67,7 @@ calls_ended stays groups = sum_by (ended_of stays) groups
 -- of a call that ends the counts are kept, for all periods that it may have had
 abbrev pub KeepsTally : Option Call → Tally → Tally → Type 0
 KeepsTally None before now = now ≡ before
-KeepsTally (Some x) before now = (c : ℕ) (ts : List CallPeriod) (set : Settings) → Stands c ts set x.leg → now ≡ tally_of ts set
+KeepsTally (Some x) before now = (who : Who) (ts : List CallPeriod) (set : Settings) → Stands who ts set x.leg → now ≡ tally_of ts set
 
 -- Those of the calls of these groups that don't go on have ended: their numbers have left the list, and their counts are
 -- kept. Of all others nothing changed.

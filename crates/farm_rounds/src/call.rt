@@ -1,6 +1,7 @@
 //! What is kept of open calls.
 
 ghost use Rattle.std.specs.Prelude.{◌≡◌, ℕ, List, IfOk};
+ghost use Rattle.call_leg.specs.Who.{Who};
 ghost use Rattle.call_leg.specs.Periods.{CallPeriod};
 ghost use Rattle.call_leg.specs.Settings.{Settings};
 ghost use Rattle.call_leg.specs.Stands.{Stands};
@@ -15,6 +16,7 @@ use crate::tally::Tally;
 use call_leg::Leg;
 use std::alloc::{AllocError, Global};
 use switchboard::Act;
+use trau_alaw::Law;
 
 /// An open call: its number, its leg, and whether its outgoing lines have failed.
 #[derive(Drop)]
@@ -33,14 +35,14 @@ pub(crate) enum Group {
 }
 
 impl Call {
-    /// A call before its first period.
-    pub(crate) fn new(alloc: Global, number: u32) -> Result<Call, AllocError>
+    /// A call with this law before its first period.
+    pub(crate) fn new(alloc: Global, number: u32, law: Law) -> Result<Call, AllocError>
         requires { IsCallNumber number }
-        ensures { IfOk result (λ call. call ≡ new_call number) }
+        ensures { IfOk result (λ call. call ≡ new_call number law) }
     {
         Ok(Call {
             number,
-            leg: Leg::new(alloc, number)?,
+            leg: Leg::new(alloc, number, law)?,
             down_failed: false,
             out_failed: false,
         })
@@ -64,7 +66,7 @@ impl Call {
 
     /// What is kept of it once it has ended.
     pub(crate) fn tally(&self) -> Tally
-        ensures { (c : ℕ) (ts : List CallPeriod) (now : Settings) → Stands c ts now self.now.leg → result ≡ tally_of ts now }
+        ensures { (who : Who) (ts : List CallPeriod) (now : Settings) → Stands who ts now self.now.leg → result ≡ tally_of ts now }
     {
         Tally {
             counts: self.leg.counts(),

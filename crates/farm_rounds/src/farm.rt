@@ -8,6 +8,7 @@ ghost use Rattle.call_leg.specs.Periods.{CallPeriod};
 ghost use Rattle.call_leg.specs.Settings.{Settings};
 ghost use Rattle.call_leg.specs.Counted.{call_counts};
 ghost use Rattle.call_leg.specs.Places.{sent_now};
+ghost use Rattle.call_leg.specs.Who.{Who};
 ghost use Rattle.call_leg.specs.Stands.{Stands};
 ghost use Rattle.farm_rounds.specs.declared.call.Call.{Call};
 ghost use Rattle.call_number.specs.CallNumber.{IsCallNumber};
@@ -27,6 +28,7 @@ use call_number::NUMBERS;
 use std::alloc::{AllocError, Global};
 use std::marker::Model;
 use switchboard::Act;
+use trau_alaw::Law;
 use trau_io::{Counts, Line};
 
 /// All open calls with their legs, what was counted of each ended call, and the lines that have failed.
@@ -88,7 +90,7 @@ impl Farm {
             tally_in self.new.tallies c ≡ tallies_after act.now h (tally_in self.old.tallies) c) }
     {
         match *act {
-            Act::Opened { call } => self.open(alloc, call),
+            Act::Opened { call, law } => self.open(alloc, call, law),
             Act::Closed { call, .. } => {
                 self.close(call);
                 Ok(())
@@ -100,11 +102,11 @@ impl Farm {
         }
     }
 
-    // A call is opened.
-    fn open(&mut self, alloc: Global, call: u32) -> Result<(), AllocError>
-        requires { Fits self.old.groups (done.Opened call) }
+    // A call is opened, with this law.
+    fn open(&mut self, alloc: Global, call: u32, law: Law) -> Result<(), AllocError>
+        requires { Fits self.old.groups (done.Opened call law) }
         ensures before { AreGroups self.old.ended self.old.groups }
-        ensures applied { IfOk result (λ u. Applied self.old.ended (done.Opened call) self.old.groups self.new.groups) }
+        ensures applied { IfOk result (λ u. Applied self.old.ended (done.Opened call law) self.old.groups self.new.groups) }
         ensures refused { IfErr result (λ e. self.new.groups ≡ self.old.groups) }
         ensures refused_live { IfErr result (λ e. self.new.live ≡ self.old.live) }
         ensures others { self.new ≡ record self.old { groups = self.new.groups; live = self.new.live } }
@@ -112,7 +114,7 @@ impl Farm {
         let calls = self.live.len() + 1;
         self.live.reserve(1)?;
         self.groups.reserve(calls - self.groups.len())?;
-        let opened = Call::new(alloc, call)?;
+        let opened = Call::new(alloc, call, law)?;
         add_number(&mut self.live, call);
         self.groups.push_reserved(Group::One(opened));
         Ok(())
@@ -125,7 +127,7 @@ impl Farm {
         ensures applied { Applied self.old.ended (done.Closed call (partner_in self.old.groups call)) self.old.groups self.new.groups }
         ensures others { self.new ≡ record self.old { groups = self.new.groups; live = self.new.live; tallies = self.new.tallies } }
         ensures tallies { (c : ℕ) → c ≢ call → tally_in self.new.tallies c ≡ tally_in self.old.tallies c }
-        ensures tally { (x : Call) (c : ℕ) (ts : List CallPeriod) (now : Settings) → call_in self.old.groups call ≡ Some x → Stands c ts now x.leg → tally_in self.new.tallies call ≡ tally_of ts now }
+        ensures tally { (x : Call) (who : Who) (ts : List CallPeriod) (now : Settings) → call_in self.old.groups call ≡ Some x → Stands who ts now x.leg → tally_in self.new.tallies call ≡ tally_of ts now }
     {
         if let Some(ended) = groups::end(&mut self.groups, call) {
             remove_number(&mut self.live, call);

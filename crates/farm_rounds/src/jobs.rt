@@ -285,6 +285,7 @@ impl WorkRoom {
 pub(crate) fn work_jobs<R: Threads + Wait + Sync, G: Gate + Sync>(
     rt: &R,
     alloc: Global,
+    numbers: &[u32],
     entries: &[Entry],
     seats: Vec<Seat>,
     mut jobs: Vec<Job>,
@@ -293,13 +294,15 @@ pub(crate) fn work_jobs<R: Threads + Wait + Sync, G: Gate + Sync>(
     gate: &G,
 ) -> (Vec<Job>, Vec<Seat>)
     requires slice { 1 ≤ slice }
+    requires groups { AreGroups 4294967295 (groups_from jobs.items) }
+    requires live { AreLive numbers.now (groups_from jobs.items) }
     requires entries { length entries.now ≡ length seats.items }
     requires jobs { HaveJobs jobs.items entries.now seats.items }
     requires time { HaveTime jobs.items entries.now seats.items }
     requires timely { All (IsTimely 4294967295) jobs.items }
     requires rising { Rising seats.items }
     requires room { HasRoom (length seats.items) room.phases.periods room }
-    requires calls { calls_held (groups_from jobs.items) ≡ length seats.items }
+    requires calls { length numbers.now ≡ length seats.items }
     requires fresh { All (IsFresh room.phases.periods) jobs.items }
     requires within { AreWithin room.phases.periods seats.items }
     ensures { Works jobs.items entries.now seats.items result.0.items result.1.items }
@@ -311,7 +314,7 @@ pub(crate) fn work_jobs<R: Threads + Wait + Sync, G: Gate + Sync>(
         phases,
     } = room;
     hand_in(seats, entries, &mut jobs, &mut apart, notes);
-    let mut jobs = work_phases(rt, jobs, phases, slice, gate);
+    let mut jobs = work_phases(rt, numbers, jobs, phases, slice, gate);
     hand_out(alloc, apart, entries, &mut jobs, &mut worked);
     (jobs, worked)
 }

@@ -8,14 +8,16 @@
 //!
 //! `farm` has the farm, `groups` what orders do to its calls; `call` what is kept of a call and of the two calls of a
 //! bridge, `live` the list of the open calls' numbers, `tally` what is kept of an ended call. `round` has a round up to its
-//! work and `worked` what comes after it, `jobs` the calls' jobs and their octets, `phases` their two phases, `entry` where
-//! they are, `settle` the calls after a round, and `rest` the parts of a farm meanwhile.
+//! work and `worked` what comes after it, `jobs` the calls' jobs and their octets, `phases` their two phases, `order` the
+//! calls in rising order for these, `entry` where they are, `settle` the calls after a round, and `rest` the parts of a farm
+//! meanwhile.
 //!
 //! Definitions: `specs/Calls.antt` (the calls of a farm by their numbers), `specs/Acts.antt` (what an order does),
 //! `specs/Histories.antt` (the periods that the calls had), `specs/Memory.antt`, `specs/Groups.antt` and
-//! `specs/Numbers.antt` (what a farm keeps); `specs/Rounds.antt` (jobs and seats), `specs/Phased.antt` and
-//! `specs/WorkRooms.antt` (the two phases and their memory), `specs/Working.antt` (what a round keeps),
-//! `specs/Finishing.antt` (its jobs run to their ends), `specs/Settling.antt` (what is left of a job).
+//! `specs/Numbers.antt` (what a farm keeps); `specs/Rounds.antt` (jobs and seats), `specs/Phased.antt`,
+//! `specs/Ordered.antt` and `specs/WorkRooms.antt` (the two phases, the order of their calls and their memory),
+//! `specs/Working.antt` (what a round keeps), `specs/Finishing.antt` (its jobs run to their ends), `specs/Settling.antt` (what
+//! is left of a job).
 #![tactic(auto)]
 
 mod call;
@@ -24,6 +26,7 @@ mod farm;
 mod groups;
 mod jobs;
 mod live;
+mod order;
 mod phases;
 mod rest;
 mod round;

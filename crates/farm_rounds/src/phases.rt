@@ -1,26 +1,23 @@
 //! The two phases of a round's work: all uplink halves of the calls, then all their downlink halves.
 
-ghost use Rattle.std.specs.Prelude.{◌≡◌, ◌+◌, ◌*◌, ◌≤◌, ◌++◌, ◌∷◌, ℕ, [], map, length, reverse, vec_len, vec_capacity, IfOk};
-ghost use Rattle.std.specs.List.{All, flat_map};
+ghost use Rattle.std.specs.Prelude.{◌≡◌, ◌≢◌, ◌+◌, ◌<◌, ◌≤◌, ℕ, [], map, length, vec_len, vec_capacity, slice_index, IfOk};
+ghost use Rattle.std.specs.List.{All};
 ghost use Rattle.rx_handler.specs.State.{effective_fields};
 ghost use Rattle.call_pair.specs.Jobs.{finished};
-ghost use Rattle.call_pair.specs.Phases.{call_left, turned_down, with_partner};
+ghost use Rattle.call_pair.specs.Phases.{call_left, call_finished, turned_down, with_partner};
 ghost use Rattle.call_pair.specs.declared.call_job.Phase.TheVariants.{First};
-ghost use Rattle.farm_rounds.specs.Phased.{IsFresh, HasNoneDone, AreEmptyFor, boxes_of, calls_in, calls_of, is_pair, is_pair_job, paired, size_if, sizes, starts, met, CanMeet, AreFinished, job_left_by, HasPhase, HasPhases, WorksPhase};
+ghost use Rattle.farm_rounds.specs.Groups.{AreGroups, AreLive};
+ghost use Rattle.farm_rounds.specs.Numbers.{IsRising};
+ghost use Rattle.farm_rounds.specs.Phased.{IsFresh, AreEmptyFor, calls_in, call_in_place, heard_from, IsTold, HasPhases};
+ghost use Rattle.farm_rounds.specs.Rounds.{groups_from};
 
-use call_pair::{CallJob, Half, Job};
+use crate::order::{Party, empty_slots, gather, seat_all, spread, take_all};
+use call_pair::{CallJob, Job};
 use pool_run::{Gate, PoolRoom, run_pool};
 use rx_handler::Effective;
 use std::alloc::{AllocError, Global};
 use std::sync::Wait;
 use std::thread::Threads;
-
-/// The job of a call that isn't bridged, or those of the two calls of a bridge.
-#[derive(Drop)]
-pub(crate) enum Calls {
-    One(Box<CallJob>),
-    Two(Box<CallJob>, Box<CallJob>),
-}
 
 /// So many empty lists, each with room for so many.
 pub(crate) fn empty_lists<X: Drop>(
@@ -48,39 +45,20 @@ pub(crate) fn take_list<X: Drop>(lists: &mut Vec<Vec<X>>) -> Vec<X>
     lists.pop().unwrap()
 }
 
-/// The memory of a phase of so many calls: that of its pool, and lists of the calls' jobs, apart and by bridges.
-#[derive(Drop)]
-pub(crate) struct PhaseRoom {
-    pub(crate) pool: PoolRoom<CallJob>,
-    pub(crate) apart: Vec<Box<CallJob>>,
-    pub(crate) pairs: Vec<bool>,
-    pub(crate) together: Vec<Calls>,
-}
-
-impl PhaseRoom {
-    fn reserve(alloc: Global, calls: usize, workers: u32) -> Result<PhaseRoom, AllocError>
-        requires calls { calls ≤ 4096 }
-        requires some { 1 ≤ workers }
-        requires few { workers ≤ 64 }
-        ensures { IfOk result (λ room. HasPhase calls room) }
-    {
-        Ok(PhaseRoom {
-            pool: PoolRoom::reserve(alloc, workers, calls as u32)?,
-            apart: Vec::with_capacity(alloc, calls)?,
-            pairs: Vec::with_capacity(alloc, calls)?,
-            together: Vec::with_capacity(alloc, calls)?,
-        })
-    }
-}
-
-/// The memory of both phases: of so many periods for each call a list of its partner's frames, and the list of the jobs
-/// that are worked.
+/// The memory of the phases: that of their pools; the places of the calls' jobs, where they are put and where they are taken,
+/// and between them their list; the places of the calls' partners, and lists of so many periods for their frames; the numbers
+/// of the calls of each job, and the list of the jobs.
 #[derive(Drop)]
 pub(crate) struct PhasesRoom {
     pub(crate) periods: u32,
-    pub(crate) first: PhaseRoom,
-    pub(crate) second: PhaseRoom,
+    pub(crate) first: PoolRoom<CallJob>,
+    pub(crate) second: PoolRoom<CallJob>,
+    pub(crate) slots: Vec<Option<Box<CallJob>>>,
+    pub(crate) apart: Vec<Box<CallJob>>,
+    pub(crate) worked: Vec<Option<Box<CallJob>>>,
+    pub(crate) partners: Vec<usize>,
     pub(crate) frames: Vec<Vec<Effective>>,
+    pub(crate) parties: Vec<Party>,
     pub(crate) jobs: Vec<Job>,
 }
 
@@ -99,76 +77,16 @@ impl PhasesRoom {
     {
         Ok(PhasesRoom {
             periods,
-            first: PhaseRoom::reserve(alloc, calls, workers)?,
-            second: PhaseRoom::reserve(alloc, calls, workers)?,
+            first: PoolRoom::reserve(alloc, workers, calls as u32)?,
+            second: PoolRoom::reserve(alloc, workers, calls as u32)?,
+            slots: empty_slots(alloc, calls)?,
+            apart: Vec::with_capacity(alloc, calls)?,
+            worked: Vec::with_capacity(alloc, calls)?,
+            partners: vec![in alloc; 0; calls]?,
             frames: empty_lists(alloc, calls, periods as usize)?,
+            parties: Vec::with_capacity(alloc, calls)?,
             jobs: Vec::with_capacity(alloc, calls)?,
         })
-    }
-}
-
-// Puts the calls' jobs behind those that are apart, and notes whether they are a pair.
-fn part(calls: Calls, apart: &mut Vec<Box<CallJob>>, pairs: &mut Vec<bool>)
-    requires jobs { vec_len apart.old + size_if (is_pair calls) ≤ vec_capacity apart.old }
-    requires pairs { vec_len pairs.old + 1 ≤ vec_capacity pairs.old }
-    ensures jobs { apart.new.items ≡ apart.old.items ++ boxes_of calls }
-    ensures pairs { pairs.new.items ≡ pairs.old.items ++ is_pair calls ∷ [] }
-    ensures job_room { vec_capacity apart.new ≡ vec_capacity apart.old }
-    ensures pair_room { vec_capacity pairs.new ≡ vec_capacity pairs.old }
-{
-    match calls {
-        Calls::One(a) => {
-            pairs.push_reserved(false);
-            apart.push_reserved(a);
-        }
-        Calls::Two(a, b) => {
-            pairs.push_reserved(true);
-            apart.push_reserved(a);
-            apart.push_reserved(b);
-        }
-    }
-}
-
-// Takes the next calls, the last of the list.
-fn next_calls(apart: &mut Vec<Box<CallJob>>, pair: bool) -> Calls
-    requires { size_if pair ≤ vec_len apart.old }
-    ensures calls { reverse apart.old.items ≡ boxes_of result ++ reverse apart.new.items }
-    ensures pair { is_pair result ≡ pair }
-{
-    let a = apart.pop().unwrap();
-    if pair {
-        Calls::Two(a, apart.pop().unwrap())
-    } else {
-        Calls::One(a)
-    }
-}
-
-// Brings jobs together again as they were parted.
-fn pair_all(apart: Vec<Box<CallJob>>, pairs: Vec<bool>, together: &mut Vec<Calls>)
-    requires jobs { length apart.items ≡ sizes pairs.items }
-    requires none { together.old.items ≡ [] }
-    requires room { vec_len pairs ≤ vec_capacity together.old }
-    ensures { together.new.items ≡ paired pairs.items apart.items }
-{
-    let mut apart = apart;
-    apart.reverse();
-    for pair in pairs {
-        together.push_reserved(next_calls(&mut apart, pair));
-    }
-}
-
-// The calls of a job at the start of the first phase.
-fn begin(job: Job) -> Calls
-    requires { HasNoneDone job }
-    ensures calls { calls_of result ≡ starts job }
-    ensures pair { is_pair result ≡ is_pair_job job }
-{
-    match job {
-        Job::One(half) => Calls::One(half.start(0)),
-        Job::Two(a, b) => {
-            let end = a.io().given.min(b.io().given);
-            Calls::Two(a.start(end), b.start(end))
-        }
     }
 }
 
@@ -183,160 +101,102 @@ fn turn_down(job: &mut CallJob, frames: Vec<Effective>)
     job.turn_down();
 }
 
-// The calls between the phases: each hears its partner's frames, for which there are lists, and its second phase begins.
-fn meet(calls: Calls, frames: &mut Vec<Vec<Effective>>, periods: u32) -> Calls
-    requires told { CanMeet periods calls }
-    requires lists { AreEmptyFor periods frames.old.items }
-    requires enough { size_if (is_pair calls) ≤ vec_len frames.old }
-    ensures calls { calls_of result ≡ met (calls_of calls) }
-    ensures pair { is_pair result ≡ is_pair calls }
-    ensures lists { AreEmptyFor periods frames.new.items }
-    ensures left { vec_len frames.old ≤ vec_len frames.new + size_if (is_pair calls) }
+// A call between the phases: it hears its partner's frames, for which there is a list, and its second phase begins.
+fn meet(
+    jobs: &mut [Box<CallJob>],
+    call: usize,
+    partner: usize,
+    mut frames: Vec<Effective>,
+    periods: u32,
+)
+    requires call { call < length jobs.old }
+    requires partner { partner < length jobs.old }
+    requires told { IsTold periods (call_in_place jobs.old call) (call_in_place jobs.old partner) }
+    requires empty { frames.items ≡ [] }
+    requires room { periods ≤ vec_capacity frames }
+    ensures met { call_in_place jobs.new call ≡ heard_from (call_in_place jobs.old partner) (call_in_place jobs.old call) }
+    ensures others { (k : ℕ) → k ≢ call → call_in_place jobs.new k ≡ call_in_place jobs.old k }
+    ensures length { length jobs.new ≡ length jobs.old }
 {
-    match calls {
-        Calls::One(mut a) => {
-            a.turn_down();
-            Calls::One(a)
-        }
-        Calls::Two(mut a, mut b) => {
-            let mut of_a = take_list(frames);
-            let mut of_b = take_list(frames);
-            a.write_frames(b.bridge_end, &mut of_a);
-            b.write_frames(a.bridge_end, &mut of_b);
-            turn_down(&mut a, of_b);
-            turn_down(&mut b, of_a);
-            Calls::Two(a, b)
-        }
-    }
+    let end = jobs[call].bridge_end;
+    jobs[partner].write_frames(end, &mut frames);
+    turn_down(&mut jobs[call], frames);
 }
 
-// What the calls left after the second phase.
-fn end(calls: Calls) -> Job
-    requires { AreFinished calls }
-    ensures { result ≡ job_left_by calls }
-{
-    match calls {
-        Calls::One(a) => Job::One(Half::left_by(a)),
-        Calls::Two(a, b) => Job::Two(Half::left_by(a), Half::left_by(b)),
-    }
-}
-
-// The calls of the jobs at the start of the first phase, one after another.
-fn begin_all(jobs: Vec<Job>, apart: &mut Vec<Box<CallJob>>, pairs: &mut Vec<bool>)
-    requires none_done { All HasNoneDone jobs.items }
-    requires no_job { apart.old.items ≡ [] }
-    requires no_pair { pairs.old.items ≡ [] }
-    requires jobs { sizes (map is_pair_job jobs.items) ≤ vec_capacity apart.old }
-    requires pairs { vec_len jobs ≤ vec_capacity pairs.old }
-    ensures jobs { calls_in apart.new.items ≡ flat_map starts jobs.items }
-    ensures pairs { pairs.new.items ≡ map is_pair_job jobs.items }
-{
-    for job in jobs {
-        part(begin(job), apart, pairs);
-    }
-}
-
-// Those of the first phase, at the start of the second.
+// The calls at the start of the second phase.
 fn meet_all(
-    together: Vec<Calls>,
+    jobs: &mut [Box<CallJob>],
+    partners: &[usize],
     frames: Vec<Vec<Effective>>,
     periods: u32,
-    apart: &mut Vec<Box<CallJob>>,
-    pairs: &mut Vec<bool>,
 )
-    requires told { All (CanMeet periods) together.items }
+    requires partners { length partners.now ≡ length jobs.old }
+    requires within { (k : ℕ) → k < length jobs.old → slice_index partners.now k < length jobs.old }
+    requires told { (k : ℕ) → k < length jobs.old → IsTold periods (call_in_place jobs.old k) (call_in_place jobs.old (slice_index partners.now k)) }
     requires lists { AreEmptyFor periods frames.items }
-    requires enough { sizes (map is_pair together.items) ≤ vec_len frames }
-    requires no_job { apart.old.items ≡ [] }
-    requires no_pair { pairs.old.items ≡ [] }
-    requires jobs { sizes (map is_pair together.items) ≤ vec_capacity apart.old }
-    requires pairs { vec_len together ≤ vec_capacity pairs.old }
-    ensures jobs { calls_in apart.new.items ≡ flat_map (λ c. met (calls_of c)) together.items }
-    ensures pairs { pairs.new.items ≡ map is_pair together.items }
+    requires enough { length jobs.old ≤ vec_len frames }
+    ensures met { (k : ℕ) → k < length jobs.old → call_in_place jobs.new k ≡ heard_from (call_in_place jobs.old (slice_index partners.now k)) (call_in_place jobs.old k) }
+    ensures length { length jobs.new ≡ length jobs.old }
 {
     let mut frames = frames;
-    for calls in together {
-        part(meet(calls, &mut frames, periods), apart, pairs);
+    for call in 0..jobs.len() {
+        let list = take_list(&mut frames);
+        meet(jobs, call, partners[call], list, periods);
     }
 }
 
-// What the calls left, job by job.
-fn end_all(together: Vec<Calls>, jobs: &mut Vec<Job>)
-    requires finished { All AreFinished together.items }
-    requires none { jobs.old.items ≡ [] }
-    requires room { vec_len together ≤ vec_capacity jobs.old }
-    ensures { jobs.new.items ≡ map job_left_by together.items }
-{
-    for calls in together {
-        jobs.push_reserved(end(calls));
-    }
-}
-
-// Works a phase of the calls whose jobs are apart.
+// Works a phase of the calls, whose jobs stand in rising order of their numbers.
 fn work_phase<R: Threads + Wait + Sync, G: Gate + Sync>(
     rt: &R,
     pool: PoolRoom<CallJob>,
-    apart: Vec<Box<CallJob>>,
-    pairs: Vec<bool>,
-    mut together: Vec<Calls>,
+    jobs: Vec<Box<CallJob>>,
     slice: u32,
     gate: &G,
-) -> Vec<Calls>
+) -> Vec<Box<CallJob>>
     requires slice { 1 ≤ slice }
-    requires pool { vec_len apart ≤ pool }
-    requires jobs { length apart.items ≡ sizes pairs.items }
-    requires none { together.items ≡ [] }
-    requires room { vec_len pairs ≤ vec_capacity together }
-    ensures { WorksPhase apart.items pairs.items result.items }
+    requires pool { vec_len jobs ≤ pool }
+    requires order { IsRising (map (λ j. j.io.call) (calls_in jobs.items)) }
+    ensures { calls_in result.items ≡ map call_finished (calls_in jobs.items) }
 {
-    let apart = run_pool(rt, pool, apart, slice, gate);
-    pair_all(apart, pairs, &mut together);
-    together
+    run_pool(rt, pool, jobs, slice, gate)
 }
 
-/// Works the jobs to their ends in two phases, each by a pool in slices of `slice` periods: the uplink halves of all calls,
-/// then, in this thread, each call of a bridge hears its partner's frames, then the downlink halves of all calls.
+/// Works the jobs of these calls to their ends in two phases, each by a pool in slices of `slice` periods: the uplink halves
+/// of all calls, then, in this thread, each call of a bridge hears its partner's frames, then the downlink halves of all
+/// calls. In each phase the calls stand in rising order of their numbers.
 pub(crate) fn work_phases<R: Threads + Wait + Sync, G: Gate + Sync>(
     rt: &R,
+    numbers: &[u32],
     jobs: Vec<Job>,
     room: PhasesRoom,
     slice: u32,
     gate: &G,
 ) -> Vec<Job>
     requires slice { 1 ≤ slice }
+    requires groups { AreGroups 4294967295 (groups_from jobs.items) }
+    requires live { AreLive numbers.now (groups_from jobs.items) }
     requires fresh { All (IsFresh room.periods) jobs.items }
-    requires room { HasPhases (sizes (map is_pair_job jobs.items)) room.periods room }
+    requires room { HasPhases (length numbers.now) room.periods room }
     ensures { result.items ≡ map finished jobs.items }
 {
     let PhasesRoom {
         periods,
-        mut first,
-        mut second,
+        first,
+        second,
+        mut slots,
+        mut apart,
+        mut worked,
+        mut partners,
         frames,
-        jobs: mut worked,
+        mut parties,
+        jobs: mut done,
     } = room;
-    begin_all(jobs, &mut first.apart, &mut first.pairs);
-    let PhaseRoom {
-        pool,
-        apart,
-        pairs,
-        together,
-    } = first;
-    let together = work_phase(rt, pool, apart, pairs, together, slice, gate);
-    meet_all(
-        together,
-        frames,
-        periods,
-        &mut second.apart,
-        &mut second.pairs,
-    );
-    let PhaseRoom {
-        pool,
-        apart,
-        pairs,
-        together,
-    } = second;
-    let together = work_phase(rt, pool, apart, pairs, together, slice, gate);
-    end_all(together, &mut worked);
-    worked
+    spread(jobs, numbers, &mut slots, &mut partners, &mut parties);
+    take_all(slots, &mut apart);
+    let mut told = work_phase(rt, first, apart, slice, gate);
+    meet_all(&mut told, &partners, frames, periods);
+    let ran = work_phase(rt, second, told, slice, gate);
+    seat_all(ran, &mut worked);
+    gather(&mut worked, numbers, parties, &mut done);
+    done
 }

@@ -173,7 +173,9 @@ impl Round {
             room,
             mut ends,
         } = self;
-        let (jobs, seats) = work_jobs(rt, alloc, &entries, seats, jobs, room, slice, gate);
+        let (jobs, seats) = work_jobs(
+            rt, alloc, &numbers, &entries, seats, jobs, room, slice, gate,
+        );
         list_ends(&seats, start, &mut ends);
         Worked {
             end,

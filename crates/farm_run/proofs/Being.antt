@@ -77,7 +77,7 @@ ordered (o ∷ os) calls levels =
     ((calls 0 o (omega arith), levels 0 o (omega arith)), ordered os (λ k d l. calls (suc k) d (omega arith)) (λ k d l. levels (suc k) d (omega arith)))
 
 named : (c : ℕ) (x : Result Act Refusal) → IfOk x IsInRange → is_this c (opened_by x) ≡ true → IsCallNumber c
-named c (Ok (act.Opened m)) h e = subst IsCallNumber (sym (eqb-true c m e)) h
+named c (Ok (act.Opened m law)) h e = subst IsCallNumber (sym (eqb-true c m e)) h
 named c (Ok (act.Closed m p)) h e = cc
 named c (Ok (act.Bridged a b)) h e = cc
 named c (Ok (act.Unbridged a b)) h e = cc

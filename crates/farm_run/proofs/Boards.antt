@@ -128,12 +128,12 @@ module _ (failed : List Line) where
 
   -- no line of a call that the order opens is listed
   abbrev IsNew : Act → Type 0
-  IsNew (act.Opened n) = (s : Side) → is_listed failed n s ≡ false
+  IsNew (act.Opened n law) = (s : Side) → is_listed failed n s ≡ false
   IsNew _ = Unit {0}
 
   after_knows : (a : Act) (f : ℕ → Option Call) → IsNew a → ((c : ℕ) → IfSome (f c) (Knows c)) → (c : ℕ) → IfSome (calls_after a f c) (Knows c)
-  after_knows (act.Opened n) f new h c =
-      either c (n == c) (Some (new_call n)) (f c)
+  after_knows (act.Opened n law) f new h c =
+      either c (n == c) (Some (new_call n law)) (f c)
       (λ e. let same = eqb-true n c e in (sym (new Down) ∙ ap (λ (d : ℕ). is_listed failed d Down) same, sym (new Out) ∙ ap (λ (d : ℕ). is_listed failed d Out) same)) (h c)
   after_knows (act.Closed n p) f new h c = either c (n == c) None (freed p parted f c) (λ e. tt) (freed_knows p parted f (λ d x k. k) h c)
   after_knows (act.Bridged a b) f new h c = changed_knows a joined (changed b joined f) (λ d x k. k) (changed_knows b joined f (λ d x k. k) h) c
@@ -162,7 +162,7 @@ knows_more s n o groups after failed a e finds calls k = record {
 }
   where
     new : (a : Act) → Finds a (opened_now s) (open_now s) (partner_now s) → IsNew failed a
-    new (act.Opened m) f = λ side. is_false (is_listed failed m side) (λ l. true≢false (sym (k.opened m side l) ∙ f.1))
+    new (act.Opened m law) f = λ side. is_false (is_listed failed m side) (λ l. true≢false (sym (k.opened m side l) ∙ f.1))
     new (act.Closed m p) f = tt
     new (act.Bridged m p) f = tt
     new (act.Unbridged m p) f = tt

@@ -18,12 +18,13 @@ use Rattle.switchboard.specs.Ends.{start_of}
 use Rattle.switchboard.specs.State.{State, EndBefore, told_in, first_stamp, last_stamp, orders_of}
 use Rattle.switchboard.specs.Open.{open_now, partner_now}
 use Rattle.switchboard.specs.Runs.{TellsEnds}
+use Rattle.call_leg.specs.Who.{Who}
 use Rattle.farm_rounds.specs.declared.call.Group.{Group}
 use Rattle.farm_rounds.specs.Calls.{call_in, partner_in}
 use Rattle.farm_rounds.specs.Numbers.{is_among}
 use Rattle.farm_rounds.specs.Memory.{FarmMemory}
 use Rattle.farm_rounds.specs.Histories.{CallHistory, CallStands, GroupsStand}
-use Rattle.farm_output.specs.Run.{Run, whole_in, done_in, periods_to, periods_in, end_in}
+use Rattle.farm_output.specs.Run.{Run, whole_in, done_in, periods_to, periods_in, end_in, who_in, law_in}
 use Rattle.farm_output.specs.Now.{IsSoFar, settings_now}
 use Rattle.farm_output.specs.Facts.{report_of}
 use Rattle.farm_report.specs.View.{ReportView}
@@ -60,8 +61,8 @@ none_worked r c = by (end_in r c) (start_of (done_in r) c)
     by : (e s : ℕ) → min 0 e - s ≡ 0
     by e s = omega arith
 
-no_octets : (c : ℕ) → down_octets c [] ≡ []
-no_octets c = by (octets_of []) (length-octets_of [] 0 refl)
+no_octets : (who : Who) → down_octets who [] ≡ []
+no_octets who = by (octets_of []) (length-octets_of [] 0 refl)
   where
     by : (xs : List ℕ) → length xs ≡ 0 → xs ≡ []
     by [] e = refl
@@ -78,11 +79,11 @@ lines_at_first r os periods lines last run = record {
 pub written_first : (r : Run) (from : ℕ) (lines : ℕ → Side → LineState) → WrittenFrom r from 0 (is_listed []) lines lines
 written_first r from lines = record { out = λ c i. none (160 * worked_to r from c) (lines c Out) _ (out c); down = λ c i. none (40 * worked_to r from c) (lines c Down) _ (down c) }
   where
-    out : (c : ℕ) → out_line c (periods_to r c (worked_to r 0 c)) ≡ []
-    out c = ap (λ (k : ℕ). out_line c (periods_to r c k)) (none_worked r c)
+    out : (c : ℕ) → out_line (who_in r c) (periods_to r c (worked_to r 0 c)) ≡ []
+    out c = ap (λ (k : ℕ). out_line (who_in r c) (periods_to r c k)) (none_worked r c)
 
-    down : (c : ℕ) → down_octets c (periods_to r c (worked_to r 0 c)) ≡ []
-    down c = ap (λ (k : ℕ). down_octets c (periods_to r c k)) (none_worked r c) ∙ no_octets c
+    down : (c : ℕ) → down_octets (who_in r c) (periods_to r c (worked_to r 0 c)) ≡ []
+    down c = ap (λ (k : ℕ). down_octets (who_in r c) (periods_to r c k)) (none_worked r c) ∙ no_octets (who_in r c)
 
     none : (k : ℕ) (l : LineState) (octets : List ℕ) → octets ≡ [] → Appends l.written l.written (drop k octets)
     none k l octets e = subst (Appends l.written l.written) (sym (ap (drop k) e ∙ drop_all k [] (omega arith))) (Appends-nil l.written)
@@ -164,8 +165,8 @@ module _ (r : Run) (t u : ℕ) (b : State) (groups : List Group) (last : Standin
 
   same_none : (c : ℕ) → histories_at r b.done t c ≡ histories_at r b.done u c
   same_none c =
-      ap (λ (x : Bool). past_if x (periods_to r c (t - start_of b.done c)) (settings_now r b.done t c)) (shut c)
-      ∙ sym (ap (λ (x : Bool). past_if x (periods_to r c (u - start_of b.done c)) (settings_now r b.done u c)) (shut_then c))
+      ap (λ (x : Bool). past_if x (law_in r c) (periods_to r c (t - start_of b.done c)) (settings_now r b.done t c)) (shut c)
+      ∙ sym (ap (λ (x : Bool). past_if x (law_in r c) (periods_to r c (u - start_of b.done c)) (settings_now r b.done u c)) (shut_then c))
 
   earlier : (c : ℕ) → IsReadWhole r u c → IsReadWhole r t c
   earlier c (inl q) = inl (omega arith)
@@ -188,8 +189,8 @@ module _ (r : Run) (t u : ℕ) (b : State) (groups : List Group) (last : Standin
 
   pub written_on : (from : ℕ) (listed : ℕ → Side → Bool) → WrittenFrom r from t listed first now → WrittenFrom r from u listed first now
   written_on from listed wrote = record {
-    out = λ c i. subst (λ (k : ℕ). IsWritten (listed c Out) (first c Out) (now c Out) (drop (160 * worked_to r from c) (out_line c (periods_to r c k)))) (sym (idle c i)) (wrote.out c i);
-    down = λ c i. subst (λ (k : ℕ). IsWritten (listed c Down) (first c Down) (now c Down) (drop (40 * worked_to r from c) (down_octets c (periods_to r c k)))) (sym (idle c i)) (wrote.down c i);
+    out = λ c i. subst (λ (k : ℕ). IsWritten (listed c Out) (first c Out) (now c Out) (drop (160 * worked_to r from c) (out_line (who_in r c) (periods_to r c k)))) (sym (idle c i)) (wrote.out c i);
+    down = λ c i. subst (λ (k : ℕ). IsWritten (listed c Down) (first c Down) (now c Down) (drop (40 * worked_to r from c) (down_octets (who_in r c) (periods_to r c k)))) (sym (idle c i)) (wrote.down c i);
   }
 
 -- no number is among none
@@ -210,11 +211,11 @@ rest_of false now end k line e h = h ∙ ap Some (append-nil (drop k line))
 rest_of true now end k line e h = cc
 
 -- **From period 0 on is all that was written.**
-pub all_out : (r : Run) (t c : ℕ) (listed : ℕ → Side → Bool) (first now : ℕ → Side → LineState) → WrittenFrom r 0 t listed first now → IsOpened r c → IsWritten (listed c Out) (first c Out) (now c Out) (out_line c (periods_to r c (worked_to r t c)))
-all_out r t c listed first now wrote i = subst (λ (k : ℕ). IsWritten (listed c Out) (first c Out) (now c Out) (drop (160 * k) (out_line c (periods_to r c (worked_to r t c))))) (none_worked r c) (wrote.out c i)
+pub all_out : (r : Run) (t c : ℕ) (listed : ℕ → Side → Bool) (first now : ℕ → Side → LineState) → WrittenFrom r 0 t listed first now → IsOpened r c → IsWritten (listed c Out) (first c Out) (now c Out) (out_line (who_in r c) (periods_to r c (worked_to r t c)))
+all_out r t c listed first now wrote i = subst (λ (k : ℕ). IsWritten (listed c Out) (first c Out) (now c Out) (drop (160 * k) (out_line (who_in r c) (periods_to r c (worked_to r t c))))) (none_worked r c) (wrote.out c i)
 
-pub all_down : (r : Run) (t c : ℕ) (listed : ℕ → Side → Bool) (first now : ℕ → Side → LineState) → WrittenFrom r 0 t listed first now → IsOpened r c → IsWritten (listed c Down) (first c Down) (now c Down) (down_octets c (periods_to r c (worked_to r t c)))
-all_down r t c listed first now wrote i = subst (λ (k : ℕ). IsWritten (listed c Down) (first c Down) (now c Down) (drop (40 * k) (down_octets c (periods_to r c (worked_to r t c))))) (none_worked r c) (wrote.down c i)
+pub all_down : (r : Run) (t c : ℕ) (listed : ℕ → Side → Bool) (first now : ℕ → Side → LineState) → WrittenFrom r 0 t listed first now → IsOpened r c → IsWritten (listed c Down) (first c Down) (now c Down) (down_octets (who_in r c) (periods_to r c (worked_to r t c)))
+all_down r t c listed first now wrote i = subst (λ (k : ℕ). IsWritten (listed c Down) (first c Down) (now c Down) (drop (40 * k) (down_octets (who_in r c) (periods_to r c (worked_to r t c))))) (none_worked r c) (wrote.down c i)
 
 -- **At the run's end it has left on the lines what it gives.**
 pub leaves_all : (r : Run) (b : State) (groups : List Group) (failed : List Line) (first now : ℕ → Side → LineState) → IsAtClock r r.periods b groups (standing b failed now) first now →
@@ -223,8 +224,8 @@ leaves_all r b groups failed first now at wrote =
     let all : (c : ℕ) → worked_to r r.periods c ≡ end_in r c - start_of (done_in r) c = λ c. worked_all r r.periods b.done b.left c at.follows.so_far in
     let long : (c : ℕ) → worked_to r r.periods c ≡ length (periods_in r c) = λ c. all c ∙ sym (length-periods_to r c (end_in r c - start_of (done_in r) c)) in
     record {
-      out = λ c i. subst (λ (k : ℕ). IsWritten (is_listed failed c Out) (first c Out) (now c Out) (out_line c (periods_to r c k))) (all c) (all_out r r.periods c (is_listed failed) first now wrote i);
-      down = λ c i. subst (λ (k : ℕ). IsWritten (is_listed failed c Down) (first c Down) (now c Down) (down_octets c (periods_to r c k))) (all c) (all_down r r.periods c (is_listed failed) first now wrote i);
+      out = λ c i. subst (λ (k : ℕ). IsWritten (is_listed failed c Out) (first c Out) (now c Out) (out_line (who_in r c) (periods_to r c k))) (all c) (all_out r r.periods c (is_listed failed) first now wrote i);
+      down = λ c i. subst (λ (k : ℕ). IsWritten (is_listed failed c Down) (first c Down) (now c Down) (down_octets (who_in r c) (periods_to r c k))) (all c) (all_down r r.periods c (is_listed failed) first now wrote i);
       up_read = λ c i f q. rest_of (is_listed failed c Up) (now c Up) (now c Up) (40 * worked_to r r.periods c) (r.lines c).up f (at.lines.up_read c i (inr q)) ∙ ap (λ (k : ℕ). Some (drop (40 * k) (r.lines c).up)) (long c);
       pcm_read = λ c i f q. rest_of (is_listed failed c Pcm) (now c Pcm) (now c Pcm) (160 * worked_to r r.periods c) (r.lines c).pcm f (at.lines.pcm_read c i (inr q)) ∙ ap (λ (k : ℕ). Some (drop (160 * k) (r.lines c).pcm)) (long c);
       others = at.lines.others;

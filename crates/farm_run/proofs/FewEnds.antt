@@ -107,7 +107,7 @@ shut_more s n noted ends h o told is c t =
 
 -- **An order closes an open call, so its end isn't noted.**
 pub closes_once : (s : State) (noted : List CallEnd) (a : Act) → AreShut s noted → Finds a (opened_now s) (open_now s) (partner_now s) → ClosesOnce a noted
-closes_once s noted (act.Opened n) h f = tt
+closes_once s noted (act.Opened n law) h f = tt
 closes_once s noted (act.Closed n p) h f = none_noted s noted n h f.0
 closes_once s noted (act.Bridged a b) h f = tt
 closes_once s noted (act.Unbridged a b) h f = tt
@@ -117,7 +117,7 @@ closes_once s noted (act.DtxSet n mode) h f = tt
 -- **After it all whose end is noted are open no more.**
 pub shut_ordered : (s n : State) (noted : List CallEnd) (a : Act) (period : ℕ) → AreShut s noted → Finds a (opened_now s) (open_now s) (partner_now s) →
     ((c : ℕ) → opened_now n c ≡ opened_after a (opened_now s) c) → ((c : ℕ) → open_now n c ≡ open_after a (open_now s) c) → AreShut n (ends_noted a period noted)
-shut_ordered s n noted (act.Opened m) period h f op is c t =
+shut_ordered s n noted (act.Opened m law) period h f op is c t =
     let p = h c t in
     let other : (c == m) ≡ false = is_false (c == m) (λ q. true≢false (sym (ap (opened_now s) (sym (eqb-true c m q)) ∙ p.0) ∙ f.1)) in
     (op c ∙ ap (λ (x : Bool). x || opened_now s c) other ∙ p.0, is c ∙ ap (λ (x : Bool). x || open_now s c) other ∙ p.1)

@@ -3,6 +3,7 @@ use Rattle.std.proofs.Common.{◌≡◌, refl, sym, ap, ◌∙◌, subst, ℕ, �
 use Rattle.std.specs.Prelude.{if◌then◌else◌, ◌==◌, is_some, option_map, IfSome, Result, Ok, Err}
 use Rattle.std.proofs.Math.Seq.{drop-append_seam}
 use Rattle.std.proofs.lemmas.Bool.{eqb-true, eq-eqb, le-ltb}
+use Rattle.trau_alaw.specs.declared.Law.{Law}
 use Rattle.trau_orders.specs.declared.order.Order.{Order}
 use Rattle.trau_orders.specs.Lists.{AreOrders}
 use Rattle.switchboard.specs.declared.act.Act.{Act}
@@ -14,7 +15,7 @@ use Rattle.switchboard.specs.Runs.{IsRun, TellsEnds}
 use Rattle.switchboard.specs.Ends.{start_of}
 use Rattle.switchboard.specs.State.{State, gone_in, first_stamp, orders_of, due, done_by, turned, reply_of}
 use Rattle.switchboard.specs.Stands.{AreRising}
-use Rattle.switchboard.specs.Open.{opened_now, open_now, partner_now, open_after, Finds}
+use Rattle.switchboard.specs.Open.{opened_now, open_now, partner_now, open_after, Finds, law_now, law_after}
 use Rattle.switchboard.proofs.Laws.{left_rising}
 use Rattle.farm_rounds.specs.declared.call.Group.{Group}
 use Rattle.farm_rounds.specs.Acts.{freed}
@@ -22,14 +23,14 @@ use Rattle.farm_rounds.specs.Histories.{CallHistory, CallStands, GroupsStand, se
 use Rattle.farm_rounds.specs.Calls.{call_in, partner_in}
 use Rattle.call_leg.specs.Periods.{CallPeriod}
 use Rattle.call_leg.specs.Settings.{Settings, new_settings, with_level, with_mode, with_bridge, without_bridge}
-use Rattle.farm_output.specs.Run.{Run, whole_in, periods_to}
+use Rattle.farm_output.specs.Run.{Run, whole_in, periods_to, law_in}
 use Rattle.farm_output.specs.Now.{IsSoFar, settings_now, changed_by}
 use Rattle.farm_output.proofs.Standing.{open_facts, closed_kept, gone_is, gone_kept, opened_cases}
 use Rattle.farm_output.proofs.Settling.{start_is}
 use Rattle.farm_output.proofs.Showing.{opens}
 use Rattle.farm_output.proofs.SoFar.{so_far_more}
 use Rattle.farm_output.proofs.Acting.{settings_ordered}
-use Rattle.farm_output.proofs.Going.{none_waits}
+use Rattle.farm_output.proofs.Going.{none_waits, law_run}
 use Rattle.farm_run.specs.Match.{past_if, histories_at, Follows}
 use Rattle.farm_run.proofs.Matching.{cases_eq, open_same}
 
@@ -123,30 +124,30 @@ module _ (whole : ℕ → ℕ) (t : ℕ) (s n : State) (d : Done) (told : (c : �
 -- ---- what each call has had
 
 -- what an order other than the one that opens it makes of a call's history, by whether it is open then
-history_by : (a : Act) (f : ℕ → Bool) (ts : ℕ → List CallPeriod) (now : ℕ → Settings) (c : ℕ) → ((n : ℕ) → a ≡ act.Opened n → n ≡ c → ⊥) →
-    histories_after a (λ c. past_if (f c) (ts c) (now c)) c ≡ past_if (open_after a f c) (ts c) (changed_by c (Ok a) (now c))
-history_by (act.Opened n) f ts now c other = elim (cases_eq n c) [
-  | inl e ↦ absurd (other n refl e)
+history_by : (a : Act) (f : ℕ → Bool) (l : ℕ → Law) (ts : ℕ → List CallPeriod) (now : ℕ → Settings) (c : ℕ) → ((n : ℕ) (law : Law) → a ≡ act.Opened n law → n ≡ c → ⊥) →
+    histories_after a (λ c. past_if (f c) (l c) (ts c) (now c)) c ≡ past_if (open_after a f c) (l c) (ts c) (changed_by c (Ok a) (now c))
+history_by (act.Opened n law) f l ts now c other = elim (cases_eq n c) [
+  | inl e ↦ absurd (other n law refl e)
   | inr q ↦ by (n == c) (c == n) (f c) q.0 q.1
 ]
   where
     by : (s t o : Bool) → s ≡ false → t ≡ false →
-        (if s then Some (record { periods = []; now = new_settings }) else past_if o (ts c) (now c)) ≡ past_if (t || o) (ts c) (if t then new_settings else now c)
+        (if s then Some (record { law = law; periods = []; now = new_settings }) else past_if o (l c) (ts c) (now c)) ≡ past_if (t || o) (l c) (ts c) (if t then new_settings else now c)
     by false false o p q = refl
     by true t o p q = cc
     by false true o p q = cc
-history_by (act.Closed n p) f ts now c other = elim (cases_eq n c) [
+history_by (act.Closed n p) f l ts now c other = elim (cases_eq n c) [
   | inl e ↦ same (n == c) (c == n) (eq-eqb n c e) (eq-eqb c n (sym e)) _
   | inr q ↦ apart (n == c) (c == n) q.0 q.1 p
 ]
   where
     same : (s t : Bool) → s ≡ true → t ≡ true → (x : Option CallHistory) →
-        (if s then None else x) ≡ past_if (if t then false else f c) (ts c) (if t || is_this c p then without_bridge (now c) else now c)
+        (if s then None else x) ≡ past_if (if t then false else f c) (l c) (ts c) (if t || is_this c p then without_bridge (now c) else now c)
     same true true q r x = refl
     same false t q r x = cc
     same true false q r x = cc
 
-    freed_by : (s t o : Bool) → s ≡ t → (if s then option_map (set_now without_bridge) (past_if o (ts c) (now c)) else past_if o (ts c) (now c)) ≡ past_if o (ts c) (if t then without_bridge (now c) else now c)
+    freed_by : (s t o : Bool) → s ≡ t → (if s then option_map (set_now without_bridge) (past_if o (l c) (ts c) (now c)) else past_if o (l c) (ts c) (now c)) ≡ past_if o (l c) (ts c) (if t then without_bridge (now c) else now c)
     freed_by true true true q = refl
     freed_by true true false q = refl
     freed_by false false true q = refl
@@ -158,27 +159,27 @@ history_by (act.Closed n p) f ts now c other = elim (cases_eq n c) [
     test m = elim (cases_eq m c) [ inl e ↦ eq-eqb m c e ∙ sym (eq-eqb c m (sym e)) | inr q ↦ q.0 ∙ sym q.1 ]
 
     apart : (s t : Bool) → s ≡ false → t ≡ false → (p : Option ℕ) →
-        (if s then None else freed p (set_now without_bridge) (λ c. past_if (f c) (ts c) (now c)) c) ≡ past_if (if t then false else f c) (ts c) (if t || is_this c p then without_bridge (now c) else now c)
+        (if s then None else freed p (set_now without_bridge) (λ c. past_if (f c) (l c) (ts c) (now c)) c) ≡ past_if (if t then false else f c) (l c) (ts c) (if t || is_this c p then without_bridge (now c) else now c)
     apart false false q r None = freed_by false false (f c) refl
     apart false false q r (Some m) = freed_by (m == c) (c == m) (f c) (test m)
     apart true t q r p = cc
     apart false true q r p = cc
-history_by (act.Bridged a b) f ts now c other = by (a == c) (c == a) (b == c) (c == b) (f c) (test a) (test b)
+history_by (act.Bridged a b) f l ts now c other = by (a == c) (c == a) (b == c) (c == b) (f c) (test a) (test b)
   where
     test : (m : ℕ) → (m == c) ≡ (c == m)
     test m = elim (cases_eq m c) [ inl e ↦ eq-eqb m c e ∙ sym (eq-eqb c m (sym e)) | inr q ↦ q.0 ∙ sym q.1 ]
 
-    twice : (o : Bool) → option_map (set_now with_bridge) (option_map (set_now with_bridge) (past_if o (ts c) (now c))) ≡ past_if o (ts c) (with_bridge (now c))
+    twice : (o : Bool) → option_map (set_now with_bridge) (option_map (set_now with_bridge) (past_if o (l c) (ts c) (now c))) ≡ past_if o (l c) (ts c) (with_bridge (now c))
     twice true = refl
     twice false = refl
 
-    once : (o : Bool) → option_map (set_now with_bridge) (past_if o (ts c) (now c)) ≡ past_if o (ts c) (with_bridge (now c))
+    once : (o : Bool) → option_map (set_now with_bridge) (past_if o (l c) (ts c) (now c)) ≡ past_if o (l c) (ts c) (with_bridge (now c))
     once true = refl
     once false = refl
 
     by : (s t u v o : Bool) → s ≡ t → u ≡ v →
-        (if s then option_map (set_now with_bridge) (if u then option_map (set_now with_bridge) (past_if o (ts c) (now c)) else past_if o (ts c) (now c)) else if u then option_map (set_now with_bridge) (past_if o (ts c) (now c)) else past_if o (ts c) (now c))
-        ≡ past_if o (ts c) (if t || v then with_bridge (now c) else now c)
+        (if s then option_map (set_now with_bridge) (if u then option_map (set_now with_bridge) (past_if o (l c) (ts c) (now c)) else past_if o (l c) (ts c) (now c)) else if u then option_map (set_now with_bridge) (past_if o (l c) (ts c) (now c)) else past_if o (l c) (ts c) (now c))
+        ≡ past_if o (l c) (ts c) (if t || v then with_bridge (now c) else now c)
     by true true true true o q r = twice o
     by true true false false o q r = once o
     by false false true true o q r = once o
@@ -189,22 +190,22 @@ history_by (act.Bridged a b) f ts now c other = by (a == c) (c == a) (b == c) (c
     by true true false true o q r = cc
     by false false true false o q r = cc
     by false false false true o q r = cc
-history_by (act.Unbridged a b) f ts now c other = by (a == c) (c == a) (b == c) (c == b) (f c) (test a) (test b)
+history_by (act.Unbridged a b) f l ts now c other = by (a == c) (c == a) (b == c) (c == b) (f c) (test a) (test b)
   where
     test : (m : ℕ) → (m == c) ≡ (c == m)
     test m = elim (cases_eq m c) [ inl e ↦ eq-eqb m c e ∙ sym (eq-eqb c m (sym e)) | inr q ↦ q.0 ∙ sym q.1 ]
 
-    twice : (o : Bool) → option_map (set_now without_bridge) (option_map (set_now without_bridge) (past_if o (ts c) (now c))) ≡ past_if o (ts c) (without_bridge (now c))
+    twice : (o : Bool) → option_map (set_now without_bridge) (option_map (set_now without_bridge) (past_if o (l c) (ts c) (now c))) ≡ past_if o (l c) (ts c) (without_bridge (now c))
     twice true = refl
     twice false = refl
 
-    once : (o : Bool) → option_map (set_now without_bridge) (past_if o (ts c) (now c)) ≡ past_if o (ts c) (without_bridge (now c))
+    once : (o : Bool) → option_map (set_now without_bridge) (past_if o (l c) (ts c) (now c)) ≡ past_if o (l c) (ts c) (without_bridge (now c))
     once true = refl
     once false = refl
 
     by : (s t u v o : Bool) → s ≡ t → u ≡ v →
-        (if s then option_map (set_now without_bridge) (if u then option_map (set_now without_bridge) (past_if o (ts c) (now c)) else past_if o (ts c) (now c)) else if u then option_map (set_now without_bridge) (past_if o (ts c) (now c)) else past_if o (ts c) (now c))
-        ≡ past_if o (ts c) (if t || v then without_bridge (now c) else now c)
+        (if s then option_map (set_now without_bridge) (if u then option_map (set_now without_bridge) (past_if o (l c) (ts c) (now c)) else past_if o (l c) (ts c) (now c)) else if u then option_map (set_now without_bridge) (past_if o (l c) (ts c) (now c)) else past_if o (l c) (ts c) (now c))
+        ≡ past_if o (l c) (ts c) (if t || v then without_bridge (now c) else now c)
     by true true true true o q r = twice o
     by true true false false o q r = once o
     by false false true true o q r = once o
@@ -215,18 +216,18 @@ history_by (act.Unbridged a b) f ts now c other = by (a == c) (c == a) (b == c) 
     by true true false true o q r = cc
     by false false true false o q r = cc
     by false false false true o q r = cc
-history_by (act.LevelSet n level) f ts now c other = by (n == c) (c == n) (f c) (elim (cases_eq n c) [ inl e ↦ eq-eqb n c e ∙ sym (eq-eqb c n (sym e)) | inr q ↦ q.0 ∙ sym q.1 ])
+history_by (act.LevelSet n level) f l ts now c other = by (n == c) (c == n) (f c) (elim (cases_eq n c) [ inl e ↦ eq-eqb n c e ∙ sym (eq-eqb c n (sym e)) | inr q ↦ q.0 ∙ sym q.1 ])
   where
-    by : (s t o : Bool) → s ≡ t → (if s then option_map (set_now (with_level level)) (past_if o (ts c) (now c)) else past_if o (ts c) (now c)) ≡ past_if o (ts c) (if t then with_level level (now c) else now c)
+    by : (s t o : Bool) → s ≡ t → (if s then option_map (set_now (with_level level)) (past_if o (l c) (ts c) (now c)) else past_if o (l c) (ts c) (now c)) ≡ past_if o (l c) (ts c) (if t then with_level level (now c) else now c)
     by true true true q = refl
     by true true false q = refl
     by false false true q = refl
     by false false false q = refl
     by true false o q = cc
     by false true o q = cc
-history_by (act.DtxSet n mode) f ts now c other = by (n == c) (c == n) (f c) (elim (cases_eq n c) [ inl e ↦ eq-eqb n c e ∙ sym (eq-eqb c n (sym e)) | inr q ↦ q.0 ∙ sym q.1 ])
+history_by (act.DtxSet n mode) f l ts now c other = by (n == c) (c == n) (f c) (elim (cases_eq n c) [ inl e ↦ eq-eqb n c e ∙ sym (eq-eqb c n (sym e)) | inr q ↦ q.0 ∙ sym q.1 ])
   where
-    by : (s t o : Bool) → s ≡ t → (if s then option_map (set_now (with_mode mode)) (past_if o (ts c) (now c)) else past_if o (ts c) (now c)) ≡ past_if o (ts c) (if t then with_mode mode (now c) else now c)
+    by : (s t o : Bool) → s ≡ t → (if s then option_map (set_now (with_mode mode)) (past_if o (l c) (ts c) (now c)) else past_if o (l c) (ts c) (now c)) ≡ past_if o (l c) (ts c) (if t then with_mode mode (now c) else now c)
     by true true true q = refl
     by true true false q = refl
     by false false true q = refl
@@ -237,27 +238,27 @@ history_by (act.DtxSet n mode) f ts now c other = by (n == c) (c == n) (f c) (el
 pub no : (b : Bool) → b ≡ false → b ≡ true → ⊥
 no b p q = cc
 
-past_same : (b b' : Bool) (ts ts' : List CallPeriod) (now now' : Settings) → b ≡ b' → (b' ≡ true → ts ≡ ts') → now ≡ now' → past_if b ts now ≡ past_if b' ts' now'
-past_same true true ts ts' now now' q e f = ap (λ ts. past_if true ts now) (e refl) ∙ ap (past_if true ts') f
-past_same false false ts ts' now now' q e f = refl
-past_same true false ts ts' now now' q e f = cc
-past_same false true ts ts' now now' q e f = cc
+past_same : (b b' : Bool) (l : Law) (ts ts' : List CallPeriod) (now now' : Settings) → b ≡ b' → (b' ≡ true → ts ≡ ts') → now ≡ now' → past_if b l ts now ≡ past_if b' l ts' now'
+past_same true true l ts ts' now now' q e f = ap (λ ts. past_if true l ts now) (e refl) ∙ ap (past_if true l ts') f
+past_same false false l ts ts' now now' q e f = refl
+past_same true false l ts ts' now now' q e f = cc
+past_same false true l ts ts' now now' q e f = cc
 
 -- the groups stand for histories that are the same for each call
 stand_same : (h k : ℕ → Option CallHistory) (groups : List Group) → ((c : ℕ) → h c ≡ k c) → GroupsStand h groups → GroupsStand k groups
 stand_same h k groups e g = λ c. subst (λ x. CallStands c x (call_in groups c) (partner_in groups c)) (e c) (g c)
 
 -- the act that opens a call, or another one
-cases_act : (a : Act) (c : ℕ) → (a ≡ act.Opened c) ⊎ ((n : ℕ) → a ≡ act.Opened n → n ≡ c → ⊥)
-cases_act (act.Opened n) c = elim (cases_eq n c) [ inl e ↦ inl (ap act.Opened e) | inr q ↦ inr (λ m e f. let g : (n == c) ≡ true = eq-eqb n c (number n m e ∙ f) in cc) ]
+cases_act : (a : Act) (c : ℕ) → ((law : Law) × (a ≡ act.Opened c law)) ⊎ ((n : ℕ) (law : Law) → a ≡ act.Opened n law → n ≡ c → ⊥)
+cases_act (act.Opened n law) c = elim (cases_eq n c) [ inl e ↦ inl (law, ap (λ n. act.Opened n law) e) | inr q ↦ inr (λ m other e f. let g : (n == c) ≡ true = eq-eqb n c (number n m law other e ∙ f) in cc) ]
   where
-    number : (n m : ℕ) → act.Opened n ≡ act.Opened m → n ≡ m
-    number n m e = cc
-cases_act (act.Closed n p) c = inr (λ m e f. cc)
-cases_act (act.Bridged a b) c = inr (λ m e f. cc)
-cases_act (act.Unbridged a b) c = inr (λ m e f. cc)
-cases_act (act.LevelSet n level) c = inr (λ m e f. cc)
-cases_act (act.DtxSet n mode) c = inr (λ m e f. cc)
+    number : (n m : ℕ) (l k : Law) → act.Opened n l ≡ act.Opened m k → n ≡ m
+    number n m l k e = cc
+cases_act (act.Closed n p) c = inr (λ m law e f. cc)
+cases_act (act.Bridged a b) c = inr (λ m law e f. cc)
+cases_act (act.Unbridged a b) c = inr (λ m law e f. cc)
+cases_act (act.LevelSet n level) c = inr (λ m law e f. cc)
+cases_act (act.DtxSet n mode) c = inr (λ m law e f. cc)
 
 module _ (r : Run) (t : ℕ) (s n : State) (reply : Reply) (groups : List Group) (due : Due s t reply n) (under : t < r.periods) (run : IsRun (whole_in r) n.done) (f : Follows r t s groups) where
   abbrev d : Done
@@ -282,58 +283,60 @@ module _ (r : Run) (t : ℕ) (s n : State) (reply : Reply) (groups : List Group)
   settings_is c = ap (λ ds. settings_now r ds t c) done_is ∙ settings_ordered r t s.done d due.rest c before due.stamp run_is
 
   -- a call that is open afterwards and wasn't opened by the order began where it did
-  start_kept : (c : ℕ) → (d.result ≡ Ok (act.Opened c) → ⊥) → is_open (gone_at (whole_in r) t n.done) n.done c ≡ true → start_of s.done c ≡ start_of n.done c
+  start_kept : (c : ℕ) → ((law : Law) → d.result ≡ Ok (act.Opened c law) → ⊥) → is_open (gone_at (whole_in r) t n.done) n.done c ≡ true → start_of s.done c ≡ start_of n.done c
   start_kept c other o =
       let p = open_facts (gone_at (whole_in r) t n.done) n.done c o in
       elim (opened_cases s.done (d ∷ []) c p.0 (sym (ap (opened_at c) done_is) ∙ p.1)) [
         | inl h ↦ start_is s.done c p.0 h ∙ sym (start_is n.done c p.0 p.1)
-        | inr h ↦ absurd (other (opens c p.0 due.order d.result h.1).0)
+        | inr h ↦ let o = (opens c p.0 due.order d.result h.1).0 in absurd (other o.0 o.1)
       ]
 
   -- **A refused order.**
   pub follows_same : (e : Refusal) → reply.result ≡ Err e → ((c : ℕ) → open_now n c ≡ open_now s c) → Follows r t n groups
   follows_same e refused same =
       let res : d.result ≡ Err e = sym due.result ∙ refused in
-      let never : (c : ℕ) → d.result ≡ Ok (act.Opened c) → ⊥ = λ c q. cc in
-      let tells : TellsEnds (whole_in r) t n = tells_more (whole_in r) t s n d told_is done_is f.tells (λ c u h. absurd (never c (opens c u due.order d.result h).0)) in
+      let never : (c : ℕ) (law : Law) → d.result ≡ Ok (act.Opened c law) → ⊥ = λ c law q. cc in
+      let tells : TellsEnds (whole_in r) t n = tells_more (whole_in r) t s n d told_is done_is f.tells (λ c u h. let o = (opens c u due.order d.result h).0 in absurd (never c o.0 o.1)) in
       record {
         so_far = far;
         tells = tells;
         stands = stand_same (histories_at r s.done t) (histories_at r n.done t) groups
-            (λ c. past_same _ _ _ _ _ _ (sym (open_told (whole_in r) t s f.tells c) ∙ sym (same c) ∙ open_told (whole_in r) t n tells c)
+            (λ c. past_same _ _ (law_in r c) _ _ _ _ (sym (open_told (whole_in r) t s f.tells c) ∙ sym (same c) ∙ open_told (whole_in r) t n tells c)
             (λ o. ap (λ b. periods_to r c (t - b)) (start_kept c (never c) o)) (ap (λ x. changed_by c x (settings_now r s.done t c)) (sym res) ∙ sym (settings_is c))) f.stands;
       }
 
   -- **An accepted order.**
-  module _ (a : Act) (accepted : reply.result ≡ Ok a) (finds : Finds a (opened_now s) (open_now s) (partner_now s)) (changes : (c : ℕ) → open_now n c ≡ open_after a (open_now s) c) where
+  module _ (a : Act) (accepted : reply.result ≡ Ok a) (finds : Finds a (opened_now s) (open_now s) (partner_now s)) (changes : (c : ℕ) → open_now n c ≡ open_after a (open_now s) c) (laws : (c : ℕ) → law_now n c ≡ law_after a (law_now s) c) where
     res : d.result ≡ Ok a
     res = sym due.result ∙ accepted
 
-    is_act : (c : ℕ) → d.result ≡ Ok (act.Opened c) → a ≡ act.Opened c
-    is_act c q = by a (act.Opened c) (sym res ∙ q)
+    is_act : (c : ℕ) (law : Law) → d.result ≡ Ok (act.Opened c law) → a ≡ act.Opened c law
+    is_act c law q = by a (act.Opened c law) (sym res ∙ q)
       where
         by : (x y : Act) → ◌≡◌ {A = Result Act Refusal} (Ok x) (Ok y) → x ≡ y
         by x y e = cc
 
-    opens_it : (c : ℕ) → a ≡ act.Opened c → open_now n c ≡ true
-    opens_it c q = changes c ∙ ap (λ x. open_after x (open_now s) c) q ∙ ap (λ b. b || open_now s c) (eq-eqb c c refl)
+    opens_it : (c : ℕ) (law : Law) → a ≡ act.Opened c law → open_now n c ≡ true
+    opens_it c law q = changes c ∙ ap (λ x. open_after x (open_now s) c) q ∙ ap (λ b. b || open_now s c) (eq-eqb c c refl)
 
     tells : TellsEnds (whole_in r) t n
     tells = tells_more (whole_in r) t s n d told_is done_is f.tells (λ c u h.
         let o = opens c u due.order d.result h in
         let e = due.stamp in
-        let g = open_facts (gone_in n) n.done c (opens_it c (is_act c o.0)) in
+        let g = open_facts (gone_in n) n.done c (opens_it c o.0.0 (is_act c o.0.0 o.0.1)) in
         (omega (arith, o.1, e), g.3))
 
     open_is : (c : ℕ) → open_after a (λ c. is_open (gone_at (whole_in r) t s.done) s.done c) c ≡ is_open (gone_at (whole_in r) t n.done) n.done c
     open_is c = sym (open_same a (open_now s) (λ c. is_open (gone_at (whole_in r) t s.done) s.done c) (open_told (whole_in r) t s f.tells) c) ∙ sym (changes c) ∙ open_told (whole_in r) t n tells c
 
     -- the call that it opens
-    begins : (c : ℕ) → a ≡ act.Opened c → Some (record { periods = []; now = new_settings }) ≡ histories_at r n.done t c
-    begins c q =
-        let o : is_open (gone_at (whole_in r) t n.done) n.done c ≡ true = sym (open_told (whole_in r) t n tells c) ∙ opens_it c q in
+    begins : (c : ℕ) (law : Law) → a ≡ act.Opened c law → Some (record { law = law; periods = []; now = new_settings }) ≡ histories_at r n.done t c
+    begins c law q =
+        let o : is_open (gone_at (whole_in r) t n.done) n.done c ≡ true = sym (open_told (whole_in r) t n tells c) ∙ opens_it c law q in
         let p = open_facts (gone_at (whole_in r) t n.done) n.done c o in
-        past_same true _ [] _ new_settings _ (sym o) (λ b. ap (periods_to r c) (zero_from p.0 p.1)) (sym (settings_is c ∙ ap (λ x. changed_by c x (settings_now r s.done t c)) (res ∙ ap Ok q)
+        let its : law ≡ law_in r c = sym (laws c ∙ ap (λ x. law_after x (law_now s) c) q ∙ ap (λ b. if b then law else law_now s c) (eq-eqb c c refl)) ∙ sym (law_run r t n.done n.left c p.0 far p.1) in
+        ap (λ (l : Law). Some (record { law = l; periods = []; now = new_settings })) its
+        ∙ past_same true _ (law_in r c) [] _ new_settings _ (sym o) (λ b. ap (periods_to r c) (zero_from p.0 p.1)) (sym (settings_is c ∙ ap (λ x. changed_by c x (settings_now r s.done t c)) (res ∙ ap Ok q)
         ∙ ap (λ b. if b then new_settings else settings_now r s.done t c) (eq-eqb c c refl)))
       where
         zero_from : (u : ℕ) → opened_at c n.done ≡ Some u → 0 ≡ t - start_of n.done c
@@ -347,9 +350,9 @@ module _ (r : Run) (t : ℕ) (s n : State) (reply : Reply) (groups : List Group)
 
     same_history : (c : ℕ) → histories_after a (histories_at r s.done t) c ≡ histories_at r n.done t c
     same_history c = elim (cases_act a c) [
-      | inl q ↦ ap (λ x. histories_after x (histories_at r s.done t) c) q ∙ ap (λ b. if b then Some (record { periods = []; now = new_settings }) else histories_at r s.done t c) (eq-eqb c c refl) ∙ begins c q
-      | inr q ↦ history_by a (λ c. is_open (gone_at (whole_in r) t s.done) s.done c) (λ c. periods_to r c (t - start_of s.done c)) (settings_now r s.done t) c q
-          ∙ past_same _ _ _ _ _ _ (open_is c) (λ o. ap (λ b. periods_to r c (t - b)) (start_kept c (λ k. q c (is_act c k) refl) o)) (ap (λ x. changed_by c x (settings_now r s.done t c)) (sym res) ∙ sym (settings_is c))
+      | inl q ↦ ap (λ x. histories_after x (histories_at r s.done t) c) q.1 ∙ ap (λ b. if b then Some (record { law = q.0; periods = []; now = new_settings }) else histories_at r s.done t c) (eq-eqb c c refl) ∙ begins c q.0 q.1
+      | inr q ↦ history_by a (λ c. is_open (gone_at (whole_in r) t s.done) s.done c) (law_in r) (λ c. periods_to r c (t - start_of s.done c)) (settings_now r s.done t) c q
+          ∙ past_same _ _ (law_in r c) _ _ _ _ (open_is c) (λ o. ap (λ b. periods_to r c (t - b)) (start_kept c (λ law k. q c law (is_act c law k) refl) o)) (ap (λ x. changed_by c x (settings_now r s.done t c)) (sym res) ∙ sym (settings_is c))
     ]
 
     -- where a bridge begins, no handed frame waits
@@ -360,8 +363,8 @@ module _ (r : Run) (t : ℕ) (s n : State) (reply : Reply) (groups : List Group)
         waits c u v q j o =
             let k : is_open (gone_at (whole_in r) t s.done) s.done c ≡ true = sym (open_told (whole_in r) t s f.tells c) ∙ o in
             let p = open_facts (gone_at (whole_in r) t s.done) s.done c k in
-            subst (λ b. NoneWaits (past_if b (periods_to r c (t - start_of s.done c)) (settings_now r s.done t c))) (sym k)
-            (subst (λ v. NoneWaits (Some (record { periods = periods_to r c (t - v); now = settings_now r s.done t c }))) (sym (start_is s.done c p.0 p.1))
+            subst (λ b. NoneWaits (past_if b (law_in r c) (periods_to r c (t - start_of s.done c)) (settings_now r s.done t c))) (sym k)
+            (subst (λ v. NoneWaits (Some (record { law = law_in r c; periods = periods_to r c (t - v); now = settings_now r s.done t c }))) (sym (start_is s.done c p.0 p.1))
             (none_waits r t s.done d due.rest u v c p.0 before due.stamp under run_is (res ∙ ap Ok q) j p.1))
 
         left_or : (c v : ℕ) → (c == c || c == v) ≡ true
@@ -373,7 +376,7 @@ module _ (r : Run) (t : ℕ) (s n : State) (reply : Reply) (groups : List Group)
 
         by : (x : Act) → a ≡ x → Finds x (opened_now s) (open_now s) (partner_now s) → NoneDrains x (histories_at r s.done t)
         by (act.Bridged u v) q g = (waits u u v q (left_or u v) g.1.0, waits v u v q (ap (λ b. v == u || b) (eq-eqb v v refl) ∙ right_or (v == u)) g.1.1)
-        by (act.Opened c) q g = tt
+        by (act.Opened c law) q g = tt
         by (act.Closed c p) q g = tt
         by (act.Unbridged u v) q g = tt
         by (act.LevelSet c level) q g = tt

@@ -9,6 +9,7 @@ use Rattle.std.proofs.lemmas.List.{length-append, take-append-le, take_all, get_
 use Rattle.std.proofs.Math.Seq.{take-append-add}
 use Rattle.trau_bits.specs.Bits.{octet_at, octets_of}
 use Rattle.trau_bits.proofs.Octets.{length-octets_of, get_or-octets_of}
+use Rattle.call_leg.specs.Who.{Who}
 use Rattle.call_leg.specs.Periods.{CallPeriod}
 use Rattle.call_leg.specs.Out.{out_of}
 use Rattle.call_leg.specs.Down.{down_now, down_line}
@@ -16,7 +17,7 @@ use Rattle.call_leg.proofs.LineLaws.{length-out_of, length-down_now}
 use Rattle.trau_io.specs.Lines.{LineState}
 use Rattle.round_lines.specs.declared.transfer.Outlet.{Outlet}
 use Rattle.round_lines.specs.Transfer.{Gives, has_failed}
-use Rattle.farm_output.specs.Run.{Run, periods_to}
+use Rattle.farm_output.specs.Run.{Run, periods_to, who_in}
 use Rattle.farm_output.specs.Lines.{out_line, down_octets}
 use Rattle.farm_run.specs.Runs.{IsWritten}
 use Rattle.farm_run.specs.Fronts.{HasFront}
@@ -77,51 +78,51 @@ octets_of-append xs ys n e = same_number_lists (octets_of (xs ++ ys)) (octets_of
       | inr m ↦ back k m ∙ sym (get_or-append_right (octets_of xs) (octets_of ys) n k 0 (length-octets_of xs n e) m ∙ get_or-octets_of ys (k - n) 0 (omega arith))
     ]
 
-length-down_line : (call : ℕ) (ts : List CallPeriod) → length (down_line call ts) ≡ 320 * length ts
-length-down_line call [] = refl
-length-down_line call (t ∷ past) = omega (arith, length-append (down_line call past) (down_now call (t ∷ past)), length-down_line call past, length-down_now call t past)
+length-down_line : (who : Who) (ts : List CallPeriod) → length (down_line who ts) ≡ 320 * length ts
+length-down_line who [] = refl
+length-down_line who (t ∷ past) = omega (arith, length-append (down_line who past) (down_now who (t ∷ past)), length-down_line who past, length-down_now who t past)
 
-down_more : (call : ℕ) (t : CallPeriod) (past : List CallPeriod) → down_octets call (t ∷ past) ≡ down_octets call past ++ octets_of (down_now call (t ∷ past))
-down_more call t past = octets_of-append (down_line call past) (down_now call (t ∷ past)) (40 * length past) (omega (arith, length-down_line call past))
+down_more : (who : Who) (t : CallPeriod) (past : List CallPeriod) → down_octets who (t ∷ past) ≡ down_octets who past ++ octets_of (down_now who (t ∷ past))
+down_more who t past = octets_of-append (down_line who past) (down_now who (t ∷ past)) (40 * length past) (omega (arith, length-down_line who past))
 
 -- ---- lengths
 
-pub length-out_line : (c : ℕ) (ts : List CallPeriod) → length (out_line c ts) ≡ 160 * length ts
-length-out_line c [] = refl
-length-out_line c (t ∷ past) = omega (arith, length-append (out_line c past) (out_of c (t ∷ past)), length-out_line c past, length-out_of c (t ∷ past))
+pub length-out_line : (who : Who) (ts : List CallPeriod) → length (out_line who ts) ≡ 160 * length ts
+length-out_line who [] = refl
+length-out_line who (t ∷ past) = omega (arith, length-append (out_line who past) (out_of who (t ∷ past)), length-out_line who past, length-out_of who (t ∷ past))
 
-pub length-down_octets : (c : ℕ) (ts : List CallPeriod) → length (down_octets c ts) ≡ 40 * length ts
-length-down_octets c ts = omega (arith, long (down_line c ts), length-down_line c ts)
+pub length-down_octets : (who : Who) (ts : List CallPeriod) → length (down_octets who ts) ≡ 40 * length ts
+length-down_octets who ts = omega (arith, long (down_line who ts), length-down_line who ts)
 
 -- ---- of more periods
 
-out_more : (r : Run) (c m w n : ℕ) → n ≡ m + w → (more : List ℕ) × (out_line c (periods_to r c n) ≡ out_line c (periods_to r c m) ++ more)
+out_more : (r : Run) (c m w n : ℕ) → n ≡ m + w → (more : List ℕ) × (out_line (who_in r c) (periods_to r c n) ≡ out_line (who_in r c) (periods_to r c m) ++ more)
 out_more r c m zero n e =
     let same : n ≡ m = omega (arith, e) in
-    ([], ap (λ (k : ℕ). out_line c (periods_to r c k)) same ∙ sym (append-nil (out_line c (periods_to r c m))))
+    ([], ap (λ (k : ℕ). out_line (who_in r c) (periods_to r c k)) same ∙ sym (append-nil (out_line (who_in r c) (periods_to r c m))))
 out_more r c m (suc w) zero e = absurd (omega (arith, e))
 out_more r c m (suc w) (suc n) e =
     let was = out_more r c m w n (omega (arith, e)) in
-    let next = out_of c (periods_to r c (suc n)) in
-    (was.0 ++ next, ap (λ (xs : List ℕ). xs ++ next) was.1 ∙ append_assoc (out_line c (periods_to r c m)) was.0 next)
+    let next = out_of (who_in r c) (periods_to r c (suc n)) in
+    (was.0 ++ next, ap (λ (xs : List ℕ). xs ++ next) was.1 ∙ append_assoc (out_line (who_in r c) (periods_to r c m)) was.0 next)
 
-down_on : (r : Run) (c m w n : ℕ) → n ≡ m + w → (more : List ℕ) × (down_octets c (periods_to r c n) ≡ down_octets c (periods_to r c m) ++ more)
+down_on : (r : Run) (c m w n : ℕ) → n ≡ m + w → (more : List ℕ) × (down_octets (who_in r c) (periods_to r c n) ≡ down_octets (who_in r c) (periods_to r c m) ++ more)
 down_on r c m zero n e =
     let same : n ≡ m = omega (arith, e) in
-    ([], ap (λ (k : ℕ). down_octets c (periods_to r c k)) same ∙ sym (append-nil (down_octets c (periods_to r c m))))
+    ([], ap (λ (k : ℕ). down_octets (who_in r c) (periods_to r c k)) same ∙ sym (append-nil (down_octets (who_in r c) (periods_to r c m))))
 down_on r c m (suc w) zero e = absurd (omega (arith, e))
 down_on r c m (suc w) (suc n) e =
     let was = down_on r c m w n (omega (arith, e)) in
-    let next = octets_of (down_now c (periods_to r c (suc n))) in
-    (was.0 ++ next, down_more c _ (periods_to r c n) ∙ ap (λ (xs : List ℕ). xs ++ next) was.1 ∙ append_assoc (down_octets c (periods_to r c m)) was.0 next)
+    let next = octets_of (down_now (who_in r c) (periods_to r c (suc n))) in
+    (was.0 ++ next, down_more (who_in r c) _ (periods_to r c n) ∙ ap (λ (xs : List ℕ). xs ++ next) was.1 ∙ append_assoc (down_octets (who_in r c) (periods_to r c m)) was.0 next)
 
 -- **What was written of the first m periods is a front of what any more give.**
-pub out_front : (r : Run) (c m n : ℕ) (fails : Bool) (first now : LineState) → m ≤ n → IsWritten fails first now (out_line c (periods_to r c m)) → HasFront first now (out_line c (periods_to r c n))
+pub out_front : (r : Run) (c m n : ℕ) (fails : Bool) (first now : LineState) → m ≤ n → IsWritten fails first now (out_line (who_in r c) (periods_to r c m)) → HasFront first now (out_line (who_in r c) (periods_to r c n))
 out_front r c m n fails first now l w =
     let more = out_more r c m (n - m) n (omega (arith, l)) in
-    subst (HasFront first now) (sym more.1) (front_of fails first now (out_line c (periods_to r c m)) more.0 w)
+    subst (HasFront first now) (sym more.1) (front_of fails first now (out_line (who_in r c) (periods_to r c m)) more.0 w)
 
-pub down_front : (r : Run) (c m n : ℕ) (fails : Bool) (first now : LineState) → m ≤ n → IsWritten fails first now (down_octets c (periods_to r c m)) → HasFront first now (down_octets c (periods_to r c n))
+pub down_front : (r : Run) (c m n : ℕ) (fails : Bool) (first now : LineState) → m ≤ n → IsWritten fails first now (down_octets (who_in r c) (periods_to r c m)) → HasFront first now (down_octets (who_in r c) (periods_to r c n))
 down_front r c m n fails first now l w =
     let more = down_on r c m (n - m) n (omega (arith, l)) in
-    subst (HasFront first now) (sym more.1) (front_of fails first now (down_octets c (periods_to r c m)) more.0 w)
+    subst (HasFront first now) (sym more.1) (front_of fails first now (down_octets (who_in r c) (periods_to r c m)) more.0 w)

@@ -22,7 +22,7 @@ use Rattle.farm_rounds.specs.declared.tally.Tally.{Tally}
 use Rattle.farm_rounds.specs.Memory.{tally_in}
 use Rattle.farm_rounds.specs.Numbers.{IsRising, is_among}
 use Rattle.farm_rounds.specs.Histories.{CallHistory, GroupsStand, kept_of}
-use Rattle.farm_output.specs.Run.{Run, given_in, whole_in, done_in, periods_to}
+use Rattle.farm_output.specs.Run.{Run, given_in, whole_in, done_in, periods_to, law_in}
 use Rattle.farm_output.specs.Facts.{report_of}
 use Rattle.farm_output.specs.Now.{IsSoFar, settings_now}
 use Rattle.farm_output.proofs.Lists.{each_map, each_weaker}
@@ -89,12 +89,12 @@ module _ (r : Run) (t : ℕ) (b : State) (groups : List Group) (tallies : List T
       let noted = end.noted in
       let places = noted.places in
       subst (IsKept r j.calls c)
-      (sym (ap (λ (s : Bool). kept_of (past_if s (periods_to r c (t - start_of b.done c)) (settings_now r b.done t c)) (tally_in tallies c)) o))
+      (sym (ap (λ (s : Bool). kept_of (past_if s (law_in r c) (periods_to r c (t - start_of b.done c)) (settings_now r b.done t c)) (tally_in tallies c)) o))
       (kept_at_end r t b.done b.left j.calls c (settings_now r b.done t c) so (open_not_ended r t b.done c o).1 (places.latest c)
       (ap (λ (e : CallEnd). e.at) (limit_is c k) ∙ sym (end.clock c (sym (among c) ∙ k))) refl)
 
   kept_same : (c : ℕ) → is_told c last ≡ false → kept_in tallies (histories_at r b.done t) c ≡ tally_in tallies c
-  kept_same c q = ap (λ (s : Bool). kept_of (past_if s (periods_to r c (t - start_of b.done c)) (settings_now r b.done t c)) (tally_in tallies c)) (open_is c ∙ sym (limits_told r.periods c calls) ∙ q)
+  kept_same c q = ap (λ (s : Bool). kept_of (past_if s (law_in r c) (periods_to r c (t - start_of b.done c)) (settings_now r b.done t c)) (tally_in tallies c)) (open_is c ∙ sym (limits_told r.periods c calls) ∙ q)
 
   -- **Then all calls that were opened have ended, and what is noted of them is right.**
   noted_last : IsRising calls → IsNoted r b.done (is_opened b.done) (with_ends last j) (kept_in tallies (histories_at r b.done t))

@@ -6,12 +6,13 @@ use Rattle.std.proofs.lemmas.Grind.{same_number_lists}
 use Rattle.std.proofs.lemmas.List.{append-nil, append_assoc, length-append, get_or_append_left, get_or-append_right}
 use Rattle.trau_bits.specs.Bits.{octet_at, octets_of}
 use Rattle.trau_bits.proofs.Octets.{length-octets_of, get_or-octets_of}
+use Rattle.call_leg.specs.Who.{Who}
 use Rattle.call_leg.specs.Periods.{CallPeriod}
 use Rattle.call_leg.specs.Out.{out_of}
 use Rattle.call_leg.specs.Down.{down_now, down_line}
 use Rattle.call_leg.proofs.LineLaws.{length-down_now}
 use Rattle.call_pair.specs.History.{outs_of, downs_of}
-use Rattle.farm_output.specs.Run.{Run, periods_to}
+use Rattle.farm_output.specs.Run.{Run, periods_to, who_in}
 use Rattle.farm_output.specs.Lines.{out_line, down_octets}
 
 -- ---- the octets of bits with others behind them
@@ -43,28 +44,28 @@ octets_of-append xs ys n e = same_number_lists (octets_of (xs ++ ys)) (octets_of
 
 -- ---- the lines
 
-length-down_line : (call : ℕ) (ts : List CallPeriod) → length (down_line call ts) ≡ 320 * length ts
-length-down_line call [] = refl
-length-down_line call (t ∷ past) = omega (arith, length-append (down_line call past) (down_now call (t ∷ past)), length-down_line call past, length-down_now call t past)
+length-down_line : (who : Who) (ts : List CallPeriod) → length (down_line who ts) ≡ 320 * length ts
+length-down_line who [] = refl
+length-down_line who (t ∷ past) = omega (arith, length-append (down_line who past) (down_now who (t ∷ past)), length-down_line who past, length-down_now who t past)
 
 -- one period more of the Down line is its octets more
-pub down_more : (call : ℕ) (t : CallPeriod) (past : List CallPeriod) → down_octets call (t ∷ past) ≡ down_octets call past ++ octets_of (down_now call (t ∷ past))
-down_more call t past = octets_of-append (down_line call past) (down_now call (t ∷ past)) (40 * length past) (omega (arith, length-down_line call past))
+pub down_more : (who : Who) (t : CallPeriod) (past : List CallPeriod) → down_octets who (t ∷ past) ≡ down_octets who past ++ octets_of (down_now who (t ∷ past))
+down_more who t past = octets_of-append (down_line who past) (down_now who (t ∷ past)) (40 * length past) (omega (arith, length-down_line who past))
 
 -- **The Out line is that of the earlier periods, and behind it the octets of the newest w.**
-pub out_line-more : (call w : ℕ) (ts : List CallPeriod) → out_line call ts ≡ out_line call (drop w ts) ++ outs_of call w ts
-out_line-more call zero ts = sym (append-nil (out_line call ts))
-out_line-more call (suc w) [] = refl
-out_line-more call (suc w) (t ∷ past) =
-    ap (λ (xs : List ℕ). xs ++ out_of call (t ∷ past)) (out_line-more call w past) ∙ append_assoc (out_line call (drop w past)) (outs_of call w past) (out_of call (t ∷ past))
+pub out_line-more : (who : Who) (w : ℕ) (ts : List CallPeriod) → out_line who ts ≡ out_line who (drop w ts) ++ outs_of who w ts
+out_line-more who zero ts = sym (append-nil (out_line who ts))
+out_line-more who (suc w) [] = refl
+out_line-more who (suc w) (t ∷ past) =
+    ap (λ (xs : List ℕ). xs ++ out_of who (t ∷ past)) (out_line-more who w past) ∙ append_assoc (out_line who (drop w past)) (outs_of who w past) (out_of who (t ∷ past))
 
 -- **So is the Down line.**
-pub down_octets-more : (call w : ℕ) (ts : List CallPeriod) → down_octets call ts ≡ down_octets call (drop w ts) ++ downs_of call w ts
-down_octets-more call zero ts = sym (append-nil (down_octets call ts))
-down_octets-more call (suc w) [] = sym (append-nil (down_octets call []))
-down_octets-more call (suc w) (t ∷ past) =
-    down_more call t past ∙ ap (λ (xs : List ℕ). xs ++ octets_of (down_now call (t ∷ past))) (down_octets-more call w past)
-    ∙ append_assoc (down_octets call (drop w past)) (downs_of call w past) (octets_of (down_now call (t ∷ past)))
+pub down_octets-more : (who : Who) (w : ℕ) (ts : List CallPeriod) → down_octets who ts ≡ down_octets who (drop w ts) ++ downs_of who w ts
+down_octets-more who zero ts = sym (append-nil (down_octets who ts))
+down_octets-more who (suc w) [] = sym (append-nil (down_octets who []))
+down_octets-more who (suc w) (t ∷ past) =
+    down_more who t past ∙ ap (λ (xs : List ℕ). xs ++ octets_of (down_now who (t ∷ past))) (down_octets-more who w past)
+    ∙ append_assoc (down_octets who (drop w past)) (downs_of who w past) (octets_of (down_now who (t ∷ past)))
 
 -- ---- the periods of a run
 
@@ -74,8 +75,8 @@ drop-periods_to r c m zero = let e : m + 0 ≡ m = omega arith in ap (periods_to
 drop-periods_to r c m (suc w) = let e : m + suc w ≡ suc (m + w) = omega arith in ap (λ (k : ℕ). drop (suc w) (periods_to r c k)) e ∙ drop-periods_to r c m w
 
 -- **What w periods of a call add to its lines.**
-pub out_of_periods : (r : Run) (c m w : ℕ) → out_line c (periods_to r c (m + w)) ≡ out_line c (periods_to r c m) ++ outs_of c w (periods_to r c (m + w))
-out_of_periods r c m w = out_line-more c w (periods_to r c (m + w)) ∙ ap (λ (ts : List CallPeriod). out_line c ts ++ outs_of c w (periods_to r c (m + w))) (drop-periods_to r c m w)
+pub out_of_periods : (r : Run) (c m w : ℕ) → out_line (who_in r c) (periods_to r c (m + w)) ≡ out_line (who_in r c) (periods_to r c m) ++ outs_of (who_in r c) w (periods_to r c (m + w))
+out_of_periods r c m w = out_line-more (who_in r c) w (periods_to r c (m + w)) ∙ ap (λ (ts : List CallPeriod). out_line (who_in r c) ts ++ outs_of (who_in r c) w (periods_to r c (m + w))) (drop-periods_to r c m w)
 
-pub down_of_periods : (r : Run) (c m w : ℕ) → down_octets c (periods_to r c (m + w)) ≡ down_octets c (periods_to r c m) ++ downs_of c w (periods_to r c (m + w))
-down_of_periods r c m w = down_octets-more c w (periods_to r c (m + w)) ∙ ap (λ (ts : List CallPeriod). down_octets c ts ++ downs_of c w (periods_to r c (m + w))) (drop-periods_to r c m w)
+pub down_of_periods : (r : Run) (c m w : ℕ) → down_octets (who_in r c) (periods_to r c (m + w)) ≡ down_octets (who_in r c) (periods_to r c m) ++ downs_of (who_in r c) w (periods_to r c (m + w))
+down_of_periods r c m w = down_octets-more (who_in r c) w (periods_to r c (m + w)) ∙ ap (λ (ts : List CallPeriod). down_octets (who_in r c) ts ++ downs_of (who_in r c) w (periods_to r c (m + w))) (drop-periods_to r c m w)

@@ -33,7 +33,7 @@ unopened b c e = ap (λ t. t && not (is_some (closed_at c b.done)) && not (gone_
 
 -- an accepted order fits the farm
 pub fits : (b : State) (groups : List Group) (a : Act) → Matches b groups → Finds a (opened_now b) (open_now b) (partner_now b) → IsInRange a → Fits groups a
-fits b groups (act.Opened c) m f r = ((omega (arith, r.0), omega (arith, r.1)), none_some _ (m.is_open c ∙ unopened b c f.1))
+fits b groups (act.Opened c law) m f r = ((omega (arith, r.0), omega (arith, r.1)), none_some _ (m.is_open c ∙ unopened b c f.1))
 fits b groups (act.Closed c p) m f r = (m.is_open c ∙ f.0, m.partner c ∙ f.1)
 fits b groups (act.Bridged a d) m f r = (f.0, m.is_open a ∙ f.1.0, m.is_open d ∙ f.1.1, m.partner a ∙ f.2.0, m.partner d ∙ f.2.1)
 fits b groups (act.Unbridged a d) m f r = m.partner a ∙ f.1.0
@@ -93,7 +93,7 @@ live_freed None g f c = refl
 live_freed (Some n) g f c = live_changed n g f c
 
 live_after : (a : Act) (f : ℕ → Option Call) (c : ℕ) → is_some (calls_after a f c) ≡ open_after a (λ c. is_some (f c)) c
-live_after (act.Opened n) f c = opened_live n c (new_call n) (f c)
+live_after (act.Opened n law) f c = opened_live n c (new_call n law) (f c)
 live_after (act.Closed n p) f c = closed_live n c (freed p parted f c) (f c) (live_freed p parted f c)
 live_after (act.Bridged a b) f c = live_changed a joined (changed b joined f) c ∙ live_changed b joined f c
 live_after (act.Unbridged a b) f c = live_changed a parted (changed b parted f) c ∙ live_changed b parted f c
@@ -123,7 +123,7 @@ either true t x y = refl
 either false t x y = refl
 
 partners_by : (a : Act) (f : ℕ → Option ℕ) (c : ℕ) → partners_after a f c ≡ partner_after a f c
-partners_by (act.Opened n) f c = refl
+partners_by (act.Opened n law) f c = refl
 partners_by (act.Closed n None) f c = same_test n c None (f c) ∙ sym (either (c == n) false None (f c))
 partners_by (act.Closed n (Some p)) f c =
     ap (λ o. if n == c then None else o) (same_test p c None (f c)) ∙ same_test n c None (if c == p then None else f c) ∙ sym (either (c == n) (c == p) None (f c))
@@ -135,7 +135,7 @@ partners_by (act.DtxSet n mode) f c = refl
 
 -- the same function, the same after an order
 pub open_same : (a : Act) (f g : ℕ → Bool) → ((c : ℕ) → f c ≡ g c) → (c : ℕ) → open_after a f c ≡ open_after a g c
-open_same (act.Opened n) f g e c = ap (λ b. c == n || b) (e c)
+open_same (act.Opened n law) f g e c = ap (λ b. c == n || b) (e c)
 open_same (act.Closed n p) f g e c = ap (λ b. if c == n then false else b) (e c)
 open_same (act.Bridged a b) f g e c = e c
 open_same (act.Unbridged a b) f g e c = e c
@@ -143,7 +143,7 @@ open_same (act.LevelSet n level) f g e c = e c
 open_same (act.DtxSet n mode) f g e c = e c
 
 partner_same : (a : Act) (f g : ℕ → Option ℕ) → ((c : ℕ) → f c ≡ g c) → (c : ℕ) → partner_after a f c ≡ partner_after a g c
-partner_same (act.Opened n) f g e c = e c
+partner_same (act.Opened n law) f g e c = e c
 partner_same (act.Closed n p) f g e c = ap (λ b. if c == n || is_this c p then None else b) (e c)
 partner_same (act.Bridged a b) f g e c = ap (λ x. if c == a then Some b else if c == b then Some a else x) (e c)
 partner_same (act.Unbridged a b) f g e c = ap (λ x. if c == a || is_this c (Some b) then None else x) (e c)
@@ -152,7 +152,7 @@ partner_same (act.DtxSet n mode) f g e c = e c
 
 -- the calls that are open after an order have numbers of calls
 numbered : (b : State) (a : Act) → Finds a (opened_now b) (open_now b) (partner_now b) → ((c : ℕ) → open_now b c ≡ true → IsCallNumber c) → (c : ℕ) → open_after a (open_now b) c ≡ true → IsCallNumber c
-numbered b (act.Opened n) f h c e = elim (cases_eq c n) [
+numbered b (act.Opened n law) f h c e = elim (cases_eq c n) [
   | inl q ↦ subst IsCallNumber (sym q) (omega (arith, f.0.0), omega (arith, f.0.1))
   | inr q ↦ h c (other (c == n) (open_now b c) q.0 e)
 ]
@@ -190,7 +190,7 @@ matches_same b b' groups m o p = record {
 
 -- what an accepted order names is in range
 pub named : (b : State) (groups : List Group) (a : Act) → Matches b groups → Finds a (opened_now b) (open_now b) (partner_now b) → AreNumbers a
-named b groups (act.Opened c) m f = (omega (arith, f.0.0), omega (arith, f.0.1))
+named b groups (act.Opened c law) m f = (omega (arith, f.0.0), omega (arith, f.0.1))
 named b groups (act.Bridged a d) m f = (m.number a f.1.0, m.number d f.1.1)
 named b groups (act.Closed c p) m f = m.number c f.0
 named b groups (act.Unbridged a d) m f = tt

@@ -25,8 +25,9 @@ use Rattle.farm_rounds.specs.declared.call.Group.{Group}
 use Rattle.farm_rounds.specs.declared.tally.Tally.{Tally}
 use Rattle.farm_rounds.specs.Memory.{tally_in}
 use Rattle.farm_rounds.specs.Histories.{CallHistory, kept_of, tally_of, tallies_after}
+use Rattle.trau_alaw.specs.declared.Law.{Law}
 use Rattle.call_leg.specs.Places.{sent_now}
-use Rattle.farm_output.specs.Run.{Run, whole_in, done_in, periods_to}
+use Rattle.farm_output.specs.Run.{Run, whole_in, done_in, periods_to, law_in}
 use Rattle.farm_output.specs.Facts.{sent_by}
 use Rattle.farm_output.specs.Now.{IsSoFar, settings_now}
 use Rattle.farm_output.proofs.SoFar.{standing_now}
@@ -89,7 +90,7 @@ module _ (r : Run) (t : ℕ) (s n : State) (reply : Reply) (groups groups' : Lis
 
   -- what an open call has had
   history_is : (c : ℕ) (kept : Tally) → open_now s c ≡ true → kept_of (h c) kept ≡ tally_of (periods_to r c (t - start_of s.done c)) (settings_now r s.done t c)
-  history_is c kept o = ap (λ (b : Bool). kept_of (past_if b (periods_to r c (t - start_of s.done c)) (settings_now r s.done t c)) kept) (open_there c o)
+  history_is c kept o = ap (λ (b : Bool). kept_of (past_if b (law_in r c) (periods_to r c (t - start_of s.done c)) (settings_now r s.done t c)) kept) (open_there c o)
 
   -- **An order that is refused, or that neither opens, ends nor bridges calls, changes nothing.**
   pub noted_quiet : (x : Result Act Refusal) (j : JournalMemory) (tallies tallies' : List Tally) → reply.result ≡ x → bridge_by due.order.stamp x [] ≡ [] → ((c : ℕ) → opened_now n c ≡ opened_now s c) → ((c : ℕ) → open_now n c ≡ open_now s c) →
@@ -102,9 +103,9 @@ module _ (r : Run) (t : ℕ) (s n : State) (reply : Reply) (groups groups' : Lis
 
   module _ (j : JournalMemory) (tallies tallies' : List Tally) (noted : Noted r s.done t j tallies) where
     -- **A call is opened.**
-    opens_call : (m : ℕ) → d.result ≡ Ok (act.Opened m) → Finds (act.Opened m) (opened_now s) (open_now s) (partner_now s) → ((c : ℕ) → opened_now n c ≡ (c == m || opened_now s c)) → ((c : ℕ) → open_now n c ≡ (c == m || open_now s c)) →
+    opens_call : (m : ℕ) (law : Law) → d.result ≡ Ok (act.Opened m law) → Finds (act.Opened m law) (opened_now s) (open_now s) (partner_now s) → ((c : ℕ) → opened_now n c ≡ (c == m || opened_now s c)) → ((c : ℕ) → open_now n c ≡ (c == m || open_now s c)) →
         ((c : ℕ) → tally_in tallies' c ≡ tally_in tallies c) → Noted r n.done t (with_opening m t j) tallies'
-    opens_call m result finds opened open_is kept =
+    opens_call m law result finds opened open_is kept =
         noted_same r n.done (ended_at r s.done t) (ended_at r n.done t) (with_opening m t j) (tally_in tallies) (tally_in tallies')
         (noted_opened r s.done n.done (ended_at r s.done t) j (tally_in tallies) m t (record {
           number = (omega (arith, finds.0.0), omega (arith, finds.0.1));
@@ -112,7 +113,7 @@ module _ (r : Run) (t : ℕ) (s n : State) (reply : Reply) (groups groups' : Lis
           opened = opened;
           start = start_stays;
           begins = begins (opened_at m n.done) refl (opened m ∙ ap (λ (b : Bool). b || opened_now s m) (eq-eqb m m refl));
-          sides = no_more (Ok (act.Opened m)) result refl;
+          sides = no_more (Ok (act.Opened m law)) result refl;
           alone = alone;
         }) (ap (λ (b : Bool). b && not (is_open (gone_at (whole_in r) t s.done) s.done m)) finds.1) noted)
         (λ c. ended_is c ∙ tests c (cases_eq c m) ∙ sym (ended_was c)) kept
@@ -240,7 +241,7 @@ module _ (r : Run) (t : ℕ) (s n : State) (reply : Reply) (groups groups' : Lis
     -- **What is noted of an accepted order keeps all that is noted right.**
     pub noted_accepted : (a : Act) → reply.result ≡ Ok a → Finds a (opened_now s) (open_now s) (partner_now s) → ((c : ℕ) → opened_now n c ≡ opened_after a (opened_now s) c) → ((c : ℕ) → open_now n c ≡ open_after a (open_now s) c) →
         ((c : ℕ) → tally_in tallies' c ≡ tallies_after a h (tally_in tallies) c) → Noted r n.done t (noted_by a t (λ c. (kept_in tallies h c).sent) j) tallies'
-    noted_accepted (act.Opened m) q finds opened open_is kept = opens_call m (sym due.result ∙ q) finds opened open_is kept
+    noted_accepted (act.Opened m law) q finds opened open_is kept = opens_call m law (sym due.result ∙ q) finds opened open_is kept
     noted_accepted (act.Closed m p) q finds opened open_is kept = closes_call m p (sym due.result ∙ q) finds.0 opened open_is kept
     noted_accepted (act.Bridged a b) q finds opened open_is kept = bridges_calls a b (sym due.result ∙ q) finds opened open_is kept
     noted_accepted (act.Unbridged a b) q finds opened open_is kept = noted_quiet (Ok (act.Unbridged a b)) j tallies tallies' q refl opened open_is kept noted

@@ -13,12 +13,13 @@ use Rattle.trau_io.specs.Lines.{LineState}
 use Rattle.round_lines.specs.Transfer.{has_failed}
 use Rattle.round_lines.specs.Seats as seats
 use Rattle.round_lines.specs.Seats.{SeatMemory, down_of}
-use Rattle.round_lines.specs.Rounds.{seat_at}
+use Rattle.round_lines.specs.Rounds.{seat_at, call_at}
 use Rattle.switchboard.specs.Calls.{Done, opened_at, closed_at, is_open, gone_at}
 use Rattle.switchboard.specs.Ends.{Given, lack_of, end_of, start_of}
 use Rattle.switchboard.specs.State.{State, gone_in}
 use Rattle.switchboard.specs.Open.{open_now}
 use Rattle.switchboard.specs.Runs.{TellsEnds}
+use Rattle.trau_alaw.specs.declared.Law.{Law}
 use Rattle.call_leg.specs.Periods.{CallPeriod}
 use Rattle.call_leg.specs.Settings.{Settings}
 use Rattle.call_pair.specs.History.{io_after}
@@ -26,11 +27,11 @@ use Rattle.call_pair.specs.Memory.{IoMemory}
 use Rattle.farm_rounds.specs.declared.call.Group.{Group}
 use Rattle.farm_rounds.specs.Calls.{call_in, partner_in}
 use Rattle.farm_rounds.specs.Memory.{FarmMemory}
-use Rattle.farm_rounds.specs.Histories.{CallHistory, CallStands, GroupsStand}
+use Rattle.farm_rounds.specs.Histories.{CallHistory, whose, CallStands, GroupsStand}
 use Rattle.farm_rounds.specs.Rounds.{octets_of, seat_with}
 use Rattle.farm_rounds.specs.Working.{goes_on_call}
 use Rattle.farm_rounds.specs.RoundHistories.{history_with, worked_histories, those_that}
-use Rattle.farm_output.specs.Run.{Run, given_in, whole_in, done_in, periods_to, end_in}
+use Rattle.farm_output.specs.Run.{Run, given_in, whole_in, done_in, periods_to, end_in, who_in, law_in}
 use Rattle.farm_output.specs.Now.{IsSoFar, settings_now}
 use Rattle.farm_output.specs.Lines.{out_line, down_octets}
 use Rattle.farm_output.proofs.SoFar.{standing_now}
@@ -158,25 +159,26 @@ module _ (r : Run) (t n : ℕ) (b : State) (farm after : FarmMemory) (first befo
       none_if false = refl
 
       all : (x : Bool) → (places_in r b.done t n c == n) ≡ x → (y : CallHistory) → Past c y →
-          (if x then Some y else None) ≡ past_if x (periods_to r c (t + n - start_of b.done c)) (settings_now r b.done (t + n) c)
+          (if x then Some y else None) ≡ past_if x (law_in r c) (periods_to r c (t + n - start_of b.done c)) (settings_now r b.done (t + n) c)
       all false e y p = refl
       all true e y p =
           let f = eqb-true (places_in r b.done t n c) n e in
-          ap (λ (ts : List CallPeriod). Some (record { periods = ts; now = y.now })) (p.periods ∙ ap (λ (k : ℕ). periods_to r c (t + k - start_of b.done c)) f)
-          ∙ ap (λ (s : Settings). Some (record { periods = periods_to r c (t + n - start_of b.done c); now = s })) (p.goes_on f)
+          ap (λ (l : Law). Some (record { law = l; periods = y.periods; now = y.now })) p.law
+          ∙ ap (λ (ts : List CallPeriod). Some (record { law = law_in r c; periods = ts; now = y.now })) (p.periods ∙ ap (λ (k : ℕ). periods_to r c (t + k - start_of b.done c)) f)
+          ∙ ap (λ (s : Settings). Some (record { law = law_in r c; periods = periods_to r c (t + n - start_of b.done c); now = s })) (p.goes_on f)
 
       by : (x : Bool) → alive c ≡ x → those_that (goes_on_call w.worked) worked_at_end c ≡ histories_at r b.done (t + n) c
       by false o =
           ap (λ (y : Option CallHistory). if goes_on_call w.worked c then y else None)
-          (ap (λ (x : Bool). option_map (history_with w.filled hs c (partner_in farm.groups c)) (past_if x (periods_to r c (t - start_of b.done c)) (settings_now r b.done t c))) o)
+          (ap (λ (x : Bool). option_map (history_with w.filled hs c (partner_in farm.groups c)) (past_if x (law_in r c) (periods_to r c (t - start_of b.done c)) (settings_now r b.done t c))) o)
           ∙ none_if (goes_on_call w.worked c)
-          ∙ sym (ap (λ (x : Bool). past_if x (periods_to r c (t + n - start_of b.done c)) (settings_now r b.done (t + n) c)) (shut_after r t n b.done c o))
+          ∙ sym (ap (λ (x : Bool). past_if x (law_in r c) (periods_to r c (t + n - start_of b.done c)) (settings_now r b.done (t + n) c)) (shut_after r t n b.done c o))
       by true o =
           let p = past c o in
           ap (λ (y : Option CallHistory). if goes_on_call w.worked c then y else None) p.1
           ∙ ap (λ (x : Bool). if x then Some p.0 else None) (goes c o)
           ∙ all (places_in r b.done t n c == n) refl p.0 p.2
-          ∙ sym (ap (λ (x : Bool). past_if x (periods_to r c (t + n - start_of b.done c)) (settings_now r b.done (t + n) c)) (open_after r t n b.done b.left c h o))
+          ∙ sym (ap (λ (x : Bool). past_if x (law_in r c) (periods_to r c (t + n - start_of b.done c)) (settings_now r b.done (t + n) c)) (open_after r t n b.done b.left c h o))
 
   -- ---- the lines
 
@@ -193,7 +195,7 @@ module _ (r : Run) (t n : ℕ) (b : State) (farm after : FarmMemory) (first befo
 
   -- what a call's job left in its seat
   abbrev left_io : (c : ℕ) → alive c ≡ true → IoMemory
-  left_io c o = let s = seat c o in let x = seat_at w.filled s.k in io_after (places_in r b.done t n c) (periods_to r c (t + places_in r b.done t n c - start_of b.done c)) (octets_of x)
+  left_io c o = let s = seat c o in let x = seat_at w.filled s.k in io_after (who_in r c) (places_in r b.done t n c) (periods_to r c (t + places_in r b.done t n c - start_of b.done c)) (octets_of x)
 
   seat_left : (c : ℕ) (o : alive c ≡ true) → let s = seat c o in seat_at w.worked s.k ≡ seat_with (seat_at w.filled s.k).place (left_io c o)
   seat_left c o =
@@ -202,33 +204,35 @@ module _ (r : Run) (t n : ℕ) (b : State) (farm after : FarmMemory) (first befo
       let l = s.within in
       let x = seat_at w.filled s.k in
       w.octets hs at.follows.stands s.k p.0 (omega (arith, l, w.filled_number, w.number)) (ap worked_at_end s.number ∙ p.1)
-      ∙ ap (λ (k : ℕ). seat_with x.place (io_after k p.0.periods (octets_of x))) s.whole
-      ∙ ap (λ (ts : List CallPeriod). seat_with x.place (io_after (places_in r b.done t n c) ts (octets_of x))) p.2.periods
+      ∙ ap (λ (k : ℕ). seat_with x.place (io_after (whose (call_at w.filled s.k) p.0) k p.0.periods (octets_of x))) s.whole
+      ∙ ap (λ (ts : List CallPeriod). seat_with x.place (io_after (whose (call_at w.filled s.k) p.0) (places_in r b.done t n c) ts (octets_of x))) p.2.periods
+      ∙ ap (λ (d : ℕ). seat_with x.place (io_after (whose d p.0) (places_in r b.done t n c) (periods_to r c (t + places_in r b.done t n c - start_of b.done c)) (octets_of x))) s.number
+      ∙ ap (λ (l : Law). seat_with x.place (io_after (record { number = c; law = l }) (places_in r b.done t n c) (periods_to r c (t + places_in r b.done t n c - start_of b.done c)) (octets_of x))) p.2.law
 
   -- **What a line is to have gained grows by what goes out of the call's seat.**
   pub grown_out : (c : ℕ) (o : alive c ≡ true) → let s = seat c o in
-      out_line c (periods_to r c (worked_to r (t + n) c)) ≡ out_line c (periods_to r c (worked_to r t c)) ++ seats.out_of (seat_at w.worked s.k)
+      out_line (who_in r c) (periods_to r c (worked_to r (t + n) c)) ≡ out_line (who_in r c) (periods_to r c (worked_to r t c)) ++ seats.out_of (seat_at w.worked s.k)
   grown_out c o =
       let s = seat c o in
       let k = places_in r b.done t n c in
       let x = seat_at w.filled s.k in
       let begun = (open_at r t b.done c (standing_now r t b.done b.left h.so_far) o).begun in
-      ap (λ (k : ℕ). out_line c (periods_to r c k)) (worked_then r t n b.done b.left c h o)
-      ∙ out_written r t k b.done c (octets_of x) (left_io c o) begun s.number refl
-      ∙ ap (λ (xs : List ℕ). out_line c (periods_to r c (t - start_of b.done c)) ++ xs) (sym (ap seats.out_of (seat_left c o) ∙ ap (λ (k : ℕ). take (160 * k) (left_io c o).out) s.whole))
-      ∙ sym (ap (λ (k : ℕ). out_line c (periods_to r c k) ++ seats.out_of (seat_at w.worked s.k)) (worked_now r t n b.done b.left c h o))
+      ap (λ (k : ℕ). out_line (who_in r c) (periods_to r c k)) (worked_then r t n b.done b.left c h o)
+      ∙ out_written r t k b.done c (octets_of x) (left_io c o) begun refl
+      ∙ ap (λ (xs : List ℕ). out_line (who_in r c) (periods_to r c (t - start_of b.done c)) ++ xs) (sym (ap seats.out_of (seat_left c o) ∙ ap (λ (k : ℕ). take (160 * k) (left_io c o).out) s.whole))
+      ∙ sym (ap (λ (k : ℕ). out_line (who_in r c) (periods_to r c k) ++ seats.out_of (seat_at w.worked s.k)) (worked_now r t n b.done b.left c h o))
 
   pub grown_down : (c : ℕ) (o : alive c ≡ true) → let s = seat c o in
-      down_octets c (periods_to r c (worked_to r (t + n) c)) ≡ down_octets c (periods_to r c (worked_to r t c)) ++ seats.down_of (seat_at w.worked s.k)
+      down_octets (who_in r c) (periods_to r c (worked_to r (t + n) c)) ≡ down_octets (who_in r c) (periods_to r c (worked_to r t c)) ++ seats.down_of (seat_at w.worked s.k)
   grown_down c o =
       let s = seat c o in
       let k = places_in r b.done t n c in
       let x = seat_at w.filled s.k in
       let begun = (open_at r t b.done c (standing_now r t b.done b.left h.so_far) o).begun in
-      ap (λ (k : ℕ). down_octets c (periods_to r c k)) (worked_then r t n b.done b.left c h o)
-      ∙ down_written r t k b.done c (octets_of x) (left_io c o) begun s.number refl
-      ∙ ap (λ (xs : List ℕ). down_octets c (periods_to r c (t - start_of b.done c)) ++ xs) (sym (ap seats.down_of (seat_left c o) ∙ ap (λ (k : ℕ). take (40 * k) (left_io c o).down) s.whole))
-      ∙ sym (ap (λ (k : ℕ). down_octets c (periods_to r c k) ++ seats.down_of (seat_at w.worked s.k)) (worked_now r t n b.done b.left c h o))
+      ap (λ (k : ℕ). down_octets (who_in r c) (periods_to r c k)) (worked_then r t n b.done b.left c h o)
+      ∙ down_written r t k b.done c (octets_of x) (left_io c o) begun refl
+      ∙ ap (λ (xs : List ℕ). down_octets (who_in r c) (periods_to r c (t - start_of b.done c)) ++ xs) (sym (ap seats.down_of (seat_left c o) ∙ ap (λ (k : ℕ). take (40 * k) (left_io c o).down) s.whole))
+      ∙ sym (ap (λ (k : ℕ). down_octets (who_in r c) (periods_to r c k) ++ seats.down_of (seat_at w.worked s.k)) (worked_now r t n b.done b.left c h o))
 
   -- ---- what is written, from a period on
 
@@ -241,30 +245,30 @@ module _ (r : Run) (t n : ℕ) (b : State) (farm after : FarmMemory) (first befo
 
   -- **A line gains that, or a proper front of it.**
   wrote_out : (from : ℕ) → from ≤ t → WrittenFrom r from t (is_listed farm.failed) first before → (c : ℕ) → alive c ≡ true →
-      IsWritten (is_listed after.failed c Out) (first c Out) (now c Out) (drop (160 * worked_to r from c) (out_line c (periods_to r c (worked_to r (t + n) c))))
+      IsWritten (is_listed after.failed c Out) (first c Out) (now c Out) (drop (160 * worked_to r from c) (out_line (who_in r c) (periods_to r c (worked_to r (t + n) c))))
   wrote_out from l wrote c o =
       let s = seat c o in
       let k = 160 * worked_to r from c in
-      let old = out_line c (periods_to r c (worked_to r t c)) in
+      let old = out_line (who_in r c) (periods_to r c (worked_to r t c)) in
       let front = drop k old in
-      let fits : k ≤ length old = omega (arith, length-out_line c (periods_to r c (worked_to r t c)), length-periods_to r c (worked_to r t c), sooner from c l) in
+      let fits : k ≤ length old = omega (arith, length-out_line (who_in r c) (periods_to r c (worked_to r t c)), length-periods_to r c (worked_to r t c), sooner from c l) in
       let was = wrote.out c (opened_is r t n b farm after first before now ends w h m b' last at meets c o) in
-      subst (λ (x : Bool). IsWritten x (first c Out) (now c Out) (drop k (out_line c (periods_to r c (worked_to r (t + n) c))))) (stands_out t n b farm after before now ends w a knows b' told open_then s.k c s.within s.here)
+      subst (λ (x : Bool). IsWritten x (first c Out) (now c Out) (drop k (out_line (who_in r c) (periods_to r c (worked_to r (t + n) c))))) (stands_out t n b farm after before now ends w a knows b' told open_then s.k c s.within s.here)
       (subst (IsWritten (has_failed (seat_at w.drained s.k).place.out) (first c Out) (now c Out)) (sym (ap (drop k) (grown_out c o) ∙ drop-append-le k old (seats.out_of (seat_at w.worked s.k)) fits))
       (gains (first c Out) (w.between c Out) (now c Out) (seat_at w.worked s.k).place.out (seat_at w.drained s.k).place.out front (seats.out_of (seat_at w.worked s.k)) s.facts.drains.out
       (subst (λ (x : Bool). IsWritten x (first c Out) (w.between c Out) front) (sym (was_out t n b farm after before now ends w a knows b' told open_then s.k c s.within s.here))
       (subst (λ (l : LineState). IsWritten (is_listed farm.failed c Out) (first c Out) l front) (sym (out_between t n farm after before now ends w c)) was))))
 
   wrote_down : (from : ℕ) → from ≤ t → WrittenFrom r from t (is_listed farm.failed) first before → (c : ℕ) → alive c ≡ true →
-      IsWritten (is_listed after.failed c Down) (first c Down) (now c Down) (drop (40 * worked_to r from c) (down_octets c (periods_to r c (worked_to r (t + n) c))))
+      IsWritten (is_listed after.failed c Down) (first c Down) (now c Down) (drop (40 * worked_to r from c) (down_octets (who_in r c) (periods_to r c (worked_to r (t + n) c))))
   wrote_down from l wrote c o =
       let s = seat c o in
       let k = 40 * worked_to r from c in
-      let old = down_octets c (periods_to r c (worked_to r t c)) in
+      let old = down_octets (who_in r c) (periods_to r c (worked_to r t c)) in
       let front = drop k old in
-      let fits : k ≤ length old = omega (arith, length-down_octets c (periods_to r c (worked_to r t c)), length-periods_to r c (worked_to r t c), sooner from c l) in
+      let fits : k ≤ length old = omega (arith, length-down_octets (who_in r c) (periods_to r c (worked_to r t c)), length-periods_to r c (worked_to r t c), sooner from c l) in
       let was = wrote.down c (opened_is r t n b farm after first before now ends w h m b' last at meets c o) in
-      subst (λ (x : Bool). IsWritten x (first c Down) (now c Down) (drop k (down_octets c (periods_to r c (worked_to r (t + n) c))))) (stands_down t n b farm after before now ends w a knows b' told open_then s.k c s.within s.here)
+      subst (λ (x : Bool). IsWritten x (first c Down) (now c Down) (drop k (down_octets (who_in r c) (periods_to r c (worked_to r (t + n) c))))) (stands_down t n b farm after before now ends w a knows b' told open_then s.k c s.within s.here)
       (subst (IsWritten (has_failed (seat_at w.drained s.k).place.down) (first c Down) (now c Down)) (sym (ap (drop k) (grown_down c o) ∙ drop-append-le k old (seats.down_of (seat_at w.worked s.k)) fits))
       (gains (first c Down) (w.between c Down) (now c Down) (seat_at w.worked s.k).place.down (seat_at w.drained s.k).place.down front (seats.down_of (seat_at w.worked s.k)) s.facts.drains.down
       (subst (λ (x : Bool). IsWritten x (first c Down) (w.between c Down) front) (sym (was_down t n b farm after before now ends w a knows b' told open_then s.k c s.within s.here))
@@ -277,20 +281,20 @@ module _ (r : Run) (t n : ℕ) (b : State) (farm after : FarmMemory) (first befo
       still : (c : ℕ) (s : Side) → alive c ≡ false → is_listed after.failed c s ≡ is_listed farm.failed c s
       still c s o = listed_kept t n b farm after before now ends w a knows b' told open_then c s (shut c o)
 
-      out : (c : ℕ) → IsOpened r c → IsWritten (is_listed after.failed c Out) (first c Out) (now c Out) (drop (160 * worked_to r from c) (out_line c (periods_to r c (worked_to r (t + n) c))))
+      out : (c : ℕ) → IsOpened r c → IsWritten (is_listed after.failed c Out) (first c Out) (now c Out) (drop (160 * worked_to r from c) (out_line (who_in r c) (periods_to r c (worked_to r (t + n) c))))
       out c i = elim (cases_Bool (alive c)) [
         | inl o ↦ wrote_out from l wrote c o
-        | inr o ↦ subst (λ (k : ℕ). IsWritten (is_listed after.failed c Out) (first c Out) (now c Out) (drop (160 * worked_to r from c) (out_line c (periods_to r c k)))) (sym (idle c i o))
-            (subst (λ (l : LineState). IsWritten (is_listed after.failed c Out) (first c Out) l (drop (160 * worked_to r from c) (out_line c (periods_to r c (worked_to r t c))))) (sym (kept c o Out))
-            (subst (λ (x : Bool). IsWritten x (first c Out) (before c Out) (drop (160 * worked_to r from c) (out_line c (periods_to r c (worked_to r t c))))) (sym (still c Out o)) (wrote.out c i)))
+        | inr o ↦ subst (λ (k : ℕ). IsWritten (is_listed after.failed c Out) (first c Out) (now c Out) (drop (160 * worked_to r from c) (out_line (who_in r c) (periods_to r c k)))) (sym (idle c i o))
+            (subst (λ (l : LineState). IsWritten (is_listed after.failed c Out) (first c Out) l (drop (160 * worked_to r from c) (out_line (who_in r c) (periods_to r c (worked_to r t c))))) (sym (kept c o Out))
+            (subst (λ (x : Bool). IsWritten x (first c Out) (before c Out) (drop (160 * worked_to r from c) (out_line (who_in r c) (periods_to r c (worked_to r t c))))) (sym (still c Out o)) (wrote.out c i)))
       ]
 
-      down : (c : ℕ) → IsOpened r c → IsWritten (is_listed after.failed c Down) (first c Down) (now c Down) (drop (40 * worked_to r from c) (down_octets c (periods_to r c (worked_to r (t + n) c))))
+      down : (c : ℕ) → IsOpened r c → IsWritten (is_listed after.failed c Down) (first c Down) (now c Down) (drop (40 * worked_to r from c) (down_octets (who_in r c) (periods_to r c (worked_to r (t + n) c))))
       down c i = elim (cases_Bool (alive c)) [
         | inl o ↦ wrote_down from l wrote c o
-        | inr o ↦ subst (λ (k : ℕ). IsWritten (is_listed after.failed c Down) (first c Down) (now c Down) (drop (40 * worked_to r from c) (down_octets c (periods_to r c k)))) (sym (idle c i o))
-            (subst (λ (l : LineState). IsWritten (is_listed after.failed c Down) (first c Down) l (drop (40 * worked_to r from c) (down_octets c (periods_to r c (worked_to r t c))))) (sym (kept c o Down))
-            (subst (λ (x : Bool). IsWritten x (first c Down) (before c Down) (drop (40 * worked_to r from c) (down_octets c (periods_to r c (worked_to r t c))))) (sym (still c Down o)) (wrote.down c i)))
+        | inr o ↦ subst (λ (k : ℕ). IsWritten (is_listed after.failed c Down) (first c Down) (now c Down) (drop (40 * worked_to r from c) (down_octets (who_in r c) (periods_to r c k)))) (sym (idle c i o))
+            (subst (λ (l : LineState). IsWritten (is_listed after.failed c Down) (first c Down) l (drop (40 * worked_to r from c) (down_octets (who_in r c) (periods_to r c (worked_to r t c))))) (sym (kept c o Down))
+            (subst (λ (x : Bool). IsWritten x (first c Down) (before c Down) (drop (40 * worked_to r from c) (down_octets (who_in r c) (periods_to r c (worked_to r t c))))) (sym (still c Down o)) (wrote.down c i)))
       ]
 
   -- ---- what is read

@@ -21,7 +21,7 @@ use Rattle.farm_rounds.specs.Memory.{FarmMemory}
 use Rattle.farm_rounds.specs.Histories.{CallHistory}
 use Rattle.farm_rounds.specs.Rounds.{octets_of}
 use Rattle.farm_rounds.specs.RoundHistories.{seat_of, history_with, history_alone, history_beside, history_bridged, worked_histories}
-use Rattle.farm_output.specs.Run.{Run, whole_in, periods_to}
+use Rattle.farm_output.specs.Run.{Run, whole_in, periods_to, law_in}
 use Rattle.farm_output.specs.Now.{settings_now}
 use Rattle.farm_run.specs.Going.{places_in}
 use Rattle.farm_run.proofs.RoundTaken.{IsRound, IsFed}
@@ -74,13 +74,13 @@ module _ (r : Run) (t n : ℕ) (b : State) (farm after : FarmMemory) (first befo
 
   -- what an open call has had, and its octets of the round
   abbrev past : ℕ → CallHistory
-  past c = record { periods = periods_to r c (t - start_of b.done c); now = settings_now r b.done t c }
+  past c = record { law = law_in r c; periods = periods_to r c (t - start_of b.done c); now = settings_now r b.done t c }
 
   abbrev octets : ℕ → IoMemory
   octets c = octets_of (seat_of w.filled c)
 
   past_is : (c : ℕ) → is_alive c ≡ true → histories_at r b.done t c ≡ Some (past c)
-  past_is c o = ap (λ (x : Bool). past_if x (periods_to r c (t - start_of b.done c)) (settings_now r b.done t c)) o
+  past_is c o = ap (λ (x : Bool). past_if x (law_in r c) (periods_to r c (t - start_of b.done c)) (settings_now r b.done t c)) o
 
   pub fed : (c : ℕ) → is_alive c ≡ true → IsFed r b.done t n c (octets c)
   fed c o =
@@ -100,6 +100,7 @@ module _ (r : Run) (t n : ℕ) (b : State) (farm after : FarmMemory) (first befo
   -- What a call has had after the round: its periods up to where its lines ended it or the round ends. What is set for the
   -- next one is what the run has set, where it goes on.
   pub record IsPast (c : ℕ) (x : CallHistory) : Type 0 where
+    pub law : x.law ≡ law_in r c
     pub periods : x.periods ≡ periods_to r c (t + places_in r b.done t n c - start_of b.done c)
     pub goes_on : places_in r b.done t n c ≡ n → x.now ≡ settings_now r b.done (t + n) c
     pub starts : x.now.starts ≡ (settings_now r b.done (t + places_in r b.done t n c) c).starts
@@ -113,6 +114,7 @@ module _ (r : Run) (t n : ℕ) (b : State) (farm after : FarmMemory) (first befo
       let k = places_in r b.done t n c in
       let l = at_most c in
       record {
+        law = refl;
         periods = alone_worked r t n b.done b.left c (octets c) h o (fed c o) none ∙ ap (λ (i : ℕ). periods_to r c (t + i - start_of b.done c)) g;
         goes_on = λ e. ap (λ (i : ℕ). settings_at i (settings_now r b.done t c)) (g ∙ e) ∙ alone_settings r t n b.done b.left c n h none (omega arith);
         starts = ap (λ (i : ℕ). (settings_at i (settings_now r b.done t c)).starts) g ∙ starts_kept c k l;
@@ -128,6 +130,7 @@ module _ (r : Run) (t n : ℕ) (b : State) (farm after : FarmMemory) (first befo
       let whole = places.whole_in (seat_of w.filled c).place in
       let others = places.whole_in (seat_of w.filled d).place in
       record {
+        law = refl;
         periods = bridged_worked r t n b.done b.left c x (octets c) (octets d) h some (fed c o) (fed d p) ∙ ap (λ (i : ℕ). periods_to r c (t + i - start_of b.done c)) g;
         goes_on = λ e. bridged_settings r t n b.done b.left c x (octets c) (octets d) h some (fed c o) (fed d p) (g ∙ e) ∙ ap (λ (i : ℕ). settings_now r b.done (t + i) c) (g ∙ e);
         starts = starts_past whole others now ∙ ap (λ (i : ℕ). (settings_at i now).starts) g ∙ starts_kept c k l;

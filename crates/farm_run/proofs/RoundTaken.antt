@@ -12,7 +12,7 @@ use Rattle.call_pair.specs.Places.{up_at, pcm_at}
 use Rattle.call_pair.specs.History.{Start}
 use Rattle.round_lines.specs.Places.{PlaceMemory}
 use Rattle.round_lines.specs.Seats.{SeatMemory}
-use Rattle.farm_output.specs.Run.{Run, whole_in, up_in, pcm_in, periods_to}
+use Rattle.farm_output.specs.Run.{Run, whole_in, up_in, pcm_in, periods_to, law_in}
 use Rattle.farm_output.specs.Now.{IsSoFar, settings_now}
 use Rattle.farm_run.specs.Going.{places_in}
 
@@ -33,7 +33,7 @@ pub record IsFed (r : Run) (ds : List Done) (t n c : ℕ) (io : IoMemory) : Type
 
 -- the call at the start of the round, with these octets
 abbrev pub start_at : Run → List Done → ℕ → ℕ → IoMemory → Start
-start_at r ds t c io = record { past = periods_to r c (t - start_of ds c); now = settings_now r ds t c; io = io }
+start_at r ds t c io = record { law = law_in r c; past = periods_to r c (t - start_of ds c); now = settings_now r ds t c; io = io }
 
 -- What the round took of a call's incoming lines into these buffers: of the octets behind the periods so far as many as
 -- the round's periods have. A line that gave fewer failed in the round where it fails at all.

@@ -16,7 +16,7 @@ use Rattle.farm_rounds.specs.Memory.{FarmMemory, tally_in}
 use Rattle.farm_rounds.specs.Histories.{CallHistory, kept_of, tally_of}
 use Rattle.farm_rounds.specs.Working.{goes_on_call}
 use Rattle.farm_rounds.specs.RoundHistories.{history_with, worked_histories}
-use Rattle.farm_output.specs.Run.{Run, whole_in, periods_to}
+use Rattle.farm_output.specs.Run.{Run, whole_in, periods_to, law_in}
 use Rattle.farm_output.specs.Now.{settings_now}
 use Rattle.farm_run.specs.Going.{places_in, ends_within}
 use Rattle.farm_run.proofs.RoundTaken.{IsRound}
@@ -76,7 +76,7 @@ module _ (r : Run) (t n : ℕ) (b : State) (farm after : FarmMemory) (first befo
           (goes c o ∙ all (places_in r b.done t n c) refl (sym (ap (λ (x : Bool). x && nat_lt (places_in r b.done t n c) n) o) ∙ e))
       by false o =
           ap (λ (y : Option CallHistory). if goes_on_call w.worked c then was c else kept_of y (was c))
-          (ap (λ (x : Bool). option_map (history_with w.filled (histories_at r b.done t) c (partner_in farm.groups c)) (past_if x (periods_to r c (t - start_of b.done c)) (settings_now r b.done t c))) o)
+          (ap (λ (x : Bool). option_map (history_with w.filled (histories_at r b.done t) c (partner_in farm.groups c)) (past_if x (law_in r c) (periods_to r c (t - start_of b.done c)) (settings_now r b.done t c))) o)
           ∙ either (goes_on_call w.worked c)
 
   -- **A call that its lines end within the round leaves the counts of its periods, and what is kept of the others stays.**

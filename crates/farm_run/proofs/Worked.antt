@@ -9,6 +9,7 @@ use Rattle.switchboard.specs.Bridges.{other, bridge_of}
 use Rattle.switchboard.specs.Ends.{start_of}
 use Rattle.round_lines.specs.Places as places
 use Rattle.round_lines.specs.Places.{PlaceMemory}
+use Rattle.call_leg.specs.Who.{Who}
 use Rattle.call_leg.specs.Periods.{CallPeriod}
 use Rattle.call_leg.specs.Settings.{Settings}
 use Rattle.call_leg.specs.Out.{out_of}
@@ -16,8 +17,9 @@ use Rattle.call_leg.specs.Down.{down_now}
 use Rattle.call_pair.specs.Memory.{IoMemory, HalfMemory}
 use Rattle.call_pair.specs.History.{outs_of, downs_of, io_after, HasWorked, settings_past, alone_periods}
 use Rattle.call_pair.specs.Finished.{HasWorkedAlone, HasWorkedBridged}
-use Rattle.call_pair.proofs.Lengths.{length-out_of, length-down_octets}
-use Rattle.farm_output.specs.Run.{Run, whole_in, periods_to}
+use Rattle.call_leg.proofs.LineLaws.{length-out_of}
+use Rattle.call_pair.proofs.Lengths.{length-down_octets}
+use Rattle.farm_output.specs.Run.{Run, whole_in, periods_to, who_in}
 use Rattle.farm_output.specs.Now.{settings_now}
 use Rattle.farm_output.specs.Lines.{out_line, down_octets}
 use Rattle.farm_run.proofs.RoundTaken.{IsRound, IsFed, IsTaken, start_at}
@@ -83,38 +85,38 @@ pub length-periods_to : (r : Run) (c m : ℕ) → length (periods_to r c m) ≡ 
 length-periods_to r c zero = refl
 length-periods_to r c (suc m) = ap suc (length-periods_to r c m)
 
-length-outs_of : (call k : ℕ) (ts : List CallPeriod) → k ≤ length ts → length (outs_of call k ts) ≡ 160 * k
-length-outs_of call zero ts h = refl
-length-outs_of call (suc k) [] h = absurd (omega arith)
-length-outs_of call (suc k) (t ∷ past) h =
-    omega (arith, length-append (outs_of call k past) (out_of call (t ∷ past)), length-outs_of call k past (omega arith), length-out_of call (t ∷ past))
+length-outs_of : (who : Who) (k : ℕ) (ts : List CallPeriod) → k ≤ length ts → length (outs_of who k ts) ≡ 160 * k
+length-outs_of who zero ts h = refl
+length-outs_of who (suc k) [] h = absurd (omega arith)
+length-outs_of who (suc k) (t ∷ past) h =
+    omega (arith, length-append (outs_of who k past) (out_of who (t ∷ past)), length-outs_of who k past (omega arith), length-out_of who (t ∷ past))
 
-length-downs_of : (call k : ℕ) (ts : List CallPeriod) → k ≤ length ts → length (downs_of call k ts) ≡ 40 * k
-length-downs_of call zero ts h = refl
-length-downs_of call (suc k) [] h = absurd (omega arith)
-length-downs_of call (suc k) (t ∷ past) h =
-    omega (arith, length-append (downs_of call k past) (octets_of (down_now call (t ∷ past))), length-downs_of call k past (omega arith), length-down_octets call t past)
+length-downs_of : (who : Who) (k : ℕ) (ts : List CallPeriod) → k ≤ length ts → length (downs_of who k ts) ≡ 40 * k
+length-downs_of who zero ts h = refl
+length-downs_of who (suc k) [] h = absurd (omega arith)
+length-downs_of who (suc k) (t ∷ past) h =
+    omega (arith, length-append (downs_of who k past) (octets_of (down_now who (t ∷ past))), length-downs_of who k past (omega arith), length-down_octets who t past)
 
 -- **With the octets of its places the Out line of a call is the run's up to there.**
-pub out_written : (r : Run) (t k : ℕ) (ds : List Done) (c : ℕ) (io now : IoMemory) → start_of ds c ≤ t → io.call ≡ c → now ≡ io_after k (periods_to r c (t + k - start_of ds c)) io →
-    out_line c (periods_to r c (t + k - start_of ds c)) ≡ out_line c (periods_to r c (t - start_of ds c)) ++ take (160 * k) now.out
-out_written r t k ds c io now l e f =
+pub out_written : (r : Run) (t k : ℕ) (ds : List Done) (c : ℕ) (io now : IoMemory) → start_of ds c ≤ t → now ≡ io_after (who_in r c) k (periods_to r c (t + k - start_of ds c)) io →
+    out_line (who_in r c) (periods_to r c (t + k - start_of ds c)) ≡ out_line (who_in r c) (periods_to r c (t - start_of ds c)) ++ take (160 * k) now.out
+out_written r t k ds c io now l f =
     let at : t - start_of ds c + k ≡ t + k - start_of ds c = omega arith in
     let ts = periods_to r c (t + k - start_of ds c) in
-    sym (ap (λ (m : ℕ). out_line c (periods_to r c m)) at) ∙ out_of_periods r c (t - start_of ds c) k
-    ∙ ap (λ (m : ℕ). out_line c (periods_to r c (t - start_of ds c)) ++ outs_of c k (periods_to r c m)) at
-    ∙ ap (λ (xs : List ℕ). out_line c (periods_to r c (t - start_of ds c)) ++ xs)
-    (sym (ap (λ (i : IoMemory). take (160 * k) i.out) f ∙ ap (λ (d : ℕ). take (160 * k) (outs_of d k ts ++ drop (160 * k) io.out)) e
-    ∙ take_at (outs_of c k ts) (drop (160 * k) io.out) (160 * k) (length-outs_of c k ts (omega (arith, length-periods_to r c (t + k - start_of ds c))))))
+    sym (ap (λ (m : ℕ). out_line (who_in r c) (periods_to r c m)) at) ∙ out_of_periods r c (t - start_of ds c) k
+    ∙ ap (λ (m : ℕ). out_line (who_in r c) (periods_to r c (t - start_of ds c)) ++ outs_of (who_in r c) k (periods_to r c m)) at
+    ∙ ap (λ (xs : List ℕ). out_line (who_in r c) (periods_to r c (t - start_of ds c)) ++ xs)
+    (sym (ap (λ (i : IoMemory). take (160 * k) i.out) f
+    ∙ take_at (outs_of (who_in r c) k ts) (drop (160 * k) io.out) (160 * k) (length-outs_of (who_in r c) k ts (omega (arith, length-periods_to r c (t + k - start_of ds c))))))
 
 -- **So is its Down line.**
-pub down_written : (r : Run) (t k : ℕ) (ds : List Done) (c : ℕ) (io now : IoMemory) → start_of ds c ≤ t → io.call ≡ c → now ≡ io_after k (periods_to r c (t + k - start_of ds c)) io →
-    down_octets c (periods_to r c (t + k - start_of ds c)) ≡ down_octets c (periods_to r c (t - start_of ds c)) ++ take (40 * k) now.down
-down_written r t k ds c io now l e f =
+pub down_written : (r : Run) (t k : ℕ) (ds : List Done) (c : ℕ) (io now : IoMemory) → start_of ds c ≤ t → now ≡ io_after (who_in r c) k (periods_to r c (t + k - start_of ds c)) io →
+    down_octets (who_in r c) (periods_to r c (t + k - start_of ds c)) ≡ down_octets (who_in r c) (periods_to r c (t - start_of ds c)) ++ take (40 * k) now.down
+down_written r t k ds c io now l f =
     let at : t - start_of ds c + k ≡ t + k - start_of ds c = omega arith in
     let ts = periods_to r c (t + k - start_of ds c) in
-    sym (ap (λ (m : ℕ). down_octets c (periods_to r c m)) at) ∙ down_of_periods r c (t - start_of ds c) k
-    ∙ ap (λ (m : ℕ). down_octets c (periods_to r c (t - start_of ds c)) ++ downs_of c k (periods_to r c m)) at
-    ∙ ap (λ (xs : List ℕ). down_octets c (periods_to r c (t - start_of ds c)) ++ xs)
-    (sym (ap (λ (i : IoMemory). take (40 * k) i.down) f ∙ ap (λ (d : ℕ). take (40 * k) (downs_of d k ts ++ drop (40 * k) io.down)) e
-    ∙ take_at (downs_of c k ts) (drop (40 * k) io.down) (40 * k) (length-downs_of c k ts (omega (arith, length-periods_to r c (t + k - start_of ds c))))))
+    sym (ap (λ (m : ℕ). down_octets (who_in r c) (periods_to r c m)) at) ∙ down_of_periods r c (t - start_of ds c) k
+    ∙ ap (λ (m : ℕ). down_octets (who_in r c) (periods_to r c (t - start_of ds c)) ++ downs_of (who_in r c) k (periods_to r c m)) at
+    ∙ ap (λ (xs : List ℕ). down_octets (who_in r c) (periods_to r c (t - start_of ds c)) ++ xs)
+    (sym (ap (λ (i : IoMemory). take (40 * k) i.down) f
+    ∙ take_at (downs_of (who_in r c) k ts) (drop (40 * k) io.down) (40 * k) (length-downs_of (who_in r c) k ts (omega (arith, length-periods_to r c (t + k - start_of ds c))))))

@@ -9,7 +9,7 @@ use Rattle.switchboard.specs.Calls.{Done}
 use Rattle.switchboard.specs.Ends.{start_of, end_of}
 use Rattle.switchboard.specs.State.{State}
 use Rattle.call_leg.specs.Settings.{Settings}
-use Rattle.farm_output.specs.Run.{Run, given_in, done_in, start_in, end_in, periods_to}
+use Rattle.farm_output.specs.Run.{Run, given_in, done_in, start_in, end_in, periods_to, who_in}
 use Rattle.farm_output.specs.Now.{settings_now}
 use Rattle.farm_output.specs.Lines.{out_line, down_octets}
 use Rattle.farm_rounds.specs.declared.call.Group.{Group}
@@ -44,8 +44,8 @@ pub record LinesAt (r : Run) (t : ℕ) (last : Standing) (before now : ℕ → S
 -- What the outgoing lines of the run's calls have gained at the clock t: the octets of their periods before it, but of none
 -- before period `from` of the run; those that are listed as failed a proper front of them.
 pub record WrittenFrom (r : Run) (from t : ℕ) (listed : ℕ → Side → Bool) (before now : ℕ → Side → LineState) : Type 0 where
-  pub out : (c : ℕ) → IsOpened r c → IsWritten (listed c Out) (before c Out) (now c Out) (drop (160 * worked_to r from c) (out_line c (periods_to r c (worked_to r t c))))
-  pub down : (c : ℕ) → IsOpened r c → IsWritten (listed c Down) (before c Down) (now c Down) (drop (40 * worked_to r from c) (down_octets c (periods_to r c (worked_to r t c))))
+  pub out : (c : ℕ) → IsOpened r c → IsWritten (listed c Out) (before c Out) (now c Out) (drop (160 * worked_to r from c) (out_line (who_in r c) (periods_to r c (worked_to r t c))))
+  pub down : (c : ℕ) → IsOpened r c → IsWritten (listed c Down) (before c Down) (now c Down) (drop (40 * worked_to r from c) (down_octets (who_in r c) (periods_to r c (worked_to r t c))))
 
 -- no count of a line's faults is below what it was
 abbrev pub NeverFell : (ℕ → Side → LineState) → (ℕ → Side → LineState) → Type 0

@@ -94,7 +94,7 @@ settled c sent j = record j { bridges = sent_at c sent (opening_of j.calls c).br
 -- What is noted of an accepted order, with what each call has sent in its latest bridge so far: two calls that are
 -- bridged have sent no more in the bridges that they had before.
 abbrev pub noted_by : Act → ℕ → (ℕ → ℕ) → JournalMemory → JournalMemory
-noted_by (act.Opened c) period sent j = with_opening c period j
+noted_by (act.Opened c law) period sent j = with_opening c period j
 noted_by (act.Closed c p) period sent j = with_end (record { call = c; at = period; cause = Closed }) j
 noted_by (act.Bridged a b) period sent j = with_bridge a b (settled b (sent b) (settled a (sent a) j))
 noted_by _ period sent j = j

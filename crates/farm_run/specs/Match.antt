@@ -1,5 +1,6 @@
 -- What ties the board and the farm of a run to each other.
 use Rattle.std.specs.Prelude.{◌≡◌, ◌≤◌, ℕ, ◌-◌, Bool, true, false, Option, Some, None, is_some, IfSome, List}
+use Rattle.trau_alaw.specs.declared.Law.{Law}
 use Rattle.trau_orders.specs.Lists.{AreOrders}
 use Rattle.call_leg.specs.Periods.{CallPeriod}
 use Rattle.call_leg.specs.Settings.{Settings}
@@ -10,7 +11,7 @@ use Rattle.switchboard.specs.State.{State, EndBefore, first_stamp, last_stamp, o
 use Rattle.switchboard.specs.Runs.{TellsEnds}
 use Rattle.switchboard.specs.Ends.{start_of}
 use Rattle.switchboard.specs.Open.{open_now, partner_now}
-use Rattle.farm_output.specs.Run.{Run, whole_in, periods_to}
+use Rattle.farm_output.specs.Run.{Run, whole_in, periods_to, law_in}
 use Rattle.farm_output.specs.Now.{IsSoFar, settings_now}
 use Rattle.farm_rounds.specs.declared.call.Group.{Group}
 use Rattle.call_number.specs.CallNumber.{IsCallNumber}
@@ -25,7 +26,7 @@ pub record Matches (b : State) (groups : List Group) : Type 0 where
 
 -- the calls that the run notes something of have numbers of calls
 abbrev pub AreNumbers : Act → Type 0
-AreNumbers (act.Opened c) = IsCallNumber c
+AreNumbers (act.Opened c law) = IsCallNumber c
 AreNumbers (act.Closed c p) = IsCallNumber c
 AreNumbers (act.Bridged a b) = IsCallNumber a × IsCallNumber b
 AreNumbers _ = Unit {0}
@@ -41,14 +42,14 @@ pub record AtClock (t : ℕ) (b : State) (groups : List Group) : Type 0 where
 
 -- ---- the same, beside what the definition says of the run
 
--- what a call has had, where it is open
-abbrev pub past_if : Bool → List CallPeriod → Settings → Option CallHistory
-past_if true ts now = Some (record { periods = ts; now = now })
-past_if false ts now = None
+-- what a call with this law has had, where it is open
+abbrev pub past_if : Bool → Law → List CallPeriod → Settings → Option CallHistory
+past_if true law ts now = Some (record { law = law; periods = ts; now = now })
+past_if false law ts now = None
 
 -- what each open call has had at the clock t, after these orders
 abbrev pub histories_at : Run → List Done → ℕ → ℕ → Option CallHistory
-histories_at r ds t c = past_if (is_open (gone_at (whole_in r) t ds) ds c) (periods_to r c (t - start_of ds c)) (settings_now r ds t c)
+histories_at r ds t c = past_if (is_open (gone_at (whole_in r) t ds) ds c) (law_in r c) (periods_to r c (t - start_of ds c)) (settings_now r ds t c)
 
 pub record Follows (r : Run) (t : ℕ) (b : State) (groups : List Group) : Type 0 where
   pub so_far : IsSoFar r t b.done b.left

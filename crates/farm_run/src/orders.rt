@@ -28,7 +28,7 @@ fn note(act: &Act, period: u32, farm: &Farm, journal: &mut Journal)
         journal.new ≡ noted_by act.now period (λ c. (kept_in farm.now.tallies h c).sent) journal.old }
 {
     match *act {
-        Act::Opened { call } => journal.open(call, period),
+        Act::Opened { call, .. } => journal.open(call, period),
         Act::Closed { call, .. } => journal.end(CallEnd {
             call,
             at: period,

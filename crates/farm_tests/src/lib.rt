@@ -5,6 +5,8 @@
 #![tactic(auto)]
 
 #[cfg(test)]
+mod between;
+#[cfg(test)]
 mod desk;
 #[cfg(test)]
 mod endless;
@@ -15,7 +17,11 @@ mod farm_top_drill_tests;
 #[cfg(test)]
 mod farm_top_faults_tests;
 #[cfg(test)]
+mod farm_top_follow_tests;
+#[cfg(test)]
 mod farm_top_gate_tests;
+#[cfg(test)]
+mod farm_top_live_tests;
 #[cfg(test)]
 mod farm_top_phases_tests;
 #[cfg(test)]

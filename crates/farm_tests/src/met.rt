@@ -1,4 +1,5 @@
-//! A gate that shows that the two calls of a bridge are at work at once, in both phases of a round of three periods.
+//! A gate that shows that two calls are at work at once: those of a bridge in both phases of a round of three periods, or the first
+//! periods that two callers post.
 
 use pool_run::Gate;
 use std::sync::atomic::{AtomicU32, Ordering};

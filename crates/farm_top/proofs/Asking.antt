@@ -7,8 +7,9 @@ use Rattle.trau_io.specs.Desks.{DeskState}
 use Rattle.farm_tools.specs.declared.end.Tool.{Tool}
 use Rattle.farm_tools.specs.declared.end.Tool.TheVariants as tool
 use Rattle.farm_words.specs.declared.asked.Asked.{Asked}
-use Rattle.farm_words.specs.declared.asked.Asked.TheVariants.{Run, Drill, Relay, Frames, Encode, Decode, Split, Merge}
+use Rattle.farm_words.specs.declared.asked.Asked.TheVariants.{Run, Drill, Live, Relay, Frames, Encode, Decode, Follow, Split, Merge}
 use Rattle.farm_words.specs.declared.asked.Settings.{Settings}
+use Rattle.farm_words.specs.declared.live.LiveSettings.{LiveSettings}
 use Rattle.farm_words.specs.Asking.{Asks}
 use Rattle.farm_words.specs.Options.{BeginWith, GivesSettings, IsValueOf}
 use Rattle.farm_words.specs.Words.{Names}
@@ -17,9 +18,11 @@ use Rattle.farm_words.proofs.Asking.{one_asked}
 use Rattle.farm_run.specs.Pace.{IsPace}
 use Rattle.farm_top.specs.Drill.{CarriesDrill}
 use Rattle.farm_top.specs.Farm.{AllStay, RunsFarm, pace_of}
+use Rattle.farm_top.specs.Follow.{FollowEnds}
+use Rattle.farm_top.specs.Live.{CarriesLive}
 use Rattle.farm_top.specs.Slots.{MergeEnds, SplitEnds}
 use Rattle.farm_top.specs.Top.{Carries, CarriesAsked, CarriesFrames, IsInRange}
-use Rattle.farm_top.specs.Words.{AreCommand, AsksFor, AsksForDrill, AsksForFrames, AsksForMerge, AsksForRun, AsksForSplit, TakeOptions}
+use Rattle.farm_top.specs.Words.{AreCommand, AsksFor, AsksForDrill, AsksForFollow, AsksForFrames, AsksForLive, AsksForMerge, AsksForRun, AsksForSplit, TakeOptions}
 
 -- a tool's work on a call
 abbrev pub asked_of : Tool → ℕ → Asked
@@ -41,7 +44,9 @@ is_command words (Frames c) asks = inr (inl (c, asks))
 is_command words (Encode c) asks = inl (tool.Encode, c, asks)
 is_command words (Decode c) asks = inl (tool.Decode, c, asks)
 is_command words (Split c) asks = inr (inr (inr (inr (inl (c, asks)))))
-is_command words (Merge c) asks = inr (inr (inr (inr (inr (c, asks)))))
+is_command words (Merge c) asks = inr (inr (inr (inr (inr (inl (c, asks))))))
+is_command words (Follow c want) asks = inr (inr (inr (inr (inr (inr (inl (c, want, asks)))))))
+is_command words (Live s) asks = inr (inr (inr (inr (inr (inr (inr (s, asks)))))))
 
 -- and those of a command ask for something
 pub no_command : (words : List (List ℕ)) → ((a : Asked) → Asks words a → ⊥) → AreCommand words → ⊥
@@ -50,7 +55,9 @@ no_command words none (inr (inl (c, asks))) = none (Frames c) asks
 no_command words none (inr (inr (inl (s, asks)))) = none (Run s) asks
 no_command words none (inr (inr (inr (inl (seed, calls, s, asks))))) = none (Drill seed calls s) asks
 no_command words none (inr (inr (inr (inr (inl (c, asks)))))) = none (Split c) asks
-no_command words none (inr (inr (inr (inr (inr (c, asks)))))) = none (Merge c) asks
+no_command words none (inr (inr (inr (inr (inr (inl (c, asks))))))) = none (Merge c) asks
+no_command words none (inr (inr (inr (inr (inr (inr (inl (c, want, asks)))))))) = none (Follow c want) asks
+no_command words none (inr (inr (inr (inr (inr (inr (inr (s, asks)))))))) = none (Live s) asks
 
 -- words that begin with a command that takes options aren't those of a tool
 first_word : (words : List (List ℕ)) (command name : List ℕ) (c : ℕ) → BeginWith command words → Names words name c → name ≡ command
@@ -59,14 +66,15 @@ first_word words command name c begin names =
     let also = begin.1 in
     cc
 
--- no tool's word has the length of `run`, or the first letter and the length of `drill`
+-- no tool's word has the length of `run`, the first letter and the length of `drill`, or the length of `live`
 tag : List ℕ → ℕ
 tag word = get_or word 0 0 + 1000 * length word
 
-not_named : (words : List (List ℕ)) (name : List ℕ) (c : ℕ) → TakeOptions words → Names words name c → (tag name ≡ 3114) ⊎ (tag name ≡ 5100)
+not_named : (words : List (List ℕ)) (name : List ℕ) (c : ℕ) → TakeOptions words → Names words name c → (tag name ≡ 3114) ⊎ (tag name ≡ 5100) ⊎ (tag name ≡ 4108)
 unfolding tag
 not_named words name c (inl run) names = inl (ap tag (first_word words (codes "run") name c run names))
-not_named words name c (inr drill) names = inr (ap tag (first_word words (codes "drill") name c drill names))
+not_named words name c (inr (inl drill)) names = inr (inl (ap tag (first_word words (codes "drill") name c drill names)))
+not_named words name c (inr (inr live)) names = inr (inr (ap tag (first_word words (codes "live") name c live names)))
 
 relay_is : tag (codes "relay") ≡ 5114
 unfolding tag
@@ -98,10 +106,11 @@ slot_word words command name c begin names =
     let also = begin.1 in
     cc
 
-not_slot : (words : List (List ℕ)) (name : List ℕ) (c : ℕ) → TakeOptions words → NamesSlot words name c → (tag name ≡ 3114) ⊎ (tag name ≡ 5100)
+not_slot : (words : List (List ℕ)) (name : List ℕ) (c : ℕ) → TakeOptions words → NamesSlot words name c → (tag name ≡ 3114) ⊎ (tag name ≡ 5100) ⊎ (tag name ≡ 4108)
 unfolding tag
 not_slot words name c (inl run) names = inl (ap tag (slot_word words (codes "run") name c run names))
-not_slot words name c (inr drill) names = inr (ap tag (slot_word words (codes "drill") name c drill names))
+not_slot words name c (inr (inl drill)) names = inr (inl (ap tag (slot_word words (codes "drill") name c drill names)))
+not_slot words name c (inr (inr live)) names = inr (inr (ap tag (slot_word words (codes "live") name c live names)))
 
 split_is : tag (codes "split") ≡ 5115
 unfolding tag
@@ -136,10 +145,26 @@ in_range words (Run s) asks = (pace_in 4294967295 4294967295 _ s (omega arith) (
 in_range words (Drill seed calls s) asks =
     let pace = pace_in 1000 200 _ s (omega arith) (omega arith) asks.are.gives.settings in
     ((value_in _ 1 256 64 calls (omega arith) (omega arith) asks.are.gives.calls).1, pace.1, pace.0)
+in_range words (Live s) asks =
+    let gives = asks.are.gives in
+    let calls = value_in _ 1 256 64 s.calls (omega arith) (omega arith) gives.calls in
+    let periods = value_in _ 1 1000 200 s.periods (omega arith) (omega arith) gives.periods in
+    let callers = value_in _ 1 64 4 s.callers (omega arith) (omega arith) gives.callers in
+    let inbox = value_in _ 1 1024 8 s.inbox (omega arith) (omega arith) gives.inbox in record {
+      some_calls = calls.0;
+      calls = calls.1;
+      some_periods = periods.0;
+      periods = periods.1;
+      some_callers = callers.0;
+      callers = callers.1;
+      some_room = inbox.0;
+      inbox = inbox.1;
+    }
 in_range words (Relay c) asks = (asks.low, asks.high)
 in_range words (Frames c) asks = (asks.low, asks.high)
 in_range words (Encode c) asks = (asks.low, asks.high)
 in_range words (Decode c) asks = (asks.low, asks.high)
+in_range words (Follow c want) asks = (asks.low, asks.high, asks.wanted.high, asks.wanted.fours)
 in_range words (Split c) asks = (asks.low, asks.high)
 in_range words (Merge c) asks = (asks.low, asks.high)
 
@@ -161,6 +186,12 @@ module _ (words : List (List ℕ)) (a : Asked) (meant : Asks words a) (before no
 
   pub drill_carried : CarriesAsked a before now desk desk' status → (seed calls : ℕ) (s : Settings) → AsksForDrill words seed calls s → AllStay before now × CarriesDrill seed calls s.periods desk desk' status
   drill_carried done seed calls s asks = subst (λ b. CarriesAsked b before now desk desk' status) (one_asked words a (Drill seed calls s) meant asks) done
+
+  pub follow_carried : CarriesAsked a before now desk desk' status → (c want : ℕ) → AsksForFollow words c want → FollowEnds before now desk desk' c want status
+  follow_carried done c want asks = subst (λ b. CarriesAsked b before now desk desk' status) (one_asked words a (Follow c want) meant asks) done
+
+  pub live_carried : CarriesAsked a before now desk desk' status → (s : LiveSettings) → AsksForLive words s → AllStay before now × CarriesLive s desk desk' status
+  live_carried done s asks = subst (λ b. CarriesAsked b before now desk desk' status) (one_asked words a (Live s) meant asks) done
 
   pub split_carried : CarriesAsked a before now desk desk' status → (c : ℕ) → AsksForSplit words c → SplitEnds before now desk desk' c status
   split_carried done c asks = subst (λ b. CarriesAsked b before now desk desk' status) (one_asked words a (Split c) meant asks) done

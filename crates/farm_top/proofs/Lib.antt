@@ -5,4 +5,6 @@ mod Drilling
 mod Ending
 mod FarmCausing
 mod FarmCleaning
+mod Following
+mod Living
 mod Headlining

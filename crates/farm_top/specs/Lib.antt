@@ -3,8 +3,10 @@ pub mod Drill
 pub mod Farm
 pub mod FarmCauses
 pub mod FarmEnded
+pub mod Follow
 pub mod FarmClean
 pub mod Headline
+pub mod Live
 pub mod Slots
 pub mod Top
 pub mod Words

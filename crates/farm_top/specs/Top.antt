@@ -1,5 +1,5 @@
 -- What the top call does with a command.
-use Rattle.std.specs.Prelude.{◌≡◌, ◌≢◌, ℕ, ◌≤◌, codes}
+use Rattle.std.specs.Prelude.{◌≡◌, ◌≢◌, ℕ, ◌≤◌, ◌%◌, codes}
 use Rattle.trau_io.specs.declared.line.Side.{Side}
 use Rattle.trau_io.specs.Lines.{LineState}
 use Rattle.trau_io.specs.Desks.{DeskState}
@@ -11,8 +11,11 @@ use Rattle.farm_tools.specs.declared.end.Tool.TheVariants as tool
 use Rattle.farm_tools.specs.Tools.{ToolRuns, status_of}
 use Rattle.farm_run.specs.Pace.{IsPace}
 use Rattle.farm_words.specs.declared.asked.Asked.{Asked}
-use Rattle.farm_words.specs.declared.asked.Asked.TheVariants.{Run, Drill, Relay, Frames, Encode, Decode, Split, Merge}
+use Rattle.farm_words.specs.declared.asked.Asked.TheVariants.{Run, Drill, Live, Relay, Frames, Encode, Decode, Follow, Split, Merge}
 use Rattle.farm_top.specs.Drill.{CarriesDrill}
+use Rattle.farm_top.specs.Follow.{FollowEnds}
+use Rattle.live_run.specs.Size.{IsLiveDrill}
+use Rattle.farm_top.specs.Live.{CarriesLive, live_of}
 use Rattle.farm_top.specs.Slots.{MergeEnds, SplitEnds}
 use Rattle.farm_top.specs.Farm.{AllStay, RunsFarm, TextOut, pace_of}
 
@@ -36,14 +39,17 @@ pub record CarriesFrames (before now : ℕ → Side → LineState) (desk desk' :
   pub runs : FramesRun before now desk left call end
   pub answers : Answers end left desk' status
 
--- what is asked for is in its ranges: a run's pace, a drill's calls and periods, the call of a tool, or the first call of a slot
+-- what is asked for is in its ranges: a run's pace, a drill's calls and periods, what a live drill is made of, the call of a tool, that and the wanted place of
+-- the base station's end, or the first call of a slot
 abbrev pub IsInRange : Asked → Type 0
 IsInRange (Run s) = IsPace (pace_of s)
 IsInRange (Drill seed calls s) = (calls ≤ 256) × (s.periods ≤ 1000) × IsPace (pace_of s)
-IsInRange (Relay c) = (1 ≤ c) × (c ≤ 1024)
-IsInRange (Frames c) = (1 ≤ c) × (c ≤ 1024)
-IsInRange (Encode c) = (1 ≤ c) × (c ≤ 1024)
-IsInRange (Decode c) = (1 ≤ c) × (c ≤ 1024)
+IsInRange (Live s) = IsLiveDrill (live_of s)
+IsInRange (Relay c) = (1 ≤ c) × (c ≤ 4096)
+IsInRange (Frames c) = (1 ≤ c) × (c ≤ 4096)
+IsInRange (Encode c) = (1 ≤ c) × (c ≤ 4096)
+IsInRange (Decode c) = (1 ≤ c) × (c ≤ 4096)
+IsInRange (Follow c want) = (1 ≤ c) × (c ≤ 4096) × (want ≤ 316) × (want % 4 ≡ 0)
 IsInRange (Split c) = (1 ≤ c) × (c ≤ 4093)
 IsInRange (Merge c) = (1 ≤ c) × (c ≤ 4093)
 
@@ -51,9 +57,11 @@ IsInRange (Merge c) = (1 ≤ c) × (c ≤ 4093)
 abbrev pub CarriesAsked : Asked → (ℕ → Side → LineState) → (ℕ → Side → LineState) → DeskState → DeskState → ℕ → Type 0
 CarriesAsked (Run s) before now desk desk' status = RunsFarm s before now desk desk' status
 CarriesAsked (Drill seed calls s) before now desk desk' status = AllStay before now × CarriesDrill seed calls s.periods desk desk' status
+CarriesAsked (Live s) before now desk desk' status = AllStay before now × CarriesLive s desk desk' status
 CarriesAsked (Relay c) before now desk desk' status = Carries tool.Relay before now desk desk' c status
 CarriesAsked (Frames c) before now desk desk' status = CarriesFrames before now desk desk' c status
 CarriesAsked (Encode c) before now desk desk' status = Carries tool.Encode before now desk desk' c status
 CarriesAsked (Decode c) before now desk desk' status = Carries tool.Decode before now desk desk' c status
+CarriesAsked (Follow c want) before now desk desk' status = FollowEnds before now desk desk' c want status
 CarriesAsked (Split c) before now desk desk' status = SplitEnds before now desk desk' c status
 CarriesAsked (Merge c) before now desk desk' status = MergeEnds before now desk desk' c status

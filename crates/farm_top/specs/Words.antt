@@ -4,7 +4,10 @@ use Rattle.farm_tools.specs.declared.end.Tool.{Tool}
 use Rattle.farm_tools.specs.Made.{name_of}
 use Rattle.farm_words.specs.declared.asked.Settings.{Settings}
 use Rattle.farm_words.specs.Drill.{AsksDrill}
-use Rattle.farm_words.specs.Options.{BeginWith}
+use Rattle.farm_words.specs.Follow.{NamesFollow}
+pub use Rattle.farm_words.specs.Options.{TakeOptions}
+use Rattle.farm_words.specs.declared.live.LiveSettings.{LiveSettings}
+use Rattle.farm_words.specs.Live.{AsksLive}
 use Rattle.farm_words.specs.Run.{AsksRun}
 use Rattle.farm_words.specs.Slots.{NamesSlot}
 use Rattle.farm_words.specs.Words.{Names}
@@ -29,12 +32,20 @@ AsksForRun words settings = AsksRun words settings
 abbrev pub AsksForDrill : List (List ℕ) → ℕ → ℕ → Settings → Type 0
 AsksForDrill words seed calls settings = AsksDrill words seed calls settings
 
+-- they ask for a live drill, as `live --callers 2`
+abbrev pub AsksForLive : List (List ℕ) → LiveSettings → Type 0
+AsksForLive words settings = AsksLive words settings
+
 -- they ask for a time slot to be cut into channels, or put together of them, as `split 7`
 abbrev pub AsksForSplit : List (List ℕ) → ℕ → Type 0
 AsksForSplit words call = NamesSlot words (codes "split") call
 
 abbrev pub AsksForMerge : List (List ℕ) → ℕ → Type 0
 AsksForMerge words call = NamesSlot words (codes "merge") call
+
+-- they ask for the base station's end of a downlink, which wants frames at such places, as `follow 7 0`
+abbrev pub AsksForFollow : List (List ℕ) → ℕ → ℕ → Type 0
+AsksForFollow words call want = NamesFollow words call want
 
 -- they are those of a command
 abbrev pub AreCommand : List (List ℕ) → Type 0
@@ -45,7 +56,5 @@ AreCommand words =
     ⊎ ((seed : ℕ) × (calls : ℕ) × (settings : Settings) × AsksForDrill words seed calls settings)
     ⊎ ((call : ℕ) × AsksForSplit words call)
     ⊎ ((call : ℕ) × AsksForMerge words call)
-
--- the first of them is `run` or `drill`, whatever stands behind it
-abbrev pub TakeOptions : List (List ℕ) → Type 0
-TakeOptions words = BeginWith (codes "run") words ⊎ BeginWith (codes "drill") words
+    ⊎ ((call : ℕ) × (want : ℕ) × AsksForFollow words call want)
+    ⊎ ((settings : LiveSettings) × AsksForLive words settings)

@@ -16,8 +16,8 @@ use std::sync::Wait;
 use std::thread::Threads;
 use trau_io::{Desk, tell};
 
-// Tells the text of a command that was carried to its end.
-fn tell_whole<D: Desk>(desk: &mut D, text: &[u8]) -> u8
+/// Tells the text of a command that was carried to its end.
+pub(crate) fn tell_whole<D: Desk>(desk: &mut D, text: &[u8]) -> u8
     ensures { TellsWhole text.now (D.desk desk.old) (D.desk desk.new) result }
 {
     match tell(desk, text) {

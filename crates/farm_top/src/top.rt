@@ -13,18 +13,23 @@ ghost use Rattle.farm_tools.specs.Clean.{CleanRun};
 ghost use Rattle.farm_tools.specs.Frames.{CleanFrames, FramesCauses};
 ghost use Rattle.farm_tools.specs.Tools.{ToolRuns, status_of};
 ghost use Rattle.farm_words.specs.declared.asked.Settings.{Settings};
+ghost use Rattle.farm_words.specs.declared.live.LiveSettings.{LiveSettings};
 ghost use Rattle.farm_top.specs.Drill.{DrillEnds};
 ghost use Rattle.farm_top.specs.Farm.{AllStay, CarriesRun, LacksMemory, TextOut};
 ghost use Rattle.farm_top.specs.FarmCauses.{RunCauses};
 ghost use Rattle.farm_top.specs.Headline.{Headline};
 ghost use Rattle.farm_top.specs.FarmClean.{CleanFarm, IsCalmRun, TellsOrders};
 ghost use Rattle.farm_top.specs.FarmEnded.{RunEnded};
+ghost use Rattle.farm_top.specs.Follow.{FollowEnds};
+ghost use Rattle.farm_top.specs.Live.{LiveEnds};
 ghost use Rattle.farm_top.specs.Slots.{MergeEnds, SplitEnds};
 ghost use Rattle.farm_top.specs.Top.{Answers, Carries, CarriesAsked, CarriesFrames, IsInRange};
-ghost use Rattle.farm_top.specs.Words.{AreCommand, AsksFor, AsksForDrill, AsksForFrames, AsksForMerge, AsksForRun, AsksForSplit, TakeOptions, spelled};
+ghost use Rattle.farm_top.specs.Words.{AreCommand, AsksFor, AsksForDrill, AsksForFollow, AsksForFrames, AsksForLive, AsksForMerge, AsksForRun, AsksForSplit, TakeOptions, spelled};
 
 use crate::drill::drill_farm;
 use crate::farm::{no_memory, run_farm};
+use crate::follow::carry_follow;
+use crate::live::live_farm;
 use crate::slots::{carry_merge, carry_split};
 use crate::status::{DESK_WRITE_FAULT, DONE, FRAME_REFUSED, LINE_FAILED, NO_MEMORY, USAGE};
 use farm_tools::{Tool, ToolEnd, decode, encode, frames, relay};
@@ -112,6 +117,7 @@ fn carry_out<R: Threads + Wait + Sync, T: Trunk, D: Desk, G: Gate + Sync>(
             calls,
             settings,
         } => drill_farm(rt, alloc, seed, calls, settings, desk, gate),
+        Asked::Live(settings) => live_farm(rt, alloc, settings, desk, gate),
         Asked::Relay(call) => carry_tool(alloc, Tool::Relay, call, trunk, desk),
         Asked::Decode(call) => carry_tool(alloc, Tool::Decode, call, trunk, desk),
         Asked::Encode(call) => carry_tool(alloc, Tool::Encode, call, trunk, desk),
@@ -119,6 +125,7 @@ fn carry_out<R: Threads + Wait + Sync, T: Trunk, D: Desk, G: Gate + Sync>(
             let end = frames(alloc, call, trunk, desk);
             answer(end, desk)
         }
+        Asked::Follow { call, want } => carry_follow(call, want, trunk, desk),
         Asked::Split(call) => carry_split(call, trunk, desk),
         Asked::Merge(call) => carry_merge(call, trunk, desk),
     }
@@ -130,36 +137,49 @@ fn carry_out<R: Threads + Wait + Sync, T: Trunk, D: Desk, G: Gate + Sync>(
 /// The commands are `relay C`, which copies the good speech frames of a call's uplink, bits unchanged, to its
 /// downlink, `decode C`, which decodes them to its Out line, `encode C`, which encodes its Pcm line to downlink
 /// frames, and `frames C`, which searches its uplink for frames and tells a line of text for each; C is the call's
-/// number, 1 to 1,024, in decimal digits without leading zeros. An uplink is cut into blocks of 40 octets, and in
+/// number, 1 to 4,096, in decimal digits without leading zeros. An uplink is cut into blocks of 40 octets, and in
 /// `relay` and `decode` the first block that isn't a good speech frame ends the command. A Pcm line is cut into blocks
 /// of 160 octets. What `encode` and `frames` leave of the line behind the last whole block is told and not used.
 ///
-/// The command `run` reads orders from the desk, runs them over the lines of all calls, and tells the report, which
-/// names the lines that failed. Its options, in any order and each at most once, are `--workers` (threads, 1 to 64,
-/// else 4), `--batch` (the most periods of a round, 1 to 250, else 50), `--slice` (the most periods of a call that are
-/// worked at a time, 1 to 250, else 5) and `--periods` (the most periods of the run, 1 to 4,294,967,295, else that). The
-/// workers steal calls half done from one another, and each slice of a call passes the gate. The run waits for them, so what
-/// is said of it holds if `farm_top` returns. That the other commands return is proved of their functions in `farm_tools`
-/// (`relay`, `decode`, `encode`, `frames`) and `trau_submux` (`split`, `merge`), and not of `farm_top`, which waits as a whole.
+/// The command `run` reads orders from the desk, runs them over the lines of all calls, 1 to 4,096, and tells the
+/// report, which names the lines that failed. A call's lines from and to the exchange are of A-law, or of mu-law where
+/// the order `open C mulaw` opened it; those of `decode`, `encode` and `drill` are of A-law. The options of `run`, in
+/// any order and each at most once, are `--workers` (threads, 1 to 64, else 4), `--batch` (the most periods of a round, 1 to 250,
+/// else 50), `--slice` (the most periods of a call that are worked at a time, 1 to 250, else 5) and `--periods` (the
+/// most periods of the run, 1 to 4,294,967,295, else that). The workers steal calls half done from one another, and
+/// each slice of a call passes the gate. The run waits for them, so what is said of it holds if `farm_top` returns.
+/// That the other commands return is proved of their functions in `farm_tools` (`relay`, `decode`, `encode`, `frames`),
+/// `trau_submux` (`split`, `merge`) and `ccu_end` (`follow`), and not of `farm_top`, which waits as a whole.
 ///
 /// The command `split C` cuts the time slot on call C's Pcm line, 64 kbit/s, into its four channels of 16 kbit/s, on the Down
 /// lines of the calls C to C + 3; `merge C` puts the channels on the Up lines of these calls together to the slot on C's Out
 /// line. C is 1 to 4,093. Both take no memory and never answer 5.
+///
+/// The command `follow C W` is the base station's end: it takes call C's Up line, C being 1 to 4,096, as a recorded downlink,
+/// finds its frames at any bit and tells a line of text for each, and writes to Down what a base station would send up that
+/// wants frames at places that are W modulo 320, W being 0 to 316 and a multiple of 4: the speech that it heard, and the
+/// alignment that it asks for. It takes no memory and never answers 5.
 ///
 /// The command `drill` draws the lines and orders of `--calls` calls (1 to 256, else 64) from `--seed` (0 to 4,294,967,295,
 /// else 1), runs them over lines in memory for `--periods` periods (1 to 1,000, else 200), and tells the report, with the
 /// sums of the octets of each call's outgoing lines behind it. It has the other options of `run` too. It uses no line of
 /// the trunk and reads nothing of the desk; the last sentences on `run` hold of it too. It may answer 0, 4 and 5.
 ///
+/// The command `live` draws the periods of `--calls` calls (1 to 256, else 64) from `--seed` (0 to 4,294,967,295, else 1),
+/// `--periods` of each (1 to 1,000, else 200), and has `--callers` callers (1 to 64, else 4), each on a thread of its own, post
+/// them to a live farm, at each call of which `--inbox` posts may wait (1 to 1,024, else 8), and work them. It tells the sums
+/// of the octets of each call's outgoing lines. It uses no line of the trunk and reads nothing of the desk, and waits for the
+/// callers: what is said of it holds if `farm_top` returns. It may answer 0, 4 and 5.
+///
 /// | Status | Comes | Text on the desk |
 /// |---|---|---|
-/// | 0 | the incoming line was worked to its end, or to 4,294,967,295 blocks; the run or the drill ended and no line's count rose | `relay frames N`, `decode frames N`, `encode frames N left R`; `frames N left R` behind a line of text for each of its N yields; `split octets N left R`, `merge octets N left A B C D`; the report; the report and the sums |
-/// | 1 | exactly where the words aren't those of a command (or 5, behind `run` and `drill`) | `usage` |
+/// | 0 | the incoming line was worked to its end, or to 4,294,967,295 blocks; the run or the drill ended and no line's count rose; the live drill ended | `relay frames N`, `decode frames N`, `encode frames N left R`; `frames N left R` behind a line of text for each of its N yields; `split octets N left R`, `merge octets N left A B C D`; `follow frames N left R` behind a line of text for each of its N frames; the report; the report and the sums; the sums |
+/// | 1 | exactly where the words aren't those of a command (or 5, behind `run`, `drill` and `live`) | `usage` |
 /// | 2 | a line of the orders isn't in their grammar, N being the first | `orders line N` |
 /// | 3 | the desk failed while the orders were read | `orders unread` |
 /// | 4 | the desk failed while the command's text went out | a proper front of the command's text |
 /// | 5 | want of memory | `no memory` |
-/// | 6 | the count of a line of the command rose | `line C up failed`, with the line's side, behind the lines of text that `frames` had told; the report |
+/// | 6 | the count of a line of the command rose | `line C up failed`, with the line's side, behind the lines of text that `frames` or `follow` had told; the report |
 /// | 7 | the orders have more than 1,048,576 octets or more than 65,536 lines | `orders too long` |
 /// | 8 | only of `relay` and `decode`: a block of the uplink isn't a good speech frame, or the line ended inside it | `relay refused N`, `decode refused N`, N being the number of blocks before it |
 ///
@@ -174,8 +194,8 @@ pub fn farm_top<R: Threads + Wait + Sync, T: Trunk, D: Desk, G: Gate + Sync>(
     desk: &mut D,
     gate: &G,
 ) -> u8
-    // Status 1 comes exactly where the words are no command's, and then no line is used. Behind `run` and `drill`, want of
-    // memory may come in its place.
+    // Status 1 comes exactly where the words are no command's, and then no line is used. Behind `run`, `drill` and
+    // `live`, want of memory may come in its place.
     ensures usage { (AreCommand (spelled words.now) → ⊥) →
         (result ≡ 1) ⊎ (TakeOptions (spelled words.now) × LacksMemory (D.desk desk.old) (D.desk desk.new) result) }
     ensures usage_only { AreCommand (spelled words.now) → result ≢ 1 }
@@ -195,6 +215,11 @@ pub fn farm_top<R: Threads + Wait + Sync, T: Trunk, D: Desk, G: Gate + Sync>(
     ensures drill { (seed calls : ℕ) (s : Settings) → AsksForDrill (spelled words.now) seed calls s →
         DrillEnds seed calls s.periods (T.lines trunk.old) (T.lines trunk.new) (D.desk desk.old) (D.desk desk.new) result }
     ensures drill_never_fails { (seed calls : ℕ) (s : Settings) → AsksForDrill (spelled words.now) seed calls s → result ≢ 6 }
+
+    // A live drill uses no line of the trunk either. Its text is a function of the seed, the calls and the periods: the sums of
+    // each call as a whole, whatever the callers, the room of the inboxes and the interleaving of the threads.
+    ensures live { (s : LiveSettings) → AsksForLive (spelled words.now) s →
+        LiveEnds s.seed s.calls s.periods (T.lines trunk.old) (T.lines trunk.new) (D.desk desk.old) (D.desk desk.new) result }
 
     // Why each of its statuses comes.
     ensures causes { (t : Tool) (c : ℕ) → AsksFor (spelled words.now) t c →
@@ -257,6 +282,10 @@ pub fn farm_top<R: Threads + Wait + Sync, T: Trunk, D: Desk, G: Gate + Sync>(
         SplitEnds (T.lines trunk.old) (T.lines trunk.new) (D.desk desk.old) (D.desk desk.new) c result }
     ensures merge { (c : ℕ) → AsksForMerge (spelled words.now) c →
         MergeEnds (T.lines trunk.old) (T.lines trunk.new) (D.desk desk.old) (D.desk desk.new) c result }
+
+    // The same of the base station's end.
+    ensures follow { (c want : ℕ) → AsksForFollow (spelled words.now) c want →
+        FollowEnds (T.lines trunk.old) (T.lines trunk.new) (D.desk desk.old) (D.desk desk.new) c want result }
 {
     // A law: lines spell one list of orders at most, and then have no bad one.
     one_answer();

@@ -7,7 +7,7 @@ use Rattle.clap.specs.Words.{Text, matches_of, first_of}
 use Rattle.decimal_number.specs.Number.{IsNumber}
 use Rattle.decimal_number.proofs.Numbers.{one_number}
 use Rattle.farm_words.specs.declared.asked.Asked.{Asked}
-use Rattle.farm_words.specs.declared.asked.Asked.TheVariants.{Run, Drill, Relay, Frames, Encode, Decode, Split, Merge}
+use Rattle.farm_words.specs.declared.asked.Asked.TheVariants.{Run, Drill, Live, Relay, Frames, Encode, Decode, Follow, Split, Merge}
 use Rattle.farm_words.specs.declared.asked.Settings.{Settings}
 use Rattle.farm_words.specs.Asking.{IsToolOn, AsksTool, Asks, AskForOne}
 use Rattle.farm_words.specs.Options.{BeginWith, GivesSettings, IsValueOf}
@@ -15,6 +15,10 @@ use Rattle.farm_words.specs.Run.{run_app, AsksRun}
 use Rattle.farm_words.specs.Drill.{drill_app, AreDrillOptions, AsksDrill, GivesDrill}
 use Rattle.farm_words.specs.Slots.{AsksSlot, IsSlotOn, NamesSlot}
 use Rattle.farm_words.specs.Words.{Names}
+use Rattle.farm_words.specs.Follow.{NamesFollow}
+use Rattle.farm_words.proofs.Matched.{one_value}
+use Rattle.farm_words.proofs.Following.{follow_only}
+use Rattle.farm_words.proofs.Living.{live_only}
 
 -- a list of two
 pub two : {A B : Type 0} (f : A → B) (xs : List A) (a b : A) → length xs ≡ 2 → a ≡ get_or xs 0 a → b ≡ get_or xs 1 b → map f xs ≡ f a ∷ f b ∷ []
@@ -41,20 +45,22 @@ same_head f [] a y ys long is e = absurd (omega arith)
 same_head f (x ∷ xs) a y ys long is e = cc
 
 -- a tool's two words
-named : (words : List Text) (name number command : Text) (c call : ℕ) → words ≡ name ∷ number ∷ [] → IsNumber 1 1024 number call → Names words command c → (name ≡ command) × (c ≡ call)
+named : (words : List Text) (name number command : Text) (c call : ℕ) → words ≡ name ∷ number ∷ [] → IsNumber 1 4096 number call → Names words command c → (name ≡ command) × (c ≡ call)
 named words name number command c call are is names =
     let spelled = names.spelled in
     let same : name ≡ command = cc in
     let digits : number ≡ decimal c = cc in
     (same, decimal_injective c call (omega (arith, names.high)) (omega (arith, is.at_most)) (sym digits ∙ is.spelled))
 
-pub tool_on : (words : List Text) (name number : Text) (a : Asked) (call : ℕ) → words ≡ name ∷ number ∷ [] → IsNumber 1 1024 number call → AsksTool words a → IsToolOn a name call
+pub tool_on : (words : List Text) (name number : Text) (a : Asked) (call : ℕ) → words ≡ name ∷ number ∷ [] → IsNumber 1 4096 number call → AsksTool words a → IsToolOn a name call
 tool_on words name number (Run s) call are is asks = absurd asks
 tool_on words name number (Drill seed calls s) call are is asks = absurd asks
+tool_on words name number (Live s) call are is asks = absurd asks
 tool_on words name number (Relay c) call are is asks = named words name number _ c call are is asks
 tool_on words name number (Frames c) call are is asks = named words name number _ c call are is asks
 tool_on words name number (Encode c) call are is asks = named words name number _ c call are is asks
 tool_on words name number (Decode c) call are is asks = named words name number _ c call are is asks
+tool_on words name number (Follow c want) call are is asks = absurd asks
 tool_on words name number (Split c) call are is asks = absurd asks
 tool_on words name number (Merge c) call are is asks = absurd asks
 
@@ -69,24 +75,29 @@ named_slot words name number command c call are is names =
 pub slot_on : (words : List Text) (name number : Text) (a : Asked) (call : ℕ) → words ≡ name ∷ number ∷ [] → IsNumber 1 4093 number call → AsksSlot words a → IsSlotOn a name call
 slot_on words name number (Run s) call are is asks = absurd asks
 slot_on words name number (Drill seed calls s) call are is asks = absurd asks
+slot_on words name number (Live s) call are is asks = absurd asks
 slot_on words name number (Relay c) call are is asks = absurd asks
 slot_on words name number (Frames c) call are is asks = absurd asks
 slot_on words name number (Encode c) call are is asks = absurd asks
 slot_on words name number (Decode c) call are is asks = absurd asks
+slot_on words name number (Follow c want) call are is asks = absurd asks
 slot_on words name number (Split c) call are is asks = named_slot words name number _ c call are is asks
 slot_on words name number (Merge c) call are is asks = named_slot words name number _ c call are is asks
 
--- words that are neither a run's nor a drill's nor a tool's nor those of a command on a slot
+-- words that are neither a run's nor a drill's nor a live drill's nor a tool's nor those of the base station's end or of a command on a slot
 pub no_asked : (words : List Text) → ((options : List Text) → words ≡ codes "run" ∷ options → ⊥) → ((options : List Text) → words ≡ codes "drill" ∷ options → ⊥) →
-    ((a : Asked) → AsksTool words a → ⊥) → ((a : Asked) → AsksSlot words a → ⊥) → (a : Asked) → Asks words a → ⊥
-no_asked words no_run no_drill no_tool no_slot (Run s) asks = no_run asks.options asks.spelled
-no_asked words no_run no_drill no_tool no_slot (Drill seed calls s) asks = no_drill asks.options asks.spelled
-no_asked words no_run no_drill no_tool no_slot (Relay c) asks = no_tool (Relay c) asks
-no_asked words no_run no_drill no_tool no_slot (Frames c) asks = no_tool (Frames c) asks
-no_asked words no_run no_drill no_tool no_slot (Encode c) asks = no_tool (Encode c) asks
-no_asked words no_run no_drill no_tool no_slot (Decode c) asks = no_tool (Decode c) asks
-no_asked words no_run no_drill no_tool no_slot (Split c) asks = no_slot (Split c) asks
-no_asked words no_run no_drill no_tool no_slot (Merge c) asks = no_slot (Merge c) asks
+    ((options : List Text) → words ≡ codes "live" ∷ options → ⊥) →
+    ((a : Asked) → AsksTool words a → ⊥) → ((call want : ℕ) → NamesFollow words call want → ⊥) → ((a : Asked) → AsksSlot words a → ⊥) → (a : Asked) → Asks words a → ⊥
+no_asked words no_run no_drill no_live no_tool no_follow no_slot (Run s) asks = no_run asks.options asks.spelled
+no_asked words no_run no_drill no_live no_tool no_follow no_slot (Drill seed calls s) asks = no_drill asks.options asks.spelled
+no_asked words no_run no_drill no_live no_tool no_follow no_slot (Live s) asks = no_live asks.options asks.spelled
+no_asked words no_run no_drill no_live no_tool no_follow no_slot (Relay c) asks = no_tool (Relay c) asks
+no_asked words no_run no_drill no_live no_tool no_follow no_slot (Frames c) asks = no_tool (Frames c) asks
+no_asked words no_run no_drill no_live no_tool no_follow no_slot (Encode c) asks = no_tool (Encode c) asks
+no_asked words no_run no_drill no_live no_tool no_follow no_slot (Decode c) asks = no_tool (Decode c) asks
+no_asked words no_run no_drill no_live no_tool no_follow no_slot (Follow c want) asks = no_follow c want asks
+no_asked words no_run no_drill no_live no_tool no_follow no_slot (Split c) asks = no_slot (Split c) asks
+no_asked words no_run no_drill no_live no_tool no_follow no_slot (Merge c) asks = no_slot (Merge c) asks
 
 -- words that begin with the one command don't ask for the other
 pub run_is_no_drill : (words : List Text) (seed calls : ℕ) (s : Settings) → BeginWith (codes "run") words → AsksDrill words seed calls s → ⊥
@@ -98,9 +109,11 @@ drill_is_no_run words s drill asks = let count : 5 ≡ 3 = ap (λ (ws : List Tex
 drill_is_no_tool : (words : List Text) (a : Asked) → BeginWith (codes "drill") words → AsksTool words a → ⊥
 drill_is_no_tool words (Run s) drill asks = asks
 drill_is_no_tool words (Drill seed calls s) drill asks = asks
+drill_is_no_tool words (Live s) drill asks = asks
 drill_is_no_tool words (Relay c) drill asks = let same : 100 ≡ 114 = ap (λ (ws : List Text). get_or (get_or ws 0 []) 0 0) (sym drill.1 ∙ asks.spelled) in omega (arith, same)
 drill_is_no_tool words (Frames c) drill asks = let same : 100 ≡ 102 = ap (λ (ws : List Text). get_or (get_or ws 0 []) 0 0) (sym drill.1 ∙ asks.spelled) in omega (arith, same)
 drill_is_no_tool words (Encode c) drill asks = let same : 100 ≡ 101 = ap (λ (ws : List Text). get_or (get_or ws 0 []) 0 0) (sym drill.1 ∙ asks.spelled) in omega (arith, same)
+drill_is_no_tool words (Follow c want) drill asks = asks
 drill_is_no_tool words (Decode c) drill asks = let count : 5 ≡ 6 = ap (λ (ws : List Text). length (get_or ws 0 [])) (sym drill.1 ∙ asks.spelled) in omega (arith, count)
 drill_is_no_tool words (Split c) drill asks = asks
 drill_is_no_tool words (Merge c) drill asks = asks
@@ -115,16 +128,14 @@ no_drilled words options is none (Drill seed calls s) asks =
     let also = asks.spelled in
     let same : asks.options ≡ options = cc in
     none seed calls s (subst (λ (os : List Text). AreDrillOptions os seed calls s) same asks.are)
+no_drilled words options is none (Live s) asks = let count : 5 ≡ 4 = ap (λ (ws : List Text). length (get_or ws 0 [])) (sym is ∙ asks.spelled) in omega (arith, count)
 no_drilled words options is none (Relay c) asks = drill_is_no_tool words (Relay c) (options, is) asks
 no_drilled words options is none (Frames c) asks = drill_is_no_tool words (Frames c) (options, is) asks
 no_drilled words options is none (Encode c) asks = drill_is_no_tool words (Encode c) (options, is) asks
 no_drilled words options is none (Decode c) asks = drill_is_no_tool words (Decode c) (options, is) asks
+no_drilled words options is none (Follow c want) asks = let count : 5 ≡ 6 = ap (λ (ws : List Text). length (get_or ws 0 [])) (sym is ∙ asks.spelled) in omega (arith, count)
 no_drilled words options is none (Split c) asks = drill_is_no_slot words _ c (options, is) asks (λ e. let same : 115 ≡ 100 = e in omega (arith, same))
 no_drilled words options is none (Merge c) asks = drill_is_no_slot words _ c (options, is) asks (λ e. let same : 109 ≡ 100 = e in omega (arith, same))
-
-one_value : (text : Option Text) (low high default m n : ℕ) → high < 2 ^ 32 → IsValueOf text low high default m → IsValueOf text low high default n → m ≡ n
-one_value None low high default m n small first second = first ∙ sym second
-one_value (Some text) low high default m n small first second = one_number text low high m low high n small small first second
 
 one_settings : (most default : ℕ) (text_of : Text → Option Text) (s t : Settings) → most < 2 ^ 32 → GivesSettings most default text_of s → GivesSettings most default text_of t → s ≡ t
 one_settings most default text_of s t small first second =
@@ -138,10 +149,12 @@ one_settings most default text_of s t small first second =
 abbrev command_of : Asked → List ℕ
 command_of (Run s) = codes "run"
 command_of (Drill seed calls s) = codes "drill"
+command_of (Live s) = codes "live"
 command_of (Relay c) = codes "relay"
 command_of (Frames c) = codes "frames"
 command_of (Encode c) = codes "encode"
 command_of (Decode c) = codes "decode"
+command_of (Follow c want) = codes "follow"
 command_of (Split c) = codes "split"
 command_of (Merge c) = codes "merge"
 
@@ -183,10 +196,12 @@ one_slot words name m n first second =
 first_word : (words : List Text) (a : Asked) → Asks words a → get_or words 0 [] ≡ command_of a
 first_word words (Run s) asks = ap (λ l. get_or l 0 []) asks.spelled
 first_word words (Drill seed calls s) asks = ap (λ l. get_or l 0 []) asks.spelled
+first_word words (Live s) asks = ap (λ l. get_or l 0 []) asks.spelled
 first_word words (Relay c) asks = ap (λ l. get_or l 0 []) asks.spelled
 first_word words (Frames c) asks = ap (λ l. get_or l 0 []) asks.spelled
 first_word words (Encode c) asks = ap (λ l. get_or l 0 []) asks.spelled
 first_word words (Decode c) asks = ap (λ l. get_or l 0 []) asks.spelled
+first_word words (Follow c want) asks = ap (λ l. get_or l 0 []) asks.spelled
 first_word words (Split c) asks = ap (λ l. get_or l 0 []) asks.spelled
 first_word words (Merge c) asks = ap (λ l. get_or l 0 []) asks.spelled
 
@@ -195,6 +210,10 @@ abbrev tag : Text → ℕ
 tag word = get_or word 0 0 + 1000 * length word
 
 one_thing : (words : List Text) (a b : Asked) → tag (command_of a) ≡ tag (command_of b) → Asks words a → Asks words b → a ≡ b
+one_thing words (Follow c want) b same first second = follow_only words c want b first second
+one_thing words (Live s) b same first second = live_only words s b first second
+one_thing words a (Follow d wanted) same first second = sym (follow_only words d wanted a second first)
+one_thing words a (Live t) same first second = sym (live_only words t a second first)
 one_thing words (Run s) (Run t) same first second = ap (λ x. Run x) (one_run words s t first second)
 one_thing words (Run s) (Drill n d t) same first second = let e : 3114 ≡ 5100 = same in absurd (omega (arith, e))
 one_thing words (Run s) (Relay n) same first second = let e : 3114 ≡ 5114 = same in absurd (omega (arith, e))

@@ -1,4 +1,6 @@
 -- Lemmas on words.
 pub mod Asking
+mod Following
 mod Found
+mod Living
 mod Matched

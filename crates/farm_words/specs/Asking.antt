@@ -1,8 +1,10 @@
 -- What words ask for (this project's profile).
 use Rattle.std.specs.Prelude.{◌≡◌, ℕ, List, codes}
 use Rattle.farm_words.specs.declared.asked.Asked.{Asked}
-use Rattle.farm_words.specs.declared.asked.Asked.TheVariants.{Run, Drill, Relay, Frames, Encode, Decode, Split, Merge}
+use Rattle.farm_words.specs.declared.asked.Asked.TheVariants.{Run, Drill, Live, Relay, Frames, Encode, Decode, Follow, Split, Merge}
 use Rattle.farm_words.specs.Drill.{AsksDrill}
+use Rattle.farm_words.specs.Follow.{NamesFollow}
+use Rattle.farm_words.specs.Live.{AsksLive}
 use Rattle.farm_words.specs.Run.{AsksRun}
 use Rattle.farm_words.specs.Slots.{AsksSlot}
 use Rattle.farm_words.specs.Words.{Names}
@@ -11,10 +13,12 @@ use Rattle.farm_words.specs.Words.{Names}
 abbrev pub IsToolOn : Asked → List ℕ → ℕ → Type 0
 IsToolOn (Run s) name call = ⊥
 IsToolOn (Drill seed calls s) name call = ⊥
+IsToolOn (Live s) name call = ⊥
 IsToolOn (Relay c) name call = (name ≡ codes "relay") × (c ≡ call)
 IsToolOn (Frames c) name call = (name ≡ codes "frames") × (c ≡ call)
 IsToolOn (Encode c) name call = (name ≡ codes "encode") × (c ≡ call)
 IsToolOn (Decode c) name call = (name ≡ codes "decode") × (c ≡ call)
+IsToolOn (Follow c want) name call = ⊥
 IsToolOn (Split c) name call = ⊥
 IsToolOn (Merge c) name call = ⊥
 
@@ -22,21 +26,25 @@ IsToolOn (Merge c) name call = ⊥
 abbrev pub AsksTool : List (List ℕ) → Asked → Type 0
 AsksTool words (Run s) = ⊥
 AsksTool words (Drill seed calls s) = ⊥
+AsksTool words (Live s) = ⊥
 AsksTool words (Relay c) = Names words (codes "relay") c
 AsksTool words (Frames c) = Names words (codes "frames") c
 AsksTool words (Encode c) = Names words (codes "encode") c
 AsksTool words (Decode c) = Names words (codes "decode") c
+AsksTool words (Follow c want) = ⊥
 AsksTool words (Split c) = ⊥
 AsksTool words (Merge c) = ⊥
 
--- what words ask for: a run, a drill, a tool's work, or a command on a slot
+-- what words ask for: a run, a drill, a live drill, a tool's work, the base station's end, or a command on a slot
 abbrev pub Asks : List (List ℕ) → Asked → Type 0
 Asks words (Run s) = AsksRun words s
 Asks words (Drill seed calls s) = AsksDrill words seed calls s
+Asks words (Live s) = AsksLive words s
 Asks words (Relay c) = AsksTool words (Relay c)
 Asks words (Frames c) = AsksTool words (Frames c)
 Asks words (Encode c) = AsksTool words (Encode c)
 Asks words (Decode c) = AsksTool words (Decode c)
+Asks words (Follow c want) = NamesFollow words c want
 Asks words (Split c) = AsksSlot words (Split c)
 Asks words (Merge c) = AsksSlot words (Merge c)
 

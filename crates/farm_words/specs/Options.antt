@@ -1,5 +1,5 @@
 -- Commands with options (this project's profile), as the crate `clap` is given them.
-use Rattle.std.specs.Prelude.{◌≡◌, ℕ, List, ◌∷◌, true, Option, Some, None, codes}
+use Rattle.std.specs.Prelude.{◌≡◌, ◌⊎◌, ℕ, List, ◌∷◌, true, Option, Some, None, codes}
 use Rattle.clap.specs.Words.{App, Rule, Text, new_app, new_rule, with_rule}
 use Rattle.clap.specs.Simple.{on_top}
 use Rattle.clap.specs.declared.builder.action.ArgAction.TheVariants.{Set}
@@ -33,3 +33,7 @@ pub record GivesSettings (most default : ℕ) (text_of : Text → Option Text) (
 -- the first word is this one, whatever stands behind it
 abbrev pub BeginWith : List ℕ → List Text → Type 0
 BeginWith name words = (options : List Text) × (words ≡ name ∷ options)
+
+-- the first word is that of a command that takes options
+abbrev pub TakeOptions : List Text → Type 0
+TakeOptions words = BeginWith (codes "run") words ⊎ BeginWith (codes "drill") words ⊎ BeginWith (codes "live") words

@@ -1,5 +1,6 @@
 //! What words ask for, and why they aren't taken.
 
+use crate::LiveSettings;
 use std::alloc::AllocError;
 use thiserror::Error;
 
@@ -16,7 +17,7 @@ pub struct Settings {
     pub periods: u32,
 }
 
-/// What the words ask for. The tools name a call, 1 to 1,024.
+/// What the words ask for. The tools name a call, 1 to 4,096.
 #[derive(Clone, Copy, Debug, PartialEq, Eq)]
 pub enum Asked {
     /// A run of all calls that orders open.
@@ -27,6 +28,8 @@ pub enum Asked {
         calls: u32,
         settings: Settings,
     },
+    /// Callers on threads of their own, which post the periods of drawn calls.
+    Live(LiveSettings),
     /// The good speech frames of a call's uplink, bits unchanged, on its downlink.
     Relay(u32),
     /// The listing of the frames of a call's uplink.
@@ -35,6 +38,12 @@ pub enum Asked {
     Encode(u32),
     /// The good speech frames of a call's uplink, decoded, on its Out line.
     Decode(u32),
+    /// The downlink recorded on a call's Up line, 1 to 4,096, followed as its base station would that wants frames at places
+    /// that are `want` modulo 320: 0 to 316, a multiple of 4.
+    Follow {
+        call: u32,
+        want: u16,
+    },
     /// The time slot on a call's Pcm line, cut into four channels for this call's Down line and the next three's: 1 to 4,093.
     Split(u32),
     /// The channels on a call's Up line and the next three's, put together to a time slot: 1 to 4,093.

@@ -6,7 +6,8 @@ ghost use Rattle.farm_words.specs.Asking.{AsksTool, IsToolOn};
 use crate::Asked;
 use decimal_number::number_of_text;
 
-const HIGHEST_CALL: u32 = 1024;
+/// The highest number of a call.
+pub(crate) const HIGHEST_CALL: u32 = 4096;
 
 // The work of the tool of this name on a call.
 fn tool_named(name: &str, call: u32) -> Option<Asked>

@@ -1,7 +1,7 @@
 //! The full rate decoder (GSM 06.10, section 4.3): a frame of parameters to 160 samples.
 //!
 //! Takes the parameters that a speech frame carries (`trau_params`), or that stand for one that was lost, and
-//! gives the 160 samples of a period of 20 ms, 13 bits left-justified in 16, which are then compressed to A-law.
+//! gives the 160 samples of a period of 20 ms, 13 bits left-justified in 16, which then become octets of a line.
 //! A frame goes through the stages of the standard: its four blocks of pulses (`fr_rpe`), long-term synthesis
 //! (`fr_long`), short-term synthesis (`fr_short`), and here de-emphasis and truncation.
 //!

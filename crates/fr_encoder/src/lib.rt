@@ -1,6 +1,6 @@
 //! The full rate encoder (GSM 06.10, section 4.2): 160 samples to a frame of parameters.
 //!
-//! Takes the 160 samples of a period of 20 ms, 13 bits left-justified in 16, that a line's A-law was expanded to,
+//! Takes the 160 samples of a period of 20 ms, 13 bits left-justified in 16, that a line's octets were expanded to,
 //! and gives the parameters that a speech frame carries (`trau_params`). A frame goes through the stages of the
 //! standard: preprocessing (`fr_pre`), linear prediction (`fr_lpc`), short-term analysis (`fr_short`), and then its
 //! four blocks in turn through long-term prediction (`fr_long`) and pulse coding (`fr_rpe`). What the transmit side

@@ -2,6 +2,7 @@ use farm_report::{CallLine, Report, SpanLine, write_report};
 use std::alloc::{AllocError, Global};
 use std::process::Abort;
 use switchboard::{Act, Refusal, Reply, Span};
+use trau_alaw::Law;
 use trau_io::{CallEnd, Cause, Counts, Line, Side};
 
 const LAST: u32 = u32::MAX;
@@ -55,7 +56,7 @@ fn assert_text(
 static EACH_REPLY: [Reply; 9] = [
     Reply {
         order: 1,
-        result: Ok(Act::Opened { call: 1 }),
+        result: Ok(Act::Opened { call: 1, law: Law::A }),
     },
     Reply {
         order: 4,
@@ -247,7 +248,7 @@ fn recorded_replies(alloc: Global) -> Result<Vec<Reply>, AllocError> {
                 call: 2,
                 partner: 1,
             }),
-            _ => Ok(Act::Opened { call: 1 }),
+            _ => Ok(Act::Opened { call: 1, law: Law::A }),
         };
         replies.push(reply(order, result))?;
     }

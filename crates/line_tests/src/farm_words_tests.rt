@@ -132,7 +132,7 @@ fn options_of_a_drill(rt: HostRuntime) {
 static TOOLS: [(&str, Asked); 4] = [
     ("relay 7", Asked::Relay(7)),
     ("frames 1", Asked::Frames(1)),
-    ("encode 1024", Asked::Encode(1024)),
+    ("encode 4096", Asked::Encode(4096)),
     ("decode 10", Asked::Decode(10)),
 ];
 
@@ -182,7 +182,7 @@ Run
 relay
 relay 07
 relay 0
-relay 1025
+relay 4097
 relay 7 --
 relay -- 7
 relay 7 7

@@ -6,6 +6,7 @@ use std::alloc::Global;
 use std::process::Abort;
 use std::test::Fail;
 use switchboard::{Act, Board, Refusal, Reply, Span};
+use trau_alaw::Law;
 use trau_io::{CallEnd, Cause};
 use trau_orders::{DtxMode, Orders};
 
@@ -58,13 +59,13 @@ fn assert_replied(
 }
 
 static TWO_PERIODS: &[u8] =
-    b"0 open 1\n0 open 2\n0 open 3\n0 open 1\n0 bridge 1 1\n0 bridge 1 2\n0 bridge 3 2\n0 unbridge 3\n\
+    b"0 open 1\n0 open 2\n0 open 3 mulaw\n0 open 1 mulaw\n0 bridge 1 1\n0 bridge 1 2\n0 bridge 3 2\n0 unbridge 3\n\
         1 unbridge 2\n1 bridge 3 1\n1 close 3\n1 open 3\n1 level 9 0\n";
 
 static TWO_RESULTS: [Result<Act, Refusal>; 13] = [
-    Ok(Act::Opened { call: 1 }),
-    Ok(Act::Opened { call: 2 }),
-    Ok(Act::Opened { call: 3 }),
+    Ok(Act::Opened { call: 1, law: Law::A }),
+    Ok(Act::Opened { call: 2, law: Law::A }),
+    Ok(Act::Opened { call: 3, law: Law::Mu }),
     Err(Refusal::AlreadyOpen { call: 1 }),
     Err(Refusal::SameCall { call: 1 }),
     Ok(Act::Bridged { a: 1, b: 2 }),
@@ -99,11 +100,11 @@ static THREE_PERIODS: &[u8] =
         2 bridge 3 1\n2 close 1\n2 open 1\n2 close 1\n2 bridge 3 5\n2 level 5 7\n2 dtx 5 on\n";
 
 static THREE_RESULTS: [Result<Act, Refusal>; 27] = [
-    Ok(Act::Opened { call: 1 }),
-    Ok(Act::Opened { call: 2 }),
-    Ok(Act::Opened { call: 3 }),
-    Ok(Act::Opened { call: 4 }),
-    Ok(Act::Opened { call: 5 }),
+    Ok(Act::Opened { call: 1, law: Law::A }),
+    Ok(Act::Opened { call: 2, law: Law::A }),
+    Ok(Act::Opened { call: 3, law: Law::A }),
+    Ok(Act::Opened { call: 4, law: Law::A }),
+    Ok(Act::Opened { call: 5, law: Law::A }),
     Ok(Act::Bridged { a: 1, b: 2 }),
     Ok(Act::Bridged { a: 3, b: 4 }),
     Err(Refusal::SameCall { call: 9 }),

@@ -1,5 +1,6 @@
 use crate::rows::assert_rows;
 use std::alloc::{AllocError, Global};
+use trau_alaw::Law;
 use trau_orders::{DtxMode, Order, OrderFault, Orders, What};
 
 // Whole runs' orders, recorded with the answers of a separate program.
@@ -18,16 +19,21 @@ fn count(alloc: Global, text: &[u8]) -> Result<usize, OrderFault> {
 }
 
 // Texts, and what is answered to them: how many orders they have, or the first line that isn't in the grammar.
-static TEXTS: [(&[u8], Result<usize, OrderFault>); 25] = [
+static TEXTS: [(&[u8], Result<usize, OrderFault>); 30] = [
     (b"", Ok(0)),
     (CLEAN_FARM, Ok(18)),
     (MIXED_FARM, Ok(18)),
     (HARSH_FARM, Ok(21)),
     (b"4000000000 open 1", Ok(1)),
-    (b"4294967294 open 1024\n", Ok(1)),
+    (b"4294967294 open 4096\n", Ok(1)),
+    (b"0 open 4096 mulaw\n0 close 4096", Ok(2)),
     (b"0 open 01", Err(OrderFault::Line(1))),
     (b"4294967295 open 1", Err(OrderFault::Line(1))),
-    (b"0 open 1025", Err(OrderFault::Line(1))),
+    (b"0 open 4097", Err(OrderFault::Line(1))),
+    (b"0 open 4097 mulaw", Err(OrderFault::Line(1))),
+    (b"0 open 1 alaw", Err(OrderFault::Line(1))),
+    (b"0 open 1 mulaw ", Err(OrderFault::Line(1))),
+    (b"0 close 1 mulaw", Err(OrderFault::Line(1))),
     (b"0 open 0", Err(OrderFault::Line(1))),
     (b"0 level 1 32768", Err(OrderFault::Line(1))),
     (b"\n", Err(OrderFault::Line(1))),
@@ -60,7 +66,7 @@ fn answered(alloc: Global) -> usize {
 
 #[test]
 fn orders_are_counted_or_refused(rt: HostRuntime) {
-    assert_rows(&rt, answered(rt.alloc()), 25);
+    assert_rows(&rt, answered(rt.alloc()), 30);
 }
 
 // Whether this is answered to a text of so many of one octet.
@@ -120,7 +126,7 @@ fn the_most_lines_are_orders(rt: HostRuntime) {
 }
 
 static LINES: &[u8] =
-    b"0 open 1\n0 open 2\n0 open 3\n0 open 1\n0 bridge 1 1\n0 bridge 1 2\n0 bridge 3 2\n0 unbridge 3\n1 unbridge 2\n1 bridge 3 1\n1 close 3\n1 open 3\n1 level 9 0\n1 level 1024 32767\n35 dtx 1 on\n108 dtx 3 off\n4294967294 dtx 1 uplink";
+    b"0 open 1\n0 open 2\n0 open 3 mulaw\n0 open 1\n0 bridge 1 1\n0 bridge 1 2\n0 bridge 3 2\n0 unbridge 3\n1 unbridge 2\n1 bridge 3 1\n1 close 3\n1 open 3\n1 level 9 0\n1 level 4096 32767\n35 dtx 1 on\n108 dtx 3 off\n4294967294 dtx 1 uplink";
 
 // Whether these are the orders.
 fn are(orders: &[Order], wanted: &[(u32, What)]) -> bool {
@@ -145,10 +151,10 @@ fn spells(alloc: Global, text: &[u8], wanted: &[(u32, What)]) -> bool {
 }
 
 static ORDERS: [(u32, What); 17] = [
-    (0, What::OpenCall(1)),
-    (0, What::OpenCall(2)),
-    (0, What::OpenCall(3)),
-    (0, What::OpenCall(1)),
+    (0, What::OpenCall { call: 1, law: Law::A }),
+    (0, What::OpenCall { call: 2, law: Law::A }),
+    (0, What::OpenCall { call: 3, law: Law::Mu }),
+    (0, What::OpenCall { call: 1, law: Law::A }),
     (0, What::Bridge(1, 1)),
     (0, What::Bridge(1, 2)),
     (0, What::Bridge(3, 2)),
@@ -156,9 +162,9 @@ static ORDERS: [(u32, What); 17] = [
     (1, What::Unbridge(2)),
     (1, What::Bridge(3, 1)),
     (1, What::CloseCall(3)),
-    (1, What::OpenCall(3)),
+    (1, What::OpenCall { call: 3, law: Law::A }),
     (1, What::Level(9, 0)),
-    (1, What::Level(1024, 32_767)),
+    (1, What::Level(4096, 32_767)),
     (35, What::Dtx(1, DtxMode::On)),
     (108, What::Dtx(3, DtxMode::Off)),
     (4_294_967_294, What::Dtx(1, DtxMode::Uplink)),

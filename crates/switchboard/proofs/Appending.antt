@@ -34,7 +34,7 @@ first_ender a b d (e ∷ later) = one_more (ends_bridge a b e.result) e _ _ _ (f
 
 bridge_by-more : (t : ℕ) (r : Result Act Refusal) (later : List Done) (d : Done) → bridge_by t r (later ++ d ∷ []) ≡ map (after d) (bridge_by t r later)
 bridge_by-more t (Ok (act.Bridged a b)) later d = ap (λ o. record { a = a; b = b; from = t; ended = o } ∷ []) (first_ender a b d later)
-bridge_by-more t (Ok (act.Opened c)) later d = refl
+bridge_by-more t (Ok (act.Opened c law)) later d = refl
 bridge_by-more t (Ok (act.Closed c p)) later d = refl
 bridge_by-more t (Ok (act.Unbridged a b)) later d = refl
 bridge_by-more t (Ok (act.LevelSet c v)) later d = refl

@@ -97,7 +97,7 @@ parted_keeps r t c = by r t (call_in r c).bridge
     by r t (Some k) = refl
 
 pub told_same : (r : Rows) (t : ℕ) (x : Result Act Refusal) → map (λ (e : Call). e.gone) (applied r t x).calls ≡ map (λ (e : Call). e.gone) r.calls
-told_same r t (Ok (act.Opened c)) = gone_set r.calls c _ refl
+told_same r t (Ok (act.Opened c law)) = gone_set r.calls c _ refl
 told_same r t (Ok (act.Closed c None)) = gone_set r.calls c _ refl
 told_same r t (Ok (act.Closed c (Some p))) =
     gone_set (parted_in r t c).calls c _ refl ∙ ap (map (λ (e : Call). e.gone)) (parted_keeps r t c)
@@ -113,7 +113,7 @@ calls_same r t x =
     sym (length-map (applied r t x).calls gone) ∙ ap length (told_same r t x) ∙ length-map r.calls gone
 
 pub most_same : (r : Rows) (t : ℕ) (x : Result Act Refusal) → (applied r t x).most ≡ r.most
-most_same r t (Ok (act.Opened c)) = refl
+most_same r t (Ok (act.Opened c law)) = refl
 most_same r t (Ok (act.Closed c None)) = refl
 most_same r t (Ok (act.Closed c (Some p))) = most_parted r t (call_in r c).bridge
   where
@@ -138,7 +138,7 @@ few_bridges (d ∷ ds) = let h = few_bridges ds in omega (arith, length-append (
   where
     one_bridge : (t : ℕ) (x : Result Act Refusal) (ds : List Done) → length (bridge_by t x ds) ≤ 1
     one_bridge t (Ok (act.Bridged a b)) ds = omega arith
-    one_bridge t (Ok (act.Opened c)) ds = omega arith
+    one_bridge t (Ok (act.Opened c law)) ds = omega arith
     one_bridge t (Ok (act.Closed c p)) ds = omega arith
     one_bridge t (Ok (act.Unbridged a b)) ds = omega arith
     one_bridge t (Ok (act.LevelSet c v)) ds = omega arith

@@ -4,6 +4,7 @@ use Rattle.std.specs.Prelude.{Result, Ok, Err, not, ◌&&◌, ◌||◌, ◌==◌
 use Rattle.std.proofs.lemmas.Bool.{cases_lt, eqb-true}
 use Rattle.std.proofs.lemmas.List.{length-set}
 use Rattle.std.proofs.lemmas.List.Elements.{All-from_get_or}
+use Rattle.trau_alaw.specs.declared.Law.{Law}
 use Rattle.trau_orders.specs.declared.order.Order.{Order}
 use Rattle.trau_orders.specs.declared.order.What.{What}
 use Rattle.trau_orders.specs.declared.order.What.TheVariants as what
@@ -47,8 +48,8 @@ none_of : (o : Option ℕ) → is_some o ≡ false → o ≡ None
 none_of None e = refl
 none_of (Some x) e = cc
 
-moved_opened : (r : Rows) (now t m : ℕ) → IsTable r now → length r.calls ≡ 4097 → (1 ≤ m) × (m ≤ 4096) → was_opened r m ≡ false → Moved r (applied r t (Ok (act.Opened m))) t (act.Opened m)
-moved_opened r now t m s len n fresh =
+moved_opened : (r : Rows) (now t m : ℕ) (law : Law) → IsTable r now → length r.calls ≡ 4097 → (1 ≤ m) × (m ≤ 4096) → was_opened r m ≡ false → Moved r (applied r t (Ok (act.Opened m law))) t (act.Opened m law)
+moved_opened r now t m law s len n fresh =
     let l : m < length r.calls = omega (arith, n.1) in
     let new : (call_in r m).opened ≡ None = none_of _ fresh in
     record { finds = (n, fresh); opened = opened_was r t m l; lives = opened_open r now t m s l new; partner = opened_partner r now t m s len new; rests = tt }
@@ -156,10 +157,10 @@ does : (r : Rows) (t : ℕ) (x : Result Act Refusal) (a : Act) → x ≡ Ok a �
 does r t x a e m = subst (λ (x : Result Act Refusal). Does r t x) (sym e) m
 
 pub moved : (r : Rows) (ds : List Done) (t : ℕ) (w : What) → Stands r ds → length r.calls ≡ 4097 → last_stamp ds ≤ t → IsSome_before r t → NamesCalls w → Does r t (reply_from (known_in r t) w)
-moved r ds t (what.OpenCall c) s len late told n =
-    elim (open_accepted (known_in r t) c) [
+moved r ds t (what.OpenCall c law) s len late told n =
+    elim (open_accepted (known_in r t) c law) [
       | inl e ↦ does_nothing r t _ e
-      | inr p ↦ does r t _ (act.Opened c) p.0 (moved_opened r _ t c s.table len n (never_opened _ _ p.1 p.2))
+      | inr p ↦ does r t _ (act.Opened c law) p.0 (moved_opened r _ t c law s.table len n (never_opened _ _ p.1 p.2))
     ]
 moved r ds t (what.CloseCall c) s len late told n =
     elim (close_accepted (known_in r t) c) [
@@ -327,6 +328,7 @@ pub as_before : (s n : State) → IsUnchanged s n → IsAsBefore s n
 as_before s n u = record {
   opened = λ c. opened_known n c ∙ ap (λ (k : Known). k.is_open c || k.has_ended c) (u.known 0) ∙ sym (opened_known s c);
   is_open = λ c. ap (λ (k : Known). k.is_open c) (u.known 0);
+  law = u.law;
   partner = λ c. ap (λ (k : Known). option_map (other c) (k.bridge_of c)) (u.known 0);
 }
   where

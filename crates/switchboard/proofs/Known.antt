@@ -2,6 +2,7 @@
 use Rattle.std.proofs.Common.{◌≡◌, refl, sym, ap, ◌∙◌, subst, ℕ, ◌<◌, ◌≤◌, ◌≢◌, Bool, true, false, Option, Some, None, List, length, get_or, arith, inl, inr}
 use Rattle.std.specs.Prelude.{find, not, ◌&&◌, is_some, is_none}
 use Rattle.std.proofs.lemmas.Bool.{and_parts, and_from, cases_order, eqb-true}
+use Rattle.trau_alaw.specs.declared.Law.{Law}
 use Rattle.trau_orders.specs.declared.order.What.{What}
 use Rattle.trau_orders.specs.declared.order.What.TheVariants as what
 use Rattle.trau_orders.specs.Lists.{NamesCalls}
@@ -144,8 +145,8 @@ ended_agrees r ds c t s now h =
 
 -- ---- the reply
 
-same_open : (k l : Known) (c : ℕ) → k.is_open c ≡ l.is_open c → k.has_ended c ≡ l.has_ended c → reply_from k (what.OpenCall c) ≡ reply_from l (what.OpenCall c)
-same_open k l c p q = cc
+same_open : (k l : Known) (c : ℕ) (law : Law) → k.is_open c ≡ l.is_open c → k.has_ended c ≡ l.has_ended c → reply_from k (what.OpenCall c law) ≡ reply_from l (what.OpenCall c law)
+same_open k l c law p q = cc
 
 same_close : (k l : Known) (c : ℕ) → k.is_open c ≡ l.is_open c → k.bridge_of c ≡ l.bridge_of c → reply_from k (what.CloseCall c) ≡ reply_from l (what.CloseCall c)
 same_close k l c p q = cc
@@ -165,9 +166,9 @@ same_dtx k l w c m p = cc
 
 pub reply_agrees : (r : Rows) (ds : List Done) (t : ℕ) (w : What) → Stands r ds → IsSized r.calls r.bridges → last_stamp ds ≤ t → NamesCalls w →
     reply_from (known_in r t) w ≡ reply_from (known_of (gone_of r) t ds) w
-reply_agrees r ds t (what.OpenCall c) s z now n =
+reply_agrees r ds t (what.OpenCall c law) s z now n =
     let h : c < 4097 = omega arith in
-    same_open (known_in r t) (known_of (gone_of r) t ds) c (open_agrees r ds c s h) (ended_call_agrees r ds c s h)
+    same_open (known_in r t) (known_of (gone_of r) t ds) c law (open_agrees r ds c s h) (ended_call_agrees r ds c s h)
 reply_agrees r ds t (what.CloseCall c) s z now n =
     let h : c < 4097 = omega arith in
     same_close (known_in r t) (known_of (gone_of r) t ds) c (open_agrees r ds c s h) (bridge_agrees r ds c s z h)

@@ -22,6 +22,7 @@ use Rattle.switchboard.specs.Stands.{AreRising}
 use Rattle.switchboard.specs.Runs.{IsUnchanged}
 use Rattle.switchboard.specs.Ends.{span_to, end_now}
 use Rattle.switchboard.proofs.Appending.{bridges-more}
+use Rattle.switchboard.proofs.GivenLaws.{law_kept}
 use Rattle.switchboard.proofs.Replies.{IsRefused, open_accepted, close_accepted, bridge_accepted, unbridge_accepted, level_accepted, dtx_accepted}
 use Rattle.switchboard.proofs.Steps.{last-more, or_else-none, opened-more, closed-more, after_kept, map_after_same}
 
@@ -93,6 +94,7 @@ refused_same : (s : State) (o : Order) (x : Result Act Refusal) (e : Refusal) �
 refused_same s o x e p = subst (λ (x : Result Act Refusal). IsUnchanged s (record s { left = drop 1 s.left; done = s.done ++ record { order = o; result = x } ∷ [] })) (sym p) (record {
   known = λ t. refused_known (gone_in s) t s.done o e;
   told = refl;
+  law = λ c. law_kept c s.done (record { order = o; result = Err e }) refl;
   spans = ap (filter_map (λ x. option_map (span_to x) (end_now (told_in s) x))) (refused_bridges s.done o e);
 })
 
@@ -189,7 +191,7 @@ accepted_range : (x : Result Act Refusal) (a : Act) → x ≡ Ok a → IsInRange
 accepted_range x a e h = subst (λ (x : Result Act Refusal). IfOk x IsInRange) (sym e) h
 
 pub in_range : (k : Known) (w : What) → NamesCalls w → HasLevel w → IfOk (reply_from k w) IsInRange
-in_range k (what.OpenCall c) n l = elim (open_accepted k c) [ inl e ↦ refused_range _ e | inr p ↦ accepted_range _ (act.Opened c) p.0 n ]
+in_range k (what.OpenCall c law) n l = elim (open_accepted k c law) [ inl e ↦ refused_range _ e | inr p ↦ accepted_range _ (act.Opened c law) p.0 n ]
 in_range k (what.CloseCall c) n l = elim (close_accepted k c) [ inl e ↦ refused_range _ e | inr p ↦ accepted_range _ (act.Closed c (option_map (other c) (k.bridge_of c))) p.0 tt ]
 in_range k (what.Bridge a b) n l = elim (bridge_accepted k a b) [ inl e ↦ refused_range _ e | inr p ↦ accepted_range _ (act.Bridged a b) p.0 tt ]
 in_range k (what.Unbridge c) n l = elim (unbridge_accepted k c) [ inl e ↦ refused_range _ e | inr p ↦ accepted_range _ (act.Unbridged p.0.a p.0.b) p.1 tt ]

@@ -3,6 +3,7 @@ pub mod Sizes
 pub mod Spans
 pub mod Known
 pub mod Steps
+pub mod GivenLaws
 pub mod Tables
 pub mod Replies
 pub mod Moves

@@ -3,6 +3,7 @@ use Rattle.std.proofs.Common.{◌≡◌, refl, sym, ap, ◌∙◌, subst, ℕ, �
 use Rattle.std.specs.Prelude.{Result, Ok, Err, not, if◌then◌else◌, ◌&&◌, ◌||◌, is_some, is_none, ◌==◌, option_map, IfSome}
 use Rattle.std.proofs.lemmas.Bool.{cases_Bool, eqb-true, eq-eqb, and_parts, or_cases, cases_order}
 use Rattle.std.proofs.lemmas.List.{append-nil, get_or-set_same}
+use Rattle.trau_alaw.specs.declared.Law.{Law}
 use Rattle.trau_orders.specs.declared.order.Order.{Order}
 use Rattle.trau_orders.specs.declared.order.What.{What}
 use Rattle.trau_orders.specs.declared.order.What.TheVariants as what
@@ -68,10 +69,10 @@ never_opened o true p q = cc
 never_opened true false p q = cc
 never_opened false false p q = refl
 
-pub stands_opened : (r : Rows) (ds : List Done) (o : Order) (c : ℕ) → Stands r ds → length r.calls ≡ 4097 → last_stamp ds ≤ o.stamp → c < 4097 → is_some (call_in r c).opened ≡ false →
-    Stands (opened_in r o.stamp c) (ds ++ done o (Ok (act.Opened c)) ∷ [])
-stands_opened r ds o c s len late h fresh =
-    let d : Done = done o (Ok (act.Opened c)) in
+pub stands_opened : (r : Rows) (ds : List Done) (o : Order) (c : ℕ) (law : Law) → Stands r ds → length r.calls ≡ 4097 → last_stamp ds ≤ o.stamp → c < 4097 → is_some (call_in r c).opened ≡ false →
+    Stands (opened_in r o.stamp c) (ds ++ done o (Ok (act.Opened c law)) ∷ [])
+stands_opened r ds o c law s len late h fresh =
+    let d : Done = done o (Ok (act.Opened c law)) in
     let e : Call = record (call_in r c) { opened = Some o.stamp } in
     let old : (call_in r c).opened ≡ None = is_none_of _ fresh in
     stands_by r (opened_in r o.stamp c) ds d s
@@ -338,11 +339,11 @@ refused r ds o x s late e = subst (λ (x : Result Act Refusal). Next r ds o x) (
 
 pub stands_more : (r : Rows) (ds : List Done) (t : ℕ) (w : What) → Stands r ds → IsSized r.calls r.bridges → last_stamp ds ≤ t → IsSome_before r t → NamesCalls w →
     Next r ds (record { stamp = t; what = w }) (reply_from (known_in r t) w)
-stands_more r ds t (what.OpenCall c) s z late told n =
-    let o : Order = record { stamp = t; what = what.OpenCall c } in
-    elim (open_accepted (known_in r t) c) [
+stands_more r ds t (what.OpenCall c law) s z late told n =
+    let o : Order = record { stamp = t; what = what.OpenCall c law } in
+    elim (open_accepted (known_in r t) c law) [
       | inl e ↦ refused r ds o _ s late e
-      | inr p ↦ subst (λ (x : Result Act Refusal). Next r ds o x) (sym p.0) (stands_opened r ds o c s z.all late (omega (arith, n.1)) (never_opened _ _ p.1 p.2))
+      | inr p ↦ subst (λ (x : Result Act Refusal). Next r ds o x) (sym p.0) (stands_opened r ds o c law s z.all late (omega (arith, n.1)) (never_opened _ _ p.1 p.2))
     ]
 stands_more r ds t (what.CloseCall c) s z late told n =
     let o : Order = record { stamp = t; what = what.CloseCall c } in

@@ -4,6 +4,7 @@ use Rattle.std.specs.Prelude.{Result, Ok, Err, IsErr, ℤ, not, is_none, ◌==�
 use Rattle.std.specs.Result.{IsErrAnd}
 use Rattle.std.proofs.lemmas.Bool.{eq-eqb, ne_eqb}
 use Rattle.std.proofs.lemmas.Result.{err_from_is_err_and}
+use Rattle.trau_alaw.specs.declared.Law.{Law}
 use Rattle.trau_orders.specs.declared.order.DtxMode.{DtxMode}
 use Rattle.trau_orders.specs.declared.order.What.TheVariants as what
 use Rattle.switchboard.specs.declared.act.Act.{Act}
@@ -54,8 +55,8 @@ none_mapped : {X Y : Type 0} (f : X → Y) (o : Option X) → option_map f o ≡
 none_mapped f None e = refl
 none_mapped f (Some x) e = cc
 
-pub open_accepted : (k : Known) (c : ℕ) → IsRefused (reply_from k (what.OpenCall c)) ⊎ ((reply_from k (what.OpenCall c) ≡ Ok (act.Opened c)) × (k.is_open c ≡ false) × (k.has_ended c ≡ false))
-open_accepted k c = elim (two (act.Opened c) _ _) [ inl e ↦ inl e | inr p ↦ inr (p.0, not_refused _ _ p.1, not_refused _ _ p.2) ]
+pub open_accepted : (k : Known) (c : ℕ) (law : Law) → IsRefused (reply_from k (what.OpenCall c law)) ⊎ ((reply_from k (what.OpenCall c law) ≡ Ok (act.Opened c law)) × (k.is_open c ≡ false) × (k.has_ended c ≡ false))
+open_accepted k c law = elim (two (act.Opened c law) _ _) [ inl e ↦ inl e | inr p ↦ inr (p.0, not_refused _ _ p.1, not_refused _ _ p.2) ]
 
 pub close_accepted : (k : Known) (c : ℕ) → IsRefused (reply_from k (what.CloseCall c)) ⊎ ((reply_from k (what.CloseCall c) ≡ Ok (act.Closed c (option_map (other c) (k.bridge_of c)))) × (k.is_open c ≡ true))
 close_accepted k c = elim (one (act.Closed c (option_map (other c) (k.bridge_of c))) _) [ inl e ↦ inl e | inr p ↦ inr (p.0, not_not_refused _ _ p.1) ]

@@ -1,5 +1,7 @@
--- Which calls are open. Lists of executed orders have the oldest first.
+-- Which calls are open, and by which law. Lists of executed orders have the oldest first.
 use Rattle.std.specs.Prelude.{ℕ, ◌+◌, Bool, false, not, ◌&&◌, ◌==◌, nat_lt, Option, Some, None, is_some, option_map, find, Result, Ok, List}
+use Rattle.trau_alaw.specs.declared.Law.{Law}
+use Rattle.trau_alaw.specs.declared.Law.TheVariants.{A}
 use Rattle.trau_orders.specs.declared.order.Order.{Order}
 use Rattle.switchboard.specs.declared.act.Act.{Act}
 use Rattle.switchboard.specs.declared.act.Act.TheVariants as act
@@ -12,8 +14,13 @@ pub record Done : Type 0 where
 
 -- the call that an order opened
 abbrev pub opened_by : Result Act Refusal → Option ℕ
-opened_by (Ok (act.Opened c)) = Some c
+opened_by (Ok (act.Opened c law)) = Some c
 opened_by _ = None
+
+-- the law that it opened that call with, and A-law where it opened none
+abbrev pub law_by : Result Act Refusal → Law
+law_by (Ok (act.Opened c law)) = law
+law_by _ = A
 
 -- the call that an order closed
 abbrev pub closed_by : Result Act Refusal → Option ℕ
@@ -28,6 +35,10 @@ is_this c (Some d) = c == d
 -- the stamp of the order that opened a call
 abbrev pub opened_at : ℕ → List Done → Option ℕ
 opened_at c ds = option_map (λ d. d.order.stamp) (find (λ d. is_this c (opened_by d.result)) ds)
+
+-- A call's law is that of the order that opened it, and A-law where none did.
+abbrev pub law_at : ℕ → List Done → Law
+law_at c ds = elim (find (λ d. is_this c (opened_by d.result)) ds) [ None ↦ A | Some d ↦ law_by d.result ]
 
 -- the stamp of the order that closed a call
 abbrev pub closed_at : ℕ → List Done → Option ℕ

@@ -1,12 +1,13 @@
--- What a step of the board changes of who is open, and who is bridged with whom, with no history at hand.
+-- What a step of the board changes of who is open, by which law, and who is bridged with whom, with no history at hand.
 use Rattle.std.specs.Prelude.{◌≡◌, ℕ, ◌<◌, ◌≢◌, Bool, true, false, ◌||◌, if◌then◌else◌, ◌==◌, Option, Some, None, is_some, option_map, IfSome, IfOk, List}
 use Rattle.std.specs.List.{All}
 use Rattle.call_number.specs.CallNumber.{IsCallNumber}
+use Rattle.trau_alaw.specs.declared.Law.{Law}
 use Rattle.switchboard.specs.declared.act.Act.{Act}
 use Rattle.switchboard.specs.declared.act.Act.TheVariants as act
 use Rattle.switchboard.specs.declared.act.Reply.{Reply}
 use Rattle.switchboard.specs.declared.table.Bridge.{Bridge}
-use Rattle.switchboard.specs.Calls.{is_this, opened_at, is_open}
+use Rattle.switchboard.specs.Calls.{is_this, opened_at, law_at, is_open}
 use Rattle.switchboard.specs.Bridges.{joins, other, bridge_of}
 use Rattle.switchboard.specs.Ends.{end_now}
 use Rattle.switchboard.specs.State.{State, gone_in}
@@ -18,6 +19,10 @@ opened_now s c = is_some (opened_at c s.done)
 -- the calls that are open
 abbrev pub open_now : State → ℕ → Bool
 open_now s = is_open (gone_in s) s.done
+
+-- the law of each call
+abbrev pub law_now : State → ℕ → Law
+law_now s c = law_at c s.done
 
 -- the partner of each bridged call
 abbrev pub partner_now : State → ℕ → Option ℕ
@@ -49,14 +54,19 @@ IfAccepted answer P = IfSome answer (λ reply. IfOk reply.result P)
 
 -- `open` opens its call
 abbrev pub opened_after : Act → (ℕ → Bool) → ℕ → Bool
-opened_after (act.Opened n) opened c = c == n || opened c
+opened_after (act.Opened n law) opened c = c == n || opened c
 opened_after _ opened c = opened c
 
 -- `open` opens its call, and `close` ends it.
 abbrev pub open_after : Act → (ℕ → Bool) → ℕ → Bool
-open_after (act.Opened n) is_open c = c == n || is_open c
+open_after (act.Opened n law) is_open c = c == n || is_open c
 open_after (act.Closed n p) is_open c = open_without n is_open c
 open_after _ is_open c = is_open c
+
+-- `open` gives its call the law that it names.
+abbrev pub law_after : Act → (ℕ → Law) → ℕ → Law
+law_after (act.Opened n law) laws c = if c == n then law else laws c
+law_after _ laws c = laws c
 
 -- `bridge` makes two calls partners; `unbridge`, and `close` of a bridged call, part them.
 abbrev pub partner_after : Act → (ℕ → Option ℕ) → ℕ → Option ℕ
@@ -68,7 +78,7 @@ partner_after _ partner c = partner c
 -- What an accepted order finds: a new number, or open calls; of calls to be bridged neither has a partner, and of those to be
 -- parted each is the other's.
 abbrev pub Finds : Act → (ℕ → Bool) → (ℕ → Bool) → (ℕ → Option ℕ) → Type 0
-Finds (act.Opened n) opened is_open partner = IsCallNumber n × (opened n ≡ false)
+Finds (act.Opened n law) opened is_open partner = IsCallNumber n × (opened n ≡ false)
 Finds (act.Closed n p) opened is_open partner = (is_open n ≡ true) × (partner n ≡ p)
 Finds (act.Bridged a b) opened is_open partner = (a ≢ b) × ((is_open a ≡ true) × (is_open b ≡ true)) × ((partner a ≡ None) × (partner b ≡ None))
 Finds (act.Unbridged a b) opened is_open partner = ((is_open a ≡ true) × (is_open b ≡ true)) × ((partner a ≡ Some b) × (partner b ≡ Some a))
@@ -93,8 +103,9 @@ Rests _ told xs t = Unit {0}
 
 -- ---- no change
 
--- no call more was opened, the same are open, and each has the partner that it had
+-- no call more was opened, the same are open, and each has the law and the partner that it had
 pub record IsAsBefore (old new : State) : Type 0 where
   pub opened : (c : ℕ) → opened_now new c ≡ opened_now old c
   pub is_open : (c : ℕ) → open_now new c ≡ open_now old c
+  pub law : (c : ℕ) → law_now new c ≡ law_now old c
   pub partner : (c : ℕ) → partner_now new c ≡ partner_now old c

@@ -66,7 +66,7 @@ number_used k c = refuse_if (k.has_ended c) (NumberUsed c)
 
 -- the tests of an order, in their order
 abbrev pub tests : Known → What → List (Option Refusal)
-tests k (what.OpenCall c) = already_open k c ∷ number_used k c ∷ []
+tests k (what.OpenCall c law) = already_open k c ∷ number_used k c ∷ []
 tests k (what.CloseCall c) = not_open k c ∷ []
 tests k (what.Bridge a b) = same_call a b ∷ not_open k a ∷ not_open k b ∷ bridged k a ∷ bridged k b ∷ draining k a ∷ draining k b ∷ []
 tests k (what.Unbridge c) = not_open k c ∷ not_bridged k c ∷ []
@@ -75,7 +75,7 @@ tests k (what.Dtx c m) = not_open k c ∷ []
 
 -- what an accepted order does
 abbrev pub act_of : Known → What → Act
-act_of k (what.OpenCall c) = act.Opened c
+act_of k (what.OpenCall c law) = act.Opened c law
 act_of k (what.CloseCall c) = act.Closed c (option_map (other c) (k.bridge_of c))
 act_of k (what.Bridge a b) = act.Bridged a b
 act_of k (what.Unbridge c) = elim (k.bridge_of c) [ None ↦ act.Unbridged c c | Some x ↦ act.Unbridged x.a x.b ]
@@ -93,7 +93,7 @@ reply_from k w = elim (first_of_tests (tests k w)) [ None ↦ Ok (act_of k w) | 
 
 -- A call that is opened has a number of a call, and a level that is set is no number below 0.
 abbrev pub IsInRange : Act → Type 0
-IsInRange (act.Opened c) = IsCallNumber c
+IsInRange (act.Opened c law) = IsCallNumber c
 IsInRange (act.LevelSet c v) = pos 0 ≤ℤ v
 IsInRange _ = Unit {0}
 

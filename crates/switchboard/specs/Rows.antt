@@ -125,7 +125,7 @@ closes_bridge (Some d) r t c = parted_in r t c
 
 -- the table after a reply
 abbrev pub applied : Rows → ℕ → Result Act Refusal → Rows
-applied r t (Ok (act.Opened c)) = opened_in r t c
+applied r t (Ok (act.Opened c law)) = opened_in r t c
 applied r t (Ok (act.Closed c p)) = closed_in (closes_bridge p r t c) t c
 applied r t (Ok (act.Bridged a b)) = bridged_in r t a b
 applied r t (Ok (act.Unbridged a b)) = parted_in r t a

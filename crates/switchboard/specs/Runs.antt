@@ -1,7 +1,7 @@
 -- The replies to a whole list of orders, and what ties a board to it.
 use Rattle.std.specs.Prelude.{◌≡◌, ℕ, true, not, nat_lt, None, Some, is_some, List, [], ◌∷◌, ◌++◌, map, filter}
 use Rattle.trau_orders.specs.declared.order.Order.{Order}
-use Rattle.switchboard.specs.Calls.{Done, opened_at, closed_at, gone_at}
+use Rattle.switchboard.specs.Calls.{Done, opened_at, closed_at, law_at, gone_at}
 use Rattle.switchboard.specs.Replies.{known_of, reply_to}
 use Rattle.switchboard.specs.State.{State, gone_in, told_in}
 use Rattle.switchboard.specs.Ends.{Given, ends_at, spans_now}
@@ -32,8 +32,10 @@ TellsEnds whole t s = (c : ℕ) → is_some (opened_at c s.done) ≡ true → cl
 abbrev pub AllEnded : (ℕ → Given) → ℕ → State → Type 0
 AllEnded given P s = (c : ℕ) → is_some (opened_at c s.done) ≡ true → closed_at c s.done ≡ None → told_in s c ≡ Some (ends_at given P s.done c)
 
--- Nothing is changed: each later order finds the same, no end more is told, and the spans are the same.
+-- Nothing is changed: each later order finds the same, no end more is told, each call has the same law, and the spans are the
+-- same.
 pub record IsUnchanged (old new : State) : Type 0 where
   pub known : (t : ℕ) → known_of (gone_in new) t new.done ≡ known_of (gone_in old) t old.done
   pub told : new.told ≡ old.told
+  pub law : (c : ℕ) → law_at c new.done ≡ law_at c old.done
   pub spans : spans_now (told_in new) new.done ≡ spans_now (told_in old) old.done

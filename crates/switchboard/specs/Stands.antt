@@ -79,7 +79,7 @@ pub record AreRising (os : List Order) : Type 0 where
 
 -- the calls of an act are in the table
 abbrev pub InTable : Result Act Refusal → Type 0
-InTable (Ok (act.Opened c)) = c < NUMBERS
+InTable (Ok (act.Opened c law)) = c < NUMBERS
 InTable (Ok (act.Closed c p)) = c < NUMBERS
 InTable (Ok (act.Bridged a b)) = (a < NUMBERS) × (b < NUMBERS)
 InTable (Ok (act.Unbridged a b)) = a < NUMBERS

@@ -1,6 +1,7 @@
 // What orders do and why they are refused, replies, and the spans of bridges: plain values that the board, the
 // rounds and the report share.
 
+use trau_alaw::Law;
 use trau_orders::DtxMode;
 
 /// Why an order is refused. `partner` is the other call of the bridge that is meant.
@@ -25,7 +26,8 @@ pub enum Refusal {
 /// What an accepted order does, at the start of the period that its stamp names.
 #[derive(Clone, Copy, Debug, PartialEq, Eq)]
 pub enum Act {
-    Opened { call: u32 },
+    /// The law is that of the call's lines from and to the exchange.
+    Opened { call: u32, law: Law },
     /// `partner` is the other call of the bridge that ends with the call; None where the call wasn't bridged.
     Closed { call: u32, partner: Option<u32> },
     Bridged { a: u32, b: u32 },

@@ -2,6 +2,7 @@
 
 ghost use Rattle.std.specs.Prelude.{◌≡◌, ◌<◌, ◌≤◌, ◌≢◌, ◌↔◌, ℕ, [], true, false, None, IsNone, IsSome, IfOk, IfSome, OnErr};
 ghost use Rattle.std.specs.List.{All};
+ghost use Rattle.trau_alaw.specs.declared.Law.TheVariants.{A};
 ghost use Rattle.trau_orders.specs.Lists.{NamesCalls, HasLevel};
 ghost use Rattle.switchboard.specs.Calls.{is_open};
 ghost use Rattle.switchboard.specs.Bridges.{OneLasts, bridges};
@@ -10,7 +11,7 @@ ghost use Rattle.switchboard.specs.State.{start_of, orders_of, first_of, first_s
 ghost use Rattle.switchboard.specs.Runs.{IsRun, TellsEnds, AllEnded, IsUnchanged};
 ghost use Rattle.switchboard.specs.Stands.{AreRising};
 ghost use Rattle.switchboard.specs.Ends.{Given, spans_now, spans_of};
-ghost use Rattle.switchboard.specs.Open.{opened_now, open_now, partner_now, opened_after, open_after, partner_after, open_without, partner_without, ArePairs, IfAccepted, Finds, Rests, IsAsBefore};
+ghost use Rattle.switchboard.specs.Open.{opened_now, open_now, law_now, partner_now, opened_after, open_after, law_after, partner_after, open_without, partner_without, ArePairs, IfAccepted, Finds, Rests, IsAsBefore};
 
 use crate::table::Table;
 use crate::{Reply, Span};
@@ -49,9 +50,10 @@ impl Board {
         ensures start { IfOk result (λ b. b ≡ start_of orders) }
         ensures untold { IfOk result (λ b. (t : ℕ) → EndBefore t b) }
 
-        // No call was opened, none is open, and none has a partner.
+        // No call was opened, none is open, none has another law than A-law, and none has a partner.
         ensures opened { IfOk result (λ b. (c : ℕ) → opened_now b c ≡ false) }
         ensures open { IfOk result (λ b. (c : ℕ) → open_now b c ≡ false) }
+        ensures law { IfOk result (λ b. (c : ℕ) → law_now b c ≡ A) }
         ensures partner { IfOk result (λ b. (c : ℕ) → partner_now b c ≡ None) }
     {
         let most = orders.list().len();
@@ -97,11 +99,13 @@ impl Board {
         // A refused order changes nothing.
         ensures refused { IfSome result (λ reply. OnErr reply.result (IsUnchanged self.old self.new)) }
 
-        // What an accepted order finds, and what it changes of who was opened, who is open and who is bridged with whom.
+        // What an accepted order finds, and what it changes of who was opened, who is open, by which law, and who is bridged
+        // with whom.
         ensures finds { IfAccepted result (λ act. Finds act (opened_now self.old) (open_now self.old) (partner_now self.old)) }
         ensures rests { IfAccepted result (λ act. Rests act (told_in self.old) (bridges self.old.done) period) }
         ensures opened { IfAccepted result (λ act. (c : ℕ) → opened_now self.new c ≡ opened_after act (opened_now self.old) c) }
         ensures open { IfAccepted result (λ act. (c : ℕ) → open_now self.new c ≡ open_after act (open_now self.old) c) }
+        ensures law { IfAccepted result (λ act. (c : ℕ) → law_now self.new c ≡ law_after act (law_now self.old) c) }
         ensures partner { IfAccepted result (λ act. (c : ℕ) → partner_now self.new c ≡ partner_after act (partner_now self.old) c) }
 
         // Where no order is due, or it is refused, these stay.
@@ -137,6 +141,7 @@ impl Board {
         ensures rests { IfOk result.result (λ act. Rests act (told_in self.old) (bridges self.old.done) order.now.stamp) }
         ensures opened { IfOk result.result (λ act. (c : ℕ) → opened_now self.new c ≡ opened_after act (opened_now self.old) c) }
         ensures open { IfOk result.result (λ act. (c : ℕ) → open_now self.new c ≡ open_after act (open_now self.old) c) }
+        ensures law { IfOk result.result (λ act. (c : ℕ) → law_now self.new c ≡ law_after act (law_now self.old) c) }
         ensures partner { IfOk result.result (λ act. (c : ℕ) → partner_now self.new c ≡ partner_after act (partner_now self.old) c) }
     {
         let result = self.table.reply_to(order);
@@ -164,9 +169,10 @@ impl Board {
         ensures state { self.new ≡ told_more self.old end.call end.at }
         ensures told { (t : ℕ) → end.at < t → EndBefore t self.old → EndBefore t self.new }
 
-        // The call is open no more, and neither it nor its partner has one.
+        // The call is open no more, and neither it nor its partner has one. Laws stay.
         ensures opened { (c : ℕ) → opened_now self.new c ≡ opened_now self.old c }
         ensures open { (c : ℕ) → open_now self.new c ≡ open_without end.call (open_now self.old) c }
+        ensures law { (c : ℕ) → law_now self.new c ≡ law_now self.old c }
         ensures partner { (c : ℕ) → partner_now self.new c ≡ partner_without end.call (partner_now self.old) c }
     {
         self.table.end_call(end.call, end.at);

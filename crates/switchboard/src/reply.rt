@@ -12,6 +12,7 @@ ghost use Rattle.switchboard.specs.Stands.{InTable};
 
 use crate::table::{Bridge, Table};
 use crate::{Act, Refusal};
+use trau_alaw::Law;
 use trau_orders::{Order, What};
 
 impl Table {
@@ -22,7 +23,7 @@ impl Table {
         ensures calls { InTable result }
     {
         match order.what {
-            What::OpenCall(call) => self.open_reply(call),
+            What::OpenCall { call, law } => self.open_reply(call, law),
             What::CloseCall(call) => self.close_reply(call),
             What::Bridge(a, b) => self.bridge_reply(a, b, order.stamp),
             What::Unbridge(call) => self.unbridge_reply(call),
@@ -46,7 +47,7 @@ impl Table {
         ensures { self.new ≡ applied self.old stamp reply.now }
     {
         match *reply {
-            Ok(Act::Opened { call }) => self.open(call, stamp),
+            Ok(Act::Opened { call, .. }) => self.open(call, stamp),
             Ok(Act::Closed { call, partner }) => {
                 if partner.is_some() {
                     self.part(call, stamp);
@@ -59,9 +60,9 @@ impl Table {
         }
     }
 
-    fn open_reply(&self, call: u32) -> Result<Act, Refusal>
+    fn open_reply(&self, call: u32, law: Law) -> Result<Act, Refusal>
         requires { call < NUMBERS }
-        ensures value { (t : ℕ) → result ≡ reply_from (known_in self.now t) (What.OpenCall call) }
+        ensures value { (t : ℕ) → result ≡ reply_from (known_in self.now t) (What.OpenCall call law) }
         ensures calls { InTable result }
     {
         if self.is_open(call) {
@@ -70,7 +71,7 @@ impl Table {
         if self.has_ended(call) {
             return Err(Refusal::NumberUsed { call });
         }
-        Ok(Act::Opened { call })
+        Ok(Act::Opened { call, law })
     }
 
     fn close_reply(&self, call: u32) -> Result<Act, Refusal>

@@ -1,4 +1,5 @@
 pub mod Laid
+pub mod Mapping
 pub mod MuOctets
 pub mod MuSegments
 pub mod Octets

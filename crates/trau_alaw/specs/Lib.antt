@@ -2,3 +2,4 @@ pub mod Alaw
 pub mod Companding
 pub mod Laws
 pub mod Mulaw
+pub mod Period

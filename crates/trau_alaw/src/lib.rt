@@ -5,11 +5,13 @@
 //! table.
 //!
 //! Definitions: `specs/Companding.antt` says what any companding law is, from the interval of each octet;
-//! `specs/Alaw.antt` has the intervals of A-law, `specs/Mulaw.antt` those of mu-law, and `specs/Laws.antt` names the two.
+//! `specs/Alaw.antt` has the intervals of A-law, `specs/Mulaw.antt` those of mu-law, and `specs/Laws.antt` names the two;
+//! `specs/Period.antt` has the samples and the octets of a whole period.
 #![tactic(auto)]
 
 mod laws;
 mod mulaw;
+mod period;
 
 ghost use Rattle.std.specs.Prelude.{◌≡◌, ◌+◌, ◌/◌, ◌%◌, ◌<◌, ◌≤◌};
 ghost use Rattle.trau_alaw.specs.Companding.{magnitude, middle, octet_of, IsOnlyOctet};
@@ -17,6 +19,7 @@ ghost use Rattle.trau_alaw.specs.Alaw.{alaw, alaw_least, alaw_width};
 ghost use Rattle.trau_alaw.specs.Laws.{companding, idle_of};
 
 pub use laws::{intervals_part_the_words, recompress, recompress_law};
+pub use period::{compress_all, expand_all};
 
 /// The law of a PCM line.
 #[derive(Clone, Copy, Debug, PartialEq, Eq)]

@@ -6,11 +6,11 @@ ghost use Rattle.call_number.specs.CallNumber.{IsCallNumber};
 pub enum Side {
     /// From the base station: 40 octets, one frame of 320 bits, a period of 20 ms.
     Up,
-    /// From the telephone exchange: 160 A-law octets a period.
+    /// From the telephone exchange: 160 octets of A-law or mu-law (G.711) a period.
     Pcm,
     /// To the base station: 40 octets a period.
     Down,
-    /// To the telephone exchange: 160 A-law octets a period.
+    /// To the telephone exchange: 160 octets of A-law or mu-law (G.711) a period.
     Out,
 }
 

@@ -3,24 +3,20 @@ use Rattle.std.proofs.Common.{◌≡◌, ℕ, ◌+◌, ◌-◌, ◌≤◌, ◌<�
 use Rattle.trau_orders.specs.declared.order.What.{What}
 use Rattle.trau_orders.specs.declared.order.What.TheVariants.{OpenCall, CloseCall, Bridge, Unbridge, Level, Dtx}
 use Rattle.trau_orders.specs.declared.order.Order.{Order}
-use Rattle.trau_orders.specs.Grammar.{IsNamed, IsInRange}
-use Rattle.call_number.specs.CallNumber.{IsCallNumber}
+use Rattle.trau_orders.specs.Grammar.{IsInRange}
 use Rattle.trau_orders.specs.Lists.{NamesCalls, HasLevel, AreOrders}
 use Rattle.trau_orders.specs.Text.{AreLines}
 
-is_call : (c : ℕ) → IsNamed c → IsCallNumber c
-is_call c is = (is.0, omega (arith, is.1))
-
 names_calls : (what : What) → IsInRange what → NamesCalls what
-names_calls (OpenCall c) is = is_call c is
-names_calls (CloseCall c) is = is_call c is
-names_calls (Bridge a b) is = (is_call a is.0, is_call b is.1)
-names_calls (Unbridge c) is = is_call c is
-names_calls (Level c v) is = is_call c is.0
-names_calls (Dtx c m) is = is_call c is
+names_calls (OpenCall c law) is = is
+names_calls (CloseCall c) is = is
+names_calls (Bridge a b) is = is
+names_calls (Unbridge c) is = is
+names_calls (Level c v) is = is.0
+names_calls (Dtx c m) is = is
 
 has_level : (what : What) → IsInRange what → HasLevel what
-has_level (OpenCall c) is = tt
+has_level (OpenCall c law) is = tt
 has_level (CloseCall c) is = tt
 has_level (Bridge a b) is = tt
 has_level (Unbridge c) is = tt

@@ -4,6 +4,7 @@ use Rattle.std.proofs.lemmas.List.{length-append, get_or_append_left, get_or_pus
 use Rattle.std.proofs.lemmas.Option.{slice_get_within, get_or_from_slice_get}
 use Rattle.std.proofs.Math.Nat.{eq-or-lt_of_le}
 use Rattle.std.proofs.Math.Seq.{take-append_seam}
+use Rattle.trau_alaw.specs.declared.Law.TheVariants.{A}
 use Rattle.trau_orders.specs.declared.order.What.TheVariants.{OpenCall}
 use Rattle.trau_orders.specs.declared.order.Order.{Order}
 use Rattle.trau_orders.specs.Grammar.{IsLine}
@@ -80,7 +81,7 @@ behind line os o p before is is' last late follows =
     absurd (omega (arith, late, stamps, follow, ap (λ x. x.stamp) same))
 
 no_order : Order
-no_order = record { stamp = 0; what = OpenCall 0 }
+no_order = record { stamp = 0; what = OpenCall 0 A }
 
 -- no orders have these lines and one more that nothing behind them allows
 stops : (lines : List (List ℕ)) (os ps : List Order) (line : List ℕ) → AreLines lines os → AreLines (lines ++ line ∷ []) ps → ((o : Order) → IsLine line o → Follows os o → ⊥) → ⊥

@@ -1,8 +1,8 @@
 -- The words of a line: those of an order's line are the ones that order it.
-use Rattle.std.proofs.Common.{◌≡◌, ℕ, ◌≤◌, ◌<◌, ◌^◌, Option, Some, None, IfSome, List, [], ◌∷◌, length, Bool, true, false, eqb, refl, sym, ◌∙◌, ap, subst, arith}
+use Rattle.std.proofs.Common.{◌≡◌, ℕ, ◌≤◌, ◌<◌, ◌^◌, Option, Some, None, IfSome, List, [], ◌∷◌, length, Bool, true, false, eqb, refl, sym, ◌∙◌, ap, subst, arith, slice_index}
 use Rattle.std.specs.Prelude.{ℤ, pos, ◌≤ℤ◌, codes, decimal, not, unsigned_abs}
 use Rattle.std.specs.List.{AllByRecursion, join_with_byte, list_all}
-use Rattle.std.proofs.lemmas.Bool.{ne_eqb}
+use Rattle.std.proofs.lemmas.Bool.{ne_eqb, eqb-false}
 use Rattle.std.proofs.lemmas.Int.{ints}
 use Rattle.std.proofs.lemmas.Fmt.{digits_decimal}
 use Rattle.std.proofs.lemmas.List.Elements.{All-from_get_or, All-weaker}
@@ -11,12 +11,14 @@ use Rattle.std.proofs.lemmas.List.Sums.{AllPass-from_list_all}
 use Rattle.std.proofs.lemmas.Str.Parse.{digit_at}
 use Rattle.decimal_number.proofs.Numbers.{own}
 use Rattle.decimal_number.specs.Number.{IsNumber}
+use Rattle.trau_alaw.specs.declared.Law.TheVariants.{A, Mu}
+use Rattle.call_number.specs.CallNumber.{IsCallNumber}
 use Rattle.trau_orders.specs.declared.order.DtxMode.{DtxMode}
 use Rattle.trau_orders.specs.declared.order.DtxMode.TheVariants.{On, Off, Uplink}
 use Rattle.trau_orders.specs.declared.order.What.{What}
 use Rattle.trau_orders.specs.declared.order.What.TheVariants.{OpenCall, CloseCall, Bridge, Unbridge, Level, Dtx}
 use Rattle.trau_orders.specs.declared.order.Order.{Order}
-use Rattle.trau_orders.specs.Grammar.{mode_word, words_for, IsNamed, IsInRange, line_of, IsLine, words_of, AreWords}
+use Rattle.trau_orders.specs.Grammar.{mode_word, words_for, IsInRange, line_of, IsLine, words_of, AreWords}
 use Rattle.trau_orders.specs.Splits.{Lacks, SplitsAt}
 
 -- a line that splits at a space has the front as its first word
@@ -52,7 +54,7 @@ lacks_letters : (word : List ℕ) → list_all (λ b. not (eqb b 32)) word ≡ t
 lacks_letters word all =
     All-weaker (λ b. not (eqb b 32) ≡ true) (λ b. eqb b 32 ≡ false) (λ b e. not_true (eqb b 32) e) word (AllPass-from_list_all (λ b. not (eqb b 32)) word all)
 
-lacks_call : (c : ℕ) → IsNamed c → Lacks 32 (decimal c)
+lacks_call : (c : ℕ) → IsCallNumber c → Lacks 32 (decimal c)
 lacks_call c is = lacks_digits c (omega (arith, is.1))
 
 lacks_mode : (m : DtxMode) → Lacks 32 (mode_word m)
@@ -67,7 +69,8 @@ lacks_level : (v : ℤ) → pos 0 ≤ℤ v → v ≤ℤ pos 32767 → Lacks 32 (
 lacks_level v low high = lacks_digits (unsigned_abs v) (level_small v low high)
 
 all_lack : (what : What) → IsInRange what → AllByRecursion (Lacks 32) (words_for what)
-all_lack (OpenCall c) is = (lacks_letters (codes "open") refl, (lacks_call c is, tt))
+all_lack (OpenCall c A) is = (lacks_letters (codes "open") refl, (lacks_call c is, tt))
+all_lack (OpenCall c Mu) is = (lacks_letters (codes "open") refl, (lacks_call c is, (lacks_letters (codes "mulaw") refl, tt)))
 all_lack (CloseCall c) is = (lacks_letters (codes "close") refl, (lacks_call c is, tt))
 all_lack (Bridge a b) is = (lacks_letters (codes "bridge") refl, (lacks_call a is.0, (lacks_call b is.1, tt)))
 all_lack (Unbridge c) is = (lacks_letters (codes "unbridge") refl, (lacks_call c is, tt))
@@ -76,7 +79,7 @@ all_lack (Dtx c m) is = (lacks_letters (codes "dtx") refl, (lacks_call c is, (la
 
 -- two words at least order anything
 pub not_none : (what : What) → words_for what ≡ [] → ⊥
-not_none (OpenCall c) e = cc
+not_none (OpenCall c law) e = cc
 not_none (CloseCall c) e = cc
 not_none (Bridge a b) e = cc
 not_none (Unbridge c) e = cc
@@ -84,7 +87,7 @@ not_none (Level c v) e = cc
 not_none (Dtx c m) e = cc
 
 pub not_one : (what : What) (word : List ℕ) → words_for what ≡ word ∷ [] → ⊥
-not_one (OpenCall c) word e = cc
+not_one (OpenCall c law) word e = cc
 not_one (CloseCall c) word e = cc
 not_one (Bridge a b) word e = cc
 not_one (Unbridge c) word e = cc
@@ -139,7 +142,8 @@ more_words words verb rest call more at next = first_word words verb rest at ∙
 
 -- three words at most order anything
 few_words : (what : What) → length (words_for what) ≤ 3
-few_words (OpenCall c) = omega arith
+few_words (OpenCall c A) = omega arith
+few_words (OpenCall c Mu) = omega arith
 few_words (CloseCall c) = omega arith
 few_words (Bridge a b) = omega arith
 few_words (Unbridge c) = omega arith
@@ -162,34 +166,29 @@ third_word a b more what are =
     record { in_range = are.in_range; spelled = ap (λ ws. a ∷ b ∷ ws) (sym alone) ∙ are.spelled }
 
 -- three words order nothing where no order has such a third one with its verb
-pub no_three : (verb call more : List ℕ) → (verb ≡ codes "bridge" → (b : ℕ) → IsNamed b → more ≡ decimal b → ⊥) →
+pub no_three : (verb call more : List ℕ) → (verb ≡ codes "open" → more ≡ codes "mulaw" → ⊥) → (verb ≡ codes "bridge" → (b : ℕ) → IsCallNumber b → more ≡ decimal b → ⊥) →
     (verb ≡ codes "level" → (v : ℤ) → pos 0 ≤ℤ v → v ≤ℤ pos 32767 → more ≡ decimal (unsigned_abs v) → ⊥) →
     (verb ≡ codes "dtx" → (m : DtxMode) → more ≡ mode_word m → ⊥) → (what : What) → AreWords (verb ∷ call ∷ more ∷ []) what → ⊥
-no_three verb call more bridge level dtx (OpenCall c) are = let e = ap length are.spelled in absurd (omega (arith, e))
-no_three verb call more bridge level dtx (CloseCall c) are = let e = ap length are.spelled in absurd (omega (arith, e))
-no_three verb call more bridge level dtx (Unbridge c) are = let e = ap length are.spelled in absurd (omega (arith, e))
-no_three verb call more bridge level dtx (Bridge a b) are = let e = are.spelled in let is : verb ≡ codes "bridge" = cc in bridge is b are.in_range.1 cc
-no_three verb call more bridge level dtx (Level c v) are = let e = are.spelled in let is : verb ≡ codes "level" = cc in level is v are.in_range.1 are.in_range.2 cc
-no_three verb call more bridge level dtx (Dtx c m) are = let e = are.spelled in let is : verb ≡ codes "dtx" = cc in dtx is m cc
+no_three verb call more mulaw bridge level dtx (OpenCall c A) are = let e = ap length are.spelled in absurd (omega (arith, e))
+no_three verb call more mulaw bridge level dtx (OpenCall c Mu) are = let e = are.spelled in let is : verb ≡ codes "open" = cc in mulaw is cc
+no_three verb call more mulaw bridge level dtx (CloseCall c) are = let e = ap length are.spelled in absurd (omega (arith, e))
+no_three verb call more mulaw bridge level dtx (Unbridge c) are = let e = ap length are.spelled in absurd (omega (arith, e))
+no_three verb call more mulaw bridge level dtx (Bridge a b) are = let e = are.spelled in let is : verb ≡ codes "bridge" = cc in bridge is b are.in_range.1 cc
+no_three verb call more mulaw bridge level dtx (Level c v) are = let e = are.spelled in let is : verb ≡ codes "level" = cc in level is v are.in_range.1 are.in_range.2 cc
+no_three verb call more mulaw bridge level dtx (Dtx c m) are = let e = are.spelled in let is : verb ≡ codes "dtx" = cc in dtx is m cc
 
 -- nor where the second is no call
-pub no_call : (verb call more : List ℕ) → ((n : ℕ) → IsNamed n → call ≡ decimal n → ⊥) → (what : What) → AreWords (verb ∷ call ∷ more ∷ []) what → ⊥
-no_call verb call more none (OpenCall c) are = let e = ap length are.spelled in absurd (omega (arith, e))
+pub no_call : (verb call more : List ℕ) → ((n : ℕ) → IsCallNumber n → call ≡ decimal n → ⊥) → (what : What) → AreWords (verb ∷ call ∷ more ∷ []) what → ⊥
+no_call verb call more none (OpenCall c law) are = let e = are.spelled in none c are.in_range cc
 no_call verb call more none (CloseCall c) are = let e = ap length are.spelled in absurd (omega (arith, e))
 no_call verb call more none (Unbridge c) are = let e = ap length are.spelled in absurd (omega (arith, e))
 no_call verb call more none (Bridge a b) are = let e = are.spelled in none a are.in_range.0 cc
 no_call verb call more none (Level c v) are = let e = are.spelled in none c are.in_range.0 cc
 no_call verb call more none (Dtx c m) are = let e = are.spelled in none c are.in_range cc
 
--- verbs are told apart
-pub not_level : (verb : List ℕ) (P : Type 0) → verb ≡ codes "bridge" → verb ≡ codes "level" → P
-not_level verb P e f = absurd cc
-
-pub not_dtx : (verb : List ℕ) (P : Type 0) → verb ≡ codes "bridge" → verb ≡ codes "dtx" → P
-not_dtx verb P e f = absurd cc
-
-pub level_not_dtx : (verb : List ℕ) (P : Type 0) → verb ≡ codes "level" → verb ≡ codes "dtx" → P
-level_not_dtx verb P e f = absurd cc
+-- verbs are told apart by their first letters
+pub other_verb : (verb a b : List ℕ) (P : Type 0) → eqb (slice_index a 0) (slice_index b 0) ≡ false → verb ≡ a → verb ≡ b → P
+other_verb verb a b P differ is other = let same : slice_index a 0 ≡ slice_index b 0 = ap (λ w. slice_index w 0) (sym is ∙ other) in absurd (eqb-false (slice_index a 0) (slice_index b 0) differ same)
 
 -- a clause about what is ordered, where nothing is
 pub nothing_ordered : (r : Option What) (P : What → Type 0) → r ≡ None → IfSome r P

@@ -1,6 +1,9 @@
 -- The grammar of one order's line (this project's profile).
 use Rattle.std.specs.Prelude.{◌≡◌, ℕ, ◌≤◌, pos, ◌≤ℤ◌, List, [], ◌∷◌, codes, decimal, eqb, unsigned_abs}
 use Rattle.std.specs.List.{join_with_byte, slice_split}
+use Rattle.trau_alaw.specs.declared.Law.{Law}
+use Rattle.trau_alaw.specs.declared.Law.TheVariants.{A, Mu}
+use Rattle.call_number.specs.CallNumber.{IsCallNumber}
 use Rattle.trau_orders.specs.declared.order.DtxMode.{DtxMode}
 use Rattle.trau_orders.specs.declared.order.DtxMode.TheVariants.{On, Off, Uplink}
 use Rattle.trau_orders.specs.declared.order.What.{What}
@@ -13,27 +16,28 @@ mode_word On = codes "on"
 mode_word Off = codes "off"
 mode_word Uplink = codes "uplink"
 
+-- the word of a law; A-law has none
+abbrev pub law_words : Law → List (List ℕ)
+law_words A = []
+law_words Mu = codes "mulaw" ∷ []
+
 -- the words that order it, numbers in decimal digits
 abbrev pub words_for : What → List (List ℕ)
-words_for (OpenCall c) = codes "open" ∷ decimal c ∷ []
+words_for (OpenCall c law) = codes "open" ∷ decimal c ∷ law_words law
 words_for (CloseCall c) = codes "close" ∷ decimal c ∷ []
 words_for (Bridge a b) = codes "bridge" ∷ decimal a ∷ decimal b ∷ []
 words_for (Unbridge c) = codes "unbridge" ∷ decimal c ∷ []
 words_for (Level c v) = codes "level" ∷ decimal c ∷ decimal (unsigned_abs v) ∷ []
 words_for (Dtx c m) = codes "dtx" ∷ decimal c ∷ mode_word m ∷ []
 
--- a call that words may name
-abbrev pub IsNamed : ℕ → Type 0
-IsNamed c = (1 ≤ c) × (c ≤ 1024)
-
 -- its numbers are in their ranges
 abbrev pub IsInRange : What → Type 0
-IsInRange (OpenCall c) = IsNamed c
-IsInRange (CloseCall c) = IsNamed c
-IsInRange (Bridge a b) = IsNamed a × IsNamed b
-IsInRange (Unbridge c) = IsNamed c
-IsInRange (Level c v) = IsNamed c × (pos 0 ≤ℤ v) × (v ≤ℤ pos 32767)
-IsInRange (Dtx c m) = IsNamed c
+IsInRange (OpenCall c law) = IsCallNumber c
+IsInRange (CloseCall c) = IsCallNumber c
+IsInRange (Bridge a b) = IsCallNumber a × IsCallNumber b
+IsInRange (Unbridge c) = IsCallNumber c
+IsInRange (Level c v) = IsCallNumber c × (pos 0 ≤ℤ v) × (v ≤ℤ pos 32767)
+IsInRange (Dtx c m) = IsCallNumber c
 
 -- the line of an order, without an LF: its stamp and the words that order it, with one space between words
 unfoldable pub line_of : Order → List ℕ

@@ -8,7 +8,7 @@ use Rattle.trau_orders.specs.declared.order.What.TheVariants.{OpenCall, CloseCal
 
 -- what is named are calls
 abbrev pub NamesCalls : What → Type 0
-NamesCalls (OpenCall c) = IsCallNumber c
+NamesCalls (OpenCall c law) = IsCallNumber c
 NamesCalls (CloseCall c) = IsCallNumber c
 NamesCalls (Bridge a b) = IsCallNumber a × IsCallNumber b
 NamesCalls (Unbridge c) = IsCallNumber c
@@ -17,7 +17,7 @@ NamesCalls (Dtx c m) = IsCallNumber c
 
 -- a level, if one is ordered, is no number below 0
 abbrev pub HasLevel : What → Type 0
-HasLevel (OpenCall c) = Unit {0}
+HasLevel (OpenCall c law) = Unit {0}
 HasLevel (CloseCall c) = Unit {0}
 HasLevel (Bridge a b) = Unit {0}
 HasLevel (Unbridge c) = Unit {0}

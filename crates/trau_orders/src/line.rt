@@ -1,6 +1,8 @@
 // One line of the orders.
-ghost use Rattle.std.specs.Prelude.{◌≡◌, ◌∷◌, [], ℕ, ℤ, pos, ◌≤ℤ◌, true, false, IfSome, IsNone, decimal, unsigned_abs};
-ghost use Rattle.trau_orders.specs.Grammar.{words_of, IsNamed, mode_word, AreWords, IsLine};
+ghost use Rattle.std.specs.Prelude.{◌≡◌, ◌∷◌, [], ℕ, ℤ, pos, ◌≤ℤ◌, true, false, IfSome, IsNone, codes, decimal, unsigned_abs};
+ghost use Rattle.trau_alaw.specs.declared.Law.TheVariants.{Mu};
+ghost use Rattle.call_number.specs.CallNumber.{IsCallNumber};
+ghost use Rattle.trau_orders.specs.Grammar.{words_of, mode_word, AreWords, IsLine};
 ghost use Rattle.trau_orders.specs.declared.order.DtxMode.{DtxMode as Mode};
 ghost use Rattle.trau_orders.specs.declared.order.What.{What as OneWhat};
 ghost use Rattle.trau_orders.specs.declared.order.Order.{Order as OneOrder};
@@ -8,10 +10,11 @@ ghost use Rattle.trau_orders.specs.declared.order.Order.{Order as OneOrder};
 use crate::split::split_at_octet;
 use crate::{DtxMode, Order, What};
 use decimal_number::number_of_octets;
+use trau_alaw::Law;
 
 const LAST_STAMP: u32 = 4_294_967_294;
 
-const LAST_CALL: u32 = 1024;
+const LAST_CALL: u32 = 4096;
 
 const HIGHEST_LEVEL: u32 = 32_767;
 
@@ -44,7 +47,7 @@ fn of_two(verb: &[u8], call: &[u8]) -> Option<What>
 {
     let call = call_of(call)?;
     if is_word(verb, b"open") {
-        Some(What::OpenCall(call))
+        Some(What::OpenCall { call, law: Law::A })
     } else if is_word(verb, b"close") {
         Some(What::CloseCall(call))
     } else if is_word(verb, b"unbridge") {
@@ -59,7 +62,12 @@ fn of_three(verb: &[u8], call: &[u8], more: &[u8]) -> Option<What>
     ensures none { IsNone result → (what : OneWhat) → AreWords (verb.now ∷ call.now ∷ more.now ∷ []) what → ⊥ }
 {
     let call = call_of(call)?;
-    if is_word(verb, b"bridge") {
+    if is_word(verb, b"open") {
+        Some(What::OpenCall {
+            call,
+            law: law_of(more)?,
+        })
+    } else if is_word(verb, b"bridge") {
         Some(What::Bridge(call, call_of(more)?))
     } else if is_word(verb, b"level") {
         Some(What::Level(call, level_of(more)?))
@@ -79,10 +87,18 @@ fn is_word(word: &[u8], name: &[u8]) -> bool
 }
 
 fn call_of(word: &[u8]) -> Option<u32>
-    ensures some { IfSome result (λ call. IsNamed call × (word.now ≡ decimal call)) }
-    ensures none { IsNone result → (call : ℕ) → IsNamed call → word.now ≡ decimal call → ⊥ }
+    ensures some { IfSome result (λ call. IsCallNumber call × (word.now ≡ decimal call)) }
+    ensures none { IsNone result → (call : ℕ) → IsCallNumber call → word.now ≡ decimal call → ⊥ }
 {
     number_of_octets(word, 1, LAST_CALL)
+}
+
+// The law that a word names; of A-law there is no word.
+fn law_of(word: &[u8]) -> Option<Law>
+    ensures some { IfSome result (λ law. (law ≡ Mu) × (word.now ≡ codes "mulaw")) }
+    ensures none { IsNone result → word.now ≡ codes "mulaw" → ⊥ }
+{
+    is_word(word, b"mulaw").then_some(Law::Mu)
 }
 
 fn level_of(word: &[u8]) -> Option<i16>

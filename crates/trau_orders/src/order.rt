@@ -1,5 +1,7 @@
 // One order of an operator.
 
+use trau_alaw::Law;
+
 /// Whether a call's downlink may fall silent in pauses: discontinuous transmission (GSM 06.31).
 #[derive(Clone, Copy, Debug, PartialEq, Eq)]
 pub enum DtxMode {
@@ -12,7 +14,8 @@ pub enum DtxMode {
 /// What is ordered, of calls by their numbers.
 #[derive(Clone, Copy, Debug, PartialEq, Eq)]
 pub enum What {
-    OpenCall(u32),
+    /// The law is that of its lines from and to the exchange.
+    OpenCall { call: u32, law: Law },
     CloseCall(u32),
     /// Each call's speech frames go out on the other's downlink, bits unchanged.
     Bridge(u32, u32),

@@ -15,4 +15,4 @@ pub returns-clause-least : goal.returns-clause-least
 returns-clause-least c = start-come
 
 pub returns-clause-history : goal.returns-clause-history
-returns-clause-history c = λ m call ts now h. h.down.history
+returns-clause-history c = λ m who ts now h. h.down.history

@@ -2,10 +2,10 @@ use Rattle.call_leg.proofs.UpLaws.{up-stands, up-effective, up-plays}
 use Rattle.call_leg.proofs.laws.the_uplink_half_stands.Goals as goal
 
 pub returns-clause-stands : goal.returns-clause-stands
-returns-clause-stands c = λ up m l call ts now h. up-stands call ts now up m l h
+returns-clause-stands c = λ up m l who ts now h. up-stands who ts now up m l h
 
 pub returns-clause-effective : goal.returns-clause-effective
-returns-clause-effective c = λ up pcm handed m l call ts now h. up-effective call ts now up pcm handed m l h
+returns-clause-effective c = λ up pcm handed m l who ts now h. up-effective who ts now up pcm handed m l h
 
 pub returns-clause-out : goal.returns-clause-out
-returns-clause-out c = λ up pcm handed m l call ts now h b. up-plays call ts now up pcm handed m l b h
+returns-clause-out c = λ up pcm handed m l who ts now h b. up-plays who ts now up pcm handed m l b h

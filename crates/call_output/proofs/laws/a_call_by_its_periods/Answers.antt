@@ -12,7 +12,7 @@ pub returns-clause-same : goal.returns-clause-same
 returns-clause-same c = call-whole
 
 pub returns-clause-out : goal.returns-clause-out
-returns-clause-out c = λ call h. c.lines_of_a_call.ensures.out call.number (history_of call) (history-whole call h) ∙ ap out (call-whole call h)
+returns-clause-out c = λ call h. c.lines_of_a_call.ensures.out call.who (history_of call) (history-whole call h) ∙ ap out (call-whole call h)
 
 pub returns-clause-down : goal.returns-clause-down
-returns-clause-down c = λ call h. c.lines_of_a_call.ensures.down call.number (history_of call) (history-whole call h) ∙ ap down (call-whole call h)
+returns-clause-down c = λ call h. c.lines_of_a_call.ensures.down call.who (history_of call) (history-whole call h) ∙ ap down (call-whole call h)

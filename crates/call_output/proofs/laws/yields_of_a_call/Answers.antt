@@ -11,4 +11,4 @@ use Rattle.call_output.proofs.laws.yields_of_a_call.Goals as goal
 pub returns : goal.returns
 returns c = λ call ys k h.
     subst (λ call. Yields (bits_of call.up) ys → k < periods call → filter (ends_in k) ys ≡ option_to_list (yield_at call k)) (call-whole call h)
-    (yield-ends call.number (history_of call) ys k (history-whole call h))
+    (yield-ends call.who (history_of call) ys k (history-whole call h))

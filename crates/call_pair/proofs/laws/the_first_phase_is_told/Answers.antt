@@ -1,11 +1,11 @@
-use Rattle.call_pair.proofs.Telling.{first-alone, first-told, frames-told}
+use Rattle.call_pair.proofs.Telling.{hears, both-hear, frames-told}
 use Rattle.call_pair.proofs.laws.the_first_phase_is_told.Goals as goal
 
 pub returns-clause-alone : goal.returns-clause-alone
-returns-clause-alone c = first-alone
+returns-clause-alone c s h b = hears s h 0 b
 
 pub returns-clause-bridged : goal.returns-clause-bridged
-returns-clause-bridged c = first-told
+returns-clause-bridged c = both-hear
 
 pub returns-clause-frames : goal.returns-clause-frames
 returns-clause-frames c = frames-told

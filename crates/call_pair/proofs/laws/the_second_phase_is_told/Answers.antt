@@ -1,8 +1,9 @@
-use Rattle.call_pair.proofs.Telling.{second-alone, second-told}
+use Rattle.std.proofs.Common.{refl, []}
+use Rattle.call_pair.proofs.Telling.{speaks, both-speak}
 use Rattle.call_pair.proofs.laws.the_second_phase_is_told.Goals as goal
 
 pub returns-clause-alone : goal.returns-clause-alone
-returns-clause-alone c = second-alone
+returns-clause-alone c s h b = speaks s h 0 b [] refl
 
 pub returns-clause-bridged : goal.returns-clause-bridged
-returns-clause-bridged c = second-told
+returns-clause-bridged c = both-speak

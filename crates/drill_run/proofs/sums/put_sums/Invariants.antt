@@ -2,7 +2,7 @@ use Rattle.std.proofs.Common.{◌≡◌, ◌++◌, [], string_bytes, take}
 use Rattle.std.specs.Prelude.{unwrap_or}
 use Rattle.std.specs.List.{flat_map}
 use Rattle.trau_io.specs.declared.line.Side.TheVariants.{Down, Out}
-use Rattle.drill_run.specs.Drilled.{sum_line}
+use Rattle.farm_report.specs.Sums.{sum_line}
 use Rattle.drill_run.specs.Rooms.{known_lines}
 use Rattle.drill_run.proofs.sums.put_sums.Given as goal
 

@@ -1,4 +1,5 @@
 use Rattle.std.proofs.Common.{ap}
+use Rattle.farm_output.specs.Run.{who_in}
 use Rattle.farm_output.specs.Lines.{out_line, down_octets}
 use Rattle.farm_output.proofs.Going.{call_line_is, periods_ended}
 use Rattle.farm_output.proofs.laws.ended_calls_are_reported.Goals as goal
@@ -7,7 +8,7 @@ pub returns-clause-line : goal.returns-clause-line
 returns-clause-line g = call_line_is
 
 pub returns-clause-out : goal.returns-clause-out
-returns-clause-out g = λ r t ds left c s end so o e. ap (out_line c) (periods_ended r t ds left c s end so o e)
+returns-clause-out g = λ r t ds left c s end so o e. ap (out_line (who_in r c)) (periods_ended r t ds left c s end so o e)
 
 pub returns-clause-down : goal.returns-clause-down
-returns-clause-down g = λ r t ds left c s end so o e. ap (down_octets c) (periods_ended r t ds left c s end so o e)
+returns-clause-down g = λ r t ds left c s end so o e. ap (down_octets (who_in r c)) (periods_ended r t ds left c s end so o e)

@@ -1,6 +1,6 @@
 use Rattle.farm_output.proofs.SoFar.{rest_in, done-rest, rest_orders}
 use Rattle.farm_output.proofs.Ending.{all_done, all_left}
-use Rattle.farm_output.proofs.Going.{start_run}
+use Rattle.farm_output.proofs.Going.{start_run, law_run}
 use Rattle.farm_output.proofs.laws.runs_are_whole.Goals as goal
 
 pub returns-clause-rest : goal.returns-clause-rest
@@ -14,3 +14,6 @@ returns-clause-left c = all_left
 
 pub returns-clause-opened : goal.returns-clause-opened
 returns-clause-opened c = start_run
+
+pub returns-clause-law : goal.returns-clause-law
+returns-clause-law c = law_run

@@ -1,7 +1,5 @@
-use Rattle.std.proofs.Common.{◌≡◌, refl, sym, ap, ◌∙◌, ℕ, List, [], ◌∷◌, length, length-append, slice_index, arith}
-use Rattle.std.proofs.lemmas.List.{length-map}
+use Rattle.std.proofs.Common.{◌≡◌, refl, sym, ap, ◌∙◌, ℕ, [], ◌∷◌, length, length-append, slice_index, arith}
 use Rattle.std.proofs.lemmas.Result.{IfOk-from_err}
-use Rattle.call_pair.specs.declared.job.Job.{Job}
 use Rattle.farm_rounds.specs.Calls.{call_of}
 use Rattle.farm_rounds.specs.Rounds.{entry_of}
 use Rattle.farm_rounds.proofs.Planning.{made_none, last_present, last_each, job_pushed, made_more}

@@ -1,5 +1,4 @@
 use Rattle.std.proofs.Common.{ap, ◌∙◌, sym, subst, IsTrue, arith}
-use Rattle.std.proofs.lemmas.List.{length-map}
 use Rattle.call_leg.specs.Memory.{periods_of_leg}
 use Rattle.call_pair.specs.declared.job.Job.{Job}
 use Rattle.call_pair.specs.Jobs.{has_call, half_of, with_io}

@@ -1,15 +1,15 @@
-use Rattle.std.proofs.Common.{◌≡◌, ◌≤◌, ◌<◌, sym, ap, ◌∙◌, subst, ℕ, List, ◌++◌, length, map, take, drop, arith}
+use Rattle.std.proofs.Common.{◌≡◌, sym, ap, ◌∙◌, subst, ℕ, List, ◌++◌, length, map, take, drop, arith}
 use Rattle.std.specs.List.{All}
 use Rattle.std.proofs.lemmas.List.{length-map}
 use Rattle.call_pair.specs.declared.job.Job.{Job}
 use Rattle.call_pair.specs.Jobs.{finished}
 use Rattle.round_lines.specs.Seats.{SeatMemory}
-use Rattle.farm_rounds.specs.Calls.{calls_held}
 use Rattle.farm_rounds.specs.declared.call.Group.{Group}
-use Rattle.farm_rounds.specs.Phased.{IsFresh, is_pair_job, sizes, HasPhases}
+use Rattle.farm_rounds.specs.Groups.{AreGroups, AreLive}
+use Rattle.farm_rounds.specs.Phased.{IsFresh, HasPhases}
 use Rattle.farm_rounds.specs.Rounds.{HaveJobs, SameLegs, IsTimely, HaveTimeUntil, Works, groups_from}
 use Rattle.farm_rounds.proofs.Working.{back, ready_out, works}
-use Rattle.farm_rounds.proofs.Rooms.{empty_less, sizes_held}
+use Rattle.farm_rounds.proofs.Rooms.{empty_less}
 use Rattle.farm_rounds.proofs.jobs.work_jobs.Goals as goal
 
 pub hand_in-requires-clause-entries : goal.hand_in-requires-clause-entries
@@ -50,11 +50,21 @@ work_phases-jobs-requires-clause-fresh g c κs lives =
     (c.hand_in.ensures.fresh c.args.room.phases.periods (subst (λ (js : List Job). All (IsFresh c.args.room.phases.periods) js) (sym c.deref_mut.ensures.value) c.requires.fresh) c.requires.within)
 
 pub work_phases-jobs-requires-clause-room : goal.work_phases-jobs-requires-clause-room
-work_phases-jobs-requires-clause-room g c κs lives =
-    let whole = handed c.args.jobs.items c.hand_in.new.jobs c.deref_mut.result.now c.args.jobs.len (length c.deref_mut.result.now) (omega (arith, c.deref_mut.ensures.len)) (omega arith) c.deref_mut.ensures.value c.hand_in.ensures.same in
-    let count : length c.args.seats.items ≡ sizes (map is_pair_job c.hand_in.new.jobs) =
-    sym c.requires.calls ∙ ap (λ (js : List Job). calls_held (groups_from js)) (sym c.deref_mut.ensures.value) ∙ ap (λ (gs : List Group). calls_held gs) (sym c.hand_in.ensures.same.groups) ∙ sizes_held c.hand_in.new.jobs in
-    subst (λ (n : ℕ). HasPhases n c.args.room.phases.periods c.args.room.phases) (count ∙ ap (λ (js : List Job). sizes (map is_pair_job js)) (sym whole)) c.requires.room.phases
+work_phases-jobs-requires-clause-room g c κs lives = subst (λ (n : ℕ). HasPhases n c.args.room.phases.periods c.args.room.phases) (sym c.requires.calls) c.requires.room.phases
+
+-- the calls and legs are those that were given
+same_groups : (before jobs now : List Job) (len nowlen : ℕ) → len ≡ nowlen → nowlen ≡ length now → now ≡ before → SameLegs now jobs → groups_from (take len (jobs ++ drop (length jobs) before)) ≡ groups_from before
+same_groups before jobs now len nowlen e f old same = ap (λ (js : List Job). groups_from js) (handed before jobs now len nowlen e f old same) ∙ same.groups ∙ ap (λ (js : List Job). groups_from js) old
+
+pub work_phases-jobs-requires-clause-groups : goal.work_phases-jobs-requires-clause-groups
+work_phases-jobs-requires-clause-groups g c κs lives =
+    let same = same_groups c.args.jobs.items c.hand_in.new.jobs c.deref_mut.result.now c.args.jobs.len (length c.deref_mut.result.now) (omega (arith, c.deref_mut.ensures.len)) (omega arith) c.deref_mut.ensures.value c.hand_in.ensures.same in
+    subst (λ (gs : List Group). AreGroups 4294967295 gs) (sym same) c.requires.groups
+
+pub work_phases-jobs-requires-clause-live : goal.work_phases-jobs-requires-clause-live
+work_phases-jobs-requires-clause-live g c κs lives =
+    let same = same_groups c.args.jobs.items c.hand_in.new.jobs c.deref_mut.result.now c.args.jobs.len (length c.deref_mut.result.now) (omega (arith, c.deref_mut.ensures.len)) (omega arith) c.deref_mut.ensures.value c.hand_in.ensures.same in
+    subst (λ (gs : List Group). AreLive c.args.numbers.now gs) (sym same) c.requires.live
 
 pub work_phases-jobs-requires-clause-slice : goal.work_phases-jobs-requires-clause-slice
 work_phases-jobs-requires-clause-slice g c κs lives = c.requires.slice

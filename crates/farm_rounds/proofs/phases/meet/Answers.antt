@@ -1,17 +1,15 @@
-use Rattle.std.proofs.Common.{◌≡◌, sym, ap, ◌∙◌, subst, ℕ, arith}
+use Rattle.std.proofs.Common.{ap, ◌∙◌}
 use Rattle.call_pair.specs.Phases.{CallMemory}
-use Rattle.farm_rounds.specs.declared.phases.Calls.{Calls}
-use Rattle.farm_rounds.specs.Phased.{CanMeet}
+use Rattle.farm_rounds.proofs.Meeting.{place_set, place_other, place_read, heard}
 use Rattle.farm_rounds.proofs.phases.meet.Goals as goal
 
-pub write_frames-requires-in-Two-clause-empty : goal.write_frames-requires-in-Two-clause-empty
-write_frames-requires-in-Two-clause-empty c = (c.take_list-of_b.ensures.list c.args.periods (c.take_list-of_a.ensures.rest c.args.periods c.requires.lists)).1
+pub returns-clause-met : goal.returns-clause-met
+returns-clause-met c =
+    let jobs = c.args.jobs.now in
+    let own = c.deref.ensures ∙ place_read jobs c.args.call c.index-jobs-call.result c.requires.call in
+    let other = c.deref-2.ensures ∙ place_read jobs c.args.partner c.index-jobs-partner.result c.requires.partner in
+    let again = c.deref_mut.ensures.value ∙ place_read jobs c.args.call c.index-jobs-call-2.result c.requires.call in
+    place_set jobs c.args.call _ c.requires.call ∙ c.turn_down.ensures ∙ heard _ _ _ _ _ _ c.write_frames.ensures (ap (λ (j : CallMemory). j.bridge_end) (c.behind-jobs.view_is ∙ own)) other again
 
-pub write_frames-requires-in-Two-clause-room : goal.write_frames-requires-in-Two-clause-room
-write_frames-requires-in-Two-clause-room c =
-    let told = subst (λ (x : Calls). CanMeet c.args.periods x) c.in-Two.is c.requires.told in
-    let room = (c.take_list-of_b.ensures.list c.args.periods (c.take_list-of_a.ensures.rest c.args.periods c.requires.lists)).0 in
-    omega (arith, room, told.0.few, ap (λ (j : CallMemory). j.bridge_end) c.behind-a.view_is, ap (λ (j : CallMemory). j.bridge_end) c.deref-in-Two-3.ensures)
-
-pub returns-in-Two-clause-lists : goal.returns-in-Two-clause-lists
-returns-in-Two-clause-lists c = c.take_list-of_b.ensures.rest c.args.periods (c.take_list-of_a.ensures.rest c.args.periods c.requires.lists)
+pub returns-clause-others : goal.returns-clause-others
+returns-clause-others c k ne = place_other c.args.jobs.now c.args.call k _ ne

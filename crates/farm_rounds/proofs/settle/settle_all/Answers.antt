@@ -2,13 +2,12 @@ use Rattle.std.proofs.Common.{rules, refl, sym, ap, ◌∙◌, ℕ, List, [], �
 use Rattle.std.specs.Prelude.{option_to_list}
 use Rattle.std.proofs.lemmas.List.{append-nil}
 use Rattle.std.proofs.lemmas.Iterator.Adapters.{YieldsList-from_vec}
-use Rattle.call_pair.specs.declared.job.Job.{Job}
 use Rattle.farm_rounds.specs.declared.call.Group.{Group}
 use Rattle.farm_rounds.specs.Numbers.{is_among}
 use Rattle.farm_rounds.specs.RoundHistories.{seat_of}
 use Rattle.farm_rounds.specs.Rounds.{group_from, groups_from}
 use Rattle.farm_rounds.specs.Working.{goes_on_call}
-use Rattle.farm_rounds.proofs.Settling.{AreNext, next_job, next_group, next_known, next_present, room_left, settled_next, groups_append}
+use Rattle.farm_rounds.proofs.Settling.{next_job, next_group, next_known, next_present, room_left, settled_next, groups_append}
 use Rattle.farm_rounds.proofs.settle.settle_all.Goals as goal
 
 pub settle-requires-clause-known : goal.settle-requires-clause-known

@@ -3,7 +3,7 @@ use Rattle.std.specs.Prelude.{IfOk, OnErr, Err, is_some}
 use Rattle.trau_orders.specs.Lists.{AreOrders}
 use Rattle.switchboard.specs.declared.act.Act.{Act}
 use Rattle.switchboard.specs.Replies.{IsInRange}
-use Rattle.switchboard.specs.Open.{opened_now, open_now, partner_now, opened_after, open_after, partner_after, Finds, IsAsBefore}
+use Rattle.switchboard.specs.Open.{opened_now, open_now, partner_now, opened_after, open_after, partner_after, Finds, IsAsBefore, law_now, law_after}
 use Rattle.farm_run.specs.Match.{histories_at}
 use Rattle.farm_run.specs.Journal.{JournalMemory}
 use Rattle.farm_run.specs.Noted.{Noted}
@@ -81,6 +81,7 @@ returns-in_ok-apply-clause-follows c = λ r under f.
     under (c.turn.ensures.run _ f.so_far.replies f.tells) f c.in-Ok.act c.in-Ok.is
     (subst (λ x. IfOk x (λ (a : Act). Finds a (opened_now b) (open_now b) (partner_now b))) c.in-Ok.is e.finds)
     (subst (λ x. IfOk x (λ (a : Act). (c' : ℕ) → open_now c.turn.new.self c' ≡ open_after a (open_now b) c')) c.in-Ok.is e.open)
+    (subst (λ x. IfOk x (λ (a : Act). (c' : ℕ) → law_now c.turn.new.self c' ≡ law_after a (law_now b) c')) c.in-Ok.is e.law)
     c.apply.new.self.groups c.in_ok-apply.ensures.history
 
 pub returns-in_default-result-clause-clock : goal.returns-in_default-result-clause-clock

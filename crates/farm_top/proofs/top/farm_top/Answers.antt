@@ -1,12 +1,14 @@
 use Rattle.std.proofs.Common.{◌≡◌, ◌⊎◌, inl, inr, ℕ, refl, arith, rules}
 use Rattle.farm_top.specs.Top.{IsInRange}
-use Rattle.farm_top.proofs.Asking.{drill_carried, is_command, no_command, merge_carried, no_listing, no_merge, no_split, no_tool, in_range, tool_carried, listing_carried, run_carried, split_carried}
+use Rattle.farm_top.proofs.Asking.{drill_carried, follow_carried, is_command, live_carried, no_command, merge_carried, no_listing, no_merge, no_split, no_tool, in_range, tool_carried, listing_carried, run_carried, split_carried}
 use Rattle.farm_top.proofs.Carrying.{causes, clean, listing_causes, listing_clean}
 use Rattle.farm_top.proofs.Drilling.{drill_ends, not_six}
 use Rattle.farm_top.proofs.FarmCausing.{run_causes}
 use Rattle.farm_run.proofs.Cutting.{cut_first}
 use Rattle.farm_top.proofs.FarmCleaning.{run_clean, run_complete, run_cut_short, run_ended, run_headline, run_leaves}
 use Rattle.farm_top.proofs.Ending.{not_usage}
+use Rattle.farm_top.proofs.Following.{no_following}
+use Rattle.farm_top.proofs.Living.{live_ends}
 use Rattle.farm_top.proofs.top.farm_top.Goals as goal
 
 not_five : (status : ℕ) → status ≡ 1 → status ≡ 5 → ⊥
@@ -211,7 +213,25 @@ pub returns-in-Ok-clause-merge : goal.returns-in-Ok-clause-merge
 returns-in-Ok-clause-merge g c = merge_carried _ _ c.in-Ok.ensures.ok _ _ _ _ _ c.carry_out.ensures
 
 pub returns-in-Err-Usage-clause-merge : goal.returns-in-Err-Usage-clause-merge
-returns-in-Err-Usage-clause-merge g c = λ n asks. absurd (no_command _ (c.in-Err-Usage.ensures.usage (search rules)) (inr (inr (inr (inr (inr (n, asks)))))))
+returns-in-Err-Usage-clause-merge g c = λ n asks. absurd (no_command _ (c.in-Err-Usage.ensures.usage (search rules)) (inr (inr (inr (inr (inr (inl (n, asks))))))))
 
 pub returns-in-Err-Memory-clause-merge : goal.returns-in-Err-Memory-clause-merge
 returns-in-Err-Memory-clause-merge g c = λ n asks. absurd (no_merge _ n (c.in-Err-Memory.ensures.memory (search rules)) asks)
+
+pub returns-in-Ok-clause-follow : goal.returns-in-Ok-clause-follow
+returns-in-Ok-clause-follow g c = follow_carried _ _ c.in-Ok.ensures.ok _ _ _ _ _ c.carry_out.ensures
+
+pub returns-in-Err-Usage-clause-follow : goal.returns-in-Err-Usage-clause-follow
+returns-in-Err-Usage-clause-follow g c = λ n want asks. absurd (no_command _ (c.in-Err-Usage.ensures.usage (search rules)) (inr (inr (inr (inr (inr (inr (inl (n, want, asks)))))))))
+
+pub returns-in-Err-Memory-clause-follow : goal.returns-in-Err-Memory-clause-follow
+returns-in-Err-Memory-clause-follow g c = λ n want asks. absurd (no_following _ n want (c.in-Err-Memory.ensures.memory (search rules)) asks)
+
+pub returns-in-Ok-clause-live : goal.returns-in-Ok-clause-live
+returns-in-Ok-clause-live g c = λ s asks. live_ends s _ _ _ _ _ (live_carried _ _ c.in-Ok.ensures.ok _ _ _ _ _ c.carry_out.ensures s asks)
+
+pub returns-in-Err-Usage-clause-live : goal.returns-in-Err-Usage-clause-live
+returns-in-Err-Usage-clause-live g c = λ s asks. absurd (no_command _ (c.in-Err-Usage.ensures.usage (search rules)) (inr (inr (inr (inr (inr (inr (inr (s, asks)))))))))
+
+pub returns-in-Err-Memory-clause-live : goal.returns-in-Err-Memory-clause-live
+returns-in-Err-Memory-clause-live g c = λ s asks. live_ends s _ _ _ _ _ ((λ n side. refl), inr c.no_memory.ensures)

@@ -1,5 +1,6 @@
 use Rattle.std.proofs.Common.{refl}
-use Rattle.trau_orders.proofs.Words.{no_call, no_three, not_level, not_dtx, level_not_dtx, nothing_ordered}
+use Rattle.std.specs.Prelude.{codes}
+use Rattle.trau_orders.proofs.Words.{no_call, no_three, other_verb, nothing_ordered}
 use Rattle.trau_orders.proofs.line.of_three.Goals as goal
 
 pub returns-in_err-call : goal.returns-in_err-call
@@ -8,34 +9,46 @@ returns-in_err-call c = record {
   none = λ none. no_call c.args.verb.now c.args.call.now c.args.more.now (c.in_err-call.ensures.none refl);
 }
 
-pub returns-in_err-call_of : goal.returns-in_err-call_of
-returns-in_err-call_of c =
+pub returns-in_err-law_of : goal.returns-in_err-law_of
+returns-in_err-law_of c =
     let verb = c.args.verb.now in
     let is = c.if-is_word.ensures.yes refl in
     record {
+      some = nothing_ordered _ _ c.from_residual-in_err-law_of.ensures;
+      none = λ none. no_three verb c.args.call.now c.args.more.now (λ e. c.in_err-law_of.ensures.none refl)
+          (other_verb verb (codes "open") (codes "bridge") _ refl is) (other_verb verb (codes "open") (codes "level") _ refl is) (other_verb verb (codes "open") (codes "dtx") _ refl is);
+    }
+
+pub returns-in_err-call_of : goal.returns-in_err-call_of
+returns-in_err-call_of c =
+    let verb = c.args.verb.now in
+    let is = c.if-is_word-2.ensures.yes refl in
+    record {
       some = nothing_ordered _ _ c.from_residual-in_err-call_of.ensures;
-      none = λ none. no_three verb c.args.call.now c.args.more.now (λ e. c.in_err-call_of.ensures.none refl) (not_level verb _ is) (not_dtx verb _ is);
+      none = λ none. no_three verb c.args.call.now c.args.more.now (λ e. absurd (c.if-is_word.ensures.no refl e)) (λ e. c.in_err-call_of.ensures.none refl)
+          (other_verb verb (codes "bridge") (codes "level") _ refl is) (other_verb verb (codes "bridge") (codes "dtx") _ refl is);
     }
 
 pub returns-in_err-level_of : goal.returns-in_err-level_of
 returns-in_err-level_of c =
     let verb = c.args.verb.now in
-    let is = c.if-is_word-2.ensures.yes refl in
+    let is = c.if-is_word-3.ensures.yes refl in
     record {
       some = nothing_ordered _ _ c.from_residual-in_err-level_of.ensures;
-      none = λ none. no_three verb c.args.call.now c.args.more.now (λ e. absurd (c.if-is_word.ensures.no refl e)) (λ e. c.in_err-level_of.ensures.none refl) (level_not_dtx verb _ is);
+      none = λ none. no_three verb c.args.call.now c.args.more.now (λ e. absurd (c.if-is_word.ensures.no refl e)) (λ e. absurd (c.if-is_word-2.ensures.no refl e))
+          (λ e. c.in_err-level_of.ensures.none refl) (other_verb verb (codes "level") (codes "dtx") _ refl is);
     }
 
 pub returns-in_err-mode_of : goal.returns-in_err-mode_of
 returns-in_err-mode_of c = record {
   some = nothing_ordered _ _ c.from_residual-in_err-mode_of.ensures;
-  none = λ none. no_three c.args.verb.now c.args.call.now c.args.more.now
-      (λ e. absurd (c.if-is_word.ensures.no refl e)) (λ e. absurd (c.if-is_word-2.ensures.no refl e)) (λ e. c.in_err-mode_of.ensures.none refl);
+  none = λ none. no_three c.args.verb.now c.args.call.now c.args.more.now (λ e. absurd (c.if-is_word.ensures.no refl e))
+      (λ e. absurd (c.if-is_word-2.ensures.no refl e)) (λ e. absurd (c.if-is_word-3.ensures.no refl e)) (λ e. c.in_err-mode_of.ensures.none refl);
 }
 
-pub returns-else-is_word-3 : goal.returns-else-is_word-3
-returns-else-is_word-3 c = record {
+pub returns-else-is_word-4 : goal.returns-else-is_word-4
+returns-else-is_word-4 c = record {
   some = tt;
-  none = λ none. no_three c.args.verb.now c.args.call.now c.args.more.now
-      (λ e. absurd (c.if-is_word.ensures.no refl e)) (λ e. absurd (c.if-is_word-2.ensures.no refl e)) (λ e. absurd (c.if-is_word-3.ensures.no refl e));
+  none = λ none. no_three c.args.verb.now c.args.call.now c.args.more.now (λ e. absurd (c.if-is_word.ensures.no refl e))
+      (λ e. absurd (c.if-is_word-2.ensures.no refl e)) (λ e. absurd (c.if-is_word-3.ensures.no refl e)) (λ e. absurd (c.if-is_word-4.ensures.no refl e));
 }

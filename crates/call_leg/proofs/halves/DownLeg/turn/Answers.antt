@@ -13,15 +13,15 @@ returns-clause-step c =
     (c.note.ensures.step ∙ ap (λ (d : DownMemory). noted d c.args.note.now) c.self.view_is) c.hand_item.ensures.step c.half.ensures.step
 
 pub returns-clause-history : goal.returns-clause-history
-returns-clause-history c = λ call ts now up h e b.
+returns-clause-history c = λ who ts now up h e b.
     let item = item_of (option_copied c.args.item) in
-    subst (Between call (period_with now up c.args.pcm.now (handed_bits item) ∷ ts) (later now)) (ap (λ (w : List ℕ × DownMemory). w.1) (returns-clause-step c))
-    (down_turn-stands call ts now up c.args.pcm.now c.args.note.now item c.args.self.now c.told-pcm h e (is_some-item c.args.item ∙ b)).0
+    subst (Between who (period_with now up c.args.pcm.now (handed_bits item) ∷ ts) (later now)) (ap (λ (w : List ℕ × DownMemory). w.1) (returns-clause-step c))
+    (down_turn-stands who ts now up c.args.pcm.now c.args.note.now item c.args.self.now c.told-pcm h e (is_some-item c.args.item ∙ b)).0
 
 pub returns-clause-down : goal.returns-clause-down
-returns-clause-down c = λ call ts now up h e b.
+returns-clause-down c = λ who ts now up h e b.
     sym (ap (λ (w : List ℕ × DownMemory). w.0) (returns-clause-step c))
-    ∙ (down_turn-stands call ts now up c.args.pcm.now c.args.note.now (item_of (option_copied c.args.item)) c.args.self.now c.told-pcm h e (is_some-item c.args.item ∙ b)).1
+    ∙ (down_turn-stands who ts now up c.args.pcm.now c.args.note.now (item_of (option_copied c.args.item)) c.args.self.now c.told-pcm h e (is_some-item c.args.item ∙ b)).1
 
 pub returns-clause-bridged : goal.returns-clause-bridged
 returns-clause-bridged c =

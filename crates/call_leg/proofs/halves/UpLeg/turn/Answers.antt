@@ -14,15 +14,15 @@ returns-clause-step c =
     c.feed-yielded.ensures.step c.read-found.ensures c.hear-eff.ensures c.play.ensures c.count.ensures.value c.asked.ensures.value c.dtx_told.ensures
 
 pub returns-clause-history : goal.returns-clause-history
-returns-clause-history c = λ pcm handed call ts now h b.
-    subst (UpStands call (period_with now c.args.up.now pcm handed ∷ ts) (later now)) (ap (λ (r : Note × List ℕ × UpMemory). r.2) (returns-clause-step c)) (turn-stands call ts now c.args.up.now pcm handed c.args.self.now c.told-up b h)
+returns-clause-history c = λ pcm handed who ts now h b.
+    subst (UpStands who (period_with now c.args.up.now pcm handed ∷ ts) (later now)) (ap (λ (r : Note × List ℕ × UpMemory). r.2) (returns-clause-step c)) (turn-stands who ts now c.args.up.now pcm handed c.args.self.now c.told-up b h)
 
 pub returns-clause-note : goal.returns-clause-note
-returns-clause-note c = λ call ts now h. sym (ap (λ (r : Note × List ℕ × UpMemory). r.0) (returns-clause-step c)) ∙ turn-note call ts now c.args.up.now c.args.self.now c.told-up h
+returns-clause-note c = λ who ts now h. sym (ap (λ (r : Note × List ℕ × UpMemory). r.0) (returns-clause-step c)) ∙ turn-note who ts now c.args.up.now c.args.self.now c.told-up h
 
 pub returns-clause-out : goal.returns-clause-out
-returns-clause-out c = λ pcm handed call ts now h b.
-    sym (ap (λ (r : Note × List ℕ × UpMemory). r.1) (returns-clause-step c)) ∙ turn-plays call ts now c.args.up.now pcm handed c.args.self.now c.told-up b h
+returns-clause-out c = λ pcm handed who ts now h b.
+    sym (ap (λ (r : Note × List ℕ × UpMemory). r.1) (returns-clause-step c)) ∙ turn-plays who ts now c.args.up.now pcm handed c.args.self.now c.told-up b h
 
 pub returns-clause-bridged : goal.returns-clause-bridged
 returns-clause-bridged c = ap (λ (u : UpMemory). u.bridged) c.self.view_is

@@ -15,4 +15,4 @@ returns-clause-step c =
     ∙ ap begin_bridge c.self.view_is
 
 pub returns-clause-history : goal.returns-clause-history
-returns-clause-history c = λ call ts now h n. subst (Stands call ts (with_bridge now)) (sym (returns-clause-step c)) (begin-stands call ts now c.args.self.now n h)
+returns-clause-history c = λ who ts now h n. subst (Stands who ts (with_bridge now)) (sym (returns-clause-step c)) (begin-stands who ts now c.args.self.now n h)

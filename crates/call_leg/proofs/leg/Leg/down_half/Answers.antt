@@ -13,11 +13,11 @@ pub returns-clause-bits : goal.returns-clause-bits
 returns-clause-bits c = ap (λ (m : LegMemory). down_worked m.down c.args.pcm.now) (sym c.self.view_is) ∙ c.half.ensures.step
 
 pub returns-clause-history : goal.returns-clause-history
-returns-clause-history c = λ call ts now up handed b h.
-    subst (Stands call (period_with now up c.args.pcm.now handed ∷ ts) (later now))
+returns-clause-history c = λ who ts now up handed b h.
+    subst (Stands who (period_with now up c.args.pcm.now handed ∷ ts) (later now))
     (ap (λ (l : List ℕ × DownMemory). with_down c.args.self.now l.1) (returns-clause-bits c) ∙ sym (returns-clause-step c))
-    (down-stands call ts now up c.args.pcm.now handed c.args.self.now c.told-pcm b h).0
+    (down-stands who ts now up c.args.pcm.now handed c.args.self.now c.told-pcm b h).0
 
 pub returns-clause-down : goal.returns-clause-down
-returns-clause-down c = λ call ts now up handed b h.
-    sym (ap (λ (l : List ℕ × DownMemory). l.0) (returns-clause-bits c)) ∙ (down-stands call ts now up c.args.pcm.now handed c.args.self.now c.told-pcm b h).1
+returns-clause-down c = λ who ts now up handed b h.
+    sym (ap (λ (l : List ℕ × DownMemory). l.0) (returns-clause-bits c)) ∙ (down-stands who ts now up c.args.pcm.now handed c.args.self.now c.told-pcm b h).1

@@ -8,7 +8,7 @@ pub returns-clause-memory : goal.returns-clause-memory
 returns-clause-memory c = c.draining.ensures ∙ ap (λ (m : LegMemory). not m.down.bridged && not (length m.down.waiting == 0)) c.self.view_is
 
 pub returns-clause-value : goal.returns-clause-value
-returns-clause-value c = λ call ts now h. returns-clause-memory c ∙ drains call ts now c.args.self.now.down h.down
+returns-clause-value c = λ who ts now h. returns-clause-memory c ∙ drains who ts now c.args.self.now.down h.down
 
 pub returns-clause-one : goal.returns-clause-one
-returns-clause-one c = λ call ts now h. queue-short ts c.args.self.now.down.waiting h.down.history h.down.waits
+returns-clause-one c = λ who ts now h. queue-short ts c.args.self.now.down.waiting h.down.history h.down.waits

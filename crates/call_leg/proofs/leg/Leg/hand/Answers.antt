@@ -14,5 +14,5 @@ returns-clause-step c =
     ap (λ d. with_down (the_view c.self.inside) d) c.hand.ensures.step ∙ ap (λ (m : LegMemory). with_down m (after_handing m.down (effective_fields c.args.e))) c.self.view_is
 
 pub returns-clause-history : goal.returns-clause-history
-returns-clause-history c = λ call ts now up h.
-    subst (Midway call ts now up (Some (bits260 (handed_fields (effective_fields c.args.e))))) (sym (returns-clause-step c)) (handing-stands call ts now up (effective_fields c.args.e) c.args.self.now h)
+returns-clause-history c = λ who ts now up h.
+    subst (Midway who ts now up (Some (bits260 (handed_fields (effective_fields c.args.e))))) (sym (returns-clause-step c)) (handing-stands who ts now up (effective_fields c.args.e) c.args.self.now h)

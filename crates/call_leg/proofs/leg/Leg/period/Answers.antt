@@ -6,13 +6,13 @@ use Rattle.call_leg.specs.Step.{with_down, down_worked}
 use Rattle.call_leg.proofs.leg.Leg.period.Goals as goal
 
 pub returns-clause-history : goal.returns-clause-history
-returns-clause-history c = λ call ts now h n. c.down_half.ensures.history call ts now c.args.up.now None (sym n) (c.up_half.ensures.history call ts now h)
+returns-clause-history c = λ who ts now h n. c.down_half.ensures.history who ts now c.args.up.now None (sym n) (c.up_half.ensures.history who ts now h)
 
 pub returns-clause-out : goal.returns-clause-out
-returns-clause-out c = λ call ts now h n. c.up_half.ensures.out c.args.pcm.now None call ts now h (sym n)
+returns-clause-out c = λ who ts now h n. c.up_half.ensures.out c.args.pcm.now None who ts now h (sym n)
 
 pub returns-clause-down : goal.returns-clause-down
-returns-clause-down c = λ call ts now h n. c.down_half.ensures.down call ts now c.args.up.now None (sym n) (c.up_half.ensures.history call ts now h)
+returns-clause-down c = λ who ts now h n. c.down_half.ensures.down who ts now c.args.up.now None (sym n) (c.up_half.ensures.history who ts now h)
 
 pub returns-clause-step : goal.returns-clause-step
 returns-clause-step c =

@@ -13,8 +13,8 @@ pub returns-clause-memory : goal.returns-clause-memory
 returns-clause-memory c = ap (λ (m : LegMemory). m.down.sent) c.self.view_is
 
 pub returns-clause-history : goal.returns-clause-history
-returns-clause-history c = λ call ts now given.
-    let h : Stands call ts now (the_view c.self.inside) = subst (Stands call ts now) (sym c.self.view_is) given in
+returns-clause-history c = λ who ts now given.
+    let h : Stands who ts now (the_view c.self.inside) = subst (Stands who ts now) (sym c.self.view_is) given in
     let count = ap (λ (m : SyncMemory). m.periods) h.search.after in
     let most = c.self.invariant.0 in
     let long = length-ups_of ts in

@@ -17,13 +17,13 @@ returns-clause-step c =
     c.feed-yielded.ensures.step c.read-found.ensures c.hear-e.ensures c.play.ensures c.count.ensures.value c.is_quiet.ensures c.hear.ensures.step
 
 pub returns-clause-history : goal.returns-clause-history
-returns-clause-history c = λ call ts now h.
-    subst (Midway call ts now c.args.up.now None) (ap (λ (r : EffectiveFields × List ℕ × LegMemory). r.2) (returns-clause-step c)) (up-stands call ts now c.args.up.now c.args.self.now c.told-up h)
+returns-clause-history c = λ who ts now h.
+    subst (Midway who ts now c.args.up.now None) (ap (λ (r : EffectiveFields × List ℕ × LegMemory). r.2) (returns-clause-step c)) (up-stands who ts now c.args.up.now c.args.self.now c.told-up h)
 
 pub returns-clause-effective : goal.returns-clause-effective
-returns-clause-effective c = λ pcm handed call ts now h.
-    sym (ap (λ (r : EffectiveFields × List ℕ × LegMemory). r.0) (returns-clause-step c)) ∙ up-effective call ts now c.args.up.now pcm handed c.args.self.now c.told-up h
+returns-clause-effective c = λ pcm handed who ts now h.
+    sym (ap (λ (r : EffectiveFields × List ℕ × LegMemory). r.0) (returns-clause-step c)) ∙ up-effective who ts now c.args.up.now pcm handed c.args.self.now c.told-up h
 
 pub returns-clause-out : goal.returns-clause-out
-returns-clause-out c = λ pcm handed call ts now h b.
-    sym (ap (λ (r : EffectiveFields × List ℕ × LegMemory). r.1) (returns-clause-step c)) ∙ up-plays call ts now c.args.up.now pcm handed c.args.self.now c.told-up b h
+returns-clause-out c = λ pcm handed who ts now h b.
+    sym (ap (λ (r : EffectiveFields × List ℕ × LegMemory). r.1) (returns-clause-step c)) ∙ up-plays who ts now c.args.up.now pcm handed c.args.self.now c.told-up b h

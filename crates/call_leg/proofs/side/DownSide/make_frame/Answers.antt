@@ -39,4 +39,4 @@ returns-clause-step c =
     let framed = simp to_z-of_z at c.frame.ensures.step in
     make-step (down_memory c.args.self.now) _ c.next_frame-frame.result c.write_down.new.bits c.adopt-shift.result c.adopt-shift.new.self c.dtx_on-on.result (not c.is_empty-waits.result) (not c.is_empty-waited.result)
     c.dtx_on-on.ensures next c.write_down.ensures.bits c.adopt-shift.ensures.step framed c.next_frame-frame.ensures.waiting
-    (ap not c.is_empty-waits.ensures) c.thaw_at_end.ensures (ap not c.is_empty-waited.ensures) c.counted-self.ensures c.one_made-self.ensures refl refl refl refl refl
+    (ap not c.is_empty-waits.ensures) c.thaw_at_end.ensures (ap not c.is_empty-waited.ensures) c.counted-self.ensures c.one_made-self.ensures refl refl refl refl refl refl

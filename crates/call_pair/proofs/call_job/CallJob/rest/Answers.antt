@@ -1,4 +1,4 @@
-use Rattle.std.proofs.Common.{◌≡◌, ap, sym, ◌∙◌, length, arith}
+use Rattle.std.proofs.Common.{ap, sym, ◌∙◌, length, arith}
 use Rattle.call_pair.specs.Phases.{CallMemory}
 use Rattle.call_pair.proofs.call_job.CallJob.rest.Goals as goal
 

@@ -4,7 +4,7 @@ use Rattle.switchboard.specs.declared.act.Act.{Act}
 use Rattle.switchboard.specs.declared.act.Act.TheVariants as act
 use Rattle.farm_rounds.specs.Memory.{FarmMemory, tally_in}
 use Rattle.farm_rounds.specs.Acts.{Fits, Stays, Applied}
-use Rattle.farm_rounds.specs.Histories.{tallies_after}
+use Rattle.farm_rounds.specs.Histories.{whose, tallies_after}
 use Rattle.farm_rounds.proofs.Standing.{stands_after, tallied, same_tallies}
 use Rattle.farm_rounds.proofs.farm.Farm.apply.Goals as goal
 
@@ -12,7 +12,7 @@ if_ok : {T E : Type 0} (r : Result T E) (P Q : Type 0) → (P → Q) → IfOk r 
 if_ok (Ok u) P Q f p = f p
 if_ok (Err e) P Q f p = p
 
-applied_opened : (c : goal.After-open) → Applied c.args.self.now.ended (act.Opened c.in-Opened.call) c.args.self.now.groups c.open.new.self.groups →
+applied_opened : (c : goal.After-open) → Applied c.args.self.now.ended (act.Opened c.in-Opened.call c.in-Opened.law) c.args.self.now.groups c.open.new.self.groups →
     Applied c.args.self.now.ended c.args.act.now c.args.self.now.groups c.open.new.self.groups
 applied_opened c p = subst (λ (a : Act). Applied c.args.self.now.ended a c.args.self.now.groups c.open.new.self.groups) (sym c.in-Opened.is) p
 
@@ -44,7 +44,7 @@ returns-in-Closed-clause-tallies c h s d =
     let fits = subst (λ (a : Act). Fits c.args.self.now.groups a) c.in-Closed.is c.requires in
     subst (λ (a : Act). tally_in c.close.new.self.tallies d ≡ tallies_after a h (tally_in c.args.self.now.tallies) d) (sym c.in-Closed.is)
     (tallied h c.args.self.now.groups c.in-Closed.call c.in-Closed.partner (tally_in c.args.self.now.tallies) (tally_in c.close.new.self.tallies) s fits.0 c.close.ensures.tallies
-    (λ m y e st. c.close.ensures.tally m c.in-Closed.call y.periods y.now e st) d)
+    (λ m y e st. c.close.ensures.tally m (whose c.in-Closed.call y) y.periods y.now e st) d)
 
 pub returns-in_default-clause-calls : goal.returns-in_default-clause-calls
 returns-in_default-clause-calls c = c.regroup.ensures.applied.calls

@@ -29,10 +29,10 @@ push_reserved-requires c =
     let i = c.self.invariant in
     omega (arith, few_groups c.self.inside.groups.items, i.1.count, c.len-calls.ensures, c.len.ensures, c.reserve.ensures.len, ap length c.reserve.ensures.items, c.in_ok-reserve-2.ensures.ok, c.reserve-2.ensures.len)
 
-applied : (c : goal.After-push_reserved) → Applied c.self.inside.end (act.Opened c.args.call) c.self.inside.groups.items c.push_reserved.new.self.items
+applied : (c : goal.After-push_reserved) → Applied c.self.inside.end (act.Opened c.args.call c.args.law) c.self.inside.groups.items c.push_reserved.new.self.items
 applied c =
-    let fits = subst (λ (f : FarmMemory). Fits f.groups (act.Opened c.args.call)) (sym c.self.view_is) c.requires in
-    open_applied c.self.inside.end c.args.call c.self.inside.groups.items c.push_reserved.new.self.items fits c.self.invariant.0
+    let fits = subst (λ (f : FarmMemory). Fits f.groups (act.Opened c.args.call c.args.law)) (sym c.self.view_is) c.requires in
+    open_applied c.self.inside.end c.args.call c.args.law c.self.inside.groups.items c.push_reserved.new.self.items fits c.self.invariant.0
     (c.push_reserved.ensures.items ∙ ap (λ (gs : List Group). gs ++ One c.in_ok-opened.opened ∷ []) c.reserve-2.ensures.items ∙ ap (λ (x : Call). c.self.inside.groups.items ++ One x ∷ []) c.in_ok-opened.ensures)
 
 pub invariant_of-self-in_err-opened : goal.invariant_of-self-in_err-opened
@@ -49,7 +49,7 @@ invariant_of-self-2 c =
     let i = c.self.invariant in
     let p = applied c in
     let items = c.reserve.ensures.items in
-    let live = open_live c.self.inside.end c.args.call c.self.inside.live.items c.add_number.new.numbers.items c.self.inside.groups.items c.push_reserved.new.self.items i.1 p
+    let live = open_live c.self.inside.end c.args.call c.args.law c.self.inside.live.items c.add_number.new.numbers.items c.self.inside.groups.items c.push_reserved.new.self.items i.1 p
     (subst (λ (xs : List ℕ). (d : ℕ) → is_among c.add_number.new.numbers.items d ≡ ((c.args.call == d) || is_among xs d)) items c.add_number.ensures.numbers)
     c.add_number.ensures.rising (omega (arith, c.add_number.ensures.len, c.reserve.ensures.len)) in
     (p.groups, live, i.2, omega (arith, few_groups c.self.inside.groups.items, i.1.count, c.len-calls.ensures, c.len.ensures, c.reserve.ensures.len, c.in_ok-reserve-2.ensures.ok, c.reserve-2.ensures.len, c.add_number.ensures.len, c.push_reserved.ensures.capacity))
@@ -61,7 +61,7 @@ pub returns-clause-others : goal.returns-clause-others
 returns-clause-others c = ap (λ (f : FarmMemory). record f { groups = c.push_reserved.new.self.items; live = c.add_number.new.numbers.items }) c.self.view_is
 
 pub returns-clause-applied : goal.returns-clause-applied
-returns-clause-applied c = subst (λ (f : FarmMemory). Applied f.ended (act.Opened c.args.call) f.groups c.push_reserved.new.self.items) c.self.view_is (applied c)
+returns-clause-applied c = subst (λ (f : FarmMemory). Applied f.ended (act.Opened c.args.call c.args.law) f.groups c.push_reserved.new.self.items) c.self.view_is (applied c)
 
 pub returns-in_err-reserve : goal.returns-in_err-reserve
 returns-in_err-reserve c = record {

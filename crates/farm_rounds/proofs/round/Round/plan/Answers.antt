@@ -2,7 +2,6 @@ use Rattle.std.proofs.Common.{◌≡◌, refl, ◌+◌, ◌≤◌, sym, ap, ◌�
 use Rattle.std.specs.Vec.{vec_capacity}
 use Rattle.std.specs.List.Sorted.{IsPermutation}
 use Rattle.std.proofs.lemmas.Result.{IfOk-from_err}
-use Rattle.call_pair.specs.declared.job.Job.{Job}
 use Rattle.farm_rounds.specs.declared.call.Group.{Group}
 use Rattle.farm_rounds.specs.declared.rest.Rest.{Rest}
 use Rattle.farm_rounds.specs.Groups.{AreLive}

@@ -3,6 +3,7 @@ use Rattle.switchboard.specs.State.{State, last_stamp, gone_in, told_more}
 use Rattle.switchboard.specs.Calls.{is_open}
 use Rattle.switchboard.specs.Rows.{Rows}
 use Rattle.switchboard.specs.Stands.{IsBoard, state_of, dones}
+use Rattle.switchboard.specs.Open.{law_now}
 use Rattle.switchboard.proofs.Boards.{bridges-bound, told_call, board-told, state-told}
 use Rattle.switchboard.proofs.Laws.{before_more}
 use Rattle.switchboard.proofs.Changes.{Without, board_sized, ended_changes}
@@ -44,6 +45,9 @@ returns-clause-opened c = (without c).opened
 
 pub returns-clause-open : goal.returns-clause-open
 returns-clause-open c = (without c).lives
+
+pub returns-clause-law : goal.returns-clause-law
+returns-clause-law c = λ k. ap (λ (s : State). law_now s k) (returns-clause-state c)
 
 pub returns-clause-partner : goal.returns-clause-partner
 returns-clause-partner c = (without c).partner

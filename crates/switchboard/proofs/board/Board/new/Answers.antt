@@ -1,6 +1,8 @@
 use Rattle.std.proofs.Common.{◌≡◌, List, [], length, replicate, sym, ap, ◌∙◌, subst, arith}
 use Rattle.trau_orders.specs.declared.order.Order.{Order}
 use Rattle.switchboard.specs.declared.act.Reply.{Reply}
+use Rattle.switchboard.specs.State.{State}
+use Rattle.switchboard.specs.Open.{law_now}
 use Rattle.switchboard.specs.Rows.{rows, never}
 use Rattle.switchboard.specs.Stands.{IsBoard, state_of}
 use Rattle.switchboard.proofs.Boards.{board-new, state-new}
@@ -28,6 +30,9 @@ returns-clause-opened c = λ k. (start_alone _ c.args.orders (returns-clause-sta
 
 pub returns-clause-open : goal.returns-clause-open
 returns-clause-open c = λ k. (start_alone _ c.args.orders (returns-clause-start c) k).1
+
+pub returns-clause-law : goal.returns-clause-law
+returns-clause-law c = λ k. ap (λ (s : State). law_now s k) (returns-clause-start c)
 
 pub returns-clause-partner : goal.returns-clause-partner
 returns-clause-partner c = λ k. (start_alone _ c.args.orders (returns-clause-start c) k).2

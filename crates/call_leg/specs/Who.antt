@@ -1,0 +1,8 @@
+-- Whose call it is.
+use Rattle.std.specs.Prelude.{ℕ}
+use Rattle.trau_alaw.specs.declared.Law.{Law}
+
+-- its number, from which its noise starts, and the law of its octets from and to the exchange
+pub record Who : Type 0 where
+  pub number : ℕ
+  pub law : Law

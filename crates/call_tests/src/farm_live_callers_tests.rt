@@ -1,0 +1,80 @@
+//! Tests of a live farm with two callers on threads of their own: one of them finds a call busy, which no clause says, and
+//! both are there when the farm is closed.
+
+ghost use Rattle.std.specs.Prelude.{◌≤◌, ◌<◌, length, IfOk};
+ghost use Rattle.farm_live.specs.Live.{IsSeated};
+ghost use Rattle.farm_live.specs.Closing.{AreAllSeated};
+
+use farm_live::{Caller, Live, Turn};
+use std::alloc::{AllocError, Global};
+use std::sync::Wait;
+use std::sync::atomic::{AtomicU32, Ordering};
+use std::test::Fail;
+use std::thread;
+use std::thread::Threads;
+
+// How often a caller works at most.
+const TURNS: u32 = 5_000_000;
+
+// Works call 1 until it is busy for this caller or for another.
+fn work_until_busy<R: Wait>(
+    rt: &R,
+    alloc: Global,
+    live: &Live,
+    caller: &mut Caller,
+    busy: &AtomicU32,
+)
+    requires call { 1 ≤ length live.now.slots.items }
+    requires seated { IsSeated live.now.inbox live.now.slots.items caller.old }
+    ensures seated { IsSeated live.now.inbox live.now.slots.items caller.new }
+{
+    for _ in 0..TURNS {
+        if busy.load(Ordering::SeqCst) > 0 {
+            return;
+        }
+        if let Ok(Turn::Busy) = live.work(rt, alloc, caller, 1) {
+            let _ = busy.fetch_add(1, Ordering::SeqCst);
+        }
+    }
+}
+
+// Both callers at once.
+fn work_both<R: Threads + Wait + Sync>(
+    rt: &R,
+    alloc: Global,
+    live: &Live,
+    callers: &mut [Caller],
+    busy: &AtomicU32,
+)
+    requires call { 1 ≤ length live.now.slots.items }
+    requires seated { AreAllSeated live.now.inbox live.now.slots.items callers.old }
+    ensures seated { AreAllSeated live.now.inbox live.now.slots.items callers.new }
+{
+    thread::for_each_mut(
+        rt,
+        callers,
+        2,
+        &|_, caller| work_until_busy(rt, alloc, live, caller, busy),
+    );
+}
+
+// A farm of one call, and its two callers.
+fn farm<R: Wait>(rt: &R, alloc: Global) -> Result<(Live, Vec<Caller>), AllocError>
+    ensures call { IfOk result (λ r. 1 ≤ length r.0.slots.items) }
+    ensures some { IfOk result (λ r. 0 < length r.1.items) }
+    ensures seated { IfOk result (λ r. AreAllSeated r.0.inbox r.0.slots.items r.1.items) }
+{
+    Live::new(rt, alloc, 1, 1, 2)
+}
+
+#[test]
+fn a_call_is_busy(rt: HostRuntime) -> Result<(), Fail> {
+    let alloc = rt.alloc();
+    let (live, mut callers) = farm(&rt, alloc)?;
+    let busy = AtomicU32::new(0);
+    work_both(&rt, alloc, &live, callers.as_mut_slice(), &busy);
+    assert!(rt; busy.load(Ordering::SeqCst) > 0);
+    let closed = live.close(&rt, callers);
+    assert!(rt; closed.len() == 1);
+    Ok(())
+}

@@ -1,0 +1,108 @@
+-- A whole `follow`: from the octets of a recorded downlink to those of an uplink, and to lines of text (this project's
+-- profile). Periods have the oldest first, what is heard in them the newest.
+use Rattle.std.specs.Prelude.{◌≡◌, ◌⊎◌, ℕ, ◌-◌, ◌^◌, ◌<◌, ◌≤◌, List, [], ◌∷◌, ◌++◌, length, take, reverse}
+use Rattle.std.specs.List.{concat}
+use Rattle.std.specs.Io.KnownBytes.{Consumes, Appends, IsAtEnd}
+use Rattle.trau_io.specs.Lines.{LineState, Rose}
+use Rattle.trau_io.specs.Desks.{DeskState}
+use Rattle.ccu_end.specs.declared.recording.FollowEnd.{FollowEnd}
+use Rattle.ccu_end.specs.declared.recording.FollowEnd.TheVariants.{Done, ReadFailed, WriteFailed, DeskFailed}
+use Rattle.ccu_end.specs.Found.{FoundFrame}
+use Rattle.ccu_end.specs.Heard.{ArePeriods, AreHeard, all_of}
+use Rattle.ccu_end.specs.Told.{listed, sent_up}
+
+-- the incoming line gave these octets
+pub record Gives (up up' : LineState) (given : List ℕ) : Type 0 where
+  pub read : Consumes up.to_come up'.to_come given
+  pub written : up'.written ≡ up.written
+  pub later : up.faults ≤ up'.faults
+
+-- the outgoing line gained those
+pub record Gains (down down' : LineState) (sent : List ℕ) : Type 0 where
+  pub written : Appends down.written down'.written sent
+  pub to_come : down'.to_come ≡ down.to_come
+  pub later : down.faults ≤ down'.faults
+
+-- and the desk that text
+pub record Hears (desk desk' : DeskState) (told : List ℕ) : Type 0 where
+  pub written : Appends desk.written desk'.written told
+  pub to_come : desk'.to_come ≡ desk.to_come
+  pub read_faults : desk'.read_faults ≡ desk.read_faults
+  pub later : desk.write_faults ≤ desk'.write_faults
+
+pub record Moves (up up' down down' : LineState) (desk desk' : DeskState) (given sent told : List ℕ) : Type 0 where
+  pub gives : Gives up up' given
+  pub gains : Gains down down' sent
+  pub hears : Hears desk desk' told
+
+-- The line ended behind these periods, with so many octets left, or so many were taken that no more are. All of them are
+-- answered, and all frames told.
+pub record EndsLine (up up' down down' : LineState) (desk desk' : DeskState) (want : ℕ) (periods : List (List ℕ)) (heard : List (List FoundFrame)) (last sent told : List ℕ) (frames left : ℕ) : Type 0 where
+  pub at_end : IsAtEnd up'.to_come ⊎ ((length periods ≡ 2 ^ 32 - 1) × (last ≡ []))
+  pub frames_are : frames ≡ length (all_of heard)
+  pub left_is : left ≡ length last
+  pub less : length last < 40
+  pub all_sent : sent ≡ sent_up want heard
+  pub all_told : told ≡ listed heard
+  pub up_same : up'.faults ≡ up.faults
+  pub down_same : down'.faults ≡ down.faults
+  pub desk_same : desk'.write_faults ≡ desk.write_faults
+
+-- The incoming line failed inside a period. All periods before it are answered, and their frames told.
+pub record FailsToRead (up up' down down' : LineState) (desk desk' : DeskState) (want : ℕ) (heard : List (List FoundFrame)) (last sent told : List ℕ) : Type 0 where
+  pub part : length last < 40
+  pub all_sent : sent ≡ sent_up want heard
+  pub all_told : told ≡ listed heard
+  pub rose : Rose up.faults up'.faults
+  pub down_same : down'.faults ≡ down.faults
+  pub desk_same : desk'.write_faults ≡ desk.write_faults
+
+-- The outgoing line failed inside the answer of the last period: nothing was read behind that period, the line holds all
+-- earlier answers and a proper front of its answer, and the frames of the earlier periods alone are told.
+pub record FailsToWrite (up up' down down' : LineState) (desk desk' : DeskState) (want : ℕ) (heard : List (List FoundFrame)) (last sent told : List ℕ) : Type 0 where
+  pub nothing_more : last ≡ []
+  pub newest : List FoundFrame
+  pub earlier : List (List FoundFrame)
+  pub split : heard ≡ newest ∷ earlier
+  pub reached : length (sent_up want earlier) ≤ length sent
+  pub proper : length sent < length (sent_up want heard)
+  pub front : sent ≡ take (length sent) (sent_up want heard)
+  pub earlier_told : told ≡ listed earlier
+  pub up_same : up'.faults ≡ up.faults
+  pub rose : Rose down.faults down'.faults
+  pub desk_same : desk'.write_faults ≡ desk.write_faults
+
+-- The desk failed inside the lines of text of the last period: nothing was read behind that period, which is answered as
+-- all earlier ones are, and the desk holds all earlier lines and a proper front of its lines.
+pub record FailsToTell (up up' down down' : LineState) (desk desk' : DeskState) (want : ℕ) (heard : List (List FoundFrame)) (last sent told : List ℕ) : Type 0 where
+  pub nothing_more : last ≡ []
+  pub newest : List FoundFrame
+  pub earlier : List (List FoundFrame)
+  pub split : heard ≡ newest ∷ earlier
+  pub all_sent : sent ≡ sent_up want heard
+  pub reached : length (listed earlier) ≤ length told
+  pub proper : length told < length (listed heard)
+  pub front : told ≡ take (length told) (listed heard)
+  pub up_same : up'.faults ≡ up.faults
+  pub down_same : down'.faults ≡ down.faults
+  pub rose : Rose desk.write_faults desk'.write_faults
+
+-- the end behind these periods: what was read behind them, what was sent, and what was told
+abbrev pub EndsAs : LineState → LineState → LineState → LineState → DeskState → DeskState → ℕ → List (List ℕ) → List (List FoundFrame) → List ℕ → List ℕ → List ℕ → FollowEnd → Type 0
+EndsAs up up' down down' desk desk' want periods heard last sent told (Done frames left) = EndsLine up up' down down' desk desk' want periods heard last sent told frames left
+EndsAs up up' down down' desk desk' want periods heard last sent told ReadFailed = FailsToRead up up' down down' desk desk' want heard last sent told
+EndsAs up up' down down' desk desk' want periods heard last sent told WriteFailed = FailsToWrite up up' down down' desk desk' want heard last sent told
+EndsAs up up' down down' desk desk' want periods heard last sent told DeskFailed = FailsToTell up up' down down' desk desk' want heard last sent told
+
+-- A whole downlink. What its reads gave is whole periods, in which these frames were found, and then what was read behind
+-- them.
+pub record Follows (up up' down down' : LineState) (desk desk' : DeskState) (want : ℕ) (end : FollowEnd) : Type 0 where
+  pub periods : List (List ℕ)
+  pub heard : List (List FoundFrame)
+  pub last : List ℕ
+  pub sent : List ℕ
+  pub told : List ℕ
+  pub whole : ArePeriods periods
+  pub are_heard : AreHeard (reverse periods) heard
+  pub moves : Moves up up' down down' desk desk' (concat periods ++ last) sent told
+  pub ends : EndsAs up up' down down' desk desk' want periods heard last sent told end

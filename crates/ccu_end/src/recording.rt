@@ -1,0 +1,174 @@
+//! A recorded downlink followed as a whole: the command `follow`.
+
+ghost use Rattle.std.specs.Prelude.{◌≡◌, ◌+◌, ◌<◌, ◌≤◌, ◌%◌, length};
+ghost use Rattle.call_number.specs.CallNumber.{IsCallNumber};
+ghost use Rattle.trau_io.specs.declared.line.Side.TheVariants.{Up, Down};
+ghost use Rattle.trau_io.specs.Lines.{OthersStay};
+ghost use Rattle.trau_io.specs.Transfer.{WritesAll};
+ghost use Rattle.farm_tools.specs.Runs.{AllButTwo};
+ghost use Rattle.farm_tools.specs.Tools.{status_of};
+ghost use Rattle.ccu_end.specs.Heard.{frames_of};
+ghost use Rattle.ccu_end.specs.Told.{octets_saying};
+ghost use Rattle.ccu_end.specs.Follows.{Follows};
+ghost use Rattle.ccu_end.specs.FollowStep.{FollowsOn};
+ghost use Rattle.ccu_end.specs.Tool.{CleanFollow, FollowCauses, FollowRun, IsEndOf, TellsLast};
+
+use crate::finds::Heard;
+use crate::station::Ccu;
+use crate::text::{last_line, lines};
+use farm_tools::ToolEnd;
+use trau_bits::pack;
+use trau_io::{Desk, Failed, Filled, Line, Side, Trunk, read_block, tell, write_all};
+
+/// How a followed downlink ended.
+#[derive(Clone, Copy)]
+pub(crate) enum FollowEnd {
+    /// At the end of the line, or after 4,294,967,295 periods: so many frames were found, and so many octets of the line,
+    /// fewer than 40, stand behind its last whole period.
+    Done(u64, u32),
+    /// By the fault of the downlink.
+    ReadFailed,
+    /// By the fault of the line of the answers.
+    WriteFailed,
+    /// By the fault of the desk.
+    DeskFailed,
+}
+
+/// How one period ended.
+#[derive(Clone, Copy)]
+pub(crate) enum PeriodEnd {
+    /// It is answered, and so many frames are told.
+    Taken(u32),
+    /// The line ended after so many octets of it.
+    LineEnded(u32),
+    ReadFailed,
+    WriteFailed,
+    DeskFailed,
+}
+
+// Sends up the answer of the period that was fed last.
+fn send_up<T: Trunk>(ccu: &mut Ccu, call: u32, trunk: &mut T) -> Result<(), Failed>
+    requires { IsCallNumber call }
+    ensures same { ccu.new ≡ ccu.old }
+    ensures this { WritesAll (T.lines trunk.old call Down) (T.lines trunk.new call Down) result (octets_saying ccu.old.answer) }
+    ensures others { OthersStay (T.lines trunk.old) (T.lines trunk.new) call Down }
+{
+    let mut bits = [0; 320];
+    ccu.answer(&mut bits);
+    let mut octets = [0; 40];
+    pack(&bits, &mut octets);
+    let down = Line {
+        call,
+        side: Side::Down,
+    };
+    write_all(trunk, down, &octets)
+}
+
+// The frames of a period, none, one or two.
+fn count(heard: &Heard) -> u32
+    ensures { result ≡ length (frames_of heard.now) }
+{
+    u32::from(heard.first.is_some()) + u32::from(heard.second.is_some())
+}
+
+// Takes one period of the downlink, sends up its answer, and tells its frames.
+fn follow_period<T: Trunk, D: Desk>(
+    ccu: &mut Ccu,
+    call: u32,
+    trunk: &mut T,
+    desk: &mut D,
+) -> PeriodEnd
+    requires number { IsCallNumber call }
+    requires fewer { ccu.old.periods < 4294967295 }
+    ensures period { FollowsOn ccu.old ccu.new (T.lines trunk.old call Up) (T.lines trunk.new call Up) (T.lines trunk.old call Down) (T.lines trunk.new call Down) (D.desk desk.old) (D.desk desk.new) result }
+    ensures others { AllButTwo (T.lines trunk.old) (T.lines trunk.new) call Up Down }
+{
+    let up = Line {
+        call,
+        side: Side::Up,
+    };
+    let mut octets = [0; 40];
+    match read_block(trunk, up, &mut octets) {
+        Filled::Whole => {}
+        Filled::Ended(count) => return PeriodEnd::LineEnded(count as u32),
+        Filled::Failed(_) => return PeriodEnd::ReadFailed,
+    }
+    let heard = ccu.feed(&octets);
+    if let Err(_) = send_up(ccu, call, trunk) {
+        return PeriodEnd::WriteFailed;
+    }
+    match tell(desk, lines(&heard).as_bytes()) {
+        Ok(()) => PeriodEnd::Taken(count(&heard)),
+        Err(_) => PeriodEnd::DeskFailed,
+    }
+}
+
+// Follows the downlink on a call's Up line up to its end, which 4,294,967,295 periods count as too.
+fn follow_line<T: Trunk, D: Desk>(call: u32, want: u16, trunk: &mut T, desk: &mut D) -> FollowEnd
+    requires number { IsCallNumber call }
+    requires high { want ≤ 316 }
+    requires fours { want % 4 ≡ 0 }
+    ensures follows { Follows (T.lines trunk.old call Up) (T.lines trunk.new call Up) (T.lines trunk.old call Down) (T.lines trunk.new call Down) (D.desk desk.old) (D.desk desk.new) want result }
+    ensures others { AllButTwo (T.lines trunk.old) (T.lines trunk.new) call Up Down }
+{
+    let mut ccu = Ccu::new(want);
+    let mut frames = 0;
+    for _period in 0..u32::MAX {
+        match follow_period(&mut ccu, call, trunk, desk) {
+            PeriodEnd::Taken(count) => frames += u64::from(count),
+            PeriodEnd::LineEnded(left) => return FollowEnd::Done(frames, left),
+            PeriodEnd::ReadFailed => return FollowEnd::ReadFailed,
+            PeriodEnd::WriteFailed => return FollowEnd::WriteFailed,
+            PeriodEnd::DeskFailed => return FollowEnd::DeskFailed,
+        }
+    }
+    FollowEnd::Done(frames, 0)
+}
+
+// The end of the tool where the downlink was followed so and the last line went out.
+fn end_of(call: u32, end: FollowEnd) -> ToolEnd
+    requires { IsCallNumber call }
+    ensures { IsEndOf call end result }
+{
+    match end {
+        FollowEnd::Done(..) => ToolEnd::Done,
+        FollowEnd::ReadFailed => ToolEnd::LineFault(Line {
+            call,
+            side: Side::Up,
+        }),
+        FollowEnd::WriteFailed => ToolEnd::LineFault(Line {
+            call,
+            side: Side::Down,
+        }),
+        FollowEnd::DeskFailed => ToolEnd::DeskFault,
+    }
+}
+
+// Tells the last line of text.
+fn tell_last<D: Desk>(call: u32, end: FollowEnd, desk: &mut D) -> ToolEnd
+    requires { IsCallNumber call }
+    ensures { TellsLast call end (D.desk desk.old) (D.desk desk.new) result }
+{
+    match tell(desk, last_line(call, end).as_bytes()) {
+        Ok(()) => end_of(call, end),
+        Err(_) => ToolEnd::DeskFault,
+    }
+}
+
+/// Follows a call's Up line as a recorded downlink: takes it in periods of 40 octets, writes the answer of each period, the
+/// uplink frame of 40 octets by which the alignment to places that are `want` modulo 320 is asked for (0 to 316, a multiple
+/// of 4), to the call's Down line, and tells a line of text for each frame found in it, its place in bits and what it says:
+/// `PLACE WORD`, WORD being `speech`, `idle` or `other`. A rest of less than a period is left. At the end it tells
+/// `follow frames N left R`, N being the number of frames, or `line C up failed` or `line C down failed`; the frames of a
+/// period whose answer couldn't be written aren't told. It takes no memory, and never answers Refused.
+pub fn follow<T: Trunk, D: Desk>(call: u32, want: u16, trunk: &mut T, desk: &mut D) -> ToolEnd
+    requires number { IsCallNumber call }
+    requires high { want ≤ 316 }
+    requires fours { want % 4 ≡ 0 }
+    ensures runs { FollowRun (T.lines trunk.old) (T.lines trunk.new) (D.desk desk.old) (D.desk desk.new) call want result }
+    ensures causes { FollowCauses (T.lines trunk.old) (T.lines trunk.new) (D.desk desk.old) (D.desk desk.new) call (status_of result) }
+    ensures clean { CleanFollow (T.lines trunk.old) (T.lines trunk.new) (D.desk desk.old) (D.desk desk.new) call want (status_of result) }
+{
+    let end = follow_line(call, want, trunk, desk);
+    tell_last(call, end, desk)
+}

@@ -1,0 +1,170 @@
+//! The base station's end of a downlink in memory: whole, in pieces, and where a line or the desk fails.
+
+use crate::farm_top_tests::{Outcome, carry};
+use crate::lines::{NONE, UPLINK_FRAME, line, put};
+use pool_run::OpenGate;
+use std::alloc::Global;
+use std::process::Abort;
+use std::sync::Wait;
+use std::thread::Threads;
+use trau_io::MemTrunk;
+use trau_io::Side::{Down, Up};
+
+// Octet `i` of the downlink speech frame with SP 1 and the data bits of the uplink frame, and of ones behind it.
+fn frame(i: usize) -> u8 {
+    match i {
+        2 => 0xF0,
+        3 => 0x0F,
+        38 => 0xA7,
+        0..40 => UPLINK_FRAME[i],
+        _ => 0xFF,
+    }
+}
+
+// A period of ones; a frame; a shift of 39 octets; a frame without its time bits, by a shift of -2; a frame; twelve ones.
+// So the frames stand at bits 320, 952 and 1268, the third one within an octet.
+fn downlink(rt: &impl Abort, alloc: Global) -> Vec<u8> {
+    let mut octets = vec![in alloc; 0xFF; 200].expect(rt, "memory");
+    for i in 0..40 {
+        octets[40 + i] = frame(i);
+        octets[119 + i] = frame(i);
+        octets[159 + i] = frame(i) << 4 | frame(i + 1) >> 4;
+    }
+    octets[158] = frame(39) & 0xF0 | frame(0) >> 4;
+    octets
+}
+
+// Octet `i` of what is sent up: idle frames in the two periods in which no frame ends, and else good speech, which from period
+// 3 on asks for a step of 8 bits. All have TAF 0 and DTXd 1.
+fn answer(i: usize) -> u8 {
+    match (i / 40, i % 40) {
+        (_, 0 | 1) => 0,
+        (0 | 2, 2) => 0xC0,
+        (0 | 2, 3) => 0x08,
+        (0 | 2, _) => 0xFF,
+        (1, 3) => 0x00,
+        (_, 3) => 0x10,
+        (_, 38) => 0xA7,
+        (_, place) => UPLINK_FRAME[place],
+    }
+}
+
+// Follows the downlink on call 7, in pieces, where a read of the line fails, or a write of the answers or of the desk.
+fn follow<R: Abort + Threads + Wait + Sync>(
+    rt: &R,
+    alloc: Global,
+    cut: u32,
+    faults: (u32, u32, u32),
+) -> (Outcome, MemTrunk) {
+    let (read, write, told) = faults;
+    let mut trunk = MemTrunk::new(alloc).expect(rt, "memory");
+    let octets = downlink(rt, alloc);
+    put(rt, alloc, &mut trunk, line(7, Up), octets, cut, read);
+    let none = Vec::new(alloc);
+    put(rt, alloc, &mut trunk, line(7, Down), none, cut, write);
+    let words = ["follow", "7", "0"];
+    let outcome = carry(rt, alloc, &words, &mut trunk, "", told, &OpenGate);
+    (outcome, trunk)
+}
+
+// Whether octets are the first `count` of the answers.
+fn are_answers(octets: &[u8], count: usize) -> bool {
+    octets.len() == count && octets.iter().enumerate().all(|(i, o)| *o == answer(i))
+}
+
+// The size of the pieces; which read of the line fails, which write of the answers, and which of the desk; what is answered
+// and told, and how many octets are sent up.
+struct Row {
+    cut: u32,
+    faults: (u32, u32, u32),
+    status: u8,
+    text: &'static str,
+    sent: usize,
+}
+
+const WHOLE: &str = "320 speech\n952 speech\n1268 speech\nfollow frames 3 left 0\n";
+
+static ROWS: [Row; 8] = [
+    Row {
+        cut: 1000,
+        faults: (NONE, NONE, NONE),
+        status: 0,
+        text: WHOLE,
+        sent: 200,
+    },
+    Row {
+        cut: 7,
+        faults: (NONE, NONE, NONE),
+        status: 0,
+        text: WHOLE,
+        sent: 200,
+    },
+    Row {
+        cut: 1000,
+        faults: (2, NONE, NONE),
+        status: 6,
+        text: "320 speech\nline 7 up failed\n",
+        sent: 80,
+    },
+    // The frame of a period whose answer isn't written isn't told.
+    Row {
+        cut: 1000,
+        faults: (NONE, 1, NONE),
+        status: 6,
+        text: "line 7 down failed\n",
+        sent: 40,
+    },
+    Row {
+        cut: 1000,
+        faults: (NONE, 3, NONE),
+        status: 6,
+        text: "320 speech\nline 7 down failed\n",
+        sent: 120,
+    },
+    Row {
+        cut: 1000,
+        faults: (NONE, NONE, 0),
+        status: 4,
+        text: "",
+        sent: 80,
+    },
+    Row {
+        cut: 1000,
+        faults: (NONE, NONE, 1),
+        status: 4,
+        text: "320 speech\n",
+        sent: 160,
+    },
+    Row {
+        cut: 1000,
+        faults: (NONE, NONE, 3),
+        status: 4,
+        text: "320 speech\n952 speech\n1268 speech\n",
+        sent: 200,
+    },
+];
+
+#[test]
+fn a_downlink_is_followed(rt: HostRuntime) {
+    for row in &ROWS {
+        let (outcome, trunk) = follow(&rt, rt.alloc(), row.cut, row.faults);
+        assert!(rt;
+            outcome.is(row.status, row.text) && are_answers(trunk.written(line(7, Down)), row.sent),
+            "pieces of {}, sent {}: {}",
+            row.cut,
+            row.sent,
+            row.text
+        );
+    }
+}
+
+#[test]
+fn a_place_that_cant_be_wanted_is_no_command(rt: HostRuntime) {
+    let alloc = rt.alloc();
+    for want in ["6", "320", "00", ""] {
+        let mut trunk = MemTrunk::new(alloc).expect(&rt, "memory");
+        let words = ["follow", "7", want];
+        let outcome = carry(&rt, alloc, &words, &mut trunk, "", NONE, &OpenGate);
+        assert!(rt; outcome.is(1, "usage\n"));
+    }
+}

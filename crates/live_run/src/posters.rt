@@ -1,0 +1,231 @@
+//! The callers of a live drill, each on a thread of its own.
+
+ghost use Rattle.std.specs.Prelude.{◌≡◌, ◌+◌, ◌<◌, ◌≤◌, ℕ, All, IsTrue, length, map, slice_index_or, OnOk, IfOk};
+ghost use Rattle.farm_drill.specs.Draws.{state_at};
+ghost use Rattle.farm_drill.specs.declared.draws.Generator.{Generator as TheDraws};
+ghost use Rattle.farm_live.specs.Live.{view_of, IsSeated};
+ghost use Rattle.live_run.specs.Size.{IsLiveDrill};
+ghost use Rattle.live_run.specs.Posts.{Knows, IsDrawn, Moves, IsBehind, HasPosted};
+ghost use Rattle.live_run.specs.Posters.{IsReady, HasEnded, Ends, HavePosted, poster_of};
+
+use crate::calls::post_period;
+use crate::size::LiveDrill;
+use farm_drill::{Generator, pcm, uplink};
+use farm_live::{Caller, Live};
+use pool_run::Gate;
+use std::alloc::{AllocError, Global};
+use std::sync::Wait;
+use std::thread;
+use std::thread::Threads;
+
+/// A caller on its thread.
+#[derive(Drop)]
+struct Poster {
+    caller: Caller,
+    // Whether all was posted: there was memory for all that was to be worked before.
+    done: bool,
+}
+
+// Posts a period to the call with this index, if it is one of the caller's own.
+fn post_own<R: Wait, G: Gate>(
+    rt: &R,
+    alloc: Global,
+    live: &Live,
+    drill: &LiveDrill,
+    period: u32,
+    k: u32,
+    caller: &mut Caller,
+    draws: &mut Generator,
+    gate: &G,
+) -> Result<(), AllocError>
+    requires size { IsLiveDrill drill.now }
+    requires period { period < 1000 }
+    requires call { k < length live.now.slots.items }
+    requires few { k < 256 }
+    requires farm { IsSeated live.now.inbox live.now.slots.items caller.old }
+    requires knows { (s : _) → Knows drill.now.seed drill.now.callers caller.old.number k period (view_of (slice_index_or caller.old.seats.items k s)) }
+    requires drawn { IsDrawn drill.now.seed drill.now.callers caller.old.number k period draws.old }
+    ensures farm { IsSeated live.now.inbox live.now.slots.items caller.new }
+    ensures posted { OnOk result (Moves (λ _ w. Knows drill.now.seed drill.now.callers caller.old.number k (period + 1) w) k caller.old caller.new) }
+    ensures drawn { OnOk result (IsDrawn drill.now.seed drill.now.callers caller.old.number k (period + 1) draws.new) }
+{
+    if k % drill.callers != caller.number() {
+        return Ok(());
+    }
+    let up = uplink(draws, period);
+    let pcm = pcm(draws, period);
+    post_period(rt, alloc, live, caller, k, &up, &pcm, gate)
+}
+
+// Posts a period to each of the caller's calls.
+fn post_round<R: Wait, G: Gate>(
+    rt: &R,
+    alloc: Global,
+    live: &Live,
+    drill: &LiveDrill,
+    period: u32,
+    caller: &mut Caller,
+    draws: &mut [Generator],
+    gate: &G,
+) -> Result<(), AllocError>
+    requires size { IsLiveDrill drill.now }
+    requires period { period < 1000 }
+    requires calls { length live.now.slots.items ≡ drill.now.calls }
+    requires farm { IsSeated live.now.inbox live.now.slots.items caller.old }
+    requires behind { IsBehind drill.now.seed drill.now.calls drill.now.callers caller.old.number (λ _. period) caller.old draws.old }
+    ensures farm { IsSeated live.now.inbox live.now.slots.items caller.new }
+    ensures behind { OnOk result (IsBehind drill.now.seed drill.now.calls drill.now.callers caller.old.number (λ _. period + 1) caller.new draws.new) }
+{
+    for k in 0..drill.calls {
+        let own = &mut draws[k as usize];
+        post_own(rt, alloc, live, drill, period, k, caller, own, gate)?;
+    }
+    Ok(())
+}
+
+// The generators of all calls, each before its first draw.
+fn first_draws(alloc: Global, seed: u32, calls: u32) -> Result<Vec<Generator>, AllocError>
+    requires { calls ≤ 256 }
+    ensures count { IfOk result (λ gs. length gs.items ≡ calls) }
+    ensures each { IfOk result (λ gs. (k : ℕ) (g : TheDraws) → k < calls → (slice_index_or gs.items k g).x ≡ state_at seed (k + 1) 0) }
+{
+    let mut draws = Vec::with_capacity(alloc, calls as usize)?;
+    for k in 0..calls {
+        let generator = Generator::new(seed, k + 1);
+        draws.push_reserved(generator);
+    }
+    Ok(draws)
+}
+
+// Posts all periods of the caller's calls, a period of each call at a time.
+fn post_periods<R: Wait, G: Gate>(
+    rt: &R,
+    alloc: Global,
+    live: &Live,
+    drill: &LiveDrill,
+    caller: &mut Caller,
+    gate: &G,
+) -> Result<(), AllocError>
+    requires size { IsLiveDrill drill.now }
+    requires calls { length live.now.slots.items ≡ drill.now.calls }
+    requires farm { IsSeated live.now.inbox live.now.slots.items caller.old }
+    requires posted { HasPosted drill.now.seed drill.now.calls drill.now.callers 0 caller.old.number caller.old }
+    ensures farm { IsSeated live.now.inbox live.now.slots.items caller.new }
+    ensures posted { OnOk result (HasPosted drill.now.seed drill.now.calls drill.now.callers drill.now.periods caller.old.number caller.new) }
+{
+    let mut draws = first_draws(alloc, drill.seed, drill.calls)?;
+    for period in 0..drill.periods {
+        let each = draws.as_mut_slice();
+        post_round(rt, alloc, live, drill, period, caller, each, gate)?;
+    }
+    Ok(())
+}
+
+// Posts all periods of a poster's calls, and says whether it could.
+fn post_all<R: Wait, G: Gate>(
+    rt: &R,
+    alloc: Global,
+    live: &Live,
+    drill: &LiveDrill,
+    poster: &mut Poster,
+    gate: &G,
+)
+    requires size { IsLiveDrill drill.now }
+    requires calls { length live.now.slots.items ≡ drill.now.calls }
+    requires ready { (i : ℕ) × IsReady drill.now.seed drill.now.calls drill.now.callers live.now.inbox live.now.slots.items i poster.old }
+    ensures { (i : ℕ) → IsReady drill.now.seed drill.now.calls drill.now.callers live.now.inbox live.now.slots.items i poster.old →
+        HasEnded drill.now.seed drill.now.calls drill.now.callers drill.now.periods live.now.inbox live.now.slots.items i poster.new }
+{
+    let posted = post_periods(rt, alloc, live, drill, &mut poster.caller, gate);
+    poster.done = posted.is_ok();
+}
+
+// What a thread does.
+fn run_poster<R: Wait, G: Gate>(
+    rt: &R,
+    alloc: Global,
+    live: &Live,
+    drill: &LiveDrill,
+    poster: &mut Poster,
+    gate: &G,
+)
+    requires size { IsLiveDrill drill.now }
+    requires calls { length live.now.slots.items ≡ drill.now.calls }
+    requires ready { (i : ℕ) × IsReady drill.now.seed drill.now.calls drill.now.callers live.now.inbox live.now.slots.items i poster.old }
+    ensures { Ends drill.now.seed drill.now.calls drill.now.callers drill.now.periods live.now.inbox live.now.slots.items poster.old poster.new }
+{
+    post_all(rt, alloc, live, drill, poster, gate);
+}
+
+// Each on a thread of its own, until all have ended.
+fn run_posters<R: Threads + Wait + Sync, G: Gate + Sync>(
+    rt: &R,
+    alloc: Global,
+    live: &Live,
+    drill: &LiveDrill,
+    posters: &mut [Poster],
+    gate: &G,
+)
+    requires size { IsLiveDrill drill.now }
+    requires calls { length live.now.slots.items ≡ drill.now.calls }
+    requires some { 0 < length posters.old }
+    requires ready { (k : ℕ) (p : _) → k < length posters.old →
+        IsReady drill.now.seed drill.now.calls drill.now.callers live.now.inbox live.now.slots.items k (slice_index_or posters.old k p) }
+    ensures { (k : ℕ) (p : _) → k < length posters.old →
+        Ends drill.now.seed drill.now.calls drill.now.callers drill.now.periods live.now.inbox live.now.slots.items (slice_index_or posters.old k p) (slice_index_or posters.new k p) }
+{
+    let threads = posters.len();
+    thread::for_each_mut(
+        rt,
+        posters,
+        threads,
+        &|_, poster| run_poster(rt, alloc, live, drill, poster, gate),
+    );
+}
+
+// The callers of a farm, before their threads.
+fn posters_of(alloc: Global, callers: Vec<Caller>) -> Result<Vec<Poster>, AllocError>
+    ensures { IfOk result (λ ps. ps.items ≡ map poster_of callers.items) }
+{
+    callers
+        .into_iter()
+        .map(|caller| Poster {
+            caller,
+            done: false,
+        })
+        .collect(alloc)
+}
+
+// The callers, if all of them are done.
+fn callers_of(alloc: Global, posters: Vec<Poster>) -> Result<Vec<Caller>, AllocError>
+    ensures callers { IfOk result (λ cs. cs.items ≡ map (λ p. p.caller) posters.items) }
+    ensures done { IfOk result (λ _. All (λ p. IsTrue p.done) posters.items) }
+{
+    if !posters.iter().all(|poster| poster.done) {
+        return Err(AllocError);
+    }
+    posters
+        .into_iter()
+        .map(|poster| poster.caller)
+        .collect(alloc)
+}
+
+/// Has the callers of a new farm post all periods of their calls, each on a thread of its own, and answers them. An error
+/// says that there was no memory.
+pub(crate) fn post_by_all<R: Threads + Wait + Sync, G: Gate + Sync>(
+    rt: &R,
+    alloc: Global,
+    live: &Live,
+    drill: &LiveDrill,
+    callers: Vec<Caller>,
+    gate: &G,
+) -> Result<Vec<Caller>, AllocError>
+    requires size { IsLiveDrill drill.now }
+    requires calls { length live.now.slots.items ≡ drill.now.calls }
+    requires callers { HavePosted drill.now.seed drill.now.calls drill.now.callers 0 live.now.inbox live.now.slots.items callers.items }
+    ensures { IfOk result (λ cs. HavePosted drill.now.seed drill.now.calls drill.now.callers drill.now.periods live.now.inbox live.now.slots.items cs.items) }
+{
+    let mut posters = posters_of(alloc, callers)?;
+    run_posters(rt, alloc, live, drill, posters.as_mut_slice(), gate);
+    callers_of(alloc, posters)
+}

@@ -1,0 +1,44 @@
+//! A whole live drill.
+
+ghost use Rattle.std.specs.Prelude.{◌≡◌, IfOk, string_bytes};
+ghost use Rattle.live_run.specs.Size.{IsLiveDrill};
+ghost use Rattle.live_run.specs.Text.{live_text};
+
+use crate::laws::legal_histories_are_whole_calls;
+use crate::posters::post_by_all;
+use crate::rest::work_rest;
+use crate::size::LiveDrill;
+use crate::sums::text_of;
+use farm_live::Live;
+use pool_run::Gate;
+use std::alloc::{AllocError, Global};
+use std::sync::Wait;
+use std::thread::Threads;
+
+/// A live drill. Caller (C - 1) modulo `callers` posts the periods of call C, which are drawn, each on a thread of its own; a
+/// caller that finds an inbox full works that call, and one that finds a call busy yields its thread, and both try again.
+/// When all have ended the calling thread works each call to its last post, and ends the farm. The answer is the text: for
+/// each call the sums of the octets of its outgoing lines, and a last line. It hangs on the seed and the numbers of calls and
+/// periods alone. An error says that there was no memory.
+///
+/// For each period of a call its caller calls `gate.before` before it first tries the post, and `gate.after` once that was
+/// accepted; no clause names the gate.
+///
+/// The callers wait for queues, and for one another at the end: that this returns isn't proved.
+pub fn run_live<R: Threads + Wait + Sync, G: Gate + Sync>(
+    rt: &R,
+    alloc: Global,
+    drill: &LiveDrill,
+    gate: &G,
+) -> Result<String, AllocError>
+    requires { IsLiveDrill drill.now }
+    ensures { IfOk result (λ text. string_bytes text ≡ live_text drill.now.seed drill.now.calls drill.now.periods) }
+{
+    // A law: the octets of a legal history are those of the call as a whole.
+    legal_histories_are_whole_calls();
+    let (live, callers) = Live::new(rt, alloc, drill.calls, drill.inbox, drill.callers)?;
+    let mut callers = post_by_all(rt, alloc, &live, drill, callers, gate)?;
+    work_rest(rt, alloc, &live, drill, &mut callers[0])?;
+    let closed = live.close(rt, callers);
+    text_of(alloc, closed.as_slice(), drill.periods, drill.calls)
+}
