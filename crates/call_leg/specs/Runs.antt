@@ -1,5 +1,6 @@
 -- The runs of a leg's two halves over n places, each with the octets of one period. A bridge that the leg has ends at place m.
--- Lists of periods have the newest first.
+-- Of notes that no octets of Up tell, the downlink half's run says nothing; those of an uplink half's run are told. Lists of
+-- periods have the newest first.
 use Rattle.std.specs.Prelude.{◌≡◌, ℕ, zero, suc, ◌<◌, ◌&&◌, nat_lt, if◌then◌else◌, Option, Some, None, is_some, List, [], ◌∷◌, ◌++◌, length, get_or}
 use Rattle.trau_bits.specs.Bits.{octets_of}
 use Rattle.trau_params.specs.Bits260.{bits260}

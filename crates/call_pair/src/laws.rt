@@ -45,9 +45,9 @@ pub fn the_run_is_that_of_the_halves()
     ensures two { (a b : Start) (g h : HalfMemory) → Begins a g → Begins b h → TwoRun a b (finished (Two g h)) }
 {}
 
-/// The first phase gives the run of an uplink half, of a call that lies in no bridge and of one with a partner: a bridge
-/// ends behind the places of the shorter. What the partner gets of it are the call's effective frames of the places that
-/// both have.
+/// The first phase gives the run of an uplink half, of a call alone, whose bridge, if it has one, ends before its first
+/// place, and of one with a partner: a bridge ends behind the places of the shorter. What the partner gets of it are the
+/// call's effective frames of the places that both have.
 pub fn the_first_phase_is_told()
     ensures alone { (s : Start) (h : HalfMemory) → Begins s h → Hears s 0 (first_phase 0 h) }
     ensures bridged { (a b : Start) (g h : HalfMemory) → Begins a g → Begins b h → Hears a (min a.io.given b.io.given) (first_phase (min a.io.given b.io.given) g) }
@@ -55,8 +55,8 @@ pub fn the_first_phase_is_told()
         let m = min g.io.given h.io.given in (k : ℕ) → k < m → frame_at k (effs m g) ≡ (note_in a.io.call (bridged_periods k a b) (up_at k a.io)).eff }
 {}
 
-/// The second phase gives the run of a downlink half, of a call that lies in no bridge and of one with a partner, whose
-/// effective frames it has of the places that both have.
+/// The second phase gives the run of a downlink half, of a call alone, whose bridge, if it has one, ends before its first
+/// place, and of one with a partner, whose effective frames it has of the places that both have.
 pub fn the_second_phase_is_told()
     ensures alone { (s : Start) (h : HalfMemory) → Begins s h → Speaks s [] (second_phase 0 [] h) }
     ensures bridged { (a b : Start) (g h : HalfMemory) → Begins a g → Begins b h →

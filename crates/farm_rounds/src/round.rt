@@ -88,8 +88,9 @@ impl Round {
         ensures seats { IfOk result (λ r. (k : ℕ) → k < length farm.live →
             let c = slice_index farm.live k in seat_at r.seats k ≡ seat_for periods c (call_in farm.groups c)) }
 
-        // A job for each call that isn't bridged and for the two calls of a bridge, in rising order of their lower
-        // numbers; they have the calls of the farm.
+        // What the round works is told by the jobs that define it: one for each call that isn't bridged and one for the two
+        // calls of a bridge, in rising order of their lower numbers; they have the calls of the farm. In each phase every
+        // call has a job of its own, and these stand in rising order of their calls (`work_phase`).
         ensures order { IfOk result (λ r. IsRising (map job_call r.jobs)) }
         ensures calls { IfOk result (λ r. (c : ℕ) → is_some (call_in (groups_from r.jobs) c) ≡ is_some (call_in farm.groups c)) }
         ensures partners { IfOk result (λ r. (c : ℕ) → partner_in (groups_from r.jobs) c ≡ partner_in farm.groups c) }

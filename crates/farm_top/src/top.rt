@@ -143,7 +143,7 @@ fn carry_out<R: Threads + Wait + Sync, T: Trunk, D: Desk, G: Gate + Sync>(
 ///
 /// The command `run` reads orders from the desk, runs them over the lines of all calls, 1 to 4,096, and tells the
 /// report, which names the lines that failed. A call's lines from and to the exchange are of A-law, or of mu-law where
-/// the order `open C mulaw` opened it; those of `decode`, `encode` and `drill` are of A-law. The options of `run`, in
+/// the order `open C mulaw` opened it; those of `decode`, `encode`, `drill` and `live` are of A-law. The options of `run`, in
 /// any order and each at most once, are `--workers` (threads, 1 to 64, else 4), `--batch` (the most periods of a round, 1 to 250,
 /// else 50), `--slice` (the most periods of a call that are worked at a time, 1 to 250, else 5) and `--periods` (the
 /// most periods of the run, 1 to 4,294,967,295, else that). The workers steal calls half done from one another, and
