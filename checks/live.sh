@@ -15,9 +15,14 @@ fail() {
 }
 
 # live WORDS..: the text and the status of a live drill; nothing is read of standard input
+echo 'no orders' >"$work/in"
 live() {
     status=0
-    echo 'no orders' | "$top/trau" live "$@" >"$work/text" || status=$?
+    {
+        "$top/trau" live "$@" >"$work/text" || status=$?
+        cat >"$work/rest"
+    } <"$work/in"
+    cmp -s "$work/in" "$work/rest" || fail "live $*: standard input was read"
 }
 
 number=0

@@ -4,7 +4,7 @@ use mathlib.Core.Option.{some, some-ne-none}
 use lib.ListN.{get_elem?}
 use Rattle.std.proofs.Math.Seq.{drop-append_seam}
 use Rattle.std.proofs.lemmas.List.Elements.{filter-append}
-use Rattle.std.proofs.lemmas.Bool.{cases_Bool, eqb-true, true≢false}
+use Rattle.std.proofs.lemmas.Bool.{cases_Bool, cases_eq, cases_lt, eqb-true, true≢false}
 use Rattle.crossbeam_queue.specs.Fifo.{Pushes, PopsFrom, Forks, Merges}
 use Rattle.crossbeam_queue.proofs.Lists.{at_set, at_snoc}
 use Rattle.farm_live.specs.declared.post.Post.{Post}
@@ -12,7 +12,7 @@ use Rattle.farm_live.specs.declared.slot.View.{View}
 use Rattle.farm_live.specs.declared.slot.Token.{Token}
 use Rattle.farm_live.specs.declared.slot.Token.TheVariants.{Here, Out}
 use Rattle.farm_live.specs.Book.{Known, no_book, record_of, of_caller, NumberedFrom, most_posts}
-use Rattle.farm_live.specs.Slot.{StartsWith, weigh, bit, is_at, times, ascending, all_callers, books, AllBooks, BeginsWith, AllSeen, own_posts, Fits, IsRecord, IsSlot, founder, rest_of, first_of, both_of, spent, missed, took, Tells, Took, added, gave, Gave, May}
+use Rattle.farm_live.specs.Slot.{StartsWith, weigh, bit, is_at, times, ascending, all_callers, books, AllBooks, BeginsWith, AllSeen, number_of_callers, own_posts, Fits, IsRecord, IsSlot, founder, rest_of, first_of, both_of, spent, missed, took, Tells, Took, added, gave, Gave, May}
 
 -- ---- weights
 
@@ -79,7 +79,7 @@ abbrev posts_made : View → ℕ
 posts_made v = length v.made
 
 -- no more posts are made than the callers may make
-all_callers_are : weigh (λ _. 1) all_callers ≡ 64
+pub all_callers_are : weigh (λ _. 1) all_callers ≡ 64
 unfolding all_callers
 all_callers_are = refl
 
@@ -180,13 +180,47 @@ marks n port v items views _ kept at = (
 
 -- a view that fits still fits where only its counts changed
 counted_fits : (now : Known) (v : View) → Fits now v → Fits now (missed v)
-counted_fits now v f = record { held = f.held; seen = f.seen; made = f.made; is_of = f.is_of; few = f.few }
+counted_fits now v f = record { held = f.held; seen = f.seen; made = f.made; is_of = f.is_of; few = f.few; rest = f.rest }
 
-took_fits : (now b : Known) (v : View) → b ≡ now → Fits now v → Fits now (took v b)
-took_fits now b v same f = record { held = λ _. same; seen = (subst (λ k. BeginsWith k b) same (begins_itself b), tt); made = f.made; is_of = f.is_of; few = f.few }
+took_fits : (now b : Known) (v : View) → (c : ℕ) × (0 < times c v.callers) → b ≡ now → Fits now v → Fits now (took v b)
+took_fits now b v one same f = record {
+  held = λ _. same;
+  seen = (subst (λ k. BeginsWith k b) same (begins_itself b), tt);
+  made = f.made;
+  is_of = f.is_of;
+  few = f.few;
+  rest = λ none. absurd (let e : times one.0 v.callers ≡ 0 = ap (times one.0) none in let at = one.1 in omega arith);
+}
 
-pub takes : (n port : ℕ) (v : View) → v.holds ≡ false → PopsFrom IsSlot n port v (Took v)
-takes n port v free (Here b) items views _ kept at =
+-- ---- one that has all callers' numbers doesn't find the mark
+
+none_weigh : {X : Type 0} (f : X → ℕ) (xs : List X) → ((j : ℕ) (x : X) → get_elem? xs j ≡ some x → f x ≡ 0) → weigh f xs ≡ 0
+none_weigh f [] each = refl
+none_weigh f (x ∷ xs) each = let first = each 0 x refl in let rest = none_weigh f xs (λ j y e. each (suc j) y e) in omega arith
+
+no_tokens : (xs : List Token) → length xs ≡ 0 → weigh books xs ≡ 0
+no_tokens [] e = refl
+no_tokens (x ∷ xs) e = absurd (omega arith)
+
+no_callers : (cs : List ℕ) → weigh (λ _. 1) cs ≡ 0 → cs ≡ []
+no_callers [] e = refl
+no_callers (c ∷ cs) e = absurd (omega arith)
+
+none_holds : (now : Known) (views : List View) (port : ℕ) (v : View) → v.holds ≡ false → get_elem? views port ≡ some v → ((h : ℕ → ℕ) → weigh (has h) views ≡ weigh h all_callers) →
+    ((j : ℕ) (u : View) → get_elem? views j ≡ some u → Fits now u) → 64 ≤ number_of_callers v → weigh held views ≡ 0
+none_holds now views port v free at all fit mine = none_weigh held views (λ j u e. ⊎_elim
+    (λ (same : j ≡ port).
+        let there : get_elem? views port ≡ some u = subst (λ (i : ℕ). get_elem? views i ≡ some u) same e in
+        let is : v ≡ u = cc in
+        ap (λ (x : View). bit x.holds) (sym is) ∙ ap bit free)
+    (λ (ne : j ≢ port).
+        let le = both-le (has (λ _. 1)) views port j v u ne at e in
+        let none : weigh (λ _. 1) u.callers ≡ 0 = omega (arith, le, all (λ _. 1), mine, all_callers_are) in
+        ap bit ((fit j u e).rest (no_callers u.callers none)))
+    (cases_eq j port))
+
+pub takes : (n port : ℕ) (v : View) → n ≡ 1 → (c : ℕ) × (0 < times c v.callers) → v.holds ≡ false → PopsFrom IsSlot n port v (Took v)
+takes n port v one some_caller free (Here b) items views _ kept at =
     let w : View = took v b in
     let none : bit v.holds ≡ 0 = ap bit free in
     let f = kept.5 port v at in (
@@ -197,12 +231,12 @@ takes n port v free (Here b) items views _ kept at =
         kept.2.1,
         kept.3,
         callers_set views port v w refl at kept.4,
-        fits_set kept.0 views port w (took_fits kept.0 b v kept.2.0 f) (λ j u _ e. kept.5 j u e),
+        fits_set kept.0 views port w (took_fits kept.0 b v some_caller kept.2.0 f) (λ j u _ e. kept.5 j u e),
         omega (arith, kept.6, weigh_set posts_made views port v w at),
       ),
       (refl, subst (Tells v) (sym kept.2.0) (record { seen = f.seen; made = f.made; is_of = f.is_of; posts = kept.3; few = few_posts kept.0 views kept.5 kept.4 kept.6; mine = f.few })),
     )
-takes n port v free Out items views _ kept at = let w : View = missed v in (
+takes n port v one some_caller free Out items views long kept at = let w : View = missed v in (
   w,
   (
     kept.0,
@@ -213,7 +247,15 @@ takes n port v free Out items views _ kept at = let w : View = missed v in (
     fits_set kept.0 views port w (counted_fits kept.0 v (kept.5 port v at)) (λ j u _ e. kept.5 j u e),
     omega (arith, kept.6, weigh_set posts_made views port v w at),
   ),
-  refl,
+  record {
+    counted = refl;
+    others = ⊎_elim (λ (fewer : number_of_callers v < 64). fewer)
+        (λ (all : 64 ≤ number_of_callers v).
+            let none = none_holds kept.0 views port v free at kept.4 kept.5 all in
+            let empty = no_tokens items (omega (arith, long, one)) in
+            absurd (omega (arith, kept.1, none, empty)))
+        (cases_lt (number_of_callers v) 64);
+  },
 )
 
 pub finds_mark : (n port : ℕ) (v : View) → v.holds ≡ true → PopsFrom IsSlot n port v (λ _ w. w ≡ v)
@@ -246,6 +288,7 @@ gave_fits v b f may = record {
       ∙ ap (own_posts (times c v.callers)) (sym (cut_grown v b c may.begins));
   is_of = λ c _. refl;
   few = may.few;
+  rest = λ _. refl;
 }
 
 call_of_others : (views : List View) (port j : ℕ) (v u : View) (b : Known) → ((h : ℕ → ℕ) → weigh (has h) views ≡ weigh h all_callers) → get_elem? views port ≡ some v → get_elem? views j ≡ some u → j ≢ port
@@ -264,6 +307,7 @@ others_fit views port j v u b mine few all at e ne f may = record {
       ∙ ap (own_posts (times c u.callers)) (sym (cut_grown v b c may.begins));
   is_of = call_of_others views port j v u b all at e ne f may;
   few = f.few;
+  rest = f.rest;
 }
 
 -- the numbers go on where the view's callers posted, and nowhere else
@@ -312,7 +356,14 @@ gives n port v b mine may items views _ kept at =
 
 founder_fits : Fits no_book founder
 unfolding record_of
-founder_fits = record { held = λ _. refl; seen = tt; made = λ c. sym (own-nil (times c all_callers)); is_of = λ c _. refl; few = omega arith }
+founder_fits = record {
+  held = λ _. refl;
+  seen = tt;
+  made = λ c. sym (own-nil (times c all_callers));
+  is_of = λ c _. refl;
+  few = omega arith;
+  rest = λ none. absurd (let e : weigh (λ _. 1) all_callers ≡ 0 = ap (weigh (λ _. 1)) none in let count = all_callers_are in omega arith);
+}
 
 begins_at : (port : ℕ) (v : View) → get_elem? (founder ∷ []) port ≡ some v → Fits no_book v
 begins_at zero v e = let s : founder ≡ v = cc in subst (Fits no_book) s founder_fits
@@ -334,23 +385,24 @@ cut_in_two : (h : ℕ → ℕ) (xs : List ℕ) → weigh h (take 1 xs) + weigh h
 cut_in_two h [] = refl
 cut_in_two h (x ∷ xs) = omega arith
 
-part_fits : (now : Known) (v w : View) → v.made ≡ [] → w.made ≡ [] → ((c : ℕ) → times c w.callers ≤ times c v.callers) → (w.holds ≡ true → w.taken ≡ now) → w.seen ≡ v.seen → w.is_of ≡ v.is_of → Fits now v → Fits now w
-part_fits now v w none new few held seen is_of f = record {
+part_fits : (now : Known) (v w : View) → v.made ≡ [] → w.made ≡ [] → ((c : ℕ) → times c w.callers ≤ times c v.callers) → (w.holds ≡ true → w.taken ≡ now) → w.seen ≡ v.seen → w.is_of ≡ v.is_of → w.holds ≡ false → Fits now v → Fits now w
+part_fits now v w none new few held seen is_of free f = record {
   held = held;
   seen = subst (AllSeen now) (sym seen) f.seen;
   made = λ c. ap (of_caller c) new ∙ sym (own-less (times c w.callers) (times c v.callers) (of_caller c (record_of now)) (few c) (sym (f.made c) ∙ ap (of_caller c) none));
   is_of = λ c has_it. is_of ∙ f.is_of c (omega (arith, few c));
   few = let e : length w.made ≡ 0 = ap length new in omega arith;
+  rest = λ _. free;
 }
 
-pub forks : (port : ℕ) (v : View) → v.made ≡ [] → Forks IsSlot port v (rest_of v) (first_of v)
-forks port v none items views kept at =
+pub forks : (port : ℕ) (v : View) → v.made ≡ [] → v.holds ≡ false → Forks IsSlot port v (rest_of v) (first_of v)
+forks port v none free items views kept at =
     let one : View = rest_of v in
     let rest : View = first_of v in
     let vs = set views port one in
     let f = kept.5 port v at in
-    let first : Fits kept.0 one = part_fits kept.0 v one none none (λ c. omega (arith, cut_in_two (is_at c) v.callers)) f.held refl refl f in
-    let last : Fits kept.0 rest = part_fits kept.0 v rest none refl (λ c. omega (arith, cut_in_two (is_at c) v.callers)) (λ p. absurd (true≢false (sym p))) refl refl f in
+    let first : Fits kept.0 one = part_fits kept.0 v one none none (λ c. omega (arith, cut_in_two (is_at c) v.callers)) f.held refl refl free f in
+    let last : Fits kept.0 rest = part_fits kept.0 v rest none refl (λ c. omega (arith, cut_in_two (is_at c) v.callers)) (λ p. absurd (true≢false (sym p))) refl refl refl f in
     let all : (j : ℕ) (u : View) → get_elem? vs j ≡ some u → Fits kept.0 u = fits_set kept.0 views port one first (λ j u _ e. kept.5 j u e) in (
       kept.0,
       omega (arith, kept.1, weigh_set held views port v one at, weigh-append held vs (rest ∷ [])),
@@ -362,7 +414,11 @@ forks port v none items views kept at =
     )
 
 spent_fits : (now : Known) → Fits now spent
-spent_fits now = record { held = λ p. absurd (true≢false (sym p)); seen = tt; made = λ c. refl; is_of = λ c has_it. absurd (omega arith); few = omega arith }
+spent_fits now = record { held = λ p. absurd (true≢false (sym p)); seen = tt; made = λ c. refl; is_of = λ c has_it. absurd (omega arith); few = omega arith; rest = λ _. refl }
+
+front_of_none : (xs ys : List ℕ) → xs ++ ys ≡ [] → xs ≡ []
+front_of_none [] ys e = refl
+front_of_none (x ∷ xs) ys e = absurd (let long : length (x ∷ (xs ++ ys)) ≡ 0 = ap length e in omega arith)
 
 joined_call : (now : Known) (v w : View) → v.is_of ≡ w.is_of → Fits now v → Fits now w → (c n : ℕ) → n ≡ times c v.callers → 0 < times c (v.callers ++ w.callers) → v.is_of ≡ now.is_of
 joined_call now v w is_of f g c zero e has_it = is_of ∙ g.is_of c (omega (arith, weigh-append (is_at c) v.callers w.callers))
@@ -382,6 +438,7 @@ joined_fits now v w is_of few f g = record {
       let posts = length-append v.made w.made in
       let callers = weigh-append (λ _. 1) v.callers w.callers in
       omega arith;
+  rest = λ none. f.rest (front_of_none v.callers w.callers none);
 }
 
 pub merges : (port other : ℕ) (v w : View) → w.holds ≡ false → v.is_of ≡ w.is_of → Merges IsSlot port v other w (both_of v w) spent

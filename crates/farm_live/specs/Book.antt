@@ -62,7 +62,8 @@ IsWorkedFrom who ts (e ∷ es) =
     (e.out ≡ out_of who (period_of e.post ∷ ts)) × (bits_of e.down ≡ down_now who (period_of e.post ∷ ts))
     × IsWorkedFrom who (period_of e.post ∷ ts) es
 
--- a history of a call from its first period on
+-- a history of a call from its first period on, by its octets; that each caller's posts are numbered in order, those of the
+-- history and those that wait, is said beside it
 abbrev pub IsLegal : ℕ → List Entry → Type 0
 IsLegal call es = IsWorkedFrom (who_of call) [] es
 

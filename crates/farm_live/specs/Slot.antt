@@ -77,6 +77,7 @@ pub record Fits (now : Known) (v : View) : Type 0 where
   pub made : (c : ℕ) → of_caller c v.made ≡ own_posts (times c v.callers) (of_caller c (record_of now))
   pub is_of : (c : ℕ) → 0 < times c v.callers → v.is_of ≡ now.is_of
   pub few : length v.made ≤ 16777216 * number_of_callers v
+  pub rest : v.callers ≡ [] → v.holds ≡ false
 
 -- each caller's posts are numbered in order, and there are no callers but all
 pub record IsRecord (posts : List Post) : Type 0 where
@@ -126,6 +127,12 @@ spent = record { callers = []; is_of = no_call; holds = false; taken = no_book; 
 abbrev pub missed : View → View
 missed v = record v { misses = v.misses + 1 }
 
+-- Another caller had the book in hand, so this view doesn't have the numbers of all 64. The count of misses rose, and nothing
+-- else changed.
+pub record HasMissed (v w : View) : Type 0 where
+  pub counted : w ≡ missed v
+  pub others : number_of_callers v < 64
+
 -- the book was taken
 abbrev pub took : View → Known → View
 took v b = record v { holds = true; taken = b; seen = b ∷ []; takings = v.takings + 1 }
@@ -141,7 +148,7 @@ pub record Tells (v : View) (b : Known) : Type 0 where
 
 abbrev pub Took : View → Token → View → Type 0
 Took v (Here b) w = (w ≡ took v b) × Tells v b
-Took v Out w = w ≡ missed v
+Took v Out w = HasMissed v w
 
 -- the posts that are in the book and weren't when it was taken
 abbrev pub added : View → Known → List Post

@@ -11,7 +11,7 @@ use Rattle.farm_live.specs.declared.turns.Turn.TheVariants as turn
 use Rattle.farm_live.specs.declared.turns.Look.{Look}
 use Rattle.farm_live.specs.declared.turns.Look.TheVariants as look
 use Rattle.farm_live.specs.Book.{Known, no_book, empty_book, record_of, of_caller, NumberedFrom, IsLegal, with_post, Worked, is_of_post, most_posts}
-use Rattle.farm_live.specs.Slot.{AllSeen, own_posts, times, all_callers, number_of_callers, missed}
+use Rattle.farm_live.specs.Slot.{AllSeen, own_posts, times, all_callers, number_of_callers, HasMissed}
 
 -- The book was taken once. It begins with all that was seen of it, its history is legal, each caller's posts in it are
 -- numbered in order, and those of this view's callers are the ones that they made.
@@ -39,11 +39,11 @@ pub record Turned (v w : View) (back : Known) (more : List Post) : Type 0 where
 abbrev pub Looked : View → View → Type 0
 Looked v w = Turned v w w.taken []
 
--- The post stands at the back of the inbox, if that isn't full. A busy slot changes the count of misses alone.
+-- The post stands at the back of the inbox, if that isn't full. A call is busy where another caller has its book in hand, which changes the count of misses alone.
 abbrev pub HasPosted : Post → View → View → Posted → Type 0
 HasPosted x v w posted.Did = Turned v w (with_post w.taken x) (x ∷ []) × (length w.taken.inbox < v.is_of.room)
 HasPosted x v w posted.Full = Looked v w × (length w.taken.inbox ≡ v.is_of.room)
-HasPosted x v w posted.Busy = w ≡ missed v
+HasPosted x v w posted.Busy = HasMissed v w
 
 -- The first post of the inbox as taken was worked, and its entry is one more at the end of the history.
 pub record HasWorked (v w : View) (e : Entry) : Type 0 where
@@ -56,14 +56,14 @@ abbrev pub HasTurned : {E : Type 0} → View → View → Result Turn E → Type
 HasTurned v w (Ok (turn.Did caller number place)) =
     (e : Entry) × HasWorked v w e × (caller ≡ e.post.caller) × (number ≡ e.post.number) × (place ≡ length w.taken.history)
 HasTurned v w (Ok turn.Idle) = Looked v w × (w.taken.inbox ≡ [])
-HasTurned v w (Ok turn.Busy) = w ≡ missed v
+HasTurned v w (Ok turn.Busy) = HasMissed v w
 HasTurned v w (Err _) = Looked v w
 
 -- The entry stands in the history as taken, or none of this post does.
 abbrev pub HasLooked : ℕ → ℕ → View → View → Look → Type 0
 HasLooked of number v w (look.Found e) = Looked v w × (find (is_of_post of number) w.taken.history ≡ Some e)
 HasLooked of number v w look.NotYet = Looked v w × (find (is_of_post of number) w.taken.history ≡ None)
-HasLooked of number v w look.Busy = w ≡ missed v
+HasLooked of number v w look.Busy = HasMissed v w
 
 -- the view of these callers of a new call, whose empty book lies in the slot
 abbrev pub new_view : List ℕ → BookOf → View

@@ -1,8 +1,8 @@
 //! The end of a farm: what all callers know of a call is put together, and its book is taken for good.
 
-ghost use Rattle.std.specs.Prelude.{◌≡◌, ◌++◌, ◌∷◌, [], false, ℕ, List, reverse, length, vec_capacity, ◌≤◌};
+ghost use Rattle.std.specs.Prelude.{◌≡◌, ◌++◌, ◌∷◌, [], false, ℕ, ◌<◌, List, reverse, length, vec_capacity, ◌≤◌};
 ghost use Rattle.crossbeam_queue.specs.Passes.{IsPassOf, ruled_capacity};
-ghost use Rattle.farm_live.specs.Slot.{both_of};
+ghost use Rattle.farm_live.specs.Slot.{times, both_of};
 ghost use Rattle.farm_live.specs.Live.{view_of, IsSeated};
 ghost use Rattle.farm_live.specs.Closing.{AreJoined, IsClosedAs, AreAllSeated, AreClosed};
 
@@ -72,6 +72,7 @@ pub(crate) fn close_all<R: Wait>(
 fn close_call<R: Wait>(rt: &R, slot: &Slot, call: u32, seat: &mut Seat) -> Closed
     requires slot { IsPassOf slot.now seat.old.pass × (ruled_capacity slot.now ≡ 1) }
     requires free { (view_of seat.old).holds ≡ false }
+    requires some { (c : ℕ) × (0 < times c (view_of seat.old).callers) }
     ensures { IsClosedAs call (view_of seat.old) result }
 {
     let book = turns::close(rt, slot, &mut seat.pass);

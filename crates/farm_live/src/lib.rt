@@ -17,20 +17,23 @@
 //! - `opening`: a new farm's slots and seats.
 //! - `closing`: what its callers know, put together.
 //! - `live`: the farm.
+//! - `laws`: the law that a single caller is never busy.
 //!
 //! It stands beside the runs of recorded lines (`farm_run`): there the clock gives each call its periods, here its callers
 //! do. Calls have A-law lines, level 256, discontinuous transmission as the uplink asks, and no bridges. Posts, books and
-//! slots are this project's own. No command uses this crate yet.
+//! slots are this project's own. `live_run` drives it, for the command `live`.
 #![tactic(auto)]
 
 pub mod book;
 mod closing;
+mod laws;
 mod live;
 mod opening;
 mod post;
 pub mod slot;
 mod turns;
 
+pub use laws::one_caller_is_never_busy;
 pub use live::{Caller, Closed, Live, PostFault};
 pub use post::{BookOf, Entry, Post};
 pub use turns::{Look, Turn};

@@ -19,7 +19,7 @@ use std::sync::Wait;
 pub enum PostFault {
     /// The inbox has as many posts as it may. The post comes back; its number is the caller's next one still.
     Full { post: Post },
-    /// The book was taken: the count of misses rose, and nothing else changed.
+    /// Another caller has the book: the count of misses rose, and nothing else changed.
     Busy,
 }
 
@@ -121,8 +121,8 @@ impl Live {
 
     /// Posts a period to a call of the farm: its 40 octets of the Up line and its 160 of the Pcm line. Takes the book, puts
     /// the post at the back of the inbox, and gives the book back. Answers the post's number, counted from 0 for each caller
-    /// and call. `Full` comes exactly where the inbox has as many posts as it may when the book is taken, and `Busy` where
-    /// another caller has the book. Both leave the inbox as it was, and use no number. The caller is one of this farm, and
+    /// and call. `Full` comes exactly where the inbox has as many posts as it may when the book is taken, and `Busy` only
+    /// where another caller has the book. Both leave the inbox as it was, and use no number. The caller is one of this farm, and
     /// makes at most 16,777,216 posts to a call.
     pub fn post<R: Wait>(
         &self,
@@ -145,7 +145,7 @@ impl Live {
 
     /// Works the first post that waits at a call of the farm, whoever made it. Takes the book, makes room in the history
     /// where a post waits, works it as the call's next period, and gives the book back. `Idle` comes exactly where no post
-    /// waits when the book is taken, and `Busy` where another caller has the book. Where memory is wanting nothing was
+    /// waits when the book is taken, and `Busy` only where another caller has the book. Where memory is wanting nothing was
     /// done. The caller is one of this farm.
     pub fn work<R: Wait>(
         &self,
@@ -166,7 +166,7 @@ impl Live {
 
     /// What came of the post with this number that caller `of` made to a call of the farm. Takes the book, looks through its
     /// history, and gives it back. `NotYet` comes exactly where the history has no such post when the book is taken, and
-    /// `Busy` where another caller has the book. The caller is one of this farm.
+    /// `Busy` only where another caller has the book. The caller is one of this farm.
     pub fn read<R: Wait>(
         &self,
         rt: &R,

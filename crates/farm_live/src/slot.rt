@@ -5,10 +5,10 @@
 //! slot, whose view says what the caller knows: what it saw of the book, and what it posted. The rule ties all views to
 //! the book as it is now.
 
-ghost use Rattle.std.specs.Prelude.{◌≡◌, ◌<◌, true, false, [], ◌∷◌};
+ghost use Rattle.std.specs.Prelude.{◌≡◌, ◌<◌, ℕ, true, false, [], ◌∷◌};
 ghost use Rattle.crossbeam_queue.specs.Passes.{view, IsSamePass, IsPassOf, ruled_capacity};
 ghost use Rattle.farm_live.specs.declared.slot.Token.TheVariants.{Here, Out};
-ghost use Rattle.farm_live.specs.Slot.{MatchTaken, Took, Gave, May, first_of, rest_of, both_of};
+ghost use Rattle.farm_live.specs.Slot.{MatchTaken, Took, Gave, May, times, first_of, rest_of, both_of};
 
 use crate::book::Book;
 use crate::post::{BookOf, Post};
@@ -121,10 +121,11 @@ pub fn new_slot(alloc: Global) -> Result<(Slot, SlotPass), AllocError>
     Slot::ruled(alloc, 1)
 }
 
-/// Takes the book, if the slot has it.
+/// Takes the book, if the slot has it. Who has all callers' numbers never finds it taken.
 pub fn take_book<R: Wait>(rt: &R, slot: &Slot, me: &mut SlotPass) -> Taken
     requires slot { IsPassOf slot.now me.old × (ruled_capacity slot.now ≡ 1) }
     requires free { (view me.old).holds ≡ false }
+    requires some { (c : ℕ) × (0 < times c (view me.old).callers) }
     ensures slot { IsSamePass me.old me.new }
     ensures taken { MatchTaken result (λ b. Took (view me.old) (Here b) (view me.new)) (Took (view me.old) Out (view me.new)) (view me.new ≡ view me.old) }
 {
@@ -135,7 +136,7 @@ pub fn take_book<R: Wait>(rt: &R, slot: &Slot, me: &mut SlotPass) -> Taken
     }
 }
 
-/// Gives the book back. The slot is never full.
+/// Gives the book back, in the place of the mark. That is never refused.
 pub fn give_back<R: Wait>(rt: &R, slot: &Slot, me: &mut SlotPass, book: Book)
     requires slot { IsPassOf slot.now me.old × (ruled_capacity slot.now ≡ 1) }
     requires held { (view me.old).holds ≡ true }
@@ -150,6 +151,7 @@ pub fn give_back<R: Wait>(rt: &R, slot: &Slot, me: &mut SlotPass, book: Book)
 pub fn pass_of_first(slot: &Slot, me: &mut SlotPass) -> SlotPass
     requires slot { IsPassOf slot.now me.old }
     requires fresh { (view me.old).made ≡ [] }
+    requires free { (view me.old).holds ≡ false }
     ensures slot { IsSamePass me.old me.new × IsPassOf slot.now result }
     ensures views { (view me.new ≡ rest_of (view me.old)) × (view result ≡ first_of (view me.old)) }
 {

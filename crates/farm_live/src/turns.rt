@@ -4,7 +4,7 @@ ghost use Rattle.std.specs.Prelude.{◌≡◌, ◌<◌, ℕ, false, length, IfOk
 ghost use Rattle.call_number.specs.CallNumber.{IsCallNumber};
 ghost use Rattle.crossbeam_queue.specs.Passes.{view, IsSamePass, IsPassOf, ruled_capacity};
 ghost use Rattle.farm_live.specs.Book.{of_caller};
-ghost use Rattle.farm_live.specs.Slot.{times, all_callers, missed, took};
+ghost use Rattle.farm_live.specs.Slot.{times, all_callers, HasMissed, took};
 ghost use Rattle.farm_live.specs.Turns.{Held, HasPosted, HasTurned, HasLooked, Closes, new_view};
 
 use crate::book::Book;
@@ -36,7 +36,7 @@ pub enum Turn {
     },
     /// No post waits.
     Idle,
-    /// The book was taken: the count of misses rose, and nothing else changed.
+    /// Another caller has the book: the count of misses rose, and nothing else changed.
     Busy,
 }
 
@@ -47,7 +47,7 @@ pub enum Look {
     Found(Entry),
     /// It wasn't worked, or there is none such.
     NotYet,
-    /// The book was taken: the count of misses rose, and nothing else changed.
+    /// Another caller has the book: the count of misses rose, and nothing else changed.
     Busy,
 }
 
@@ -57,7 +57,7 @@ fn take_or_miss<R: Wait>(rt: &R, slot: &Slot, me: &mut SlotPass) -> Option<Book>
     requires free { (view me.old).holds ≡ false }
     requires some { (c : ℕ) × (0 < times c (view me.old).callers) }
     ensures slot { IsSamePass me.old me.new }
-    ensures taken { MatchOption result (view me.new ≡ missed (view me.old)) (λ b. Held (view me.old) (view me.new) × (view me.new ≡ took (view me.old) b)) }
+    ensures taken { MatchOption result (HasMissed (view me.old) (view me.new)) (λ b. Held (view me.old) (view me.new) × (view me.new ≡ took (view me.old) b)) }
 {
     for _ in rt.forever() {
         match take_book(rt, slot, me) {
@@ -153,6 +153,7 @@ pub(crate) fn open<R: Wait>(
 pub(crate) fn close<R: Wait>(rt: &R, slot: &Slot, me: &mut SlotPass) -> Book
     requires slot { IsPassOf slot.now me.old × (ruled_capacity slot.now ≡ 1) }
     requires free { (view me.old).holds ≡ false }
+    requires some { (c : ℕ) × (0 < times c (view me.old).callers) }
     ensures { Closes (view me.old) result }
 {
     for _ in rt.forever() {

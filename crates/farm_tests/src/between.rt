@@ -1,4 +1,5 @@
-//! A gate between two posts: each of the calls 1 and 2 waits, before its second period, for the first one of the other.
+//! A gate between two posts: each of the calls 1 and 2 waits, before its second period, until the other is between its own
+//! first and second one.
 
 use pool_run::Gate;
 use std::sync::atomic::{AtomicU32, Ordering};
@@ -32,10 +33,10 @@ impl Between {
         self.used_up.load(Ordering::SeqCst)
     }
 
-    // Waits until a call has a post.
-    fn wait_for(&self, posted: &AtomicU32) {
+    // Waits until a call has a post, and its second one was begun.
+    fn wait_for(&self, posted: &AtomicU32, begun: &AtomicU32) {
         for _ in 0..self.turns {
-            if posted.load(Ordering::SeqCst) > 0 {
+            if posted.load(Ordering::SeqCst) > 0 && begun.load(Ordering::SeqCst) > 1 {
                 return;
             }
             thread::yield_now();
@@ -46,13 +47,13 @@ impl Between {
 
 impl Gate for Between {
     fn before(&self, call: u32) {
-        let (own, other) = if call == 1 {
-            (&self.begun_of_1, &self.posted_of_2)
+        let (own, posted, begun) = if call == 1 {
+            (&self.begun_of_1, &self.posted_of_2, &self.begun_of_2)
         } else {
-            (&self.begun_of_2, &self.posted_of_1)
+            (&self.begun_of_2, &self.posted_of_1, &self.begun_of_1)
         };
         if own.fetch_add(1, Ordering::SeqCst) == 1 {
-            self.wait_for(other);
+            self.wait_for(posted, begun);
         }
     }
 

@@ -6,6 +6,7 @@ use crate::desk::FailingDesk;
 use crate::farm_top_tests::{carry, words_of};
 use crate::lines::{Laid, NONE, line, trunk_of};
 use crate::met::Met;
+use crate::paired::Paired;
 use farm_top::farm_top;
 use pool_run::{Gate, OpenGate};
 use std::alloc::Global;
@@ -73,16 +74,31 @@ fn one_caller_uses_the_turns_up(rt: HostRuntime) {
     assert!(&rt; gate.used_up() == 1);
 }
 
-// Each caller waits between its two posts for the other one's first.
+// Each caller waits between its two posts until the other one is between its own.
 #[test]
 fn callers_meet_between_two_posts(rt: HostRuntime) {
     let gate = Between::new(5_000_000);
     let alloc = rt.alloc();
     let mut trunk = trunk_of(&rt, alloc, &FAILING);
     let words = ["live", "--calls=2", "--callers=2", "--periods=2"];
-    let outcome = carry(&rt, alloc, &words, &mut trunk, "", NONE, &gate);
-    assert!(&rt; outcome.status == 0);
+    let met = carry(&rt, alloc, &words, &mut trunk, "", NONE, &gate);
+    let free = carry(&rt, alloc, &words, &mut trunk, "", NONE, &OpenGate);
+    assert!(&rt; met.status == 0 && free.status == 0 && met.text == free.text);
     assert!(&rt; gate.used_up() == 0);
+}
+
+// Each period passes the gate once, also where posts are tried again.
+#[test]
+fn each_period_passes_the_gate_once(rt: HostRuntime) {
+    let alloc = rt.alloc();
+    for callers in ["--callers=2", "--callers=1"] {
+        let gate = Paired::new();
+        let mut trunk = trunk_of(&rt, alloc, &FAILING);
+        let words = ["live", "--calls=2", callers, "--periods=20", "--inbox=1"];
+        let outcome = carry(&rt, alloc, &words, &mut trunk, "", NONE, &gate);
+        assert!(&rt; outcome.status == 0);
+        assert!(&rt; gate.passed(20));
+    }
 }
 
 #[test]

@@ -39,6 +39,8 @@ mod lines;
 #[cfg(test)]
 mod met;
 #[cfg(test)]
+mod paired;
+#[cfg(test)]
 mod pool_run_tests;
 #[cfg(test)]
 mod two_calls;

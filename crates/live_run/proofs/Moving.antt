@@ -59,12 +59,12 @@ missed_none v w p q = record { made = p; callers = q }
 pub turned_stays : {E : Type 0} (r : Result Turn E) (v w : View) → HasTurned v w r → Stays v w
 turned_stays (Ok (turn.Did caller number place)) v w t = turned_none v w t.1.back t.1.turned
 turned_stays (Ok turn.Idle) v w t = turned_none v w w.taken t.0
-turned_stays (Ok turn.Busy) v w t = missed_none v w (ap (λ (u : View). u.made) t) (ap (λ (u : View). u.callers) t)
+turned_stays (Ok turn.Busy) v w t = missed_none v w (ap (λ (u : View). u.made) t.counted) (ap (λ (u : View). u.callers) t.counted)
 turned_stays (Err e) v w t = turned_none v w w.taken t
 
 pub refused_stays : (x : View → Post) (f : PostFault) (v w : View) → HasAnswered (x v) v w (Err f) → Stays v w
 refused_stays x (fault.Full post) v w a = turned_none v w w.taken a.0.0
-refused_stays x fault.Busy v w a = missed_none v w (ap (λ (u : View). u.made) a) (ap (λ (u : View). u.callers) a)
+refused_stays x fault.Busy v w a = missed_none v w (ap (λ (u : View). u.made) a.counted) (ap (λ (u : View). u.callers) a.counted)
 
 pub accepted_gains : (x : View → Post) (n : ℕ) (v w : View) → HasAnswered (x v) v w (Ok n) → Gains (x v) v w
 accepted_gains x n v w a = record { made = a.0.0.made; callers = a.0.0.took.callers }
@@ -72,7 +72,7 @@ accepted_gains x n v w a = record { made = a.0.0.made; callers = a.0.0.took.call
 pub looked_stays : (of number : ℕ) (l : Look) (v w : View) → HasLooked of number v w l → Stays v w
 looked_stays of number (look.Found e) v w a = turned_none v w w.taken a.0
 looked_stays of number look.NotYet v w a = turned_none v w w.taken a.0
-looked_stays of number look.Busy v w a = missed_none v w (ap (λ (u : View). u.made) a) (ap (λ (u : View). u.callers) a)
+looked_stays of number look.Busy v w a = missed_none v w (ap (λ (u : View). u.made) a.counted) (ap (λ (u : View). u.callers) a.counted)
 
 pub found_saw : (of number : ℕ) (e : Entry) (v w : View) → HasLooked of number v w (look.Found e) → Saw of number w
 found_saw of number e v w a = (w.taken, e, a.0.seen, a.1)

@@ -11,7 +11,7 @@ use Rattle.call_tests.proofs.farm_live_tests.post.Goals as goal
 one_more : (x : Post) (v w : View) (r : Result ℕ PostFault) → HasAnswered x v w r → length w.made ≤ length v.made + 1
 one_more x v w (Ok n) h = omega (arith, ap length h.0.0.made, length-append v.made (x ∷ []))
 one_more x v w (Err (fault.Full p)) h = omega (arith, ap length h.0.0.made, length-append v.made [])
-one_more x v w (Err fault.Busy) h = omega (arith, ap (λ (u : View). length u.made) h)
+one_more x v w (Err fault.Busy) h = omega (arith, ap (λ (u : View). length u.made) h.counted)
 
 pub returns-clause-posts : goal.returns-clause-posts
 returns-clause-posts g c = λ s.

@@ -9,7 +9,7 @@ use Rattle.call_tests.proofs.farm_live_tests.work.Goals as goal
 same_posts : {E : Type 0} (v w : View) (r : Result Turn E) → HasTurned v w r → w.made ≡ v.made
 same_posts v w (Ok (turn.Did caller number place)) h = h.1.turned.made ∙ append-nil v.made
 same_posts v w (Ok turn.Idle) h = h.0.made ∙ append-nil v.made
-same_posts v w (Ok turn.Busy) h = ap (λ (u : View). u.made) h
+same_posts v w (Ok turn.Busy) h = ap (λ (u : View). u.made) h.counted
 same_posts v w (Err e) h = h.made ∙ append-nil v.made
 
 pub returns-clause-posts : goal.returns-clause-posts

@@ -26,6 +26,12 @@ close_call-done-requires-clause-free g c =
     let left = c.loop-k.invariant.left r.0 r.1 r.2 in
     (left_at r.0 c.args.slots.now r.1 c.loop-k.k c.loop-k.all.seats.items c.index-slots-k.result c.index_mut.result.now left (omega (arith, c.loop-k-test.true, c.loop-k.auto.k-end)) c.index-slots-k.is c.index_mut.ensures.value).free
 
+pub close_call-done-requires-clause-some : goal.close_call-done-requires-clause-some
+close_call-done-requires-clause-some g c =
+    let r = c.requires.joined in
+    let left = c.loop-k.invariant.left r.0 r.1 r.2 in
+    (left_at r.0 c.args.slots.now r.1 c.loop-k.k c.loop-k.all.seats.items c.index-slots-k.result c.index_mut.result.now left (omega (arith, c.loop-k-test.true, c.loop-k.auto.k-end)) c.index-slots-k.is c.index_mut.ensures.value).some
+
 pub index_mut-requires : goal.index_mut-requires
 index_mut-requires g c =
     let r = c.requires.joined in
