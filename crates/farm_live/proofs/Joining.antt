@@ -12,14 +12,13 @@ use Rattle.farm_live.specs.declared.slot.View.{View}
 use Rattle.farm_live.specs.declared.live.Seat.{Seat}
 use Rattle.farm_live.specs.declared.live.Caller.{Caller}
 use Rattle.farm_live.specs.Slot.{both_of, times, is_at}
-use Rattle.farm_live.specs.Turns.{Closes}
-use Rattle.farm_live.specs.Book.{Known, IsLegal}
+use Rattle.farm_live.specs.Book.{IsLegal}
 use Rattle.farm_live.specs.declared.live.Closed.{Closed}
 use Rattle.farm_live.specs.Live.{view_of, call_at, IsSeat, IsSeated}
 use Rattle.farm_live.specs.Closing.{view_at, views_at, HasAll, IsJoined, AreJoined, AreHalfJoined, AreAllSeated, IsClosedAs, IsClosedBy}
 use Rattle.farm_live.proofs.NewFarm.{Line}
 use Rattle.farm_live.proofs.Rows.{same_default}
-use Rattle.farm_live.proofs.Slots.{weigh-append}
+use Rattle.farm_live.proofs.Weights.{weigh-append}
 
 one_more : {X : Type 0} (f : View → List X) (vs : List View) (v u : View) → f v ≡ flat_map f vs → f v ++ f u ≡ flat_map f (vs ++ u ∷ [])
 one_more f vs v u e = ap (λ l. l ++ f u) e ∙ ap (λ l. flat_map f vs ++ l) (sym (append-nil (f u))) ∙ sym (flat_map-append f vs (u ∷ []))

@@ -1,5 +1,8 @@
 pub mod Books
+pub mod Weights
+pub mod Records
 pub mod Slots
+pub mod Splits
 pub mod Taking
 pub mod Rows
 pub mod NewFarm

@@ -18,7 +18,7 @@ use Rattle.farm_live.specs.Slot.{weigh, bit, is_at, times, ascending, all_caller
 use Rattle.farm_live.specs.Turns.{Closes}
 use Rattle.farm_live.specs.Live.{view_of, numbers_of}
 use Rattle.farm_live.specs.Closing.{view_at, views_at, IsClosedBy}
-use Rattle.farm_live.proofs.Slots.{weigh-append}
+use Rattle.farm_live.proofs.Weights.{weigh-append}
 use Rattle.farm_live.proofs.NewFarm.{first_is, first_numbers, last_numbers}
 use Rattle.live_run.specs.Posts.{drawn_posts, own_of, Knows, Saw, HasPosted, SawAll}
 use Rattle.live_run.proofs.Behind.{own_is, own_none, drawn_of, drawn_of_none, none_drawn, length-drawn}

@@ -1,6 +1,6 @@
 use Rattle.std.proofs.Common.{ap, arith}
 use Rattle.farm_live.specs.Slot.{weigh}
-use Rattle.farm_live.proofs.Slots.{all_callers_are}
+use Rattle.farm_live.proofs.Weights.{all_callers_are}
 use Rattle.farm_live.proofs.laws.one_caller_is_never_busy.Goals as goal
 
 pub returns : goal.returns

@@ -1,4 +1,4 @@
-use Rattle.farm_live.proofs.Slots.{begins}
+use Rattle.farm_live.proofs.Splits.{begins}
 use Rattle.farm_live.proofs.slot.new_slot.Goals as goal
 
 pub ruled-requires-clause-rule : goal.ruled-requires-clause-rule

@@ -1,4 +1,4 @@
-use Rattle.farm_live.proofs.Slots.{forks}
+use Rattle.farm_live.proofs.Splits.{forks}
 use Rattle.farm_live.proofs.slot.pass_of_first.Goals as goal
 
 pub another-requires-clause-rule : goal.another-requires-clause-rule

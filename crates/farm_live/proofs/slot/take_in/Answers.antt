@@ -1,4 +1,4 @@
-use Rattle.farm_live.proofs.Slots.{merges}
+use Rattle.farm_live.proofs.Splits.{merges}
 use Rattle.farm_live.proofs.slot.take_in.Goals as goal
 
 pub absorb-requires-clause-rule : goal.absorb-requires-clause-rule
