@@ -1,7 +1,6 @@
-//! Tests of a live farm with two callers on threads of their own: one of them finds a call busy, which no clause says, and
-//! both are there when the farm is closed.
+//! A test of a live farm with two callers on threads of their own: one of them finds a call busy, which no clause says.
 
-ghost use Rattle.std.specs.Prelude.{◌≤◌, ◌<◌, length, IfOk};
+ghost use Rattle.std.specs.Prelude.{◌≤◌, length, IfOk};
 ghost use Rattle.farm_live.specs.Live.{IsSeated};
 ghost use Rattle.farm_live.specs.Closing.{AreAllSeated};
 
@@ -26,7 +25,6 @@ fn work_until_busy<R: Wait>(
 )
     requires call { 1 ≤ length live.now.slots.items }
     requires seated { IsSeated live.now.inbox live.now.slots.items caller.old }
-    ensures seated { IsSeated live.now.inbox live.now.slots.items caller.new }
 {
     for _ in 0..TURNS {
         if busy.load(Ordering::SeqCst) > 0 {
@@ -48,7 +46,6 @@ fn work_both<R: Threads + Wait + Sync>(
 )
     requires call { 1 ≤ length live.now.slots.items }
     requires seated { AreAllSeated live.now.inbox live.now.slots.items callers.old }
-    ensures seated { AreAllSeated live.now.inbox live.now.slots.items callers.new }
 {
     thread::for_each_mut(
         rt,
@@ -61,7 +58,6 @@ fn work_both<R: Threads + Wait + Sync>(
 // A farm of one call, and its two callers.
 fn farm<R: Wait>(rt: &R, alloc: Global) -> Result<(Live, Vec<Caller>), AllocError>
     ensures call { IfOk result (λ r. 1 ≤ length r.0.slots.items) }
-    ensures some { IfOk result (λ r. 0 < length r.1.items) }
     ensures seated { IfOk result (λ r. AreAllSeated r.0.inbox r.0.slots.items r.1.items) }
 {
     Live::new(rt, alloc, 1, 1, 2)
@@ -74,7 +70,5 @@ fn a_call_is_busy(rt: HostRuntime) -> Result<(), Fail> {
     let busy = AtomicU32::new(0);
     work_both(&rt, alloc, &live, callers.as_mut_slice(), &busy);
     assert!(rt; busy.load(Ordering::SeqCst) > 0);
-    let closed = live.close(&rt, callers);
-    assert!(rt; closed.len() == 1);
     Ok(())
 }
