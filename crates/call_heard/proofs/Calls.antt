@@ -4,6 +4,7 @@ use Rattle.std.specs.List.{zip}
 use Rattle.std.proofs.lemmas.Bool.{cond_both, and_parts, leb-true, ltb-true}
 use Rattle.std.proofs.lemmas.List.{length-map, length-reverse, map-append}
 use Rattle.std.proofs.lemmas.List.Elements.{All-nil, All-cons, All-head, All-tail}
+use Rattle.trau_bits.specs.Bits.{bits_of, octets_of, AreBits}
 use Rattle.down_framer.specs.ByNumber.{numbered_of}
 use Rattle.down_framer.proofs.Store.{AreInTurn, AreInTurn-made_frames}
 use Rattle.ccu_end.specs.Found.{Found, all_within, as_made, places_from, shifts_of}
@@ -22,15 +23,16 @@ use Rattle.call_output.proofs.Loads.{ArePlaced, placed}
 use Rattle.call_output.proofs.Sending.{zip-more, frame_after, adds-frame}
 use Rattle.call_output.proofs.DownLine.{frame-placed, down-whole}
 use Rattle.call_output.proofs.Whole.{history-whole, call-whole}
-use Rattle.call_heard.specs.Items.{HandFrames}
-use Rattle.call_heard.specs.Heard.{heard_as, heard_among, heard_of, HandsFrames}
+use Rattle.call_heard.specs.Items.{PeriodsHandFrames}
+use Rattle.call_heard.specs.Heard.{found_as, found_among, found_of, SpansHandFrames}
 use Rattle.call_heard.proofs.Legs.{leg-found}
+use Rattle.call_heard.proofs.Lines.{line-again}
 
 -- ---- the frames of a history, by number and as its leg makes them
 
 record Heard (who : Who) (ts : List CallPeriod) (fs : List CallFrame) : Type 0 where
   count : length (down_frames (call_of who ts) (reverse (map numbered_of fs))) ≡ length fs
-  is : heard_among (call_of who ts) (reverse (map numbered_of fs)) ≡ as_made (frame_now who) fs
+  is : found_among (call_of who ts) (reverse (map numbered_of fs)) ≡ as_made (frame_now who) fs
   shifts : map (λ f. f.shift) (reverse (map numbered_of fs)) ≡ shifts_of fs
 
 heard : LooksBack → (who : Who) (ts : List CallPeriod) (fs : List CallFrame) → IsCallHistory ts → ArePlaced ts fs → AreInTurn fs → Heard who ts fs
@@ -50,11 +52,11 @@ heard look who ts (f ∷ fs) h p t =
     ap (λ d. frames ++ d ∷ []) (frame-placed look who ts f fs h p t) in
     record {
       count = ap length grown ∙ length-append frames (now ∷ []) ∙ omega arith;
-      is = ap (λ ds. map heard_as (zip (reverse (g ∷ gs)) ds)) grown ∙
-          ap (λ fs'. map heard_as (zip fs' (frames ++ now ∷ []))) (reverse-more g gs) ∙
-          ap (map heard_as) (zip-more (reverse gs) frames g now (omega arith)) ∙
-          map-append heard_as (zip (reverse gs) frames) ((g, now) ∷ []) ∙
-          ap (λ z. z ++ heard_as (g, now) ∷ []) before.is;
+      is = ap (λ ds. map found_as (zip (reverse (g ∷ gs)) ds)) grown ∙
+          ap (λ fs'. map found_as (zip fs' (frames ++ now ∷ []))) (reverse-more g gs) ∙
+          ap (map found_as) (zip-more (reverse gs) frames g now (omega arith)) ∙
+          map-append found_as (zip (reverse gs) frames) ((g, now) ∷ []) ∙
+          ap (λ z. z ++ found_as (g, now) ∷ []) before.is;
       shifts = ap (map (λ f. f.shift)) (reverse-more g gs) ∙ map-append (λ f. f.shift) (reverse gs) (g ∷ []) ∙ ap (λ z. z ++ f.shift ∷ []) before.shifts;
     }
 
@@ -62,18 +64,18 @@ module _ (look : LooksBack) (who : Who) (ts : List CallPeriod) (h : IsCallHistor
   all : Heard who ts (frames_of ts)
   all = heard look who ts (frames_of ts) h (placed ts) (AreInTurn-made_frames (down_periods ts))
 
-  heard-made : heard_of (call_of who ts) ≡ as_made (frame_now who) (frames_of ts)
-  heard-made = ap (heard_among (call_of who ts)) (made-read who ts h) ∙ all.is
+  found-made : found_of (call_of who ts) ≡ as_made (frame_now who) (frames_of ts)
+  found-made = ap (found_among (call_of who ts)) (made-read who ts h) ∙ all.is
 
-  history-found : HandFrames ts → Found (down (call_of who ts)) (all_within (320 * periods (call_of who ts)) (heard_of (call_of who ts)))
+  history-found : PeriodsHandFrames ts → Found (down (call_of who ts)) (all_within (320 * periods (call_of who ts)) (found_of (call_of who ts)))
   history-found hands =
-      subst (λ bits. Found bits (all_within (320 * periods (call_of who ts)) (heard_of (call_of who ts)))) (down-whole look who ts h)
-      (subst (λ fs. Found (down_line who ts) (all_within (320 * periods (call_of who ts)) fs)) (sym heard-made)
+      subst (λ bits. Found bits (all_within (320 * periods (call_of who ts)) (found_of (call_of who ts)))) (down-whole look who ts h)
+      (subst (λ fs. Found (down_line who ts) (all_within (320 * periods (call_of who ts)) fs)) (sym found-made)
       (subst (λ n. Found (down_line who ts) (all_within (320 * n) (as_made (frame_now who) (frames_of ts)))) (sym (length-settings_of ts)) (leg-found who ts hands)))
 
-  history-places : map (λ f. f.place) (heard_of (call_of who ts)) ≡ places_from 320 (map (λ f. f.shift) (made (call_of who ts)))
+  history-places : map (λ f. f.place) (found_of (call_of who ts)) ≡ places_from 320 (map (λ f. f.shift) (made (call_of who ts)))
   history-places =
-      ap (map (λ f. f.place)) heard-made ∙ made-places (frame_now who) (down_periods ts) ∙
+      ap (map (λ f. f.place)) found-made ∙ made-places (frame_now who) (down_periods ts) ∙
       ap (places_from 320) (sym (ap (map (λ f. f.shift)) (made-read who ts h) ∙ all.shifts))
 
   history-each : length (down_frames (call_of who ts) (made (call_of who ts))) ≡ length (made (call_of who ts))
@@ -85,38 +87,41 @@ module _ (look : LooksBack) (who : Who) (ts : List CallPeriod) (h : IsCallHistor
 
 -- ---- what the spans of a call hand over
 
-abbrev IsLong : List ℕ → Type 0
-IsLong item = length item ≡ 260
-
-item-long : (spans : List Span) (low n : ℕ) → AreSpans low n spans → All (λ span. All IsLong span.items) spans → (k : ℕ) → IfSome (item_at spans k) IsLong
-item-long [] low n are items k = tt
-item-long (span ∷ spans) low n are items k =
-    let rest = item-long spans (span.to + 1) n are.4 (All-tail (λ span. All IsLong span.items) span spans items) k in
-    let all : All IsLong span.items = All-head (λ span. All IsLong span.items) span spans items in
+item-has : (P : List ℕ → Type 0) (spans : List Span) (low n : ℕ) → AreSpans low n spans → All (λ span. All P span.items) spans → (k : ℕ) → IfSome (item_at spans k) P
+item-has P [] low n are items k = tt
+item-has P (span ∷ spans) low n are items k =
+    let rest = item-has P spans (span.to + 1) n are.4 (All-tail (λ span. All P span.items) span spans items) k in
+    let all : All P span.items = All-head (λ span. All P span.items) span spans items in
     let many : span.from + length span.items ≡ span.to = are.3 in
-    cond_both (nat_le span.from k && nat_lt k span.to) (Some (get_or span.items (k - span.from) [])) (item_at spans k) (λ o. IfSome o IsLong)
+    cond_both (nat_le span.from k && nat_lt k span.to) (Some (get_or span.items (k - span.from) [])) (item_at spans k) (λ o. IfSome o P)
     (λ y. let two = and_parts (nat_le span.from k) (nat_lt k span.to) y in let above = leb-true span.from k two.0 in let below = ltb-true k span.to two.1 in all (k - span.from) [] (omega (arith, above, below, many)))
     (λ n. rest)
 
-first-hands : (call : Call) (k : ℕ) → ((i : ℕ) → IfSome (item_at call.spans i) IsLong) → HandFrames (first_periods call k)
-first-hands call zero each = All-nil (λ t. IfSome t.handed (λ d. length d ≡ 260))
-first-hands call (suc k) each = All-cons (λ t. IfSome t.handed (λ d. length d ≡ 260)) _ (first_periods call k) (each k) (first-hands call k each)
+first-hands : (P : List ℕ → Type 0) (call : Call) (k : ℕ) → ((i : ℕ) → IfSome (item_at call.spans i) P) → All (λ t. IfSome t.handed P) (first_periods call k)
+first-hands P call zero each = All-nil (λ t. IfSome t.handed P)
+first-hands P call (suc k) each = All-cons (λ t. IfSome t.handed P) _ (first_periods call k) (each k) (first-hands P call k each)
 
-hands : (call : Call) → IsWhole call → HandsFrames call → HandFrames (history_of call)
-hands call whole items = first-hands call (periods call) (item-long call.spans 0 (periods call) whole.spans items)
+hands : (P : List ℕ → Type 0) (call : Call) → IsWhole call → All (λ span. All P span.items) call.spans → All (λ t. IfSome t.handed P) (history_of call)
+hands P call whole items = first-hands P call (periods call) (item-has P call.spans 0 (periods call) whole.spans items)
 
 -- ---- a call as a whole
 
-pub call-found : LooksBack → (call : Call) → IsWhole call → HandsFrames call → Found (down call) (all_within (320 * periods call) (heard_of call))
+pub call-found : LooksBack → (call : Call) → IsWhole call → SpansHandFrames call → Found (down call) (all_within (320 * periods call) (found_of call))
 call-found look call whole items =
-    subst (λ (c : Call). Found (down c) (all_within (320 * periods c) (heard_of c))) (call-whole call whole)
-    (history-found look call.who (history_of call) (history-whole call whole) (hands call whole items))
+    subst (λ (c : Call). Found (down c) (all_within (320 * periods c) (found_of c))) (call-whole call whole)
+    (history-found look call.who (history_of call) (history-whole call whole) (hands (λ item. length item ≡ 260) call whole items))
 
-pub call-places : LooksBack → (call : Call) → IsWhole call → map (λ f. f.place) (heard_of call) ≡ places_from 320 (map (λ f. f.shift) (made call))
+pub call-places : LooksBack → (call : Call) → IsWhole call → map (λ f. f.place) (found_of call) ≡ places_from 320 (map (λ f. f.shift) (made call))
 call-places look call whole =
-    subst (λ (c : Call). map (λ f. f.place) (heard_of c) ≡ places_from 320 (map (λ f. f.shift) (made c))) (call-whole call whole)
+    subst (λ (c : Call). map (λ f. f.place) (found_of c) ≡ places_from 320 (map (λ f. f.shift) (made c))) (call-whole call whole)
     (history-places look call.who (history_of call) (history-whole call whole))
 
 pub call-each : LooksBack → (call : Call) → IsWhole call → length (down_frames call (made call)) ≡ length (made call)
 call-each look call whole =
     subst (λ (c : Call). length (down_frames c (made c)) ≡ length (made c)) (call-whole call whole) (history-each look call.who (history_of call) (history-whole call whole))
+
+-- where bits are handed over, the octets of its Down line have the line's bits
+pub call-bits : LooksBack → (call : Call) → IsWhole call → All (λ span. All (λ item. AreBits item) span.items) call.spans → bits_of (octets_of (down call)) ≡ down call
+call-bits look call whole items =
+    let is : down_line call.who (history_of call) ≡ down call = subst (λ (c : Call). down_line call.who (history_of call) ≡ down c) (call-whole call whole) (down-whole look call.who (history_of call) (history-whole call whole)) in
+    subst (λ bits. bits_of (octets_of bits) ≡ bits) is (line-again call.who (history_of call) (hands (λ item. AreBits item) call whole items))

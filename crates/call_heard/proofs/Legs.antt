@@ -15,7 +15,7 @@ use Rattle.call_leg.specs.Periods.{CallPeriod, quiet_now, handed_in}
 use Rattle.call_leg.specs.Down.{CallFrame, down_line, down_period, down_periods, frames_of, coded_stretch, coded_after, coded_frames, speech, frame_now}
 use Rattle.call_leg.proofs.Enter.{length-down_periods}
 use Rattle.call_leg.proofs.Lines.{line-is_made}
-use Rattle.call_heard.specs.Items.{HandFrames}
+use Rattle.call_heard.specs.Items.{PeriodsHandFrames}
 use Rattle.call_heard.proofs.Shapes.{length-bits260, shape-encoding, shape-sent}
 
 -- what is handed over in a period of a bridge has 260 bits
@@ -23,7 +23,7 @@ long : (o : Option (List ℕ)) → IfSome o (λ d. length d ≡ 260) → is_some
 long None h is = absurd (cc)
 long (Some d) h is = h
 
-long-handed : (h : ℕ) (ts : List CallPeriod) → HandFrames ts → bridged_at h (down_periods ts) ≡ true → length (handed_in h ts) ≡ 260
+long-handed : (h : ℕ) (ts : List CallPeriod) → PeriodsHandFrames ts → bridged_at h (down_periods ts) ≡ true → length (handed_in h ts) ≡ 260
 long-handed h [] k is = absurd (cc)
 long-handed h (t ∷ past) k is = by (h == length past) refl (long-handed h past (All-tail (λ t. IfSome t.handed (λ d. length d ≡ 260)) t past k))
   where
@@ -54,12 +54,12 @@ due-bridged ps fs h is = by (latest_start ps) is
 abbrev CarriesFrame : CallFrame → Type 0
 CarriesFrame f = (h : ℕ) → f.carries ≡ Some h → length (handed_in h f.load) ≡ 260
 
-grown-carry : (t : CallPeriod) (past : List CallPeriod) (fs : List CallFrame) → HandFrames (t ∷ past) → All CarriesFrame fs → All CarriesFrame (grown (down_period t past) (down_periods past) fs)
+grown-carry : (t : CallPeriod) (past : List CallPeriod) (fs : List CallFrame) → PeriodsHandFrames (t ∷ past) → All CarriesFrame fs → All CarriesFrame (grown (down_period t past) (down_periods past) fs)
 grown-carry t past fs h k =
     cond_both (nat_le (next_start fs) (160 * length (down_periods past))) (next_frame (down_period t past) (down_periods past) fs ∷ fs) fs (All CarriesFrame)
     (λ y. All-cons CarriesFrame _ fs (λ i is. long-handed i (t ∷ past) h (due-bridged (down_periods (t ∷ past)) fs i is)) k) (λ n. k)
 
-carry : (ts : List CallPeriod) → HandFrames ts → All CarriesFrame (frames_of ts)
+carry : (ts : List CallPeriod) → PeriodsHandFrames ts → All CarriesFrame (frames_of ts)
 carry [] h = All-nil CarriesFrame
 carry (t ∷ past) h =
     grown-carry t past (grown (down_period t past) (down_periods past) (frames_of past)) h
@@ -83,10 +83,10 @@ all-long who [] k = tt
 all-long who (f ∷ fs) k = (frame-long who f fs (All-head CarriesFrame f fs k), all-long who fs (All-tail CarriesFrame f fs k))
 
 -- so each frame of a leg has 260 data bits or is idle
-pub leg-long : (who : Who) (ts : List CallPeriod) → HandFrames ts → HaveLength (frame_now who) (frames_of ts)
+pub leg-long : (who : Who) (ts : List CallPeriod) → PeriodsHandFrames ts → HaveLength (frame_now who) (frames_of ts)
 leg-long who ts h = all-long who (frames_of ts) (carry ts h)
 
-pub leg-found : (who : Who) (ts : List CallPeriod) → HandFrames ts → Found (down_line who ts) (all_within (320 * length ts) (as_made (frame_now who) (frames_of ts)))
+pub leg-found : (who : Who) (ts : List CallPeriod) → PeriodsHandFrames ts → Found (down_line who ts) (all_within (320 * length ts) (as_made (frame_now who) (frames_of ts)))
 leg-found who ts h =
     subst (λ bits. Found bits (all_within (320 * length ts) (as_made (frame_now who) (frames_of ts)))) (sym (line-is_made who ts))
     (made-found (frame_now who) (down_periods ts) (320 * length ts) (leg-long who ts h))

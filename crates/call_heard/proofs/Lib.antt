@@ -2,5 +2,6 @@
 mod Shapes
 mod Effective
 mod Legs
+mod Lines
 mod Calls
 mod Runs

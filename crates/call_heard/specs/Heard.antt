@@ -9,17 +9,17 @@ use Rattle.call_output.specs.Down.{made, down_frames}
 
 -- a made frame at its place, behind 320 ones and two bits for each octet of the Pcm line before its start, with what is
 -- sent in it
-abbrev pub heard_as : NumberedFrame × DownFrame → FoundFrame
-heard_as x = record { place = 320 + 2 * x.0.start; frame = Some x.1 }
+abbrev pub found_as : NumberedFrame × DownFrame → FoundFrame
+found_as x = record { place = 320 + 2 * x.0.start; frame = Some x.1 }
 
 -- the first of a call's frames, as they are sent
-abbrev pub heard_among : Call → List NumberedFrame → List FoundFrame
-heard_among call fs = map heard_as (zip fs (down_frames call fs))
+abbrev pub found_among : Call → List NumberedFrame → List FoundFrame
+found_among call fs = map found_as (zip fs (down_frames call fs))
 
 -- all that the call makes
-abbrev pub heard_of : Call → List FoundFrame
-heard_of call = heard_among call (made call)
+abbrev pub found_of : Call → List FoundFrame
+found_of call = found_among call (made call)
 
 -- what is handed over in each period of its spans are 260 bits
-abbrev pub HandsFrames : Call → Type 0
-HandsFrames call = All (λ span. All (λ item. length item ≡ 260) span.items) call.spans
+abbrev pub SpansHandFrames : Call → Type 0
+SpansHandFrames call = All (λ span. All (λ item. length item ≡ 260) span.items) call.spans

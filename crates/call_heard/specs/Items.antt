@@ -3,5 +3,5 @@ use Rattle.std.specs.Prelude.{◌≡◌, List, length, All, IfSome}
 use Rattle.call_leg.specs.Periods.{CallPeriod}
 
 -- what is handed over in each period are 260 bits
-abbrev pub HandFrames : List CallPeriod → Type 0
-HandFrames ts = All (λ t. IfSome t.handed (λ d. length d ≡ 260)) ts
+abbrev pub PeriodsHandFrames : List CallPeriod → Type 0
+PeriodsHandFrames ts = All (λ t. IfSome t.handed (λ d. length d ≡ 260)) ts

@@ -1,6 +1,8 @@
 //! Laws of a call's downlink as it is heard, each the contract of a function that does nothing.
 
-ghost use Rattle.std.specs.Prelude.{◌≡◌, ℕ, ◌*◌, true, is_some, List, length, map};
+ghost use Rattle.std.specs.Prelude.{◌≡◌, ℕ, ◌*◌, true, is_some, List, length, map, reverse};
+ghost use Rattle.std.specs.List.{concat};
+ghost use Rattle.trau_bits.specs.Bits.{octets_of};
 ghost use Rattle.trau_orders.specs.Lists.{AreOrders};
 ghost use Rattle.switchboard.specs.Calls.{opened_at};
 ghost use Rattle.trau_params.specs.Bits260.{bits260};
@@ -15,8 +17,8 @@ ghost use Rattle.call_output.specs.Down.{down, down_frames, made};
 ghost use Rattle.call_output.specs.Whole.{IsWhole};
 ghost use Rattle.farm_output.specs.Run.{Run, done_in};
 ghost use Rattle.farm_calls.specs.Whole.{whole_call};
-ghost use Rattle.call_heard.specs.Heard.{HandsFrames, heard_of};
-ghost use Rattle.call_heard.specs.Items.{HandFrames};
+ghost use Rattle.call_heard.specs.Heard.{SpansHandFrames, found_of};
+ghost use Rattle.call_heard.specs.Items.{PeriodsHandFrames};
 
 use ccu_end::laws::one_list;
 use farm_calls::calls_are_whole;
@@ -30,25 +32,25 @@ pub fn handed_frames_have_260_bits()
 /// On the Down line of any history of a call, exactly the made frames are found, each at its place and with what was sent in
 /// it, as far as its first 316 bits are there. A history has the newest period first.
 pub fn frames_of_a_leg_are_found()
-    ensures { (who : Who) (ts : List CallPeriod) → HandFrames ts →
+    ensures { (who : Who) (ts : List CallPeriod) → PeriodsHandFrames ts →
         Found (down_line who ts) (all_within (320 * length ts) (as_made (frame_now who) (frames_of ts))) }
 {}
 
 /// On the whole Down line of a call, exactly the frames that the call makes are found.
 pub fn frames_of_a_call_are_found()
     // Each is found at its place and says what was sent in it, as far as its first 316 bits are there; and none besides.
-    ensures found { (call : Call) → IsWhole call → HandsFrames call → Found (down call) (all_within (320 * periods call) (heard_of call)) }
+    ensures found { (call : Call) → IsWhole call → SpansHandFrames call → Found (down call) (all_within (320 * periods call) (found_of call)) }
 
     // So a base station's end that is fed the line, period by period, gives these frames and no others.
-    ensures heard { (call : Call) (past : List (List ℕ)) (heard : List (List FoundFrame)) → IsWhole call → HandsFrames call → line_bits past ≡ down call → AreHeard past heard →
-        all_of heard ≡ all_within (320 * periods call) (heard_of call) }
+    ensures heard { (call : Call) (past : List (List ℕ)) (heard : List (List FoundFrame)) → IsWhole call → SpansHandFrames call → line_bits past ≡ down call → AreHeard past heard →
+        all_of heard ≡ all_within (320 * periods call) (found_of call) }
 
     // Each made frame is sent.
     ensures each { (call : Call) → IsWhole call → length (down_frames call (made call)) ≡ length (made call) }
 
     // The first stands at bit 320, and each further one 320 bits and two for each octet of the shift after the one before: so
     // each shift that is adopted moves the next place by exactly that shift.
-    ensures places { (call : Call) → IsWhole call → map (λ f. f.place) (heard_of call) ≡ places_from 320 (map (λ f. f.shift) (made call)) }
+    ensures places { (call : Call) → IsWhole call → map (λ f. f.place) (found_of call) ≡ places_from 320 (map (λ f. f.shift) (made call)) }
 {
     the_newest_is_the_last();
     the_table_looks_back();
@@ -57,12 +59,21 @@ pub fn frames_of_a_call_are_found()
 
 /// So are those of each call of a run: what calls hand over to one another are frames.
 pub fn frames_of_a_run_are_found()
-    ensures items { (r : Run) (c : ℕ) → HandsFrames (whole_call r c) }
+    ensures items { (r : Run) (c : ℕ) → SpansHandFrames (whole_call r c) }
     ensures found { (r : Run) (c : ℕ) → AreOrders r.orders → is_some (opened_at c (done_in r)) ≡ true →
-        Found (down (whole_call r c)) (all_within (320 * periods (whole_call r c)) (heard_of (whole_call r c))) }
+        Found (down (whole_call r c)) (all_within (320 * periods (whole_call r c)) (found_of (whole_call r c))) }
+
+    // So a base station's end that is fed the octets of the line, period by period, gives these frames and no others.
+    ensures heard { (r : Run) (c : ℕ) (past : List (List ℕ)) (heard : List (List FoundFrame)) → AreOrders r.orders → is_some (opened_at c (done_in r)) ≡ true →
+        concat (reverse past) ≡ octets_of (down (whole_call r c)) → AreHeard past heard →
+        all_of heard ≡ all_within (320 * periods (whole_call r c)) (found_of (whole_call r c)) }
+    ensures each { (r : Run) (c : ℕ) → AreOrders r.orders → is_some (opened_at c (done_in r)) ≡ true →
+        length (down_frames (whole_call r c) (made (whole_call r c))) ≡ length (made (whole_call r c)) }
     ensures places { (r : Run) (c : ℕ) → AreOrders r.orders → is_some (opened_at c (done_in r)) ≡ true →
-        map (λ f. f.place) (heard_of (whole_call r c)) ≡ places_from 320 (map (λ f. f.shift) (made (whole_call r c))) }
+        map (λ f. f.place) (found_of (whole_call r c)) ≡ places_from 320 (map (λ f. f.shift) (made (whole_call r c))) }
 {
     calls_are_whole();
     frames_of_a_call_are_found();
+    the_newest_is_the_last();
+    the_table_looks_back();
 }

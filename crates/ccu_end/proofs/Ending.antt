@@ -93,6 +93,7 @@ module _ (call want : ℕ) (u u' d d' : LineState) (k m k' : DeskState) (result 
         rest = took.0;
         split = took.2;
         whole = follows.whole;
+        few = follows.few;
         are_heard = follows.are_heard;
         less = ends.less;
         at_end = ⊎_elim (λ e. inl (at_end _ took.0 took.1 e)) (λ e. inr e) ends.at_end;

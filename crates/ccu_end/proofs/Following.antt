@@ -1,9 +1,9 @@
 -- A downlink followed over one period after another.
-use Rattle.std.proofs.Common.{◌≡◌, inl, inr, ℕ, ◌+◌, ◌*◌, ◌-◌, ◌^◌, ◌≤◌, List, [], ◌∷◌, ◌++◌, length, take, reverse, refl, sym, ◌∙◌, ap, subst, arith, length-append}
+use Rattle.std.proofs.Common.{◌≡◌, inl, inr, ℕ, ◌+◌, ◌*◌, ◌-◌, ◌^◌, ◌≤◌, ◌<◌, List, [], ◌∷◌, ◌++◌, length, take, reverse, refl, sym, ◌∙◌, ap, subst, arith, length-append}
 use Rattle.std.specs.List.{concat}
 use Rattle.std.proofs.lemmas.Grind.{flat_map-append}
 use Rattle.std.proofs.lemmas.List.{append-nil, reverse-append}
-use Rattle.std.proofs.lemmas.List.Elements.{All-append, All-cons, All-nil}
+use Rattle.std.proofs.lemmas.List.Elements.{All-append, All-cons, All-head, All-nil, All-tail}
 use Rattle.std.proofs.lemmas.List.Folds.{concat-append}
 use Rattle.std.proofs.KnownBytes.{Consumes-nil, Consumes-trans, Appends-nil, Appends-trans}
 use Rattle.trau_io.specs.Lines.{LineState, Rose}
@@ -49,6 +49,18 @@ moves_on u0 u1 u2 d0 d1 d2 k0 k1 k2 g g' s s' t t' first second = record {
 
 concat_push : (periods : List (List ℕ)) (given : List ℕ) → concat (periods ++ given ∷ []) ≡ concat periods ++ given
 concat_push periods given = concat-append periods (given ∷ []) ∙ ap (λ l. concat periods ++ l) (append-nil given)
+
+-- the octets of whole periods
+octets_in : (periods : List (List ℕ)) → ArePeriods periods → length (concat periods) ≡ 40 * length periods
+octets_in [] whole = refl
+octets_in (octets ∷ periods) whole =
+    let here : length octets ≡ 40 = All-head (λ o. length o ≡ 40) octets periods whole in
+    length-append octets (concat periods) ∙ omega (arith, here, octets_in periods (All-tail (λ o. length o ≡ 40) octets periods whole))
+
+-- and of those with what was read behind them
+few_with : (periods : List (List ℕ)) (last : List ℕ) (n : ℕ) → ArePeriods periods → length periods ≡ n → 40 * n + length last ≤ 40 * (2 ^ 32 - 1) →
+    length (concat periods ++ last) ≤ 40 * (2 ^ 32 - 1)
+few_with periods last n whole count few = omega (arith, length-append (concat periods) last, octets_in periods whole, count, few)
 
 -- what is behind the earlier ones and a front of the newest is a front of all
 front_of : (before front newest : List ℕ) → front ≡ take (length front) newest → before ++ front ≡ take (length (before ++ front)) (before ++ newest)
@@ -105,6 +117,9 @@ module _ (ccu ccu' : CcuMemory) (want : ℕ) (u0 u1 u2 d0 d1 d2 : LineState) (k0
   calm_on : NoFault u1 u2 d1 d2 k1 k2 → NoFault u0 u2 d0 d2 k0 k2
   calm_on calm = record { up_same = calm.up_same ∙ so_far.calm.up_same; down_same = calm.down_same ∙ so_far.calm.down_same; desk_same = calm.desk_same ∙ so_far.calm.desk_same }
 
+  count_now : (given : List ℕ) → length (so_far.periods ++ given ∷ []) ≡ n + 1
+  count_now given = length-append so_far.periods (given ∷ []) ∙ ap (λ k. k + 1) so_far.count
+
   -- one period more, in which these frames were found
   module _ (given : List ℕ) (found : List FoundFrame) (takes : Takes ccu ccu' given found) where
     periods_now : List (List ℕ)
@@ -146,7 +161,7 @@ module _ (ccu ccu' : CcuMemory) (want : ℕ) (u0 u1 u2 d0 d1 d2 : LineState) (k0
       record {
         periods = so_far.periods ++ one.given ∷ [];
         heard = found ∷ so_far.heard;
-        count = length-append so_far.periods (one.given ∷ []) ∙ ap (λ k. k + 1) so_far.count;
+        count = count_now one.given;
         counted = ends.takes.counted ∙ ap (λ k. k + 1) so_far.counted;
         wanted = wanted_now one.given found ends.takes;
         stands = stands_now one.given found ends.takes;
@@ -159,8 +174,8 @@ module _ (ccu ccu' : CcuMemory) (want : ℕ) (u0 u1 u2 d0 d1 d2 : LineState) (k0
         calm = calm_on ends.calm;
       }
 
-  pub line_ended : (left : ℕ) → FollowsOn ccu ccu' u1 u2 d1 d2 k1 k2 (LineEnded left) → Follows u0 u2 d0 d2 k0 k2 want (follow.Done frames left)
-  line_ended left one =
+  pub line_ended : n < 2 ^ 32 - 1 → (left : ℕ) → FollowsOn ccu ccu' u1 u2 d1 d2 k1 k2 (LineEnded left) → Follows u0 u2 d0 d2 k0 k2 want (follow.Done frames left)
+  line_ended room left one =
       let ends = one.ends in
       record {
         periods = so_far.periods;
@@ -169,6 +184,7 @@ module _ (ccu ccu' : CcuMemory) (want : ℕ) (u0 u1 u2 d0 d1 d2 : LineState) (k0
         sent = sent_up want so_far.heard ++ one.sent;
         told = listed so_far.heard ++ one.told;
         whole = so_far.whole;
+        few = few_with so_far.periods one.given n so_far.whole so_far.count (omega (arith, room, ends.part));
         are_heard = so_far.stands.found;
         moves = moves_on _ _ _ _ _ _ _ _ _ _ _ _ _ _ _ so_far.moves one.moves;
         ends = record {
@@ -184,8 +200,8 @@ module _ (ccu ccu' : CcuMemory) (want : ℕ) (u0 u1 u2 d0 d1 d2 : LineState) (k0
         };
       }
 
-  pub read_failed : FollowsOn ccu ccu' u1 u2 d1 d2 k1 k2 ReadFailed → Follows u0 u2 d0 d2 k0 k2 want follow.ReadFailed
-  read_failed one =
+  pub read_failed : n < 2 ^ 32 - 1 → FollowsOn ccu ccu' u1 u2 d1 d2 k1 k2 ReadFailed → Follows u0 u2 d0 d2 k0 k2 want follow.ReadFailed
+  read_failed room one =
       let ends = one.ends in
       record {
         periods = so_far.periods;
@@ -194,9 +210,11 @@ module _ (ccu ccu' : CcuMemory) (want : ℕ) (u0 u1 u2 d0 d1 d2 : LineState) (k0
         sent = sent_up want so_far.heard ++ one.sent;
         told = listed so_far.heard ++ one.told;
         whole = so_far.whole;
+        few = few_with so_far.periods one.given n so_far.whole so_far.count (omega (arith, room, ends.part));
         are_heard = so_far.stands.found;
         moves = moves_on _ _ _ _ _ _ _ _ _ _ _ _ _ _ _ so_far.moves one.moves;
         ends = record {
+          room = omega (arith, so_far.count, room);
           part = ends.part;
           all_sent = ap (λ l. sent_up want so_far.heard ++ l) ends.nothing_sent ∙ append-nil (sent_up want so_far.heard);
           all_told = ap (λ l. listed so_far.heard ++ l) ends.nothing_told ∙ append-nil (listed so_far.heard);
@@ -206,9 +224,9 @@ module _ (ccu ccu' : CcuMemory) (want : ℕ) (u0 u1 u2 d0 d1 d2 : LineState) (k0
         };
       }
 
-  pub write_failed : FollowsOn ccu ccu' u1 u2 d1 d2 k1 k2 WriteFailed → Follows u0 u2 d0 d2 k0 k2 want follow.WriteFailed
+  pub write_failed : n < 2 ^ 32 - 1 → FollowsOn ccu ccu' u1 u2 d1 d2 k1 k2 WriteFailed → Follows u0 u2 d0 d2 k0 k2 want follow.WriteFailed
   unfolding periods_now heard_now
-  write_failed one =
+  write_failed room one =
       let ends = one.ends in
       let before = sent_up want so_far.heard in
       let whole = sent_now one.given ends.found ends.takes in
@@ -220,6 +238,7 @@ module _ (ccu ccu' : CcuMemory) (want : ℕ) (u0 u1 u2 d0 d1 d2 : LineState) (k0
         sent = sent;
         told = listed so_far.heard ++ one.told;
         whole = whole_now one.given ends.found ends.takes;
+        few = few_with (so_far.periods ++ one.given ∷ []) [] (n + 1) (whole_now one.given ends.found ends.takes) (count_now one.given) (omega (arith, room));
         are_heard = (stands_now one.given ends.found ends.takes).found;
         moves = subst (λ l. Moves u0 u2 d0 d2 k0 k2 l sent (listed so_far.heard ++ one.told)) (sym (append-nil (concat (so_far.periods ++ one.given ∷ [])))) (moves_now one.given ends.found ends.takes one.sent one.told one.moves);
         ends = record {
@@ -237,9 +256,9 @@ module _ (ccu ccu' : CcuMemory) (want : ℕ) (u0 u1 u2 d0 d1 d2 : LineState) (k0
         };
       }
 
-  pub desk_failed : FollowsOn ccu ccu' u1 u2 d1 d2 k1 k2 DeskFailed → Follows u0 u2 d0 d2 k0 k2 want follow.DeskFailed
+  pub desk_failed : n < 2 ^ 32 - 1 → FollowsOn ccu ccu' u1 u2 d1 d2 k1 k2 DeskFailed → Follows u0 u2 d0 d2 k0 k2 want follow.DeskFailed
   unfolding periods_now heard_now
-  desk_failed one =
+  desk_failed room one =
       let ends = one.ends in
       let before = listed so_far.heard in
       let whole = listed_now one.given ends.found ends.takes in
@@ -251,6 +270,7 @@ module _ (ccu ccu' : CcuMemory) (want : ℕ) (u0 u1 u2 d0 d1 d2 : LineState) (k0
         sent = sent_up want so_far.heard ++ one.sent;
         told = told;
         whole = whole_now one.given ends.found ends.takes;
+        few = few_with (so_far.periods ++ one.given ∷ []) [] (n + 1) (whole_now one.given ends.found ends.takes) (count_now one.given) (omega (arith, room));
         are_heard = (stands_now one.given ends.found ends.takes).found;
         moves = subst (λ l. Moves u0 u2 d0 d2 k0 k2 l (sent_up want so_far.heard ++ one.sent) told) (sym (append-nil (concat (so_far.periods ++ one.given ∷ [])))) (moves_now one.given ends.found ends.takes one.sent one.told one.moves);
         ends = record {
@@ -277,6 +297,7 @@ at_last ccu want u0 u1 d0 d1 k0 k1 n frames so_far last = record {
   sent = sent_up want so_far.heard;
   told = listed so_far.heard;
   whole = so_far.whole;
+  few = few_with so_far.periods [] n so_far.whole so_far.count (omega (arith, last));
   are_heard = so_far.stands.found;
   moves = subst (λ l. Moves u0 u1 d0 d1 k0 k1 l (sent_up want so_far.heard) (listed so_far.heard)) (sym (append-nil (concat so_far.periods))) so_far.moves;
   ends = record {

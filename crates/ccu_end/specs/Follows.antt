@@ -1,6 +1,6 @@
 -- A whole `follow`: from the octets of a recorded downlink to those of an uplink, and to lines of text (this project's
 -- profile). Periods have the oldest first, what is heard in them the newest.
-use Rattle.std.specs.Prelude.{◌≡◌, ◌⊎◌, ℕ, ◌-◌, ◌^◌, ◌<◌, ◌≤◌, List, [], ◌∷◌, ◌++◌, length, take, reverse}
+use Rattle.std.specs.Prelude.{◌≡◌, ◌⊎◌, ℕ, ◌*◌, ◌-◌, ◌^◌, ◌<◌, ◌≤◌, List, [], ◌∷◌, ◌++◌, length, take, reverse}
 use Rattle.std.specs.List.{concat}
 use Rattle.std.specs.Io.KnownBytes.{Consumes, Appends, IsAtEnd}
 use Rattle.trau_io.specs.Lines.{LineState, Rose}
@@ -48,8 +48,9 @@ pub record EndsLine (up up' down down' : LineState) (desk desk' : DeskState) (wa
   pub down_same : down'.faults ≡ down.faults
   pub desk_same : desk'.write_faults ≡ desk.write_faults
 
--- The incoming line failed inside a period. All periods before it are answered, and their frames told.
-pub record FailsToRead (up up' down down' : LineState) (desk desk' : DeskState) (want : ℕ) (heard : List (List FoundFrame)) (last sent told : List ℕ) : Type 0 where
+-- The incoming line failed inside a period. All periods before it, fewer than are taken, are answered, and their frames told.
+pub record FailsToRead (up up' down down' : LineState) (desk desk' : DeskState) (want : ℕ) (periods : List (List ℕ)) (heard : List (List FoundFrame)) (last sent told : List ℕ) : Type 0 where
+  pub room : length periods < 2 ^ 32 - 1
   pub part : length last < 40
   pub all_sent : sent ≡ sent_up want heard
   pub all_told : told ≡ listed heard
@@ -90,12 +91,12 @@ pub record FailsToTell (up up' down down' : LineState) (desk desk' : DeskState) 
 -- the end behind these periods: what was read behind them, what was sent, and what was told
 abbrev pub EndsAs : LineState → LineState → LineState → LineState → DeskState → DeskState → ℕ → List (List ℕ) → List (List FoundFrame) → List ℕ → List ℕ → List ℕ → FollowEnd → Type 0
 EndsAs up up' down down' desk desk' want periods heard last sent told (Done frames left) = EndsLine up up' down down' desk desk' want periods heard last sent told frames left
-EndsAs up up' down down' desk desk' want periods heard last sent told ReadFailed = FailsToRead up up' down down' desk desk' want heard last sent told
+EndsAs up up' down down' desk desk' want periods heard last sent told ReadFailed = FailsToRead up up' down down' desk desk' want periods heard last sent told
 EndsAs up up' down down' desk desk' want periods heard last sent told WriteFailed = FailsToWrite up up' down down' desk desk' want heard last sent told
 EndsAs up up' down down' desk desk' want periods heard last sent told DeskFailed = FailsToTell up up' down down' desk desk' want heard last sent told
 
 -- A whole downlink. What its reads gave is whole periods, in which these frames were found, and then what was read behind
--- them.
+-- them: 4,294,967,295 periods at most, and nothing behind so many.
 pub record Follows (up up' down down' : LineState) (desk desk' : DeskState) (want : ℕ) (end : FollowEnd) : Type 0 where
   pub periods : List (List ℕ)
   pub heard : List (List FoundFrame)
@@ -103,6 +104,7 @@ pub record Follows (up up' down down' : LineState) (desk desk' : DeskState) (wan
   pub sent : List ℕ
   pub told : List ℕ
   pub whole : ArePeriods periods
+  pub few : length (concat periods ++ last) ≤ 40 * (2 ^ 32 - 1)
   pub are_heard : AreHeard (reverse periods) heard
   pub moves : Moves up up' down down' desk desk' (concat periods ++ last) sent told
   pub ends : EndsAs up up' down down' desk desk' want periods heard last sent told end

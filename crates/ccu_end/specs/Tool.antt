@@ -1,6 +1,6 @@
 -- The command `follow`: its last line of text, its end, why each comes, and what it leaves where nothing fails (this
 -- project's profile).
-use Rattle.std.specs.Prelude.{◌≡◌, ◌⊎◌, ℕ, ◌-◌, ◌^◌, ◌<◌, List, [], ◌++◌, length, reverse, codes, decimal, Some, Ok, Err}
+use Rattle.std.specs.Prelude.{◌≡◌, ◌⊎◌, ℕ, ◌*◌, ◌-◌, ◌^◌, ◌<◌, ◌≤◌, List, [], ◌++◌, length, reverse, codes, decimal, Some, Ok, Err}
 use Rattle.std.specs.List.{concat}
 use Rattle.trau_io.specs.declared.line.Side.{Side}
 use Rattle.trau_io.specs.declared.line.Side.TheVariants.{Up, Down}
@@ -81,6 +81,7 @@ pub record LeavesFollowed (call want : ℕ) (up' down' : LineState) (desk' : Des
   pub rest : List ℕ
   pub split : octets ≡ concat periods ++ last ++ rest
   pub whole : ArePeriods periods
+  pub few : length (concat periods ++ last) ≤ 40 * (2 ^ 32 - 1)
   pub are_heard : AreHeard (reverse periods) heard
   pub less : length last < 40
   pub at_end : (rest ≡ []) ⊎ ((length periods ≡ 2 ^ 32 - 1) × (last ≡ []))

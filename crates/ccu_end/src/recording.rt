@@ -160,7 +160,7 @@ fn tell_last<D: Desk>(call: u32, end: FollowEnd, desk: &mut D) -> ToolEnd
 /// of 4), to the call's Down line, and tells a line of text for each frame found in it, its place in bits and what it says:
 /// `PLACE WORD`, WORD being `speech`, `idle` or `other`. A rest of less than a period is left. At the end it tells
 /// `follow frames N left R`, N being the number of frames, or `line C up failed` or `line C down failed`; the frames of a
-/// period whose answer couldn't be written aren't told. It takes no memory, and never answers Refused.
+/// period whose answer couldn't be written aren't told. It takes no memory, and never answers Refused nor Memory.
 pub fn follow<T: Trunk, D: Desk>(call: u32, want: u16, trunk: &mut T, desk: &mut D) -> ToolEnd
     requires number { IsCallNumber call }
     requires high { want ≤ 316 }

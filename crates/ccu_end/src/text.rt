@@ -1,6 +1,6 @@
 //! The texts of the command `follow`.
 
-ghost use Rattle.std.specs.Prelude.{◌≡◌, ◌≤◌, length};
+ghost use Rattle.std.specs.Prelude.{◌≡◌, ◌≤◌, ℕ, length};
 ghost use Rattle.trau_io.specs.Texts.{failed_text};
 ghost use Rattle.ccu_end.specs.declared.recording.FollowEnd.TheVariants.{Done};
 ghost use Rattle.ccu_end.specs.Heard.{frames_of};
@@ -71,7 +71,7 @@ fn failed_line(call: u32, side: Side) -> ArrayString<64>
 
 /// The last line of text where so many frames were found and so many octets are left.
 fn done_line(frames: u64, left: u32) -> ArrayString<64>
-    ensures { result.bytes ≡ last_text 0 (Done frames left) }
+    ensures { (call : ℕ) → result.bytes ≡ last_text call (Done frames left) }
 {
     let mut digits = Buffer::new();
     let mut text = ArrayString::new();

@@ -56,7 +56,10 @@ fn assert_text(
 static EACH_REPLY: [Reply; 9] = [
     Reply {
         order: 1,
-        result: Ok(Act::Opened { call: 1, law: Law::A }),
+        result: Ok(Act::Opened {
+            call: 1,
+            law: Law::A,
+        }),
     },
     Reply {
         order: 4,
@@ -248,7 +251,10 @@ fn recorded_replies(alloc: Global) -> Result<Vec<Reply>, AllocError> {
                 call: 2,
                 partner: 1,
             }),
-            _ => Ok(Act::Opened { call: 1, law: Law::A }),
+            _ => Ok(Act::Opened {
+                call: 1,
+                law: Law::A,
+            }),
         };
         replies.push(reply(order, result))?;
     }

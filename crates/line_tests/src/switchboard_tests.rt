@@ -63,9 +63,18 @@ static TWO_PERIODS: &[u8] =
         1 unbridge 2\n1 bridge 3 1\n1 close 3\n1 open 3\n1 level 9 0\n";
 
 static TWO_RESULTS: [Result<Act, Refusal>; 13] = [
-    Ok(Act::Opened { call: 1, law: Law::A }),
-    Ok(Act::Opened { call: 2, law: Law::A }),
-    Ok(Act::Opened { call: 3, law: Law::Mu }),
+    Ok(Act::Opened {
+        call: 1,
+        law: Law::A,
+    }),
+    Ok(Act::Opened {
+        call: 2,
+        law: Law::A,
+    }),
+    Ok(Act::Opened {
+        call: 3,
+        law: Law::Mu,
+    }),
     Err(Refusal::AlreadyOpen { call: 1 }),
     Err(Refusal::SameCall { call: 1 }),
     Ok(Act::Bridged { a: 1, b: 2 }),
@@ -100,11 +109,26 @@ static THREE_PERIODS: &[u8] =
         2 bridge 3 1\n2 close 1\n2 open 1\n2 close 1\n2 bridge 3 5\n2 level 5 7\n2 dtx 5 on\n";
 
 static THREE_RESULTS: [Result<Act, Refusal>; 27] = [
-    Ok(Act::Opened { call: 1, law: Law::A }),
-    Ok(Act::Opened { call: 2, law: Law::A }),
-    Ok(Act::Opened { call: 3, law: Law::A }),
-    Ok(Act::Opened { call: 4, law: Law::A }),
-    Ok(Act::Opened { call: 5, law: Law::A }),
+    Ok(Act::Opened {
+        call: 1,
+        law: Law::A,
+    }),
+    Ok(Act::Opened {
+        call: 2,
+        law: Law::A,
+    }),
+    Ok(Act::Opened {
+        call: 3,
+        law: Law::A,
+    }),
+    Ok(Act::Opened {
+        call: 4,
+        law: Law::A,
+    }),
+    Ok(Act::Opened {
+        call: 5,
+        law: Law::A,
+    }),
     Ok(Act::Bridged { a: 1, b: 2 }),
     Ok(Act::Bridged { a: 3, b: 4 }),
     Err(Refusal::SameCall { call: 9 }),

@@ -151,10 +151,34 @@ fn spells(alloc: Global, text: &[u8], wanted: &[(u32, What)]) -> bool {
 }
 
 static ORDERS: [(u32, What); 17] = [
-    (0, What::OpenCall { call: 1, law: Law::A }),
-    (0, What::OpenCall { call: 2, law: Law::A }),
-    (0, What::OpenCall { call: 3, law: Law::Mu }),
-    (0, What::OpenCall { call: 1, law: Law::A }),
+    (
+        0,
+        What::OpenCall {
+            call: 1,
+            law: Law::A,
+        },
+    ),
+    (
+        0,
+        What::OpenCall {
+            call: 2,
+            law: Law::A,
+        },
+    ),
+    (
+        0,
+        What::OpenCall {
+            call: 3,
+            law: Law::Mu,
+        },
+    ),
+    (
+        0,
+        What::OpenCall {
+            call: 1,
+            law: Law::A,
+        },
+    ),
     (0, What::Bridge(1, 1)),
     (0, What::Bridge(1, 2)),
     (0, What::Bridge(3, 2)),
@@ -162,7 +186,13 @@ static ORDERS: [(u32, What); 17] = [
     (1, What::Unbridge(2)),
     (1, What::Bridge(3, 1)),
     (1, What::CloseCall(3)),
-    (1, What::OpenCall { call: 3, law: Law::A }),
+    (
+        1,
+        What::OpenCall {
+            call: 3,
+            law: Law::A,
+        },
+    ),
     (1, What::Level(9, 0)),
     (1, What::Level(4096, 32_767)),
     (35, What::Dtx(1, DtxMode::On)),

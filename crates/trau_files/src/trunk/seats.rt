@@ -165,7 +165,7 @@ fn stands<F: Drop>(seat: &mut Option<OpenFile<F>>, line: Line, access: Access, a
     }
 }
 
-// Reads from the file in a seat, in its place.
+// Reads from the file in a seat; the file stays there.
 fn read_in<F: Read + Drop>(seat: &mut Option<OpenFile<F>>, buf: &mut [u8]) -> io::Result<usize>
     requires { IsSome seat.old }
     ensures bound { ReadsAtMost result buf.new }
@@ -186,7 +186,7 @@ fn read_in<F: Read + Drop>(seat: &mut Option<OpenFile<F>>, buf: &mut [u8]) -> io
     }
 }
 
-// Writes to the file in a seat, in its place.
+// Writes to the file in a seat; the file stays there.
 fn write_in<F: Write + Drop>(seat: &mut Option<OpenFile<F>>, bytes: &[u8]) -> io::Result<usize>
     requires { IsSome seat.old }
     ensures some { IfOk result (λ n. 0 < n) }

@@ -16,16 +16,16 @@ pub overflow_add-frames : goal.overflow_add-frames
 overflow_add-frames g c = omega (arith, c.loop-period.invariant.so_far.at_most, c.loop-period-test.true)
 
 pub returns-in-LineEnded-clause-follows : goal.returns-in-LineEnded-clause-follows
-returns-in-LineEnded-clause-follows g c = line_ended c.loop-period.ccu c.follow_period.new.ccu c.args.want _ _ _ _ _ _ _ _ _ _ _ c.loop-period.invariant.so_far c.in-LineEnded.left c.in-LineEnded.ensures.period
+returns-in-LineEnded-clause-follows g c = line_ended c.loop-period.ccu c.follow_period.new.ccu c.args.want _ _ _ _ _ _ _ _ _ _ _ c.loop-period.invariant.so_far (omega (arith, c.loop-period-test.true)) c.in-LineEnded.left c.in-LineEnded.ensures.period
 
 pub returns-in-ReadFailed-clause-follows : goal.returns-in-ReadFailed-clause-follows
-returns-in-ReadFailed-clause-follows g c = read_failed c.loop-period.ccu c.follow_period.new.ccu c.args.want _ _ _ _ _ _ _ _ _ _ _ c.loop-period.invariant.so_far c.in-ReadFailed.ensures.period
+returns-in-ReadFailed-clause-follows g c = read_failed c.loop-period.ccu c.follow_period.new.ccu c.args.want _ _ _ _ _ _ _ _ _ _ _ c.loop-period.invariant.so_far (omega (arith, c.loop-period-test.true)) c.in-ReadFailed.ensures.period
 
 pub returns-in-WriteFailed-clause-follows : goal.returns-in-WriteFailed-clause-follows
-returns-in-WriteFailed-clause-follows g c = write_failed c.loop-period.ccu c.follow_period.new.ccu c.args.want _ _ _ _ _ _ _ _ _ _ _ c.loop-period.invariant.so_far c.in-WriteFailed.ensures.period
+returns-in-WriteFailed-clause-follows g c = write_failed c.loop-period.ccu c.follow_period.new.ccu c.args.want _ _ _ _ _ _ _ _ _ _ _ c.loop-period.invariant.so_far (omega (arith, c.loop-period-test.true)) c.in-WriteFailed.ensures.period
 
 pub returns-in-DeskFailed-clause-follows : goal.returns-in-DeskFailed-clause-follows
-returns-in-DeskFailed-clause-follows g c = desk_failed c.loop-period.ccu c.follow_period.new.ccu c.args.want _ _ _ _ _ _ _ _ _ _ _ c.loop-period.invariant.so_far c.in-DeskFailed.ensures.period
+returns-in-DeskFailed-clause-follows g c = desk_failed c.loop-period.ccu c.follow_period.new.ccu c.args.want _ _ _ _ _ _ _ _ _ _ _ c.loop-period.invariant.so_far (omega (arith, c.loop-period-test.true)) c.in-DeskFailed.ensures.period
 
 pub loop-period-preserved : goal.loop-period-preserved
 loop-period-preserved g c = record {
