@@ -83,7 +83,7 @@ fn callers_meet_between_two_posts(rt: HostRuntime) {
     let words = ["live", "--calls=2", "--callers=2", "--periods=2"];
     let met = carry(&rt, alloc, &words, &mut trunk, "", NONE, &gate);
     let free = carry(&rt, alloc, &words, &mut trunk, "", NONE, &OpenGate);
-    assert!(&rt; met.status == 0 && free.status == 0 && met.text == free.text);
+    assert!(&rt; met.agrees_with(&free, 0));
     assert!(&rt; gate.used_up() == 0);
 }
 

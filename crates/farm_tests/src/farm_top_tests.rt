@@ -37,6 +37,13 @@ impl Outcome {
     pub(crate) fn is(&self, status: u8, text: &str) -> bool {
         self.status == status && self.text.as_slice() == text.as_bytes()
     }
+
+    // Whether both answered this status and told the same text.
+    pub(crate) fn agrees_with(&self, other: &Outcome, status: u8) -> bool {
+        self.status == status
+            && other.status == status
+            && self.text.as_slice() == other.text.as_slice()
+    }
 }
 
 // Carries out the command of these words with these orders, where one write of the desk fails, and with a gate for the
