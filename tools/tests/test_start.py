@@ -244,7 +244,7 @@ class TheFirstStart(Started):
         self.assertEqual(
             crates - set(build.needed(TOP, build.PROGRAM)),
             {
-                "call_heard", "call_tests", "codec_tests", "codec_vectors", "farm_checkpoint", "farm_live", "farm_tests", "line_tests", "pool_core",
+                "call_heard", "call_tests", "codec_tests", "codec_vectors", "farm_checkpoint", "farm_tests", "line_tests", "pool_core",
             },
         )
         self.assert_refused(build.main, ["--top", self.top, "--program", "gone"], "has no line of gone")
