@@ -12,17 +12,17 @@ use Rattle.ccu_end.proofs.Shifts.{made-places}
 use Rattle.call_leg.specs.Who.{Who}
 use Rattle.call_leg.specs.Periods.{CallPeriod}
 use Rattle.call_leg.specs.Down.{CallFrame, down_line, down_periods, frames_of, frame_now}
-use Rattle.call_output.specs.Call.{Call, Span, periods, item_at}
-use Rattle.call_output.specs.Down.{goes_on, stretch_frames, down_frames, made, down}
-use Rattle.call_output.specs.History.{IsCallHistory, call_of}
-use Rattle.call_output.specs.Whole.{AreSpans, IsWhole, first_periods, history_of}
-use Rattle.call_output.proofs.Stretched.{reverse-more, stretched-more}
-use Rattle.call_output.proofs.Reading.{LooksBack, length-settings_of}
-use Rattle.call_output.proofs.Frames.{made-read}
-use Rattle.call_output.proofs.Loads.{ArePlaced, placed}
-use Rattle.call_output.proofs.Sending.{zip-more, frame_after, adds-frame}
-use Rattle.call_output.proofs.DownLine.{frame-placed, down-whole}
-use Rattle.call_output.proofs.Whole.{history-whole, call-whole}
+use Rattle.call_spec.specs.Call.{Call, Span, periods, item_at}
+use Rattle.call_spec.specs.Down.{goes_on, stretch_frames, down_frames, made, down}
+use Rattle.call_spec.specs.History.{IsCallHistory, call_of}
+use Rattle.call_spec.specs.Whole.{AreSpans, IsWhole, first_periods, history_of}
+use Rattle.call_spec.proofs.Stretched.{reverse-more, stretched-more}
+use Rattle.call_spec.proofs.Reading.{LooksBack, length-settings_of}
+use Rattle.call_spec.proofs.Frames.{made-read}
+use Rattle.call_spec.proofs.Loads.{ArePlaced, placed}
+use Rattle.call_spec.proofs.Sending.{zip-more, frame_after, adds-frame}
+use Rattle.call_spec.proofs.DownLine.{frame-placed, down-whole}
+use Rattle.call_spec.proofs.Whole.{history-whole, call-whole}
 use Rattle.call_heard.specs.Items.{PeriodsHandFrames}
 use Rattle.call_heard.specs.Heard.{found_as, found_among, found_of, SpansHandFrames}
 use Rattle.call_heard.proofs.Legs.{leg-found}

@@ -11,8 +11,8 @@ use Rattle.call_leg.specs.Who.{Who}
 use Rattle.call_leg.specs.Periods.{CallPeriod}
 use Rattle.call_leg.specs.Down.{down_line, down_now}
 use Rattle.call_leg.proofs.LineLaws.{HandBits, down_now-bits, length-down_now}
-use Rattle.call_output.proofs.Stretched.{reverse-more}
-use Rattle.call_output.proofs.Yields.{bits_of-append}
+use Rattle.call_spec.proofs.Stretched.{reverse-more}
+use Rattle.call_spec.proofs.Yields.{bits_of-append}
 
 length-line : (who : Who) (ts : List CallPeriod) → length (down_line who ts) ≡ 320 * length ts
 length-line who [] = refl

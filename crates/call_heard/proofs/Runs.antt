@@ -3,11 +3,11 @@ use Rattle.std.proofs.Common.{◌≡◌, ℕ, All, List, [], ◌∷◌, length, 
 use Rattle.std.proofs.lemmas.List.Elements.{All-map}
 use Rattle.trau_bits.specs.Bits.{bits_of, octets_of, AreBits}
 use Rattle.call_leg.proofs.LineLaws.{bits260-are}
-use Rattle.call_output.specs.Down.{down}
-use Rattle.call_output.specs.Whole.{IsWhole}
-use Rattle.call_output.proofs.Reading.{LooksBack}
-use Rattle.farm_output.specs.Run.{Run, heard_by, item_of, partner_in, spans_in}
-use Rattle.farm_calls.specs.Whole.{begins_in, item_in, span_for, whole_call}
+use Rattle.call_spec.specs.Down.{down}
+use Rattle.call_spec.specs.Whole.{IsWhole}
+use Rattle.call_spec.proofs.Reading.{LooksBack}
+use Rattle.run_spec.specs.Run.{Run, heard_by, item_of, partner_in, spans_in}
+use Rattle.run_calls_spec.specs.Whole.{begins_in, item_in, span_for, whole_call}
 use Rattle.call_heard.specs.Heard.{SpansHandFrames}
 use Rattle.call_heard.proofs.Shapes.{length-bits260}
 use Rattle.call_heard.proofs.Calls.{call-bits}

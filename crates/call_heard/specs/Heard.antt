@@ -4,8 +4,8 @@ use Rattle.std.specs.List.{zip}
 use Rattle.trau_frame.specs.declared.frames.DownFrame.{DownFrame}
 use Rattle.down_framer.specs.ByNumber.{NumberedFrame}
 use Rattle.ccu_end.specs.Found.{FoundFrame}
-use Rattle.call_output.specs.Call.{Call}
-use Rattle.call_output.specs.Down.{made, down_frames}
+use Rattle.call_spec.specs.Call.{Call}
+use Rattle.call_spec.specs.Down.{made, down_frames}
 
 -- a made frame at its place, behind 320 ones and two bits for each octet of the Pcm line before its start, with what is
 -- sent in it

@@ -12,16 +12,16 @@ ghost use Rattle.call_leg.specs.Who.{Who};
 ghost use Rattle.call_leg.specs.Uplink.{handed_fields};
 ghost use Rattle.call_leg.specs.Periods.{CallPeriod, effective_now};
 ghost use Rattle.call_leg.specs.Down.{down_line, frame_now, frames_of};
-ghost use Rattle.call_output.specs.Call.{Call, periods};
-ghost use Rattle.call_output.specs.Down.{down, down_frames, made};
-ghost use Rattle.call_output.specs.Whole.{IsWhole};
-ghost use Rattle.farm_output.specs.Run.{Run, done_in};
-ghost use Rattle.farm_calls.specs.Whole.{whole_call};
+ghost use Rattle.call_spec.specs.Call.{Call, periods};
+ghost use Rattle.call_spec.specs.Down.{down, down_frames, made};
+ghost use Rattle.call_spec.specs.Whole.{IsWhole};
+ghost use Rattle.run_spec.specs.Run.{Run, done_in};
+ghost use Rattle.run_calls_spec.specs.Whole.{whole_call};
 ghost use Rattle.call_heard.specs.Heard.{SpansHandFrames, found_of};
 ghost use Rattle.call_heard.specs.Items.{PeriodsHandFrames};
 
 use ccu_end::laws::one_list;
-use farm_calls::calls_are_whole;
+use run_calls_spec::calls_are_whole;
 use rx_handler::laws::{the_newest_is_the_last, the_table_looks_back};
 
 /// What a call hands over in a period are 260 bits, whatever its uplink: those of its effective frame, or of silence.

@@ -1,7 +1,7 @@
 //! Decimal numbers, as the words of a command line and the lines of orders spell them.
 //!
 //! At the bottom: takes a text or octets and a range, and gives the number that they spell, if they
-//! spell one. Its users, `farm_words` and `trau_orders`, know no other numerals.
+//! spell one. Its users, `command_words` and `trau_orders`, know no other numerals.
 //!
 //! The spelling, digits with no sign, no space and no zero in front, is this project's profile.
 //! Definitions: `specs/Number.antt`. Lemmas for callers: `proofs/Numbers.antt`.

@@ -20,10 +20,10 @@ use Rattle.switchboard.specs.Calls.{closed_at, opened_at}
 use Rattle.switchboard.specs.Ends.{lack_of}
 use Rattle.farm_drill.specs.Lines.{AreDrilled}
 use Rattle.farm_drill.specs.Orders.{drilled_orders}
-use Rattle.farm_output.specs.Run.{Run, done_in, given_in, start_in, whole_in}
-use Rattle.farm_output.specs.Lines.{out_of_call, down_of_call}
-use Rattle.farm_output.specs.Facts.{call_line, calls_in, report_of}
-use Rattle.farm_output.proofs.Lists.{each_map, each_passes, each_weaker}
+use Rattle.run_spec.specs.Run.{Run, done_in, given_in, start_in, whole_in}
+use Rattle.run_spec.specs.Lines.{out_of_call, down_of_call}
+use Rattle.run_spec.specs.Facts.{call_line, calls_in, report_of}
+use Rattle.run_spec.proofs.Lists.{each_map, each_passes, each_weaker}
 use Rattle.farm_report.specs.declared.report.CallLine.{CallLine}
 use Rattle.farm_report.specs.Lines.{report_text}
 use Rattle.farm_report.specs.Sums.{sum_line}

@@ -7,9 +7,9 @@ use Rattle.trau_io.specs.Memory.{state_of}
 use Rattle.trau_orders.specs.Lists.{AreOrders}
 use Rattle.farm_drill.specs.Lines.{up_line, pcm_line, line_of_call}
 use Rattle.farm_drill.specs.Orders.{drilled_orders}
-use Rattle.farm_output.specs.Run.{Run}
-use Rattle.farm_output.specs.Lines.{out_of_call, down_of_call}
-use Rattle.farm_output.specs.Facts.{report_of, calls_in}
+use Rattle.run_spec.specs.Run.{Run}
+use Rattle.run_spec.specs.Lines.{out_of_call, down_of_call}
+use Rattle.run_spec.specs.Facts.{report_of, calls_in}
 use Rattle.farm_report.specs.Lines.{report_text}
 use Rattle.farm_report.specs.Sums.{sum_line}
 use Rattle.farm_run.specs.Runs.{Leaves, none_fails}

@@ -14,7 +14,7 @@ use Rattle.switchboard.specs.Calls.{Done, opened_at, closed_at}
 use Rattle.switchboard.specs.State.{State, gone_in, turned, told_more}
 use Rattle.switchboard.specs.Open.{opened_now, open_now, partner_now, Finds}
 use Rattle.switchboard.proofs.Appending.{or_else}
-use Rattle.farm_output.proofs.Executing.{opened-append, closed-append}
+use Rattle.run_spec.proofs.Executing.{opened-append, closed-append}
 use Rattle.farm_rounds.specs.declared.call.Call.{Call}
 use Rattle.farm_rounds.specs.declared.call.Group.{Group}
 use Rattle.farm_rounds.specs.Calls.{call_in}

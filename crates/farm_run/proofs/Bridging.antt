@@ -12,7 +12,7 @@ use Rattle.switchboard.specs.Stands.{IsLatest}
 use Rattle.switchboard.proofs.Steps.{part_kept}
 use Rattle.farm_rounds.specs.declared.tally.Tally.{Tally}
 use Rattle.call_number.specs.CallNumber.{IsCallNumber}
-use Rattle.farm_output.specs.Run.{Run}
+use Rattle.run_spec.specs.Run.{Run}
 use Rattle.farm_run.specs.declared.notes.Opening.{Opening}
 use Rattle.farm_run.specs.declared.notes.BridgeNote.{BridgeNote}
 use Rattle.farm_run.specs.Journal.{JournalMemory, no_opening, opening_of, no_note, bridged_at, with_bridge}

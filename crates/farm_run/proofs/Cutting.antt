@@ -10,7 +10,7 @@ use Rattle.trau_orders.specs.declared.order.Order.{Order}
 use Rattle.switchboard.specs.Ends.{start_of}
 use Rattle.switchboard.specs.State.{State}
 use Rattle.farm_rounds.specs.declared.call.Group.{Group}
-use Rattle.farm_output.specs.Run.{Run, done_in, end_in}
+use Rattle.run_spec.specs.Run.{Run, done_in, end_in}
 use Rattle.farm_run.specs.Runs.{TellsFailed, KeepsSides, ReadsOn, IsRunOver, is_listed}
 use Rattle.farm_run.specs.Standing.{standing}
 use Rattle.farm_run.specs.Fronts.{LeavesFronts, IsCutShort}

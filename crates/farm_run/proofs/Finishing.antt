@@ -18,13 +18,13 @@ use Rattle.switchboard.specs.Ends.{start_of, span_of, spans_of}
 use Rattle.farm_report.specs.declared.report.CallLine.{CallLine}
 use Rattle.farm_report.specs.declared.report.SpanLine.{SpanLine}
 use Rattle.farm_rounds.specs.declared.tally.Tally.{Tally}
-use Rattle.farm_output.specs.Run.{Run, given_in, whole_in, done_in}
-use Rattle.farm_output.specs.Facts as defined
-use Rattle.farm_output.specs.Facts.{sent_by}
-use Rattle.farm_output.specs.Now.{IsSoFar}
-use Rattle.farm_output.proofs.SoFar.{standing_now}
-use Rattle.farm_output.proofs.Standing.{IsSoundBridge}
-use Rattle.farm_output.proofs.Lists.{any_map}
+use Rattle.run_spec.specs.Run.{Run, given_in, whole_in, done_in}
+use Rattle.run_spec.specs.Facts as defined
+use Rattle.run_spec.specs.Facts.{sent_by}
+use Rattle.run_spec.specs.Now.{IsSoFar}
+use Rattle.run_spec.proofs.SoFar.{standing_now}
+use Rattle.run_spec.proofs.Standing.{IsSoundBridge}
+use Rattle.run_spec.proofs.Lists.{any_map}
 use Rattle.farm_run.specs.declared.notes.BridgeNote.{BridgeNote}
 use Rattle.farm_run.specs.Journal.{JournalMemory, opening_of}
 use Rattle.farm_run.specs.Facts.{span_line, span_lines, call_line, settled_each}

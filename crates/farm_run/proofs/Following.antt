@@ -23,14 +23,14 @@ use Rattle.farm_rounds.specs.Histories.{CallHistory, CallStands, GroupsStand, se
 use Rattle.farm_rounds.specs.Calls.{call_in, partner_in}
 use Rattle.call_leg.specs.Periods.{CallPeriod}
 use Rattle.call_leg.specs.Settings.{Settings, new_settings, with_level, with_mode, with_bridge, without_bridge}
-use Rattle.farm_output.specs.Run.{Run, whole_in, periods_to, law_in}
-use Rattle.farm_output.specs.Now.{IsSoFar, settings_now, changed_by}
-use Rattle.farm_output.proofs.Standing.{open_facts, closed_kept, gone_is, gone_kept, opened_cases}
-use Rattle.farm_output.proofs.Settling.{start_is}
-use Rattle.farm_output.proofs.Showing.{opens}
-use Rattle.farm_output.proofs.SoFar.{so_far_more}
-use Rattle.farm_output.proofs.Acting.{settings_ordered}
-use Rattle.farm_output.proofs.Going.{none_waits, law_run}
+use Rattle.run_spec.specs.Run.{Run, whole_in, periods_to, law_in}
+use Rattle.run_spec.specs.Now.{IsSoFar, settings_now, changed_by}
+use Rattle.run_spec.proofs.Standing.{open_facts, closed_kept, gone_is, gone_kept, opened_cases}
+use Rattle.run_spec.proofs.Settling.{start_is}
+use Rattle.run_spec.proofs.Showing.{opens}
+use Rattle.run_spec.proofs.SoFar.{so_far_more}
+use Rattle.run_spec.proofs.Acting.{settings_ordered}
+use Rattle.run_spec.proofs.Going.{none_waits, law_run}
 use Rattle.farm_run.specs.Match.{past_if, histories_at, Follows}
 use Rattle.farm_run.proofs.Matching.{cases_eq, open_same}
 

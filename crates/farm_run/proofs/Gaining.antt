@@ -17,8 +17,8 @@ use Rattle.call_leg.proofs.LineLaws.{length-out_of, length-down_now}
 use Rattle.trau_io.specs.Lines.{LineState}
 use Rattle.round_lines.specs.declared.transfer.Outlet.{Outlet}
 use Rattle.round_lines.specs.Transfer.{Gives, has_failed}
-use Rattle.farm_output.specs.Run.{Run, periods_to, who_in}
-use Rattle.farm_output.specs.Lines.{out_line, down_octets}
+use Rattle.run_spec.specs.Run.{Run, periods_to, who_in}
+use Rattle.run_spec.specs.Lines.{out_line, down_octets}
 use Rattle.farm_run.specs.Runs.{IsWritten}
 use Rattle.farm_run.specs.Fronts.{HasFront}
 

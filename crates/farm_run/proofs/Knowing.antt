@@ -5,8 +5,8 @@ use Rattle.switchboard.specs.Calls.{Done, is_open, gone_at}
 use Rattle.switchboard.specs.Ends.{ends_at}
 use Rattle.switchboard.specs.State.{State, EndBefore}
 use Rattle.farm_rounds.specs.declared.tally.Tally.{Tally}
-use Rattle.farm_output.specs.Run.{Run, given_in, whole_in, done_in}
-use Rattle.farm_output.proofs.Lists.{each_weaker}
+use Rattle.run_spec.specs.Run.{Run, given_in, whole_in, done_in}
+use Rattle.run_spec.proofs.Lists.{each_weaker}
 use Rattle.farm_run.specs.Journal.{JournalMemory, new_journal}
 use Rattle.farm_run.proofs.RoundTaken.{IsRound}
 use Rattle.farm_run.specs.Clock.{EndsRound}

@@ -22,13 +22,13 @@ use Rattle.farm_rounds.specs.declared.tally.Tally.{Tally}
 use Rattle.farm_rounds.specs.Memory.{tally_in}
 use Rattle.farm_rounds.specs.Numbers.{IsRising, is_among}
 use Rattle.farm_rounds.specs.Histories.{CallHistory, GroupsStand, kept_of}
-use Rattle.farm_output.specs.Run.{Run, given_in, whole_in, done_in, periods_to, law_in}
-use Rattle.farm_output.specs.Facts.{report_of}
-use Rattle.farm_output.specs.Now.{IsSoFar, settings_now}
-use Rattle.farm_output.proofs.Lists.{each_map, each_weaker}
-use Rattle.farm_output.proofs.SoFar.{standing_now}
-use Rattle.farm_output.proofs.Going.{start_run}
-use Rattle.farm_output.proofs.Ending.{end_limit, all_done, report_end}
+use Rattle.run_spec.specs.Run.{Run, given_in, whole_in, done_in, periods_to, law_in}
+use Rattle.run_spec.specs.Facts.{report_of}
+use Rattle.run_spec.specs.Now.{IsSoFar, settings_now}
+use Rattle.run_spec.proofs.Lists.{each_map, each_weaker}
+use Rattle.run_spec.proofs.SoFar.{standing_now}
+use Rattle.run_spec.proofs.Going.{start_run}
+use Rattle.run_spec.proofs.Ending.{end_limit, all_done, report_end}
 use Rattle.farm_run.specs.Match.{past_if, histories_at}
 use Rattle.farm_run.specs.Journal.{JournalMemory, with_ends}
 use Rattle.farm_run.specs.Facts.{span_lines, kept_in, call_line, settled_each}

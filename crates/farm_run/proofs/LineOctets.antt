@@ -12,8 +12,8 @@ use Rattle.call_leg.specs.Out.{out_of}
 use Rattle.call_leg.specs.Down.{down_now, down_line}
 use Rattle.call_leg.proofs.LineLaws.{length-down_now}
 use Rattle.call_pair.specs.History.{outs_of, downs_of}
-use Rattle.farm_output.specs.Run.{Run, periods_to, who_in}
-use Rattle.farm_output.specs.Lines.{out_line, down_octets}
+use Rattle.run_spec.specs.Run.{Run, periods_to, who_in}
+use Rattle.run_spec.specs.Lines.{out_line, down_octets}
 
 -- ---- the octets of bits with others behind them
 

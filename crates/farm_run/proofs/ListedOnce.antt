@@ -15,7 +15,7 @@ use Rattle.trau_io.specs.Places.{place_of}
 use Rattle.round_lines.specs.Places.{PlaceMemory, fails_in, name_of, name_where_failed, failed_in_round}
 use Rattle.round_lines.specs.Seats.{SeatMemory}
 use Rattle.round_lines.specs.Rounds.{Rising, call_at}
-use Rattle.farm_output.proofs.Lists.{each_append}
+use Rattle.run_spec.proofs.Lists.{each_append}
 use Rattle.farm_rounds.specs.Working.{GainsFailed}
 use Rattle.farm_run.proofs.Counts.{Name, names}
 use Rattle.farm_run.proofs.Listed.{one_line, same_test}

@@ -27,15 +27,15 @@ use Rattle.farm_rounds.specs.Memory.{tally_in}
 use Rattle.farm_rounds.specs.Histories.{CallHistory, kept_of, tally_of, tallies_after}
 use Rattle.trau_alaw.specs.declared.Law.{Law}
 use Rattle.call_leg.specs.Places.{sent_now}
-use Rattle.farm_output.specs.Run.{Run, whole_in, done_in, periods_to, law_in}
-use Rattle.farm_output.specs.Facts.{sent_by}
-use Rattle.farm_output.specs.Now.{IsSoFar, settings_now}
-use Rattle.farm_output.proofs.SoFar.{standing_now}
-use Rattle.farm_output.proofs.Settling.{start_is}
-use Rattle.farm_output.proofs.Standing.{Standing, IsSoundBridge, open_facts, opened_kept, opened_cases}
-use Rattle.farm_output.proofs.Showing.{opens}
-use Rattle.farm_output.proofs.Ending.{end_closed}
-use Rattle.farm_output.proofs.Sent.{sent_at_bridge}
+use Rattle.run_spec.specs.Run.{Run, whole_in, done_in, periods_to, law_in}
+use Rattle.run_spec.specs.Facts.{sent_by}
+use Rattle.run_spec.specs.Now.{IsSoFar, settings_now}
+use Rattle.run_spec.proofs.SoFar.{standing_now}
+use Rattle.run_spec.proofs.Settling.{start_is}
+use Rattle.run_spec.proofs.Standing.{Standing, IsSoundBridge, open_facts, opened_kept, opened_cases}
+use Rattle.run_spec.proofs.Showing.{opens}
+use Rattle.run_spec.proofs.Ending.{end_closed}
+use Rattle.run_spec.proofs.Sent.{sent_at_bridge}
 use Rattle.farm_run.specs.Match.{past_if, histories_at, Follows}
 use Rattle.farm_run.specs.Journal.{JournalMemory, opening_of, with_opening, with_end, with_ends, with_bridge, settled, noted_by}
 use Rattle.farm_run.specs.Facts.{kept_in}

@@ -22,14 +22,14 @@ use Rattle.round_lines.specs.Rounds.{seat_end}
 use Rattle.farm_rounds.specs.declared.tally.Tally.{Tally}
 use Rattle.farm_rounds.specs.Memory.{tally_in}
 use Rattle.farm_rounds.specs.Histories.{tally_of}
-use Rattle.farm_output.specs.Run.{Run, given_in, whole_in, done_in, periods_to}
-use Rattle.farm_output.specs.Now.{IsSoFar, settings_now}
-use Rattle.farm_output.proofs.Lists.{each_weaker}
-use Rattle.farm_output.proofs.SoFar.{so_far_later}
-use Rattle.farm_output.proofs.Settling.{start_is}
-use Rattle.farm_output.proofs.Standing.{open_facts}
-use Rattle.farm_output.proofs.Going.{start_run}
-use Rattle.farm_output.proofs.Sent.{sent_at_end}
+use Rattle.run_spec.specs.Run.{Run, given_in, whole_in, done_in, periods_to}
+use Rattle.run_spec.specs.Now.{IsSoFar, settings_now}
+use Rattle.run_spec.proofs.Lists.{each_weaker}
+use Rattle.run_spec.proofs.SoFar.{so_far_later}
+use Rattle.run_spec.proofs.Settling.{start_is}
+use Rattle.run_spec.proofs.Standing.{open_facts}
+use Rattle.run_spec.proofs.Going.{start_run}
+use Rattle.run_spec.proofs.Sent.{sent_at_end}
 use Rattle.farm_run.specs.declared.notes.Opening.{Opening}
 use Rattle.farm_run.specs.Journal.{JournalMemory, no_opening, opening_of, new_journal, with_ends}
 use Rattle.farm_run.specs.Going.{places_in, ends_within, told_after, is_told}

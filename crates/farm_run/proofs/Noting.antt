@@ -14,8 +14,8 @@ use Rattle.switchboard.specs.Stands.{IsLatest}
 use Rattle.switchboard.proofs.Appending.{after}
 use Rattle.farm_rounds.specs.declared.tally.Tally.{Tally}
 use Rattle.call_number.specs.CallNumber.{IsCallNumber}
-use Rattle.farm_output.specs.Run.{Run}
-use Rattle.farm_output.proofs.Lists.{each_append, each_weaker}
+use Rattle.run_spec.specs.Run.{Run}
+use Rattle.run_spec.proofs.Lists.{each_append, each_weaker}
 use Rattle.farm_run.specs.declared.notes.Opening.{Opening}
 use Rattle.farm_run.specs.Journal.{JournalMemory, no_opening, opening_of, with_opening, with_ends}
 use Rattle.farm_run.specs.Going.{is_told}

@@ -14,11 +14,11 @@ use Rattle.call_leg.specs.Settings.{without_bridge}
 use Rattle.call_pair.specs.Memory.{IoMemory}
 use Rattle.call_pair.specs.Places.{up_at}
 use Rattle.call_pair.specs.History.{settings_at, period_at, handed_at, bridged_periods, settings_past}
-use Rattle.farm_output.specs.Run.{Run, whole_in, up_in, ups_to, item_of, periods_to}
-use Rattle.farm_output.specs.Now.{handed_now, settings_now}
-use Rattle.farm_output.proofs.SoFar.{standing_now}
-use Rattle.farm_output.proofs.Bridging.{bridge_each, joins_other}
-use Rattle.farm_output.proofs.Going.{ups_periods, item_ups}
+use Rattle.run_spec.specs.Run.{Run, whole_in, up_in, ups_to, item_of, periods_to}
+use Rattle.run_spec.specs.Now.{handed_now, settings_now}
+use Rattle.run_spec.proofs.SoFar.{standing_now}
+use Rattle.run_spec.proofs.Bridging.{bridge_each, joins_other}
+use Rattle.run_spec.proofs.Going.{ups_periods, item_ups}
 use Rattle.farm_run.specs.Going.{places_in}
 use Rattle.farm_run.proofs.RoundTaken.{IsRound, IsFed, start_at}
 use Rattle.farm_run.proofs.Rounds.{IsOpenAt, open_at, bridge_open, bridge_at_place, bridge_after_round, bridge_kept, settings_kept, but_for_bridge, place_more}

@@ -14,11 +14,11 @@ use Rattle.round_lines.specs.Places as places
 use Rattle.round_lines.specs.Places.{PlaceMemory, end_in_round}
 use Rattle.round_lines.specs.Shifts.{with_periods}
 use Rattle.round_lines.proofs.Shifting.{lack_shifts}
-use Rattle.farm_output.specs.Run.{Run, given_in, whole_in, done_in, periods_to, periods_in}
-use Rattle.farm_output.proofs.Settling.{at_of}
-use Rattle.farm_output.proofs.SoFar.{standing_now}
-use Rattle.farm_output.proofs.Ending.{end_lacks, end_limit}
-use Rattle.farm_output.proofs.Going.{start_run}
+use Rattle.run_spec.specs.Run.{Run, given_in, whole_in, done_in, periods_to, periods_in}
+use Rattle.run_spec.proofs.Settling.{at_of}
+use Rattle.run_spec.proofs.SoFar.{standing_now}
+use Rattle.run_spec.proofs.Ending.{end_lacks, end_limit}
+use Rattle.run_spec.proofs.Going.{start_run}
 use Rattle.farm_run.specs.Going.{places_in, ends_within}
 use Rattle.farm_run.proofs.RoundTaken.{IsRound, IsTaken}
 use Rattle.farm_run.proofs.Rounds.{IsOpenAt, open_at, no_order}

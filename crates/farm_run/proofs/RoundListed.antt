@@ -28,7 +28,7 @@ use Rattle.farm_rounds.specs.Memory.{FarmMemory}
 use Rattle.farm_rounds.specs.Working.{goes_on_call}
 use Rattle.farm_rounds.specs.RoundHistories.{seat_of}
 use Rattle.farm_rounds.proofs.Working.{goes_on_at}
-use Rattle.farm_output.specs.Run.{Run}
+use Rattle.run_spec.specs.Run.{Run}
 use Rattle.farm_run.specs.Going.{told_after, is_told}
 use Rattle.farm_run.specs.Match.{AtClock}
 use Rattle.farm_run.specs.Runs.{is_listed, ReadsOn}

@@ -21,8 +21,8 @@ use Rattle.farm_rounds.specs.Memory.{FarmMemory}
 use Rattle.farm_rounds.specs.Histories.{CallHistory}
 use Rattle.farm_rounds.specs.Rounds.{octets_of}
 use Rattle.farm_rounds.specs.RoundHistories.{seat_of, history_with, history_alone, history_beside, history_bridged, worked_histories}
-use Rattle.farm_output.specs.Run.{Run, whole_in, periods_to, law_in}
-use Rattle.farm_output.specs.Now.{settings_now}
+use Rattle.run_spec.specs.Run.{Run, whole_in, periods_to, law_in}
+use Rattle.run_spec.specs.Now.{settings_now}
 use Rattle.farm_run.specs.Going.{places_in}
 use Rattle.farm_run.proofs.RoundTaken.{IsRound, IsFed}
 use Rattle.farm_run.specs.Match.{Matches, past_if, histories_at}

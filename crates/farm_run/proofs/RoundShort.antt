@@ -13,8 +13,8 @@ use Rattle.switchboard.specs.Ends.{start_of}
 use Rattle.switchboard.specs.State.{State}
 use Rattle.switchboard.specs.Open.{open_now}
 use Rattle.farm_rounds.specs.Memory.{FarmMemory}
-use Rattle.farm_output.specs.Run.{Run, whole_in, start_in, end_in}
-use Rattle.farm_output.proofs.SoFar.{standing_now}
+use Rattle.run_spec.specs.Run.{Run, whole_in, start_in, end_in}
+use Rattle.run_spec.proofs.SoFar.{standing_now}
 use Rattle.farm_run.specs.Going.{places_in, told_after, is_told}
 use Rattle.farm_run.specs.Runs.{FailedIn, FailedShort, is_listed}
 use Rattle.farm_run.specs.Match.{AtClock, Matches}

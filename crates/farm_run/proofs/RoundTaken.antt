@@ -12,8 +12,8 @@ use Rattle.call_pair.specs.Places.{up_at, pcm_at}
 use Rattle.call_pair.specs.History.{Start}
 use Rattle.round_lines.specs.Places.{PlaceMemory}
 use Rattle.round_lines.specs.Seats.{SeatMemory}
-use Rattle.farm_output.specs.Run.{Run, whole_in, up_in, pcm_in, periods_to, law_in}
-use Rattle.farm_output.specs.Now.{IsSoFar, settings_now}
+use Rattle.run_spec.specs.Run.{Run, whole_in, up_in, pcm_in, periods_to, law_in}
+use Rattle.run_spec.specs.Now.{IsSoFar, settings_now}
 use Rattle.farm_run.specs.Going.{places_in}
 
 -- a round of at least one period: the run has all of them, and the next order doesn't come before its end

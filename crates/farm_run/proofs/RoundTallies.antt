@@ -16,8 +16,8 @@ use Rattle.farm_rounds.specs.Memory.{FarmMemory, tally_in}
 use Rattle.farm_rounds.specs.Histories.{CallHistory, kept_of, tally_of}
 use Rattle.farm_rounds.specs.Working.{goes_on_call}
 use Rattle.farm_rounds.specs.RoundHistories.{history_with, worked_histories}
-use Rattle.farm_output.specs.Run.{Run, whole_in, periods_to, law_in}
-use Rattle.farm_output.specs.Now.{settings_now}
+use Rattle.run_spec.specs.Run.{Run, whole_in, periods_to, law_in}
+use Rattle.run_spec.specs.Now.{settings_now}
 use Rattle.farm_run.specs.Going.{places_in, ends_within}
 use Rattle.farm_run.proofs.RoundTaken.{IsRound}
 use Rattle.farm_run.specs.Match.{Matches, past_if, histories_at}

@@ -10,8 +10,8 @@ use Rattle.switchboard.specs.Ends.{lack_of, end_of, start_of, ends_at}
 use Rattle.round_lines.specs.Seats.{SeatMemory}
 use Rattle.round_lines.specs.Places as places
 use Rattle.round_lines.specs.Rounds.{Rising, call_at, seat_end}
-use Rattle.farm_output.specs.Run.{Run, given_in, whole_in, done_in}
-use Rattle.farm_output.proofs.Settling.{at_of}
+use Rattle.run_spec.specs.Run.{Run, given_in, whole_in, done_in}
+use Rattle.run_spec.proofs.Settling.{at_of}
 use Rattle.farm_run.specs.Going.{places_in, ends_within, is_told}
 use Rattle.farm_run.proofs.RoundTaken.{IsRound, IsSeat, has_seat}
 use Rattle.farm_run.specs.Ending.{AreApart}

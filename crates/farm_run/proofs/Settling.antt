@@ -11,8 +11,8 @@ use Rattle.switchboard.specs.Bridges.{bridges, joins}
 use Rattle.switchboard.specs.Stands.{IsLatest}
 use Rattle.switchboard.proofs.Steps.{part_kept}
 use Rattle.farm_rounds.specs.declared.tally.Tally.{Tally}
-use Rattle.farm_output.specs.Run.{Run}
-use Rattle.farm_output.specs.Facts.{sent_by}
+use Rattle.run_spec.specs.Run.{Run}
+use Rattle.run_spec.specs.Facts.{sent_by}
 use Rattle.farm_run.specs.declared.notes.Opening.{Opening}
 use Rattle.farm_run.specs.declared.notes.BridgeNote.{BridgeNote}
 use Rattle.farm_run.specs.Journal.{JournalMemory, opening_of, no_note, with_sent, sent_at, settled}

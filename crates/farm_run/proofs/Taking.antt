@@ -13,7 +13,7 @@ use Rattle.round_lines.specs.Places as places
 use Rattle.round_lines.specs.Places.{PlaceMemory, fails_in}
 use Rattle.round_lines.specs.Rounds.{IsIncoming}
 use Rattle.round_lines.specs.Seats.{SeatMemory, Fills}
-use Rattle.farm_output.specs.Run.{Run}
+use Rattle.run_spec.specs.Run.{Run}
 use Rattle.farm_run.specs.Standing.{Standing, GoesOn, IsToCome, Meets, Gave, never_given}
 use Rattle.farm_run.proofs.Giving.{gave}
 use Rattle.farm_run.proofs.Meeting.{meets}

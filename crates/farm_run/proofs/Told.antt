@@ -11,11 +11,11 @@ use Rattle.switchboard.specs.Calls.{Done, opened_at, closed_at, is_open, gone_at
 use Rattle.switchboard.specs.State.{State, EndBefore, told_in, gone_in, told_more, last_stamp, orders_of}
 use Rattle.switchboard.specs.Runs.{TellsEnds}
 use Rattle.switchboard.proofs.Laws.{before_more}
-use Rattle.farm_output.specs.Run.{Run, whole_in}
-use Rattle.farm_output.specs.Now.{IsSoFar}
-use Rattle.farm_output.proofs.Settling.{start_is}
-use Rattle.farm_output.proofs.Standing.{open_facts, open_from, gone_is}
-use Rattle.farm_output.proofs.SoFar.{so_far_later}
+use Rattle.run_spec.specs.Run.{Run, whole_in}
+use Rattle.run_spec.specs.Now.{IsSoFar}
+use Rattle.run_spec.proofs.Settling.{start_is}
+use Rattle.run_spec.proofs.Standing.{open_facts, open_from, gone_is}
+use Rattle.run_spec.proofs.SoFar.{so_far_later}
 use Rattle.farm_run.specs.Going.{places_in, ends_within, told_after, is_told}
 use Rattle.farm_run.proofs.RoundTaken.{IsRound}
 

@@ -19,9 +19,9 @@ use Rattle.call_pair.specs.History.{outs_of, downs_of, io_after, HasWorked, sett
 use Rattle.call_pair.specs.Finished.{HasWorkedAlone, HasWorkedBridged}
 use Rattle.call_leg.proofs.LineLaws.{length-out_of}
 use Rattle.call_pair.proofs.Lengths.{length-down_octets}
-use Rattle.farm_output.specs.Run.{Run, whole_in, periods_to, who_in}
-use Rattle.farm_output.specs.Now.{settings_now}
-use Rattle.farm_output.specs.Lines.{out_line, down_octets}
+use Rattle.run_spec.specs.Run.{Run, whole_in, periods_to, who_in}
+use Rattle.run_spec.specs.Now.{settings_now}
+use Rattle.run_spec.specs.Lines.{out_line, down_octets}
 use Rattle.farm_run.proofs.RoundTaken.{IsRound, IsFed, IsTaken, start_at}
 use Rattle.farm_run.proofs.Rounds.{alone_worked, alone_settings}
 use Rattle.farm_run.proofs.Partners.{bridged_worked, bridged_settings}

@@ -9,9 +9,9 @@ use Rattle.switchboard.specs.Calls.{Done}
 use Rattle.switchboard.specs.Ends.{start_of, end_of}
 use Rattle.switchboard.specs.State.{State}
 use Rattle.call_leg.specs.Settings.{Settings}
-use Rattle.farm_output.specs.Run.{Run, given_in, done_in, start_in, end_in, periods_to, who_in}
-use Rattle.farm_output.specs.Now.{settings_now}
-use Rattle.farm_output.specs.Lines.{out_line, down_octets}
+use Rattle.run_spec.specs.Run.{Run, given_in, done_in, start_in, end_in, periods_to, who_in}
+use Rattle.run_spec.specs.Now.{settings_now}
+use Rattle.run_spec.specs.Lines.{out_line, down_octets}
 use Rattle.farm_rounds.specs.declared.call.Group.{Group}
 use Rattle.farm_rounds.specs.declared.tally.Tally.{Tally}
 use Rattle.farm_rounds.specs.Memory.{tally_in}

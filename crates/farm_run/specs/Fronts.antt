@@ -7,8 +7,8 @@ use Rattle.trau_io.specs.declared.line.Side.TheVariants.{Down, Out}
 use Rattle.trau_io.specs.Lines.{LineState}
 use Rattle.trau_orders.specs.declared.order.Order.{Order}
 use Rattle.trau_orders.specs.Lists.{AreOrders}
-use Rattle.farm_output.specs.Run.{Run}
-use Rattle.farm_output.specs.Lines.{out_of_call, down_of_call}
+use Rattle.run_spec.specs.Run.{Run}
+use Rattle.run_spec.specs.Lines.{out_of_call, down_of_call}
 use Rattle.farm_run.specs.Runs.{AreFailures, IsOpened, IsRunOver, AreTold, KeepsSides, ReadsOn}
 
 -- a line has gained a front of these octets

@@ -6,7 +6,7 @@ use Rattle.trau_io.specs.declared.ends.CallEnd.{CallEnd}
 use Rattle.switchboard.specs.Calls.{Done, is_open, gone_at}
 use Rattle.switchboard.specs.Ends.{start_of}
 use Rattle.switchboard.specs.State.{State, told_more}
-use Rattle.farm_output.specs.Run.{Run, whole_in}
+use Rattle.run_spec.specs.Run.{Run, whole_in}
 
 -- how many of the round's periods a call's lines give
 abbrev pub places_in : Run → List Done → ℕ → ℕ → ℕ → ℕ

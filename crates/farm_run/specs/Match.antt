@@ -11,8 +11,8 @@ use Rattle.switchboard.specs.State.{State, EndBefore, first_stamp, last_stamp, o
 use Rattle.switchboard.specs.Runs.{TellsEnds}
 use Rattle.switchboard.specs.Ends.{start_of}
 use Rattle.switchboard.specs.Open.{open_now, partner_now}
-use Rattle.farm_output.specs.Run.{Run, whole_in, periods_to, law_in}
-use Rattle.farm_output.specs.Now.{IsSoFar, settings_now}
+use Rattle.run_spec.specs.Run.{Run, whole_in, periods_to, law_in}
+use Rattle.run_spec.specs.Now.{IsSoFar, settings_now}
 use Rattle.farm_rounds.specs.declared.call.Group.{Group}
 use Rattle.call_number.specs.CallNumber.{IsCallNumber}
 use Rattle.farm_rounds.specs.Calls.{call_in, partner_in}

@@ -18,8 +18,8 @@ use Rattle.farm_rounds.specs.declared.call.Group.{Group}
 use Rattle.farm_rounds.specs.declared.tally.Tally.{Tally}
 use Rattle.call_number.specs.CallNumber.{IsCallNumber}
 use Rattle.farm_rounds.specs.Memory.{tally_in}
-use Rattle.farm_output.specs.Run.{Run, given_in, whole_in, done_in, spans_in, periods_in}
-use Rattle.farm_output.specs.Facts.{sent_by}
+use Rattle.run_spec.specs.Run.{Run, given_in, whole_in, done_in, spans_in, periods_in}
+use Rattle.run_spec.specs.Facts.{sent_by}
 use Rattle.farm_run.specs.declared.notes.Opening.{Opening}
 use Rattle.farm_run.specs.declared.notes.BridgeNote.{BridgeNote}
 use Rattle.farm_run.specs.Journal.{JournalMemory, opening_of, no_note}

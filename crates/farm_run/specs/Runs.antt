@@ -18,9 +18,9 @@ use Rattle.switchboard.specs.Calls.{opened_at}
 use Rattle.switchboard.specs.Ends.{start_of, end_of}
 use Rattle.farm_report.specs.View.{ReportView}
 use Rattle.round_lines.specs.Rounds.{IsIncoming, IsOutgoing}
-use Rattle.farm_output.specs.Run.{Run, given_in, done_in, start_in, end_in, periods_in}
-use Rattle.farm_output.specs.Lines.{out_of_call, down_of_call}
-use Rattle.farm_output.specs.Facts.{report_of}
+use Rattle.run_spec.specs.Run.{Run, given_in, done_in, start_in, end_in, periods_in}
+use Rattle.run_spec.specs.Lines.{out_of_call, down_of_call}
+use Rattle.run_spec.specs.Facts.{report_of}
 use Rattle.farm_run.specs.declared.pace.Pace.{Pace}
 
 -- ---- the lines that failed

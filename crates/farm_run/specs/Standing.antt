@@ -16,7 +16,7 @@ use Rattle.switchboard.specs.Open.{opened_now}
 use Rattle.farm_rounds.specs.declared.call.Call.{Call}
 use Rattle.farm_rounds.specs.declared.call.Group.{Group}
 use Rattle.farm_rounds.specs.Calls.{call_in}
-use Rattle.farm_output.specs.Run.{Run}
+use Rattle.run_spec.specs.Run.{Run}
 use Rattle.farm_run.specs.Runs.{is_listed, ReadsOn}
 
 -- ---- what is known at a clock

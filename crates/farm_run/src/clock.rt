@@ -6,7 +6,7 @@ ghost use Rattle.trau_io.specs.Lines.{LineState};
 ghost use Rattle.switchboard.specs.State.{State, first_stamp, last_stamp, orders_of};
 ghost use Rattle.farm_rounds.specs.Calls.{call_in};
 ghost use Rattle.farm_rounds.specs.Numbers.{is_among};
-ghost use Rattle.farm_output.specs.Run.{Run};
+ghost use Rattle.run_spec.specs.Run.{Run};
 ghost use Rattle.farm_run.specs.Match.{AtClock};
 ghost use Rattle.farm_run.specs.Pace.{IsPace};
 ghost use Rattle.farm_run.specs.Journal.{new_journal};

@@ -2,8 +2,8 @@
 
 ghost use Rattle.std.specs.Prelude.{◌≡◌, ◌≤◌, ℕ, length, IfOk};
 ghost use Rattle.switchboard.specs.State.{last_stamp};
-ghost use Rattle.farm_output.specs.Run.{Run};
-ghost use Rattle.farm_output.specs.Facts.{report_of};
+ghost use Rattle.run_spec.specs.Run.{Run};
+ghost use Rattle.run_spec.specs.Facts.{report_of};
 ghost use Rattle.farm_run.specs.Match.{Matches};
 ghost use Rattle.farm_run.specs.Ending.{AreShut};
 ghost use Rattle.farm_run.specs.Noted.{IsAtEnd};

@@ -5,7 +5,7 @@ ghost use Rattle.trau_io.specs.declared.line.Side.{Side};
 ghost use Rattle.trau_io.specs.Lines.{LineState};
 ghost use Rattle.trau_orders.specs.declared.order.Order.{Order};
 ghost use Rattle.trau_orders.specs.Lists.{AreOrders};
-ghost use Rattle.farm_output.specs.Run.{Run};
+ghost use Rattle.run_spec.specs.Run.{Run};
 ghost use Rattle.farm_run.specs.Runs.{AreTold, IsRunOver, ReadsOn};
 
 /// Whichever lines are said to have failed, there is a run of orders that are in range, over lines of which all calls' told

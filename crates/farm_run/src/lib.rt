@@ -11,7 +11,7 @@
 //! Definitions: `specs/Runs.antt` (what a run leaves on the lines and reports, whatever fails), `specs/Fronts.antt` (the same
 //! where want of memory cut it short), `specs/Standing.antt` (how a run goes on from clock to clock, and what a line gives in
 //! a round), `specs/Clock.antt` (what holds at its clock), `specs/Match.antt` (what ties board and farm to each other, and to
-//! what a run gives by its definition in `farm_output`), `specs/Going.antt` (how far the calls come in a round),
+//! what a run gives by its definition in `run_spec`), `specs/Going.antt` (how far the calls come in a round),
 //! `specs/Ending.antt` (ends as they are told), `specs/Journal.antt` (what is noted), `specs/Noted.antt` (when that is right, so
 //! that at the run's end the report is the definition's), `specs/Facts.antt` (what the report says of it), `specs/Pace.antt`.
 //! How orders, rounds and ends follow each other is this project's profile.

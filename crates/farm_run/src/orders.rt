@@ -3,7 +3,7 @@
 ghost use Rattle.std.specs.Prelude.{◌≡◌, ◌<◌, ◌≤◌, ◌+◌, ℕ, true, false, Option, length, IfOk, IfSome};
 ghost use Rattle.switchboard.specs.State.{first_stamp, orders_of};
 ghost use Rattle.farm_rounds.specs.Histories.{CallHistory, GroupsStand};
-ghost use Rattle.farm_output.specs.Run.{Run};
+ghost use Rattle.run_spec.specs.Run.{Run};
 ghost use Rattle.farm_run.specs.Match.{AreNumbers, AtClock, Follows};
 ghost use Rattle.farm_run.specs.Ending.{AreShut};
 ghost use Rattle.farm_run.specs.Journal.{ClosesOnce, ends_noted, noted_by};

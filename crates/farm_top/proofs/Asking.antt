@@ -6,15 +6,15 @@ use Rattle.trau_io.specs.Lines.{LineState}
 use Rattle.trau_io.specs.Desks.{DeskState}
 use Rattle.farm_tools.specs.declared.end.Tool.{Tool}
 use Rattle.farm_tools.specs.declared.end.Tool.TheVariants as tool
-use Rattle.farm_words.specs.declared.asked.Asked.{Asked}
-use Rattle.farm_words.specs.declared.asked.Asked.TheVariants.{Run, Drill, Live, Relay, Frames, Encode, Decode, Follow, Split, Merge}
-use Rattle.farm_words.specs.declared.asked.Settings.{Settings}
-use Rattle.farm_words.specs.declared.live.LiveSettings.{LiveSettings}
-use Rattle.farm_words.specs.Asking.{Asks}
-use Rattle.farm_words.specs.Options.{BeginWith, GivesSettings, IsValueOf}
-use Rattle.farm_words.specs.Words.{Names}
-use Rattle.farm_words.specs.Slots.{NamesSlot}
-use Rattle.farm_words.proofs.Asking.{one_asked}
+use Rattle.command_words.specs.declared.asked.Asked.{Asked}
+use Rattle.command_words.specs.declared.asked.Asked.TheVariants.{Run, Drill, Live, Relay, Frames, Encode, Decode, Follow, Split, Merge}
+use Rattle.command_words.specs.declared.asked.Settings.{Settings}
+use Rattle.command_words.specs.declared.live.LiveSettings.{LiveSettings}
+use Rattle.command_words.specs.Asking.{Asks}
+use Rattle.command_words.specs.Options.{BeginWith, GivesSettings, IsValueOf}
+use Rattle.command_words.specs.Words.{Names}
+use Rattle.command_words.specs.Slots.{NamesSlot}
+use Rattle.command_words.proofs.Asking.{one_asked}
 use Rattle.farm_run.specs.Pace.{IsPace}
 use Rattle.farm_top.specs.Drill.{CarriesDrill}
 use Rattle.farm_top.specs.Farm.{AllStay, RunsFarm, pace_of}

@@ -5,8 +5,8 @@ use Rattle.trau_io.specs.Lines.{LineState}
 use Rattle.trau_io.specs.Desks.{DeskState}
 use Rattle.trau_orders.specs.Text.{GoodOrBad}
 use Rattle.farm_tools.specs.declared.end.Tool.TheVariants as tool
-use Rattle.farm_words.specs.declared.asked.Asked.{Asked}
-use Rattle.farm_words.specs.declared.asked.Asked.TheVariants.{Run, Drill, Live, Relay, Frames, Encode, Decode, Follow, Split, Merge}
+use Rattle.command_words.specs.declared.asked.Asked.{Asked}
+use Rattle.command_words.specs.declared.asked.Asked.TheVariants.{Run, Drill, Live, Relay, Frames, Encode, Decode, Follow, Split, Merge}
 use Rattle.farm_top.specs.Top.{CarriesAsked}
 use Rattle.farm_top.proofs.Carrying.{causes, listing_causes}
 use Rattle.farm_top.proofs.Drilling.{drill_ends}

@@ -14,7 +14,7 @@ use Rattle.farm_orders.specs.Reading.{ReadsOrders, AnswersTold}
 use Rattle.farm_report.specs.View.{ReportView}
 use Rattle.farm_run.specs.Runs.{Runs, TellsFailed}
 use Rattle.farm_run.proofs.Listed.{listed_head}
-use Rattle.farm_words.specs.declared.asked.Settings.{Settings}
+use Rattle.command_words.specs.declared.asked.Settings.{Settings}
 use Rattle.farm_top.specs.Farm.{AllStay, CarriesRun, FollowsReading, LacksMemory, TellsReport, pace_of, status_of_run}
 use Rattle.farm_top.specs.FarmCauses.{ReadsBadLine, ReadsTooLong, RunCauses, SomeRose}
 

@@ -13,9 +13,9 @@ use Rattle.trau_orders.specs.Text.{text_lines, GoodOrBad, SpellsOneList}
 use Rattle.farm_orders.specs.declared.fault.OrdersFault.{OrdersFault}
 use Rattle.farm_orders.specs.declared.fault.OrdersFault.TheVariants.{Unread, TooLong, Line, Memory}
 use Rattle.farm_orders.specs.Reading.{AnswersTold, ReadsOrders}
-use Rattle.farm_output.specs.Run.{Run}
-use Rattle.farm_output.specs.Lines.{out_of_call, down_of_call}
-use Rattle.farm_output.specs.Facts.{report_of}
+use Rattle.run_spec.specs.Run.{Run}
+use Rattle.run_spec.specs.Lines.{out_of_call, down_of_call}
+use Rattle.run_spec.specs.Facts.{report_of}
 use Rattle.farm_report.specs.Lines.{report_text}
 use Rattle.farm_report.specs.View.{ReportView}
 use Rattle.farm_run.specs.declared.pace.Pace.{Pace}
@@ -24,7 +24,7 @@ use Rattle.farm_run.specs.Fronts.{HasFront, IsCutShort}
 use Rattle.farm_run.proofs.Clocks.{none_listed}
 use Rattle.farm_run.proofs.Cutting.{cut_first}
 use Rattle.farm_tools.specs.Causes.{IsCalm}
-use Rattle.farm_words.specs.declared.asked.Settings.{Settings}
+use Rattle.command_words.specs.declared.asked.Settings.{Settings}
 use Rattle.farm_top.specs.Farm.{AllStay, CarriesRun, FollowsReading, RunsAndTells, TellsReport, pace_of, status_of_run}
 use Rattle.farm_top.specs.FarmClean.{CleanFarm, IsCalmRun, TellsOrders}
 use Rattle.farm_top.specs.FarmEnded.{GainsFront, RunEnded}

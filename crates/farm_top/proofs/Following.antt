@@ -1,8 +1,8 @@
 -- Words that ask for the base station's end.
 use Rattle.std.proofs.Common.{◌≡◌, inl, inr, ℕ, List, [], length, get_or, sym, ◌∙◌, ap, arith}
 use Rattle.std.specs.Prelude.{codes}
-use Rattle.farm_words.specs.Options.{BeginWith}
-use Rattle.farm_words.specs.Follow.{NamesFollow}
+use Rattle.command_words.specs.Options.{BeginWith}
+use Rattle.command_words.specs.Follow.{NamesFollow}
 use Rattle.farm_top.specs.Words.{AsksForFollow, TakeOptions}
 
 follow_word : (words : List (List ℕ)) (command : List ℕ) (c want : ℕ) → BeginWith command words → NamesFollow words c want → codes "follow" ≡ command

@@ -10,13 +10,13 @@ use Rattle.trau_orders.specs.Lists.{AreOrders}
 use Rattle.trau_orders.specs.Text.{text_lines}
 use Rattle.trau_orders.proofs.Known.{orders_known}
 use Rattle.switchboard.specs.declared.act.Span.{Span}
-use Rattle.call_output.specs.Out.{out}
-use Rattle.call_output.specs.Down.{down}
+use Rattle.call_spec.specs.Out.{out}
+use Rattle.call_spec.specs.Down.{down}
 use Rattle.farm_orders.specs.Reading.{ReadsOrders}
-use Rattle.farm_output.specs.Run.{Run}
-use Rattle.farm_output.specs.Lines.{down_of_call, out_of_call}
-use Rattle.farm_output.specs.Facts.{span_line}
-use Rattle.farm_calls.specs.Whole.{whole_call}
+use Rattle.run_spec.specs.Run.{Run}
+use Rattle.run_spec.specs.Lines.{down_of_call, out_of_call}
+use Rattle.run_spec.specs.Facts.{span_line}
+use Rattle.run_calls_spec.specs.Whole.{whole_call}
 use Rattle.farm_report.specs.View.{ReportView}
 use Rattle.farm_run.specs.declared.pace.Pace.{Pace}
 use Rattle.farm_run.specs.Runs.{IsOpened, IsWritten, Leaves, Runs, is_listed}

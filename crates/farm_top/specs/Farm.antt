@@ -10,13 +10,13 @@ use Rattle.trau_orders.specs.declared.order.Order.{Order}
 use Rattle.farm_orders.specs.declared.fault.OrdersFault.{OrdersFault}
 use Rattle.farm_orders.specs.declared.fault.OrdersFault.TheVariants.{Unread, TooLong, Line, Memory}
 use Rattle.farm_orders.specs.Reading.{ReadsOrders, AnswersTold}
-use Rattle.farm_output.specs.Run.{Run}
+use Rattle.run_spec.specs.Run.{Run}
 use Rattle.farm_report.specs.Lines.{report_text}
 use Rattle.farm_report.specs.View.{ReportView}
 use Rattle.farm_run.specs.declared.pace.Pace.{Pace}
 use Rattle.farm_run.specs.Runs.{IsRunOver, Runs, is_listed}
 use Rattle.farm_run.specs.Fronts.{IsCutShort}
-use Rattle.farm_words.specs.declared.asked.Settings.{Settings}
+use Rattle.command_words.specs.declared.asked.Settings.{Settings}
 use Rattle.farm_top.specs.Headline.{Headline}
 
 -- a text went out, or a proper front of it before the desk failed

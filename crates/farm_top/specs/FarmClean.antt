@@ -6,8 +6,8 @@ use Rattle.trau_io.specs.Lines.{LineState}
 use Rattle.trau_io.specs.Desks.{DeskState}
 use Rattle.trau_orders.specs.declared.order.Order.{Order}
 use Rattle.trau_orders.specs.Text.{text_lines, AreLines, IsWithin}
-use Rattle.farm_output.specs.Run.{Run}
-use Rattle.farm_output.specs.Facts.{report_of}
+use Rattle.run_spec.specs.Run.{Run}
+use Rattle.run_spec.specs.Facts.{report_of}
 use Rattle.farm_report.specs.Lines.{report_text}
 use Rattle.farm_run.specs.Runs.{NoneRose, Leaves, none_fails}
 use Rattle.farm_tools.specs.Causes.{IsCalm}

@@ -7,11 +7,11 @@ use Rattle.trau_io.specs.Lines.{LineState}
 use Rattle.trau_io.specs.Desks.{DeskState}
 use Rattle.trau_orders.specs.declared.order.Order.{Order}
 use Rattle.trau_orders.specs.Lists.{AreOrders}
-use Rattle.farm_output.specs.Run.{Run}
-use Rattle.farm_output.specs.Facts.{report_of}
+use Rattle.run_spec.specs.Run.{Run}
+use Rattle.run_spec.specs.Facts.{report_of}
 use Rattle.farm_report.specs.Lines.{report_text}
 use Rattle.farm_run.specs.Runs.{AreTold, FailedShort, IsRunOver, KeepsSides, Leaves, ReadsOn, TellsFailed, is_listed}
-use Rattle.farm_words.specs.declared.asked.Settings.{Settings}
+use Rattle.command_words.specs.declared.asked.Settings.{Settings}
 use Rattle.farm_top.specs.Farm.{status_of_run}
 use Rattle.farm_top.specs.Headline.{Headline}
 

@@ -5,7 +5,7 @@ use Rattle.trau_io.specs.declared.line.Side.{Side}
 use Rattle.trau_io.specs.Lines.{LineState, Rose}
 use Rattle.trau_io.specs.Desks.{DeskState}
 use Rattle.farm_tools.specs.Causes.{IsCalm}
-use Rattle.farm_words.specs.declared.live.LiveSettings.{LiveSettings}
+use Rattle.command_words.specs.declared.live.LiveSettings.{LiveSettings}
 use Rattle.live_run.specs.declared.size.LiveDrill.{LiveDrill}
 use Rattle.live_run.specs.Text.{live_text}
 use Rattle.farm_top.specs.Drill.{TellsWhole}

@@ -10,8 +10,8 @@ use Rattle.farm_tools.specs.Frames.{FramesRun}
 use Rattle.farm_tools.specs.declared.end.Tool.TheVariants as tool
 use Rattle.farm_tools.specs.Tools.{ToolRuns, status_of}
 use Rattle.farm_run.specs.Pace.{IsPace}
-use Rattle.farm_words.specs.declared.asked.Asked.{Asked}
-use Rattle.farm_words.specs.declared.asked.Asked.TheVariants.{Run, Drill, Live, Relay, Frames, Encode, Decode, Follow, Split, Merge}
+use Rattle.command_words.specs.declared.asked.Asked.{Asked}
+use Rattle.command_words.specs.declared.asked.Asked.TheVariants.{Run, Drill, Live, Relay, Frames, Encode, Decode, Follow, Split, Merge}
 use Rattle.farm_top.specs.Drill.{CarriesDrill}
 use Rattle.farm_top.specs.Follow.{FollowEnds}
 use Rattle.live_run.specs.Size.{IsLiveDrill}

@@ -2,15 +2,15 @@
 use Rattle.std.specs.Prelude.{◌⊎◌, ℕ, String, string_bytes, List, map, codes}
 use Rattle.farm_tools.specs.declared.end.Tool.{Tool}
 use Rattle.farm_tools.specs.Made.{name_of}
-use Rattle.farm_words.specs.declared.asked.Settings.{Settings}
-use Rattle.farm_words.specs.Drill.{AsksDrill}
-use Rattle.farm_words.specs.Follow.{NamesFollow}
-pub use Rattle.farm_words.specs.Options.{TakeOptions}
-use Rattle.farm_words.specs.declared.live.LiveSettings.{LiveSettings}
-use Rattle.farm_words.specs.Live.{AsksLive}
-use Rattle.farm_words.specs.Run.{AsksRun}
-use Rattle.farm_words.specs.Slots.{NamesSlot}
-use Rattle.farm_words.specs.Words.{Names}
+use Rattle.command_words.specs.declared.asked.Settings.{Settings}
+use Rattle.command_words.specs.Drill.{AsksDrill}
+use Rattle.command_words.specs.Follow.{NamesFollow}
+pub use Rattle.command_words.specs.Options.{TakeOptions}
+use Rattle.command_words.specs.declared.live.LiveSettings.{LiveSettings}
+use Rattle.command_words.specs.Live.{AsksLive}
+use Rattle.command_words.specs.Run.{AsksRun}
+use Rattle.command_words.specs.Slots.{NamesSlot}
+use Rattle.command_words.specs.Words.{Names}
 
 -- the octets of the words
 abbrev pub spelled : {Z : Type 0} → List (String Z) → List (List ℕ)

@@ -9,7 +9,7 @@ use crate::farm::{lines_have_the_headline, no_memory};
 use crate::status::{DESK_WRITE_FAULT, DONE};
 use drill_run::run_drill;
 use farm_run::Pace;
-use farm_words::Settings;
+use command_words::Settings;
 use pool_run::Gate;
 use std::alloc::Global;
 use std::sync::Wait;

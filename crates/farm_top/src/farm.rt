@@ -4,7 +4,7 @@ ghost use Rattle.std.specs.Prelude.{ℕ, Bool};
 ghost use Rattle.trau_io.specs.declared.line.Side.{Side};
 ghost use Rattle.trau_io.specs.Lines.{LineState};
 ghost use Rattle.trau_orders.specs.Lists.{AreOrders};
-ghost use Rattle.farm_output.specs.Run.{Run as TheRun};
+ghost use Rattle.run_spec.specs.Run.{Run as TheRun};
 ghost use Rattle.farm_run.specs.Pace.{IsPace};
 ghost use Rattle.farm_run.specs.Runs.{Leaves};
 ghost use Rattle.farm_top.specs.Farm.{EndsWith, LacksMemory, RefusesOrders, RunsFarm, TellsReport, pace_of};
@@ -14,13 +14,13 @@ use crate::status::{
     DESK_READ_FAULT, DESK_WRITE_FAULT, DONE, LINE_FAILED, NO_MEMORY, ORDERS_REFUSED,
     ORDERS_TOO_LONG,
 };
-use farm_calls::{
+use run_calls_spec::{
     items_are_the_partners_frames, items_go_out_in_order_and_once, lines_are_of_whole_calls,
 };
 use farm_orders::{OrdersFault, read_orders};
 use farm_report::{Report, write_report};
 use farm_run::{Pace, run};
-use farm_words::Settings;
+use command_words::Settings;
 use pool_run::Gate;
 use std::alloc::Global;
 use std::sync::Wait;

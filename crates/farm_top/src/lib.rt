@@ -1,7 +1,7 @@
 //! The top call of the transcoder: words in, octets and a text out, and a status.
 //!
 //! Above everything but the program's own crate, which hands it the lines, the desk and the words of the command line.
-//! It has the words read (`farm_words`) and the command carried out: a tool (`farm_tools`); a command on a time slot
+//! It has the words read (`command_words`) and the command carried out: a tool (`farm_tools`); a command on a time slot
 //! (`trau_submux`); the base station's end (`ccu_end`); a run, whose orders are
 //! read from the desk (`farm_orders`), run over the lines (`farm_run`) and reported (`farm_report`); a drill
 //! (`drill_run`); or a live drill (`live_run`). It answers the status.
@@ -27,5 +27,5 @@ mod slots;
 mod status;
 mod top;
 
-pub use farm_words::{Asked, LiveSettings, Settings, WordsFault, read_words};
+pub use command_words::{Asked, LiveSettings, Settings, WordsFault, read_words};
 pub use top::farm_top;

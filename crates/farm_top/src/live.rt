@@ -5,7 +5,7 @@ ghost use Rattle.farm_top.specs.Live.{CarriesLive, live_of};
 
 use crate::drill::tell_whole;
 use crate::farm::no_memory;
-use farm_words::LiveSettings;
+use command_words::LiveSettings;
 use live_run::{LiveDrill, run_live};
 use pool_run::Gate;
 use std::alloc::Global;

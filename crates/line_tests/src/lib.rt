@@ -16,7 +16,7 @@ mod farm_orders_tests;
 #[cfg(test)]
 mod farm_report_tests;
 #[cfg(test)]
-mod farm_words_tests;
+mod command_words_tests;
 #[cfg(test)]
 mod frame_sync_tests;
 #[cfg(test)]

@@ -9,9 +9,9 @@ use Rattle.trau_bits.specs.Bits.{bits_of, octets_of}
 use Rattle.trau_bits.proofs.Octets.{length-octets_of}
 use Rattle.trau_frame.specs.UpBits.{bits_saying, up_control}
 use Rattle.trau_frame.proofs.Again.{length-frame_bits}
-use Rattle.call_output.specs.Call.{Call}
-use Rattle.call_output.specs.Out.{out}
-use Rattle.call_output.specs.Down.{down}
+use Rattle.call_spec.specs.Call.{Call}
+use Rattle.call_spec.specs.Out.{out}
+use Rattle.call_spec.specs.Down.{down}
 use Rattle.farm_report.specs.Sums.{sum_line}
 use Rattle.farm_drill.specs.Draws.{draw, draws, is_loud, first_draw, first_loud_draw}
 use Rattle.farm_drill.specs.Uplink.{frame_drawn, up_octets}

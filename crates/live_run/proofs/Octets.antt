@@ -8,7 +8,7 @@ use Rattle.std.proofs.lemmas.List.FromFn.{length-map-range_with_len}
 use Rattle.trau_bits.specs.Bits.{octet_at, bits_of, octets_of}
 use Rattle.trau_bits.proofs.BitList.{length-bits_of}
 use Rattle.trau_bits.proofs.Octets.{get_or-octets_of, length-octets_of}
-use Rattle.call_output.proofs.Yields.{bits_of-append}
+use Rattle.call_spec.proofs.Yields.{bits_of-append}
 use Rattle.farm_live.specs.declared.post.Entry.{Entry}
 use Rattle.live_run.specs.Text.{downs_of}
 

@@ -8,11 +8,11 @@ use Rattle.call_leg.specs.Who.{Who}
 use Rattle.call_leg.specs.Periods.{CallPeriod, pcm_of}
 use Rattle.call_leg.specs.Out.{out_of}
 use Rattle.call_leg.specs.Down.{down_line, down_now}
-use Rattle.call_output.specs.Call.{Call, Setting, Span}
-use Rattle.call_output.specs.Out.{out}
-use Rattle.call_output.specs.Down.{down}
-use Rattle.call_output.specs.History.{IsCallHistory, call_of, up_of, settings_of, setting_of, spans_of, out_line}
-use Rattle.call_output.proofs.Yields.{bits_of-append}
+use Rattle.call_spec.specs.Call.{Call, Setting, Span}
+use Rattle.call_spec.specs.Out.{out}
+use Rattle.call_spec.specs.Down.{down}
+use Rattle.call_spec.specs.History.{IsCallHistory, call_of, up_of, settings_of, setting_of, spans_of, out_line}
+use Rattle.call_spec.proofs.Yields.{bits_of-append}
 use Rattle.farm_live.specs.declared.post.Post.{Post}
 use Rattle.farm_live.specs.declared.post.Entry.{Entry}
 use Rattle.farm_live.specs.Book.{who_of, period_of, periods_after, IsWorkedFrom, IsLegal}

@@ -2,8 +2,8 @@
 use Rattle.std.specs.Prelude.{ℕ, List, [], ◌∷◌, ◌++◌, codes, decimal}
 use Rattle.std.specs.List.{range_with_len, flat_map}
 use Rattle.trau_bits.specs.Bits.{bits_of, octets_of}
-use Rattle.call_output.specs.Out.{out}
-use Rattle.call_output.specs.Down.{down}
+use Rattle.call_spec.specs.Out.{out}
+use Rattle.call_spec.specs.Down.{down}
 use Rattle.farm_report.specs.Lines.{line_of}
 use Rattle.farm_report.specs.Sums.{sum_line}
 use Rattle.farm_live.specs.declared.post.Entry.{Entry}

@@ -2,7 +2,7 @@
 use Rattle.std.specs.Prelude.{◌≡◌, ℕ, pos, List, [], length, replicate, All}
 use Rattle.std.specs.List.{flat_map}
 use Rattle.trau_orders.specs.declared.order.DtxMode.TheVariants.{Uplink}
-use Rattle.call_output.specs.Call.{Call, Setting}
+use Rattle.call_spec.specs.Call.{Call, Setting}
 use Rattle.farm_drill.specs.Lines.{up_line, pcm_line}
 use Rattle.farm_live.specs.declared.post.Post.{Post}
 use Rattle.farm_live.specs.Book.{who_of}

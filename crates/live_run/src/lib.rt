@@ -6,7 +6,7 @@
 //!
 //! `size` has what a live drill is made of, `calls` what a caller does with one call, `posters` the callers on their threads,
 //! `rest` what is left for the calling thread, `sums` the text, `whole` the live drill, `laws` the law that ties a legal
-//! history of a call to the call as a whole (`call_output`).
+//! history of a call to the call as a whole (`call_spec`).
 //!
 //! All of it is this project's profile.
 //! Definitions: `specs/Size.antt` (what a live drill is made of), `specs/Posts.antt` (what callers post, and what they know

@@ -1,8 +1,8 @@
 use Rattle.std.proofs.Common.{◌*◌, subst}
 use Rattle.ccu_end.specs.Found.{Found, all_within}
 use Rattle.ccu_end.specs.Heard.{all_of}
-use Rattle.call_output.specs.Call.{periods}
-use Rattle.call_output.specs.Down.{down}
+use Rattle.call_spec.specs.Call.{periods}
+use Rattle.call_spec.specs.Down.{down}
 use Rattle.call_heard.specs.Heard.{found_of}
 use Rattle.call_heard.proofs.Calls.{call-each, call-found, call-places}
 use Rattle.call_heard.proofs.laws.frames_of_a_call_are_found.Goals as goal

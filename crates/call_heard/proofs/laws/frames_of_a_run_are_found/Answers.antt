@@ -1,7 +1,7 @@
 use Rattle.std.proofs.Common.{ap, ◌∙◌}
 use Rattle.trau_bits.specs.Bits.{bits_of}
-use Rattle.call_output.proofs.Reading.{LooksBack}
-use Rattle.farm_calls.specs.Whole.{whole_call}
+use Rattle.call_spec.proofs.Reading.{LooksBack}
+use Rattle.run_calls_spec.specs.Whole.{whole_call}
 use Rattle.call_heard.proofs.Lines.{line_bits-octets}
 use Rattle.call_heard.proofs.Runs.{run-bits, run-hands}
 use Rattle.call_heard.proofs.laws.frames_of_a_run_are_found.Goals as goal

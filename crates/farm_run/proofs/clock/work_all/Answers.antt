@@ -10,7 +10,7 @@ use Rattle.farm_run.specs.Match.{AtClock}
 use Rattle.farm_run.specs.Runs.{TellsFailed, FailedShort, is_listed}
 use Rattle.farm_run.specs.Standing.{Standing, standing, GoesOn, KnowsListed}
 use Rattle.farm_run.specs.Clock.{IsAtClock, WrittenFrom}
-use Rattle.farm_output.specs.Run.{Run}
+use Rattle.run_spec.specs.Run.{Run}
 use Rattle.switchboard.specs.State.{orders_of}
 use Rattle.farm_run.specs.Fronts.{IsCutShort}
 use Rattle.farm_run.proofs.Cutting.{cut_at, cut_first, cut_from}

@@ -1,6 +1,6 @@
 use Rattle.std.proofs.Common.{◌≡◌, ◌≤◌, ◌-◌, length}
 use Rattle.switchboard.specs.State.{orders_of}
-use Rattle.farm_output.specs.Run.{Run}
+use Rattle.run_spec.specs.Run.{Run}
 use Rattle.farm_run.specs.Match.{AtClock}
 use Rattle.farm_run.specs.Runs.{TellsFailed, KeepsSides, ReadsOn, IsRunOver, FailedShort, is_listed}
 use Rattle.farm_run.specs.Standing.{Standing, standing, GoesOn, KnowsListed}

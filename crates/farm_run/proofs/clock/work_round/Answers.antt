@@ -2,7 +2,7 @@ use Rattle.std.proofs.Common.{refl, sym, ap, ◌∙◌, subst, ℕ, ◌+◌, ◌
 use Rattle.std.specs.List.{filter_map}
 use Rattle.round_lines.specs.Rounds.{seat_end}
 use Rattle.switchboard.specs.State.{State, last_stamp, orders_of}
-use Rattle.farm_output.specs.Run.{Run}
+use Rattle.run_spec.specs.Run.{Run}
 use Rattle.farm_rounds.specs.Working.{RoundMemory, GainsFailed}
 use Rattle.farm_run.proofs.RoundTaken.{IsRound}
 use Rattle.farm_run.specs.Clock.{IsAtClock}

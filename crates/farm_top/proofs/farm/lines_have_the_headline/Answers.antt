@@ -1,4 +1,4 @@
-use Rattle.farm_output.specs.Run.{spans_in}
+use Rattle.run_spec.specs.Run.{spans_in}
 use Rattle.farm_top.proofs.Headlining.{headline_of, spans_told}
 use Rattle.farm_top.proofs.farm.lines_have_the_headline.Goals as goal
 

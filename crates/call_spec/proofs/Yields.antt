@@ -1,0 +1,75 @@
+-- What the search finds in each period is of all yields of the whole Up line.
+use Rattle.std.proofs.Common.{◌≡◌, refl, sym, ap, ◌∙◌, subst, inl, inr, ℕ, ◌-◌, ◌*◌, ◌/◌, ◌<◌, ◌≤◌, List, [], ◌∷◌, ◌++◌, length, filter, option_to_list, reverse, All, get_or, arith, length-append}
+use Rattle.std.specs.Prelude.{◌%◌}
+use Rattle.std.specs.List.{flat_map}
+use Rattle.std.specs.Int.{bit_at}
+use Rattle.std.proofs.lemmas.Bool.{cases_lt}
+use Rattle.std.proofs.lemmas.List.{get_or_append_left, get_or-append_right, reverse-reverse, length-reverse}
+use Rattle.std.proofs.lemmas.List.Elements.{All-nil, All-cons, All-head, All-tail}
+use Rattle.std.proofs.lemmas.List.FromFn.{fill_by_all}
+use Rattle.trau_bits.specs.Bits.{bit_of, bits_of}
+use Rattle.trau_bits.proofs.BitList.{length-bits_of, get_or-bits_of}
+use Rattle.frame_sync.specs.declared.yields.Yield.{Yield}
+use Rattle.frame_sync.specs.Yields.{Yields}
+use Rattle.frame_sync.specs.Periods.{line_bits, each_yield, ArePeriods, all_yields, yield_in, ends_in}
+use Rattle.frame_sync.proofs.Whole.{yields-past}
+use Rattle.frame_sync.proofs.Unique.{same_yields}
+use Rattle.frame_sync.proofs.Order.{filter-yields}
+use Rattle.call_leg.specs.Who.{Who}
+use Rattle.call_leg.specs.Periods.{CallPeriod, ups_of}
+use Rattle.call_leg.proofs.Heard.{length-ups_of}
+use Rattle.call_spec.specs.Call.{periods, yield_at}
+use Rattle.call_spec.specs.History.{IsCallHistory, up_of, call_of}
+use Rattle.call_spec.proofs.Reading.{length-settings_of, ups-read}
+
+-- ---- the bits of two lists of octets
+
+bit_of-front : (xs ys : List ℕ) (k : ℕ) → k < 8 * length xs → bit_of (xs ++ ys) k ≡ bit_of xs k
+bit_of-front xs ys k l = ap (λ octet. bit_at octet (7 - k % 8)) (get_or_append_left xs ys 0 (k / 8) (omega arith))
+
+bit_of-back : (xs ys : List ℕ) (k : ℕ) → 8 * length xs ≤ k → bit_of (xs ++ ys) k ≡ bit_of ys (k - 8 * length xs)
+bit_of-back xs ys k l =
+    let octet : k / 8 - length xs ≡ (k - 8 * length xs) / 8 = omega arith in
+    let bit : k % 8 ≡ (k - 8 * length xs) % 8 = omega arith in
+    ap (λ octet. bit_at octet (7 - k % 8)) (get_or-append_right xs ys (length xs) (k / 8) 0 refl (omega arith)) ∙
+    ap (λ i. bit_at (get_or ys i 0) (7 - k % 8)) octet ∙ ap (λ j. bit_at (get_or ys ((k - 8 * length xs) / 8) 0) (7 - j)) bit
+
+pub bits_of-append : (xs ys : List ℕ) → bits_of (xs ++ ys) ≡ bits_of xs ++ bits_of ys
+unfolding bits_of
+bits_of-append xs ys =
+    let all = length-append xs ys in
+    let n = length-bits_of xs in
+    let m = length-bits_of ys in
+    sym (fill_by_all (bit_of (xs ++ ys)) (bits_of xs ++ bits_of ys) (8 * length (xs ++ ys)) 0 (length-append (bits_of xs) (bits_of ys) ∙ omega arith)
+    (λ k l. elim (cases_lt k (8 * length xs)) [
+      | inl front ↦ get_or_append_left (bits_of xs) (bits_of ys) 0 k (omega arith) ∙ get_or-bits_of xs k front ∙ sym (bit_of-front xs ys k front)
+      | inr back ↦
+          get_or-append_right (bits_of xs) (bits_of ys) (8 * length xs) k 0 n back ∙ get_or-bits_of ys (k - 8 * length xs) (omega arith) ∙
+          sym (bit_of-back xs ys k back)
+    ]))
+
+-- ---- the Up line
+
+line_bits-up : (ts : List CallPeriod) → line_bits (ups_of ts) ≡ bits_of (up_of ts)
+unfolding line_bits bits_of
+line_bits-up [] = refl
+line_bits-up (t ∷ past) = ap (λ z. z ++ bits_of t.up) (line_bits-up past) ∙ sym (bits_of-append (up_of past) t.up)
+
+are_periods : (ts : List CallPeriod) → All (λ t. length t.up ≡ 40) ts → ArePeriods (ups_of ts)
+are_periods [] h = All-nil (λ octets. length octets ≡ 40)
+are_periods (t ∷ past) h =
+    All-cons (λ octets. length octets ≡ 40) t.up (ups_of past) (All-head (λ t. length t.up ≡ 40) t past h) (are_periods past (All-tail (λ t. length t.up ≡ 40) t past h))
+
+yields-up : (ts : List CallPeriod) → All (λ t. length t.up ≡ 40) ts → Yields (bits_of (up_of ts)) (flat_map option_to_list (each_yield (ups_of ts)))
+yields-up ts h =
+    subst (λ bits. Yields bits (flat_map option_to_list (each_yield (ups_of ts)))) (line_bits-up ts) (yields-past (ups_of ts) (are_periods ts h))
+
+pub yield-ends : (who : Who) (ts : List CallPeriod) (ys : List Yield) (k : ℕ) → IsCallHistory ts → Yields (bits_of (call_of who ts).up) ys → k < periods (call_of who ts) →
+    filter (ends_in k) ys ≡ option_to_list (yield_at (call_of who ts) k)
+yield-ends who ts ys k h y l =
+    let n = length-settings_of ts in
+    let m = length-ups_of ts in
+    let r = length-reverse (ups_of ts) in
+    let all : flat_map option_to_list (each_yield (ups_of ts)) ≡ all_yields (reverse (ups_of ts)) = ap (λ us. flat_map option_to_list (each_yield us)) (sym (reverse-reverse (ups_of ts))) in
+    ap (filter (ends_in k)) (same_yields (bits_of (up_of ts)) ys (flat_map option_to_list (each_yield (ups_of ts))) y (yields-up ts h.ups) ∙ all) ∙
+    filter-yields (reverse (ups_of ts)) k (omega arith) ∙ ap (λ us. option_to_list (yield_in us k)) (sym (ups-read who ts h))

@@ -1,0 +1,100 @@
+-- The Down line of a call as a whole: handed frames, idle frames and coded frames (GSM 06.10 and GSM 08.60; which of
+-- them is sent when is this project's profile). Frames are numbered from 0, and lists have the oldest first, but for
+-- those of the frames before one.
+use Rattle.std.specs.Prelude.{◌≡◌, ◌≤◌, ◌<◌, ℕ, ◌*◌, ◌-◌, ℤ, Bool, true, not, ◌&&◌, if◌then◌else◌, nat_le, nat_lt, Some, None, is_none, unwrap_or, List, [], ◌++◌, map, take, drop, replicate, reverse, filter}
+use Rattle.std.specs.List.{flat_map, zip, list_any, list_all}
+use Rattle.trau_alaw.specs.Period.{expanded}
+use Rattle.trau_frame.specs.declared.frames.DownFrame.{DownFrame}
+use Rattle.trau_frame.specs.declared.frames.DownFrame.TheVariants as frames
+use Rattle.trau_frame.specs.DownFrame.{down_bits}
+use Rattle.fr_encoder.specs.Encoded.{Encoded, encoded}
+use Rattle.tx_dtx.specs.Stretch.{Coded}
+use Rattle.tx_dtx.specs.Sent.{sent}
+use Rattle.down_framer.specs.Made.{frame_on_line}
+use Rattle.down_framer.specs.ByNumber.{Bridge, NumberedFrame, when, count_from, numbered_next, numbered}
+use Rattle.call_leg.specs.Down.{coded_as, speech}
+use Rattle.call_spec.specs.Stretches.{stretches}
+use Rattle.call_spec.specs.Call.{Call, Span, periods, setting_at, is_quiet_at, fields, dtx_at, item_at}
+
+-- ---- the made frames
+
+-- a span without its items
+abbrev pub bridge_of : Span → Bridge
+bridge_of span = record { from = span.from; to = span.to }
+
+-- the first j frames, the newest first, and frame j after them: it starts where the one before says, carries the item
+-- that a span has for it, and has otherwise the shift asked for last
+abbrev pub first_frames : Call → ℕ → List NumberedFrame
+first_frames call j = numbered (map bridge_of call.spans) (fields call) j
+
+abbrev pub frame_at : Call → ℕ → NumberedFrame
+frame_at call j = numbered_next (map bridge_of call.spans) (fields call) (first_frames call j)
+
+-- those of the first m frames that are made in the periods of the call
+abbrev pub made_among : Call → ℕ → List NumberedFrame
+made_among call m = filter (λ f. nat_lt (when f.start) (periods call)) (first_frames call m)
+
+-- all frames that are: two for each period are enough
+abbrev pub made : Call → List NumberedFrame
+made call = reverse (made_among call (2 * periods call))
+
+-- A span has item i for frame j where i is the number of frames before it that are made in the span's first period or
+-- later, the frame isn't made before that period, and the span has as many items.
+pub record HasItem (call : Call) (span : Span) (j i : ℕ) : Type 0 where
+  pub number : i ≡ count_from span.from (first_frames call j)
+  pub begun : span.from ≤ when (frame_at call j).start
+  pub left : i < span.to - span.from
+
+-- ---- what they are
+
+-- a frame is coded where it carries no item and its period isn't quiet
+abbrev pub is_coded : Call → NumberedFrame → Bool
+is_coded call f = is_none f.carries && not (is_quiet_at call (when f.start))
+
+-- a coded stretch goes on from a coded frame to a coded one, unless a span starts after the one's period and not after
+-- the other's, one without a period included
+abbrev pub goes_on : Call → NumberedFrame → NumberedFrame → Bool
+goes_on call f g =
+    is_coded call f && is_coded call g &&
+    not (list_any (λ span. nat_lt (when f.start) span.from && nat_le span.from (when g.start)) call.spans)
+
+-- the samples of a frame: octets start to start + 159 of the Pcm line, expanded by the call's law
+abbrev pub samples : Call → NumberedFrame → List ℤ
+samples call f = expanded call.who.law (take 160 (drop f.start call.pcm))
+
+-- an encoding with the level and DTX in force in the frame's period
+abbrev pub in_force : Call → Encoded × NumberedFrame → Coded
+in_force call x = coded_as x.0 (setting_at call (when x.1.start)).level (dtx_at call (when x.1.start))
+
+-- a coded stretch, encoded from home over all its samples
+abbrev pub coded : Call → List NumberedFrame → List Coded
+coded call stretch = map (in_force call) (zip (encoded (map (samples call) stretch)) stretch)
+
+-- a frame that isn't coded: a speech frame of its item with SP 1, or idle
+abbrev pub uncoded : Call → NumberedFrame → DownFrame
+uncoded call f = elim f.carries [
+  | Some h ↦ frames.Speech (unwrap_or (item_at call.spans h) []) true
+  | None ↦ frames.Idle
+]
+
+-- the frames of a coded stretch as they are sent, and a frame that isn't coded
+abbrev pub stretch_frames : Call → List NumberedFrame → List DownFrame
+stretch_frames call fs = if list_all (is_coded call) fs then map speech (sent (coded call fs)) else map (uncoded call) fs
+
+-- all of these frames, as they are sent
+abbrev pub down_frames : Call → List NumberedFrame → List DownFrame
+down_frames call fs = flat_map (stretch_frames call) (stretches (goes_on call) fs)
+
+-- ---- the line
+
+-- the bits that a frame puts on the line, with what its shift adds or leaves out
+abbrev pub bits_on_line : NumberedFrame × DownFrame → List ℕ
+bits_on_line x = frame_on_line x.0.shift (down_bits x.1)
+
+-- 320 ones, and then each frame
+abbrev pub line : Call → List NumberedFrame → List ℕ
+line call fs = replicate 320 1 ++ flat_map bits_on_line (zip fs (down_frames call fs))
+
+-- the bits of the whole Down line, 320 for each period
+abbrev pub down : Call → List ℕ
+down call = take (320 * periods call) (line call (made call))

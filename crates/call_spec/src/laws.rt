@@ -1,0 +1,51 @@
+//! Laws of a call's outgoing lines, each the contract of a function that does nothing.
+
+ghost use Rattle.std.specs.Prelude.{◌≡◌, ◌≤◌, ◌<◌, ℕ, ◌+◌, ◌*◌, Some, List, ◌∷◌, ◌++◌, length, filter, option_to_list};
+ghost use Rattle.trau_bits.specs.Bits.{bits_of};
+ghost use Rattle.frame_sync.specs.declared.yields.Yield.{Yield};
+ghost use Rattle.frame_sync.specs.Yields.{Yields};
+ghost use Rattle.frame_sync.specs.Periods.{ends_in};
+ghost use Rattle.call_leg.specs.Who.{Who};
+ghost use Rattle.call_leg.specs.Periods.{CallPeriod};
+ghost use Rattle.call_leg.specs.Down.{down_line};
+ghost use Rattle.call_spec.specs.Out.{out};
+ghost use Rattle.call_spec.specs.Call.{Call, Span, periods, yield_at};
+ghost use Rattle.call_spec.specs.Down.{frame_at, made_among, made, HasItem, down};
+ghost use Rattle.call_spec.specs.History.{IsCallHistory, call_of, out_line};
+ghost use Rattle.call_spec.specs.Whole.{IsWhole, history_of};
+
+use rx_handler::laws::{the_newest_is_the_last, the_table_looks_back};
+
+/// The periods of a call as a whole are a history of that call; given one after another, they make its lines.
+pub fn a_call_by_its_periods()
+    ensures history { (call : Call) → IsWhole call → IsCallHistory (history_of call) }
+    ensures same { (call : Call) → IsWhole call → call_of call.who (history_of call) ≡ call }
+    ensures out { (call : Call) → IsWhole call → out_line call.who (history_of call) ≡ out call }
+    ensures down { (call : Call) → IsWhole call → down_line call.who (history_of call) ≡ down call }
+{
+    lines_of_a_call();
+}
+
+/// The Out line and the Down line of any history of a call, period by period, are those of the call as a whole that it
+/// says.
+pub fn lines_of_a_call()
+    ensures out { (who : Who) (ts : List CallPeriod) → IsCallHistory ts → out_line who ts ≡ out (call_of who ts) }
+    ensures down { (who : Who) (ts : List CallPeriod) → IsCallHistory ts → down_line who ts ≡ down (call_of who ts) }
+{
+    the_newest_is_the_last();
+    the_table_looks_back();
+}
+
+/// What a period of a call yields is, of all yields of the bits of its whole Up line, the one that ends in the period.
+pub fn yields_of_a_call()
+    ensures { (call : Call) (ys : List Yield) (k : ℕ) → IsWhole call → Yields (bits_of call.up) ys → k < periods call →
+        filter (ends_in k) ys ≡ option_to_list (yield_at call k) }
+{}
+
+/// Where a span has an item for a made frame, the frame carries it, whatever other spans there are; and no frame behind
+/// two for each period is made in the call's periods.
+pub fn frames_of_a_call()
+    ensures items { (call : Call) (before after : List Span) (span : Span) (j i : ℕ) → IsWhole call → call.spans ≡ before ++ span ∷ after →
+        j < length (made call) → HasItem call span j i → (frame_at call j).carries ≡ Some (span.from + i) }
+    ensures enough { (call : Call) (m : ℕ) → IsWhole call → 2 * periods call ≤ m → made_among call m ≡ made_among call (2 * periods call) }
+{}

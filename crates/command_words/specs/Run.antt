@@ -1,0 +1,21 @@
+-- The words of a run (this project's profile), by the command that the crate `clap` is given.
+use Rattle.std.specs.Prelude.{◌≡◌, List, [], ◌∷◌, codes}
+use Rattle.clap.specs.Words.{App, Text, fault_of, matches_of, first_of}
+use Rattle.command_words.specs.declared.asked.Settings.{Settings}
+use Rattle.command_words.specs.Options.{bare_app, with_option, GivesSettings}
+
+-- the command `run` with its four options
+abbrev pub run_app : App
+run_app = with_option (codes "periods") (with_option (codes "slice") (with_option (codes "batch") (with_option (codes "workers") (bare_app (codes "run")))))
+
+-- options are taken, and give these settings: `clap`, by its own function of the command and the words, finds no fault
+-- with them, and the text that it has for each option is a number of that option's range
+pub record AreOptions (options : List Text) (s : Settings) : Type 0 where
+  pub taken : fault_of run_app options ≡ []
+  pub gives : GivesSettings 4294967295 4294967295 (λ name. first_of name (matches_of run_app options)) s
+
+-- words ask for a run with these settings: `run`, and options that give them
+pub record AsksRun (words : List Text) (s : Settings) : Type 0 where
+  pub options : List Text
+  pub spelled : words ≡ codes "run" ∷ options
+  pub are : AreOptions options s

@@ -1,0 +1,58 @@
+//! The options of `drill`.
+
+ghost use Rattle.std.specs.Prelude.{◌≡◌, ℕ, IfOk, IfSome, IsNone, IsErrOf, map, string_bytes};
+ghost use Rattle.clap.specs.Words.{app_of, first_value, found_of};
+ghost use Rattle.command_words.specs.declared.asked.Settings.{Settings as TheSettings};
+ghost use Rattle.command_words.specs.Drill.{drill_app, GivesDrill, AreDrillOptions};
+
+use crate::options::{bare_command, settings_of, value, with_options};
+use crate::{Settings, WordsFault};
+use clap::error::ErrorKind;
+use clap::{ArgMatches, Command};
+use std::alloc::{AllocError, Global};
+
+const MOST_CALLS: u32 = 256;
+
+const MOST_PERIODS: u32 = 1000;
+
+/// What a drill is made of.
+#[derive(Clone, Copy)]
+pub(crate) struct Drilled {
+    pub(crate) seed: u32,
+    pub(crate) calls: u32,
+    pub(crate) settings: Settings,
+}
+
+fn drill_command<'a>(alloc: Global) -> Result<Command<'a>, AllocError>
+    ensures { IfOk result (λ c. app_of c ≡ drill_app) }
+{
+    with_options(
+        alloc,
+        bare_command(alloc, "drill"),
+        &["workers", "batch", "slice", "periods", "seed", "calls"],
+    )
+}
+
+fn drilled_of(matches: &ArgMatches<'_>) -> Option<Drilled>
+    ensures some { IfSome result (λ d. GivesDrill (first_value (found_of matches.now)) d.seed d.calls d.settings) }
+    ensures none { IsNone result → (seed calls : ℕ) (s : TheSettings) → GivesDrill (first_value (found_of matches.now)) seed calls s → ⊥ }
+{
+    Some(Drilled {
+        seed: value(matches, "seed", 0, u32::MAX, 1)?,
+        calls: value(matches, "calls", 1, MOST_CALLS, 64)?,
+        settings: settings_of(matches, MOST_PERIODS, 200)?,
+    })
+}
+
+// The drill that the words after `drill` give.
+pub(crate) fn read_drill(alloc: Global, options: &[String]) -> Result<Drilled, WordsFault>
+    ensures ok { IfOk result (λ d. AreDrillOptions (map (λ w. string_bytes w) options.now) d.seed d.calls d.settings) }
+    ensures usage { IsErrOf result WordsFault.Usage → (seed calls : ℕ) (s : TheSettings) → AreDrillOptions (map (λ w. string_bytes w) options.now) seed calls s → ⊥ }
+{
+    let command = drill_command(alloc)?;
+    match command.try_get_matches_from(options) {
+        Ok(matches) => drilled_of(&matches).ok_or(WordsFault::Usage),
+        Err(error) if error.kind() == ErrorKind::OutOfMemory => Err(WordsFault::Memory),
+        Err(_) => Err(WordsFault::Usage),
+    }
+}

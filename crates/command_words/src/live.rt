@@ -1,0 +1,63 @@
+//! The options of `live`.
+
+ghost use Rattle.std.specs.Prelude.{◌≡◌, IfOk, IfSome, IsNone, IsErrOf, map, string_bytes};
+ghost use Rattle.clap.specs.Words.{app_of, first_value, found_of};
+ghost use Rattle.command_words.specs.declared.live.LiveSettings.{LiveSettings as TheSettings};
+ghost use Rattle.command_words.specs.Live.{live_app, GivesLive, AreLiveOptions};
+
+use crate::WordsFault;
+use crate::options::{bare_command, value, with_options};
+use clap::error::ErrorKind;
+use clap::{ArgMatches, Command};
+use std::alloc::{AllocError, Global};
+
+/// What a live drill is made of.
+#[derive(Clone, Copy, Debug, PartialEq, Eq)]
+pub struct LiveSettings {
+    /// What its periods are drawn from.
+    pub seed: u32,
+    /// Its calls, 1 to 256.
+    pub calls: u32,
+    /// The periods of each call, 1 to 1,000.
+    pub periods: u32,
+    /// Its callers, 1 to 64.
+    pub callers: u32,
+    /// The most posts that may wait at a call, 1 to 1,024.
+    pub inbox: u32,
+}
+
+fn live_command<'a>(alloc: Global) -> Result<Command<'a>, AllocError>
+    ensures { IfOk result (λ c. app_of c ≡ live_app) }
+{
+    with_options(
+        alloc,
+        bare_command(alloc, "live"),
+        &["seed", "calls", "periods", "callers", "inbox"],
+    )
+}
+
+fn live_of(matches: &ArgMatches<'_>) -> Option<LiveSettings>
+    ensures some { IfSome result (λ s. GivesLive (first_value (found_of matches.now)) s) }
+    ensures none { IsNone result → (s : TheSettings) → GivesLive (first_value (found_of matches.now)) s → ⊥ }
+{
+    Some(LiveSettings {
+        seed: value(matches, "seed", 0, u32::MAX, 1)?,
+        calls: value(matches, "calls", 1, 256, 64)?,
+        periods: value(matches, "periods", 1, 1000, 200)?,
+        callers: value(matches, "callers", 1, 64, 4)?,
+        inbox: value(matches, "inbox", 1, 1024, 8)?,
+    })
+}
+
+// The live drill that the words after `live` give.
+pub(crate) fn read_live(alloc: Global, options: &[String]) -> Result<LiveSettings, WordsFault>
+    ensures ok { IfOk result (λ s. AreLiveOptions (map (λ w. string_bytes w) options.now) s) }
+    ensures usage { IsErrOf result WordsFault.Usage → (s : TheSettings) → AreLiveOptions (map (λ w. string_bytes w) options.now) s → ⊥ }
+{
+    let command = live_command(alloc)?;
+    match command.try_get_matches_from(options) {
+        Ok(matches) => live_of(&matches).ok_or(WordsFault::Usage),
+        Err(error) if error.kind() == ErrorKind::OutOfMemory => Err(WordsFault::Memory),
+        Err(_) => Err(WordsFault::Usage),
+    }
+}

@@ -1,0 +1,73 @@
+//! Commands with options, and how a run is to work by these.
+
+ghost use Rattle.std.specs.Prelude.{◌≡◌, ℕ, false, IfOk, IfSome, IsNone, fold};
+ghost use Rattle.clap.specs.Words.{app_of, rule_of, first_value, found_of};
+ghost use Rattle.command_words.specs.declared.asked.Settings.{Settings as TheSettings};
+ghost use Rattle.command_words.specs.Options.{bare_app, with_option, option_rule, IsValueOf, GivesSettings};
+
+use crate::Settings;
+use clap::{Arg, ArgAction, ArgMatches, Command};
+use decimal_number::number_of_text;
+use std::alloc::{AllocError, Global};
+
+// An option with a long name and one value.
+fn option<'a>(alloc: Global, name: &'a str) -> Arg<'a>
+    ensures rule { rule_of result ≡ option_rule name.entry.now }
+    ensures own { result.global ≡ false }
+{
+    Arg::new(alloc, name).long(name).action(ArgAction::Set)
+}
+
+/// A command that is given its options alone, and knows no help and no version.
+pub(crate) fn bare_command<'a>(alloc: Global, name: &'a str) -> Command<'a>
+    ensures { app_of result ≡ bare_app name.entry.now }
+{
+    Command::new(alloc, name)
+        .no_binary_name(true)
+        .disable_help_flag(true)
+        .disable_version_flag(true)
+}
+
+/// A command with an option for each of these names, in order.
+pub(crate) fn with_options<'a>(
+    alloc: Global,
+    mut command: Command<'a>,
+    names: &[&'a str],
+) -> Result<Command<'a>, AllocError>
+    ensures { IfOk result (λ c. app_of c ≡ fold (λ app name. with_option name.now app) (app_of command.entry) names.now) }
+{
+    for name in names {
+        command = command.arg(option(alloc, name))?;
+    }
+    Ok(command)
+}
+
+/// The value of an option, or its default where it isn't given.
+pub(crate) fn value(
+    matches: &ArgMatches<'_>,
+    name: &str,
+    low: u32,
+    high: u32,
+    default: u32,
+) -> Option<u32>
+    ensures some { IfSome result (λ n. IsValueOf (first_value (found_of matches.now) name.now) low high default n) }
+    ensures none { IsNone result → (n : ℕ) → IsValueOf (first_value (found_of matches.now) name.now) low high default n → ⊥ }
+{
+    match matches.get_str(name) {
+        None => Some(default),
+        Some(text) => number_of_text(text, low, high),
+    }
+}
+
+/// How a run is to work, for at most `most` periods.
+pub(crate) fn settings_of(matches: &ArgMatches<'_>, most: u32, default: u32) -> Option<Settings>
+    ensures some { IfSome result (λ s. GivesSettings most default (first_value (found_of matches.now)) s) }
+    ensures none { IsNone result → (s : TheSettings) → GivesSettings most default (first_value (found_of matches.now)) s → ⊥ }
+{
+    Some(Settings {
+        workers: value(matches, "workers", 1, 64, 4)?,
+        batch: value(matches, "batch", 1, 250, 50)?,
+        slice: value(matches, "slice", 1, 250, 5)?,
+        periods: value(matches, "periods", 1, most, default)?,
+    })
+}

@@ -1,0 +1,34 @@
+//! The words of the two commands on time slots.
+ghost use Rattle.std.specs.Prelude.{◌≡◌, ℕ, ◌≤◌, IfSome, IsNone, map, string_bytes};
+ghost use Rattle.command_words.specs.declared.asked.Asked.{Asked as OneAsked};
+ghost use Rattle.command_words.specs.Slots.{AsksSlot, IsSlotOn};
+
+use crate::Asked;
+use decimal_number::number_of_text;
+
+// The last call with three behind it.
+const HIGHEST_SLOT: u32 = 4093;
+
+// The work of the command of this name on a slot.
+fn slot_named(name: &str, call: u32) -> Option<Asked>
+    ensures some { IfSome result (λ a. IsSlotOn a name.now call) }
+    ensures none { IsNone result → (a : OneAsked) → IsSlotOn a name.now call → ⊥ }
+{
+    match name {
+        "split" => Some(Asked::Split(call)),
+        "merge" => Some(Asked::Merge(call)),
+        _ => None,
+    }
+}
+
+// A command on a slot and its call, if the words are theirs.
+pub(crate) fn read_slot(words: &[String]) -> Option<Asked>
+    ensures some { IfSome result (λ a. AsksSlot (map (λ w. string_bytes w) words.now) a) }
+    ensures none { IsNone result → (a : OneAsked) → AsksSlot (map (λ w. string_bytes w) words.now) a → ⊥ }
+{
+    let [name, number] = words else {
+        return None;
+    };
+    let call = number_of_text(number.as_str(), 1, HIGHEST_SLOT)?;
+    slot_named(name.as_str(), call)
+}

@@ -1,0 +1,36 @@
+// The words of the four tools.
+ghost use Rattle.std.specs.Prelude.{◌≡◌, ℕ, ◌≤◌, IfSome, IsNone, map, string_bytes};
+ghost use Rattle.command_words.specs.declared.asked.Asked.{Asked as OneAsked};
+ghost use Rattle.command_words.specs.Asking.{AsksTool, IsToolOn};
+
+use crate::Asked;
+use decimal_number::number_of_text;
+
+/// The highest number of a call.
+pub(crate) const HIGHEST_CALL: u32 = 4096;
+
+// The work of the tool of this name on a call.
+fn tool_named(name: &str, call: u32) -> Option<Asked>
+    ensures some { IfSome result (λ a. IsToolOn a name.now call) }
+    ensures none { IsNone result → (a : OneAsked) → IsToolOn a name.now call → ⊥ }
+{
+    match name {
+        "relay" => Some(Asked::Relay(call)),
+        "frames" => Some(Asked::Frames(call)),
+        "encode" => Some(Asked::Encode(call)),
+        "decode" => Some(Asked::Decode(call)),
+        _ => None,
+    }
+}
+
+// A tool and its call, if the words are theirs.
+pub(crate) fn read_tool(words: &[String]) -> Option<Asked>
+    ensures some { IfSome result (λ a. AsksTool (map (λ w. string_bytes w) words.now) a) }
+    ensures none { IsNone result → (a : OneAsked) → AsksTool (map (λ w. string_bytes w) words.now) a → ⊥ }
+{
+    let [name, number] = words else {
+        return None;
+    };
+    let call = number_of_text(number.as_str(), 1, HIGHEST_CALL)?;
+    tool_named(name.as_str(), call)
+}

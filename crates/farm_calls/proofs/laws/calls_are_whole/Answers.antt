@@ -1,8 +1,0 @@
-use Rattle.farm_calls.proofs.Periods.{is_whole, history_same}
-use Rattle.farm_calls.proofs.laws.calls_are_whole.Goals as goal
-
-pub returns-clause-whole : goal.returns-clause-whole
-returns-clause-whole g = is_whole
-
-pub returns-clause-periods : goal.returns-clause-periods
-returns-clause-periods g = history_same

@@ -1,5 +1,0 @@
-use Rattle.farm_output.proofs.Sent.{sent_or_lost}
-use Rattle.farm_output.proofs.laws.handed_frames_are_sent_or_lost.Goals as goal
-
-pub returns : goal.returns
-returns g = sent_or_lost

@@ -1,7 +1,0 @@
-// What makes "what the words ask for" one thing.
-ghost use Rattle.farm_words.specs.Asking.{AskForOne};
-
-/// Words ask for one thing at most.
-pub fn asks_for_one()
-    ensures { AskForOne }
-{}

@@ -1,0 +1,235 @@
+use crate::rows::assert_rows;
+use command_words::{Asked, Settings, WordsFault, read_words};
+use std::alloc::{AllocError, Global};
+
+// Puts a word at the end of others.
+fn push(alloc: Global, words: &mut Vec<String>, word: &str) -> Result<(), AllocError> {
+    words.push(String::from_str(alloc, word)?)?;
+    Ok(())
+}
+
+// A line's words, with one space between them.
+fn split(alloc: Global, line: &str) -> Result<Vec<String>, AllocError> {
+    let mut words = Vec::new(alloc);
+    for word in line.split(' ') {
+        push(alloc, &mut words, word)?;
+    }
+    Ok(words)
+}
+
+// Whether this is answered to a line's words.
+fn is_answered(alloc: Global, line: &str, answer: Result<Asked, WordsFault>) -> bool {
+    match split(alloc, line) {
+        Ok(words) => read_words(alloc, &words) == answer,
+        Err(_) => false,
+    }
+}
+
+// Runs, with their workers, batch, slice and periods.
+static RUNS: [(&str, [u32; 4]); 6] = [
+    ("run", [4, 50, 5, 4_294_967_295]),
+    (
+        "run --workers 64 --batch 250 --slice 1 --periods 9",
+        [64, 250, 1, 9],
+    ),
+    (
+        "run --periods=1 --slice=250 --batch=1 --workers=1",
+        [1, 1, 250, 1],
+    ),
+    (
+        "run --periods 4294967295 --batch=7",
+        [4, 7, 5, 4_294_967_295],
+    ),
+    ("run --", [4, 50, 5, 4_294_967_295]),
+    ("run --slice 2 --", [4, 50, 2, 4_294_967_295]),
+];
+
+// Whether a line asks for a run with these.
+fn is_run(alloc: Global, line: &str, settings: &[u32; 4]) -> bool {
+    let [workers, batch, slice, periods] = *settings;
+    let run = Asked::Run(Settings {
+        workers,
+        batch,
+        slice,
+        periods,
+    });
+    is_answered(alloc, line, Ok(run))
+}
+
+// How many of the runs are asked for so, from the first on.
+fn runs_asked(alloc: Global) -> usize {
+    let mut asked = 0usize;
+    for (line, settings) in &RUNS {
+        if !is_run(alloc, line, settings) {
+            return asked;
+        }
+        asked = asked.saturating_add(1);
+    }
+    asked
+}
+
+#[test]
+fn options_of_a_run(rt: HostRuntime) {
+    assert_rows(&rt, runs_asked(rt.alloc()), 6);
+}
+
+// Drills, with their seed and calls, and their workers, batch, slice and periods.
+static DRILLS: [(&str, [u32; 2], [u32; 4]); 6] = [
+    ("drill", [1, 64], [4, 50, 5, 200]),
+    (
+        "drill --seed 0 --calls 1 --periods 1",
+        [0, 1],
+        [4, 50, 5, 1],
+    ),
+    (
+        "drill --seed=4294967295 --calls=256 --periods=1000 --workers=64 --batch=250 --slice=250",
+        [4_294_967_295, 256],
+        [64, 250, 250, 1000],
+    ),
+    (
+        "drill --slice 9 --calls 2 --workers 5 --seed 7",
+        [7, 2],
+        [5, 50, 9, 200],
+    ),
+    ("drill --", [1, 64], [4, 50, 5, 200]),
+    ("drill --batch 7 --", [1, 64], [4, 7, 5, 200]),
+];
+
+// Whether a line asks for a drill of these.
+fn is_drill(alloc: Global, line: &str, made_of: &[u32; 2], settings: &[u32; 4]) -> bool {
+    let [seed, calls] = *made_of;
+    let [workers, batch, slice, periods] = *settings;
+    let drill = Asked::Drill {
+        seed,
+        calls,
+        settings: Settings {
+            workers,
+            batch,
+            slice,
+            periods,
+        },
+    };
+    is_answered(alloc, line, Ok(drill))
+}
+
+// How many of the drills are asked for so, from the first on.
+fn drills_asked(alloc: Global) -> usize {
+    let mut asked = 0usize;
+    for (line, made_of, settings) in &DRILLS {
+        if !is_drill(alloc, line, made_of, settings) {
+            return asked;
+        }
+        asked = asked.saturating_add(1);
+    }
+    asked
+}
+
+#[test]
+fn options_of_a_drill(rt: HostRuntime) {
+    assert_rows(&rt, drills_asked(rt.alloc()), 6);
+}
+
+static TOOLS: [(&str, Asked); 4] = [
+    ("relay 7", Asked::Relay(7)),
+    ("frames 1", Asked::Frames(1)),
+    ("encode 4096", Asked::Encode(4096)),
+    ("decode 10", Asked::Decode(10)),
+];
+
+// How many calls of tools are asked for so, from the first on.
+fn tools_asked(alloc: Global) -> usize {
+    let mut asked = 0usize;
+    for (line, tool) in &TOOLS {
+        if !is_answered(alloc, line, Ok(*tool)) {
+            return asked;
+        }
+        asked = asked.saturating_add(1);
+    }
+    asked
+}
+
+#[test]
+fn calls_of_tools(rt: HostRuntime) {
+    assert_rows(&rt, tools_asked(rt.alloc()), 4);
+}
+
+// Lines whose words ask for nothing; the last is empty.
+static OTHER_WORDS: &str = "run --workers 0
+run --workers 65
+run --workers 04
+run --workers +4
+run --workers -1
+run --workers
+run --workers=
+run --workers --
+run --work 4
+run --batch 251
+run --batch 2 --batch 3
+run --batch=2 --batch=2
+run --batch 2 3
+run --slice 251
+run --periods 0
+run --periods 4294967296
+run -- x
+run -- --batch
+run 7
+run --help
+run -h
+run --version
+run help
+Run
+--workers 4
+relay
+relay 07
+relay 0
+relay 4097
+relay 7 --
+relay -- 7
+relay 7 7
+relays 7
+run --seed 1
+run --calls 2
+drill 7
+drill --calls 0
+drill --calls 257
+drill --calls 02
+drill --periods 0
+drill --periods 1001
+drill --seed 4294967296
+drill --seed -1
+drill --seed 00
+drill --seed 1 --seed=1
+drill --seed
+drill --workers 65
+drill --call 2
+drill --help
+drills
+7
+";
+
+// Whether a line's words ask for nothing.
+fn is_usage(alloc: Global, line: &str) -> bool {
+    is_answered(alloc, line, Err(WordsFault::Usage))
+}
+
+// How many lines' words ask for nothing, from the first on.
+fn usages(alloc: Global) -> usize {
+    let mut usages = 0usize;
+    for line in OTHER_WORDS.split('\n') {
+        if !is_usage(alloc, line) {
+            return usages;
+        }
+        usages = usages.saturating_add(1);
+    }
+    usages
+}
+
+#[test]
+fn other_words_are_usage(rt: HostRuntime) {
+    assert_rows(&rt, usages(rt.alloc()), 52);
+}
+
+#[test]
+fn no_words_are_usage(rt: HostRuntime) {
+    assert!(rt; read_words(rt.alloc(), &[]) == Err(WordsFault::Usage));
+}

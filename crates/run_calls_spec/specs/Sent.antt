@@ -1,0 +1,47 @@
+-- The frames of a call's downlink, and which of them carries what its partner hands over in a period. Frames are
+-- numbered from 0.
+use Rattle.std.specs.Prelude.{◌≤◌, ◌<◌, ℕ, ◌+◌, ◌-◌, ◌*◌, List, length, slice_index_or}
+use Rattle.trau_frame.specs.declared.frames.DownFrame.{DownFrame}
+use Rattle.trau_frame.specs.declared.frames.DownFrame.TheVariants.{Idle}
+use Rattle.switchboard.specs.declared.act.Span as board
+use Rattle.down_framer.specs.ByNumber.{when}
+use Rattle.call_spec.specs.Call.{Call, Span}
+use Rattle.call_spec.specs.Down.{frame_at, made, HasItem, down_frames}
+use Rattle.run_spec.specs.Run.{Run, start_in}
+use Rattle.run_calls_spec.specs.Whole.{span_for, whole_call, IsBridged}
+
+-- how many frames a call makes, these frames as they are sent, and frame j
+abbrev pub frame_count : Run → ℕ → ℕ
+frame_count r c = length (made (whole_call r c))
+
+abbrev pub sent_frames : Run → ℕ → List DownFrame
+sent_frames r c = down_frames (whole_call r c) (made (whole_call r c))
+
+abbrev pub sent_frame : Run → ℕ → ℕ → DownFrame
+sent_frame r c j = slice_index_or (sent_frames r c) j Idle
+
+-- the bit of the Down line at which it begins: behind 320 ones, two for each octet of the Pcm line before its start
+abbrev pub place_in : Run → ℕ → ℕ → ℕ
+place_in r c j = 320 + 2 * (frame_at (whole_call r c) j).start
+
+-- frame j of call c carries what the call is handed in period t of the run, one of span x
+abbrev pub CarriesHanded : Run → ℕ → ℕ → board.Span → ℕ → Type 0
+CarriesHanded r c t x j = HasItem (whole_call r c) (span_for r c x) j (t - x.from)
+
+-- the call makes this frame, and so what it is handed in that period of the bridge goes out in it
+pub record Sends (r : Run) (c t : ℕ) (x : board.Span) (j : ℕ) : Type 0 where
+  pub bridged : IsBridged r c t x
+  pub made : j < frame_count r c
+  pub carries : CarriesHanded r c t x j
+
+-- Between periods, as period u of the run begins, what call c is handed in an earlier period t of span x waits: no frame
+-- that was made before carries it.
+pub record Waits (r : Run) (c u t : ℕ) (x : board.Span) : Type 0 where
+  pub bridged : IsBridged r c t x
+  pub handed : t < u
+  pub unsent : (j : ℕ) → CarriesHanded r c t x j → u ≤ start_in r c + when (frame_at (whole_call r c) j).start
+
+-- the first frame made in a span's first period or later
+pub record IsFirst (call : Call) (span : Span) (j : ℕ) : Type 0 where
+  pub begun : span.from ≤ when (frame_at call j).start
+  pub first : (i : ℕ) → i < j → when (frame_at call i).start < span.from

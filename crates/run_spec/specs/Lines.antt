@@ -1,0 +1,25 @@
+-- The outgoing lines of a run's calls: those of its own lines and orders, and within the spans of its bridges of its
+-- partner's uplink (this project's profile).
+use Rattle.std.specs.Prelude.{ℕ, List, [], ◌∷◌, ◌++◌}
+use Rattle.trau_bits.specs.Bits.{octets_of}
+use Rattle.call_leg.specs.Who.{Who}
+use Rattle.call_leg.specs.Periods.{CallPeriod}
+use Rattle.call_leg.specs.Out.{out_of}
+use Rattle.call_leg.specs.Down.{down_line}
+use Rattle.run_spec.specs.Run.{Run, who_in, periods_in}
+
+-- the Out line of a call that had these periods, the first octet first
+abbrev pub out_line : Who → List CallPeriod → List ℕ
+out_line who [] = []
+out_line who (t ∷ past) = out_line who past ++ out_of who (t ∷ past)
+
+-- the octets of its Down line
+abbrev pub down_octets : Who → List CallPeriod → List ℕ
+down_octets who ts = octets_of (down_line who ts)
+
+-- what a run writes on the outgoing lines of a call
+abbrev pub out_of_call : Run → ℕ → List ℕ
+out_of_call r c = out_line (who_in r c) (periods_in r c)
+
+abbrev pub down_of_call : Run → ℕ → List ℕ
+down_of_call r c = down_octets (who_in r c) (periods_in r c)

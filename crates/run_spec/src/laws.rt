@@ -1,0 +1,213 @@
+//! Laws of a run, each the contract of a function that does nothing. They lead from what is known while a run goes on
+//! to what the whole run gives.
+
+ghost use Rattle.std.specs.Prelude.{◌≡◌, ◌≤◌, ◌<◌, ◌+◌, ◌-◌, ℕ, Bool, true, not, ◌&&◌, ◌||◌, ◌==◌, if◌then◌else◌, nat_lt, Option, Some, None, is_some, IfSome, Ok, List, [], ◌∷◌, ◌++◌, map, filter, length};
+ghost use Rattle.std.proofs.Common.{get_or};
+ghost use Rattle.trau_io.specs.declared.line.Line.{Line};
+ghost use Rattle.trau_io.specs.declared.ends.CallEnd.{CallEnd};
+ghost use Rattle.trau_io.specs.declared.ends.Cause.TheVariants.{Closed, Limit};
+ghost use Rattle.trau_params.specs.Bits260.{bits260};
+ghost use Rattle.trau_orders.specs.declared.order.Order.{Order};
+ghost use Rattle.trau_orders.specs.Lists.{AreOrders};
+ghost use Rattle.switchboard.specs.declared.act.Act.TheVariants as act;
+ghost use Rattle.switchboard.specs.declared.act.Span.{Span};
+ghost use Rattle.switchboard.specs.declared.table.Bridge.{Bridge};
+ghost use Rattle.switchboard.specs.Calls.{Done, opened_at, closed_at, law_at, gone_at};
+ghost use Rattle.switchboard.specs.Bridges.{bridges, bridge_of, other, joins};
+ghost use Rattle.switchboard.specs.Stands.{IsLatest};
+ghost use Rattle.switchboard.specs.State.{first_stamp, numbered};
+ghost use Rattle.switchboard.specs.Runs.{executed, left_of, IsRun};
+ghost use Rattle.switchboard.specs.Ends.{lack_of, end_of, start_of, spans_of};
+ghost use Rattle.down_framer.specs.Made.{due};
+ghost use Rattle.down_framer.specs.Bridges.{IsHistory};
+ghost use Rattle.call_leg.specs.Uplink.{handed_fields};
+ghost use Rattle.call_leg.specs.Periods.{CallPeriod, ups_of, effective_now};
+ghost use Rattle.call_leg.specs.Settings.{Settings, later, without_bridge, period_with};
+ghost use Rattle.call_leg.specs.Down.{down_periods, frames_of};
+ghost use Rattle.call_leg.specs.Counted.{call_counts};
+ghost use Rattle.call_leg.specs.Places.{sent_now};
+ghost use Rattle.run_spec.specs.Run.{Run, given_in, whole_in, done_in, spans_in, start_in, end_in, law_in, who_in, up_in, pcm_in, ups_to, item_of, period_of, periods_to};
+ghost use Rattle.run_spec.specs.Lines.{out_line, down_octets, out_of_call, down_of_call};
+ghost use Rattle.run_spec.specs.Facts.{opened_calls, call_line, span_line, sent_by, report_of};
+ghost use Rattle.run_spec.specs.Now.{IsSoFar, NoOrderTo, has_period, bridge_now, handed_now, period_now, settings_now, settings_in, changed_by, after_periods};
+
+/// Orders are executed in one go or in several alike. Those that are executed later leave the earlier ones as they
+/// were, and add one reply each.
+pub fn executing_adds()
+    ensures front { (whole : ℕ → ℕ) (ds : List Done) (xs ys : List Order) → executed whole ds (xs ++ ys) ≡ executed whole (executed whole ds xs) ys }
+    ensures kept { (whole : ℕ → ℕ) (ds : List Done) (os : List Order) →
+        (more : List Done) × (executed whole ds os ≡ ds ++ more) × (map (λ d. d.order) more ≡ os) }
+{}
+
+/// How a run goes on: from its start, to a later clock where no order that is left comes before, and by the next order.
+pub fn runs_go_on()
+    ensures start { (r : Run) → AreOrders r.orders → IsSoFar r 0 [] r.orders }
+    ensures clock { (r : Run) (t u : ℕ) (ds : List Done) (left : List Order) → IsSoFar r t ds left →
+        t ≤ u → IfSome (first_stamp left) (λ s. u ≤ s) → IsSoFar r u ds left }
+    ensures order { (r : Run) (t : ℕ) (ds : List Done) (d : Done) (left : List Order) → IsSoFar r t ds (d.order ∷ left) →
+        d.order.stamp ≡ t → t < r.periods → IsRun (whole_in r) (ds ++ d ∷ []) → IsSoFar r t (ds ++ d ∷ []) left }
+{}
+
+/// What the whole run executes begins with the orders so far. The rest are those that are left, below the run's end;
+/// where none is, all is executed, and what is left stays. A call that was opened so far begins at the same period and has the
+/// same law in the whole run.
+pub fn runs_are_whole()
+    ensures rest { (r : Run) (t : ℕ) (ds : List Done) (left : List Order) → IsSoFar r t ds left →
+        (rest : List Done) × (done_in r ≡ ds ++ rest) × (map (λ d. d.order) rest ≡ filter (λ o. nat_lt o.stamp r.periods) left) }
+    ensures all { (r : Run) (t : ℕ) (ds : List Done) (left : List Order) → IsSoFar r t ds left →
+        IfSome (first_stamp left) (λ s. r.periods ≤ s) → done_in r ≡ ds }
+    ensures left { (r : Run) (t : ℕ) (ds : List Done) (left : List Order) → IsSoFar r t ds left →
+        IfSome (first_stamp left) (λ s. r.periods ≤ s) → left_of r.periods r.orders ≡ left }
+    ensures opened { (r : Run) (t : ℕ) (ds : List Done) (left : List Order) (c s : ℕ) → IsSoFar r t ds left →
+        opened_at c ds ≡ Some s → start_in r c ≡ s }
+    ensures law { (r : Run) (t : ℕ) (ds : List Done) (left : List Order) (c s : ℕ) → IsSoFar r t ds left →
+        opened_at c ds ≡ Some s → law_in r c ≡ law_at c ds }
+{}
+
+/// Period u of an open call is settled once the orders up to it were executed: no later order and no end changes it.
+pub fn periods_are_settled()
+    ensures period { (r : Run) (t u : ℕ) (ds : List Done) (left : List Order) (c s : ℕ) → IsSoFar r t ds left →
+        t ≤ u → u < r.periods → NoOrderTo u left → opened_at c ds ≡ Some s → period_of r c (u - s) ≡ period_now r ds u c }
+    ensures more { (r : Run) (t u : ℕ) (ds : List Done) (left : List Order) (c s : ℕ) → IsSoFar r t ds left →
+        t ≤ u → u < r.periods → NoOrderTo u left → opened_at c ds ≡ Some s →
+        periods_to r c (u + 1 - s) ≡ period_now r ds u c ∷ periods_to r c (u - s) }
+
+    // It goes on with its settings, and lies in a bridge exactly where something is handed over.
+    ensures settings { (r : Run) (ds : List Done) (u c : ℕ) →
+        period_now r ds u c ≡ period_with (settings_in r ds u c) (up_in r c (u - start_of ds c)) (pcm_in r c (u - start_of ds c)) (handed_now r ds u c) }
+    ensures handed { (r : Run) (t u : ℕ) (ds : List Done) (left : List Order) (c : ℕ) → IsSoFar r t ds left → t ≤ u →
+        is_some (handed_now r ds u c) ≡ (settings_in r ds u c).bridged }
+{}
+
+/// The bridge of a call from period to period, while no order is executed.
+pub fn bridges_go_on()
+    // In period k it is the one that lasts at t, where both of its calls have period k.
+    ensures none { (r : Run) (t k : ℕ) (ds : List Done) (left : List Order) (c : ℕ) → IsSoFar r t ds left → t ≤ k →
+        bridge_of (gone_at (whole_in r) t ds) ds c ≡ None → bridge_now r ds k c ≡ None }
+    ensures same { (r : Run) (t k : ℕ) (ds : List Done) (left : List Order) (c : ℕ) (x : Bridge) → IsSoFar r t ds left → t ≤ k →
+        bridge_of (gone_at (whole_in r) t ds) ds c ≡ Some x → has_period r ds k c ≡ true →
+        bridge_now r ds k c ≡ (if has_period r ds k (other c x) then Some x else None) }
+    ensures later { (r : Run) (t u k : ℕ) (ds : List Done) (left : List Order) (c : ℕ) → IsSoFar r t ds left → t ≤ u → u ≤ k →
+        bridge_now r ds k c ≡ elim (bridge_of (gone_at (whole_in r) u ds) ds c) [
+          | None ↦ None
+          | Some x ↦ if has_period r ds k x.a && has_period r ds k x.b then Some x else None
+        ] }
+
+    // After period u that one lasts which the call had in it, and no other.
+    ensures after { (r : Run) (t u : ℕ) (ds : List Done) (left : List Order) (c : ℕ) → IsSoFar r t ds left → u < r.periods →
+        bridge_of (gone_at (whole_in r) (u + 1) ds) ds c ≡ bridge_now r ds u c }
+
+    // The partner has the same one.
+    ensures each { (r : Run) (t : ℕ) (ds : List Done) (left : List Order) (c : ℕ) (x : Bridge) → IsSoFar r t ds left →
+        bridge_of (gone_at (whole_in r) t ds) ds c ≡ Some x → bridge_of (gone_at (whole_in r) t ds) ds (other c x) ≡ Some x }
+    ensures partner { (r : Run) (t u : ℕ) (ds : List Done) (left : List Order) (c : ℕ) (x : Bridge) → IsSoFar r t ds left →
+        t ≤ u → u < r.periods → bridge_now r ds u c ≡ Some x → bridge_now r ds u (other c x) ≡ Some x }
+
+    // A call that no order closed is gone after a period exactly where it doesn't have it.
+    ensures gone { (r : Run) (u : ℕ) (ds : List Done) (c s : ℕ) → u < r.periods → opened_at c ds ≡ Some s → closed_at c ds ≡ None →
+        gone_at (whole_in r) (u + 1) ds c ≡ not (has_period r ds u c) }
+{}
+
+/// What is set for a call: each order makes of it what its act says, and after a period that stays which the period was
+/// worked with, but that no bridge starts.
+pub fn settings_follow()
+    ensures order { (r : Run) (t : ℕ) (ds : List Done) (d : Done) (left : List Order) (c : ℕ) → IsSoFar r t ds (d.order ∷ left) →
+        d.order.stamp ≡ t → IsRun (whole_in r) (ds ++ d ∷ []) → settings_now r (ds ++ d ∷ []) t c ≡ changed_by c d.result (settings_now r ds t c) }
+    ensures period { (r : Run) (t u : ℕ) (ds : List Done) (left : List Order) (c : ℕ) → IsSoFar r t ds left →
+        t ≤ u → u < r.periods → settings_now r ds (u + 1) c ≡ later (settings_in r ds u c) }
+{}
+
+/// A round of k periods of a call, in which no order comes.
+pub fn rounds_go_on()
+    // Its periods go on with what is set at its start, but for the bridge: what is handed over tells where they lie in
+    // one.
+    ensures period { (r : Run) (t k : ℕ) (ds : List Done) (left : List Order) (c : ℕ) → IsSoFar r t ds left → t + k < r.periods →
+        period_now r ds (t + k) c ≡ period_with (after_periods k (settings_now r ds t c)) (up_in r c (t + k - start_of ds c)) (pcm_in r c (t + k - start_of ds c)) (handed_now r ds (t + k) c) }
+
+    // Without a bridge it goes on alone.
+    ensures alone { (r : Run) (t k : ℕ) (ds : List Done) (left : List Order) (c : ℕ) → IsSoFar r t ds left → t + k ≤ r.periods →
+        bridge_of (gone_at (whole_in r) t ds) ds c ≡ None → settings_now r ds (t + k) c ≡ after_periods k (settings_now r ds t c) }
+
+    // Where its partner has the first m of them, the bridge is off after these.
+    ensures bridged { (r : Run) (t k m : ℕ) (ds : List Done) (left : List Order) (c : ℕ) (x : Bridge) → IsSoFar r t ds left → t + k ≤ r.periods →
+        bridge_of (gone_at (whole_in r) t ds) ds c ≡ Some x → ((j : ℕ) → j < k → has_period r ds (t + j) c ≡ true) →
+        ((j : ℕ) → j < k → has_period r ds (t + j) (other c x) ≡ nat_lt j m) →
+        settings_now r ds (t + k) c ≡ (if nat_lt m k then without_bridge (after_periods k (settings_now r ds t c)) else after_periods k (settings_now r ds t c)) }
+{}
+
+/// The end of a call is known once the orders up to it were executed: where it was closed, where its lines lack a
+/// period, or at the run's end. The period of an end by its lines is known before the orders of that period.
+pub fn ends_are_known()
+    ensures closed { (r : Run) (t : ℕ) (ds : List Done) (left : List Order) (c s e : ℕ) → IsSoFar r t ds left → closed_at c ds ≡ Some e →
+        end_of (given_in r) r.periods (done_in r) c s ≡ record { call = c; at = e; cause = Closed } }
+    ensures lacks { (r : Run) (t : ℕ) (ds : List Done) (left : List Order) (c s : ℕ) → IsSoFar r t ds left →
+        opened_at c ds ≡ Some s → closed_at c ds ≡ None → s + whole_in r c < r.periods → NoOrderTo (s + whole_in r c) left →
+        end_of (given_in r) r.periods (done_in r) c s ≡ record { call = c; at = s + whole_in r c; cause = lack_of (whole_in r c) (given_in r c) } }
+    ensures at { (r : Run) (ds : List Done) (left : List Order) (c s : ℕ) → IsSoFar r (s + whole_in r c) ds left →
+        opened_at c ds ≡ Some s → closed_at c ds ≡ None → s + whole_in r c ≤ r.periods →
+        end_in r c ≡ s + whole_in r c }
+    ensures limit { (r : Run) (t : ℕ) (ds : List Done) (left : List Order) (c s : ℕ) → IsSoFar r t ds left →
+        IfSome (first_stamp left) (λ s. r.periods ≤ s) → closed_at c ds ≡ None → r.periods ≤ s + whole_in r c →
+        end_of (given_in r) r.periods (done_in r) c s ≡ record { call = c; at = r.periods; cause = Limit } }
+{}
+
+/// The periods of a call are a history of its downlink: its bridges leave a period between, and go on without a gap.
+/// So no handed frame waits where an order makes a bridge.
+pub fn periods_are_a_history()
+    ensures history { (r : Run) (c n : ℕ) → AreOrders r.orders → IsHistory (down_periods (periods_to r c n)) }
+    ensures bridge { (r : Run) (t : ℕ) (ds : List Done) (d : Done) (left : List Order) (a b c s : ℕ) → IsSoFar r t ds (d.order ∷ left) →
+        d.order.stamp ≡ t → t < r.periods → IsRun (whole_in r) (ds ++ d ∷ []) → d.result ≡ Ok (act.Bridged a b) → (c == a || c == b) ≡ true →
+        opened_at c ds ≡ Some s → due (down_periods (periods_to r c (t - s))) (frames_of (periods_to r c (t - s))) ≡ None }
+{}
+
+/// What a call hands over in its newest period are the bits of its effective frame in it: so in a period of a bridge
+/// its partner's are handed to a call, and both of them have the period.
+pub fn items_are_effective_frames()
+    ensures both { (r : Run) (t u : ℕ) (ds : List Done) (left : List Order) (c : ℕ) (x : Bridge) → IsSoFar r t ds left →
+        bridge_now r ds u c ≡ Some x → (joins c x ≡ true) × (has_period r ds u x.a ≡ true) × (has_period r ds u x.b ≡ true) × ((s : ℕ) × (opened_at (other c x) ds ≡ Some s)) }
+    ensures handed { (r : Run) (t u : ℕ) (ds : List Done) (left : List Order) (c s : ℕ) (x : Bridge) (now : Settings) (pcm : List ℕ) (handed : Option (List ℕ)) →
+        IsSoFar r t ds left → t ≤ u → bridge_now r ds u c ≡ Some x → opened_at (other c x) ds ≡ Some s → handed_now r ds u c ≡
+        Some (bits260 (handed_fields (effective_now (other c x) (period_with now (up_in r (other c x) (u - s)) pcm handed ∷ periods_to r (other c x) (u - s))))) }
+    ensures item { (c : ℕ) (ts : List CallPeriod) → item_of c (ups_of ts) ≡ bits260 (handed_fields (effective_now c ts)) }
+    ensures ups { (r : Run) (c n : ℕ) → ups_of (periods_to r c n) ≡ ups_to r c n }
+{}
+
+/// What is reported of a call that has ended, and what it wrote, are those of its periods up to its end.
+pub fn ended_calls_are_reported()
+    ensures line { (r : Run) (t : ℕ) (ds : List Done) (left : List Order) (c s : ℕ) (end : CallEnd) → IsSoFar r t ds left →
+        opened_at c ds ≡ Some s → end_of (given_in r) r.periods (done_in r) c s ≡ end →
+        call_line r c ≡ record { end = end; from = s; counts = call_counts (periods_to r c (end.at - s)) } }
+    ensures out { (r : Run) (t : ℕ) (ds : List Done) (left : List Order) (c s : ℕ) (end : CallEnd) → IsSoFar r t ds left →
+        opened_at c ds ≡ Some s → end_of (given_in r) r.periods (done_in r) c s ≡ end → out_of_call r c ≡ out_line (who_in r c) (periods_to r c (end.at - s)) }
+    ensures down { (r : Run) (t : ℕ) (ds : List Done) (left : List Order) (c s : ℕ) (end : CallEnd) → IsSoFar r t ds left →
+        opened_at c ds ≡ Some s → end_of (given_in r) r.periods (done_in r) c s ≡ end → down_of_call r c ≡ down_octets (who_in r c) (periods_to r c (end.at - s)) }
+{}
+
+/// The report, once no order below the run's end is left: from what was executed, and what is left.
+pub fn whole_runs_are_reported()
+    ensures { (r : Run) (t : ℕ) (ds : List Done) (left : List Order) (failed : List Line) → IsSoFar r t ds left →
+        IfSome (first_stamp left) (λ s. r.periods ≤ s) → report_of r failed ≡ record {
+          replies = numbered 0 ds;
+          spans = map (span_line r) (spans_of (given_in r) r.periods ds);
+          calls = map (call_line r) (opened_calls ds);
+          failed = failed;
+          left = length left;
+        } }
+{}
+
+/// What is handed over in a span, a frame in each of its periods, is sent or lost.
+pub fn handed_frames_are_sent_or_lost()
+    ensures { (r : Run) (x : Span) → ((span_line r x).sent_a + (span_line r x).lost_a ≡ x.to - x.from) × ((span_line r x).sent_b + (span_line r x).lost_b ≡ x.to - x.from) }
+{}
+
+/// How many frames of a bridge a call sends is what its leg tells where the call's next bridge is made, or at its end:
+/// no frame that is made later carries what was handed over in the bridge. k is the place of the call's latest bridge.
+pub fn sent_frames_are_told()
+    ensures bridge { (r : Run) (t : ℕ) (ds : List Done) (d : Done) (left : List Order) (a b c s k : ℕ) (x : Span) → IsSoFar r t ds (d.order ∷ left) →
+        d.order.stamp ≡ t → t < r.periods → IsRun (whole_in r) (ds ++ d ∷ []) → d.result ≡ Ok (act.Bridged a b) → (c == a || c == b) ≡ true →
+        opened_at c ds ≡ Some s → IsLatest (bridges ds) c (Some k) →
+        sent_by r (get_or (spans_in r) k x) c ≡ sent_now (periods_to r c (t - s)) (settings_now r ds t c) }
+    ensures end { (r : Run) (t : ℕ) (ds : List Done) (left : List Order) (c s k : ℕ) (x : Span) → IsSoFar r t ds left →
+        opened_at c ds ≡ Some s → IsLatest (bridges ds) c (Some k) → end_in r c ≡ t →
+        sent_by r (get_or (spans_in r) k x) c ≡ sent_now (periods_to r c (t - s)) (settings_now r ds t c) }
+{}
