@@ -55,13 +55,13 @@ fell_none lines c s = omega arith
 pub tells_none : (lines : ℕ → Side → LineState) → TellsFailed lines lines []
 tells_none lines = record { failures = record { rose = λ c s h. cc; kept = λ c s h. refl }; order = λ k l. absurd (omega arith) }
 
-none_worked : (r : Run) (c : ℕ) → worked_to r 0 c ≡ 0
+pub none_worked : (r : Run) (c : ℕ) → worked_to r 0 c ≡ 0
 none_worked r c = by (end_in r c) (start_of (done_in r) c)
   where
     by : (e s : ℕ) → min 0 e - s ≡ 0
     by e s = omega arith
 
-no_octets : (who : Who) → down_octets who [] ≡ []
+pub no_octets : (who : Who) → down_octets who [] ≡ []
 no_octets who = by (octets_of []) (length-octets_of [] 0 refl)
   where
     by : (xs : List ℕ) → length xs ≡ 0 → xs ≡ []
@@ -149,7 +149,7 @@ module _ (r : Run) (t u : ℕ) (b : State) (groups : List Group) (last : Standin
   shut_then : (c : ℕ) → is_open (gone_at (whole_in r) u b.done) b.done c ≡ false
   shut_then c = let e : t + (u - t) ≡ u = omega arith in subst (λ (v : ℕ). is_open (gone_at (whole_in r) v b.done) b.done c ≡ false) e (shut_after r t (u - t) b.done c (shut c))
 
-  idle : (c : ℕ) → IsOpened r c → worked_to r u c ≡ worked_to r t c
+  pub idle : (c : ℕ) → IsOpened r c → worked_to r u c ≡ worked_to r t c
   idle c i = worked_idle r t u b.done b.left c at.follows.so_far l (omega arith) n (shut c) i
 
   tells_on : TellsEnds (whole_in r) u b
@@ -235,48 +235,3 @@ leaves_all r b groups failed first now at wrote =
 pub none_listed : (first now : ℕ → Side → LineState) (lines : List Line) → TellsFailed first now lines → NoneRose first now → lines ≡ []
 none_listed first now [] h n = refl
 none_listed first now (x ∷ lines) h n = absurd (n x.call x.side (h.failures.rose x.call x.side (listed_head x lines)))
-
--- what is known of each run over these lines at its end
-pub record AtEnd (os : List Order) (pace : Pace) (first now : ℕ → Side → LineState) (b : State) (farm : FarmMemory) (journal : JournalMemory) : Type 0 where
-  pub tells : TellsFailed first now farm.failed
-  pub sides : KeepsSides first now
-  pub reads : ReadsOn first now
-  pub at : (r : Run) → IsRunOver os r.periods (is_listed farm.failed) first now r → pace.periods ≤ r.periods → IsAtClock r pace.periods b farm.groups (standing b farm.failed now) first now
-  pub wrote : (r : Run) → IsRunOver os r.periods (is_listed farm.failed) first now r → pace.periods ≤ r.periods → WrittenFrom r 0 pace.periods (is_listed farm.failed) first now
-  pub short : (r : Run) → IsRunOver os r.periods (is_listed farm.failed) first now r → pace.periods ≤ r.periods → FailedShort r pace.batch (is_listed farm.failed)
-  pub known : (r : Run) → IsRunOver os r.periods (is_listed farm.failed) first now r → pace.periods ≤ r.periods → IsKnown r pace.periods b farm.tallies journal
-
--- **So the report of a run at its end tells what the run gives.**
-pub run_told : {E : Type 0} (os : List Order) (pace : Pace) (first now : ℕ → Side → LineState) (b : State) (farm : FarmMemory) (journal : JournalMemory) (count : ℕ) (o : Result ReportView E) → AtEnd os pace first now b farm journal →
-    IfOk o (λ report. report.failed ≡ farm.failed) → count ≡ length os →
-    IfOk o (λ report. (r : Run) (t : ℕ) → IsAtEnd r t b farm.groups farm.tallies journal → r.periods ≡ pace.periods → length r.orders ≡ count → report ≡ report_of r report.failed) → IfOk o (λ report. Runs os pace first now report)
-run_told os pace first now b farm journal count (Err e) end f number g = tt
-run_told os pace first now b farm journal count (Ok report) end f number g = record {
-  failed = subst (λ (ls : List Line). TellsFailed first now ls) (sym f) end.tells;
-  sides = end.sides;
-  reads = end.reads;
-  leaves = λ r run.
-      let is = over r run in
-      subst (λ (ls : List Line). Leaves r (is_listed ls) first now) (sym f) (leaves_all r b farm.groups farm.failed first now (at r is)
-      (subst (λ (p : ℕ). WrittenFrom r 0 p (is_listed farm.failed) first now) (sym run.same_periods) (end.wrote r (within r is) (least r run))));
-  reports = λ r run.
-      let is = over r run in
-      let here = at r is in
-      let knows = subst (λ (p : ℕ). IsKnown r p b farm.tallies journal) (sym run.same_periods) (end.known r (within r is) (least r run)) in
-      g r r.periods (record { follows = here.follows; none_left = here.follows.so_far.ahead; clock = λ c o. refl; truly = knows.truly; noted = knows.noted }) run.same_periods (ap length run.same_orders ∙ sym number);
-  short = λ r run. subst (λ (ls : List Line). FailedShort r pace.batch (is_listed ls)) (sym f) (end.short r (within r (over r run)) (least r run));
-  there = λ are told. there_is os pace.periods (is_listed report.failed) first now are (λ c s n i. let octets = told c s n i in let k = end.reads c s octets.0 i octets.1 in (octets.0, k.0, octets.1, k.1));
-}
-  where
-    over : (r : Run) → IsRunOver os pace.periods (is_listed report.failed) first now r → IsRunOver os pace.periods (is_listed farm.failed) first now r
-    over r run = subst (λ (ls : List Line). IsRunOver os pace.periods (is_listed ls) first now r) f run
-
-    -- the run, to its own number of periods
-    within : (r : Run) → IsRunOver os pace.periods (is_listed farm.failed) first now r → IsRunOver os r.periods (is_listed farm.failed) first now r
-    within r run = subst (λ (p : ℕ). IsRunOver os p (is_listed farm.failed) first now r) (sym run.same_periods) run
-
-    least : (r : Run) → IsRunOver os pace.periods (is_listed report.failed) first now r → pace.periods ≤ r.periods
-    least r run = let e = run.same_periods in omega (arith, e)
-
-    at : (r : Run) → IsRunOver os pace.periods (is_listed farm.failed) first now r → IsAtClock r r.periods b farm.groups (standing b farm.failed now) first now
-    at r run = let e = run.same_periods in subst (λ (p : ℕ). IsAtClock r p b farm.groups (standing b farm.failed now) first now) (sym e) (end.at r (within r run) (omega (arith, e)))

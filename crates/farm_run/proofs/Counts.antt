@@ -12,6 +12,7 @@ use Rattle.trau_io.specs.declared.line.Side.TheVariants.{Up, Pcm, Down, Out}
 use Rattle.trau_io.specs.Lines.{LineState, Rose}
 use Rattle.trau_io.specs.Places.{place_of}
 use Rattle.trau_io.specs.declared.ends.CallEnd.{CallEnd}
+use Rattle.round_lines.specs.declared.transfer.Outlet.{Outlet}
 use Rattle.round_lines.specs.Places.{PlaceMemory, fails_in, sides, name_of, name_where_failed, failed_in_round}
 use Rattle.round_lines.specs.Seats.{SeatMemory}
 use Rattle.round_lines.specs.Rounds.{seat_at, call_at}
@@ -20,6 +21,7 @@ use Rattle.farm_rounds.specs.Numbers.{is_among}
 use Rattle.farm_rounds.specs.Memory.{FarmMemory}
 use Rattle.farm_rounds.specs.Working.{GainsFailed}
 use Rattle.farm_run.proofs.WorkedRound.{WorkedRound, among_place, seat_facts, drained_call, tells_seat, lines_kept, down_between, out_between, up_after, pcm_after}
+use Rattle.farm_run.specs.Outgoing.{Moves}
 use Rattle.farm_run.specs.Runs.{is_listed, TellsFailed}
 use Rattle.farm_run.specs.Clock.{NeverFell}
 use Rattle.farm_run.proofs.Listed.{cons_cases, none_in, listed_name, name_listed, is_false}
@@ -33,6 +35,11 @@ rose_after first before now l r = omega arith
 
 pub fell_more : (first before now : ℕ → Side → LineState) → NeverFell first before → NeverFell before now → NeverFell first now
 fell_more first before now l m c s = let a = l c s in let b = m c s in omega arith
+
+-- no count falls where a line is given octets, or nothing happens to it
+moved_later : (before now : LineState) (was stands : Outlet) (octets : List ℕ) → Moves before now was stands octets → before.faults ≤ now.faults
+moved_later before now was stands octets (inl g) = g.later
+moved_later before now was stands octets (inr e) = let same = ap (λ (l : LineState). l.faults) e.0 in omega (arith, same)
 
 -- ---- the lines that failed in a round
 
@@ -113,7 +120,7 @@ module _ (t n : ℕ) (farm after : FarmMemory) (before now : ℕ → Side → Li
   -- **No count falls.**
   pub fell_round : NeverFell before now
   fell_round c s = elim (seat_cases c) [
-    | inl m ↦ let f = seat_facts t n farm after before now ends w m.0 c m.1 m.2 in side s f.2.front.fills.up.later f.2.front.fills.pcm.later f.2.drains.down.later f.2.drains.out.later
+    | inl m ↦ let f = seat_facts t n farm after before now ends w m.0 c m.1 m.2 in side s f.2.front.fills.up.later f.2.front.fills.pcm.later (moved_later _ _ _ _ _ f.2.drains.down) (moved_later _ _ _ _ _ f.2.drains.out)
     | inr q ↦ let e = ap (λ (l : LineState). l.faults) (lines_kept t n farm after before now ends w c q s) in omega (arith, e)
   ]
     where

@@ -44,7 +44,7 @@ use Rattle.farm_run.proofs.NotedRounds.{kept_at_end, open_not_ended, truly_told}
 use Rattle.farm_run.proofs.Finishing.{calls_reported, spans_reported}
 
 -- what holds of each number that is among these holds of all of them
-each_among : (P : ℕ → Type 0) (calls : List ℕ) → ((c : ℕ) → is_among calls c ≡ true → P c) → AllByRecursion P calls
+pub each_among : (P : ℕ → Type 0) (calls : List ℕ) → ((c : ℕ) → is_among calls c ≡ true → P c) → AllByRecursion P calls
 each_among P [] h = tt
 each_among P (c ∷ calls) h =
     (h c (or_left (c == c) (is_among calls c) (eq-eqb c c refl)), each_among P calls (λ d q. h d (or_right (c == d) (is_among calls d) q)))

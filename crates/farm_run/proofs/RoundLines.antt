@@ -47,7 +47,7 @@ use Rattle.farm_run.proofs.Told.{told_done, told_left, round_over, gone_round}
 use Rattle.farm_run.proofs.SeatEnds.{each_end, told_seats}
 use Rattle.farm_run.proofs.Worked.{out_written, down_written, length-periods_to}
 use Rattle.farm_run.proofs.Reach.{end_after, worked_now, worked_then, worked_idle}
-use Rattle.farm_run.proofs.WorkedRound.{WorkedRound, lines_kept, down_between, out_between}
+use Rattle.farm_run.proofs.WorkedRound.{WorkedRound, lines_kept, writes_at, down_between, out_between}
 use Rattle.farm_run.proofs.Gaining.{gains, length-out_line, length-down_octets}
 use Rattle.farm_run.proofs.RoundListed.{listed_kept, was_down, was_out, stands_down, stands_out}
 use Rattle.farm_run.proofs.RoundCalls.{OpenSeat, open_seat, open_is, opened_is, all_seats, all_have_seats, ends_filled, goes_on_is}
@@ -77,13 +77,13 @@ module _ (r : Run) (t n : ℕ) (b : State) (farm after : FarmMemory) (first befo
     (w : WorkedRound t n farm after before now ends) (h : IsRound r t n b.done b.left) (m : Matches b farm.groups) (b' : State) (last : Standing) (at : IsAtClock r t b farm.groups last first before)
     (meets : MeetsRun r n w.filled (standing b' after.failed now) last) (a : AtClock t b farm.groups) (knows : KnowsListed b farm.groups farm.failed) (told : b' ≡ told_after b ends)
     (open_then : (c : ℕ) → open_now b' c ≡ (open_now b c && not (is_told c ends))) where
-  abbrev alive : ℕ → Bool
+  abbrev pub alive : ℕ → Bool
   alive = is_open (gone_at (whole_in r) t b.done) b.done
 
-  abbrev Seat : ℕ → Type 0
+  abbrev pub Seat : ℕ → Type 0
   Seat c = OpenSeat r t n b farm after first before now ends w h m b' last at meets c
 
-  abbrev seat : (c : ℕ) → alive c ≡ true → Seat c
+  abbrev pub seat : (c : ℕ) → alive c ≡ true → Seat c
   seat c o = open_seat r t n b farm after first before now ends w h m b' last at meets c o
 
   abbrev hs : ℕ → Option CallHistory
@@ -185,7 +185,7 @@ module _ (r : Run) (t n : ℕ) (b : State) (farm after : FarmMemory) (first befo
   shut : (c : ℕ) → alive c ≡ false → is_some (call_in farm.groups c) ≡ false
   shut c o = open_is r t n b farm after first before now ends w h m b' last at meets c ∙ o
 
-  idle : (c : ℕ) → IsOpened r c → alive c ≡ false → worked_to r (t + n) c ≡ worked_to r t c
+  pub idle : (c : ℕ) → IsOpened r c → alive c ≡ false → worked_to r (t + n) c ≡ worked_to r t c
   idle c i o =
       let within = h.within in
       worked_idle r t (t + n) b.done b.left c h.so_far (omega arith) (omega arith) h.clear o i
@@ -244,9 +244,9 @@ module _ (r : Run) (t n : ℕ) (b : State) (farm after : FarmMemory) (first befo
       by e s = omega arith
 
   -- **A line gains that, or a proper front of it.**
-  wrote_out : (from : ℕ) → from ≤ t → WrittenFrom r from t (is_listed farm.failed) first before → (c : ℕ) → alive c ≡ true →
+  wrote_out : w.held ≡ false → (from : ℕ) → from ≤ t → WrittenFrom r from t (is_listed farm.failed) first before → (c : ℕ) → alive c ≡ true →
       IsWritten (is_listed after.failed c Out) (first c Out) (now c Out) (drop (160 * worked_to r from c) (out_line (who_in r c) (periods_to r c (worked_to r (t + n) c))))
-  wrote_out from l wrote c o =
+  wrote_out written from l wrote c o =
       let s = seat c o in
       let k = 160 * worked_to r from c in
       let old = out_line (who_in r c) (periods_to r c (worked_to r t c)) in
@@ -255,13 +255,13 @@ module _ (r : Run) (t n : ℕ) (b : State) (farm after : FarmMemory) (first befo
       let was = wrote.out c (opened_is r t n b farm after first before now ends w h m b' last at meets c o) in
       subst (λ (x : Bool). IsWritten x (first c Out) (now c Out) (drop k (out_line (who_in r c) (periods_to r c (worked_to r (t + n) c))))) (stands_out t n b farm after before now ends w a knows b' told open_then s.k c s.within s.here)
       (subst (IsWritten (has_failed (seat_at w.drained s.k).place.out) (first c Out) (now c Out)) (sym (ap (drop k) (grown_out c o) ∙ drop-append-le k old (seats.out_of (seat_at w.worked s.k)) fits))
-      (gains (first c Out) (w.between c Out) (now c Out) (seat_at w.worked s.k).place.out (seat_at w.drained s.k).place.out front (seats.out_of (seat_at w.worked s.k)) s.facts.drains.out
+      (gains (first c Out) (w.between c Out) (now c Out) (seat_at w.worked s.k).place.out (seat_at w.drained s.k).place.out front (seats.out_of (seat_at w.worked s.k)) (writes_at t n farm after before now ends w s.k c s.within s.here written).out
       (subst (λ (x : Bool). IsWritten x (first c Out) (w.between c Out) front) (sym (was_out t n b farm after before now ends w a knows b' told open_then s.k c s.within s.here))
       (subst (λ (l : LineState). IsWritten (is_listed farm.failed c Out) (first c Out) l front) (sym (out_between t n farm after before now ends w c)) was))))
 
-  wrote_down : (from : ℕ) → from ≤ t → WrittenFrom r from t (is_listed farm.failed) first before → (c : ℕ) → alive c ≡ true →
+  wrote_down : w.held ≡ false → (from : ℕ) → from ≤ t → WrittenFrom r from t (is_listed farm.failed) first before → (c : ℕ) → alive c ≡ true →
       IsWritten (is_listed after.failed c Down) (first c Down) (now c Down) (drop (40 * worked_to r from c) (down_octets (who_in r c) (periods_to r c (worked_to r (t + n) c))))
-  wrote_down from l wrote c o =
+  wrote_down written from l wrote c o =
       let s = seat c o in
       let k = 40 * worked_to r from c in
       let old = down_octets (who_in r c) (periods_to r c (worked_to r t c)) in
@@ -270,20 +270,20 @@ module _ (r : Run) (t n : ℕ) (b : State) (farm after : FarmMemory) (first befo
       let was = wrote.down c (opened_is r t n b farm after first before now ends w h m b' last at meets c o) in
       subst (λ (x : Bool). IsWritten x (first c Down) (now c Down) (drop k (down_octets (who_in r c) (periods_to r c (worked_to r (t + n) c))))) (stands_down t n b farm after before now ends w a knows b' told open_then s.k c s.within s.here)
       (subst (IsWritten (has_failed (seat_at w.drained s.k).place.down) (first c Down) (now c Down)) (sym (ap (drop k) (grown_down c o) ∙ drop-append-le k old (seats.down_of (seat_at w.worked s.k)) fits))
-      (gains (first c Down) (w.between c Down) (now c Down) (seat_at w.worked s.k).place.down (seat_at w.drained s.k).place.down front (seats.down_of (seat_at w.worked s.k)) s.facts.drains.down
+      (gains (first c Down) (w.between c Down) (now c Down) (seat_at w.worked s.k).place.down (seat_at w.drained s.k).place.down front (seats.down_of (seat_at w.worked s.k)) (writes_at t n farm after before now ends w s.k c s.within s.here written).down
       (subst (λ (x : Bool). IsWritten x (first c Down) (w.between c Down) front) (sym (was_down t n b farm after before now ends w a knows b' told open_then s.k c s.within s.here))
       (subst (λ (l : LineState). IsWritten (is_listed farm.failed c Down) (first c Down) l front) (sym (down_between t n farm after before now ends w c)) was))))
 
   -- **What is written after the round.**
-  pub written_after : (from : ℕ) → from ≤ t → WrittenFrom r from t (is_listed farm.failed) first before → WrittenFrom r from (t + n) (is_listed after.failed) first now
-  written_after from l wrote = record { out = out; down = down }
+  pub written_after : w.held ≡ false → (from : ℕ) → from ≤ t → WrittenFrom r from t (is_listed farm.failed) first before → WrittenFrom r from (t + n) (is_listed after.failed) first now
+  written_after written from l wrote = record { out = out; down = down }
     where
       still : (c : ℕ) (s : Side) → alive c ≡ false → is_listed after.failed c s ≡ is_listed farm.failed c s
       still c s o = listed_kept t n b farm after before now ends w a knows b' told open_then c s (shut c o)
 
       out : (c : ℕ) → IsOpened r c → IsWritten (is_listed after.failed c Out) (first c Out) (now c Out) (drop (160 * worked_to r from c) (out_line (who_in r c) (periods_to r c (worked_to r (t + n) c))))
       out c i = elim (cases_Bool (alive c)) [
-        | inl o ↦ wrote_out from l wrote c o
+        | inl o ↦ wrote_out written from l wrote c o
         | inr o ↦ subst (λ (k : ℕ). IsWritten (is_listed after.failed c Out) (first c Out) (now c Out) (drop (160 * worked_to r from c) (out_line (who_in r c) (periods_to r c k)))) (sym (idle c i o))
             (subst (λ (l : LineState). IsWritten (is_listed after.failed c Out) (first c Out) l (drop (160 * worked_to r from c) (out_line (who_in r c) (periods_to r c (worked_to r t c))))) (sym (kept c o Out))
             (subst (λ (x : Bool). IsWritten x (first c Out) (before c Out) (drop (160 * worked_to r from c) (out_line (who_in r c) (periods_to r c (worked_to r t c))))) (sym (still c Out o)) (wrote.out c i)))
@@ -291,7 +291,7 @@ module _ (r : Run) (t n : ℕ) (b : State) (farm after : FarmMemory) (first befo
 
       down : (c : ℕ) → IsOpened r c → IsWritten (is_listed after.failed c Down) (first c Down) (now c Down) (drop (40 * worked_to r from c) (down_octets (who_in r c) (periods_to r c (worked_to r (t + n) c))))
       down c i = elim (cases_Bool (alive c)) [
-        | inl o ↦ wrote_down from l wrote c o
+        | inl o ↦ wrote_down written from l wrote c o
         | inr o ↦ subst (λ (k : ℕ). IsWritten (is_listed after.failed c Down) (first c Down) (now c Down) (drop (40 * worked_to r from c) (down_octets (who_in r c) (periods_to r c k)))) (sym (idle c i o))
             (subst (λ (l : LineState). IsWritten (is_listed after.failed c Down) (first c Down) l (drop (40 * worked_to r from c) (down_octets (who_in r c) (periods_to r c (worked_to r t c))))) (sym (kept c o Down))
             (subst (λ (x : Bool). IsWritten x (first c Down) (before c Down) (drop (40 * worked_to r from c) (down_octets (who_in r c) (periods_to r c (worked_to r t c))))) (sym (still c Down o)) (wrote.down c i)))

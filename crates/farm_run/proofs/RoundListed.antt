@@ -12,11 +12,11 @@ use Rattle.trau_io.specs.declared.ends.CallEnd.{CallEnd}
 use Rattle.trau_io.specs.Lines.{LineState}
 use Rattle.round_lines.specs.declared.transfer.Outlet.{Outlet}
 use Rattle.round_lines.specs.declared.transfer.Outlet.TheVariants.{Sound, FailedBefore, FailedNow}
-use Rattle.round_lines.specs.Transfer.{Gives, has_failed, fails_now}
+use Rattle.round_lines.specs.Transfer.{has_failed, fails_now}
 use Rattle.round_lines.specs.Places as places
 use Rattle.round_lines.specs.Places.{PlaceMemory, fails_in, name_of, outlet_before}
 use Rattle.round_lines.specs.Seats.{SeatMemory}
-use Rattle.round_lines.specs.Rounds.{Rising, IsIncoming, seat_at, call_at}
+use Rattle.round_lines.specs.Rounds.{Rising, IsIncoming, IsOutgoing, seat_at, call_at}
 use Rattle.round_lines.proofs.Each.{still_rising}
 use Rattle.switchboard.specs.Calls.{Done, opened_at, closed_at}
 use Rattle.switchboard.specs.State.{State, gone_in}
@@ -30,6 +30,7 @@ use Rattle.farm_rounds.specs.RoundHistories.{seat_of}
 use Rattle.farm_rounds.proofs.Working.{goes_on_at}
 use Rattle.run_spec.specs.Run.{Run}
 use Rattle.farm_run.specs.Going.{told_after, is_told}
+use Rattle.farm_run.specs.Outgoing.{Moves}
 use Rattle.farm_run.specs.Match.{AtClock}
 use Rattle.farm_run.specs.Runs.{is_listed, ReadsOn}
 use Rattle.farm_run.specs.Standing.{Standing, standing, is_over, GoesOn, KnowsListed, HasFlags, MeetsRun}
@@ -71,9 +72,9 @@ front_read (Some zs) (Some ys) front xs c e = (length front, ap Some (sym (drop-
     same zs xs e = cc
 
 -- how an outgoing line stands after a round
-stands_is : (b : Bool) (before now : LineState) (was stands : Outlet) (octets : List ℕ) → was ≡ outlet_before b → Gives before now was stands octets → has_failed stands ≡ (b || fails_now stands)
-stands_is true before now was stands octets q g = ap has_failed ((g.passed (ap has_failed q)).1 ∙ q)
-stands_is false before now was stands octets q g = elim (cases_Bool (has_failed stands)) [
+stands_is : (b : Bool) (before now : LineState) (was stands : Outlet) (octets : List ℕ) → was ≡ outlet_before b → Moves before now was stands octets → has_failed stands ≡ (b || fails_now stands)
+stands_is true before now was stands octets q (inl g) = ap has_failed ((g.passed (ap has_failed q)).1 ∙ q)
+stands_is false before now was stands octets q (inl g) = elim (cases_Bool (has_failed stands)) [
   | inl e ↦ let f = g.fault (ap has_failed q) e in e ∙ sym (ap fails_now f.0)
   | inr e ↦ e ∙ sym (calm stands e)
 ]
@@ -82,10 +83,13 @@ stands_is false before now was stands octets q g = elim (cases_Bool (has_failed 
     calm Sound e = refl
     calm FailedBefore e = cc
     calm FailedNow e = cc
+stands_is true before now was stands octets q (inr g) = ap has_failed (g.1 ∙ q)
+stands_is false before now was stands octets q (inr g) = ap has_failed (g.1 ∙ q) ∙ sym (ap fails_now (g.1 ∙ q))
 
 -- one that had failed before is passed over
-passed_over : (b : Bool) (before now : LineState) (was stands : Outlet) (octets : List ℕ) → was ≡ outlet_before b → b ≡ true → Gives before now was stands octets → fails_now stands ≡ false
-passed_over true before now was stands octets q e g = ap fails_now ((g.passed (ap has_failed q)).1 ∙ q)
+passed_over : (b : Bool) (before now : LineState) (was stands : Outlet) (octets : List ℕ) → was ≡ outlet_before b → b ≡ true → Moves before now was stands octets → fails_now stands ≡ false
+passed_over true before now was stands octets q e (inl g) = ap fails_now ((g.passed (ap has_failed q)).1 ∙ q)
+passed_over true before now was stands octets q e (inr g) = ap fails_now (g.1 ∙ q)
 passed_over false before now was stands octets q e g = cc
 
 pub fewer_up : (p : PlaceMemory) (n : ℕ) → p.up.count < 40 * n → places.whole_in p < n
@@ -293,6 +297,22 @@ module _ (t n : ℕ) (b : State) (farm after : FarmMemory) (before now : ℕ →
       let s = seated k c l e in
       stands_is s.call.out_failed _ _ _ (seat_at w.drained k).place.out _ (worked_out _ _ _ _ _ _ _ _ s.facts.front) s.facts.drains.out
       ∙ ap (λ (x : Bool). x || fails_now (seat_at w.drained k).place.out) (knows.calls c s.call s.called).1 ∙ sym (listed_seated k c Out l e)
+
+  -- **Where the round's octets are held back, no outgoing line more is listed.**
+  pub listed_back : w.held ≡ true → (c : ℕ) (side : Side) → IsOutgoing side → is_listed after.failed c side ≡ is_listed farm.failed c side
+  listed_back q c side i = elim (seat_cases t n farm after before now ends w c) [
+    | inl m ↦ by side i m.0 m.1 m.2
+    | inr none ↦ listed_kept c side none
+  ]
+    where
+      same : (k : ℕ) → seat_at w.drained k ≡ seat_at w.worked k
+      same k = ap (λ (xs : List SeatMemory). seat_at xs k) (w.back q).1
+
+      by : (side : Side) → IsOutgoing side → (k : ℕ) → k < length farm.live → slice_index farm.live k ≡ c → is_listed after.failed c side ≡ is_listed farm.failed c side
+      by Down i k l e = sym (stands_down k c l e) ∙ ap (λ (x : SeatMemory). has_failed x.place.down) (same k) ∙ was_down k c l e
+      by Out i k l e = sym (stands_out k c l e) ∙ ap (λ (x : SeatMemory). has_failed x.place.out) (same k) ∙ was_out k c l e
+      by Up i k l e = absurd i
+      by Pcm i k l e = absurd i
 
   -- **A line that was listed doesn't fail in the round.**
   fails_once : (k c : ℕ) (side : Side) → k < length farm.live → slice_index farm.live k ≡ c → is_listed farm.failed c side ≡ true → fails_in (seat_at w.drained k).place side ≡ false

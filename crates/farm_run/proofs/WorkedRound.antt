@@ -20,6 +20,7 @@ use Rattle.farm_rounds.specs.Histories.{CallHistory, GroupsStand, kept_of}
 use Rattle.farm_rounds.specs.Working.{GainsFailed, goes_on_call, partner_past}
 use Rattle.farm_rounds.specs.RoundHistories.{seat_for, worked_histories, AreWorked, KnowFailed, those_that}
 use Rattle.farm_rounds.proofs.Rising.{there}
+use Rattle.farm_run.specs.Outgoing.{Settles}
 use Rattle.farm_run.proofs.Sides.{not_both}
 
 -- what a round of n periods from t on did to the farm and the lines, and the ends that it told
@@ -40,7 +41,10 @@ pub record WorkedRound (t n : ℕ) (farm after : FarmMemory) (before now : ℕ �
   pub worked_rising : Rising worked
   pub places : (k : ℕ) → k < length filled → (seat_at worked k).place ≡ (seat_at filled k).place
   pub told : ends ≡ filter_map (seat_end t) worked
-  pub drains : Each Drains between now worked drained (length worked)
+  pub drains : Each Settles between now worked drained (length worked)
+  pub held : Bool
+  pub writes : held ≡ false → Each Drains between now worked drained (length worked)
+  pub back : held ≡ true → (now ≡ between) × (drained ≡ worked)
   pub drained_others : KeepsButEach IsOutgoing between now worked (length worked)
   pub drained_number : length drained ≡ length worked
   pub gains : GainsFailed farm.failed after.failed drained
@@ -111,7 +115,7 @@ module _ (n : ℕ) (before between : Side → LineState) (c : ℕ) (call : Call)
 -- and up to the round's end
 pub record SeatFacts (n : ℕ) (before between now : Side → LineState) (c : ℕ) (call : Call) (planned filled worked drained : SeatMemory) : Type 0 where
   pub front : FrontFacts n before between c call planned filled worked
-  pub drains : Drains between now worked drained
+  pub drains : Settles between now worked drained
 
 module _ (n : ℕ) (before between now : Side → LineState) (c : ℕ) (call : Call) (planned filled worked drained : SeatMemory) (f : SeatFacts n before between now c call planned filled worked drained) where
   pub drained_call : drained.place.call ≡ c
@@ -168,7 +172,14 @@ module _ (t n : ℕ) (farm after : FarmMemory) (before now : ℕ → Side → Li
   seat_facts k c l e =
       let f = front_facts t n farm before w.between w.planned w.filled w.worked ends front k c l e in
       let called : call_at w.worked k ≡ c = worked_call _ _ _ _ _ _ _ _ f.2 in
-      (f.0, f.1, record { front = f.2; drains = subst (λ d. Drains (w.between d) (now d) (seat_at w.worked k) (seat_at w.drained k)) called (w.drains k (omega (arith, w.number, w.filled_number, w.worked_number))) })
+      (f.0, f.1, record { front = f.2; drains = subst (λ d. Settles (w.between d) (now d) (seat_at w.worked k) (seat_at w.drained k)) called (w.drains k (omega (arith, w.number, w.filled_number, w.worked_number))) })
+
+  -- where the round's octets are written, its call's lines are given them
+  pub writes_at : (k c : ℕ) → k < length farm.live → slice_index farm.live k ≡ c → w.held ≡ false → Drains (w.between c) (now c) (seat_at w.worked k) (seat_at w.drained k)
+  writes_at k c l e q =
+      let f = seat_facts k c l e in
+      let called : call_at w.worked k ≡ c = worked_call _ _ _ _ _ _ _ _ f.2.front in
+      subst (λ d. Drains (w.between d) (now d) (seat_at w.worked k) (seat_at w.drained k)) called (w.writes q k (omega (arith, l, w.number, w.filled_number, w.worked_number)))
 
   pub worked_at : (k : ℕ) → k < length farm.live → call_at w.worked k ≡ slice_index farm.live k
   worked_at k l = let f = seat_facts k (slice_index farm.live k) l refl in worked_call _ _ _ _ _ _ _ _ f.2.front

@@ -10,5 +10,8 @@ pub mod Runs
 pub mod Standing
 pub mod Fronts
 pub mod Clock
+pub mod Outgoing
+pub mod Stages
+pub mod Marking
 pub mod Saving
 pub mod Resuming

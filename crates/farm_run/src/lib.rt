@@ -23,13 +23,17 @@ mod facts;
 mod finish;
 mod journal;
 pub mod laws;
+mod marking;
 mod notes;
 mod orders;
+mod outgoing;
 mod pace;
 mod resuming;
+mod running;
 mod saving;
+mod stage;
 
-pub use clock::run;
 pub use pace::Pace;
 pub use resuming::{Resumed, resume};
+pub use running::run;
 pub use saving::{Saved, save};

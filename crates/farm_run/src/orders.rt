@@ -8,6 +8,7 @@ ghost use Rattle.farm_run.specs.Match.{AreNumbers, AtClock, Follows};
 ghost use Rattle.farm_run.specs.Ending.{AreShut};
 ghost use Rattle.farm_run.specs.Journal.{ClosesOnce, ends_noted, noted_by};
 ghost use Rattle.farm_run.specs.Facts.{kept_in};
+ghost use Rattle.farm_run.specs.Stages.{OpenedBefore};
 ghost use Rattle.farm_run.specs.Standing.{is_over, KnowsListed};
 ghost use Rattle.farm_run.specs.Noted.{Noted};
 
@@ -24,6 +25,7 @@ fn note(act: &Act, period: u32, farm: &Farm, journal: &mut Journal)
     requires room { length journal.old.bridges < 65536 }
     ensures ends { journal.new.ends ≡ ends_noted act.now period journal.old.ends }
     ensures bridges { length journal.new.bridges ≤ length journal.old.bridges + 1 }
+    ensures openings { (n : ℕ) → period < n → OpenedBefore n journal.old.calls → OpenedBefore n journal.new.calls }
     ensures noted { (h : ℕ → Option CallHistory) → GroupsStand h farm.now.groups →
         journal.new ≡ noted_by act.now period (λ c. (kept_in farm.now.tallies h c).sent) journal.old }
 {
@@ -68,6 +70,7 @@ fn execute(
     ensures over { (c : ℕ) → is_over board.old c ≡ true → is_over board.new c ≡ true }
     ensures follows { (r : Run) → clock < r.periods → Follows r clock board.old farm.old.groups → IfOk result (λ more. Follows r clock board.new farm.new.groups) }
     ensures told { board.new.told ≡ board.old.told }
+    ensures openings { (n : ℕ) → clock < n → OpenedBefore n journal.old.calls → OpenedBefore n journal.new.calls }
 
     // What the journal and the tallies know stays right.
     ensures noted { (r : Run) → clock < r.periods → Follows r clock board.old farm.old.groups → Noted r board.old.done clock journal.old farm.old.tallies →
@@ -106,6 +109,7 @@ pub(crate) fn execute_orders(
     ensures over { (c : ℕ) → is_over board.old c ≡ true → is_over board.new c ≡ true }
     ensures follows { (r : Run) → clock < r.periods → Follows r clock board.old farm.old.groups → IfOk result (λ u. Follows r clock board.new farm.new.groups) }
     ensures told { board.new.told ≡ board.old.told }
+    ensures openings { (n : ℕ) → clock < n → OpenedBefore n journal.old.calls → OpenedBefore n journal.new.calls }
 
     // What the journal and the tallies know stays right.
     ensures noted { (r : Run) → clock < r.periods → Follows r clock board.old farm.old.groups → Noted r board.old.done clock journal.old farm.old.tallies →

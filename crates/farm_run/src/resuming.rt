@@ -6,9 +6,15 @@ ghost use Rattle.farm_run.specs.Pace.{IsPace};
 ghost use Rattle.farm_run.specs.Runs.{KeepsSides};
 ghost use Rattle.farm_run.specs.Resuming.{Resumes, IsResumeCutShort};
 
+use crate::clock::work_until;
+use crate::finish::finish;
+use crate::marking::mark_calls;
+use crate::outgoing::Outgoing;
 use crate::pace::Pace;
+use crate::stage::Stage;
 use farm_checkpoint::Mark;
 use farm_report::Report;
+use farm_rounds::Sums;
 use pool_run::Gate;
 use std::alloc::{AllocError, Global};
 use std::sync::Wait;
@@ -48,6 +54,24 @@ pub fn resume<R: Threads + Wait + Sync, T: Trunk, G: Gate + Sync>(
     // Incoming lines are only read and outgoing ones only written, also where there was no memory.
     ensures sides { KeepsSides (T.lines trunk.old) (T.lines trunk.new) }
 {
-    for _ in rt.forever() {}
-    unreachable!()
+    let count = orders.list().len();
+    let outgoing = Outgoing::Held(Sums::new(alloc)?);
+    let first = Stage::new(alloc, orders, outgoing)?;
+    let mut marked = work_until(rt, alloc, pace, first, mark.period, trunk, gate)?;
+    let calls = mark_calls(alloc, &marked)?;
+    if let Some(call) = mark.differs(&calls) {
+        return Ok(Resumed::Differs(call));
+    }
+    marked.outgoing = Outgoing::Written;
+    let periods = mark.period.max(pace.periods);
+    let mut last = work_until(rt, alloc, pace, marked, periods, trunk, gate)?;
+    let report = finish(
+        alloc,
+        &mut last.board,
+        &last.farm,
+        &mut last.journal,
+        count,
+        periods,
+    )?;
+    Ok(Resumed::Ran(report))
 }

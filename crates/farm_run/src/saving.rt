@@ -6,8 +6,13 @@ ghost use Rattle.farm_run.specs.Runs.{KeepsSides};
 ghost use Rattle.farm_run.specs.Fronts.{IsCutShort};
 ghost use Rattle.farm_run.specs.Saving.{Saves};
 
+use crate::clock::work_until;
+use crate::marking::mark_calls;
+use crate::outgoing::Outgoing;
 use crate::pace::Pace;
+use crate::stage::Stage;
 use farm_checkpoint::Mark;
+use farm_rounds::Sums;
 use pool_run::Gate;
 use std::alloc::{AllocError, Global};
 use std::marker::Model;
@@ -52,6 +57,14 @@ pub fn save<R: Threads + Wait + Sync, T: Trunk, G: Gate + Sync>(
     // Incoming lines are only read and outgoing ones only written, also where there was no memory.
     ensures sides { KeepsSides (T.lines trunk.old) (T.lines trunk.new) }
 {
-    for _ in rt.forever() {}
-    unreachable!()
+    let outgoing = Outgoing::Summed(Sums::new(alloc)?);
+    let first = Stage::new(alloc, orders, outgoing)?;
+    let last = work_until(rt, alloc, pace, first, pace.periods, trunk, gate)?;
+    Ok(Saved {
+        failed: last.farm.failed().to_vec(alloc)?,
+        mark: Mark {
+            period: pace.periods,
+            calls: mark_calls(alloc, &last)?,
+        },
+    })
 }

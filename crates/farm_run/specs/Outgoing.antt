@@ -1,0 +1,64 @@
+-- What becomes of the octets that the calls of a round give to their outgoing lines (this project's profile).
+use Rattle.std.specs.Prelude.{◌≡◌, ◌⊎◌, ℕ, Bool, true, false, List, length}
+use Rattle.trau_io.specs.declared.line.Side.{Side}
+use Rattle.trau_io.specs.declared.line.Side.TheVariants.{Down, Out}
+use Rattle.trau_io.specs.Lines.{LineState}
+use Rattle.round_lines.specs.declared.transfer.Outlet.{Outlet}
+use Rattle.round_lines.specs.Transfer.{Gives}
+use Rattle.round_lines.specs.Places.{TellsFaults}
+use Rattle.round_lines.specs.Seats.{SeatMemory, Drains, down_of, out_of}
+use Rattle.round_lines.specs.Rounds.{Each, KeepsButEach, IsOutgoing}
+use Rattle.farm_rounds.specs.Memory.{FarmMemory}
+use Rattle.farm_rounds.specs.Sums.{sum_in, no_sums}
+use Rattle.farm_rounds.specs.Working.{WorkedMemory, GainsFailed}
+use Rattle.farm_rounds.specs.RoundHistories.{KnowFailed}
+use Rattle.farm_run.specs.declared.outgoing.Outgoing.{Outgoing}
+use Rattle.farm_run.specs.declared.outgoing.Outgoing.TheVariants.{Written, Summed, Held}
+
+-- whether they are held back
+abbrev pub is_held : Outgoing → Bool
+is_held Written = false
+is_held (Summed sums) = false
+is_held (Held sums) = true
+
+-- whether they are added to sums
+abbrev pub is_summed : Outgoing → Bool
+is_summed Written = false
+is_summed (Summed sums) = true
+is_summed (Held sums) = true
+
+-- the sum of a line's octets so far
+abbrev pub sum_to : Outgoing → ℕ → Side → ℕ
+sum_to Written = no_sums
+sum_to (Summed sums) = sum_in sums
+sum_to (Held sums) = sum_in sums
+
+-- the same becomes of them, whatever the sums are
+pub record IsSameWay (before now : Outgoing) : Type 0 where
+  pub held : is_held now ≡ is_held before
+  pub summed : is_summed now ≡ is_summed before
+
+-- an outgoing line was given the octets, or it and its mark are as they were
+abbrev pub Moves : LineState → LineState → Outlet → Outlet → List ℕ → Type 0
+Moves before now was stands octets = Gives before now was stands octets ⊎ ((now ≡ before) × (stands ≡ was))
+
+-- So it is for the outgoing lines of a call; of its seat only their marks changed. If the marks told which counts had risen since
+-- `first`, they still do.
+pub record Settles (before now : Side → LineState) (s t : SeatMemory) : Type 0 where
+  pub down : Moves (before Down) (now Down) s.place.down t.place.down (down_of s)
+  pub out : Moves (before Out) (now Out) s.place.out t.place.out (out_of s)
+  pub kept : t ≡ record s { place = record s.place { down = t.place.down; out = t.place.out } }
+  pub faults : (first : Side → LineState) → TellsFaults first before s.place → TellsFaults first now t.place
+
+-- The octets of a worked round were written, or they were held back, and the farm knows which lines failed.
+pub record IsSettled (held : Bool) (before now : ℕ → Side → LineState) (worked : WorkedMemory) (after : FarmMemory) : Type 0 where
+  -- the round's seats behind it
+  pub seats : List SeatMemory
+  pub number : length seats ≡ length worked.seats
+  pub settles : Each Settles before now worked.seats seats (length worked.seats)
+  pub others : KeepsButEach IsOutgoing before now worked.seats (length worked.seats)
+  pub gains : GainsFailed worked.failed after.failed seats
+  pub know : KnowFailed seats after.groups
+  -- written, each call's lines were given what goes out; held back, lines and seats are as they were
+  pub written : held ≡ false → Each Drains before now worked.seats seats (length worked.seats)
+  pub back : held ≡ true → (now ≡ before) × (seats ≡ worked.seats)

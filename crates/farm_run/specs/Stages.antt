@@ -1,0 +1,95 @@
+-- A run at one of its clocks, and how it gets from one to a later one (this project's profile).
+use Rattle.std.specs.Prelude.{◌≡◌, ◌<◌, ◌≤◌, ℕ, Bool, true, false, None, List, [], length}
+use Rattle.trau_io.specs.declared.line.Line.{Line}
+use Rattle.trau_io.specs.declared.line.Side.{Side}
+use Rattle.trau_io.specs.declared.line.Side.TheVariants.{Down, Out}
+use Rattle.trau_io.specs.Lines.{LineState}
+use Rattle.trau_orders.specs.declared.order.Order.{Order}
+use Rattle.round_lines.specs.Rounds.{IsOutgoing}
+use Rattle.switchboard.specs.State.{EndBefore, orders_of}
+use Rattle.farm_report.specs.Sums.{sum_of}
+use Rattle.farm_rounds.specs.Histories.{GroupsStand}
+use Rattle.farm_rounds.specs.Sums.{no_sums}
+use Rattle.run_spec.specs.Run.{Run, periods_to, who_in, IsOpened, worked_to}
+use Rattle.run_spec.specs.Lines.{out_line, down_octets}
+use Rattle.farm_run.specs.declared.notes.Opening.{Opening}
+use Rattle.farm_run.specs.declared.outgoing.Outgoing.{Outgoing}
+use Rattle.farm_run.specs.declared.stage.Stage.{Stage}
+use Rattle.farm_run.specs.Journal.{opening_of, new_journal}
+use Rattle.farm_run.specs.Ending.{AreShut}
+use Rattle.farm_run.specs.Match.{AtClock}
+use Rattle.farm_run.specs.Noted.{IsKnown}
+use Rattle.farm_run.specs.Outgoing.{is_held, is_summed, sum_to, IsSameWay}
+use Rattle.farm_run.specs.Runs.{TellsFailed, KeepsSides, FailedShort, is_listed}
+use Rattle.farm_run.specs.Standing.{Standing, standing, GoesOn, KnowsListed, HasFlags}
+use Rattle.farm_run.specs.Clock.{NeverFell, IsAtClock, WrittenFrom}
+
+-- ---- one clock
+
+-- what holds at each clock of a run, whatever its lines give
+pub record IsStage (s : Stage) : Type 0 where
+  pub clock : AtClock s.clock s.board s.farm.groups
+  pub shut : AreShut s.board s.journal.ends
+  pub bridges : length s.journal.bridges ≤ length s.board.done
+  pub ended : s.farm.ended ≤ s.clock
+  pub knows : KnowsListed s.board s.farm.groups s.farm.failed
+  pub few : length (orders_of s.board) ≤ 65536
+
+-- the run of these orders, before the first of them
+pub record IsFirst (orders : List Order) (outgoing : Outgoing) (s : Stage) : Type 0 where
+  pub stage : IsStage s
+  pub clock : s.clock ≡ 0
+  pub orders : orders_of s.board ≡ orders
+  pub none_done : s.board.done ≡ []
+  pub untold : EndBefore 0 s.board
+  pub none_open : s.farm.groups ≡ []
+  pub none_failed : s.farm.failed ≡ []
+  pub histories : GroupsStand (λ c. None) s.farm.groups
+  pub none_noted : s.journal ≡ new_journal
+  pub way : s.outgoing ≡ outgoing
+
+-- each call that is noted as opened was opened before this period
+abbrev pub OpenedBefore : ℕ → List Opening → Type 0
+OpenedBefore n calls = (c : ℕ) → (opening_of calls c).from < n
+
+-- the sums of the outgoing lines of the run's calls are those of all octets that their periods before the clock t give
+pub record SumsAt (r : Run) (t : ℕ) (sums : ℕ → Side → ℕ) : Type 0 where
+  pub out : (c : ℕ) → IsOpened r c → sums c Out ≡ sum_of (out_line (who_in r c) (periods_to r c (worked_to r t c)))
+  pub down : (c : ℕ) → IsOpened r c → sums c Down ≡ sum_of (down_octets (who_in r c) (periods_to r c (worked_to r t c)))
+
+-- ---- from one clock to a later one
+
+-- outgoing lines are as they were, and none of them more is listed as failed
+pub record HoldsBack (was is : ℕ → Side → Bool) (before now : ℕ → Side → LineState) : Type 0 where
+  pub lines : (c : ℕ) (s : Side) → IsOutgoing s → now c s ≡ before c s
+  pub listed : (c : ℕ) (s : Side) → IsOutgoing s → is c s ≡ was c s
+
+-- From a clock of a run, with rounds of at most `batch` periods: `first` are the lines before the run, and `last` is how it
+-- stands at its end.
+pub record Reaches (batch : ℕ) (s u : Stage) (before now : ℕ → Side → LineState) : Type 0 where
+  pub later : s.clock ≤ u.clock
+  pub stage : IsStage u
+  pub kept : orders_of u.board ≡ orders_of s.board
+  pub way : IsSameWay s.outgoing u.outgoing
+  pub openings : (n : ℕ) → u.clock ≤ n → OpenedBefore n s.journal.calls → OpenedBefore n u.journal.calls
+  -- the farm goes on listing exactly the lines whose counts rose; incoming lines are only read, and outgoing ones only written
+  pub fell : NeverFell before now
+  pub failed : (first : ℕ → Side → LineState) → NeverFell first before → TellsFailed first before s.farm.failed → TellsFailed first now u.farm.failed
+  pub sides : KeepsSides before now
+  pub goes : GoesOn (standing s.board s.farm.failed before) (standing u.board u.farm.failed now)
+  pub back : is_held s.outgoing ≡ true → HoldsBack (is_listed s.farm.failed) (is_listed u.farm.failed) before now
+  -- where it goes on to the run's end, all between is the run's: board, farm and incoming lines,
+  pub run : (r : Run) (first : ℕ → Side → LineState) (last : Standing) → HasFlags r last → u.clock ≤ r.periods → GoesOn (standing u.board u.farm.failed now) last →
+      IsAtClock r s.clock s.board s.farm.groups last first before → IsAtClock r u.clock u.board u.farm.groups last first now
+  -- what is noted and kept,
+  pub known : (r : Run) (first : ℕ → Side → LineState) (last : Standing) → HasFlags r last → u.clock ≤ r.periods → GoesOn (standing u.board u.farm.failed now) last →
+      IsAtClock r s.clock s.board s.farm.groups last first before → IsKnown r s.clock s.board s.farm.tallies s.journal → IsKnown r u.clock u.board u.farm.tallies u.journal
+  -- what is written, from whichever earlier period on,
+  pub wrote : is_held s.outgoing ≡ false → (from : ℕ) → from ≤ s.clock → (r : Run) (first : ℕ → Side → LineState) (last : Standing) → HasFlags r last → u.clock ≤ r.periods → GoesOn (standing u.board u.farm.failed now) last →
+      IsAtClock r s.clock s.board s.farm.groups last first before → WrittenFrom r from s.clock (is_listed s.farm.failed) first before → WrittenFrom r from u.clock (is_listed u.farm.failed) first now
+  -- the sums,
+  pub sums : is_summed s.outgoing ≡ true → (r : Run) (first : ℕ → Side → LineState) (last : Standing) → HasFlags r last → u.clock ≤ r.periods → GoesOn (standing u.board u.farm.failed now) last →
+      IsAtClock r s.clock s.board s.farm.groups last first before → SumsAt r s.clock (sum_to s.outgoing) → SumsAt r u.clock (sum_to u.outgoing)
+  -- and where incoming lines failed
+  pub short : (r : Run) (first : ℕ → Side → LineState) (last : Standing) → HasFlags r last → u.clock ≤ r.periods → GoesOn (standing u.board u.farm.failed now) last →
+      IsAtClock r s.clock s.board s.farm.groups last first before → FailedShort r batch (is_listed s.farm.failed) → FailedShort r batch (is_listed u.farm.failed)

@@ -1,0 +1,52 @@
+//! A run, from its orders and lines to its report.
+
+ghost use Rattle.std.specs.Prelude.{IfOk, OnErr};
+ghost use Rattle.farm_run.specs.Pace.{IsPace};
+ghost use Rattle.farm_run.specs.Runs.{KeepsSides, Runs};
+ghost use Rattle.farm_run.specs.Fronts.{IsCutShort};
+
+use crate::clock::work_until;
+use crate::finish::finish;
+use crate::outgoing::Outgoing;
+use crate::pace::Pace;
+use crate::stage::Stage;
+use farm_report::Report;
+use pool_run::Gate;
+use std::alloc::{AllocError, Global};
+use std::sync::Wait;
+use std::thread::Threads;
+use trau_io::Trunk;
+use trau_orders::Orders;
+
+/// Runs these orders over the lines of a trunk, and reports what became of them. The slices of the calls' work are run by
+/// the workers of a pool in threads of their own, and each passes the gate. An error says that there was no memory. The
+/// run waits for its workers: that it returns isn't proved.
+pub fn run<R: Threads + Wait + Sync, T: Trunk, G: Gate + Sync>(
+    rt: &R,
+    alloc: Global,
+    pace: &Pace,
+    orders: Orders,
+    trunk: &mut T,
+    gate: &G,
+) -> Result<Report, AllocError>
+    requires { IsPace pace.now }
+    ensures runs { IfOk result (λ report. Runs orders pace.now (T.lines trunk.old) (T.lines trunk.new) report) }
+
+    // Where there was no memory, each outgoing line holds a front of what the run gives.
+    ensures cut { OnErr result (IsCutShort orders pace.now.periods (T.lines trunk.old) (T.lines trunk.new)) }
+
+    // Incoming lines are only read and outgoing ones only written, also where there was no memory.
+    ensures sides { KeepsSides (T.lines trunk.old) (T.lines trunk.new) }
+{
+    let count = orders.list().len();
+    let first = Stage::new(alloc, orders, Outgoing::Written)?;
+    let mut last = work_until(rt, alloc, pace, first, pace.periods, trunk, gate)?;
+    finish(
+        alloc,
+        &mut last.board,
+        &last.farm,
+        &mut last.journal,
+        count,
+        pace.periods,
+    )
+}
