@@ -1,11 +1,11 @@
 -- What outgoing lines hold, where they fail and where not.
-use Rattle.std.proofs.Common.{◌≡◌, refl, sym, ap, ◌∙◌, subst, ℕ, zero, suc, ◌+◌, ◌-◌, ◌*◌, ◌/◌, ◌<◌, ◌≤◌, Bool, true, false, List, [], ◌∷◌, ◌++◌, length, take, get_or, inl, inr, arith, lit<, append_assoc, append-nil}
+use Rattle.std.proofs.Common.{◌≡◌, refl, sym, ap, ◌∙◌, subst, ℕ, zero, suc, ◌+◌, ◌-◌, ◌*◌, ◌/◌, ◌<◌, ◌≤◌, Bool, true, false, List, [], ◌∷◌, ◌++◌, length, take, drop, get_or, inl, inr, arith, lit<, append_assoc, append-nil}
 use Rattle.std.specs.Io.KnownBytes.{Appends}
 use Rattle.std.proofs.KnownBytes.{Appends-trans}
 use Rattle.std.proofs.lemmas.Bool.{cases_lt}
 use Rattle.std.proofs.lemmas.List.FromFn.{length-map-range_with_len}
 use Rattle.std.proofs.lemmas.Grind.{same_number_lists}
-use Rattle.std.proofs.lemmas.List.{length-append, take-append-le, take_all, get_or_append_left, get_or-append_right}
+use Rattle.std.proofs.lemmas.List.{length-append, drop-append-le, drop_all, take-append-le, take_all, get_or_append_left, get_or-append_right}
 use Rattle.std.proofs.Math.Seq.{take-append-add}
 use Rattle.trau_bits.specs.Bits.{octet_at, octets_of}
 use Rattle.trau_bits.proofs.Octets.{length-octets_of, get_or-octets_of}
@@ -20,6 +20,7 @@ use Rattle.round_lines.specs.Transfer.{Gives, has_failed}
 use Rattle.run_spec.specs.Run.{Run, periods_to, who_in}
 use Rattle.run_spec.specs.Lines.{out_line, down_octets}
 use Rattle.farm_run.specs.Runs.{IsWritten}
+use Rattle.farm_run.proofs.Worked.{length-periods_to}
 use Rattle.farm_run.specs.Fronts.{HasFront}
 
 -- ---- from round to round
@@ -126,3 +127,27 @@ pub down_front : (r : Run) (c m n : ℕ) (fails : Bool) (first now : LineState) 
 down_front r c m n fails first now l w =
     let more = down_on r c m (n - m) n (omega (arith, l)) in
     subst (HasFront first now) (sym more.1) (front_of fails first now (down_octets (who_in r c) (periods_to r c m)) more.0 w)
+
+-- **So it is where what the first k periods give was held back.**
+pub out_front_from : (r : Run) (c k m n : ℕ) (fails : Bool) (first now : LineState) → k ≤ m → m ≤ n → IsWritten fails first now (drop (160 * k) (out_line (who_in r c) (periods_to r c m))) →
+    HasFront first now (drop (160 * k) (out_line (who_in r c) (periods_to r c n)))
+out_front_from r c k m n fails first now back l w =
+    let more = out_more r c m (n - m) n (omega (arith, l)) in
+    let old = out_line (who_in r c) (periods_to r c m) in
+    let fits : 160 * k ≤ length old = omega (arith, length-out_line (who_in r c) (periods_to r c m), length-periods_to r c m, back) in
+    subst (HasFront first now) (sym (ap (drop (160 * k)) more.1 ∙ drop-append-le (160 * k) old more.0 fits)) (front_of fails first now (drop (160 * k) old) more.0 w)
+
+pub down_front_from : (r : Run) (c k m n : ℕ) (fails : Bool) (first now : LineState) → k ≤ m → m ≤ n → IsWritten fails first now (drop (40 * k) (down_octets (who_in r c) (periods_to r c m))) →
+    HasFront first now (drop (40 * k) (down_octets (who_in r c) (periods_to r c n)))
+down_front_from r c k m n fails first now back l w =
+    let more = down_on r c m (n - m) n (omega (arith, l)) in
+    let old = down_octets (who_in r c) (periods_to r c m) in
+    let fits : 40 * k ≤ length old = omega (arith, length-down_octets (who_in r c) (periods_to r c m), length-periods_to r c m, back) in
+    subst (HasFront first now) (sym (ap (drop (40 * k)) more.1 ∙ drop-append-le (40 * k) old more.0 fits)) (front_of fails first now (drop (40 * k) old) more.0 w)
+
+-- **At the period from which on a line is written, it has gained nothing.**
+pub none_out : (r : Run) (c k : ℕ) → drop (160 * k) (out_line (who_in r c) (periods_to r c k)) ≡ []
+none_out r c k = drop_all (160 * k) (out_line (who_in r c) (periods_to r c k)) (omega (arith, length-out_line (who_in r c) (periods_to r c k), length-periods_to r c k))
+
+pub none_down : (r : Run) (c k : ℕ) → drop (40 * k) (down_octets (who_in r c) (periods_to r c k)) ≡ []
+none_down r c k = drop_all (40 * k) (down_octets (who_in r c) (periods_to r c k)) (omega (arith, length-down_octets (who_in r c) (periods_to r c k), length-periods_to r c k))

@@ -45,3 +45,12 @@ pub mod RoundShort
 pub mod Making
 pub mod Clocks
 pub mod Knowing
+pub mod RoundSums
+pub mod Marked
+pub mod Reaching
+pub mod Summing
+pub mod Stepping
+pub mod Telling
+pub mod Outgoings
+pub mod Resumption
+pub mod Openings

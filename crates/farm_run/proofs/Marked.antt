@@ -1,10 +1,9 @@
 -- The calls of a mark: those that are live at a run's last period are those that only its end cuts off.
-use Rattle.std.proofs.Common.{◌≡◌, refl, sym, ap, ◌∙◌, subst, ℕ, zero, suc, ◌+◌, ◌-◌, ◌<◌, ◌≤◌, Bool, true, false, ◌&&◌, Option, Some, None, List, [], ◌∷◌, length, map, cond, get_or, inl, inr, arith}
+use Rattle.std.proofs.Common.{◌≡◌, refl, sym, ap, ◌∙◌, subst, ℕ, zero, suc, ◌+◌, ◌-◌, ◌*◌, ◌<◌, ◌≤◌, Bool, true, false, ◌&&◌, Option, Some, None, List, [], ◌∷◌, ◌++◌, length, map, take, cond, get_or, inl, inr, arith}
 use Rattle.std.specs.Prelude.{◌==◌, ◌||◌, is_some, filter, nat_lt, if◌then◌else◌, slice_index, IfSome}
 use Rattle.std.specs.List.{range_with_len, All, AllByRecursion}
 use Rattle.std.proofs.lemmas.Bool.{cases_Bool, ltb-true, eqb-true, eq-eqb, ne_eqb, true≢false}
-use Rattle.std.proofs.lemmas.List.{length-map}
-use Rattle.std.proofs.lemmas.List.Elements.{get_or-map}
+use Rattle.std.proofs.lemmas.List.{length-map, map-append, take_more, get_or-map}
 use Rattle.trau_io.specs.declared.ends.CallEnd.{CallEnd}
 use Rattle.trau_io.specs.declared.ends.Cause.{Cause}
 use Rattle.trau_io.specs.declared.ends.Cause.TheVariants.{Closed, End, Fault, Limit}
@@ -62,20 +61,18 @@ has_among c (x ∷ xs) = ap (λ (b : Bool). b || has c xs) (turn (c == x) refl) 
     turn false e = e ∙ sym (ne_eqb x c (λ q. true≢false (sym (eq-eqb c x (sym q)) ∙ e)))
 
 -- one test behind another
+twice_more : (p q : ℕ → Bool) (x : ℕ) (xs : List ℕ) → filter p (filter q xs) ≡ filter (λ c. q c && p c) xs → (b : Bool) →
+    filter p (cond b (x ∷ filter q xs) (filter q xs)) ≡ cond (b && p x) (x ∷ filter (λ c. q c && p c) xs) (filter (λ c. q c && p c) xs)
+twice_more p q x xs rest false = rest
+twice_more p q x xs rest true = within (p x)
+  where
+    within : (b : Bool) → cond b (x ∷ filter p (filter q xs)) (filter p (filter q xs)) ≡ cond b (x ∷ filter (λ c. q c && p c) xs) (filter (λ c. q c && p c) xs)
+    within true = ap (λ (ys : List ℕ). x ∷ ys) rest
+    within false = rest
+
 filter_twice : (p q : ℕ → Bool) (xs : List ℕ) → filter p (filter q xs) ≡ filter (λ c. q c && p c) xs
 filter_twice p q [] = refl
-filter_twice p q (x ∷ xs) = by (q x) refl
-  where
-    rest : filter p (filter q xs) ≡ filter (λ c. q c && p c) xs
-    rest = filter_twice p q xs
-
-    by : (b : Bool) → q x ≡ b → filter p (cond b (x ∷ filter q xs) (filter q xs)) ≡ cond (b && p x) (x ∷ filter (λ c. q c && p c) xs) (filter (λ c. q c && p c) xs)
-    by false e = rest
-    by true e = within (p x)
-      where
-        within : (b : Bool) → cond b (x ∷ filter p (filter q xs)) (filter p (filter q xs)) ≡ cond b (x ∷ filter (λ c. q c && p c) xs) (filter (λ c. q c && p c) xs)
-        within true = ap (λ (ys : List ℕ). x ∷ ys) rest
-        within false = rest
+filter_twice p q (x ∷ xs) = twice_more p q x xs (filter_twice p q xs) (q x)
 
 map_each : (f g : ℕ → MarkCall) (xs : List ℕ) → AllByRecursion (λ c. f c ≡ g c) xs → map f xs ≡ map g xs
 map_each f g [] e = refl
@@ -95,6 +92,13 @@ abbrev cause_of : CallEnd → Cause
 cause_of e = e.cause
 
 -- ---- the entries
+
+-- one more entry
+pub entry_more : (s : Stage) (live : List ℕ) (i : ℕ) (old new : List MarkCall) (call : MarkCall) → i < length live → old ≡ map (entry_of s) (take i live) → call ≡ entry_of s (get_or live i 0) → new ≡ old ++ call ∷ [] →
+    new ≡ map (entry_of s) (take (i + 1) live)
+entry_more s live i old new call within front is more =
+    more ∙ ap (λ (xs : List MarkCall). xs ++ call ∷ []) front ∙ ap (λ (x : MarkCall). map (entry_of s) (take i live) ++ x ∷ []) is
+    ∙ sym (ap (map (entry_of s)) (take_more live i 0 within) ∙ map-append (entry_of s) (take i live) (get_or live i 0 ∷ []))
 
 module _ (s : Stage) (live : (c : ℕ) → is_among s.farm.live c ≡ is_some (call_in s.farm.groups c)) (rising : IsRising s.farm.live) (stage : IsStage s) where
   -- **Their numbers rise.**

@@ -3,6 +3,7 @@ use Rattle.std.proofs.Common.{◌≡◌, refl, sym, ap, ◌∙◌, subst, ℕ, �
 use Rattle.std.specs.Prelude.{is_some, slice_index}
 use Rattle.std.proofs.Math.Nat.{mod-add-mod}
 use Rattle.std.proofs.lemmas.Bool.{cases_Bool, true≢false}
+use Rattle.std.proofs.lemmas.List.Sums.{sum_by-append}
 use Rattle.trau_io.specs.declared.ends.CallEnd.{CallEnd}
 use Rattle.trau_io.specs.declared.line.Side.{Side}
 use Rattle.trau_io.specs.declared.line.Side.TheVariants.{Down, Out}
@@ -30,8 +31,7 @@ use Rattle.farm_run.proofs.RoundLines.{grown_out, grown_down, idle}
 use Rattle.farm_run.proofs.WorkedRound.{WorkedRound, worked_at}
 
 sum_both : (xs ys : List ℕ) → sum (xs ++ ys) ≡ sum xs + sum ys
-sum_both [] ys = omega arith
-sum_both (x ∷ xs) ys = omega (arith, sum_both xs ys)
+sum_both xs ys = sum_by-append (λ x. x) xs ys
 
 -- octets behind others
 added : (old more : List ℕ) → (sum_of old + sum more) % 2 ^ 32 ≡ sum_of (old ++ more)

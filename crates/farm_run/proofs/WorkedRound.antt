@@ -196,6 +196,9 @@ module _ (t n : ℕ) (farm after : FarmMemory) (before now : ℕ → Side → Li
   pub out_between : (c : ℕ) → w.between c Out ≡ before c Out
   out_between c = w.filled_others c Out (λ k l e h. h)
 
+  pub outgoing_between : (c : ℕ) (s : Side) → IsOutgoing s → w.between c s ≡ before c s
+  outgoing_between c s o = w.filled_others c s (λ k l e i. not_both s i o)
+
   pub up_after : (c : ℕ) → now c Up ≡ w.between c Up
   up_after c = w.drained_others c Up (λ k l e h. h)
 

@@ -36,10 +36,10 @@ pub record IsStage (s : Stage) : Type 0 where
   pub few : length (orders_of s.board) ≤ 65536
 
 -- the run of these orders, before the first of them
-pub record IsFirst (orders : List Order) (outgoing : Outgoing) (s : Stage) : Type 0 where
+pub record IsFirst (listed : List Order) (outgoing : Outgoing) (s : Stage) : Type 0 where
   pub stage : IsStage s
   pub clock : s.clock ≡ 0
-  pub orders : orders_of s.board ≡ orders
+  pub orders : orders_of s.board ≡ listed
   pub none_done : s.board.done ≡ []
   pub untold : EndBefore 0 s.board
   pub none_open : s.farm.groups ≡ []

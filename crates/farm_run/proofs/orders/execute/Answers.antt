@@ -256,5 +256,6 @@ returns-in_err-apply c =
       over = over_turned c.args.board.now c.turn.new.self _ c.turn.ensures.state;
       follows = λ r under f. IfOk-from_err _ _ no;
       told = told_kept c.args.board.now c.turn.new.self _ c.turn.ensures.state;
+      openings = c.note.ensures.openings;
       noted = λ r under f noted. IfOk-from_err _ _ no;
     }

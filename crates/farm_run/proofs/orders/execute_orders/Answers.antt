@@ -14,6 +14,7 @@ loop-init c = record {
   over = λ d o. o;
   follows = λ r under follows. follows;
   told = refl;
+  openings = λ n early openings. openings;
   noted = λ r under follows noted. noted;
 }
 
@@ -32,6 +33,7 @@ loop-preserved c =
       over = λ d o. c.execute.ensures.over d (inv.over d o);
       follows = λ r under follows. e.follows r under (inv.follows r under follows);
       told = c.execute.ensures.told ∙ inv.told;
+      openings = λ n early openings. c.execute.ensures.openings n early (inv.openings n early openings);
       noted = λ r under follows noted. e.noted r under (inv.follows r under follows) (inv.noted r under follows noted);
     }
 
@@ -63,6 +65,7 @@ returns c =
       over = λ d o. c.execute.ensures.over d (inv.over d o);
       follows = λ r under follows. e.follows r under (inv.follows r under follows);
       told = c.execute.ensures.told ∙ inv.told;
+      openings = λ n early openings. c.execute.ensures.openings n early (inv.openings n early openings);
       noted = λ r under follows noted. e.noted r under (inv.follows r under follows) (inv.noted r under follows noted);
     }
 
@@ -81,5 +84,6 @@ returns-in_err-execute c =
       over = λ d o. c.execute.ensures.over d (c.loop.invariant.over d o);
       follows = λ r under follows. IfOk-from_err _ _ no;
       told = c.execute.ensures.told ∙ c.loop.invariant.told;
+      openings = λ n early openings. c.execute.ensures.openings n early (c.loop.invariant.openings n early openings);
       noted = λ r under follows noted. IfOk-from_err _ _ no;
     }

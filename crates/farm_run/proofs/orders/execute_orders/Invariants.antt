@@ -5,6 +5,7 @@ use Rattle.farm_run.specs.Match.{AtClock, Follows}
 use Rattle.farm_run.specs.Standing.{is_over, KnowsListed}
 use Rattle.farm_run.specs.Noted.{Noted}
 use Rattle.farm_run.specs.Ending.{AreShut}
+use Rattle.farm_run.specs.Stages.{OpenedBefore}
 use Rattle.farm_run.proofs.orders.execute_orders.Given as goal
 
 abbrev pub invariant-loop : goal.invariant-loop
@@ -19,6 +20,7 @@ invariant-loop l = record {
   over : (c : ℕ) → is_over l.initial.board c ≡ true → is_over l.board c ≡ true;
   follows : (r : Run) → l.clock < r.periods → Follows r l.clock l.initial.board l.initial.farm.groups → Follows r l.clock l.board l.farm.groups;
   told : l.board.told ≡ l.initial.board.told;
+  openings : (n : ℕ) → l.clock < n → OpenedBefore n l.initial.journal.calls → OpenedBefore n l.journal.calls;
   noted : (r : Run) → l.clock < r.periods → Follows r l.clock l.initial.board l.initial.farm.groups → Noted r l.initial.board.done l.clock l.initial.journal l.initial.farm.tallies → Noted r l.board.done l.clock l.journal l.farm.tallies;
 }
 
