@@ -29,7 +29,7 @@ use Rattle.farm_run.specs.declared.stage.Stage.{Stage}
 use Rattle.farm_run.specs.Fronts.{IsCutShort}
 use Rattle.farm_run.specs.Marking.{entry_of}
 use Rattle.farm_run.specs.Noted.{IsAtEnd}
-use Rattle.farm_run.specs.Outgoing.{is_held, sum_to}
+use Rattle.farm_run.specs.Outgoing.{is_held, is_summed, sum_to}
 use Rattle.farm_run.specs.Resuming.{LeavesFrom, ResumesRun, FindsDifference, IsResumeCutShort}
 use Rattle.farm_run.specs.Runs.{TellsFailed, AreTold, IsRunOver, IsWritten, FailedShort, is_listed}
 use Rattle.farm_run.specs.Stages.{IsStage, IsFirst, HoldsBack, Reaches, SumsAt}
@@ -40,7 +40,7 @@ use Rattle.farm_run.proofs.Cutting.{cut_at, cut_before, cut_behind}
 use Rattle.farm_run.proofs.Gaining.{none_out, none_down}
 use Rattle.farm_run.proofs.Marked.{entries_are}
 use Rattle.farm_run.proofs.Meeting.{stays, further}
-use Rattle.farm_run.proofs.Reaching.{GoneTo, gone_first, gone_more, wrote_first}
+use Rattle.farm_run.proofs.Reaching.{GoneTo, gone_first, gone_more, wrote_first, summed_first}
 use Rattle.farm_run.proofs.Sides.{sides_none}
 use Rattle.farm_run.proofs.Telling.{there, at_end, short_end, report_end, wrote_end, marked_end, over_here}
 
@@ -89,9 +89,18 @@ unbegun_cut os periods from lines = cut_before os periods from [] lines lines (t
 
 -- ---- where the mark is compared
 
-module _ (os : List Order) (pace : Pace) (mark : MarkView) (first mid : ℕ → Side → LineState) (m : Stage) (g : GoneTo os pace.batch first mid m) (e : m.clock ≡ mark.period) (back : HoldsBack (is_listed []) (is_listed m.farm.failed) first mid)
-    (sums : (r : Run) (z : Standing) → IsRunOver os r.periods z.listed first z.lines r → m.clock ≤ r.periods → GoesOn (standing m.board m.farm.failed mid) z → SumsAt r m.clock (sum_to m.outgoing))
+module _ (os : List Order) (pace : Pace) (mark : MarkView) (o : Outgoing) (s m : Stage) (first mid : ℕ → Side → LineState) (begins : IsFirst os o s) (held : is_held o ≡ true) (summed : is_summed o ≡ true)
+    (none : (c : ℕ) (side : Side) → sum_to o c side ≡ 0) (come : Reaches pace.batch s m first mid) (e : m.clock ≡ mark.period)
     (live : (c : ℕ) → is_among m.farm.live c ≡ is_some (call_in m.farm.groups c)) (rising : IsRising m.farm.live) (calls : List MarkCall) (entries : calls ≡ map (entry_of m) m.farm.live) where
+  g : GoneTo os pace.batch first mid m
+  g = gone_more os pace.batch first first mid s m (gone_first os pace.batch o s first begins) come
+
+  back : HoldsBack (is_listed []) (is_listed m.farm.failed) first mid
+  back = subst (λ (ls : List Line). HoldsBack (is_listed ls) (is_listed m.farm.failed) first mid) begins.none_failed (come.back (ap is_held begins.way ∙ held))
+
+  sums : (r : Run) (z : Standing) → IsRunOver os r.periods z.listed first z.lines r → m.clock ≤ r.periods → GoesOn (standing m.board m.farm.failed mid) z → SumsAt r m.clock (sum_to m.outgoing)
+  sums = summed_first os pace.batch o s m first mid begins summed none come
+
   -- **A mark that isn't that of the run.**
   pub difference_told : (call : ℕ) → IsLeastDifference mark.calls calls call → FindsDifference os mark first mid call
   difference_told call least = record {
@@ -123,12 +132,12 @@ module _ (os : List Order) (pace : Pace) (mark : MarkView) (first mid : ℕ → 
   -- nothing is written yet
   none_written : (r : Run) → WrittenFrom r m.clock m.clock (is_listed m.farm.failed) first mid
   none_written r = record {
-    out = λ c i. none (is_listed m.farm.failed c Out) (first c Out) (mid c Out) _ (back.listed c Out tt) (back.lines c Out tt) (none_out r c (worked_to r m.clock c));
-    down = λ c i. none (is_listed m.farm.failed c Down) (first c Down) (mid c Down) _ (back.listed c Down tt) (back.lines c Down tt) (none_down r c (worked_to r m.clock c));
+    out = λ c i. nothing (is_listed m.farm.failed c Out) (first c Out) (mid c Out) _ (back.listed c Out tt) (back.lines c Out tt) (none_out r c (worked_to r m.clock c));
+    down = λ c i. nothing (is_listed m.farm.failed c Down) (first c Down) (mid c Down) _ (back.listed c Down tt) (back.lines c Down tt) (none_down r c (worked_to r m.clock c));
   }
     where
-      none : (fails : Bool) (was is : LineState) (octets : List ℕ) → fails ≡ false → is ≡ was → octets ≡ [] → IsWritten fails was is octets
-      none fails was is octets f l n =
+      nothing : (fails : Bool) (was is : LineState) (octets : List ℕ) → fails ≡ false → is ≡ was → octets ≡ [] → IsWritten fails was is octets
+      nothing fails was is octets f l n =
           subst (λ (x : Bool). IsWritten x was is octets) (sym f) (subst (Appends was.written is.written) (sym n) (subst (λ (x : LineState). Appends was.written x.written []) (sym l) (Appends-nil was.written)))
 
   module _ (now : ℕ → Side → LineState) (u : Stage) (h : Reaches pace.batch (record m { outgoing = Written }) u mid now) where

@@ -81,7 +81,7 @@ module _ (os : List Order) (batch : ℕ) (first now : ℕ → Side → LineState
       entries_are u live rising g.stage r last first now (g.at r last (own r run) (least r run) (stays last)) (sym run.same_periods) (g.known r last (own r run) (least r run) (stays last)) (sums r last (own r run) (least r run) (stays last))
 
 -- a run to this number of periods, over these failed lines, is one to the clock
-over_here : (os : List Order) (periods : ℕ) (failed : List Line) (first now : ℕ → Side → LineState) (u : Stage) → u.clock ≡ periods → failed ≡ u.farm.failed →
+pub over_here : (os : List Order) (periods : ℕ) (failed : List Line) (first now : ℕ → Side → LineState) (u : Stage) → u.clock ≡ periods → failed ≡ u.farm.failed →
     (r : Run) → IsRunOver os periods (is_listed failed) first now r → IsRunOver os u.clock (is_listed u.farm.failed) first now r
 over_here os periods failed first now u e f r run =
     subst (λ (p : ℕ). IsRunOver os p (is_listed u.farm.failed) first now r) (sym e) (subst (λ (ls : List Line). IsRunOver os periods (is_listed ls) first now r) f run)

@@ -28,8 +28,8 @@ returns-clause-runs g c =
     let u = c.in_ok-last.last in
     let f = c.in_ok-first.ensures in
     let h = c.in_ok-last.ensures.reaches in
-    runs_told os c.args.pace.now first now u c.len-count.result c.finish.result (gone_more os batch first first now s u (gone_first os batch Written s first f) h) c.in_ok-last.ensures.clock
-    (wrote_first os batch Written s u first now f refl h) c.finish.ensures.failed (ap length c.list.ensures.value) c.finish.ensures.reports
+    runs_told os c.args.pace.now first now u _ c.finish.result (gone_more os batch first first now s u (gone_first os batch Written s first f) h) c.in_ok-last.ensures.clock
+    (wrote_first os batch Written s u first now f refl h) c.finish.ensures.failed (ap length c.list-count.ensures.value) c.finish.ensures.reports
 
 pub returns-clause-cut : goal.returns-clause-cut
 returns-clause-cut g c =
