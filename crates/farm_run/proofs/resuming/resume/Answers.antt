@@ -1,5 +1,5 @@
 use Rattle.std.proofs.Common.{◌≡◌, refl, sym, ap, ◌∙◌, subst, ℕ, ◌≤◌, List, length, map, arith}
-use Rattle.std.specs.Prelude.{max, IsNone}
+use Rattle.std.specs.Prelude.{max, is_some}
 use Rattle.trau_io.specs.declared.line.Side.{Side}
 use Rattle.trau_io.specs.Lines.{LineState}
 use Rattle.farm_checkpoint.specs.declared.mark.MarkCall.{MarkCall}
@@ -65,7 +65,7 @@ pub returns-clause-resumes : goal.returns-clause-resumes
 returns-clause-resumes g c =
     let period : c.mark.inside.period ≡ c.args.mark.now.period = omega (arith, ap (λ (v : MarkView). v.period) c.mark.view_is) in
     let until : c.max-periods.result ≡ max c.args.mark.now.period c.args.pace.now.periods = omega (arith, c.max-periods.ensures, period) in
-    let same : c.args.mark.now.calls ≡ c.deref.result.now = c.differs.ensures.none.0 (subst IsNone (sym c.in_default.is) tt) in
+    let same : c.args.mark.now.calls ≡ c.deref.result.now = c.differs.ensures.none.0 (ap is_some c.in_default.is) in
     resumes_told c.args.orders c.args.pace.now c.args.mark.now (Held c.in_ok-new.field-0) c.in_ok-first.first c.in_ok-marked.marked (g.T.Trunk.lines c.args.trunk.now) (g.T.Trunk.lines c.work_until.new.trunk) c.in_ok-first.ensures refl refl
     (λ d side. ap (λ (sums : ℕ → Side → ℕ). sums d side) c.in_ok-new.ensures) c.in_ok-marked.ensures.reaches (c.in_ok-marked.ensures.clock ∙ period) c.in_ok-calls.ensures.live c.in_ok-calls.ensures.rising c.deref.result.now (c.deref.ensures.value ∙ c.in_ok-calls.ensures.calls)
     (g.T.Trunk.lines c.work_until-2.new.trunk) c.in_ok-last.last c.in_ok-last.ensures.reaches same (c.in_ok-last.ensures.clock ∙ until) _ (ap length c.list-count.ensures.value) _ c.in_ok-report.ensures.failed
