@@ -1,6 +1,6 @@
 -- The clock of a run at its start, where it goes on with no call open, and at its end.
 use Rattle.std.proofs.Common.{◌≡◌, refl, sym, ap, ◌∙◌, subst, ℕ, ◌+◌, ◌-◌, ◌*◌, ◌<◌, ◌≤◌, Bool, true, false, not, ◌&&◌, Option, Some, None, List, [], ◌∷◌, ◌++◌, length, map, drop, inl, inr, arith, append-nil}
-use Rattle.std.specs.Prelude.{min, ◌==◌, is_some, IfSome, Result, Ok, Err, IfOk}
+use Rattle.std.specs.Prelude.{min, ◌==◌, is_some, IfSome}
 use Rattle.std.specs.Io.KnownBytes.{Appends}
 use Rattle.std.proofs.KnownBytes.{Appends-nil}
 use Rattle.std.proofs.lemmas.Bool.{eqb-true, true≢false}
@@ -22,24 +22,17 @@ use Rattle.call_leg.specs.Who.{Who}
 use Rattle.farm_rounds.specs.declared.call.Group.{Group}
 use Rattle.farm_rounds.specs.Calls.{call_in, partner_in}
 use Rattle.farm_rounds.specs.Numbers.{is_among}
-use Rattle.farm_rounds.specs.Memory.{FarmMemory}
 use Rattle.farm_rounds.specs.Histories.{CallHistory, CallStands, GroupsStand}
 use Rattle.run_spec.specs.Run.{Run, whole_in, done_in, periods_to, periods_in, end_in, who_in, law_in, IsOpened, cause_in, worked_to}
 use Rattle.run_spec.specs.Now.{IsSoFar, settings_now}
-use Rattle.run_spec.specs.Facts.{report_of}
-use Rattle.farm_report.specs.View.{ReportView}
-use Rattle.farm_run.specs.Journal.{JournalMemory}
-use Rattle.farm_run.specs.Noted.{IsAtEnd, IsKnown}
 use Rattle.run_spec.specs.Lines.{out_line, down_octets}
 use Rattle.run_spec.proofs.Standing.{gone_later}
 use Rattle.run_spec.proofs.SoFar.{so_far_at_first, so_far_later}
-use Rattle.farm_run.specs.Runs.{TellsFailed, KeepsSides, ReadsOn, NoneRose, IsRunOver, IsWritten, IsCutOff, IsReadTo, is_listed, Leaves}
+use Rattle.farm_run.specs.Runs.{TellsFailed, NoneRose, IsRunOver, IsWritten, IsCutOff, IsReadTo, is_listed, Leaves}
 use Rattle.farm_run.specs.Resuming.{LeavesFrom}
 use Rattle.farm_run.specs.Standing.{Standing, standing, KnowsListed, HasFlags, IsToCome, never_given}
 use Rattle.farm_run.proofs.Meeting.{told_first}
-use Rattle.farm_run.proofs.Being.{there_is}
 use Rattle.farm_run.proofs.Listed.{listed_head}
-use Rattle.farm_run.specs.declared.pace.Pace.{Pace}
 use Rattle.farm_run.specs.Match.{AtClock, past_if, histories_at}
 use Rattle.farm_run.specs.Clock.{IsReadWhole, LinesAt, WrittenFrom, IsAtClock, NeverFell}
 use Rattle.farm_run.proofs.Rounds.{shut_after}

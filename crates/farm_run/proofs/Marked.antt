@@ -1,21 +1,20 @@
 -- The calls of a mark: those that are live at a run's last period are those that only its end cuts off.
-use Rattle.std.proofs.Common.{◌≡◌, refl, sym, ap, ◌∙◌, subst, ℕ, zero, suc, ◌+◌, ◌-◌, ◌*◌, ◌<◌, ◌≤◌, Bool, true, false, ◌&&◌, Option, Some, None, List, [], ◌∷◌, ◌++◌, length, map, take, cond, get_or, inl, inr, arith}
+use Rattle.std.proofs.Common.{◌≡◌, refl, sym, ap, ◌∙◌, subst, ℕ, suc, ◌+◌, ◌-◌, ◌*◌, ◌<◌, ◌≤◌, Bool, true, false, ◌&&◌, Option, Some, None, List, [], ◌∷◌, ◌++◌, length, map, take, cond, get_or, inl, inr, arith}
 use Rattle.std.specs.Prelude.{◌==◌, ◌||◌, is_some, filter, nat_lt, if◌then◌else◌, slice_index, IfSome}
 use Rattle.std.specs.List.{range_with_len, All, AllByRecursion}
 use Rattle.std.proofs.lemmas.Bool.{cases_Bool, ltb-true, eqb-true, eq-eqb, ne_eqb, true≢false}
 use Rattle.std.proofs.lemmas.List.{length-map, map-append, take_more, get_or-map}
 use Rattle.trau_io.specs.declared.ends.CallEnd.{CallEnd}
 use Rattle.trau_io.specs.declared.ends.Cause.{Cause}
-use Rattle.trau_io.specs.declared.ends.Cause.TheVariants.{Closed, End, Fault, Limit}
+use Rattle.trau_io.specs.declared.ends.Cause.TheVariants.{End, Fault}
 use Rattle.trau_io.specs.declared.line.Side.{Side}
-use Rattle.trau_io.specs.declared.line.Side.TheVariants.{Up, Pcm, Down, Out}
+use Rattle.trau_io.specs.declared.line.Side.TheVariants.{Up, Pcm}
 use Rattle.trau_io.specs.Lines.{LineState}
 use Rattle.call_number.specs.CallNumber.{IsCallNumber, call_numbers}
 use Rattle.trau_orders.specs.declared.order.Order.{Order}
 use Rattle.switchboard.specs.Calls.{Done, opened_at, closed_at, is_open, gone_at}
 use Rattle.switchboard.specs.Ends.{Given, lack_of, end_of, start_of}
 use Rattle.switchboard.specs.State.{first_stamp}
-use Rattle.switchboard.specs.Open.{open_now}
 use Rattle.farm_checkpoint.specs.declared.mark.MarkCall.{MarkCall}
 use Rattle.farm_checkpoint.specs.Marks.{AreLive, IsLive, NumbersRise}
 use Rattle.farm_report.specs.Sums.{sum_of}
@@ -29,7 +28,6 @@ use Rattle.run_spec.specs.Now.{NoOrderTo}
 use Rattle.run_spec.proofs.Settling.{start_is}
 use Rattle.run_spec.proofs.SoFar.{standing_now}
 use Rattle.run_spec.proofs.Standing.{shut_cases, gone_is}
-use Rattle.run_spec.proofs.Going.{start_run}
 use Rattle.run_spec.proofs.Ending.{all_done, end_closed, end_lacks, end_limit}
 use Rattle.farm_run.specs.declared.stage.Stage.{Stage}
 use Rattle.farm_run.specs.Marking.{entry_of}
@@ -148,7 +146,7 @@ module _ (s : Stage) (live : (c : ℕ) → is_among s.farm.live c ≡ is_some (c
         let goes = here.alive in
         let opened : is_opened (done_in r) c ≡ true = ap (λ (xs : List Done). is_opened xs c) all ∙ ap is_some here.opened in
         let end = end_limit r s.clock ds s.board.left c (start_of (done_in r) c) at.follows.so_far left_none here.unclosed
-            (let same : start_of (done_in r) c ≡ start_of ds c = ap (λ (xs : List Done). start_of xs c) all in omega (arith, e, same, goes)) in
+        (let same : start_of (done_in r) c ≡ start_of ds c = ap (λ (xs : List Done). start_of xs c) all in omega (arith, e, same, goes)) in
         ap (λ (b : Bool). b && is_limit (cause_in r c)) opened ∙ ap (λ (x : CallEnd). true && is_limit x.cause) end
 
     -- any other was closed, or its lines end it

@@ -1,5 +1,5 @@
 -- Before the first order no call is noted as opened.
-use Rattle.std.proofs.Common.{◌≡◌, refl, sym, ap, ◌∙◌, subst, ℕ, zero, suc, ◌<◌, ◌≤◌, List, [], ◌∷◌, replicate, get_or, arith}
+use Rattle.std.proofs.Common.{◌≡◌, refl, ap, ◌∙◌, ℕ, zero, suc, ◌≤◌, replicate, arith}
 use Rattle.call_number.specs.declared.TheConstants.{NUMBERS}
 use Rattle.farm_run.specs.declared.notes.Opening.{Opening}
 use Rattle.farm_run.specs.Journal.{JournalMemory, no_opening, opening_of, new_journal}

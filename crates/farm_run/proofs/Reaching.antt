@@ -1,18 +1,18 @@
 -- A run from clock to clock, and from its start.
-use Rattle.std.proofs.Common.{◌≡◌, refl, sym, ap, ◌∙◌, subst, ℕ, ◌<◌, ◌≤◌, Bool, true, false, List, [], length, arith}
+use Rattle.std.proofs.Common.{◌≡◌, refl, sym, ap, ◌∙◌, subst, ℕ, ◌≤◌, true, false, List, arith}
 use Rattle.trau_io.specs.declared.line.Line.{Line}
 use Rattle.trau_io.specs.declared.line.Side.{Side}
 use Rattle.trau_io.specs.Lines.{LineState}
 use Rattle.trau_orders.specs.declared.order.Order.{Order}
-use Rattle.switchboard.specs.State.{State, orders_of}
+use Rattle.switchboard.specs.State.{orders_of}
 use Rattle.run_spec.specs.Run.{Run}
 use Rattle.farm_run.specs.declared.outgoing.Outgoing.{Outgoing}
 use Rattle.farm_run.specs.declared.stage.Stage.{Stage}
 use Rattle.farm_run.specs.Noted.{IsKnown}
-use Rattle.farm_run.specs.Outgoing.{is_held, is_summed, sum_to, IsSameWay}
+use Rattle.farm_run.specs.Outgoing.{is_held, is_summed, sum_to}
 use Rattle.farm_run.specs.Runs.{TellsFailed, KeepsSides, ReadsOn, IsRunOver, FailedShort, is_listed}
-use Rattle.farm_run.specs.Stages.{IsStage, IsFirst, HoldsBack, Reaches, SumsAt}
-use Rattle.farm_run.specs.Standing.{Standing, standing, GoesOn, HasFlags}
+use Rattle.farm_run.specs.Stages.{IsStage, IsFirst, Reaches, SumsAt}
+use Rattle.farm_run.specs.Standing.{Standing, standing, GoesOn}
 use Rattle.farm_run.specs.Clock.{NeverFell, IsAtClock, WrittenFrom}
 use Rattle.farm_run.proofs.Clocks.{fell_none, tells_none, at_first, written_first, flags_of}
 use Rattle.farm_run.proofs.Counts.{fell_more}

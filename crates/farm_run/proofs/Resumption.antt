@@ -1,6 +1,6 @@
 -- A resumed run: where its mark is compared, at its end, and where want of memory cuts it short.
-use Rattle.std.proofs.Common.{◌≡◌, refl, sym, ap, ◌∙◌, subst, ℕ, ◌<◌, ◌≤◌, Bool, true, false, List, [], length, map, drop, arith}
-use Rattle.std.specs.Prelude.{max, is_some, IfOk, Result, Ok, Err}
+use Rattle.std.proofs.Common.{◌≡◌, refl, sym, ap, ◌∙◌, subst, ℕ, ◌≤◌, Bool, true, false, List, [], length, map, arith}
+use Rattle.std.specs.Prelude.{max, is_some}
 use Rattle.std.specs.Io.KnownBytes.{Appends}
 use Rattle.std.proofs.KnownBytes.{Appends-nil}
 use Rattle.trau_io.specs.declared.line.Line.{Line}
@@ -8,7 +8,6 @@ use Rattle.trau_io.specs.declared.line.Side.{Side}
 use Rattle.trau_io.specs.declared.line.Side.TheVariants.{Down, Out}
 use Rattle.trau_io.specs.Lines.{LineState}
 use Rattle.trau_orders.specs.declared.order.Order.{Order}
-use Rattle.trau_orders.specs.Lists.{AreOrders}
 use Rattle.round_lines.specs.Rounds.{IsOutgoing}
 use Rattle.farm_checkpoint.specs.declared.mark.MarkCall.{MarkCall}
 use Rattle.farm_checkpoint.specs.Marks.{MarkView}
@@ -16,22 +15,19 @@ use Rattle.farm_checkpoint.specs.Differences.{IsLeastDifference}
 use Rattle.farm_report.specs.View.{ReportView}
 use Rattle.farm_rounds.specs.Calls.{call_in}
 use Rattle.farm_rounds.specs.Numbers.{IsRising, is_among}
-use Rattle.run_spec.specs.Run.{Run, IsOpened, worked_to, who_in, periods_to}
-use Rattle.run_spec.specs.Lines.{out_line, down_octets}
+use Rattle.run_spec.specs.Run.{Run, worked_to}
 use Rattle.run_spec.specs.Facts.{report_of}
 use Rattle.run_spec.specs.Mark.{marked_calls}
 use Rattle.farm_run.specs.declared.outgoing.Outgoing.{Outgoing}
 use Rattle.farm_run.specs.declared.outgoing.Outgoing.TheVariants.{Written}
 use Rattle.farm_run.specs.declared.pace.Pace.{Pace}
-use Rattle.farm_run.specs.declared.resuming.Resumed.{Resumed}
-use Rattle.farm_run.specs.declared.resuming.Resumed.TheVariants.{Ran, Differs}
 use Rattle.farm_run.specs.declared.stage.Stage.{Stage}
 use Rattle.farm_run.specs.Fronts.{IsCutShort}
 use Rattle.farm_run.specs.Marking.{entry_of}
 use Rattle.farm_run.specs.Noted.{IsAtEnd}
 use Rattle.farm_run.specs.Outgoing.{is_held, is_summed, sum_to}
 use Rattle.farm_run.specs.Resuming.{LeavesFrom, ResumesRun, FindsDifference, IsResumeCutShort}
-use Rattle.farm_run.specs.Runs.{TellsFailed, AreTold, IsRunOver, IsWritten, FailedShort, is_listed}
+use Rattle.farm_run.specs.Runs.{TellsFailed, IsRunOver, IsWritten, FailedShort, is_listed}
 use Rattle.farm_run.specs.Stages.{IsStage, IsFirst, HoldsBack, Reaches, SumsAt}
 use Rattle.farm_run.specs.Standing.{Standing, standing, GoesOn}
 use Rattle.farm_run.specs.Clock.{IsAtClock, WrittenFrom}
@@ -60,7 +56,7 @@ module _ (os : List Order) (batch periods : ℕ) (first now : ℕ → Side → L
   pub cut_unwritten : (from : ℕ) → ((c : ℕ) (s : Side) → IsOutgoing s → now c s ≡ first c s) → IsResumeCutShort os periods from first now
   cut_unwritten from unwritten = cut_before os periods from u.farm.failed first now g.tells g.sides g.reads unwritten
       (λ r run. let e = run.same_periods in
-          let here = at_here r (subst (λ (p : ℕ). IsRunOver os p (is_listed u.farm.failed) first now r) (sym e) run) (omega (arith, e)) in here.lines.others)
+      let here = at_here r (subst (λ (p : ℕ). IsRunOver os p (is_listed u.farm.failed) first now r) (sym e) run) (omega (arith, e)) in here.lines.others)
 
   -- **and one that wrote what lies behind a period.**
   pub cut_written : (from : ℕ) → from ≤ u.clock →

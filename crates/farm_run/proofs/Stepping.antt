@@ -6,7 +6,6 @@ use Rattle.trau_io.specs.declared.line.Side.{Side}
 use Rattle.trau_io.specs.Lines.{LineState}
 use Rattle.switchboard.specs.Calls.{is_open, gone_at}
 use Rattle.switchboard.specs.State.{State, first_stamp, orders_of}
-use Rattle.switchboard.specs.Runs.{TellsEnds}
 use Rattle.farm_rounds.specs.Calls.{call_in}
 use Rattle.farm_rounds.specs.Memory.{FarmMemory}
 use Rattle.run_spec.specs.Run.{Run, whole_in}
@@ -14,8 +13,7 @@ use Rattle.farm_run.specs.declared.stage.Stage.{Stage}
 use Rattle.farm_run.specs.Ending.{AreShut}
 use Rattle.farm_run.specs.Journal.{JournalMemory}
 use Rattle.farm_run.specs.Match.{AtClock, Follows}
-use Rattle.farm_run.specs.Noted.{Noted, IsKnown}
-use Rattle.farm_run.specs.Outgoing.{is_held, is_summed}
+use Rattle.farm_run.specs.Noted.{Noted}
 use Rattle.farm_run.specs.Runs.{TellsFailed, FailedShort, is_listed}
 use Rattle.farm_run.specs.Stages.{IsStage, OpenedBefore, Reaches}
 use Rattle.farm_run.specs.Standing.{Standing, standing, is_over, KnowsListed}

@@ -1,5 +1,5 @@
 -- The sums of a run's outgoing lines before its first round, and where its clock goes on with no call open.
-use Rattle.std.proofs.Common.{◌≡◌, refl, sym, ap, ◌∙◌, subst, ℕ, ◌-◌, ◌≤◌, false, List, []}
+use Rattle.std.proofs.Common.{◌≡◌, sym, ap, ◌∙◌, ℕ, ◌≤◌, false, List}
 use Rattle.std.specs.Prelude.{IfSome}
 use Rattle.trau_io.specs.declared.line.Side.{Side}
 use Rattle.trau_io.specs.declared.line.Side.TheVariants.{Down, Out}
@@ -8,7 +8,7 @@ use Rattle.switchboard.specs.Calls.{is_open, gone_at}
 use Rattle.switchboard.specs.State.{State, first_stamp}
 use Rattle.farm_report.specs.Sums.{sum_of}
 use Rattle.farm_rounds.specs.declared.call.Group.{Group}
-use Rattle.run_spec.specs.Run.{Run, whole_in, periods_to, who_in, IsOpened, worked_to}
+use Rattle.run_spec.specs.Run.{Run, whole_in, periods_to, who_in}
 use Rattle.run_spec.specs.Lines.{out_line, down_octets}
 use Rattle.farm_run.specs.Stages.{SumsAt}
 use Rattle.farm_run.specs.Standing.{Standing}

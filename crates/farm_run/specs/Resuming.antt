@@ -1,8 +1,7 @@
 -- What a resumed run leaves and reports, whatever fails (this project's profile). It works the same recordings from the
 -- start, holds back what was written before the mark's period, and compares the mark there. `before` are the lines before
 -- it, `now` those after it.
-use Rattle.std.specs.Prelude.{◌≡◌, ℕ, ◌*◌, max, Bool, false, List, length, take, drop}
-use Rattle.std.specs.Io.KnownBytes.{Appends}
+use Rattle.std.specs.Prelude.{◌≡◌, ℕ, ◌*◌, max, Bool, false, List, length, drop}
 use Rattle.trau_io.specs.declared.line.Line.{Line}
 use Rattle.trau_io.specs.declared.line.Side.{Side}
 use Rattle.trau_io.specs.declared.line.Side.TheVariants.{Up, Pcm, Down, Out}

@@ -1,6 +1,5 @@
 -- A run at one of its clocks, and how it gets from one to a later one (this project's profile).
 use Rattle.std.specs.Prelude.{◌≡◌, ◌<◌, ◌≤◌, ℕ, Bool, true, false, None, List, [], length}
-use Rattle.trau_io.specs.declared.line.Line.{Line}
 use Rattle.trau_io.specs.declared.line.Side.{Side}
 use Rattle.trau_io.specs.declared.line.Side.TheVariants.{Down, Out}
 use Rattle.trau_io.specs.Lines.{LineState}
@@ -9,7 +8,6 @@ use Rattle.round_lines.specs.Rounds.{IsOutgoing}
 use Rattle.switchboard.specs.State.{EndBefore, orders_of}
 use Rattle.farm_report.specs.Sums.{sum_of}
 use Rattle.farm_rounds.specs.Histories.{GroupsStand}
-use Rattle.farm_rounds.specs.Sums.{no_sums}
 use Rattle.run_spec.specs.Run.{Run, periods_to, who_in, IsOpened, worked_to}
 use Rattle.run_spec.specs.Lines.{out_line, down_octets}
 use Rattle.farm_run.specs.declared.notes.Opening.{Opening}

@@ -1,4 +1,4 @@
-use Rattle.std.proofs.Common.{◌≡◌, sym, subst, ℕ, ◌≤◌, arith}
+use Rattle.std.proofs.Common.{sym, subst, ℕ, ◌≤◌}
 use Rattle.trau_io.specs.declared.line.Side.{Side}
 use Rattle.trau_io.specs.Lines.{LineState}
 use Rattle.farm_run.specs.declared.stage.Stage.{Stage}

@@ -1,12 +1,9 @@
-use Rattle.std.proofs.Common.{◌≡◌, refl, sym, ap, ◌∙◌, subst, ℕ, ◌≤◌, List, length, map, arith}
+use Rattle.std.proofs.Common.{◌≡◌, refl, sym, ap, ◌∙◌, subst, ℕ, ◌≤◌, length, arith}
 use Rattle.std.specs.Prelude.{max, is_some}
 use Rattle.trau_io.specs.declared.line.Side.{Side}
-use Rattle.trau_io.specs.Lines.{LineState}
-use Rattle.farm_checkpoint.specs.declared.mark.MarkCall.{MarkCall}
 use Rattle.farm_checkpoint.specs.Marks.{MarkView, NumbersRise}
 use Rattle.farm_run.specs.declared.outgoing.Outgoing.TheVariants.{Held}
 use Rattle.farm_run.specs.declared.stage.Stage.{Stage}
-use Rattle.farm_run.specs.Marking.{entry_of}
 use Rattle.farm_run.specs.Stages.{Reaches}
 use Rattle.farm_run.proofs.Cutting.{on_err}
 use Rattle.farm_run.proofs.Marked.{numbers_rise}

@@ -1,5 +1,4 @@
-use Rattle.std.proofs.Common.{◌≡◌, refl, sym, ap, ◌∙◌, subst, ℕ, ◌≤◌, length, arith}
-use Rattle.std.specs.Prelude.{IfOk}
+use Rattle.std.proofs.Common.{refl, ap, ℕ, ◌≤◌, length, arith}
 use Rattle.trau_io.specs.declared.line.Side.{Side}
 use Rattle.trau_io.specs.Lines.{LineState}
 use Rattle.farm_run.specs.declared.outgoing.Outgoing.TheVariants.{Written}

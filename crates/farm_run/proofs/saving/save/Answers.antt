@@ -1,10 +1,9 @@
-use Rattle.std.proofs.Common.{◌≡◌, refl, sym, ap, ◌∙◌, subst, ℕ, ◌<◌, ◌≤◌, arith}
+use Rattle.std.proofs.Common.{refl, ap, ◌∙◌, ℕ, ◌≤◌, arith}
 use Rattle.trau_io.specs.declared.line.Side.{Side}
 use Rattle.trau_io.specs.Lines.{LineState}
 use Rattle.farm_run.specs.declared.outgoing.Outgoing.TheVariants.{Summed}
 use Rattle.farm_run.specs.declared.stage.Stage.{Stage}
-use Rattle.farm_run.specs.Journal.{JournalMemory}
-use Rattle.farm_run.specs.Stages.{OpenedBefore, Reaches}
+use Rattle.farm_run.specs.Stages.{Reaches}
 use Rattle.farm_run.proofs.Cutting.{on_err, cut_first}
 use Rattle.farm_run.proofs.Reaching.{gone_first, gone_more, wrote_first, summed_first}
 use Rattle.farm_run.proofs.Resumption.{stretch_cut}

@@ -1,6 +1,6 @@
 use Rattle.std.proofs.Common.{sym, ap, subst, Bool}
 use Rattle.farm_run.specs.Outgoing.{is_held, IsSettled}
-use Rattle.farm_run.proofs.Outgoings.{drained, passed}
+use Rattle.farm_run.proofs.Outgoings.{drained}
 use Rattle.farm_run.proofs.Sides.{sides_drained}
 use Rattle.farm_run.proofs.outgoing.Outgoing.settle.Goals as goal
 
