@@ -16,3 +16,4 @@ pub mod Carrying
 pub mod Sending
 pub mod Sent
 pub mod Rounds
+pub mod LongerLines
