@@ -146,7 +146,7 @@ home_search : search.Stands [] search.home_memory
 unfolding mode_after search.last_bits
 home_search = record { periods = All-nil (λ o. length o ≡ 40); after = refl }
 
-home_rx : (call : ℕ) → rx.Stands call [] (rx.first_memory call)
+home_rx : (call : ℕ) → rx.Stands call [] (rx.home_memory call)
 unfolding anchor_of drawn state_after
 home_rx call = record { state = refl; source = refl }
 

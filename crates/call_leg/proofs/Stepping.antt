@@ -33,7 +33,7 @@ use Rattle.call_leg.specs.Places.{in_u32, in_u64}
 use Rattle.call_leg.specs.Step.{home_down, played_frame, played, after_sighting, up_worked, coded_next, next_by, thawed, after_made, frame_made, frame_tried, with_framer, down_worked}
 
 -- the downlink side of a new leg is at home
-pub home-step : (law : Law) (f : framer.FramerMemory) (a : align.AlignMemory) (w : List (List ℕ)) (m : CoderMemory) → f ≡ framer.new_memory → a ≡ align.new_memory → w ≡ [] → m.encoder ≡ encoder.home_memory → m.tx ≡ tx.home_memory →
+pub home-step : (law : Law) (f : framer.FramerMemory) (a : align.AlignMemory) (w : List (List ℕ)) (m : CoderMemory) → f ≡ framer.new_memory → a ≡ align.home_memory → w ≡ [] → m.encoder ≡ encoder.home_memory → m.tx ≡ tx.home_memory →
     record (home_down law) { framer = f; align = a; waiting = w; coder = m } ≡ home_down law
 home-step law f a w m ef ea ew ee et =
     ap (λ x. record (home_down law) { framer = x; align = a; waiting = w; coder = m }) ef

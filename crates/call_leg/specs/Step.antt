@@ -33,7 +33,7 @@ abbrev pub home_down : Law → DownMemory
 home_down law = record {
   law = law;
   framer = framer.new_memory;
-  align = align.new_memory;
+  align = align.home_memory;
   waiting = [];
   coder = home_coder;
   level = pos 256;
@@ -46,7 +46,7 @@ home_down law = record {
 }
 
 abbrev pub home_leg : Who → LegMemory
-home_leg who = record { law = who.law; search = search.home_memory; rx = rx.first_memory who.number; decoder = decoder.home_memory; counts = no_counts; down = home_down who.law }
+home_leg who = record { law = who.law; search = search.home_memory; rx = rx.home_memory who.number; decoder = decoder.home_memory; counts = no_counts; down = home_down who.law }
 
 -- ---- the uplink half
 

@@ -55,8 +55,8 @@ pub record RxMemory : Type 0 where
   pub source : ℕ
 
 -- the memory at the start of a call
-abbrev pub first_memory : ℕ → RxMemory
-first_memory call = record { state = Quiet; source = call }
+abbrev pub home_memory : ℕ → RxMemory
+home_memory call = record { state = Quiet; source = call }
 
 -- one period: its effective frame, and the memory after it
 unfoldable pub received : RxMemory → Heard → EffectiveFields × RxMemory

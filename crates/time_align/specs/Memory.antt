@@ -8,8 +8,8 @@ pub record AlignMemory : Type 0 where
   pub frozen : Bool
 
 -- before the first call
-abbrev pub new_memory : AlignMemory
-new_memory = record { kept = None; frozen = false }
+abbrev pub home_memory : AlignMemory
+home_memory = record { kept = None; frozen = false }
 
 -- a field is asked: its shift is kept in place of the one before, if it has one
 abbrev pub after_ask : AlignMemory → ℕ → AlignMemory

@@ -2,7 +2,7 @@
 
 ghost use Rattle.std.specs.Prelude.{◌≡◌, List, [], ◌∷◌};
 ghost use Rattle.time_align.specs.Shift.{IsShift};
-ghost use Rattle.time_align.specs.Memory.{new_memory, after_ask, after_freeze, after_thaw, adopted};
+ghost use Rattle.time_align.specs.Memory.{home_memory, after_ask, after_freeze, after_thaw, adopted};
 ghost use Rattle.time_align.specs.History.{Event, Asks, Freezes, Thaws, Adopts, shift_now, Stands};
 
 use crate::shift::shift_of;
@@ -30,7 +30,7 @@ impl Model for Align {
 impl Align {
     /// Nothing was asked, and shifts aren't frozen.
     pub fn new() -> Align
-        ensures value { result ≡ new_memory }
+        ensures value { result ≡ home_memory }
         ensures history { Stands [] result }
     {
         Align {
