@@ -10,7 +10,8 @@ use Rattle.rx_handler.specs.Heard.{Heard}
 use Rattle.rx_handler.specs.Effective.{effective_at, effectives, heard_in}
 use Rattle.rx_handler.specs.Origin.{EffectiveFields, Quiet}
 use Rattle.rx_handler.specs.Past.{effective_of}
-use Rattle.rx_handler.specs.Table.{RxMemory, home_memory, received, all_received}
+use Rattle.rx_handler.specs.Memory.{RxMemory, home_memory}
+use Rattle.rx_handler.specs.Step.{received, all_received}
 use Rattle.down_framer.specs.ByNumber.{fields_in}
 use Rattle.call_leg.specs.Who.{Who}
 use Rattle.call_leg.specs.Uplink.{sighting_in, heard_as, field_of, dtxd_after}

@@ -3,7 +3,9 @@
 ghost use Rattle.std.specs.Prelude.{◌≡◌, List, [], ◌∷◌};
 ghost use Rattle.trau_params.specs.Fields.{Fields, fields_of};
 ghost use Rattle.fr_decoder.specs.Decoded.{samples_of};
-ghost use Rattle.fr_decoder.specs.Step.{DecoderMemory, home_memory, decoded_frame, Stands};
+ghost use Rattle.fr_decoder.specs.Memory.{DecoderMemory, home_memory};
+ghost use Rattle.fr_decoder.specs.Step.{decoded_frame};
+ghost use Rattle.fr_decoder.specs.Stands.{Stands};
 
 use crate::deemphasis::truncate;
 use crate::residual::residual;

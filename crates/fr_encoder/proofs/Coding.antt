@@ -1,7 +1,9 @@
 -- The blocks of a frame.
 use Rattle.std.proofs.Common.{◌≡◌, ℕ, ℤ, List, [], ◌∷◌, ◌++◌, drop, refl, sym, All}
 use Rattle.std.proofs.lemmas.List.Elements.{All-cons, All-nil}
-use Rattle.fr_long.specs.Prediction.{Prediction, prediction_of, reconstructed_of, updated, after_zeros, HistoryStands}
+use Rattle.fr_long.specs.Prediction.{Prediction, prediction_of, reconstructed_of}
+use Rattle.fr_long.specs.Step.{updated}
+use Rattle.fr_long.specs.Stands.{after_zeros, HistoryStands}
 use Rattle.fr_long.proofs.Predictions.{by_history, one_update}
 use Rattle.fr_rpe.specs.Encoding.{mc_of, xmaxc_of, xmc_of, xmax_of}
 use Rattle.fr_rpe.specs.Pulses.{block_of}

@@ -1,6 +1,7 @@
 -- The coding of a frame's four blocks (GSM 06.10, sections 4.2.11 to 4.2.18).
 use Rattle.std.specs.Prelude.{ℕ, ◌*◌, ℤ, List, [], ◌∷◌, ◌++◌, take, drop, map}
-use Rattle.fr_long.specs.Prediction.{prediction_of, reconstructed_of, after_zeros}
+use Rattle.fr_long.specs.Prediction.{prediction_of, reconstructed_of}
+use Rattle.fr_long.specs.Stands.{after_zeros}
 use Rattle.fr_rpe.specs.Encoding.{mc_of, xmaxc_of, xmc_of, xmax_of}
 use Rattle.fr_rpe.specs.Pulses.{block_of}
 

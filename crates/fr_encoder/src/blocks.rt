@@ -1,7 +1,7 @@
 //! The four blocks of a frame (GSM 06.10, sections 4.2.11 to 4.2.18).
 
 ghost use Rattle.std.specs.Prelude.{◌≡◌, ℕ, ◌<◌, ℤ, List};
-ghost use Rattle.fr_long.specs.Prediction.{HistoryStands};
+ghost use Rattle.fr_long.specs.Stands.{HistoryStands};
 ghost use Rattle.fr_encoder.specs.Blocks.{block_at, block_after, four_blocks, block_fields};
 ghost use Rattle.fr_encoder.specs.Step.{next_block, next_blocks};
 ghost use Rattle.fr_encoder.specs.Coded.{codes_of, fields_of};

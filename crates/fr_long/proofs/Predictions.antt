@@ -6,11 +6,12 @@ use Rattle.std.proofs.lemmas.List.{length-append, length-replicate}
 use Rattle.std.proofs.lemmas.List.FromFn.{length-map-range_with_len}
 use Rattle.trau_num.specs.Num.{add_of, mult_r_of, l_mult_of, floor_shr, entry}
 use Rattle.fr_long.specs.Gain.{gain_of}
-use Rattle.fr_long.specs.Memory.{last_120}
+use Rattle.fr_long.specs.Stands.{last_120, after_zeros, HistoryStands}
 use Rattle.fr_long.specs.Scaling.{scaling_of, scaled_down}
 use Rattle.fr_long.specs.Lag.{correlation_of, lag_of, IsBest, IsChosen, IsLag, greatest_of}
 use Rattle.fr_long.specs.GainCode.{energy_of, power_of, code_of}
-use Rattle.fr_long.specs.Prediction.{correlation_of_block, l_max_of, predicted_of, rest_of, Prediction, prediction_of, IsPrediction, reconstructed_of, updated, after_zeros, HistoryStands}
+use Rattle.fr_long.specs.Prediction.{correlation_of_block, l_max_of, predicted_of, rest_of, Prediction, prediction_of, IsPrediction, reconstructed_of}
+use Rattle.fr_long.specs.Step.{updated}
 use Rattle.fr_long.proofs.Lags.{lag_is, has_lag}
 use Rattle.fr_long.proofs.Histories.{sample_before-last_120, last_120-append}
 

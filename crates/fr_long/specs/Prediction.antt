@@ -1,10 +1,9 @@
 -- The prediction of a block, and the residual that is reconstructed after it (GSM 06.10, sections 4.2.11, 4.2.12 and 4.2.18).
-use Rattle.std.specs.Prelude.{◌≡◌, ℕ, ◌-◌, ℤ, pos, List, ◌++◌, map, drop, replicate}
+use Rattle.std.specs.Prelude.{ℕ, ◌-◌, ◌≡◌, ℤ, List, map}
+use Rattle.fr_long.specs.Synthesis.{sample_before}
 use Rattle.std.specs.List.{range_with_len}
 use Rattle.trau_num.specs.Num.{add_of, sub_of, mult_r_of, floor_shr, entry}
 use Rattle.fr_long.specs.Gain.{gain_of}
-use Rattle.fr_long.specs.Synthesis.{sample_before}
-use Rattle.fr_long.specs.Memory.{last_120}
 use Rattle.fr_long.specs.Scaling.{scaling_of, scaled_down}
 use Rattle.fr_long.specs.declared.ltp.Ltp.{Ltp}
 use Rattle.fr_long.specs.Lag.{correlation_of, lag_of, IsLag, greatest_of}
@@ -55,15 +54,3 @@ pub record IsPrediction (d earlier : List ℤ) (p : Prediction) : Type 0 where
 -- dp[0] to dp[39]: the pulses of a block, and its prediction
 unfoldable pub reconstructed_of : List ℤ → List ℤ → List ℤ
 reconstructed_of dpp ep = map (λ k. add_of (entry ep k) (entry dpp k)) (range_with_len 0 40)
-
--- the last 120 residuals after one block more
-unfoldable pub updated : List ℤ → List ℤ → List ℤ → List ℤ
-updated residuals dpp ep = drop 40 residuals ++ reconstructed_of dpp ep
-
--- all earlier residuals, the oldest first, after 120 zeros
-abbrev pub after_zeros : List ℤ → List ℤ
-after_zeros past = replicate 120 (pos 0) ++ past
-
--- the residuals kept are the last 120 of all earlier ones
-pub record HistoryStands (past residuals : List ℤ) : Type 0 where
-  pub residuals_are : residuals ≡ last_120 (after_zeros past)

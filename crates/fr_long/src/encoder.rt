@@ -35,7 +35,9 @@ impl Model for LtpHistory {
 impl LtpHistory {
     ghost use Rattle.std.specs.Prelude.{pos, [], ◌++◌, replicate};
     ghost use Rattle.fr_long.specs.Lag.{lag_of};
-    ghost use Rattle.fr_long.specs.Prediction.{correlation_of_block, prediction_of, fields_of, IsPrediction, updated, after_zeros, HistoryStands};
+    ghost use Rattle.fr_long.specs.Prediction.{correlation_of_block, prediction_of, fields_of, IsPrediction};
+    ghost use Rattle.fr_long.specs.Step.{updated};
+    ghost use Rattle.fr_long.specs.Stands.{after_zeros, HistoryStands};
 
     /// The home state, before any block.
     pub fn home() -> Self
@@ -70,7 +72,7 @@ impl LtpHistory {
     }
 
     /// Takes in a coded block: its prediction `dpp`, and its pulses `ep` as a decoder has them.
-    #[tactic(auto, unfolding(crate::specs::Prediction::updated))]
+    #[tactic(auto, unfolding(crate::specs::Step::updated))]
     pub fn update(&mut self, dpp: &[i16; 40], ep: &[i16; 40])
         ensures step { self.new ≡ updated self.old dpp.now ep.now }
         ensures history { (past : List ℤ) → HistoryStands past self.old →

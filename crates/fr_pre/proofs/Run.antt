@@ -3,10 +3,12 @@ use Rattle.std.proofs.Common.{◌≡◌, ℕ, ◌+◌, ◌<◌, suc, zero, ℤ, 
 use Rattle.std.proofs.lemmas.Int.{ints}
 use Rattle.std.proofs.lemmas.List.{drop_all}
 use Rattle.fr_pre.specs.Memory.{PreMemory, home_memory}
-use Rattle.fr_pre.specs.Preprocessing.{downscaled, next_l_z2, offset_free, preemphasised, preprocessed_sample, preprocessed_frame}
+use Rattle.fr_pre.specs.Preprocessing.{downscaled, next_l_z2, offset_free, preemphasised}
+use Rattle.fr_pre.specs.Step.{preprocessed_sample, preprocessed_frame}
 use Rattle.trau_num.specs.Num.{entry}
 use Rattle.fr_pre.specs.Offsets.{next_offset, without_offset, IsDownscaled, IsOffset, AreDownscaled, AreOffsets, AreFree, ArePreemphasised}
-use Rattle.fr_pre.specs.History.{samples_of, Stands, memory_after, newest_preprocessed}
+use Rattle.fr_pre.specs.History.{samples_of, memory_after, newest_preprocessed}
+use Rattle.fr_pre.specs.Stands.{Stands}
 use Rattle.fr_pre.proofs.Floors.{sum_goes_on, rounds_on}
 
 -- the lists that the passes made

@@ -6,7 +6,9 @@ use Rattle.rx_muting.specs.Draws.{state_after}
 use Rattle.rx_handler.specs.Heard.{Heard}
 use Rattle.rx_handler.specs.Effective.{effective_at, effectives, heard_in}
 use Rattle.rx_handler.specs.Past.{anchor_of, drawn}
-use Rattle.rx_handler.specs.Table.{RxMemory, home_memory, received, all_received, Stands}
+use Rattle.rx_handler.specs.Memory.{RxMemory, home_memory}
+use Rattle.rx_handler.specs.Step.{received, all_received}
+use Rattle.rx_handler.specs.Stands.{Stands}
 use Rattle.rx_handler.proofs.Steps.{received_more}
 use Rattle.rx_handler.proofs.Places.{effective-history}
 

@@ -7,7 +7,9 @@ use Rattle.trau_params.specs.Fields.{Fields}
 use Rattle.tx_dtx.specs.Stretch.{Measures, Coded, is_active, Sent}
 use Rattle.tx_dtx.specs.SilenceDescriptor.{sid_of}
 use Rattle.tx_dtx.specs.Sent.{SidPlace, one_later, pause_of, is_sid_place, newest_four, latest_place, before_pause, still_used, sid_used, itself, silence, sent_early, sent_of}
-use Rattle.tx_dtx.specs.Step.{TxMemory, no_measures, later, after_active, after_sid, hangs_at, after_early, remembered, described, early, paused, taken, stepped, elapsed_of, Stands}
+use Rattle.tx_dtx.specs.Memory.{TxMemory, no_measures}
+use Rattle.tx_dtx.specs.Step.{later, after_active, after_sid, hangs_at, after_early, remembered, described, early, paused, taken, stepped}
+use Rattle.tx_dtx.specs.Stands.{elapsed_of, Stands}
 
 -- ---- how many frames since the last SID
 

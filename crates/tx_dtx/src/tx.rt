@@ -4,7 +4,9 @@ ghost use Rattle.std.specs.Prelude.{◌≡◌, ◌≤◌, List, [], ◌∷◌};
 ghost use Rattle.trau_params.specs.Fields.{fields_of};
 ghost use Rattle.tx_dtx.specs.Stretch.{Coded, coded_frame, measures_of, is_active_at, sent_frame};
 ghost use Rattle.tx_dtx.specs.Sent.{sent_of};
-ghost use Rattle.tx_dtx.specs.Step.{home_memory, after_active, hangs_at, described, early, paused, taken, remembered, stepped, Stands};
+ghost use Rattle.tx_dtx.specs.Memory.{home_memory};
+ghost use Rattle.tx_dtx.specs.Step.{after_active, hangs_at, described, early, paused, taken, remembered, stepped};
+ghost use Rattle.tx_dtx.specs.Stands.{Stands};
 
 use crate::sid::sid;
 use std::marker::Model;
@@ -31,7 +33,7 @@ impl Model for Tx {
     ghost use Rattle.std.specs.Prelude.{◌≤◌, [], ◌∷◌};
     ghost use Rattle.trau_params.specs.Fields.{fields_of};
     ghost use Rattle.tx_dtx.specs.Stretch.{measures_of};
-    ghost use Rattle.tx_dtx.specs.Step.{TxMemory};
+    ghost use Rattle.tx_dtx.specs.Memory.{TxMemory};
 
     ghost Value = { TxMemory };
 

@@ -1,7 +1,8 @@
 use Rattle.std.proofs.Common.{◌≡◌, ap, sym, subst, ◌∙◌, unsigned_abs, FitsSigned, w16, w32, rules}
 use Rattle.std.proofs.lemmas.Int.{to_z-of_z}
 use Rattle.fr_long.specs.Scaling.{scaling_of, scaling_of_peak}
-use Rattle.fr_long.specs.Prediction.{Prediction, prediction_of, IsPrediction, after_zeros}
+use Rattle.fr_long.specs.Prediction.{Prediction, prediction_of, IsPrediction}
+use Rattle.fr_long.specs.Stands.{after_zeros}
 use Rattle.fr_long.proofs.Lags.{lag_is}
 use Rattle.fr_long.proofs.Predictions.{predicts, is_prediction, prediction_is, by_history}
 use Rattle.fr_long.proofs.encoder.LtpHistory.predict.Goals as goal
