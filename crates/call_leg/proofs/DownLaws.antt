@@ -17,7 +17,7 @@ use Rattle.tx_dtx.specs.Stretch.{Coded}
 use Rattle.tx_dtx.specs.Sent.{sent_of}
 use Rattle.tx_dtx.specs.Stands as tx
 use Rattle.tx_dtx.specs.Memory.{home_memory as tx_home}
-use Rattle.tx_dtx.specs.Step.{stepped}
+use Rattle.tx_dtx.specs.Step.{next_sent}
 use Rattle.tx_dtx.proofs.Table.{step-stands}
 use Rattle.time_align.specs.Shift.{IsShift}
 use Rattle.time_align.specs.Memory as align
@@ -98,7 +98,7 @@ own-stands who f fs m held false level on e eq el eo et h =
     let sent = step-stands c (coded_frames who.law before) m.tx h.tx in (
       subst (λ z. CoderStands who.law z (own_next who.law m held false level on).1) (sym (stretch-coded who.number f fs e (sym eq))) (record {
         encoder = subst (λ y. encoder.Stands (y ∷ rest) coded.1) se enc.0;
-        tx = subst (λ z. tx.Stands (z ∷ coded_frames who.law before) (stepped m.tx c).1) one sent.0;
+        tx = subst (λ z. tx.Stands (z ∷ coded_frames who.law before) (next_sent m.tx c).1) one sent.0;
       }),
       ap speech (sent.1 ∙ ap (λ z. sent_of z (coded_frames who.law before)) one) ∙ sym (frame-coded who f fs e (sym eq)),
     )

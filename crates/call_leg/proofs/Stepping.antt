@@ -22,7 +22,7 @@ use Rattle.fr_encoder.specs.Memory as encoder
 use Rattle.fr_encoder.specs.Step.{encoded_frame}
 use Rattle.tx_dtx.specs.Stretch.{Sent, coded_frame, sent_frame}
 use Rattle.tx_dtx.specs.Memory as tx
-use Rattle.tx_dtx.specs.Step.{stepped}
+use Rattle.tx_dtx.specs.Step.{next_sent}
 use Rattle.time_align.specs.Memory as align
 use Rattle.time_align.specs.Step.{adopted, after_thaw}
 use Rattle.down_framer.specs.Memory as framer
@@ -54,11 +54,11 @@ decode-step law m m1 p x octets e eo = ap (λ (d : List ℤ × DecoderMemory). (
 
 -- a frame is encoded and sent
 pub code-step : (law : Law) (m : CoderMemory) (octets : List ℕ) (level : ℤ) (on : Bool) (x : List ℤ) (p q : Params) (t : Trace) (peak : ℤ) (sp : Bool) (bits : List ℕ) (e1 : encoder.EncoderMemory) (t1 : tx.TxMemory) →
-    encoded_frame m.encoder x ≡ (encoded_of p t peak, e1) → x ≡ expanded law octets → stepped m.tx (coded_frame p t peak level on) ≡ (sent_frame q sp, t1) → bits ≡ bits260_of q →
+    encoded_frame m.encoder x ≡ (encoded_of p t peak, e1) → x ≡ expanded law octets → next_sent m.tx (coded_frame p t peak level on) ≡ (sent_frame q sp, t1) → bits ≡ bits260_of q →
     coded_next law m octets level on ≡ (frame.Speech bits sp, record { encoder = e1; tx = t1 })
 unfolding bits260_of
 code-step law m octets level on x p q t peak sp bits e1 t1 ee ex es eb =
-    ap (λ (e : Encoded × encoder.EncoderMemory). let s = stepped m.tx (coded_as e.0 level on) in (speech s.0, record { encoder = e.1; tx = s.1 })) (ap (encoded_frame m.encoder) (sym ex) ∙ ee)
+    ap (λ (e : Encoded × encoder.EncoderMemory). let s = next_sent m.tx (coded_as e.0 level on) in (speech s.0, record { encoder = e.1; tx = s.1 })) (ap (encoded_frame m.encoder) (sym ex) ∙ ee)
     ∙ ap (λ (s : Sent × tx.TxMemory). (speech s.0, record { encoder = e1; tx = s.1 })) es
     ∙ ap (λ b. (frame.Speech b sp, record { encoder = e1; tx = t1 })) (sym eb)
 

@@ -128,7 +128,7 @@ after_handing d e = record d { waiting = keep_last 2 (d.waiting ++ bits260 (hand
 abbrev pub coded_next : Law → CoderMemory → List ℕ → ℤ → Bool → DownFrame × CoderMemory
 coded_next law m octets level on =
     let encoded = encoder.encoded_frame m.encoder (expanded law octets) in
-    let sent = tx.stepped m.tx (coded_as encoded.0 level on) in
+    let sent = tx.next_sent m.tx (coded_as encoded.0 level on) in
     (speech sent.0, record { encoder = encoded.1; tx = sent.1 })
 
 -- the next frame where none waits, and where these do

@@ -16,7 +16,7 @@ use Rattle.fr_short.specs.Reflection.{coefficients_at}
 use Rattle.fr_short.specs.Stands.{SynthesisStands}
 use Rattle.fr_short.specs.Synthesis.{ResidualFrame, residual_frame, synthesis_of, newest_ratios, filtered_samples, sections_after, synthesis_lattice}
 use Rattle.fr_short.specs.Step.{synthesised_frame}
-use Rattle.fr_decoder.specs.Decoded.{blocks_of, residuals_of, last_msr, samples_of, all_samples}
+use Rattle.fr_decoder.specs.Decoded.{blocks_of, residual_frames, last_msr, samples_of, all_samples}
 use Rattle.fr_short.specs.Deemphasis.{deemphasised, last_of}
 use Rattle.fr_decoder.specs.Deemphasis.{truncated}
 use Rattle.fr_decoder.specs.Stands as decoder
@@ -77,20 +77,20 @@ lattice-stands codes residual past m h =
 
 -- at home no frame was decoded
 pub home-stands : decoder.Stands [] home_memory
-unfolding blocks_of residuals_of last_msr long.lag_in_force long.residuals_of newest_ratios synthesis_of
+unfolding blocks_of residual_frames last_msr long.lag_in_force long.residuals_of newest_ratios synthesis_of
 home-stands = record { long_term = record { lag = refl; residuals = refl }; short_term = record { ratios = refl; sections = refl }; msr = refl }
 
 -- one frame more, of any past
 pub frame-stands : (f : Fields) (past : List Fields) (m : DecoderMemory) → decoder.Stands past m →
     decoder.Stands (f ∷ past) (decoded_frame m f).1 × ((decoded_frame m f).0 ≡ samples_of f past)
-unfolding decoded_frame blocks_of residuals_of last_msr samples_of
+unfolding decoded_frame blocks_of residual_frames last_msr samples_of
 frame-stands f past m h =
     let blocks = synthesised_blocks m.long_term f in
     let one = blocks-stand f (blocks_of past) m.long_term h.long_term in
-    let two = lattice-stands f.larc blocks.0 (residuals_of past) m.short_term h.short_term in
-    let frames : residual_frame f.larc blocks.0 ∷ residuals_of past ≡ residuals_of (f ∷ past) = ap (λ r. residual_frame f.larc r ∷ residuals_of past) one.1 in
-    let samples : (synthesised_frame m.short_term f.larc blocks.0).0 ≡ (synthesis_of (residuals_of (f ∷ past))).0 = two.1 ∙ ap (λ fs. (synthesis_of fs).0) frames in
-    let msr : deemphasised m.msr (synthesised_frame m.short_term f.larc blocks.0).0 ≡ deemphasised (last_msr past) (synthesis_of (residuals_of (f ∷ past))).0 =
+    let two = lattice-stands f.larc blocks.0 (residual_frames past) m.short_term h.short_term in
+    let frames : residual_frame f.larc blocks.0 ∷ residual_frames past ≡ residual_frames (f ∷ past) = ap (λ r. residual_frame f.larc r ∷ residual_frames past) one.1 in
+    let samples : (synthesised_frame m.short_term f.larc blocks.0).0 ≡ (synthesis_of (residual_frames (f ∷ past))).0 = two.1 ∙ ap (λ fs. (synthesis_of fs).0) frames in
+    let msr : deemphasised m.msr (synthesised_frame m.short_term f.larc blocks.0).0 ≡ deemphasised (last_msr past) (synthesis_of (residual_frames (f ∷ past))).0 =
     ap (λ b. deemphasised b (synthesised_frame m.short_term f.larc blocks.0).0) h.msr ∙ ap (deemphasised (last_msr past)) samples in (
       record {
         long_term = one.0;
@@ -135,9 +135,9 @@ length-frame_residual f past =
     omega (arith, length-append {A = ℤ})
 
 pub length-samples_of : (f : Fields) (past : List Fields) → length (samples_of f past) ≡ 160
-unfolding samples_of residuals_of synthesis_of
+unfolding samples_of residual_frames synthesis_of
 length-samples_of f past =
-    length-map (deemphasised (last_msr past) (synthesis_of (residuals_of (f ∷ past))).0) truncated ∙ length-deemphasised _ (last_msr past)
+    length-map (deemphasised (last_msr past) (synthesis_of (residual_frames (f ∷ past))).0) truncated ∙ length-deemphasised _ (last_msr past)
     ∙ length-filtered _ 0 _ (frame_residual f (blocks_of past)) ∙ length-frame_residual f (blocks_of past)
 
 -- ---- and that each is a word
@@ -156,4 +156,4 @@ truncated-fits msr =
 
 pub samples-fit : (f : Fields) (past : List Fields) → All (λ x. FitsSigned w16 x) (samples_of f past)
 unfolding samples_of
-samples-fit f past = All-map (λ x. FitsSigned w16 x) truncated (deemphasised (last_msr past) (synthesis_of (residuals_of (f ∷ past))).0) (λ k d l. truncated-fits _)
+samples-fit f past = All-map (λ x. FitsSigned w16 x) truncated (deemphasised (last_msr past) (synthesis_of (residual_frames (f ∷ past))).0) (λ k d l. truncated-fits _)

@@ -2,7 +2,7 @@
 use Rattle.std.proofs.Common.{◌≡◌, ℕ, ℤ, List, [], ◌∷◌, ◌++◌, refl, ap, subst, ◌∙◌}
 use Rattle.fr_pre.specs.Memory as pre
 use Rattle.fr_pre.specs.Stands as preprocessing
-use Rattle.fr_pre.specs.History.{newest_preprocessed, samples_of}
+use Rattle.fr_pre.specs.History.{newest_preprocessed, samples_of_frames}
 use Rattle.fr_pre.specs.Step.{preprocessed_frame}
 use Rattle.fr_pre.proofs.Run.{history}
 use Rattle.fr_lpc.specs.Scaling.{peak_of, samples_after}
@@ -14,8 +14,8 @@ use Rattle.fr_short.specs.Analysis.{SampleFrame, sample_frame, analysed_samples,
 use Rattle.fr_short.specs.Step.{analysed_frame}
 use Rattle.fr_short.specs.Stands.{AnalysisStands}
 use Rattle.fr_long.specs.Stands.{HistoryStands}
-use Rattle.fr_encoder.specs.Blocks.{BlockFields, block_fields, four_blocks}
-use Rattle.fr_encoder.specs.Encoded.{Encoded, sample_frames, residual_of, reconstructed, encoding_of, all_encodings}
+use Rattle.fr_encoder.specs.Blocks.{BlockFields, block_fields, four_coded_blocks}
+use Rattle.fr_encoder.specs.Encoded.{Encoded, sample_frames, analysed_residual, reconstructed, encoding_of, all_encodings}
 use Rattle.fr_encoder.specs.Memory.{EncoderMemory, home_memory}
 use Rattle.fr_encoder.specs.Step.{next_blocks, encoded_frame, encoded_in_turn}
 use Rattle.fr_encoder.specs.Stands.{Stands}
@@ -53,15 +53,15 @@ pub one_history : (x s lost residual : List ℤ) (past : List (List ℤ)) (pre' 
     peak ≡ peak_of s → lost ≡ samples_after s → lar ≡ ratios_of_frame s → larc ≡ ratio_codes (ratios_of_frame s) →
     AnalysisStands (sample_frame larc lost ∷ sample_frames past) short' ×
     (residual ≡ (analysis_of (sample_frame larc lost ∷ sample_frames past)).0) →
-    HistoryStands (four_blocks (reconstructed past) residual).1 long' × (blocks ≡ block_fields (four_blocks (reconstructed past) residual).0) →
+    HistoryStands (four_coded_blocks (reconstructed past) residual).1 long' × (blocks ≡ block_fields (four_coded_blocks (reconstructed past) residual).0) →
     Stands (x ∷ past) (record { preprocessing = pre'; short_term = short'; long_term = long' }) ×
     (told larc lar blocks peak ≡ encoding_of x past)
 unfolding reconstructed encoding_of
 one_history x s lost residual past pre' short' long' larc lar blocks peak first epeak elost elar elarc second third =
     let frames = one_frame x s lost past larc first.1 elost elarc in
-    let same : residual ≡ residual_of x past = second.1 ∙ ap (λ f. (analysis_of f).0) frames in
-    let long : HistoryStands (four_blocks (reconstructed past) (residual_of x past)).1 long' =
-    subst (λ r. HistoryStands (four_blocks (reconstructed past) r).1 long') same third.0 in (
+    let same : residual ≡ analysed_residual x past = second.1 ∙ ap (λ f. (analysis_of f).0) frames in
+    let long : HistoryStands (four_coded_blocks (reconstructed past) (analysed_residual x past)).1 long' =
+    subst (λ r. HistoryStands (four_coded_blocks (reconstructed past) r).1 long') same third.0 in (
       record {
         preprocessing = first.0;
         short_term = subst (λ f. AnalysisStands f short') frames second.0;
@@ -84,7 +84,7 @@ analysis-stands codes samples past m h =
 
 -- at home no frame was encoded
 pub home-stands : Stands [] home_memory
-unfolding sample_frames reconstructed preprocessed_frame samples_of newest_sample_ratios analysis_of
+unfolding sample_frames reconstructed preprocessed_frame samples_of_frames newest_sample_ratios analysis_of
 home-stands = record { preprocessing = record { after = refl }; short_term = record { ratios = refl; sections = refl }; long_term = record { residuals_are = refl } }
 
 -- one frame more, of any past

@@ -25,7 +25,7 @@ impl PreState {
     ghost use Rattle.fr_pre.specs.History.{newest_preprocessed};
 
     /// The state before the first frame: every number is 0.
-    #[tactic(auto, unfolding(crate::specs::Step::preprocessed_frame, crate::specs::History::samples_of))]
+    #[tactic(auto, unfolding(crate::specs::Step::preprocessed_frame, crate::specs::History::samples_of_frames))]
     pub fn home() -> PreState
         ensures value { memory_of result ≡ home_memory }
         ensures history { Stands [] (memory_of result) }

@@ -56,5 +56,5 @@ unfoldable pub taken : TxMemory → Coded → Sent × TxMemory
 taken m f = if is_active f then (itself f.fields, after_active m) else paused m f.fields f.measures
 
 -- one frame: what is sent of it, and the memory after it
-unfoldable pub stepped : TxMemory → Coded → Sent × TxMemory
-stepped m f = let step = taken m f in (step.0, remembered step.1 f.measures)
+unfoldable pub next_sent : TxMemory → Coded → Sent × TxMemory
+next_sent m f = let step = taken m f in (step.0, remembered step.1 f.measures)
