@@ -3,11 +3,13 @@ use Rattle.std.specs.Prelude.{ℕ, ℤ, Bool, List, map}
 use Rattle.trau_alaw.specs.declared.Law.{Law}
 use Rattle.trau_orders.specs.declared.order.DtxMode.{DtxMode}
 use Rattle.trau_io.specs.declared.ends.Counts.{Counts}
-use Rattle.frame_sync.specs.Step.{SyncMemory}
-use Rattle.rx_handler.specs.Table.{RxMemory}
-use Rattle.fr_decoder.specs.Step.{DecoderMemory}
-use Rattle.fr_encoder.specs.Step as encoder
-use Rattle.tx_dtx.specs.Step as tx
+use Rattle.frame_sync.specs.Memory.{SyncMemory}
+use Rattle.rx_handler.specs.Memory.{RxMemory}
+use Rattle.fr_decoder.specs.Memory.{DecoderMemory}
+use Rattle.fr_encoder.specs.Stands as encoder
+use Rattle.fr_encoder.specs.Memory.{EncoderMemory, home_memory as encoder_home}
+use Rattle.tx_dtx.specs.Stands as tx
+use Rattle.tx_dtx.specs.Memory.{TxMemory, home_memory as tx_home}
 use Rattle.down_framer.specs.Memory.{FramerMemory}
 use Rattle.time_align.specs.Memory.{AlignMemory}
 use Rattle.call_leg.specs.Down.{CallFrame, samples_of, coded_frames}
@@ -16,12 +18,12 @@ use Rattle.call_leg.specs.declared.side.DownSide.{DownSide}
 
 -- the encoder, and what sends its frames
 pub record CoderMemory : Type 0 where
-  pub encoder : encoder.EncoderMemory
-  pub tx : tx.TxMemory
+  pub encoder : EncoderMemory
+  pub tx : TxMemory
 
 -- both at home
 abbrev pub home_coder : CoderMemory
-home_coder = record { encoder = encoder.home_memory; tx = tx.home_memory }
+home_coder = record { encoder = encoder_home; tx = tx_home }
 
 -- both ran from home over the coded frames of a stretch, whose octets are of this law
 pub record CoderStands (law : Law) (stretch : List CallFrame) (m : CoderMemory) : Type 0 where

@@ -8,5 +8,5 @@ abbrev pub codes_of : Block → CodedBlock
 codes_of b = record { nc = b.nc; bc = b.bc; mc = b.mc; xmaxc = b.xmaxc; xmc = b.xmc; xmax = b.xmax }
 
 -- the fields of the blocks of a frame
-abbrev pub fields_of : Blocks → BlockFields
-fields_of b = record { nc = b.nc; bc = b.bc; mc = b.mc; xmaxc = b.xmaxc; xmc = b.xmc; xmax = b.xmax }
+abbrev pub fields_of_blocks : Blocks → BlockFields
+fields_of_blocks b = record { nc = b.nc; bc = b.bc; mc = b.mc; xmaxc = b.xmaxc; xmc = b.xmc; xmax = b.xmax }

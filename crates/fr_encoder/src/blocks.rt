@@ -1,10 +1,10 @@
 //! The four blocks of a frame (GSM 06.10, sections 4.2.11 to 4.2.18).
 
 ghost use Rattle.std.specs.Prelude.{◌≡◌, ℕ, ◌<◌, ℤ, List};
-ghost use Rattle.fr_long.specs.Prediction.{HistoryStands};
-ghost use Rattle.fr_encoder.specs.Blocks.{block_at, block_after, four_blocks, block_fields};
+ghost use Rattle.fr_long.specs.Stands.{HistoryStands};
+ghost use Rattle.fr_encoder.specs.Blocks.{block_at, block_after, four_coded_blocks, block_fields};
 ghost use Rattle.fr_encoder.specs.Step.{next_block, next_blocks};
-ghost use Rattle.fr_encoder.specs.Coded.{codes_of, fields_of};
+ghost use Rattle.fr_encoder.specs.Coded.{codes_of, fields_of_blocks};
 
 use crate::block::{Block, Blocks};
 use fr_long::LtpHistory;
@@ -42,10 +42,10 @@ fn block_at(s: &[i16; 160], j: usize) -> [i16; 40]
 
 /// Codes the four blocks of a frame's residual in turn.
 pub(crate) fn code_blocks(history: &mut LtpHistory, d: &[i16; 160]) -> Blocks
-    ensures fields { fields_of result ≡ block_fields (next_blocks history.old d.now).0 }
+    ensures fields { fields_of_blocks result ≡ block_fields (next_blocks history.old d.now).0 }
     ensures step { history.new ≡ (next_blocks history.old d.now).1 }
     ensures history { (past : List ℤ) → HistoryStands past history.old →
-        HistoryStands (four_blocks past d.now).1 history.new × (fields_of result ≡ block_fields (four_blocks past d.now).0) }
+        HistoryStands (four_coded_blocks past d.now).1 history.new × (fields_of_blocks result ≡ block_fields (four_coded_blocks past d.now).0) }
 {
     let first = code_block(history, &block_at(d, 0));
     let second = code_block(history, &block_at(d, 1));

@@ -2,7 +2,9 @@
 
 ghost use Rattle.std.specs.Prelude.{◌≡◌, ℤ, List, [], ◌∷◌};
 ghost use Rattle.fr_encoder.specs.Encoded.{encoded_of, encoding_of};
-ghost use Rattle.fr_encoder.specs.Step.{home_memory, encoded_frame, Stands};
+ghost use Rattle.fr_encoder.specs.Memory.{home_memory};
+ghost use Rattle.fr_encoder.specs.Step.{encoded_frame};
+ghost use Rattle.fr_encoder.specs.Stands.{Stands};
 
 use crate::blocks::code_blocks;
 use fr_long::LtpHistory;
@@ -22,7 +24,7 @@ pub struct Encoder {
 
 impl Model for Encoder {
     ghost use Rattle.fr_pre.specs.Memory.{memory_of};
-    ghost use Rattle.fr_encoder.specs.Step.{EncoderMemory};
+    ghost use Rattle.fr_encoder.specs.Memory.{EncoderMemory};
 
     ghost Value = { EncoderMemory };
 

@@ -6,7 +6,8 @@ ghost use Rattle.frame_sync.specs.declared.yields.Mode.TheVariants.{Hunting, Loc
 ghost use Rattle.frame_sync.specs.declared.yields.Yield.TheVariants.{Frame};
 ghost use Rattle.trau_frame.specs.Match.{bit_in, frame_at};
 ghost use Rattle.frame_sync.specs.Periods.{after_miss, searched};
-ghost use Rattle.frame_sync.specs.Step.{bit_of_two, IsNear};
+ghost use Rattle.frame_sync.specs.Step.{bit_of_two};
+ghost use Rattle.frame_sync.specs.Memory.{IsNear};
 
 use crate::hunt::find_match;
 use crate::yields::{Mode, Yield};

@@ -21,7 +21,7 @@ pub struct FrameSync {
 impl Model for FrameSync {
     ghost use Rattle.std.specs.Prelude.{◌*◌};
     ghost use Rattle.trau_bits.specs.Bits.{AreBits};
-    ghost use Rattle.frame_sync.specs.Step.{SyncMemory, IsNear};
+    ghost use Rattle.frame_sync.specs.Memory.{SyncMemory, IsNear};
 
     ghost Value = { SyncMemory };
 
@@ -53,7 +53,9 @@ impl FrameSync {
     ghost use Rattle.frame_sync.specs.declared.yields.Yield.{Yield};
     ghost use Rattle.frame_sync.specs.Yields.{Yields};
     ghost use Rattle.frame_sync.specs.Periods.{all_bits, yield_of, ends_in, CarriesFrame, EndsIn};
-    ghost use Rattle.frame_sync.specs.Step.{home_memory, next_period, Stands};
+    ghost use Rattle.frame_sync.specs.Memory.{home_memory};
+    ghost use Rattle.frame_sync.specs.Step.{next_period};
+    ghost use Rattle.frame_sync.specs.Stands.{Stands};
 
     /// The search before the first period, which hunts.
     pub fn new() -> FrameSync

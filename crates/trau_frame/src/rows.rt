@@ -17,7 +17,7 @@ const FIRST_ROW: usize = 32;
 const LAST_ROW: usize = 304;
 
 /// Control bit C`c`.
-#[tactic(auto, unfolding(crate::specs::Role::place_of))]
+#[tactic(auto, unfolding(crate::specs::Role::place_of_role))]
 pub fn control(bits: &[u8; 320], c: usize) -> u8
     requires bits { AreBits bits.now }
     requires low { 1 ≤ c }

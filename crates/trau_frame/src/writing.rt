@@ -2,7 +2,7 @@ ghost use Rattle.std.specs.Prelude.{◌≡◌, ◌<◌, ◌≤◌};
 ghost use Rattle.std.specs.Int.{bit_at};
 ghost use Rattle.trau_bits.specs.Bits.{AreBits};
 ghost use Rattle.trau_frame.specs.DownFrame.{HasBits, down_bits, down_control, down_data};
-ghost use Rattle.trau_frame.specs.UpBits.{up_pattern, bfi_of, sid_of, up_control_bit, up_control, up_bits};
+ghost use Rattle.trau_frame.specs.UpBits.{up_pattern, bfi_of, sid_code_of, up_control_bit, up_control, up_bits};
 ghost use Rattle.trau_frame.specs.UpFrame.{words_of};
 
 use crate::frames::{Class, DownFrame, Kind, UpFrame};
@@ -72,7 +72,7 @@ fn bfi(class: Class) -> u8
 
 /// The number in the silence descriptor bits of a class.
 fn sid(class: Class) -> u8
-    ensures { result ≡ sid_of class }
+    ensures { result ≡ sid_code_of class }
 {
     match class {
         Class::Good | Class::Unusable => 0,

@@ -24,13 +24,13 @@ pub(crate) struct Block {
 impl Block {
     ghost use Rattle.std.specs.Prelude.{◌≡◌, ◌+◌, ◌≤◌, ◌++◌, take};
     ghost use Rattle.trau_params.specs.FieldBits.{AreBits};
-    ghost use Rattle.trau_params.specs.Block.{bits_of};
+    ghost use Rattle.trau_params.specs.Block.{bits_of_block};
 
     // Writes the 56 bits of the block at a place, and answers the place after them.
     pub(crate) fn put(&self, bits: &mut [u8; 260], at: usize) -> usize
         requires { at + 56 ≤ 260 }
         ensures next { result ≡ at + 56 }
-        ensures bits { take result bits.new ≡ take at bits.old ++ bits_of self.now }
+        ensures bits { take result bits.new ≡ take at bits.old ++ bits_of_block self.now }
     {
         let at = put(bits, at, NC_WIDTH, self.nc);
         let at = put(bits, at, BC_WIDTH, self.bc);
@@ -43,7 +43,7 @@ impl Block {
     pub(crate) fn read(bits: &[u8; 260], at: usize) -> Block
         requires bits { AreBits bits.now }
         requires room { at + 56 ≤ 260 }
-        ensures { take (at + 56) bits.now ≡ take at bits.now ++ bits_of result }
+        ensures { take (at + 56) bits.now ≡ take at bits.now ++ bits_of_block result }
     {
         let bc_at = at + NC_WIDTH;
         let mc_at = bc_at + BC_WIDTH;

@@ -7,7 +7,9 @@ use Rattle.trau_params.specs.Fields.{Fields}
 use Rattle.tx_dtx.specs.Stretch.{Measures, Coded, is_active, Sent}
 use Rattle.tx_dtx.specs.SilenceDescriptor.{sid_of}
 use Rattle.tx_dtx.specs.Sent.{SidPlace, one_later, pause_of, is_sid_place, newest_four, latest_place, before_pause, still_used, sid_used, itself, silence, sent_early, sent_of}
-use Rattle.tx_dtx.specs.Step.{TxMemory, no_measures, later, after_active, after_sid, hangs_at, after_early, remembered, described, early, paused, taken, stepped, elapsed_of, Stands}
+use Rattle.tx_dtx.specs.Memory.{TxMemory, no_measures}
+use Rattle.tx_dtx.specs.Step.{later, after_active, after_sid, hangs_at, after_early, remembered, described, early, paused, taken, next_sent}
+use Rattle.tx_dtx.specs.Stands.{elapsed_of, Stands}
 
 -- ---- how many frames since the last SID
 
@@ -228,8 +230,8 @@ taken-recent m f = by (is_active f) (min (m.run + 1) 5 == 5)
     by false false = refl
 
 -- what is sent of a frame after those of the past, and the memory after it
-pub step-stands : (f : Coded) (past : List Coded) (m : TxMemory) → Stands past m → Stands (f ∷ past) (stepped m f).1 × ((stepped m f).0 ≡ sent_of f past)
-unfolding stepped
+pub step-stands : (f : Coded) (past : List Coded) (m : TxMemory) → Stands past m → Stands (f ∷ past) (next_sent m f).1 × ((next_sent m f).0 ≡ sent_of f past)
+unfolding next_sent
 step-stands f past m s =
     let t = takes f past m s in
     let c = t.counts in (
@@ -244,11 +246,11 @@ step-stands f past m s =
     )
 
 -- a step, by its parts
-pub stepped_by : (m : TxMemory) (f : Coded) (sent : Sent) (between now : TxMemory) → taken m f ≡ (sent, between) → now ≡ remembered between f.measures → stepped m f ≡ (sent, now)
-unfolding stepped
+pub stepped_by : (m : TxMemory) (f : Coded) (sent : Sent) (between now : TxMemory) → taken m f ≡ (sent, between) → now ≡ remembered between f.measures → next_sent m f ≡ (sent, now)
+unfolding next_sent
 stepped_by m f sent between now t r = ap (λ (out : Sent × TxMemory). let s : Sent × TxMemory = (out.0, remembered out.1 f.measures) in s) t ∙ ap (λ z. let s : Sent × TxMemory = (sent, z) in s) (sym r)
 
 -- the same in the stretch
-pub step-history : (m : TxMemory) (f : Coded) (sent : Sent) (now : TxMemory) (past : List Coded) → stepped m f ≡ (sent, now) → Stands past m →
+pub step-history : (m : TxMemory) (f : Coded) (sent : Sent) (now : TxMemory) (past : List Coded) → next_sent m f ≡ (sent, now) → Stands past m →
     Stands (f ∷ past) now × (sent ≡ sent_of f past)
 step-history m f sent now past e s = subst (λ (out : Sent × TxMemory). Stands (f ∷ past) out.1 × (out.0 ≡ sent_of f past)) e (step-stands f past m s)

@@ -1,6 +1,6 @@
 use Rattle.std.proofs.Common.{rules, FitsSigned, w16}
 use Rattle.std.proofs.lemmas.Int.{to_z-of_z}
-use Rattle.fr_encoder.specs.Coded.{fields_of}
+use Rattle.fr_encoder.specs.Coded.{fields_of_blocks}
 use Rattle.fr_encoder.specs.Encoded.{sample_frames, reconstructed}
 use Rattle.fr_encoder.proofs.Frames.{one_step, one_history}
 use Rattle.fr_encoder.proofs.encoder.Encoder.encode.Goals as goal
@@ -12,7 +12,7 @@ returns-clause-step c =
     let lpc = c.analyse-lpc.ensures in
     simp to_z-of_z (rw (← c.self.view_is, p.larc, p.nc, p.bc, p.mc, p.xmaxc, p.xmc)
     (one_step _ c.args.x.now c.preprocess.new.s c.analyse-lpc.new.s c.analyse_frame.new.s _ _ _ c.analyse-lpc.result.larc c.analyse-lpc.result.lar
-    (fields_of c.code_blocks-blocks.result) c.peak-peak.result c.preprocess.ensures.step c.peak-peak.ensures.value lpc.samples lpc.lar lpc.larc
+    (fields_of_blocks c.code_blocks-blocks.result) c.peak-peak.result c.preprocess.ensures.step c.peak-peak.ensures.value lpc.samples lpc.lar lpc.larc
     c.analyse_frame.ensures.residual c.analyse_frame.ensures.memory c.code_blocks-blocks.ensures.fields c.code_blocks-blocks.ensures.step))
 
 pub returns-clause-history : goal.returns-clause-history
@@ -22,6 +22,6 @@ returns-clause-history c =
     let lpc = c.analyse-lpc.ensures in
     simp to_z-of_z (rw (← c.self.view_is, p.larc, p.nc, p.bc, p.mc, p.xmaxc, p.xmc)
     (λ past stands. one_history c.args.x.now c.preprocess.new.s c.analyse-lpc.new.s c.analyse_frame.new.s past _ _ _ c.analyse-lpc.result.larc
-    c.analyse-lpc.result.lar (fields_of c.code_blocks-blocks.result) c.peak-peak.result (c.preprocess.ensures.history past stands.preprocessing)
+    c.analyse-lpc.result.lar (fields_of_blocks c.code_blocks-blocks.result) c.peak-peak.result (c.preprocess.ensures.history past stands.preprocessing)
     c.peak-peak.ensures.value lpc.samples lpc.lar lpc.larc (c.analyse_frame.ensures.history (sample_frames past) stands.short_term)
     (c.code_blocks-blocks.ensures.history (reconstructed past) stands.long_term)))

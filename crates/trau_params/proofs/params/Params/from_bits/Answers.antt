@@ -2,7 +2,7 @@ use Rattle.std.proofs.Common.{◌≡◌, ℕ, ◌<◌, List, [], ◌∷◌, ◌+
 use Rattle.std.proofs.lemmas.List.{take_all, append-nil}
 use Rattle.trau_params.specs.Widths.{larc_widths, FitWidth}
 use Rattle.trau_params.specs.FieldBits.{field_bits}
-use Rattle.trau_params.specs.Block.{bits_of}
+use Rattle.trau_params.specs.Block.{bits_of_block}
 use Rattle.trau_params.specs.Bits260.{bits260, bits260_of}
 use Rattle.trau_params.proofs.FieldsRead.{fields_of_bits}
 use Rattle.trau_params.proofs.params.Params.from_bits.Goals as goal
@@ -57,7 +57,7 @@ unfolding bits260 bits260_of
 returns-clause-bits c =
     let long : length c.args.bits.now ≡ 260 = search rules in
     five_parts c.args.bits.now (field_bits larc_widths c.read_larc.result)
-    (bits_of c.read-first.result) (bits_of c.read-second.result) (bits_of c.read-third.result) (bits_of c.read-fourth.result)
+    (bits_of_block c.read-first.result) (bits_of_block c.read-second.result) (bits_of_block c.read-third.result) (bits_of_block c.read-fourth.result)
     long c.read_larc.ensures.bits c.read-first.ensures c.read-second.ensures c.read-third.ensures c.read-fourth.ensures
 
 pub returns-clause-fields : goal.returns-clause-fields
