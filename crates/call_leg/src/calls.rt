@@ -13,10 +13,10 @@ ghost use Rattle.call_leg.specs.Settings.{Settings, new_settings, later, with_le
 ghost use Rattle.call_leg.specs.Counted.{call_counts};
 ghost use Rattle.call_leg.specs.Out.{out_of};
 ghost use Rattle.call_leg.specs.Down.{down_periods, frames_of, down_now};
-ghost use Rattle.call_leg.specs.Memory.{periods_of_leg};
+ghost use Rattle.call_leg.specs.Memory.{home_memory, periods_of_leg};
 ghost use Rattle.call_leg.specs.Places.{sent_now, is_draining};
 ghost use Rattle.call_leg.specs.Stands.{Stands, OfItsCall, Midway};
-ghost use Rattle.call_leg.specs.Step.{home_leg, up_worked, with_down, after_handing, down_worked, begin_bridge, bridge_over, set_level, set_mode, period_worked};
+ghost use Rattle.call_leg.specs.Step.{up_worked, with_down, after_handing, down_worked, begin_bridge, bridge_over, set_level, set_mode, period_worked};
 
 use crate::leg::Leg;
 use crate::side::DownSide;
@@ -35,7 +35,7 @@ impl Leg {
     /// first period: alone, with level 256 and DTX as the uplink asks.
     pub fn new(alloc: Global, call: u32, law: Law) -> Result<Leg, AllocError>
         requires { IsCallNumber call }
-        ensures value { IfOk result (λ leg. leg ≡ home_leg (record { number = call; law = law })) }
+        ensures value { IfOk result (λ leg. leg ≡ home_memory (record { number = call; law = law })) }
         ensures history { IfOk result (λ leg. Stands (record { number = call; law = law }) [] new_settings leg) }
         ensures periods { IfOk result (λ leg. periods_of_leg leg ≡ 0) }
     {

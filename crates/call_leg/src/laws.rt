@@ -17,9 +17,9 @@ ghost use Rattle.call_leg.specs.Settings.{Settings, new_settings, later, with_le
 ghost use Rattle.call_leg.specs.Out.{out_of};
 ghost use Rattle.call_leg.specs.Down.{down_periods, frames_of, down_made, down_now, down_line};
 ghost use Rattle.call_leg.specs.Numbered.{first_frames, start_of};
-ghost use Rattle.call_leg.specs.Memory.{DownMemory, LegMemory, periods_of_leg};
+ghost use Rattle.call_leg.specs.Memory.{DownMemory, LegMemory, home_memory, periods_of_leg};
 ghost use Rattle.call_leg.specs.Stands.{Stands, OfItsCall, Midway};
-ghost use Rattle.call_leg.specs.Step.{home_leg, up_worked, with_down, after_handing, down_worked, period_worked, set_level, set_mode, begin_bridge, bridge_over};
+ghost use Rattle.call_leg.specs.Step.{up_worked, with_down, after_handing, down_worked, period_worked, set_level, set_mode, begin_bridge, bridge_over};
 ghost use Rattle.call_leg.specs.Halves.{up_of, joined, Note, up_turned, noted, down_turned};
 
 /// The Down line of a call is the front of the downlink that is made: 320 bits a period.
@@ -42,7 +42,7 @@ pub fn the_lines_are_octets_and_bits()
 
 /// A new leg's memory stands for a call before its first period.
 pub fn a_new_leg_stands()
-    ensures { (who : Who) → Stands who [] new_settings (home_leg who) }
+    ensures { (who : Who) → Stands who [] new_settings (home_memory who) }
 {}
 
 /// The uplink half of a period, with its 40 octets of the Up line: what it leaves, its effective frame, and its octets

@@ -4,8 +4,8 @@ ghost use Rattle.std.specs.Prelude.{◌≡◌, ◌<◌, not, ◌&&◌, ◌==◌,
 ghost use Rattle.down_framer.specs.Memory.{IsBetween};
 ghost use Rattle.rx_handler.specs.State.{effective_fields};
 ghost use Rattle.call_leg.specs.Uplink.{sighting_of};
-ghost use Rattle.call_leg.specs.Memory.{down_memory};
-ghost use Rattle.call_leg.specs.Step.{home_down, asked, after_sighting, after_handing, bridge_begun, bridge_over};
+ghost use Rattle.call_leg.specs.Memory.{home_down, down_memory};
+ghost use Rattle.call_leg.specs.Step.{asked, after_sighting, after_handing, bridge_begun, bridge_over};
 ghost use Rattle.call_leg.specs.Halves.{noted, handed_to, item_of};
 
 use crate::coder::Coder;
