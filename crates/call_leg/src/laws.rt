@@ -16,7 +16,7 @@ ghost use Rattle.call_leg.specs.Periods.{CallPeriod, effective_now};
 ghost use Rattle.call_leg.specs.Settings.{Settings, new_settings, later, with_level, with_mode, with_bridge, without_bridge, period_with};
 ghost use Rattle.call_leg.specs.Out.{out_of};
 ghost use Rattle.call_leg.specs.Down.{down_periods, frames_of, down_made, down_now, down_line};
-ghost use Rattle.call_leg.specs.Numbered.{first_frames, start_of};
+ghost use Rattle.call_leg.specs.Numbered.{first_frames, frame_start};
 ghost use Rattle.call_leg.specs.Memory.{DownMemory, LegMemory, home_memory, periods_of_leg};
 ghost use Rattle.call_leg.specs.Stands.{Stands, OfItsCall, Midway};
 ghost use Rattle.call_leg.specs.Step.{up_worked, with_down, after_handing, down_worked, period_worked, set_level, set_mode, begin_bridge, bridge_over};
@@ -116,9 +116,9 @@ pub fn the_frames_are_made_in_time()
 pub fn the_frames_are_made_by_number()
     ensures frames { (ts : List CallPeriod) → IsHistory (down_periods ts) →
         map numbered_of (frames_of ts) ≡ first_frames ts (length (frames_of ts)) }
-    ensures next { (ts : List CallPeriod) → IsHistory (down_periods ts) → start_of ts (length (frames_of ts)) ≡ next_start (frames_of ts) }
-    ensures ahead { (ts : List CallPeriod) → IsHistory (down_periods ts) → 160 * length ts < start_of ts (length (frames_of ts)) + 160 }
-    ensures least { (ts : List CallPeriod) (j : ℕ) → IsHistory (down_periods ts) → j < length (frames_of ts) → start_of ts j + 160 ≤ 160 * length ts }
+    ensures next { (ts : List CallPeriod) → IsHistory (down_periods ts) → frame_start ts (length (frames_of ts)) ≡ next_start (frames_of ts) }
+    ensures ahead { (ts : List CallPeriod) → IsHistory (down_periods ts) → 160 * length ts < frame_start ts (length (frames_of ts)) + 160 }
+    ensures least { (ts : List CallPeriod) (j : ℕ) → IsHistory (down_periods ts) → j < length (frames_of ts) → frame_start ts j + 160 ≤ 160 * length ts }
     ensures history { (m : LegMemory) → OfItsCall m (λ who ts now. IsHistory (down_periods ts)) }
 {}
 
