@@ -1,4 +1,4 @@
--- What each call makes of a leg's memory.
+-- What each operation makes of a leg's memory.
 use Rattle.std.proofs.Common.{◌≡◌, refl, sym, ap, ◌∙◌, ℕ, ◌+◌, ℤ, Bool, not, ◌||◌, if◌then◌else◌, List, [], length, drop, take}
 use Rattle.std.specs.Prelude.{◌==◌}
 use Rattle.trau_params.specs.declared.params.Params.{Params}

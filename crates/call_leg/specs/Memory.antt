@@ -14,7 +14,7 @@ use Rattle.time_align.specs.Memory as align
 use Rattle.call_leg.specs.Who.{Who}
 use Rattle.call_leg.specs.Counted.{no_counts}
 use Rattle.call_leg.specs.declared.coder.Coder.{Coder}
-use Rattle.call_leg.specs.declared.side.DownSide.{DownSide}
+use Rattle.call_leg.specs.declared.down_side.DownSide.{DownSide}
 
 -- the encoder, and what sends its frames
 pub record CoderMemory : Type 0 where

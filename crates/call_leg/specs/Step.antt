@@ -1,4 +1,4 @@
--- What each function of a leg makes of its memory.
+-- What each operation of a leg makes of its memory.
 use Rattle.std.specs.Prelude.{ℕ, ◌+◌, ℤ, Bool, true, false, not, ◌||◌, ◌==◌, nat_le, if◌then◌else◌, Option, Some, None, List, [], ◌∷◌, ◌++◌, length, take, drop}
 use Rattle.circular_buffer.specs.Buffer.{keep_last}
 use Rattle.trau_alaw.specs.declared.Law.{Law}

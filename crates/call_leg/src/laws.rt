@@ -1,5 +1,5 @@
-//! Laws of a call, each the contract of a function that does nothing: of its lines, and of what each call makes of any
-//! memory that stands for the periods so far. Periods have the newest first.
+//! Laws of a call, each the contract of a function that does nothing: of its lines, and of what each operation makes of
+//! any memory that stands for the periods so far. Periods have the newest first.
 
 ghost use Rattle.std.specs.Prelude.{◌≡◌, ◌≤◌, ◌<◌, ℕ, ◌+◌, ◌*◌, ℤ, true, false, Option, Some, None, is_some, IfSome, All, List, [], ◌∷◌, length, map, take};
 ghost use Rattle.trau_orders.specs.declared.order.DtxMode.{DtxMode};
