@@ -231,8 +231,8 @@ module _ (seed calls callers periods : ℕ) (cs : List Caller) (d : Caller) (k :
     -- what the calling thread saw last
     saw_last : (b : BookState) → AllSeen b (flat_map (λ (u : View). u.seen) (views_at k (reverse cs))) → (known : BookState) × (e : Entry) × BeginsWith b known × (find (is_of_post (k % callers) (periods - 1)) known.history ≡ Some e)
     saw_last b all =
-        let f : View → List Known = λ u. u.seen in
-        let h : Caller → List Known = λ c. flat_map f (view_at k c) in
+        let f : View → List BookState = λ u. u.seen in
+        let h : Caller → List BookState = λ c. flat_map f (view_at k c) in
         let some = x.some_callers in
         let count = x.count in
         let first : 0 < callers = omega (arith, some) in

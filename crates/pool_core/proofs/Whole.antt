@@ -108,7 +108,7 @@ moved_place s (Finish w) job i h false e = stays s s.places job i refl
 place_after : (s : PoolState) (xs : List PoolStep) (job : ℕ) → IsState s → job < length s.lens → place (after s xs) job ≡ min (len s job) (place s job + runs s job xs)
 place_after s [] job i h = stays s s.places job i refl
 place_after s (x ∷ xs) job i h =
-    let n : State = stepped s x in
+    let n : PoolState = stepped s x in
     let l = stepped_lens s x in
     let r = place_after n xs job (stepped_keeps s x i) (subst (λ (ys : List ℕ). job < length ys) (sym l) h) in
     let m = moved_place s x job i h (is_legal s x) refl in
