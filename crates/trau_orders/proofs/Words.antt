@@ -122,9 +122,9 @@ pub refused_words : (line front back : List ℕ) → SplitsAt 32 line front back
 refused_words line front back at none order is = none order.what (record { in_range = is.in_range; spelled = (stamp_first line front back order at is).1 })
 
 -- and the order of a line with these words
-pub order_line : (line front back : List ℕ) (order : Order) → SplitsAt 32 line front back → IsNumber 0 4294967294 front order.stamp → AreWords (words_of back) order.what → IsLine line order
+pub spells_order : (line front back : List ℕ) (order : Order) → SplitsAt 32 line front back → IsNumber 0 4294967294 front order.stamp → AreWords (words_of back) order.what → IsLine line order
 unfolding order_line
-order_line line front back order at number are =
+spells_order line front back order at number are =
     let words : words_of line ≡ decimal order.stamp ∷ words_for order.what =
     first_word line front back at ∙ ap (λ w. w ∷ words_of back) number.spelled ∙ ap (λ ws. decimal order.stamp ∷ ws) are.spelled in
     record { stamp = number.at_most; in_range = are.in_range; spelled = sym (join_with_byte-slice_split 32 line) ∙ ap (join_with_byte 32) words }
