@@ -10,9 +10,9 @@ ghost use Rattle.call_leg.specs.Halves.{noted, handed_to, item_of};
 
 use crate::coder::Coder;
 use crate::down_frames::thaw_at_end;
+use crate::down_side::DownSide;
 use crate::found::Found;
 use crate::halves::UpNote;
-use crate::down_side::DownSide;
 use crate::up::{handed, is_quiet};
 use crate::uplink::{dtxd, field};
 use circular_buffer::HeapCircularBuffer;

@@ -44,7 +44,8 @@ note-is m h (suc k) j d l =
 -- ---- the first phase
 
 abbrev pub first_after : ℕ → HalfMemory → ℕ → CallMemory
-first_after m h k = record { up = ups m h k; down = h.leg.down; io = io_from h (outs m h k) h.io.down k; notes = notes m h k; partner = []; bridge_end = m; phase = First }
+first_after m h
+    k = record { up = ups m h k; down = h.leg.down; io = io_from h (outs m h k) h.io.down k; notes = notes m h k; partner = []; bridge_end = m; phase = First }
 
 first-step : (m : ℕ) (h : HalfMemory) (k : ℕ) → k < h.io.given → call_turned (first_after m h k) ≡ first_after m h (suc k)
 unfolding ups outs notes
@@ -81,7 +82,8 @@ second_after m frames h k = record {
   phase = Second;
 }
 
-second-step : (m : ℕ) (frames : List EffectiveFields) (h : HalfMemory) (k : ℕ) → k < h.io.given → call_turned (second_after m frames h k) ≡ second_after m frames h (suc k)
+second-step : (m : ℕ) (frames : List EffectiveFields) (h : HalfMemory) (k : ℕ) → k < h.io.given → call_turned (second_after m frames h k)
+    ≡ second_after m frames h (suc k)
 unfolding downs lines
 second-step m frames h k l =
     let next : k + 1 ≡ suc k = omega arith in
@@ -93,7 +95,8 @@ second-step m frames h k l =
     (note-is m h h.io.given k (record { eff = Quiet; ask = 0; dtx = None }) l)
     ∙ ap (λ (n : ℕ). record (second_after m frames h (suc k)) { io = io_from h (outs m h h.io.given) (lines m (taken frames) h (suc k)) n }) next
 
-second-run : (m : ℕ) (frames : List EffectiveFields) (h : HalfMemory) (n k : ℕ) → k + n ≡ h.io.given → after_call_turns n (second_after m frames h k) ≡ second_after m frames h h.io.given
+second-run : (m : ℕ) (frames : List EffectiveFields) (h : HalfMemory) (n k : ℕ) → k + n ≡ h.io.given → after_call_turns n (second_after m frames h k)
+    ≡ second_after m frames h h.io.given
 second-run m frames h zero k e = let f : k ≡ h.io.given = omega arith in ap (second_after m frames h) f
 second-run m frames h (suc n) k e = ap (after_call_turns n) (second-step m frames h k (omega arith)) ∙ second-run m frames h n (suc k) (omega arith)
 
@@ -122,9 +125,11 @@ effs-are m h k e le l =
 
 -- ---- one call
 
-one-run : (items : ℕ → EffectiveFields) (h : HalfMemory) (n k : ℕ) → k + n ≡ h.io.given → after_turns n (One (half_after 0 items h (min k h.io.given))) ≡ One (half_after 0 items h h.io.given)
+one-run : (items : ℕ → EffectiveFields) (h : HalfMemory) (n k : ℕ) → k + n ≡ h.io.given → after_turns n (One (half_after 0 items h (min k h.io.given)))
+    ≡ One (half_after 0 items h h.io.given)
 one-run items h zero k e = let f : min k h.io.given ≡ h.io.given = omega arith in ap (λ (i : ℕ). One (half_after 0 items h i)) f
-one-run items h (suc n) k e = ap (λ (x : HalfMemory). after_turns n (One x)) (step 0 items h k Quiet (λ l. absurd (omega arith))) ∙ one-run items h n (suc k) (omega arith)
+one-run items h (suc n) k e = ap (λ (x : HalfMemory). after_turns n (One x)) (step 0 items h k Quiet (λ l. absurd (omega arith)))
+    ∙ one-run items h n (suc k) (omega arith)
 
 pub one-phased : (h : HalfMemory) → h.io.done ≡ 0 → finished (One h) ≡ One (half_run 0 [] h)
 one-phased h e =
@@ -140,7 +145,8 @@ one-phased h e =
 
 two-run : (p q : ℕ → EffectiveFields) (g h : HalfMemory) → let m = min g.io.given h.io.given in
     ((k : ℕ) → k < m → p k ≡ (told m h k).0.eff) → ((k : ℕ) → k < m → q k ≡ (told m g k).0.eff) → (n k : ℕ) → k + n ≡ max g.io.given h.io.given →
-    after_turns n (Two (half_after m p g (min k g.io.given)) (half_after m q h (min k h.io.given))) ≡ Two (half_after m p g g.io.given) (half_after m q h h.io.given)
+    after_turns n (Two (half_after m p g (min k g.io.given)) (half_after m q h (min k h.io.given))) ≡ Two (half_after m p g g.io.given)
+    (half_after m q h h.io.given)
 two-run p q g h ep eq zero k e =
     let m = min g.io.given h.io.given in
     let f : min k g.io.given ≡ g.io.given = omega arith in

@@ -21,7 +21,8 @@ put_mid-written start k buffer octets e =
     ap (λ (ys : List ℕ). take start buffer ++ octets ++ ys) (drop-drop k start buffer ∙ ap (λ (m : ℕ). drop m buffer) long)
 
 -- a buffer whose n octets from `start` on are now these
-pub with_items-written : {Z : Type 0} (v : Vec ℕ Z) (start n : ℕ) (buffer part octets : List ℕ) → buffer ≡ v.items → length part ≡ length (mid_of start ((start + n) - start) buffer) →
+pub with_items-written : {Z : Type 0} (v : Vec ℕ Z) (start n : ℕ) (buffer part octets : List ℕ) → buffer ≡ v.items → length part
+    ≡ length (mid_of start ((start + n) - start) buffer) →
     part ≡ octets → length octets ≡ n → (with_items v (put_mid start ((start + n) - start) buffer part)).items ≡ written v.items start octets
 with_items-written v start n buffer part octets was same now long =
     let k = (start + n) - start in

@@ -81,7 +81,8 @@ unfolding downs
 off-from m items h zero le = ends-at m 0 (downs m items h 0) (omega arith)
 off-from m items h (suc k) le =
     let d = down_before m k (downs m items h k) in
-    ⊎_elim (λ (l : m < suc k). stays-off m (suc k) (downs m items h (suc k)) (down-keeps d (told m h k).0 (item_if d.bridged (items k)) (pcm_at k h.io) ∙ off-from m items h k (omega arith)))
+    ⊎_elim (λ (l : m < suc k). stays-off m (suc k) (downs m items h (suc k)) (down-keeps d (told m h k).0 (item_if d.bridged (items k)) (pcm_at k h.io)
+    ∙ off-from m items h k (omega arith)))
     (λ (g : suc k ≤ m). ends-at m (suc k) (downs m items h (suc k)) (omega arith))
     (cases_lt m (suc k))
 
@@ -91,7 +92,8 @@ abbrev on_at : ℕ → (ℕ → EffectiveFields) → HalfMemory → ℕ → Bool
 on_at m items h k = (down_before m k (downs m items h k)).bridged
 
 -- whatever frame is told once the bridge is off
-half-step : (m : ℕ) (items : ℕ → EffectiveFields) (h : HalfMemory) (k : ℕ) (e : EffectiveFields) → item_if (on_at m items h k) e ≡ item_if (on_at m items h k) (items k) →
+half-step : (m : ℕ) (items : ℕ → EffectiveFields) (h : HalfMemory) (k : ℕ) (e : EffectiveFields) → item_if (on_at m items h k) e ≡ item_if (on_at m items h k)
+    (items k) →
     half_turned m e (half_after m items h k) ≡ half_after m items h (suc k)
 unfolding ups outs downs lines
 half-step m items h k e same =
@@ -109,7 +111,8 @@ pub effective-at : (m : ℕ) (items : ℕ → EffectiveFields) (h : HalfMemory) 
 effective-at m items h k = effective-joined m (ups m h k) (downs m items h k) (io_from h (outs m h k) (lines m items h k) k) (same-flag m items h k)
 
 -- what is told is what was taken, or the bridge is off
-off-item : (m : ℕ) (items : ℕ → EffectiveFields) (h : HalfMemory) (k : ℕ) (e : EffectiveFields) → (k < m → e ≡ items k) → item_if (on_at m items h k) e ≡ item_if (on_at m items h k) (items k)
+off-item : (m : ℕ) (items : ℕ → EffectiveFields) (h : HalfMemory) (k : ℕ) (e : EffectiveFields) → (k < m → e ≡ items k) → item_if (on_at m items h k) e
+    ≡ item_if (on_at m items h k) (items k)
 off-item m items h k e same =
     ⊎_elim (λ (l : k < m). ap (item_if (on_at m items h k)) (same l))
     (λ (g : m ≤ k). ap (λ (t : Bool). item_if t e) (off-from m items h k g) ∙ sym (ap (λ (t : Bool). item_if t (items k)) (off-from m items h k g)))

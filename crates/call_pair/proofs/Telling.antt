@@ -1,5 +1,6 @@
 -- What the phases give, for every history of their call.
 use Rattle.std.proofs.Common.{◌≡◌, ◌==◌, ◌&&◌, ℕ, zero, suc, ◌+◌, ◌*◌, ◌<◌, ◌≤◌, min, ltb, Bool, true, false, if◌then◌else◌, Option, Some, None, is_some, length, length-append, List, [], ◌∷◌, ◌++◌, drop, refl, sym, ap, subst, ◌∙◌, ⊎_elim, arith}
+use Rattle.std.proofs.Math.Bool.{and-true, and-false}
 use Rattle.std.proofs.lemmas.Bool.{cases_lt}
 use Rattle.std.proofs.lemmas.List.{length-map, length-take-le}
 use Rattle.trau_bits.specs.Bits.{octets_of}
@@ -36,14 +37,6 @@ use Rattle.call_pair.proofs.Phased.{notes, length-notes, note-is, effs-are, take
 abbrev set_for : ℕ → ℕ → Settings → Settings
 set_for m k now = if ltb k m then settings_at k now else without_bridge (settings_at k now)
 
-and-true : (b : Bool) → (b && true) ≡ b
-and-true true = refl
-and-true false = refl
-
-and-false : (b : Bool) → (b && false) ≡ false
-and-false true = refl
-and-false false = refl
-
 set-within : (m k : ℕ) (now : Settings) → k < m → set_for m k now ≡ settings_at k now
 set-within m k now l = ap (λ (x : Bool). if x then settings_at k now else without_bridge (settings_at k now)) (is_below k m l)
 
@@ -52,8 +45,10 @@ set-behind m k now g = ap (λ (x : Bool). if x then settings_at k now else witho
 
 set-flag : (m k : ℕ) (now : Settings) → (set_for m k now).bridged ≡ (now.bridged && ltb k m)
 set-flag m k now = ⊎_elim
-    (λ (l : k < m). ap (λ (s : Settings). s.bridged) (set-within m k now l) ∙ still-bridged k now ∙ sym (and-true now.bridged) ∙ sym (ap (λ (x : Bool). now.bridged && x) (is_below k m l)))
-    (λ (g : m ≤ k). ap (λ (s : Settings). s.bridged) (set-behind m k now g) ∙ sym (and-false now.bridged) ∙ sym (ap (λ (x : Bool). now.bridged && x) (not_below k m g)))
+    (λ (l : k < m). ap (λ (s : Settings). s.bridged) (set-within m k now l) ∙ still-bridged k now ∙ sym (and-true now.bridged)
+    ∙ sym (ap (λ (x : Bool). now.bridged && x) (is_below k m l)))
+    (λ (g : m ≤ k). ap (λ (s : Settings). s.bridged) (set-behind m k now g) ∙ sym (and-false now.bridged)
+    ∙ sym (ap (λ (x : Bool). now.bridged && x) (not_below k m g)))
     (cases_lt k m)
 
 set-next : (m k : ℕ) (now : Settings) → later (set_for m k now) ≡ settings_past (suc k) m now
@@ -62,9 +57,11 @@ set-next m k now = ⊎_elim
     (λ (g : m ≤ k). ap later (set-behind m k now g) ∙ sym (set-past (suc k) m now true (is_below m (suc k) (omega arith))))
     (cases_lt k m)
 
-set-period : (m k : ℕ) (now : Settings) (up pcm : List ℕ) (x : Option (List ℕ)) → period_with (set_for m k now) up pcm x ≡ period_with (settings_at k now) up pcm x
+set-period : (m k : ℕ) (now : Settings) (up pcm : List ℕ) (x : Option (List ℕ)) → period_with (set_for m k now) up pcm x
+    ≡ period_with (settings_at k now) up pcm x
 set-period m k now up pcm x =
-    ⊎_elim (λ (l : k < m). ap (λ (s : Settings). period_with s up pcm x) (set-within m k now l)) (λ (g : m ≤ k). ap (λ (s : Settings). period_with s up pcm x) (set-behind m k now g)) (cases_lt k m)
+    ⊎_elim (λ (l : k < m). ap (λ (s : Settings). period_with s up pcm x) (set-within m k now l)) (λ (g : m ≤ k). ap (λ (s : Settings). period_with s up pcm x)
+    (set-behind m k now g)) (cases_lt k m)
 
 -- ---- a half whose bridge ends at place m
 
@@ -87,9 +84,11 @@ module _ {X : Type 0} (flag : X → Bool) (off : X → X) (S : Settings → X �
   ends m k now x s e = go (flag x) refl
     where
       go : (b : Bool) → flag x ≡ b → S (without_bridge now) (before m k x)
-      go true f = subst (S (without_bridge now)) (sym (ap (λ (b : Bool). if b && k == m then off x else x) f ∙ ap (λ (t : Bool). if t then off x else x) e)) (off-is now x f s)
+      go true f = subst (S (without_bridge now)) (sym (ap (λ (b : Bool). if b && k == m then off x else x) f ∙ ap (λ (t : Bool). if t then off x else x) e))
+          (off-is now x f s)
       go false f =
-          subst (S (without_bridge now)) (sym (ap (λ (b : Bool). if b && k == m then off x else x) f)) (subst (λ (set : Settings). S set x) (off-same now (sym (flag-is now x s) ∙ f)) s)
+          subst (S (without_bridge now)) (sym (ap (λ (b : Bool). if b && k == m then off x else x) f))
+          (subst (λ (set : Settings). S set x) (off-same now (sym (flag-is now x s) ∙ f)) s)
 
   ready : (m k : ℕ) (now : Settings) (x : X) → S (settings_past k m now) x → S (set_for m k now) (before m k x)
   ready m k now x s =
@@ -102,7 +101,8 @@ module _ {X : Type 0} (flag : X → Bool) (off : X → X) (S : Settings → X �
       let past = λ (g : m < k).
       let s0 = subst (λ (set : Settings). S set x) (set-past k m now true (is_below m k g)) s in
       let le : m ≤ k = omega arith in
-      subst (λ (set : Settings). S set (before m k x)) (sym (set-behind m k now le)) (subst (S (without_bridge (settings_at k now))) (sym (stays m k x (is_past k m g))) s0) in
+      subst (λ (set : Settings). S set (before m k x)) (sym (set-behind m k now le))
+      (subst (S (without_bridge (settings_at k now))) (sym (stays m k x (is_past k m g))) s0) in
       ⊎_elim within (λ (g : m ≤ k). ⊎_elim past (at_end g) (cases_lt m k)) (cases_lt k m)
 
 -- ---- the octets that are told and said, place by place
@@ -131,7 +131,8 @@ module _ (s : Start) (h : HalfMemory) (m : ℕ) (b : Begins s h) where
     abbrev seen : ℕ → List CallPeriod
     seen k = periods_run (history_of s) (ups_in s) pcms handed k
 
-    up-ready : (k : ℕ) → UpStands (who_of s) (seen k) (settings_past k m s.now) (ups m h k) → UpStands (who_of s) (seen k) (set_for m k s.now) (up_before m k (ups m h k))
+    up-ready : (k : ℕ) → UpStands (who_of s) (seen k) (settings_past k m s.now) (ups m h k) → UpStands (who_of s) (seen k) (set_for m k s.now)
+        (up_before m k (ups m h k))
     up-ready k w =
         ready (λ (u : UpMemory). u.bridged) up_unbridged (λ (set : Settings) (u : UpMemory). UpStands (who_of s) (seen k) set u) (λ set u x. x.bridged)
         (λ set u f x. up_off-stands (who_of s) (seen k) set u x) m k s.now (ups m h k) w
@@ -142,14 +143,17 @@ module _ (s : Start) (h : HalfMemory) (m : ℕ) (b : Begins s h) where
     ups-stand : (k : ℕ) → k ≤ s.io.given → UpStands (who_of s) (seen k) (settings_past k m s.now) (ups m h k)
     unfolding ups
     ups-stand zero le =
-        subst (λ (set : Settings). UpStands (who_of s) s.past set (ups m h 0)) (sym (set-past 0 m s.now false (not_below m 0 (omega arith)))) (split-stands (who_of s) s.past s.now h.leg b.leg)
+        subst (λ (set : Settings). UpStands (who_of s) s.past set (ups m h 0)) (sym (set-past 0 m s.now false (not_below m 0 (omega arith))))
+        (split-stands (who_of s) s.past s.now h.leg b.leg)
     ups-stand (suc k) le =
         let u = up_before m k (ups m h k) in
         let r = up-ready k (ups-stand k (omega arith)) in
-        let t = turn-stands (who_of s) (seen k) (set_for m k s.now) (up_at k s.io) (pcms k) (handed k) u (length-up_at s.io k b.octets (omega arith)) (up-flag k (omega arith)) r in
+        let t = turn-stands (who_of s) (seen k) (set_for m k s.now) (up_at k s.io) (pcms k) (handed k) u (length-up_at s.io k b.octets (omega arith))
+        (up-flag k (omega arith)) r in
         subst (λ (io : IoMemory). UpStands (who_of s) (seen (suc k)) (settings_past (suc k) m s.now) (up_turned u (up_at k io)).2) (sym b.io)
         (subst (λ (set : Settings). UpStands (who_of s) (seen (suc k)) set (up_turned u (up_at k s.io)).2) (set-next m k s.now)
-        (subst (λ (p : CallPeriod). UpStands (who_of s) (p ∷ seen k) (later (set_for m k s.now)) (up_turned u (up_at k s.io)).2) (set-period m k s.now (up_at k s.io) (pcms k) (handed k)) t))
+        (subst (λ (p : CallPeriod). UpStands (who_of s) (p ∷ seen k) (later (set_for m k s.now)) (up_turned u (up_at k s.io)).2)
+        (set-period m k s.now (up_at k s.io) (pcms k) (handed k)) t))
 
     note-told : (k : ℕ) → k < s.io.given → (told m h k).0 ≡ note_in s.io.call (seen k) (up_at k s.io)
     note-told k l =
@@ -161,13 +165,15 @@ module _ (s : Start) (h : HalfMemory) (m : ℕ) (b : Begins s h) where
     out-told k l =
         let u = up_before m k (ups m h k) in
         ap (λ (io : IoMemory). (up_turned u (up_at k io)).1) b.io
-        ∙ turn-plays (who_of s) (seen k) (set_for m k s.now) (up_at k s.io) (pcms k) (handed k) u (length-up_at s.io k b.octets l) (up-flag k l) (up-ready k (ups-stand k (omega arith)))
+        ∙ turn-plays (who_of s) (seen k) (set_for m k s.now) (up_at k s.io) (pcms k) (handed k) u (length-up_at s.io k b.octets l) (up-flag k l)
+        (up-ready k (ups-stand k (omega arith)))
         ∙ ap (λ (p : CallPeriod). out_of (who_of s) (p ∷ seen k)) (set-period m k s.now (up_at k s.io) (pcms k) (handed k))
 
     outs-run : (k : ℕ) → k ≤ s.io.given → outs_told m h k ≡ outs_run (history_of s) (ups_in s) pcms handed k
     outs-run zero le = refl
     outs-run (suc k) le =
-        ap (λ (xs : List ℕ). xs ++ (told m h k).1) (outs-run k (omega arith)) ∙ ap (λ (xs : List ℕ). outs_run (history_of s) (ups_in s) pcms handed k ++ xs) (out-told k (omega arith))
+        ap (λ (xs : List ℕ). xs ++ (told m h k).1) (outs-run k (omega arith)) ∙ ap (λ (xs : List ℕ). outs_run (history_of s) (ups_in s) pcms handed k ++ xs)
+        (out-told k (omega arith))
 
     long-told : (k : ℕ) → k ≤ s.io.given → length (outs_told m h k) ≡ 160 * k
     long-told zero le = refl
@@ -218,7 +224,8 @@ module _ (s : Start) (h : HalfMemory) (m : ℕ) (b : Begins s h) where
     out = ap (λ (j : CallMemory). j.io.out) first-is ∙ outs-line;
     up = λ pcms handed e.
         subst (λ (j : CallMemory). UpStands (who_of s) (seen pcms handed e s.io.given) (settings_past s.io.given m s.now) j.up) (sym first-is)
-        (subst (λ (n : ℕ). UpStands (who_of s) (seen pcms handed e s.io.given) (settings_past s.io.given m s.now) (ups m h n)) (sym given-is) (ups-stand pcms handed e s.io.given (omega arith)));
+        (subst (λ (n : ℕ). UpStands (who_of s) (seen pcms handed e s.io.given) (settings_past s.io.given m s.now) (ups m h n)) (sym given-is)
+        (ups-stand pcms handed e s.io.given (omega arith)));
   }
 
   -- ---- the downlink half
@@ -228,20 +235,23 @@ module _ (s : Start) (h : HalfMemory) (m : ℕ) (b : Begins s h) where
     given_to k = handed_run (history_of s) frames k
 
     items-end : EndsAt (history_of s) m s.io.given given_to
-    items-end k l = if-some (s.now.bridged && ltb k (length frames)) (bits260 (handed_fields (frame_at k frames))) ∙ ap (λ (n : ℕ). s.now.bridged && ltb k n) long
+    items-end k l = if-some (s.now.bridged && ltb k (length frames)) (bits260 (handed_fields (frame_at k frames)))
+        ∙ ap (λ (n : ℕ). s.now.bridged && ltb k n) long
       where
         if-some : (b : Bool) (x : List ℕ) → is_some (if b then Some x else None) ≡ b
         if-some true x = refl
         if-some false x = refl
 
-    module _ (heard : ℕ → List ℕ) (n : (k : ℕ) → k < s.io.given → (told m h k).0 ≡ note_in s.io.call (periods_run (history_of s) heard (pcms_in s) given_to k) (heard k)) where
+    module _ (heard : ℕ → List ℕ) (n : (k : ℕ) → k < s.io.given → (told m h k).0 ≡ note_in s.io.call (periods_run (history_of s) heard (pcms_in s) given_to k)
+        (heard k)) where
       abbrev had : ℕ → List CallPeriod
       had k = periods_run (history_of s) heard (pcms_in s) given_to k
 
       abbrev half_at : ℕ → DownMemory
       half_at k = down_before m k (downs m (taken frames) h k)
 
-      down-ready : (k : ℕ) → Between (who_of s) (had k) (settings_past k m s.now) (downs m (taken frames) h k) → Between (who_of s) (had k) (set_for m k s.now) (half_at k)
+      down-ready : (k : ℕ) → Between (who_of s) (had k) (settings_past k m s.now) (downs m (taken frames) h k) → Between (who_of s) (had k) (set_for m k s.now)
+          (half_at k)
       down-ready k w =
           ready (λ (d : DownMemory). d.bridged) bridge_over (λ (set : Settings) (d : DownMemory). Between (who_of s) (had k) set d) (λ set d x. x.bridged)
           (λ set d f x. down_off-stands (who_of s) (had k) set d f x) m k s.now (downs m (taken frames) h k) w
@@ -260,23 +270,32 @@ module _ (s : Start) (h : HalfMemory) (m : ℕ) (b : Begins s h) where
       bits-are : (k : ℕ) → Between (who_of s) (had k) (set_for m k s.now) (half_at k) → handed_bits (item k) ≡ given_to k
       bits-are k r =
           item-bits (half_at k).bridged (taken frames k)
-          ∙ ap (λ (b : Bool). if b then Some (bits260 (handed_fields (taken frames k))) else None) (r.bridged ∙ set-flag m k s.now ∙ ap (λ (i : ℕ). s.now.bridged && ltb k i) (sym long))
+          ∙ ap (λ (b : Bool). if b then Some (bits260 (handed_fields (taken frames k))) else None) (r.bridged ∙ set-flag m k s.now
+          ∙ ap (λ (i : ℕ). s.now.bridged && ltb k i) (sym long))
 
-      period-is : (k : ℕ) → Between (who_of s) (had k) (set_for m k s.now) (half_at k) → period_with (set_for m k s.now) (heard k) (pcm_at k s.io) (handed_bits (item k)) ≡ period_with (settings_at k s.now) (heard k) (pcm_at k s.io) (given_to k)
-      period-is k r = ap (λ (x : Option (List ℕ)). period_with (set_for m k s.now) (heard k) (pcm_at k s.io) x) (bits-are k r) ∙ set-period m k s.now (heard k) (pcm_at k s.io) (given_to k)
+      period-is : (k : ℕ) → Between (who_of s) (had k) (set_for m k s.now) (half_at k) → period_with (set_for m k s.now) (heard k) (pcm_at k s.io)
+          (handed_bits (item k)) ≡ period_with (settings_at k s.now) (heard k) (pcm_at k s.io) (given_to k)
+      period-is k r = ap (λ (x : Option (List ℕ)). period_with (set_for m k s.now) (heard k) (pcm_at k s.io) x) (bits-are k r)
+          ∙ set-period m k s.now (heard k) (pcm_at k s.io) (given_to k)
 
       down-turn : (k : ℕ) → k < s.io.given → Between (who_of s) (had k) (set_for m k s.now) (half_at k) →
-          let t = down_turned (half_at k) (told m h k).0 (item k) (pcm_at k h.io) in Between (who_of s) (had (suc k)) (settings_past (suc k) m s.now) t.1 × (t.0 ≡ down_now (who_of s) (had (suc k)))
+          let t = down_turned (half_at k) (told m h k).0 (item k) (pcm_at k h.io) in Between (who_of s) (had (suc k)) (settings_past (suc k) m s.now) t.1
+          × (t.0 ≡ down_now (who_of s) (had (suc k)))
       down-turn k l r =
-          let t = down_turn-stands (who_of s) (had k) (set_for m k s.now) (heard k) (pcm_at k s.io) (told m h k).0 (item k) (half_at k) (length-pcm_at s.io k b.octets l) r (n k l) (item-some (half_at k).bridged (taken frames k) ∙ r.bridged) in
-          subst (λ (io : IoMemory). let w = down_turned (half_at k) (told m h k).0 (item k) (pcm_at k io) in Between (who_of s) (had (suc k)) (settings_past (suc k) m s.now) w.1 × (w.0 ≡ down_now (who_of s) (had (suc k)))) (sym b.io)
-          (subst (λ (set : Settings). let w = down_turned (half_at k) (told m h k).0 (item k) (pcm_at k s.io) in Between (who_of s) (had (suc k)) set w.1 × (w.0 ≡ down_now (who_of s) (had (suc k)))) (set-next m k s.now)
-          (subst (λ (p : CallPeriod). let w = down_turned (half_at k) (told m h k).0 (item k) (pcm_at k s.io) in Between (who_of s) (p ∷ had k) (later (set_for m k s.now)) w.1 × (w.0 ≡ down_now (who_of s) (p ∷ had k))) (period-is k r) t))
+          let t = down_turn-stands (who_of s) (had k) (set_for m k s.now) (heard k) (pcm_at k s.io) (told m h k).0 (item k) (half_at k)
+          (length-pcm_at s.io k b.octets l) r (n k l) (item-some (half_at k).bridged (taken frames k) ∙ r.bridged) in
+          subst (λ (io : IoMemory). let w = down_turned (half_at k) (told m h k).0 (item k) (pcm_at k io) in Between (who_of s) (had (suc k))
+          (settings_past (suc k) m s.now) w.1 × (w.0 ≡ down_now (who_of s) (had (suc k)))) (sym b.io)
+          (subst (λ (set : Settings). let w = down_turned (half_at k) (told m h k).0 (item k) (pcm_at k s.io) in Between (who_of s) (had (suc k)) set w.1
+          × (w.0 ≡ down_now (who_of s) (had (suc k)))) (set-next m k s.now)
+          (subst (λ (p : CallPeriod). let w = down_turned (half_at k) (told m h k).0 (item k) (pcm_at k s.io) in Between (who_of s) (p ∷ had k)
+          (later (set_for m k s.now)) w.1 × (w.0 ≡ down_now (who_of s) (p ∷ had k))) (period-is k r) t))
 
       downs-stand : (k : ℕ) → k ≤ s.io.given → Between (who_of s) (had k) (settings_past k m s.now) (downs m (taken frames) h k)
       unfolding downs
       downs-stand zero le =
-          subst (λ (set : Settings). Between (who_of s) s.past set (downs m (taken frames) h 0)) (sym (set-past 0 m s.now false (not_below m 0 (omega arith)))) b.leg.down
+          subst (λ (set : Settings). Between (who_of s) s.past set (downs m (taken frames) h 0)) (sym (set-past 0 m s.now false (not_below m 0 (omega arith))))
+          b.leg.down
       downs-stand (suc k) le = (down-turn k (omega arith) (down-ready k (downs-stand k (omega arith)))).0
 
       said : (k : ℕ) → k < s.io.given → (made_from m (taken frames) h k (downs m (taken frames) h k)).0 ≡ down_now (who_of s) (had (suc k))
@@ -292,7 +311,13 @@ module _ (s : Start) (h : HalfMemory) (m : ℕ) (b : Begins s h) where
       long-said zero le = refl
       long-said (suc k) le =
           let one = ap (λ (xs : List ℕ). length (octets_of xs)) (said k (omega arith)) ∙ length-down_octets (who_of s) _ (had k) in
-          omega (arith, length-append (downs_said m (taken frames) h k) (octets_of (made_from m (taken frames) h k (downs m (taken frames) h k)).0), long-said k (omega arith), one)
+          omega (
+            arith,
+            length-append (downs_said m (taken frames) h k) (octets_of (made_from m (taken frames) h k (downs m (taken frames) h k)).0),
+            long-said k
+                (omega arith),
+            one,
+          )
 
       lines-said : (k : ℕ) → k ≤ s.io.given → lines m (taken frames) h k ≡ downs_said m (taken frames) h k ++ drop (40 * k) s.io.down
       unfolding lines
@@ -302,7 +327,8 @@ module _ (s : Start) (h : HalfMemory) (m : ℕ) (b : Begins s h) where
           let one : length o ≡ 40 = ap (λ (xs : List ℕ). length (octets_of xs)) (said k (omega arith)) ∙ length-down_octets (who_of s) _ (had k) in
           let end : 40 * k + 40 ≡ 40 * suc k = omega arith in
           ap (λ (xs : List ℕ). written xs (40 * k) o) (lines-said k (omega arith))
-          ∙ written-seam (downs_said m (taken frames) h k) s.io.down o (40 * k) 40 (long-said k (omega arith)) one ∙ ap (λ (i : ℕ). (downs_said m (taken frames) h k ++ o) ++ drop i s.io.down) end
+          ∙ written-seam (downs_said m (taken frames) h k) s.io.down o (40 * k) 40 (long-said k (omega arith)) one
+          ∙ ap (λ (i : ℕ). (downs_said m (taken frames) h k ++ o) ++ drop i s.io.down) end
 
     -- the notes are those of the call's own Up octets
     own-notes : (k : ℕ) → k < s.io.given → (told m h k).0 ≡ note_in s.io.call (periods_run (history_of s) (ups_in s) (pcms_in s) given_to k) (ups_in s k)
@@ -324,14 +350,18 @@ module _ (s : Start) (h : HalfMemory) (m : ℕ) (b : Begins s h) where
     pub speaks : Speaks s frames (second_phase m frames h)
     speaks = record {
       octets = downs_said m (taken frames) h s.io.given;
-      run = subst (λ (j : CallMemory). DownRun (history_of s) j.notes frames (pcms_in s) s.io.given (downs_said m (taken frames) h s.io.given)) (sym second-is) down-run;
+      run = subst (λ (j : CallMemory). DownRun (history_of s) j.notes frames (pcms_in s) s.io.given (downs_said m (taken frames) h s.io.given))
+          (sym second-is) down-run;
       down = ap (λ (j : CallMemory). j.io.down) second-is ∙ lines-line;
       stands = λ heard a.
           let own = subst (λ (j : CallMemory). AreNotes (history_of s) heard (pcms_in s) frames s.io.given j.notes) second-is a in
           let w = downs-stand heard (other-notes heard own) s.io.given (omega arith) in
-          subst (λ (j : CallMemory). Between (who_of s) (periods_run (history_of s) heard (pcms_in s) given_to s.io.given) (settings_past s.io.given (length frames) s.now) j.down) (sym second-is)
-          (subst (λ (i : ℕ). Between (who_of s) (periods_run (history_of s) heard (pcms_in s) given_to s.io.given) (settings_past s.io.given (length frames) s.now) (downs m (taken frames) h i)) (sym given-is)
-          (subst (λ (i : ℕ). Between (who_of s) (periods_run (history_of s) heard (pcms_in s) given_to s.io.given) (settings_past s.io.given i s.now) (downs m (taken frames) h s.io.given)) (sym long) w));
+          subst (λ (j : CallMemory). Between (who_of s) (periods_run (history_of s) heard (pcms_in s) given_to s.io.given)
+          (settings_past s.io.given (length frames) s.now) j.down) (sym second-is)
+          (subst (λ (i : ℕ). Between (who_of s) (periods_run (history_of s) heard (pcms_in s) given_to s.io.given)
+          (settings_past s.io.given (length frames) s.now) (downs m (taken frames) h i)) (sym given-is)
+          (subst (λ (i : ℕ). Between (who_of s) (periods_run (history_of s) heard (pcms_in s) given_to s.io.given) (settings_past s.io.given i s.now)
+          (downs m (taken frames) h s.io.given)) (sym long) w));
     }
 
     pub half-runs : HalfRuns s m (first_phase m h).notes frames (half_run m frames h)
@@ -339,11 +369,39 @@ module _ (s : Start) (h : HalfMemory) (m : ℕ) (b : Begins s h) where
       outs = outs_told m h s.io.given;
       downs = downs_said m (taken frames) h s.io.given;
       up = subst (λ (j : CallMemory). UpRun (history_of s) (ups_in s) m s.io.given j.notes (outs_told m h s.io.given)) (sym first-is) up-run;
-      down = subst (λ (j : CallMemory). DownRun (history_of s) j.notes frames (pcms_in s) s.io.given (downs_said m (taken frames) h s.io.given)) (sym first-is) down-run;
+      down = subst (λ (j : CallMemory). DownRun (history_of s) j.notes frames (pcms_in s) s.io.given (downs_said m (taken frames) h s.io.given))
+          (sym first-is) down-run;
       io = ap (λ (x : HalfMemory). x.io) (run-is m frames h none-done)
-          ∙ ap (λ (io : IoMemory). record { call = io.call; up = io.up; pcm = io.pcm; out = outs m h h.io.given; down = lines m (taken frames) h h.io.given; given = io.given; done = io.given }) b.io
-          ∙ ap (λ (xs : List ℕ). record { call = s.io.call; up = s.io.up; pcm = s.io.pcm; out = xs; down = lines m (taken frames) h h.io.given; given = s.io.given; done = s.io.given }) outs-line
-          ∙ ap (λ (xs : List ℕ). record { call = s.io.call; up = s.io.up; pcm = s.io.pcm; out = outs_told m h s.io.given ++ drop (160 * s.io.given) s.io.out; down = xs; given = s.io.given; done = s.io.given }) lines-line;
+          ∙ ap (λ (io : IoMemory).
+          record {
+            call = io.call;
+            up = io.up;
+            pcm = io.pcm;
+            out = outs m h h.io.given;
+            down = lines m (taken frames) h h.io.given;
+            given = io.given;
+            done = io.given;
+          }) b.io
+          ∙ ap (λ (xs : List ℕ).
+          record {
+            call = s.io.call;
+            up = s.io.up;
+            pcm = s.io.pcm;
+            out = xs;
+            down = lines m (taken frames) h h.io.given;
+            given = s.io.given;
+            done = s.io.given;
+          }) outs-line
+          ∙ ap (λ (xs : List ℕ).
+          record {
+            call = s.io.call;
+            up = s.io.up;
+            pcm = s.io.pcm;
+            out = outs_told m h s.io.given ++ drop (160 * s.io.given) s.io.out;
+            down = xs;
+            given = s.io.given;
+            done = s.io.given;
+          }) lines-line;
     }
 
 -- ---- the jobs
@@ -375,7 +433,8 @@ two-run a b g h s t =
 pub both-hear : (a b : Start) (g h : HalfMemory) → Begins a g → Begins b h → Hears a (min a.io.given b.io.given) (first_phase (min a.io.given b.io.given) g)
 both-hear a b g h s t = hears a g (min a.io.given b.io.given) s
 
-pub both-speak : (a b : Start) (g h : HalfMemory) → Begins a g → Begins b h → let m = min g.io.given h.io.given in Speaks a (effs m h) (second_phase m (effs m h) g)
+pub both-speak : (a b : Start) (g h : HalfMemory) → Begins a g → Begins b h → let m = min g.io.given h.io.given in Speaks a (effs m h)
+    (second_phase m (effs m h) g)
 both-speak a b g h s t =
     let m = min g.io.given h.io.given in
     let le : m ≤ b.io.given = (let n = ap (λ (io : IoMemory). io.given) t.io in omega (arith, n)) in
@@ -383,17 +442,22 @@ both-speak a b g h s t =
 
 -- ---- the effective frames of a call with a partner, by its history
 
-same-periods : (a b : Start) (k : ℕ) → periods_run (history_of a) (ups_in a) (pcms_in a) (λ (i : ℕ). handed_at i b (bridged_periods i b a)) k ≡ bridged_periods k a b
+same-periods : (a b : Start) (k : ℕ) → periods_run (history_of a) (ups_in a) (pcms_in a) (λ (i : ℕ). handed_at i b (bridged_periods i b a)) k
+    ≡ bridged_periods k a b
 same-periods a b zero = refl
 same-periods a b (suc k) =
-    ap (λ (ts : List CallPeriod). period_with (settings_at k a.now) (up_at k a.io) (pcm_at k a.io) (handed_at k b (bridged_periods k b a)) ∷ ts) (same-periods a b k)
+    ap (λ (ts : List CallPeriod). period_with (settings_at k a.now) (up_at k a.io) (pcm_at k a.io) (handed_at k b (bridged_periods k b a)) ∷ ts)
+    (same-periods a b k)
 
-handed-ends : (a b : Start) → a.now.bridged ≡ true → EndsAt (history_of a) (min a.io.given b.io.given) a.io.given (λ (i : ℕ). handed_at i b (bridged_periods i b a))
+handed-ends : (a b : Start) → a.now.bridged ≡ true → EndsAt (history_of a) (min a.io.given b.io.given) a.io.given
+    (λ (i : ℕ). handed_at i b (bridged_periods i b a))
 handed-ends a b on k l =
     let m = min a.io.given b.io.given in
     ⊎_elim
-    (λ (less : k < b.io.given). ap (λ (x : Option (List ℕ)). is_some x) (handed-some k b (bridged_periods k b a) less) ∙ sym (ap (λ (x : Bool). x && ltb k m) on ∙ is_below k m (omega arith)))
-    (λ (more : b.io.given ≤ k). ap (λ (x : Option (List ℕ)). is_some x) (handed-none k b (bridged_periods k b a) more) ∙ sym (ap (λ (x : Bool). x && ltb k m) on ∙ not_below k m (omega arith)))
+    (λ (less : k < b.io.given). ap (λ (x : Option (List ℕ)). is_some x) (handed-some k b (bridged_periods k b a) less)
+    ∙ sym (ap (λ (x : Bool). x && ltb k m) on ∙ is_below k m (omega arith)))
+    (λ (more : b.io.given ≤ k). ap (λ (x : Option (List ℕ)). is_some x) (handed-none k b (bridged_periods k b a) more)
+    ∙ sym (ap (λ (x : Bool). x && ltb k m) on ∙ not_below k m (omega arith)))
     (cases_lt k b.io.given)
 
 pub frames-told : (a b : Start) (g h : HalfMemory) → Begins a g → Begins b h → a.now.bridged ≡ true → b.now.bridged ≡ true →
@@ -405,5 +469,6 @@ frames-told a b g h s t on too k l =
     let within : m ≤ g.io.given = omega arith in
     let below : k < a.io.given = omega (arith, n, l) in
     effs-are m g k (none-done a g m s) within l ∙ ap (λ (i : ℕ). (told i g k).0.eff) end
-    ∙ ap (λ (x : Note). x.eff) (note-told a g (min a.io.given b.io.given) s (pcms_in a) (λ (i : ℕ). handed_at i b (bridged_periods i b a)) (handed-ends a b on) k below)
+    ∙ ap (λ (x : Note). x.eff) (note-told a g (min a.io.given b.io.given) s (pcms_in a) (λ (i : ℕ). handed_at i b (bridged_periods i b a))
+    (handed-ends a b on) k below)
     ∙ ap (λ (ts : List CallPeriod). (note_in a.io.call ts (up_at k a.io)).eff) (same-periods a b k)

@@ -24,7 +24,8 @@ turn_keeps (One h) call = ap (λ n. n == call) (half_call (has_place h.io) 0 _ h
 turn_keeps (Two a b) call =
     let m = min a.io.given b.io.given in
     let g = half_turned_if (has_place b.io) m (effective m a) b in
-    ap (λ n. n == call || g.io.call == call) (half_call (has_place a.io) m (effective m b) a) ∙ ap (λ n. a.io.call == call || n == call) (half_call (has_place b.io) m (effective m a) b)
+    ap (λ n. n == call || g.io.call == call) (half_call (has_place a.io) m (effective m b) a) ∙ ap (λ n. a.io.call == call || n == call)
+    (half_call (has_place b.io) m (effective m a) b)
 
 -- turns keep the calls of a job
 pub turns_keep : (n : ℕ) (job : Job) (call : ℕ) → has_call (after_turns n job) call ≡ has_call job call

@@ -25,11 +25,15 @@ pub legal_one_more : (who : Who) (ts : List CallPeriod) (es : List Entry) (e : E
 legal_one_more who ts [] e p out down = (out, down, tt)
 legal_one_more who ts (x ∷ es) e p out down = (p.0, p.1, legal_one_more who (period_of x.post ∷ ts) es e p.2 out down)
 
-pub leg_one_more : (call : ℕ) (es : List Entry) (e : Entry) (old new : LegMemory) → IsLegal call es → Stands (who_at call) (periods_after [] es) new_settings old → WorksOn old e new →
+pub leg_one_more : (call : ℕ) (es : List Entry) (e : Entry) (old new : LegMemory) → IsLegal call es →
+    Stands (who_at call) (periods_after [] es) new_settings old → WorksOn old e new →
     IsLegal call (es ++ e ∷ []) × Stands (who_at call) (periods_after [] (es ++ e ∷ [])) new_settings new
 leg_one_more call es e old new legal stands works =
-    let w = works (who_at call) (periods_after [] es) stands in
-    (legal_one_more (who_at call) [] es e legal w.1 w.2, subst (λ (ts : List CallPeriod). Stands (who_at call) ts new_settings new) (sym (after_one_more [] es e)) w.0)
+    let w = works (who_at call) (periods_after [] es) stands in (
+      legal_one_more (who_at call) [] es e legal w.1 w.2,
+      subst (λ (ts : List CallPeriod). Stands (who_at call) ts new_settings new)
+          (sym (after_one_more [] es e)) w.0,
+    )
 
 -- ---- the search for an entry
 

@@ -33,7 +33,11 @@ pub further : {X : Type 0} (a b c : List X) → StartsWith a b → StartsWith b 
 further a b c p q = (q.0 ++ p.0, p.1 ∙ ap (λ l. l ++ p.0) q.1 ∙ append_assoc c q.0 p.0)
 
 pub begins_further : (a b c : BookState) → BeginsWith a b → BeginsWith b c → BeginsWith a c
-begins_further a b c p q = record { history = further a.history b.history c.history p.history q.history; posts = further (record_of a) (record_of b) (record_of c) p.posts q.posts }
+begins_further a b c p
+    q = record {
+      history = further a.history b.history c.history p.history q.history;
+      posts = further (record_of a) (record_of b) (record_of c) p.posts q.posts;
+    }
 
 pub seen_further : (a b : BookState) (ks : List BookState) → BeginsWith a b → AllSeen b ks → AllSeen a ks
 seen_further a b [] p all = tt
@@ -72,8 +76,10 @@ numbered-append n [] ys p q = subst (λ k. NumberedFrom k ys) (omega arith) q
 numbered-append n (x ∷ xs) ys p q = (p.0, numbered-append (suc n) xs ys p.1 (subst (λ k. NumberedFrom k ys) (omega arith) q))
 
 pub added_is : (v : View) (b : BookState) → BeginsWith b v.taken → record_of b ≡ record_of v.taken ++ added v b
-added_is v b begins = begins.posts.1 ∙ ap (λ l. record_of v.taken ++ l) (sym (ap (drop (length (record_of v.taken))) begins.posts.1 ∙ drop-append_seam (record_of v.taken) begins.posts.0))
+added_is v b begins = begins.posts.1 ∙ ap (λ l. record_of v.taken ++ l)
+    (sym (ap (drop (length (record_of v.taken))) begins.posts.1 ∙ drop-append_seam (record_of v.taken) begins.posts.0))
 
 -- the record now, cut down to one caller: what it was, and what is new
-pub cut_grown : (v : View) (b : BookState) (c : ℕ) → BeginsWith b v.taken → of_caller c (record_of b) ≡ of_caller c (record_of v.taken) ++ of_caller c (added v b)
+pub cut_grown : (v : View) (b : BookState) (c : ℕ) → BeginsWith b v.taken → of_caller c (record_of b) ≡ of_caller c (record_of v.taken) ++ of_caller c
+    (added v b)
 cut_grown v b c begins = ap (of_caller c) (added_is v b begins) ∙ filter-append (λ (p : Post). p.caller == c) (record_of v.taken) (added v b)

@@ -46,7 +46,8 @@ legal_finish s w e = ltb-true w (length s.hands) (and_parts (is_worker s w) (is_
 -- ---- each part of a step
 
 -- a hand that is set
-hands_set : (hands : List (Option ℕ)) (w : ℕ) (o : Option ℕ) (P : ℕ → Type 0) → IfSome o P → ((v : ℕ) → IfSome (get_or hands v None) P) → (v : ℕ) → IfSome (get_or (set hands w o) v None) P
+hands_set : (hands : List (Option ℕ)) (w : ℕ) (o : Option ℕ) (P : ℕ → Type 0) → IfSome o P → ((v : ℕ) → IfSome (get_or hands v None) P) → (v : ℕ) →
+    IfSome (get_or (set hands w o) v None) P
 hands_set [] w o P h all v = all v
 hands_set (x ∷ xs) zero o P h all zero = h
 hands_set (x ∷ xs) zero o P h all (suc v) = all (suc v)
@@ -57,7 +58,8 @@ hands_set (x ∷ xs) (suc w) o P h all (suc v) = hands_set xs w o P h (λ u. all
 abbrev pub Below : ℕ → List ℕ → Type 0
 Below n jobs = (k : ℕ) → k < length jobs → get_or jobs k 0 < n
 
-deques_set : (n : ℕ) (deques : List (List ℕ)) (w : ℕ) (jobs : List ℕ) → Below n jobs → ((v : ℕ) → Below n (get_or deques v [])) → (v : ℕ) → Below n (get_or (set deques w jobs) v [])
+deques_set : (n : ℕ) (deques : List (List ℕ)) (w : ℕ) (jobs : List ℕ) → Below n jobs → ((v : ℕ) → Below n (get_or deques v [])) → (v : ℕ) →
+    Below n (get_or (set deques w jobs) v [])
 deques_set n [] w jobs h all v = all v
 deques_set n (x ∷ xs) zero jobs h all zero = h
 deques_set n (x ∷ xs) zero jobs h all (suc v) = all (suc v)
@@ -112,16 +114,19 @@ run_keeps s w p (Some job) i e = record {
   all = i.all;
 }
   where
-    within_set : (places lens : List ℕ) (job n : ℕ) → n ≤ get_or lens job 0 → ((j : ℕ) → get_or places j 0 ≤ get_or lens j 0) → (j : ℕ) → get_or (set places job n) j 0 ≤ get_or lens j 0
+    within_set : (places lens : List ℕ) (job n : ℕ) → n ≤ get_or lens job 0 → ((j : ℕ) → get_or places j 0 ≤ get_or lens j 0) → (j : ℕ) →
+        get_or (set places job n) j 0 ≤ get_or lens j 0
     within_set places lens job n h all j = elim (cases_eq j job) [
       | inl p ↦ elim (cases_lt job (length places)) [
-        | inl l ↦ let e = ap (λ (j : ℕ). get_or (set places job n) j 0) p ∙ get_or-set_same places job n 0 l in let f = ap (λ (j : ℕ). get_or lens j 0) p in omega arith
+        | inl l ↦ let e = ap (λ (j : ℕ). get_or (set places job n) j 0) p ∙ get_or-set_same places job n 0 l in let f = ap (λ (j : ℕ). get_or lens j 0) p in
+            omega arith
         | inr l ↦ past places lens job n l j all
       ]
       | inr q ↦ let e = get_or-set_other places job j n 0 q in let a = all j in omega arith
     ]
       where
-        past : (places lens : List ℕ) (job n : ℕ) → length places ≤ job → (j : ℕ) → ((j : ℕ) → get_or places j 0 ≤ get_or lens j 0) → get_or (set places job n) j 0 ≤ get_or lens j 0
+        past : (places lens : List ℕ) (job n : ℕ) → length places ≤ job → (j : ℕ) → ((j : ℕ) → get_or places j 0 ≤ get_or lens j 0) →
+            get_or (set places job n) j 0 ≤ get_or lens j 0
         past places lens job n l j all = subst (λ (xs : List ℕ). get_or xs j 0 ≤ get_or lens j 0) (sym (same places job n l)) (all j)
           where
             same : (xs : List ℕ) (i n : ℕ) → length xs ≤ i → set xs i n ≡ xs

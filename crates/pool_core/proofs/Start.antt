@@ -45,7 +45,8 @@ dealt_more workers n w =
     ∙ ap (λ xs. dealt workers n w ++ xs) (filter_one (λ job. job % workers == w) n)
 
 dealt_here : (workers n : ℕ) → dealt workers (n + 1) (n % workers) ≡ dealt workers n (n % workers) ++ n ∷ []
-dealt_here workers n = dealt_more workers n (n % workers) ∙ ap (λ (t : Bool). dealt workers n (n % workers) ++ (if t then n ∷ [] else [])) (eq-eqb (n % workers) (n % workers) refl)
+dealt_here workers n = dealt_more workers n (n % workers) ∙ ap (λ (t : Bool). dealt workers n (n % workers) ++ (if t then n ∷ [] else []))
+    (eq-eqb (n % workers) (n % workers) refl)
 
 dealt_other : (workers n w : ℕ) → w ≢ n % workers → dealt workers (n + 1) w ≡ dealt workers n w
 dealt_other workers n w h =
@@ -71,10 +72,12 @@ deal_times workers zero job l = all_empty (times_in job) refl 0 workers
 deal_times workers (suc n) job l =
     subst (λ (m : ℕ). sum_by (times_in job) (deal workers m) ≡ times_in job (range_with_len 0 m)) (add-one n)
     (let i = deal_times workers n job l in
-    let d = sum_by-set (times_in job) (deal workers n) (n % workers) (dealt workers n (n % workers) ++ n ∷ []) [] (let m = mod-lt n l in let k = length-map-range_with_len (dealt workers n) 0 workers in omega arith) in
+    let d = sum_by-set (times_in job) (deal workers n) (n % workers) (dealt workers n (n % workers) ++ n ∷ []) []
+    (let m = mod-lt n l in let k = length-map-range_with_len (dealt workers n) 0 workers in omega arith) in
     let a = ap (times_in job) (deal_at workers n l) in
     let m = times_more job (dealt workers n (n % workers)) n in
-    let r = ap (times_in job) (range_more 0 n) ∙ times_more job (range_with_len 0 n) (0 + n) ∙ ap (λ k. times_in job (range_with_len 0 n) + is_job job k) (let e : 0 + n ≡ n = omega arith in e) in
+    let r = ap (times_in job) (range_more 0 n) ∙ times_more job (range_with_len 0 n) (0 + n) ∙ ap (λ k. times_in job (range_with_len 0 n) + is_job job k)
+    (let e : 0 + n ≡ n = omega arith in e) in
     let s = ap (sum_by (times_in job)) (deal_more workers n l) in
     omega arith)
 
@@ -83,7 +86,8 @@ deal_length workers zero l = all_empty length refl 0 workers
 deal_length workers (suc n) l =
     subst (λ (m : ℕ). sum_by length (deal workers m) ≡ m) (add-one n)
     (let i = deal_length workers n l in
-    let d = sum_by-set length (deal workers n) (n % workers) (dealt workers n (n % workers) ++ n ∷ []) [] (let m = mod-lt n l in let k = length-map-range_with_len (dealt workers n) 0 workers in omega arith) in
+    let d = sum_by-set length (deal workers n) (n % workers) (dealt workers n (n % workers) ++ n ∷ []) []
+    (let m = mod-lt n l in let k = length-map-range_with_len (dealt workers n) 0 workers in omega arith) in
     let a = ap length (deal_at workers n l) in
     let m = length-append (dealt workers n (n % workers)) (n ∷ []) in
     let s = ap (sum_by length) (deal_more workers n l) in

@@ -65,14 +65,17 @@ after_lens s [] = refl
 after_lens s (x ∷ xs) = after_lens (stepped s x) xs ∙ stepped_lens s x
 
 -- each job once, after every list of steps
-pub once_after : (workers : ℕ) (lens : List ℕ) (xs : List PoolStep) (job : ℕ) → 0 < workers → job < length lens → times_in_all job (after (pool_start workers lens) xs) ≡ 1
+pub once_after : (workers : ℕ) (lens : List ℕ) (xs : List PoolStep) (job : ℕ) → 0 < workers → job < length lens →
+    times_in_all job (after (pool_start workers lens) xs) ≡ 1
 once_after workers lens xs job l h =
-    (after_keeps (pool_start workers lens) xs (start_state workers lens l)).once job (subst (λ (ys : List ℕ). job < length ys) (sym (after_lens (pool_start workers lens) xs)) h)
+    (after_keeps (pool_start workers lens) xs (start_state workers lens l)).once job
+    (subst (λ (ys : List ℕ). job < length ys) (sym (after_lens (pool_start workers lens) xs)) h)
 
 -- ---- the place of a job
 
 -- a job's place after one more run
-run_place : (s : PoolState) (p job : ℕ) (o : Option ℕ) → IsState s → job < length s.lens → place (run s p o) job ≡ min (len s job) (place s job + (if holds job o then p else 0))
+run_place : (s : PoolState) (p job : ℕ) (o : Option ℕ) → IsState s → job < length s.lens → place (run s p o) job
+    ≡ min (len s job) (place s job + (if holds job o then p else 0))
 run_place s p job None i h = let w = i.within job in omega arith
 run_place s p job (Some other) i h = elim (cases_eq other job) [
   | inl e ↦
@@ -93,19 +96,23 @@ run_place s p job (Some other) i h = elim (cases_eq other job) [
 stays : (s : PoolState) (places : List ℕ) (job : ℕ) → IsState s → places ≡ s.places → get_or places job 0 ≡ min (len s job) (place s job + 0)
 stays s places job i e = let a = ap (λ (xs : List ℕ). get_or xs job 0) e in let w = i.within job in omega arith
 
-moved_place : (s : PoolState) (x : PoolStep) (job : ℕ) → IsState s → job < length s.lens → (b : Bool) → is_legal s x ≡ b → place (if b then moved s x else s) job ≡ min (len s job) (place s job + step_periods s job x)
+moved_place : (s : PoolState) (x : PoolStep) (job : ℕ) → IsState s → job < length s.lens → (b : Bool) → is_legal s x ≡ b →
+    place (if b then moved s x else s) job ≡ min (len s job) (place s job + step_periods s job x)
 moved_place s (Pop w) job i h true e = stays s (taken s w w (deque s w)).places job i (taken_lens s w w (deque s w)).1
 moved_place s (Pop w) job i h false e = stays s s.places job i refl
 moved_place s (Steal t v) job i h true e = stays s (taken s t v (deque s v)).places job i (taken_lens s t v (deque s v)).1
 moved_place s (Steal t v) job i h false e = stays s s.places job i refl
-moved_place s (Run w p) job i h true e = run_place s p job (hand s w) i h ∙ sym (ap (λ (t : Bool). min (len s job) (place s job + (if t && holds job (hand s w) then p else 0))) e)
-moved_place s (Run w p) job i h false e = stays s s.places job i refl ∙ sym (ap (λ (t : Bool). min (len s job) (place s job + (if t && holds job (hand s w) then p else 0))) e)
+moved_place s (Run w p) job i h true e = run_place s p job (hand s w) i h
+    ∙ sym (ap (λ (t : Bool). min (len s job) (place s job + (if t && holds job (hand s w) then p else 0))) e)
+moved_place s (Run w p) job i h false e = stays s s.places job i refl
+    ∙ sym (ap (λ (t : Bool). min (len s job) (place s job + (if t && holds job (hand s w) then p else 0))) e)
 moved_place s (Push w) job i h true e = stays s (pushed s w (hand s w)).places job i (pushed_lens s w (hand s w)).1
 moved_place s (Push w) job i h false e = stays s s.places job i refl
 moved_place s (Finish w) job i h true e = stays s (completed s w (hand s w)).places job i (completed_lens s w (hand s w)).1
 moved_place s (Finish w) job i h false e = stays s s.places job i refl
 
-place_after : (s : PoolState) (xs : List PoolStep) (job : ℕ) → IsState s → job < length s.lens → place (after s xs) job ≡ min (len s job) (place s job + runs s job xs)
+place_after : (s : PoolState) (xs : List PoolStep) (job : ℕ) → IsState s → job < length s.lens → place (after s xs) job
+    ≡ min (len s job) (place s job + runs s job xs)
 place_after s [] job i h = stays s s.places job i refl
 place_after s (x ∷ xs) job i h =
     let n : PoolState = stepped s x in

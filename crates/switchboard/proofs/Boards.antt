@@ -40,15 +40,19 @@ never_at zero i = refl
 never_at (suc n) zero = refl
 never_at (suc n) (suc i) = never_at n i
 
-pub dones-more : (os : List Order) (xs : List Reply) (x : Reply) (o : Order) → first_order (drop (length xs) os) ≡ Some o → dones os (xs ++ x ∷ []) ≡ dones os xs ++ record { order = o; result = x.result } ∷ []
+pub dones-more : (os : List Order) (xs : List Reply) (x : Reply) (o : Order) → first_order (drop (length xs) os) ≡ Some o → dones os (xs ++ x ∷ [])
+    ≡ dones os xs ++ record { order = o; result = x.result } ∷ []
 dones-more [] [] x o e = cc
 dones-more [] (y ∷ xs) x o e = cc
-dones-more (p ∷ os) [] x o e = let q : p ≡ o = cc in ap (λ ds. record { order = p; result = x.result } ∷ ds) (dones-nil os) ∙ ap (λ (p : Order). record { order = p; result = x.result } ∷ []) q
+dones-more (p ∷ os) [] x o e = let q : p ≡ o = cc in ap (λ ds. record { order = p; result = x.result } ∷ ds) (dones-nil os)
+    ∙ ap (λ (p : Order). record { order = p; result = x.result } ∷ []) q
 dones-more (p ∷ os) (y ∷ xs) x o e = ap (λ ds. record { order = p; result = y.result } ∷ ds) (dones-more os xs x o e)
 
-pub numbered-more : (n : ℕ) (ds : List Done) (d : Done) → numbered n (ds ++ d ∷ []) ≡ numbered n ds ++ record { order = n + length ds + 1; result = d.result } ∷ []
+pub numbered-more : (n : ℕ) (ds : List Done) (d : Done) → numbered n (ds ++ d ∷ []) ≡ numbered n ds ++ record { order = n + length ds + 1; result = d.result } ∷
+    []
 numbered-more n [] d = ap (λ k. record { order = k; result = d.result } ∷ []) (omega arith)
-numbered-more n (e ∷ ds) d = ap (λ xs. record { order = n + 1; result = e.result } ∷ xs) (numbered-more (n + 1) ds d ∙ ap (λ k. numbered (n + 1) ds ++ record { order = k; result = d.result } ∷ []) (omega arith))
+numbered-more n (e ∷ ds) d = ap (λ xs. record { order = n + 1; result = e.result } ∷ xs) (numbered-more (n + 1) ds d
+    ∙ ap (λ k. numbered (n + 1) ds ++ record { order = k; result = d.result } ∷ []) (omega arith))
 
 pub left-more : (os : List Order) (xs : List Reply) (x : Reply) → drop (length (xs ++ x ∷ [])) os ≡ drop 1 (drop (length xs) os)
 left-more [] [] x = refl
@@ -62,7 +66,8 @@ next-within [] (suc n) o e = cc
 next-within (p ∷ os) zero o e = (omega arith, cc)
 next-within (p ∷ os) (suc n) o e = let h = next-within os n o e in (omega (arith, h.0), h.1)
 
-last-dones : (os : List Order) (xs : List Reply) (m : ℕ) (d : Order) → length xs ≤ length os → ((i : ℕ) → i < length xs → (get_or os i d).stamp ≤ m) → last_stamp (dones os xs) ≤ m
+last-dones : (os : List Order) (xs : List Reply) (m : ℕ) (d : Order) → length xs ≤ length os → ((i : ℕ) → i < length xs → (get_or os i d).stamp ≤ m) →
+    last_stamp (dones os xs) ≤ m
 last-dones [] xs m d l h = omega arith
 last-dones (o ∷ os) [] m d l h = omega arith
 last-dones (o ∷ os) (x ∷ []) m d l h = last_one os o m (h 0 (omega arith))
@@ -73,10 +78,12 @@ last-dones (o ∷ os) (x ∷ []) m d l h = last_one os o m (h 0 (omega arith))
 last-dones (o ∷ []) (x ∷ y ∷ xs) m d l h = absurd (omega arith)
 last-dones (o ∷ p ∷ os) (x ∷ y ∷ xs) m d l h = last-dones (p ∷ os) (y ∷ xs) m d (omega arith) (λ i q. h (suc i) (omega arith))
 
-pub last-before : (os : List Order) (xs : List Reply) (o : Order) → AreOrders os → first_order (drop (length xs) os) ≡ Some o → last_stamp (dones os xs) ≤ o.stamp
+pub last-before : (os : List Order) (xs : List Reply) (o : Order) → AreOrders os → first_order (drop (length xs) os) ≡ Some o →
+    last_stamp (dones os xs) ≤ o.stamp
 last-before os xs o a e =
     let w = next-within os (length xs) o e in
-    last-dones os xs o.stamp o (omega (arith, w.0)) (λ i l. let r = a.rising i (length xs) o (omega arith) w.0 in omega (arith, r, ap (λ (p : Order). p.stamp) w.1))
+    last-dones os xs o.stamp o (omega (arith, w.0)) (λ i l. let r = a.rising i (length xs) o (omega arith) w.0 in omega
+    (arith, r, ap (λ (p : Order). p.stamp) w.1))
 
 -- ---- what was told
 
@@ -134,7 +141,12 @@ most_same r t (Err e) = refl
 
 few_bridges : (ds : List Done) → length (bridges ds) ≤ length ds
 few_bridges [] = omega arith
-few_bridges (d ∷ ds) = let h = few_bridges ds in omega (arith, length-append (bridge_by d.order.stamp d.result ds) (bridges ds), one_bridge d.order.stamp d.result ds)
+few_bridges (d ∷ ds) = let h = few_bridges ds in omega (
+  arith,
+  length-append (bridge_by d.order.stamp d.result ds) (bridges ds),
+  one_bridge d.order.stamp
+      d.result ds,
+)
   where
     one_bridge : (t : ℕ) (x : Result Act Refusal) (ds : List Done) → length (bridge_by t x ds) ≤ 1
     one_bridge t (Ok (act.Bridged a b)) ds = omega arith
@@ -150,7 +162,13 @@ bridges-bound os xs r b = omega (arith, few_bridges (dones os xs), ap length b.s
 
 pub spans-bound : (os : List Order) (xs : List Reply) (r : Rows) → IsBoard os xs r → length r.spans ≤ length r.bridges
 spans-bound os xs r b =
-    omega (arith, ap length (b.stands.table.spans ∙ filter_map-somes (span_in r) r.bridges), somes-fewer (map (span_in r) r.bridges), length-map r.bridges (span_in r))
+    omega (
+      arith,
+      ap length (b.stands.table.spans ∙ filter_map-somes (span_in r) r.bridges),
+      somes-fewer (map (span_in r) r.bridges),
+      length-map r.bridges
+          (span_in r),
+    )
 
 -- ---- the three changes of a board
 
@@ -179,7 +197,8 @@ board-new os t a e = subst (λ (t : Rows). IsBoard os [] t) (sym e) (record {
 })
 
 pub state-new : (os : List Order) (t : Rows) → t ≡ rows (replicate 4097 never) [] [] (length os) → board_state os [] t ≡ new_board os
-state-new os t e = ap (board_state os []) e ∙ ap (λ ds. record { left = os; done = ds; told = map (λ (e : Call). e.gone) (replicate 4097 never) }) (dones-nil os)
+state-new os t e = ap (board_state os []) e ∙ ap (λ ds. record { left = os; done = ds; told = map (λ (e : Call). e.gone) (replicate 4097 never) })
+    (dones-nil os)
     ∙ ap (λ ts. record { left = os; done = []; told = ts }) (map_replicate 4097)
   where
     map_replicate : (n : ℕ) → map (λ (e : Call). e.gone) (replicate n never) ≡ replicate n None
@@ -192,7 +211,8 @@ reply_of_order k x = record { order = k + 1; result = x }
 abbrev pub reply_at : List Reply → Rows → Order → Reply
 reply_at xs r o = record { order = length xs + 1; result = reply_from (known_in r o.stamp) o.what }
 
-pub board-more : (os : List Order) (xs : List Reply) (r : Rows) (o : Order) → IsBoard os xs r → IsSized r.calls r.bridges → first_order (drop (length xs) os) ≡ Some o → NamesCalls o.what → IsSome_before r o.stamp →
+pub board-more : (os : List Order) (xs : List Reply) (r : Rows) (o : Order) → IsBoard os xs r → IsSized r.calls r.bridges → first_order (drop (length xs) os)
+    ≡ Some o → NamesCalls o.what → IsSome_before r o.stamp →
     IsBoard os (xs ++ reply_at xs r o ∷ []) (applied r o.stamp (reply_from (known_in r o.stamp) o.what))
 board-more os xs r o b z next n told =
     let x = reply_at xs r o in
@@ -201,42 +221,59 @@ board-more os xs r o b z next n told =
     record {
       orders = b.orders;
       few = omega (arith, length-append xs (x ∷ []), w.0);
-      numbered = ap (λ ys. ys ++ x ∷ []) b.numbered ∙ ap (λ k. numbered 0 (dones os xs) ++ record { order = k; result = x.result } ∷ []) (let l = length-dones os xs b.few in omega arith)
+      numbered = ap (λ ys. ys ++ x ∷ []) b.numbered ∙ ap (λ k. numbered 0 (dones os xs) ++ record { order = k; result = x.result } ∷ [])
+          (let l = length-dones os xs b.few in omega arith)
           ∙ sym (ap (numbered 0) e ∙ numbered-more 0 (dones os xs) (record { order = o; result = x.result }));
       most = most_same r o.stamp x.result ∙ b.most;
       places = calls_same r o.stamp x.result ∙ b.places;
-      stands = subst (λ (ds : List Done). Stands (applied r o.stamp x.result) ds) (sym e) (stands_more r (dones os xs) o.stamp o.what b.stands z (last-before os xs o b.orders next) told n);
+      stands = subst (λ (ds : List Done). Stands (applied r o.stamp x.result) ds) (sym e) (stands_more r (dones os xs) o.stamp o.what b.stands z
+          (last-before os xs o b.orders next) told n);
     }
 
-pub reply_is : (os : List Order) (xs : List Reply) (r : Rows) (o : Order) → IsBoard os xs r → IsSized r.calls r.bridges → first_order (drop (length xs) os) ≡ Some o → NamesCalls o.what →
+pub reply_is : (os : List Order) (xs : List Reply) (r : Rows) (o : Order) → IsBoard os xs r → IsSized r.calls r.bridges → first_order (drop (length xs) os)
+    ≡ Some o → NamesCalls o.what →
     reply_from (known_in r o.stamp) o.what ≡ reply_to (gone_in (board_state os xs r)) (dones os xs) o
 reply_is os xs r o b z next n =
     reply_agrees r (dones os xs) o.stamp o.what b.stands z (last-before os xs o b.orders next) n
     ∙ ap (λ g. reply_to g (dones os xs) o) (sym (gone_same os xs r))
 
-pub state-more : (os : List Order) (xs : List Reply) (r : Rows) (o : Order) → IsBoard os xs r → IsSized r.calls r.bridges → first_order (drop (length xs) os) ≡ Some o → NamesCalls o.what →
+pub state-more : (os : List Order) (xs : List Reply) (r : Rows) (o : Order) → IsBoard os xs r → IsSized r.calls r.bridges → first_order (drop (length xs) os)
+    ≡ Some o → NamesCalls o.what →
     board_state os (xs ++ reply_at xs r o ∷ []) (applied r o.stamp (reply_from (known_in r o.stamp) o.what)) ≡ after_turn (board_state os xs r) (Some o)
 state-more os xs r o b z next n =
     let x = reply_at xs r o in
-    ap (λ ds. record { left = drop (length (xs ++ x ∷ [])) os; done = ds; told = map (λ (e : Call). e.gone) (applied r o.stamp x.result).calls }) (dones-more os xs x o next)
-    ∙ ap (λ l. record { left = l; done = dones os xs ++ record { order = o; result = x.result } ∷ []; told = map (λ (e : Call). e.gone) (applied r o.stamp x.result).calls }) (left-more os xs x)
-    ∙ ap (λ ts. record { left = drop 1 (drop (length xs) os); done = dones os xs ++ record { order = o; result = x.result } ∷ []; told = ts }) (told_same r o.stamp x.result)
-    ∙ ap (λ y. record { left = drop 1 (drop (length xs) os); done = dones os xs ++ record { order = o; result = y } ∷ []; told = map (λ (e : Call). e.gone) r.calls }) (reply_is os xs r o b z next n)
+    ap (λ ds. record { left = drop (length (xs ++ x ∷ [])) os; done = ds; told = map (λ (e : Call). e.gone) (applied r o.stamp x.result).calls })
+    (dones-more os xs x o next)
+    ∙ ap (λ l. record {
+      left = l;
+      done = dones os xs ++ record { order = o; result = x.result } ∷ [];
+      told = map (λ (e : Call). e.gone) (applied r o.stamp x.result).calls;
+    }) (left-more os xs x)
+    ∙ ap (λ ts. record { left = drop 1 (drop (length xs) os); done = dones os xs ++ record { order = o; result = x.result } ∷ []; told = ts })
+    (told_same r o.stamp x.result)
+    ∙ ap (λ y. record {
+      left = drop 1 (drop (length xs) os);
+      done = dones os xs ++ record { order = o; result = y } ∷ [];
+      told = map (λ (e : Call). e.gone) r.calls;
+    }) (reply_is os xs r o b z next n)
 
-pub answer-more : (os : List Order) (xs : List Reply) (r : Rows) (o : Order) → IsBoard os xs r → IsSized r.calls r.bridges → first_order (drop (length xs) os) ≡ Some o → NamesCalls o.what →
+pub answer-more : (os : List Order) (xs : List Reply) (r : Rows) (o : Order) → IsBoard os xs r → IsSized r.calls r.bridges → first_order (drop (length xs) os)
+    ≡ Some o → NamesCalls o.what →
     Some (reply_at xs r o) ≡ reply_of (board_state os xs r) (Some o)
 answer-more os xs r o b z next n =
     ap (λ k. Some (record { order = k + 1; result = reply_from (known_in r o.stamp) o.what })) (sym (length-dones os xs b.few))
     ∙ ap (λ y. Some (record { order = length (dones os xs) + 1; result = y })) (reply_is os xs r o b z next n)
 
 -- the call that is told to have ended
-pub told_call : (os : List Order) (xs : List Reply) (r : Rows) (c : ℕ) → IsBoard os xs r → is_open (gone_in (board_state os xs r)) (dones os xs) c ≡ true → (c < 4097) × (is_open_in r c ≡ true)
+pub told_call : (os : List Order) (xs : List Reply) (r : Rows) (c : ℕ) → IsBoard os xs r → is_open (gone_in (board_state os xs r)) (dones os xs) c ≡ true →
+    (c < 4097) × (is_open_in r c ≡ true)
 told_call os xs r c b e =
     let f : is_open (gone_of r) (dones os xs) c ≡ true = ap (λ g. is_open g (dones os xs) c) (sym (gone_same os xs r)) ∙ e in
     let h = b.stands.inside c (open_parts _ _ _ f).0 in
     (h, open_agrees r (dones os xs) c b.stands h ∙ f)
 
-pub board-told : (os : List Order) (xs : List Reply) (r : Rows) (c at : ℕ) → IsBoard os xs r → IsSized r.calls r.bridges → last_stamp (dones os xs) ≤ at → (c < 4097) × (is_open_in r c ≡ true) → IsBoard os xs (call_ended_in r at c)
+pub board-told : (os : List Order) (xs : List Reply) (r : Rows) (c at : ℕ) → IsBoard os xs r → IsSized r.calls r.bridges → last_stamp (dones os xs) ≤ at →
+    (c < 4097) × (is_open_in r c ≡ true) → IsBoard os xs (call_ended_in r at c)
 board-told os xs r c at b z late o =
     let e : Call = record (call_in r c) { gone = Some at } in
     record {
@@ -256,7 +293,8 @@ board-told os xs r c at b z late o =
 
 pub state-told : (os : List Order) (xs : List Reply) (r : Rows) (c at : ℕ) → board_state os xs (call_ended_in r at c) ≡ told_more (board_state os xs r) c at
 state-told os xs r c at =
-    ap (λ ts. record { left = drop (length xs) os; done = dones os xs; told = ts }) (map-set (λ (e : Call). e.gone) r.calls c (record (call_in r c) { gone = Some at }))
+    ap (λ ts. record { left = drop (length xs) os; done = dones os xs; told = ts })
+    (map-set (λ (e : Call). e.gone) r.calls c (record (call_in r c) { gone = Some at }))
 
 -- ---- as the board's calls meet them: `s` is what is seen of the board
 
@@ -277,20 +315,25 @@ told_of os xs r s o y c =
     subst (λ (i : Option ℕ). IfSome i (λ at. at < o.stamp)) e (y.ends c)
 
 -- the replies after this order
-pub replied : (xs ys : List Reply) (r : Rows) (o : Order) (x : Result Act Refusal) (k : ℕ) → x ≡ reply_from (known_in r o.stamp) o.what → k ≡ length xs → ys ≡ xs ++ record { order = k + 1; result = x } ∷ [] → ys ≡ xs ++ reply_at xs r o ∷ []
-replied xs ys r o x k p q e = e ∙ ap (λ (k : ℕ). xs ++ record { order = k + 1; result = x } ∷ []) q ∙ ap (λ (x : Result Act Refusal). xs ++ record { order = length xs + 1; result = x } ∷ []) p
+pub replied : (xs ys : List Reply) (r : Rows) (o : Order) (x : Result Act Refusal) (k : ℕ) → x ≡ reply_from (known_in r o.stamp) o.what → k ≡ length xs →
+    ys ≡ xs ++ record { order = k + 1; result = x } ∷ [] → ys ≡ xs ++ reply_at xs r o ∷ []
+replied xs ys r o x k p q e = e ∙ ap (λ (k : ℕ). xs ++ record { order = k + 1; result = x } ∷ []) q
+    ∙ ap (λ (x : Result Act Refusal). xs ++ record { order = length xs + 1; result = x } ∷ []) p
 
-pub execute_board : (os : List Order) (xs ys : List Reply) (r n : Rows) (s : State) (o : Order) (x : Result Act Refusal) → Ready os xs r s o → x ≡ reply_from (known_in r o.stamp) o.what → n ≡ applied r o.stamp x → ys ≡ xs ++ reply_at xs r o ∷ [] → IsBoard os ys n
+pub execute_board : (os : List Order) (xs ys : List Reply) (r n : Rows) (s : State) (o : Order) (x : Result Act Refusal) → Ready os xs r s o →
+    x ≡ reply_from (known_in r o.stamp) o.what → n ≡ applied r o.stamp x → ys ≡ xs ++ reply_at xs r o ∷ [] → IsBoard os ys n
 execute_board os xs ys r n s o x y p q e =
     subst (λ (ys : List Reply). IsBoard os ys n) (sym e) (subst (λ (n : Rows). IsBoard os (xs ++ reply_at xs r o ∷ []) n) (sym (q ∙ ap (applied r o.stamp) p))
     (board-more os xs r o y.board y.sized (next_of os xs r s o y) y.calls (told_of os xs r s o y)))
 
-pub execute_state : (os : List Order) (xs ys : List Reply) (r n : Rows) (s : State) (o : Order) (x : Result Act Refusal) → Ready os xs r s o → x ≡ reply_from (known_in r o.stamp) o.what → n ≡ applied r o.stamp x → ys ≡ xs ++ reply_at xs r o ∷ [] → board_state os ys n ≡ after_turn s (Some o)
+pub execute_state : (os : List Order) (xs ys : List Reply) (r n : Rows) (s : State) (o : Order) (x : Result Act Refusal) → Ready os xs r s o →
+    x ≡ reply_from (known_in r o.stamp) o.what → n ≡ applied r o.stamp x → ys ≡ xs ++ reply_at xs r o ∷ [] → board_state os ys n ≡ after_turn s (Some o)
 execute_state os xs ys r n s o x y p q e =
     ap (λ ys. board_state os ys n) e ∙ ap (board_state os (xs ++ reply_at xs r o ∷ [])) (q ∙ ap (applied r o.stamp) p)
     ∙ state-more os xs r o y.board y.sized (next_of os xs r s o y) y.calls ∙ ap (λ s. after_turn s (Some o)) y.seen
 
-pub execute_answer : (os : List Order) (xs : List Reply) (r : Rows) (s : State) (o : Order) (x : Result Act Refusal) (k : ℕ) → Ready os xs r s o → x ≡ reply_from (known_in r o.stamp) o.what → k ≡ length xs → Some (reply_of_order k x) ≡ reply_of s (Some o)
+pub execute_answer : (os : List Order) (xs : List Reply) (r : Rows) (s : State) (o : Order) (x : Result Act Refusal) (k : ℕ) → Ready os xs r s o →
+    x ≡ reply_from (known_in r o.stamp) o.what → k ≡ length xs → Some (reply_of_order k x) ≡ reply_of s (Some o)
 execute_answer os xs r s o x k y p q =
     ap (λ (k : ℕ). Some (reply_of_order k x)) q ∙ ap (λ (x : Result Act Refusal). Some (reply_of_order (length xs) x)) p
     ∙ answer-more os xs r o y.board y.sized (next_of os xs r s o y) y.calls ∙ ap (λ s. reply_of s (Some o)) y.seen
@@ -304,11 +347,13 @@ spans_seen os xs r s b e =
     ∙ sym (ap (λ f. spans_now f (dones os xs)) (told_is os xs r)) ∙ ap (λ (s : State). spans_now (told_in s) s.done) e
 
 -- there is room for one more bridge and span
-pub room : (os : List Order) (xs : List Reply) (r : Rows) (s : State) (o : Order) → IsBoard os xs r → board_state os xs r ≡ s → first_order s.left ≡ Some o → (length r.bridges < r.most) × (length r.spans < r.most)
+pub room : (os : List Order) (xs : List Reply) (r : Rows) (s : State) (o : Order) → IsBoard os xs r → board_state os xs r ≡ s → first_order s.left ≡ Some o →
+    (length r.bridges < r.most) × (length r.spans < r.most)
 room os xs r s o b e n =
     let w = next-within os (length xs) o (ap (λ (s : State). first_order s.left) e ∙ n) in
     (omega (arith, w.0, bridges-bound os xs r b, b.most), omega (arith, w.0, bridges-bound os xs r b, spans-bound os xs r b, b.most))
 
 -- and for one more reply
-pub reply_room : (os : List Order) (xs : List Reply) (r : Rows) (s : State) (o : Order) → board_state os xs r ≡ s → first_order s.left ≡ Some o → length xs < length os
+pub reply_room : (os : List Order) (xs : List Reply) (r : Rows) (s : State) (o : Order) → board_state os xs r ≡ s → first_order s.left ≡ Some o →
+    length xs < length os
 reply_room os xs r s o e n = (next-within os (length xs) o (ap (λ (s : State). first_order s.left) e ∙ n)).0

@@ -48,7 +48,8 @@ none_of : (o : Option ℕ) → is_some o ≡ false → o ≡ None
 none_of None e = refl
 none_of (Some x) e = cc
 
-moved_opened : (r : Rows) (now t m : ℕ) (law : Law) → IsTable r now → length r.calls ≡ 4097 → (1 ≤ m) × (m ≤ 4096) → was_opened r m ≡ false → Moved r (applied r t (Ok (act.Opened m law))) t (act.Opened m law)
+moved_opened : (r : Rows) (now t m : ℕ) (law : Law) → IsTable r now → length r.calls ≡ 4097 → (1 ≤ m) × (m ≤ 4096) → was_opened r m ≡ false →
+    Moved r (applied r t (Ok (act.Opened m law))) t (act.Opened m law)
 moved_opened r now t m law s len n fresh =
     let l : m < length r.calls = omega (arith, n.1) in
     let new : (call_in r m).opened ≡ None = none_of _ fresh in
@@ -69,8 +70,10 @@ closed_was r t m c = ap is_some (field_kept (λ (x : Call). x.opened) r.calls m 
 closed_lives : (r : Rows) (t m : ℕ) → m < length r.calls → (c : ℕ) → is_open_in (closed_in r t m) c ≡ open_without m (is_open_in r) c
 closed_lives r t m l c = shut_open r m (closed_call r t m) r.spans l (shut_by_order (is_some (call_in r m).opened) (not (is_some (call_in r m).gone))) c
 
-closed_partner : (r : Rows) (now t m : ℕ) → IsTable r now → length r.calls ≡ 4097 → m < 4097 → (c : ℕ) → partner_in (closed_in r t m) c ≡ partner_without m (partner_in r) c
-closed_partner r now t m s len l c = shut_partner r now m (closed_call r t m) r.spans s len (omega arith) (shut_by_order (is_some (call_in r m).opened) (not (is_some (call_in r m).gone))) refl c
+closed_partner : (r : Rows) (now t m : ℕ) → IsTable r now → length r.calls ≡ 4097 → m < 4097 → (c : ℕ) → partner_in (closed_in r t m) c
+    ≡ partner_without m (partner_in r) c
+closed_partner r now t m s len l c = shut_partner r now m (closed_call r t m) r.spans s len (omega arith)
+    (shut_by_order (is_some (call_in r m).opened) (not (is_some (call_in r m).gone))) refl c
 
 -- parted, and then closed
 closed_parted : (t q w : Bool) (o : Option ℕ) → (t ≡ true → q ≡ true) → w ≡ q → (if t || false then None else if q then None else o) ≡ (if w then None else o)
@@ -103,21 +106,30 @@ moved_closed r t m s len l lives (Some y) e =
       finds = (lives, partner_some r m k f.1 f.2);
       opened = closed_was n t m;
       lives = closed_lives n t m (omega arith);
-      partner = λ c. closed_partner n t t m s1 len l c ∙ ap (λ f. partner_without_both m f (partner_in n) c) none ∙ ap (λ o. if c == m || false then None else o) (is c)
-          ∙ closed_parted (c == m) (joins c x) (c == m || c == other m x) (partner_in r c) (λ h. ap (λ c. joins c x) (eqb-true c m h) ∙ q.1) (this_pair m c x q.1 (s.sound k q.0).apart);
+      partner = λ c. closed_partner n t t m s1 len l c ∙ ap (λ f. partner_without_both m f (partner_in n) c) none
+          ∙ ap (λ o. if c == m || false then None else o) (is c)
+          ∙ closed_parted (c == m) (joins c x) (c == m || c == other m x) (partner_in r c) (λ h. ap (λ c. joins c x) (eqb-true c m h) ∙ q.1)
+          (this_pair m c x q.1 (s.sound k q.0).apart);
       rests = tt;
     }))
 
 -- `bridge`
 
-rested : (r : Rows) (ds : List Done) (t c : ℕ) → Stands r ds → last_stamp ds ≤ t → IsSome_before r t → c < 4097 → bridge_in r c ≡ None → bridge_ended_in r t c ≡ None →
+rested : (r : Rows) (ds : List Done) (t c : ℕ) → Stands r ds → last_stamp ds ≤ t → IsSome_before r t → c < 4097 → bridge_in r c ≡ None → bridge_ended_in r t c
+    ≡ None →
     HasRested (λ c. (call_in r c).gone) r.bridges t c
 rested r ds t c s late told h none no_end =
     All-from_get_or (λ x. joins c x ≡ true → HasEnded (λ c. (call_in r c).gone) t x) r.bridges no_bridge (λ j l q.
     let o = over_before r ds t c s late told h none no_end j l q in
-    record { at = o.at; ended = o.ended; before = o.before; no_order = λ e. let k = (s.table.sound j l).ended t e in let p : o.at ≡ t = let z = o.ended in cc (k.0, z) in omega (arith, o.before) })
+    record {
+      at = o.at;
+      ended = o.ended;
+      before = o.before;
+      no_order = λ e. let k = (s.table.sound j l).ended t e in let p : o.at ≡ t = let z = o.ended in cc (k.0, z) in omega (arith, o.before);
+    })
 
-moved_bridged : (r : Rows) (ds : List Done) (t a b : ℕ) → Stands r ds → length r.calls ≡ 4097 → last_stamp ds ≤ t → IsSome_before r t → a < 4097 → b < 4097 → Joined (known_in r t) a b →
+moved_bridged : (r : Rows) (ds : List Done) (t a b : ℕ) → Stands r ds → length r.calls ≡ 4097 → last_stamp ds ≤ t → IsSome_before r t → a < 4097 → b < 4097 →
+    Joined (known_in r t) a b →
     Moved r (applied r t (Ok (act.Bridged a b))) t (act.Bridged a b)
 moved_bridged r ds t a b s len late told la lb j = record {
   finds = (j.apart, (j.open_a, j.open_b), (ap (option_map (other a)) j.alone_a, ap (option_map (other b)) j.alone_b));
@@ -156,7 +168,8 @@ does_nothing r t x e = subst (λ (x : Result Act Refusal). Does r t x) (sym e.1)
 does : (r : Rows) (t : ℕ) (x : Result Act Refusal) (a : Act) → x ≡ Ok a → Moved r (applied r t (Ok a)) t a → Does r t x
 does r t x a e m = subst (λ (x : Result Act Refusal). Does r t x) (sym e) m
 
-pub moved : (r : Rows) (ds : List Done) (t : ℕ) (w : What) → Stands r ds → length r.calls ≡ 4097 → last_stamp ds ≤ t → IsSome_before r t → NamesCalls w → Does r t (reply_from (known_in r t) w)
+pub moved : (r : Rows) (ds : List Done) (t : ℕ) (w : What) → Stands r ds → length r.calls ≡ 4097 → last_stamp ds ≤ t → IsSome_before r t → NamesCalls w →
+    Does r t (reply_from (known_in r t) w)
 moved r ds t (what.OpenCall c law) s len late told n =
     elim (open_accepted (known_in r t) c law) [
       | inl e ↦ does_nothing r t _ e
@@ -165,7 +178,8 @@ moved r ds t (what.OpenCall c law) s len late told n =
 moved r ds t (what.CloseCall c) s len late told n =
     elim (close_accepted (known_in r t) c) [
       | inl e ↦ does_nothing r t _ e
-      | inr p ↦ does r t _ (act.Closed c (option_map (other c) (bridge_in r c))) p.0 (moved_closed r t c (table_later r _ _ s.table late) len (omega (arith, n.1)) p.1 (bridge_in r c) refl)
+      | inr p ↦ does r t _ (act.Closed c (option_map (other c) (bridge_in r c))) p.0 (moved_closed r t c (table_later r _ _ s.table late) len
+          (omega (arith, n.1)) p.1 (bridge_in r c) refl)
     ]
 moved r ds t (what.Bridge a b) s len late told n =
     elim (bridge_accepted (known_in r t) a b) [
@@ -179,7 +193,8 @@ moved r ds t (what.Unbridge c) s len late told n =
           let f = bridge_found r p.0 (call_in r c).bridge p.3 in
           let l = table_later r _ _ s.table late in
           let m = moved_unbridged r t f.0 l len (latest_at r t c f.0 l len f.1).0 f.2 in
-          does r t _ (act.Unbridged p.0.a p.0.b) p.1 (subst (λ (x : Bridge). Moved r (applied r t (Ok (act.Unbridged x.a x.b))) t (act.Unbridged x.a x.b)) f.3 m)
+          does r t _ (act.Unbridged p.0.a p.0.b) p.1 (subst (λ (x : Bridge). Moved r (applied r t (Ok (act.Unbridged x.a x.b))) t (act.Unbridged x.a x.b)) f.3
+          m)
     ]
 moved r ds t (what.Level c v) s len late told n =
     elim (level_accepted (known_in r t) c v) [
@@ -225,7 +240,8 @@ opened_agrees r ds c s len = elim (cases_lt c 4097) [
 lives_agrees : (r : Rows) (ds : List Done) (c : ℕ) → Stands r ds → length r.calls ≡ 4097 → is_open (gone_of r) ds c ≡ is_open_in r c
 lives_agrees r ds c s len = elim (cases_lt c 4097) [
   | inl h ↦ sym (open_agrees r ds c s h)
-  | inr h ↦ not_true _ (λ q. let k = s.inside c (open_parts _ _ _ q).0 in omega arith) ∙ sym (ap (λ (e : Call). is_some e.opened && not (is_some e.closed) && not (is_some e.gone)) (past r c len h))
+  | inr h ↦ not_true _ (λ q. let k = s.inside c (open_parts _ _ _ q).0 in omega arith)
+      ∙ sym (ap (λ (e : Call). is_some e.opened && not (is_some e.closed) && not (is_some e.gone)) (past r c len h))
 ]
 
 partner_agrees : (r : Rows) (ds : List Done) (c : ℕ) → Stands r ds → length r.calls ≡ 4097 → bridge_of (gone_of r) ds c ≡ bridge_in r c
@@ -267,7 +283,8 @@ changes r n s m t a x y v = record {
   opened = λ c. ap (λ f. f c) y.opened ∙ v.opened c ∙ ap (λ f. opened_after a f c) (sym x.opened);
   lives = λ c. ap (λ f. f c) y.lives ∙ v.lives c ∙ ap (λ f. open_after a f c) (sym x.lives);
   partner = λ c. ap (λ f. f c) y.partner ∙ v.partner c ∙ ap (λ f. partner_after a f c) (sym x.partner);
-  rests = subst (λ (f : ℕ → Option ℕ). Rests a f (bridges s.done) t) (sym x.told) (subst (λ (bs : List Bridge). Rests a (λ c. (call_in r c).gone) bs t) (sym x.bridges) v.rests);
+  rests = subst (λ (f : ℕ → Option ℕ). Rests a f (bridges s.done) t) (sym x.told) (subst (λ (bs : List Bridge). Rests a (λ c. (call_in r c).gone) bs t)
+      (sym x.bridges) v.rests);
 }
 
 pub each_ok : (x : Result Act Refusal) (P Q : Act → Type 0) → ((a : Act) → P a → Q a) → IfOk x P → IfOk x Q
@@ -275,13 +292,15 @@ each_ok (Ok a) P Q h p = h a p
 each_ok (Err e) P Q h p = tt
 
 -- an order
-pub execute_changes : (os : List Order) (xs ys : List Reply) (r n : Rows) (s : State) (o : Order) (x : Result Act Refusal) → Ready os xs r s o → x ≡ reply_from (known_in r o.stamp) o.what →
+pub execute_changes : (os : List Order) (xs ys : List Reply) (r n : Rows) (s : State) (o : Order) (x : Result Act Refusal) → Ready os xs r s o →
+    x ≡ reply_from (known_in r o.stamp) o.what →
     n ≡ applied r o.stamp x → ys ≡ xs ++ reply_at xs r o ∷ [] → IfOk x (Changes s (board_state os ys n) o.stamp)
 execute_changes os xs ys r n s o x y p q e =
     let t = o.stamp in
     let z = y.sized in
     let before = seen os xs r s y.board z.all y.seen in
-    let after = seen os ys n (board_state os ys n) (execute_board os xs ys r n s o x y p q e) (ap (λ (n : Rows). length n.calls) q ∙ calls_same r t x ∙ z.all) refl in
+    let after = seen os ys n (board_state os ys n) (execute_board os xs ys r n s o x y p q e) (ap (λ (n : Rows). length n.calls) q ∙ calls_same r t x
+    ∙ z.all) refl in
     each_ok x (Moved r n t) _ (λ a m. changes r n s (board_state os ys n) t a before after m)
     (subst (λ (n : Rows). IfOk x (Moved r n t)) (sym q) (subst (λ (x : Result Act Refusal). Does r t x) (sym p)
     (moved r (dones os xs) t o.what y.board.stands z.all (last-before os xs o y.board.orders (next_of os xs r s o y)) (told_of os xs r s o y) y.calls)))
@@ -297,7 +316,8 @@ shut_by_end true true = refl
 shut_by_end true false = refl
 shut_by_end false l = refl
 
-pub ended_changes : (os : List Order) (xs : List Reply) (r n : Rows) (s : State) (m at : ℕ) → IsBoard os xs r → IsSized r.calls r.bridges → board_state os xs r ≡ s → m < 4097 →
+pub ended_changes : (os : List Order) (xs : List Reply) (r n : Rows) (s : State) (m at : ℕ) → IsBoard os xs r → IsSized r.calls r.bridges → board_state os xs r
+    ≡ s → m < 4097 →
     n ≡ call_ended_in r at m → IsBoard os xs n → Without s (board_state os xs n) m
 ended_changes os xs r n s m at b z e l q next =
     let g : Call = record (call_in r m) { gone = Some at } in
@@ -306,9 +326,13 @@ ended_changes os xs r n s m at b z e l q next =
     let after = seen os xs n (board_state os xs n) next (ap (λ (n : Rows). length n.calls) q ∙ length-set r.calls m g ∙ z.all) refl in
     let lm : m < length r.calls = omega (arith, z.all) in
     record {
-      opened = λ c. ap (λ f. f c) after.opened ∙ ap (λ (n : Rows). was_opened n c) q ∙ ap is_some (field_kept (λ (x : Call). x.opened) r.calls m g refl c) ∙ ap (λ f. f c) (sym before.opened);
-      lives = λ c. ap (λ f. f c) after.lives ∙ ap (λ (n : Rows). is_open_in n c) q ∙ shut_open r m g k.spans lm (shut_by_end (is_some (call_in r m).opened) (not (is_some (call_in r m).closed))) c ∙ ap (λ f. open_without m f c) (sym before.lives);
-      partner = λ c. ap (λ f. f c) after.partner ∙ ap (λ (n : Rows). partner_in n c) q ∙ shut_partner r _ m g k.spans b.stands.table z.all lm (shut_by_end (is_some (call_in r m).opened) (not (is_some (call_in r m).closed))) refl c
+      opened = λ c. ap (λ f. f c) after.opened ∙ ap (λ (n : Rows). was_opened n c) q ∙ ap is_some (field_kept (λ (x : Call). x.opened) r.calls m g refl c)
+          ∙ ap (λ f. f c) (sym before.opened);
+      lives = λ c. ap (λ f. f c) after.lives ∙ ap (λ (n : Rows). is_open_in n c) q
+          ∙ shut_open r m g k.spans lm (shut_by_end (is_some (call_in r m).opened) (not (is_some (call_in r m).closed))) c
+          ∙ ap (λ f. open_without m f c) (sym before.lives);
+      partner = λ c. ap (λ f. f c) after.partner ∙ ap (λ (n : Rows). partner_in n c) q ∙ shut_partner r _ m g k.spans b.stands.table z.all lm
+          (shut_by_end (is_some (call_in r m).opened) (not (is_some (call_in r m).closed))) refl c
           ∙ ap (λ f. partner_without m f c) (sym before.partner);
     }
 
@@ -317,10 +341,12 @@ pub start_alone : (s : State) (os : List Order) → s ≡ new_board os → (c : 
 start_alone s os e c = (ap (λ (s : State). opened_now s c) e, ap (λ (s : State). open_now s c) e, ap (λ (s : State). partner_now s c) e)
 
 -- partners are pairs of open calls
-pub pairs_now : (os : List Order) (xs : List Reply) (r : Rows) (s : State) → IsBoard os xs r → IsSized r.calls r.bridges → board_state os xs r ≡ s → ArePairs (open_now s) (partner_now s)
+pub pairs_now : (os : List Order) (xs : List Reply) (r : Rows) (s : State) → IsBoard os xs r → IsSized r.calls r.bridges → board_state os xs r ≡ s →
+    ArePairs (open_now s) (partner_now s)
 pairs_now os xs r s b z e =
     let k = seen os xs r s b z.all e in
-    subst (λ (f : ℕ → Bool). ArePairs f (partner_now s)) (sym k.lives) (subst (λ (f : ℕ → Option ℕ). ArePairs (is_open_in r) f) (sym k.partner) (pairs_in r _ b.stands.table z.all))
+    subst (λ (f : ℕ → Bool). ArePairs f (partner_now s)) (sym k.lives) (subst (λ (f : ℕ → Option ℕ). ArePairs (is_open_in r) f) (sym k.partner)
+    (pairs_in r _ b.stands.table z.all))
 
 -- ---- no change
 

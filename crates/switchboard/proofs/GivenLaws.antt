@@ -85,7 +85,8 @@ changes_by : (s n : State) (o : Order) (x : Result Act Refusal) → (done_by s o
     IfOk x (λ a. Finds a (opened_now s) (open_now s) (partner_now s)) → IfOk x (λ a. (c : ℕ) → law_now n c ≡ law_after a (law_now s) c)
 changes_by s n o (Err e) same next finds = tt
 changes_by s n o (Ok a) same next finds = λ c.
-    ap (λ (n : State). law_now n c) next ∙ ap (λ (x : Result Act Refusal). law_at c (s.done ++ record { order = o; result = x } ∷ [])) same ∙ follows s o a finds c
+    ap (λ (n : State). law_now n c) next ∙ ap (λ (x : Result Act Refusal). law_at c (s.done ++ record { order = o; result = x } ∷ [])) same
+    ∙ follows s o a finds c
 
 pub law_changes : (s n : State) (o : Order) (r : Reply) → n ≡ after_turn s (Some o) → Some r ≡ reply_of s (Some o) →
     IfOk r.result (λ a. Finds a (opened_now s) (open_now s) (partner_now s)) → IfOk r.result (λ a. (c : ℕ) → law_now n c ≡ law_after a (law_now s) c)

@@ -145,17 +145,20 @@ ended_agrees r ds c t s now h =
 
 -- ---- the reply
 
-same_open : (k l : Known) (c : ℕ) (law : Law) → k.is_open c ≡ l.is_open c → k.has_ended c ≡ l.has_ended c → reply_from k (what.OpenCall c law) ≡ reply_from l (what.OpenCall c law)
+same_open : (k l : Known) (c : ℕ) (law : Law) → k.is_open c ≡ l.is_open c → k.has_ended c ≡ l.has_ended c → reply_from k (what.OpenCall c law)
+    ≡ reply_from l (what.OpenCall c law)
 same_open k l c law p q = cc
 
-same_close : (k l : Known) (c : ℕ) → k.is_open c ≡ l.is_open c → k.bridge_of c ≡ l.bridge_of c → reply_from k (what.CloseCall c) ≡ reply_from l (what.CloseCall c)
+same_close : (k l : Known) (c : ℕ) → k.is_open c ≡ l.is_open c → k.bridge_of c ≡ l.bridge_of c → reply_from k (what.CloseCall c)
+    ≡ reply_from l (what.CloseCall c)
 same_close k l c p q = cc
 
 same_bridge : (k l : Known) (a b : ℕ) → k.is_open a ≡ l.is_open a → k.is_open b ≡ l.is_open b → k.bridge_of a ≡ l.bridge_of a → k.bridge_of b ≡ l.bridge_of b →
     k.bridge_ended a ≡ l.bridge_ended a → k.bridge_ended b ≡ l.bridge_ended b → reply_from k (what.Bridge a b) ≡ reply_from l (what.Bridge a b)
 same_bridge k l a b p q r s t u = cc
 
-same_unbridge : (k l : Known) (c : ℕ) → k.is_open c ≡ l.is_open c → k.bridge_of c ≡ l.bridge_of c → reply_from k (what.Unbridge c) ≡ reply_from l (what.Unbridge c)
+same_unbridge : (k l : Known) (c : ℕ) → k.is_open c ≡ l.is_open c → k.bridge_of c ≡ l.bridge_of c → reply_from k (what.Unbridge c)
+    ≡ reply_from l (what.Unbridge c)
 same_unbridge k l c p q = cc
 
 same_level : (k l : Known) (w : What) → (c : ℕ) → (v : _) → k.is_open c ≡ l.is_open c → reply_from k (what.Level c v) ≡ reply_from l (what.Level c v)
@@ -175,7 +178,8 @@ reply_agrees r ds t (what.CloseCall c) s z now n =
 reply_agrees r ds t (what.Bridge a b) s z now n =
     let h : a < 4097 = omega (arith, n.0.1) in
     let i : b < 4097 = omega (arith, n.1.1) in
-    same_bridge (known_in r t) (known_of (gone_of r) t ds) a b (open_agrees r ds a s h) (open_agrees r ds b s i) (bridge_agrees r ds a s z h) (bridge_agrees r ds b s z i)
+    same_bridge (known_in r t) (known_of (gone_of r) t ds) a b (open_agrees r ds a s h) (open_agrees r ds b s i) (bridge_agrees r ds a s z h)
+    (bridge_agrees r ds b s z i)
     (ended_agrees r ds a t s now h) (ended_agrees r ds b t s now i)
 reply_agrees r ds t (what.Unbridge c) s z now n =
     let h : c < 4097 = omega arith in

@@ -43,7 +43,8 @@ pub told_none : (s : State) (os : List Order) → s ≡ new_board os → (t : �
 told_none s os e t c = none_before t (told_in s c) (ap (λ (s : State). told_in s c) e ∙ none_at 4097 c)
 
 -- one end more
-before_set : (t at : ℕ) (xs : List (Option ℕ)) (i : ℕ) → at < t → ((c : ℕ) → IfSome (get_or xs c None) (λ u. u < t)) → (c : ℕ) → IfSome (get_or (set xs i (Some at)) c None) (λ u. u < t)
+before_set : (t at : ℕ) (xs : List (Option ℕ)) (i : ℕ) → at < t → ((c : ℕ) → IfSome (get_or xs c None) (λ u. u < t)) → (c : ℕ) →
+    IfSome (get_or (set xs i (Some at)) c None) (λ u. u < t)
 before_set t at [] i l h c = h c
 before_set t at (x ∷ xs) zero l h zero = l
 before_set t at (x ∷ xs) zero l h (suc c) = h (suc c)
@@ -81,7 +82,8 @@ refused_bridges ds o e =
     let d : Done = record { order = o; result = Err e } in
     bridges-more ds d ∙ append-nil _ ∙ map_after_same d (bridges ds) (λ j l. after_kept d _ refl)
 
-refused_known : (gone : ℕ → Bool) (t : ℕ) (ds : List Done) (o : Order) (e : Refusal) → known_of gone t (ds ++ record { order = o; result = Err e } ∷ []) ≡ known_of gone t ds
+refused_known : (gone : ℕ → Bool) (t : ℕ) (ds : List Done) (o : Order) (e : Refusal) → known_of gone t (ds ++ record { order = o; result = Err e } ∷ [])
+    ≡ known_of gone t ds
 refused_known gone t ds o e =
     let more : List Done = ds ++ record { order = o; result = Err e } ∷ [] in
     let opened : (λ c. opened_at c more) ≡ (λ c. opened_at c ds) = λ i. λ c. refused_opened ds o e c i in
@@ -90,13 +92,15 @@ refused_known gone t ds o e =
     ∙ ap (λ f. known_from gone t (λ c. opened_at c ds) f (bridges more)) closed
     ∙ ap (known_from gone t (λ c. opened_at c ds) (λ c. closed_at c ds)) (refused_bridges ds o e)
 
-refused_same : (s : State) (o : Order) (x : Result Act Refusal) (e : Refusal) → x ≡ Err e → IsUnchanged s (record s { left = drop 1 s.left; done = s.done ++ record { order = o; result = x } ∷ [] })
-refused_same s o x e p = subst (λ (x : Result Act Refusal). IsUnchanged s (record s { left = drop 1 s.left; done = s.done ++ record { order = o; result = x } ∷ [] })) (sym p) (record {
-  known = λ t. refused_known (gone_in s) t s.done o e;
-  told = refl;
-  law = λ c. law_kept c s.done (record { order = o; result = Err e }) refl;
-  spans = ap (filter_map (λ x. option_map (span_to x) (end_now (told_in s) x))) (refused_bridges s.done o e);
-})
+refused_same : (s : State) (o : Order) (x : Result Act Refusal) (e : Refusal) → x ≡ Err e →
+    IsUnchanged s (record s { left = drop 1 s.left; done = s.done ++ record { order = o; result = x } ∷ [] })
+refused_same s o x e p = subst (λ (x : Result Act Refusal). IsUnchanged s
+    (record s { left = drop 1 s.left; done = s.done ++ record { order = o; result = x } ∷ [] })) (sym p) (record {
+      known = λ t. refused_known (gone_in s) t s.done o e;
+      told = refl;
+      law = λ c. law_kept c s.done (record { order = o; result = Err e }) refl;
+      spans = ap (filter_map (λ x. option_map (span_to x) (end_now (told_in s) x))) (refused_bridges s.done o e);
+    })
 
 -- a reply that refuses leaves all as it was
 pub refused_unchanged : (s n : State) (o : Order) → n ≡ after_turn s (Some o) → OnErr (done_by s o).result (IsUnchanged s n)
@@ -107,7 +111,8 @@ refused_unchanged s n o e = by s n o (done_by s o).result refl e
     by s n o (Err r) p e = subst (λ (n : State). IsUnchanged s n) (sym e) (refused_same s o (done_by s o).result r p)
 
 pub refused_answer : (s n : State) (o : Order) (r : Reply) → Some r ≡ reply_of s (Some o) → n ≡ after_turn s (Some o) → OnErr r.result (IsUnchanged s n)
-refused_answer s n o r p e = subst (λ (x : Result Act Refusal). OnErr x (IsUnchanged s n)) (let q : (done_by s o).result ≡ r.result = cc in q) (refused_unchanged s n o e)
+refused_answer s n o r p e = subst (λ (x : Result Act Refusal). OnErr x (IsUnchanged s n)) (let q : (done_by s o).result ≡ r.result = cc in q)
+    (refused_unchanged s n o e)
 
 pub last_is : (s n : State) (o : Order) (t : ℕ) → n ≡ after_turn s (Some o) → o.stamp ≡ t → last_stamp n.done ≡ t
 last_is s n o t e q = ap (λ (s : State). last_stamp s.done) e ∙ last-more s.done (done_by s o) ∙ q
@@ -135,7 +140,13 @@ pub left_rising : (os : List Order) (n : ℕ) → AreOrders os → AreRising (dr
 left_rising os n a = record {
   rising = λ k d l. let r = a.rising n (n + k) d (omega arith) (omega (arith, l, length-drop n os)) in
       let z : n + 0 ≡ n = omega arith in
-      omega (arith, r, ap (λ (o : Order). o.stamp) (get_or-drop n os 0 d ∙ ap (λ (i : ℕ). get_or os i d) z), ap (λ (o : Order). o.stamp) (get_or-drop n os k d));
+      omega (
+        arith,
+        r,
+        ap (λ (o : Order). o.stamp) (get_or-drop n os 0 d ∙ ap (λ (i : ℕ). get_or os i d) z),
+        ap (λ (o : Order). o.stamp)
+            (get_or-drop n os k d),
+      );
 }
 
 none_due : (os : List Order) (t : ℕ) → AreRising os → IfSome (first_stamp os) (λ s. t ≤ s) → due os t ≡ None → All (λ o. o.stamp ≢ t) os
@@ -156,7 +167,8 @@ reply_none : (s : State) (o : Option Order) → (o ≡ None → is_some (reply_o
 reply_none s None = (λ e. refl, λ e. refl)
 reply_none s (Some o) = (λ e. absurd cc, λ e. cc)
 
-pub none_exactly : (s : State) (t : ℕ) (answer : Option Reply) → AreRising s.left → IfSome (first_stamp s.left) (λ s. t ≤ s) → answer ≡ reply_of s (due s.left t) →
+pub none_exactly : (s : State) (t : ℕ) (answer : Option Reply) → AreRising s.left → IfSome (first_stamp s.left) (λ s. t ≤ s) →
+    answer ≡ reply_of s (due s.left t) →
     IsNone answer ↔ All (λ o. o.stamp ≢ t) s.left
 none_exactly s t answer r h e =
     let p = reply_none s (due s.left t) in
@@ -192,7 +204,8 @@ accepted_range x a e h = subst (λ (x : Result Act Refusal). IfOk x IsInRange) (
 
 pub in_range : (k : Known) (w : What) → NamesCalls w → HasLevel w → IfOk (reply_from k w) IsInRange
 in_range k (what.OpenCall c law) n l = elim (open_accepted k c law) [ inl e ↦ refused_range _ e | inr p ↦ accepted_range _ (act.Opened c law) p.0 n ]
-in_range k (what.CloseCall c) n l = elim (close_accepted k c) [ inl e ↦ refused_range _ e | inr p ↦ accepted_range _ (act.Closed c (option_map (other c) (k.bridge_of c))) p.0 tt ]
+in_range k (what.CloseCall c) n l = elim (close_accepted k c)
+    [ inl e ↦ refused_range _ e | inr p ↦ accepted_range _ (act.Closed c (option_map (other c) (k.bridge_of c))) p.0 tt ]
 in_range k (what.Bridge a b) n l = elim (bridge_accepted k a b) [ inl e ↦ refused_range _ e | inr p ↦ accepted_range _ (act.Bridged a b) p.0 tt ]
 in_range k (what.Unbridge c) n l = elim (unbridge_accepted k c) [ inl e ↦ refused_range _ e | inr p ↦ accepted_range _ (act.Unbridged p.0.a p.0.b) p.1 tt ]
 in_range k (what.Level c v) n l = elim (level_accepted k c v) [ inl e ↦ refused_range _ e | inr p ↦ accepted_range _ (act.LevelSet c v) p.0 l.0 ]

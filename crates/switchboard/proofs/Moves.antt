@@ -43,14 +43,16 @@ pub stands_by : (r n : Rows) (ds : List Done) (d : Done) → Stands r ds →
 stands_by r n ds d s opened closed inside br t = record {
   opened = λ c h. opened c h ∙ ap (λ o. or_else o (opened_at c (d ∷ []))) (s.opened c h) ∙ sym (opened-more c ds d);
   closed = λ c h. closed c h ∙ ap (λ o. or_else o (closed_at c (d ∷ []))) (s.closed c h) ∙ sym (closed-more c ds d);
-  inside = λ c e. elim (some_either (opened_at c ds) (opened_at c (d ∷ [])) (ap is_some (sym (opened-more c ds d)) ∙ e)) [ inl p ↦ s.inside c p | inr p ↦ inside c p ];
+  inside = λ c e. elim (some_either (opened_at c ds) (opened_at c (d ∷ [])) (ap is_some (sym (opened-more c ds d)) ∙ e))
+      [ inl p ↦ s.inside c p | inr p ↦ inside c p ];
   bridges = br ∙ ap (λ bs. map (after d) bs ++ bridge_by d.order.stamp d.result []) s.bridges ∙ sym (bridges-more ds d);
   table = subst (λ (m : ℕ). IsTable n m) (sym (last-more ds d)) t;
 }
 
 -- a reply that changes nothing
 pub stands_same : (r : Rows) (ds : List Done) (d : Done) → Stands r ds → last_stamp ds ≤ d.order.stamp →
-    ((c : ℕ) → opened_at c (d ∷ []) ≡ None) → ((c : ℕ) → closed_at c (d ∷ []) ≡ None) → ((a b : ℕ) → ends_bridge a b d.result ≡ false) → bridge_by d.order.stamp d.result [] ≡ [] →
+    ((c : ℕ) → opened_at c (d ∷ []) ≡ None) → ((c : ℕ) → closed_at c (d ∷ []) ≡ None) → ((a b : ℕ) → ends_bridge a b d.result ≡ false) →
+    bridge_by d.order.stamp d.result [] ≡ [] →
     Stands r (ds ++ d ∷ [])
 stands_same r ds d s late opened closed ends begins =
     stands_by r r ds d s
@@ -69,7 +71,8 @@ never_opened o true p q = cc
 never_opened true false p q = cc
 never_opened false false p q = refl
 
-pub stands_opened : (r : Rows) (ds : List Done) (o : Order) (c : ℕ) (law : Law) → Stands r ds → length r.calls ≡ 4097 → last_stamp ds ≤ o.stamp → c < 4097 → is_some (call_in r c).opened ≡ false →
+pub stands_opened : (r : Rows) (ds : List Done) (o : Order) (c : ℕ) (law : Law) → Stands r ds → length r.calls ≡ 4097 → last_stamp ds ≤ o.stamp → c < 4097 →
+    is_some (call_in r c).opened ≡ false →
     Stands (opened_in r o.stamp c) (ds ++ done o (Ok (act.Opened c law)) ∷ [])
 stands_opened r ds o c law s len late h fresh =
     let d : Done = done o (Ok (act.Opened c law)) in
@@ -90,7 +93,8 @@ stands_opened r ds o c law s len late h fresh =
     stamped true d = refl
     stamped false d = refl
 
-    inside_one : (t : Bool) (k c : ℕ) (d : Done) → (t ≡ true → k ≡ c) → is_some (option_map (λ d. d.order.stamp) (if t then Some d else None)) ≡ true → c < 4097 → k < 4097
+    inside_one : (t : Bool) (k c : ℕ) (d : Done) → (t ≡ true → k ≡ c) → is_some (option_map (λ d. d.order.stamp) (if t then Some d else None)) ≡ true →
+        c < 4097 → k < 4097
     inside_one true k c d e q h = let p : k ≡ c = e refl in omega arith
     inside_one false k c d e q h = cc
 
@@ -113,12 +117,14 @@ latest_live r o = elim o [ None ↦ None | Some k ↦ some_if (is_live_in r (bri
 not_live_at : (r : Rows) (c k : ℕ) → bridge_in r c ≡ None → (call_in r c).bridge ≡ Some k → is_live_in r (bridge_at_place r k) ≡ false
 not_live_at r c k e p = some_if-none _ (bridge_at_place r k) (sym (ap (latest_live r) p) ∙ e)
 
-pub bridge_found : (r : Rows) (x : Bridge) (o : Option ℕ) → latest_live r o ≡ Some x → (k : ℕ) × (o ≡ Some k) × (is_live_in r (bridge_at_place r k) ≡ true) × (bridge_at_place r k ≡ x)
+pub bridge_found : (r : Rows) (x : Bridge) (o : Option ℕ) → latest_live r o ≡ Some x → (k : ℕ) × (o ≡ Some k) × (is_live_in r (bridge_at_place r k) ≡ true)
+    × (bridge_at_place r k ≡ x)
 bridge_found r x None e = cc
 bridge_found r x (Some k) e = let p = some_if-some _ (bridge_at_place r k) x e in (k, refl, p.0, p.1)
 
 -- the latest bridge of a call of a live bridge is that one
-pub same_latest : (r : Rows) (now a k : ℕ) (o : Option ℕ) → IsTable r now → IsLatest r.bridges a o → k < length r.bridges → joins a (bridge_at_place r k) ≡ true → is_live_in r (bridge_at_place r k) ≡ true → o ≡ Some k
+pub same_latest : (r : Rows) (now a k : ℕ) (o : Option ℕ) → IsTable r now → IsLatest r.bridges a o → k < length r.bridges → joins a (bridge_at_place r k)
+    ≡ true → is_live_in r (bridge_at_place r k) ≡ true → o ≡ Some k
 same_latest r now a k None s l h q live = absurd (both _ (l k h) q)
 same_latest r now a k (Some m) s l h q live = elim (cases_order k m) [
   | inl p ↦ ap Some (sym p)
@@ -130,7 +136,8 @@ abbrev Pair : Bridge → Bridge → Type 0
 Pair x y = ((y.a ≡ x.a) × (y.b ≡ x.b)) ⊎ ((y.a ≡ x.b) × (y.b ≡ x.a))
 
 -- **A call has at most one live bridge.**
-pub one_live : (r : Rows) (now c j k : ℕ) → IsTable r now → j < length r.bridges → k < length r.bridges → joins c (bridge_at_place r j) ≡ true → joins c (bridge_at_place r k) ≡ true →
+pub one_live : (r : Rows) (now c j k : ℕ) → IsTable r now → j < length r.bridges → k < length r.bridges → joins c (bridge_at_place r j) ≡ true →
+    joins c (bridge_at_place r k) ≡ true →
     is_live_in r (bridge_at_place r j) ≡ true → is_live_in r (bridge_at_place r k) ≡ true → j ≡ k
 one_live r now c j k s lj lk qj qk vj vk = elim (cases_order j k) [
   | inl p ↦ p
@@ -164,12 +171,15 @@ parted_bridges r now d k s lk live this pair =
       | inl e ↦ others r now d k j s lk live l ne (pair (bridge_at_place r j) e) (bridge_at_place r j).ended refl
     ])
   where
-    others : (r : Rows) (now : ℕ) (d : Done) (k j : ℕ) → IsTable r now → k < length r.bridges → is_live_in r (bridge_at_place r k) ≡ true → j < length r.bridges → j ≢ k →
-        Pair (bridge_at_place r k) (bridge_at_place r j) → (o : Option ℕ) → (bridge_at_place r j).ended ≡ o → after d (bridge_at_place r j) ≡ bridge_at_place r j
+    others : (r : Rows) (now : ℕ) (d : Done) (k j : ℕ) → IsTable r now → k < length r.bridges → is_live_in r (bridge_at_place r k) ≡ true →
+        j < length r.bridges → j ≢ k →
+        Pair (bridge_at_place r k) (bridge_at_place r j) → (o : Option ℕ) → (bridge_at_place r j).ended ≡ o → after d (bridge_at_place r j)
+        ≡ bridge_at_place r j
     others r now d k j s lk live l ne p (Some u) e = after_had d (bridge_at_place r j) u e
     others r now d k j s lk live l ne p None e =
         let x = bridge_at_place r k in
-        absurd (ne (one_live r now x.a j k s l lk (pair_joins x (bridge_at_place r j) p) (joins_left x.a x refl) (pair_live r x (bridge_at_place r j) live p e) live))
+        absurd (ne (one_live r now x.a j k s l lk (pair_joins x (bridge_at_place r j) p) (joins_left x.a x refl) (pair_live r x (bridge_at_place r j) live p e)
+        live))
 
 and_two : (a b : Bool) → a ≡ true → b ≡ true → (a && b) ≡ true
 and_two a b p q = cc
@@ -181,7 +191,8 @@ or_two : (a b : Bool) → b ≡ true → (a || b) ≡ true
 or_two true b p = refl
 or_two false b p = p
 
-pub stands_unbridged : (r : Rows) (ds : List Done) (o : Order) (k : ℕ) → Stands r ds → IsSized r.calls r.bridges → last_stamp ds ≤ o.stamp → k < length r.bridges → is_live_in r (bridge_at_place r k) ≡ true →
+pub stands_unbridged : (r : Rows) (ds : List Done) (o : Order) (k : ℕ) → Stands r ds → IsSized r.calls r.bridges → last_stamp ds ≤ o.stamp →
+    k < length r.bridges → is_live_in r (bridge_at_place r k) ≡ true →
     Stands (parted_in r o.stamp (bridge_at_place r k).a) (ds ++ done o (Ok (act.Unbridged (bridge_at_place r k).a (bridge_at_place r k).b)) ∷ [])
 stands_unbridged r ds o k s z late lk live =
     let x = bridge_at_place r k in
@@ -200,7 +211,8 @@ stands_unbridged r ds o k s z late lk live =
 closes_this : (c : ℕ) (x : Bridge) → joins c x ≡ true → ends_bridge x.a x.b (Ok (act.Closed c (Some (other c x)))) ≡ true
 closes_this c x q = elim (cases_Bool (c == x.a)) [
   | inl p ↦ or_one _ _ (and_two _ _ p (ap (λ (t : Bool). (if t then x.b else x.a) == x.b) p ∙ eq-eqb x.b x.b refl))
-  | inr p ↦ or_two _ _ (and_two _ _ (elim (joins_cases c x q) [ inl e ↦ absurd (both _ p (eq-eqb c x.a e)) | inr e ↦ eq-eqb c x.b e ]) (ap (λ (t : Bool). (if t then x.b else x.a) == x.a) p ∙ eq-eqb x.a x.a refl))
+  | inr p ↦ or_two _ _ (and_two _ _ (elim (joins_cases c x q) [ inl e ↦ absurd (both _ p (eq-eqb c x.a e)) | inr e ↦ eq-eqb c x.b e ])
+      (ap (λ (t : Bool). (if t then x.b else x.a) == x.a) p ∙ eq-eqb x.a x.a refl))
 ]
 
 closes_pair : (c : ℕ) (x y : Bridge) → joins c x ≡ true → ends_bridge y.a y.b (Ok (act.Closed c (Some (other c x)))) ≡ true → Pair x y
@@ -230,14 +242,16 @@ sooner r t told d = by t (call_in r d).gone (told d)
     by t None h = h
     by t (Some u) h = omega arith
 
-closed_field : (r : Rows) (t c : ℕ) → c < length r.calls → (call_in r c).closed ≡ None → (k : ℕ) → (call_in (closed_in r t c) k).closed ≡ or_else (call_in r k).closed (if k == c then Some t else None)
+closed_field : (r : Rows) (t c : ℕ) → c < length r.calls → (call_in r c).closed ≡ None → (k : ℕ) → (call_in (closed_in r t c) k).closed
+    ≡ or_else (call_in r k).closed (if k == c then Some t else None)
 closed_field r t c l old k = field_set (λ x. x.closed) r.calls c (record (call_in r c) { closed = Some t }) t l refl old k
 
 stamped : (t : Bool) (d : Done) → (if t then Some d.order.stamp else None) ≡ option_map (λ d. d.order.stamp) (if t then Some d else None)
 stamped true d = refl
 stamped false d = refl
 
-pub stands_closed : (r : Rows) (ds : List Done) (o : Order) (c : ℕ) → Stands r ds → length r.calls ≡ 4097 → last_stamp ds ≤ o.stamp → c < 4097 → is_open_in r c ≡ true → IsSome_before r o.stamp → bridge_in r c ≡ None →
+pub stands_closed : (r : Rows) (ds : List Done) (o : Order) (c : ℕ) → Stands r ds → length r.calls ≡ 4097 → last_stamp ds ≤ o.stamp → c < 4097 → is_open_in r c
+    ≡ true → IsSome_before r o.stamp → bridge_in r c ≡ None →
     Stands (closed_in r o.stamp c) (ds ++ done o (Ok (act.Closed c None)) ∷ [])
 stands_closed r ds o c s len late h lasts told none =
     let d : Done = done o (Ok (act.Closed c None)) in
@@ -246,14 +260,16 @@ stands_closed r ds o c s len late h lasts told none =
     (λ k l. closed_field r o.stamp c (omega arith) (open_parts _ _ _ lasts).1 k ∙ ap (λ u. or_else (call_in r k).closed u) (stamped (k == c) d))
     (λ k q. cc)
     (sym (append-nil _ ∙ map_after_same d r.bridges (λ j l. after_kept d _ refl)))
-    (table_closed r o.stamp o.stamp c (table_later r _ _ s.table late) (omega arith) (open_parts _ _ _ lasts).0 (open_parts _ _ _ lasts).2 (omega arith) (sooner r o.stamp told)
+    (table_closed r o.stamp o.stamp c (table_later r _ _ s.table late) (omega arith) (open_parts _ _ _ lasts).0 (open_parts _ _ _ lasts).2 (omega arith)
+    (sooner r o.stamp told)
     (none_live r _ c s.table (call_in r c).bridge (s.table.latest c h) (λ k e. not_live_at r c k none e)))
 
 -- the parted bridge is live no more
 pub parted_not_live : (r : Rows) (t k : ℕ) → k < length r.bridges → is_live_in (parted_at r t k) (bridge_at_place (parted_at r t k) k) ≡ false
 parted_not_live r t k l = ap (is_live_in (parted_at r t k)) (get_or-set_same r.bridges k (record (bridge_at_place r k) { ended = Some t }) no_bridge l)
 
-pub stands_closed_bridge : (r : Rows) (ds : List Done) (o : Order) (c k : ℕ) → Stands r ds → length r.calls ≡ 4097 → last_stamp ds ≤ o.stamp → c < 4097 → is_open_in r c ≡ true → IsSome_before r o.stamp →
+pub stands_closed_bridge : (r : Rows) (ds : List Done) (o : Order) (c k : ℕ) → Stands r ds → length r.calls ≡ 4097 → last_stamp ds ≤ o.stamp → c < 4097 →
+    is_open_in r c ≡ true → IsSome_before r o.stamp →
     (call_in r c).bridge ≡ Some k → is_live_in r (bridge_at_place r k) ≡ true →
     Stands (closed_in (parted_in r o.stamp c) o.stamp c) (ds ++ done o (Ok (act.Closed c (Some (other c (bridge_at_place r k))))) ∷ [])
 stands_closed_bridge r ds o c k s len late h lasts told e live =
@@ -278,16 +294,19 @@ stands_closed_bridge r ds o c k s len late h lasts told e live =
 
 -- ---- a bridge begins
 
-ended_before : (r : Rows) (now t : ℕ) (x : Bridge) → IsSound r now x → now ≤ t → IsSome_before r t → is_this t x.ended ≡ false → (o : Option ℕ) → x.ended ≡ o → (v : ℕ) → end_in r x ≡ Some v → v < t
+ended_before : (r : Rows) (now t : ℕ) (x : Bridge) → IsSound r now x → now ≤ t → IsSome_before r t → is_this t x.ended ≡ false → (o : Option ℕ) → x.ended ≡ o →
+    (v : ℕ) → end_in r x ≡ Some v → v < t
 ended_before r now t x s late told no_end None e v f =
-    least_before t v (call_in r x.a).gone (call_in r x.b).gone (told x.a) (told x.b) (sym (ap (λ o. least o (least (call_in r x.a).gone (call_in r x.b).gone)) e) ∙ f)
+    least_before t v (call_in r x.a).gone (call_in r x.b).gone (told x.a) (told x.b)
+    (sym (ap (λ o. least o (least (call_in r x.a).gone (call_in r x.b).gone)) e) ∙ f)
 ended_before r now t x s late told no_end (Some u) e v f =
     let k = s.ended u e in
     let g : u ≡ v = cc (k.0, f) in
     let ne : t ≢ u = λ h. both _ (sym (ap (is_this t) e) ∙ no_end) (eq-eqb t u h) in
     omega (arith, k.1, ne)
 
-pub over_before : (r : Rows) (ds : List Done) (t c : ℕ) → Stands r ds → last_stamp ds ≤ t → IsSome_before r t → c < 4097 → bridge_in r c ≡ None → bridge_ended_in r t c ≡ None →
+pub over_before : (r : Rows) (ds : List Done) (t c : ℕ) → Stands r ds → last_stamp ds ≤ t → IsSome_before r t → c < 4097 → bridge_in r c ≡ None →
+    bridge_ended_in r t c ≡ None →
     (j : ℕ) → j < length r.bridges → joins c (bridge_at_place r j) ≡ true → IsOver r t (bridge_at_place r j)
 over_before r ds t c s late told h none no_end j l q = by r ds t c s late told h none no_end j l q (call_in r c).bridge refl (s.table.latest c h)
   where
@@ -295,15 +314,20 @@ over_before r ds t c s late told h none no_end j l q = by r ds t c s late told h
     ends r t x some before None e = absurd (some e)
     ends r t x some before (Some v) e = record { at = v; ended = e; before = before v e }
 
-    by : (r : Rows) (ds : List Done) (t c : ℕ) → Stands r ds → last_stamp ds ≤ t → IsSome_before r t → c < 4097 → bridge_in r c ≡ None → bridge_ended_in r t c ≡ None →
-        (j : ℕ) → j < length r.bridges → joins c (bridge_at_place r j) ≡ true → (o : Option ℕ) → (call_in r c).bridge ≡ o → IsLatest r.bridges c o → IsOver r t (bridge_at_place r j)
+    by : (r : Rows) (ds : List Done) (t c : ℕ) → Stands r ds → last_stamp ds ≤ t → IsSome_before r t → c < 4097 → bridge_in r c ≡ None → bridge_ended_in r t c
+        ≡ None →
+        (j : ℕ) → j < length r.bridges → joins c (bridge_at_place r j) ≡ true → (o : Option ℕ) → (call_in r c).bridge ≡ o → IsLatest r.bridges c o →
+        IsOver r t (bridge_at_place r j)
     by r ds t c s late told h none no_end j l q None e is = absurd (both _ (is j l) q)
     by r ds t c s late told h none no_end j l q (Some k) e is = elim (cases_order j k) [
       | inl p ↦
           let x = bridge_at_place r j in
-          let no_end_k : is_this t (bridge_at_place r k).ended ≡ false = some_if-none _ (bridge_at_place r k) (sym (ap (λ (i : Option ℕ). elim i [ None ↦ None | Some k ↦ some_if (is_this t (bridge_at_place r k).ended) (bridge_at_place r k) ]) e) ∙ no_end) in
+          let no_end_k : is_this t (bridge_at_place r k).ended ≡ false = some_if-none _ (bridge_at_place r k)
+          (sym (ap (λ (i : Option ℕ). elim i [ None ↦ None | Some k ↦ some_if (is_this t (bridge_at_place r k).ended) (bridge_at_place r k) ]) e)
+          ∙ no_end) in
           ends r t x
-          (none_live r _ c s.table (Some k) is (λ m f. ap (λ (m : ℕ). is_live_in r (bridge_at_place r m)) (let g : m ≡ k = cc in g) ∙ not_live_at r c k none e) j l q)
+          (none_live r _ c s.table (Some k) is (λ m f. ap (λ (m : ℕ). is_live_in r (bridge_at_place r m)) (let g : m ≡ k = cc in g) ∙ not_live_at r c k none e)
+          j l q)
           (λ v f. ended_before r _ t x (s.table.sound j l) late told (ap (λ (j : ℕ). is_this t (bridge_at_place r j).ended) p ∙ no_end_k) x.ended refl v f)
           (end_in r x) refl
       | inr (inl p) ↦
@@ -313,7 +337,8 @@ over_before r ds t c s late told h none no_end j l q = by r ds t c s late told h
       | inr (inr p) ↦ absurd (both _ (is.2 j p l) q)
     ]
 
-pub stands_bridged : (r : Rows) (ds : List Done) (o : Order) (a b : ℕ) → Stands r ds → length r.calls ≡ 4097 → last_stamp ds ≤ o.stamp → IsSome_before r o.stamp → a < 4097 → b < 4097 → Joined (known_in r o.stamp) a b →
+pub stands_bridged : (r : Rows) (ds : List Done) (o : Order) (a b : ℕ) → Stands r ds → length r.calls ≡ 4097 → last_stamp ds ≤ o.stamp →
+    IsSome_before r o.stamp → a < 4097 → b < 4097 → Joined (known_in r o.stamp) a b →
     Stands (bridged_in r o.stamp a b) (ds ++ done o (Ok (act.Bridged a b)) ∷ [])
 stands_bridged r ds o a b s len late told la lb j =
     let d : Done = done o (Ok (act.Bridged a b)) in
@@ -335,15 +360,18 @@ abbrev Next : Rows → List Done → Order → Result Act Refusal → Type 0
 Next r ds o x = Stands (applied r o.stamp x) (ds ++ done o x ∷ [])
 
 refused : (r : Rows) (ds : List Done) (o : Order) (x : Result Act Refusal) → Stands r ds → last_stamp ds ≤ o.stamp → IsRefused x → Next r ds o x
-refused r ds o x s late e = subst (λ (x : Result Act Refusal). Next r ds o x) (sym e.1) (stands_same r ds (done o (Err e.0)) s late (λ c. refl) (λ c. refl) (λ a b. refl) refl)
+refused r ds o x s late e = subst (λ (x : Result Act Refusal). Next r ds o x) (sym e.1) (stands_same r ds (done o (Err e.0)) s late (λ c. refl) (λ c. refl)
+    (λ a b. refl) refl)
 
-pub stands_more : (r : Rows) (ds : List Done) (t : ℕ) (w : What) → Stands r ds → IsSized r.calls r.bridges → last_stamp ds ≤ t → IsSome_before r t → NamesCalls w →
+pub stands_more : (r : Rows) (ds : List Done) (t : ℕ) (w : What) → Stands r ds → IsSized r.calls r.bridges → last_stamp ds ≤ t → IsSome_before r t →
+    NamesCalls w →
     Next r ds (record { stamp = t; what = w }) (reply_from (known_in r t) w)
 stands_more r ds t (what.OpenCall c law) s z late told n =
     let o : Order = record { stamp = t; what = what.OpenCall c law } in
     elim (open_accepted (known_in r t) c law) [
       | inl e ↦ refused r ds o _ s late e
-      | inr p ↦ subst (λ (x : Result Act Refusal). Next r ds o x) (sym p.0) (stands_opened r ds o c law s z.all late (omega (arith, n.1)) (never_opened _ _ p.1 p.2))
+      | inr p ↦ subst (λ (x : Result Act Refusal). Next r ds o x) (sym p.0) (stands_opened r ds o c law s z.all late (omega (arith, n.1))
+          (never_opened _ _ p.1 p.2))
     ]
 stands_more r ds t (what.CloseCall c) s z late told n =
     let o : Order = record { stamp = t; what = what.CloseCall c } in
@@ -353,7 +381,8 @@ stands_more r ds t (what.CloseCall c) s z late told n =
       | inr p ↦ subst (λ (x : Result Act Refusal). Next r ds o x) (sym p.0) (closing r ds o c s z late h p.1 told (bridge_in r c) refl)
     ]
   where
-    closing : (r : Rows) (ds : List Done) (o : Order) (c : ℕ) → Stands r ds → IsSized r.calls r.bridges → last_stamp ds ≤ o.stamp → c < 4097 → is_open_in r c ≡ true → IsSome_before r o.stamp → (i : Option Bridge) → bridge_in r c ≡ i →
+    closing : (r : Rows) (ds : List Done) (o : Order) (c : ℕ) → Stands r ds → IsSized r.calls r.bridges → last_stamp ds ≤ o.stamp → c < 4097 → is_open_in r c
+        ≡ true → IsSome_before r o.stamp → (i : Option Bridge) → bridge_in r c ≡ i →
         Next r ds o (Ok (act.Closed c (option_map (other c) i)))
     closing r ds o c s z late h lasts told None e = stands_closed r ds o c s z.all late h lasts told e
     closing r ds o c s z late h lasts told (Some x) e =
@@ -363,7 +392,8 @@ stands_more r ds t (what.Bridge a b) s z late told n =
     let o : Order = record { stamp = t; what = what.Bridge a b } in
     elim (bridge_accepted (known_in r t) a b) [
       | inl e ↦ refused r ds o _ s late e
-      | inr p ↦ subst (λ (x : Result Act Refusal). Next r ds o x) (sym p.0) (stands_bridged r ds o a b s z.all late told (omega (arith, n.0.1)) (omega (arith, n.1.1)) p.1)
+      | inr p ↦ subst (λ (x : Result Act Refusal). Next r ds o x) (sym p.0) (stands_bridged r ds o a b s z.all late told (omega (arith, n.0.1))
+          (omega (arith, n.1.1)) p.1)
     ]
 stands_more r ds t (what.Unbridge c) s z late told n =
     let o : Order = record { stamp = t; what = what.Unbridge c } in
@@ -380,11 +410,13 @@ stands_more r ds t (what.Level c v) s z late told n =
     let o : Order = record { stamp = t; what = what.Level c v } in
     elim (level_accepted (known_in r t) c v) [
       | inl e ↦ refused r ds o _ s late e
-      | inr p ↦ subst (λ (x : Result Act Refusal). Next r ds o x) (sym p.0) (stands_same r ds (done o (Ok (act.LevelSet c v))) s late (λ c. refl) (λ c. refl) (λ a b. refl) refl)
+      | inr p ↦ subst (λ (x : Result Act Refusal). Next r ds o x) (sym p.0) (stands_same r ds (done o (Ok (act.LevelSet c v))) s late (λ c. refl) (λ c. refl)
+          (λ a b. refl) refl)
     ]
 stands_more r ds t (what.Dtx c m) s z late told n =
     let o : Order = record { stamp = t; what = what.Dtx c m } in
     elim (dtx_accepted (known_in r t) c m) [
       | inl e ↦ refused r ds o _ s late e
-      | inr p ↦ subst (λ (x : Result Act Refusal). Next r ds o x) (sym p.0) (stands_same r ds (done o (Ok (act.DtxSet c m))) s late (λ c. refl) (λ c. refl) (λ a b. refl) refl)
+      | inr p ↦ subst (λ (x : Result Act Refusal). Next r ds o x) (sym p.0) (stands_same r ds (done o (Ok (act.DtxSet c m))) s late (λ c. refl) (λ c. refl)
+          (λ a b. refl) refl)
     ]

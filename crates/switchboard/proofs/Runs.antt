@@ -11,11 +11,13 @@ use Rattle.switchboard.specs.Runs.{executed, IsRun, TellsEnds}
 use Rattle.switchboard.specs.State.{State, gone_in, due, after_turn}
 
 executed-more : (whole : ℕ → ℕ) (ds : List Done) (os : List Order) (o : Order) →
-    executed whole ds (os ++ o ∷ []) ≡ executed whole ds os ++ record { order = o; result = reply_to (gone_at whole o.stamp (executed whole ds os)) (executed whole ds os) o } ∷ []
+    executed whole ds (os ++ o ∷ []) ≡ executed whole ds os
+    ++ record { order = o; result = reply_to (gone_at whole o.stamp (executed whole ds os)) (executed whole ds os) o } ∷ []
 executed-more whole ds [] o = refl
 executed-more whole ds (p ∷ os) o = executed-more whole (ds ++ record { order = p; result = reply_to (gone_at whole p.stamp ds) ds p } ∷ []) os o
 
-open_same : (o l : Option ℕ) (x y : Bool) → (is_some o ≡ true → l ≡ None → x ≡ y) → (is_some o && not (is_some l) && not x) ≡ (is_some o && not (is_some l) && not y)
+open_same : (o l : Option ℕ) (x y : Bool) → (is_some o ≡ true → l ≡ None → x ≡ y) → (is_some o && not (is_some l) && not x)
+    ≡ (is_some o && not (is_some l) && not y)
 open_same None l x y h = refl
 open_same (Some s) (Some t) x y h = refl
 open_same (Some s) None x y h = ap not (h refl refl)
@@ -48,6 +50,7 @@ run_turned whole s t r h = by whole s t r h s.left
     by : (whole : ℕ → ℕ) (s : State) (t : ℕ) → IsRun whole s.done → TellsEnds whole t s → (os : List Order) → IsRun whole (after_turn s (due os t)).done
     by whole s t r h [] = r
     by whole s t r h (o ∷ os) = elim (cases_Bool (o.stamp == t)) [
-      | inl e ↦ subst (λ (b : Bool). IsRun whole (after_turn s (if b then Some o else None)).done) (sym e) (run_more whole s o r (subst (λ (t : ℕ). TellsEnds whole t s) (sym (eqb-true o.stamp t e)) h))
+      | inl e ↦ subst (λ (b : Bool). IsRun whole (after_turn s (if b then Some o else None)).done) (sym e)
+          (run_more whole s o r (subst (λ (t : ℕ). TellsEnds whole t s) (sym (eqb-true o.stamp t e)) h))
       | inr e ↦ subst (λ (b : Bool). IsRun whole (after_turn s (if b then Some o else None)).done) (sym e) r
     ]

@@ -20,17 +20,20 @@ position-le r k e =
     let s = ap length (e ∙ filter_map-somes (span_in r) r.bridges) in
     omega (arith, somes-take (map (span_in r) r.bridges) k, p, s)
 
-pub span_at : (r : Rows) (k : ℕ) (o : Option ℕ) → k < length r.bridges → end_in r (bridge_at_place r k) ≡ o → get_or (map (span_in r) r.bridges) k None ≡ option_map (span_to (bridge_at_place r k)) o
+pub span_at : (r : Rows) (k : ℕ) (o : Option ℕ) → k < length r.bridges → end_in r (bridge_at_place r k) ≡ o → get_or (map (span_in r) r.bridges) k None
+    ≡ option_map (span_to (bridge_at_place r k)) o
 span_at r k o h e = get_or-map (span_in r) r.bridges k no_bridge None h ∙ ap (option_map (span_to (bridge_at_place r k))) e
 
-pub position-lt : (r : Rows) (k v : ℕ) → r.spans ≡ filter_map (span_in r) r.bridges → k < length r.bridges → end_in r (bridge_at_place r k) ≡ Some v → position_in r k < length r.spans
+pub position-lt : (r : Rows) (k v : ℕ) → r.spans ≡ filter_map (span_in r) r.bridges → k < length r.bridges → end_in r (bridge_at_place r k) ≡ Some v →
+    position_in r k < length r.spans
 position-lt r k v e h ended =
     let p = position-somes r k in
     let s = ap length (e ∙ filter_map-somes (span_in r) r.bridges) in
     let l = length-map r.bridges (span_in r) in
     omega (arith, somes-take-lt (map (span_in r) r.bridges) k (span_to (bridge_at_place r k) v) (omega arith) (span_at r k (Some v) h ended), p, s)
 
-pub spans-few : (r : Rows) (k : ℕ) → r.spans ≡ filter_map (span_in r) r.bridges → k < length r.bridges → end_in r (bridge_at_place r k) ≡ None → length r.spans < length r.bridges
+pub spans-few : (r : Rows) (k : ℕ) → r.spans ≡ filter_map (span_in r) r.bridges → k < length r.bridges → end_in r (bridge_at_place r k) ≡ None →
+    length r.spans < length r.bridges
 spans-few r k e h ended =
     let s = ap length (e ∙ filter_map-somes (span_in r) r.bridges) in
     let l = length-map r.bridges (span_in r) in

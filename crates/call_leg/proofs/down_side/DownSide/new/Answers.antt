@@ -8,5 +8,6 @@ pub returns : goal.returns
 returns c = record {
   between = c.in_ok-framer.ensures.between;
   value = home-step c.args.law c.in_ok-framer.framer c.new-2.result c.in_ok-waiting.waiting.items (coder_memory c.home.result)
-      c.in_ok-framer.ensures.value c.new-2.ensures.value (ap (λ (b : Buffer (List ℕ)). b.items) c.in_ok-waiting.ensures) c.home.ensures.encoder c.home.ensures.tx;
+      c.in_ok-framer.ensures.value c.new-2.ensures.value (ap (λ (b : Buffer (List ℕ)). b.items) c.in_ok-waiting.ensures) c.home.ensures.encoder
+      c.home.ensures.tx;
 }
