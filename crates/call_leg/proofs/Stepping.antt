@@ -13,7 +13,7 @@ use Rattle.frame_sync.specs.Step as search
 use Rattle.frame_sync.specs.Memory.{SyncMemory}
 use Rattle.std.proofs.Common.{Option}
 use Rattle.rx_handler.specs.Origin.{EffectiveFields}
-use Rattle.rx_handler.specs.Memory as rx
+use Rattle.rx_handler.specs.Memory.{RxMemory}
 use Rattle.rx_handler.specs.Step.{received}
 use Rattle.fr_decoder.specs.Step as decoder
 use Rattle.fr_decoder.specs.Memory.{DecoderMemory}
