@@ -7,8 +7,9 @@
 //! averages and decides on comes beside the parameters.
 //!
 //! `block` has what blocks are coded to, `blocks` codes them, `encoder` is the whole, `laws` has a law. Definitions:
-//! `specs/Encoded.antt` (all frames from home, as one list), `specs/Blocks.antt` (its blocks), `specs/Step.antt`
-//! (from frame to frame), `specs/Coded.antt` (what the structs say).
+//! `specs/Encoded.antt` (all frames from home, as one list), `specs/Blocks.antt` (its blocks), `specs/Memory.antt`,
+//! `specs/Step.antt` and `specs/Stands.antt` (what is kept, one frame, and what the memory stands for),
+//! `specs/Coded.antt` (what the structs say).
 #![tactic(auto)]
 
 mod block;

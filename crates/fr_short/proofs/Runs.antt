@@ -4,7 +4,7 @@ use Rattle.std.proofs.lemmas.List.{length-set, drop_all, take_all, append-nil}
 use Rattle.std.proofs.lemmas.Grind.{take-set_at}
 use Rattle.trau_num.specs.Num.{add_of, mult_r_of}
 use Rattle.fr_short.specs.Deemphasis.{deemphasised, last_of}
-use Rattle.fr_short.specs.Steps.{stepped}
+use Rattle.fr_short.specs.Stepped.{stepped}
 use Rattle.fr_short.specs.Synthesis.{synthesis_lattice, sections_after, filtered_samples}
 
 -- one sample y of the definition, with the coefficients r
@@ -15,13 +15,13 @@ unfolding filtered_samples
 one rs k vs d r y x vs' h er ey ex ev = let e = drop-cons d k (pos 0) h in rw (ex, ev, er, ey, e, add-one) refl
 
 -- what is made of samples as they are, and by de-emphasis
-pub followed_plain : (before : ℤ) (xs : List ℤ) → stepped (λ sample last. sample) before xs ≡ xs
-followed_plain before [] = refl
-followed_plain before (x ∷ xs) = ap (λ l. x ∷ l) (followed_plain x xs)
+pub stepped_plain : (before : ℤ) (xs : List ℤ) → stepped (λ sample last. sample) before xs ≡ xs
+stepped_plain before [] = refl
+stepped_plain before (x ∷ xs) = ap (λ l. x ∷ l) (stepped_plain x xs)
 
-pub followed_emphasis : (before : ℤ) (xs : List ℤ) → stepped (λ sample last. add_of sample (mult_r_of (pos 28180) last)) before xs ≡ deemphasised before xs
-followed_emphasis before [] = refl
-followed_emphasis before (x ∷ xs) = ap (λ l. add_of x (mult_r_of (pos 28180) before) ∷ l) (followed_emphasis (add_of x (mult_r_of (pos 28180) before)) xs)
+pub stepped_deemphasis : (before : ℤ) (xs : List ℤ) → stepped (λ sample last. add_of sample (mult_r_of (pos 28180) last)) before xs ≡ deemphasised before xs
+stepped_deemphasis before [] = refl
+stepped_deemphasis before (x ∷ xs) = ap (λ l. add_of x (mult_r_of (pos 28180) before) ∷ l) (stepped_deemphasis (add_of x (mult_r_of (pos 28180) before)) xs)
 
 -- k samples are done, of which the last was made so, and what is left gives the rest
 pub record Run (f : ℤ → ℤ → ℤ) (rs : ℕ → List ℤ) (start d : List ℤ) (before : ℤ) (vs : List ℤ) (last : ℤ) (s : List ℤ) (k : ℕ) : Type 0 where

@@ -6,7 +6,7 @@ use Rattle.trau_lanes.proofs.Eight.{words_kept, words_passed, factors_passed}
 use Rattle.fr_short.specs.Reflection.{coefficients_of, coefficients_at, part_of, part_start}
 use Rattle.fr_short.specs.Synthesis.{filtered_samples}
 use Rattle.fr_short.specs.Deemphasis.{last_of}
-use Rattle.fr_short.specs.Steps.{stepped}
+use Rattle.fr_short.specs.Stepped.{stepped}
 use Rattle.fr_short.specs.Words.{AreEightFactors}
 use Rattle.fr_short.proofs.Behind.{turned_factors, turned_back}
 use Rattle.fr_short.proofs.Parts.{in_part, parts_follow, frame_ends}
