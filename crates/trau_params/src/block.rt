@@ -23,7 +23,7 @@ pub(crate) struct Block {
 
 impl Block {
     ghost use Rattle.std.specs.Prelude.{◌≡◌, ◌+◌, ◌≤◌, ◌++◌, take};
-    ghost use Rattle.trau_params.specs.FieldBits.{AreBits};
+    ghost use Rattle.trau_bits.specs.Bits.{AreBits};
     ghost use Rattle.trau_params.specs.Block.{bits_of_block};
 
     // Writes the 56 bits of the block at a place, and answers the place after them.

@@ -2,7 +2,8 @@
 
 ghost use Rattle.std.specs.Prelude.{◌≡◌, ℕ, ◌+◌, ◌^◌, ◌<◌, ◌≤◌, ◌++◌, take, All};
 ghost use Rattle.trau_params.specs.Widths.{larc_widths, pulse_widths, xmc_width, FitLarc, FitWidth};
-ghost use Rattle.trau_params.specs.FieldBits.{low_bits, field_bits, AreBits};
+ghost use Rattle.trau_bits.specs.Bits.{AreBits};
+ghost use Rattle.trau_params.specs.FieldBits.{low_bits, field_bits};
 
 use crate::widths::{LARC_WIDTHS, XMC_WIDTH};
 

@@ -32,7 +32,7 @@ pub struct Params {
 }
 
 impl Params {
-    ghost use Rattle.trau_params.specs.FieldBits.{AreBits};
+    ghost use Rattle.trau_bits.specs.Bits.{AreBits};
     ghost use Rattle.trau_params.specs.Bits260.{bits260_of, block_values};
     ghost use Rattle.trau_params.specs.Fields.{fields_of, fields_in};
     ghost use Rattle.trau_params.specs.Shape.{HasShape};
