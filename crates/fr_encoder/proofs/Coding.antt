@@ -1,6 +1,5 @@
 -- The blocks of a frame.
-use Rattle.std.proofs.Common.{◌≡◌, ℕ, ℤ, List, [], ◌∷◌, ◌++◌, drop, refl, sym, All}
-use Rattle.std.proofs.lemmas.List.Elements.{All-cons, All-nil}
+use Rattle.std.proofs.Common.{◌≡◌, ℕ, ℤ, List, [], ◌∷◌, ◌++◌, drop, refl, sym}
 use Rattle.fr_long.specs.Prediction.{Prediction, prediction_of, reconstructed_of}
 use Rattle.fr_long.specs.Step.{updated}
 use Rattle.fr_long.specs.Stands.{after_zeros, HistoryStands}
@@ -65,10 +64,6 @@ four_histories s d0 d1 d2 d3 m0 m1 m2 m3 m4 a b c d e0 e1 e2 e3 first second thi
     let three = third (block_after (block_after past d0).1 d1).1 two.0 in
     let four = fourth (block_after (block_after (block_after past d0).1 d1).1 d2).1 three.0 in
     rw (sym e0, sym e1, sym e2, sym e3, one.1, two.1, three.1, four.1) (four.0, refl)
-
-pub all_four : {X : Type 0} (P : X → Type 0) (a b c d : X) → P a → P b → P c → P d → All P (a ∷ b ∷ c ∷ d ∷ [])
-all_four P a b c d pa pb pc pd =
-    All-cons P a (b ∷ c ∷ d ∷ []) pa (All-cons P b (c ∷ d ∷ []) pb (All-cons P c (d ∷ []) pc (All-cons P d [] pd (All-nil P))))
 
 -- ---- the functions from block to block
 

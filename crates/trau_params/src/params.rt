@@ -122,7 +122,7 @@ impl Params {
         Params::of_blocks(read_larc(bits), first, second, third, fourth)
     }
 
-    // The lengths of the arrays, for proofs: that of a row of pulses shows only where the row is read.
+    /// The lengths of the arrays, for proofs: that of a row of pulses shows only where the row is read.
     pub(crate) fn shape(self)
         ensures { HasShape self }
     {
