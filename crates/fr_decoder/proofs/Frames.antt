@@ -27,13 +27,15 @@ use Rattle.fr_long.specs.Synthesis.{LtpBlock, residual_of}
 use Rattle.fr_decoder.specs.Blocks.{ltp_block, one_block, two_blocks, three_blocks, four_blocks, frame_residual}
 
 -- a frame into which four blocks were put, one behind the other
-pub four_put : (f1 f2 f3 f4 a b c d : List ℤ) → length f4 ≡ 160 → take 40 f1 ≡ a → take 80 f2 ≡ take 40 f1 ++ b → take 120 f3 ≡ take 80 f2 ++ c → take 160 f4 ≡ take 120 f3 ++ d → f4 ≡ a ++ b ++ c ++ d
+pub four_put : (f1 f2 f3 f4 a b c d : List ℤ) → length f4 ≡ 160 → take 40 f1 ≡ a → take 80 f2 ≡ take 40 f1 ++ b → take 120 f3 ≡ take 80 f2 ++ c →
+    take 160 f4 ≡ take 120 f3 ++ d → f4 ≡ a ++ b ++ c ++ d
 four_put f1 f2 f3 f4 a b c d long first second third fourth =
     sym (take_all 160 f4 (omega arith)) ∙ fourth ∙ ap (λ l. l ++ d) (third ∙ ap (λ l. l ++ c) (second ∙ ap (λ l. l ++ b) first))
 
 -- the steps of four blocks are the step of the frame
 pub four_steps : (f : Fields) (m0 m1 m2 m3 m4 : LtpMemory) (a b c d : List ℤ) →
-    synthesised m0 (ltp_block f 0) ≡ (a, m1) → synthesised m1 (ltp_block f 1) ≡ (b, m2) → synthesised m2 (ltp_block f 2) ≡ (c, m3) → synthesised m3 (ltp_block f 3) ≡ (d, m4) →
+    synthesised m0 (ltp_block f 0) ≡ (a, m1) → synthesised m1 (ltp_block f 1) ≡ (b, m2) → synthesised m2 (ltp_block f 2) ≡ (c, m3) →
+    synthesised m3 (ltp_block f 3) ≡ (d, m4) →
     synthesised_blocks m0 f ≡ (a ++ b ++ c ++ d, m4)
 unfolding synthesised_blocks
 four_steps f m0 m1 m2 m3 m4 a b c d first second third fourth = rw (first, second, third, fourth) refl
@@ -88,9 +90,12 @@ frame-stands f past m h =
     let blocks = synthesised_blocks m.long_term f in
     let one = blocks-stand f (blocks_of past) m.long_term h.long_term in
     let two = lattice-stands f.larc blocks.0 (residual_frames past) m.short_term h.short_term in
-    let frames : residual_frame f.larc blocks.0 ∷ residual_frames past ≡ residual_frames (f ∷ past) = ap (λ r. residual_frame f.larc r ∷ residual_frames past) one.1 in
-    let samples : (synthesised_frame m.short_term f.larc blocks.0).0 ≡ (synthesis_of (residual_frames (f ∷ past))).0 = two.1 ∙ ap (λ fs. (synthesis_of fs).0) frames in
-    let msr : deemphasised m.msr (synthesised_frame m.short_term f.larc blocks.0).0 ≡ deemphasised (last_msr past) (synthesis_of (residual_frames (f ∷ past))).0 =
+    let frames : residual_frame f.larc blocks.0 ∷ residual_frames past ≡ residual_frames (f ∷ past) =
+    ap (λ r. residual_frame f.larc r ∷ residual_frames past) one.1 in
+    let samples : (synthesised_frame m.short_term f.larc blocks.0).0 ≡ (synthesis_of (residual_frames (f ∷ past))).0 = two.1 ∙
+    ap (λ fs. (synthesis_of fs).0) frames in
+    let msr : deemphasised m.msr (synthesised_frame m.short_term f.larc blocks.0).0 ≡ deemphasised (last_msr past)
+    (synthesis_of (residual_frames (f ∷ past))).0 =
     ap (λ b. deemphasised b (synthesised_frame m.short_term f.larc blocks.0).0) h.msr ∙ ap (deemphasised (last_msr past)) samples in (
       record {
         long_term = one.0;
@@ -156,4 +161,5 @@ truncated-fits msr =
 
 pub samples-fit : (f : Fields) (past : List Fields) → All (λ x. FitsSigned w16 x) (samples_of f past)
 unfolding samples_of
-samples-fit f past = All-map (λ x. FitsSigned w16 x) truncated (deemphasised (last_msr past) (synthesis_of (residual_frames (f ∷ past))).0) (λ k d l. truncated-fits _)
+samples-fit f past =
+    All-map (λ x. FitsSigned w16 x) truncated (deemphasised (last_msr past) (synthesis_of (residual_frames (f ∷ past))).0) (λ k d l. truncated-fits _)

@@ -102,7 +102,8 @@ filter-older (octets ∷ past) k h =
     filter-other k (length past) (yield_of octets past) (ends-yield_of octets past) (inr (omega (arith, h))) in
     filter-more k octets past ∙ rw (old, new) refl
 
-each_yield-early : (octets : List ℕ) (past : List (List ℕ)) (k : ℕ) → k < length past → get_or (each_yield (octets ∷ past)) k None ≡ get_or (each_yield past) k None
+each_yield-early : (octets : List ℕ) (past : List (List ℕ)) (k : ℕ) → k < length past →
+    get_or (each_yield (octets ∷ past)) k None ≡ get_or (each_yield past) k None
 unfolding each_yield
 each_yield-early octets past k h =
     let count = length-each_yield past in
@@ -138,7 +139,8 @@ newest-of-all : (octets : List ℕ) (past : List (List ℕ)) (ys : List Yield) �
     filter (ends_in (length past)) ys ≡ option_to_list (yield_of octets past)
 newest-of-all octets past ys h y =
     let same : ys ≡ all_yields (reverse (octets ∷ past)) =
-    same_yields (all_bits (reverse (octets ∷ past))) ys (all_yields (reverse (octets ∷ past))) y (all_yields-are (reverse (octets ∷ past)) (are_periods-reverse (octets ∷ past) h)) in
+    same_yields (all_bits (reverse (octets ∷ past))) ys (all_yields (reverse (octets ∷ past))) y
+    (all_yields-are (reverse (octets ∷ past)) (are_periods-reverse (octets ∷ past) h)) in
     let count : length (reverse (octets ∷ past)) ≡ suc (length past) = length-reverse (octets ∷ past) in
     ap (filter (ends_in (length past))) same ∙ filter-yields (reverse (octets ∷ past)) (length past) (omega arith) ∙
     ap (λ l. option_to_list (get_or (each_yield l) (length past) None)) (reverse-reverse (octets ∷ past)) ∙ ap option_to_list (each_yield-newest octets past)

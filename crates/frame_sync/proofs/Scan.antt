@@ -78,7 +78,8 @@ unmatched_next w first end u not_here = record {
 }
 
 -- too few zeros
-pub unmatched_few : (w : List ℕ) (first end run_length : ℕ) → Counted w first (end + 1) run_length → run_length < 16 → Unmatched w first end → Unmatched w first (end + 1)
+pub unmatched_few : (w : List ℕ) (first end run_length : ℕ) → Counted w first (end + 1) run_length → run_length < 16 → Unmatched w first end →
+    Unmatched w first (end + 1)
 unmatched_few w first end run_length c few u = unmatched_next w first end u (λ o l e m.
     let long : end + 1 ≤ o + run_length = c.longest o l (omega arith) (λ k a b.
     let i : o + (k - o) ≡ k = omega arith in

@@ -151,7 +151,8 @@ given-past (octets ∷ past) h =
     let count : length (line_bits past ++ bits_of octets) ≡ 320 * length past + 320 =
     length-append (line_bits past) (bits_of octets) ∙ (let n = length-bits_of octets in omega arith) in
     let none : NoneEnds (line_bits past ++ bits_of octets) (320 * length past) (mode_after past) =
-    subst (λ n. NoneEnds (line_bits past ++ bits_of octets) n (mode_after past)) before (none_ends-more (line_bits past) (bits_of octets) (mode_after past) old.none) in
+    subst (λ n. NoneEnds (line_bits past ++ bits_of octets) n (mode_after past)) before
+    (none_ends-more (line_bits past) (bits_of octets) (mode_after past) old.none) in
     let found : Option Yield × Mode = searched (bit_in (line_bits past ++ bits_of octets)) (320 * length past) (mode_after past) in
     rw (flat_map-one (each_yield past) found.0)
     (given-adds (line_bits past ++ bits_of octets) (flat_map option_to_list (each_yield past)) (mode_after past) found.0 found.1

@@ -73,7 +73,8 @@ unfolding old_at old_of anchor_of
 old-history heard zero q = either (is_anchor (heard 0)) q
 old-history heard (suc k) q =
     both (is_anchor (heard (suc k))) _ _ _ _
-    (start_same heard k (λ r. old_at heard k r) (λ r. old_of (periods_before heard (suc k)) r) q (latest_anchor heard k) (anchor_of (periods_before heard (suc k)))
+    (start_same heard k (λ r. old_at heard k r) (λ r. old_of (periods_before heard (suc k)) r) q (latest_anchor heard k)
+    (anchor_of (periods_before heard (suc k)))
     (old-history heard k) (tells heard k))
     (old-history heard k q)
 
@@ -105,7 +106,8 @@ origin-history heard k =
 drawn-history : (heard : ℕ → Heard) (k : ℕ) → draws_before heard k ≡ drawn (periods_before heard k)
 unfolding draws_before drawn
 drawn-history heard zero = refl
-drawn-history heard (suc k) = ap (λ n. n + draws_of (origin_at heard k)) (drawn-history heard k) ∙ ap (λ o. drawn (periods_before heard k) + draws_of o) (origin-history heard k)
+drawn-history heard (suc k) = ap (λ n. n + draws_of (origin_at heard k)) (drawn-history heard k) ∙
+    ap (λ o. drawn (periods_before heard k) + draws_of o) (origin-history heard k)
 
 effective-periods : (call : ℕ) (heard : ℕ → Heard) (k : ℕ) → effective_at call heard k ≡ effective_of call (periods_before heard (suc k))
 unfolding effective_at effective_of
@@ -123,7 +125,8 @@ heard_last y past rest =
 
 pub periods_before-history : (past rest : List Heard) → periods_before (heard_in (reverse_aux past rest)) (length past) ≡ past
 periods_before-history [] rest = refl
-periods_before-history (y ∷ past) rest = ap (λ x. x ∷ periods_before (heard_in (reverse_aux past (y ∷ rest))) (length past)) (heard_last y past rest) ∙ ap (λ ys. y ∷ ys) (periods_before-history past (y ∷ rest))
+periods_before-history (y ∷ past) rest = ap (λ x. x ∷ periods_before (heard_in (reverse_aux past (y ∷ rest))) (length past)) (heard_last y past rest) ∙
+    ap (λ ys. y ∷ ys) (periods_before-history past (y ∷ rest))
 
 pub effective-history : (call : ℕ) (y : Heard) (past rest : List Heard) →
     effective_at call (heard_in (reverse_aux past (y ∷ rest))) (length past) ≡ effective_of call (y ∷ past)

@@ -32,7 +32,8 @@ loss_more missed old step (AtSid q since) =
     let count = missed_more missed since in
     let fall = fall_more missed since in
     ap (λ k. Noise (old q) q (min (step + 1) 8) k (min (periods_of_fall (Lost missed ∷ since)) 17)) count ∙
-    ap (λ f. Noise (old q) q (min (step + 1) 8) (missed_after (min (missed_in since) 2) missed) f) (fall ∙ ap (λ k. fall_after k (min (periods_of_fall since) 17)) count)
+    ap (λ f. Noise (old q) q (min (step + 1) 8) (missed_after (min (missed_in since) 2) missed) f)
+    (fall ∙ ap (λ k. fall_after k (min (periods_of_fall since) 17)) count)
 
 -- ---- the step of the table
 
@@ -64,7 +65,8 @@ near (Idle ∷ past) = tt
 near (Lost missed ∷ past) = near_more missed (λ q. old_of past q) (step_of past) (anchor_of past) (near past)
 
 -- so the noise stands where it does by numbers
-moved_same : (old q : Fields) (step : ℕ) (since : List Heard) → (step ≡ min (length since + 1) 8) ⊎ ((old ≡ q) × (step ≤ 8)) → mix_of old q step ≡ moved old q since
+moved_same : (old q : Fields) (step : ℕ) (since : List Heard) → (step ≡ min (length since + 1) 8) ⊎ ((old ≡ q) × (step ≤ 8)) →
+    mix_of old q step ≡ moved old q since
 moved_same old q step since n = elim n [
   | inl e ↦ ap (mix_of old q) e
   | inr s ↦
@@ -111,12 +113,14 @@ unfolding received drawn effective_of
 received_more call past memory y answer after step stands =
     let origin : Origin = origin_of (y ∷ past) in
     let state : next_state memory.state y ≡ state_at (y ∷ past) = ap (λ s. next_state s y) stands.state ∙ sym (state-more y past) in
-    let same : origin_by (next_state memory.state y) ≡ origin = ap origin_by state ∙ origin_same (λ q. old_of (y ∷ past) q) (step_of (y ∷ past)) (anchor_of (y ∷ past)) (near (y ∷ past)) in
+    let same : origin_by (next_state memory.state y) ≡ origin = ap origin_by state ∙
+    origin_same (λ q. old_of (y ∷ past) q) (step_of (y ∷ past)) (anchor_of (y ∷ past)) (near (y ∷ past)) in
     let source : memory.source ≡ state_after call (drawn past) = stands.source in
     let frame : frame_of (origin_by (next_state memory.state y)) (draw_of memory.source) ≡ frame_of origin (draws_from call (drawn past)) =
     ap (λ o. frame_of o (draw_of memory.source)) same ∙ ap (λ r. frame_of origin (draw_of r)) source ∙ from_here origin call (drawn past) in
     let drawn_on : state_after memory.source (draws_of (origin_by (next_state memory.state y))) ≡ state_after call (drawn past + draws_of origin) =
-    ap (λ o. state_after memory.source (draws_of o)) same ∙ ap (λ r. state_after r (draws_of origin)) source ∙ state_after-state_after call (drawn past) (draws_of origin) in
+    ap (λ o. state_after memory.source (draws_of o)) same ∙ ap (λ r. state_after r (draws_of origin)) source ∙
+    state_after-state_after call (drawn past) (draws_of origin) in
     (record { state = ap (λ m. m.1.state) (sym step) ∙ state; source = ap (λ m. m.1.source) (sym step) ∙ drawn_on }, ap (λ m. m.0) (sym step) ∙ frame)
 
 -- a step of the table by its parts

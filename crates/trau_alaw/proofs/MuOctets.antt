@@ -46,7 +46,8 @@ same_truth false false e = refl
 is_positive-is : (octet : ℕ) → octet < 256 → (mulaw octet).is_positive ≡ nat_le 128 (bit_xor octet 127)
 unfolding mulaw
 is_positive-is octet h =
-    same_truth _ _ (eqb-true _ _ (entry (λ n. nat_eq (if nat_lt (bit_xor n 255) 128 then 1 else 0) (if nat_le 128 (bit_xor n 127) then 1 else 0)) 256 octet sign_table h))
+    same_truth _ _ (eqb-true _ _ (entry (λ n. nat_eq (if nat_lt (bit_xor n 255) 128 then 1 else 0) (if nat_le 128 (bit_xor n 127) then 1 else 0)) 256 octet
+    sign_table h))
 
 pub mulaw_laid : IsLaid mulaw 127 start
 mulaw_laid = record {

@@ -9,6 +9,7 @@ apart line p q m n lt = elim (cases_lt q (p + 305)) [
   | inl near ↦
       let row : ℕ = (q - p + 15) / 16 in
       let same : q + (p + 16 * row - q) ≡ p + 16 * row = omega arith in
-      absurd (let e : 0 ≡ 1 = sym (match_zeros line q n (p + 16 * row - q) (omega arith)) ∙ ap line same ∙ match_ones line p m row (omega arith) (omega arith) in omega arith)
+      absurd (let e : 0 ≡ 1 = sym (match_zeros line q n (p + 16 * row - q) (omega arith)) ∙ ap line same ∙
+      match_ones line p m row (omega arith) (omega arith) in omega arith)
   | inr far ↦ far
 ]

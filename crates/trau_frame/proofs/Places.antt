@@ -88,7 +88,8 @@ from_is_within (Time t) h = grind (arith, common_steps)
 -- ---- roles
 
 pub role_of-place_of : (r : Role) → IsWithin r → role_of (place_of_role r) ≡ r
-role_of-place_of (Sync bit) h = from_same _ _ (entry (λ bit. same_role (role_of (place_of_role (Sync bit))) (Sync bit)) 0 2 bit sync_table (omega arith) (omega arith))
+role_of-place_of (Sync bit) h =
+    from_same _ _ (entry (λ bit. same_role (role_of (place_of_role (Sync bit))) (Sync bit)) 0 2 bit sync_table (omega arith) (omega arith))
 role_of-place_of (Control c) h = from_same _ _ (entry (λ c. same_role (role_of (place_of_role (Control c))) (Control c)) 1 21 c control_table h.0 (omega arith))
 role_of-place_of (Data n) h = from_same _ _ (entry (λ n. same_role (role_of (place_of_role (Data n))) (Data n)) 1 260 n data_table h.0 (omega arith))
 role_of-place_of (Time t) h = from_same _ _ (entry (λ t. same_role (role_of (place_of_role (Time t))) (Time t)) 1 4 t time_table h.0 (omega arith))
@@ -109,7 +110,8 @@ only_here (Data n) i t h = search rules
 only_here (Time n) i t h = search rules
 
 pub place_of-role_of : (i : ℕ) → i < 320 → ((bit : ℕ) → role_of i ≡ Sync bit → ⊥) → place_of_role (role_of i) ≡ i
-place_of-role_of i l h = only_here (role_of i) i (entry (λ i. is_sync (role_of i) || nat_eq (place_of_role (role_of i)) i) 0 320 i only_table (omega arith) (omega arith)) h
+place_of-role_of i l h =
+    only_here (role_of i) i (entry (λ i. is_sync (role_of i) || nat_eq (place_of_role (role_of i)) i) 0 320 i only_table (omega arith) (omega arith)) h
 
 -- ---- sync bits
 

@@ -34,7 +34,8 @@ unfolding number_of number_by
 number_of-up_bits f first zero l h = refl
 number_of-up_bits f first (suc n) l h =
     let e : number_of (up_bits f) first n ≡ number_by (up_control_bit (words_of f)) first n = number_of-up_bits f first n l (omega (arith, h)) in
-    let b : bit_with (up_bits f) (Control (first + n)) ≡ up_control_bit (words_of f) (first + n) = control-again f (first + n) (omega arith) (omega (arith, h)) in
+    let b : bit_with (up_bits f) (Control (first + n)) ≡ up_control_bit (words_of f) (first + n) =
+    control-again f (first + n) (omega arith) (omega (arith, h)) in
     cc
 
 up_pattern-below : (kind : Kind) → up_pattern kind < 32

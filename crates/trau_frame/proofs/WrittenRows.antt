@@ -101,7 +101,8 @@ written_part control d bits ys row k r fifteen len part same h =
             get_or-put_mid (32 + 16 * row + 1) k bits ys j (omega arith) (omega arith) ∙
             ap (λ l. get_or l j 0) same ∙ get_or-part d (15 * row) 15 j (omega arith) small ∙
             ap (λ n. get_or d n 0) (sym index) ∙
-            sym (ap (bit_for control d) (role_of-at (Data (15 * row + j + 1)) i (omega arith, omega arith) (place_of-row row j (15 * row + j + 1) r small refl ∙ place)))
+            sym (ap (bit_for control d) (role_of-at (Data (15 * row + j + 1)) i (omega arith, omega arith)
+            (place_of-row row j (15 * row + j + 1) r small refl ∙ place)))
       ];
     }
 

@@ -23,7 +23,8 @@ hangs_by None = refl
 hangs_by (Some place) = grind (arith, common_steps)
 
 -- the last SID is the same one frame later
-sid-later : (sid : Fields) (o : Option SidPlace) → IfSome o (λ place. sid ≡ sid_of place.four) → IfSome (option_map one_later o) (λ place. sid ≡ sid_of place.four)
+sid-later : (sid : Fields) (o : Option SidPlace) → IfSome o (λ place. sid ≡ sid_of place.four) →
+    IfSome (option_map one_later o) (λ place. sid ≡ sid_of place.four)
 sid-later sid None h = tt
 sid-later sid (Some place) h = h
 
@@ -47,7 +48,8 @@ recent-more f past recent e = ap (λ z. f.measures ∷ take 2 z) e ∙ ap (λ z.
     take_take (a ∷ b ∷ c ∷ xs) = refl
 
 -- the newest four, where a pause of four comes before
-pub newest-four : (f : Coded) (past : List Coded) (recent : List Measures) → recent ≡ take 3 (map (λ f. f.measures) past ++ replicate 3 no_measures) → 4 ≤ length past →
+pub newest-four : (f : Coded) (past : List Coded) (recent : List Measures) → recent ≡ take 3 (map (λ f. f.measures) past ++ replicate 3 no_measures) →
+    4 ≤ length past →
     f.measures ∷ recent ≡ newest_four (f ∷ past)
 newest-four f [] recent e l = absurd (omega arith)
 newest-four f (a ∷ []) recent e l = absurd (omega arith)
@@ -90,7 +92,8 @@ pub one_longer : (f : Coded) (past : List Coded) → is_active f ≡ false → p
 one_longer f past n = cond-false (is_active f) 0 (suc (pause_of past)) n
 
 -- an inactive frame after four
-pub sid-counts : (f : Coded) (past : List Coded) (m : TxMemory) → is_active f ≡ false → 4 ≤ pause_of past → Stands past m → Counts (f ∷ past) (after_sid m (f.measures ∷ m.recent))
+pub sid-counts : (f : Coded) (past : List Coded) (m : TxMemory) → is_active f ≡ false → 4 ≤ pause_of past → Stands past m →
+    Counts (f ∷ past) (after_sid m (f.measures ∷ m.recent))
 sid-counts f past m n l s =
     let longer = one_longer f past n in
     let place = sid_place f past (le-leb 5 (pause_of (f ∷ past)) (omega arith)) in
@@ -120,7 +123,8 @@ hangs-now f (g ∷ past) m n l s = elim (cases_Bool (is_active g)) [
 ]
 
 -- an inactive frame after fewer than four
-pub early-counts : (f : Coded) (past : List Coded) (m : TxMemory) → is_active f ≡ false → pause_of past < 4 → Stands past m → Counts (f ∷ past) (after_early m (pause_of past + 1))
+pub early-counts : (f : Coded) (past : List Coded) (m : TxMemory) → is_active f ≡ false → pause_of past < 4 → Stands past m →
+    Counts (f ∷ past) (after_early m (pause_of past + 1))
 early-counts f past m n l s =
     let longer = one_longer f past n in
     let place = no_place f past (not_place f past (omega arith)) in

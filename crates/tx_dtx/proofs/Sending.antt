@@ -35,7 +35,8 @@ sent-early : (f : Coded) (sid : Fields) (o : Option SidPlace) → IfSome o (λ p
 sent-early f sid None h = refl
 sent-early f sid (Some place) h = by (nat_le 24 (place.since + 1))
   where
-    by : (b : Bool) → (if is_none (if b then None else Some place) then itself f.fields else record { fields = sid; sp = false }) ≡ sent_early f (if b then None else Some place)
+    by : (b : Bool) → (if is_none (if b then None else Some place) then itself f.fields else record { fields = sid; sp = false }) ≡ sent_early f
+    (if b then None else Some place)
     by true = refl
     by false = ap (λ z. let s : Sent = record { fields = z; sp = false } in s) h
 
@@ -58,18 +59,21 @@ takes-sid f past m n l s =
     let long = pause-length past in
     record {
       sent = ap silence (newest-four f past m.recent s.recent (omega arith)) ∙
-          sym (cond-false (is_active f) (itself f.fields) _ n ∙ cond-true (is_sid_place (f ∷ past)) (silence (newest_four (f ∷ past))) _ (le-leb 5 (pause_of (f ∷ past)) (omega arith)));
+          sym (cond-false (is_active f) (itself f.fields) _ n ∙
+          cond-true (is_sid_place (f ∷ past)) (silence (newest_four (f ∷ past))) _ (le-leb 5 (pause_of (f ∷ past)) (omega arith)));
       counts = sid-counts f past m n l s;
     }
 
-takes-early : (f : Coded) (past : List Coded) (m : TxMemory) → is_active f ≡ false → pause_of past < 4 → Stands past m → Takes f past (early m (pause_of past + 1) f.fields)
+takes-early : (f : Coded) (past : List Coded) (m : TxMemory) → is_active f ≡ false → pause_of past < 4 → Stands past m →
+    Takes f past (early m (pause_of past + 1) f.fields)
 unfolding sent_of
 takes-early f past m n l s =
     let longer = one_longer f past n in
     record {
       sent = ap (λ b. if b then itself f.fields else record { fields = m.sid; sp = false }) (hangs-now f past m n l s) ∙
           sent-early f m.sid (latest_place (before_pause past)) (sid-before past m.sid l s.sid) ∙
-          sym (cond-false (is_active f) (itself f.fields) _ n ∙ cond-false (is_sid_place (f ∷ past)) (silence (newest_four (f ∷ past))) _ (not_place f past (omega arith)));
+          sym (cond-false (is_active f) (itself f.fields) _ n ∙
+          cond-false (is_sid_place (f ∷ past)) (silence (newest_four (f ∷ past))) _ (not_place f past (omega arith)));
       counts = early-counts f past m n l s;
     }
 
@@ -81,12 +85,14 @@ takes-inactive f past m n s =
       | inl short ↦
           let now : min (m.run + 1) 5 ≡ pause_of past + 1 = omega arith in
           subst (Takes f past)
-          (sym (cond-false (min (m.run + 1) 5 == 5) (described m f.measures) (early m (min (m.run + 1) 5) f.fields) (ne_eqb (min (m.run + 1) 5) 5 (omega arith)) ∙
+          (sym (cond-false (min (m.run + 1) 5 == 5) (described m f.measures) (early m (min (m.run + 1) 5) f.fields)
+          (ne_eqb (min (m.run + 1) 5) 5 (omega arith)) ∙
           ap (λ r. early m r f.fields) now))
           (takes-early f past m n short s)
       | inr long ↦
           subst (Takes f past)
-          (sym (cond-true (min (m.run + 1) 5 == 5) (described m f.measures) (early m (min (m.run + 1) 5) f.fields) (eq-eqb (min (m.run + 1) 5) 5 (omega arith))))
+          (sym (cond-true (min (m.run + 1) 5 == 5) (described m f.measures) (early m (min (m.run + 1) 5) f.fields)
+          (eq-eqb (min (m.run + 1) 5) 5 (omega arith))))
           (takes-sid f past m n long s)
     ]
 
@@ -94,7 +100,8 @@ takes : (f : Coded) (past : List Coded) (m : TxMemory) → Stands past m → Tak
 unfolding taken
 takes f past m s = elim (cases_Bool (is_active f)) [
   | inl a ↦ subst (Takes f past) (sym (cond-true (is_active f) (itself f.fields, after_active m) (paused m f.fields f.measures) a)) (takes-active f past m a s)
-  | inr n ↦ subst (Takes f past) (sym (cond-false (is_active f) (itself f.fields, after_active m) (paused m f.fields f.measures) n)) (takes-inactive f past m n s)
+  | inr n ↦ subst (Takes f past) (sym (cond-false (is_active f) (itself f.fields, after_active m) (paused m f.fields f.measures) n))
+      (takes-inactive f past m n s)
 ]
 
 -- ---- a whole step
@@ -103,7 +110,8 @@ taken-recent : (m : TxMemory) (f : Coded) → (taken m f).1.recent ≡ m.recent
 unfolding taken paused
 taken-recent m f = by (is_active f) (min (m.run + 1) 5 == 5)
   where
-    by : (a b : Bool) → (if a then (itself f.fields, after_active m) else if b then described m f.measures else early m (min (m.run + 1) 5) f.fields).1.recent ≡ m.recent
+    by : (a b : Bool) → (if a then (itself f.fields, after_active m) else if b then described m f.measures else early m
+        (min (m.run + 1) 5) f.fields).1.recent ≡ m.recent
     by true b = refl
     by false true = refl
     by false false = refl
@@ -125,9 +133,11 @@ step-stands f past m s =
     )
 
 -- a step, by its parts
-pub stepped_by : (m : TxMemory) (f : Coded) (sent : Sent) (between now : TxMemory) → taken m f ≡ (sent, between) → now ≡ remembered between f.measures → next_sent m f ≡ (sent, now)
+pub stepped_by : (m : TxMemory) (f : Coded) (sent : Sent) (between now : TxMemory) → taken m f ≡ (sent, between) → now ≡ remembered between f.measures →
+    next_sent m f ≡ (sent, now)
 unfolding next_sent
-stepped_by m f sent between now t r = ap (λ (out : Sent × TxMemory). let s : Sent × TxMemory = (out.0, remembered out.1 f.measures) in s) t ∙ ap (λ z. let s : Sent × TxMemory = (sent, z) in s) (sym r)
+stepped_by m f sent between now t r = ap (λ (out : Sent × TxMemory). let s : Sent × TxMemory = (out.0, remembered out.1 f.measures) in s) t ∙
+    ap (λ z. let s : Sent × TxMemory = (sent, z) in s) (sym r)
 
 -- the same in the stretch
 pub step-history : (m : TxMemory) (f : Coded) (sent : Sent) (now : TxMemory) (past : List Coded) → next_sent m f ≡ (sent, now) → Stands past m →
