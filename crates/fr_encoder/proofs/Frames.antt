@@ -85,7 +85,11 @@ analysis-stands codes samples past m h =
 -- at home no frame was encoded
 pub home-stands : Stands [] home_memory
 unfolding sample_frames reconstructed preprocessed_frame samples_of_frames newest_sample_ratios analysis_of
-home-stands = record { preprocessing = record { after = refl }; short_term = record { ratios = refl; sections = refl }; long_term = record { residuals_are = refl } }
+home-stands = record {
+  preprocessing = record { after = refl };
+  short_term = record { ratios = refl; sections = refl };
+  long_term = record { residuals_are = refl };
+}
 
 -- one frame more, of any past
 pub frame-stands : (x : List ℤ) (past : List (List ℤ)) (m : EncoderMemory) → Stands past m →

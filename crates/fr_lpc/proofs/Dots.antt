@@ -32,7 +32,8 @@ samples_small s h k =
       | inr g ↦ subst (Within 2048) (sym (get_or_past s k (pos 0) g)) (omega arith)
     ]
 
-pub past_small : (s past : List ℤ) → length past ≡ 168 → AreWithin 2048 s → ((i : ℕ) → i < 8 → entry past i ≡ pos 0) → ((i : ℕ) → i < 160 → entry past (8 + i) ≡ entry s i) → AreSmall past
+pub past_small : (s past : List ℤ) → length past ≡ 168 → AreWithin 2048 s → ((i : ℕ) → i < 8 → entry past i ≡ pos 0) →
+    ((i : ℕ) → i < 160 → entry past (8 + i) ≡ entry s i) → AreSmall past
 past_small s past l h z e k =
     elim (cases_lt k 8) [
       | inl a ↦ subst (Within 2048) (sym (z k a)) (omega arith)
@@ -49,7 +50,8 @@ pub passed : (xs ys : List ℤ) (i : ℕ) → AreSmall ys → xs ≡ chunk i 8 y
 passed xs ys i h e = lanes_passed 2048 xs (chunk i 8 ys) (lit≤ tt) (small_chunk ys i h) e
 
 pub passed_within : (m : ℕ) (xs ys : List ℤ) (i : ℕ) → 2048 ≤ m → AreSmall ys → xs ≡ chunk i 8 ys → Each1 (Within m) (map (to_z w32) (map (of_z w32) xs))
-passed_within m xs ys i l h e = subst (Each1 (Within m)) (sym (passed xs ys i h e)) (Each1-weaker (Within 2048) (Within m) (λ x b. omega arith) (chunk i 8 ys) (small_chunk ys i h))
+passed_within m xs ys i l h e =
+    subst (Each1 (Within m)) (sym (passed xs ys i h e)) (Each1-weaker (Within 2048) (Within m) (λ x b. omega arith) (chunk i 8 ys) (small_chunk ys i h))
 
 pub row_within : (s past : List ℤ) (i at : ℕ) → AreSmall s → AreSmall past → Each1 (Within 4194304) (row s past i at)
 row_within s past i at a b = products_within 2048 2048 (chunk i 8 s) (chunk at 8 past) (small_chunk s i a) (small_chunk past at b)
@@ -59,7 +61,8 @@ pub row_passed : (s past xs ys ps : List ℤ) (i at : ℕ) → AreSmall s → Ar
 row_passed s past xs ys ps i at a b ex ey ep =
     lanes_passed 4194304 ps (row s past i at) (lit≤ tt) (row_within s past i at a b) (ep ∙ (λ j. zip2 ◌*ℤ◌ (passed xs s i a ex j) (passed ys past at b ey j)))
 
-pub next_within : (n : ℕ) (sums ps : List ℤ) → Each1 (Within (8388608 * n)) sums → Each1 (Within 8388608) ps → Each1 (Within (8388608 * (n + 1))) (zip2 ◌+ℤ◌ sums ps)
+pub next_within : (n : ℕ) (sums ps : List ℤ) → Each1 (Within (8388608 * n)) sums → Each1 (Within 8388608) ps →
+    Each1 (Within (8388608 * (n + 1))) (zip2 ◌+ℤ◌ sums ps)
 next_within n sums ps a b =
     let e : 8388608 * n + 8388608 ≡ 8388608 * (n + 1) = omega arith in
     subst (λ m. Each1 (Within m) (zip2 ◌+ℤ◌ sums ps)) e (sums_within (8388608 * n) 8388608 sums ps a b)
@@ -102,4 +105,5 @@ is_plain s past k l z e =
 
 -- the sum of four lanes
 pub four_sum : (p : List ℤ) → length p ≡ 4 → get_or p 0 (pos 0) +ℤ get_or p 1 (pos 0) +ℤ get_or p 2 (pos 0) +ℤ get_or p 3 (pos 0) ≡ fold ◌+ℤ◌ (pos 0) p
-four_sum p l = by_four (λ p. get_or p 0 (pos 0) +ℤ get_or p 1 (pos 0) +ℤ get_or p 2 (pos 0) +ℤ get_or p 3 (pos 0) ≡ fold ◌+ℤ◌ (pos 0) p) (λ a b c d. omega (arith, ints)) p l
+four_sum p l = by_four (λ p. get_or p 0 (pos 0) +ℤ get_or p 1 (pos 0) +ℤ get_or p 2 (pos 0) +ℤ get_or p 3 (pos 0) ≡ fold ◌+ℤ◌ (pos 0) p)
+    (λ a b c d. omega (arith, ints)) p l

@@ -144,7 +144,8 @@ pub plain_doubled : (s : List ℤ) → AreWithin 2048 s → (k : ℕ) → autoco
 unfolding autocorrelation_of
 plain_doubled s h k =
     sym (doubled_sum (λ i. entry s i *ℤ entry s (i - k)) (λ i. l_mult_of (entry s i) (entry s (i - k)))
-    (λ i. sym (unclamped (entry s i) (entry s (i - k)) (entry s i *ℤ entry s (i - k)) refl (small_product (entry s i) (entry s (i - k)) (within_all s h i) (within_all s h (i - k)))))
+    (λ i. sym (unclamped (entry s i) (entry s (i - k)) (entry s i *ℤ entry s (i - k)) refl
+    (small_product (entry s i) (entry s (i - k)) (within_all s h i) (within_all s h (i - k)))))
     (range_with_len k (160 - k)) (pos 0) (pos 0) refl)
 
 -- which is the sum of the doubled products
@@ -152,4 +153,5 @@ pub plainly : (s : List ℤ) → AreWithin 2048 s → (k : ℕ) → autocorrelat
 unfolding autocorrelation_of
 plainly s h k = λ j.
     fold ◌+ℤ◌ (pos 0)
-    (map (λ i. unclamped (entry s i) (entry s (i - k)) (entry s i *ℤ entry s (i - k)) refl (small_product (entry s i) (entry s (i - k)) (within_all s h i) (within_all s h (i - k))) j) (range_with_len k (160 - k)))
+    (map (λ i. unclamped (entry s i) (entry s (i - k)) (entry s i *ℤ entry s (i - k)) refl
+    (small_product (entry s i) (entry s (i - k)) (within_all s h i) (within_all s h (i - k))) j) (range_with_len k (160 - k)))

@@ -84,7 +84,8 @@ over_all f xs ys i l h =
     let back : drop i xs ≡ [] = drop_all i xs l in
     rw (front, back) at h ∙ append-nil (map f xs)
 
-pub within_map : (f : ℤ → ℤ) (xs ys : List ℤ) (bound : ℕ) → ys ≡ map f xs → ((i : ℕ) → i < length xs → unsigned_abs (f (entry xs i)) ≤ bound) → AreWithin bound ys
+pub within_map : (f : ℤ → ℤ) (xs ys : List ℤ) (bound : ℕ) → ys ≡ map f xs → ((i : ℕ) → i < length xs → unsigned_abs (f (entry xs i)) ≤ bound) →
+    AreWithin bound ys
 within_map f xs ys bound e h =
     let p : AreWithin bound (map f xs) =
     λ i b.

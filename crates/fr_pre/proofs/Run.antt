@@ -63,7 +63,8 @@ rest z1 offset mp x so offsets sof s p (suc n) k e =
     let e_s : entry s k ≡ preemphasised (entry sof k) (entry sof (suc k)) = rw next (p.preemphasised.each k h) in
     let o : preprocessed_sample (memory_at offset so offsets sof k) (entry x k) ≡ (entry s k, memory_at offset so offsets sof (suc k)) =
     one (memory_at offset so offsets sof k) (entry so (suc k)) (entry (offset ∷ offsets) k) (entry offsets k) (entry sof (suc k)) (entry s k) (entry x k)
-    (p.downscaled.within k (omega arith)) (p.downscaled.within (suc k) (omega arith)) (offset_within offset so offsets k h p.before p.followed) (p.followed.within k h)
+    (p.downscaled.within k (omega arith)) (p.downscaled.within (suc k) (omega arith)) (offset_within offset so offsets k h p.before p.followed)
+    (p.followed.within k h)
     refl e_so (p.followed.each k h) e_sof e_s in
     let r = rest z1 offset mp x so offsets sof s p n (suc k) (omega (arith, e)) in
     rw (ex, es, o, r) refl

@@ -33,7 +33,8 @@ pub record Found (sample : ℤ) (steps words : List ℤ) (s : ℤ) (i : ℕ) : T
   pub long : length words ≡ length steps
   pub found : words_behind sample steps ≡ take i words ++ words_behind s (drop i steps)
 
-pub found_next : (sample : ℤ) (steps words : List ℤ) (s x : ℤ) (i : ℕ) → i < length steps → Found sample steps words s i → x ≡ sub_of s (get_or steps i (pos 0)) →
+pub found_next : (sample : ℤ) (steps words : List ℤ) (s x : ℤ) (i : ℕ) → i < length steps → Found sample steps words s i →
+    x ≡ sub_of s (get_or steps i (pos 0)) →
     Found sample steps (set words i x) x (i + 1)
 found_next sample steps words s x i l h e =
     let long = h.long in
@@ -64,7 +65,8 @@ behind_eight s ms l = record { eight = behind_long s ms ∙ l; words = behind_wo
 -- ---- the guess
 
 -- lanes of sums that wrap are words
-pub wrapped_words : (f : ℕ → ℕ → ℕ) → ((a b : ℕ) → f a b < 2 ^ 16) → (xs ys : List ℕ) → length xs ≡ 8 → length ys ≡ 8 → EightWords (map (to_z w16) (zip2 f xs ys))
+pub wrapped_words : (f : ℕ → ℕ → ℕ) → ((a b : ℕ) → f a b < 2 ^ 16) → (xs ys : List ℕ) → length xs ≡ 8 → length ys ≡ 8 →
+    EightWords (map (to_z w16) (zip2 f xs ys))
 wrapped_words f h xs ys l m = record { eight = length-map (zip2 f xs ys) (to_z w16) ∙ length-zip2 f xs ys (l ∙ sym m) ∙ l; words = each xs ys }
   where
     word : (n : ℕ) → n < 2 ^ 16 → FitsSigned w16 (to_z w16 n)
@@ -135,14 +137,16 @@ pub moved : (xs ys : List ℤ) → EightWords xs → EightWords ys →
     to_z w16 (get_or (map (of_z w16) xs ++ map (of_z w16) ys) 6 0) ∷ to_z w16 (get_or (map (of_z w16) xs ++ map (of_z w16) ys) 5 0) ∷
     to_z w16 (get_or (map (of_z w16) xs ++ map (of_z w16) ys) 4 0) ∷ to_z w16 (get_or (map (of_z w16) xs ++ map (of_z w16) ys) 3 0) ∷
     to_z w16 (get_or (map (of_z w16) xs ++ map (of_z w16) ys) 2 0) ∷ to_z w16 (get_or (map (of_z w16) xs ++ map (of_z w16) ys) 1 0) ∷ [])
-    ≡ (get_or ys 7 (pos 0) ∷ get_or xs 7 (pos 0) ∷ get_or xs 6 (pos 0) ∷ get_or xs 5 (pos 0) ∷ get_or xs 4 (pos 0) ∷ get_or xs 3 (pos 0) ∷ get_or xs 2 (pos 0) ∷ get_or xs 1 (pos 0) ∷ [])
+    ≡ (get_or ys 7 (pos 0) ∷ get_or xs 7 (pos 0) ∷ get_or xs 6 (pos 0) ∷ get_or xs 5 (pos 0) ∷ get_or xs 4 (pos 0) ∷ get_or xs 3 (pos 0) ∷
+    get_or xs 2 (pos 0) ∷ get_or xs 1 (pos 0) ∷ [])
 moved xs ys p q =
     by_pairs (FitsSigned w16) (FitsSigned w16) (λ x y. (to_z w16 (of_z w16 x) ≡ x) × (to_z w16 (of_z w16 y) ≡ y))
     (λ xs ys. (to_z w16 (get_or (map (of_z w16) xs ++ map (of_z w16) ys) 15 0) ∷ to_z w16 (get_or (map (of_z w16) xs ++ map (of_z w16) ys) 7 0) ∷
     to_z w16 (get_or (map (of_z w16) xs ++ map (of_z w16) ys) 6 0) ∷ to_z w16 (get_or (map (of_z w16) xs ++ map (of_z w16) ys) 5 0) ∷
     to_z w16 (get_or (map (of_z w16) xs ++ map (of_z w16) ys) 4 0) ∷ to_z w16 (get_or (map (of_z w16) xs ++ map (of_z w16) ys) 3 0) ∷
     to_z w16 (get_or (map (of_z w16) xs ++ map (of_z w16) ys) 2 0) ∷ to_z w16 (get_or (map (of_z w16) xs ++ map (of_z w16) ys) 1 0) ∷ [])
-    ≡ (get_or ys 7 (pos 0) ∷ get_or xs 7 (pos 0) ∷ get_or xs 6 (pos 0) ∷ get_or xs 5 (pos 0) ∷ get_or xs 4 (pos 0) ∷ get_or xs 3 (pos 0) ∷ get_or xs 2 (pos 0) ∷ get_or xs 1 (pos 0) ∷ []))
+    ≡ (get_or ys 7 (pos 0) ∷ get_or xs 7 (pos 0) ∷ get_or xs 6 (pos 0) ∷ get_or xs 5 (pos 0) ∷ get_or xs 4 (pos 0) ∷ get_or xs 3 (pos 0) ∷
+    get_or xs 2 (pos 0) ∷ get_or xs 1 (pos 0) ∷ []))
     (λ x y f g. (to_z-of_z w16 x f, to_z-of_z w16 y g))
     (λ a b c d e f g h a' b' c' d' e' f' g' h' r s t u v w x y. eight_same y.1 y.0 x.0 w.0 v.0 u.0 t.0 s.0)
     xs ys p.eight q.eight p.words q.words
@@ -157,8 +161,10 @@ stored_lanes rs vs s = zip2 add_of vs (zip2 mult_r_of rs (behind_lanes rs vs s))
 -- they are those of the sections, the last of which is in lane 0
 pub record AreSections (rs vs : List ℤ) (s : ℤ) : Type 0 where
   pub value : get_or (behind_lanes rs vs s) 7 (pos 0) ≡ (synthesis_lattice (reverse rs) (reverse vs) s).0
-  pub sections : (get_or (behind_lanes rs vs s) 7 (pos 0) ∷ get_or (stored_lanes rs vs s) 7 (pos 0) ∷ get_or (stored_lanes rs vs s) 6 (pos 0) ∷ get_or (stored_lanes rs vs s) 5 (pos 0) ∷
-      get_or (stored_lanes rs vs s) 4 (pos 0) ∷ get_or (stored_lanes rs vs s) 3 (pos 0) ∷ get_or (stored_lanes rs vs s) 2 (pos 0) ∷ get_or (stored_lanes rs vs s) 1 (pos 0) ∷ [])
+  pub sections : (get_or (behind_lanes rs vs s) 7 (pos 0) ∷ get_or (stored_lanes rs vs s) 7 (pos 0) ∷ get_or (stored_lanes rs vs s) 6 (pos 0) ∷
+      get_or (stored_lanes rs vs s) 5 (pos 0) ∷
+      get_or (stored_lanes rs vs s) 4 (pos 0) ∷ get_or (stored_lanes rs vs s) 3 (pos 0) ∷ get_or (stored_lanes rs vs s) 2 (pos 0) ∷
+      get_or (stored_lanes rs vs s) 1 (pos 0) ∷ [])
       ≡ sections_after (synthesis_lattice (reverse rs) (reverse vs) s)
 
 pub are_sections : (rs vs : List ℤ) (s : ℤ) → length rs ≡ 8 → length vs ≡ 8 → AreSections rs vs s
@@ -172,22 +178,31 @@ are_sections rs vs s l m =
 pub turned : (xs : List ℤ) → length xs ≡ 8 →
     FitsSigned w16 (get_or xs 0 (pos 0)) → FitsSigned w16 (get_or xs 1 (pos 0)) → FitsSigned w16 (get_or xs 2 (pos 0)) → FitsSigned w16 (get_or xs 3 (pos 0)) →
     FitsSigned w16 (get_or xs 4 (pos 0)) → FitsSigned w16 (get_or xs 5 (pos 0)) → FitsSigned w16 (get_or xs 6 (pos 0)) → FitsSigned w16 (get_or xs 7 (pos 0)) →
-    (to_z w16 (of_z w16 (get_or xs 7 (pos 0))) ∷ to_z w16 (of_z w16 (get_or xs 6 (pos 0))) ∷ to_z w16 (of_z w16 (get_or xs 5 (pos 0))) ∷ to_z w16 (of_z w16 (get_or xs 4 (pos 0))) ∷
-    to_z w16 (of_z w16 (get_or xs 3 (pos 0))) ∷ to_z w16 (of_z w16 (get_or xs 2 (pos 0))) ∷ to_z w16 (of_z w16 (get_or xs 1 (pos 0))) ∷ to_z w16 (of_z w16 (get_or xs 0 (pos 0))) ∷ []) ≡ reverse xs
+    (to_z w16 (of_z w16 (get_or xs 7 (pos 0))) ∷ to_z w16 (of_z w16 (get_or xs 6 (pos 0))) ∷ to_z w16 (of_z w16 (get_or xs 5 (pos 0))) ∷
+    to_z w16 (of_z w16 (get_or xs 4 (pos 0))) ∷
+    to_z w16 (of_z w16 (get_or xs 3 (pos 0))) ∷ to_z w16 (of_z w16 (get_or xs 2 (pos 0))) ∷ to_z w16 (of_z w16 (get_or xs 1 (pos 0))) ∷
+    to_z w16 (of_z w16 (get_or xs 0 (pos 0))) ∷ []) ≡ reverse xs
 turned xs l a b c d e f g h =
-    eight_same (to_z-of_z w16 _ h) (to_z-of_z w16 _ g) (to_z-of_z w16 _ f) (to_z-of_z w16 _ e) (to_z-of_z w16 _ d) (to_z-of_z w16 _ c) (to_z-of_z w16 _ b) (to_z-of_z w16 _ a) ∙
-    by_eight (λ xs. (get_or xs 7 (pos 0) ∷ get_or xs 6 (pos 0) ∷ get_or xs 5 (pos 0) ∷ get_or xs 4 (pos 0) ∷ get_or xs 3 (pos 0) ∷ get_or xs 2 (pos 0) ∷ get_or xs 1 (pos 0) ∷ get_or xs 0 (pos 0) ∷ []) ≡ reverse xs)
+    eight_same (to_z-of_z w16 _ h) (to_z-of_z w16 _ g) (to_z-of_z w16 _ f) (to_z-of_z w16 _ e) (to_z-of_z w16 _ d) (to_z-of_z w16 _ c) (to_z-of_z w16 _ b)
+    (to_z-of_z w16 _ a) ∙
+    by_eight (λ xs. (get_or xs 7 (pos 0) ∷ get_or xs 6 (pos 0) ∷ get_or xs 5 (pos 0) ∷ get_or xs 4 (pos 0) ∷ get_or xs 3 (pos 0) ∷ get_or xs 2 (pos 0) ∷
+    get_or xs 1 (pos 0) ∷ get_or xs 0 (pos 0) ∷ []) ≡ reverse xs)
     (λ a b c d e f g h. refl) xs l
 
 pub turned_factors : (xs : List ℤ) → length xs ≡ 8 → AreEightFactors xs → EightFactors (reverse xs)
 turned_factors xs l =
     by_eight (λ xs. AreEightFactors xs → EightFactors (reverse xs))
-    (λ a b c d e f g h p. record { eight = refl; factors = (p 7 (lit< tt), (p 6 (lit< tt), (p 5 (lit< tt), (p 4 (lit< tt), (p 3 (lit< tt), (p 2 (lit< tt), (p 1 (lit< tt), (p 0 (lit< tt), tt)))))))) }) xs l
+    (λ a b c d e f g h p. record {
+      eight = refl;
+      factors =
+          (p 7 (lit< tt), (p 6 (lit< tt), (p 5 (lit< tt), (p 4 (lit< tt), (p 3 (lit< tt), (p 2 (lit< tt), (p 1 (lit< tt), (p 0 (lit< tt), tt))))))));
+    }) xs l
 
 -- the lanes that a frame leaves
 pub turned_back : (ns : List ℕ) → length ns ≡ 8 →
     (to_z w16 (get_or (ns ++ ns) 7 0) ∷ to_z w16 (get_or (ns ++ ns) 6 0) ∷ to_z w16 (get_or (ns ++ ns) 5 0) ∷ to_z w16 (get_or (ns ++ ns) 4 0) ∷
-    to_z w16 (get_or (ns ++ ns) 3 0) ∷ to_z w16 (get_or (ns ++ ns) 2 0) ∷ to_z w16 (get_or (ns ++ ns) 1 0) ∷ to_z w16 (get_or (ns ++ ns) 0 0) ∷ []) ≡ reverse (map (to_z w16) ns)
+    to_z w16 (get_or (ns ++ ns) 3 0) ∷ to_z w16 (get_or (ns ++ ns) 2 0) ∷ to_z w16 (get_or (ns ++ ns) 1 0) ∷ to_z w16 (get_or (ns ++ ns) 0 0) ∷ []) ≡
+    reverse (map (to_z w16) ns)
 turned_back (a ∷ b ∷ c ∷ d ∷ e ∷ f ∷ g ∷ h ∷ []) l = refl
 turned_back [] l = absurd (omega arith)
 turned_back (a ∷ []) l = absurd (omega arith)

@@ -51,7 +51,8 @@ beyond_one rs i u ds savs ds' savs' long next d sav (suc n) k us l =
     let i1 : i + 1 ≡ suc i = omega arith in
     let e : drop i (rs k) ≡ get_or (rs k) i (pos 0) ∷ drop (i + 1) (rs k) = rw i1 (drop-cons (rs k) i (pos 0) (long k)) in
     let x = analysis_lattice (drop (i + 1) (rs k)) us (ds' k) (savs' k) in
-    let o : analysis_lattice (drop i (rs k)) (u k ∷ us) (ds k) (savs k) ≡ (x.0, u (k + 1) ∷ x.1) = rw (e, d k (omega arith), sav k (omega arith), next k) refl in
+    let o : analysis_lattice (drop i (rs k)) (u k ∷ us) (ds k) (savs k) ≡ (x.0, u (k + 1) ∷ x.1) =
+    rw (e, d k (omega arith), sav k (omega arith), next k) refl in
     let h = beyond_one rs i u ds savs ds' savs' long next d sav n (k + 1) x.1 (omega arith) in
     rw (o, h) refl
 

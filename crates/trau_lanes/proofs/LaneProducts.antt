@@ -51,9 +51,11 @@ is_product r v b f =
     ap (λ n. carry_bits (low_half n (of_z w16 v))) ts ∙ ap carry_bits (low_is t v ft f) ∙ carry_is (remainder_of (t *ℤ v)) below in
     let wrapped : FitsSigned w16 (int_wrap w16 q) = SFits-int_wrap w16 q in
     let over : (over_bits (of_z w16 r) * of_z w16 v) % 2 ^ 16 ≡ of_z w16 (int_wrap w16 q) =
-    ap (λ n. (n * of_z w16 v) % 2 ^ 16) (over_is r b fr) ∙ sym (of_z-to_z w16 ((of_z w16 o * of_z w16 v) % 2 ^ 16) (mod_below (of_z w16 o * of_z w16 v) (2 ^ 16) (lit< tt))) ∙
+    ap (λ n. (n * of_z w16 v) % 2 ^ 16) (over_is r b fr) ∙
+    sym (of_z-to_z w16 ((of_z w16 o * of_z w16 v) % 2 ^ 16) (mod_below (of_z w16 o * of_z w16 v) (2 ^ 16) (lit< tt))) ∙
     ap (of_z w16) (wrapping_mul_is w16 o v fo f) in
-    let first : (narrowed (high_bits (twice_bits (of_z w16 r)) (of_z w16 v)) + (over_bits (of_z w16 r) * of_z w16 v) % 2 ^ 16) % 2 ^ 16 ≡ of_z w16 (int_wrap w16 (h +ℤ q)) =
+    let first : (narrowed (high_bits (twice_bits (of_z w16 r)) (of_z w16 v)) + (over_bits (of_z w16 r) * of_z w16 v) % 2 ^ 16) % 2 ^ 16 ≡
+    of_z w16 (int_wrap w16 (h +ℤ q)) =
     ap (λ z. (of_z w16 z + (over_bits (of_z w16 r) * of_z w16 v) % 2 ^ 16) % 2 ^ 16) high ∙ ap (λ n. (of_z w16 h + n) % 2 ^ 16) over ∙
     sym (of_z-to_z w16 ((of_z w16 h + of_z w16 (int_wrap w16 q)) % 2 ^ 16) (mod_below (of_z w16 h + of_z w16 (int_wrap w16 q)) (2 ^ 16) (lit< tt))) ∙
     ap (of_z w16) (wrapping_add_is w16 h (int_wrap w16 q) hw wrapped ∙ int_wrap-add_right w16 h q) in
@@ -85,7 +87,8 @@ abbrev over_all : List ℤ → List ℕ
 over_all rs = shifted_all (added_all (shifted_all (map (of_z w16) rs) 14) (replicate 8 1)) 1
 
 abbrev pub high_all : List ℤ → List ℤ → List ℕ
-high_all rs vs = zip2 (λ a s. of_z w32 (shr_z (to_z w32 a) (2 ^ s))) (zip2 (λ a b. (a * b) % 2 ^ 32) (map widened (twice_all rs)) (widened_all vs)) (replicate 8 16)
+high_all rs vs = zip2 (λ a s. of_z w32 (shr_z (to_z w32 a) (2 ^ s))) (zip2 (λ a b. (a * b) % 2 ^ 32) (map widened (twice_all rs)) (widened_all vs))
+    (replicate 8 16)
 
 abbrev carry_all : List ℤ → List ℤ → List ℕ
 carry_all rs vs = zip2 bit_and (shifted_all (times_all (twice_all rs) (map (of_z w16) vs)) 15) (replicate 8 1)

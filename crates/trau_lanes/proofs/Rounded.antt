@@ -44,7 +44,8 @@ shifted (pos n) = (n % 32768, omega arith, omega (arith, ints))
 shifted (negsuc n) = (32767 - n % 32768, omega arith, omega (arith, ints))
 
 pub rounded : (r v o : ℤ) → neg_ℤ (pos 1) ≤ℤ o → o ≤ℤ pos 1 →
-    shr_z ((r *ℤ pos 2 -ℤ o *ℤ pos 65536) *ℤ v) 65536 +ℤ o *ℤ v +ℤ pos (remainder_of ((r *ℤ pos 2 -ℤ o *ℤ pos 65536) *ℤ v) / 32768) ≡ int_shr (r *ℤ v +ℤ pos 16384) 15
+    shr_z ((r *ℤ pos 2 -ℤ o *ℤ pos 65536) *ℤ v) 65536 +ℤ o *ℤ v +ℤ pos (remainder_of ((r *ℤ pos 2 -ℤ o *ℤ pos 65536) *ℤ v) / 32768) ≡
+    int_shr (r *ℤ v +ℤ pos 16384) 15
 rounded r v o a b =
     let t : ℤ = r *ℤ pos 2 -ℤ o *ℤ pos 65536 in
     let whole : r +ℤ r ≡ t +ℤ o *ℤ pos 65536 = omega (arith, ints) in

@@ -35,8 +35,9 @@ sent-early : (f : Coded) (sid : Fields) (o : Option SidPlace) → IfSome o (λ p
 sent-early f sid None h = refl
 sent-early f sid (Some place) h = by (nat_le 24 (place.since + 1))
   where
-    by : (b : Bool) → (if is_none (if b then None else Some place) then itself f.fields else record { fields = sid; sp = false }) ≡ sent_early f
-    (if b then None else Some place)
+    by : (b : Bool) →
+        (if is_none (if b then None else Some place) then itself f.fields else record { fields = sid; sp = false }) ≡
+        sent_early f (if b then None else Some place)
     by true = refl
     by false = ap (λ z. let s : Sent = record { fields = z; sp = false } in s) h
 
@@ -110,8 +111,9 @@ taken-recent : (m : TxMemory) (f : Coded) → (taken m f).1.recent ≡ m.recent
 unfolding taken paused
 taken-recent m f = by (is_active f) (min (m.run + 1) 5 == 5)
   where
-    by : (a b : Bool) → (if a then (itself f.fields, after_active m) else if b then described m f.measures else early m
-        (min (m.run + 1) 5) f.fields).1.recent ≡ m.recent
+    by : (a b : Bool) →
+        (if a then (itself f.fields, after_active m) else if b then described m f.measures else early m (min (m.run + 1) 5) f.fields).1.recent ≡
+        m.recent
     by true b = refl
     by false true = refl
     by false false = refl

@@ -23,8 +23,7 @@ no_fields = record {
   bc = replicate 4 0;
   mc = replicate 4 0;
   xmaxc = replicate 4 0;
-  xmc =
-      replicate 4 (replicate 13 0);
+  xmc = replicate 4 (replicate 13 0);
 }
 
 -- the memory at home
