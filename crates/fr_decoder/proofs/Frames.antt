@@ -57,6 +57,7 @@ four_histories f m0 m1 m2 m3 m4 a b c d first second third fourth past stands =
 
 -- ---- the functions from frame to frame
 
+-- the four blocks from a memory that stands for a past
 blocks-stand : (f : Fields) (past : List LtpBlock) (m : LtpMemory) → Stands past m →
     Stands (four_blocks f past) (synthesised_blocks m f).1 × ((synthesised_blocks m f).0 ≡ frame_residual f past)
 unfolding synthesised_blocks
@@ -67,6 +68,7 @@ blocks-stand f past m h =
     four_histories f m m1 m2 m3 _ _ _ _ _ (λ ps s. synthesised-Stands ps (ltp_block f 0) m s) (λ ps s. synthesised-Stands ps (ltp_block f 1) m1 s)
     (λ ps s. synthesised-Stands ps (ltp_block f 2) m2 s) (λ ps s. synthesised-Stands ps (ltp_block f 3) m3 s) past h
 
+-- the same of short-term synthesis
 lattice-stands : (codes : List ℕ) (residual : List ℤ) (past : List ResidualFrame) (m : short.ShortMemory) → SynthesisStands past m →
     SynthesisStands (residual_frame codes residual ∷ past) (synthesised_frame m codes residual).1
     × ((synthesised_frame m codes residual).0 ≡ (synthesis_of (residual_frame codes residual ∷ past)).0)
@@ -147,6 +149,7 @@ length-samples_of f past =
 
 -- ---- and that each is a word
 
+-- a number without its three lowest bits
 floor_8 : (z : ℤ) → ((floor_shr z 3 *ℤ pos 8) ≤ℤ z) × (z ≤ℤ (floor_shr z 3 *ℤ pos 8 +ℤ pos 7))
 floor_8 (pos n) = (omega (arith, ints), omega (arith, ints))
 floor_8 (negsuc n) = (omega (arith, ints), omega (arith, ints))

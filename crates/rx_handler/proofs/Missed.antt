@@ -7,6 +7,7 @@ use Rattle.rx_handler.specs.Heard.{Heard, Lost}
 use Rattle.rx_handler.specs.Effective.{is_missed, missed_since}
 use Rattle.rx_handler.specs.Past.{missed_in, periods_of_fall}
 
+-- one number more at the end
 range_more : (a n : ℕ) → range_with_len a (suc n) ≡ range_with_len a n ++ (a + n) ∷ []
 range_more a zero = ap (λ x. x ∷ []) (let e : a ≡ a + 0 = omega arith in e)
 range_more a (suc n) =
@@ -30,12 +31,14 @@ Second k since [] = (missed_in since ≡ 0) × (periods_of_fall since ≡ 0)
 Second k since (t ∷ []) = (missed_in since ≡ 1) × (periods_of_fall since ≡ 0)
 Second k since (s ∷ t ∷ more) = (missed_in since ≡ suc (suc (length more))) × (periods_of_fall since ≡ k - t + 1) × (t ≤ k)
 
+-- the fall begins with the second missed descriptor
 begun : (n : ℕ) → 2 ≤ n → ◌≡◌ {A = ℕ} (if nat_le 2 n then 1 else 0) 1
 begun n h = let e : nat_le 2 n ≡ true = grind arith in rw e
 
 not_begun : (n : ℕ) → n ≤ 1 → ◌≡◌ {A = ℕ} (if nat_le 2 n then 1 else 0) 0
 not_begun n h = let e : nat_le 2 n ≡ false = grind arith in rw e
 
+-- one more period in which a descriptor was missed, and one in which none was
 pub second_missed : (k : ℕ) (since : List Heard) (missed : List ℕ) → Second k since missed → Second (suc k) (Lost true ∷ since) (missed ++ suc k ∷ [])
 unfolding periods_of_fall
 second_missed k since [] s =

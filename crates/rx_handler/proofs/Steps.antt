@@ -15,6 +15,7 @@ use Rattle.rx_handler.specs.Memory.{RxState, Speech, Noise, RxMemory}
 use Rattle.rx_handler.specs.Step.{missed_after, fall_after, state_after_loss, state_after_sid, next_state, origin_by, received}
 use Rattle.rx_handler.specs.Stands.{first_step, step_of, state_from, state_at, Stands}
 
+-- the counts of the table after one more lost period
 missed_more : (missed : Bool) (since : List Heard) → min (missed_in (Lost missed ∷ since)) 2 ≡ missed_after (min (missed_in since) 2) missed
 missed_more true since = let e : missed_in (Lost true ∷ since) ≡ suc (missed_in since) = refl in omega arith
 missed_more false since = let e : missed_in (Lost false ∷ since) ≡ missed_in since = refl in omega arith
@@ -24,6 +25,7 @@ fall_more : (missed : Bool) (since : List Heard) →
 unfolding periods_of_fall
 fall_more missed since = grind (arith, common_steps)
 
+-- the state after it
 loss_more : (missed : Bool) (old : Fields → Fields) (step : ℕ) (a : Anchor) →
     state_from old (min (step + 1) 8) (one_more (Lost missed) a) ≡ state_after_loss (state_from old step a) missed
 loss_more missed old step NoAnchor = refl
@@ -43,6 +45,7 @@ Near old step NoAnchor = Unit {0}
 Near old step (AtGood p since) = Unit {0}
 Near old step (AtSid q since) = (step ≡ min (length since + 1) 8) ⊎ ((old q ≡ q) × (step ≤ 8))
 
+-- a state's step and where the noise stands go together
 near_first : (q : Fields) (a : Anchor) (old : Fields → Fields) → Near (start_from a old) (first_step a) (AtSid q [])
 near_first q NoAnchor old = inr (refl, omega arith)
 near_first q (AtGood p since) old = inr (refl, omega arith)
@@ -80,6 +83,7 @@ moved_same old q step since n = elim n [
 begun_same : (fall : ℕ) → (min fall 17 == 0) ≡ (fall == 0)
 begun_same fall = grind (arith, common_steps)
 
+-- the state after a descriptor
 sid_more : (q : Fields) (a : Anchor) (old : Fields → Fields) (step : ℕ) → Near old step a →
     Noise (start_from a old q) q (first_step a) 0 0 ≡ state_after_sid (state_from old step a) q
 sid_more q NoAnchor old step n = refl
@@ -88,6 +92,7 @@ sid_more q (AtSid r since) old step n =
     ap (λ base. Noise (if periods_of_fall since == 0 then base else q) q 1 0 0) (sym (moved_same (old r) r step since n)) ∙
     ap (λ b. Noise (if b then mix_of (old r) r step else q) q 1 0 0) (sym (begun_same (periods_of_fall since)))
 
+-- after any period
 pub state-more : (y : Heard) (past : List Heard) → state_at (y ∷ past) ≡ next_state (state_at past) y
 unfolding anchor_of periods_of_fall old_of step_of
 state-more (Good p) past = refl

@@ -17,6 +17,7 @@ start n = if n == 128 then 32768 else mulaw_least (n / 16) (n % 16)
 back_table : list_all (λ n. nat_eq (bit_xor (bit_xor n 127) 127) n) (range_with_len 0 256) ≡ true
 back_table = refl
 
+-- tables over all 256 octets, and over the 128 indices of their order
 sign_table : list_all (λ n. nat_eq (if nat_lt (bit_xor n 255) 128 then 1 else 0) (if nat_le 128 (bit_xor n 127) then 1 else 0)) (range_with_len 0 256) ≡ true
 sign_table = refl
 
@@ -37,6 +38,7 @@ next_table = refl
 here_table : list_all (λ n. nat_eq (start n) (mulaw_least (n / 16) (n % 16))) (range_with_len 0 128) ≡ true
 here_table = refl
 
+-- truths are the same where their numbers are
 same_truth : (a b : Bool) → ◌≡◌ {A = ℕ} (if a then 1 else 0) (if b then 1 else 0) → a ≡ b
 same_truth true true e = refl
 same_truth true false e = absurd (omega arith)
@@ -61,6 +63,7 @@ mulaw_laid = record {
   last = refl;
 }
 
+-- a magnitude of a segment's step lies in the interval of its index
 in_interval : (n magnitude : ℕ) → n < 128 → IsAt (n / 16) (n % 16) magnitude → IsIn start n magnitude
 in_interval n magnitude h a =
     let low = a.at_least in
@@ -83,6 +86,7 @@ only_octet x code h a low high =
     (rw same (in_interval (code % 128) (magnitude x) (omega arith) a))
     (λ l. let g = low l in omega arith) (λ l. let g = high l in omega arith))
 
+-- each octet but one holds the middle of its own interval
 middle_table : list_all (λ octet. (octet == 127) || holds (mulaw octet) (middle (mulaw octet))) (range_with_len 0 256) ≡ true
 unfolding mulaw
 middle_table = refl

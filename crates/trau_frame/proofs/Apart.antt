@@ -4,6 +4,7 @@ use Rattle.std.proofs.lemmas.Bool.{cases_lt}
 use Rattle.trau_frame.specs.Match.{is_match}
 use Rattle.trau_frame.proofs.Matches.{match_zeros, match_ones}
 
+-- **Two matches have 305 places between their starts at least.**
 pub apart : (line : ℕ → ℕ) (p q : ℕ) → is_match line p ≡ true → is_match line q ≡ true → p < q → p + 305 ≤ q
 apart line p q m n lt = elim (cases_lt q (p + 305)) [
   | inl near ↦

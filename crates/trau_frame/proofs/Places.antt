@@ -11,6 +11,7 @@ use Rattle.trau_frame.specs.Frame.{Synced}
 
 -- ---- tables, computed once
 
+-- tests of roles, for tables over all places
 abbrev same_role : Role → Role → Bool
 same_role (Sync a) (Sync b) = nat_eq a b
 same_role (Control a) (Control b) = nat_eq a b
@@ -30,6 +31,7 @@ is_sync (Control c) = false
 is_sync (Data n) = false
 is_sync (Time t) = false
 
+-- the tables
 sync_table : list_all (λ bit. same_role (role_of (place_of_role (Sync bit))) (Sync bit)) (range_with_len 0 2) ≡ true
 unfolding role_of place_of_role
 sync_table = refl
@@ -72,6 +74,7 @@ entry p a len n t l h =
     let e : get_or (range_with_len a len) (n - a) 0 ≡ n = get_or-range_with_len a len (n - a) 0 (omega arith) ∙ omega arith in
     subst (λ k. p k ≡ true) e (and_at (list_all p) p refl (λ x xs. refl) (range_with_len a len) (n - a) 0 (rw (length-range_with_len a len) (omega arith)) t)
 
+-- what the tests say
 from_same : (r s : Role) → same_role r s ≡ true → r ≡ s
 from_same (Sync a) (Sync b) h = search rules
 from_same (Control a) (Control b) h = search rules
@@ -103,6 +106,7 @@ role_of-ones row l h = from_same _ _ (entry (λ row. same_role (role_of (16 * ro
 pub role_of-within : (i : ℕ) → i < 320 → IsWithin (role_of i)
 role_of-within i h = from_is_within (role_of i) (entry (λ i. is_within (role_of i)) 0 320 i within_table (omega arith) (omega arith))
 
+-- a role other than a sync bit's has its place alone
 only_here : (r : Role) (i : ℕ) → (is_sync r || nat_eq (place_of_role r) i) ≡ true → ((bit : ℕ) → r ≡ Sync bit → ⊥) → place_of_role r ≡ i
 only_here (Sync bit) i t h = absurd (h bit refl)
 only_here (Control c) i t h = search rules

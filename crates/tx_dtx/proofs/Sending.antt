@@ -30,6 +30,7 @@ sid-before (f ∷ past) sid l h = elim (cases_Bool (is_active f)) [
     sid-earlier None h = tt
     sid-earlier (Some place) h = h
 
+-- early in a pause the memory sends what the stretch says
 sent-early : (f : Coded) (sid : Fields) (o : Option SidPlace) → IfSome o (λ place. sid ≡ sid_of place.four) →
     (if is_none (still_used o) then itself f.fields else record { fields = sid; sp = false }) ≡ sent_early f (still_used o)
 sent-early f sid None h = refl
@@ -46,6 +47,7 @@ pub record Takes (f : Coded) (past : List Coded) (out : Sent × TxMemory) : Type
   pub sent : out.0 ≡ sent_of f past
   pub counts : Counts (f ∷ past) out.1
 
+-- an active frame
 takes-active : (f : Coded) (past : List Coded) (m : TxMemory) → is_active f ≡ true → Stands past m → Takes f past (itself f.fields, after_active m)
 unfolding sent_of
 takes-active f past m a s = record {
@@ -53,6 +55,7 @@ takes-active f past m a s = record {
   counts = active-counts f past m a s;
 }
 
+-- an inactive frame of which a SID is made
 takes-sid : (f : Coded) (past : List Coded) (m : TxMemory) → is_active f ≡ false → 4 ≤ pause_of past → Stands past m → Takes f past (described m f.measures)
 unfolding sent_of
 takes-sid f past m n l s =
@@ -65,6 +68,7 @@ takes-sid f past m n l s =
       counts = sid-counts f past m n l s;
     }
 
+-- one earlier in its pause
 takes-early : (f : Coded) (past : List Coded) (m : TxMemory) → is_active f ≡ false → pause_of past < 4 → Stands past m →
     Takes f past (early m (pause_of past + 1) f.fields)
 unfolding sent_of
@@ -78,6 +82,7 @@ takes-early f past m n l s =
       counts = early-counts f past m n l s;
     }
 
+-- any inactive frame
 takes-inactive : (f : Coded) (past : List Coded) (m : TxMemory) → is_active f ≡ false → Stands past m → Takes f past (paused m f.fields f.measures)
 unfolding paused
 takes-inactive f past m n s =
@@ -97,6 +102,7 @@ takes-inactive f past m n s =
           (takes-sid f past m n long s)
     ]
 
+-- any frame
 takes : (f : Coded) (past : List Coded) (m : TxMemory) → Stands past m → Takes f past (taken m f)
 unfolding taken
 takes f past m s = elim (cases_Bool (is_active f)) [
@@ -107,6 +113,7 @@ takes f past m s = elim (cases_Bool (is_active f)) [
 
 -- ---- a whole step
 
+-- the measures are remembered after that
 taken-recent : (m : TxMemory) (f : Coded) → (taken m f).1.recent ≡ m.recent
 unfolding taken paused
 taken-recent m f = by (is_active f) (min (m.run + 1) 5 == 5)
