@@ -25,6 +25,7 @@ pub record Passes (z1 offset mp : ℤ) (x so offsets sof s : List ℤ) : Type 0 
 abbrev memory_at : ℤ → List ℤ → List ℤ → List ℤ → ℕ → PreMemory
 memory_at offset so offsets sof k = record { z1 = entry so k; l_z2 = entry (offset ∷ offsets) k +ℤ entry so k *ℤ pos 32768; mp = entry sof k }
 
+-- each offset of a frame is one that samples from home can give
 offset_within : (offset : ℤ) (so offsets : List ℤ) (k : ℕ) → k < 160 → IsOffset offset → AreOffsets offset so offsets → IsOffset (entry (offset ∷ offsets) k)
 offset_within offset so offsets zero h o a = o
 offset_within offset so offsets (suc j) h o a = a.within j (omega arith)
@@ -39,6 +40,7 @@ one m so' offset offset' sof' s x z1 zs o o' el eso eo esof es =
     let f : offset_free (offset' +ℤ so' *ℤ pos 32768) ≡ sof' = rw esof (rounds_on so' offset' (offset' +ℤ so' *ℤ pos 32768) zs o' refl) in
     rw (← eso, l, f, ← es) refl
 
+-- the passes from sample k on are the rule
 rest : (z1 offset mp : ℤ) (x so offsets sof s : List ℤ) → Passes z1 offset mp x so offsets sof s → (n k : ℕ) → k + n ≡ 160 →
     preprocessed_frame (memory_at offset so offsets sof k) (drop k x) ≡ (drop k s, memory_at offset so offsets sof 160)
 unfolding preprocessed_frame

@@ -11,6 +11,7 @@ use Rattle.fr_rpe.specs.Quantisation.{maximum_of, coded_maximum, pulse_codes_of,
 use Rattle.fr_rpe.specs.Pulses.{block_of}
 use Rattle.fr_rpe.specs.Encoding.{mc_of, pulses_of, xmax_of, xmaxc_of, xmc_of}
 
+-- each part of a block's coding by the parts before it
 pub is_mc : (e x : List ℤ) (mc : ℕ) → x ≡ weighted_block e → mc ≡ grid_of x → mc ≡ mc_of e
 unfolding mc_of
 is_mc e x mc a b = cc

@@ -33,6 +33,7 @@ pub record Found (sample : ℤ) (steps words : List ℤ) (s : ℤ) (i : ℕ) : T
   pub long : length words ≡ length steps
   pub found : words_behind sample steps ≡ take i words ++ words_behind s (drop i steps)
 
+-- one section more
 pub found_next : (sample : ℤ) (steps words : List ℤ) (s x : ℤ) (i : ℕ) → i < length steps → Found sample steps words s i →
     x ≡ sub_of s (get_or steps i (pos 0)) →
     Found sample steps (set words i x) x (i + 1)
@@ -55,6 +56,7 @@ behind_words : (s : ℤ) (ms : List ℤ) → Each1 (FitsSigned w16) (words_behin
 behind_words s [] = tt
 behind_words s (m ∷ ms) = (sub_word s m, behind_words (sub_of s m) ms)
 
+-- there is a word behind each section
 behind_long : (s : ℤ) (ms : List ℤ) → length (words_behind s ms) ≡ length ms
 behind_long s [] = refl
 behind_long s (m ∷ ms) = ap suc (behind_long (sub_of s m) ms)
@@ -77,6 +79,7 @@ wrapped_words f h xs ys l m = record { eight = length-map (zip2 f xs ys) (to_z w
     each (x ∷ xs) [] = tt
     each (x ∷ xs) (y ∷ ys) = (word (f x y) (h x y), each xs ys)
 
+-- the guess in lanes: sums of one, two, four and eight
 abbrev adds : ℕ → ℕ → ℕ
 adds a b = (a + b) % 2 ^ 16
 
@@ -95,6 +98,7 @@ fourths xs = zip2 adds xs (0 ∷ 0 ∷ get_or xs 0 0 ∷ get_or xs 1 0 ∷ get_o
 abbrev eighths : List ℕ → List ℕ
 eighths xs = zip2 adds xs (0 ∷ 0 ∷ 0 ∷ 0 ∷ get_or xs 0 0 ∷ get_or xs 1 0 ∷ get_or xs 2 0 ∷ get_or xs 3 0 ∷ [])
 
+-- the guess are words
 pub guess_words : (s : ℕ) (ms : List ℤ) → length ms ≡ 8 → EightWords (map (to_z w16) (eighths (fourths (seconds (firsts s (map (of_z w16) ms))))))
 guess_words s ms l =
     let bits = map (of_z w16) ms in
@@ -114,6 +118,7 @@ none_differ (x ∷ xs) (y ∷ ys) l e =
     let here : x ≡ y = grind arith in
     (λ i. here i ∷ none_differ xs ys (omega arith) rest i)
 
+-- lanes of which none differs are the same
 pub same_lanes : (xs ys : List ℕ) → length xs ≡ 8 → length ys ≡ 8 →
     mask_l (map (top 15) (zip2 (λ a b. cond (not (eqb a b)) (2 ^ 16 - 1) 0) xs ys)) % 2 ^ 64 ≡ 0 → xs ≡ ys
 same_lanes xs ys l m e =
@@ -155,6 +160,7 @@ moved xs ys p q =
 abbrev pub behind_lanes : List ℤ → List ℤ → ℤ → List ℤ
 behind_lanes rs vs s = words_behind s (zip2 mult_r_of rs vs)
 
+-- what the sections store, in lanes
 abbrev pub stored_lanes : List ℤ → List ℤ → ℤ → List ℤ
 stored_lanes rs vs s = zip2 add_of vs (zip2 mult_r_of rs (behind_lanes rs vs s))
 
@@ -167,6 +173,7 @@ pub record AreSections (rs vs : List ℤ) (s : ℤ) : Type 0 where
       get_or (stored_lanes rs vs s) 1 (pos 0) ∷ [])
       ≡ sections_after (synthesis_lattice (reverse rs) (reverse vs) s)
 
+-- in lanes a sample goes through the sections as through the lattice
 pub are_sections : (rs vs : List ℤ) (s : ℤ) → length rs ≡ 8 → length vs ≡ 8 → AreSections rs vs s
 are_sections rs vs s l m =
     by_eight (λ rs. AreSections rs vs s)
@@ -175,6 +182,7 @@ are_sections rs vs s l m =
 
 -- ---- the order of the lanes
 
+-- eight words with the last one first
 pub turned : (xs : List ℤ) → length xs ≡ 8 →
     FitsSigned w16 (get_or xs 0 (pos 0)) → FitsSigned w16 (get_or xs 1 (pos 0)) → FitsSigned w16 (get_or xs 2 (pos 0)) → FitsSigned w16 (get_or xs 3 (pos 0)) →
     FitsSigned w16 (get_or xs 4 (pos 0)) → FitsSigned w16 (get_or xs 5 (pos 0)) → FitsSigned w16 (get_or xs 6 (pos 0)) → FitsSigned w16 (get_or xs 7 (pos 0)) →

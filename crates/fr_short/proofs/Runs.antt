@@ -30,6 +30,7 @@ pub record Run (f : ℤ → ℤ → ℤ) (rs : ℕ → List ℤ) (start d : List
   pub newest : last_of last (stepped f last (filtered_samples rs k vs (drop k d)).0) ≡ last_of before (stepped f before (filtered_samples rs 0 start d).0)
   pub state : (filtered_samples rs k vs (drop k d)).1 ≡ (filtered_samples rs 0 start d).1
 
+-- no sample made yet, one more, and all
 pub run_start : (f : ℤ → ℤ → ℤ) (rs : ℕ → List ℤ) (start d : List ℤ) (before : ℤ) (s : List ℤ) → length s ≡ length d → Run f rs start d before start before s 0
 run_start f rs start d before s l = record { count = l; samples = refl; newest = refl; state = refl }
 
