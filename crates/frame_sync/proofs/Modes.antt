@@ -92,7 +92,7 @@ tied-gives bits past (Locked next misses) (Miss p) after t g =
 
 -- ---- what the mode gives follows
 
-both_ways : (b : Bool) → b ≡ true → b ≡ false → ⊥
+pub both_ways : (b : Bool) → b ≡ true → b ≡ false → ⊥
 both_ways b t f = cc
 
 -- a frame and a miss are what the place says

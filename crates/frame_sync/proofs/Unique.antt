@@ -5,11 +5,7 @@ use Rattle.std.proofs.lemmas.List.{append-nil}
 use Rattle.trau_frame.specs.Match.{bit_in, is_match}
 use Rattle.frame_sync.specs.declared.yields.Yield.{Yield}
 use Rattle.frame_sync.specs.Yields.{IsFirstMatch, frame_or_miss, place_of, end_of, hunts, Follows, Yields}
-use Rattle.frame_sync.proofs.Modes.{reverse-onto}
-
--- no truth is both
-both_ways : (b : Bool) → b ≡ true → b ≡ false → ⊥
-both_ways b t f = cc
+use Rattle.frame_sync.proofs.Modes.{both_ways, reverse-onto}
 
 -- the least match is one
 least : (line : ℕ → ℕ) (low p q : ℕ) → IsFirstMatch line low p → IsFirstMatch line low q → p ≡ q

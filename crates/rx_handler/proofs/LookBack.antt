@@ -3,7 +3,7 @@ use Rattle.std.proofs.Common.{◌≡◌, refl, ap, ◌∙◌, sym, ℕ, ◌+◌,
 use Rattle.std.specs.Prelude.{◌==◌, slice_get, reverse}
 use Rattle.std.specs.Option.{option_map_or}
 use Rattle.std.proofs.lemmas.List.{length-reverse}
-use Rattle.std.proofs.lemmas.Grind.{common_steps, reverse_onto}
+use Rattle.std.proofs.lemmas.Grind.{reverse_onto}
 use Rattle.std.proofs.Math.Seq.{get_or-append_seam}
 use mathlib.Core.List.{reverse_aux}
 use Rattle.trau_params.specs.Fields.{Fields}
@@ -13,7 +13,7 @@ use Rattle.rx_handler.specs.Heard.{Heard, Good, Sid, Idle, Lost}
 use Rattle.rx_handler.specs.Origin.{GoodFrame, LostFrame, NoFrame, NoiseFrame, frame_of, draws_of}
 use Rattle.rx_handler.specs.Effective.{is_anchor, latest_anchor, missed_since, fall_at, approached, start_after, old_at, origin_after, origin_at, draws_before, effective_at, heard_in}
 use Rattle.rx_handler.specs.Past.{Anchor, AtGood, anchor_of, periods_of_fall, moved, start_from, old_of, origin_from, origin_of, drawn, effective_of}
-use Rattle.rx_handler.proofs.Missed.{Second}
+use Rattle.rx_handler.proofs.Missed.{Second, begun_same}
 use Rattle.rx_handler.proofs.Anchors.{periods_before, Since, TellsAt, Tells, tells}
 
 -- ---- what the frame is made from
@@ -37,11 +37,7 @@ good_same p k g (y ∷ since) h e old =
 moved_same : (old q : Fields) (k g : ℕ) (since : List Heard) → length since ≡ k - g → approached old q g k ≡ moved old q since
 moved_same old q k g since e = ap (λ n. mix_of old q (min (n + 1) 8)) (sym e)
 
--- from where a further descriptor is approached
-begun_same : (fall : ℕ) → (min fall 17 == 0) ≡ (fall == 0)
-begun_same fall = grind (arith, common_steps)
-
--- by the anchor before
+-- from where a further descriptor is approached, by the anchor before
 start_same_at : (heard : ℕ → Heard) (k : ℕ) (now past : Fields → Fields) (q : Fields) (g : ℕ) (y : Heard) (a : Anchor) → ((r : Fields) → now r ≡ past r) →
     TellsAt heard k g y a → start_after heard k now q g y ≡ start_from a past q
 unfolding TellsAt fall_at

@@ -1,8 +1,9 @@
 -- How many silence descriptors were missed since an anchor, and since when the level falls.
-use Rattle.std.proofs.Common.{◌≡◌, ap, ◌∙◌, ℕ, ◌+◌, ◌-◌, ◌≤◌, zero, suc, true, false, if◌then◌else◌, List, [], ◌∷◌, ◌++◌, length, arith, length-append}
-use Rattle.std.specs.Prelude.{filter, nat_le}
+use Rattle.std.proofs.Common.{◌≡◌, ap, ◌∙◌, ℕ, ◌+◌, ◌-◌, ◌≤◌, min, zero, suc, true, false, if◌then◌else◌, List, [], ◌∷◌, ◌++◌, length, arith, length-append}
+use Rattle.std.specs.Prelude.{filter, nat_le, ◌==◌}
 use Rattle.std.specs.List.{range_with_len}
 use Rattle.std.proofs.lemmas.List.Elements.{filter-append}
+use Rattle.std.proofs.lemmas.Grind.{common_steps}
 use Rattle.rx_handler.specs.Heard.{Heard, Lost}
 use Rattle.rx_handler.specs.Effective.{is_missed, missed_since}
 use Rattle.rx_handler.specs.Past.{missed_in, periods_of_fall}
@@ -63,3 +64,7 @@ second_other k since (t ∷ []) s =
 second_other k since (r ∷ t ∷ more) s =
     let count = s.0 in let fall = s.1 in let at = s.2 in let on = begun (missed_in since) (omega arith) in
     (count, omega arith, omega arith)
+
+-- a fall that has begun has begun up to 17
+pub begun_same : (fall : ℕ) → (min fall 17 == 0) ≡ (fall == 0)
+begun_same fall = grind (arith, common_steps)

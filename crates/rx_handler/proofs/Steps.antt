@@ -14,6 +14,7 @@ use Rattle.rx_handler.specs.Past.{Anchor, NoAnchor, AtGood, AtSid, anchor_of, on
 use Rattle.rx_handler.specs.Memory.{RxState, Speech, Noise, RxMemory}
 use Rattle.rx_handler.specs.Step.{missed_after, fall_after, state_after_loss, state_after_sid, next_state, origin_by, received}
 use Rattle.rx_handler.specs.Stands.{first_step, step_of, state_from, state_at, Stands}
+use Rattle.rx_handler.proofs.Missed.{begun_same}
 
 -- the counts of the table after one more lost period
 missed_more : (missed : Bool) (since : List Heard) → min (missed_in (Lost missed ∷ since)) 2 ≡ missed_after (min (missed_in since) 2) missed
@@ -78,10 +79,6 @@ moved_same old q step since n = elim n [
 ]
 
 -- ---- one period more
-
--- a fall that has begun has begun up to 17
-begun_same : (fall : ℕ) → (min fall 17 == 0) ≡ (fall == 0)
-begun_same fall = grind (arith, common_steps)
 
 -- the state after a descriptor
 sid_more : (q : Fields) (a : Anchor) (old : Fields → Fields) (step : ℕ) → Near old step a →

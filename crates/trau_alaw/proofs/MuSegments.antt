@@ -21,14 +21,14 @@ shifted_centre segment step l m =
     (omega arith, omega arith, omega arith, omega arith) (omega arith, omega arith, omega arith, omega arith) segment l
 
 -- a magnitude is one of that step of that segment
-pub record IsAt (segment step magnitude : ℕ) : Type 0 where
+pub record IsAtMu (segment step magnitude : ℕ) : Type 0 where
   pub at_least : mulaw_least segment step ≤ magnitude
   pub within : magnitude < mulaw_end segment step
 
 -- the step that the code finds
 pub record IsFound (magnitude number : ℕ) : Type 0 where
   pub small : number < 128
-  pub at : IsAt (number / 16) (number % 16) magnitude
+  pub at : IsAtMu (number / 16) (number % 16) magnitude
 
 -- a magnitude within a step's interval is at the step
 at_place : (number segment step magnitude : ℕ) → number / 16 ≡ segment → number % 16 ≡ step → number < 128 →

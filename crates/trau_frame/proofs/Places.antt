@@ -19,11 +19,11 @@ same_role (Data a) (Data b) = nat_eq a b
 same_role (Time a) (Time b) = nat_eq a b
 same_role r s = false
 
-abbrev is_within : Role → Bool
-is_within (Sync bit) = nat_lt bit 2
-is_within (Control c) = nat_le 1 c && nat_le c 21
-is_within (Data n) = nat_le 1 n && nat_le n 260
-is_within (Time t) = nat_le 1 t && nat_le t 4
+abbrev is_role : Role → Bool
+is_role (Sync bit) = nat_lt bit 2
+is_role (Control c) = nat_le 1 c && nat_le c 21
+is_role (Data n) = nat_le 1 n && nat_le n 260
+is_role (Time t) = nat_le 1 t && nat_le t 4
 
 abbrev is_sync : Role → Bool
 is_sync (Sync bit) = true
@@ -56,7 +56,7 @@ ones_table : list_all (λ row. same_role (role_of (16 * row)) (Sync 1)) (range_w
 unfolding role_of
 ones_table = refl
 
-within_table : list_all (λ i. is_within (role_of i)) (range_with_len 0 320) ≡ true
+within_table : list_all (λ i. is_role (role_of i)) (range_with_len 0 320) ≡ true
 unfolding role_of
 within_table = refl
 
@@ -82,11 +82,11 @@ from_same (Data a) (Data b) h = search rules
 from_same (Time a) (Time b) h = search rules
 from_same r s h = cc
 
-from_is_within : (r : Role) → is_within r ≡ true → IsWithin r
-from_is_within (Sync bit) h = grind (arith, common_steps)
-from_is_within (Control c) h = grind (arith, common_steps)
-from_is_within (Data n) h = grind (arith, common_steps)
-from_is_within (Time t) h = grind (arith, common_steps)
+from_is_role : (r : Role) → is_role r ≡ true → IsWithin r
+from_is_role (Sync bit) h = grind (arith, common_steps)
+from_is_role (Control c) h = grind (arith, common_steps)
+from_is_role (Data n) h = grind (arith, common_steps)
+from_is_role (Time t) h = grind (arith, common_steps)
 
 -- ---- roles
 
@@ -104,7 +104,7 @@ pub role_of-ones : (row : ℕ) → 1 ≤ row → row < 20 → role_of (16 * row)
 role_of-ones row l h = from_same _ _ (entry (λ row. same_role (role_of (16 * row)) (Sync 1)) 1 19 row ones_table l (omega arith))
 
 pub role_of-within : (i : ℕ) → i < 320 → IsWithin (role_of i)
-role_of-within i h = from_is_within (role_of i) (entry (λ i. is_within (role_of i)) 0 320 i within_table (omega arith) (omega arith))
+role_of-within i h = from_is_role (role_of i) (entry (λ i. is_role (role_of i)) 0 320 i within_table (omega arith) (omega arith))
 
 -- a role other than a sync bit's has its place alone
 only_here : (r : Role) (i : ℕ) → (is_sync r || nat_eq (place_of_role r) i) ≡ true → ((bit : ℕ) → r ≡ Sync bit → ⊥) → place_of_role r ≡ i
