@@ -18,7 +18,7 @@ use Rattle.tx_dtx.specs.Sent.{sent_of}
 use Rattle.tx_dtx.specs.Stands as tx
 use Rattle.tx_dtx.specs.Memory.{home_memory as tx_home}
 use Rattle.tx_dtx.specs.Step.{next_sent}
-use Rattle.tx_dtx.proofs.Table.{step-stands}
+use Rattle.tx_dtx.proofs.Sending.{step-stands}
 use Rattle.time_align.specs.Shift.{IsShift}
 use Rattle.time_align.specs.Memory as align
 use Rattle.time_align.specs.Step.{after_thaw, adopted}

@@ -1,6 +1,5 @@
 -- The blocks of a frame.
-use Rattle.std.proofs.Common.{◌≡◌, ℕ, ℤ, List, [], ◌∷◌, ◌++◌, drop, refl, sym, All}
-use Rattle.std.proofs.lemmas.List.Elements.{All-cons, All-nil}
+use Rattle.std.proofs.Common.{◌≡◌, ℕ, ℤ, List, [], ◌∷◌, ◌++◌, drop, refl, sym}
 use Rattle.fr_long.specs.Prediction.{Prediction, prediction_of, reconstructed_of}
 use Rattle.fr_long.specs.Step.{updated}
 use Rattle.fr_long.specs.Stands.{after_zeros, HistoryStands}
@@ -66,16 +65,14 @@ four_histories s d0 d1 d2 d3 m0 m1 m2 m3 m4 a b c d e0 e1 e2 e3 first second thi
     let four = fourth (block_after (block_after (block_after past d0).1 d1).1 d2).1 three.0 in
     rw (sym e0, sym e1, sym e2, sym e3, one.1, two.1, three.1, four.1) (four.0, refl)
 
-pub all_four : {X : Type 0} (P : X → Type 0) (a b c d : X) → P a → P b → P c → P d → All P (a ∷ b ∷ c ∷ d ∷ [])
-all_four P a b c d pa pb pc pd =
-    All-cons P a (b ∷ c ∷ d ∷ []) pa (All-cons P b (c ∷ d ∷ []) pb (All-cons P c (d ∷ []) pc (All-cons P d [] pd (All-nil P))))
-
 -- ---- the functions from block to block
 
+-- what is kept after a block
 updated_is : (residuals dpp ep : List ℤ) → drop 40 residuals ++ reconstructed_of dpp ep ≡ updated residuals dpp ep
 unfolding updated
 updated_is residuals dpp ep = refl
 
+-- a block from residuals that stand for a past
 block-stands : (d residuals : List ℤ) → IsCoded residuals d (next_block residuals d).0 (next_block residuals d).1
 unfolding next_block coded_block
 block-stands d residuals = λ past h.
@@ -84,6 +81,7 @@ block-stands d residuals = λ past h.
     one_history d past (drop 40 residuals ++ reconstructed_of p.dpp ep) p _ _ _ _ ep (by_history past residuals d h) refl refl refl refl refl
     (one_update past residuals p.dpp ep (drop 40 residuals ++ reconstructed_of p.dpp ep) h (updated_is residuals p.dpp ep))
 
+-- the four blocks
 pub blocks-stand : (s residuals past : List ℤ) → HistoryStands past residuals →
     HistoryStands (four_coded_blocks past s).1 (next_blocks residuals s).1 × ((next_blocks residuals s).0 ≡ (four_coded_blocks past s).0)
 unfolding next_blocks

@@ -60,16 +60,8 @@ impl Encoder {
         let peak = peak(&s);
         let lpc = analyse(&mut s);
         self.short_term.analyse_frame(&lpc.larc, &mut s);
-        let blocks = code_blocks(&mut self.long_term, &s);
-        let params = Params::new(
-            lpc.larc,
-            blocks.nc,
-            blocks.bc,
-            blocks.mc,
-            blocks.xmaxc,
-            blocks.xmc,
-        );
-        let (lar, xmax) = (lpc.lar, blocks.xmax);
+        let (params, xmax) = code_blocks(&mut self.long_term, lpc.larc, &s);
+        let lar = lpc.lar;
         (params, Trace { lar, xmax }, peak)
     }
 }

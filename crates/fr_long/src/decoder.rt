@@ -63,7 +63,7 @@ impl LtpDecoder {
     }
 }
 
-/// The lag of a block.
+// The lag of a block.
 fn usable_lag(nc: u8, last: u8) -> u8
     requires at_least { 40 ≤ last }
     requires at_most { last ≤ 120 }
@@ -74,7 +74,7 @@ fn usable_lag(nc: u8, last: u8) -> u8
     if 40 <= nc && nc <= 120 { nc } else { last }
 }
 
-/// The residual of a block after the last 120.
+// The residual of a block after the last 120.
 fn reconstructed(earlier: &[i16; 120], lag: u8, bc: u8, erp: &[i16; 40]) -> [i16; 40]
     requires at_least { 40 ≤ lag }
     requires at_most { lag ≤ 120 }

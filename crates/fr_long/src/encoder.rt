@@ -82,7 +82,7 @@ impl LtpHistory {
     }
 }
 
-/// The prediction of a block.
+// The prediction of a block.
 fn predicted(earlier: &[i16; 120], nc: u8, bc: u8) -> [i16; 40]
     requires at_least { 40 ≤ nc }
     requires at_most { nc ≤ 120 }
@@ -98,7 +98,7 @@ fn predicted(earlier: &[i16; 120], nc: u8, bc: u8) -> [i16; 40]
     dpp
 }
 
-/// A block less its prediction.
+// A block less its prediction.
 fn rest(d: &[i16; 40], dpp: &[i16; 40]) -> [i16; 40]
     ensures { result ≡ rest_of d.now dpp.now }
 {
@@ -109,7 +109,7 @@ fn rest(d: &[i16; 40], dpp: &[i16; 40]) -> [i16; 40]
     e
 }
 
-/// The residual of a coded block, as a decoder reconstructs it.
+// The residual of a coded block, as a decoder reconstructs it.
 fn reconstructed(dpp: &[i16; 40], ep: &[i16; 40]) -> [i16; 40]
     ensures { result ≡ reconstructed_of dpp.now ep.now }
 {

@@ -50,7 +50,7 @@ fn code_by_words(r: i16, s: i16) -> u8
     }
 }
 
-/// Whether the first word lies within the level of a code.
+// Whether the first word lies within the level of a code.
 fn is_within_level(r: i16, s: i16, bc: u8) -> bool
     requires { bc < 3 }
     ensures { result ≡ is_within r s bc }
@@ -58,7 +58,7 @@ fn is_within_level(r: i16, s: i16, bc: u8) -> bool
     r <= mult(s, DECISION_LEVELS[bc as usize])
 }
 
-/// The upper 16 bits of a long word shifted up, where that leaves it below 2^31.
+// The upper 16 bits of a long word shifted up, where that leaves it below 2^31.
 #[tactic(auto, unfolding(crate::specs::GainCode::high_word_of))]
 fn high_word(v: i32, shifts: u8) -> i16
     requires not_negative { pos 0 ≤ℤ v }

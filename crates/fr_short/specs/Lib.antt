@@ -7,6 +7,6 @@ pub mod Deemphasis
 pub mod Memory
 pub mod Step
 pub mod Stands
-pub mod Steps
+pub mod Stepped
 pub mod Words
 pub mod Lanes

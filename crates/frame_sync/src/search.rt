@@ -30,7 +30,7 @@ impl Model for FrameSync {
     ghost invariant = { λ s. IsNear (320 * s.periods) s.mode × AreBits s.last };
 }
 
-/// A period of zeros.
+// A period of zeros.
 fn zeros() -> [u8; 320]
     ensures value { result ≡ replicate 320 0 }
     ensures are_bits { AreBits result }
@@ -38,7 +38,7 @@ fn zeros() -> [u8; 320]
     [0; 320]
 }
 
-/// The bits of two periods.
+// The bits of two periods.
 fn joined(last: &[u8; 320], bits: &[u8; 320]) -> [u8; 640]
     ensures { result ≡ last.now ++ bits.now }
 {

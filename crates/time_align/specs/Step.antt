@@ -1,4 +1,4 @@
--- Time alignment, one call after another (this project's profile, in the manner of GSM 08.60).
+-- Time alignment, one operation after another (this project's profile, in the manner of GSM 08.60).
 use Rattle.std.specs.Prelude.{ℕ, ℤ, pos, true, false, if◌then◌else◌, None, unwrap_or}
 use Rattle.time_align.specs.Shift.{asked_then}
 use Rattle.time_align.specs.Memory.{AlignMemory}

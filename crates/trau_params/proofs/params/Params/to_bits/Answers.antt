@@ -2,7 +2,8 @@ use Rattle.std.proofs.Common.{◌≡◌, ◌++◌, ◌≤◌, length, sym, ap, s
 use Rattle.std.specs.List.{range_with_len, flat_map}
 use Rattle.std.proofs.lemmas.List.{take_all}
 use Rattle.trau_params.specs.Widths.{larc_widths, block_widths}
-use Rattle.trau_params.specs.FieldBits.{field_bits, AreBits}
+use Rattle.trau_bits.specs.Bits.{AreBits}
+use Rattle.trau_params.specs.FieldBits.{field_bits}
 use Rattle.trau_params.specs.Block.{bits_of_block}
 use Rattle.trau_params.specs.Bits260.{bits260, bits260_of, block_bits}
 use Rattle.trau_params.proofs.AreBits.{AreBits-bits260_of}
