@@ -7,4 +7,7 @@ pub mod Runs
 pub mod Joined
 pub mod Sequences
 pub mod Phased
+pub mod BridgeEnd
+pub mod UplinkRuns
+pub mod DownlinkRuns
 pub mod Telling

@@ -14,7 +14,7 @@ use Rattle.switchboard.specs.Rows.{Rows, IsSized, has_ended_in, call_in, bridge_
 use Rattle.switchboard.specs.Ends.{least}
 use Rattle.switchboard.specs.State.{last_stamp}
 use Rattle.switchboard.specs.Stands.{IsOver, IsLatest, IsSound, Stands}
-use Rattle.switchboard.proofs.Lists.{find-none, find-only}
+use Rattle.switchboard.proofs.Lists.{find-none, find-only, not_both}
 
 -- ---- open calls and live bridges
 
@@ -69,9 +69,6 @@ miss false w h = refl
 less : (j k : ℕ) → j ≢ k → (k < j → ⊥) → j < k
 less j k ne not_above = elim (cases_order j k) [ inl e ↦ absurd (ne e) | inr (inl l) ↦ l | inr (inr l) ↦ absurd (not_above l) ]
 
-both : (t : Bool) → t ≡ false → t ≡ true → ⊥
-both t p q = cc
-
 -- a test of a call's bridges that only the latest may pass
 pub latest-find : (bs : List Bridge) (c : ℕ) (o : Option ℕ) (P V : Bridge → Bool) → IsLatest bs c o →
     ((j : ℕ) → j < length bs → P (get_or bs j no_bridge) ≡ (joins c (get_or bs j no_bridge) && V (get_or bs j no_bridge))) →
@@ -80,7 +77,7 @@ pub latest-find : (bs : List Bridge) (c : ℕ) (o : Option ℕ) (P V : Bridge �
 latest-find bs c None P V latest is earlier =
     find-none P bs no_bridge (λ j l. is j l ∙ ap (λ t. t && V (get_or bs j no_bridge)) (latest j l))
 latest-find bs c (Some k) P V latest is earlier =
-    find-only P bs k no_bridge latest.0 (λ j l ne. is j l ∙ miss _ _ (λ e. earlier j k refl (less j k ne (λ m. both _ (latest.2 j m l) e)) e))
+    find-only P bs k no_bridge latest.0 (λ j l ne. is j l ∙ miss _ _ (λ e. earlier j k refl (less j k ne (λ m. not_both _ (latest.2 j m l) e)) e))
     ∙ ap (λ t. some_if t (get_or bs k no_bridge)) (is k latest.0 ∙ ap (λ t. t && V (get_or bs k no_bridge)) latest.1)
 
 pub latest_misses : (bs : List Bridge) (c : ℕ) → IsLatest bs c None → (j : ℕ) → j < length bs → joins c (get_or bs j no_bridge) ≡ false

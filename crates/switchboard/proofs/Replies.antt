@@ -16,6 +16,7 @@ use Rattle.switchboard.specs.Replies.{Known, not_open, bridged, draining, refuse
 use Rattle.switchboard.specs.Bridges.{other}
 use Rattle.switchboard.specs.Rows.{passes}
 use Rattle.switchboard.specs.Stands.{InTable}
+use Rattle.switchboard.proofs.Lists.{not_both}
 
 abbrev pub IsRefused : Result Act Refusal → Type 0
 IsRefused r = (e : Refusal) × (r ≡ Err e)
@@ -80,7 +81,7 @@ bridge_accepted k a b = elim (seven (act.Bridged a b) (refuse_if (a == b) (SameC
       | inr p ↦ inr (
         p.0,
         record {
-          apart = λ e. differ (a == b) (not_refused _ _ p.1) (eq-eqb a b e);
+          apart = λ e. not_both (a == b) (not_refused _ _ p.1) (eq-eqb a b e);
           open_a = not_not_refused _ _ p.2;
           open_b = not_not_refused _ _ p.3;
           alone_a = none_mapped _ _ p.4;
@@ -90,9 +91,6 @@ bridge_accepted k a b = elim (seven (act.Bridged a b) (refuse_if (a == b) (SameC
         },
       )
     ]
-  where
-    differ : (t : Bool) → t ≡ false → t ≡ true → ⊥
-    differ t p q = cc
 
 pub unbridge_accepted : (k : Known) (c : ℕ) → IsRefused (reply_from k (what.Unbridge c))
     ⊎ ((x : Bridge) × (reply_from k (what.Unbridge c) ≡ Ok (act.Unbridged x.a x.b)) × (k.is_open c ≡ true) × (k.bridge_of c ≡ Some x))

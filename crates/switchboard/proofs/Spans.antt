@@ -39,7 +39,7 @@ spans-few r k e h ended =
     let l = length-map r.bridges (span_in r) in
     omega (arith, somes-fewer-lt (map (span_in r) r.bridges) k (omega arith) (span_at r k None h ended), s)
 
-never_past : (n i : ℕ) → get_or (replicate n never) i never ≡ never
+pub never_past : (n i : ℕ) → get_or (replicate n never) i never ≡ never
 never_past zero i = refl
 never_past (suc n) zero = refl
 never_past (suc n) (suc i) = never_past n i

@@ -16,10 +16,11 @@ use Rattle.switchboard.specs.State.{State, gone_in}
 use Rattle.switchboard.specs.Stands.{Stands, IsBoard, dones, board_state}
 use Rattle.switchboard.proofs.Steps.{cons_same}
 use Rattle.switchboard.proofs.Known.{open_agrees}
-use Rattle.switchboard.proofs.Moves.{one_live}
+use Rattle.switchboard.proofs.MovesParted.{one_live}
 use Rattle.std.specs.Prelude.{is_none, ◌&&◌}
-use Rattle.switchboard.proofs.Tables.{joins_left, joins_right}
-use Rattle.switchboard.proofs.Boards.{gone_same, told_is}
+use Rattle.switchboard.proofs.TableCalls.{joins_left, joins_right}
+use Rattle.switchboard.proofs.BoardLists.{gone_same}
+use Rattle.switchboard.proofs.Boards.{told_is}
 
 abbrev end_by : (ℕ → Given) → ℕ → ℕ → ℕ → Option ℕ → CallEnd
 end_by given P c s o = elim o [
