@@ -48,12 +48,14 @@ left-more [] (y ∷ xs) x = refl
 left-more (o ∷ os) [] x = refl
 left-more (o ∷ os) (y ∷ xs) x = left-more os xs x
 
+-- where there is a next order, it stands in the list
 pub next-within : (os : List Order) (n : ℕ) (o : Order) → first_order (drop n os) ≡ Some o → (n < length os) × (get_or os n o ≡ o)
 next-within [] zero o e = cc
 next-within [] (suc n) o e = cc
 next-within (p ∷ os) zero o e = (omega arith, cc)
 next-within (p ∷ os) (suc n) o e = let h = next-within os n o e in (omega (arith, h.0), h.1)
 
+-- the stamp of the last executed order is that of an order of the list
 last-dones : (os : List Order) (xs : List Reply) (m : ℕ) (d : Order) → length xs ≤ length os → ((i : ℕ) → i < length xs → (get_or os i d).stamp ≤ m) →
     last_stamp (dones os xs) ≤ m
 last-dones [] xs m d l h = omega arith
@@ -66,6 +68,7 @@ last-dones (o ∷ os) (x ∷ []) m d l h = last_one os o m (h 0 (omega arith))
 last-dones (o ∷ []) (x ∷ y ∷ xs) m d l h = absurd (omega arith)
 last-dones (o ∷ p ∷ os) (x ∷ y ∷ xs) m d l h = last-dones (p ∷ os) (y ∷ xs) m d (omega arith) (λ i q. h (suc i) (omega arith))
 
+-- no executed order has a later stamp than the next one
 pub last-before : (os : List Order) (xs : List Reply) (o : Order) → AreOrders os → first_order (drop (length xs) os) ≡ Some o →
     last_stamp (dones os xs) ≤ o.stamp
 last-before os xs o a e =
@@ -75,15 +78,18 @@ last-before os xs o a e =
 
 -- ---- what was told
 
+-- the ends that a board was told are those of its table
 pub gone_same : (os : List Order) (xs : List Reply) (r : Rows) → gone_in (board_state os xs r) ≡ gone_of r
 gone_same os xs r = λ i. λ c. is_some (get_or-map_all (λ (e : Call). e.gone) r.calls c never i)
 
+-- a call that keeps its end is put in the place of another
 gone_set : (cs : List Call) (c : ℕ) (e : Call) → e.gone ≡ (get_or cs c never).gone → map (λ (e : Call). e.gone) (set cs c e) ≡ map (λ (e : Call). e.gone) cs
 gone_set cs c e h =
     map-set (λ (e : Call). e.gone) cs c e
     ∙ ap (λ g. set (map (λ (e : Call). e.gone) cs) c g) (h ∙ sym (get_or-map_all (λ (e : Call). e.gone) cs c never))
     ∙ set-get_or (map (λ (e : Call). e.gone) cs) c None
 
+-- to part two calls changes no row of a call
 parted_keeps : (r : Rows) (t c : ℕ) → (parted_in r t c).calls ≡ r.calls
 parted_keeps r t c = by r t (call_in r c).bridge
   where
@@ -91,6 +97,7 @@ parted_keeps r t c = by r t (call_in r c).bridge
     by r t None = refl
     by r t (Some k) = refl
 
+-- a reply changes no end that was told
 pub told_same : (r : Rows) (t : ℕ) (x : Result Act Refusal) → map (λ (e : Call). e.gone) (applied r t x).calls ≡ map (λ (e : Call). e.gone) r.calls
 told_same r t (Ok (act.Opened c law)) = gone_set r.calls c _ refl
 told_same r t (Ok (act.Closed c None)) = gone_set r.calls c _ refl
@@ -127,6 +134,7 @@ most_same r t (Err e) = refl
 
 -- ---- room
 
+-- at most one bridge comes of an order
 few_bridges : (ds : List Done) → length (bridges ds) ≤ length ds
 few_bridges [] = omega arith
 few_bridges (d ∷ ds) = let h = few_bridges ds in omega (

@@ -85,6 +85,7 @@ board-more os xs r o b z next n told =
           (last-before os xs o b.orders next) told n);
     }
 
+-- the reply from the table is that of the board
 pub reply_is : (os : List Order) (xs : List Reply) (r : Rows) (o : Order) → IsBoard os xs r → IsSized r.calls r.bridges → first_order (drop (length xs) os)
     ≡ Some o → NamesCalls o.what →
     reply_from (known_in r o.stamp) o.what ≡ reply_to (gone_in (board_state os xs r)) (dones os xs) o
@@ -161,9 +162,11 @@ pub record Ready (os : List Order) (xs : List Reply) (r : Rows) (s : State) (o :
   pub calls : NamesCalls o.what
   pub ends : (c : ℕ) → IfSome (told_in s c) (λ at. at < o.stamp)
 
+-- the next order of the list is the one that the board executes
 pub next_of : (os : List Order) (xs : List Reply) (r : Rows) (s : State) (o : Order) → Ready os xs r s o → first_order (drop (length xs) os) ≡ Some o
 next_of os xs r s o y = ap (λ (s : State). first_order s.left) y.seen ∙ y.next
 
+-- each end that was told lies before it
 pub told_of : (os : List Order) (xs : List Reply) (r : Rows) (s : State) (o : Order) → Ready os xs r s o → IsSome_before r o.stamp
 told_of os xs r s o y c =
     let e : told_in s c ≡ (call_in r c).gone = sym (ap (λ (s : State). told_in s c) y.seen) ∙ get_or-map_all (λ (e : Call). e.gone) r.calls c never in
@@ -193,9 +196,11 @@ execute_answer os xs r s o x k y p q =
     ap (λ (k : ℕ). Some (reply_of_order k x)) q ∙ ap (λ (x : Result Act Refusal). Some (reply_of_order (length xs) x)) p
     ∙ answer-more os xs r o y.board y.sized (next_of os xs r s o y) y.calls ∙ ap (λ s. reply_of s (Some o)) y.seen
 
+-- the ends that were told are those of the table
 pub told_is : (os : List Order) (xs : List Reply) (r : Rows) → told_in (board_state os xs r) ≡ (λ c. (call_in r c).gone)
 told_is os xs r = λ i. λ c. get_or-map_all (λ (e : Call). e.gone) r.calls c never i
 
+-- the spans of the table are those of the board
 pub spans_seen : (os : List Order) (xs : List Reply) (r : Rows) (s : State) → IsBoard os xs r → board_state os xs r ≡ s → r.spans ≡ spans_now (told_in s) s.done
 spans_seen os xs r s b e =
     b.stands.table.spans ∙ ap (filter_map (span_in r)) b.stands.bridges

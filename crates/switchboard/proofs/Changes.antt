@@ -37,10 +37,12 @@ pub record Seen (r : Rows) (s : State) : Type 0 where
   pub told : told_in s ≡ (λ c. (call_in r c).gone)
   pub bridges : bridges s.done ≡ r.bridges
 
+-- the latest bridge of a call stands in the list
 place_in : (bs : List Bridge) (c : ℕ) (o : Option ℕ) → IsLatest bs c o → IfSome o (λ k. k < length bs)
 place_in bs c None l = tt
 place_in bs c (Some k) l = l.0
 
+-- a table whose bridges are sound has the places that it names
 sized_by : (r : Rows) (now : ℕ) → IsTable r now → length r.calls ≡ 4097 → IsSized r.calls r.bridges
 sized_by r now s len = record {
   all = len;
@@ -52,12 +54,14 @@ sized_by r now s len = record {
 pub board_sized : (os : List Order) (xs : List Reply) (r : Rows) → IsBoard os xs r → IsSized r.calls r.bridges
 board_sized os xs r b = sized_by r _ b.stands.table b.places
 
+-- what the table tells of a call for each number, also one past the table: that it was opened ..
 opened_agrees : (r : Rows) (ds : List Done) (c : ℕ) → Stands r ds → length r.calls ≡ 4097 → is_some (opened_at c ds) ≡ was_opened r c
 opened_agrees r ds c s len = elim (cases_lt c 4097) [
   | inl h ↦ sym (ap is_some (s.opened c h))
   | inr h ↦ not_true _ (λ q. let k = s.inside c q in omega arith) ∙ sym (ap (λ (e : Call). is_some e.opened) (past r c len h))
 ]
 
+-- .. that it is open ..
 lives_agrees : (r : Rows) (ds : List Done) (c : ℕ) → Stands r ds → length r.calls ≡ 4097 → is_open (gone_of r) ds c ≡ is_open_in r c
 lives_agrees r ds c s len = elim (cases_lt c 4097) [
   | inl h ↦ sym (open_agrees r ds c s h)
@@ -65,6 +69,7 @@ lives_agrees r ds c s len = elim (cases_lt c 4097) [
       ∙ sym (ap (λ (e : Call). is_some e.opened && not (is_some e.closed) && not (is_some e.gone)) (past r c len h))
 ]
 
+-- .. and its bridge
 partner_agrees : (r : Rows) (ds : List Done) (c : ℕ) → Stands r ds → length r.calls ≡ 4097 → bridge_of (gone_of r) ds c ≡ bridge_in r c
 partner_agrees r ds c s len = elim (cases_lt c 4097) [
   | inl h ↦ sym (bridge_agrees r ds c s (sized_by r _ s.table len) h)
@@ -75,6 +80,7 @@ partner_agrees r ds c s len = elim (cases_lt c 4097) [
       ∙ sym (ap (λ (e : Call). latest_live r e.bridge) (past r c len h))
 ]
 
+-- a table that stands for a board shows what is seen of the board
 pub seen : (os : List Order) (xs : List Reply) (r : Rows) (s : State) → IsBoard os xs r → length r.calls ≡ 4097 → board_state os xs r ≡ s → Seen r s
 seen os xs r s b len e =
     let ds = dones os xs in
@@ -96,6 +102,7 @@ pub record Changes (s n : State) (t : ℕ) (a : Act) : Type 0 where
   pub partner : (c : ℕ) → partner_now n c ≡ partner_after a (partner_now s) c
   pub rests : Rests a (told_in s) (bridges s.done) t
 
+-- what moves in the table changes of the board
 changes : (r n : Rows) (s m : State) (t : ℕ) (a : Act) → Seen r s → Seen n m → Moved r n t a → Changes s m t a
 changes r n s m t a x y v = record {
   finds = subst (λ (f : ℕ → Bool). Finds a f (open_now s) (partner_now s)) (sym x.opened)
@@ -108,6 +115,7 @@ changes r n s m t a x y v = record {
       (sym x.bridges) v.rests);
 }
 
+-- of an act that was accepted more can be said
 pub each_ok : (x : Result Act Refusal) (P Q : Act → Type 0) → ((a : Act) → P a → Q a) → IfOk x P → IfOk x Q
 each_ok (Ok a) P Q h p = h a p
 each_ok (Err e) P Q h p = tt
@@ -132,6 +140,7 @@ pub record Without (s n : State) (m : ℕ) : Type 0 where
   pub lives : (c : ℕ) → open_now n c ≡ open_without m (open_now s) c
   pub partner : (c : ℕ) → partner_now n c ≡ partner_without m (partner_now s) c
 
+-- a call that its lines ended is not open
 shut_by_end : (o l : Bool) → (o && l && false) ≡ false
 shut_by_end true true = refl
 shut_by_end true false = refl
@@ -171,6 +180,7 @@ pairs_now os xs r s b z e =
 
 -- ---- no change
 
+-- where nothing is changed, no call is opened or closed, and each has the law and partner that it had
 pub as_before : (s n : State) → IsUnchanged s n → IsAsBefore s n
 as_before s n u = record {
   opened = λ c. opened_known n c ∙ ap (λ (k : Known). k.is_open c || k.has_ended c) (u.known 0) ∙ sym (opened_known s c);
@@ -188,6 +198,7 @@ as_before s n u = record {
     opened_known : (s : State) (c : ℕ) → opened_now s c ≡ (open_now s c || has_ended (gone_in s) s.done c)
     opened_known s c = three _ _ _
 
+-- so it is where an order is refused
 pub refused_before : (s n : State) (x : Result Act Refusal) → OnErr x (IsUnchanged s n) → OnErr x (IsAsBefore s n)
 refused_before s n (Ok a) h = tt
 refused_before s n (Err e) h = as_before s n h

@@ -41,6 +41,7 @@ pub record Moved (r n : Rows) (t : ℕ) (a : Act) : Type 0 where
   pub partner : (c : ℕ) → partner_in n c ≡ partner_after a (partner_in r) c
   pub rests : Rests a (λ c. (call_in r c).gone) r.bridges t
 
+-- `open`
 moved_opened : (r : Rows) (now t m : ℕ) (law : Law) → IsTable r now → length r.calls ≡ 4097 → (1 ≤ m) × (m ≤ 4096) → was_opened r m ≡ false →
     Moved r (applied r t (Ok (act.Opened m law))) t (act.Opened m law)
 moved_opened r now t m law s len n fresh =
@@ -53,16 +54,20 @@ moved_opened r now t m law s len n fresh =
 abbrev closed_call : Rows → ℕ → ℕ → Call
 closed_call r t m = record (call_in r m) { closed = Some t }
 
+-- a call that an order closed is not open
 shut_by_order : (o g : Bool) → (o && false && g) ≡ false
 shut_by_order true g = refl
 shut_by_order false g = refl
 
+-- to close a call changes nothing of which were opened ..
 closed_was : (r : Rows) (t m c : ℕ) → was_opened (closed_in r t m) c ≡ was_opened r c
 closed_was r t m c = ap is_some (field_kept (λ (x : Call). x.opened) r.calls m (closed_call r t m) refl c)
 
+-- .. and of which are open only that call
 closed_lives : (r : Rows) (t m : ℕ) → m < length r.calls → (c : ℕ) → is_open_in (closed_in r t m) c ≡ open_without m (is_open_in r) c
 closed_lives r t m l c = shut_open r m (closed_call r t m) r.spans l (shut_by_order (is_some (call_in r m).opened) (not (is_some (call_in r m).gone))) c
 
+-- neither that call nor its partner has one any more
 closed_partner : (r : Rows) (now t m : ℕ) → IsTable r now → length r.calls ≡ 4097 → m < 4097 → (c : ℕ) → partner_in (closed_in r t m) c
     ≡ partner_without m (partner_in r) c
 closed_partner r now t m s len l c = shut_partner r now m (closed_call r t m) r.spans s len (omega arith)
@@ -108,6 +113,7 @@ moved_closed r t m s len l lives (Some y) e =
 
 -- `bridge`
 
+-- where a call has no bridge now, its earlier bridges are over
 rested : (r : Rows) (ds : List Done) (t c : ℕ) → Stands r ds → last_stamp ds ≤ t → IsSome_before r t → c < 4097 → bridge_in r c ≡ None → bridge_ended_in r t c
     ≡ None →
     HasRested (λ c. (call_in r c).gone) r.bridges t c
@@ -155,9 +161,11 @@ moved_unbridged r t k s len l live =
 abbrev pub Does : Rows → ℕ → Result Act Refusal → Type 0
 Does r t x = IfOk x (Moved r (applied r t x) t)
 
+-- a refusal does nothing
 does_nothing : (r : Rows) (t : ℕ) (x : Result Act Refusal) → IsRefused x → Does r t x
 does_nothing r t x e = subst (λ (x : Result Act Refusal). Does r t x) (sym e.1) tt
 
+-- an act does what moves in the table
 does : (r : Rows) (t : ℕ) (x : Result Act Refusal) (a : Act) → x ≡ Ok a → Moved r (applied r t (Ok a)) t a → Does r t x
 does r t x a e m = subst (λ (x : Result Act Refusal). Does r t x) (sym e) m
 

@@ -27,6 +27,7 @@ use Rattle.switchboard.proofs.Lists.{not_both}
 
 -- ---- a bridge begins
 
+-- a bridge that no order of this stamp ended, ended before it
 ended_before : (r : Rows) (now t : ℕ) (x : Bridge) → IsSound r now x → now ≤ t → IsSome_before r t → is_this t x.ended ≡ false → (o : Option ℕ) → x.ended ≡ o →
     (v : ℕ) → end_in r x ≡ Some v → v < t
 ended_before r now t x s late told no_end None e v f =
@@ -38,6 +39,7 @@ ended_before r now t x s late told no_end (Some u) e v f =
     let ne : t ≢ u = λ h. not_both _ (sym (ap (is_this t) e) ∙ no_end) (eq-eqb t u h) in
     omega (arith, k.1, ne)
 
+-- where a call has no bridge now, and none ended with this stamp, each of its bridges is over
 pub over_before : (r : Rows) (ds : List Done) (t c : ℕ) → Stands r ds → last_stamp ds ≤ t → IsSome_before r t → c < 4097 → bridge_in r c ≡ None →
     bridge_ended_in r t c ≡ None →
     (j : ℕ) → j < length r.bridges → joins c (bridge_at_place r j) ≡ true → IsOver r t (bridge_at_place r j)
@@ -88,10 +90,12 @@ stands_bridged r ds o a b s len late told la lb j =
 abbrev Next : Rows → List Done → Order → Result Act Refusal → Type 0
 Next r ds o x = Stands (applied r o.stamp x) (ds ++ done o x ∷ [])
 
+-- a refusal changes nothing
 refused : (r : Rows) (ds : List Done) (o : Order) (x : Result Act Refusal) → Stands r ds → last_stamp ds ≤ o.stamp → IsRefused x → Next r ds o x
 refused r ds o x s late e = subst (λ (x : Result Act Refusal). Next r ds o x) (sym e.1) (stands_same r ds (done o (Err e.0)) s late (λ c. refl) (λ c. refl)
     (λ a b. refl) refl)
 
+-- **The table stands for one more executed order.**
 pub stands_more : (r : Rows) (ds : List Done) (t : ℕ) (w : What) → Stands r ds → IsSized r.calls r.bridges → last_stamp ds ≤ t → IsSome_before r t →
     NamesCalls w →
     Next r ds (record { stamp = t; what = w }) (reply_from (known_in r t) w)

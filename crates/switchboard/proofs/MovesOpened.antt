@@ -19,6 +19,7 @@ use Rattle.switchboard.proofs.Steps.{or_else-none, last-more, opened-more, close
 use Rattle.switchboard.proofs.TableCalls.{table_opened}
 use Rattle.switchboard.proofs.Lists.{none_of}
 
+-- one of two is there
 some_either : (u v : Option ℕ) → is_some (or_else u v) ≡ true → (is_some u ≡ true) ⊎ (is_some v ≡ true)
 some_either None v e = inr e
 some_either (Some x) v e = inl refl

@@ -143,6 +143,7 @@ closes_pair c x y q e = elim (cases_Bool (c == x.a)) [
 
 -- ---- closing
 
+-- ends before t lie before t + 1 too
 sooner : (r : Rows) (t : ℕ) → IsSome_before r t → (d : ℕ) → IfSome (call_in r d).gone (λ u. u < t + 1)
 sooner r t told d = by t (call_in r d).gone (told d)
   where
@@ -150,6 +151,7 @@ sooner r t told d = by t (call_in r d).gone (told d)
     by t None h = h
     by t (Some u) h = omega arith
 
+-- the stamp with which a call was closed, after a `close`
 closed_field : (r : Rows) (t c : ℕ) → c < length r.calls → (call_in r c).closed ≡ None → (k : ℕ) → (call_in (closed_in r t c) k).closed
     ≡ or_else (call_in r k).closed (if k == c then Some t else None)
 closed_field r t c l old k = field_set (λ x. x.closed) r.calls c (record (call_in r c) { closed = Some t }) t l refl old k
@@ -172,6 +174,7 @@ stands_closed r ds o c s len late h lasts told none =
 pub parted_not_live : (r : Rows) (t k : ℕ) → k < length r.bridges → is_live_in (parted_at r t k) (bridge_at_place (parted_at r t k) k) ≡ false
 parted_not_live r t k l = ap (is_live_in (parted_at r t k)) (get_or-set_same r.bridges k (record (bridge_at_place r k) { ended = Some t }) no_bridge l)
 
+-- a bridged call is closed
 pub stands_closed_bridge : (r : Rows) (ds : List Done) (o : Order) (c k : ℕ) → Stands r ds → length r.calls ≡ 4097 → last_stamp ds ≤ o.stamp → c < 4097 →
     is_open_in r c ≡ true → IsSome_before r o.stamp →
     (call_in r c).bridge ≡ Some k → is_live_in r (bridge_at_place r k) ≡ true →

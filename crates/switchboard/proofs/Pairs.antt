@@ -23,6 +23,7 @@ was_opened r c = is_some (call_in r c).opened
 
 -- ---- numbers past the table
 
+-- past the table no call was ever opened
 pub past : (r : Rows) (c : ℕ) → length r.calls ≡ 4097 → 4097 ≤ c → call_in r c ≡ never
 past r c l h = get_or_past r.calls c never (omega arith)
 
@@ -39,6 +40,7 @@ named r now c k s len l q = elim (cases_lt c 4097) [
       ]))
 ]
 
+-- each call has its latest bridge, also past the table
 pub latest_any : (r : Rows) (now c : ℕ) → IsTable r now → length r.calls ≡ 4097 → IsLatest r.bridges c (call_in r c).bridge
 latest_any r now c s len = elim (cases_lt c 4097) [
   | inl h ↦ s.latest c h
@@ -59,17 +61,20 @@ latest_is r now c k s len l q live = same_latest r now c k _ s (latest_any r now
 
 -- ---- a partner
 
+-- a call without a live bridge has no partner
 pub partner_none : (r : Rows) (c : ℕ) (o : Option ℕ) → ((k : ℕ) → o ≡ Some k → is_live_in r (bridge_at_place r k) ≡ false) →
     option_map (other c) (latest_live r o)
     ≡ None
 partner_none r c None h = refl
 partner_none r c (Some k) h = ap (λ (t : Bool). option_map (other c) (some_if t (bridge_at_place r k))) (h k refl)
 
+-- a call with one has the other call of it
 pub partner_some : (r : Rows) (c k : ℕ) → (call_in r c).bridge ≡ Some k → is_live_in r (bridge_at_place r k) ≡ true → partner_in r c
     ≡ Some (other c (bridge_at_place r k))
 partner_some r c k e live = ap (λ (o : Option ℕ). option_map (other c) (latest_live r o)) e
     ∙ ap (λ (t : Bool). option_map (other c) (some_if t (bridge_at_place r k))) live
 
+-- a call keeps its partner where its latest bridge and that one's calls stay as they are
 pub partner_kept : (r n : Rows) (c : ℕ) (o : Option ℕ) →
     ((k : ℕ) → o ≡ Some k → (bridge_at_place n k ≡ bridge_at_place r k) × (is_live_in n (bridge_at_place r k) ≡ is_live_in r (bridge_at_place r k))) →
     option_map (other c) (latest_live n o) ≡ option_map (other c) (latest_live r o)
@@ -78,6 +83,7 @@ partner_kept r n c (Some k) h =
     let e = h k refl in
     ap (λ (x : Bridge). option_map (other c) (some_if (is_live_in n x) x)) e.0 ∙ ap (λ (t : Bool). option_map (other c) (some_if t (bridge_at_place r k))) e.1
 
+-- what is found of a bridge
 some_mapped : (t : Bool) (c p : ℕ) (x : Bridge) → option_map (other c) (some_if t x) ≡ Some p → (t ≡ true) × (other c x ≡ p)
 some_mapped true c p x e = (refl, cc)
 some_mapped false c p x e = cc
@@ -90,6 +96,7 @@ partner_found r c p (Some k) e = let q = some_mapped _ c p (bridge_at_place r k)
 
 -- ---- the other call of a bridge
 
+-- each call of a bridge is the other one's other
 pub other_a : (x : Bridge) → other x.a x ≡ x.b
 other_a x = ap (λ (t : Bool). if t then x.b else x.a) (eq-eqb x.a x.a refl)
 
@@ -103,6 +110,7 @@ each_call c x q n = elim (joins_cases c x q) [
   | inr p ↦ inr (p, ap (λ c. other c x) p ∙ other_b x n)
 ]
 
+-- the two calls of a bridge are one of its calls and that one's other
 pub this_pair : (m c : ℕ) (x : Bridge) → joins m x ≡ true → x.a ≢ x.b → (c == m || c == other m x) ≡ joins c x
 this_pair m c x q n = elim (each_call m x q n) [
   | inl p ↦ ap (λ i. c == i || c == other m x) p.0 ∙ ap (λ i. c == x.a || c == i) p.1
@@ -111,6 +119,7 @@ this_pair m c x q n = elim (each_call m x q n) [
 
 -- ---- partners are pairs of open calls
 
+-- **The partners of a table are pairs of open calls.**
 pub pairs_in : (r : Rows) (now : ℕ) → IsTable r now → length r.calls ≡ 4097 → ArePairs (is_open_in r) (partner_in r)
 pairs_in r now s len = record {
   both_ways = λ c p e.

@@ -36,6 +36,7 @@ shut_open r m e ss l shut c = elim (cases_eq c m) [
   | inr n ↦ open_other r m c e n ∙ sym (ap (λ (t : Bool). if t then false else is_open_in r c) (ne_eqb c m n))
 ]
 
+-- a bridge of m is live no more
 shut_joined : (r : Rows) (m : ℕ) (e : Call) (ss : List Span) → m < length r.calls → is_open_call e ≡ false → (x : Bridge) → joins m x ≡ true →
     is_live_in (with_call r m e ss) x ≡ false
 shut_joined r m e ss l shut x q = not_true _ (λ live.
@@ -44,6 +45,7 @@ shut_joined r m e ss l shut x q = not_true _ (λ live.
     let z : is_open_in n m ≡ false = ap is_open_call (get_or-set_same r.calls m e never l) ∙ shut in
     not_both _ z (elim (joins_cases m x q) [ inl p ↦ ap (is_open_in n) p ∙ v.1 | inr p ↦ ap (is_open_in n) p ∙ v.2 ]))
 
+-- a bridge of other calls is as it was
 shut_apart : (r : Rows) (m : ℕ) (e : Call) (ss : List Span) (x : Bridge) → x.a ≢ m → x.b ≢ m → is_live_in (with_call r m e ss) x ≡ is_live_in r x
 shut_apart r m e ss x na nb =
     ap (λ t. is_none x.ended && t && is_open_in (with_call r m e ss) x.b) (open_other r m x.a e na)

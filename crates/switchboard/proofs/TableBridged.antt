@@ -20,6 +20,7 @@ use Rattle.switchboard.proofs.TableCalls.{joins_left, joins_right, joins_cases}
 abbrev pub new_bridge : ℕ → ℕ → ℕ → Bridge
 new_bridge t a b = record { a = a; b = b; from = t; ended = None }
 
+-- the latest bridge of each call, after a new one joins a and b
 pub placed : (r : Rows) (a b k c : ℕ) → a < length r.calls → b < length r.calls →
     ((get_or (with_latest (with_latest r.calls k a) k b) c never).bridge ≡ Some k) × ((c ≡ a) ⊎ (c ≡ b))
     ⊎ ((get_or (with_latest (with_latest r.calls k a) k b) c never).bridge ≡ (call_in r c).bridge) × (c ≢ a) × (c ≢ b)
@@ -50,6 +51,7 @@ pub bridged_field : {Y : Type 0} (f : Call → Y) (r : Rows) (k a b : ℕ) → (
 bridged_field f r k a b h c =
     field_kept f (with_latest r.calls k a) b _ (h _) c ∙ field_kept f r.calls a _ (h _) c
 
+-- a new bridge changes nothing of who is open ..
 pub bridged_open : (r : Rows) (t a b c : ℕ) → is_open_in (bridged_in r t a b) c ≡ is_open_in r c
 bridged_open r t a b c =
     let k = length r.bridges in
@@ -59,15 +61,18 @@ bridged_open r t a b c =
     (bridged_field (λ x. x.closed) r k a b (λ e. refl) c)
     ∙ ap (λ o. is_some (call_in r c).opened && not (is_some (call_in r c).closed) && not (is_some o)) (bridged_field (λ x. x.gone) r k a b (λ e. refl) c)
 
+-- .. and of no end
 bridged_end : (r : Rows) (t a b : ℕ) (x : Bridge) → end_in (bridged_in r t a b) x ≡ end_in r x
 bridged_end r t a b x =
     let k = length r.bridges in
     ap (λ o. least x.ended (least o (call_in (bridged_in r t a b) x.b).gone)) (bridged_field (λ x. x.gone) r k a b (λ e. refl) x.a)
     ∙ ap (λ o. least x.ended (least (call_in r x.a).gone o)) (bridged_field (λ x. x.gone) r k a b (λ e. refl) x.b)
 
+-- the bridges stay at their places
 pub old_place : (bs : List Bridge) (y : Bridge) (j : ℕ) → j < length bs → get_or (bs ++ y ∷ []) j no_bridge ≡ get_or bs j no_bridge
 old_place bs y j l = get_or_append_left bs (y ∷ []) no_bridge j l
 
+-- the new one is the last
 pub new_place : (bs : List Bridge) (y : Bridge) → get_or (bs ++ y ∷ []) (length bs) no_bridge ≡ y
 new_place bs y = get_or_push bs y no_bridge (length bs) refl
 
@@ -86,6 +91,7 @@ each_place bs y P old new j l =
           subst (λ (j : ℕ). P j (get_or (bs ++ y ∷ []) j no_bridge)) e (subst (λ (x : Bridge). P (length bs) x) (sym (new_place bs y)) new)
     ]
 
+-- of a call that it doesn't join the latest bridge stays
 latest_more : (bs : List Bridge) (c t a b : ℕ) (o : Option ℕ) → IsLatest bs c o → c ≢ a → c ≢ b → IsLatest (bs ++ new_bridge t a b ∷ []) c o
 latest_more bs c t a b None l na nb =
     each_place bs (new_bridge t a b) (λ j x. joins c x ≡ false) l (not_true _ (λ e. elim (joins_cases c (new_bridge t a b) e) [ inl p ↦ na p | inr p ↦ nb p ]))
@@ -98,6 +104,7 @@ latest_more bs c t a b (Some k) l na nb =
           (λ h. not_true _ (λ e. elim (joins_cases c y e) [ inl p ↦ na p | inr p ↦ nb p ])) j i h,
     )
 
+-- of a call that it joins it is the latest
 latest_new : (bs : List Bridge) (c t a b : ℕ) → ((c ≡ a) ⊎ (c ≡ b)) → IsLatest (bs ++ new_bridge t a b ∷ []) c (Some (length bs))
 latest_new bs c t a b q =
     let y : Bridge = new_bridge t a b in

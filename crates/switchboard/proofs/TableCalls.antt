@@ -15,6 +15,7 @@ use Rattle.switchboard.proofs.Appending.{or_else}
 use Rattle.switchboard.proofs.Steps.{field_kept, field_set, filter_map_same, Keeps, end_kept, over_kept}
 use Rattle.switchboard.proofs.Lists.{not_both}
 
+-- a call that was opened, and neither closed nor ended by its lines, is open
 pub open_made : (o l g : Option ℕ) → is_some o ≡ true → l ≡ None → g ≡ None → (is_some o && not (is_some l) && not (is_some g)) ≡ true
 open_made o l g p q r = cc
 
@@ -22,6 +23,7 @@ pub some_left : (u v : Option ℕ) → is_some u ≡ true → is_some (or_else u
 some_left None v e = cc
 some_left (Some x) v e = refl
 
+-- a bridge joins its two calls, and no other
 pub joins_left : (c : ℕ) (x : Bridge) → c ≡ x.a → joins c x ≡ true
 joins_left c x e = ap (λ t. t || c == x.b) (eq-eqb c x.a e)
 
@@ -33,6 +35,7 @@ joins_cases c x e = elim (or_cases (c == x.a) (c == x.b) e) [ inl p ↦ inl (eqb
 
 -- ---- changes of calls alone
 
+-- calls that keep their bridges and ends keep the table
 pub table_kept : (r : Rows) (now : ℕ) (cs : List Call) → Keeps r (record r { calls = cs }) → IsTable r now →
     ((j : ℕ) → j < length r.bridges → end_in r (bridge_at_place r j) ≡ None → (is_open_in (record r { calls = cs }) (bridge_at_place r j).a ≡ true)
     × (is_open_in (record r { calls = cs }) (bridge_at_place r j).b ≡ true)) →
@@ -77,6 +80,7 @@ pub some_not_none : (o : Option ℕ) → is_some o ≡ true → o ≡ None → �
 some_not_none None e h = cc
 some_not_none (Some x) e h = cc
 
+-- a changed call keeps them
 pub keeps_calls : (r : Rows) (c : ℕ) (e : Call) → e.gone ≡ (call_in r c).gone → e.bridge ≡ (call_in r c).bridge → Keeps r (record r { calls = set r.calls c e })
 keeps_calls r c e p q = record {
   gone = field_kept (λ x. x.gone) r.calls c e p;
@@ -85,6 +89,7 @@ keeps_calls r c e p q = record {
   spans = refl;
 }
 
+-- to open a call leaves each open call open
 pub open_more : (r : Rows) (t c k : ℕ) → c < length r.calls → (call_in r c).opened ≡ None → is_open_in r k ≡ true → is_open_in (opened_in r t c) k ≡ true
 open_more r t c k l old h =
     let e : Call = record (call_in r c) { opened = Some t } in
@@ -102,15 +107,18 @@ table_opened r now t c s l old =
     ∙ s.untold d u (sym (field_kept (λ x. x.closed) r.calls c (record (call_in r c) { opened = Some t }) refl d) ∙ e))
     (unused_set r now c (record (call_in r c) { opened = Some t }) s l (λ e. cc))
 
+-- a changed call changes nothing of whether another is open
 pub open_other : (r : Rows) (c k : ℕ) (e : Call) → k ≢ c → is_open_in (record r { calls = set r.calls c e }) k ≡ is_open_in r k
 open_other r c k e n = ap (λ (x : Call). is_some x.opened && not (is_some x.closed) && not (is_some x.gone)) (get_or-set_other r.calls c k e never n)
 
+-- the lesser of two lies before what both lie before
 pub least_before : (t v : ℕ) (a b : Option ℕ) → IfSome a (λ u. u < t) → IfSome b (λ u. u < t) → least a b ≡ Some v → v < t
 least_before t v None None p q e = cc
 least_before t v None (Some y) p q e = let f : y ≡ v = cc in omega arith
 least_before t v (Some x) None p q e = let f : x ≡ v = cc in omega arith
 least_before t v (Some x) (Some y) p q e = let f : min x y ≡ v = cc in omega arith
 
+-- a bridge with an end ended before t, where each end that was told did
 ended_by : (r : Rows) (now t : ℕ) (x : Bridge) → IsSound r now x → now ≤ t → ((d : ℕ) → IfSome (call_in r d).gone (λ u. u < t + 1)) → (o : Option ℕ) →
     x.ended ≡ o → (v : ℕ) → end_in r x ≡ Some v → v < t + 1
 ended_by r now t x s late told None e v f =
@@ -121,11 +129,13 @@ ended_by r now t x s late told (Some u) e v f =
     let g : u ≡ v = cc (k.0, f) in
     omega (arith, k.1)
 
+-- a bridge that has an end before t is over then
 pub over_by : (r : Rows) (t : ℕ) (x : Bridge) → (end_in r x ≡ None → ⊥) → ((v : ℕ) → end_in r x ≡ Some v → v < t) → (o : Option ℕ) → end_in r x ≡ o →
     IsOver r t x
 over_by r t x some before None e = absurd (some e)
 over_by r t x some before (Some v) e = record { at = v; ended = e; before = before v e }
 
+-- the stamp of the `close`
 closed_stamp : (r : Rows) (t c d u : ℕ) → c < length r.calls → d ≡ c → (call_in (closed_in r t c) d).closed ≡ Some u → u ≡ t
 closed_stamp r t c d u l p e =
     let f : (call_in (closed_in r t c) d).closed ≡ Some t = ap (λ (d : ℕ). (call_in (closed_in r t c) d).closed) p
@@ -168,6 +178,7 @@ none_live r now c s (Some k) l live j h q e =
       | inr (inr p) ↦ not_both _ (l.2 j p h) q
     ]
 
+-- a further end, of one of the calls of a bridge or of both: the end of the bridge is the lesser
 pub least_a : (at : ℕ) (e b : Option ℕ) → least e (least (Some at) b) ≡ least (least e (least None b)) (Some at)
 least_a at None None = refl
 least_a at None (Some w) = ap Some (omega arith)
@@ -184,6 +195,7 @@ pub least_ab : (at : ℕ) (e : Option ℕ) → least e (least (Some at) (Some at
 least_ab at None = ap Some (omega arith)
 least_ab at (Some s) = ap Some (omega arith)
 
+-- the lesser of two is there where one is
 pub least_never : (o : Option ℕ) (at : ℕ) → least o (Some at) ≡ None → ⊥
 least_never None at e = cc
 least_never (Some v) at e = cc

@@ -22,16 +22,20 @@ use Rattle.switchboard.proofs.TableCalls.{joins_left, joins_right, joins_cases, 
 lost_calls : (r : Rows) (at c : ℕ) → List Call
 lost_calls r at c = set r.calls c (record (call_in r c) { gone = Some at })
 
+-- the row of the call whose lines ended it ..
 lost_same : (r : Rows) (at c k : ℕ) → c < length r.calls → k ≡ c → (call_in (call_ended_in r at c) k).gone ≡ Some at
 lost_same r at c k l e = ap (λ (k : ℕ). (call_in (call_ended_in r at c) k).gone) e
     ∙ ap (λ (x : Call). x.gone) (get_or-set_same r.calls c (record (call_in r c) { gone = Some at }) never l)
 
+-- .. and the others
 lost_other : (r : Rows) (at c k : ℕ) → k ≢ c → call_in (call_ended_in r at c) k ≡ call_in r k
 lost_other r at c k n = get_or-set_other r.calls c k (record (call_in r c) { gone = Some at }) never n
 
+-- a bridge that doesn't join a call has it on no side ..
 pub lost_apart : (r : Rows) (at c : ℕ) (x : Bridge) → joins c x ≡ false → (x.a ≢ c) × (x.b ≢ c)
 lost_apart r at c x e = (λ p. not_both _ e (joins_left c x (sym p)), λ p. not_both _ e (joins_right c x (sym p)))
 
+-- .. and keeps its end
 pub lost_end_other : (r : Rows) (at c : ℕ) (x : Bridge) → joins c x ≡ false → end_in (call_ended_in r at c) x ≡ end_in r x
 lost_end_other r at c x e =
     let n = lost_apart r at c x e in

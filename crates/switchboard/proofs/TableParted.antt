@@ -17,6 +17,7 @@ use Rattle.switchboard.proofs.Steps.{part_kept}
 
 -- ---- an order ends a bridge
 
+-- the latest bridge of each call stays, after one is ended
 latest_parted : (bs : List Bridge) (k t c : ℕ) (o : Option ℕ) → IsLatest bs c o → IsLatest (set bs k (record (get_or bs k no_bridge) { ended = Some t })) c o
 latest_parted bs k t c None l =
     let y : Bridge = record (get_or bs k no_bridge) { ended = Some t } in
