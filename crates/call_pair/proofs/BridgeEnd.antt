@@ -5,19 +5,22 @@ use Rattle.std.proofs.lemmas.Bool.{cases_lt}
 use Rattle.call_leg.specs.Settings.{Settings, later, settings_at, without_bridge, period_with}
 use Rattle.call_pair.specs.History.{settings_past}
 use Rattle.call_pair.proofs.Places.{is_below, not_below, is_same, is_past, is_before}
-use Rattle.call_pair.proofs.Runs.{still-bridged, set-past}
+use Rattle.call_pair.proofs.RunsAlone.{still-bridged}
+use Rattle.call_pair.proofs.Runs.{set-past}
 
 -- ---- what is set for a place, where a bridge ends at place m
 
 abbrev pub set_for : ℕ → ℕ → Settings → Settings
 set_for m k now = if ltb k m then settings_at k now else without_bridge (settings_at k now)
 
+-- before place m the settings of the round's start are in force, and from there on those without the bridge
 set-within : (m k : ℕ) (now : Settings) → k < m → set_for m k now ≡ settings_at k now
 set-within m k now l = ap (λ (x : Bool). if x then settings_at k now else without_bridge (settings_at k now)) (is_below k m l)
 
 set-behind : (m k : ℕ) (now : Settings) → m ≤ k → set_for m k now ≡ without_bridge (settings_at k now)
 set-behind m k now g = ap (λ (x : Bool). if x then settings_at k now else without_bridge (settings_at k now)) (not_below k m g)
 
+-- a bridge is on at a place before m
 pub set-flag : (m k : ℕ) (now : Settings) → (set_for m k now).bridged ≡ (now.bridged && ltb k m)
 set-flag m k now = ⊎_elim
     (λ (l : k < m). ap (λ (s : Settings). s.bridged) (set-within m k now l) ∙ still-bridged k now ∙ sym (and-true now.bridged)
@@ -26,12 +29,14 @@ set-flag m k now = ⊎_elim
     ∙ sym (ap (λ (x : Bool). now.bridged && x) (not_below k m g)))
     (cases_lt k m)
 
+-- after a place of a half, those that its history has for the next one
 pub set-next : (m k : ℕ) (now : Settings) → later (set_for m k now) ≡ settings_past (suc k) m now
 set-next m k now = ⊎_elim
     (λ (l : k < m). ap later (set-within m k now l) ∙ sym (set-past (suc k) m now false (not_below m (suc k) (omega arith))))
     (λ (g : m ≤ k). ap later (set-behind m k now g) ∙ sym (set-past (suc k) m now true (is_below m (suc k) (omega arith))))
     (cases_lt k m)
 
+-- a period has the level, the mode and the start of a bridge, whether it goes on or not
 pub set-period : (m k : ℕ) (now : Settings) (up pcm : List ℕ) (x : Option (List ℕ)) → period_with (set_for m k now) up pcm x
     ≡ period_with (settings_at k now) up pcm x
 set-period m k now up pcm x =
@@ -40,6 +45,7 @@ set-period m k now up pcm x =
 
 -- ---- a half whose bridge ends at place m
 
+-- where no bridge is on, the one without it is the same
 off-same : (now : Settings) → now.bridged ≡ false → now ≡ without_bridge now
 off-same now e = ap (λ (b : Bool). record { level = now.level; mode = now.mode; starts = now.starts; bridged = b }) e
 

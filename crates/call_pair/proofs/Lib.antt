@@ -3,6 +3,7 @@ pub mod Lengths
 pub mod Places
 pub mod Octets
 pub mod Steps
+pub mod RunsAlone
 pub mod Runs
 pub mod Joined
 pub mod Sequences

@@ -22,6 +22,7 @@ use Rattle.call_pair.proofs.DownlinkRuns.{speaks, half-runs}
 
 -- ---- the jobs
 
+-- the job of one call gives the runs of its halves
 pub one-runs : (s : Start) (h : HalfMemory) → Begins s h → OneRuns s (finished (One h))
 one-runs s h b = record { half = half_run 0 [] h; notes = (first_phase 0 h).notes; is_one = one-phased h (none-done s h 0 b); run = half-runs s h 0 b [] refl }
 
@@ -32,6 +33,7 @@ effs-long s h m b le =
     let all = (hears s h m b).run.all in
     length-take-le m (frames_in ns) (omega (arith, le, all, length-map ns (λ (x : Note). x.eff)))
 
+-- the job of two gives those of both, each with the other's frames
 pub two-run : (a b : Start) (g h : HalfMemory) → Begins a g → Begins b h → TwoRun a b (finished (Two g h))
 two-run a b g h s t =
     let m = min a.io.given b.io.given in
@@ -46,9 +48,11 @@ two-run a b g h s t =
       second_run = half-runs b h m t (effs m g) (effs-long a g m s (omega arith));
     }
 
+-- each first phase of a job of two is told ..
 pub both-hear : (a b : Start) (g h : HalfMemory) → Begins a g → Begins b h → Hears a (min a.io.given b.io.given) (first_phase (min a.io.given b.io.given) g)
 both-hear a b g h s t = hears a g (min a.io.given b.io.given) s
 
+-- .. and each second one
 pub both-speak : (a b : Start) (g h : HalfMemory) → Begins a g → Begins b h → let m = min g.io.given h.io.given in Speaks a (effs m h)
     (second_phase m (effs m h) g)
 both-speak a b g h s t =
@@ -58,6 +62,7 @@ both-speak a b g h s t =
 
 -- ---- the effective frames of a call with a partner, by its history
 
+-- the periods of a call in a bridge are those of its run, where its partner's frames are handed over
 same-periods : (a b : Start) (k : ℕ) → periods_run (history_of a) (ups_in a) (pcms_in a) (λ (i : ℕ). handed_at i b (bridged_periods i b a)) k
     ≡ bridged_periods k a b
 same-periods a b zero = refl
@@ -65,6 +70,7 @@ same-periods a b (suc k) =
     ap (λ (ts : List CallPeriod). period_with (settings_at k a.now) (up_at k a.io) (pcm_at k a.io) (handed_at k b (bridged_periods k b a)) ∷ ts)
     (same-periods a b k)
 
+-- the partner hands over as long as both have places
 handed-ends : (a b : Start) → a.now.bridged ≡ true → EndsAt (history_of a) (min a.io.given b.io.given) a.io.given
     (λ (i : ℕ). handed_at i b (bridged_periods i b a))
 handed-ends a b on k l =
@@ -76,6 +82,7 @@ handed-ends a b on k l =
     ∙ sym (ap (λ (x : Bool). x && ltb k m) on ∙ not_below k m (omega arith)))
     (cases_lt k b.io.given)
 
+-- the frames that a half hands over are those of its call's history
 pub frames-told : (a b : Start) (g h : HalfMemory) → Begins a g → Begins b h → a.now.bridged ≡ true → b.now.bridged ≡ true →
     let m = min g.io.given h.io.given in (k : ℕ) → k < m → frame_at k (effs m g) ≡ (note_in a.io.call (bridged_periods k a b) (up_at k a.io)).eff
 frames-told a b g h s t on too k l =
