@@ -14,6 +14,7 @@ length-up_at io k h below = length-taken io.up 40 (40 * k) (omega (arith, h.room
 pub length-pcm_at : (io : IoMemory) (k : ℕ) → IsIo io → k < io.given → length (pcm_at k io) ≡ 160
 length-pcm_at io k h below = length-taken io.pcm 160 (160 * k) (omega (arith, h.room.pcm_room, h.room.enough))
 
+-- what is put in the middle of a buffer
 put_mid-written : (start k : ℕ) (buffer octets : List ℕ) → length octets ≡ k → put_mid start k buffer octets ≡ written buffer start octets
 put_mid-written start k buffer octets e =
     let long : start + k ≡ start + length octets = omega arith in

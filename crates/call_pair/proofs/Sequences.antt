@@ -50,12 +50,14 @@ io_from h out down k = record { call = h.io.call; up = h.io.up; pcm = h.io.pcm; 
 abbrev pub half_after : ℕ → (ℕ → EffectiveFields) → HalfMemory → ℕ → HalfMemory
 half_after m items h k = record { leg = joined (ups m h k) (downs m items h k); io = io_from h (outs m h k) (lines m items h k) k }
 
+-- before the first place
 pub begin : (m : ℕ) (items : ℕ → EffectiveFields) (h : HalfMemory) → h.io.done ≡ 0 → h ≡ half_after m items h 0
 unfolding ups outs downs lines
 begin m items h e = ap (λ (n : ℕ). record { leg = h.leg; io = io_from h h.io.out h.io.down n }) e
 
 -- ---- the flags
 
+-- both halves are bridged, or neither is
 same-flag : (m : ℕ) (items : ℕ → EffectiveFields) (h : HalfMemory) (k : ℕ) → (ups m h k).bridged ≡ (downs m items h k).bridged
 unfolding ups downs
 same-flag m items h zero = refl
@@ -70,9 +72,11 @@ ends_by : (b : Bool) → (if b && true then false else b) ≡ false
 ends_by true = refl
 ends_by false = refl
 
+-- at place m the bridge ends ..
 ends-at : (m k : ℕ) (d : DownMemory) → k ≡ m → (down_before m k d).bridged ≡ false
 ends-at m k d e = down-flag (d.bridged && k == m) d ∙ ap (λ (t : Bool). if d.bridged && t then false else d.bridged) (eq-eqb k m e) ∙ ends_by d.bridged
 
+-- .. and once off it stays off
 stays-off : (m k : ℕ) (d : DownMemory) → d.bridged ≡ false → (down_before m k d).bridged ≡ false
 stays-off m k d e = down-flag (d.bridged && k == m) d ∙ ap (λ (f : Bool). if f && k == m then false else f) e
 
@@ -118,6 +122,7 @@ off-item m items h k e same =
     (λ (g : m ≤ k). ap (λ (t : Bool). item_if t e) (off-from m items h k g) ∙ sym (ap (λ (t : Bool). item_if t (items k)) (off-from m items h k g)))
     (cases_lt k m)
 
+-- one place more of both halves is the turn of their half
 pub step : (m : ℕ) (items : ℕ → EffectiveFields) (h : HalfMemory) (k : ℕ) (e : EffectiveFields) → (k < m → e ≡ items k) →
     half_turned_if (ltb (min k h.io.given) h.io.given) m e (half_after m items h (min k h.io.given)) ≡ half_after m items h (min (suc k) h.io.given)
 step m items h k e same =

@@ -48,10 +48,12 @@ by_flag b partner leg io =
     let last = down_worked down (pcm_at io.done io) in
     record { leg = with_down first.2 last.1; io = with_place (with_out io first.1) (octets_of last.0) }
 
+-- the turn of a half that lies in no bridge
 pub turned-alone : (m : ℕ) (e : EffectiveFields) (h : HalfMemory) → h.leg.down.bridged ≡ false → half_turned m e h ≡ alone h
 turned-alone m e h off =
     ap (λ (b : Bool). place_worked e (if b && h.io.done == m then unbridged h.leg else h.leg) h.io) off ∙ ap (λ (b : Bool). by_flag b e h.leg h.io) off
 
+-- before the bridge's end the leg is as it was
 leg-same : (m : ℕ) (h : HalfMemory) → (h.io.done == m) ≡ false → leg_at m h ≡ h.leg
 leg-same m h t = ap (λ (b : Bool). if h.leg.down.bridged && b then unbridged h.leg else h.leg) t ∙ go h.leg.down.bridged
   where
@@ -59,12 +61,15 @@ leg-same m h t = ap (λ (b : Bool). if h.leg.down.bridged && b then unbridged h.
     go true = refl
     go false = refl
 
+-- so its turn is one within the bridge ..
 pub turned-bridged : (m : ℕ) (e : EffectiveFields) (h : HalfMemory) → h.leg.down.bridged ≡ true → (h.io.done == m) ≡ false → half_turned m e h ≡ bridged h e
 turned-bridged m e h on t = ap (λ (l : LegMemory). place_worked e l h.io) (leg-same m h t) ∙ ap (λ (b : Bool). by_flag b e h.leg h.io) on
 
+-- .. with the frame that it tells
 pub tells-is : (m : ℕ) (h : HalfMemory) → (h.io.done == m) ≡ false → effective m h ≡ tells h
 tells-is m h t = ap (λ (l : LegMemory). (up_worked l (up_at h.io.done h.io)).0) (leg-same m h t)
 
+-- at the bridge's end the turn is that of a half alone
 pub turned-ends : (m : ℕ) (e : EffectiveFields) (h : HalfMemory) → h.leg.down.bridged ≡ true → (h.io.done == m) ≡ true → half_turned m e h
     ≡ alone (record { leg = unbridged h.leg; io = h.io })
 turned-ends m e h on t =
@@ -119,6 +124,7 @@ bridged-worked s k ts now h e room enough below b w =
       leg = last.0;
     })
 
+-- a half whose partner has no place left
 pub left_alone-is : (h : HalfMemory) (others : ℕ) (b : Bool) → (h.io.done == others) ≡ b → left_alone h others
     ≡ alone (record { leg = if b then unbridged h.leg else h.leg; io = h.io })
 left_alone-is h others b e = ap (λ (x : Bool). alone (record { leg = if x then unbridged h.leg else h.leg; io = h.io })) e

@@ -30,6 +30,7 @@ use Rattle.switchboard.proofs.Steps.{last-more, or_else-none, opened-more, close
 abbrev untold : ℕ → List (Option ℕ)
 untold n = replicate n None
 
+-- a new board was told no end
 none_at : (n c : ℕ) → get_or (untold n) c None ≡ None
 none_at zero c = refl
 none_at (suc n) zero = refl
@@ -51,6 +52,7 @@ before_set t at (x ∷ xs) zero l h (suc c) = h (suc c)
 before_set t at (x ∷ xs) (suc i) l h zero = h zero
 before_set t at (x ∷ xs) (suc i) l h (suc c) = before_set t at xs i l (λ k. h (suc k)) c
 
+-- one more end before t
 pub before_more : (s n : State) (call at : ℕ) → n ≡ told_more s call at → (t : ℕ) → at < t → EndBefore t s → EndBefore t n
 before_more s n call at e t l h = subst (λ (n : State). EndBefore t n) (sym e) (before_set t at s.told call l h)
 
@@ -71,17 +73,21 @@ known_from gone t opened closed xs =
       bridge_ended = λ c. find (λ x. joins c x && is_this t x.ended) xs;
     }
 
+-- a refused order opens no call ..
 refused_opened : (ds : List Done) (o : Order) (e : Refusal) (c : ℕ) → opened_at c (ds ++ record { order = o; result = Err e } ∷ []) ≡ opened_at c ds
 refused_opened ds o e c = opened-more c ds (record { order = o; result = Err e }) ∙ or_else-none _
 
+-- .. closes none ..
 refused_closed : (ds : List Done) (o : Order) (e : Refusal) (c : ℕ) → closed_at c (ds ++ record { order = o; result = Err e } ∷ []) ≡ closed_at c ds
 refused_closed ds o e c = closed-more c ds (record { order = o; result = Err e }) ∙ or_else-none _
 
+-- .. begins and ends no bridge ..
 refused_bridges : (ds : List Done) (o : Order) (e : Refusal) → bridges (ds ++ record { order = o; result = Err e } ∷ []) ≡ bridges ds
 refused_bridges ds o e =
     let d : Done = record { order = o; result = Err e } in
     bridges-more ds d ∙ append-nil _ ∙ map_after_same d (bridges ds) (λ j l. after_kept d _ refl)
 
+-- .. and each later order finds the same
 refused_known : (gone : ℕ → Bool) (t : ℕ) (ds : List Done) (o : Order) (e : Refusal) → known_of gone t (ds ++ record { order = o; result = Err e } ∷ [])
     ≡ known_of gone t ds
 refused_known gone t ds o e =
@@ -114,11 +120,13 @@ pub refused_answer : (s n : State) (o : Order) (r : Reply) → Some r ≡ reply_
 refused_answer s n o r p e = subst (λ (x : Result Act Refusal). OnErr x (IsUnchanged s n)) (let q : (done_by s o).result ≡ r.result = cc in q)
     (refused_unchanged s n o e)
 
+-- the stamp of the last executed order, after the next one
 pub last_is : (s n : State) (o : Order) (t : ℕ) → n ≡ after_turn s (Some o) → o.stamp ≡ t → last_stamp n.done ≡ t
 last_is s n o t e q = ap (λ (s : State). last_stamp s.done) e ∙ last-more s.done (done_by s o) ∙ q
 
 -- ---- no order is lost
 
+-- an order that is executed stays among all orders
 pub orders_kept : (s : State) (t : ℕ) → orders_of (after_turn s (due s.left t)) ≡ orders_of s
 orders_kept s t = by s t s.left refl
   where
@@ -136,6 +144,7 @@ orders_kept s t = by s t s.left refl
 
 -- ---- no order is due exactly where none that is left has the stamp
 
+-- the orders that are left have rising stamps
 pub left_rising : (os : List Order) (n : ℕ) → AreOrders os → AreRising (drop n os)
 left_rising os n a = record {
   rising = λ k d l. let r = a.rising n (n + k) d (omega arith) (omega (arith, l, length-drop n os)) in
@@ -149,6 +158,7 @@ left_rising os n a = record {
       );
 }
 
+-- where none is due, no order has this stamp
 none_due : (os : List Order) (t : ℕ) → AreRising os → IfSome (first_stamp os) (λ s. t ≤ s) → due os t ≡ None → All (λ o. o.stamp ≢ t) os
 none_due [] t r h e = All-nil _
 none_due (o ∷ os) t r h e =
@@ -159,6 +169,7 @@ none_due (o ∷ os) t r h e =
     some_due true o p e = cc
     some_due false o p e = cc
 
+-- and where no order has it, none is due
 due_none : (os : List Order) (t : ℕ) → All (λ o. o.stamp ≢ t) os → due os t ≡ None
 due_none [] t h = refl
 due_none (o ∷ os) t h = ap (λ (b : Bool). if b then Some o else None) (ne_eqb o.stamp t (All-get_or (λ o. o.stamp ≢ t) (o ∷ os) 0 o (omega arith) h))
@@ -167,6 +178,7 @@ reply_none : (s : State) (o : Option Order) → (o ≡ None → is_some (reply_o
 reply_none s None = (λ e. refl, λ e. refl)
 reply_none s (Some o) = (λ e. absurd cc, λ e. cc)
 
+-- there is no reply exactly where no order has this stamp
 pub none_exactly : (s : State) (t : ℕ) (answer : Option Reply) → AreRising s.left → IfSome (first_stamp s.left) (λ s. t ≤ s) →
     answer ≡ reply_of s (due s.left t) →
     IsNone answer ↔ All (λ o. o.stamp ≢ t) s.left
@@ -179,6 +191,7 @@ pub none_left : (os : List Order) (t : ℕ) → None ≡ first_order os → due 
 none_left [] t e = refl
 none_left (o ∷ os) t e = cc
 
+-- an order with another stamp is not due
 pub other_stamp : (os : List Order) (o : Order) (t : ℕ) → Some o ≡ first_order os → o.stamp ≢ t → due os t ≡ None
 other_stamp [] o t e n = cc
 other_stamp (p ∷ os) o t e n =
@@ -202,6 +215,7 @@ refused_range x e = subst (λ (x : Result Act Refusal). IfOk x IsInRange) (sym e
 accepted_range : (x : Result Act Refusal) (a : Act) → x ≡ Ok a → IsInRange a → IfOk x IsInRange
 accepted_range x a e h = subst (λ (x : Result Act Refusal). IfOk x IsInRange) (sym e) h
 
+-- an accepted act names call numbers and levels in their ranges
 pub in_range : (k : Known) (w : What) → NamesCalls w → HasLevel w → IfOk (reply_from k w) IsInRange
 in_range k (what.OpenCall c law) n l = elim (open_accepted k c law) [ inl e ↦ refused_range _ e | inr p ↦ accepted_range _ (act.Opened c law) p.0 n ]
 in_range k (what.CloseCall c) n l = elim (close_accepted k c)

@@ -16,6 +16,7 @@ executed-more : (whole : ℕ → ℕ) (ds : List Done) (os : List Order) (o : Or
 executed-more whole ds [] o = refl
 executed-more whole ds (p ∷ os) o = executed-more whole (ds ++ record { order = p; result = reply_to (gone_at whole p.stamp ds) ds p } ∷ []) os o
 
+-- a call is open as before where only the ends of calls that are not open differ
 open_same : (o l : Option ℕ) (x y : Bool) → (is_some o ≡ true → l ≡ None → x ≡ y) → (is_some o && not (is_some l) && not x)
     ≡ (is_some o && not (is_some l) && not y)
 open_same None l x y h = refl
@@ -30,11 +31,13 @@ known_by f t ds = record {
   bridge_ended = bridge_ended t ds;
 }
 
+-- the reply depends on which calls are open alone
 same_reply : (g h : ℕ → Bool) (ds : List Done) (o : Order) → ((c : ℕ) → is_open g ds c ≡ is_open h ds c) → reply_to g ds o ≡ reply_to h ds o
 same_reply g h ds o e =
     let f : is_open g ds ≡ is_open h ds = λ i. λ c. e c i in
     ap (λ f. reply_from (known_by f o.stamp ds) o.what) f
 
+-- one more order of a run
 pub run_more : (whole : ℕ → ℕ) (s : State) (o : Order) → IsRun whole s.done → TellsEnds whole o.stamp s → IsRun whole (after_turn s (Some o)).done
 run_more whole s o r t =
     let x = reply_to (gone_in s) s.done o in

@@ -17,6 +17,7 @@ place_set (x ∷ xs) zero n new own old (suc c) = old (suc c)
 place_set (x ∷ xs) (suc i) n new own old zero = old zero
 place_set (x ∷ xs) (suc i) n new own old (suc c) = place_set xs i n new own (λ d. old (suc d)) c
 
+-- a place stays within a longer list
 place_more : (n : ℕ) (o : Option ℕ) → IfSome o (λ k. k < n) → IfSome o (λ k. k < n + 1)
 place_more n None h = h
 place_more n (Some k) h = omega arith
@@ -28,12 +29,14 @@ Named bridge = (bridge.a < 4097) × (bridge.b < 4097)
 abbrev AllNamed : Bridge → List Bridge → Type 0
 AllNamed d bridges = (k : ℕ) → k < length bridges → Named (get_or bridges k d)
 
+-- each bridge names calls of the table, and so does a new one
 named_push : (d : Bridge) (bridges : List Bridge) (new : Bridge) → Named new → AllNamed d bridges → AllNamed d (bridges ++ new ∷ [])
 named_push d [] new own old zero within = own
 named_push d [] new own old (suc k) within = absurd (omega arith)
 named_push d (x ∷ xs) new own old zero within = old zero (omega arith)
 named_push d (x ∷ xs) new own old (suc k) within = named_push d xs new own (λ j h. old (suc j) (omega arith)) k (omega arith)
 
+-- the places stay within their lists where an order joins two calls
 pub joined_sized : (calls : List Call) (bridges now : List Bridge) (a b n : ℕ) (first second : Call) (new : Bridge) →
     IsSized calls bridges → n ≡ length bridges → first.bridge ≡ Some n → second.bridge ≡ Some n → Named new → now ≡ bridges ++ new ∷ [] →
     IsSized (set (set calls a first) b second) now
@@ -50,6 +53,7 @@ joined_sized calls bridges now a b n first second new sized place of_first of_se
       named = subst (AllNamed _) (sym is) (named_push _ bridges new own sized.named);
     }
 
+-- the table is then that of the definition
 pub joined_rows : (calls : List Call) (bridges now : List Bridge) (spans : List Span) (most t a b n : ℕ) (x y : Call) → n ≡ length bridges →
     x ≡ get_or calls a never → y ≡ get_or (set calls a (record x { bridge = Some n })) b never →
     now ≡ bridges ++ record { a = a; b = b; from = t; ended = None } ∷ [] →

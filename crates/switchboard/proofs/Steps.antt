@@ -14,6 +14,7 @@ use Rattle.switchboard.specs.State.{last_stamp}
 use Rattle.switchboard.specs.Stands.{IsOver, IsSound, IsTable}
 use Rattle.switchboard.proofs.Appending.{or_else, after}
 
+-- nothing behind something
 pub or_else-none : {X : Type 0} (o : Option X) → or_else o None ≡ o
 or_else-none None = refl
 or_else-none (Some x) = refl
@@ -26,16 +27,19 @@ last-more [] d = refl
 last-more (e ∷ []) d = refl
 last-more (e ∷ f ∷ ds) d = last-more (f ∷ ds) d
 
+-- equal items in front of equal lists
 pub cons_same : {Y : Type 0} (o p : Option Y) (ys zs : List Y) → o ≡ p → ys ≡ zs → cons_option o ys ≡ cons_option p zs
 cons_same o p ys zs e f = ap (λ q. cons_option q ys) e ∙ ap (λ q. cons_option p q) f
 
 -- ---- which calls were opened and closed
 
+-- the stamp of the first order that is found, with one more order
 stamps_more : (t : Bool) (e : Done) (u v : Option Done) (w : Option ℕ) → option_map (λ d. d.order.stamp) u ≡ or_else (option_map (λ d. d.order.stamp) v) w →
     option_map (λ d. d.order.stamp) (if t then Some e else u) ≡ or_else (option_map (λ d. d.order.stamp) (if t then Some e else v)) w
 stamps_more true e u v w h = refl
 stamps_more false e u v w h = h
 
+-- the first order that passes a test, with one more order
 found_more : (p : Done → Bool) (ds : List Done) (d : Done) →
     option_map (λ d. d.order.stamp) (find p (ds ++ d ∷ [])) ≡ or_else (option_map (λ d. d.order.stamp) (find p ds))
     (option_map (λ d. d.order.stamp) (find p (d ∷ [])))
@@ -59,6 +63,7 @@ part_kept f d (x ∷ xs) zero y h (suc j) = refl
 part_kept f d (x ∷ xs) (suc i) y h zero = refl
 part_kept f d (x ∷ xs) (suc i) y h (suc j) = part_kept f d xs i y h j
 
+-- a field that a changed call keeps, and so all calls
 pub field_kept : {Y : Type 0} (f : Call → Y) (cs : List Call) (c : ℕ) (e : Call) → f e ≡ f (get_or cs c never) → (k : ℕ) → f (get_or (set cs c e) k never)
     ≡ f (get_or cs k never)
 field_kept f cs c e h k = part_kept f never cs c e h k
@@ -77,6 +82,7 @@ field_set f cs c e y h new old k = elim (cases_eq k c) [
 
 -- ---- the bridges after one more order
 
+-- a bridge after one more order: its end stays, or is that order's stamp where it ends the bridge
 after_is : (d : Done) (x : Bridge) → after d x ≡ record x { ended = or_else x.ended (some_if (ends_bridge x.a x.b d.result) d.order.stamp) }
 after_is d x = by (ends_bridge x.a x.b d.result)
   where
@@ -85,24 +91,30 @@ after_is d x = by (ends_bridge x.a x.b d.result)
     by true = refl
     by false = refl
 
+-- a bridge with no end given
 unended : (x : Bridge) → record x { ended = or_else x.ended None } ≡ x
 unended x = ap (λ (o : Option ℕ). record x { ended = o }) (or_else-none x.ended)
 
+-- an order that doesn't end a bridge leaves it as it is
 pub after_kept : (d : Done) (x : Bridge) → ends_bridge x.a x.b d.result ≡ false → after d x ≡ x
 after_kept d x e = after_is d x ∙ ap (λ (t : Bool). record x { ended = or_else x.ended (some_if t d.order.stamp) }) e ∙ unended x
 
+-- so does any order where the bridge was ended before
 pub after_had : (d : Done) (x : Bridge) (s : ℕ) → x.ended ≡ Some s → after d x ≡ x
 after_had d x s e = after_is d x ∙ ap (λ (o : Option ℕ). record x { ended = or_else o (some_if (ends_bridge x.a x.b d.result) d.order.stamp) }) e
     ∙ ap (λ (o : Option ℕ). record x { ended = o }) (sym e)
 
+-- an order ends a bridge
 pub after_ends : (d : Done) (x : Bridge) → x.ended ≡ None → ends_bridge x.a x.b d.result ≡ true → after d x ≡ record x { ended = Some d.order.stamp }
 after_ends d x e t = after_is d x ∙ ap (λ (o : Option ℕ). record x { ended = or_else o (some_if (ends_bridge x.a x.b d.result) d.order.stamp) }) e
     ∙ ap (λ (t : Bool). record x { ended = some_if t d.order.stamp }) t
 
+-- an order that ends no bridge
 pub map_after_same : (d : Done) (bs : List Bridge) → ((j : ℕ) → j < length bs → after d (get_or bs j no_bridge) ≡ get_or bs j no_bridge) → map (after d) bs ≡ bs
 map_after_same d [] h = refl
 map_after_same d (x ∷ bs) h = ap (λ y. y ∷ map (after d) bs) (h 0 (omega arith)) ∙ ap (λ ys. x ∷ ys) (map_after_same d bs (λ j l. h (suc j) (omega arith)))
 
+-- an order that ends the bridge at place k
 pub map_after_at : (d : Done) (bs : List Bridge) (k : ℕ) (y : Bridge) → k < length bs → after d (get_or bs k no_bridge) ≡ y →
     ((j : ℕ) → j < length bs → j ≢ k → after d (get_or bs j no_bridge) ≡ get_or bs j no_bridge) → map (after d) bs ≡ set bs k y
 map_after_at d [] k y l e h = absurd (omega arith)
@@ -111,6 +123,7 @@ map_after_at d (x ∷ bs) (suc k) y l e h =
     ap (λ z. z ∷ map (after d) bs) (h 0 (omega arith) (omega arith))
     ∙ ap (λ ys. x ∷ ys) (map_after_at d bs k y (omega arith) e (λ j l n. h (suc j) (omega arith) (omega arith)))
 
+-- two filters that agree on each item
 pub filter_map_same : {X Y : Type 0} (f g : X → Option Y) (xs : List X) → ((j : ℕ) (d : X) → j < length xs → f (get_or xs j d) ≡ g (get_or xs j d)) →
     filter_map f xs ≡ filter_map g xs
 filter_map_same f g [] h = refl
@@ -119,6 +132,7 @@ filter_map_same f g (x ∷ xs) h = cons_same (f x) (g x) (filter_map f xs) (filt
 
 -- ---- tables
 
+-- what is sound stays so later
 sound_later : (r : Rows) (now t : ℕ) (x : Bridge) → IsSound r now x → now ≤ t → IsSound r t x
 sound_later r now t x s h = record {
   from = let f = s.from in omega arith;
@@ -147,6 +161,7 @@ pub record Keeps (r r' : Rows) : Type 0 where
   pub bridges : r'.bridges ≡ r.bridges
   pub spans : r'.spans ≡ r.spans
 
+-- a bridge keeps its end where its calls keep theirs
 pub end_kept : (r r' : Rows) → Keeps r r' → (x : Bridge) → end_in r' x ≡ end_in r x
 end_kept r r' k x = ap (λ o. least x.ended (least o (call_in r' x.b).gone)) (k.gone x.a) ∙ ap (λ o. least x.ended (least (call_in r x.a).gone o)) (k.gone x.b)
 

@@ -16,10 +16,11 @@ use Rattle.switchboard.specs.State.{State, gone_in}
 use Rattle.switchboard.specs.Stands.{Stands, IsBoard, dones, board_state}
 use Rattle.switchboard.proofs.Steps.{cons_same}
 use Rattle.switchboard.proofs.Known.{open_agrees}
-use Rattle.switchboard.proofs.Moves.{one_live}
+use Rattle.switchboard.proofs.MovesParted.{one_live}
 use Rattle.std.specs.Prelude.{is_none, ◌&&◌}
-use Rattle.switchboard.proofs.Tables.{joins_left, joins_right}
-use Rattle.switchboard.proofs.Boards.{gone_same, told_is}
+use Rattle.switchboard.proofs.TableCalls.{joins_left, joins_right}
+use Rattle.switchboard.proofs.BoardLists.{gone_same}
+use Rattle.switchboard.proofs.Boards.{told_is}
 
 abbrev end_by : (ℕ → Given) → ℕ → ℕ → ℕ → Option ℕ → CallEnd
 end_by given P c s o = elim o [
@@ -28,6 +29,7 @@ end_by given P c s o = elim o [
       else record { call = c; at = s + whole_of (given c); cause = lack_of (whole_of (given c)) (given c) }
 ]
 
+-- a closed call ends where it was closed
 closed_end : (given : ℕ → Given) (P : ℕ) (ds : List Done) (c t : ℕ) → closed_at c ds ≡ Some t → ends_at given P ds c ≡ t
 closed_end given P ds c t e = ap (λ (o : Option ℕ). let x : CallEnd = end_by given P c (start_of ds c) o in x.at) e
 
@@ -44,6 +46,7 @@ end_math (Some s) None (Some u) a b ha hb la lb some = let p = hb u refl in let 
 end_math (Some s) (Some u) None a b ha hb la lb some = let p = ha u refl in let q = lb refl (min s u) refl in ap Some (omega arith)
 end_math (Some s) (Some u) (Some w) a b ha hb la lb some = let p = ha u refl in let q = hb w refl in ap Some (omega arith)
 
+-- a filter over a list that is made of another
 filter_map_map : {X Y : Type 0} (f : X → Option Y) (g : X → Y) (xs : List X) (d : X) →
     ((j : ℕ) → j < length xs → f (get_or xs j d) ≡ Some (g (get_or xs j d))) → filter_map f xs ≡ map g xs
 filter_map_map f g [] d h = refl
@@ -56,6 +59,7 @@ record Known (r : Rows) (x : Bridge) (c end : ℕ) : Type 0 where
   over : (call_in r c).gone ≡ None → (v : ℕ) → end_in r x ≡ Some v → v ≤ end
   some : (call_in r c).gone ≡ None → end_in r x ≡ None → ⊥
 
+-- once each call has ended, the table knows each end
 known : (given : ℕ → Given) (P : ℕ) (r : Rows) (ds : List Done) → Stands r ds → ((c : ℕ) → is_some (opened_at c ds) ≡ true → closed_at c ds ≡ None →
     (call_in r c).gone ≡ Some (ends_at given P ds c)) →
     (c j : ℕ) → c < 4097 → j < length r.bridges → joins c (bridge_at_place r j) ≡ true → is_some (call_in r c).opened ≡ true → (o : Option ℕ) → closed_at c ds
@@ -74,6 +78,7 @@ known given P r ds s all c j h l q opened (Some t) e =
       some = λ f z. let y = v.ended in cc (y, z);
     }
 
+-- and the end of each bridge is that of the whole list
 bridge_end : (given : ℕ → Given) (P : ℕ) (r : Rows) (ds : List Done) → Stands r ds → IsSized r.calls r.bridges →
     ((c : ℕ) → is_some (opened_at c ds) ≡ true → closed_at c ds ≡ None → (call_in r c).gone ≡ Some (ends_at given P ds c)) →
     (j : ℕ) → j < length r.bridges → span_in r (bridge_at_place r j) ≡ Some (span_of given P ds (bridge_at_place r j))
@@ -86,6 +91,7 @@ bridge_end given P r ds s z all j l =
     ap (option_map (span_to x)) (end_math x.ended (call_in r x.a).gone (call_in r x.b).gone (ends_at given P ds x.a) (ends_at given P ds x.b) a.told b.told
     a.over b.over a.some)
 
+-- so are the spans
 pub spans_whole : (os : List Order) (xs : List Reply) (r : Rows) (s : State) → IsBoard os xs r → IsSized r.calls r.bridges → board_state os xs r ≡ s →
     (given : ℕ → Given) (P : ℕ) → AllEnded given P s → r.spans ≡ spans_of given P s.done
 spans_whole os xs r s b z e given P all =
