@@ -17,8 +17,8 @@ use Rattle.call_leg.specs.Down.{CallFrame, down_periods, frames_of, is_coded, co
 use Rattle.call_leg.specs.Out.{plain_with, plain_stretch}
 use Rattle.call_leg.specs.Waiting.{bits_in, Waits}
 use Rattle.call_leg.specs.Settings.{Settings, epoch_now, with_bridge, without_bridge}
-use Rattle.call_leg.specs.Memory.{DownMemory, CoderStands}
-use Rattle.call_leg.specs.Places.{Halfway, Between, is_draining, carried, in_u32}
+use Rattle.call_leg.specs.Memory.{DownMemory}
+use Rattle.call_leg.specs.Places.{CoderStands, Halfway, Between, is_draining, carried, in_u32}
 use Rattle.call_leg.proofs.Queue.{waits-some}
 use Rattle.call_leg.proofs.Step.{begun-same}
 use Rattle.call_leg.proofs.Enter.{place-none, was}

@@ -31,8 +31,8 @@ use Rattle.call_leg.specs.Periods.{CallPeriod, pcm_of, quiet_now, handed_in, dtx
 use Rattle.call_leg.specs.Settings.{Settings, later, period_with}
 use Rattle.call_leg.specs.Down.{CallFrame, down_period, down_periods, frames_of, coded_stretch, samples_of, coded_as, coded_after, coded_frames, speech, frame_now, down_now}
 use Rattle.call_leg.specs.Waiting.{bits_in}
-use Rattle.call_leg.specs.Memory.{CoderMemory, home_coder, CoderStands, DownMemory, LegMemory}
-use Rattle.call_leg.specs.Places.{Halfway, Between}
+use Rattle.call_leg.specs.Memory.{CoderMemory, home_coder, DownMemory, LegMemory}
+use Rattle.call_leg.specs.Places.{CoderStands, Halfway, Between}
 use Rattle.call_leg.proofs.Inside.{Inside}
 use Rattle.call_leg.specs.Stands.{Stands, Midway}
 use Rattle.call_leg.specs.Step.{with_down, thawed, after_handing, own_next, next_by, frame_made, frame_tried, with_framer, down_worked}

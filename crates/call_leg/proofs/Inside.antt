@@ -7,8 +7,8 @@ use Rattle.call_leg.specs.Who.{Who}
 use Rattle.call_leg.specs.Periods.{CallPeriod, pcm_of, bridges_begun, quiet_now, dtxd_of}
 use Rattle.call_leg.specs.Down.{CallFrame, down_periods, coded_stretch, down_made}
 use Rattle.call_leg.specs.Waiting.{Waits}
-use Rattle.call_leg.specs.Memory.{DownMemory, CoderStands}
-use Rattle.call_leg.specs.Places.{carried, in_u32, in_u64}
+use Rattle.call_leg.specs.Memory.{DownMemory}
+use Rattle.call_leg.specs.Places.{CoderStands, carried, in_u32, in_u64}
 
 -- In period t after those of the past, its octets put and the frames `fs` made.
 pub record Inside (who : Who) (t : CallPeriod) (past : List CallPeriod) (fs : List CallFrame) (d : DownMemory) : Type 0 where

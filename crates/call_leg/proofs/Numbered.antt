@@ -12,7 +12,7 @@ use Rattle.down_framer.proofs.Store.{length-line_of, AreInTurn-made_frames}
 use Rattle.call_leg.specs.Who.{Who}
 use Rattle.call_leg.specs.Periods.{CallPeriod}
 use Rattle.call_leg.specs.Down.{CallFrame, down_periods, frames_of, frame_now, bits_now, down_made}
-use Rattle.call_leg.specs.Numbered.{first_frames, start_of}
+use Rattle.call_leg.specs.Numbered.{first_frames, frame_start}
 use Rattle.call_leg.proofs.Enter.{length-down_periods}
 
 -- ---- the made frames, and the next one
@@ -41,7 +41,7 @@ start-numbered : (fs : List CallFrame) → numbered_start (map numbered_of fs) �
 start-numbered [] = refl
 start-numbered (f ∷ fs) = refl
 
-pub start-next : (ts : List CallPeriod) → IsHistory (down_periods ts) → start_of ts (length (frames_of ts)) ≡ next_start (frames_of ts)
+pub start-next : (ts : List CallPeriod) → IsHistory (down_periods ts) → frame_start ts (length (frames_of ts)) ≡ next_start (frames_of ts)
 start-next ts h = ap numbered_start (sym (frames-numbered ts h)) ∙ start-numbered (frames_of ts)
 
 -- what holds of the starts of the first n frames holds of each start before
@@ -57,7 +57,7 @@ each-start P bridges fields (suc n) j l h =
           subst (λ k. P (numbered_start (numbered bridges fields k))) e (All-head (λ (f : NumberedFrame). P f.start) (numbered_next bridges fields before) before h)
     ]
 
-pub start-come : (ts : List CallPeriod) (j : ℕ) → IsHistory (down_periods ts) → j < length (frames_of ts) → start_of ts j + 160 ≤ 160 * length ts
+pub start-come : (ts : List CallPeriod) (j : ℕ) → IsHistory (down_periods ts) → j < length (frames_of ts) → frame_start ts j + 160 ≤ 160 * length ts
 start-come ts j h l =
     let P : NumberedFrame → Type 0 = λ f. f.start + 160 ≤ 160 * length ts in
     let all : All P (first_frames ts (length (frames_of ts))) = subst (All P) (frames-numbered ts h) (All-map P numbered_of (frames_of ts) (all-come ts)) in

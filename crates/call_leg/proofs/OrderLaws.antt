@@ -16,10 +16,10 @@ use Rattle.call_leg.specs.Who.{Who}
 use Rattle.call_leg.specs.Periods.{CallPeriod}
 use Rattle.call_leg.specs.Settings.{Settings, new_settings, with_level, with_mode, with_bridge, without_bridge}
 use Rattle.call_leg.specs.Down.{down_periods, frames_of}
-use Rattle.call_leg.specs.Memory.{LegMemory, periods_of_leg}
+use Rattle.call_leg.specs.Memory.{home_down, LegMemory, home_memory, periods_of_leg}
 use Rattle.call_leg.specs.Places.{Between}
 use Rattle.call_leg.specs.Stands.{Stands}
-use Rattle.call_leg.specs.Step.{home_down, home_leg, with_down, set_level, set_mode, bridge_begun, begin_bridge, bridge_over}
+use Rattle.call_leg.specs.Step.{with_down, set_level, set_mode, bridge_begun, begin_bridge, bridge_over}
 use Rattle.call_leg.proofs.Heard.{length-ups_of}
 use Rattle.call_leg.proofs.Numbered.{next-ahead, all-come, length-made}
 use Rattle.call_leg.proofs.Bridges.{plain-new, begins, ends}
@@ -150,7 +150,7 @@ home_rx : (call : ℕ) → rx.Stands call [] (rx.first_memory call)
 unfolding anchor_of drawn state_after
 home_rx call = record { state = refl; source = refl }
 
-pub new-stands : (who : Who) → Stands who [] new_settings (home_leg who)
+pub new-stands : (who : Who) → Stands who [] new_settings (home_memory who)
 new-stands who = record {
   law = refl;
   search = home_search;

@@ -13,8 +13,8 @@ use Rattle.call_leg.specs.Periods.{CallPeriod, pcm_of, bridges_begun}
 use Rattle.call_leg.specs.Down.{down_period, down_periods, frames_of, coded_stretch, down_made}
 use Rattle.call_leg.specs.Waiting.{Waits}
 use Rattle.call_leg.specs.Settings.{Settings, epoch_now, later, period_with}
-use Rattle.call_leg.specs.Memory.{DownMemory, CoderStands}
-use Rattle.call_leg.specs.Places.{Halfway, Between, carried, in_u32}
+use Rattle.call_leg.specs.Memory.{DownMemory}
+use Rattle.call_leg.specs.Places.{CoderStands, Halfway, Between, carried, in_u32}
 use Rattle.call_leg.proofs.Inside.{Inside}
 use Rattle.call_leg.proofs.Queue.{waits-some}
 use Rattle.call_leg.proofs.Enter.{waits-enter}

@@ -10,8 +10,8 @@ use Rattle.call_leg.specs.Who.{Who}
 use Rattle.call_leg.specs.Periods.{CallPeriod, pcm_of, bridges_begun}
 use Rattle.call_leg.specs.Down.{CallFrame, down_period, down_periods, coded_stretch, bits_now, down_made}
 use Rattle.call_leg.specs.Waiting.{Waits}
-use Rattle.call_leg.specs.Memory.{DownMemory, CoderStands}
-use Rattle.call_leg.specs.Places.{carried, in_u64}
+use Rattle.call_leg.specs.Memory.{DownMemory}
+use Rattle.call_leg.specs.Places.{CoderStands, carried, in_u64}
 use Rattle.call_leg.proofs.Inside.{Inside}
 use Rattle.call_leg.proofs.Queue.{waits-next, waits-some, none_due, thawed, adopted, kept-next}
 

@@ -1,4 +1,4 @@
--- What each call makes of a leg's memory.
+-- What each operation makes of a leg's memory.
 use Rattle.std.proofs.Common.{◌≡◌, refl, sym, ap, ◌∙◌, ℕ, ◌+◌, ℤ, Bool, not, ◌||◌, if◌then◌else◌, List, [], length, drop, take}
 use Rattle.std.specs.Prelude.{◌==◌}
 use Rattle.trau_params.specs.declared.params.Params.{Params}
@@ -28,9 +28,9 @@ use Rattle.call_leg.specs.Uplink.{Sighting, sighting_in, heard_as, is_quiet}
 use Rattle.call_leg.specs.Periods.{dtx_in}
 use Rattle.call_leg.specs.Counted.{counted}
 use Rattle.call_leg.specs.Down.{coded_as, speech}
-use Rattle.call_leg.specs.Memory.{CoderMemory, home_coder, DownMemory, LegMemory}
+use Rattle.call_leg.specs.Memory.{CoderMemory, home_coder, DownMemory, home_down, LegMemory}
 use Rattle.call_leg.specs.Places.{in_u32, in_u64}
-use Rattle.call_leg.specs.Step.{home_down, played_frame, played, after_sighting, up_worked, coded_next, next_by, thawed, after_made, frame_made, frame_tried, with_framer, down_worked}
+use Rattle.call_leg.specs.Step.{played_frame, played, after_sighting, up_worked, coded_next, next_by, thawed, after_made, frame_made, frame_tried, with_framer, down_worked}
 
 -- the downlink side of a new leg is at home
 pub home-step : (law : Law) (f : framer.FramerMemory) (a : align.AlignMemory) (w : List (List ℕ)) (m : CoderMemory) → f ≡ framer.new_memory → a ≡ align.new_memory → w ≡ [] → m.encoder ≡ encoder.home_memory → m.tx ≡ tx.home_memory →

@@ -10,5 +10,5 @@ abbrev pub first_frames : List CallPeriod → ℕ → List NumberedFrame
 first_frames ts j = numbered (bridges_in (down_periods ts)) (fields_in (down_periods ts)) j
 
 -- the octet of the Pcm line with which frame j starts
-abbrev pub start_of : List CallPeriod → ℕ → ℕ
-start_of ts j = numbered_start (first_frames ts j)
+abbrev pub frame_start : List CallPeriod → ℕ → ℕ
+frame_start ts j = numbered_start (first_frames ts j)

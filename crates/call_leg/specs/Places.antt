@@ -1,5 +1,8 @@
--- The law of places: what the downlink side of a leg holds, by the periods so far. Lists have the newest first.
-use Rattle.std.specs.Prelude.{◌≡◌, ℕ, ◌+◌, ◌*◌, ◌<◌, ◌≤◌, true, not, ◌&&◌, ◌||◌, ◌==◌, if◌then◌else◌, Bool, Option, None, is_some, List, [], ◌∷◌, ◌++◌, length, All, option_to_list, suc, min}
+-- The law of places: what the downlink side of a leg stands for, by the periods so far. Lists have the newest first.
+use Rattle.std.specs.Prelude.{◌≡◌, ℕ, ◌+◌, ◌*◌, ◌<◌, ◌≤◌, true, not, ◌&&◌, ◌||◌, ◌==◌, if◌then◌else◌, Bool, Option, None, is_some, List, [], ◌∷◌, ◌++◌, length, map, All, option_to_list, suc, min}
+use Rattle.trau_alaw.specs.declared.Law.{Law}
+use Rattle.fr_encoder.specs.Step as encoder
+use Rattle.tx_dtx.specs.Step as tx
 use Rattle.time_align.specs.Shift.{latest_ask}
 use Rattle.down_framer.specs.Made.{next_start, due, fields_since}
 use Rattle.down_framer.specs.Bridges.{IsHistory, in_bridge}
@@ -9,9 +12,9 @@ use Rattle.call_leg.specs.Uplink.{field_of, is_quiet, dtxd_after, heard_as}
 use Rattle.call_leg.specs.Periods.{CallPeriod, pcm_of, sighting_after, heard_of, dtxd_of}
 use Rattle.rx_handler.specs.Past.{effective_of}
 use Rattle.call_leg.specs.Settings.{Settings, epoch_now}
-use Rattle.call_leg.specs.Down.{CallFrame, down_periods, frames_of, coded_stretch, down_made}
+use Rattle.call_leg.specs.Down.{CallFrame, down_periods, frames_of, samples_of, coded_frames, coded_stretch, down_made}
 use Rattle.call_leg.specs.Waiting.{Waits}
-use Rattle.call_leg.specs.Memory.{DownMemory, CoderStands}
+use Rattle.call_leg.specs.Memory.{CoderMemory, DownMemory}
 
 -- how many frames of the bridge with this number carry a handed one
 abbrev pub carried : ℕ → List CallFrame → ℕ
@@ -32,6 +35,11 @@ in_u32 n = min n 4294967295
 
 abbrev pub in_u64 : ℕ → ℕ
 in_u64 n = min n 18446744073709551615
+
+-- the encoder, and what sends its frames, ran from home over the coded frames of a stretch, whose octets are of this law
+pub record CoderStands (law : Law) (stretch : List CallFrame) (m : CoderMemory) : Type 0 where
+  pub encoder : encoder.Stands (map (samples_of law) stretch) m.encoder
+  pub tx : tx.Stands (coded_frames law stretch) m.tx
 
 -- Between periods, after all these, with the settings `now` for the next one.
 pub record Between (who : Who) (ts : List CallPeriod) (now : Settings) (d : DownMemory) : Type 0 where

@@ -1,12 +1,11 @@
--- A leg from call to call.
-use Rattle.std.specs.Prelude.{ℕ, ◌+◌, ℤ, pos, Bool, true, false, not, ◌||◌, ◌==◌, nat_le, if◌then◌else◌, Option, Some, None, List, [], ◌∷◌, ◌++◌, length, take, drop}
+-- What each operation of a leg makes of its memory.
+use Rattle.std.specs.Prelude.{ℕ, ◌+◌, ℤ, Bool, true, false, not, ◌||◌, ◌==◌, nat_le, if◌then◌else◌, Option, Some, None, List, [], ◌∷◌, ◌++◌, length, take, drop}
 use Rattle.circular_buffer.specs.Buffer.{keep_last}
 use Rattle.trau_alaw.specs.declared.Law.{Law}
 use Rattle.trau_alaw.specs.Period.{expanded, compressed}
 use Rattle.trau_params.specs.Fields.{Fields}
 use Rattle.trau_params.specs.Bits260.{bits260}
 use Rattle.trau_orders.specs.declared.order.DtxMode.{DtxMode}
-use Rattle.trau_orders.specs.declared.order.DtxMode.TheVariants.{Uplink}
 use Rattle.trau_frame.specs.declared.frames.DownFrame.{DownFrame}
 use Rattle.trau_frame.specs.declared.frames.DownFrame.TheVariants as frame
 use Rattle.trau_frame.specs.DownFrame as frames
@@ -18,35 +17,13 @@ use Rattle.fr_encoder.specs.Step as encoder
 use Rattle.tx_dtx.specs.Step as tx
 use Rattle.time_align.specs.Memory as align
 use Rattle.down_framer.specs.Memory as framer
-use Rattle.call_leg.specs.Who.{Who}
 use Rattle.call_leg.specs.Uplink.{Sighting, sighting_in, heard_as, field_of, dtxd_after, is_quiet, handed_fields}
 use Rattle.call_leg.specs.Periods.{dtx_in}
-use Rattle.call_leg.specs.Counted.{no_counts, counted}
+use Rattle.call_leg.specs.Counted.{counted}
 use Rattle.call_leg.specs.Out.{idle_octets}
 use Rattle.call_leg.specs.Down.{coded_as, speech}
 use Rattle.call_leg.specs.Memory.{CoderMemory, home_coder, DownMemory, LegMemory}
 use Rattle.call_leg.specs.Places.{in_u32, in_u64}
-
--- ---- a new leg
-
-abbrev pub home_down : Law → DownMemory
-home_down law = record {
-  law = law;
-  framer = framer.new_memory;
-  align = align.new_memory;
-  waiting = [];
-  coder = home_coder;
-  level = pos 256;
-  mode = Uplink;
-  dtxd = false;
-  quiet = true;
-  bridged = false;
-  sent = 0;
-  made = 0;
-}
-
-abbrev pub home_leg : Who → LegMemory
-home_leg who = record { law = who.law; search = search.home_memory; rx = rx.first_memory who.number; decoder = decoder.home_memory; counts = no_counts; down = home_down who.law }
 
 -- ---- the uplink half
 

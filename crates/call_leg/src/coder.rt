@@ -1,4 +1,4 @@
-//! The encoder, and what sends its frames.
+//! The coder of the downlink: 160 octets of the Pcm line become a speech frame.
 
 ghost use Rattle.std.specs.Prelude.{◌≡◌};
 ghost use Rattle.trau_frame.specs.DownFrame.{HasBits};

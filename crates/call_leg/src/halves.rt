@@ -1,6 +1,6 @@
 //! The halves of a leg, apart, and what one tells the other.
 
-use crate::side::DownSide;
+use crate::down_side::DownSide;
 use fr_decoder::Decoder;
 use frame_sync::FrameSync;
 use rx_handler::{Effective, Rx};

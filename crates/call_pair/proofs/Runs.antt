@@ -5,14 +5,14 @@ use Rattle.trau_params.specs.Bits260.{bits260}
 use Rattle.rx_handler.specs.Origin.{EffectiveFields, Quiet}
 use Rattle.call_leg.specs.Uplink.{handed_fields}
 use Rattle.call_leg.specs.Periods.{CallPeriod, effective_now}
-use Rattle.call_leg.specs.Settings.{Settings, without_bridge}
+use Rattle.call_leg.specs.Settings.{Settings, without_bridge, settings_at}
 use Rattle.call_pair.specs.Memory.{IoMemory, HalfMemory, IsIo, places_left}
 use Rattle.call_pair.specs.declared.job.Job.{Job}
 use Rattle.call_pair.specs.declared.job.Job.TheVariants.{One, Two}
 use Rattle.call_pair.specs.Places.{has_place}
 use Rattle.call_pair.specs.Turn.{effective, half_turned, half_turned_if, turned}
 use Rattle.call_pair.specs.Jobs.{job_left, after_turns, finished}
-use Rattle.call_pair.specs.History.{Start, settings_at, period_at, alone_periods, handed_at, bridged_periods, settings_past, Begins, HasWorked}
+use Rattle.call_pair.specs.History.{Start, period_at, alone_periods, handed_at, bridged_periods, settings_past, Begins, HasWorked}
 use Rattle.call_pair.specs.Finished.{HasWorkedBridged, OneWorked, TwoWorked}
 use Rattle.call_pair.proofs.Places.{is_below, not_below, is_same, is_past, is_before}
 use Rattle.call_pair.proofs.Steps.{alone, tells, bridged, left_alone, turned-alone, turned-bridged, tells-is, turned-ends, left_alone-is, alone-worked, effective-is, bridged-worked, first_left-worked, later_left-worked}

@@ -8,20 +8,20 @@ use Rattle.rx_handler.specs.Origin.{EffectiveFields}
 use Rattle.call_leg.specs.Memory.{DownMemory}
 use Rattle.call_leg.specs.Uplink.{handed_fields}
 use Rattle.call_leg.specs.Periods.{CallPeriod}
-use Rattle.call_leg.specs.Settings.{Settings, later, without_bridge, period_with}
+use Rattle.call_leg.specs.Settings.{Settings, later, settings_at, without_bridge, period_with}
 use Rattle.call_leg.specs.Step.{bridge_over}
 use Rattle.call_leg.specs.Out.{out_of}
 use Rattle.call_leg.specs.Down.{down_now}
 use Rattle.call_leg.specs.Places.{Between}
 use Rattle.call_leg.specs.Halves.{UpMemory, Note, note_in, up_turned, down_turned, up_unbridged, handed_bits, UpStands}
-use Rattle.call_leg.specs.Runs.{EndsAt, AreNotes, UpRun, DownRun, settings_run, periods_run, outs_run, downs_run, handed_run}
+use Rattle.call_leg.specs.Runs.{EndsAt, AreNotes, UpRun, DownRun, periods_run, outs_run, downs_run, handed_run}
 use Rattle.call_leg.proofs.HalfLaws.{split-stands, turn-stands, turn-note, turn-plays, up_off-stands, down_turn-stands, down_off-stands}
 use Rattle.call_leg.proofs.LineLaws.{length-out_of}
 use Rattle.call_pair.specs.Memory.{IoMemory, HalfMemory}
 use Rattle.call_pair.specs.Places.{up_at, pcm_at, written}
 use Rattle.call_pair.specs.declared.job.Job.TheVariants.{One, Two}
 use Rattle.call_pair.specs.Jobs.{finished}
-use Rattle.call_pair.specs.History.{Start, who_of, settings_at, handed_at, bridged_periods, settings_past, Begins}
+use Rattle.call_pair.specs.History.{Start, who_of, handed_at, bridged_periods, settings_past, Begins}
 use Rattle.call_pair.specs.Phases.{CallMemory, up_before, down_before, item_if, frame_at, first_phase, second_phase, half_run, frames_in, effs}
 use Rattle.call_pair.specs.Told.{Hears, Speaks, HalfRuns, OneRuns, TwoRun, history_of, ups_in, pcms_in}
 use Rattle.call_pair.proofs.Lengths.{length-down_octets}
@@ -32,10 +32,6 @@ use Rattle.call_pair.proofs.Sequences.{ups, told, outs, made_from, downs, lines}
 use Rattle.call_pair.proofs.Phased.{notes, length-notes, note-is, effs-are, taken, first_after, first-finished, second_after, second-finished, run-is, one-phased, two-phased}
 
 -- ---- what is set for a place, where a bridge ends at place m
-
-same-set : (k : ℕ) (now : Settings) → settings_run k now ≡ settings_at k now
-same-set zero now = refl
-same-set (suc k) now = ap later (same-set k now)
 
 abbrev set_for : ℕ → ℕ → Settings → Settings
 set_for m k now = if ltb k m then settings_at k now else without_bridge (settings_at k now)
@@ -66,10 +62,9 @@ set-next m k now = ⊎_elim
     (λ (g : m ≤ k). ap later (set-behind m k now g) ∙ sym (set-past (suc k) m now true (is_below m (suc k) (omega arith))))
     (cases_lt k m)
 
-set-period : (m k : ℕ) (now : Settings) (up pcm : List ℕ) (x : Option (List ℕ)) → period_with (set_for m k now) up pcm x ≡ period_with (settings_run k now) up pcm x
+set-period : (m k : ℕ) (now : Settings) (up pcm : List ℕ) (x : Option (List ℕ)) → period_with (set_for m k now) up pcm x ≡ period_with (settings_at k now) up pcm x
 set-period m k now up pcm x =
     ⊎_elim (λ (l : k < m). ap (λ (s : Settings). period_with s up pcm x) (set-within m k now l)) (λ (g : m ≤ k). ap (λ (s : Settings). period_with s up pcm x) (set-behind m k now g)) (cases_lt k m)
-    ∙ ap (λ (s : Settings). period_with s up pcm x) (sym (same-set k now))
 
 -- ---- a half whose bridge ends at place m
 
@@ -267,7 +262,7 @@ module _ (s : Start) (h : HalfMemory) (m : ℕ) (b : Begins s h) where
           item-bits (half_at k).bridged (taken frames k)
           ∙ ap (λ (b : Bool). if b then Some (bits260 (handed_fields (taken frames k))) else None) (r.bridged ∙ set-flag m k s.now ∙ ap (λ (i : ℕ). s.now.bridged && ltb k i) (sym long))
 
-      period-is : (k : ℕ) → Between (who_of s) (had k) (set_for m k s.now) (half_at k) → period_with (set_for m k s.now) (heard k) (pcm_at k s.io) (handed_bits (item k)) ≡ period_with (settings_run k s.now) (heard k) (pcm_at k s.io) (given_to k)
+      period-is : (k : ℕ) → Between (who_of s) (had k) (set_for m k s.now) (half_at k) → period_with (set_for m k s.now) (heard k) (pcm_at k s.io) (handed_bits (item k)) ≡ period_with (settings_at k s.now) (heard k) (pcm_at k s.io) (given_to k)
       period-is k r = ap (λ (x : Option (List ℕ)). period_with (set_for m k s.now) (heard k) (pcm_at k s.io) x) (bits-are k r) ∙ set-period m k s.now (heard k) (pcm_at k s.io) (given_to k)
 
       down-turn : (k : ℕ) → k < s.io.given → Between (who_of s) (had k) (set_for m k s.now) (half_at k) →
@@ -391,8 +386,7 @@ both-speak a b g h s t =
 same-periods : (a b : Start) (k : ℕ) → periods_run (history_of a) (ups_in a) (pcms_in a) (λ (i : ℕ). handed_at i b (bridged_periods i b a)) k ≡ bridged_periods k a b
 same-periods a b zero = refl
 same-periods a b (suc k) =
-    ap (λ (ts : List CallPeriod). period_with (settings_run k a.now) (up_at k a.io) (pcm_at k a.io) (handed_at k b (bridged_periods k b a)) ∷ ts) (same-periods a b k)
-    ∙ ap (λ (set : Settings). period_with set (up_at k a.io) (pcm_at k a.io) (handed_at k b (bridged_periods k b a)) ∷ bridged_periods k a b) (same-set k a.now)
+    ap (λ (ts : List CallPeriod). period_with (settings_at k a.now) (up_at k a.io) (pcm_at k a.io) (handed_at k b (bridged_periods k b a)) ∷ ts) (same-periods a b k)
 
 handed-ends : (a b : Start) → a.now.bridged ≡ true → EndsAt (history_of a) (min a.io.given b.io.given) a.io.given (λ (i : ℕ). handed_at i b (bridged_periods i b a))
 handed-ends a b on k l =

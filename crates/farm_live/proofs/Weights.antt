@@ -4,8 +4,8 @@ use mathlib.Core.Option.{some, some-ne-none}
 use lib.ListN.{get_elem?}
 use Rattle.std.proofs.lemmas.Bool.{cases_Bool, eqb-true}
 use Rattle.farm_live.specs.declared.slot.View.{View}
-use Rattle.farm_live.specs.Book.{Known, record_of, most_posts}
-use Rattle.farm_live.specs.Slot.{weigh, bit, is_at, times, ascending, all_callers, Fits}
+use Rattle.farm_live.specs.Book.{BookState, record_of, most_posts}
+use Rattle.farm_live.specs.Slot.{weigh, bit, is_at, times, ascending, all_callers, FitsBook}
 
 -- ---- weights
 
@@ -80,7 +80,7 @@ pub all_callers_are : weigh (λ _. 1) all_callers ≡ 64
 unfolding all_callers
 all_callers_are = refl
 
-pub few_posts : (now : Known) (views : List View) → ((j : ℕ) (v : View) → get_elem? views j ≡ some v → Fits now v) → ((h : ℕ → ℕ) → weigh (has h) views ≡ weigh h all_callers)
+pub few_posts : (now : BookState) (views : List View) → ((j : ℕ) (v : View) → get_elem? views j ≡ some v → FitsBook now v) → ((h : ℕ → ℕ) → weigh (has h) views ≡ weigh h all_callers)
     → length (record_of now) ≡ weigh posts_made views → length (record_of now) ≤ most_posts
 few_posts now views fit all total =
     let le = weigh-le 16777216 posts_made (has (λ _. 1)) views (λ j v e. (fit j v e).few) in

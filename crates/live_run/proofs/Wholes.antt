@@ -15,7 +15,7 @@ use Rattle.call_spec.specs.History.{IsCallHistory, call_of, up_of, settings_of, 
 use Rattle.call_spec.proofs.Yields.{bits_of-append}
 use Rattle.farm_live.specs.declared.post.Post.{Post}
 use Rattle.farm_live.specs.declared.post.Entry.{Entry}
-use Rattle.farm_live.specs.Book.{who_of, period_of, periods_after, IsWorkedFrom, IsLegal}
+use Rattle.farm_live.specs.Book.{who_at, period_of, periods_after, IsWorkedFrom, IsLegal}
 use Rattle.live_run.specs.Text.{outs_of, downs_of}
 use Rattle.live_run.specs.Whole.{setting, call_of_posts, ArePeriods}
 
@@ -40,13 +40,13 @@ spans_after : (ts : List CallPeriod) (es : List Entry) → spans_of (periods_aft
 spans_after ts [] = refl
 spans_after ts (e ∷ es) = spans_after (period_of e.post ∷ ts) es
 
-call_is : (call : ℕ) (es : List Entry) → call_of (who_of call) (periods_after [] es) ≡ call_of_posts call (posts_of es)
+call_is : (call : ℕ) (es : List Entry) → call_of (who_at call) (periods_after [] es) ≡ call_of_posts call (posts_of es)
 call_is call es =
     let up = ups_after [] es in
     let pcm = pcms_after [] es in
     let settings = settings_after [] es in
     let spans : reverse (spans_of (periods_after [] es)) ≡ [] = ap reverse (spans_after [] es) in
-    λ i. record { who = who_of call; up = up i; pcm = pcm i; settings = settings i; spans = spans i }
+    λ i. record { who = who_at call; up = up i; pcm = pcm i; settings = settings i; spans = spans i }
 
 -- ---- .. are a history of a call
 
@@ -92,7 +92,7 @@ bits_after (e ∷ es) = bits_of-append e.down (downs_of es) ∙ ap (λ (xs : Lis
 
 module _ (call : ℕ) (es : List Entry) (sized : ArePeriods (posts_of es)) (legal : IsLegal call es) where
   pub out_whole : ((who : Who) (ts : List CallPeriod) → IsCallHistory ts → out_line who ts ≡ out (call_of who ts)) → outs_of es ≡ out (call_of_posts call (posts_of es))
-  out_whole same = sym (outs_after (who_of call) [] es legal) ∙ same (who_of call) (periods_after [] es) (plain_after [] es sized no_periods) ∙ ap out (call_is call es)
+  out_whole same = sym (outs_after (who_at call) [] es legal) ∙ same (who_at call) (periods_after [] es) (plain_after [] es sized no_periods) ∙ ap out (call_is call es)
 
   pub down_whole : ((who : Who) (ts : List CallPeriod) → IsCallHistory ts → down_line who ts ≡ down (call_of who ts)) → bits_of (downs_of es) ≡ down (call_of_posts call (posts_of es))
-  down_whole same = bits_after es ∙ sym (downs_after (who_of call) [] es legal) ∙ same (who_of call) (periods_after [] es) (plain_after [] es sized no_periods) ∙ ap down (call_is call es)
+  down_whole same = bits_after es ∙ sym (downs_after (who_at call) [] es legal) ∙ same (who_at call) (periods_after [] es) (plain_after [] es sized no_periods) ∙ ap down (call_is call es)

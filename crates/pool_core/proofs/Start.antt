@@ -9,7 +9,7 @@ use Rattle.std.proofs.lemmas.List.Elements.{filter-append}
 use Rattle.std.proofs.lemmas.List.FromFn.{fill_by_all, length-map-range_with_len, get_or-map-range_with_len}
 use Rattle.std.proofs.lemmas.List.Sums.{sum_by-set, sum_by-cons}
 use Rattle.std.proofs.lemmas.List.Folds.{sum_by-replicate}
-use Rattle.pool_core.specs.Machine.{start_of, dealt, is_job, times_in, in_hand, fills, IsState}
+use Rattle.pool_core.specs.Machine.{pool_start, dealt, is_job, times_in, in_hand, fills, IsState}
 use Rattle.pool_core.proofs.Keeps.{Below, times_more, below_more}
 
 -- ---- numbers from 0 on
@@ -151,7 +151,7 @@ zero_at zero job = refl
 zero_at (suc n) zero = refl
 zero_at (suc n) (suc job) = zero_at n job
 
-pub start_state : (workers : ℕ) (lens : List ℕ) → 0 < workers → IsState (start_of workers lens)
+pub start_state : (workers : ℕ) (lens : List ℕ) → 0 < workers → IsState (pool_start workers lens)
 start_state workers lens l =
     let n = length lens in
     record {

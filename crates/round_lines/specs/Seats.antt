@@ -37,17 +37,17 @@ pub record Fills (before now : Side → LineState) (s t : SeatMemory) : Type 0 w
   pub faults : IsFresh s.place → TellsFaults before now t.place
 
 -- what goes out of a round: the octets of the whole periods that came in
-abbrev pub down_of : SeatMemory → List ℕ
-down_of s = take (40 * whole_in s.place) s.down
+abbrev pub down_given : SeatMemory → List ℕ
+down_given s = take (40 * whole_in s.place) s.down
 
-abbrev pub out_of : SeatMemory → List ℕ
-out_of s = take (160 * whole_in s.place) s.out
+abbrev pub out_given : SeatMemory → List ℕ
+out_given s = take (160 * whole_in s.place) s.out
 
 -- The outgoing lines of a call were given what goes out; of its seat only the marks of these lines changed. If the marks told which counts had risen since `first`, they still do.
 pub record Drains (before now : Side → LineState) (s t : SeatMemory) : Type 0 where
-  pub down : Gives (before Down) (now Down) s.place.down t.place.down (down_of s)
-  pub out : Gives (before Out) (now Out) s.place.out t.place.out (out_of s)
-  pub down_clean : GivesClean (before Down) (now Down) s.place.down t.place.down (down_of s)
-  pub out_clean : GivesClean (before Out) (now Out) s.place.out t.place.out (out_of s)
+  pub down : Gives (before Down) (now Down) s.place.down t.place.down (down_given s)
+  pub out : Gives (before Out) (now Out) s.place.out t.place.out (out_given s)
+  pub down_clean : GivesClean (before Down) (now Down) s.place.down t.place.down (down_given s)
+  pub out_clean : GivesClean (before Out) (now Out) s.place.out t.place.out (out_given s)
   pub kept : t ≡ record s { place = record s.place { down = t.place.down; out = t.place.out } }
   pub faults : (first : Side → LineState) → TellsFaults first before s.place → TellsFaults first now t.place

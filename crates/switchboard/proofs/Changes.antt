@@ -19,8 +19,8 @@ use Rattle.switchboard.specs.Calls.{Done, opened_at, is_open, has_ended}
 use Rattle.switchboard.specs.Bridges.{bridges, joins, lasts, other, bridge_of, no_bridge}
 use Rattle.switchboard.specs.Replies.{Known, reply_from}
 use Rattle.switchboard.specs.Rows.{Rows, IsSized, call_in, bridge_at_place, is_open_in, is_live_in, bridge_in, bridge_ended_in, known_in, applied, gone_of, closed_in, parted_at, parted_in, call_ended_in}
-use Rattle.switchboard.specs.State.{State, start_of, told_in, gone_in, last_stamp}
-use Rattle.switchboard.specs.Stands.{IsLatest, IsTable, Stands, IsBoard, dones, state_of}
+use Rattle.switchboard.specs.State.{State, new_board, told_in, gone_in, last_stamp}
+use Rattle.switchboard.specs.Stands.{IsLatest, IsTable, Stands, IsBoard, dones, board_state}
 use Rattle.switchboard.specs.Runs.{IsUnchanged}
 use Rattle.switchboard.specs.Open.{opened_now, open_now, partner_now, ArePairs, opened_after, open_after, partner_after, open_without, partner_without_both, partner_without, Finds, HasEnded, HasRested, Rests, IsAsBefore}
 use Rattle.switchboard.proofs.Known.{not_true, open_parts, live_parts, open_agrees, bridge_agrees}
@@ -238,7 +238,7 @@ partner_agrees r ds c s len = elim (cases_lt c 4097) [
       ∙ sym (ap (λ (e : Call). latest_live r e.bridge) (past r c len h))
 ]
 
-pub seen : (os : List Order) (xs : List Reply) (r : Rows) (s : State) → IsBoard os xs r → length r.calls ≡ 4097 → state_of os xs r ≡ s → Seen r s
+pub seen : (os : List Order) (xs : List Reply) (r : Rows) (s : State) → IsBoard os xs r → length r.calls ≡ 4097 → board_state os xs r ≡ s → Seen r s
 seen os xs r s b len e =
     let ds = dones os xs in
     let t = b.stands in
@@ -276,13 +276,13 @@ each_ok (Err e) P Q h p = tt
 
 -- an order
 pub execute_changes : (os : List Order) (xs ys : List Reply) (r n : Rows) (s : State) (o : Order) (x : Result Act Refusal) → Ready os xs r s o → x ≡ reply_from (known_in r o.stamp) o.what →
-    n ≡ applied r o.stamp x → ys ≡ xs ++ reply_at xs r o ∷ [] → IfOk x (Changes s (state_of os ys n) o.stamp)
+    n ≡ applied r o.stamp x → ys ≡ xs ++ reply_at xs r o ∷ [] → IfOk x (Changes s (board_state os ys n) o.stamp)
 execute_changes os xs ys r n s o x y p q e =
     let t = o.stamp in
     let z = y.sized in
     let before = seen os xs r s y.board z.all y.seen in
-    let after = seen os ys n (state_of os ys n) (execute_board os xs ys r n s o x y p q e) (ap (λ (n : Rows). length n.calls) q ∙ calls_same r t x ∙ z.all) refl in
-    each_ok x (Moved r n t) _ (λ a m. changes r n s (state_of os ys n) t a before after m)
+    let after = seen os ys n (board_state os ys n) (execute_board os xs ys r n s o x y p q e) (ap (λ (n : Rows). length n.calls) q ∙ calls_same r t x ∙ z.all) refl in
+    each_ok x (Moved r n t) _ (λ a m. changes r n s (board_state os ys n) t a before after m)
     (subst (λ (n : Rows). IfOk x (Moved r n t)) (sym q) (subst (λ (x : Result Act Refusal). Does r t x) (sym p)
     (moved r (dones os xs) t o.what y.board.stands z.all (last-before os xs o y.board.orders (next_of os xs r s o y)) (told_of os xs r s o y) y.calls)))
 
@@ -297,13 +297,13 @@ shut_by_end true true = refl
 shut_by_end true false = refl
 shut_by_end false l = refl
 
-pub ended_changes : (os : List Order) (xs : List Reply) (r n : Rows) (s : State) (m at : ℕ) → IsBoard os xs r → IsSized r.calls r.bridges → state_of os xs r ≡ s → m < 4097 →
-    n ≡ call_ended_in r at m → IsBoard os xs n → Without s (state_of os xs n) m
+pub ended_changes : (os : List Order) (xs : List Reply) (r n : Rows) (s : State) (m at : ℕ) → IsBoard os xs r → IsSized r.calls r.bridges → board_state os xs r ≡ s → m < 4097 →
+    n ≡ call_ended_in r at m → IsBoard os xs n → Without s (board_state os xs n) m
 ended_changes os xs r n s m at b z e l q next =
     let g : Call = record (call_in r m) { gone = Some at } in
     let k : Rows = call_ended_in r at m in
     let before = seen os xs r s b z.all e in
-    let after = seen os xs n (state_of os xs n) next (ap (λ (n : Rows). length n.calls) q ∙ length-set r.calls m g ∙ z.all) refl in
+    let after = seen os xs n (board_state os xs n) next (ap (λ (n : Rows). length n.calls) q ∙ length-set r.calls m g ∙ z.all) refl in
     let lm : m < length r.calls = omega (arith, z.all) in
     record {
       opened = λ c. ap (λ f. f c) after.opened ∙ ap (λ (n : Rows). was_opened n c) q ∙ ap is_some (field_kept (λ (x : Call). x.opened) r.calls m g refl c) ∙ ap (λ f. f c) (sym before.opened);
@@ -313,11 +313,11 @@ ended_changes os xs r n s m at b z e l q next =
     }
 
 -- a board before the first order
-pub start_alone : (s : State) (os : List Order) → s ≡ start_of os → (c : ℕ) → (opened_now s c ≡ false) × (open_now s c ≡ false) × (partner_now s c ≡ None)
+pub start_alone : (s : State) (os : List Order) → s ≡ new_board os → (c : ℕ) → (opened_now s c ≡ false) × (open_now s c ≡ false) × (partner_now s c ≡ None)
 start_alone s os e c = (ap (λ (s : State). opened_now s c) e, ap (λ (s : State). open_now s c) e, ap (λ (s : State). partner_now s c) e)
 
 -- partners are pairs of open calls
-pub pairs_now : (os : List Order) (xs : List Reply) (r : Rows) (s : State) → IsBoard os xs r → IsSized r.calls r.bridges → state_of os xs r ≡ s → ArePairs (open_now s) (partner_now s)
+pub pairs_now : (os : List Order) (xs : List Reply) (r : Rows) (s : State) → IsBoard os xs r → IsSized r.calls r.bridges → board_state os xs r ≡ s → ArePairs (open_now s) (partner_now s)
 pairs_now os xs r s b z e =
     let k = seen os xs r s b z.all e in
     subst (λ (f : ℕ → Bool). ArePairs f (partner_now s)) (sym k.lives) (subst (λ (f : ℕ → Option ℕ). ArePairs (is_open_in r) f) (sym k.partner) (pairs_in r _ b.stands.table z.all))

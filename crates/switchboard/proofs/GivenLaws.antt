@@ -10,7 +10,7 @@ use Rattle.switchboard.specs.declared.act.Act.TheVariants as act
 use Rattle.switchboard.specs.declared.act.Refusal.{Refusal}
 use Rattle.switchboard.specs.declared.act.Reply.{Reply}
 use Rattle.switchboard.specs.Calls.{Done, is_this, opened_by, law_by, opened_at, law_at}
-use Rattle.switchboard.specs.State.{State, turned, done_by, reply_of}
+use Rattle.switchboard.specs.State.{State, after_turn, done_by, reply_of}
 use Rattle.switchboard.specs.Open.{opened_now, open_now, law_now, partner_now, law_after, Finds}
 use Rattle.switchboard.proofs.Appending.{or_else}
 use Rattle.switchboard.proofs.Steps.{or_else-none}
@@ -81,12 +81,12 @@ follows s o (act.Unbridged a b) f c = law_kept c s.done _ refl
 follows s o (act.LevelSet n v) f c = law_kept c s.done _ refl
 follows s o (act.DtxSet n m) f c = law_kept c s.done _ refl
 
-changes_by : (s n : State) (o : Order) (x : Result Act Refusal) → (done_by s o).result ≡ x → n ≡ turned s (Some o) →
+changes_by : (s n : State) (o : Order) (x : Result Act Refusal) → (done_by s o).result ≡ x → n ≡ after_turn s (Some o) →
     IfOk x (λ a. Finds a (opened_now s) (open_now s) (partner_now s)) → IfOk x (λ a. (c : ℕ) → law_now n c ≡ law_after a (law_now s) c)
 changes_by s n o (Err e) same next finds = tt
 changes_by s n o (Ok a) same next finds = λ c.
     ap (λ (n : State). law_now n c) next ∙ ap (λ (x : Result Act Refusal). law_at c (s.done ++ record { order = o; result = x } ∷ [])) same ∙ follows s o a finds c
 
-pub law_changes : (s n : State) (o : Order) (r : Reply) → n ≡ turned s (Some o) → Some r ≡ reply_of s (Some o) →
+pub law_changes : (s n : State) (o : Order) (r : Reply) → n ≡ after_turn s (Some o) → Some r ≡ reply_of s (Some o) →
     IfOk r.result (λ a. Finds a (opened_now s) (open_now s) (partner_now s)) → IfOk r.result (λ a. (c : ℕ) → law_now n c ≡ law_after a (law_now s) c)
 law_changes s n o r next answer finds = changes_by s n o r.result (let q : (done_by s o).result ≡ r.result = cc in q) next finds

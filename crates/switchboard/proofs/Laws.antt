@@ -17,7 +17,7 @@ use Rattle.switchboard.specs.declared.table.Bridge.{Bridge}
 use Rattle.switchboard.specs.Calls.{Done, is_this, opened_at, closed_at}
 use Rattle.switchboard.specs.Bridges.{bridges, joins, other}
 use Rattle.switchboard.specs.Replies.{Known, known_of, reply_from, IsInRange}
-use Rattle.switchboard.specs.State.{State, EndBefore, told_more, start_of, gone_in, told_in, turned, done_by, due, reply_of, orders_of, first_of, first_stamp, last_stamp}
+use Rattle.switchboard.specs.State.{State, EndBefore, told_more, new_board, gone_in, told_in, after_turn, done_by, due, reply_of, orders_of, first_order, first_stamp, last_stamp}
 use Rattle.switchboard.specs.Stands.{AreRising}
 use Rattle.switchboard.specs.Runs.{IsUnchanged}
 use Rattle.switchboard.specs.Ends.{span_to, end_now}
@@ -39,7 +39,7 @@ none_before : (t : ℕ) (o : Option ℕ) → o ≡ None → IfSome o (λ at. at 
 none_before t None e = tt
 none_before t (Some u) e = absurd cc
 
-pub told_none : (s : State) (os : List Order) → s ≡ start_of os → (t : ℕ) → EndBefore t s
+pub told_none : (s : State) (os : List Order) → s ≡ new_board os → (t : ℕ) → EndBefore t s
 told_none s os e t c = none_before t (told_in s c) (ap (λ (s : State). told_in s c) e ∙ none_at 4097 c)
 
 -- one end more
@@ -54,7 +54,7 @@ pub before_more : (s n : State) (call at : ℕ) → n ≡ told_more s call at �
 before_more s n call at e t l h = subst (λ (n : State). EndBefore t n) (sym e) (before_set t at s.told call l h)
 
 -- an order tells no end
-pub before_turned : (s n : State) (o : Order) → n ≡ turned s (Some o) → (t : ℕ) → EndBefore t s → EndBefore t n
+pub before_turned : (s n : State) (o : Order) → n ≡ after_turn s (Some o) → (t : ℕ) → EndBefore t s → EndBefore t n
 before_turned s n o e t h = subst (λ (n : State). EndBefore t n) (sym e) h
 
 -- ---- a refused order changes nothing
@@ -99,25 +99,25 @@ refused_same s o x e p = subst (λ (x : Result Act Refusal). IsUnchanged s (reco
 })
 
 -- a reply that refuses leaves all as it was
-pub refused_unchanged : (s n : State) (o : Order) → n ≡ turned s (Some o) → OnErr (done_by s o).result (IsUnchanged s n)
+pub refused_unchanged : (s n : State) (o : Order) → n ≡ after_turn s (Some o) → OnErr (done_by s o).result (IsUnchanged s n)
 refused_unchanged s n o e = by s n o (done_by s o).result refl e
   where
-    by : (s n : State) (o : Order) (x : Result Act Refusal) → (done_by s o).result ≡ x → n ≡ turned s (Some o) → OnErr x (IsUnchanged s n)
+    by : (s n : State) (o : Order) (x : Result Act Refusal) → (done_by s o).result ≡ x → n ≡ after_turn s (Some o) → OnErr x (IsUnchanged s n)
     by s n o (Ok a) p e = tt
     by s n o (Err r) p e = subst (λ (n : State). IsUnchanged s n) (sym e) (refused_same s o (done_by s o).result r p)
 
-pub refused_answer : (s n : State) (o : Order) (r : Reply) → Some r ≡ reply_of s (Some o) → n ≡ turned s (Some o) → OnErr r.result (IsUnchanged s n)
+pub refused_answer : (s n : State) (o : Order) (r : Reply) → Some r ≡ reply_of s (Some o) → n ≡ after_turn s (Some o) → OnErr r.result (IsUnchanged s n)
 refused_answer s n o r p e = subst (λ (x : Result Act Refusal). OnErr x (IsUnchanged s n)) (let q : (done_by s o).result ≡ r.result = cc in q) (refused_unchanged s n o e)
 
-pub last_is : (s n : State) (o : Order) (t : ℕ) → n ≡ turned s (Some o) → o.stamp ≡ t → last_stamp n.done ≡ t
+pub last_is : (s n : State) (o : Order) (t : ℕ) → n ≡ after_turn s (Some o) → o.stamp ≡ t → last_stamp n.done ≡ t
 last_is s n o t e q = ap (λ (s : State). last_stamp s.done) e ∙ last-more s.done (done_by s o) ∙ q
 
 -- ---- no order is lost
 
-pub orders_kept : (s : State) (t : ℕ) → orders_of (turned s (due s.left t)) ≡ orders_of s
+pub orders_kept : (s : State) (t : ℕ) → orders_of (after_turn s (due s.left t)) ≡ orders_of s
 orders_kept s t = by s t s.left refl
   where
-    one : (s : State) (o : Order) (os : List Order) (b : Bool) → s.left ≡ o ∷ os → orders_of (turned s (if b then Some o else None)) ≡ orders_of s
+    one : (s : State) (o : Order) (os : List Order) (b : Bool) → s.left ≡ o ∷ os → orders_of (after_turn s (if b then Some o else None)) ≡ orders_of s
     one s o os false e = refl
     one s o os true e =
         ap (λ l. map (λ (d : Done). d.order) (s.done ++ done_by s o ∷ []) ++ drop 1 l) e
@@ -125,7 +125,7 @@ orders_kept s t = by s t s.left refl
         ∙ append_assoc (map (λ (d : Done). d.order) s.done) (o ∷ []) os
         ∙ ap (λ l. map (λ (d : Done). d.order) s.done ++ l) (sym e)
 
-    by : (s : State) (t : ℕ) (os : List Order) → s.left ≡ os → orders_of (turned s (due os t)) ≡ orders_of s
+    by : (s : State) (t : ℕ) (os : List Order) → s.left ≡ os → orders_of (after_turn s (due os t)) ≡ orders_of s
     by s t [] e = refl
     by s t (o ∷ os) e = one s o os (o.stamp == t) e
 
@@ -163,11 +163,11 @@ none_exactly s t answer r h e =
     (λ n. none_due s.left t r h (p.1 (ap is_some (sym e) ∙ n)), λ a. ap is_some e ∙ p.0 (due_none s.left t a))
 
 -- no order is left, or the next one has another stamp
-pub none_left : (os : List Order) (t : ℕ) → None ≡ first_of os → due os t ≡ None
+pub none_left : (os : List Order) (t : ℕ) → None ≡ first_order os → due os t ≡ None
 none_left [] t e = refl
 none_left (o ∷ os) t e = cc
 
-pub other_stamp : (os : List Order) (o : Order) (t : ℕ) → Some o ≡ first_of os → o.stamp ≢ t → due os t ≡ None
+pub other_stamp : (os : List Order) (o : Order) (t : ℕ) → Some o ≡ first_order os → o.stamp ≢ t → due os t ≡ None
 other_stamp [] o t e n = cc
 other_stamp (p ∷ os) o t e n =
     let q : o ≡ p = cc in

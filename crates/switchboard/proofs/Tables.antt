@@ -9,7 +9,7 @@ use Rattle.switchboard.specs.declared.act.Span.{Span}
 use Rattle.switchboard.specs.declared.table.Bridge.{Bridge}
 use Rattle.switchboard.specs.declared.table.Call.{Call}
 use Rattle.switchboard.specs.Bridges.{joins, no_bridge}
-use Rattle.switchboard.specs.Rows.{Rows, never, call_in, bridge_at_place, is_open_in, is_live_in, end_in, span_in, position_in, opened_in, closed_in, with_bridge, bridged_in, parted_at, call_ended_in, spans_after}
+use Rattle.switchboard.specs.Rows.{Rows, never, call_in, bridge_at_place, is_open_in, is_live_in, end_in, span_in, position_in, opened_in, closed_in, with_latest, bridged_in, parted_at, call_ended_in, spans_after}
 use Rattle.switchboard.specs.Ends.{least, span_to}
 use Rattle.switchboard.specs.Stands.{IsOver, IsLatest, IsSound, IsTable}
 use Rattle.switchboard.proofs.Lists.{somes, filter_map-somes, somes-insert, somes-set}
@@ -173,13 +173,13 @@ abbrev pub new_bridge : ℕ → ℕ → ℕ → Bridge
 new_bridge t a b = record { a = a; b = b; from = t; ended = None }
 
 pub placed : (r : Rows) (a b k c : ℕ) → a < length r.calls → b < length r.calls →
-    ((get_or (with_bridge (with_bridge r.calls k a) k b) c never).bridge ≡ Some k) × ((c ≡ a) ⊎ (c ≡ b))
-    ⊎ ((get_or (with_bridge (with_bridge r.calls k a) k b) c never).bridge ≡ (call_in r c).bridge) × (c ≢ a) × (c ≢ b)
+    ((get_or (with_latest (with_latest r.calls k a) k b) c never).bridge ≡ Some k) × ((c ≡ a) ⊎ (c ≡ b))
+    ⊎ ((get_or (with_latest (with_latest r.calls k a) k b) c never).bridge ≡ (call_in r c).bridge) × (c ≢ a) × (c ≢ b)
 placed r a b k c la lb =
-    let cs : List Call = with_bridge r.calls k a in
+    let cs : List Call = with_latest r.calls k a in
     let lc : b < length cs = omega (arith, length-set r.calls a (record (call_in r a) { bridge = Some k })) in
     elim (cases_eq c b) [
-      | inl p ↦ inl (subst (λ (c : ℕ). (get_or (with_bridge cs k b) c never).bridge ≡ Some k) (sym p) (ap (λ (x : Call). x.bridge) (get_or-set_same cs b _ never lc)), inr p)
+      | inl p ↦ inl (subst (λ (c : ℕ). (get_or (with_latest cs k b) c never).bridge ≡ Some k) (sym p) (ap (λ (x : Call). x.bridge) (get_or-set_same cs b _ never lc)), inr p)
       | inr n ↦
           let e = ap (λ (x : Call). x.bridge) (get_or-set_other cs b c (record (get_or cs b never) { bridge = Some k }) never n) in
           elim (cases_eq c a) [
@@ -189,9 +189,9 @@ placed r a b k c la lb =
     ]
 
 -- a field that a new bridge leaves
-pub bridged_field : {Y : Type 0} (f : Call → Y) (r : Rows) (k a b : ℕ) → ((e : Call) → f (record e { bridge = Some k }) ≡ f e) → (c : ℕ) → f (get_or (with_bridge (with_bridge r.calls k a) k b) c never) ≡ f (call_in r c)
+pub bridged_field : {Y : Type 0} (f : Call → Y) (r : Rows) (k a b : ℕ) → ((e : Call) → f (record e { bridge = Some k }) ≡ f e) → (c : ℕ) → f (get_or (with_latest (with_latest r.calls k a) k b) c never) ≡ f (call_in r c)
 bridged_field f r k a b h c =
-    field_kept f (with_bridge r.calls k a) b _ (h _) c ∙ field_kept f r.calls a _ (h _) c
+    field_kept f (with_latest r.calls k a) b _ (h _) c ∙ field_kept f r.calls a _ (h _) c
 
 pub bridged_open : (r : Rows) (t a b c : ℕ) → is_open_in (bridged_in r t a b) c ≡ is_open_in r c
 bridged_open r t a b c =

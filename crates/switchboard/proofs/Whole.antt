@@ -13,7 +13,7 @@ use Rattle.switchboard.specs.Rows.{Rows, gone_of, is_open_in, is_live_in, IsSize
 use Rattle.switchboard.specs.Runs.{AllEnded}
 use Rattle.switchboard.specs.Ends.{Given, whole_of, lack_of, start_of, ends_at, span_of, spans_of, least, span_to}
 use Rattle.switchboard.specs.State.{State, gone_in}
-use Rattle.switchboard.specs.Stands.{Stands, IsBoard, dones, state_of}
+use Rattle.switchboard.specs.Stands.{Stands, IsBoard, dones, board_state}
 use Rattle.switchboard.proofs.Steps.{cons_same}
 use Rattle.switchboard.proofs.Known.{open_agrees}
 use Rattle.switchboard.proofs.Moves.{one_live}
@@ -81,7 +81,7 @@ bridge_end given P r ds s z all j l =
     let b = known given P r ds s all x.b j n.1 l (joins_right x.b x refl) y.known.1 (closed_at x.b ds) refl in
     ap (option_map (span_to x)) (end_math x.ended (call_in r x.a).gone (call_in r x.b).gone (ends_at given P ds x.a) (ends_at given P ds x.b) a.told b.told a.over b.over a.some)
 
-pub spans_whole : (os : List Order) (xs : List Reply) (r : Rows) (s : State) → IsBoard os xs r → IsSized r.calls r.bridges → state_of os xs r ≡ s →
+pub spans_whole : (os : List Order) (xs : List Reply) (r : Rows) (s : State) → IsBoard os xs r → IsSized r.calls r.bridges → board_state os xs r ≡ s →
     (given : ℕ → Given) (P : ℕ) → AllEnded given P s → r.spans ≡ spans_of given P s.done
 spans_whole os xs r s b z e given P all =
     let ds = dones os xs in
@@ -92,7 +92,7 @@ spans_whole os xs r s b z e given P all =
 
 -- ---- a call has at most one bridge that lasts
 
-pub one_lasts : (os : List Order) (xs : List Reply) (r : Rows) (s : State) → IsBoard os xs r → IsSized r.calls r.bridges → state_of os xs r ≡ s → OneLasts (gone_in s) s.done (bridges s.done)
+pub one_lasts : (os : List Order) (xs : List Reply) (r : Rows) (s : State) → IsBoard os xs r → IsSized r.calls r.bridges → board_state os xs r ≡ s → OneLasts (gone_in s) s.done (bridges s.done)
 one_lasts os xs r s b z e =
     let ds = dones os xs in
     subst (λ (s : State). OneLasts (gone_in s) s.done (bridges s.done)) e

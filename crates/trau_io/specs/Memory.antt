@@ -63,9 +63,9 @@ abbrev pub desk_of : MemoryLine → MemoryLine → DeskState
 desk_of orders texts = record { to_come = Some orders.to_come; read_faults = orders.faults; written = Some texts.written; write_faults = texts.faults }
 
 -- what is known of each line of the list; a line past it has never been there
-abbrev pub known_of : Option MemoryLine → LineState
-known_of None = record { to_come = None; written = None; faults = 0 }
-known_of (Some l) = state_of l
+abbrev pub known_line : Option MemoryLine → LineState
+known_line None = record { to_come = None; written = None; faults = 0 }
+known_line (Some l) = state_of l
 
 abbrev pub states_of : List MemoryLine → ℕ → Side → LineState
-states_of lines call side = known_of (slice_get lines (place_of call side))
+states_of lines call side = known_line (slice_get lines (place_of call side))

@@ -18,7 +18,7 @@ use Rattle.trau_orders.specs.declared.order.DtxMode.TheVariants.{On, Off, Uplink
 use Rattle.trau_orders.specs.declared.order.What.{What}
 use Rattle.trau_orders.specs.declared.order.What.TheVariants.{OpenCall, CloseCall, Bridge, Unbridge, Level, Dtx}
 use Rattle.trau_orders.specs.declared.order.Order.{Order}
-use Rattle.trau_orders.specs.Grammar.{mode_word, words_for, IsInRange, line_of, IsLine, words_of, AreWords}
+use Rattle.trau_orders.specs.Grammar.{mode_word, words_for, IsInRange, order_line, IsLine, words_of, AreWords}
 use Rattle.trau_orders.specs.Splits.{Lacks, SplitsAt}
 
 -- a line that splits at a space has the front as its first word
@@ -96,7 +96,7 @@ not_one (Dtx c m) word e = cc
 
 -- the words of an order's line
 pub line_words : (line : List ℕ) (order : Order) → IsLine line order → words_of line ≡ decimal order.stamp ∷ words_for order.what
-unfolding line_of
+unfolding order_line
 line_words line order is =
     ap words_of is.spelled ∙ words_join (decimal order.stamp) (words_for order.what) (lacks_digits order.stamp (omega (arith, is.stamp))) (all_lack order.what is.in_range)
 
@@ -123,7 +123,7 @@ refused_words line front back at none order is = none order.what (record { in_ra
 
 -- and the order of a line with these words
 pub order_line : (line front back : List ℕ) (order : Order) → SplitsAt 32 line front back → IsNumber 0 4294967294 front order.stamp → AreWords (words_of back) order.what → IsLine line order
-unfolding line_of
+unfolding order_line
 order_line line front back order at number are =
     let words : words_of line ≡ decimal order.stamp ∷ words_for order.what =
     first_word line front back at ∙ ap (λ w. w ∷ words_of back) number.spelled ∙ ap (λ ws. decimal order.stamp ∷ ws) are.spelled in

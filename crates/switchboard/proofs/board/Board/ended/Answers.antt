@@ -2,7 +2,7 @@ use Rattle.std.proofs.Common.{◌≤◌, sym, ap, ◌∙◌, subst, arith}
 use Rattle.switchboard.specs.State.{State, last_stamp, gone_in, told_more}
 use Rattle.switchboard.specs.Calls.{is_open}
 use Rattle.switchboard.specs.Rows.{Rows}
-use Rattle.switchboard.specs.Stands.{IsBoard, state_of, dones}
+use Rattle.switchboard.specs.Stands.{IsBoard, board_state, dones}
 use Rattle.switchboard.specs.Open.{law_now}
 use Rattle.switchboard.proofs.Boards.{bridges-bound, told_call, board-told, state-told}
 use Rattle.switchboard.proofs.Laws.{before_more}
@@ -26,13 +26,13 @@ invariant_of-self c =
 pub returns-clause-state : goal.returns-clause-state
 returns-clause-state c =
     let i = c.self.inside in
-    ap (state_of i.orders i.replies.items) c.end_call.ensures ∙ state-told i.orders i.replies.items i.table c.args.end.call c.args.end.at
+    ap (board_state i.orders i.replies.items) c.end_call.ensures ∙ state-told i.orders i.replies.items i.table c.args.end.call c.args.end.at
     ∙ ap (λ (s : State). told_more s c.args.end.call c.args.end.at) c.self.view_is
 
 pub returns-clause-told : goal.returns-clause-told
 returns-clause-told c = before_more c.args.self.now _ c.args.end.call c.args.end.at (returns-clause-state c)
 
-without : (c : goal.After-end_call) → Without c.args.self.now (state_of c.self.inside.orders c.self.inside.replies.items c.end_call.new.self) c.args.end.call
+without : (c : goal.After-end_call) → Without c.args.self.now (board_state c.self.inside.orders c.self.inside.replies.items c.end_call.new.self) c.args.end.call
 without c =
     let i = c.self.inside in
     let os = i.orders in

@@ -1,4 +1,4 @@
-//! The way down: frames are made.
+//! How the downlink side of a leg makes its frames: handed ones, idle ones and coded ones.
 
 ghost use Rattle.std.specs.Prelude.{◌≡◌, ◌≤◌, ◌<◌, ◌+◌, All, length, drop, if◌then◌else◌, ◌||◌};
 ghost use Rattle.trau_bits.specs.Bits.{bits_of, AreBits};
@@ -10,7 +10,7 @@ ghost use Rattle.time_align.specs.Memory.{after_thaw};
 ghost use Rattle.call_leg.specs.Step.{own_next, next_by, frame_made, frame_tried, down_worked};
 
 use crate::coder::{Coder, dtx_on};
-use crate::side::DownSide;
+use crate::down_side::DownSide;
 use circular_buffer::HeapCircularBuffer;
 use down_framer::Framer;
 use time_align::Align;

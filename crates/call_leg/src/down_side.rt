@@ -1,4 +1,4 @@
-//! The downlink side of a leg.
+//! What the downlink side of a leg keeps.
 
 ghost use Rattle.std.specs.Prelude.{◌≡◌, All};
 ghost use Rattle.trau_bits.specs.Bits.{AreBits};

@@ -1,18 +1,18 @@
-//! The downlink side of a leg, beside its half of a period.
+//! What the downlink side of a leg is told: of the uplink, of the partner's frames, and of bridges.
 
 ghost use Rattle.std.specs.Prelude.{◌≡◌, ◌<◌, not, ◌&&◌, ◌==◌, length, IfOk, IfSome, option_copied};
 ghost use Rattle.down_framer.specs.Memory.{IsBetween};
 ghost use Rattle.rx_handler.specs.State.{effective_fields};
 ghost use Rattle.call_leg.specs.Uplink.{sighting_of};
-ghost use Rattle.call_leg.specs.Memory.{down_memory};
-ghost use Rattle.call_leg.specs.Step.{home_down, asked, after_sighting, after_handing, bridge_begun, bridge_over};
+ghost use Rattle.call_leg.specs.Memory.{home_down, down_memory};
+ghost use Rattle.call_leg.specs.Step.{asked, after_sighting, after_handing, bridge_begun, bridge_over};
 ghost use Rattle.call_leg.specs.Halves.{noted, handed_to, item_of};
 
 use crate::coder::Coder;
-use crate::down::thaw_at_end;
+use crate::down_frames::thaw_at_end;
 use crate::found::Found;
 use crate::halves::UpNote;
-use crate::side::DownSide;
+use crate::down_side::DownSide;
 use crate::up::{handed, is_quiet};
 use crate::uplink::{dtxd, field};
 use circular_buffer::HeapCircularBuffer;
