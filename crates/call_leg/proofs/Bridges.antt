@@ -3,8 +3,8 @@ use Rattle.std.proofs.Common.{◌≡◌, refl, sym, ap, ◌∙◌, subst, ℕ, �
 use Rattle.std.specs.Prelude.{◌==◌}
 use Rattle.std.proofs.lemmas.Bool.{cond-false, cond_both, ne_eqb, true≢false, and_right}
 use Rattle.std.proofs.lemmas.List.{append-nil}
-use Rattle.fr_encoder.specs.Step as encoder
-use Rattle.tx_dtx.specs.Step as tx
+use Rattle.fr_encoder.specs.Stands as encoder
+use Rattle.tx_dtx.specs.Stands as tx
 use Rattle.trau_params.specs.Fields.{Fields}
 use Rattle.rx_handler.specs.Origin.{EffectiveFields, Quiet, Speech, Made}
 use Rattle.down_framer.specs.Made.{Period, MadeFrame, next_start, latest_start, made_from, due, grown, next_frame, made_frames, epoch_of}

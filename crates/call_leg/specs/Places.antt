@@ -1,8 +1,8 @@
 -- The law of places: what the downlink side of a leg stands for, by the periods so far. Lists have the newest first.
 use Rattle.std.specs.Prelude.{◌≡◌, ℕ, ◌+◌, ◌*◌, ◌<◌, ◌≤◌, true, not, ◌&&◌, ◌||◌, ◌==◌, if◌then◌else◌, Bool, Option, None, is_some, List, [], ◌∷◌, ◌++◌, length, map, All, option_to_list, suc, min}
 use Rattle.trau_alaw.specs.declared.Law.{Law}
-use Rattle.fr_encoder.specs.Step as encoder
-use Rattle.tx_dtx.specs.Step as tx
+use Rattle.fr_encoder.specs.Stands as encoder
+use Rattle.tx_dtx.specs.Stands as tx
 use Rattle.time_align.specs.Shift.{latest_ask}
 use Rattle.down_framer.specs.Made.{next_start, due, fields_since}
 use Rattle.down_framer.specs.Bridges.{IsHistory, in_bridge}

@@ -6,7 +6,7 @@ ghost use Rattle.trau_frame.specs.DownFrame.{HasBits};
 ghost use Rattle.down_framer.specs.Memory.{IsBetween, IsWithin};
 ghost use Rattle.call_leg.specs.Memory.{coder_memory, down_memory};
 ghost use Rattle.call_leg.specs.Places.{in_u32, in_u64};
-ghost use Rattle.time_align.specs.Memory.{after_thaw};
+ghost use Rattle.time_align.specs.Step.{after_thaw};
 ghost use Rattle.call_leg.specs.Step.{own_next, next_by, frame_made, frame_tried, down_worked};
 
 use crate::coder::{Coder, dtx_on};

@@ -10,7 +10,8 @@ use Rattle.rx_handler.specs.Heard.{Heard}
 use Rattle.rx_handler.specs.Effective.{effective_at, effectives, heard_in}
 use Rattle.rx_handler.specs.Origin.{EffectiveFields, Quiet}
 use Rattle.rx_handler.specs.Past.{effective_of}
-use Rattle.rx_handler.specs.Table.{RxMemory, first_memory, received, all_received}
+use Rattle.rx_handler.specs.Memory.{RxMemory, home_memory}
+use Rattle.rx_handler.specs.Step.{received, all_received}
 use Rattle.down_framer.specs.ByNumber.{fields_in}
 use Rattle.call_leg.specs.Who.{Who}
 use Rattle.call_leg.specs.Uplink.{sighting_in, heard_as, field_of, dtxd_after}
@@ -114,7 +115,7 @@ length-heard_of (t ∷ past) = ap suc (length-heard_of past)
 -- states gives.
 pub record LooksBack : Type 0 where
   pub newest : (call : ℕ) (y : Heard) (past : List Heard) → effective_of call (y ∷ past) ≡ effective_at call (heard_in (reverse (y ∷ past))) (length past)
-  pub table : (call : ℕ) (ys : List Heard) → all_received (first_memory call) ys ≡ effectives call ys
+  pub table : (call : ℕ) (ys : List Heard) → all_received (home_memory call) ys ≡ effectives call ys
 
 received-front : (memory : RxMemory) (ys zs : List Heard) → (more : List EffectiveFields) × (all_received memory (ys ++ zs) ≡ all_received memory ys ++ more)
 unfolding all_received
@@ -128,7 +129,7 @@ effective-front : LooksBack → (call : ℕ) (ys zs : List Heard) (k : ℕ) → 
 effective-front look call ys zs k l =
     let all : List Heard = ys ++ zs in
     let long = length-append ys zs in
-    let more = received-front (first_memory call) ys zs in
+    let more = received-front (home_memory call) ys zs in
     let same : effectives call all ≡ effectives call ys ++ more.0 = sym (look.table call all) ∙ more.1 ∙ ap (λ es. es ++ more.0) (look.table call ys) in
     let count = length-map-range_with_len (effective_at call (heard_in ys)) 0 (length ys) in
     sym (get_or-map-range_with_len (effective_at call (heard_in all)) 0 (length all) k k Quiet (omega arith) (omega arith)) ∙

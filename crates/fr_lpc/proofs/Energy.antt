@@ -8,7 +8,7 @@ use Rattle.std.proofs.lemmas.List.FromFn.{map-range_with_len_more}
 use Rattle.std.proofs.lemmas.List.Sums.{fold-append}
 use Rattle.trau_num.specs.Num.{clamp32, l_mult_of, entry}
 use Rattle.fr_lpc.specs.Scaling.{AreWithin}
-use Rattle.fr_lpc.specs.Autocorrelation.{autocorrelation_of, sum_of_products}
+use Rattle.fr_lpc.specs.Autocorrelation.{autocorrelation_of, plain_autocorrelation}
 
 -- twice a small product isn't clamped
 pub unclamped : (a b z : ℤ) → z ≡ a *ℤ b → unsigned_abs z ≤ 4194304 → l_mult_of a b ≡ z *ℤ pos 2
@@ -148,7 +148,7 @@ plain_doubled s h k =
     (range_with_len k (160 - k)) (pos 0) (pos 0) refl)
 
 -- which is the sum of the doubled products
-pub plainly : (s : List ℤ) → AreWithin 2048 s → (k : ℕ) → autocorrelation_of s k ≡ sum_of_products s k
+pub plainly : (s : List ℤ) → AreWithin 2048 s → (k : ℕ) → autocorrelation_of s k ≡ plain_autocorrelation s k
 unfolding autocorrelation_of
 plainly s h k = λ j.
     fold ◌+ℤ◌ (pos 0)

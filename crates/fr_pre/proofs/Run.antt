@@ -3,10 +3,12 @@ use Rattle.std.proofs.Common.{◌≡◌, ℕ, ◌+◌, ◌<◌, suc, zero, ℤ, 
 use Rattle.std.proofs.lemmas.Int.{ints}
 use Rattle.std.proofs.lemmas.List.{drop_all}
 use Rattle.fr_pre.specs.Memory.{PreMemory, home_memory}
-use Rattle.fr_pre.specs.Preprocessing.{downscaled, next_l_z2, offset_free, preemphasised, preprocessed_sample, preprocessed_frame}
+use Rattle.fr_pre.specs.Preprocessing.{downscaled, next_l_z2, offset_free, preemphasised}
+use Rattle.fr_pre.specs.Step.{preprocessed_sample, preprocessed_frame}
 use Rattle.trau_num.specs.Num.{entry}
 use Rattle.fr_pre.specs.Offsets.{next_offset, without_offset, IsDownscaled, IsOffset, AreDownscaled, AreOffsets, AreFree, ArePreemphasised}
-use Rattle.fr_pre.specs.History.{samples_of, Stands, memory_after, newest_preprocessed}
+use Rattle.fr_pre.specs.History.{samples_of_frames, memory_after, newest_preprocessed}
+use Rattle.fr_pre.specs.Stands.{Stands}
 use Rattle.fr_pre.proofs.Floors.{sum_goes_on, rounds_on}
 
 -- the lists that the passes made
@@ -87,9 +89,9 @@ appended m (x ∷ xs) ys = rw (appended (preprocessed_sample m x).1 xs ys) refl
 -- one frame more
 pub history : (m m' : PreMemory) (x s : List ℤ) → preprocessed_frame m x ≡ (s, m') → (past : List (List ℤ)) → Stands past m →
     Stands (x ∷ past) m' × (s ≡ newest_preprocessed x past)
-unfolding samples_of
+unfolding samples_of_frames
 history m m' x s e past h =
     let a = h.after in
     let f : preprocessed_frame (memory_after past) x ≡ (s, m') = rw a at e in
-    let after : memory_after (x ∷ past) ≡ m' = ap (λ p. p.1) (appended home_memory (samples_of past) x) ∙ ap (λ p. p.1) f in
+    let after : memory_after (x ∷ past) ≡ m' = ap (λ p. p.1) (appended home_memory (samples_of_frames past) x) ∙ ap (λ p. p.1) f in
     (record { after = sym after }, sym (ap (λ p. p.0) f))

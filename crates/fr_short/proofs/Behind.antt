@@ -12,7 +12,7 @@ use Rattle.std.proofs.lemmas.Int.{ints, to_z-of_z}
 use Rattle.std.proofs.lemmas.Simd.{length-zip2, tops_compared, mask_l-mod}
 use lib.Lanes.{mask_l, top}
 use Rattle.fr_short.specs.Lanes.{words_behind}
-use Rattle.fr_short.specs.Words.{AreFactors}
+use Rattle.fr_short.specs.Words.{AreEightFactors}
 use Rattle.fr_short.specs.Synthesis.{synthesis_lattice, sections_after}
 
 -- a guess that the check lets through is right: each word is the one before it less the step
@@ -179,9 +179,9 @@ turned xs l a b c d e f g h =
     by_eight (λ xs. (get_or xs 7 (pos 0) ∷ get_or xs 6 (pos 0) ∷ get_or xs 5 (pos 0) ∷ get_or xs 4 (pos 0) ∷ get_or xs 3 (pos 0) ∷ get_or xs 2 (pos 0) ∷ get_or xs 1 (pos 0) ∷ get_or xs 0 (pos 0) ∷ []) ≡ reverse xs)
     (λ a b c d e f g h. refl) xs l
 
-pub turned_factors : (xs : List ℤ) → length xs ≡ 8 → AreFactors xs → EightFactors (reverse xs)
+pub turned_factors : (xs : List ℤ) → length xs ≡ 8 → AreEightFactors xs → EightFactors (reverse xs)
 turned_factors xs l =
-    by_eight (λ xs. AreFactors xs → EightFactors (reverse xs))
+    by_eight (λ xs. AreEightFactors xs → EightFactors (reverse xs))
     (λ a b c d e f g h p. record { eight = refl; factors = (p 7 (lit< tt), (p 6 (lit< tt), (p 5 (lit< tt), (p 4 (lit< tt), (p 3 (lit< tt), (p 2 (lit< tt), (p 1 (lit< tt), (p 0 (lit< tt), tt)))))))) }) xs l
 
 -- the lanes that a frame leaves

@@ -11,7 +11,9 @@ use Rattle.trau_bits.specs.Bits.{bits_of}
 use Rattle.frame_sync.specs.declared.yields.Yield.{Yield}
 use Rattle.trau_frame.specs.Match.{bit_in}
 use Rattle.frame_sync.specs.Yields.{Yields}
-use Rattle.frame_sync.specs.Step.{SyncMemory, next_period, Stands}
+use Rattle.frame_sync.specs.Memory.{SyncMemory}
+use Rattle.frame_sync.specs.Step.{next_period}
+use Rattle.frame_sync.specs.Stands.{Stands}
 use Rattle.frame_sync.specs.Periods.{line_bits, mode_after, yield_of, each_yield, ArePeriods, yield_in, all_yields, all_bits, EndsIn, ends_in}
 use Rattle.frame_sync.proofs.Searched.{ends-searched}
 use Rattle.frame_sync.proofs.Steps.{near-mode_after, stands-next}

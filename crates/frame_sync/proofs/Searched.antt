@@ -10,7 +10,8 @@ use Rattle.frame_sync.specs.declared.yields.Yield.TheVariants.{Frame, Miss}
 use Rattle.trau_frame.specs.Match.{bit_in, is_match, frame_at}
 use Rattle.frame_sync.specs.Yields.{NoMatch, place_of}
 use Rattle.frame_sync.specs.Periods.{after_miss, found_in, hunted, due, searched, CarriesFrame}
-use Rattle.frame_sync.specs.Step.{bit_of_two, IsNear}
+use Rattle.frame_sync.specs.Step.{bit_of_two}
+use Rattle.frame_sync.specs.Memory.{IsNear}
 use Rattle.trau_frame.proofs.Matches.{is_match-same, frame_at-same, length-frame_at, get_or-frame_at, match_is_synced, synced_is_match}
 use Rattle.frame_sync.proofs.Found.{FoundAt, first_match-says, first_match-found, first_match-none, first_match-same}
 

@@ -10,7 +10,9 @@ use Rattle.frame_sync.specs.declared.yields.Mode.{Mode}
 use Rattle.frame_sync.specs.declared.yields.Yield.{Yield}
 use Rattle.trau_frame.specs.Match.{bit_in}
 use Rattle.frame_sync.specs.Periods.{searched, line_bits, mode_after, yield_of, ArePeriods, EndsIn, CarriesFrame}
-use Rattle.frame_sync.specs.Step.{SyncMemory, bit_of_two, next_period, last_bits, memory_after, Stands, IsNear}
+use Rattle.frame_sync.specs.Memory.{SyncMemory, IsNear}
+use Rattle.frame_sync.specs.Step.{bit_of_two, next_period}
+use Rattle.frame_sync.specs.Stands.{last_bits, memory_after, Stands}
 use Rattle.frame_sync.proofs.Searched.{Agrees, near-searched, ends-searched, carries-searched, searched-agrees}
 
 -- ---- what the code did

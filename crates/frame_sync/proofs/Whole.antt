@@ -14,7 +14,7 @@ use Rattle.frame_sync.specs.declared.yields.Yield.TheVariants.{Frame, Miss}
 use Rattle.trau_frame.specs.Match.{bit_in, is_match, frame_at}
 use Rattle.frame_sync.specs.Yields.{Yields}
 use Rattle.frame_sync.specs.Periods.{after_miss, found_in, hunted, due, searched, line_bits, mode_after, each_yield, ArePeriods}
-use Rattle.frame_sync.specs.Step.{IsNear}
+use Rattle.frame_sync.specs.Memory.{IsNear}
 use Rattle.trau_frame.proofs.Matches.{is_match-same, frame_at-same}
 use Rattle.frame_sync.proofs.Modes.{Gives, GiveAll, NoneEnds, all-follow}
 use Rattle.frame_sync.proofs.Searched.{Looked, looked}

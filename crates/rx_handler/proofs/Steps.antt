@@ -11,7 +11,9 @@ use Rattle.rx_muting.proofs.Numbered.{draw_of-state_after, state_after-state_aft
 use Rattle.rx_handler.specs.Heard.{Heard, Good, Sid, Idle, Lost}
 use Rattle.rx_handler.specs.Origin.{Origin, NoiseFrame, frame_of, draws_of, EffectiveFields}
 use Rattle.rx_handler.specs.Past.{Anchor, NoAnchor, AtGood, AtSid, anchor_of, one_more, missed_in, periods_of_fall, moved, start_from, old_of, origin_from, origin_of, drawn, effective_of}
-use Rattle.rx_handler.specs.Table.{RxState, Speech, Noise, RxMemory, missed_after, fall_after, state_after_loss, state_after_sid, next_state, origin_by, received, first_step, step_of, state_from, state_at, Stands}
+use Rattle.rx_handler.specs.Memory.{RxState, Speech, Noise, RxMemory}
+use Rattle.rx_handler.specs.Step.{missed_after, fall_after, state_after_loss, state_after_sid, next_state, origin_by, received}
+use Rattle.rx_handler.specs.Stands.{first_step, step_of, state_from, state_at, Stands}
 
 missed_more : (missed : Bool) (since : List Heard) → min (missed_in (Lost missed ∷ since)) 2 ≡ missed_after (min (missed_in since) 2) missed
 missed_more true since = let e : missed_in (Lost true ∷ since) ≡ suc (missed_in since) = refl in omega arith

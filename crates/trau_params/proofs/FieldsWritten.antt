@@ -5,7 +5,8 @@ use Rattle.std.proofs.lemmas.List.{drop_more, drop_all}
 use Rattle.std.proofs.lemmas.List.Sums.{sum_by-cons}
 use Rattle.std.proofs.lemmas.Nat.{pow-add}
 use Rattle.trau_params.specs.Widths.{larc_widths, block_widths}
-use Rattle.trau_params.specs.FieldBits.{AreBits, low_bits, field_bits}
+use Rattle.trau_bits.specs.Bits.{AreBits}
+use Rattle.trau_params.specs.FieldBits.{low_bits, field_bits}
 use Rattle.trau_params.specs.Fields.{number_at, fields_in}
 use Rattle.trau_params.specs.Bits260.{bits260}
 use Rattle.trau_params.proofs.FieldsRead.{number_at-none, number_at-more}

@@ -2,7 +2,7 @@ use Rattle.std.proofs.Common.{◌≤◌, get_or, pos, rules, arith, refl, unsign
 use Rattle.std.proofs.lemmas.Int.{to_z-of_z}
 use Rattle.trau_num.specs.Num.{floor_shr}
 use Rattle.trau_num.proofs.Fill.{fill_next, fill_all, each_next}
-use Rattle.fr_long.specs.Scaling.{scaled_down}
+use Rattle.fr_long.specs.Scaling.{scaled_block}
 use Rattle.fr_long.proofs.Blocks.{small_word, shifted_within}
 use Rattle.fr_long.proofs.scaling.scaled.Goals as goal
 
@@ -18,7 +18,7 @@ loop-k-preserved c =
     })
 
 pub returns-clause-value : goal.returns-clause-value
-unfolding scaled_down
+unfolding scaled_block
 returns-clause-value c = fill_all (pos 0) _ c.loop-k.wt 40 c.loop-k.k (omega arith) c.loop-k.invariant.filled
 
 pub returns-clause-scaled : goal.returns-clause-scaled

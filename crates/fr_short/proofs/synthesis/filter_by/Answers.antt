@@ -6,8 +6,8 @@ use Rattle.trau_lanes.proofs.Eight.{words_kept, words_passed, factors_passed}
 use Rattle.fr_short.specs.Reflection.{coefficients_of, coefficients_at, part_of, part_start}
 use Rattle.fr_short.specs.Synthesis.{filtered_samples}
 use Rattle.fr_short.specs.Deemphasis.{last_of}
-use Rattle.fr_short.specs.Steps.{followed}
-use Rattle.fr_short.specs.Words.{AreFactors}
+use Rattle.fr_short.specs.Stepped.{stepped}
+use Rattle.fr_short.specs.Words.{AreEightFactors}
 use Rattle.fr_short.proofs.Behind.{turned_factors, turned_back}
 use Rattle.fr_short.proofs.Parts.{in_part, parts_follow, frame_ends}
 use Rattle.fr_short.proofs.Runs.{Run, run_start, run_next, run_end}
@@ -18,7 +18,7 @@ unfolding coefficients_of
 eight old new p = refl
 
 -- the coefficients of a part, turned and turned back
-factors_of : (xs rs ys : List ℤ) → xs ≡ ys → length ys ≡ 8 → AreFactors xs → rs ≡ reverse xs → EightFactors rs
+factors_of : (xs rs ys : List ℤ) → xs ≡ ys → length ys ≡ 8 → AreEightFactors xs → rs ≡ reverse xs → EightFactors rs
 factors_of xs rs ys e l f er = subst EightFactors (sym er) (turned_factors xs (ap length e ∙ l) f)
 
 pub loop-part-init : goal.loop-part-init
@@ -71,7 +71,7 @@ pub returns-clause-samples : goal.returns-clause-samples
 returns-clause-samples g c =
     let end = frame_ends c.loop-part.part c.loop-part-test.false in
     let out : List ℤ = (filtered_samples (coefficients_at c.args.old.now c.args.new.now) 0 c.args.sections.now c.args.d.now).0 in
-    (run_end _ _ _ c.args.d.now _ _ _ _ _ (omega arith) c.loop-part.invariant.run).0 ∙ ap (λ b. followed g.S.Step.next b out) (to_z-of_z w16 c.args.before c.ranges.before)
+    (run_end _ _ _ c.args.d.now _ _ _ _ _ (omega arith) c.loop-part.invariant.run).0 ∙ ap (λ b. stepped g.S.Step.next b out) (to_z-of_z w16 c.args.before c.ranges.before)
 
 pub returns-clause-sections : goal.returns-clause-sections
 returns-clause-sections g c =
@@ -83,4 +83,4 @@ pub returns-clause-last : goal.returns-clause-last
 returns-clause-last g c =
     let end = frame_ends c.loop-part.part c.loop-part-test.false in
     let out : List ℤ = (filtered_samples (coefficients_at c.args.old.now c.args.new.now) 0 c.args.sections.now c.args.d.now).0 in
-    (run_end _ _ _ c.args.d.now _ _ _ _ _ (omega arith) c.loop-part.invariant.run).1 ∙ ap (λ b. last_of b (followed g.S.Step.next b out)) (to_z-of_z w16 c.args.before c.ranges.before)
+    (run_end _ _ _ c.args.d.now _ _ _ _ _ (omega arith) c.loop-part.invariant.run).1 ∙ ap (λ b. last_of b (stepped g.S.Step.next b out)) (to_z-of_z w16 c.args.before c.ranges.before)
