@@ -11,7 +11,8 @@ use Rattle.switchboard.specs.Ends.{Given, whole_of, lack_of}
 use Rattle.switchboard.proofs.Appending.{or_else}
 use Rattle.call_leg.specs.Who.{Who}
 use Rattle.run_spec.specs.Run.{Run, given_in, whole_in, done_in, start_in, end_in, who_in, IsOpened, worked_to, periods_to}
-use Rattle.run_spec.specs.Lines.{out_line, down_octets, out_of_call, down_of_call}
+use Rattle.call_leg.specs.Out.{out_line}
+use Rattle.run_spec.specs.Lines.{down_octets, out_of_call, down_of_call}
 use Rattle.run_spec.specs.Now.{IsSoFar}
 use Rattle.run_spec.specs.Mark.{cut_at, Joins}
 use Rattle.run_spec.proofs.Executing.{closed-append}
