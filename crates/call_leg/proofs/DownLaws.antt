@@ -24,6 +24,7 @@ use Rattle.time_align.specs.Memory as align
 use Rattle.time_align.specs.Step.{after_thaw, adopted}
 use Rattle.down_framer.specs.Made.{grown}
 use Rattle.down_framer.specs.Memory as framer
+use Rattle.down_framer.specs.Step.{after_put}
 use Rattle.down_framer.proofs.Calls.{put-holds, frame-holds, take-holds}
 use Rattle.down_framer.proofs.Timing.{IsShift-shift_due}
 use Rattle.down_framer.proofs.Waiting.{none_made, one_made}
@@ -193,7 +194,7 @@ pub half-stands : (who : Who) (ts : List CallPeriod) (now : Settings) (up pcm : 
 unfolding down_worked
 half-stands who ts now up pcm handed d l b h =
     let t : CallPeriod = period_with now up pcm handed in
-    let put = with_framer d (framer.after_put d.framer pcm) in
+    let put = with_framer d (after_put d.framer pcm) in
     let i0 = enter who ts now up handed pcm d put l b h (λ pcm0 line out start p. put-holds d.framer pcm pcm0 line out start l p) refl refl refl refl refl refl
     refl refl refl refl refl in
     let i1 = tried-inside who t ts (frames_of ts) put i0 in

@@ -22,6 +22,7 @@ use Rattle.time_align.specs.Shift.{shift_of}
 use Rattle.time_align.specs.Memory as align
 use Rattle.time_align.specs.Step.{after_ask}
 use Rattle.down_framer.specs.Memory as framer
+use Rattle.down_framer.specs.Step.{after_put}
 use Rattle.std.proofs.lemmas.Bool.{cond_both}
 use Rattle.trau_alaw.specs.declared.Law.{Law}
 use Rattle.call_leg.specs.Who.{Who}
@@ -240,5 +241,5 @@ pub down-keeps : (d : DownMemory) (n : Note) (item : Option EffectiveFields) (pc
 unfolding down_turned down_worked
 down-keeps d n item pcm =
     let h = handed_to (noted d n) item in
-    let put = with_framer h (framer.after_put h.framer pcm) in
+    let put = with_framer h (after_put h.framer pcm) in
     tried-keeps (frame_tried put) ∙ tried-keeps put ∙ handed-keeps (noted d n) item

@@ -14,7 +14,7 @@ use Rattle.fr_decoder.specs.Stands as decoder
 use Rattle.fr_decoder.specs.Memory.{home_memory as decoder_home}
 use Rattle.fr_decoder.proofs.Frames as decoding
 use Rattle.fr_encoder.proofs.Frames as encoding
-use Rattle.down_framer.specs.Made.{due}
+use Rattle.down_framer.specs.Made.{handed_due}
 use Rattle.call_leg.specs.Who.{Who}
 use Rattle.call_leg.specs.Periods.{CallPeriod}
 use Rattle.call_leg.specs.Settings.{Settings, new_settings, with_level, with_mode, with_bridge, without_bridge}
@@ -98,7 +98,7 @@ mode-stands who ts now mode m h =
       };
     }
 
-pub begin-stands : (who : Who) (ts : List CallPeriod) (now : Settings) (m : LegMemory) → due (down_periods ts) (frames_of ts) ≡ None → Stands who ts now m →
+pub begin-stands : (who : Who) (ts : List CallPeriod) (now : Settings) (m : LegMemory) → handed_due (down_periods ts) (frames_of ts) ≡ None → Stands who ts now m →
     Stands who ts (with_bridge now) (begin_bridge m)
 begin-stands who ts now m n h = record {
   law = h.law;

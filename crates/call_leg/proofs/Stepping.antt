@@ -26,6 +26,7 @@ use Rattle.tx_dtx.specs.Step.{next_sent}
 use Rattle.time_align.specs.Memory as align
 use Rattle.time_align.specs.Step.{adopted, after_thaw}
 use Rattle.down_framer.specs.Memory as framer
+use Rattle.down_framer.specs.Step.{after_frame, after_put, after_take}
 use Rattle.trau_io.specs.declared.ends.Counts.{Counts}
 use Rattle.trau_orders.specs.declared.order.DtxMode.{DtxMode}
 use Rattle.trau_alaw.specs.declared.Law.{Law}
@@ -39,7 +40,7 @@ use Rattle.call_leg.specs.Places.{in_u32, in_u64}
 use Rattle.call_leg.specs.Step.{played_frame, played, after_sighting, up_worked, coded_next, next_by, thawed, after_made, frame_made, frame_tried, with_framer, down_worked}
 
 -- the downlink side of a new leg is at home
-pub home-step : (law : Law) (f : framer.FramerMemory) (a : align.AlignMemory) (w : List (List ℕ)) (m : CoderMemory) → f ≡ framer.new_memory →
+pub home-step : (law : Law) (f : framer.FramerMemory) (a : align.AlignMemory) (w : List (List ℕ)) (m : CoderMemory) → f ≡ framer.home_memory →
     a ≡ align.home_memory → w ≡ [] → m.encoder ≡ encoder.home_memory → m.tx ≡ tx.home_memory →
     record (home_down law) { framer = f; align = a; waiting = w; coder = m } ≡ home_down law
 home-step law f a w m ef ea ew ee et =
@@ -72,7 +73,7 @@ abbrev by_fields : Law → framer.FramerMemory → align.AlignMemory → List (L
 by_fields law f a w c l m u q b s n =
     record { law = law; framer = f; align = a; waiting = w; coder = c; level = l; mode = m; dtxd = u; quiet = q; bridged = b; sent = s; made = n }
 
-same : (old d : DownMemory) (n : DownFrame × CoderMemory) (s : ℤ × align.AlignMemory) → d.law ≡ old.law → d.framer ≡ framer.after_frame old.framer
+same : (old d : DownMemory) (n : DownFrame × CoderMemory) (s : ℤ × align.AlignMemory) → d.law ≡ old.law → d.framer ≡ after_frame old.framer
     (frames.down_bits n.0) s.0 → d.align ≡ thawed s.1 old.bridged (drop 1 old.waiting) →
     d.waiting ≡ drop 1 old.waiting → d.coder ≡ n.1 → d.level ≡ old.level → d.mode ≡ old.mode → d.dtxd ≡ old.dtxd → d.quiet ≡ old.quiet →
     d.bridged ≡ old.bridged →
@@ -80,25 +81,25 @@ same : (old d : DownMemory) (n : DownFrame × CoderMemory) (s : ℤ × align.Ali
 same old d n s la a b c e f g h i j k l =
     ap (λ (z : Law). by_fields z d.framer d.align d.waiting d.coder d.level d.mode d.dtxd d.quiet d.bridged d.sent d.made) la
     ∙ ap (λ (z : framer.FramerMemory). by_fields old.law z d.align d.waiting d.coder d.level d.mode d.dtxd d.quiet d.bridged d.sent d.made) a
-    ∙ ap (λ (z : align.AlignMemory). by_fields old.law (framer.after_frame old.framer (frames.down_bits n.0) s.0) z d.waiting d.coder d.level d.mode d.dtxd
+    ∙ ap (λ (z : align.AlignMemory). by_fields old.law (after_frame old.framer (frames.down_bits n.0) s.0) z d.waiting d.coder d.level d.mode d.dtxd
     d.quiet d.bridged d.sent d.made) b
-    ∙ ap (λ (z : List (List ℕ)). by_fields old.law (framer.after_frame old.framer (frames.down_bits n.0) s.0) (thawed s.1 old.bridged (drop 1 old.waiting)) z
+    ∙ ap (λ (z : List (List ℕ)). by_fields old.law (after_frame old.framer (frames.down_bits n.0) s.0) (thawed s.1 old.bridged (drop 1 old.waiting)) z
     d.coder d.level d.mode d.dtxd d.quiet d.bridged d.sent d.made) c
-    ∙ ap (λ (z : CoderMemory). by_fields old.law (framer.after_frame old.framer (frames.down_bits n.0) s.0) (thawed s.1 old.bridged (drop 1 old.waiting))
+    ∙ ap (λ (z : CoderMemory). by_fields old.law (after_frame old.framer (frames.down_bits n.0) s.0) (thawed s.1 old.bridged (drop 1 old.waiting))
     (drop 1 old.waiting) z d.level d.mode d.dtxd d.quiet d.bridged d.sent d.made) e
-    ∙ ap (λ (z : ℤ). by_fields old.law (framer.after_frame old.framer (frames.down_bits n.0) s.0) (thawed s.1 old.bridged (drop 1 old.waiting))
+    ∙ ap (λ (z : ℤ). by_fields old.law (after_frame old.framer (frames.down_bits n.0) s.0) (thawed s.1 old.bridged (drop 1 old.waiting))
     (drop 1 old.waiting) n.1 z d.mode d.dtxd d.quiet d.bridged d.sent d.made) f
-    ∙ ap (λ (z : DtxMode). by_fields old.law (framer.after_frame old.framer (frames.down_bits n.0) s.0) (thawed s.1 old.bridged (drop 1 old.waiting))
+    ∙ ap (λ (z : DtxMode). by_fields old.law (after_frame old.framer (frames.down_bits n.0) s.0) (thawed s.1 old.bridged (drop 1 old.waiting))
     (drop 1 old.waiting) n.1 old.level z d.dtxd d.quiet d.bridged d.sent d.made) g
-    ∙ ap (λ (z : Bool). by_fields old.law (framer.after_frame old.framer (frames.down_bits n.0) s.0) (thawed s.1 old.bridged (drop 1 old.waiting))
+    ∙ ap (λ (z : Bool). by_fields old.law (after_frame old.framer (frames.down_bits n.0) s.0) (thawed s.1 old.bridged (drop 1 old.waiting))
     (drop 1 old.waiting) n.1 old.level old.mode z d.quiet d.bridged d.sent d.made) h
-    ∙ ap (λ (z : Bool). by_fields old.law (framer.after_frame old.framer (frames.down_bits n.0) s.0) (thawed s.1 old.bridged (drop 1 old.waiting))
+    ∙ ap (λ (z : Bool). by_fields old.law (after_frame old.framer (frames.down_bits n.0) s.0) (thawed s.1 old.bridged (drop 1 old.waiting))
     (drop 1 old.waiting) n.1 old.level old.mode old.dtxd z d.bridged d.sent d.made) i
-    ∙ ap (λ (z : Bool). by_fields old.law (framer.after_frame old.framer (frames.down_bits n.0) s.0) (thawed s.1 old.bridged (drop 1 old.waiting))
+    ∙ ap (λ (z : Bool). by_fields old.law (after_frame old.framer (frames.down_bits n.0) s.0) (thawed s.1 old.bridged (drop 1 old.waiting))
     (drop 1 old.waiting) n.1 old.level old.mode old.dtxd old.quiet z d.sent d.made) j
-    ∙ ap (λ (z : ℕ). by_fields old.law (framer.after_frame old.framer (frames.down_bits n.0) s.0) (thawed s.1 old.bridged (drop 1 old.waiting))
+    ∙ ap (λ (z : ℕ). by_fields old.law (after_frame old.framer (frames.down_bits n.0) s.0) (thawed s.1 old.bridged (drop 1 old.waiting))
     (drop 1 old.waiting) n.1 old.level old.mode old.dtxd old.quiet old.bridged z d.made) k
-    ∙ ap (λ (z : ℕ). by_fields old.law (framer.after_frame old.framer (frames.down_bits n.0) s.0) (thawed s.1 old.bridged (drop 1 old.waiting))
+    ∙ ap (λ (z : ℕ). by_fields old.law (after_frame old.framer (frames.down_bits n.0) s.0) (thawed s.1 old.bridged (drop 1 old.waiting))
     (drop 1 old.waiting) n.1 old.level old.mode old.dtxd old.quiet old.bridged (if not (length old.waiting == 0) then in_u32 (old.sent + 1) else old.sent)
     z) l
 
@@ -107,7 +108,7 @@ pub make-step : (old new : DownMemory) (f : DownFrame) (bits : List ℕ) (shift 
     on ≡ dtx_in old.mode old.dtxd →
     next_by old.law old.waiting old.coder old.framer.held old.quiet old.level on ≡ (f, new.coder) → bits ≡ frames.down_bits f → adopted old.align
     ≡ (shift, align1) →
-    new.framer ≡ framer.after_frame old.framer bits shift → new.waiting ≡ drop 1 old.waiting →
+    new.framer ≡ after_frame old.framer bits shift → new.waiting ≡ drop 1 old.waiting →
     waits ≡ not (length new.waiting == 0) → new.align ≡ (if old.bridged || waits then align1 else after_thaw align1) →
     waited ≡ not (length old.waiting == 0) → new.sent ≡ (if waited then in_u32 (old.sent + 1) else old.sent) → new.made ≡ in_u64 (old.made + 1) →
     new.law ≡ old.law → new.level ≡ old.level → new.mode ≡ old.mode → new.dtxd ≡ old.dtxd → new.quiet ≡ old.quiet → new.bridged ≡ old.bridged →
@@ -115,7 +116,7 @@ pub make-step : (old new : DownMemory) (f : DownFrame) (bits : List ℕ) (shift 
 unfolding frame_made
 make-step old new f bits shift align1 on waits waited eo en eb es ef ew ewa ea ewd esn em la lv md ul qt br =
     let next = ap (λ o. next_by old.law old.waiting old.coder old.framer.held old.quiet old.level o) (sym eo) ∙ en in
-    let framed : new.framer ≡ framer.after_frame old.framer (frames.down_bits f) shift = ef ∙ ap (λ b. framer.after_frame old.framer b shift) eb in
+    let framed : new.framer ≡ after_frame old.framer (frames.down_bits f) shift = ef ∙ ap (λ b. after_frame old.framer b shift) eb in
     let shifts : new.align ≡ thawed align1 old.bridged (drop 1 old.waiting) =
     ea ∙ ap (λ w. if old.bridged || w then align1 else after_thaw align1) (ewa ∙ ap (λ q. not (length q == 0)) ew) in
     let count : new.sent ≡ (if not (length old.waiting == 0) then in_u32 (old.sent + 1) else old.sent) = esn
@@ -125,15 +126,15 @@ make-step old new f bits shift align1 on waits waited eo en eb es ef ew ewa ea e
     ∙ ap (λ (n : DownFrame × CoderMemory). after_made old n (adopted old.align)) (sym next)
 
 -- the downlink half
-pub half-step : (old d0 d1 d2 new : DownMemory) (pcm bits : List ℕ) → d0 ≡ with_framer old (framer.after_put old.framer pcm) → d1 ≡ frame_tried d0 →
+pub half-step : (old d0 d1 d2 new : DownMemory) (pcm bits : List ℕ) → d0 ≡ with_framer old (after_put old.framer pcm) → d1 ≡ frame_tried d0 →
     d2 ≡ frame_tried d1 →
-    new ≡ with_framer d2 (framer.after_take d2.framer) → bits ≡ take 320 d2.framer.stored → down_worked old pcm ≡ (bits, new)
+    new ≡ with_framer d2 (after_take d2.framer) → bits ≡ take 320 d2.framer.stored → down_worked old pcm ≡ (bits, new)
 unfolding down_worked
 half-step old d0 d1 d2 new pcm bits e0 e1 e2 en eb =
-    let e : frame_tried (frame_tried (with_framer old (framer.after_put old.framer pcm))) ≡ d2 = ap (λ d. frame_tried (frame_tried d)) (sym e0)
+    let e : frame_tried (frame_tried (with_framer old (after_put old.framer pcm))) ≡ d2 = ap (λ d. frame_tried (frame_tried d)) (sym e0)
     ∙ ap frame_tried (sym e1) ∙ sym e2 in
-    ap (λ (d : DownMemory). (take 320 d.framer.stored, with_framer d (framer.after_take d.framer))) e
-    ∙ ap (λ b. (b, with_framer d2 (framer.after_take d2.framer))) (sym eb) ∙ ap (λ n. (bits, n)) (sym en)
+    ap (λ (d : DownMemory). (take 320 d.framer.stored, with_framer d (after_take d.framer))) e
+    ∙ ap (λ b. (b, with_framer d2 (after_take d2.framer))) (sym eb) ∙ ap (λ n. (bits, n)) (sym en)
 
 -- the uplink half
 pub up-step : (m : LegMemory) (up : List ℕ) (y : Option Yield) (found : SyncMemory) (s : Sighting) (e : EffectiveFields) (heard : RxMemory)

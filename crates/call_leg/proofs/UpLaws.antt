@@ -17,7 +17,7 @@ use Rattle.fr_decoder.specs.Memory.{DecoderMemory}
 use Rattle.fr_decoder.proofs.Frames as decoding
 use Rattle.time_align.specs.Shift.{asked_then, latest_ask}
 use Rattle.time_align.specs.Memory.{AlignMemory}
-use Rattle.down_framer.specs.Made.{fields_since}
+use Rattle.down_framer.specs.Made.{counted_fields}
 use Rattle.trau_alaw.specs.declared.Law.{Law}
 use Rattle.trau_alaw.specs.Period.{compressed}
 use Rattle.call_leg.specs.Who.{Who}
@@ -60,7 +60,7 @@ pub hear-stands : (who : Who) (ts : List CallPeriod) (now : Settings) (up : List
     quiet ≡ is_quiet (effective_of who.number (heard_as (sighting_after ts up) ∷ heard_of ts)) → Between who ts now d →
     Halfway who ts now up None (after_sighting d s quiet)
 hear-stands who ts now up s quiet d es eq h =
-    let before = fields_since (down_periods ts) (frames_of ts) in
+    let before = counted_fields (down_periods ts) (frames_of ts) in
     record {
       held = record {
         law = h.law;

@@ -46,7 +46,7 @@ pub record DownMemory : Type 0 where
 abbrev pub home_down : Law → DownMemory
 home_down law = record {
   law = law;
-  framer = framer.new_memory;
+  framer = framer.home_memory;
   align = align.home_memory;
   waiting = [];
   coder = home_coder;

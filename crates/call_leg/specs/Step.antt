@@ -21,6 +21,7 @@ use Rattle.tx_dtx.specs.Step as tx
 use Rattle.time_align.specs.Memory as align
 use Rattle.time_align.specs.Step.{after_ask, after_thaw, after_freeze, adopted}
 use Rattle.down_framer.specs.Memory as framer
+use Rattle.down_framer.specs.Step.{after_frame, after_put, after_take}
 use Rattle.call_leg.specs.Uplink.{Sighting, sighting_in, heard_as, field_of, dtxd_after, is_quiet, handed_fields}
 use Rattle.call_leg.specs.Periods.{dtx_in}
 use Rattle.call_leg.specs.Counted.{counted}
@@ -120,7 +121,7 @@ next_by law (x ∷ more) m held quiet level on = (frame.Speech x true, home_code
 abbrev pub after_made : DownMemory → DownFrame × CoderMemory → ℤ × align.AlignMemory → DownMemory
 after_made d next shift = record {
   law = d.law;
-  framer = framer.after_frame d.framer (frames.down_bits next.0) shift.0;
+  framer = after_frame d.framer (frames.down_bits next.0) shift.0;
   align = thawed shift.1 d.bridged (drop 1 d.waiting);
   waiting = drop 1 d.waiting;
   coder = next.1;
@@ -146,8 +147,8 @@ with_framer d f = record d { framer = f }
 -- the 320 bits of the Down line, and the memory after them
 unfoldable pub down_worked : DownMemory → List ℕ → List ℕ × DownMemory
 down_worked d pcm =
-    let made = frame_tried (frame_tried (with_framer d (framer.after_put d.framer pcm))) in
-    (take 320 made.framer.stored, with_framer made (framer.after_take made.framer))
+    let made = frame_tried (frame_tried (with_framer d (after_put d.framer pcm))) in
+    (take 320 made.framer.stored, with_framer made (after_take made.framer))
 
 -- both halves of a period: the octets of the Out line, the bits of the Down line, and the memory after them
 abbrev pub period_worked : LegMemory → List ℕ → List ℕ → List ℕ × List ℕ × LegMemory

@@ -22,7 +22,7 @@ use Rattle.call_spec.specs.Stretches.{stretches}
 use Rattle.call_spec.specs.Call.{Call, Setting, Span, item_at, starts_at}
 use Rattle.call_spec.specs.Out.{out}
 use Rattle.call_spec.specs.Down.{down}
-use Rattle.call_spec.specs.History.{spans_of}
+use Rattle.call_spec.specs.History.{spans_in_history}
 
 -- ---- stretches that do not fall
 
@@ -39,7 +39,7 @@ some_periods =
     period false None ∷ period true (Some (7 ∷ [])) ∷ period false (Some (8 ∷ [])) ∷ period true None ∷ period true (Some (9 ∷ [])) ∷ period false None ∷ []
 
 abbrev spans : List Span
-spans = reverse (spans_of (reverse some_periods))
+spans = reverse (spans_in_history (reverse some_periods))
 
 froms : map {B = ℕ × ℕ} (λ s. (s.from, s.to)) spans ≡ (1, 3) ∷ (3, 3) ∷ (4, 5) ∷ []
 froms = refl

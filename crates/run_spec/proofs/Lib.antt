@@ -17,3 +17,5 @@ pub mod Sending
 pub mod Sent
 pub mod Rounds
 pub mod LongerLines
+pub mod Cut
+pub mod Joining
