@@ -46,7 +46,8 @@ length-out_of who ts = length-decoded_octets who.law (plain_stretch who.number (
 pub length-down_now : (who : Who) (t : CallPeriod) (past : List CallPeriod) → length (down_now who (t ∷ past)) ≡ 320
 length-down_now who t past =
     let line = down_made who (frames_of (t ∷ past)) in
-    let far : 320 * length (down_periods (t ∷ past)) < length line = made-far (bits_now who) (λ fs. length-down_bits (frame_now who fs)) (down_periods (t ∷ past)) in
+    let far : 320 * length (down_periods (t ∷ past)) < length line = made-far (bits_now who) (λ fs. length-down_bits (frame_now who fs))
+    (down_periods (t ∷ past)) in
     let rest = length-drop (320 * length (down_periods past)) line in
     length-take 320 (drop (320 * length (down_periods past)) line) ∙ omega arith
 
@@ -109,7 +110,8 @@ data-are (frame.Speech d sp) h = h
 
 down_bits-are : (f : DownFrame) → HasBits f → AreBits (down_bits f)
 unfolding down_bits down_control
-down_bits-are f h = frame_bits-below (down_control f) (down_data f) (All-map (λ b. b < 2) (down_control_bit f) (range_with_len 1 21) (λ k d l. control-is f (get_or (range_with_len 1 21) k d))) (data-are f h)
+down_bits-are f h = frame_bits-below (down_control f) (down_data f) (All-map (λ b. b < 2) (down_control_bit f) (range_with_len 1 21)
+    (λ k d l. control-is f (get_or (range_with_len 1 21) k d))) (data-are f h)
 
 -- what is handed over in each period are bits
 abbrev pub HandBits : List CallPeriod → Type 0
@@ -122,7 +124,8 @@ unwrapped (Some d) h = h
 handed-are : (h : ℕ) (ts : List CallPeriod) → HandBits ts → AreBits (handed_in h ts)
 handed-are h [] k = All-nil (λ b. b < 2)
 handed-are h (t ∷ past) k =
-    cond_both (h == length past) (unwrap_or t.handed []) (handed_in h past) (λ d. AreBits d) (λ y. unwrapped t.handed (All-head (λ t. IfSome t.handed (λ d. AreBits d)) t past k))
+    cond_both (h == length past) (unwrap_or t.handed []) (handed_in h past) (λ d. AreBits d)
+    (λ y. unwrapped t.handed (All-head (λ t. IfSome t.handed (λ d. AreBits d)) t past k))
     (λ n. handed-are h past (All-tail (λ t. IfSome t.handed (λ d. AreBits d)) t past k))
 
 -- each frame of a call is made of them
@@ -135,7 +138,8 @@ frame-has who (f ∷ fs) k = go f.carries
   where
     go : (o : Option ℕ) → HasBits (elim o as (λ x. DownFrame) [
       | Some h ↦ frame.Speech (handed_in h f.load) true
-      | None ↦ if quiet_now who.number f.load then frame.Idle else speech (sent_of (coded_after who.law f (coded_stretch who.number f.epoch fs)) (coded_frames who.law (coded_stretch who.number f.epoch fs)))
+      | None ↦ if quiet_now who.number f.load then frame.Idle else speech (sent_of (coded_after who.law f (coded_stretch who.number f.epoch fs))
+          (coded_frames who.law (coded_stretch who.number f.epoch fs)))
     ])
     go (Some h) = handed-are h f.load (All-head (λ f. HandBits f.load) f fs k)
     go None =
@@ -152,7 +156,8 @@ line-are who (f ∷ fs) k =
     All-append (λ b. b < 2) (down_made who fs) (frame_on_line f.shift (bits_now who (f ∷ fs))) (line-are who fs (All-tail (λ f. HandBits f.load) f fs k))
     (on_line-are f.shift (bits_now who (f ∷ fs)) (down_bits-are (frame_now who (f ∷ fs)) (frame-has who (f ∷ fs) k)))
 
-grown-loads : (t : CallPeriod) (past : List CallPeriod) (fs : List CallFrame) → HandBits (t ∷ past) → LoadsHandBits fs → LoadsHandBits (grown (down_period t past) (down_periods past) fs)
+grown-loads : (t : CallPeriod) (past : List CallPeriod) (fs : List CallFrame) → HandBits (t ∷ past) → LoadsHandBits fs →
+    LoadsHandBits (grown (down_period t past) (down_periods past) fs)
 grown-loads t past fs h k =
     cond_both (nat_le (next_start fs) (160 * length (down_periods past))) (next_frame (down_period t past) (down_periods past) fs ∷ fs) fs LoadsHandBits
     (λ y. All-cons (λ f. HandBits f.load) _ fs h k) (λ n. k)
@@ -166,4 +171,5 @@ loads (t ∷ past) h =
 pub down_now-bits : (who : Who) (ts : List CallPeriod) → HandBits ts → AreBits (down_now who ts)
 down_now-bits who [] h = All-nil (λ b. b < 2)
 down_now-bits who (t ∷ past) h =
-    All-take (λ b. b < 2) 320 _ (All-drop (λ b. b < 2) (320 * length (down_periods past)) (down_made who (frames_of (t ∷ past))) (line-are who (frames_of (t ∷ past)) (loads (t ∷ past) h)))
+    All-take (λ b. b < 2) 320 _ (All-drop (λ b. b < 2) (320 * length (down_periods past)) (down_made who (frames_of (t ∷ past)))
+    (line-are who (frames_of (t ∷ past)) (loads (t ∷ past) h)))

@@ -14,7 +14,7 @@ use Rattle.farm_live.specs.declared.live.Seat.{Seat}
 use Rattle.farm_live.specs.declared.live.Caller.{Caller}
 use Rattle.farm_live.specs.Book.{of_caller}
 use Rattle.farm_live.specs.Slot.{times, is_at, bit, ascending, all_callers}
-use Rattle.farm_live.specs.Live.{call_at, AreSeats, IsNewSeat, AreNew, IsNewRow, numbers_of, IsNewCaller}
+use Rattle.farm_live.specs.Live.{book_at, AreSeats, IsNewSeat, AreNew, IsNewRow, numbers_of, IsNewCaller}
 use Rattle.farm_live.proofs.Rows.{same_default}
 
 -- ---- the numbers
@@ -79,24 +79,28 @@ module _ {Q A : Type 0} where
   none_new cs inbox slots k slot s h = absurd (omega arith)
 
   pub one_new : (cs : List ℕ) (inbox : ℕ) (slots : List (Line Q A)) (seats : List Seat) (s : Seat) → AreNew cs inbox slots seats →
-      ((slot : Line Q A) → IsNewSeat cs (call_at inbox (length seats)) (get_or slots (length seats) slot) s) → AreNew cs inbox slots (seats ++ s ∷ [])
+      ((slot : Line Q A) → IsNewSeat cs (book_at inbox (length seats)) (get_or slots (length seats) slot) s) → AreNew cs inbox slots (seats ++ s ∷ [])
   one_new cs inbox slots seats s all new k slot d h =
-      each_snoc (λ (k : ℕ) (x : Seat). IsNewSeat cs (call_at inbox k) (get_or slots k slot) x) seats s (λ i d lt. all i slot d lt) (new slot) k d h
+      each_snoc (λ (k : ℕ) (x : Seat). IsNewSeat cs (book_at inbox k) (get_or slots k slot) x) seats s (λ i d lt. all i slot d lt) (new slot) k d h
 
-  slot_more : (cs : List ℕ) (inbox : ℕ) (slots : List (Line Q A)) (slot : Line Q A) (seats : List Seat) → length seats ≡ length slots → AreNew cs inbox slots seats → AreNew cs inbox (slots ++ slot ∷ []) seats
+  slot_more : (cs : List ℕ) (inbox : ℕ) (slots : List (Line Q A)) (slot : Line Q A) (seats : List Seat) → length seats ≡ length slots →
+      AreNew cs inbox slots seats → AreNew cs inbox (slots ++ slot ∷ []) seats
   slot_more cs inbox slots slot seats len all k d s h =
-      subst (λ (x : Line Q A). IsNewSeat cs (call_at inbox k) x (get_or seats k s)) (sym (get_or_append_left slots (slot ∷ []) d k (omega arith))) (all k d s h)
+      subst (λ (x : Line Q A). IsNewSeat cs (book_at inbox k) x (get_or seats k s)) (sym (get_or_append_left slots (slot ∷ []) d k (omega arith))) (all k d s h)
 
-  pub row_more : (cs : List ℕ) (inbox : ℕ) (slots : List (Line Q A)) (seats : List Seat) (slot : Line Q A) (s : Seat) → IsNewRow cs inbox slots seats → IsNewSeat cs (call_at inbox (length slots)) slot s →
+  pub row_more : (cs : List ℕ) (inbox : ℕ) (slots : List (Line Q A)) (seats : List Seat) (slot : Line Q A) (s : Seat) → IsNewRow cs inbox slots seats →
+      IsNewSeat cs (book_at inbox (length slots)) slot s →
       IsNewRow cs inbox (slots ++ slot ∷ []) (seats ++ s ∷ [])
   row_more cs inbox slots seats slot s row new =
       let long = length-append slots (slot ∷ []) in
       let long' = length-append seats (s ∷ []) in
       let same : length slots ≡ length seats = sym row.0 in
-      let at : (d : Line Q A) → get_or (slots ++ slot ∷ []) (length seats) d ≡ slot = λ d. ap (λ (n : ℕ). get_or (slots ++ slot ∷ []) n d) row.0 ∙ get_or-append_seam slots slot [] d in (
+      let at : (d : Line Q A) → get_or (slots ++ slot ∷ []) (length seats) d ≡ slot = λ d. ap (λ (n : ℕ). get_or (slots ++ slot ∷ []) n d) row.0
+      ∙ get_or-append_seam slots slot [] d in (
         omega (arith, row.0),
         one_new cs inbox (slots ++ slot ∷ []) seats s (slot_more cs inbox slots slot seats row.0 row.1)
-            (λ d. subst (λ (x : Line Q A). IsNewSeat cs (call_at inbox (length seats)) x s) (sym (at d)) (subst (λ (n : ℕ). IsNewSeat cs (call_at inbox n) slot s) same new)),
+            (λ d. subst (λ (x : Line Q A). IsNewSeat cs (book_at inbox (length seats)) x s) (sym (at d))
+            (subst (λ (n : ℕ). IsNewSeat cs (book_at inbox n) slot s) same new)),
       )
 
   -- ---- a row of first numbers
@@ -104,31 +108,35 @@ module _ {Q A : Type 0} where
   -- the first n seats have given one number away
   pub record AreCut (cs : List ℕ) (inbox : ℕ) (slots : List (Line Q A)) (n : ℕ) (seats : List Seat) : Type 0 where
     pub one_each : length seats ≡ length slots
-    pub done : (k : ℕ) (slot : Line Q A) (s : Seat) → k < n → k < length seats → IsNewSeat (drop 1 cs) (call_at inbox k) (get_or slots k slot) (get_or seats k s)
-    pub left : (k : ℕ) (slot : Line Q A) (s : Seat) → n ≤ k → k < length seats → IsNewSeat cs (call_at inbox k) (get_or slots k slot) (get_or seats k s)
+    pub done : (k : ℕ) (slot : Line Q A) (s : Seat) → k < n → k < length seats → IsNewSeat (drop 1 cs) (book_at inbox k) (get_or slots k slot)
+        (get_or seats k s)
+    pub left : (k : ℕ) (slot : Line Q A) (s : Seat) → n ≤ k → k < length seats → IsNewSeat cs (book_at inbox k) (get_or slots k slot) (get_or seats k s)
 
   pub none_cut : (cs : List ℕ) (inbox : ℕ) (slots : List (Line Q A)) (seats : List Seat) → IsNewRow cs inbox slots seats → AreCut cs inbox slots 0 seats
   none_cut cs inbox slots seats all = record { one_each = all.0; done = λ k slot s h. absurd (omega arith); left = λ k slot s h lt. all.1 k slot s lt }
 
-  pub all_cut : (cs : List ℕ) (inbox : ℕ) (slots : List (Line Q A)) (n : ℕ) (seats : List Seat) → AreCut cs inbox slots n seats → length slots ≤ n → IsNewRow (drop 1 cs) inbox slots seats
+  pub all_cut : (cs : List ℕ) (inbox : ℕ) (slots : List (Line Q A)) (n : ℕ) (seats : List Seat) → AreCut cs inbox slots n seats → length slots ≤ n →
+      IsNewRow (drop 1 cs) inbox slots seats
   all_cut cs inbox slots n seats cut h = (cut.one_each, λ k slot s lt. cut.done k slot s (omega (arith, cut.one_each)) lt)
 
   pub one_cut : (cs : List ℕ) (inbox : ℕ) (slots : List (Line Q A)) (k : ℕ) (seats : List Seat) (t : Seat) → AreCut cs inbox slots k seats → k < length slots →
-      ((slot : Line Q A) → IsNewSeat (drop 1 cs) (call_at inbox k) (get_or slots k slot) t) → AreCut cs inbox slots (k + 1) (set seats k t)
+      ((slot : Line Q A) → IsNewSeat (drop 1 cs) (book_at inbox k) (get_or slots k slot) t) → AreCut cs inbox slots (k + 1) (set seats k t)
   one_cut cs inbox slots k seats t cut there new = let long = length-set seats k t in record {
     one_each = long ∙ cut.one_each;
     done = λ j slot s h lt. ⊎_elim
-        (λ (e : j ≡ k). subst (λ (i : ℕ). IsNewSeat (drop 1 cs) (call_at inbox i) (get_or slots i slot) (get_or (set seats k t) i s)) (sym e)
-        (subst (IsNewSeat (drop 1 cs) (call_at inbox k) (get_or slots k slot)) (sym (get_or-set_same seats k t s (omega (arith, cut.one_each)))) (new slot)))
-        (λ (ne : j ≢ k). subst (IsNewSeat (drop 1 cs) (call_at inbox j) (get_or slots j slot)) (sym (get_or-set_other seats k j t s ne)) (cut.done j slot s (not_last j k h ne) (omega arith)))
+        (λ (e : j ≡ k). subst (λ (i : ℕ). IsNewSeat (drop 1 cs) (book_at inbox i) (get_or slots i slot) (get_or (set seats k t) i s)) (sym e)
+        (subst (IsNewSeat (drop 1 cs) (book_at inbox k) (get_or slots k slot)) (sym (get_or-set_same seats k t s (omega (arith, cut.one_each)))) (new slot)))
+        (λ (ne : j ≢ k). subst (IsNewSeat (drop 1 cs) (book_at inbox j) (get_or slots j slot)) (sym (get_or-set_other seats k j t s ne))
+        (cut.done j slot s (not_last j k h ne) (omega arith)))
         (cases_eq j k);
     left = λ j slot s h lt. let ne : j ≢ k = λ e. absurd (omega arith) in
-        subst (IsNewSeat cs (call_at inbox j) (get_or slots j slot)) (sym (get_or-set_other seats k j t s ne)) (cut.left j slot s (omega arith) (omega arith));
+        subst (IsNewSeat cs (book_at inbox j) (get_or slots j slot)) (sym (get_or-set_other seats k j t s ne)) (cut.left j slot s (omega arith) (omega arith));
   }
 
   -- ---- the callers
 
-  pub seats_are : (inbox caller : ℕ) (cs : List ℕ) (slots : List (Line Q A)) (seats : List Seat) → 0 < times caller cs → IsNewRow cs inbox slots seats → AreSeats inbox slots caller seats
+  pub seats_are : (inbox caller : ℕ) (cs : List ℕ) (slots : List (Line Q A)) (seats : List Seat) → 0 < times caller cs → IsNewRow cs inbox slots seats →
+      AreSeats inbox slots caller seats
   seats_are inbox caller cs slots seats mine row = record {
     one_each = row.0;
     each = λ k slot s h.
@@ -143,7 +151,8 @@ module _ {Q A : Type 0} where
         };
   }
 
-  pub caller_is : (inbox callers i : ℕ) (slots : List (Line Q A)) (c : Caller) (cs : List ℕ) → c.number ≡ i → cs ≡ numbers_of callers i → 0 < times i cs → IsNewRow cs inbox slots c.seats.items →
+  pub caller_is : (inbox callers i : ℕ) (slots : List (Line Q A)) (c : Caller) (cs : List ℕ) → c.number ≡ i → cs ≡ numbers_of callers i → 0 < times i cs →
+      IsNewRow cs inbox slots c.seats.items →
       IsNewCaller inbox callers i slots c
   caller_is inbox callers i slots c cs number is mine row = record {
     number = number;
@@ -153,11 +162,13 @@ module _ {Q A : Type 0} where
 
   -- ---- as first_row meets them
 
-  pub seat_at : (cs : List ℕ) (inbox : ℕ) (slots : List (Line Q A)) (k : ℕ) (seats : List Seat) (slot : Line Q A) (s : Seat) → AreCut cs inbox slots k seats → k < length seats → slot ≡ get_or slots k slot →
-      IsNewSeat cs (call_at inbox k) slot (get_or seats k s)
+  pub seat_at : (cs : List ℕ) (inbox : ℕ) (slots : List (Line Q A)) (k : ℕ) (seats : List Seat) (slot : Line Q A) (s : Seat) → AreCut cs inbox slots k seats →
+      k < length seats → slot ≡ get_or slots k slot →
+      IsNewSeat cs (book_at inbox k) slot (get_or seats k s)
   seat_at cs inbox slots k seats slot s cut there is =
-      subst (λ (x : Line Q A). IsNewSeat cs (call_at inbox k) x (get_or seats k s)) (sym is) (cut.left k slot s (omega arith) there)
+      subst (λ (x : Line Q A). IsNewSeat cs (book_at inbox k) x (get_or seats k s)) (sym is) (cut.left k slot s (omega arith) there)
 
-  pub at_any : (cs : List ℕ) (book : BookOf) (slots : List (Line Q A)) (k : ℕ) (slot : Line Q A) (s : Seat) → slot ≡ get_or slots k slot → k < length slots → IsNewSeat cs book slot s →
+  pub at_any : (cs : List ℕ) (book : BookOf) (slots : List (Line Q A)) (k : ℕ) (slot : Line Q A) (s : Seat) → slot ≡ get_or slots k slot → k < length slots →
+      IsNewSeat cs book slot s →
       (d : Line Q A) → IsNewSeat cs book (get_or slots k d) s
   at_any cs book slots k slot s is there new d = subst (λ (x : Line Q A). IsNewSeat cs book x s) (is ∙ same_default slots k slot d there) new

@@ -4,8 +4,8 @@ use mathlib.Core.Option.{some, some-ne-none}
 use lib.ListN.{get_elem?}
 use Rattle.std.proofs.lemmas.Bool.{cases_Bool, eqb-true}
 use Rattle.farm_live.specs.declared.slot.View.{View}
-use Rattle.farm_live.specs.Book.{Known, record_of, most_posts}
-use Rattle.farm_live.specs.Slot.{weigh, bit, is_at, times, ascending, all_callers, Fits}
+use Rattle.farm_live.specs.Book.{BookState, record_of, most_posts}
+use Rattle.farm_live.specs.Slot.{weigh, bit, is_at, times, ascending, all_callers, FitsBook}
 
 -- ---- weights
 
@@ -55,7 +55,8 @@ none_before c k (suc n) lt = ⊎_elim (λ (e : (k == c) ≡ true). absurd (let q
 
 pub once_each : (c k n : ℕ) → times c (ascending k n) ≤ 1
 once_each c k zero = omega arith
-once_each c k (suc n) = ⊎_elim (λ (e : (k == c) ≡ true). let q : bit (k == c) ≡ 1 = ap bit e in let s : k ≡ c = eqb-true k c e in omega (arith, none_before c (suc k) n (omega arith)))
+once_each c k (suc n) = ⊎_elim (λ (e : (k == c) ≡ true). let q : bit (k == c) ≡ 1 = ap bit e in let s : k ≡ c = eqb-true k c e in omega
+    (arith, none_before c (suc k) n (omega arith)))
     (λ (e : (k == c) ≡ false). let q : bit (k == c) ≡ 0 = ap bit e in omega (arith, once_each c (suc k) n)) (cases_Bool (k == c))
 
 pub once : (c : ℕ) → weigh (is_at c) all_callers ≤ 1
@@ -68,7 +69,8 @@ has h v = weigh h v.callers
 abbrev pub held : View → ℕ
 held v = bit v.holds
 
-pub callers_set : (views : List View) (port : ℕ) (v w : View) → w.callers ≡ v.callers → get_elem? views port ≡ some v → ((h : ℕ → ℕ) → weigh (has h) views ≡ weigh h all_callers)
+pub callers_set : (views : List View) (port : ℕ) (v w : View) → w.callers ≡ v.callers → get_elem? views port ≡ some v →
+    ((h : ℕ → ℕ) → weigh (has h) views ≡ weigh h all_callers)
     → (h : ℕ → ℕ) → weigh (has h) (set views port w) ≡ weigh h all_callers
 callers_set views port v w same at all h = let e : has h w ≡ has h v = ap (weigh h) same in omega (arith, all h, weigh_set (has h) views port v w at, e)
 
@@ -80,7 +82,8 @@ pub all_callers_are : weigh (λ _. 1) all_callers ≡ 64
 unfolding all_callers
 all_callers_are = refl
 
-pub few_posts : (now : Known) (views : List View) → ((j : ℕ) (v : View) → get_elem? views j ≡ some v → Fits now v) → ((h : ℕ → ℕ) → weigh (has h) views ≡ weigh h all_callers)
+pub few_posts : (now : BookState) (views : List View) → ((j : ℕ) (v : View) → get_elem? views j ≡ some v → FitsBook now v) →
+    ((h : ℕ → ℕ) → weigh (has h) views ≡ weigh h all_callers)
     → length (record_of now) ≡ weigh posts_made views → length (record_of now) ≤ most_posts
 few_posts now views fit all total =
     let le = weigh-le 16777216 posts_made (has (λ _. 1)) views (λ j v e. (fit j v e).few) in

@@ -68,7 +68,7 @@ impl Sums {
             call,
             side: Side::Out,
         };
-        self.add(down, seat.down());
-        self.add(out, seat.out());
+        self.add(down, seat.down_given());
+        self.add(out, seat.out_given());
     }
 }

@@ -4,7 +4,7 @@ use Rattle.std.specs.Prelude.{if◌then◌else◌, ◌==◌, IsTrue, IfSome, ◌
 use Rattle.std.specs.List.{Contains, sum_by}
 use Rattle.std.proofs.lemmas.Bool.{eqb-true, eq-eqb, ne_eqb, cases_eq}
 use Rattle.std.proofs.lemmas.List.Sums.{sum_by-cons}
-use Rattle.pool_core.specs.Machine.{State, deque, hand, is_job, times_in, in_hand, fills, all_done, IsState}
+use Rattle.pool_core.specs.Machine.{PoolState, deque, hand, is_job, times_in, in_hand, fills, all_done, IsState}
 
 job_same : (job other : ℕ) → other ≡ job → is_job job other ≡ 1
 job_same job other e = ap (λ (t : Bool). if t then 1 else 0) (eq-eqb other job e)
@@ -47,7 +47,7 @@ counted job (suc k) (x ∷ xs) d l e = let i = counted job k xs d (omega arith) 
 
 -- ---- one way
 
-each_done : (s : State) → IsState s → length s.finished ≡ length s.lens → (job : ℕ) → job < length s.lens → Contains s.finished job
+each_done : (s : PoolState) → IsState s → length s.finished ≡ length s.lens → (job : ℕ) → job < length s.lens → Contains s.finished job
 each_done s i e job h =
     let d = sum_less (times_in job) length s.deques (times_least job) in
     let f = sum_less (in_hand job) fills s.hands (hand_least job) in
@@ -83,7 +83,7 @@ free_by : (o : Option ℕ) (n : ℕ) → IfSome o (λ job. job < n) → ((job : 
 free_by None n below none = refl
 free_by (Some job) n below none = let z = none job below in let c = job_same job job refl in absurd (omega arith)
 
-all_by : (s : State) → IsState s → ((job : ℕ) → job < length s.lens → Contains s.finished job) → length s.finished ≡ length s.lens
+all_by : (s : PoolState) → IsState s → ((job : ℕ) → job < length s.lens → Contains s.finished job) → length s.finished ≡ length s.lens
 all_by s i h =
     let parts = λ (job : ℕ) (l : job < length s.lens).
     let c = h job l in let t = counted job c.0 s.finished job c.1 c.2 in let o = i.once job l in
@@ -92,8 +92,8 @@ all_by s i h =
     let f = no_fills s.hands (λ w. free_by (hand s w) (length s.lens) (i.holding w) (λ job l. hand_empty job s.hands w (parts job l).1)) in
     omega (arith, i.all)
 
-done_exactly : (s : State) → IsState s → IsTrue (all_done s) ↔ ((job : ℕ) → job < length s.lens → Contains s.finished job)
+done_exactly : (s : PoolState) → IsState s → IsTrue (all_done s) ↔ ((job : ℕ) → job < length s.lens → Contains s.finished job)
 done_exactly s i = (λ e. each_done s i (eqb-true (length s.finished) (length s.lens) e), λ h. eq-eqb (length s.finished) (length s.lens) (all_by s i h))
 
-pub done_result : (s : State) (b : Bool) → IsState s → b ≡ all_done s → IsTrue b ↔ ((job : ℕ) → job < length s.lens → Contains s.finished job)
+pub done_result : (s : PoolState) (b : Bool) → IsState s → b ≡ all_done s → IsTrue b ↔ ((job : ℕ) → job < length s.lens → Contains s.finished job)
 done_result s b i e = subst (λ (b : Bool). IsTrue b ↔ ((job : ℕ) → job < length s.lens → Contains s.finished job)) (sym e) (done_exactly s i)

@@ -9,7 +9,7 @@ use Rattle.std.proofs.lemmas.List.Elements.{filter-append}
 use Rattle.std.proofs.lemmas.List.FromFn.{fill_by_all, length-map-range_with_len, get_or-map-range_with_len}
 use Rattle.std.proofs.lemmas.List.Sums.{sum_by-set, sum_by-cons}
 use Rattle.std.proofs.lemmas.List.Folds.{sum_by-replicate}
-use Rattle.pool_core.specs.Machine.{start_of, dealt, is_job, times_in, in_hand, fills, IsState}
+use Rattle.pool_core.specs.Machine.{pool_start, dealt, is_job, times_in, in_hand, fills, IsState}
 use Rattle.pool_core.proofs.Keeps.{Below, times_more, below_more}
 
 -- ---- numbers from 0 on
@@ -45,7 +45,8 @@ dealt_more workers n w =
     ∙ ap (λ xs. dealt workers n w ++ xs) (filter_one (λ job. job % workers == w) n)
 
 dealt_here : (workers n : ℕ) → dealt workers (n + 1) (n % workers) ≡ dealt workers n (n % workers) ++ n ∷ []
-dealt_here workers n = dealt_more workers n (n % workers) ∙ ap (λ (t : Bool). dealt workers n (n % workers) ++ (if t then n ∷ [] else [])) (eq-eqb (n % workers) (n % workers) refl)
+dealt_here workers n = dealt_more workers n (n % workers) ∙ ap (λ (t : Bool). dealt workers n (n % workers) ++ (if t then n ∷ [] else []))
+    (eq-eqb (n % workers) (n % workers) refl)
 
 dealt_other : (workers n w : ℕ) → w ≢ n % workers → dealt workers (n + 1) w ≡ dealt workers n w
 dealt_other workers n w h =
@@ -71,10 +72,12 @@ deal_times workers zero job l = all_empty (times_in job) refl 0 workers
 deal_times workers (suc n) job l =
     subst (λ (m : ℕ). sum_by (times_in job) (deal workers m) ≡ times_in job (range_with_len 0 m)) (add-one n)
     (let i = deal_times workers n job l in
-    let d = sum_by-set (times_in job) (deal workers n) (n % workers) (dealt workers n (n % workers) ++ n ∷ []) [] (let m = mod-lt n l in let k = length-map-range_with_len (dealt workers n) 0 workers in omega arith) in
+    let d = sum_by-set (times_in job) (deal workers n) (n % workers) (dealt workers n (n % workers) ++ n ∷ []) []
+    (let m = mod-lt n l in let k = length-map-range_with_len (dealt workers n) 0 workers in omega arith) in
     let a = ap (times_in job) (deal_at workers n l) in
     let m = times_more job (dealt workers n (n % workers)) n in
-    let r = ap (times_in job) (range_more 0 n) ∙ times_more job (range_with_len 0 n) (0 + n) ∙ ap (λ k. times_in job (range_with_len 0 n) + is_job job k) (let e : 0 + n ≡ n = omega arith in e) in
+    let r = ap (times_in job) (range_more 0 n) ∙ times_more job (range_with_len 0 n) (0 + n) ∙ ap (λ k. times_in job (range_with_len 0 n) + is_job job k)
+    (let e : 0 + n ≡ n = omega arith in e) in
     let s = ap (sum_by (times_in job)) (deal_more workers n l) in
     omega arith)
 
@@ -83,7 +86,8 @@ deal_length workers zero l = all_empty length refl 0 workers
 deal_length workers (suc n) l =
     subst (λ (m : ℕ). sum_by length (deal workers m) ≡ m) (add-one n)
     (let i = deal_length workers n l in
-    let d = sum_by-set length (deal workers n) (n % workers) (dealt workers n (n % workers) ++ n ∷ []) [] (let m = mod-lt n l in let k = length-map-range_with_len (dealt workers n) 0 workers in omega arith) in
+    let d = sum_by-set length (deal workers n) (n % workers) (dealt workers n (n % workers) ++ n ∷ []) []
+    (let m = mod-lt n l in let k = length-map-range_with_len (dealt workers n) 0 workers in omega arith) in
     let a = ap length (deal_at workers n l) in
     let m = length-append (dealt workers n (n % workers)) (n ∷ []) in
     let s = ap (sum_by length) (deal_more workers n l) in
@@ -151,7 +155,7 @@ zero_at zero job = refl
 zero_at (suc n) zero = refl
 zero_at (suc n) (suc job) = zero_at n job
 
-pub start_state : (workers : ℕ) (lens : List ℕ) → 0 < workers → IsState (start_of workers lens)
+pub start_state : (workers : ℕ) (lens : List ℕ) → 0 < workers → IsState (pool_start workers lens)
 start_state workers lens l =
     let n = length lens in
     record {
