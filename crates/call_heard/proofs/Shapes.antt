@@ -11,9 +11,9 @@ use Rattle.trau_params.proofs.Prefixes.{length-low_bits}
 use Rattle.fr_pre.specs.History.{newest_preprocessed}
 use Rattle.fr_lpc.specs.Ratios.{ratio_codes, ratios_of_frame}
 use Rattle.fr_rpe.specs.Encoding.{xmc_of}
-use Rattle.fr_rpe.specs.Quantisation.{codes_of}
-use Rattle.fr_encoder.specs.Blocks.{CodedBlock, coded_block, block_at, block_after, four_blocks}
-use Rattle.fr_encoder.specs.Encoded.{encoding_of, reconstructed, residual_of}
+use Rattle.fr_rpe.specs.Quantisation.{pulse_codes_of}
+use Rattle.fr_encoder.specs.Blocks.{CodedBlock, coded_block, block_at, block_after, four_coded_blocks}
+use Rattle.fr_encoder.specs.Encoded.{encoding_of, reconstructed, analysed_residual}
 use Rattle.tx_dtx.specs.Stretch.{Measures, Coded, is_active}
 use Rattle.tx_dtx.specs.SilenceDescriptor.{mean_ratio, sid_of}
 use Rattle.tx_dtx.specs.Sent.{SidPlace, is_sid_place, newest_four, sid_used, before_pause, itself, silence, sent_early, sent_of}
@@ -59,7 +59,7 @@ unfolding ratio_codes
 length-ratio_codes lar = refl
 
 length-xmc_of : (e : List ℤ) → length (xmc_of e) ≡ 13
-unfolding xmc_of codes_of
+unfolding xmc_of pulse_codes_of
 length-xmc_of e = refl
 
 pulses-block : (past d : List ℤ) → length (block_after past d).0.xmc ≡ 13
@@ -74,8 +74,8 @@ pulses-four a b c d one two three four (suc (suc zero)) below = three
 pulses-four a b c d one two three four (suc (suc (suc zero))) below = four
 pulses-four a b c d one two three four (suc (suc (suc (suc j)))) below = absurd (omega (arith, below))
 
-pulses-blocks : (past d : List ℤ) (j : ℕ) → j < 4 → length (slice_index_or (map (λ b. b.xmc) (four_blocks past d).0) j []) ≡ 13
-unfolding four_blocks
+pulses-blocks : (past d : List ℤ) (j : ℕ) → j < 4 → length (slice_index_or (map (λ b. b.xmc) (four_coded_blocks past d).0) j []) ≡ 13
+unfolding four_coded_blocks
 pulses-blocks past d =
     let first = block_after past (block_at d 0) in
     let second = block_after first.1 (block_at d 1) in
@@ -87,7 +87,7 @@ pub shape-encoding : (x : List ℤ) (past : List (List ℤ)) → HasShape (encod
 unfolding encoding_of
 shape-encoding x past = record {
   larc = length-ratio_codes (ratios_of_frame (newest_preprocessed x past));
-  pulses = pulses-blocks (reconstructed past) (residual_of x past);
+  pulses = pulses-blocks (reconstructed past) (analysed_residual x past);
 }
 
 -- ---- what is sent of them

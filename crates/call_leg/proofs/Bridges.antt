@@ -3,13 +3,13 @@ use Rattle.std.proofs.Common.{◌≡◌, refl, sym, ap, ◌∙◌, subst, ℕ, �
 use Rattle.std.specs.Prelude.{◌==◌}
 use Rattle.std.proofs.lemmas.Bool.{cond-false, cond_both, ne_eqb, true≢false, and_right}
 use Rattle.std.proofs.lemmas.List.{append-nil}
-use Rattle.fr_encoder.specs.Step as encoder
-use Rattle.tx_dtx.specs.Step as tx
+use Rattle.fr_encoder.specs.Stands as encoder
+use Rattle.tx_dtx.specs.Stands as tx
 use Rattle.trau_params.specs.Fields.{Fields}
 use Rattle.rx_handler.specs.Origin.{EffectiveFields, Quiet, Speech, Made}
-use Rattle.down_framer.specs.Made.{Period, MadeFrame, next_start, latest_start, made_from, due, grown, next_frame, made_frames, epoch_of}
+use Rattle.down_framer.specs.Made.{Period, MadeFrame, next_start, latest_start, made_from, handed_due, grown, next_frame, made_frames, epoch_of}
 use Rattle.down_framer.specs.Bridges.{IsHistory}
-use Rattle.down_framer.specs.Places.{Holds}
+use Rattle.down_framer.specs.Stands.{Holds}
 use Rattle.down_framer.proofs.Waiting.{bridged_at-late, Phase, phase}
 use Rattle.call_leg.specs.Who.{Who}
 use Rattle.call_leg.specs.Periods.{CallPeriod, pcm_of, bridges_begun, effective_now}
@@ -135,7 +135,7 @@ plain-new c (t ∷ past) =
 
 -- ---- a bridge starts, and ends
 
-pub begins : (who : Who) (ts : List CallPeriod) (now : Settings) (d d1 : DownMemory) → due (down_periods ts) (frames_of ts) ≡ None → Between who ts now d →
+pub begins : (who : Who) (ts : List CallPeriod) (now : Settings) (d d1 : DownMemory) → handed_due (down_periods ts) (frames_of ts) ≡ None → Between who ts now d →
     d1.align.kept ≡ d.align.kept → d1.align.frozen ≡ true → encoder.Stands [] d1.coder.encoder → tx.Stands [] d1.coder.tx → d1.bridged ≡ true →
     d1.law ≡ d.law → d1.framer ≡ d.framer → d1.waiting ≡ d.waiting → d1.level ≡ d.level → d1.mode ≡ d.mode → d1.dtxd ≡ d.dtxd → d1.sent ≡ 0 → d1.made ≡ d.made →
     Between who ts (with_bridge now) d1
@@ -173,7 +173,7 @@ ends who ts now d d1 b h ek ez br la ef qu co lv md ul sn mn = record {
     long = h.long;
     history = h.history;
     places = subst (λ z. Holds (pcm_of ts) (down_made who (frames_of ts)) (320 * length (down_periods ts)) (next_start (frames_of ts)) z) (sym ef) h.places;
-    frozen = ez ∙ ap (λ z. z && not (length d.waiting == 0)) (h.frozen ∙ ap (λ z. z || is_some (due (down_periods ts) (frames_of ts))) b)
+    frozen = ez ∙ ap (λ z. z && not (length d.waiting == 0)) (h.frozen ∙ ap (λ z. z || is_some (handed_due (down_periods ts) (frames_of ts))) b)
         ∙ waits-some ts (frames_of ts) d.waiting h.waits;
     coded = subst (CoderStands who.law (coded_stretch who.number (epoch_now ts now) (frames_of ts))) (sym co) h.coded;
     sent = sn ∙ h.sent;

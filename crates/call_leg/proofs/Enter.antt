@@ -2,7 +2,7 @@
 use Rattle.std.proofs.Common.{◌≡◌, refl, sym, ap, ◌∙◌, ℕ, ◌+◌, ◌≤◌, ◌<◌, zero, suc, true, false, ◌||◌, if◌then◌else◌, Option, Some, None, is_some, unwrap_or, List, [], ◌∷◌, ◌++◌, length, slice_get, option_to_list, arith, ◌⊎◌, inl, inr}
 use Rattle.std.specs.Prelude.{◌==◌}
 use Rattle.std.proofs.lemmas.Bool.{cond-true, cond-false, cases_Bool, cases_lt, eq-eqb, ne_eqb, true≢false}
-use Rattle.down_framer.specs.Made.{Period, MadeFrame, latest_start, made_from, bridged_at}
+use Rattle.down_framer.specs.Made.{Period, MadeFrame, latest_start, made_from, hands_at}
 use Rattle.down_framer.specs.Bridges.{in_bridge, IsHistory}
 use Rattle.down_framer.proofs.Waiting.{bridged_at-late, bridged_at-new, bridged_at-old, made_from-zero, outside, Phase, phase}
 use Rattle.call_leg.specs.Periods.{CallPeriod, handed_in}
@@ -26,13 +26,13 @@ get-one (y ∷ ys) x e n = let z = get-none ys n in cc
 
 -- ---- places in the queue
 
-pub place-some : {A : Type 0} (ps : List (Period A)) (fs : List (MadeFrame A)) (s n h : ℕ) → s + made_from s fs + n ≡ h → bridged_at h ps ≡ true →
+pub place-some : {A : Type 0} (ps : List (Period A)) (fs : List (MadeFrame A)) (s n h : ℕ) → s + made_from s fs + n ≡ h → hands_at h ps ≡ true →
     place_at ps fs n (Some s) ≡ Some h
-place-some ps fs s n h e b = ap (λ k. if bridged_at k ps then Some k else None) e ∙ cond-true (bridged_at h ps) (Some h) None b
+place-some ps fs s n h e b = ap (λ k. if hands_at k ps then Some k else None) e ∙ cond-true (hands_at h ps) (Some h) None b
 
-pub place-none : {A : Type 0} (ps : List (Period A)) (fs : List (MadeFrame A)) (s n h : ℕ) → s + made_from s fs + n ≡ h → bridged_at h ps ≡ false →
+pub place-none : {A : Type 0} (ps : List (Period A)) (fs : List (MadeFrame A)) (s n h : ℕ) → s + made_from s fs + n ≡ h → hands_at h ps ≡ false →
     place_at ps fs n (Some s) ≡ None
-place-none ps fs s n h e b = ap (λ k. if bridged_at k ps then Some k else None) e ∙ cond-false (bridged_at h ps) (Some h) None b
+place-none ps fs s n h e b = ap (λ k. if hands_at k ps then Some k else None) e ∙ cond-false (hands_at h ps) (Some h) None b
 
 handed-new : (t : CallPeriod) (past : List CallPeriod) (h : ℕ) (x : List ℕ) → h ≡ length past → t.handed ≡ Some x → handed_in h (t ∷ past) ≡ x
 handed-new t past h x e q = cond-true (h == length past) (unwrap_or t.handed []) (handed_in h past) (eq-eqb h (length past) e) ∙ ap (λ o. unwrap_or o []) q
@@ -62,7 +62,7 @@ one_new t past fs s i n = go t.handed refl n
 
 -- one waits from before, and the period's own
 one_more : (t : CallPeriod) (past : List CallPeriod) (fs : List CallFrame) (s : ℕ) → s + made_from s fs + 1 ≡ length past →
-    bridged_at (s + made_from s fs) (down_periods past) ≡ true → (n : ℕ) →
+    hands_at (s + made_from s fs) (down_periods past) ≡ true → (n : ℕ) →
     slice_get (handed_in (s + made_from s fs) past ∷ option_to_list t.handed) n ≡ bits_in (t ∷ past) (place_at (down_periods (t ∷ past)) fs n (Some s))
 one_more t past fs s i b n = go t.handed refl n
   where
@@ -93,10 +93,10 @@ one_more t past fs s i b n = go t.handed refl n
 
 -- none waits, and none is handed over
 no_more : (t : CallPeriod) (past : List CallPeriod) (fs : List CallFrame) (s : ℕ) → t.handed ≡ None →
-    ((h : ℕ) → s + made_from s fs ≤ h → bridged_at h (down_periods past) ≡ false) → (n : ℕ) →
+    ((h : ℕ) → s + made_from s fs ≤ h → hands_at h (down_periods past) ≡ false) → (n : ℕ) →
     slice_get (option_to_list t.handed) n ≡ bits_in (t ∷ past) (place_at (down_periods (t ∷ past)) fs n (Some s))
 no_more t past fs s e o n =
-    let b : bridged_at (s + made_from s fs + n) (down_periods (t ∷ past)) ≡ false = elim (cases_lt (s + made_from s fs + n) (length (down_periods past))) [
+    let b : hands_at (s + made_from s fs + n) (down_periods (t ∷ past)) ≡ false = elim (cases_lt (s + made_from s fs + n) (length (down_periods past))) [
       | inl old ↦ bridged_at-old (down_period t past) (down_periods past) (s + made_from s fs + n) old ∙ o (s + made_from s fs + n) (omega arith)
       | inr here ↦ outside (down_period t past) (down_periods past) (s + made_from s fs + n) (ap is_some e) here
     ] in

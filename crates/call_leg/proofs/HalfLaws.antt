@@ -8,15 +8,21 @@ use Rattle.trau_params.specs.Bits260.{bits260}
 use Rattle.trau_io.specs.declared.ends.Counts.{Counts}
 use Rattle.frame_sync.specs.declared.yields.Yield.{Yield}
 use Rattle.frame_sync.specs.Step as search
+use Rattle.frame_sync.specs.Memory.{SyncMemory}
 use Rattle.frame_sync.proofs.Steps.{stands-next}
 use Rattle.rx_handler.specs.Origin.{EffectiveFields}
 use Rattle.rx_handler.specs.Past.{effective_of}
-use Rattle.rx_handler.specs.Table as rx
+use Rattle.rx_handler.specs.Stands as rx
+use Rattle.rx_handler.specs.Step.{received}
+use Rattle.rx_handler.specs.Memory.{RxMemory}
 use Rattle.rx_handler.proofs.Steps.{received_more}
-use Rattle.fr_decoder.specs.Step as decoder
+use Rattle.fr_decoder.specs.Stands as decoder
+use Rattle.fr_decoder.specs.Memory.{DecoderMemory}
 use Rattle.time_align.specs.Shift.{shift_of}
 use Rattle.time_align.specs.Memory as align
+use Rattle.time_align.specs.Step.{after_ask}
 use Rattle.down_framer.specs.Memory as framer
+use Rattle.down_framer.specs.Step.{after_put}
 use Rattle.std.proofs.lemmas.Bool.{cond_both}
 use Rattle.trau_alaw.specs.declared.Law.{Law}
 use Rattle.call_leg.specs.Who.{Who}
@@ -48,7 +54,7 @@ join-stands who ts now u d h k = record { law = h.law; search = h.search; rx = h
 -- ---- what a note tells
 
 -- field 0 asks for nothing
-ask-none : (m : align.AlignMemory) → align.after_ask m 0 ≡ m
+ask-none : (m : align.AlignMemory) → after_ask m 0 ≡ m
 unfolding shift_of
 ask-none m = refl
 
@@ -61,7 +67,7 @@ noted-is d Nothing e = ap (λ a. heard_by d a d.dtxd (is_quiet e)) (ask-none d.a
 noted-is d Missed e = ap (λ a. heard_by d a d.dtxd (is_quiet e)) (ask-none d.align)
 noted-is d (Framed w) e = go w.kind w.align w.dtxd
   where
-    go : (k : Kind) (field : ℕ) (t : Bool) → heard_by d (align.after_ask d.align (unwrap_or (field_by k field) 0)) (unwrap_or (dtx_by k t) d.dtxd) (is_quiet e)
+    go : (k : Kind) (field : ℕ) (t : Bool) → heard_by d (after_ask d.align (unwrap_or (field_by k field) 0)) (unwrap_or (dtx_by k t) d.dtxd) (is_quiet e)
         ≡ heard_by d (asked d.align (field_by k field)) (dtxd_by k t d.dtxd) (is_quiet e)
     go kinds.Speech field t = refl
     go kinds.Idle field t = refl
@@ -73,7 +79,7 @@ unfolding up_worked up_turned
 halves-worked m up =
     let found = search.next_period m.search up in
     let s = sighting_in found.0 in
-    let heard = rx.received m.rx (heard_as s) in
+    let heard = received m.rx (heard_as s) in
     let out = played m.law m.decoder heard.0 (not m.down.bridged) in
     ap (λ (d : DownMemory). (
       heard.0,
@@ -92,7 +98,7 @@ unfolding up_turned
 turn-stands who ts now up pcm handed u l b h =
     let found = search.next_period u.search up in
     let s = found_in u.search up in
-    let heard = rx.received u.rx (heard_as s) in
+    let heard = received u.rx (heard_as s) in
     let out = played u.law u.decoder heard.0 (not u.bridged) in
     let e = hears who.number ts up u.search u.rx l h.search h.rx in
     let q : EffectiveFields = effective_of who.number (heard_as (sighting_after ts up) ∷ heard_of ts) in
@@ -114,7 +120,7 @@ pub turn-note : (who : Who) (ts : List CallPeriod) (now : Settings) (up : List �
 unfolding up_turned
 turn-note who ts now up u l h =
     let e = hears who.number ts up u.search u.rx l h.search h.rx in
-    let heard = rx.received u.rx (heard_as (found_in u.search up)) in
+    let heard = received u.rx (heard_as (found_in u.search up)) in
     ap (λ z. note_of z heard.0) e.0 ∙ ap (note_of (sighting_after ts up)) e.1
 
 pub turn-plays : (who : Who) (ts : List CallPeriod) (now : Settings) (up pcm : List ℕ) (handed : Option (List ℕ)) (u : UpMemory) → length up ≡ 40 →
@@ -122,7 +128,7 @@ pub turn-plays : (who : Who) (ts : List CallPeriod) (now : Settings) (up pcm : L
     UpStands who ts now u → (up_turned u up).1 ≡ out_of who (period_with now up pcm handed ∷ ts)
 unfolding up_turned
 turn-plays who ts now up pcm handed u l b h =
-    let heard = rx.received u.rx (heard_as (found_in u.search up)) in
+    let heard = received u.rx (heard_as (found_in u.search up)) in
     up-out who ts now up pcm handed u.law u.bridged heard.0 _ h.law h.bridged (hears who.number ts up u.search u.rx l h.search h.rx).1 b
     (played-stands u.law heard.0 (not u.bridged) (plain_stretch who.number (epoch_now ts now) ts) u.decoder h.decoder).1
 
@@ -179,30 +185,30 @@ down_off-stands who ts now d b h =
 abbrev three : Note → List ℕ → UpMemory → Note × List ℕ × UpMemory
 three n out u = (n, out, u)
 
-abbrev left : Law → search.SyncMemory → rx.RxMemory → decoder.DecoderMemory → Counts → Bool → UpMemory
+abbrev left : Law → SyncMemory → RxMemory → DecoderMemory → Counts → Bool → UpMemory
 left l a b c d e = record { law = l; search = a; rx = b; decoder = c; counts = d; bridged = e }
 
-pub turn-step : (u : UpMemory) (up : List ℕ) (y : Option Yield) (found : search.SyncMemory) (s : Sighting) (e : EffectiveFields) (heard : rx.RxMemory)
-    (out : List ℕ) (decoder1 : decoder.DecoderMemory) (n : Counts) (ask : ℕ) (dtx : Option Bool) →
-    search.next_period u.search up ≡ (y, found) → s ≡ sighting_in y → rx.received u.rx (heard_as s) ≡ (e, heard) → played u.law u.decoder e (not u.bridged)
+pub turn-step : (u : UpMemory) (up : List ℕ) (y : Option Yield) (found : SyncMemory) (s : Sighting) (e : EffectiveFields) (heard : RxMemory)
+    (out : List ℕ) (decoder1 : DecoderMemory) (n : Counts) (ask : ℕ) (dtx : Option Bool) →
+    search.next_period u.search up ≡ (y, found) → s ≡ sighting_in y → received u.rx (heard_as s) ≡ (e, heard) → played u.law u.decoder e (not u.bridged)
     ≡ (out, decoder1) →
     n ≡ counted s u.counts → ask ≡ unwrap_or (field_of s) 0 → dtx ≡ dtx_told s →
     up_turned u up
     ≡ (record { eff = e; ask = ask; dtx = dtx }, out, record { law = u.law; search = found; rx = heard; decoder = decoder1; counts = n; bridged = u.bridged })
 unfolding up_turned
 turn-step u up y found s e heard out decoder1 n ask dtx ey es er ep en ea ed =
-    ap (λ (f : Option Yield × search.SyncMemory).
+    ap (λ (f : Option Yield × SyncMemory).
     let w = sighting_in f.0 in
-    let h = rx.received u.rx (heard_as w) in
+    let h = received u.rx (heard_as w) in
     let o = played u.law u.decoder h.0 (not u.bridged) in
     three (note_of w h.0) o.0 (left u.law f.1 h.1 o.1 (counted w u.counts) u.bridged)) ey
     ∙ ap (λ (w : Sighting).
-    let h = rx.received u.rx (heard_as w) in
+    let h = received u.rx (heard_as w) in
     let o = played u.law u.decoder h.0 (not u.bridged) in
     three (note_of w h.0) o.0 (left u.law found h.1 o.1 (counted w u.counts) u.bridged)) (sym es)
-    ∙ ap (λ (h : EffectiveFields × rx.RxMemory). let o = played u.law u.decoder h.0 (not u.bridged) in three (note_of s h.0) o.0
+    ∙ ap (λ (h : EffectiveFields × RxMemory). let o = played u.law u.decoder h.0 (not u.bridged) in three (note_of s h.0) o.0
     (left u.law found h.1 o.1 (counted s u.counts) u.bridged)) er
-    ∙ ap (λ (o : List ℕ × decoder.DecoderMemory). three (note_of s e) o.0 (left u.law found heard o.1 (counted s u.counts) u.bridged)) ep
+    ∙ ap (λ (o : List ℕ × DecoderMemory). three (note_of s e) o.0 (left u.law found heard o.1 (counted s u.counts) u.bridged)) ep
     ∙ ap (λ (z : Counts). three (note_of s e) out (left u.law found heard decoder1 z u.bridged)) (sym en)
     ∙ ap (λ (z : ℕ). three (record { eff = e; ask = z; dtx = dtx_told s }) out (left u.law found heard decoder1 n u.bridged)) (sym ea)
     ∙ ap (λ (z : Option Bool). three (record { eff = e; ask = ask; dtx = z }) out (left u.law found heard decoder1 n u.bridged)) (sym ed)
@@ -235,5 +241,5 @@ pub down-keeps : (d : DownMemory) (n : Note) (item : Option EffectiveFields) (pc
 unfolding down_turned down_worked
 down-keeps d n item pcm =
     let h = handed_to (noted d n) item in
-    let put = with_framer h (framer.after_put h.framer pcm) in
+    let put = with_framer h (after_put h.framer pcm) in
     tried-keeps (frame_tried put) ∙ tried-keeps put ∙ handed-keeps (noted d n) item

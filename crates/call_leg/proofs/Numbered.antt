@@ -5,7 +5,7 @@ use Rattle.std.proofs.lemmas.List.Elements.{All-head, All-tail, All-map, All-wea
 use Rattle.trau_frame.proofs.Again.{length-down_bits}
 use Rattle.down_framer.specs.Made.{next_start}
 use Rattle.down_framer.specs.Bridges.{IsHistory}
-use Rattle.down_framer.specs.ByNumber.{Bridge, NumberedFrame, when, numbered, numbered_of, numbered_start, numbered_next, AreInTime}
+use Rattle.down_framer.specs.ByNumber.{Bridge, NumberedFrame, when, numbered_frames, numbered_of, numbered_start, numbered_next, AreInTime}
 use Rattle.down_framer.proofs.FrameLaws.{in_time}
 use Rattle.down_framer.proofs.Numbers.{made-numbered}
 use Rattle.down_framer.proofs.Store.{length-line_of, AreInTurn-made_frames}
@@ -47,16 +47,16 @@ start-next ts h = ap numbered_start (sym (frames-numbered ts h)) ∙ start-numbe
 
 -- what holds of the starts of the first n frames holds of each start before
 each-start : (P : ℕ → Type 0) (bridges : List Bridge) (fields : List (Option ℕ)) (n j : ℕ) → j < n → All (λ (f : NumberedFrame). P f.start)
-    (numbered bridges fields n) →
-    P (numbered_start (numbered bridges fields j))
+    (numbered_frames bridges fields n) →
+    P (numbered_start (numbered_frames bridges fields j))
 each-start P bridges fields zero j l h = absurd (omega arith)
 each-start P bridges fields (suc n) j l h =
-    let before = numbered bridges fields n in
+    let before = numbered_frames bridges fields n in
     elim (cases_lt j n) [
       | inl earlier ↦ each-start P bridges fields n j earlier (All-tail (λ (f : NumberedFrame). P f.start) (numbered_next bridges fields before) before h)
       | inr late ↦
           let e : n ≡ j = omega arith in
-          subst (λ k. P (numbered_start (numbered bridges fields k))) e (All-head (λ (f : NumberedFrame). P f.start) (numbered_next bridges fields before)
+          subst (λ k. P (numbered_start (numbered_frames bridges fields k))) e (All-head (λ (f : NumberedFrame). P f.start) (numbered_next bridges fields before)
           before h)
     ]
 

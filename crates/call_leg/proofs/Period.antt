@@ -4,9 +4,9 @@ use Rattle.std.specs.Prelude.{◌==◌}
 use Rattle.std.proofs.lemmas.Bool.{cond_both, ne_eqb, true≢false}
 use Rattle.std.proofs.lemmas.List.{append-nil}
 use Rattle.time_align.specs.Shift.{latest_ask}
-use Rattle.down_framer.specs.Made.{Period, MadeFrame, next_start, due, fields_since, grown, next_frame, made_frames}
+use Rattle.down_framer.specs.Made.{Period, MadeFrame, next_start, handed_due, counted_fields, grown, next_frame, made_frames}
 use Rattle.down_framer.specs.Bridges.{IsHistory}
-use Rattle.down_framer.specs.Places.{Holds}
+use Rattle.down_framer.specs.Stands.{Holds}
 use Rattle.down_framer.proofs.Timing.{AreMade-made_frames}
 use Rattle.call_leg.specs.Who.{Who}
 use Rattle.call_leg.specs.Periods.{CallPeriod, pcm_of, bridges_begun}
@@ -40,12 +40,12 @@ made-before [] = tt
 made-before (p ∷ past) = grown-before p past (grown p past (made_frames past))
     (grown-before p past (made_frames past) (before-more (length past) (made_frames past) (made-before past)))
 
-since-more : {A : Type 0} (p : Period A) (past : List (Period A)) (fs : List (MadeFrame A)) → Before (length past) fs → fields_since (p ∷ past) fs
-    ≡ p.field ∷ fields_since past fs
+since-more : {A : Type 0} (p : Period A) (past : List (Period A)) (fs : List (MadeFrame A)) → Before (length past) fs → counted_fields (p ∷ past) fs
+    ≡ p.field ∷ counted_fields past fs
 since-more p past [] b = refl
 since-more p past (f ∷ fs) b = go f.carries (since-more p past fs b.1)
   where
-    go : (o : Option ℕ) → fields_since (p ∷ past) fs ≡ p.field ∷ fields_since past fs →
+    go : (o : Option ℕ) → counted_fields (p ∷ past) fs ≡ p.field ∷ counted_fields past fs →
         (elim (if is_none o then Some f else find (λ g. is_none g.carries) fs) as (λ x. List (Option ℕ)) [
           | None ↦ map (λ p. p.field) (p ∷ past)
           | Some m ↦ take (length (p ∷ past) - (m.period + 1)) (map (λ p. p.field) (p ∷ past))
@@ -67,14 +67,14 @@ length-some q x = let l = length-append q (x ∷ []) in ap not (ne_eqb (length (
 
 due-enter : (t : CallPeriod) (past : List CallPeriod) (q : List (List ℕ)) (handed : Option (List ℕ)) → t.handed ≡ handed → Waits past (frames_of past) q →
     Waits (t ∷ past) (frames_of past) (q ++ option_to_list handed) →
-    (is_some handed || is_some (due (down_periods past) (frames_of past))) ≡ (is_some handed || is_some (due (down_periods (t ∷ past)) (frames_of past)))
+    (is_some handed || is_some (handed_due (down_periods past) (frames_of past))) ≡ (is_some handed || is_some (handed_due (down_periods (t ∷ past)) (frames_of past)))
 due-enter t past q (Some x) e w v = refl
 due-enter t past q None e w v =
     sym (waits-some past (frames_of past) q w) ∙ sym (ap (λ z. not (length z == 0)) (append-nil q)) ∙ waits-some (t ∷ past) (frames_of past) (q ++ []) v
 
 due-handed : (t : CallPeriod) (past : List CallPeriod) (q : List (List ℕ)) (handed : Option (List ℕ)) →
     Waits (t ∷ past) (frames_of past) (q ++ option_to_list handed) →
-    is_some handed ≡ true → due (down_periods (t ∷ past)) (frames_of past) ≡ None → ⊥
+    is_some handed ≡ true → handed_due (down_periods (t ∷ past)) (frames_of past) ≡ None → ⊥
 due-handed t past q None w e n = true≢false (sym e)
 due-handed t past q (Some x) w e n = true≢false (sym (length-some q x) ∙ waits-some (t ∷ past) (frames_of past) (q ++ x ∷ []) w ∙ ap is_some n)
 
@@ -115,7 +115,7 @@ enter who ts now up handed pcm d d1 lp b h pl la al qu co lv md ul qt br sn mn =
       waits = subst (Waits (t ∷ ts) (frames_of ts)) (sym (qu ∙ h.waits.2)) v;
       kept = ap (λ z. z.kept) al ∙ h.kept ∙ sym
           (ap latest_ask (since-more (down_period t ts) (down_periods ts) (frames_of ts) (made-before (down_periods ts))));
-      frozen = ap (λ z. z.frozen) al ∙ h.frozen ∙ ap (λ z. z || is_some (due (down_periods ts) (frames_of ts))) (sym b)
+      frozen = ap (λ z. z.frozen) al ∙ h.frozen ∙ ap (λ z. z || is_some (handed_due (down_periods ts) (frames_of ts))) (sym b)
           ∙ due-enter t ts q handed refl h.waits.1 v;
       punctual = λ e n. absurd (due-handed t ts q handed v e n);
       coded = subst (CoderStands who.law (coded_stretch who.number (bridges_begun (t ∷ ts)) (frames_of ts))) (sym co)
@@ -149,7 +149,7 @@ leave who ts now up handed pcm d d2 b h i d3 pl la al qu co lv md ul br sn mn =
         history = history-more who ts now up handed pcm d b h;
         places = subst (λ n. Holds (pcm_of (t ∷ ts)) (down_made who (frames_of (t ∷ ts))) n (next_start (frames_of (t ∷ ts))) d3.framer) e
             (pl (pcm_of (t ∷ ts)) (down_made who (frames_of (t ∷ ts))) (320 * length (down_periods ts)) (next_start (frames_of (t ∷ ts))) i.places);
-        frozen = ap (λ z. z.frozen) al ∙ i.frozen ∙ ap (λ z. z || is_some (due (down_periods (t ∷ ts)) (frames_of (t ∷ ts)))) b;
+        frozen = ap (λ z. z.frozen) al ∙ i.frozen ∙ ap (λ z. z || is_some (handed_due (down_periods (t ∷ ts)) (frames_of (t ∷ ts)))) b;
         coded = subst (CoderStands who.law (coded_stretch who.number (bridges_begun (t ∷ ts)) (frames_of (t ∷ ts)))) (sym co) i.coded;
         sent = sn ∙ i.sent;
         made = mn ∙ i.made;

@@ -3,8 +3,8 @@ use Rattle.std.proofs.Common.{◌≡◌, refl, sym, ap, ◌∙◌, subst, ℕ, �
 use Rattle.std.specs.Prelude.{◌==◌}
 use Rattle.std.proofs.lemmas.Bool.{cond-true, cond-false, eq-eqb}
 use Rattle.time_align.specs.Shift.{IsShift, latest_shift}
-use Rattle.down_framer.specs.Made.{octets_of, next_start, due, fields_since, next_frame, epoch_of, frame_on_line}
-use Rattle.down_framer.specs.Places.{Holds}
+use Rattle.down_framer.specs.Made.{octets_to_next, next_start, handed_due, counted_fields, next_frame, epoch_of, frame_on_line}
+use Rattle.down_framer.specs.Stands.{Holds}
 use Rattle.down_framer.proofs.Store.{length-frame_on_line}
 use Rattle.call_leg.specs.Who.{Who}
 use Rattle.call_leg.specs.Periods.{CallPeriod, pcm_of, bridges_begun}
@@ -46,7 +46,7 @@ not_come who t past fs d h r =
 -- within a bridge a frame that is ready carries one
 pub carries_one : (who : Who) (t : CallPeriod) (past : List CallPeriod) (fs : List CallFrame) (d : DownMemory) → Inside who t past fs d →
     160 ≤ length d.framer.held →
-    is_some t.handed ≡ true → due (down_periods (t ∷ past)) fs ≡ None → ⊥
+    is_some t.handed ≡ true → handed_due (down_periods (t ∷ past)) fs ≡ None → ⊥
 carries_one who t past fs d h r b e = let late = h.punctual b e in let now = come who t past fs d h r in omega arith
 
 -- one more is sent, where one waited
@@ -65,11 +65,11 @@ pub shift_is : (who : Who) (t : CallPeriod) (past : List CallPeriod) (fs : List 
     160 ≤ length d.framer.held →
     (if d.align.frozen then pos 0 else unwrap_or d.align.kept (pos 0)) ≡ (next t past fs).shift
 shift_is who t past fs d h r =
-    adopted (due (down_periods (t ∷ past)) fs) (is_some t.handed) d.align.frozen (unwrap_or d.align.kept (pos 0))
-    (latest_shift (fields_since (down_periods (t ∷ past)) fs))
+    adopted (handed_due (down_periods (t ∷ past)) fs) (is_some t.handed) d.align.frozen (unwrap_or d.align.kept (pos 0))
+    (latest_shift (counted_fields (down_periods (t ∷ past)) fs))
     h.frozen (carries_one who t past fs d h r) (ap (λ o. unwrap_or o (pos 0)) h.kept)
 
-zero_shift : (o : Option ℕ) (v : ℤ) → (o ≡ None → ⊥) → octets_of (elim o as (λ x. ℤ) [ None ↦ v | Some h ↦ pos 0 ]) ≡ 160
+zero_shift : (o : Option ℕ) (v : ℤ) → (o ≡ None → ⊥) → octets_to_next (elim o as (λ x. ℤ) [ None ↦ v | Some h ↦ pos 0 ]) ≡ 160
 zero_shift None v n = absurd (n refl)
 zero_shift (Some h) v n = refl
 
@@ -82,7 +82,7 @@ pub inside-next : (who : Who) (t : CallPeriod) (past : List CallPeriod) (fs : Li
     new.align.kept ≡ (if old.align.frozen then old.align.kept else None) →
     new.align.frozen ≡ (old.align.frozen && (old.bridged || not (length new.waiting == 0))) →
     ((pcm line : List ℕ) (out start : ℕ) → out ≤ length line → Holds pcm line out start old.framer → Holds pcm (line ++ frame_on_line shift b) out
-    (start + octets_of shift) new.framer) →
+    (start + octets_to_next shift) new.framer) →
     new.law ≡ old.law → new.level ≡ old.level → new.mode ≡ old.mode → new.dtxd ≡ old.dtxd → new.quiet ≡ old.quiet → new.bridged ≡ old.bridged →
     new.sent ≡ (if not (length old.waiting == 0) then min (old.sent + 1) 4294967295 else old.sent) →
     new.made ≡ in_u64 (old.made + 1) →
@@ -103,24 +103,24 @@ inside-next who t past fs old new b shift h r lb eb sh es eq cd ek ef pl la lv m
       low = omega arith;
       line = ap (λ v. length (down_made who fs ++ frame_on_line v (bits_now who (f ∷ fs)))) (sym shift_now) ∙
           ap (λ z. length (down_made who fs ++ frame_on_line shift z)) (sym eb) ∙ length-append (down_made who fs) (frame_on_line shift b) ∙
-          (let n = length-frame_on_line shift b sh lb in let o : octets_of shift ≡ octets_of f.shift = ap octets_of shift_now in omega arith);
+          (let n = length-frame_on_line shift b sh lb in let o : octets_to_next shift ≡ octets_to_next f.shift = ap octets_to_next shift_now in omega arith);
       places = subst (λ v. Holds (pcm_of ts) (down_made who fs ++ frame_on_line v (bits_now who (f ∷ fs))) (320 * length (down_periods past))
-          (next_start fs + octets_of v) new.framer) shift_now
-          (subst (λ z. Holds (pcm_of ts) (down_made who fs ++ frame_on_line shift z) (320 * length (down_periods past)) (next_start fs + octets_of shift)
+          (next_start fs + octets_to_next v) new.framer) shift_now
+          (subst (λ z. Holds (pcm_of ts) (down_made who fs ++ frame_on_line shift z) (320 * length (down_periods past)) (next_start fs + octets_to_next shift)
           new.framer) eb
           (pl (pcm_of ts) (down_made who fs) (320 * length (down_periods past)) (next_start fs) (omega arith) h.places));
       waits = w;
-      kept = ek ∙ kept-next ps f fs (due ps fs) (is_some t.handed) old.align.frozen old.align.kept refl (omega arith) h.frozen
+      kept = ek ∙ kept-next ps f fs (handed_due ps fs) (is_some t.handed) old.align.frozen old.align.kept refl (omega arith) h.frozen
           (carries_one who t past fs old h r) h.kept;
       frozen = ef ∙ ap (λ z. z && (old.bridged || not (length new.waiting == 0))) h.frozen ∙
-          ap (λ z. (is_some t.handed || is_some (due ps fs)) && (z || not (length new.waiting == 0))) h.bridged ∙
-          ap (λ z. (is_some t.handed || is_some (due ps fs)) && (is_some t.handed || z)) some_now ∙
-          thawed (is_some t.handed) (is_some (due ps fs)) (is_some (due ps (f ∷ fs))) (none_due t past fs old.waiting h.waits);
+          ap (λ z. (is_some t.handed || is_some (handed_due ps fs)) && (z || not (length new.waiting == 0))) h.bridged ∙
+          ap (λ z. (is_some t.handed || is_some (handed_due ps fs)) && (is_some t.handed || z)) some_now ∙
+          thawed (is_some t.handed) (is_some (handed_due ps fs)) (is_some (handed_due ps (f ∷ fs))) (none_due t past fs old.waiting h.waits);
       punctual = λ y n.
-          let z : octets_of f.shift ≡ 160 = zero_shift (due ps fs) (latest_shift (fields_since ps fs)) (carries_one who t past fs old h r y) in
+          let z : octets_to_next f.shift ≡ 160 = zero_shift (handed_due ps fs) (latest_shift (counted_fields ps fs)) (carries_one who t past fs old h r y) in
           omega arith;
       coded = subst (λ e. CoderStands who.law (coded_stretch who.number e (f ∷ fs)) new.coder) (begun-same ts) cd;
-      sent = sent-next (carried (bridges_begun ts) fs) old.sent new.sent (is_some (due ps fs)) (not (length old.waiting == 0)) (f.epoch == bridges_begun ts)
+      sent = sent-next (carried (bridges_begun ts) fs) old.sent new.sent (is_some (handed_due ps fs)) (not (length old.waiting == 0)) (f.epoch == bridges_begun ts)
           (eq-eqb f.epoch (bridges_begun ts) (begun-same ts))
           (waits-some ts fs old.waiting h.waits) h.sent sn;
       made = mn ∙ made-next (length fs) old.made h.made;

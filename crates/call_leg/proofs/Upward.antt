@@ -5,11 +5,11 @@ use Rattle.std.proofs.Math.Bool.{and-true}
 use Rattle.std.proofs.lemmas.Bool.{eq-eqb}
 use Rattle.frame_sync.specs.declared.yields.Yield.{Yield}
 use Rattle.frame_sync.specs.Periods.{yield_of}
-use Rattle.frame_sync.specs.Step as search
+use Rattle.frame_sync.specs.Stands as search
 use Rattle.rx_handler.specs.Origin.{EffectiveFields}
 use Rattle.rx_handler.specs.Past.{effective_of}
-use Rattle.rx_handler.specs.Table as rx
-use Rattle.fr_decoder.specs.Step as decoder
+use Rattle.rx_handler.specs.Stands as rx
+use Rattle.fr_decoder.specs.Stands as decoder
 use Rattle.trau_alaw.specs.declared.Law.{Law}
 use Rattle.call_leg.specs.Who.{Who}
 use Rattle.call_leg.specs.Uplink.{Sighting, sighting_in, heard_as}

@@ -4,11 +4,11 @@ use Rattle.trau_alaw.specs.declared.Law.{Law}
 use Rattle.trau_orders.specs.declared.order.DtxMode.{DtxMode}
 use Rattle.trau_orders.specs.declared.order.DtxMode.TheVariants.{Uplink}
 use Rattle.trau_io.specs.declared.ends.Counts.{Counts}
-use Rattle.frame_sync.specs.Step as search
-use Rattle.rx_handler.specs.Table as rx
-use Rattle.fr_decoder.specs.Step as decoder
-use Rattle.fr_encoder.specs.Step as encoder
-use Rattle.tx_dtx.specs.Step as tx
+use Rattle.frame_sync.specs.Memory as search
+use Rattle.rx_handler.specs.Memory as rx
+use Rattle.fr_decoder.specs.Memory as decoder
+use Rattle.fr_encoder.specs.Memory as encoder
+use Rattle.tx_dtx.specs.Memory as tx
 use Rattle.down_framer.specs.Memory as framer
 use Rattle.time_align.specs.Memory as align
 use Rattle.call_leg.specs.Who.{Who}
@@ -46,8 +46,8 @@ pub record DownMemory : Type 0 where
 abbrev pub home_down : Law → DownMemory
 home_down law = record {
   law = law;
-  framer = framer.new_memory;
-  align = align.new_memory;
+  framer = framer.home_memory;
+  align = align.home_memory;
   waiting = [];
   coder = home_coder;
   level = pos 256;
@@ -73,7 +73,7 @@ abbrev pub home_memory : Who → LegMemory
 home_memory who = record {
   law = who.law;
   search = search.home_memory;
-  rx = rx.first_memory who.number;
+  rx = rx.home_memory who.number;
   decoder = decoder.home_memory;
   counts = no_counts;
   down = home_down who.law;

@@ -1,12 +1,12 @@
 -- The law of places: what the downlink side of a leg stands for, by the periods so far. Lists have the newest first.
 use Rattle.std.specs.Prelude.{◌≡◌, ℕ, ◌+◌, ◌*◌, ◌<◌, ◌≤◌, true, not, ◌&&◌, ◌||◌, ◌==◌, if◌then◌else◌, Bool, Option, None, is_some, List, [], ◌∷◌, ◌++◌, length, map, All, option_to_list, suc, min}
 use Rattle.trau_alaw.specs.declared.Law.{Law}
-use Rattle.fr_encoder.specs.Step as encoder
-use Rattle.tx_dtx.specs.Step as tx
+use Rattle.fr_encoder.specs.Stands as encoder
+use Rattle.tx_dtx.specs.Stands as tx
 use Rattle.time_align.specs.Shift.{latest_ask}
-use Rattle.down_framer.specs.Made.{next_start, due, fields_since}
+use Rattle.down_framer.specs.Made.{next_start, handed_due, counted_fields}
 use Rattle.down_framer.specs.Bridges.{IsHistory, in_bridge}
-use Rattle.down_framer.specs.Places.{Holds}
+use Rattle.down_framer.specs.Stands.{Holds}
 use Rattle.call_leg.specs.Who.{Who}
 use Rattle.call_leg.specs.Uplink.{field_of, is_quiet, dtxd_after, heard_as}
 use Rattle.call_leg.specs.Periods.{CallPeriod, pcm_of, sighting_after, heard_of, dtxd_of}
@@ -27,7 +27,7 @@ sent_now ts now = carried (epoch_now ts now) (frames_of ts)
 
 -- a handed frame waits after the bridge
 abbrev pub is_draining : List CallPeriod → Settings → Bool
-is_draining ts now = not now.bridged && is_some (due (down_periods ts) (frames_of ts))
+is_draining ts now = not now.bridged && is_some (handed_due (down_periods ts) (frames_of ts))
 
 -- counts end where their types do
 abbrev pub in_u32 : ℕ → ℕ
@@ -51,7 +51,7 @@ pub record DownStands (who : Who) (ts : List CallPeriod) (now : Settings) (d : D
   -- the line; in store is what is made of the downlink and not yet out
   pub places : Holds (pcm_of ts) (down_made who (frames_of ts)) (320 * length (down_periods ts)) (next_start (frames_of ts)) d.framer
   -- shifts are frozen within a bridge, and as long as a frame waits
-  pub frozen : d.align.frozen ≡ (now.bridged || is_some (due (down_periods ts) (frames_of ts)))
+  pub frozen : d.align.frozen ≡ (now.bridged || is_some (handed_due (down_periods ts) (frames_of ts)))
   -- the coder ran over the stretch that the next frame goes on with
   pub coded : CoderStands who.law (coded_stretch who.number (epoch_now ts now) (frames_of ts)) d.coder
   pub sent : d.sent ≡ in_u32 (sent_now ts now)
@@ -60,7 +60,7 @@ pub record DownStands (who : Who) (ts : List CallPeriod) (now : Settings) (d : D
   pub mode : d.mode ≡ now.mode
   pub bridged : d.bridged ≡ now.bridged
   -- a bridge starts only where no frame waits, and goes on without a gap
-  pub alone : now.starts ≡ true → due (down_periods ts) (frames_of ts) ≡ None
+  pub alone : now.starts ≡ true → handed_due (down_periods ts) (frames_of ts) ≡ None
   pub goes_on : now.bridged ≡ true → (now.starts || in_bridge (down_periods ts)) ≡ true
 
 -- between periods
@@ -76,7 +76,7 @@ pub record Between (who : Who) (ts : List CallPeriod) (now : Settings) (d : Down
   -- what was handed over in the latest bridge and no frame has carried yet
   pub waits : Waits ts (frames_of ts) d.waiting
   -- the shift asked for last since the last frame that carried nothing
-  pub kept : d.align.kept ≡ latest_ask (fields_since (down_periods ts) (frames_of ts))
+  pub kept : d.align.kept ≡ latest_ask (counted_fields (down_periods ts) (frames_of ts))
   pub dtxd : d.dtxd ≡ dtxd_of ts
 
 -- between the halves of a period: its octets of the Up line are heard, and `handed` is handed over
@@ -84,6 +84,6 @@ pub record Halfway (who : Who) (ts : List CallPeriod) (now : Settings) (up : Lis
   pub held : DownStands who ts now d
   pub open held use *
   pub waits : (before : List (List ℕ)) × Waits ts (frames_of ts) before × (d.waiting ≡ before ++ option_to_list handed)
-  pub kept : d.align.kept ≡ latest_ask (field_of (sighting_after ts up) ∷ fields_since (down_periods ts) (frames_of ts))
+  pub kept : d.align.kept ≡ latest_ask (field_of (sighting_after ts up) ∷ counted_fields (down_periods ts) (frames_of ts))
   pub dtxd : d.dtxd ≡ dtxd_after (sighting_after ts up) (dtxd_of ts)
   pub quiet : d.quiet ≡ is_quiet (effective_of who.number (heard_as (sighting_after ts up) ∷ heard_of ts))

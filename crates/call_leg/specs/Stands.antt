@@ -1,9 +1,9 @@
 -- What a leg stands for.
 use Rattle.std.specs.Prelude.{◌≡◌, ℕ, not, Option, List, ◌∷◌}
-use Rattle.frame_sync.specs.Step as search
-use Rattle.rx_handler.specs.Table as rx
+use Rattle.frame_sync.specs.Stands as search
+use Rattle.rx_handler.specs.Stands as rx
 use Rattle.rx_handler.specs.Past.{effective_of}
-use Rattle.fr_decoder.specs.Step as decoder
+use Rattle.fr_decoder.specs.Stands as decoder
 use Rattle.call_leg.specs.Who.{Who}
 use Rattle.call_leg.specs.Uplink.{heard_as}
 use Rattle.call_leg.specs.Periods.{CallPeriod, ups_of, sighting_after, heard_of}

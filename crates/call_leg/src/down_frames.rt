@@ -3,10 +3,10 @@
 ghost use Rattle.std.specs.Prelude.{◌≡◌, ◌≤◌, ◌<◌, ◌+◌, All, length, drop, if◌then◌else◌, ◌||◌};
 ghost use Rattle.trau_bits.specs.Bits.{bits_of, AreBits};
 ghost use Rattle.trau_frame.specs.DownFrame.{HasBits};
-ghost use Rattle.down_framer.specs.Memory.{IsBetween, IsWithin};
+ghost use Rattle.down_framer.specs.Memory.{IsBetweenPeriods, IsWithinPeriod};
 ghost use Rattle.call_leg.specs.Memory.{coder_memory, down_memory};
 ghost use Rattle.call_leg.specs.Places.{in_u32, in_u64};
-ghost use Rattle.time_align.specs.Memory.{after_thaw};
+ghost use Rattle.time_align.specs.Step.{after_thaw};
 ghost use Rattle.call_leg.specs.Step.{own_next, next_by, frame_made, frame_tried, down_worked};
 
 use crate::coder::{Coder, dtx_on};
@@ -89,7 +89,7 @@ impl DownSide {
     // Makes the next frame.
     fn make_frame(&mut self)
         requires ready { 160 ≤ length self.old.framer.held }
-        ensures within { IsWithin self.new.framer }
+        ensures within { IsWithinPeriod self.new.framer }
         ensures shorter { length self.new.framer.held + 158 ≤ length self.old.framer.held }
         ensures step { down_memory self.new ≡ frame_made (down_memory self.old) }
     {
@@ -116,8 +116,8 @@ impl DownSide {
 
     // Makes the next frame, if its last octet has come.
     fn try_frame(&mut self)
-        requires within { IsWithin self.old.framer }
-        ensures within { IsWithin self.new.framer }
+        requires within { IsWithinPeriod self.old.framer }
+        ensures within { IsWithinPeriod self.new.framer }
         ensures shorter { 160 ≤ length self.old.framer.held → length self.new.framer.held + 158 ≤ length self.old.framer.held }
         ensures same { length self.old.framer.held < 160 → self.new.framer ≡ self.old.framer }
         ensures step { down_memory self.new ≡ frame_tried (down_memory self.old) }
@@ -129,8 +129,8 @@ impl DownSide {
 
     /// The downlink half of a period, which makes no frame, one or two.
     pub(crate) fn half(&mut self, pcm: &[u8; 160], down: &mut [u8; 40])
-        requires between { IsBetween self.old.framer }
-        ensures between { IsBetween self.new.framer }
+        requires between { IsBetweenPeriods self.old.framer }
+        ensures between { IsBetweenPeriods self.new.framer }
         ensures step { down_worked (down_memory self.old) pcm.now ≡ (bits_of down.new, down_memory self.new) }
     {
         self.framer.put(pcm);

@@ -1,7 +1,7 @@
 //! What the downlink side of a leg is told: of the uplink, of the partner's frames, and of bridges.
 
 ghost use Rattle.std.specs.Prelude.{◌≡◌, ◌<◌, not, ◌&&◌, ◌==◌, length, IfOk, IfSome, option_copied};
-ghost use Rattle.down_framer.specs.Memory.{IsBetween};
+ghost use Rattle.down_framer.specs.Memory.{IsBetweenPeriods};
 ghost use Rattle.rx_handler.specs.State.{effective_fields};
 ghost use Rattle.call_leg.specs.Uplink.{sighting_of};
 ghost use Rattle.call_leg.specs.Memory.{home_down, down_memory};
@@ -35,7 +35,7 @@ fn ask(align: &mut Align, field: Option<u8>)
 impl DownSide {
     /// The downlink side of a new call whose octets are of this law.
     pub(crate) fn new(alloc: Global, law: Law) -> Result<DownSide, AllocError>
-        ensures between { IfOk result (λ d. IsBetween d.framer) }
+        ensures between { IfOk result (λ d. IsBetweenPeriods d.framer) }
         ensures value { IfOk result (λ d. down_memory d ≡ home_down law) }
     {
         let framer = Framer::new(alloc)?;

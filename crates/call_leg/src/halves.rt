@@ -61,12 +61,12 @@ pub struct DownLeg {
 }
 
 impl Model for DownLeg {
-    ghost use Rattle.down_framer.specs.Memory.{IsBetween};
+    ghost use Rattle.down_framer.specs.Memory.{IsBetweenPeriods};
     ghost use Rattle.call_leg.specs.Memory.{DownMemory, down_memory};
 
     ghost Value = { DownMemory };
 
     ghost view = { λ l. down_memory l.side };
 
-    ghost invariant = { λ l. IsBetween l.side.framer };
+    ghost invariant = { λ l. IsBetweenPeriods l.side.framer };
 }

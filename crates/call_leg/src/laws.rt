@@ -7,7 +7,7 @@ ghost use Rattle.trau_bits.specs.Bits.{AreBits};
 ghost use Rattle.trau_params.specs.Fields.{Fields};
 ghost use Rattle.trau_params.specs.Bits260.{bits260};
 ghost use Rattle.rx_handler.specs.Origin.{EffectiveFields};
-ghost use Rattle.down_framer.specs.Made.{due, next_start};
+ghost use Rattle.down_framer.specs.Made.{handed_due, next_start};
 ghost use Rattle.down_framer.specs.Bridges.{IsHistory};
 ghost use Rattle.down_framer.specs.ByNumber.{numbered_of, AreInTime};
 ghost use Rattle.call_leg.specs.Who.{Who};
@@ -89,7 +89,7 @@ pub fn orders_stand()
     ensures mode { (mode : DtxMode) (m : LegMemory) → OfItsCall m (λ who ts now.
         Stands who ts (with_mode mode now) (with_down m (set_mode mode m.down))) }
     ensures begin { (m : LegMemory) → OfItsCall m (λ who ts now.
-        due (down_periods ts) (frames_of ts) ≡ None → Stands who ts (with_bridge now) (begin_bridge m)) }
+        handed_due (down_periods ts) (frames_of ts) ≡ None → Stands who ts (with_bridge now) (begin_bridge m)) }
     ensures end { (m : LegMemory) → OfItsCall m (λ who ts now.
         now.bridged ≡ true → Stands who ts (without_bridge now) (with_down m (bridge_over m.down))) }
 {}

@@ -5,7 +5,7 @@ ghost use Rattle.call_number.specs.CallNumber.{IsCallNumber};
 ghost use Rattle.trau_bits.specs.Bits.{bits_of};
 ghost use Rattle.trau_params.specs.Bits260.{bits260};
 ghost use Rattle.rx_handler.specs.State.{effective_fields};
-ghost use Rattle.down_framer.specs.Made.{due};
+ghost use Rattle.down_framer.specs.Made.{handed_due};
 ghost use Rattle.call_leg.specs.Who.{Who};
 ghost use Rattle.call_leg.specs.Uplink.{handed_fields};
 ghost use Rattle.call_leg.specs.Periods.{CallPeriod, effective_now};
@@ -50,7 +50,7 @@ pub struct Leg {
 
 impl Model for Leg {
     ghost use Rattle.std.specs.Prelude.{◌≡◌, ◌≤◌};
-    ghost use Rattle.down_framer.specs.Memory.{IsBetween};
+    ghost use Rattle.down_framer.specs.Memory.{IsBetweenPeriods};
     ghost use Rattle.call_leg.specs.Counted.{sighted_in};
     ghost use Rattle.call_leg.specs.Memory.{LegMemory, down_memory};
 
@@ -58,7 +58,7 @@ impl Model for Leg {
 
     ghost view = { λ l. record { law = l.law; search = l.search; rx = l.rx; decoder = l.decoder; counts = l.counts; down = down_memory l.down } };
 
-    ghost invariant = { λ l. (l.search.periods ≤ 4294967295) × (sighted_in l.counts ≡ l.search.periods) × IsBetween l.down.framer };
+    ghost invariant = { λ l. (l.search.periods ≤ 4294967295) × (sighted_in l.counts ≡ l.search.periods) × IsBetweenPeriods l.down.framer };
 }
 
 impl Leg {
@@ -162,7 +162,7 @@ impl Leg {
         ensures periods { periods_of_leg self.new ≡ periods_of_leg self.old }
         ensures step { self.new ≡ begin_bridge self.old }
         ensures history { OfItsCall self.old (λ who ts now.
-            due (down_periods ts) (frames_of ts) ≡ None → Stands who ts (with_bridge now) self.new) }
+            handed_due (down_periods ts) (frames_of ts) ≡ None → Stands who ts (with_bridge now) self.new) }
     {
         self.decoder = Decoder::home();
         self.down.bridge_on();

@@ -3,9 +3,9 @@ use Rattle.std.proofs.Common.{◌≡◌, refl, sym, ap, ◌∙◌, subst, inl, i
 use Rattle.std.specs.Option.{option_or}
 use Rattle.std.proofs.lemmas.Bool.{cases_lt, cases_Bool, lt-leb, le-ltb, leb-true, cond_both, cond-true, cond-false, and_right}
 use Rattle.std.proofs.lemmas.List.{reverse-append, reverse-reverse, length-map}
-use Rattle.down_framer.specs.Made.{Period, MadeFrame, next_start, latest_start, bridged_at, made_from, due, next_frame, grown, made_frames}
+use Rattle.down_framer.specs.Made.{Period, MadeFrame, next_start, latest_start, hands_at, made_from, handed_due, next_frame, grown, made_frames}
 use Rattle.down_framer.specs.Bridges.{in_bridge, IsHistory}
-use Rattle.down_framer.specs.ByNumber.{Bridge, NumberedFrame, when, count_from, item_of, fields_to, numbered_start, numbered_next, numbered, longer, bridges_in, fields_in, numbered_of}
+use Rattle.down_framer.specs.ByNumber.{Bridge, NumberedFrame, when, count_from, carried_item, fields_to, numbered_start, numbered_next, numbered_frames, longer, bridges_in, asked_fields, numbered_of}
 use Rattle.time_align.specs.Shift.{latest_shift}
 use Rattle.down_framer.proofs.Timing.{AreMade-made_frames, next_start-grown, AreOnTime, AreOnTime-made_frames, grown-AreOnTime}
 use Rattle.down_framer.proofs.Waiting.{bridged_at-new, bridged_at-old, due-some}
@@ -22,7 +22,7 @@ record Newest {A : Type 0} (ps : List (Period A)) (s : ℕ) : Type 0 where
   to : ℕ
   earlier : List Bridge
   is : bridges_in ps ≡ bridge s to ∷ earlier
-  in_it : (h : ℕ) → s ≤ h → h < to → bridged_at h ps ≡ true
+  in_it : (h : ℕ) → s ≤ h → h < to → hands_at h ps ≡ true
   goes_on : in_bridge ps ≡ true → to ≡ length ps
   within : to ≤ length ps
 
@@ -134,7 +134,7 @@ grown-more p past fs s =
     (λ y. made_from-more (next_frame p past fs) fs s) (λ n. omega arith)
 
 -- all are, where no handed frame is due
-all_used : {A : Type 0} (ps : List (Period A)) (fs : List (MadeFrame A)) → IsHistory ps → due ps fs ≡ None → AreUsed (earlier_of (bridges_in ps)) fs → AreUsed (bridges_in ps) fs
+all_used : {A : Type 0} (ps : List (Period A)) (fs : List (MadeFrame A)) → IsHistory ps → handed_due ps fs ≡ None → AreUsed (earlier_of (bridges_in ps)) fs → AreUsed (bridges_in ps) fs
 all_used ps fs h d u = by (latest_start ps) refl
   where
     by : (o : Option ℕ) → latest_start ps ≡ o → AreUsed (bridges_in ps) fs
@@ -173,15 +173,15 @@ used (p ∷ past) h =
 
 abbrev AreSilent : List Bridge → ℕ → List NumberedFrame → Type 0
 AreSilent [] w fs = Unit {0}
-AreSilent (b ∷ bs) w fs = (item_of (b ∷ []) w fs ≡ None) × AreSilent bs w fs
+AreSilent (b ∷ bs) w fs = (carried_item (b ∷ []) w fs ≡ None) × AreSilent bs w fs
 
-item_of-append : (xs ys : List Bridge) (w : ℕ) (fs : List NumberedFrame) → item_of (xs ++ ys) w fs ≡ option_or (item_of xs w fs) (item_of ys w fs)
+item_of-append : (xs ys : List Bridge) (w : ℕ) (fs : List NumberedFrame) → carried_item (xs ++ ys) w fs ≡ option_or (carried_item xs w fs) (carried_item ys w fs)
 item_of-append [] ys w fs = refl
 item_of-append (b ∷ xs) ys w fs = by (nat_le b.from w && nat_lt (count_from b.from fs) (b.to - b.from)) (item_of-append xs ys w fs)
   where
-    by : (c : Bool) → item_of (xs ++ ys) w fs ≡ option_or (item_of xs w fs) (item_of ys w fs) →
-        (if c then Some (b.from + count_from b.from fs) else item_of (xs ++ ys) w fs) ≡
-        option_or (if c then Some (b.from + count_from b.from fs) else item_of xs w fs) (item_of ys w fs)
+    by : (c : Bool) → carried_item (xs ++ ys) w fs ≡ option_or (carried_item xs w fs) (carried_item ys w fs) →
+        (if c then Some (b.from + count_from b.from fs) else carried_item (xs ++ ys) w fs) ≡
+        option_or (if c then Some (b.from + count_from b.from fs) else carried_item xs w fs) (carried_item ys w fs)
     by true e = refl
     by false e = e
 
@@ -189,9 +189,9 @@ pub or_none : {A : Type 0} (o : Option A) → option_or o None ≡ o
 or_none None = refl
 or_none (Some x) = refl
 
-silent : (bs : List Bridge) (w : ℕ) (fs : List NumberedFrame) → AreSilent bs w fs → item_of bs w fs ≡ None
+silent : (bs : List Bridge) (w : ℕ) (fs : List NumberedFrame) → AreSilent bs w fs → carried_item bs w fs ≡ None
 silent [] w fs s = refl
-silent (b ∷ bs) w fs s = item_of-append (b ∷ []) bs w fs ∙ ap (λ o. option_or o (item_of bs w fs)) s.0 ∙ silent bs w fs s.1
+silent (b ∷ bs) w fs s = item_of-append (b ∷ []) bs w fs ∙ ap (λ o. option_or o (carried_item bs w fs)) s.0 ∙ silent bs w fs s.1
 
 silent_append : (xs ys : List Bridge) (w : ℕ) (fs : List NumberedFrame) → AreSilent xs w fs → AreSilent ys w fs → AreSilent (xs ++ ys) w fs
 silent_append [] ys w fs s q = q
@@ -205,7 +205,7 @@ silent_reverse (b ∷ bs) w fs s = subst (λ z. AreSilent z w fs) (sym (reverse-
 
 abbrev pub OneSpeaks : List Bridge → ℕ → List NumberedFrame → Type 0
 OneSpeaks [] w fs = Unit {0}
-OneSpeaks (b ∷ bs) w fs = ((item_of (b ∷ []) w fs ≡ None) × OneSpeaks bs w fs) ⊎ AreSilent bs w fs
+OneSpeaks (b ∷ bs) w fs = ((carried_item (b ∷ []) w fs ≡ None) × OneSpeaks bs w fs) ⊎ AreSilent bs w fs
 
 one_between : (later earlier : List Bridge) (b : Bridge) (w : ℕ) (fs : List NumberedFrame) → AreSilent later w fs → AreSilent earlier w fs → OneSpeaks (later ++ b ∷ earlier) w fs
 one_between [] earlier b w fs s q = inr q
@@ -223,31 +223,31 @@ silent_one [] w fs s = tt
 silent_one (b ∷ bs) w fs s = inr s.1
 
 -- and they are asked in either order
-same_item : (bs : List Bridge) (w : ℕ) (fs : List NumberedFrame) → OneSpeaks bs w fs → item_of (reverse bs) w fs ≡ item_of bs w fs
+same_item : (bs : List Bridge) (w : ℕ) (fs : List NumberedFrame) → OneSpeaks bs w fs → carried_item (reverse bs) w fs ≡ carried_item bs w fs
 same_item [] w fs o = refl
 same_item (b ∷ bs) w fs (inl o) =
-    ap (λ z. item_of z w fs) (reverse-more b bs) ∙ item_of-append (reverse bs) (b ∷ []) w fs ∙ ap (option_or (item_of (reverse bs) w fs)) o.0 ∙
-    or_none (item_of (reverse bs) w fs) ∙ same_item bs w fs o.1 ∙
-    sym (item_of-append (b ∷ []) bs w fs ∙ ap (λ z. option_or z (item_of bs w fs)) o.0)
+    ap (λ z. carried_item z w fs) (reverse-more b bs) ∙ item_of-append (reverse bs) (b ∷ []) w fs ∙ ap (option_or (carried_item (reverse bs) w fs)) o.0 ∙
+    or_none (carried_item (reverse bs) w fs) ∙ same_item bs w fs o.1 ∙
+    sym (item_of-append (b ∷ []) bs w fs ∙ ap (λ z. option_or z (carried_item bs w fs)) o.0)
 same_item (b ∷ bs) w fs (inr s) =
-    ap (λ z. item_of z w fs) (reverse-more b bs) ∙ item_of-append (reverse bs) (b ∷ []) w fs ∙
-    ap (λ z. option_or z (item_of (b ∷ []) w fs)) (silent (reverse bs) w fs (silent_reverse bs w fs s)) ∙
-    sym (item_of-append (b ∷ []) bs w fs ∙ ap (option_or (item_of (b ∷ []) w fs)) (silent bs w fs s) ∙ or_none (item_of (b ∷ []) w fs))
+    ap (λ z. carried_item z w fs) (reverse-more b bs) ∙ item_of-append (reverse bs) (b ∷ []) w fs ∙
+    ap (λ z. option_or z (carried_item (b ∷ []) w fs)) (silent (reverse bs) w fs (silent_reverse bs w fs s)) ∙
+    sym (item_of-append (b ∷ []) bs w fs ∙ ap (option_or (carried_item (b ∷ []) w fs)) (silent bs w fs s) ∙ or_none (carried_item (b ∷ []) w fs))
 
 -- a frame carries the item of a bridge that has one
-silent_within : (before after : List Bridge) (b : Bridge) (w : ℕ) (fs : List NumberedFrame) → AreSilent (before ++ b ∷ after) w fs → item_of (b ∷ []) w fs ≡ None
+silent_within : (before after : List Bridge) (b : Bridge) (w : ℕ) (fs : List NumberedFrame) → AreSilent (before ++ b ∷ after) w fs → carried_item (b ∷ []) w fs ≡ None
 silent_within [] after b w fs s = s.0
 silent_within (a ∷ before) after b w fs s = silent_within before after b w fs s.1
 
-pub item_of-speaks : (before after : List Bridge) (b : Bridge) (w h : ℕ) (fs : List NumberedFrame) → OneSpeaks (before ++ b ∷ after) w fs → item_of (b ∷ []) w fs ≡ Some h →
-    item_of (before ++ b ∷ after) w fs ≡ Some h
-item_of-speaks [] after b w h fs o e = item_of-append (b ∷ []) after w fs ∙ ap (λ z. option_or z (item_of after w fs)) e
+pub item_of-speaks : (before after : List Bridge) (b : Bridge) (w h : ℕ) (fs : List NumberedFrame) → OneSpeaks (before ++ b ∷ after) w fs → carried_item (b ∷ []) w fs ≡ Some h →
+    carried_item (before ++ b ∷ after) w fs ≡ Some h
+item_of-speaks [] after b w h fs o e = item_of-append (b ∷ []) after w fs ∙ ap (λ z. option_or z (carried_item after w fs)) e
 item_of-speaks (a ∷ before) after b w h fs (inl o) e =
-    item_of-append (a ∷ []) (before ++ b ∷ after) w fs ∙ ap (λ z. option_or z (item_of (before ++ b ∷ after) w fs)) o.0 ∙ item_of-speaks before after b w h fs o.1 e
+    item_of-append (a ∷ []) (before ++ b ∷ after) w fs ∙ ap (λ z. option_or z (carried_item (before ++ b ∷ after) w fs)) o.0 ∙ item_of-speaks before after b w h fs o.1 e
 item_of-speaks (a ∷ before) after b w h fs (inr s) e =
     let q : None ≡ Some h = sym (silent_within before after b w fs s) ∙ e in cc
 
-too_late : (b : Bridge) (w : ℕ) (fs : List NumberedFrame) → w < b.from → item_of (b ∷ []) w fs ≡ None
+too_late : (b : Bridge) (w : ℕ) (fs : List NumberedFrame) → w < b.from → carried_item (b ∷ []) w fs ≡ None
 too_late b w fs l =
     cond-false (nat_le b.from w && nat_lt (count_from b.from fs) (b.to - b.from)) (Some (b.from + count_from b.from fs)) None
     (ap (λ z. z && nat_lt (count_from b.from fs) (b.to - b.from)) (lt-leb b.from w l))
@@ -406,11 +406,11 @@ abbrev head : NumberedFrame → List NumberedFrame → NumberedFrame
 head f [] = f
 head f (g ∷ fs) = g
 
-in_order : (bs : List Bridge) (fields : List (Option ℕ)) (fs : List NumberedFrame) → fs ≡ numbered (reverse bs) fields (length fs) → OneSpeaksOn bs fs → fs ≡ numbered bs fields (length fs)
+in_order : (bs : List Bridge) (fields : List (Option ℕ)) (fs : List NumberedFrame) → fs ≡ numbered_frames (reverse bs) fields (length fs) → OneSpeaksOn bs fs → fs ≡ numbered_frames bs fields (length fs)
 in_order bs fields [] e a = refl
 in_order bs fields (f ∷ fs) e a =
-    let rest : fs ≡ numbered (reverse bs) fields (length fs) = ap tail e in
-    let first : f ≡ numbered_next (reverse bs) fields (numbered (reverse bs) fields (length fs)) = ap (head f) e in
+    let rest : fs ≡ numbered_frames (reverse bs) fields (length fs) = ap tail e in
+    let first : f ≡ numbered_next (reverse bs) fields (numbered_frames (reverse bs) fields (length fs)) = ap (head f) e in
     let so = in_order bs fields fs rest a.1 in
     ap (λ f. f ∷ fs)
     (first ∙ ap (numbered_next (reverse bs) fields) (sym rest) ∙
@@ -419,25 +419,25 @@ in_order bs fields (f ∷ fs) e a =
 
 -- the frames made in the periods of a history are the first ones by number, with the bridges in order
 pub made-in_order : {A : Type 0} (ps : List (Period A)) → IsHistory ps →
-    map numbered_of (made_frames ps) ≡ numbered (reverse (bridges_in ps)) (fields_in ps) (length (made_frames ps))
+    map numbered_of (made_frames ps) ≡ numbered_frames (reverse (bridges_in ps)) (asked_fields ps) (length (made_frames ps))
 made-in_order ps h =
     let bs = reverse (bridges_in ps) in
     let n = length-map (made_frames ps) numbered_of in
-    in_order bs (fields_in ps) (map numbered_of (made_frames ps))
-    (made-numbered ps h ∙ ap (λ bs. numbered bs (fields_in ps) (length (made_frames ps))) (sym (reverse-reverse (bridges_in ps))) ∙
-    ap (numbered (reverse bs) (fields_in ps)) (sym n)) (one-all [] ps h) ∙ ap (numbered bs (fields_in ps)) n
+    in_order bs (asked_fields ps) (map numbered_of (made_frames ps))
+    (made-numbered ps h ∙ ap (λ bs. numbered_frames bs (asked_fields ps) (length (made_frames ps))) (sym (reverse-reverse (bridges_in ps))) ∙
+    ap (numbered_frames (reverse bs) (asked_fields ps)) (sym n)) (one-all [] ps h) ∙ ap (numbered_frames bs (asked_fields ps)) n
 
 -- and for each of them at most one bridge has an item
-one-at : (bs : List Bridge) (fields : List (Option ℕ)) (m j : ℕ) → j < m → OneSpeaksOn bs (numbered bs fields m) → OneSpeaks bs (when (numbered_start (numbered bs fields j))) (numbered bs fields j)
+one-at : (bs : List Bridge) (fields : List (Option ℕ)) (m j : ℕ) → j < m → OneSpeaksOn bs (numbered_frames bs fields m) → OneSpeaks bs (when (numbered_start (numbered_frames bs fields j))) (numbered_frames bs fields j)
 one-at bs fields zero j l o = absurd (omega arith)
 one-at bs fields (suc m) j l o = elim (cases_lt j m) [
   | inl before ↦ one-at bs fields m j before o.1
   | inr now ↦
       let e : m ≡ j = omega arith in
-      subst (λ j. OneSpeaks bs (when (numbered_start (numbered bs fields j))) (numbered bs fields j)) e o.0
+      subst (λ j. OneSpeaks bs (when (numbered_start (numbered_frames bs fields j))) (numbered_frames bs fields j)) e o.0
 ]
 
 pub one-made : {A : Type 0} (ps : List (Period A)) (j : ℕ) → IsHistory ps → j < length (made_frames ps) →
-    let bs = reverse (bridges_in ps) in OneSpeaks bs (when (numbered_start (numbered bs (fields_in ps) j))) (numbered bs (fields_in ps) j)
+    let bs = reverse (bridges_in ps) in OneSpeaks bs (when (numbered_start (numbered_frames bs (asked_fields ps) j))) (numbered_frames bs (asked_fields ps) j)
 one-made ps j h l =
-    one-at (reverse (bridges_in ps)) (fields_in ps) (length (made_frames ps)) j l (subst (OneSpeaksOn (reverse (bridges_in ps))) (made-in_order ps h) (one-all [] ps h))
+    one-at (reverse (bridges_in ps)) (asked_fields ps) (length (made_frames ps)) j l (subst (OneSpeaksOn (reverse (bridges_in ps))) (made-in_order ps h) (one-all [] ps h))

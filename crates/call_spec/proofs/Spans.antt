@@ -8,7 +8,7 @@ use Rattle.down_framer.specs.Bridges.{IsHistory, in_bridge}
 use Rattle.call_leg.specs.Periods.{CallPeriod, handed_in}
 use Rattle.call_leg.specs.Down.{down_periods}
 use Rattle.call_spec.specs.Call.{Span, item_at}
-use Rattle.call_spec.specs.History.{new_span, go_on, spans_of}
+use Rattle.call_spec.specs.History.{new_span, go_on, spans_in_history}
 use Rattle.call_spec.proofs.Stretched.{reverse-more}
 use Rattle.call_spec.proofs.Items.{or_none}
 use Rattle.call_spec.proofs.Ranges.{IsPeriod}
@@ -91,7 +91,7 @@ item_not_new n (Some item) k (inr l) = late (new_span n (Some item)) k (omega ar
 record Latest (past : List CallPeriod) : Type 0 where
   span : Span
   others : List Span
-  is : spans_of past ≡ span ∷ others
+  is : spans_in_history past ≡ span ∷ others
   to : span.to ≡ length past
   count : span.from + length span.items ≡ span.to
 
@@ -111,8 +111,8 @@ latest (t ∷ past) h b = by (latest past h.0) t.handed refl (cases_Bool t.start
     by before None e s = absurd (true≢false (sym b ∙ ap is_some e))
     by before (Some item) e (inl s) = record {
       span = new_span (length past) (Some item);
-      others = spans_of past;
-      is = cond-true t.starts (new_span (length past) t.handed ∷ spans_of past) (go_on t.handed (spans_of past)) s ∙ ap (λ o. new_span (length past) o ∷ spans_of past) e;
+      others = spans_in_history past;
+      is = cond-true t.starts (new_span (length past) t.handed ∷ spans_in_history past) (go_on t.handed (spans_in_history past)) s ∙ ap (λ o. new_span (length past) o ∷ spans_in_history past) e;
       to = omega arith;
       count = omega arith;
     }
@@ -124,7 +124,7 @@ latest (t ∷ past) h b = by (latest past h.0) t.handed refl (cases_Bool t.start
         record {
           span = longer l.span item;
           others = l.others;
-          is = cond-false t.starts (new_span (length past) t.handed ∷ spans_of past) (go_on t.handed (spans_of past)) s ∙ ap (λ o. go_on o (spans_of past)) e ∙ ap (go_on (Some item)) l.is;
+          is = cond-false t.starts (new_span (length past) t.handed ∷ spans_in_history past) (go_on t.handed (spans_in_history past)) s ∙ ap (λ o. go_on o (spans_in_history past)) e ∙ ap (go_on (Some item)) l.is;
           to = omega arith;
           count = omega arith;
         }
@@ -153,10 +153,10 @@ or_new a b d p q = ap (option_or a) p ∙ or_none a ∙ q
 or_none_before : (a b d : Option (List ℕ)) → a ≡ None → b ≡ d → option_or a b ≡ d
 or_none_before a b d p q = ap (λ z. option_or z b) p ∙ q
 
-item-starts : (t : CallPeriod) (past : List CallPeriod) → ((k : ℕ) → item_at (reverse (spans_of past)) k ≡ handed_at past k) → (k : ℕ) →
-    item_at (reverse (new_span (length past) t.handed ∷ spans_of past)) k ≡ handed_at (t ∷ past) k
+item-starts : (t : CallPeriod) (past : List CallPeriod) → ((k : ℕ) → item_at (reverse (spans_in_history past)) k ≡ handed_at past k) → (k : ℕ) →
+    item_at (reverse (new_span (length past) t.handed ∷ spans_in_history past)) k ≡ handed_at (t ∷ past) k
 item-starts t past before k =
-    item_at-newest (new_span (length past) t.handed) (spans_of past) k ∙
+    item_at-newest (new_span (length past) t.handed) (spans_in_history past) k ∙
     elim (cases_lt k (length past)) [
       | inl old ↦ or_new _ _ _ (item_not_new (length past) t.handed k (inl old)) (before k ∙ sym (handed_at-old t past k old))
       | inr not_old ↦ elim (cases_lt (length past) k) [
@@ -178,8 +178,8 @@ item-out t past out k = elim (cases_lt k (length past)) [
   ]
 ]
 
-item-goes : (t : CallPeriod) (past : List CallPeriod) (item : List ℕ) → t.handed ≡ Some item → Latest past → ((k : ℕ) → item_at (reverse (spans_of past)) k ≡ handed_at past k) → (k : ℕ) →
-    item_at (reverse (go_on (Some item) (spans_of past))) k ≡ handed_at (t ∷ past) k
+item-goes : (t : CallPeriod) (past : List CallPeriod) (item : List ℕ) → t.handed ≡ Some item → Latest past → ((k : ℕ) → item_at (reverse (spans_in_history past)) k ≡ handed_at past k) → (k : ℕ) →
+    item_at (reverse (go_on (Some item) (spans_in_history past))) k ≡ handed_at (t ∷ past) k
 unfolding longer
 item-goes t past item e l before k =
     ap (λ ss. item_at (reverse (go_on (Some item) ss)) k) l.is ∙ item_at-newest (longer l.span item) l.others k ∙
@@ -199,29 +199,29 @@ item-goes t past item e l before k =
     were : option_or (item_at (reverse l.others) k) (item_at (l.span ∷ []) k) ≡ handed_at past k
     were = sym (item_at-newest l.span l.others k) ∙ ap (λ ss. item_at (reverse ss) k) (sym l.is) ∙ before k
 
-pub item_at-history : (ts : List CallPeriod) → IsHistory (down_periods ts) → (k : ℕ) → item_at (reverse (spans_of ts)) k ≡ handed_at ts k
+pub item_at-history : (ts : List CallPeriod) → IsHistory (down_periods ts) → (k : ℕ) → item_at (reverse (spans_in_history ts)) k ≡ handed_at ts k
 item_at-history [] h k = refl
 item_at-history (t ∷ past) h k = by (cases_Bool t.starts) t.handed refl (item_at-history past h.0)
   where
-    by : (t.starts ≡ true) ⊎ (t.starts ≡ false) → (o : Option (List ℕ)) → t.handed ≡ o → ((k : ℕ) → item_at (reverse (spans_of past)) k ≡ handed_at past k) →
-        item_at (reverse (spans_of (t ∷ past))) k ≡ handed_at (t ∷ past) k
+    by : (t.starts ≡ true) ⊎ (t.starts ≡ false) → (o : Option (List ℕ)) → t.handed ≡ o → ((k : ℕ) → item_at (reverse (spans_in_history past)) k ≡ handed_at past k) →
+        item_at (reverse (spans_in_history (t ∷ past))) k ≡ handed_at (t ∷ past) k
     by (inl s) o e before =
-        ap (λ ss. item_at (reverse ss) k) (cond-true t.starts (new_span (length past) t.handed ∷ spans_of past) (go_on t.handed (spans_of past)) s) ∙
+        ap (λ ss. item_at (reverse ss) k) (cond-true t.starts (new_span (length past) t.handed ∷ spans_in_history past) (go_on t.handed (spans_in_history past)) s) ∙
         item-starts t past before k
     by (inr s) None e before =
-        ap (λ ss. item_at (reverse ss) k) (cond-false t.starts (new_span (length past) t.handed ∷ spans_of past) (go_on t.handed (spans_of past)) s ∙ ap (λ o. go_on o (spans_of past)) e) ∙
+        ap (λ ss. item_at (reverse ss) k) (cond-false t.starts (new_span (length past) t.handed ∷ spans_in_history past) (go_on t.handed (spans_in_history past)) s ∙ ap (λ o. go_on o (spans_in_history past)) e) ∙
         before k ∙ item-out t past e k
     by (inr s) (Some item) e before =
-        ap (λ ss. item_at (reverse ss) k) (cond-false t.starts (new_span (length past) t.handed ∷ spans_of past) (go_on t.handed (spans_of past)) s ∙ ap (λ o. go_on o (spans_of past)) e) ∙
+        ap (λ ss. item_at (reverse ss) k) (cond-false t.starts (new_span (length past) t.handed ∷ spans_in_history past) (go_on t.handed (spans_in_history past)) s ∙ ap (λ o. go_on o (spans_in_history past)) e) ∙
         item-goes t past item e (latest past h.0 (went_on t past (in_bridge (down_periods past)) s h.2 (ap is_some e))) before k
 
 pub item_at-period : (ts : List CallPeriod) (t : CallPeriod) (past : List CallPeriod) → IsHistory (down_periods ts) → IsPeriod ts t past →
-    item_at (reverse (spans_of ts)) (length past) ≡ t.handed
+    item_at (reverse (spans_in_history ts)) (length past) ≡ t.handed
 item_at-period ts t past h p = item_at-history ts h (length past) ∙ ap (λ us. handed_at us (length past)) (sym p.1) ∙ handed_at-period p.0 t past
 
 -- the item of a period up to one of the history
 pub handed_in-period : (ts : List CallPeriod) (t : CallPeriod) (past : List CallPeriod) (h : ℕ) → IsHistory (down_periods ts) → IsPeriod ts t past → h ≤ length past →
-    unwrap_or (item_at (reverse (spans_of ts)) h) [] ≡ handed_in h (t ∷ past)
+    unwrap_or (item_at (reverse (spans_in_history ts)) h) [] ≡ handed_in h (t ∷ past)
 handed_in-period ts t past h k p l =
     ap (λ o. unwrap_or o []) (item_at-history ts k h ∙ ap (λ us. handed_at us h) (sym p.1) ∙ handed_at-later p.0 (t ∷ past) h (omega arith)) ∙
     sym (handed_in-at (t ∷ past) h)

@@ -6,7 +6,7 @@ use Rattle.std.proofs.lemmas.Bool.{cases_lt, lt-leb, le-leb, lt-ltb, le-ltb, eq-
 use Rattle.std.proofs.lemmas.List.Folds.{list_any-append}
 use Rattle.call_leg.specs.Periods.{CallPeriod, bridges_begun}
 use Rattle.call_spec.specs.Call.{Span, starts_at}
-use Rattle.call_spec.specs.History.{new_span, go_on, spans_of}
+use Rattle.call_spec.specs.History.{new_span, go_on, spans_in_history}
 use Rattle.call_spec.proofs.Stretched.{reverse-more}
 use Rattle.call_spec.proofs.Ranges.{IsPeriod}
 
@@ -37,16 +37,16 @@ new-from : (n : ℕ) (o : Option (List ℕ)) → (new_span n o).from ≡ n
 new-from n None = refl
 new-from n (Some item) = refl
 
-any-history : (test : ℕ → Bool) (ts : List CallPeriod) → list_any (λ s. test s.from) (reverse (spans_of ts)) ≡ any_start test ts
+any-history : (test : ℕ → Bool) (ts : List CallPeriod) → list_any (λ s. test s.from) (reverse (spans_in_history ts)) ≡ any_start test ts
 any-history test [] = refl
 any-history test (t ∷ past) = by t.starts (any-history test past)
   where
-    by : (b : Bool) → list_any (λ s. test s.from) (reverse (spans_of past)) ≡ any_start test past →
-        list_any (λ s. test s.from) (reverse (if b then new_span (length past) t.handed ∷ spans_of past else go_on t.handed (spans_of past))) ≡ (any_start test past || (b && test (length past)))
+    by : (b : Bool) → list_any (λ s. test s.from) (reverse (spans_in_history past)) ≡ any_start test past →
+        list_any (λ s. test s.from) (reverse (if b then new_span (length past) t.handed ∷ spans_in_history past else go_on t.handed (spans_in_history past))) ≡ (any_start test past || (b && test (length past)))
     by true e =
-        any-newest test (new_span (length past) t.handed) (spans_of past) ∙ ap (λ b. b || test (new_span (length past) t.handed).from) e ∙
+        any-newest test (new_span (length past) t.handed) (spans_in_history past) ∙ ap (λ b. b || test (new_span (length past) t.handed).from) e ∙
         ap (λ n. any_start test past || test n) (new-from (length past) t.handed)
-    by false e = any-go_on test t.handed (spans_of past) ∙ e ∙ sym (or_false (any_start test past))
+    by false e = any-go_on test t.handed (spans_in_history past) ∙ e ∙ sym (or_false (any_start test past))
 
 -- ---- a span starts at a period where a bridge does
 
@@ -67,7 +67,7 @@ and_true : (b : Bool) → (b && true) ≡ b
 and_true true = refl
 and_true false = refl
 
-pub starts_at-period : (ts : List CallPeriod) (t : CallPeriod) (past : List CallPeriod) → IsPeriod ts t past → starts_at (reverse (spans_of ts)) (length past) ≡ t.starts
+pub starts_at-period : (ts : List CallPeriod) (t : CallPeriod) (past : List CallPeriod) → IsPeriod ts t past → starts_at (reverse (spans_in_history ts)) (length past) ≡ t.starts
 starts_at-period ts t past p =
     let test : ℕ → Bool = λ n. n == length past in
     any-history test ts ∙ ap (any_start test) (sym p.1) ∙ any-later test p.0 (t ∷ past) (λ n l. ne_eqb n (length past) (omega arith)) ∙
@@ -149,7 +149,7 @@ same_count x y d e = elim (cases_lt 0 d) [
 ]
 
 pub starts-between : (ts : List CallPeriod) (t u : CallPeriod) (past before : List CallPeriod) → IsPeriod ts t past → IsPeriod ts u before → length past ≤ length before →
-    list_any (λ span. nat_lt (length past) span.from && nat_le span.from (length before)) (reverse (spans_of ts)) ≡ not (bridges_begun (t ∷ past) == bridges_begun (u ∷ before))
+    list_any (λ span. nat_lt (length past) span.from && nat_le span.from (length before)) (reverse (spans_in_history ts)) ≡ not (bridges_begun (t ∷ past) == bridges_begun (u ∷ before))
 starts-between ts t u past before p q l =
     let x = begun-by ts t past p in
     let y = begun-by ts u before q in

@@ -5,14 +5,14 @@ use Rattle.std.proofs.lemmas.Bool.{cases_lt, lt-leb, le-leb, lt-ltb, le-ltb, eq-
 use Rattle.std.proofs.lemmas.List.{take_all, take_more, take-take, drop-take, take-append-drop, nil_from_length}
 use Rattle.std.proofs.lemmas.List.Elements.{All-nil, All-cons}
 use Rattle.trau_orders.specs.declared.order.DtxMode.TheVariants.{Uplink}
-use Rattle.down_framer.specs.Bridges.{AreApart}
+use Rattle.down_framer.specs.Bridges.{LeavePeriodsBetween}
 use Rattle.down_framer.proofs.FrameLaws.{apart}
 use Rattle.call_leg.specs.Who.{Who}
 use Rattle.call_leg.specs.Periods.{pcm_of}
 use Rattle.call_leg.specs.Down.{down_periods}
 use Rattle.call_spec.specs.Call.{Call, Setting, Span, periods, setting_at, item_at, starts_at}
-use Rattle.call_spec.specs.History.{IsCallHistory, up_of, settings_of, new_span, go_on, spans_of, call_of}
-use Rattle.call_spec.specs.Whole.{AreSpans, IsWhole, period_at, first_periods, history_of}
+use Rattle.call_spec.specs.History.{IsCallHistory, up_in_history, settings_of, new_span, go_on, spans_in_history, call_of_history}
+use Rattle.call_spec.specs.Whole.{AreSpans, IsWhole, call_period, first_periods, periods_of_call}
 use Rattle.call_spec.proofs.Stretched.{reverse-more}
 
 -- ---- the lines and the settings
@@ -22,7 +22,7 @@ take-more n m xs =
     ap (λ z. z ++ take m (drop n xs)) (sym (take-take n (n + m) xs (omega arith))) ∙
     ap (λ z. take n (take (n + m) xs) ++ z) (sym (drop-take n m xs)) ∙ take-append-drop n (take (n + m) xs)
 
-ups-first : (call : Call) (k : ℕ) → up_of (first_periods call k) ≡ take (40 * k) call.up
+ups-first : (call : Call) (k : ℕ) → up_in_history (first_periods call k) ≡ take (40 * k) call.up
 ups-first call zero = refl
 ups-first call (suc k) =
     let e : 40 * k + 40 ≡ 40 * suc k = omega arith in
@@ -219,20 +219,20 @@ so_far-all low n [] h = refl
 so_far-all low n (span ∷ spans) h =
     so_far-some n span spans h.1 ∙ ap (λ s. s ∷ so_far n spans) (cut-whole n span h.2 h.3) ∙ ap (λ z. span ∷ z) (so_far-all (span.to + 1) n spans h.4)
 
-spans-first : (call : Call) (n k : ℕ) → AreSpans 0 n call.spans → reverse (spans_of (first_periods call k)) ≡ so_far k call.spans
+spans-first : (call : Call) (n k : ℕ) → AreSpans 0 n call.spans → reverse (spans_in_history (first_periods call k)) ≡ so_far k call.spans
 spans-first call n zero h = sym (so_far-none 0 n 0 call.spans h (omega arith))
 spans-first call n (suc k) h = by (starts_at call.spans k) refl (spans-first call n k h)
   where
-    by : (b : Bool) → starts_at call.spans k ≡ b → reverse (spans_of (first_periods call k)) ≡ so_far k call.spans → reverse (spans_of (first_periods call (suc k))) ≡ so_far (suc k) call.spans
+    by : (b : Bool) → starts_at call.spans k ≡ b → reverse (spans_in_history (first_periods call k)) ≡ so_far k call.spans → reverse (spans_in_history (first_periods call (suc k))) ≡ so_far (suc k) call.spans
     by true e so =
-        ap reverse (cond-true (starts_at call.spans k) _ (go_on (item_at call.spans k) (spans_of (first_periods call k))) e) ∙
-        reverse-more (new_span (length (first_periods call k)) (item_at call.spans k)) (spans_of (first_periods call k)) ∙
+        ap reverse (cond-true (starts_at call.spans k) _ (go_on (item_at call.spans k) (spans_in_history (first_periods call k))) e) ∙
+        reverse-more (new_span (length (first_periods call k)) (item_at call.spans k)) (spans_in_history (first_periods call k)) ∙
         ap (λ z. z ++ new_span (length (first_periods call k)) (item_at call.spans k) ∷ []) so ∙
         ap (λ i. so_far k call.spans ++ new_span i (item_at call.spans k) ∷ []) (length-first call k) ∙
         sym (step 0 n k call.spans h ∙ ap (λ b. after b k (item_at call.spans k) (so_far k call.spans)) e)
     by false e so =
-        ap reverse (cond-false (starts_at call.spans k) (new_span (length (first_periods call k)) (item_at call.spans k) ∷ spans_of (first_periods call k)) _ e) ∙
-        go_on-reverse (item_at call.spans k) (spans_of (first_periods call k)) ∙ ap (go_last (item_at call.spans k)) so ∙
+        ap reverse (cond-false (starts_at call.spans k) (new_span (length (first_periods call k)) (item_at call.spans k) ∷ spans_in_history (first_periods call k)) _ e) ∙
+        go_on-reverse (item_at call.spans k) (spans_in_history (first_periods call k)) ∙ ap (go_last (item_at call.spans k)) so ∙
         sym (step 0 n k call.spans h ∙ ap (λ b. after b k (item_at call.spans k) (so_far k call.spans)) e)
 
 -- ---- bridges leave a period between, and go on without a gap
@@ -285,7 +285,7 @@ from_start low n (span ∷ spans) h s = elim (cases_lt 0 span.from) [
   | inr now ↦ starts-here span spans 0 (omega arith)
 ]
 
-apart-first : (call : Call) (n k : ℕ) → AreSpans 0 n call.spans → AreApart (down_periods (first_periods call k))
+apart-first : (call : Call) (n k : ℕ) → AreSpans 0 n call.spans → LeavePeriodsBetween (down_periods (first_periods call k))
 apart-first call n zero h = tt
 apart-first call n (suc zero) h = (tt, λ s. refl, λ b. ap (λ z. z || false) (from_start 0 n call.spans h b))
 apart-first call n (suc (suc k)) h = (
@@ -300,32 +300,32 @@ ups-sized : (call : Call) (k : ℕ) → length call.up ≡ 40 * periods call →
 ups-sized call zero e l = All-nil (λ t. length t.up ≡ 40)
 ups-sized call (suc k) e l =
     let rest = length-drop (40 * k) call.up in
-    All-cons (λ t. length t.up ≡ 40) (period_at call k) (first_periods call k)
+    All-cons (λ t. length t.up ≡ 40) (call_period call k) (first_periods call k)
     (length-take 40 (drop (40 * k) call.up) ∙ omega arith) (ups-sized call k e (omega arith))
 
 pcms-sized : (call : Call) (k : ℕ) → length call.pcm ≡ 160 * periods call → k ≤ periods call → All (λ t. length t.pcm ≡ 160) (first_periods call k)
 pcms-sized call zero e l = All-nil (λ t. length t.pcm ≡ 160)
 pcms-sized call (suc k) e l =
     let rest = length-drop (160 * k) call.pcm in
-    All-cons (λ t. length t.pcm ≡ 160) (period_at call k) (first_periods call k)
+    All-cons (λ t. length t.pcm ≡ 160) (call_period call k) (first_periods call k)
     (length-take 160 (drop (160 * k) call.pcm) ∙ omega arith) (pcms-sized call k e (omega arith))
 
-pub history-whole : (call : Call) → IsWhole call → IsCallHistory (history_of call)
+pub history-whole : (call : Call) → IsWhole call → IsCallHistory (periods_of_call call)
 history-whole call h = record {
   ups = ups-sized call (periods call) h.up (omega arith);
   pcms = pcms-sized call (periods call) h.pcm (omega arith);
-  bridges = apart (down_periods (history_of call)) (apart-first call (periods call) (periods call) h.spans);
+  bridges = apart (down_periods (periods_of_call call)) (apart-first call (periods call) (periods call) h.spans);
 }
 
 abbrev call5 : Who → List ℕ → List ℕ → List Setting → List Span → Call
 call5 who up pcm settings spans = record { who = who; up = up; pcm = pcm; settings = settings; spans = spans }
 
-pub call-whole : (call : Call) → IsWhole call → call_of call.who (history_of call) ≡ call
+pub call-whole : (call : Call) → IsWhole call → call_of_history call.who (periods_of_call call) ≡ call
 call-whole call h =
-    let ts = history_of call in
+    let ts = periods_of_call call in
     let up = h.up in
     let pcm = h.pcm in
-    ap (λ z. call5 call.who z (pcm_of ts) (settings_of ts) (reverse (spans_of ts))) (ups-first call (periods call) ∙ take_all (40 * periods call) call.up (omega arith)) ∙
-    ap (λ z. call5 call.who call.up z (settings_of ts) (reverse (spans_of ts))) (pcms-first call (periods call) ∙ take_all (160 * periods call) call.pcm (omega arith)) ∙
-    ap (λ z. call5 call.who call.up call.pcm z (reverse (spans_of ts))) (settings-first call (periods call) (omega arith) ∙ take_all (periods call) call.settings (omega arith)) ∙
+    ap (λ z. call5 call.who z (pcm_of ts) (settings_of ts) (reverse (spans_in_history ts))) (ups-first call (periods call) ∙ take_all (40 * periods call) call.up (omega arith)) ∙
+    ap (λ z. call5 call.who call.up z (settings_of ts) (reverse (spans_in_history ts))) (pcms-first call (periods call) ∙ take_all (160 * periods call) call.pcm (omega arith)) ∙
+    ap (λ z. call5 call.who call.up call.pcm z (reverse (spans_in_history ts))) (settings-first call (periods call) (omega arith) ∙ take_all (periods call) call.settings (omega arith)) ∙
     ap (call5 call.who call.up call.pcm call.settings) (spans-first call (periods call) (periods call) h.spans ∙ so_far-all 0 (periods call) call.spans h.spans)

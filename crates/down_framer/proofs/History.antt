@@ -2,9 +2,10 @@
 use Rattle.std.proofs.Common.{◌≡◌, refl, sym, ap, ◌∙◌, subst, inl, inr, ℕ, ◌+◌, ◌-◌, ◌*◌, ℤ, ◌≤◌, ◌<◌, zero, suc, nat_le, List, [], ◌∷◌, ◌++◌, length, take, arith, length-append, length-drop}
 use Rattle.std.proofs.lemmas.List.{length-replicate}
 use Rattle.std.proofs.lemmas.Bool.{le-leb, lt-leb, cases_lt}
-use Rattle.down_framer.specs.Made.{Period, octets_of, next_start, frame_on_line, next_frame, grown, shift_due, made_frames, line_of, down_of}
-use Rattle.down_framer.specs.Memory.{FramerMemory, new_memory, after_put, after_frame, after_take}
-use Rattle.down_framer.specs.Places.{Holds, PcmPeriod, PcmFrame, pcm_of, tries, StandsBetween, StandsWithin}
+use Rattle.down_framer.specs.Made.{Period, octets_to_next, next_start, frame_on_line, next_frame, grown, shift_due, made_frames, downlink_of, down_of}
+use Rattle.down_framer.specs.Memory.{FramerMemory, home_memory}
+use Rattle.down_framer.specs.Step.{after_put, after_frame, after_take}
+use Rattle.down_framer.specs.Stands.{Holds, PcmPeriod, PcmFrame, pcm_of, tries, StandsBetween, StandsWithin}
 use Rattle.down_framer.proofs.Timing.{AreMade-made_frames, IsShift-shift_due, octets_of-bounds}
 use Rattle.down_framer.proofs.Waiting.{none_made, one_made}
 use Rattle.down_framer.proofs.Store.{length-frame_on_line}
@@ -54,18 +55,18 @@ frame-stands bits p past fs s f shift ready l es ef h =
     let due = shift_due (p ∷ past) fs in
     let b = octets_of-bounds due (IsShift-shift_due (p ∷ past) fs) in
     let lf : length (bits (next_frame p past fs ∷ fs)) ≡ 320 = sym (ap length ef) ∙ l in
-    let more : length (frame_on_line due (bits (next_frame p past fs ∷ fs))) ≡ 2 * octets_of due =
+    let more : length (frame_on_line due (bits (next_frame p past fs ∷ fs))) ≡ 2 * octets_to_next due =
     length-frame_on_line due (bits (next_frame p past fs ∷ fs)) (IsShift-shift_due (p ∷ past) fs) lf in
-    let place : Holds (pcm_of (p ∷ past)) (line_of bits fs ++ frame_on_line shift f) (320 * length past) (next_start fs + octets_of shift) (after_frame s f shift) =
-    frame-holds s f shift (pcm_of (p ∷ past)) (line_of bits fs) (320 * length past) (next_start fs) ready (omega arith) h.places in
-    let place_due : Holds (pcm_of (p ∷ past)) (line_of bits fs ++ frame_on_line due f) (320 * length past) (next_start fs + octets_of due) (after_frame s f shift) =
-    subst (λ v. Holds (pcm_of (p ∷ past)) (line_of bits fs ++ frame_on_line v f) (320 * length past) (next_start fs + octets_of v) (after_frame s f shift)) es place in
+    let place : Holds (pcm_of (p ∷ past)) (downlink_of bits fs ++ frame_on_line shift f) (320 * length past) (next_start fs + octets_to_next shift) (after_frame s f shift) =
+    frame-holds s f shift (pcm_of (p ∷ past)) (downlink_of bits fs) (320 * length past) (next_start fs) ready (omega arith) h.places in
+    let place_due : Holds (pcm_of (p ∷ past)) (downlink_of bits fs ++ frame_on_line due f) (320 * length past) (next_start fs + octets_to_next due) (after_frame s f shift) =
+    subst (λ v. Holds (pcm_of (p ∷ past)) (downlink_of bits fs ++ frame_on_line v f) (320 * length past) (next_start fs + octets_to_next v) (after_frame s f shift)) es place in
     record {
       pcm = h.pcm;
       tried = one_more_try p past fs (omega arith) h.tried;
       ahead = omega arith;
-      line = length-append (line_of bits fs) (frame_on_line due (bits (next_frame p past fs ∷ fs))) ∙ omega arith;
-      places = subst (λ g. Holds (pcm_of (p ∷ past)) (line_of bits fs ++ frame_on_line due g) (320 * length past) (next_start fs + octets_of due) (after_frame s f shift)) ef place_due;
+      line = length-append (downlink_of bits fs) (frame_on_line due (bits (next_frame p past fs ∷ fs))) ∙ omega arith;
+      places = subst (λ g. Holds (pcm_of (p ∷ past)) (downlink_of bits fs ++ frame_on_line due g) (320 * length past) (next_start fs + octets_to_next due) (after_frame s f shift)) ef place_due;
     }
 
 -- ---- from period to period
@@ -81,8 +82,8 @@ put-stands bits past p s octets l e h =
       tried = (0, refl);
       ahead = h.ahead;
       line = h.line;
-      places = subst (λ o. Holds (pcm_of past ++ o) (line_of bits (made_frames past)) (320 * length past) (next_start (made_frames past)) (after_put s octets)) (sym e)
-          (put-holds s octets (pcm_of past) (line_of bits (made_frames past)) (320 * length past) (next_start (made_frames past)) l h.places);
+      places = subst (λ o. Holds (pcm_of past ++ o) (downlink_of bits (made_frames past)) (320 * length past) (next_start (made_frames past)) (after_put s octets)) (sym e)
+          (put-holds s octets (pcm_of past) (downlink_of bits (made_frames past)) (320 * length past) (next_start (made_frames past)) l h.places);
     }
 
 -- none is left to be made
@@ -106,13 +107,13 @@ take-stands bits p past fs s short h =
         pcm = pcm ∙ omega arith;
         ahead = a.low;
         line = now.line;
-        places = subst (λ n. Holds (pcm_of (p ∷ past)) (line_of bits (made_frames (p ∷ past))) n (next_start (made_frames (p ∷ past))) (after_take s)) out
-            (take-holds s (pcm_of (p ∷ past)) (line_of bits (made_frames (p ∷ past))) (320 * length past) (next_start (made_frames (p ∷ past))) now.places);
+        places = subst (λ n. Holds (pcm_of (p ∷ past)) (downlink_of bits (made_frames (p ∷ past))) n (next_start (made_frames (p ∷ past))) (after_take s)) out
+            (take-holds s (pcm_of (p ∷ past)) (downlink_of bits (made_frames (p ∷ past))) (320 * length past) (next_start (made_frames (p ∷ past))) now.places);
       },
       ap (take 320) now.places.stored,
     )
 
-pub new-stands : (bits : List PcmFrame → List ℕ) → StandsBetween bits [] new_memory
+pub new-stands : (bits : List PcmFrame → List ℕ) → StandsBetween bits [] home_memory
 new-stands bits = record {
   pcm = refl;
   ahead = omega arith;

@@ -5,9 +5,9 @@ use Rattle.std.proofs.Math.Seq.{take-append_seam, drop-append_seam}
 use Rattle.std.proofs.lemmas.Bool.{cases_lt, lt-leb, le-leb, leb-true, lt-ltb, le-ltb, cases_Bool, cond_both, cond-true, cond-false}
 use Rattle.std.proofs.lemmas.List.{reverse-append, reverse-reverse, length-reverse, length-map, drop_all, map-append, take-append-drop, append_assoc}
 use Rattle.time_align.specs.Shift.{latest_shift}
-use Rattle.down_framer.specs.Made.{Period, MadeFrame, next_start, latest_start, bridged_at, made_from, due, fields_since, next_frame, grown, made_frames}
+use Rattle.down_framer.specs.Made.{Period, MadeFrame, next_start, latest_start, hands_at, made_from, handed_due, counted_fields, next_frame, grown, made_frames}
 use Rattle.down_framer.specs.Bridges.{in_bridge, IsHistory}
-use Rattle.down_framer.specs.ByNumber.{Bridge, NumberedFrame, when, count_from, item_of, fields_to, numbered_start, numbered_next, numbered, longer, bridges_in, fields_in, numbered_of}
+use Rattle.down_framer.specs.ByNumber.{Bridge, NumberedFrame, when, count_from, carried_item, fields_to, numbered_start, numbered_next, numbered_frames, longer, bridges_in, asked_fields, numbered_of}
 use Rattle.down_framer.proofs.Timing.{AreMade-made_frames, next_start-grown, AreOnTime, AreOnTime-made_frames, grown-AreOnTime}
 use Rattle.down_framer.proofs.Waiting.{bridged_at-late, bridged_at-new, bridged_at-old, outside, made_from-zero, none_made, one_made, no_shift, due-some, due-none, Phase, phase, latest_start-below}
 
@@ -50,21 +50,21 @@ reverse_drop n xs = elim (cases_lt (length xs) n) [
 ]
 
 -- the fields up to the newest period, of those of all periods
-fields_so_far : {A : Type 0} (more ps : List (Period A)) → take (length ps) (fields_in (more ++ ps)) ≡ fields_in ps
+fields_so_far : {A : Type 0} (more ps : List (Period A)) → take (length ps) (asked_fields (more ++ ps)) ≡ asked_fields ps
 fields_so_far more ps =
     let fields = λ (z : List (Period _)). map (λ p. p.field) z in
     ap (λ z. take (length ps) (reverse z)) (map-append (λ p. p.field) more ps) ∙
     ap (take (length ps)) (reverse-append (fields more) (fields ps)) ∙
-    ap (λ n. take n (fields_in ps ++ reverse (fields more))) (sym (length-reverse (fields ps) ∙ length-map ps (λ p. p.field))) ∙
-    take-append_seam (fields_in ps) (reverse (fields more))
+    ap (λ n. take n (asked_fields ps ++ reverse (fields more))) (sym (length-reverse (fields ps) ∙ length-map ps (λ p. p.field))) ∙
+    take-append_seam (asked_fields ps) (reverse (fields more))
 
 -- the fields of the periods that count
-fields-agree : {A : Type 0} (F : List (Option ℕ)) (w : ℕ) (ps : List (Period A)) (fs : List (MadeFrame A)) → take (w + 1) F ≡ fields_in ps → AreOnTime fs →
-    fields_to F w (map numbered_of fs) ≡ fields_since ps fs
+fields-agree : {A : Type 0} (F : List (Option ℕ)) (w : ℕ) (ps : List (Period A)) (fs : List (MadeFrame A)) → take (w + 1) F ≡ asked_fields ps → AreOnTime fs →
+    fields_to F w (map numbered_of fs) ≡ counted_fields ps fs
 fields-agree F w ps [] e t = ap reverse e ∙ reverse-reverse (map (λ p. p.field) ps)
 fields-agree F w ps (f ∷ fs) e t = by (is_none f.carries) (fields-agree F w ps fs e t.1)
   where
-    by : (b : Bool) → fields_to F w (map numbered_of fs) ≡ fields_since ps fs →
+    by : (b : Bool) → fields_to F w (map numbered_of fs) ≡ counted_fields ps fs →
         (elim (if b then Some (numbered_of f) else find (λ f. is_none f.carries) (map numbered_of fs)) as (λ o. List (Option ℕ)) [
           | None ↦ reverse (take (w + 1) F)
           | Some m ↦ reverse (drop (when m.start + 1) (take (w + 1) F))
@@ -75,7 +75,7 @@ fields-agree F w ps (f ∷ fs) e t = by (is_none f.carries) (fields-agree F w ps
         ])
     by true h =
         let on_time : when f.start ≡ f.period = t.0 in
-        ap (λ z. reverse (drop (when f.start + 1) z)) e ∙ ap (λ k. reverse (drop (k + 1) (fields_in ps))) on_time ∙
+        ap (λ z. reverse (drop (when f.start + 1) z)) e ∙ ap (λ k. reverse (drop (k + 1) (asked_fields ps))) on_time ∙
         reverse_drop (f.period + 1) (map (λ p. p.field) ps) ∙ ap (λ n. take (n - (f.period + 1)) (map (λ p. p.field) ps)) (length-map ps (λ p. p.field))
     by false h = h
 
@@ -87,7 +87,7 @@ record Latest {A : Type 0} (ps : List (Period A)) (s : ℕ) : Type 0 where
   to : ℕ
   earlier : List Bridge
   is : bridges_in ps ≡ (let b : Bridge = record { from = s; to = to } in b) ∷ earlier
-  at : (h : ℕ) → s ≤ h → bridged_at h ps ≡ nat_lt h to
+  at : (h : ℕ) → s ≤ h → hands_at h ps ≡ nat_lt h to
   goes_on : in_bridge ps ≡ true → to ≡ length ps
   within : to ≤ length ps
 
@@ -220,7 +220,7 @@ grown-more p past fs s =
     (λ y. made_from-more (next_frame p past fs) fs s) (λ n. omega arith)
 
 -- all are, where no handed frame is due
-all_used : {A : Type 0} (ps : List (Period A)) (fs : List (MadeFrame A)) → IsHistory ps → due ps fs ≡ None → AreUsed (earlier_of (bridges_in ps)) fs → AreUsed (bridges_in ps) fs
+all_used : {A : Type 0} (ps : List (Period A)) (fs : List (MadeFrame A)) → IsHistory ps → handed_due ps fs ≡ None → AreUsed (earlier_of (bridges_in ps)) fs → AreUsed (bridges_in ps) fs
 all_used ps fs h d u = by (latest_start ps) refl
   where
     by : (o : Option ℕ) → latest_start ps ≡ o → AreUsed (bridges_in ps) fs
@@ -263,10 +263,10 @@ item_by [] w fs = None
 item_by (b ∷ bs) w fs =
     if nat_le b.from w && nat_lt (made_from b.from fs) (b.to - b.from) then Some (b.from + made_from b.from fs) else item_by bs w fs
 
-item_of-by : {A : Type 0} (bs : List Bridge) (w : ℕ) (fs : List (MadeFrame A)) → AreOnTime fs → item_of bs w (map numbered_of fs) ≡ item_by bs w fs
+item_of-by : {A : Type 0} (bs : List Bridge) (w : ℕ) (fs : List (MadeFrame A)) → AreOnTime fs → carried_item bs w (map numbered_of fs) ≡ item_by bs w fs
 item_of-by [] w fs t = refl
 item_of-by (b ∷ bs) w fs t =
-    ap (λ n. if nat_le b.from w && nat_lt n (b.to - b.from) then Some (b.from + n) else item_of bs w (map numbered_of fs)) (count_from-of b.from fs t) ∙
+    ap (λ n. if nat_le b.from w && nat_lt n (b.to - b.from) then Some (b.from + n) else carried_item bs w (map numbered_of fs)) (count_from-of b.from fs t) ∙
     ap (λ o. if nat_le b.from w && nat_lt (made_from b.from fs) (b.to - b.from) then Some (b.from + made_from b.from fs) else o) (item_of-by bs w fs t)
 
 both_true : (a b : Bool) → a ≡ true → b ≡ true → (a && b) ≡ true
@@ -303,13 +303,13 @@ none_left (b ∷ bs) w fs u = used b bs w fs u.0 ∙ none_left bs w fs u.1
 
 -- in the newest period, what is due
 item-due : {A : Type 0} (p : Period A) (past : List (Period A)) (fs : List (MadeFrame A)) → IsHistory (p ∷ past) → AreUsed (earlier_of (bridges_in (p ∷ past))) fs →
-    item_by (bridges_in (p ∷ past)) (length past) fs ≡ due (p ∷ past) fs
+    item_by (bridges_in (p ∷ past)) (length past) fs ≡ handed_due (p ∷ past) fs
 item-due p past fs h u = by (latest_start (p ∷ past)) refl
   where
-    by : (o : Option ℕ) → latest_start (p ∷ past) ≡ o → item_by (bridges_in (p ∷ past)) (length past) fs ≡ due (p ∷ past) fs
+    by : (o : Option ℕ) → latest_start (p ∷ past) ≡ o → item_by (bridges_in (p ∷ past)) (length past) fs ≡ handed_due (p ∷ past) fs
     by None e =
         ap (λ bs. item_by bs (length past) fs) (no_bridge (p ∷ past) e) ∙
-        sym (ap (λ (o : Option ℕ). elim o as (λ x. Option ℕ) [ None ↦ None | Some s ↦ if bridged_at (s + made_from s fs) (p ∷ past) then Some (s + made_from s fs) else None ]) e)
+        sym (ap (λ (o : Option ℕ). elim o as (λ x. Option ℕ) [ None ↦ None | Some s ↦ if hands_at (s + made_from s fs) (p ∷ past) then Some (s + made_from s fs) else None ]) e)
     by (Some s) e =
         let l = latest (p ∷ past) s h e in
         let below = latest_start-below (p ∷ past) s e in
@@ -394,7 +394,7 @@ item-later (q ∷ more) p past fs h few =
 
 record InStep {A : Type 0} (p : Period A) (past : List (Period A)) (s : ℕ) : Type 0 where
   few : s + made_from s (made_frames past) ≤ length past
-  item : (h : ℕ) × (due (p ∷ past) (made_frames past) ≡ Some h)
+  item : (h : ℕ) × (handed_due (p ∷ past) (made_frames past) ≡ Some h)
 
 exact_step : {A : Type 0} (p : Period A) (past : List (Period A)) (s : ℕ) → latest_start (p ∷ past) ≡ Some s → p.bridged ≡ true → s + made_from s (made_frames past) ≡ length past → InStep p past s
 exact_step p past s e b i = record {
@@ -440,7 +440,7 @@ same_frame : (a b : ℕ) (i j : Option ℕ) (x y : List (Option ℕ)) → a ≡ 
 same_frame a b i j x y p q r = ap (λ a. frame_with a i x) p ∙ ap (λ i. frame_with b i x) q ∙ ap (λ x. frame_with b j x) r
 
 abbrev IsNumbered : {A : Type 0} → List (Period A) → List (MadeFrame A) → Type 0
-IsNumbered ps fs = map numbered_of fs ≡ numbered (bridges_in ps) (fields_in ps) (length fs)
+IsNumbered ps fs = map numbered_of fs ≡ numbered_frames (bridges_in ps) (asked_fields ps) (length fs)
 
 -- what is known before a try to make a frame in period p
 record MayGrow {A : Type 0} (p : Period A) (past : List (Period A)) (fs : List (MadeFrame A)) : Type 0 where
@@ -450,22 +450,22 @@ record MayGrow {A : Type 0} (p : Period A) (past : List (Period A)) (fs : List (
   few : (s : ℕ) → latest_start (p ∷ past) ≡ Some s → p.bridged ≡ true → next_start fs ≤ 160 * length past → s + made_from s fs ≤ length past
 
 next-numbered : {A : Type 0} (more : List (Period A)) (p : Period A) (past : List (Period A)) (fs : List (MadeFrame A)) → IsHistory (more ++ p ∷ past) → MayGrow p past fs →
-    next_start fs ≤ 160 * length past → numbered_of (next_frame p past fs) ≡ numbered_next (bridges_in (more ++ p ∷ past)) (fields_in (more ++ p ∷ past)) (map numbered_of fs)
+    next_start fs ≤ 160 * length past → numbered_of (next_frame p past fs) ≡ numbered_next (bridges_in (more ++ p ∷ past)) (asked_fields (more ++ p ∷ past)) (map numbered_of fs)
 next-numbered more p past fs h m up =
     let low = m.low in
     let w = length past in
     let bridges = bridges_in (more ++ p ∷ past) in
-    let fields = fields_in (more ++ p ∷ past) in
+    let fields = asked_fields (more ++ p ∷ past) in
     let start = numbered_start-of fs in
     let period : when (numbered_start (map numbered_of fs)) ≡ length past = ap when start ∙ omega arith in
     let one_more : length past + 1 ≡ length (p ∷ past) = omega arith in
-    let item : item_of bridges (when (numbered_start (map numbered_of fs))) (map numbered_of fs) ≡ due (p ∷ past) fs =
-    ap (λ k. item_of bridges k (map numbered_of fs)) period ∙ item_of-by bridges w fs m.on_time ∙
+    let item : carried_item bridges (when (numbered_start (map numbered_of fs))) (map numbered_of fs) ≡ handed_due (p ∷ past) fs =
+    ap (λ k. carried_item bridges k (map numbered_of fs)) period ∙ item_of-by bridges w fs m.on_time ∙
     item-later more p past fs h (λ s e b. m.few s e b up) ∙ item-due p past fs (so_far more (p ∷ past) h) m.spent in
-    let asked : fields_to fields (when (numbered_start (map numbered_of fs))) (map numbered_of fs) ≡ fields_since (p ∷ past) fs =
+    let asked : fields_to fields (when (numbered_start (map numbered_of fs))) (map numbered_of fs) ≡ counted_fields (p ∷ past) fs =
     ap (λ k. fields_to fields k (map numbered_of fs)) period ∙
     fields-agree fields w (p ∷ past) fs (ap (λ n. take n fields) one_more ∙ fields_so_far more (p ∷ past)) m.on_time in
-    same_frame (next_start fs) _ (due (p ∷ past) fs) _ (fields_since (p ∷ past) fs) _ (sym start) (sym item) (sym asked)
+    same_frame (next_start fs) _ (handed_due (p ∷ past) fs) _ (counted_fields (p ∷ past) fs) _ (sym start) (sym item) (sym asked)
 
 grown-numbered : {A : Type 0} (more : List (Period A)) (p : Period A) (past : List (Period A)) (fs : List (MadeFrame A)) → IsHistory (more ++ p ∷ past) → MayGrow p past fs →
     IsNumbered (more ++ p ∷ past) fs → IsNumbered (more ++ p ∷ past) (grown p past fs)
@@ -473,7 +473,7 @@ grown-numbered more p past fs h m so =
     cond_both (nat_le (next_start fs) (160 * length past)) (next_frame p past fs ∷ fs) fs (IsNumbered (more ++ p ∷ past))
     (λ yes.
     ap (λ f. f ∷ map numbered_of fs) (next-numbered more p past fs h m (leb-true (next_start fs) (160 * length past) yes)) ∙
-    ap (λ before. numbered_next (bridges_in (more ++ p ∷ past)) (fields_in (more ++ p ∷ past)) before ∷ before) so)
+    ap (λ before. numbered_next (bridges_in (more ++ p ∷ past)) (asked_fields (more ++ p ∷ past)) before ∷ before) so)
     (λ no. so)
 
 first_try : {A : Type 0} (p : Period A) (past : List (Period A)) → IsHistory (p ∷ past) → MayGrow p past (made_frames past)
@@ -521,5 +521,5 @@ so_numbered more (p ∷ past) h =
 
 -- the frames made in the periods of a history are the first ones by number
 pub made-numbered : {A : Type 0} (ps : List (Period A)) → IsHistory ps →
-    map numbered_of (made_frames ps) ≡ numbered (bridges_in ps) (fields_in ps) (length (made_frames ps))
+    map numbered_of (made_frames ps) ≡ numbered_frames (bridges_in ps) (asked_fields ps) (length (made_frames ps))
 made-numbered ps h = so_numbered [] ps h

@@ -3,10 +3,10 @@ use Rattle.std.proofs.Common.{◌≡◌, refl, ℕ, ◌+◌, ◌*◌, ◌/◌, �
 use Rattle.std.proofs.lemmas.Bool.{leb-true, leb-false, cond_both}
 use Rattle.time_align.specs.Shift.{latest_shift, IsShift}
 use Rattle.time_align.proofs.Shifts.{IsShift-latest_shift}
-use Rattle.down_framer.specs.Made.{Period, MadeFrame, octets_of, next_start, due, fields_since, shift_due, next_frame, grown, made_frames}
+use Rattle.down_framer.specs.Made.{Period, MadeFrame, octets_to_next, next_start, handed_due, counted_fields, shift_due, next_frame, grown, made_frames}
 
 -- how many octets a shift takes
-pub octets_of-bounds : (shift : ℤ) → IsShift shift → (158 ≤ octets_of shift) × (octets_of shift ≤ 316)
+pub octets_of-bounds : (shift : ℤ) → IsShift shift → (158 ≤ octets_to_next shift) × (octets_to_next shift ≤ 316)
 octets_of-bounds (pos v) s = (omega arith, omega arith)
 octets_of-bounds (negsuc v) s = (omega arith, omega arith)
 
@@ -15,7 +15,7 @@ none_or None v a = a
 none_or (Some h) v a = omega arith
 
 pub IsShift-shift_due : {A : Type 0} (ps : List (Period A)) (fs : List (MadeFrame A)) → IsShift (shift_due ps fs)
-IsShift-shift_due ps fs = none_or (due ps fs) (latest_shift (fields_since ps fs)) (IsShift-latest_shift (fields_since ps fs))
+IsShift-shift_due ps fs = none_or (handed_due ps fs) (latest_shift (counted_fields ps fs)) (IsShift-latest_shift (counted_fields ps fs))
 
 -- ---- no frame is left
 

@@ -3,22 +3,22 @@ use Rattle.std.proofs.Common.{◌≡◌, refl, sym, ap, ◌∙◌, subst, ℕ, �
 use Rattle.std.specs.Prelude.{◌==◌}
 use Rattle.std.proofs.lemmas.Bool.{cases_lt, lt-leb, le-leb, eq-eqb, ne_eqb, cases_Bool, cond_both, cond-true, cond-false}
 use Rattle.time_align.specs.Shift.{latest_shift}
-use Rattle.down_framer.specs.Made.{fields_since, Period, MadeFrame, octets_of, next_start, latest_start, bridged_at, made_from, due, next_frame, grown, made_frames}
+use Rattle.down_framer.specs.Made.{counted_fields, Period, MadeFrame, octets_to_next, next_start, latest_start, hands_at, made_from, handed_due, next_frame, grown, made_frames}
 use Rattle.down_framer.specs.Bridges.{in_bridge, IsHistory}
 use Rattle.down_framer.proofs.Timing.{AreMade, AreMade-made_frames}
 
 -- ---- which periods lie in a bridge
 
-pub bridged_at-late : {A : Type 0} (ps : List (Period A)) (h : ℕ) → length ps ≤ h → bridged_at h ps ≡ false
+pub bridged_at-late : {A : Type 0} (ps : List (Period A)) (h : ℕ) → length ps ≤ h → hands_at h ps ≡ false
 bridged_at-late [] h l = refl
 bridged_at-late (p ∷ past) h l =
-    cond-false (h == length past) p.bridged (bridged_at h past) (ne_eqb h (length past) (omega arith)) ∙ bridged_at-late past h (omega arith)
+    cond-false (h == length past) p.bridged (hands_at h past) (ne_eqb h (length past) (omega arith)) ∙ bridged_at-late past h (omega arith)
 
-pub bridged_at-new : {A : Type 0} (p : Period A) (past : List (Period A)) (h : ℕ) → h ≡ length past → bridged_at h (p ∷ past) ≡ p.bridged
-bridged_at-new p past h e = cond-true (h == length past) p.bridged (bridged_at h past) (eq-eqb h (length past) e)
+pub bridged_at-new : {A : Type 0} (p : Period A) (past : List (Period A)) (h : ℕ) → h ≡ length past → hands_at h (p ∷ past) ≡ p.bridged
+bridged_at-new p past h e = cond-true (h == length past) p.bridged (hands_at h past) (eq-eqb h (length past) e)
 
-pub bridged_at-old : {A : Type 0} (p : Period A) (past : List (Period A)) (h : ℕ) → h < length past → bridged_at h (p ∷ past) ≡ bridged_at h past
-bridged_at-old p past h l = cond-false (h == length past) p.bridged (bridged_at h past) (ne_eqb h (length past) (omega arith))
+pub bridged_at-old : {A : Type 0} (p : Period A) (past : List (Period A)) (h : ℕ) → h < length past → hands_at h (p ∷ past) ≡ hands_at h past
+bridged_at-old p past h l = cond-false (h == length past) p.bridged (hands_at h past) (ne_eqb h (length past) (omega arith))
 
 -- ---- how many frames were made since
 
@@ -39,22 +39,22 @@ one_made p past fs l = cond-true (nat_le (next_start fs) (160 * length past)) (n
 pub zero_if : (o : Option ℕ) (v : ℤ) (h : ℕ) → o ≡ Some h → (elim o [ None ↦ v | Some h ↦ pos 0 ]) ≡ pos 0
 zero_if o v h e = ap (λ (o : Option ℕ). elim o as (λ x. ℤ) [ None ↦ v | Some h ↦ pos 0 ]) e
 
-pub no_shift : {A : Type 0} (p : Period A) (past : List (Period A)) (fs : List (MadeFrame A)) (h : ℕ) → due (p ∷ past) fs ≡ Some h → next_start (next_frame p past fs ∷ fs) ≡ next_start fs + 160
-no_shift p past fs h e = ap (λ v. next_start fs + octets_of v) (zero_if (due (p ∷ past) fs) (latest_shift (fields_since (p ∷ past) fs)) h e)
+pub no_shift : {A : Type 0} (p : Period A) (past : List (Period A)) (fs : List (MadeFrame A)) (h : ℕ) → handed_due (p ∷ past) fs ≡ Some h → next_start (next_frame p past fs ∷ fs) ≡ next_start fs + 160
+no_shift p past fs h e = ap (λ v. next_start fs + octets_to_next v) (zero_if (handed_due (p ∷ past) fs) (latest_shift (counted_fields (p ∷ past) fs)) h e)
 
 -- the handed frame that is due, by the latest start
 due_by : {A : Type 0} (ps : List (Period A)) (fs : List (MadeFrame A)) (s : ℕ) → latest_start ps ≡ Some s →
-    due ps fs ≡ (if bridged_at (s + made_from s fs) ps then Some (s + made_from s fs) else None)
-due_by ps fs s e = ap (λ (o : Option ℕ). elim o as (λ x. Option ℕ) [ None ↦ None | Some s ↦ if bridged_at (s + made_from s fs) ps then Some (s + made_from s fs) else None ]) e
+    handed_due ps fs ≡ (if hands_at (s + made_from s fs) ps then Some (s + made_from s fs) else None)
+due_by ps fs s e = ap (λ (o : Option ℕ). elim o as (λ x. Option ℕ) [ None ↦ None | Some s ↦ if hands_at (s + made_from s fs) ps then Some (s + made_from s fs) else None ]) e
 
-pub due-some : {A : Type 0} (ps : List (Period A)) (fs : List (MadeFrame A)) (s : ℕ) → latest_start ps ≡ Some s → bridged_at (s + made_from s fs) ps ≡ true → due ps fs ≡ Some (s + made_from s fs)
-due-some ps fs s e b = due_by ps fs s e ∙ cond-true (bridged_at (s + made_from s fs) ps) (Some (s + made_from s fs)) None b
+pub due-some : {A : Type 0} (ps : List (Period A)) (fs : List (MadeFrame A)) (s : ℕ) → latest_start ps ≡ Some s → hands_at (s + made_from s fs) ps ≡ true → handed_due ps fs ≡ Some (s + made_from s fs)
+due-some ps fs s e b = due_by ps fs s e ∙ cond-true (hands_at (s + made_from s fs) ps) (Some (s + made_from s fs)) None b
 
-pub due-none : {A : Type 0} (ps : List (Period A)) (fs : List (MadeFrame A)) (s : ℕ) → latest_start ps ≡ Some s → bridged_at (s + made_from s fs) ps ≡ false → due ps fs ≡ None
-due-none ps fs s e b = due_by ps fs s e ∙ cond-false (bridged_at (s + made_from s fs) ps) (Some (s + made_from s fs)) None b
+pub due-none : {A : Type 0} (ps : List (Period A)) (fs : List (MadeFrame A)) (s : ℕ) → latest_start ps ≡ Some s → hands_at (s + made_from s fs) ps ≡ false → handed_due ps fs ≡ None
+due-none ps fs s e b = due_by ps fs s e ∙ cond-false (hands_at (s + made_from s fs) ps) (Some (s + made_from s fs)) None b
 
 -- a period whose first frame carries makes just this one
-carries_one : {A : Type 0} (p : Period A) (past : List (Period A)) (fs : List (MadeFrame A)) (h : ℕ) → due (p ∷ past) fs ≡ Some h →
+carries_one : {A : Type 0} (p : Period A) (past : List (Period A)) (fs : List (MadeFrame A)) (h : ℕ) → handed_due (p ∷ past) fs ≡ Some h →
     next_start fs ≤ 160 * length past → 160 * length past < next_start fs + 160 → grown p past (grown p past fs) ≡ next_frame p past fs ∷ fs
 carries_one p past fs h e up low =
     let n = no_shift p past fs h e in
@@ -67,13 +67,13 @@ makes_none p past fs l = ap (grown p past) (none_made p past fs l) ∙ none_made
 
 -- no frame waits, and within the bridge none has been late
 pub record Level {A : Type 0} (s : ℕ) (ps : List (Period A)) (fs : List (MadeFrame A)) : Type 0 where
-  pub over : (h : ℕ) → s + made_from s fs ≤ h → bridged_at h ps ≡ false
+  pub over : (h : ℕ) → s + made_from s fs ≤ h → hands_at h ps ≡ false
   pub exact : in_bridge ps ≡ true → s + made_from s fs ≡ length ps
   pub soon : in_bridge ps ≡ true → next_start fs ≤ 160 * length ps
 
 -- the newest period's frame waits, since octets were to be skipped
 pub record Behind {A : Type 0} (s : ℕ) (ps : List (Period A)) (fs : List (MadeFrame A)) : Type 0 where
-  pub waits : bridged_at (s + made_from s fs) ps ≡ true
+  pub waits : hands_at (s + made_from s fs) ps ≡ true
   pub newest : s + made_from s fs + 1 ≡ length ps
   pub low : 160 * length ps < next_start fs + 160
   pub high : next_start fs + 4 ≤ 160 * length ps
@@ -82,7 +82,7 @@ abbrev pub Phase : {A : Type 0} → ℕ → List (Period A) → List (MadeFrame 
 Phase s ps fs = Level s ps fs ⊎ Behind s ps fs
 
 -- how a waiting frame shows
-pub waits_one : {A : Type 0} (ps : List (Period A)) (fs : List (MadeFrame A)) (s h : ℕ) → latest_start ps ≡ Some s → Phase s ps fs → due ps fs ≡ Some h → h + 1 ≡ length ps
+pub waits_one : {A : Type 0} (ps : List (Period A)) (fs : List (MadeFrame A)) (s h : ℕ) → latest_start ps ≡ Some s → Phase s ps fs → handed_due ps fs ≡ Some h → h + 1 ≡ length ps
 waits_one ps fs s h e (inl l) d = let n = due-none ps fs s e (l.over (s + made_from s fs) (omega arith)) in cc
 waits_one ps fs s h e (inr b) d = let n = due-some ps fs s e b.waits in some_same (s + made_from s fs) h (sym n ∙ d) b.newest
   where
@@ -116,7 +116,7 @@ latest_start-below (p ∷ past) s e = go p.starts (latest_start past) (latest_st
     go false o h e = let q = h e in omega arith
 
 -- a period outside of a bridge
-pub outside : {A : Type 0} (p : Period A) (past : List (Period A)) (h : ℕ) → p.bridged ≡ false → length past ≤ h → bridged_at h (p ∷ past) ≡ false
+pub outside : {A : Type 0} (p : Period A) (past : List (Period A)) (h : ℕ) → p.bridged ≡ false → length past ≤ h → hands_at h (p ∷ past) ≡ false
 outside p past h b l = elim (cases_lt (length past) h) [
   | inl later ↦ bridged_at-late (p ∷ past) h later
   | inr here ↦ bridged_at-new p past h (omega arith) ∙ b
@@ -166,7 +166,7 @@ one_behind p past fs s e w =
 
 -- outside of a bridge with nothing waiting
 over_now : {A : Type 0} (p : Period A) (past : List (Period A)) (fs : List (MadeFrame A)) (s : ℕ) → p.bridged ≡ false → s ≤ length past →
-    ((h : ℕ) → s + made_from s fs ≤ h → h < length past → bridged_at h past ≡ false) → Phase s (p ∷ past) (grown p past (grown p past fs))
+    ((h : ℕ) → s + made_from s fs ≤ h → h < length past → hands_at h past ≡ false) → Phase s (p ∷ past) (grown p past (grown p past fs))
 over_now p past fs s b l o =
     let m = made-later p past fs s l in
     inl (record {
@@ -213,17 +213,17 @@ phase (p ∷ past) s h e = elim (cases_Bool p.starts) [
 ]
 
 -- at most one handed frame waits between periods: that of the newest period
-pub one_waits : {A : Type 0} (ps : List (Period A)) (s h : ℕ) → IsHistory ps → latest_start ps ≡ Some s → due ps (made_frames ps) ≡ Some h → h + 1 ≡ length ps
+pub one_waits : {A : Type 0} (ps : List (Period A)) (s h : ℕ) → IsHistory ps → latest_start ps ≡ Some s → handed_due ps (made_frames ps) ≡ Some h → h + 1 ≡ length ps
 one_waits ps s h k e d = waits_one ps (made_frames ps) s h e (phase ps s k e) d
 
 -- once a period lies outside of the bridge, no frame waits: a bridge may start anew
-newest_out : {A : Type 0} (ps : List (Period A)) (h : ℕ) → in_bridge ps ≡ false → h + 1 ≡ length ps → bridged_at h ps ≡ false
+newest_out : {A : Type 0} (ps : List (Period A)) (h : ℕ) → in_bridge ps ≡ false → h + 1 ≡ length ps → hands_at h ps ≡ false
 newest_out [] h b l = refl
 newest_out (p ∷ past) h b l = bridged_at-new p past h (omega arith) ∙ b
 
-drained_in : {A : Type 0} (ps : List (Period A)) (fs : List (MadeFrame A)) (s : ℕ) → latest_start ps ≡ Some s → in_bridge ps ≡ false → Phase s ps fs → due ps fs ≡ None
+drained_in : {A : Type 0} (ps : List (Period A)) (fs : List (MadeFrame A)) (s : ℕ) → latest_start ps ≡ Some s → in_bridge ps ≡ false → Phase s ps fs → handed_due ps fs ≡ None
 drained_in ps fs s e b (inl l) = due-none ps fs s e (l.over (s + made_from s fs) (omega arith))
 drained_in ps fs s e b (inr w) = due-none ps fs s e (newest_out ps (s + made_from s fs) b w.newest)
 
-pub drained : {A : Type 0} (ps : List (Period A)) (s : ℕ) → IsHistory ps → latest_start ps ≡ Some s → in_bridge ps ≡ false → due ps (made_frames ps) ≡ None
+pub drained : {A : Type 0} (ps : List (Period A)) (s : ℕ) → IsHistory ps → latest_start ps ≡ Some s → in_bridge ps ≡ false → handed_due ps (made_frames ps) ≡ None
 drained ps s h e b = drained_in ps (made_frames ps) s e b (phase ps s h e)

@@ -12,7 +12,7 @@ use Rattle.trau_io.specs.declared.line.Side.TheVariants.{Up, Pcm, Down, Out}
 use Rattle.trau_io.specs.Lines.{LineState}
 use Rattle.round_lines.specs.Transfer.{has_failed}
 use Rattle.round_lines.specs.Seats as seats
-use Rattle.round_lines.specs.Seats.{SeatMemory, down_given}
+use Rattle.round_lines.specs.Seats.{down_given}
 use Rattle.round_lines.specs.Rounds.{seat_at, call_at}
 use Rattle.switchboard.specs.Calls.{Done, opened_at, closed_at, is_open, gone_at}
 use Rattle.switchboard.specs.Ends.{Given, lack_of, end_of, start_of}
@@ -31,24 +31,25 @@ use Rattle.farm_rounds.specs.Histories.{CallHistory, whose, CallStands, GroupsSt
 use Rattle.farm_rounds.specs.Rounds.{octets_of, seat_with}
 use Rattle.farm_rounds.specs.Working.{goes_on_call}
 use Rattle.farm_rounds.specs.RoundHistories.{history_with, worked_histories, those_that}
-use Rattle.run_spec.specs.Run.{Run, given_in, whole_in, done_in, periods_to, end_in, who_in, law_in}
+use Rattle.run_spec.specs.Run.{Run, given_in, whole_in, done_in, periods_to, end_in, who_in, law_in, IsOpened, cause_in, worked_to}
 use Rattle.run_spec.specs.Now.{IsSoFar, settings_now}
 use Rattle.run_spec.specs.Lines.{out_line, down_octets}
 use Rattle.run_spec.proofs.SoFar.{standing_now}
 use Rattle.farm_run.specs.Going.{places_in, ends_within, told_after, is_told}
 use Rattle.farm_run.proofs.RoundTaken.{IsRound}
-use Rattle.farm_run.specs.Runs.{IsOpened, IsWritten, IsCutOff, cause_in, is_listed}
+use Rattle.farm_run.specs.Runs.{IsWritten, IsCutOff, is_listed}
 use Rattle.farm_run.specs.Match.{AtClock, Matches, past_if, histories_at}
 use Rattle.farm_run.specs.Standing.{Standing, standing, KnowsListed, MeetsRun, IsToCome, never_given}
-use Rattle.farm_run.specs.Clock.{worked_to, IsReadWhole, LinesAt, WrittenFrom, IsAtClock}
+use Rattle.farm_run.specs.Clock.{IsReadWhole, LinesAt, WrittenFrom, IsAtClock}
 use Rattle.farm_run.proofs.Rounds.{open_at, open_after, shut_after}
 use Rattle.farm_run.proofs.RoundEnds.{end_within, start_kept}
 use Rattle.farm_run.proofs.Told.{told_done, told_left, round_over, gone_round}
 use Rattle.farm_run.proofs.SeatEnds.{each_end, told_seats}
-use Rattle.farm_run.proofs.Worked.{out_written, down_written, length-periods_to}
+use Rattle.farm_run.proofs.Worked.{out_written, down_written}
 use Rattle.farm_run.proofs.Reach.{end_after, worked_now, worked_then, worked_idle}
 use Rattle.farm_run.proofs.WorkedRound.{WorkedRound, lines_kept, down_between, out_between}
-use Rattle.farm_run.proofs.Gaining.{gains, length-out_line, length-down_octets}
+use Rattle.farm_run.proofs.Gaining.{gains}
+use Rattle.run_spec.proofs.LongerLines.{length-out_line, length-down_octets, length-periods_to}
 use Rattle.farm_run.proofs.RoundListed.{listed_kept, was_down, was_out, stands_down, stands_out}
 use Rattle.farm_run.proofs.RoundCalls.{OpenSeat, open_seat, open_is, opened_is, all_seats, all_have_seats, ends_filled, goes_on_is}
 use Rattle.farm_run.proofs.RoundPast.{IsPast, worked_past}

@@ -16,6 +16,7 @@ pub record MapRun (f : ℤ → ℤ) (s x : List ℤ) (k : ℕ) : Type 0 where
   pub count : length x ≡ length s
   pub done : take k x ++ map f (drop k s) ≡ map f s
 
+-- one item more
 pub map_next : (f : ℤ → ℤ) (s x : List ℤ) (k : ℕ) (y : ℤ) → k < length s → MapRun f s x k → y ≡ f (get_or s k (pos 0)) → MapRun f s (set x k y) (k + 1)
 map_next f s x k y h run e =
     let count = run.count in

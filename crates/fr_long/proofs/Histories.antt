@@ -7,7 +7,9 @@ use Rattle.std.proofs.lemmas.Grind.{common_steps}
 use Rattle.trau_num.specs.Num.{add_of, mult_r_of}
 use Rattle.fr_long.specs.Gain.{gain_of}
 use Rattle.fr_long.specs.Synthesis.{LtpBlock, is_lag, lag_in_force, sample_before, residual_after, residuals_of, residual_of}
-use Rattle.fr_long.specs.Memory.{LtpMemory, synthesised, last_120, Stands}
+use Rattle.fr_long.specs.Memory.{LtpMemory}
+use Rattle.fr_long.specs.Step.{synthesised}
+use Rattle.fr_long.specs.Stands.{last_120, Stands}
 
 -- a lag in force lies within the last 120
 pub lag_in_force-le : (past : List LtpBlock) → lag_in_force past ≤ 120

@@ -114,7 +114,8 @@ pub tops_next : (c tops : List ℤ) (group : ℕ) → length c ≡ 81 → ((k : 
 tops_next c tops group l longs h =
     let room : start_of group + 8 ≤ length c = omega arith in
     let long = length-chunk (start_of group) 8 c room in
-    let row : Each1 (FitsSigned w32) (chunk (start_of group) 8 c) = Each1-chunk (FitsSigned w32) (start_of group) 8 c (Each1-from_get_or (FitsSigned w32) c (pos 0) (λ k b. longs k)) in
+    let row : Each1 (FitsSigned w32) (chunk (start_of group) 8 c) =
+    Each1-chunk (FitsSigned w32) (start_of group) 8 c (Each1-from_get_or (FitsSigned w32) c (pos 0) (λ k b. longs k)) in
     record {
       eight = length-zip2 int_max tops (chunk (start_of group) 8 c) (h.eight ∙ sym long) ∙ h.eight;
       longs = max_all_fit tops (chunk (start_of group) 8 c) h.longs row;
@@ -149,7 +150,8 @@ pub record IsTopLane (c tops : List ℤ) (top : ℤ) (lane : ℕ) : Type 0 where
   pub bound : (j : ℕ) → j < lane → entry tops j ≤ℤ top
   pub reached : Reached c top
 
-pub lane_next : (c tops : List ℤ) (best : ℤ) (lane group : ℕ) (next : ℤ) → lane < 8 → AreTops c tops group → IsTopLane c tops best lane → next ≡ int_max best (entry tops lane) →
+pub lane_next : (c tops : List ℤ) (best : ℤ) (lane group : ℕ) (next : ℤ) → lane < 8 → AreTops c tops group → IsTopLane c tops best lane →
+    next ≡ int_max best (entry tops lane) →
     IsTopLane c tops next (lane + 1)
 lane_next c tops best lane group next l h t e =
     let both = max_bounds best (entry tops lane) in
@@ -185,7 +187,8 @@ top_is c tops best lane group l m h t = record { not_negative = t.not_negative; 
 
 -- ---- what is filled stays in range
 
-pub set_fits : (xs : List ℤ) (i : ℕ) (x : ℤ) → i < length xs → FitsSigned w32 x → ((k : ℕ) → FitsSigned w32 (get_or xs k (pos 0))) → (k : ℕ) → FitsSigned w32 (get_or (set xs i x) k (pos 0))
+pub set_fits : (xs : List ℤ) (i : ℕ) (x : ℤ) → i < length xs → FitsSigned w32 x → ((k : ℕ) → FitsSigned w32 (get_or xs k (pos 0))) → (k : ℕ) →
+    FitsSigned w32 (get_or (set xs i x) k (pos 0))
 set_fits xs i x l f h k = elim (cases_eq k i) [
   | inl e ↦ subst (λ j. FitsSigned w32 (get_or (set xs i x) j (pos 0))) (sym e) (subst (FitsSigned w32) (sym (get_or-set_same xs i x (pos 0) l)) f)
   | inr n ↦ subst (FitsSigned w32) (sym (get_or-set_other xs i k x (pos 0) n)) (h k)

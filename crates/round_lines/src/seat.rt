@@ -73,6 +73,20 @@ impl Seat {
         self.place
     }
 
+    /// What goes out on Down: the octets of the whole periods that came in.
+    pub fn down(&self) -> &[u8]
+        ensures { result.now ≡ down_of self.now }
+    {
+        &self.buffers.down[..40 * self.place.whole() as usize]
+    }
+
+    /// What goes out on Out: the octets of the whole periods that came in.
+    pub fn out(&self) -> &[u8]
+        ensures { result.now ≡ out_of self.now }
+    {
+        &self.buffers.out[..160 * self.place.whole() as usize]
+    }
+
     /// Takes the seat apart, so that the call's work has the buffers.
     pub fn into_parts(self) -> (Place, Buffers)
         ensures place { result.0 ≡ self.place }

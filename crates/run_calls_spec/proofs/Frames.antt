@@ -32,13 +32,14 @@ use Rattle.switchboard.specs.declared.act.Span as board
 use Rattle.switchboard.specs.Calls.{opened_at}
 use Rattle.call_leg.specs.Uplink.{Framed, sighting_in, heard_as, handed_fields}
 use Rattle.call_leg.specs.Periods.{effective_now}
-use Rattle.call_spec.specs.Call.{yield_at, effective}
-use Rattle.call_spec.specs.History.{IsCallHistory, call_of}
+use Rattle.call_spec.specs.Call.{yield_at, effective_frame}
+use Rattle.call_spec.specs.History.{IsCallHistory, call_of_history}
 use Rattle.call_spec.proofs.Ranges.{IsPeriod}
 use Rattle.call_spec.proofs.Reading.{LooksBack, yield-period, effective-period}
 use Rattle.call_spec.proofs.Whole.{history-whole, call-whole}
 use Rattle.run_spec.specs.Run.{who_in, Run, done_in, start_in, end_in, partner_in, up_in, ups_to, item_of, heard_by, period_of, periods_to, periods_in}
 use Rattle.run_spec.proofs.Going.{ups_periods, item_ups}
+use Rattle.run_spec.proofs.LongerLines.{length-periods_to}
 use Rattle.run_calls_spec.specs.Whole.{count_in, whole_call, IsBridged, item_for, yield_on, frame_on}
 use Rattle.run_calls_spec.proofs.Periods.{is_whole, history_same}
 use Rattle.run_calls_spec.proofs.Items.{bridged_lies, partner_bridged, both_have, counted, item_found}
@@ -51,10 +52,6 @@ record HasPeriod (r : Run) (c k : ℕ) : Type 0 where
   known : is_some (opened_at c (done_in r)) ≡ true
   within : k < count_in r c
 
-length-periods_to : (r : Run) (c n : ℕ) → length (periods_to r c n) ≡ n
-length-periods_to r c zero = refl
-length-periods_to r c (suc n) = ap suc (length-periods_to r c n)
-
 period_among : (r : Run) (c k n : ℕ) → k < n → IsPeriod (periods_to r c n) (period_of r c k) (periods_to r c k)
 period_among r c k zero l = absurd (omega arith)
 period_among r c k (suc n) l = elim (cases_lt k n) [
@@ -65,12 +62,12 @@ period_among r c k (suc n) l = elim (cases_lt k n) [
 as_history : (r : Run) (c k : ℕ) → HasPeriod r c k → IsCallHistory (periods_in r c)
 as_history r c k h = subst IsCallHistory (history_same r c h.orders) (history-whole (whole_call r c) (is_whole r c h.orders h.known))
 
-as_call : (r : Run) (c k : ℕ) → HasPeriod r c k → whole_call r c ≡ call_of (who_in r c) (periods_in r c)
-as_call r c k h = sym (call-whole (whole_call r c) (is_whole r c h.orders h.known)) ∙ ap (call_of (who_in r c)) (history_same r c h.orders)
+as_call : (r : Run) (c k : ℕ) → HasPeriod r c k → whole_call r c ≡ call_of_history (who_in r c) (periods_in r c)
+as_call r c k h = sym (call-whole (whole_call r c) (is_whole r c h.orders h.known)) ∙ ap (call_of_history (who_in r c)) (history_same r c h.orders)
 
-frame_known : LooksBack → (r : Run) (c k : ℕ) → HasPeriod r c k → effective (whole_call r c) k ≡ effective_now c (periods_to r c (suc k))
+frame_known : LooksBack → (r : Run) (c k : ℕ) → HasPeriod r c k → effective_frame (whole_call r c) k ≡ effective_now c (periods_to r c (suc k))
 frame_known look r c k h =
-    ap (λ n. effective (whole_call r c) n) (sym (length-periods_to r c k)) ∙ ap (λ call. effective call (length (periods_to r c k))) (as_call r c k h)
+    ap (λ n. effective_frame (whole_call r c) n) (sym (length-periods_to r c k)) ∙ ap (λ call. effective_frame call (length (periods_to r c k))) (as_call r c k h)
     ∙ effective-period look (who_in r c) (periods_in r c) (period_of r c k) (periods_to r c k) (as_history r c k h) (period_among r c k (count_in r c) h.within)
 
 yield_known : (r : Run) (c k : ℕ) → HasPeriod r c k → yield_at (whole_call r c) k ≡ yield_of (up_in r c k) (ups_to r c k)

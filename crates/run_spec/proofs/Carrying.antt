@@ -3,7 +3,7 @@ use Rattle.std.proofs.Common.{◌≡◌, refl, sym, ap, ◌∙◌, subst, ℕ, s
 use Rattle.std.specs.Prelude.{◌&&◌, is_some, filter, nat_le, nat_lt, ◌==◌, if◌then◌else◌}
 use Rattle.std.specs.List.{AllByRecursion}
 use Rattle.std.proofs.lemmas.Bool.{leb-true, ltb-true, cases_Bool, cases_lt, cases_eq, le-leb, lt-leb, lt-ltb, le-ltb, eq-eqb, ne_eqb, cond_both, and_from}
-use Rattle.down_framer.specs.Made.{Period, MadeFrame, next_start, latest_start, bridged_at, made_from, due, epoch_of, next_frame, grown, made_frames}
+use Rattle.down_framer.specs.Made.{Period, MadeFrame, next_start, latest_start, hands_at, made_from, handed_due, epoch_of, next_frame, grown, made_frames}
 use Rattle.down_framer.proofs.Waiting.{bridged_at-late, bridged_at-old, due-some, due-none, made_from-next, latest_start-below}
 use Rattle.call_leg.specs.Down.{CallFrame}
 use Rattle.call_leg.specs.Places.{carried}
@@ -16,7 +16,7 @@ no t p q = cc
 -- a frame carries what was handed over in a bridge: where that is the latest one, from its start on, else before
 pub record Carries {A : Type 0} (ps : List (Period A)) (epoch h : ℕ) : Type 0 where
   pub inside : h < length ps
-  pub bridged : bridged_at h ps ≡ true
+  pub bridged : hands_at h ps ≡ true
   pub start : ℕ
   pub latest : latest_start ps ≡ Some start
   pub within : epoch ≤ epoch_of ps
@@ -56,18 +56,18 @@ carries_more p past epoch h k = by p.starts refl
         }
 
 -- what is due lies in the latest bridge
-due_parts : {A : Type 0} (ps : List (Period A)) (fs : List (MadeFrame A)) (h : ℕ) → due ps fs ≡ Some h → (s : ℕ) × (latest_start ps ≡ Some s) × (s ≤ h) × (bridged_at h ps ≡ true)
+due_parts : {A : Type 0} (ps : List (Period A)) (fs : List (MadeFrame A)) (h : ℕ) → handed_due ps fs ≡ Some h → (s : ℕ) × (latest_start ps ≡ Some s) × (s ≤ h) × (hands_at h ps ≡ true)
 due_parts ps fs h e = by (latest_start ps) refl
   where
-    by : (o : Option ℕ) → latest_start ps ≡ o → (s : ℕ) × (latest_start ps ≡ Some s) × (s ≤ h) × (bridged_at h ps ≡ true)
+    by : (o : Option ℕ) → latest_start ps ≡ o → (s : ℕ) × (latest_start ps ≡ Some s) × (s ≤ h) × (hands_at h ps ≡ true)
     by None f =
-        absurd (let g : due ps fs ≡ None = ap (λ (o : Option ℕ). elim o as (λ x. Option ℕ) [ None ↦ None | Some s ↦ if bridged_at (s + made_from s fs) ps then Some (s + made_from s fs) else None ]) f in cc)
-    by (Some s) f = elim (cases_Bool (bridged_at (s + made_from s fs) ps)) [
-      | inl b ↦ let g = due-some ps fs s f b in let q : s + made_from s fs ≡ h = cc in (s, f, omega arith, ap (λ h. bridged_at h ps) (sym q) ∙ b)
+        absurd (let g : handed_due ps fs ≡ None = ap (λ (o : Option ℕ). elim o as (λ x. Option ℕ) [ None ↦ None | Some s ↦ if hands_at (s + made_from s fs) ps then Some (s + made_from s fs) else None ]) f in cc)
+    by (Some s) f = elim (cases_Bool (hands_at (s + made_from s fs) ps)) [
+      | inl b ↦ let g = due-some ps fs s f b in let q : s + made_from s fs ≡ h = cc in (s, f, omega arith, ap (λ h. hands_at h ps) (sym q) ∙ b)
       | inr b ↦ absurd (let g = due-none ps fs s f b in cc)
     ]
 
-carries_new : {A : Type 0} (p : Period A) (past : List (Period A)) (fs : List (MadeFrame A)) (h : ℕ) → due (p ∷ past) fs ≡ Some h → Carries (p ∷ past) (epoch_of (p ∷ past)) h
+carries_new : {A : Type 0} (p : Period A) (past : List (Period A)) (fs : List (MadeFrame A)) (h : ℕ) → handed_due (p ∷ past) fs ≡ Some h → Carries (p ∷ past) (epoch_of (p ∷ past)) h
 carries_new p past fs h e =
     let d = due_parts (p ∷ past) fs h e in
     record {
@@ -103,7 +103,7 @@ carried_same s e k (f ∷ fs) h = ap (λ (b : Bool). if b then suc (carried k fs
     by true q = ap suc q
     by false q = q
 
-carried_some : {A : Type 0} (ps : List (Period A)) (s e : ℕ) (epoch : ℕ) (o : Option ℕ) → latest_start ps ≡ Some s → ((h : ℕ) → s ≤ h → h < length ps → bridged_at h ps ≡ true → h < e) →
+carried_some : {A : Type 0} (ps : List (Period A)) (s e : ℕ) (epoch : ℕ) (o : Option ℕ) → latest_start ps ≡ Some s → ((h : ℕ) → s ≤ h → h < length ps → hands_at h ps ≡ true → h < e) →
     ((h : ℕ) → o ≡ Some h → Carries ps epoch h) → (is_some o && epoch == epoch_of ps) ≡ carries_in s e o
 carried_some ps s e epoch None l over k = refl
 carried_some ps s e epoch (Some h) l over k =
@@ -123,7 +123,7 @@ carried_some ps s e epoch (Some h) l over k =
     below a b l n = omega arith
 
 -- those that carry what was handed over in the latest bridge
-pub carried_latest : (ps : List (Period _)) (s e : ℕ) → latest_start ps ≡ Some s → ((h : ℕ) → s ≤ h → h < length ps → bridged_at h ps ≡ true → h < e) → carried (epoch_of ps) (made_frames ps) ≡ sent_of s e (made_frames ps)
+pub carried_latest : (ps : List (Period _)) (s e : ℕ) → latest_start ps ≡ Some s → ((h : ℕ) → s ≤ h → h < length ps → hands_at h ps ≡ true → h < e) → carried (epoch_of ps) (made_frames ps) ≡ sent_of s e (made_frames ps)
 carried_latest ps s e l over = carried_same s e (epoch_of ps) (made_frames ps)
     (each_weaker (λ f. (h : ℕ) → f.carries ≡ Some h → Carries ps f.epoch h) _ (made_frames ps) (λ f k. carried_some ps s e f.epoch f.carries l over k) (made_carried ps))
 
@@ -151,10 +151,10 @@ carried_next ps s e l =
 
 -- ---- later periods
 
-grown_sent : {A : Type 0} (p : Period A) (past : List (Period A)) (fs : List (MadeFrame A)) (s e : ℕ) → ((h : ℕ) → due (p ∷ past) fs ≡ Some h → e ≤ h) → sent_of s e (grown p past fs) ≡ sent_of s e fs
+grown_sent : {A : Type 0} (p : Period A) (past : List (Period A)) (fs : List (MadeFrame A)) (s e : ℕ) → ((h : ℕ) → handed_due (p ∷ past) fs ≡ Some h → e ≤ h) → sent_of s e (grown p past fs) ≡ sent_of s e fs
 grown_sent p past fs s e k =
     cond_both (nat_le (next_start fs) (160 * length past)) (next_frame p past fs ∷ fs) fs (λ gs. sent_of s e gs ≡ sent_of s e fs)
-    (λ y. ap (λ (b : Bool). length (if b then next_frame p past fs ∷ filter (λ f. carries_in s e f.carries) fs else filter (λ f. carries_in s e f.carries) fs)) (by (due (p ∷ past) fs) k)) (λ n. refl)
+    (λ y. ap (λ (b : Bool). length (if b then next_frame p past fs ∷ filter (λ f. carries_in s e f.carries) fs else filter (λ f. carries_in s e f.carries) fs)) (by (handed_due (p ∷ past) fs) k)) (λ n. refl)
   where
     by : (o : Option ℕ) → ((h : ℕ) → o ≡ Some h → e ≤ h) → carries_in s e o ≡ false
     by None k = refl
@@ -168,7 +168,7 @@ grown_sent p past fs s e k =
 pub sent_kept : {A : Type 0} (p : Period A) (past : List (Period A)) (s e n : ℕ) → latest_start (p ∷ past) ≡ Some n → e ≤ n → sent_of s e (made_frames (p ∷ past)) ≡ sent_of s e (made_frames past)
 sent_kept p past s e n l m = grown_sent p past (grown p past (made_frames past)) s e (λ h q. late (grown p past (made_frames past)) h q) ∙ grown_sent p past (made_frames past) s e (λ h q. late (made_frames past) h q)
   where
-    late : (fs : List (MadeFrame _)) (h : ℕ) → due (p ∷ past) fs ≡ Some h → e ≤ h
+    late : (fs : List (MadeFrame _)) (h : ℕ) → handed_due (p ∷ past) fs ≡ Some h → e ≤ h
     late fs h q = let d = due_parts (p ∷ past) fs h q in let w : d.0 ≡ n = (let a = d.1 in cc) in let b = d.2 in omega arith
 
 -- ---- each handed frame is carried once
@@ -210,8 +210,8 @@ record IsBehind {A : Type 0} (ps : List (Period A)) (fs : List (MadeFrame A)) : 
   follow : Follow fs
   behind : (s : ℕ) → latest_start ps ≡ Some s → CarryBelow (s + made_from s fs) fs
 
-due_is : {A : Type 0} (ps : List (Period A)) (fs : List (MadeFrame A)) (s h : ℕ) → latest_start ps ≡ Some s → due ps fs ≡ Some h → h ≡ s + made_from s fs
-due_is ps fs s h e d = elim (cases_Bool (bridged_at (s + made_from s fs) ps)) [
+due_is : {A : Type 0} (ps : List (Period A)) (fs : List (MadeFrame A)) (s h : ℕ) → latest_start ps ≡ Some s → handed_due ps fs ≡ Some h → h ≡ s + made_from s fs
+due_is ps fs s h e d = elim (cases_Bool (hands_at (s + made_from s fs) ps)) [
   | inl b ↦ let g = due-some ps fs s e b in cc
   | inr b ↦ absurd (let g = due-none ps fs s e b in cc)
 ]

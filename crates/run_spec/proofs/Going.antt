@@ -18,7 +18,7 @@ use Rattle.call_leg.specs.Uplink.{sighting_in, heard_as, handed_fields}
 use Rattle.call_leg.specs.Periods.{CallPeriod, ups_of, sighting_after, heard_of, effective_now}
 use Rattle.call_leg.specs.Settings.{Settings, without_bridge, period_with}
 use Rattle.call_leg.specs.Down.{down_periods, frames_of}
-use Rattle.down_framer.specs.Made.{due}
+use Rattle.down_framer.specs.Made.{handed_due}
 use Rattle.run_spec.specs.Run.{Run, given_in, periods_in, whole_in, done_in, law_in, up_in, pcm_in, ups_to, heard_by, item_of, period_of, periods_to}
 use Rattle.trau_io.specs.declared.ends.CallEnd.{CallEnd}
 use Rattle.farm_report.specs.declared.report.CallLine.{CallLine}
@@ -113,7 +113,7 @@ item_ups c ts = ap (λ hs. bits260 (handed_fields (effective_of c hs))) (heard_u
 
 -- **Where an order makes a bridge, no handed frame of its calls waits.**
 pub none_waits : (r : Run) (t : ℕ) (ds : List Done) (d : Done) (left : List Order) (a b c s : ℕ) → IsSoFar r t ds (d.order ∷ left) → d.order.stamp ≡ t → t < r.periods → IsRun (whole_in r) (ds ++ d ∷ []) →
-    d.result ≡ Ok (act.Bridged a b) → (c == a || c == b) ≡ true → opened_at c ds ≡ Some s → due (down_periods (periods_to r c (t - s))) (frames_of (periods_to r c (t - s))) ≡ None
+    d.result ≡ Ok (act.Bridged a b) → (c == a || c == b) ≡ true → opened_at c ds ≡ Some s → handed_due (down_periods (periods_to r c (t - s))) (frames_of (periods_to r c (t - s))) ≡ None
 unfolding period_of
 none_waits r t ds d left a b c s so e l run w j op =
     let begun : s ≤ t = (standing_now r t ds (d.order ∷ left) so).opened c s op in

@@ -13,12 +13,13 @@ use Rattle.switchboard.specs.Calls.{Done, opened_at, closed_at, gone_at}
 use Rattle.switchboard.specs.Bridges.{bridge_by, bridges, joins}
 use Rattle.switchboard.specs.Ends.{Given, whole_of, lack_of, start_of, ends_at, span_of}
 use Rattle.call_leg.specs.Down.{down_periods}
-use Rattle.down_framer.specs.Bridges.{IsHistory, AreApart}
+use Rattle.down_framer.specs.Bridges.{IsHistory, LeavePeriodsBetween}
 use Rattle.down_framer.proofs.FrameLaws.{apart}
 use Rattle.run_spec.specs.Run.{Run, given_in, whole_in, done_in, spans_in, is_of, span_at, handed_to, period_of, periods_to}
 use Rattle.run_spec.proofs.Lists.{each_weaker, find_none, find_map, found, none_each, any_map, none_any}
 use Rattle.run_spec.proofs.Standing.{IsSoundBridge, NeverOverlap, Standing, RisesFrom, is_before, over_by, gone_is}
-use Rattle.run_spec.proofs.Settling.{bridge_stamps, end_by, at_of, to_of, ends_by, start_is, covers}
+use Rattle.switchboard.proofs.Whole.{end_by}
+use Rattle.run_spec.proofs.Settling.{bridge_stamps, at_of, to_of, ends_by, start_is, covers}
 use Rattle.run_spec.proofs.SoFar.{run_rises, standing_end}
 
 no : (t : Bool) → t ≡ false → t ≡ true → ⊥
@@ -236,7 +237,7 @@ starts_first r c a e =
 next : (s k : ℕ) → s + suc k ≡ (s + k) + 1
 next s k = omega arith
 
-pub periods_apart : (r : Run) (c n : ℕ) → AreOrders r.orders → AreApart (down_periods (periods_to r c n))
+pub periods_apart : (r : Run) (c n : ℕ) → AreOrders r.orders → LeavePeriodsBetween (down_periods (periods_to r c n))
 unfolding period_of
 periods_apart r c zero a = tt
 periods_apart r c (suc zero) a =

@@ -9,7 +9,7 @@ use Rattle.switchboard.specs.declared.table.Bridge.{Bridge}
 use Rattle.switchboard.specs.Calls.{Done}
 use Rattle.switchboard.specs.Bridges.{bridges, joins}
 use Rattle.switchboard.specs.Ends.{start_of, span_of}
-use Rattle.down_framer.specs.Made.{latest_start, bridged_at, epoch_of}
+use Rattle.down_framer.specs.Made.{latest_start, hands_at, epoch_of}
 use Rattle.call_leg.specs.Periods.{CallPeriod, bridges_begun}
 use Rattle.call_leg.specs.Settings.{Settings, epoch_now}
 use Rattle.call_leg.specs.Down.{down_period, down_periods, frames_of}
@@ -94,7 +94,7 @@ length_periods : (r : Run) (c n : ℕ) → length (down_periods (periods_to r c 
 length_periods r c zero = refl
 length_periods r c (suc n) = ap suc (length_periods r c n)
 
-bridged_handed : (r : Run) (c h n : ℕ) → bridged_at h (down_periods (periods_to r c n)) ≡ true → is_some (handed_to r c (start_of (done_in r) c + h)) ≡ true
+bridged_handed : (r : Run) (c h n : ℕ) → hands_at h (down_periods (periods_to r c n)) ≡ true → is_some (handed_to r c (start_of (done_in r) c + h)) ≡ true
 unfolding period_of
 bridged_handed r c h zero e = cc
 bridged_handed r c h (suc n) e = elim (cases_Bool (h == length (down_periods (periods_to r c n)))) [

@@ -18,7 +18,7 @@ ghost use Rattle.switchboard.specs.Stands.{IsLatest};
 ghost use Rattle.switchboard.specs.State.{first_stamp, numbered};
 ghost use Rattle.switchboard.specs.Runs.{executed, left_of, IsRun};
 ghost use Rattle.switchboard.specs.Ends.{lack_of, end_of, start_of, spans_of};
-ghost use Rattle.down_framer.specs.Made.{due};
+ghost use Rattle.down_framer.specs.Made.{handed_due};
 ghost use Rattle.down_framer.specs.Bridges.{IsHistory};
 ghost use Rattle.call_leg.specs.Uplink.{handed_fields};
 ghost use Rattle.call_leg.specs.Periods.{CallPeriod, ups_of, effective_now};
@@ -27,7 +27,9 @@ ghost use Rattle.call_leg.specs.Down.{down_periods, frames_of};
 ghost use Rattle.call_leg.specs.Counted.{call_counts};
 ghost use Rattle.call_leg.specs.Places.{sent_now};
 ghost use Rattle.run_spec.specs.Run.{Run, given_in, whole_in, done_in, spans_in, start_in, end_in, law_in, who_in, up_in, pcm_in, ups_to, item_of, period_of, periods_to};
-ghost use Rattle.run_spec.specs.Lines.{out_line, down_octets, out_of_call, down_of_call};
+ghost use Rattle.call_leg.specs.Out.{out_line};
+ghost use Rattle.run_spec.specs.Lines.{down_octets, out_of_call, down_of_call};
+ghost use Rattle.run_spec.specs.Mark.{Joins};
 ghost use Rattle.run_spec.specs.Facts.{opened_calls, call_line, span_line, sent_by, report_of};
 ghost use Rattle.run_spec.specs.Now.{IsSoFar, NoOrderTo, has_period, bridge_now, handed_now, period_now, settings_now, settings_in, changed_by, after_periods};
 
@@ -157,7 +159,7 @@ pub fn periods_are_a_history()
     ensures history { (r : Run) (c n : ℕ) → AreOrders r.orders → IsHistory (down_periods (periods_to r c n)) }
     ensures bridge { (r : Run) (t : ℕ) (ds : List Done) (d : Done) (left : List Order) (a b c s : ℕ) → IsSoFar r t ds (d.order ∷ left) →
         d.order.stamp ≡ t → t < r.periods → IsRun (whole_in r) (ds ++ d ∷ []) → d.result ≡ Ok (act.Bridged a b) → (c == a || c == b) ≡ true →
-        opened_at c ds ≡ Some s → due (down_periods (periods_to r c (t - s))) (frames_of (periods_to r c (t - s))) ≡ None }
+        opened_at c ds ≡ Some s → handed_due (down_periods (periods_to r c (t - s))) (frames_of (periods_to r c (t - s))) ≡ None }
 {}
 
 /// What a call hands over in its newest period are the bits of its effective frame in it: so in a period of a bridge
@@ -210,4 +212,9 @@ pub fn sent_frames_are_told()
     ensures end { (r : Run) (t : ℕ) (ds : List Done) (left : List Order) (c s k : ℕ) (x : Span) → IsSoFar r t ds left →
         opened_at c ds ≡ Some s → IsLatest (bridges ds) c (Some k) → end_in r c ≡ t →
         sent_by r (get_or (spans_in r) k x) c ≡ sent_now (periods_to r c (t - s)) (settings_now r ds t c) }
+{}
+
+/// A run to its end writes what it writes to an earlier period, and behind that the octets of the later periods.
+pub fn a_run_is_joined_of_two()
+    ensures { (r : Run) (p : ℕ) → AreOrders r.orders → p ≤ r.periods → Joins r p }
 {}

@@ -21,7 +21,8 @@ use Rattle.switchboard.proofs.Lists.{not_both}
 abbrev pub IsRefused : Result Act Refusal → Type 0
 IsRefused r = (e : Refusal) × (r ≡ Err e)
 
-abbrev reply : List (Option Refusal) → Act → Result Act Refusal
+-- the first refusal, or else the act
+abbrev pub reply : List (Option Refusal) → Act → Result Act Refusal
 reply os a = elim (first_of_tests os) [ None ↦ Ok a | Some r ↦ Err r ]
 
 -- a reply after one test, two and seven: a refusal, or the act, and each test was passed

@@ -60,8 +60,10 @@ pub by_pairs : (P Q : ℤ → Type 0) (R : ℤ → ℤ → Type 0) (G : List ℤ
 by_pairs P Q R G r k xs ys l m =
     by_eight (λ xs. Each1 P xs → Each1 Q ys → G xs ys)
     (λ a b c d e f g h p. by_eight (λ ys. Each1 Q ys → G (a ∷ b ∷ c ∷ d ∷ e ∷ f ∷ g ∷ h ∷ []) ys)
-    (λ a' b' c' d' e' f' g' h' q. k a b c d e f g h a' b' c' d' e' f' g' h' (r a a' p.0 q.0) (r b b' p.1.0 q.1.0) (r c c' p.1.1.0 q.1.1.0) (r d d' p.1.1.1.0 q.1.1.1.0)
-    (r e e' p.1.1.1.1.0 q.1.1.1.1.0) (r f f' p.1.1.1.1.1.0 q.1.1.1.1.1.0) (r g g' p.1.1.1.1.1.1.0 q.1.1.1.1.1.1.0) (r h h' p.1.1.1.1.1.1.1.0 q.1.1.1.1.1.1.1.0)) ys m) xs l
+    (λ a' b' c' d' e' f' g' h' q. k a b c d e f g h a' b' c' d' e' f' g' h' (r a a' p.0 q.0) (r b b' p.1.0 q.1.0) (r c c' p.1.1.0 q.1.1.0)
+    (r d d' p.1.1.1.0 q.1.1.1.0)
+    (r e e' p.1.1.1.1.0 q.1.1.1.1.0) (r f f' p.1.1.1.1.1.0 q.1.1.1.1.1.0) (r g g' p.1.1.1.1.1.1.0 q.1.1.1.1.1.1.0)
+    (r h h' p.1.1.1.1.1.1.1.0 q.1.1.1.1.1.1.1.0)) ys m) xs l
 
 pub eight_same : {a b c d e f g h a' b' c' d' e' f' g' h' : ℤ} → a ≡ a' → b ≡ b' → c ≡ c' → d ≡ d' → e ≡ e' → f ≡ f' → g ≡ g' → h ≡ h' →
     (a ∷ b ∷ c ∷ d ∷ e ∷ f ∷ g ∷ h ∷ []) ≡ (a' ∷ b' ∷ c' ∷ d' ∷ e' ∷ f' ∷ g' ∷ h' ∷ [])
@@ -70,12 +72,14 @@ eight_same p q r s t u v w = λ i. p i ∷ q i ∷ r i ∷ s i ∷ t i ∷ u i �
 -- the lanes moved up by one place, with a word in the first
 pub shifted_in : (x : ℤ) (xs : List ℤ) → FitsSigned w16 x → EightWords xs →
     (to_z w16 (of_z w16 x) ∷ to_z w16 (get_or (map (of_z w16) xs) 0 0) ∷ to_z w16 (get_or (map (of_z w16) xs) 1 0) ∷ to_z w16 (get_or (map (of_z w16) xs) 2 0) ∷
-    to_z w16 (get_or (map (of_z w16) xs) 3 0) ∷ to_z w16 (get_or (map (of_z w16) xs) 4 0) ∷ to_z w16 (get_or (map (of_z w16) xs) 5 0) ∷ to_z w16 (get_or (map (of_z w16) xs) 6 0) ∷ [])
+    to_z w16 (get_or (map (of_z w16) xs) 3 0) ∷ to_z w16 (get_or (map (of_z w16) xs) 4 0) ∷ to_z w16 (get_or (map (of_z w16) xs) 5 0) ∷
+    to_z w16 (get_or (map (of_z w16) xs) 6 0) ∷ [])
     ≡ take 8 (x ∷ xs)
 shifted_in x xs f e =
     by_eight (λ xs. Each1 (FitsSigned w16) xs →
     (to_z w16 (of_z w16 x) ∷ to_z w16 (get_or (map (of_z w16) xs) 0 0) ∷ to_z w16 (get_or (map (of_z w16) xs) 1 0) ∷ to_z w16 (get_or (map (of_z w16) xs) 2 0) ∷
-    to_z w16 (get_or (map (of_z w16) xs) 3 0) ∷ to_z w16 (get_or (map (of_z w16) xs) 4 0) ∷ to_z w16 (get_or (map (of_z w16) xs) 5 0) ∷ to_z w16 (get_or (map (of_z w16) xs) 6 0) ∷ [])
+    to_z w16 (get_or (map (of_z w16) xs) 3 0) ∷ to_z w16 (get_or (map (of_z w16) xs) 4 0) ∷ to_z w16 (get_or (map (of_z w16) xs) 5 0) ∷
+    to_z w16 (get_or (map (of_z w16) xs) 6 0) ∷ [])
     ≡ take 8 (x ∷ xs))
     (λ a b c d e f' g h p. eight_same (to_z-of_z w16 x f) (to_z-of_z w16 a p.0) (to_z-of_z w16 b p.1.0) (to_z-of_z w16 c p.1.1.0) (to_z-of_z w16 d p.1.1.1.0)
     (to_z-of_z w16 e p.1.1.1.1.0) (to_z-of_z w16 f' p.1.1.1.1.1.0) (to_z-of_z w16 g p.1.1.1.1.1.1.0)) xs e.eight e.words
@@ -83,4 +87,5 @@ shifted_in x xs f e =
 pub shifted_words : (x : ℤ) (xs : List ℤ) → FitsSigned w16 x → EightWords xs → EightWords (take 8 (x ∷ xs))
 shifted_words x xs f e =
     by_eight (λ xs. Each1 (FitsSigned w16) xs → EightWords (take 8 (x ∷ xs)))
-    (λ a b c d e f' g h p. record { eight = refl; words = (f, (p.0, (p.1.0, (p.1.1.0, (p.1.1.1.0, (p.1.1.1.1.0, (p.1.1.1.1.1.0, (p.1.1.1.1.1.1.0, tt)))))))) }) xs e.eight e.words
+    (λ a b c d e f' g h p. record { eight = refl; words = (f, (p.0, (p.1.0, (p.1.1.0, (p.1.1.1.0, (p.1.1.1.1.0, (p.1.1.1.1.1.0, (p.1.1.1.1.1.1.0, tt)))))))) })
+    xs e.eight e.words

@@ -126,7 +126,8 @@ pair ns i j = to_z w32 ((of_z w32 (to_z w32 (get_or ns i 0)) + of_z w32 (to_z w3
 abbrev pub Pairs : List ℕ → List ℤ → Type 0
 Pairs ns zs = (pair ns 0 1 ∷ pair ns 2 3 ∷ pair ns 4 5 ∷ pair ns 6 7 ∷ []) ≡ sums_of_pairs zs
 
-pub pair_sum : (x y : ℤ) → Within 1073741823 x → Within 1073741823 y → to_z w32 ((of_z w32 (to_z w32 (of_z w32 x)) + of_z w32 (to_z w32 (of_z w32 y))) % 2 ^ 32) ≡ x +ℤ y
+pub pair_sum : (x y : ℤ) → Within 1073741823 x → Within 1073741823 y →
+    to_z w32 ((of_z w32 (to_z w32 (of_z w32 x)) + of_z w32 (to_z w32 (of_z w32 y))) % 2 ^ 32) ≡ x +ℤ y
 pair_sum x y a b =
     let fx : FitsSigned w32 x = omega (arith, ints) in
     let fy : FitsSigned w32 y = omega (arith, ints) in
@@ -140,7 +141,8 @@ four_same x x' y y' z z' w w' a b c d = cc
 pub pairs_of_one : (xs : List ℤ) → length xs ≡ 8 → Each1 (Within 1073741823) xs → Pairs (map (of_z w32) xs ++ map (of_z w32) xs) xs
 pairs_of_one xs l =
     by_eight (λ zs. Each1 (Within 1073741823) zs → Pairs (map (of_z w32) zs ++ map (of_z w32) zs) zs)
-    (λ a b c d e f g h p. four_same _ _ _ _ _ _ _ _ (pair_sum a b p.0 p.1.0) (pair_sum c d p.1.1.0 p.1.1.1.0) (pair_sum e f p.1.1.1.1.0 p.1.1.1.1.1.0) (pair_sum g h p.1.1.1.1.1.1.0 p.1.1.1.1.1.1.1.0)) xs l
+    (λ a b c d e f g h p. four_same _ _ _ _ _ _ _ _ (pair_sum a b p.0 p.1.0) (pair_sum c d p.1.1.0 p.1.1.1.0) (pair_sum e f p.1.1.1.1.0 p.1.1.1.1.1.0)
+    (pair_sum g h p.1.1.1.1.1.1.0 p.1.1.1.1.1.1.1.0)) xs l
 
 -- their sum, length and bound
 fold_pairs : (xs : List ℤ) → length xs ≡ 8 → fold ◌+ℤ◌ (pos 0) (sums_of_pairs xs) ≡ fold ◌+ℤ◌ (pos 0) xs
@@ -157,7 +159,8 @@ pairs_within m (x ∷ y ∷ zs) p = let a = p.0 in let b = p.1.0 in (omega (arit
 -- the sums of all lanes after eight products more
 pub eight_more : (wt earlier sums : List ℤ) (start i : ℕ) → length sums ≡ 4 → i + 8 ≤ length wt → start + i + 8 ≤ length earlier →
     fold ◌+ℤ◌ (pos 0) sums ≡ fold ◌+ℤ◌ (pos 0) (map (product_at wt earlier start) (range_with_len 0 i)) →
-    fold ◌+ℤ◌ (pos 0) (zip2 ◌+ℤ◌ sums (sums_of_pairs (row wt earlier i (start + i)))) ≡ fold ◌+ℤ◌ (pos 0) (map (product_at wt earlier start) (range_with_len 0 (i + 8)))
+    fold ◌+ℤ◌ (pos 0) (zip2 ◌+ℤ◌ sums (sums_of_pairs (row wt earlier i (start + i)))) ≡
+    fold ◌+ℤ◌ (pos 0) (map (product_at wt earlier start) (range_with_len 0 (i + 8)))
 eight_more wt earlier sums start i l a b e =
     let long = row_length wt earlier i (start + i) a b in
     fold_sums sums (sums_of_pairs (row wt earlier i (start + i))) (pos 0) (pos 0) (l ∙ sym (length_pairs (row wt earlier i (start + i)) long)) ∙

@@ -58,10 +58,12 @@ unfolding add_of
 added_lane x y f g =
     lane_clamped _ (x +ℤ y) (mod_below (widened (of_z w16 x) + widened (of_z w16 y)) (2 ^ 32) (lit< tt)) (omega (arith, ints)) (sum_lane x y f g)
 
-pub subtracted_lane : (x y : ℤ) → FitsSigned w16 x → FitsSigned w16 y → to_z w32 (clamp_lane ((widened (of_z w16 x) + (2 ^ 32 - widened (of_z w16 y))) % 2 ^ 32)) ≡ sub_of x y
+pub subtracted_lane : (x y : ℤ) → FitsSigned w16 x → FitsSigned w16 y →
+    to_z w32 (clamp_lane ((widened (of_z w16 x) + (2 ^ 32 - widened (of_z w16 y))) % 2 ^ 32)) ≡ sub_of x y
 unfolding sub_of
 subtracted_lane x y f g =
-    lane_clamped _ (x -ℤ y) (mod_below (widened (of_z w16 x) + (2 ^ 32 - widened (of_z w16 y))) (2 ^ 32) (lit< tt)) (omega (arith, ints)) (difference_lane x y f g)
+    lane_clamped _ (x -ℤ y) (mod_below (widened (of_z w16 x) + (2 ^ 32 - widened (of_z w16 y))) (2 ^ 32) (lit< tt)) (omega (arith, ints))
+    (difference_lane x y f g)
 
 pub add_word : (x y : ℤ) → FitsSigned w16 (add_of x y)
 unfolding add_of

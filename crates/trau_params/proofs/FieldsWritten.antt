@@ -5,7 +5,8 @@ use Rattle.std.proofs.lemmas.List.{drop_more, drop_all}
 use Rattle.std.proofs.lemmas.List.Sums.{sum_by-cons}
 use Rattle.std.proofs.lemmas.Nat.{pow-add}
 use Rattle.trau_params.specs.Widths.{larc_widths, block_widths}
-use Rattle.trau_params.specs.FieldBits.{AreBits, low_bits, field_bits}
+use Rattle.trau_bits.specs.Bits.{AreBits}
+use Rattle.trau_params.specs.FieldBits.{low_bits, field_bits}
 use Rattle.trau_params.specs.Fields.{number_at, fields_in}
 use Rattle.trau_params.specs.Bits260.{bits260}
 use Rattle.trau_params.proofs.FieldsRead.{number_at-none, number_at-more}
@@ -17,15 +18,18 @@ use Rattle.trau_params.proofs.Prefixes.{low_bits-front}
 number_at-front : (bits : List ℕ) (offset n : ℕ) → number_at bits offset (n + 1) ≡ 2 * number_at bits (offset + 1) n + get_or bits offset 0
 number_at-front bits offset zero =
     let e : offset + 0 ≡ offset = omega arith in
-    number_at-more bits offset 0 ∙ ap (λ i. number_at bits offset 0 + get_or bits i 0 * 2 ^ 0) e ∙ omega (arith, number_at-none bits offset, number_at-none bits (offset + 1))
+    number_at-more bits offset 0 ∙ ap (λ i. number_at bits offset 0 + get_or bits i 0 * 2 ^ 0) e ∙
+    omega (arith, number_at-none bits offset, number_at-none bits (offset + 1))
 number_at-front bits offset (suc n) =
     let e : suc n ≡ n + 1 = omega arith in
     let place : offset + (n + 1) ≡ offset + 1 + n = omega arith in
     let before = number_at-front bits offset n in
     let after = number_at-more bits (offset + 1) n in
-    ap (λ m. number_at bits offset (m + 1)) e ∙ number_at-more bits offset (n + 1) ∙ ap (λ i. number_at bits offset (n + 1) + get_or bits i 0 * 2 ^ (n + 1)) place
+    ap (λ m. number_at bits offset (m + 1)) e ∙ number_at-more bits offset (n + 1) ∙
+    ap (λ i. number_at bits offset (n + 1) + get_or bits i 0 * 2 ^ (n + 1)) place
     ∙ ap (λ p. number_at bits offset (n + 1) + get_or bits (offset + 1 + n) 0 * p) (pow-add 2 n 1)
-    ∙ next (number_at bits offset (n + 1)) (number_at bits (offset + 1) n) (number_at bits (offset + 1) (n + 1)) (get_or bits offset 0) (get_or bits (offset + 1 + n) 0) (2 ^ n) before after
+    ∙ next (number_at bits offset (n + 1)) (number_at bits (offset + 1) n) (number_at bits (offset + 1) (n + 1)) (get_or bits offset 0)
+    (get_or bits (offset + 1 + n) 0) (2 ^ n) before after
     ∙ ap (λ m. 2 * number_at bits (offset + 1) m + get_or bits offset 0) (sym e)
   where
     next : (all low high first last power : ℕ) → all ≡ 2 * low + first → high ≡ low + last * power → all + last * (power * 2) ≡ 2 * high + first
@@ -36,7 +40,8 @@ unfolding low_bits
 low_bits-none value = refl
 
 -- a field's bits stand before those that follow it
-field_read : (bits : List ℕ) (offset width : ℕ) → AreBits bits → offset + width ≤ length bits → low_bits width (number_at bits offset width) ++ drop (offset + width) bits ≡ drop offset bits
+field_read : (bits : List ℕ) (offset width : ℕ) → AreBits bits → offset + width ≤ length bits →
+    low_bits width (number_at bits offset width) ++ drop (offset + width) bits ≡ drop offset bits
 field_read bits offset zero b l =
     let e : offset + 0 ≡ offset = omega arith in
     ap (λ xs. xs ++ drop (offset + 0) bits) (low_bits-none (number_at bits offset 0)) ∙ ap (λ i. drop i bits) e
@@ -72,7 +77,8 @@ fields_read bits (w ∷ ws) offset b l =
 abbrev block_from : List ℕ → ℕ → List ℕ
 block_from bits offset = field_bits block_widths (numbers_from bits offset block_widths)
 
-block_read : (bits : List ℕ) (offset next : ℕ) → AreBits bits → offset + 56 ≡ next → next ≤ length bits → block_from bits offset ++ drop next bits ≡ drop offset bits
+block_read : (bits : List ℕ) (offset next : ℕ) → AreBits bits → offset + 56 ≡ next → next ≤ length bits →
+    block_from bits offset ++ drop next bits ≡ drop offset bits
 block_read bits offset next b e l = ap (λ i. block_from bits offset ++ drop i bits) (sym e) ∙ fields_read bits block_widths offset b (omega arith)
 
 -- **260 bits are those of the fields that they carry.**
@@ -80,9 +86,12 @@ pub bits260-fields_in : (bits : List ℕ) → length bits ≡ 260 → AreBits bi
 unfolding bits260 fields_in
 bits260-fields_in bits n b =
     let none : [] ≡ drop 260 bits = sym (drop_all 260 bits (omega arith)) in
-    ap (λ xs. field_bits larc_widths (numbers_from bits 0 larc_widths) ++ (block_from bits 36 ++ (block_from bits 92 ++ (block_from bits 148 ++ (block_from bits 204 ++ xs))))) none
-    ∙ ap (λ xs. field_bits larc_widths (numbers_from bits 0 larc_widths) ++ (block_from bits 36 ++ (block_from bits 92 ++ (block_from bits 148 ++ xs)))) (block_read bits 204 260 b (omega arith) (omega arith))
-    ∙ ap (λ xs. field_bits larc_widths (numbers_from bits 0 larc_widths) ++ (block_from bits 36 ++ (block_from bits 92 ++ xs))) (block_read bits 148 204 b (omega arith) (omega arith))
+    ap (λ xs. field_bits larc_widths (numbers_from bits 0 larc_widths) ++
+    (block_from bits 36 ++ (block_from bits 92 ++ (block_from bits 148 ++ (block_from bits 204 ++ xs))))) none
+    ∙ ap (λ xs. field_bits larc_widths (numbers_from bits 0 larc_widths) ++ (block_from bits 36 ++ (block_from bits 92 ++ (block_from bits 148 ++ xs))))
+    (block_read bits 204 260 b (omega arith) (omega arith))
+    ∙ ap (λ xs. field_bits larc_widths (numbers_from bits 0 larc_widths) ++ (block_from bits 36 ++ (block_from bits 92 ++ xs)))
+    (block_read bits 148 204 b (omega arith) (omega arith))
     ∙ ap (λ xs. field_bits larc_widths (numbers_from bits 0 larc_widths) ++ (block_from bits 36 ++ xs)) (block_read bits 92 148 b (omega arith) (omega arith))
     ∙ ap (λ xs. field_bits larc_widths (numbers_from bits 0 larc_widths) ++ xs) (block_read bits 36 92 b (omega arith) (omega arith))
     ∙ fields_read bits larc_widths 0 b (omega arith)

@@ -2,7 +2,7 @@ use Rattle.std.proofs.Common.{ap}
 use Rattle.call_leg.specs.Memory.{down_memory}
 use Rattle.call_leg.specs.Step.{with_framer}
 use Rattle.call_leg.proofs.Stepping.{half-step}
-use Rattle.call_leg.proofs.side.DownSide.half.Goals as goal
+use Rattle.call_leg.proofs.down_side.DownSide.half.Goals as goal
 
 pub returns-clause-step : goal.returns-clause-step
 returns-clause-step c =

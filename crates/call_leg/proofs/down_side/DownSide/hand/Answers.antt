@@ -2,7 +2,7 @@ use Rattle.std.proofs.Common.{ap, ◌∙◌, ℕ, List, [], ◌∷◌, ◌++◌}
 use Rattle.trau_params.specs.Bits260.{bits260, bits260_of}
 use Rattle.circular_buffer.specs.Buffer.{Buffer, keep_last}
 use Rattle.call_leg.specs.Memory.{down_memory}
-use Rattle.call_leg.proofs.side.DownSide.hand.Goals as goal
+use Rattle.call_leg.proofs.down_side.DownSide.hand.Goals as goal
 
 pub returns-clause-step : goal.returns-clause-step
 unfolding bits260_of

@@ -6,7 +6,7 @@ use Rattle.time_align.specs.Shift.{IsShift}
 use Rattle.trau_bits.specs.Bits.{AreBits}
 use Rattle.call_leg.specs.Memory.{down_memory}
 use Rattle.call_leg.proofs.Stepping.{make-step}
-use Rattle.call_leg.proofs.side.DownSide.make_frame.Goals as goal
+use Rattle.call_leg.proofs.down_side.DownSide.make_frame.Goals as goal
 
 pub next_frame-frame-requires : goal.next_frame-frame-requires
 next_frame-frame-requires c = record { ready = c.requires.ready; bits = c.args.self.now.are_bits }

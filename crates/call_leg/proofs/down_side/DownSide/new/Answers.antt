@@ -2,7 +2,7 @@ use Rattle.std.proofs.Common.{List, ℕ, ap}
 use Rattle.circular_buffer.specs.Buffer.{Buffer}
 use Rattle.call_leg.specs.Memory.{coder_memory}
 use Rattle.call_leg.proofs.Stepping.{home-step}
-use Rattle.call_leg.proofs.side.DownSide.new.Goals as goal
+use Rattle.call_leg.proofs.down_side.DownSide.new.Goals as goal
 
 pub returns : goal.returns
 returns c = record {

@@ -1,7 +1,8 @@
 use Rattle.std.proofs.Common.{◌≡◌, ◌≤◌, ◌++◌, length, refl, sym, ap, ◌∙◌, subst, rules}
 use Rattle.down_framer.specs.Made.{made_frames}
-use Rattle.down_framer.specs.Memory.{FramerMemory, after_put, IsWithin}
-use Rattle.down_framer.specs.Places.{Holds, StandsWithin}
+use Rattle.down_framer.specs.Memory.{FramerMemory, IsWithinPeriod}
+use Rattle.down_framer.specs.Step.{after_put}
+use Rattle.down_framer.specs.Stands.{Holds, StandsWithin}
 use Rattle.down_framer.specs.contracts.framer.Framer.{the_view}
 use Rattle.down_framer.proofs.Calls.{put-holds}
 use Rattle.down_framer.proofs.History.{put-stands}
@@ -25,7 +26,7 @@ returns-clause-step c = step_now c
 pub returns-clause-within : goal.returns-clause-within
 returns-clause-within c =
     let bounded = subst (λ (s : FramerMemory). s.to_skip ≤ 156) c.self.view_is c.self.invariant.bounded in
-    subst IsWithin (sym (step_now c)) (put_within c.args.self.now c.args.octets.now c.requires.between c.told-octets bounded)
+    subst IsWithinPeriod (sym (step_now c)) (put_within c.args.self.now c.args.octets.now c.requires.between c.told-octets bounded)
 
 pub returns-clause-places : goal.returns-clause-places
 returns-clause-places c = λ pcm line out start h.

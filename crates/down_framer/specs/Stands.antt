@@ -1,7 +1,7 @@
 -- What a framer holds, by absolute places of the Pcm line and of the downlink.
 use Rattle.std.specs.Prelude.{◌≡◌, ℕ, ◌+◌, ◌-◌, ◌*◌, ◌<◌, zero, suc, List, [], ◌∷◌, ◌++◌, length, drop}
 use Rattle.down_framer.specs.Memory.{FramerMemory}
-use Rattle.down_framer.specs.Made.{Period, MadeFrame, next_start, grown, made_frames, line_of}
+use Rattle.down_framer.specs.Made.{Period, MadeFrame, next_start, grown, made_frames, downlink_of}
 
 -- The octets held are those of the Pcm line from the next frame's start on, or so many are to be skipped as the start
 -- lies past the line; the bits in store are those of the downlink as far as it is made, without the first `out`.
@@ -30,8 +30,8 @@ pub record StandsBetween (bits : List PcmFrame → List ℕ) (past : List PcmPer
   -- no frame is left to be made
   pub ahead : 160 * length past < next_start (made_frames past) + 160
   -- after the first 320 bits the downlink has two for each octet up to the next frame's start
-  pub line : length (line_of bits (made_frames past)) ≡ 320 + 2 * next_start (made_frames past)
-  pub places : Holds (pcm_of past) (line_of bits (made_frames past)) (320 * length past) (next_start (made_frames past)) s
+  pub line : length (downlink_of bits (made_frames past)) ≡ 320 + 2 * next_start (made_frames past)
+  pub places : Holds (pcm_of past) (downlink_of bits (made_frames past)) (320 * length past) (next_start (made_frames past)) s
 
 -- the frames after so many tries to make one in period p
 abbrev pub tries : {A : Type 0} → ℕ → Period A → List (Period A) → List (MadeFrame A)
@@ -43,5 +43,5 @@ pub record StandsWithin (bits : List PcmFrame → List ℕ) (p : PcmPeriod) (pas
   pub pcm : length (pcm_of (p ∷ past)) ≡ 160 * length past + 160
   pub tried : (n : ℕ) × (fs ≡ tries n p past)
   pub ahead : 160 * length past < next_start fs + 160
-  pub line : length (line_of bits fs) ≡ 320 + 2 * next_start fs
-  pub places : Holds (pcm_of (p ∷ past)) (line_of bits fs) (320 * length past) (next_start fs) s
+  pub line : length (downlink_of bits fs) ≡ 320 + 2 * next_start fs
+  pub places : Holds (pcm_of (p ∷ past)) (downlink_of bits fs) (320 * length past) (next_start fs) s
