@@ -135,7 +135,8 @@ plain-new c (t ∷ past) =
 
 -- ---- a bridge starts, and ends
 
-pub begins : (who : Who) (ts : List CallPeriod) (now : Settings) (d d1 : DownMemory) → handed_due (down_periods ts) (frames_of ts) ≡ None → Between who ts now d →
+pub begins : (who : Who) (ts : List CallPeriod) (now : Settings) (d d1 : DownMemory) → handed_due (down_periods ts) (frames_of ts) ≡ None →
+    Between who ts now d →
     d1.align.kept ≡ d.align.kept → d1.align.frozen ≡ true → encoder.Stands [] d1.coder.encoder → tx.Stands [] d1.coder.tx → d1.bridged ≡ true →
     d1.law ≡ d.law → d1.framer ≡ d.framer → d1.waiting ≡ d.waiting → d1.level ≡ d.level → d1.mode ≡ d.mode → d1.dtxd ≡ d.dtxd → d1.sent ≡ 0 → d1.made ≡ d.made →
     Between who ts (with_bridge now) d1
