@@ -16,7 +16,7 @@ use Rattle.call_spec.specs.Call.{Call, Span, periods, fields}
 use Rattle.call_spec.specs.Down.{without_items, first_frames, frame_by_number, made_among, frames_of_call, HasItem}
 use Rattle.call_spec.specs.History.{IsCallHistory, new_span, go_on, spans_in_history, call_of_history}
 use Rattle.call_spec.proofs.Stretched.{map-reverse}
-use Rattle.call_spec.proofs.Speaking.{OneSpeaks, item_of-speaks}
+use Rattle.call_spec.proofs.Speaking.{OneSpeaks, carried_item-speaks}
 use Rattle.call_spec.proofs.Items.{made-in_order, one-made}
 use Rattle.call_spec.proofs.Reading.{length-settings_of, fields-read}
 
@@ -168,5 +168,5 @@ item-carried who ts before after span j i h e l has =
     let parts : map without_items call.spans ≡ map without_items before ++ without_items span ∷ map without_items after =
     ap (map without_items) e ∙ map-append without_items before (span ∷ after) in
     ap (λ bs. carried_item bs w fs) parts ∙
-    item_of-speaks (map without_items before) (map without_items after) (without_items span) w (span.from + i) fs (subst (λ bs. OneSpeaks bs w fs) parts at)
+    carried_item-speaks (map without_items before) (map without_items after) (without_items span) w (span.from + i) fs (subst (λ bs. OneSpeaks bs w fs) parts at)
     (has_item call span j i has)

@@ -4,7 +4,7 @@ use Rattle.std.proofs.lemmas.Bool.{cases_lt, cond_both, leb-true}
 use Rattle.down_framer.specs.Made.{Period, MadeFrame, next_start, latest_start, hands_at, made_from, handed_due, next_frame, grown}
 use Rattle.down_framer.specs.ByNumber.{when}
 use Rattle.down_framer.proofs.Timing.{AreMade-made_frames, next_start-grown}
-use Rattle.down_framer.proofs.Due.{bridged_at-late}
+use Rattle.down_framer.proofs.Due.{hands_at-late}
 use Rattle.call_leg.specs.Periods.{CallPeriod, bridges_begun}
 use Rattle.call_leg.specs.Down.{CallFrame, down_period, down_periods, frames_of}
 use Rattle.call_leg.proofs.Enter.{length-down_periods}
@@ -42,7 +42,7 @@ due-below ps fs h e = by (latest_start ps) e
           | inl below ↦ below
           | inr above ↦
               let same = found.1 in
-              let none = bridged_at-late ps (s + made_from s fs) (omega arith) in
+              let none = hands_at-late ps (s + made_from s fs) (omega arith) in
               let q : true ≡ false = sym found.0 ∙ none in cc
         ]
 

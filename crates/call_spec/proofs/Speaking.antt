@@ -14,10 +14,10 @@ abbrev pub AreSilent : List Bridge → ℕ → List NumberedFrame → Type 0
 AreSilent [] w fs = Unit {0}
 AreSilent (b ∷ bs) w fs = (carried_item (b ∷ []) w fs ≡ None) × AreSilent bs w fs
 
-item_of-append : (xs ys : List Bridge) (w : ℕ) (fs : List NumberedFrame) →
+carried_item-append : (xs ys : List Bridge) (w : ℕ) (fs : List NumberedFrame) →
     carried_item (xs ++ ys) w fs ≡ option_or (carried_item xs w fs) (carried_item ys w fs)
-item_of-append [] ys w fs = refl
-item_of-append (b ∷ xs) ys w fs = by (nat_le b.from w && nat_lt (count_from b.from fs) (b.to - b.from)) (item_of-append xs ys w fs)
+carried_item-append [] ys w fs = refl
+carried_item-append (b ∷ xs) ys w fs = by (nat_le b.from w && nat_lt (count_from b.from fs) (b.to - b.from)) (carried_item-append xs ys w fs)
   where
     by : (c : Bool) → carried_item (xs ++ ys) w fs ≡ option_or (carried_item xs w fs) (carried_item ys w fs) →
         (if c then Some (b.from + count_from b.from fs) else carried_item (xs ++ ys) w fs) ≡
@@ -31,7 +31,7 @@ or_none (Some x) = refl
 
 silent : (bs : List Bridge) (w : ℕ) (fs : List NumberedFrame) → AreSilent bs w fs → carried_item bs w fs ≡ None
 silent [] w fs s = refl
-silent (b ∷ bs) w fs s = item_of-append (b ∷ []) bs w fs ∙ ap (λ o. option_or o (carried_item bs w fs)) s.0 ∙ silent bs w fs s.1
+silent (b ∷ bs) w fs s = carried_item-append (b ∷ []) bs w fs ∙ ap (λ o. option_or o (carried_item bs w fs)) s.0 ∙ silent bs w fs s.1
 
 silent_append : (xs ys : List Bridge) (w : ℕ) (fs : List NumberedFrame) → AreSilent xs w fs → AreSilent ys w fs → AreSilent (xs ++ ys) w fs
 silent_append [] ys w fs s q = q
@@ -69,13 +69,13 @@ silent_one (b ∷ bs) w fs s = inr s.1
 pub same_item : (bs : List Bridge) (w : ℕ) (fs : List NumberedFrame) → OneSpeaks bs w fs → carried_item (reverse bs) w fs ≡ carried_item bs w fs
 same_item [] w fs o = refl
 same_item (b ∷ bs) w fs (inl o) =
-    ap (λ z. carried_item z w fs) (reverse-more b bs) ∙ item_of-append (reverse bs) (b ∷ []) w fs ∙ ap (option_or (carried_item (reverse bs) w fs)) o.0 ∙
+    ap (λ z. carried_item z w fs) (reverse-more b bs) ∙ carried_item-append (reverse bs) (b ∷ []) w fs ∙ ap (option_or (carried_item (reverse bs) w fs)) o.0 ∙
     or_none (carried_item (reverse bs) w fs) ∙ same_item bs w fs o.1 ∙
-    sym (item_of-append (b ∷ []) bs w fs ∙ ap (λ z. option_or z (carried_item bs w fs)) o.0)
+    sym (carried_item-append (b ∷ []) bs w fs ∙ ap (λ z. option_or z (carried_item bs w fs)) o.0)
 same_item (b ∷ bs) w fs (inr s) =
-    ap (λ z. carried_item z w fs) (reverse-more b bs) ∙ item_of-append (reverse bs) (b ∷ []) w fs ∙
+    ap (λ z. carried_item z w fs) (reverse-more b bs) ∙ carried_item-append (reverse bs) (b ∷ []) w fs ∙
     ap (λ z. option_or z (carried_item (b ∷ []) w fs)) (silent (reverse bs) w fs (silent_reverse bs w fs s)) ∙
-    sym (item_of-append (b ∷ []) bs w fs ∙ ap (option_or (carried_item (b ∷ []) w fs)) (silent bs w fs s) ∙ or_none (carried_item (b ∷ []) w fs))
+    sym (carried_item-append (b ∷ []) bs w fs ∙ ap (option_or (carried_item (b ∷ []) w fs)) (silent bs w fs s) ∙ or_none (carried_item (b ∷ []) w fs))
 
 -- a frame carries the item of a bridge that has one
 silent_within : (before after : List Bridge) (b : Bridge) (w : ℕ) (fs : List NumberedFrame) → AreSilent (before ++ b ∷ after) w fs →
@@ -83,14 +83,14 @@ silent_within : (before after : List Bridge) (b : Bridge) (w : ℕ) (fs : List N
 silent_within [] after b w fs s = s.0
 silent_within (a ∷ before) after b w fs s = silent_within before after b w fs s.1
 
-pub item_of-speaks : (before after : List Bridge) (b : Bridge) (w h : ℕ) (fs : List NumberedFrame) → OneSpeaks (before ++ b ∷ after) w fs →
+pub carried_item-speaks : (before after : List Bridge) (b : Bridge) (w h : ℕ) (fs : List NumberedFrame) → OneSpeaks (before ++ b ∷ after) w fs →
     carried_item (b ∷ []) w fs ≡ Some h →
     carried_item (before ++ b ∷ after) w fs ≡ Some h
-item_of-speaks [] after b w h fs o e = item_of-append (b ∷ []) after w fs ∙ ap (λ z. option_or z (carried_item after w fs)) e
-item_of-speaks (a ∷ before) after b w h fs (inl o) e =
-    item_of-append (a ∷ []) (before ++ b ∷ after) w fs ∙ ap (λ z. option_or z (carried_item (before ++ b ∷ after) w fs)) o.0
-    ∙ item_of-speaks before after b w h fs o.1 e
-item_of-speaks (a ∷ before) after b w h fs (inr s) e =
+carried_item-speaks [] after b w h fs o e = carried_item-append (b ∷ []) after w fs ∙ ap (λ z. option_or z (carried_item after w fs)) e
+carried_item-speaks (a ∷ before) after b w h fs (inl o) e =
+    carried_item-append (a ∷ []) (before ++ b ∷ after) w fs ∙ ap (λ z. option_or z (carried_item (before ++ b ∷ after) w fs)) o.0
+    ∙ carried_item-speaks before after b w h fs o.1 e
+carried_item-speaks (a ∷ before) after b w h fs (inr s) e =
     let q : None ≡ Some h = sym (silent_within before after b w fs s) ∙ e in cc
 
 pub too_late : (b : Bridge) (w : ℕ) (fs : List NumberedFrame) → w < b.from → carried_item (b ∷ []) w fs ≡ None

@@ -38,11 +38,11 @@ item_by [] w fs = None
 item_by (b ∷ bs) w fs =
     if nat_le b.from w && nat_lt (made_from b.from fs) (b.to - b.from) then Some (b.from + made_from b.from fs) else item_by bs w fs
 
-pub item_of-by : {A : Type 0} (bs : List Bridge) (w : ℕ) (fs : List (MadeFrame A)) → AreOnTime fs → carried_item bs w (map numbered_of fs) ≡ item_by bs w fs
-item_of-by [] w fs t = refl
-item_of-by (b ∷ bs) w fs t =
+pub carried_item-by : {A : Type 0} (bs : List Bridge) (w : ℕ) (fs : List (MadeFrame A)) → AreOnTime fs → carried_item bs w (map numbered_of fs) ≡ item_by bs w fs
+carried_item-by [] w fs t = refl
+carried_item-by (b ∷ bs) w fs t =
     ap (λ n. if nat_le b.from w && nat_lt n (b.to - b.from) then Some (b.from + n) else carried_item bs w (map numbered_of fs)) (count_from-of b.from fs t) ∙
-    ap (λ o. if nat_le b.from w && nat_lt (made_from b.from fs) (b.to - b.from) then Some (b.from + made_from b.from fs) else o) (item_of-by bs w fs t)
+    ap (λ o. if nat_le b.from w && nat_lt (made_from b.from fs) (b.to - b.from) then Some (b.from + made_from b.from fs) else o) (carried_item-by bs w fs t)
 
 both_true : (a b : Bool) → a ≡ true → b ≡ true → (a && b) ≡ true
 both_true true b p q = q

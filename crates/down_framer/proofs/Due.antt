@@ -5,16 +5,16 @@ use Rattle.std.proofs.lemmas.Bool.{cases_lt, lt-leb, le-leb, eq-eqb, ne_eqb, con
 use Rattle.time_align.specs.Shift.{latest_shift}
 use Rattle.down_framer.specs.Made.{counted_fields, Period, MadeFrame, octets_to_next, next_start, latest_start, hands_at, made_from, handed_due, next_frame, grown, made_frames}
 
-pub bridged_at-late : {A : Type 0} (ps : List (Period A)) (h : ℕ) → length ps ≤ h → hands_at h ps ≡ false
-bridged_at-late [] h l = refl
-bridged_at-late (p ∷ past) h l =
-    cond-false (h == length past) p.bridged (hands_at h past) (ne_eqb h (length past) (omega arith)) ∙ bridged_at-late past h (omega arith)
+pub hands_at-late : {A : Type 0} (ps : List (Period A)) (h : ℕ) → length ps ≤ h → hands_at h ps ≡ false
+hands_at-late [] h l = refl
+hands_at-late (p ∷ past) h l =
+    cond-false (h == length past) p.bridged (hands_at h past) (ne_eqb h (length past) (omega arith)) ∙ hands_at-late past h (omega arith)
 
-pub bridged_at-new : {A : Type 0} (p : Period A) (past : List (Period A)) (h : ℕ) → h ≡ length past → hands_at h (p ∷ past) ≡ p.bridged
-bridged_at-new p past h e = cond-true (h == length past) p.bridged (hands_at h past) (eq-eqb h (length past) e)
+pub hands_at-new : {A : Type 0} (p : Period A) (past : List (Period A)) (h : ℕ) → h ≡ length past → hands_at h (p ∷ past) ≡ p.bridged
+hands_at-new p past h e = cond-true (h == length past) p.bridged (hands_at h past) (eq-eqb h (length past) e)
 
-pub bridged_at-old : {A : Type 0} (p : Period A) (past : List (Period A)) (h : ℕ) → h < length past → hands_at h (p ∷ past) ≡ hands_at h past
-bridged_at-old p past h l = cond-false (h == length past) p.bridged (hands_at h past) (ne_eqb h (length past) (omega arith))
+pub hands_at-old : {A : Type 0} (p : Period A) (past : List (Period A)) (h : ℕ) → h < length past → hands_at h (p ∷ past) ≡ hands_at h past
+hands_at-old p past h l = cond-false (h == length past) p.bridged (hands_at h past) (ne_eqb h (length past) (omega arith))
 
 -- ---- how many frames were made since
 
@@ -107,6 +107,6 @@ latest_start-below (p ∷ past) s e = go p.starts (latest_start past) (latest_st
 -- a period outside of a bridge
 pub outside : {A : Type 0} (p : Period A) (past : List (Period A)) (h : ℕ) → p.bridged ≡ false → length past ≤ h → hands_at h (p ∷ past) ≡ false
 outside p past h b l = elim (cases_lt (length past) h) [
-  | inl later ↦ bridged_at-late (p ∷ past) h later
-  | inr here ↦ bridged_at-new p past h (omega arith) ∙ b
+  | inl later ↦ hands_at-late (p ∷ past) h later
+  | inr here ↦ hands_at-new p past h (omega arith) ∙ b
 ]

@@ -4,7 +4,7 @@ use Rattle.std.proofs.lemmas.Bool.{cases_lt, lt-ltb, le-ltb, cases_Bool, cond_bo
 use Rattle.down_framer.specs.Made.{Period, latest_start, hands_at}
 use Rattle.down_framer.specs.Bridges.{in_bridge, IsHistory}
 use Rattle.down_framer.specs.ByNumber.{Bridge, longer, bridges_in}
-use Rattle.down_framer.proofs.Due.{bridged_at-late, bridged_at-new, bridged_at-old, outside}
+use Rattle.down_framer.proofs.Due.{hands_at-late, hands_at-new, hands_at-old, outside}
 
 -- the latest bridge started at s; it has the periods from s on that lie in a bridge, and where the newest does, so many
 -- as there are
@@ -27,8 +27,8 @@ begun p past new = elim (cases_Bool p.bridged) [
     earlier = bridges_in past;
     is = list ∙ ap (λ to. bridge (length past) to ∷ bridges_in past) (cond-true p.bridged (length past + 1) (length past) goes);
     at = λ h m. elim (cases_lt (length past) h) [
-      | inl later ↦ bridged_at-late (p ∷ past) h later ∙ sym (le-ltb h (length past + 1) (omega arith))
-      | inr now ↦ bridged_at-new p past h (omega arith) ∙ goes ∙ sym (lt-ltb h (length past + 1) (omega arith))
+      | inl later ↦ hands_at-late (p ∷ past) h later ∙ sym (le-ltb h (length past + 1) (omega arith))
+      | inr now ↦ hands_at-new p past h (omega arith) ∙ goes ∙ sym (lt-ltb h (length past + 1) (omega arith))
     ];
     goes_on = λ b. omega arith;
     within = omega arith;
@@ -57,10 +57,10 @@ kept_on p past s old c l = elim (cases_Bool p.bridged) [
         earlier = l.earlier;
         is = list ∙ cond-true p.bridged (longer (bridges_in past)) (bridges_in past) goes ∙ ap longer l.is;
         at = λ h m. elim (cases_lt h (length past)) [
-          | inl before ↦ bridged_at-old p past h before ∙ l.at h m ∙ lt-ltb h l.to (omega arith) ∙ sym (lt-ltb h (l.to + 1) (omega arith))
+          | inl before ↦ hands_at-old p past h before ∙ l.at h m ∙ lt-ltb h l.to (omega arith) ∙ sym (lt-ltb h (l.to + 1) (omega arith))
           | inr after ↦ elim (cases_lt (length past) h) [
-            | inl later ↦ bridged_at-late (p ∷ past) h later ∙ sym (le-ltb h (l.to + 1) (omega arith))
-            | inr now ↦ bridged_at-new p past h (omega arith) ∙ goes ∙ sym (lt-ltb h (l.to + 1) (omega arith))
+            | inl later ↦ hands_at-late (p ∷ past) h later ∙ sym (le-ltb h (l.to + 1) (omega arith))
+            | inr now ↦ hands_at-new p past h (omega arith) ∙ goes ∙ sym (lt-ltb h (l.to + 1) (omega arith))
           ]
         ];
         goes_on = λ b. omega arith;
@@ -73,7 +73,7 @@ kept_on p past s old c l = elim (cases_Bool p.bridged) [
         earlier = l.earlier;
         is = list ∙ cond-false p.bridged (longer (bridges_in past)) (bridges_in past) out ∙ l.is;
         at = λ h m. elim (cases_lt h (length past)) [
-          | inl before ↦ bridged_at-old p past h before ∙ l.at h m
+          | inl before ↦ hands_at-old p past h before ∙ l.at h m
           | inr after ↦ outside p past h out after ∙ sym (le-ltb h l.to (omega arith))
         ];
         goes_on = λ b. let q : true ≡ false = sym b ∙ out in cc;

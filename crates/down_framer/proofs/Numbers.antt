@@ -7,12 +7,12 @@ use Rattle.down_framer.specs.Made.{Period, MadeFrame, next_start, latest_start, 
 use Rattle.down_framer.specs.Bridges.{in_bridge, IsHistory}
 use Rattle.down_framer.specs.ByNumber.{NumberedFrame, when, carried_item, fields_to, numbered_start, numbered_next, numbered_frames, bridges_in, asked_fields, numbered_of}
 use Rattle.down_framer.proofs.Timing.{AreMade-made_frames, next_start-grown, AreOnTime, AreOnTime-made_frames, grown-AreOnTime}
-use Rattle.down_framer.proofs.Due.{bridged_at-new, bridged_at-old, made_from-zero, none_made, one_made, no_shift, due-some}
+use Rattle.down_framer.proofs.Due.{hands_at-new, hands_at-old, made_from-zero, none_made, one_made, no_shift, due-some}
 use Rattle.down_framer.proofs.Waiting.{Phase, phase}
 use Rattle.down_framer.proofs.Latest.{went_on, start_now, start_before, so_far}
 use Rattle.down_framer.proofs.Used.{AreUsed, earlier_of, AreUsed-more, grown-more, used_step, used_before}
 use Rattle.down_framer.proofs.Asked.{fields_so_far, fields-agree}
-use Rattle.down_framer.proofs.Carried.{numbered_start-of, item_of-by, item-due, item-later}
+use Rattle.down_framer.proofs.Carried.{numbered_start-of, carried_item-by, item-due, item-later}
 
 record InStep {A : Type 0} (p : Period A) (past : List (Period A)) (s : ℕ) : Type 0 where
   few : s + made_from s (made_frames past) ≤ length past
@@ -22,7 +22,7 @@ exact_step : {A : Type 0} (p : Period A) (past : List (Period A)) (s : ℕ) → 
     s + made_from s (made_frames past) ≡ length past → InStep p past s
 exact_step p past s e b i = record {
   few = omega arith;
-  item = (s + made_from s (made_frames past), due-some (p ∷ past) (made_frames past) s e (bridged_at-new p past (s + made_from s (made_frames past)) i ∙ b));
+  item = (s + made_from s (made_frames past), due-some (p ∷ past) (made_frames past) s e (hands_at-new p past (s + made_from s (made_frames past)) i ∙ b));
 }
 
 in_step : {A : Type 0} (p : Period A) (past : List (Period A)) (s : ℕ) → IsHistory (p ∷ past) → latest_start (p ∷ past) ≡ Some s → p.bridged ≡ true →
@@ -43,7 +43,7 @@ in_step p past s h e b = elim (cases_Bool p.starts) [
           few = omega arith;
           item = (
             s + made_from s (made_frames past),
-            due-some (p ∷ past) (made_frames past) s e (bridged_at-old p past (s + made_from s (made_frames past)) (omega arith) ∙ behind.waits),
+            due-some (p ∷ past) (made_frames past) s e (hands_at-old p past (s + made_from s (made_frames past)) (omega arith) ∙ behind.waits),
           );
         }
 
@@ -87,7 +87,7 @@ next-numbered more p past fs h m up =
     let period : when (numbered_start (map numbered_of fs)) ≡ length past = ap when start ∙ omega arith in
     let one_more : length past + 1 ≡ length (p ∷ past) = omega arith in
     let item : carried_item bridges (when (numbered_start (map numbered_of fs))) (map numbered_of fs) ≡ handed_due (p ∷ past) fs =
-    ap (λ k. carried_item bridges k (map numbered_of fs)) period ∙ item_of-by bridges w fs m.on_time ∙
+    ap (λ k. carried_item bridges k (map numbered_of fs)) period ∙ carried_item-by bridges w fs m.on_time ∙
     item-later more p past fs h (λ s e b. m.few s e b up) ∙ item-due p past fs (so_far more (p ∷ past) h) m.spent in
     let asked : fields_to fields (when (numbered_start (map numbered_of fs))) (map numbered_of fs) ≡ counted_fields (p ∷ past) fs =
     ap (λ k. fields_to fields k (map numbered_of fs)) period ∙

@@ -4,7 +4,7 @@ use Rattle.std.proofs.lemmas.Bool.{cases_lt, cases_Bool, cond-true, cond-false}
 use Rattle.down_framer.specs.Made.{Period, MadeFrame, next_start, latest_start, hands_at, made_from, handed_due, next_frame, grown, made_frames}
 use Rattle.down_framer.specs.Bridges.{in_bridge, IsHistory}
 use Rattle.down_framer.proofs.Timing.{AreMade, AreMade-made_frames}
-use Rattle.down_framer.proofs.Due.{bridged_at-late, bridged_at-new, bridged_at-old, made_from-next, no_shift, due-some, due-none, carries_one, makes_none, made_from-zero, made-later, latest_start-below, outside}
+use Rattle.down_framer.proofs.Due.{hands_at-late, hands_at-new, hands_at-old, made_from-next, no_shift, due-some, due-none, carries_one, makes_none, made_from-zero, made-later, latest_start-below, outside}
 
 -- no frame waits, and within the bridge none has been late
 pub record Level {A : Type 0} (s : ℕ) (ps : List (Period A)) (fs : List (MadeFrame A)) : Type 0 where
@@ -36,11 +36,11 @@ on_time : {A : Type 0} (p : Period A) (past : List (Period A)) (fs : List (MadeF
     s + made_from s fs ≡ length past → next_start fs ≤ 160 * length past → 160 * length past < next_start fs + 160 →
     Phase s (p ∷ past) (grown p past (grown p past fs))
 on_time p past fs s e b i up low =
-    let d = due-some (p ∷ past) fs s e (bridged_at-new p past (s + made_from s fs) i ∙ b) in
+    let d = due-some (p ∷ past) fs s e (hands_at-new p past (s + made_from s fs) i ∙ b) in
     let n = no_shift p past fs (s + made_from s fs) d in
     let m = made_from-next p past fs s (omega arith) in
     let l : Level s (p ∷ past) (next_frame p past fs ∷ fs) = record {
-      over = λ h a. bridged_at-late (p ∷ past) h (omega arith);
+      over = λ h a. hands_at-late (p ∷ past) h (omega arith);
       exact = λ t. omega arith;
       soon = λ t. omega arith;
     } in
@@ -52,7 +52,7 @@ late : {A : Type 0} (p : Period A) (past : List (Period A)) (fs : List (MadeFram
     Phase s (p ∷ past) (grown p past (grown p past fs))
 late p past fs s b i low high =
     let w : Behind s (p ∷ past) fs = record {
-      waits = bridged_at-new p past (s + made_from s fs) i ∙ b;
+      waits = hands_at-new p past (s + made_from s fs) i ∙ b;
       newest = omega arith;
       low = omega arith;
       high = omega arith;
@@ -66,12 +66,12 @@ one_behind p past fs s e w =
     let before : s + made_from s fs + 1 ≡ length past = w.newest in
     let low = w.low in
     let high = w.high in
-    let d = due-some (p ∷ past) fs s e (bridged_at-old p past (s + made_from s fs) (omega arith) ∙ w.waits) in
+    let d = due-some (p ∷ past) fs s e (hands_at-old p past (s + made_from s fs) (omega arith) ∙ w.waits) in
     let n = no_shift p past fs (s + made_from s fs) d in
     let m = made_from-next p past fs s (omega arith) in
     let i : s + made_from s (next_frame p past fs ∷ fs) ≡ length past = omega arith in
     let now : Phase s (p ∷ past) (next_frame p past fs ∷ fs) = elim (cases_Bool p.bridged) [
-      | inl goes ↦ inr (record { waits = bridged_at-new p past _ i ∙ goes; newest = omega arith; low = omega arith; high = omega arith })
+      | inl goes ↦ inr (record { waits = hands_at-new p past _ i ∙ goes; newest = omega arith; low = omega arith; high = omega arith })
       | inr out ↦
           inl (record {
             over = λ h a. outside p past h out (omega arith);
@@ -88,7 +88,7 @@ over_now p past fs s b l o =
     let m = made-later p past fs s l in
     inl (record {
       over = λ h a. elim (cases_lt h (length past)) [
-        | inl old ↦ bridged_at-old p past h old ∙ o h (omega arith) old
+        | inl old ↦ hands_at-old p past h old ∙ o h (omega arith) old
         | inr here ↦ outside p past h b here
       ];
       exact = λ t. let q : true ≡ false = sym t ∙ b in cc;
@@ -140,7 +140,7 @@ one_waits ps s h k e d = waits_one ps (made_frames ps) s h e (phase ps s k e) d
 -- once a period lies outside of the bridge, no frame waits: a bridge may start anew
 newest_out : {A : Type 0} (ps : List (Period A)) (h : ℕ) → in_bridge ps ≡ false → h + 1 ≡ length ps → hands_at h ps ≡ false
 newest_out [] h b l = refl
-newest_out (p ∷ past) h b l = bridged_at-new p past h (omega arith) ∙ b
+newest_out (p ∷ past) h b l = hands_at-new p past h (omega arith) ∙ b
 
 drained_in : {A : Type 0} (ps : List (Period A)) (fs : List (MadeFrame A)) (s : ℕ) → latest_start ps ≡ Some s → in_bridge ps ≡ false → Phase s ps fs →
     handed_due ps fs ≡ None

@@ -4,7 +4,7 @@ use Rattle.std.specs.Prelude.{◌&&◌, is_some, filter, nat_le, nat_lt, ◌==�
 use Rattle.std.specs.List.{AllByRecursion}
 use Rattle.std.proofs.lemmas.Bool.{cases_Bool, cases_lt, cases_eq, le-leb, lt-leb, lt-ltb, le-ltb, eq-eqb, ne_eqb, cond_both, and_from}
 use Rattle.down_framer.specs.Made.{Period, MadeFrame, next_start, latest_start, hands_at, made_from, handed_due, epoch_of, next_frame, grown, made_frames}
-use Rattle.down_framer.proofs.Due.{bridged_at-late, bridged_at-old, due-some, due-none}
+use Rattle.down_framer.proofs.Due.{hands_at-late, hands_at-old, due-some, due-none}
 use Rattle.call_leg.specs.Down.{CallFrame}
 use Rattle.call_leg.specs.Places.{carried}
 use Rattle.run_spec.specs.Facts.{carries_in}
@@ -33,7 +33,7 @@ carries_more p past epoch h k = by p.starts refl
         let w = k.within in
         record {
           inside = let i = k.inside in omega arith;
-          bridged = bridged_at-old p past h k.inside ∙ k.bridged;
+          bridged = hands_at-old p past h k.inside ∙ k.bridged;
           start = length past;
           latest = ap (λ (b : Bool). if b then Some (length past) else latest_start past) e;
           within = omega arith;
@@ -46,7 +46,7 @@ carries_more p past epoch h k = by p.starts refl
         let w = k.within in
         record {
           inside = let i = k.inside in omega arith;
-          bridged = bridged_at-old p past h k.inside ∙ k.bridged;
+          bridged = hands_at-old p past h k.inside ∙ k.bridged;
           start = k.start;
           latest = ap (λ (b : Bool). if b then Some (length past) else latest_start past) e ∙ k.latest;
           within = omega arith;
@@ -74,7 +74,7 @@ carries_new : {A : Type 0} (p : Period A) (past : List (Period A)) (fs : List (M
 carries_new p past fs h e =
     let d = due_parts (p ∷ past) fs h e in
     record {
-      inside = elim (cases_lt h (length (p ∷ past))) [ inl l ↦ l | inr l ↦ absurd (no _ (bridged_at-late (p ∷ past) h l) d.3) ];
+      inside = elim (cases_lt h (length (p ∷ past))) [ inl l ↦ l | inr l ↦ absurd (no _ (hands_at-late (p ∷ past) h l) d.3) ];
       bridged = d.3;
       start = d.0;
       latest = d.1;
