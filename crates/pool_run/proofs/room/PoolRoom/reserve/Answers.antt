@@ -27,4 +27,5 @@ invariant_of-result g c =
 pub give_rows-requires-clause-unused : goal.give_rows-requires-clause-unused
 give_rows-requires-clause-unused g c =
     subst (λ (us : List (Thief g.row.W.Denot)). IsUnused g.W.Work.finish us c.as_mut_slice.result.now 0) (sym c.as_slice.ensures.value)
-    (subst (λ (ms : List (Member g.row.W.Denot)). IsUnused g.W.Work.finish c.in_ok-members.thieves.items ms 0) (sym c.as_mut_slice.ensures.value) c.in_ok-members.ensures.unused)
+    (subst (λ (ms : List (Member g.row.W.Denot)). IsUnused g.W.Work.finish c.in_ok-members.thieves.items ms 0)
+    (sym c.as_mut_slice.ensures.value) c.in_ok-members.ensures.unused)
