@@ -54,7 +54,7 @@ module _ {W : Type 0} where
 
   -- what a worker pushes, finishes and holds grows by what it obtains: no job is lost, none made up
   pub record Moves (finish : W → W) (thieves : List (Thief W)) (old : Member W) (hand : Option (Task W)) (new : Member W)
-  (next : Option (Task W)) : Type 0 where
+      (next : Option (Task W)) : Type 0 where
     pub ready : IsReady finish thieves new
     pub deque : worker_deque new.own ≡ worker_deque old.own
     pub parts : (worker_view new.own).parts ≡ (worker_view old.own).parts

@@ -9,6 +9,5 @@ returns g c =
       arith,
       c.len.ensures,
       (get_or ms c.args.j c.index-members-j.result).passes.ok.0,
-      ap length
-          (passes_at ms c.args.j c.index-members-j.result c.requires),
+      ap length (passes_at ms c.args.j c.index-members-j.result c.requires),
     )
