@@ -26,7 +26,8 @@ unfolding item_of
 bits-item d ups = AreBits-bits260 _
 
 -- each item that is handed to a call is one of its partner's
-each-item : (P : List ℕ → Type 0) → ((d : ℕ) (ups : List (List ℕ)) → P (item_of d ups)) → (r : Run) (c : ℕ) → All (λ span. All P span.items) (whole_call r c).spans
+each-item : (P : List ℕ → Type 0) → ((d : ℕ) (ups : List (List ℕ)) → P (item_of d ups)) → (r : Run) (c : ℕ) →
+    All (λ span. All P span.items) (whole_call r c).spans
 each-item P each r c =
     All-map (λ span. All P span.items) (span_for r c) (filter (begins_in r c) (spans_in r))
     (λ k d l. All-map P (item_in r (partner_in c (get_or (filter (begins_in r c) (spans_in r)) k d))) _ (λ i e m. each _ _))

@@ -4,7 +4,7 @@ use Rattle.std.specs.Prelude.{◌==◌}
 use Rattle.std.proofs.lemmas.Bool.{cond-true, cond-false, ne_eqb}
 use Rattle.time_align.specs.Shift.{latest_ask}
 use Rattle.down_framer.specs.Made.{Period, MadeFrame, latest_start, made_from, hands_at, handed_due, counted_fields, next_frame}
-use Rattle.down_framer.proofs.Waiting.{made_from-next, latest_start-below}
+use Rattle.down_framer.proofs.Due.{made_from-next, latest_start-below}
 use Rattle.call_leg.specs.Periods.{CallPeriod}
 use Rattle.call_leg.specs.Down.{CallFrame, down_period, down_periods}
 use Rattle.call_leg.specs.Waiting.{place_at, due_at, bits_in, Waits}

@@ -56,7 +56,8 @@ length-settings_of (t ∷ past) = let n = length-settings_of past in length-appe
 
 -- what is said of each period, by its number
 pub each-of : {B : Type 0} (who : Who) (ts : List CallPeriod) (f : ℕ → B) (value : CallPeriod → List CallPeriod → B) →
-    ((t : CallPeriod) (past : List CallPeriod) → IsPeriod ts t past → f (length past) ≡ value t past) → map f (each_period (call_of_history who ts)) ≡ each value ts
+    ((t : CallPeriod) (past : List CallPeriod) → IsPeriod ts t past → f (length past) ≡ value t past) →
+    map f (each_period (call_of_history who ts)) ≡ each value ts
 each-of who ts f value h = ap (λ n. map f (range_with_len 0 n)) (length-settings_of ts) ∙ each-numbered ts f value h
 
 ups-back : (ts : List CallPeriod) → each_back (λ t past. t.up) ts ≡ ups_of ts
@@ -67,7 +68,8 @@ pub ups-read : (who : Who) (ts : List CallPeriod) → IsCallHistory ts → up_pe
 ups-read who ts h =
     each-of who ts (λ k. take 40 (drop (40 * k) (up_in_history ts))) (λ t past. t.up)
     (λ t past p.
-    ap (λ us. take 40 (drop (40 * length past) (up_in_history us))) (sym p.1) ∙ up-at p.0 t past (subst (λ us. All (λ t. length t.up ≡ 40) us) (sym p.1) h.ups)) ∙
+    ap (λ us. take 40 (drop (40 * length past) (up_in_history us))) (sym p.1)
+    ∙ up-at p.0 t past (subst (λ us. All (λ t. length t.up ≡ 40) us) (sym p.1) h.ups)) ∙
     each-reverse (λ t past. t.up) ts ∙ ap reverse (ups-back ts)
 
 -- ---- what the search finds
@@ -96,9 +98,11 @@ heards-back : (ts : List CallPeriod) → each_back (λ t past. heard_as (sightin
 heards-back [] = refl
 heards-back (t ∷ past) = ap (λ z. heard_as (sighting_after past t.up) ∷ z) (heards-back past)
 
-heards-read : (who : Who) (ts : List CallPeriod) → IsCallHistory ts → map (heard_at (call_of_history who ts)) (each_period (call_of_history who ts)) ≡ reverse (heard_of ts)
+heards-read : (who : Who) (ts : List CallPeriod) → IsCallHistory ts →
+    map (heard_at (call_of_history who ts)) (each_period (call_of_history who ts)) ≡ reverse (heard_of ts)
 heards-read who ts h =
-    each-of who ts (heard_at (call_of_history who ts)) (λ t past. heard_as (sighting_after past t.up)) (λ t past p. ap heard_as (seen-period who ts t past h p)) ∙
+    each-of who ts (heard_at (call_of_history who ts)) (λ t past. heard_as (sighting_after past t.up))
+    (λ t past p. ap heard_as (seen-period who ts t past h p)) ∙
     each-reverse (λ t past. heard_as (sighting_after past t.up)) ts ∙ ap reverse (heards-back ts)
 
 heards-later : (later ts : List CallPeriod) → (more : List Heard) × (heard_of (later ++ ts) ≡ more ++ heard_of ts)
@@ -125,7 +129,8 @@ received-front memory (y ∷ ys) zs =
     (rest.0, ap (λ es. (received memory y).0 ∷ es) rest.1)
 
 -- a period's effective frame is the same whatever comes later
-effective-front : LooksBack → (call : ℕ) (ys zs : List Heard) (k : ℕ) → k < length ys → effective_at call (heard_in (ys ++ zs)) k ≡ effective_at call (heard_in ys) k
+effective-front : LooksBack → (call : ℕ) (ys zs : List Heard) (k : ℕ) → k < length ys →
+    effective_at call (heard_in (ys ++ zs)) k ≡ effective_at call (heard_in ys) k
 effective-front look call ys zs k l =
     let all : List Heard = ys ++ zs in
     let long = length-append ys zs in
@@ -158,14 +163,16 @@ fields-back (t ∷ past) = ap (λ z. field_of (sighting_after past t.up) ∷ z) 
 
 pub fields-read : (who : Who) (ts : List CallPeriod) → IsCallHistory ts → fields (call_of_history who ts) ≡ asked_fields (down_periods ts)
 fields-read who ts h =
-    each-of who ts (λ k. field_of (seen_at (call_of_history who ts) k)) (λ t past. field_of (sighting_after past t.up)) (λ t past p. ap field_of (seen-period who ts t past h p)) ∙
+    each-of who ts (λ k. field_of (seen_at (call_of_history who ts) k)) (λ t past. field_of (sighting_after past t.up))
+    (λ t past p. ap field_of (seen-period who ts t past h p)) ∙
     each-reverse (λ t past. field_of (sighting_after past t.up)) ts ∙ ap reverse (fields-back ts)
 
 settings-each : (ts : List CallPeriod) → settings_of ts ≡ each (λ t past. setting_of t) ts
 settings-each [] = refl
 settings-each (t ∷ past) = ap (λ z. z ++ setting_of t ∷ []) (settings-each past)
 
-pub setting-period : (who : Who) (ts : List CallPeriod) (t : CallPeriod) (past : List CallPeriod) → IsPeriod ts t past → setting_at (call_of_history who ts) (length past) ≡ setting_of t
+pub setting-period : (who : Who) (ts : List CallPeriod) (t : CallPeriod) (past : List CallPeriod) → IsPeriod ts t past →
+    setting_at (call_of_history who ts) (length past) ≡ setting_of t
 setting-period who ts t past p =
     ap (λ z. get_or z (length past) (record { level = pos 256; mode = Uplink })) (settings-each ts) ∙
     each-at (λ t past. setting_of t) (record { level = pos 256; mode = Uplink }) ts t past p
@@ -180,4 +187,5 @@ dtxd-period who ts t (u ∷ past) h p =
 pub dtx-period : (who : Who) (ts : List CallPeriod) (t : CallPeriod) (past : List CallPeriod) → IsCallHistory ts → IsPeriod ts t past →
     dtx_at (call_of_history who ts) (length past) ≡ dtx_now (t ∷ past)
 dtx-period who ts t past h p =
-    ap (λ s. dtx_in s.mode (dtxd_at (call_of_history who ts) (length past))) (setting-period who ts t past p) ∙ ap (dtx_in t.mode) (dtxd-period who ts t past h p)
+    ap (λ s. dtx_in s.mode (dtxd_at (call_of_history who ts) (length past))) (setting-period who ts t past p)
+    ∙ ap (dtx_in t.mode) (dtxd-period who ts t past h p)

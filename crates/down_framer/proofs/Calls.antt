@@ -7,7 +7,8 @@ use Rattle.down_framer.specs.Step.{after_put, after_frame, after_take}
 use Rattle.down_framer.specs.Stands.{Holds}
 use Rattle.down_framer.proofs.Lists.{drop-append}
 
-pub put-holds : (s : FramerMemory) (octets pcm line : List ℕ) (out start : ℕ) → length octets ≡ 160 → Holds pcm line out start s → Holds (pcm ++ octets) line out start (after_put s octets)
+pub put-holds : (s : FramerMemory) (octets pcm line : List ℕ) (out start : ℕ) → length octets ≡ 160 → Holds pcm line out start s →
+    Holds (pcm ++ octets) line out start (after_put s octets)
 put-holds s octets pcm line out start l h =
     let held = h.held in
     let skip = h.to_skip in
@@ -18,7 +19,8 @@ put-holds s octets pcm line out start l h =
       stored = h.stored;
     }
 
-pub frame-holds : (s : FramerMemory) (f : List ℕ) (shift : ℤ) (pcm line : List ℕ) (out start : ℕ) → 160 ≤ length s.held → out ≤ length line → Holds pcm line out start s →
+pub frame-holds : (s : FramerMemory) (f : List ℕ) (shift : ℤ) (pcm line : List ℕ) (out start : ℕ) → 160 ≤ length s.held → out ≤ length line →
+    Holds pcm line out start s →
     Holds pcm (line ++ frame_on_line shift f) out (start + octets_to_next shift) (after_frame s f shift)
 frame-holds s f shift pcm line out start r l h =
     let n : length s.held ≡ length pcm - start = ap length h.held ∙ length-drop start pcm in

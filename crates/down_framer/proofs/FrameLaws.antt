@@ -14,7 +14,8 @@ use Rattle.down_framer.proofs.Waiting.{drained}
 abbrev InTime : {A : Type 0} → ℕ → MadeFrame A → Type 0
 InTime k f = (f.period ≡ when f.start) × (f.start + 160 ≤ 160 * k)
 
-grown-in_time : {A : Type 0} (p : Period A) (past : List (Period A)) (fs : List (MadeFrame A)) → 160 * length past < next_start fs + 160 → All (InTime (length (p ∷ past))) fs →
+grown-in_time : {A : Type 0} (p : Period A) (past : List (Period A)) (fs : List (MadeFrame A)) → 160 * length past < next_start fs + 160 →
+    All (InTime (length (p ∷ past))) fs →
     All (InTime (length (p ∷ past))) (grown p past fs)
 grown-in_time p past fs low h =
     cond_both (nat_le (next_start fs) (160 * length past)) (next_frame p past fs ∷ fs) fs (All (InTime (length (p ∷ past))))
@@ -29,7 +30,8 @@ all_in_time (p ∷ past) =
     let a = AreMade-made_frames past in
     let low = a.low in
     let n = next_start-grown p past (made_frames past) in
-    let before = All-weaker (InTime (length past)) (InTime (length (p ∷ past))) (λ f t. (t.0, let l = t.1 in omega arith)) (made_frames past) (all_in_time past) in
+    let before =
+    All-weaker (InTime (length past)) (InTime (length (p ∷ past))) (λ f t. (t.0, let l = t.1 in omega arith)) (made_frames past) (all_in_time past) in
     grown-in_time p past (grown p past (made_frames past)) (omega arith) (grown-in_time p past (made_frames past) low before)
 
 pub in_time : {A : Type 0} (ps : List (Period A)) → AreInTime (length ps) (made_frames ps)

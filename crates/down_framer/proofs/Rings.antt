@@ -15,11 +15,13 @@ use Rattle.down_framer.proofs.Timing.{octets_of-bounds}
 
 -- ---- a frame on the line, by the octets that it takes
 
-pub on_line : (shift : ℤ) (f : List ℕ) → IsShift shift → length f ≡ 320 → take (min (2 * octets_to_next shift) 320) f ++ replicate (2 * octets_to_next shift - 320) 1 ≡ frame_on_line shift f
+pub on_line : (shift : ℤ) (f : List ℕ) → IsShift shift → length f ≡ 320 →
+    take (min (2 * octets_to_next shift) 320) f ++ replicate (2 * octets_to_next shift - 320) 1 ≡ frame_on_line shift f
 on_line (pos v) f s l =
     let a : min (2 * (160 + v)) 320 ≡ 320 = omega arith in
     let b : 2 * (160 + v) - 320 ≡ 2 * v = omega arith in
-    ap (λ k. take k f ++ replicate (2 * (160 + v) - 320) 1) a ∙ ap (λ k. take 320 f ++ replicate k 1) b ∙ ap (λ z. z ++ replicate (2 * v) 1) (take_all 320 f (omega arith))
+    ap (λ k. take k f ++ replicate (2 * (160 + v) - 320) 1) a ∙ ap (λ k. take 320 f ++ replicate k 1) b
+    ∙ ap (λ z. z ++ replicate (2 * v) 1) (take_all 320 f (omega arith))
 on_line (negsuc v) f s l =
     let a : min (2 * (159 - v)) 320 ≡ 316 = omega arith in
     let b : 2 * (159 - v) - 320 ≡ 0 = omega arith in
@@ -56,14 +58,16 @@ framed bits octets bits1 bits2 octets1 f ones shift step held gone kept more n1 
     let emm : more ≡ 2 * octets_to_next shift - 320 = em ∙ ap (λ k. 2 * k - 320) es in
     record {
       stored = i2 ∙ ap (λ z. z ++ replicate more 1) i1 ∙ append_assoc bits.items (take kept f) (replicate more 1) ∙
-          ap (λ z. bits.items ++ z) (ap (λ k. take k f ++ replicate more 1) ekk ∙ ap (λ k. take (min (2 * octets_to_next shift) 320) f ++ replicate k 1) emm ∙ on_line shift f sh lf);
+          ap (λ z. bits.items ++ z)
+          (ap (λ k. take k f ++ replicate more 1) ekk ∙ ap (λ k. take (min (2 * octets_to_next shift) 320) f ++ replicate k 1) emm ∙ on_line shift f sh lf);
       held = ap (λ (b : Buffer ℕ). b.items) eo ∙ kept_last held step gone octets.items eh eg ∙ ap (λ k. drop k octets.items) es;
       rooms = (c2 ∙ c1, ap (λ (b : Buffer ℕ). b.capacity) eo);
       to_skip = omega arith;
     }
 
 pub framed-view : (bits octets bits1 octets1 : Buffer ℕ) (f : List ℕ) (shift : ℤ) (skip old : ℕ) → Framed bits octets bits1 octets1 f shift skip →
-    (let s : FramerMemory = record { stored = bits1.items; held = octets1.items; to_skip = skip } in s) ≡ after_frame (record { stored = bits.items; held = octets.items; to_skip = old }) f shift
+    (let s : FramerMemory = record { stored = bits1.items; held = octets1.items; to_skip = skip } in s)
+    ≡ after_frame (record { stored = bits.items; held = octets.items; to_skip = old }) f shift
 framed-view bits octets bits1 octets1 f shift skip old h =
     let a = h.stored in let b = h.held in let d = h.to_skip in cc
 
@@ -71,7 +75,8 @@ are_bits-on_line : (shift : ℤ) (f : List ℕ) → AreBits f → AreBits (frame
 are_bits-on_line (pos v) f a = All-append (λ b. b < 2) f (replicate (2 * v) 1) a (All-replicate (λ b. b < 2) (2 * v) 1 (omega arith))
 are_bits-on_line (negsuc v) f a = All-take (λ b. b < 2) 316 f a
 
-pub frame_within : (s : FramerMemory) (f : List ℕ) (shift : ℤ) → IsWithinPeriod s → IsShift shift → length f ≡ 320 → 160 ≤ length s.held → s.to_skip ≡ 0 → IsWithinPeriod (after_frame s f shift)
+pub frame_within : (s : FramerMemory) (f : List ℕ) (shift : ℤ) → IsWithinPeriod s → IsShift shift → length f ≡ 320 → 160 ≤ length s.held → s.to_skip ≡ 0 →
+    IsWithinPeriod (after_frame s f shift)
 frame_within s f shift w sh lf ready none =
     let balance = w.balance in
     let room = w.room in
@@ -80,7 +85,8 @@ frame_within s f shift w sh lf ready none =
     let m = length-drop (octets_to_next shift) s.held in
     record { balance = omega arith; room = omega arith }
 
-pub framed-rings : (bits octets bits1 octets1 : Buffer ℕ) (f : List ℕ) (shift : ℤ) (skip old : ℕ) → AreRings bits octets old → IsWithinPeriod (ring_memory bits octets old) → Framed bits octets bits1 octets1 f shift skip →
+pub framed-rings : (bits octets bits1 octets1 : Buffer ℕ) (f : List ℕ) (shift : ℤ) (skip old : ℕ) → AreRings bits octets old →
+    IsWithinPeriod (ring_memory bits octets old) → Framed bits octets bits1 octets1 f shift skip →
     IsShift shift → AreBits f → length f ≡ 320 → 160 ≤ length octets.items → length bits.items ≤ 320 → AreRings bits1 octets1 skip
 framed-rings bits octets bits1 octets1 f shift skip old r w h sh a lf ready low =
     let balance = w.balance in
@@ -91,7 +97,8 @@ framed-rings bits octets bits1 octets1 f shift skip old r w h sh a lf ready low 
     let hr = h.rooms in
     let hs = h.to_skip in
     let ob = octets_of-bounds shift sh in
-    let n : length bits1.items ≡ length bits.items + 2 * octets_to_next shift = ap length h.stored ∙ length-append bits.items (frame_on_line shift f) ∙ ap (λ k. length bits.items + k) (length-frame_on_line shift f sh lf) in
+    let n : length bits1.items ≡ length bits.items + 2 * octets_to_next shift =
+    ap length h.stored ∙ length-append bits.items (frame_on_line shift f) ∙ ap (λ k. length bits.items + k) (length-frame_on_line shift f sh lf) in
     let m : length octets1.items ≡ length octets.items - octets_to_next shift = ap length h.held ∙ length-drop (octets_to_next shift) octets.items in
     record {
       rooms = (hr.0 ∙ rooms.0, hr.1 ∙ rooms.1);
@@ -99,7 +106,9 @@ framed-rings bits octets bits1 octets1 f shift skip old r w h sh a lf ready low 
       bounded = omega arith;
       none_held = λ z. omega arith;
       are_bits = subst AreBits (sym h.stored) (All-append (λ b. b < 2) bits.items (frame_on_line shift f) r.are_bits (are_bits-on_line shift f a));
-      phase = inr (subst IsWithinPeriod (sym (framed-view bits octets bits1 octets1 f shift skip old h)) (frame_within (ring_memory bits octets old) f shift w sh lf ready (skipped (omega arith))));
+      phase =
+          inr (subst IsWithinPeriod (sym (framed-view bits octets bits1 octets1 f shift skip old h))
+          (frame_within (ring_memory bits octets old) f shift w sh lf ready (skipped (omega arith))));
     }
 
 new_store : (bits bits1 : Buffer ℕ) (ones : List ℕ) (n : ℕ) → bits ≡ buffer [] 960 → ones ≡ replicate 320 1 →
@@ -112,7 +121,8 @@ new_store bits bits1 ones n eb el en e1 =
     ap (λ (b : Buffer ℕ). b.items) e1 ∙ ap (λ z. z ++ take n ones) none ∙ take_all n ones (omega arith) ∙ el
 
 pub new-view : (bits bits1 octets : Buffer ℕ) (ones : List ℕ) (n : ℕ) → bits ≡ buffer [] 960 → octets ≡ buffer [] 320 → ones ≡ replicate 320 1 →
-    n ≡ min (length ones) (bits.capacity - length bits.items) → bits1 ≡ buffer (bits.items ++ take n ones) bits.capacity → ring_memory bits1 octets 0 ≡ home_memory
+    n ≡ min (length ones) (bits.capacity - length bits.items) → bits1 ≡ buffer (bits.items ++ take n ones) bits.capacity →
+    ring_memory bits1 octets 0 ≡ home_memory
 new-view bits bits1 octets ones n eb eo el en e1 =
     let stored = new_store bits bits1 ones n eb el en e1 in
     let held : octets.items ≡ [] = ap (λ (b : Buffer ℕ). b.items) eo in
@@ -145,16 +155,20 @@ put_within s octets between l b =
     let rest = length-drop s.to_skip octets in
     record { balance = omega arith; room = omega arith }
 
-pub put-view : (bits octets octets1 : Buffer ℕ) (new part : List ℕ) (skip n : ℕ) {held : ℕ} → AreRings bits octets skip → length octets.items ≡ held → held < 160 → length new ≡ 160 →
-    part ≡ take (160 - skip) (drop skip new) → n ≡ min (length part) (octets.capacity - length octets.items) → octets1 ≡ buffer (octets.items ++ take n part) octets.capacity →
-    (let s : FramerMemory = record { stored = bits.items; held = octets1.items; to_skip = 0 } in s) ≡ after_put (record { stored = bits.items; held = octets.items; to_skip = skip }) new
+pub put-view : (bits octets octets1 : Buffer ℕ) (new part : List ℕ) (skip n : ℕ) {held : ℕ} → AreRings bits octets skip → length octets.items ≡ held →
+    held < 160 → length new ≡ 160 →
+    part ≡ take (160 - skip) (drop skip new) → n ≡ min (length part) (octets.capacity - length octets.items) →
+    octets1 ≡ buffer (octets.items ++ take n part) octets.capacity →
+    (let s : FramerMemory = record { stored = bits.items; held = octets1.items; to_skip = 0 } in s)
+    ≡ after_put (record { stored = bits.items; held = octets.items; to_skip = skip }) new
 put-view bits octets octets1 new part skip n r lh short l ep en e1 =
     let rooms = r.rooms in
     let bounded = r.bounded in
     let d = length-drop skip new in
     let p : part ≡ drop skip new = ep ∙ take_all (160 - skip) (drop skip new) (omega arith) in
     let lp : length part ≡ 160 - skip = ap length p ∙ d ∙ omega arith in
-    let i : octets1.items ≡ octets.items ++ drop skip new = ap (λ (b : Buffer ℕ). b.items) e1 ∙ ap (λ z. octets.items ++ z) (filled n (octets.capacity - length octets.items) part en (omega arith) ∙ p) in
+    let i : octets1.items ≡ octets.items ++ drop skip new =
+    ap (λ (b : Buffer ℕ). b.items) e1 ∙ ap (λ z. octets.items ++ z) (filled n (octets.capacity - length octets.items) part en (omega arith) ∙ p) in
     let z : 0 ≡ skip - 160 = omega arith in
     cc
 

@@ -43,9 +43,12 @@ AreMade-made_frames (p ∷ past) =
     two (next_start-grown p past (made_frames past)) (next_start-grown p past (grown p past (made_frames past))) h.low h.high
   where
     two : ((160 * length past < next_start (made_frames past)) × (next_start (grown p past (made_frames past)) ≡ next_start (made_frames past))) ⊎
-        ((next_start (made_frames past) ≤ 160 * length past) × (next_start (made_frames past) + 158 ≤ next_start (grown p past (made_frames past))) × (next_start (grown p past (made_frames past)) ≤ next_start (made_frames past) + 316)) →
-        ((160 * length past < next_start (grown p past (made_frames past))) × (next_start (made_frames (p ∷ past)) ≡ next_start (grown p past (made_frames past)))) ⊎
-        ((next_start (grown p past (made_frames past)) ≤ 160 * length past) × (next_start (grown p past (made_frames past)) + 158 ≤ next_start (made_frames (p ∷ past))) × (next_start (made_frames (p ∷ past)) ≤ next_start (grown p past (made_frames past)) + 316)) →
+        ((next_start (made_frames past) ≤ 160 * length past) × (next_start (made_frames past) + 158 ≤ next_start
+        (grown p past (made_frames past))) × (next_start (grown p past (made_frames past)) ≤ next_start (made_frames past) + 316)) →
+        ((160 * length past < next_start (grown p past (made_frames past)))
+        × (next_start (made_frames (p ∷ past)) ≡ next_start (grown p past (made_frames past)))) ⊎
+        ((next_start (grown p past (made_frames past)) ≤ 160 * length past) × (next_start (grown p past (made_frames past)) + 158 ≤ next_start
+        (made_frames (p ∷ past))) × (next_start (made_frames (p ∷ past)) ≤ next_start (grown p past (made_frames past)) + 316)) →
         160 * length past < next_start (made_frames past) + 160 → next_start (made_frames past) ≤ 160 * length past + 156 →
         AreMade (length (p ∷ past)) (made_frames (p ∷ past))
     two a b low high = record { low = omega arith; high = omega arith }
@@ -56,7 +59,8 @@ abbrev pub AreOnTime : {A : Type 0} → List (MadeFrame A) → Type 0
 AreOnTime [] = Unit {0}
 AreOnTime (f ∷ fs) = ((f.start + 159) / 160 ≡ f.period) × AreOnTime fs
 
-pub grown-AreOnTime : {A : Type 0} (p : Period A) (past : List (Period A)) (fs : List (MadeFrame A)) → 160 * length past < next_start fs + 160 → AreOnTime fs → AreOnTime (grown p past fs)
+pub grown-AreOnTime : {A : Type 0} (p : Period A) (past : List (Period A)) (fs : List (MadeFrame A)) → 160 * length past < next_start fs + 160 → AreOnTime fs →
+    AreOnTime (grown p past fs)
 grown-AreOnTime p past fs low h =
     cond_both (nat_le (next_start fs) (160 * length past)) (next_frame p past fs ∷ fs) fs AreOnTime
     (λ yes. let up : next_start fs ≤ 160 * length past = leb-true _ _ yes in (omega arith, h))

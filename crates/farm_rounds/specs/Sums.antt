@@ -1,10 +1,15 @@
 -- The sums of the octets of each line, modulo 2^32, and what a round adds to them (this project's profile).
-use Rattle.std.specs.Prelude.{◌≡◌, ℕ, ◌+◌, ◌^◌, ◌%◌, ◌<◌, List, length}
+use Rattle.std.specs.Prelude.{◌≡◌, ℕ, ◌+◌, ◌^◌, ◌%◌, ◌<◌, List, length, slice_index_or}
 use Rattle.std.specs.List.{sum}
 use Rattle.trau_io.specs.declared.line.Side.{Side}
 use Rattle.trau_io.specs.declared.line.Side.TheVariants.{Down, Out}
+use Rattle.trau_io.specs.Places.{place_of}
 use Rattle.round_lines.specs.Seats.{SeatMemory, down_given, out_given}
 use Rattle.round_lines.specs.Rounds.{IsOutgoing, seat_at, call_at}
+
+-- the sum of a line, in a table of all lines; 0 of a number that no line has
+abbrev pub sum_in : List ℕ → ℕ → Side → ℕ
+sum_in sums c s = slice_index_or sums (place_of c s) 0
 
 -- before any round
 abbrev pub no_sums : ℕ → Side → ℕ

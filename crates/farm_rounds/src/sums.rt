@@ -4,7 +4,7 @@ ghost use Rattle.std.specs.Prelude.{◌≡◌, ℕ, ◌+◌, ◌^◌, ◌%◌, I
 ghost use Rattle.std.specs.List.{sum};
 ghost use Rattle.trau_io.specs.declared.line.Side.{Side};
 ghost use Rattle.round_lines.specs.Seats.{SeatMemory};
-ghost use Rattle.farm_rounds.specs.Sums.{AddsSeat, no_sums};
+ghost use Rattle.farm_rounds.specs.Sums.{AddsSeat, no_sums, sum_in};
 
 use farm_report::sum;
 use round_lines::Seat;
@@ -19,14 +19,12 @@ pub struct Sums {
 }
 
 impl Model for Sums {
-    ghost use Rattle.std.specs.Prelude.{◌≡◌, ℕ, length, slice_index_or};
-    ghost use Rattle.trau_io.specs.declared.line.Side.{Side};
+    ghost use Rattle.std.specs.Prelude.{◌≡◌, ℕ, List, length};
     ghost use Rattle.trau_io.specs.declared.places.TheConstants.{PLACES};
-    ghost use Rattle.trau_io.specs.Places.{place_of};
 
-    ghost Value = { ℕ → Side → ℕ };
+    ghost Value = { List ℕ };
 
-    ghost view = { λ s. λ c side. slice_index_or s.sums.items (place_of c side) 0 };
+    ghost view = { λ s. s.sums.items };
 
     ghost invariant = { λ s. length s.sums.items ≡ PLACES };
 }
@@ -34,7 +32,7 @@ impl Model for Sums {
 impl Sums {
     /// Before any round. Takes the memory for all calls.
     pub fn new(alloc: Global) -> Result<Sums, AllocError>
-        ensures { IfOk result (λ s. s ≡ no_sums) }
+        ensures { IfOk result (λ s. sum_in s ≡ no_sums) }
     {
         Ok(Sums {
             sums: vec![in alloc; 0; PLACES]?,
@@ -43,15 +41,15 @@ impl Sums {
 
     /// The sum of a line's octets; 0 of an incoming line.
     pub fn of(&self, line: Line) -> u32
-        ensures { result ≡ self.now line.call line.side }
+        ensures { result ≡ sum_in self.now line.call line.side }
     {
         self.sums[place(line)]
     }
 
     // Adds octets of a line to its sum.
     fn add(&mut self, line: Line, octets: &[u8])
-        ensures this { self.new line.call line.side ≡ (self.old line.call line.side + sum octets.now) % 2 ^ 32 }
-        ensures others { (c : ℕ) (s : Side) → (c ≡ line.call → s ≡ line.side → ⊥) → self.new c s ≡ self.old c s }
+        ensures this { sum_in self.new line.call line.side ≡ (sum_in self.old line.call line.side + sum octets.now) % 2 ^ 32 }
+        ensures others { (c : ℕ) (s : Side) → (c ≡ line.call → s ≡ line.side → ⊥) → sum_in self.new c s ≡ sum_in self.old c s }
     {
         let at = place(line);
         self.sums[at] = self.sums[at].wrapping_add(sum(octets));
@@ -59,7 +57,7 @@ impl Sums {
 
     /// Adds what goes out of a call's seat to the sums of its lines.
     pub(crate) fn add_seat(&mut self, seat: &Seat)
-        ensures { AddsSeat seat.now self.old self.new }
+        ensures { AddsSeat seat.now (sum_in self.old) (sum_in self.new) }
     {
         let call = seat.place().call();
         let down = Line {
@@ -70,7 +68,7 @@ impl Sums {
             call,
             side: Side::Out,
         };
-        self.add(down, seat.down());
-        self.add(out, seat.out());
+        self.add(down, seat.down_given());
+        self.add(out, seat.out_given());
     }
 }

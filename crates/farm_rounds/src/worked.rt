@@ -8,7 +8,7 @@ ghost use Rattle.farm_rounds.specs.Numbers.{is_among};
 ghost use Rattle.farm_rounds.specs.Rounds.{groups_from};
 ghost use Rattle.farm_rounds.specs.Memory.{tally_in};
 ghost use Rattle.farm_rounds.specs.Histories.{CallHistory, GroupsStand, kept_of};
-ghost use Rattle.farm_rounds.specs.Sums.{Adds};
+ghost use Rattle.farm_rounds.specs.Sums.{Adds, sum_in};
 ghost use Rattle.farm_rounds.specs.Working.{GainsFailed, goes_on_call, partner_past};
 ghost use Rattle.farm_rounds.specs.RoundHistories.{WorkedStand, KnowFailed, those_that};
 
@@ -80,7 +80,7 @@ impl Worked {
 
     /// Adds to the sums of each call's outgoing lines what `drain` would write to them, whether they failed or not.
     pub fn add(&self, sums: &mut Sums)
-        ensures { Adds self.now.seats sums.old sums.new }
+        ensures { Adds self.now.seats (sum_in sums.old) (sum_in sums.new) }
     {
         for seat in &self.seats {
             sums.add_seat(seat);

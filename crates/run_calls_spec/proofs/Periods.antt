@@ -13,7 +13,7 @@ use Rattle.run_spec.specs.Run.{Run, given_in, whole_in, done_in, start_in, end_i
 use Rattle.run_spec.proofs.SoFar.{standing_end}
 use Rattle.run_spec.proofs.Settling.{start_is}
 use Rattle.run_spec.proofs.Settled.{same_period}
-use Rattle.run_spec.proofs.History.{ends_within}
+use Rattle.run_spec.proofs.Covering.{ends_within}
 use Rattle.run_calls_spec.specs.Whole.{count_in, setting_in, whole_call}
 use Rattle.run_calls_spec.proofs.Spans.{spans_ordered, starts_in, handed_in}
 
@@ -79,7 +79,8 @@ period_same r c k a l =
 
 pub first_same : (r : Run) (c n : ℕ) → AreOrders r.orders → n ≤ count_in r c → first_periods (whole_call r c) n ≡ periods_to r c n
 first_same r c zero a l = refl
-first_same r c (suc k) a l = ap (λ t. t ∷ first_periods (whole_call r c) k) (period_same r c k a (omega arith)) ∙ ap (λ ts. period_of r c k ∷ ts) (first_same r c k a (omega arith))
+first_same r c (suc k) a l =
+    ap (λ t. t ∷ first_periods (whole_call r c) k) (period_same r c k a (omega arith)) ∙ ap (λ ts. period_of r c k ∷ ts) (first_same r c k a (omega arith))
 
 -- **Its periods are those that it has in the run.**
 pub history_same : (r : Run) (c : ℕ) → AreOrders r.orders → periods_of_call (whole_call r c) ≡ periods_in r c

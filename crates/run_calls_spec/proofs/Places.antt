@@ -15,7 +15,8 @@ use Rattle.run_calls_spec.specs.Sent.{IsFirstOfSpan}
 -- ---- frames start one after another
 
 pub made_later : (call : Call) (i j : ℕ) → i ≤ j → when (frame_by_number call i).start ≤ when (frame_by_number call j).start
-made_later call i j l = rounded (numbered_start (first_frames call i)) (numbered_start (first_frames call j)) (later_starts (map without_items call.spans) (fields call) i j l)
+made_later call i j l =
+    rounded (numbered_start (first_frames call i)) (numbered_start (first_frames call j)) (later_starts (map without_items call.spans) (fields call) i j l)
   where
     rounded : (a b : ℕ) → a ≤ b → when a ≤ when b
     rounded a b l = omega arith
@@ -25,7 +26,9 @@ none_counted : (call : Call) (from k : ℕ) → ((i : ℕ) → i < k → when (f
 none_counted call from zero h = refl
 none_counted call from (suc k) h =
     let before = first_frames call k in
-    ap (λ (b : Bool). length (if b then frame_by_number call k ∷ filter (λ f. nat_le from (when f.start)) before else filter (λ f. nat_le from (when f.start)) before)) (lt-leb from (when (frame_by_number call k).start) (h k (omega arith)))
+    ap (λ (b : Bool). length
+    (if b then frame_by_number call k ∷ filter (λ f. nat_le from (when f.start)) before else filter (λ f. nat_le from (when f.start)) before))
+    (lt-leb from (when (frame_by_number call k).start) (h k (omega arith)))
     ∙ none_counted call from k (λ i l. h i (omega arith))
 
 -- each from the first on is
@@ -39,7 +42,9 @@ each_counted call span first (suc m) f =
     let begun = f.begun in
     let later = made_later call first (first + m) (omega arith) in
     ap (λ k. count_from span.from (first_frames call k)) e
-    ∙ ap (λ (b : Bool). length (if b then frame_by_number call (first + m) ∷ filter (λ f. nat_le span.from (when f.start)) before else filter (λ f. nat_le span.from (when f.start)) before))
+    ∙ ap (λ (b : Bool). length
+    (if b then frame_by_number call (first + m) ∷ filter (λ f. nat_le span.from (when f.start)) before else filter
+    (λ f. nat_le span.from (when f.start)) before))
     (le-leb span.from (when (frame_by_number call (first + m)).start) (omega arith))
     ∙ ap suc (each_counted call span first m f)
 
@@ -52,7 +57,8 @@ item_place call span first j i f l = (there, here)
       | inl early ↦ let a = f.first j early in let b = h.begun in absurd (omega arith)
       | inr late ↦
           let e : first + (j - first) ≡ j = omega arith in
-          let n : count_from span.from (first_frames call j) ≡ j - first = ap (λ k. count_from span.from (first_frames call k)) (sym e) ∙ each_counted call span first (j - first) f in
+          let n : count_from span.from (first_frames call j) ≡ j - first =
+          ap (λ k. count_from span.from (first_frames call k)) (sym e) ∙ each_counted call span first (j - first) f in
           let number = h.number in
           omega arith
     ]
@@ -89,7 +95,8 @@ least p (suc n) e = by (least (λ i. p (suc i)) n e) (cases_Bool (p 0))
     rest k f h zero l = f
     rest k f h (suc i) l = h i (omega arith)
 
-    by : ((k : ℕ) × (p (suc k) ≡ true) × ((i : ℕ) → i < k → p (suc i) ≡ false)) → (p 0 ≡ true) ⊎ (p 0 ≡ false) → (k : ℕ) × (p k ≡ true) × ((i : ℕ) → i < k → p i ≡ false)
+    by : ((k : ℕ) × (p (suc k) ≡ true) × ((i : ℕ) → i < k → p (suc i) ≡ false)) → (p 0 ≡ true) ⊎ (p 0 ≡ false) →
+        (k : ℕ) × (p k ≡ true) × ((i : ℕ) → i < k → p i ≡ false)
     by r (inl t) = (0, t, λ i l. absurd (omega arith))
     by r (inr f) = (suc r.0, r.1, rest r.0 f r.2)
 
@@ -98,7 +105,9 @@ pub first_made : (call : Call) (span : Span) → (first : ℕ) × IsFirstOfSpan 
 first_made call span =
     let n = 160 * span.from in
     let far = starts_far call n in
-    let k = least (λ j. nat_le span.from (when (frame_by_number call j).start)) n (le-leb span.from (when (frame_by_number call n).start) (rounded span.from (numbered_start (first_frames call n)) far)) in (
+    let k =
+    least (λ j. nat_le span.from (when (frame_by_number call j).start)) n
+    (le-leb span.from (when (frame_by_number call n).start) (rounded span.from (numbered_start (first_frames call n)) far)) in (
       k.0,
       record {
         begun = leb-true span.from (when (frame_by_number call k.0).start) k.1;
@@ -150,7 +159,8 @@ count_more p call k (suc m) l = elim (cases_lt m k) [
   | inr before ↦ by (p (frame_by_number call m)) (count_more p call k m before)
 ]
   where
-    by : (b : Bool) → count p call k ≤ count p call m → count p call k ≤ length (if b then frame_by_number call m ∷ filter p (first_frames call m) else filter p (first_frames call m))
+    by : (b : Bool) → count p call k ≤ count p call m →
+        count p call k ≤ length (if b then frame_by_number call m ∷ filter p (first_frames call m) else filter p (first_frames call m))
     by true rest = omega arith
     by false rest = rest
 
@@ -161,5 +171,6 @@ count_all p call k (suc m) h =
     let e : suc (k + m) ≡ k + suc m = omega arith in
     let rest = count_all p call k m (λ i l. h i (omega arith)) in
     let one : count p call (suc (k + m)) ≡ suc (count p call (k + m)) =
-    ap (λ (b : Bool). length (if b then frame_by_number call (k + m) ∷ filter p (first_frames call (k + m)) else filter p (first_frames call (k + m)))) (h m (omega arith)) in
+    ap (λ (b : Bool). length (if b then frame_by_number call (k + m) ∷ filter p (first_frames call (k + m)) else filter p (first_frames call (k + m))))
+    (h m (omega arith)) in
     subst (λ n. suc m ≤ count p call n) e (omega arith)

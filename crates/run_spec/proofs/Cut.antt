@@ -19,7 +19,7 @@ use Rattle.run_spec.specs.Now.{IsSoFar, NoOrderTo, has_period, bridge_now, hande
 use Rattle.run_spec.specs.Mark.{cut_at}
 use Rattle.run_spec.proofs.Lists.{each_mapped, each_weaker, each_passes, each_all, find_same}
 use Rattle.run_spec.proofs.Executing.{added_orders, executed-added}
-use Rattle.run_spec.proofs.Standing.{opened_cases}
+use Rattle.run_spec.proofs.OpenCalls.{opened_cases}
 use Rattle.run_spec.proofs.Settling.{found_stamp}
 use Rattle.run_spec.proofs.SoFar.{Rises, orders_rise, rest_in, done-rest, rest_above}
 use Rattle.run_spec.proofs.Settled.{period_settled}
@@ -43,7 +43,8 @@ left_ahead : (n t : ℕ) (os : List Order) → t ≤ n → IfSome (first_stamp (
 left_ahead n t [] l = tt
 left_ahead n t (o ∷ os) l = by (nat_lt o.stamp n) refl (left_ahead n t os l)
   where
-    by : (b : Bool) → nat_lt o.stamp n ≡ b → IfSome (first_stamp (left_of n os)) (λ s. t ≤ s) → IfSome (first_stamp (if not b then o ∷ left_of n os else left_of n os)) (λ s. t ≤ s)
+    by : (b : Bool) → nat_lt o.stamp n ≡ b → IfSome (first_stamp (left_of n os)) (λ s. t ≤ s) →
+        IfSome (first_stamp (if not b then o ∷ left_of n os else left_of n os)) (λ s. t ≤ s)
     by true e rest = rest
     by false e rest = let k = ltb-false o.stamp n e in omega arith
 
@@ -62,7 +63,9 @@ so_far_below r t n a low high within = record {
   listed = ap (λ os. os ++ left_of n r.orders) same ∙ parted n 0 r.orders (orders_rise r.orders a);
   replies = sym (ap (executed (whole_in r) []) same);
   past = All-from_recursion (λ d. d.order.stamp ≤ t) ds (each_weaker (λ d. d.order.stamp < n) (λ d. d.order.stamp ≤ t) ds (λ d l. omega arith) below);
-  within = All-from_recursion (λ d. d.order.stamp < r.periods) ds (each_weaker (λ d. d.order.stamp < n) (λ d. d.order.stamp < r.periods) ds (λ d l. omega arith) below);
+  within =
+      All-from_recursion (λ d. d.order.stamp < r.periods) ds
+      (each_weaker (λ d. d.order.stamp < n) (λ d. d.order.stamp < r.periods) ds (λ d l. omega arith) below);
   ahead = left_ahead n t r.orders low;
 }
   where
@@ -87,7 +90,8 @@ opened_then : (r : Run) (u c s : ℕ) → AreOrders r.orders → u < r.periods �
 opened_then r u c s a l o su = elim (opened_cases ds rest c s (sym (ap (opened_at c) (done-rest r u ds left so)) ∙ o)) [
   | inl e ↦ e
   | inr e ↦
-      let late : u < s = subst (λ (v : Option ℕ). IfSome v (λ s. u < s)) e.1 (found_stamp (λ s. u < s) _ rest (rest_above r u u ds left so (none_to u r.orders))) in
+      let late : u < s =
+      subst (λ (v : Option ℕ). IfSome v (λ s. u < s)) e.1 (found_stamp (λ s. u < s) _ rest (rest_above r u u ds left so (none_to u r.orders))) in
       absurd (omega arith)
 ]
   where
@@ -124,7 +128,8 @@ handed_same r p u ds c l m =
     ∙ by (bridge_now r ds u c)
   where
     by : (o : Option Bridge) →
-        option_map (λ x. let d = other c x in item_of d (ups_to (cut_at p r) d (u + 1 - start_of ds d))) o ≡ option_map (λ x. let d = other c x in item_of d (ups_to r d (u + 1 - start_of ds d))) o
+        option_map (λ x. let d = other c x in item_of d (ups_to (cut_at p r) d (u + 1 - start_of ds d))) o
+        ≡ option_map (λ x. let d = other c x in item_of d (ups_to r d (u + 1 - start_of ds d))) o
     by None = refl
     by (Some x) = ap (λ ups. Some (item_of (other c x) ups)) (ups_same r p (other c x) (u + 1 - start_of ds (other c x)))
 
@@ -147,7 +152,8 @@ period_kept r p u c s a m l o su =
     let left = left_of (suc u) r.orders in
     let here : opened_at c ds ≡ Some s = opened_then (cut_at p r) u c s a l o su in
     let same : u ≤ u = omega arith in
-    period_settled (cut_at p r) u u ds left c s (so_far_below (cut_at p r) u (suc u) a (omega arith) (omega arith) (omega arith)) same l (none_to u r.orders) here
+    period_settled (cut_at p r) u u ds left c s (so_far_below (cut_at p r) u (suc u) a (omega arith) (omega arith) (omega arith)) same l
+    (none_to u r.orders) here
     ∙ now_same r p u ds c l m
     ∙ sym (period_settled r u u ds left c s (so_far_below r u (suc u) a (omega arith) (omega arith) (omega arith)) same (omega arith) (none_to u r.orders) here)
 

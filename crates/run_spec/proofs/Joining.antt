@@ -16,7 +16,7 @@ use Rattle.run_spec.specs.Lines.{down_octets, out_of_call, down_of_call}
 use Rattle.run_spec.specs.Now.{IsSoFar}
 use Rattle.run_spec.specs.Mark.{cut_at, Joins}
 use Rattle.run_spec.proofs.Executing.{closed-append}
-use Rattle.run_spec.proofs.Standing.{opened_cases}
+use Rattle.run_spec.proofs.OpenCalls.{opened_cases}
 use Rattle.switchboard.proofs.Whole.{end_by}
 use Rattle.run_spec.proofs.Settling.{found_stamp, closed_stamp, at_of, ends_by, start_is}
 use Rattle.run_spec.proofs.SoFar.{rest_in, done-rest, rest_from, standing_now, standing_end}
@@ -39,7 +39,8 @@ natural : (given : ℕ → Given) (P c s : ℕ) → at_of (end_by given P c s No
 natural given P c s = by (nat_le P (s + whole_of (given c))) refl
   where
     by : (b : Bool) → nat_le P (s + whole_of (given c)) ≡ b →
-        at_of (if b then record { call = c; at = P; cause = Limit } else record { call = c; at = s + whole_of (given c); cause = lack_of (whole_of (given c)) (given c) }) ≡ min P (s + whole_of (given c))
+        at_of (if b then record { call = c; at = P; cause = Limit }
+        else record { call = c; at = s + whole_of (given c); cause = lack_of (whole_of (given c)) (given c) }) ≡ min P (s + whole_of (given c))
     by true e = let l = leb-true P (s + whole_of (given c)) e in omega arith
     by false e = let l = leb-false P (s + whole_of (given c)) e in omega arith
 
@@ -66,7 +67,9 @@ end_cut r p c s a l o = by (closed_at c ds) (closed_at c rest) refl refl
     opened = opened_run r p ds (left_of p r.orders) c s so o
 
     closed : (v w : Option ℕ) → closed_at c ds ≡ v → closed_at c rest ≡ w → closed_at c (done_in r) ≡ or_else v w
-    closed v w e f = ap (closed_at c) (done-rest r p ds (left_of p r.orders) so) ∙ closed-append c ds rest ∙ ap (λ v. or_else v (closed_at c rest)) e ∙ ap (λ w. or_else v w) f
+    closed v w e f =
+        ap (closed_at c) (done-rest r p ds (left_of p r.orders) so) ∙ closed-append c ds rest ∙ ap (λ v. or_else v (closed_at c rest)) e
+        ∙ ap (λ w. or_else v w) f
 
     first : (v : Option ℕ) → closed_at c ds ≡ v → end_in (cut_at p r) c ≡ at_of (end_by (given_in r) p c s v)
     first v e = ends_by (given_in r) p ds c s v o e

@@ -42,7 +42,8 @@ shown k (what.Dtx c m) = setting k (k.is_open c) _ (act.DtxSet c m) (λ e. e)
 
 -- ---- what one order opens and closes
 
-abbrev done : Order → Result Act Refusal → Done
+-- an executed order
+abbrev pub done : Order → Result Act Refusal → Done
 done o r = record { order = o; result = r }
 
 one_stamp : (t : Bool) (d : Done) (e : ℕ) → option_map (λ d. d.order.stamp) (if t then Some d else None) ≡ Some e → (t ≡ true) × (e ≡ d.order.stamp)
@@ -50,7 +51,8 @@ one_stamp true d e h = (refl, cc)
 one_stamp false d e h = cc
 
 pub opens : (c s : ℕ) (o : Order) (r : Result Act Refusal) → opened_at c (done o r ∷ []) ≡ Some s → ((law : Law) × (r ≡ Ok (act.Opened c law))) × (s ≡ o.stamp)
-opens c s o (Ok (act.Opened d law)) e = let h = one_stamp (c == d) (done o (Ok (act.Opened d law))) s e in ((law, ap (λ (d : ℕ). Ok (act.Opened d law)) (sym (eqb-true c d h.0))), h.1)
+opens c s o (Ok (act.Opened d law)) e =
+    let h = one_stamp (c == d) (done o (Ok (act.Opened d law))) s e in ((law, ap (λ (d : ℕ). Ok (act.Opened d law)) (sym (eqb-true c d h.0))), h.1)
 opens c s o (Ok (act.Closed d p)) e = cc
 opens c s o (Ok (act.Bridged a b)) e = cc
 opens c s o (Ok (act.Unbridged a b)) e = cc
@@ -59,7 +61,8 @@ opens c s o (Ok (act.DtxSet d m)) e = cc
 opens c s o (Err f) e = cc
 
 pub closes : (c s : ℕ) (o : Order) (r : Result Act Refusal) → closed_at c (done o r ∷ []) ≡ Some s → (p : Option ℕ) × (r ≡ Ok (act.Closed c p)) × (s ≡ o.stamp)
-closes c s o (Ok (act.Closed d p)) e = let h = one_stamp (c == d) (done o (Ok (act.Closed d p))) s e in (p, ap (λ (d : ℕ). Ok (act.Closed d p)) (sym (eqb-true c d h.0)), h.1)
+closes c s o (Ok (act.Closed d p)) e =
+    let h = one_stamp (c == d) (done o (Ok (act.Closed d p))) s e in (p, ap (λ (d : ℕ). Ok (act.Closed d p)) (sym (eqb-true c d h.0)), h.1)
 closes c s o (Ok (act.Opened d law)) e = cc
 closes c s o (Ok (act.Bridged a b)) e = cc
 closes c s o (Ok (act.Unbridged a b)) e = cc
