@@ -15,8 +15,6 @@ mod down_framer_tests;
 #[cfg(test)]
 mod farm_live_callers_tests;
 #[cfg(test)]
-mod farm_live_close_tests;
-#[cfg(test)]
 mod farm_live_tests;
 #[cfg(test)]
 mod rx_handler_tests;
