@@ -38,7 +38,8 @@ item_by [] w fs = None
 item_by (b ∷ bs) w fs =
     if nat_le b.from w && nat_lt (made_from b.from fs) (b.to - b.from) then Some (b.from + made_from b.from fs) else item_by bs w fs
 
-pub carried_item-by : {A : Type 0} (bs : List Bridge) (w : ℕ) (fs : List (MadeFrame A)) → AreOnTime fs → carried_item bs w (map numbered_of fs) ≡ item_by bs w fs
+pub carried_item-by : {A : Type 0} (bs : List Bridge) (w : ℕ) (fs : List (MadeFrame A)) → AreOnTime fs →
+    carried_item bs w (map numbered_of fs) ≡ item_by bs w fs
 carried_item-by [] w fs t = refl
 carried_item-by (b ∷ bs) w fs t =
     ap (λ n. if nat_le b.from w && nat_lt n (b.to - b.from) then Some (b.from + n) else carried_item bs w (map numbered_of fs)) (count_from-of b.from fs t) ∙
