@@ -2,7 +2,7 @@
 use Rattle.std.proofs.Common.{◌≡◌, ℕ, All, List, [], ◌∷◌, length, filter, get_or}
 use Rattle.std.proofs.lemmas.List.Elements.{All-map}
 use Rattle.trau_bits.specs.Bits.{bits_of, octets_of, AreBits}
-use Rattle.call_leg.proofs.LineLaws.{bits260-are}
+use Rattle.trau_params.proofs.AreBits.{AreBits-bits260}
 use Rattle.call_spec.specs.Down.{down}
 use Rattle.call_spec.specs.Whole.{IsWhole}
 use Rattle.call_spec.proofs.Reading.{LooksBack}
@@ -23,7 +23,7 @@ long-item d ups = length-bits260 _ (shape-effective d (heard_by ups) (shaped-ups
 
 bits-item : (d : ℕ) (ups : List (List ℕ)) → AreBits (item_of d ups)
 unfolding item_of
-bits-item d ups = bits260-are _
+bits-item d ups = AreBits-bits260 _
 
 -- each item that is handed to a call is one of its partner's
 each-item : (P : List ℕ → Type 0) → ((d : ℕ) (ups : List (List ℕ)) → P (item_of d ups)) → (r : Run) (c : ℕ) →

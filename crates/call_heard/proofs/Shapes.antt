@@ -7,7 +7,7 @@ use Rattle.trau_params.specs.Fields.{Fields}
 use Rattle.trau_params.specs.FieldBits.{low_bits, field_bits}
 use Rattle.trau_params.specs.Widths.{larc_widths, block_widths}
 use Rattle.trau_params.specs.Bits260.{bits260, values_in}
-use Rattle.trau_params.proofs.Prefixes.{length-low_bits}
+use Rattle.trau_params.proofs.Fronts.{length-low_bits}
 use Rattle.fr_pre.specs.History.{newest_preprocessed}
 use Rattle.fr_lpc.specs.Ratios.{ratio_codes, ratios_of_frame}
 use Rattle.fr_rpe.specs.Encoding.{xmc_of}

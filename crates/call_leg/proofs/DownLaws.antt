@@ -82,9 +82,13 @@ home-stands law = record { encoder = encoding.home-stands; tx = home_tx-stands }
 own-stands : (who : Who) (f : CallFrame) (fs : List CallFrame) (m : CoderMemory) (held : List ℕ) (quiet : Bool) (level : ℤ) (on : Bool) → f.carries ≡ None →
     quiet ≡ quiet_now who.number f.load → level ≡ level_now f.load → on ≡ dtx_now f.load → take 160 held ≡ take 160 (drop f.start (pcm_of f.load)) →
     CoderStands who.law (coded_stretch who.number f.epoch fs) m →
-    CoderStands who.law (coded_stretch who.number f.epoch (f ∷ fs)) (own_next who.law m held quiet level on).1 × ((own_next who.law m held quiet level on).0 ≡ frame_now who (f ∷ fs))
-own-stands who f fs m held true level on e eq el eo et h =
-    (subst (λ z. CoderStands who.law z home_coder) (sym (stretch-quiet who.number f.epoch f fs (sym eq))) (home-stands who.law), sym (frame-quiet who f fs e (sym eq)))
+    CoderStands who.law (coded_stretch who.number f.epoch (f ∷ fs)) (own_next who.law m held quiet level on).1 × ((own_next who.law m held quiet level on).0
+    ≡ frame_now who (f ∷ fs))
+own-stands who f fs m held true level on e eq el eo et h = (
+  subst (λ z. CoderStands who.law z home_coder) (sym (stretch-quiet who.number f.epoch f fs (sym eq))) (home-stands who.law),
+  sym
+      (frame-quiet who f fs e (sym eq)),
+)
 own-stands who f fs m held false level on e eq el eo et h =
     let before = coded_stretch who.number f.epoch fs in
     let rest = map (samples_of who.law) before in
@@ -117,7 +121,8 @@ next-stands : (who : Who) (f : CallFrame) (fs : List CallFrame) (q : List (List 
     slice_get q 0 ≡ bits_in f.load f.carries →
     quiet ≡ quiet_now who.number f.load → level ≡ level_now f.load → on ≡ dtx_now f.load → take 160 held ≡ take 160 (drop f.start (pcm_of f.load)) →
     CoderStands who.law (coded_stretch who.number f.epoch fs) m →
-    CoderStands who.law (coded_stretch who.number f.epoch (f ∷ fs)) (next_by who.law q m held quiet level on).1 × ((next_by who.law q m held quiet level on).0 ≡ frame_now who (f ∷ fs))
+    CoderStands who.law (coded_stretch who.number f.epoch (f ∷ fs)) (next_by who.law q m held quiet level on).1 × ((next_by who.law q m held quiet level on).0
+    ≡ frame_now who (f ∷ fs))
 next-stands who f fs [] m held quiet level on e eq el eo et h = own-stands who f fs m held quiet level on (none_carried f.load f.carries e) eq el eo et h
 next-stands who f fs (x ∷ more) m held quiet level on e eq el eo et h =
     let k = one_carried f.load f.carries x e in (
@@ -145,7 +150,8 @@ thawed-frozen m bridged q = go m.frozen (bridged || not (length q == 0)) refl
 
 -- ---- frames are made
 
-made-inside : (who : Who) (t : CallPeriod) (past : List CallPeriod) (fs : List CallFrame) (d : DownMemory) → 160 ≤ length d.framer.held → Inside who t past fs d →
+made-inside : (who : Who) (t : CallPeriod) (past : List CallPeriod) (fs : List CallFrame) (d : DownMemory) → 160 ≤ length d.framer.held →
+    Inside who t past fs d →
     Inside who t past (next t past fs ∷ fs) (frame_made d)
 unfolding frame_made
 made-inside who t past fs d r h =
@@ -159,7 +165,8 @@ made-inside who t past fs d r h =
     let sent = next-stands who f fs d.waiting d.coder d.framer.held d.quiet d.level on (waits-first (t ∷ past) fs d.waiting h.waits) h.quiet h.level
     (ap (λ m. dtx_in m d.dtxd) h.mode ∙ ap (λ u. dtx_in t.mode u) h.dtxd) (ap (take 160) h.places.held)
     (subst (λ e. CoderStands who.law (coded_stretch who.number e fs) d.coder) (sym (begun-same (t ∷ past))) h.coded) in
-    let fr = subst (λ (l : Law). let n = next_by l d.waiting d.coder d.framer.held d.quiet d.level on in CoderStands who.law (coded_stretch who.number f.epoch (f ∷ fs)) n.1 × (n.0 ≡ frame_now who (f ∷ fs))) (sym h.law) sent in
+    let fr = subst (λ (l : Law). let n = next_by l d.waiting d.coder d.framer.held d.quiet d.level on in CoderStands who.law
+    (coded_stretch who.number f.epoch (f ∷ fs)) n.1 × (n.0 ≡ frame_now who (f ∷ fs))) (sym h.law) sent in
     inside-next who t past fs d _ bits now.0 h r (length-down_bits made.0) (ap frames.down_bits fr.1) legal es refl fr.0
     (thawed-kept now.1 d.bridged (drop 1 d.waiting) ∙ adopted-kept d.align)
     (thawed-frozen now.1 d.bridged (drop 1 d.waiting) ∙ ap (λ z. z && (d.bridged || not (length (drop 1 d.waiting) == 0))) (adopted-frozen d.align))
@@ -174,27 +181,33 @@ tried-inside who t past fs d h =
       | inl l ↦ subst (λ gs. Inside who t past gs (frame_tried d)) (sym (none_made p ps fs (not_come who t past fs d h l)))
           (subst (Inside who t past fs) (sym (cond-false (nat_le 160 (length d.framer.held)) (frame_made d) d (lt-leb _ _ l))) h)
       | inr r ↦ subst (λ gs. Inside who t past gs (frame_tried d)) (sym (one_made p ps fs (come who t past fs d h r)))
-          (subst (Inside who t past (next t past fs ∷ fs)) (sym (cond-true (nat_le 160 (length d.framer.held)) (frame_made d) d (le-leb _ _ r))) (made-inside who t past fs d r h))
+          (subst (Inside who t past (next t past fs ∷ fs)) (sym (cond-true (nat_le 160 (length d.framer.held)) (frame_made d) d (le-leb _ _ r)))
+          (made-inside who t past fs d r h))
     ]
 
 -- ---- the downlink half
 
-pub half-stands : (who : Who) (ts : List CallPeriod) (now : Settings) (up pcm : List ℕ) (handed : Option (List ℕ)) (d : DownMemory) → length pcm ≡ 160 → is_some handed ≡ now.bridged →
+pub half-stands : (who : Who) (ts : List CallPeriod) (now : Settings) (up pcm : List ℕ) (handed : Option (List ℕ)) (d : DownMemory) → length pcm ≡ 160 →
+    is_some handed ≡ now.bridged →
     Halfway who ts now up handed d → Between who (period_with now up pcm handed ∷ ts) (later now) (down_worked d pcm).1
     × ((down_worked d pcm).0 ≡ down_now who (period_with now up pcm handed ∷ ts))
 unfolding down_worked
 half-stands who ts now up pcm handed d l b h =
     let t : CallPeriod = period_with now up pcm handed in
     let put = with_framer d (after_put d.framer pcm) in
-    let i0 = enter who ts now up handed pcm d put l b h (λ pcm0 line out start p. put-holds d.framer pcm pcm0 line out start l p) refl refl refl refl refl refl refl refl refl refl refl in
+    let i0 = enter who ts now up handed pcm d put l b h (λ pcm0 line out start p. put-holds d.framer pcm pcm0 line out start l p) refl refl refl refl refl refl
+    refl refl refl refl refl in
     let i1 = tried-inside who t ts (frames_of ts) put i0 in
-    let i2 : Inside who t ts (frames_of (t ∷ ts)) (frame_tried (frame_tried put)) = tried-inside who t ts (grown (down_period t ts) (down_periods ts) (frames_of ts)) (frame_tried put) i1 in
+    let i2 : Inside who t ts (frames_of (t ∷ ts)) (frame_tried (frame_tried put)) = tried-inside who t ts
+    (grown (down_period t ts) (down_periods ts) (frames_of ts)) (frame_tried put) i1 in
     let made = frame_tried (frame_tried put) in (
-      leave who ts now up handed pcm d made b h i2 _ (λ pcm0 line out start p. take-holds made.framer pcm0 line out start p) refl refl refl refl refl refl refl refl refl refl,
+      leave who ts now up handed pcm d made b h i2 _ (λ pcm0 line out start p. take-holds made.framer pcm0 line out start p) refl refl refl refl refl refl refl
+          refl refl refl,
       ap (take 320) i2.places.stored,
     )
 
-pub down-stands : (who : Who) (ts : List CallPeriod) (now : Settings) (up pcm : List ℕ) (handed : Option (List ℕ)) (m : LegMemory) → length pcm ≡ 160 → is_some handed ≡ now.bridged →
+pub down-stands : (who : Who) (ts : List CallPeriod) (now : Settings) (up pcm : List ℕ) (handed : Option (List ℕ)) (m : LegMemory) → length pcm ≡ 160 →
+    is_some handed ≡ now.bridged →
     Midway who ts now up handed m → Stands who (period_with now up pcm handed ∷ ts) (later now) (with_down m (down_worked m.down pcm).1)
     × ((down_worked m.down pcm).0 ≡ down_now who (period_with now up pcm handed ∷ ts))
 down-stands who ts now up pcm handed m l b h =

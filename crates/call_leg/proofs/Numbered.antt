@@ -26,7 +26,8 @@ next-ahead ts = let t = frames-in_time ts in t.next
 pub all-come : (ts : List CallPeriod) → All (λ f. f.start + 160 ≤ 160 * length ts) (frames_of ts)
 all-come ts =
     let t = frames-in_time ts in
-    All-weaker (λ (f : CallFrame). (f.period ≡ when f.start) × (f.start + 160 ≤ 160 * length ts)) (λ (f : CallFrame). f.start + 160 ≤ 160 * length ts) (λ f x. x.1) (frames_of ts) t.made
+    All-weaker (λ (f : CallFrame). (f.period ≡ when f.start) × (f.start + 160 ≤ 160 * length ts)) (λ (f : CallFrame). f.start + 160 ≤ 160 * length ts)
+    (λ f x. x.1) (frames_of ts) t.made
 
 pub length-made : (who : Who) (ts : List CallPeriod) → length (down_made who (frames_of ts)) ≡ 320 + 2 * next_start (frames_of ts)
 length-made who ts = length-line_of (bits_now who) (λ fs. length-down_bits (frame_now who fs)) (frames_of ts) (AreInTurn-made_frames (down_periods ts))
@@ -45,7 +46,8 @@ pub start-next : (ts : List CallPeriod) → IsHistory (down_periods ts) → fram
 start-next ts h = ap numbered_start (sym (frames-numbered ts h)) ∙ start-numbered (frames_of ts)
 
 -- what holds of the starts of the first n frames holds of each start before
-each-start : (P : ℕ → Type 0) (bridges : List Bridge) (fields : List (Option ℕ)) (n j : ℕ) → j < n → All (λ (f : NumberedFrame). P f.start) (numbered_frames bridges fields n) →
+each-start : (P : ℕ → Type 0) (bridges : List Bridge) (fields : List (Option ℕ)) (n j : ℕ) → j < n → All (λ (f : NumberedFrame). P f.start)
+    (numbered_frames bridges fields n) →
     P (numbered_start (numbered_frames bridges fields j))
 each-start P bridges fields zero j l h = absurd (omega arith)
 each-start P bridges fields (suc n) j l h =
@@ -54,7 +56,9 @@ each-start P bridges fields (suc n) j l h =
       | inl earlier ↦ each-start P bridges fields n j earlier (All-tail (λ (f : NumberedFrame). P f.start) (numbered_next bridges fields before) before h)
       | inr late ↦
           let e : n ≡ j = omega arith in
-          subst (λ k. P (numbered_start (numbered_frames bridges fields k))) e (All-head (λ (f : NumberedFrame). P f.start) (numbered_next bridges fields before) before h)
+          subst (λ k. P (numbered_start (numbered_frames bridges fields k))) e
+          (All-head (λ (f : NumberedFrame). P f.start) (numbered_next bridges fields before)
+          before h)
     ]
 
 pub start-come : (ts : List CallPeriod) (j : ℕ) → IsHistory (down_periods ts) → j < length (frames_of ts) → frame_start ts j + 160 ≤ 160 * length ts

@@ -39,25 +39,27 @@ level-stands who ts now level m h =
       decoder = h.decoder;
       counts = h.counts;
       down = record {
-        law = d.law;
-        long = d.long;
-        history = d.history;
+        held = record {
+          law = d.law;
+          long = d.long;
+          history = d.history;
+          places = d.places;
+          frozen = d.frozen;
+          coded = d.coded;
+          sent = d.sent;
+          made = d.made;
+          level = refl;
+          mode = d.mode;
+          bridged = d.bridged;
+          alone = d.alone;
+          goes_on = d.goes_on;
+        };
         ahead = d.ahead;
         come = d.come;
         line = d.line;
-        places = d.places;
         waits = d.waits;
         kept = d.kept;
-        frozen = d.frozen;
-        coded = d.coded;
-        sent = d.sent;
-        made = d.made;
-        level = refl;
-        mode = d.mode;
         dtxd = d.dtxd;
-        bridged = d.bridged;
-        alone = d.alone;
-        goes_on = d.goes_on;
       };
     }
 
@@ -72,29 +74,32 @@ mode-stands who ts now mode m h =
       decoder = h.decoder;
       counts = h.counts;
       down = record {
-        law = d.law;
-        long = d.long;
-        history = d.history;
+        held = record {
+          law = d.law;
+          long = d.long;
+          history = d.history;
+          places = d.places;
+          frozen = d.frozen;
+          coded = d.coded;
+          sent = d.sent;
+          made = d.made;
+          level = d.level;
+          mode = refl;
+          bridged = d.bridged;
+          alone = d.alone;
+          goes_on = d.goes_on;
+        };
         ahead = d.ahead;
         come = d.come;
         line = d.line;
-        places = d.places;
         waits = d.waits;
         kept = d.kept;
-        frozen = d.frozen;
-        coded = d.coded;
-        sent = d.sent;
-        made = d.made;
-        level = d.level;
-        mode = refl;
         dtxd = d.dtxd;
-        bridged = d.bridged;
-        alone = d.alone;
-        goes_on = d.goes_on;
       };
     }
 
-pub begin-stands : (who : Who) (ts : List CallPeriod) (now : Settings) (m : LegMemory) → handed_due (down_periods ts) (frames_of ts) ≡ None → Stands who ts now m →
+pub begin-stands : (who : Who) (ts : List CallPeriod) (now : Settings) (m : LegMemory) → handed_due (down_periods ts) (frames_of ts) ≡ None →
+    Stands who ts now m →
     Stands who ts (with_bridge now) (begin_bridge m)
 begin-stands who ts now m n h = record {
   law = h.law;
@@ -124,25 +129,27 @@ periods-counted who ts now m h = ap (λ (s : SyncMemory). s.periods) h.search.af
 -- before the first period
 pub home-between : (who : Who) → Between who [] new_settings (home_down who.law)
 home-between who = record {
-  law = refl;
-  long = refl;
-  history = tt;
+  held = record {
+    law = refl;
+    long = refl;
+    history = tt;
+    places = record { held = refl; to_skip = refl; stored = refl };
+    frozen = refl;
+    coded = record { encoder = encoding.home-stands; tx = home_tx-stands };
+    sent = refl;
+    made = refl;
+    level = refl;
+    mode = refl;
+    bridged = refl;
+    alone = λ e. refl;
+    goes_on = λ e. absurd (true≢false (sym e));
+  };
   ahead = next-ahead [];
   come = all-come [];
   line = length-made who [];
-  places = record { held = refl; to_skip = refl; stored = refl };
   waits = record { each = λ n. refl };
   kept = refl;
-  frozen = refl;
-  coded = record { encoder = encoding.home-stands; tx = home_tx-stands };
-  sent = refl;
-  made = refl;
-  level = refl;
-  mode = refl;
   dtxd = refl;
-  bridged = refl;
-  alone = λ e. refl;
-  goes_on = λ e. absurd (true≢false (sym e));
 }
 
 home_search : search.Stands [] search_home

@@ -57,27 +57,30 @@ asked-frozen m None = refl
 asked-frozen m (Some field) = refl
 
 pub hear-stands : (who : Who) (ts : List CallPeriod) (now : Settings) (up : List ℕ) (s : Sighting) (quiet : Bool) (d : DownMemory) → s ≡ sighting_after ts up →
-    quiet ≡ is_quiet (effective_of who.number (heard_as (sighting_after ts up) ∷ heard_of ts)) → Between who ts now d → Halfway who ts now up None (after_sighting d s quiet)
+    quiet ≡ is_quiet (effective_of who.number (heard_as (sighting_after ts up) ∷ heard_of ts)) → Between who ts now d →
+    Halfway who ts now up None (after_sighting d s quiet)
 hear-stands who ts now up s quiet d es eq h =
     let before = counted_fields (down_periods ts) (frames_of ts) in
     record {
-      law = h.law;
-      long = h.long;
-      history = h.history;
-      places = h.places;
+      held = record {
+        law = h.law;
+        long = h.long;
+        history = h.history;
+        places = h.places;
+        frozen = asked-frozen d.align (field_of s) ∙ h.frozen;
+        coded = h.coded;
+        sent = h.sent;
+        made = h.made;
+        level = h.level;
+        mode = h.mode;
+        bridged = h.bridged;
+        alone = h.alone;
+        goes_on = h.goes_on;
+      };
       waits = (d.waiting, h.waits, sym (append-nil d.waiting));
       kept = asked-kept d.align (field_of s) before h.kept ∙ ap (λ z. latest_ask (field_of z ∷ before)) es;
-      frozen = asked-frozen d.align (field_of s) ∙ h.frozen;
-      coded = h.coded;
-      sent = h.sent;
-      made = h.made;
-      level = h.level;
-      mode = h.mode;
       dtxd = ap (λ z. dtxd_after z d.dtxd) es ∙ ap (λ b. dtxd_after (sighting_after ts up) b) h.dtxd;
       quiet = eq;
-      bridged = h.bridged;
-      alone = h.alone;
-      goes_on = h.goes_on;
     }
 
 -- ---- the half
@@ -86,7 +89,8 @@ abbrev pub found_in : SyncMemory → List ℕ → Sighting
 found_in m up = sighting_in (next_period m up).0
 
 -- what the search finds, and the effective frame
-pub hears : (call : ℕ) (ts : List CallPeriod) (up : List ℕ) (m : SyncMemory) (r : RxMemory) → length up ≡ 40 → search.Stands (ups_of ts) m → rx.Stands call (heard_of ts) r →
+pub hears : (call : ℕ) (ts : List CallPeriod) (up : List ℕ) (m : SyncMemory) (r : RxMemory) → length up ≡ 40 → search.Stands (ups_of ts) m →
+    rx.Stands call (heard_of ts) r →
     (found_in m up ≡ sighting_after ts up) × ((received r (heard_as (found_in m up))).0 ≡ effective_of call (heard_as (sighting_after ts up) ∷ heard_of ts))
 hears call ts up m r l h k =
     let found = next_period m up in
@@ -108,12 +112,14 @@ up-stands who ts now up m l h =
     (played-stands m.law heard.0 (not m.down.bridged) (plain_stretch who.number (epoch_now ts now) ts) m.decoder h.decoder).0 refl
     (hear-stands who ts now up (found_in m.search up) (is_quiet heard.0) m.down e.0 (ap is_quiet e.1) h.down)
 
-pub up-effective : (who : Who) (ts : List CallPeriod) (now : Settings) (up pcm : List ℕ) (handed : Option (List ℕ)) (m : LegMemory) → length up ≡ 40 → Stands who ts now m →
+pub up-effective : (who : Who) (ts : List CallPeriod) (now : Settings) (up pcm : List ℕ) (handed : Option (List ℕ)) (m : LegMemory) → length up ≡ 40 →
+    Stands who ts now m →
     (up_worked m up).0 ≡ effective_now who.number (period_with now up pcm handed ∷ ts)
 unfolding up_worked
 up-effective who ts now up pcm handed m l h = (hears who.number ts up m.search m.rx l h.search h.rx).1
 
-pub up-plays : (who : Who) (ts : List CallPeriod) (now : Settings) (up pcm : List ℕ) (handed : Option (List ℕ)) (m : LegMemory) → length up ≡ 40 → is_some handed ≡ now.bridged →
+pub up-plays : (who : Who) (ts : List CallPeriod) (now : Settings) (up pcm : List ℕ) (handed : Option (List ℕ)) (m : LegMemory) → length up ≡ 40 →
+    is_some handed ≡ now.bridged →
     Stands who ts now m → (up_worked m up).1 ≡ out_of who (period_with now up pcm handed ∷ ts)
 unfolding up_worked
 up-plays who ts now up pcm handed m l b h =

@@ -41,24 +41,15 @@ pub record CoderStands (law : Law) (stretch : List CallFrame) (m : CoderMemory) 
   pub encoder : encoder.Stands (map (samples_of law) stretch) m.encoder
   pub tx : tx.Stands (coded_frames law stretch) m.tx
 
--- Between periods, after all these, with the settings `now` for the next one.
-pub record Between (who : Who) (ts : List CallPeriod) (now : Settings) (d : DownMemory) : Type 0 where
+-- What the downlink side holds between periods, after all these, with the settings `now` for the next one, and still holds
+-- when that one's octets of the Up line were heard.
+pub record DownStands (who : Who) (ts : List CallPeriod) (now : Settings) (d : DownMemory) : Type 0 where
   pub law : d.law ≡ who.law
   pub long : length (pcm_of ts) ≡ 160 * length (down_periods ts)
   pub history : IsHistory (down_periods ts)
-  -- as many frames are made as the least number of a frame whose 160 octets haven't all come: the next one's haven't ..
-  pub ahead : 160 * length ts < next_start (frames_of ts) + 160
-  -- .. and those of each made frame have
-  pub come : All (λ f. f.start + 160 ≤ 160 * length ts) (frames_of ts)
-  -- the downlink made so far: 320 bits, and two for each octet before the next frame
-  pub line : length (down_made who (frames_of ts)) ≡ 320 + 2 * next_start (frames_of ts)
   -- held are the octets of the Pcm line from the next frame's start on, or so many are to be skipped as it lies past
   -- the line; in store is what is made of the downlink and not yet out
   pub places : Holds (pcm_of ts) (down_made who (frames_of ts)) (320 * length (down_periods ts)) (next_start (frames_of ts)) d.framer
-  -- what was handed over in the latest bridge and no frame has carried yet
-  pub waits : Waits ts (frames_of ts) d.waiting
-  -- the shift asked for last since the last frame that carried nothing
-  pub kept : d.align.kept ≡ latest_ask (counted_fields (down_periods ts) (frames_of ts))
   -- shifts are frozen within a bridge, and as long as a frame waits
   pub frozen : d.align.frozen ≡ (now.bridged || is_some (handed_due (down_periods ts) (frames_of ts)))
   -- the coder ran over the stretch that the next frame goes on with
@@ -67,28 +58,32 @@ pub record Between (who : Who) (ts : List CallPeriod) (now : Settings) (d : Down
   pub made : d.made ≡ in_u64 (length (frames_of ts))
   pub level : d.level ≡ now.level
   pub mode : d.mode ≡ now.mode
-  pub dtxd : d.dtxd ≡ dtxd_of ts
   pub bridged : d.bridged ≡ now.bridged
   -- a bridge starts only where no frame waits, and goes on without a gap
   pub alone : now.starts ≡ true → handed_due (down_periods ts) (frames_of ts) ≡ None
   pub goes_on : now.bridged ≡ true → (now.starts || in_bridge (down_periods ts)) ≡ true
 
--- Between the halves of a period: its octets of the Up line are heard, and `handed` is handed over.
+-- between periods
+pub record Between (who : Who) (ts : List CallPeriod) (now : Settings) (d : DownMemory) : Type 0 where
+  pub held : DownStands who ts now d
+  pub open held use *
+  -- as many frames are made as the least number of a frame whose 160 octets haven't all come: the next one's haven't ..
+  pub ahead : 160 * length ts < next_start (frames_of ts) + 160
+  -- .. and those of each made frame have
+  pub come : All (λ f. f.start + 160 ≤ 160 * length ts) (frames_of ts)
+  -- the downlink made so far: 320 bits, and two for each octet before the next frame
+  pub line : length (down_made who (frames_of ts)) ≡ 320 + 2 * next_start (frames_of ts)
+  -- what was handed over in the latest bridge and no frame has carried yet
+  pub waits : Waits ts (frames_of ts) d.waiting
+  -- the shift asked for last since the last frame that carried nothing
+  pub kept : d.align.kept ≡ latest_ask (counted_fields (down_periods ts) (frames_of ts))
+  pub dtxd : d.dtxd ≡ dtxd_of ts
+
+-- between the halves of a period: its octets of the Up line are heard, and `handed` is handed over
 pub record Halfway (who : Who) (ts : List CallPeriod) (now : Settings) (up : List ℕ) (handed : Option (List ℕ)) (d : DownMemory) : Type 0 where
-  pub law : d.law ≡ who.law
-  pub long : length (pcm_of ts) ≡ 160 * length (down_periods ts)
-  pub history : IsHistory (down_periods ts)
-  pub places : Holds (pcm_of ts) (down_made who (frames_of ts)) (320 * length (down_periods ts)) (next_start (frames_of ts)) d.framer
+  pub held : DownStands who ts now d
+  pub open held use *
   pub waits : (before : List (List ℕ)) × Waits ts (frames_of ts) before × (d.waiting ≡ before ++ option_to_list handed)
   pub kept : d.align.kept ≡ latest_ask (field_of (sighting_after ts up) ∷ counted_fields (down_periods ts) (frames_of ts))
-  pub frozen : d.align.frozen ≡ (now.bridged || is_some (handed_due (down_periods ts) (frames_of ts)))
-  pub coded : CoderStands who.law (coded_stretch who.number (epoch_now ts now) (frames_of ts)) d.coder
-  pub sent : d.sent ≡ in_u32 (sent_now ts now)
-  pub made : d.made ≡ in_u64 (length (frames_of ts))
-  pub level : d.level ≡ now.level
-  pub mode : d.mode ≡ now.mode
   pub dtxd : d.dtxd ≡ dtxd_after (sighting_after ts up) (dtxd_of ts)
   pub quiet : d.quiet ≡ is_quiet (effective_of who.number (heard_as (sighting_after ts up) ∷ heard_of ts))
-  pub bridged : d.bridged ≡ now.bridged
-  pub alone : now.starts ≡ true → handed_due (down_periods ts) (frames_of ts) ≡ None
-  pub goes_on : now.bridged ≡ true → (now.starts || in_bridge (down_periods ts)) ≡ true

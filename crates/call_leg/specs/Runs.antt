@@ -56,7 +56,8 @@ handed_run h items k = if h.now.bridged && nat_lt k (length items) then Some (bi
 
 -- the notes are those that these octets of the Up line tell
 abbrev pub AreNotes : LegHistory → (ℕ → List ℕ) → (ℕ → List ℕ) → List EffectiveFields → ℕ → List Note → Type 0
-AreNotes h ups pcms items n notes = (k : ℕ) (none : Note) → k < n → get_or notes k none ≡ note_in h.who.number (periods_run h ups pcms (handed_run h items) k) (ups k)
+AreNotes h ups pcms items n notes = (k : ℕ) (none : Note) → k < n → get_or notes k none ≡ note_in h.who.number (periods_run h ups pcms (handed_run h items) k)
+    (ups k)
 
 -- The run of a downlink half: the Down octets that these octets of the Pcm line give after the history of the leg, with
 -- these notes and items, whichever octets of the Up line told the notes.

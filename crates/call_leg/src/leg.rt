@@ -27,7 +27,7 @@ use rx_handler::{Effective, Rx};
 use std::alloc::{AllocError, Global};
 use std::marker::Model;
 use trau_alaw::Law;
-use trau_io::Counts;
+use trau_io::{Counts, NO_COUNTS};
 use trau_orders::DtxMode;
 
 /// The leg of one call. It is alone, bridged or draining: within a bridge its partner's frames go out on its downlink,
@@ -71,23 +71,12 @@ impl Leg {
         ensures periods { IfOk result (λ leg. periods_of_leg leg ≡ 0) }
     {
         let down = DownSide::new(alloc, law)?;
-        let counts = Counts {
-            good: 0,
-            sid: 0,
-            invalid: 0,
-            bad: 0,
-            idle: 0,
-            other: 0,
-            miss: 0,
-            none: 0,
-            made: 0,
-        };
         Ok(Leg {
             law,
             search: FrameSync::new(),
             rx: Rx::new(call),
             decoder: Decoder::home(),
-            counts,
+            counts: NO_COUNTS,
             down,
         })
     }

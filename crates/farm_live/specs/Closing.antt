@@ -48,7 +48,8 @@ module _ {Q A : Type 0} where
   AreAllSeated inbox slots cs = All (IsSeated inbox slots) cs
 
   -- the first seats, so many, aren't joined with those of one caller more yet, and the others are
-  pub record AreHalfJoined (inbox : ℕ) (slots : List (Slotted (Option Token) (Doing Token View) Q A)) (cs : List Caller) (c : Caller) (n : ℕ) (seats : List Seat) : Type 0 where
+  pub record AreHalfJoined (inbox : ℕ) (slots : List (Slotted (Option Token) (Doing Token View) Q A)) (cs : List Caller) (c : Caller) (n : ℕ)
+      (seats : List Seat) : Type 0 where
     pub one_each : length seats ≡ length slots
     pub done : (k : ℕ) (slot : Slotted (Option Token) (Doing Token View) Q A) (s : Seat) → n ≤ k → k < length slots →
         IsJoined (book_at inbox k) (slice_index_or slots k slot) (views_at k cs ++ view_at k c) (slice_index_or seats k s)

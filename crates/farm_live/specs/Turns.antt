@@ -39,7 +39,8 @@ pub record Turned (v w : View) (back : BookState) (more : List Post) : Type 0 wh
 abbrev pub Looked : View → View → Type 0
 Looked v w = Turned v w w.taken []
 
--- The post stands at the back of the inbox, if that isn't full. A call is busy where another caller has its book in hand, which changes the count of misses alone.
+-- The post stands at the back of the inbox, if that isn't full. A call is busy where another caller has its book in hand,
+-- which changes the count of misses alone.
 abbrev pub IsPosted : Post → View → View → Posted → Type 0
 IsPosted x v w posted.Did = Turned v w (with_post w.taken x) (x ∷ []) × (length w.taken.inbox < v.is_of.room)
 IsPosted x v w posted.Full = Looked v w × (length w.taken.inbox ≡ v.is_of.room)

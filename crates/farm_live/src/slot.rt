@@ -109,8 +109,11 @@ pub type SlotPass = Pass<Token, View>;
 /// What came of taking the book: the book; that another caller has it; or nothing.
 #[derive(Drop)]
 pub enum Taken {
+    /// The book.
     Got(Book),
+    /// Another caller has it.
     Busy,
+    /// Nothing: it has to be tried again.
     Again,
 }
 

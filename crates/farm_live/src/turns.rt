@@ -17,8 +17,11 @@ use std::thread;
 /// What came of a post.
 #[derive(Drop)]
 pub enum Posted {
+    /// It stands in the inbox.
     Did,
+    /// The inbox has as many posts as it may.
     Full,
+    /// Another caller has the book.
     Busy,
 }
 

@@ -1,5 +1,6 @@
-// The lines of a report, each written at the end of a text. A text is of no use where memory ran out. A line is mostly a
-// table of its numbers, each behind its words: one loop writes them all.
+//! The lines of a report, each written at the end of a text. A text is of no use where memory ran out. A line is mostly a
+//! table of its numbers, each behind its words: one loop writes them all.
+
 ghost use Rattle.std.specs.Prelude.{◌≡◌, ◌++◌, ◌∷◌, [], ℕ, List, codes, decimal, OnOk, string_bytes};
 ghost use Rattle.trau_io.specs.Texts.{side_word};
 ghost use Rattle.farm_report.specs.Lines.{line_of, reply_line, span_line, cause_words, call_lines, end_line, counts_line, failed_line, last_line, last_end};
@@ -188,6 +189,7 @@ impl Told for Line {
     }
 }
 
+/// Writes the last line, with how many of the orders were left.
 pub(crate) fn put_last(text: &mut String, calls: &[CallLine], left: u32) -> Result<(), AllocError>
     ensures { OnOk result (string_bytes text.new ≡ string_bytes text.old ++ last_line calls.now left) }
 {

@@ -12,7 +12,8 @@ use Rattle.call_pair.specs.Jobs.{half_of, finished}
 use Rattle.call_pair.specs.History.{Start, settings_past, io_after, Begins}
 use Rattle.call_pair.specs.Finished.{HasWorkedBridged, OneWorked, TwoWorked}
 use Rattle.call_pair.proofs.Places.{is_below, not_below}
-use Rattle.call_pair.proofs.Runs.{one-finished, two-finished}
+use Rattle.call_pair.proofs.RunsAlone.{one-finished}
+use Rattle.call_pair.proofs.Runs.{two-finished}
 use Rattle.round_lines.specs.Places.{whole_in}
 use Rattle.round_lines.specs.Seats.{SeatMemory}
 use Rattle.farm_rounds.specs.Histories.{CallHistory, whose}

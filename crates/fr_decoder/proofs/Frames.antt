@@ -22,18 +22,20 @@ use Rattle.fr_decoder.specs.Deemphasis.{truncated}
 use Rattle.fr_decoder.specs.Stands as decoder
 use Rattle.fr_decoder.specs.Memory.{home_memory, DecoderMemory}
 use Rattle.fr_decoder.specs.Step.{decoded_frame, decoded_in_turn, synthesised_blocks}
-use Rattle.fr_decoder.proofs.Runs.{add_fits}
+use Rattle.trau_num.proofs.Clamped.{add_word}
 use Rattle.fr_long.specs.Synthesis.{LtpBlock, residual_of}
 use Rattle.fr_decoder.specs.Blocks.{ltp_block, one_block, two_blocks, three_blocks, four_blocks, frame_residual}
 
 -- a frame into which four blocks were put, one behind the other
-pub four_put : (f1 f2 f3 f4 a b c d : List ℤ) → length f4 ≡ 160 → take 40 f1 ≡ a → take 80 f2 ≡ take 40 f1 ++ b → take 120 f3 ≡ take 80 f2 ++ c → take 160 f4 ≡ take 120 f3 ++ d → f4 ≡ a ++ b ++ c ++ d
+pub four_put : (f1 f2 f3 f4 a b c d : List ℤ) → length f4 ≡ 160 → take 40 f1 ≡ a → take 80 f2 ≡ take 40 f1 ++ b → take 120 f3 ≡ take 80 f2 ++ c →
+    take 160 f4 ≡ take 120 f3 ++ d → f4 ≡ a ++ b ++ c ++ d
 four_put f1 f2 f3 f4 a b c d long first second third fourth =
     sym (take_all 160 f4 (omega arith)) ∙ fourth ∙ ap (λ l. l ++ d) (third ∙ ap (λ l. l ++ c) (second ∙ ap (λ l. l ++ b) first))
 
 -- the steps of four blocks are the step of the frame
 pub four_steps : (f : Fields) (m0 m1 m2 m3 m4 : LtpMemory) (a b c d : List ℤ) →
-    synthesised m0 (ltp_block f 0) ≡ (a, m1) → synthesised m1 (ltp_block f 1) ≡ (b, m2) → synthesised m2 (ltp_block f 2) ≡ (c, m3) → synthesised m3 (ltp_block f 3) ≡ (d, m4) →
+    synthesised m0 (ltp_block f 0) ≡ (a, m1) → synthesised m1 (ltp_block f 1) ≡ (b, m2) → synthesised m2 (ltp_block f 2) ≡ (c, m3) →
+    synthesised m3 (ltp_block f 3) ≡ (d, m4) →
     synthesised_blocks m0 f ≡ (a ++ b ++ c ++ d, m4)
 unfolding synthesised_blocks
 four_steps f m0 m1 m2 m3 m4 a b c d first second third fourth = rw (first, second, third, fourth) refl
@@ -55,6 +57,7 @@ four_histories f m0 m1 m2 m3 m4 a b c d first second third fourth past stands =
 
 -- ---- the functions from frame to frame
 
+-- the four blocks from a memory that stands for a past
 blocks-stand : (f : Fields) (past : List LtpBlock) (m : LtpMemory) → Stands past m →
     Stands (four_blocks f past) (synthesised_blocks m f).1 × ((synthesised_blocks m f).0 ≡ frame_residual f past)
 unfolding synthesised_blocks
@@ -65,6 +68,7 @@ blocks-stand f past m h =
     four_histories f m m1 m2 m3 _ _ _ _ _ (λ ps s. synthesised-Stands ps (ltp_block f 0) m s) (λ ps s. synthesised-Stands ps (ltp_block f 1) m1 s)
     (λ ps s. synthesised-Stands ps (ltp_block f 2) m2 s) (λ ps s. synthesised-Stands ps (ltp_block f 3) m3 s) past h
 
+-- the same of short-term synthesis
 lattice-stands : (codes : List ℕ) (residual : List ℤ) (past : List ResidualFrame) (m : short.ShortMemory) → SynthesisStands past m →
     SynthesisStands (residual_frame codes residual ∷ past) (synthesised_frame m codes residual).1
     × ((synthesised_frame m codes residual).0 ≡ (synthesis_of (residual_frame codes residual ∷ past)).0)
@@ -88,9 +92,12 @@ frame-stands f past m h =
     let blocks = synthesised_blocks m.long_term f in
     let one = blocks-stand f (blocks_of past) m.long_term h.long_term in
     let two = lattice-stands f.larc blocks.0 (residual_frames past) m.short_term h.short_term in
-    let frames : residual_frame f.larc blocks.0 ∷ residual_frames past ≡ residual_frames (f ∷ past) = ap (λ r. residual_frame f.larc r ∷ residual_frames past) one.1 in
-    let samples : (synthesised_frame m.short_term f.larc blocks.0).0 ≡ (synthesis_of (residual_frames (f ∷ past))).0 = two.1 ∙ ap (λ fs. (synthesis_of fs).0) frames in
-    let msr : deemphasised m.msr (synthesised_frame m.short_term f.larc blocks.0).0 ≡ deemphasised (last_msr past) (synthesis_of (residual_frames (f ∷ past))).0 =
+    let frames : residual_frame f.larc blocks.0 ∷ residual_frames past ≡ residual_frames (f ∷ past) =
+    ap (λ r. residual_frame f.larc r ∷ residual_frames past) one.1 in
+    let samples : (synthesised_frame m.short_term f.larc blocks.0).0 ≡ (synthesis_of (residual_frames (f ∷ past))).0 = two.1 ∙
+    ap (λ fs. (synthesis_of fs).0) frames in
+    let msr : deemphasised m.msr (synthesised_frame m.short_term f.larc blocks.0).0 ≡ deemphasised (last_msr past)
+    (synthesis_of (residual_frames (f ∷ past))).0 =
     ap (λ b. deemphasised b (synthesised_frame m.short_term f.larc blocks.0).0) h.msr ∙ ap (deemphasised (last_msr past)) samples in (
       record {
         long_term = one.0;
@@ -142,6 +149,7 @@ length-samples_of f past =
 
 -- ---- and that each is a word
 
+-- a number without its three lowest bits
 floor_8 : (z : ℤ) → ((floor_shr z 3 *ℤ pos 8) ≤ℤ z) × (z ≤ℤ (floor_shr z 3 *ℤ pos 8 +ℤ pos 7))
 floor_8 (pos n) = (omega (arith, ints), omega (arith, ints))
 floor_8 (negsuc n) = (omega (arith, ints), omega (arith, ints))
@@ -151,9 +159,10 @@ unfolding truncated
 truncated-fits msr =
     let low = (floor_8 (add_of msr msr)).0 in
     let high = (floor_8 (add_of msr msr)).1 in
-    let f = add_fits msr msr in
+    let f = add_word msr msr in
     omega (arith, ints)
 
 pub samples-fit : (f : Fields) (past : List Fields) → All (λ x. FitsSigned w16 x) (samples_of f past)
 unfolding samples_of
-samples-fit f past = All-map (λ x. FitsSigned w16 x) truncated (deemphasised (last_msr past) (synthesis_of (residual_frames (f ∷ past))).0) (λ k d l. truncated-fits _)
+samples-fit f past =
+    All-map (λ x. FitsSigned w16 x) truncated (deemphasised (last_msr past) (synthesis_of (residual_frames (f ∷ past))).0) (λ k d l. truncated-fits _)

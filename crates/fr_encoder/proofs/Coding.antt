@@ -67,10 +67,12 @@ four_histories s d0 d1 d2 d3 m0 m1 m2 m3 m4 a b c d e0 e1 e2 e3 first second thi
 
 -- ---- the functions from block to block
 
+-- what is kept after a block
 updated_is : (residuals dpp ep : List ℤ) → drop 40 residuals ++ reconstructed_of dpp ep ≡ updated residuals dpp ep
 unfolding updated
 updated_is residuals dpp ep = refl
 
+-- a block from residuals that stand for a past
 block-stands : (d residuals : List ℤ) → IsCoded residuals d (next_block residuals d).0 (next_block residuals d).1
 unfolding next_block coded_block
 block-stands d residuals = λ past h.
@@ -79,6 +81,7 @@ block-stands d residuals = λ past h.
     one_history d past (drop 40 residuals ++ reconstructed_of p.dpp ep) p _ _ _ _ ep (by_history past residuals d h) refl refl refl refl refl
     (one_update past residuals p.dpp ep (drop 40 residuals ++ reconstructed_of p.dpp ep) h (updated_is residuals p.dpp ep))
 
+-- the four blocks
 pub blocks-stand : (s residuals past : List ℤ) → HistoryStands past residuals →
     HistoryStands (four_coded_blocks past s).1 (next_blocks residuals s).1 × ((next_blocks residuals s).0 ≡ (four_coded_blocks past s).0)
 unfolding next_blocks

@@ -30,6 +30,7 @@ told larc lar blocks peak = record {
   peak = peak;
 }
 
+-- a frame by its stages
 pub one_step : (memory : EncoderMemory) (x s lost residual : List ℤ) (pre' : pre.PreMemory) (short' : short.ShortMemory) (long' : List ℤ)
     (larc : List ℕ) (lar : List ℤ) (blocks : BlockFields) (peak : ℤ) →
     preprocessed_frame memory.preprocessing x ≡ (s, pre') → peak ≡ peak_of s → lost ≡ samples_after s → lar ≡ ratios_of_frame s →
@@ -47,6 +48,7 @@ one_frame : (x s lost : List ℤ) (past : List (List ℤ)) (larc : List ℕ) →
 unfolding sample_frames
 one_frame x s lost past larc es elost elarc = rw (elarc, elost, es) refl
 
+-- the same after the frames of any past
 pub one_history : (x s lost residual : List ℤ) (past : List (List ℤ)) (pre' : pre.PreMemory) (short' : short.ShortMemory)
     (long' : List ℤ) (larc : List ℕ) (lar : List ℤ) (blocks : BlockFields) (peak : ℤ) →
     preprocessing.Stands (x ∷ past) pre' × (s ≡ newest_preprocessed x past) →
@@ -72,6 +74,7 @@ one_history x s lost residual past pre' short' long' larc lar blocks peak first 
 
 -- ---- the function from frame to frame
 
+-- short-term analysis from a memory that stands for a past
 analysis-stands : (codes : List ℕ) (samples : List ℤ) (past : List SampleFrame) (m : short.ShortMemory) → AnalysisStands past m →
     AnalysisStands (sample_frame codes samples ∷ past) (analysed_frame m codes samples).1
     × ((analysed_frame m codes samples).0 ≡ (analysis_of (sample_frame codes samples ∷ past)).0)
@@ -85,7 +88,11 @@ analysis-stands codes samples past m h =
 -- at home no frame was encoded
 pub home-stands : Stands [] home_memory
 unfolding sample_frames reconstructed preprocessed_frame samples_of_frames newest_sample_ratios analysis_of
-home-stands = record { preprocessing = record { after = refl }; short_term = record { ratios = refl; sections = refl }; long_term = record { residuals_are = refl } }
+home-stands = record {
+  preprocessing = record { after = refl };
+  short_term = record { ratios = refl; sections = refl };
+  long_term = record { residuals_are = refl };
+}
 
 -- one frame more, of any past
 pub frame-stands : (x : List ℤ) (past : List (List ℤ)) (m : EncoderMemory) → Stands past m →

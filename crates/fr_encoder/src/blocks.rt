@@ -65,12 +65,6 @@ pub(crate) fn code_blocks(
     let second = code_block(history, &block_at(d, 1));
     let third = code_block(history, &block_at(d, 2));
     let fourth = code_block(history, &block_at(d, 3));
-    let params = Params::of_blocks(
-        larc,
-        first.codes,
-        second.codes,
-        third.codes,
-        fourth.codes,
-    );
+    let params = Params::of_blocks(larc, first.codes, second.codes, third.codes, fourth.codes);
     (params, [first.xmax, second.xmax, third.xmax, fourth.xmax])
 }

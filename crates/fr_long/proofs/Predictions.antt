@@ -24,7 +24,8 @@ predicts d earlier wt scal correlation l_max l_power p ew es lag ec em ep eb pre
     let nc = p.nc in
     let w : wt ≡ scaled_block d (block_scaling_of d) = ew ∙ ap (scaled_block d) es in
     let greatest : correlation ≡ greatest_of (correlation_of_block d earlier) nc = ec ∙ ap (λ x. greatest_of (correlation_of x earlier) nc) w in
-    let most : l_max ≡ l_max_of d earlier nc = em ∙ ap (λ x. floor_shr x (6 - scal)) greatest ∙ ap (λ s. floor_shr (greatest_of (correlation_of_block d earlier) nc) (6 - s)) es in
+    let most : l_max ≡ l_max_of d earlier nc =
+    em ∙ ap (λ x. floor_shr x (6 - scal)) greatest ∙ ap (λ s. floor_shr (greatest_of (correlation_of_block d earlier) nc) (6 - s)) es in
     record {
       lag = subst (λ x. IsLag (correlation_of x earlier) nc) w lag;
       gain = eb ∙ ap (λ x. gain_code_of x l_power) most ∙ ap (gain_code_of (l_max_of d earlier nc)) ep;
@@ -37,6 +38,7 @@ pub is_prediction : (d earlier : List ℤ) → IsPrediction d earlier (predictio
 unfolding prediction_of
 is_prediction d earlier = record { lag = has_lag (correlation_of_block d earlier); gain = refl; predicted = refl; rest = refl }
 
+-- what has the property is the prediction, so there is one
 pub prediction_is : (d earlier : List ℤ) (p : Prediction) → IsPrediction d earlier p → p ≡ prediction_of d earlier
 unfolding prediction_of
 prediction_is d earlier p h =
@@ -50,6 +52,7 @@ prediction_is d earlier p h =
 pub same : (d earlier : List ℤ) (p q : Prediction) → IsPrediction d earlier p → IsPrediction d earlier q → p ≡ q
 same d earlier p q h k = prediction_is d earlier p h ∙ sym (prediction_is d earlier q k)
 
+-- correlation, power and prediction look back over the last 120 residuals alone
 correlation-last_120 : (wt xs : List ℤ) (lag : ℕ) → 120 ≤ length xs → lag ≤ 120 → correlation_of wt (last_120 xs) lag ≡ correlation_of wt xs lag
 unfolding correlation_of
 correlation-last_120 wt xs lag l h =
@@ -73,6 +76,7 @@ same_best f g lag e l h =
       greatest = λ m a b. let there = e m b in let above = h.greatest m a b in omega (arith, ints);
     }
 
+-- a lag by correlations that agree
 same_lag : (f g : ℕ → ℤ) (lag : ℕ) → ((m : ℕ) → m ≤ 120 → f m ≡ g m) → IsLag f lag → IsLag g lag
 same_lag f g lag e h =
     let here = e lag h.at_most in
@@ -97,7 +101,8 @@ by_all d xs p l h =
     record {
       lag = same_lag (correlation_of wt (last_120 xs)) (correlation_of wt xs) nc (λ m b. correlation-last_120 wt xs m l b) h.lag;
       gain = h.gain ∙
-          ap (λ x. gain_code_of (floor_shr (if int_lt (pos 0) x then x else pos 0) (6 - scal)) (power_of (last_120 xs) nc)) (correlation-last_120 wt xs nc l most) ∙
+          ap (λ x. gain_code_of (floor_shr (if int_lt (pos 0) x then x else pos 0) (6 - scal)) (power_of (last_120 xs) nc))
+          (correlation-last_120 wt xs nc l most) ∙
           ap (gain_code_of (l_max_of d xs nc)) (power-last_120 xs nc l most);
       predicted = h.predicted ∙ predicted-last_120 xs nc p.bc l most;
       rest = h.rest;
@@ -111,7 +116,8 @@ pub by_history : (past residuals d : List ℤ) → HistoryStands past residuals 
 by_history past residuals d h =
     let all = after_zeros past in
     ap (prediction_of d) h.residuals_are ∙
-    prediction_is d all (prediction_of d (last_120 all)) (by_all d all (prediction_of d (last_120 all)) (length-after_zeros past) (is_prediction d (last_120 all)))
+    prediction_is d all (prediction_of d (last_120 all))
+    (by_all d all (prediction_of d (last_120 all)) (length-after_zeros past) (is_prediction d (last_120 all)))
 
 length-reconstructed : (dpp ep : List ℤ) → length (reconstructed_of dpp ep) ≡ 40
 unfolding reconstructed_of

@@ -25,6 +25,7 @@ pub record Passes (z1 offset mp : ℤ) (x so offsets sof s : List ℤ) : Type 0 
 abbrev memory_at : ℤ → List ℤ → List ℤ → List ℤ → ℕ → PreMemory
 memory_at offset so offsets sof k = record { z1 = entry so k; l_z2 = entry (offset ∷ offsets) k +ℤ entry so k *ℤ pos 32768; mp = entry sof k }
 
+-- each offset of a frame is one that samples from home can give
 offset_within : (offset : ℤ) (so offsets : List ℤ) (k : ℕ) → k < 160 → IsOffset offset → AreOffsets offset so offsets → IsOffset (entry (offset ∷ offsets) k)
 offset_within offset so offsets zero h o a = o
 offset_within offset so offsets (suc j) h o a = a.within j (omega arith)
@@ -39,6 +40,7 @@ one m so' offset offset' sof' s x z1 zs o o' el eso eo esof es =
     let f : offset_free (offset' +ℤ so' *ℤ pos 32768) ≡ sof' = rw esof (rounds_on so' offset' (offset' +ℤ so' *ℤ pos 32768) zs o' refl) in
     rw (← eso, l, f, ← es) refl
 
+-- the passes from sample k on are the rule
 rest : (z1 offset mp : ℤ) (x so offsets sof s : List ℤ) → Passes z1 offset mp x so offsets sof s → (n k : ℕ) → k + n ≡ 160 →
     preprocessed_frame (memory_at offset so offsets sof k) (drop k x) ≡ (drop k s, memory_at offset so offsets sof 160)
 unfolding preprocessed_frame
@@ -63,7 +65,8 @@ rest z1 offset mp x so offsets sof s p (suc n) k e =
     let e_s : entry s k ≡ preemphasised (entry sof k) (entry sof (suc k)) = rw next (p.preemphasised.each k h) in
     let o : preprocessed_sample (memory_at offset so offsets sof k) (entry x k) ≡ (entry s k, memory_at offset so offsets sof (suc k)) =
     one (memory_at offset so offsets sof k) (entry so (suc k)) (entry (offset ∷ offsets) k) (entry offsets k) (entry sof (suc k)) (entry s k) (entry x k)
-    (p.downscaled.within k (omega arith)) (p.downscaled.within (suc k) (omega arith)) (offset_within offset so offsets k h p.before p.followed) (p.followed.within k h)
+    (p.downscaled.within k (omega arith)) (p.downscaled.within (suc k) (omega arith)) (offset_within offset so offsets k h p.before p.followed)
+    (p.followed.within k h)
     refl e_so (p.followed.each k h) e_sof e_s in
     let r = rest z1 offset mp x so offsets sof s p n (suc k) (omega (arith, e)) in
     rw (ex, es, o, r) refl

@@ -11,6 +11,7 @@ use Rattle.fr_rpe.specs.Quantisation.{maximum_of, coded_maximum, pulse_codes_of,
 use Rattle.fr_rpe.specs.Pulses.{block_of}
 use Rattle.fr_rpe.specs.Encoding.{mc_of, pulses_of, xmax_of, xmaxc_of, xmc_of}
 
+-- each part of a block's coding by the parts before it
 pub is_mc : (e x : List ℤ) (mc : ℕ) → x ≡ weighted_block e → mc ≡ grid_of x → mc ≡ mc_of e
 unfolding mc_of
 is_mc e x mc a b = cc
@@ -42,5 +43,6 @@ magnitude_below pulse xmax l = omega (arith, ints)
 -- room for the maximum is room for each pulse
 pub room_for : (scale : Scale) (pulse xmax : ℤ) → abs_of pulse ≤ℤ xmax → HasRoom scale (unsigned_abs xmax) → HasRoom scale (unsigned_abs (abs_of pulse))
 room_for scale pulse xmax l h =
-    let g : unsigned_abs (abs_of pulse) * 2 ^ scale_shift scale ≤ unsigned_abs xmax * 2 ^ scale_shift scale = mul-le-mul_right (2 ^ scale_shift scale) (magnitude_below pulse xmax l) in
+    let g : unsigned_abs (abs_of pulse) * 2 ^ scale_shift scale ≤ unsigned_abs xmax * 2 ^ scale_shift scale =
+    mul-le-mul_right (2 ^ scale_shift scale) (magnitude_below pulse xmax l) in
     omega arith

@@ -10,6 +10,7 @@ use Rattle.fr_rpe.specs.Quantisation.{HasRoom}
 abbrev top : ℕ → ℕ
 top c = if nat_lt c 16 then 32 * c + 31 else (c % 8 + 9) * 2 ^ (c / 8 + 4) - 1
 
+-- a table over the 64 coded maxima
 abbrev has_room : ℕ → Bool
 has_room c = nat_lt (top c * 2 ^ scale_shift (scale_of c)) (((scale_of c).mantissa + 9) * 2 ^ 11)
 
@@ -17,6 +18,7 @@ table : agree_below has_room (λ c. true) 64 ≡ true
 unfolding scale_of
 table = refl
 
+-- a maximum has room at the scale of its code
 room : (c m : ℕ) → c < 64 → m ≤ top c → HasRoom (scale_of c) m
 room c m l h =
     let t : top c * 2 ^ scale_shift (scale_of c) < ((scale_of c).mantissa + 9) * 2 ^ 11 = ltb-true _ _ (agree_below_at has_room (λ c. true) 64 c table l) in

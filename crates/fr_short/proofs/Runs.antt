@@ -30,11 +30,14 @@ pub record Run (f : ℤ → ℤ → ℤ) (rs : ℕ → List ℤ) (start d : List
   pub newest : last_of last (stepped f last (filtered_samples rs k vs (drop k d)).0) ≡ last_of before (stepped f before (filtered_samples rs 0 start d).0)
   pub state : (filtered_samples rs k vs (drop k d)).1 ≡ (filtered_samples rs 0 start d).1
 
+-- no sample made yet, one more, and all
 pub run_start : (f : ℤ → ℤ → ℤ) (rs : ℕ → List ℤ) (start d : List ℤ) (before : ℤ) (s : List ℤ) → length s ≡ length d → Run f rs start d before start before s 0
 run_start f rs start d before s l = record { count = l; samples = refl; newest = refl; state = refl }
 
-pub run_next : (f : ℤ → ℤ → ℤ) (rs : ℕ → List ℤ) (start d : List ℤ) (before : ℤ) (vs : List ℤ) (last : ℤ) (s r : List ℤ) (k : ℕ) (y x m : ℤ) (vs' : List ℤ) → k < length d →
-    Run f rs start d before vs last s k → r ≡ rs k → y ≡ get_or d k (pos 0) → x ≡ (synthesis_lattice r vs y).0 → vs' ≡ sections_after (synthesis_lattice r vs y) →
+pub run_next : (f : ℤ → ℤ → ℤ) (rs : ℕ → List ℤ) (start d : List ℤ) (before : ℤ) (vs : List ℤ) (last : ℤ) (s r : List ℤ) (k : ℕ) (y x m : ℤ) (vs' : List ℤ) →
+    k < length d →
+    Run f rs start d before vs last s k → r ≡ rs k → y ≡ get_or d k (pos 0) → x ≡ (synthesis_lattice r vs y).0 →
+    vs' ≡ sections_after (synthesis_lattice r vs y) →
     m ≡ f x last → Run f rs start d before vs' m (set s k m) (k + 1)
 run_next f rs start d before vs last s r k y x m vs' h run er ey ex ev em =
     let o = one rs k vs d r y x vs' h er ey ex ev in
@@ -50,8 +53,10 @@ run_next f rs start d before vs last s r k y x m vs' h run er ey ex ev em =
       state = rw o at run.state;
     }
 
-pub run_end : (f : ℤ → ℤ → ℤ) (rs : ℕ → List ℤ) (start d : List ℤ) (before : ℤ) (vs : List ℤ) (last : ℤ) (s : List ℤ) (k : ℕ) → length d ≤ k → Run f rs start d before vs last s k →
-    (s ≡ stepped f before (filtered_samples rs 0 start d).0) × (last ≡ last_of before (stepped f before (filtered_samples rs 0 start d).0)) × (vs ≡ (filtered_samples rs 0 start d).1)
+pub run_end : (f : ℤ → ℤ → ℤ) (rs : ℕ → List ℤ) (start d : List ℤ) (before : ℤ) (vs : List ℤ) (last : ℤ) (s : List ℤ) (k : ℕ) → length d ≤ k →
+    Run f rs start d before vs last s k →
+    (s ≡ stepped f before (filtered_samples rs 0 start d).0) × (last ≡ last_of before (stepped f before (filtered_samples rs 0 start d).0)) ×
+    (vs ≡ (filtered_samples rs 0 start d).1)
 unfolding filtered_samples
 run_end f rs start d before vs last s k h r =
     let count = r.count in

@@ -8,15 +8,18 @@ use Rattle.pool_core.specs.declared.step.PoolStep.{PoolStep}
 use Rattle.pool_core.specs.declared.step.PoolStep.TheVariants.{Pop, Steal, Run, Push, Finish}
 use Rattle.pool_core.specs.Machine.{PoolState, deque, hand, is_worker, is_empty, can_take, is_under_way, is_complete, is_legal, taken, run, pushed, completed, moved, stepped, is_job, times_in, in_hand, fills, TakesJob, IsState}
 
+-- one item more
 pub times_more : (job : ℕ) (xs : List ℕ) (x : ℕ) → times_in job (xs ++ x ∷ []) ≡ times_in job xs + is_job job x
 times_more job xs x = sum_by-append (is_job job) xs (x ∷ []) ∙ ap (λ n. times_in job xs + n) (sum_by-cons (is_job job) x [] ∙ omega arith)
 
 -- ---- what a legal step shows
 
+-- a free hand
 none_of : (o : Option ℕ) → is_none o ≡ true → o ≡ None
 none_of None e = refl
 none_of (Some x) e = cc
 
+-- what a legal step tells of its workers
 pub legal_pop : (s : PoolState) (w : ℕ) → is_legal s (Pop w) ≡ true → TakesJob s w w
 legal_pop s w e =
     let p = and_parts (is_worker s w) (can_take s w w) e in
@@ -46,7 +49,8 @@ legal_finish s w e = ltb-true w (length s.hands) (and_parts (is_worker s w) (is_
 -- ---- each part of a step
 
 -- a hand that is set
-hands_set : (hands : List (Option ℕ)) (w : ℕ) (o : Option ℕ) (P : ℕ → Type 0) → IfSome o P → ((v : ℕ) → IfSome (get_or hands v None) P) → (v : ℕ) → IfSome (get_or (set hands w o) v None) P
+hands_set : (hands : List (Option ℕ)) (w : ℕ) (o : Option ℕ) (P : ℕ → Type 0) → IfSome o P → ((v : ℕ) → IfSome (get_or hands v None) P) → (v : ℕ) →
+    IfSome (get_or (set hands w o) v None) P
 hands_set [] w o P h all v = all v
 hands_set (x ∷ xs) zero o P h all zero = h
 hands_set (x ∷ xs) zero o P h all (suc v) = all (suc v)
@@ -57,13 +61,16 @@ hands_set (x ∷ xs) (suc w) o P h all (suc v) = hands_set xs w o P h (λ u. all
 abbrev pub Below : ℕ → List ℕ → Type 0
 Below n jobs = (k : ℕ) → k < length jobs → get_or jobs k 0 < n
 
-deques_set : (n : ℕ) (deques : List (List ℕ)) (w : ℕ) (jobs : List ℕ) → Below n jobs → ((v : ℕ) → Below n (get_or deques v [])) → (v : ℕ) → Below n (get_or (set deques w jobs) v [])
+-- one deque is changed, and each still has jobs of the pool alone
+deques_set : (n : ℕ) (deques : List (List ℕ)) (w : ℕ) (jobs : List ℕ) → Below n jobs → ((v : ℕ) → Below n (get_or deques v [])) → (v : ℕ) →
+    Below n (get_or (set deques w jobs) v [])
 deques_set n [] w jobs h all v = all v
 deques_set n (x ∷ xs) zero jobs h all zero = h
 deques_set n (x ∷ xs) zero jobs h all (suc v) = all (suc v)
 deques_set n (x ∷ xs) (suc w) jobs h all zero = all zero
 deques_set n (x ∷ xs) (suc w) jobs h all (suc v) = deques_set n xs w jobs h (λ u. all (suc u)) v
 
+-- a list without its first job, and one with a job more
 below_tail : (n job : ℕ) (jobs : List ℕ) → Below n (job ∷ jobs) → Below n jobs
 below_tail n job jobs h k l = h (suc k) (omega arith)
 
@@ -100,6 +107,7 @@ taken_keeps s w v (job ∷ jobs) i t e =
           omega (arith, i.all);
     }
 
+-- each step keeps what the machine keeps: a run ..
 pub run_keeps : (s : PoolState) (w p : ℕ) (o : Option ℕ) → IsState s → hand s w ≡ o → IsState (run s p o)
 run_keeps s w p None i e = i
 run_keeps s w p (Some job) i e = record {
@@ -112,16 +120,19 @@ run_keeps s w p (Some job) i e = record {
   all = i.all;
 }
   where
-    within_set : (places lens : List ℕ) (job n : ℕ) → n ≤ get_or lens job 0 → ((j : ℕ) → get_or places j 0 ≤ get_or lens j 0) → (j : ℕ) → get_or (set places job n) j 0 ≤ get_or lens j 0
+    within_set : (places lens : List ℕ) (job n : ℕ) → n ≤ get_or lens job 0 → ((j : ℕ) → get_or places j 0 ≤ get_or lens j 0) → (j : ℕ) →
+        get_or (set places job n) j 0 ≤ get_or lens j 0
     within_set places lens job n h all j = elim (cases_eq j job) [
       | inl p ↦ elim (cases_lt job (length places)) [
-        | inl l ↦ let e = ap (λ (j : ℕ). get_or (set places job n) j 0) p ∙ get_or-set_same places job n 0 l in let f = ap (λ (j : ℕ). get_or lens j 0) p in omega arith
+        | inl l ↦ let e = ap (λ (j : ℕ). get_or (set places job n) j 0) p ∙ get_or-set_same places job n 0 l in let f = ap (λ (j : ℕ). get_or lens j 0) p in
+            omega arith
         | inr l ↦ past places lens job n l j all
       ]
       | inr q ↦ let e = get_or-set_other places job j n 0 q in let a = all j in omega arith
     ]
       where
-        past : (places lens : List ℕ) (job n : ℕ) → length places ≤ job → (j : ℕ) → ((j : ℕ) → get_or places j 0 ≤ get_or lens j 0) → get_or (set places job n) j 0 ≤ get_or lens j 0
+        past : (places lens : List ℕ) (job n : ℕ) → length places ≤ job → (j : ℕ) → ((j : ℕ) → get_or places j 0 ≤ get_or lens j 0) →
+            get_or (set places job n) j 0 ≤ get_or lens j 0
         past places lens job n l j all = subst (λ (xs : List ℕ). get_or xs j 0 ≤ get_or lens j 0) (sym (same places job n l)) (all j)
           where
             same : (xs : List ℕ) (i n : ℕ) → length xs ≤ i → set xs i n ≡ xs
@@ -129,9 +140,11 @@ run_keeps s w p (Some job) i e = record {
             same (x ∷ xs) zero n l = absurd (omega arith)
             same (x ∷ xs) (suc i) n l = ap (λ ys. x ∷ ys) (same xs i n (omega arith))
 
+-- a hand holds a job of the pool
 held_below : (s : PoolState) (w job : ℕ) → IsState s → hand s w ≡ Some job → job < length s.lens
 held_below s w job i e = subst (λ (o : Option ℕ). IfSome o (λ job. job < length s.lens)) e (i.holding w)
 
+-- .. a push ..
 pub pushed_keeps : (s : PoolState) (w : ℕ) (o : Option ℕ) → IsState s → w < length s.hands → hand s w ≡ o → IsState (pushed s w o)
 pushed_keeps s w None i lw e = i
 pushed_keeps s w (Some job) i lw e =
@@ -158,6 +171,7 @@ pushed_keeps s w (Some job) i lw e =
           omega (arith, i.all);
     }
 
+-- .. a finish ..
 pub completed_keeps : (s : PoolState) (w : ℕ) (o : Option ℕ) → IsState s → w < length s.hands → hand s w ≡ o → IsState (completed s w o)
 completed_keeps s w None i lw e = i
 completed_keeps s w (Some job) i lw e = record {
@@ -179,6 +193,7 @@ completed_keeps s w (Some job) i lw e = record {
       omega (arith, i.all);
 }
 
+-- .. any legal step ..
 pub moved_keeps : (s : PoolState) (x : PoolStep) → IsState s → is_legal s x ≡ true → IsState (moved s x)
 moved_keeps s (Pop w) i e = taken_keeps s w w (deque s w) i (legal_pop s w e) refl
 moved_keeps s (Steal t v) i e = taken_keeps s t v (deque s v) i (legal_steal s t v e) refl
@@ -186,6 +201,7 @@ moved_keeps s (Run w p) i e = run_keeps s w p (hand s w) i refl
 moved_keeps s (Push w) i e = pushed_keeps s w (hand s w) i (legal_push s w e) refl
 moved_keeps s (Finish w) i e = completed_keeps s w (hand s w) i (legal_finish s w e) refl
 
+-- .. and any step
 pub stepped_keeps : (s : PoolState) (x : PoolStep) → IsState s → IsState (stepped s x)
 stepped_keeps s x i = by s x i (is_legal s x) refl
   where

@@ -1,4 +1,4 @@
-// The pool: a state of the machine.
+//! The pool: a state of the machine.
 
 ghost use Rattle.std.specs.Prelude.{◌≡◌, ◌↔◌, ℕ, ◌<◌, ◌≤◌, min, true, None, List, ◌∷◌, [], ◌++◌, length, replicate, IfOk, IfSome, IsNone, IsTrue, OnErr, vec_capacity};
 ghost use Rattle.std.specs.List.{Contains};

@@ -73,6 +73,20 @@ impl Seat {
         self.place
     }
 
+    /// What goes out on Down: the octets of the whole periods that came in.
+    pub fn down_given(&self) -> &[u8]
+        ensures { result.now ≡ down_given self.now }
+    {
+        &self.buffers.down[..40 * self.place.whole() as usize]
+    }
+
+    /// What goes out on Out: the octets of the whole periods that came in.
+    pub fn out_given(&self) -> &[u8]
+        ensures { result.now ≡ out_given self.now }
+    {
+        &self.buffers.out[..160 * self.place.whole() as usize]
+    }
+
     /// Takes the seat apart, so that the call's work has the buffers.
     pub fn into_parts(self) -> (Place, Buffers)
         ensures place { result.0 ≡ self.place }
@@ -127,12 +141,11 @@ impl Seat {
         ensures others { OthersStay (T.lines trunk.old) (T.lines trunk.new) self.old.place.call Down }
         ensures kept { self.new ≡ record self.old { place = record self.old.place { down = self.new.place.down } } }
     {
-        let octets = 40 * self.place.whole() as usize;
         let outlet = give_block(
             trunk,
             self.place.line(Side::Down),
             self.place.down(),
-            &self.buffers.down[..octets],
+            self.down_given(),
         );
         self.place.set_down(outlet);
     }
@@ -142,12 +155,11 @@ impl Seat {
         ensures others { OthersStay (T.lines trunk.old) (T.lines trunk.new) self.old.place.call Out }
         ensures kept { self.new ≡ record self.old { place = record self.old.place { out = self.new.place.out } } }
     {
-        let octets = 160 * self.place.whole() as usize;
         let outlet = give_block(
             trunk,
             self.place.line(Side::Out),
             self.place.out(),
-            &self.buffers.out[..octets],
+            self.out_given(),
         );
         self.place.set_out(outlet);
     }

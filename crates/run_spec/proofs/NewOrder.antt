@@ -12,7 +12,7 @@ use Rattle.switchboard.specs.Calls.{Done, opened_at, closed_at, is_open, gone_at
 use Rattle.switchboard.specs.Bridges.{ends_bridge, bridge_by, bridges, joins, other, lasts, bridge_of}
 use Rattle.switchboard.specs.Replies.{known_of}
 use Rattle.switchboard.proofs.Appending.{or_else, after}
-use Rattle.switchboard.proofs.Moves.{closes_this}
+use Rattle.switchboard.proofs.MovesParted.{closes_this}
 use Rattle.run_spec.proofs.Lists.{each_weaker, each_all, none_each, AtMostOne, one_found, no}
 use Rattle.run_spec.proofs.Executing.{closed-append}
 use Rattle.run_spec.proofs.Showing.{ShownBy, closes, done}

@@ -18,12 +18,14 @@ pub record Since (heard : ℕ → Heard) (k g : ℕ) (since : List Heard) : Type
   pub count : length since ≡ k - g
   pub second : Second k since (missed_since heard g k)
 
+-- at the anchor itself
 since_none : (heard : ℕ → Heard) (k : ℕ) → Since heard k k []
 unfolding missed_since periods_of_fall
 since_none heard k =
     let none : k - k ≡ 0 = omega arith in
     record { count = sym none; second = subst (λ n. Second k [] (filter (λ i. is_missed (heard i)) (range_with_len (k + 1) n))) (sym none) (refl, refl) }
 
+-- one more lost period after it
 since_more : (heard : ℕ → Heard) (k g : ℕ) (since : List Heard) (missed : Bool) → g ≤ k → heard (suc k) ≡ Lost missed →
     Since heard k g since → Since heard (suc k) g (Lost missed ∷ since)
 since_more heard k g since true h e s =
@@ -44,10 +46,12 @@ TellsAt heard k g (Sid q) a = (since : List Heard) × (a ≡ AtSid q since) × S
 TellsAt heard k g Idle a = a ≡ NoAnchor
 TellsAt heard k g (Lost missed) a = ⊥
 
+-- the latest anchor, if there is one, is what the history has as its anchor
 unfoldable pub Tells : (ℕ → Heard) → ℕ → Option ℕ → Anchor → Type 0
 Tells heard k None a = a ≡ NoAnchor
 Tells heard k (Some g) a = (g ≤ k) × TellsAt heard k g (heard g) a
 
+-- the same after one more lost period
 tells_more_at : (heard : ℕ → Heard) (k g : ℕ) (y : Heard) (a : Anchor) (missed : Bool) → g ≤ k → heard (suc k) ≡ Lost missed →
     TellsAt heard k g y a → TellsAt heard (suc k) g y (one_more (Lost missed) a)
 unfolding TellsAt
@@ -76,6 +80,7 @@ tells_first heard (Sid q) e = tells_here heard 0 (Sid q) [] e refl
 tells_first heard Idle e = tells_here heard 0 Idle [] e refl
 tells_first heard (Lost missed) e = unfold Tells in unfold anchor_of in refl
 
+-- after any period
 tells_next : (heard : ℕ → Heard) (k : ℕ) (y : Heard) (o : Option ℕ) (past : List Heard) → heard (suc k) ≡ y → Tells heard k o (anchor_of past) →
     Tells heard (suc k) (if is_anchor y then Some (suc k) else o) (anchor_of (y ∷ past))
 unfolding anchor_of
@@ -84,6 +89,7 @@ tells_next heard k (Sid q) o past e t = tells_here heard (suc k) (Sid q) past e 
 tells_next heard k Idle o past e t = tells_here heard (suc k) Idle past e refl
 tells_next heard k (Lost missed) o past e t = tells_more heard k o (anchor_of past) missed e t
 
+-- **It is so in each period.**
 pub tells : (heard : ℕ → Heard) (k : ℕ) → Tells heard k (latest_anchor heard k) (anchor_of (periods_before heard (suc k)))
 unfolding latest_anchor
 tells heard zero = tells_first heard (heard 0) refl

@@ -3,7 +3,7 @@ use Rattle.std.proofs.Common.{◌≡◌, refl, ap, ◌∙◌, sym, ℕ, ◌+◌,
 use Rattle.std.specs.Prelude.{◌==◌, slice_get, reverse}
 use Rattle.std.specs.Option.{option_map_or}
 use Rattle.std.proofs.lemmas.List.{length-reverse}
-use Rattle.std.proofs.lemmas.Grind.{common_steps, reverse_onto}
+use Rattle.std.proofs.lemmas.Grind.{reverse_onto}
 use Rattle.std.proofs.Math.Seq.{get_or-append_seam}
 use mathlib.Core.List.{reverse_aux}
 use Rattle.trau_params.specs.Fields.{Fields}
@@ -13,7 +13,7 @@ use Rattle.rx_handler.specs.Heard.{Heard, Good, Sid, Idle, Lost}
 use Rattle.rx_handler.specs.Origin.{GoodFrame, LostFrame, NoFrame, NoiseFrame, frame_of, draws_of}
 use Rattle.rx_handler.specs.Effective.{is_anchor, latest_anchor, missed_since, fall_at, approached, start_after, old_at, origin_after, origin_at, draws_before, effective_at, heard_in}
 use Rattle.rx_handler.specs.Past.{Anchor, AtGood, anchor_of, periods_of_fall, moved, start_from, old_of, origin_from, origin_of, drawn, effective_of}
-use Rattle.rx_handler.proofs.Missed.{Second}
+use Rattle.rx_handler.proofs.Missed.{Second, begun_same}
 use Rattle.rx_handler.proofs.Anchors.{periods_before, Since, TellsAt, Tells, tells}
 
 -- ---- what the frame is made from
@@ -25,6 +25,7 @@ fall_same k since [] s = let fall = s.1 in omega arith
 fall_same k since (t ∷ []) s = let fall = s.1 in omega arith
 fall_same k since (r ∷ t ∷ more) s = let fall = s.1 in omega arith
 
+-- the frame of a good speech frame's row
 good_same : (p : Fields) (k g : ℕ) (since : List Heard) → g ≤ k → length since ≡ k - g →
     (old : Fields → Fields) → (if g == k then GoodFrame p else LostFrame p (min (k - g) 17)) ≡ origin_from old (AtGood p since)
 good_same p k g [] h e old = let same : (g == k) ≡ true = grind arith in rw same
@@ -36,10 +37,7 @@ good_same p k g (y ∷ since) h e old =
 moved_same : (old q : Fields) (k g : ℕ) (since : List Heard) → length since ≡ k - g → approached old q g k ≡ moved old q since
 moved_same old q k g since e = ap (λ n. mix_of old q (min (n + 1) 8)) (sym e)
 
--- from where a further descriptor is approached
-begun_same : (fall : ℕ) → (min fall 17 == 0) ≡ (fall == 0)
-begun_same fall = grind (arith, common_steps)
-
+-- from where a further descriptor is approached, by the anchor before
 start_same_at : (heard : ℕ → Heard) (k : ℕ) (now past : Fields → Fields) (q : Fields) (g : ℕ) (y : Heard) (a : Anchor) → ((r : Fields) → now r ≡ past r) →
     TellsAt heard k g y a → start_after heard k now q g y ≡ start_from a past q
 unfolding TellsAt fall_at
@@ -60,6 +58,7 @@ unfolding Tells
 start_same heard k now past q None a e t = ap (λ a. start_from a past q) (sym t)
 start_same heard k now past q (Some g) a e t = start_same_at heard k now past q g (heard g) a e t.1
 
+-- by cases
 both : (b : Bool) (s t u v : Fields) → s ≡ t → u ≡ v → (if b then s else u) ≡ (if b then t else v)
 both true s t u v e f = e
 both false s t u v e f = f
@@ -68,15 +67,18 @@ either : (b : Bool) (s : Fields) → s ≡ (if b then s else s)
 either true s = refl
 either false s = refl
 
+-- from where the latest descriptor is approached
 pub old-history : (heard : ℕ → Heard) (k : ℕ) (q : Fields) → old_at heard k q ≡ old_of (periods_before heard (suc k)) q
 unfolding old_at old_of anchor_of
 old-history heard zero q = either (is_anchor (heard 0)) q
 old-history heard (suc k) q =
     both (is_anchor (heard (suc k))) _ _ _ _
-    (start_same heard k (λ r. old_at heard k r) (λ r. old_of (periods_before heard (suc k)) r) q (latest_anchor heard k) (anchor_of (periods_before heard (suc k)))
+    (start_same heard k (λ r. old_at heard k r) (λ r. old_of (periods_before heard (suc k)) r) q (latest_anchor heard k)
+    (anchor_of (periods_before heard (suc k)))
     (old-history heard k) (tells heard k))
     (old-history heard k q)
 
+-- what the frame of a period is made from
 origin_same_at : (heard : ℕ → Heard) (k g : ℕ) (y : Heard) (old : Fields → Fields) (a : Anchor) → ((q : Fields) → old_at heard k q ≡ old q) →
     g ≤ k → TellsAt heard k g y a → origin_after heard k g y ≡ origin_from old a
 unfolding TellsAt fall_at
@@ -102,11 +104,14 @@ origin-history heard k =
     origin_same heard k (λ q. old_of (periods_before heard (suc k)) q) (latest_anchor heard k) (anchor_of (periods_before heard (suc k)))
     (old-history heard k) (tells heard k)
 
+-- the draws before a period
 drawn-history : (heard : ℕ → Heard) (k : ℕ) → draws_before heard k ≡ drawn (periods_before heard k)
 unfolding draws_before drawn
 drawn-history heard zero = refl
-drawn-history heard (suc k) = ap (λ n. n + draws_of (origin_at heard k)) (drawn-history heard k) ∙ ap (λ o. drawn (periods_before heard k) + draws_of o) (origin-history heard k)
+drawn-history heard (suc k) = ap (λ n. n + draws_of (origin_at heard k)) (drawn-history heard k) ∙
+    ap (λ o. drawn (periods_before heard k) + draws_of o) (origin-history heard k)
 
+-- so the effective frame
 effective-periods : (call : ℕ) (heard : ℕ → Heard) (k : ℕ) → effective_at call heard k ≡ effective_of call (periods_before heard (suc k))
 unfolding effective_at effective_of
 effective-periods call heard k =
@@ -115,6 +120,7 @@ effective-periods call heard k =
 
 -- ---- the periods of a list
 
+-- what the newest period of a history heard
 heard_last : (y : Heard) (past rest : List Heard) → heard_in (reverse_aux past (y ∷ rest)) (length past) ≡ y
 heard_last y past rest =
     ap (λ ys. heard_in ys (length past)) (reverse_onto past y rest) ∙
@@ -123,8 +129,10 @@ heard_last y past rest =
 
 pub periods_before-history : (past rest : List Heard) → periods_before (heard_in (reverse_aux past rest)) (length past) ≡ past
 periods_before-history [] rest = refl
-periods_before-history (y ∷ past) rest = ap (λ x. x ∷ periods_before (heard_in (reverse_aux past (y ∷ rest))) (length past)) (heard_last y past rest) ∙ ap (λ ys. y ∷ ys) (periods_before-history past (y ∷ rest))
+periods_before-history (y ∷ past) rest = ap (λ x. x ∷ periods_before (heard_in (reverse_aux past (y ∷ rest))) (length past)) (heard_last y past rest) ∙
+    ap (λ ys. y ∷ ys) (periods_before-history past (y ∷ rest))
 
+-- **The effective frame by looking back over a list is that of its history.**
 pub effective-history : (call : ℕ) (y : Heard) (past rest : List Heard) →
     effective_at call (heard_in (reverse_aux past (y ∷ rest))) (length past) ≡ effective_of call (y ∷ past)
 effective-history call y past rest =

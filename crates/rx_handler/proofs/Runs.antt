@@ -12,6 +12,7 @@ use Rattle.rx_handler.specs.Stands.{Stands}
 use Rattle.rx_handler.proofs.Steps.{received_more}
 use Rattle.rx_handler.proofs.LookBack.{effective-history}
 
+-- from any memory that stands for a past
 run : (call : ℕ) (past ys : List Heard) (memory : RxMemory) → Stands call past memory →
     all_received memory ys ≡ map (effective_at call (heard_in (reverse_aux past ys))) (range_with_len (length past) (length ys))
 unfolding all_received

@@ -10,6 +10,7 @@ state_after-state_after r i zero = ap (state_after r) (let e : i ≡ i + 0 = ome
 state_after-state_after r i (suc k) =
     ap state_after_draw (state_after-state_after r i k) ∙ ap (state_after r) (let e : suc (i + k) ≡ i + suc k = omega arith in e)
 
+-- draws go on from the state after others
 pub draw_of-state_after : (r i k m : ℕ) → draw_of (state_after r i) k m ≡ draw_of r (i + k) m
 unfolding draw_of
 draw_of-state_after r i k m = ap (λ s. drawn_number s m) (state_after-state_after r i k)
@@ -19,6 +20,7 @@ pub state_after-next : (r i : ℕ) → state_after_draw (state_after r i) ≡ st
 unfolding state_after
 state_after-next r i = ap (state_after r) (let e : suc i ≡ i + 1 = omega arith in e)
 
+-- a draw is below its limit
 scaled : (s m : ℕ) → s < 65536 → 0 < m → s * m / 65536 < m
 scaled s m h p = grind arith
 

@@ -17,6 +17,7 @@ pub record PulsesDrawn (r0 : ℕ) (xmc : List ℕ) (r i : ℕ) : Type 0 where
   pub filled : Filled 0 (λ i. 1 + draw_of r0 i 6) xmc 13 i
   pub source : r ≡ state_after r0 i
 
+-- pulses drawn so far: none, one more, all thirteen
 pub pulses_none : (r0 : ℕ) (xmc : List ℕ) → length xmc ≡ 13 → PulsesDrawn r0 xmc r0 0
 unfolding state_after
 pulses_none r0 xmc e = record { filled = fill_none 0 (λ i. 1 + draw_of r0 i 6) xmc 13 e; source = refl }
@@ -57,6 +58,7 @@ pub record BlocksDrawn (r0 : ℕ) (mc : List ℕ) (xmc : List (List ℕ)) (r j :
   pub pulses : Filled [] (λ j. noise_pulses (draw_of r0) (14 * j + 1)) xmc 4 j
   pub source : r ≡ state_after r0 (14 * j)
 
+-- the same of the four blocks
 pub blocks_none : (r0 : ℕ) (mc : List ℕ) (xmc : List (List ℕ)) → length mc ≡ 4 → length xmc ≡ 4 → BlocksDrawn r0 mc xmc r0 0
 unfolding state_after
 blocks_none r0 mc xmc e f = record {

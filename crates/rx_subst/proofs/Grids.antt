@@ -13,6 +13,7 @@ pub record GridsDrawn (r0 : ℕ) (mc : List ℕ) (r j : ℕ) : Type 0 where
   pub filled : Filled 0 (λ j. draw_of r0 j 4) mc 4 j
   pub source : r ≡ state_after r0 j
 
+-- grids drawn so far: none, one more, all four
 pub grids_none : (r0 : ℕ) (mc : List ℕ) → length mc ≡ 4 → GridsDrawn r0 mc r0 0
 unfolding state_after
 grids_none r0 mc e = record { filled = fill_none 0 (λ j. draw_of r0 j 4) mc 4 e; source = refl }

@@ -1,4 +1,4 @@
-// The board: it executes the orders one after another and is told of the ends of calls.
+//! The board: it executes the orders one after another and is told of the ends of calls.
 
 ghost use Rattle.std.specs.Prelude.{◌≡◌, ◌<◌, ◌≤◌, ◌≢◌, ◌↔◌, ℕ, [], true, false, None, IsNone, IsSome, IfOk, IfSome, OnErr};
 ghost use Rattle.std.specs.List.{All};

@@ -6,6 +6,6 @@ pub record AlignMemory : Type 0 where
   pub kept : Option ℤ
   pub frozen : Bool
 
--- before the first call
+-- before the first operation
 abbrev pub home_memory : AlignMemory
 home_memory = record { kept = None; frozen = false }

@@ -53,9 +53,11 @@ read_last bits d ys all len same h =
     read_part bits d ys 255 305 5 5 260 (omega arith) (omega arith) refl refl
     (λ j l. place_of-last j (255 + j + 1) l refl) len same h
 
+-- so many bits read, by another name of the number
 pub read_to : (bits d : List ℕ) (n m : ℕ) → n ≡ m → IsRead bits d n → IsRead bits d m
 read_to bits d n m e h = subst (IsRead bits d) e h
 
+-- all 260
 pub read_all : (bits d : List ℕ) → IsRead bits d 260 → d ≡ data_of bits
 unfolding data_of
 read_all bits d h =

@@ -18,6 +18,7 @@ synced-up_bits f = synced-frame_bits (up_control (words_of f)) f.d
 
 -- ---- control bits
 
+-- what is written is read again: control bits, numbers of several bits, kind and class, data
 control-again : (f : UpFrame) (c : ℕ) → 1 ≤ c → c ≤ 21 → bit_with (up_bits f) (Control c) ≡ up_control_bit (words_of f) c
 unfolding bits_saying up_control
 control-again f c low high =
@@ -34,7 +35,8 @@ unfolding number_of number_by
 number_of-up_bits f first zero l h = refl
 number_of-up_bits f first (suc n) l h =
     let e : number_of (up_bits f) first n ≡ number_by (up_control_bit (words_of f)) first n = number_of-up_bits f first n l (omega (arith, h)) in
-    let b : bit_with (up_bits f) (Control (first + n)) ≡ up_control_bit (words_of f) (first + n) = control-again f (first + n) (omega arith) (omega (arith, h)) in
+    let b : bit_with (up_bits f) (Control (first + n)) ≡ up_control_bit (words_of f) (first + n) =
+    control-again f (first + n) (omega arith) (omega (arith, h)) in
     cc
 
 up_pattern-below : (kind : Kind) → up_pattern kind < 32
@@ -94,6 +96,7 @@ data-again : (f : UpFrame) → length f.d ≡ 260 → data_of (up_bits f) ≡ f.
 unfolding bits_saying
 data-again f count = data_of-frame_bits (up_control (words_of f)) f.d count
 
+-- so the bits of a frame say the frame
 pub says-up_bits : (f : UpFrame) → length f.d ≡ 260 → FitsKind f.kind f.class → Says (up_bits f) f
 unfolding words_in
 says-up_bits f count fits =
@@ -107,5 +110,6 @@ says-up_bits f count fits =
     let d = data-again f count in
     cc
 
+-- and no other
 pub same-up_bits : (f g : UpFrame) → length f.d ≡ 260 → FitsKind f.kind f.class → Says (up_bits f) g → SameFrame f g
 same-up_bits f g count fits says = says-up_bits f count fits ∙ sym says

@@ -17,9 +17,11 @@ use Rattle.trau_lanes.proofs.Rounded.{rounded, clamp_none, word_shifted, mult_r_
 
 -- ---- one lane
 
+-- one lane of the rounded product
 abbrev pub sum_bits : ℕ → ℕ → ℕ
 sum_bits a b = ((narrowed (high_bits (twice_bits a) b) + (over_bits a * b) % 2 ^ 16) % 2 ^ 16 + carry_bits (low_half (twice_bits a) b)) % 2 ^ 16
 
+-- it is the rounded product, and its high half is a word
 pub record IsProduct (r v : ℤ) : Type 0 where
   pub high : FitsSigned w16 (to_z w32 (high_bits (twice_bits (of_z w16 r)) (of_z w16 v)))
   pub sum : to_z w16 (sum_bits (of_z w16 r) (of_z w16 v)) ≡ mult_r_of r v
@@ -51,9 +53,11 @@ is_product r v b f =
     ap (λ n. carry_bits (low_half n (of_z w16 v))) ts ∙ ap carry_bits (low_is t v ft f) ∙ carry_is (remainder_of (t *ℤ v)) below in
     let wrapped : FitsSigned w16 (int_wrap w16 q) = SFits-int_wrap w16 q in
     let over : (over_bits (of_z w16 r) * of_z w16 v) % 2 ^ 16 ≡ of_z w16 (int_wrap w16 q) =
-    ap (λ n. (n * of_z w16 v) % 2 ^ 16) (over_is r b fr) ∙ sym (of_z-to_z w16 ((of_z w16 o * of_z w16 v) % 2 ^ 16) (mod_below (of_z w16 o * of_z w16 v) (2 ^ 16) (lit< tt))) ∙
+    ap (λ n. (n * of_z w16 v) % 2 ^ 16) (over_is r b fr) ∙
+    sym (of_z-to_z w16 ((of_z w16 o * of_z w16 v) % 2 ^ 16) (mod_below (of_z w16 o * of_z w16 v) (2 ^ 16) (lit< tt))) ∙
     ap (of_z w16) (wrapping_mul_is w16 o v fo f) in
-    let first : (narrowed (high_bits (twice_bits (of_z w16 r)) (of_z w16 v)) + (over_bits (of_z w16 r) * of_z w16 v) % 2 ^ 16) % 2 ^ 16 ≡ of_z w16 (int_wrap w16 (h +ℤ q)) =
+    let first : (narrowed (high_bits (twice_bits (of_z w16 r)) (of_z w16 v)) + (over_bits (of_z w16 r) * of_z w16 v) % 2 ^ 16) % 2 ^ 16 ≡
+    of_z w16 (int_wrap w16 (h +ℤ q)) =
     ap (λ z. (of_z w16 z + (over_bits (of_z w16 r) * of_z w16 v) % 2 ^ 16) % 2 ^ 16) high ∙ ap (λ n. (of_z w16 h + n) % 2 ^ 16) over ∙
     sym (of_z-to_z w16 ((of_z w16 h + of_z w16 (int_wrap w16 q)) % 2 ^ 16) (mod_below (of_z w16 h + of_z w16 (int_wrap w16 q)) (2 ^ 16) (lit< tt))) ∙
     ap (of_z w16) (wrapping_add_is w16 h (int_wrap w16 q) hw wrapped ∙ int_wrap-add_right w16 h q) in
@@ -69,6 +73,7 @@ is_product r v b f =
 
 -- ---- eight lanes
 
+-- the same in all eight lanes, step by step
 abbrev shifted_all : List ℕ → ℕ → List ℕ
 shifted_all ns s = zip2 (λ a s. of_z w16 (shr_z (to_z w16 a) (2 ^ s))) ns (replicate 8 s)
 
@@ -85,7 +90,8 @@ abbrev over_all : List ℤ → List ℕ
 over_all rs = shifted_all (added_all (shifted_all (map (of_z w16) rs) 14) (replicate 8 1)) 1
 
 abbrev pub high_all : List ℤ → List ℤ → List ℕ
-high_all rs vs = zip2 (λ a s. of_z w32 (shr_z (to_z w32 a) (2 ^ s))) (zip2 (λ a b. (a * b) % 2 ^ 32) (map widened (twice_all rs)) (widened_all vs)) (replicate 8 16)
+high_all rs vs = zip2 (λ a s. of_z w32 (shr_z (to_z w32 a) (2 ^ s))) (zip2 (λ a b. (a * b) % 2 ^ 32) (map widened (twice_all rs)) (widened_all vs))
+    (replicate 8 16)
 
 abbrev carry_all : List ℤ → List ℤ → List ℕ
 carry_all rs vs = zip2 bit_and (shifted_all (times_all (twice_all rs) (map (of_z w16) vs)) 15) (replicate 8 1)
@@ -93,6 +99,7 @@ carry_all rs vs = zip2 bit_and (shifted_all (times_all (twice_all rs) (map (of_z
 abbrev pub sum_all : List ℤ → List ℤ → List ℤ
 sum_all rs vs = map (to_z w16) (added_all (added_all (map narrowed (high_all rs vs)) (times_all (over_all rs) (map (of_z w16) vs))) (carry_all rs vs))
 
+-- all eight are rounded products
 pub record AreProducts (rs vs : List ℤ) : Type 0 where
   pub high : Each1 (λ n. FitsSigned w16 (to_z w32 n)) (high_all rs vs)
   pub sums : sum_all rs vs ≡ zip2 mult_r_of rs vs
@@ -106,10 +113,11 @@ are_products rs vs p q =
     })
     rs vs p.eight q.eight p.factors q.words
 
+-- rounded products are words
 pub products_words : (rs vs : List ℤ) → length rs ≡ 8 → length vs ≡ 8 → EightWords (zip2 mult_r_of rs vs)
 products_words rs vs l m = eight_zipped mult_r_of mult_r_word rs vs l m
 
--- what a call gives: its arguments are passed as their bits
+-- what a function gives: its arguments are passed as their bits
 pub products_given : (rs vs r : List ℤ) → EightFactors rs → EightWords vs →
     r ≡ zip2 mult_r_of (map (to_z w16) (map (of_z w16) rs)) (map (to_z w16) (map (of_z w16) vs)) → (r ≡ zip2 mult_r_of rs vs) × EightWords r
 products_given rs vs r p q e =

@@ -13,6 +13,7 @@ use Rattle.tx_dtx.specs.Stands.{elapsed_of, Stands}
 
 -- ---- how many frames since the last SID
 
+-- one frame later
 elapsed-later : (o : Option SidPlace) → elapsed_of (option_map one_later o) ≡ later (elapsed_of o)
 elapsed-later None = refl
 elapsed-later (Some place) = let e : min (place.since + 1) 24 ≡ min (min place.since 24 + 1) 24 = omega arith in e
@@ -23,7 +24,8 @@ hangs_by None = refl
 hangs_by (Some place) = grind (arith, common_steps)
 
 -- the last SID is the same one frame later
-sid-later : (sid : Fields) (o : Option SidPlace) → IfSome o (λ place. sid ≡ sid_of place.four) → IfSome (option_map one_later o) (λ place. sid ≡ sid_of place.four)
+sid-later : (sid : Fields) (o : Option SidPlace) → IfSome o (λ place. sid ≡ sid_of place.four) →
+    IfSome (option_map one_later o) (λ place. sid ≡ sid_of place.four)
 sid-later sid None h = tt
 sid-later sid (Some place) h = h
 
@@ -33,9 +35,11 @@ sid-later sid (Some place) h = h
 pub no_place : (f : Coded) (fs : List Coded) → is_sid_place (f ∷ fs) ≡ false → latest_place (f ∷ fs) ≡ option_map one_later (latest_place fs)
 no_place f fs n = cond-false (is_sid_place (f ∷ fs)) (Some (record { since = 0; four = newest_four (f ∷ fs) })) (option_map one_later (latest_place fs)) n
 
+-- and where it is one
 sid_place : (f : Coded) (fs : List Coded) → is_sid_place (f ∷ fs) ≡ true → latest_place (f ∷ fs) ≡ Some (record { since = 0; four = newest_four (f ∷ fs) })
 sid_place f fs y = cond-true (is_sid_place (f ∷ fs)) (Some (record { since = 0; four = newest_four (f ∷ fs) })) (option_map one_later (latest_place fs)) y
 
+-- the measures of the last three frames
 pub recent-more : (f : Coded) (past : List Coded) (recent : List Measures) → recent ≡ take 3 (map (λ f. f.measures) past ++ replicate 3 no_measures) →
     take 3 (f.measures ∷ recent) ≡ take 3 (map (λ f. f.measures) (f ∷ past) ++ replicate 3 no_measures)
 recent-more f past recent e = ap (λ z. f.measures ∷ take 2 z) e ∙ ap (λ z. f.measures ∷ z) (take_take (map (λ f. f.measures) past ++ replicate 3 no_measures))
@@ -47,7 +51,8 @@ recent-more f past recent e = ap (λ z. f.measures ∷ take 2 z) e ∙ ap (λ z.
     take_take (a ∷ b ∷ c ∷ xs) = refl
 
 -- the newest four, where a pause of four comes before
-pub newest-four : (f : Coded) (past : List Coded) (recent : List Measures) → recent ≡ take 3 (map (λ f. f.measures) past ++ replicate 3 no_measures) → 4 ≤ length past →
+pub newest-four : (f : Coded) (past : List Coded) (recent : List Measures) → recent ≡ take 3 (map (λ f. f.measures) past ++ replicate 3 no_measures) →
+    4 ≤ length past →
     f.measures ∷ recent ≡ newest_four (f ∷ past)
 newest-four f [] recent e l = absurd (omega arith)
 newest-four f (a ∷ []) recent e l = absurd (omega arith)
@@ -70,6 +75,7 @@ pub record Counts (past : List Coded) (m : TxMemory) : Type 0 where
   pub hangs : 0 < pause_of past → m.hangs ≡ is_none (sid_used (before_pause past))
   pub sid : IfSome (latest_place past) (λ place. m.sid ≡ sid_of place.four)
 
+-- fewer than five inactive frames make no SID place
 pub not_place : (f : Coded) (past : List Coded) → pause_of (f ∷ past) < 5 → is_sid_place (f ∷ past) ≡ false
 not_place f past l = lt-leb 5 (pause_of (f ∷ past)) l
 
@@ -86,11 +92,13 @@ active-counts f past m a s =
       sid = subst (λ o. IfSome o (λ place. m.sid ≡ sid_of place.four)) (sym place) (sid-later m.sid (latest_place past) s.sid);
     }
 
+-- an inactive frame makes the pause longer
 pub one_longer : (f : Coded) (past : List Coded) → is_active f ≡ false → pause_of (f ∷ past) ≡ suc (pause_of past)
 one_longer f past n = cond-false (is_active f) 0 (suc (pause_of past)) n
 
 -- an inactive frame after four
-pub sid-counts : (f : Coded) (past : List Coded) (m : TxMemory) → is_active f ≡ false → 4 ≤ pause_of past → Stands past m → Counts (f ∷ past) (after_sid m (f.measures ∷ m.recent))
+pub sid-counts : (f : Coded) (past : List Coded) (m : TxMemory) → is_active f ≡ false → 4 ≤ pause_of past → Stands past m →
+    Counts (f ∷ past) (after_sid m (f.measures ∷ m.recent))
 sid-counts f past m n l s =
     let longer = one_longer f past n in
     let place = sid_place f past (le-leb 5 (pause_of (f ∷ past)) (omega arith)) in
@@ -120,7 +128,8 @@ hangs-now f (g ∷ past) m n l s = elim (cases_Bool (is_active g)) [
 ]
 
 -- an inactive frame after fewer than four
-pub early-counts : (f : Coded) (past : List Coded) (m : TxMemory) → is_active f ≡ false → pause_of past < 4 → Stands past m → Counts (f ∷ past) (after_early m (pause_of past + 1))
+pub early-counts : (f : Coded) (past : List Coded) (m : TxMemory) → is_active f ≡ false → pause_of past < 4 → Stands past m →
+    Counts (f ∷ past) (after_early m (pause_of past + 1))
 early-counts f past m n l s =
     let longer = one_longer f past n in
     let place = no_place f past (not_place f past (omega arith)) in

@@ -30,12 +30,15 @@ sid-before (f ∷ past) sid l h = elim (cases_Bool (is_active f)) [
     sid-earlier None h = tt
     sid-earlier (Some place) h = h
 
+-- early in a pause the memory sends what the stretch says
 sent-early : (f : Coded) (sid : Fields) (o : Option SidPlace) → IfSome o (λ place. sid ≡ sid_of place.four) →
     (if is_none (still_used o) then itself f.fields else record { fields = sid; sp = false }) ≡ sent_early f (still_used o)
 sent-early f sid None h = refl
 sent-early f sid (Some place) h = by (nat_le 24 (place.since + 1))
   where
-    by : (b : Bool) → (if is_none (if b then None else Some place) then itself f.fields else record { fields = sid; sp = false }) ≡ sent_early f (if b then None else Some place)
+    by : (b : Bool) →
+        (if is_none (if b then None else Some place) then itself f.fields else record { fields = sid; sp = false }) ≡
+        sent_early f (if b then None else Some place)
     by true = refl
     by false = ap (λ z. let s : Sent = record { fields = z; sp = false } in s) h
 
@@ -44,6 +47,7 @@ pub record Takes (f : Coded) (past : List Coded) (out : Sent × TxMemory) : Type
   pub sent : out.0 ≡ sent_of f past
   pub counts : Counts (f ∷ past) out.1
 
+-- an active frame
 takes-active : (f : Coded) (past : List Coded) (m : TxMemory) → is_active f ≡ true → Stands past m → Takes f past (itself f.fields, after_active m)
 unfolding sent_of
 takes-active f past m a s = record {
@@ -51,6 +55,7 @@ takes-active f past m a s = record {
   counts = active-counts f past m a s;
 }
 
+-- an inactive frame of which a SID is made
 takes-sid : (f : Coded) (past : List Coded) (m : TxMemory) → is_active f ≡ false → 4 ≤ pause_of past → Stands past m → Takes f past (described m f.measures)
 unfolding sent_of
 takes-sid f past m n l s =
@@ -58,21 +63,26 @@ takes-sid f past m n l s =
     let long = pause-length past in
     record {
       sent = ap silence (newest-four f past m.recent s.recent (omega arith)) ∙
-          sym (cond-false (is_active f) (itself f.fields) _ n ∙ cond-true (is_sid_place (f ∷ past)) (silence (newest_four (f ∷ past))) _ (le-leb 5 (pause_of (f ∷ past)) (omega arith)));
+          sym (cond-false (is_active f) (itself f.fields) _ n ∙
+          cond-true (is_sid_place (f ∷ past)) (silence (newest_four (f ∷ past))) _ (le-leb 5 (pause_of (f ∷ past)) (omega arith)));
       counts = sid-counts f past m n l s;
     }
 
-takes-early : (f : Coded) (past : List Coded) (m : TxMemory) → is_active f ≡ false → pause_of past < 4 → Stands past m → Takes f past (early m (pause_of past + 1) f.fields)
+-- one earlier in its pause
+takes-early : (f : Coded) (past : List Coded) (m : TxMemory) → is_active f ≡ false → pause_of past < 4 → Stands past m →
+    Takes f past (early m (pause_of past + 1) f.fields)
 unfolding sent_of
 takes-early f past m n l s =
     let longer = one_longer f past n in
     record {
       sent = ap (λ b. if b then itself f.fields else record { fields = m.sid; sp = false }) (hangs-now f past m n l s) ∙
           sent-early f m.sid (latest_place (before_pause past)) (sid-before past m.sid l s.sid) ∙
-          sym (cond-false (is_active f) (itself f.fields) _ n ∙ cond-false (is_sid_place (f ∷ past)) (silence (newest_four (f ∷ past))) _ (not_place f past (omega arith)));
+          sym (cond-false (is_active f) (itself f.fields) _ n ∙
+          cond-false (is_sid_place (f ∷ past)) (silence (newest_four (f ∷ past))) _ (not_place f past (omega arith)));
       counts = early-counts f past m n l s;
     }
 
+-- any inactive frame
 takes-inactive : (f : Coded) (past : List Coded) (m : TxMemory) → is_active f ≡ false → Stands past m → Takes f past (paused m f.fields f.measures)
 unfolding paused
 takes-inactive f past m n s =
@@ -81,29 +91,36 @@ takes-inactive f past m n s =
       | inl short ↦
           let now : min (m.run + 1) 5 ≡ pause_of past + 1 = omega arith in
           subst (Takes f past)
-          (sym (cond-false (min (m.run + 1) 5 == 5) (described m f.measures) (early m (min (m.run + 1) 5) f.fields) (ne_eqb (min (m.run + 1) 5) 5 (omega arith)) ∙
+          (sym (cond-false (min (m.run + 1) 5 == 5) (described m f.measures) (early m (min (m.run + 1) 5) f.fields)
+          (ne_eqb (min (m.run + 1) 5) 5 (omega arith)) ∙
           ap (λ r. early m r f.fields) now))
           (takes-early f past m n short s)
       | inr long ↦
           subst (Takes f past)
-          (sym (cond-true (min (m.run + 1) 5 == 5) (described m f.measures) (early m (min (m.run + 1) 5) f.fields) (eq-eqb (min (m.run + 1) 5) 5 (omega arith))))
+          (sym (cond-true (min (m.run + 1) 5 == 5) (described m f.measures) (early m (min (m.run + 1) 5) f.fields)
+          (eq-eqb (min (m.run + 1) 5) 5 (omega arith))))
           (takes-sid f past m n long s)
     ]
 
+-- any frame
 takes : (f : Coded) (past : List Coded) (m : TxMemory) → Stands past m → Takes f past (taken m f)
 unfolding taken
 takes f past m s = elim (cases_Bool (is_active f)) [
   | inl a ↦ subst (Takes f past) (sym (cond-true (is_active f) (itself f.fields, after_active m) (paused m f.fields f.measures) a)) (takes-active f past m a s)
-  | inr n ↦ subst (Takes f past) (sym (cond-false (is_active f) (itself f.fields, after_active m) (paused m f.fields f.measures) n)) (takes-inactive f past m n s)
+  | inr n ↦ subst (Takes f past) (sym (cond-false (is_active f) (itself f.fields, after_active m) (paused m f.fields f.measures) n))
+      (takes-inactive f past m n s)
 ]
 
 -- ---- a whole step
 
+-- the measures are remembered after that
 taken-recent : (m : TxMemory) (f : Coded) → (taken m f).1.recent ≡ m.recent
 unfolding taken paused
 taken-recent m f = by (is_active f) (min (m.run + 1) 5 == 5)
   where
-    by : (a b : Bool) → (if a then (itself f.fields, after_active m) else if b then described m f.measures else early m (min (m.run + 1) 5) f.fields).1.recent ≡ m.recent
+    by : (a b : Bool) →
+        (if a then (itself f.fields, after_active m) else if b then described m f.measures else early m (min (m.run + 1) 5) f.fields).1.recent ≡
+        m.recent
     by true b = refl
     by false true = refl
     by false false = refl
@@ -125,9 +142,11 @@ step-stands f past m s =
     )
 
 -- a step, by its parts
-pub stepped_by : (m : TxMemory) (f : Coded) (sent : Sent) (between now : TxMemory) → taken m f ≡ (sent, between) → now ≡ remembered between f.measures → next_sent m f ≡ (sent, now)
+pub stepped_by : (m : TxMemory) (f : Coded) (sent : Sent) (between now : TxMemory) → taken m f ≡ (sent, between) → now ≡ remembered between f.measures →
+    next_sent m f ≡ (sent, now)
 unfolding next_sent
-stepped_by m f sent between now t r = ap (λ (out : Sent × TxMemory). let s : Sent × TxMemory = (out.0, remembered out.1 f.measures) in s) t ∙ ap (λ z. let s : Sent × TxMemory = (sent, z) in s) (sym r)
+stepped_by m f sent between now t r = ap (λ (out : Sent × TxMemory). let s : Sent × TxMemory = (out.0, remembered out.1 f.measures) in s) t ∙
+    ap (λ z. let s : Sent × TxMemory = (sent, z) in s) (sym r)
 
 -- the same in the stretch
 pub step-history : (m : TxMemory) (f : Coded) (sent : Sent) (now : TxMemory) (past : List Coded) → next_sent m f ≡ (sent, now) → Stands past m →

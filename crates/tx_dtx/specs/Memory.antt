@@ -17,7 +17,14 @@ abbrev pub no_measures : Measures
 no_measures = record { lar = replicate 8 (pos 0); xmax = replicate 4 (pos 0) }
 
 abbrev pub no_fields : Fields
-no_fields = record { larc = replicate 8 0; nc = replicate 4 0; bc = replicate 4 0; mc = replicate 4 0; xmaxc = replicate 4 0; xmc = replicate 4 (replicate 13 0) }
+no_fields = record {
+  larc = replicate 8 0;
+  nc = replicate 4 0;
+  bc = replicate 4 0;
+  mc = replicate 4 0;
+  xmaxc = replicate 4 0;
+  xmc = replicate 4 (replicate 13 0);
+}
 
 -- the memory at home
 abbrev pub home_memory : TxMemory

@@ -31,12 +31,15 @@ loop-k-preserved c =
       cut = λ inbox cs row.
           let cut = inv.cut inbox cs row in
           let there : k < length all = omega (arith, cut.one_each, c.loop-k-test.true, c.loop-k.auto.k-end) in
-          let rest = c.first_seat-seat.ensures.rest (book_at inbox k) cs (seat_at cs inbox slots k all slot c.index-all-k.result cut there c.index-slots-k.is) in
-          one_cut cs inbox slots k all c.first_seat-seat.new.all cut (omega (arith, cut.one_each)) (at_any (drop 1 cs) (book_at inbox k) slots k slot c.first_seat-seat.new.all c.index-slots-k.is (omega (arith, cut.one_each)) rest);
+          let rest = c.first_seat-seat.ensures.rest (book_at inbox k) cs
+          (seat_at cs inbox slots k all slot c.index-all-k.result cut there c.index-slots-k.is) in
+          one_cut cs inbox slots k all c.first_seat-seat.new.all cut (omega (arith, cut.one_each))
+          (at_any (drop 1 cs) (book_at inbox k) slots k slot c.first_seat-seat.new.all c.index-slots-k.is (omega (arith, cut.one_each)) rest);
       new = λ inbox cs row.
           let cut = inv.cut inbox cs row in
           let there : k < length all = omega (arith, cut.one_each, c.loop-k-test.true, c.loop-k.auto.k-end) in
-          let first = c.first_seat-seat.ensures.first (book_at inbox k) cs (seat_at cs inbox slots k all slot c.index-all-k.result cut there c.index-slots-k.is) in
+          let first = c.first_seat-seat.ensures.first (book_at inbox k) cs
+          (seat_at cs inbox slots k all slot c.index-all-k.result cut there c.index-slots-k.is) in
           subst (AreNew (take 1 cs) inbox slots) (sym c.push_reserved.ensures.items)
           (one_new (take 1 cs) inbox slots seats c.first_seat-seat.result (inv.new inbox cs row)
           (subst (λ (n : ℕ). (d : _) → IsNewSeat (take 1 cs) (book_at inbox n) (get_or slots n d) c.first_seat-seat.result) (sym len)

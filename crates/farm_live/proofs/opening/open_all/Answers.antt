@@ -16,9 +16,11 @@ loop-k-preserved g c =
     let seat : Seat = record { pass = c.in_ok-slot.pass; posted = 0 } in
     let opened = c.in_ok-slot.ensures in
     let new : IsNewSeat all_callers (book_at inbox (length slots)) c.in_ok-slot.slot seat =
-    record { pass = opened.0; capacity = opened.1; view = opened.2 ∙ ap (λ (n : ℕ). new_view all_callers (book_at inbox n)) (sym len); posted = refl } in record {
+    record { pass = opened.0; capacity = opened.1; view = opened.2 ∙ ap (λ (n : ℕ). new_view all_callers (book_at inbox n)) (sym len); posted = refl } in
+    record {
       seats = subst (λ xs. IsNewRow all_callers inbox xs c.push_reserved-in-loop-k.new.self.items) (sym c.push_reserved.ensures.items)
-          (subst (λ ys. IsNewRow all_callers inbox (slots ++ c.in_ok-slot.slot ∷ []) ys) (sym c.push_reserved-in-loop-k.ensures.items) (row_more all_callers inbox slots seats c.in_ok-slot.slot seat old.seats new));
+          (subst (λ ys. IsNewRow all_callers inbox (slots ++ c.in_ok-slot.slot ∷ []) ys) (sym c.push_reserved-in-loop-k.ensures.items)
+          (row_more all_callers inbox slots seats c.in_ok-slot.slot seat old.seats new));
       count = omega (arith, old.count, c.push_reserved.ensures.len);
       same = omega (arith, old.same, c.push_reserved-in-loop-k.ensures.len);
       room = omega (arith, old.room, c.push_reserved.ensures.capacity);

@@ -8,9 +8,10 @@ use Rattle.fr_encoder.proofs.Coding.{four_steps, four_histories}
 use Rattle.fr_encoder.proofs.blocks.code_blocks.Goals as goal
 
 steps : (c : goal.After-of_blocks-params) →
-    next_blocks c.args.history.now c.args.d.now ≡
-    (codes_of c.code_block-first.result ∷ codes_of c.code_block-second.result ∷ codes_of c.code_block-third.result ∷ codes_of c.code_block-fourth.result ∷ [],
-    c.code_block-fourth.new.history)
+    next_blocks c.args.history.now c.args.d.now ≡ (
+      codes_of c.code_block-first.result ∷ codes_of c.code_block-second.result ∷ codes_of c.code_block-third.result ∷ codes_of c.code_block-fourth.result ∷ [],
+      c.code_block-fourth.new.history,
+    )
 steps c =
     four_steps c.args.d.now _ _ _ _ _ _ _ _ _ _ _ _ _ c.block_at.ensures c.block_at-2.ensures c.block_at-3.ensures c.block_at-4.ensures
     c.code_block-first.ensures.step c.code_block-second.ensures.step c.code_block-third.ensures.step c.code_block-fourth.ensures.step

@@ -67,7 +67,8 @@ overflow_add-result c =
     let product : FitsSigned w16 c.mult.result = search rules in
     let l = simp to_z-of_z at c.levelled-level.ensures in
     let e = simp to_z-of_z at c.mult.ensures in
-    let p = is_product c.args.scale c.args.pulse c.levelled-level.result c.inverse.result c.mult.result c.shift.result c.shift.ensures.value l c.inverse.ensures e in
+    let p = is_product c.args.scale c.args.pulse c.levelled-level.result c.inverse.result c.mult.result c.shift.result c.shift.ensures.value l
+    c.inverse.ensures e in
     simp to_z-of_z (sum_fits (floor_shr c.mult.result 12) (is_share c.args.scale c.args.pulse c.mult.result f c.requires.mantissa c.requires.room p))
 
 pub overflow_cast-result : goal.overflow_cast-result
@@ -78,7 +79,8 @@ overflow_cast-result c =
     let product : FitsSigned w16 c.mult.result = search rules in
     let l = simp to_z-of_z at c.levelled-level.ensures in
     let e = simp to_z-of_z at c.mult.ensures in
-    let p = is_product c.args.scale c.args.pulse c.levelled-level.result c.inverse.result c.mult.result c.shift.result c.shift.ensures.value l c.inverse.ensures e in
+    let p = is_product c.args.scale c.args.pulse c.levelled-level.result c.inverse.result c.mult.result c.shift.result c.shift.ensures.value l
+    c.inverse.ensures e in
     let s = is_share c.args.scale c.args.pulse c.mult.result f c.requires.mantissa c.requires.room p in
     let n = code_number (floor_shr c.mult.result 12) s in
     let b = n.2 in
@@ -93,7 +95,8 @@ returns-clause-value c =
     let product : FitsSigned w16 c.mult.result = search rules in
     let l = simp to_z-of_z at c.levelled-level.ensures in
     let e = simp to_z-of_z at c.mult.ensures in
-    let p = is_product c.args.scale c.args.pulse c.levelled-level.result c.inverse.result c.mult.result c.shift.result c.shift.ensures.value l c.inverse.ensures e in
+    let p = is_product c.args.scale c.args.pulse c.levelled-level.result c.inverse.result c.mult.result c.shift.result c.shift.ensures.value l
+    c.inverse.ensures e in
     let s = is_share c.args.scale c.args.pulse c.mult.result f c.requires.mantissa c.requires.room p in
     rw (to_z-of_z w16 c.mult.result product) (ap unsigned_abs (unwrapped (floor_shr c.mult.result 12) s ∙ ap (λ m. floor_shr m 12 +ℤ pos 4) p))
 
@@ -105,6 +108,7 @@ returns-clause-below_8 c =
     let product : FitsSigned w16 c.mult.result = search rules in
     let l = simp to_z-of_z at c.levelled-level.ensures in
     let e = simp to_z-of_z at c.mult.ensures in
-    let p = is_product c.args.scale c.args.pulse c.levelled-level.result c.inverse.result c.mult.result c.shift.result c.shift.ensures.value l c.inverse.ensures e in
+    let p = is_product c.args.scale c.args.pulse c.levelled-level.result c.inverse.result c.mult.result c.shift.result c.shift.ensures.value l
+    c.inverse.ensures e in
     let s = is_share c.args.scale c.args.pulse c.mult.result f c.requires.mantissa c.requires.room p in
     rw (to_z-of_z w16 c.mult.result product, unwrapped (floor_shr c.mult.result 12) s) (code_below_8 (floor_shr c.mult.result 12) s)

@@ -15,4 +15,5 @@ pub returns-clause-last : goal.returns-clause-last
 returns-clause-last c =
     let out = (filtered_samples (coefficients_at c.args.old.now c.args.new.now) 0 c.args.sections.now c.args.d.now).0 in
     let fits : FitsSigned w16 c.filter_by.result = search rules in
-    to_z-of_z w16 c.filter_by.result fits ∙ c.filter_by.ensures.last ∙ ap (last_of _) (stepped_deemphasis _ out) ∙ ap (λ b. last_of b (deemphasised b out)) (to_z-of_z w16 c.args.before c.ranges.before)
+    to_z-of_z w16 c.filter_by.result fits ∙ c.filter_by.ensures.last ∙ ap (last_of _) (stepped_deemphasis _ out) ∙
+    ap (λ b. last_of b (deemphasised b out)) (to_z-of_z w16 c.args.before c.ranges.before)

@@ -2,7 +2,7 @@ use Rattle.std.proofs.Common.{ap, ◌∙◌, not, false, ◌||◌, if◌then◌e
 use Rattle.time_align.specs.Memory.{AlignMemory}
 use Rattle.time_align.specs.Step.{after_thaw}
 use Rattle.call_leg.specs.Memory.{down_memory}
-use Rattle.call_leg.proofs.side.DownSide.bridge_off.Goals as goal
+use Rattle.call_leg.proofs.down_side.DownSide.bridge_off.Goals as goal
 
 pub returns-clause-step : goal.returns-clause-step
 returns-clause-step c =

@@ -12,7 +12,8 @@ returns-clause-step c =
     let lpc = c.analyse-lpc.ensures in
     simp to_z-of_z (rw (← c.self.view_is, blocks.larc)
     (one_step _ c.args.x.now c.preprocess.new.s c.analyse-lpc.new.s c.analyse_frame.new.s _ _ _ c.analyse-lpc.result.larc c.analyse-lpc.result.lar
-    (fields_of_blocks c.code_blocks.result.0 c.code_blocks.result.1) c.peak-peak.result c.preprocess.ensures.step c.peak-peak.ensures.value lpc.samples lpc.lar lpc.larc
+    (fields_of_blocks c.code_blocks.result.0 c.code_blocks.result.1) c.peak-peak.result c.preprocess.ensures.step c.peak-peak.ensures.value lpc.samples lpc.lar
+    lpc.larc
     c.analyse_frame.ensures.residual c.analyse_frame.ensures.memory blocks.fields blocks.step))
 
 pub returns-clause-history : goal.returns-clause-history
@@ -22,6 +23,7 @@ returns-clause-history c =
     let lpc = c.analyse-lpc.ensures in
     simp to_z-of_z (rw (← c.self.view_is, blocks.larc)
     (λ past stands. one_history c.args.x.now c.preprocess.new.s c.analyse-lpc.new.s c.analyse_frame.new.s past _ _ _ c.analyse-lpc.result.larc
-    c.analyse-lpc.result.lar (fields_of_blocks c.code_blocks.result.0 c.code_blocks.result.1) c.peak-peak.result (c.preprocess.ensures.history past stands.preprocessing)
+    c.analyse-lpc.result.lar (fields_of_blocks c.code_blocks.result.0 c.code_blocks.result.1) c.peak-peak.result
+    (c.preprocess.ensures.history past stands.preprocessing)
     c.peak-peak.ensures.value lpc.samples lpc.lar lpc.larc (c.analyse_frame.ensures.history (sample_frames past) stands.short_term)
     (blocks.history (reconstructed past) stands.long_term)))

@@ -19,7 +19,8 @@ step c =
     let w : FitsSigned w32 c.power.result = search rules in
     let scal : c.scaling-scal.result ≡ block_scaling_of c.args.d.now =
     simp to_z-of_z at c.scaling-scal.ensures.value ∙ ap (λ x. scaling_of_block_peak (unsigned_abs x)) c.peak-peak.ensures.value in
-    predicts c.args.d.now c.self.inside.dp c.scaled.result c.scaling-scal.result c.search-best.result.correlation c.unscaled-l_max.result c.power.result (told c)
+    predicts c.args.d.now c.self.inside.dp c.scaled.result c.scaling-scal.result c.search-best.result.correlation c.unscaled-l_max.result c.power.result
+    (told c)
     c.scaled.ensures.value scal c.search-best.ensures.lag c.search-best.ensures.correlation
     (simp to_z-of_z at c.unscaled-l_max.ensures) c.power.ensures.value (simp to_z-of_z at c.gain_code-bc.ensures.value) c.predicted-dpp.ensures c.rest-e.ensures
 
@@ -40,5 +41,6 @@ unfolding told
 returns-clause-history c =
     rw (← c.self.view_is)
     (λ past h.
-    let now : told c ≡ prediction_of c.args.d.now (after_zeros past) = prediction_is c.args.d.now c.self.inside.dp (told c) (step c) ∙ by_history past c.self.inside.dp c.args.d.now h in
+    let now : told c ≡ prediction_of c.args.d.now (after_zeros past) =
+    prediction_is c.args.d.now c.self.inside.dp (told c) (step c) ∙ by_history past c.self.inside.dp c.args.d.now h in
     (now, subst (IsPrediction c.args.d.now (after_zeros past)) (sym now) (is_prediction c.args.d.now (after_zeros past))))

@@ -8,6 +8,7 @@ pub returns-clause-runs : goal.returns-clause-runs
 returns-clause-runs c = λ workers lens steps some e.
     let i = c.self.inside in
     let h = subst (λ (s : PoolState). c.args.job < length s.lens) (sym c.self.view_is) c.requires in
-    let l = subst (λ (ys : List ℕ). c.args.job < length ys) (after_lens (pool_start workers lens) steps) (subst (λ (s : PoolState). c.args.job < length s.lens) e c.requires) in
+    let l = subst (λ (ys : List ℕ). c.args.job < length ys) (after_lens (pool_start workers lens) steps)
+    (subst (λ (s : PoolState). c.args.job < length s.lens) e c.requires) in
     c.index.ensures ∙ get_or_default i.places.items c.args.job c.index.result.now 0 (omega (arith, h, c.self.invariant.0.state.placed))
     ∙ ap (λ (s : PoolState). place s c.args.job) (c.self.view_is ∙ e) ∙ place_is workers lens steps c.args.job some l

@@ -21,9 +21,11 @@ invariant_of-self c =
     let front = subst (λ (ws : List Waiting). IsFront ws c.args.victim c.in-Some.place) c.deref.ensures.value c.in-Some.ensures.found in
     let ms : List Waiting = remove i.waiting.items c.in-Some.place in
     let job = ap (λ (x : Waiting). x.job) c.remove-front.ensures.value in (
-      subst (λ (ws : List Waiting). IsPool i.lens.items i.places.items ws (set i.hands.items c.args.worker (Some c.remove-front.result.job)) i.finished.items) (sym c.remove-front.ensures.items)
+      subst (λ (ws : List Waiting). IsPool i.lens.items i.places.items ws (set i.hands.items c.args.worker (Some c.remove-front.result.job)) i.finished.items)
+          (sym c.remove-front.ensures.items)
           (subst (λ (n : ℕ). IsPool i.lens.items i.places.items ms (set i.hands.items c.args.worker (Some n)) i.finished.items) (sym job)
-          (taken_pool i.lens.items i.places.items i.waiting.items i.hands.items i.finished.items c.args.worker c.args.victim c.in-Some.place c.remove-front.result c.self.invariant.0 front takes)),
+          (taken_pool i.lens.items i.places.items i.waiting.items i.hands.items i.finished.items c.args.worker c.args.victim c.in-Some.place
+          c.remove-front.result c.self.invariant.0 front takes)),
       omega (arith, c.remove-front.ensures.capacity, c.self.invariant.1),
       c.self.invariant.2,
     )
@@ -35,7 +37,9 @@ returns c =
     let front = subst (λ (ws : List Waiting). IsFront ws c.args.victim c.in-Some.place) c.deref.ensures.value c.in-Some.ensures.found in
     let ms : List Waiting = remove i.waiting.items c.in-Some.place in
     let job = ap (λ (x : Waiting). x.job) c.remove-front.ensures.value in
-    ap (λ (ws : List Waiting). pool_state i.lens.items i.places.items ws (set i.hands.items c.args.worker (Some c.remove-front.result.job)) i.finished.items) c.remove-front.ensures.items
+    ap (λ (ws : List Waiting). pool_state i.lens.items i.places.items ws (set i.hands.items c.args.worker (Some c.remove-front.result.job)) i.finished.items)
+    c.remove-front.ensures.items
     ∙ ap (λ (n : ℕ). pool_state i.lens.items i.places.items ms (set i.hands.items c.args.worker (Some n)) i.finished.items) job
-    ∙ taken_state i.lens.items i.places.items i.waiting.items i.hands.items i.finished.items c.args.worker c.args.victim c.in-Some.place c.remove-front.result front takes.victim
+    ∙ taken_state i.lens.items i.places.items i.waiting.items i.hands.items i.finished.items c.args.worker c.args.victim c.in-Some.place c.remove-front.result
+    front takes.victim
     ∙ ap (λ (s : PoolState). taken s c.args.worker c.args.victim (deque s c.args.victim)) c.self.view_is

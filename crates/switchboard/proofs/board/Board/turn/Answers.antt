@@ -7,7 +7,8 @@ use Rattle.switchboard.proofs.Changes.{refused_before}
 use Rattle.switchboard.proofs.board.Board.turn.Goals as goal
 
 pub returns-clause-refused : goal.returns-clause-refused
-returns-clause-refused c = refused_answer c.args.self.now c.execute.new.self c.in_ok-order.order c.execute.result c.execute.ensures.answer c.execute.ensures.state
+returns-clause-refused c = refused_answer c.args.self.now c.execute.new.self c.in_ok-order.order c.execute.result c.execute.ensures.answer
+    c.execute.ensures.state
 
 pub returns-clause-stays : goal.returns-clause-stays
 returns-clause-stays c = refused_before c.args.self.now c.execute.new.self c.execute.result.result (returns-clause-refused c)
