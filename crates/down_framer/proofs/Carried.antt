@@ -33,7 +33,7 @@ count_from-of s (f ∷ fs) t =
 -- ---- what a frame carries
 
 -- the same item, by the frames' own periods
-abbrev item_by : {A : Type 0} → List Bridge → ℕ → List (MadeFrame A) → Option ℕ
+abbrev pub item_by : {A : Type 0} → List Bridge → ℕ → List (MadeFrame A) → Option ℕ
 item_by [] w fs = None
 item_by (b ∷ bs) w fs =
     if nat_le b.from w && nat_lt (made_from b.from fs) (b.to - b.from) then Some (b.from + made_from b.from fs) else item_by bs w fs
