@@ -18,7 +18,7 @@ same_span a b c d x y p q r = ap (λ a. span3 a c x) p ∙ ap (λ c. span3 b c x
 abbrev cut : ℕ → Span → Span
 cut k span = span3 span.from (min span.to k) (take (k - span.from) span.items)
 
-abbrev so_far : ℕ → List Span → List Span
+abbrev pub so_far : ℕ → List Span → List Span
 so_far k [] = []
 so_far k (span ∷ spans) = if nat_lt span.from k then cut k span ∷ so_far k spans else []
 

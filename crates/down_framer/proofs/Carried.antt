@@ -33,12 +33,13 @@ count_from-of s (f ∷ fs) t =
 -- ---- what a frame carries
 
 -- the same item, by the frames' own periods
-abbrev item_by : {A : Type 0} → List Bridge → ℕ → List (MadeFrame A) → Option ℕ
+abbrev pub item_by : {A : Type 0} → List Bridge → ℕ → List (MadeFrame A) → Option ℕ
 item_by [] w fs = None
 item_by (b ∷ bs) w fs =
     if nat_le b.from w && nat_lt (made_from b.from fs) (b.to - b.from) then Some (b.from + made_from b.from fs) else item_by bs w fs
 
-pub carried_item-by : {A : Type 0} (bs : List Bridge) (w : ℕ) (fs : List (MadeFrame A)) → AreOnTime fs → carried_item bs w (map numbered_of fs) ≡ item_by bs w fs
+pub carried_item-by : {A : Type 0} (bs : List Bridge) (w : ℕ) (fs : List (MadeFrame A)) → AreOnTime fs →
+    carried_item bs w (map numbered_of fs) ≡ item_by bs w fs
 carried_item-by [] w fs t = refl
 carried_item-by (b ∷ bs) w fs t =
     ap (λ n. if nat_le b.from w && nat_lt n (b.to - b.from) then Some (b.from + n) else carried_item bs w (map numbered_of fs)) (count_from-of b.from fs t) ∙

@@ -1,5 +1,5 @@
 -- The latest of the bridges of some periods.
-use Rattle.std.proofs.Common.{◌≡◌, refl, sym, ap, ◌∙◌, subst, ℕ, ◌+◌, ◌-◌, ◌≤◌, true, false, ◌||◌, if◌then◌else◌, nat_lt, Some, None, List, [], ◌∷◌, ◌++◌, length, arith, inl, inr, length-append}
+use Rattle.std.proofs.Common.{◌≡◌, refl, sym, ap, ◌∙◌, subst, ℕ, ◌+◌, ◌≤◌, true, false, ◌||◌, if◌then◌else◌, nat_lt, Some, None, List, [], ◌∷◌, ◌++◌, length, arith, inl, inr, length-append}
 use Rattle.std.proofs.lemmas.Bool.{cases_lt, lt-ltb, le-ltb, cases_Bool, cond_both, cond-true, cond-false}
 use Rattle.down_framer.specs.Made.{Period, latest_start, hands_at}
 use Rattle.down_framer.specs.Bridges.{in_bridge, IsHistory}
@@ -8,13 +8,13 @@ use Rattle.down_framer.proofs.Due.{hands_at-late, hands_at-new, hands_at-old, ou
 
 -- the latest bridge started at s; it has the periods from s on that lie in a bridge, and where the newest does, so many
 -- as there are
-record Latest {A : Type 0} (ps : List (Period A)) (s : ℕ) : Type 0 where
-  to : ℕ
-  earlier : List Bridge
-  is : bridges_in ps ≡ (let b : Bridge = record { from = s; to = to } in b) ∷ earlier
-  at : (h : ℕ) → s ≤ h → hands_at h ps ≡ nat_lt h to
-  goes_on : in_bridge ps ≡ true → to ≡ length ps
-  within : to ≤ length ps
+pub record Latest {A : Type 0} (ps : List (Period A)) (s : ℕ) : Type 0 where
+  pub to : ℕ
+  pub earlier : List Bridge
+  pub is : bridges_in ps ≡ (let b : Bridge = record { from = s; to = to } in b) ∷ earlier
+  pub at : (h : ℕ) → s ≤ h → hands_at h ps ≡ nat_lt h to
+  pub goes_on : in_bridge ps ≡ true → to ≡ length ps
+  pub within : to ≤ length ps
 
 abbrev pub bridge : ℕ → ℕ → Bridge
 bridge from to = record { from = from; to = to }

@@ -1,5 +1,5 @@
 -- The frames made in some periods are the numbered ones.
-use Rattle.std.proofs.Common.{◌≡◌, refl, sym, ap, ◌∙◌, subst, ℕ, ◌+◌, ◌-◌, ◌*◌, ◌≤◌, ◌<◌, pos, true, nat_le, Option, Some, None, List, [], ◌∷◌, ◌++◌, length, map, take, arith, inl, inr}
+use Rattle.std.proofs.Common.{◌≡◌, refl, sym, ap, ◌∙◌, subst, ℕ, ◌+◌, ◌*◌, ◌≤◌, ◌<◌, pos, true, nat_le, Option, Some, None, List, [], ◌∷◌, ◌++◌, length, map, take, arith, inl, inr}
 use Rattle.std.proofs.lemmas.Bool.{cases_lt, leb-true, cases_Bool, cond_both}
 use Rattle.std.proofs.lemmas.List.{append_assoc}
 use Rattle.time_align.specs.Shift.{latest_shift}
