@@ -1,6 +1,6 @@
 -- The next group of the jobs is settled.
 use Rattle.std.proofs.Common.{◌≡◌, refl, sym, ap, ◌∙◌, subst, ℕ, ◌+◌, ◌<◌, ◌≤◌, Bool, true, false, Option, Some, None, List, [], ◌∷◌, ◌++◌, length, length-append, append_assoc, suc, take, drop, drop-cons, add-one, arith, inl, inr}
-use Rattle.std.specs.Prelude.{if◌then◌else◌, ◌≢◌, ◌||◌, option_to_list}
+use Rattle.std.specs.Prelude.{if◌then◌else◌, ◌||◌, option_to_list}
 use Rattle.std.specs.List.{list_any, count_by, cons_option}
 use Rattle.std.proofs.lemmas.Bool.{false≢true, or_left, or_right}
 use Rattle.std.proofs.lemmas.List.Elements.{All-head, filter_map-append}

@@ -1,5 +1,5 @@
 -- The two phases of a round's work are the runs of its jobs.
-use Rattle.std.proofs.Common.{◌≡◌, ◌≢◌, refl, sym, ap, ◌∙◌, subst, ℕ, ◌<◌, true, false, Option, Some, None, List, length, map, get_or, arith}
+use Rattle.std.proofs.Common.{◌≡◌, ◌≢◌, refl, sym, ap, ◌∙◌, subst, ℕ, ◌<◌, true, Option, Some, None, List, length, map, get_or, arith}
 use Rattle.std.specs.Prelude.{is_some, slice_index}
 use Rattle.std.specs.Option.{option_map}
 use Rattle.std.specs.Global.{Box}
