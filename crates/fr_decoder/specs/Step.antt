@@ -6,7 +6,6 @@ use Rattle.fr_short.specs.Deemphasis.{deemphasised, last_of}
 use Rattle.fr_decoder.specs.Deemphasis.{truncated}
 use Rattle.fr_long.specs.Memory as ltp
 use Rattle.fr_long.specs.Step.{synthesised}
-use Rattle.fr_short.specs.Memory as short
 use Rattle.fr_short.specs.Step.{synthesised_frame}
 use Rattle.fr_decoder.specs.Memory.{DecoderMemory, home_memory}
 

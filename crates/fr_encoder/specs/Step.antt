@@ -6,8 +6,6 @@ use Rattle.fr_lpc.specs.Ratios.{ratio_codes, ratios_of_frame}
 use Rattle.fr_short.specs.Step.{analysed_frame}
 use Rattle.fr_encoder.specs.Blocks.{CodedBlock, coded_block, block_at, block_fields}
 use Rattle.fr_encoder.specs.Encoded.{Encoded, encoding}
-use Rattle.fr_pre.specs.Memory as pre
-use Rattle.fr_short.specs.Memory as short
 use Rattle.fr_encoder.specs.Memory.{EncoderMemory, home_memory}
 
 -- one block: what it is coded to, and the last 120 reconstructed residuals after it
