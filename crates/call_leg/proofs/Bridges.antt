@@ -26,6 +26,7 @@ use Rattle.call_leg.proofs.Enter.{place-none, was}
 
 -- ---- between periods at most one frame waits
 
+-- at most one waits where none is behind the first
 short : (q : List (List ℕ)) → slice_get q 1 ≡ None → length q ≤ 1
 short [] e = omega arith
 short (x ∷ []) e = omega arith
@@ -52,6 +53,7 @@ queue-short past q h w = go (latest_start (down_periods past)) refl
 pub halfway-short : (who : Who) (ts : List CallPeriod) (now : Settings) (up : List ℕ) (d : DownMemory) → Halfway who ts now up None d → length d.waiting ≤ 1
 halfway-short who ts now up d h = subst (λ z. length z ≤ 1) (sym (h.waits.2 ∙ append-nil h.waits.0)) (queue-short ts h.waits.0 h.history h.waits.1)
 
+-- the partner's frame is handed over
 pub hand-stands : (who : Who) (ts : List CallPeriod) (now : Settings) (up : List ℕ) (x x1 : List ℕ) (d d1 : DownMemory) → Halfway who ts now up None d →
     x ≡ x1 →
     d1.waiting ≡ d.waiting ++ x ∷ [] →
@@ -86,11 +88,13 @@ abbrev Within : {A : Type 0} → ℕ → List (MadeFrame A) → Type 0
 Within e [] = Unit {0}
 Within e (f ∷ fs) = (f.epoch ≤ e) × Within e fs
 
+-- no frame is of a later bridge than the latest that started
 grown-within : {A : Type 0} (p : Period A) (past : List (Period A)) (fs : List (MadeFrame A)) → Within (epoch_of (p ∷ past)) fs →
     Within (epoch_of (p ∷ past)) (grown p past fs)
 grown-within p past fs b = cond_both (nat_le (next_start fs) (160 * length past)) (next_frame p past fs ∷ fs) fs (Within (epoch_of (p ∷ past)))
     (λ y. (omega arith, b)) (λ n. b)
 
+-- frames of earlier bridges are of earlier ones than a later number
 within-more : {A : Type 0} (a b : ℕ) (fs : List (MadeFrame A)) → a ≤ b → Within a fs → Within b fs
 within-more a b [] l w = tt
 within-more a b (f ∷ fs) l w = let x = w.0 in (omega arith, within-more a b fs l w.1)
@@ -104,12 +108,14 @@ made-within [] = tt
 made-within (p ∷ past) = grown-within p past (grown p past (made_frames past))
     (grown-within p past (made_frames past) (within-more (epoch_of past) (epoch_of (p ∷ past)) (made_frames past) (epoch-more p past) (made-within past)))
 
+-- so a new bridge has no coded frame yet ..
 stretch-new : (c e : ℕ) (fs : List CallFrame) → Within e fs → coded_stretch c (suc e) fs ≡ []
 stretch-new c e [] w = refl
 stretch-new c e (f ∷ fs) w =
     cond-false (is_coded c f && f.epoch == suc e) (f ∷ coded_stretch c (suc e) fs) []
     (and_right (is_coded c f) (f.epoch == suc e) (ne_eqb f.epoch (suc e) (λ q. let x = w.0 in omega arith)))
 
+-- .. and has sent none
 carried_none : (e : ℕ) (fs : List CallFrame) → Within e fs → carried (suc e) fs ≡ 0
 carried_none e [] w = refl
 carried_none e (f ∷ fs) w =
@@ -123,11 +129,13 @@ carried-new c ts = carried_none (bridges_begun ts) (frames_of ts) (subst (λ e. 
 pub coded-new : (c : ℕ) (ts : List CallPeriod) → coded_stretch c (suc (bridges_begun ts)) (frames_of ts) ≡ []
 coded-new c ts = stretch-new c (bridges_begun ts) (frames_of ts) (subst (λ e. Within e (frames_of ts)) (begun-same ts) (made-within (down_periods ts)))
 
+-- a period in a bridge ends the stretch of plain ones
 plain-not : (e : EffectiveFields) (b : Bool) (more : List Fields) → b ≡ false → plain_with e b more ≡ []
 plain-not Quiet b more q = refl
 plain-not (Speech p) b more q = cond-false b (p ∷ more) [] q
 plain-not (Made p) b more q = cond-false b (p ∷ more) [] q
 
+-- so a new bridge starts one
 pub plain-new : (c : ℕ) (ts : List CallPeriod) → plain_stretch c (suc (bridges_begun ts)) ts ≡ []
 plain-new c [] = refl
 plain-new c (t ∷ past) =
@@ -136,6 +144,7 @@ plain-new c (t ∷ past) =
 
 -- ---- a bridge starts, and ends
 
+-- a bridge starts
 pub begins : (who : Who) (ts : List CallPeriod) (now : Settings) (d d1 : DownMemory) → handed_due (down_periods ts) (frames_of ts) ≡ None →
     Between who ts now d →
     d1.align.kept ≡ d.align.kept → d1.align.frozen ≡ true → encoder.Stands [] d1.coder.encoder → tx.Stands [] d1.coder.tx → d1.bridged ≡ true →
@@ -165,6 +174,7 @@ begins who ts now d d1 n h ek ez en tx br la ef qu lv md ul sn mn = record {
   dtxd = ul ∙ h.dtxd;
 }
 
+-- a bridge ends
 pub ends : (who : Who) (ts : List CallPeriod) (now : Settings) (d d1 : DownMemory) → now.bridged ≡ true → Between who ts now d →
     d1.align.kept ≡ d.align.kept → d1.align.frozen ≡ (d.align.frozen && (false || not (length d.waiting == 0))) → d1.bridged ≡ false →
     d1.law ≡ d.law → d1.framer ≡ d.framer → d1.waiting ≡ d.waiting → d1.coder ≡ d.coder → d1.level ≡ d.level → d1.mode ≡ d.mode → d1.dtxd ≡ d.dtxd →
@@ -194,6 +204,7 @@ ends who ts now d d1 b h ek ez br la ef qu co lv md ul sn mn = record {
   dtxd = ul ∙ h.dtxd;
 }
 
+-- a leg drains where its call does
 pub drains : (who : Who) (ts : List CallPeriod) (now : Settings) (d : DownMemory) → Between who ts now d → (not d.bridged && not (length d.waiting == 0))
     ≡ is_draining ts now
 drains who ts now d h = ap (λ z. not z && not (length d.waiting == 0)) h.bridged

@@ -51,12 +51,14 @@ use Rattle.call_leg.proofs.Upward.{plain-more}
 
 -- ---- the handing over
 
+-- one more waits where at most one did
 pub one_more : (q : List (List ℕ)) (x : List ℕ) → length q ≤ 1 → keep_last 2 (q ++ x ∷ []) ≡ q ++ x ∷ []
 one_more q x l =
     let n = length-append q (x ∷ []) in
     let z : length (q ++ x ∷ []) - 2 ≡ 0 = omega arith in
     ap (λ k. drop k (q ++ x ∷ [])) z
 
+-- **The handing over of a partner's frame.**
 pub handing-stands : (who : Who) (ts : List CallPeriod) (now : Settings) (up : List ℕ) (e : EffectiveFields) (m : LegMemory) → Midway who ts now up None m →
     Midway who ts now up (Some (bits260 (handed_fields e))) (with_down m (after_handing m.down e))
 handing-stands who ts now up e m h =
@@ -73,12 +75,15 @@ handing-stands who ts now up e m h =
 
 -- ---- the coder
 
+-- the transmit side is at home ..
 pub home_tx-stands : tx.Stands [] tx_home
 home_tx-stands = record { run = refl; elapsed = refl; hangs = λ l. absurd (omega arith); sid = tt; recent = refl }
 
+-- .. and so is the coder
 home-stands : (law : Law) → CoderStands law [] home_coder
 home-stands law = record { encoder = encoding.home-stands; tx = home_tx-stands }
 
+-- the next frame of a stretch, where no handed one waits ..
 own-stands : (who : Who) (f : CallFrame) (fs : List CallFrame) (m : CoderMemory) (held : List ℕ) (quiet : Bool) (level : ℤ) (on : Bool) → f.carries ≡ None →
     quiet ≡ quiet_now who.number f.load → level ≡ level_now f.load → on ≡ dtx_now f.load → take 160 held ≡ take 160 (drop f.start (pcm_of f.load)) →
     CoderStands who.law (coded_stretch who.number f.epoch fs) m →
@@ -117,6 +122,7 @@ one_carried : (ts : List CallPeriod) (o : Option ℕ) (x : List ℕ) → Some x 
 one_carried ts None x e = cc
 one_carried ts (Some h) x e = (h, refl, ap (λ o. unwrap_or o []) e)
 
+-- .. and whatever waits
 next-stands : (who : Who) (f : CallFrame) (fs : List CallFrame) (q : List (List ℕ)) (m : CoderMemory) (held : List ℕ) (quiet : Bool) (level : ℤ) (on : Bool) →
     slice_get q 0 ≡ bits_in f.load f.carries →
     quiet ≡ quiet_now who.number f.load → level ≡ level_now f.load → on ≡ dtx_now f.load → take 160 held ≡ take 160 (drop f.start (pcm_of f.load)) →
@@ -132,6 +138,7 @@ next-stands who f fs (x ∷ more) m held quiet level on e eq el eo et h =
 
 -- ---- the shifts
 
+-- thawing keeps the shift that was asked for ..
 pub thawed-kept : (m : align.AlignMemory) (bridged : Bool) (q : List (List ℕ)) → (thawed m bridged q).kept ≡ m.kept
 thawed-kept m bridged q = go (bridged || not (length q == 0))
   where
@@ -139,6 +146,7 @@ thawed-kept m bridged q = go (bridged || not (length q == 0))
     go true = refl
     go false = refl
 
+-- .. and the shifts are frozen as long as a bridge is on or a frame waits
 pub thawed-frozen : (m : align.AlignMemory) (bridged : Bool) (q : List (List ℕ)) → (thawed m bridged q).frozen ≡ (m.frozen && (bridged || not (length q == 0)))
 thawed-frozen m bridged q = go m.frozen (bridged || not (length q == 0)) refl
   where
@@ -150,6 +158,7 @@ thawed-frozen m bridged q = go m.frozen (bridged || not (length q == 0)) refl
 
 -- ---- frames are made
 
+-- a frame is made
 made-inside : (who : Who) (t : CallPeriod) (past : List CallPeriod) (fs : List CallFrame) (d : DownMemory) → 160 ≤ length d.framer.held →
     Inside who t past fs d →
     Inside who t past (next t past fs ∷ fs) (frame_made d)
@@ -172,6 +181,7 @@ made-inside who t past fs d r h =
     (thawed-frozen now.1 d.bridged (drop 1 d.waiting) ∙ ap (λ z. z && (d.bridged || not (length (drop 1 d.waiting) == 0))) (adopted-frozen d.align))
     (λ pcm line out start l p. frame-holds d.framer bits now.0 pcm line out start r l p) refl refl refl refl refl refl refl refl
 
+-- a frame is made if it has come
 tried-inside : (who : Who) (t : CallPeriod) (past : List CallPeriod) (fs : List CallFrame) (d : DownMemory) → Inside who t past fs d →
     Inside who t past (grown (down_period t past) (down_periods past) fs) (frame_tried d)
 tried-inside who t past fs d h =
@@ -187,6 +197,7 @@ tried-inside who t past fs d h =
 
 -- ---- the downlink half
 
+-- **The downlink half of a period, on its side ..**
 pub half-stands : (who : Who) (ts : List CallPeriod) (now : Settings) (up pcm : List ℕ) (handed : Option (List ℕ)) (d : DownMemory) → length pcm ≡ 160 →
     is_some handed ≡ now.bridged →
     Halfway who ts now up handed d → Between who (period_with now up pcm handed ∷ ts) (later now) (down_worked d pcm).1
@@ -206,6 +217,7 @@ half-stands who ts now up pcm handed d l b h =
       ap (take 320) i2.places.stored,
     )
 
+-- **.. and on the leg.**
 pub down-stands : (who : Who) (ts : List CallPeriod) (now : Settings) (up pcm : List ℕ) (handed : Option (List ℕ)) (m : LegMemory) → length pcm ≡ 160 →
     is_some handed ≡ now.bridged →
     Midway who ts now up handed m → Stands who (period_with now up pcm handed ∷ ts) (later now) (with_down m (down_worked m.down pcm).1)

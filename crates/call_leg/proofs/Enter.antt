@@ -17,6 +17,7 @@ length-down_periods (t ∷ past) = ap suc (length-down_periods past)
 
 -- ---- queues of one and none
 
+-- none waits, and one does
 pub get-none : (q : List (List ℕ)) → slice_get q 0 ≡ None → q ≡ []
 get-none [] e = refl
 get-none (x ∷ xs) e = cc
@@ -27,6 +28,7 @@ get-one (y ∷ ys) x e n = let z = get-none ys n in cc
 
 -- ---- places in the queue
 
+-- the period whose frame is due next, within a bridge and past it
 pub place-some : {A : Type 0} (ps : List (Period A)) (fs : List (MadeFrame A)) (s n h : ℕ) → s + made_from s fs + n ≡ h → hands_at h ps ≡ true →
     place_at ps fs n (Some s) ≡ Some h
 place-some ps fs s n h e b = ap (λ k. if hands_at k ps then Some k else None) e ∙ cond-true (hands_at h ps) (Some h) None b
@@ -35,9 +37,11 @@ pub place-none : {A : Type 0} (ps : List (Period A)) (fs : List (MadeFrame A)) (
     place_at ps fs n (Some s) ≡ None
 place-none ps fs s n h e b = ap (λ k. if hands_at k ps then Some k else None) e ∙ cond-false (hands_at h ps) (Some h) None b
 
+-- what was handed over in the newest period ..
 handed-new : (t : CallPeriod) (past : List CallPeriod) (h : ℕ) (x : List ℕ) → h ≡ length past → t.handed ≡ Some x → handed_in h (t ∷ past) ≡ x
 handed-new t past h x e q = cond-true (h == length past) (unwrap_or t.handed []) (handed_in h past) (eq-eqb h (length past) e) ∙ ap (λ o. unwrap_or o []) q
 
+-- .. and in an earlier one
 handed-old : (t : CallPeriod) (past : List CallPeriod) (h : ℕ) → h < length past → handed_in h (t ∷ past) ≡ handed_in h past
 handed-old t past h l = cond-false (h == length past) (unwrap_or t.handed []) (handed_in h past) (ne_eqb h (length past) (omega arith))
 
@@ -128,6 +132,7 @@ handed_none t e = go t.handed e
 
 -- ---- the queue at the start of a period
 
+-- what waits, with one period more: before the first bridge ..
 enter_first : (t : CallPeriod) (past : List CallPeriod) (fs : List CallFrame) (q : List (List ℕ)) → t.handed ≡ None → latest_start (down_periods (t ∷ past))
     ≡ None → q ≡ [] → Waits (t ∷ past) fs (q ++ option_to_list t.handed)
 enter_first t past fs q h e z = record {
@@ -135,6 +140,7 @@ enter_first t past fs q h e z = record {
       ∙ sym (ap (λ o. bits_in (t ∷ past) (place_at (down_periods (t ∷ past)) fs n o)) e);
 }
 
+-- .. and in the latest one
 enter_by : (t : CallPeriod) (past : List CallPeriod) (fs : List CallFrame) (q r : List (List ℕ)) (s : ℕ) → latest_start (down_periods (t ∷ past)) ≡ Some s →
     q ≡ r →
     ((n : ℕ) → slice_get (r ++ option_to_list t.handed) n ≡ bits_in (t ∷ past) (place_at (down_periods (t ∷ past)) fs n (Some s))) →
@@ -148,6 +154,7 @@ pub was : (past : List CallPeriod) (fs : List CallFrame) (q : List (List ℕ)) (
     slice_get q n ≡ bits_in past (place_at (down_periods past) fs n o)
 was past fs q o w e n = w.each n ∙ ap (λ o. bits_in past (place_at (down_periods past) fs n o)) e
 
+-- **What waits, with one period more.**
 pub waits-enter : (t : CallPeriod) (past : List CallPeriod) (q : List (List ℕ)) → IsHistory (down_periods (t ∷ past)) → Waits past (frames_of past) q →
     Waits (t ∷ past) (frames_of past) (q ++ option_to_list t.handed)
 waits-enter t past q h w = go (cases_Bool t.starts) (latest_start (down_periods past)) refl

@@ -51,14 +51,17 @@ length-down_now who t past =
 
 -- ---- octets
 
+-- an idle octet is an octet ..
 idle-is : (law : Law) → idle_of law < 256
 idle-is A = omega arith
 idle-is Mu = omega arith
 
+-- the intervals of each law part the samples
 parts : (law : Law) → PartsWords (companding law)
 parts A = a.parts
 parts Mu = mu.parts
 
+-- .. and so is each other
 octet-is : (law : Law) (x : ℤ) → FitsSigned w16 x → octet_of (companding law) x < 256
 octet-is law x f = let p = parts law x f in subst (λ n. n < 256) (octet_of-only (companding law) x p.0 p.1) p.1.is_octet
 
@@ -72,6 +75,7 @@ out_of-octets who ts = decoded-octets who.law (plain_stretch who.number (bridges
 
 -- ---- bits
 
+-- the bits of a frame
 sp-is : (f : DownFrame) → sp_of f < 2
 sp-is frame.Idle = omega arith
 sp-is (frame.Speech d sp) = cond_both sp 1 0 (λ b. b < 2) (λ y. omega arith) (λ n. omega arith)
@@ -95,6 +99,7 @@ down_bits-are f h = frame_bits-below (down_control f) (down_data f) (All-map (λ
 abbrev pub HandBits : List CallPeriod → Type 0
 HandBits ts = All (λ t. IfSome t.handed (λ d. AreBits d)) ts
 
+-- what is handed over in a period
 unwrapped : (o : Option (List ℕ)) → IfSome o (λ d. AreBits d) → AreBits (unwrap_or o [])
 unwrapped None h = All-nil (λ b. b < 2)
 unwrapped (Some d) h = h
@@ -110,6 +115,7 @@ handed-are h (t ∷ past) k =
 abbrev pub LoadsHandBits : List CallFrame → Type 0
 LoadsHandBits fs = All (λ f. HandBits f.load) fs
 
+-- a frame that carries bits, or is coded, is one of bits
 frame-has : (who : Who) (fs : List CallFrame) → LoadsHandBits fs → HasBits (frame_now who fs)
 frame-has who [] k = tt
 frame-has who (f ∷ fs) k = go f.carries

@@ -16,6 +16,7 @@ take_none : (m : ℕ) → nothing ≡ take m nothing
 take_none zero = refl
 take_none (suc m) = refl
 
+-- a longer front is a front and what is behind it
 take-more : (k n m : ℕ) (xs : List ℕ) → k ≡ n + m → take k xs ≡ take n xs ++ take m (drop n xs)
 take-more k zero m xs e = let f : k ≡ m = omega arith in ap (λ j. take j xs) f
 take-more zero (suc n) m xs e = absurd (omega arith)
@@ -31,6 +32,7 @@ grown-line who p past fs = go (nat_le (next_start fs) (160 * length past))
     go true = (frame_on_line (next_frame p past fs).shift (bits_now who (next_frame p past fs ∷ fs)), refl)
     go false = ([], sym (append-nil (down_made who fs)))
 
+-- a period more only adds to it
 made-line : (who : Who) (t : CallPeriod) (past : List CallPeriod) →
     (more : List ℕ) × (down_made who (frames_of (t ∷ past)) ≡ down_made who (frames_of past) ++ more)
 made-line who t past =
@@ -39,6 +41,7 @@ made-line who t past =
     let two = grown-line who p (down_periods past) (grown p (down_periods past) (frames_of past)) in
     (one.0 ++ two.0, two.1 ∙ ap (λ z. z ++ two.0) one.1 ∙ append_assoc (down_made who (frames_of past)) one.0 two.0)
 
+-- **The Down line is the front of what is made.**
 pub line-is_made : (who : Who) (ts : List CallPeriod) → down_line who ts ≡ take (320 * length ts) (down_made who (frames_of ts))
 line-is_made who [] = refl
 line-is_made who (t ∷ past) =

@@ -28,6 +28,7 @@ use Rattle.call_leg.proofs.Numbered.{next-ahead, all-come, length-made}
 use Rattle.call_leg.proofs.Bridges.{plain-new, begins, ends}
 use Rattle.call_leg.proofs.DownLaws.{home_tx-stands, thawed-kept, thawed-frozen}
 
+-- the level is set
 pub level-stands : (who : Who) (ts : List CallPeriod) (now : Settings) (level : ℤ) (m : LegMemory) → Stands who ts now m →
     Stands who ts (with_level level now) (with_down m (set_level level m.down))
 level-stands who ts now level m h =
@@ -63,6 +64,7 @@ level-stands who ts now level m h =
       };
     }
 
+-- the DTX mode is set
 pub mode-stands : (who : Who) (ts : List CallPeriod) (now : Settings) (mode : DtxMode) (m : LegMemory) → Stands who ts now m →
     Stands who ts (with_mode mode now) (with_down m (set_mode mode m.down))
 mode-stands who ts now mode m h =
@@ -98,6 +100,7 @@ mode-stands who ts now mode m h =
       };
     }
 
+-- a bridge begins
 pub begin-stands : (who : Who) (ts : List CallPeriod) (now : Settings) (m : LegMemory) → handed_due (down_periods ts) (frames_of ts) ≡ None →
     Stands who ts now m →
     Stands who ts (with_bridge now) (begin_bridge m)
@@ -110,6 +113,7 @@ begin-stands who ts now m n h = record {
   down = begins who ts now m.down (bridge_begun m.down) n h.down refl refl encoding.home-stands home_tx-stands refl refl refl refl refl refl refl refl refl;
 }
 
+-- a bridge ends
 pub end-stands : (who : Who) (ts : List CallPeriod) (now : Settings) (m : LegMemory) → now.bridged ≡ true → Stands who ts now m →
     Stands who ts (without_bridge now) (with_down m (bridge_over m.down))
 end-stands who ts now m b h = record {
@@ -152,6 +156,7 @@ home-between who = record {
   dtxd = refl;
 }
 
+-- nothing was searched or heard yet
 home_search : search.Stands [] search_home
 unfolding mode_after search.last_bits
 home_search = record { periods = All-nil (λ o. length o ≡ 40); after = refl }
@@ -160,6 +165,7 @@ home_rx : (call : ℕ) → rx.Stands call [] (rx_home call)
 unfolding anchor_of drawn state_after
 home_rx call = record { state = refl; source = refl }
 
+-- **A new leg stands for a call before its first period.**
 pub new-stands : (who : Who) → Stands who [] new_settings (home_memory who)
 new-stands who = record {
   law = refl;

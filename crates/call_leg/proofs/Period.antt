@@ -26,6 +26,7 @@ abbrev Before : {A : Type 0} → ℕ → List (MadeFrame A) → Type 0
 Before k [] = Unit {0}
 Before k (f ∷ fs) = (f.period < k) × Before k fs
 
+-- frames were made before the number of periods
 before-more : {A : Type 0} (k : ℕ) (fs : List (MadeFrame A)) → Before k fs → Before (suc k) fs
 before-more k [] b = tt
 before-more k (f ∷ fs) b = let l = b.0 in (omega arith, before-more k fs b.1)
@@ -40,6 +41,7 @@ made-before [] = tt
 made-before (p ∷ past) = grown-before p past (grown p past (made_frames past))
     (grown-before p past (made_frames past) (before-more (length past) (made_frames past) (made-before past)))
 
+-- one field more since the last frame that carried nothing
 since-more : {A : Type 0} (p : Period A) (past : List (Period A)) (fs : List (MadeFrame A)) → Before (length past) fs → counted_fields (p ∷ past) fs
     ≡ p.field ∷ counted_fields past fs
 since-more p past [] b = refl
@@ -62,9 +64,11 @@ since-more p past (f ∷ fs) b = go f.carries (since-more p past fs b.1)
 
 -- ---- the frozen flag, and what is due
 
+-- a list with something is not empty
 length-some : (q : List (List ℕ)) (x : List ℕ) → not (length (q ++ x ∷ []) == 0) ≡ true
 length-some q x = let l = length-append q (x ∷ []) in ap not (ne_eqb (length (q ++ x ∷ [])) 0 (λ e. omega arith))
 
+-- a handed frame waits as before, or was handed over now
 due-enter : (t : CallPeriod) (past : List CallPeriod) (q : List (List ℕ)) (handed : Option (List ℕ)) → t.handed ≡ handed → Waits past (frames_of past) q →
     Waits (t ∷ past) (frames_of past) (q ++ option_to_list handed) →
     (is_some handed || is_some (handed_due (down_periods past) (frames_of past)))
@@ -73,12 +77,14 @@ due-enter t past q (Some x) e w v = refl
 due-enter t past q None e w v =
     sym (waits-some past (frames_of past) q w) ∙ sym (ap (λ z. not (length z == 0)) (append-nil q)) ∙ waits-some (t ∷ past) (frames_of past) (q ++ []) v
 
+-- one that was handed over waits
 due-handed : (t : CallPeriod) (past : List CallPeriod) (q : List (List ℕ)) (handed : Option (List ℕ)) →
     Waits (t ∷ past) (frames_of past) (q ++ option_to_list handed) →
     is_some handed ≡ true → handed_due (down_periods (t ∷ past)) (frames_of past) ≡ None → ⊥
 due-handed t past q None w e n = true≢false (sym e)
 due-handed t past q (Some x) w e n = true≢false (sym (length-some q x) ∙ waits-some (t ∷ past) (frames_of past) (q ++ x ∷ []) w ∙ ap is_some n)
 
+-- the bridges that started up to the next period
 pub begun-more : (now : Settings) (up : List ℕ) (pcm : List ℕ) (handed : Option (List ℕ)) (ts : List CallPeriod) → epoch_now ts now
     ≡ bridges_begun (period_with now up pcm handed ∷ ts)
 begun-more now up pcm handed ts = go now.starts
@@ -90,11 +96,13 @@ begun-more now up pcm handed ts = go now.starts
 
 -- ---- a period begins
 
+-- the period goes on with the history of bridges
 pub history-more : (who : Who) (ts : List CallPeriod) (now : Settings) (up : List ℕ) (handed : Option (List ℕ)) (pcm : List ℕ) (d : DownMemory) → is_some handed
     ≡ now.bridged → Halfway who ts now up handed d →
     IsHistory (down_periods (period_with now up pcm handed ∷ ts))
 history-more who ts now up handed pcm d b h = (h.history, h.alone, λ e. h.goes_on (sym b ∙ e))
 
+-- the octets of the Pcm line come in
 pub enter : (who : Who) (ts : List CallPeriod) (now : Settings) (up : List ℕ) (handed : Option (List ℕ)) (pcm : List ℕ) (d d1 : DownMemory) →
     length pcm ≡ 160 → is_some handed ≡ now.bridged → Halfway who ts now up handed d →
     ((pcm0 line : List ℕ) (out start : ℕ) → Holds pcm0 line out start d.framer → Holds (pcm0 ++ pcm) line out start d1.framer) →
@@ -132,6 +140,7 @@ enter who ts now up handed pcm d d1 lp b h pl la al qu co lv md ul qt br sn mn =
 
 -- ---- and ends
 
+-- the bits of the Down line go out
 pub leave : (who : Who) (ts : List CallPeriod) (now : Settings) (up : List ℕ) (handed : Option (List ℕ)) (pcm : List ℕ) (d d2 : DownMemory) → is_some handed
     ≡ now.bridged → Halfway who ts now up handed d →
     Inside who (period_with now up pcm handed) ts (frames_of (period_with now up pcm handed ∷ ts)) d2 → (d3 : DownMemory) →

@@ -18,6 +18,7 @@ use Rattle.call_leg.proofs.Queue.{waits-next, waits-some, none_due, thawed, adop
 abbrev pub next : CallPeriod → List CallPeriod → List CallFrame → CallFrame
 next t past fs = next_frame (down_period t past) (down_periods past) fs
 
+-- the downlink counts the bridges of the call
 pub begun-same : (ts : List CallPeriod) → epoch_of (down_periods ts) ≡ bridges_begun ts
 begun-same [] = refl
 begun-same (t ∷ past) = go t.starts (begun-same past)
@@ -36,6 +37,7 @@ come who t past fs d h r =
     let n : length d.framer.held ≡ length (pcm_of (t ∷ past)) - next_start fs = ap length h.places.held ∙ length-drop (next_start fs) (pcm_of (t ∷ past)) in
     omega arith
 
+-- the frame's octets haven't all come
 pub not_come : (who : Who) (t : CallPeriod) (past : List CallPeriod) (fs : List CallFrame) (d : DownMemory) → Inside who t past fs d →
     length d.framer.held < 160 → 160 * length (down_periods past) < next_start fs
 not_come who t past fs d h r =
@@ -57,6 +59,7 @@ sent-next n old new true w eq e eb eo en =
     ∙ sym (ap (λ k. min k 4294967295) (cond-true eq (suc n) n e))
 sent-next n old new false w eq e eb eo en = en ∙ cond-false w (min (old + 1) 4294967295) old eb ∙ eo
 
+-- one frame more, counted up to the last value
 made-next : (n old : ℕ) → old ≡ in_u64 n → in_u64 (old + 1) ≡ in_u64 (suc n)
 made-next n old e = omega arith
 
@@ -69,10 +72,12 @@ shift_is who t past fs d h r =
     (latest_shift (counted_fields (down_periods (t ∷ past)) fs))
     h.frozen (carries_one who t past fs d h r) (ap (λ o. unwrap_or o (pos 0)) h.kept)
 
+-- a frame that carries something is 160 octets long
 zero_shift : (o : Option ℕ) (v : ℤ) → (o ≡ None → ⊥) → octets_to_next (elim o as (λ x. ℤ) [ None ↦ v | Some h ↦ pos 0 ]) ≡ 160
 zero_shift None v n = absurd (n refl)
 zero_shift (Some h) v n = refl
 
+-- a frame more
 pub inside-next : (who : Who) (t : CallPeriod) (past : List CallPeriod) (fs : List CallFrame) (old new : DownMemory) (b : List ℕ) (shift : ℤ) →
     Inside who t past fs old → 160 ≤ length old.framer.held →
     length b ≡ 320 → b ≡ bits_now who (next t past fs ∷ fs) → IsShift shift →

@@ -73,6 +73,7 @@ abbrev by_fields : Law → framer.FramerMemory → align.AlignMemory → List (L
 by_fields law f a w c l m u q b s n =
     record { law = law; framer = f; align = a; waiting = w; coder = c; level = l; mode = m; dtxd = u; quiet = q; bridged = b; sent = s; made = n }
 
+-- the memory after a frame, by its fields
 same : (old d : DownMemory) (n : DownFrame × CoderMemory) (s : ℤ × align.AlignMemory) → d.law ≡ old.law → d.framer ≡ after_frame old.framer
     (frames.down_bits n.0) s.0 → d.align ≡ thawed s.1 old.bridged (drop 1 old.waiting) →
     d.waiting ≡ drop 1 old.waiting → d.coder ≡ n.1 → d.level ≡ old.level → d.mode ≡ old.mode → d.dtxd ≡ old.dtxd → d.quiet ≡ old.quiet →

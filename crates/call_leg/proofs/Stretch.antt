@@ -19,6 +19,7 @@ stretch-coded c f fs e q =
     cond-true (is_coded c f && f.epoch == f.epoch) (f ∷ coded_stretch c f.epoch fs) []
     (both (is_none f.carries) (not (quiet_now c f.load)) (f.epoch == f.epoch) (ap is_none e) (ap not q) (eq-eqb f.epoch f.epoch refl))
 
+-- the newest frame is coded, carries handed bits, or is idle
 pub frame-coded : (who : Who) (f : CallFrame) (fs : List CallFrame) → f.carries ≡ None → quiet_now who.number f.load ≡ false →
     frame_now who (f ∷ fs) ≡ speech (sent_of (coded_after who.law f (coded_stretch who.number f.epoch fs))
     (coded_frames who.law (coded_stretch who.number f.epoch fs)))

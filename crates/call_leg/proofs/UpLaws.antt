@@ -34,6 +34,7 @@ use Rattle.call_leg.proofs.Upward.{sighted, up-midway, up-out}
 
 -- ---- what is played out
 
+-- a frame of a plain stretch is decoded, and any other ends it
 played-plain : (law : Law) (p : Fields) (past : List Fields) (m : DecoderMemory) (alone : Bool) → decoder.Stands past m →
     decoder.Stands (if alone then p ∷ past else []) (if alone then played_frame law m p else played_none law).1
     × ((if alone then played_frame law m p else played_none law).0 ≡ decoded_octets law (if alone then p ∷ past else []))
@@ -48,6 +49,7 @@ played-stands law (Made p) alone past m h = played-plain law p past m alone h
 
 -- ---- what the downlink side hears
 
+-- a field is asked
 asked-kept : (m : AlignMemory) (field : Option ℕ) (fields : List (Option ℕ)) → m.kept ≡ latest_ask fields → (asked m field).kept ≡ latest_ask (field ∷ fields)
 asked-kept m None fields e = e
 asked-kept m (Some field) fields e = ap (λ o. asked_then field o) e
@@ -56,6 +58,7 @@ asked-frozen : (m : AlignMemory) (field : Option ℕ) → (asked m field).frozen
 asked-frozen m None = refl
 asked-frozen m (Some field) = refl
 
+-- the downlink side hears what the uplink brings
 pub hear-stands : (who : Who) (ts : List CallPeriod) (now : Settings) (up : List ℕ) (s : Sighting) (quiet : Bool) (d : DownMemory) → s ≡ sighting_after ts up →
     quiet ≡ is_quiet (effective_of who.number (heard_as (sighting_after ts up) ∷ heard_of ts)) → Between who ts now d →
     Halfway who ts now up None (after_sighting d s quiet)
@@ -100,6 +103,7 @@ hears call ts up m r l h k =
     let t = received_more call (heard_of ts) r (heard_as (found_in m up)) heard.0 heard.1 refl k in
     (es, t.1 ∙ ap (λ z. effective_of call (heard_as z ∷ heard_of ts)) es)
 
+-- **The uplink half of a period: what it leaves ..**
 pub up-stands : (who : Who) (ts : List CallPeriod) (now : Settings) (up : List ℕ) (m : LegMemory) → length up ≡ 40 → Stands who ts now m →
     Midway who ts now up None (up_worked m up).2
 unfolding up_worked
@@ -112,12 +116,14 @@ up-stands who ts now up m l h =
     (played-stands m.law heard.0 (not m.down.bridged) (plain_stretch who.number (epoch_now ts now) ts) m.decoder h.decoder).0 refl
     (hear-stands who ts now up (found_in m.search up) (is_quiet heard.0) m.down e.0 (ap is_quiet e.1) h.down)
 
+-- .. its effective frame ..
 pub up-effective : (who : Who) (ts : List CallPeriod) (now : Settings) (up pcm : List ℕ) (handed : Option (List ℕ)) (m : LegMemory) → length up ≡ 40 →
     Stands who ts now m →
     (up_worked m up).0 ≡ effective_now who.number (period_with now up pcm handed ∷ ts)
 unfolding up_worked
 up-effective who ts now up pcm handed m l h = (hears who.number ts up m.search m.rx l h.search h.rx).1
 
+-- .. and its octets
 pub up-plays : (who : Who) (ts : List CallPeriod) (now : Settings) (up pcm : List ℕ) (handed : Option (List ℕ)) (m : LegMemory) → length up ≡ 40 →
     is_some handed ≡ now.bridged →
     Stands who ts now m → (up_worked m up).1 ≡ out_of who (period_with now up pcm handed ∷ ts)

@@ -46,16 +46,15 @@ pub record Speaks (s : Start) (items : List EffectiveFields) (j : CallMemory) : 
 
 -- the octets of a call after all its places
 abbrev pub io_with : IoMemory → List ℕ → List ℕ → IoMemory
-io_with io outs
-    downs = record {
-      call = io.call;
-      up = io.up;
-      pcm = io.pcm;
-      out = outs ++ drop (160 * io.given) io.out;
-      down = downs ++ drop (40 * io.given) io.down;
-      given = io.given;
-      done = io.given;
-    }
+io_with io outs downs = record {
+  call = io.call;
+  up = io.up;
+  pcm = io.pcm;
+  out = outs ++ drop (160 * io.given) io.out;
+  down = downs ++ drop (40 * io.given) io.down;
+  given = io.given;
+  done = io.given;
+}
 
 -- A half's octets are those of the run of its uplink half, which tells these notes, followed by that of its downlink half
 -- with these items.
