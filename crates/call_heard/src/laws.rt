@@ -42,7 +42,8 @@ pub fn frames_of_a_call_are_found()
     ensures found { (call : Call) → IsWhole call → SpansHandFrames call → Found (down call) (all_within (320 * periods call) (found_of call)) }
 
     // So a base station's end that is fed the line, period by period, gives these frames and no others.
-    ensures heard { (call : Call) (past : List (List ℕ)) (heard : List (List FoundFrame)) → IsWhole call → SpansHandFrames call → line_bits past ≡ down call → AreHeard past heard →
+    ensures heard { (call : Call) (past : List (List ℕ)) (heard : List (List FoundFrame)) →
+        IsWhole call → SpansHandFrames call → line_bits past ≡ down call → AreHeard past heard →
         all_of heard ≡ all_within (320 * periods call) (found_of call) }
 
     // Each made frame is sent.

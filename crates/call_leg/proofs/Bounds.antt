@@ -35,7 +35,8 @@ grown-carried : (e : ℕ) (p : Period (List CallPeriod)) (past : List (Period (L
     160 * carried e (grown p past fs) ≤ next_start (grown p past fs)
 grown-carried e p past fs l =
     cond_both (nat_le (next_start fs) (160 * length past)) (next_frame p past fs ∷ fs) fs (λ gs. 160 * carried e gs ≤ next_start gs)
-    (λ y. one_more (handed_due (p ∷ past) fs) (latest_shift (counted_fields (p ∷ past) fs)) (epoch_of (p ∷ past) == e) (carried e fs) (next_start fs) l) (λ n. l)
+    (λ y. one_more (handed_due (p ∷ past) fs) (latest_shift (counted_fields (p ∷ past) fs)) (epoch_of (p ∷ past) == e) (carried e fs) (next_start fs) l)
+    (λ n. l)
 
 made-carried : (e : ℕ) (ps : List (Period (List CallPeriod))) → 160 * carried e (made_frames ps) ≤ next_start (made_frames ps)
 made-carried e [] = omega arith

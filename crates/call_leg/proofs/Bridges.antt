@@ -10,7 +10,8 @@ use Rattle.rx_handler.specs.Origin.{EffectiveFields, Quiet, Speech, Made}
 use Rattle.down_framer.specs.Made.{Period, MadeFrame, next_start, latest_start, made_from, handed_due, grown, next_frame, made_frames, epoch_of}
 use Rattle.down_framer.specs.Bridges.{IsHistory}
 use Rattle.down_framer.specs.Stands.{Holds}
-use Rattle.down_framer.proofs.Waiting.{bridged_at-late, Phase, phase}
+use Rattle.down_framer.proofs.Due.{hands_at-late}
+use Rattle.down_framer.proofs.Waiting.{Phase, phase}
 use Rattle.call_leg.specs.Who.{Who}
 use Rattle.call_leg.specs.Periods.{CallPeriod, pcm_of, bridges_begun, effective_now}
 use Rattle.call_leg.specs.Down.{CallFrame, down_periods, frames_of, is_coded, coded_stretch, down_made}
@@ -41,7 +42,7 @@ queue-short past q h w = go (latest_start (down_periods past)) refl
         let late = b.newest in
         short q (was past (frames_of past) q (Some s) w e 1
         ∙ ap (bits_in past) (place-none (down_periods past) (frames_of past) s 1 (s + made_from s (frames_of past) + 1) refl
-        (bridged_at-late (down_periods past) (s + made_from s (frames_of past) + 1) (omega arith))))
+        (hands_at-late (down_periods past) (s + made_from s (frames_of past) + 1) (omega arith))))
 
     go : (o : Option ℕ) → latest_start (down_periods past) ≡ o → length q ≤ 1
     go None e = short q (was past (frames_of past) q None w e 1)
@@ -135,7 +136,8 @@ plain-new c (t ∷ past) =
 
 -- ---- a bridge starts, and ends
 
-pub begins : (who : Who) (ts : List CallPeriod) (now : Settings) (d d1 : DownMemory) → handed_due (down_periods ts) (frames_of ts) ≡ None → Between who ts now d →
+pub begins : (who : Who) (ts : List CallPeriod) (now : Settings) (d d1 : DownMemory) → handed_due (down_periods ts) (frames_of ts) ≡ None →
+    Between who ts now d →
     d1.align.kept ≡ d.align.kept → d1.align.frozen ≡ true → encoder.Stands [] d1.coder.encoder → tx.Stands [] d1.coder.tx → d1.bridged ≡ true →
     d1.law ≡ d.law → d1.framer ≡ d.framer → d1.waiting ≡ d.waiting → d1.level ≡ d.level → d1.mode ≡ d.mode → d1.dtxd ≡ d.dtxd → d1.sent ≡ 0 → d1.made ≡ d.made →
     Between who ts (with_bridge now) d1

@@ -27,7 +27,7 @@ use Rattle.down_framer.specs.Memory as framer
 use Rattle.down_framer.specs.Step.{after_put}
 use Rattle.down_framer.proofs.Calls.{put-holds, frame-holds, take-holds}
 use Rattle.down_framer.proofs.Timing.{IsShift-shift_due}
-use Rattle.down_framer.proofs.Waiting.{none_made, one_made}
+use Rattle.down_framer.proofs.Due.{none_made, one_made}
 use Rattle.trau_alaw.specs.declared.Law.{Law}
 use Rattle.trau_alaw.specs.Period.{expanded}
 use Rattle.call_leg.specs.Who.{Who}

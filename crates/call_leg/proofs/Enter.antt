@@ -4,7 +4,8 @@ use Rattle.std.specs.Prelude.{◌==◌}
 use Rattle.std.proofs.lemmas.Bool.{cond-true, cond-false, cases_Bool, cases_lt, eq-eqb, ne_eqb, true≢false}
 use Rattle.down_framer.specs.Made.{Period, MadeFrame, latest_start, made_from, hands_at}
 use Rattle.down_framer.specs.Bridges.{in_bridge, IsHistory}
-use Rattle.down_framer.proofs.Waiting.{bridged_at-late, bridged_at-new, bridged_at-old, made_from-zero, outside, Phase, phase}
+use Rattle.down_framer.proofs.Due.{hands_at-late, hands_at-new, hands_at-old, made_from-zero, outside}
+use Rattle.down_framer.proofs.Waiting.{Phase, phase}
 use Rattle.call_leg.specs.Periods.{CallPeriod, handed_in}
 use Rattle.call_leg.specs.Down.{CallFrame, down_period, down_periods, frames_of}
 use Rattle.call_leg.specs.Waiting.{place_at, bits_in, Waits}
@@ -52,13 +53,13 @@ one_new t past fs s i n = go t.handed refl n
         (outside (down_period t past) (down_periods past) (s + made_from s fs + n) (ap is_some e) (omega arith))))
     go (Some x) e zero =
         let l = length-down_periods past in
-        let b = bridged_at-new (down_period t past) (down_periods past) (s + made_from s fs) (omega arith) ∙ ap is_some e in
+        let b = hands_at-new (down_period t past) (down_periods past) (s + made_from s fs) (omega arith) ∙ ap is_some e in
         sym (ap (bits_in (t ∷ past)) (place-some (down_periods (t ∷ past)) fs s 0 (s + made_from s fs) (omega arith) b)
         ∙ ap (λ z. Some z) (handed-new t past (s + made_from s fs) x i e))
     go (Some x) e (suc n) =
         let l = length-down_periods past in
         sym (ap (bits_in (t ∷ past)) (place-none (down_periods (t ∷ past)) fs s (suc n) (s + made_from s fs + suc n) refl
-        (bridged_at-late (down_periods (t ∷ past)) (s + made_from s fs + suc n) (omega arith))))
+        (hands_at-late (down_periods (t ∷ past)) (s + made_from s fs + suc n) (omega arith))))
 
 -- one waits from before, and the period's own
 one_more : (t : CallPeriod) (past : List CallPeriod) (fs : List CallFrame) (s : ℕ) → s + made_from s fs + 1 ≡ length past →
@@ -70,7 +71,7 @@ one_more t past fs s i b n = go t.handed refl n
         ≡ bits_in (t ∷ past) (place_at (down_periods (t ∷ past)) fs 0 (Some s))
     first xs =
         let l = length-down_periods past in
-        let o = bridged_at-old (down_period t past) (down_periods past) (s + made_from s fs) (omega arith) ∙ b in
+        let o = hands_at-old (down_period t past) (down_periods past) (s + made_from s fs) (omega arith) ∙ b in
         sym (ap (bits_in (t ∷ past)) (place-some (down_periods (t ∷ past)) fs s 0 (s + made_from s fs) (omega arith) o)
         ∙ ap (λ z. Some z) (handed-old t past (s + made_from s fs) (omega arith)))
 
@@ -83,13 +84,13 @@ one_more t past fs s i b n = go t.handed refl n
         (outside (down_period t past) (down_periods past) (s + made_from s fs + suc n) (ap is_some e) (omega arith))))
     go (Some x) e (suc zero) =
         let l = length-down_periods past in
-        let h = bridged_at-new (down_period t past) (down_periods past) (s + made_from s fs + 1) (omega arith) ∙ ap is_some e in
+        let h = hands_at-new (down_period t past) (down_periods past) (s + made_from s fs + 1) (omega arith) ∙ ap is_some e in
         sym (ap (bits_in (t ∷ past)) (place-some (down_periods (t ∷ past)) fs s 1 (s + made_from s fs + 1) refl h)
         ∙ ap (λ z. Some z) (handed-new t past (s + made_from s fs + 1) x i e))
     go (Some x) e (suc (suc n)) =
         let l = length-down_periods past in
         sym (ap (bits_in (t ∷ past)) (place-none (down_periods (t ∷ past)) fs s (suc (suc n)) (s + made_from s fs + suc (suc n)) refl
-        (bridged_at-late (down_periods (t ∷ past)) (s + made_from s fs + suc (suc n)) (omega arith))))
+        (hands_at-late (down_periods (t ∷ past)) (s + made_from s fs + suc (suc n)) (omega arith))))
 
 -- none waits, and none is handed over
 no_more : (t : CallPeriod) (past : List CallPeriod) (fs : List CallFrame) (s : ℕ) → t.handed ≡ None →
@@ -97,7 +98,7 @@ no_more : (t : CallPeriod) (past : List CallPeriod) (fs : List CallFrame) (s : �
     slice_get (option_to_list t.handed) n ≡ bits_in (t ∷ past) (place_at (down_periods (t ∷ past)) fs n (Some s))
 no_more t past fs s e o n =
     let b : hands_at (s + made_from s fs + n) (down_periods (t ∷ past)) ≡ false = elim (cases_lt (s + made_from s fs + n) (length (down_periods past))) [
-      | inl old ↦ bridged_at-old (down_period t past) (down_periods past) (s + made_from s fs + n) old ∙ o (s + made_from s fs + n) (omega arith)
+      | inl old ↦ hands_at-old (down_period t past) (down_periods past) (s + made_from s fs + n) old ∙ o (s + made_from s fs + n) (omega arith)
       | inr here ↦ outside (down_period t past) (down_periods past) (s + made_from s fs + n) (ap is_some e) here
     ] in
     ap (λ o. slice_get (option_to_list o) n) e ∙ sym (ap (bits_in (t ∷ past)) (place-none (down_periods (t ∷ past)) fs s n (s + made_from s fs + n) refl b))
@@ -172,7 +173,7 @@ waits-enter t past q h w = go (cases_Bool t.starts) (latest_start (down_periods 
         ∙ ap (bits_in past) (place-some (down_periods past) (frames_of past) s 0 (s + made_from s (frames_of past)) (omega arith) b.waits) in
         let second = was past (frames_of past) q (Some s) w e 1
         ∙ ap (bits_in past) (place-none (down_periods past) (frames_of past) s 1 (s + made_from s (frames_of past) + 1) refl
-        (bridged_at-late (down_periods past) (s + made_from s (frames_of past) + 1) (omega arith))) in
+        (hands_at-late (down_periods past) (s + made_from s (frames_of past) + 1) (omega arith))) in
         enter_by t past (frames_of past) q (handed_in (s + made_from s (frames_of past)) past ∷ []) s e1
         (get-one q (handed_in (s + made_from s (frames_of past)) past) first second)
         (one_more t past (frames_of past) s (omega arith) b.waits)

@@ -1,7 +1,7 @@
 -- How long the lines of a call are, and that the Down line is made of bits.
-use Rattle.std.proofs.Common.{◌≡◌, subst, ◌∙◌, ℕ, FitsSigned, w16, ◌+◌, ◌*◌, ◌/◌, ◌%◌, ◌^◌, ◌<◌, zero, suc, ℤ, pos, negsuc, true, if◌then◌else◌, nat_le, Option, Some, None, IfSome, unwrap_or, get_or, All, List, [], ◌∷◌, length, drop, replicate, arith, length-take, length-drop}
+use Rattle.std.proofs.Common.{◌≡◌, subst, ◌∙◌, ℕ, FitsSigned, w16, ◌*◌, ◌<◌, ℤ, pos, negsuc, true, if◌then◌else◌, nat_le, Option, Some, None, IfSome, unwrap_or, get_or, All, List, [], ◌∷◌, length, drop, replicate, arith, length-take, length-drop}
 use Rattle.std.specs.Prelude.{◌==◌}
-use Rattle.std.specs.List.{range_with_len, flat_map}
+use Rattle.std.specs.List.{range_with_len}
 use Rattle.std.proofs.lemmas.Bool.{cond_both}
 use Rattle.std.proofs.lemmas.List.{length-replicate, length-map}
 use Rattle.std.proofs.lemmas.List.Elements.{All-nil, All-cons, All-head, All-tail, All-replicate, All-append, All-map, All-take, All-drop}
@@ -15,9 +15,7 @@ use Rattle.trau_alaw.proofs.MuOctets as mu
 use Rattle.trau_alaw.proofs.Octets.{octet_of-only}
 use Rattle.trau_bits.specs.Bits.{AreBits}
 use Rattle.trau_params.specs.Fields.{Fields}
-use Rattle.trau_params.specs.Widths.{larc_widths, block_widths}
-use Rattle.trau_params.specs.FieldBits.{low_bits, field_bits}
-use Rattle.trau_params.specs.Bits260.{values_in, bits260}
+use Rattle.trau_params.proofs.AreBits.{AreBits-bits260}
 use Rattle.trau_frame.specs.declared.frames.DownFrame.{DownFrame}
 use Rattle.trau_frame.specs.declared.frames.DownFrame.TheVariants as frame
 use Rattle.trau_frame.specs.DownFrame.{HasBits, sp_of, down_control_bit, down_control, down_data, down_bits}
@@ -74,26 +72,6 @@ out_of-octets who ts = decoded-octets who.law (plain_stretch who.number (bridges
 
 -- ---- bits
 
-low_bits-are : (width value : ℕ) → AreBits (low_bits width value)
-unfolding low_bits
-low_bits-are width value = All-map (λ b. b < 2) (λ t. value / 2 ^ t % 2) (range_with_len 0 width) (λ k d h. omega arith)
-
-field_bits-are : (widths values : List ℕ) → AreBits (field_bits widths values)
-field_bits-are [] values = All-nil (λ b. b < 2)
-field_bits-are (w ∷ ws) [] = All-nil (λ b. b < 2)
-field_bits-are (w ∷ ws) (v ∷ vs) = All-append (λ b. b < 2) _ _ (low_bits-are w v) (field_bits-are ws vs)
-
-blocks-are : (f : ℕ → List ℕ) (first n : ℕ) → ((k : ℕ) → AreBits (f k)) → AreBits (flat_map f (range_with_len first n))
-blocks-are f first zero h = All-nil (λ b. b < 2)
-blocks-are f first (suc n) h = All-append (λ b. b < 2) _ _ (h first) (blocks-are f (first + 1) n h)
-
--- those of fields
-pub bits260-are : (f : Fields) → AreBits (bits260 f)
-unfolding bits260
-bits260-are f =
-    All-append (λ b. b < 2) _ _ (field_bits-are larc_widths f.larc)
-    (blocks-are (λ j. field_bits block_widths (values_in f j)) 0 4 (λ j. field_bits-are block_widths (values_in f j)))
-
 sp-is : (f : DownFrame) → sp_of f < 2
 sp-is frame.Idle = omega arith
 sp-is (frame.Speech d sp) = cond_both sp 1 0 (λ b. b < 2) (λ y. omega arith) (λ n. omega arith)
@@ -144,7 +122,7 @@ frame-has who (f ∷ fs) k = go f.carries
     go (Some h) = handed-are h f.load (All-head (λ f. HandBits f.load) f fs k)
     go None =
         let s = sent_of (coded_after who.law f (coded_stretch who.number f.epoch fs)) (coded_frames who.law (coded_stretch who.number f.epoch fs)) in
-        cond_both (quiet_now who.number f.load) frame.Idle (speech s) HasBits (λ y. tt) (λ n. bits260-are s.fields)
+        cond_both (quiet_now who.number f.load) frame.Idle (speech s) HasBits (λ y. tt) (λ n. AreBits-bits260 s.fields)
 
 on_line-are : (v : ℤ) (bits : List ℕ) → AreBits bits → AreBits (frame_on_line v bits)
 on_line-are (pos v) bits h = All-append (λ b. b < 2) bits (replicate (2 * v) 1) h (All-replicate (λ b. b < 2) (2 * v) 1 (omega arith))

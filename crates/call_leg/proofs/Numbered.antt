@@ -56,7 +56,8 @@ each-start P bridges fields (suc n) j l h =
       | inl earlier ↦ each-start P bridges fields n j earlier (All-tail (λ (f : NumberedFrame). P f.start) (numbered_next bridges fields before) before h)
       | inr late ↦
           let e : n ≡ j = omega arith in
-          subst (λ k. P (numbered_start (numbered_frames bridges fields k))) e (All-head (λ (f : NumberedFrame). P f.start) (numbered_next bridges fields before)
+          subst (λ k. P (numbered_start (numbered_frames bridges fields k))) e
+          (All-head (λ (f : NumberedFrame). P f.start) (numbered_next bridges fields before)
           before h)
     ]
 

@@ -98,7 +98,8 @@ mode-stands who ts now mode m h =
       };
     }
 
-pub begin-stands : (who : Who) (ts : List CallPeriod) (now : Settings) (m : LegMemory) → handed_due (down_periods ts) (frames_of ts) ≡ None → Stands who ts now m →
+pub begin-stands : (who : Who) (ts : List CallPeriod) (now : Settings) (m : LegMemory) → handed_due (down_periods ts) (frames_of ts) ≡ None →
+    Stands who ts now m →
     Stands who ts (with_bridge now) (begin_bridge m)
 begin-stands who ts now m n h = record {
   law = h.law;

@@ -67,7 +67,8 @@ length-some q x = let l = length-append q (x ∷ []) in ap not (ne_eqb (length (
 
 due-enter : (t : CallPeriod) (past : List CallPeriod) (q : List (List ℕ)) (handed : Option (List ℕ)) → t.handed ≡ handed → Waits past (frames_of past) q →
     Waits (t ∷ past) (frames_of past) (q ++ option_to_list handed) →
-    (is_some handed || is_some (handed_due (down_periods past) (frames_of past))) ≡ (is_some handed || is_some (handed_due (down_periods (t ∷ past)) (frames_of past)))
+    (is_some handed || is_some (handed_due (down_periods past) (frames_of past)))
+    ≡ (is_some handed || is_some (handed_due (down_periods (t ∷ past)) (frames_of past)))
 due-enter t past q (Some x) e w v = refl
 due-enter t past q None e w v =
     sym (waits-some past (frames_of past) q w) ∙ sym (ap (λ z. not (length z == 0)) (append-nil q)) ∙ waits-some (t ∷ past) (frames_of past) (q ++ []) v

@@ -4,7 +4,7 @@ use Rattle.std.specs.Prelude.{◌==◌}
 use Rattle.std.proofs.lemmas.Bool.{cond-true, cond-false, ne_eqb}
 use Rattle.time_align.specs.Shift.{latest_ask}
 use Rattle.down_framer.specs.Made.{Period, MadeFrame, latest_start, made_from, hands_at, handed_due, counted_fields, next_frame}
-use Rattle.down_framer.proofs.Waiting.{made_from-next, latest_start-below}
+use Rattle.down_framer.proofs.Due.{made_from-next, latest_start-below}
 use Rattle.call_leg.specs.Periods.{CallPeriod}
 use Rattle.call_leg.specs.Down.{CallFrame, down_period, down_periods}
 use Rattle.call_leg.specs.Waiting.{place_at, due_at, bits_in, Waits}
@@ -43,7 +43,8 @@ waits-next t past fs q h = record {
   each = λ n. get-drop q n ∙ h.each (suc n) ∙ sym (ap (bits_in (t ∷ past)) (due-next (down_period t past) (down_periods past) fs n));
 }
 
-pub waits-first : (ts : List CallPeriod) (fs : List CallFrame) (q : List (List ℕ)) → Waits ts fs q → slice_get q 0 ≡ bits_in ts (handed_due (down_periods ts) fs)
+pub waits-first : (ts : List CallPeriod) (fs : List CallFrame) (q : List (List ℕ)) → Waits ts fs q → slice_get q 0
+    ≡ bits_in ts (handed_due (down_periods ts) fs)
 waits-first ts fs q h = h.each 0 ∙ sym (ap (bits_in ts) (due-first (down_periods ts) fs))
 
 is_some-bits_in : (ts : List CallPeriod) (o : Option ℕ) → is_some (bits_in ts o) ≡ is_some o
@@ -55,7 +56,8 @@ not_empty [] = refl
 not_empty (x ∷ xs) = ap not (ne_eqb (suc (length xs)) 0 (λ e. omega arith))
 
 -- whether one waits
-pub waits-some : (ts : List CallPeriod) (fs : List CallFrame) (q : List (List ℕ)) → Waits ts fs q → not (length q == 0) ≡ is_some (handed_due (down_periods ts) fs)
+pub waits-some : (ts : List CallPeriod) (fs : List CallFrame) (q : List (List ℕ)) → Waits ts fs q → not (length q == 0)
+    ≡ is_some (handed_due (down_periods ts) fs)
 waits-some ts fs q h = not_empty q ∙ ap is_some (waits-first ts fs q h) ∙ is_some-bits_in ts (handed_due (down_periods ts) fs)
 
 none_after : (q : List (List ℕ)) → is_some (slice_get q 0) ≡ false → is_some (slice_get (drop 1 q) 0) ≡ false

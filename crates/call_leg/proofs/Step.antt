@@ -120,7 +120,8 @@ inside-next who t past fs old new b shift h r lb eb sh es eq cd ek ef pl la lv m
           let z : octets_to_next f.shift ≡ 160 = zero_shift (handed_due ps fs) (latest_shift (counted_fields ps fs)) (carries_one who t past fs old h r y) in
           omega arith;
       coded = subst (λ e. CoderStands who.law (coded_stretch who.number e (f ∷ fs)) new.coder) (begun-same ts) cd;
-      sent = sent-next (carried (bridges_begun ts) fs) old.sent new.sent (is_some (handed_due ps fs)) (not (length old.waiting == 0)) (f.epoch == bridges_begun ts)
+      sent = sent-next (carried (bridges_begun ts) fs) old.sent new.sent (is_some (handed_due ps fs)) (not (length old.waiting == 0))
+          (f.epoch == bridges_begun ts)
           (eq-eqb f.epoch (bridges_begun ts) (begun-same ts))
           (waits-some ts fs old.waiting h.waits) h.sent sn;
       made = mn ∙ made-next (length fs) old.made h.made;

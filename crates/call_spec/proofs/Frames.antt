@@ -16,7 +16,8 @@ use Rattle.call_spec.specs.Call.{Call, Span, periods, fields}
 use Rattle.call_spec.specs.Down.{without_items, first_frames, frame_by_number, made_among, frames_of_call, HasItem}
 use Rattle.call_spec.specs.History.{IsCallHistory, new_span, go_on, spans_in_history, call_of_history}
 use Rattle.call_spec.proofs.Stretched.{map-reverse}
-use Rattle.call_spec.proofs.Items.{OneSpeaks, item_of-speaks, made-in_order, one-made}
+use Rattle.call_spec.proofs.Speaking.{OneSpeaks, carried_item-speaks}
+use Rattle.call_spec.proofs.Items.{made-in_order, one-made}
 use Rattle.call_spec.proofs.Reading.{length-settings_of, fields-read}
 
 -- ---- bridges
@@ -25,7 +26,8 @@ bridge_new : (m n : ℕ) (o : Option (List ℕ)) → m ≡ n → without_items (
 bridge_new m n None e = ap (λ n. without_items (new_span n None)) (sym e)
 bridge_new m n (Some item) e = ap (λ n. without_items (new_span n (Some item))) (sym e)
 
-bridges-go_on : (o : Option (List ℕ)) (spans : List Span) → map without_items (go_on o spans) ≡ (if is_some o then longer (map without_items spans) else map without_items spans)
+bridges-go_on : (o : Option (List ℕ)) (spans : List Span) →
+    map without_items (go_on o spans) ≡ (if is_some o then longer (map without_items spans) else map without_items spans)
 bridges-go_on None spans = refl
 bridges-go_on (Some item) [] = refl
 bridges-go_on (Some item) (span ∷ others) = refl
@@ -36,20 +38,32 @@ bridges-read (t ∷ past) = by t.starts (bridges-read past)
   where
     by : (b : Bool) → map without_items (spans_in_history past) ≡ bridges_in (down_periods past) →
         map without_items (if b then new_span (length past) t.handed ∷ spans_in_history past else go_on t.handed (spans_in_history past)) ≡
-        (if b then (let new : Bridge = record { from = length (down_periods past); to = if is_some t.handed then length (down_periods past) + 1 else length (down_periods past) } in new) ∷ bridges_in (down_periods past)
+        (if b then (let new : Bridge = record {
+          from = length (down_periods past);
+          to = if is_some t.handed then length (down_periods past) + 1 else length (down_periods past);
+        } in new) ∷ bridges_in (down_periods past)
         else if is_some t.handed then longer (bridges_in (down_periods past)) else bridges_in (down_periods past))
     by true e =
         ap (λ b. b ∷ map without_items (spans_in_history past)) (bridge_new (length (down_periods past)) (length past) t.handed (length-down_periods past)) ∙
-        ap (λ bs. (let new : Bridge = record { from = length (down_periods past); to = if is_some t.handed then length (down_periods past) + 1 else length (down_periods past) } in new) ∷ bs) e
+        ap (λ bs.
+        (let new : Bridge = record {
+          from = length (down_periods past);
+          to = if is_some t.handed then length (down_periods past) + 1 else length (down_periods past);
+        } in new) ∷ bs) e
     by false e = bridges-go_on t.handed (spans_in_history past) ∙ ap (λ bs. if is_some t.handed then longer bs else bs) e
 
 -- ---- the frames of the call's periods
 
 -- no later frame starts earlier
-pub later_starts : (bridges : List Bridge) (fields : List (Option ℕ)) (m j : ℕ) → m ≤ j → numbered_start (numbered_frames bridges fields m) ≤ numbered_start (numbered_frames bridges fields j)
-later_starts bridges fields m zero l = let e : m ≡ 0 = omega arith in subst (λ m. numbered_start (numbered_frames bridges fields m) ≤ numbered_start (numbered_frames bridges fields zero)) (sym e) (omega arith)
+pub later_starts : (bridges : List Bridge) (fields : List (Option ℕ)) (m j : ℕ) → m ≤ j →
+    numbered_start (numbered_frames bridges fields m) ≤ numbered_start (numbered_frames bridges fields j)
+later_starts bridges fields m zero l =
+    let e : m ≡ 0 = omega arith in
+    subst (λ m. numbered_start (numbered_frames bridges fields m) ≤ numbered_start (numbered_frames bridges fields zero)) (sym e) (omega arith)
 later_starts bridges fields m (suc j) l = elim (cases_lt j m) [
-  | inl now ↦ let e : m ≡ suc j = omega arith in subst (λ m. numbered_start (numbered_frames bridges fields m) ≤ numbered_start (numbered_frames bridges fields (suc j))) (sym e) (omega arith)
+  | inl now ↦
+      let e : m ≡ suc j = omega arith in
+      subst (λ m. numbered_start (numbered_frames bridges fields m) ≤ numbered_start (numbered_frames bridges fields (suc j))) (sym e) (omega arith)
   | inr before ↦ let b = later_starts bridges fields m j before in omega arith
 ]
 
@@ -68,7 +82,8 @@ none_later bridges fields n m (suc j) far l = elim (cases_lt j m) [
       none_later bridges fields n m j far before
 ]
 
-all_within : {A : Type 0} (n : ℕ) (fs : List (MadeFrame A)) → All (λ f. (f.period ≡ when f.start) × (f.start + 160 ≤ 160 * n)) fs → filter (is_within n) (map numbered_of fs) ≡ map numbered_of fs
+all_within : {A : Type 0} (n : ℕ) (fs : List (MadeFrame A)) → All (λ f. (f.period ≡ when f.start) × (f.start + 160 ≤ 160 * n)) fs →
+    filter (is_within n) (map numbered_of fs) ≡ map numbered_of fs
 all_within n [] h = refl
 all_within n (f ∷ fs) h =
     let one = All-head (λ f. (f.period ≡ when f.start) × (f.start + 160 ≤ 160 * n)) f fs h in
@@ -100,7 +115,8 @@ first-read who ts j h =
     ap (λ bs. numbered_frames bs (fields (call_of_history who ts)) j) (bridges-of ts) ∙
     ap (λ xs. numbered_frames (reverse (bridges_in (down_periods ts))) xs j) (fields-read who ts h)
 
-among-read : (who : Who) (ts : List CallPeriod) (m : ℕ) → IsCallHistory ts → 2 * length ts ≤ m → made_among (call_of_history who ts) m ≡ map numbered_of (frames_of ts)
+among-read : (who : Who) (ts : List CallPeriod) (m : ℕ) → IsCallHistory ts → 2 * length ts ≤ m →
+    made_among (call_of_history who ts) m ≡ map numbered_of (frames_of ts)
 among-read who ts m h l =
     let n = length ts in
     let bridges = reverse (bridges_in (down_periods ts)) in
@@ -111,7 +127,8 @@ among-read who ts m h l =
     ap (filter (is_within n)) (first-read who ts m h) ∙
     none_later bridges fields n (length (frames_of ts)) m (far_enough ts h) (omega arith) ∙
     ap (filter (is_within n)) (sym (made-in_order (down_periods ts) h.bridges)) ∙
-    all_within n (frames_of ts) (subst (λ k. All (λ f. (f.period ≡ when f.start) × (f.start + 160 ≤ 160 * k)) (frames_of ts)) (length-down_periods ts) time.made)
+    all_within n (frames_of ts)
+    (subst (λ k. All (λ f. (f.period ≡ when f.start) × (f.start + 160 ≤ 160 * k)) (frames_of ts)) (length-down_periods ts) time.made)
 
 pub made-read : (who : Who) (ts : List CallPeriod) → IsCallHistory ts → frames_of_call (call_of_history who ts) ≡ reverse (map numbered_of (frames_of ts))
 made-read who ts h = ap reverse (among-read who ts (2 * periods (call_of_history who ts)) h (let n = length-settings_of ts in omega arith))
@@ -124,12 +141,14 @@ enough who ts m h l =
 
 -- ---- items
 
-has_item : (call : Call) (span : Span) (j i : ℕ) → HasItem call span j i → carried_item (without_items span ∷ []) (when (frame_by_number call j).start) (first_frames call j) ≡ Some (span.from + i)
+has_item : (call : Call) (span : Span) (j i : ℕ) → HasItem call span j i →
+    carried_item (without_items span ∷ []) (when (frame_by_number call j).start) (first_frames call j) ≡ Some (span.from + i)
 has_item call span j i h =
     let fs = first_frames call j in
     let number = h.number in
     let left = h.left in
-    cond-true (nat_le span.from (when (frame_by_number call j).start) && nat_lt (count_from span.from fs) (span.to - span.from)) (Some (span.from + count_from span.from fs)) None
+    cond-true (nat_le span.from (when (frame_by_number call j).start) && nat_lt (count_from span.from fs) (span.to - span.from))
+    (Some (span.from + count_from span.from fs)) None
     (and_from _ _ (le-leb span.from (when (frame_by_number call j).start) h.begun) (lt-ltb (count_from span.from fs) (span.to - span.from) (omega arith))) ∙
     ap (λ i. Some (span.from + i)) (sym number)
 
@@ -140,11 +159,15 @@ item-carried who ts before after span j i h e l has =
     let call = call_of_history who ts in
     let w = when (frame_by_number call j).start in
     let fs = first_frames call j in
-    let n : length (frames_of_call call) ≡ length (frames_of ts) = ap length (made-read who ts h) ∙ length-reverse (map numbered_of (frames_of ts)) ∙ length-map (frames_of ts) numbered_of in
+    let n : length (frames_of_call call) ≡ length (frames_of ts) =
+    ap length (made-read who ts h) ∙ length-reverse (map numbered_of (frames_of ts)) ∙ length-map (frames_of ts) numbered_of in
     let one = one-made (down_periods ts) j h.bridges (omega arith) in
     let at : OneSpeaks (map without_items call.spans) w fs =
     subst (λ bs. OneSpeaks bs w fs) (sym (bridges-of ts))
     (subst (λ fs. OneSpeaks (reverse (bridges_in (down_periods ts))) (when (numbered_start fs)) fs) (sym (first-read who ts j h)) one) in
-    let parts : map without_items call.spans ≡ map without_items before ++ without_items span ∷ map without_items after = ap (map without_items) e ∙ map-append without_items before (span ∷ after) in
+    let parts : map without_items call.spans ≡ map without_items before ++ without_items span ∷ map without_items after =
+    ap (map without_items) e ∙ map-append without_items before (span ∷ after) in
     ap (λ bs. carried_item bs w fs) parts ∙
-    item_of-speaks (map without_items before) (map without_items after) (without_items span) w (span.from + i) fs (subst (λ bs. OneSpeaks bs w fs) parts at) (has_item call span j i has)
+    carried_item-speaks (map without_items before) (map without_items after) (without_items span) w (span.from + i) fs
+    (subst (λ bs. OneSpeaks bs w fs) parts at)
+    (has_item call span j i has)

@@ -81,7 +81,8 @@ silent_down = refl
 abbrev item : List ℕ
 item = 0 ∷ replicate 258 1 ++ 0 ∷ []
 
-handed_down : down (silent_call A (record { from = 1; to = 2; items = item ∷ [] } ∷ [])) ≡ replicate 320 1 ++ bits_of idle ++ down_bits (frames.Speech item true)
+handed_down : down (silent_call A (record { from = 1; to = 2; items = item ∷ [] } ∷ []))
+    ≡ replicate 320 1 ++ bits_of idle ++ down_bits (frames.Speech item true)
 unfolding each_yield searched first_match is_match role_of line_bits mode_after bits_of effective_at origin_at latest_anchor down_bits down_control frame_bits
 handed_down = refl
 
@@ -100,7 +101,8 @@ shifted_call = record {
 }
 
 shifted_down : down shifted_call ≡ replicate 320 1 ++ bits_of idle ++ replicate 312 1 ++ take 8 (bits_of idle)
-unfolding each_yield searched first_match is_match role_of line_bits mode_after bits_of effective_at origin_at latest_anchor down_bits down_control frame_bits words_in number_of place_of_role frame_at shift_of
+unfolding each_yield searched first_match is_match role_of line_bits mode_after bits_of effective_at origin_at latest_anchor down_bits down_control frame_bits
+    words_in number_of place_of_role frame_at shift_of
 shifted_down = refl
 
 -- ---- three good speech frames, and a span without a period at the second: two plain stretches
@@ -121,9 +123,11 @@ abbrev parameters : Fields
 parameters = fields_in (data_of (bits_of speech))
 
 speech_out : out (speech_call A) ≡ compressed A (decoded (parameters ∷ [])) ++ (compressed A (decoded (parameters ∷ parameters ∷ [])) ++ [])
-unfolding each_yield searched first_match is_match role_of line_bits mode_after bits_of effective_at origin_at latest_anchor words_in number_of place_of_role frame_at
+unfolding each_yield searched first_match is_match role_of line_bits mode_after bits_of effective_at origin_at latest_anchor words_in number_of place_of_role
+    frame_at
 speech_out = refl
 
 speech_mulaw : out (speech_call Mu) ≡ compressed Mu (decoded (parameters ∷ [])) ++ (compressed Mu (decoded (parameters ∷ parameters ∷ [])) ++ [])
-unfolding each_yield searched first_match is_match role_of line_bits mode_after bits_of effective_at origin_at latest_anchor words_in number_of place_of_role frame_at
+unfolding each_yield searched first_match is_match role_of line_bits mode_after bits_of effective_at origin_at latest_anchor words_in number_of place_of_role
+    frame_at
 speech_mulaw = refl

@@ -17,7 +17,8 @@ grown-AreInTurn p past fs h =
 
 pub AreInTurn-made_frames : {A : Type 0} (ps : List (Period A)) → AreInTurn (made_frames ps)
 AreInTurn-made_frames [] = tt
-AreInTurn-made_frames (p ∷ past) = grown-AreInTurn p past (grown p past (made_frames past)) (grown-AreInTurn p past (made_frames past) (AreInTurn-made_frames past))
+AreInTurn-made_frames (p ∷ past) =
+    grown-AreInTurn p past (grown p past (made_frames past)) (grown-AreInTurn p past (made_frames past) (AreInTurn-made_frames past))
 
 -- ---- lengths
 
@@ -26,13 +27,16 @@ length-frame_on_line (pos v) bits k l = length-append bits (replicate (2 * v) 1)
 length-frame_on_line (negsuc v) bits k l = length-take 316 bits ∙ omega arith
 
 -- a downlink has two bits for each octet up to the next frame's start, after the first 320
-pub length-line_of : {A : Type 0} (bits : List (MadeFrame A) → List ℕ) → ((fs : List (MadeFrame A)) → length (bits fs) ≡ 320) → (fs : List (MadeFrame A)) → AreInTurn fs →
+pub length-line_of : {A : Type 0} (bits : List (MadeFrame A) → List ℕ) → ((fs : List (MadeFrame A)) → length (bits fs) ≡ 320) → (fs : List (MadeFrame A)) →
+    AreInTurn fs →
     length (downlink_of bits fs) ≡ 320 + 2 * next_start fs
 length-line_of bits b [] k = length-replicate {A = ℕ} 320 1
 length-line_of bits b (f ∷ fs) k =
     length-append (downlink_of bits fs) (frame_on_line f.shift (bits (f ∷ fs))) ∙
-    (let e : f.start ≡ next_start fs = k.0 in let l = length-line_of bits b fs k.2 in let m = length-frame_on_line f.shift (bits (f ∷ fs)) k.1 (b (f ∷ fs)) in omega arith)
+    (let e : f.start ≡ next_start fs = k.0 in let l = length-line_of bits b fs k.2 in let m = length-frame_on_line f.shift (bits (f ∷ fs)) k.1
+    (b (f ∷ fs)) in omega arith)
 
 -- it is made far enough for the period's 320 bits
-pub made-far : {A : Type 0} (bits : List (MadeFrame A) → List ℕ) → ((fs : List (MadeFrame A)) → length (bits fs) ≡ 320) → (ps : List (Period A)) → 320 * length ps < length (downlink_of bits (made_frames ps))
+pub made-far : {A : Type 0} (bits : List (MadeFrame A) → List ℕ) → ((fs : List (MadeFrame A)) → length (bits fs) ≡ 320) → (ps : List (Period A)) →
+    320 * length ps < length (downlink_of bits (made_frames ps))
 made-far bits b ps = let a = AreMade-made_frames ps in let l = a.low in let n = length-line_of bits b (made_frames ps) (AreInTurn-made_frames ps) in omega arith

@@ -20,9 +20,11 @@ use Rattle.farm_live.proofs.NewFarm.{Line}
 use Rattle.farm_live.proofs.Rows.{same_default}
 use Rattle.farm_live.proofs.Weights.{weigh-append}
 
+-- what one view more has
 one_more : {X : Type 0} (f : View → List X) (vs : List View) (v u : View) → f v ≡ flat_map f vs → f v ++ f u ≡ flat_map f (vs ++ u ∷ [])
 one_more f vs v u e = ap (λ l. l ++ f u) e ∙ ap (λ l. flat_map f vs ++ l) (sym (append-nil (f u))) ∙ sym (flat_map-append f vs (u ∷ []))
 
+-- a view that takes in another has what it had and what that one has
 pub has_both : (vs : List View) (v u : View) → HasAll vs v → HasAll (vs ++ u ∷ []) (both_of v u)
 has_both vs v u all = record {
   made = one_more (λ (w : View). w.made) vs v u all.made;
@@ -30,26 +32,32 @@ has_both vs v u all = record {
   callers = one_more (λ (w : View). w.callers) vs v u all.callers;
 }
 
+-- the view of a caller at the call with this index
 at_place : (xs : List Seat) (k : ℕ) (d : Seat) → k < length xs → map view_of (take 1 (drop k xs)) ≡ view_of (get_or xs k d) ∷ []
 at_place [] k d h = absurd (omega arith)
 at_place (x ∷ xs) zero d h = refl
 at_place (x ∷ xs) (suc k) d h = at_place xs k d (omega arith)
 
+-- an index that is not k and not before it is behind it
 behind : (j k : ℕ) → k ≤ j → j ≢ k → k + 1 ≤ j
 behind j k h ne = ⊎_elim (λ (lt : k < j). omega arith) (λ (le : j ≤ k). absurd (ne (let e : j ≡ k = omega arith in e))) (cases_lt k j)
 
+-- a list whose last item is taken away
 pub popped : {X : Type 0} (new rest all : List X) (old : List X) (u : X) → all ≡ old ++ rest → old ≡ new ++ u ∷ [] → all ≡ new ++ u ∷ rest
 popped new rest all old u e f = e ∙ ap (λ l. l ++ rest) f ∙ append_assoc new (u ∷ []) rest
 
+-- the item that was taken away is the one at index k
 pub last_is : (new rest all : List Seat) (u : Seat) (k : ℕ) → all ≡ new ++ u ∷ rest → k ≡ length new → u ≡ get_or all k u
 last_is new rest all u k e f = sym (ap (λ xs. get_or xs k u) e ∙ ap (λ n. get_or (new ++ u ∷ rest) n u) f ∙ get_or-append_seam new u rest u)
 
 pub last-lt : (new rest all : List Seat) (u : Seat) (k : ℕ) → all ≡ new ++ u ∷ rest → k ≡ length new → k < length all
 last-lt new rest all u k e f = let l = ap length e in let m = length-append new (u ∷ rest) in omega arith
 
+-- what holds of all items holds of that one ..
 pub all_at : {X : Type 0} (P : X → Type 0) (new rest : List X) (u : X) → All P (new ++ u ∷ rest) → P u
 all_at P new rest u a = subst P (get_or-append_seam new u rest u) (a (length new) u (let l = length-append new (u ∷ rest) in omega arith))
 
+-- .. and of a front
 pub all_front : {X : Type 0} (P : X → Type 0) (xs ys : List X) → All P (xs ++ ys) → All P xs
 all_front P xs ys a = λ k d h. subst P (get_or_append_left xs ys d k h) (a k d (let l = length-append xs ys in omega arith))
 
@@ -57,15 +65,18 @@ pub no_items : {X : Type 0} (xs : List X) → length xs ≡ 0 → xs ≡ []
 no_items [] e = refl
 no_items (x ∷ xs) e = absurd (omega arith)
 
+-- one caller more, the last one's first
 pub turned_round : {X : Type 0} (cs rest : List X) (u : X) → (cs ++ reverse rest) ++ u ∷ [] ≡ cs ++ reverse (u ∷ rest)
 turned_round cs rest u = append_assoc cs (reverse rest) (u ∷ []) ∙ ap (λ l. cs ++ l) (sym (reverse-append (u ∷ []) rest))
 
 module _ {Q A : Type 0} where
+  -- before the first seat none is joined ..
   pub none_joined : (inbox : ℕ) (slots : List (Line Q A)) (cs : List Caller) (c : Caller) (n : ℕ) (seats : List Seat) → AreJoined inbox slots cs seats →
       length slots ≤ n → AreHalfJoined inbox slots cs c n seats
   none_joined inbox slots cs c n seats all
       h = record { one_each = all.one_each; done = λ k slot s le lt. absurd (omega arith); left = λ k slot s lt there. all.each k slot s there }
 
+  -- .. and at the end all are
   pub all_joined : (inbox : ℕ) (slots : List (Line Q A)) (cs : List Caller) (c : Caller) (seats : List Seat) → AreHalfJoined inbox slots cs c 0 seats →
       AreJoined inbox slots (cs ++ c ∷ []) seats
   all_joined inbox slots cs c seats half = record {
@@ -76,6 +87,7 @@ module _ {Q A : Type 0} where
         subst (λ (vs : List View). IsJoined (book_at inbox k) (get_or slots k slot) vs (get_or seats k s)) e (half.done k slot s (omega arith) there);
   }
 
+  -- a seat that takes in another
   pub seat_joined : (book : BookOf) (slot : Line Q A) (vs : List View) (s t u : Seat) (caller : ℕ) → IsJoined book slot vs s → IsSeat book slot caller u →
       IsPassOf slot t.pass →
       view_of t ≡ both_of (view_of s) (view_of u) → IsJoined book slot (vs ++ view_of u ∷ []) t
@@ -110,6 +122,7 @@ module _ {Q A : Type 0} where
         (half.left j slot s (omega arith) lt);
   }
 
+  -- at an index whose seats are not joined yet: both are of the call
   pub ready_at : (inbox : ℕ) (slots : List (Line Q A)) (cs : List Caller) (c : Caller) (k : ℕ) (seats : List Seat) (slot : Line Q A) (s u : Seat) →
       AreHalfJoined inbox slots cs c (k + 1) seats →
       IsSeated inbox slots c → k < length slots → slot ≡ get_or slots k slot → s ≡ get_or seats k s → u ≡ get_or c.seats.items k u →
@@ -158,9 +171,11 @@ module _ {Q A : Type 0} where
     pub each : (k : ℕ) (slot : Line Q A) (s : Seat) → n ≤ k → k < length slots → IsJoined (book_at inbox k) (get_or slots k slot) (views_at k cs)
         (get_or seats k s)
 
+  -- before the first call all are left to be closed
   pub all_left : (inbox : ℕ) (slots : List (Line Q A)) (cs : List Caller) (seats : List Seat) → AreJoined inbox slots cs seats → AreLeft inbox slots cs 0 seats
   all_left inbox slots cs seats joined = record { one_each = joined.one_each; each = λ k slot s h there. joined.each k slot s there }
 
+  -- one call is closed
   pub fewer_left : (inbox : ℕ) (slots : List (Line Q A)) (cs : List Caller) (n : ℕ) (seats : List Seat) (t : Seat) → AreLeft inbox slots cs n seats →
       AreLeft inbox slots cs (n + 1) (set seats n t)
   fewer_left inbox slots cs n seats t left = record {
@@ -170,6 +185,7 @@ module _ {Q A : Type 0} where
         (left.each k slot s (omega arith) there);
   }
 
+  -- a call that is left to be closed, and its seat
   pub left_at : (inbox : ℕ) (slots : List (Line Q A)) (cs : List Caller) (n : ℕ) (seats : List Seat) (slot : Line Q A) (s : Seat) →
       AreLeft inbox slots cs n seats → n < length slots →
       slot ≡ get_or slots n slot → s ≡ get_or seats n s → IsJoined (book_at inbox n) slot (views_at n cs) s

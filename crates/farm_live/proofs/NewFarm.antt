@@ -19,11 +19,13 @@ use Rattle.farm_live.proofs.Rows.{same_default}
 
 -- ---- the numbers
 
+-- numbers in order, without the first ones
 drop_ascending : (i k n m j : ℕ) → m ≡ i + n → j ≡ i + k → drop i (ascending k m) ≡ ascending j n
 drop_ascending zero k n m j p q = let e : m ≡ n = omega arith in let f : k ≡ j = omega arith in ap (ascending k) e ∙ ap (λ x. ascending x n) f
 drop_ascending (suc i) k n zero j p q = absurd (omega arith)
 drop_ascending (suc i) k n (suc m) j p q = drop_ascending i (suc k) n m j (omega arith) (omega arith)
 
+-- the number i is the first that is left
 left_from : (i : ℕ) → i < 64 → (n : ℕ) × (drop i all_callers ≡ i ∷ ascending (suc i) n)
 unfolding all_callers
 left_from i h = (63 - i, drop_ascending i 0 (suc (63 - i)) 64 i (omega arith) (omega arith))
@@ -31,12 +33,14 @@ left_from i h = (63 - i, drop_ascending i 0 (suc (63 - i)) 64 i (omega arith) (o
 itself : (i : ℕ) → is_at i i ≡ 1
 itself i = let e : (i == i) ≡ true = grind (arith, common_steps) in ap bit e
 
+-- so it stands among the first, and among those that are left
 pub first_is : (i : ℕ) → i < 64 → 0 < times i (take 1 (drop i all_callers))
 first_is i h = let l = left_from i h in let one = itself i in subst (λ (ds : List ℕ). 0 < times i (take 1 ds)) (sym l.1) (omega arith)
 
 pub left_is : (i : ℕ) → i < 64 → 0 < times i (drop i all_callers)
 left_is i h = let l = left_from i h in let one = itself i in subst (λ (ds : List ℕ). 0 < times i ds) (sym l.1) (omega arith)
 
+-- one more is dropped
 drop_more : {X : Type 0} (i : ℕ) (xs : List X) → drop 1 (drop i xs) ≡ drop (suc i) xs
 drop_more zero [] = refl
 drop_more zero (x ∷ xs) = refl
@@ -52,6 +56,7 @@ drop_next i = let e : suc i ≡ i + 1 = omega arith in drop_more i all_callers �
 pub written_back : {X : Type 0} (xs rest : List X) (n : ℕ) → length xs ≡ n → take n (xs ++ rest) ≡ xs
 written_back xs rest n e = subst (λ (k : ℕ). take k (xs ++ rest) ≡ xs) e (take-append_seam xs rest)
 
+-- an index below k + 1 that is not k is below k
 not_last : (j k : ℕ) → j < k + 1 → j ≢ k → j < k
 not_last j k h ne = ⊎_elim (λ (lt : j < k). lt) (λ (le : k ≤ j). absurd (ne (let e : j ≡ k = omega arith in e))) (cases_lt j k)
 
@@ -59,6 +64,7 @@ not_last j k h ne = ⊎_elim (λ (lt : j < k). lt) (λ (le : k ≤ j). absurd (n
 pub first_numbers : (callers i : ℕ) → i + 1 < callers → take 1 (drop i all_callers) ≡ numbers_of callers i
 first_numbers callers i h = let e : (i + 1 == callers) ≡ false = grind (arith, common_steps) in rw e refl
 
+-- the last caller has all numbers that are left
 pub last_numbers : (callers i : ℕ) → i + 1 ≡ callers → drop i all_callers ≡ numbers_of callers i
 last_numbers callers i h = let e : (i + 1 == callers) ≡ true = grind (arith, common_steps) in rw e refl
 
@@ -75,6 +81,7 @@ Line Q A = Slotted (Option Token) (Doing Token View) Q A
 module _ {Q A : Type 0} where
   -- ---- opening
 
+  -- no seats, and one seat more
   pub none_new : (cs : List ℕ) (inbox : ℕ) (slots : List (Line Q A)) → AreNew cs inbox slots []
   none_new cs inbox slots k slot s h = absurd (omega arith)
 
@@ -88,6 +95,7 @@ module _ {Q A : Type 0} where
   slot_more cs inbox slots slot seats len all k d s h =
       subst (λ (x : Line Q A). IsNewSeat cs (book_at inbox k) x (get_or seats k s)) (sym (get_or_append_left slots (slot ∷ []) d k (omega arith))) (all k d s h)
 
+  -- a new row with one call more
   pub row_more : (cs : List ℕ) (inbox : ℕ) (slots : List (Line Q A)) (seats : List Seat) (slot : Line Q A) (s : Seat) → IsNewRow cs inbox slots seats →
       IsNewSeat cs (book_at inbox (length slots)) slot s →
       IsNewRow cs inbox (slots ++ slot ∷ []) (seats ++ s ∷ [])
@@ -112,13 +120,16 @@ module _ {Q A : Type 0} where
         (get_or seats k s)
     pub left : (k : ℕ) (slot : Line Q A) (s : Seat) → n ≤ k → k < length seats → IsNewSeat cs (book_at inbox k) (get_or slots k slot) (get_or seats k s)
 
+  -- before the first call no seat is cut ..
   pub none_cut : (cs : List ℕ) (inbox : ℕ) (slots : List (Line Q A)) (seats : List Seat) → IsNewRow cs inbox slots seats → AreCut cs inbox slots 0 seats
   none_cut cs inbox slots seats all = record { one_each = all.0; done = λ k slot s h. absurd (omega arith); left = λ k slot s h lt. all.1 k slot s lt }
 
+  -- .. and at the end all are ..
   pub all_cut : (cs : List ℕ) (inbox : ℕ) (slots : List (Line Q A)) (n : ℕ) (seats : List Seat) → AreCut cs inbox slots n seats → length slots ≤ n →
       IsNewRow (drop 1 cs) inbox slots seats
   all_cut cs inbox slots n seats cut h = (cut.one_each, λ k slot s lt. cut.done k slot s (omega (arith, cut.one_each)) lt)
 
+  -- .. one after another
   pub one_cut : (cs : List ℕ) (inbox : ℕ) (slots : List (Line Q A)) (k : ℕ) (seats : List Seat) (t : Seat) → AreCut cs inbox slots k seats → k < length slots →
       ((slot : Line Q A) → IsNewSeat (drop 1 cs) (book_at inbox k) (get_or slots k slot) t) → AreCut cs inbox slots (k + 1) (set seats k t)
   one_cut cs inbox slots k seats t cut there new = let long = length-set seats k t in record {
@@ -135,6 +146,7 @@ module _ {Q A : Type 0} where
 
   -- ---- the callers
 
+  -- new seats are those of the caller ..
   pub seats_are : (inbox caller : ℕ) (cs : List ℕ) (slots : List (Line Q A)) (seats : List Seat) → 0 < times caller cs → IsNewRow cs inbox slots seats →
       AreSeats inbox slots caller seats
   seats_are inbox caller cs slots seats mine row = record {
@@ -151,6 +163,7 @@ module _ {Q A : Type 0} where
         };
   }
 
+  -- .. and so the caller is a new one
   pub caller_is : (inbox callers i : ℕ) (slots : List (Line Q A)) (c : Caller) (cs : List ℕ) → c.number ≡ i → cs ≡ numbers_of callers i → 0 < times i cs →
       IsNewRow cs inbox slots c.seats.items →
       IsNewCaller inbox callers i slots c
@@ -162,12 +175,14 @@ module _ {Q A : Type 0} where
 
   -- ---- as first_row meets them
 
+  -- the seat at an index is new
   pub seat_at : (cs : List ℕ) (inbox : ℕ) (slots : List (Line Q A)) (k : ℕ) (seats : List Seat) (slot : Line Q A) (s : Seat) → AreCut cs inbox slots k seats →
       k < length seats → slot ≡ get_or slots k slot →
       IsNewSeat cs (book_at inbox k) slot (get_or seats k s)
   seat_at cs inbox slots k seats slot s cut there is =
       subst (λ (x : Line Q A). IsNewSeat cs (book_at inbox k) x (get_or seats k s)) (sym is) (cut.left k slot s (omega arith) there)
 
+  -- whatever stands past the lists
   pub at_any : (cs : List ℕ) (book : BookOf) (slots : List (Line Q A)) (k : ℕ) (slot : Line Q A) (s : Seat) → slot ≡ get_or slots k slot → k < length slots →
       IsNewSeat cs book slot s →
       (d : Line Q A) → IsNewSeat cs book (get_or slots k d) s

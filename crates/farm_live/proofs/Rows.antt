@@ -25,6 +25,7 @@ same_default (x ∷ xs) zero a b h = refl
 same_default (x ∷ xs) (suc i) a b h = same_default xs i a b (omega arith)
 
 module _ {Q A : Type 0} (inbox : ℕ) (slots : List (Slotted (Option Token) (Doing Token View) Q A)) (caller : ℕ) where
+  -- one seat of a caller changes
   pub seats_set : (seats : List Seat) (k : ℕ) (s : Seat) → AreSeats inbox slots caller seats → k < length slots →
       ((slot : Slotted (Option Token) (Doing Token View) Q A) → IsSeat (book_at inbox k) (get_or slots k slot) caller s) →
       AreSeats inbox slots caller (set seats k s)

@@ -16,6 +16,7 @@ use Rattle.farm_live.proofs.Records.{books_append, no_books, no_tokens, begins_i
 
 -- ---- every view after a change of one
 
+-- where each view fits the book, and a changed one does, all do
 pub fits_set : (now : BookState) (views : List View) (port : ℕ) (w : View) → FitsBook now w → ((j : ℕ) (u : View) → j ≢ port → get_elem? views j ≡ some u →
     FitsBook now u) → (j : ℕ) (u : View) → get_elem? (set views port w) j ≡ some u → FitsBook now u
 fits_set now views port w mine others j u e = ⊎_elim (λ (x : (j ≡ port) × (w ≡ u)). subst (FitsBook now) x.1 mine)
@@ -23,6 +24,7 @@ fits_set now views port w mine others j u e = ⊎_elim (λ (x : (j ≡ port) × 
 
 -- ---- the steps
 
+-- the mark is put into the slot
 pub marks : (n port : ℕ) (v : View) → Pushes IsSlot n port v Out (λ w. w ≡ v)
 marks n port v items views _ kept at = (
   v,
@@ -42,6 +44,7 @@ marks n port v items views _ kept at = (
 counted_fits : (now : BookState) (v : View) → FitsBook now v → FitsBook now (missed v)
 counted_fits now v f = record { held = f.held; seen = f.seen; made = f.made; is_of = f.is_of; few = f.few; rest = f.rest }
 
+-- the view that took the book fits it
 took_fits : (now b : BookState) (v : View) → (c : ℕ) × (0 < times c v.callers) → b ≡ now → FitsBook now v → FitsBook now (took v b)
 took_fits now b v one same f = record {
   held = λ _. same;
@@ -54,6 +57,7 @@ took_fits now b v one same f = record {
 
 -- ---- one that has all callers' numbers doesn't find the mark
 
+-- where a view has all callers' numbers and doesn't have the book, no view has it
 none_holds : (now : BookState) (views : List View) (port : ℕ) (v : View) → v.holds ≡ false → get_elem? views port ≡ some v →
     ((h : ℕ → ℕ) → weigh (has h) views ≡ weigh h all_callers) →
     ((j : ℕ) (u : View) → get_elem? views j ≡ some u → FitsBook now u) → 64 ≤ number_of_callers v → weigh held views ≡ 0
@@ -68,6 +72,7 @@ none_holds now views port v free at all fit mine = none_weigh held views (λ j u
     ap bit ((fit j u e).rest (no_callers u.callers none)))
     (cases_eq j port))
 
+-- the book is taken, or the mark is found
 pub takes : (n port : ℕ) (v : View) → n ≡ 1 → (c : ℕ) × (0 < times c v.callers) → v.holds ≡ false → PopsFrom IsSlot n port v (Took v)
 takes n port v one some_caller free (Here b) items views _ kept at =
     let w : View = took v b in
@@ -111,6 +116,7 @@ takes n port v one some_caller free Out items views long kept at = let w : View 
   },
 )
 
+-- who has the book finds the mark
 pub finds_mark : (n port : ℕ) (v : View) → v.holds ≡ true → PopsFrom IsSlot n port v (λ _ w. w ≡ v)
 finds_mark n port v mine (Here b) items views _ kept at = let one : bit v.holds ≡ 1 = ap bit mine in absurd (omega (arith, kept.1, at-le held views port v at))
 finds_mark n port v mine Out items views _ kept at = (
@@ -133,6 +139,7 @@ not_mine : (views : List View) (port j : ℕ) (v u : View) (c : ℕ) → ((h : �
     → 0 < times c u.callers → times c v.callers ≡ 0
 not_mine views port j v u c all at b ne has_it = omega (arith, once c, all (is_at c), both-le (has (is_at c)) views port j v u ne at b)
 
+-- the view that gave the book back fits it ..
 gave_fits : (v : View) (b : BookState) → FitsBook v.taken v → May v b → FitsBook b (gave v b)
 gave_fits v b f may = record {
   held = λ p. absurd (true≢false (sym p));
@@ -145,6 +152,7 @@ gave_fits v b f may = record {
   rest = λ _. refl;
 }
 
+-- the others' call is that of the book
 call_of_others : (views : List View) (port j : ℕ) (v u : View) (b : BookState) → ((h : ℕ → ℕ) → weigh (has h) views ≡ weigh h all_callers) →
     get_elem? views port ≡ some v → get_elem? views j ≡ some u → j ≢ port
     → FitsBook v.taken u → May v b → (c : ℕ) → 0 < times c u.callers → u.is_of ≡ b.is_of
@@ -154,6 +162,7 @@ call_of_others views port j v u b all at e ne f may c has_it =
     (omega (arith, x (is_at c), all (is_at c), both-le (has (is_at c)) views port j v u ne at e)))
     may.is_of
 
+-- .. and so do the others
 others_fit : (views : List View) (port j : ℕ) (v u : View) (b : BookState) → v.holds ≡ true → weigh held views ≤ 1 →
     ((h : ℕ → ℕ) → weigh (has h) views ≡ weigh h all_callers)
     → get_elem? views port ≡ some v → get_elem? views j ≡ some u → j ≢ port → FitsBook v.taken u → May v b → FitsBook b u
@@ -185,6 +194,7 @@ record_grown v b few f r may = record {
   known = λ c none. cut_grown v b c may.begins ∙ ap (λ l. l ++ of_caller c (added v b)) (r.known c none) ∙ may.own c (omega (arith, few c));
 }
 
+-- as many posts are in the book as all views made
 posts_counted : (v : View) (b : BookState) (views : List View) (port : ℕ) → length (record_of v.taken) ≡ weigh posts_made views → get_elem? views port
     ≡ some v → BeginsWith b v.taken
     → length (record_of b) ≡ weigh posts_made (set views port (gave v b))
@@ -194,6 +204,7 @@ posts_counted v b views port total at begins =
     let counted = weigh_set posts_made views port v (gave v b) at in
     omega arith
 
+-- the book is given back
 pub gives : (n port : ℕ) (v : View) (b : BookState) → v.holds ≡ true → May v b → Pushes IsSlot n port v (Here b) (Gave v (Here b))
 gives n port v b mine may items views _ kept at =
     let w : View = gave v b in

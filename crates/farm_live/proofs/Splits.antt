@@ -16,6 +16,7 @@ use Rattle.farm_live.proofs.Slots.{fits_set}
 
 -- ---- making, splitting and joining
 
+-- the first view fits the book that isn't there yet
 founder_fits : FitsBook no_book founder
 unfolding record_of
 founder_fits = record {
@@ -40,13 +41,16 @@ no_posts : length (record_of no_book) ≡ 0
 unfolding record_of
 no_posts = refl
 
+-- a slot without a book keeps the rule
 pub begins : IsSlot [] (founder ∷ [])
 begins = (no_book, refl, tt, no_record, λ h. omega arith, begins_at, no_posts)
 
+-- the first number and the others weigh as much as all
 cut_in_two : (h : ℕ → ℕ) (xs : List ℕ) → weigh h (take 1 xs) + weigh h (drop 1 xs) ≡ weigh h xs
 cut_in_two h [] = refl
 cut_in_two h (x ∷ xs) = omega arith
 
+-- a view with some of the callers of one that posted nothing fits the book
 part_fits : (now : BookState) (v w : View) → v.made ≡ [] → w.made ≡ [] → ((c : ℕ) → times c w.callers ≤ times c v.callers) → (w.holds ≡ true → w.taken ≡ now) →
     w.seen ≡ v.seen → w.is_of ≡ v.is_of → w.holds ≡ false → FitsBook now v → FitsBook now w
 part_fits now v w none new few held seen is_of free f = record {
@@ -59,6 +63,7 @@ part_fits now v w none new few held seen is_of free f = record {
   rest = λ _. free;
 }
 
+-- the first number goes to a view of its own
 pub forks : (port : ℕ) (v : View) → v.made ≡ [] → v.holds ≡ false → Forks IsSlot port v (rest_view v) (first_view v)
 forks port v none free items views kept at =
     let one : View = rest_view v in
@@ -78,6 +83,7 @@ forks port v none free items views kept at =
       omega (arith, kept.6, weigh_set posts_made views port v one at, weigh-append posts_made vs (rest ∷ [])),
     )
 
+-- a spent view fits each book
 spent_fits : (now : BookState) → FitsBook now spent
 spent_fits now =
     record {
@@ -93,11 +99,13 @@ front_of_none : (xs ys : List ℕ) → xs ++ ys ≡ [] → xs ≡ []
 front_of_none [] ys e = refl
 front_of_none (x ∷ xs) ys e = absurd (let long : length (x ∷ (xs ++ ys)) ≡ 0 = ap length e in omega arith)
 
+-- two views that are joined are of the same call
 joined_call : (now : BookState) (v w : View) → v.is_of ≡ w.is_of → FitsBook now v → FitsBook now w → (c n : ℕ) → n ≡ times c v.callers →
     0 < times c (v.callers ++ w.callers) → v.is_of ≡ now.is_of
 joined_call now v w is_of f g c zero e has_it = is_of ∙ g.is_of c (omega (arith, weigh-append (is_at c) v.callers w.callers))
 joined_call now v w is_of f g c (suc n) e has_it = f.is_of c (omega arith)
 
+-- the view of both fits the book
 joined_fits : (now : BookState) (v w : View) → v.is_of ≡ w.is_of → ((c : ℕ) → times c v.callers + times c w.callers ≤ 1) → FitsBook now v → FitsBook now w →
     FitsBook now (both_of v w)
 joined_fits now v w is_of few f g = record {
@@ -116,6 +124,7 @@ joined_fits now v w is_of few f g = record {
   rest = λ none. f.rest (front_of_none v.callers w.callers none);
 }
 
+-- one view takes in another
 pub merges : (port other : ℕ) (v w : View) → w.holds ≡ false → v.is_of ≡ w.is_of → Merges IsSlot port v other w (both_of v w) spent
 merges port other v w free is_of items views kept at ne there =
     let both : View = both_of v w in

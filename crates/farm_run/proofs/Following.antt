@@ -25,7 +25,7 @@ use Rattle.call_leg.specs.Periods.{CallPeriod}
 use Rattle.call_leg.specs.Settings.{Settings, new_settings, with_level, with_mode, with_bridge, without_bridge}
 use Rattle.run_spec.specs.Run.{Run, whole_in, periods_to, law_in}
 use Rattle.run_spec.specs.Now.{IsSoFar, settings_now, changed_by}
-use Rattle.run_spec.proofs.Standing.{open_facts, closed_kept, gone_is, gone_kept, opened_cases}
+use Rattle.run_spec.proofs.OpenCalls.{open_facts, closed_kept, gone_is, gone_kept, opened_cases}
 use Rattle.run_spec.proofs.Settling.{start_is}
 use Rattle.run_spec.proofs.Showing.{opens}
 use Rattle.run_spec.proofs.SoFar.{so_far_more}

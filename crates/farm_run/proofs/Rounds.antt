@@ -17,7 +17,8 @@ use Rattle.call_pair.specs.History.{period_at, alone_periods}
 use Rattle.run_spec.specs.Run.{Run, whole_in, up_in, pcm_in, ups_to, item_of, periods_to}
 use Rattle.run_spec.specs.Now.{NoOrderTo, has_period, bridge_now, handed_now, period_now, settings_now, settings_in}
 use Rattle.run_spec.proofs.Lists.{each_all, found}
-use Rattle.run_spec.proofs.Standing.{Standing, open_facts, gone_is, gone_later, lasts_parts}
+use Rattle.run_spec.proofs.Standing.{Standing, lasts_parts}
+use Rattle.run_spec.proofs.OpenCalls.{open_facts, gone_is, gone_later}
 use Rattle.run_spec.proofs.Settling.{start_is}
 use Rattle.run_spec.proofs.SoFar.{standing_now}
 use Rattle.run_spec.proofs.Bridging.{open_has, bridge_later, bridge_after, same_settings, settings_later}

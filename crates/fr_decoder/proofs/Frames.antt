@@ -22,7 +22,7 @@ use Rattle.fr_decoder.specs.Deemphasis.{truncated}
 use Rattle.fr_decoder.specs.Stands as decoder
 use Rattle.fr_decoder.specs.Memory.{home_memory, DecoderMemory}
 use Rattle.fr_decoder.specs.Step.{decoded_frame, decoded_in_turn, synthesised_blocks}
-use Rattle.fr_decoder.proofs.Runs.{add_fits}
+use Rattle.trau_num.proofs.Clamped.{add_word}
 use Rattle.fr_long.specs.Synthesis.{LtpBlock, residual_of}
 use Rattle.fr_decoder.specs.Blocks.{ltp_block, one_block, two_blocks, three_blocks, four_blocks, frame_residual}
 
@@ -159,7 +159,7 @@ unfolding truncated
 truncated-fits msr =
     let low = (floor_8 (add_of msr msr)).0 in
     let high = (floor_8 (add_of msr msr)).1 in
-    let f = add_fits msr msr in
+    let f = add_word msr msr in
     omega (arith, ints)
 
 pub samples-fit : (f : Fields) (past : List Fields) → All (λ x. FitsSigned w16 x) (samples_of f past)

@@ -39,6 +39,7 @@ sample_before-last_120 xs lag k l h =
     let place : length xs - 120 + (120 + k - lag) ≡ length xs + k - lag = omega arith in
     rw count (get_or-drop (length xs - 120) xs (120 + k - lag) (pos 0) ∙ ap (λ i. get_or xs i (pos 0)) place)
 
+-- a block looks back over the last 120 residuals alone
 residual_after-last_120 : (xs : List ℤ) (lag bc : ℕ) (erp : List ℤ) → 120 ≤ length xs → lag ≤ 120 →
     residual_after (last_120 xs) lag bc erp ≡ residual_after xs lag bc erp
 unfolding residual_after

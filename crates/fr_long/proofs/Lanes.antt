@@ -23,12 +23,6 @@ eight_words xs i fits = Each1-chunk (FitsSigned w16) i 8 xs (Each1-from_get_or (
 pub eight_numbers : (xs : List ℤ) → Each1 (FitsSigned w16) xs → map (to_z w32) (map (of_z w32) xs) ≡ xs
 eight_numbers xs p = lanes_kept w32 xs (Each1-weaker (FitsSigned w16) (FitsSigned w32) (λ x f. omega (arith, ints)) xs p)
 
--- a sum of halves, doubled
-pub doubled_sum : (g f : ℕ → ℤ) → ((k : ℕ) → g k *ℤ pos 2 ≡ f k) → (ks : List ℕ) (s t : ℤ) → s *ℤ pos 2 ≡ t →
-    fold ◌+ℤ◌ s (map g ks) *ℤ pos 2 ≡ fold ◌+ℤ◌ t (map f ks)
-doubled_sum g f h [] s t e = e
-doubled_sum g f h (k ∷ ks) s t e = let here = h k in doubled_sum g f h ks (s +ℤ g k) (t +ℤ f k) (omega (arith, ints))
-
 -- no sample of a scaled block is above 512, and what is past its end is 0
 pub scaled_all : (wt : List ℤ) → length wt ≡ 40 → AreScaled wt → (k : ℕ) → Within 512 (get_or wt k (pos 0))
 scaled_all wt l scaled k =
@@ -78,6 +72,7 @@ words_more ys xs start i e room words before k b =
 pub passed_scaled : (wt xs : List ℤ) (i : ℕ) → length wt ≡ 40 → AreScaled wt → xs ≡ chunk i 8 wt → map (to_z w32) (map (of_z w32) xs) ≡ chunk i 8 wt
 passed_scaled wt xs i l scaled e = lanes_passed 512 xs (chunk i 8 wt) (lit≤ tt) (scaled_lanes wt i l scaled) e
 
+-- lanes of scaled samples and of words are passed as they are, and stay within their bounds
 pub passed_scaled_within : (wt xs : List ℤ) (i : ℕ) → length wt ≡ 40 → AreScaled wt → xs ≡ chunk i 8 wt →
     Each1 (Within 512) (map (to_z w32) (map (of_z w32) xs))
 passed_scaled_within wt xs i l scaled e = subst (Each1 (Within 512)) (sym (passed_scaled wt xs i l scaled e)) (scaled_lanes wt i l scaled)
@@ -88,6 +83,7 @@ passed_words xs words = lanes_passed 32768 xs xs (lit≤ tt) words refl
 pub passed_words_within : (xs : List ℤ) → Each1 (Within 32768) xs → Each1 (Within 32768) (map (to_z w32) (map (of_z w32) xs))
 passed_words_within xs words = subst (Each1 (Within 32768)) (sym (passed_words xs words)) words
 
+-- eight products of a row, as numbers and as they are passed
 pub row_within : (wt earlier ys : List ℤ) (i at : ℕ) → length wt ≡ 40 → AreScaled wt → ys ≡ chunk at 8 earlier → Each1 (Within 32768) ys →
     Each1 (Within 16777216) (row wt earlier i at)
 row_within wt earlier ys i at l scaled e words =
@@ -126,6 +122,7 @@ pairs_of_two xs ys k l =
 
 -- ---- four vectors, added by pairs twice
 
+-- two lists side by side
 joined_within : (P : ℤ → Type 0) (xs ys : List ℤ) → Each1 P xs → Each1 P ys → Each1 P (xs ++ ys)
 joined_within P [] ys p q = q
 joined_within P (x ∷ xs) ys p q = (p.0, joined_within P xs ys p.1 q)
@@ -134,6 +131,7 @@ joined_within P (x ∷ xs) ys p q = (p.0, joined_within P xs ys p.1 q)
 pub kept : (m : ℕ) (xs : List ℤ) → m ≤ 1073741823 → Each1 (Within m) xs → map (to_z w32) (map (of_z w32) xs) ≡ xs
 kept m xs l p = lanes_passed m xs xs l p refl
 
+-- four sums beside four others, and their neighbours added
 pub both_passed : (m : ℕ) (a b : List ℤ) → m ≤ 1073741823 → Each1 (Within m) a → Each1 (Within m) b →
     Each1 (Within 1073741823) (map (to_z w32) (map (of_z w32) a) ++ map (to_z w32) (map (of_z w32) b))
 both_passed m a b l p q =
@@ -171,6 +169,7 @@ four_totals p q r s lp lq lr ls =
     flat : (a b c d : ℤ) → (a +ℤ b) +ℤ (c +ℤ d) ≡ fold ◌+ℤ◌ (pos 0) (a ∷ b ∷ c ∷ d ∷ [])
     flat a b c d = omega (arith, ints)
 
+-- the bound of a lag's sum
 pub total_within : (p : List ℤ) → length p ≡ 4 → Each1 (Within 167772160) p → Within 671088640 (fold ◌+ℤ◌ (pos 0) p)
 total_within p l =
     by_four (λ zs. Each1 (Within 167772160) zs → Within 671088640 (fold ◌+ℤ◌ (pos 0) zs))

@@ -38,6 +38,7 @@ pub is_prediction : (d earlier : List ℤ) → IsPrediction d earlier (predictio
 unfolding prediction_of
 is_prediction d earlier = record { lag = has_lag (correlation_of_block d earlier); gain = refl; predicted = refl; rest = refl }
 
+-- what has the property is the prediction, so there is one
 pub prediction_is : (d earlier : List ℤ) (p : Prediction) → IsPrediction d earlier p → p ≡ prediction_of d earlier
 unfolding prediction_of
 prediction_is d earlier p h =
@@ -51,6 +52,7 @@ prediction_is d earlier p h =
 pub same : (d earlier : List ℤ) (p q : Prediction) → IsPrediction d earlier p → IsPrediction d earlier q → p ≡ q
 same d earlier p q h k = prediction_is d earlier p h ∙ sym (prediction_is d earlier q k)
 
+-- correlation, power and prediction look back over the last 120 residuals alone
 correlation-last_120 : (wt xs : List ℤ) (lag : ℕ) → 120 ≤ length xs → lag ≤ 120 → correlation_of wt (last_120 xs) lag ≡ correlation_of wt xs lag
 unfolding correlation_of
 correlation-last_120 wt xs lag l h =
@@ -74,6 +76,7 @@ same_best f g lag e l h =
       greatest = λ m a b. let there = e m b in let above = h.greatest m a b in omega (arith, ints);
     }
 
+-- a lag by correlations that agree
 same_lag : (f g : ℕ → ℤ) (lag : ℕ) → ((m : ℕ) → m ≤ 120 → f m ≡ g m) → IsLag f lag → IsLag g lag
 same_lag f g lag e h =
     let here = e lag h.at_most in

@@ -58,7 +58,7 @@ pub(crate) fn correlations(wt: &[i16; 40], earlier: &[i16; 120]) -> [i32; 81]
 
 // Half of the correlations at four lags, from `lag` on.
 //
-// It stays a call of its own: within a loop over the lags, the compiler would widen the block once before
+// It isn't inlined: within a loop over the lags, the compiler would widen the block once before
 // the loop, and then no longer find products of 16 bits.
 #[inline(never)]
 fn four(wt: &[i16; 40], earlier: &[i16; 120], lag: u8) -> i32x4

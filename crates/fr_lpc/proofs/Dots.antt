@@ -48,7 +48,7 @@ past_small s past l h z e k =
       ]
     ]
 
--- what a call is passed
+-- what a function is passed
 pub passed : (xs ys : List ℤ) (i : ℕ) → AreSmall ys → xs ≡ chunk i 8 ys → map (to_z w32) (map (of_z w32) xs) ≡ chunk i 8 ys
 passed xs ys i h e = lanes_passed 2048 xs (chunk i 8 ys) (lit≤ tt) (small_chunk ys i h) e
 

@@ -9,6 +9,7 @@ use Rattle.std.proofs.lemmas.List.Sums.{fold-append}
 use Rattle.trau_num.specs.Num.{clamp32, l_mult_of, entry}
 use Rattle.fr_lpc.specs.Scaling.{AreWithin}
 use Rattle.fr_lpc.specs.Autocorrelation.{autocorrelation_of, plain_autocorrelation}
+use Rattle.trau_lanes.proofs.LaneDots.{doubled_sum}
 
 -- twice a small product isn't clamped
 pub unclamped : (a b z : ℤ) → z ≡ a *ℤ b → unsigned_abs z ≤ 4194304 → l_mult_of a b ≡ z *ℤ pos 2
@@ -131,12 +132,6 @@ greatest_first s h k l =
     let part : energy s (160 - k) ≤ energy s (160 - k + k) = energy_le s (160 - k) k in
     let front' : energy s (160 - k + k) ≡ energy s 160 = ap (energy s) front in
     omega (arith, ints)
-
--- a sum of halves, doubled
-doubled_sum : (g f : ℕ → ℤ) → ((k : ℕ) → g k *ℤ pos 2 ≡ f k) → (ks : List ℕ) (s t : ℤ) → s *ℤ pos 2 ≡ t →
-    fold ◌+ℤ◌ s (map g ks) *ℤ pos 2 ≡ fold ◌+ℤ◌ t (map f ks)
-doubled_sum g f h [] s t e = e
-doubled_sum g f h (k ∷ ks) s t e = let here = h k in doubled_sum g f h ks (s +ℤ g k) (t +ℤ f k) (omega (arith, ints))
 
 -- half of it, as eight lanes sum it
 abbrev pub plain_sum : List ℤ → ℕ → ℤ

@@ -4,7 +4,7 @@ use Rattle.std.specs.Simd.Lanes.{zip2, Each1}
 use Rattle.trau_num.specs.Num.{sub_of, add_of, mult_r_of}
 use Rattle.trau_lanes.specs.Lanes.{EightWords, EightFactors}
 use Rattle.trau_lanes.proofs.Eight.{lanes_kept, by_eight, by_pairs, eight_same}
-use Rattle.trau_lanes.proofs.LaneSums.{sub_word}
+use Rattle.trau_num.proofs.Clamped.{sub_word}
 use Rattle.std.proofs.lemmas.List.{length-set, drop_all, take_all, length-map}
 use Rattle.std.proofs.lemmas.Grind.{take-set_at}
 use Rattle.std.proofs.lemmas.Nat.{mod_below}

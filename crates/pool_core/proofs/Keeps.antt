@@ -8,15 +8,18 @@ use Rattle.pool_core.specs.declared.step.PoolStep.{PoolStep}
 use Rattle.pool_core.specs.declared.step.PoolStep.TheVariants.{Pop, Steal, Run, Push, Finish}
 use Rattle.pool_core.specs.Machine.{PoolState, deque, hand, is_worker, is_empty, can_take, is_under_way, is_complete, is_legal, taken, run, pushed, completed, moved, stepped, is_job, times_in, in_hand, fills, TakesJob, IsState}
 
+-- one item more
 pub times_more : (job : ℕ) (xs : List ℕ) (x : ℕ) → times_in job (xs ++ x ∷ []) ≡ times_in job xs + is_job job x
 times_more job xs x = sum_by-append (is_job job) xs (x ∷ []) ∙ ap (λ n. times_in job xs + n) (sum_by-cons (is_job job) x [] ∙ omega arith)
 
 -- ---- what a legal step shows
 
+-- a free hand
 none_of : (o : Option ℕ) → is_none o ≡ true → o ≡ None
 none_of None e = refl
 none_of (Some x) e = cc
 
+-- what a legal step tells of its workers
 pub legal_pop : (s : PoolState) (w : ℕ) → is_legal s (Pop w) ≡ true → TakesJob s w w
 legal_pop s w e =
     let p = and_parts (is_worker s w) (can_take s w w) e in
@@ -58,6 +61,7 @@ hands_set (x ∷ xs) (suc w) o P h all (suc v) = hands_set xs w o P h (λ u. all
 abbrev pub Below : ℕ → List ℕ → Type 0
 Below n jobs = (k : ℕ) → k < length jobs → get_or jobs k 0 < n
 
+-- one deque is changed, and each still has jobs of the pool alone
 deques_set : (n : ℕ) (deques : List (List ℕ)) (w : ℕ) (jobs : List ℕ) → Below n jobs → ((v : ℕ) → Below n (get_or deques v [])) → (v : ℕ) →
     Below n (get_or (set deques w jobs) v [])
 deques_set n [] w jobs h all v = all v
@@ -66,6 +70,7 @@ deques_set n (x ∷ xs) zero jobs h all (suc v) = all (suc v)
 deques_set n (x ∷ xs) (suc w) jobs h all zero = all zero
 deques_set n (x ∷ xs) (suc w) jobs h all (suc v) = deques_set n xs w jobs h (λ u. all (suc u)) v
 
+-- a list without its first job, and one with a job more
 below_tail : (n job : ℕ) (jobs : List ℕ) → Below n (job ∷ jobs) → Below n jobs
 below_tail n job jobs h k l = h (suc k) (omega arith)
 
@@ -102,6 +107,7 @@ taken_keeps s w v (job ∷ jobs) i t e =
           omega (arith, i.all);
     }
 
+-- each step keeps what the machine keeps: a run ..
 pub run_keeps : (s : PoolState) (w p : ℕ) (o : Option ℕ) → IsState s → hand s w ≡ o → IsState (run s p o)
 run_keeps s w p None i e = i
 run_keeps s w p (Some job) i e = record {
@@ -134,9 +140,11 @@ run_keeps s w p (Some job) i e = record {
             same (x ∷ xs) zero n l = absurd (omega arith)
             same (x ∷ xs) (suc i) n l = ap (λ ys. x ∷ ys) (same xs i n (omega arith))
 
+-- a hand holds a job of the pool
 held_below : (s : PoolState) (w job : ℕ) → IsState s → hand s w ≡ Some job → job < length s.lens
 held_below s w job i e = subst (λ (o : Option ℕ). IfSome o (λ job. job < length s.lens)) e (i.holding w)
 
+-- .. a push ..
 pub pushed_keeps : (s : PoolState) (w : ℕ) (o : Option ℕ) → IsState s → w < length s.hands → hand s w ≡ o → IsState (pushed s w o)
 pushed_keeps s w None i lw e = i
 pushed_keeps s w (Some job) i lw e =
@@ -163,6 +171,7 @@ pushed_keeps s w (Some job) i lw e =
           omega (arith, i.all);
     }
 
+-- .. a finish ..
 pub completed_keeps : (s : PoolState) (w : ℕ) (o : Option ℕ) → IsState s → w < length s.hands → hand s w ≡ o → IsState (completed s w o)
 completed_keeps s w None i lw e = i
 completed_keeps s w (Some job) i lw e = record {
@@ -184,6 +193,7 @@ completed_keeps s w (Some job) i lw e = record {
       omega (arith, i.all);
 }
 
+-- .. any legal step ..
 pub moved_keeps : (s : PoolState) (x : PoolStep) → IsState s → is_legal s x ≡ true → IsState (moved s x)
 moved_keeps s (Pop w) i e = taken_keeps s w w (deque s w) i (legal_pop s w e) refl
 moved_keeps s (Steal t v) i e = taken_keeps s t v (deque s v) i (legal_steal s t v e) refl
@@ -191,6 +201,7 @@ moved_keeps s (Run w p) i e = run_keeps s w p (hand s w) i refl
 moved_keeps s (Push w) i e = pushed_keeps s w (hand s w) i (legal_push s w e) refl
 moved_keeps s (Finish w) i e = completed_keeps s w (hand s w) i (legal_finish s w e) refl
 
+-- .. and any step
 pub stepped_keeps : (s : PoolState) (x : PoolStep) → IsState s → IsState (stepped s x)
 stepped_keeps s x i = by s x i (is_legal s x) refl
   where

@@ -14,6 +14,7 @@ use Rattle.pool_core.proofs.Rows.{jobs_of-append, deque_at, deques_push, jobs_re
 abbrev pub Owned : List Waiting → ℕ → Type 0
 Owned ws n = (k : ℕ) (d : Waiting) → k < length ws → (get_or ws k d).worker < n
 
+-- each entry has a worker of the pool, with one entry more and with one removed
 pub owned_more : (ws : List Waiting) (y : Waiting) (n : ℕ) → Owned ws n → y.worker < n → Owned (ws ++ y ∷ []) n
 owned_more [] y n h l zero d m = l
 owned_more [] y n h l (suc k) d m = absurd (omega arith)
@@ -29,12 +30,14 @@ owned_removed (x ∷ ws) (suc i) n h (suc k) d m = owned_removed ws i n (λ j e 
 
 -- ---- the start
 
+-- one job more is dealt
 pub jobs_dealt : (ws : List Waiting) (workers n : ℕ) → ((w : ℕ) → jobs_of ws w ≡ dealt workers n w) → (w : ℕ) →
     jobs_of (ws ++ record { job = n; worker = n % workers } ∷ []) w ≡ dealt workers (n + 1) w
 jobs_dealt ws workers n h w =
     jobs_of-append ws (record { job = n; worker = n % workers } ∷ []) w
     ∙ ap (λ jobs. jobs ++ (if n % workers == w then n ∷ [] else [])) (h w) ∙ sym (dealt_more workers n w)
 
+-- the state of a new pool is the machine's at its start
 pub new_state : (lens : List ℕ) (ws : List Waiting) (workers : ℕ) → ((w : ℕ) → jobs_of ws w ≡ dealt workers (length lens) w) →
     pool_state lens (replicate (length lens) 0) ws (replicate workers None) [] ≡ pool_start workers lens
 new_state lens ws workers h =
@@ -49,6 +52,7 @@ new_state lens ws workers h =
     })
     (let e : jobs_of ws ≡ dealt workers (length lens) = λ i. λ w. h w i in e)
 
+-- what the code keeps of it
 pub new_pool : (lens : List ℕ) (ws : List Waiting) (workers : ℕ) → 0 < workers → workers ≤ 64 → ((w : ℕ) → jobs_of ws w ≡ dealt workers (length lens) w) →
     Owned ws workers →
     IsPool lens (replicate (length lens) 0) ws (replicate workers None) []
@@ -61,6 +65,7 @@ new_pool lens ws workers some few h owned =
       state = subst IsState (sym (new_state lens ws workers h)) (start_state workers lens some);
     }
 
+-- the same, by the lists that the code makes
 pub new_state_by : (given lens places : List ℕ) (ws : List Waiting) (hands : List (Option ℕ)) (finished : List ℕ) (workers : ℕ) → lens ≡ given →
     places ≡ replicate (length given) 0 → hands ≡ replicate workers None → finished ≡ [] →
     ((w : ℕ) → jobs_of ws w ≡ dealt workers (length given) w) → pool_state lens places ws hands finished ≡ pool_start workers given
@@ -80,6 +85,7 @@ new_pool_by given lens places ws hands finished workers l p h f some few d owned
 
 -- ---- a job is taken
 
+-- the entry in front of a worker's is the front of its deque
 front_jobs : (ws : List Waiting) (n v i : ℕ) (d : Waiting) → IsFront ws v i → v < n → get_or (deques_of ws n) v [] ≡ (get_or ws i d).job ∷ jobs_of
     (take i ws ++ drop (suc i) ws) v
 front_jobs ws n v i d f l = deque_at ws n v l ∙ jobs_removed ws v i d f
@@ -87,15 +93,18 @@ front_jobs ws n v i d f l = deque_at ws n v l ∙ jobs_removed ws v i d f
 pub front_some : (ws : List Waiting) (n v i : ℕ) → IsFront ws v i → v < n → is_empty (get_or (deques_of ws n) v []) ≡ false
 front_some ws n v i f l = ap is_empty (front_jobs ws n v i (record { job = 0; worker = 0 }) f l)
 
+-- a worker without an entry has an empty deque
 pub front_none : (ws : List Waiting) (n v : ℕ) → jobs_of ws v ≡ [] → v < n → is_empty (get_or (deques_of ws n) v []) ≡ true
 front_none ws n v e l = ap is_empty (deque_at ws n v l ∙ e)
 
+-- nothing is taken of an empty deque
 pub taken_none : (lens places : List ℕ) (ws : List Waiting) (hands : List (Option ℕ)) (finished : List ℕ) (w v : ℕ) → jobs_of ws v ≡ [] → v < length hands →
     pool_state lens places ws hands finished ≡ taken (pool_state lens places ws hands finished) w v (deque (pool_state lens places ws hands finished) v)
 taken_none lens places ws hands finished w v e l =
     let s = pool_state lens places ws hands finished in
     sym (ap (taken s w v) (deque_at ws (length hands) v l ∙ e))
 
+-- to remove the entry and put its job into a hand is to take it ..
 pub taken_state : (lens places : List ℕ) (ws : List Waiting) (hands : List (Option ℕ)) (finished : List ℕ) (w v i : ℕ) (d : Waiting) → IsFront ws v i →
     v < length hands →
     pool_state lens places (take i ws ++ drop (suc i) ws) (set hands w (Some (get_or ws i d).job)) finished
@@ -110,6 +119,7 @@ taken_state lens places ws hands finished w v i d f l =
     (deques_removed ws (length hands) v i (jobs_of ms v) f l refl)
     ∙ sym (ap (taken s w v) (front_jobs ws (length hands) v i d f l))
 
+-- .. and the pool is one still
 pub taken_pool : (lens places : List ℕ) (ws : List Waiting) (hands : List (Option ℕ)) (finished : List ℕ) (w v i : ℕ) (d : Waiting) →
     IsPool lens places ws hands finished → IsFront ws v i →
     TakesJob (pool_state lens places ws hands finished) w v → IsPool lens places (take i ws ++ drop (suc i) ws) (set hands w (Some (get_or ws i d).job))
@@ -125,6 +135,7 @@ taken_pool lens places ws hands finished w v i d p f t =
 
 -- ---- a job is pushed
 
+-- to put the job of a hand behind the entries is to push it
 pub pushed_state : (lens places : List ℕ) (ws : List Waiting) (hands : List (Option ℕ)) (finished : List ℕ) (w job : ℕ) → w < length hands → get_or hands w None
     ≡ Some job →
     pool_state lens places (ws ++ record { job = job; worker = w } ∷ []) (set hands w None) finished ≡ pushed (pool_state lens places ws hands finished) w
@@ -166,6 +177,7 @@ room lens places ws hands finished w job p l e =
 pub hand_at : (hands : List (Option ℕ)) (w : ℕ) (read o : Option ℕ) → w < length hands → read ≡ get_or hands w read → read ≡ o → get_or hands w None ≡ o
 hand_at hands w read o l e q = get_or_default hands w None read l ∙ sym e ∙ q
 
+-- a hand without a job is free
 pub none_free : (o : Option ℕ) (b : Bool) → is_some o ≡ not b → b ≡ true → is_none o ≡ true
 none_free None b e q = refl
 none_free (Some x) b e q = cc

@@ -10,6 +10,7 @@ use Rattle.pool_core.specs.Steps.{after, step_periods, runs}
 use Rattle.pool_core.proofs.Keeps.{stepped_keeps}
 use Rattle.pool_core.proofs.Start.{start_state, zero_at}
 
+-- one step more
 pub after-append : (s : PoolState) (xs : List PoolStep) (x : PoolStep) → after s (xs ++ x ∷ []) ≡ stepped (after s xs) x
 after-append s [] x = refl
 after-append s (y ∷ xs) x = after-append (stepped s y) xs x
@@ -18,18 +19,21 @@ after-append s (y ∷ xs) x = after-append (stepped s y) xs x
 pub stepped_after : (start s n : PoolState) (xs : List PoolStep) (x : PoolStep) → n ≡ stepped s x → s ≡ after start xs → n ≡ after start (xs ++ x ∷ [])
 stepped_after start s n xs x e a = e ∙ ap (λ (s : PoolState). stepped s x) a ∙ sym (after-append start xs x)
 
+-- a legal step does what it says, and another changes nothing
 pub legal_stepped : (s n : PoolState) (x : PoolStep) → is_legal s x ≡ true → n ≡ moved s x → n ≡ stepped s x
 legal_stepped s n x l e = e ∙ sym (ap (λ (b : Bool). if b then moved s x else s) l)
 
 pub other_stepped : (s : PoolState) (x : PoolStep) → is_legal s x ≡ false → s ≡ stepped s x
 other_stepped s x l = sym (ap (λ (b : Bool). if b then moved s x else s) l)
 
+-- each list of steps keeps what the machine keeps
 pub after_keeps : (s : PoolState) (xs : List PoolStep) → IsState s → IsState (after s xs)
 after_keeps s [] i = i
 after_keeps s (x ∷ xs) i = after_keeps (stepped s x) xs (stepped_keeps s x i)
 
 -- ---- what a step leaves
 
+-- no step changes the lengths ..
 taken_lens : (s : PoolState) (w v : ℕ) (jobs : List ℕ) → ((taken s w v jobs).lens ≡ s.lens) × ((taken s w v jobs).places ≡ s.places)
 taken_lens s w v [] = (refl, refl)
 taken_lens s w v (job ∷ jobs) = (refl, refl)
@@ -60,6 +64,7 @@ chosen_lens s x false = refl
 pub stepped_lens : (s : PoolState) (x : PoolStep) → (stepped s x).lens ≡ s.lens
 stepped_lens s x = chosen_lens s x (is_legal s x)
 
+-- .. and no list of steps
 pub after_lens : (s : PoolState) (xs : List PoolStep) → (after s xs).lens ≡ s.lens
 after_lens s [] = refl
 after_lens s (x ∷ xs) = after_lens (stepped s x) xs ∙ stepped_lens s x
@@ -93,9 +98,11 @@ run_place s p job (Some other) i h = elim (cases_eq other job) [
       omega arith
 ]
 
+-- a place stays where no step runs its job
 stays : (s : PoolState) (places : List ℕ) (job : ℕ) → IsState s → places ≡ s.places → get_or places job 0 ≡ min (len s job) (place s job + 0)
 stays s places job i e = let a = ap (λ (xs : List ℕ). get_or xs job 0) e in let w = i.within job in omega arith
 
+-- a step runs a job by its periods, up to its length
 moved_place : (s : PoolState) (x : PoolStep) (job : ℕ) → IsState s → job < length s.lens → (b : Bool) → is_legal s x ≡ b →
     place (if b then moved s x else s) job ≡ min (len s job) (place s job + step_periods s job x)
 moved_place s (Pop w) job i h true e = stays s (taken s w w (deque s w)).places job i (taken_lens s w w (deque s w)).1
@@ -111,6 +118,7 @@ moved_place s (Push w) job i h false e = stays s s.places job i refl
 moved_place s (Finish w) job i h true e = stays s (completed s w (hand s w)).places job i (completed_lens s w (hand s w)).1
 moved_place s (Finish w) job i h false e = stays s s.places job i refl
 
+-- so does a list of steps
 place_after : (s : PoolState) (xs : List PoolStep) (job : ℕ) → IsState s → job < length s.lens → place (after s xs) job
     ≡ min (len s job) (place s job + runs s job xs)
 place_after s [] job i h = stays s s.places job i refl

@@ -47,4 +47,5 @@ TakesClean before now t block = (octets : List ℕ) → before.to_come ≡ Some 
 
 -- A line that hadn't failed and whose count didn't rise gained all the octets.
 abbrev pub GivesClean : LineState → LineState → Outlet → Outlet → List ℕ → Type 0
-GivesClean before now was stands octets = has_failed was ≡ false → NotRose before.faults now.faults → (stands ≡ Sound) × Appends before.written now.written octets
+GivesClean before now was stands octets = has_failed was ≡ false → NotRose before.faults now.faults →
+    (stands ≡ Sound) × Appends before.written now.written octets

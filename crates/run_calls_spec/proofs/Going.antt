@@ -32,6 +32,7 @@ use Rattle.run_calls_spec.proofs.Sent.{made_first, kept_among, bridged_begins, C
 abbrev pub AreEnough : Type 0
 AreEnough = (call : Call) (m : ℕ) → IsWhole call → 2 * periods call ≤ m → made_among call m ≡ made_among call (2 * periods call)
 
+-- a frame whose last octet comes within the call is made
 is_made : AreEnough → (call : Call) (j : ℕ) → IsWhole call → when (frame_by_number call j).start < periods call → j < length (frames_of_call call)
 is_made enough call j whole l =
     let soon : NumberedFrame → Bool = λ f. nat_lt (when f.start) (periods call) in
@@ -39,7 +40,8 @@ is_made enough call j whole l =
     let each : (i : ℕ) → i < suc j → soon (frame_by_number call i) ≡ true =
     λ i m. let e = made_later call i j (omega arith) in lt-ltb (when (frame_by_number call i).start) (periods call) (omega arith) in
     let all : suc j ≤ count soon call (suc j) =
-    subst (λ n. suc j ≤ count soon call n) (sym (from_first (suc j))) (count_all soon call 0 (suc j) (λ i m. subst (λ k. soon (frame_by_number call k) ≡ true) (from_first i) (each i m))) in
+    subst (λ n. suc j ≤ count soon call n) (sym (from_first (suc j)))
+    (count_all soon call 0 (suc j) (λ i m. subst (λ k. soon (frame_by_number call k) ≡ true) (from_first i) (each i m))) in
     let more = count_more soon call (suc j) (2 * periods call + suc j) (omega arith) in
     let same : length (frames_of_call call) ≡ count soon call (2 * periods call + suc j) =
     length-reverse (made_among call (2 * periods call)) ∙ ap length (sym (enough call (2 * periods call + suc j) whole (omega arith))) in
@@ -47,13 +49,18 @@ is_made enough call j whole l =
 
 -- ---- the frames that carry items
 
-module _ (items : CarriesItems) (enough : AreEnough) (call : Call) (before after : List Span) (span : Span) (first : ℕ) (whole : IsWhole call) (among : call.spans ≡ before ++ span ∷ after)
+module _ (items : CarriesItems) (enough : AreEnough) (call : Call) (before after : List Span) (span : Span) (first : ℕ) (whole : IsWhole call)
+    (among : call.spans ≡ before ++ span ∷ after)
     (is_first : IsFirstOfSpan call span first) where
   -- the frame of item m, where those of the items before it are made
-  next_made : (m : ℕ) → m < span.to - span.from → span.from + m + 1 < periods call → ((i : ℕ) → i < m → first + i < length (frames_of_call call)) → first + m < length (frames_of_call call)
+  next_made : (m : ℕ) → m < span.to - span.from → span.from + m + 1 < periods call → ((i : ℕ) → i < m → first + i < length (frames_of_call call)) →
+      first + m < length (frames_of_call call)
   next_made m l e earlier =
       let start = item_start call first m
-      (λ i k. (span.from + i, items call before after span (first + i) i whole among (earlier i k) ((item_place call span first (first + i) i is_first (omega arith)).1 refl))) in
+      (λ i k. (
+        span.from + i,
+        items call before after span (first + i) i whole among (earlier i k) ((item_place call span first (first + i) i is_first (omega arith)).1 refl),
+      )) in
       let low = first_start call span first is_first in
       is_made enough call (first + m) whole (omega arith)
 
@@ -64,19 +71,24 @@ module _ (items : CarriesItems) (enough : AreEnough) (call : Call) (before after
       let earlier = items_made m (omega arith) (omega arith) in
       elim (cases_lt i m) [
         | inl old ↦ earlier i old
-        | inr new ↦ let same : m ≡ i = omega arith in subst (λ i. first + i < length (frames_of_call call)) same (next_made m (omega arith) (omega arith) earlier)
+        | inr new ↦
+            let same : m ≡ i = omega arith in subst (λ i. first + i < length (frames_of_call call)) same (next_made m (omega arith) (omega arith) earlier)
       ]
 
 -- **What is handed over goes out, but that of the call's very last period.**
-pub handed_goes : CarriesItems → AreEnough → (r : Run) (c t : ℕ) (x : board.Span) → AreOrders r.orders → IsBridged r c t x → t + 1 < end_in r c → (j : ℕ) × Sends r c t x j
+pub handed_goes : CarriesItems → AreEnough → (r : Run) (c t : ℕ) (x : board.Span) → AreOrders r.orders → IsBridged r c t x → t + 1 < end_in r c →
+    (j : ℕ) × Sends r c t x j
 handed_goes items enough r c t x a b l =
     let call = whole_call r c in
     let k = bridged_lies r c t x a b in
     let among = kept_among (begins_in r c) (span_for r c) (spans_in r) x b.span (bridged_begins r c t x a b) in
     let f = first_made call (span_for r c x) in
     let n = placed (start_in r c) x.from t x.to (end_in r c) k.opened b.begun b.lasts l in
-    let soon : (span_for r c x).from + suc (t - x.from) < periods call = subst (λ n. x.from - start_in r c + suc (t - x.from) < n) (sym (count_periods r c)) n.1 in
-    let is = items_made items enough call among.0 among.1 (span_for r c x) f.0 (is_whole r c a k.known) among.2 f.1 (suc (t - x.from)) n.0 soon (t - x.from) (omega arith) in
+    let soon : (span_for r c x).from + suc (t - x.from) < periods call =
+    subst (λ n. x.from - start_in r c + suc (t - x.from) < n) (sym (count_periods r c)) n.1 in
+    let is =
+    items_made items enough call among.0 among.1 (span_for r c x) f.0 (is_whole r c a k.known) among.2 f.1 (suc (t - x.from)) n.0 soon (t - x.from)
+    (omega arith) in
     (f.0 + (t - x.from), record { bridged = b; made = is; carries = (handed_place r c t x f.0 (f.0 + (t - x.from)) a b f.1).1 refl })
   where
     placed : (s from t to e : ℕ) → s ≤ from → from ≤ t → t < to → t + 1 < e → (suc (t - from) ≤ (to - s) - (from - s)) × (from - s + suc (t - from) < e - s)
@@ -96,10 +108,17 @@ handed_soon items enough r c t x j a b h =
     let n = placed (start_in r c) x.from t x.to (end_in r c) k.opened b.begun b.lasts k.over in
     let before : span.from + (t - x.from) < periods call = subst (λ n. x.from - start_in r c + (t - x.from) < n) (sym (count_periods r c)) n.1 in
     let made = items_made items enough call among.0 among.1 span f.0 (is_whole r c a k.known) among.2 f.1 (t - x.from) n.0 before in
-    let each : (i : ℕ) → i < t - x.from → (h : ℕ) × ((frame_by_number call (f.0 + i)).carries ≡ Some h) = λ i l. (span.from + i, items call among.0 among.1 span (f.0 + i) i (is_whole r c a k.known) among.2 (made i l) ((item_place call span f.0 (f.0 + i) i f.1 (less i l n.0)).1 refl)) in
-    let start : (frame_by_number call (f.0 + (t - x.from))).start ≡ (frame_by_number call f.0).start + 160 * (t - x.from) = item_start call f.0 (t - x.from) each in
+    let each : (i : ℕ) → i < t - x.from → (h : ℕ) × ((frame_by_number call (f.0 + i)).carries ≡ Some h) =
+    λ i l. (
+      span.from + i,
+      items call among.0 among.1 span (f.0 + i) i (is_whole r c a k.known) among.2 (made i l)
+          ((item_place call span f.0 (f.0 + i) i f.1 (less i l n.0)).1 refl),
+    ) in
+    let start : (frame_by_number call (f.0 + (t - x.from))).start ≡ (frame_by_number call f.0).start + 160 * (t - x.from) =
+    item_start call f.0 (t - x.from) each in
     let place : j ≡ f.0 + (t - x.from) = (handed_place r c t x f.0 j a b f.1).0 h in
-    let here : (frame_by_number call j).start ≡ (frame_by_number call f.0).start + 160 * (t - x.from) = ap (λ (i : ℕ). (frame_by_number call i).start) place ∙ start in
+    let here : (frame_by_number call j).start ≡ (frame_by_number call f.0).start + 160 * (t - x.from) =
+    ap (λ (i : ℕ). (frame_by_number call i).start) place ∙ start in
     soon (start_in r c) x.from t (frame_by_number call f.0).start (frame_by_number call j).start k.opened b.begun f.1.begun (first_start call span f.0 f.1) here
   where
     placed : (s from t to e : ℕ) → s ≤ from → from ≤ t → t < to → to ≤ e → (t - from ≤ (to - s) - (from - s)) × (from - s + (t - from) < e - s)
@@ -108,7 +127,8 @@ handed_soon items enough r c t x j a b h =
     less : (i : ℕ) → i < t - x.from → t - x.from ≤ (span_for r c x).to - (span_for r c x).from → i < (span_for r c x).to - (span_for r c x).from
     less i l m = omega arith
 
-    soon : (s from t first start : ℕ) → s ≤ from → from ≤ t → from - s ≤ when first → first ≤ 160 * (from - s) + 156 → start ≡ first + 160 * (t - from) → (t ≤ s + when start) × (s + when start ≤ t + 1)
+    soon : (s from t first start : ℕ) → s ≤ from → from ≤ t → from - s ≤ when first → first ≤ 160 * (from - s) + 156 → start ≡ first + 160 * (t - from) →
+        (t ≤ s + when start) × (s + when start ≤ t + 1)
     soon s from t first start k l m n e = (omega arith, omega arith)
 
 -- **So between periods only that of the period just over waits.**
@@ -127,7 +147,8 @@ one_waits items enough r c u t x a w =
 filter_reverse : {X : Type 0} (p : X → Bool) (xs : List X) → length (filter p (reverse xs)) ≡ length (filter p xs)
 filter_reverse p [] = refl
 filter_reverse p (x ∷ xs) =
-    ap (λ ys. length (filter p ys)) (reverse-more x xs) ∙ ap length (filter-append p (reverse xs) (x ∷ [])) ∙ length-append (filter p (reverse xs)) (filter p (x ∷ [])) ∙ by (p x) (filter_reverse p xs)
+    ap (λ ys. length (filter p ys)) (reverse-more x xs) ∙ ap length (filter-append p (reverse xs) (x ∷ []))
+    ∙ length-append (filter p (reverse xs)) (filter p (x ∷ [])) ∙ by (p x) (filter_reverse p xs)
   where
     by : (b : Bool) → length (filter p (reverse xs)) ≡ length (filter p xs) →
         length (filter p (reverse xs)) + length (if b then x ∷ [] else []) ≡ length (if b then x ∷ filter p xs else filter p xs)
@@ -148,16 +169,20 @@ abbrev of_span : Run → ℕ → board.Span → NumberedFrame → Bool
 of_span r c x f = carries_in (x.from - start_in r c) (x.to - start_in r c) f.carries
 
 -- **The report counts the frames that are made.**
-pub sent_counted : (r : Run) (c : ℕ) (x : board.Span) → AreOrders r.orders → is_some (opened_at c (done_in r)) ≡ true → sent_by r x c ≡ length (filter (of_span r c x) (frames_of_call (whole_call r c)))
+pub sent_counted : (r : Run) (c : ℕ) (x : board.Span) → AreOrders r.orders → is_some (opened_at c (done_in r)) ≡ true →
+    sent_by r x c ≡ length (filter (of_span r c x) (frames_of_call (whole_call r c)))
 sent_counted r c x a o =
     let whole = is_whole r c a o in
     let history = history_same r c a in
     let read : frames_of_call (whole_call r c) ≡ reverse (map numbered_of (frames_of (periods_in r c))) =
-    ap frames_of_call (sym (call-whole (whole_call r c) whole)) ∙ made-read (who_in r c) _ (history-whole (whole_call r c) whole) ∙ ap (λ ts. reverse (map numbered_of (frames_of ts))) history in
-    sym (ap (λ fs. length (filter (of_span r c x) fs)) read ∙ filter_reverse (of_span r c x) (map numbered_of (frames_of (periods_in r c))) ∙ filter_map (of_span r c x) numbered_of (frames_of (periods_in r c)))
+    ap frames_of_call (sym (call-whole (whole_call r c) whole)) ∙ made-read (who_in r c) _ (history-whole (whole_call r c) whole)
+    ∙ ap (λ ts. reverse (map numbered_of (frames_of ts))) history in
+    sym (ap (λ fs. length (filter (of_span r c x) fs)) read ∙ filter_reverse (of_span r c x) (map numbered_of (frames_of (periods_in r c)))
+    ∙ filter_map (of_span r c x) numbered_of (frames_of (periods_in r c)))
 
 -- **Of what a call is handed in a span one frame at most is lost.**
-few_lost : CarriesItems → AreEnough → (r : Run) (c : ℕ) (x : board.Span) → AreOrders r.orders → Contains (spans_in r) x → is_of c x ≡ true → x.to - x.from - sent_by r x c ≤ 1
+few_lost : CarriesItems → AreEnough → (r : Run) (c : ℕ) (x : board.Span) → AreOrders r.orders → Contains (spans_in r) x → is_of c x ≡ true →
+    x.to - x.from - sent_by r x c ≤ 1
 few_lost items enough r c x a has joined = by (x.to - x.from - 1) refl
   where
     k : LiesIn r c x
@@ -179,7 +204,8 @@ few_lost items enough r c x a has joined = by (x.to - x.from - 1) refl
           subst (λ j. j < frame_count r c) same goes.1.made,
           subst (λ j. of_span r c x (frame_by_number (whole_call r c) j) ≡ true) same
               (ap (carries_in (x.from - start_in r c) (x.to - start_in r c)) carries
-              ∙ and_from _ _ (le-leb (x.from - start_in r c) (x.from + i - start_in r c) (omega arith)) (lt-ltb (x.from + i - start_in r c) (x.to - start_in r c) (omega arith))),
+              ∙ and_from _ _ (le-leb (x.from - start_in r c) (x.from + i - start_in r c) (omega arith))
+              (lt-ltb (x.from + i - start_in r c) (x.to - start_in r c) (omega arith))),
         )
 
     by : (m : ℕ) → m ≡ x.to - x.from - 1 → x.to - x.from - sent_by r x c ≤ 1
@@ -190,10 +216,13 @@ few_lost items enough r c x a has joined = by (x.to - x.from - 1) refl
         let last = (each m (omega arith)).0 in
         let more = count_more (of_span r c x) call (f.0 + suc m) (frame_count r c) (omega arith) in
         let sent : sent_by r x c ≡ count (of_span r c x) call (frame_count r c) =
-        sent_counted r c x a k.known ∙ ap (λ fs. length (filter (of_span r c x) fs)) (made_first call (is_whole r c a k.known)) ∙ filter_reverse (of_span r c x) (first_frames call (frame_count r c)) in
+        sent_counted r c x a k.known ∙ ap (λ fs. length (filter (of_span r c x) fs)) (made_first call (is_whole r c a k.known))
+        ∙ filter_reverse (of_span r c x) (first_frames call (frame_count r c)) in
         omega arith
 
-pub one_lost : CarriesItems → AreEnough → (r : Run) (x : board.Span) → AreOrders r.orders → Contains (spans_in r) x → ((span_line r x).lost_a ≤ 1) × ((span_line r x).lost_b ≤ 1)
+-- **Of what is handed over in a span at most one frame is lost.**
+pub one_lost : CarriesItems → AreEnough → (r : Run) (x : board.Span) → AreOrders r.orders → Contains (spans_in r) x →
+    ((span_line r x).lost_a ≤ 1) × ((span_line r x).lost_b ≤ 1)
 one_lost items enough r x a has = (
   few_lost items enough r x.b x a has (or_right _ _ (eq-eqb x.b x.b refl)),
   few_lost items enough r x.a x a has (or_left _ _ (eq-eqb x.a x.a refl)),

@@ -14,8 +14,10 @@ use Rattle.run_calls_spec.specs.Sent.{IsFirstOfSpan}
 
 -- ---- frames start one after another
 
+-- a later frame is made no earlier
 pub made_later : (call : Call) (i j : ℕ) → i ≤ j → when (frame_by_number call i).start ≤ when (frame_by_number call j).start
-made_later call i j l = rounded (numbered_start (first_frames call i)) (numbered_start (first_frames call j)) (later_starts (map without_items call.spans) (fields call) i j l)
+made_later call i j l =
+    rounded (numbered_start (first_frames call i)) (numbered_start (first_frames call j)) (later_starts (map without_items call.spans) (fields call) i j l)
   where
     rounded : (a b : ℕ) → a ≤ b → when a ≤ when b
     rounded a b l = omega arith
@@ -25,7 +27,9 @@ none_counted : (call : Call) (from k : ℕ) → ((i : ℕ) → i < k → when (f
 none_counted call from zero h = refl
 none_counted call from (suc k) h =
     let before = first_frames call k in
-    ap (λ (b : Bool). length (if b then frame_by_number call k ∷ filter (λ f. nat_le from (when f.start)) before else filter (λ f. nat_le from (when f.start)) before)) (lt-leb from (when (frame_by_number call k).start) (h k (omega arith)))
+    ap (λ (b : Bool). length
+    (if b then frame_by_number call k ∷ filter (λ f. nat_le from (when f.start)) before else filter (λ f. nat_le from (when f.start)) before))
+    (lt-leb from (when (frame_by_number call k).start) (h k (omega arith)))
     ∙ none_counted call from k (λ i l. h i (omega arith))
 
 -- each from the first on is
@@ -39,7 +43,9 @@ each_counted call span first (suc m) f =
     let begun = f.begun in
     let later = made_later call first (first + m) (omega arith) in
     ap (λ k. count_from span.from (first_frames call k)) e
-    ∙ ap (λ (b : Bool). length (if b then frame_by_number call (first + m) ∷ filter (λ f. nat_le span.from (when f.start)) before else filter (λ f. nat_le span.from (when f.start)) before))
+    ∙ ap (λ (b : Bool). length
+    (if b then frame_by_number call (first + m) ∷ filter (λ f. nat_le span.from (when f.start)) before else filter
+    (λ f. nat_le span.from (when f.start)) before))
     (le-leb span.from (when (frame_by_number call (first + m)).start) (omega arith))
     ∙ ap suc (each_counted call span first m f)
 
@@ -52,7 +58,8 @@ item_place call span first j i f l = (there, here)
       | inl early ↦ let a = f.first j early in let b = h.begun in absurd (omega arith)
       | inr late ↦
           let e : first + (j - first) ≡ j = omega arith in
-          let n : count_from span.from (first_frames call j) ≡ j - first = ap (λ k. count_from span.from (first_frames call k)) (sym e) ∙ each_counted call span first (j - first) f in
+          let n : count_from span.from (first_frames call j) ≡ j - first =
+          ap (λ k. count_from span.from (first_frames call k)) (sym e) ∙ each_counted call span first (j - first) f in
           let number = h.number in
           omega arith
     ]
@@ -66,6 +73,7 @@ item_place call span first j i f l = (there, here)
 
 -- ---- there is a first one
 
+-- each shift is a shift
 pub shift_allowed : (call : Call) (j : ℕ) → IsShift (frame_by_number call j).shift
 shift_allowed call j =
     let before = first_frames call j in
@@ -73,6 +81,7 @@ shift_allowed call j =
     let counting = fields_to (fields call) w before in
     none_or (carried_item (map without_items call.spans) w before) (latest_shift counting) (IsShift-latest_shift counting)
 
+-- frame n starts no earlier than octet n
 starts_far : (call : Call) (n : ℕ) → n ≤ numbered_start (first_frames call n)
 starts_far call zero = omega arith
 starts_far call (suc n) =
@@ -81,6 +90,7 @@ starts_far call (suc n) =
     let long = more.0 in
     omega arith
 
+-- the first of which a test holds
 least : (p : ℕ → Bool) (n : ℕ) → p n ≡ true → (k : ℕ) × (p k ≡ true) × ((i : ℕ) → i < k → p i ≡ false)
 least p zero e = (0, e, λ i l. absurd (omega arith))
 least p (suc n) e = by (least (λ i. p (suc i)) n e) (cases_Bool (p 0))
@@ -89,7 +99,8 @@ least p (suc n) e = by (least (λ i. p (suc i)) n e) (cases_Bool (p 0))
     rest k f h zero l = f
     rest k f h (suc i) l = h i (omega arith)
 
-    by : ((k : ℕ) × (p (suc k) ≡ true) × ((i : ℕ) → i < k → p (suc i) ≡ false)) → (p 0 ≡ true) ⊎ (p 0 ≡ false) → (k : ℕ) × (p k ≡ true) × ((i : ℕ) → i < k → p i ≡ false)
+    by : ((k : ℕ) × (p (suc k) ≡ true) × ((i : ℕ) → i < k → p (suc i) ≡ false)) → (p 0 ≡ true) ⊎ (p 0 ≡ false) →
+        (k : ℕ) × (p k ≡ true) × ((i : ℕ) → i < k → p i ≡ false)
     by r (inl t) = (0, t, λ i l. absurd (omega arith))
     by r (inr f) = (suc r.0, r.1, rest r.0 f r.2)
 
@@ -98,7 +109,9 @@ pub first_made : (call : Call) (span : Span) → (first : ℕ) × IsFirstOfSpan 
 first_made call span =
     let n = 160 * span.from in
     let far = starts_far call n in
-    let k = least (λ j. nat_le span.from (when (frame_by_number call j).start)) n (le-leb span.from (when (frame_by_number call n).start) (rounded span.from (numbered_start (first_frames call n)) far)) in (
+    let k =
+    least (λ j. nat_le span.from (when (frame_by_number call j).start)) n
+    (le-leb span.from (when (frame_by_number call n).start) (rounded span.from (numbered_start (first_frames call n)) far)) in (
       k.0,
       record {
         begun = leb-true span.from (when (frame_by_number call k.0).start) k.1;
@@ -119,12 +132,14 @@ first_start call span (suc n) f =
 
 -- ---- frames that carry items start 160 octets after one another
 
+-- a frame that carries an item has no shift
 pub unshifted : (call : Call) (j h : ℕ) → (frame_by_number call j).carries ≡ Some h → (frame_by_number call j).shift ≡ pos 0
 unshifted call j h e =
     let before = first_frames call j in
     let asked = latest_shift (fields_to (fields call) (when (numbered_start before)) before) in
     ap (λ (o : Option ℕ). elim o as (λ x. ℤ) [ None ↦ asked | Some h ↦ pos 0 ]) e
 
+-- so the frames of a bridge start 160 octets apart
 pub item_start : (call : Call) (first m : ℕ) → ((i : ℕ) → i < m → (h : ℕ) × ((frame_by_number call (first + i)).carries ≡ Some h)) →
     (frame_by_number call (first + m)).start ≡ (frame_by_number call first).start + 160 * m
 item_start call first zero h =
@@ -140,9 +155,11 @@ item_start call first (suc m) h =
 
 -- ---- how many of the first frames are such
 
+-- how many of the first m frames pass a test
 abbrev pub count : (NumberedFrame → Bool) → Call → ℕ → ℕ
 count p call m = length (filter p (first_frames call m))
 
+-- of more frames no fewer do
 pub count_more : (p : NumberedFrame → Bool) (call : Call) (k m : ℕ) → k ≤ m → count p call k ≤ count p call m
 count_more p call k zero l = let e : 0 ≡ k = omega arith in subst (λ k. count p call k ≤ count p call 0) e (omega arith)
 count_more p call k (suc m) l = elim (cases_lt m k) [
@@ -150,7 +167,8 @@ count_more p call k (suc m) l = elim (cases_lt m k) [
   | inr before ↦ by (p (frame_by_number call m)) (count_more p call k m before)
 ]
   where
-    by : (b : Bool) → count p call k ≤ count p call m → count p call k ≤ length (if b then frame_by_number call m ∷ filter p (first_frames call m) else filter p (first_frames call m))
+    by : (b : Bool) → count p call k ≤ count p call m →
+        count p call k ≤ length (if b then frame_by_number call m ∷ filter p (first_frames call m) else filter p (first_frames call m))
     by true rest = omega arith
     by false rest = rest
 
@@ -161,5 +179,6 @@ count_all p call k (suc m) h =
     let e : suc (k + m) ≡ k + suc m = omega arith in
     let rest = count_all p call k m (λ i l. h i (omega arith)) in
     let one : count p call (suc (k + m)) ≡ suc (count p call (k + m)) =
-    ap (λ (b : Bool). length (if b then frame_by_number call (k + m) ∷ filter p (first_frames call (k + m)) else filter p (first_frames call (k + m)))) (h m (omega arith)) in
+    ap (λ (b : Bool). length (if b then frame_by_number call (k + m) ∷ filter p (first_frames call (k + m)) else filter p (first_frames call (k + m))))
+    (h m (omega arith)) in
     subst (λ n. suc m ≤ count p call n) e (omega arith)

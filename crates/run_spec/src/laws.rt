@@ -124,7 +124,9 @@ pub fn rounds_go_on()
     // Its periods go on with what is set at its start, but for the bridge: what is handed over tells where they lie in
     // one.
     ensures period { (r : Run) (t k : ℕ) (ds : List Done) (left : List Order) (c : ℕ) → IsSoFar r t ds left → t + k < r.periods →
-        period_now r ds (t + k) c ≡ period_with (after_periods k (settings_now r ds t c)) (up_in r c (t + k - start_of ds c)) (pcm_in r c (t + k - start_of ds c)) (handed_now r ds (t + k) c) }
+        period_now r ds (t + k) c ≡
+        period_with (after_periods k (settings_now r ds t c)) (up_in r c (t + k - start_of ds c)) (pcm_in r c (t + k - start_of ds c))
+        (handed_now r ds (t + k) c) }
 
     // Without a bridge it goes on alone.
     ensures alone { (r : Run) (t k : ℕ) (ds : List Done) (left : List Order) (c : ℕ) → IsSoFar r t ds left → t + k ≤ r.periods →
@@ -134,7 +136,8 @@ pub fn rounds_go_on()
     ensures bridged { (r : Run) (t k m : ℕ) (ds : List Done) (left : List Order) (c : ℕ) (x : Bridge) → IsSoFar r t ds left → t + k ≤ r.periods →
         bridge_of (gone_at (whole_in r) t ds) ds c ≡ Some x → ((j : ℕ) → j < k → has_period r ds (t + j) c ≡ true) →
         ((j : ℕ) → j < k → has_period r ds (t + j) (other c x) ≡ nat_lt j m) →
-        settings_now r ds (t + k) c ≡ (if nat_lt m k then without_bridge (after_periods k (settings_now r ds t c)) else after_periods k (settings_now r ds t c)) }
+        settings_now r ds (t + k) c ≡
+        (if nat_lt m k then without_bridge (after_periods k (settings_now r ds t c)) else after_periods k (settings_now r ds t c)) }
 {}
 
 /// The end of a call is known once the orders up to it were executed: where it was closed, where its lines lack a
@@ -166,10 +169,13 @@ pub fn periods_are_a_history()
 /// its partner's are handed to a call, and both of them have the period.
 pub fn items_are_effective_frames()
     ensures both { (r : Run) (t u : ℕ) (ds : List Done) (left : List Order) (c : ℕ) (x : Bridge) → IsSoFar r t ds left →
-        bridge_now r ds u c ≡ Some x → (joins c x ≡ true) × (has_period r ds u x.a ≡ true) × (has_period r ds u x.b ≡ true) × ((s : ℕ) × (opened_at (other c x) ds ≡ Some s)) }
-    ensures handed { (r : Run) (t u : ℕ) (ds : List Done) (left : List Order) (c s : ℕ) (x : Bridge) (now : Settings) (pcm : List ℕ) (handed : Option (List ℕ)) →
-        IsSoFar r t ds left → t ≤ u → bridge_now r ds u c ≡ Some x → opened_at (other c x) ds ≡ Some s → handed_now r ds u c ≡
-        Some (bits260 (handed_fields (effective_now (other c x) (period_with now (up_in r (other c x) (u - s)) pcm handed ∷ periods_to r (other c x) (u - s))))) }
+        bridge_now r ds u c ≡ Some x →
+        (joins c x ≡ true) × (has_period r ds u x.a ≡ true) × (has_period r ds u x.b ≡ true) × ((s : ℕ) × (opened_at (other c x) ds ≡ Some s)) }
+    ensures handed { (r : Run) (t u : ℕ) (ds : List Done) (left : List Order) (c s : ℕ) (x : Bridge) (now : Settings) (pcm : List ℕ)
+        (handed : Option (List ℕ)) → IsSoFar r t ds left → t ≤ u → bridge_now r ds u c ≡ Some x → opened_at (other c x) ds ≡ Some s →
+        handed_now r ds u c ≡
+        Some (bits260 (handed_fields
+        (effective_now (other c x) (period_with now (up_in r (other c x) (u - s)) pcm handed ∷ periods_to r (other c x) (u - s))))) }
     ensures item { (c : ℕ) (ts : List CallPeriod) → item_of c (ups_of ts) ≡ bits260 (handed_fields (effective_now c ts)) }
     ensures ups { (r : Run) (c n : ℕ) → ups_of (periods_to r c n) ≡ ups_to r c n }
 {}
@@ -180,9 +186,11 @@ pub fn ended_calls_are_reported()
         opened_at c ds ≡ Some s → end_of (given_in r) r.periods (done_in r) c s ≡ end →
         call_line r c ≡ record { end = end; from = s; counts = call_counts (periods_to r c (end.at - s)) } }
     ensures out { (r : Run) (t : ℕ) (ds : List Done) (left : List Order) (c s : ℕ) (end : CallEnd) → IsSoFar r t ds left →
-        opened_at c ds ≡ Some s → end_of (given_in r) r.periods (done_in r) c s ≡ end → out_of_call r c ≡ out_line (who_in r c) (periods_to r c (end.at - s)) }
+        opened_at c ds ≡ Some s → end_of (given_in r) r.periods (done_in r) c s ≡ end →
+        out_of_call r c ≡ out_line (who_in r c) (periods_to r c (end.at - s)) }
     ensures down { (r : Run) (t : ℕ) (ds : List Done) (left : List Order) (c s : ℕ) (end : CallEnd) → IsSoFar r t ds left →
-        opened_at c ds ≡ Some s → end_of (given_in r) r.periods (done_in r) c s ≡ end → down_of_call r c ≡ down_octets (who_in r c) (periods_to r c (end.at - s)) }
+        opened_at c ds ≡ Some s → end_of (given_in r) r.periods (done_in r) c s ≡ end →
+        down_of_call r c ≡ down_octets (who_in r c) (periods_to r c (end.at - s)) }
 {}
 
 /// The report, once no order below the run's end is left: from what was executed, and what is left.
@@ -199,7 +207,8 @@ pub fn whole_runs_are_reported()
 
 /// What is handed over in a span, a frame in each of its periods, is sent or lost.
 pub fn handed_frames_are_sent_or_lost()
-    ensures { (r : Run) (x : Span) → ((span_line r x).sent_a + (span_line r x).lost_a ≡ x.to - x.from) × ((span_line r x).sent_b + (span_line r x).lost_b ≡ x.to - x.from) }
+    ensures { (r : Run) (x : Span) →
+        ((span_line r x).sent_a + (span_line r x).lost_a ≡ x.to - x.from) × ((span_line r x).sent_b + (span_line r x).lost_b ≡ x.to - x.from) }
 {}
 
 /// How many frames of a bridge a call sends is what its leg tells where the call's next bridge is made, or at its end:

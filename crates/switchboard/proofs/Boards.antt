@@ -152,7 +152,7 @@ state-told os xs r c at =
     ap (λ ts. record { left = drop (length xs) os; done = dones os xs; told = ts })
     (map-set (λ (e : Call). e.gone) r.calls c (record (call_in r c) { gone = Some at }))
 
--- ---- as the board's calls meet them: `s` is what is seen of the board
+-- ---- as the board's functions meet them: `s` is what is seen of the board
 
 pub record Ready (os : List Order) (xs : List Reply) (r : Rows) (s : State) (o : Order) : Type 0 where
   pub board : IsBoard os xs r

@@ -11,6 +11,7 @@ use Rattle.trau_lanes.proofs.Remainders.{low_wrapped}
 abbrev pub twice_bits : ℕ → ℕ
 twice_bits a = (a + a) % 2 ^ 16
 
+-- what it wraps off
 abbrev pub over_bits : ℕ → ℕ
 over_bits a = of_z w16 (shr_z (to_z w16 ((of_z w16 (shr_z (to_z w16 a) (2 ^ 14)) + 1) % 2 ^ 16)) (2 ^ 1))
 
@@ -28,6 +29,7 @@ pub record IsTwice (r o : ℤ) : Type 0 where
   pub fits : FitsSigned w16 (r *ℤ pos 2 -ℤ o *ℤ pos 65536)
   pub wraps : int_wrap w16 (r +ℤ r) ≡ r *ℤ pos 2 -ℤ o *ℤ pos 65536
 
+-- of a factor
 pub is_twice : (r : ℤ) → unsigned_abs r ≤ 32767 → IsTwice r (over_of r)
 is_twice (pos n) b = elim (cases_lt n 16384) [
   | inl l ↦
@@ -76,15 +78,18 @@ is_twice (negsuc n) b = elim (cases_lt n 16384) [
       })
 ]
 
+-- the lanes' doubled factor is that of numbers
 pub twice_is : (r : ℤ) → unsigned_abs r ≤ 32767 → FitsSigned w16 r → twice_bits (of_z w16 r) ≡ of_z w16 (twice_of r)
 twice_is r b f =
     sym (of_z-to_z w16 (twice_bits (of_z w16 r)) (mod_below (of_z w16 r + of_z w16 r) (2 ^ 16) (lit< tt))) ∙
     ap (of_z w16) (wrapping_add_is w16 r r f f ∙ (is_twice r b).wraps)
 
+-- a factor's highest bits, from -2 to 1
 quarter_small : (r : ℤ) → unsigned_abs r ≤ 32767 → (neg_ℤ (pos 2) ≤ℤ shr_z r 16384) × (shr_z r 16384 ≤ℤ pos 1)
 quarter_small (pos n) b = (omega (arith, ints), omega (arith, ints))
 quarter_small (negsuc n) b = (omega (arith, ints), omega (arith, ints))
 
+-- and so is what the doubling wraps off
 pub over_is : (r : ℤ) → unsigned_abs r ≤ 32767 → FitsSigned w16 r → over_bits (of_z w16 r) ≡ of_z w16 (over_of r)
 over_is r b f =
     let q : ℤ = shr_z r 16384 in

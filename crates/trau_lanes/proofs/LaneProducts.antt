@@ -17,9 +17,11 @@ use Rattle.trau_lanes.proofs.Rounded.{rounded, clamp_none, word_shifted, mult_r_
 
 -- ---- one lane
 
+-- one lane of the rounded product
 abbrev pub sum_bits : ℕ → ℕ → ℕ
 sum_bits a b = ((narrowed (high_bits (twice_bits a) b) + (over_bits a * b) % 2 ^ 16) % 2 ^ 16 + carry_bits (low_half (twice_bits a) b)) % 2 ^ 16
 
+-- it is the rounded product, and its high half is a word
 pub record IsProduct (r v : ℤ) : Type 0 where
   pub high : FitsSigned w16 (to_z w32 (high_bits (twice_bits (of_z w16 r)) (of_z w16 v)))
   pub sum : to_z w16 (sum_bits (of_z w16 r) (of_z w16 v)) ≡ mult_r_of r v
@@ -71,6 +73,7 @@ is_product r v b f =
 
 -- ---- eight lanes
 
+-- the same in all eight lanes, step by step
 abbrev shifted_all : List ℕ → ℕ → List ℕ
 shifted_all ns s = zip2 (λ a s. of_z w16 (shr_z (to_z w16 a) (2 ^ s))) ns (replicate 8 s)
 
@@ -96,6 +99,7 @@ carry_all rs vs = zip2 bit_and (shifted_all (times_all (twice_all rs) (map (of_z
 abbrev pub sum_all : List ℤ → List ℤ → List ℤ
 sum_all rs vs = map (to_z w16) (added_all (added_all (map narrowed (high_all rs vs)) (times_all (over_all rs) (map (of_z w16) vs))) (carry_all rs vs))
 
+-- all eight are rounded products
 pub record AreProducts (rs vs : List ℤ) : Type 0 where
   pub high : Each1 (λ n. FitsSigned w16 (to_z w32 n)) (high_all rs vs)
   pub sums : sum_all rs vs ≡ zip2 mult_r_of rs vs
@@ -109,10 +113,11 @@ are_products rs vs p q =
     })
     rs vs p.eight q.eight p.factors q.words
 
+-- rounded products are words
 pub products_words : (rs vs : List ℤ) → length rs ≡ 8 → length vs ≡ 8 → EightWords (zip2 mult_r_of rs vs)
 products_words rs vs l m = eight_zipped mult_r_of mult_r_word rs vs l m
 
--- what a call gives: its arguments are passed as their bits
+-- what a function gives: its arguments are passed as their bits
 pub products_given : (rs vs r : List ℤ) → EightFactors rs → EightWords vs →
     r ≡ zip2 mult_r_of (map (to_z w16) (map (of_z w16) rs)) (map (to_z w16) (map (of_z w16) vs)) → (r ≡ zip2 mult_r_of rs vs) × EightWords r
 products_given rs vs r p q e =

@@ -6,6 +6,7 @@ abbrev pub remainder_of : ℤ → ℕ
 remainder_of (pos n) = n % 65536
 remainder_of (negsuc n) = 65535 - n % 65536
 
+-- it is what wrapping leaves
 pub low_wrapped : (p : ℤ) → int_wrap w16 p ≡ to_z w16 (remainder_of p)
 unfolding int_wrap
 low_wrapped (pos n) = refl

@@ -5,7 +5,7 @@ use Rattle.std.specs.Int.{int_shr}
 use lib.Signed.{shr_z}
 use lib.IntN.{suc_ℤ-*ℤ, *ℤ_comm, *ℤ-negsuc, *ℤ-zero}
 use Rattle.trau_num.specs.Num.{clamp16, mult_r_of}
-use Rattle.trau_lanes.proofs.LaneSums.{clamp_word}
+use Rattle.trau_num.proofs.Clamped.{clamp_word}
 use Rattle.trau_lanes.proofs.Remainders.{remainder_of, low_below}
 
 -- twice the high half, what was wrapped off and the highest bit of the low half are the rounded product
@@ -13,6 +13,7 @@ twice_rounded : (p q h s : ℤ) (low l : ℕ) → p *ℤ pos 2 -ℤ q *ℤ pos 6
     low < 65536 → l < 32768 → h +ℤ q +ℤ pos (low / 32768) ≡ s
 twice_rounded p q h s low l e f a b = omega (arith, ints)
 
+-- a product with one more
 mul_more : (m : ℤ) (n : ℕ) → m *ℤ pos (suc n) ≡ m *ℤ pos n +ℤ m
 mul_more m n = *ℤ_comm m (pos (suc n)) ∙ suc_ℤ-*ℤ (pos n) m ∙ ap (λ z. z +ℤ m) (*ℤ_comm (pos n) m)
 
@@ -26,6 +27,7 @@ sum_by a b (suc n) =
     let before = sum_by a b n in
     omega (arith, ints, x, y, z, before)
 
+-- the same by any number
 sum_times : (a b v : ℤ) → (a +ℤ b) *ℤ v ≡ a *ℤ v +ℤ b *ℤ v
 sum_times a b (pos n) = sum_by a b n
 sum_times a b (negsuc n) =
@@ -35,14 +37,17 @@ sum_times a b (negsuc n) =
     let before = sum_by a b (suc n) in
     omega (arith, ints, x, y, z, before)
 
+-- a number is its high half and its remainder
 halves : (z : ℤ) → z ≡ shr_z z 65536 *ℤ pos 65536 +ℤ pos (remainder_of z)
 halves (pos n) = omega (arith, ints)
 halves (negsuc n) = omega (arith, ints)
 
+-- a number by its shift down by 15, and what that loses
 shifted : (z : ℤ) → (l : ℕ) × (l < 32768) × (z ≡ int_shr z 15 *ℤ pos 32768 +ℤ pos l)
 shifted (pos n) = (n % 32768, omega arith, omega (arith, ints))
 shifted (negsuc n) = (32767 - n % 32768, omega arith, omega (arith, ints))
 
+-- the three parts of the doubled factor's product make the rounded product
 pub rounded : (r v o : ℤ) → neg_ℤ (pos 1) ≤ℤ o → o ≤ℤ pos 1 →
     shr_z ((r *ℤ pos 2 -ℤ o *ℤ pos 65536) *ℤ v) 65536 +ℤ o *ℤ v +ℤ pos (remainder_of ((r *ℤ pos 2 -ℤ o *ℤ pos 65536) *ℤ v) / 32768) ≡
     int_shr (r *ℤ v +ℤ pos 16384) 15
@@ -65,10 +70,12 @@ rounded r v o a b =
     overs (negsuc zero) a b = let x = *ℤ_comm (negsuc 0) v in let y = *ℤ_comm (negsuc 65535) v in omega (arith, ints, x, y)
     overs (negsuc (suc n)) a b = absurd (omega (arith, ints))
 
+-- a word is not clamped
 pub clamp_none : (z : ℤ) → FitsSigned w16 z → clamp16 z ≡ z
 clamp_none (pos n) f = grind (arith, ints)
 clamp_none (negsuc n) f = grind (arith, ints)
 
+-- a rounded product of this size is a word
 pub word_shifted : (p : ℤ) → unsigned_abs p ≤ 1073709056 → FitsSigned w16 (int_shr (p +ℤ pos 16384) 15)
 word_shifted p b = let s = shifted (p +ℤ pos 16384) in let l = s.1 in let e = s.2 in omega (arith, ints, l, e)
 

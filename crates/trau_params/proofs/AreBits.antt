@@ -9,6 +9,7 @@ use Rattle.trau_params.specs.Widths.{larc_widths, block_widths}
 use Rattle.trau_params.specs.FieldBits.{low_bits, field_bits}
 use Rattle.trau_params.specs.Bits260.{bits260, bits260_of, values_in}
 
+-- of one value, of several fields, of parts, and of a frame
 AreBits-low_bits : (width value : ℕ) → AreBits (low_bits width value)
 unfolding low_bits
 AreBits-low_bits width value =

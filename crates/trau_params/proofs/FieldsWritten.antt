@@ -10,7 +10,7 @@ use Rattle.trau_params.specs.FieldBits.{low_bits, field_bits}
 use Rattle.trau_params.specs.Fields.{number_at, fields_in}
 use Rattle.trau_params.specs.Bits260.{bits260}
 use Rattle.trau_params.proofs.FieldsRead.{number_at-none, number_at-more}
-use Rattle.trau_params.proofs.Prefixes.{low_bits-front}
+use Rattle.trau_params.proofs.Fronts.{low_bits-front}
 
 -- ---- one field
 
@@ -59,10 +59,12 @@ field_read bits offset (suc n) b l =
 
 -- ---- fields one after another
 
+-- the numbers in fields of these widths, one after another
 abbrev numbers_from : List ℕ → ℕ → List ℕ → List ℕ
 numbers_from bits offset [] = []
 numbers_from bits offset (width ∷ widths) = number_at bits offset width ∷ numbers_from bits (offset + width) widths
 
+-- their bits stand before those that follow them
 fields_read : (bits widths : List ℕ) (offset : ℕ) → AreBits bits → offset + sum widths ≤ length bits →
     field_bits widths (numbers_from bits offset widths) ++ drop (offset + sum widths) bits ≡ drop offset bits
 fields_read bits [] offset b l = ap (λ i. drop i bits) (let e : offset + sum [] ≡ offset = omega arith in e)
@@ -74,6 +76,7 @@ fields_read bits (w ∷ ws) offset b l =
     ∙ ap (λ xs. low_bits w (number_at bits offset w) ++ xs) (fields_read bits ws (offset + w) b (omega arith))
     ∙ field_read bits offset w b (omega arith)
 
+-- the bits of a block that stands at an offset
 abbrev block_from : List ℕ → ℕ → List ℕ
 block_from bits offset = field_bits block_widths (numbers_from bits offset block_widths)
 

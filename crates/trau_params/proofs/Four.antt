@@ -1,5 +1,5 @@
 -- What holds of each of four is so at each place of their list.
-use Rattle.std.proofs.Common.{ℕ, zero, suc, ◌<◌, List, [], ◌∷◌, get_or, arith}
+use Rattle.std.proofs.Common.{ℕ, zero, suc, ◌<◌, [], ◌∷◌, get_or, arith}
 
 pub all_four : {X : Type 0} (P : X → Type 0) (a b c d : X) → P a → P b → P c → P d →
     (k : ℕ) (e : X) → k < 4 → P (get_or (a ∷ b ∷ c ∷ d ∷ []) k e)

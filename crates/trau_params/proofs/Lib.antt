@@ -4,4 +4,4 @@ pub mod FieldsRead
 pub mod FieldsWritten
 pub mod Four
 pub mod OneFrame
-pub mod Prefixes
+pub mod Fronts

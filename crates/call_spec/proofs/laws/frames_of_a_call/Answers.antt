@@ -8,7 +8,8 @@ use Rattle.call_spec.proofs.laws.frames_of_a_call.Goals as goal
 
 pub returns-clause-items : goal.returns-clause-items
 returns-clause-items c = λ call before after span j i h.
-    subst (λ call. call.spans ≡ before ++ span ∷ after → j < length (frames_of_call call) → HasItem call span j i → (frame_by_number call j).carries ≡ Some (span.from + i)) (call-whole call h)
+    subst (λ call. call.spans ≡ before ++ span ∷ after → j < length (frames_of_call call) → HasItem call span j i → (frame_by_number call j).carries ≡ Some
+    (span.from + i)) (call-whole call h)
     (item-carried call.who (periods_of_call call) before after span j i (history-whole call h))
 
 pub returns-clause-enough : goal.returns-clause-enough

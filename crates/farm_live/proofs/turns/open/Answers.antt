@@ -1,6 +1,6 @@
 use Rattle.std.proofs.Common.{◌∙◌}
 use Rattle.crossbeam_queue.specs.Passes.{view}
-use Rattle.farm_live.proofs.Taking.{may_first_at, opened_at}
+use Rattle.farm_live.proofs.Turning.{may_first_at, opened_at}
 use Rattle.farm_live.proofs.turns.open.Goals as goal
 
 pub give_back-requires-clause-may : goal.give_back-requires-clause-may

@@ -2,7 +2,8 @@ use Rattle.std.proofs.Common.{◌≡◌, true, false, sym, subst, ⊎_elim}
 use Rattle.std.proofs.lemmas.Bool.{cases_Bool}
 use Rattle.crossbeam_queue.specs.Passes.{view}
 use Rattle.farm_live.specs.Slot.{May, took}
-use Rattle.farm_live.proofs.Taking.{may_same, may_post, may_give, held_as, posted_at, full_at}
+use Rattle.farm_live.proofs.Taking.{may_same, may_post}
+use Rattle.farm_live.proofs.Turning.{may_give, held_as, posted_at, full_at}
 use Rattle.farm_live.proofs.turns.post.Goals as goal
 
 pub give_back-requires-clause-may : goal.give_back-requires-clause-may

@@ -1,5 +1,6 @@
 use Rattle.crossbeam_queue.specs.Passes.{view}
-use Rattle.farm_live.proofs.Taking.{may_give, held_as, may_same}
+use Rattle.farm_live.proofs.Taking.{may_same}
+use Rattle.farm_live.proofs.Turning.{may_give, held_as}
 use Rattle.farm_live.proofs.turns.read.Goals as goal
 
 pub give_back-requires-clause-may : goal.give_back-requires-clause-may

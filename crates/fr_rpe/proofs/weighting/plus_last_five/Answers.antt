@@ -1,4 +1,4 @@
-use Rattle.std.proofs.Common.{◌≡◌, ◌+◌, pos, neg_ℤ, ◌+ℤ◌, ◌*ℤ◌, get_or, ◌≤◌, unsigned_abs, arith, rules, FitsSigned, w16, w32}
+use Rattle.std.proofs.Common.{◌+◌, pos, get_or, arith, rules, FitsSigned, w16, w32}
 use Rattle.std.proofs.lemmas.Int.{to_z-of_z}
 use Rattle.fr_rpe.proofs.weighting.plus_last_five.Goals as goal
 

@@ -4,7 +4,7 @@ use Rattle.std.specs.Simd.Lanes.{zip2}
 use Rattle.trau_num.specs.Num.{sub_of}
 use Rattle.trau_lanes.specs.Lanes.{EightWords}
 use Rattle.trau_lanes.proofs.Eight.{words_kept, words_passed, eight_zipped, shifted_words}
-use Rattle.trau_lanes.proofs.LaneSums.{sub_word}
+use Rattle.trau_num.proofs.Clamped.{sub_word}
 use Rattle.fr_short.specs.Lanes.{words_behind}
 use Rattle.fr_short.proofs.Behind.{checked, behind_eight, same_words}
 use Rattle.fr_short.proofs.synthesis.behind.Goals as goal

@@ -11,7 +11,7 @@ use Rattle.fr_short.specs.Lanes.{words_behind}
 use Rattle.fr_short.proofs.Behind.{behind_lanes, stored_lanes, are_sections, moved}
 use Rattle.fr_short.proofs.synthesis.pass.Goals as goal
 
--- what the four calls give
+-- what the four functions give
 record Gives (rs vs : List ℤ) (s : ℤ) (words stored : List ℤ) : Type 0 where
   behind : words ≡ behind_lanes rs vs s
   sums : stored ≡ stored_lanes rs vs s

@@ -32,7 +32,8 @@ low_before c =
 
 -- what the calls on the rings did
 framed_now : (c : goal.After-self-1) →
-    Framed c.self.inside.bits c.self.inside.octets c.fill_from_slice-2.new.self c.truncate_front.new.self c.args.f.now c.args.shift (c.step_of-step.result - c.min-gone.result)
+    Framed c.self.inside.bits c.self.inside.octets c.fill_from_slice-2.new.self c.truncate_front.new.self c.args.f.now c.args.shift
+    (c.step_of-step.result - c.min-gone.result)
 framed_now c =
     let fits : FitsSigned w16 c.args.shift = search rules in
     let step : c.step_of-step.result ≡ octets_to_next c.args.shift = c.step_of-step.ensures.value ∙ ap octets_to_next (to_z-of_z w16 c.args.shift fits) in
@@ -49,7 +50,8 @@ invariant_of-self c =
 
 step_now : goal.returns-clause-step
 step_now c =
-    framed-view c.self.inside.bits c.self.inside.octets c.fill_from_slice-2.new.self c.truncate_front.new.self c.args.f.now c.args.shift _ c.self.inside.skip (framed_now c) ∙
+    framed-view c.self.inside.bits c.self.inside.octets c.fill_from_slice-2.new.self c.truncate_front.new.self c.args.f.now c.args.shift _ c.self.inside.skip
+    (framed_now c) ∙
     ap (λ (s : FramerMemory). after_frame s c.args.f.now c.args.shift) c.self.view_is
 
 pub returns-clause-step : goal.returns-clause-step
@@ -60,7 +62,8 @@ returns-clause-within c =
     let ready = ready_before c in
     let none : c.args.self.now.to_skip ≡ 0 = sym (ap (λ (s : FramerMemory). s.to_skip) c.self.view_is) ∙ c.self.invariant.none_held (omega arith) in
     subst IsWithinPeriod (sym (step_now c))
-    (frame_within c.args.self.now c.args.f.now c.args.shift (subst IsWithinPeriod c.self.view_is (within_before c)) c.requires.shift c.told-f c.requires.ready none)
+    (frame_within c.args.self.now c.args.f.now c.args.shift
+    (subst IsWithinPeriod c.self.view_is (within_before c)) c.requires.shift c.told-f c.requires.ready none)
 
 pub returns-clause-taken : goal.returns-clause-taken
 returns-clause-taken c =

@@ -17,7 +17,8 @@ step_now : (c : goal.After-self-1) → Afterwards c
 step_now c =
     let l : length c.args.octets.now ≡ 160 = search rules in
     put-view c.self.inside.bits c.self.inside.octets c.fill_from_slice.new.self c.args.octets.now _ c.self.inside.skip c.fill_from_slice.result
-    c.self.invariant (ap (λ (s : FramerMemory). length s.held) c.self.view_is) c.requires.between.short l refl c.fill_from_slice.ensures.count c.fill_from_slice.ensures.items ∙
+    c.self.invariant
+    (ap (λ (s : FramerMemory). length s.held) c.self.view_is) c.requires.between.short l refl c.fill_from_slice.ensures.count c.fill_from_slice.ensures.items ∙
     ap (λ s. after_put s c.args.octets.now) c.self.view_is
 
 pub returns-clause-step : goal.returns-clause-step

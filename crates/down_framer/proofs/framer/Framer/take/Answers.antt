@@ -39,7 +39,9 @@ pub returns-clause-between : goal.returns-clause-between
 returns-clause-between c = subst IsBetweenPeriods (sym (step_now c)) (taken_between c.args.self.now c.requires.within c.requires.not_ready)
 
 pub invariant_of-self : goal.invariant_of-self
-invariant_of-self c = taken-rings c.self.inside.bits c.read_into.new.self c.self.inside.octets c.self.inside.skip c.read_into.result c.self.invariant (returns-clause-between c) c.read_into.ensures.items
+invariant_of-self c =
+    taken-rings c.self.inside.bits c.read_into.new.self c.self.inside.octets c.self.inside.skip c.read_into.result c.self.invariant
+    (returns-clause-between c) c.read_into.ensures.items
 
 pub returns-clause-places : goal.returns-clause-places
 returns-clause-places c = λ pcm line out start h. (

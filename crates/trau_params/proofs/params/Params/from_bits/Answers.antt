@@ -1,4 +1,4 @@
-use Rattle.std.proofs.Common.{◌≡◌, ℕ, ◌<◌, List, [], ◌++◌, length, get_or, take, sym, ap, ◌∙◌, append_assoc, arith, rules}
+use Rattle.std.proofs.Common.{◌≡◌, ℕ, List, [], ◌++◌, length, get_or, take, sym, ap, ◌∙◌, append_assoc, arith, rules}
 use Rattle.std.proofs.lemmas.List.{take_all, append-nil}
 use Rattle.trau_params.specs.Widths.{larc_widths}
 use Rattle.trau_params.specs.FieldBits.{field_bits}

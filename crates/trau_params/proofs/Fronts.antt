@@ -20,6 +20,7 @@ pub low_bits-more : (n value : ℕ) → low_bits (n + 1) value ≡ low_bits n va
 unfolding low_bits
 low_bits-more n value = map-range_with_len_more (λ t. value / 2 ^ t % 2) 0 n n (omega arith)
 
+-- a function over a range that begins one later
 map-range-shifted : (f : ℕ → ℕ) (a n : ℕ) → map f (range_with_len (a + 1) n) ≡ map (λ t. f (t + 1)) (range_with_len a n)
 map-range-shifted f a zero = refl
 map-range-shifted f a (suc n) = ap (λ xs. f (a + 1) ∷ xs) (map-range-shifted f (a + 1) n)
@@ -45,10 +46,12 @@ low_bits-front n value bit h =
 
 -- ---- writing and reading one bit more
 
+-- no bit is written yet
 pub put_none : (bits : List ℕ) (at value : ℕ) → take (at + 0) bits ≡ take at bits ++ low_bits 0 value
 unfolding low_bits
 put_none bits at value = let e : at + 0 ≡ at = omega arith in rw (e, append-nil) refl
 
+-- bit t is written behind the earlier ones
 pub put_next : (bits old : List ℕ) (at t value : ℕ) → at + t < length bits →
     take (at + t) bits ≡ take at old ++ low_bits t value →
     take (at + (t + 1)) (set bits (at + t) (value / 2 ^ t % 2)) ≡ take at old ++ low_bits (t + 1) value
@@ -58,17 +61,20 @@ put_next bits old at t value l h =
     (take_more_set bits (at + t) (value / 2 ^ t % 2) l ∙ ap (λ xs. xs ++ value / 2 ^ t % 2 ∷ []) h ∙
     append_assoc (take at old) (low_bits t value) (value / 2 ^ t % 2 ∷ []))
 
+-- no bit is read yet
 pub read_none : (bits : List ℕ) (at width : ℕ) →
     take (at + width) bits ≡ take (at + width) bits ++ low_bits (width - width) 0
 unfolding low_bits
 read_none bits at width = let e : width - width ≡ 0 = omega arith in rw (e, append-nil) refl
 
+-- a value fits with one bit more
 pub read_fits : (width t value bit : ℕ) → 0 < t → t ≤ width → bit < 2 → value < 2 ^ (width - t) →
     2 * value + bit < 2 ^ (width - (t - 1))
 read_fits width t value bit p l b h =
     let e : width - (t - 1) ≡ width - t + 1 = omega arith in
     rw e (omega (arith, pow-add 2 (width - t) 1))
 
+-- bit t - 1 is read before the later ones
 pub read_next : (bits : List ℕ) (at width t value : ℕ) → 0 < t → t ≤ width → at + t ≤ length bits →
     get_or bits (at + (t - 1)) 0 < 2 →
     take (at + width) bits ≡ take (at + t) bits ++ low_bits (width - t) value →
@@ -91,6 +97,7 @@ field_bits-nil : (widths : List ℕ) → field_bits widths [] ≡ []
 field_bits-nil [] = refl
 field_bits-nil (w ∷ ws) = refl
 
+-- a value more at the end
 field_bits-push : (widths values : List ℕ) (value : ℕ) → length values < length widths →
     field_bits widths (values ++ value ∷ []) ≡ field_bits widths values ++ low_bits (get_or widths (length values) 0) value
 field_bits-push [] values value h = absurd (omega arith)
@@ -99,6 +106,7 @@ field_bits-push (w ∷ ws) (v ∷ vs) value h =
     ap (λ xs. low_bits w v ++ xs) (field_bits-push ws vs value (omega arith)) ∙
     sym (append_assoc (low_bits w v) (field_bits ws vs) (low_bits (get_or ws (length vs) 0) value))
 
+-- the first i + 1 fields are the first i and one more
 pub field_bits-more : (widths values : List ℕ) (i : ℕ) → i < length widths → i < length values →
     field_bits widths (take (i + 1) values) ≡ field_bits widths (take i values) ++ low_bits (get_or widths i 0) (get_or values i 0)
 field_bits-more widths values i h l =
@@ -107,6 +115,7 @@ field_bits-more widths values i h l =
     field_bits-push widths (take i values) (get_or values i 0) (omega arith) ∙
     ap (λ k. field_bits widths (take i values) ++ low_bits (get_or widths k 0) (get_or values i 0)) n
 
+-- the same where that value was set
 pub field_bits-set : (widths values : List ℕ) (i value : ℕ) → i < length widths → i < length values →
     field_bits widths (take (i + 1) (set values i value)) ≡ field_bits widths (take i values) ++ low_bits (get_or widths i 0) value
 field_bits-set widths values i value h l =
@@ -155,6 +164,7 @@ pulses-more front values i h l =
     (ap (λ k. field_bits pulse_widths (take i values) ++ low_bits k (get_or values i 0)) (sym w) ∙
     sym (field_bits-more pulse_widths values i h l))
 
+-- the same where that pulse was set
 pub pulses-set : (front values : List ℕ) (i value : ℕ) → i < 13 → i < length values →
     (front ++ field_bits pulse_widths (take i values)) ++ low_bits xmc_width value ≡
     front ++ field_bits pulse_widths (take (i + 1) (set values i value))
