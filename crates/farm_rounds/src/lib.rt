@@ -10,7 +10,7 @@
 //! bridge, `live` the list of the open calls' numbers, `tally` what is kept of an ended call. `round` has a round up to its
 //! work and `worked` what comes after it, `jobs` the calls' jobs and their octets, `phases` their two phases, `order` the
 //! calls in rising order for these, `entry` where they are, `settle` the calls after a round, `rest` the parts of a farm
-//! meanwhile, and `sums` those of the octets that went out.
+//! meanwhile, and `sums` the sums of the octets that go out.
 //!
 //! Definitions: `specs/Calls.antt` (the calls of a farm by their numbers), `specs/Acts.antt` (what an order does),
 //! `specs/Histories.antt` (the periods that the calls had), `specs/Memory.antt`, `specs/Groups.antt` and
