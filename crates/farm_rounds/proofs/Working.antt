@@ -29,6 +29,10 @@ back n new old en e =
     let none : drop (length new) old ≡ [] = drop_all (length new) old (omega (arith, e)) in
     ap (λ (xs : List _). take n (new ++ xs)) none ∙ ap (λ (xs : List _). take n xs) (append-nil new) ∙ take_all n new (omega (arith, en, e))
 
+-- .. where the part was looked at and written back
+pub back_into : {X : Type 0} (n : ℕ) (new old was : List X) → length was ≡ n → was ≡ old → length new ≡ length was → take n (new ++ drop (length new) old) ≡ new
+back_into n new old was whole same number = back n new old (omega (arith, whole, ap length same)) (number ∙ ap length same)
+
 -- ---- the work
 
 place_of_seat : (seats : List SeatMemory) (k : ℕ) → place_at (map (λ (s : SeatMemory). s.place) seats) k ≡ (seat_at seats k).place
