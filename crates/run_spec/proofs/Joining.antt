@@ -121,6 +121,12 @@ cut_call r p c a l is = record {
     early : s.0 ≤ p
     early = (standing_now r p ds (left_of p r.orders) so).opened c s.0 s.1
 
+-- **A call that is opened before the earlier end is opened in the whole run.**
+opened_anyway : (r : Run) (p c : ℕ) → AreOrders r.orders → p ≤ r.periods → IsOpened (cut_at p r) c → IsOpened r c
+opened_anyway r p c a l is =
+    let s = opened_some (done_in (cut_at p r)) c is in
+    ap is_some (opened_run r p (done_in (cut_at p r)) (left_of p r.orders) c s.0 (so_far_cut r p a l) s.1)
+
 -- **What a run writes on the lines of a call is what it writes to the earlier end, and behind that the octets of the later periods.**
 joins_out : (r : Run) (p c : ℕ) → IsCutCall r p c → out_of_call r c ≡ out_of_call (cut_at p r) c ++ drop (160 * worked_to r p c) (out_of_call r c)
 joins_out r p c is =
@@ -166,6 +172,7 @@ opens_later r p c a l is shut = elim (opened_cases ds rest c s.0 (sym (ap (opene
 -- **A run is joined of two.**
 pub joins : (r : Run) (p : ℕ) → AreOrders r.orders → p ≤ r.periods → Joins r p
 joins r p a l = record {
+  opened = λ c is. opened_anyway r p c a l is;
   out = λ c is. joins_out r p c (cut_call r p c a l is);
   down = λ c is. joins_down r p c (cut_call r p c a l is);
   later = λ c is shut. opens_later r p c a l is shut;
