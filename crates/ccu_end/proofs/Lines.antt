@@ -17,7 +17,8 @@ use Rattle.ccu_end.proofs.Searching.{IsAt, AreAt, AreApart, IsInside, all-found}
 
 -- ---- one frame more at the end
 
-apart-more : (low high more : ℕ) (f : FoundFrame) (fs : List FoundFrame) → AreApart low fs high → high ≤ f.place → f.place + 316 ≤ more → AreApart low (fs ++ f ∷ []) more
+apart-more : (low high more : ℕ) (f : FoundFrame) (fs : List FoundFrame) → AreApart low fs high → high ≤ f.place → f.place + 316 ≤ more →
+    AreApart low (fs ++ f ∷ []) more
 apart-more low high more f [] a h l = (omega arith, l)
 apart-more low high more f (g ∷ fs) a h l = (a.0, apart-more (g.place + 316) high more f fs a.1 h l)
 
@@ -95,7 +96,8 @@ line-first = record {
       absurd (omega arith);
 }
 
-pub line-more : (line : List ℕ) (fs : List FoundFrame) (end more : ℕ) (v : ℤ) (bits : List ℕ) (f : FoundFrame) → IsLine line fs end → length line ≡ end → f.place ≡ end →
+pub line-more : (line : List ℕ) (fs : List FoundFrame) (end more : ℕ) (v : ℤ) (bits : List ℕ) (f : FoundFrame) → IsLine line fs end → length line ≡ end →
+    f.place ≡ end →
     IsFrame bits → IsShift v → more ≡ end + 2 * octets_of v → f.frame ≡ down_frame_in bits → IsLine (line ++ frame_on_line v bits) (fs ++ f ∷ []) more
 line-more line fs end more v bits f h long place whole shift next says =
     let bounds = octets_of-bounds v shift in

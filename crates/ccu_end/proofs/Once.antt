@@ -8,7 +8,8 @@ use Rattle.ccu_end.specs.Found.{FoundFrame, is_found_at, FoundFrom}
 both_ways : (b : Bool) → b ≡ true → b ≡ false → ⊥
 both_ways b t f = cc
 
-same_place : (bits : List ℕ) (low : ℕ) (f g : FoundFrame) (fs gs : List FoundFrame) → FoundFrom bits low (f ∷ fs) → FoundFrom bits low (g ∷ gs) → f.place ≡ g.place
+same_place : (bits : List ℕ) (low : ℕ) (f g : FoundFrame) (fs gs : List FoundFrame) → FoundFrom bits low (f ∷ fs) → FoundFrom bits low (g ∷ gs) →
+    f.place ≡ g.place
 same_place bits low f g fs gs a b = elim (cases_order f.place g.place) [
   | inl e ↦ e
   | inr o ↦ elim o [
@@ -18,7 +19,8 @@ same_place bits low f g fs gs a b = elim (cases_order f.place g.place) [
 ]
 
 same_parts : (f g : FoundFrame) → f.place ≡ g.place → f.frame ≡ g.frame → f ≡ g
-same_parts f g p e = ap (λ n. let h : FoundFrame = record { place = n; frame = f.frame } in h) p ∙ ap (λ x. let h : FoundFrame = record { place = g.place; frame = x } in h) e
+same_parts f g p e = ap (λ n. let h : FoundFrame = record { place = n; frame = f.frame } in h) p
+    ∙ ap (λ x. let h : FoundFrame = record { place = g.place; frame = x } in h) e
 
 pub same_found : (bits : List ℕ) (low : ℕ) (fs gs : List FoundFrame) → FoundFrom bits low fs → FoundFrom bits low gs → fs ≡ gs
 same_found bits low [] [] a b = refl

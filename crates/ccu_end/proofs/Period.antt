@@ -32,7 +32,8 @@ at_most_two h = grind (arith, at_most_one h.first, at_most_one h.second)
 
 -- what a period that is fed gives
 pub takes_by : (ccu fed : CcuMemory) (block : List ℕ) (h : Heard) → length block ≡ 40 → fed.periods ≡ ccu.periods + 1 → fed.want ≡ ccu.want →
-    ((past : List (List ℕ)) (heard : List (List FoundFrame)) → Stands past heard ccu → Stands (block ∷ past) (frames_of h ∷ heard) fed) → Takes ccu fed block (frames_of h)
+    ((past : List (List ℕ)) (heard : List (List FoundFrame)) → Stands past heard ccu → Stands (block ∷ past) (frames_of h ∷ heard) fed) →
+    Takes ccu fed block (frames_of h)
 takes_by ccu fed block h long counted want history = record { long = long; counted = counted; want = want; few = at_most_two h; history = history }
 
 -- a call on the Up line leaves the Down line as it was, and one on the Down line the Up line
@@ -98,7 +99,8 @@ module _ (ccu ccu' : CcuMemory) (u u' d d' : LineState) (k : DeskState) (block :
 
 -- a whole period, in which these frames were found: it was read, then its answer was written, and then its frames were told
 module _ (ccu ccu' : CcuMemory) (u u1 u2 d d1 d2 : LineState) (k : DeskState) (block : List ℕ) (found : List FoundFrame)
-    (read : ReadsBlock u u1 filled.Whole block) (up_same : u2 ≡ u1) (down_same : d1 ≡ d) (fed : CcuMemory) (same : ccu' ≡ fed) (takes_fed : Takes ccu fed block found) where
+    (read : ReadsBlock u u1 filled.Whole block) (up_same : u2 ≡ u1) (down_same : d1 ≡ d) (fed : CcuMemory) (same : ccu' ≡ fed)
+    (takes_fed : Takes ccu fed block found) where
   takes : Takes ccu ccu' block found
   takes = subst (λ (s : CcuMemory). Takes ccu s block found) (sym same) takes_fed
 
@@ -164,7 +166,11 @@ module _ (ccu ccu' : CcuMemory) (u u1 u2 d d1 d2 : LineState) (k : DeskState) (b
           given = block;
           sent = octets_saying ccu'.answer;
           told = take front.0 lines;
-          moves = record { gives = gives; gains = sent_all; hears = record { written = front.2; to_come = tells.to_come; read_faults = tells.read_faults; later = tells.cause.later } };
+          moves = record {
+            gives = gives;
+            gains = sent_all;
+            hears = record { written = front.2; to_come = tells.to_come; read_faults = tells.read_faults; later = tells.cause.later };
+          };
           ends = record {
             found = found;
             takes = takes;
@@ -182,7 +188,11 @@ module _ (ccu ccu' : CcuMemory) (u u1 u2 d d1 d2 : LineState) (k : DeskState) (b
       given = block;
       sent = octets_saying ccu'.answer;
       told = lines_of found;
-      moves = record { gives = gives; gains = sent_all; hears = record { written = tells.ok; to_come = tells.to_come; read_faults = tells.read_faults; later = tells.cause.later } };
+      moves = record {
+        gives = gives;
+        gains = sent_all;
+        hears = record { written = tells.ok; to_come = tells.to_come; read_faults = tells.read_faults; later = tells.cause.later };
+      };
       ends = record {
         found = found;
         takes = takes;

@@ -91,7 +91,8 @@ not_before low high q f fs a l i = elim i [
   | inr later ↦ let r = inside-from (f.place + 316) high q fs a.1 later in absurd (omega arith)
 ]
 
-covered-past : (line : List ℕ) (n low : ℕ) (f : FoundFrame) (fs : List FoundFrame) → low ≤ f.place → Covered line n low (f ∷ fs) → Covered line n (f.place + 316) fs
+covered-past : (line : List ℕ) (n low : ℕ) (f : FoundFrame) (fs : List FoundFrame) → low ≤ f.place → Covered line n low (f ∷ fs) →
+    Covered line n (f.place + 316) fs
 covered-past line n low f fs l c = λ q h z. elim (c q (omega arith) z) [
   | inl here ↦ let b = here.1 in absurd (omega arith)
   | inr later ↦ later

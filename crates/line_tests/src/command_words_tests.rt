@@ -1,3 +1,5 @@
+//! What words ask for, command by command, and words that ask for nothing.
+
 use crate::rows::assert_rows;
 use command_words::{Asked, Settings, WordsFault, read_words};
 use std::alloc::{AllocError, Global};

@@ -1,2 +1,3 @@
 pub mod BitList
+pub mod Joined
 pub mod Octets

@@ -12,7 +12,8 @@ use Rattle.trau_submux.specs.Merges.{GivesBlock, GivesPart, Takes}
 use Rattle.trau_submux.proofs.Merged.{merged-take}
 
 module _ (before middle after : ℕ → Side → LineState) (call : ℕ) (subs : List (List ℕ)) (counts slot : List ℕ) (used : ℕ)
-    (reads : (j : ℕ) → j < 4 → GivesBlock (before (call + j) Up) (middle (call + j) Up) (get_or subs j []) (get_or counts j 0)) (read_others : AllButFour before middle call Up) (write_others : OthersStay middle after call Out)
+    (reads : (j : ℕ) → j < 4 → GivesBlock (before (call + j) Up) (middle (call + j) Up) (get_or subs j []) (get_or counts j 0))
+    (read_others : AllButFour before middle call Up) (write_others : OthersStay middle after call Out)
     (least : (j : ℕ) → j < 4 → used ≤ get_or counts j 0) (one : (j : ℕ) × (j < 4) × (used ≡ get_or counts j 0))
     (long : length slot ≡ 160) (octets : All (λ x. x < 256) slot) (carries : (j : ℕ) → j < 4 → subchannel j slot ≡ bits_of (get_or subs j [])) where
   few : used ≤ 40
@@ -69,16 +70,25 @@ module _ (before middle after : ℕ → Side → LineState) (call : ℕ) (subs :
   }
 
   gains : WritesAll (middle call Out) (after call Out) (Ok tt) (take (4 * used) slot) → Gains (before call Out) (after call Out) (take (4 * used) slot)
-  gains writes = subst (λ l. Gains l (after call Out) (take (4 * used) slot)) out_stays (record { written = writes.ok; to_come = writes.to_come; calm = writes.cause.ok })
+  gains writes = subst (λ l. Gains l (after call Out) (take (4 * used) slot)) out_stays
+      (record { written = writes.ok; to_come = writes.to_come; calm = writes.cause.ok })
 
   pub whole : used ≡ 40 → WritesAll (middle call Out) (after call Out) (Ok tt) (take (4 * used) slot) →
       (t : Takes (channel_lines before call Up) (channel_lines after call Up)) × (t.used ≡ 40) × Gains (before call Out) (after call Out) t.octets
   whole is writes = (takes, is, gains writes)
 
   pub ended : (used ≡ 40 → ⊥) → WritesAll (middle call Out) (after call Out) (Ok tt) (take (4 * used) slot) →
-      (t : Takes (channel_lines before call Up) (channel_lines after call Up)) × (t.used < 40) × ((j : ℕ) → j < 4 → get_or counts j 0 ≡ length (t.given j)) × Gains (before call Out) (after call Out) t.octets
+      (t : Takes (channel_lines before call Up) (channel_lines after call Up)) × (t.used < 40) × ((j : ℕ) → j < 4 → get_or counts j 0 ≡ length (t.given j))
+      × Gains (before call Out) (after call Out) t.octets
   ended is writes = (takes, omega (arith, few, is), λ j below. sym (length_given j below), gains writes)
 
   pub failed : WritesAll (middle call Out) (after call Out) (Err (record {})) (take (4 * used) slot) →
-      (t : Takes (channel_lines before call Up) (channel_lines after call Up)) × (call ≡ call) × (Out ≡ Out) × GainsFront (before call Out) (after call Out) t.octets
-  failed writes = (takes, refl, refl, subst (λ l. GainsFront l (after call Out) (take (4 * used) slot)) out_stays (record { count = writes.err.0; proper = writes.err.1; written = writes.err.2; to_come = writes.to_come; rose = writes.cause.failed }))
+      (t : Takes (channel_lines before call Up) (channel_lines after call Up)) × (call ≡ call) × (Out ≡ Out)
+      × GainsFront (before call Out) (after call Out) t.octets
+  failed writes = (
+    takes,
+    refl,
+    refl,
+    subst (λ l. GainsFront l (after call Out) (take (4 * used) slot)) out_stays
+        (record { count = writes.err.0; proper = writes.err.1; written = writes.err.2; to_come = writes.to_come; rose = writes.cause.failed }),
+  )

@@ -22,7 +22,8 @@ at_start lines call sent = record {
   others = λ c s not. refl;
 }
 
-module _ (before now after : ℕ → Side → LineState) (call : ℕ) (sent : ℕ → List ℕ) (n : ℕ) (few : n < 4) (so_far : WrittenSoFar before now call sent n) (others : OthersStay now after (call + n) Down) where
+module _ (before now after : ℕ → Side → LineState) (call : ℕ) (sent : ℕ → List ℕ) (n : ℕ) (few : n < 4) (so_far : WrittenSoFar before now call sent n)
+    (others : OthersStay now after (call + n) Down) where
   -- the line is as it was before its turn
   fresh : now (call + n) Down ≡ before (call + n) Down
   fresh = so_far.rest n (omega arith)
@@ -61,7 +62,8 @@ module _ (before now after : ℕ → Side → LineState) (call : ℕ) (sent : �
     record {
       one = few;
       before = earlier;
-      here = subst (λ l. GainsFront l (after (call + n) Down) (sent n)) fresh (record { count = writes.err.0; proper = writes.err.1; written = writes.err.2; to_come = writes.to_come; rose = writes.cause.failed });
+      here = subst (λ l. GainsFront l (after (call + n) Down) (sent n)) fresh
+          (record { count = writes.err.0; proper = writes.err.1; written = writes.err.2; to_come = writes.to_come; rose = writes.cause.failed });
       behind = λ j above small. later j above;
     },
   )
