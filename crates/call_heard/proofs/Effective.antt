@@ -67,7 +67,8 @@ pulses-noise draw (suc (suc (suc (suc j)))) below = absurd (omega (arith, below)
 shape-noise : (sid : Fields) (fall : ℕ) (draw : ℕ → ℕ → ℕ) → HasShape sid → HasShape (noise_of sid fall draw)
 unfolding noise_of noise_at
 shape-noise sid fall draw shape =
-    cond_both (nat_le fall 16) (noise_at sid fall draw) silent_fields HasShape (λ y. record { larc = shape.larc; pulses = pulses-noise draw }) (λ n. shape-silent)
+    cond_both (nat_le fall 16) (noise_at sid fall draw) silent_fields HasShape (λ y. record { larc = shape.larc; pulses = pulses-noise draw })
+    (λ n. shape-silent)
 
 shape-mix : (old new : Fields) (i : ℕ) → HasShape old → HasShape new → HasShape (mix_of old new i)
 unfolding mix_of
@@ -128,7 +129,8 @@ shaped-anchor (Sid q ∷ past) shaped = shaped.0
 shaped-anchor (Idle ∷ past) shaped = tt
 shaped-anchor (Lost missed ∷ past) shaped = shaped-more (Lost missed) (anchor_of past) (shaped-anchor past shaped.1)
 
-shape-start : (a : Anchor) (old : Fields → Fields) (q : Fields) → IsShapedAnchor a → ((r : Fields) → HasShape r → HasShape (old r)) → HasShape q → HasShape (start_from a old q)
+shape-start : (a : Anchor) (old : Fields → Fields) (q : Fields) → IsShapedAnchor a → ((r : Fields) → HasShape r → HasShape (old r)) → HasShape q →
+    HasShape (start_from a old q)
 shape-start NoAnchor old q anchor each shape = shape
 shape-start (AtGood p since) old q anchor each shape = shape
 shape-start (AtSid r since) old q anchor each shape =
@@ -139,7 +141,8 @@ unfolding old_of
 shape-old [] shaped q shape = shape
 shape-old (y ∷ past) shaped q shape =
     cond_both (is_anchor y) (start_from (anchor_of past) (λ r. old_of past r) q) (old_of past q) HasShape
-    (λ y. shape-start (anchor_of past) (λ r. old_of past r) q (shaped-anchor past shaped.1) (λ r h. shape-old past shaped.1 r h) shape) (λ n. shape-old past shaped.1 q shape)
+    (λ y. shape-start (anchor_of past) (λ r. old_of past r) q (shaped-anchor past shaped.1) (λ r h. shape-old past shaped.1 r h) shape)
+    (λ n. shape-old past shaped.1 q shape)
 
 abbrev IsShapedOrigin : Origin → Type 0
 IsShapedOrigin NoFrame = Unit {0}
@@ -163,7 +166,8 @@ pub shape-effective : (number : ℕ) (past : List Heard) → AreShaped past → 
 unfolding effective_of
 shape-effective number [] shaped = shape-silent
 shape-effective number (y ∷ past) shaped =
-    shape-handed _ _ (shaped-origin (anchor_of (y ∷ past)) (λ q. old_of (y ∷ past) q) (shaped-anchor (y ∷ past) shaped) (λ r h. shape-old (y ∷ past) shaped r h))
+    shape-handed _ _
+    (shaped-origin (anchor_of (y ∷ past)) (λ q. old_of (y ∷ past) q) (shaped-anchor (y ∷ past) shaped) (λ r h. shape-old (y ∷ past) shaped r h))
 
 pub handed-long : (number : ℕ) (ts : List CallPeriod) → length (bits260 (handed_fields (effective_of number (heard_of ts)))) ≡ 260
 handed-long number ts = length-bits260 _ (shape-effective number (heard_of ts) (shaped-call ts))

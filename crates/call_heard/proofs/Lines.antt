@@ -21,7 +21,8 @@ length-line who (t ∷ past) = omega (arith, length-append (down_line who past) 
 line-bits : (who : Who) (ts : List CallPeriod) → HandBits ts → AreBits (down_line who ts)
 line-bits who [] hand = All-nil (λ b. b < 2)
 line-bits who (t ∷ past) hand =
-    All-append (λ b. b < 2) (down_line who past) (down_now who (t ∷ past)) (line-bits who past (All-tail (λ t. IfSome t.handed (λ d. AreBits d)) t past hand)) (down_now-bits who (t ∷ past) hand)
+    All-append (λ b. b < 2) (down_line who past) (down_now who (t ∷ past)) (line-bits who past (All-tail (λ t. IfSome t.handed (λ d. AreBits d)) t past hand))
+    (down_now-bits who (t ∷ past) hand)
 
 pub line-again : (who : Who) (ts : List CallPeriod) → HandBits ts → bits_of (octets_of (down_line who ts)) ≡ down_line who ts
 line-again who ts hand = bits_of-octets_of (down_line who ts) (40 * length ts) (omega (arith, length-line who ts)) (line-bits who ts hand)

@@ -2,7 +2,7 @@
 use Rattle.std.proofs.Common.{◌≡◌, ℕ, All, List, [], ◌∷◌, length, filter, get_or}
 use Rattle.std.proofs.lemmas.List.Elements.{All-map}
 use Rattle.trau_bits.specs.Bits.{bits_of, octets_of, AreBits}
-use Rattle.call_leg.proofs.LineLaws.{bits260-are}
+use Rattle.trau_params.proofs.AreBits.{AreBits-bits260}
 use Rattle.call_spec.specs.Down.{down}
 use Rattle.call_spec.specs.Whole.{IsWhole}
 use Rattle.call_spec.proofs.Reading.{LooksBack}
@@ -23,10 +23,11 @@ long-item d ups = length-bits260 _ (shape-effective d (heard_by ups) (shaped-ups
 
 bits-item : (d : ℕ) (ups : List (List ℕ)) → AreBits (item_of d ups)
 unfolding item_of
-bits-item d ups = bits260-are _
+bits-item d ups = AreBits-bits260 _
 
 -- each item that is handed to a call is one of its partner's
-each-item : (P : List ℕ → Type 0) → ((d : ℕ) (ups : List (List ℕ)) → P (item_of d ups)) → (r : Run) (c : ℕ) → All (λ span. All P span.items) (whole_call r c).spans
+each-item : (P : List ℕ → Type 0) → ((d : ℕ) (ups : List (List ℕ)) → P (item_of d ups)) → (r : Run) (c : ℕ) →
+    All (λ span. All P span.items) (whole_call r c).spans
 each-item P each r c =
     All-map (λ span. All P span.items) (span_for r c) (filter (begins_in r c) (spans_in r))
     (λ k d l. All-map P (item_in r (partner_in c (get_or (filter (begins_in r c) (spans_in r)) k d))) _ (λ i e m. each _ _))

@@ -51,11 +51,15 @@ each-reverse value (t ∷ past) = ap (λ z. z ++ value t past ∷ []) (each-reve
 pub each-later : {A B : Type 0} (value : A → List A → B) (later ts : List A) → (more : List B) × (each value (later ++ ts) ≡ each value ts ++ more)
 each-later value [] ts = ([], sym (append-nil (each value ts)))
 each-later value (t ∷ later) ts =
-    let before = each-later value later ts in
-    (before.0 ++ value t (later ++ ts) ∷ [], ap (λ z. z ++ value t (later ++ ts) ∷ []) before.1 ∙ append_assoc (each value ts) before.0 (value t (later ++ ts) ∷ []))
+    let before = each-later value later ts in (
+      before.0 ++ value t (later ++ ts) ∷ [],
+      ap (λ z. z ++ value t (later ++ ts) ∷ []) before.1 ∙ append_assoc (each value ts) before.0 (value t (later ++ ts) ∷ []),
+    )
 
-pub each-at : {A B : Type 0} (value : A → List A → B) (d : B) (ts : List A) (t : A) (past : List A) → IsPeriod ts t past → get_or (each value ts) (length past) d ≡ value t past
+pub each-at : {A B : Type 0} (value : A → List A → B) (d : B) (ts : List A) (t : A) (past : List A) → IsPeriod ts t past →
+    get_or (each value ts) (length past) d ≡ value t past
 each-at value d ts t past p =
     let more = each-later value p.0 (t ∷ past) in
-    ap (λ us. get_or (each value us) (length past) d) (sym p.1) ∙ ap (λ z. get_or z (length past) d) (more.1 ∙ append_assoc (each value past) (value t past ∷ []) more.0) ∙
+    ap (λ us. get_or (each value us) (length past) d) (sym p.1)
+    ∙ ap (λ z. get_or z (length past) d) (more.1 ∙ append_assoc (each value past) (value t past ∷ []) more.0) ∙
     get_or_at (each value past) (value t past) more.0 d (length past) (length-each value past)

@@ -75,14 +75,16 @@ before r x (y ∷ past) = if r y x then y ∷ before r y past else []
 abbrev pub newest : {A : Type 0} → (A → A → Bool) → A → List A → List A
 newest r x past = x ∷ before r x past
 
-join-newest : {A : Type 0} (r : A → A → Bool) (x y : A) (s : List A) → join r x (reverse (y ∷ s)) ≡ (if r y x then reverse (x ∷ y ∷ s) ∷ [] else reverse (y ∷ s) ∷ (x ∷ []) ∷ [])
+join-newest : {A : Type 0} (r : A → A → Bool) (x y : A) (s : List A) →
+    join r x (reverse (y ∷ s)) ≡ (if r y x then reverse (x ∷ y ∷ s) ∷ [] else reverse (y ∷ s) ∷ (x ∷ []) ∷ [])
 join-newest r x y s =
     ap (join r x) (reverse-more y s) ∙ join-last r x y (reverse s) ∙
     ap (λ z. if r y x then (z ++ x ∷ []) ∷ [] else z ∷ (x ∷ []) ∷ []) (sym (reverse-more y s)) ∙
     ap (λ z. if r y x then z ∷ [] else reverse (y ∷ s) ∷ (x ∷ []) ∷ []) (sym (reverse-more x (y ∷ s)))
 
 -- the last stretch is the one that ends with the newest item
-pub last_stretch : {A : Type 0} (r : A → A → Bool) (x : A) (past : List A) → (cut : List (List A)) × (stretches r (reverse (x ∷ past)) ≡ cut ++ reverse (newest r x past) ∷ [])
+pub last_stretch : {A : Type 0} (r : A → A → Bool) (x : A) (past : List A) →
+    (cut : List (List A)) × (stretches r (reverse (x ∷ past)) ≡ cut ++ reverse (newest r x past) ∷ [])
 last_stretch r x [] = ([], refl)
 last_stretch {A = A} r x (y ∷ past) = by (r y x) refl (last_stretch r y past)
   where
@@ -136,5 +138,6 @@ stretched-more r F f h x (y ∷ past) = by (last_stretch r y past) (r y x) refl
         ap (λ cut. flat_map F (put_after r x cut)) s.1 ∙ ap (flat_map F) (put_after-last r x s.0 (reverse (newest r y past))) ∙
         flat_map-append F s.0 (join r x (reverse (newest r y past))) ∙ ap (λ z. flat_map F s.0 ++ flat_map F z) (join-newest r x y (before r y past)) in
         let were : flat_map F (stretches r (reverse (y ∷ past))) ≡ flat_map F s.0 ++ F (reverse (newest r y past)) =
-        ap (flat_map F) s.1 ∙ flat_map-append F s.0 (reverse (newest r y past) ∷ []) ∙ ap (λ z. flat_map F s.0 ++ z) (append-nil (F (reverse (newest r y past)))) in
+        ap (flat_map F) s.1 ∙ flat_map-append F s.0 (reverse (newest r y past) ∷ [])
+        ∙ ap (λ z. flat_map F s.0 ++ z) (append-nil (F (reverse (newest r y past)))) in
         now ∙ parts s.0 b e ∙ ap (λ z. z ++ f x (before r x (y ∷ past))) (sym were)

@@ -1,4 +1,5 @@
-// The whole text of a report.
+//! The whole text of a report.
+
 ghost use Rattle.std.specs.Prelude.{◌≡◌, ◌++◌, IfOk, OnOk, string_bytes};
 ghost use Rattle.std.specs.List.{flat_map};
 ghost use Rattle.farm_report.specs.Lines.{report_text};

@@ -17,7 +17,7 @@ use Rattle.call_number.specs.CallNumber.{IsCallNumber}
 use Rattle.farm_rounds.specs.Calls.{holds, group_in, call_in, call_of, calls_held}
 use Rattle.trau_io.specs.declared.line.Line.{Line}
 use Rattle.farm_rounds.specs.declared.tally.Tally.{Tally}
-use Rattle.farm_rounds.specs.Memory.{FarmMemory, no_tally, new_farm}
+use Rattle.farm_rounds.specs.Memory.{FarmMemory, no_tally, home_memory}
 use Rattle.farm_rounds.specs.Numbers.{IsRising, is_among}
 use Rattle.farm_rounds.specs.Groups.{IsCall, IsGroup, AreGroups, AreLive}
 use Rattle.farm_rounds.specs.Histories.{GroupsStand}
@@ -141,7 +141,7 @@ open_number most gs c k o = go (group_in gs c) refl o where
 -- ---- a farm with no call
 
 pub farm_new : (gs : List Group) (live : List ℕ) (kept : List Tally) (failed : List Line) → gs ≡ [] → live ≡ [] → kept ≡ replicate 4097 no_tally → failed ≡ [] →
-    make_farm gs live kept failed 0 ≡ new_farm
+    make_farm gs live kept failed 0 ≡ home_memory
 farm_new gs live kept failed eg el ek ef =
     ap (λ (x : List Group). make_farm x live kept failed 0) eg ∙ ap (λ (x : List ℕ). make_farm [] x kept failed 0) el
     ∙ ap (λ (x : List Tally). make_farm [] [] x failed 0) ek ∙ ap (λ (x : List Line). make_farm [] [] (replicate 4097 no_tally) x 0) ef

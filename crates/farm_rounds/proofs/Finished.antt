@@ -3,16 +3,17 @@ use Rattle.std.proofs.Common.{◌≡◌, ◌≢◌, refl, sym, ap, ◌∙◌, su
 use Rattle.std.specs.Prelude.{if◌then◌else◌, ◌==◌, is_some}
 use Rattle.std.specs.Option.{option_map}
 use Rattle.std.proofs.lemmas.Bool.{cases_eq, eqb-true, eq-eqb, ne_eqb}
-use Rattle.call_leg.specs.Settings.{Settings, without_bridge}
+use Rattle.call_leg.specs.Settings.{Settings, without_bridge, settings_at}
 use Rattle.call_leg.specs.Stands.{Stands}
 use Rattle.call_pair.specs.declared.job.Job.{Job}
 use Rattle.call_pair.specs.declared.job.Job.TheVariants.{One, Two}
 use Rattle.call_pair.specs.Memory.{IoMemory, HalfMemory, IsIo}
 use Rattle.call_pair.specs.Jobs.{half_of, finished}
-use Rattle.call_pair.specs.History.{Start, settings_at, settings_past, io_after, Begins}
+use Rattle.call_pair.specs.History.{Start, settings_past, io_after, Begins}
 use Rattle.call_pair.specs.Finished.{HasWorkedBridged, OneWorked, TwoWorked}
 use Rattle.call_pair.proofs.Places.{is_below, not_below}
-use Rattle.call_pair.proofs.Runs.{one-finished, two-finished}
+use Rattle.call_pair.proofs.RunsAlone.{one-finished}
+use Rattle.call_pair.proofs.Runs.{two-finished}
 use Rattle.round_lines.specs.Places.{whole_in}
 use Rattle.round_lines.specs.Seats.{SeatMemory}
 use Rattle.farm_rounds.specs.Histories.{CallHistory, whose}

@@ -10,6 +10,7 @@ pub mod Handing
 pub mod Taking
 pub mod Planning
 pub mod Settling
+pub mod Summing
 pub mod Seating
 pub mod Left
 pub mod Partners

@@ -3,7 +3,8 @@
 use Rattle.std.specs.Prelude.{◌≡◌, ℕ, ◌<◌, Bool, true, if◌then◌else◌, ◌==◌, Option, Some, None, is_some, unwrap_or, find, List, length}
 use Rattle.std.specs.Option.{option_map}
 use Rattle.call_leg.specs.Stands.{Stands}
-use Rattle.call_pair.specs.History.{Start, settings_at, settings_past, alone_periods, bridged_periods, io_after}
+use Rattle.call_leg.specs.Settings.{settings_at}
+use Rattle.call_pair.specs.History.{Start, settings_past, alone_periods, bridged_periods, io_after}
 use Rattle.round_lines.specs.Transfer.{has_failed}
 use Rattle.round_lines.specs.Places.{whole_in}
 use Rattle.round_lines.specs.Seats.{SeatMemory, new_seat}

@@ -7,9 +7,9 @@ ghost use Rattle.farm_top.specs.Farm.{pace_of};
 
 use crate::farm::{lines_have_the_headline, no_memory};
 use crate::status::{DESK_WRITE_FAULT, DONE};
+use command_words::Settings;
 use drill_run::run_drill;
 use farm_run::Pace;
-use command_words::Settings;
 use pool_run::Gate;
 use std::alloc::Global;
 use std::sync::Wait;

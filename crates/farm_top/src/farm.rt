@@ -14,14 +14,14 @@ use crate::status::{
     DESK_READ_FAULT, DESK_WRITE_FAULT, DONE, LINE_FAILED, NO_MEMORY, ORDERS_REFUSED,
     ORDERS_TOO_LONG,
 };
-use run_calls_spec::{
-    items_are_the_partners_frames, items_go_out_in_order_and_once, lines_are_of_whole_calls,
-};
+use command_words::Settings;
 use farm_orders::{OrdersFault, read_orders};
 use farm_report::{Report, write_report};
 use farm_run::{Pace, run};
-use command_words::Settings;
 use pool_run::Gate;
+use run_calls_spec::{
+    items_are_the_partners_frames, items_go_out_in_order_and_once, lines_are_of_whole_calls,
+};
 use std::alloc::Global;
 use std::sync::Wait;
 use std::thread::Threads;

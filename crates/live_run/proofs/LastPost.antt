@@ -7,7 +7,7 @@ use Rattle.std.proofs.lemmas.List.{map-append, length-map}
 use Rattle.farm_live.specs.declared.post.Post.{Post}
 use Rattle.farm_live.specs.declared.post.Entry.{Entry}
 use Rattle.farm_live.specs.declared.slot.View.{View}
-use Rattle.farm_live.specs.Book.{Known, record_of, of_caller, NumberedFrom, is_of_post}
+use Rattle.farm_live.specs.Book.{BookState, record_of, of_caller, NumberedFrom, is_of_post}
 use Rattle.farm_live.specs.Slot.{times, all_callers, BeginsWith, own_posts}
 use Rattle.farm_live.specs.Turns.{Closes}
 use Rattle.live_run.specs.Posts.{drawn_posts}
@@ -36,7 +36,7 @@ own_some zero ps h = absurd (omega arith)
 own_some (suc n) ps h = refl
 
 -- a book that is closed by all callers, of which one has made posts, has these posts
-pub record_is : (v : View) (b : Known) (seed o call n : ℕ) → Closes v b → v.made ≡ drawn_posts seed o call n →
+pub record_is : (v : View) (b : BookState) (seed o call n : ℕ) → Closes v b → v.made ≡ drawn_posts seed o call n →
     ((c : ℕ) → 0 < times c all_callers → 0 < times c v.callers) →
     record_of b ≡ drawn_posts seed o call n
 record_is v b seed o call n closes made all = sym (only_of o (record_of b)
@@ -74,7 +74,7 @@ no_items : (xs : List Post) → length xs ≡ 0 → xs ≡ []
 no_items [] e = refl
 no_items (x ∷ xs) e = absurd (omega arith)
 
-pub all_worked : (seed o call n : ℕ) (b k : Known) (e : Entry) → 1 ≤ n → record_of b ≡ drawn_posts seed o call n → NumberedFrom 0 (record_of b) → BeginsWith b k →
+pub all_worked : (seed o call n : ℕ) (b k : BookState) (e : Entry) → 1 ≤ n → record_of b ≡ drawn_posts seed o call n → NumberedFrom 0 (record_of b) → BeginsWith b k →
     find (is_of_post o (n - 1)) k.history ≡ Some e →
     map (λ x. x.post) b.history ≡ drawn_posts seed o call n
 unfolding record_of

@@ -1,5 +1,5 @@
 -- The periods of a call as a whole are those that it has in the run.
-use Rattle.std.proofs.Common.{◌≡◌, refl, sym, ap, ◌∙◌, subst, ℕ, zero, suc, ◌+◌, ◌-◌, ◌*◌, ◌/◌, ◌<◌, ◌≤◌, min, true, Option, Some, None, List, [], ◌∷◌, ◌++◌, length, take, drop, pos, arith}
+use Rattle.std.proofs.Common.{◌≡◌, refl, sym, ap, ◌∙◌, subst, ℕ, zero, suc, ◌+◌, ◌-◌, ◌*◌, ◌/◌, ◌<◌, ◌≤◌, min, true, Option, Some, None, List, ◌∷◌, length, take, drop, pos, arith}
 use Rattle.std.specs.Prelude.{is_some}
 use Rattle.std.proofs.lemmas.List.{length-take-le, drop-take, take-take}
 use Rattle.std.proofs.lemmas.List.FromFn.{length-map-range_with_len, get_or-map-range_with_len}
@@ -7,18 +7,13 @@ use Rattle.trau_orders.specs.declared.order.DtxMode.TheVariants.{Uplink}
 use Rattle.trau_orders.specs.Lists.{AreOrders}
 use Rattle.switchboard.specs.Calls.{opened_at}
 use Rattle.switchboard.specs.Ends.{whole_of}
-use Rattle.call_leg.specs.Who.{Who}
-use Rattle.call_leg.specs.Periods.{CallPeriod}
-use Rattle.call_leg.specs.Out.{out_of}
 use Rattle.call_spec.specs.Call.{Setting, periods, setting_at}
-use Rattle.call_spec.specs.History as call
-use Rattle.call_spec.specs.Whole.{AreSpans, IsWhole, period_at, first_periods, history_of}
+use Rattle.call_spec.specs.Whole.{AreSpans, IsWhole, call_period, first_periods, periods_of_call}
 use Rattle.run_spec.specs.Run.{Run, given_in, whole_in, done_in, start_in, end_in, period_of, periods_to, periods_in}
-use Rattle.run_spec.specs.Lines as run
 use Rattle.run_spec.proofs.SoFar.{standing_end}
 use Rattle.run_spec.proofs.Settling.{start_is}
 use Rattle.run_spec.proofs.Settled.{same_period}
-use Rattle.run_spec.proofs.History.{ends_within}
+use Rattle.run_spec.proofs.Covering.{ends_within}
 use Rattle.run_calls_spec.specs.Whole.{count_in, setting_in, whole_call}
 use Rattle.run_calls_spec.proofs.Spans.{spans_ordered, starts_in, handed_in}
 
@@ -69,7 +64,7 @@ up_part k n xs l = part_of 40 k (40 * n) (40 * (n - k)) xs (omega arith) (omega 
 pcm_part : (k n : ℕ) (xs : List ℕ) → k < n → take 160 (drop (160 * k) (take (160 * n) xs)) ≡ take 160 (drop (160 * k) xs)
 pcm_part k n xs l = part_of 160 k (160 * n) (160 * (n - k)) xs (omega arith) (omega arith)
 
-period_same : (r : Run) (c k : ℕ) → AreOrders r.orders → k < count_in r c → period_at (whole_call r c) k ≡ period_of r c k
+period_same : (r : Run) (c k : ℕ) → AreOrders r.orders → k < count_in r c → call_period (whole_call r c) k ≡ period_of r c k
 unfolding period_of
 period_same r c k a l =
     let setting : setting_at (whole_call r c) k ≡ setting_in r c (start_in r c + k) =
@@ -84,14 +79,9 @@ period_same r c k a l =
 
 pub first_same : (r : Run) (c n : ℕ) → AreOrders r.orders → n ≤ count_in r c → first_periods (whole_call r c) n ≡ periods_to r c n
 first_same r c zero a l = refl
-first_same r c (suc k) a l = ap (λ t. t ∷ first_periods (whole_call r c) k) (period_same r c k a (omega arith)) ∙ ap (λ ts. period_of r c k ∷ ts) (first_same r c k a (omega arith))
+first_same r c (suc k) a l =
+    ap (λ t. t ∷ first_periods (whole_call r c) k) (period_same r c k a (omega arith)) ∙ ap (λ ts. period_of r c k ∷ ts) (first_same r c k a (omega arith))
 
 -- **Its periods are those that it has in the run.**
-pub history_same : (r : Run) (c : ℕ) → AreOrders r.orders → history_of (whole_call r c) ≡ periods_in r c
+pub history_same : (r : Run) (c : ℕ) → AreOrders r.orders → periods_of_call (whole_call r c) ≡ periods_in r c
 history_same r c a = ap (first_periods (whole_call r c)) (count_periods r c) ∙ first_same r c (count_in r c) a (omega arith)
-
--- ---- the Out line, as both crates write it
-
-pub out_lines : (who : Who) (ts : List CallPeriod) → run.out_line who ts ≡ call.out_line who ts
-out_lines who [] = refl
-out_lines who (t ∷ past) = ap (λ line. line ++ out_of who (t ∷ past)) (out_lines who past)

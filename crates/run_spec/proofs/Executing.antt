@@ -13,12 +13,9 @@ use Rattle.switchboard.specs.Calls.{Done, is_this, opened_by, closed_by, opened_
 use Rattle.switchboard.specs.Bridges.{ends_bridge, bridge_by, bridges}
 use Rattle.switchboard.specs.Replies.{reply_to}
 use Rattle.switchboard.specs.Runs.{executed, done_of, IsRun}
-use Rattle.switchboard.proofs.Appending.{or_else}
+use Rattle.switchboard.proofs.Appending.{or_else, stamp_of}
 
 -- ---- the orders that come later change
-
-abbrev stamp_of : Option Done → Option ℕ
-stamp_of o = option_map (λ d. d.order.stamp) o
 
 stamps_append : (t : Bool) (e : Done) (u v : Option Done) (w : Option ℕ) → stamp_of u ≡ or_else (stamp_of v) w →
     stamp_of (if t then Some e else u) ≡ or_else (stamp_of (if t then Some e else v)) w
@@ -40,7 +37,8 @@ abbrev pub after_all : List Done → Bridge → Bridge
 after_all later x = record x { ended = or_else x.ended (option_map (λ d. d.order.stamp) (find (λ d. ends_bridge x.a x.b d.result) later)) }
 
 bridge_by-append : (t : ℕ) (r : Result Act Refusal) (ds later : List Done) → bridge_by t r (ds ++ later) ≡ map (after_all later) (bridge_by t r ds)
-bridge_by-append t (Ok (act.Bridged a b)) ds later = ap (λ o. record { a = a; b = b; from = t; ended = o } ∷ []) (found_append (λ d. ends_bridge a b d.result) ds later)
+bridge_by-append t (Ok (act.Bridged a b)) ds later =
+    ap (λ o. record { a = a; b = b; from = t; ended = o } ∷ []) (found_append (λ d. ends_bridge a b d.result) ds later)
 bridge_by-append t (Ok (act.Opened c law)) ds later = refl
 bridge_by-append t (Ok (act.Closed c p)) ds later = refl
 bridge_by-append t (Ok (act.Unbridged a b)) ds later = refl
@@ -110,7 +108,8 @@ replies_append whole ds (d ∷ xs) ys h k =
 
 pub replies_back : (whole : ℕ → ℕ) (ds xs ys : List Done) → AreReplies whole ds (xs ++ ys) → AreReplies whole (ds ++ xs) ys
 replies_back whole ds [] ys h = subst (λ (ds : List Done). AreReplies whole ds ys) (sym (append-nil ds)) h
-replies_back whole ds (d ∷ xs) ys h = subst (λ (ds : List Done). AreReplies whole ds ys) (append_assoc ds (d ∷ []) xs) (replies_back whole (ds ++ d ∷ []) xs ys h.1)
+replies_back whole ds (d ∷ xs) ys h =
+    subst (λ (ds : List Done). AreReplies whole ds ys) (append_assoc ds (d ∷ []) xs) (replies_back whole (ds ++ d ∷ []) xs ys h.1)
 
 -- the reply to the last order of a run is that after all before it
 pub last_reply : (whole : ℕ → ℕ) (ds : List Done) (d : Done) → IsRun whole (ds ++ d ∷ []) → d.result ≡ reply_to (gone_at whole d.order.stamp ds) ds d.order
@@ -121,7 +120,8 @@ replies_run whole ds h = sym (replies_executed whole [] ds h)
 
 -- ---- the whole run
 
-passes_all : (P : ℕ) (ds : List Done) → AllByRecursion (λ d. nat_lt d.order.stamp P ≡ true) ds → filter (λ o. nat_lt o.stamp P) (map (λ d. d.order) ds) ≡ map (λ d. d.order) ds
+passes_all : (P : ℕ) (ds : List Done) → AllByRecursion (λ d. nat_lt d.order.stamp P ≡ true) ds →
+    filter (λ o. nat_lt o.stamp P) (map (λ d. d.order) ds) ≡ map (λ d. d.order) ds
 passes_all P [] h = refl
 passes_all P (d ∷ ds) h =
     ap (λ t. if t then d.order ∷ filter (λ o. nat_lt o.stamp P) (map (λ d. d.order) ds) else filter (λ o. nat_lt o.stamp P) (map (λ d. d.order) ds)) h.0
@@ -135,7 +135,8 @@ pub done-split : (whole : ℕ → ℕ) (P : ℕ) (orders left : List Order) (ds 
     AllByRecursion (λ d. nat_lt d.order.stamp P ≡ true) ds → done_of whole P orders ≡ ds ++ rest_of whole P ds left
 done-split whole P orders left ds r e below =
     ap (λ os. executed whole [] (filter (λ o. nat_lt o.stamp P) os)) (sym e)
-    ∙ ap (executed whole []) (filter-append (λ o. nat_lt o.stamp P) (map (λ d. d.order) ds) left ∙ ap (λ os. os ++ filter (λ o. nat_lt o.stamp P) left) (passes_all P ds below))
+    ∙ ap (executed whole [])
+    (filter-append (λ o. nat_lt o.stamp P) (map (λ d. d.order) ds) left ∙ ap (λ os. os ++ filter (λ o. nat_lt o.stamp P) left) (passes_all P ds below))
     ∙ executed-append whole [] (map (λ d. d.order) ds) (filter (λ o. nat_lt o.stamp P) left)
     ∙ ap (λ ds. executed whole ds (filter (λ o. nat_lt o.stamp P) left)) (sym r)
     ∙ executed-added whole ds (filter (λ o. nat_lt o.stamp P) left)

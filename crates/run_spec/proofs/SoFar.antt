@@ -14,7 +14,8 @@ use Rattle.run_spec.specs.Run.{Run, whole_in, done_in}
 use Rattle.run_spec.specs.Now.{IsSoFar, NoOrderTo}
 use Rattle.run_spec.proofs.Lists.{each_mapped, each_weaker, each_filter, each_passes}
 use Rattle.run_spec.proofs.Executing.{added, added_orders, added_replies, executed-added, run_replies, rest_of, done-split}
-use Rattle.run_spec.proofs.Standing.{Standing, RisesFrom, standing_none, standing_all}
+use Rattle.run_spec.proofs.Standing.{Standing, RisesFrom, standing_none}
+use Rattle.run_spec.proofs.Apart.{standing_all}
 
 -- ---- stamps don't fall
 
@@ -25,8 +26,10 @@ Rises t (o ∷ os) = (t ≤ o.stamp) × Rises o.stamp os
 rises : (t : ℕ) (os : List Order) → ((d : Order) → 0 < length os → t ≤ (get_or os 0 d).stamp) →
     ((i j : ℕ) (d : Order) → i ≤ j → j < length os → (get_or os i d).stamp ≤ (get_or os j d).stamp) → Rises t os
 rises t [] first rising = tt
-rises t (o ∷ os) first rising =
-    (first o (omega arith), rises o.stamp os (λ d l. rising 0 1 d (omega arith) (omega arith)) (λ i j d l m. rising (suc i) (suc j) d (omega arith) (omega arith)))
+rises t (o ∷ os) first rising = (
+  first o (omega arith),
+  rises o.stamp os (λ d l. rising 0 1 d (omega arith) (omega arith)) (λ i j d l m. rising (suc i) (suc j) d (omega arith) (omega arith)),
+)
 
 pub orders_rise : (os : List Order) → AreOrders os → Rises 0 os
 orders_rise os a = rises 0 os (λ d l. omega arith) a.rising
@@ -80,7 +83,8 @@ rest_orders r ds left = added_orders (whole_in r) ds (filter (λ o. nat_lt o.sta
 pub left_rises : (r : Run) (t : ℕ) (ds : List Done) (left : List Order) → IsSoFar r t ds left → Rises 0 left
 left_rises r t ds left s = back_rises 0 (map (λ d. d.order) ds) left (subst (Rises 0) (sym s.listed) (orders_rise r.orders s.orders))
 
-pub rest_above : (r : Run) (t u : ℕ) (ds : List Done) (left : List Order) → IsSoFar r t ds left → NoOrderTo u left → AllByRecursion (λ d. u < d.order.stamp) (rest_in r ds left)
+pub rest_above : (r : Run) (t u : ℕ) (ds : List Done) (left : List Order) → IsSoFar r t ds left → NoOrderTo u left →
+    AllByRecursion (λ d. u < d.order.stamp) (rest_in r ds left)
 rest_above r t u ds left s n = each_mapped (λ o. u < o.stamp) (λ d. d.order) (rest_in r ds left)
     (subst (AllByRecursion (λ o. u < o.stamp)) (sym (rest_orders r ds left)) (each_filter _ _ left (all_above u 0 left (left_rises r t ds left s) n)))
 
@@ -100,22 +104,26 @@ rest_from r t ds left s = each_mapped (λ o. t ≤ o.stamp) (λ d. d.order) (res
 pub standing_now : (r : Run) (t : ℕ) (ds : List Done) (left : List Order) → IsSoFar r t ds left → Standing (whole_in r) t ds
 standing_now r t ds left s =
     standing_all (whole_in r) 0 t [] ds (standing_none (whole_in r)) (run_replies (whole_in r) ds s.replies)
-    (done_rises 0 ds (front_rises 0 (map (λ d. d.order) ds) left (subst (Rises 0) (sym s.listed) (orders_rise r.orders s.orders)))) (omega arith) (recursion_from_All _ ds s.past)
+    (done_rises 0 ds (front_rises 0 (map (λ d. d.order) ds) left (subst (Rises 0) (sym s.listed) (orders_rise r.orders s.orders)))) (omega arith)
+    (recursion_from_All _ ds s.past)
 
 pub run_rises : (r : Run) → AreOrders r.orders → RisesFrom 0 (done_in r)
 run_rises r a =
     let os = filter (λ o. nat_lt o.stamp r.periods) r.orders in
-    subst (RisesFrom 0) (sym (executed-added (whole_in r) [] os)) (done_rises 0 (added (whole_in r) [] os) (subst (Rises 0) (sym (added_orders (whole_in r) [] os)) (filter_rises 0 _ r.orders (orders_rise r.orders a))))
+    subst (RisesFrom 0) (sym (executed-added (whole_in r) [] os))
+    (done_rises 0 (added (whole_in r) [] os) (subst (Rises 0) (sym (added_orders (whole_in r) [] os)) (filter_rises 0 _ r.orders (orders_rise r.orders a))))
 
 pub standing_end : (r : Run) → AreOrders r.orders → Standing (whole_in r) r.periods (done_in r)
 standing_end r a =
     let os = filter (λ o. nat_lt o.stamp r.periods) r.orders in
     let e = executed-added (whole_in r) [] os in
     let m = added_orders (whole_in r) [] os in
-    subst (Standing (whole_in r) r.periods) (sym e) (standing_all (whole_in r) 0 r.periods [] (added (whole_in r) [] os) (standing_none (whole_in r)) (added_replies (whole_in r) [] os)
+    subst (Standing (whole_in r) r.periods) (sym e)
+    (standing_all (whole_in r) 0 r.periods [] (added (whole_in r) [] os) (standing_none (whole_in r)) (added_replies (whole_in r) [] os)
     (done_rises 0 (added (whole_in r) [] os) (subst (Rises 0) (sym m) (filter_rises 0 _ r.orders (orders_rise r.orders a)))) (omega arith)
     (each_mapped (λ o. o.stamp ≤ r.periods) (λ d. d.order) (added (whole_in r) [] os)
-    (subst (AllByRecursion (λ o. o.stamp ≤ r.periods)) (sym m) (each_weaker (λ o. nat_lt o.stamp r.periods ≡ true) (λ o. o.stamp ≤ r.periods) os (λ o b. below o.stamp r.periods b) (each_passes _ r.orders)))))
+    (subst (AllByRecursion (λ o. o.stamp ≤ r.periods)) (sym m)
+    (each_weaker (λ o. nat_lt o.stamp r.periods ≡ true) (λ o. o.stamp ≤ r.periods) os (λ o b. below o.stamp r.periods b) (each_passes _ r.orders)))))
   where
     below : (a b : ℕ) → nat_lt a b ≡ true → a ≤ b
     below a b e = let l = ltb-true a b e in omega arith
@@ -133,7 +141,8 @@ so_far_at_first r a = record { orders = a; listed = refl; replies = refl; past =
     by [] = tt
     by (o ∷ os) = omega arith
 
-pub so_far_later : (r : Run) (t u : ℕ) (ds : List Done) (left : List Order) → IsSoFar r t ds left → t ≤ u → IfSome (first_stamp left) (λ s. u ≤ s) → IsSoFar r u ds left
+pub so_far_later : (r : Run) (t u : ℕ) (ds : List Done) (left : List Order) → IsSoFar r t ds left → t ≤ u → IfSome (first_stamp left) (λ s. u ≤ s) →
+    IsSoFar r u ds left
 so_far_later r t u ds left s l n = record {
   orders = s.orders;
   listed = s.listed;
@@ -143,11 +152,13 @@ so_far_later r t u ds left s l n = record {
   ahead = n;
 }
 
-pub so_far_more : (r : Run) (t : ℕ) (ds : List Done) (d : Done) (left : List Order) → IsSoFar r t ds (d.order ∷ left) → d.order.stamp ≡ t → t < r.periods → IsRun (whole_in r) (ds ++ d ∷ []) →
+pub so_far_more : (r : Run) (t : ℕ) (ds : List Done) (d : Done) (left : List Order) → IsSoFar r t ds (d.order ∷ left) → d.order.stamp ≡ t → t < r.periods →
+    IsRun (whole_in r) (ds ++ d ∷ []) →
     IsSoFar r t (ds ++ d ∷ []) left
 so_far_more r t ds d left s e l run = record {
   orders = s.orders;
-  listed = ap (λ os. os ++ left) (map-append (λ (d : Done). d.order) ds (d ∷ [])) ∙ append_assoc (map (λ (d : Done). d.order) ds) (d.order ∷ []) left ∙ s.listed;
+  listed =
+      ap (λ os. os ++ left) (map-append (λ (d : Done). d.order) ds (d ∷ [])) ∙ append_assoc (map (λ (d : Done). d.order) ds) (d.order ∷ []) left ∙ s.listed;
   replies = run;
   past = All-push (λ d. d.order.stamp ≤ t) ds d s.past (omega arith);
   within = All-push (λ d. d.order.stamp < r.periods) ds d s.within (omega arith);

@@ -1,3 +1,3 @@
 pub mod BitList
-pub mod Joined
 pub mod Octets
+pub mod Appended

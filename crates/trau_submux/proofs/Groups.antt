@@ -3,7 +3,7 @@ use Rattle.std.proofs.Common.{◌≡◌, inl, inr, ℕ, ◌+◌, ◌-◌, ◌*�
 use Rattle.std.proofs.lemmas.List.{get_or_append_left, get_or-append_right, length-take-le, take-append-drop, take_all, take_at}
 use Rattle.std.proofs.Math.Seq.{take-append-add}
 use Rattle.trau_bits.specs.Bits.{octets_of}
-use Rattle.trau_bits.proofs.Joined.{octets_of-append}
+use Rattle.trau_bits.proofs.Appended.{octets_of-append}
 use Rattle.trau_submux.specs.Channels.{channel, subchannel}
 use Rattle.trau_submux.specs.Splits.{whole_groups}
 use Rattle.trau_submux.proofs.Channels.{length-channel, length-subchannel, subchannel-append}
