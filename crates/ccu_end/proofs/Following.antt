@@ -18,6 +18,7 @@ use Rattle.ccu_end.proofs.SoFar.{moves_on, all_more, listed_more, sent_more, SoF
 
 module _ (ccu ccu' : CcuMemory) (want : ℕ) (u0 u1 u2 d0 d1 d2 : LineState) (k0 k1 k2 : DeskState) (n frames : ℕ)
     (so_far : SoFar ccu want u0 u1 d0 d1 k0 k1 n frames) where
+  -- no fault so far, and none in the period
   calm_on : NoFault u1 u2 d1 d2 k1 k2 → NoFault u0 u2 d0 d2 k0 k2
   calm_on calm = record {
     up_same = calm.up_same ∙ so_far.calm.up_same;
@@ -37,6 +38,7 @@ module _ (ccu ccu' : CcuMemory) (want : ℕ) (u0 u1 u2 d0 d1 d2 : LineState) (k0
     heard_now : List (List FoundFrame)
     heard_now = found ∷ so_far.heard
 
+    -- the end stands for the period too
     stands_now : Stands (reverse periods_now) heard_now ccu'
     unfolding periods_now heard_now
     stands_now = subst (λ past. Stands past heard_now ccu') (sym (reverse-append so_far.periods (given ∷ [])))
@@ -56,6 +58,7 @@ module _ (ccu ccu' : CcuMemory) (want : ℕ) (u0 u1 u2 d0 d1 d2 : LineState) (k0
     sent_now = sent_more want found so_far.heard
         ∙ ap (λ words. sent_up want so_far.heard ++ octets_saying words) (sym (stands_now.answer ∙ ap (λ w. asked w (found ∷ so_far.heard)) wanted_now))
 
+    -- its lines, and all octets and texts with it
     listed_now : listed heard_now ≡ listed so_far.heard ++ lines_of found
     unfolding heard_now
     listed_now = listed_more found so_far.heard

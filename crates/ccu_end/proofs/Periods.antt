@@ -36,6 +36,7 @@ ends-next window base low k (f ∷ fs) e n =
     let within = n.0.within in
     All-cons (EndsIn k) f fs (omega arith, omega arith) (ends-next window base (f.place + 316) k fs e n.1)
 
+-- one period more of found frames
 pub heard-next : (past : List (List ℕ)) (octets : List ℕ) (heard : List (List FoundFrame)) (fs : List FoundFrame) → ArePeriods past → length octets ≡ 40 →
     AreHeard past heard →
     AreNext (last_bits past ++ bits_of octets) (320 * length past) (low_after 0 (all_of heard)) fs → AreHeard (octets ∷ past) (fs ∷ heard)
@@ -69,6 +70,7 @@ pub record Went (memory after : CcuMemory) (octets : List ℕ) (fs : List FoundF
   pub waiting : after.waiting ≡ waiting_after memory.waiting memory.low memory.want fs
   pub answer : after.answer ≡ answer_after memory.waiting memory.low memory.want fs
 
+-- so what is kept stands for one more
 pub stands-next : (memory after : CcuMemory) (octets : List ℕ) (fs : List FoundFrame) → length octets ≡ 40 → Went memory after octets fs →
     (past : List (List ℕ)) (heard : List (List FoundFrame)) → Stands past heard memory → Stands (octets ∷ past) (fs ∷ heard) after
 unfolding last_bits all_of
@@ -95,6 +97,7 @@ stands-next memory after octets fs count w past heard s =
           answer-next memory.want fs heard ∙ ap (λ want. asked want (fs ∷ heard)) (sym w.want);
     }
 
+-- nothing is found in no bits
 none-found : (q : ℕ) → is_found_at [] q ≡ false
 none-found q = not_found [] q (λ h. absurd (omega arith))
 
@@ -102,6 +105,7 @@ pub heard-none : AreHeard [] []
 unfolding all_of line_bits
 heard-none = record { count = refl; all = λ q l. none-found q; each = tt }
 
+-- what is kept before the first period
 pub stands-first : (memory : CcuMemory) → memory.periods ≡ 0 → memory.last ≡ last_bits [] → memory.low ≡ 0 → memory.waiting ≡ None →
     memory.answer ≡ up_words None 0 → Stands [] [] memory
 unfolding all_of line_bits waiting answered asked

@@ -14,6 +14,7 @@ one_given None now octets xs ys told first second = absurd (cc)
 one_given (Some all) None octets xs ys told first second = absurd first
 one_given (Some all) (Some rest) octets xs ys told first second = append_cancel_right xs ys rest (sym first ∙ second)
 
+-- two lists of blocks begin with the same block, and go on alike
 front_is : (b c xs ys : List ℕ) → length b ≡ 40 → length c ≡ 40 → b ++ xs ≡ c ++ ys → b ≡ c
 front_is b c xs ys long longer same = sym (take_at b xs 40 long) ∙ ap (λ l. take 40 l) same ∙ take_at c ys 40 longer
 

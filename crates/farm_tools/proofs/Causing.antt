@@ -27,6 +27,7 @@ status_by (run.Refused n) = 8
 status_by run.ReadFailed = 6
 status_by run.WriteFailed = 6
 
+-- whoever ends as its run has its status
 pub status_of-end : (tool : Tool) (call : ℕ) (end : RunEnd) (result : ToolEnd) → IsEndOf tool call end result → status_of result ≡ status_by end
 status_of-end tool call (run.Done n left) Done is = refl
 status_of-end tool call (run.Done n left) (LineFault line) is = absurd is
@@ -61,6 +62,7 @@ module _ (tool : Tool) (call : ℕ) (u u' o o' : LineState) (k k' : DeskState) (
   last_more : IsTaken tool last → All (IsTaken tool) (blocks ++ last ∷ [])
   last_more one = All-append (IsTaken tool) blocks (last ∷ []) taken (All-cons (IsTaken tool) last [] one (All-nil (IsTaken tool)))
 
+  -- why the status comes, by the end and by what was told of it
   causes : (end : RunEnd) (result : ToolEnd) → EndsAs tool u u' o o' blocks last more end → TellsEnd tool call end k k' result →
       HasCauses tool u u' o o' k k' (status_of result)
   causes end result ends (inr (inr memory)) =
@@ -131,6 +133,7 @@ module _ (tool : Tool) (call : ℕ) (u u' o o' : LineState) (k k' : DeskState) (
             (append-nil _ ∙ concat-append blocks (last ∷ []) ∙ ap (λ l. concat blocks ++ l) (append-nil last)));
       }
 
+-- the same of the whole tool
 pub causes_of : (tool : Tool) (before now : ℕ → Side → LineState) (desk desk' : DeskState) (call : ℕ) (result : ToolEnd) →
     ToolRuns tool before now desk desk' call result → Causes tool call before now desk desk' (status_of result)
 causes_of tool before now desk desk' call result ran =

@@ -53,6 +53,7 @@ block_fields-data : (block d : List ℕ) → d ≡ data_of (bits_of block) → f
 unfolding block_fields
 block_fields-data block d is = ap fields_in is
 
+-- what `relay` makes of one more block
 pub relay_makes : (w : Work) (block d octets : List ℕ) (n : ℕ) → w ≡ work.Relay → IsGoodBlock block → d ≡ data_of (bits_of block) → n ≡ 40 →
     take 40 octets ≡ octets_of (down_bits (Speech d true)) → Makes w w block octets n
 relay_makes w block d octets n is good carried count e =
@@ -88,6 +89,7 @@ module _ (before after : DecoderMemory) (block d octets : List ℕ) (good : IsGo
       subst (λ l. decoder.Stands l after) (ap (λ f. f ∷ past) (block_fields-data block d carried) ∙ sym (reversed_more block_fields blocks block))
       (history past stands).0
 
+  -- so `decode` makes what it has to of one more block
   pub decoder_makes : (w : Work) (n : ℕ) → w ≡ work.Decode before → n ≡ 160 → Makes w (work.Decode after) block octets n
   decoder_makes w n is count =
       subst (λ v. Makes v (work.Decode after) block octets n) (sym is)
@@ -128,11 +130,13 @@ module _ (before after : EncoderMemory) (block octets : List ℕ) (long : length
       ∙ one_frame coded_frame (all_encodings past) (encoding_of (block_samples block) past)
       ∙ ap (λ l. made Encode blocks ++ l) (sym (history past stands).1)
 
+  -- and stands for one more
   encoder_more : (blocks : List (List ℕ)) → encoder.Stands (reverse (map block_samples blocks)) before →
       encoder.Stands (reverse (map block_samples (blocks ++ block ∷ []))) after
   encoder_more blocks stands =
       subst (λ l. encoder.Stands l after) (sym (reversed_more block_samples blocks block)) (history (reverse (map block_samples blocks)) stands).0
 
+  -- so `encode` makes what it has to of one more block
   pub encoder_makes : (w : Work) (n : ℕ) → w ≡ work.Encode before → n ≡ 40 → Makes w (work.Encode after) block octets n
   encoder_makes w n is count =
       subst (λ v. Makes v (work.Encode after) block octets n) (sym is)

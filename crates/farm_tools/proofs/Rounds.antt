@@ -28,6 +28,7 @@ use Rattle.farm_tools.proofs.Limit.{few_all, few_more, left_bound, refused_bound
 pub others_on : (a b c : ℕ → Side → LineState) (call : ℕ) (s t : Side) → AllButTwo a b call s t → AllButTwo b c call s t → AllButTwo a c call s t
 others_on a b c call s t first second = λ k side ne me. second k side ne me ∙ first k side ne me
 
+-- one move after another
 moves_on : (u0 u1 u2 o0 o1 o2 : LineState) (g h s t : List ℕ) → Moves u0 u1 o0 o1 g s → Moves u1 u2 o1 o2 h t → Moves u0 u2 o0 o2 (g ++ h) (s ++ t)
 moves_on u0 u1 u2 o0 o1 o2 g h s t first second = record {
   read = Consumes-trans _ _ _ _ _ first.read second.read;
@@ -65,6 +66,7 @@ made-nil Relay = refl
 made-nil Decode = refl
 made-nil Encode = refl
 
+-- before the first block
 pub at_start : (work : Work) (tool : Tool) (u o : LineState) → Stands work [] → SoFar work tool u u o o 0
 at_start work tool u o stands = record {
   blocks = [];
@@ -88,6 +90,7 @@ All-one P x h = λ k d lt. grind (arith, common_steps, h)
 
 module _ (work : Work) (tool : Tool) (u0 u1 u2 o0 o1 o2 : LineState) (n : ℕ) (of_tool : tool_of work ≡ tool) (so_far : SoFar work tool u0 u1 o0 o1 n)
     (room : n < 2 ^ 32 - 1) where
+  -- what was read is within the limit
   few_read : (last : List ℕ) → length last ≤ block_length tool → length (concat so_far.blocks ++ last) ≤ block_length tool * (2 ^ 32 - 1)
   few_read last part = few_more tool so_far.blocks n so_far.taken so_far.count last room part
 
@@ -95,6 +98,7 @@ module _ (work : Work) (tool : Tool) (u0 u1 u2 o0 o1 o2 : LineState) (n : ℕ) (
   last_moves : (given sent : List ℕ) → Moves u1 u2 o1 o2 given sent → Moves u0 u2 o0 o2 (concat so_far.blocks ++ given) (made tool so_far.blocks ++ sent)
   last_moves given sent moves = moves_on _ _ _ _ _ _ _ _ _ _ so_far.moves moves
 
+  -- no fault so far, and none in the block
   calm_on : NoFault u1 u2 o1 o2 → NoFault u0 u2 o0 o2
   calm_on calm = record { inc_same = calm.inc_same ∙ so_far.calm.inc_same; out_same = calm.out_same ∙ so_far.calm.out_same }
 
@@ -114,6 +118,7 @@ module _ (work : Work) (tool : Tool) (u0 u1 u2 o0 o1 o2 : LineState) (n : ℕ) (
         calm = calm_on one.ends.calm;
       }
 
+  -- the run ends: at the end of its line, at a refused block, or by the fault of a line
   pub line_ended : (work' : Work) (left : ℕ) → RunsOn work work' u1 u2 o1 o2 (LineEnded left) → Runs tool u0 u2 o0 o2 (run.Done n left)
   line_ended work' left one =
       let here = subst (λ t. EndsHere t u1 u2 o1 o2 left one.given one.sent) of_tool one.ends in

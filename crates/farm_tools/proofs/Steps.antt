@@ -40,11 +40,13 @@ refused_whole Relay block ended is = record { some = is.some; bound = is.bound; 
 refused_whole Decode block ended is = record { some = is.some; bound = is.bound; short = λ lt. absurd (is.short lt); bad = is.bad }
 refused_whole Encode block ended is = is
 
+-- what is refused where the line ended is refused for any such reason
 refused_part : (tool : Tool) (block : List ℕ) (ended : Type 0) → ended → IsRefused tool block (Unit {0}) → IsRefused tool block ended
 refused_part Relay block ended here is = record { some = is.some; bound = is.bound; short = λ lt. here; bad = is.bad }
 refused_part Decode block ended here is = record { some = is.some; bound = is.bound; short = λ lt. here; bad = is.bad }
 refused_part Encode block ended here is = is
 
+-- a part of a block
 take_short : (n : ℕ) (bytes : List ℕ) → n < length bytes → length (take n bytes) ≡ n
 take_short n bytes lt = simp length-take (omega (arith, lt))
 
@@ -136,6 +138,7 @@ module _ (work work' : Work) (inc inc' inc'' out mid out' : LineState) (block oc
     out_later = omega (arith, later, ap (λ (o : LineState). o.faults) stays);
   }
 
+  -- a part of what was made was written, or all of it
   pub written_front : WritesAll mid out' (Err (record {})) (take n octets) → RunsOn work work' inc inc'' out out' WriteFailed
   written_front w =
       let bytes = take n octets in

@@ -19,6 +19,7 @@ use Rattle.frame_listing.specs.Step.{ListsOn, NoFault, Takes}
 use Rattle.frame_listing.specs.Texts.{line_of, listed}
 use Rattle.frame_listing.proofs.Blocks.{concat_push, few_with, front_of}
 
+-- one move after another
 moves_on : (u0 u1 u2 : LineState) (k0 k1 k2 : DeskState) (g h s t : List ℕ) → Moves u0 u1 k0 k1 g s → Moves u1 u2 k1 k2 h t →
     Moves u0 u2 k0 k2 (g ++ h) (s ++ t)
 moves_on u0 u1 u2 k0 k1 k2 g h s t first second = record {
@@ -58,6 +59,7 @@ pub record SoFar (sync : SyncMemory) (u0 u1 : LineState) (k0 k1 : DeskState) (n 
   pub moves : Moves u0 u1 k0 k1 (concat periods) (listed periods)
   pub calm : NoFault u0 u1 k0 k1
 
+-- before the first period
 pub at_start : (sync : SyncMemory) (u : LineState) (k : DeskState) → sync.periods ≡ 0 → Stands [] sync → SoFar sync u u k k 0 0
 unfolding each_yield
 at_start sync u k none stands = record {
@@ -81,9 +83,11 @@ at_start sync u k none stands = record {
 }
 
 module _ (sync sync' : SyncMemory) (u0 u1 u2 : LineState) (k0 k1 k2 : DeskState) (n yields : ℕ) (so_far : SoFar sync u0 u1 k0 k1 n yields) where
+  -- no fault so far, and none in the period
   calm_on : NoFault u1 u2 k1 k2 → NoFault u0 u2 k0 k2
   calm_on calm = record { up_same = calm.up_same ∙ so_far.calm.up_same; desk_same = calm.desk_same ∙ so_far.calm.desk_same }
 
+  -- and one whole period more
   whole_more : (given : List ℕ) → length given ≡ 40 → ArePeriods (so_far.periods ++ given ∷ [])
   whole_more given long = All-append (λ octets. length octets ≡ 40) so_far.periods (given ∷ []) so_far.whole
       (All-cons (λ octets. length octets ≡ 40) given [] long (All-nil (λ octets. length octets ≡ 40)))
@@ -93,12 +97,15 @@ module _ (sync sync' : SyncMemory) (u0 u1 u2 : LineState) (k0 k1 k2 : DeskState)
 
   -- one period more, with this yield or none
   module _ (given told : List ℕ) (found : Option Yield) (takes : Takes sync sync' given found) (moves : Moves u1 u2 k1 k2 given told) where
+    -- the period's yield is that of the definition
     yield_is : found ≡ yield_of given (reverse so_far.periods)
     yield_is = (takes.history (reverse so_far.periods) so_far.stands).1
 
+    -- the search stands for the period too
     stands_more : Stands (reverse (so_far.periods ++ given ∷ [])) sync'
     stands_more = subst (λ past. Stands past sync') (sym (reverse-append so_far.periods (given ∷ []))) (takes.history (reverse so_far.periods) so_far.stands).0
 
+    -- the yields, their lines and the octets of all periods, with this one
     yields_now : all_yields (so_far.periods ++ given ∷ []) ≡ all_yields so_far.periods ++ option_to_list found
     yields_now = yields_more so_far.periods given ∙ ap (λ f. all_yields so_far.periods ++ option_to_list f) (sym yield_is)
 
@@ -109,6 +116,7 @@ module _ (sync sync' : SyncMemory) (u0 u1 u2 : LineState) (k0 k1 k2 : DeskState)
     moves_now = subst (λ l. Moves u0 u2 k0 k2 l (listed so_far.periods ++ told)) (sym (concat_push so_far.periods given))
         (moves_on _ _ _ _ _ _ _ _ _ _ so_far.moves moves)
 
+    -- the listing with one period more
     one_more : (more : ℕ) → more ≤ 1 → more ≡ length (option_to_list found) → told ≡ flat_map line_of (option_to_list found) → NoFault u1 u2 k1 k2 →
         SoFar sync' u0 u2 k0 k2 (n + 1) (yields + more)
     one_more more at_most number is calm = record {
@@ -123,6 +131,7 @@ module _ (sync sync' : SyncMemory) (u0 u1 u2 : LineState) (k0 k1 k2 : DeskState)
       calm = calm_on calm;
     }
 
+  -- a period without a yield, and one whose yield is listed
   pub none_more : ListsOn sync sync' u1 u2 k1 k2 Without → SoFar sync' u0 u2 k0 k2 (n + 1) yields
   none_more one =
       let more = one_more one.given one.told None one.ends.0 one.moves 0 (omega arith) refl one.ends.1 one.ends.2 in
@@ -132,6 +141,7 @@ module _ (sync sync' : SyncMemory) (u0 u1 u2 : LineState) (k0 k1 k2 : DeskState)
   listed_one one = one_more one.given one.told (Some one.ends.found) one.ends.takes one.moves 1 (omega arith) refl
       (one.ends.line ∙ sym (append-nil (line_of one.ends.found))) one.ends.calm
 
+  -- the line ended, or failed, or the desk did
   pub line_ended : n < 2 ^ 32 - 1 → (left : ℕ) → ListsOn sync sync' u1 u2 k1 k2 (LineEnded left) → Lists u0 u2 k0 k2 (list.Done yields left)
   line_ended room left one = record {
     periods = so_far.periods;

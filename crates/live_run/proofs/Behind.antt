@@ -17,10 +17,12 @@ use Rattle.live_run.proofs.Drawn.{own_is, own_none, length-drawn, drawn_more, ne
 
 -- ---- one call
 
+-- how many posts are made
 pub few_made : (seed callers caller k n : ℕ) (v : View) → k % callers ≡ caller → Knows seed callers caller k n v → length v.made ≡ n
 few_made seed callers caller k n v own knows =
     ap length knows.made ∙ ap (λ (m : ℕ). length (drawn_posts seed caller (k + 1) m)) (own_is callers caller k n own) ∙ length-drawn seed caller (k + 1) n
 
+-- the generator of a call of one's own
 pub draws_at : (seed callers caller k n : ℕ) (g : Generator) → k % callers ≡ caller → IsDrawn seed callers caller k n g →
     g.x ≡ state_at seed (k + 1) (first_draw n)
 draws_at seed callers caller k n g own drawn = drawn ∙ ap (λ (m : ℕ). state_at seed (k + 1) (first_draw m)) (own_is callers caller k n own)
@@ -29,6 +31,7 @@ pub drawn_at : (seed callers caller k n : ℕ) (g : Generator) → k % callers �
     IsDrawn seed callers caller k n g
 drawn_at seed callers caller k n g own x = x ∙ ap (λ (m : ℕ). state_at seed (k + 1) (first_draw m)) (sym (own_is callers caller k n own))
 
+-- one post more is known
 knows_more : (seed callers caller k n : ℕ) (up pcm : List ℕ) (v w : View) → k % callers ≡ caller → up ≡ up_octets seed (k + 1) n →
     pcm ≡ pcm_octets seed (k + 1) n →
     Knows seed callers caller k n v → Gains (next_post caller up pcm v) v w → Knows seed callers caller k (n + 1) w
@@ -41,6 +44,7 @@ knows_more seed callers caller k n up pcm v w own p q knows gains =
       numbers = gains.callers ∙ knows.numbers;
     }
 
+-- of another's call nothing is made
 none_more : (callers caller k n m : ℕ) → k % callers ≢ caller → own_of callers caller k n ≡ own_of callers caller k m
 none_more callers caller k n m other = own_none callers caller k n other ∙ sym (own_none callers caller k m other)
 
@@ -48,6 +52,7 @@ knows_still : (seed callers caller k n m : ℕ) (v : View) → k % callers ≢ c
 knows_still seed callers caller k n m v other knows =
     record { made = knows.made ∙ ap (drawn_posts seed caller (k + 1)) (none_more callers caller k n m other); numbers = knows.numbers }
 
+-- nor drawn
 pub drawn_still : (seed callers caller k n m : ℕ) (g : Generator) → k % callers ≢ caller → IsDrawn seed callers caller k n g → IsDrawn seed callers caller k m g
 drawn_still seed callers caller k n m g other drawn = drawn ∙ ap (λ (j : ℕ). state_at seed (k + 1) (first_draw j)) (none_more callers caller k n m other)
 
@@ -61,6 +66,7 @@ not_own seed callers k n c other all = record {
   others = λ j s ne. refl;
 }
 
+-- a post of one's own
 own_posted : (seed callers k n : ℕ) (up pcm : List ℕ) (c d : Caller) → k % callers ≡ c.number → up ≡ up_octets seed (k + 1) n →
     pcm ≡ pcm_octets seed (k + 1) n →
     ((s : Seat) → Knows seed callers c.number k n (view_of (get_or c.seats.items k s))) →
@@ -71,6 +77,7 @@ own_posted seed callers k n up pcm c d own p q all m = record {
   others = m.others;
 }
 
+-- what follows where it went well
 pub on_ok : {A E : Type 0} (P Q : Type 0) (r : Result A E) → (P → Q) → OnOk r P → OnOk r Q
 on_ok P Q (Ok x) f h = f h
 on_ok P Q (Err e) f h = h
@@ -89,6 +96,7 @@ always_ok P (Err e) h = tt
 
 -- ---- all calls
 
+-- how many periods a call has in a round: done, to come
 more_before : (n k first : ℕ) → k < first → and_more n first k ≡ n + 1
 more_before n k first h = let t : nat_lt k first ≡ true = lt-ltb k first h in rw t refl
 
@@ -101,6 +109,7 @@ more_else n k first ne = elim (cases_lt k first) [
   | inr le ↦ let lt : first + 1 ≤ k = omega (arith, le, ne) in more_behind n k first le ∙ sym (more_behind n k (first + 1) lt)
 ]
 
+-- none before the first
 nothing : (b : Bool) → ◌≡◌ {A = ℕ} (if b then 0 else 0) 0
 nothing true = refl
 nothing false = refl
@@ -109,6 +118,7 @@ pub own_zero : (callers caller k : ℕ) → own_of callers caller k 0 ≡ 0
 own_zero callers caller k = nothing (k % callers == caller)
 
 module _ (seed calls callers caller : ℕ) where
+  -- by the same numbers
   behind_as : (f g : ℕ → ℕ) (c : Caller) (gs : List Generator) → ((k : ℕ) → k < calls → f k ≡ g k) → IsBehind seed calls callers caller f c gs →
       IsBehind seed calls callers caller g c gs
   behind_as f g c gs same b = record {
@@ -118,6 +128,7 @@ module _ (seed calls callers caller : ℕ) where
     draws = λ k d h. subst (λ (n : ℕ). IsDrawn seed callers caller k n (get_or gs k d)) (same k h) (b.draws k d h);
   }
 
+  -- a round begins and ends
   pub round_begins : (n : ℕ) (c : Caller) (gs : List Generator) → IsBehind seed calls callers caller (λ _. n) c gs →
       IsBehind seed calls callers caller (and_more n 0) c gs
   round_begins n c gs b = behind_as (λ _. n) (and_more n 0) c gs (λ k h. sym (more_behind n k 0 (omega arith))) b
@@ -133,12 +144,14 @@ module _ (seed calls callers caller : ℕ) where
       subst (λ (x : ℕ). Knows seed callers x k n (view_of (get_or c.seats.items k s))) (sym b.number)
       (subst (λ (x : ℕ). Knows seed callers caller k x (view_of (get_or c.seats.items k s))) (more_behind n k k (omega arith)) (b.knows k s there))
 
+  -- the generator here
   pub drawn_here : (n k : ℕ) (c : Caller) (gs : List Generator) (g : Generator) → k < calls → IsBehind seed calls callers caller (and_more n k) c gs →
       IsDrawn seed callers c.number k n (get_or gs k g)
   drawn_here n k c gs g there b =
       subst (λ (x : ℕ). IsDrawn seed callers x k n (get_or gs k g)) (sym b.number)
       (subst (λ (x : ℕ). IsDrawn seed callers caller k x (get_or gs k g)) (more_behind n k k (omega arith)) (b.draws k g there))
 
+  -- one call more
   pub one_more : (n k : ℕ) (c d : Caller) (gs : List Generator) (h : Generator) → k < calls → IsBehind seed calls callers caller (and_more n k) c gs →
       Moves (λ _ w. Knows seed callers c.number k (n + 1) w) k c d → IsDrawn seed callers c.number k (n + 1) h →
       IsBehind seed calls callers caller (and_more n (k + 1)) d (set gs k h)
@@ -168,10 +181,12 @@ module _ (seed calls callers caller : ℕ) where
             (cases_eq j k);
       }
 
+  -- all rounds are posted
   pub posted_all : (n m : ℕ) (c : Caller) (gs : List Generator) → n ≡ m → IsBehind seed calls callers caller (λ _. n) c gs →
       HasPosted seed calls callers m caller c
   posted_all n m c gs e b = subst (λ (x : ℕ). HasPosted seed calls callers x caller c) e (record { number = b.number; each = b.knows })
 
+  -- before the first
   pub first_behind : (c : Caller) (gs : List Generator) → HasPosted seed calls callers 0 caller c → length gs ≡ calls →
       ((k : ℕ) (g : Generator) → k < calls → (get_or gs k g).x ≡ state_at seed (k + 1) 0) → IsBehind seed calls callers caller (λ _. 0) c gs
   first_behind c gs posted len first = record {

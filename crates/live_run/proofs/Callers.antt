@@ -19,6 +19,7 @@ use Rattle.live_run.proofs.Behind.{own_zero}
 use Rattle.live_run.proofs.Drawn.{none_drawn}
 use Rattle.live_run.proofs.Ended.{Ending}
 
+-- a list with items has one
 some_item : {X : Type 0} (xs : List X) → 0 < length xs → X
 some_item [] h = absurd (omega arith)
 some_item (x ∷ xs) h = x
@@ -41,6 +42,7 @@ module _ {Q A : Type 0} (seed calls callers inbox : ℕ) (slots : List (Line Q A
         };
   }
 
+  -- all callers are ready, and then have posted
   pub all_ready : (cs : List Caller) (ps qs : List Poster) → ps ≡ map poster_of cs → qs ≡ ps → HavePosted seed calls callers 0 inbox slots cs →
       (k : ℕ) (p : Poster) → k < length qs →
       IsReady seed calls callers inbox slots k (get_or qs k p)
@@ -99,9 +101,11 @@ module _ {Q A : Type 0} (seed calls callers inbox : ℕ) (slots : List (Line Q A
         (cases_eq i 0);
   }
     where
+      -- the first caller, written back
       here : (x : Caller) → get_or (set cs 0 d) 0 x ≡ d
       here x = let count = have.count in get_or-set_same cs 0 d x (omega (arith, count, some))
 
+  -- callers are seated
   pub first_seated : (n : ℕ) (cs : List Caller) (c : Caller) → 1 ≤ callers → c ≡ get_or cs 0 c → HavePosted seed calls callers n inbox slots cs →
       IsSeated inbox slots c
   first_seated n cs c some is have = subst (IsSeated inbox slots) (sym is) (have.seated 0 c (omega (arith, some)))
@@ -109,6 +113,7 @@ module _ {Q A : Type 0} (seed calls callers inbox : ℕ) (slots : List (Line Q A
   pub all_seated : (n : ℕ) (cs : List Caller) → HavePosted seed calls callers n inbox slots cs → AreAllSeated inbox slots cs
   all_seated n cs have = λ i c h. have.seated i c (omega (arith, h, have.count))
 
+  -- all that a closing needs
   pub ending : (n : ℕ) (cs : List Caller) (d : Caller) (k : ℕ) → 1 ≤ callers → callers ≤ 64 → 1 ≤ n → length slots ≡ calls →
       HavePosted seed calls callers n inbox slots cs →
       SawAll callers (n - 1) calls (get_or cs 0 d) → k < calls → Ending seed calls callers n cs d k
@@ -123,9 +128,11 @@ module _ {Q A : Type 0} (seed calls callers inbox : ℕ) (slots : List (Line Q A
     there = there;
   }
 
+-- the first, written back
 pub at_first : (cs : List Caller) (d : Caller) → 0 < length cs → get_or (set cs 0 d) 0 d ≡ d
 at_first cs d some = get_or-set_same cs 0 d d some
 
+-- a text by equal lines
 pub text_is : {V E : Type 0} (bytes : V → List ℕ) (r : Result V E) (xs ys last : List ℕ) → xs ≡ ys → IfOk r (λ t. bytes t ≡ xs ++ last) →
     IfOk r (λ t. bytes t ≡ ys ++ last)
 text_is bytes (Ok t) xs ys last e told = told ∙ ap (λ (zs : List ℕ). zs ++ last) e

@@ -22,14 +22,17 @@ own_none callers caller k n ne = let t : (k % callers == caller) ≡ false = ne_
 
 -- ---- drawn posts
 
+-- so many are drawn
 pub length-drawn : (seed caller call n : ℕ) → length (drawn_posts seed caller call n) ≡ n
 unfolding drawn_posts
 length-drawn seed caller call n = length-map-range_with_len (drawn_post seed caller call) 0 n
 
+-- one more
 pub drawn_more : (seed caller call n : ℕ) → drawn_posts seed caller call (n + 1) ≡ drawn_posts seed caller call n ++ drawn_post seed caller call n ∷ []
 unfolding drawn_posts
 drawn_more seed caller call n = map-range_with_len_more (drawn_post seed caller call) 0 n n (omega arith)
 
+-- they are their caller's own
 of_itself : (seed caller call : ℕ) (ns : List ℕ) → of_caller caller (map (drawn_post seed caller call) ns) ≡ map (drawn_post seed caller call) ns
 of_itself seed caller call [] = refl
 of_itself seed caller call (n ∷ ns) =
@@ -42,6 +45,7 @@ of_another seed caller call c (n ∷ ns) ne =
     let t : (caller == c) ≡ false = ne_eqb caller c ne in
     rw t (of_another seed caller call c ns ne)
 
+-- so are those of a call
 pub drawn_of : (seed caller call n : ℕ) → of_caller caller (drawn_posts seed caller call n) ≡ drawn_posts seed caller call n
 unfolding drawn_posts
 drawn_of seed caller call n = of_itself seed caller call (range_with_len 0 n)

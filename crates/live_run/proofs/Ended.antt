@@ -23,10 +23,12 @@ use Rattle.live_run.proofs.LastPost.{record_is, all_worked}
 
 -- ---- what all callers know of a call
 
+-- one caller more, from the last to the first
 turned : {A : Type 0} (h : Caller → List A) (c : Caller) (cs : List Caller) → flat_map h (reverse (c ∷ cs)) ≡ flat_map h (reverse cs) ++ h c
 turned h c cs = ap (flat_map h) (reverse-append (c ∷ []) cs) ∙ flat_map-append h (reverse cs) (c ∷ [])
     ∙ ap (λ l. flat_map h (reverse cs) ++ l) (append-nil (h c))
 
+-- where no caller has any, and where one has them all
 none_in : {A : Type 0} (h : Caller → List A) (cs : List Caller) (d : Caller) → ((i : ℕ) → i < length cs → h (get_or cs i d) ≡ []) → flat_map h (reverse cs) ≡ []
 none_in h [] d none = refl
 none_in h (c ∷ cs) d none =
@@ -44,6 +46,7 @@ one_in h (c ∷ cs) (suc o) d ys there is none =
     (one_in h cs o d ys (omega arith) is (λ i lt ne. none (suc i) (omega arith) (λ (e : suc i ≡ suc o). ne (let f : i ≡ o = omega arith in f))))
     ∙ ap (λ l. ys ++ l) (none 0 (omega arith) (λ (e : 0 ≡ suc o). absurd (omega arith))) ∙ append-nil ys
 
+-- a caller's share
 weight_in : (f : ℕ → ℕ) (h : Caller → List ℕ) (cs : List Caller) (i : ℕ) (d : Caller) → i < length cs →
     weigh f (h (get_or cs i d)) ≤ weigh f (flat_map h (reverse cs))
 weight_in f h [] i d there = absurd (omega arith)
@@ -51,6 +54,7 @@ weight_in f h (c ∷ cs) zero d there = omega (arith, ap (weigh f) (turned h c c
 weight_in f h (c ∷ cs) (suc i) d there = let rest = weight_in f h cs i d (omega arith) in
     omega (arith, rest, ap (weigh f) (turned h c cs), weigh-append f (flat_map h (reverse cs)) (h c))
 
+-- what was seen by two lists, and by one caller
 seen_parts : (b : BookState) (xs ys : List BookState) → AllSeen b (xs ++ ys) → AllSeen b xs × AllSeen b ys
 seen_parts b [] ys all = (tt, all)
 seen_parts b (x ∷ xs) ys all = let rest = seen_parts b xs ys all.1 in ((all.0, rest.0), rest.1)
@@ -62,10 +66,12 @@ seen_in b h (c ∷ cs) zero d there all = (seen_parts b (flat_map h (reverse cs)
 seen_in b h (c ∷ cs) (suc i) d there all =
     seen_in b h cs i d (omega arith) (seen_parts b (flat_map h (reverse cs)) (h c) (subst (AllSeen b) (turned h c cs) all)).0
 
+-- lists of lists
 flat_flat : {X Y A : Type 0} (f : Y → List A) (g : X → List Y) (xs : List X) → flat_map f (flat_map g xs) ≡ flat_map (λ x. flat_map f (g x)) xs
 flat_flat f g [] = refl
 flat_flat f g (x ∷ xs) = flat_map-append f (g x) (flat_map g xs) ∙ ap (λ l. flat_map f (g x) ++ l) (flat_flat f g xs)
 
+-- one view of a call
 one_view : (xs : List Seat) (k : ℕ) → k < length xs → (s : Seat) × (map view_of (take 1 (drop k xs)) ≡ view_of (get_or xs k s) ∷ [])
 one_view [] k h = absurd (omega arith)
 one_view (x ∷ xs) zero h = (x, refl)
@@ -73,6 +79,7 @@ one_view (x ∷ xs) (suc k) h = one_view xs k (omega arith)
 
 -- ---- each number is some caller's
 
+-- a number among those in order
 number_in : (c k n : ℕ) → k ≤ c → c < k + n → 0 < times c (ascending k n)
 number_in c k zero low high = absurd (omega arith)
 number_in c k (suc n) low high = ⊎_elim
@@ -93,6 +100,7 @@ number_out c k (suc n) h =
     let none : is_at c k ≡ 0 = ap bit t in
     omega (arith, none, number_out c (suc k) n (omega arith))
 
+-- callers are below 64
 number_below : (c : ℕ) → 0 < times c all_callers → c < 64
 unfolding all_callers
 number_below c some = elim (cases_lt c 64) [ inl lt ↦ lt | inr le ↦ absurd (omega (arith, some, number_out c 0 64 le)) ]
@@ -101,6 +109,7 @@ left_of_all : (c i : ℕ) → i ≤ c → c < 64 → 0 < times c (drop i all_cal
 unfolding all_callers
 left_of_all c i low high = number_left c i 0 64 (omega (arith, low)) (omega (arith, high))
 
+-- so each number is some caller's
 whose : (callers c : ℕ) → 1 ≤ callers → callers ≤ 64 → 0 < times c all_callers → (i : ℕ) × (i < callers) × (0 < times c (numbers_of callers i))
 whose callers c some few known =
     let below = number_below c known in elim (cases_lt (c + 1) callers) [

@@ -15,6 +15,7 @@ use Rattle.live_run.proofs.Drawn.{drawn_of, drawn_of_none, length-drawn}
 
 -- ---- the posts of one caller alone
 
+-- posts of one caller alone
 only_of : (o : ℕ) (xs : List Post) → ((c : ℕ) → c ≢ o → of_caller c xs ≡ []) → of_caller o xs ≡ xs
 only_of o [] none = refl
 only_of o (x ∷ xs) none = ⊎_elim
@@ -31,6 +32,7 @@ only_of o (x ∷ xs) none = ⊎_elim
     absurd (let long : length (x ∷ of_caller x.caller xs) ≡ 0 = ap length (sym some ∙ none x.caller ne) in omega arith))
     (cases_Bool (x.caller == o))
 
+-- posts that are kept
 own_some : (n : ℕ) (ps : List Post) → 0 < n → own_posts n ps ≡ ps
 own_some zero ps h = absurd (omega arith)
 own_some (suc n) ps h = refl
@@ -56,10 +58,12 @@ record_is v b seed o call n closes made all = sym (only_of o (record_of b)
 
 -- ---- the last post was worked
 
+-- the second of two conditions
 and_second : (a b : Bool) → (a && b) ≡ true → b ≡ true
 and_second true b e = e
 and_second false b e = absurd (true≢false (sym e))
 
+-- a found post has a number below all
 numbered_before : (o m n : ℕ) (es : List Entry) (rest : List Post) (e : Entry) → NumberedFrom n (map (λ x. x.post) es ++ rest) →
     find (is_of_post o m) es ≡ Some e → m < n + length es
 numbered_before o m n [] rest e numbered found = absurd (true≢false (ap is_none found))
@@ -70,10 +74,12 @@ numbered_before o m n (x ∷ es) rest e numbered found = ⊎_elim
     let later = numbered_before o m (suc n) es rest e numbered.1 (sym (ap (λ (b : Bool). cond b (Some x) (find (is_of_post o m) es)) t) ∙ found) in omega arith)
     (cases_Bool (is_of_post o m x))
 
+-- a list without items
 no_items : (xs : List Post) → length xs ≡ 0 → xs ≡ []
 no_items [] e = refl
 no_items (x ∷ xs) e = absurd (omega arith)
 
+-- so all posts were worked
 pub all_worked : (seed o call n : ℕ) (b k : BookState) (e : Entry) → 1 ≤ n → record_of b ≡ drawn_posts seed o call n → NumberedFrom 0 (record_of b) → BeginsWith b k →
     find (is_of_post o (n - 1)) k.history ≡ Some e →
     map (λ x. x.post) b.history ≡ drawn_posts seed o call n

@@ -30,6 +30,7 @@ use Rattle.live_run.proofs.Ended.{Ending, posts_are}
 
 -- ---- the octets of drawn periods
 
+-- the lengths of what is drawn
 long_if : (b : Bool) (xs ys : List ℕ) (n : ℕ) → length xs ≡ n → length ys ≡ n → length (if b then xs else ys) ≡ n
 long_if true xs ys n p q = p
 long_if false xs ys n p q = q
@@ -52,6 +53,7 @@ length-pcm seed call period =
     long_if (is_loud period) (draws seed call (first_loud_draw period) 160) (replicate 160 213) 160
     (length-map-range_with_len (draw seed call) (first_loud_draw period) 160) (length-replicate {A = ℕ} 160 213)
 
+-- so drawn posts are periods
 drawn_sized : (seed caller call n : ℕ) → ArePeriods (drawn_posts seed caller call n)
 unfolding drawn_posts
 drawn_sized seed caller call n = λ k d h.
@@ -74,10 +76,12 @@ drawn_call seed caller call n =
 
 -- the law, as the function of that name says it
 pub record WholeLaw : Type 0 where
+  -- the law, and the lines by it
   pub out : (call : ℕ) (es : List Entry) → ArePeriods (map (λ e. e.post) es) → IsLegal call es → outs_of es ≡ out (call_of_posts call (map (λ e. e.post) es))
   pub down : (call : ℕ) (es : List Entry) → ArePeriods (map (λ e. e.post) es) → IsLegal call es →
       bits_of (downs_of es) ≡ down (call_of_posts call (map (λ e. e.post) es))
 
+-- the line of text of a call
 line_is : WholeLaw → (seed n caller call : ℕ) (d : Closed) → d.call ≡ call → IsLegal call d.entries.items →
     map (λ e. e.post) d.entries.items ≡ drawn_posts seed caller call n → closed_line d ≡ live_line seed n call
 unfolding closed_line live_line
@@ -89,6 +93,7 @@ line_is law seed n caller call d number legal posts =
     let downs : octets_of (bits_of (downs_of es)) ≡ octets_of (down (live_call seed n call)) = ap octets_of (law.down call es sized legal ∙ ap down whole) in
     λ i. sum_line (number i) (outs i) (downs i)
 
+-- lines of all calls
 same_lines : {X : Type 0} (f : X → List ℕ) (g : ℕ → List ℕ) (a : ℕ) (xs : List X) → ((k : ℕ) (d : X) → k < length xs → f (get_or xs k d) ≡ g (a + k)) →
     flat_map f xs ≡ flat_map g (range_with_len a (length xs))
 same_lines f g a [] each = refl

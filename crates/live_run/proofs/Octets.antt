@@ -8,10 +8,12 @@ use Rattle.call_spec.proofs.Yields.{bits_of-append}
 use Rattle.farm_live.specs.declared.post.Entry.{Entry}
 use Rattle.live_run.specs.Text.{downs_of}
 
+-- of nothing
 no_octets : octets_of (bits_of []) ≡ []
 unfolding octets_of bits_of
 no_octets = refl
 
+-- the octets of all entries
 pub downs_are : (es : List Entry) → flat_map (λ e. octets_of (bits_of e.down)) es ≡ octets_of (bits_of (downs_of es))
 downs_are [] = sym no_octets
 downs_are (e ∷ es) =

@@ -24,6 +24,7 @@ posts_of es = map (λ e. e.post) es
 
 -- ---- the history's periods, added to those before
 
+-- their uplinks, Pcm lines, settings and bridges
 ups_after : (ts : List CallPeriod) (es : List Entry) → up_in_history (periods_after ts es) ≡ up_in_history ts ++ flat_map (λ p. p.up) (posts_of es)
 ups_after ts [] = sym (append-nil (up_in_history ts))
 ups_after ts (e ∷ es) = ups_after (period_of e.post ∷ ts) es ∙ append_assoc (up_in_history ts) e.post.up (flat_map (λ p. p.up) (posts_of es))
@@ -40,6 +41,7 @@ spans_after : (ts : List CallPeriod) (es : List Entry) → spans_in_history (per
 spans_after ts [] = refl
 spans_after ts (e ∷ es) = spans_after (period_of e.post ∷ ts) es
 
+-- so the call is that of the posts
 call_is : (call : ℕ) (es : List Entry) → call_of_history (who_at call) (periods_after [] es) ≡ call_of_posts call (posts_of es)
 call_is call es =
     let up = ups_after [] es in
@@ -50,6 +52,7 @@ call_is call es =
 
 -- ---- .. are a history of a call
 
+-- a legal history goes on
 plain_more : (ts : List CallPeriod) (p : Post) → length p.up ≡ 40 → length p.pcm ≡ 160 → IsCallHistory ts → IsCallHistory (period_of p ∷ ts)
 plain_more ts p up pcm h = record {
   ups = All-cons (λ t. length t.up ≡ 40) (period_of p) ts up h.ups;
@@ -64,11 +67,13 @@ plain_after ts (e ∷ es) sized h =
     plain_after (period_of e.post ∷ ts) es (All-tail (λ p. (length p.up ≡ 40) × (length p.pcm ≡ 160)) e.post (posts_of es) sized)
     (plain_more ts e.post first.0 first.1 h)
 
+-- and begins
 no_periods : IsCallHistory []
 no_periods = record { ups = All-nil (λ (t : CallPeriod). length t.up ≡ 40); pcms = All-nil (λ (t : CallPeriod). length t.pcm ≡ 160); bridges = tt }
 
 -- ---- the octets
 
+-- its outgoing lines
 outs_after : (who : Who) (ts : List CallPeriod) (es : List Entry) → IsWorkedFrom who ts es → out_line who (periods_after ts es) ≡ out_line who ts ++ outs_of es
 outs_after who ts [] legal = sym (append-nil (out_line who ts))
 outs_after who ts (e ∷ es) legal =
@@ -83,10 +88,12 @@ downs_after who ts (e ∷ es) legal =
     ∙ append_assoc (down_line who ts) (down_now who (period_of e.post ∷ ts)) (flat_map (λ e. bits_of e.down) es)
     ∙ ap (λ (xs : List ℕ). down_line who ts ++ (xs ++ flat_map (λ e. bits_of e.down) es)) (sym legal.1)
 
+-- of nothing
 no_bits : bits_of [] ≡ []
 unfolding bits_of
 no_bits = refl
 
+-- the bits of all entries
 bits_after : (es : List Entry) → bits_of (downs_of es) ≡ flat_map (λ e. bits_of e.down) es
 bits_after [] = no_bits
 bits_after (e ∷ es) = bits_of-append e.down (downs_of es) ∙ ap (λ (xs : List ℕ). bits_of e.down ++ xs) (bits_after es)
@@ -94,6 +101,7 @@ bits_after (e ∷ es) = bits_of-append e.down (downs_of es) ∙ ap (λ (xs : Lis
 -- ---- the law
 
 module _ (call : ℕ) (es : List Entry) (sized : ArePeriods (posts_of es)) (legal : IsLegal call es) where
+  -- so the lines are those of the call as a whole
   pub out_whole : ((who : Who) (ts : List CallPeriod) → IsCallHistory ts → out_line who ts ≡ out (call_of_history who ts)) →
       outs_of es ≡ out (call_of_posts call (posts_of es))
   out_whole same = sym (outs_after (who_at call) [] es legal) ∙ same (who_at call) (periods_after [] es) (plain_after [] es sized no_periods)

@@ -23,12 +23,14 @@ module _ (before middle after : ℕ → Side → LineState) (call : ℕ) (slot :
   downs_stay : (j : ℕ) → middle (call + j) Down ≡ before (call + j) Down
   downs_stay j = read_others (call + j) Down (λ e f. absurd (cc))
 
+  -- the slot's line stays while the channels are written
   pcm_stays : after call Pcm ≡ middle call Pcm
   pcm_stays = write_others call Pcm (λ j below e f. absurd (cc))
 
   pub others : AllButFive before after call Pcm Down
   others = λ c s not_slot not_channel. write_others c s not_channel ∙ read_others c s not_slot
 
+  -- what was written, from before the block
   from_before : (sent : ℕ → List ℕ) (result : Result (Unit {0}) Line) →
       WritesFour (channel_lines middle call Down) (channel_lines after call Down) call sent result →
       WritesFour (channel_lines before call Down) (channel_lines after call Down) call sent result
@@ -46,6 +48,7 @@ module _ (before middle after : ℕ → Side → LineState) (call : ℕ) (slot :
         },
       )
 
+  -- what the block gave
   given : (end : Filled) → ReadsBlock (before call Pcm) (middle call Pcm) end slot → Gives (before call Pcm) (after call Pcm) (given_of end slot)
   given end reads = subst (λ l. Gives (before call Pcm) l (given_of end slot)) (sym pcm_stays)
       (record { read = reads.given; written = reads.written; later = reads.later })
@@ -53,6 +56,7 @@ module _ (before middle after : ℕ → Side → LineState) (call : ℕ) (slot :
   all_of_it : whole_groups (take 160 slot) ≡ slot
   all_of_it = ap whole_groups (take_all 160 slot (omega arith)) ∙ groups-whole slot 40 long
 
+  -- a whole block went out, or failed
   pub whole : ReadsBlock (before call Pcm) (middle call Pcm) Whole slot →
       WritesFour (channel_lines middle call Down) (channel_lines after call Down) call (λ j. channel j (whole_groups (take 160 slot))) (Ok tt) →
       SplitsBlock (before call Pcm) (after call Pcm) (channel_lines before call Down) (channel_lines after call Down) call block.Whole
@@ -86,6 +90,7 @@ module _ (before middle after : ℕ → Side → LineState) (call : ℕ) (slot :
         );
       }
 
+  -- a part of a block failed
   pub failed_front : (line : Line) (count : ℕ) → ReadsBlock (before call Pcm) (middle call Pcm) (Ended count) slot →
       WritesFour (channel_lines middle call Down) (channel_lines after call Down) call (λ j. channel j (whole_groups (take count slot))) (Err line) →
       SplitsBlock (before call Pcm) (after call Pcm) (channel_lines before call Down) (channel_lines after call Down) call (block.Failed line)

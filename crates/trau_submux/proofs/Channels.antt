@@ -17,6 +17,7 @@ for_four P a b c d (suc (suc zero)) l = c
 for_four P a b c d (suc (suc (suc zero))) l = d
 for_four P a b c d (suc (suc (suc (suc j)))) l = absurd (omega arith)
 
+-- the bits of a channel in joined octets, and their number
 pub subchannel-append : (j : ℕ) (xs ys : List ℕ) → subchannel j (xs ++ ys) ≡ subchannel j xs ++ subchannel j ys
 unfolding subchannel
 subchannel-append j xs ys = flat_map-append (bits_for j) xs ys
@@ -80,6 +81,7 @@ module _ (j : ℕ) (xs : List ℕ) (k : ℕ) (small : j < 4) (within : 4 * k + 4
       ∙ ap (λ m. bit_at (get_or xs m 0) (7 - 2 * j - (8 * k + i) % 2)) half
       ∙ ap (λ p. bit_at (get_or xs (4 * k + n) 0) p) even
 
+  -- an octet's second bit of the channel
   second_bit : (n i : ℕ) → n < 4 → i ≡ 2 * n + 1 → get_or (subchannel j xs) (8 * k + i) 0 ≡ bit_at (get_or xs (4 * k + n) 0) (6 - 2 * j)
   second_bit n i less is =
       let half : (8 * k + i) / 2 ≡ 4 * k + n = omega arith in
@@ -88,6 +90,7 @@ module _ (j : ℕ) (xs : List ℕ) (k : ℕ) (small : j < 4) (within : 4 * k + 4
       ∙ ap (λ m. bit_at (get_or xs m 0) (7 - 2 * j - (8 * k + i) % 2)) half
       ∙ ap (λ p. bit_at (get_or xs (4 * k + n) 0) p) odd
 
+  -- both, as a number
   pair_is : (n i i' : ℕ) → n < 4 → i ≡ 2 * n → i' ≡ 2 * n + 1 →
       2 * get_or (subchannel j xs) (8 * k + i) 0 + get_or (subchannel j xs) (8 * k + i') 0 ≡ pair_at j (get_or xs (4 * k + n) 0)
   pair_is n i i' less is is' =
@@ -192,6 +195,7 @@ one_slot_at xs ys fx fy same =
     ∙ sym (get_or-subchannel j zs n (omega arith) (omega arith)) in
     bit xs refl ∙ ap (λ l. get_or l n 0) (same j (omega arith)) ∙ sym (bit ys (omega arith))))
 
+-- so a slot has one list of channels
 pub one_slot : (xs ys : List ℕ) → All (λ x. x < 256) xs → All (λ y. y < 256) ys → ((j : ℕ) → j < 4 → subchannel j xs ≡ subchannel j ys) → xs ≡ ys
 one_slot xs ys fx fy same = one_slot_at xs ys (λ k l. fx k 0 l) (λ k l. fy k 0 l) same
 
@@ -203,6 +207,7 @@ channel_of-bits j xs octets small same = ap octets_of same ∙ octets_of-bits_of
 gathered-below : (j a b c d : ℕ) → gathered j a b c d < 256
 gathered-below j a b c d = below (pair_at j a) (pair_at j b) (pair_at j c) (pair_at j d) (omega arith) (omega arith) (omega arith) (omega arith)
   where
+    -- four pairs are an octet
     below : (p q r s : ℕ) → p < 4 → q < 4 → r < 4 → s < 4 → p * 64 + q * 16 + r * 4 + s < 256
     below p q r s lp lq lr ls = omega arith
 
@@ -213,6 +218,7 @@ pub record AreGathered (chans : List (List ℕ)) (ys : List ℕ) : Type 0 where
   pub each : (i : ℕ) → i < 160 → get_or ys i 0 ≡ gathered (i % 4) (get_or (get_or chans 0 []) (i / 4) 0) (get_or (get_or chans 1 []) (i / 4) 0)
       (get_or (get_or chans 2 []) (i / 4) 0) (get_or (get_or chans 3 []) (i / 4) 0)
 
+-- what is gathered is the channels
 pub gathered_carries : (chans : List (List ℕ)) (ys : List ℕ) → AreGathered chans ys → (j : ℕ) → j < 4 → subchannel j ys ≡ bits_of (get_or chans j [])
 gathered_carries chans ys are = gathered_slot chans ys 40 are.long are.each_long are.each
 

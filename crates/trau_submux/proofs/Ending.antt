@@ -39,10 +39,12 @@ rest_of_it given rest octets few is stopped =
 Quiet : (slot slot' : LineState) (channels channels' : ℕ → LineState) → Type 0
 Quiet slot slot' channels channels' = (slot'.faults ≡ slot.faults) × ((j : ℕ) → j < 4 → (channels' j).faults ≡ (channels j).faults)
 
+-- a count of a line rose
 Failing : (slot slot' : LineState) (channels channels' : ℕ → LineState) → Type 0
 Failing slot slot' channels channels' = Rose slot.faults slot'.faults ⊎ ((j : ℕ) × (j < 4) × Rose (channels j).faults (channels' j).faults)
 
 module _ (s s' : LineState) (cs cs' : ℕ → LineState) (k k' : DeskState) (text : List ℕ) (result : ToolEnd) where
+  -- why 0 or 4 comes, and 6
   causes_done : Quiet s s' cs cs' → TellsText text tool.Done k k' result → SlotCauses s s' cs cs' k k' (status_of result)
   unfolding Quiet
   causes_done quiet (inl told) =
@@ -95,11 +97,13 @@ module _ (s s' : LineState) (cs cs' : ℕ → LineState) (k k' : DeskState) (tex
   not_failing calm (inl rose) = let same = calm.slot_calm in omega (arith, same.0, same.1, rose)
   not_failing calm (inr one) = let same = calm.channels_calm one.0 one.1 in omega (arith, same.0, same.1, one.2)
 
+  -- without a fault of the desk the whole text went out
   spoken : (end : ToolEnd) → IsCalm k.write_faults k'.write_faults → TellsText text end k k' result → (result ≡ end) × Tells k k' (Ok tt) text
   spoken end calm (inl told) = told
   spoken end calm (inr fault) = let rose = fault.1.cause.failed in absurd (omega (arith, calm.0, calm.1, rose))
 
 module _ (before now : ℕ → Side → LineState) (k k' : DeskState) (call : ℕ) (result : ToolEnd) where
+  -- a split that ends by a line has a fault
   split_failing : (blocks last : List ℕ) (line : Line) →
       SplitEndsAs (before call Pcm) (now call Pcm) (channel_lines before call Down) (channel_lines now call Down) call blocks last (split.LineFailed line) →
       Failing (before call Pcm) (now call Pcm) (channel_lines before call Down) (channel_lines now call Down)
@@ -107,6 +111,7 @@ module _ (before now : ℕ → Side → LineState) (k k' : DeskState) (call : �
   split_failing blocks last line (inl read) = inl read.rose
   split_failing blocks last line (inr write) = inr (write.failed, write.one, write.here.rose)
 
+  -- the causes of a split
   pub split_causes : SplitRun before now k k' call result → SplitCauses before now k k' call (status_of result)
   unfolding Quiet
   split_causes ran = by ran.end ran.splits ran.tells
@@ -116,6 +121,7 @@ module _ (before now : ℕ → Side → LineState) (k k' : DeskState) (call : �
       by (split.Done octets left) splits tells = causes_done _ _ _ _ k k' _ result (splits.ends.calm, λ j below. (splits.ends.gained j below).calm) tells
       by (split.LineFailed line) splits tells = causes_failed _ _ _ _ k k' _ result line (split_failing splits.blocks splits.last line splits.ends) tells
 
+  -- what a split leaves
   pub split_clean : SplitRun before now k k' call result → CleanSplit before now k k' call (status_of result)
   split_clean ran = λ calm octets text held p_is d_is k_is. by calm octets text held p_is d_is k_is ran.end ran.splits ran.tells
     where
@@ -146,6 +152,7 @@ module _ (before now : ℕ → Side → LineState) (k k' : DeskState) (call : �
             done = ap status_of told.0;
           }
 
+  -- a merge that ends by a line has a fault
   merge_failing : (given : ℕ → List ℕ) (line : Line) →
       MergeEndsAs (channel_lines before call Up) (channel_lines now call Up) (before call Out) (now call Out) call given (merge.LineFailed line) →
       Failing (before call Out) (now call Out) (channel_lines before call Up) (channel_lines now call Up)
@@ -153,6 +160,7 @@ module _ (before now : ℕ → Side → LineState) (k k' : DeskState) (call : �
   merge_failing given line (inl read) = inr (read.failed, read.one, read.rose)
   merge_failing given line (inr write) = inl write.here.rose
 
+  -- the causes of a merge
   pub merge_causes : MergeRun before now k k' call result → MergeCauses before now k k' call (status_of result)
   unfolding Quiet
   merge_causes ran = by ran.end ran.merges ran.tells
@@ -162,6 +170,7 @@ module _ (before now : ℕ → Side → LineState) (k k' : DeskState) (call : �
       by (merge.Done octets left) merges tells = causes_done _ _ _ _ k k' _ result (merges.ends.gained.calm, merges.ends.calm) tells
       by (merge.LineFailed line) merges tells = causes_failed _ _ _ _ k k' _ result line (merge_failing merges.given line merges.ends) tells
 
+  -- what a merge leaves
   pub merge_clean : MergeRun before now k k' call result → CleanMerge before now k k' call (status_of result)
   merge_clean ran = λ calm lists held text u_is o_is k_is. by calm lists held text u_is o_is k_is ran.end ran.merges ran.tells
     where

@@ -8,6 +8,7 @@ use Rattle.trau_submux.specs.Channels.{channel, subchannel}
 use Rattle.trau_submux.specs.Splits.{whole_groups}
 use Rattle.trau_submux.proofs.Channels.{length-channel, length-subchannel, subchannel-append}
 
+-- the channels of joined octets
 pub channel-append : (j : ℕ) (xs ys : List ℕ) (n : ℕ) → length xs ≡ 4 * n → channel j (xs ++ ys) ≡ channel j xs ++ channel j ys
 channel-append j xs ys n e = ap octets_of (subchannel-append j xs ys)
     ∙ octets_of-append (subchannel j xs) (subchannel j ys) n (omega (arith, length-subchannel j xs))

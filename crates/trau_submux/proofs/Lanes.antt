@@ -8,6 +8,7 @@ use Rattle.trau_submux.specs.Pairs.{four_pairs, pair_at}
 
 -- ---- one lane
 
+-- a sum, a shift down and a shift up in a lane
 abbrev pub plus : ℕ → ℕ → ℕ
 plus a b = (a + b) % 2 ^ 8
 
@@ -36,18 +37,21 @@ odd_of x =
     and_block 4 (x / 16) 3 (x % 16) 3 (omega arith) (omega arith) in
     ap (λ n. bit_and n 51) e ∙ block ∙ omega (arith, high, low)
 
+-- the first half of an octet, and the second
 high_of : (x : ℕ) → bit_and x 240 ≡ x / 16 % 16 * 16
 high_of x = and_high x 4 4
 
 low_of : (x : ℕ) → bit_and x 15 ≡ x % 16
 low_of x = and_mask x 4
 
+-- the halves of two octets, exchanged
 first_halves : (x y : ℕ) → plus (bit_and x 240) (bit_and (down y 4) 15) ≡ four_pairs (pair_at 0 x) (pair_at 1 x) (pair_at 0 y) (pair_at 1 y)
 first_halves x y = let h = high_of x in let l = low_of (y / 16) in omega (arith, h, l)
 
 last_halves : (x y : ℕ) → plus (up x 4) (bit_and y 15) ≡ four_pairs (pair_at 2 x) (pair_at 3 x) (pair_at 2 y) (pair_at 3 y)
 last_halves x y = let l = low_of y in omega (arith, l)
 
+-- their pairs, exchanged
 even_pairs : (x y : ℕ) → plus (bit_and x 204) (bit_and (down y 2) 51) ≡ four_pairs (pair_at 0 x) (pair_at 0 y) (pair_at 2 x) (pair_at 2 y)
 even_pairs x y = let e = even_of x in let o = odd_of (y / 4) in omega (arith, e, o)
 
@@ -64,6 +68,7 @@ at_splat f xs m k long l = get_or-zip2 f xs (replicate 16 m) k 0 0 0 (omega arit
 at_zip : (f : ℕ → ℕ → ℕ) (xs ys : List ℕ) (k : ℕ) → length xs ≡ 16 → length ys ≡ 16 → k < 16 → get_or (zip2 f xs ys) k 0 ≡ f (get_or xs k 0) (get_or ys k 0)
 at_zip f xs ys k long_x long_y l = get_or-zip2 f xs ys k 0 0 0 (omega arith) (omega arith)
 
+-- sixteen lanes stay so many
 splat_long : (f : ℕ → ℕ → ℕ) (xs : List ℕ) (m : ℕ) → length xs ≡ 16 → length (zip2 f xs (replicate 16 m)) ≡ 16
 splat_long f xs m long = length-zip2 f xs (replicate 16 m) (long ∙ sym (length-replicate 16 m)) ∙ long
 
@@ -89,6 +94,7 @@ module _ (xs ys : List ℕ) (long_x : length xs ≡ 16) (long_y : length ys ≡ 
       ∙ ap (λ a. plus a (get_or (shifted by mask) k 0)) (at_splat bit_and xs other k long_x l)
       ∙ ap (λ b. plus (bit_and (get_or xs k 0) other) b) (shifted_at by mask k l)
 
+  -- each lane of the exchanges
   pub first_halves_at : (k : ℕ) → k < 16 → get_or (zip2 plus (zip2 bit_and xs (replicate 16 240)) (shifted 4 15)) k 0
       ≡ four_pairs (pair_at 0 (get_or xs k 0)) (pair_at 1 (get_or xs k 0)) (pair_at 0 (get_or ys k 0)) (pair_at 1 (get_or ys k 0))
   first_halves_at k l = masked_shifted_at 4 15 240 k l ∙ first_halves (get_or xs k 0) (get_or ys k 0)

@@ -10,6 +10,7 @@ use Rattle.trau_bits.proofs.BitList.{length-bits_of, get_or-bits_of}
 use Rattle.trau_submux.specs.Channels.{IsMerged, subchannel}
 use Rattle.trau_submux.proofs.Channels.{length-subchannel, subchannel-append}
 
+-- a bit of joined octets
 bit_of-front : (xs ys : List ℕ) (k : ℕ) → k < 8 * length xs → bit_of (xs ++ ys) k ≡ bit_of xs k
 bit_of-front xs ys k l = ap (λ octet. bit_at octet (7 - k % 8)) (get_or_append_left xs ys 0 (k / 8) (omega arith))
 

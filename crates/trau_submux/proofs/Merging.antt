@@ -20,6 +20,7 @@ use Rattle.trau_submux.proofs.Pieces.{MergeSoFar, Piece, PieceHolds, length-merg
 
 module _ (u0 u1 u2 : ℕ → LineState) (o0 o1 o2 : LineState) (call n octets : ℕ) (so_far : MergeSoFar u0 u1 o0 o1 n octets) where
   module _ (t : Takes u1 u2) where
+    -- what was given with this block
     abbrev joined : ℕ → List ℕ
     joined j = so_far.given j ++ t.given j
 
@@ -38,6 +39,7 @@ module _ (u0 u1 u2 : ℕ → LineState) (o0 o1 o2 : LineState) (call n octets : 
     used-joined : (j : ℕ) → j < 4 → take (40 * n + t.used) (joined j) ≡ so_far.given j ++ take t.used (t.given j)
     used-joined j below = ap (λ m. take (m + t.used) (joined j)) (sym (so_far.whole j below)) ∙ take-append-add (so_far.given j) (t.given j) t.used
 
+    -- a whole block more
     pub one_more : t.used ≡ 40 → Gains o1 o2 t.octets → MergeSoFar u0 u2 o0 o2 (n + 1) (octets + 160)
     one_more is gained =
         let all : (j : ℕ) → j < 4 → length (t.given j) ≡ 40 = λ j below. omega (arith, is, t.fewest.least j below, (t.each j below).bound) in
@@ -56,6 +58,7 @@ module _ (u0 u1 u2 : ℕ → LineState) (o0 o1 o2 : LineState) (call n octets : 
           gained = gains_on _ _ _ _ _ so_far.gained gained;
         }
 
+    -- a block that a line ended in
     pub ended : (counts left : List ℕ) (used : ℕ) → n < 4294967295 → t.used < 40 → ((j : ℕ) → j < 4 → get_or counts j 0 ≡ length (t.given j)) →
         Gains o1 o2 t.octets →
         ((j : ℕ) → j < 4 → used ≤ get_or counts j 0) → ((j : ℕ) × (j < 4) × (used ≡ get_or counts j 0)) →
@@ -106,6 +109,7 @@ module _ (u0 u1 u2 : ℕ → LineState) (o0 o1 o2 : LineState) (call n octets : 
                   inr (omega (arith, blocks, part, bound, length-joined j below), (t.each j below).ended (omega (arith, part, bound)))
             ]
 
+    -- the slot's line failed
     pub failed_to_write : n < 4294967295 → (line : Line) → line.call ≡ call → line.side ≡ Out → GainsFront o1 o2 t.octets →
         Merges u0 u2 o0 o2 call (LineFailed line)
     failed_to_write few line number side here = record {
@@ -187,6 +191,7 @@ module _ (u0 u1 u2 : ℕ → LineState) (o0 o1 o2 : LineState) (call n octets : 
           calm = λ ne. ap (λ l. l.faults) same;
         }
 
+    -- a channel's line failed
     pub failed_to_read : n < 4294967295 → (line : Line) → line.call ≡ call + k → line.side ≡ Up → o2 ≡ o1 → Merges u0 u2 o0 o2 call (LineFailed line)
     failed_to_read few line number side same = record {
       given = λ j. so_far.given j ++ (piece j).list;
@@ -214,6 +219,7 @@ module _ (u0 u1 u2 : ℕ → LineState) (o0 o1 o2 : LineState) (call n octets : 
   pub on_whole : BlockEndsAs u1 u2 o1 o2 call block.Whole → MergeSoFar u0 u2 o0 o2 (n + 1) (octets + 160)
   on_whole one = one_more one.0 one.1 one.2
 
+  -- either
   pub on_failed : n < 4294967295 → (line : Line) → BlockEndsAs u1 u2 o1 o2 call (block.Failed line) → Merges u0 u2 o0 o2 call (LineFailed line)
   on_failed few line (inl read) = failed_to_read read.0 read.3 few line read.1 read.2 read.4
   on_failed few line (inr write) = failed_to_write write.0 few line write.1 write.2 write.3

@@ -21,6 +21,7 @@ pub record MergeSoFar (ups ups' : ℕ → LineState) (out out' : LineState) (n o
   pub merged : IsMerged sent given
   pub gained : Gains out out' sent
 
+-- before the first block
 pub at_start : (ups : ℕ → LineState) (out : LineState) → MergeSoFar ups ups out out 0 0
 at_start ups out = record {
   given = λ j. [];

@@ -18,6 +18,7 @@ pub record ReadSoFar (before now : ℕ → Side → LineState) (call : ℕ) (blo
   pub rest : (j : ℕ) → n ≤ j → now (call + j) Up ≡ before (call + j) Up
   pub others : AllButFour before now call Up
 
+-- before the first line
 pub at_start : (lines : ℕ → Side → LineState) (call : ℕ) (blocks : List (List ℕ)) (counts : List ℕ) → length blocks ≡ 4 → length counts ≡ 4 →
     ReadSoFar lines lines call blocks counts 0
 at_start lines call blocks counts b c = record {
@@ -30,6 +31,7 @@ at_start lines call blocks counts b c = record {
 
 module _ (before now after : ℕ → Side → LineState) (call : ℕ) (blocks : List (List ℕ)) (counts : List ℕ) (n : ℕ) (few : n < 4)
     (so_far : ReadSoFar before now call blocks counts n) (others : OthersStay now after (call + n) Up) where
+  -- the next line is as it was, and the others stay
   fresh : now (call + n) Up ≡ before (call + n) Up
   fresh = so_far.rest n (omega arith)
 
@@ -46,6 +48,7 @@ module _ (before now after : ℕ → Side → LineState) (call : ℕ) (blocks : 
   pub all_but_four : AllButFour before after call Up
   all_but_four = λ c s not. others c s (λ e f. not n few e f) ∙ so_far.others c s not
 
+  -- one line more
   pub one_more : (block : List ℕ) (count : ℕ) → GivesBlock (now (call + n) Up) (after (call + n) Up) block count →
       ReadSoFar before after call (set blocks n block) (set counts n count) (n + 1)
   one_more block count gave = record {
@@ -72,6 +75,7 @@ module _ (before now after : ℕ → Side → LineState) (call : ℕ) (blocks : 
           (subst (λ m. GivesBlock (now (call + n) Up) (after (call + n) Up) block m)
           (sym (get_or-set_same counts n count 0 (omega (arith, so_far.four_counts)))) gave))
 
+  -- a line failed
   pub fails : FailsInside (now (call + n) Up) (after (call + n) Up) → FailsAt (channel_lines before call Up) (channel_lines after call Up) n
   fails inside = record {
     one = few;
@@ -90,6 +94,7 @@ gives_whole up up' block long reads = record {
   calm = reads.stopped;
 }
 
+-- a part of a block
 pub gives_front : (up up' : LineState) (block : List ℕ) (count : ℕ) → length block ≡ 40 → ReadsBlock up up' (Ended count) block → GivesBlock up up' block count
 gives_front up up' block count long reads =
     let less : count < length block = reads.stopped.0 in

@@ -15,6 +15,7 @@ use Rattle.trau_submux.specs.Writing.{FailsAt}
 use Rattle.trau_submux.proofs.Channels.{length-channel}
 use Rattle.trau_submux.proofs.Groups.{channel-append, groups-append, groups-whole, length-groups}
 
+-- one gain after another
 pub gains_on : (a b c : LineState) (s t : List ℕ) → Gains a b s → Gains b c t → Gains a c (s ++ t)
 gains_on a b c s t first second = record {
   written = Appends-trans _ _ _ _ _ first.written second.written;
@@ -28,6 +29,7 @@ pub front_on : (a b c : LineState) (s t all : List ℕ) (n : ℕ) → all ≡ s 
 front_on a b c s t all n are first more =
     subst (Appends a.written c.written) (sym (ap (take (length s + n)) are ∙ take-append-add s t n)) (Appends-trans _ _ _ _ _ first.written more)
 
+-- and what is given
 pub gives_on : (a b c : LineState) (s t : List ℕ) → Gives a b s → Gives b c t → Gives a c (s ++ t)
 gives_on a b c s t first second = record {
   read = Consumes-trans _ _ _ _ _ first.read second.read;
@@ -44,6 +46,7 @@ pub record SplitSoFar (pcm pcm' : LineState) (downs downs' : ℕ → LineState) 
   pub gained : GainChannels downs downs' blocks
   pub calm : pcm'.faults ≡ pcm.faults
 
+-- before the first block
 pub at_start : (pcm : LineState) (downs : ℕ → LineState) → SplitSoFar pcm pcm downs downs 0 0
 at_start pcm downs = record {
   blocks = [];
@@ -66,6 +69,7 @@ at_start pcm downs = record {
         empty (x ∷ xs) e = absurd (omega (arith, e))
 
 module _ (p0 p1 p2 : LineState) (d0 d1 d2 : ℕ → LineState) (call n octets : ℕ) (so_far : SplitSoFar p0 p1 d0 d1 n octets) where
+  -- blocks are whole groups
   four : length so_far.blocks ≡ 4 * (40 * n)
   four = omega (arith, so_far.count)
 
@@ -75,6 +79,7 @@ module _ (p0 p1 p2 : LineState) (d0 d1 d2 : ℕ → LineState) (call n octets : 
   gained_on : (given : List ℕ) → GainChannels d1 d2 given → GainChannels d0 d2 (so_far.blocks ++ given)
   gained_on given more = λ j below. subst (Gains (d0 j) (d2 j)) (sym (joined j given)) (gains_on _ _ _ _ _ (so_far.gained j below) (more j below))
 
+  -- a block more
   pub one_more : SplitsBlock p1 p2 d1 d2 call block.Whole → SplitSoFar p0 p2 d0 d2 (n + 1) (octets + 160)
   one_more one = record {
     blocks = so_far.blocks ++ one.given;
@@ -85,6 +90,7 @@ module _ (p0 p1 p2 : LineState) (d0 d1 d2 : ℕ → LineState) (call n octets : 
     calm = one.ends.1 ∙ so_far.calm;
   }
 
+  -- the line ended in a block, or a line failed there
   pub ended : (count : ℕ) → n < 4294967295 → SplitsBlock p1 p2 d1 d2 call (block.Ended count) →
       Splits p0 p2 d0 d2 call (Done (octets + count / 4 * 4) (count % 4))
   ended count few one =

@@ -37,6 +37,7 @@ pub pairs_back : (p q r s : ℕ) → p < 4 → q < 4 → r < 4 → s < 4 →
     (pair_at 0 (four_pairs p q r s) ≡ p) × (pair_at 1 (four_pairs p q r s) ≡ q) × (pair_at 2 (four_pairs p q r s) ≡ r) × (pair_at 3 (four_pairs p q r s) ≡ s)
 pairs_back p q r s lp lq lr ls = (omega arith, omega arith, omega arith, omega arith)
 
+-- what is gathered of the same
 pub same_gathered : (j : ℕ) {a b c d a' b' c' d' : ℕ} → a ≡ a' → b ≡ b' → c ≡ c' → d ≡ d' → gathered j a b c d ≡ gathered j a' b' c' d'
 same_gathered j p q r s = λ i. gathered j (p i) (q i) (r i) (s i)
 
@@ -50,6 +51,7 @@ front_pairs z x y e =
     let back = pairs_back (pair_at 0 x) (pair_at 1 x) (pair_at 0 y) (pair_at 1 y) (omega arith) (omega arith) (omega arith) (omega arith) in
     (ap (pair_at 0) e ∙ back.0, ap (pair_at 1) e ∙ back.1, ap (pair_at 2) e ∙ back.2, ap (pair_at 3) e ∙ back.3)
 
+-- and the others
 back_pairs : (z x y : ℕ) → z ≡ four_pairs (pair_at 2 x) (pair_at 3 x) (pair_at 2 y) (pair_at 3 y) →
     (pair_at 0 z ≡ pair_at 2 x) × (pair_at 1 z ≡ pair_at 3 x) × (pair_at 2 z ≡ pair_at 2 y) × (pair_at 3 z ≡ pair_at 3 y)
 back_pairs z x y e =
