@@ -24,7 +24,7 @@ use Rattle.frame_listing.proofs.Blocks.{concat_push}
 use Rattle.farm_tools.proofs.Alone.{nothing_left}
 use Rattle.farm_tools.proofs.Limit.{few_all, few_more, left_bound, refused_bound, taken_whole}
 
--- two calls, each of which leaves all lines but two as they were
+-- two steps, each of which leaves all lines but two as they were
 pub others_on : (a b c : ℕ → Side → LineState) (call : ℕ) (s t : Side) → AllButTwo a b call s t → AllButTwo b c call s t → AllButTwo a c call s t
 others_on a b c call s t first second = λ k side ne me. second k side ne me ∙ first k side ne me
 
