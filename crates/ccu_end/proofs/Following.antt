@@ -160,7 +160,8 @@ module _ (ccu ccu' : CcuMemory) (want : ℕ) (u0 u1 u2 d0 d1 d2 : LineState) (k0
         sent = sent;
         told = listed so_far.heard ++ one.told;
         whole = whole_now one.given ends.found ends.takes;
-        few = few_with 40 _ (so_far.periods ++ one.given ∷ []) [] (n + 1) (whole_now one.given ends.found ends.takes) (count_now one.given) (omega (arith, room));
+        few = few_with 40 _ (so_far.periods ++ one.given ∷ []) [] (n + 1) (whole_now one.given ends.found ends.takes) (count_now one.given)
+            (omega (arith, room));
         are_heard = (stands_now one.given ends.found ends.takes).found;
         moves = subst (λ l. Moves u0 u2 d0 d2 k0 k2 l sent (listed so_far.heard ++ one.told)) (sym (append-nil (concat (so_far.periods ++ one.given ∷ []))))
             (moves_now one.given ends.found ends.takes one.sent one.told one.moves);
@@ -193,7 +194,8 @@ module _ (ccu ccu' : CcuMemory) (want : ℕ) (u0 u1 u2 d0 d1 d2 : LineState) (k0
         sent = sent_up want so_far.heard ++ one.sent;
         told = told;
         whole = whole_now one.given ends.found ends.takes;
-        few = few_with 40 _ (so_far.periods ++ one.given ∷ []) [] (n + 1) (whole_now one.given ends.found ends.takes) (count_now one.given) (omega (arith, room));
+        few = few_with 40 _ (so_far.periods ++ one.given ∷ []) [] (n + 1) (whole_now one.given ends.found ends.takes) (count_now one.given)
+            (omega (arith, room));
         are_heard = (stands_now one.given ends.found ends.takes).found;
         moves = subst (λ l. Moves u0 u2 d0 d2 k0 k2 l (sent_up want so_far.heard ++ one.sent) told)
             (sym (append-nil (concat (so_far.periods ++ one.given ∷ [])))) (moves_now one.given ends.found ends.takes one.sent one.told one.moves);

@@ -80,7 +80,8 @@ no_items [] e = refl
 no_items (x ∷ xs) e = absurd (omega arith)
 
 -- so all posts were worked
-pub all_worked : (seed o call n : ℕ) (b k : BookState) (e : Entry) → 1 ≤ n → record_of b ≡ drawn_posts seed o call n → NumberedFrom 0 (record_of b) → BeginsWith b k →
+pub all_worked : (seed o call n : ℕ) (b k : BookState) (e : Entry) → 1 ≤ n → record_of b ≡ drawn_posts seed o call n → NumberedFrom 0 (record_of b) →
+    BeginsWith b k →
     find (is_of_post o (n - 1)) k.history ≡ Some e →
     map (λ x. x.post) b.history ≡ drawn_posts seed o call n
 unfolding record_of

@@ -219,7 +219,6 @@ module _ (u0 u1 u2 : ℕ → LineState) (o0 o1 o2 : LineState) (call n octets : 
   pub on_whole : BlockEndsAs u1 u2 o1 o2 call block.Whole → MergeSoFar u0 u2 o0 o2 (n + 1) (octets + 160)
   on_whole one = one_more one.0 one.1 one.2
 
-  -- either
   pub on_failed : n < 4294967295 → (line : Line) → BlockEndsAs u1 u2 o1 o2 call (block.Failed line) → Merges u0 u2 o0 o2 call (LineFailed line)
   on_failed few line (inl read) = failed_to_read read.0 read.3 few line read.1 read.2 read.4
   on_failed few line (inr write) = failed_to_write write.0 few line write.1 write.2 write.3
