@@ -2,7 +2,7 @@ use Rattle.std.proofs.Common.{◌≡◌, ◌∷◌, ◌∙◌, ap, map, subst}
 use Rattle.trau_alaw.specs.Alaw.{alaw}
 use Rattle.trau_alaw.specs.Companding.{octet_of}
 use Rattle.fr_decoder.specs.Decoded.{samples_of}
-use Rattle.fr_decoder.specs.Step.{Stands}
+use Rattle.fr_decoder.specs.Stands.{Stands}
 use Rattle.farm_tools.proofs.Making.{compressed-alaw}
 use Rattle.farm_tools.proofs.work.decoded_octets.Goals as goal
 
