@@ -30,11 +30,13 @@ use Rattle.call_heard.proofs.Lines.{line-again}
 
 -- ---- the frames of a history, by number and as its leg makes them
 
+-- the frames of a history as they are found, by the call as a whole
 record Heard (who : Who) (ts : List CallPeriod) (fs : List CallFrame) : Type 0 where
   count : length (down_frames (call_of_history who ts) (reverse (map numbered_of fs))) ≡ length fs
   is : found_among (call_of_history who ts) (reverse (map numbered_of fs)) ≡ as_made (frame_now who) fs
   shifts : map (λ f. f.shift) (reverse (map numbered_of fs)) ≡ shifts_of fs
 
+-- they are the same
 heard : LooksBack → (who : Who) (ts : List CallPeriod) (fs : List CallFrame) → IsCallHistory ts → ArePlaced ts fs → AreInTurn fs → Heard who ts fs
 heard look who ts [] h p t = record { count = refl; is = refl; shifts = refl }
 heard look who ts (f ∷ fs) h p t =
@@ -89,6 +91,7 @@ module _ (look : LooksBack) (who : Who) (ts : List CallPeriod) (h : IsCallHistor
 
 -- ---- what the spans of a call hand over
 
+-- what holds of all items holds of that of a period
 item-has : (P : List ℕ → Type 0) (spans : List Span) (low n : ℕ) → AreSpans low n spans → All (λ span. All P span.items) spans → (k : ℕ) →
     IfSome (item_at spans k) P
 item-has P [] low n are items k = tt
@@ -105,21 +108,25 @@ first-hands : (P : List ℕ → Type 0) (call : Call) (k : ℕ) → ((i : ℕ) �
 first-hands P call zero each = All-nil (λ t. IfSome t.handed P)
 first-hands P call (suc k) each = All-cons (λ t. IfSome t.handed P) _ (first_periods call k) (each k) (first-hands P call k each)
 
+-- so of all that is handed over
 hands : (P : List ℕ → Type 0) (call : Call) → IsWhole call → All (λ span. All P span.items) call.spans → All (λ t. IfSome t.handed P) (periods_of_call call)
 hands P call whole items = first-hands P call (periods call) (item-has P call.spans 0 (periods call) whole.spans items)
 
 -- ---- a call as a whole
 
+-- **The frames of a call are found at their places.**
 pub call-found : LooksBack → (call : Call) → IsWhole call → SpansHandFrames call → Found (down call) (all_within (320 * periods call) (found_of call))
 call-found look call whole items =
     subst (λ (c : Call). Found (down c) (all_within (320 * periods c) (found_of c))) (call-whole call whole)
     (history-found look call.who (periods_of_call call) (history-whole call whole) (hands (λ item. length item ≡ 260) call whole items))
 
+-- **Their places are those of frames with these shifts.**
 pub call-places : LooksBack → (call : Call) → IsWhole call → map (λ f. f.place) (found_of call) ≡ places_from 320 (map (λ f. f.shift) (frames_of_call call))
 call-places look call whole =
     subst (λ (c : Call). map (λ f. f.place) (found_of c) ≡ places_from 320 (map (λ f. f.shift) (frames_of_call c))) (call-whole call whole)
     (history-places look call.who (periods_of_call call) (history-whole call whole))
 
+-- **Each made frame is sent.**
 pub call-each : LooksBack → (call : Call) → IsWhole call → length (down_frames call (frames_of_call call)) ≡ length (frames_of_call call)
 call-each look call whole =
     subst (λ (c : Call). length (down_frames c (frames_of_call c)) ≡ length (frames_of_call c)) (call-whole call whole)

@@ -79,12 +79,14 @@ shape-mix old new i before after = record {
 
 -- ---- what is heard
 
+-- a heard frame whose parameters have their shape
 abbrev pub IsShaped : Heard → Type 0
 IsShaped (Good p) = HasShape p
 IsShaped (Sid q) = HasShape q
 IsShaped Idle = Unit {0}
 IsShaped (Lost missed) = Unit {0}
 
+-- all of them have
 abbrev pub AreShaped : List Heard → Type 0
 AreShaped [] = Unit {0}
 AreShaped (y ∷ past) = IsShaped y × AreShaped past
@@ -100,6 +102,7 @@ shaped-frame kinds.Speech class taf d = shaped-speech class (fields_in d) taf (s
 shaped-frame kinds.Idle class taf d = tt
 shaped-frame kinds.Other class taf d = tt
 
+-- what is heard has
 pub shaped-sighting : (s : Sighting) → IsShaped (heard_as s)
 shaped-sighting Nothing = tt
 shaped-sighting Missed = tt
@@ -162,6 +165,7 @@ shape-handed (GoodFrame p) draw origin = origin
 shape-handed (LostFrame p n) draw origin = shape-lost p n draw origin
 shape-handed (NoiseFrame q fall) draw origin = shape-noise q fall draw origin
 
+-- **The parameters of an effective frame have their shape.**
 pub shape-effective : (number : ℕ) (past : List Heard) → AreShaped past → HasShape (handed_fields (effective_of number past))
 unfolding effective_of
 shape-effective number [] shaped = shape-silent
@@ -169,5 +173,6 @@ shape-effective number (y ∷ past) shaped =
     shape-handed _ _
     (shaped-origin (anchor_of (y ∷ past)) (λ q. old_of (y ∷ past) q) (shaped-anchor (y ∷ past) shaped) (λ r h. shape-old (y ∷ past) shaped r h))
 
+-- **So what is handed over are 260 bits.**
 pub handed-long : (number : ℕ) (ts : List CallPeriod) → length (bits260 (handed_fields (effective_of number (heard_of ts)))) ≡ 260
 handed-long number ts = length-bits260 _ (shape-effective number (heard_of ts) (shaped-call ts))

@@ -23,6 +23,7 @@ long : (o : Option (List ℕ)) → IfSome o (λ d. length d ≡ 260) → is_some
 long None h is = absurd (cc)
 long (Some d) h is = h
 
+-- what is handed over are 260 bits
 long-handed : (h : ℕ) (ts : List CallPeriod) → PeriodsHandFrames ts → hands_at h (down_periods ts) ≡ true → length (handed_in h ts) ≡ 260
 long-handed h [] k is = absurd (cc)
 long-handed h (t ∷ past) k is = by (h == length past) refl (long-handed h past (All-tail (λ t. IfSome t.handed (λ d. length d ≡ 260)) t past k))
@@ -62,12 +63,14 @@ grown-carry t past fs h k =
     cond_both (nat_le (next_start fs) (160 * length (down_periods past))) (next_frame (down_period t past) (down_periods past) fs ∷ fs) fs (All CarriesFrame)
     (λ y. All-cons CarriesFrame _ fs (λ i is. long-handed i (t ∷ past) h (due-bridged (down_periods (t ∷ past)) fs i is)) k) (λ n. k)
 
+-- so each made frame that carries something carries 260 bits
 carry : (ts : List CallPeriod) → PeriodsHandFrames ts → All CarriesFrame (frames_of ts)
 carry [] h = All-nil CarriesFrame
 carry (t ∷ past) h =
     grown-carry t past (grown (down_period t past) (down_periods past) (frames_of past)) h
     (grown-carry t past (frames_of past) h (carry past (All-tail (λ t. IfSome t.handed (λ d. length d ≡ 260)) t past h)))
 
+-- and what is sent has its length
 frame-long : (who : Who) (f : CallFrame) (fs : List CallFrame) → CarriesFrame f → HasLength (frame_now who (f ∷ fs))
 frame-long who f fs k = go f.carries refl
   where
@@ -92,6 +95,7 @@ all-long who (f ∷ fs) k = (frame-long who f fs (All-head CarriesFrame f fs k),
 pub leg-long : (who : Who) (ts : List CallPeriod) → PeriodsHandFrames ts → HaveLength (frame_now who) (frames_of ts)
 leg-long who ts h = all-long who (frames_of ts) (carry ts h)
 
+-- **The frames of a leg's downlink are found at their places.**
 pub leg-found : (who : Who) (ts : List CallPeriod) → PeriodsHandFrames ts →
     Found (down_line who ts) (all_within (320 * length ts) (as_made (frame_now who) (frames_of ts)))
 leg-found who ts h =

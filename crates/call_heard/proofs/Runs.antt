@@ -17,10 +17,12 @@ shaped-ups : (ups : List (List ℕ)) → AreShaped (heard_by ups)
 shaped-ups [] = tt
 shaped-ups (up ∷ past) = (shaped-sighting _, shaped-ups past)
 
+-- an item has 260 bits
 long-item : (d : ℕ) (ups : List (List ℕ)) → length (item_of d ups) ≡ 260
 unfolding item_of
 long-item d ups = length-bits260 _ (shape-effective d (heard_by ups) (shaped-ups ups))
 
+-- and these are bits
 bits-item : (d : ℕ) (ups : List (List ℕ)) → AreBits (item_of d ups)
 unfolding item_of
 bits-item d ups = AreBits-bits260 _
@@ -32,8 +34,10 @@ each-item P each r c =
     All-map (λ span. All P span.items) (span_for r c) (filter (begins_in r c) (spans_in r))
     (λ k d l. All-map P (item_in r (partner_in c (get_or (filter (begins_in r c) (spans_in r)) k d))) _ (λ i e m. each _ _))
 
+-- **What is handed over in a run are 260 bits.**
 pub run-hands : (r : Run) (c : ℕ) → SpansHandFrames (whole_call r c)
 run-hands r c = each-item (λ item. length item ≡ 260) long-item r c
 
+-- **The octets of a Down line give its bits again.**
 pub run-bits : LooksBack → (r : Run) (c : ℕ) → IsWhole (whole_call r c) → bits_of (octets_of (down (whole_call r c))) ≡ down (whole_call r c)
 run-bits look r c whole = call-bits look (whole_call r c) whole (each-item (λ item. AreBits item) bits-item r c)

@@ -46,6 +46,7 @@ length-blocks block first (suc n) each =
     length-append (block first) (flat_map block (range_with_len (first + 1) n)) ∙ (λ i. one i + rest i) in
     omega (arith, both)
 
+-- parameters of this shape are 260 bits
 pub length-bits260 : (f : Fields) → HasShape f → length (bits260 f) ≡ 260
 unfolding bits260 total
 length-bits260 f shape =
@@ -87,6 +88,7 @@ pulses-blocks past d =
     pulses-four first.0 second.0 third.0 fourth.0 (pulses-block past (block_at d 0)) (pulses-block first.1 (block_at d 1))
     (pulses-block second.1 (block_at d 2)) (pulses-block third.1 (block_at d 3))
 
+-- an encoding has this shape
 pub shape-encoding : (x : List ℤ) (past : List (List ℤ)) → HasShape (encoding_of x past).fields
 unfolding encoding_of
 shape-encoding x past = record {
@@ -111,6 +113,7 @@ shape-early : (f : Coded) (place : Option SidPlace) → HasShape f.fields → Ha
 shape-early f None shape = shape
 shape-early f (Some place) shape = shape-sid place.four
 
+-- **And so has what is sent.**
 pub shape-sent : (f : Coded) (past : List Coded) → HasShape f.fields → HasShape (sent_of f past).fields
 unfolding sent_of
 shape-sent f past shape =

@@ -10,7 +10,8 @@ use Rattle.rx_handler.specs.Origin.{EffectiveFields, Quiet, Speech, Made}
 use Rattle.down_framer.specs.Made.{Period, MadeFrame, next_start, latest_start, made_from, handed_due, grown, next_frame, made_frames, epoch_of}
 use Rattle.down_framer.specs.Bridges.{IsHistory}
 use Rattle.down_framer.specs.Stands.{Holds}
-use Rattle.down_framer.proofs.Waiting.{hands_at-late, Phase, phase}
+use Rattle.down_framer.proofs.Due.{hands_at-late}
+use Rattle.down_framer.proofs.Waiting.{Phase, phase}
 use Rattle.call_leg.specs.Who.{Who}
 use Rattle.call_leg.specs.Periods.{CallPeriod, pcm_of, bridges_begun, effective_now}
 use Rattle.call_leg.specs.Down.{CallFrame, down_periods, frames_of, is_coded, coded_stretch, down_made}

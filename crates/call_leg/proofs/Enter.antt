@@ -4,7 +4,8 @@ use Rattle.std.specs.Prelude.{◌==◌}
 use Rattle.std.proofs.lemmas.Bool.{cond-true, cond-false, cases_Bool, cases_lt, eq-eqb, ne_eqb, true≢false}
 use Rattle.down_framer.specs.Made.{Period, MadeFrame, latest_start, made_from, hands_at}
 use Rattle.down_framer.specs.Bridges.{in_bridge, IsHistory}
-use Rattle.down_framer.proofs.Waiting.{hands_at-late, hands_at-new, hands_at-old, made_from-zero, outside, Phase, phase}
+use Rattle.down_framer.proofs.Due.{hands_at-late, hands_at-new, hands_at-old, made_from-zero, outside}
+use Rattle.down_framer.proofs.Waiting.{Phase, phase}
 use Rattle.call_leg.specs.Periods.{CallPeriod, handed_in}
 use Rattle.call_leg.specs.Down.{CallFrame, down_period, down_periods, frames_of}
 use Rattle.call_leg.specs.Waiting.{place_at, bits_in, Waits}

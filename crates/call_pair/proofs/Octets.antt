@@ -23,13 +23,13 @@ written-seam front buffer octets start n e f =
     ap (λ (ys : List ℕ). ys ++ octets ++ drop (start + length octets) xs) (take_at front (drop start buffer) start e) ∙
     ap (λ (ys : List ℕ). front ++ octets ++ ys) rest
 
-length-outs_of : (who : Who) (k : ℕ) (ts : List CallPeriod) → k ≤ length ts → length (outs_of who k ts) ≡ 160 * k
+pub length-outs_of : (who : Who) (k : ℕ) (ts : List CallPeriod) → k ≤ length ts → length (outs_of who k ts) ≡ 160 * k
 length-outs_of who zero ts h = refl
 length-outs_of who (suc k) [] h = absurd (omega arith)
 length-outs_of who (suc k) (t ∷ past) h =
     omega (arith, length-append (outs_of who k past) (out_of who (t ∷ past)), length-outs_of who k past (omega arith), length-out_of who (t ∷ past))
 
-length-downs_of : (who : Who) (k : ℕ) (ts : List CallPeriod) → k ≤ length ts → length (downs_of who k ts) ≡ 40 * k
+pub length-downs_of : (who : Who) (k : ℕ) (ts : List CallPeriod) → k ≤ length ts → length (downs_of who k ts) ≡ 40 * k
 length-downs_of who zero ts h = refl
 length-downs_of who (suc k) [] h = absurd (omega arith)
 length-downs_of who (suc k) (t ∷ past) h =

@@ -168,5 +168,6 @@ item-carried who ts before after span j i h e l has =
     let parts : map without_items call.spans ≡ map without_items before ++ without_items span ∷ map without_items after =
     ap (map without_items) e ∙ map-append without_items before (span ∷ after) in
     ap (λ bs. carried_item bs w fs) parts ∙
-    carried_item-speaks (map without_items before) (map without_items after) (without_items span) w (span.from + i) fs (subst (λ bs. OneSpeaks bs w fs) parts at)
+    carried_item-speaks (map without_items before) (map without_items after) (without_items span) w (span.from + i) fs
+    (subst (λ bs. OneSpeaks bs w fs) parts at)
     (has_item call span j i has)

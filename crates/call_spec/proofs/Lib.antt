@@ -11,6 +11,7 @@ pub mod OutLine
 pub mod Frames
 pub mod Loads
 pub mod Sending
+pub mod PlacedFrames
 pub mod DownLine
 pub mod FirstPeriods
 pub mod Ordered

@@ -26,12 +26,15 @@ use Rattle.call_spec.proofs.Starts.{starts_at-period}
 
 -- ---- what is decoded in a period
 
+-- what is decoded where this is handed over, this is heard and a span may start
 abbrev decoding : Option (List ℕ) → EffectiveFields → Bool → Decoding
 decoding handed effective_frame starts = record { parameters = if is_some handed then None else parameters_of effective_frame; starts = starts }
 
+-- what is decoded in a period of a history
 abbrev decoding_of : ℕ → CallPeriod → List CallPeriod → Decoding
 decoding_of number t past = decoding t.handed (effective_now number (t ∷ past)) t.starts
 
+-- a period of the call as a whole is decoded as that of the history
 decoding-period : LooksBack → (who : Who) (ts : List CallPeriod) (t : CallPeriod) (past : List CallPeriod) → IsCallHistory ts → IsPeriod ts t past →
     decoding_at (call_of_history who ts) (length past) ≡ decoding_of who.number t past
 decoding-period look who ts t past h p =
@@ -64,6 +67,7 @@ octets-reverse law p ps =
     ap (plain_octets law) (reverse-more p ps) ∙ octets-some law (reverse ps) p ∙ ap (λ z. compressed law (decoded z)) (sym (reverse-more p ps)) ∙
     ap (λ z. compressed law (all_samples z)) (reverse-reverse (p ∷ ps))
 
+-- of a longer stretch the octets of the newest period come behind the others
 octets-more : (law : Law) (p q : Fields) (ps : List Fields) →
     plain_octets law (reverse (p ∷ q ∷ ps)) ≡ plain_octets law (reverse (q ∷ ps)) ++ decoded_octets law (p ∷ q ∷ ps)
 unfolding compressed all_samples
@@ -77,12 +81,14 @@ unfolding all_samples
 octets-one law None = refl
 octets-one law (Some p) = refl
 
+-- a plain stretch goes on between plain periods alone
 goes_on-plain : (a b : Option Fields) (starts : Bool) → (is_some a && is_some b && not starts) ≡ true →
     (p : Fields) × (q : Fields) × (a ≡ Some p) × (b ≡ Some q)
 goes_on-plain None b starts e = absurd (true≢false (sym e))
 goes_on-plain (Some p) None starts e = absurd (true≢false (sym e))
 goes_on-plain (Some p) (Some q) starts e = (p, q, refl, refl)
 
+-- so a stretch adds the octets of its newest period
 adds : (law : Law) → AddsTo plain_goes_on (stretch_octets law) (λ d s. decoded_octets law (parameters_in (d ∷ s)))
 adds law = record { first = λ d. octets-one law d.parameters; more = λ d b past e. by d b past (goes_on-plain b.parameters d.parameters d.starts e) }
   where
@@ -104,6 +110,7 @@ and_none : (a b : Bool) → (a && false && b) ≡ false
 and_none true b = refl
 and_none false b = refl
 
+-- before a period that is not plain there is no stretch
 before-none : (d : Decoding) (past : List Decoding) → d.parameters ≡ None → before plain_goes_on d past ≡ []
 before-none d [] e = refl
 before-none d (b ∷ past) e =
@@ -126,6 +133,7 @@ last_false true true = refl
 last_false true false = refl
 last_false false b = refl
 
+-- nor before one at which a span starts
 cut_off : (d b : Decoding) (ds : List Decoding) → plain_goes_on b d ≡ false → parameters_in (before plain_goes_on d (b ∷ ds)) ≡ []
 cut_off d b ds e = ap parameters_in (cond-false (plain_goes_on b d) (newest plain_goes_on b ds) [] e)
 
@@ -172,6 +180,7 @@ plain-told false Quiet bs more none some = ap parameters_in (none refl)
 plain-told false (Speech p) bs more none some = ap (λ ps. p ∷ ps) (some p refl)
 plain-told false (Made p) bs more none some = ap (λ ps. p ∷ ps) (some p refl)
 
+-- **The plain stretch of a history is that of the call as a whole.**
 told-plain : (number : ℕ) (ts : List CallPeriod) → told number ts ≡ plain_stretch number (bridges_begun ts) ts
 told-plain number [] = refl
 told-plain number (t ∷ past) =
@@ -185,6 +194,7 @@ told-plain number (t ∷ past) =
 
 -- ---- the whole line
 
+-- the Out line, stretch by stretch
 out-each : (who : Who) (ts : List CallPeriod) →
     out_line who ts ≡ flat_map (stretch_octets who.law) (stretches plain_goes_on (reverse (each_back (decoding_of who.number) ts)))
 out-each who [] = refl
@@ -195,6 +205,7 @@ out-each who (t ∷ past) =
     ap (λ ps. flat_map (stretch_octets who.law) (stretches plain_goes_on (reverse ds)) ++ decoded_octets who.law ps) (sym (told-plain who.number (t ∷ past))) ∙
     sym (stretched-more plain_goes_on (stretch_octets who.law) (λ d s. decoded_octets who.law (parameters_in (d ∷ s))) (adds who.law) d ds)
 
+-- **The Out line is that of the call as a whole.**
 pub out-whole : LooksBack → (who : Who) (ts : List CallPeriod) → IsCallHistory ts → out_line who ts ≡ out (call_of_history who ts)
 out-whole look who ts h =
     out-each who ts ∙

@@ -40,6 +40,7 @@ ups-earlier : (later ts : List CallPeriod) → All (λ t. length t.up ≡ 40) (l
 ups-earlier [] ts h = h
 ups-earlier (t ∷ later) ts h = ups-earlier later ts (All-tail (λ t. length t.up ≡ 40) t (later ++ ts) h)
 
+-- the octets of a period stand at its place
 up-at : (later : List CallPeriod) (t : CallPeriod) (past : List CallPeriod) → All (λ t. length t.up ≡ 40) (later ++ t ∷ past) →
     take 40 (drop (40 * length past) (up_in_history (later ++ t ∷ past))) ≡ t.up
 up-at later t past h =
@@ -64,6 +65,7 @@ ups-back : (ts : List CallPeriod) → each_back (λ t past. t.up) ts ≡ ups_of 
 ups-back [] = refl
 ups-back (t ∷ past) = ap (λ z. t.up ∷ z) (ups-back past)
 
+-- the call's periods of the Up line are the history's
 pub ups-read : (who : Who) (ts : List CallPeriod) → IsCallHistory ts → up_periods (call_of_history who ts) ≡ reverse (ups_of ts)
 ups-read who ts h =
     each-of who ts (λ k. take 40 (drop (40 * k) (up_in_history ts))) (λ t past. t.up)
@@ -74,11 +76,13 @@ ups-read who ts h =
 
 -- ---- what the search finds
 
+-- what each period yields
 yields-each : (ts : List CallPeriod) → each_yield (ups_of ts) ≡ each (λ t past. yield_of t.up (ups_of past)) ts
 unfolding each_yield
 yields-each [] = refl
 yields-each (t ∷ past) = ap (λ z. z ++ yield_of t.up (ups_of past) ∷ []) (yields-each past)
 
+-- **A period yields what the search over the whole line yields in it.**
 pub yield-period : (who : Who) (ts : List CallPeriod) (t : CallPeriod) (past : List CallPeriod) → IsCallHistory ts → IsPeriod ts t past →
     yield_at (call_of_history who ts) (length past) ≡ yield_of t.up (ups_of past)
 yield-period who ts t past h p =
@@ -87,6 +91,7 @@ yield-period who ts t past h p =
     ap (λ ys. get_or ys (length past) None) (yields-each ts) ∙
     each-at (λ t past. yield_of t.up (ups_of past)) None ts t past p
 
+-- so what is seen is the same
 pub seen-period : (who : Who) (ts : List CallPeriod) (t : CallPeriod) (past : List CallPeriod) → IsCallHistory ts → IsPeriod ts t past →
     seen_at (call_of_history who ts) (length past) ≡ sighting_after past t.up
 unfolding sighting_after
@@ -98,6 +103,7 @@ heards-back : (ts : List CallPeriod) → each_back (λ t past. heard_as (sightin
 heards-back [] = refl
 heards-back (t ∷ past) = ap (λ z. heard_as (sighting_after past t.up) ∷ z) (heards-back past)
 
+-- and what is heard in all periods
 heards-read : (who : Who) (ts : List CallPeriod) → IsCallHistory ts →
     map (heard_at (call_of_history who ts)) (each_period (call_of_history who ts)) ≡ reverse (heard_of ts)
 heards-read who ts h =
@@ -141,6 +147,7 @@ effective-front look call ys zs k l =
     ap (λ es. get_or es k Quiet) same ∙ get_or_append_left (effectives call ys) more.0 Quiet k (omega arith) ∙
     get_or-map-range_with_len (effective_at call (heard_in ys)) 0 (length ys) k k Quiet l (omega arith)
 
+-- **The effective frame is the same.**
 pub effective-period : LooksBack → (who : Who) (ts : List CallPeriod) (t : CallPeriod) (past : List CallPeriod) → IsCallHistory ts → IsPeriod ts t past →
     effective_frame (call_of_history who ts) (length past) ≡ effective_now who.number (t ∷ past)
 effective-period look who ts t past h p =
@@ -161,6 +168,7 @@ fields-back : (ts : List CallPeriod) → each_back (λ t past. field_of (sightin
 fields-back [] = refl
 fields-back (t ∷ past) = ap (λ z. field_of (sighting_after past t.up) ∷ z) (fields-back past)
 
+-- so are the fields
 pub fields-read : (who : Who) (ts : List CallPeriod) → IsCallHistory ts → fields (call_of_history who ts) ≡ asked_fields (down_periods ts)
 fields-read who ts h =
     each-of who ts (λ k. field_of (seen_at (call_of_history who ts) k)) (λ t past. field_of (sighting_after past t.up))
@@ -171,12 +179,14 @@ settings-each : (ts : List CallPeriod) → settings_of ts ≡ each (λ t past. s
 settings-each [] = refl
 settings-each (t ∷ past) = ap (λ z. z ++ setting_of t ∷ []) (settings-each past)
 
+-- and the settings
 pub setting-period : (who : Who) (ts : List CallPeriod) (t : CallPeriod) (past : List CallPeriod) → IsPeriod ts t past →
     setting_at (call_of_history who ts) (length past) ≡ setting_of t
 setting-period who ts t past p =
     ap (λ z. get_or z (length past) (record { level = pos 256; mode = Uplink })) (settings-each ts) ∙
     each-at (λ t past. setting_of t) (record { level = pos 256; mode = Uplink }) ts t past p
 
+-- the last DTXd
 dtxd-period : (who : Who) (ts : List CallPeriod) (t : CallPeriod) (past : List CallPeriod) → IsCallHistory ts → IsPeriod ts t past →
     dtxd_at (call_of_history who ts) (length past) ≡ dtxd_of (t ∷ past)
 dtxd-period who ts t [] h p = ap (λ s. dtxd_after s false) (seen-period who ts t [] h p)
@@ -184,6 +194,7 @@ dtxd-period who ts t (u ∷ past) h p =
     ap (λ s. dtxd_after s (dtxd_at (call_of_history who ts) (length past))) (seen-period who ts t (u ∷ past) h p) ∙
     ap (dtxd_after (sighting_after (u ∷ past) t.up)) (dtxd-period who ts u past h (one_before ts t u past p))
 
+-- and whether DTX is on
 pub dtx-period : (who : Who) (ts : List CallPeriod) (t : CallPeriod) (past : List CallPeriod) → IsCallHistory ts → IsPeriod ts t past →
     dtx_at (call_of_history who ts) (length past) ≡ dtx_now (t ∷ past)
 dtx-period who ts t past h p =

@@ -27,6 +27,7 @@ zip-more (a ∷ xs) (b ∷ ys) x y e = ap (λ z. (a, b) ∷ z) (zip-more xs ys x
 abbrev pub code : Call → NumberedFrame → List NumberedFrame → Coded
 code call f before = in_force call (encoding_of (samples call f) (map (samples call) before), f)
 
+-- the coded frames of a stretch, the newest first
 abbrev pub codes : Call → List NumberedFrame → List Coded
 codes call [] = []
 codes call (f ∷ before) = code call f before ∷ codes call before
@@ -36,6 +37,7 @@ unfolding all_encodings
 length-all_encodings [] = refl
 length-all_encodings (x ∷ past) = let n = length-all_encodings past in length-append (all_encodings past) (encoding_of x past ∷ []) ∙ omega arith
 
+-- each with what is in force in its period
 zip-codes : (call : Call) (s : List NumberedFrame) → map (in_force call) (zip (all_encodings (map (samples call) s)) (reverse s)) ≡ reverse (codes call s)
 unfolding all_encodings
 zip-codes call [] = refl
@@ -49,11 +51,13 @@ zip-codes call (f ∷ s) =
     map-append (in_force call) (zip (all_encodings xs) (reverse s)) ((encoding_of (samples call f) xs, f) ∷ []) ∙
     ap (λ z. z ++ code call f s ∷ []) (zip-codes call s) ∙ sym (reverse-more (code call f s) (codes call s))
 
+-- they are those of the stretch as a whole
 coded-reverse : (call : Call) (s : List NumberedFrame) → coded call (reverse s) ≡ reverse (codes call s)
 coded-reverse call s =
     ap (λ xs. map (in_force call) (zip (encoded xs) (reverse s))) (map-reverse (samples call) s) ∙
     ap (λ xs. map (in_force call) (zip (all_encodings xs) (reverse s))) (reverse-reverse (map (samples call) s)) ∙ zip-codes call s
 
+-- and sent as the same frames
 sent-reverse : (call : Call) (s : List NumberedFrame) → map speech (sent (coded call (reverse s))) ≡ map speech (all_sent (codes call s))
 sent-reverse call s = ap (λ cs. map speech (sent cs)) (coded-reverse call s) ∙ ap (λ cs. map speech (all_sent cs)) (reverse-reverse (codes call s))
 
@@ -69,6 +73,7 @@ second_true true false d e = e
 second_true false true d e = refl
 second_true false false d e = e
 
+-- a coded frame and those before it in its stretch are all coded
 all-coded : (call : Call) (f : NumberedFrame) (past : List NumberedFrame) → is_coded call f ≡ true →
     list_all (is_coded call) (reverse (newest (coded_goes_on call) f past)) ≡ true
 all-coded call f [] e = and_from (is_coded call f) true e refl
@@ -88,6 +93,7 @@ all-coded call f (g ∷ past) e = by (coded_goes_on call g f) refl (all-coded ca
 abbrev pub frame_after : Call → NumberedFrame → List NumberedFrame → DownFrame
 frame_after call f before = if is_coded call f then speech (sent_of (code call f before) (codes call before)) else uncoded call f
 
+-- a stretch of one frame
 first_frame : (call : Call) (f : NumberedFrame) → stretch_frames call (f ∷ []) ≡ frame_after call f [] ∷ []
 unfolding all_sent
 first_frame call f = by (is_coded call f)
@@ -97,11 +103,13 @@ first_frame call f = by (is_coded call f)
     by true = sent-reverse call (f ∷ [])
     by false = refl
 
+-- one coded frame more is one sent frame more
 sent-more : (call : Call) (f : NumberedFrame) (s : List NumberedFrame) →
     map speech (all_sent (codes call (f ∷ s))) ≡ map speech (all_sent (codes call s)) ++ speech (sent_of (code call f s) (codes call s)) ∷ []
 unfolding all_sent
 sent-more call f s = map-append speech (all_sent (codes call s)) (sent_of (code call f s) (codes call s) ∷ [])
 
+-- **A stretch adds the newest frame as it is sent after those before it.**
 pub adds-frame : (call : Call) → AddsTo (coded_goes_on call) (stretch_frames call) (λ f s. frame_after call f s ∷ [])
 adds-frame call = record { first = first_frame call; more = λ f g past e. by f g past e }
   where

@@ -18,6 +18,7 @@ first_none : (o p : Option (List ℕ)) → option_or o p ≡ None → o ≡ None
 first_none None p e = refl
 first_none (Some x) p e = cc
 
+-- of spans in order the last is asked last
 item_at-more : (spans : List Span) (span : Span) (k : ℕ) → item_at (spans ++ span ∷ []) k ≡ option_or (item_at spans k) (item_at (span ∷ []) k)
 item_at-more [] span k = refl
 item_at-more (s ∷ spans) span k = by (nat_le s.from k && nat_lt k s.to) (item_at-more spans span k)
@@ -31,16 +32,19 @@ item_at-more (s ∷ spans) span k = by (nat_le s.from k && nat_lt k s.to) (item_
 item_at-newest : (span : Span) (spans : List Span) (k : ℕ) → item_at (reverse (span ∷ spans)) k ≡ option_or (item_at (reverse spans) k) (item_at (span ∷ []) k)
 item_at-newest span spans k = ap (λ z. item_at z k) (reverse-more span spans) ∙ item_at-more (reverse spans) span k
 
+-- before a span it has no item
 early : (span : Span) (k : ℕ) → k < span.from → item_at (span ∷ []) k ≡ None
 early span k l =
     cond-false (nat_le span.from k && nat_lt k span.to) (Some (get_or span.items (k - span.from) [])) None
     (and_left _ (nat_lt k span.to) (lt-leb span.from k l))
 
+-- nor behind it
 late : (span : Span) (k : ℕ) → span.to ≤ k → item_at (span ∷ []) k ≡ None
 late span k l =
     cond-false (nat_le span.from k && nat_lt k span.to) (Some (get_or span.items (k - span.from) [])) None
     (and_right (nat_le span.from k) _ (le-ltb k span.to l))
 
+-- within it, its item
 inside : (span : Span) (k : ℕ) → span.from ≤ k → k < span.to → item_at (span ∷ []) k ≡ Some (get_or span.items (k - span.from) [])
 inside span k l m =
     cond-true (nat_le span.from k && nat_lt k span.to) (Some (get_or span.items (k - span.from) [])) None
@@ -53,6 +57,7 @@ item_new n (Some item) k e =
     let first : k - n ≡ 0 = omega arith in
     inside (new_span n (Some item)) k (omega arith) (omega arith) ∙ ap (λ i. Some (get_or (item ∷ []) i [])) first
 
+-- a new span has its item in its own period alone
 item_not_new : (n : ℕ) (o : Option (List ℕ)) (k : ℕ) → (k < n) ⊎ (n < k) → item_at (new_span n o ∷ []) k ≡ None
 item_not_new n None k (inl l) = early (new_span n None) k l
 item_not_new n (Some item) k (inl l) = early (new_span n (Some item)) k l
@@ -67,6 +72,7 @@ record Latest (past : List CallPeriod) : Type 0 where
   to : span.to ≡ length past
   count : span.from + length span.items ≡ span.to
 
+-- what goes on was going on
 went_on : (t : CallPeriod) (past : List CallPeriod) (b : Bool) → t.starts ≡ false → (is_some t.handed ≡ true → (t.starts || b) ≡ true) →
     is_some t.handed ≡ true → b ≡ true
 went_on t past b e h y = sym (ap (λ s. s || b) e) ∙ h y
@@ -75,6 +81,7 @@ went_on t past b e h y = sym (ap (λ s. s || b) e) ∙ h y
 longer : Span → List ℕ → Span
 longer span item = record { from = span.from; to = span.to + 1; items = span.items ++ item ∷ [] }
 
+-- the latest span of a history that lies in a bridge
 latest : (ts : List CallPeriod) → IsHistory (down_periods ts) → in_bridge (down_periods ts) ≡ true → Latest ts
 unfolding longer
 latest [] h b = absurd (true≢false (sym b))
@@ -118,6 +125,7 @@ item_longer span item k n e c l = elim (cases_lt k span.from) [
       sym (inside span k from (omega arith))
 ]
 
+-- a span that grew has the item in its last period
 item_last : (span : Span) (item : List ℕ) (k : ℕ) → span.to ≡ k → span.from + length span.items ≡ span.to → item_at (longer span item ∷ []) k ≡ Some item
 unfolding longer
 item_last span item k e c =
@@ -132,6 +140,7 @@ or_new a b d p q = ap (option_or a) p ∙ or_none a ∙ q
 or_none_before : (a b d : Option (List ℕ)) → a ≡ None → b ≡ d → option_or a b ≡ d
 or_none_before a b d p q = ap (λ z. option_or z b) p ∙ q
 
+-- where a span starts the spans say what the history says
 item-starts : (t : CallPeriod) (past : List CallPeriod) → ((k : ℕ) → item_at (reverse (spans_in_history past)) k ≡ handed_at past k) → (k : ℕ) →
     item_at (reverse (new_span (length past) t.handed ∷ spans_in_history past)) k ≡ handed_at (t ∷ past) k
 item-starts t past before k =
@@ -148,6 +157,7 @@ item-starts t past before k =
       ]
     ]
 
+-- and where nothing is handed over
 item-out : (t : CallPeriod) (past : List CallPeriod) → t.handed ≡ None → (k : ℕ) → handed_at past k ≡ handed_at (t ∷ past) k
 item-out t past out k = elim (cases_lt k (length past)) [
   | inl old ↦ sym (handed_at-old t past k old)
@@ -157,6 +167,7 @@ item-out t past out k = elim (cases_lt k (length past)) [
   ]
 ]
 
+-- and where the latest span goes on
 item-goes : (t : CallPeriod) (past : List CallPeriod) (item : List ℕ) → t.handed ≡ Some item → Latest past →
     ((k : ℕ) → item_at (reverse (spans_in_history past)) k ≡ handed_at past k) → (k : ℕ) →
     item_at (reverse (go_on (Some item) (spans_in_history past))) k ≡ handed_at (t ∷ past) k
@@ -179,6 +190,7 @@ item-goes t past item e l before k =
     were : option_or (item_at (reverse l.others) k) (item_at (l.span ∷ []) k) ≡ handed_at past k
     were = sym (item_at-newest l.span l.others k) ∙ ap (λ ss. item_at (reverse ss) k) (sym l.is) ∙ before k
 
+-- **The spans say of each period what is handed over in it.**
 pub item_at-history : (ts : List CallPeriod) → IsHistory (down_periods ts) → (k : ℕ) → item_at (reverse (spans_in_history ts)) k ≡ handed_at ts k
 item_at-history [] h k = refl
 item_at-history (t ∷ past) h k = by (cases_Bool t.starts) t.handed refl (item_at-history past h.0)
@@ -201,6 +213,7 @@ item_at-history (t ∷ past) h k = by (cases_Bool t.starts) t.handed refl (item_
         ∙ ap (λ o. go_on o (spans_in_history past)) e) ∙
         item-goes t past item e (latest past h.0 (went_on t past (in_bridge (down_periods past)) s h.2 (ap is_some e))) before k
 
+-- **So they do of a period of the history.**
 pub item_at-period : (ts : List CallPeriod) (t : CallPeriod) (past : List CallPeriod) → IsHistory (down_periods ts) → IsPeriod ts t past →
     item_at (reverse (spans_in_history ts)) (length past) ≡ t.handed
 item_at-period ts t past h p = item_at-history ts h (length past) ∙ ap (λ us. handed_at us (length past)) (sym p.1) ∙ handed_at-period p.0 t past

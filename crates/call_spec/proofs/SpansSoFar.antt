@@ -9,26 +9,32 @@ use Rattle.call_spec.proofs.Stretched.{reverse-more}
 use Rattle.call_spec.proofs.FirstPeriods.{length-first}
 use Rattle.call_spec.proofs.Ordered.{head_early, head_late, head_inside, item-none, starts-other, starts-here, starts-none}
 
+-- a span by its parts
 abbrev span3 : ℕ → ℕ → List (List ℕ) → Span
 span3 from to items = record { from = from; to = to; items = items }
 
 same_span : (a b c d : ℕ) (x y : List (List ℕ)) → a ≡ b → c ≡ d → x ≡ y → span3 a c x ≡ span3 b d y
 same_span a b c d x y p q r = ap (λ a. span3 a c x) p ∙ ap (λ c. span3 b c x) q ∙ ap (span3 b d) r
 
+-- of a span its periods before k
 abbrev cut : ℕ → Span → Span
 cut k span = span3 span.from (min span.to k) (take (k - span.from) span.items)
 
-abbrev so_far : ℕ → List Span → List Span
+-- of some spans those periods
+abbrev pub so_far : ℕ → List Span → List Span
 so_far k [] = []
 so_far k (span ∷ spans) = if nat_lt span.from k then cut k span ∷ so_far k spans else []
 
+-- none before they start
 so_far-none : (low n k : ℕ) (spans : List Span) → AreSpans low n spans → k ≤ low → so_far k spans ≡ []
 so_far-none low n k [] h l = refl
 so_far-none low n k (span ∷ spans) h l = let from = h.0 in cond-false (nat_lt span.from k) _ [] (le-ltb span.from k (omega arith))
 
+-- the first one, and the others
 so_far-some : (k : ℕ) (span : Span) (spans : List Span) → span.from < k → so_far k (span ∷ spans) ≡ cut k span ∷ so_far k spans
 so_far-some k span spans l = cond-true (nat_lt span.from k) (cut k span ∷ so_far k spans) [] (lt-ltb span.from k l)
 
+-- a span that is over is whole
 cut-whole : (k : ℕ) (span : Span) → span.to ≤ k → span.from + length span.items ≡ span.to → cut k span ≡ span
 cut-whole k span l e =
     same_span span.from span.from (min span.to k) span.to (take (k - span.from) span.items) span.items refl (omega arith)
@@ -39,6 +45,7 @@ abbrev extended : Option (List ℕ) → Span → Span
 extended None span = span
 extended (Some item) span = span3 span.from (span.to + 1) (span.items ++ item ∷ [])
 
+-- the last of some spans goes on
 abbrev go_last : Option (List ℕ) → List Span → List Span
 go_last o [] = []
 go_last o (span ∷ []) = extended o span ∷ []
@@ -54,6 +61,7 @@ go_last-none [] = refl
 go_last-none (a ∷ []) = refl
 go_last-none (a ∷ b ∷ spans) = ap (λ z. a ∷ z) (go_last-none (b ∷ spans))
 
+-- in the order of a history it is the first one
 go_on-reverse : (o : Option (List ℕ)) (spans : List Span) → reverse (go_on o spans) ≡ go_last o (reverse spans)
 go_on-reverse None spans = sym (go_last-none (reverse spans))
 go_on-reverse (Some item) [] = refl
@@ -65,6 +73,7 @@ go_on-reverse (Some item) (span ∷ others) =
 abbrev after : Bool → ℕ → Option (List ℕ) → List Span → List Span
 after starts k o spans = if starts then spans ++ new_span k o ∷ [] else go_last o spans
 
+-- they depend on what starts and what is handed over
 same_after : (k : ℕ) (a b : Bool) (o p : Option (List ℕ)) (x y : List Span) → a ≡ b → o ≡ p → x ≡ y → after a k o x ≡ after b k p y
 same_after k a b o p x y q r s = ap (λ a. after a k o x) q ∙ ap (λ o. after b k o x) r ∙ ap (after b k p) s
 
@@ -79,12 +88,14 @@ nothing_yet low n k (span ∷ spans) h e s = elim (cases_lt span.from k) [
   ]
 ]
 
+-- a span that is over stays as it is
 one_before : (k : ℕ) (span : Span) (starts : Bool) (o : Option (List ℕ)) (spans : List Span) → (spans ≡ [] → starts ≡ false → o ≡ None) →
     span ∷ after starts k o spans ≡ after starts k o (span ∷ spans)
 one_before k span true o spans h = refl
 one_before k span false o [] h = sym (ap (λ o. extended o span ∷ []) (h refl refl))
 one_before k span false o (next ∷ spans) h = refl
 
+-- a span that starts has its first item
 first_of_new : (k : ℕ) (span : Span) (spans : List Span) (low n : ℕ) → AreSpans low n (span ∷ spans) → span.from ≡ k →
     cut (suc k) span ≡ new_span k (item_at (span ∷ spans) k)
 first_of_new k span spans low n h e =
@@ -103,6 +114,7 @@ first_of_new k span spans low n h e =
           ap (new_span k) (sym (head_late span spans k empty ∙ item-none (span.to + 1) n k spans h.4 (omega arith)))
     ]
 
+-- **One period more is one step of the history.**
 step : (low n k : ℕ) (spans : List Span) → AreSpans low n spans → so_far (suc k) spans ≡ after (starts_at spans k) k (item_at spans k) (so_far k spans)
 step low n k [] h = refl
 step low n k (span ∷ spans) h =
@@ -143,11 +155,13 @@ step low n k (span ∷ spans) h =
       ]
     ]
 
+-- after all periods they are whole
 pub so_far-all : (low n : ℕ) (spans : List Span) → AreSpans low n spans → so_far n spans ≡ spans
 so_far-all low n [] h = refl
 so_far-all low n (span ∷ spans) h =
     so_far-some n span spans h.1 ∙ ap (λ s. s ∷ so_far n spans) (cut-whole n span h.2 h.3) ∙ ap (λ z. span ∷ z) (so_far-all (span.to + 1) n spans h.4)
 
+-- **The spans of the history of k periods are the call's before period k.**
 pub spans-first : (call : Call) (n k : ℕ) → AreSpans 0 n call.spans → reverse (spans_in_history (first_periods call k)) ≡ so_far k call.spans
 spans-first call n zero h = sym (so_far-none 0 n 0 call.spans h (omega arith))
 spans-first call n (suc k) h = by (starts_at call.spans k) refl (spans-first call n k h)

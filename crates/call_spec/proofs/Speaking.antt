@@ -10,10 +10,12 @@ use Rattle.call_spec.proofs.Stretched.{reverse-more}
 use Rattle.down_framer.proofs.Used.{AreUsed}
 use Rattle.down_framer.proofs.Carried.{count_from-of}
 
+-- none of these bridges has an item for a frame made in period w
 abbrev pub AreSilent : List Bridge → ℕ → List NumberedFrame → Type 0
 AreSilent [] w fs = Unit {0}
 AreSilent (b ∷ bs) w fs = (carried_item (b ∷ []) w fs ≡ None) × AreSilent bs w fs
 
+-- the first bridge that has one is asked first
 carried_item-append : (xs ys : List Bridge) (w : ℕ) (fs : List NumberedFrame) →
     carried_item (xs ++ ys) w fs ≡ option_or (carried_item xs w fs) (carried_item ys w fs)
 carried_item-append [] ys w fs = refl
@@ -29,6 +31,7 @@ pub or_none : {A : Type 0} (o : Option A) → option_or o None ≡ o
 or_none None = refl
 or_none (Some x) = refl
 
+-- so none is carried
 silent : (bs : List Bridge) (w : ℕ) (fs : List NumberedFrame) → AreSilent bs w fs → carried_item bs w fs ≡ None
 silent [] w fs s = refl
 silent (b ∷ bs) w fs s = carried_item-append (b ∷ []) bs w fs ∙ ap (λ o. option_or o (carried_item bs w fs)) s.0 ∙ silent bs w fs s.1
@@ -37,6 +40,7 @@ silent_append : (xs ys : List Bridge) (w : ℕ) (fs : List NumberedFrame) → Ar
 silent_append [] ys w fs s q = q
 silent_append (b ∷ xs) ys w fs s q = (s.0, silent_append xs ys w fs s.1 q)
 
+-- in either order
 pub silent_reverse : (bs : List Bridge) (w : ℕ) (fs : List NumberedFrame) → AreSilent bs w fs → AreSilent (reverse bs) w fs
 silent_reverse [] w fs s = tt
 silent_reverse (b ∷ bs) w fs s =
@@ -44,10 +48,12 @@ silent_reverse (b ∷ bs) w fs s =
 
 -- ---- at most one bridge has an item for a frame
 
+-- at most one of them has
 abbrev pub OneSpeaks : List Bridge → ℕ → List NumberedFrame → Type 0
 OneSpeaks [] w fs = Unit {0}
 OneSpeaks (b ∷ bs) w fs = ((carried_item (b ∷ []) w fs ≡ None) × OneSpeaks bs w fs) ⊎ AreSilent bs w fs
 
+-- one between others that have none
 one_between : (later earlier : List Bridge) (b : Bridge) (w : ℕ) (fs : List NumberedFrame) → AreSilent later w fs → AreSilent earlier w fs →
     OneSpeaks (later ++ b ∷ earlier) w fs
 one_between [] earlier b w fs s q = inr q
@@ -61,6 +67,7 @@ one_back later earlier b w fs s q =
     (sym (reverse-append later (b ∷ earlier) ∙ ap (λ z. z ++ reverse later) (reverse-more b earlier) ∙ append_assoc (reverse earlier) (b ∷ []) (reverse later)))
     (one_between (reverse earlier) (reverse later) b w fs (silent_reverse earlier w fs q) (silent_reverse later w fs s))
 
+-- none is at most one
 pub silent_one : (bs : List Bridge) (w : ℕ) (fs : List NumberedFrame) → AreSilent bs w fs → OneSpeaks bs w fs
 silent_one [] w fs s = tt
 silent_one (b ∷ bs) w fs s = inr s.1
@@ -83,6 +90,7 @@ silent_within : (before after : List Bridge) (b : Bridge) (w : ℕ) (fs : List N
 silent_within [] after b w fs s = s.0
 silent_within (a ∷ before) after b w fs s = silent_within before after b w fs s.1
 
+-- **The item of a bridge that has one is carried, wherever it stands.**
 pub carried_item-speaks : (before after : List Bridge) (b : Bridge) (w h : ℕ) (fs : List NumberedFrame) → OneSpeaks (before ++ b ∷ after) w fs →
     carried_item (b ∷ []) w fs ≡ Some h →
     carried_item (before ++ b ∷ after) w fs ≡ Some h
@@ -93,11 +101,13 @@ carried_item-speaks (a ∷ before) after b w h fs (inl o) e =
 carried_item-speaks (a ∷ before) after b w h fs (inr s) e =
     let q : None ≡ Some h = sym (silent_within before after b w fs s) ∙ e in cc
 
+-- a bridge that begins later has none
 pub too_late : (b : Bridge) (w : ℕ) (fs : List NumberedFrame) → w < b.from → carried_item (b ∷ []) w fs ≡ None
 too_late b w fs l =
     cond-false (nat_le b.from w && nat_lt (count_from b.from fs) (b.to - b.from)) (Some (b.from + count_from b.from fs)) None
     (ap (λ z. z && nat_lt (count_from b.from fs) (b.to - b.from)) (lt-leb b.from w l))
 
+-- nor has one that is used up
 pub used_silent : {A : Type 0} (bs : List Bridge) (w : ℕ) (fs : List (MadeFrame A)) → AreOnTime fs → AreUsed bs fs → AreSilent bs w (map numbered_of fs)
 used_silent [] w fs t u = tt
 used_silent (b ∷ bs) w fs t u = (

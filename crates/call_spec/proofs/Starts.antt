@@ -38,6 +38,7 @@ new-from : (n : ℕ) (o : Option (List ℕ)) → (new_span n o).from ≡ n
 new-from n None = refl
 new-from n (Some item) = refl
 
+-- spans start where the history says so
 any-history : (test : ℕ → Bool) (ts : List CallPeriod) → list_any (λ s. test s.from) (reverse (spans_in_history ts)) ≡ any_start test ts
 any-history test [] = refl
 any-history test (t ∷ past) = by t.starts (any-history test past)
@@ -69,6 +70,7 @@ and_true : (b : Bool) → (b && true) ≡ b
 and_true true = refl
 and_true false = refl
 
+-- **A span starts at a period exactly where the history says so.**
 pub starts_at-period : (ts : List CallPeriod) (t : CallPeriod) (past : List CallPeriod) → IsPeriod ts t past →
     starts_at (reverse (spans_in_history ts)) (length past) ≡ t.starts
 starts_at-period ts t past p =
@@ -79,6 +81,7 @@ starts_at-period ts t past p =
 
 -- ---- how many bridges started between two periods
 
+-- how many start in periods of which the test holds
 abbrev starts_in : (ℕ → Bool) → List CallPeriod → ℕ
 starts_in test [] = 0
 starts_in test (t ∷ past) = starts_in test past + (if t.starts && test (length past) then 1 else 0)
@@ -96,9 +99,11 @@ any-starts_in test (t ∷ past) = by (t.starts && test (length past)) (any-start
 abbrev up_to : ℕ → ℕ → Bool
 up_to b n = nat_le n b
 
+-- above a, and up to b
 abbrev between : ℕ → ℕ → ℕ → Bool
 between a b n = nat_lt a n && nat_le n b
 
+-- one period lies before or between
 one-split : (s : Bool) (a b n : ℕ) → a ≤ b → (if s && up_to b n then 1 else 0) ≡ (if s && up_to a n then 1 else 0) + (if s && between a b n then 1 else 0)
 one-split false a b n l = refl
 one-split true a b n l = elim (cases_lt a n) [
@@ -113,6 +118,7 @@ one-split true a b n l = elim (cases_lt a n) [
       rw (e, q, m) refl
 ]
 
+-- so are those that start
 starts_in-split : (a b : ℕ) (ts : List CallPeriod) → a ≤ b → starts_in (up_to b) ts ≡ starts_in (up_to a) ts + starts_in (between a b) ts
 starts_in-split a b [] l = refl
 starts_in-split a b (t ∷ past) l =
@@ -130,6 +136,7 @@ starts_in-later test (u ∷ later) ts h =
     let n = length-append later ts in
     added_none (starts_in test (later ++ ts)) u.starts (test (length (later ++ ts))) (h (length (later ++ ts)) (omega arith)) ∙ starts_in-later test later ts h
 
+-- all that started so far
 starts_in-all : (test : ℕ → Bool) (ts : List CallPeriod) → ((n : ℕ) → n < length ts → test n ≡ true) → starts_in test ts ≡ bridges_begun ts
 starts_in-all test [] h = refl
 starts_in-all test (t ∷ past) h =
@@ -141,6 +148,7 @@ starts_in-all test (t ∷ past) h =
     by true e = omega arith
     by false e = omega arith
 
+-- as many started up to a period as its epoch says
 begun-by : (ts : List CallPeriod) (t : CallPeriod) (past : List CallPeriod) → IsPeriod ts t past → starts_in (up_to (length past)) ts ≡ bridges_begun (t ∷ past)
 begun-by ts t past p =
     ap (starts_in (up_to (length past))) (sym p.1) ∙ starts_in-later (up_to (length past)) p.0 (t ∷ past) (λ n l. lt-leb n (length past) (omega arith)) ∙
@@ -153,6 +161,7 @@ same_count x y d e = elim (cases_lt 0 d) [
   | inr none ↦ ap not (eq-eqb d 0 (omega arith) ∙ sym (eq-eqb x y (omega arith)))
 ]
 
+-- **A span starts between two periods exactly where their epochs differ.**
 pub starts-between : (ts : List CallPeriod) (t u : CallPeriod) (past before : List CallPeriod) → IsPeriod ts t past → IsPeriod ts u before →
     length past ≤ length before →
     list_any (λ span. nat_lt (length past) span.from && nat_le span.from (length before)) (reverse (spans_in_history ts))

@@ -16,6 +16,7 @@ use Rattle.call_spec.proofs.FirstPeriods.{ups-first, pcms-first, settings-first}
 use Rattle.call_spec.proofs.Ordered.{head_early, head_late, head_inside, item-none, starts-other, starts-here, starts-none}
 use Rattle.call_spec.proofs.SpansSoFar.{so_far-all, spans-first}
 
+-- before a span starts nothing is handed over
 gap : (low n j : ℕ) (spans : List Span) → AreSpans low n spans → starts_at spans (suc j) ≡ true → item_at spans j ≡ None
 gap low n j [] h s = absurd (true≢false (sym s))
 gap low n j (span ∷ spans) h s =
@@ -34,6 +35,7 @@ gap low n j (span ∷ spans) h s =
 some : (o : Option (List ℕ)) (x : List ℕ) → o ≡ Some x → is_some o ≡ true
 some o x e = ap is_some e
 
+-- what is handed over begins at a start and goes on without a gap
 no_gap : (low n j : ℕ) (spans : List Span) → AreSpans low n spans → is_some (item_at spans (suc j)) ≡ true →
     (starts_at spans (suc j) || is_some (item_at spans j)) ≡ true
 no_gap low n j [] h s = absurd (true≢false (sym s))
@@ -57,6 +59,7 @@ no_gap low n j (span ∷ spans) h s =
       ]
     ]
 
+-- in the first period too
 from_start : (low n : ℕ) (spans : List Span) → AreSpans low n spans → is_some (item_at spans 0) ≡ true → starts_at spans 0 ≡ true
 from_start low n [] h s = s
 from_start low n (span ∷ spans) h s = elim (cases_lt 0 span.from) [
@@ -66,6 +69,7 @@ from_start low n (span ∷ spans) h s = elim (cases_lt 0 span.from) [
   | inr now ↦ starts-here span spans 0 (omega arith)
 ]
 
+-- so bridges leave a period between
 apart-first : (call : Call) (n k : ℕ) → AreSpans 0 n call.spans → LeavePeriodsBetween (down_periods (first_periods call k))
 apart-first call n zero h = tt
 apart-first call n (suc zero) h = (tt, λ s. refl, λ b. ap (λ z. z || false) (from_start 0 n call.spans h b))
@@ -91,6 +95,7 @@ pcms-sized call (suc k) e l =
     All-cons (λ t. length t.pcm ≡ 160) (call_period call k) (first_periods call k)
     (length-take 160 (drop (160 * k) call.pcm) ∙ omega arith) (pcms-sized call k e (omega arith))
 
+-- **The periods of a call as a whole are a history.**
 pub history-whole : (call : Call) → IsWhole call → IsCallHistory (periods_of_call call)
 history-whole call h = record {
   ups = ups-sized call (periods call) h.up (omega arith);
@@ -98,9 +103,11 @@ history-whole call h = record {
   bridges = apart (down_periods (periods_of_call call)) (apart-first call (periods call) (periods call) h.spans);
 }
 
+-- a call by its parts
 abbrev call5 : Who → List ℕ → List ℕ → List Setting → List Span → Call
 call5 who up pcm settings spans = record { who = who; up = up; pcm = pcm; settings = settings; spans = spans }
 
+-- **And the call of that history is the call itself.**
 pub call-whole : (call : Call) → IsWhole call → call_of_history call.who (periods_of_call call) ≡ call
 call-whole call h =
     let ts = periods_of_call call in

@@ -61,10 +61,12 @@ are_periods (t ∷ past) h =
     All-cons (λ octets. length octets ≡ 40) t.up (ups_of past) (All-head (λ t. length t.up ≡ 40) t past h)
     (are_periods past (All-tail (λ t. length t.up ≡ 40) t past h))
 
+-- what the periods yield is what the whole line yields
 yields-up : (ts : List CallPeriod) → All (λ t. length t.up ≡ 40) ts → Yields (bits_of (up_in_history ts)) (flat_map option_to_list (each_yield (ups_of ts)))
 yields-up ts h =
     subst (λ bits. Yields bits (flat_map option_to_list (each_yield (ups_of ts)))) (line_bits-up ts) (yields-past (ups_of ts) (are_periods ts h))
 
+-- **What the search yields in a period are the yields that end in it.**
 pub yield-ends : (who : Who) (ts : List CallPeriod) (ys : List Yield) (k : ℕ) → IsCallHistory ts → Yields (bits_of (call_of_history who ts).up) ys →
     k < periods (call_of_history who ts) →
     filter (ends_in k) ys ≡ option_to_list (yield_at (call_of_history who ts) k)

@@ -7,6 +7,7 @@ use Rattle.down_framer.specs.Step.{after_put, after_frame, after_take}
 use Rattle.down_framer.specs.Stands.{Holds}
 use Rattle.down_framer.proofs.Lists.{drop-append}
 
+-- of a line that goes on, what a framer holds after a period was put
 pub put-holds : (s : FramerMemory) (octets pcm line : List ℕ) (out start : ℕ) → length octets ≡ 160 → Holds pcm line out start s →
     Holds (pcm ++ octets) line out start (after_put s octets)
 put-holds s octets pcm line out start l h =
@@ -19,6 +20,7 @@ put-holds s octets pcm line out start l h =
       stored = h.stored;
     }
 
+-- and after a frame, with a downlink that goes on by it
 pub frame-holds : (s : FramerMemory) (f : List ℕ) (shift : ℤ) (pcm line : List ℕ) (out start : ℕ) → 160 ≤ length s.held → out ≤ length line →
     Holds pcm line out start s →
     Holds pcm (line ++ frame_on_line shift f) out (start + octets_to_next shift) (after_frame s f shift)
@@ -30,6 +32,7 @@ frame-holds s f shift pcm line out start r l h =
       stored = ap (λ z. z ++ frame_on_line shift f) h.stored ∙ sym (drop-append-le out line (frame_on_line shift f) l);
     }
 
+-- and after a period is out
 pub take-holds : (s : FramerMemory) (pcm line : List ℕ) (out start : ℕ) → Holds pcm line out start s → Holds pcm line (out + 320) start (after_take s)
 take-holds s pcm line out start h = record {
   held = h.held;

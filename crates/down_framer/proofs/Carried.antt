@@ -9,10 +9,12 @@ use Rattle.down_framer.proofs.Due.{due-some, due-none, latest_start-below}
 use Rattle.down_framer.proofs.Latest.{bridge, went_on, latest, no_bridge, started, still}
 use Rattle.down_framer.proofs.Used.{AreUsed, earlier_of}
 
+-- by number a frame starts where the made one does
 pub numbered_start-of : {A : Type 0} (fs : List (MadeFrame A)) → numbered_start (map numbered_of fs) ≡ next_start fs
 numbered_start-of [] = refl
 numbered_start-of (f ∷ fs) = refl
 
+-- as many numbered frames were made since a period as made ones
 pub count_from-of : {A : Type 0} (s : ℕ) (fs : List (MadeFrame A)) → AreOnTime fs → count_from s (map numbered_of fs) ≡ made_from s fs
 count_from-of s [] t = refl
 count_from-of s (f ∷ fs) t =
@@ -33,12 +35,14 @@ count_from-of s (f ∷ fs) t =
 -- ---- what a frame carries
 
 -- the same item, by the frames' own periods
-abbrev item_by : {A : Type 0} → List Bridge → ℕ → List (MadeFrame A) → Option ℕ
+abbrev pub item_by : {A : Type 0} → List Bridge → ℕ → List (MadeFrame A) → Option ℕ
 item_by [] w fs = None
 item_by (b ∷ bs) w fs =
     if nat_le b.from w && nat_lt (made_from b.from fs) (b.to - b.from) then Some (b.from + made_from b.from fs) else item_by bs w fs
 
-pub carried_item-by : {A : Type 0} (bs : List Bridge) (w : ℕ) (fs : List (MadeFrame A)) → AreOnTime fs → carried_item bs w (map numbered_of fs) ≡ item_by bs w fs
+-- a numbered frame carries what the frame of its own period does
+pub carried_item-by : {A : Type 0} (bs : List Bridge) (w : ℕ) (fs : List (MadeFrame A)) → AreOnTime fs →
+    carried_item bs w (map numbered_of fs) ≡ item_by bs w fs
 carried_item-by [] w fs t = refl
 carried_item-by (b ∷ bs) w fs t =
     ap (λ n. if nat_le b.from w && nat_lt n (b.to - b.from) then Some (b.from + n) else carried_item bs w (map numbered_of fs)) (count_from-of b.from fs t) ∙
@@ -56,23 +60,27 @@ second_false : (a b : Bool) → b ≡ false → (a && b) ≡ false
 second_false true b p = p
 second_false false b p = refl
 
+-- a bridge that began and has periods left has an item
 claims : {A : Type 0} (b : Bridge) (bs : List Bridge) (w : ℕ) (fs : List (MadeFrame A)) → b.from ≤ w → made_from b.from fs < b.to - b.from →
     item_by (b ∷ bs) w fs ≡ Some (b.from + made_from b.from fs)
 claims b bs w fs l m =
     cond-true (nat_le b.from w && nat_lt (made_from b.from fs) (b.to - b.from)) (Some (b.from + made_from b.from fs)) (item_by bs w fs)
     (both_true _ _ (le-leb b.from w l) (lt-ltb (made_from b.from fs) (b.to - b.from) m))
 
+-- one that begins later has none
 too_late : {A : Type 0} (b : Bridge) (bs : List Bridge) (w : ℕ) (fs : List (MadeFrame A)) → w < b.from → item_by (b ∷ bs) w fs ≡ item_by bs w fs
 too_late b bs w fs l =
     cond-false (nat_le b.from w && nat_lt (made_from b.from fs) (b.to - b.from)) (Some (b.from + made_from b.from fs)) (item_by bs w fs)
     (first_false _ (nat_lt (made_from b.from fs) (b.to - b.from)) (lt-leb b.from w l))
 
+-- nor has one that is used up
 used : {A : Type 0} (b : Bridge) (bs : List Bridge) (w : ℕ) (fs : List (MadeFrame A)) → b.to - b.from ≤ made_from b.from fs →
     item_by (b ∷ bs) w fs ≡ item_by bs w fs
 used b bs w fs l =
     cond-false (nat_le b.from w && nat_lt (made_from b.from fs) (b.to - b.from)) (Some (b.from + made_from b.from fs)) (item_by bs w fs)
     (second_false (nat_le b.from w) _ (le-ltb (made_from b.from fs) (b.to - b.from) l))
 
+-- bridges that are used up have no item
 none_left : {A : Type 0} (bs : List Bridge) (w : ℕ) (fs : List (MadeFrame A)) → AreUsed bs fs → item_by bs w fs ≡ None
 none_left [] w fs u = refl
 none_left (b ∷ bs) w fs u = used b bs w fs u.0 ∙ none_left bs w fs u.1
@@ -102,6 +110,7 @@ item-due p past fs h u = by (latest_start (p ∷ past)) refl
               sym (due-none (p ∷ past) fs s e (l.at (s + made_from s fs) (omega arith) ∙ le-ltb (s + made_from s fs) l.to (omega arith)))
         ]
 
+-- later periods don't change what a frame of period p carries
 pub item-later : {A : Type 0} (more : List (Period A)) (p : Period A) (past : List (Period A)) (fs : List (MadeFrame A)) → IsHistory (more ++ p ∷ past) →
     ((s : ℕ) → latest_start (p ∷ past) ≡ Some s → p.bridged ≡ true → s + made_from s fs ≤ length past) →
     item_by (bridges_in (more ++ p ∷ past)) (length past) fs ≡ item_by (bridges_in (p ∷ past)) (length past) fs

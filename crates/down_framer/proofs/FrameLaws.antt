@@ -11,9 +11,11 @@ use Rattle.down_framer.proofs.Waiting.{drained}
 
 -- ---- frames are made in time
 
+-- a frame that was made in the period that brought its last octet
 abbrev InTime : {A : Type 0} → ℕ → MadeFrame A → Type 0
 InTime k f = (f.period ≡ when f.start) × (f.start + 160 ≤ 160 * k)
 
+-- so is one more that is made
 grown-in_time : {A : Type 0} (p : Period A) (past : List (Period A)) (fs : List (MadeFrame A)) → 160 * length past < next_start fs + 160 →
     All (InTime (length (p ∷ past))) fs →
     All (InTime (length (p ∷ past))) (grown p past fs)
@@ -34,11 +36,13 @@ all_in_time (p ∷ past) =
     All-weaker (InTime (length past)) (InTime (length (p ∷ past))) (λ f t. (t.0, let l = t.1 in omega arith)) (made_frames past) (all_in_time past) in
     grown-in_time p past (grown p past (made_frames past)) (omega arith) (grown-in_time p past (made_frames past) low before)
 
+-- **Exactly the frames whose octets are there are made.**
 pub in_time : {A : Type 0} (ps : List (Period A)) → AreInTime (length ps) (made_frames ps)
 in_time ps = let a = AreMade-made_frames ps in record { made = all_in_time ps; next = a.low }
 
 -- ---- the line by numbers
 
+-- **The downlink is that of the numbered frames.**
 pub line-numbered : {A : Type 0} (bits : ℕ → List ℕ) (fs : List (MadeFrame A)) → downlink_of (newest_bits bits) fs ≡ numbered_line bits (map numbered_of fs)
 line-numbered bits [] = refl
 line-numbered bits (f ∷ fs) =
@@ -49,6 +53,7 @@ line-numbered bits (f ∷ fs) =
 
 -- ---- bridges that leave a period between
 
+-- **Bridges that leave a period between are those of a history.**
 pub apart : {A : Type 0} (ps : List (Period A)) → LeavePeriodsBetween ps → IsHistory ps
 apart [] h = tt
 apart (p ∷ past) h =

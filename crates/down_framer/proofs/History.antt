@@ -13,6 +13,7 @@ use Rattle.down_framer.proofs.Calls.{put-holds, frame-holds, take-holds}
 
 -- ---- once none is ready, all frames of the period are made
 
+-- a third try makes no frame
 more_tries : {A : Type 0} (n : ℕ) (p : Period A) (past : List (Period A)) → tries (suc (suc n)) p past ≡ made_frames (p ∷ past)
 more_tries zero p past = refl
 more_tries (suc n) p past =
@@ -20,6 +21,7 @@ more_tries (suc n) p past =
     let low = a.low in
     ap (grown p past) (more_tries n p past) ∙ none_made p past (made_frames (p ∷ past)) (omega arith)
 
+-- after tries of which none is left all frames of the period are made
 pub all_made : {A : Type 0} (n : ℕ) (p : Period A) (past : List (Period A)) → 160 * length past < next_start (tries n p past) →
     tries n p past ≡ made_frames (p ∷ past)
 all_made zero p past l = sym (ap (grown p past) (none_made p past (made_frames past) l) ∙ none_made p past (made_frames past) l)
@@ -28,6 +30,7 @@ all_made (suc (suc n)) p past l = more_tries n p past
 
 -- ---- within a period
 
+-- so many octets are held within a period
 length-held : (bits : List PcmFrame → List ℕ) (p : PcmPeriod) (past : List PcmPeriod) (fs : List PcmFrame) (s : FramerMemory) → StandsWithin bits p past fs s →
     length s.held ≡ 160 * length past + 160 - next_start fs
 length-held bits p past fs s h = ap length h.places.held ∙ length-drop (next_start fs) (pcm_of (p ∷ past)) ∙ ap (λ n. n - next_start fs) h.pcm
@@ -43,10 +46,12 @@ ready_now bits p past fs s h =
       | inr now ↦ le-leb 160 (length s.held) (omega arith) ∙ sym (le-leb (next_start fs) (160 * length past) now)
     ]
 
+-- a frame that is made is one try more
 one_more_try : (p : PcmPeriod) (past : List PcmPeriod) (fs : List PcmFrame) → next_start fs ≤ 160 * length past →
     (n : ℕ) × (fs ≡ tries n p past) → (n : ℕ) × (next_frame p past fs ∷ fs ≡ tries n p past)
 one_more_try p past fs l t = (suc t.0, sym (one_made p past fs l) ∙ ap (grown p past) t.1)
 
+-- a frame is made
 pub frame-stands : (bits : List PcmFrame → List ℕ) (p : PcmPeriod) (past : List PcmPeriod) (fs : List PcmFrame) (s : FramerMemory) (f : List ℕ) (shift : ℤ) →
     160 ≤ length s.held → length f ≡ 320 → shift ≡ shift_due (p ∷ past) fs → f ≡ bits (next_frame p past fs ∷ fs) →
     StandsWithin bits p past fs s → StandsWithin bits p past (next_frame p past fs ∷ fs) (after_frame s f shift)
@@ -78,6 +83,7 @@ frame-stands bits p past fs s f shift ready l es ef h =
 
 -- ---- from period to period
 
+-- a period is put
 pub put-stands : (bits : List PcmFrame → List ℕ) (past : List PcmPeriod) (p : PcmPeriod) (s : FramerMemory) (octets : List ℕ) → length octets ≡ 160 →
     p.load ≡ octets →
     StandsBetween bits past s → StandsWithin bits p past (made_frames past) (after_put s octets)
@@ -106,6 +112,7 @@ all_made_now bits p past fs s short h =
     let t = h.tried in
     t.1 ∙ all_made t.0 p past (subst (λ gs. 160 * length past < next_start gs) t.1 late)
 
+-- a period is out
 pub take-stands : (bits : List PcmFrame → List ℕ) (p : PcmPeriod) (past : List PcmPeriod) (fs : List PcmFrame) (s : FramerMemory) → length s.held < 160 →
     StandsWithin bits p past fs s →
     StandsBetween bits (p ∷ past) (after_take s) × (take 320 s.stored ≡ down_of bits (p ∷ past))
@@ -125,6 +132,7 @@ take-stands bits p past fs s short h =
       ap (take 320) now.places.stored,
     )
 
+-- before the first period
 pub new-stands : (bits : List PcmFrame → List ℕ) → StandsBetween bits [] home_memory
 new-stands bits = record {
   pcm = refl;

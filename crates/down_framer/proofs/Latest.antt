@@ -1,5 +1,5 @@
 -- The latest of the bridges of some periods.
-use Rattle.std.proofs.Common.{◌≡◌, refl, sym, ap, ◌∙◌, subst, ℕ, ◌+◌, ◌-◌, ◌≤◌, true, false, ◌||◌, if◌then◌else◌, nat_lt, Some, None, List, [], ◌∷◌, ◌++◌, length, arith, inl, inr, length-append}
+use Rattle.std.proofs.Common.{◌≡◌, refl, sym, ap, ◌∙◌, subst, ℕ, ◌+◌, ◌≤◌, true, false, ◌||◌, if◌then◌else◌, nat_lt, Some, None, List, [], ◌∷◌, ◌++◌, length, arith, inl, inr, length-append}
 use Rattle.std.proofs.lemmas.Bool.{cases_lt, lt-ltb, le-ltb, cases_Bool, cond_both, cond-true, cond-false}
 use Rattle.down_framer.specs.Made.{Period, latest_start, hands_at}
 use Rattle.down_framer.specs.Bridges.{in_bridge, IsHistory}
@@ -8,14 +8,15 @@ use Rattle.down_framer.proofs.Due.{hands_at-late, hands_at-new, hands_at-old, ou
 
 -- the latest bridge started at s; it has the periods from s on that lie in a bridge, and where the newest does, so many
 -- as there are
-record Latest {A : Type 0} (ps : List (Period A)) (s : ℕ) : Type 0 where
-  to : ℕ
-  earlier : List Bridge
-  is : bridges_in ps ≡ (let b : Bridge = record { from = s; to = to } in b) ∷ earlier
-  at : (h : ℕ) → s ≤ h → hands_at h ps ≡ nat_lt h to
-  goes_on : in_bridge ps ≡ true → to ≡ length ps
-  within : to ≤ length ps
+pub record Latest {A : Type 0} (ps : List (Period A)) (s : ℕ) : Type 0 where
+  pub to : ℕ
+  pub earlier : List Bridge
+  pub is : bridges_in ps ≡ (let b : Bridge = record { from = s; to = to } in b) ∷ earlier
+  pub at : (h : ℕ) → s ≤ h → hands_at h ps ≡ nat_lt h to
+  pub goes_on : in_bridge ps ≡ true → to ≡ length ps
+  pub within : to ≤ length ps
 
+-- a bridge by its ends
 abbrev pub bridge : ℕ → ℕ → Bridge
 bridge from to = record { from = from; to = to }
 
@@ -89,16 +90,19 @@ pub went_on : {A : Type 0} (p : Period A) (past : List (Period A)) → p.starts 
     p.bridged ≡ true → in_bridge past ≡ true
 went_on p past old c b = sym (ap (λ t. t || in_bridge past) old) ∙ c b
 
+-- a bridge that starts in the newest period is the latest
 pub start_now : {A : Type 0} (p : Period A) (past : List (Period A)) (s : ℕ) → p.starts ≡ true → latest_start (p ∷ past) ≡ Some s → length past ≡ s
 start_now p past s new e = same (length past) s (sym (cond-true p.starts (Some (length past)) (latest_start past) new) ∙ e)
   where
     same : (a b : ℕ) → Some a ≡ Some b → a ≡ b
     same a b e = cc
 
+-- where none starts the latest is that of the past
 pub start_before : {A : Type 0} (p : Period A) (past : List (Period A)) (s : ℕ) → p.starts ≡ false → latest_start (p ∷ past) ≡ Some s →
     latest_start past ≡ Some s
 start_before p past s old e = sym (cond-false p.starts (Some (length past)) (latest_start past) old) ∙ e
 
+-- **The latest bridge has the periods from its start on that lie in a bridge.**
 pub latest : {A : Type 0} (ps : List (Period A)) (s : ℕ) → IsHistory ps → latest_start ps ≡ Some s → Latest ps s
 latest [] s h e = cc
 latest (p ∷ past) s h e = elim (cases_Bool p.starts) [
@@ -106,6 +110,7 @@ latest (p ∷ past) s h e = elim (cases_Bool p.starts) [
   | inr old ↦ kept_on p past s old (went_on p past old h.2) (latest past s h.0 (start_before p past s old e))
 ]
 
+-- without a start there is no bridge
 pub no_bridge : {A : Type 0} (ps : List (Period A)) → latest_start ps ≡ None → bridges_in ps ≡ []
 no_bridge [] e = refl
 no_bridge (p ∷ past) e = elim (cases_Bool p.starts) [
@@ -118,6 +123,7 @@ no_bridge (p ∷ past) e = elim (cases_Bool p.starts) [
 
 -- ---- later periods change no earlier frame
 
+-- a bridge that goes on has started
 pub started : {A : Type 0} (ps : List (Period A)) → IsHistory ps → in_bridge ps ≡ true → (s : ℕ) × (latest_start ps ≡ Some s)
 started [] h b = let q : false ≡ true = b in cc
 started (p ∷ past) h b = elim (cases_Bool p.starts) [

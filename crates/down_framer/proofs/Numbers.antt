@@ -1,5 +1,5 @@
 -- The frames made in some periods are the numbered ones.
-use Rattle.std.proofs.Common.{◌≡◌, refl, sym, ap, ◌∙◌, subst, ℕ, ◌+◌, ◌-◌, ◌*◌, ◌≤◌, ◌<◌, pos, true, nat_le, Option, Some, None, List, [], ◌∷◌, ◌++◌, length, map, take, arith, inl, inr}
+use Rattle.std.proofs.Common.{◌≡◌, refl, sym, ap, ◌∙◌, subst, ℕ, ◌+◌, ◌*◌, ◌≤◌, ◌<◌, pos, true, nat_le, Option, Some, None, List, [], ◌∷◌, ◌++◌, length, map, take, arith, inl, inr}
 use Rattle.std.proofs.lemmas.Bool.{cases_lt, leb-true, cases_Bool, cond_both}
 use Rattle.std.proofs.lemmas.List.{append_assoc}
 use Rattle.time_align.specs.Shift.{latest_shift}
@@ -14,10 +14,12 @@ use Rattle.down_framer.proofs.Used.{AreUsed, earlier_of, AreUsed-more, grown-mor
 use Rattle.down_framer.proofs.Asked.{fields_so_far, fields-agree}
 use Rattle.down_framer.proofs.Carried.{numbered_start-of, carried_item-by, item-due, item-later}
 
+-- in period p of the bridge from s on some item is due, and no more frames were made since s than periods are over
 record InStep {A : Type 0} (p : Period A) (past : List (Period A)) (s : ℕ) : Type 0 where
   few : s + made_from s (made_frames past) ≤ length past
   item : (h : ℕ) × (handed_due (p ∷ past) (made_frames past) ≡ Some h)
 
+-- with a frame for each period the own item of the period is due
 exact_step : {A : Type 0} (p : Period A) (past : List (Period A)) (s : ℕ) → latest_start (p ∷ past) ≡ Some s → p.bridged ≡ true →
     s + made_from s (made_frames past) ≡ length past → InStep p past s
 exact_step p past s e b i = record {
@@ -25,6 +27,7 @@ exact_step p past s e b i = record {
   item = (s + made_from s (made_frames past), due-some (p ∷ past) (made_frames past) s e (hands_at-new p past (s + made_from s (made_frames past)) i ∙ b));
 }
 
+-- **Each period of a bridge is in step.**
 in_step : {A : Type 0} (p : Period A) (past : List (Period A)) (s : ℕ) → IsHistory (p ∷ past) → latest_start (p ∷ past) ≡ Some s → p.bridged ≡ true →
     InStep p past s
 in_step p past s h e b = elim (cases_Bool p.starts) [
@@ -58,12 +61,14 @@ second_none p past s i =
 
 -- ---- one frame more
 
+-- a frame by what it carries and the fields that count
 abbrev pub frame_with : ℕ → Option ℕ → List (Option ℕ) → NumberedFrame
 frame_with start item fields = record { start = start; shift = elim item [ None ↦ latest_shift fields | Some h ↦ pos 0 ]; carries = item }
 
 same_frame : (a b : ℕ) (i j : Option ℕ) (x y : List (Option ℕ)) → a ≡ b → i ≡ j → x ≡ y → frame_with a i x ≡ frame_with b j y
 same_frame a b i j x y p q r = ap (λ a. frame_with a i x) p ∙ ap (λ i. frame_with b i x) q ∙ ap (λ x. frame_with b j x) r
 
+-- these frames are the first ones by number
 abbrev IsNumbered : {A : Type 0} → List (Period A) → List (MadeFrame A) → Type 0
 IsNumbered ps fs = map numbered_of fs ≡ numbered_frames (bridges_in ps) (asked_fields ps) (length fs)
 
@@ -74,6 +79,7 @@ record MayGrow {A : Type 0} (p : Period A) (past : List (Period A)) (fs : List (
   spent : AreUsed (earlier_of (bridges_in (p ∷ past))) fs
   few : (s : ℕ) → latest_start (p ∷ past) ≡ Some s → p.bridged ≡ true → next_start fs ≤ 160 * length past → s + made_from s fs ≤ length past
 
+-- the next frame made is the next one by number
 next-numbered : {A : Type 0} (more : List (Period A)) (p : Period A) (past : List (Period A)) (fs : List (MadeFrame A)) → IsHistory (more ++ p ∷ past) →
     MayGrow p past fs →
     next_start fs ≤ 160 * length past →
@@ -94,6 +100,7 @@ next-numbered more p past fs h m up =
     fields-agree fields w (p ∷ past) fs (ap (λ n. take n fields) one_more ∙ fields_so_far more (p ∷ past)) m.on_time in
     same_frame (next_start fs) _ (handed_due (p ∷ past) fs) _ (counted_fields (p ∷ past) fs) _ (sym start) (sym item) (sym asked)
 
+-- so they are after one try more
 grown-numbered : {A : Type 0} (more : List (Period A)) (p : Period A) (past : List (Period A)) (fs : List (MadeFrame A)) → IsHistory (more ++ p ∷ past) →
     MayGrow p past fs →
     IsNumbered (more ++ p ∷ past) fs → IsNumbered (more ++ p ∷ past) (grown p past fs)
@@ -104,6 +111,7 @@ grown-numbered more p past fs h m so =
     ap (λ before. numbered_next (bridges_in (more ++ p ∷ past)) (asked_fields (more ++ p ∷ past)) before ∷ before) so)
     (λ no. so)
 
+-- what is known before the first try
 first_try : {A : Type 0} (p : Period A) (past : List (Period A)) → IsHistory (p ∷ past) → MayGrow p past (made_frames past)
 first_try p past h =
     let a = AreMade-made_frames past in
@@ -114,6 +122,7 @@ first_try p past h =
       few = λ s e b up. let i = in_step p past s h e b in i.few;
     }
 
+-- and before the second
 second_try : {A : Type 0} (p : Period A) (past : List (Period A)) → IsHistory (p ∷ past) → MayGrow p past (made_frames past) →
     MayGrow p past (grown p past (made_frames past))
 second_try p past h m =
@@ -140,6 +149,7 @@ second_try p past h m =
 
 -- ---- all frames
 
+-- **The frames of the first periods are numbered over all periods.**
 so_numbered : {A : Type 0} (more ps : List (Period A)) → IsHistory (more ++ ps) → IsNumbered (more ++ ps) (made_frames ps)
 so_numbered more [] h = refl
 so_numbered more (p ∷ past) h =

@@ -15,6 +15,7 @@ use Rattle.down_framer.proofs.Timing.{octets_of-bounds}
 
 -- ---- a frame on the line, by the octets that it takes
 
+-- a frame goes into the ring as it goes on the line
 pub on_line : (shift : ℤ) (f : List ℕ) → IsShift shift → length f ≡ 320 →
     take (min (2 * octets_to_next shift) 320) f ++ replicate (2 * octets_to_next shift - 320) 1 ≡ frame_on_line shift f
 on_line (pos v) f s l =
@@ -36,6 +37,7 @@ pub record Framed (bits octets bits1 octets1 : Buffer ℕ) (f : List ℕ) (shift
   pub rooms : (bits1.capacity ≡ bits.capacity) × (octets1.capacity ≡ octets.capacity)
   pub to_skip : skip ≡ octets_to_next shift - length octets.items
 
+-- what the rings hold after a frame
 pub framed : (bits octets bits1 bits2 octets1 : Buffer ℕ) (f ones : List ℕ) (shift : ℤ) (step held gone kept more n1 n2 : ℕ) →
     bits.capacity ≡ 960 → length bits.items ≤ 320 → IsShift shift → length f ≡ 320 → ones ≡ replicate 320 1 →
     step ≡ octets_to_next shift → held ≡ length octets.items → gone ≡ min step held → kept ≡ min (2 * step) 320 → more ≡ 2 * step - 320 → step ≤ 316 →
@@ -65,16 +67,19 @@ framed bits octets bits1 bits2 octets1 f ones shift step held gone kept more n1 
       to_skip = omega arith;
     }
 
+-- and what is seen of them
 pub framed-view : (bits octets bits1 octets1 : Buffer ℕ) (f : List ℕ) (shift : ℤ) (skip old : ℕ) → Framed bits octets bits1 octets1 f shift skip →
     (let s : FramerMemory = record { stored = bits1.items; held = octets1.items; to_skip = skip } in s)
     ≡ after_frame (record { stored = bits.items; held = octets.items; to_skip = old }) f shift
 framed-view bits octets bits1 octets1 f shift skip old h =
     let a = h.stored in let b = h.held in let d = h.to_skip in cc
 
+-- what goes on the line are bits
 are_bits-on_line : (shift : ℤ) (f : List ℕ) → AreBits f → AreBits (frame_on_line shift f)
 are_bits-on_line (pos v) f a = All-append (λ b. b < 2) f (replicate (2 * v) 1) a (All-replicate (λ b. b < 2) (2 * v) 1 (omega arith))
 are_bits-on_line (negsuc v) f a = All-take (λ b. b < 2) 316 f a
 
+-- the balance within a period is kept
 pub frame_within : (s : FramerMemory) (f : List ℕ) (shift : ℤ) → IsWithinPeriod s → IsShift shift → length f ≡ 320 → 160 ≤ length s.held → s.to_skip ≡ 0 →
     IsWithinPeriod (after_frame s f shift)
 frame_within s f shift w sh lf ready none =
@@ -85,6 +90,7 @@ frame_within s f shift w sh lf ready none =
     let m = length-drop (octets_to_next shift) s.held in
     record { balance = omega arith; room = omega arith }
 
+-- the rings' invariant is kept by a frame
 pub framed-rings : (bits octets bits1 octets1 : Buffer ℕ) (f : List ℕ) (shift : ℤ) (skip old : ℕ) → AreRings bits octets old →
     IsWithinPeriod (ring_memory bits octets old) → Framed bits octets bits1 octets1 f shift skip →
     IsShift shift → AreBits f → length f ≡ 320 → 160 ≤ length octets.items → length bits.items ≤ 320 → AreRings bits1 octets1 skip
@@ -111,6 +117,7 @@ framed-rings bits octets bits1 octets1 f shift skip old r w h sh a lf ready low 
           (frame_within (ring_memory bits octets old) f shift w sh lf ready (skipped (omega arith))));
     }
 
+-- a new ring of bits has 320 ones
 new_store : (bits bits1 : Buffer ℕ) (ones : List ℕ) (n : ℕ) → bits ≡ buffer [] 960 → ones ≡ replicate 320 1 →
     n ≡ min (length ones) (bits.capacity - length bits.items) → bits1 ≡ buffer (bits.items ++ take n ones) bits.capacity → bits1.items ≡ replicate 320 1
 new_store bits bits1 ones n eb el en e1 =
@@ -120,6 +127,7 @@ new_store bits bits1 ones n eb el en e1 =
     let zero_bits : length bits.items ≡ 0 = ap length none in
     ap (λ (b : Buffer ℕ). b.items) e1 ∙ ap (λ z. z ++ take n ones) none ∙ take_all n ones (omega arith) ∙ el
 
+-- what is seen of new rings
 pub new-view : (bits bits1 octets : Buffer ℕ) (ones : List ℕ) (n : ℕ) → bits ≡ buffer [] 960 → octets ≡ buffer [] 320 → ones ≡ replicate 320 1 →
     n ≡ min (length ones) (bits.capacity - length bits.items) → bits1 ≡ buffer (bits.items ++ take n ones) bits.capacity →
     ring_memory bits1 octets 0 ≡ home_memory
@@ -128,9 +136,11 @@ new-view bits bits1 octets ones n eb eo el en e1 =
     let held : octets.items ≡ [] = ap (λ (b : Buffer ℕ). b.items) eo in
     cc
 
+-- they are balanced
 pub new_between : IsBetweenPeriods home_memory
 new_between = record { balance = refl; short = omega arith }
 
+-- and their invariant holds
 pub new-rings : (bits bits1 octets : Buffer ℕ) (ones : List ℕ) (n : ℕ) → bits ≡ buffer [] 960 → octets ≡ buffer [] 320 → ones ≡ replicate 320 1 →
     n ≡ min (length ones) (bits.capacity - length bits.items) → bits1 ≡ buffer (bits.items ++ take n ones) bits.capacity → AreRings bits1 octets 0
 new-rings bits bits1 octets ones n eb eo el en e1 =
@@ -147,6 +157,7 @@ new-rings bits bits1 octets ones n eb eo el en e1 =
       phase = inl (subst IsBetweenPeriods (sym (new-view bits bits1 octets ones n eb eo el en e1)) new_between);
     }
 
+-- a period that is put keeps the balance
 pub put_within : (s : FramerMemory) (octets : List ℕ) → IsBetweenPeriods s → length octets ≡ 160 → s.to_skip ≤ 156 → IsWithinPeriod (after_put s octets)
 put_within s octets between l b =
     let balance = between.balance in
@@ -155,6 +166,7 @@ put_within s octets between l b =
     let rest = length-drop s.to_skip octets in
     record { balance = omega arith; room = omega arith }
 
+-- what is seen after it
 pub put-view : (bits octets octets1 : Buffer ℕ) (new part : List ℕ) (skip n : ℕ) {held : ℕ} → AreRings bits octets skip → length octets.items ≡ held →
     held < 160 → length new ≡ 160 →
     part ≡ take (160 - skip) (drop skip new) → n ≡ min (length part) (octets.capacity - length octets.items) →
@@ -179,12 +191,14 @@ within_when_ready s (inr within) ready = within
 
 -- ---- taking a period's bits
 
+-- what is seen after a period is out
 pub take-view : (bits bits1 octets : Buffer ℕ) (skip n : ℕ) → n ≡ 320 → bits1 ≡ buffer (drop n bits.items) bits.capacity →
     ring_memory bits1 octets skip ≡ after_take (ring_memory bits octets skip)
 take-view bits bits1 octets skip n e b =
     let items : bits1.items ≡ drop 320 bits.items = ap (λ (r : Buffer ℕ). r.items) b ∙ ap (λ k. drop k bits.items) e in
     ap (λ z. let s : FramerMemory = record { stored = z; held = octets.items; to_skip = skip } in s) items
 
+-- 320 bits are read where these are there
 pub read_all : (n : ℕ) (items old new : List ℕ) → n ≡ 320 → length old ≡ 320 → new ≡ take n items ++ drop n old → new ≡ take 320 items
 read_all n items old new e l r =
     r ∙ ap (λ k. take k items ++ drop k old) e ∙ ap (λ z. take 320 items ++ z) (drop_all 320 old (omega arith)) ∙ append-nil (take 320 items)
@@ -196,6 +210,7 @@ taken_between s w short =
     let left = length-drop 320 s.stored in
     record { balance = omega arith; short = short }
 
+-- the rings' invariant is kept by that
 pub taken-rings : (bits bits1 octets : Buffer ℕ) (skip n : ℕ) → AreRings bits octets skip → IsBetweenPeriods (ring_memory bits1 octets skip) →
     bits1 ≡ buffer (drop n bits.items) bits.capacity → AreRings bits1 octets skip
 taken-rings bits bits1 octets skip n r between b =

@@ -10,10 +10,12 @@ pub octets_of-bounds : (shift : ℤ) → IsShift shift → (158 ≤ octets_to_ne
 octets_of-bounds (pos v) s = (omega arith, omega arith)
 octets_of-bounds (negsuc v) s = (omega arith, omega arith)
 
+-- a shift, or none
 pub none_or : (o : Option ℕ) (v : ℤ) → IsShift v → IsShift (elim o [ None ↦ v | Some h ↦ pos 0 ])
 none_or None v a = a
 none_or (Some h) v a = omega arith
 
+-- the shift that is due is a shift
 pub IsShift-shift_due : {A : Type 0} (ps : List (Period A)) (fs : List (MadeFrame A)) → IsShift (shift_due ps fs)
 IsShift-shift_due ps fs = none_or (handed_due ps fs) (latest_shift (counted_fields ps fs)) (IsShift-latest_shift (counted_fields ps fs))
 
@@ -36,6 +38,7 @@ pub record AreMade {A : Type 0} (k : ℕ) (fs : List (MadeFrame A)) : Type 0 whe
   pub low : 160 * k < next_start fs + 160
   pub high : next_start fs ≤ 160 * k + 156
 
+-- after each period no frame is left to be made, and none is made too early
 pub AreMade-made_frames : {A : Type 0} (ps : List (Period A)) → AreMade (length ps) (made_frames ps)
 AreMade-made_frames [] = record { low = omega arith; high = omega arith }
 AreMade-made_frames (p ∷ past) =
@@ -55,10 +58,12 @@ AreMade-made_frames (p ∷ past) =
 
 -- ---- each frame is made in the period that brings its last octet
 
+-- each frame was made in the period of its last octet
 abbrev pub AreOnTime : {A : Type 0} → List (MadeFrame A) → Type 0
 AreOnTime [] = Unit {0}
 AreOnTime (f ∷ fs) = ((f.start + 159) / 160 ≡ f.period) × AreOnTime fs
 
+-- one more too
 pub grown-AreOnTime : {A : Type 0} (p : Period A) (past : List (Period A)) (fs : List (MadeFrame A)) → 160 * length past < next_start fs + 160 → AreOnTime fs →
     AreOnTime (grown p past fs)
 grown-AreOnTime p past fs low h =

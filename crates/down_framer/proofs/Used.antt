@@ -12,14 +12,17 @@ abbrev pub AreUsed : {A : Type 0} → List Bridge → List (MadeFrame A) → Typ
 AreUsed [] fs = Unit {0}
 AreUsed (b ∷ bs) fs = (b.to - b.from ≤ made_from b.from fs) × AreUsed bs fs
 
+-- without the latest one
 abbrev pub earlier_of : List Bridge → List Bridge
 earlier_of [] = []
 earlier_of (b ∷ bs) = bs
 
+-- a longer latest one leaves the others
 earlier-longer : (bs : List Bridge) → earlier_of (longer bs) ≡ earlier_of bs
 earlier-longer [] = refl
 earlier-longer (b ∷ bs) = refl
 
+-- more frames use them up as well
 pub AreUsed-more : {A : Type 0} (bs : List Bridge) (fs gs : List (MadeFrame A)) → ((s : ℕ) → made_from s fs ≤ made_from s gs) → AreUsed bs fs → AreUsed bs gs
 AreUsed-more [] fs gs m u = tt
 AreUsed-more (b ∷ bs) fs gs m u = (let l = m b.from in let k = u.0 in omega arith, AreUsed-more bs fs gs m u.1)
@@ -31,6 +34,7 @@ made_from-more f fs s = by (nat_le s f.period)
     by true = omega arith
     by false = omega arith
 
+-- a try makes no frame fewer
 pub grown-more : {A : Type 0} (p : Period A) (past : List (Period A)) (fs : List (MadeFrame A)) (s : ℕ) → made_from s fs ≤ made_from s (grown p past fs)
 grown-more p past fs s =
     cond_both (nat_le (next_start fs) (160 * length past)) (next_frame p past fs ∷ fs) fs (λ gs. made_from s fs ≤ made_from s gs)
@@ -54,6 +58,7 @@ all_used ps fs h d u = by (latest_start ps) refl
         ] in
         subst (λ bs. AreUsed bs fs) (sym l.is) (first, rest)
 
+-- **Before one period more all bridges but the latest are used up.**
 pub used_step : {A : Type 0} (p : Period A) (past : List (Period A)) → IsHistory (p ∷ past) → AreUsed (earlier_of (bridges_in past)) (made_frames past) →
     AreUsed (earlier_of (bridges_in (p ∷ past))) (made_frames past)
 used_step p past h u = elim (cases_Bool p.starts) [
@@ -68,6 +73,7 @@ used_step p past h u = elim (cases_Bool p.starts) [
       (λ y. subst (λ bs. AreUsed bs (made_frames past)) (sym (earlier-longer (bridges_in past))) u) (λ n. u))
 ]
 
+-- **And after all periods.**
 pub used_before : {A : Type 0} (ps : List (Period A)) → IsHistory ps → AreUsed (earlier_of (bridges_in ps)) (made_frames ps)
 used_before [] h = tt
 used_before (p ∷ past) h =

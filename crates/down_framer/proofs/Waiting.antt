@@ -19,6 +19,7 @@ pub record Behind {A : Type 0} (s : ℕ) (ps : List (Period A)) (fs : List (Made
   pub low : 160 * length ps < next_start fs + 160
   pub high : next_start fs + 4 ≤ 160 * length ps
 
+-- one of both
 abbrev pub Phase : {A : Type 0} → ℕ → List (Period A) → List (MadeFrame A) → Type 0
 Phase s ps fs = Level s ps fs ⊎ Behind s ps fs
 
@@ -120,6 +121,7 @@ starts_now p past fs s a e l z = elim (cases_Bool p.bridged) [
 some_same : (a b : ℕ) → Some a ≡ Some b → a ≡ b
 some_same a b e = cc
 
+-- **A bridge that started is in one of both phases between periods.**
 pub phase : {A : Type 0} (ps : List (Period A)) (s : ℕ) → IsHistory ps → latest_start ps ≡ Some s → Phase s ps (made_frames ps)
 phase [] s h e = cc
 phase (p ∷ past) s h e = elim (cases_Bool p.starts) [
@@ -142,11 +144,13 @@ newest_out : {A : Type 0} (ps : List (Period A)) (h : ℕ) → in_bridge ps ≡ 
 newest_out [] h b l = refl
 newest_out (p ∷ past) h b l = hands_at-new p past h (omega arith) ∙ b
 
+-- out of the bridge nothing waits in either
 drained_in : {A : Type 0} (ps : List (Period A)) (fs : List (MadeFrame A)) (s : ℕ) → latest_start ps ≡ Some s → in_bridge ps ≡ false → Phase s ps fs →
     handed_due ps fs ≡ None
 drained_in ps fs s e b (inl l) = due-none ps fs s e (l.over (s + made_from s fs) (omega arith))
 drained_in ps fs s e b (inr w) = due-none ps fs s e (newest_out ps (s + made_from s fs) b w.newest)
 
+-- **Once a period lies out of the bridge nothing waits.**
 pub drained : {A : Type 0} (ps : List (Period A)) (s : ℕ) → IsHistory ps → latest_start ps ≡ Some s → in_bridge ps ≡ false →
     handed_due ps (made_frames ps) ≡ None
 drained ps s h e b = drained_in ps (made_frames ps) s e b (phase ps s h e)

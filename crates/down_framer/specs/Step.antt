@@ -1,5 +1,5 @@
 -- What each operation of a framer makes of what it holds.
-use Rattle.std.specs.Prelude.{ℕ, ◌+◌, ◌-◌, ◌*◌, ℤ, List, ◌++◌, length, drop}
+use Rattle.std.specs.Prelude.{ℕ, ◌-◌, ℤ, List, ◌++◌, length, drop}
 use Rattle.down_framer.specs.Made.{octets_to_next, frame_on_line}
 use Rattle.down_framer.specs.Memory.{FramerMemory}
 

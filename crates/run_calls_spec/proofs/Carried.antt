@@ -49,6 +49,7 @@ item_span P call j h (span ∷ spans) p e =
 abbrev IsSpanOf : Run → ℕ → Span → Type 0
 IsSpanOf r c span = (x : board.Span) × (span ≡ span_for r c x) × Contains (spans_in r) x × (begins_in r c x ≡ true) × (is_of c x ≡ true → LiesIn r c x)
 
+-- each span of a call as a whole is one of the run
 spans_of_run : (r : Run) (c : ℕ) → AreOrders r.orders → AllByRecursion (IsSpanOf r c) (whole_call r c).spans
 spans_of_run r c a =
     let each = each_both _ _ (spans_in r) (recursion_from_All (Contains (spans_in r)) (spans_in r) (All-contains_itself (spans_in r))) (spans_lie r c a) in

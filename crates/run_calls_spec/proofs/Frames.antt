@@ -52,6 +52,7 @@ record HasPeriod (r : Run) (c k : ℕ) : Type 0 where
   known : is_some (opened_at c (done_in r)) ≡ true
   within : k < count_in r c
 
+-- period k is one of a call that has it
 period_among : (r : Run) (c k n : ℕ) → k < n → IsPeriod (periods_to r c n) (period_of r c k) (periods_to r c k)
 period_among r c k zero l = absurd (omega arith)
 period_among r c k (suc n) l = elim (cases_lt k n) [
@@ -59,18 +60,22 @@ period_among r c k (suc n) l = elim (cases_lt k n) [
   | inr now ↦ let e : k ≡ n = omega arith in ([], ap (λ k. periods_to r c (suc k)) e)
 ]
 
+-- the periods of such a call are a history
 as_history : (r : Run) (c k : ℕ) → HasPeriod r c k → IsCallHistory (periods_in r c)
 as_history r c k h = subst IsCallHistory (history_same r c h.orders) (history-whole (whole_call r c) (is_whole r c h.orders h.known))
 
+-- and the call as a whole is that of it
 as_call : (r : Run) (c k : ℕ) → HasPeriod r c k → whole_call r c ≡ call_of_history (who_in r c) (periods_in r c)
 as_call r c k h = sym (call-whole (whole_call r c) (is_whole r c h.orders h.known)) ∙ ap (call_of_history (who_in r c)) (history_same r c h.orders)
 
+-- the effective frame by its periods
 frame_known : LooksBack → (r : Run) (c k : ℕ) → HasPeriod r c k → effective_frame (whole_call r c) k ≡ effective_now c (periods_to r c (suc k))
 frame_known look r c k h =
     ap (λ n. effective_frame (whole_call r c) n) (sym (length-periods_to r c k))
     ∙ ap (λ call. effective_frame call (length (periods_to r c k))) (as_call r c k h)
     ∙ effective-period look (who_in r c) (periods_in r c) (period_of r c k) (periods_to r c k) (as_history r c k h) (period_among r c k (count_in r c) h.within)
 
+-- what the uplink yields by them
 yield_known : (r : Run) (c k : ℕ) → HasPeriod r c k → yield_at (whole_call r c) k ≡ yield_of (up_in r c k) (ups_to r c k)
 unfolding period_of
 yield_known r c k h =
@@ -78,6 +83,7 @@ yield_known r c k h =
     ∙ yield-period (who_in r c) (periods_in r c) (period_of r c k) (periods_to r c k) (as_history r c k h) (period_among r c k (count_in r c) h.within)
     ∙ ap (yield_of (up_in r c k)) (ups_periods r c k)
 
+-- the partner has each period of a bridge
 partner_has : (r : Run) (c t : ℕ) (x : board.Span) → AreOrders r.orders → IsBridged r c t x → HasPeriod r (partner_in c x) (t - start_in r (partner_in c x))
 partner_has r c t x a b =
     let d = partner_in c x in
@@ -117,14 +123,17 @@ heard_good : (kind : Kind) (class : Class) (taf : Bool) (d : List ℕ) → kind 
     heard_frame kind class taf d ≡ Good (fields_in d)
 heard_good kind class taf d e f = ap (λ kind. heard_frame kind class taf d) e ∙ ap (λ class. heard_frame kinds.Speech class taf d) f
 
+-- a good speech frame is heard as it is
 good_heard : (bits : List ℕ) → IsGoodSpeech bits → heard_as (Framed (words_in bits)) ≡ Good (fields_in (data_of bits))
 unfolding words_in
 good_heard bits g = heard_good (kind_of bits) (class_of bits) _ (data_of bits) g.kind g.class
 
+-- and is the effective frame
 good_effective : (c : ℕ) (p : Fields) (past : List Heard) → effective_of c (Good p ∷ past) ≡ Speech p
 unfolding effective_of anchor_of
 good_effective c p past = refl
 
+-- so its bits are handed over as they came
 good_item : (c : ℕ) (octets : List ℕ) (past : List (List ℕ)) (p : ℕ) (bits : List ℕ) → yield_of octets past ≡ Some (Frame p bits) → IsGoodSpeech bits →
     item_of c (octets ∷ past) ≡ data_of bits
 unfolding item_of

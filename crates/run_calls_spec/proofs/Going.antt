@@ -32,6 +32,7 @@ use Rattle.run_calls_spec.proofs.Sent.{made_first, kept_among, bridged_begins, C
 abbrev pub AreEnough : Type 0
 AreEnough = (call : Call) (m : ℕ) → IsWhole call → 2 * periods call ≤ m → made_among call m ≡ made_among call (2 * periods call)
 
+-- a frame whose last octet comes within the call is made
 is_made : AreEnough → (call : Call) (j : ℕ) → IsWhole call → when (frame_by_number call j).start < periods call → j < length (frames_of_call call)
 is_made enough call j whole l =
     let soon : NumberedFrame → Bool = λ f. nat_lt (when f.start) (periods call) in
@@ -219,6 +220,7 @@ few_lost items enough r c x a has joined = by (x.to - x.from - 1) refl
         ∙ filter_reverse (of_span r c x) (first_frames call (frame_count r c)) in
         omega arith
 
+-- **Of what is handed over in a span at most one frame is lost.**
 pub one_lost : CarriesItems → AreEnough → (r : Run) (x : board.Span) → AreOrders r.orders → Contains (spans_in r) x →
     ((span_line r x).lost_a ≤ 1) × ((span_line r x).lost_b ≤ 1)
 one_lost items enough r x a has = (

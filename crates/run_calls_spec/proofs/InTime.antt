@@ -26,12 +26,14 @@ use Rattle.run_spec.proofs.Covering.{from_above}
 
 -- ---- a call that lasts to period t: neither its lines nor an order end it before
 
+-- a call that lasts up to period t
 pub record LastsTo (whole : ℕ → ℕ) (ds : List Done) (c t : ℕ) : Type 0 where
   pub start : ℕ
   pub opened : opened_at c ds ≡ Some start
   pub lines : t ≤ start + whole c
   pub closed : (e : ℕ) → closed_at c ds ≡ Some e → t ≤ e
 
+-- a bridge whose two calls last up to its start
 pub record IsInTime (whole : ℕ → ℕ) (ds : List Done) (x : Bridge) : Type 0 where
   pub a : LastsTo whole ds x.a x.from
   pub b : LastsTo whole ds x.b x.from
@@ -44,6 +46,7 @@ of_some Q o e h f = subst (λ (o : Option ℕ). IfSome o Q) f h
 none_some : (o : Option ℕ) (e : ℕ) → o ≡ None → o ≡ Some e → ⊥
 none_some o e f g = cc
 
+-- an open call lasts
 lasts_to : (whole : ℕ → ℕ) (ds later : List Done) (t c : ℕ) → is_open (gone_at whole t ds) ds c ≡ true → AllByRecursion (λ d. t ≤ d.order.stamp) later →
     LastsTo whole (ds ++ later) c t
 lasts_to whole ds later t c o above =
@@ -77,6 +80,7 @@ new_in_time whole ds later d (Ok (act.LevelSet c v)) h above = tt
 new_in_time whole ds later d (Ok (act.DtxSet c m)) h above = tt
 new_in_time whole ds later d (Err e) h above = tt
 
+-- so each bridge is in time
 in_time : (whole : ℕ → ℕ) (t : ℕ) (ds later : List Done) → AreReplies whole ds later → RisesFrom t later →
     AllByRecursion (IsInTime whole (ds ++ later)) (bridges later)
 in_time whole t ds [] h r = tt
@@ -87,6 +91,7 @@ in_time whole t ds (d ∷ later) h r =
     (subst (λ (all : List Done). AllByRecursion (IsInTime whole all) (bridges later)) (append_assoc ds (d ∷ []) later)
     (in_time whole d.order.stamp (ds ++ d ∷ []) later h.1 r.1))
 
+-- **Each bridge of a run is.**
 pub bridges_in_time : (r : Run) → AreOrders r.orders → AllByRecursion (IsInTime (whole_in r) (done_in r)) (bridges (done_in r))
 bridges_in_time r a =
     let os = filter (λ o. nat_lt o.stamp r.periods) r.orders in
@@ -95,6 +100,7 @@ bridges_in_time r a =
 
 -- ---- the end of its span
 
+-- its end is no earlier
 lasting_end : (given : ℕ → Given) (P : ℕ) (ds : List Done) (c t : ℕ) → t ≤ P → LastsTo (λ c. whole_of (given c)) ds c t → t ≤ ends_at given P ds c
 lasting_end given P ds c t l k = by (closed_at c ds) refl
   where

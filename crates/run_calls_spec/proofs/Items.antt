@@ -44,6 +44,7 @@ one_covers r c t (x ∷ xs) st n h = (
         let high : t < to_of (span_in r x) = ltb-true t (to_of (span_in r x)) p.1 in
         omega arith
 
+-- the only one is found
 find_is : {X : Type 0} (p : X → Bool) (xs : List X) (x : X) → AtMostOne p xs → Contains xs x → p x ≡ true → find p xs ≡ Some x
 find_is p xs x one has passes = by (find p xs) refl
   where
@@ -52,6 +53,7 @@ find_is p xs x one has passes = by (find p xs) refl
     by (Some y) e =
         ap Some (sym (All-contains (λ x. p x ≡ true → x ≡ y) xs x (All-from_recursion (λ x. p x ≡ true → x ≡ y) xs (one_found p xs y one e)) has passes))
 
+-- the span covers the period
 bridged_covers : (r : Run) (c t : ℕ) (x : board.Span) → IsBridged r c t x → covers c t x ≡ true
 bridged_covers r c t x b =
     and_from (is_of c x && nat_le x.from t) (nat_lt t x.to) (and_from (is_of c x) (nat_le x.from t) b.call (le-leb x.from t b.begun)) (lt-ltb t x.to b.lasts)
@@ -73,14 +75,17 @@ partner_bridged r c t x b = record { span = b.span; call = by (c == x.a); begun 
     by true = or_right (x.b == x.a) (x.b == x.b) (eq-eqb x.b x.b refl)
     by false = or_left (x.a == x.a) (x.a == x.b) (eq-eqb x.a x.a refl)
 
+-- each span of a call lies within it
 pub span_lies : (r : Run) (c : ℕ) (x : board.Span) → AreOrders r.orders → Contains (spans_in r) x → is_of c x ≡ true → LiesIn r c x
 span_lies r c x a =
     All-contains (λ x. is_of c x ≡ true → LiesIn r c x) (spans_in r) x
     (All-from_recursion (λ x. is_of c x ≡ true → LiesIn r c x) (spans_in r) (spans_lie r c a))
 
+-- so does the span of a bridge
 pub bridged_lies : (r : Run) (c t : ℕ) (x : board.Span) → AreOrders r.orders → IsBridged r c t x → LiesIn r c x
 bridged_lies r c t x a b = span_lies r c x a b.span b.call
 
+-- the call has each period of it
 pub has_period : (r : Run) (c t : ℕ) (x : board.Span) → AreOrders r.orders → IsBridged r c t x → (start_in r c ≤ t) × (t < end_in r c)
 has_period r c t x a b =
     let k = bridged_lies r c t x a b in
@@ -89,6 +94,7 @@ has_period r c t x a b =
     within : (s from t to e : ℕ) → s ≤ from → from ≤ t → t < to → to ≤ e → (s ≤ t) × (t < e)
     within s from t to e k l m n = (omega arith, omega arith)
 
+-- and so has its partner
 pub both_have : (r : Run) (c t : ℕ) (x : board.Span) → AreOrders r.orders → IsBridged r c t x →
     (start_in r c ≤ t) × (t < end_in r c) × (start_in r (partner_in c x) ≤ t) × (t < end_in r (partner_in c x))
 both_have r c t x a b =
@@ -98,6 +104,7 @@ both_have r c t x a b =
 
 -- ---- what is handed
 
+-- a period of the run, counted from the opening
 pub counted : (s t e : ℕ) → s ≤ t → t < e → (t - s < e - s) × (s + (t - s) ≡ t) × (t + 1 - s ≡ suc (t - s))
 counted s t e l m = (omega arith, omega arith, omega arith)
 
@@ -107,6 +114,7 @@ handed_on r c t a l m =
     let n = counted (start_in r c) t (end_in r c) l m in
     handed_in r c (t - start_in r c) a n.0 ∙ ap (handed_to r c) n.1
 
+-- **What is handed over is the item of the partner.**
 pub item_found : (r : Run) (c t : ℕ) (x : board.Span) → AreOrders r.orders → IsBridged r c t x →
     item_for r c t ≡ Some (item_of (partner_in c x) (ups_to r (partner_in c x) (suc (t - start_in r (partner_in c x)))))
 item_found r c t x a b =

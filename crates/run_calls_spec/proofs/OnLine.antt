@@ -29,6 +29,7 @@ use Rattle.run_calls_spec.proofs.Sent.{made_first, frame_sent, sent_more, length
 abbrev line_to : Call → ℕ → List ℕ
 line_to call m = line call (reverse (first_frames call m))
 
+-- what frame m adds to the line
 abbrev adds : Call → ℕ → List ℕ
 adds call m = frame_on_line (frame_by_number call m).shift (down_bits (frame_sent call m))
 
@@ -36,6 +37,7 @@ length-first : (call : Call) (m : ℕ) → length (first_frames call m) ≡ m
 length-first call zero = refl
 length-first call (suc m) = ap suc (length-first call m)
 
+-- the line goes on frame by frame
 line_more : (call : Call) (m : ℕ) → line_to call (suc m) ≡ line_to call m ++ adds call m
 line_more call m =
     let fs = reverse (first_frames call m) in
@@ -61,6 +63,7 @@ length-line call (suc m) =
     length-frame_on_line (frame_by_number call m).shift (down_bits (frame_sent call m)) (shift_allowed call m) (length-down_bits (frame_sent call m)) in
     ap length (line_more call m) ∙ length-append (line_to call m) (adds call m) ∙ omega arith
 
+-- earlier frames stand before it
 line_front : (call : Call) (j m : ℕ) → j ≤ m → (more : List ℕ) × (line_to call m ≡ line_to call j ++ more)
 line_front call j zero l = let e : 0 ≡ j = omega arith in ([], ap (line_to call) e ∙ sym (append-nil (line_to call j)))
 line_front call j (suc m) l = elim (cases_lt m j) [
@@ -72,6 +75,7 @@ line_front call j (suc m) l = elim (cases_lt m j) [
 
 -- ---- a frame that carries an item
 
+-- a frame's bits stand at its place
 bit_on_line : (call : Call) (j h m k : ℕ) → j < m → k < 320 → (frame_by_number call j).carries ≡ Some h →
     get_or (line_to call m) (320 + 2 * (frame_by_number call j).start + k) 0 ≡ get_or (down_bits (frame_sent call j)) k 0
 bit_on_line call j h m k l b e =

@@ -14,6 +14,7 @@ use Rattle.run_calls_spec.specs.Sent.{IsFirstOfSpan}
 
 -- ---- frames start one after another
 
+-- a later frame is made no earlier
 pub made_later : (call : Call) (i j : ℕ) → i ≤ j → when (frame_by_number call i).start ≤ when (frame_by_number call j).start
 made_later call i j l =
     rounded (numbered_start (first_frames call i)) (numbered_start (first_frames call j)) (later_starts (map without_items call.spans) (fields call) i j l)
@@ -72,6 +73,7 @@ item_place call span first j i f l = (there, here)
 
 -- ---- there is a first one
 
+-- each shift is a shift
 pub shift_allowed : (call : Call) (j : ℕ) → IsShift (frame_by_number call j).shift
 shift_allowed call j =
     let before = first_frames call j in
@@ -79,6 +81,7 @@ shift_allowed call j =
     let counting = fields_to (fields call) w before in
     none_or (carried_item (map without_items call.spans) w before) (latest_shift counting) (IsShift-latest_shift counting)
 
+-- frame n starts no earlier than octet n
 starts_far : (call : Call) (n : ℕ) → n ≤ numbered_start (first_frames call n)
 starts_far call zero = omega arith
 starts_far call (suc n) =
@@ -87,6 +90,7 @@ starts_far call (suc n) =
     let long = more.0 in
     omega arith
 
+-- the first of which a test holds
 least : (p : ℕ → Bool) (n : ℕ) → p n ≡ true → (k : ℕ) × (p k ≡ true) × ((i : ℕ) → i < k → p i ≡ false)
 least p zero e = (0, e, λ i l. absurd (omega arith))
 least p (suc n) e = by (least (λ i. p (suc i)) n e) (cases_Bool (p 0))
@@ -128,12 +132,14 @@ first_start call span (suc n) f =
 
 -- ---- frames that carry items start 160 octets after one another
 
+-- a frame that carries an item has no shift
 pub unshifted : (call : Call) (j h : ℕ) → (frame_by_number call j).carries ≡ Some h → (frame_by_number call j).shift ≡ pos 0
 unshifted call j h e =
     let before = first_frames call j in
     let asked = latest_shift (fields_to (fields call) (when (numbered_start before)) before) in
     ap (λ (o : Option ℕ). elim o as (λ x. ℤ) [ None ↦ asked | Some h ↦ pos 0 ]) e
 
+-- so the frames of a bridge start 160 octets apart
 pub item_start : (call : Call) (first m : ℕ) → ((i : ℕ) → i < m → (h : ℕ) × ((frame_by_number call (first + i)).carries ≡ Some h)) →
     (frame_by_number call (first + m)).start ≡ (frame_by_number call first).start + 160 * m
 item_start call first zero h =
@@ -149,9 +155,11 @@ item_start call first (suc m) h =
 
 -- ---- how many of the first frames are such
 
+-- how many of the first m frames pass a test
 abbrev pub count : (NumberedFrame → Bool) → Call → ℕ → ℕ
 count p call m = length (filter p (first_frames call m))
 
+-- of more frames no fewer do
 pub count_more : (p : NumberedFrame → Bool) (call : Call) (k m : ℕ) → k ≤ m → count p call k ≤ count p call m
 count_more p call k zero l = let e : 0 ≡ k = omega arith in subst (λ k. count p call k ≤ count p call 0) e (omega arith)
 count_more p call k (suc m) l = elim (cases_lt m k) [

@@ -31,6 +31,7 @@ use Rattle.run_calls_spec.proofs.Places.{item_place, first_made}
 
 -- ---- the frames that are made are the first ones
 
+-- the made frames of a history are the first ones
 made_read : (who : Who) (ts : List CallPeriod) → IsCallHistory ts →
     frames_of_call (call_of_history who ts) ≡ reverse (first_frames (call_of_history who ts) (length (frames_of_call (call_of_history who ts))))
 made_read who ts h =
@@ -40,6 +41,7 @@ made_read who ts h =
     made-read who ts h ∙ ap reverse (made-in_order (down_periods ts) h.bridges) ∙ ap reverse (sym (first-read who ts (length (frames_of ts)) h))
     ∙ ap (λ m. reverse (first_frames call m)) (sym n)
 
+-- and so are those of a call as a whole
 pub made_first : (call : Call) → IsWhole call → frames_of_call call ≡ reverse (first_frames call (length (frames_of_call call)))
 made_first call h =
     subst (λ call. frames_of_call call ≡ reverse (first_frames call (length (frames_of_call call)))) (call-whole call h)
@@ -51,6 +53,7 @@ made_first call h =
 pub frame_sent : Call → ℕ → DownFrame
 frame_sent call j = frame_after call (frame_by_number call j) (before (coded_goes_on call) (frame_by_number call j) (first_frames call j))
 
+-- one frame more is sent behind the others
 pub sent_more : (call : Call) (m : ℕ) →
     down_frames call (reverse (first_frames call (suc m))) ≡ down_frames call (reverse (first_frames call m)) ++ frame_sent call m ∷ []
 unfolding frame_sent
@@ -58,12 +61,14 @@ sent_more call m =
     stretched-more (coded_goes_on call) (stretch_frames call) (λ f s. frame_after call f s ∷ []) (adds-frame call) (frame_by_number call m)
     (first_frames call m)
 
+-- each frame is sent once
 pub length-sent : (call : Call) (m : ℕ) → length (down_frames call (reverse (first_frames call m))) ≡ m
 length-sent call zero = refl
 length-sent call (suc m) =
     let rest = length-sent call m in
     ap length (sent_more call m) ∙ length-append (down_frames call (reverse (first_frames call m))) (frame_sent call m ∷ []) ∙ omega arith
 
+-- frame j as it is sent
 pub sent_at : (call : Call) (m j : ℕ) → j < m → get_or (down_frames call (reverse (first_frames call m))) j Idle ≡ frame_sent call j
 sent_at call zero j l = absurd (omega arith)
 sent_at call (suc m) j l =
@@ -90,10 +95,12 @@ each_sent r c a o =
 
 -- ---- the span among those of the call
 
+-- where an element stands
 split_at : {X : Type 0} (xs : List X) (x : X) → Contains xs x → (front : List X) × (back : List X) × (xs ≡ front ++ x ∷ back)
 split_at xs x h =
     (take h.0 xs, drop (h.0 + 1) xs, sym (take-append-drop h.0 xs) ∙ ap (λ z. take h.0 xs ++ z) (drop_more xs h.0 x h.1 ∙ ap (λ y. y ∷ drop (h.0 + 1) xs) h.2))
 
+-- where it stands among those that are kept
 pub kept_among : {X Y : Type 0} (q : X → Bool) (f : X → Y) (xs : List X) (x : X) → Contains xs x → q x ≡ true →
     (front : List Y) × (back : List Y) × (map f (filter q xs) ≡ front ++ f x ∷ back)
 kept_among q f xs x h k =
@@ -105,6 +112,7 @@ kept_among q f xs x h k =
           ∙ map-append f (filter q s.0) (x ∷ filter q s.1),
     )
 
+-- the span of a bridge begins before the end of the call
 pub bridged_begins : (r : Run) (c t : ℕ) (x : board.Span) → AreOrders r.orders → IsBridged r c t x → begins_in r c x ≡ true
 bridged_begins r c t x a b =
     let k = bridged_lies r c t x a b in
@@ -132,6 +140,7 @@ handed_carried items r c t x j a s =
     counted : (s from t : ℕ) → s ≤ from → from ≤ t → from - s + (t - from) ≡ t - s
     counted s from t k l = omega arith
 
+-- **What is sent in frame j.**
 pub frame_is : (r : Run) (c t : ℕ) (x : board.Span) (j : ℕ) → AreOrders r.orders → Sends r c t x j → frame_as_sent r c j ≡ frame_sent (whole_call r c) j
 frame_is r c t x j a s =
     let call = whole_call r c in
@@ -156,6 +165,7 @@ handed_place r c t x first j a b f =
     within : (s from t to : ℕ) → s ≤ from → from ≤ t → t < to → t - from < (to - s) - (from - s)
     within s from t to k l m = omega arith
 
+-- **What is handed over goes out in order.**
 pub handed_in_order : (r : Run) (c t u : ℕ) (x : board.Span) (j k : ℕ) → AreOrders r.orders → IsBridged r c t x → IsBridged r c u x → CarriesHanded r c t x j →
     CarriesHanded r c u x k → t < u → j < k
 handed_in_order r c t u x j k a b d h g l =
@@ -165,6 +175,7 @@ handed_in_order r c t u x j k a b d h g l =
     ordered : (from t u first j k : ℕ) → from ≤ t → t < u → j ≡ first + (t - from) → k ≡ first + (u - from) → j < k
     ordered from t u first j k l m p q = omega arith
 
+-- **And once.**
 pub handed_once : (r : Run) (c t : ℕ) (x : board.Span) (j k : ℕ) → AreOrders r.orders → IsBridged r c t x → CarriesHanded r c t x j → CarriesHanded r c t x k →
     j ≡ k
 handed_once r c t x j k a b h g =

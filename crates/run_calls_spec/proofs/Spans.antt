@@ -23,6 +23,7 @@ use Rattle.run_calls_spec.proofs.InTime.{IsInTime, bridges_in_time, ends_after}
 
 -- ---- a bridge's span within a call
 
+-- the span of a bridge
 abbrev pub span_in : Run → Bridge → board.Span
 span_in r x = span_of (given_in r) r.periods (done_in r) x
 
@@ -41,9 +42,11 @@ opened_before r x c y j = elim (or_cases (c == x.a) (c == x.b) j) [
   | inr p ↦ (y.start_b, ap (λ d. opened_at d (done_in r)) (eqb-true c x.b p) ∙ y.opened_b, y.after_b)
 ]
 
+-- it starts no earlier than each of its calls
 starts_before : (r : Run) (x : Bridge) (c : ℕ) → IsSoundBridge (whole_in r) r.periods (done_in r) x → joins c x ≡ true → start_in r c ≤ x.from
 starts_before r x c y j = let s = opened_before r x c y j in subst (λ (n : ℕ). n ≤ x.from) (sym (start_is (done_in r) c s.0 s.1)) s.2
 
+-- and ends no later
 ends_before : (r : Run) (x : Bridge) (c : ℕ) → joins c x ≡ true → to_of (span_in r x) ≤ end_in r c
 ends_before r x c j = elim (or_cases (c == x.a) (c == x.b) j) [
   | inl p ↦
@@ -60,9 +63,11 @@ ends_before r x c j = elim (or_cases (c == x.a) (c == x.b) j) [
     second : (a b n : ℕ) → min n (min a b) ≤ b
     second a b n = omega arith
 
+-- a bridge that is sound and in time
 abbrev IsBridge : Run → Bridge → Type 0
 IsBridge r x = IsSoundBridge (whole_in r) r.periods (done_in r) x × IsInTime (whole_in r) (done_in r) x
 
+-- its span lies within each of its calls
 bridge_lies : (r : Run) (x : Bridge) (c : ℕ) → IsBridge r x → joins c x ≡ true → LiesIn r c (span_in r x)
 bridge_lies r x c h j = record {
   known = ap is_some (opened_before r x c h.0 j).1;
@@ -71,6 +76,7 @@ bridge_lies r x c h j = record {
   over = ends_before r x c j;
 }
 
+-- all bridges of a run are such
 are_bridges : (r : Run) → AreOrders r.orders → AllByRecursion (IsBridge r) (bridges (done_in r))
 are_bridges r a = each_both _ _ (bridges (done_in r)) (standing_end r a).sound (bridges_in_time r a)
 
@@ -81,16 +87,19 @@ spans_lie r c a = each_map (λ x. is_of c x ≡ true → LiesIn r c x) (span_in 
 
 -- ---- in order
 
+-- the spans of some bridges, counted from the call's opening
 abbrev spans_from : Run → ℕ → List Bridge → List Span
 spans_from r c xs = map (span_for r c) (filter (begins_in r c) (map (span_in r) xs))
 
 length-items : (r : Run) (c : ℕ) (x : board.Span) → length (span_for r c x).items ≡ x.to - x.from
 length-items r c x = length-map-range_with_len _ x.from (x.to - x.from)
 
+-- counted from there they lie within the call
 placed : (low s from to e items : ℕ) → low + s ≤ from → s ≤ from → from ≤ to → to ≤ e → from < e → items ≡ to - from →
     (low ≤ from - s) × (from - s < e - s) × (to - s ≤ e - s) × (from - s + items ≡ to - s)
 placed low s from to e items l m n o p q = (omega arith, omega arith, omega arith, omega arith)
 
+-- **They are in order.**
 in_order : (r : Run) (c low : ℕ) (xs : List Bridge) → Standing (whole_in r) r.periods (done_in r) → NeverOverlap (whole_in r) (done_in r) xs →
     AllByRecursion (IsBridge r) xs →
     AllByRecursion (λ x. joins c x ≡ true → low + start_in r c ≤ x.from) xs → AreSpans low (count_in r c) (spans_from r c xs)
@@ -132,6 +141,7 @@ spans_ordered r c a =
 
 -- ---- the spans that are kept
 
+-- a test of those that are kept
 any_kept : {X Y : Type 0} (p : Y → Bool) (q : X → Bool) (f : X → Y) (g : X → Bool) (xs : List X) → AllByRecursion (λ x. (q x && p (f x)) ≡ g x) xs →
     list_any p (map f (filter q xs)) ≡ list_any g xs
 any_kept p q f g [] h = refl
@@ -142,6 +152,7 @@ any_kept p q f g (x ∷ xs) h = by (q x) h.0 (any_kept p q f g xs h.1)
     by true e k = ap (λ t. t || list_any p (map f (filter q xs))) e ∙ ap (λ t. g x || t) k
     by false e k = k ∙ ap (λ t. t || list_any g xs) e
 
+-- and the item of the one that passes
 item_kept : {X : Type 0} (q : X → Bool) (f : X → Span) (g : X → Bool) (v : X → List ℕ) (k : ℕ) (xs : List X) →
     AllByRecursion (λ x. ((q x && (nat_le (f x).from k && nat_lt k (f x).to)) ≡ g x) × (g x ≡ true → get_or (f x).items (k - (f x).from) [] ≡ v x)) xs →
     item_at (map f (filter q xs)) k ≡ option_map v (find g xs)
@@ -162,6 +173,7 @@ item_kept q f g v k (x ∷ xs) h = by (q x) (nat_le (f x).from k && nat_lt k (f 
 
 -- ---- each period
 
+-- a span starts at the same period, counted from the opening
 starts_test : (j : Bool) (s from e k : ℕ) → (j ≡ true → s ≤ from) → k < e - s → ((j && nat_lt from e) && from - s == k) ≡ (j && from == s + k)
 starts_test false s from e k h l = refl
 starts_test true s from e k h l =
@@ -179,6 +191,7 @@ starts_in r c k a l = any_kept (λ span. span.from == k) (begins_in r c) (span_f
     (spans_in r)
     (λ x h. starts_test (is_of c x) (start_in r c) x.from (end_in r c) k (λ j. (h j).opened) l) (spans_lie r c a))
 
+-- and covers the same periods
 covers_test : (j : Bool) (s from to e k : ℕ) → (j ≡ true → s ≤ from) → k < e - s →
     ((j && nat_lt from e) && (nat_le (from - s) k && nat_lt k (to - s))) ≡ (j && nat_le from (s + k) && nat_lt (s + k) to)
 covers_test false s from to e k h l = refl

@@ -32,15 +32,19 @@ or_no : (s : Bool) → (s || false) ≡ s
 or_no true = refl
 or_no false = refl
 
+-- whether a bridge of a call starts at t
 abbrev started : List Done → ℕ → ℕ → Bool
 started ds t c = list_any (λ x. joins c x && x.from == t) (bridges ds)
 
+-- whether a bridge of a call lasts at t
 abbrev bridged : Run → List Done → ℕ → ℕ → Bool
 bridged r ds t c = is_some (bridge_of (gone_at (whole_in r) t ds) ds c)
 
+-- settings by their parts
 abbrev settings : ℤ → DtxMode → Bool → Bool → Settings
 settings level mode starts bridged = record { level = level; mode = mode; starts = starts; bridged = bridged }
 
+-- after an order they are what the parts are
 by_parts : (r : Run) (t : ℕ) (ds : List Done) (d : Done) (c : ℕ) (starts b : Bool) →
     (started ds t c || list_any (λ x. joins c x && x.from == t) (bridge_by d.order.stamp d.result [])) ≡ starts → bridged_more (whole_in r) t ds d c ≡ b →
     settings_now r (ds ++ d ∷ []) t c ≡ settings (level_by c d.result (level_after c (pos 256) ds)) (mode_by c d.result (mode_after c Uplink ds)) starts b
@@ -48,6 +52,7 @@ by_parts r t ds d c starts b e f = same_settings _ _ _ _ _ _ _ _ (level-more c (
 
 -- ---- all acts
 
+-- the last of a list is found
 some_last : (p : Bridge → Bool) (xs : List Bridge) (y : Bridge) → p y ≡ true → is_some (find p (xs ++ y ∷ [])) ≡ true
 some_last p [] y e = ap (λ (t : Bool). is_some (if t then Some y else None)) e
 some_last p (x ∷ xs) y e = by (p x) x (find p (xs ++ y ∷ [])) (some_last p xs y e)
@@ -56,12 +61,14 @@ some_last p (x ∷ xs) y e = by (p x) x (find p (xs ++ y ∷ [])) (some_last p x
     by true x o e = refl
     by false x o e = e
 
+-- a level that is set, or stays
 set_level : (b : Bool) (v level : ℤ) (mode : DtxMode) (starts bridged : Bool) →
     settings (if b then v else level) mode starts bridged
     ≡ (if b then with_level v (settings level mode starts bridged) else settings level mode starts bridged)
 set_level true v level mode starts bridged = refl
 set_level false v level mode starts bridged = refl
 
+-- a mode that is set, or stays
 set_mode : (b : Bool) (m : DtxMode) (level : ℤ) (mode : DtxMode) (starts bridged : Bool) →
     settings level (if b then m else mode) starts bridged ≡ (if b then with_mode m (settings level mode starts bridged) else settings level mode starts bridged)
 set_mode true m level mode starts bridged = refl

@@ -20,17 +20,21 @@ use Rattle.run_spec.proofs.OpenCalls.{open_facts, shut_cases, gone_is, opened_ke
 use Rattle.run_spec.proofs.Standing.{IsSoundBridge, is_before, over_by, NeverOverlap, IsClosed, Standing, lasts_from, standing_one, RisesFrom}
 use Rattle.run_spec.proofs.NewOrder.{IsParted, parted, sound_more, sound_new}
 
+-- a bridge that an order ended is over
 by_order : (whole : ℕ → ℕ) (v : ℕ) (ds : List Done) (x : Bridge) → is_before v x.ended ≡ true → over_by whole v ds x ≡ true
 by_order whole v ds x p = or_left (is_before v x.ended) (gone_at whole v ds x.a || gone_at whole v ds x.b) p
 
+-- one whose first call is gone too
 by_a : (whole : ℕ → ℕ) (v : ℕ) (ds : List Done) (x : Bridge) → gone_at whole v ds x.a ≡ true → over_by whole v ds x ≡ true
 by_a whole v ds x p =
     or_right (is_before v x.ended) (gone_at whole v ds x.a || gone_at whole v ds x.b) (or_left (gone_at whole v ds x.a) (gone_at whole v ds x.b) p)
 
+-- and one whose second call is gone
 by_b : (whole : ℕ → ℕ) (v : ℕ) (ds : List Done) (x : Bridge) → gone_at whole v ds x.b ≡ true → over_by whole v ds x ≡ true
 by_b whole v ds x p =
     or_right (is_before v x.ended) (gone_at whole v ds x.a || gone_at whole v ds x.b) (or_right (gone_at whole v ds x.a) (gone_at whole v ds x.b) p)
 
+-- what was over stays over after one more order
 over_more : (whole : ℕ → ℕ) (t v : ℕ) (ds : List Done) (d : Done) (x : Bridge) → IsSoundBridge whole t ds x → over_by whole v ds x ≡ true →
     over_by whole v (ds ++ d ∷ []) (after d x) ≡ true
 over_more whole t v ds d x y o = elim (or_cases (is_before v x.ended) (gone_at whole v ds x.a || gone_at whole v ds x.b) o) [
@@ -45,6 +49,7 @@ over_more whole t v ds d x y o = elim (or_cases (is_before v x.ended) (gone_at w
     kept v None w e = cc
     kept v (Some e) w f = f
 
+-- so bridges stay apart
 overlap_mapped : (whole : ℕ → ℕ) (t : ℕ) (ds : List Done) (d : Done) (xs : List Bridge) → NeverOverlap whole ds xs →
     AllByRecursion (IsSoundBridge whole t ds) xs → NeverOverlap whole (ds ++ d ∷ []) (map (after d) xs)
 overlap_mapped whole t ds d [] h k = tt
@@ -55,11 +60,13 @@ overlap_mapped whole t ds d (x ∷ xs) h k = (
   overlap_mapped whole t ds d xs h.1 k.1,
 )
 
+-- and with one that begins when all others are over
 overlap_append : (whole : ℕ → ℕ) (ds : List Done) (xs : List Bridge) (y : Bridge) → NeverOverlap whole ds xs →
     AllByRecursion (λ x. (c : ℕ) → joins c x ≡ true → joins c y ≡ true → over_by whole y.from ds x ≡ true) xs → NeverOverlap whole ds (xs ++ y ∷ [])
 overlap_append whole ds [] y h k = (tt, tt)
 overlap_append whole ds (x ∷ xs) y h k = (each_append _ xs (y ∷ []) h.0 (k.0, tt), overlap_append whole ds xs y h.1 k.1)
 
+-- a bridge that does not last is over
 over_now : (whole : ℕ → ℕ) (t u : ℕ) (ds : List Done) (x : Bridge) → IsSoundBridge whole t ds x → t ≤ u → ((c e : ℕ) → closed_at c ds ≡ Some e → e ≤ t) →
     lasts (gone_at whole u ds) ds x ≡ false → is_this u x.ended ≡ false → over_by whole u ds x ≡ true
 over_now whole t u ds x y l past f w = by x.ended refl
@@ -94,6 +101,7 @@ over_now whole t u ds x y l past f w = by x.ended refl
 abbrev Misses : (ℕ → ℕ) → ℕ → List Done → ℕ → Bridge → Type 0
 Misses whole u ds c x = ((joins c x && lasts (gone_at whole u ds) ds x) ≡ false) × ((joins c x && is_this u x.ended) ≡ false)
 
+-- so is each bridge of the calls of a new one
 overlap_new : (whole : ℕ → ℕ) (t : ℕ) (ds : List Done) (o : Order) (r : Result Act Refusal) → Standing whole t ds → t ≤ o.stamp →
     ShownBy (known_of (gone_at whole o.stamp ds) o.stamp ds) r →
     NeverOverlap whole (ds ++ done o r ∷ []) (map (after (done o r)) (bridges ds)) →
@@ -128,6 +136,7 @@ overlap_new whole t ds o (Err f) s l h k = rw append-nil k
 
 -- ---- all of it
 
+-- **How they stand goes on with one more order.**
 pub standing_more : (whole : ℕ → ℕ) (t : ℕ) (ds : List Done) (o : Order) (r : Result Act Refusal) → Standing whole t ds → t ≤ o.stamp →
     r ≡ reply_to (gone_at whole o.stamp ds) ds o →
     Standing whole o.stamp (ds ++ done o r ∷ [])
@@ -167,6 +176,7 @@ standing_more whole t ds o r s l e = record {
         let b = s.opened c g.0 g.1 in
         record { start = g.0; opened = opened_kept ds (d ∷ []) c g.0 g.1; after = omega (arith, k.2); alive = omega (arith, k.2); past = omega (arith, k.2) }
 
+-- a bridge is as sound later
 later_bridge : (whole : ℕ → ℕ) (t u : ℕ) (ds : List Done) (x : Bridge) → t ≤ u → IsSoundBridge whole t ds x → IsSoundBridge whole u ds x
 later_bridge whole t u ds x l y = record {
   start_a = y.start_a;
@@ -181,6 +191,7 @@ later_bridge whole t u ds x l y = record {
   shut_b = y.shut_b;
 }
 
+-- **And with the clock.**
 pub standing_later : (whole : ℕ → ℕ) (t u : ℕ) (ds : List Done) → t ≤ u → Standing whole t ds → Standing whole u ds
 standing_later whole t u ds l s = record {
   sound = each_weaker _ _ (bridges ds) (λ x y. later_bridge whole t u ds x l y) s.sound;

@@ -19,10 +19,12 @@ use Rattle.run_spec.proofs.Settling.{start_is, has}
 
 -- ---- a call that has a period is open up to it
 
+-- the three parts of having a period
 has_parts : (l : Option ℕ) (p q : Bool) → (is_none l && p && q) ≡ true → (l ≡ None) × (p ≡ true) × (q ≡ true)
 has_parts None p q e = let h = and_parts p q e in (refl, h.0, h.1)
 has_parts (Some s) p q e = cc
 
+-- a call that has a period is open up to it
 pub has_open : (whole : ℕ → ℕ) (P u k : ℕ) (ds : List Done) (c s : ℕ) → opened_at c ds ≡ Some s → u ≤ k → has whole P ds k c ≡ true →
     is_open (gone_at whole u ds) ds c ≡ true
 has_open whole P u k ds c s o l e =
@@ -101,6 +103,7 @@ bridge_after r t u ds c s l = find_same _ _ (bridges ds) (each_weaker (IsSoundBr
 
 -- ---- both calls of a bridge
 
+-- the partner is of the bridge too
 pub joins_other : (c : ℕ) (x : Bridge) → joins (other c x) x ≡ true
 joins_other c x = by (c == x.a)
   where
@@ -140,6 +143,7 @@ bridge_partner r t u ds c x s l m e =
 
 -- ---- settings
 
+-- settings are the same by their parts
 pub same_settings : (level level' : ℤ) (mode mode' : DtxMode) (starts starts' bridged bridged' : Bool) → level ≡ level' → mode ≡ mode' → starts ≡ starts' →
     bridged ≡ bridged' →
     ◌≡◌ {A = Settings} (record { level = level; mode = mode; starts = starts; bridged = bridged })

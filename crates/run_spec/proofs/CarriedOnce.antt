@@ -49,12 +49,14 @@ record IsBehind {A : Type 0} (ps : List (Period A)) (fs : List (MadeFrame A)) : 
   follow : Follow fs
   behind : (s : ℕ) → latest_start ps ≡ Some s → CarryBelow (s + made_from s fs) fs
 
+-- what is due is that of the latest bridge
 due_is : {A : Type 0} (ps : List (Period A)) (fs : List (MadeFrame A)) (s h : ℕ) → latest_start ps ≡ Some s → handed_due ps fs ≡ Some h → h ≡ s + made_from s fs
 due_is ps fs s h e d = elim (cases_Bool (hands_at (s + made_from s fs) ps)) [
   | inl b ↦ let g = due-some ps fs s e b in cc
   | inr b ↦ absurd (let g = due-none ps fs s e b in cc)
 ]
 
+-- a try keeps it
 grown_behind : {A : Type 0} (p : Period A) (past : List (Period A)) (fs : List (MadeFrame A)) → IsBehind (p ∷ past) fs → IsBehind (p ∷ past) (grown p past fs)
 grown_behind p past fs k =
     cond_both (nat_le (next_start fs) (160 * length past)) (next_frame p past fs ∷ fs) fs (IsBehind (p ∷ past))
@@ -72,6 +74,7 @@ grown_behind p past fs k =
     })
     (λ n. k)
 
+-- and so does a period
 period_behind : {A : Type 0} (p : Period A) (past : List (Period A)) (fs : List (MadeFrame A)) → AreCarried past fs → IsBehind past fs → IsBehind (p ∷ past) fs
 period_behind p past fs c k = record { follow = k.follow; behind = by p.starts refl }
   where
@@ -83,6 +86,7 @@ period_behind p past fs c k = record { follow = k.follow; behind = by p.starts r
         (λ f g h d. (g h d).inside) c)
     by false e s l = k.behind s (sym (ap (λ (b : Bool). if b then Some (length past) else latest_start past) e) ∙ l)
 
+-- **All that is carried was handed over before what is due.**
 made_behind : {A : Type 0} (ps : List (Period A)) → IsBehind ps (made_frames ps)
 made_behind [] = record { follow = tt; behind = λ s e. tt }
 made_behind (p ∷ past) =

@@ -20,9 +20,11 @@ pub record Carries {A : Type 0} (ps : List (Period A)) (epoch h : ℕ) : Type 0 
   pub newest : epoch ≡ epoch_of ps → start ≤ h
   pub older : epoch < epoch_of ps → h < start
 
+-- what each of these frames carries, if anything, is of its epoch
 abbrev pub AreCarried : {A : Type 0} → List (Period A) → List (MadeFrame A) → Type 0
 AreCarried ps fs = AllByRecursion (λ f. (h : ℕ) → f.carries ≡ Some h → Carries ps f.epoch h) fs
 
+-- a period more changes nothing of it
 carries_more : {A : Type 0} (p : Period A) (past : List (Period A)) (epoch h : ℕ) → Carries past epoch h → Carries (p ∷ past) epoch h
 carries_more p past epoch h k = by p.starts refl
   where
@@ -69,6 +71,7 @@ due_parts ps fs h e = by (latest_start ps) refl
       | inr b ↦ absurd (let g = due-none ps fs s f b in cc)
     ]
 
+-- what is due is of the newest epoch
 carries_new : {A : Type 0} (p : Period A) (past : List (Period A)) (fs : List (MadeFrame A)) (h : ℕ) → handed_due (p ∷ past) fs ≡ Some h →
     Carries (p ∷ past) (epoch_of (p ∷ past)) h
 carries_new p past fs h e =
@@ -83,12 +86,14 @@ carries_new p past fs h e =
       older = λ q. absurd (omega arith);
     }
 
+-- so is what a try makes
 grown_carried : {A : Type 0} (p : Period A) (past : List (Period A)) (fs : List (MadeFrame A)) → AreCarried (p ∷ past) fs →
     AreCarried (p ∷ past) (grown p past fs)
 grown_carried p past fs k =
     cond_both (nat_le (next_start fs) (160 * length past)) (next_frame p past fs ∷ fs) fs (AreCarried (p ∷ past)) (λ y. (λ h e. carries_new p past fs h e, k))
     (λ n. k)
 
+-- **What a made frame carries is of its epoch.**
 pub made_carried : {A : Type 0} (ps : List (Period A)) → AreCarried ps (made_frames ps)
 made_carried [] = tt
 made_carried (p ∷ past) = grown_carried p past (grown p past (made_frames past)) (grown_carried p past (made_frames past)
@@ -98,9 +103,11 @@ made_carried (p ∷ past) = grown_carried p past (grown p past (made_frames past
 
 -- ---- how many carry what was handed over in a span
 
+-- how many of these frames carry what was handed over from s up to, and without, e
 abbrev pub sent_of : {A : Type 0} → ℕ → ℕ → List (MadeFrame A) → ℕ
 sent_of s e fs = length (filter (λ f. carries_in s e f.carries) fs)
 
+-- those of an epoch are those of a span where each of them is
 pub carried_same : (s e k : ℕ) (fs : List CallFrame) → AllByRecursion (λ f. (is_some f.carries && f.epoch == k) ≡ carries_in s e f.carries) fs →
     carried k fs ≡ sent_of s e fs
 carried_same s e k [] h = refl
@@ -147,6 +154,7 @@ none_sent s e (f ∷ fs) h =
     ap (λ (b : Bool). length (if b then f ∷ filter (λ f. carries_in s e f.carries) fs else filter (λ f. carries_in s e f.carries) fs)) h.0
     ∙ none_sent s e fs h.1
 
+-- of an epoch that is to come none was carried
 pub carried_next : (ps : List (Period _)) (s e : ℕ) → length ps ≤ s → carried (suc (epoch_of ps)) (made_frames ps) ≡ sent_of s e (made_frames ps)
 carried_next ps s e l =
     none_carried (made_frames ps) (made_carried ps)
@@ -168,6 +176,7 @@ carried_next ps s e l =
 
 -- ---- later periods
 
+-- a frame that carries nothing of a span adds nothing to it
 grown_sent : {A : Type 0} (p : Period A) (past : List (Period A)) (fs : List (MadeFrame A)) (s e : ℕ) → ((h : ℕ) → handed_due (p ∷ past) fs ≡ Some h → e ≤ h) →
     sent_of s e (grown p past fs) ≡ sent_of s e fs
 grown_sent p past fs s e k =

@@ -18,6 +18,7 @@ use Rattle.run_spec.proofs.OpenCalls.{gone_is}
 use Rattle.switchboard.proofs.Whole.{end_by}
 use Rattle.run_spec.proofs.Settling.{bridge_stamps, at_of, to_of, ends_by, covers}
 
+-- a call has no more periods than its lines give
 limit_within : (given : ℕ → Given) (P c s : ℕ) → at_of (end_by given P c s None) ≤ s + whole_of (given c)
 limit_within given P c s = by (nat_le P (s + whole_of (given c))) refl
   where
@@ -27,6 +28,7 @@ limit_within given P c s = by (nat_le P (s + whole_of (given c))) refl
     by true e = leb-true P (s + whole_of (given c)) e
     by false e = omega arith
 
+-- nor where it was closed
 pub ends_within : (given : ℕ → Given) (P : ℕ) (ds : List Done) (c s : ℕ) → Standing (λ c. whole_of (given c)) P ds → opened_at c ds ≡ Some s →
     ends_at given P ds c ≤ s + whole_of (given c)
 ends_within given P ds c s st o = by (closed_at c ds) refl
@@ -81,6 +83,7 @@ over_within given P v ds x s y o = elim (or_cases (is_before v x.ended) (gone_at
         below : (w m v : ℕ) → w < v → min w m < v
         below w m v l = omega arith
 
+-- a bridge that is over covers nothing more
 over_covers : (given : ℕ → Given) (P v : ℕ) (ds : List Done) (x : Bridge) → Standing (λ c. whole_of (given c)) P ds →
     IsSoundBridge (λ c. whole_of (given c)) P ds x →
     over_by (λ c. whole_of (given c)) (v + 1) ds x ≡ true → nat_lt v (to_of (span_of given P ds x)) ≡ false
@@ -88,14 +91,17 @@ over_covers given P v ds x s y o = let l = over_within given P (v + 1) ds x s y 
 
 -- ---- bridges begin one after another
 
+-- each begins no earlier than the one before it
 abbrev pub FromsRise : List Bridge → Type 0
 FromsRise [] = Unit {0}
 FromsRise (x ∷ xs) = AllByRecursion (λ y. x.from ≤ y.from) xs × FromsRise xs
 
+-- no stamp is below the first
 pub from_above : (t : ℕ) (ds : List Done) → RisesFrom t ds → AllByRecursion (λ d. t ≤ d.order.stamp) ds
 from_above t [] h = tt
 from_above t (d ∷ ds) h = (h.0, each_weaker (λ e. d.order.stamp ≤ e.order.stamp) _ ds (λ e k. let l = h.0 in omega arith) (from_above d.order.stamp ds h.1))
 
+-- bridges begin in the order of their stamps
 pub bridges_rise : (t : ℕ) (ds : List Done) → RisesFrom t ds → FromsRise (bridges ds)
 bridges_rise t [] h = tt
 bridges_rise t (d ∷ ds) h =
@@ -112,6 +118,7 @@ bridges_rise t (d ∷ ds) h =
 
 -- ---- where a bridge starts, none covers the period before
 
+-- one of which the test holds
 any_each : (P : Bridge → Type 0) (q : Bridge → Bool) (xs : List Bridge) → list_any q xs ≡ true → AllByRecursion P xs → (y : Bridge) × (q y ≡ true) × P y
 any_each P q [] e h = cc
 any_each P q (x ∷ xs) e h = elim (or_cases (q x) (list_any q xs) e) [ inl f ↦ (x, f, h.0) | inr f ↦ any_each P q xs f h.1 ]
@@ -125,6 +132,7 @@ past true true w h = h refl
 past true false w h = refl
 past false f w h = refl
 
+-- **Where a bridge begins, none of its calls covers the period before.**
 pub apart_covers : (given : ℕ → Given) (P v c : ℕ) (ds : List Done) (xs : List Bridge) → Standing (λ c. whole_of (given c)) P ds →
     NeverOverlap (λ c. whole_of (given c)) ds xs → FromsRise xs →
     AllByRecursion (IsSoundBridge (λ c. whole_of (given c)) P ds) xs → list_any (λ y. joins c y && y.from == v + 1) xs ≡ true →
@@ -156,8 +164,10 @@ apart_covers given P v c ds (x ∷ xs) s n f h e = elim (cases_Bool (joins c x &
 
 -- ---- periods
 
+-- whether a bridge of the call begins at period t of the run
 abbrev pub begins : Run → ℕ → ℕ → Bool
 begins r c t = list_any (λ x. is_of c x && x.from == t) (spans_in r)
 
+-- by the bridges of the whole run
 pub begins_is : (r : Run) (c t : ℕ) → begins r c t ≡ list_any (λ x. joins c x && x.from == t) (bridges (done_in r))
 begins_is r c t = any_map (λ x. is_of c x && x.from == t) (span_of (given_in r) r.periods (done_in r)) (bridges (done_in r))

@@ -39,6 +39,7 @@ parted n t (o ∷ os) h = by (nat_lt o.stamp n) refl (parted n o.stamp os h.1)
         let l : n ≤ o.stamp = ltb-false o.stamp n e in
         ap (λ xs. xs ++ o ∷ left_of n os) (none_left n o.stamp os l h.1) ∙ ap (λ xs. o ∷ xs) (all_stay n o.stamp os l h.1)
 
+-- the others have stamps from n on
 left_ahead : (n t : ℕ) (os : List Order) → t ≤ n → IfSome (first_stamp (left_of n os)) (λ s. t ≤ s)
 left_ahead n t [] l = tt
 left_ahead n t (o ∷ os) l = by (nat_lt o.stamp n) refl (left_ahead n t os l)
@@ -48,6 +49,7 @@ left_ahead n t (o ∷ os) l = by (nat_lt o.stamp n) refl (left_ahead n t os l)
     by true e rest = rest
     by false e rest = let k = ltb-false o.stamp n e in omega arith
 
+-- so none comes to u
 none_to : (u : ℕ) (os : List Order) → NoOrderTo u (left_of (suc u) os)
 none_to u os = by (left_of (suc u) os) (left_ahead (suc u) (suc u) os (omega arith))
   where
@@ -109,19 +111,23 @@ opened_then r u c s a l o su = elim (opened_cases ds rest c s (sym (ap (opened_a
 
 -- ---- what is known in a period before the earlier end
 
+-- the uplink is the same
 ups_same : (r : Run) (p c n : ℕ) → ups_to (cut_at p r) c n ≡ ups_to r c n
 ups_same r p c zero = refl
 ups_same r p c (suc k) = ap (λ ups. up_in r c k ∷ ups) (ups_same r p c k)
 
+-- so is whether a call has a period before the earlier end
 has_same : (r : Run) (p u : ℕ) (ds : List Done) (c : ℕ) → u < p → p ≤ r.periods → has_period (cut_at p r) ds u c ≡ has_period r ds u c
 has_same r p u ds c l m =
     ap (λ b. is_none (closed_at c ds) && nat_lt u (start_of ds c + whole_in r c) && b) (lt-ltb u p l ∙ sym (lt-ltb u r.periods (omega arith)))
 
+-- its bridge
 bridge_same : (r : Run) (p u : ℕ) (ds : List Done) (c : ℕ) → u < p → p ≤ r.periods → bridge_now (cut_at p r) ds u c ≡ bridge_now r ds u c
 bridge_same r p u ds c l m = find_same _ _ (bridges ds) (each_all _ (bridges ds) (λ x.
     ap (λ h. joins c x && is_none x.ended && h && has_period (cut_at p r) ds u x.b) (has_same r p u ds x.a l m)
     ∙ ap (λ h. joins c x && is_none x.ended && has_period r ds u x.a && h) (has_same r p u ds x.b l m)))
 
+-- what is handed over
 handed_same : (r : Run) (p u : ℕ) (ds : List Done) (c : ℕ) → u < p → p ≤ r.periods → handed_now (cut_at p r) ds u c ≡ handed_now r ds u c
 handed_same r p u ds c l m =
     ap (option_map (λ x. let d = other c x in item_of d (ups_to (cut_at p r) d (u + 1 - start_of ds d)))) (bridge_same r p u ds c l m)
@@ -133,6 +139,7 @@ handed_same r p u ds c l m =
     by None = refl
     by (Some x) = ap (λ ups. Some (item_of (other c x) ups)) (ups_same r p (other c x) (u + 1 - start_of ds (other c x)))
 
+-- and so the period
 now_same : (r : Run) (p u : ℕ) (ds : List Done) (c : ℕ) → u < p → p ≤ r.periods → period_now (cut_at p r) ds u c ≡ period_now r ds u c
 now_same r p u ds c l m = ap {B = CallPeriod} (λ (handed : Option (List ℕ)). record {
   up = up_in r c (u - start_of ds c);
@@ -145,6 +152,7 @@ now_same r p u ds c l m = ap {B = CallPeriod} (λ (handed : Option (List ℕ)). 
 
 -- ---- the periods before the earlier end
 
+-- **So it is in the whole run.**
 period_kept : (r : Run) (p u c s : ℕ) → AreOrders r.orders → p ≤ r.periods → u < p → opened_at c (done_in (cut_at p r)) ≡ Some s → s ≤ u →
     period_of (cut_at p r) c (u - s) ≡ period_of r c (u - s)
 period_kept r p u c s a m l o su =

@@ -22,6 +22,7 @@ use Rattle.run_spec.proofs.Executing.{closed-append, added}
 use Rattle.run_spec.proofs.OpenCalls.{closed_kept, opened_kept}
 use Rattle.run_spec.proofs.Settling.{closed_stamp, at_of, ends_by}
 use Rattle.run_spec.proofs.SoFar.{Rises, left_rises, rest_in, done-rest, rest_above, standing_rest, rest_from, standing_end}
+use Rattle.run_spec.proofs.Lists.{one_value}
 
 -- **A closed call has ended there.**
 pub end_closed : (r : Run) (t : ℕ) (ds : List Done) (left : List Order) (c s e : ℕ) → IsSoFar r t ds left → closed_at c ds ≡ Some e →
@@ -60,12 +61,14 @@ end_lacks r t ds left c s so o l e n =
 
 -- ---- the run's end
 
+-- of orders from t on none is below P
 pub none_left : (P t : ℕ) (os : List Order) → P ≤ t → Rises t os → filter (λ o. nat_lt o.stamp P) os ≡ []
 none_left P t [] l h = refl
 none_left P t (o ∷ os) l h =
     ap (λ (b : Bool). if b then o ∷ filter (λ o. nat_lt o.stamp P) os else filter (λ o. nat_lt o.stamp P) os) (le-ltb o.stamp P (let k = h.0 in omega arith))
     ∙ none_left P o.stamp os (let k = h.0 in omega arith) h.1
 
+-- nor where the next one is not
 none_below : (P t : ℕ) (os : List Order) → Rises t os → IfSome (first_stamp os) (λ s. P ≤ s) → filter (λ o. nat_lt o.stamp P) os ≡ []
 none_below P t [] h n = refl
 none_below P t (o ∷ os) h n =
@@ -77,18 +80,21 @@ pub all_done : (r : Run) (t : ℕ) (ds : List Done) (left : List Order) → IsSo
 all_done r t ds left so n =
     done-rest r t ds left so ∙ ap (λ os. ds ++ added (whole_in r) ds os) (none_below r.periods 0 left (left_rises r t ds left so) n) ∙ append-nil ds
 
+-- none of those that were executed is left
 others_left : (P : ℕ) (ds : List Done) → AllByRecursion (λ d. d.order.stamp < P) ds → left_of P (map (λ d. d.order) ds) ≡ []
 others_left P [] h = refl
 others_left P (d ∷ ds) h =
     ap (λ (b : Bool). if not b then d.order ∷ left_of P (map (λ d. d.order) ds) else left_of P (map (λ d. d.order) ds)) (lt-ltb d.order.stamp P h.0)
     ∙ others_left P ds h.1
 
+-- orders from t on are all left
 pub all_stay : (P t : ℕ) (os : List Order) → P ≤ t → Rises t os → left_of P os ≡ os
 all_stay P t [] l h = refl
 all_stay P t (o ∷ os) l h =
     let k : P ≤ o.stamp = (let m = h.0 in omega arith) in
     ap (λ (b : Bool). if not b then o ∷ left_of P os else left_of P os) (le-ltb o.stamp P k) ∙ ap (λ xs. o ∷ xs) (all_stay P o.stamp os k h.1)
 
+-- so are they where the next one is
 stay : (P t : ℕ) (os : List Order) → Rises t os → IfSome (first_stamp os) (λ s. P ≤ s) → left_of P os ≡ os
 stay P t [] h n = refl
 stay P t (o ∷ os) h n =
@@ -139,9 +145,6 @@ report_end r t ds left failed so n =
     }) (all_left r t ds left so n)
 
 -- ---- where a call's lines end it, whatever orders come there
-
-one_value : (v : Option ℕ) (a b : ℕ) → v ≡ Some a → v ≡ Some b → a ≡ b
-one_value v a b e f = cc
 
 -- **The lines end a call where they lack a period, also where an order of that period closes it.**
 pub ends_there : (r : Run) (ds : List Done) (left : List Order) (c s : ℕ) → IsSoFar r (s + whole_in r c) ds left → opened_at c ds ≡ Some s →

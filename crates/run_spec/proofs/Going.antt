@@ -40,6 +40,7 @@ use Rattle.run_spec.proofs.History.{periods_history}
 
 -- ---- a period, by its settings
 
+-- **A period is worked with the settings of its start.**
 pub period_by : (r : Run) (ds : List Done) (u c : ℕ) →
     period_now r ds u c ≡ period_with (settings_in r ds u c) (up_in r c (u - start_of ds c)) (pcm_in r c (u - start_of ds c)) (handed_now r ds u c)
 period_by r ds u c = by (is_some (bridge_now r ds u c))
@@ -50,9 +51,11 @@ period_by r ds u c = by (is_some (bridge_now r ds u c))
     by true = refl
     by false = refl
 
+-- whether these settings have a bridge
 abbrev is_bridged : Settings → Bool
 is_bridged now = now.bridged
 
+-- **Something is handed over exactly in a bridge.**
 pub handed_bridged : (r : Run) (t u : ℕ) (ds : List Done) (left : List Order) (c : ℕ) → IsSoFar r t ds left → t ≤ u →
     is_some (handed_now r ds u c) ≡ is_bridged (settings_in r ds u c)
 handed_bridged r t u ds left c s l = mapped _ (bridge_now r ds u c) ∙ sym (ap is_bridged (settings_bridged r t u ds c (standing_now r t ds left s) l))
@@ -72,13 +75,16 @@ periods_more r t u ds left c s so tu up n o =
 
 -- ---- a call's opening
 
+-- a call that was opened so far is opened in the whole run
 pub opened_run : (r : Run) (t : ℕ) (ds : List Done) (left : List Order) (c s : ℕ) → IsSoFar r t ds left → opened_at c ds ≡ Some s →
     opened_at c (done_in r) ≡ Some s
 opened_run r t ds left c s so o = ap (opened_at c) (done-rest r t ds left so) ∙ opened_kept ds (rest_in r ds left) c s o
 
+-- at the same period
 pub start_run : (r : Run) (t : ℕ) (ds : List Done) (left : List Order) (c s : ℕ) → IsSoFar r t ds left → opened_at c ds ≡ Some s → start_of (done_in r) c ≡ s
 start_run r t ds left c s so o = start_is (done_in r) c s (opened_run r t ds left c s so o)
 
+-- with the same law
 pub law_run : (r : Run) (t : ℕ) (ds : List Done) (left : List Order) (c s : ℕ) → IsSoFar r t ds left → opened_at c ds ≡ Some s → law_in r c ≡ law_at c ds
 law_run r t ds left c s so o = ap (law_at c) (done-rest r t ds left so) ∙ law_stays c ds (rest_in r ds left) (ap is_some o)
 
@@ -104,11 +110,13 @@ gone_after r u ds c s l o e =
 
 -- ---- what is handed over
 
+-- what is heard depends on the uplink alone
 pub heard_ups : (ts : List CallPeriod) → heard_by (ups_of ts) ≡ heard_of ts
 unfolding sighting_after
 heard_ups [] = refl
 heard_ups (t ∷ past) = ap (λ hs. heard_as (sighting_in (yield_of t.up (ups_of past))) ∷ hs) (heard_ups past)
 
+-- the uplink of a run's periods
 pub ups_periods : (r : Run) (c n : ℕ) → ups_of (periods_to r c n) ≡ ups_to r c n
 unfolding period_of
 ups_periods r c zero = refl
@@ -178,9 +186,11 @@ partner_hands r t u ds left c s x now pcm handed so l e o =
 
 -- ---- a call that has ended
 
+-- what is reported of a call that began at s
 abbrev line_by : Run → ℕ → ℕ → CallLine
 line_by r c s = let end = end_of (given_in r) r.periods (done_in r) c s in record { end = end; from = s; counts = call_counts (periods_to r c (end.at - s)) }
 
+-- **What is reported of a call that has ended.**
 pub call_line_is : (r : Run) (t : ℕ) (ds : List Done) (left : List Order) (c s : ℕ) (end : CallEnd) → IsSoFar r t ds left → opened_at c ds ≡ Some s →
     end_of (given_in r) r.periods (done_in r) c s ≡ end →
     call_line r c ≡ record { end = end; from = s; counts = call_counts (periods_to r c (end.at - s)) }
@@ -188,6 +198,7 @@ call_line_is r t ds left c s end so o e =
     ap (line_by r c) (start_run r t ds left c s so o)
     ∙ ap (λ (end : CallEnd). record { end = end; from = s; counts = call_counts (periods_to r c (end.at - s)) }) e
 
+-- it has the periods up to its end
 pub periods_ended : (r : Run) (t : ℕ) (ds : List Done) (left : List Order) (c s : ℕ) (end : CallEnd) → IsSoFar r t ds left → opened_at c ds ≡ Some s →
     end_of (given_in r) r.periods (done_in r) c s ≡ end →
     periods_in r c ≡ periods_to r c (end.at - s)

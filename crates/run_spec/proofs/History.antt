@@ -16,11 +16,13 @@ use Rattle.run_spec.proofs.Settling.{to_of, start_is, covers}
 use Rattle.run_spec.proofs.SoFar.{run_rises, standing_end}
 use Rattle.run_spec.proofs.Covering.{bridges_rise, apart_covers, begins, begins_is}
 
+-- the span that covers a period is of the bridge that does
 span_is : (r : Run) (c t : ℕ) →
     span_at r c t ≡ option_map (span_of (given_in r) r.periods (done_in r))
     (find (λ x. covers c t (span_of (given_in r) r.periods (done_in r) x)) (bridges (done_in r)))
 span_is r c t = find_map (covers c t) (span_of (given_in r) r.periods (done_in r)) (bridges (done_in r))
 
+-- something is handed over exactly where there is one
 handed_some : (r : Run) (c t : ℕ) →
     is_some (handed_to r c t) ≡ is_some (find (λ x. covers c t (span_of (given_in r) r.periods (done_in r) x)) (bridges (done_in r)))
 handed_some r c t =
@@ -31,6 +33,7 @@ handed_some r c t =
     mapped f None = refl
     mapped f (Some x) = refl
 
+-- before a bridge begins nothing is handed over
 apart_before : (r : Run) (c v : ℕ) → AreOrders r.orders → begins r c (v + 1) ≡ true → is_some (handed_to r c v) ≡ false
 apart_before r c v a e =
     let s = standing_end r a in
@@ -66,6 +69,7 @@ begins_found r c t p x f j e = begins_is r c t ∙ true_from_ne_false _ (λ n.
     no _ (found (λ y. (joins c y && y.from == t) ≡ false) p (bridges (done_in r)) x (none_any _ (bridges (done_in r)) n) f).0
     (and_from _ _ j (eq-eqb x.from t e)))
 
+-- what is handed over begins with a bridge and goes on without a gap
 goes_on : (r : Run) (c v : ℕ) → AreOrders r.orders → is_some (handed_to r c (v + 1)) ≡ true → (begins r c (v + 1) || is_some (handed_to r c v)) ≡ true
 goes_on r c v a e =
     let x = covering r c (v + 1) a e in
@@ -113,6 +117,7 @@ starts_first r c a e =
 next : (s k : ℕ) → s + suc k ≡ (s + k) + 1
 next s k = omega arith
 
+-- **Bridges leave a period between.**
 pub periods_apart : (r : Run) (c n : ℕ) → AreOrders r.orders → LeavePeriodsBetween (down_periods (periods_to r c n))
 unfolding period_of
 periods_apart r c zero a = tt

@@ -21,6 +21,7 @@ use Rattle.run_spec.proofs.SoFar.{rest_in, done-rest, rest_from, run_rises}
 use Rattle.run_spec.proofs.Covering.{FromsRise, bridges_rise}
 use Rattle.run_spec.proofs.Sending.{IsLast, rise_front, not_at}
 
+-- bridge k of a list, with none of the call behind it
 record IsSplit (c k : ℕ) (bs : List Bridge) : Type 0 where
   front : List Bridge
   back : List Bridge
@@ -28,10 +29,12 @@ record IsSplit (c k : ℕ) (bs : List Bridge) : Type 0 where
   place : length front ≡ k
   later : AllByRecursion (λ y. joins c y ≡ false) back
 
+-- all of them, by their places
 each_from : (P : Bridge → Type 0) (bs : List Bridge) → ((j : ℕ) → j < length bs → P (get_or bs j no_bridge)) → AllByRecursion P bs
 each_from P [] h = tt
 each_from P (x ∷ bs) h = (h 0 (omega arith), each_from P bs (λ j l. h (suc j) (omega arith)))
 
+-- where none of the call stands behind place k
 split : (c k : ℕ) (bs : List Bridge) → k < length bs → ((j : ℕ) → k < j → j < length bs → joins c (get_or bs j no_bridge) ≡ false) → IsSplit c k bs
 split c k [] l h = absurd (omega arith)
 split c zero (x ∷ bs) l h = record { front = []; back = bs; all = refl; place = refl; later = each_from _ bs (λ j m. h (suc j) (omega arith) (omega arith)) }
@@ -39,9 +42,11 @@ split c (suc k) (x ∷ bs) l h =
     let s = split c k bs (omega arith) (λ j m n. h (suc j) (omega arith) (omega arith)) in
     record { front = x ∷ s.front; back = s.back; all = ap (λ xs. x ∷ xs) s.all; place = ap suc s.place; later = s.later }
 
+-- so it is with the latest one
 latest_split : (c k : ℕ) (bs : List Bridge) → IsLatest bs c (Some k) → IsSplit c k bs
 latest_split c k bs l = split c k bs l.0 l.2
 
+-- **In the whole run it is the last that began up to t.**
 pub is_last : (r : Run) (t : ℕ) (ds : List Done) (left : List Order) (c k : ℕ) → IsSoFar r t ds left → IsLatest (bridges ds) c (Some k) →
     IsLast r c t k (after_all (rest_in r ds left) (get_or (bridges ds) k no_bridge))
 is_last r t ds left c k so l =
@@ -73,11 +78,13 @@ is_last r t ds left c k so l =
 
 -- ---- whether it starts now
 
+-- the first ones rise too
 froms_front : (later : List Done) (xs ys : List Bridge) → FromsRise (map (after_all later) xs ++ ys) → FromsRise xs
 froms_front later [] ys h = tt
 froms_front later (x ∷ xs) ys h =
     (each_mapped (λ y. x.from ≤ y.from) (after_all later) xs (each_front _ (map (after_all later) xs) ys h.0), froms_front later xs ys h.1)
 
+-- **It starts at t exactly where the call has a bridge that does.**
 pub starts_now : (r : Run) (t : ℕ) (ds : List Done) (left : List Order) (c k : ℕ) → IsSoFar r t ds left → IsLatest (bridges ds) c (Some k) →
     (get_or (bridges ds) k no_bridge).from ≤ t →
     list_any (λ x. joins c x && x.from == t) (bridges ds) ≡ ((get_or (bridges ds) k no_bridge).from == t)
@@ -111,10 +118,12 @@ starts_now r t ds left c k so l ft =
 
 -- ---- its span
 
+-- what stands at its place
 get_at : (f : Bridge → Span) (front : List Bridge) (z : Bridge) (back : List Bridge) (d : Span) → get_or (map f (front ++ z ∷ back)) (length front) d ≡ f z
 get_at f [] z back d = refl
 get_at f (x ∷ front) z back d = get_at f front z back d
 
+-- its span
 pub span_last : (r : Run) (c t k : ℕ) (z : Bridge) (d : Span) → IsLast r c t k z → get_or (spans_in r) k d ≡ span_of (given_in r) r.periods (done_in r) z
 span_last r c t k z d l =
     ap (λ bs. get_or (map (span_of (given_in r) r.periods (done_in r)) bs) k d) l.all

@@ -1,13 +1,18 @@
 -- Lists, element by element.
-use Rattle.std.proofs.Common.{◌≡◌, refl, sym, ap, ◌∙◌, Bool, true, false, Option, Some, None, List, [], ◌∷◌, ◌++◌, map, inl, inr}
+use Rattle.std.proofs.Common.{◌≡◌, refl, sym, ap, ◌∙◌, ℕ, Bool, true, false, Option, Some, None, List, [], ◌∷◌, ◌++◌, map, inl, inr}
 use Rattle.std.specs.Prelude.{◌&&◌, ◌||◌, if◌then◌else◌, find, option_map, filter}
 use Rattle.std.specs.List.{list_any, AllByRecursion}
 use Rattle.std.proofs.lemmas.Bool.{cases_Bool}
+
+-- an answer has one value
+pub one_value : (v : Option ℕ) (a b : ℕ) → v ≡ Some a → v ≡ Some b → a ≡ b
+one_value v a b e f = cc
 
 -- a test has one answer
 pub no : (t : Bool) → t ≡ false → t ≡ true → ⊥
 no t p q = cc
 
+-- two tests, one after the other
 both : (t : Bool) → t ≡ false → t ≡ true → ⊥
 both t p q = cc
 
@@ -63,6 +68,7 @@ each_all P (x ∷ xs) f = (f x, each_all P xs f)
 
 -- ---- the first that passes
 
+-- one step of it
 found_same : {X : Type 0} (s t : Bool) (x : X) (o p : Option X) → s ≡ t → o ≡ p → (if s then Some x else o) ≡ (if t then Some x else p)
 found_same s t x o p e f = cc
 
@@ -139,6 +145,7 @@ none_any p (x ∷ xs) e = let h = by (p x) (list_any p xs) e in (h.0, none_any p
 
 -- ---- at most one passes
 
+-- at most one of them passes the test
 abbrev pub AtMostOne : {X : Type 0} → (X → Bool) → List X → Type 0
 AtMostOne p [] = Unit {0}
 AtMostOne p (x ∷ xs) = (p x ≡ true → find p xs ≡ None) × AtMostOne p xs
@@ -146,6 +153,7 @@ AtMostOne p (x ∷ xs) = (p x ≡ true → find p xs ≡ None) × AtMostOne p xs
 some_none : {X : Type 0} (t : Bool) (x : X) (o : Option X) → t ≡ true → (if t then Some x else o) ≡ None → ⊥
 some_none t x o e f = cc
 
+-- one more that passes where none did
 pub one_append : {X : Type 0} (p : X → Bool) (xs : List X) (y : X) → AtMostOne p xs → (p y ≡ true → find p xs ≡ None) → AtMostOne p (xs ++ y ∷ [])
 one_append p [] y h k = (λ e. refl, tt)
 one_append p (x ∷ xs) y h k = (
@@ -157,6 +165,7 @@ one_append p (x ∷ xs) y h k = (
     rest true x o e = cc
     rest false x o e = e
 
+-- a test that fewer pass
 pub one_weaker : {X Y : Type 0} (p : X → Bool) (q : Y → Bool) (f : X → Y) (xs : List X) → AllByRecursion (λ x. q (f x) ≡ true → p x ≡ true) xs →
     AtMostOne p xs → AtMostOne q (map f xs)
 one_weaker p q f [] k h = tt
@@ -172,6 +181,7 @@ one_weaker p q f (x ∷ xs) k h = (λ e. none_weaker p q f xs k.1 (h.0 (k.0 e)),
         (each_weaker (λ x. (q (f x) ≡ true → p x ≡ true) × (p x ≡ false)) (λ x. q (f x) ≡ false) xs (λ x h. no (q (f x)) (p x) h.0 h.1)
         (each_both _ _ xs k (none_each p xs e))))
 
+-- all that pass are the one that is found
 pub one_found : {X : Type 0} (p : X → Bool) (xs : List X) (x : X) → AtMostOne p xs → find p xs ≡ Some x → AllByRecursion (λ y. p y ≡ true → y ≡ x) xs
 one_found p [] x h e = tt
 one_found p (y ∷ xs) x h e = elim (cases_Bool (p y)) [

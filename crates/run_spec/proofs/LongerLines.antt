@@ -17,7 +17,7 @@ pub length-periods_to : (r : Run) (c n : ℕ) → length (periods_to r c n) ≡ 
 length-periods_to r c zero = refl
 length-periods_to r c (suc n) = ap suc (length-periods_to r c n)
 
-length-down_line : (who : Who) (ts : List CallPeriod) → length (down_line who ts) ≡ 320 * length ts
+pub length-down_line : (who : Who) (ts : List CallPeriod) → length (down_line who ts) ≡ 320 * length ts
 length-down_line who [] = refl
 length-down_line who (t ∷ past) =
     omega (arith, length-append (down_line who past) (down_now who (t ∷ past)), length-down_line who past, length-down_now who t past)

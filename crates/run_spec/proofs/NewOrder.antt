@@ -19,6 +19,7 @@ use Rattle.run_spec.proofs.Showing.{ShownBy, closes, done}
 use Rattle.run_spec.proofs.OpenCalls.{open_facts, shut_cases, gone_is, opened_kept, either, closed_cases}
 use Rattle.run_spec.proofs.Standing.{IsSoundBridge, Standing, lasts_from}
 
+-- whether a call is open after these orders
 abbrev here : (ℕ → ℕ) → ℕ → List Done → ℕ → Bool
 here whole t ds = gone_at whole t ds
 
@@ -27,6 +28,7 @@ abbrev pub IsParted : (ℕ → ℕ) → ℕ → List Done → Result Act Refusal
 IsParted whole t ds r x =
     (c : ℕ) (p : Option ℕ) → r ≡ Ok (act.Closed c p) → joins c x ≡ true → lasts (gone_at whole t ds) ds x ≡ true → ends_bridge x.a x.b r ≡ true
 
+-- a `close` parts every bridge of its call that lasts
 pub parted : (whole : ℕ → ℕ) (t : ℕ) (ds : List Done) (r : Result Act Refusal) →
     ((c : ℕ) → AtMostOne (λ x. joins c x && lasts (gone_at whole t ds) ds x) (bridges ds)) →
     ShownBy (known_of (gone_at whole t ds) t ds) r → AllByRecursion (IsParted whole t ds r) (bridges ds)
@@ -56,21 +58,26 @@ parted whole t ds (Err f) one h = each_all _ (bridges ds) (λ x d q g. cc)
 
 -- ---- a bridge after one more order
 
+-- the stamp of the order, if it was that one
 one_stamp : (t : Bool) (d : Done) (e : ℕ) → option_map (λ d. d.order.stamp) (if t then Some d else None) ≡ Some e → e ≡ d.order.stamp
 one_stamp true d e h = cc
 one_stamp false d e h = cc
 
+-- it was not
 no_stamp : (t : Bool) (d : Done) → option_map (λ d. d.order.stamp) (if t then Some d else None) ≡ None → t ≡ false
 no_stamp true d h = cc
 no_stamp false d h = refl
 
+-- none of both
 neither : (u v : Option ℕ) → or_else u v ≡ None → (u ≡ None) × (v ≡ None)
 neither None v e = (refl, e)
 neither (Some x) v e = cc
 
+-- what has ended was over before, or the order ended it
 pub after_some : (d : Done) (x : Bridge) (e : ℕ) → (after d x).ended ≡ Some e → (x.ended ≡ Some e) ⊎ ((x.ended ≡ None) × (e ≡ d.order.stamp))
 after_some d x e h = elim (either x.ended _ e h) [ inl p ↦ inl p | inr p ↦ inr (p.0, one_stamp (ends_bridge x.a x.b d.result) d e p.1) ]
 
+-- what goes on was not over, and the order did not end it
 pub after_none : (d : Done) (x : Bridge) → (after d x).ended ≡ None → (x.ended ≡ None) × (ends_bridge x.a x.b d.result ≡ false)
 after_none d x h = let p = neither x.ended _ h in (p.0, no_stamp (ends_bridge x.a x.b d.result) d p.1)
 
@@ -89,6 +96,7 @@ other_gone whole t u ds q m start_q start_m s l oq om shut open_q shut_m =
       | inr g ↦ ltb-true (start_m + whole m) u (sym (gone_is whole u ds m start_m om) ∙ g)
     ]
 
+-- **A bridge is sound after one more order.**
 pub sound_more : (whole : ℕ → ℕ) (t : ℕ) (ds : List Done) (o : Order) (r : Result Act Refusal) → Standing whole t ds → t ≤ o.stamp →
     ShownBy (known_of (gone_at whole o.stamp ds) o.stamp ds) r →
     (x : Bridge) → IsSoundBridge whole t ds x → IsParted whole o.stamp ds r x → IsSoundBridge whole o.stamp (ds ++ done o r ∷ []) (after (done o r) x)
@@ -135,6 +143,7 @@ sound_more whole t ds o r s l h x y cut = record {
 
 -- ---- a new bridge
 
+-- **And so is one that the order makes.**
 pub sound_new : (whole : ℕ → ℕ) (t : ℕ) (ds : List Done) (o : Order) (r : Result Act Refusal) → Standing whole t ds → t ≤ o.stamp →
     ShownBy (known_of (gone_at whole o.stamp ds) o.stamp ds) r →
     AllByRecursion (IsSoundBridge whole o.stamp (ds ++ done o r ∷ [])) (bridge_by o.stamp r [])

@@ -26,10 +26,12 @@ use Rattle.run_spec.proofs.NewOrder.{after_none}
 
 -- ---- levels and modes
 
+-- one more order sets the level last
 pub level-more : (c : ℕ) (v : ℤ) (ds : List Done) (d : Done) → level_after c v (ds ++ d ∷ []) ≡ level_by c d.result (level_after c v ds)
 level-more c v [] d = refl
 level-more c v (e ∷ ds) d = level-more c (level_by c e.result v) ds d
 
+-- and the mode
 pub mode-more : (c : ℕ) (m : DtxMode) (ds : List Done) (d : Done) → mode_after c m (ds ++ d ∷ []) ≡ mode_by c d.result (mode_after c m ds)
 mode-more c m [] d = refl
 mode-more c m (e ∷ ds) d = mode-more c (mode_by c e.result m) ds d
@@ -55,6 +57,7 @@ first_none : (u v : Option ℕ) → or_else u v ≡ None → u ≡ None
 first_none None v e = refl
 first_none (Some x) v e = cc
 
+-- orders before the opening set nothing
 pub unset : (whole : ℕ → ℕ) (c : ℕ) (ds later : List Done) (v : ℤ) (m : DtxMode) → AreReplies whole ds later → opened_at c (ds ++ later) ≡ None →
     (level_after c v later ≡ v) × (mode_after c m later ≡ m)
 unset whole c ds [] v m h n = (refl, refl)
@@ -69,6 +72,7 @@ unset whole c ds (d ∷ later) v m h n =
 
 -- ---- where a bridge starts
 
+-- one more order may make a bridge that starts
 pub starts-more : (c t : ℕ) (ds : List Done) (d : Done) →
     list_any (λ x. joins c x && x.from == t) (bridges (ds ++ d ∷ []))
     ≡ (list_any (λ x. joins c x && x.from == t) (bridges ds) || list_any (λ x. joins c x && x.from == t) (bridge_by d.order.stamp d.result []))
@@ -84,6 +88,7 @@ starts-more c t ds d =
 abbrev pub lasts_more : (ℕ → ℕ) → ℕ → List Done → Done → Bridge → Bool
 lasts_more whole t ds d x = lasts (gone_at whole t (ds ++ d ∷ [])) (ds ++ d ∷ []) (after d x)
 
+-- one more order that neither opens nor closes the call
 pub open_more : (whole : ℕ → ℕ) (t : ℕ) (ds : List Done) (d : Done) (c s : ℕ) → opened_at c ds ≡ Some s →
     is_open (gone_at whole t (ds ++ d ∷ [])) (ds ++ d ∷ []) c ≡ (is_open (gone_at whole t ds) ds c && is_none (closed_at c (d ∷ [])))
 open_more whole t ds d c s o =
@@ -150,11 +155,13 @@ bridged_old whole t ds d c h =
     ∙ find_map test (after d) (bridges ds))
     ∙ some_mapped (after d) _
 
+-- an order that leaves its bridges leaves it bridged
 pub bridged_kept : (whole : ℕ → ℕ) (t : ℕ) (ds : List Done) (d : Done) (c : ℕ) → AllByRecursion (λ x. joins c x ≡ false) (bridge_by d.order.stamp d.result []) →
     AllByRecursion (λ x. (joins c x && lasts_more whole t ds d x) ≡ (joins c x && lasts (gone_at whole t ds) ds x)) (bridges ds) →
     bridged_more whole t ds d c ≡ is_some (bridge_of (gone_at whole t ds) ds c)
 bridged_kept whole t ds d c h k = bridged_old whole t ds d c h ∙ ap is_some (find_same _ _ (bridges ds) k)
 
+-- one that ends them takes it off
 pub bridged_off : (whole : ℕ → ℕ) (t : ℕ) (ds : List Done) (d : Done) (c : ℕ) → AllByRecursion (λ x. joins c x ≡ false) (bridge_by d.order.stamp d.result []) →
     AllByRecursion (λ x. (joins c x && lasts_more whole t ds d x) ≡ false) (bridges ds) → bridged_more whole t ds d c ≡ false
 bridged_off whole t ds d c h k = bridged_old whole t ds d c h ∙ ap is_some (find_none _ (bridges ds) k)

@@ -123,12 +123,14 @@ round_period r t (suc k) ds left c so l =
 
 -- ---- the bridge in a period of the round
 
+-- without a bridge none comes in the round
 pub bridge_none : (r : Run) (t k : ℕ) (ds : List Done) (left : List Order) (c : ℕ) → IsSoFar r t ds left → t ≤ k →
     bridge_of (gone_at (whole_in r) t ds) ds c ≡ None → bridge_now r ds k c ≡ None
 bridge_none r t k ds left c so l e =
     bridge_later r t t k ds c (standing_now r t ds left so) (omega arith) l
     ∙ ap (λ (o : Option Bridge). elim o [ None ↦ None | Some x ↦ if has_period r ds k x.a && has_period r ds k x.b then Some x else None ]) e
 
+-- in a period that both have it is the same one
 pub bridge_here : (r : Run) (t k : ℕ) (ds : List Done) (left : List Order) (c : ℕ) (x : Bridge) → IsSoFar r t ds left → t ≤ k →
     bridge_of (gone_at (whole_in r) t ds) ds c ≡ Some x → has_period r ds k c ≡ true →
     bridge_now r ds k c ≡ (if has_period r ds k (other c x) then Some x else None)
@@ -143,6 +145,7 @@ bridge_here r t k ds left c x so l e h =
         (and_parts (joins c x) (lasts (gone_at (whole_in r) t ds) ds x)
         (found (IsSoundBridge (whole_in r) t ds) (λ y. joins c y && lasts (gone_at (whole_in r) t ds) ds y) (bridges ds) x s.sound e).1).0
 
+-- and the partner has it too
 pub bridge_both : (r : Run) (t : ℕ) (ds : List Done) (left : List Order) (c : ℕ) (x : Bridge) → IsSoFar r t ds left →
     bridge_of (gone_at (whole_in r) t ds) ds c ≡ Some x →
     bridge_of (gone_at (whole_in r) t ds) ds (other c x) ≡ Some x

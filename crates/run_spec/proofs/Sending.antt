@@ -35,11 +35,13 @@ pub record IsLast (r : Run) (c t k : ℕ) (z : Bridge) : Type 0 where
   pub joined : joins c z ≡ true
   pub later : AllByRecursion (λ y. joins c y ≡ true → t ≤ y.from) back
 
+-- the first bridges do not overlap
 pub overlap_front : (whole : ℕ → ℕ) (ds : List Done) (front : List Bridge) (z : Bridge) (back : List Bridge) → NeverOverlap whole ds (front ++ z ∷ back) →
     AllByRecursion (λ x. (c : ℕ) → joins c x ≡ true → joins c z ≡ true → over_by whole z.from ds x ≡ true) front
 overlap_front whole ds [] z back h = tt
 overlap_front whole ds (x ∷ front) z back h = ((each_back _ front (z ∷ back) h.0).0, overlap_front whole ds front z back h.1)
 
+-- and rise
 pub rise_front : (front : List Bridge) (z : Bridge) (back : List Bridge) → FromsRise (front ++ z ∷ back) → AllByRecursion (λ x. x.from ≤ z.from) front
 rise_front [] z back h = tt
 rise_front (x ∷ front) z back h = ((each_back _ front (z ∷ back) h.0).0, rise_front front z back h.1)
@@ -73,6 +75,7 @@ covers_last r c t k v z a l low high e =
         ≡ true → x.from ≤ v → v < to_of (span_of (given_in r) r.periods (done_in r) x) → v < to_of (span_of (given_in r) r.periods (done_in r) z)) l.back
     backs = each_weaker (λ y. joins c y ≡ true → t ≤ y.from) _ l.back (λ y h j f m. let w : t ≤ y.from = h j in absurd (omega arith)) l.later
 
+-- no bridge of the call begins between
 pub not_at : (j : Bool) (f v : ℕ) → (j ≡ true → f ≡ v → ⊥) → (j && f == v) ≡ false
 not_at true f v h = ne_eqb f v (h refl)
 not_at false f v h = refl
@@ -183,6 +186,7 @@ begun_same (t ∷ past) = by t.starts (begun_same past)
     by true e = ap suc e
     by false e = e
 
+-- **As many are sent as the leg tells.**
 pub sent_told : (r : Run) (c t k s : ℕ) (z : Bridge) (now : Settings) → AreOrders r.orders → IsLast r c t k z → start_of (done_in r) c ≡ s → s ≤ z.from →
     z.from ≤ t → now.starts ≡ (z.from == t) →
     sent_now (periods_to r c (t - s)) now ≡ sent_in (z.from - s) (to_of (span_of (given_in r) r.periods (done_in r) z) - s) (periods_to r c (t - s))

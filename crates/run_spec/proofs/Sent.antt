@@ -219,6 +219,7 @@ sent_within r x c =
     below : (n f t s : ℕ) → n ≤ (t - s) - (f - s) → n ≤ t - f
     below n f t s m = omega arith
 
+-- **What is handed over is sent or lost.**
 pub sent_or_lost : (r : Run) (x : Span) →
     ((span_line r x).sent_a + (span_line r x).lost_a ≡ x.to - x.from) × ((span_line r x).sent_b + (span_line r x).lost_b ≡ x.to - x.from)
 sent_or_lost r x = (rest (sent_by r x x.b) (x.to - x.from) (sent_within r x x.b), rest (sent_by r x x.a) (x.to - x.from) (sent_within r x x.a))

@@ -59,6 +59,7 @@ other_start whole t ds later c x y = by (c == x.a)
     by true = start_kept ds later x.b y.start_b y.opened_b
     by false = start_kept ds later x.a y.start_a y.opened_a
 
+-- what is handed over is settled
 pub handed_settled : (r : Run) (t u : ℕ) (ds : List Done) (left : List Order) (c : ℕ) → IsSoFar r t ds left → t ≤ u → u < r.periods → NoOrderTo u left →
     handed_to r c u ≡ handed_now r ds u c
 handed_settled r t u ds left c s tu up n =
@@ -79,6 +80,7 @@ handed_settled r t u ds left c s tu up n =
 
 -- ---- the period
 
+-- periods are the same by their parts
 pub same_period : (up up' pcm pcm' : List ℕ) (level level' : ℤ) (mode mode' : DtxMode) (starts starts' : Bool) (handed handed' : Option (List ℕ)) →
     up ≡ up' → pcm ≡ pcm' → level ≡ level' → mode ≡ mode' → starts ≡ starts' → handed ≡ handed' →
     ◌≡◌ {A = CallPeriod} (record { up = up; pcm = pcm; level = level; mode = mode; starts = starts; handed = handed })

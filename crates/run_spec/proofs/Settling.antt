@@ -22,6 +22,7 @@ use Rattle.run_spec.proofs.OpenCalls.{opened_kept}
 
 -- ---- stamps
 
+-- what holds of all stamps holds of that which is found
 pub found_stamp : (Q : ℕ → Type 0) (p : Done → Bool) (ds : List Done) → AllByRecursion (λ d. Q d.order.stamp) ds →
     IfSome (option_map (λ d. d.order.stamp) (find p ds)) Q
 found_stamp Q p [] h = tt
@@ -32,9 +33,11 @@ found_stamp Q p (d ∷ ds) h = by Q d (p d) (find p ds) h.0 (found_stamp Q p ds 
     by Q d true o h k = h
     by Q d false o h k = k
 
+-- so of that of a close
 pub closed_stamp : (Q : ℕ → Type 0) (c : ℕ) (ds : List Done) → AllByRecursion (λ d. Q d.order.stamp) ds → IfSome (closed_at c ds) Q
 closed_stamp Q c ds h = found_stamp Q _ ds h
 
+-- and of the starts of bridges
 pub bridge_stamps : (Q : ℕ → Type 0) (ds : List Done) → AllByRecursion (λ d. Q d.order.stamp) ds → AllByRecursion (λ x. Q x.from) (bridges ds)
 bridge_stamps Q [] h = tt
 bridge_stamps Q (d ∷ ds) h = each_append _ (bridge_by d.order.stamp d.result ds) (bridges ds) (one Q d.order.stamp d.result ds h.0) (bridge_stamps Q ds h.1)
@@ -50,12 +53,15 @@ bridge_stamps Q (d ∷ ds) h = each_append _ (bridge_by d.order.stamp d.result d
 
 -- ---- ends
 
+-- where a call ends
 abbrev pub at_of : CallEnd → ℕ
 at_of e = e.at
 
+-- a call begins where it was opened
 pub start_is : (ds : List Done) (c s : ℕ) → opened_at c ds ≡ Some s → start_of ds c ≡ s
 start_is ds c s e = ap (λ o. unwrap_or o 0) e
 
+-- it ends where it was closed, or where its lines or the run end it
 pub ends_by : (given : ℕ → Given) (P : ℕ) (ds : List Done) (c s : ℕ) (o : Option ℕ) → opened_at c ds ≡ Some s → closed_at c ds ≡ o →
     ends_at given P ds c ≡ at_of (end_by given P c s o)
 ends_by given P ds c s o e f =
@@ -122,6 +128,7 @@ ends_has given P t u ds later c s sd tu sa up late o = by (closed_at c ds) (clos
 
 -- ---- spans
 
+-- where a span ends
 abbrev pub to_of : Span → ℕ
 to_of x = x.to
 
@@ -182,9 +189,11 @@ covers_same : (j f w n a b : Bool) → f ≡ true → w ≡ (n && a && b) → (j
 covers_same true f w n a b e g = ap (λ f. f && w) e ∙ g
 covers_same false f w n a b e g = refl
 
+-- whether a span of the call covers period u
 abbrev pub covers : ℕ → ℕ → Span → Bool
 covers c u x = (c == x.a || c == x.b) && nat_le x.from u && nat_lt u x.to
 
+-- whether a bridge of the call lasts in period u
 abbrev pub joined_now : (ℕ → ℕ) → ℕ → List Done → ℕ → ℕ → Bridge → Bool
 joined_now whole P ds u c x = joins c x && is_none x.ended && has whole P ds u x.a && has whole P ds u x.b
 

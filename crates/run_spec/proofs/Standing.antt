@@ -24,6 +24,7 @@ pub record IsSoundBridge (whole : ℕ → ℕ) (t : ℕ) (ds : List Done) (x : B
   pub shut_a : (e : ℕ) → x.ended ≡ None → closed_at x.a ds ≡ Some e → start_b + whole x.b < e
   pub shut_b : (e : ℕ) → x.ended ≡ None → closed_at x.b ds ≡ Some e → start_a + whole x.a < e
 
+-- an end, if there is one, lies before t
 abbrev pub is_before : ℕ → Option ℕ → Bool
 is_before t None = false
 is_before t (Some e) = nat_lt e t
@@ -38,6 +39,7 @@ NeverOverlap whole ds [] = Unit {0}
 NeverOverlap whole ds (x ∷ xs) =
     AllByRecursion (λ y. (c : ℕ) → joins c x ≡ true → joins c y ≡ true → over_by whole y.from ds x ≡ true) xs × NeverOverlap whole ds xs
 
+-- a call that was closed at e
 pub record IsClosed (whole : ℕ → ℕ) (t : ℕ) (ds : List Done) (c e : ℕ) : Type 0 where
   pub start : ℕ
   pub opened : opened_at c ds ≡ Some start
@@ -45,6 +47,7 @@ pub record IsClosed (whole : ℕ → ℕ) (t : ℕ) (ds : List Done) (c e : ℕ)
   pub alive : e ≤ start + whole c
   pub past : e ≤ t
 
+-- how calls and bridges stand at the clock t
 pub record Standing (whole : ℕ → ℕ) (t : ℕ) (ds : List Done) : Type 0 where
   pub sound : AllByRecursion (IsSoundBridge whole t ds) (bridges ds)
   pub apart : NeverOverlap whole ds (bridges ds)
@@ -53,6 +56,7 @@ pub record Standing (whole : ℕ → ℕ) (t : ℕ) (ds : List Done) : Type 0 wh
 
 -- ---- at most one bridge of a call lasts
 
+-- a bridge that lasts was not ended, and both of its calls are open
 pub lasts_parts : (gone : ℕ → Bool) (ds : List Done) (x : Bridge) → lasts gone ds x ≡ true →
     (x.ended ≡ None) × (is_open gone ds x.a ≡ true) × (is_open gone ds x.b ≡ true)
 lasts_parts gone ds x e =
@@ -64,10 +68,12 @@ lasts_parts gone ds x e =
     none None e = refl
     none (Some s) e = cc
 
+-- and one of which that holds lasts
 pub lasts_from : (gone : ℕ → Bool) (ds : List Done) (x : Bridge) → x.ended ≡ None → is_open gone ds x.a ≡ true → is_open gone ds x.b ≡ true →
     lasts gone ds x ≡ true
 lasts_from gone ds x e a b = cc
 
+-- what is over does not last
 over_lasts : (whole : ℕ → ℕ) (v u : ℕ) (ds : List Done) (x : Bridge) → over_by whole v ds x ≡ true → v ≤ u → lasts (gone_at whole u ds) ds x ≡ true → ⊥
 over_lasts whole v u ds x o l e =
     let p = lasts_parts (gone_at whole u ds) ds x e in
@@ -81,6 +87,7 @@ over_lasts whole v u ds x o l e =
       ]
     ]
 
+-- so of a call at most one lasts
 pub one_lasts : (whole : ℕ → ℕ) (u : ℕ) (ds : List Done) (c : ℕ) (xs : List Bridge) → NeverOverlap whole ds xs → AllByRecursion (λ x. x.from ≤ u) xs →
     AtMostOne (λ x. joins c x && lasts (gone_at whole u ds) ds x) xs
 one_lasts whole u ds c [] h k = tt
@@ -93,12 +100,14 @@ one_lasts whole u ds c (x ∷ xs) h k = (
   one_lasts whole u ds c xs h.1 k.1,
 )
 
+-- **At most one bridge of a call lasts.**
 pub standing_one : (whole : ℕ → ℕ) (t u : ℕ) (ds : List Done) (c : ℕ) → Standing whole t ds → t ≤ u →
     AtMostOne (λ x. joins c x && lasts (gone_at whole u ds) ds x) (bridges ds)
 standing_one whole t u ds c s l =
     one_lasts whole u ds c (bridges ds) s.apart
     (each_weaker (IsSoundBridge whole t ds) (λ x. x.from ≤ u) (bridges ds) (λ x f. let g = f.from in omega arith) s.sound)
 
+-- before all orders
 pub standing_none : (whole : ℕ → ℕ) → Standing whole 0 []
 standing_none whole = record { sound = tt; apart = tt; opened = λ c s e. cc; closed = λ c e f. cc }
 

@@ -14,6 +14,7 @@ use Rattle.run_spec.proofs.Standing.{IsSoundBridge, Standing, standing_one}
 use Rattle.run_spec.proofs.Bridging.{bridge_each, joins_other}
 use Rattle.run_spec.proofs.Ordering.{lasts_more, lasted, lasts_same, bridged_more, bridged_kept, bridged_off}
 
+-- a call that was not opened has no bridge
 pub none_joins : (whole : ℕ → ℕ) (u : ℕ) (ds : List Done) (c : ℕ) → Standing whole u ds → opened_at c ds ≡ None →
     AllByRecursion (λ x. joins c x ≡ false) (bridges ds)
 none_joins whole u ds c s n =
@@ -23,6 +24,7 @@ none_joins whole u ds c s n =
     differ : (d v : ℕ) → opened_at d ds ≡ Some v → (c == d) ≡ false
     differ d v e = ne_eqb c d (λ q. let f : opened_at c ds ≡ Some v = ap (λ c. opened_at c ds) q ∙ e in cc)
 
+-- what is neither open nor over was not opened
 pub unopened : (gone : ℕ → Bool) (ds : List Done) (c : ℕ) → is_open gone ds c ≡ false → has_ended gone ds c ≡ false → opened_at c ds ≡ None
 unopened gone ds c e f = by (opened_at c ds) (is_open gone ds c) e f
   where
@@ -33,6 +35,7 @@ unopened gone ds c e f = by (opened_at c ds) (is_open gone ds c) e f
 
 -- ---- an `unbridge`
 
+-- **An `unbridge` takes the bridge of both calls off.**
 pub unbridged : (whole : ℕ → ℕ) (t u : ℕ) (ds : List Done) (o : Order) (c d : ℕ) (z : Bridge) → Standing whole u ds → u ≤ t →
     bridge_of (gone_at whole t ds) ds d ≡ Some z → (c == z.a || c == z.b) ≡ true →
     bridged_more whole t ds (done o (Ok (act.Unbridged z.a z.b))) c ≡ false
@@ -49,6 +52,7 @@ unbridged whole t u ds o c d z s l e j =
     x : Done
     x = done o (Ok (act.Unbridged z.a z.b))
 
+-- and that of no other call
 pub unbridged_other : (whole : ℕ → ℕ) (t u : ℕ) (ds : List Done) (o : Order) (c a b : ℕ) → Standing whole u ds → (c == a || c == b) ≡ false →
     bridged_more whole t ds (done o (Ok (act.Unbridged a b))) c ≡ is_some (bridge_of (gone_at whole t ds) ds c)
 unbridged_other whole t u ds o c a b s n =
@@ -88,6 +92,7 @@ closed_joins whole t u ds o d p y h j e =
     shuts : (c : ℕ) → d ≡ c → closed_at c (done o (Ok (act.Closed d p)) ∷ []) ≡ None → ⊥
     shuts c e f = some (c == d) (done o (Ok (act.Closed d p))) (eq-eqb c d (sym e)) f
 
+-- **A `close` takes the bridge of its call off.**
 pub closed_itself : (whole : ℕ → ℕ) (t u : ℕ) (ds : List Done) (o : Order) (c d : ℕ) (p : Option ℕ) → Standing whole u ds → c ≡ d →
     bridged_more whole t ds (done o (Ok (act.Closed d p))) c ≡ false
 closed_itself whole t u ds o c d p s e =
@@ -96,12 +101,14 @@ closed_itself whole t u ds o c d p s e =
     let g = and_parts (joins c y) (lasts_more whole t ds (done o (Ok (act.Closed d p))) y) q in
     closed_joins whole t u ds o d p y h (subst (λ (c : ℕ). joins c y ≡ true) e g.0) g.1)) s.sound)
 
+-- the bridge of a call is its
 found_joins : (whole : ℕ → ℕ) (t u : ℕ) (ds : List Done) (d : ℕ) (z : Bridge) → Standing whole u ds → bridge_of (gone_at whole t ds) ds d ≡ Some z →
     joins d z ≡ true
 found_joins whole t u ds d z s e =
     (and_parts (joins d z) (lasts (gone_at whole t ds) ds z)
     (found (IsSoundBridge whole u ds) (λ x. joins d x && lasts (gone_at whole t ds) ds x) (bridges ds) z s.sound e).1).0
 
+-- and that of its partner
 pub closed_partner : (whole : ℕ → ℕ) (t u : ℕ) (ds : List Done) (o : Order) (d : ℕ) (p : Option ℕ) (z : Bridge) → Standing whole u ds → u ≤ t →
     bridge_of (gone_at whole t ds) ds d ≡ Some z →
     bridged_more whole t ds (done o (Ok (act.Closed d p))) (other d z) ≡ false
@@ -122,6 +129,7 @@ closed_partner whole t u ds o d p z s l e =
     c : ℕ
     c = other d z
 
+-- the two calls of a bridge
 other_is : (c d : ℕ) (z : Bridge) → joins c z ≡ true → joins d z ≡ true → c ≢ d → c ≡ other d z
 other_is c d z j k n = elim (cases_Bool (d == z.a)) [
   | inl e ↦ elim (or_cases (c == z.a) (c == z.b) j) [
@@ -134,6 +142,7 @@ other_is c d z j k n = elim (cases_Bool (d == z.a)) [
   ]
 ]
 
+-- and that of no other call
 pub closed_other : (whole : ℕ → ℕ) (t u : ℕ) (ds : List Done) (o : Order) (c d : ℕ) (p : Option ℕ) → Standing whole u ds → u ≤ t →
     p ≡ option_map (other d) (bridge_of (gone_at whole t ds) ds d) →
     (c == d) ≡ false → is_this c p ≡ false → bridged_more whole t ds (done o (Ok (act.Closed d p))) c ≡ is_some (bridge_of (gone_at whole t ds) ds c)
