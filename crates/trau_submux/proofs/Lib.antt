@@ -10,6 +10,6 @@ pub mod Parts
 pub mod Reading
 pub mod Splitting
 pub mod Taking
-mod Lanes
+mod Lanewise
 pub mod Vectors
 pub mod Writing
