@@ -1,5 +1,5 @@
 -- Why the commands end as they do, and what they leave where nothing fails.
-use Rattle.std.proofs.Common.{◌≡◌, inl, inr, ⊎_elim, ◌⊎◌, ℕ, ◌+◌, ◌*◌, ◌-◌, ◌%◌, ◌^◌, ◌<◌, ◌≤◌, List, [], ◌++◌, length, take, drop, Some, Ok, refl, sym, ◌∙◌, ap, subst, arith, length-append}
+use Rattle.std.proofs.Common.{◌≡◌, inl, inr, ⊎_elim, ◌⊎◌, ℕ, ◌+◌, ◌%◌, ◌<◌, ◌≤◌, List, [], ◌++◌, length, take, drop, Some, Ok, sym, ◌∙◌, ap, arith}
 use Rattle.std.proofs.lemmas.List.{append-nil, append_cancel_left, take_at, take_all, take-append-drop}
 use Rattle.std.proofs.Math.Seq.{drop-append_seam}
 use Rattle.trau_io.specs.declared.line.Line.{Line}

@@ -1,5 +1,5 @@
 -- Four lines, read one behind the other.
-use Rattle.std.proofs.Common.{◌≡◌, inl, inr, ℕ, ◌+◌, ◌<◌, ◌≤◌, List, [], length, set, get_or, Result, Ok, Err, refl, sym, ◌∙◌, ap, subst, arith, length-set}
+use Rattle.std.proofs.Common.{◌≡◌, inl, inr, ℕ, ◌+◌, ◌<◌, ◌≤◌, List, [], length, set, get_or, refl, sym, ◌∙◌, subst, arith, length-set}
 use Rattle.std.proofs.lemmas.Bool.{cases_eq}
 use Rattle.std.proofs.lemmas.List.{get_or-set_same, get_or-set_other, take_all}
 use Rattle.trau_io.specs.declared.line.Side.{Side}
@@ -8,7 +8,7 @@ use Rattle.trau_io.specs.declared.transfer.Filled.TheVariants.{Whole, Ended}
 use Rattle.trau_io.specs.Lines.{LineState, OthersStay}
 use Rattle.trau_io.specs.Transfer.{ReadsBlock}
 use Rattle.trau_submux.specs.Lines.{AllButFour, Gives, channel_lines}
-use Rattle.trau_submux.specs.Merges.{FailsAt, FailsInside, GivesBlock, ReadsFour}
+use Rattle.trau_submux.specs.Merges.{FailsAt, FailsInside, GivesBlock}
 
 -- the first `n` of the four lines have given a block
 pub record ReadSoFar (before now : ℕ → Side → LineState) (call : ℕ) (blocks : List (List ℕ)) (counts : List ℕ) (n : ℕ) : Type 0 where

@@ -1,5 +1,5 @@
 -- A slot, one block after another.
-use Rattle.std.proofs.Common.{◌≡◌, inl, inr, ℕ, ◌+◌, ◌*◌, ◌/◌, ◌%◌, ◌<◌, ◌≤◌, List, [], ◌∷◌, ◌++◌, length, take, refl, sym, ◌∙◌, ap, subst, arith, length-append}
+use Rattle.std.proofs.Common.{◌≡◌, inl, inr, ℕ, ◌+◌, ◌*◌, ◌/◌, ◌%◌, ◌<◌, List, [], ◌∷◌, ◌++◌, length, take, refl, sym, ◌∙◌, ap, subst, arith, length-append}
 use Rattle.std.specs.Io.KnownBytes.{Appends}
 use Rattle.std.proofs.KnownBytes.{Appends-nil, Appends-trans, Consumes-nil, Consumes-trans}
 use Rattle.std.proofs.lemmas.List.{append-nil}
@@ -9,9 +9,8 @@ use Rattle.trau_io.specs.Lines.{LineState, Rose}
 use Rattle.trau_submux.specs.declared.cut.BlockEnd.TheVariants as block
 use Rattle.trau_submux.specs.declared.cut.SplitEnd.TheVariants.{Done, LineFailed}
 use Rattle.trau_submux.specs.Channels.{channel}
-use Rattle.trau_submux.specs.Lines.{Gains, GainsFront, Gives, most_octets}
+use Rattle.trau_submux.specs.Lines.{Gains, Gives}
 use Rattle.trau_submux.specs.Splits.{BlockEndsAs, GainChannels, Splits, SplitsBlock, whole_groups}
-use Rattle.trau_submux.specs.Writing.{FailsAt}
 use Rattle.trau_submux.proofs.Channels.{length-channel}
 use Rattle.trau_submux.proofs.Groups.{channel-append, groups-append, groups-whole, length-groups}
 

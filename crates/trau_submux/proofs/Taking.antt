@@ -7,7 +7,7 @@ use Rattle.trau_io.specs.declared.line.Side.TheVariants.{Up, Out}
 use Rattle.trau_io.specs.Lines.{LineState, OthersStay}
 use Rattle.trau_io.specs.Transfer.{WritesAll}
 use Rattle.trau_submux.specs.Channels.{IsMerged, subchannel}
-use Rattle.trau_submux.specs.Lines.{AllButFive, AllButFour, Gains, GainsFront, Gives, channel_lines}
+use Rattle.trau_submux.specs.Lines.{AllButFive, AllButFour, Gains, GainsFront, channel_lines}
 use Rattle.trau_submux.specs.Merges.{GivesBlock, GivesPart, Takes}
 use Rattle.trau_submux.proofs.Merged.{merged-take}
 

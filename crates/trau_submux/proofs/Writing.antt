@@ -7,7 +7,7 @@ use Rattle.trau_io.specs.declared.line.Line.{Line}
 use Rattle.trau_io.specs.Lines.{LineState, OthersStay}
 use Rattle.trau_io.specs.Transfer.{WritesAll}
 use Rattle.trau_submux.specs.Lines.{AllButFour, Gains, GainsFront, channel_lines}
-use Rattle.trau_submux.specs.Writing.{FailsAt, WritesFour}
+use Rattle.trau_submux.specs.Writing.{WritesFour}
 
 -- the first `n` of the four lines have gained their octets
 pub record WrittenSoFar (before now : ℕ → Side → LineState) (call : ℕ) (sent : ℕ → List ℕ) (n : ℕ) : Type 0 where

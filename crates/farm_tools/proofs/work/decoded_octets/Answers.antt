@@ -1,4 +1,4 @@
-use Rattle.std.proofs.Common.{◌≡◌, ◌∷◌, ◌∙◌, ap, map, subst}
+use Rattle.std.proofs.Common.{◌∷◌, ◌∙◌, ap, map, subst}
 use Rattle.trau_alaw.specs.Alaw.{alaw}
 use Rattle.trau_alaw.specs.Companding.{octet_of}
 use Rattle.fr_decoder.specs.Decoded.{samples_of}

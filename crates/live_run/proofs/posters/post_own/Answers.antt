@@ -1,4 +1,4 @@
-use Rattle.std.proofs.Common.{◌≡◌, ◌≢◌, ◌%◌, ◌+◌, sym, ◌∙◌, arith}
+use Rattle.std.proofs.Common.{◌+◌, sym, ◌∙◌, arith}
 use Rattle.farm_live.specs.Live.{view_of}
 use Rattle.std.specs.Prelude.{slice_index_or}
 use Rattle.live_run.specs.Posts.{IsDrawn}

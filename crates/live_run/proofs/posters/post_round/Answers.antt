@@ -1,4 +1,4 @@
-use Rattle.std.proofs.Common.{◌≡◌, ◌<◌, arith}
+use Rattle.std.proofs.Common.{◌≡◌, arith}
 use Rattle.live_run.proofs.Behind.{round_begins, round_ends, knows_here, drawn_here, one_more}
 use Rattle.live_run.proofs.posters.post_round.Goals as goal
 

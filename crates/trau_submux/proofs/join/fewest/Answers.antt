@@ -1,4 +1,4 @@
-use Rattle.std.proofs.Common.{◌≡◌, inl, inr, ⊎_elim, ◌⊎◌, ℕ, ◌<◌, min, refl, ◌∙◌, arith}
+use Rattle.std.proofs.Common.{◌≡◌, ⊎_elim, ◌⊎◌, ℕ, min, ◌∙◌, arith}
 use Rattle.trau_submux.proofs.join.fewest.Goals as goal
 
 lesser : (a b : ℕ) → (min a b ≡ a) ⊎ (min a b ≡ b)

@@ -1,5 +1,5 @@
 use Rattle.std.proofs.Common.{refl, arith}
-use Rattle.trau_submux.proofs.Reading.{all_but_four, fails}
+use Rattle.trau_submux.proofs.Reading.{fails}
 use Rattle.trau_submux.proofs.join.read_channels.Goals as goal
 
 pub returns-in-Err-clause-four : goal.returns-in-Err-clause-four
