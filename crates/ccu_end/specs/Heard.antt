@@ -2,8 +2,9 @@
 -- history has the newest period first; the frames of one period stand in order. The bits of a history are those in which an
 -- uplink's frames are searched.
 use Rattle.std.specs.Prelude.{◌≡◌, ℕ, ◌+◌, ◌*◌, ◌≤◌, ◌<◌, List, [], ◌∷◌, ◌++◌, length, All, Option, option_to_list}
-pub use Rattle.frame_sync.specs.Periods.{ArePeriods, line_bits}
-pub use Rattle.frame_sync.specs.Stands.{last_bits}
+pub use Rattle.frame_sync.specs.Periods.{ArePeriods}
+unfoldable pub use Rattle.frame_sync.specs.Periods.{line_bits}
+unfoldable pub use Rattle.frame_sync.specs.Stands.{last_bits}
 use Rattle.trau_frame.specs.UpFrame.{UpWords}
 use Rattle.ccu_end.specs.declared.finds.Heard.{Heard}
 use Rattle.ccu_end.specs.Found.{FoundFrame, Found}
