@@ -1,5 +1,5 @@
 -- The lines of closed calls are those of the calls as a whole.
-use Rattle.std.proofs.Common.{◌≡◌, ℕ, suc, ◌+◌, ◌%◌, ◌<◌, Bool, true, false, List, [], ◌∷◌, ◌++◌, length, map, replicate, get_or, reverse, refl, sym, ap, ◌∙◌, subst, arith}
+use Rattle.std.proofs.Common.{◌≡◌, ℕ, zero, suc, ◌+◌, ◌*◌, ◌%◌, ◌<◌, ◌≤◌, Bool, true, false, List, [], ◌∷◌, ◌++◌, length, map, replicate, get_or, reverse, All, refl, sym, ap, ◌∙◌, subst, arith}
 use Rattle.std.specs.Prelude.{nat_lt, if◌then◌else◌}
 use Rattle.std.specs.List.{range_with_len, flat_map}
 use Rattle.std.proofs.lemmas.List.{length-replicate}
@@ -9,6 +9,7 @@ use Rattle.trau_bits.specs.Bits.{bits_of, octets_of}
 use Rattle.trau_bits.proofs.Octets.{length-octets_of}
 use Rattle.trau_frame.specs.UpBits.{bits_saying, up_control}
 use Rattle.trau_frame.proofs.Again.{length-frame_bits}
+use Rattle.call_spec.specs.Call.{Call}
 use Rattle.call_spec.specs.Out.{out}
 use Rattle.call_spec.specs.Down.{down}
 use Rattle.farm_report.specs.Sums.{sum_line}
@@ -24,11 +25,11 @@ use Rattle.farm_live.specs.Closing.{views_at, IsClosedBy, AreClosed}
 use Rattle.live_run.specs.Posts.{drawn_post, drawn_posts}
 use Rattle.live_run.specs.Whole.{setting, call_of_posts, ArePeriods, live_call}
 use Rattle.live_run.specs.Text.{outs_of, downs_of, live_line, closed_line}
+use Rattle.live_run.proofs.Behind.{length-drawn}
 use Rattle.live_run.proofs.Ended.{Ending, posts_are}
 
 -- ---- the octets of drawn periods
 
--- the lengths of what is drawn
 long_if : (b : Bool) (xs ys : List ℕ) (n : ℕ) → length xs ≡ n → length ys ≡ n → length (if b then xs else ys) ≡ n
 long_if true xs ys n p q = p
 long_if false xs ys n p q = q
@@ -42,22 +43,18 @@ length-saying seed call period =
 length-up : (seed call period : ℕ) → length (up_octets seed call period) ≡ 40
 unfolding up_octets
 length-up seed call period =
-    long_if (nat_lt (draw seed call (first_draw period)) 250) (octets_of (bits_saying (frame_drawn seed call period))) (replicate 40 0) 40
-    (length-saying seed call period) (length-replicate {A = ℕ} 40 0)
+    long_if (nat_lt (draw seed call (first_draw period)) 250) (octets_of (bits_saying (frame_drawn seed call period))) (replicate 40 0) 40 (length-saying seed call period) (length-replicate {A = ℕ} 40 0)
 
 length-pcm : (seed call period : ℕ) → length (pcm_octets seed call period) ≡ 160
 unfolding pcm_octets
 length-pcm seed call period =
-    long_if (is_loud period) (draws seed call (first_loud_draw period) 160) (replicate 160 213) 160
-    (length-map-range_with_len (draw seed call) (first_loud_draw period) 160) (length-replicate {A = ℕ} 160 213)
+    long_if (is_loud period) (draws seed call (first_loud_draw period) 160) (replicate 160 213) 160 (length-map-range_with_len (draw seed call) (first_loud_draw period) 160) (length-replicate {A = ℕ} 160 213)
 
--- so drawn posts are periods
 drawn_sized : (seed caller call n : ℕ) → ArePeriods (drawn_posts seed caller call n)
 unfolding drawn_posts
 drawn_sized seed caller call n = λ k d h.
     let is : get_or (map (drawn_post seed caller call) (range_with_len 0 n)) k d ≡ drawn_post seed caller call k =
-    get_or-map-range_with_len (drawn_post seed caller call) 0 n k k d (omega (arith, h, length-map-range_with_len (drawn_post seed caller call) 0 n))
-    (omega arith) in
+    get_or-map-range_with_len (drawn_post seed caller call) 0 n k k d (omega (arith, h, length-map-range_with_len (drawn_post seed caller call) 0 n)) (omega arith) in
     subst (λ (p : Post). (length p.up ≡ 40) × (length p.pcm ≡ 160)) (sym is) (length-up seed call k, length-pcm seed call k)
 
 -- the call of the drawn posts is the one of the drawn lines
@@ -74,14 +71,10 @@ drawn_call seed caller call n =
 
 -- the law, as the function of that name says it
 pub record WholeLaw : Type 0 where
-  -- the law, and the lines by it
   pub out : (call : ℕ) (es : List Entry) → ArePeriods (map (λ e. e.post) es) → IsLegal call es → outs_of es ≡ out (call_of_posts call (map (λ e. e.post) es))
-  pub down : (call : ℕ) (es : List Entry) → ArePeriods (map (λ e. e.post) es) → IsLegal call es →
-      bits_of (downs_of es) ≡ down (call_of_posts call (map (λ e. e.post) es))
+  pub down : (call : ℕ) (es : List Entry) → ArePeriods (map (λ e. e.post) es) → IsLegal call es → bits_of (downs_of es) ≡ down (call_of_posts call (map (λ e. e.post) es))
 
--- the line of text of a call
-line_is : WholeLaw → (seed n caller call : ℕ) (d : Closed) → d.call ≡ call → IsLegal call d.entries.items →
-    map (λ e. e.post) d.entries.items ≡ drawn_posts seed caller call n → closed_line d ≡ live_line seed n call
+line_is : WholeLaw → (seed n caller call : ℕ) (d : Closed) → d.call ≡ call → IsLegal call d.entries.items → map (λ e. e.post) d.entries.items ≡ drawn_posts seed caller call n → closed_line d ≡ live_line seed n call
 unfolding closed_line live_line
 line_is law seed n caller call d number legal posts =
     let es = d.entries.items in
@@ -91,9 +84,7 @@ line_is law seed n caller call d number legal posts =
     let downs : octets_of (bits_of (downs_of es)) ≡ octets_of (down (live_call seed n call)) = ap octets_of (law.down call es sized legal ∙ ap down whole) in
     λ i. sum_line (number i) (outs i) (downs i)
 
--- lines of all calls
-same_lines : {X : Type 0} (f : X → List ℕ) (g : ℕ → List ℕ) (a : ℕ) (xs : List X) → ((k : ℕ) (d : X) → k < length xs → f (get_or xs k d) ≡ g (a + k)) →
-    flat_map f xs ≡ flat_map g (range_with_len a (length xs))
+same_lines : {X : Type 0} (f : X → List ℕ) (g : ℕ → List ℕ) (a : ℕ) (xs : List X) → ((k : ℕ) (d : X) → k < length xs → f (get_or xs k d) ≡ g (a + k)) → flat_map f xs ≡ flat_map g (range_with_len a (length xs))
 same_lines f g a [] each = refl
 same_lines f g a (x ∷ xs) each =
     let first : f x ≡ g a = each 0 x (omega arith) ∙ (let e : a + 0 ≡ a = omega arith in ap g e) in
@@ -101,8 +92,7 @@ same_lines f g a (x ∷ xs) each =
     λ i. first i ++ rest i
 
 -- all calls are closed, each by what all callers know of it
-pub lines_are : WholeLaw → (seed calls callers n : ℕ) (cs : List Caller) (c : Caller) (ds : List Closed) →
-    ((k : ℕ) → k < calls → Ending seed calls callers n cs c k) → AreClosed calls (reverse cs) ds →
+pub lines_are : WholeLaw → (seed calls callers n : ℕ) (cs : List Caller) (c : Caller) (ds : List Closed) → ((k : ℕ) → k < calls → Ending seed calls callers n cs c k) → AreClosed calls (reverse cs) ds →
     flat_map closed_line ds ≡ flat_map (live_line seed n) (range_with_len 1 calls)
 lines_are law seed calls callers n cs c ds ending closed =
     same_lines closed_line (live_line seed n) 1 ds

@@ -1,5 +1,5 @@
 -- What a caller's functions leave of what it knows of a call.
-use Rattle.std.proofs.Common.{◌≡◌, ℕ, ◌+◌, ◌-◌, ◌<◌, List, [], ◌∷◌, ◌++◌, length, get_or, Result, Ok, Err, refl, sym, ap, ◌∙◌, subst, append-nil, arith}
+use Rattle.std.proofs.Common.{◌≡◌, ◌≢◌, ℕ, ◌+◌, ◌-◌, ◌<◌, List, [], ◌∷◌, ◌++◌, length, get_or, find, Result, Ok, Err, refl, sym, ap, ◌∙◌, subst, append-nil, arith}
 use Rattle.farm_live.specs.declared.post.Post.{Post}
 use Rattle.farm_live.specs.declared.post.Entry.{Entry}
 use Rattle.farm_live.specs.declared.slot.View.{View}
@@ -12,13 +12,12 @@ use Rattle.farm_live.specs.declared.turns.Turn.TheVariants as turn
 use Rattle.farm_live.specs.declared.turns.Look.{Look}
 use Rattle.farm_live.specs.declared.turns.Look.TheVariants as look
 use Rattle.farm_live.specs.Book.{BookState, of_caller}
-use Rattle.farm_live.specs.Turns.{Turned, HasTurned, HasLooked}
+use Rattle.farm_live.specs.Turns.{Turned, Looked, HasTurned, HasLooked}
 use Rattle.farm_live.specs.Live.{view_of, Turns, HasAnswered, next_post}
 use Rattle.live_run.specs.Posts.{Stays, Gains, Saw, Moves}
 
 -- ---- by the call's index
 
--- what is said of a turn, of the seat of a call
 pub by_index : (P : View → View → Type 0) (k : ℕ) (a b : Caller) → Turns P (k + 1) a b → Moves P k a b
 by_index P k a b t =
     let e : k + 1 - 1 ≡ k = omega arith in record {
@@ -27,20 +26,16 @@ by_index P k a b t =
       others = λ j s ne. t.others j s (λ (x : j ≡ k + 1 - 1). ne (x ∙ e));
     }
 
--- less is said, and one move after another
 pub moves_map : (P Q : View → View → Type 0) (k : ℕ) (a b : Caller) → ((v w : View) → P v w → Q v w) → Moves P k a b → Moves Q k a b
-moves_map P Q k a b f m =
-    record { number = m.number; this = λ s. f (view_of (get_or a.seats.items k s)) (view_of (get_or b.seats.items k s)) (m.this s); others = m.others }
+moves_map P Q k a b f m = record { number = m.number; this = λ s. f (view_of (get_or a.seats.items k s)) (view_of (get_or b.seats.items k s)) (m.this s); others = m.others }
 
-pub moves_then : (P Q R : View → View → Type 0) (k : ℕ) (a b c : Caller) → ((u v w : View) → P u v → Q v w → R u w) → Moves P k a b → Moves Q k b c →
-    Moves R k a c
+pub moves_then : (P Q R : View → View → Type 0) (k : ℕ) (a b c : Caller) → ((u v w : View) → P u v → Q v w → R u w) → Moves P k a b → Moves Q k b c → Moves R k a c
 moves_then P Q R k a b c f m n = record {
   number = n.number ∙ m.number;
   this = λ s. f (view_of (get_or a.seats.items k s)) (view_of (get_or b.seats.items k s)) (view_of (get_or c.seats.items k s)) (m.this s) (n.this s);
   others = λ j s ne. n.others j s ne ∙ m.others j s ne;
 }
 
--- what stays
 stays_itself : (v : View) → Stays v v
 stays_itself v = record { made = refl; callers = refl }
 
@@ -55,21 +50,18 @@ stays_on k a b c m n = moves_then Stays Stays Stays k a b c stays_then m n
 
 -- ---- by what was answered
 
--- a turn without a post
 turned_none : (v w : View) (back : BookState) → Turned v w back [] → Stays v w
 turned_none v w back t = record { made = t.made ∙ append-nil v.made; callers = t.took.callers }
 
 missed_none : (v w : View) → w.made ≡ v.made → w.callers ≡ v.callers → Stays v w
 missed_none v w p q = record { made = p; callers = q }
 
--- a turn leaves what the caller made
 pub turned_stays : {E : Type 0} (r : Result Turn E) (v w : View) → HasTurned v w r → Stays v w
 turned_stays (Ok (turn.Did caller number place)) v w t = turned_none v w t.1.back t.1.turned
 turned_stays (Ok turn.Idle) v w t = turned_none v w w.taken t.0
 turned_stays (Ok turn.Busy) v w t = missed_none v w (ap (λ (u : View). u.made) t.counted) (ap (λ (u : View). u.callers) t.counted)
 turned_stays (Err e) v w t = turned_none v w w.taken t
 
--- a post that is refused, and one that is accepted
 pub refused_stays : (x : View → Post) (f : PostFault) (v w : View) → HasAnswered (x v) v w (Err f) → Stays v w
 refused_stays x (fault.Full post) v w a = turned_none v w w.taken a.0.0
 refused_stays x fault.Busy v w a = missed_none v w (ap (λ (u : View). u.made) a.counted) (ap (λ (u : View). u.callers) a.counted)
@@ -77,7 +69,6 @@ refused_stays x fault.Busy v w a = missed_none v w (ap (λ (u : View). u.made) a
 pub accepted_gains : (x : View → Post) (n : ℕ) (v w : View) → HasAnswered (x v) v w (Ok n) → Gains (x v) v w
 accepted_gains x n v w a = record { made = a.0.0.made; callers = a.0.0.took.callers }
 
--- a look
 pub looked_stays : (of number : ℕ) (l : Look) (v w : View) → HasLooked of number v w l → Stays v w
 looked_stays of number (look.Found e) v w a = turned_none v w w.taken a.0
 looked_stays of number look.NotYet v w a = turned_none v w w.taken a.0
@@ -88,7 +79,6 @@ found_saw of number e v w a = (w.taken, e, a.0.seen, a.1)
 
 -- ---- a post after the call was worked
 
--- a post after what stays
 pub gains_then : (caller : ℕ) (up pcm : List ℕ) (u v w : View) → Stays u v → Gains (next_post caller up pcm v) v w → Gains (next_post caller up pcm u) u w
 gains_then caller up pcm u v w s g = record {
   made = g.made ∙ ap (λ (ms : List Post). ms ++ record { caller = caller; number = length (of_caller caller ms); up = up; pcm = pcm } ∷ []) s.made;
@@ -96,8 +86,7 @@ gains_then caller up pcm u v w s g = record {
 }
 
 -- the call has as few posts as before
-pub few_still : (k : ℕ) (a b : Caller) (n : ℕ) → Moves Stays k a b → ((s : Seat) → length (view_of (get_or a.seats.items k s)).made < n) → (s : Seat) →
-    length (view_of (get_or b.seats.items (k + 1 - 1) s)).made < n
+pub few_still : (k : ℕ) (a b : Caller) (n : ℕ) → Moves Stays k a b → ((s : Seat) → length (view_of (get_or a.seats.items k s)).made < n) → (s : Seat) → length (view_of (get_or b.seats.items (k + 1 - 1) s)).made < n
 few_still k a b n m few s =
     let e : k + 1 - 1 ≡ k = omega arith in
     subst (λ (j : ℕ). length (view_of (get_or b.seats.items j s)).made < n) (sym e)
@@ -105,26 +94,21 @@ few_still k a b n m few s =
 
 -- ---- a turn of the loop in which a caller posts
 
--- the same of the seat of a call
-pub post_accepted : (k n : ℕ) (up pcm : List ℕ) (a b c : Caller) → Moves Stays k a b →
-    Turns (λ v w. HasAnswered (next_post b.number up pcm v) v w (Ok n)) (k + 1) b c →
+pub post_accepted : (k n : ℕ) (up pcm : List ℕ) (a b c : Caller) → Moves Stays k a b → Turns (λ v w. HasAnswered (next_post b.number up pcm v) v w (Ok n)) (k + 1) b c →
     Moves (λ v w. Gains (next_post a.number up pcm v) v w) k a c
 post_accepted k n up pcm a b c stays answer =
     let P : View → View → Type 0 = λ v w. HasAnswered (next_post b.number up pcm v) v w (Ok n) in
     let Q : View → View → Type 0 = λ v w. Gains (next_post b.number up pcm v) v w in
     let now : Moves Q k b c = moves_map P Q k b c (accepted_gains (λ (v : View). next_post b.number up pcm v) n) (by_index P k b c answer) in
-    let now' : Moves (λ v w. Gains (next_post a.number up pcm v) v w) k b c =
-    subst (λ (m : ℕ). Moves (λ v w. Gains (next_post m up pcm v) v w) k b c) stays.number now in
+    let now' : Moves (λ v w. Gains (next_post a.number up pcm v) v w) k b c = subst (λ (m : ℕ). Moves (λ v w. Gains (next_post m up pcm v) v w) k b c) stays.number now in
     let R : View → View → Type 0 = λ v w. Gains (next_post a.number up pcm v) v w in
     moves_then Stays R R k a b c (gains_then a.number up pcm) stays now'
 
-pub post_refused : (k : ℕ) (up pcm : List ℕ) (f : PostFault) (a b c d : Caller) → Moves Stays k a b →
-    Turns (λ v w. HasAnswered (next_post b.number up pcm v) v w (Err f)) (k + 1) b c →
+pub post_refused : (k : ℕ) (up pcm : List ℕ) (f : PostFault) (a b c d : Caller) → Moves Stays k a b → Turns (λ v w. HasAnswered (next_post b.number up pcm v) v w (Err f)) (k + 1) b c →
     Moves Stays k c d → Moves Stays k a d
 post_refused k up pcm f a b c d stays answer after =
     let P : View → View → Type 0 = λ v w. HasAnswered (next_post b.number up pcm v) v w (Err f) in
-    stays_on k a b d stays
-    (stays_on k b c d (moves_map P Stays k b c (refused_stays (λ (v : View). next_post b.number up pcm v) f) (by_index P k b c answer)) after)
+    stays_on k a b d stays (stays_on k b c d (moves_map P Stays k b c (refused_stays (λ (v : View). next_post b.number up pcm v) f) (by_index P k b c answer)) after)
 
 -- ---- .. and of the one in which it looks for a post
 
@@ -133,8 +117,7 @@ look_on k of number l a b c stays answer =
     let P : View → View → Type 0 = λ v w. HasLooked of number v w l in
     stays_on k a b c stays (moves_map P Stays k b c (looked_stays of number l) (by_index P k b c answer))
 
-pub look_found : (k of number : ℕ) (e : Entry) (b c : Caller) → Turns (λ v w. HasLooked of number v w (look.Found e)) (k + 1) b c → (s : Seat) →
-    Saw of number (view_of (get_or c.seats.items k s))
+pub look_found : (k of number : ℕ) (e : Entry) (b c : Caller) → Turns (λ v w. HasLooked of number v w (look.Found e)) (k + 1) b c → (s : Seat) → Saw of number (view_of (get_or c.seats.items k s))
 look_found k of number e b c answer s =
     let P : View → View → Type 0 = λ v w. HasLooked of number v w (look.Found e) in
     found_saw of number e (view_of (get_or b.seats.items k s)) (view_of (get_or c.seats.items k s)) ((by_index P k b c answer).this s)

@@ -1,5 +1,5 @@
 -- The octets of bits that come octet by octet.
-use Rattle.std.proofs.Common.{◌≡◌, List, [], ◌∷◌, ◌++◌, length, refl, sym, ap, ◌∙◌}
+use Rattle.std.proofs.Common.{◌≡◌, ℕ, ◌+◌, ◌-◌, List, [], ◌∷◌, ◌++◌, length, refl, sym, ap, ◌∙◌}
 use Rattle.std.specs.List.{flat_map}
 use Rattle.trau_bits.specs.Bits.{bits_of, octets_of}
 use Rattle.trau_bits.proofs.BitList.{length-bits_of}
@@ -8,12 +8,10 @@ use Rattle.call_spec.proofs.Yields.{bits_of-append}
 use Rattle.farm_live.specs.declared.post.Entry.{Entry}
 use Rattle.live_run.specs.Text.{downs_of}
 
--- of nothing
 no_octets : octets_of (bits_of []) ≡ []
 unfolding octets_of bits_of
 no_octets = refl
 
--- the octets of all entries
 pub downs_are : (es : List Entry) → flat_map (λ e. octets_of (bits_of e.down)) es ≡ octets_of (bits_of (downs_of es))
 downs_are [] = sym no_octets
 downs_are (e ∷ es) =

@@ -1,5 +1,5 @@
 -- A legal history, and the call as a whole.
-use Rattle.std.proofs.Common.{◌≡◌, ℕ, List, [], ◌∷◌, ◌++◌, length, map, replicate, reverse, refl, sym, ap, ◌∙◌, append_assoc, append-nil}
+use Rattle.std.proofs.Common.{◌≡◌, ℕ, suc, ◌+◌, ◌<◌, false, None, List, [], ◌∷◌, ◌++◌, length, map, replicate, reverse, All, refl, sym, ap, ◌∙◌, subst, append_assoc, append-nil, arith}
 use Rattle.std.specs.List.{flat_map}
 use Rattle.std.proofs.lemmas.Bool.{true≢false}
 use Rattle.std.proofs.lemmas.List.Elements.{All-nil, All-cons, All-head, All-tail}
@@ -8,9 +8,10 @@ use Rattle.call_leg.specs.Who.{Who}
 use Rattle.call_leg.specs.Periods.{CallPeriod, pcm_of}
 use Rattle.call_leg.specs.Out.{out_of, out_line}
 use Rattle.call_leg.specs.Down.{down_line, down_now}
+use Rattle.call_spec.specs.Call.{Call, Setting, Span}
 use Rattle.call_spec.specs.Out.{out}
 use Rattle.call_spec.specs.Down.{down}
-use Rattle.call_spec.specs.History.{IsCallHistory, call_of_history, up_in_history, settings_of, spans_in_history}
+use Rattle.call_spec.specs.History.{IsCallHistory, call_of_history, up_in_history, settings_of, setting_of, spans_in_history}
 use Rattle.call_spec.proofs.Yields.{bits_of-append}
 use Rattle.farm_live.specs.declared.post.Post.{Post}
 use Rattle.farm_live.specs.declared.post.Entry.{Entry}
@@ -23,7 +24,6 @@ posts_of es = map (λ e. e.post) es
 
 -- ---- the history's periods, added to those before
 
--- their uplinks, Pcm lines, settings and bridges
 ups_after : (ts : List CallPeriod) (es : List Entry) → up_in_history (periods_after ts es) ≡ up_in_history ts ++ flat_map (λ p. p.up) (posts_of es)
 ups_after ts [] = sym (append-nil (up_in_history ts))
 ups_after ts (e ∷ es) = ups_after (period_of e.post ∷ ts) es ∙ append_assoc (up_in_history ts) e.post.up (flat_map (λ p. p.up) (posts_of es))
@@ -40,7 +40,6 @@ spans_after : (ts : List CallPeriod) (es : List Entry) → spans_in_history (per
 spans_after ts [] = refl
 spans_after ts (e ∷ es) = spans_after (period_of e.post ∷ ts) es
 
--- so the call is that of the posts
 call_is : (call : ℕ) (es : List Entry) → call_of_history (who_at call) (periods_after [] es) ≡ call_of_posts call (posts_of es)
 call_is call es =
     let up = ups_after [] es in
@@ -51,7 +50,6 @@ call_is call es =
 
 -- ---- .. are a history of a call
 
--- a legal history goes on
 plain_more : (ts : List CallPeriod) (p : Post) → length p.up ≡ 40 → length p.pcm ≡ 160 → IsCallHistory ts → IsCallHistory (period_of p ∷ ts)
 plain_more ts p up pcm h = record {
   ups = All-cons (λ t. length t.up ≡ 40) (period_of p) ts up h.ups;
@@ -63,36 +61,29 @@ plain_after : (ts : List CallPeriod) (es : List Entry) → ArePeriods (posts_of 
 plain_after ts [] sized h = h
 plain_after ts (e ∷ es) sized h =
     let first = All-head (λ p. (length p.up ≡ 40) × (length p.pcm ≡ 160)) e.post (posts_of es) sized in
-    plain_after (period_of e.post ∷ ts) es (All-tail (λ p. (length p.up ≡ 40) × (length p.pcm ≡ 160)) e.post (posts_of es) sized)
-    (plain_more ts e.post first.0 first.1 h)
+    plain_after (period_of e.post ∷ ts) es (All-tail (λ p. (length p.up ≡ 40) × (length p.pcm ≡ 160)) e.post (posts_of es) sized) (plain_more ts e.post first.0 first.1 h)
 
--- and begins
 no_periods : IsCallHistory []
 no_periods = record { ups = All-nil (λ (t : CallPeriod). length t.up ≡ 40); pcms = All-nil (λ (t : CallPeriod). length t.pcm ≡ 160); bridges = tt }
 
 -- ---- the octets
 
--- its outgoing lines
 outs_after : (who : Who) (ts : List CallPeriod) (es : List Entry) → IsWorkedFrom who ts es → out_line who (periods_after ts es) ≡ out_line who ts ++ outs_of es
 outs_after who ts [] legal = sym (append-nil (out_line who ts))
 outs_after who ts (e ∷ es) legal =
     outs_after who (period_of e.post ∷ ts) es legal.2 ∙ append_assoc (out_line who ts) (out_of who (period_of e.post ∷ ts)) (outs_of es)
     ∙ ap (λ (xs : List ℕ). out_line who ts ++ (xs ++ outs_of es)) (sym legal.0)
 
-downs_after : (who : Who) (ts : List CallPeriod) (es : List Entry) → IsWorkedFrom who ts es →
-    down_line who (periods_after ts es) ≡ down_line who ts ++ flat_map (λ e. bits_of e.down) es
+downs_after : (who : Who) (ts : List CallPeriod) (es : List Entry) → IsWorkedFrom who ts es → down_line who (periods_after ts es) ≡ down_line who ts ++ flat_map (λ e. bits_of e.down) es
 downs_after who ts [] legal = sym (append-nil (down_line who ts))
 downs_after who ts (e ∷ es) legal =
-    downs_after who (period_of e.post ∷ ts) es legal.2
-    ∙ append_assoc (down_line who ts) (down_now who (period_of e.post ∷ ts)) (flat_map (λ e. bits_of e.down) es)
+    downs_after who (period_of e.post ∷ ts) es legal.2 ∙ append_assoc (down_line who ts) (down_now who (period_of e.post ∷ ts)) (flat_map (λ e. bits_of e.down) es)
     ∙ ap (λ (xs : List ℕ). down_line who ts ++ (xs ++ flat_map (λ e. bits_of e.down) es)) (sym legal.1)
 
--- of nothing
 no_bits : bits_of [] ≡ []
 unfolding bits_of
 no_bits = refl
 
--- the bits of all entries
 bits_after : (es : List Entry) → bits_of (downs_of es) ≡ flat_map (λ e. bits_of e.down) es
 bits_after [] = no_bits
 bits_after (e ∷ es) = bits_of-append e.down (downs_of es) ∙ ap (λ (xs : List ℕ). bits_of e.down ++ xs) (bits_after es)
@@ -100,13 +91,8 @@ bits_after (e ∷ es) = bits_of-append e.down (downs_of es) ∙ ap (λ (xs : Lis
 -- ---- the law
 
 module _ (call : ℕ) (es : List Entry) (sized : ArePeriods (posts_of es)) (legal : IsLegal call es) where
-  -- so the lines are those of the call as a whole
-  pub out_whole : ((who : Who) (ts : List CallPeriod) → IsCallHistory ts → out_line who ts ≡ out (call_of_history who ts)) →
-      outs_of es ≡ out (call_of_posts call (posts_of es))
-  out_whole same = sym (outs_after (who_at call) [] es legal) ∙ same (who_at call) (periods_after [] es) (plain_after [] es sized no_periods)
-      ∙ ap out (call_is call es)
+  pub out_whole : ((who : Who) (ts : List CallPeriod) → IsCallHistory ts → out_line who ts ≡ out (call_of_history who ts)) → outs_of es ≡ out (call_of_posts call (posts_of es))
+  out_whole same = sym (outs_after (who_at call) [] es legal) ∙ same (who_at call) (periods_after [] es) (plain_after [] es sized no_periods) ∙ ap out (call_is call es)
 
-  pub down_whole : ((who : Who) (ts : List CallPeriod) → IsCallHistory ts → down_line who ts ≡ down (call_of_history who ts)) →
-      bits_of (downs_of es) ≡ down (call_of_posts call (posts_of es))
-  down_whole same = bits_after es ∙ sym (downs_after (who_at call) [] es legal) ∙ same (who_at call) (periods_after [] es) (plain_after [] es sized no_periods)
-      ∙ ap down (call_is call es)
+  pub down_whole : ((who : Who) (ts : List CallPeriod) → IsCallHistory ts → down_line who ts ≡ down (call_of_history who ts)) → bits_of (downs_of es) ≡ down (call_of_posts call (posts_of es))
+  down_whole same = bits_after es ∙ sym (downs_after (who_at call) [] es legal) ∙ same (who_at call) (periods_after [] es) (plain_after [] es sized no_periods) ∙ ap down (call_is call es)

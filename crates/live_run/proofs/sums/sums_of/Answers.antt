@@ -1,4 +1,4 @@
-use Rattle.std.proofs.Common.{List, ap, ◌∙◌, arith}
+use Rattle.std.proofs.Common.{◌≡◌, List, take, ap, ◌∙◌, arith}
 use Rattle.std.specs.List.{flat_map}
 use Rattle.std.proofs.lemmas.List.{take_all}
 use Rattle.trau_bits.specs.Bits.{bits_of, octets_of}
@@ -11,5 +11,4 @@ pub returns-clause-down : goal.returns-clause-down
 returns-clause-down c =
     let es = c.args.entries.now in
     c.loop-entry.invariant.down
-    ∙ ap sum_of (ap (λ (xs : List Entry). flat_map (λ e. octets_of (bits_of e.down)) xs)
-    (take_all c.loop-entry.entry-index es (omega (arith, c.loop-entry-test.false))) ∙ downs_are es)
+    ∙ ap sum_of (ap (λ (xs : List Entry). flat_map (λ e. octets_of (bits_of e.down)) xs) (take_all c.loop-entry.entry-index es (omega (arith, c.loop-entry-test.false))) ∙ downs_are es)
