@@ -1,3 +1,5 @@
+//! The framer of a downlink: where its frames stand, and the same shift in each period.
+
 ghost use Rattle.std.specs.Prelude.{◌≤◌, ◌<◌};
 ghost use Rattle.down_framer.specs.Memory.{IsBetweenPeriods};
 

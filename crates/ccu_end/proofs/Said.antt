@@ -11,12 +11,14 @@ use Rattle.trau_frame.proofs.Matches.{match_zeros, match_ones, get_or-frame_at}
 use Rattle.ccu_end.specs.Read.{frame_by, down_frame_in, Alike}
 use Rattle.ccu_end.proofs.Reading.{read-alike}
 
+-- bits like those of a match have the sync pattern
 pub alike-synced : (w bits : List ℕ) (o : ℕ) → Alike bits (frame_at (bit_in w) o) → is_match (bit_in w) o ≡ true → Synced bits
 alike-synced w bits o h m =
     synced bits
     (λ i l. h i (omega arith) ∙ get_or-frame_at (bit_in w) o i 0 (omega arith) ∙ match_zeros (bit_in w) o m i l)
     (λ row l r. h (16 * row) (omega arith) ∙ get_or-frame_at (bit_in w) o (16 * row) 0 (omega arith) ∙ match_ones (bit_in w) o m row l r)
 
+-- what the pattern says is what the frame says: idle, speech or neither
 said-by : (bits : List ℕ) (n : ℕ) → n ≡ number_of bits 1 5 → frame_by n bits ≡ down_frame_in bits
 said-by bits n e = ap (λ k. frame_by k bits) e
 

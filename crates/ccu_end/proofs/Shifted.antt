@@ -21,7 +21,8 @@ goes_on line fs end [] h long s =
     (end, subst (λ l. IsLine l (fs ++ []) end) (sym (append-nil line)) (subst (λ gs. IsLine line gs end) (sym (append-nil fs)) h))
 goes_on line fs end (x ∷ xs) h long s =
     let here : FoundFrame = record { place = end; frame = Some x.1 } in
-    let more = line-more line fs end (end + 2 * octets_to_next x.0) x.0 (down_bits x.1) here h long refl (down_bits-frame x.1) s.0 refl (sym (written_read x.1 s.1)) in
+    let more = line-more line fs end (end + 2 * octets_to_next x.0) x.0 (down_bits x.1) here h long refl (down_bits-frame x.1) s.0 refl
+    (sym (written_read x.1 s.1)) in
     let bits = length-frame_on_line x.0 (down_bits x.1) s.0 (length-down_bits x.1) in
     let all = length-append line (frame_on_line x.0 (down_bits x.1)) in
     let rest = goes_on (line ++ frame_on_line x.0 (down_bits x.1)) (fs ++ here ∷ []) (end + 2 * octets_to_next x.0) xs more (omega arith) s.2 in (

@@ -18,7 +18,7 @@ one_follow words c d m n first second =
     let digits = one.spelled in
     let others = other.spelled in
     let calls : decimal c ≡ decimal d = cc in
-    let places : first.place ≡ second.place = cc in
+    let places : first.want_text ≡ second.want_text = cc in
     (decimal_injective c d (omega (arith, first.high)) (omega (arith, second.high)) calls, decimal_injective m n (omega (arith, one.high)) (omega (arith, other.high)) (sym digits ∙ places ∙ others))
 
 -- the first words differ, or one has two words and the other three
@@ -59,7 +59,7 @@ pub are_follow : (words : List Text) (name number place : Text) (call want : ℕ
 are_follow words name number place call want are named is wanted = record {
   low = is.at_least;
   high = is.at_most;
-  place = place;
+  want_text = place;
   wanted = wanted;
   spelled = are ∙ (λ i. named i ∷ is.spelled i ∷ place ∷ []);
 }

@@ -22,7 +22,8 @@ use Rattle.farm_drill.specs.Orders.{opening, bridging, unbridging, is_bridged, b
 lacks_digits : (n : ℕ) → n < 2 ^ 64 → Lacks 10 (decimal n)
 lacks_digits n small =
     All-from_get_or (λ b. eqb b 10 ≡ false) (decimal n) 0
-    (λ i within. let digit = digit_at (decimal n) i (digits_decimal (numerals_by_value (AllDigits 10) tells_digits) n small) within in ne_eqb _ 10 (λ e. absurd (omega (arith, e, digit.0))))
+    (λ i within. let digit = digit_at (decimal n) i (digits_decimal (numerals_by_value (AllDigits 10) tells_digits) n small) within in
+    ne_eqb _ 10 (λ e. absurd (omega (arith, e, digit.0))))
 
 not_true : (b : Bool) → not b ≡ true → b ≡ false
 not_true true e = cc
@@ -104,12 +105,14 @@ unfolding AllFit
 fit-range f first zero h = tt
 fit-range f first (suc n) h = (h first (omega arith) (omega arith), fit-range f (first + 1) n (λ c l m. h c (omega arith) (omega arith)))
 
-fit-some : (f : ℕ → Order) (p : ℕ → Bool) (first n : ℕ) → ((c : ℕ) → first ≤ c → c < first + n → Fits (f c)) → AllFit (map f (filter p (range_with_len first n)))
+fit-some : (f : ℕ → Order) (p : ℕ → Bool) (first n : ℕ) → ((c : ℕ) → first ≤ c → c < first + n → Fits (f c)) →
+    AllFit (map f (filter p (range_with_len first n)))
 unfolding AllFit
 fit-some f p first zero h = tt
 fit-some f p first (suc n) h = by (p first) (fit-some f p (first + 1) n (λ c l m. h c (omega arith) (omega arith)))
   where
-    by : (b : Bool) → AllFit (map f (filter p (range_with_len (first + 1) n))) → AllFit (map f (if b then first ∷ filter p (range_with_len (first + 1) n) else filter p (range_with_len (first + 1) n)))
+    by : (b : Bool) → AllFit (map f (filter p (range_with_len (first + 1) n))) →
+        AllFit (map f (if b then first ∷ filter p (range_with_len (first + 1) n) else filter p (range_with_len (first + 1) n)))
     by true rest = (h first (omega arith) (omega arith), rest)
     by false rest = rest
 
@@ -184,7 +187,8 @@ unfolding Rises
 rises-lower low high [] l r = tt
 rises-lower low high (o ∷ os) l r = let h = r.0 in (omega (arith, l, h), r.1)
 
-rises-map : (f : ℕ → Order) (stamp low : ℕ) (cs : List ℕ) (os : List Order) → ((c : ℕ) → (f c).stamp ≡ stamp) → low ≤ stamp → Rises stamp os → Rises low (map f cs ++ os)
+rises-map : (f : ℕ → Order) (stamp low : ℕ) (cs : List ℕ) (os : List Order) → ((c : ℕ) → (f c).stamp ≡ stamp) → low ≤ stamp → Rises stamp os →
+    Rises low (map f cs ++ os)
 unfolding Rises
 rises-map f stamp low [] os same l r = rises-lower low stamp os l r
 rises-map f stamp low (c ∷ cs) os same l r =
@@ -212,7 +216,8 @@ drilled-rises calls periods =
 
 -- ---- what `Orders::parse` wants to know
 
-pub spelled : (text : List ℕ) (calls periods : ℕ) → calls ≤ 256 → periods ≤ 1000 → text ≡ text_of (drilled_orders calls periods) → AreLines (text_lines text) (drilled_orders calls periods)
+pub spelled : (text : List ℕ) (calls periods : ℕ) → calls ≤ 256 → periods ≤ 1000 → text ≡ text_of (drilled_orders calls periods) →
+    AreLines (text_lines text) (drilled_orders calls periods)
 spelled text calls periods few short same =
     let os : List Order = drilled_orders calls periods in
     let fit : AllFit os = drilled-fit calls periods few short in
@@ -222,7 +227,8 @@ spelled text calls periods few short same =
           let one : Fits (get_or os k d) = fit-at os k d fit l in
           record { stamp = one.stamp; in_range = one.in_range; spelled = get_or-map order_line os k d [] l };
       rising = λ k d l.
-          subst (λ (n : ℕ). (get_or os k d).stamp ≤ (get_or os n d).stamp) (sym (add-one k)) (rises-next 0 os k d (drilled-rises calls periods) (omega (arith, l)));
+          subst (λ (n : ℕ). (get_or os k d).stamp ≤ (get_or os n d).stamp) (sym (add-one k))
+          (rises-next 0 os k d (drilled-rises calls periods) (omega (arith, l)));
     })
 
 pub short_enough : (text : List ℕ) (calls periods : ℕ) → calls ≤ 256 → periods ≤ 1000 → text ≡ text_of (drilled_orders calls periods) → IsWithin text

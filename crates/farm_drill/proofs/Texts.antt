@@ -17,7 +17,8 @@ pub opening-text : (call : ℕ) → order_text (opening call) ≡ decimal 0 ++ (
 unfolding order_line
 opening-text call = append_assoc (decimal 0) (codes " open " ++ decimal call) (codes "\n")
 
-pub bridging-text : (periods call : ℕ) → order_text (bridging periods call) ≡ decimal (periods / 4) ++ (codes " bridge " ++ (decimal call ++ (codes " " ++ (decimal (call + 1) ++ codes "\n"))))
+pub bridging-text : (periods call : ℕ) →
+    order_text (bridging periods call) ≡ decimal (periods / 4) ++ (codes " bridge " ++ (decimal call ++ (codes " " ++ (decimal (call + 1) ++ codes "\n"))))
 unfolding order_line
 bridging-text periods call =
     append_assoc (decimal (periods / 4)) (codes " bridge " ++ (decimal call ++ (codes " " ++ decimal (call + 1)))) (codes "\n")
@@ -85,5 +86,6 @@ pub text-whole : (calls periods : ℕ) (opened bridged all : List ℕ) → opene
 unfolding drilled_orders
 text-whole calls periods opened bridged all a b c =
     c ∙ ap (λ (t : List ℕ). t ++ text_of (map (unbridging periods) (bridged_calls calls)))
-    (b ∙ ap (λ (t : List ℕ). t ++ text_of (map (bridging periods) (bridged_calls calls))) a ∙ sym (text-append (map opening (range_with_len 1 calls)) (map (bridging periods) (bridged_calls calls))))
+    (b ∙ ap (λ (t : List ℕ). t ++ text_of (map (bridging periods) (bridged_calls calls))) a
+    ∙ sym (text-append (map opening (range_with_len 1 calls)) (map (bridging periods) (bridged_calls calls))))
     ∙ sym (text-append (map opening (range_with_len 1 calls) ++ map (bridging periods) (bridged_calls calls)) (map (unbridging periods) (bridged_calls calls)))

@@ -2,7 +2,6 @@
 mod Alone
 pub mod Causing
 pub mod Cleaning
-mod Mapping
 pub mod FramesEnds
 mod Limit
 mod Making

@@ -26,7 +26,8 @@ pub record IsWorked (tool : Tool) (call : ℕ) (octets rest sent text : List ℕ
   pub taken : All (IsTaken tool) blocks
   pub few : length (concat blocks ++ last) ≤ block_length tool * (2 ^ 32 - 1)
   pub sent_is : sent ≡ made tool blocks
-  pub ended : ((status ≡ 0) × IsLeft tool last × ((rest ≡ []) ⊎ ((length blocks ≡ 2 ^ 32 - 1) × (last ≡ []))) × (text ≡ text_of tool call (Done (length blocks) (length last))))
+  pub ended : ((status ≡ 0) × IsLeft tool last × ((rest ≡ []) ⊎ ((length blocks ≡ 2 ^ 32 - 1) × (last ≡ [])))
+      × (text ≡ text_of tool call (Done (length blocks) (length last))))
       ⊎ ((status ≡ 8) × IsRefused tool last (rest ≡ []) × (text ≡ text_of tool call (Refused (length blocks))))
 
 -- what a tool leaves where the incoming line held `octets`, and the outgoing line and the desk held `sent` and `text`
@@ -42,7 +43,8 @@ pub record Leaves (tool : Tool) (call : ℕ) (inc' out' : LineState) (desk' : De
 -- a run in which nothing failed and there was memory, of lines and a desk that tell what they hold
 abbrev pub LeavesAll : Tool → ℕ → LineState → LineState → LineState → LineState → DeskState → DeskState → ℕ → Type 0
 LeavesAll tool call inc inc' out out' desk desk' status =
-    Calm inc inc' out out' desk desk' → status ≢ 5 → (octets sent text : List ℕ) → inc.to_come ≡ Some octets → out.written ≡ Some sent → desk.written ≡ Some text →
+    Calm inc inc' out out' desk desk' → status ≢ 5 → (octets sent text : List ℕ) → inc.to_come ≡ Some octets → out.written ≡ Some sent →
+    desk.written ≡ Some text →
     Leaves tool call inc' out' desk' octets sent text status
 
 -- the same of the tool's lines among all lines

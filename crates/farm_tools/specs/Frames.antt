@@ -70,5 +70,6 @@ pub record LeavesListing (call : ℕ) (up' : LineState) (desk' : DeskState) (oct
 -- the command where nothing failed and there was memory, of an uplink and a desk that tell what they hold
 abbrev pub CleanFrames : ℕ → LineState → LineState → DeskState → DeskState → ℕ → Type 0
 CleanFrames call up up' desk desk' status =
-    IsCalm up.faults up'.faults → IsCalm desk.write_faults desk'.write_faults → status ≢ 5 → (octets text : List ℕ) → up.to_come ≡ Some octets → desk.written ≡ Some text →
+    IsCalm up.faults up'.faults → IsCalm desk.write_faults desk'.write_faults → status ≢ 5 → (octets text : List ℕ) → up.to_come ≡ Some octets →
+    desk.written ≡ Some text →
     LeavesListing call up' desk' octets text status

@@ -14,7 +14,8 @@ octets_in : (size : ℕ) (blocks : List (List ℕ)) → All (λ block. length bl
 octets_in size [] whole = sym (mul-zero size)
 octets_in size (block ∷ blocks) whole =
     let here : length block ≡ size = All-head (λ b. length b ≡ size) block blocks whole in
-    length-append block (concat blocks) ∙ omega (arith, here, octets_in size blocks (All-tail (λ b. length b ≡ size) block blocks whole), mul-suc size (length blocks))
+    length-append block (concat blocks)
+    ∙ omega (arith, here, octets_in size blocks (All-tail (λ b. length b ≡ size) block blocks whole), mul-suc size (length blocks))
 
 -- and of those with what was read behind them
 pub few_with : (size most : ℕ) (blocks : List (List ℕ)) (last : List ℕ) (n : ℕ) → All (λ block. length block ≡ size) blocks → length blocks ≡ n →

@@ -43,8 +43,10 @@ pub record IsCutShort (sync sync' : SyncMemory) (up up' : LineState) (desk desk'
 abbrev pub PeriodEndsAs : SyncMemory → SyncMemory → LineState → LineState → DeskState → DeskState → List ℕ → List ℕ → PeriodEnd → Type 0
 PeriodEndsAs sync sync' up up' desk desk' given told Without = Takes sync sync' given None × (told ≡ []) × NoFault up up' desk desk'
 PeriodEndsAs sync sync' up up' desk desk' given told Listed = IsListed sync sync' up up' desk desk' given told
-PeriodEndsAs sync sync' up up' desk desk' given told (LineEnded left) = (left ≡ length given) × (length given < 40) × IsAtEnd up'.to_come × (told ≡ []) × NoFault up up' desk desk'
-PeriodEndsAs sync sync' up up' desk desk' given told ReadFailed = (length given < 40) × Rose up.faults up'.faults × (told ≡ []) × (desk'.write_faults ≡ desk.write_faults)
+PeriodEndsAs sync sync' up up' desk desk' given told (LineEnded left) =
+    (left ≡ length given) × (length given < 40) × IsAtEnd up'.to_come × (told ≡ []) × NoFault up up' desk desk'
+PeriodEndsAs sync sync' up up' desk desk' given told ReadFailed =
+    (length given < 40) × Rose up.faults up'.faults × (told ≡ []) × (desk'.write_faults ≡ desk.write_faults)
 PeriodEndsAs sync sync' up up' desk desk' given told DeskFailed = IsCutShort sync sync' up up' desk desk' given told
 
 pub record ListsOn (sync sync' : SyncMemory) (up up' : LineState) (desk desk' : DeskState) (end : PeriodEnd) : Type 0 where

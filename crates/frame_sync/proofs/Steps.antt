@@ -110,7 +110,7 @@ agrees-late past bits i h l =
     ap (λ k. get_or bits k 0) same ∙
     sym (get_or-append_right (line_bits past) bits (320 * length past) i 0 (length-line_bits past h) l)
 
-agrees-past : (past : List (List ℕ)) (bits : List ℕ) → ArePeriods past →
+pub agrees-past : (past : List (List ℕ)) (bits : List ℕ) → ArePeriods past →
     Agrees (bit_of_two (320 * length past) (last_bits past ++ bits)) (bit_in (line_bits past ++ bits)) (320 * length past)
 agrees-past past bits h = record {
   each = λ i l m. elim (cases_lt i (320 * length past)) [

@@ -1,3 +1,5 @@
+//! What words ask for, command by command, and words that ask for nothing.
+
 use crate::rows::assert_rows;
 use command_words::{Asked, Settings, WordsFault, read_words};
 use std::alloc::{AllocError, Global};
@@ -129,11 +131,21 @@ fn options_of_a_drill(rt: HostRuntime) {
     assert_rows(&rt, drills_asked(rt.alloc()), 6);
 }
 
-static TOOLS: [(&str, Asked); 4] = [
+static TOOLS: [(&str, Asked); 8] = [
     ("relay 7", Asked::Relay(7)),
     ("frames 1", Asked::Frames(1)),
     ("encode 4096", Asked::Encode(4096)),
     ("decode 10", Asked::Decode(10)),
+    ("follow 7 316", Asked::Follow { call: 7, want: 316 }),
+    (
+        "follow 4096 0",
+        Asked::Follow {
+            call: 4096,
+            want: 0,
+        },
+    ),
+    ("split 4093", Asked::Split(4093)),
+    ("merge 1", Asked::Merge(1)),
 ];
 
 // How many calls of tools are asked for so, from the first on.
@@ -150,7 +162,7 @@ fn tools_asked(alloc: Global) -> usize {
 
 #[test]
 fn calls_of_tools(rt: HostRuntime) {
-    assert_rows(&rt, tools_asked(rt.alloc()), 4);
+    assert_rows(&rt, tools_asked(rt.alloc()), 8);
 }
 
 // Lines whose words ask for nothing; the last is empty.
@@ -187,6 +199,18 @@ relay 7 --
 relay -- 7
 relay 7 7
 relays 7
+follow
+follow 7
+follow 7 6
+follow 7 320
+follow 7 04
+follow 07 4
+follow 0 0
+follow 4097 0
+follow 7 0 0
+follow 7 x
+split 4094
+merge 0
 run --seed 1
 run --calls 2
 drill 7
@@ -226,7 +250,7 @@ fn usages(alloc: Global) -> usize {
 
 #[test]
 fn other_words_are_usage(rt: HostRuntime) {
-    assert_rows(&rt, usages(rt.alloc()), 52);
+    assert_rows(&rt, usages(rt.alloc()), 64);
 }
 
 #[test]

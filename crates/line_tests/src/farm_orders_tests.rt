@@ -1,3 +1,5 @@
+//! Orders that are read from a desk which gives its text in pieces, one whose read fails, and texts at the limits.
+
 mod pieces;
 
 use crate::rows::assert_rows;

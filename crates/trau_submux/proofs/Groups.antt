@@ -1,5 +1,5 @@
 -- Channels of octets that come one behind the other.
-use Rattle.std.proofs.Common.{◌≡◌, ℕ, ◌+◌, ◌-◌, ◌*◌, ◌/◌, ◌≤◌, List, ◌++◌, length, take, drop, take-take, sym, ap, ◌∙◌, arith, length-append}
+use Rattle.std.proofs.Common.{◌≡◌, ℕ, ◌+◌, ◌*◌, ◌/◌, ◌≤◌, List, ◌++◌, length, take, drop, take-take, sym, ap, ◌∙◌, arith, length-append}
 use Rattle.std.proofs.lemmas.List.{length-take-le, take-append-drop, take_all, take_at}
 use Rattle.std.proofs.Math.Seq.{take-append-add}
 use Rattle.trau_bits.specs.Bits.{octets_of}
@@ -8,8 +8,10 @@ use Rattle.trau_submux.specs.Channels.{channel, subchannel}
 use Rattle.trau_submux.specs.Splits.{whole_groups}
 use Rattle.trau_submux.proofs.Channels.{length-channel, length-subchannel, subchannel-append}
 
+-- the channels of joined octets
 pub channel-append : (j : ℕ) (xs ys : List ℕ) (n : ℕ) → length xs ≡ 4 * n → channel j (xs ++ ys) ≡ channel j xs ++ channel j ys
-channel-append j xs ys n e = ap octets_of (subchannel-append j xs ys) ∙ octets_of-append (subchannel j xs) (subchannel j ys) n (omega (arith, length-subchannel j xs))
+channel-append j xs ys n e = ap octets_of (subchannel-append j xs ys)
+    ∙ octets_of-append (subchannel j xs) (subchannel j ys) n (omega (arith, length-subchannel j xs))
 
 -- the front of a channel is the channel of a front
 pub take-channel : (j : ℕ) (xs : List ℕ) (m : ℕ) → 4 * m ≤ length xs → take m (channel j xs) ≡ channel j (take (4 * m) xs)
@@ -33,9 +35,11 @@ pub groups-whole : (xs : List ℕ) (n : ℕ) → length xs ≡ 4 * n → whole_g
 groups-whole xs n e = take_all (length xs / 4 * 4) xs (omega arith)
 
 -- what is sent of the first octets of a block
-pub front-channel : (j : ℕ) (slot : List ℕ) (count : ℕ) → length slot ≡ 160 → count ≤ 160 → take (count / 4) (channel j slot) ≡ channel j (whole_groups (take count slot))
+pub front-channel : (j : ℕ) (slot : List ℕ) (count : ℕ) → length slot ≡ 160 → count ≤ 160 →
+    take (count / 4) (channel j slot) ≡ channel j (whole_groups (take count slot))
 front-channel j slot count is most =
     let n : length (take count slot) ≡ count = length-take-le count slot (omega arith) in
-    let same : take (count / 4 * 4) (take count slot) ≡ take (4 * (count / 4)) slot = take-take (count / 4 * 4) count slot (omega arith) ∙ ap (λ m. take m slot) (omega arith) in
+    let same : take (count / 4 * 4) (take count slot) ≡ take (4 * (count / 4)) slot = take-take (count / 4 * 4) count slot (omega arith)
+    ∙ ap (λ m. take m slot) (omega arith) in
     take-channel j slot (count / 4) (omega arith)
     ∙ ap (channel j) (sym (ap (λ m. take (m / 4 * 4) (take count slot)) n ∙ same))
