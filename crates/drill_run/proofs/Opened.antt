@@ -14,9 +14,8 @@ use Rattle.switchboard.specs.Calls.{Done, opened_by, is_this, opened_at, gone_at
 use Rattle.switchboard.specs.Replies.{Known, known_of, reply_from, reply_to, act_of, tests, first_of_tests}
 use Rattle.switchboard.specs.Runs.{executed}
 use Rattle.farm_drill.specs.Orders.{opening, bridging, unbridging, bridged_calls, drilled_orders}
-use Rattle.run_spec.specs.Run.{Run, done_in, whole_in}
+use Rattle.run_spec.specs.Run.{Run, done_in, whole_in, IsOpened}
 use Rattle.run_spec.proofs.Lists.{each_append, each_filter, each_map, each_all}
-use Rattle.farm_run.specs.Runs.{IsOpened}
 
 -- an order opens a call
 abbrev Opens : What → ℕ → Type 0

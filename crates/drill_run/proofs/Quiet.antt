@@ -16,14 +16,14 @@ use Rattle.trau_orders.specs.Lists.{AreOrders}
 use Rattle.switchboard.specs.Calls.{opened_at}
 use Rattle.farm_drill.specs.Lines.{AreDrilled, drilled_line, line_of_call}
 use Rattle.farm_drill.specs.Orders.{drilled_orders}
-use Rattle.run_spec.specs.Run.{Run, done_in, start_in, end_in, periods_in, periods_to, who_in}
+use Rattle.run_spec.specs.Run.{Run, done_in, start_in, end_in, periods_in, periods_to, who_in, IsOpened}
 use Rattle.run_spec.specs.Lines.{out_of_call, down_of_call}
 use Rattle.run_spec.specs.Facts.{report_of}
 use Rattle.run_spec.proofs.SoFar.{so_far_at_first}
 use Rattle.farm_report.specs.View.{ReportView}
 use Rattle.round_lines.specs.Rounds.{IsIncoming}
 use Rattle.farm_run.specs.declared.pace.Pace.{Pace}
-use Rattle.farm_run.specs.Runs.{AreTold, IsOpened, IsRunOver, IsWritten, Leaves, Runs, is_listed, none_fails}
+use Rattle.farm_run.specs.Runs.{AreTold, IsRunOver, IsWritten, Leaves, Runs, is_listed, none_fails}
 use Rattle.farm_run.proofs.Gaining.{length-out_line, length-down_octets}
 use Rattle.farm_run.proofs.Listed.{listed_head, one_line, or_cases}
 use Rattle.farm_run.proofs.Reach.{end_within_run}

@@ -20,7 +20,7 @@ use Rattle.switchboard.specs.Calls.{closed_at, opened_at}
 use Rattle.switchboard.specs.Ends.{lack_of}
 use Rattle.farm_drill.specs.Lines.{AreDrilled}
 use Rattle.farm_drill.specs.Orders.{drilled_orders}
-use Rattle.run_spec.specs.Run.{Run, done_in, given_in, start_in, whole_in}
+use Rattle.run_spec.specs.Run.{Run, done_in, given_in, start_in, whole_in, IsOpened}
 use Rattle.run_spec.specs.Lines.{out_of_call, down_of_call}
 use Rattle.run_spec.specs.Facts.{call_line, calls_in, report_of}
 use Rattle.run_spec.proofs.Lists.{each_map, each_passes, each_weaker}
@@ -29,7 +29,7 @@ use Rattle.farm_report.specs.Lines.{report_text}
 use Rattle.farm_report.specs.Sums.{sum_line}
 use Rattle.farm_report.specs.View.{ReportView}
 use Rattle.farm_run.specs.declared.pace.Pace.{Pace}
-use Rattle.farm_run.specs.Runs.{IsOpened, Runs}
+use Rattle.farm_run.specs.Runs.{Runs}
 use Rattle.drill_run.specs.Drilled.{IsDrilled, drilled_run, text_with_sums}
 use Rattle.drill_run.specs.Rooms.{AreAmple, DrillMemory, known_lines}
 use Rattle.drill_run.proofs.Quiet.{Drilling, at_first, drill_calm, drill_leaves, drilled_calls, report_is}

@@ -18,9 +18,9 @@ use Rattle.switchboard.specs.Replies.{IsInRange, known_of, reply_to}
 use Rattle.switchboard.specs.Runs.{executed}
 use Rattle.switchboard.proofs.Laws.{in_range}
 use Rattle.round_lines.specs.Rounds.{IsIncoming}
-use Rattle.run_spec.specs.Run.{Run, done_in, whole_in}
+use Rattle.run_spec.specs.Run.{Run, done_in, whole_in, IsOpened}
 use Rattle.run_spec.proofs.Lists.{each_filter}
-use Rattle.farm_run.specs.Runs.{IsGiven, IsOpened, IsRunOver}
+use Rattle.farm_run.specs.Runs.{IsGiven, IsRunOver}
 
 -- what a line gave in the run
 abbrev given_by : Bool → LineState → LineState → List ℕ

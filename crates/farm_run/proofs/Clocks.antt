@@ -24,7 +24,7 @@ use Rattle.farm_rounds.specs.Calls.{call_in, partner_in}
 use Rattle.farm_rounds.specs.Numbers.{is_among}
 use Rattle.farm_rounds.specs.Memory.{FarmMemory}
 use Rattle.farm_rounds.specs.Histories.{CallHistory, CallStands, GroupsStand}
-use Rattle.run_spec.specs.Run.{Run, whole_in, done_in, periods_to, periods_in, end_in, who_in, law_in}
+use Rattle.run_spec.specs.Run.{Run, whole_in, done_in, periods_to, periods_in, end_in, who_in, law_in, IsOpened, worked_to}
 use Rattle.run_spec.specs.Now.{IsSoFar, settings_now}
 use Rattle.run_spec.specs.Facts.{report_of}
 use Rattle.farm_report.specs.View.{ReportView}
@@ -33,14 +33,14 @@ use Rattle.farm_run.specs.Noted.{IsAtEnd, IsKnown}
 use Rattle.run_spec.specs.Lines.{out_line, down_octets}
 use Rattle.run_spec.proofs.Standing.{gone_later}
 use Rattle.run_spec.proofs.SoFar.{so_far_at_first, so_far_later}
-use Rattle.farm_run.specs.Runs.{IsOpened, TellsFailed, KeepsSides, ReadsOn, NoneRose, IsRunOver, IsWritten, IsReadTo, is_listed, Leaves, FailedShort, Runs}
+use Rattle.farm_run.specs.Runs.{TellsFailed, KeepsSides, ReadsOn, NoneRose, IsRunOver, IsWritten, IsReadTo, is_listed, Leaves, FailedShort, Runs}
 use Rattle.farm_run.specs.Standing.{Standing, standing, KnowsListed, HasFlags, IsToCome, never_given}
 use Rattle.farm_run.proofs.Meeting.{told_first}
 use Rattle.farm_run.proofs.Being.{there_is}
 use Rattle.farm_run.proofs.Listed.{listed_head}
 use Rattle.farm_run.specs.declared.pace.Pace.{Pace}
 use Rattle.farm_run.specs.Match.{AtClock, past_if, histories_at}
-use Rattle.farm_run.specs.Clock.{worked_to, IsReadWhole, LinesAt, WrittenFrom, IsAtClock, NeverFell}
+use Rattle.farm_run.specs.Clock.{IsReadWhole, LinesAt, WrittenFrom, IsAtClock, NeverFell}
 use Rattle.farm_run.proofs.Rounds.{shut_after}
 use Rattle.farm_run.proofs.Worked.{length-periods_to}
 use Rattle.farm_run.proofs.Following.{open_told}

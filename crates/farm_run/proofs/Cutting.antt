@@ -10,11 +10,11 @@ use Rattle.trau_orders.specs.declared.order.Order.{Order}
 use Rattle.switchboard.specs.Ends.{start_of}
 use Rattle.switchboard.specs.State.{State}
 use Rattle.farm_rounds.specs.declared.call.Group.{Group}
-use Rattle.run_spec.specs.Run.{Run, done_in, end_in}
+use Rattle.run_spec.specs.Run.{Run, done_in, end_in, worked_to}
 use Rattle.farm_run.specs.Runs.{TellsFailed, KeepsSides, ReadsOn, IsRunOver, is_listed}
 use Rattle.farm_run.specs.Standing.{standing}
 use Rattle.farm_run.specs.Fronts.{LeavesFronts, IsCutShort}
-use Rattle.farm_run.specs.Clock.{worked_to, WrittenFrom, IsAtClock}
+use Rattle.farm_run.specs.Clock.{WrittenFrom, IsAtClock}
 use Rattle.farm_run.proofs.Being.{there_is}
 use Rattle.farm_run.proofs.Clocks.{tells_none, all_out, all_down}
 use Rattle.farm_run.proofs.Sides.{sides_none}

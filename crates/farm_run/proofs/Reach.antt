@@ -9,7 +9,7 @@ use Rattle.switchboard.specs.Ends.{start_of, end_of, ends_at, lack_of}
 use Rattle.trau_io.specs.declared.ends.Cause.TheVariants.{Limit}
 use Rattle.switchboard.specs.State.{first_stamp}
 use Rattle.switchboard.proofs.Appending.{or_else}
-use Rattle.run_spec.specs.Run.{Run, given_in, whole_in, done_in, end_in}
+use Rattle.run_spec.specs.Run.{Run, given_in, whole_in, done_in, end_in, IsOpened, worked_to}
 use Rattle.run_spec.specs.Now.{IsSoFar, NoOrderTo, has_period}
 use Rattle.run_spec.proofs.Lists.{found}
 use Rattle.run_spec.proofs.Executing.{opened-append}
@@ -20,8 +20,6 @@ use Rattle.run_spec.proofs.Ending.{end_closed, end_lacks}
 use Rattle.run_spec.proofs.Going.{opened_run}
 use Rattle.farm_run.specs.Going.{places_in, ends_within}
 use Rattle.farm_run.proofs.RoundTaken.{IsRound}
-use Rattle.farm_run.specs.Runs.{IsOpened}
-use Rattle.farm_run.specs.Clock.{worked_to}
 use Rattle.farm_run.proofs.Rounds.{open_at, no_order, has_place}
 use Rattle.farm_run.proofs.RoundEnds.{ends_there, start_kept}
 

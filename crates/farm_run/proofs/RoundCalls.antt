@@ -22,12 +22,12 @@ use Rattle.farm_rounds.specs.Memory.{FarmMemory}
 use Rattle.farm_rounds.specs.Working.{goes_on_call}
 use Rattle.farm_rounds.specs.RoundHistories.{seat_of}
 use Rattle.farm_rounds.proofs.Working.{goes_on_at}
-use Rattle.run_spec.specs.Run.{Run, whole_in}
+use Rattle.run_spec.specs.Run.{Run, whole_in, IsOpened}
 use Rattle.run_spec.proofs.SoFar.{standing_now}
 use Rattle.run_spec.proofs.Going.{opened_run}
 use Rattle.farm_run.specs.Going.{places_in}
 use Rattle.farm_run.proofs.RoundTaken.{IsRound, IsTaken, IsSeat, has_seat}
-use Rattle.farm_run.specs.Runs.{IsOpened, is_listed}
+use Rattle.farm_run.specs.Runs.{is_listed}
 use Rattle.farm_run.specs.Match.{Matches}
 use Rattle.farm_run.specs.Standing.{Standing, standing, is_over, MeetsRun, IsToCome, never_given}
 use Rattle.farm_run.specs.Clock.{IsAtClock}

@@ -31,16 +31,16 @@ use Rattle.farm_rounds.specs.Histories.{CallHistory, whose, CallStands, GroupsSt
 use Rattle.farm_rounds.specs.Rounds.{octets_of, seat_with}
 use Rattle.farm_rounds.specs.Working.{goes_on_call}
 use Rattle.farm_rounds.specs.RoundHistories.{history_with, worked_histories, those_that}
-use Rattle.run_spec.specs.Run.{Run, given_in, whole_in, done_in, periods_to, end_in, who_in, law_in}
+use Rattle.run_spec.specs.Run.{Run, given_in, whole_in, done_in, periods_to, end_in, who_in, law_in, IsOpened, cause_in, worked_to}
 use Rattle.run_spec.specs.Now.{IsSoFar, settings_now}
 use Rattle.run_spec.specs.Lines.{out_line, down_octets}
 use Rattle.run_spec.proofs.SoFar.{standing_now}
 use Rattle.farm_run.specs.Going.{places_in, ends_within, told_after, is_told}
 use Rattle.farm_run.proofs.RoundTaken.{IsRound}
-use Rattle.farm_run.specs.Runs.{IsOpened, IsWritten, IsCutOff, cause_in, is_listed}
+use Rattle.farm_run.specs.Runs.{IsWritten, IsCutOff, is_listed}
 use Rattle.farm_run.specs.Match.{AtClock, Matches, past_if, histories_at}
 use Rattle.farm_run.specs.Standing.{Standing, standing, KnowsListed, MeetsRun, IsToCome, never_given}
-use Rattle.farm_run.specs.Clock.{worked_to, IsReadWhole, LinesAt, WrittenFrom, IsAtClock}
+use Rattle.farm_run.specs.Clock.{IsReadWhole, LinesAt, WrittenFrom, IsAtClock}
 use Rattle.farm_run.proofs.Rounds.{open_at, open_after, shut_after}
 use Rattle.farm_run.proofs.RoundEnds.{end_within, start_kept}
 use Rattle.farm_run.proofs.Told.{told_done, told_left, round_over, gone_round}

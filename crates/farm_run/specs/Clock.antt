@@ -1,5 +1,5 @@
 -- What holds at the clock t of a run (this project's profile). `before` are the lines before the run, `now` those at the clock.
-use Rattle.std.specs.Prelude.{◌≡◌, ◌⊎◌, ◌≤◌, ◌+◌, ◌-◌, ◌*◌, ℕ, Bool, min, true, false, List, drop}
+use Rattle.std.specs.Prelude.{◌≡◌, ◌⊎◌, ◌≤◌, ◌+◌, ◌-◌, ◌*◌, ℕ, Bool, true, false, List, drop}
 use Rattle.std.specs.List.{AllByRecursion}
 use Rattle.trau_io.specs.declared.ends.CallEnd.{CallEnd}
 use Rattle.trau_io.specs.declared.line.Side.{Side}
@@ -9,7 +9,7 @@ use Rattle.switchboard.specs.Calls.{Done}
 use Rattle.switchboard.specs.Ends.{start_of, end_of}
 use Rattle.switchboard.specs.State.{State}
 use Rattle.call_leg.specs.Settings.{Settings}
-use Rattle.run_spec.specs.Run.{Run, given_in, done_in, start_in, end_in, periods_to, who_in}
+use Rattle.run_spec.specs.Run.{Run, given_in, done_in, end_in, periods_to, who_in, IsOpened, cause_in, worked_to}
 use Rattle.run_spec.specs.Now.{settings_now}
 use Rattle.run_spec.specs.Lines.{out_line, down_octets}
 use Rattle.farm_rounds.specs.declared.call.Group.{Group}
@@ -20,12 +20,8 @@ use Rattle.farm_run.specs.Going.{places_in, ends_within, is_told, told_after}
 use Rattle.farm_run.specs.Journal.{JournalMemory, with_ends}
 use Rattle.farm_run.specs.Ending.{AreApart}
 use Rattle.farm_run.specs.Match.{Follows}
-use Rattle.farm_run.specs.Runs.{IsOpened, IsWritten, IsCutOff, FailedIn, cause_in}
+use Rattle.farm_run.specs.Runs.{IsWritten, IsCutOff, FailedIn}
 use Rattle.farm_run.specs.Standing.{Standing, IsToCome, never_given}
-
--- how many periods of a call lie before the clock
-abbrev pub worked_to : Run → ℕ → ℕ → ℕ
-worked_to r t c = min t (end_in r c) - start_in r c
 
 -- Of a call's incoming lines exactly the octets of its periods are read, as long as it goes on; and also afterwards, where
 -- they didn't end it.

@@ -7,9 +7,9 @@ use Rattle.trau_io.specs.declared.line.Side.TheVariants.{Down, Out}
 use Rattle.trau_io.specs.Lines.{LineState}
 use Rattle.trau_orders.specs.declared.order.Order.{Order}
 use Rattle.trau_orders.specs.Lists.{AreOrders}
-use Rattle.run_spec.specs.Run.{Run}
+use Rattle.run_spec.specs.Run.{Run, IsOpened}
 use Rattle.run_spec.specs.Lines.{out_of_call, down_of_call}
-use Rattle.farm_run.specs.Runs.{AreFailures, IsOpened, IsRunOver, AreTold, KeepsSides, ReadsOn}
+use Rattle.farm_run.specs.Runs.{AreFailures, IsRunOver, AreTold, KeepsSides, ReadsOn}
 
 -- a line has gained a front of these octets
 abbrev pub HasFront : LineState → LineState → List ℕ → Type 0

@@ -1,6 +1,6 @@
 -- What a run leaves on the lines of its calls, and what it reports, whatever fails (this project's profile). `before` are
 -- the lines before it, `now` those after it.
-use Rattle.std.specs.Prelude.{◌≡◌, ◌<◌, ◌≤◌, ℕ, ◌+◌, ◌-◌, ◌*◌, Bool, true, false, ◌==◌, Some, is_some, List, ◌++◌, length, map, take, drop}
+use Rattle.std.specs.Prelude.{◌≡◌, ◌<◌, ◌≤◌, ℕ, ◌+◌, ◌-◌, ◌*◌, Bool, true, false, ◌==◌, Some, List, ◌++◌, length, map, take, drop}
 use Rattle.std.specs.List.{list_any}
 use Rattle.std.specs.List.Sorted.{IsStrictlyIncreasing}
 use Rattle.std.specs.Io.KnownBytes.{Appends}
@@ -14,11 +14,9 @@ use Rattle.trau_io.specs.Places.{place_of}
 use Rattle.call_number.specs.CallNumber.{IsCallNumber}
 use Rattle.trau_orders.specs.declared.order.Order.{Order}
 use Rattle.trau_orders.specs.Lists.{AreOrders}
-use Rattle.switchboard.specs.Calls.{opened_at}
-use Rattle.switchboard.specs.Ends.{start_of, end_of}
 use Rattle.farm_report.specs.View.{ReportView}
 use Rattle.round_lines.specs.Rounds.{IsIncoming, IsOutgoing}
-use Rattle.run_spec.specs.Run.{Run, given_in, done_in, start_in, end_in, periods_in}
+use Rattle.run_spec.specs.Run.{Run, start_in, end_in, periods_in, IsOpened, cause_in}
 use Rattle.run_spec.specs.Lines.{out_of_call, down_of_call}
 use Rattle.run_spec.specs.Facts.{report_of}
 use Rattle.farm_run.specs.declared.pace.Pace.{Pace}
@@ -65,10 +63,6 @@ AreTold lines = (c : ℕ) (s : Side) → IsCallNumber c → IsIncoming s → (oc
 
 -- ---- the run of the definition: `fails` tells which lines failed in it
 
--- an order of the run opened the call
-abbrev pub IsOpened : Run → ℕ → Type 0
-IsOpened r c = is_some (opened_at c (done_in r)) ≡ true
-
 -- The octets of an incoming line are its contents, or, where a read of it failed in the run, the octets that its reads gave
 -- before that: a line that failed isn't read again, and so what it still holds are the others.
 abbrev pub IsGiven : Bool → LineState → LineState → List ℕ → Type 0
@@ -84,10 +78,6 @@ pub record IsRunOver (orders : List Order) (periods : ℕ) (fails : ℕ → Side
   pub pcm : (c : ℕ) → IsOpened r c → IsGiven (fails c Pcm) (before c Pcm) (now c Pcm) (r.lines c).pcm
   pub up_failed : (c : ℕ) → (r.lines c).up_failed ≡ fails c Up
   pub pcm_failed : (c : ℕ) → (r.lines c).pcm_failed ≡ fails c Pcm
-
--- why a call ended
-abbrev pub cause_in : Run → ℕ → Cause
-cause_in r c = (end_of (given_in r) r.periods (done_in r) c (start_of (done_in r) c)).cause
 
 -- the call's lines didn't end it: an order closed it, or the run ended
 abbrev pub IsCutOff : Cause → Type 0

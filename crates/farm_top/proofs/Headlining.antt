@@ -13,13 +13,13 @@ use Rattle.switchboard.specs.declared.act.Span.{Span}
 use Rattle.call_spec.specs.Out.{out}
 use Rattle.call_spec.specs.Down.{down}
 use Rattle.farm_orders.specs.Reading.{ReadsOrders}
-use Rattle.run_spec.specs.Run.{Run}
+use Rattle.run_spec.specs.Run.{Run, IsOpened}
 use Rattle.run_spec.specs.Lines.{down_of_call, out_of_call}
 use Rattle.run_spec.specs.Facts.{span_line}
 use Rattle.run_calls_spec.specs.Whole.{whole_call}
 use Rattle.farm_report.specs.View.{ReportView}
 use Rattle.farm_run.specs.declared.pace.Pace.{Pace}
-use Rattle.farm_run.specs.Runs.{IsOpened, IsWritten, Leaves, Runs, is_listed}
+use Rattle.farm_run.specs.Runs.{IsWritten, Leaves, Runs, is_listed}
 use Rattle.farm_top.specs.Farm.{RunsAndTells, TellsReport}
 use Rattle.farm_top.specs.Headline.{GoesOut, HandsOver, Headline}
 

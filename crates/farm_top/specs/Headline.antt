@@ -14,11 +14,11 @@ use Rattle.switchboard.specs.declared.act.Span.{Span}
 use Rattle.call_leg.specs.Uplink.{handed_fields}
 use Rattle.call_spec.specs.Out.{out}
 use Rattle.call_spec.specs.Down.{frame_at, down}
-use Rattle.run_spec.specs.Run.{Run, spans_in, start_in, end_in, partner_in}
+use Rattle.run_spec.specs.Run.{Run, spans_in, start_in, end_in, partner_in, IsOpened}
 use Rattle.run_spec.specs.Facts.{span_line, report_of}
 use Rattle.run_calls_spec.specs.Whole.{span_for, whole_call, IsBridged, item_for, yield_on, frame_on}
 use Rattle.run_calls_spec.specs.Sent.{sent_frame, place_in, CarriesHanded, Sends, Waits, IsFirst}
-use Rattle.farm_run.specs.Runs.{IsOpened, IsWritten}
+use Rattle.farm_run.specs.Runs.{IsWritten}
 
 -- What a call is handed in the periods of a bridge: its partner's effective frames, as 260 bits, and nothing else.
 pub record HandsOver (r : Run) : Type 0 where

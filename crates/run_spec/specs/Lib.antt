@@ -3,3 +3,4 @@ pub mod Run
 pub mod Lines
 pub mod Facts
 pub mod Now
+pub mod Mark

@@ -1,9 +1,10 @@
 -- A run, and the periods of its calls (this project's profile). Lists of periods have the newest first, lists of
 -- orders the oldest.
-use Rattle.std.specs.Prelude.{ℕ, ◌+◌, ◌-◌, ◌*◌, zero, suc, ℤ, pos, Bool, ◌&&◌, ◌||◌, if◌then◌else◌, ◌==◌, nat_le, nat_lt, Option, option_map, find, Result, Ok, List, [], ◌∷◌, length, take, drop, filter}
+use Rattle.std.specs.Prelude.{ℕ, ◌+◌, ◌-◌, ◌*◌, zero, suc, ℤ, pos, Bool, ◌&&◌, ◌||◌, if◌then◌else◌, ◌==◌, nat_le, nat_lt, min, true, ◌≡◌, Option, option_map, is_some, find, Result, Ok, List, [], ◌∷◌, length, take, drop, filter}
 use Rattle.std.specs.List.{list_any}
 use Rattle.trau_params.specs.Bits260.{bits260}
 use Rattle.trau_alaw.specs.declared.Law.{Law}
+use Rattle.trau_io.specs.declared.ends.Cause.{Cause}
 use Rattle.trau_orders.specs.declared.order.Order.{Order}
 use Rattle.trau_orders.specs.declared.order.DtxMode.{DtxMode}
 use Rattle.trau_orders.specs.declared.order.DtxMode.TheVariants.{Uplink}
@@ -11,9 +12,9 @@ use Rattle.switchboard.specs.declared.act.Act.{Act}
 use Rattle.switchboard.specs.declared.act.Act.TheVariants as act
 use Rattle.switchboard.specs.declared.act.Refusal.{Refusal}
 use Rattle.switchboard.specs.declared.act.Span.{Span}
-use Rattle.switchboard.specs.Calls.{Done, law_at}
+use Rattle.switchboard.specs.Calls.{Done, opened_at, law_at}
 use Rattle.switchboard.specs.Runs.{done_of}
-use Rattle.switchboard.specs.Ends.{Given, whole_of, start_of, ends_at, spans_of}
+use Rattle.switchboard.specs.Ends.{Given, whole_of, start_of, end_of, ends_at, spans_of}
 use Rattle.frame_sync.specs.Periods.{yield_of}
 use Rattle.rx_handler.specs.Heard.{Heard}
 use Rattle.rx_handler.specs.Past.{effective_of}
@@ -56,6 +57,18 @@ start_in r c = start_of (done_in r) c
 
 abbrev pub end_in : Run → ℕ → ℕ
 end_in r c = ends_at (given_in r) r.periods (done_in r) c
+
+-- an order of the run opened the call
+abbrev pub IsOpened : Run → ℕ → Type 0
+IsOpened r c = is_some (opened_at c (done_in r)) ≡ true
+
+-- why a call ended
+abbrev pub cause_in : Run → ℕ → Cause
+cause_in r c = (end_of (given_in r) r.periods (done_in r) c (start_of (done_in r) c)).cause
+
+-- how many periods of a call lie before period t of the run
+abbrev pub worked_to : Run → ℕ → ℕ → ℕ
+worked_to r t c = min t (end_in r c) - start_in r c
 
 -- whose call it is: its number, and the law of the order that opened it
 abbrev pub law_in : Run → ℕ → Law
