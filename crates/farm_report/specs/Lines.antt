@@ -94,10 +94,6 @@ call_lines c = end_line c ++ counts_line c.end.call c.counts
 abbrev pub failed_line : Line → List ℕ
 failed_line line = failed_text line.call line.side
 
--- and of each line that failed
-abbrev pub failed_lines : List Line → List ℕ
-failed_lines lines = flat_map failed_line lines
-
 -- the greatest end of the calls, or 0 where there are none
 abbrev pub last_end : List CallLine → ℕ
 last_end calls = fold (λ at call. max at call.end.at) 0 calls
@@ -108,4 +104,4 @@ last_line calls left = line_of (codes "end" ∷ codes "period" ∷ decimal (last
 
 -- the whole text, each list in its order
 unfoldable pub report_text : ReportView → List ℕ
-report_text r = flat_map reply_line r.replies ++ flat_map span_line r.spans ++ flat_map call_lines r.calls ++ failed_lines r.failed ++ last_line r.calls r.left
+report_text r = flat_map reply_line r.replies ++ flat_map span_line r.spans ++ flat_map call_lines r.calls ++ flat_map failed_line r.failed ++ last_line r.calls r.left

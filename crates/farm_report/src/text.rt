@@ -2,7 +2,7 @@
 
 ghost use Rattle.std.specs.Prelude.{◌≡◌, ◌++◌, IfOk, OnOk, string_bytes};
 ghost use Rattle.std.specs.List.{flat_map};
-ghost use Rattle.farm_report.specs.Lines.{failed_lines, report_text};
+ghost use Rattle.farm_report.specs.Lines.{failed_line, report_text};
 
 use crate::Report;
 use crate::lines::{Told, put_last};
@@ -42,7 +42,7 @@ pub fn write_report(alloc: Global, report: &Report) -> Result<String, AllocError
 
 /// The text of the lines that failed, as a report has it: a line for each.
 pub fn write_failed(alloc: Global, failed: &[Line]) -> Result<String, AllocError>
-    ensures { IfOk result (λ text. string_bytes text ≡ failed_lines failed.now) }
+    ensures { IfOk result (λ text. string_bytes text ≡ flat_map failed_line failed.now) }
 {
     let mut text = String::new(alloc);
     put_all(&mut text, failed)?;
