@@ -42,7 +42,7 @@ use Rattle.farm_run.specs.declared.pace.Pace.{Pace}
 use Rattle.farm_run.specs.Match.{AtClock, past_if, histories_at}
 use Rattle.farm_run.specs.Clock.{IsReadWhole, LinesAt, WrittenFrom, IsAtClock, NeverFell}
 use Rattle.farm_run.proofs.Rounds.{shut_after}
-use Rattle.farm_run.proofs.Worked.{length-periods_to}
+use Rattle.run_spec.proofs.LongerLines.{length-periods_to}
 use Rattle.farm_run.proofs.Following.{open_told}
 use Rattle.farm_run.proofs.Reach.{worked_idle, worked_all}
 

@@ -12,7 +12,7 @@ use Rattle.trau_io.specs.declared.line.Side.TheVariants.{Up, Pcm, Down, Out}
 use Rattle.trau_io.specs.Lines.{LineState}
 use Rattle.round_lines.specs.Transfer.{has_failed}
 use Rattle.round_lines.specs.Seats as seats
-use Rattle.round_lines.specs.Seats.{SeatMemory, down_of}
+use Rattle.round_lines.specs.Seats.{down_of}
 use Rattle.round_lines.specs.Rounds.{seat_at, call_at}
 use Rattle.switchboard.specs.Calls.{Done, opened_at, closed_at, is_open, gone_at}
 use Rattle.switchboard.specs.Ends.{Given, lack_of, end_of, start_of}
@@ -45,10 +45,11 @@ use Rattle.farm_run.proofs.Rounds.{open_at, open_after, shut_after}
 use Rattle.farm_run.proofs.RoundEnds.{end_within, start_kept}
 use Rattle.farm_run.proofs.Told.{told_done, told_left, round_over, gone_round}
 use Rattle.farm_run.proofs.SeatEnds.{each_end, told_seats}
-use Rattle.farm_run.proofs.Worked.{out_written, down_written, length-periods_to}
+use Rattle.farm_run.proofs.Worked.{out_written, down_written}
 use Rattle.farm_run.proofs.Reach.{end_after, worked_now, worked_then, worked_idle}
 use Rattle.farm_run.proofs.WorkedRound.{WorkedRound, lines_kept, down_between, out_between}
-use Rattle.farm_run.proofs.Gaining.{gains, length-out_line, length-down_octets}
+use Rattle.farm_run.proofs.Gaining.{gains}
+use Rattle.run_spec.proofs.LongerLines.{length-out_line, length-down_octets, length-periods_to}
 use Rattle.farm_run.proofs.RoundListed.{listed_kept, was_down, was_out, stands_down, stands_out}
 use Rattle.farm_run.proofs.RoundCalls.{OpenSeat, open_seat, open_is, opened_is, all_seats, all_have_seats, ends_filled, goes_on_is}
 use Rattle.farm_run.proofs.RoundPast.{IsPast, worked_past}

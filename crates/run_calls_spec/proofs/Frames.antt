@@ -39,6 +39,7 @@ use Rattle.call_spec.proofs.Reading.{LooksBack, yield-period, effective-period}
 use Rattle.call_spec.proofs.Whole.{history-whole, call-whole}
 use Rattle.run_spec.specs.Run.{who_in, Run, done_in, start_in, end_in, partner_in, up_in, ups_to, item_of, heard_by, period_of, periods_to, periods_in}
 use Rattle.run_spec.proofs.Going.{ups_periods, item_ups}
+use Rattle.run_spec.proofs.LongerLines.{length-periods_to}
 use Rattle.run_calls_spec.specs.Whole.{count_in, whole_call, IsBridged, item_for, yield_on, frame_on}
 use Rattle.run_calls_spec.proofs.Periods.{is_whole, history_same}
 use Rattle.run_calls_spec.proofs.Items.{bridged_lies, partner_bridged, both_have, counted, item_found}
@@ -50,10 +51,6 @@ record HasPeriod (r : Run) (c k : ℕ) : Type 0 where
   orders : AreOrders r.orders
   known : is_some (opened_at c (done_in r)) ≡ true
   within : k < count_in r c
-
-length-periods_to : (r : Run) (c n : ℕ) → length (periods_to r c n) ≡ n
-length-periods_to r c zero = refl
-length-periods_to r c (suc n) = ap suc (length-periods_to r c n)
 
 period_among : (r : Run) (c k n : ℕ) → k < n → IsPeriod (periods_to r c n) (period_of r c k) (periods_to r c k)
 period_among r c k zero l = absurd (omega arith)

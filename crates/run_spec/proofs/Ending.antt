@@ -6,13 +6,13 @@ use Rattle.std.proofs.lemmas.Bool.{leb-true, le-leb, lt-leb, le-ltb, lt-ltb}
 use Rattle.std.proofs.lemmas.List.{append-nil}
 use Rattle.std.proofs.lemmas.List.Elements.{filter-append, recursion_from_All}
 use Rattle.trau_io.specs.declared.ends.Cause.TheVariants.{Closed, Limit}
-use Rattle.trau_io.specs.declared.ends.CallEnd.{CallEnd}
 use Rattle.trau_orders.specs.declared.order.Order.{Order}
 use Rattle.switchboard.specs.Calls.{Done, opened_at, closed_at}
 use Rattle.switchboard.specs.Runs.{left_of}
 use Rattle.switchboard.specs.State.{first_stamp, numbered}
-use Rattle.switchboard.specs.Ends.{Given, whole_of, lack_of, end_of, spans_of, ends_at}
+use Rattle.switchboard.specs.Ends.{lack_of, end_of, spans_of, ends_at}
 use Rattle.switchboard.proofs.Appending.{or_else}
+use Rattle.switchboard.proofs.Whole.{end_by}
 use Rattle.run_spec.specs.Run.{Run, given_in, whole_in, done_in}
 use Rattle.trau_io.specs.declared.line.Line.{Line}
 use Rattle.farm_report.specs.View.{ReportView}
@@ -22,13 +22,6 @@ use Rattle.run_spec.proofs.Executing.{closed-append, added}
 use Rattle.run_spec.proofs.Standing.{closed_kept, opened_kept}
 use Rattle.run_spec.proofs.Settling.{closed_stamp, at_of, ends_by}
 use Rattle.run_spec.proofs.SoFar.{Rises, left_rises, rest_in, done-rest, rest_above, standing_rest, rest_from, standing_end}
-
-abbrev end_by : (ℕ → Given) → ℕ → ℕ → ℕ → Option ℕ → CallEnd
-end_by given P c s o = elim o [
-  | Some t ↦ record { call = c; at = t; cause = Closed }
-  | None ↦ if nat_le P (s + whole_of (given c)) then record { call = c; at = P; cause = Limit }
-      else record { call = c; at = s + whole_of (given c); cause = lack_of (whole_of (given c)) (given c) }
-]
 
 -- **A closed call has ended there.**
 pub end_closed : (r : Run) (t : ℕ) (ds : List Done) (left : List Order) (c s e : ℕ) → IsSoFar r t ds left → closed_at c ds ≡ Some e →
@@ -61,7 +54,7 @@ end_lacks r t ds left c s so o l e n =
 
 -- ---- the run's end
 
-none_left : (P t : ℕ) (os : List Order) → P ≤ t → Rises t os → filter (λ o. nat_lt o.stamp P) os ≡ []
+pub none_left : (P t : ℕ) (os : List Order) → P ≤ t → Rises t os → filter (λ o. nat_lt o.stamp P) os ≡ []
 none_left P t [] l h = refl
 none_left P t (o ∷ os) l h = ap (λ (b : Bool). if b then o ∷ filter (λ o. nat_lt o.stamp P) os else filter (λ o. nat_lt o.stamp P) os) (le-ltb o.stamp P (let k = h.0 in omega arith)) ∙ none_left P o.stamp os (let k = h.0 in omega arith) h.1
 
@@ -77,7 +70,7 @@ others_left : (P : ℕ) (ds : List Done) → AllByRecursion (λ d. d.order.stamp
 others_left P [] h = refl
 others_left P (d ∷ ds) h = ap (λ (b : Bool). if not b then d.order ∷ left_of P (map (λ d. d.order) ds) else left_of P (map (λ d. d.order) ds)) (lt-ltb d.order.stamp P h.0) ∙ others_left P ds h.1
 
-all_stay : (P t : ℕ) (os : List Order) → P ≤ t → Rises t os → left_of P os ≡ os
+pub all_stay : (P t : ℕ) (os : List Order) → P ≤ t → Rises t os → left_of P os ≡ os
 all_stay P t [] l h = refl
 all_stay P t (o ∷ os) l h =
     let k : P ≤ o.stamp = (let m = h.0 in omega arith) in

@@ -13,12 +13,9 @@ use Rattle.switchboard.specs.Calls.{Done, is_this, opened_by, closed_by, opened_
 use Rattle.switchboard.specs.Bridges.{ends_bridge, bridge_by, bridges}
 use Rattle.switchboard.specs.Replies.{reply_to}
 use Rattle.switchboard.specs.Runs.{executed, done_of, IsRun}
-use Rattle.switchboard.proofs.Appending.{or_else}
+use Rattle.switchboard.proofs.Appending.{or_else, stamp_of}
 
 -- ---- the orders that come later change
-
-abbrev stamp_of : Option Done → Option ℕ
-stamp_of o = option_map (λ d. d.order.stamp) o
 
 stamps_append : (t : Bool) (e : Done) (u v : Option Done) (w : Option ℕ) → stamp_of u ≡ or_else (stamp_of v) w →
     stamp_of (if t then Some e else u) ≡ or_else (stamp_of (if t then Some e else v)) w

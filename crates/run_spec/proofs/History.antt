@@ -18,7 +18,8 @@ use Rattle.down_framer.proofs.FrameLaws.{apart}
 use Rattle.run_spec.specs.Run.{Run, given_in, whole_in, done_in, spans_in, is_of, span_at, handed_to, period_of, periods_to}
 use Rattle.run_spec.proofs.Lists.{each_weaker, find_none, find_map, found, none_each, any_map, none_any}
 use Rattle.run_spec.proofs.Standing.{IsSoundBridge, NeverOverlap, Standing, RisesFrom, is_before, over_by, gone_is}
-use Rattle.run_spec.proofs.Settling.{bridge_stamps, end_by, at_of, to_of, ends_by, start_is, covers}
+use Rattle.switchboard.proofs.Whole.{end_by}
+use Rattle.run_spec.proofs.Settling.{bridge_stamps, at_of, to_of, ends_by, start_is, covers}
 use Rattle.run_spec.proofs.SoFar.{run_rises, standing_end}
 
 no : (t : Bool) → t ≡ false → t ≡ true → ⊥

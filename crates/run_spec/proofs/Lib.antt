@@ -16,3 +16,6 @@ pub mod Carrying
 pub mod Sending
 pub mod Sent
 pub mod Rounds
+pub mod LongerLines
+pub mod Cut
+pub mod Joining

@@ -3,7 +3,7 @@ use Rattle.std.proofs.Common.{◌≡◌, refl, sym, ap, ◌∙◌, subst, ℕ, �
 use Rattle.std.specs.Prelude.{Result, Ok, Err, ◌&&◌, ◌||◌, is_none, option_map, unwrap_or, IfSome, ◌==◌, if◌then◌else◌, find, nat_lt, nat_le}
 use Rattle.std.specs.List.{AllByRecursion, list_any}
 use Rattle.std.proofs.lemmas.Bool.{lt-ltb, le-ltb, le-leb, lt-leb, leb-true, ne_eqb, cases_lt}
-use Rattle.trau_io.specs.declared.ends.Cause.TheVariants.{Closed, Limit}
+use Rattle.trau_io.specs.declared.ends.Cause.TheVariants.{Limit}
 use Rattle.trau_io.specs.declared.ends.CallEnd.{CallEnd}
 use Rattle.switchboard.specs.declared.act.Act.{Act}
 use Rattle.switchboard.specs.declared.act.Act.TheVariants as act
@@ -14,6 +14,7 @@ use Rattle.switchboard.specs.Calls.{Done, opened_at, closed_at}
 use Rattle.switchboard.specs.Bridges.{ends_bridge, bridge_by, bridges, joins}
 use Rattle.switchboard.specs.Ends.{Given, whole_of, lack_of, start_of, ends_at, span_of, spans_of}
 use Rattle.switchboard.proofs.Appending.{or_else}
+use Rattle.switchboard.proofs.Whole.{end_by}
 use Rattle.run_spec.proofs.Lists.{each_append, each_weaker, find_same, find_map, find_front, any_map, any_front}
 use Rattle.run_spec.proofs.Executing.{closed-append, bridges-append, after_all}
 use Rattle.run_spec.proofs.Standing.{IsSoundBridge, Standing, opened_kept}
@@ -45,13 +46,6 @@ bridge_stamps Q (d ∷ ds) h = each_append _ (bridge_by d.order.stamp d.result d
     one Q t (Err e) ds h = tt
 
 -- ---- ends
-
-abbrev pub end_by : (ℕ → Given) → ℕ → ℕ → ℕ → Option ℕ → CallEnd
-end_by given P c s o = elim o [
-  | Some t ↦ record { call = c; at = t; cause = Closed }
-  | None ↦ if nat_le P (s + whole_of (given c)) then record { call = c; at = P; cause = Limit }
-      else record { call = c; at = s + whole_of (given c); cause = lack_of (whole_of (given c)) (given c) }
-]
 
 abbrev pub at_of : CallEnd → ℕ
 at_of e = e.at

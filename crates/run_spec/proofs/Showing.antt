@@ -1,5 +1,5 @@
 -- What an accepted order shows of the orders before it.
-use Rattle.std.proofs.Common.{◌≡◌, refl, sym, ap, subst, ℕ, Bool, true, false, Option, Some, None, List, [], ◌∷◌, inl, inr}
+use Rattle.std.proofs.Common.{◌≡◌, refl, sym, ap, subst, ℕ, Bool, true, false, Option, Some, None, [], ◌∷◌, inl, inr}
 use Rattle.std.specs.Prelude.{Result, Ok, Err, not, option_map, ◌==◌, if◌then◌else◌}
 use Rattle.std.proofs.lemmas.Bool.{eqb-true}
 use Rattle.trau_alaw.specs.declared.Law.{Law}
@@ -12,8 +12,8 @@ use Rattle.switchboard.specs.declared.act.Refusal.{Refusal}
 use Rattle.switchboard.specs.declared.table.Bridge.{Bridge}
 use Rattle.switchboard.specs.Calls.{Done, opened_at, closed_at}
 use Rattle.switchboard.specs.Bridges.{other}
-use Rattle.switchboard.specs.Replies.{Known, refuse_if, first_of_tests, reply_from}
-use Rattle.switchboard.proofs.Replies.{IsRefused, Joined, open_accepted, close_accepted, bridge_accepted, unbridge_accepted}
+use Rattle.switchboard.specs.Replies.{Known, refuse_if, reply_from}
+use Rattle.switchboard.proofs.Replies.{IsRefused, reply, Joined, open_accepted, close_accepted, bridge_accepted, unbridge_accepted}
 
 abbrev pub ShownBy : Known → Result Act Refusal → Type 0
 ShownBy k (Ok (act.Opened c law)) = (k.is_open c ≡ false) × (k.has_ended c ≡ false)
@@ -26,9 +26,6 @@ ShownBy k (Err e) = Unit {0}
 
 refused : (k : Known) (r : Result Act Refusal) → IsRefused r → ShownBy k r
 refused k r e = subst (ShownBy k) (sym e.1) tt
-
-abbrev reply : List (Option Refusal) → Act → Result Act Refusal
-reply os a = elim (first_of_tests os) [ None ↦ Ok a | Some r ↦ Err r ]
 
 -- an order that is refused only where its call isn't open
 setting : (k : Known) (b : Bool) (e : Refusal) (a : Act) → (b ≡ true → ShownBy k (Ok a)) → ShownBy k (reply (refuse_if (not b) e ∷ []) a)

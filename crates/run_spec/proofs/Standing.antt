@@ -13,6 +13,7 @@ use Rattle.switchboard.specs.Calls.{Done, is_this, opened_at, closed_at, is_open
 use Rattle.switchboard.specs.Bridges.{ends_bridge, bridge_by, bridges, joins, other, lasts, bridge_of, bridge_ended}
 use Rattle.switchboard.specs.Replies.{known_of, reply_to}
 use Rattle.switchboard.proofs.Appending.{or_else, after, bridges-more}
+use Rattle.switchboard.proofs.Moves.{closes_this}
 use Rattle.run_spec.proofs.Lists.{each_append, each_map, each_weaker, each_both, each_all, find_none, none_each, AtMostOne, one_found}
 use Rattle.run_spec.proofs.Executing.{opened-append, closed-append, AreReplies}
 use Rattle.run_spec.proofs.Showing.{ShownBy, shown, opens, closes}
@@ -169,15 +170,6 @@ here whole t ds = gone_at whole t ds
 -- a close ends the bridge of its call that lasts
 abbrev pub IsParted : (ℕ → ℕ) → ℕ → List Done → Result Act Refusal → Bridge → Type 0
 IsParted whole t ds r x = (c : ℕ) (p : Option ℕ) → r ≡ Ok (act.Closed c p) → joins c x ≡ true → lasts (gone_at whole t ds) ds x ≡ true → ends_bridge x.a x.b r ≡ true
-
-joins_second : (c : ℕ) (x : Bridge) → joins c x ≡ true → (c == x.a) ≡ false → c ≡ x.b
-joins_second c x j f = elim (or_cases (c == x.a) (c == x.b) j) [ inl p ↦ absurd (no _ f p) | inr p ↦ eqb-true c x.b p ]
-
-pub closes_this : (c : ℕ) (x : Bridge) → joins c x ≡ true → ends_bridge x.a x.b (Ok (act.Closed c (Some (other c x)))) ≡ true
-closes_this c x j = elim (cases_Bool (c == x.a)) [
-  | inl p ↦ or_left _ _ (and_from _ _ p (ap (λ (t : Bool). (if t then x.b else x.a) == x.b) p ∙ eq-eqb x.b x.b refl))
-  | inr p ↦ or_right _ _ (and_from _ _ (eq-eqb c x.b (joins_second c x j p)) (ap (λ (t : Bool). (if t then x.b else x.a) == x.a) p ∙ eq-eqb x.a x.a refl))
-]
 
 pub parted : (whole : ℕ → ℕ) (t : ℕ) (ds : List Done) (r : Result Act Refusal) → ((c : ℕ) → AtMostOne (λ x. joins c x && lasts (gone_at whole t ds) ds x) (bridges ds)) →
     ShownBy (known_of (gone_at whole t ds) t ds) r → AllByRecursion (IsParted whole t ds r) (bridges ds)

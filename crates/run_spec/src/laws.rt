@@ -28,6 +28,7 @@ ghost use Rattle.call_leg.specs.Counted.{call_counts};
 ghost use Rattle.call_leg.specs.Places.{sent_now};
 ghost use Rattle.run_spec.specs.Run.{Run, given_in, whole_in, done_in, spans_in, start_in, end_in, law_in, who_in, up_in, pcm_in, ups_to, item_of, period_of, periods_to};
 ghost use Rattle.run_spec.specs.Lines.{out_line, down_octets, out_of_call, down_of_call};
+ghost use Rattle.run_spec.specs.Mark.{Joins};
 ghost use Rattle.run_spec.specs.Facts.{opened_calls, call_line, span_line, sent_by, report_of};
 ghost use Rattle.run_spec.specs.Now.{IsSoFar, NoOrderTo, has_period, bridge_now, handed_now, period_now, settings_now, settings_in, changed_by, after_periods};
 
@@ -210,4 +211,9 @@ pub fn sent_frames_are_told()
     ensures end { (r : Run) (t : ℕ) (ds : List Done) (left : List Order) (c s k : ℕ) (x : Span) → IsSoFar r t ds left →
         opened_at c ds ≡ Some s → IsLatest (bridges ds) c (Some k) → end_in r c ≡ t →
         sent_by r (get_or (spans_in r) k x) c ≡ sent_now (periods_to r c (t - s)) (settings_now r ds t c) }
+{}
+
+/// A run to its end writes what it writes to an earlier period, and behind that the octets of the later periods.
+pub fn a_run_is_joined_of_two()
+    ensures { (r : Run) (p : ℕ) → AreOrders r.orders → p ≤ r.periods → Joins r p }
 {}

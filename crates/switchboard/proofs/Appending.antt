@@ -18,7 +18,8 @@ or_else (Some x) y = Some x
 abbrev pub after : Done → Bridge → Bridge
 after d x = record x { ended = or_else x.ended (option_map (λ d. d.order.stamp) (find (λ d. ends_bridge x.a x.b d.result) (d ∷ []))) }
 
-abbrev stamp_of : Option Done → Option ℕ
+-- the stamp of an executed order
+abbrev pub stamp_of : Option Done → Option ℕ
 stamp_of o = option_map (λ d. d.order.stamp) o
 
 one_more : (t : Bool) (e : Done) (u v : Option Done) (w : Option ℕ) → stamp_of u ≡ or_else (stamp_of v) w →

@@ -197,7 +197,7 @@ stands_unbridged r ds o k s z late lk live =
     (table_parted r o.stamp k t lk live))
 
 -- the two ways in which a `close` names a bridge
-closes_this : (c : ℕ) (x : Bridge) → joins c x ≡ true → ends_bridge x.a x.b (Ok (act.Closed c (Some (other c x)))) ≡ true
+pub closes_this : (c : ℕ) (x : Bridge) → joins c x ≡ true → ends_bridge x.a x.b (Ok (act.Closed c (Some (other c x)))) ≡ true
 closes_this c x q = elim (cases_Bool (c == x.a)) [
   | inl p ↦ or_one _ _ (and_two _ _ p (ap (λ (t : Bool). (if t then x.b else x.a) == x.b) p ∙ eq-eqb x.b x.b refl))
   | inr p ↦ or_two _ _ (and_two _ _ (elim (joins_cases c x q) [ inl e ↦ absurd (both _ p (eq-eqb c x.a e)) | inr e ↦ eq-eqb c x.b e ]) (ap (λ (t : Bool). (if t then x.b else x.a) == x.a) p ∙ eq-eqb x.a x.a refl))

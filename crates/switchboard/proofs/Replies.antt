@@ -20,7 +20,8 @@ use Rattle.switchboard.specs.Stands.{InTable}
 abbrev pub IsRefused : Result Act Refusal → Type 0
 IsRefused r = (e : Refusal) × (r ≡ Err e)
 
-abbrev reply : List (Option Refusal) → Act → Result Act Refusal
+-- the first refusal, or else the act
+abbrev pub reply : List (Option Refusal) → Act → Result Act Refusal
 reply os a = elim (first_of_tests os) [ None ↦ Ok a | Some r ↦ Err r ]
 
 one : (a : Act) (o : Option Refusal) → IsRefused (reply (o ∷ []) a) ⊎ ((reply (o ∷ []) a ≡ Ok a) × (o ≡ None))

@@ -18,9 +18,6 @@ pub or_else-none : {X : Type 0} (o : Option X) → or_else o None ≡ o
 or_else-none None = refl
 or_else-none (Some x) = refl
 
-stamp_of : Option Done → Option ℕ
-stamp_of o = option_map (λ d. d.order.stamp) o
-
 pub last-more : (ds : List Done) (d : Done) → last_stamp (ds ++ d ∷ []) ≡ d.order.stamp
 last-more [] d = refl
 last-more (e ∷ []) d = refl

@@ -21,7 +21,8 @@ use Rattle.std.specs.Prelude.{is_none, ◌&&◌}
 use Rattle.switchboard.proofs.Tables.{joins_left, joins_right}
 use Rattle.switchboard.proofs.Boards.{gone_same, told_is}
 
-abbrev end_by : (ℕ → Given) → ℕ → ℕ → ℕ → Option ℕ → CallEnd
+-- the end of a call that began at s and was closed there, if it was
+abbrev pub end_by : (ℕ → Given) → ℕ → ℕ → ℕ → Option ℕ → CallEnd
 end_by given P c s o = elim o [
   | Some t ↦ record { call = c; at = t; cause = Closed }
   | None ↦ if nat_le P (s + whole_of (given c)) then record { call = c; at = P; cause = Limit }
