@@ -5,6 +5,10 @@ mod Drilling
 mod Ending
 mod FarmCausing
 mod FarmCleaning
-mod Following
 mod Living
 mod Headlining
+mod ResumeCausing
+mod ResumeReading
+mod Resuming
+mod Taking
+mod ToldRuns
