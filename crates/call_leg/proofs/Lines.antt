@@ -31,7 +31,8 @@ grown-line who p past fs = go (nat_le (next_start fs) (160 * length past))
     go true = (frame_on_line (next_frame p past fs).shift (bits_now who (next_frame p past fs ∷ fs)), refl)
     go false = ([], sym (append-nil (down_made who fs)))
 
-made-line : (who : Who) (t : CallPeriod) (past : List CallPeriod) → (more : List ℕ) × (down_made who (frames_of (t ∷ past)) ≡ down_made who (frames_of past) ++ more)
+made-line : (who : Who) (t : CallPeriod) (past : List CallPeriod) →
+    (more : List ℕ) × (down_made who (frames_of (t ∷ past)) ≡ down_made who (frames_of past) ++ more)
 made-line who t past =
     let p = down_period t past in
     let one = grown-line who p (down_periods past) (frames_of past) in
@@ -43,7 +44,8 @@ line-is_made who [] = refl
 line-is_made who (t ∷ past) =
     let n = length-down_periods past in
     let more = made-line who t past in
-    let far : 320 * length (down_periods past) < length (down_made who (frames_of past)) = made-far (bits_now who) (λ fs. length-down_bits (frame_now who fs)) (down_periods past) in
+    let far : 320 * length (down_periods past) < length (down_made who (frames_of past)) = made-far (bits_now who) (λ fs. length-down_bits (frame_now who fs))
+    (down_periods past) in
     let here : 320 * length (down_periods past) ≡ 320 * length past = omega arith in
     let same : take (320 * length past) (down_made who (frames_of (t ∷ past))) ≡ take (320 * length past) (down_made who (frames_of past)) =
     ap (take (320 * length past)) more.1 ∙ take-append-le (320 * length past) (down_made who (frames_of past)) more.0 (omega arith) in

@@ -1,6 +1,7 @@
 -- The shift of a frame, and what is asked for.
 use Rattle.std.proofs.Common.{◌≡◌, refl, ℤ, pos, Bool, true, false, if◌then◌else◌, None, unwrap_or}
-use Rattle.time_align.specs.Memory.{AlignMemory, adopted}
+use Rattle.time_align.specs.Memory.{AlignMemory}
+use Rattle.time_align.specs.Step.{adopted}
 
 abbrev shift_by : Bool → AlignMemory → ℤ × AlignMemory
 shift_by b m = if b then (pos 0, m) else (unwrap_or m.kept (pos 0), record { kept = None; frozen = false })

@@ -7,7 +7,7 @@ use Rattle.time_align.specs.Shift.{IsShift}
 use Rattle.trau_frame.specs.declared.frames.DownFrame.{DownFrame}
 use Rattle.trau_frame.specs.DownFrame.{down_bits}
 use Rattle.trau_frame.proofs.Again.{length-down_bits}
-use Rattle.down_framer.specs.Made.{Period, MadeFrame, octets_of, next_start, made_frames, frame_on_line}
+use Rattle.down_framer.specs.Made.{Period, MadeFrame, octets_to_next, next_start, made_frames, frame_on_line}
 use Rattle.down_framer.proofs.Timing.{octets_of-bounds}
 use Rattle.down_framer.proofs.Store.{AreInTurn, AreInTurn-made_frames, length-line_of, length-frame_on_line}
 use Rattle.ccu_end.specs.Read.{down_frame_in}
@@ -96,7 +96,7 @@ line-first = record {
 }
 
 pub line-more : (line : List ℕ) (fs : List FoundFrame) (end more : ℕ) (v : ℤ) (bits : List ℕ) (f : FoundFrame) → IsLine line fs end → length line ≡ end → f.place ≡ end →
-    IsFrame bits → IsShift v → more ≡ end + 2 * octets_of v → f.frame ≡ down_frame_in bits → IsLine (line ++ frame_on_line v bits) (fs ++ f ∷ []) more
+    IsFrame bits → IsShift v → more ≡ end + 2 * octets_to_next v → f.frame ≡ down_frame_in bits → IsLine (line ++ frame_on_line v bits) (fs ++ f ∷ []) more
 line-more line fs end more v bits f h long place whole shift next says =
     let bounds = octets_of-bounds v shift in
     let least = bounds.0 in

@@ -3,7 +3,7 @@ use Rattle.std.proofs.Common.{◌≡◌, ℕ, ◌*◌, true, Some, None, List, g
 use Rattle.std.specs.Prelude.{◌==◌}
 use Rattle.std.proofs.lemmas.Bool.{ne_eqb}
 use Rattle.trau_frame.specs.declared.frames.DownFrame.TheVariants.{Idle, Speech}
-use Rattle.trau_frame.specs.Role.{place_of}
+use Rattle.trau_frame.specs.Role.{place_of_role}
 use Rattle.trau_frame.specs.Frame.{Synced, number_of, data_of}
 use Rattle.trau_frame.specs.Match.{bit_in, is_match, frame_at}
 use Rattle.trau_frame.proofs.Places.{synced}
@@ -26,7 +26,7 @@ said-idle w bits o n h e is = ap (λ k. frame_by k bits) (sym is) ∙ said-by bi
 
 pub said-speech : (w bits d : List ℕ) (o n : ℕ) → Alike bits (frame_at (bit_in w) o) → n ≡ number_of bits 1 5 → n ≡ 28 → d ≡ data_of bits →
     Some (Speech d (get_or bits 310 0 == 1)) ≡ down_frame_in (frame_at (bit_in w) o)
-unfolding place_of
+unfolding place_of_role
 said-speech w bits d o n h e is same_data =
     ap (λ x. Some (Speech x (get_or bits 310 0 == 1))) same_data ∙
     ap (λ k. frame_by k bits) (sym is) ∙ said-by bits n e ∙ read-alike bits (frame_at (bit_in w) o) h

@@ -2,24 +2,24 @@
 use Rattle.std.proofs.Common.{◌≡◌, ℕ, ◌+◌, ◌*◌, ℤ, List, [], ◌∷◌, ◌++◌, map, refl, sym, ap, ◌∙◌, arith}
 use Rattle.std.proofs.lemmas.List.{map-append}
 use Rattle.trau_frame.specs.declared.frames.DownFrame.{DownFrame}
-use Rattle.down_framer.specs.Made.{Period, MadeFrame, octets_of, next_start, made_frames}
+use Rattle.down_framer.specs.Made.{Period, MadeFrame, octets_to_next, next_start, made_frames}
 use Rattle.down_framer.proofs.Store.{AreInTurn, AreInTurn-made_frames}
 use Rattle.ccu_end.specs.Found.{place_of, as_made, places_from, shifts_of}
 
 -- where the next frame stands
 end_from : ℕ → List ℤ → ℕ
 end_from p [] = p
-end_from p (v ∷ vs) = end_from (p + 2 * octets_of v) vs
+end_from p (v ∷ vs) = end_from (p + 2 * octets_to_next v) vs
 
 places-more : (p : ℕ) (vs : List ℤ) (v : ℤ) → places_from p (vs ++ v ∷ []) ≡ places_from p vs ++ end_from p vs ∷ []
 unfolding end_from
 places-more p [] v = refl
-places-more p (u ∷ vs) v = ap (λ ps. p ∷ ps) (places-more (p + 2 * octets_of u) vs v)
+places-more p (u ∷ vs) v = ap (λ ps. p ∷ ps) (places-more (p + 2 * octets_to_next u) vs v)
 
-end-more : (p : ℕ) (vs : List ℤ) (v : ℤ) → end_from p (vs ++ v ∷ []) ≡ end_from p vs + 2 * octets_of v
+end-more : (p : ℕ) (vs : List ℤ) (v : ℤ) → end_from p (vs ++ v ∷ []) ≡ end_from p vs + 2 * octets_to_next v
 unfolding end_from
 end-more p [] v = refl
-end-more p (u ∷ vs) v = end-more (p + 2 * octets_of u) vs v
+end-more p (u ∷ vs) v = end-more (p + 2 * octets_to_next u) vs v
 
 end_is : {A : Type 0} (fs : List (MadeFrame A)) → AreInTurn fs → end_from 320 (shifts_of fs) ≡ 320 + 2 * next_start fs
 unfolding end_from

@@ -10,7 +10,7 @@ use Rattle.trau_io.specs.declared.line.Side.{Side}
 use Rattle.trau_io.specs.declared.line.Side.TheVariants.{Up, Pcm, Down, Out}
 use Rattle.trau_io.specs.Places.{number_of_side, place_of}
 use Rattle.trau_io.specs.Lines.{LineState}
-use Rattle.trau_io.specs.Memory.{MemoryLine, new_line, state_of, states_of, known_of}
+use Rattle.trau_io.specs.Memory.{MemoryLine, new_line, state_of, states_of, known_line}
 use Rattle.trau_orders.specs.declared.order.Order.{Order}
 use Rattle.trau_orders.specs.Lists.{AreOrders}
 use Rattle.switchboard.specs.Calls.{opened_at}
@@ -41,7 +41,7 @@ known-call d c s first = elim (cases_Bool (c == 0)) [
 ]
 
 pub known-line : (d : DrillMemory) (c : ℕ) (s : Side) (l : MemoryLine) → 1 ≤ c → slice_get d.lines (place_of c s) ≡ Some l → known_lines d c s ≡ state_of l
-known-line d c s l first found = known-call d c s first ∙ ap known_of found
+known-line d c s l first found = known-call d c s first ∙ ap known_line found
 
 told-same : (m n : ℕ) → number_told m ≡ number_told n → m ≡ n
 told-same m n e =

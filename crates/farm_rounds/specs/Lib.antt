@@ -12,4 +12,5 @@ pub mod WorkRooms
 pub mod Settling
 pub mod Working
 pub mod RoundHistories
+pub mod Sums
 pub mod Finishing

@@ -24,5 +24,5 @@ abbrev pub tally_in : List Tally → ℕ → Tally
 tally_in tallies c = slice_index_or tallies c no_tally
 
 -- a farm with no call
-abbrev pub new_farm : FarmMemory
-new_farm = record { groups = []; live = []; tallies = replicate NUMBERS no_tally; failed = []; ended = 0 }
+abbrev pub home_memory : FarmMemory
+home_memory = record { groups = []; live = []; tallies = replicate NUMBERS no_tally; failed = []; ended = 0 }

@@ -15,7 +15,7 @@ ghost use Rattle.call_number.specs.CallNumber.{IsCallNumber};
 ghost use Rattle.farm_rounds.specs.Calls.{call_in, partner_in};
 ghost use Rattle.farm_rounds.specs.Groups.{AreGroups};
 ghost use Rattle.farm_rounds.specs.Numbers.{IsRising, is_among};
-ghost use Rattle.farm_rounds.specs.Memory.{FarmMemory, new_farm, tally_in};
+ghost use Rattle.farm_rounds.specs.Memory.{FarmMemory, home_memory, tally_in};
 ghost use Rattle.farm_rounds.specs.Acts.{IsOpen, IsOpening, Fits, Stays, Applied, calls_after, partners_after};
 ghost use Rattle.farm_rounds.specs.Histories.{CallHistory, GroupsStand, NoneDrains, histories_after, tallies_after, tally_of};
 
@@ -58,7 +58,7 @@ impl Model for Farm {
 impl Farm {
     /// A farm with no call.
     pub fn new(alloc: Global) -> Result<Farm, AllocError>
-        ensures value { IfOk result (λ f. f ≡ new_farm) }
+        ensures value { IfOk result (λ f. f ≡ home_memory) }
         ensures history { IfOk result (λ f. GroupsStand (λ c. None) f.groups) }
     {
         Ok(Farm {

@@ -31,9 +31,11 @@ mod phases;
 mod rest;
 mod round;
 mod settle;
+mod sums;
 mod tally;
 mod worked;
 
 pub use farm::Farm;
 pub use round::Round;
+pub use sums::Sums;
 pub use worked::Worked;

@@ -8,12 +8,14 @@ ghost use Rattle.farm_rounds.specs.Numbers.{is_among};
 ghost use Rattle.farm_rounds.specs.Rounds.{groups_from};
 ghost use Rattle.farm_rounds.specs.Memory.{tally_in};
 ghost use Rattle.farm_rounds.specs.Histories.{CallHistory, GroupsStand, kept_of};
+ghost use Rattle.farm_rounds.specs.Sums.{Adds, sum_in};
 ghost use Rattle.farm_rounds.specs.Working.{GainsFailed, goes_on_call, partner_past};
 ghost use Rattle.farm_rounds.specs.RoundHistories.{WorkedStand, KnowFailed, those_that};
 
 use crate::farm::Farm;
 use crate::rest::Rest;
 use crate::settle::settle_all;
+use crate::sums::Sums;
 use call_pair::Job;
 use round_lines::{Seat, drain_seats, list_failed};
 use std::marker::Model;
@@ -52,7 +54,7 @@ impl Worked {
     }
 
     /// Writes the outgoing lines of each call, and gives the farm after the round.
-    pub fn drain<T: Trunk>(self, trunk: &mut T) -> Farm
+    pub fn drain<T: Trunk>(mut self, trunk: &mut T) -> Farm
         // The outgoing lines gain what their buffers hold of the whole periods, and the farm knows which of them failed.
         ensures drains { (seats : List SeatMemory) × Each Drains (T.lines trunk.old) (T.lines trunk.new) self.seats seats (length self.seats)
             × GainsFailed self.failed result.failed seats × KnowFailed seats result.groups × (length seats ≡ length self.seats) }
@@ -72,11 +74,38 @@ impl Worked {
         ensures tallies { (h : ℕ → Option CallHistory) → WorkedStand h self → (c : ℕ) →
             tally_in result.tallies c ≡ (if goes_on_call self.seats c then tally_in self.tallies c else kept_of (h c) (tally_in self.tallies c)) }
     {
+        drain_seats(trunk, &mut self.seats);
+        self.pass()
+    }
+
+    /// Adds to the sums of each call's outgoing lines what `drain` would write to them, whether they failed or not.
+    pub fn add(&self, sums: &mut Sums)
+        ensures { Adds self.now.seats (sum_in sums.old) (sum_in sums.new) }
+    {
+        for seat in &self.seats {
+            sums.add_seat(seat);
+        }
+    }
+
+    /// Gives the farm after the round, as `drain` does, and writes no line.
+    pub fn pass(self) -> Farm
+        // The farm knows which lines failed.
+        ensures passes { GainsFailed self.failed result.failed self.seats × KnowFailed self.seats result.groups }
+        ensures ended { result.ended ≡ self.ended }
+
+        // Which calls are open, who their partners are, what they had and what is kept of them: as behind `drain`.
+        ensures live { (c : ℕ) → is_among result.live c ≡ (is_among self.live c && goes_on_call self.seats c) }
+        ensures open { (c : ℕ) → is_some (call_in result.groups c) ≡ is_among result.live c }
+        ensures partners { (c : ℕ) → partner_in result.groups c ≡ partner_past (goes_on_call self.seats) (partner_in (groups_from self.jobs)) c }
+        ensures history { (h : ℕ → Option CallHistory) → WorkedStand h self → GroupsStand (those_that (goes_on_call self.seats) h) result.groups }
+        ensures tallies { (h : ℕ → Option CallHistory) → WorkedStand h self → (c : ℕ) →
+            tally_in result.tallies c ≡ (if goes_on_call self.seats c then tally_in self.tallies c else kept_of (h c) (tally_in self.tallies c)) }
+    {
         let Worked {
             end,
             rest,
             jobs,
-            mut seats,
+            seats,
             numbers,
             ends: _,
         } = self;
@@ -86,7 +115,6 @@ impl Worked {
             mut tallies,
             mut failed,
         } = rest;
-        drain_seats(trunk, &mut seats);
         list_failed(&seats, &mut failed);
         failed.sort_unstable_by_key(|line| place(*line));
         settle_all(jobs, &seats, &numbers, &mut groups, &mut live, &mut tallies);

@@ -31,7 +31,7 @@ use Rattle.farm_report.specs.View.{ReportView}
 use Rattle.farm_run.specs.Journal.{JournalMemory}
 use Rattle.farm_run.specs.Noted.{IsAtEnd, IsKnown}
 use Rattle.run_spec.specs.Lines.{out_line, down_octets}
-use Rattle.run_spec.proofs.Standing.{gone_later}
+use Rattle.run_spec.proofs.OpenCalls.{gone_later}
 use Rattle.run_spec.proofs.SoFar.{so_far_at_first, so_far_later}
 use Rattle.farm_run.specs.Runs.{TellsFailed, KeepsSides, ReadsOn, NoneRose, IsRunOver, IsWritten, IsReadTo, is_listed, Leaves, FailedShort, Runs}
 use Rattle.farm_run.specs.Standing.{Standing, standing, KnowsListed, HasFlags, IsToCome, never_given}

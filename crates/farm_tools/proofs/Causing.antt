@@ -109,10 +109,10 @@ module _ (tool : Tool) (call : ℕ) (u u' o o' : LineState) (k k' : DeskState) (
         known = inr (inr (inr (inl is)));
         desk_failed = λ e. absurd (omega (arith, e, is));
         desk_rose = λ rose. absurd (omega (arith, rose, told.1.cause.ok));
-        line_failed = λ e. inl ends.rose;
+        line_failed = λ e. inl ends.1.rose;
         line_rose = λ _. inr (inr is);
         refused = λ e. absurd (omega (arith, e, is));
-        read_refused = λ octets holds calm reads. absurd (let rose = ends.rose in omega (arith, calm.0, calm.1));
+        read_refused = λ octets holds calm reads. absurd (let rose = ends.1.rose in omega (arith, calm.0, calm.1));
       }
   causes run.WriteFailed result ends (inl told) =
       let is : status_of result ≡ 6 = status_of-end tool call run.WriteFailed result told.0 in

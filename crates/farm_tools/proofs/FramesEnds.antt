@@ -107,6 +107,7 @@ module _ (call : ℕ) (u u' : LineState) (k m k' : DeskState) (result : ToolEnd)
         rest = took.0;
         split = took.2;
         whole = lists.whole;
+        few = lists.few;
         less = ends.less;
         at_end = ⊎_elim (λ e. inl (at_end _ took.0 took.1 e)) (λ e. inr e) ends.at_end;
         up_holds = took.1;

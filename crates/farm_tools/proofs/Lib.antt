@@ -4,6 +4,7 @@ pub mod Causing
 pub mod Cleaning
 mod Mapping
 pub mod FramesEnds
+mod Limit
 mod Making
 mod Rounds
 mod Steps

@@ -11,12 +11,14 @@ use Rattle.trau_params.specs.Fields.{Fields, fields_in}
 use Rattle.trau_alaw.specs.Alaw.{alaw}
 use Rattle.trau_alaw.specs.Companding.{octet_of}
 use Rattle.fr_decoder.specs.Decoded.{all_samples, samples_of}
-use Rattle.fr_decoder.specs.Step as decoder
+use Rattle.fr_decoder.specs.Stands as decoder
+use Rattle.fr_decoder.specs.Memory.{DecoderMemory}
 use Rattle.trau_params.specs.Bits260.{bits260_of}
 use Rattle.trau_params.specs.declared.params.Params.{Params}
 use Rattle.trau_params.specs.declared.trace.Trace.{Trace}
 use Rattle.fr_encoder.specs.Encoded.{all_encodings, encoded_of, encoding_of}
-use Rattle.fr_encoder.specs.Step as encoder
+use Rattle.fr_encoder.specs.Stands as encoder
+use Rattle.fr_encoder.specs.Memory.{EncoderMemory}
 use Rattle.farm_tools.specs.declared.end.Tool.{Tool}
 use Rattle.farm_tools.specs.declared.end.Tool.TheVariants.{Relay, Decode, Encode}
 use Rattle.farm_tools.specs.Blocks.{IsGoodBlock}
@@ -59,7 +61,7 @@ relay_makes w block d octets n is good carried count e =
       made_more = λ blocks stands. one_frame frame_of blocks block ∙ ap (λ l. made Relay blocks ++ l) (sym (e ∙ frame_of-data block d carried));
     }))
 
-module _ (before after : decoder.DecoderMemory) (block d octets : List ℕ) (good : IsGoodBlock block) (carried : d ≡ data_of (bits_of block)) (long : length octets ≡ 160)
+module _ (before after : DecoderMemory) (block d octets : List ℕ) (good : IsGoodBlock block) (carried : d ≡ data_of (bits_of block)) (long : length octets ≡ 160)
     (history : (past : List Fields) → decoder.Stands past before → decoder.Stands (fields_in d ∷ past) after × (octets ≡ map (octet_of alaw) (samples_of (fields_in d) past))) where
   -- a decoder makes the A-law of one more frame's samples
   decode_more : (blocks : List (List ℕ)) → decoder.Stands (reverse (map block_fields blocks)) before → made Decode (blocks ++ block ∷ []) ≡ made Decode blocks ++ octets
@@ -92,7 +94,7 @@ pub coded_frame-bits : (p : Params) (t : Trace) (peak : ℤ) (d : List ℕ) → 
 unfolding coded_frame bits260_of
 coded_frame-bits p t peak d e = ap (λ bits. octets_of (down_bits (Speech bits true))) e
 
-module _ (before after : encoder.EncoderMemory) (block octets : List ℕ) (long : length block ≡ 160)
+module _ (before after : EncoderMemory) (block octets : List ℕ) (long : length block ≡ 160)
     (history : (past : List (List ℤ)) → encoder.Stands past before → encoder.Stands (block_samples block ∷ past) after × (take 40 octets ≡ coded_frame (encoding_of (block_samples block) past))) where
   -- an encoder makes one more downlink frame
   encode_more : (blocks : List (List ℕ)) → encoder.Stands (reverse (map block_samples blocks)) before → made Encode (blocks ++ block ∷ []) ≡ made Encode blocks ++ take 40 octets

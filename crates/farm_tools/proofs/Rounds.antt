@@ -1,9 +1,8 @@
 -- A run over one block after another.
-use Rattle.std.proofs.Common.{◌≡◌, inl, inr, ℕ, ◌+◌, ◌-◌, ◌^◌, List, [], ◌∷◌, ◌++◌, length, All, refl, sym, ◌∙◌, ap, subst, arith, length-append}
+use Rattle.std.proofs.Common.{◌≡◌, inl, inr, ℕ, ◌+◌, ◌*◌, ◌-◌, ◌^◌, ◌<◌, ◌≤◌, List, [], ◌∷◌, ◌++◌, length, All, refl, sym, ◌∙◌, ap, subst, arith, length-append}
 use Rattle.std.specs.List.{concat}
 use Rattle.std.proofs.lemmas.Grind.{common_steps}
 use Rattle.std.proofs.lemmas.List.Elements.{All-append}
-use Rattle.std.proofs.lemmas.List.Folds.{concat-append}
 use Rattle.std.proofs.lemmas.List.{append-nil}
 use Rattle.std.proofs.KnownBytes.{Consumes-nil, Consumes-trans, Appends-nil, Appends-trans}
 use Rattle.fr_decoder.specs.Decoded.{all_samples}
@@ -16,12 +15,14 @@ use Rattle.farm_tools.specs.declared.end.Tool.TheVariants.{Relay, Decode, Encode
 use Rattle.farm_tools.specs.declared.run.BlockEnd.{BlockEnd}
 use Rattle.farm_tools.specs.declared.run.BlockEnd.TheVariants.{Taken, Refused, LineEnded, ReadFailed, WriteFailed}
 use Rattle.farm_tools.specs.declared.work.Work.{Work}
-use Rattle.farm_tools.specs.Blocks.{IsTaken}
+use Rattle.farm_tools.specs.Blocks.{block_length, IsTaken}
 use Rattle.farm_tools.specs.Made.{in_side, made, out_side}
 use Rattle.farm_tools.specs.Runs.{AllButTwo, ComesToRefused, FailsToRead, Moves, NoFault, Runs}
 use Rattle.farm_tools.specs.Step.{EndsHere, RunsOn}
 use Rattle.farm_tools.specs.Work.{tool_of, Stands}
+use Rattle.frame_listing.proofs.Blocks.{concat_push}
 use Rattle.farm_tools.proofs.Alone.{nothing_left}
+use Rattle.farm_tools.proofs.Limit.{few_all, few_more, left_bound, refused_bound, taken_whole}
 
 -- two calls, each of which leaves all lines but two as they were
 pub others_on : (a b c : ℕ → Side → LineState) (call : ℕ) (s t : Side) → AllButTwo a b call s t → AllButTwo b c call s t → AllButTwo a c call s t
@@ -75,10 +76,10 @@ at_start work tool u o stands = record {
 All-one : {X : Type 0} (P : X → Type 0) (x : X) → P x → All P (x ∷ [])
 All-one P x h = λ k d lt. grind (arith, common_steps, h)
 
-concat_push : (blocks : List (List ℕ)) (b : List ℕ) → concat (blocks ++ b ∷ []) ≡ concat blocks ++ b
-concat_push blocks b = concat-append blocks (b ∷ []) ∙ ap (λ l. concat blocks ++ l) (append-nil b)
+module _ (work : Work) (tool : Tool) (u0 u1 u2 o0 o1 o2 : LineState) (n : ℕ) (of_tool : tool_of work ≡ tool) (so_far : SoFar work tool u0 u1 o0 o1 n) (room : n < 2 ^ 32 - 1) where
+  few_read : (last : List ℕ) → length last ≤ block_length tool → length (concat so_far.blocks ++ last) ≤ block_length tool * (2 ^ 32 - 1)
+  few_read last part = few_more tool so_far.blocks n so_far.taken so_far.count last room part
 
-module _ (work : Work) (tool : Tool) (u0 u1 u2 o0 o1 o2 : LineState) (n : ℕ) (of_tool : tool_of work ≡ tool) (so_far : SoFar work tool u0 u1 o0 o1 n) where
   -- what was read and written so far, and of the block at which the run ends
   last_moves : (given sent : List ℕ) → Moves u1 u2 o1 o2 given sent → Moves u0 u2 o0 o2 (concat so_far.blocks ++ given) (made tool so_far.blocks ++ sent)
   last_moves given sent moves = moves_on _ _ _ _ _ _ _ _ _ _ so_far.moves moves
@@ -107,6 +108,7 @@ module _ (work : Work) (tool : Tool) (u0 u1 u2 o0 o1 o2 : LineState) (n : ℕ) (
         last = one.given;
         more = one.sent;
         taken = so_far.taken;
+        few = few_read one.given (left_bound tool one.given here.rest);
         moves = last_moves one.given one.sent one.moves;
         ends = (sym so_far.count, record { at_end = inl here.at_end; left_is = here.left_is; rest = here.rest; nothing_sent = here.nothing_sent; calm = calm_on here.calm });
       }
@@ -119,6 +121,7 @@ module _ (work : Work) (tool : Tool) (u0 u1 u2 o0 o1 o2 : LineState) (n : ℕ) (
         last = one.given;
         more = one.sent;
         taken = so_far.taken;
+        few = few_read one.given (refused_bound tool one.given _ here.refused);
         moves = last_moves one.given one.sent one.moves;
         ends = (sym so_far.count, record { refused = here.refused; nothing_sent = here.nothing_sent; calm = calm_on here.calm });
       }
@@ -131,13 +134,17 @@ module _ (work : Work) (tool : Tool) (u0 u1 u2 o0 o1 o2 : LineState) (n : ℕ) (
         last = one.given;
         more = one.sent;
         taken = so_far.taken;
+        few = few_read one.given (omega (arith, here.part));
         moves = last_moves one.given one.sent one.moves;
-        ends = record {
-          part = here.part;
-          nothing_sent = here.nothing_sent;
-          rose = subst (λ before. Rose before u2.faults) so_far.calm.inc_same here.rose;
-          out_same = here.out_same ∙ so_far.calm.out_same;
-        };
+        ends = (
+          omega (arith, so_far.count, room),
+          record {
+            part = here.part;
+            nothing_sent = here.nothing_sent;
+            rose = subst (λ before. Rose before u2.faults) so_far.calm.inc_same here.rose;
+            out_same = here.out_same ∙ so_far.calm.out_same;
+          },
+        );
       }
 
   pub write_failed : (work' : Work) → RunsOn work work' u1 u2 o1 o2 WriteFailed → Runs tool u0 u2 o0 o2 run.WriteFailed
@@ -148,6 +155,7 @@ module _ (work : Work) (tool : Tool) (u0 u1 u2 o0 o1 o2 : LineState) (n : ℕ) (
         last = one.given;
         more = one.sent;
         taken = so_far.taken;
+        few = few_read one.given (omega (arith, taken_whole tool one.given (subst (λ t. IsTaken t one.given) of_tool fails.taken)));
         moves = last_moves one.given one.sent one.moves;
         ends = record {
           taken = subst (λ t. IsTaken t one.given) of_tool fails.taken;
@@ -161,12 +169,13 @@ module _ (work : Work) (tool : Tool) (u0 u1 u2 o0 o1 o2 : LineState) (n : ℕ) (
       }
 
 -- so many blocks were taken that no more are
-pub at_last : (work : Work) (tool : Tool) (u0 u1 o0 o1 : LineState) (n : ℕ) → SoFar work tool u0 u1 o0 o1 n → n ≡ 2 ^ 32 - 1 → Runs tool u0 u1 o0 o1 (run.Done n 0)
+pub at_last : (work : Work) (tool : Tool) (u0 u1 o0 o1 : LineState) (n : ℕ) → SoFar work tool u0 u1 o0 o1 n → n ≡ 2 ^ 32 - 1 → Runs tool u0 u1 o0 o1 (run.Done (2 ^ 32 - 1) 0)
 at_last work tool u0 u1 o0 o1 n so_far last = record {
   blocks = so_far.blocks;
   last = [];
   more = [];
   taken = so_far.taken;
+  few = few_all tool so_far.blocks n so_far.taken so_far.count last;
   moves = subst (λ l. Moves u0 u1 o0 o1 l (made tool so_far.blocks ++ [])) (sym (append-nil (concat so_far.blocks))) (subst (λ l. Moves u0 u1 o0 o1 (concat so_far.blocks) l) (sym (append-nil (made tool so_far.blocks))) so_far.moves);
-  ends = (sym so_far.count, record { at_end = inr (last, refl); left_is = refl; rest = nothing_left tool; nothing_sent = refl; calm = so_far.calm });
+  ends = (sym (so_far.count ∙ last), record { at_end = inr (refl, refl); left_is = refl; rest = nothing_left tool; nothing_sent = refl; calm = so_far.calm });
 }

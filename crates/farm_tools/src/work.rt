@@ -7,9 +7,9 @@ ghost use Rattle.trau_alaw.specs.Alaw.{alaw};
 ghost use Rattle.trau_alaw.specs.Companding.{octet_of};
 ghost use Rattle.trau_params.specs.Fields.{Fields, fields_in};
 ghost use Rattle.fr_decoder.specs.Decoded.{samples_of};
-ghost use Rattle.fr_decoder.specs.Step.{Stands as DecoderStands};
+ghost use Rattle.fr_decoder.specs.Stands.{Stands as DecoderStands};
 ghost use Rattle.fr_encoder.specs.Encoded.{encoding_of};
-ghost use Rattle.fr_encoder.specs.Step.{Stands as EncoderStands};
+ghost use Rattle.fr_encoder.specs.Stands.{Stands as EncoderStands};
 ghost use Rattle.farm_tools.specs.Blocks.{block_length, IsRefused};
 ghost use Rattle.farm_tools.specs.Made.{block_samples, coded_frame, in_side, out_side};
 

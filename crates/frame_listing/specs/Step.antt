@@ -5,7 +5,8 @@ use Rattle.trau_io.specs.Lines.{LineState, Rose}
 use Rattle.trau_io.specs.Desks.{DeskState}
 use Rattle.frame_sync.specs.declared.yields.Yield.{Yield}
 use Rattle.frame_sync.specs.Periods.{yield_of}
-use Rattle.frame_sync.specs.Step.{SyncMemory, Stands}
+use Rattle.frame_sync.specs.Memory.{SyncMemory}
+use Rattle.frame_sync.specs.Stands.{Stands}
 use Rattle.frame_listing.specs.declared.list.PeriodEnd.{PeriodEnd}
 use Rattle.frame_listing.specs.declared.list.PeriodEnd.TheVariants.{Without, Listed, LineEnded, ReadFailed, DeskFailed}
 use Rattle.frame_listing.specs.Lists.{Moves}

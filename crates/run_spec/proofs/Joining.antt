@@ -11,25 +11,19 @@ use Rattle.switchboard.specs.Ends.{Given, whole_of, lack_of}
 use Rattle.switchboard.proofs.Appending.{or_else}
 use Rattle.call_leg.specs.Who.{Who}
 use Rattle.run_spec.specs.Run.{Run, given_in, whole_in, done_in, start_in, end_in, who_in, IsOpened, worked_to, periods_to}
-use Rattle.run_spec.specs.Lines.{out_line, down_octets, out_of_call, down_of_call}
+use Rattle.call_leg.specs.Out.{out_line}
+use Rattle.run_spec.specs.Lines.{down_octets, out_of_call, down_of_call}
 use Rattle.run_spec.specs.Now.{IsSoFar}
 use Rattle.run_spec.specs.Mark.{cut_at, Joins}
 use Rattle.run_spec.proofs.Executing.{closed-append}
-use Rattle.run_spec.proofs.Standing.{opened_cases}
+use Rattle.run_spec.proofs.OpenCalls.{opened_cases, opened_some}
 use Rattle.switchboard.proofs.Whole.{end_by}
 use Rattle.run_spec.proofs.Settling.{found_stamp, closed_stamp, at_of, ends_by, start_is}
 use Rattle.run_spec.proofs.SoFar.{rest_in, done-rest, rest_from, standing_now, standing_end}
 use Rattle.run_spec.proofs.Going.{opened_run, start_run, law_run}
 use Rattle.run_spec.proofs.LongerLines.{length-periods_to, length-out_line, length-down_octets, out_more, down_on}
 use Rattle.run_spec.proofs.Cut.{so_far_below, periods_kept}
-
--- an opening has a stamp
-pub opened_some : (ds : List Done) (c : ℕ) → is_some (opened_at c ds) ≡ true → (s : ℕ) × (opened_at c ds ≡ Some s)
-opened_some ds c e = by (opened_at c ds) e
-  where
-    by : (o : Option ℕ) → is_some o ≡ true → (s : ℕ) × (o ≡ Some s)
-    by None e = cc
-    by (Some s) e = (s, refl)
+use Rattle.run_spec.proofs.Lists.{one_value}
 
 -- ---- the end of a call
 
@@ -38,13 +32,12 @@ natural : (given : ℕ → Given) (P c s : ℕ) → at_of (end_by given P c s No
 natural given P c s = by (nat_le P (s + whole_of (given c))) refl
   where
     by : (b : Bool) → nat_le P (s + whole_of (given c)) ≡ b →
-        at_of (if b then record { call = c; at = P; cause = Limit } else record { call = c; at = s + whole_of (given c); cause = lack_of (whole_of (given c)) (given c) }) ≡ min P (s + whole_of (given c))
+        at_of (if b then record { call = c; at = P; cause = Limit }
+        else record { call = c; at = s + whole_of (given c); cause = lack_of (whole_of (given c)) (given c) }) ≡ min P (s + whole_of (given c))
     by true e = let l = leb-true P (s + whole_of (given c)) e in omega arith
     by false e = let l = leb-false P (s + whole_of (given c)) e in omega arith
 
-one_value : (v : Option ℕ) (a b : ℕ) → v ≡ Some a → v ≡ Some b → a ≡ b
-one_value v a b e f = cc
-
+-- at the earlier end the run has executed what the cut run executes
 so_far_cut : (r : Run) (p : ℕ) → AreOrders r.orders → p ≤ r.periods → IsSoFar r p (done_in (cut_at p r)) (left_of p r.orders)
 so_far_cut r p a l = so_far_below r p p a (omega arith) (omega arith) l
 
@@ -65,7 +58,9 @@ end_cut r p c s a l o = by (closed_at c ds) (closed_at c rest) refl refl
     opened = opened_run r p ds (left_of p r.orders) c s so o
 
     closed : (v w : Option ℕ) → closed_at c ds ≡ v → closed_at c rest ≡ w → closed_at c (done_in r) ≡ or_else v w
-    closed v w e f = ap (closed_at c) (done-rest r p ds (left_of p r.orders) so) ∙ closed-append c ds rest ∙ ap (λ v. or_else v (closed_at c rest)) e ∙ ap (λ w. or_else v w) f
+    closed v w e f =
+        ap (closed_at c) (done-rest r p ds (left_of p r.orders) so) ∙ closed-append c ds rest ∙ ap (λ v. or_else v (closed_at c rest)) e
+        ∙ ap (λ w. or_else v w) f
 
     first : (v : Option ℕ) → closed_at c ds ≡ v → end_in (cut_at p r) c ≡ at_of (end_by (given_in r) p c s v)
     first v e = ends_by (given_in r) p ds c s v o e
@@ -99,6 +94,7 @@ record IsCutCall (r : Run) (p c : ℕ) : Type 0 where
   periods : periods_to (cut_at p r) c (worked_to r p c) ≡ periods_to r c (worked_to r p c)
   all : end_in r c - start_in r c ≡ worked_to r p c + (end_in r c - start_in r c - worked_to r p c)
 
+-- **A call that is opened before the earlier end has the same periods before it.**
 cut_call : (r : Run) (p c : ℕ) → AreOrders r.orders → p ≤ r.periods → IsOpened (cut_at p r) c → IsCutCall r p c
 cut_call r p c a l is = record {
   who = ap {B = Who} (λ law. record { number = c; law = law }) (sym (law_run r p ds (left_of p r.orders) c s.0 so s.1));
@@ -135,6 +131,7 @@ joins_out r p c is =
     ∙ ap (λ who. out_line who (periods_to (cut_at p r) c w)) is.who ∙ ap (out_line (who_in r c)) is.periods)
     more.1 (omega (arith, length-out_line (who_in r c) (periods_to r c w), length-periods_to r c w))
 
+-- **So it is with the Down line.**
 joins_down : (r : Run) (p c : ℕ) → IsCutCall r p c → down_of_call r c ≡ down_of_call (cut_at p r) c ++ drop (40 * worked_to r p c) (down_of_call r c)
 joins_down r p c is =
     let w = worked_to r p c in

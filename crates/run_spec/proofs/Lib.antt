@@ -1,19 +1,26 @@
 pub mod Lists
 pub mod Executing
 pub mod Showing
+pub mod OpenCalls
 pub mod Standing
+pub mod NewOrder
+pub mod Apart
 pub mod Settling
 pub mod SoFar
 pub mod Settled
 pub mod Bridging
 pub mod Ordering
+pub mod Unbridging
 pub mod Acting
 pub mod Ending
+pub mod Covering
 pub mod History
 pub mod Going
 mod Worked
 pub mod Carrying
+pub mod CarriedOnce
 pub mod Sending
+pub mod LatestBridge
 pub mod Sent
 pub mod Rounds
 pub mod LongerLines

@@ -5,11 +5,11 @@ use Rattle.trau_bits.specs.Bits.{octets_of}
 use Rattle.trau_bits.proofs.Appended.{length-whole_octets, octets_of-append}
 use Rattle.call_leg.specs.Who.{Who}
 use Rattle.call_leg.specs.Periods.{CallPeriod}
-use Rattle.call_leg.specs.Out.{out_of}
 use Rattle.call_leg.specs.Down.{down_now, down_line}
 use Rattle.call_leg.proofs.LineLaws.{length-out_of, length-down_now}
 use Rattle.run_spec.specs.Run.{Run, periods_to, who_in}
-use Rattle.run_spec.specs.Lines.{out_line, down_octets}
+use Rattle.call_leg.specs.Out.{out_of, out_line}
+use Rattle.run_spec.specs.Lines.{down_octets}
 
 -- ---- lengths
 
@@ -17,7 +17,7 @@ pub length-periods_to : (r : Run) (c n : ℕ) → length (periods_to r c n) ≡ 
 length-periods_to r c zero = refl
 length-periods_to r c (suc n) = ap suc (length-periods_to r c n)
 
-length-down_line : (who : Who) (ts : List CallPeriod) → length (down_line who ts) ≡ 320 * length ts
+pub length-down_line : (who : Who) (ts : List CallPeriod) → length (down_line who ts) ≡ 320 * length ts
 length-down_line who [] = refl
 length-down_line who (t ∷ past) =
     omega (arith, length-append (down_line who past) (down_now who (t ∷ past)), length-down_line who past, length-down_now who t past)

@@ -46,12 +46,14 @@ nothing_reported = refl
 abbrev three : Run
 three = record {
   lines = λ c. if c == 1 then lines 2 else lines 9;
-  orders = at 0 (OpenCall 1 A) ∷ at 0 (OpenCall 2 A) ∷ at 0 (OpenCall 3 A) ∷ at 0 (Bridge 1 2) ∷ at 3 (Bridge 2 3) ∷ at 3 (Level 3 (pos 5)) ∷ at 5 (Unbridge 3) ∷
+  orders =
+      at 0 (OpenCall 1 A) ∷ at 0 (OpenCall 2 A) ∷ at 0 (OpenCall 3 A) ∷ at 0 (Bridge 1 2) ∷ at 3 (Bridge 2 3) ∷ at 3 (Level 3 (pos 5)) ∷ at 5 (Unbridge 3) ∷
       at 6 (Bridge 3 2) ∷ at 6 (Unbridge 2) ∷ at 7 (CloseCall 2) ∷ at 9 (OpenCall 4 A) ∷ [];
   periods = 8;
 }
 
-three_spans : spans_in three ≡ record { a = 1; b = 2; from = 0; to = 2 } ∷ record { a = 2; b = 3; from = 3; to = 5 } ∷ record { a = 3; b = 2; from = 6; to = 6 } ∷ []
+three_spans : spans_in three
+    ≡ record { a = 1; b = 2; from = 0; to = 2 } ∷ record { a = 2; b = 3; from = 3; to = 5 } ∷ record { a = 3; b = 2; from = 6; to = 6 } ∷ []
 three_spans = refl
 
 -- in which periods a call lies in a bridge, where one starts, and what is set: the newest first

@@ -8,7 +8,8 @@ use Rattle.farm_rounds.specs.declared.order.Party.{Party}
 use Rattle.farm_rounds.specs.Numbers.{IsRising, is_among}
 use Rattle.farm_rounds.specs.Ordered.{AreRun, IsHeld, IsParty, names, party_of, slot_at}
 use Rattle.farm_rounds.specs.Phased.{calls_in, call_in_place, heard_from, IsTold}
-use Rattle.farm_rounds.proofs.Phasing.{apart, known, full, start_order, told_number, within, are_told, met_order, after_number, are_held, are_run, named_any, named_count, all_parties, few_jobs}
+use Rattle.farm_rounds.proofs.Phasing.{apart, known, full, start_order, told_number, within, are_told, met_order, after_number, are_held, are_run}
+use Rattle.farm_rounds.proofs.PhasedJobs.{named_any, named_count, all_parties, few_jobs}
 use Rattle.farm_rounds.proofs.Rooms.{none_done}
 use Rattle.farm_rounds.proofs.Working.{back}
 use Rattle.farm_rounds.proofs.phases.work_phases.Goals as goal
@@ -69,7 +70,8 @@ take_all-requires-clause-full g c =
     let s = c.spread.ensures.spread in
     let long : length slots ≡ length numbers = c.spread.ensures.slots ∙ ap length c.deref_mut.ensures.value ∙ c.requires.room.slots in
     let whole : take c.args.room.slots.len (slots ++ drop (length slots) c.args.room.slots.items) ≡ slots =
-    back c.args.room.slots.len slots c.args.room.slots.items (omega (arith, c.deref_mut.ensures.len, ap length c.deref_mut.ensures.value)) (c.spread.ensures.slots ∙ ap length c.deref_mut.ensures.value) in
+    back c.args.room.slots.len slots c.args.room.slots.items (omega (arith, c.deref_mut.ensures.len, ap length c.deref_mut.ensures.value))
+    (c.spread.ensures.slots ∙ ap length c.deref_mut.ensures.value) in
     subst (λ (xs : List (Option (Box CallMemory))). All (λ o. o ≢ None) xs) (sym whole) (full numbers jobs most groups live fresh slots partners parties s long)
 
 pub take_all-requires-clause-room : goal.take_all-requires-clause-room
@@ -86,7 +88,8 @@ take_all-requires-clause-room g c =
     let s = c.spread.ensures.spread in
     let long : length slots ≡ length numbers = c.spread.ensures.slots ∙ ap length c.deref_mut.ensures.value ∙ c.requires.room.slots in
     let whole : take c.args.room.slots.len (slots ++ drop (length slots) c.args.room.slots.items) ≡ slots =
-    back c.args.room.slots.len slots c.args.room.slots.items (omega (arith, c.deref_mut.ensures.len, ap length c.deref_mut.ensures.value)) (c.spread.ensures.slots ∙ ap length c.deref_mut.ensures.value) in
+    back c.args.room.slots.len slots c.args.room.slots.items (omega (arith, c.deref_mut.ensures.len, ap length c.deref_mut.ensures.value))
+    (c.spread.ensures.slots ∙ ap length c.deref_mut.ensures.value) in
     omega (arith, ap length whole, long, c.requires.room.apart)
 
 pub work_phase-told-requires-clause-slice : goal.work_phase-told-requires-clause-slice
@@ -107,7 +110,8 @@ work_phase-told-requires-clause-pool g c κs lives =
     let s = c.spread.ensures.spread in
     let long : length slots ≡ length numbers = c.spread.ensures.slots ∙ ap length c.deref_mut.ensures.value ∙ c.requires.room.slots in
     let whole : take c.args.room.slots.len (slots ++ drop (length slots) c.args.room.slots.items) ≡ slots =
-    back c.args.room.slots.len slots c.args.room.slots.items (omega (arith, c.deref_mut.ensures.len, ap length c.deref_mut.ensures.value)) (c.spread.ensures.slots ∙ ap length c.deref_mut.ensures.value) in
+    back c.args.room.slots.len slots c.args.room.slots.items (omega (arith, c.deref_mut.ensures.len, ap length c.deref_mut.ensures.value))
+    (c.spread.ensures.slots ∙ ap length c.deref_mut.ensures.value) in
     let bs = c.take_all.new.jobs.items in
     let e : map Some bs ≡ slots = c.take_all.ensures ∙ whole in
     omega (arith, ap length e, length-map bs Some, long, c.requires.room.first)
@@ -126,7 +130,8 @@ work_phase-told-requires-clause-order g c κs lives =
     let s = c.spread.ensures.spread in
     let long : length slots ≡ length numbers = c.spread.ensures.slots ∙ ap length c.deref_mut.ensures.value ∙ c.requires.room.slots in
     let whole : take c.args.room.slots.len (slots ++ drop (length slots) c.args.room.slots.items) ≡ slots =
-    back c.args.room.slots.len slots c.args.room.slots.items (omega (arith, c.deref_mut.ensures.len, ap length c.deref_mut.ensures.value)) (c.spread.ensures.slots ∙ ap length c.deref_mut.ensures.value) in
+    back c.args.room.slots.len slots c.args.room.slots.items (omega (arith, c.deref_mut.ensures.len, ap length c.deref_mut.ensures.value))
+    (c.spread.ensures.slots ∙ ap length c.deref_mut.ensures.value) in
     let bs = c.take_all.new.jobs.items in
     let e : map Some bs ≡ slots = c.take_all.ensures ∙ whole in
     start_order numbers jobs most groups live fresh slots partners parties s long bs e
@@ -145,16 +150,26 @@ meet_all-requires-clause-partners g c =
     let s = c.spread.ensures.spread in
     let long : length slots ≡ length numbers = c.spread.ensures.slots ∙ ap length c.deref_mut.ensures.value ∙ c.requires.room.slots in
     let whole : take c.args.room.slots.len (slots ++ drop (length slots) c.args.room.slots.items) ≡ slots =
-    back c.args.room.slots.len slots c.args.room.slots.items (omega (arith, c.deref_mut.ensures.len, ap length c.deref_mut.ensures.value)) (c.spread.ensures.slots ∙ ap length c.deref_mut.ensures.value) in
+    back c.args.room.slots.len slots c.args.room.slots.items (omega (arith, c.deref_mut.ensures.len, ap length c.deref_mut.ensures.value))
+    (c.spread.ensures.slots ∙ ap length c.deref_mut.ensures.value) in
     let bs = c.take_all.new.jobs.items in
     let e : map Some bs ≡ slots = c.take_all.ensures ∙ whole in
     let ts = c.work_phase-told.result.items in
     let f = c.work_phase-told.ensures in
     let beside : c.deref.result.now ≡ partners =
     c.deref.ensures.value
-    ∙ back c.args.room.partners.len partners c.args.room.partners.items (omega (arith, c.deref_mut-2.ensures.len, ap length c.deref_mut-2.ensures.value)) (c.spread.ensures.partners ∙ ap length c.deref_mut-2.ensures.value) in
+    ∙ back c.args.room.partners.len partners c.args.room.partners.items (omega (arith, c.deref_mut-2.ensures.len, ap length c.deref_mut-2.ensures.value))
+    (c.spread.ensures.partners ∙ ap length c.deref_mut-2.ensures.value) in
     let told : c.deref_mut-3.result.now ≡ ts = c.deref_mut-3.ensures.value in
-    omega (arith, ap length beside, c.spread.ensures.partners, ap length c.deref_mut-2.ensures.value, c.requires.room.partners, ap length told, told_number numbers jobs most groups live fresh slots partners parties s long bs e ts f)
+    omega (
+      arith,
+      ap length beside,
+      c.spread.ensures.partners,
+      ap length c.deref_mut-2.ensures.value,
+      c.requires.room.partners,
+      ap length told,
+      told_number numbers jobs most groups live fresh slots partners parties s long bs e ts f,
+    )
 
 pub meet_all-requires-clause-within : goal.meet_all-requires-clause-within
 meet_all-requires-clause-within g c =
@@ -170,17 +185,20 @@ meet_all-requires-clause-within g c =
     let s = c.spread.ensures.spread in
     let long : length slots ≡ length numbers = c.spread.ensures.slots ∙ ap length c.deref_mut.ensures.value ∙ c.requires.room.slots in
     let whole : take c.args.room.slots.len (slots ++ drop (length slots) c.args.room.slots.items) ≡ slots =
-    back c.args.room.slots.len slots c.args.room.slots.items (omega (arith, c.deref_mut.ensures.len, ap length c.deref_mut.ensures.value)) (c.spread.ensures.slots ∙ ap length c.deref_mut.ensures.value) in
+    back c.args.room.slots.len slots c.args.room.slots.items (omega (arith, c.deref_mut.ensures.len, ap length c.deref_mut.ensures.value))
+    (c.spread.ensures.slots ∙ ap length c.deref_mut.ensures.value) in
     let bs = c.take_all.new.jobs.items in
     let e : map Some bs ≡ slots = c.take_all.ensures ∙ whole in
     let ts = c.work_phase-told.result.items in
     let f = c.work_phase-told.ensures in
     let beside : c.deref.result.now ≡ partners =
     c.deref.ensures.value
-    ∙ back c.args.room.partners.len partners c.args.room.partners.items (omega (arith, c.deref_mut-2.ensures.len, ap length c.deref_mut-2.ensures.value)) (c.spread.ensures.partners ∙ ap length c.deref_mut-2.ensures.value) in
+    ∙ back c.args.room.partners.len partners c.args.room.partners.items (omega (arith, c.deref_mut-2.ensures.len, ap length c.deref_mut-2.ensures.value))
+    (c.spread.ensures.partners ∙ ap length c.deref_mut-2.ensures.value) in
     let told : c.deref_mut-3.result.now ≡ ts = c.deref_mut-3.ensures.value in
     subst (λ (ps : List ℕ). (k : ℕ) → k < length c.deref_mut-3.result.now → slice_index ps k < length c.deref_mut-3.result.now) (sym beside)
-    (subst (λ (xs : List (Box CallMemory)). (k : ℕ) → k < length xs → slice_index partners k < length xs) (sym told) (within numbers jobs most groups live fresh slots partners parties s long bs e ts f))
+    (subst (λ (xs : List (Box CallMemory)). (k : ℕ) → k < length xs → slice_index partners k < length xs) (sym told)
+    (within numbers jobs most groups live fresh slots partners parties s long bs e ts f))
 
 pub meet_all-requires-clause-told : goal.meet_all-requires-clause-told
 meet_all-requires-clause-told g c =
@@ -196,17 +214,21 @@ meet_all-requires-clause-told g c =
     let s = c.spread.ensures.spread in
     let long : length slots ≡ length numbers = c.spread.ensures.slots ∙ ap length c.deref_mut.ensures.value ∙ c.requires.room.slots in
     let whole : take c.args.room.slots.len (slots ++ drop (length slots) c.args.room.slots.items) ≡ slots =
-    back c.args.room.slots.len slots c.args.room.slots.items (omega (arith, c.deref_mut.ensures.len, ap length c.deref_mut.ensures.value)) (c.spread.ensures.slots ∙ ap length c.deref_mut.ensures.value) in
+    back c.args.room.slots.len slots c.args.room.slots.items (omega (arith, c.deref_mut.ensures.len, ap length c.deref_mut.ensures.value))
+    (c.spread.ensures.slots ∙ ap length c.deref_mut.ensures.value) in
     let bs = c.take_all.new.jobs.items in
     let e : map Some bs ≡ slots = c.take_all.ensures ∙ whole in
     let ts = c.work_phase-told.result.items in
     let f = c.work_phase-told.ensures in
     let beside : c.deref.result.now ≡ partners =
     c.deref.ensures.value
-    ∙ back c.args.room.partners.len partners c.args.room.partners.items (omega (arith, c.deref_mut-2.ensures.len, ap length c.deref_mut-2.ensures.value)) (c.spread.ensures.partners ∙ ap length c.deref_mut-2.ensures.value) in
+    ∙ back c.args.room.partners.len partners c.args.room.partners.items (omega (arith, c.deref_mut-2.ensures.len, ap length c.deref_mut-2.ensures.value))
+    (c.spread.ensures.partners ∙ ap length c.deref_mut-2.ensures.value) in
     let told : c.deref_mut-3.result.now ≡ ts = c.deref_mut-3.ensures.value in
-    subst (λ (ps : List ℕ). (k : ℕ) → k < length c.deref_mut-3.result.now → IsTold most (call_in_place c.deref_mut-3.result.now k) (call_in_place c.deref_mut-3.result.now (slice_index ps k))) (sym beside)
-    (subst (λ (xs : List (Box CallMemory)). (k : ℕ) → k < length xs → IsTold most (call_in_place xs k) (call_in_place xs (slice_index partners k))) (sym told) (are_told numbers jobs most groups live fresh slots partners parties s long bs e ts f))
+    subst (λ (ps : List ℕ). (k : ℕ) → k < length c.deref_mut-3.result.now → IsTold most (call_in_place c.deref_mut-3.result.now k)
+    (call_in_place c.deref_mut-3.result.now (slice_index ps k))) (sym beside)
+    (subst (λ (xs : List (Box CallMemory)). (k : ℕ) → k < length xs → IsTold most (call_in_place xs k) (call_in_place xs (slice_index partners k))) (sym told)
+    (are_told numbers jobs most groups live fresh slots partners parties s long bs e ts f))
 
 pub meet_all-requires-clause-enough : goal.meet_all-requires-clause-enough
 meet_all-requires-clause-enough g c =
@@ -222,14 +244,16 @@ meet_all-requires-clause-enough g c =
     let s = c.spread.ensures.spread in
     let long : length slots ≡ length numbers = c.spread.ensures.slots ∙ ap length c.deref_mut.ensures.value ∙ c.requires.room.slots in
     let whole : take c.args.room.slots.len (slots ++ drop (length slots) c.args.room.slots.items) ≡ slots =
-    back c.args.room.slots.len slots c.args.room.slots.items (omega (arith, c.deref_mut.ensures.len, ap length c.deref_mut.ensures.value)) (c.spread.ensures.slots ∙ ap length c.deref_mut.ensures.value) in
+    back c.args.room.slots.len slots c.args.room.slots.items (omega (arith, c.deref_mut.ensures.len, ap length c.deref_mut.ensures.value))
+    (c.spread.ensures.slots ∙ ap length c.deref_mut.ensures.value) in
     let bs = c.take_all.new.jobs.items in
     let e : map Some bs ≡ slots = c.take_all.ensures ∙ whole in
     let ts = c.work_phase-told.result.items in
     let f = c.work_phase-told.ensures in
     let beside : c.deref.result.now ≡ partners =
     c.deref.ensures.value
-    ∙ back c.args.room.partners.len partners c.args.room.partners.items (omega (arith, c.deref_mut-2.ensures.len, ap length c.deref_mut-2.ensures.value)) (c.spread.ensures.partners ∙ ap length c.deref_mut-2.ensures.value) in
+    ∙ back c.args.room.partners.len partners c.args.room.partners.items (omega (arith, c.deref_mut-2.ensures.len, ap length c.deref_mut-2.ensures.value))
+    (c.spread.ensures.partners ∙ ap length c.deref_mut-2.ensures.value) in
     let told : c.deref_mut-3.result.now ≡ ts = c.deref_mut-3.ensures.value in
     omega (arith, ap length told, told_number numbers jobs most groups live fresh slots partners parties s long bs e ts f, c.requires.room.lists)
 
@@ -247,20 +271,23 @@ work_phase-ran-requires-clause-pool g c κs lives =
     let s = c.spread.ensures.spread in
     let long : length slots ≡ length numbers = c.spread.ensures.slots ∙ ap length c.deref_mut.ensures.value ∙ c.requires.room.slots in
     let whole : take c.args.room.slots.len (slots ++ drop (length slots) c.args.room.slots.items) ≡ slots =
-    back c.args.room.slots.len slots c.args.room.slots.items (omega (arith, c.deref_mut.ensures.len, ap length c.deref_mut.ensures.value)) (c.spread.ensures.slots ∙ ap length c.deref_mut.ensures.value) in
+    back c.args.room.slots.len slots c.args.room.slots.items (omega (arith, c.deref_mut.ensures.len, ap length c.deref_mut.ensures.value))
+    (c.spread.ensures.slots ∙ ap length c.deref_mut.ensures.value) in
     let bs = c.take_all.new.jobs.items in
     let e : map Some bs ≡ slots = c.take_all.ensures ∙ whole in
     let ts = c.work_phase-told.result.items in
     let f = c.work_phase-told.ensures in
     let beside : c.deref.result.now ≡ partners =
     c.deref.ensures.value
-    ∙ back c.args.room.partners.len partners c.args.room.partners.items (omega (arith, c.deref_mut-2.ensures.len, ap length c.deref_mut-2.ensures.value)) (c.spread.ensures.partners ∙ ap length c.deref_mut-2.ensures.value) in
+    ∙ back c.args.room.partners.len partners c.args.room.partners.items (omega (arith, c.deref_mut-2.ensures.len, ap length c.deref_mut-2.ensures.value))
+    (c.spread.ensures.partners ∙ ap length c.deref_mut-2.ensures.value) in
     let told : c.deref_mut-3.result.now ≡ ts = c.deref_mut-3.ensures.value in
     let ms = c.meet_all.new.jobs in
     let many : length ms ≡ length ts = c.meet_all.ensures.length ∙ ap length told in
     let met : (k : ℕ) → k < length ts → call_in_place ms k ≡ heard_from (call_in_place ts (slice_index partners k)) (call_in_place ts k) =
     subst (λ (ps : List ℕ). (k : ℕ) → k < length ts → call_in_place ms k ≡ heard_from (call_in_place ts (slice_index ps k)) (call_in_place ts k)) beside
-    (subst (λ (xs : List (Box CallMemory)). (k : ℕ) → k < length xs → call_in_place ms k ≡ heard_from (call_in_place xs (slice_index c.deref.result.now k)) (call_in_place xs k)) told c.meet_all.ensures.met) in
+    (subst (λ (xs : List (Box CallMemory)). (k : ℕ) → k < length xs → call_in_place ms k ≡ heard_from (call_in_place xs (slice_index c.deref.result.now k))
+    (call_in_place xs k)) told c.meet_all.ensures.met) in
     let again : take c.work_phase-told.result.len (ms ++ drop (length ms) ts) ≡ ms =
     back c.work_phase-told.result.len ms ts (omega (arith, c.deref_mut-3.ensures.len, ap length told)) many in
     omega (arith, ap length again, many, told_number numbers jobs most groups live fresh slots partners parties s long bs e ts f, c.requires.room.second)
@@ -279,23 +306,27 @@ work_phase-ran-requires-clause-order g c κs lives =
     let s = c.spread.ensures.spread in
     let long : length slots ≡ length numbers = c.spread.ensures.slots ∙ ap length c.deref_mut.ensures.value ∙ c.requires.room.slots in
     let whole : take c.args.room.slots.len (slots ++ drop (length slots) c.args.room.slots.items) ≡ slots =
-    back c.args.room.slots.len slots c.args.room.slots.items (omega (arith, c.deref_mut.ensures.len, ap length c.deref_mut.ensures.value)) (c.spread.ensures.slots ∙ ap length c.deref_mut.ensures.value) in
+    back c.args.room.slots.len slots c.args.room.slots.items (omega (arith, c.deref_mut.ensures.len, ap length c.deref_mut.ensures.value))
+    (c.spread.ensures.slots ∙ ap length c.deref_mut.ensures.value) in
     let bs = c.take_all.new.jobs.items in
     let e : map Some bs ≡ slots = c.take_all.ensures ∙ whole in
     let ts = c.work_phase-told.result.items in
     let f = c.work_phase-told.ensures in
     let beside : c.deref.result.now ≡ partners =
     c.deref.ensures.value
-    ∙ back c.args.room.partners.len partners c.args.room.partners.items (omega (arith, c.deref_mut-2.ensures.len, ap length c.deref_mut-2.ensures.value)) (c.spread.ensures.partners ∙ ap length c.deref_mut-2.ensures.value) in
+    ∙ back c.args.room.partners.len partners c.args.room.partners.items (omega (arith, c.deref_mut-2.ensures.len, ap length c.deref_mut-2.ensures.value))
+    (c.spread.ensures.partners ∙ ap length c.deref_mut-2.ensures.value) in
     let told : c.deref_mut-3.result.now ≡ ts = c.deref_mut-3.ensures.value in
     let ms = c.meet_all.new.jobs in
     let many : length ms ≡ length ts = c.meet_all.ensures.length ∙ ap length told in
     let met : (k : ℕ) → k < length ts → call_in_place ms k ≡ heard_from (call_in_place ts (slice_index partners k)) (call_in_place ts k) =
     subst (λ (ps : List ℕ). (k : ℕ) → k < length ts → call_in_place ms k ≡ heard_from (call_in_place ts (slice_index ps k)) (call_in_place ts k)) beside
-    (subst (λ (xs : List (Box CallMemory)). (k : ℕ) → k < length xs → call_in_place ms k ≡ heard_from (call_in_place xs (slice_index c.deref.result.now k)) (call_in_place xs k)) told c.meet_all.ensures.met) in
+    (subst (λ (xs : List (Box CallMemory)). (k : ℕ) → k < length xs → call_in_place ms k ≡ heard_from (call_in_place xs (slice_index c.deref.result.now k))
+    (call_in_place xs k)) told c.meet_all.ensures.met) in
     let again : take c.work_phase-told.result.len (ms ++ drop (length ms) ts) ≡ ms =
     back c.work_phase-told.result.len ms ts (omega (arith, c.deref_mut-3.ensures.len, ap length told)) many in
-    subst (λ (xs : List (Box CallMemory)). IsRising (map (λ (j : CallMemory). j.io.call) (calls_in xs))) (sym again) (met_order numbers jobs most groups live fresh slots partners parties s long bs e ts f ms many met)
+    subst (λ (xs : List (Box CallMemory)). IsRising (map (λ (j : CallMemory). j.io.call) (calls_in xs))) (sym again)
+    (met_order numbers jobs most groups live fresh slots partners parties s long bs e ts f ms many met)
 
 pub seat_all-requires-clause-room : goal.seat_all-requires-clause-room
 seat_all-requires-clause-room g c =
@@ -311,24 +342,37 @@ seat_all-requires-clause-room g c =
     let s = c.spread.ensures.spread in
     let long : length slots ≡ length numbers = c.spread.ensures.slots ∙ ap length c.deref_mut.ensures.value ∙ c.requires.room.slots in
     let whole : take c.args.room.slots.len (slots ++ drop (length slots) c.args.room.slots.items) ≡ slots =
-    back c.args.room.slots.len slots c.args.room.slots.items (omega (arith, c.deref_mut.ensures.len, ap length c.deref_mut.ensures.value)) (c.spread.ensures.slots ∙ ap length c.deref_mut.ensures.value) in
+    back c.args.room.slots.len slots c.args.room.slots.items (omega (arith, c.deref_mut.ensures.len, ap length c.deref_mut.ensures.value))
+    (c.spread.ensures.slots ∙ ap length c.deref_mut.ensures.value) in
     let bs = c.take_all.new.jobs.items in
     let e : map Some bs ≡ slots = c.take_all.ensures ∙ whole in
     let ts = c.work_phase-told.result.items in
     let f = c.work_phase-told.ensures in
     let beside : c.deref.result.now ≡ partners =
     c.deref.ensures.value
-    ∙ back c.args.room.partners.len partners c.args.room.partners.items (omega (arith, c.deref_mut-2.ensures.len, ap length c.deref_mut-2.ensures.value)) (c.spread.ensures.partners ∙ ap length c.deref_mut-2.ensures.value) in
+    ∙ back c.args.room.partners.len partners c.args.room.partners.items (omega (arith, c.deref_mut-2.ensures.len, ap length c.deref_mut-2.ensures.value))
+    (c.spread.ensures.partners ∙ ap length c.deref_mut-2.ensures.value) in
     let told : c.deref_mut-3.result.now ≡ ts = c.deref_mut-3.ensures.value in
     let ms = c.meet_all.new.jobs in
     let many : length ms ≡ length ts = c.meet_all.ensures.length ∙ ap length told in
     let met : (k : ℕ) → k < length ts → call_in_place ms k ≡ heard_from (call_in_place ts (slice_index partners k)) (call_in_place ts k) =
     subst (λ (ps : List ℕ). (k : ℕ) → k < length ts → call_in_place ms k ≡ heard_from (call_in_place ts (slice_index ps k)) (call_in_place ts k)) beside
-    (subst (λ (xs : List (Box CallMemory)). (k : ℕ) → k < length xs → call_in_place ms k ≡ heard_from (call_in_place xs (slice_index c.deref.result.now k)) (call_in_place xs k)) told c.meet_all.ensures.met) in
+    (subst (λ (xs : List (Box CallMemory)). (k : ℕ) → k < length xs → call_in_place ms k ≡ heard_from (call_in_place xs (slice_index c.deref.result.now k))
+    (call_in_place xs k)) told c.meet_all.ensures.met) in
     let again : take c.work_phase-told.result.len (ms ++ drop (length ms) ts) ≡ ms =
     back c.work_phase-told.result.len ms ts (omega (arith, c.deref_mut-3.ensures.len, ap length told)) many in
     let rs = c.work_phase-ran.result.items in
-    omega (arith, sym (length-map rs (λ (b : Box CallMemory). b.value)), ap length c.work_phase-ran.ensures, length-map (calls_in (take c.work_phase-told.result.len (ms ++ drop (length ms) ts))) call_finished, length-map (take c.work_phase-told.result.len (ms ++ drop (length ms) ts)) (λ (b : Box CallMemory). b.value), ap length again, many, told_number numbers jobs most groups live fresh slots partners parties s long bs e ts f, c.requires.room.worked)
+    omega (
+      arith,
+      sym (length-map rs (λ (b : Box CallMemory). b.value)),
+      ap length c.work_phase-ran.ensures,
+      length-map (calls_in (take c.work_phase-told.result.len (ms ++ drop (length ms) ts))) call_finished,
+      length-map (take c.work_phase-told.result.len (ms ++ drop (length ms) ts)) (λ (b : Box CallMemory). b.value),
+      ap length again,
+      many,
+      told_number numbers jobs most groups live fresh slots partners parties s long bs e ts f,
+      c.requires.room.worked,
+    )
 
 pub gather-requires-clause-length : goal.gather-requires-clause-length
 gather-requires-clause-length g c =
@@ -344,20 +388,23 @@ gather-requires-clause-length g c =
     let s = c.spread.ensures.spread in
     let long : length slots ≡ length numbers = c.spread.ensures.slots ∙ ap length c.deref_mut.ensures.value ∙ c.requires.room.slots in
     let whole : take c.args.room.slots.len (slots ++ drop (length slots) c.args.room.slots.items) ≡ slots =
-    back c.args.room.slots.len slots c.args.room.slots.items (omega (arith, c.deref_mut.ensures.len, ap length c.deref_mut.ensures.value)) (c.spread.ensures.slots ∙ ap length c.deref_mut.ensures.value) in
+    back c.args.room.slots.len slots c.args.room.slots.items (omega (arith, c.deref_mut.ensures.len, ap length c.deref_mut.ensures.value))
+    (c.spread.ensures.slots ∙ ap length c.deref_mut.ensures.value) in
     let bs = c.take_all.new.jobs.items in
     let e : map Some bs ≡ slots = c.take_all.ensures ∙ whole in
     let ts = c.work_phase-told.result.items in
     let f = c.work_phase-told.ensures in
     let beside : c.deref.result.now ≡ partners =
     c.deref.ensures.value
-    ∙ back c.args.room.partners.len partners c.args.room.partners.items (omega (arith, c.deref_mut-2.ensures.len, ap length c.deref_mut-2.ensures.value)) (c.spread.ensures.partners ∙ ap length c.deref_mut-2.ensures.value) in
+    ∙ back c.args.room.partners.len partners c.args.room.partners.items (omega (arith, c.deref_mut-2.ensures.len, ap length c.deref_mut-2.ensures.value))
+    (c.spread.ensures.partners ∙ ap length c.deref_mut-2.ensures.value) in
     let told : c.deref_mut-3.result.now ≡ ts = c.deref_mut-3.ensures.value in
     let ms = c.meet_all.new.jobs in
     let many : length ms ≡ length ts = c.meet_all.ensures.length ∙ ap length told in
     let met : (k : ℕ) → k < length ts → call_in_place ms k ≡ heard_from (call_in_place ts (slice_index partners k)) (call_in_place ts k) =
     subst (λ (ps : List ℕ). (k : ℕ) → k < length ts → call_in_place ms k ≡ heard_from (call_in_place ts (slice_index ps k)) (call_in_place ts k)) beside
-    (subst (λ (xs : List (Box CallMemory)). (k : ℕ) → k < length xs → call_in_place ms k ≡ heard_from (call_in_place xs (slice_index c.deref.result.now k)) (call_in_place xs k)) told c.meet_all.ensures.met) in
+    (subst (λ (xs : List (Box CallMemory)). (k : ℕ) → k < length xs → call_in_place ms k ≡ heard_from (call_in_place xs (slice_index c.deref.result.now k))
+    (call_in_place xs k)) told c.meet_all.ensures.met) in
     let again : take c.work_phase-told.result.len (ms ++ drop (length ms) ts) ≡ ms =
     back c.work_phase-told.result.len ms ts (omega (arith, c.deref_mut-3.ensures.len, ap length told)) many in
     let rs = c.work_phase-ran.result.items in
@@ -380,7 +427,8 @@ gather-requires-clause-parties g c =
     let s = c.spread.ensures.spread in
     let long : length slots ≡ length numbers = c.spread.ensures.slots ∙ ap length c.deref_mut.ensures.value ∙ c.requires.room.slots in
     let whole : take c.args.room.slots.len (slots ++ drop (length slots) c.args.room.slots.items) ≡ slots =
-    back c.args.room.slots.len slots c.args.room.slots.items (omega (arith, c.deref_mut.ensures.len, ap length c.deref_mut.ensures.value)) (c.spread.ensures.slots ∙ ap length c.deref_mut.ensures.value) in
+    back c.args.room.slots.len slots c.args.room.slots.items (omega (arith, c.deref_mut.ensures.len, ap length c.deref_mut.ensures.value))
+    (c.spread.ensures.slots ∙ ap length c.deref_mut.ensures.value) in
     subst (λ (ps : List Party). All IsParty ps) (sym s.named) (all_parties 4294967295 jobs groups.each)
 
 pub gather-requires-clause-known : goal.gather-requires-clause-known
@@ -397,8 +445,10 @@ gather-requires-clause-known g c =
     let s = c.spread.ensures.spread in
     let long : length slots ≡ length numbers = c.spread.ensures.slots ∙ ap length c.deref_mut.ensures.value ∙ c.requires.room.slots in
     let whole : take c.args.room.slots.len (slots ++ drop (length slots) c.args.room.slots.items) ≡ slots =
-    back c.args.room.slots.len slots c.args.room.slots.items (omega (arith, c.deref_mut.ensures.len, ap length c.deref_mut.ensures.value)) (c.spread.ensures.slots ∙ ap length c.deref_mut.ensures.value) in
-    subst (λ (ps : List Party). (d : ℕ) → list_any (λ p. names p d) ps ≡ true → is_among numbers d ≡ true) (sym s.named) (λ d t. known numbers jobs most groups live fresh d (sym (named_any jobs d) ∙ t))
+    back c.args.room.slots.len slots c.args.room.slots.items (omega (arith, c.deref_mut.ensures.len, ap length c.deref_mut.ensures.value))
+    (c.spread.ensures.slots ∙ ap length c.deref_mut.ensures.value) in
+    subst (λ (ps : List Party). (d : ℕ) → list_any (λ p. names p d) ps ≡ true → is_among numbers d ≡ true) (sym s.named)
+    (λ d t. known numbers jobs most groups live fresh d (sym (named_any jobs d) ∙ t))
 
 pub gather-requires-clause-apart : goal.gather-requires-clause-apart
 gather-requires-clause-apart g c =
@@ -414,8 +464,10 @@ gather-requires-clause-apart g c =
     let s = c.spread.ensures.spread in
     let long : length slots ≡ length numbers = c.spread.ensures.slots ∙ ap length c.deref_mut.ensures.value ∙ c.requires.room.slots in
     let whole : take c.args.room.slots.len (slots ++ drop (length slots) c.args.room.slots.items) ≡ slots =
-    back c.args.room.slots.len slots c.args.room.slots.items (omega (arith, c.deref_mut.ensures.len, ap length c.deref_mut.ensures.value)) (c.spread.ensures.slots ∙ ap length c.deref_mut.ensures.value) in
-    subst (λ (ps : List Party). (d : ℕ) → count_by (λ p. names p d) ps ≤ 1) (sym s.named) (λ d. omega (arith, apart numbers jobs most groups live fresh d, named_count jobs d))
+    back c.args.room.slots.len slots c.args.room.slots.items (omega (arith, c.deref_mut.ensures.len, ap length c.deref_mut.ensures.value))
+    (c.spread.ensures.slots ∙ ap length c.deref_mut.ensures.value) in
+    subst (λ (ps : List Party). (d : ℕ) → count_by (λ p. names p d) ps ≤ 1) (sym s.named)
+    (λ d. omega (arith, apart numbers jobs most groups live fresh d, named_count jobs d))
 
 pub gather-requires-clause-held : goal.gather-requires-clause-held
 gather-requires-clause-held g c =
@@ -431,27 +483,31 @@ gather-requires-clause-held g c =
     let s = c.spread.ensures.spread in
     let long : length slots ≡ length numbers = c.spread.ensures.slots ∙ ap length c.deref_mut.ensures.value ∙ c.requires.room.slots in
     let whole : take c.args.room.slots.len (slots ++ drop (length slots) c.args.room.slots.items) ≡ slots =
-    back c.args.room.slots.len slots c.args.room.slots.items (omega (arith, c.deref_mut.ensures.len, ap length c.deref_mut.ensures.value)) (c.spread.ensures.slots ∙ ap length c.deref_mut.ensures.value) in
+    back c.args.room.slots.len slots c.args.room.slots.items (omega (arith, c.deref_mut.ensures.len, ap length c.deref_mut.ensures.value))
+    (c.spread.ensures.slots ∙ ap length c.deref_mut.ensures.value) in
     let bs = c.take_all.new.jobs.items in
     let e : map Some bs ≡ slots = c.take_all.ensures ∙ whole in
     let ts = c.work_phase-told.result.items in
     let f = c.work_phase-told.ensures in
     let beside : c.deref.result.now ≡ partners =
     c.deref.ensures.value
-    ∙ back c.args.room.partners.len partners c.args.room.partners.items (omega (arith, c.deref_mut-2.ensures.len, ap length c.deref_mut-2.ensures.value)) (c.spread.ensures.partners ∙ ap length c.deref_mut-2.ensures.value) in
+    ∙ back c.args.room.partners.len partners c.args.room.partners.items (omega (arith, c.deref_mut-2.ensures.len, ap length c.deref_mut-2.ensures.value))
+    (c.spread.ensures.partners ∙ ap length c.deref_mut-2.ensures.value) in
     let told : c.deref_mut-3.result.now ≡ ts = c.deref_mut-3.ensures.value in
     let ms = c.meet_all.new.jobs in
     let many : length ms ≡ length ts = c.meet_all.ensures.length ∙ ap length told in
     let met : (k : ℕ) → k < length ts → call_in_place ms k ≡ heard_from (call_in_place ts (slice_index partners k)) (call_in_place ts k) =
     subst (λ (ps : List ℕ). (k : ℕ) → k < length ts → call_in_place ms k ≡ heard_from (call_in_place ts (slice_index ps k)) (call_in_place ts k)) beside
-    (subst (λ (xs : List (Box CallMemory)). (k : ℕ) → k < length xs → call_in_place ms k ≡ heard_from (call_in_place xs (slice_index c.deref.result.now k)) (call_in_place xs k)) told c.meet_all.ensures.met) in
+    (subst (λ (xs : List (Box CallMemory)). (k : ℕ) → k < length xs → call_in_place ms k ≡ heard_from (call_in_place xs (slice_index c.deref.result.now k))
+    (call_in_place xs k)) told c.meet_all.ensures.met) in
     let again : take c.work_phase-told.result.len (ms ++ drop (length ms) ts) ≡ ms =
     back c.work_phase-told.result.len ms ts (omega (arith, c.deref_mut-3.ensures.len, ap length told)) many in
     let rs = c.work_phase-ran.result.items in
     let g2 = subst (λ (xs : List (Box CallMemory)). calls_in rs ≡ map call_finished (calls_in xs)) again c.work_phase-ran.ensures in
     let h = c.seat_all.ensures in
     let seated : c.deref_mut-4.result.now ≡ c.seat_all.new.slots.items = c.deref_mut-4.ensures.value in
-    subst (λ (xs : List (Option (Box CallMemory))). (k : ℕ) → k < length numbers → IsHeld (slot_at xs k)) (sym seated) (are_held numbers jobs most groups live fresh slots partners parties s long bs e ts f ms many met rs g2 c.seat_all.new.slots.items h)
+    subst (λ (xs : List (Option (Box CallMemory))). (k : ℕ) → k < length numbers → IsHeld (slot_at xs k)) (sym seated)
+    (are_held numbers jobs most groups live fresh slots partners parties s long bs e ts f ms many met rs g2 c.seat_all.new.slots.items h)
 
 pub gather-requires-clause-room : goal.gather-requires-clause-room
 gather-requires-clause-room g c =
@@ -467,7 +523,8 @@ gather-requires-clause-room g c =
     let s = c.spread.ensures.spread in
     let long : length slots ≡ length numbers = c.spread.ensures.slots ∙ ap length c.deref_mut.ensures.value ∙ c.requires.room.slots in
     let whole : take c.args.room.slots.len (slots ++ drop (length slots) c.args.room.slots.items) ≡ slots =
-    back c.args.room.slots.len slots c.args.room.slots.items (omega (arith, c.deref_mut.ensures.len, ap length c.deref_mut.ensures.value)) (c.spread.ensures.slots ∙ ap length c.deref_mut.ensures.value) in
+    back c.args.room.slots.len slots c.args.room.slots.items (omega (arith, c.deref_mut.ensures.len, ap length c.deref_mut.ensures.value))
+    (c.spread.ensures.slots ∙ ap length c.deref_mut.ensures.value) in
     omega (arith, ap length s.named, length-map jobs party_of, few_jobs jobs, live.count, c.requires.room.jobs)
 
 pub returns : goal.returns
@@ -484,24 +541,29 @@ returns g c =
     let s = c.spread.ensures.spread in
     let long : length slots ≡ length numbers = c.spread.ensures.slots ∙ ap length c.deref_mut.ensures.value ∙ c.requires.room.slots in
     let whole : take c.args.room.slots.len (slots ++ drop (length slots) c.args.room.slots.items) ≡ slots =
-    back c.args.room.slots.len slots c.args.room.slots.items (omega (arith, c.deref_mut.ensures.len, ap length c.deref_mut.ensures.value)) (c.spread.ensures.slots ∙ ap length c.deref_mut.ensures.value) in
+    back c.args.room.slots.len slots c.args.room.slots.items (omega (arith, c.deref_mut.ensures.len, ap length c.deref_mut.ensures.value))
+    (c.spread.ensures.slots ∙ ap length c.deref_mut.ensures.value) in
     let bs = c.take_all.new.jobs.items in
     let e : map Some bs ≡ slots = c.take_all.ensures ∙ whole in
     let ts = c.work_phase-told.result.items in
     let f = c.work_phase-told.ensures in
     let beside : c.deref.result.now ≡ partners =
     c.deref.ensures.value
-    ∙ back c.args.room.partners.len partners c.args.room.partners.items (omega (arith, c.deref_mut-2.ensures.len, ap length c.deref_mut-2.ensures.value)) (c.spread.ensures.partners ∙ ap length c.deref_mut-2.ensures.value) in
+    ∙ back c.args.room.partners.len partners c.args.room.partners.items (omega (arith, c.deref_mut-2.ensures.len, ap length c.deref_mut-2.ensures.value))
+    (c.spread.ensures.partners ∙ ap length c.deref_mut-2.ensures.value) in
     let told : c.deref_mut-3.result.now ≡ ts = c.deref_mut-3.ensures.value in
     let ms = c.meet_all.new.jobs in
     let many : length ms ≡ length ts = c.meet_all.ensures.length ∙ ap length told in
     let met : (k : ℕ) → k < length ts → call_in_place ms k ≡ heard_from (call_in_place ts (slice_index partners k)) (call_in_place ts k) =
     subst (λ (ps : List ℕ). (k : ℕ) → k < length ts → call_in_place ms k ≡ heard_from (call_in_place ts (slice_index ps k)) (call_in_place ts k)) beside
-    (subst (λ (xs : List (Box CallMemory)). (k : ℕ) → k < length xs → call_in_place ms k ≡ heard_from (call_in_place xs (slice_index c.deref.result.now k)) (call_in_place xs k)) told c.meet_all.ensures.met) in
+    (subst (λ (xs : List (Box CallMemory)). (k : ℕ) → k < length xs → call_in_place ms k ≡ heard_from (call_in_place xs (slice_index c.deref.result.now k))
+    (call_in_place xs k)) told c.meet_all.ensures.met) in
     let again : take c.work_phase-told.result.len (ms ++ drop (length ms) ts) ≡ ms =
     back c.work_phase-told.result.len ms ts (omega (arith, c.deref_mut-3.ensures.len, ap length told)) many in
     let rs = c.work_phase-ran.result.items in
     let g2 = subst (λ (xs : List (Box CallMemory)). calls_in rs ≡ map call_finished (calls_in xs)) again c.work_phase-ran.ensures in
     let h = c.seat_all.ensures in
     let seated : c.deref_mut-4.result.now ≡ c.seat_all.new.slots.items = c.deref_mut-4.ensures.value in
-    c.gather.ensures jobs s.named (apart numbers jobs most groups live fresh) (subst (λ (xs : List (Option (Box CallMemory))). AreRun jobs numbers xs) (sym seated) (are_run numbers jobs most groups live fresh slots partners parties s long bs e ts f ms many met rs g2 c.seat_all.new.slots.items h))
+    c.gather.ensures jobs s.named (apart numbers jobs most groups live fresh)
+    (subst (λ (xs : List (Option (Box CallMemory))). AreRun jobs numbers xs) (sym seated)
+    (are_run numbers jobs most groups live fresh slots partners parties s long bs e ts f ms many met rs g2 c.seat_all.new.slots.items h))

@@ -1,6 +1,6 @@
 use Rattle.std.proofs.Common.{◌≡◌, ◌∷◌, ◌∙◌, ap, subst}
 use Rattle.fr_encoder.specs.Encoded.{encoded_of, encoding_of}
-use Rattle.fr_encoder.specs.Step.{Stands}
+use Rattle.fr_encoder.specs.Stands.{Stands}
 use Rattle.farm_tools.specs.Made.{coded_frame}
 use Rattle.farm_tools.proofs.Making.{coded_frame-bits}
 use Rattle.farm_tools.proofs.work.encoded_octets.Goals as goal
