@@ -166,7 +166,8 @@ module _ (before now : ℕ → Side → LineState) (desk desk' : DeskState) (sta
 -- what is done with orders ends with a text of a run and the lines that failed in it, or there was no memory
 abbrev pub EndsTold : (ℕ → Side → LineState) → (ℕ → Side → LineState) → DeskState → DeskState → ℕ → Type 0
 EndsTold before now read desk' status =
-    ((failed : List TheLine) × (text : List ℕ) × TellsFailed before now failed × TellsDue (status_of_run failed) text read desk' status) ⊎ LacksMemory read desk' status
+    ((failed : List TheLine) × (text : List ℕ) × TellsFailed before now failed × TellsDue (status_of_run failed) text read desk' status)
+    ⊎ LacksMemory read desk' status
 
 module _ (good : GoodOrBad) (done : List Order → DeskState → Type 0) (before now : ℕ → Side → LineState) (desk read desk' : DeskState) (status : ℕ)
     (ends : (orders : List Order) → done orders read → EndsTold before now read desk' status) where
@@ -174,7 +175,8 @@ module _ (good : GoodOrBad) (done : List Order → DeskState → Type 0) (before
   lacks calm ends = memory_causes before now desk desk' status ends.status_is (ends.text_out.tells.read_faults ∙ calm)
 
   done_causes : (orders : List Order) → read.read_faults ≡ desk.read_faults → read.write_faults ≡ desk.write_faults →
-      ((text : List ℕ) → desk.to_come ≡ Some text → AnswersTold text (Ok orders)) → EndsTold before now read desk' status → RunCauses before now desk desk' status
+      ((text : List ℕ) → desk.to_come ≡ Some text → AnswersTold text (Ok orders)) → EndsTold before now read desk' status →
+      RunCauses before now desk desk' status
   done_causes orders calm silent told (inl (failed, text, fails, inl (is, tells))) =
       told_causes before now desk desk' status failed is fails (tells.read_faults ∙ calm) (tells.cause.ok ∙ silent)
       (λ text e. (told text e).0) (λ text n e bad. good _ orders n (told text e).1 bad)
@@ -183,9 +185,11 @@ module _ (good : GoodOrBad) (done : List Order → DeskState → Type 0) (before
       (λ text e. (told text e).0) (λ text n e bad. good _ orders n (told text e).1 bad)
   done_causes orders calm silent told (inr ends) = lacks calm ends
 
-  follows_causes : (reading : Result (List Order) OrdersFault) → ReadsOrders desk read reading → ((text : List ℕ) → desk.to_come ≡ Some text → AnswersTold text reading) →
+  follows_causes : (reading : Result (List Order) OrdersFault) → ReadsOrders desk read reading →
+      ((text : List ℕ) → desk.to_come ≡ Some text → AnswersTold text reading) →
       (IsErrOf reading Unread → Rose desk.read_faults read.read_faults) → ((IsErrOf reading Unread → ⊥) → read.read_faults ≡ desk.read_faults) →
-      read.written ≡ desk.written → read.write_faults ≡ desk.write_faults → FollowsReading done reading before now read desk' status → RunCauses before now desk desk' status
+      read.written ≡ desk.written → read.write_faults ≡ desk.write_faults → FollowsReading done reading before now read desk' status →
+      RunCauses before now desk desk' status
   follows_causes (Ok orders) reads told unread calm written silent follows = done_causes orders (calm (λ e. cc)) silent told (ends orders follows)
   follows_causes (Err Unread) reads told unread calm written silent (stay, ends) =
       unread_causes before now desk desk' status ends.status_is (subst (λ n. Rose desk.read_faults n) (sym ends.text_out.tells.read_faults) (unread refl)) stay
@@ -218,13 +222,16 @@ module _ (good : GoodOrBad) (done : List Order → DeskState → Type 0) (before
 
 module _ (good : GoodOrBad) (s : Settings) (before now : ℕ → Side → LineState) (desk desk' : DeskState) (status : ℕ) where
   -- whatever is done with orders that ends so
-  by_reading : (done : List Order → DeskState → Type 0) → ((orders : List Order) (read : DeskState) → done orders read → EndsTold before now read desk' status) →
+  by_reading : (done : List Order → DeskState → Type 0) →
+      ((orders : List Order) (read : DeskState) → done orders read → EndsTold before now read desk' status) →
       ReadsAndFollows done before now desk desk' status ⊎ (AllStay before now × LacksMemory desk desk' status) → RunCauses before now desk desk' status
   by_reading done ends (inl ran) =
-      follows_causes good done before now desk ran.read desk' status (λ orders. ends orders ran.read) ran.reading ran.reads ran.told ran.unread ran.calm ran.written ran.write_faults ran.follows
+      follows_causes good done before now desk ran.read desk' status
+      (λ orders. ends orders ran.read) ran.reading ran.reads ran.told ran.unread ran.calm ran.written ran.write_faults ran.follows
   by_reading done ends (inr (stay, lacks)) = memory_causes before now desk desk' status lacks.status_is lacks.text_out.tells.read_faults
 
-  ends_told : (failed : List TheLine) (text : List ℕ) (read : DeskState) → TellsFailed before now failed → TellsRun failed text read desk' status → EndsTold before now read desk' status
+  ends_told : (failed : List TheLine) (text : List ℕ) (read : DeskState) → TellsFailed before now failed → TellsRun failed text read desk' status →
+      EndsTold before now read desk' status
   ends_told failed text read fails (inl tells) = inl (failed, text, fails, tells)
   ends_told failed text read fails (inr ends) = inr ends
 

@@ -28,7 +28,8 @@ module _ (s : LiveSettings) (before now : ℕ → Side → LineState) (desk desk
         complete = λ _. inr is;
       }
 
-  telling : AllStay before now → TellsWhole (live_text s.seed s.calls s.periods) desk desk' status → LiveEnds s.seed s.calls s.periods before now desk desk' status
+  telling : AllStay before now → TellsWhole (live_text s.seed s.calls s.periods) desk desk' status →
+      LiveEnds s.seed s.calls s.periods before now desk desk' status
   telling stay (inl (is, told)) = record {
     known = inl is;
     unused = stay;

@@ -50,19 +50,20 @@ done_of before now none [] failed = refl
 done_of before now none (line ∷ lines) failed = let some = first_rose before now line lines failed in absurd (none some.0 some.1 some.2)
 
 -- What is done with what was read to its end of a desk that told it.
-pub record Taken (A : Type 0) (done : A → DeskState → Type 0) (a : A) (desk : DeskState) : Type 0 where
+pub record Taken (A : Type 0) (Done : A → DeskState → Type 0) (a : A) (desk : DeskState) : Type 0 where
   pub read : DeskState
   pub written : read.written ≡ desk.written
   pub write_faults : read.write_faults ≡ desk.write_faults
   pub all_read : read.to_come ≡ Some []
-  pub done : done a read
+  pub done : Done a read
 
 -- or the desk failed while it was read, or there was no memory, and no line was used
 pub record NotTaken (before now : ℕ → Side → LineState) (desk desk' : DeskState) (status : ℕ) : Type 0 where
   pub stay : AllStay before now
   pub why : ((status ≡ 3) × Rose desk.read_faults desk'.read_faults) ⊎ (status ≡ 5)
 
-module _ (good : GoodOrBad) (one : SpellsOneList) (done : List Order → DeskState → Type 0) (before now : ℕ → Side → LineState) (desk desk' : DeskState) (status : ℕ) (orders : List Order) (told : TellsOrders orders desk) where
+module _ (good : GoodOrBad) (one : SpellsOneList) (done : List Order → DeskState → Type 0) (before now : ℕ → Side → LineState) (desk desk' : DeskState)
+    (status : ℕ) (orders : List Order) (told : TellsOrders orders desk) where
   taken_by : (read : DeskState) (reading : Result (List Order) OrdersFault) → ReadsOrders desk read reading → AnswersTold told.text reading →
       (IsErrOf reading Unread → Rose desk.read_faults read.read_faults) → read.written ≡ desk.written → read.write_faults ≡ desk.write_faults →
       FollowsReading done reading before now read desk' status → Taken (List Order) done orders desk ⊎ NotTaken before now desk desk' status
@@ -70,7 +71,8 @@ module _ (good : GoodOrBad) (one : SpellsOneList) (done : List Order → DeskSta
     read = read;
     written = written;
     write_faults = silent;
-    all_read = none_left told.text reads.given read.to_come (subst (λ (o : Option (List ℕ)). Consumes o read.to_come reads.given) told.told reads.consumed) reads.answer.0;
+    all_read = none_left told.text reads.given read.to_come
+        (subst (λ (o : Option (List ℕ)). Consumes o read.to_come reads.given) told.told reads.consumed) reads.answer.0;
     done = subst (λ (os : List Order). done os read) (one (text_lines told.text) taken orders answers.1 told.spelled) follows;
   })
   taken_by read (Err Unread) reads answers unread written silent (stay, ends) =
@@ -79,12 +81,14 @@ module _ (good : GoodOrBad) (one : SpellsOneList) (done : List Order → DeskSta
   taken_by read (Err (Line n)) reads answers unread written silent (stay, ends) = absurd (good (text_lines told.text) orders n told.spelled answers.1)
   taken_by read (Err Memory) reads answers unread written silent (stay, ends) = inr (record { stay = stay; why = inr ends.status_is })
 
-  pub taken : ReadsAndFollows done before now desk desk' status ⊎ (AllStay before now × LacksMemory desk desk' status) → Taken (List Order) done orders desk ⊎ NotTaken before now desk desk' status
+  pub taken : ReadsAndFollows done before now desk desk' status ⊎ (AllStay before now × LacksMemory desk desk' status) →
+      Taken (List Order) done orders desk ⊎ NotTaken before now desk desk' status
   taken (inl ran) = taken_by ran.read ran.reading ran.reads (ran.told told.text told.told) ran.unread ran.written ran.write_faults ran.follows
   taken (inr (stay, ends)) = inr (record { stay = stay; why = inr ends.status_is })
 
 -- what a text's going out says of the desk
-module _ (failed : List TheLine) (text : List ℕ) (desk read desk' : DeskState) (status : ℕ) (due : (status ≡ 0) ⊎ (status ≡ 4) ⊎ (status ≡ 6)) (written : read.written ≡ desk.written) where
+module _ (failed : List TheLine) (text : List ℕ) (desk read desk' : DeskState) (status : ℕ) (due : (status ≡ 0) ⊎ (status ≡ 4) ⊎ (status ≡ 6))
+    (written : read.written ≡ desk.written) where
   pub whole_out : status ≢ 4 → TellsRun failed text read desk' status → Appends desk.written desk'.written text
   whole_out not (inl (inl (is, tells))) = subst (λ (w : Option (List ℕ)). Appends w desk'.written text) written tells.ok
   whole_out not (inl (inr (is, tells))) = absurd (not is)

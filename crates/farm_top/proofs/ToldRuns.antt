@@ -31,7 +31,8 @@ use Rattle.farm_top.specs.Save.{CarriesSave, CleanSave, SaveEnded, SavesOrders, 
 use Rattle.farm_top.proofs.FarmCausing.{first_rose, not_long}
 
 -- A run of these orders that was carried to its end, with the text of it that was told.
-pub record ToldRun (text_of : Run → List TheLine → List ℕ) (orders : List Order) (s : Settings) (before now : ℕ → Side → LineState) (read desk' : DeskState) (status : ℕ) : Type 0 where
+pub record ToldRun (text_of : Run → List TheLine → List ℕ) (orders : List Order) (s : Settings) (before now : ℕ → Side → LineState) (read desk' : DeskState)
+    (status : ℕ) : Type 0 where
   pub failed : List TheLine
   pub text : List ℕ
   pub told : TellsFailed before now failed
@@ -45,8 +46,10 @@ pub record ToldRun (text_of : Run → List TheLine → List ℕ) (orders : List 
   pub tells : TellsRun failed text read desk' status
 
 -- or want of memory cut it short
-abbrev pub ToldOrCut : (Run → List TheLine → List ℕ) → Settings → (ℕ → Side → LineState) → (ℕ → Side → LineState) → DeskState → ℕ → List Order → DeskState → Type 0
-ToldOrCut text_of s before now desk' status orders read = ToldRun text_of orders s before now read desk' status ⊎ (IsCutShort orders s.periods before now × LacksMemory read desk' status)
+abbrev pub ToldOrCut : (Run → List TheLine → List ℕ) → Settings → (ℕ → Side → LineState) → (ℕ → Side → LineState) → DeskState → ℕ → List Order → DeskState →
+    Type 0
+ToldOrCut text_of s before now desk' status orders read =
+    ToldRun text_of orders s before now read desk' status ⊎ (IsCutShort orders s.periods before now × LacksMemory read desk' status)
 
 pub told_by_run : (s : Settings) (before now : ℕ → Side → LineState) (desk' : DeskState) (status : ℕ) (orders : List Order) (read : DeskState) →
     RunsOrders s before now desk' status orders read → ToldOrCut report_told s before now desk' status orders read
@@ -98,7 +101,8 @@ cut_none orders periods before now stay =
     subst (IsCutShort orders periods before) same (cut_first orders periods before)
 
 -- a run that was carried to its end has what it has where it is cut short
-pub cut_whole : (text_of : Run → List TheLine → List ℕ) (orders : List Order) (s : Settings) (before now : ℕ → Side → LineState) (read desk' : DeskState) (status : ℕ) →
+pub cut_whole : (text_of : Run → List TheLine → List ℕ) (orders : List Order) (s : Settings) (before now : ℕ → Side → LineState) (read desk' : DeskState)
+    (status : ℕ) →
     ToldRun text_of orders s before now read desk' status → IsCutShort orders s.periods before now
 cut_whole text_of orders s before now read desk' status ran = record {
   fails = is_listed ran.failed;

@@ -36,7 +36,8 @@ pub record SavesAndTells (orders : List Order) (pace : Pace) (before now : ℕ �
 
 -- the run of the orders, unless want of memory cut it short
 abbrev pub SavesOrders : Settings → (ℕ → Side → LineState) → (ℕ → Side → LineState) → DeskState → ℕ → List Order → DeskState → Type 0
-SavesOrders s before now desk' status orders read = SavesAndTells orders (pace_of s) before now read desk' status ⊎ (IsCutShort orders s.periods before now × LacksMemory read desk' status)
+SavesOrders s before now desk' status orders read =
+    SavesAndTells orders (pace_of s) before now read desk' status ⊎ (IsCutShort orders s.periods before now × LacksMemory read desk' status)
 
 -- a whole command `save`, whatever fails; the reading of the orders and their refusal are those of `run`
 abbrev pub SavesFarm : Settings → (ℕ → Side → LineState) → (ℕ → Side → LineState) → DeskState → DeskState → ℕ → Type 0
