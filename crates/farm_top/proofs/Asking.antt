@@ -1,6 +1,5 @@
 -- What the words ask for, and that it is carried out.
 use Rattle.std.proofs.Common.{inl, inr, ℕ, ◌≤◌, List, Option, Some, None, subst, arith}
-use Rattle.std.specs.Prelude.{codes}
 use Rattle.trau_io.specs.declared.line.Side.{Side}
 use Rattle.trau_io.specs.Lines.{LineState}
 use Rattle.trau_io.specs.Desks.{DeskState}

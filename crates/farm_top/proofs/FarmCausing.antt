@@ -1,5 +1,5 @@
 -- Why each status of the commands `run` and `save` comes.
-use Rattle.std.proofs.Common.{◌≡◌, ◌⊎◌, inl, inr, ℕ, ◌<◌, List, [], ◌∷◌, Result, Ok, Err, Some, length, refl, sym, ◌∙◌, ap, subst, arith}
+use Rattle.std.proofs.Common.{◌≡◌, ◌⊎◌, inl, inr, ℕ, ◌<◌, List, [], ◌∷◌, Result, Ok, Err, Some, length, refl, sym, ◌∙◌, subst, arith}
 use Rattle.std.specs.Prelude.{IsErrOf}
 use Rattle.std.specs.Io.KnownBytes.{Consumes, IsAtEnd}
 use Rattle.trau_io.specs.declared.line.Side.{Side}
@@ -13,24 +13,11 @@ use Rattle.farm_orders.specs.declared.fault.OrdersFault.TheVariants.{Unread, Too
 use Rattle.farm_orders.specs.Reading.{ReadsOrders, AnswersTold}
 use Rattle.farm_report.specs.Lines.{report_text}
 use Rattle.farm_run.specs.Runs.{TellsFailed}
-use Rattle.farm_run.proofs.Listed.{listed_head}
 use Rattle.command_words.specs.declared.asked.Settings.{Settings}
 use Rattle.farm_top.specs.Farm.{AllStay, CarriesRun, FollowsReading, LacksMemory, ReadsAndFollows, RunsOrders, TellsDue, TellsRun, status_of_run}
-use Rattle.farm_top.specs.FarmCauses.{ReadsBadLine, ReadsTooLong, RunCauses, SomeRose}
+use Rattle.farm_top.specs.FarmCauses.{ReadsBadLine, ReadsTooLong, RunCauses}
 use Rattle.farm_top.specs.Save.{CarriesSave, SavesOrders, saved_text}
-
--- a text within the limits isn't too long
-pub not_long : (text : List ℕ) → IsWithin text → (1048576 < length text) ⊎ (65536 < length (text_lines text)) → ⊥
-not_long text within (inl long) = omega (arith, within.0, long)
-not_long text within (inr long) = omega (arith, within.1, long)
-
--- a run that lists some line
-pub first_rose : (before now : ℕ → Side → LineState) (line : TheLine) (lines : List TheLine) → TellsFailed before now (line ∷ lines) → SomeRose before now
-first_rose before now line lines failed = (line.call, line.side, failed.failures.rose line.call line.side (listed_head line lines))
-
--- of lines that are as they were no count rose
-pub stayed : (before now : ℕ → Side → LineState) → AllStay before now → (c : ℕ) (s : Side) → (before c s).faults < (now c s).faults → ⊥
-stayed before now stay c s rose = let same : (now c s).faults ≡ (before c s).faults = ap (λ (l : LineState). l.faults) (stay c s) in omega (arith, rose, same)
+use Rattle.farm_top.proofs.Taking.{first_rose, not_long, stayed}
 
 module _ (before now : ℕ → Side → LineState) (desk desk' : DeskState) (status : ℕ) where
   -- want of memory

@@ -1,34 +1,22 @@
 -- What a run leaves, whatever failed, and of which no count rose: it ended well, unless there was no memory.
-use Rattle.std.proofs.Common.{◌≡◌, ◌≢◌, ◌⊎◌, inl, inr, ℕ, Bool, true, false, List, [], ◌∷◌, length, Result, Ok, Err, Option, Some, None, refl, sym, ◌∙◌, ap, subst, arith}
-use Rattle.std.specs.Prelude.{IsErrOf}
-use Rattle.std.specs.Io.KnownBytes.{Appends, Consumes, IsAtEnd}
-use Rattle.std.proofs.lemmas.List.{take_all}
+use Rattle.std.proofs.Common.{◌≡◌, ◌≢◌, ◌⊎◌, inl, inr, ℕ, false, List, [], Option, Some, sym, ◌∙◌, ap, subst, arith}
+use Rattle.std.specs.Io.KnownBytes.{Appends}
 use Rattle.trau_io.specs.declared.line.Side.{Side}
-use Rattle.trau_io.specs.declared.line.Side.TheVariants.{Down, Out}
 use Rattle.trau_io.specs.declared.line.Line.{Line as TheLine}
 use Rattle.trau_io.specs.Lines.{LineState, Rose}
 use Rattle.trau_io.specs.Desks.{DeskState}
 use Rattle.trau_orders.specs.declared.order.Order.{Order}
-use Rattle.trau_orders.specs.Lists.{AreOrders}
-use Rattle.trau_orders.specs.Text.{text_lines, GoodOrBad, SpellsOneList}
-use Rattle.farm_orders.specs.declared.fault.OrdersFault.{OrdersFault}
-use Rattle.farm_orders.specs.declared.fault.OrdersFault.TheVariants.{Unread, TooLong, Line, Memory}
-use Rattle.farm_orders.specs.Reading.{AnswersTold, ReadsOrders}
+use Rattle.trau_orders.specs.Text.{GoodOrBad, SpellsOneList}
 use Rattle.run_spec.specs.Run.{Run}
-use Rattle.run_spec.specs.Lines.{out_of_call, down_of_call}
-use Rattle.farm_report.specs.Lines.{report_text}
-use Rattle.farm_run.specs.Runs.{AreTold, FailedShort, IsRunOver, IsWritten, KeepsSides, Leaves, NoneRose, ReadsOn, TellsFailed, is_listed}
-use Rattle.farm_run.specs.Fronts.{HasFront, IsCutShort}
+use Rattle.farm_run.specs.Runs.{IsRunOver, Leaves, NoneRose, is_listed}
+use Rattle.farm_run.specs.Fronts.{IsCutShort}
 use Rattle.farm_run.proofs.Clocks.{none_listed}
-use Rattle.farm_run.proofs.Cutting.{cut_first}
-use Rattle.farm_tools.specs.Causes.{IsCalm}
 use Rattle.command_words.specs.declared.asked.Settings.{Settings}
-use Rattle.farm_top.specs.Farm.{AllStay, CarriesRun, FollowsReading, LacksMemory, ReadsAndFollows, RunsOrders, TellsRun, status_of_run}
+use Rattle.farm_top.specs.Farm.{AllStay, CarriesRun, LacksMemory, ReadsAndFollows, RunsOrders, TellsRun}
 use Rattle.farm_top.specs.FarmClean.{CleanFarm, CleanTelling, IsCalmRun, TellsOrders}
 use Rattle.farm_top.specs.FarmEnded.{EndedTelling, GainsFront, RunEnded, report_told}
 use Rattle.farm_top.specs.Headline.{Headline}
-use Rattle.farm_top.specs.Save.{CarriesSave, CleanSave, SaveEnded, SavesOrders, mark_told, saved_text}
-use Rattle.farm_top.proofs.FarmCausing.{first_rose, not_long}
+use Rattle.farm_top.specs.Save.{CarriesSave, CleanSave, SaveEnded, SavesOrders, mark_told}
 use Rattle.farm_top.proofs.Taking.{NotTaken, Taken, done_of, front_out, not_rose, read_out, status_out, taken, whole_out}
 use Rattle.farm_top.proofs.ToldRuns.{ToldOrCut, ToldRun, cut_none, cut_whole, told_by_run, told_by_save}
 

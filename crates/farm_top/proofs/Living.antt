@@ -1,5 +1,5 @@
 -- What the command `live` leaves, and why its statuses come.
-use Rattle.std.proofs.Common.{◌≡◌, inl, inr, ℕ, arith}
+use Rattle.std.proofs.Common.{inl, inr, ℕ, arith}
 use Rattle.trau_io.specs.declared.line.Side.{Side}
 use Rattle.trau_io.specs.Lines.{LineState, Rose}
 use Rattle.trau_io.specs.Desks.{DeskState}

@@ -1,28 +1,21 @@
 -- Why each status of the command `resume` comes, by what was read.
-use Rattle.std.proofs.Common.{◌≡◌, ◌⊎◌, inl, inr, ℕ, ◌<◌, List, [], ◌∷◌, ◌++◌, Result, Ok, Err, Some, length, drop, refl, sym, ◌∙◌, ap, subst, arith}
-use Rattle.std.proofs.Math.Seq.{drop-append_seam}
+use Rattle.std.proofs.Common.{◌≡◌, ◌⊎◌, inl, inr, ℕ, ◌<◌, List, Result, Ok, Err, Some, length, refl, sym, ◌∙◌, subst, arith}
 use Rattle.std.specs.Prelude.{IsErrOf}
 use Rattle.std.specs.Io.KnownBytes.{Consumes, IsAtEnd}
 use Rattle.trau_io.specs.declared.line.Side.{Side}
-use Rattle.trau_io.specs.declared.line.Line.{Line as TheLine}
 use Rattle.trau_io.specs.Lines.{LineState, Rose}
 use Rattle.trau_io.specs.Desks.{DeskState}
-use Rattle.trau_orders.specs.Text.{text_lines, GoodOrBad}
-use Rattle.round_lines.specs.Rounds.{IsOutgoing}
-use Rattle.farm_checkpoint.specs.Marks.{MarkView}
-use Rattle.farm_checkpoint.specs.Text.{mark_text, HasOneFirst, HasOneMark, IsRead, NotGoodAndBad}
+use Rattle.trau_orders.specs.Text.{GoodOrBad}
+use Rattle.farm_checkpoint.specs.Text.{HasOneMark, NotGoodAndBad}
 use Rattle.farm_orders.specs.declared.fault.MarkedFault.{MarkedFault}
 use Rattle.farm_orders.specs.declared.fault.MarkedFault.TheVariants.{Mark, Orders}
 use Rattle.farm_orders.specs.declared.fault.OrdersFault.TheVariants.{Unread, TooLong, Line, Memory}
 use Rattle.farm_orders.specs.declared.marked.MarkedOrders.{MarkedOrders}
 use Rattle.farm_orders.specs.Marked.{AnswersMarkedTold, IsShort, ReadsMarked, RefusedBehind, TakenBehind}
-use Rattle.farm_run.specs.Runs.{TellsFailed}
 use Rattle.command_words.specs.declared.asked.Settings.{Settings}
-use Rattle.farm_top.specs.Farm.{AllStay, LacksMemory, TellsReport, line_text, status_of_run}
-use Rattle.farm_top.specs.FarmCauses.{HasBadLine, ReadsBadText}
-use Rattle.farm_top.specs.Resume.{CarriesResume, FindsAndTells, FollowsMarked, ResumesAndTells, ResumesOrders, mark_line_text}
+use Rattle.farm_top.specs.Farm.{LacksMemory, TellsReport}
+use Rattle.farm_top.specs.Resume.{CarriesResume, FollowsMarked, ResumesAndTells, ResumesOrders}
 use Rattle.farm_top.specs.ResumeCauses.{HasBadMark, HasBadOrder, HasLongOrders, ReadsTooMuch, ResumeCauses}
-use Rattle.farm_top.proofs.FarmCausing.{first_rose, not_long, stayed}
 use Rattle.farm_top.proofs.ResumeCausing.{bad_causes, differs_causes, long_causes, marked_not_bad, memory_causes, not_long_behind, taken_not_bad, taken_not_long, told_causes, unread_causes, untold_causes}
 
 module _ (good : GoodOrBad) (mark_good : NotGoodAndBad) (one : HasOneMark) (s : Settings) (before now : ℕ → Side → LineState) (desk read desk' : DeskState)

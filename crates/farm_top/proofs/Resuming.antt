@@ -1,11 +1,9 @@
 -- What the command `resume` leaves where the desk tells a mark and orders.
-use Rattle.std.proofs.Common.{◌≡◌, ◌≢◌, ◌⊎◌, inl, inr, ℕ, ◌≤◌, ◌*◌, max, Bool, false, List, [], ◌∷◌, drop, Result, Ok, Err, Option, Some, refl, sym, ◌∙◌, ap, subst, arith}
+use Rattle.std.proofs.Common.{◌≡◌, ◌≢◌, ◌⊎◌, inl, inr, ℕ, ◌≤◌, max, false, List, [], Result, Ok, Err, Option, Some, refl, sym, ◌∙◌, ap, subst, arith}
 use Rattle.std.specs.Prelude.{IsErrOf}
 use Rattle.std.specs.Io.KnownBytes.{Appends, Consumes}
-use Rattle.std.proofs.KnownBytes.{Appends-nil}
 use Rattle.trau_io.specs.declared.line.Line.{Line as TheLine}
 use Rattle.trau_io.specs.declared.line.Side.{Side}
-use Rattle.trau_io.specs.declared.line.Side.TheVariants.{Down, Out}
 use Rattle.trau_io.specs.Lines.{LineState, Rose}
 use Rattle.trau_io.specs.Desks.{DeskState}
 use Rattle.trau_orders.specs.declared.order.Order.{Order}
@@ -19,86 +17,23 @@ use Rattle.farm_orders.specs.declared.fault.MarkedFault.{MarkedFault}
 use Rattle.farm_orders.specs.declared.fault.MarkedFault.TheVariants.{Mark, Orders}
 use Rattle.farm_orders.specs.declared.fault.OrdersFault.TheVariants.{Unread, TooLong, Line, Memory}
 use Rattle.farm_orders.specs.declared.marked.MarkedOrders.{MarkedOrders}
-use Rattle.farm_orders.specs.Marked.{AnswersMarkedTold, IsShort, ReadsMarked, RefusedBehind, TakenBehind}
-use Rattle.run_spec.specs.Run.{Run, worked_to}
-use Rattle.run_spec.specs.Lines.{out_of_call, down_of_call}
+use Rattle.farm_orders.specs.Marked.{AnswersMarkedTold, ReadsMarked, TakenBehind}
+use Rattle.run_spec.specs.Run.{Run}
 use Rattle.run_spec.specs.Mark.{Joins, marked_calls}
 use Rattle.farm_report.specs.Lines.{report_text}
 use Rattle.farm_run.specs.Runs.{IsRunOver, NoneRose, TellsFailed, is_listed}
-use Rattle.farm_run.specs.Fronts.{IsCutShort}
-use Rattle.farm_run.specs.Resuming.{FindsDifference, IsResumeCutShort, LeavesFrom, ResumesRun}
+use Rattle.farm_run.specs.Resuming.{IsResumeCutShort, LeavesFrom}
 use Rattle.farm_run.proofs.Clocks.{none_listed}
-use Rattle.farm_run.proofs.Cutting.{cut_first}
 use Rattle.command_words.specs.declared.asked.Settings.{Settings}
-use Rattle.farm_top.specs.Farm.{AllStay, LacksMemory, TellsReport, TellsRun, pace_of, status_of_run}
+use Rattle.farm_top.specs.Farm.{TellsReport}
 use Rattle.farm_top.specs.FarmClean.{IsCalmRun}
-use Rattle.farm_top.specs.FarmEnded.{GainsFront, report_told}
+use Rattle.farm_top.specs.FarmEnded.{GainsFront}
 use Rattle.farm_top.specs.Headline.{HeadlineFrom}
 use Rattle.farm_top.specs.Resume.{CarriesResume, FindsAndTells, FollowsMarked, ResumesAndTells, ResumesOrders}
-use Rattle.farm_top.specs.ResumeCauses.{HasBadOrder}
 use Rattle.farm_top.specs.ResumeEnded.{JoinsMarked, ResumeDiffers, ResumeEnded, TellsMarked}
 use Rattle.farm_top.proofs.ResumeCausing.{marked_not_bad, same_mark, same_orders, taken_not_bad, taken_not_long}
 use Rattle.farm_top.proofs.Taking.{NotTaken, Taken, done_of, front_out, none_left, not_rose, read_out, status_out, whole_out}
-use Rattle.farm_top.proofs.ToldRuns.{front_whole}
-
--- ---- where there was no memory
-
--- a run that was carried to its end has what it has where it is cut short
-cut_whole : (marked : MarkedOrders) (s : Settings) (before now : ℕ → Side → LineState) (desk desk' : DeskState) (status : ℕ) →
-    ResumesAndTells marked s before now desk desk' status → IsResumeCutShort marked.orders (max marked.mark.period s.periods) marked.mark.period before now
-cut_whole marked s before now desk desk' status ran =
-    let report = ran.report in
-    let from = marked.mark.period in
-    record {
-      fails = is_listed report.failed;
-      told = ran.resumes.failed.failures;
-      sides = ran.resumes.sides;
-      reads = ran.resumes.reads;
-      there = λ are told. ran.resumes.there are told (max from s.periods);
-      fronts = λ r over.
-          let l = ran.resumes.leaves r over in
-          record {
-            out = λ c i. front_whole (is_listed report.failed c Out) (before c Out) (now c Out) (drop (160 * worked_to r from c) (out_of_call r c)) (l.out c i);
-            down = λ c i. front_whole (is_listed report.failed c Down) (before c Down) (now c Down) (drop (40 * worked_to r from c) (down_of_call r c))
-                (l.down c i);
-            others = l.others;
-          };
-    }
-
--- no line was used
-cut_first_from : (orders : List Order) (periods from : ℕ) (before : ℕ → Side → LineState) → IsResumeCutShort orders periods from before before
-cut_first_from orders periods from before =
-    let cut = cut_first orders periods before in
-    record {
-      fails = cut.fails;
-      told = cut.told;
-      sides = cut.sides;
-      reads = cut.reads;
-      there = cut.there;
-      fronts = λ r over. record {
-        out = λ c i. (0, Appends-nil (before c Out).written);
-        down = λ c i. (0, Appends-nil (before c Down).written);
-        others = (cut.fronts r over).others;
-      };
-    }
-
-pub cut_none_from : (orders : List Order) (periods from : ℕ) (before now : ℕ → Side → LineState) → AllStay before now →
-    IsResumeCutShort orders periods from before now
-cut_none_from orders periods from before now stay =
-    let same : before ≡ now = λ i. λ c. λ side. sym (stay c side) i in
-    subst (IsResumeCutShort orders periods from before) same (cut_first_from orders periods from before)
-
--- the status of a run that was carried to its end
-due_of : (failed : List TheLine) (text : List ℕ) (read desk' : DeskState) (status : ℕ) → TellsRun failed text read desk' status → status ≡ 9 → ⊥
-due_of failed text read desk' status (inl (inl (is, tells))) nine = not_nine failed (sym nine ∙ is)
-  where
-    not_nine : (lines : List TheLine) → 9 ≡ status_of_run lines → ⊥
-    not_nine [] e = absurd (omega (arith, e))
-    not_nine (line ∷ lines) e = absurd (omega (arith, e))
-due_of failed text read desk' status (inl (inr (is, tells))) nine = omega (arith, is, nine)
-due_of failed text read desk' status (inr ends) nine = let is = ends.status_is in omega (arith, is, nine)
-
--- ---- a mark and orders that the desk tells
+use Rattle.farm_top.proofs.ResumeCutting.{cut_none_from, cut_whole, due_of}
 
 module _ (good : GoodOrBad) (one : SpellsOneList) (mark_good : NotGoodAndBad) (one_mark : HasOneMark) (s : Settings) (before now : ℕ → Side → LineState)
     (desk desk' : DeskState) (status : ℕ) (mark : MarkView) (orders : List Order) (told : TellsMarked mark orders desk)

@@ -1,34 +1,36 @@
 -- What is done with what the desk told, and what the desk gains of a text.
-use Rattle.std.proofs.Common.{◌≡◌, ◌≢◌, ◌⊎◌, inl, inr, ℕ, Bool, true, false, List, [], ◌∷◌, length, Result, Ok, Err, Option, Some, None, refl, sym, ◌∙◌, ap, subst, arith}
+use Rattle.std.proofs.Common.{◌≡◌, ◌≢◌, ◌⊎◌, inl, inr, ℕ, List, [], ◌∷◌, length, Result, Ok, Err, Option, Some, None, refl, sym, ◌∙◌, ap, subst, arith, ◌<◌}
 use Rattle.std.specs.Prelude.{IsErrOf}
 use Rattle.std.specs.Io.KnownBytes.{Appends, Consumes, IsAtEnd}
-use Rattle.std.proofs.lemmas.List.{take_all}
 use Rattle.trau_io.specs.declared.line.Side.{Side}
-use Rattle.trau_io.specs.declared.line.Side.TheVariants.{Down, Out}
 use Rattle.trau_io.specs.declared.line.Line.{Line as TheLine}
 use Rattle.trau_io.specs.Lines.{LineState, Rose}
 use Rattle.trau_io.specs.Desks.{DeskState}
 use Rattle.trau_orders.specs.declared.order.Order.{Order}
-use Rattle.trau_orders.specs.Lists.{AreOrders}
-use Rattle.trau_orders.specs.Text.{text_lines, GoodOrBad, SpellsOneList}
+use Rattle.trau_orders.specs.Text.{text_lines, GoodOrBad, IsWithin, SpellsOneList}
 use Rattle.farm_orders.specs.declared.fault.OrdersFault.{OrdersFault}
 use Rattle.farm_orders.specs.declared.fault.OrdersFault.TheVariants.{Unread, TooLong, Line, Memory}
 use Rattle.farm_orders.specs.Reading.{AnswersTold, ReadsOrders}
-use Rattle.run_spec.specs.Run.{Run}
-use Rattle.run_spec.specs.Lines.{out_of_call, down_of_call}
-use Rattle.farm_report.specs.Lines.{report_text}
-use Rattle.farm_run.specs.Runs.{AreTold, FailedShort, IsRunOver, IsWritten, KeepsSides, Leaves, NoneRose, ReadsOn, TellsFailed, is_listed}
-use Rattle.farm_run.specs.Fronts.{HasFront, IsCutShort}
-use Rattle.farm_run.proofs.Clocks.{none_listed}
-use Rattle.farm_run.proofs.Cutting.{cut_first}
+use Rattle.farm_run.specs.Runs.{NoneRose, TellsFailed}
+use Rattle.farm_run.proofs.Listed.{listed_head}
 use Rattle.farm_tools.specs.Causes.{IsCalm}
-use Rattle.command_words.specs.declared.asked.Settings.{Settings}
-use Rattle.farm_top.specs.Farm.{AllStay, CarriesRun, FollowsReading, LacksMemory, ReadsAndFollows, RunsOrders, TellsRun, status_of_run}
-use Rattle.farm_top.specs.FarmClean.{CleanFarm, CleanTelling, IsCalmRun, TellsOrders}
-use Rattle.farm_top.specs.FarmEnded.{EndedTelling, GainsFront, RunEnded, report_told}
-use Rattle.farm_top.specs.Headline.{Headline}
-use Rattle.farm_top.specs.Save.{CarriesSave, CleanSave, SaveEnded, SavesOrders, mark_told, saved_text}
-use Rattle.farm_top.proofs.FarmCausing.{first_rose, not_long}
+use Rattle.farm_top.specs.Farm.{AllStay, FollowsReading, LacksMemory, ReadsAndFollows, TellsRun, status_of_run}
+use Rattle.farm_top.specs.FarmClean.{TellsOrders}
+use Rattle.farm_top.specs.FarmEnded.{GainsFront}
+use Rattle.farm_top.specs.FarmCauses.{SomeRose}
+
+-- a text within the limits isn't too long
+pub not_long : (text : List ℕ) → IsWithin text → (1048576 < length text) ⊎ (65536 < length (text_lines text)) → ⊥
+not_long text within (inl long) = omega (arith, within.0, long)
+not_long text within (inr long) = omega (arith, within.1, long)
+
+-- a run that lists some line
+pub first_rose : (before now : ℕ → Side → LineState) (line : TheLine) (lines : List TheLine) → TellsFailed before now (line ∷ lines) → SomeRose before now
+first_rose before now line lines failed = (line.call, line.side, failed.failures.rose line.call line.side (listed_head line lines))
+
+-- of lines that are as they were no count rose
+pub stayed : (before now : ℕ → Side → LineState) → AllStay before now → (c : ℕ) (s : Side) → (before c s).faults < (now c s).faults → ⊥
+stayed before now stay c s rose = let same : (now c s).faults ≡ (before c s).faults = ap (λ (l : LineState). l.faults) (stay c s) in omega (arith, rose, same)
 
 -- a count that is calm didn't rise
 pub not_rose : (before now : ℕ) → IsCalm before now → Rose before now → ⊥

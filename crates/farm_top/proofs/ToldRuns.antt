@@ -1,34 +1,25 @@
 -- A run that is told: what the commands `run` and `save` have in common.
-use Rattle.std.proofs.Common.{◌≡◌, ◌≢◌, ◌⊎◌, inl, inr, ℕ, Bool, true, false, List, [], ◌∷◌, length, Result, Ok, Err, Option, Some, None, refl, sym, ◌∙◌, ap, subst, arith}
-use Rattle.std.specs.Prelude.{IsErrOf}
-use Rattle.std.specs.Io.KnownBytes.{Appends, Consumes, IsAtEnd}
+use Rattle.std.proofs.Common.{◌≡◌, ◌⊎◌, inl, inr, ℕ, Bool, true, false, List, length, sym, ap, subst, arith}
+use Rattle.std.specs.Io.KnownBytes.{Appends}
 use Rattle.std.proofs.lemmas.List.{take_all}
 use Rattle.trau_io.specs.declared.line.Side.{Side}
 use Rattle.trau_io.specs.declared.line.Side.TheVariants.{Down, Out}
 use Rattle.trau_io.specs.declared.line.Line.{Line as TheLine}
-use Rattle.trau_io.specs.Lines.{LineState, Rose}
+use Rattle.trau_io.specs.Lines.{LineState}
 use Rattle.trau_io.specs.Desks.{DeskState}
 use Rattle.trau_orders.specs.declared.order.Order.{Order}
 use Rattle.trau_orders.specs.Lists.{AreOrders}
-use Rattle.trau_orders.specs.Text.{text_lines, GoodOrBad, SpellsOneList}
-use Rattle.farm_orders.specs.declared.fault.OrdersFault.{OrdersFault}
-use Rattle.farm_orders.specs.declared.fault.OrdersFault.TheVariants.{Unread, TooLong, Line, Memory}
-use Rattle.farm_orders.specs.Reading.{AnswersTold, ReadsOrders}
 use Rattle.run_spec.specs.Run.{Run}
 use Rattle.run_spec.specs.Lines.{out_of_call, down_of_call}
 use Rattle.farm_report.specs.Lines.{report_text}
-use Rattle.farm_run.specs.Runs.{AreTold, FailedShort, IsRunOver, IsWritten, KeepsSides, Leaves, NoneRose, ReadsOn, TellsFailed, is_listed}
+use Rattle.farm_run.specs.Runs.{AreTold, FailedShort, IsRunOver, IsWritten, KeepsSides, Leaves, ReadsOn, TellsFailed, is_listed}
 use Rattle.farm_run.specs.Fronts.{HasFront, IsCutShort}
-use Rattle.farm_run.proofs.Clocks.{none_listed}
 use Rattle.farm_run.proofs.Cutting.{cut_first}
-use Rattle.farm_tools.specs.Causes.{IsCalm}
 use Rattle.command_words.specs.declared.asked.Settings.{Settings}
-use Rattle.farm_top.specs.Farm.{AllStay, CarriesRun, FollowsReading, LacksMemory, ReadsAndFollows, RunsOrders, TellsRun, status_of_run}
-use Rattle.farm_top.specs.FarmClean.{CleanFarm, CleanTelling, IsCalmRun, TellsOrders}
-use Rattle.farm_top.specs.FarmEnded.{EndedTelling, GainsFront, RunEnded, report_told}
+use Rattle.farm_top.specs.Farm.{AllStay, LacksMemory, RunsOrders, TellsRun}
+use Rattle.farm_top.specs.FarmEnded.{report_told}
 use Rattle.farm_top.specs.Headline.{Headline}
-use Rattle.farm_top.specs.Save.{CarriesSave, CleanSave, SaveEnded, SavesOrders, mark_told, saved_text}
-use Rattle.farm_top.proofs.FarmCausing.{first_rose, not_long}
+use Rattle.farm_top.specs.Save.{SavesOrders, mark_told, saved_text}
 
 -- A run of these orders that was carried to its end, with the text of it that was told.
 pub record ToldRun (text_of : Run → List TheLine → List ℕ) (orders : List Order) (s : Settings) (before now : ℕ → Side → LineState) (read desk' : DeskState)

@@ -11,7 +11,6 @@ use Rattle.farm_orders.specs.declared.marked.MarkedOrders.{MarkedOrders}
 use Rattle.farm_orders.specs.Marked.{ReadsMarked, AnswersMarkedTold}
 use Rattle.farm_report.specs.View.{ReportView}
 use Rattle.run_spec.specs.Run.{Run}
-use Rattle.farm_run.specs.declared.pace.Pace.{Pace}
 use Rattle.farm_run.specs.Runs.{IsRunOver, is_listed}
 use Rattle.farm_run.specs.Resuming.{FindsDifference, IsResumeCutShort, ResumesRun}
 use Rattle.command_words.specs.declared.asked.Settings.{Settings}

@@ -11,9 +11,7 @@ use Rattle.trau_orders.specs.Text.{text_lines, AreLines, IsWithin}
 use Rattle.farm_checkpoint.specs.Marks.{MarkView}
 use Rattle.farm_orders.specs.Marked.{HasMark, IsShort}
 use Rattle.run_spec.specs.Run.{Run}
-use Rattle.run_spec.specs.Facts.{report_of}
 use Rattle.run_spec.specs.Mark.{Joins, marked_calls}
-use Rattle.farm_report.specs.Lines.{report_text}
 use Rattle.farm_run.specs.Runs.{AreTold, FailedShort, IsRunOver, KeepsSides, ReadsOn, TellsFailed, is_listed, none_fails}
 use Rattle.farm_run.specs.Resuming.{FindsDifference, LeavesFrom}
 use Rattle.command_words.specs.declared.asked.Settings.{Settings}

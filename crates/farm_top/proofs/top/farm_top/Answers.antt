@@ -9,7 +9,8 @@ use Rattle.farm_top.proofs.FarmCleaning.{run_clean, run_complete, run_cut_short,
 use Rattle.farm_top.proofs.Ending.{not_usage}
 use Rattle.farm_top.proofs.Living.{live_ends}
 use Rattle.farm_top.proofs.ResumeReading.{resume_causes}
-use Rattle.farm_top.proofs.Resuming.{another, cut_none_from, cut_short, differs, ended, joins, same}
+use Rattle.farm_top.proofs.ResumeCutting.{cut_none_from}
+use Rattle.farm_top.proofs.Resuming.{another, cut_short, differs, ended, joins, same}
 use Rattle.farm_top.proofs.top.farm_top.Goals as goal
 
 not_five : (status : ℕ) → status ≡ 1 → status ≡ 5 → ⊥
