@@ -1,6 +1,5 @@
 -- What the words ask for, and that it is carried out.
 use Rattle.std.proofs.Common.{inl, inr, ℕ, ◌≤◌, List, Option, Some, None, subst, arith}
-use Rattle.std.specs.Prelude.{codes}
 use Rattle.trau_io.specs.declared.line.Side.{Side}
 use Rattle.trau_io.specs.Lines.{LineState}
 use Rattle.trau_io.specs.Desks.{DeskState}
@@ -87,13 +86,16 @@ value_in : (text : Option (List ℕ)) (low high default n : ℕ) → low ≤ def
 value_in None low high default n above below is = (omega (arith, above, is), omega (arith, below, is))
 value_in (Some text) low high default n above below is = (is.at_least, is.at_most)
 
-pace_in : (most default : ℕ) (text_of : List ℕ → Option (List ℕ)) (s : Settings) → 1 ≤ default → default ≤ most → GivesSettings most default text_of s → IsPace (pace_of s) × (s.periods ≤ most)
+pace_in : (most default : ℕ) (text_of : List ℕ → Option (List ℕ)) (s : Settings) → 1 ≤ default → default ≤ most → GivesSettings most default text_of s →
+    IsPace (pace_of s) × (s.periods ≤ most)
 pace_in most default text_of s some within gives =
     let workers = value_in _ 1 64 4 s.workers (omega arith) (omega arith) gives.workers in
     let batch = value_in _ 1 250 50 s.batch (omega arith) (omega arith) gives.batch in
     let slice = value_in _ 1 250 5 s.slice (omega arith) (omega arith) gives.slice in
-    let periods = value_in _ 1 most default s.periods some within gives.periods in
-    (record { some_workers = workers.0; few_workers = workers.1; some_periods = batch.0; few_periods = batch.1; slice = slice.0; periods = periods.0 }, periods.1)
+    let periods = value_in _ 1 most default s.periods some within gives.periods in (
+      record { some_workers = workers.0; few_workers = workers.1; some_periods = batch.0; few_periods = batch.1; slice = slice.0; periods = periods.0 },
+      periods.1,
+    )
 
 -- what words ask for is in its ranges
 pub in_range : (words : List (List ℕ)) (a : Asked) → Asks words a → IsInRange a
@@ -134,7 +136,8 @@ module _ (words : List (List ℕ)) (a : Asked) (meant : Asks words a) (before no
 
   -- what was asked for and carried out is what the words ask for
   pub tool_carried : CarriesAsked a before now desk desk' status → (t : Tool) (c : ℕ) → AsksFor words t c → Carries t before now desk desk' c status
-  tool_carried done t c asks = carries_tool t c (subst (λ b. CarriesAsked b before now desk desk' status) (one_asked words a (asked_of t c) meant (asks_tool words t c asks)) done)
+  tool_carried done t c asks =
+      carries_tool t c (subst (λ b. CarriesAsked b before now desk desk' status) (one_asked words a (asked_of t c) meant (asks_tool words t c asks)) done)
 
   pub listing_carried : CarriesAsked a before now desk desk' status → (c : ℕ) → AsksForFrames words c → CarriesFrames before now desk desk' c status
   listing_carried done c asks = subst (λ b. CarriesAsked b before now desk desk' status) (one_asked words a (Frames c) meant asks) done
@@ -148,13 +151,15 @@ module _ (words : List (List ℕ)) (a : Asked) (meant : Asks words a) (before no
   pub resume_carried : CarriesAsked a before now desk desk' status → (s : Settings) → AsksForResume words s → ResumesFarm s before now desk desk' status
   resume_carried done s asks = subst (λ b. CarriesAsked b before now desk desk' status) (one_asked words a (Resume s) meant asks) done
 
-  pub drill_carried : CarriesAsked a before now desk desk' status → (seed calls : ℕ) (s : Settings) → AsksForDrill words seed calls s → AllStay before now × CarriesDrill seed calls s.periods desk desk' status
+  pub drill_carried : CarriesAsked a before now desk desk' status → (seed calls : ℕ) (s : Settings) → AsksForDrill words seed calls s →
+      AllStay before now × CarriesDrill seed calls s.periods desk desk' status
   drill_carried done seed calls s asks = subst (λ b. CarriesAsked b before now desk desk' status) (one_asked words a (Drill seed calls s) meant asks) done
 
   pub follow_carried : CarriesAsked a before now desk desk' status → (c want : ℕ) → AsksForFollow words c want → FollowEnds before now desk desk' c want status
   follow_carried done c want asks = subst (λ b. CarriesAsked b before now desk desk' status) (one_asked words a (Follow c want) meant asks) done
 
-  pub live_carried : CarriesAsked a before now desk desk' status → (s : LiveSettings) → AsksForLive words s → AllStay before now × CarriesLive s desk desk' status
+  pub live_carried : CarriesAsked a before now desk desk' status → (s : LiveSettings) → AsksForLive words s →
+      AllStay before now × CarriesLive s desk desk' status
   live_carried done s asks = subst (λ b. CarriesAsked b before now desk desk' status) (one_asked words a (Live s) meant asks) done
 
   pub split_carried : CarriesAsked a before now desk desk' status → (c : ℕ) → AsksForSplit words c → SplitEnds before now desk desk' c status

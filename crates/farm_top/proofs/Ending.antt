@@ -19,7 +19,8 @@ module _ (good : GoodOrBad) (mark_good : NotGoodAndBad) (one_mark : HasOneMark) 
   pub not_usage : (a : Asked) → CarriesAsked a before now desk desk' status → status ≢ 1
   not_usage (Run s) done one = let known = (run_causes good s before now desk desk' status (inl done)).known in omega (arith, one, known)
   not_usage (Save s) done one = let known = (save_causes good s before now desk desk' status (inl done)).known in omega (arith, one, known)
-  not_usage (Resume s) done one = let known = (resume_causes good mark_good one_mark s before now desk desk' status (inl done)).known in omega (arith, one, known)
+  not_usage (Resume s) done one = let known = (resume_causes good mark_good one_mark s before now desk desk' status (inl done)).known in
+      omega (arith, one, known)
   not_usage (Drill seed calls s) done one = let known = (drill_ends seed calls s.periods before now desk desk' status done).known in omega (arith, one, known)
   not_usage (Live s) done one = let known = (live_ends s before now desk desk' status done).known in omega (arith, one, known)
   not_usage (Relay c) done one = let known = (causes before now desk desk' c status tool.Relay done).known in omega (arith, one, known)

@@ -1,5 +1,5 @@
 -- Why each status of the commands `run` and `save` comes.
-use Rattle.std.proofs.Common.{◌≡◌, ◌⊎◌, inl, inr, ℕ, ◌<◌, List, [], ◌∷◌, Result, Ok, Err, Some, length, refl, sym, ◌∙◌, ap, subst, arith}
+use Rattle.std.proofs.Common.{◌≡◌, ◌⊎◌, inl, inr, ℕ, ◌<◌, List, [], ◌∷◌, Result, Ok, Err, Some, length, refl, sym, ◌∙◌, subst, arith}
 use Rattle.std.specs.Prelude.{IsErrOf}
 use Rattle.std.specs.Io.KnownBytes.{Consumes, IsAtEnd}
 use Rattle.trau_io.specs.declared.line.Side.{Side}
@@ -13,24 +13,11 @@ use Rattle.farm_orders.specs.declared.fault.OrdersFault.TheVariants.{Unread, Too
 use Rattle.farm_orders.specs.Reading.{ReadsOrders, AnswersTold}
 use Rattle.farm_report.specs.Lines.{report_text}
 use Rattle.farm_run.specs.Runs.{TellsFailed}
-use Rattle.farm_run.proofs.Listed.{listed_head}
 use Rattle.command_words.specs.declared.asked.Settings.{Settings}
 use Rattle.farm_top.specs.Farm.{AllStay, CarriesRun, FollowsReading, LacksMemory, ReadsAndFollows, RunsOrders, TellsDue, TellsRun, status_of_run}
-use Rattle.farm_top.specs.FarmCauses.{ReadsBadLine, ReadsTooLong, RunCauses, SomeRose}
+use Rattle.farm_top.specs.FarmCauses.{ReadsBadLine, ReadsTooLong, RunCauses}
 use Rattle.farm_top.specs.Save.{CarriesSave, SavesOrders, saved_text}
-
--- a text within the limits isn't too long
-pub not_long : (text : List ℕ) → IsWithin text → (1048576 < length text) ⊎ (65536 < length (text_lines text)) → ⊥
-not_long text within (inl long) = omega (arith, within.0, long)
-not_long text within (inr long) = omega (arith, within.1, long)
-
--- a run that lists some line
-pub first_rose : (before now : ℕ → Side → LineState) (line : TheLine) (lines : List TheLine) → TellsFailed before now (line ∷ lines) → SomeRose before now
-first_rose before now line lines failed = (line.call, line.side, failed.failures.rose line.call line.side (listed_head line lines))
-
--- of lines that are as they were no count rose
-pub stayed : (before now : ℕ → Side → LineState) → AllStay before now → (c : ℕ) (s : Side) → (before c s).faults < (now c s).faults → ⊥
-stayed before now stay c s rose = let same : (now c s).faults ≡ (before c s).faults = ap (λ (l : LineState). l.faults) (stay c s) in omega (arith, rose, same)
+use Rattle.farm_top.proofs.Taking.{first_rose, not_long, stayed}
 
 module _ (before now : ℕ → Side → LineState) (desk desk' : DeskState) (status : ℕ) where
   -- want of memory
@@ -166,7 +153,8 @@ module _ (before now : ℕ → Side → LineState) (desk desk' : DeskState) (sta
 -- what is done with orders ends with a text of a run and the lines that failed in it, or there was no memory
 abbrev pub EndsTold : (ℕ → Side → LineState) → (ℕ → Side → LineState) → DeskState → DeskState → ℕ → Type 0
 EndsTold before now read desk' status =
-    ((failed : List TheLine) × (text : List ℕ) × TellsFailed before now failed × TellsDue (status_of_run failed) text read desk' status) ⊎ LacksMemory read desk' status
+    ((failed : List TheLine) × (text : List ℕ) × TellsFailed before now failed × TellsDue (status_of_run failed) text read desk' status)
+    ⊎ LacksMemory read desk' status
 
 module _ (good : GoodOrBad) (done : List Order → DeskState → Type 0) (before now : ℕ → Side → LineState) (desk read desk' : DeskState) (status : ℕ)
     (ends : (orders : List Order) → done orders read → EndsTold before now read desk' status) where
@@ -174,7 +162,8 @@ module _ (good : GoodOrBad) (done : List Order → DeskState → Type 0) (before
   lacks calm ends = memory_causes before now desk desk' status ends.status_is (ends.text_out.tells.read_faults ∙ calm)
 
   done_causes : (orders : List Order) → read.read_faults ≡ desk.read_faults → read.write_faults ≡ desk.write_faults →
-      ((text : List ℕ) → desk.to_come ≡ Some text → AnswersTold text (Ok orders)) → EndsTold before now read desk' status → RunCauses before now desk desk' status
+      ((text : List ℕ) → desk.to_come ≡ Some text → AnswersTold text (Ok orders)) → EndsTold before now read desk' status →
+      RunCauses before now desk desk' status
   done_causes orders calm silent told (inl (failed, text, fails, inl (is, tells))) =
       told_causes before now desk desk' status failed is fails (tells.read_faults ∙ calm) (tells.cause.ok ∙ silent)
       (λ text e. (told text e).0) (λ text n e bad. good _ orders n (told text e).1 bad)
@@ -183,9 +172,11 @@ module _ (good : GoodOrBad) (done : List Order → DeskState → Type 0) (before
       (λ text e. (told text e).0) (λ text n e bad. good _ orders n (told text e).1 bad)
   done_causes orders calm silent told (inr ends) = lacks calm ends
 
-  follows_causes : (reading : Result (List Order) OrdersFault) → ReadsOrders desk read reading → ((text : List ℕ) → desk.to_come ≡ Some text → AnswersTold text reading) →
+  follows_causes : (reading : Result (List Order) OrdersFault) → ReadsOrders desk read reading →
+      ((text : List ℕ) → desk.to_come ≡ Some text → AnswersTold text reading) →
       (IsErrOf reading Unread → Rose desk.read_faults read.read_faults) → ((IsErrOf reading Unread → ⊥) → read.read_faults ≡ desk.read_faults) →
-      read.written ≡ desk.written → read.write_faults ≡ desk.write_faults → FollowsReading done reading before now read desk' status → RunCauses before now desk desk' status
+      read.written ≡ desk.written → read.write_faults ≡ desk.write_faults → FollowsReading done reading before now read desk' status →
+      RunCauses before now desk desk' status
   follows_causes (Ok orders) reads told unread calm written silent follows = done_causes orders (calm (λ e. cc)) silent told (ends orders follows)
   follows_causes (Err Unread) reads told unread calm written silent (stay, ends) =
       unread_causes before now desk desk' status ends.status_is (subst (λ n. Rose desk.read_faults n) (sym ends.text_out.tells.read_faults) (unread refl)) stay
@@ -218,13 +209,16 @@ module _ (good : GoodOrBad) (done : List Order → DeskState → Type 0) (before
 
 module _ (good : GoodOrBad) (s : Settings) (before now : ℕ → Side → LineState) (desk desk' : DeskState) (status : ℕ) where
   -- whatever is done with orders that ends so
-  by_reading : (done : List Order → DeskState → Type 0) → ((orders : List Order) (read : DeskState) → done orders read → EndsTold before now read desk' status) →
+  by_reading : (done : List Order → DeskState → Type 0) →
+      ((orders : List Order) (read : DeskState) → done orders read → EndsTold before now read desk' status) →
       ReadsAndFollows done before now desk desk' status ⊎ (AllStay before now × LacksMemory desk desk' status) → RunCauses before now desk desk' status
   by_reading done ends (inl ran) =
-      follows_causes good done before now desk ran.read desk' status (λ orders. ends orders ran.read) ran.reading ran.reads ran.told ran.unread ran.calm ran.written ran.write_faults ran.follows
+      follows_causes good done before now desk ran.read desk' status
+      (λ orders. ends orders ran.read) ran.reading ran.reads ran.told ran.unread ran.calm ran.written ran.write_faults ran.follows
   by_reading done ends (inr (stay, lacks)) = memory_causes before now desk desk' status lacks.status_is lacks.text_out.tells.read_faults
 
-  ends_told : (failed : List TheLine) (text : List ℕ) (read : DeskState) → TellsFailed before now failed → TellsRun failed text read desk' status → EndsTold before now read desk' status
+  ends_told : (failed : List TheLine) (text : List ℕ) (read : DeskState) → TellsFailed before now failed → TellsRun failed text read desk' status →
+      EndsTold before now read desk' status
   ends_told failed text read fails (inl tells) = inl (failed, text, fails, tells)
   ends_told failed text read fails (inr ends) = inr ends
 

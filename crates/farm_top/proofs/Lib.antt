@@ -8,6 +8,7 @@ mod FarmCleaning
 mod Living
 mod Headlining
 mod ResumeCausing
+mod ResumeCutting
 mod ResumeReading
 mod Resuming
 mod Taking

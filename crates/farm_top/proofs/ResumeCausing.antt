@@ -1,8 +1,6 @@
 -- Why each status of the command `resume` comes.
-use Rattle.std.proofs.Common.{◌≡◌, ◌⊎◌, inl, inr, ℕ, ◌<◌, List, [], ◌∷◌, ◌++◌, Result, Ok, Err, Some, length, drop, refl, sym, ◌∙◌, ap, subst, arith}
+use Rattle.std.proofs.Common.{◌≡◌, ◌⊎◌, inl, inr, ℕ, ◌<◌, List, [], ◌∷◌, Some, length, drop, refl, sym, ◌∙◌, ap, subst, arith}
 use Rattle.std.proofs.Math.Seq.{drop-append_seam}
-use Rattle.std.specs.Prelude.{IsErrOf}
-use Rattle.std.specs.Io.KnownBytes.{Consumes, IsAtEnd}
 use Rattle.trau_io.specs.declared.line.Side.{Side}
 use Rattle.trau_io.specs.declared.line.Line.{Line as TheLine}
 use Rattle.trau_io.specs.Lines.{LineState, Rose}
@@ -10,19 +8,15 @@ use Rattle.trau_io.specs.Desks.{DeskState}
 use Rattle.trau_orders.specs.Text.{text_lines, GoodOrBad}
 use Rattle.round_lines.specs.Rounds.{IsOutgoing}
 use Rattle.farm_checkpoint.specs.Marks.{MarkView}
-use Rattle.farm_checkpoint.specs.Text.{mark_text, HasOneFirst, HasOneMark, IsRead, NotGoodAndBad}
-use Rattle.farm_orders.specs.declared.fault.MarkedFault.{MarkedFault}
-use Rattle.farm_orders.specs.declared.fault.MarkedFault.TheVariants.{Mark, Orders}
-use Rattle.farm_orders.specs.declared.fault.OrdersFault.TheVariants.{Unread, TooLong, Line, Memory}
+use Rattle.farm_checkpoint.specs.Text.{mark_text, HasOneMark, IsRead, NotGoodAndBad}
 use Rattle.farm_orders.specs.declared.marked.MarkedOrders.{MarkedOrders}
-use Rattle.farm_orders.specs.Marked.{AnswersMarkedTold, HasMark, IsShort, ReadsMarked, TakenBehind}
+use Rattle.farm_orders.specs.Marked.{HasMark, TakenBehind}
 use Rattle.farm_run.specs.Runs.{TellsFailed}
-use Rattle.command_words.specs.declared.asked.Settings.{Settings}
-use Rattle.farm_top.specs.Farm.{AllStay, LacksMemory, TellsReport, line_text, status_of_run}
+use Rattle.farm_top.specs.Farm.{AllStay, line_text, status_of_run}
 use Rattle.farm_top.specs.FarmCauses.{HasBadLine, ReadsBadText}
-use Rattle.farm_top.specs.Resume.{CarriesResume, FindsAndTells, FollowsMarked, ResumesAndTells, ResumesOrders, mark_line_text}
+use Rattle.farm_top.specs.Resume.{mark_line_text}
 use Rattle.farm_top.specs.ResumeCauses.{HasBadMark, HasBadOrder, HasLongOrders, ReadsTooMuch, ResumeCauses}
-use Rattle.farm_top.proofs.FarmCausing.{first_rose, not_long, stayed}
+use Rattle.farm_top.proofs.Taking.{first_rose, not_long, stayed}
 
 -- ---- what a text is
 
@@ -38,7 +32,8 @@ module _ (one : HasOneMark) (good : NotGoodAndBad) where
   same_orders text mark other orders others first second =
       let marks = same_mark text mark other orders others first second in
       let left : drop (length (mark_text mark)) text ≡ orders = ap (drop (length (mark_text mark))) first.whole ∙ drop-append_seam (mark_text mark) orders in
-      let right : drop (length (mark_text other)) text ≡ others = ap (drop (length (mark_text other))) second.whole ∙ drop-append_seam (mark_text other) others in
+      let right : drop (length (mark_text other)) text ≡ others = ap (drop (length (mark_text other))) second.whole
+      ∙ drop-append_seam (mark_text other) others in
       sym left ∙ ap (λ (m : MarkView). drop (length (mark_text m)) text) marks ∙ right
 
   -- one with a mark has no bad line of a mark
@@ -47,7 +42,8 @@ module _ (one : HasOneMark) (good : NotGoodAndBad) where
 
   -- one whose orders are within their limits has not too many
   pub not_long_behind : (text : List ℕ) (a : HasLongOrders text) (n : ℕ) → HasBadOrder text n → ⊥
-  not_long_behind text a n b = not_long b.orders b.bad.0 (subst (λ (os : List ℕ). (1048576 < length os) ⊎ (65536 < length (text_lines os))) (same_orders text a.mark b.mark a.orders b.orders a.has b.has) a.long)
+  not_long_behind text a n b = not_long b.orders b.bad.0 (subst (λ (os : List ℕ). (1048576 < length os) ⊎ (65536 < length (text_lines os)))
+      (same_orders text a.mark b.mark a.orders b.orders a.has b.has) a.long)
 
 module _ (one : HasOneMark) (mark_good : NotGoodAndBad) (good : GoodOrBad) where
   -- one whose mark and orders are taken has neither a bad line nor too many orders
@@ -59,7 +55,8 @@ module _ (one : HasOneMark) (mark_good : NotGoodAndBad) (good : GoodOrBad) where
 
   pub taken_not_long : (text : List ℕ) (marked : MarkedOrders) → TakenBehind text marked → HasLongOrders text → ⊥
   taken_not_long text marked taken long =
-      not_long taken.orders taken.answer.0 (subst (λ (os : List ℕ). (1048576 < length os) ⊎ (65536 < length (text_lines os))) (same_orders one mark_good text long.mark marked.mark long.orders taken.orders long.has taken.has) long.long)
+      not_long taken.orders taken.answer.0 (subst (λ (os : List ℕ). (1048576 < length os) ⊎ (65536 < length (text_lines os)))
+      (same_orders one mark_good text long.mark marked.mark long.orders taken.orders long.has taken.has) long.long)
 
 -- ---- by the status
 
@@ -108,7 +105,8 @@ module _ (before now : ℕ → Side → LineState) (desk desk' : DeskState) (sta
 
   -- the text is too long
   pub long_causes : status ≡ 7 → desk'.read_faults ≡ desk.read_faults → AllStay before now → ReadsTooMuch desk desk' →
-      ((text : List ℕ) (n : ℕ) → desk.to_come ≡ Some text → HasBadMark text n → ⊥) → ((text : List ℕ) (n : ℕ) → desk.to_come ≡ Some text → HasBadOrder text n → ⊥) →
+      ((text : List ℕ) (n : ℕ) → desk.to_come ≡ Some text → HasBadMark text n → ⊥) →
+      ((text : List ℕ) (n : ℕ) → desk.to_come ≡ Some text → HasBadOrder text n → ⊥) →
       ResumeCauses before now desk desk' status
   long_causes is calm stay long no_mark no_order = record {
     known = inr (inr (inr (inr (inr (inr (inl is))))));
@@ -130,7 +128,8 @@ module _ (before now : ℕ → Side → LineState) (desk desk' : DeskState) (sta
   }
 
   -- a line isn't in the grammar
-  pub bad_causes : status ≡ 2 → desk'.read_faults ≡ desk.read_faults → AllStay before now → ReadsBadText HasBadMark mark_line_text desk desk' ⊎ ReadsBadText HasBadOrder line_text desk desk' →
+  pub bad_causes : status ≡ 2 → desk'.read_faults ≡ desk.read_faults → AllStay before now →
+      ReadsBadText HasBadMark mark_line_text desk desk' ⊎ ReadsBadText HasBadOrder line_text desk desk' →
       ((text : List ℕ) → desk.to_come ≡ Some text → 1310720 < length text → ⊥) → ((text : List ℕ) → desk.to_come ≡ Some text → HasLongOrders text → ⊥) →
       ResumeCauses before now desk desk' status
   bad_causes is calm stay bad no_length no_orders = record {
@@ -155,7 +154,8 @@ module _ (before now : ℕ → Side → LineState) (desk desk' : DeskState) (sta
   -- the mark and the orders were taken
   module _ (calm : desk'.read_faults ≡ desk.read_faults) (no_mark : (text : List ℕ) (n : ℕ) → desk.to_come ≡ Some text → HasBadMark text n → ⊥)
       (no_order : (text : List ℕ) (n : ℕ) → desk.to_come ≡ Some text → HasBadOrder text n → ⊥)
-      (no_length : (text : List ℕ) → desk.to_come ≡ Some text → 1310720 < length text → ⊥) (no_orders : (text : List ℕ) → desk.to_come ≡ Some text → HasLongOrders text → ⊥) where
+      (no_length : (text : List ℕ) → desk.to_come ≡ Some text → 1310720 < length text → ⊥)
+      (no_orders : (text : List ℕ) → desk.to_come ≡ Some text → HasLongOrders text → ⊥) where
     -- the mark isn't that of the run
     pub differs_causes : status ≡ 9 → ((c : ℕ) (s : Side) → IsOutgoing s → now c s ≡ before c s) → ResumeCauses before now desk desk' status
     differs_causes is unwritten = record {
@@ -199,7 +199,8 @@ module _ (before now : ℕ → Side → LineState) (desk desk' : DeskState) (sta
     }
 
     -- it went out whole
-    pub told_causes : (lines : List TheLine) → status ≡ status_of_run lines → TellsFailed before now lines → desk'.write_faults ≡ desk.write_faults → ResumeCauses before now desk desk' status
+    pub told_causes : (lines : List TheLine) → status ≡ status_of_run lines → TellsFailed before now lines → desk'.write_faults ≡ desk.write_faults →
+        ResumeCauses before now desk desk' status
     told_causes [] is failed silent = record {
       known = inl is;
       read_failed = λ e. absurd (omega (arith, e, is));

@@ -1,11 +1,9 @@
 -- What the command `resume` leaves where the desk tells a mark and orders.
-use Rattle.std.proofs.Common.{◌≡◌, ◌≢◌, ◌⊎◌, inl, inr, ℕ, ◌≤◌, ◌*◌, max, Bool, false, List, [], ◌∷◌, drop, Result, Ok, Err, Option, Some, refl, sym, ◌∙◌, ap, subst, arith}
+use Rattle.std.proofs.Common.{◌≡◌, ◌≢◌, ◌⊎◌, inl, inr, ℕ, ◌≤◌, max, false, List, [], Result, Ok, Err, Option, Some, refl, sym, ◌∙◌, ap, subst, arith}
 use Rattle.std.specs.Prelude.{IsErrOf}
 use Rattle.std.specs.Io.KnownBytes.{Appends, Consumes}
-use Rattle.std.proofs.KnownBytes.{Appends-nil}
 use Rattle.trau_io.specs.declared.line.Line.{Line as TheLine}
 use Rattle.trau_io.specs.declared.line.Side.{Side}
-use Rattle.trau_io.specs.declared.line.Side.TheVariants.{Down, Out}
 use Rattle.trau_io.specs.Lines.{LineState, Rose}
 use Rattle.trau_io.specs.Desks.{DeskState}
 use Rattle.trau_orders.specs.declared.order.Order.{Order}
@@ -19,87 +17,27 @@ use Rattle.farm_orders.specs.declared.fault.MarkedFault.{MarkedFault}
 use Rattle.farm_orders.specs.declared.fault.MarkedFault.TheVariants.{Mark, Orders}
 use Rattle.farm_orders.specs.declared.fault.OrdersFault.TheVariants.{Unread, TooLong, Line, Memory}
 use Rattle.farm_orders.specs.declared.marked.MarkedOrders.{MarkedOrders}
-use Rattle.farm_orders.specs.Marked.{AnswersMarkedTold, IsShort, ReadsMarked, RefusedBehind, TakenBehind}
-use Rattle.run_spec.specs.Run.{Run, worked_to}
-use Rattle.run_spec.specs.Lines.{out_of_call, down_of_call}
+use Rattle.farm_orders.specs.Marked.{AnswersMarkedTold, ReadsMarked, TakenBehind}
+use Rattle.run_spec.specs.Run.{Run}
 use Rattle.run_spec.specs.Mark.{Joins, marked_calls}
 use Rattle.farm_report.specs.Lines.{report_text}
 use Rattle.farm_run.specs.Runs.{IsRunOver, NoneRose, TellsFailed, is_listed}
-use Rattle.farm_run.specs.Fronts.{IsCutShort}
-use Rattle.farm_run.specs.Resuming.{FindsDifference, IsResumeCutShort, LeavesFrom, ResumesRun}
+use Rattle.farm_run.specs.Resuming.{IsResumeCutShort, LeavesFrom}
 use Rattle.farm_run.proofs.Clocks.{none_listed}
-use Rattle.farm_run.proofs.Cutting.{cut_first}
 use Rattle.command_words.specs.declared.asked.Settings.{Settings}
-use Rattle.farm_top.specs.Farm.{AllStay, LacksMemory, TellsReport, TellsRun, pace_of, status_of_run}
+use Rattle.farm_top.specs.Farm.{TellsReport}
 use Rattle.farm_top.specs.FarmClean.{IsCalmRun}
-use Rattle.farm_top.specs.FarmEnded.{GainsFront, report_told}
+use Rattle.farm_top.specs.FarmEnded.{GainsFront}
 use Rattle.farm_top.specs.Headline.{HeadlineFrom}
 use Rattle.farm_top.specs.Resume.{CarriesResume, FindsAndTells, FollowsMarked, ResumesAndTells, ResumesOrders}
-use Rattle.farm_top.specs.ResumeCauses.{HasBadOrder}
 use Rattle.farm_top.specs.ResumeEnded.{JoinsMarked, ResumeDiffers, ResumeEnded, TellsMarked}
 use Rattle.farm_top.proofs.ResumeCausing.{marked_not_bad, same_mark, same_orders, taken_not_bad, taken_not_long}
 use Rattle.farm_top.proofs.Taking.{NotTaken, Taken, done_of, front_out, none_left, not_rose, read_out, status_out, whole_out}
-use Rattle.farm_top.proofs.ToldRuns.{front_whole}
-
--- ---- where there was no memory
-
--- a run that was carried to its end has what it has where it is cut short
-cut_whole : (marked : MarkedOrders) (s : Settings) (before now : ℕ → Side → LineState) (desk desk' : DeskState) (status : ℕ) →
-    ResumesAndTells marked s before now desk desk' status → IsResumeCutShort marked.orders (max marked.mark.period s.periods) marked.mark.period before now
-cut_whole marked s before now desk desk' status ran =
-    let report = ran.report in
-    let from = marked.mark.period in
-    record {
-      fails = is_listed report.failed;
-      told = ran.resumes.failed.failures;
-      sides = ran.resumes.sides;
-      reads = ran.resumes.reads;
-      there = λ are told. ran.resumes.there are told (max from s.periods);
-      fronts = λ r over.
-          let l = ran.resumes.leaves r over in
-          record {
-            out = λ c i. front_whole (is_listed report.failed c Out) (before c Out) (now c Out) (drop (160 * worked_to r from c) (out_of_call r c)) (l.out c i);
-            down = λ c i. front_whole (is_listed report.failed c Down) (before c Down) (now c Down) (drop (40 * worked_to r from c) (down_of_call r c)) (l.down c i);
-            others = l.others;
-          };
-    }
-
--- no line was used
-cut_first_from : (orders : List Order) (periods from : ℕ) (before : ℕ → Side → LineState) → IsResumeCutShort orders periods from before before
-cut_first_from orders periods from before =
-    let cut = cut_first orders periods before in
-    record {
-      fails = cut.fails;
-      told = cut.told;
-      sides = cut.sides;
-      reads = cut.reads;
-      there = cut.there;
-      fronts = λ r over. record {
-        out = λ c i. (0, Appends-nil (before c Out).written);
-        down = λ c i. (0, Appends-nil (before c Down).written);
-        others = (cut.fronts r over).others;
-      };
-    }
-
-pub cut_none_from : (orders : List Order) (periods from : ℕ) (before now : ℕ → Side → LineState) → AllStay before now → IsResumeCutShort orders periods from before now
-cut_none_from orders periods from before now stay =
-    let same : before ≡ now = λ i. λ c. λ side. sym (stay c side) i in
-    subst (IsResumeCutShort orders periods from before) same (cut_first_from orders periods from before)
-
--- the status of a run that was carried to its end
-due_of : (failed : List TheLine) (text : List ℕ) (read desk' : DeskState) (status : ℕ) → TellsRun failed text read desk' status → status ≡ 9 → ⊥
-due_of failed text read desk' status (inl (inl (is, tells))) nine = not_nine failed (sym nine ∙ is)
-  where
-    not_nine : (lines : List TheLine) → 9 ≡ status_of_run lines → ⊥
-    not_nine [] e = absurd (omega (arith, e))
-    not_nine (line ∷ lines) e = absurd (omega (arith, e))
-due_of failed text read desk' status (inl (inr (is, tells))) nine = omega (arith, is, nine)
-due_of failed text read desk' status (inr ends) nine = let is = ends.status_is in omega (arith, is, nine)
-
--- ---- a mark and orders that the desk tells
+use Rattle.farm_top.proofs.ResumeCutting.{cut_none_from, cut_whole, due_of}
 
 module _ (good : GoodOrBad) (one : SpellsOneList) (mark_good : NotGoodAndBad) (one_mark : HasOneMark) (s : Settings) (before now : ℕ → Side → LineState)
-    (desk desk' : DeskState) (status : ℕ) (mark : MarkView) (orders : List Order) (told : TellsMarked mark orders desk) (carried : CarriesResume s before now desk desk' status) where
+    (desk desk' : DeskState) (status : ℕ) (mark : MarkView) (orders : List Order) (told : TellsMarked mark orders desk)
+    (carried : CarriesResume s before now desk desk' status) where
   abbrev both : MarkedOrders
   both = record { mark = mark; orders = orders }
 
@@ -111,30 +49,37 @@ module _ (good : GoodOrBad) (one : SpellsOneList) (mark_good : NotGoodAndBad) (o
   same_read marked taken =
       let marks : marked.mark ≡ mark = same_mark one_mark mark_good told.text marked.mark mark taken.orders told.rest taken.has told.has in
       let texts : taken.orders ≡ told.rest = same_orders one_mark mark_good told.text marked.mark mark taken.orders told.rest taken.has told.has in
-      let lists : marked.orders ≡ orders = one (text_lines told.rest) marked.orders orders (subst (λ (t : List ℕ). AreLines (text_lines t) marked.orders) texts taken.answer.1) told.spelled in
+      let lists : marked.orders ≡ orders =
+      one (text_lines told.rest) marked.orders orders (subst (λ (t : List ℕ). AreLines (text_lines t) marked.orders) texts taken.answer.1) told.spelled in
       λ i. record { mark = marks i; orders = lists i }
 
   taken_by : (read : DeskState) (reading : Result MarkedOrders MarkedFault) → ReadsMarked desk read reading → AnswersMarkedTold told.text reading →
       (IsErrOf reading (Orders Unread) → Rose desk.read_faults read.read_faults) → read.written ≡ desk.written → read.write_faults ≡ desk.write_faults →
-      FollowsMarked s reading before now read desk' status → Taken MarkedOrders (ResumesOrders s before now desk' status) both desk ⊎ NotTaken before now desk desk' status
+      FollowsMarked s reading before now read desk' status →
+      Taken MarkedOrders (ResumesOrders s before now desk' status) both desk ⊎ NotTaken before now desk desk' status
   taken_by read (Ok marked) reads answers unread written silent follows = inl (record {
     read = read;
     written = written;
     write_faults = silent;
-    all_read = none_left told.text reads.given read.to_come (subst (λ (o : Option (List ℕ)). Consumes o read.to_come reads.given) told.told reads.consumed) reads.answer.0;
+    all_read = none_left told.text reads.given read.to_come
+        (subst (λ (o : Option (List ℕ)). Consumes o read.to_come reads.given) told.told reads.consumed) reads.answer.0;
     done = subst (λ (m : MarkedOrders). ResumesOrders s before now desk' status m read) (same_read marked answers.1) follows;
   })
   taken_by read (Err (Orders Unread)) reads answers unread written silent (stay, ends) =
       inr (record { stay = stay; why = inl (ends.status_is, subst (λ (n : ℕ). Rose desk.read_faults n) (sym ends.text_out.tells.read_faults) (unread refl)) })
   taken_by read (Err (Orders TooLong)) reads (inl long) unread written silent (stay, ends) = absurd (omega (arith, long, told.short))
   taken_by read (Err (Orders TooLong)) reads (inr (short, behind)) unread written silent (stay, ends) =
-      absurd (taken_not_long one_mark mark_good good told.text both there (record { short = short; mark = behind.mark; orders = behind.orders; has = behind.has; long = behind.answer }))
+      absurd (taken_not_long one_mark mark_good good told.text both there
+      (record { short = short; mark = behind.mark; orders = behind.orders; has = behind.has; long = behind.answer }))
   taken_by read (Err (Orders (Line n))) reads (short, behind) unread written silent (stay, ends) =
-      absurd (taken_not_bad one_mark mark_good good told.text both n there (record { short = short; mark = behind.mark; orders = behind.orders; has = behind.has; bad = behind.answer }))
+      absurd (taken_not_bad one_mark mark_good good told.text both n there
+      (record { short = short; mark = behind.mark; orders = behind.orders; has = behind.has; bad = behind.answer }))
   taken_by read (Err (Orders Memory)) reads answers unread written silent (stay, ends) = inr (record { stay = stay; why = inr ends.status_is })
-  taken_by read (Err (Mark n)) reads answers unread written silent (stay, ends) = absurd (marked_not_bad one_mark mark_good told.text mark told.rest n told.has answers)
+  taken_by read (Err (Mark n)) reads answers unread written silent (stay, ends) =
+      absurd (marked_not_bad one_mark mark_good told.text mark told.rest n told.has answers)
 
-  taken_in : CarriesResume s before now desk desk' status → Taken MarkedOrders (ResumesOrders s before now desk' status) both desk ⊎ NotTaken before now desk desk' status
+  taken_in : CarriesResume s before now desk desk' status →
+      Taken MarkedOrders (ResumesOrders s before now desk' status) both desk ⊎ NotTaken before now desk desk' status
   taken_in (inl ran) = taken_by ran.read ran.reading ran.reads (ran.told told.text told.told) ran.unread ran.written ran.write_faults ran.follows
   taken_in (inr (stay, ends)) = inr (record { stay = stay; why = inr ends.status_is })
 
@@ -156,7 +101,8 @@ module _ (good : GoodOrBad) (one : SpellsOneList) (mark_good : NotGoodAndBad) (o
   abbrev Else : Type 0
   Else = (IsResumeCutShort orders (max mark.period s.periods) mark.period before now × (status ≡ 5)) ⊎ NotTaken before now desk desk' status
 
-  what_of : (t : Taken MarkedOrders (ResumesOrders s before now desk' status) both desk) → ResumesOrders s before now desk' status both t.read → Ran ⊎ Found ⊎ Else
+  what_of : (t : Taken MarkedOrders (ResumesOrders s before now desk' status) both desk) → ResumesOrders s before now desk' status both t.read →
+      Ran ⊎ Found ⊎ Else
   what_of t (inl ran) = inl (record { read = t.read; written = t.written; write_faults = t.write_faults; all_read = t.all_read; done = ran })
   what_of t (inr (inl finds)) = inr (inl (record { read = t.read; written = t.written; write_faults = t.write_faults; all_read = t.all_read; done = finds }))
   what_of t (inr (inr (cut, ends))) = inr (inr (inl (cut, ends.status_is)))
@@ -199,8 +145,10 @@ module _ (good : GoodOrBad) (one : SpellsOneList) (mark_good : NotGoodAndBad) (o
         leaves = resumes.leaves;
         headline = ran.done.headline;
         same_mark = resumes.same_mark;
-        text = λ not r over. subst (λ (t : List ℕ). Appends desk.written desk'.written t) (ap report_text (resumes.reports r over)) (whole_out report.failed text desk ran.read desk' status due ran.written not ran.done.tells);
-        front = λ four r over. subst (λ (t : List ℕ). GainsFront desk.written desk'.written t) (ap report_text (resumes.reports r over)) (front_out report.failed text desk ran.read desk' status due ran.written four ran.done.tells);
+        text = λ not r over. subst (λ (t : List ℕ). Appends desk.written desk'.written t) (ap report_text (resumes.reports r over))
+            (whole_out report.failed text desk ran.read desk' status due ran.written not ran.done.tells);
+        front = λ four r over. subst (λ (t : List ℕ). GainsFront desk.written desk'.written t) (ap report_text (resumes.reports r over))
+            (front_out report.failed text desk ran.read desk' status due ran.written four ran.done.tells);
         all_read = read_out report.failed text desk ran.read desk' status due ran.written ran.done.tells ∙ ran.all_read;
         short = resumes.short;
         there = resumes.there;
@@ -256,11 +204,13 @@ module _ (good : GoodOrBad) (one : SpellsOneList) (mark_good : NotGoodAndBad) (o
     ]
 
     over_listed : (failed : List TheLine) → TellsFailed before now failed → IsRunOver orders mark.period (is_listed failed) before now r
-    over_listed failed told = subst (λ (ls : List TheLine). IsRunOver orders mark.period (is_listed ls) before now r) (sym (none_listed before now failed told calm.lines)) over
+    over_listed failed told =
+        subst (λ (ls : List TheLine). IsRunOver orders mark.period (is_listed ls) before now r) (sym (none_listed before now failed told calm.lines)) over
 
     well_told : (ran : Ran) → TellsReport ran.done.report ran.read desk' status → (status ≡ 0) ⊎ (status ≡ 5)
     well_told ran (inl (inl (is, tells))) = inl (is ∙ done_of before now calm.lines ran.done.report.failed ran.done.resumes.failed)
-    well_told ran (inl (inr (is, tells))) = absurd (not_rose desk.write_faults desk'.write_faults calm.writing (subst (λ (n : ℕ). Rose n desk'.write_faults) ran.write_faults tells.cause.failed))
+    well_told ran (inl (inr (is, tells))) =
+        absurd (not_rose desk.write_faults desk'.write_faults calm.writing (subst (λ (n : ℕ). Rose n desk'.write_faults) ran.write_faults tells.cause.failed))
     well_told ran (inr ends) = inr ends.status_is
 
     pub same : marked_calls r ≡ mark.calls → (status ≡ 0) ⊎ (status ≡ 5)
@@ -272,8 +222,8 @@ module _ (good : GoodOrBad) (one : SpellsOneList) (mark_good : NotGoodAndBad) (o
       | inr (inr other) ↦ inr (only_memory other)
     ]
 
-    pub other : marked_calls r ≢ mark.calls → (status ≡ 9) ⊎ (status ≡ 5)
-    other not = elim what [
+    pub another : marked_calls r ≢ mark.calls → (status ≡ 9) ⊎ (status ≡ 5)
+    another not = elim what [
       | inl ran ↦ absurd (not (ran.done.resumes.same_mark r (over_listed ran.done.report.failed ran.done.resumes.failed)))
       | inr (inl found) ↦ inl found.done.ends.status_is
       | inr (inr other) ↦ inr (only_memory other)

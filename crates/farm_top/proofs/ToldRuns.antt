@@ -1,37 +1,29 @@
 -- A run that is told: what the commands `run` and `save` have in common.
-use Rattle.std.proofs.Common.{◌≡◌, ◌≢◌, ◌⊎◌, inl, inr, ℕ, Bool, true, false, List, [], ◌∷◌, length, Result, Ok, Err, Option, Some, None, refl, sym, ◌∙◌, ap, subst, arith}
-use Rattle.std.specs.Prelude.{IsErrOf}
-use Rattle.std.specs.Io.KnownBytes.{Appends, Consumes, IsAtEnd}
+use Rattle.std.proofs.Common.{◌≡◌, ◌⊎◌, inl, inr, ℕ, Bool, true, false, List, length, sym, ap, subst, arith}
+use Rattle.std.specs.Io.KnownBytes.{Appends}
 use Rattle.std.proofs.lemmas.List.{take_all}
 use Rattle.trau_io.specs.declared.line.Side.{Side}
 use Rattle.trau_io.specs.declared.line.Side.TheVariants.{Down, Out}
 use Rattle.trau_io.specs.declared.line.Line.{Line as TheLine}
-use Rattle.trau_io.specs.Lines.{LineState, Rose}
+use Rattle.trau_io.specs.Lines.{LineState}
 use Rattle.trau_io.specs.Desks.{DeskState}
 use Rattle.trau_orders.specs.declared.order.Order.{Order}
 use Rattle.trau_orders.specs.Lists.{AreOrders}
-use Rattle.trau_orders.specs.Text.{text_lines, GoodOrBad, SpellsOneList}
-use Rattle.farm_orders.specs.declared.fault.OrdersFault.{OrdersFault}
-use Rattle.farm_orders.specs.declared.fault.OrdersFault.TheVariants.{Unread, TooLong, Line, Memory}
-use Rattle.farm_orders.specs.Reading.{AnswersTold, ReadsOrders}
 use Rattle.run_spec.specs.Run.{Run}
 use Rattle.run_spec.specs.Lines.{out_of_call, down_of_call}
 use Rattle.farm_report.specs.Lines.{report_text}
-use Rattle.farm_run.specs.Runs.{AreTold, FailedShort, IsRunOver, IsWritten, KeepsSides, Leaves, NoneRose, ReadsOn, TellsFailed, is_listed}
+use Rattle.farm_run.specs.Runs.{AreTold, FailedShort, IsRunOver, IsWritten, KeepsSides, Leaves, ReadsOn, TellsFailed, is_listed}
 use Rattle.farm_run.specs.Fronts.{HasFront, IsCutShort}
-use Rattle.farm_run.proofs.Clocks.{none_listed}
 use Rattle.farm_run.proofs.Cutting.{cut_first}
-use Rattle.farm_tools.specs.Causes.{IsCalm}
 use Rattle.command_words.specs.declared.asked.Settings.{Settings}
-use Rattle.farm_top.specs.Farm.{AllStay, CarriesRun, FollowsReading, LacksMemory, ReadsAndFollows, RunsOrders, TellsRun, status_of_run}
-use Rattle.farm_top.specs.FarmClean.{CleanFarm, CleanTelling, IsCalmRun, TellsOrders}
-use Rattle.farm_top.specs.FarmEnded.{EndedTelling, GainsFront, RunEnded, report_told}
+use Rattle.farm_top.specs.Farm.{AllStay, LacksMemory, RunsOrders, TellsRun}
+use Rattle.farm_top.specs.FarmEnded.{report_told}
 use Rattle.farm_top.specs.Headline.{Headline}
-use Rattle.farm_top.specs.Save.{CarriesSave, CleanSave, SaveEnded, SavesOrders, mark_told, saved_text}
-use Rattle.farm_top.proofs.FarmCausing.{first_rose, not_long}
+use Rattle.farm_top.specs.Save.{SavesOrders, mark_told, saved_text}
 
 -- A run of these orders that was carried to its end, with the text of it that was told.
-pub record ToldRun (text_of : Run → List TheLine → List ℕ) (orders : List Order) (s : Settings) (before now : ℕ → Side → LineState) (read desk' : DeskState) (status : ℕ) : Type 0 where
+pub record ToldRun (text_of : Run → List TheLine → List ℕ) (orders : List Order) (s : Settings) (before now : ℕ → Side → LineState) (read desk' : DeskState)
+    (status : ℕ) : Type 0 where
   pub failed : List TheLine
   pub text : List ℕ
   pub told : TellsFailed before now failed
@@ -45,8 +37,10 @@ pub record ToldRun (text_of : Run → List TheLine → List ℕ) (orders : List 
   pub tells : TellsRun failed text read desk' status
 
 -- or want of memory cut it short
-abbrev pub ToldOrCut : (Run → List TheLine → List ℕ) → Settings → (ℕ → Side → LineState) → (ℕ → Side → LineState) → DeskState → ℕ → List Order → DeskState → Type 0
-ToldOrCut text_of s before now desk' status orders read = ToldRun text_of orders s before now read desk' status ⊎ (IsCutShort orders s.periods before now × LacksMemory read desk' status)
+abbrev pub ToldOrCut : (Run → List TheLine → List ℕ) → Settings → (ℕ → Side → LineState) → (ℕ → Side → LineState) → DeskState → ℕ → List Order → DeskState →
+    Type 0
+ToldOrCut text_of s before now desk' status orders read =
+    ToldRun text_of orders s before now read desk' status ⊎ (IsCutShort orders s.periods before now × LacksMemory read desk' status)
 
 pub told_by_run : (s : Settings) (before now : ℕ → Side → LineState) (desk' : DeskState) (status : ℕ) (orders : List Order) (read : DeskState) →
     RunsOrders s before now desk' status orders read → ToldOrCut report_told s before now desk' status orders read
@@ -98,7 +92,8 @@ cut_none orders periods before now stay =
     subst (IsCutShort orders periods before) same (cut_first orders periods before)
 
 -- a run that was carried to its end has what it has where it is cut short
-pub cut_whole : (text_of : Run → List TheLine → List ℕ) (orders : List Order) (s : Settings) (before now : ℕ → Side → LineState) (read desk' : DeskState) (status : ℕ) →
+pub cut_whole : (text_of : Run → List TheLine → List ℕ) (orders : List Order) (s : Settings) (before now : ℕ → Side → LineState) (read desk' : DeskState)
+    (status : ℕ) →
     ToldRun text_of orders s before now read desk' status → IsCutShort orders s.periods before now
 cut_whole text_of orders s before now read desk' status ran = record {
   fails = is_listed ran.failed;

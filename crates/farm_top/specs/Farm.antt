@@ -79,7 +79,8 @@ pub record RunsAndTells (orders : List Order) (pace : Pace) (before now : ℕ �
   pub tells : TellsReport report desk desk' status
 
 -- What follows the reading: what is done with the orders; or the refusal of the orders, and no line was used.
-abbrev pub FollowsReading : (List Order → DeskState → Type 0) → Result (List Order) OrdersFault → (ℕ → Side → LineState) → (ℕ → Side → LineState) → DeskState → DeskState → ℕ → Type 0
+abbrev pub FollowsReading : (List Order → DeskState → Type 0) → Result (List Order) OrdersFault → (ℕ → Side → LineState) → (ℕ → Side → LineState) → DeskState →
+    DeskState → ℕ → Type 0
 FollowsReading done (Ok orders) before now read desk' status = done orders read
 FollowsReading done (Err fault) before now read desk' status = AllStay before now × RefusesOrders fault read desk' status
 
@@ -97,7 +98,8 @@ pub record ReadsAndFollows (done : List Order → DeskState → Type 0) (before 
 
 -- the run of the orders, unless want of memory cut it short
 abbrev pub RunsOrders : Settings → (ℕ → Side → LineState) → (ℕ → Side → LineState) → DeskState → ℕ → List Order → DeskState → Type 0
-RunsOrders s before now desk' status orders read = RunsAndTells orders (pace_of s) before now read desk' status ⊎ (IsCutShort orders s.periods before now × LacksMemory read desk' status)
+RunsOrders s before now desk' status orders read =
+    RunsAndTells orders (pace_of s) before now read desk' status ⊎ (IsCutShort orders s.periods before now × LacksMemory read desk' status)
 
 -- a whole command `run`, whatever fails
 abbrev pub RunsFarm : Settings → (ℕ → Side → LineState) → (ℕ → Side → LineState) → DeskState → DeskState → ℕ → Type 0

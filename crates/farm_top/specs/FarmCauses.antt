@@ -46,7 +46,8 @@ pub record RunCauses (before now : ℕ → Side → LineState) (desk desk' : Des
   pub read_failed : status ≡ 3 → Rose desk.read_faults desk'.read_faults
   pub read_rose : desk.read_faults < desk'.read_faults → status ≡ 3
   pub refused : status ≡ 2 → ReadsBadLine desk desk'
-  pub told_refused : (text : List ℕ) (n : ℕ) → desk.to_come ≡ Some text → IsWithin text → IsFirstBad (text_lines text) n → (status ≡ 2) ⊎ (status ≡ 3) ⊎ (status ≡ 5)
+  pub told_refused : (text : List ℕ) (n : ℕ) → desk.to_come ≡ Some text → IsWithin text → IsFirstBad (text_lines text) n →
+      (status ≡ 2) ⊎ (status ≡ 3) ⊎ (status ≡ 5)
   pub too_long : status ≡ 7 → ReadsTooLong desk desk'
   pub told_too_long : (text : List ℕ) → desk.to_come ≡ Some text → IsBeyond text → (status ≡ 3) ⊎ (status ≡ 5) ⊎ (status ≡ 7)
   pub unused : (status ≡ 2) ⊎ (status ≡ 3) ⊎ (status ≡ 7) → AllStay before now

@@ -27,10 +27,10 @@ pub record IsCalmRun (before now : ℕ → Side → LineState) (desk desk' : Des
 
 -- What a command leaves of this run, of which it tells this text: the lines have what the run gives them, the desk gained exactly
 -- the text, and the orders were read to their end.
-pub record CleanTelling (text : List ℕ) (r : Run) (before now : ℕ → Side → LineState) (desk desk' : DeskState) (status : ℕ) : Type 0 where
+pub record CleanTelling (of_run : List ℕ) (r : Run) (before now : ℕ → Side → LineState) (desk desk' : DeskState) (status : ℕ) : Type 0 where
   pub done : status ≡ 0
   pub leaves : Leaves r none_fails before now
-  pub text : Appends desk.written desk'.written text
+  pub text : Appends desk.written desk'.written of_run
   pub all_read : desk'.to_come ≡ Some []
 
 -- it tells the run's report, in which no line failed

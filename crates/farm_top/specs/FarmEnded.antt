@@ -20,7 +20,8 @@ abbrev pub GainsFront : Option (List ℕ) → Option (List ℕ) → List ℕ →
 GainsFront before now text = (n : ℕ) × (n < length text) × Appends before now (take n text)
 
 -- A run of these orders that was carried to its end, whatever failed, and of which this is told, by the lines that failed.
-pub record EndedTelling (text_of : Run → List Line → List ℕ) (orders : List Order) (s : Settings) (before now : ℕ → Side → LineState) (desk desk' : DeskState) (status : ℕ) : Type 0 where
+pub record EndedTelling (text_of : Run → List Line → List ℕ) (orders : List Order) (s : Settings) (before now : ℕ → Side → LineState) (desk desk' : DeskState)
+    (status : ℕ) : Type 0 where
   -- the lines that failed, each once: none with status 0, some with 6
   pub failed : List Line
   pub told : TellsFailed before now failed

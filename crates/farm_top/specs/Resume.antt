@@ -11,7 +11,6 @@ use Rattle.farm_orders.specs.declared.marked.MarkedOrders.{MarkedOrders}
 use Rattle.farm_orders.specs.Marked.{ReadsMarked, AnswersMarkedTold}
 use Rattle.farm_report.specs.View.{ReportView}
 use Rattle.run_spec.specs.Run.{Run}
-use Rattle.farm_run.specs.declared.pace.Pace.{Pace}
 use Rattle.farm_run.specs.Runs.{IsRunOver, is_listed}
 use Rattle.farm_run.specs.Resuming.{FindsDifference, IsResumeCutShort, ResumesRun}
 use Rattle.command_words.specs.declared.asked.Settings.{Settings}
@@ -40,7 +39,8 @@ end_after read s = max read.mark.period s.periods
 pub record ResumesAndTells (read : MarkedOrders) (s : Settings) (before now : ℕ → Side → LineState) (desk desk' : DeskState) (status : ℕ) : Type 0 where
   pub report : ReportView
   pub resumes : ResumesRun read.orders (pace_of s) read.mark before now report
-  pub headline : (r : Run) → IsRunOver read.orders (end_after read s) (is_listed report.failed) before now r → HeadlineFrom r read.mark.period (is_listed report.failed) before now
+  pub headline : (r : Run) → IsRunOver read.orders (end_after read s) (is_listed report.failed) before now r →
+      HeadlineFrom r read.mark.period (is_listed report.failed) before now
   pub tells : TellsReport report desk desk' status
 
 -- The mark isn't that of these lines and orders, and the desk is told the least call that differs. A desk that fails while this

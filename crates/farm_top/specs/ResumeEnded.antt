@@ -11,9 +11,7 @@ use Rattle.trau_orders.specs.Text.{text_lines, AreLines, IsWithin}
 use Rattle.farm_checkpoint.specs.Marks.{MarkView}
 use Rattle.farm_orders.specs.Marked.{HasMark, IsShort}
 use Rattle.run_spec.specs.Run.{Run}
-use Rattle.run_spec.specs.Facts.{report_of}
 use Rattle.run_spec.specs.Mark.{Joins, marked_calls}
-use Rattle.farm_report.specs.Lines.{report_text}
 use Rattle.farm_run.specs.Runs.{AreTold, FailedShort, IsRunOver, KeepsSides, ReadsOn, TellsFailed, is_listed, none_fails}
 use Rattle.farm_run.specs.Resuming.{FindsDifference, LeavesFrom}
 use Rattle.command_words.specs.declared.asked.Settings.{Settings}
@@ -35,7 +33,8 @@ pub record TellsMarked (mark : MarkView) (orders : List Order) (desk : DeskState
 
 -- A run of these orders from this mark on that was carried to its end, the later one of the mark's period and the number of
 -- periods asked for, whatever failed.
-pub record ResumeEnded (mark : MarkView) (orders : List Order) (s : Settings) (before now : ℕ → Side → LineState) (desk desk' : DeskState) (status : ℕ) : Type 0 where
+pub record ResumeEnded (mark : MarkView) (orders : List Order) (s : Settings) (before now : ℕ → Side → LineState) (desk desk' : DeskState)
+    (status : ℕ) : Type 0 where
   -- the lines that failed, each once: none with status 0, some with 6
   pub failed : List Line
   pub told : TellsFailed before now failed
@@ -46,12 +45,15 @@ pub record ResumeEnded (mark : MarkView) (orders : List Order) (s : Settings) (b
   -- the outgoing lines have what the run of these orders over what the lines gave gives them, without the octets of the
   -- periods before the mark's
   pub leaves : (r : Run) → IsRunOver orders (max mark.period s.periods) (is_listed failed) before now r → LeavesFrom r mark.period (is_listed failed) before now
-  pub headline : (r : Run) → IsRunOver orders (max mark.period s.periods) (is_listed failed) before now r → HeadlineFrom r mark.period (is_listed failed) before now
+  pub headline : (r : Run) → IsRunOver orders (max mark.period s.periods) (is_listed failed) before now r →
+      HeadlineFrom r mark.period (is_listed failed) before now
   -- the run to the mark's period has the mark's calls
   pub same_mark : (r : Run) → IsRunOver orders mark.period (is_listed failed) before now r → marked_calls r ≡ mark.calls
   -- the desk gained exactly the text of the whole run's report, with the lines that failed; with status 4 a proper front of it
-  pub text : status ≢ 4 → (r : Run) → IsRunOver orders (max mark.period s.periods) (is_listed failed) before now r → Appends desk.written desk'.written (report_told r failed)
-  pub front : status ≡ 4 → (r : Run) → IsRunOver orders (max mark.period s.periods) (is_listed failed) before now r → GainsFront desk.written desk'.written (report_told r failed)
+  pub text : status ≢ 4 → (r : Run) → IsRunOver orders (max mark.period s.periods) (is_listed failed) before now r →
+      Appends desk.written desk'.written (report_told r failed)
+  pub front : status ≡ 4 → (r : Run) → IsRunOver orders (max mark.period s.periods) (is_listed failed) before now r →
+      GainsFront desk.written desk'.written (report_told r failed)
   -- the text was read to its end
   pub all_read : desk'.to_come ≡ Some []
   -- an incoming line failed short of what its round takes of it

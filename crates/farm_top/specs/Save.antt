@@ -1,5 +1,5 @@
 -- The command `save`: the orders, the run over the lines to its last period, and the mark of it (this project's profile).
-use Rattle.std.specs.Prelude.{◌≡◌, ◌⊎◌, ℕ, List, [], ◌∷◌}
+use Rattle.std.specs.Prelude.{◌⊎◌, ℕ, List, [], ◌∷◌}
 use Rattle.std.specs.List.{flat_map}
 use Rattle.trau_io.specs.declared.line.Line.{Line}
 use Rattle.trau_io.specs.declared.line.Side.{Side}
@@ -36,7 +36,8 @@ pub record SavesAndTells (orders : List Order) (pace : Pace) (before now : ℕ �
 
 -- the run of the orders, unless want of memory cut it short
 abbrev pub SavesOrders : Settings → (ℕ → Side → LineState) → (ℕ → Side → LineState) → DeskState → ℕ → List Order → DeskState → Type 0
-SavesOrders s before now desk' status orders read = SavesAndTells orders (pace_of s) before now read desk' status ⊎ (IsCutShort orders s.periods before now × LacksMemory read desk' status)
+SavesOrders s before now desk' status orders read =
+    SavesAndTells orders (pace_of s) before now read desk' status ⊎ (IsCutShort orders s.periods before now × LacksMemory read desk' status)
 
 -- a whole command `save`, whatever fails; the reading of the orders and their refusal are those of `run`
 abbrev pub SavesFarm : Settings → (ℕ → Side → LineState) → (ℕ → Side → LineState) → DeskState → DeskState → ℕ → Type 0

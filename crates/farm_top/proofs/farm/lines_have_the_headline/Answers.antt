@@ -9,7 +9,8 @@ returns g =
     let lines = g.lines_are_of_whole_calls.ensures in
     let items = g.items_are_the_partners_frames.ensures in
     let sent = g.items_go_out_in_order_and_once.ensures in
-    let hands : (r : Run) → AreOrders r.orders → HandsOver r = λ r are. record { reported = spans_told r (spans_in r); within = λ c t x. items.frame r c t x are; outside = λ c t. items.none r c t are } in
+    let hands : (r : Run) → AreOrders r.orders → HandsOver r =
+    λ r are. record { reported = spans_told r (spans_in r); within = λ c t x. items.frame r c t x are; outside = λ c t. items.none r c t are } in
     let goes : (r : Run) → AreOrders r.orders → GoesOut r = λ r are. record {
       goes = λ c t x. sent.goes r c t x are;
       unchanged = λ c t x j p bits. sent.good r c t x j p bits are;
@@ -22,6 +23,8 @@ returns g =
       one_waits = λ c u t x. sent.one_waits r c u t x are;
       lost = λ x. sent.lost r x are;
     } in record {
-      whole = λ r fails before now are leaves. headline_of r fails before now (λ c opened. lines.out r c are opened) (λ c opened. lines.down r c are opened) (hands r are) (goes r are) leaves;
-      later = λ r from fails before now are leaves. later_headline_of r from fails before now (λ c opened. lines.out r c are opened) (λ c opened. lines.down r c are opened) (hands r are) (goes r are) leaves;
+      whole = λ r fails before now are leaves. headline_of r fails before now (λ c opened. lines.out r c are opened) (λ c opened. lines.down r c are opened)
+          (hands r are) (goes r are) leaves;
+      later = λ r from fails before now are leaves. later_headline_of r from fails before now (λ c opened. lines.out r c are opened)
+          (λ c opened. lines.down r c are opened) (hands r are) (goes r are) leaves;
     }

@@ -9,7 +9,8 @@ use Rattle.farm_top.proofs.FarmCleaning.{run_clean, run_complete, run_cut_short,
 use Rattle.farm_top.proofs.Ending.{not_usage}
 use Rattle.farm_top.proofs.Living.{live_ends}
 use Rattle.farm_top.proofs.ResumeReading.{resume_causes}
-use Rattle.farm_top.proofs.Resuming.{cut_none_from, cut_short, differs, ended, joins, other, same}
+use Rattle.farm_top.proofs.ResumeCutting.{cut_none_from}
+use Rattle.farm_top.proofs.Resuming.{another, cut_short, differs, ended, joins, same}
 use Rattle.farm_top.proofs.top.farm_top.Goals as goal
 
 not_five : (status : ℕ) → status ≡ 1 → status ≡ 5 → ⊥
@@ -36,10 +37,12 @@ pub returns-in-Ok-clause-usage : goal.returns-in-Ok-clause-usage
 returns-in-Ok-clause-usage g c = λ not. absurd (not (is_command _ _ c.in-Ok.ensures.ok))
 
 pub returns-in-Ok-clause-usage_only : goal.returns-in-Ok-clause-usage_only
-returns-in-Ok-clause-usage_only g c = λ _. not_usage c.one_answer.ensures.good c.one_mark.ensures.good c.one_mark.ensures.mark _ _ _ _ _ _ c.carry_out.ensures
+returns-in-Ok-clause-usage_only g c =
+    λ _. not_usage c.one_answer.ensures.good c.one_answer-2.ensures.good c.one_answer-2.ensures.mark _ _ _ _ _ _ c.carry_out.ensures
 
 pub returns-in-Ok-clause-usage_text : goal.returns-in-Ok-clause-usage_text
-returns-in-Ok-clause-usage_text g c = λ one. absurd (not_usage c.one_answer.ensures.good c.one_mark.ensures.good c.one_mark.ensures.mark _ _ _ _ _ _ c.carry_out.ensures one)
+returns-in-Ok-clause-usage_text g c =
+    λ one. absurd (not_usage c.one_answer.ensures.good c.one_answer-2.ensures.good c.one_answer-2.ensures.mark _ _ _ _ _ _ c.carry_out.ensures one)
 
 pub returns-in-Ok-clause-unused : goal.returns-in-Ok-clause-unused
 returns-in-Ok-clause-unused g c = λ not. absurd (not (is_command _ _ c.in-Ok.ensures.ok))
@@ -54,7 +57,8 @@ pub returns-in-Ok-clause-run : goal.returns-in-Ok-clause-run
 returns-in-Ok-clause-run g c = λ s asks. inl (run_carried _ _ c.in-Ok.ensures.ok _ _ _ _ _ c.carry_out.ensures s asks)
 
 pub returns-in-Ok-clause-drill : goal.returns-in-Ok-clause-drill
-returns-in-Ok-clause-drill g c = λ seed calls s asks. drill_ends seed calls s.periods _ _ _ _ _ (drill_carried _ _ c.in-Ok.ensures.ok _ _ _ _ _ c.carry_out.ensures seed calls s asks)
+returns-in-Ok-clause-drill g c =
+    λ seed calls s asks. drill_ends seed calls s.periods _ _ _ _ _ (drill_carried _ _ c.in-Ok.ensures.ok _ _ _ _ _ c.carry_out.ensures seed calls s asks)
 
 pub returns-in-Ok-clause-drill_never_fails : goal.returns-in-Ok-clause-drill_never_fails
 returns-in-Ok-clause-drill_never_fails g c = λ seed calls s asks. not_six _ (returns-in-Ok-clause-drill g c seed calls s asks).known
@@ -69,16 +73,20 @@ pub returns-in-Ok-clause-run_causes : goal.returns-in-Ok-clause-run_causes
 returns-in-Ok-clause-run_causes g c = λ s asks. run_causes c.one_answer.ensures.good s _ _ _ _ _ (returns-in-Ok-clause-run g c s asks)
 
 pub returns-in-Ok-clause-run_complete : goal.returns-in-Ok-clause-run_complete
-returns-in-Ok-clause-run_complete g c = λ s asks orders told calm. run_complete c.one_answer.ensures.good c.one_answer.ensures.orders s _ _ _ _ _ orders told calm (returns-in-Ok-clause-run g c s asks)
+returns-in-Ok-clause-run_complete g c = λ s asks orders told calm. run_complete c.one_answer.ensures.good c.one_answer.ensures.orders s _ _ _ _ _ orders told
+    calm (returns-in-Ok-clause-run g c s asks)
 
 pub returns-in-Ok-clause-run_clean : goal.returns-in-Ok-clause-run_clean
-returns-in-Ok-clause-run_clean g c = λ s asks orders told calm. run_clean c.one_answer.ensures.good c.one_answer.ensures.orders s _ _ _ _ _ orders told calm (returns-in-Ok-clause-run g c s asks)
+returns-in-Ok-clause-run_clean g c = λ s asks orders told calm. run_clean c.one_answer.ensures.good c.one_answer.ensures.orders s _ _ _ _ _ orders told calm
+    (returns-in-Ok-clause-run g c s asks)
 
 pub returns-in-Ok-clause-run_ended : goal.returns-in-Ok-clause-run_ended
-returns-in-Ok-clause-run_ended g c = λ s asks orders told due. run_ended c.one_answer.ensures.good c.one_answer.ensures.orders s _ _ _ _ _ orders told due (returns-in-Ok-clause-run g c s asks)
+returns-in-Ok-clause-run_ended g c =
+    λ s asks orders told due. run_ended c.one_answer.ensures.good c.one_answer.ensures.orders s _ _ _ _ _ orders told due (returns-in-Ok-clause-run g c s asks)
 
 pub returns-in-Ok-clause-run_cut_short : goal.returns-in-Ok-clause-run_cut_short
-returns-in-Ok-clause-run_cut_short g c = λ s asks orders told five. run_cut_short c.one_answer.ensures.good c.one_answer.ensures.orders s _ _ _ _ _ orders told (returns-in-Ok-clause-run g c s asks)
+returns-in-Ok-clause-run_cut_short g c =
+    λ s asks orders told five. run_cut_short c.one_answer.ensures.good c.one_answer.ensures.orders s _ _ _ _ _ orders told (returns-in-Ok-clause-run g c s asks)
 
 pub returns-in-Ok-clause-run_leaves : goal.returns-in-Ok-clause-run_leaves
 returns-in-Ok-clause-run_leaves g c = λ s asks orders told none due r over.
@@ -86,7 +94,8 @@ returns-in-Ok-clause-run_leaves g c = λ s asks orders told none due r over.
 
 pub returns-in-Ok-clause-headline : goal.returns-in-Ok-clause-headline
 returns-in-Ok-clause-headline g c = λ s asks orders told none due r over.
-    run_headline c.one_answer.ensures.good c.one_answer.ensures.orders s _ _ _ _ _ orders told (calm_due _ due) none (returns-in-Ok-clause-run g c s asks) r over
+    run_headline c.one_answer.ensures.good c.one_answer.ensures.orders s _ _ _ _ _ orders told (calm_due _ due) none
+    (returns-in-Ok-clause-run g c s asks) r over
 
 pub returns-in-Ok-clause-clean : goal.returns-in-Ok-clause-clean
 returns-in-Ok-clause-clean g c = λ t n asks. clean _ _ _ _ n _ t (returns-in-Ok-clause-command g c t n asks)
@@ -108,10 +117,12 @@ pub returns-in-Err-Usage-clause-run : goal.returns-in-Err-Usage-clause-run
 returns-in-Err-Usage-clause-run g c = λ s asks. absurd (no_command _ (c.in-Err-Usage.ensures.usage (search rules)) (inr (inr (inl (s, asks)))))
 
 pub returns-in-Err-Usage-clause-drill : goal.returns-in-Err-Usage-clause-drill
-returns-in-Err-Usage-clause-drill g c = λ seed calls s asks. absurd (no_command _ (c.in-Err-Usage.ensures.usage (search rules)) (inr (inr (inr (inl (seed, calls, s, asks))))))
+returns-in-Err-Usage-clause-drill g c =
+    λ seed calls s asks. absurd (no_command _ (c.in-Err-Usage.ensures.usage (search rules)) (inr (inr (inr (inl (seed, calls, s, asks))))))
 
 pub returns-in-Err-Usage-clause-drill_never_fails : goal.returns-in-Err-Usage-clause-drill_never_fails
-returns-in-Err-Usage-clause-drill_never_fails g c = λ seed calls s asks. absurd (no_command _ (c.in-Err-Usage.ensures.usage (search rules)) (inr (inr (inr (inl (seed, calls, s, asks))))))
+returns-in-Err-Usage-clause-drill_never_fails g c =
+    λ seed calls s asks. absurd (no_command _ (c.in-Err-Usage.ensures.usage (search rules)) (inr (inr (inr (inl (seed, calls, s, asks))))))
 
 pub returns-in-Err-Usage-clause-causes : goal.returns-in-Err-Usage-clause-causes
 returns-in-Err-Usage-clause-causes g c = λ t n asks. absurd (no_command _ (c.in-Err-Usage.ensures.usage (search rules)) (inl (t, n, asks)))
@@ -181,10 +192,12 @@ pub returns-in-Err-Memory-clause-run_causes : goal.returns-in-Err-Memory-clause-
 returns-in-Err-Memory-clause-run_causes g c = λ s asks. run_causes c.one_answer.ensures.good s _ _ _ _ _ (returns-in-Err-Memory-clause-run g c s asks)
 
 pub returns-in-Err-Memory-clause-run_complete : goal.returns-in-Err-Memory-clause-run_complete
-returns-in-Err-Memory-clause-run_complete g c = λ s asks orders told calm. run_complete c.one_answer.ensures.good c.one_answer.ensures.orders s _ _ _ _ _ orders told calm (returns-in-Err-Memory-clause-run g c s asks)
+returns-in-Err-Memory-clause-run_complete g c = λ s asks orders told calm. run_complete c.one_answer.ensures.good c.one_answer.ensures.orders s _ _ _ _ _ orders
+    told calm (returns-in-Err-Memory-clause-run g c s asks)
 
 pub returns-in-Err-Memory-clause-run_clean : goal.returns-in-Err-Memory-clause-run_clean
-returns-in-Err-Memory-clause-run_clean g c = λ s asks orders told calm. run_clean c.one_answer.ensures.good c.one_answer.ensures.orders s _ _ _ _ _ orders told calm (returns-in-Err-Memory-clause-run g c s asks)
+returns-in-Err-Memory-clause-run_clean g c = λ s asks orders told calm. run_clean c.one_answer.ensures.good c.one_answer.ensures.orders s _ _ _ _ _ orders told
+    calm (returns-in-Err-Memory-clause-run g c s asks)
 
 pub returns-in-Err-Memory-clause-run_ended : goal.returns-in-Err-Memory-clause-run_ended
 returns-in-Err-Memory-clause-run_ended g c = λ s asks orders told due. absurd (not_ended _ due c.no_memory.ensures.status_is)
@@ -217,7 +230,8 @@ pub returns-in-Ok-clause-merge : goal.returns-in-Ok-clause-merge
 returns-in-Ok-clause-merge g c = merge_carried _ _ c.in-Ok.ensures.ok _ _ _ _ _ c.carry_out.ensures
 
 pub returns-in-Err-Usage-clause-merge : goal.returns-in-Err-Usage-clause-merge
-returns-in-Err-Usage-clause-merge g c = λ n asks. absurd (no_command _ (c.in-Err-Usage.ensures.usage (search rules)) (inr (inr (inr (inr (inr (inl (n, asks))))))))
+returns-in-Err-Usage-clause-merge g c =
+    λ n asks. absurd (no_command _ (c.in-Err-Usage.ensures.usage (search rules)) (inr (inr (inr (inr (inr (inl (n, asks))))))))
 
 pub returns-in-Err-Memory-clause-merge : goal.returns-in-Err-Memory-clause-merge
 returns-in-Err-Memory-clause-merge g c = λ n asks. absurd (no_merge _ n (c.in-Err-Memory.ensures.memory (search rules)) asks)
@@ -226,7 +240,8 @@ pub returns-in-Ok-clause-follow : goal.returns-in-Ok-clause-follow
 returns-in-Ok-clause-follow g c = follow_carried _ _ c.in-Ok.ensures.ok _ _ _ _ _ c.carry_out.ensures
 
 pub returns-in-Err-Usage-clause-follow : goal.returns-in-Err-Usage-clause-follow
-returns-in-Err-Usage-clause-follow g c = λ n want asks. absurd (no_command _ (c.in-Err-Usage.ensures.usage (search rules)) (inr (inr (inr (inr (inr (inr (inl (n, want, asks)))))))))
+returns-in-Err-Usage-clause-follow g c =
+    λ n want asks. absurd (no_command _ (c.in-Err-Usage.ensures.usage (search rules)) (inr (inr (inr (inr (inr (inr (inl (n, want, asks)))))))))
 
 pub returns-in-Err-Memory-clause-follow : goal.returns-in-Err-Memory-clause-follow
 returns-in-Err-Memory-clause-follow g c = λ n want asks. absurd (no_following _ n want (c.in-Err-Memory.ensures.memory (search rules)) asks)
@@ -235,7 +250,8 @@ pub returns-in-Ok-clause-live : goal.returns-in-Ok-clause-live
 returns-in-Ok-clause-live g c = λ s asks. live_ends s _ _ _ _ _ (live_carried _ _ c.in-Ok.ensures.ok _ _ _ _ _ c.carry_out.ensures s asks)
 
 pub returns-in-Err-Usage-clause-live : goal.returns-in-Err-Usage-clause-live
-returns-in-Err-Usage-clause-live g c = λ s asks. absurd (no_command _ (c.in-Err-Usage.ensures.usage (search rules)) (inr (inr (inr (inr (inr (inr (inr (inl (s, asks))))))))))
+returns-in-Err-Usage-clause-live g c =
+    λ s asks. absurd (no_command _ (c.in-Err-Usage.ensures.usage (search rules)) (inr (inr (inr (inr (inr (inr (inr (inl (s, asks))))))))))
 
 pub returns-in-Err-Memory-clause-live : goal.returns-in-Err-Memory-clause-live
 returns-in-Err-Memory-clause-live g c = λ s asks. live_ends s _ _ _ _ _ ((λ n side. refl), inr c.no_memory.ensures)
@@ -248,100 +264,128 @@ pub returns-in-Ok-clause-save_causes : goal.returns-in-Ok-clause-save_causes
 returns-in-Ok-clause-save_causes g c = λ s asks. save_causes c.one_answer.ensures.good s _ _ _ _ _ (returns-in-Ok-clause-save g c s asks)
 
 pub returns-in-Ok-clause-save_complete : goal.returns-in-Ok-clause-save_complete
-returns-in-Ok-clause-save_complete g c = λ s asks orders told calm. save_complete c.one_answer.ensures.good c.one_answer.ensures.orders s _ _ _ _ _ orders told calm (returns-in-Ok-clause-save g c s asks)
+returns-in-Ok-clause-save_complete g c = λ s asks orders told calm. save_complete c.one_answer.ensures.good c.one_answer.ensures.orders s _ _ _ _ _ orders told
+    calm (returns-in-Ok-clause-save g c s asks)
 
 pub returns-in-Ok-clause-save_clean : goal.returns-in-Ok-clause-save_clean
-returns-in-Ok-clause-save_clean g c = λ s asks orders told calm. save_clean c.one_answer.ensures.good c.one_answer.ensures.orders s _ _ _ _ _ orders told calm (returns-in-Ok-clause-save g c s asks)
+returns-in-Ok-clause-save_clean g c = λ s asks orders told calm. save_clean c.one_answer.ensures.good c.one_answer.ensures.orders s _ _ _ _ _ orders told calm
+    (returns-in-Ok-clause-save g c s asks)
 
 pub returns-in-Ok-clause-save_ended : goal.returns-in-Ok-clause-save_ended
-returns-in-Ok-clause-save_ended g c = λ s asks orders told due. save_ended c.one_answer.ensures.good c.one_answer.ensures.orders s _ _ _ _ _ orders told due (returns-in-Ok-clause-save g c s asks)
+returns-in-Ok-clause-save_ended g c = λ s asks orders told due. save_ended c.one_answer.ensures.good c.one_answer.ensures.orders s _ _ _ _ _ orders told due
+    (returns-in-Ok-clause-save g c s asks)
 
 pub returns-in-Ok-clause-save_cut_short : goal.returns-in-Ok-clause-save_cut_short
-returns-in-Ok-clause-save_cut_short g c = λ s asks orders told five. save_cut_short c.one_answer.ensures.good c.one_answer.ensures.orders s _ _ _ _ _ orders told (returns-in-Ok-clause-save g c s asks)
+returns-in-Ok-clause-save_cut_short g c = λ s asks orders told five. save_cut_short c.one_answer.ensures.good c.one_answer.ensures.orders s _ _ _ _ _ orders
+    told (returns-in-Ok-clause-save g c s asks)
 
 pub returns-in-Ok-clause-save_leaves : goal.returns-in-Ok-clause-save_leaves
 returns-in-Ok-clause-save_leaves g c = λ s asks orders told none due r over.
-    save_leaves c.one_answer.ensures.good c.one_answer.ensures.orders s _ _ _ _ _ orders told (calm_due _ due) none (returns-in-Ok-clause-save g c s asks) r over
+    save_leaves c.one_answer.ensures.good c.one_answer.ensures.orders s _ _ _ _ _ orders told (calm_due _ due) none
+    (returns-in-Ok-clause-save g c s asks) r over
 
 pub returns-in-Ok-clause-save_headline : goal.returns-in-Ok-clause-save_headline
 returns-in-Ok-clause-save_headline g c = λ s asks orders told none due r over.
-    save_headline c.one_answer.ensures.good c.one_answer.ensures.orders s _ _ _ _ _ orders told (calm_due _ due) none (returns-in-Ok-clause-save g c s asks) r over
+    save_headline c.one_answer.ensures.good c.one_answer.ensures.orders s _ _ _ _ _ orders told (calm_due _ due) none
+    (returns-in-Ok-clause-save g c s asks) r over
 
 -- and of `resume`
 pub returns-in-Ok-clause-resume : goal.returns-in-Ok-clause-resume
 returns-in-Ok-clause-resume g c = λ s asks. inl (resume_carried _ _ c.in-Ok.ensures.ok _ _ _ _ _ c.carry_out.ensures s asks)
 
 pub returns-in-Ok-clause-resume_causes : goal.returns-in-Ok-clause-resume_causes
-returns-in-Ok-clause-resume_causes g c = λ s asks. resume_causes c.one_answer.ensures.good c.one_mark.ensures.good c.one_mark.ensures.mark s _ _ _ _ _ (returns-in-Ok-clause-resume g c s asks)
+returns-in-Ok-clause-resume_causes g c = λ s asks. resume_causes c.one_answer.ensures.good c.one_answer-2.ensures.good c.one_answer-2.ensures.mark s _ _ _ _ _
+    (returns-in-Ok-clause-resume g c s asks)
 
 pub returns-in-Ok-clause-resume_complete : goal.returns-in-Ok-clause-resume_complete
 returns-in-Ok-clause-resume_complete g c = λ s asks mark orders told calm r over.
     let carried = returns-in-Ok-clause-resume g c s asks in (
-      same c.one_answer.ensures.good c.one_answer.ensures.orders c.one_mark.ensures.good c.one_mark.ensures.mark s _ _ _ _ _ mark orders told carried calm r over,
-      other c.one_answer.ensures.good c.one_answer.ensures.orders c.one_mark.ensures.good c.one_mark.ensures.mark s _ _ _ _ _ mark orders told carried calm r over,
+      same c.one_answer.ensures.good c.one_answer.ensures.orders c.one_answer-2.ensures.good c.one_answer-2.ensures.mark s _ _ _ _ _ mark orders told carried
+          calm r over,
+      another c.one_answer.ensures.good c.one_answer.ensures.orders c.one_answer-2.ensures.good c.one_answer-2.ensures.mark s _ _ _ _ _ mark orders told carried
+          calm r over,
     )
 
 pub returns-in-Ok-clause-resume_ended : goal.returns-in-Ok-clause-resume_ended
 returns-in-Ok-clause-resume_ended g c = λ s asks mark orders told due.
-    ended c.one_answer.ensures.good c.one_answer.ensures.orders c.one_mark.ensures.good c.one_mark.ensures.mark s _ _ _ _ _ mark orders told (returns-in-Ok-clause-resume g c s asks) due
+    ended c.one_answer.ensures.good c.one_answer.ensures.orders c.one_answer-2.ensures.good c.one_answer-2.ensures.mark s _ _ _ _ _ mark orders told
+    (returns-in-Ok-clause-resume g c s asks) due
 
 pub returns-in-Ok-clause-resume_differs : goal.returns-in-Ok-clause-resume_differs
 returns-in-Ok-clause-resume_differs g c = λ s asks mark orders told nine.
-    differs c.one_answer.ensures.good c.one_answer.ensures.orders c.one_mark.ensures.good c.one_mark.ensures.mark s _ _ _ _ _ mark orders told (returns-in-Ok-clause-resume g c s asks) nine
+    differs c.one_answer.ensures.good c.one_answer.ensures.orders c.one_answer-2.ensures.good c.one_answer-2.ensures.mark s _ _ _ _ _ mark orders told
+    (returns-in-Ok-clause-resume g c s asks) nine
 
 pub returns-in-Ok-clause-resume_cut_short : goal.returns-in-Ok-clause-resume_cut_short
 returns-in-Ok-clause-resume_cut_short g c = λ s asks mark orders told five.
-    cut_short c.one_answer.ensures.good c.one_answer.ensures.orders c.one_mark.ensures.good c.one_mark.ensures.mark s _ _ _ _ _ mark orders told (returns-in-Ok-clause-resume g c s asks) five
+    cut_short c.one_answer.ensures.good c.one_answer.ensures.orders c.one_answer-2.ensures.good c.one_answer-2.ensures.mark s _ _ _ _ _ mark orders told
+    (returns-in-Ok-clause-resume g c s asks) five
 
 pub returns-in-Ok-clause-resume_joins : goal.returns-in-Ok-clause-resume_joins
 returns-in-Ok-clause-resume_joins g c = λ s asks mark orders told none due r over.
-    joins c.one_answer.ensures.good c.one_answer.ensures.orders c.one_mark.ensures.good c.one_mark.ensures.mark s _ _ _ _ _ mark orders told (returns-in-Ok-clause-resume g c s asks)
+    joins c.one_answer.ensures.good c.one_answer.ensures.orders c.one_answer-2.ensures.good c.one_answer-2.ensures.mark s _ _ _ _ _ mark orders told
+    (returns-in-Ok-clause-resume g c s asks)
     c.a_run_is_joined_of_two.ensures (calm_due _ due) none r over
 
 pub returns-in-Err-Usage-clause-save : goal.returns-in-Err-Usage-clause-save
-returns-in-Err-Usage-clause-save g c = λ s asks. absurd (no_command _ (c.in-Err-Usage.ensures.usage (search rules)) (inr (inr (inr (inr (inr (inr (inr (inr (inl (s, asks)))))))))))
+returns-in-Err-Usage-clause-save g c =
+    λ s asks. absurd (no_command _ (c.in-Err-Usage.ensures.usage (search rules)) (inr (inr (inr (inr (inr (inr (inr (inr (inl (s, asks)))))))))))
 
 pub returns-in-Err-Usage-clause-save_causes : goal.returns-in-Err-Usage-clause-save_causes
-returns-in-Err-Usage-clause-save_causes g c = λ s asks. absurd (no_command _ (c.in-Err-Usage.ensures.usage (search rules)) (inr (inr (inr (inr (inr (inr (inr (inr (inl (s, asks)))))))))))
+returns-in-Err-Usage-clause-save_causes g c =
+    λ s asks. absurd (no_command _ (c.in-Err-Usage.ensures.usage (search rules)) (inr (inr (inr (inr (inr (inr (inr (inr (inl (s, asks)))))))))))
 
 pub returns-in-Err-Usage-clause-save_complete : goal.returns-in-Err-Usage-clause-save_complete
-returns-in-Err-Usage-clause-save_complete g c = λ s asks. absurd (no_command _ (c.in-Err-Usage.ensures.usage (search rules)) (inr (inr (inr (inr (inr (inr (inr (inr (inl (s, asks)))))))))))
+returns-in-Err-Usage-clause-save_complete g c =
+    λ s asks. absurd (no_command _ (c.in-Err-Usage.ensures.usage (search rules)) (inr (inr (inr (inr (inr (inr (inr (inr (inl (s, asks)))))))))))
 
 pub returns-in-Err-Usage-clause-save_clean : goal.returns-in-Err-Usage-clause-save_clean
-returns-in-Err-Usage-clause-save_clean g c = λ s asks. absurd (no_command _ (c.in-Err-Usage.ensures.usage (search rules)) (inr (inr (inr (inr (inr (inr (inr (inr (inl (s, asks)))))))))))
+returns-in-Err-Usage-clause-save_clean g c =
+    λ s asks. absurd (no_command _ (c.in-Err-Usage.ensures.usage (search rules)) (inr (inr (inr (inr (inr (inr (inr (inr (inl (s, asks)))))))))))
 
 pub returns-in-Err-Usage-clause-save_ended : goal.returns-in-Err-Usage-clause-save_ended
-returns-in-Err-Usage-clause-save_ended g c = λ s asks. absurd (no_command _ (c.in-Err-Usage.ensures.usage (search rules)) (inr (inr (inr (inr (inr (inr (inr (inr (inl (s, asks)))))))))))
+returns-in-Err-Usage-clause-save_ended g c =
+    λ s asks. absurd (no_command _ (c.in-Err-Usage.ensures.usage (search rules)) (inr (inr (inr (inr (inr (inr (inr (inr (inl (s, asks)))))))))))
 
 pub returns-in-Err-Usage-clause-save_cut_short : goal.returns-in-Err-Usage-clause-save_cut_short
-returns-in-Err-Usage-clause-save_cut_short g c = λ s asks. absurd (no_command _ (c.in-Err-Usage.ensures.usage (search rules)) (inr (inr (inr (inr (inr (inr (inr (inr (inl (s, asks)))))))))))
+returns-in-Err-Usage-clause-save_cut_short g c =
+    λ s asks. absurd (no_command _ (c.in-Err-Usage.ensures.usage (search rules)) (inr (inr (inr (inr (inr (inr (inr (inr (inl (s, asks)))))))))))
 
 pub returns-in-Err-Usage-clause-save_leaves : goal.returns-in-Err-Usage-clause-save_leaves
-returns-in-Err-Usage-clause-save_leaves g c = λ s asks. absurd (no_command _ (c.in-Err-Usage.ensures.usage (search rules)) (inr (inr (inr (inr (inr (inr (inr (inr (inl (s, asks)))))))))))
+returns-in-Err-Usage-clause-save_leaves g c =
+    λ s asks. absurd (no_command _ (c.in-Err-Usage.ensures.usage (search rules)) (inr (inr (inr (inr (inr (inr (inr (inr (inl (s, asks)))))))))))
 
 pub returns-in-Err-Usage-clause-save_headline : goal.returns-in-Err-Usage-clause-save_headline
-returns-in-Err-Usage-clause-save_headline g c = λ s asks. absurd (no_command _ (c.in-Err-Usage.ensures.usage (search rules)) (inr (inr (inr (inr (inr (inr (inr (inr (inl (s, asks)))))))))))
+returns-in-Err-Usage-clause-save_headline g c =
+    λ s asks. absurd (no_command _ (c.in-Err-Usage.ensures.usage (search rules)) (inr (inr (inr (inr (inr (inr (inr (inr (inl (s, asks)))))))))))
 
 pub returns-in-Err-Usage-clause-resume : goal.returns-in-Err-Usage-clause-resume
-returns-in-Err-Usage-clause-resume g c = λ s asks. absurd (no_command _ (c.in-Err-Usage.ensures.usage (search rules)) (inr (inr (inr (inr (inr (inr (inr (inr (inr (s, asks)))))))))))
+returns-in-Err-Usage-clause-resume g c =
+    λ s asks. absurd (no_command _ (c.in-Err-Usage.ensures.usage (search rules)) (inr (inr (inr (inr (inr (inr (inr (inr (inr (s, asks)))))))))))
 
 pub returns-in-Err-Usage-clause-resume_causes : goal.returns-in-Err-Usage-clause-resume_causes
-returns-in-Err-Usage-clause-resume_causes g c = λ s asks. absurd (no_command _ (c.in-Err-Usage.ensures.usage (search rules)) (inr (inr (inr (inr (inr (inr (inr (inr (inr (s, asks)))))))))))
+returns-in-Err-Usage-clause-resume_causes g c =
+    λ s asks. absurd (no_command _ (c.in-Err-Usage.ensures.usage (search rules)) (inr (inr (inr (inr (inr (inr (inr (inr (inr (s, asks)))))))))))
 
 pub returns-in-Err-Usage-clause-resume_complete : goal.returns-in-Err-Usage-clause-resume_complete
-returns-in-Err-Usage-clause-resume_complete g c = λ s asks. absurd (no_command _ (c.in-Err-Usage.ensures.usage (search rules)) (inr (inr (inr (inr (inr (inr (inr (inr (inr (s, asks)))))))))))
+returns-in-Err-Usage-clause-resume_complete g c =
+    λ s asks. absurd (no_command _ (c.in-Err-Usage.ensures.usage (search rules)) (inr (inr (inr (inr (inr (inr (inr (inr (inr (s, asks)))))))))))
 
 pub returns-in-Err-Usage-clause-resume_ended : goal.returns-in-Err-Usage-clause-resume_ended
-returns-in-Err-Usage-clause-resume_ended g c = λ s asks. absurd (no_command _ (c.in-Err-Usage.ensures.usage (search rules)) (inr (inr (inr (inr (inr (inr (inr (inr (inr (s, asks)))))))))))
+returns-in-Err-Usage-clause-resume_ended g c =
+    λ s asks. absurd (no_command _ (c.in-Err-Usage.ensures.usage (search rules)) (inr (inr (inr (inr (inr (inr (inr (inr (inr (s, asks)))))))))))
 
 pub returns-in-Err-Usage-clause-resume_differs : goal.returns-in-Err-Usage-clause-resume_differs
-returns-in-Err-Usage-clause-resume_differs g c = λ s asks. absurd (no_command _ (c.in-Err-Usage.ensures.usage (search rules)) (inr (inr (inr (inr (inr (inr (inr (inr (inr (s, asks)))))))))))
+returns-in-Err-Usage-clause-resume_differs g c =
+    λ s asks. absurd (no_command _ (c.in-Err-Usage.ensures.usage (search rules)) (inr (inr (inr (inr (inr (inr (inr (inr (inr (s, asks)))))))))))
 
 pub returns-in-Err-Usage-clause-resume_cut_short : goal.returns-in-Err-Usage-clause-resume_cut_short
-returns-in-Err-Usage-clause-resume_cut_short g c = λ s asks. absurd (no_command _ (c.in-Err-Usage.ensures.usage (search rules)) (inr (inr (inr (inr (inr (inr (inr (inr (inr (s, asks)))))))))))
+returns-in-Err-Usage-clause-resume_cut_short g c =
+    λ s asks. absurd (no_command _ (c.in-Err-Usage.ensures.usage (search rules)) (inr (inr (inr (inr (inr (inr (inr (inr (inr (s, asks)))))))))))
 
 pub returns-in-Err-Usage-clause-resume_joins : goal.returns-in-Err-Usage-clause-resume_joins
-returns-in-Err-Usage-clause-resume_joins g c = λ s asks. absurd (no_command _ (c.in-Err-Usage.ensures.usage (search rules)) (inr (inr (inr (inr (inr (inr (inr (inr (inr (s, asks)))))))))))
+returns-in-Err-Usage-clause-resume_joins g c =
+    λ s asks. absurd (no_command _ (c.in-Err-Usage.ensures.usage (search rules)) (inr (inr (inr (inr (inr (inr (inr (inr (inr (s, asks)))))))))))
 
 pub returns-in-Err-Memory-clause-save : goal.returns-in-Err-Memory-clause-save
 returns-in-Err-Memory-clause-save g c = λ s asks. inr ((λ n side. refl), c.no_memory.ensures)
@@ -350,7 +394,8 @@ pub returns-in-Err-Memory-clause-save_causes : goal.returns-in-Err-Memory-clause
 returns-in-Err-Memory-clause-save_causes g c = λ s asks. save_causes c.one_answer.ensures.good s _ _ _ _ _ (returns-in-Err-Memory-clause-save g c s asks)
 
 pub returns-in-Err-Memory-clause-save_complete : goal.returns-in-Err-Memory-clause-save_complete
-returns-in-Err-Memory-clause-save_complete g c = λ s asks orders told calm. save_complete c.one_answer.ensures.good c.one_answer.ensures.orders s _ _ _ _ _ orders told calm (returns-in-Err-Memory-clause-save g c s asks)
+returns-in-Err-Memory-clause-save_complete g c = λ s asks orders told calm. save_complete c.one_answer.ensures.good c.one_answer.ensures.orders s _ _ _ _ _
+    orders told calm (returns-in-Err-Memory-clause-save g c s asks)
 
 pub returns-in-Err-Memory-clause-save_clean : goal.returns-in-Err-Memory-clause-save_clean
 returns-in-Err-Memory-clause-save_clean g c = λ s asks orders told calm not. absurd (not c.no_memory.ensures.status_is)
@@ -371,10 +416,12 @@ pub returns-in-Err-Memory-clause-resume : goal.returns-in-Err-Memory-clause-resu
 returns-in-Err-Memory-clause-resume g c = λ s asks. inr ((λ n side. refl), c.no_memory.ensures)
 
 pub returns-in-Err-Memory-clause-resume_causes : goal.returns-in-Err-Memory-clause-resume_causes
-returns-in-Err-Memory-clause-resume_causes g c = λ s asks. resume_causes c.one_answer.ensures.good c.one_mark.ensures.good c.one_mark.ensures.mark s _ _ _ _ _ (returns-in-Err-Memory-clause-resume g c s asks)
+returns-in-Err-Memory-clause-resume_causes g c = λ s asks. resume_causes c.one_answer.ensures.good c.one_answer-2.ensures.good c.one_answer-2.ensures.mark
+    s _ _ _ _ _ (returns-in-Err-Memory-clause-resume g c s asks)
 
 pub returns-in-Err-Memory-clause-resume_complete : goal.returns-in-Err-Memory-clause-resume_complete
-returns-in-Err-Memory-clause-resume_complete g c = λ s asks mark orders told calm r over. ((λ _. inr c.no_memory.ensures.status_is), (λ _. inr c.no_memory.ensures.status_is))
+returns-in-Err-Memory-clause-resume_complete g c =
+    λ s asks mark orders told calm r over. ((λ _. inr c.no_memory.ensures.status_is), (λ _. inr c.no_memory.ensures.status_is))
 
 pub returns-in-Err-Memory-clause-resume_ended : goal.returns-in-Err-Memory-clause-resume_ended
 returns-in-Err-Memory-clause-resume_ended g c = λ s asks mark orders told due. absurd (not_ended _ due c.no_memory.ensures.status_is)
