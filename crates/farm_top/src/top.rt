@@ -45,7 +45,7 @@ use command_words::{Asked, WordsFault, read_words};
 use farm_checkpoint::one_answer as one_mark;
 use farm_tools::{Tool, ToolEnd, decode, encode, frames, relay};
 use pool_run::Gate;
-use run_spec::a_run_is_joined_of_two;
+use run_spec::laws::a_run_is_joined_of_two;
 use std::alloc::Global;
 use std::sync::Wait;
 use std::thread::Threads;
