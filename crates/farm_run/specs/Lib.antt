@@ -10,3 +10,5 @@ pub mod Runs
 pub mod Standing
 pub mod Fronts
 pub mod Clock
+pub mod Saving
+pub mod Resuming

@@ -26,6 +26,10 @@ pub mod laws;
 mod notes;
 mod orders;
 mod pace;
+mod resuming;
+mod saving;
 
 pub use clock::run;
 pub use pace::Pace;
+pub use resuming::{Resumed, resume};
+pub use saving::{Saved, save};

@@ -1,0 +1,96 @@
+-- What a resumed run leaves and reports, whatever fails (this project's profile). It works the same recordings from the
+-- start, holds back what was written before the mark's period, and compares the mark there. `before` are the lines before
+-- it, `now` those after it.
+use Rattle.std.specs.Prelude.{◌≡◌, ℕ, ◌*◌, max, Bool, false, List, length, take, drop}
+use Rattle.std.specs.Io.KnownBytes.{Appends}
+use Rattle.trau_io.specs.declared.line.Line.{Line}
+use Rattle.trau_io.specs.declared.line.Side.{Side}
+use Rattle.trau_io.specs.declared.line.Side.TheVariants.{Up, Pcm, Down, Out}
+use Rattle.trau_io.specs.Lines.{LineState}
+use Rattle.trau_orders.specs.declared.order.Order.{Order}
+use Rattle.trau_orders.specs.Lists.{AreOrders}
+use Rattle.round_lines.specs.Rounds.{IsOutgoing}
+use Rattle.farm_report.specs.View.{ReportView}
+use Rattle.farm_checkpoint.specs.Marks.{MarkView}
+use Rattle.farm_checkpoint.specs.Differences.{IsLeastDifference}
+use Rattle.run_spec.specs.Run.{Run, IsOpened, cause_in, worked_to, periods_in}
+use Rattle.run_spec.specs.Lines.{out_of_call, down_of_call}
+use Rattle.run_spec.specs.Facts.{report_of}
+use Rattle.run_spec.specs.Mark.{marked_calls}
+use Rattle.farm_run.specs.declared.pace.Pace.{Pace}
+use Rattle.farm_run.specs.declared.resuming.Resumed.{Resumed}
+use Rattle.farm_run.specs.declared.resuming.Resumed.TheVariants.{Ran, Differs}
+use Rattle.farm_run.specs.Runs.{TellsFailed, AreFailures, KeepsSides, ReadsOn, AreTold, IsRunOver, IsCutOff, IsReadTo, IsWritten, FailedShort, is_listed}
+use Rattle.farm_run.specs.Fronts.{HasFront}
+
+-- What a run leaves on the lines where the outgoing octets of the periods before `from` are held back.
+pub record LeavesFrom (r : Run) (from : ℕ) (fails : ℕ → Side → Bool) (before now : ℕ → Side → LineState) : Type 0 where
+  -- the outgoing lines of each call that it opened have what the run gives them from there on
+  pub out : (c : ℕ) → IsOpened r c → IsWritten (fails c Out) (before c Out) (now c Out) (drop (160 * worked_to r from c) (out_of_call r c))
+  pub down : (c : ℕ) → IsOpened r c → IsWritten (fails c Down) (before c Down) (now c Down) (drop (40 * worked_to r from c) (down_of_call r c))
+  -- of the incoming lines of a call that they didn't end exactly the octets of its periods were read
+  pub up_read : (c : ℕ) → IsOpened r c → fails c Up ≡ false → IsCutOff (cause_in r c) → IsReadTo (now c Up) (40 * length (periods_in r c)) (r.lines c).up
+  pub pcm_read : (c : ℕ) → IsOpened r c → fails c Pcm ≡ false → IsCutOff (cause_in r c) → IsReadTo (now c Pcm) (160 * length (periods_in r c)) (r.lines c).pcm
+  -- the lines of all other calls are as they were, their counts included
+  pub others : (c : ℕ) (s : Side) → (IsOpened r c → ⊥) → now c s ≡ before c s
+
+-- A resumed run that was carried to its end, which is the later one of the mark's period and the number of periods asked for.
+pub record ResumesRun (orders : List Order) (pace : Pace) (mark : MarkView) (before now : ℕ → Side → LineState) (report : ReportView) : Type 0 where
+  -- the report lists the lines that failed
+  pub failed : TellsFailed before now report.failed
+  -- incoming lines are only read, from the front, and outgoing ones only written
+  pub sides : KeepsSides before now
+  pub reads : ReadsOn before now
+  -- lines and report are those of the run of these orders over what the lines gave, without what was held back;
+  pub leaves : (r : Run) → IsRunOver orders (max mark.period pace.periods) (is_listed report.failed) before now r → LeavesFrom r mark.period (is_listed report.failed) before now
+  pub reports : (r : Run) → IsRunOver orders (max mark.period pace.periods) (is_listed report.failed) before now r → report ≡ report_of r report.failed
+  -- the run to the mark's period has the mark's calls
+  pub same_mark : (r : Run) → IsRunOver orders mark.period (is_listed report.failed) before now r → marked_calls r ≡ mark.calls
+  -- in the run each incoming line that failed did so short of what a round takes of it
+  pub short : (r : Run) → IsRunOver orders (max mark.period pace.periods) (is_listed report.failed) before now r → FailedShort r pace.batch (is_listed report.failed)
+  -- and there are such runs, to any number of periods, of orders that are in range, wherever the lines tell what they hold
+  pub there : AreOrders orders → AreTold before → (periods : ℕ) → (r : Run) × IsRunOver orders periods (is_listed report.failed) before now r
+
+-- A resumed run whose mark isn't that of these lines and orders: at the mark's period, before which it wrote nothing, `call`
+-- is the least number of a call that the mark has otherwise, or that only one of them has.
+pub record FindsDifference (orders : List Order) (mark : MarkView) (before now : ℕ → Side → LineState) (call : ℕ) : Type 0 where
+  -- the lines that failed
+  pub failed : List Line
+  pub told : TellsFailed before now failed
+  -- incoming lines were only read, from the front, and outgoing ones are as they were, their counts included
+  pub sides : KeepsSides before now
+  pub reads : ReadsOn before now
+  pub unwritten : (c : ℕ) (s : Side) → IsOutgoing s → now c s ≡ before c s
+  -- so it is for the run to the mark's period over what the lines gave;
+  pub differs : (r : Run) → IsRunOver orders mark.period (is_listed failed) before now r → IsLeastDifference mark.calls (marked_calls r) call
+  -- the lines of calls that it doesn't open are as they were
+  pub others : (r : Run) → IsRunOver orders mark.period (is_listed failed) before now r → (c : ℕ) (s : Side) → (IsOpened r c → ⊥) → now c s ≡ before c s
+  -- and there is such a run of orders that are in range, wherever the lines tell what they hold
+  pub there : AreOrders orders → AreTold before → (r : Run) × IsRunOver orders mark.period (is_listed failed) before now r
+
+-- what a resumed run comes to
+abbrev pub Resumes : List Order → Pace → MarkView → (ℕ → Side → LineState) → (ℕ → Side → LineState) → Resumed → Type 0
+Resumes orders pace mark before now (Ran report) = ResumesRun orders pace mark before now report
+Resumes orders pace mark before now (Differs call) = FindsDifference orders mark before now call
+
+-- What a run leaves on the lines where it stops before its end, and the outgoing octets of the periods before `from` are held
+-- back.
+pub record LeavesFrontsFrom (r : Run) (from : ℕ) (before now : ℕ → Side → LineState) : Type 0 where
+  -- the outgoing lines of each call that it opens have gained a front of what the run gives them from there on
+  pub out : (c : ℕ) → IsOpened r c → HasFront (before c Out) (now c Out) (drop (160 * worked_to r from c) (out_of_call r c))
+  pub down : (c : ℕ) → IsOpened r c → HasFront (before c Down) (now c Down) (drop (40 * worked_to r from c) (down_of_call r c))
+  -- the lines of all other calls are as they were, their counts included
+  pub others : (c : ℕ) (s : Side) → (IsOpened r c → ⊥) → now c s ≡ before c s
+
+-- A resumed run of these orders that want of memory cut short. Its report isn't told, so these clauses tell which lines failed.
+pub record IsResumeCutShort (orders : List Order) (periods from : ℕ) (before now : ℕ → Side → LineState) : Type 0 where
+  -- the lines that failed
+  pub fails : ℕ → Side → Bool
+  pub told : AreFailures fails before now
+  -- incoming lines were only read, from the front, and outgoing ones only written
+  pub sides : KeepsSides before now
+  pub reads : ReadsOn before now
+  -- each outgoing line holds a front of what the whole run over what the lines gave gives it from there on ..
+  pub fronts : (r : Run) → IsRunOver orders periods fails before now r → LeavesFrontsFrom r from before now
+  -- .. and there is such a run of orders that are in range, wherever the lines tell what they hold
+  pub there : AreOrders orders → AreTold before → (r : Run) × IsRunOver orders periods fails before now r

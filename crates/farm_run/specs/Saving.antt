@@ -1,0 +1,36 @@
+-- What a run leaves and marks that is kept at its last period, whatever fails (this project's profile). `before` are the
+-- lines before it, `now` those after it.
+use Rattle.std.specs.Prelude.{◌≡◌, ℕ, List}
+use Rattle.trau_io.specs.declared.line.Line.{Line}
+use Rattle.trau_io.specs.declared.line.Side.{Side}
+use Rattle.trau_io.specs.Lines.{LineState}
+use Rattle.trau_orders.specs.declared.order.Order.{Order}
+use Rattle.trau_orders.specs.Lists.{AreOrders}
+use Rattle.farm_checkpoint.specs.Marks.{MarkView, AreLive}
+use Rattle.run_spec.specs.Run.{Run}
+use Rattle.run_spec.specs.Mark.{mark_of}
+use Rattle.farm_run.specs.declared.pace.Pace.{Pace}
+use Rattle.farm_run.specs.Runs.{TellsFailed, KeepsSides, ReadsOn, AreTold, IsRunOver, Leaves, FailedShort, is_listed}
+
+-- what is seen of it: the lines that failed, and the mark
+pub record SavedView : Type 0 where
+  pub failed : List Line
+  pub mark : MarkView
+
+-- A run of these orders that was carried to its last period and marked there.
+pub record Saves (orders : List Order) (pace : Pace) (before now : ℕ → Side → LineState) (saved : SavedView) : Type 0 where
+  -- the lines that failed are told
+  pub failed : TellsFailed before now saved.failed
+  -- incoming lines are only read, from the front, and outgoing ones only written
+  pub sides : KeepsSides before now
+  pub reads : ReadsOn before now
+  -- lines and mark are those of the run of these orders over what the lines gave;
+  pub leaves : (r : Run) → IsRunOver orders pace.periods (is_listed saved.failed) before now r → Leaves r (is_listed saved.failed) before now
+  pub marks : (r : Run) → IsRunOver orders pace.periods (is_listed saved.failed) before now r → saved.mark ≡ mark_of r
+  -- in this run each incoming line that failed did so short of what a round takes of it
+  pub short : (r : Run) → IsRunOver orders pace.periods (is_listed saved.failed) before now r → FailedShort r pace.batch (is_listed saved.failed)
+  -- and there is such a run of orders that are in range, wherever the lines tell what they hold
+  pub there : AreOrders orders → AreTold before → (r : Run) × IsRunOver orders pace.periods (is_listed saved.failed) before now r
+  -- wherever that is so or not, the mark is one that may be written: its period is the run's last, and its calls began before
+  pub period : saved.mark.period ≡ pace.periods
+  pub live : AreLive saved.mark.period saved.mark.calls

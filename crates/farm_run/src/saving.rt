@@ -1,0 +1,57 @@
+//! A run that is kept at its last period.
+
+ghost use Rattle.std.specs.Prelude.{IfOk, OnErr};
+ghost use Rattle.farm_run.specs.Pace.{IsPace};
+ghost use Rattle.farm_run.specs.Runs.{KeepsSides};
+ghost use Rattle.farm_run.specs.Fronts.{IsCutShort};
+ghost use Rattle.farm_run.specs.Saving.{Saves};
+
+use crate::pace::Pace;
+use farm_checkpoint::Mark;
+use pool_run::Gate;
+use std::alloc::{AllocError, Global};
+use std::marker::Model;
+use std::sync::Wait;
+use std::thread::Threads;
+use trau_io::{Line, Trunk};
+use trau_orders::Orders;
+
+/// What is kept of a run that was worked to its last period. Contracts see the lines and the mark.
+#[derive(Drop)]
+pub struct Saved {
+    /// The lines that failed, by call and then in the order up, pcm, down, out.
+    pub failed: Vec<Line>,
+    /// Where the run stood at its last period.
+    pub mark: Mark,
+}
+
+impl Model for Saved {
+    ghost use Rattle.farm_run.specs.Saving.{SavedView};
+
+    ghost Value = { SavedView };
+
+    ghost view = { λ s. record { failed = s.failed.items; mark = s.mark } };
+}
+
+/// Runs these orders over the lines of a trunk as `run` does, and marks where the run stands at its last period. An error
+/// says that there was no memory. The run waits for its workers: that it returns isn't proved.
+pub fn save<R: Threads + Wait + Sync, T: Trunk, G: Gate + Sync>(
+    rt: &R,
+    alloc: Global,
+    pace: &Pace,
+    orders: Orders,
+    trunk: &mut T,
+    gate: &G,
+) -> Result<Saved, AllocError>
+    requires { IsPace pace.now }
+    ensures saves { IfOk result (λ saved. Saves orders pace.now (T.lines trunk.old) (T.lines trunk.new) saved) }
+
+    // Where there was no memory, each outgoing line holds a front of what the run gives.
+    ensures cut { OnErr result (IsCutShort orders pace.now.periods (T.lines trunk.old) (T.lines trunk.new)) }
+
+    // Incoming lines are only read and outgoing ones only written, also where there was no memory.
+    ensures sides { KeepsSides (T.lines trunk.old) (T.lines trunk.new) }
+{
+    for _ in rt.forever() {}
+    unreachable!()
+}
