@@ -6,32 +6,22 @@ data=$top/crates/codec_vectors/data
 work=$(mktemp -d)
 trap 'rm -rf "$work"' EXIT
 cd "$work"
-failed=0
+# shellcheck source=checks/expect
+. "$top/checks/expect"
 
 for name in speech-en-m3 speech-loud-m7 harsh; do
     cp "$data/$name.up" 7.up
     rm -f 7.out
-    status=0
-    text=$("$top/trau" decode 7 </dev/null) || status=$?
-    frames=$(($(wc -c <7.up) / 40))
-    if [ "$status" = 0 ] && [ "$text" = "decode frames $frames" ] && cmp -s 7.out "$data/$name.out"; then
-        echo "ok decode of $name: $frames frames equal"
-    else
-        echo "FAILED decode of $name: status $status, text '$text'"
-        failed=$((failed + 1))
-    fi
+    trau decode 7
+    expect "decode of $name" 0 "decode frames $(($(wc -c <7.up) / 40))"
+    cmp 7.out "$data/$name.out" || failed=$((failed + 1))
 done
 
 # A block that isn't a good speech frame: all frames before it are written.
 head -c 80 "$data/harsh.up" >8.up
 head -c 40 /dev/zero >>8.up
-status=0
-text=$("$top/trau" decode 8 </dev/null) || status=$?
-if [ "$status" = 8 ] && [ "$text" = "decode refused 2" ] && head -c 320 "$data/harsh.out" | cmp -s - 8.out; then
-    echo "ok a refused block"
-else
-    echo "FAILED a refused block: status $status, text '$text'"
-    failed=$((failed + 1))
-fi
+trau decode 8
+expect "a refused block" 8 "decode refused 2"
+head -c 320 "$data/harsh.out" | cmp - 8.out || failed=$((failed + 1))
 
 [ "$failed" = 0 ]

@@ -6,46 +6,32 @@ data=$top/crates/codec_vectors/data
 work=$(mktemp -d)
 trap 'rm -rf "$work"' EXIT
 cd "$work"
-failed=0
-
-# expect NAME STATUS TEXT: the status and the text of the last command
-expect() {
-    if [ "$status" != "$2" ] || [ "$text" != "$3" ]; then
-        echo "FAILED $1: status $status, text '$text'"
-        failed=$((failed + 1))
-    else
-        echo "ok $1"
-    fi
-}
-
-encode() {
-    status=0
-    text=$("$top/trau" encode "$1" </dev/null) || status=$?
-}
+# shellcheck source=checks/expect
+. "$top/checks/expect"
 
 for name in speech-en-m3 speech-loud-m7 harsh; do
     cp "$data/$name.pcm" 7.pcm
     rm -f 7.down
-    encode 7
+    trau encode 7
     expect "encode of $name" 0 "encode frames $(($(wc -c <7.pcm) / 160)) left 0"
     cmp 7.down "$data/$name.down" || failed=$((failed + 1))
 done
 
 # A rest of less than a period is left, and a line of the rest alone makes nothing.
 head -c 330 "$data/harsh.pcm" >8.pcm
-encode 8
+trau encode 8
 expect "a rest of ten octets" 0 "encode frames 2 left 10"
 head -c 80 "$data/harsh.down" | cmp - 8.down || failed=$((failed + 1))
 head -c 159 "$data/harsh.pcm" >9.pcm
-encode 9
+trau encode 9
 expect "a rest alone" 0 "encode frames 0 left 159"
 [ ! -e 9.down ] || { echo "FAILED: 9.down was made"; failed=$((failed + 1)); }
 
-encode 10
+trau encode 10
 expect "a missing line" 6 "line 10 pcm failed"
 cp 8.pcm 11.pcm
 mkdir 11.down
-encode 11
+trau encode 11
 expect "a downlink that can't be written" 6 "line 11 down failed"
 
 [ "$failed" = 0 ]

@@ -8,28 +8,14 @@ vectors=$top/crates/codec_vectors/data
 work=$(mktemp -d)
 trap 'rm -rf "$work"' EXIT
 cd "$work"
-failed=0
-
-# expect NAME STATUS TEXT: the status and the text of the last command
-expect() {
-    if [ "$status" != "$2" ] || [ "$text" != "$3" ]; then
-        echo "FAILED $1: status $status, text '$text'"
-        failed=$((failed + 1))
-    else
-        echo "ok $1"
-    fi
-}
-
-follow() {
-    status=0
-    text=$("$top/trau" follow "$@" </dev/null) || status=$?
-}
+# shellcheck source=checks/expect
+. "$top/checks/expect"
 
 # followed DOWNLINK WANT TEXT ANSWERS
 followed() {
     cp "$1" 7.up
     rm -f 7.down
-    follow 7 "$2"
+    trau follow 7 "$2"
     expect "$(basename "$3")" 0 "$(cat "$3")"
     cmp 7.down "$4" || failed=$((failed + 1))
 }
@@ -41,7 +27,7 @@ followed "$vectors/follow-4.down" 4 "$data/mixed-2-4.txt" "$vectors/follow-4.up"
 
 # A rest of less than a period is left.
 head -c 119 "$data/harsh-1-0.up" >7.up
-follow 7 0
+trau follow 7 0
 expect "a rest of 39 octets" 0 "320 speech
 follow frames 1 left 39"
 head -c 80 "$data/harsh-1-0.down" | cmp - 7.down || failed=$((failed + 1))
@@ -49,21 +35,30 @@ head -c 80 "$data/harsh-1-0.down" | cmp - 7.down || failed=$((failed + 1))
 # No frame, no line of text.
 rm 7.down
 : >7.up
-follow 7 0
+trau follow 7 0
 expect "an empty line" 0 "follow frames 0 left 0"
 [ ! -e 7.down ] || failed=$((failed + 1))
 
-follow 8 0
+trau follow 8 0
 expect "a missing line" 6 "line 8 up failed"
 cp "$data/harsh-1-0.up" 9.up
 mkdir 9.down
-follow 9 0
+trau follow 9 0
 expect "answers that can't be written" 6 "line 9 down failed"
-follow 4096 0
+
+# A full standard output: the answer of the first period that has a frame is the last that is sent up.
+cp "$data/harsh-1-0.up" 10.up
+status=0
+text=
+"$top/trau" follow 10 0 >/dev/full </dev/null || status=$?
+expect "a full standard output" 4 ""
+head -c 80 "$data/harsh-1-0.down" | cmp - 10.down || failed=$((failed + 1))
+
+trau follow 4096 0
 expect "the last call" 6 "line 4096 up failed"
 for words in "7" "7 0 0" "4097 0" "0 0" "7 6" "7 320" "7 04" "07 4" "7 x"; do
     # shellcheck disable=SC2086
-    follow $words
+    trau follow $words
     expect "follow $words" 1 "usage"
 done
 

@@ -5,22 +5,8 @@ top=$(cd "$(dirname "$0")/.." && pwd)
 work=$(mktemp -d)
 trap 'rm -rf "$work"' EXIT
 cd "$work"
-failed=0
-
-# expect NAME STATUS TEXT: the status and the text of the last command
-expect() {
-    if [ "$status" != "$2" ] || [ "$(cat text)" != "$3" ]; then
-        echo "FAILED $1: status $status, text '$(cat text)'"
-        failed=$((failed + 1))
-    else
-        echo "ok $1"
-    fi
-}
-
-trau() {
-    status=0
-    "$top/trau" "$@" >text </dev/null || status=$?
-}
+# shellcheck source=checks/expect
+. "$top/checks/expect"
 
 cp "$top/examples/7.up" 7.up
 trau relay 7
@@ -107,16 +93,16 @@ expect "a list of frames" 0 "0 good
 frames 4 left 3"
 
 status=0
+text=
 "$top/trau" relay 7 >/dev/full </dev/null || status=$?
-: >text
 expect "a full standard output" 4 ""
 
 # With less and less memory the program ends with status 5 and its text, until it can't be started at all.
 met=0
 for limit in 6000 5000 4000 3600 3400 3200 3000 2900 2800 2700 2600 2500; do
     status=0
-    (ulimit -v "$limit" && exec "${TRAU_PROGRAM:-$top/crates/trau_program/out/trau_program}" relay 7) >text 2>/dev/null </dev/null || status=$?
-    case "$status $(cat text)" in
+    text=$(ulimit -v "$limit" && exec "${TRAU_PROGRAM:-$top/crates/trau_program/out/trau_program}" relay 7 2>/dev/null </dev/null) || status=$?
+    case "$status $text" in
         "5 no memory") met=$((met + 1)) ;;
         "0 relay frames 312") ;;
         *) break ;;

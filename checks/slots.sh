@@ -7,30 +7,16 @@ data=$top/checks/slots
 work=$(mktemp -d)
 trap 'rm -rf "$work"' EXIT
 cd "$work"
-failed=0
-
-# expect NAME STATUS TEXT: the status and the text of the last command
-expect() {
-    if [ "$status" != "$2" ] || [ "$text" != "$3" ]; then
-        echo "FAILED $1: status $status, text '$text'"
-        failed=$((failed + 1))
-    else
-        echo "ok $1"
-    fi
-}
-
-slot() {
-    status=0
-    text=$("$top/trau" "$@" </dev/null) || status=$?
-}
+# shellcheck source=checks/expect
+. "$top/checks/expect"
 
 cp "$data/5.pcm" "$data"/*.up .
-slot split 5
+trau split 5
 expect "split" 0 "$(cat "$data/split.txt")"
 for call in 5 6 7 8; do
     cmp "$call.down" "$data/$call.down" || failed=$((failed + 1))
 done
-slot merge 5
+trau merge 5
 expect "merge" 0 "$(cat "$data/merge.txt")"
 cmp 5.out "$data/5.out" || failed=$((failed + 1))
 
@@ -38,18 +24,18 @@ cmp 5.out "$data/5.out" || failed=$((failed + 1))
 for call in 5 6 7 8; do
     mv "$call.down" "$call.up"
 done
-slot merge 5
+trau merge 5
 expect "merged again" 0 "merge octets 4000 left 0 0 0 0"
 head -c 4000 5.pcm | cmp - 5.out || failed=$((failed + 1))
 
-slot split 9
+trau split 9
 expect "a missing slot" 6 "line 9 pcm failed"
-slot merge 6
+trau merge 6
 expect "a missing channel" 6 "line 9 up failed"
 mkdir 6.down
-slot split 5
+trau split 5
 expect "a channel that can't be written" 6 "line 6 down failed"
-slot split 4094
+trau split 4094
 expect "a call without three behind it" 1 "usage"
 
 [ "$failed" -eq 0 ] || exit 1

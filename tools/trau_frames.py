@@ -1,7 +1,7 @@
 """What the tools share: TRAU frames and their bits, the search for frames, full rate parameters, A-law and mu-law, and files.
 
 Bits are texts of the characters 0 and 1, the first bit of a line first. A period is 20 ms: 40 octets of a line of frames,
-160 octets of a line of A-law or mu-law.
+160 octets of a line of A-law or mu-law. Scripts of bench/ use this file too.
 """
 
 from __future__ import annotations
@@ -221,12 +221,15 @@ class Parameters:
         blocks = (values[first : first + 17] for first in range(8, 76, 17))
         return Parameters(tuple(values[:8]), tuple(Block(*block[:4], tuple(block[4:])) for block in blocks))
 
+    def values(self) -> Iterator[int]:
+        """All 76 in their order."""
+        yield from self.ratios
+        for block in self.blocks:
+            yield from (block.lag, block.gain, block.grid, block.maximum, *block.pulses)
+
     def bits(self) -> str:
         """D1 to D260."""
-        values = list(self.ratios)
-        for block in self.blocks:
-            values += [block.lag, block.gain, block.grid, block.maximum, *block.pulses]
-        return "".join(f"{value:0{width}b}"[::-1] for value, width in zip(values, WIDTHS))
+        return "".join(f"{value:0{width}b}"[::-1] for value, width in zip(self.values(), WIDTHS))
 
 
 SILENCE = Parameters(

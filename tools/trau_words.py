@@ -64,6 +64,18 @@ COMMANDS = (
         " the report",
     ),
     Command(
+        "save",
+        "[OPTIONS] <ORDERS",
+        "runs as run does to the period of --periods, which must be there, and tells a mark in place of the report: the open"
+        " calls with sums of what went out",
+    ),
+    Command(
+        "resume",
+        "[OPTIONS] <MARKED",
+        "reads a mark and the orders behind it, works the same lines from the start, writes what follows the mark's period, and"
+        " tells the whole run's report",
+    ),
+    Command(
         "drill",
         "[OPTIONS]",
         "draws lines and orders from a number, works them in memory as run does, and tells the report, with sums of what goes"
@@ -113,6 +125,9 @@ LIVE_OPTIONS = (
 
 OPTIONS_OF = {"run": OPTIONS, "drill": DRILL_OPTIONS, "live": LIVE_OPTIONS}
 
+# The commands that have these options too.
+ALSO = {"run": ("save", "resume")}
+
 ORDERS = (
     Order("S open C", "the call begins"),
     Order("S open C mulaw", "it begins, with mu-law from and to the exchange in place of A-law"),
@@ -124,15 +139,16 @@ ORDERS = (
 )
 
 STATUSES = (
-    Status(0, "the command was carried to its end, and no line failed", "the command's text; of run and drill, the report"),
+    Status(0, "the command was carried to its end, and no line failed", "the command's text; of run, resume and drill, the report"),
     Status(1, "these words are no command", "usage"),
-    Status(2, "line N of the orders isn't in the grammar", "orders line N"),
+    Status(2, "line N of the orders or of the mark isn't in the grammar", "orders line N, save line N"),
     Status(3, "standard input failed while the orders were read", "orders unread"),
     Status(4, "standard output failed while the command's text went out", "the beginning of the text"),
     Status(5, "want of memory", "no memory"),
     Status(6, "a line failed", "line C up failed, with the line's side; the report, which names the lines"),
     Status(7, "the orders have more than 1,048,576 octets or more than 65,536 lines", "orders too long"),
     Status(8, "a block isn't a good speech frame", "relay refused N, decode refused N"),
+    Status(9, "the mark isn't that of this run: call C is the least that differs", "save differs C"),
     Status(125, "(of the script trau) there is no program to run", ""),
 )
 
@@ -189,12 +205,18 @@ def range_of(option: Option) -> str:
     return f"{grouped(option.least)} to {grouped(option.most)}, else {grouped(option.default)}"
 
 
+def with_its_options(command: str, joined: str) -> str:
+    """The commands that have the same options, the last one joined by this."""
+    *names, last = (command, *ALSO.get(command, ()))
+    return ", ".join(names) + joined + last if names else last
+
+
 def help_text() -> str:
     """What the script `trau` says where it is asked for help."""
     lines = [f"{NAME}: {PURPOSE}", ""]
     lines += table((f"{NAME} {command.name} {command.words}", command.does) for command in COMMANDS)
     for command, options in OPTIONS_OF.items():
-        lines += ["", f"Options of {command}:", ""]
+        lines += ["", f"Options of {with_its_options(command, ' and ')}:", ""]
         lines += table((f"{option.name} N", f"{option.means} ({range_of(option)})") for option in options)
     lines += ["", *folded(NOTE_ON_ORDERS, ""), ""]
     lines += table((order.words, order.does) for order in ORDERS)
@@ -235,7 +257,7 @@ def man_page(version: str, date: str) -> str:
     lines += paragraphs((f"{command.name} {command.words}", command.does) for command in COMMANDS)
     lines += [".PP", escaped(NOTE_ON_HELP)]
     for name, options in OPTIONS_OF.items():
-        lines += [f".SH OPTIONS OF {name.upper()}"]
+        lines += [f".SH OPTIONS OF {with_its_options(name, ' AND ').upper()}"]
         lines += ["A value is the next word, or stands behind an equals sign. Each option stands once at most."]
         lines += paragraphs((f"{option.name} N", f"{option.means} ({range_of(option)})") for option in options)
     lines += [".SH ORDERS", escaped(NOTE_ON_ORDERS)]
@@ -287,7 +309,7 @@ def completion() -> str:
         commands=" ".join(command.name for command in COMMANDS),
         optioned="".join(
             OPTIONS_WITH.format(
-                name=name,
+                name=" | ".join((name, *ALSO.get(name, ()))),
                 options=" ".join(option.name for option in options),
                 valued=" | ".join(option.name for option in options),
             )

@@ -82,7 +82,7 @@ class ManPage(InFolder):
         self.assertIn("TRAU(1)", text)
         self.assertIn("trau run [--workers N] [--batch N] [--slice N] [--periods N] <ORDERS", text)
         self.assertIn("The period at which the run ends (1 to 4,294,967,295, else 4,294,967,295).", text)
-        self.assertIn("2 Line N of the orders isn't in the grammar: orders line N.", text)
+        self.assertIn("2 Line N of the orders or of the mark isn't in the grammar: orders line N, save line N.", text)
 
 
 @unittest.skipUnless(shutil.which("bash"), "there is no bash")
@@ -98,11 +98,13 @@ class Completion(InFolder):
     def test_words(self):
         for name in ("7.up", "12.up", "8.pcm", "7.down", "x.up"):
             self.path(name, b"")
-        self.assertEqual(self.completed("r"), ["run", "relay"])
+        self.assertEqual(self.completed("r"), ["run", "resume", "relay"])
         self.assertEqual(self.completed("--"), ["--help", "--version"])
         self.assertEqual(self.completed("run", "--"), ["--workers", "--batch", "--slice", "--periods"])
         self.assertEqual(self.completed("run", "--workers", "2", "--b"), ["--batch"])
         self.assertEqual(self.completed("run", "--workers", ""), [])
+        self.assertEqual(self.completed("save", "--periods", "3", "--w"), ["--workers"])
+        self.assertEqual(self.completed("resume", "--p"), ["--periods"])
         self.assertEqual(self.completed("d"), ["drill", "decode"])
         self.assertEqual(self.completed("drill", "--"), ["--workers", "--batch", "--slice", "--periods", "--seed", "--calls"])
         self.assertEqual(self.completed("drill", "--seed", ""), [])

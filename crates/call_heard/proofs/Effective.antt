@@ -67,7 +67,8 @@ pulses-noise draw (suc (suc (suc (suc j)))) below = absurd (omega (arith, below)
 shape-noise : (sid : Fields) (fall : ℕ) (draw : ℕ → ℕ → ℕ) → HasShape sid → HasShape (noise_of sid fall draw)
 unfolding noise_of noise_at
 shape-noise sid fall draw shape =
-    cond_both (nat_le fall 16) (noise_at sid fall draw) silent_fields HasShape (λ y. record { larc = shape.larc; pulses = pulses-noise draw }) (λ n. shape-silent)
+    cond_both (nat_le fall 16) (noise_at sid fall draw) silent_fields HasShape (λ y. record { larc = shape.larc; pulses = pulses-noise draw })
+    (λ n. shape-silent)
 
 shape-mix : (old new : Fields) (i : ℕ) → HasShape old → HasShape new → HasShape (mix_of old new i)
 unfolding mix_of
@@ -78,12 +79,14 @@ shape-mix old new i before after = record {
 
 -- ---- what is heard
 
+-- a heard frame whose parameters have their shape
 abbrev pub IsShaped : Heard → Type 0
 IsShaped (Good p) = HasShape p
 IsShaped (Sid q) = HasShape q
 IsShaped Idle = Unit {0}
 IsShaped (Lost missed) = Unit {0}
 
+-- all of them have
 abbrev pub AreShaped : List Heard → Type 0
 AreShaped [] = Unit {0}
 AreShaped (y ∷ past) = IsShaped y × AreShaped past
@@ -99,6 +102,7 @@ shaped-frame kinds.Speech class taf d = shaped-speech class (fields_in d) taf (s
 shaped-frame kinds.Idle class taf d = tt
 shaped-frame kinds.Other class taf d = tt
 
+-- what is heard has
 pub shaped-sighting : (s : Sighting) → IsShaped (heard_as s)
 shaped-sighting Nothing = tt
 shaped-sighting Missed = tt
@@ -128,7 +132,8 @@ shaped-anchor (Sid q ∷ past) shaped = shaped.0
 shaped-anchor (Idle ∷ past) shaped = tt
 shaped-anchor (Lost missed ∷ past) shaped = shaped-more (Lost missed) (anchor_of past) (shaped-anchor past shaped.1)
 
-shape-start : (a : Anchor) (old : Fields → Fields) (q : Fields) → IsShapedAnchor a → ((r : Fields) → HasShape r → HasShape (old r)) → HasShape q → HasShape (start_from a old q)
+shape-start : (a : Anchor) (old : Fields → Fields) (q : Fields) → IsShapedAnchor a → ((r : Fields) → HasShape r → HasShape (old r)) → HasShape q →
+    HasShape (start_from a old q)
 shape-start NoAnchor old q anchor each shape = shape
 shape-start (AtGood p since) old q anchor each shape = shape
 shape-start (AtSid r since) old q anchor each shape =
@@ -139,7 +144,8 @@ unfolding old_of
 shape-old [] shaped q shape = shape
 shape-old (y ∷ past) shaped q shape =
     cond_both (is_anchor y) (start_from (anchor_of past) (λ r. old_of past r) q) (old_of past q) HasShape
-    (λ y. shape-start (anchor_of past) (λ r. old_of past r) q (shaped-anchor past shaped.1) (λ r h. shape-old past shaped.1 r h) shape) (λ n. shape-old past shaped.1 q shape)
+    (λ y. shape-start (anchor_of past) (λ r. old_of past r) q (shaped-anchor past shaped.1) (λ r h. shape-old past shaped.1 r h) shape)
+    (λ n. shape-old past shaped.1 q shape)
 
 abbrev IsShapedOrigin : Origin → Type 0
 IsShapedOrigin NoFrame = Unit {0}
@@ -159,11 +165,14 @@ shape-handed (GoodFrame p) draw origin = origin
 shape-handed (LostFrame p n) draw origin = shape-lost p n draw origin
 shape-handed (NoiseFrame q fall) draw origin = shape-noise q fall draw origin
 
+-- **The parameters of an effective frame have their shape.**
 pub shape-effective : (number : ℕ) (past : List Heard) → AreShaped past → HasShape (handed_fields (effective_of number past))
 unfolding effective_of
 shape-effective number [] shaped = shape-silent
 shape-effective number (y ∷ past) shaped =
-    shape-handed _ _ (shaped-origin (anchor_of (y ∷ past)) (λ q. old_of (y ∷ past) q) (shaped-anchor (y ∷ past) shaped) (λ r h. shape-old (y ∷ past) shaped r h))
+    shape-handed _ _
+    (shaped-origin (anchor_of (y ∷ past)) (λ q. old_of (y ∷ past) q) (shaped-anchor (y ∷ past) shaped) (λ r h. shape-old (y ∷ past) shaped r h))
 
+-- **So what is handed over are 260 bits.**
 pub handed-long : (number : ℕ) (ts : List CallPeriod) → length (bits260 (handed_fields (effective_of number (heard_of ts)))) ≡ 260
 handed-long number ts = length-bits260 _ (shape-effective number (heard_of ts) (shaped-call ts))

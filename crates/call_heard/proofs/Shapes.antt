@@ -7,13 +7,13 @@ use Rattle.trau_params.specs.Fields.{Fields}
 use Rattle.trau_params.specs.FieldBits.{low_bits, field_bits}
 use Rattle.trau_params.specs.Widths.{larc_widths, block_widths}
 use Rattle.trau_params.specs.Bits260.{bits260, values_in}
-use Rattle.trau_params.proofs.Prefixes.{length-low_bits}
+use Rattle.trau_params.proofs.Fronts.{length-low_bits}
 use Rattle.fr_pre.specs.History.{newest_preprocessed}
 use Rattle.fr_lpc.specs.Ratios.{ratio_codes, ratios_of_frame}
 use Rattle.fr_rpe.specs.Encoding.{xmc_of}
-use Rattle.fr_rpe.specs.Quantisation.{codes_of}
-use Rattle.fr_encoder.specs.Blocks.{CodedBlock, coded_block, block_at, block_after, four_blocks}
-use Rattle.fr_encoder.specs.Encoded.{encoding_of, reconstructed, residual_of}
+use Rattle.fr_rpe.specs.Quantisation.{pulse_codes_of}
+use Rattle.fr_encoder.specs.Blocks.{CodedBlock, coded_block, block_at, block_after, four_coded_blocks}
+use Rattle.fr_encoder.specs.Encoded.{encoding_of, reconstructed, analysed_residual}
 use Rattle.tx_dtx.specs.Stretch.{Measures, Coded, is_active}
 use Rattle.tx_dtx.specs.SilenceDescriptor.{mean_ratio, sid_of}
 use Rattle.tx_dtx.specs.Sent.{SidPlace, is_sid_place, newest_four, sid_used, before_pause, itself, silence, sent_early, sent_of}
@@ -36,20 +36,24 @@ length-field_bits (w ∷ ws) (v ∷ vs) same =
     let rest = length-field_bits ws vs (omega (arith, same)) in
     length-append (low_bits w v) (field_bits ws vs) ∙ (λ i. one i + rest i)
 
-length-blocks : (block : ℕ → List ℕ) (first n : ℕ) → ((k : ℕ) → first ≤ k → k < first + n → length (block k) ≡ 56) → length (flat_map block (range_with_len first n)) ≡ 56 * n
+length-blocks : (block : ℕ → List ℕ) (first n : ℕ) → ((k : ℕ) → first ≤ k → k < first + n → length (block k) ≡ 56) →
+    length (flat_map block (range_with_len first n)) ≡ 56 * n
 length-blocks block first zero each = refl
 length-blocks block first (suc n) each =
     let one = each first (omega arith) (omega arith) in
     let rest = length-blocks block (first + 1) n (λ k above below. each k (omega (arith, above)) (omega (arith, below))) in
-    let both : length (flat_map block (range_with_len first (suc n))) ≡ 56 + 56 * n = length-append (block first) (flat_map block (range_with_len (first + 1) n)) ∙ (λ i. one i + rest i) in
+    let both : length (flat_map block (range_with_len first (suc n))) ≡ 56 + 56 * n =
+    length-append (block first) (flat_map block (range_with_len (first + 1) n)) ∙ (λ i. one i + rest i) in
     omega (arith, both)
 
+-- parameters of this shape are 260 bits
 pub length-bits260 : (f : Fields) → HasShape f → length (bits260 f) ≡ 260
 unfolding bits260 total
 length-bits260 f shape =
     let ratios : length (field_bits larc_widths f.larc) ≡ 36 = length-field_bits larc_widths f.larc shape.larc in
     let blocks : length (flat_map (λ j. field_bits block_widths (values_in f j)) (range_with_len 0 4)) ≡ 224 =
-    length-blocks (λ j. field_bits block_widths (values_in f j)) 0 4 (λ k above below. length-field_bits block_widths (values_in f k) (let thirteen = shape.pulses k below in omega (arith, thirteen))) in
+    length-blocks (λ j. field_bits block_widths (values_in f j)) 0 4
+    (λ k above below. length-field_bits block_widths (values_in f k) (let thirteen = shape.pulses k below in omega (arith, thirteen))) in
     length-append (field_bits larc_widths f.larc) (flat_map (λ j. field_bits block_widths (values_in f j)) (range_with_len 0 4)) ∙ (λ i. ratios i + blocks i)
 
 -- ---- the encoder's frames
@@ -59,7 +63,7 @@ unfolding ratio_codes
 length-ratio_codes lar = refl
 
 length-xmc_of : (e : List ℤ) → length (xmc_of e) ≡ 13
-unfolding xmc_of codes_of
+unfolding xmc_of pulse_codes_of
 length-xmc_of e = refl
 
 pulses-block : (past d : List ℤ) → length (block_after past d).0.xmc ≡ 13
@@ -74,20 +78,22 @@ pulses-four a b c d one two three four (suc (suc zero)) below = three
 pulses-four a b c d one two three four (suc (suc (suc zero))) below = four
 pulses-four a b c d one two three four (suc (suc (suc (suc j)))) below = absurd (omega (arith, below))
 
-pulses-blocks : (past d : List ℤ) (j : ℕ) → j < 4 → length (slice_index_or (map (λ b. b.xmc) (four_blocks past d).0) j []) ≡ 13
-unfolding four_blocks
+pulses-blocks : (past d : List ℤ) (j : ℕ) → j < 4 → length (slice_index_or (map (λ b. b.xmc) (four_coded_blocks past d).0) j []) ≡ 13
+unfolding four_coded_blocks
 pulses-blocks past d =
     let first = block_after past (block_at d 0) in
     let second = block_after first.1 (block_at d 1) in
     let third = block_after second.1 (block_at d 2) in
     let fourth = block_after third.1 (block_at d 3) in
-    pulses-four first.0 second.0 third.0 fourth.0 (pulses-block past (block_at d 0)) (pulses-block first.1 (block_at d 1)) (pulses-block second.1 (block_at d 2)) (pulses-block third.1 (block_at d 3))
+    pulses-four first.0 second.0 third.0 fourth.0 (pulses-block past (block_at d 0)) (pulses-block first.1 (block_at d 1))
+    (pulses-block second.1 (block_at d 2)) (pulses-block third.1 (block_at d 3))
 
+-- an encoding has this shape
 pub shape-encoding : (x : List ℤ) (past : List (List ℤ)) → HasShape (encoding_of x past).fields
 unfolding encoding_of
 shape-encoding x past = record {
   larc = length-ratio_codes (ratios_of_frame (newest_preprocessed x past));
-  pulses = pulses-blocks (reconstructed past) (residual_of x past);
+  pulses = pulses-blocks (reconstructed past) (analysed_residual x past);
 }
 
 -- ---- what is sent of them
@@ -107,8 +113,10 @@ shape-early : (f : Coded) (place : Option SidPlace) → HasShape f.fields → Ha
 shape-early f None shape = shape
 shape-early f (Some place) shape = shape-sid place.four
 
+-- **And so has what is sent.**
 pub shape-sent : (f : Coded) (past : List Coded) → HasShape f.fields → HasShape (sent_of f past).fields
 unfolding sent_of
 shape-sent f past shape =
     cond_both (is_active f) (itself f.fields) _ (λ s. HasShape s.fields) (λ y. shape)
-    (λ n. cond_both (is_sid_place (f ∷ past)) (silence (newest_four (f ∷ past))) (sent_early f (sid_used (before_pause past))) (λ s. HasShape s.fields) (λ y. shape-sid _) (λ m. shape-early f (sid_used (before_pause past)) shape))
+    (λ n. cond_both (is_sid_place (f ∷ past)) (silence (newest_four (f ∷ past))) (sent_early f (sid_used (before_pause past))) (λ s. HasShape s.fields)
+    (λ y. shape-sid _) (λ m. shape-early f (sid_used (before_pause past)) shape))

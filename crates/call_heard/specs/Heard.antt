@@ -5,7 +5,7 @@ use Rattle.trau_frame.specs.declared.frames.DownFrame.{DownFrame}
 use Rattle.down_framer.specs.ByNumber.{NumberedFrame}
 use Rattle.ccu_end.specs.Found.{FoundFrame}
 use Rattle.call_spec.specs.Call.{Call}
-use Rattle.call_spec.specs.Down.{made, down_frames}
+use Rattle.call_spec.specs.Down.{frames_of_call, down_frames}
 
 -- a made frame at its place, behind 320 ones and two bits for each octet of the Pcm line before its start, with what is
 -- sent in it
@@ -18,7 +18,7 @@ found_among call fs = map found_as (zip fs (down_frames call fs))
 
 -- all that the call makes
 abbrev pub found_of : Call → List FoundFrame
-found_of call = found_among call (made call)
+found_of call = found_among call (frames_of_call call)
 
 -- what is handed over in each period of its spans are 260 bits
 abbrev pub SpansHandFrames : Call → Type 0

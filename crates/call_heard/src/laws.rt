@@ -13,7 +13,7 @@ ghost use Rattle.call_leg.specs.Uplink.{handed_fields};
 ghost use Rattle.call_leg.specs.Periods.{CallPeriod, effective_now};
 ghost use Rattle.call_leg.specs.Down.{down_line, frame_now, frames_of};
 ghost use Rattle.call_spec.specs.Call.{Call, periods};
-ghost use Rattle.call_spec.specs.Down.{down, down_frames, made};
+ghost use Rattle.call_spec.specs.Down.{down, down_frames, frames_of_call};
 ghost use Rattle.call_spec.specs.Whole.{IsWhole};
 ghost use Rattle.run_spec.specs.Run.{Run, done_in};
 ghost use Rattle.run_calls_spec.specs.Whole.{whole_call};
@@ -42,15 +42,16 @@ pub fn frames_of_a_call_are_found()
     ensures found { (call : Call) → IsWhole call → SpansHandFrames call → Found (down call) (all_within (320 * periods call) (found_of call)) }
 
     // So a base station's end that is fed the line, period by period, gives these frames and no others.
-    ensures heard { (call : Call) (past : List (List ℕ)) (heard : List (List FoundFrame)) → IsWhole call → SpansHandFrames call → line_bits past ≡ down call → AreHeard past heard →
+    ensures heard { (call : Call) (past : List (List ℕ)) (heard : List (List FoundFrame)) →
+        IsWhole call → SpansHandFrames call → line_bits past ≡ down call → AreHeard past heard →
         all_of heard ≡ all_within (320 * periods call) (found_of call) }
 
     // Each made frame is sent.
-    ensures each { (call : Call) → IsWhole call → length (down_frames call (made call)) ≡ length (made call) }
+    ensures each { (call : Call) → IsWhole call → length (down_frames call (frames_of_call call)) ≡ length (frames_of_call call) }
 
     // The first stands at bit 320, and each further one 320 bits and two for each octet of the shift after the one before: so
     // each shift that is adopted moves the next place by exactly that shift.
-    ensures places { (call : Call) → IsWhole call → map (λ f. f.place) (found_of call) ≡ places_from 320 (map (λ f. f.shift) (made call)) }
+    ensures places { (call : Call) → IsWhole call → map (λ f. f.place) (found_of call) ≡ places_from 320 (map (λ f. f.shift) (frames_of_call call)) }
 {
     the_newest_is_the_last();
     the_table_looks_back();
@@ -68,9 +69,9 @@ pub fn frames_of_a_run_are_found()
         concat (reverse past) ≡ octets_of (down (whole_call r c)) → AreHeard past heard →
         all_of heard ≡ all_within (320 * periods (whole_call r c)) (found_of (whole_call r c)) }
     ensures each { (r : Run) (c : ℕ) → AreOrders r.orders → is_some (opened_at c (done_in r)) ≡ true →
-        length (down_frames (whole_call r c) (made (whole_call r c))) ≡ length (made (whole_call r c)) }
+        length (down_frames (whole_call r c) (frames_of_call (whole_call r c))) ≡ length (frames_of_call (whole_call r c)) }
     ensures places { (r : Run) (c : ℕ) → AreOrders r.orders → is_some (opened_at c (done_in r)) ≡ true →
-        map (λ f. f.place) (found_of (whole_call r c)) ≡ places_from 320 (map (λ f. f.shift) (made (whole_call r c))) }
+        map (λ f. f.place) (found_of (whole_call r c)) ≡ places_from 320 (map (λ f. f.shift) (frames_of_call (whole_call r c))) }
 {
     calls_are_whole();
     frames_of_a_call_are_found();

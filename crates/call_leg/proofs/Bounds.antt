@@ -2,7 +2,7 @@
 use Rattle.std.proofs.Common.{◌≡◌, ℕ, ◌+◌, ◌*◌, ◌≤◌, suc, ℤ, pos, Bool, ◌&&◌, if◌then◌else◌, nat_le, Option, Some, None, is_some, List, [], ◌∷◌, length, arith}
 use Rattle.std.specs.Prelude.{◌==◌}
 use Rattle.std.proofs.lemmas.Bool.{cond_both}
-use Rattle.down_framer.specs.Made.{Period, octets_of, next_start, due, fields_since, grown, next_frame, made_frames, epoch_of}
+use Rattle.down_framer.specs.Made.{Period, octets_to_next, next_start, handed_due, counted_fields, grown, next_frame, made_frames, epoch_of}
 use Rattle.time_align.specs.Shift.{latest_shift}
 use Rattle.down_framer.proofs.Timing.{AreMade-made_frames}
 use Rattle.call_leg.specs.Periods.{CallPeriod}
@@ -10,7 +10,8 @@ use Rattle.call_leg.specs.Down.{CallFrame, down_periods, frames_of}
 use Rattle.call_leg.specs.Places.{carried, in_u32, in_u64}
 use Rattle.call_leg.proofs.Enter.{length-down_periods}
 
-grown-at_most : (p : Period (List CallPeriod)) (past : List (Period (List CallPeriod))) (fs : List CallFrame) (n : ℕ) → length fs ≤ n → length (grown p past fs) ≤ n + 1
+grown-at_most : (p : Period (List CallPeriod)) (past : List (Period (List CallPeriod))) (fs : List CallFrame) (n : ℕ) → length fs ≤ n →
+    length (grown p past fs) ≤ n + 1
 grown-at_most p past fs n l =
     cond_both (nat_le (next_start fs) (160 * length past)) (next_frame p past fs ∷ fs) fs (λ gs. length gs ≤ n + 1) (λ y. omega arith) (λ n. omega arith)
 
@@ -25,14 +26,17 @@ pub frames-at_most : (ts : List CallPeriod) → length (frames_of ts) ≤ 2 * le
 frames-at_most ts = let n = length-down_periods ts in let m = made-at_most (down_periods ts) in omega arith
 
 -- a frame that carries a handed one takes 160 octets
-one_more : (o : Option ℕ) (v : ℤ) (b : Bool) (n start : ℕ) → 160 * n ≤ start → 160 * (if is_some o && b then suc n else n) ≤ start + octets_of (elim o as (λ x. ℤ) [ None ↦ v | Some h ↦ pos 0 ])
+one_more : (o : Option ℕ) (v : ℤ) (b : Bool) (n start : ℕ) → 160 * n ≤ start → 160 * (if is_some o && b then suc n else n) ≤ start + octets_to_next
+    (elim o as (λ x. ℤ) [ None ↦ v | Some h ↦ pos 0 ])
 one_more None v b n start l = omega arith
 one_more (Some h) v b n start l = cond_both b (suc n) n (λ k. 160 * k ≤ start + 160) (λ y. omega arith) (λ n. omega arith)
 
-grown-carried : (e : ℕ) (p : Period (List CallPeriod)) (past : List (Period (List CallPeriod))) (fs : List CallFrame) → 160 * carried e fs ≤ next_start fs → 160 * carried e (grown p past fs) ≤ next_start (grown p past fs)
+grown-carried : (e : ℕ) (p : Period (List CallPeriod)) (past : List (Period (List CallPeriod))) (fs : List CallFrame) → 160 * carried e fs ≤ next_start fs →
+    160 * carried e (grown p past fs) ≤ next_start (grown p past fs)
 grown-carried e p past fs l =
     cond_both (nat_le (next_start fs) (160 * length past)) (next_frame p past fs ∷ fs) fs (λ gs. 160 * carried e gs ≤ next_start gs)
-    (λ y. one_more (due (p ∷ past) fs) (latest_shift (fields_since (p ∷ past) fs)) (epoch_of (p ∷ past) == e) (carried e fs) (next_start fs) l) (λ n. l)
+    (λ y. one_more (handed_due (p ∷ past) fs) (latest_shift (counted_fields (p ∷ past) fs)) (epoch_of (p ∷ past) == e) (carried e fs) (next_start fs) l)
+    (λ n. l)
 
 made-carried : (e : ℕ) (ps : List (Period (List CallPeriod))) → 160 * carried e (made_frames ps) ≤ next_start (made_frames ps)
 made-carried e [] = omega arith

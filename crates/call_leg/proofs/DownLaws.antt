@@ -8,21 +8,26 @@ use Rattle.trau_frame.specs.declared.frames.DownFrame.TheVariants as frame
 use Rattle.trau_frame.specs.DownFrame as frames
 use Rattle.trau_frame.proofs.Again.{length-down_bits}
 use Rattle.rx_handler.specs.Origin.{EffectiveFields}
-use Rattle.fr_decoder.specs.Step as decoder
+use Rattle.fr_decoder.specs.Stands as decoder
 use Rattle.fr_encoder.specs.Encoded.{encoding_of}
-use Rattle.fr_encoder.specs.Step as encoder
+use Rattle.fr_encoder.specs.Stands as encoder
+use Rattle.fr_encoder.specs.Step.{encoded_frame}
 use Rattle.fr_encoder.proofs.Frames as encoding
 use Rattle.tx_dtx.specs.Stretch.{Coded}
 use Rattle.tx_dtx.specs.Sent.{sent_of}
-use Rattle.tx_dtx.specs.Step as tx
-use Rattle.tx_dtx.proofs.Table.{step-stands}
+use Rattle.tx_dtx.specs.Stands as tx
+use Rattle.tx_dtx.specs.Memory.{home_memory as tx_home}
+use Rattle.tx_dtx.specs.Step.{next_sent}
+use Rattle.tx_dtx.proofs.Sending.{step-stands}
 use Rattle.time_align.specs.Shift.{IsShift}
 use Rattle.time_align.specs.Memory as align
+use Rattle.time_align.specs.Step.{after_thaw, adopted}
 use Rattle.down_framer.specs.Made.{grown}
 use Rattle.down_framer.specs.Memory as framer
+use Rattle.down_framer.specs.Step.{after_put}
 use Rattle.down_framer.proofs.Calls.{put-holds, frame-holds, take-holds}
 use Rattle.down_framer.proofs.Timing.{IsShift-shift_due}
-use Rattle.down_framer.proofs.Waiting.{none_made, one_made}
+use Rattle.down_framer.proofs.Due.{none_made, one_made}
 use Rattle.trau_alaw.specs.declared.Law.{Law}
 use Rattle.trau_alaw.specs.Period.{expanded}
 use Rattle.call_leg.specs.Who.{Who}
@@ -31,8 +36,8 @@ use Rattle.call_leg.specs.Periods.{CallPeriod, pcm_of, quiet_now, handed_in, dtx
 use Rattle.call_leg.specs.Settings.{Settings, later, period_with}
 use Rattle.call_leg.specs.Down.{CallFrame, down_period, down_periods, frames_of, coded_stretch, samples_of, coded_as, coded_after, coded_frames, speech, frame_now, down_now}
 use Rattle.call_leg.specs.Waiting.{bits_in}
-use Rattle.call_leg.specs.Memory.{CoderMemory, home_coder, CoderStands, DownMemory, LegMemory}
-use Rattle.call_leg.specs.Places.{Halfway, Between}
+use Rattle.call_leg.specs.Memory.{CoderMemory, home_coder, DownMemory, LegMemory}
+use Rattle.call_leg.specs.Places.{CoderStands, Halfway, Between}
 use Rattle.call_leg.proofs.Inside.{Inside}
 use Rattle.call_leg.specs.Stands.{Stands, Midway}
 use Rattle.call_leg.specs.Step.{with_down, thawed, after_handing, own_next, next_by, frame_made, frame_tried, with_framer, down_worked}
@@ -46,12 +51,14 @@ use Rattle.call_leg.proofs.Upward.{plain-more}
 
 -- ---- the handing over
 
+-- one more waits where at most one did
 pub one_more : (q : List (List ℕ)) (x : List ℕ) → length q ≤ 1 → keep_last 2 (q ++ x ∷ []) ≡ q ++ x ∷ []
 one_more q x l =
     let n = length-append q (x ∷ []) in
     let z : length (q ++ x ∷ []) - 2 ≡ 0 = omega arith in
     ap (λ k. drop k (q ++ x ∷ [])) z
 
+-- **The handing over of a partner's frame.**
 pub handing-stands : (who : Who) (ts : List CallPeriod) (now : Settings) (up : List ℕ) (e : EffectiveFields) (m : LegMemory) → Midway who ts now up None m →
     Midway who ts now up (Some (bits260 (handed_fields e))) (with_down m (after_handing m.down e))
 handing-stands who ts now up e m h =
@@ -68,24 +75,31 @@ handing-stands who ts now up e m h =
 
 -- ---- the coder
 
-pub home_tx-stands : tx.Stands [] tx.home_memory
+-- the transmit side is at home ..
+pub home_tx-stands : tx.Stands [] tx_home
 home_tx-stands = record { run = refl; elapsed = refl; hangs = λ l. absurd (omega arith); sid = tt; recent = refl }
 
+-- .. and so is the coder
 home-stands : (law : Law) → CoderStands law [] home_coder
 home-stands law = record { encoder = encoding.home-stands; tx = home_tx-stands }
 
+-- the next frame of a stretch, where no handed one waits ..
 own-stands : (who : Who) (f : CallFrame) (fs : List CallFrame) (m : CoderMemory) (held : List ℕ) (quiet : Bool) (level : ℤ) (on : Bool) → f.carries ≡ None →
     quiet ≡ quiet_now who.number f.load → level ≡ level_now f.load → on ≡ dtx_now f.load → take 160 held ≡ take 160 (drop f.start (pcm_of f.load)) →
     CoderStands who.law (coded_stretch who.number f.epoch fs) m →
-    CoderStands who.law (coded_stretch who.number f.epoch (f ∷ fs)) (own_next who.law m held quiet level on).1 × ((own_next who.law m held quiet level on).0 ≡ frame_now who (f ∷ fs))
-own-stands who f fs m held true level on e eq el eo et h =
-    (subst (λ z. CoderStands who.law z home_coder) (sym (stretch-quiet who.number f.epoch f fs (sym eq))) (home-stands who.law), sym (frame-quiet who f fs e (sym eq)))
+    CoderStands who.law (coded_stretch who.number f.epoch (f ∷ fs)) (own_next who.law m held quiet level on).1 × ((own_next who.law m held quiet level on).0
+    ≡ frame_now who (f ∷ fs))
+own-stands who f fs m held true level on e eq el eo et h = (
+  subst (λ z. CoderStands who.law z home_coder) (sym (stretch-quiet who.number f.epoch f fs (sym eq))) (home-stands who.law),
+  sym
+      (frame-quiet who f fs e (sym eq)),
+)
 own-stands who f fs m held false level on e eq el eo et h =
     let before = coded_stretch who.number f.epoch fs in
     let rest = map (samples_of who.law) before in
     let x = expanded who.law (take 160 held) in
     let se : x ≡ samples_of who.law f = ap (expanded who.law) et in
-    let coded = encoder.encoded_frame m.encoder x in
+    let coded = encoded_frame m.encoder x in
     let enc = encoding.frame-stands x rest m.encoder h.encoder in
     let c : Coded = coded_as coded.0 level on in
     let one : c ≡ coded_after who.law f before =
@@ -94,7 +108,7 @@ own-stands who f fs m held false level on e eq el eo et h =
     let sent = step-stands c (coded_frames who.law before) m.tx h.tx in (
       subst (λ z. CoderStands who.law z (own_next who.law m held false level on).1) (sym (stretch-coded who.number f fs e (sym eq))) (record {
         encoder = subst (λ y. encoder.Stands (y ∷ rest) coded.1) se enc.0;
-        tx = subst (λ z. tx.Stands (z ∷ coded_frames who.law before) (tx.stepped m.tx c).1) one sent.0;
+        tx = subst (λ z. tx.Stands (z ∷ coded_frames who.law before) (next_sent m.tx c).1) one sent.0;
       }),
       ap speech (sent.1 ∙ ap (λ z. sent_of z (coded_frames who.law before)) one) ∙ sym (frame-coded who f fs e (sym eq)),
     )
@@ -108,11 +122,13 @@ one_carried : (ts : List CallPeriod) (o : Option ℕ) (x : List ℕ) → Some x 
 one_carried ts None x e = cc
 one_carried ts (Some h) x e = (h, refl, ap (λ o. unwrap_or o []) e)
 
+-- .. and whatever waits
 next-stands : (who : Who) (f : CallFrame) (fs : List CallFrame) (q : List (List ℕ)) (m : CoderMemory) (held : List ℕ) (quiet : Bool) (level : ℤ) (on : Bool) →
     slice_get q 0 ≡ bits_in f.load f.carries →
     quiet ≡ quiet_now who.number f.load → level ≡ level_now f.load → on ≡ dtx_now f.load → take 160 held ≡ take 160 (drop f.start (pcm_of f.load)) →
     CoderStands who.law (coded_stretch who.number f.epoch fs) m →
-    CoderStands who.law (coded_stretch who.number f.epoch (f ∷ fs)) (next_by who.law q m held quiet level on).1 × ((next_by who.law q m held quiet level on).0 ≡ frame_now who (f ∷ fs))
+    CoderStands who.law (coded_stretch who.number f.epoch (f ∷ fs)) (next_by who.law q m held quiet level on).1 × ((next_by who.law q m held quiet level on).0
+    ≡ frame_now who (f ∷ fs))
 next-stands who f fs [] m held quiet level on e eq el eo et h = own-stands who f fs m held quiet level on (none_carried f.load f.carries e) eq el eo et h
 next-stands who f fs (x ∷ more) m held quiet level on e eq el eo et h =
     let k = one_carried f.load f.carries x e in (
@@ -122,17 +138,19 @@ next-stands who f fs (x ∷ more) m held quiet level on e eq el eo et h =
 
 -- ---- the shifts
 
+-- thawing keeps the shift that was asked for ..
 pub thawed-kept : (m : align.AlignMemory) (bridged : Bool) (q : List (List ℕ)) → (thawed m bridged q).kept ≡ m.kept
 thawed-kept m bridged q = go (bridged || not (length q == 0))
   where
-    go : (b : Bool) → (if b then m else align.after_thaw m).kept ≡ m.kept
+    go : (b : Bool) → (if b then m else after_thaw m).kept ≡ m.kept
     go true = refl
     go false = refl
 
+-- .. and the shifts are frozen as long as a bridge is on or a frame waits
 pub thawed-frozen : (m : align.AlignMemory) (bridged : Bool) (q : List (List ℕ)) → (thawed m bridged q).frozen ≡ (m.frozen && (bridged || not (length q == 0)))
 thawed-frozen m bridged q = go m.frozen (bridged || not (length q == 0)) refl
   where
-    go : (f b : Bool) → m.frozen ≡ f → (if b then m else align.after_thaw m).frozen ≡ (f && b)
+    go : (f b : Bool) → m.frozen ≡ f → (if b then m else after_thaw m).frozen ≡ (f && b)
     go true true e = e
     go true false e = refl
     go false true e = e
@@ -140,7 +158,9 @@ thawed-frozen m bridged q = go m.frozen (bridged || not (length q == 0)) refl
 
 -- ---- frames are made
 
-made-inside : (who : Who) (t : CallPeriod) (past : List CallPeriod) (fs : List CallFrame) (d : DownMemory) → 160 ≤ length d.framer.held → Inside who t past fs d →
+-- a frame is made
+made-inside : (who : Who) (t : CallPeriod) (past : List CallPeriod) (fs : List CallFrame) (d : DownMemory) → 160 ≤ length d.framer.held →
+    Inside who t past fs d →
     Inside who t past (next t past fs ∷ fs) (frame_made d)
 unfolding frame_made
 made-inside who t past fs d r h =
@@ -148,18 +168,20 @@ made-inside who t past fs d r h =
     let on = dtx_in d.mode d.dtxd in
     let made = next_by d.law d.waiting d.coder d.framer.held d.quiet d.level on in
     let bits = frames.down_bits made.0 in
-    let adopted = align.adopted d.align in
+    let now = adopted d.align in
     let es = adopted-shift d.align in
-    let legal : IsShift adopted.0 = subst IsShift (sym (es ∙ shift_is who t past fs d h r)) (IsShift-shift_due (down_periods (t ∷ past)) fs) in
+    let legal : IsShift now.0 = subst IsShift (sym (es ∙ shift_is who t past fs d h r)) (IsShift-shift_due (down_periods (t ∷ past)) fs) in
     let sent = next-stands who f fs d.waiting d.coder d.framer.held d.quiet d.level on (waits-first (t ∷ past) fs d.waiting h.waits) h.quiet h.level
     (ap (λ m. dtx_in m d.dtxd) h.mode ∙ ap (λ u. dtx_in t.mode u) h.dtxd) (ap (take 160) h.places.held)
     (subst (λ e. CoderStands who.law (coded_stretch who.number e fs) d.coder) (sym (begun-same (t ∷ past))) h.coded) in
-    let fr = subst (λ (l : Law). let n = next_by l d.waiting d.coder d.framer.held d.quiet d.level on in CoderStands who.law (coded_stretch who.number f.epoch (f ∷ fs)) n.1 × (n.0 ≡ frame_now who (f ∷ fs))) (sym h.law) sent in
-    inside-next who t past fs d _ bits adopted.0 h r (length-down_bits made.0) (ap frames.down_bits fr.1) legal es refl fr.0
-    (thawed-kept adopted.1 d.bridged (drop 1 d.waiting) ∙ adopted-kept d.align)
-    (thawed-frozen adopted.1 d.bridged (drop 1 d.waiting) ∙ ap (λ z. z && (d.bridged || not (length (drop 1 d.waiting) == 0))) (adopted-frozen d.align))
-    (λ pcm line out start l p. frame-holds d.framer bits adopted.0 pcm line out start r l p) refl refl refl refl refl refl refl refl
+    let fr = subst (λ (l : Law). let n = next_by l d.waiting d.coder d.framer.held d.quiet d.level on in CoderStands who.law
+    (coded_stretch who.number f.epoch (f ∷ fs)) n.1 × (n.0 ≡ frame_now who (f ∷ fs))) (sym h.law) sent in
+    inside-next who t past fs d _ bits now.0 h r (length-down_bits made.0) (ap frames.down_bits fr.1) legal es refl fr.0
+    (thawed-kept now.1 d.bridged (drop 1 d.waiting) ∙ adopted-kept d.align)
+    (thawed-frozen now.1 d.bridged (drop 1 d.waiting) ∙ ap (λ z. z && (d.bridged || not (length (drop 1 d.waiting) == 0))) (adopted-frozen d.align))
+    (λ pcm line out start l p. frame-holds d.framer bits now.0 pcm line out start r l p) refl refl refl refl refl refl refl refl
 
+-- a frame is made if it has come
 tried-inside : (who : Who) (t : CallPeriod) (past : List CallPeriod) (fs : List CallFrame) (d : DownMemory) → Inside who t past fs d →
     Inside who t past (grown (down_period t past) (down_periods past) fs) (frame_tried d)
 tried-inside who t past fs d h =
@@ -169,27 +191,35 @@ tried-inside who t past fs d h =
       | inl l ↦ subst (λ gs. Inside who t past gs (frame_tried d)) (sym (none_made p ps fs (not_come who t past fs d h l)))
           (subst (Inside who t past fs) (sym (cond-false (nat_le 160 (length d.framer.held)) (frame_made d) d (lt-leb _ _ l))) h)
       | inr r ↦ subst (λ gs. Inside who t past gs (frame_tried d)) (sym (one_made p ps fs (come who t past fs d h r)))
-          (subst (Inside who t past (next t past fs ∷ fs)) (sym (cond-true (nat_le 160 (length d.framer.held)) (frame_made d) d (le-leb _ _ r))) (made-inside who t past fs d r h))
+          (subst (Inside who t past (next t past fs ∷ fs)) (sym (cond-true (nat_le 160 (length d.framer.held)) (frame_made d) d (le-leb _ _ r)))
+          (made-inside who t past fs d r h))
     ]
 
 -- ---- the downlink half
 
-pub half-stands : (who : Who) (ts : List CallPeriod) (now : Settings) (up pcm : List ℕ) (handed : Option (List ℕ)) (d : DownMemory) → length pcm ≡ 160 → is_some handed ≡ now.bridged →
+-- **The downlink half of a period, on its side ..**
+pub half-stands : (who : Who) (ts : List CallPeriod) (now : Settings) (up pcm : List ℕ) (handed : Option (List ℕ)) (d : DownMemory) → length pcm ≡ 160 →
+    is_some handed ≡ now.bridged →
     Halfway who ts now up handed d → Between who (period_with now up pcm handed ∷ ts) (later now) (down_worked d pcm).1
     × ((down_worked d pcm).0 ≡ down_now who (period_with now up pcm handed ∷ ts))
 unfolding down_worked
 half-stands who ts now up pcm handed d l b h =
     let t : CallPeriod = period_with now up pcm handed in
-    let put = with_framer d (framer.after_put d.framer pcm) in
-    let i0 = enter who ts now up handed pcm d put l b h (λ pcm0 line out start p. put-holds d.framer pcm pcm0 line out start l p) refl refl refl refl refl refl refl refl refl refl refl in
+    let put = with_framer d (after_put d.framer pcm) in
+    let i0 = enter who ts now up handed pcm d put l b h (λ pcm0 line out start p. put-holds d.framer pcm pcm0 line out start l p) refl refl refl refl refl refl
+    refl refl refl refl refl in
     let i1 = tried-inside who t ts (frames_of ts) put i0 in
-    let i2 : Inside who t ts (frames_of (t ∷ ts)) (frame_tried (frame_tried put)) = tried-inside who t ts (grown (down_period t ts) (down_periods ts) (frames_of ts)) (frame_tried put) i1 in
+    let i2 : Inside who t ts (frames_of (t ∷ ts)) (frame_tried (frame_tried put)) = tried-inside who t ts
+    (grown (down_period t ts) (down_periods ts) (frames_of ts)) (frame_tried put) i1 in
     let made = frame_tried (frame_tried put) in (
-      leave who ts now up handed pcm d made b h i2 _ (λ pcm0 line out start p. take-holds made.framer pcm0 line out start p) refl refl refl refl refl refl refl refl refl refl,
+      leave who ts now up handed pcm d made b h i2 _ (λ pcm0 line out start p. take-holds made.framer pcm0 line out start p) refl refl refl refl refl refl refl
+          refl refl refl,
       ap (take 320) i2.places.stored,
     )
 
-pub down-stands : (who : Who) (ts : List CallPeriod) (now : Settings) (up pcm : List ℕ) (handed : Option (List ℕ)) (m : LegMemory) → length pcm ≡ 160 → is_some handed ≡ now.bridged →
+-- **.. and on the leg.**
+pub down-stands : (who : Who) (ts : List CallPeriod) (now : Settings) (up pcm : List ℕ) (handed : Option (List ℕ)) (m : LegMemory) → length pcm ≡ 160 →
+    is_some handed ≡ now.bridged →
     Midway who ts now up handed m → Stands who (period_with now up pcm handed ∷ ts) (later now) (with_down m (down_worked m.down pcm).1)
     × ((down_worked m.down pcm).0 ≡ down_now who (period_with now up pcm handed ∷ ts))
 down-stands who ts now up pcm handed m l b h =

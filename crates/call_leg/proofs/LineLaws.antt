@@ -1,7 +1,7 @@
 -- How long the lines of a call are, and that the Down line is made of bits.
-use Rattle.std.proofs.Common.{◌≡◌, subst, ◌∙◌, ℕ, FitsSigned, w16, ◌+◌, ◌*◌, ◌/◌, ◌%◌, ◌^◌, ◌<◌, zero, suc, ℤ, pos, negsuc, true, if◌then◌else◌, nat_le, Option, Some, None, IfSome, unwrap_or, get_or, All, List, [], ◌∷◌, length, drop, replicate, arith, length-take, length-drop}
+use Rattle.std.proofs.Common.{◌≡◌, subst, ◌∙◌, ℕ, FitsSigned, w16, ◌*◌, ◌<◌, ℤ, pos, negsuc, true, if◌then◌else◌, nat_le, Option, Some, None, IfSome, unwrap_or, get_or, All, List, [], ◌∷◌, length, drop, replicate, arith, length-take, length-drop}
 use Rattle.std.specs.Prelude.{◌==◌}
-use Rattle.std.specs.List.{range_with_len, flat_map}
+use Rattle.std.specs.List.{range_with_len}
 use Rattle.std.proofs.lemmas.Bool.{cond_both}
 use Rattle.std.proofs.lemmas.List.{length-replicate, length-map}
 use Rattle.std.proofs.lemmas.List.Elements.{All-nil, All-cons, All-head, All-tail, All-replicate, All-append, All-map, All-take, All-drop}
@@ -15,9 +15,7 @@ use Rattle.trau_alaw.proofs.MuOctets as mu
 use Rattle.trau_alaw.proofs.Octets.{octet_of-only}
 use Rattle.trau_bits.specs.Bits.{AreBits}
 use Rattle.trau_params.specs.Fields.{Fields}
-use Rattle.trau_params.specs.Widths.{larc_widths, block_widths}
-use Rattle.trau_params.specs.FieldBits.{low_bits, field_bits}
-use Rattle.trau_params.specs.Bits260.{values_in, bits260}
+use Rattle.trau_params.proofs.AreBits.{AreBits-bits260}
 use Rattle.trau_frame.specs.declared.frames.DownFrame.{DownFrame}
 use Rattle.trau_frame.specs.declared.frames.DownFrame.TheVariants as frame
 use Rattle.trau_frame.specs.DownFrame.{HasBits, sp_of, down_control_bit, down_control, down_data, down_bits}
@@ -46,20 +44,24 @@ length-out_of who ts = length-decoded_octets who.law (plain_stretch who.number (
 pub length-down_now : (who : Who) (t : CallPeriod) (past : List CallPeriod) → length (down_now who (t ∷ past)) ≡ 320
 length-down_now who t past =
     let line = down_made who (frames_of (t ∷ past)) in
-    let far : 320 * length (down_periods (t ∷ past)) < length line = made-far (bits_now who) (λ fs. length-down_bits (frame_now who fs)) (down_periods (t ∷ past)) in
+    let far : 320 * length (down_periods (t ∷ past)) < length line = made-far (bits_now who) (λ fs. length-down_bits (frame_now who fs))
+    (down_periods (t ∷ past)) in
     let rest = length-drop (320 * length (down_periods past)) line in
     length-take 320 (drop (320 * length (down_periods past)) line) ∙ omega arith
 
 -- ---- octets
 
+-- an idle octet is an octet ..
 idle-is : (law : Law) → idle_of law < 256
 idle-is A = omega arith
 idle-is Mu = omega arith
 
+-- the intervals of each law part the samples
 parts : (law : Law) → PartsWords (companding law)
 parts A = a.parts
 parts Mu = mu.parts
 
+-- .. and so is each other
 octet-is : (law : Law) (x : ℤ) → FitsSigned w16 x → octet_of (companding law) x < 256
 octet-is law x f = let p = parts law x f in subst (λ n. n < 256) (octet_of-only (companding law) x p.0 p.1) p.1.is_octet
 
@@ -73,26 +75,7 @@ out_of-octets who ts = decoded-octets who.law (plain_stretch who.number (bridges
 
 -- ---- bits
 
-low_bits-are : (width value : ℕ) → AreBits (low_bits width value)
-unfolding low_bits
-low_bits-are width value = All-map (λ b. b < 2) (λ t. value / 2 ^ t % 2) (range_with_len 0 width) (λ k d h. omega arith)
-
-field_bits-are : (widths values : List ℕ) → AreBits (field_bits widths values)
-field_bits-are [] values = All-nil (λ b. b < 2)
-field_bits-are (w ∷ ws) [] = All-nil (λ b. b < 2)
-field_bits-are (w ∷ ws) (v ∷ vs) = All-append (λ b. b < 2) _ _ (low_bits-are w v) (field_bits-are ws vs)
-
-blocks-are : (f : ℕ → List ℕ) (first n : ℕ) → ((k : ℕ) → AreBits (f k)) → AreBits (flat_map f (range_with_len first n))
-blocks-are f first zero h = All-nil (λ b. b < 2)
-blocks-are f first (suc n) h = All-append (λ b. b < 2) _ _ (h first) (blocks-are f (first + 1) n h)
-
--- those of fields
-pub bits260-are : (f : Fields) → AreBits (bits260 f)
-unfolding bits260
-bits260-are f =
-    All-append (λ b. b < 2) _ _ (field_bits-are larc_widths f.larc)
-    (blocks-are (λ j. field_bits block_widths (values_in f j)) 0 4 (λ j. field_bits-are block_widths (values_in f j)))
-
+-- the bits of a frame
 sp-is : (f : DownFrame) → sp_of f < 2
 sp-is frame.Idle = omega arith
 sp-is (frame.Speech d sp) = cond_both sp 1 0 (λ b. b < 2) (λ y. omega arith) (λ n. omega arith)
@@ -109,12 +92,14 @@ data-are (frame.Speech d sp) h = h
 
 down_bits-are : (f : DownFrame) → HasBits f → AreBits (down_bits f)
 unfolding down_bits down_control
-down_bits-are f h = frame_bits-below (down_control f) (down_data f) (All-map (λ b. b < 2) (down_control_bit f) (range_with_len 1 21) (λ k d l. control-is f (get_or (range_with_len 1 21) k d))) (data-are f h)
+down_bits-are f h = frame_bits-below (down_control f) (down_data f) (All-map (λ b. b < 2) (down_control_bit f) (range_with_len 1 21)
+    (λ k d l. control-is f (get_or (range_with_len 1 21) k d))) (data-are f h)
 
 -- what is handed over in each period are bits
 abbrev pub HandBits : List CallPeriod → Type 0
 HandBits ts = All (λ t. IfSome t.handed (λ d. AreBits d)) ts
 
+-- what is handed over in a period
 unwrapped : (o : Option (List ℕ)) → IfSome o (λ d. AreBits d) → AreBits (unwrap_or o [])
 unwrapped None h = All-nil (λ b. b < 2)
 unwrapped (Some d) h = h
@@ -122,25 +107,28 @@ unwrapped (Some d) h = h
 handed-are : (h : ℕ) (ts : List CallPeriod) → HandBits ts → AreBits (handed_in h ts)
 handed-are h [] k = All-nil (λ b. b < 2)
 handed-are h (t ∷ past) k =
-    cond_both (h == length past) (unwrap_or t.handed []) (handed_in h past) (λ d. AreBits d) (λ y. unwrapped t.handed (All-head (λ t. IfSome t.handed (λ d. AreBits d)) t past k))
+    cond_both (h == length past) (unwrap_or t.handed []) (handed_in h past) (λ d. AreBits d)
+    (λ y. unwrapped t.handed (All-head (λ t. IfSome t.handed (λ d. AreBits d)) t past k))
     (λ n. handed-are h past (All-tail (λ t. IfSome t.handed (λ d. AreBits d)) t past k))
 
 -- each frame of a call is made of them
 abbrev pub LoadsHandBits : List CallFrame → Type 0
 LoadsHandBits fs = All (λ f. HandBits f.load) fs
 
+-- a frame that carries bits, or is coded, is one of bits
 frame-has : (who : Who) (fs : List CallFrame) → LoadsHandBits fs → HasBits (frame_now who fs)
 frame-has who [] k = tt
 frame-has who (f ∷ fs) k = go f.carries
   where
     go : (o : Option ℕ) → HasBits (elim o as (λ x. DownFrame) [
       | Some h ↦ frame.Speech (handed_in h f.load) true
-      | None ↦ if quiet_now who.number f.load then frame.Idle else speech (sent_of (coded_after who.law f (coded_stretch who.number f.epoch fs)) (coded_frames who.law (coded_stretch who.number f.epoch fs)))
+      | None ↦ if quiet_now who.number f.load then frame.Idle else speech (sent_of (coded_after who.law f (coded_stretch who.number f.epoch fs))
+          (coded_frames who.law (coded_stretch who.number f.epoch fs)))
     ])
     go (Some h) = handed-are h f.load (All-head (λ f. HandBits f.load) f fs k)
     go None =
         let s = sent_of (coded_after who.law f (coded_stretch who.number f.epoch fs)) (coded_frames who.law (coded_stretch who.number f.epoch fs)) in
-        cond_both (quiet_now who.number f.load) frame.Idle (speech s) HasBits (λ y. tt) (λ n. bits260-are s.fields)
+        cond_both (quiet_now who.number f.load) frame.Idle (speech s) HasBits (λ y. tt) (λ n. AreBits-bits260 s.fields)
 
 on_line-are : (v : ℤ) (bits : List ℕ) → AreBits bits → AreBits (frame_on_line v bits)
 on_line-are (pos v) bits h = All-append (λ b. b < 2) bits (replicate (2 * v) 1) h (All-replicate (λ b. b < 2) (2 * v) 1 (omega arith))
@@ -152,7 +140,8 @@ line-are who (f ∷ fs) k =
     All-append (λ b. b < 2) (down_made who fs) (frame_on_line f.shift (bits_now who (f ∷ fs))) (line-are who fs (All-tail (λ f. HandBits f.load) f fs k))
     (on_line-are f.shift (bits_now who (f ∷ fs)) (down_bits-are (frame_now who (f ∷ fs)) (frame-has who (f ∷ fs) k)))
 
-grown-loads : (t : CallPeriod) (past : List CallPeriod) (fs : List CallFrame) → HandBits (t ∷ past) → LoadsHandBits fs → LoadsHandBits (grown (down_period t past) (down_periods past) fs)
+grown-loads : (t : CallPeriod) (past : List CallPeriod) (fs : List CallFrame) → HandBits (t ∷ past) → LoadsHandBits fs →
+    LoadsHandBits (grown (down_period t past) (down_periods past) fs)
 grown-loads t past fs h k =
     cond_both (nat_le (next_start fs) (160 * length (down_periods past))) (next_frame (down_period t past) (down_periods past) fs ∷ fs) fs LoadsHandBits
     (λ y. All-cons (λ f. HandBits f.load) _ fs h k) (λ n. k)
@@ -166,4 +155,5 @@ loads (t ∷ past) h =
 pub down_now-bits : (who : Who) (ts : List CallPeriod) → HandBits ts → AreBits (down_now who ts)
 down_now-bits who [] h = All-nil (λ b. b < 2)
 down_now-bits who (t ∷ past) h =
-    All-take (λ b. b < 2) 320 _ (All-drop (λ b. b < 2) (320 * length (down_periods past)) (down_made who (frames_of (t ∷ past))) (line-are who (frames_of (t ∷ past)) (loads (t ∷ past) h)))
+    All-take (λ b. b < 2) 320 _ (All-drop (λ b. b < 2) (320 * length (down_periods past)) (down_made who (frames_of (t ∷ past)))
+    (line-are who (frames_of (t ∷ past)) (loads (t ∷ past) h)))

@@ -16,6 +16,7 @@ take_none : (m : ℕ) → nothing ≡ take m nothing
 take_none zero = refl
 take_none (suc m) = refl
 
+-- a longer front is a front and what is behind it
 take-more : (k n m : ℕ) (xs : List ℕ) → k ≡ n + m → take k xs ≡ take n xs ++ take m (drop n xs)
 take-more k zero m xs e = let f : k ≡ m = omega arith in ap (λ j. take j xs) f
 take-more zero (suc n) m xs e = absurd (omega arith)
@@ -31,19 +32,23 @@ grown-line who p past fs = go (nat_le (next_start fs) (160 * length past))
     go true = (frame_on_line (next_frame p past fs).shift (bits_now who (next_frame p past fs ∷ fs)), refl)
     go false = ([], sym (append-nil (down_made who fs)))
 
-made-line : (who : Who) (t : CallPeriod) (past : List CallPeriod) → (more : List ℕ) × (down_made who (frames_of (t ∷ past)) ≡ down_made who (frames_of past) ++ more)
+-- a period more only adds to it
+made-line : (who : Who) (t : CallPeriod) (past : List CallPeriod) →
+    (more : List ℕ) × (down_made who (frames_of (t ∷ past)) ≡ down_made who (frames_of past) ++ more)
 made-line who t past =
     let p = down_period t past in
     let one = grown-line who p (down_periods past) (frames_of past) in
     let two = grown-line who p (down_periods past) (grown p (down_periods past) (frames_of past)) in
     (one.0 ++ two.0, two.1 ∙ ap (λ z. z ++ two.0) one.1 ∙ append_assoc (down_made who (frames_of past)) one.0 two.0)
 
+-- **The Down line is the front of what is made.**
 pub line-is_made : (who : Who) (ts : List CallPeriod) → down_line who ts ≡ take (320 * length ts) (down_made who (frames_of ts))
 line-is_made who [] = refl
 line-is_made who (t ∷ past) =
     let n = length-down_periods past in
     let more = made-line who t past in
-    let far : 320 * length (down_periods past) < length (down_made who (frames_of past)) = made-far (bits_now who) (λ fs. length-down_bits (frame_now who fs)) (down_periods past) in
+    let far : 320 * length (down_periods past) < length (down_made who (frames_of past)) = made-far (bits_now who) (λ fs. length-down_bits (frame_now who fs))
+    (down_periods past) in
     let here : 320 * length (down_periods past) ≡ 320 * length past = omega arith in
     let same : take (320 * length past) (down_made who (frames_of (t ∷ past))) ≡ take (320 * length past) (down_made who (frames_of past)) =
     ap (take (320 * length past)) more.1 ∙ take-append-le (320 * length past) (down_made who (frames_of past)) more.0 (omega arith) in

@@ -5,14 +5,14 @@ use Rattle.std.proofs.lemmas.List.Elements.{All-head, All-tail, All-map, All-wea
 use Rattle.trau_frame.proofs.Again.{length-down_bits}
 use Rattle.down_framer.specs.Made.{next_start}
 use Rattle.down_framer.specs.Bridges.{IsHistory}
-use Rattle.down_framer.specs.ByNumber.{Bridge, NumberedFrame, when, numbered, numbered_of, numbered_start, numbered_next, AreInTime}
+use Rattle.down_framer.specs.ByNumber.{Bridge, NumberedFrame, when, numbered_frames, numbered_of, numbered_start, numbered_next, AreInTime}
 use Rattle.down_framer.proofs.FrameLaws.{in_time}
 use Rattle.down_framer.proofs.Numbers.{made-numbered}
 use Rattle.down_framer.proofs.Store.{length-line_of, AreInTurn-made_frames}
 use Rattle.call_leg.specs.Who.{Who}
 use Rattle.call_leg.specs.Periods.{CallPeriod}
 use Rattle.call_leg.specs.Down.{CallFrame, down_periods, frames_of, frame_now, bits_now, down_made}
-use Rattle.call_leg.specs.Numbered.{first_frames, start_of}
+use Rattle.call_leg.specs.Numbered.{first_frames, frame_start}
 use Rattle.call_leg.proofs.Enter.{length-down_periods}
 
 -- ---- the made frames, and the next one
@@ -26,7 +26,8 @@ next-ahead ts = let t = frames-in_time ts in t.next
 pub all-come : (ts : List CallPeriod) → All (λ f. f.start + 160 ≤ 160 * length ts) (frames_of ts)
 all-come ts =
     let t = frames-in_time ts in
-    All-weaker (λ (f : CallFrame). (f.period ≡ when f.start) × (f.start + 160 ≤ 160 * length ts)) (λ (f : CallFrame). f.start + 160 ≤ 160 * length ts) (λ f x. x.1) (frames_of ts) t.made
+    All-weaker (λ (f : CallFrame). (f.period ≡ when f.start) × (f.start + 160 ≤ 160 * length ts)) (λ (f : CallFrame). f.start + 160 ≤ 160 * length ts)
+    (λ f x. x.1) (frames_of ts) t.made
 
 pub length-made : (who : Who) (ts : List CallPeriod) → length (down_made who (frames_of ts)) ≡ 320 + 2 * next_start (frames_of ts)
 length-made who ts = length-line_of (bits_now who) (λ fs. length-down_bits (frame_now who fs)) (frames_of ts) (AreInTurn-made_frames (down_periods ts))
@@ -41,23 +42,26 @@ start-numbered : (fs : List CallFrame) → numbered_start (map numbered_of fs) �
 start-numbered [] = refl
 start-numbered (f ∷ fs) = refl
 
-pub start-next : (ts : List CallPeriod) → IsHistory (down_periods ts) → start_of ts (length (frames_of ts)) ≡ next_start (frames_of ts)
+pub start-next : (ts : List CallPeriod) → IsHistory (down_periods ts) → frame_start ts (length (frames_of ts)) ≡ next_start (frames_of ts)
 start-next ts h = ap numbered_start (sym (frames-numbered ts h)) ∙ start-numbered (frames_of ts)
 
 -- what holds of the starts of the first n frames holds of each start before
-each-start : (P : ℕ → Type 0) (bridges : List Bridge) (fields : List (Option ℕ)) (n j : ℕ) → j < n → All (λ (f : NumberedFrame). P f.start) (numbered bridges fields n) →
-    P (numbered_start (numbered bridges fields j))
+each-start : (P : ℕ → Type 0) (bridges : List Bridge) (fields : List (Option ℕ)) (n j : ℕ) → j < n → All (λ (f : NumberedFrame). P f.start)
+    (numbered_frames bridges fields n) →
+    P (numbered_start (numbered_frames bridges fields j))
 each-start P bridges fields zero j l h = absurd (omega arith)
 each-start P bridges fields (suc n) j l h =
-    let before = numbered bridges fields n in
+    let before = numbered_frames bridges fields n in
     elim (cases_lt j n) [
       | inl earlier ↦ each-start P bridges fields n j earlier (All-tail (λ (f : NumberedFrame). P f.start) (numbered_next bridges fields before) before h)
       | inr late ↦
           let e : n ≡ j = omega arith in
-          subst (λ k. P (numbered_start (numbered bridges fields k))) e (All-head (λ (f : NumberedFrame). P f.start) (numbered_next bridges fields before) before h)
+          subst (λ k. P (numbered_start (numbered_frames bridges fields k))) e
+          (All-head (λ (f : NumberedFrame). P f.start) (numbered_next bridges fields before)
+          before h)
     ]
 
-pub start-come : (ts : List CallPeriod) (j : ℕ) → IsHistory (down_periods ts) → j < length (frames_of ts) → start_of ts j + 160 ≤ 160 * length ts
+pub start-come : (ts : List CallPeriod) (j : ℕ) → IsHistory (down_periods ts) → j < length (frames_of ts) → frame_start ts j + 160 ≤ 160 * length ts
 start-come ts j h l =
     let P : NumberedFrame → Type 0 = λ f. f.start + 160 ≤ 160 * length ts in
     let all : All P (first_frames ts (length (frames_of ts))) = subst (All P) (frames-numbered ts h) (All-map P numbered_of (frames_of ts) (all-come ts)) in

@@ -4,27 +4,31 @@ use Rattle.std.proofs.lemmas.Bool.{true≢false}
 use Rattle.std.proofs.lemmas.List.Elements.{All-nil}
 use Rattle.trau_orders.specs.declared.order.DtxMode.{DtxMode}
 use Rattle.frame_sync.specs.Periods.{mode_after}
-use Rattle.frame_sync.specs.Step as search
+use Rattle.frame_sync.specs.Stands as search
+use Rattle.frame_sync.specs.Memory.{SyncMemory, home_memory as search_home}
 use Rattle.rx_handler.specs.Past.{anchor_of, drawn}
-use Rattle.rx_handler.specs.Table as rx
+use Rattle.rx_handler.specs.Stands as rx
+use Rattle.rx_handler.specs.Memory.{home_memory as rx_home}
 use Rattle.rx_muting.specs.Draws.{state_after}
-use Rattle.fr_decoder.specs.Step as decoder
+use Rattle.fr_decoder.specs.Stands as decoder
+use Rattle.fr_decoder.specs.Memory.{home_memory as decoder_home}
 use Rattle.fr_decoder.proofs.Frames as decoding
 use Rattle.fr_encoder.proofs.Frames as encoding
-use Rattle.down_framer.specs.Made.{due}
+use Rattle.down_framer.specs.Made.{handed_due}
 use Rattle.call_leg.specs.Who.{Who}
 use Rattle.call_leg.specs.Periods.{CallPeriod}
 use Rattle.call_leg.specs.Settings.{Settings, new_settings, with_level, with_mode, with_bridge, without_bridge}
 use Rattle.call_leg.specs.Down.{down_periods, frames_of}
-use Rattle.call_leg.specs.Memory.{LegMemory, periods_of_leg}
+use Rattle.call_leg.specs.Memory.{home_down, LegMemory, home_memory, periods_of_leg}
 use Rattle.call_leg.specs.Places.{Between}
 use Rattle.call_leg.specs.Stands.{Stands}
-use Rattle.call_leg.specs.Step.{home_down, home_leg, with_down, set_level, set_mode, bridge_begun, begin_bridge, bridge_over}
+use Rattle.call_leg.specs.Step.{with_down, set_level, set_mode, bridge_begun, begin_bridge, bridge_over}
 use Rattle.call_leg.proofs.Heard.{length-ups_of}
 use Rattle.call_leg.proofs.Numbered.{next-ahead, all-come, length-made}
 use Rattle.call_leg.proofs.Bridges.{plain-new, begins, ends}
 use Rattle.call_leg.proofs.DownLaws.{home_tx-stands, thawed-kept, thawed-frozen}
 
+-- the level is set
 pub level-stands : (who : Who) (ts : List CallPeriod) (now : Settings) (level : ℤ) (m : LegMemory) → Stands who ts now m →
     Stands who ts (with_level level now) (with_down m (set_level level m.down))
 level-stands who ts now level m h =
@@ -36,28 +40,31 @@ level-stands who ts now level m h =
       decoder = h.decoder;
       counts = h.counts;
       down = record {
-        law = d.law;
-        long = d.long;
-        history = d.history;
+        held = record {
+          law = d.law;
+          long = d.long;
+          history = d.history;
+          places = d.places;
+          frozen = d.frozen;
+          coded = d.coded;
+          sent = d.sent;
+          made = d.made;
+          level = refl;
+          mode = d.mode;
+          bridged = d.bridged;
+          alone = d.alone;
+          goes_on = d.goes_on;
+        };
         ahead = d.ahead;
         come = d.come;
         line = d.line;
-        places = d.places;
         waits = d.waits;
         kept = d.kept;
-        frozen = d.frozen;
-        coded = d.coded;
-        sent = d.sent;
-        made = d.made;
-        level = refl;
-        mode = d.mode;
         dtxd = d.dtxd;
-        bridged = d.bridged;
-        alone = d.alone;
-        goes_on = d.goes_on;
       };
     }
 
+-- the DTX mode is set
 pub mode-stands : (who : Who) (ts : List CallPeriod) (now : Settings) (mode : DtxMode) (m : LegMemory) → Stands who ts now m →
     Stands who ts (with_mode mode now) (with_down m (set_mode mode m.down))
 mode-stands who ts now mode m h =
@@ -69,39 +76,44 @@ mode-stands who ts now mode m h =
       decoder = h.decoder;
       counts = h.counts;
       down = record {
-        law = d.law;
-        long = d.long;
-        history = d.history;
+        held = record {
+          law = d.law;
+          long = d.long;
+          history = d.history;
+          places = d.places;
+          frozen = d.frozen;
+          coded = d.coded;
+          sent = d.sent;
+          made = d.made;
+          level = d.level;
+          mode = refl;
+          bridged = d.bridged;
+          alone = d.alone;
+          goes_on = d.goes_on;
+        };
         ahead = d.ahead;
         come = d.come;
         line = d.line;
-        places = d.places;
         waits = d.waits;
         kept = d.kept;
-        frozen = d.frozen;
-        coded = d.coded;
-        sent = d.sent;
-        made = d.made;
-        level = d.level;
-        mode = refl;
         dtxd = d.dtxd;
-        bridged = d.bridged;
-        alone = d.alone;
-        goes_on = d.goes_on;
       };
     }
 
-pub begin-stands : (who : Who) (ts : List CallPeriod) (now : Settings) (m : LegMemory) → due (down_periods ts) (frames_of ts) ≡ None → Stands who ts now m →
+-- a bridge begins
+pub begin-stands : (who : Who) (ts : List CallPeriod) (now : Settings) (m : LegMemory) → handed_due (down_periods ts) (frames_of ts) ≡ None →
+    Stands who ts now m →
     Stands who ts (with_bridge now) (begin_bridge m)
 begin-stands who ts now m n h = record {
   law = h.law;
   search = h.search;
   rx = h.rx;
-  decoder = subst (λ z. decoder.Stands z decoder.home_memory) (sym (plain-new who.number ts)) decoding.home-stands;
+  decoder = subst (λ z. decoder.Stands z decoder_home) (sym (plain-new who.number ts)) decoding.home-stands;
   counts = h.counts;
   down = begins who ts now m.down (bridge_begun m.down) n h.down refl refl encoding.home-stands home_tx-stands refl refl refl refl refl refl refl refl refl;
 }
 
+-- a bridge ends
 pub end-stands : (who : Who) (ts : List CallPeriod) (now : Settings) (m : LegMemory) → now.bridged ≡ true → Stands who ts now m →
     Stands who ts (without_bridge now) (with_down m (bridge_over m.down))
 end-stands who ts now m b h = record {
@@ -116,41 +128,45 @@ end-stands who ts now m b h = record {
 
 -- the search counts the periods
 pub periods-counted : (who : Who) (ts : List CallPeriod) (now : Settings) (m : LegMemory) → Stands who ts now m → periods_of_leg m ≡ length ts
-periods-counted who ts now m h = ap (λ (s : search.SyncMemory). s.periods) h.search.after ∙ length-ups_of ts
+periods-counted who ts now m h = ap (λ (s : SyncMemory). s.periods) h.search.after ∙ length-ups_of ts
 
 -- before the first period
 pub home-between : (who : Who) → Between who [] new_settings (home_down who.law)
 home-between who = record {
-  law = refl;
-  long = refl;
-  history = tt;
+  held = record {
+    law = refl;
+    long = refl;
+    history = tt;
+    places = record { held = refl; to_skip = refl; stored = refl };
+    frozen = refl;
+    coded = record { encoder = encoding.home-stands; tx = home_tx-stands };
+    sent = refl;
+    made = refl;
+    level = refl;
+    mode = refl;
+    bridged = refl;
+    alone = λ e. refl;
+    goes_on = λ e. absurd (true≢false (sym e));
+  };
   ahead = next-ahead [];
   come = all-come [];
   line = length-made who [];
-  places = record { held = refl; to_skip = refl; stored = refl };
   waits = record { each = λ n. refl };
   kept = refl;
-  frozen = refl;
-  coded = record { encoder = encoding.home-stands; tx = home_tx-stands };
-  sent = refl;
-  made = refl;
-  level = refl;
-  mode = refl;
   dtxd = refl;
-  bridged = refl;
-  alone = λ e. refl;
-  goes_on = λ e. absurd (true≢false (sym e));
 }
 
-home_search : search.Stands [] search.home_memory
+-- nothing was searched or heard yet
+home_search : search.Stands [] search_home
 unfolding mode_after search.last_bits
 home_search = record { periods = All-nil (λ o. length o ≡ 40); after = refl }
 
-home_rx : (call : ℕ) → rx.Stands call [] (rx.first_memory call)
+home_rx : (call : ℕ) → rx.Stands call [] (rx_home call)
 unfolding anchor_of drawn state_after
 home_rx call = record { state = refl; source = refl }
 
-pub new-stands : (who : Who) → Stands who [] new_settings (home_leg who)
+-- **A new leg stands for a call before its first period.**
+pub new-stands : (who : Who) → Stands who [] new_settings (home_memory who)
 new-stands who = record {
   law = refl;
   search = home_search;

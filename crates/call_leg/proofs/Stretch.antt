@@ -19,25 +19,31 @@ stretch-coded c f fs e q =
     cond-true (is_coded c f && f.epoch == f.epoch) (f ∷ coded_stretch c f.epoch fs) []
     (both (is_none f.carries) (not (quiet_now c f.load)) (f.epoch == f.epoch) (ap is_none e) (ap not q) (eq-eqb f.epoch f.epoch refl))
 
+-- the newest frame is coded, carries handed bits, or is idle
 pub frame-coded : (who : Who) (f : CallFrame) (fs : List CallFrame) → f.carries ≡ None → quiet_now who.number f.load ≡ false →
-    frame_now who (f ∷ fs) ≡ speech (sent_of (coded_after who.law f (coded_stretch who.number f.epoch fs)) (coded_frames who.law (coded_stretch who.number f.epoch fs)))
+    frame_now who (f ∷ fs) ≡ speech (sent_of (coded_after who.law f (coded_stretch who.number f.epoch fs))
+    (coded_frames who.law (coded_stretch who.number f.epoch fs)))
 frame-coded who f fs e q =
     ap (λ (o : Option ℕ). elim o as (λ x. DownFrame) [
       | Some h ↦ down.Speech (handed_in h f.load) true
-      | None ↦ if quiet_now who.number f.load then down.Idle else speech (sent_of (coded_after who.law f (coded_stretch who.number f.epoch fs)) (coded_frames who.law (coded_stretch who.number f.epoch fs)))
+      | None ↦ if quiet_now who.number f.load then down.Idle else speech (sent_of (coded_after who.law f (coded_stretch who.number f.epoch fs))
+          (coded_frames who.law (coded_stretch who.number f.epoch fs)))
     ]) e ∙
-    cond-false (quiet_now who.number f.load) down.Idle (speech (sent_of (coded_after who.law f (coded_stretch who.number f.epoch fs)) (coded_frames who.law (coded_stretch who.number f.epoch fs)))) q
+    cond-false (quiet_now who.number f.load) down.Idle
+    (speech (sent_of (coded_after who.law f (coded_stretch who.number f.epoch fs)) (coded_frames who.law (coded_stretch who.number f.epoch fs)))) q
 
 -- a frame that carries another one's ends it
 pub stretch-carries : (c epoch h : ℕ) (f : CallFrame) (fs : List CallFrame) → f.carries ≡ Some h → coded_stretch c epoch (f ∷ fs) ≡ []
 stretch-carries c epoch h f fs e =
     ap (λ (o : Option ℕ). if (is_none o && not (quiet_now c f.load)) && f.epoch == epoch then f ∷ coded_stretch c epoch fs else []) e
 
-pub frame-carries : (who : Who) (h : ℕ) (f : CallFrame) (fs : List CallFrame) → f.carries ≡ Some h → frame_now who (f ∷ fs) ≡ down.Speech (handed_in h f.load) true
+pub frame-carries : (who : Who) (h : ℕ) (f : CallFrame) (fs : List CallFrame) → f.carries ≡ Some h → frame_now who (f ∷ fs)
+    ≡ down.Speech (handed_in h f.load) true
 frame-carries who h f fs e =
     ap (λ (o : Option ℕ). elim o as (λ x. DownFrame) [
       | Some h ↦ down.Speech (handed_in h f.load) true
-      | None ↦ if quiet_now who.number f.load then down.Idle else speech (sent_of (coded_after who.law f (coded_stretch who.number f.epoch fs)) (coded_frames who.law (coded_stretch who.number f.epoch fs)))
+      | None ↦ if quiet_now who.number f.load then down.Idle else speech (sent_of (coded_after who.law f (coded_stretch who.number f.epoch fs))
+          (coded_frames who.law (coded_stretch who.number f.epoch fs)))
     ]) e
 
 -- a quiet period's frame ends it too
@@ -53,6 +59,8 @@ pub frame-quiet : (who : Who) (f : CallFrame) (fs : List CallFrame) → f.carrie
 frame-quiet who f fs e q =
     ap (λ (o : Option ℕ). elim o as (λ x. DownFrame) [
       | Some h ↦ down.Speech (handed_in h f.load) true
-      | None ↦ if quiet_now who.number f.load then down.Idle else speech (sent_of (coded_after who.law f (coded_stretch who.number f.epoch fs)) (coded_frames who.law (coded_stretch who.number f.epoch fs)))
+      | None ↦ if quiet_now who.number f.load then down.Idle else speech (sent_of (coded_after who.law f (coded_stretch who.number f.epoch fs))
+          (coded_frames who.law (coded_stretch who.number f.epoch fs)))
     ]) e ∙
-    cond-true (quiet_now who.number f.load) down.Idle (speech (sent_of (coded_after who.law f (coded_stretch who.number f.epoch fs)) (coded_frames who.law (coded_stretch who.number f.epoch fs)))) q
+    cond-true (quiet_now who.number f.load) down.Idle
+    (speech (sent_of (coded_after who.law f (coded_stretch who.number f.epoch fs)) (coded_frames who.law (coded_stretch who.number f.epoch fs)))) q

@@ -10,7 +10,7 @@ use Rattle.trau_frame.specs.DownFrame as frames
 use Rattle.fr_encoder.specs.Encoded.{Encoded, encoding_of}
 use Rattle.tx_dtx.specs.Stretch.{Coded, Sent}
 use Rattle.tx_dtx.specs.Sent.{sent_of}
-use Rattle.down_framer.specs.Made.{Period, MadeFrame, made_frames, line_of, down_of}
+use Rattle.down_framer.specs.Made.{Period, MadeFrame, made_frames, downlink_of, down_of}
 use Rattle.call_leg.specs.Who.{Who}
 use Rattle.call_leg.specs.Uplink.{field_of}
 use Rattle.call_leg.specs.Periods.{CallPeriod, sighting_after, pcm_of, quiet_now, handed_in, dtx_now, level_now}
@@ -75,7 +75,7 @@ bits_now who fs = frames.down_bits (frame_now who fs)
 
 -- the downlink as far as it is made
 abbrev pub down_made : Who → List CallFrame → List ℕ
-down_made who fs = line_of (bits_now who) fs
+down_made who fs = downlink_of (bits_now who) fs
 
 -- the 320 bits of the newest period
 abbrev pub down_now : Who → List CallPeriod → List ℕ

@@ -5,14 +5,19 @@ use Rattle.trau_frame.specs.declared.frames.Kind.{Kind}
 use Rattle.trau_frame.specs.declared.frames.Kind.TheVariants as kinds
 use Rattle.trau_io.specs.declared.ends.Counts.{Counts}
 use Rattle.trau_params.specs.Bits260.{bits260}
-use Rattle.frame_sync.specs.Step as search
+use Rattle.frame_sync.specs.Stands as search
+use Rattle.frame_sync.specs.Memory.{SyncMemory}
+use Rattle.frame_sync.specs.Step.{next_period}
 use Rattle.rx_handler.specs.declared.effective.Effective.{Effective}
 use Rattle.rx_handler.specs.Origin.{EffectiveFields}
 use Rattle.rx_handler.specs.Past.{effective_of}
 use Rattle.rx_handler.specs.State.{effective_fields}
-use Rattle.rx_handler.specs.Table as rx
-use Rattle.fr_decoder.specs.Step as decoder
-use Rattle.time_align.specs.Memory as align
+use Rattle.rx_handler.specs.Stands as rx
+use Rattle.rx_handler.specs.Memory.{RxMemory}
+use Rattle.rx_handler.specs.Step.{received}
+use Rattle.fr_decoder.specs.Stands as decoder
+use Rattle.fr_decoder.specs.Memory.{DecoderMemory}
+use Rattle.time_align.specs.Step as align
 use Rattle.call_leg.specs.Who.{Who}
 use Rattle.call_leg.specs.Uplink.{Sighting, Nothing, Missed, Framed, sighting_in, heard_as, field_of, is_quiet, handed_fields}
 use Rattle.call_leg.specs.Periods.{CallPeriod, ups_of, sighting_after, heard_of}
@@ -27,9 +32,9 @@ use Rattle.call_leg.specs.Step.{played, after_handing, down_worked}
 -- the uplink half: what a leg keeps beside its downlink side, and whether a bridge is on
 pub record UpMemory : Type 0 where
   pub law : Law
-  pub search : search.SyncMemory
-  pub rx : rx.RxMemory
-  pub decoder : decoder.DecoderMemory
+  pub search : SyncMemory
+  pub rx : RxMemory
+  pub decoder : DecoderMemory
   pub counts : Counts
   pub bridged : Bool
 
@@ -70,8 +75,8 @@ note_in call ts up = note_of (sighting_after ts up) (effective_of call (heard_as
 -- the note, the octets of the Out line, and the memory after them
 unfoldable pub up_turned : UpMemory → List ℕ → Note × List ℕ × UpMemory
 up_turned u up =
-    let found = search.next_period u.search up in
-    let heard = rx.received u.rx (heard_as (sighting_in found.0)) in
+    let found = next_period u.search up in
+    let heard = received u.rx (heard_as (sighting_in found.0)) in
     let out = played u.law u.decoder heard.0 (not u.bridged) in (
       note_of (sighting_in found.0) heard.0,
       out.0,

@@ -1,18 +1,20 @@
 -- What a leg keeps.
-use Rattle.std.specs.Prelude.{ℕ, ℤ, Bool, List, map}
+use Rattle.std.specs.Prelude.{ℕ, ℤ, pos, Bool, true, false, List, []}
 use Rattle.trau_alaw.specs.declared.Law.{Law}
 use Rattle.trau_orders.specs.declared.order.DtxMode.{DtxMode}
+use Rattle.trau_orders.specs.declared.order.DtxMode.TheVariants.{Uplink}
 use Rattle.trau_io.specs.declared.ends.Counts.{Counts}
-use Rattle.frame_sync.specs.Step.{SyncMemory}
-use Rattle.rx_handler.specs.Table.{RxMemory}
-use Rattle.fr_decoder.specs.Step.{DecoderMemory}
-use Rattle.fr_encoder.specs.Step as encoder
-use Rattle.tx_dtx.specs.Step as tx
-use Rattle.down_framer.specs.Memory.{FramerMemory}
-use Rattle.time_align.specs.Memory.{AlignMemory}
-use Rattle.call_leg.specs.Down.{CallFrame, samples_of, coded_frames}
+use Rattle.frame_sync.specs.Memory as search
+use Rattle.rx_handler.specs.Memory as rx
+use Rattle.fr_decoder.specs.Memory as decoder
+use Rattle.fr_encoder.specs.Memory as encoder
+use Rattle.tx_dtx.specs.Memory as tx
+use Rattle.down_framer.specs.Memory as framer
+use Rattle.time_align.specs.Memory as align
+use Rattle.call_leg.specs.Who.{Who}
+use Rattle.call_leg.specs.Counted.{no_counts}
 use Rattle.call_leg.specs.declared.coder.Coder.{Coder}
-use Rattle.call_leg.specs.declared.side.DownSide.{DownSide}
+use Rattle.call_leg.specs.declared.down_side.DownSide.{DownSide}
 
 -- the encoder, and what sends its frames
 pub record CoderMemory : Type 0 where
@@ -23,18 +25,13 @@ pub record CoderMemory : Type 0 where
 abbrev pub home_coder : CoderMemory
 home_coder = record { encoder = encoder.home_memory; tx = tx.home_memory }
 
--- both ran from home over the coded frames of a stretch, whose octets are of this law
-pub record CoderStands (law : Law) (stretch : List CallFrame) (m : CoderMemory) : Type 0 where
-  pub encoder : encoder.Stands (map (samples_of law) stretch) m.encoder
-  pub tx : tx.Stands (coded_frames law stretch) m.tx
-
 -- the downlink side: the call's law, the bits in store and the octets held, the shift that was asked for, the handed
 -- frames that wait, the coder, the settings, DTXd of the last speech frame, whether this period is quiet and lies in a
 -- bridge, how many handed frames of the latest bridge were sent, and how many frames were made
 pub record DownMemory : Type 0 where
   pub law : Law
-  pub framer : FramerMemory
-  pub align : AlignMemory
+  pub framer : framer.FramerMemory
+  pub align : align.AlignMemory
   pub waiting : List (List ℕ)
   pub coder : CoderMemory
   pub level : ℤ
@@ -45,14 +42,42 @@ pub record DownMemory : Type 0 where
   pub sent : ℕ
   pub made : ℕ
 
+-- that of a new call, whose octets are of this law
+abbrev pub home_down : Law → DownMemory
+home_down law = record {
+  law = law;
+  framer = framer.home_memory;
+  align = align.home_memory;
+  waiting = [];
+  coder = home_coder;
+  level = pos 256;
+  mode = Uplink;
+  dtxd = false;
+  quiet = true;
+  bridged = false;
+  sent = 0;
+  made = 0;
+}
+
 -- a leg: the call's law, what the way up keeps, and the downlink side
 pub record LegMemory : Type 0 where
   pub law : Law
-  pub search : SyncMemory
-  pub rx : RxMemory
-  pub decoder : DecoderMemory
+  pub search : search.SyncMemory
+  pub rx : rx.RxMemory
+  pub decoder : decoder.DecoderMemory
   pub counts : Counts
   pub down : DownMemory
+
+-- that of a new call
+abbrev pub home_memory : Who → LegMemory
+home_memory who = record {
+  law = who.law;
+  search = search.home_memory;
+  rx = rx.home_memory who.number;
+  decoder = decoder.home_memory;
+  counts = no_counts;
+  down = home_down who.law;
+}
 
 -- how many periods the leg has had: its search counts them
 abbrev pub periods_of_leg : LegMemory → ℕ

@@ -1,6 +1,6 @@
 -- The Out line of a call: what its uplink says, decoded (GSM 06.10; when nothing is decoded is this project's profile).
 -- Lists have the newest period first.
-use Rattle.std.specs.Prelude.{ℕ, Bool, if◌then◌else◌, not, ◌&&◌, ◌==◌, is_some, List, [], ◌∷◌, replicate}
+use Rattle.std.specs.Prelude.{ℕ, Bool, if◌then◌else◌, not, ◌&&◌, ◌==◌, is_some, List, [], ◌∷◌, ◌++◌, replicate}
 use Rattle.trau_alaw.specs.declared.Law.{Law}
 use Rattle.trau_alaw.specs.Laws.{idle_of}
 use Rattle.trau_alaw.specs.Period.{compressed}
@@ -35,3 +35,8 @@ decoded_octets law (p ∷ before) = compressed law (samples_of p before)
 -- the 160 octets of the newest period: decoded where it is plain, and idle by the call's law where it isn't
 abbrev pub out_of : Who → List CallPeriod → List ℕ
 out_of who ts = decoded_octets who.law (plain_stretch who.number (bridges_begun ts) ts)
+
+-- the Out line of a call that had these periods, the first octet first
+abbrev pub out_line : Who → List CallPeriod → List ℕ
+out_line who [] = []
+out_line who (t ∷ past) = out_line who past ++ out_of who (t ∷ past)

@@ -1,17 +1,20 @@
--- The law of places: what the downlink side of a leg holds, by the periods so far. Lists have the newest first.
-use Rattle.std.specs.Prelude.{◌≡◌, ℕ, ◌+◌, ◌*◌, ◌<◌, ◌≤◌, true, not, ◌&&◌, ◌||◌, ◌==◌, if◌then◌else◌, Bool, Option, None, is_some, List, [], ◌∷◌, ◌++◌, length, All, option_to_list, suc, min}
+-- The law of places: what the downlink side of a leg stands for, by the periods so far. Lists have the newest first.
+use Rattle.std.specs.Prelude.{◌≡◌, ℕ, ◌+◌, ◌*◌, ◌<◌, ◌≤◌, true, not, ◌&&◌, ◌||◌, ◌==◌, if◌then◌else◌, Bool, Option, None, is_some, List, [], ◌∷◌, ◌++◌, length, map, All, option_to_list, suc, min}
+use Rattle.trau_alaw.specs.declared.Law.{Law}
+use Rattle.fr_encoder.specs.Stands as encoder
+use Rattle.tx_dtx.specs.Stands as tx
 use Rattle.time_align.specs.Shift.{latest_ask}
-use Rattle.down_framer.specs.Made.{next_start, due, fields_since}
+use Rattle.down_framer.specs.Made.{next_start, handed_due, counted_fields}
 use Rattle.down_framer.specs.Bridges.{IsHistory, in_bridge}
-use Rattle.down_framer.specs.Places.{Holds}
+use Rattle.down_framer.specs.Stands.{Holds}
 use Rattle.call_leg.specs.Who.{Who}
 use Rattle.call_leg.specs.Uplink.{field_of, is_quiet, dtxd_after, heard_as}
 use Rattle.call_leg.specs.Periods.{CallPeriod, pcm_of, sighting_after, heard_of, dtxd_of}
 use Rattle.rx_handler.specs.Past.{effective_of}
 use Rattle.call_leg.specs.Settings.{Settings, epoch_now}
-use Rattle.call_leg.specs.Down.{CallFrame, down_periods, frames_of, coded_stretch, down_made}
+use Rattle.call_leg.specs.Down.{CallFrame, down_periods, frames_of, samples_of, coded_frames, coded_stretch, down_made}
 use Rattle.call_leg.specs.Waiting.{Waits}
-use Rattle.call_leg.specs.Memory.{DownMemory, CoderStands}
+use Rattle.call_leg.specs.Memory.{CoderMemory, DownMemory}
 
 -- how many frames of the bridge with this number carry a handed one
 abbrev pub carried : ℕ → List CallFrame → ℕ
@@ -24,7 +27,7 @@ sent_now ts now = carried (epoch_now ts now) (frames_of ts)
 
 -- a handed frame waits after the bridge
 abbrev pub is_draining : List CallPeriod → Settings → Bool
-is_draining ts now = not now.bridged && is_some (due (down_periods ts) (frames_of ts))
+is_draining ts now = not now.bridged && is_some (handed_due (down_periods ts) (frames_of ts))
 
 -- counts end where their types do
 abbrev pub in_u32 : ℕ → ℕ
@@ -33,54 +36,54 @@ in_u32 n = min n 4294967295
 abbrev pub in_u64 : ℕ → ℕ
 in_u64 n = min n 18446744073709551615
 
--- Between periods, after all these, with the settings `now` for the next one.
-pub record Between (who : Who) (ts : List CallPeriod) (now : Settings) (d : DownMemory) : Type 0 where
+-- the encoder, and what sends its frames, ran from home over the coded frames of a stretch, whose octets are of this law
+pub record CoderStands (law : Law) (stretch : List CallFrame) (m : CoderMemory) : Type 0 where
+  pub encoder : encoder.Stands (map (samples_of law) stretch) m.encoder
+  pub tx : tx.Stands (coded_frames law stretch) m.tx
+
+-- What the downlink side holds between periods, after all these, with the settings `now` for the next one, and still holds
+-- when that one's octets of the Up line were heard.
+pub record DownStands (who : Who) (ts : List CallPeriod) (now : Settings) (d : DownMemory) : Type 0 where
   pub law : d.law ≡ who.law
   pub long : length (pcm_of ts) ≡ 160 * length (down_periods ts)
   pub history : IsHistory (down_periods ts)
-  -- as many frames are made as the least number of a frame whose 160 octets haven't all come: the next one's haven't ..
-  pub ahead : 160 * length ts < next_start (frames_of ts) + 160
-  -- .. and those of each made frame have
-  pub come : All (λ f. f.start + 160 ≤ 160 * length ts) (frames_of ts)
-  -- the downlink made so far: 320 bits, and two for each octet before the next frame
-  pub line : length (down_made who (frames_of ts)) ≡ 320 + 2 * next_start (frames_of ts)
   -- held are the octets of the Pcm line from the next frame's start on, or so many are to be skipped as it lies past
   -- the line; in store is what is made of the downlink and not yet out
   pub places : Holds (pcm_of ts) (down_made who (frames_of ts)) (320 * length (down_periods ts)) (next_start (frames_of ts)) d.framer
-  -- what was handed over in the latest bridge and no frame has carried yet
-  pub waits : Waits ts (frames_of ts) d.waiting
-  -- the shift asked for last since the last frame that carried nothing
-  pub kept : d.align.kept ≡ latest_ask (fields_since (down_periods ts) (frames_of ts))
   -- shifts are frozen within a bridge, and as long as a frame waits
-  pub frozen : d.align.frozen ≡ (now.bridged || is_some (due (down_periods ts) (frames_of ts)))
+  pub frozen : d.align.frozen ≡ (now.bridged || is_some (handed_due (down_periods ts) (frames_of ts)))
   -- the coder ran over the stretch that the next frame goes on with
   pub coded : CoderStands who.law (coded_stretch who.number (epoch_now ts now) (frames_of ts)) d.coder
   pub sent : d.sent ≡ in_u32 (sent_now ts now)
   pub made : d.made ≡ in_u64 (length (frames_of ts))
   pub level : d.level ≡ now.level
   pub mode : d.mode ≡ now.mode
-  pub dtxd : d.dtxd ≡ dtxd_of ts
   pub bridged : d.bridged ≡ now.bridged
   -- a bridge starts only where no frame waits, and goes on without a gap
-  pub alone : now.starts ≡ true → due (down_periods ts) (frames_of ts) ≡ None
+  pub alone : now.starts ≡ true → handed_due (down_periods ts) (frames_of ts) ≡ None
   pub goes_on : now.bridged ≡ true → (now.starts || in_bridge (down_periods ts)) ≡ true
 
--- Between the halves of a period: its octets of the Up line are heard, and `handed` is handed over.
+-- between periods
+pub record Between (who : Who) (ts : List CallPeriod) (now : Settings) (d : DownMemory) : Type 0 where
+  pub held : DownStands who ts now d
+  pub open held use *
+  -- as many frames are made as the least number of a frame whose 160 octets haven't all come: the next one's haven't ..
+  pub ahead : 160 * length ts < next_start (frames_of ts) + 160
+  -- .. and those of each made frame have
+  pub come : All (λ f. f.start + 160 ≤ 160 * length ts) (frames_of ts)
+  -- the downlink made so far: 320 bits, and two for each octet before the next frame
+  pub line : length (down_made who (frames_of ts)) ≡ 320 + 2 * next_start (frames_of ts)
+  -- what was handed over in the latest bridge and no frame has carried yet
+  pub waits : Waits ts (frames_of ts) d.waiting
+  -- the shift asked for last since the last frame that carried nothing
+  pub kept : d.align.kept ≡ latest_ask (counted_fields (down_periods ts) (frames_of ts))
+  pub dtxd : d.dtxd ≡ dtxd_of ts
+
+-- between the halves of a period: its octets of the Up line are heard, and `handed` is handed over
 pub record Halfway (who : Who) (ts : List CallPeriod) (now : Settings) (up : List ℕ) (handed : Option (List ℕ)) (d : DownMemory) : Type 0 where
-  pub law : d.law ≡ who.law
-  pub long : length (pcm_of ts) ≡ 160 * length (down_periods ts)
-  pub history : IsHistory (down_periods ts)
-  pub places : Holds (pcm_of ts) (down_made who (frames_of ts)) (320 * length (down_periods ts)) (next_start (frames_of ts)) d.framer
+  pub held : DownStands who ts now d
+  pub open held use *
   pub waits : (before : List (List ℕ)) × Waits ts (frames_of ts) before × (d.waiting ≡ before ++ option_to_list handed)
-  pub kept : d.align.kept ≡ latest_ask (field_of (sighting_after ts up) ∷ fields_since (down_periods ts) (frames_of ts))
-  pub frozen : d.align.frozen ≡ (now.bridged || is_some (due (down_periods ts) (frames_of ts)))
-  pub coded : CoderStands who.law (coded_stretch who.number (epoch_now ts now) (frames_of ts)) d.coder
-  pub sent : d.sent ≡ in_u32 (sent_now ts now)
-  pub made : d.made ≡ in_u64 (length (frames_of ts))
-  pub level : d.level ≡ now.level
-  pub mode : d.mode ≡ now.mode
+  pub kept : d.align.kept ≡ latest_ask (field_of (sighting_after ts up) ∷ counted_fields (down_periods ts) (frames_of ts))
   pub dtxd : d.dtxd ≡ dtxd_after (sighting_after ts up) (dtxd_of ts)
   pub quiet : d.quiet ≡ is_quiet (effective_of who.number (heard_as (sighting_after ts up) ∷ heard_of ts))
-  pub bridged : d.bridged ≡ now.bridged
-  pub alone : now.starts ≡ true → due (down_periods ts) (frames_of ts) ≡ None
-  pub goes_on : now.bridged ≡ true → (now.starts || in_bridge (down_periods ts)) ≡ true

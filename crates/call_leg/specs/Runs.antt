@@ -8,7 +8,7 @@ use Rattle.rx_handler.specs.Origin.{EffectiveFields, Quiet}
 use Rattle.call_leg.specs.Who.{Who}
 use Rattle.call_leg.specs.Uplink.{handed_fields}
 use Rattle.call_leg.specs.Periods.{CallPeriod}
-use Rattle.call_leg.specs.Settings.{Settings, later, period_with}
+use Rattle.call_leg.specs.Settings.{Settings, settings_at, period_with}
 use Rattle.call_leg.specs.Out.{out_of}
 use Rattle.call_leg.specs.Down.{down_now}
 use Rattle.call_leg.specs.Halves.{Note, note_in}
@@ -19,15 +19,10 @@ pub record LegHistory : Type 0 where
   pub past : List CallPeriod
   pub now : Settings
 
--- what is set for the period of place k
-abbrev pub settings_run : ℕ → Settings → Settings
-settings_run zero now = now
-settings_run (suc k) now = later (settings_run k now)
-
 -- the periods after the first k places, with these octets of the incoming lines and what is handed over in each
 abbrev pub periods_run : LegHistory → (ℕ → List ℕ) → (ℕ → List ℕ) → (ℕ → Option (List ℕ)) → ℕ → List CallPeriod
 periods_run h ups pcms handed zero = h.past
-periods_run h ups pcms handed (suc k) = period_with (settings_run k h.now) (ups k) (pcms k) (handed k) ∷ periods_run h ups pcms handed k
+periods_run h ups pcms handed (suc k) = period_with (settings_at k h.now) (ups k) (pcms k) (handed k) ∷ periods_run h ups pcms handed k
 
 -- their octets of the Out line, the oldest first, and those of the Down line
 abbrev pub outs_run : LegHistory → (ℕ → List ℕ) → (ℕ → List ℕ) → (ℕ → Option (List ℕ)) → ℕ → List ℕ
@@ -61,7 +56,8 @@ handed_run h items k = if h.now.bridged && nat_lt k (length items) then Some (bi
 
 -- the notes are those that these octets of the Up line tell
 abbrev pub AreNotes : LegHistory → (ℕ → List ℕ) → (ℕ → List ℕ) → List EffectiveFields → ℕ → List Note → Type 0
-AreNotes h ups pcms items n notes = (k : ℕ) (none : Note) → k < n → get_or notes k none ≡ note_in h.who.number (periods_run h ups pcms (handed_run h items) k) (ups k)
+AreNotes h ups pcms items n notes = (k : ℕ) (none : Note) → k < n → get_or notes k none ≡ note_in h.who.number (periods_run h ups pcms (handed_run h items) k)
+    (ups k)
 
 -- The run of a downlink half: the Down octets that these octets of the Pcm line give after the history of the leg, with
 -- these notes and items, whichever octets of the Up line told the notes.

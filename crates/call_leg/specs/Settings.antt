@@ -1,5 +1,5 @@
 -- What is set for the next period of a call. Lists have the newest period first.
-use Rattle.std.specs.Prelude.{ℕ, ℤ, pos, Bool, true, false, if◌then◌else◌, Option, List, suc}
+use Rattle.std.specs.Prelude.{ℕ, ℤ, pos, Bool, true, false, if◌then◌else◌, Option, List, zero, suc}
 use Rattle.trau_orders.specs.declared.order.DtxMode.{DtxMode}
 use Rattle.trau_orders.specs.declared.order.DtxMode.TheVariants.{Uplink}
 use Rattle.call_leg.specs.Periods.{CallPeriod, bridges_begun}
@@ -15,10 +15,16 @@ pub record Settings : Type 0 where
 abbrev pub new_settings : Settings
 new_settings = record { level = pos 256; mode = Uplink; starts = false; bridged = false }
 
--- after one more period, and after each order
+-- after one more period
 abbrev pub later : Settings → Settings
 later now = record { level = now.level; mode = now.mode; starts = false; bridged = now.bridged }
 
+-- after k more
+abbrev pub settings_at : ℕ → Settings → Settings
+settings_at zero now = now
+settings_at (suc k) now = later (settings_at k now)
+
+-- after each order
 abbrev pub with_level : ℤ → Settings → Settings
 with_level level now = record { level = level; mode = now.mode; starts = now.starts; bridged = now.bridged }
 

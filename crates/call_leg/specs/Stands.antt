@@ -1,9 +1,9 @@
 -- What a leg stands for.
 use Rattle.std.specs.Prelude.{◌≡◌, ℕ, not, Option, List, ◌∷◌}
-use Rattle.frame_sync.specs.Step as search
-use Rattle.rx_handler.specs.Table as rx
+use Rattle.frame_sync.specs.Stands as search
+use Rattle.rx_handler.specs.Stands as rx
 use Rattle.rx_handler.specs.Past.{effective_of}
-use Rattle.fr_decoder.specs.Step as decoder
+use Rattle.fr_decoder.specs.Stands as decoder
 use Rattle.call_leg.specs.Who.{Who}
 use Rattle.call_leg.specs.Uplink.{heard_as}
 use Rattle.call_leg.specs.Periods.{CallPeriod, ups_of, sighting_after, heard_of}
@@ -31,6 +31,7 @@ pub record Midway (who : Who) (ts : List CallPeriod) (now : Settings) (up : List
   pub law : m.law ≡ who.law
   pub search : search.Stands (up ∷ ups_of ts) m.search
   pub rx : rx.Stands who.number (heard_as (sighting_after ts up) ∷ heard_of ts) m.rx
-  pub decoder : decoder.Stands (plain_with (effective_of who.number (heard_as (sighting_after ts up) ∷ heard_of ts)) (not now.bridged) (plain_stretch who.number (epoch_now ts now) ts)) m.decoder
+  pub decoder : decoder.Stands (plain_with (effective_of who.number (heard_as (sighting_after ts up) ∷ heard_of ts)) (not now.bridged)
+      (plain_stretch who.number (epoch_now ts now) ts)) m.decoder
   pub counts : m.counts ≡ counted (sighting_after ts up) (sightings_counted ts)
   pub down : Halfway who ts now up handed m.down

@@ -1,59 +1,41 @@
--- A leg from call to call.
-use Rattle.std.specs.Prelude.{ℕ, ◌+◌, ℤ, pos, Bool, true, false, not, ◌||◌, ◌==◌, nat_le, if◌then◌else◌, Option, Some, None, List, [], ◌∷◌, ◌++◌, length, take, drop}
+-- What each operation of a leg makes of its memory.
+use Rattle.std.specs.Prelude.{ℕ, ◌+◌, ℤ, Bool, true, false, not, ◌||◌, ◌==◌, nat_le, if◌then◌else◌, Option, Some, None, List, [], ◌∷◌, ◌++◌, length, take, drop}
 use Rattle.circular_buffer.specs.Buffer.{keep_last}
 use Rattle.trau_alaw.specs.declared.Law.{Law}
 use Rattle.trau_alaw.specs.Period.{expanded, compressed}
 use Rattle.trau_params.specs.Fields.{Fields}
 use Rattle.trau_params.specs.Bits260.{bits260}
 use Rattle.trau_orders.specs.declared.order.DtxMode.{DtxMode}
-use Rattle.trau_orders.specs.declared.order.DtxMode.TheVariants.{Uplink}
 use Rattle.trau_frame.specs.declared.frames.DownFrame.{DownFrame}
 use Rattle.trau_frame.specs.declared.frames.DownFrame.TheVariants as frame
 use Rattle.trau_frame.specs.DownFrame as frames
-use Rattle.frame_sync.specs.Step as search
+use Rattle.frame_sync.specs.Memory as search
+use Rattle.frame_sync.specs.Step.{next_period}
 use Rattle.rx_handler.specs.Origin.{EffectiveFields, Quiet, Speech, Made}
-use Rattle.rx_handler.specs.Table as rx
-use Rattle.fr_decoder.specs.Step as decoder
+use Rattle.rx_handler.specs.Memory as rx
+use Rattle.rx_handler.specs.Step.{received}
+use Rattle.fr_decoder.specs.Memory as decoder
+use Rattle.fr_decoder.specs.Step.{decoded_frame}
 use Rattle.fr_encoder.specs.Step as encoder
 use Rattle.tx_dtx.specs.Step as tx
 use Rattle.time_align.specs.Memory as align
+use Rattle.time_align.specs.Step.{after_ask, after_thaw, after_freeze, adopted}
 use Rattle.down_framer.specs.Memory as framer
-use Rattle.call_leg.specs.Who.{Who}
+use Rattle.down_framer.specs.Step.{after_frame, after_put, after_take}
 use Rattle.call_leg.specs.Uplink.{Sighting, sighting_in, heard_as, field_of, dtxd_after, is_quiet, handed_fields}
 use Rattle.call_leg.specs.Periods.{dtx_in}
-use Rattle.call_leg.specs.Counted.{no_counts, counted}
+use Rattle.call_leg.specs.Counted.{counted}
 use Rattle.call_leg.specs.Out.{idle_octets}
 use Rattle.call_leg.specs.Down.{coded_as, speech}
 use Rattle.call_leg.specs.Memory.{CoderMemory, home_coder, DownMemory, LegMemory}
 use Rattle.call_leg.specs.Places.{in_u32, in_u64}
-
--- ---- a new leg
-
-abbrev pub home_down : Law → DownMemory
-home_down law = record {
-  law = law;
-  framer = framer.new_memory;
-  align = align.new_memory;
-  waiting = [];
-  coder = home_coder;
-  level = pos 256;
-  mode = Uplink;
-  dtxd = false;
-  quiet = true;
-  bridged = false;
-  sent = 0;
-  made = 0;
-}
-
-abbrev pub home_leg : Who → LegMemory
-home_leg who = record { law = who.law; search = search.home_memory; rx = rx.first_memory who.number; decoder = decoder.home_memory; counts = no_counts; down = home_down who.law }
 
 -- ---- the uplink half
 
 -- a field is asked, if there is one
 abbrev pub asked : align.AlignMemory → Option ℕ → align.AlignMemory
 asked m None = m
-asked m (Some field) = align.after_ask m field
+asked m (Some field) = after_ask m field
 
 -- what the downlink side takes from the uplink
 abbrev pub after_sighting : DownMemory → Sighting → Bool → DownMemory
@@ -61,7 +43,7 @@ after_sighting d s quiet = record d { align = asked d.align (field_of s); dtxd =
 
 -- the octets of a frame that is decoded, and of a period in which none is
 abbrev pub played_frame : Law → decoder.DecoderMemory → Fields → List ℕ × decoder.DecoderMemory
-played_frame law m p = let decoded = decoder.decoded_frame m p in (compressed law decoded.0, decoded.1)
+played_frame law m p = let decoded = decoded_frame m p in (compressed law decoded.0, decoded.1)
 
 abbrev pub played_none : Law → List ℕ × decoder.DecoderMemory
 played_none law = (idle_octets law, decoder.home_memory)
@@ -74,8 +56,8 @@ played law m (Made p) alone = if alone then played_frame law m p else played_non
 -- the effective frame, the octets of the Out line, and the memory after them
 unfoldable pub up_worked : LegMemory → List ℕ → EffectiveFields × List ℕ × LegMemory
 up_worked m up =
-    let found = search.next_period m.search up in
-    let heard = rx.received m.rx (heard_as (sighting_in found.0)) in
+    let found = next_period m.search up in
+    let heard = received m.rx (heard_as (sighting_in found.0)) in
     let out = played m.law m.decoder heard.0 (not m.down.bridged) in (
       heard.0,
       out.0,
@@ -103,10 +85,10 @@ set_mode mode d = record d { mode = mode }
 
 -- shifts thaw where no bridge is on and no handed frame waits
 abbrev pub thawed : align.AlignMemory → Bool → List (List ℕ) → align.AlignMemory
-thawed m bridged waiting = if bridged || not (length waiting == 0) then m else align.after_thaw m
+thawed m bridged waiting = if bridged || not (length waiting == 0) then m else after_thaw m
 
 abbrev pub bridge_begun : DownMemory → DownMemory
-bridge_begun d = record d { align = align.after_freeze d.align; coder = home_coder; bridged = true; sent = 0 }
+bridge_begun d = record d { align = after_freeze d.align; coder = home_coder; bridged = true; sent = 0 }
 
 abbrev pub begin_bridge : LegMemory → LegMemory
 begin_bridge m = record m { decoder = decoder.home_memory; down = bridge_begun m.down }
@@ -124,7 +106,7 @@ after_handing d e = record d { waiting = keep_last 2 (d.waiting ++ bits260 (hand
 abbrev pub coded_next : Law → CoderMemory → List ℕ → ℤ → Bool → DownFrame × CoderMemory
 coded_next law m octets level on =
     let encoded = encoder.encoded_frame m.encoder (expanded law octets) in
-    let sent = tx.stepped m.tx (coded_as encoded.0 level on) in
+    let sent = tx.next_sent m.tx (coded_as encoded.0 level on) in
     (speech sent.0, record { encoder = encoded.1; tx = sent.1 })
 
 -- the next frame where none waits, and where these do
@@ -139,7 +121,7 @@ next_by law (x ∷ more) m held quiet level on = (frame.Speech x true, home_code
 abbrev pub after_made : DownMemory → DownFrame × CoderMemory → ℤ × align.AlignMemory → DownMemory
 after_made d next shift = record {
   law = d.law;
-  framer = framer.after_frame d.framer (frames.down_bits next.0) shift.0;
+  framer = after_frame d.framer (frames.down_bits next.0) shift.0;
   align = thawed shift.1 d.bridged (drop 1 d.waiting);
   waiting = drop 1 d.waiting;
   coder = next.1;
@@ -153,7 +135,7 @@ after_made d next shift = record {
 }
 
 unfoldable pub frame_made : DownMemory → DownMemory
-frame_made d = after_made d (next_by d.law d.waiting d.coder d.framer.held d.quiet d.level (dtx_in d.mode d.dtxd)) (align.adopted d.align)
+frame_made d = after_made d (next_by d.law d.waiting d.coder d.framer.held d.quiet d.level (dtx_in d.mode d.dtxd)) (adopted d.align)
 
 -- one frame is made, if 160 octets are held
 abbrev pub frame_tried : DownMemory → DownMemory
@@ -165,8 +147,8 @@ with_framer d f = record d { framer = f }
 -- the 320 bits of the Down line, and the memory after them
 unfoldable pub down_worked : DownMemory → List ℕ → List ℕ × DownMemory
 down_worked d pcm =
-    let made = frame_tried (frame_tried (with_framer d (framer.after_put d.framer pcm))) in
-    (take 320 made.framer.stored, with_framer made (framer.after_take made.framer))
+    let made = frame_tried (frame_tried (with_framer d (after_put d.framer pcm))) in
+    (take 320 made.framer.stored, with_framer made (after_take made.framer))
 
 -- both halves of a period: the octets of the Out line, the bits of the Down line, and the memory after them
 abbrev pub period_worked : LegMemory → List ℕ → List ℕ → List ℕ × List ℕ × LegMemory

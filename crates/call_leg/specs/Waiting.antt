@@ -1,13 +1,13 @@
 -- The handed frames that wait: from the next one that is due on, those that were handed over.
 use Rattle.std.specs.Prelude.{◌≡◌, ℕ, ◌+◌, if◌then◌else◌, Option, Some, None, List, slice_get}
-use Rattle.down_framer.specs.Made.{Period, MadeFrame, latest_start, made_from, bridged_at}
+use Rattle.down_framer.specs.Made.{Period, MadeFrame, latest_start, made_from, hands_at}
 use Rattle.call_leg.specs.Periods.{CallPeriod, handed_in}
 use Rattle.call_leg.specs.Down.{CallFrame, down_periods}
 
 -- the number of the period whose frame is n places behind the next one that is due; the latest bridge started as given
 abbrev pub place_at : {A : Type 0} → List (Period A) → List (MadeFrame A) → ℕ → Option ℕ → Option ℕ
 place_at ps fs n None = None
-place_at ps fs n (Some s) = if bridged_at (s + made_from s fs + n) ps then Some (s + made_from s fs + n) else None
+place_at ps fs n (Some s) = if hands_at (s + made_from s fs + n) ps then Some (s + made_from s fs + n) else None
 
 abbrev pub due_at : {A : Type 0} → List (Period A) → List (MadeFrame A) → ℕ → Option ℕ
 due_at ps fs n = place_at ps fs n (latest_start ps)

@@ -1,9 +1,9 @@
-//! The encoder, and what sends its frames.
+//! The coder of the downlink: 160 octets of the Pcm line become a speech frame.
 
 ghost use Rattle.std.specs.Prelude.{◌≡◌};
 ghost use Rattle.trau_frame.specs.DownFrame.{HasBits};
-ghost use Rattle.fr_encoder.specs.Step as encoder;
-ghost use Rattle.tx_dtx.specs.Step as tx;
+ghost use Rattle.fr_encoder.specs.Memory as encoder;
+ghost use Rattle.tx_dtx.specs.Memory as tx;
 ghost use Rattle.call_leg.specs.Periods.{dtx_in};
 ghost use Rattle.call_leg.specs.Memory.{coder_memory};
 ghost use Rattle.call_leg.specs.Step.{coded_next};

@@ -1,3 +1,5 @@
+//! What a period of the uplink brings.
+
 use trau_frame::UpFrame;
 
 /// What a period of the uplink brings: no yield of the search, a miss, or a frame.

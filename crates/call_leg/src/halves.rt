@@ -1,6 +1,6 @@
 //! The halves of a leg, apart, and what one tells the other.
 
-use crate::side::DownSide;
+use crate::down_side::DownSide;
 use fr_decoder::Decoder;
 use frame_sync::FrameSync;
 use rx_handler::{Effective, Rx};
@@ -61,12 +61,12 @@ pub struct DownLeg {
 }
 
 impl Model for DownLeg {
-    ghost use Rattle.down_framer.specs.Memory.{IsBetween};
+    ghost use Rattle.down_framer.specs.Memory.{IsBetweenPeriods};
     ghost use Rattle.call_leg.specs.Memory.{DownMemory, down_memory};
 
     ghost Value = { DownMemory };
 
     ghost view = { λ l. down_memory l.side };
 
-    ghost invariant = { λ l. IsBetween l.side.framer };
+    ghost invariant = { λ l. IsBetweenPeriods l.side.framer };
 }

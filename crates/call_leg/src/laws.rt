@@ -1,5 +1,5 @@
-//! Laws of a call, each the contract of a function that does nothing: of its lines, and of what each call makes of any
-//! memory that stands for the periods so far. Periods have the newest first.
+//! Laws of a call, each the contract of a function that does nothing: of its lines, and of what each operation makes of
+//! any memory that stands for the periods so far. Periods have the newest first.
 
 ghost use Rattle.std.specs.Prelude.{◌≡◌, ◌≤◌, ◌<◌, ℕ, ◌+◌, ◌*◌, ℤ, true, false, Option, Some, None, is_some, IfSome, All, List, [], ◌∷◌, length, map, take};
 ghost use Rattle.trau_orders.specs.declared.order.DtxMode.{DtxMode};
@@ -7,7 +7,7 @@ ghost use Rattle.trau_bits.specs.Bits.{AreBits};
 ghost use Rattle.trau_params.specs.Fields.{Fields};
 ghost use Rattle.trau_params.specs.Bits260.{bits260};
 ghost use Rattle.rx_handler.specs.Origin.{EffectiveFields};
-ghost use Rattle.down_framer.specs.Made.{due, next_start};
+ghost use Rattle.down_framer.specs.Made.{handed_due, next_start};
 ghost use Rattle.down_framer.specs.Bridges.{IsHistory};
 ghost use Rattle.down_framer.specs.ByNumber.{numbered_of, AreInTime};
 ghost use Rattle.call_leg.specs.Who.{Who};
@@ -16,10 +16,10 @@ ghost use Rattle.call_leg.specs.Periods.{CallPeriod, effective_now};
 ghost use Rattle.call_leg.specs.Settings.{Settings, new_settings, later, with_level, with_mode, with_bridge, without_bridge, period_with};
 ghost use Rattle.call_leg.specs.Out.{out_of};
 ghost use Rattle.call_leg.specs.Down.{down_periods, frames_of, down_made, down_now, down_line};
-ghost use Rattle.call_leg.specs.Numbered.{first_frames, start_of};
-ghost use Rattle.call_leg.specs.Memory.{DownMemory, LegMemory, periods_of_leg};
+ghost use Rattle.call_leg.specs.Numbered.{first_frames, frame_start};
+ghost use Rattle.call_leg.specs.Memory.{DownMemory, LegMemory, home_memory, periods_of_leg};
 ghost use Rattle.call_leg.specs.Stands.{Stands, OfItsCall, Midway};
-ghost use Rattle.call_leg.specs.Step.{home_leg, up_worked, with_down, after_handing, down_worked, period_worked, set_level, set_mode, begin_bridge, bridge_over};
+ghost use Rattle.call_leg.specs.Step.{up_worked, with_down, after_handing, down_worked, period_worked, set_level, set_mode, begin_bridge, bridge_over};
 ghost use Rattle.call_leg.specs.Halves.{up_of, joined, Note, up_turned, noted, down_turned};
 
 /// The Down line of a call is the front of the downlink that is made: 320 bits a period.
@@ -42,7 +42,7 @@ pub fn the_lines_are_octets_and_bits()
 
 /// A new leg's memory stands for a call before its first period.
 pub fn a_new_leg_stands()
-    ensures { (who : Who) → Stands who [] new_settings (home_leg who) }
+    ensures { (who : Who) → Stands who [] new_settings (home_memory who) }
 {}
 
 /// The uplink half of a period, with its 40 octets of the Up line: what it leaves, its effective frame, and its octets
@@ -89,7 +89,7 @@ pub fn orders_stand()
     ensures mode { (mode : DtxMode) (m : LegMemory) → OfItsCall m (λ who ts now.
         Stands who ts (with_mode mode now) (with_down m (set_mode mode m.down))) }
     ensures begin { (m : LegMemory) → OfItsCall m (λ who ts now.
-        due (down_periods ts) (frames_of ts) ≡ None → Stands who ts (with_bridge now) (begin_bridge m)) }
+        handed_due (down_periods ts) (frames_of ts) ≡ None → Stands who ts (with_bridge now) (begin_bridge m)) }
     ensures end { (m : LegMemory) → OfItsCall m (λ who ts now.
         now.bridged ≡ true → Stands who ts (without_bridge now) (with_down m (bridge_over m.down))) }
 {}
@@ -116,9 +116,9 @@ pub fn the_frames_are_made_in_time()
 pub fn the_frames_are_made_by_number()
     ensures frames { (ts : List CallPeriod) → IsHistory (down_periods ts) →
         map numbered_of (frames_of ts) ≡ first_frames ts (length (frames_of ts)) }
-    ensures next { (ts : List CallPeriod) → IsHistory (down_periods ts) → start_of ts (length (frames_of ts)) ≡ next_start (frames_of ts) }
-    ensures ahead { (ts : List CallPeriod) → IsHistory (down_periods ts) → 160 * length ts < start_of ts (length (frames_of ts)) + 160 }
-    ensures least { (ts : List CallPeriod) (j : ℕ) → IsHistory (down_periods ts) → j < length (frames_of ts) → start_of ts j + 160 ≤ 160 * length ts }
+    ensures next { (ts : List CallPeriod) → IsHistory (down_periods ts) → frame_start ts (length (frames_of ts)) ≡ next_start (frames_of ts) }
+    ensures ahead { (ts : List CallPeriod) → IsHistory (down_periods ts) → 160 * length ts < frame_start ts (length (frames_of ts)) + 160 }
+    ensures least { (ts : List CallPeriod) (j : ℕ) → IsHistory (down_periods ts) → j < length (frames_of ts) → frame_start ts j + 160 ≤ 160 * length ts }
     ensures history { (m : LegMemory) → OfItsCall m (λ who ts now. IsHistory (down_periods ts)) }
 {}
 

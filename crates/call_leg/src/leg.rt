@@ -1,20 +1,42 @@
-//! What a leg keeps.
+//! The leg of a call: what it keeps, and its operations (the halves of a period, bridges, settings, and what it tells).
 
-use crate::side::DownSide;
+ghost use Rattle.std.specs.Prelude.{◌≡◌, ◌≤◌, ◌<◌, ◌+◌, ℕ, ℤ, pos, ◌≤ℤ◌, true, false, not, ◌&&◌, ◌==◌, Option, Some, None, is_some, List, [], ◌∷◌, length, IfOk};
+ghost use Rattle.call_number.specs.CallNumber.{IsCallNumber};
+ghost use Rattle.trau_bits.specs.Bits.{bits_of};
+ghost use Rattle.trau_params.specs.Bits260.{bits260};
+ghost use Rattle.rx_handler.specs.State.{effective_fields};
+ghost use Rattle.down_framer.specs.Made.{handed_due};
+ghost use Rattle.call_leg.specs.Who.{Who};
+ghost use Rattle.call_leg.specs.Uplink.{handed_fields};
+ghost use Rattle.call_leg.specs.Periods.{CallPeriod, effective_now};
+ghost use Rattle.call_leg.specs.Settings.{Settings, new_settings, later, with_level, with_mode, with_bridge, without_bridge, period_with};
+ghost use Rattle.call_leg.specs.Counted.{call_counts};
+ghost use Rattle.call_leg.specs.Out.{out_of};
+ghost use Rattle.call_leg.specs.Down.{down_periods, frames_of, down_now};
+ghost use Rattle.call_leg.specs.Memory.{home_memory, periods_of_leg};
+ghost use Rattle.call_leg.specs.Places.{sent_now, is_draining};
+ghost use Rattle.call_leg.specs.Stands.{Stands, OfItsCall, Midway};
+ghost use Rattle.call_leg.specs.Step.{up_worked, with_down, after_handing, down_worked, begin_bridge, bridge_over, set_level, set_mode, period_worked};
+
+use crate::down_side::DownSide;
+use crate::up::{hear, is_quiet, play};
+use crate::uplink::{count, read};
 use fr_decoder::Decoder;
 use frame_sync::FrameSync;
-use rx_handler::Rx;
+use rx_handler::{Effective, Rx};
+use std::alloc::{AllocError, Global};
 use std::marker::Model;
 use trau_alaw::Law;
-use trau_io::Counts;
+use trau_io::{Counts, NO_COUNTS};
+use trau_orders::DtxMode;
 
 /// The leg of one call. It is alone, bridged or draining: within a bridge its partner's frames go out on its downlink,
 /// and it drains where one of them still waits after the bridge.
 ///
 /// A period is `up_half`, within a bridge `hand` with the partner's effective frame, and `down_half`; of a leg that
 /// isn't bridged, `period` is both halves. Level, DTX and bridges are set between periods, and a bridge begins only
-/// while no handed frame waits (`draining` is false). Calls in another order are safe and do their one step (`step`);
-/// the clauses on a call's history then say nothing.
+/// while no handed frame waits (`draining` is false). In another order its functions are safe too and do their one step
+/// (`step`); the clauses on a call's history then say nothing.
 #[derive(Drop)]
 pub struct Leg {
     // The law of the call's octets from and to the exchange. The downlink side has it too.
@@ -28,7 +50,7 @@ pub struct Leg {
 
 impl Model for Leg {
     ghost use Rattle.std.specs.Prelude.{◌≡◌, ◌≤◌};
-    ghost use Rattle.down_framer.specs.Memory.{IsBetween};
+    ghost use Rattle.down_framer.specs.Memory.{IsBetweenPeriods};
     ghost use Rattle.call_leg.specs.Counted.{sighted_in};
     ghost use Rattle.call_leg.specs.Memory.{LegMemory, down_memory};
 
@@ -36,5 +58,169 @@ impl Model for Leg {
 
     ghost view = { λ l. record { law = l.law; search = l.search; rx = l.rx; decoder = l.decoder; counts = l.counts; down = down_memory l.down } };
 
-    ghost invariant = { λ l. (l.search.periods ≤ 4294967295) × (sighted_in l.counts ≡ l.search.periods) × IsBetween l.down.framer };
+    ghost invariant = { λ l. (l.search.periods ≤ 4294967295) × (sighted_in l.counts ≡ l.search.periods) × IsBetweenPeriods l.down.framer };
+}
+
+impl Leg {
+    /// The leg of a call with this number, 1 to 4,096, whose octets from and to the exchange are of this law, before its
+    /// first period: alone, with level 256 and DTX as the uplink asks.
+    pub fn new(alloc: Global, call: u32, law: Law) -> Result<Leg, AllocError>
+        requires { IsCallNumber call }
+        ensures value { IfOk result (λ leg. leg ≡ home_memory (record { number = call; law = law })) }
+        ensures history { IfOk result (λ leg. Stands (record { number = call; law = law }) [] new_settings leg) }
+        ensures periods { IfOk result (λ leg. periods_of_leg leg ≡ 0) }
+    {
+        let down = DownSide::new(alloc, law)?;
+        Ok(Leg {
+            law,
+            search: FrameSync::new(),
+            rx: Rx::new(call),
+            decoder: Decoder::home(),
+            counts: NO_COUNTS,
+            down,
+        })
+    }
+
+    /// The uplink half of a period: takes its 40 octets of the Up line, gives its 160 of the Out line, and answers its
+    /// effective frame. A call has at most 4,294,967,295 periods.
+    pub fn up_half(&mut self, up: &[u8; 40], out: &mut [u8; 160]) -> Effective
+        requires { periods_of_leg self.old < 4294967295 }
+        ensures step { up_worked self.old up.now ≡ (effective_fields result, out.new, self.new) }
+        ensures periods { periods_of_leg self.new ≡ periods_of_leg self.old + 1 }
+
+        // After the periods of any call, the next one's uplink half is worked ..
+        ensures history { OfItsCall self.old (λ who ts now. Midway who ts now up.now None self.new) }
+
+        // .. and its effective frame and octets are those of the call.
+        ensures effective { (pcm : List ℕ) (handed : Option (List ℕ)) → OfItsCall self.old (λ who ts now.
+            effective_fields result ≡ effective_now who.number (period_with now up.now pcm handed ∷ ts)) }
+        ensures out { (pcm : List ℕ) (handed : Option (List ℕ)) → OfItsCall self.old (λ who ts now.
+            is_some handed ≡ now.bridged → out.new ≡ out_of who (period_with now up.now pcm handed ∷ ts)) }
+    {
+        let yielded = self.search.feed(up);
+        let found = read(&yielded);
+        count(&mut self.counts, &found);
+        let e = hear(&mut self.rx, &found);
+        play(&mut self.decoder, self.law, &e, !self.down.bridged, out);
+        self.down.hear(&found, is_quiet(&e));
+        e
+    }
+
+    /// Takes the partner's effective frame of the period, between the halves of a period within a bridge.
+    pub fn hand(&mut self, e: Effective)
+        ensures periods { periods_of_leg self.new ≡ periods_of_leg self.old }
+        ensures step { self.new ≡ with_down self.old (after_handing self.old.down (effective_fields e)) }
+        ensures history { (who : Who) (ts : List CallPeriod) (now : Settings) (up : List ℕ) → Midway who ts now up None self.old →
+            Midway who ts now up (Some (bits260 (handed_fields (effective_fields e)))) self.new }
+    {
+        self.down.hand(&e);
+    }
+
+    /// The downlink half of a period: takes its 160 octets of the Pcm line, and gives its 40 of the Down line.
+    pub fn down_half(&mut self, pcm: &[u8; 160], down: &mut [u8; 40])
+        ensures step { self.new ≡ with_down self.old self.new.down }
+        ensures bits { down_worked self.old.down pcm.now ≡ (bits_of down.new, self.new.down) }
+        ensures periods { periods_of_leg self.new ≡ periods_of_leg self.old }
+
+        // After the uplink half of a call's next period, and within a bridge the handing over, the period is worked ..
+        ensures history { (who : Who) (ts : List CallPeriod) (now : Settings) (up : List ℕ) (handed : Option (List ℕ)) →
+            is_some handed ≡ now.bridged → Midway who ts now up handed self.old →
+            Stands who (period_with now up pcm.now handed ∷ ts) (later now) self.new }
+
+        // .. and its bits are those of the call.
+        ensures down { (who : Who) (ts : List CallPeriod) (now : Settings) (up : List ℕ) (handed : Option (List ℕ)) →
+            is_some handed ≡ now.bridged → Midway who ts now up handed self.old →
+            bits_of down.new ≡ down_now who (period_with now up pcm.now handed ∷ ts) }
+    {
+        self.down.half(pcm, down);
+    }
+
+    /// A period of a leg that isn't bridged: both halves.
+    pub fn period(
+        &mut self,
+        up: &[u8; 40],
+        pcm: &[u8; 160],
+        out: &mut [u8; 160],
+        down: &mut [u8; 40],
+    )
+        requires { periods_of_leg self.old < 4294967295 }
+        ensures step { period_worked self.old up.now pcm.now ≡ (out.new, bits_of down.new, self.new) }
+        ensures periods { periods_of_leg self.new ≡ periods_of_leg self.old + 1 }
+        ensures history { OfItsCall self.old (λ who ts now.
+            now.bridged ≡ false → Stands who (period_with now up.now pcm.now None ∷ ts) (later now) self.new) }
+        ensures out { OfItsCall self.old (λ who ts now.
+            now.bridged ≡ false → out.new ≡ out_of who (period_with now up.now pcm.now None ∷ ts)) }
+        ensures down { OfItsCall self.old (λ who ts now.
+            now.bridged ≡ false → bits_of down.new ≡ down_now who (period_with now up.now pcm.now None ∷ ts)) }
+    {
+        self.up_half(up, out);
+        self.down_half(pcm, down);
+    }
+
+    /// A bridge is on from the next period on. No handed frame may wait.
+    pub fn bridge_on(&mut self)
+        ensures periods { periods_of_leg self.new ≡ periods_of_leg self.old }
+        ensures step { self.new ≡ begin_bridge self.old }
+        ensures history { OfItsCall self.old (λ who ts now.
+            handed_due (down_periods ts) (frames_of ts) ≡ None → Stands who ts (with_bridge now) self.new) }
+    {
+        self.decoder = Decoder::home();
+        self.down.bridge_on();
+    }
+
+    /// The bridge is off from the next period on.
+    pub fn bridge_off(&mut self)
+        ensures periods { periods_of_leg self.new ≡ periods_of_leg self.old }
+        ensures step { self.new ≡ with_down self.old (bridge_over self.old.down) }
+        ensures history { OfItsCall self.old (λ who ts now. now.bridged ≡ true → Stands who ts (without_bridge now) self.new) }
+    {
+        self.down.bridge_off();
+    }
+
+    /// Whether it isn't bridged and a handed frame waits. Between periods at most one waits.
+    pub fn draining(&self) -> bool
+        ensures memory { result ≡ (not self.now.down.bridged && not (length self.now.down.waiting == 0)) }
+        ensures value { OfItsCall self.now (λ who ts now. result ≡ is_draining ts now) }
+        ensures one { OfItsCall self.now (λ who ts now. length self.now.down.waiting ≤ 1) }
+    {
+        self.down.draining()
+    }
+
+    /// Sets the level below which a frame's peak counts as silence, from the next period on.
+    pub fn set_level(&mut self, level: i16)
+        requires { pos 0 ≤ℤ level }
+        ensures step { self.new ≡ with_down self.old (set_level level self.old.down) }
+        ensures periods { periods_of_leg self.new ≡ periods_of_leg self.old }
+        ensures history { OfItsCall self.old (λ who ts now. Stands who ts (with_level level now) self.new) }
+    {
+        self.down.level = level;
+    }
+
+    /// Sets when DTX is on, from the next period on.
+    pub fn set_dtx(&mut self, mode: DtxMode)
+        ensures step { self.new ≡ with_down self.old (set_mode mode self.old.down) }
+        ensures periods { periods_of_leg self.new ≡ periods_of_leg self.old }
+        ensures history { OfItsCall self.old (λ who ts now. Stands who ts (with_mode mode now) self.new) }
+    {
+        self.down.mode = mode;
+    }
+
+    /// How many handed frames were sent in the latest bridge.
+    pub fn sent(&self) -> u32
+        ensures memory { result ≡ self.now.down.sent }
+        ensures history { OfItsCall self.now (λ who ts now. result ≡ sent_now ts now) }
+    {
+        self.down.sent
+    }
+
+    /// What was counted of the call's periods.
+    pub fn counts(&self) -> Counts
+        ensures memory { result ≡ record self.now.counts { made = self.now.down.made } }
+        ensures history { OfItsCall self.now (λ who ts now. result ≡ call_counts ts) }
+    {
+        Counts {
+            made: self.down.made,
+            ..self.counts
+        }
+    }
 }

@@ -1,4 +1,4 @@
-//! The calls of the halves of a leg.
+//! What the halves of a leg do: they are split and joined, work periods, and their bridges end.
 
 ghost use Rattle.std.specs.Prelude.{◌≡◌, ◌≤◌, ◌<◌, ◌+◌, ℕ, true, is_some, Option, List, ◌∷◌, option_copied};
 ghost use Rattle.trau_bits.specs.Bits.{bits_of};

@@ -2,7 +2,7 @@
 
 ghost use Rattle.std.specs.Prelude.{◌≡◌};
 ghost use Rattle.trau_params.specs.Fields.{fields_of};
-ghost use Rattle.rx_handler.specs.Table.{received};
+ghost use Rattle.rx_handler.specs.Step.{received};
 ghost use Rattle.rx_handler.specs.State.{effective_fields};
 ghost use Rattle.call_leg.specs.Uplink.{heard_as, sighting_of, is_quiet, handed_fields};
 ghost use Rattle.call_leg.specs.Step.{played_frame, played};

@@ -13,6 +13,7 @@ use Rattle.call_pair.specs.Phases.{up_before, down_before, item_if}
 
 -- ---- the flags
 
+-- the bridge of a half, where it is taken off by a test
 up-flag : (b : Bool) (u : UpMemory) → (if b then up_unbridged u else u).bridged ≡ (if b then false else u.bridged)
 up-flag true u = refl
 up-flag false u = refl
@@ -27,6 +28,7 @@ before-flag m k u d e = up-flag (u.bridged && k == m) u ∙ ap (λ (f : Bool). i
 
 -- ---- the leg of two halves
 
+-- the halves of a leg before a place are those of the leg
 leg-before : (m : ℕ) (u : UpMemory) (d : DownMemory) (io : IoMemory) → u.bridged ≡ d.bridged →
     leg_at m (record { leg = joined u d; io = io }) ≡ joined (up_before m io.done u) (down_before m io.done d)
 leg-before m u d io e =
@@ -36,21 +38,28 @@ leg-before m u d io e =
     go true = refl
     go false = refl
 
-joined-worked : (u : UpMemory) (d : DownMemory) (up : List ℕ) → u.bridged ≡ d.bridged → let t = up_turned u up in up_worked (joined u d) up ≡ (t.0.eff, t.1, joined t.2 (noted d t.0))
+-- the uplink half of a leg is its uplink half's place, whose note the other hears
+joined-worked : (u : UpMemory) (d : DownMemory) (up : List ℕ) → u.bridged ≡ d.bridged → let t = up_turned u up in up_worked (joined u d) up
+    ≡ (t.0.eff, t.1, joined t.2 (noted d t.0))
 joined-worked u d up e =
-    halves-worked (joined u d) up ∙ ap (λ (f : Bool). let t = up_turned (record { law = u.law; search = u.search; rx = u.rx; decoder = u.decoder; counts = u.counts; bridged = f }) up in (t.0.eff, t.1, joined t.2 (noted d t.0))) (sym e)
+    halves-worked (joined u d) up ∙ ap (λ (f : Bool). let t = up_turned
+    (record { law = u.law; search = u.search; rx = u.rx; decoder = u.decoder; counts = u.counts; bridged = f }) up in
+    (t.0.eff, t.1, joined t.2 (noted d t.0))) (sym e)
 
 -- what is told at the next place
 pub effective-joined : (m : ℕ) (u : UpMemory) (d : DownMemory) (io : IoMemory) → u.bridged ≡ d.bridged →
     effective m (record { leg = joined u d; io = io }) ≡ (up_turned (up_before m io.done u) (up_at io.done io)).0.eff
 effective-joined m u d io e =
     ap (λ (l : LegMemory). (up_worked l (up_at io.done io)).0) (leg-before m u d io e)
-    ∙ ap (λ (f : EffectiveFields × List ℕ × LegMemory). f.0) (joined-worked (up_before m io.done u) (down_before m io.done d) (up_at io.done io) (before-flag m io.done u d e))
+    ∙ ap (λ (f : EffectiveFields × List ℕ × LegMemory). f.0) (joined-worked (up_before m io.done u) (down_before m io.done d) (up_at io.done io)
+    (before-flag m io.done u d e))
 
+-- a frame is handed over where the leg is bridged
 item-handed : (b : Bool) (d : DownMemory) (e : EffectiveFields) → (if b then after_handing d e else d) ≡ handed_to d (item_if b e)
 item-handed true d e = refl
 item-handed false d e = refl
 
+-- so a place of a leg is one of each of its halves ..
 worked-joined : (e : EffectiveFields) (u : UpMemory) (d : DownMemory) (io : IoMemory) → u.bridged ≡ d.bridged →
     let t = up_turned u (up_at io.done io) in
     let w = down_turned d t.0 (item_if d.bridged e) (pcm_at io.done io) in
@@ -61,9 +70,11 @@ worked-joined e u d io flag =
     let rest : EffectiveFields × List ℕ × LegMemory → DownMemory → HalfMemory = λ first down.
     let last = down_worked down (pcm_at io.done io) in
     record { leg = with_down first.2 last.1; io = with_place (with_out io first.1) (octets_of last.0) } in
-    ap (λ (f : EffectiveFields × List ℕ × LegMemory). rest f (if d.bridged then after_handing f.2.down e else f.2.down)) (joined-worked u d (up_at io.done io) flag)
+    ap (λ (f : EffectiveFields × List ℕ × LegMemory). rest f (if d.bridged then after_handing f.2.down e else f.2.down))
+    (joined-worked u d (up_at io.done io) flag)
     ∙ ap (rest (t.0.eff, t.1, joined t.2 (noted d t.0))) (item-handed d.bridged (noted d t.0) e)
 
+-- .. also where a bridge ends at it
 pub turned-joined : (m : ℕ) (e : EffectiveFields) (u : UpMemory) (d : DownMemory) (io : IoMemory) → u.bridged ≡ d.bridged →
     let t = up_turned (up_before m io.done u) (up_at io.done io) in
     let c = down_before m io.done d in

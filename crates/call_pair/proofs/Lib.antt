@@ -3,8 +3,12 @@ pub mod Lengths
 pub mod Places
 pub mod Octets
 pub mod Steps
+pub mod RunsAlone
 pub mod Runs
 pub mod Joined
 pub mod Sequences
 pub mod Phased
+pub mod BridgeEnd
+pub mod UplinkRuns
+pub mod DownlinkRuns
 pub mod Telling

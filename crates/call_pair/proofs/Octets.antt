@@ -23,17 +23,23 @@ written-seam front buffer octets start n e f =
     ap (λ (ys : List ℕ). ys ++ octets ++ drop (start + length octets) xs) (take_at front (drop start buffer) start e) ∙
     ap (λ (ys : List ℕ). front ++ octets ++ ys) rest
 
-length-outs_of : (who : Who) (k : ℕ) (ts : List CallPeriod) → k ≤ length ts → length (outs_of who k ts) ≡ 160 * k
+pub length-outs_of : (who : Who) (k : ℕ) (ts : List CallPeriod) → k ≤ length ts → length (outs_of who k ts) ≡ 160 * k
 length-outs_of who zero ts h = refl
 length-outs_of who (suc k) [] h = absurd (omega arith)
 length-outs_of who (suc k) (t ∷ past) h =
     omega (arith, length-append (outs_of who k past) (out_of who (t ∷ past)), length-outs_of who k past (omega arith), length-out_of who (t ∷ past))
 
-length-downs_of : (who : Who) (k : ℕ) (ts : List CallPeriod) → k ≤ length ts → length (downs_of who k ts) ≡ 40 * k
+pub length-downs_of : (who : Who) (k : ℕ) (ts : List CallPeriod) → k ≤ length ts → length (downs_of who k ts) ≡ 40 * k
 length-downs_of who zero ts h = refl
 length-downs_of who (suc k) [] h = absurd (omega arith)
 length-downs_of who (suc k) (t ∷ past) h =
-    omega (arith, length-append (downs_of who k past) (octets_of (down_now who (t ∷ past))), length-downs_of who k past (omega arith), length-down_octets who t past)
+    omega (
+      arith,
+      length-append (downs_of who k past) (octets_of (down_now who (t ∷ past))),
+      length-downs_of who k past (omega arith),
+      length-down_octets who t
+          past,
+    )
 
 -- the octets of a place more are those of the call's newest period
 pub io_more : (s : Start) (k : ℕ) (ts : List CallPeriod) (t : CallPeriod) (out down : List ℕ) → k ≤ length ts → out ≡ out_of (who_of s) (t ∷ ts) →
@@ -44,7 +50,8 @@ io_more s k ts t out down enough e f =
     let next : k + 1 ≡ suc k = omega arith in
     let heard = out_of who (t ∷ ts) in
     let said = octets_of (down_now who (t ∷ ts)) in
-    let shape : List ℕ → List ℕ → ℕ → IoMemory = λ x y n. record { call = s.io.call; up = s.io.up; pcm = s.io.pcm; out = x; down = y; given = s.io.given; done = n } in
+    let shape : List ℕ → List ℕ → ℕ → IoMemory = λ x y n.
+    record { call = s.io.call; up = s.io.up; pcm = s.io.pcm; out = x; down = y; given = s.io.given; done = n } in
     let end : 160 * k + 160 ≡ 160 * suc k = omega arith in
     let end' : 40 * k + 40 ≡ 40 * suc k = omega arith in
     let outs = written-seam (outs_of who k ts) s.io.out heard (160 * k) 160 (length-outs_of who k ts enough) (length-out_of who (t ∷ ts))

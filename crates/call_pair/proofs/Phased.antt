@@ -29,6 +29,7 @@ unfolding notes
 length-notes m h zero = refl
 length-notes m h (suc k) = length-append (notes m h k) ((told m h k).0 ∷ []) ∙ (let i = length-notes m h k in omega arith)
 
+-- each note is that of its place
 pub note-is : (m : ℕ) (h : HalfMemory) (k j : ℕ) (d : Note) → j < k → get_or (notes m h k) j d ≡ (told m h j).0
 unfolding notes
 note-is m h zero j d l = absurd (omega arith)
@@ -44,8 +45,10 @@ note-is m h (suc k) j d l =
 -- ---- the first phase
 
 abbrev pub first_after : ℕ → HalfMemory → ℕ → CallMemory
-first_after m h k = record { up = ups m h k; down = h.leg.down; io = io_from h (outs m h k) h.io.down k; notes = notes m h k; partner = []; bridge_end = m; phase = First }
+first_after m h
+    k = record { up = ups m h k; down = h.leg.down; io = io_from h (outs m h k) h.io.down k; notes = notes m h k; partner = []; bridge_end = m; phase = First }
 
+-- a turn of the first phase is one place more of the uplink half ..
 first-step : (m : ℕ) (h : HalfMemory) (k : ℕ) → k < h.io.given → call_turned (first_after m h k) ≡ first_after m h (suc k)
 unfolding ups outs notes
 first-step m h k l =
@@ -53,10 +56,12 @@ first-step m h k l =
     turned_is (first_after m h k) true (is_below k h.io.given l)
     ∙ ap (λ (n : ℕ). record (first_after m h (suc k)) { io = io_from h (outs m h (suc k)) h.io.down n }) next
 
+-- .. n turns are n places ..
 first-run : (m : ℕ) (h : HalfMemory) (n k : ℕ) → k + n ≡ h.io.given → after_call_turns n (first_after m h k) ≡ first_after m h h.io.given
 first-run m h zero k e = let f : k ≡ h.io.given = omega arith in ap (first_after m h) f
 first-run m h (suc n) k e = ap (after_call_turns n) (first-step m h k (omega arith)) ∙ first-run m h n (suc k) (omega arith)
 
+-- .. and its end is behind the last
 pub first-finished : (m : ℕ) (h : HalfMemory) → h.io.done ≡ 0 → call_finished (starting m h) ≡ first_after m h h.io.given
 unfolding ups outs notes
 first-finished m h e =
@@ -81,7 +86,9 @@ second_after m frames h k = record {
   phase = Second;
 }
 
-second-step : (m : ℕ) (frames : List EffectiveFields) (h : HalfMemory) (k : ℕ) → k < h.io.given → call_turned (second_after m frames h k) ≡ second_after m frames h (suc k)
+-- so it is in the second phase, of the downlink half
+second-step : (m : ℕ) (frames : List EffectiveFields) (h : HalfMemory) (k : ℕ) → k < h.io.given → call_turned (second_after m frames h k)
+    ≡ second_after m frames h (suc k)
 unfolding downs lines
 second-step m frames h k l =
     let next : k + 1 ≡ suc k = omega arith in
@@ -93,7 +100,8 @@ second-step m frames h k l =
     (note-is m h h.io.given k (record { eff = Quiet; ask = 0; dtx = None }) l)
     ∙ ap (λ (n : ℕ). record (second_after m frames h (suc k)) { io = io_from h (outs m h h.io.given) (lines m (taken frames) h (suc k)) n }) next
 
-second-run : (m : ℕ) (frames : List EffectiveFields) (h : HalfMemory) (n k : ℕ) → k + n ≡ h.io.given → after_call_turns n (second_after m frames h k) ≡ second_after m frames h h.io.given
+second-run : (m : ℕ) (frames : List EffectiveFields) (h : HalfMemory) (n k : ℕ) → k + n ≡ h.io.given → after_call_turns n (second_after m frames h k)
+    ≡ second_after m frames h h.io.given
 second-run m frames h zero k e = let f : k ≡ h.io.given = omega arith in ap (second_after m frames h) f
 second-run m frames h (suc n) k e = ap (after_call_turns n) (second-step m frames h k (omega arith)) ∙ second-run m frames h n (suc k) (omega arith)
 
@@ -107,6 +115,7 @@ second-finished m frames h e =
     ∙ ap (λ (i : ℕ). after_call_turns i (second_after m frames h 0)) n
     ∙ second-run m frames h h.io.given 0 (omega arith)
 
+-- the two phases are the places of both halves
 pub run-is : (m : ℕ) (frames : List EffectiveFields) (h : HalfMemory) → h.io.done ≡ 0 → half_run m frames h ≡ half_after m (taken frames) h h.io.given
 run-is m frames h e = ap half_in (second-finished m frames h e)
 
@@ -122,10 +131,14 @@ effs-are m h k e le l =
 
 -- ---- one call
 
-one-run : (items : ℕ → EffectiveFields) (h : HalfMemory) (n k : ℕ) → k + n ≡ h.io.given → after_turns n (One (half_after 0 items h (min k h.io.given))) ≡ One (half_after 0 items h h.io.given)
+-- the job of one call, place by place ..
+one-run : (items : ℕ → EffectiveFields) (h : HalfMemory) (n k : ℕ) → k + n ≡ h.io.given → after_turns n (One (half_after 0 items h (min k h.io.given)))
+    ≡ One (half_after 0 items h h.io.given)
 one-run items h zero k e = let f : min k h.io.given ≡ h.io.given = omega arith in ap (λ (i : ℕ). One (half_after 0 items h i)) f
-one-run items h (suc n) k e = ap (λ (x : HalfMemory). after_turns n (One x)) (step 0 items h k Quiet (λ l. absurd (omega arith))) ∙ one-run items h n (suc k) (omega arith)
+one-run items h (suc n) k e = ap (λ (x : HalfMemory). after_turns n (One x)) (step 0 items h k Quiet (λ l. absurd (omega arith)))
+    ∙ one-run items h n (suc k) (omega arith)
 
+-- .. is its two phases
 pub one-phased : (h : HalfMemory) → h.io.done ≡ 0 → finished (One h) ≡ One (half_run 0 [] h)
 one-phased h e =
     let items = taken [] in
@@ -138,9 +151,11 @@ one-phased h e =
 
 -- ---- two calls
 
+-- so is that of two, each with the other's frames
 two-run : (p q : ℕ → EffectiveFields) (g h : HalfMemory) → let m = min g.io.given h.io.given in
     ((k : ℕ) → k < m → p k ≡ (told m h k).0.eff) → ((k : ℕ) → k < m → q k ≡ (told m g k).0.eff) → (n k : ℕ) → k + n ≡ max g.io.given h.io.given →
-    after_turns n (Two (half_after m p g (min k g.io.given)) (half_after m q h (min k h.io.given))) ≡ Two (half_after m p g g.io.given) (half_after m q h h.io.given)
+    after_turns n (Two (half_after m p g (min k g.io.given)) (half_after m q h (min k h.io.given))) ≡ Two (half_after m p g g.io.given)
+    (half_after m q h h.io.given)
 two-run p q g h ep eq zero k e =
     let m = min g.io.given h.io.given in
     let f : min k g.io.given ≡ g.io.given = omega arith in

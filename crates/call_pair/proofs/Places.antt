@@ -14,6 +14,7 @@ length-up_at io k h below = length-taken io.up 40 (40 * k) (omega (arith, h.room
 pub length-pcm_at : (io : IoMemory) (k : ℕ) → IsIo io → k < io.given → length (pcm_at k io) ≡ 160
 length-pcm_at io k h below = length-taken io.pcm 160 (160 * k) (omega (arith, h.room.pcm_room, h.room.enough))
 
+-- what is put in the middle of a buffer
 put_mid-written : (start k : ℕ) (buffer octets : List ℕ) → length octets ≡ k → put_mid start k buffer octets ≡ written buffer start octets
 put_mid-written start k buffer octets e =
     let long : start + k ≡ start + length octets = omega arith in
@@ -21,7 +22,8 @@ put_mid-written start k buffer octets e =
     ap (λ (ys : List ℕ). take start buffer ++ octets ++ ys) (drop-drop k start buffer ∙ ap (λ (m : ℕ). drop m buffer) long)
 
 -- a buffer whose n octets from `start` on are now these
-pub with_items-written : {Z : Type 0} (v : Vec ℕ Z) (start n : ℕ) (buffer part octets : List ℕ) → buffer ≡ v.items → length part ≡ length (mid_of start ((start + n) - start) buffer) →
+pub with_items-written : {Z : Type 0} (v : Vec ℕ Z) (start n : ℕ) (buffer part octets : List ℕ) → buffer ≡ v.items → length part
+    ≡ length (mid_of start ((start + n) - start) buffer) →
     part ≡ octets → length octets ≡ n → (with_items v (put_mid start ((start + n) - start) buffer part)).items ≡ written v.items start octets
 with_items-written v start n buffer part octets was same now long =
     let k = (start + n) - start in

@@ -1,74 +1,22 @@
--- Jobs from place to place, for every history of their calls.
-use Rattle.std.proofs.Common.{◌≡◌, ℕ, zero, suc, ◌+◌, ◌<◌, ◌≤◌, max, min, ltb, Bool, true, false, if◌then◌else◌, Option, Some, None, List, ◌∷◌, length, refl, sym, ap, subst, ◌∙◌, ⊎_elim, arith}
+-- The job of two calls from place to place, for every history of theirs.
+use Rattle.std.proofs.Common.{◌≡◌, ℕ, zero, suc, ◌+◌, ◌<◌, ◌≤◌, max, min, ltb, Bool, true, false, if◌then◌else◌, Option, Some, None, List, ◌∷◌, refl, sym, ap, subst, ◌∙◌, ⊎_elim, arith}
 use Rattle.std.proofs.lemmas.Bool.{cases_lt}
 use Rattle.trau_params.specs.Bits260.{bits260}
-use Rattle.rx_handler.specs.Origin.{EffectiveFields, Quiet}
+use Rattle.rx_handler.specs.Origin.{EffectiveFields}
 use Rattle.call_leg.specs.Uplink.{handed_fields}
 use Rattle.call_leg.specs.Periods.{CallPeriod, effective_now}
-use Rattle.call_leg.specs.Settings.{Settings, without_bridge}
+use Rattle.call_leg.specs.Settings.{Settings, without_bridge, settings_at}
 use Rattle.call_pair.specs.Memory.{IoMemory, HalfMemory, IsIo, places_left}
 use Rattle.call_pair.specs.declared.job.Job.{Job}
-use Rattle.call_pair.specs.declared.job.Job.TheVariants.{One, Two}
+use Rattle.call_pair.specs.declared.job.Job.TheVariants.{Two}
 use Rattle.call_pair.specs.Places.{has_place}
 use Rattle.call_pair.specs.Turn.{effective, half_turned, half_turned_if, turned}
 use Rattle.call_pair.specs.Jobs.{job_left, after_turns, finished}
-use Rattle.call_pair.specs.History.{Start, settings_at, period_at, alone_periods, handed_at, bridged_periods, settings_past, Begins, HasWorked}
-use Rattle.call_pair.specs.Finished.{HasWorkedBridged, OneWorked, TwoWorked}
+use Rattle.call_pair.specs.History.{Start, period_at, handed_at, bridged_periods, settings_past, Begins, HasWorked}
+use Rattle.call_pair.specs.Finished.{HasWorkedBridged, TwoWorked}
 use Rattle.call_pair.proofs.Places.{is_below, not_below, is_same, is_past, is_before}
-use Rattle.call_pair.proofs.Steps.{alone, tells, bridged, left_alone, turned-alone, turned-bridged, tells-is, turned-ends, left_alone-is, alone-worked, effective-is, bridged-worked, first_left-worked, later_left-worked}
-
--- ---- what a half tells of its places
-
-placed : (s : Start) (k : ℕ) (ts : List CallPeriod) (now : Settings) (h : HalfMemory) → HasWorked s k ts now h → has_place h.io ≡ ltb k s.io.given
-placed s k ts now h w = ap has_place w.io
-
-given-is : (s : Start) (k : ℕ) (ts : List CallPeriod) (now : Settings) (h : HalfMemory) → HasWorked s k ts now h → h.io.given ≡ s.io.given
-given-is s k ts now h w = ap (λ (io : IoMemory). io.given) w.io
-
-begun : (s : Start) (h : HalfMemory) → Begins s h → HasWorked s 0 s.past s.now h
-begun s h b = record {
-  io = b.io ∙ ap (λ (n : ℕ). record { call = s.io.call; up = s.io.up; pcm = s.io.pcm; out = s.io.out; down = s.io.down; given = s.io.given; done = n }) b.none_done;
-  leg = b.leg;
-}
-
-begun-left : (s : Start) (h : HalfMemory) → Begins s h → places_left h.io ≡ s.io.given
-begun-left s h b = ap places_left b.io ∙ (let e = b.none_done in omega arith)
-
-pub still-bridged : (k : ℕ) (now : Settings) → (settings_at k now).bridged ≡ now.bridged
-still-bridged zero now = refl
-still-bridged (suc k) now = still-bridged k now
-
-many-alone : (k : ℕ) (s : Start) → k ≤ length (alone_periods k s)
-many-alone zero s = omega arith
-many-alone (suc k) s = omega (arith, many-alone k s)
-
-many-bridged : (k : ℕ) (a b : Start) → k ≤ length (bridged_periods k a b)
-many-bridged zero a b = omega arith
-many-bridged (suc k) a b = omega (arith, many-bridged k a b)
-
--- ---- one call
-
-turned-one : (h : HalfMemory) → has_place h.io ≡ true → h.leg.down.bridged ≡ false → turned (One h) ≡ One (alone h)
-turned-one h e off = ap (λ (b : Bool). One (half_turned_if b 0 Quiet h)) e ∙ ap One (turned-alone 0 Quiet h off)
-
-one-runs : (s : Start) (n k : ℕ) (h : HalfMemory) → IsIo s.io → s.now.bridged ≡ false → k + n ≡ s.io.given →
-    HasWorked s k (alone_periods k s) (settings_at k s.now) h → OneWorked s (after_turns n (One h))
-one-runs s zero k h room b e w =
-    let last : k ≡ s.io.given = omega arith in
-    record {
-      half = h;
-      is_one = refl;
-      worked = subst (λ (i : ℕ). HasWorked s i (alone_periods i s) (settings_at i s.now) h) last w;
-    }
-one-runs s (suc n) k h room b e w =
-    let below : k < s.io.given = omega arith in
-    let more : suc k + n ≡ s.io.given = omega arith in
-    let next = alone-worked s k (alone_periods k s) (settings_at k s.now) h room (many-alone k s) below (still-bridged k s.now ∙ b) w in
-    subst (λ (job : Job). OneWorked s (after_turns n job)) (sym (turned-one h (placed s k (alone_periods k s) (settings_at k s.now) h w ∙ is_below k s.io.given below) (w.leg.down.bridged ∙ still-bridged k s.now ∙ b)))
-    (one-runs s n (suc k) (alone h) room b more next)
-
-pub one-finished : (s : Start) (h : HalfMemory) → Begins s h → s.now.bridged ≡ false → OneWorked s (finished (One h))
-one-finished s h start b = one-runs s (places_left h.io) 0 h start.octets b (omega (arith, begun-left s h start)) (begun s h start)
+use Rattle.call_pair.proofs.Steps.{tells, bridged, left_alone, turned-alone, turned-bridged, tells-is, turned-ends, left_alone-is, effective-is, bridged-worked, first_left-worked, later_left-worked}
+use Rattle.call_pair.proofs.RunsAlone.{placed, given-is, begun, begun-left, still-bridged, many-bridged}
 
 -- ---- two calls
 
@@ -85,16 +33,22 @@ abbrev Left : Start → Start → ℕ → HalfMemory → Type 0
 Left a b k g = HasWorked a k (bridged_periods k a b) (settings_past k b.io.given a.now) g
 
 -- what is set past the partner's places, and not past them
-pub set-past : (k others : ℕ) (now : Settings) (b : Bool) → ltb others k ≡ b → settings_past k others now ≡ (if b then without_bridge (settings_at k now) else settings_at k now)
+pub set-past : (k others : ℕ) (now : Settings) (b : Bool) → ltb others k ≡ b → settings_past k others now
+    ≡ (if b then without_bridge (settings_at k now) else settings_at k now)
 set-past k others now b e = ap (λ (x : Bool). if x then without_bridge (settings_at k now) else settings_at k now) e
 
 -- what is handed over, while there is a place and past all of them
 pub handed-none : (k : ℕ) (s : Start) (ts : List CallPeriod) → s.io.given ≤ k → handed_at k s ts ≡ None
-handed-none k s ts h = ap (λ (x : Bool). if x then Some (bits260 (handed_fields (effective_now s.io.call (period_at k s None ∷ ts)))) else None) (not_below k s.io.given h)
+handed-none k s ts h = ap (λ (x : Bool). if x then Some (bits260 (handed_fields (effective_now s.io.call (period_at k s None ∷ ts)))) else None)
+    (not_below k s.io.given h)
 
-pub handed-some : (k : ℕ) (s : Start) (ts : List CallPeriod) → k < s.io.given → handed_at k s ts ≡ Some (bits260 (handed_fields (effective_now s.io.call (period_at k s None ∷ ts))))
-handed-some k s ts h = ap (λ (x : Bool). if x then Some (bits260 (handed_fields (effective_now s.io.call (period_at k s None ∷ ts)))) else None) (is_below k s.io.given h)
+-- a partner with a place hands its effective frame over
+pub handed-some : (k : ℕ) (s : Start) (ts : List CallPeriod) → k < s.io.given → handed_at k s ts
+    ≡ Some (bits260 (handed_fields (effective_now s.io.call (period_at k s None ∷ ts))))
+handed-some k s ts h = ap (λ (x : Bool). if x then Some (bits260 (handed_fields (effective_now s.io.call (period_at k s None ∷ ts)))) else None)
+    (is_below k s.io.given h)
 
+-- .. of which k are done
 done-is : (s : Start) (k : ℕ) (ts : List CallPeriod) (now : Settings) (h : HalfMemory) → HasWorked s k ts now h → h.io.done ≡ k
 done-is s k ts now h w = ap (λ (io : IoMemory). io.done) w.io
 
@@ -146,7 +100,8 @@ first-runs a b (suc n) k g h room on from e w v =
     let more : suc k + n ≡ a.io.given = omega arith in
     let later : b.io.given ≤ suc k = omega arith in
     let place = placed a k (bridged_periods k a b) (settings_past k b.io.given a.now) g w ∙ is_below k a.io.given below in
-    let none = placed b b.io.given (bridged_periods b.io.given b a) (settings_past b.io.given a.io.given b.now) h v ∙ not_below b.io.given b.io.given (omega arith) in
+    let none = placed b b.io.given (bridged_periods b.io.given b a) (settings_past b.io.given a.io.given b.now) h v
+    ∙ not_below b.io.given b.io.given (omega arith) in
     let others = given-is b b.io.given (bridged_periods b.io.given b a) (settings_past b.io.given a.io.given b.now) h v in
     let own = given-is a k (bridged_periods k a b) (settings_past k b.io.given a.now) g w in
     let least : min g.io.given h.io.given ≡ b.io.given = omega arith in
@@ -165,7 +120,8 @@ second-runs a b (suc n) k g h room on from e w v =
     let more : suc k + n ≡ b.io.given = omega arith in
     let later : a.io.given ≤ suc k = omega arith in
     let place = placed b k (bridged_periods k b a) (settings_past k a.io.given b.now) h v ∙ is_below k b.io.given below in
-    let none = placed a a.io.given (bridged_periods a.io.given a b) (settings_past a.io.given b.io.given a.now) g w ∙ not_below a.io.given a.io.given (omega arith) in
+    let none = placed a a.io.given (bridged_periods a.io.given a b) (settings_past a.io.given b.io.given a.now) g w
+    ∙ not_below a.io.given a.io.given (omega arith) in
     let others = given-is a a.io.given (bridged_periods a.io.given a b) (settings_past a.io.given b.io.given a.now) g w in
     let own = given-is b k (bridged_periods k b a) (settings_past k a.io.given b.now) h v in
     let least : min g.io.given h.io.given ≡ a.io.given = omega arith in
@@ -194,7 +150,8 @@ both-more a b k g h room room' on below below' w v =
     (bridged-worked a k ts (settings_at k a.now) g (tells h) room (many-bridged k a b) below (still-bridged k a.now ∙ on) w)
 
 -- a place of two halves that both have one
-both-turned : (a b : Start) (k : ℕ) (g h : HalfMemory) → a.now.bridged ≡ true → b.now.bridged ≡ true → k < a.io.given → k < b.io.given → Both a b k g → Both b a k h →
+both-turned : (a b : Start) (k : ℕ) (g h : HalfMemory) → a.now.bridged ≡ true → b.now.bridged ≡ true → k < a.io.given → k < b.io.given → Both a b k g →
+    Both b a k h →
     let m = min g.io.given h.io.given in
     Two (half_turned m (effective m h) g) (half_turned m (effective m g) h) ≡ Two (bridged g (tells h)) (bridged h (tells g))
 both-turned a b k g h on on' below below' w v =
@@ -209,6 +166,7 @@ both-turned a b k g h on on' below below' w v =
     let f' = turned-bridged m (effective m g) h (v.leg.down.bridged ∙ still-bridged k b.now ∙ on') t' ∙ ap (bridged h) (tells-is m g t) in
     ap (λ (x : HalfMemory). Two x (half_turned m (effective m g) h)) f ∙ ap (Two (bridged g (tells h))) f'
 
+-- the job of two calls in a bridge, n turns long
 both-run : (a b : Start) (n k : ℕ) (g h : HalfMemory) → IsIo a.io → IsIo b.io → a.now.bridged ≡ true → b.now.bridged ≡ true →
     k ≤ a.io.given → k ≤ b.io.given → k + n ≡ max a.io.given b.io.given →
     Both a b k g → Both b a k h → TwoWorked a b (after_turns n (Two g h))
@@ -225,12 +183,17 @@ both-run a b (suc n) k g h room room' on on' within within' e w v =
     let both = λ (lt : k < a.io.given) (lt' : k < b.io.given).
     let place = placed a k (bridged_periods k a b) (settings_at k a.now) g w ∙ is_below k a.io.given lt in
     let place' = placed b k (bridged_periods k b a) (settings_at k b.now) h v ∙ is_below k b.io.given lt' in
-    subst (λ (job : Job). TwoWorked a b (after_turns n job)) (sym (turned-two g h true true (min g.io.given h.io.given) place place' refl ∙ both-turned a b k g h on on' lt lt' w v))
+    subst (λ (job : Job). TwoWorked a b (after_turns n job)) (sym (turned-two g h true true (min g.io.given h.io.given) place place' refl
+    ∙ both-turned a b k g h on on' lt lt' w v))
     (both-run a b n (suc k) (bridged g (tells h)) (bridged h (tells g)) room room' on on' (omega arith) (omega arith) (omega arith)
     (both-more a b k g h room room' on lt lt' w v) (both-more b a k h g room' room on' lt' lt v w)) in
-    ⊎_elim (λ (lt' : k < b.io.given). ⊎_elim (λ (lt : k < a.io.given). both lt lt') (λ (le : a.io.given ≤ k). own le lt') (cases_lt k a.io.given)) others (cases_lt k b.io.given)
+    ⊎_elim (λ (lt' : k < b.io.given). ⊎_elim (λ (lt : k < a.io.given). both lt lt') (λ (le : a.io.given ≤ k). own le lt') (cases_lt k a.io.given)) others
+    (cases_lt k b.io.given)
 
+-- and at its end
 pub two-finished : (a b : Start) (g h : HalfMemory) → Begins a g → Begins b h → a.now.bridged ≡ true → b.now.bridged ≡ true → TwoWorked a b (finished (Two g h))
 two-finished a b g h start start' on on' =
-    let n : job_left (Two g h) ≡ max a.io.given b.io.given = ap (λ (m : ℕ). max m (places_left h.io)) (begun-left a g start) ∙ ap (max a.io.given) (begun-left b h start') in
-    both-run a b (job_left (Two g h)) 0 g h start.octets start'.octets on on' (omega arith) (omega arith) (omega (arith, n)) (begun a g start) (begun b h start')
+    let n : job_left (Two g h) ≡ max a.io.given b.io.given = ap (λ (m : ℕ). max m (places_left h.io)) (begun-left a g start)
+    ∙ ap (max a.io.given) (begun-left b h start') in
+    both-run a b (job_left (Two g h)) 0 g h start.octets start'.octets on on' (omega arith) (omega arith) (omega (arith, n)) (begun a g start)
+    (begun b h start')

@@ -50,12 +50,14 @@ io_from h out down k = record { call = h.io.call; up = h.io.up; pcm = h.io.pcm; 
 abbrev pub half_after : ℕ → (ℕ → EffectiveFields) → HalfMemory → ℕ → HalfMemory
 half_after m items h k = record { leg = joined (ups m h k) (downs m items h k); io = io_from h (outs m h k) (lines m items h k) k }
 
+-- before the first place
 pub begin : (m : ℕ) (items : ℕ → EffectiveFields) (h : HalfMemory) → h.io.done ≡ 0 → h ≡ half_after m items h 0
 unfolding ups outs downs lines
 begin m items h e = ap (λ (n : ℕ). record { leg = h.leg; io = io_from h h.io.out h.io.down n }) e
 
 -- ---- the flags
 
+-- both halves are bridged, or neither is
 same-flag : (m : ℕ) (items : ℕ → EffectiveFields) (h : HalfMemory) (k : ℕ) → (ups m h k).bridged ≡ (downs m items h k).bridged
 unfolding ups downs
 same-flag m items h zero = refl
@@ -70,9 +72,11 @@ ends_by : (b : Bool) → (if b && true then false else b) ≡ false
 ends_by true = refl
 ends_by false = refl
 
+-- at place m the bridge ends ..
 ends-at : (m k : ℕ) (d : DownMemory) → k ≡ m → (down_before m k d).bridged ≡ false
 ends-at m k d e = down-flag (d.bridged && k == m) d ∙ ap (λ (t : Bool). if d.bridged && t then false else d.bridged) (eq-eqb k m e) ∙ ends_by d.bridged
 
+-- .. and once off it stays off
 stays-off : (m k : ℕ) (d : DownMemory) → d.bridged ≡ false → (down_before m k d).bridged ≡ false
 stays-off m k d e = down-flag (d.bridged && k == m) d ∙ ap (λ (f : Bool). if f && k == m then false else f) e
 
@@ -81,7 +85,8 @@ unfolding downs
 off-from m items h zero le = ends-at m 0 (downs m items h 0) (omega arith)
 off-from m items h (suc k) le =
     let d = down_before m k (downs m items h k) in
-    ⊎_elim (λ (l : m < suc k). stays-off m (suc k) (downs m items h (suc k)) (down-keeps d (told m h k).0 (item_if d.bridged (items k)) (pcm_at k h.io) ∙ off-from m items h k (omega arith)))
+    ⊎_elim (λ (l : m < suc k). stays-off m (suc k) (downs m items h (suc k)) (down-keeps d (told m h k).0 (item_if d.bridged (items k)) (pcm_at k h.io)
+    ∙ off-from m items h k (omega arith)))
     (λ (g : suc k ≤ m). ends-at m (suc k) (downs m items h (suc k)) (omega arith))
     (cases_lt m (suc k))
 
@@ -91,7 +96,8 @@ abbrev on_at : ℕ → (ℕ → EffectiveFields) → HalfMemory → ℕ → Bool
 on_at m items h k = (down_before m k (downs m items h k)).bridged
 
 -- whatever frame is told once the bridge is off
-half-step : (m : ℕ) (items : ℕ → EffectiveFields) (h : HalfMemory) (k : ℕ) (e : EffectiveFields) → item_if (on_at m items h k) e ≡ item_if (on_at m items h k) (items k) →
+half-step : (m : ℕ) (items : ℕ → EffectiveFields) (h : HalfMemory) (k : ℕ) (e : EffectiveFields) → item_if (on_at m items h k) e ≡ item_if (on_at m items h k)
+    (items k) →
     half_turned m e (half_after m items h k) ≡ half_after m items h (suc k)
 unfolding ups outs downs lines
 half-step m items h k e same =
@@ -109,12 +115,14 @@ pub effective-at : (m : ℕ) (items : ℕ → EffectiveFields) (h : HalfMemory) 
 effective-at m items h k = effective-joined m (ups m h k) (downs m items h k) (io_from h (outs m h k) (lines m items h k) k) (same-flag m items h k)
 
 -- what is told is what was taken, or the bridge is off
-off-item : (m : ℕ) (items : ℕ → EffectiveFields) (h : HalfMemory) (k : ℕ) (e : EffectiveFields) → (k < m → e ≡ items k) → item_if (on_at m items h k) e ≡ item_if (on_at m items h k) (items k)
+off-item : (m : ℕ) (items : ℕ → EffectiveFields) (h : HalfMemory) (k : ℕ) (e : EffectiveFields) → (k < m → e ≡ items k) → item_if (on_at m items h k) e
+    ≡ item_if (on_at m items h k) (items k)
 off-item m items h k e same =
     ⊎_elim (λ (l : k < m). ap (item_if (on_at m items h k)) (same l))
     (λ (g : m ≤ k). ap (λ (t : Bool). item_if t e) (off-from m items h k g) ∙ sym (ap (λ (t : Bool). item_if t (items k)) (off-from m items h k g)))
     (cases_lt k m)
 
+-- one place more of both halves is the turn of their half
 pub step : (m : ℕ) (items : ℕ → EffectiveFields) (h : HalfMemory) (k : ℕ) (e : EffectiveFields) → (k < m → e ≡ items k) →
     half_turned_if (ltb (min k h.io.given) h.io.given) m e (half_after m items h (min k h.io.given)) ≡ half_after m items h (min (suc k) h.io.given)
 step m items h k e same =

@@ -15,16 +15,19 @@ use Rattle.call_pair.specs.declared.call_job.Phase.TheVariants.{First, Second}
 
 -- ---- the calls of a job
 
+-- a turn keeps the call of a half ..
 half_call : (b : Bool) (m : ℕ) (e : EffectiveFields) (h : HalfMemory) → (half_turned_if b m e h).io.call ≡ h.io.call
 half_call true m e h = refl
 half_call false m e h = refl
 
+-- .. and those of a job
 turn_keeps : (job : Job) (call : ℕ) → has_call (turned job) call ≡ has_call job call
 turn_keeps (One h) call = ap (λ n. n == call) (half_call (has_place h.io) 0 _ h)
 turn_keeps (Two a b) call =
     let m = min a.io.given b.io.given in
     let g = half_turned_if (has_place b.io) m (effective m a) b in
-    ap (λ n. n == call || g.io.call == call) (half_call (has_place a.io) m (effective m b) a) ∙ ap (λ n. a.io.call == call || n == call) (half_call (has_place b.io) m (effective m a) b)
+    ap (λ n. n == call || g.io.call == call) (half_call (has_place a.io) m (effective m b) a) ∙ ap (λ n. a.io.call == call || n == call)
+    (half_call (has_place b.io) m (effective m a) b)
 
 -- turns keep the calls of a job
 pub turns_keep : (n : ℕ) (job : Job) (call : ℕ) → has_call (after_turns n job) call ≡ has_call job call
@@ -41,6 +44,7 @@ one_fewer done given e = grind (arith, nat_tests)
 pub none_left : (done given : ℕ) → ltb done given ≡ false → given - done ≡ 0
 none_left done given e = grind (arith, nat_tests)
 
+-- after a place there is one less left
 place_left : (p : Phase) (j : CallMemory) → has_place j.io ≡ true → call_left (place_in p j) + 1 ≡ call_left j
 place_left First j e = one_fewer j.io.done j.io.given e
 place_left Second j e = one_fewer j.io.done j.io.given e
@@ -49,6 +53,7 @@ place_call : (p : Phase) (j : CallMemory) → (place_in p j).io.call ≡ j.io.ca
 place_call First j = refl
 place_call Second j = refl
 
+-- a turn works a place if there is one
 pub turned_is : (j : CallMemory) (b : Bool) → has_place j.io ≡ b → call_turned j ≡ (if b then place_in j.phase j else j)
 turned_is j b e = ap (λ (x : Bool). if x then place_in j.phase j else j) e
 
@@ -66,6 +71,7 @@ call_turn_call j = go (has_place j.io) refl
     go true e = ap (λ (m : CallMemory). m.io.call) (turned_is j true e) ∙ place_call j.phase j
     go false e = ap (λ (m : CallMemory). m.io.call) (turned_is j false e)
 
+-- a turn and n more are one more
 run_more : (n m : ℕ) (j : CallMemory) → n + 1 ≡ m → after_call_turns n (call_turned j) ≡ after_call_turns m j
 run_more n zero j e = absurd (omega arith)
 run_more n (suc m) j e = let k : n ≡ m = omega arith in ap (λ (i : ℕ). after_call_turns i (call_turned j)) k

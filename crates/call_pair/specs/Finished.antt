@@ -1,9 +1,10 @@
 -- The finished jobs of a round, by the history of their calls.
 use Rattle.std.specs.Prelude.{◌≡◌}
+use Rattle.call_leg.specs.Settings.{settings_at}
 use Rattle.call_pair.specs.Memory.{HalfMemory}
 use Rattle.call_pair.specs.declared.job.Job.{Job}
 use Rattle.call_pair.specs.declared.job.Job.TheVariants.{One, Two}
-use Rattle.call_pair.specs.History.{Start, settings_at, settings_past, alone_periods, bridged_periods, HasWorked}
+use Rattle.call_pair.specs.History.{Start, settings_past, alone_periods, bridged_periods, HasWorked}
 
 -- a half has worked all places of its call, which lies in no bridge
 abbrev pub HasWorkedAlone : Start → HalfMemory → Type 0

@@ -6,7 +6,7 @@ use Rattle.trau_params.specs.Bits260.{bits260}
 use Rattle.call_leg.specs.Who.{Who}
 use Rattle.call_leg.specs.Uplink.{handed_fields}
 use Rattle.call_leg.specs.Periods.{CallPeriod, effective_now}
-use Rattle.call_leg.specs.Settings.{Settings, later, without_bridge, period_with}
+use Rattle.call_leg.specs.Settings.{Settings, settings_at, without_bridge, period_with}
 use Rattle.call_leg.specs.Out.{out_of}
 use Rattle.call_leg.specs.Down.{down_now}
 use Rattle.call_leg.specs.Stands.{Stands}
@@ -23,11 +23,6 @@ pub record Start : Type 0 where
 -- whose it is
 abbrev pub who_of : Start → Who
 who_of s = record { number = s.io.call; law = s.law }
-
--- what is set for the period of place k
-abbrev pub settings_at : ℕ → Settings → Settings
-settings_at zero now = now
-settings_at (suc k) now = later (settings_at k now)
 
 -- the period of place k, with the bits that are handed over in it
 abbrev pub period_at : ℕ → Start → Option (List ℕ) → CallPeriod

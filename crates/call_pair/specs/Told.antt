@@ -39,13 +39,22 @@ pub record Speaks (s : Start) (items : List EffectiveFields) (j : CallMemory) : 
   pub run : DownRun (history_of s) j.notes items (pcms_in s) s.io.given octets
   pub down : j.io.down ≡ octets ++ drop (40 * s.io.given) s.io.down
   pub stands : (ups : ℕ → List ℕ) → AreNotes (history_of s) ups (pcms_in s) items s.io.given j.notes →
-      Between (who_of s) (periods_run (history_of s) ups (pcms_in s) (handed_run (history_of s) items) s.io.given) (settings_past s.io.given (length items) s.now) j.down
+      Between (who_of s) (periods_run (history_of s) ups (pcms_in s) (handed_run (history_of s) items) s.io.given)
+      (settings_past s.io.given (length items) s.now) j.down
 
 -- ---- a job's run
 
 -- the octets of a call after all its places
 abbrev pub io_with : IoMemory → List ℕ → List ℕ → IoMemory
-io_with io outs downs = record { call = io.call; up = io.up; pcm = io.pcm; out = outs ++ drop (160 * io.given) io.out; down = downs ++ drop (40 * io.given) io.down; given = io.given; done = io.given }
+io_with io outs downs = record {
+  call = io.call;
+  up = io.up;
+  pcm = io.pcm;
+  out = outs ++ drop (160 * io.given) io.out;
+  down = downs ++ drop (40 * io.given) io.down;
+  given = io.given;
+  done = io.given;
+}
 
 -- A half's octets are those of the run of its uplink half, which tells these notes, followed by that of its downlink half
 -- with these items.

@@ -1,6 +1,8 @@
 pub mod Stretched
 pub mod Ranges
+pub mod Speaking
 pub mod Items
+pub mod HandedAt
 pub mod Spans
 pub mod Starts
 pub mod Reading
@@ -9,6 +11,10 @@ pub mod OutLine
 pub mod Frames
 pub mod Loads
 pub mod Sending
+pub mod PlacedFrames
 pub mod DownLine
+pub mod FirstPeriods
+pub mod Ordered
+pub mod SpansSoFar
 pub mod Whole
 mod Rows

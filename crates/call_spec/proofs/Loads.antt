@@ -1,10 +1,10 @@
 -- What is known of each made frame by its place among the periods of a history.
 use Rattle.std.proofs.Common.{◌≡◌, refl, sym, ◌∙◌, subst, inl, inr, ℕ, ◌+◌, ◌*◌, ◌<◌, ◌≤◌, Bool, true, false, if◌then◌else◌, nat_le, Option, Some, None, List, [], ◌∷◌, ◌++◌, length, arith, append_assoc}
 use Rattle.std.proofs.lemmas.Bool.{cases_lt, cond_both, leb-true}
-use Rattle.down_framer.specs.Made.{Period, MadeFrame, next_start, latest_start, bridged_at, made_from, due, next_frame, grown}
+use Rattle.down_framer.specs.Made.{Period, MadeFrame, next_start, latest_start, hands_at, made_from, handed_due, next_frame, grown}
 use Rattle.down_framer.specs.ByNumber.{when}
 use Rattle.down_framer.proofs.Timing.{AreMade-made_frames, next_start-grown}
-use Rattle.down_framer.proofs.Waiting.{bridged_at-late}
+use Rattle.down_framer.proofs.Due.{hands_at-late}
 use Rattle.call_leg.specs.Periods.{CallPeriod, bridges_begun}
 use Rattle.call_leg.specs.Down.{CallFrame, down_period, down_periods, frames_of}
 use Rattle.call_leg.proofs.Enter.{length-down_periods}
@@ -26,22 +26,23 @@ ArePlaced ts [] = Unit {0}
 ArePlaced ts (f ∷ fs) = IsPlaced ts f × ArePlaced ts fs
 
 -- what is due is of a period so far
-due-below : {A : Type 0} (ps : List (Period A)) (fs : List (MadeFrame A)) (h : ℕ) → due ps fs ≡ Some h → h < length ps
+due-below : {A : Type 0} (ps : List (Period A)) (fs : List (MadeFrame A)) (h : ℕ) → handed_due ps fs ≡ Some h → h < length ps
 due-below ps fs h e = by (latest_start ps) e
   where
     some_if : (b : Bool) (k : ℕ) → (if b then Some k else None) ≡ Some h → (b ≡ true) × (k ≡ h)
     some_if true k e = (refl, let q : k ≡ h = cc in q)
     some_if false k e = let q : None ≡ Some h = e in cc
 
-    by : (o : Option ℕ) → (elim o as (λ x. Option ℕ) [ None ↦ None | Some s ↦ let h = s + made_from s fs in if bridged_at h ps then Some h else None ]) ≡ Some h → h < length ps
+    by : (o : Option ℕ) → (elim o as (λ x. Option ℕ) [ None ↦ None | Some s ↦ let h = s + made_from s fs in if hands_at h ps then Some h else None ]) ≡ Some h →
+        h < length ps
     by None e = cc
     by (Some s) e =
-        let found = some_if (bridged_at (s + made_from s fs) ps) (s + made_from s fs) e in
+        let found = some_if (hands_at (s + made_from s fs) ps) (s + made_from s fs) e in
         elim (cases_lt h (length ps)) [
           | inl below ↦ below
           | inr above ↦
               let same = found.1 in
-              let none = bridged_at-late ps (s + made_from s fs) (omega arith) in
+              let none = hands_at-late ps (s + made_from s fs) (omega arith) in
               let q : true ≡ false = sym found.0 ∙ none in cc
         ]
 

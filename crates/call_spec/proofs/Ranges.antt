@@ -13,6 +13,7 @@ IsPeriod {A} ts t past = (later : List A) × (later ++ t ∷ past ≡ ts)
 pub one_before : {A : Type 0} (ts : List A) (t u : A) (past : List A) → IsPeriod ts t (u ∷ past) → IsPeriod ts u past
 one_before ts t u past p = (p.0 ++ t ∷ [], append_assoc p.0 (t ∷ []) (u ∷ past) ∙ p.1)
 
+-- a period is one of them
 pub below : {A : Type 0} (ts : List A) (t : A) (past : List A) → IsPeriod ts t past → length past < length ts
 below ts t past p = let n = length-append p.0 (t ∷ past) in let m = ap length p.1 in omega arith
 
@@ -43,6 +44,7 @@ abbrev pub each_back : {A B : Type 0} → (A → List A → B) → List A → Li
 each_back value [] = []
 each_back value (t ∷ past) = value t past ∷ each_back value past
 
+-- the oldest first are the newest first turned round
 pub each-reverse : {A B : Type 0} (value : A → List A → B) (ts : List A) → each value ts ≡ reverse (each_back value ts)
 each-reverse value [] = refl
 each-reverse value (t ∷ past) = ap (λ z. z ++ value t past ∷ []) (each-reverse value past) ∙ sym (reverse-more (value t past) (each_back value past))
@@ -51,11 +53,16 @@ each-reverse value (t ∷ past) = ap (λ z. z ++ value t past ∷ []) (each-reve
 pub each-later : {A B : Type 0} (value : A → List A → B) (later ts : List A) → (more : List B) × (each value (later ++ ts) ≡ each value ts ++ more)
 each-later value [] ts = ([], sym (append-nil (each value ts)))
 each-later value (t ∷ later) ts =
-    let before = each-later value later ts in
-    (before.0 ++ value t (later ++ ts) ∷ [], ap (λ z. z ++ value t (later ++ ts) ∷ []) before.1 ∙ append_assoc (each value ts) before.0 (value t (later ++ ts) ∷ []))
+    let before = each-later value later ts in (
+      before.0 ++ value t (later ++ ts) ∷ [],
+      ap (λ z. z ++ value t (later ++ ts) ∷ []) before.1 ∙ append_assoc (each value ts) before.0 (value t (later ++ ts) ∷ []),
+    )
 
-pub each-at : {A B : Type 0} (value : A → List A → B) (d : B) (ts : List A) (t : A) (past : List A) → IsPeriod ts t past → get_or (each value ts) (length past) d ≡ value t past
+-- the value of a period stands at its place
+pub each-at : {A B : Type 0} (value : A → List A → B) (d : B) (ts : List A) (t : A) (past : List A) → IsPeriod ts t past →
+    get_or (each value ts) (length past) d ≡ value t past
 each-at value d ts t past p =
     let more = each-later value p.0 (t ∷ past) in
-    ap (λ us. get_or (each value us) (length past) d) (sym p.1) ∙ ap (λ z. get_or z (length past) d) (more.1 ∙ append_assoc (each value past) (value t past ∷ []) more.0) ∙
+    ap (λ us. get_or (each value us) (length past) d) (sym p.1)
+    ∙ ap (λ z. get_or z (length past) d) (more.1 ∙ append_assoc (each value past) (value t past ∷ []) more.0) ∙
     get_or_at (each value past) (value t past) more.0 d (length past) (length-each value past)

@@ -9,7 +9,7 @@ use Rattle.trau_params.specs.Fields.{Fields, fields_in}
 use Rattle.trau_orders.specs.declared.order.DtxMode.TheVariants.{Uplink}
 use Rattle.trau_frame.specs.DownFrame.{down_bits, down_control}
 use Rattle.trau_frame.specs.Frame.{number_of, data_of, frame_bits}
-use Rattle.trau_frame.specs.Role.{role_of, place_of}
+use Rattle.trau_frame.specs.Role.{role_of, place_of_role}
 use Rattle.trau_frame.specs.UpFrame.{words_in}
 use Rattle.trau_frame.specs.declared.frames.DownFrame.TheVariants as frames
 use Rattle.trau_frame.specs.Match.{is_match, frame_at}
@@ -22,7 +22,7 @@ use Rattle.call_spec.specs.Stretches.{stretches}
 use Rattle.call_spec.specs.Call.{Call, Setting, Span, item_at, starts_at}
 use Rattle.call_spec.specs.Out.{out}
 use Rattle.call_spec.specs.Down.{down}
-use Rattle.call_spec.specs.History.{spans_of}
+use Rattle.call_spec.specs.History.{spans_in_history}
 
 -- ---- stretches that do not fall
 
@@ -39,7 +39,7 @@ some_periods =
     period false None ∷ period true (Some (7 ∷ [])) ∷ period false (Some (8 ∷ [])) ∷ period true None ∷ period true (Some (9 ∷ [])) ∷ period false None ∷ []
 
 abbrev spans : List Span
-spans = reverse (spans_of (reverse some_periods))
+spans = reverse (spans_in_history (reverse some_periods))
 
 froms : map {B = ℕ × ℕ} (λ s. (s.from, s.to)) spans ≡ (1, 3) ∷ (3, 3) ∷ (4, 5) ∷ []
 froms = refl
@@ -81,7 +81,8 @@ silent_down = refl
 abbrev item : List ℕ
 item = 0 ∷ replicate 258 1 ++ 0 ∷ []
 
-handed_down : down (silent_call A (record { from = 1; to = 2; items = item ∷ [] } ∷ [])) ≡ replicate 320 1 ++ bits_of idle ++ down_bits (frames.Speech item true)
+handed_down : down (silent_call A (record { from = 1; to = 2; items = item ∷ [] } ∷ []))
+    ≡ replicate 320 1 ++ bits_of idle ++ down_bits (frames.Speech item true)
 unfolding each_yield searched first_match is_match role_of line_bits mode_after bits_of effective_at origin_at latest_anchor down_bits down_control frame_bits
 handed_down = refl
 
@@ -100,7 +101,8 @@ shifted_call = record {
 }
 
 shifted_down : down shifted_call ≡ replicate 320 1 ++ bits_of idle ++ replicate 312 1 ++ take 8 (bits_of idle)
-unfolding each_yield searched first_match is_match role_of line_bits mode_after bits_of effective_at origin_at latest_anchor down_bits down_control frame_bits words_in number_of place_of frame_at shift_of
+unfolding each_yield searched first_match is_match role_of line_bits mode_after bits_of effective_at origin_at latest_anchor down_bits down_control frame_bits
+    words_in number_of place_of_role frame_at shift_of
 shifted_down = refl
 
 -- ---- three good speech frames, and a span without a period at the second: two plain stretches
@@ -121,9 +123,11 @@ abbrev parameters : Fields
 parameters = fields_in (data_of (bits_of speech))
 
 speech_out : out (speech_call A) ≡ compressed A (decoded (parameters ∷ [])) ++ (compressed A (decoded (parameters ∷ parameters ∷ [])) ++ [])
-unfolding each_yield searched first_match is_match role_of line_bits mode_after bits_of effective_at origin_at latest_anchor words_in number_of place_of frame_at
+unfolding each_yield searched first_match is_match role_of line_bits mode_after bits_of effective_at origin_at latest_anchor words_in number_of place_of_role
+    frame_at
 speech_out = refl
 
 speech_mulaw : out (speech_call Mu) ≡ compressed Mu (decoded (parameters ∷ [])) ++ (compressed Mu (decoded (parameters ∷ parameters ∷ [])) ++ [])
-unfolding each_yield searched first_match is_match role_of line_bits mode_after bits_of effective_at origin_at latest_anchor words_in number_of place_of frame_at
+unfolding each_yield searched first_match is_match role_of line_bits mode_after bits_of effective_at origin_at latest_anchor words_in number_of place_of_role
+    frame_at
 speech_mulaw = refl

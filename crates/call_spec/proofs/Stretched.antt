@@ -28,11 +28,13 @@ abbrev join : {A : Type 0} → (A → A → Bool) → A → List A → List (Lis
 join r x [] = (x ∷ []) ∷ []
 join r x (y ∷ ys) = if r (last y ys) x then ((y ∷ ys) ++ x ∷ []) ∷ [] else (y ∷ ys) ∷ (x ∷ []) ∷ []
 
+-- an item behind a list that is cut
 abbrev put_after : {A : Type 0} → (A → A → Bool) → A → List (List A) → List (List A)
 put_after r x [] = (x ∷ []) ∷ []
 put_after r x (s ∷ []) = join r x s
 put_after r x (s ∷ q ∷ qs) = s ∷ put_after r x (q ∷ qs)
 
+-- before and behind do not meet
 put-both : {A : Type 0} (r : A → A → Bool) (x y : A) (cut : List (List A)) → put_before r y (put_after r x cut) ≡ put_after r x (put_before r y cut)
 put-both r x y [] = refl
 put-both r x y ([] ∷ []) = refl
@@ -50,6 +52,7 @@ put-both r x y ((z ∷ zs) ∷ q ∷ qs) = by (r y z) refl
     by true e = rw e refl
     by false e = rw e refl
 
+-- one item more, behind
 stretches-more : {A : Type 0} (r : A → A → Bool) (xs : List A) (x : A) → stretches r (xs ++ x ∷ []) ≡ put_after r x (stretches r xs)
 stretches-more r [] x = refl
 stretches-more r (y ∷ xs) x = ap (put_before r y) (stretches-more r xs x) ∙ put-both r x y (stretches r xs)
@@ -75,14 +78,17 @@ before r x (y ∷ past) = if r y x then y ∷ before r y past else []
 abbrev pub newest : {A : Type 0} → (A → A → Bool) → A → List A → List A
 newest r x past = x ∷ before r x past
 
-join-newest : {A : Type 0} (r : A → A → Bool) (x y : A) (s : List A) → join r x (reverse (y ∷ s)) ≡ (if r y x then reverse (x ∷ y ∷ s) ∷ [] else reverse (y ∷ s) ∷ (x ∷ []) ∷ [])
+-- it goes on with the last stretch or begins one
+join-newest : {A : Type 0} (r : A → A → Bool) (x y : A) (s : List A) →
+    join r x (reverse (y ∷ s)) ≡ (if r y x then reverse (x ∷ y ∷ s) ∷ [] else reverse (y ∷ s) ∷ (x ∷ []) ∷ [])
 join-newest r x y s =
     ap (join r x) (reverse-more y s) ∙ join-last r x y (reverse s) ∙
     ap (λ z. if r y x then (z ++ x ∷ []) ∷ [] else z ∷ (x ∷ []) ∷ []) (sym (reverse-more y s)) ∙
     ap (λ z. if r y x then z ∷ [] else reverse (y ∷ s) ∷ (x ∷ []) ∷ []) (sym (reverse-more x (y ∷ s)))
 
 -- the last stretch is the one that ends with the newest item
-pub last_stretch : {A : Type 0} (r : A → A → Bool) (x : A) (past : List A) → (cut : List (List A)) × (stretches r (reverse (x ∷ past)) ≡ cut ++ reverse (newest r x past) ∷ [])
+pub last_stretch : {A : Type 0} (r : A → A → Bool) (x : A) (past : List A) →
+    (cut : List (List A)) × (stretches r (reverse (x ∷ past)) ≡ cut ++ reverse (newest r x past) ∷ [])
 last_stretch r x [] = ([], refl)
 last_stretch {A = A} r x (y ∷ past) = by (r y x) refl (last_stretch r y past)
   where
@@ -108,6 +114,7 @@ pub record AddsTo {A B : Type 0} (r : A → A → Bool) (F : List A → List B) 
   pub first : (x : A) → F (x ∷ []) ≡ f x []
   pub more : (x y : A) (past : List A) → r y x ≡ true → F (reverse (x ∷ newest r y past)) ≡ F (reverse (newest r y past)) ++ f x (newest r y past)
 
+-- **One item more adds what it adds to the last stretch.**
 pub stretched-more : {A B : Type 0} (r : A → A → Bool) (F : List A → List B) (f : A → List A → List B) → AddsTo r F f → (x : A) (past : List A) →
     flat_map F (stretches r (reverse (x ∷ past))) ≡ flat_map F (stretches r (reverse past)) ++ f x (before r x past)
 stretched-more r F f h x [] = append-nil (F (x ∷ [])) ∙ h.first x
@@ -136,5 +143,6 @@ stretched-more r F f h x (y ∷ past) = by (last_stretch r y past) (r y x) refl
         ap (λ cut. flat_map F (put_after r x cut)) s.1 ∙ ap (flat_map F) (put_after-last r x s.0 (reverse (newest r y past))) ∙
         flat_map-append F s.0 (join r x (reverse (newest r y past))) ∙ ap (λ z. flat_map F s.0 ++ flat_map F z) (join-newest r x y (before r y past)) in
         let were : flat_map F (stretches r (reverse (y ∷ past))) ≡ flat_map F s.0 ++ F (reverse (newest r y past)) =
-        ap (flat_map F) s.1 ∙ flat_map-append F s.0 (reverse (newest r y past) ∷ []) ∙ ap (λ z. flat_map F s.0 ++ z) (append-nil (F (reverse (newest r y past)))) in
+        ap (flat_map F) s.1 ∙ flat_map-append F s.0 (reverse (newest r y past) ∷ [])
+        ∙ ap (λ z. flat_map F s.0 ++ z) (append-nil (F (reverse (newest r y past)))) in
         now ∙ parts s.0 b e ∙ ap (λ z. z ++ f x (before r x (y ∷ past))) (sym were)

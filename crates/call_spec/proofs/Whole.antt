@@ -1,242 +1,22 @@
 -- The history of a call as a whole is one of its periods, and says all of it.
-use Rattle.std.proofs.Common.{◌≡◌, refl, sym, ap, ◌∙◌, inl, inr, ℕ, ◌+◌, ◌-◌, ◌*◌, ◌<◌, ◌≤◌, zero, suc, min, Bool, true, false, ◌||◌, ◌&&◌, if◌then◌else◌, nat_le, nat_lt, Option, Some, None, List, [], ◌∷◌, ◌++◌, length, take, drop, reverse, get_or, All, pos, arith, length-drop, length-take}
+use Rattle.std.proofs.Common.{◌≡◌, refl, sym, ap, ◌∙◌, inl, inr, ℕ, ◌+◌, ◌-◌, ◌*◌, ◌≤◌, zero, suc, true, false, ◌||◌, Option, Some, None, List, [], ◌∷◌, length, drop, reverse, All, arith, length-drop, length-take}
 use Rattle.std.specs.Prelude.{is_some}
-use Rattle.std.proofs.lemmas.Bool.{cases_lt, lt-leb, le-leb, lt-ltb, le-ltb, eq-eqb, ne_eqb, cond-true, cond-false, and_right, or_right, true≢false}
-use Rattle.std.proofs.lemmas.List.{take_all, take_more, take-take, drop-take, take-append-drop, nil_from_length}
+use Rattle.std.proofs.lemmas.Bool.{cases_lt, or_right, true≢false}
+use Rattle.std.proofs.lemmas.List.{take_all}
 use Rattle.std.proofs.lemmas.List.Elements.{All-nil, All-cons}
-use Rattle.trau_orders.specs.declared.order.DtxMode.TheVariants.{Uplink}
-use Rattle.down_framer.specs.Bridges.{AreApart}
+use Rattle.down_framer.specs.Bridges.{LeavePeriodsBetween}
 use Rattle.down_framer.proofs.FrameLaws.{apart}
 use Rattle.call_leg.specs.Who.{Who}
 use Rattle.call_leg.specs.Periods.{pcm_of}
 use Rattle.call_leg.specs.Down.{down_periods}
-use Rattle.call_spec.specs.Call.{Call, Setting, Span, periods, setting_at, item_at, starts_at}
-use Rattle.call_spec.specs.History.{IsCallHistory, up_of, settings_of, new_span, go_on, spans_of, call_of}
-use Rattle.call_spec.specs.Whole.{AreSpans, IsWhole, period_at, first_periods, history_of}
-use Rattle.call_spec.proofs.Stretched.{reverse-more}
+use Rattle.call_spec.specs.Call.{Call, Setting, Span, periods, item_at, starts_at}
+use Rattle.call_spec.specs.History.{IsCallHistory, settings_of, spans_in_history, call_of_history}
+use Rattle.call_spec.specs.Whole.{AreSpans, IsWhole, call_period, first_periods, periods_of_call}
+use Rattle.call_spec.proofs.FirstPeriods.{ups-first, pcms-first, settings-first}
+use Rattle.call_spec.proofs.Ordered.{head_early, head_late, head_inside, item-none, starts-other, starts-here, starts-none}
+use Rattle.call_spec.proofs.SpansSoFar.{so_far-all, spans-first}
 
--- ---- the lines and the settings
-
-take-more : (n m : ℕ) (xs : List ℕ) → take n xs ++ take m (drop n xs) ≡ take (n + m) xs
-take-more n m xs =
-    ap (λ z. z ++ take m (drop n xs)) (sym (take-take n (n + m) xs (omega arith))) ∙
-    ap (λ z. take n (take (n + m) xs) ++ z) (sym (drop-take n m xs)) ∙ take-append-drop n (take (n + m) xs)
-
-ups-first : (call : Call) (k : ℕ) → up_of (first_periods call k) ≡ take (40 * k) call.up
-ups-first call zero = refl
-ups-first call (suc k) =
-    let e : 40 * k + 40 ≡ 40 * suc k = omega arith in
-    ap (λ z. z ++ take 40 (drop (40 * k) call.up)) (ups-first call k) ∙ take-more (40 * k) 40 call.up ∙ ap (λ n. take n call.up) e
-
-pcms-first : (call : Call) (k : ℕ) → pcm_of (first_periods call k) ≡ take (160 * k) call.pcm
-pcms-first call zero = refl
-pcms-first call (suc k) =
-    let e : 160 * k + 160 ≡ 160 * suc k = omega arith in
-    ap (λ z. z ++ take 160 (drop (160 * k) call.pcm)) (pcms-first call k) ∙ take-more (160 * k) 160 call.pcm ∙ ap (λ n. take n call.pcm) e
-
-settings-first : (call : Call) (k : ℕ) → k ≤ periods call → settings_of (first_periods call k) ≡ take k call.settings
-settings-first call zero l = refl
-settings-first call (suc k) l =
-    let e : k + 1 ≡ suc k = omega arith in
-    ap (λ z. z ++ setting_at call k ∷ []) (settings-first call k (omega arith)) ∙
-    sym (take_more call.settings k (record { level = pos 256; mode = Uplink }) (omega arith)) ∙ ap (λ n. take n call.settings) e
-
-length-first : (call : Call) (k : ℕ) → length (first_periods call k) ≡ k
-length-first call zero = refl
-length-first call (suc k) = ap suc (length-first call k)
-
--- ---- spans that start later
-
-head_early : (span : Span) (spans : List Span) (k : ℕ) → k < span.from → item_at (span ∷ spans) k ≡ item_at spans k
-head_early span spans k l =
-    cond-false (nat_le span.from k && nat_lt k span.to) (Some (get_or span.items (k - span.from) [])) (item_at spans k)
-    (ap (λ b. b && nat_lt k span.to) (lt-leb span.from k l))
-
-head_late : (span : Span) (spans : List Span) (k : ℕ) → span.to ≤ k → item_at (span ∷ spans) k ≡ item_at spans k
-head_late span spans k l =
-    cond-false (nat_le span.from k && nat_lt k span.to) (Some (get_or span.items (k - span.from) [])) (item_at spans k)
-    (and_right (nat_le span.from k) (nat_lt k span.to) (le-ltb k span.to l))
-
-head_inside : (span : Span) (spans : List Span) (k : ℕ) → span.from ≤ k → k < span.to → item_at (span ∷ spans) k ≡ Some (get_or span.items (k - span.from) [])
-head_inside span spans k l m =
-    cond-true (nat_le span.from k && nat_lt k span.to) (Some (get_or span.items (k - span.from) [])) (item_at spans k)
-    (ap (λ b. b && nat_lt k span.to) (le-leb span.from k l) ∙ lt-ltb k span.to m)
-
-item-none : (low n k : ℕ) (spans : List Span) → AreSpans low n spans → k < low → item_at spans k ≡ None
-item-none low n k [] h l = refl
-item-none low n k (span ∷ spans) h l =
-    let from = h.0 in
-    let count = h.3 in
-    head_early span spans k (omega arith) ∙ item-none (span.to + 1) n k spans h.4 (omega arith)
-
-starts-other : (span : Span) (spans : List Span) (k : ℕ) → (span.from ≡ k → ⊥) → starts_at (span ∷ spans) k ≡ starts_at spans k
-starts-other span spans k d = ap (λ b. b || starts_at spans k) (ne_eqb span.from k d)
-
-starts-here : (span : Span) (spans : List Span) (k : ℕ) → span.from ≡ k → starts_at (span ∷ spans) k ≡ true
-starts-here span spans k e = ap (λ b. b || starts_at spans k) (eq-eqb span.from k e)
-
-starts-none : (low n k : ℕ) (spans : List Span) → AreSpans low n spans → k < low → starts_at spans k ≡ false
-starts-none low n k [] h l = refl
-starts-none low n k (span ∷ spans) h l =
-    let from = h.0 in
-    let count = h.3 in
-    starts-other span spans k (λ e. omega arith) ∙ starts-none (span.to + 1) n k spans h.4 (omega arith)
-
--- ---- the spans of the first k periods
-
-abbrev span3 : ℕ → ℕ → List (List ℕ) → Span
-span3 from to items = record { from = from; to = to; items = items }
-
-same_span : (a b c d : ℕ) (x y : List (List ℕ)) → a ≡ b → c ≡ d → x ≡ y → span3 a c x ≡ span3 b d y
-same_span a b c d x y p q r = ap (λ a. span3 a c x) p ∙ ap (λ c. span3 b c x) q ∙ ap (span3 b d) r
-
-abbrev cut : ℕ → Span → Span
-cut k span = span3 span.from (min span.to k) (take (k - span.from) span.items)
-
-abbrev so_far : ℕ → List Span → List Span
-so_far k [] = []
-so_far k (span ∷ spans) = if nat_lt span.from k then cut k span ∷ so_far k spans else []
-
-so_far-none : (low n k : ℕ) (spans : List Span) → AreSpans low n spans → k ≤ low → so_far k spans ≡ []
-so_far-none low n k [] h l = refl
-so_far-none low n k (span ∷ spans) h l = let from = h.0 in cond-false (nat_lt span.from k) _ [] (le-ltb span.from k (omega arith))
-
-so_far-some : (k : ℕ) (span : Span) (spans : List Span) → span.from < k → so_far k (span ∷ spans) ≡ cut k span ∷ so_far k spans
-so_far-some k span spans l = cond-true (nat_lt span.from k) (cut k span ∷ so_far k spans) [] (lt-ltb span.from k l)
-
-cut-whole : (k : ℕ) (span : Span) → span.to ≤ k → span.from + length span.items ≡ span.to → cut k span ≡ span
-cut-whole k span l e =
-    same_span span.from span.from (min span.to k) span.to (take (k - span.from) span.items) span.items refl (omega arith) (take_all (k - span.from) span.items (omega arith))
-
--- the last span goes on where an item is handed over
-abbrev extended : Option (List ℕ) → Span → Span
-extended None span = span
-extended (Some item) span = span3 span.from (span.to + 1) (span.items ++ item ∷ [])
-
-abbrev go_last : Option (List ℕ) → List Span → List Span
-go_last o [] = []
-go_last o (span ∷ []) = extended o span ∷ []
-go_last o (span ∷ next ∷ spans) = span ∷ go_last o (next ∷ spans)
-
-go_last-end : (o : Option (List ℕ)) (spans : List Span) (span : Span) → go_last o (spans ++ span ∷ []) ≡ spans ++ extended o span ∷ []
-go_last-end o [] span = refl
-go_last-end o (a ∷ []) span = refl
-go_last-end o (a ∷ b ∷ spans) span = ap (λ z. a ∷ z) (go_last-end o (b ∷ spans) span)
-
-go_last-none : (spans : List Span) → go_last None spans ≡ spans
-go_last-none [] = refl
-go_last-none (a ∷ []) = refl
-go_last-none (a ∷ b ∷ spans) = ap (λ z. a ∷ z) (go_last-none (b ∷ spans))
-
-go_on-reverse : (o : Option (List ℕ)) (spans : List Span) → reverse (go_on o spans) ≡ go_last o (reverse spans)
-go_on-reverse None spans = sym (go_last-none (reverse spans))
-go_on-reverse (Some item) [] = refl
-go_on-reverse (Some item) (span ∷ others) =
-    reverse-more (extended (Some item) span) others ∙ sym (go_last-end (Some item) (reverse others) span) ∙ ap (go_last (Some item)) (sym (reverse-more span others))
-
--- the spans after period k
-abbrev after : Bool → ℕ → Option (List ℕ) → List Span → List Span
-after starts k o spans = if starts then spans ++ new_span k o ∷ [] else go_last o spans
-
-same_after : (k : ℕ) (a b : Bool) (o p : Option (List ℕ)) (x y : List Span) → a ≡ b → o ≡ p → x ≡ y → after a k o x ≡ after b k p y
-same_after k a b o p x y q r s = ap (λ a. after a k o x) q ∙ ap (λ o. after b k o x) r ∙ ap (after b k p) s
-
--- between spans nothing is handed over
-nothing_yet : (low n k : ℕ) (spans : List Span) → AreSpans low n spans → so_far k spans ≡ [] → starts_at spans k ≡ false → item_at spans k ≡ None
-nothing_yet low n k [] h e s = refl
-nothing_yet low n k (span ∷ spans) h e s = elim (cases_lt span.from k) [
-  | inl begun ↦ let q : cut k span ∷ so_far k spans ≡ [] = sym (so_far-some k span spans begun) ∙ e in cc
-  | inr not_begun ↦ elim (cases_lt k span.from) [
-    | inl early ↦ let count = h.3 in head_early span spans k early ∙ item-none (span.to + 1) n k spans h.4 (omega arith)
-    | inr now ↦ absurd (true≢false (sym (starts-here span spans k (omega arith)) ∙ s))
-  ]
-]
-
-one_before : (k : ℕ) (span : Span) (starts : Bool) (o : Option (List ℕ)) (spans : List Span) → (spans ≡ [] → starts ≡ false → o ≡ None) → span ∷ after starts k o spans ≡ after starts k o (span ∷ spans)
-one_before k span true o spans h = refl
-one_before k span false o [] h = sym (ap (λ o. extended o span ∷ []) (h refl refl))
-one_before k span false o (next ∷ spans) h = refl
-
-first_of_new : (k : ℕ) (span : Span) (spans : List Span) (low n : ℕ) → AreSpans low n (span ∷ spans) → span.from ≡ k → cut (suc k) span ≡ new_span k (item_at (span ∷ spans) k)
-first_of_new k span spans low n h e =
-    let count = h.3 in
-    let one : suc k - span.from ≡ 0 + 1 = omega arith in
-    elim (cases_lt k span.to) [
-      | inl goes ↦
-          let place : k - span.from ≡ 0 = omega arith in
-          same_span span.from k (min span.to (suc k)) (k + 1) (take (suc k - span.from) span.items) (get_or span.items (k - span.from) [] ∷ []) e (omega arith)
-          (ap (λ i. take i span.items) one ∙ take_more span.items 0 [] (omega arith) ∙ ap (λ i. get_or span.items i [] ∷ []) (sym place)) ∙
-          ap (new_span k) (sym (head_inside span spans k (omega arith) goes))
-      | inr empty ↦
-          let none : span.items ≡ [] = nil_from_length span.items (omega arith) in
-          same_span span.from k (min span.to (suc k)) k (take (suc k - span.from) span.items) [] e (omega arith)
-          (ap (λ i. take i span.items) one ∙ ap (take (0 + 1)) none) ∙
-          ap (new_span k) (sym (head_late span spans k empty ∙ item-none (span.to + 1) n k spans h.4 (omega arith)))
-    ]
-
-step : (low n k : ℕ) (spans : List Span) → AreSpans low n spans → so_far (suc k) spans ≡ after (starts_at spans k) k (item_at spans k) (so_far k spans)
-step low n k [] h = refl
-step low n k (span ∷ spans) h =
-    let count = h.3 in
-    let rest : AreSpans (span.to + 1) n spans = h.4 in
-    elim (cases_lt k span.from) [
-      | inl early ↦
-          cond-false (nat_lt span.from (suc k)) (cut (suc k) span ∷ so_far (suc k) spans) [] (le-ltb span.from (suc k) (omega arith)) ∙
-          sym (same_after k _ false _ None _ []
-          (starts-other span spans k (λ e. omega arith) ∙ starts-none (span.to + 1) n k spans rest (omega arith))
-          (head_early span spans k early ∙ item-none (span.to + 1) n k spans rest (omega arith))
-          (cond-false (nat_lt span.from k) (cut k span ∷ so_far k spans) [] (le-ltb span.from k (omega arith))))
-      | inr begun ↦ elim (cases_lt span.from k) [
-        | inr now ↦
-            let e : span.from ≡ k = omega arith in
-            so_far-some (suc k) span spans (omega arith) ∙ ap (λ z. cut (suc k) span ∷ z) (so_far-none (span.to + 1) n (suc k) spans rest (omega arith)) ∙
-            ap (λ s. s ∷ []) (first_of_new k span spans low n h e) ∙
-            sym (same_after k _ true _ (item_at (span ∷ spans) k) _ [] (starts-here span spans k e) refl
-            (cond-false (nat_lt span.from k) (cut k span ∷ so_far k spans) [] (le-ltb span.from k (omega arith))))
-        | inl before ↦ so_far-some (suc k) span spans (omega arith) ∙ elim (cases_lt k span.to) [
-          | inl goes ↦
-              let e : k - span.from + 1 ≡ suc k - span.from = omega arith in
-              ap (λ z. cut (suc k) span ∷ z) (so_far-none (span.to + 1) n (suc k) spans rest (omega arith)) ∙
-              ap (λ s. s ∷ [])
-              (same_span span.from span.from (min span.to (suc k)) (min span.to k + 1) (take (suc k - span.from) span.items) _ refl (omega arith)
-              (sym (ap (λ i. take i span.items) e) ∙ take_more span.items (k - span.from) [] (omega arith))) ∙
-              sym (same_after k _ false _ (Some (get_or span.items (k - span.from) [])) _ (cut k span ∷ [])
-              (starts-other span spans k (λ e. omega arith) ∙ starts-none (span.to + 1) n k spans rest (omega arith))
-              (head_inside span spans k begun goes)
-              (so_far-some k span spans before ∙ ap (λ z. cut k span ∷ z) (so_far-none (span.to + 1) n k spans rest (omega arith))))
-          | inr over ↦
-              ap (λ s. s ∷ so_far (suc k) spans) (cut-whole (suc k) span (omega arith) count) ∙ ap (λ z. span ∷ z) (step (span.to + 1) n k spans rest) ∙
-              one_before k span (starts_at spans k) (item_at spans k) (so_far k spans) (nothing_yet (span.to + 1) n k spans rest) ∙
-              sym (same_after k _ (starts_at spans k) _ (item_at spans k) _ (span ∷ so_far k spans)
-              (starts-other span spans k (λ e. omega arith)) (head_late span spans k over)
-              (so_far-some k span spans before ∙ ap (λ s. s ∷ so_far k spans) (cut-whole k span over count)))
-        ]
-      ]
-    ]
-
-so_far-all : (low n : ℕ) (spans : List Span) → AreSpans low n spans → so_far n spans ≡ spans
-so_far-all low n [] h = refl
-so_far-all low n (span ∷ spans) h =
-    so_far-some n span spans h.1 ∙ ap (λ s. s ∷ so_far n spans) (cut-whole n span h.2 h.3) ∙ ap (λ z. span ∷ z) (so_far-all (span.to + 1) n spans h.4)
-
-spans-first : (call : Call) (n k : ℕ) → AreSpans 0 n call.spans → reverse (spans_of (first_periods call k)) ≡ so_far k call.spans
-spans-first call n zero h = sym (so_far-none 0 n 0 call.spans h (omega arith))
-spans-first call n (suc k) h = by (starts_at call.spans k) refl (spans-first call n k h)
-  where
-    by : (b : Bool) → starts_at call.spans k ≡ b → reverse (spans_of (first_periods call k)) ≡ so_far k call.spans → reverse (spans_of (first_periods call (suc k))) ≡ so_far (suc k) call.spans
-    by true e so =
-        ap reverse (cond-true (starts_at call.spans k) _ (go_on (item_at call.spans k) (spans_of (first_periods call k))) e) ∙
-        reverse-more (new_span (length (first_periods call k)) (item_at call.spans k)) (spans_of (first_periods call k)) ∙
-        ap (λ z. z ++ new_span (length (first_periods call k)) (item_at call.spans k) ∷ []) so ∙
-        ap (λ i. so_far k call.spans ++ new_span i (item_at call.spans k) ∷ []) (length-first call k) ∙
-        sym (step 0 n k call.spans h ∙ ap (λ b. after b k (item_at call.spans k) (so_far k call.spans)) e)
-    by false e so =
-        ap reverse (cond-false (starts_at call.spans k) (new_span (length (first_periods call k)) (item_at call.spans k) ∷ spans_of (first_periods call k)) _ e) ∙
-        go_on-reverse (item_at call.spans k) (spans_of (first_periods call k)) ∙ ap (go_last (item_at call.spans k)) so ∙
-        sym (step 0 n k call.spans h ∙ ap (λ b. after b k (item_at call.spans k) (so_far k call.spans)) e)
-
--- ---- bridges leave a period between, and go on without a gap
-
+-- before a span starts nothing is handed over
 gap : (low n j : ℕ) (spans : List Span) → AreSpans low n spans → starts_at spans (suc j) ≡ true → item_at spans j ≡ None
 gap low n j [] h s = absurd (true≢false (sym s))
 gap low n j (span ∷ spans) h s =
@@ -255,7 +35,9 @@ gap low n j (span ∷ spans) h s =
 some : (o : Option (List ℕ)) (x : List ℕ) → o ≡ Some x → is_some o ≡ true
 some o x e = ap is_some e
 
-no_gap : (low n j : ℕ) (spans : List Span) → AreSpans low n spans → is_some (item_at spans (suc j)) ≡ true → (starts_at spans (suc j) || is_some (item_at spans j)) ≡ true
+-- what is handed over begins at a start and goes on without a gap
+no_gap : (low n j : ℕ) (spans : List Span) → AreSpans low n spans → is_some (item_at spans (suc j)) ≡ true →
+    (starts_at spans (suc j) || is_some (item_at spans j)) ≡ true
 no_gap low n j [] h s = absurd (true≢false (sym s))
 no_gap low n j (span ∷ spans) h s =
     let count = h.3 in
@@ -267,7 +49,8 @@ no_gap low n j (span ∷ spans) h s =
         | inl now ↦ ap (λ b. b || is_some (item_at (span ∷ spans) j)) (starts-here span spans (suc j) (omega arith))
         | inr before ↦ elim (cases_lt j span.to) [
           | inl goes ↦
-              ap (λ b. starts_at (span ∷ spans) (suc j) || b) (some _ _ (head_inside span spans j before goes)) ∙ or_right (starts_at (span ∷ spans) (suc j)) true refl
+              ap (λ b. starts_at (span ∷ spans) (suc j) || b) (some _ _ (head_inside span spans j before goes))
+              ∙ or_right (starts_at (span ∷ spans) (suc j)) true refl
           | inr over ↦
               ap (λ b. b || is_some (item_at (span ∷ spans) j)) (starts-other span spans (suc j) (λ e. omega arith)) ∙
               ap (λ o. starts_at spans (suc j) || is_some o) (head_late span spans j over) ∙
@@ -276,6 +59,7 @@ no_gap low n j (span ∷ spans) h s =
       ]
     ]
 
+-- in the first period too
 from_start : (low n : ℕ) (spans : List Span) → AreSpans low n spans → is_some (item_at spans 0) ≡ true → starts_at spans 0 ≡ true
 from_start low n [] h s = s
 from_start low n (span ∷ spans) h s = elim (cases_lt 0 span.from) [
@@ -285,7 +69,8 @@ from_start low n (span ∷ spans) h s = elim (cases_lt 0 span.from) [
   | inr now ↦ starts-here span spans 0 (omega arith)
 ]
 
-apart-first : (call : Call) (n k : ℕ) → AreSpans 0 n call.spans → AreApart (down_periods (first_periods call k))
+-- so bridges leave a period between
+apart-first : (call : Call) (n k : ℕ) → AreSpans 0 n call.spans → LeavePeriodsBetween (down_periods (first_periods call k))
 apart-first call n zero h = tt
 apart-first call n (suc zero) h = (tt, λ s. refl, λ b. ap (λ z. z || false) (from_start 0 n call.spans h b))
 apart-first call n (suc (suc k)) h = (
@@ -300,32 +85,38 @@ ups-sized : (call : Call) (k : ℕ) → length call.up ≡ 40 * periods call →
 ups-sized call zero e l = All-nil (λ t. length t.up ≡ 40)
 ups-sized call (suc k) e l =
     let rest = length-drop (40 * k) call.up in
-    All-cons (λ t. length t.up ≡ 40) (period_at call k) (first_periods call k)
+    All-cons (λ t. length t.up ≡ 40) (call_period call k) (first_periods call k)
     (length-take 40 (drop (40 * k) call.up) ∙ omega arith) (ups-sized call k e (omega arith))
 
 pcms-sized : (call : Call) (k : ℕ) → length call.pcm ≡ 160 * periods call → k ≤ periods call → All (λ t. length t.pcm ≡ 160) (first_periods call k)
 pcms-sized call zero e l = All-nil (λ t. length t.pcm ≡ 160)
 pcms-sized call (suc k) e l =
     let rest = length-drop (160 * k) call.pcm in
-    All-cons (λ t. length t.pcm ≡ 160) (period_at call k) (first_periods call k)
+    All-cons (λ t. length t.pcm ≡ 160) (call_period call k) (first_periods call k)
     (length-take 160 (drop (160 * k) call.pcm) ∙ omega arith) (pcms-sized call k e (omega arith))
 
-pub history-whole : (call : Call) → IsWhole call → IsCallHistory (history_of call)
+-- **The periods of a call as a whole are a history.**
+pub history-whole : (call : Call) → IsWhole call → IsCallHistory (periods_of_call call)
 history-whole call h = record {
   ups = ups-sized call (periods call) h.up (omega arith);
   pcms = pcms-sized call (periods call) h.pcm (omega arith);
-  bridges = apart (down_periods (history_of call)) (apart-first call (periods call) (periods call) h.spans);
+  bridges = apart (down_periods (periods_of_call call)) (apart-first call (periods call) (periods call) h.spans);
 }
 
+-- a call by its parts
 abbrev call5 : Who → List ℕ → List ℕ → List Setting → List Span → Call
 call5 who up pcm settings spans = record { who = who; up = up; pcm = pcm; settings = settings; spans = spans }
 
-pub call-whole : (call : Call) → IsWhole call → call_of call.who (history_of call) ≡ call
+-- **And the call of that history is the call itself.**
+pub call-whole : (call : Call) → IsWhole call → call_of_history call.who (periods_of_call call) ≡ call
 call-whole call h =
-    let ts = history_of call in
+    let ts = periods_of_call call in
     let up = h.up in
     let pcm = h.pcm in
-    ap (λ z. call5 call.who z (pcm_of ts) (settings_of ts) (reverse (spans_of ts))) (ups-first call (periods call) ∙ take_all (40 * periods call) call.up (omega arith)) ∙
-    ap (λ z. call5 call.who call.up z (settings_of ts) (reverse (spans_of ts))) (pcms-first call (periods call) ∙ take_all (160 * periods call) call.pcm (omega arith)) ∙
-    ap (λ z. call5 call.who call.up call.pcm z (reverse (spans_of ts))) (settings-first call (periods call) (omega arith) ∙ take_all (periods call) call.settings (omega arith)) ∙
+    ap (λ z. call5 call.who z (pcm_of ts) (settings_of ts) (reverse (spans_in_history ts)))
+    (ups-first call (periods call) ∙ take_all (40 * periods call) call.up (omega arith)) ∙
+    ap (λ z. call5 call.who call.up z (settings_of ts) (reverse (spans_in_history ts)))
+    (pcms-first call (periods call) ∙ take_all (160 * periods call) call.pcm (omega arith)) ∙
+    ap (λ z. call5 call.who call.up call.pcm z (reverse (spans_in_history ts)))
+    (settings-first call (periods call) (omega arith) ∙ take_all (periods call) call.settings (omega arith)) ∙
     ap (call5 call.who call.up call.pcm call.settings) (spans-first call (periods call) (periods call) h.spans ∙ so_far-all 0 (periods call) call.spans h.spans)

@@ -65,12 +65,12 @@ abbrev pub heard_at : Call → ℕ → Heard
 heard_at call k = heard_as (seen_at call k)
 
 -- the effective frame of period k, by what is heard in all periods
-abbrev pub effective : Call → ℕ → EffectiveFields
-effective call k = effective_at call.who.number (heard_in (map (heard_at call) (each_period call))) k
+abbrev pub effective_frame : Call → ℕ → EffectiveFields
+effective_frame call k = effective_at call.who.number (heard_in (map (heard_at call) (each_period call))) k
 
 -- whether it is quiet
 abbrev pub is_quiet_at : Call → ℕ → Bool
-is_quiet_at call k = is_quiet (effective call k)
+is_quiet_at call k = is_quiet (effective_frame call k)
 
 -- the alignment field of each period's frame, if it is one of speech or idle
 abbrev pub fields : Call → List (Option ℕ)

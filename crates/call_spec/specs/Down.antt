@@ -11,7 +11,7 @@ use Rattle.fr_encoder.specs.Encoded.{Encoded, encoded}
 use Rattle.tx_dtx.specs.Stretch.{Coded}
 use Rattle.tx_dtx.specs.Sent.{sent}
 use Rattle.down_framer.specs.Made.{frame_on_line}
-use Rattle.down_framer.specs.ByNumber.{Bridge, NumberedFrame, when, count_from, numbered_next, numbered}
+use Rattle.down_framer.specs.ByNumber.{Bridge, NumberedFrame, when, count_from, numbered_next, numbered_frames}
 use Rattle.call_leg.specs.Down.{coded_as, speech}
 use Rattle.call_spec.specs.Stretches.{stretches}
 use Rattle.call_spec.specs.Call.{Call, Span, periods, setting_at, is_quiet_at, fields, dtx_at, item_at}
@@ -19,30 +19,30 @@ use Rattle.call_spec.specs.Call.{Call, Span, periods, setting_at, is_quiet_at, f
 -- ---- the made frames
 
 -- a span without its items
-abbrev pub bridge_of : Span → Bridge
-bridge_of span = record { from = span.from; to = span.to }
+abbrev pub without_items : Span → Bridge
+without_items span = record { from = span.from; to = span.to }
 
 -- the first j frames, the newest first, and frame j after them: it starts where the one before says, carries the item
 -- that a span has for it, and has otherwise the shift asked for last
 abbrev pub first_frames : Call → ℕ → List NumberedFrame
-first_frames call j = numbered (map bridge_of call.spans) (fields call) j
+first_frames call j = numbered_frames (map without_items call.spans) (fields call) j
 
-abbrev pub frame_at : Call → ℕ → NumberedFrame
-frame_at call j = numbered_next (map bridge_of call.spans) (fields call) (first_frames call j)
+abbrev pub frame_by_number : Call → ℕ → NumberedFrame
+frame_by_number call j = numbered_next (map without_items call.spans) (fields call) (first_frames call j)
 
 -- those of the first m frames that are made in the periods of the call
 abbrev pub made_among : Call → ℕ → List NumberedFrame
 made_among call m = filter (λ f. nat_lt (when f.start) (periods call)) (first_frames call m)
 
 -- all frames that are: two for each period are enough
-abbrev pub made : Call → List NumberedFrame
-made call = reverse (made_among call (2 * periods call))
+abbrev pub frames_of_call : Call → List NumberedFrame
+frames_of_call call = reverse (made_among call (2 * periods call))
 
 -- A span has item i for frame j where i is the number of frames before it that are made in the span's first period or
 -- later, the frame isn't made before that period, and the span has as many items.
 pub record HasItem (call : Call) (span : Span) (j i : ℕ) : Type 0 where
   pub number : i ≡ count_from span.from (first_frames call j)
-  pub begun : span.from ≤ when (frame_at call j).start
+  pub begun : span.from ≤ when (frame_by_number call j).start
   pub left : i < span.to - span.from
 
 -- ---- what they are
@@ -53,8 +53,8 @@ is_coded call f = is_none f.carries && not (is_quiet_at call (when f.start))
 
 -- a coded stretch goes on from a coded frame to a coded one, unless a span starts after the one's period and not after
 -- the other's, one without a period included
-abbrev pub goes_on : Call → NumberedFrame → NumberedFrame → Bool
-goes_on call f g =
+abbrev pub coded_goes_on : Call → NumberedFrame → NumberedFrame → Bool
+coded_goes_on call f g =
     is_coded call f && is_coded call g &&
     not (list_any (λ span. nat_lt (when f.start) span.from && nat_le span.from (when g.start)) call.spans)
 
@@ -83,7 +83,7 @@ stretch_frames call fs = if list_all (is_coded call) fs then map speech (sent (c
 
 -- all of these frames, as they are sent
 abbrev pub down_frames : Call → List NumberedFrame → List DownFrame
-down_frames call fs = flat_map (stretch_frames call) (stretches (goes_on call) fs)
+down_frames call fs = flat_map (stretch_frames call) (stretches (coded_goes_on call) fs)
 
 -- ---- the line
 
@@ -97,4 +97,4 @@ line call fs = replicate 320 1 ++ flat_map bits_on_line (zip fs (down_frames cal
 
 -- the bits of the whole Down line, 320 for each period
 abbrev pub down : Call → List ℕ
-down call = take (320 * periods call) (line call (made call))
+down call = take (320 * periods call) (line call (frames_of_call call))

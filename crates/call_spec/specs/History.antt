@@ -4,7 +4,6 @@ use Rattle.down_framer.specs.Bridges.{IsHistory}
 use Rattle.call_leg.specs.Who.{Who}
 use Rattle.call_leg.specs.Periods.{CallPeriod, pcm_of}
 use Rattle.call_leg.specs.Down.{down_periods}
-use Rattle.call_leg.specs.Out.{out_of}
 use Rattle.call_spec.specs.Call.{Call, Setting, Span}
 
 -- each period has 40 octets of the Up line and 160 of the Pcm line; a bridge starts only where no handed frame waits,
@@ -15,9 +14,9 @@ pub record IsCallHistory (ts : List CallPeriod) : Type 0 where
   pub bridges : IsHistory (down_periods ts)
 
 -- the Up line so far
-abbrev pub up_of : List CallPeriod → List ℕ
-up_of [] = []
-up_of (t ∷ past) = up_of past ++ t.up
+abbrev pub up_in_history : List CallPeriod → List ℕ
+up_in_history [] = []
+up_in_history (t ∷ past) = up_in_history past ++ t.up
 
 -- what is in force in each period, the oldest first
 abbrev pub setting_of : CallPeriod → Setting
@@ -39,15 +38,10 @@ go_on (Some item) [] = []
 go_on (Some item) (span ∷ before) = record { from = span.from; to = span.to + 1; items = span.items ++ item ∷ [] } ∷ before
 
 -- the spans, the latest first: one starts where the history says so, and goes on as long as items are handed over
-abbrev pub spans_of : List CallPeriod → List Span
-spans_of [] = []
-spans_of (t ∷ past) = if t.starts then new_span (length past) t.handed ∷ spans_of past else go_on t.handed (spans_of past)
+abbrev pub spans_in_history : List CallPeriod → List Span
+spans_in_history [] = []
+spans_in_history (t ∷ past) = if t.starts then new_span (length past) t.handed ∷ spans_in_history past else go_on t.handed (spans_in_history past)
 
 -- the call that has this history, and whose it is
-abbrev pub call_of : Who → List CallPeriod → Call
-call_of who ts = record { who = who; up = up_of ts; pcm = pcm_of ts; settings = settings_of ts; spans = reverse (spans_of ts) }
-
--- the Out line, period by period
-abbrev pub out_line : Who → List CallPeriod → List ℕ
-out_line who [] = []
-out_line who (t ∷ past) = out_line who past ++ out_of who (t ∷ past)
+abbrev pub call_of_history : Who → List CallPeriod → Call
+call_of_history who ts = record { who = who; up = up_in_history ts; pcm = pcm_of ts; settings = settings_of ts; spans = reverse (spans_in_history ts) }

@@ -9,7 +9,7 @@ use Rattle.fr_decoder.specs.Decoded.{decoded}
 use Rattle.rx_handler.specs.Origin.{EffectiveFields, Quiet, Speech, Made}
 use Rattle.call_leg.specs.Out.{idle_octets}
 use Rattle.call_spec.specs.Stretches.{stretches}
-use Rattle.call_spec.specs.Call.{Call, each_period, effective, item_at, starts_at}
+use Rattle.call_spec.specs.Call.{Call, each_period, effective_frame, item_at, starts_at}
 
 -- the parameters of an effective frame, unless it is quiet
 abbrev pub parameters_of : EffectiveFields → Option Fields
@@ -25,27 +25,27 @@ pub record Decoding : Type 0 where
 
 abbrev pub decoding_at : Call → ℕ → Decoding
 decoding_at call k = record {
-  parameters = if is_some (item_at call.spans k) then None else parameters_of (effective call k);
+  parameters = if is_some (item_at call.spans k) then None else parameters_of (effective_frame call k);
   starts = starts_at call.spans k;
 }
 
 -- a plain stretch goes on from a plain period to a plain one at which no span starts
-abbrev pub goes_on : Decoding → Decoding → Bool
-goes_on a b = is_some a.parameters && is_some b.parameters && not b.starts
+abbrev pub plain_goes_on : Decoding → Decoding → Bool
+plain_goes_on a b = is_some a.parameters && is_some b.parameters && not b.starts
 
 -- the octets, by this law, of a plain stretch, decoded from home over all its parameters, and of a period that isn't
 -- plain
-abbrev pub octets_of : Law → List Fields → List ℕ
-octets_of law [] = idle_octets law
-octets_of law (p ∷ ps) = compressed law (decoded (p ∷ ps))
+abbrev pub plain_octets : Law → List Fields → List ℕ
+plain_octets law [] = idle_octets law
+plain_octets law (p ∷ ps) = compressed law (decoded (p ∷ ps))
 
 -- the parameters of a stretch, of which a period that isn't plain has none
 abbrev pub parameters_in : List Decoding → List Fields
 parameters_in stretch = flat_map (λ a. option_to_list a.parameters) stretch
 
 abbrev pub stretch_octets : Law → List Decoding → List ℕ
-stretch_octets law stretch = octets_of law (parameters_in stretch)
+stretch_octets law stretch = plain_octets law (parameters_in stretch)
 
 -- the whole Out line
 abbrev pub out : Call → List ℕ
-out call = flat_map (stretch_octets call.who.law) (stretches goes_on (map (decoding_at call) (each_period call)))
+out call = flat_map (stretch_octets call.who.law) (stretches plain_goes_on (map (decoding_at call) (each_period call)))

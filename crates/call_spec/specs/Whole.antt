@@ -17,8 +17,8 @@ pub record IsWhole (call : Call) : Type 0 where
   pub spans : AreSpans 0 (periods call) call.spans
 
 -- period k
-abbrev pub period_at : Call → ℕ → CallPeriod
-period_at call k = record {
+abbrev pub call_period : Call → ℕ → CallPeriod
+call_period call k = record {
   up = take 40 (drop (40 * k) call.up);
   pcm = take 160 (drop (160 * k) call.pcm);
   level = (setting_at call k).level;
@@ -30,7 +30,7 @@ period_at call k = record {
 -- the first k periods, the newest first, and all of them
 abbrev pub first_periods : Call → ℕ → List CallPeriod
 first_periods call zero = []
-first_periods call (suc k) = period_at call k ∷ first_periods call k
+first_periods call (suc k) = call_period call k ∷ first_periods call k
 
-abbrev pub history_of : Call → List CallPeriod
-history_of call = first_periods call (periods call)
+abbrev pub periods_of_call : Call → List CallPeriod
+periods_of_call call = first_periods call (periods call)

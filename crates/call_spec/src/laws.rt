@@ -10,18 +10,19 @@ ghost use Rattle.call_leg.specs.Periods.{CallPeriod};
 ghost use Rattle.call_leg.specs.Down.{down_line};
 ghost use Rattle.call_spec.specs.Out.{out};
 ghost use Rattle.call_spec.specs.Call.{Call, Span, periods, yield_at};
-ghost use Rattle.call_spec.specs.Down.{frame_at, made_among, made, HasItem, down};
-ghost use Rattle.call_spec.specs.History.{IsCallHistory, call_of, out_line};
-ghost use Rattle.call_spec.specs.Whole.{IsWhole, history_of};
+ghost use Rattle.call_spec.specs.Down.{frame_by_number, made_among, frames_of_call, HasItem, down};
+ghost use Rattle.call_leg.specs.Out.{out_line};
+ghost use Rattle.call_spec.specs.History.{IsCallHistory, call_of_history};
+ghost use Rattle.call_spec.specs.Whole.{IsWhole, periods_of_call};
 
 use rx_handler::laws::{the_newest_is_the_last, the_table_looks_back};
 
 /// The periods of a call as a whole are a history of that call; given one after another, they make its lines.
 pub fn a_call_by_its_periods()
-    ensures history { (call : Call) → IsWhole call → IsCallHistory (history_of call) }
-    ensures same { (call : Call) → IsWhole call → call_of call.who (history_of call) ≡ call }
-    ensures out { (call : Call) → IsWhole call → out_line call.who (history_of call) ≡ out call }
-    ensures down { (call : Call) → IsWhole call → down_line call.who (history_of call) ≡ down call }
+    ensures history { (call : Call) → IsWhole call → IsCallHistory (periods_of_call call) }
+    ensures same { (call : Call) → IsWhole call → call_of_history call.who (periods_of_call call) ≡ call }
+    ensures out { (call : Call) → IsWhole call → out_line call.who (periods_of_call call) ≡ out call }
+    ensures down { (call : Call) → IsWhole call → down_line call.who (periods_of_call call) ≡ down call }
 {
     lines_of_a_call();
 }
@@ -29,8 +30,8 @@ pub fn a_call_by_its_periods()
 /// The Out line and the Down line of any history of a call, period by period, are those of the call as a whole that it
 /// says.
 pub fn lines_of_a_call()
-    ensures out { (who : Who) (ts : List CallPeriod) → IsCallHistory ts → out_line who ts ≡ out (call_of who ts) }
-    ensures down { (who : Who) (ts : List CallPeriod) → IsCallHistory ts → down_line who ts ≡ down (call_of who ts) }
+    ensures out { (who : Who) (ts : List CallPeriod) → IsCallHistory ts → out_line who ts ≡ out (call_of_history who ts) }
+    ensures down { (who : Who) (ts : List CallPeriod) → IsCallHistory ts → down_line who ts ≡ down (call_of_history who ts) }
 {
     the_newest_is_the_last();
     the_table_looks_back();
@@ -46,6 +47,6 @@ pub fn yields_of_a_call()
 /// two for each period is made in the call's periods.
 pub fn frames_of_a_call()
     ensures items { (call : Call) (before after : List Span) (span : Span) (j i : ℕ) → IsWhole call → call.spans ≡ before ++ span ∷ after →
-        j < length (made call) → HasItem call span j i → (frame_at call j).carries ≡ Some (span.from + i) }
+        j < length (frames_of_call call) → HasItem call span j i → (frame_by_number call j).carries ≡ Some (span.from + i) }
     ensures enough { (call : Call) (m : ℕ) → IsWhole call → 2 * periods call ≤ m → made_among call m ≡ made_among call (2 * periods call) }
 {}

@@ -1,3 +1,5 @@
+//! One leg: what it sends and plays alone and bridged, and how it shifts its frames.
+
 ghost use Rattle.std.specs.Prelude.{◌≡◌, ◌<◌, ◌+◌, ◌≤ℤ◌, pos, IfOk};
 ghost use Rattle.call_leg.specs.Memory.{periods_of_leg};
 ghost use Rattle.call_number.specs.CallNumber.{IsCallNumber};

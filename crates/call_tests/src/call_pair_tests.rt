@@ -1,3 +1,5 @@
+//! One call and two that are bridged, as jobs of a round.
+
 ghost use Rattle.std.specs.Prelude.{◌≡◌, ◌<◌, ◌≤◌, ◌+◌, IfOk};
 ghost use Rattle.call_leg.specs.Memory.{periods_of_leg};
 ghost use Rattle.call_number.specs.CallNumber.{IsCallNumber};

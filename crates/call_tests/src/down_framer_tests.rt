@@ -1,5 +1,7 @@
+//! The framer of a downlink: where its frames stand, and the same shift in each period.
+
 ghost use Rattle.std.specs.Prelude.{◌≤◌, ◌<◌};
-ghost use Rattle.down_framer.specs.Memory.{IsBetween};
+ghost use Rattle.down_framer.specs.Memory.{IsBetweenPeriods};
 
 use down_framer::Framer;
 use std::alloc::{AllocError, Global};
@@ -8,9 +10,9 @@ use time_align::Align;
 
 // Works a period whose field is asked: its downlink octets, and the number of frames made. A frame is a one and zeros.
 fn period(framer: &mut Framer, align: &mut Align, field: u8) -> ([u8; 40], u32)
-    requires between { IsBetween framer.old }
+    requires between { IsBetweenPeriods framer.old }
     requires field { field ≤ 63 }
-    ensures { IsBetween framer.new }
+    ensures { IsBetweenPeriods framer.new }
 {
     let mut frame = [0; 320];
     frame[0] = 1;
@@ -28,9 +30,9 @@ fn period(framer: &mut Framer, align: &mut Align, field: u8) -> ([u8; 40], u32)
 
 // Whether such a period has these downlink octets, and makes so many frames.
 fn gives(framer: &mut Framer, align: &mut Align, field: u8, octets: &[u8; 40], made: u32) -> bool
-    requires between { IsBetween framer.old }
+    requires between { IsBetweenPeriods framer.old }
     requires field { field ≤ 63 }
-    ensures { IsBetween framer.new }
+    ensures { IsBetweenPeriods framer.new }
 {
     let (down, frames) = period(framer, align, field);
     down == *octets && frames == made
@@ -51,8 +53,8 @@ fn octets_with(same: u8, place: usize, other: u8) -> [u8; 40]
 
 // Whether frame 0 is put off by 39 steps, and 312 ones follow it.
 fn puts_off(framer: &mut Framer, align: &mut Align) -> bool
-    requires { IsBetween framer.old }
-    ensures { IsBetween framer.new }
+    requires { IsBetweenPeriods framer.old }
+    ensures { IsBetweenPeriods framer.new }
 {
     let begins = octets_with(0, 0, 0x80);
     let ones = gives(framer, align, 39, &[0xFF; 40], 1) && holds(framer, 632, 0, 156);
@@ -61,7 +63,7 @@ fn puts_off(framer: &mut Framer, align: &mut Align) -> bool
 
 // Whether frame 1 loses four bits, and the next ones follow it.
 fn moves_back(framer: &mut Framer, align: &mut Align) -> bool
-    requires { IsBetween framer.old }
+    requires { IsBetweenPeriods framer.old }
 {
     let ends = octets_with(0xFF, 39, 0x80);
     let follows = octets_with(0, 38, 0x08);
@@ -80,7 +82,7 @@ fn frames_at_their_places(rt: HostRuntime) -> Result<(), Fail> {
 
 // The frames of 100 periods that each ask this field, and the last period that made two.
 fn frames_of(framer: &mut Framer, field: u8) -> (u32, u32)
-    requires between { IsBetween framer.old }
+    requires between { IsBetweenPeriods framer.old }
     requires field { field ≤ 63 }
 {
     let mut align = Align::new();

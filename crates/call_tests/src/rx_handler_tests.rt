@@ -1,3 +1,5 @@
+//! The receive side: what is made of frames that are lost, unusable or descriptors of silence.
+
 use rx_handler::{Effective, Rx};
 use trau_frame::{Class, Kind, UpFrame};
 use trau_params::{Params, silence};

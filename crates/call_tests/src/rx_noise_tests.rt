@@ -1,3 +1,5 @@
+//! Comfort noise that falls to silence, and a descriptor that is approached.
+
 use crate::rx_handler_tests::{loud, low};
 use rx_noise::{mix, noise_frame};
 use trau_num::Draw;

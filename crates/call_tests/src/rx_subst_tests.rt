@@ -1,3 +1,5 @@
+//! The substitution of lost frames, which fades.
+
 use crate::rx_handler_tests::loud;
 use rx_subst::lost_frame;
 use trau_num::Draw;

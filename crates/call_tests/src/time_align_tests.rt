@@ -1,3 +1,5 @@
+//! Each alignment field, and a shift that is asked for while the alignment is frozen.
+
 use time_align::{Align, shift_of};
 
 // The table of the profile, field by field, with 0 for none.

@@ -1,3 +1,5 @@
+//! The transmit side: pauses between bursts, levels and silence descriptors.
+
 ghost use Rattle.std.specs.Prelude.{◌≤◌, ◌≤ℤ◌, pos};
 
 use trau_params::{Params, Trace, silence};

@@ -10,9 +10,11 @@ use Rattle.ccu_end.proofs.Reading.{read-alike}
 abbrev pub SameFrom : List ℕ → ℕ → List ℕ → ℕ → Type 0
 SameFrom a p b q = (i : ℕ) → i < 316 → get_or a (p + i) 0 ≡ get_or b (q + i) 0
 
+-- the same bits the other way round
 pub same-back : (a : List ℕ) (p : ℕ) (b : List ℕ) (q : ℕ) → SameFrom a p b q → SameFrom b q a p
 same-back a p b q h = λ i l. sym (h i l)
 
+-- a match, or none, goes with its bits
 pub match-carried : (a : List ℕ) (p : ℕ) (b : List ℕ) (q : ℕ) → SameFrom a p b q → is_match (bit_in a) p ≡ true → is_match (bit_in b) q ≡ true
 match-carried a p b q h m =
     match_from (bit_in b) q
@@ -26,6 +28,7 @@ pub no_match-carried : (a : List ℕ) (p : ℕ) (b : List ℕ) (q : ℕ) → Sam
 no_match-carried a p b q h m =
     false_from_ne_true _ (λ t. both_ways (is_match (bit_in a) p) (match-carried b q a p (same-back a p b q h) t) m)
 
+-- so do the frame, and what it says
 pub alike-at : (a : List ℕ) (p : ℕ) (b : List ℕ) (q : ℕ) → SameFrom a p b q → Alike (frame_at (bit_in a) p) (frame_at (bit_in b) q)
 alike-at a p b q h = λ i l.
     get_or-frame_at (bit_in a) p i 0 (omega arith) ∙ h i l ∙ sym (get_or-frame_at (bit_in b) q i 0 (omega arith))

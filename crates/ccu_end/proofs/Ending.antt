@@ -20,6 +20,7 @@ use Rattle.ccu_end.specs.Tool.{AreCalm, CleanFollow, FollowCauses, FollowRun, Ha
 rose_later : (a b c : ℕ) → a ≤ b → Rose b c → Rose a c
 rose_later a b c le rose = omega (arith, le, rose)
 
+-- a line that failed is status 6
 fault_status : (call : ℕ) (side : Side) (result : ToolEnd) → IsFaultOf call side result → status_of result ≡ 6
 fault_status call side tool.Done is = absurd is
 fault_status call side (tool.LineFault line) is = refl
@@ -28,6 +29,7 @@ fault_status call side (tool.Refused m) is = absurd is
 fault_status call side tool.Memory is = absurd is
 
 module _ (call want : ℕ) (u u' d d' : LineState) (k m k' : DeskState) (result : ToolEnd) where
+  -- why the status comes, by the end and by what was told of it
   causes : (end : FollowEnd) → Follows u u' d d' k m want end → TellsLast call end m k' result → HasCauses u u' d d' k k' (status_of result)
   causes end follows (inr fault) =
       let is : status_of result ≡ 4 = ap status_of fault.0 in
@@ -76,8 +78,10 @@ module _ (call want : ℕ) (u u' d d' : LineState) (k m k' : DeskState) (result 
         line_rose = λ _. inl is;
       }
 
+  -- what is left without a fault
   clean : (end : FollowEnd) → Follows u u' d d' k m want end → TellsLast call end m k' result → AreCalm u u' d d' k k' →
-      (octets held text : List ℕ) → u.to_come ≡ Some octets → d.written ≡ Some held → k.written ≡ Some text → LeavesFollowed call want u' d' k' octets held text (status_of result)
+      (octets held text : List ℕ) → u.to_come ≡ Some octets → d.written ≡ Some held → k.written ≡ Some text →
+      LeavesFollowed call want u' d' k' octets held text (status_of result)
   clean end follows (inr fault) calm octets held text u_is d_is k_is =
       let rose = fault.1.cause.failed in let same = calm.desk_calm in absurd (omega (arith, same.0, same.1, follows.moves.hears.later, rose))
   clean (Done frames left) follows (inl told) calm octets held text u_is d_is k_is =
@@ -112,9 +116,12 @@ module _ (call want : ℕ) (u u' d d' : LineState) (k m k' : DeskState) (result 
   clean DeskFailed follows (inl told) calm octets held text u_is d_is k_is =
       let rose = follows.ends.rose in let same = calm.desk_calm in absurd (omega (arith, same.0, same.1, told.1.cause.ok, rose))
 
-module _ (before now : ℕ → Side → LineState) (desk desk' : DeskState) (call want : ℕ) (result : ToolEnd) (ran : FollowRun before now desk desk' call want result) where
+module _ (before now : ℕ → Side → LineState) (desk desk' : DeskState) (call want : ℕ) (result : ToolEnd)
+    (ran : FollowRun before now desk desk' call want result) where
+  -- the same of the whole command
   pub follow_causes : FollowCauses before now desk desk' call (status_of result)
   follow_causes = causes call want _ _ _ _ desk ran.middle desk' result ran.end ran.follows ran.tells
 
   pub follow_clean : CleanFollow before now desk desk' call want (status_of result)
-  follow_clean = λ calm octets held text u_is d_is k_is. clean call want _ _ _ _ desk ran.middle desk' result ran.end ran.follows ran.tells calm octets held text u_is d_is k_is
+  follow_clean = λ calm octets held text u_is d_is k_is. clean call want _ _ _ _ desk ran.middle desk' result ran.end ran.follows ran.tells calm octets held
+      text u_is d_is k_is

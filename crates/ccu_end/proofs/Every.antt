@@ -19,6 +19,7 @@ record Least (p : ℕ → Bool) (first o : ℕ) : Type 0 where
   passes : p o ≡ true
   none : (q : ℕ) → first ≤ q → q < o → p q ≡ false
 
+-- the least of so many places that passes, or none
 least : (p : ℕ → Bool) (first count : ℕ) →
     ((o : ℕ) × Least p first o × (o < first + count)) ⊎ ((q : ℕ) → first ≤ q → q < first + count → p q ≡ false)
 least p first zero = inr (λ q a b. absurd (omega arith))
@@ -47,6 +48,7 @@ least p first (suc count) = elim (cases_Bool (p first)) [
   ]
 ]
 
+-- the next frame of a window, or none
 next-some : (w : List ℕ) (base low : ℕ) → ((f : FoundFrame) × IsNext w base low f) ⊎ NoneNext w base low (base + 5)
 next-some w base low =
     let first = low + (base - 315 - low) in
@@ -69,6 +71,7 @@ next-some w base low =
       | inr none ↦ inr (λ q a b c. none q (omega arith) (omega arith))
     ]
 
+-- all frames of a window
 all-next : (w : List ℕ) (base low : ℕ) → (fs : List FoundFrame) × AreNext w base low fs
 all-next w base low = elim (next-some w base low) [
   | inr none ↦ ([], none)
@@ -81,6 +84,7 @@ all-next w base low = elim (next-some w base low) [
   ]
 ]
 
+-- so each line of whole periods has a list of found frames
 pub some-heard : (past : List (List ℕ)) → ArePeriods past → (heard : List (List FoundFrame)) × AreHeard past heard
 some-heard [] h = ([], heard-none)
 some-heard (octets ∷ past) h =
@@ -93,6 +97,7 @@ some-heard (octets ∷ past) h =
 
 -- ---- and no other
 
+-- all frames end before bit n, or from there on
 Below : ℕ → List FoundFrame → Type 0
 Below n [] = Unit {0}
 Below n (f ∷ fs) = (f.place + 315 < n) × Below n fs
@@ -101,11 +106,13 @@ From : ℕ → List FoundFrame → Type 0
 From n [] = Unit {0}
 From n (f ∷ fs) = (n ≤ f.place + 315) × From n fs
 
+-- those of two lists
 below-more : (n m : ℕ) (fs gs : List FoundFrame) → n ≤ m → Below n fs → Below m gs → Below m (fs ++ gs)
 unfolding Below
 below-more n m [] gs l a b = b
 below-more n m (f ∷ fs) gs l a b = let x = a.0 in (omega arith, below-more n m fs gs l a.1 b)
 
+-- the frames of a period lie within it
 ends-below : (k n : ℕ) (fs : List FoundFrame) → n ≡ 320 * k + 320 → All (EndsIn k) fs → Below n fs
 unfolding Below
 ends-below k n [] e h = tt
@@ -119,6 +126,7 @@ unfolding From
 ends-from k [] h = tt
 ends-from k (f ∷ fs) h = let here = All-head (EndsIn k) f fs h in (here.0, ends-from k fs (All-tail (EndsIn k) f fs h))
 
+-- and all before it before it
 all-below : (heard : List (List FoundFrame)) → EachEnds heard → Below (320 * length heard) (all_of heard)
 unfolding Below all_of
 all-below [] e = tt
@@ -126,6 +134,7 @@ all-below (fs ∷ heard) e =
     below-more (320 * length heard) (320 * suc (length heard)) (all_of heard) fs (omega arith) (all-below heard e.1)
     (ends-below (length heard) (320 * suc (length heard)) fs (omega arith) e.0)
 
+-- the first of a list, and the others
 head_or : FoundFrame → List FoundFrame → FoundFrame
 head_or d [] = d
 head_or d (f ∷ fs) = f
@@ -134,6 +143,7 @@ tail_of : List FoundFrame → List FoundFrame
 tail_of [] = []
 tail_of (f ∷ fs) = fs
 
+-- a frame that ends before a place is none of those behind it
 apart : (n : ℕ) (f : FoundFrame) (gs hs : List FoundFrame) → f.place + 315 < n → From n gs → gs ≡ f ∷ hs → ⊥
 unfolding From head_or
 apart n f [] hs l h e = let count : 0 ≡ suc (length hs) = ap length e in absurd (omega arith)
@@ -142,6 +152,7 @@ apart n f (g ∷ gs) hs l h e =
     let late = h.0 in
     absurd (omega arith)
 
+-- lists that are cut at one place have the same parts
 same-parts : (n : ℕ) (xs bs cs ds : List FoundFrame) → Below n xs → From n bs → Below n cs → From n ds → xs ++ bs ≡ cs ++ ds → (xs ≡ cs) × (bs ≡ ds)
 unfolding Below head_or tail_of
 same-parts n [] bs [] ds a b c d e = (refl, e)
@@ -152,6 +163,7 @@ same-parts n (f ∷ xs) bs (g ∷ cs) ds a b c d e =
     let rest = same-parts n xs bs cs ds a.1 b c.1 d (ap tail_of e) in
     (ap (λ x. x ∷ xs) first ∙ ap (λ l. g ∷ l) rest.0, rest.1)
 
+-- so two lists of found frames are one
 same-heard : (hs gs : List (List FoundFrame)) → length hs ≡ length gs → EachEnds hs → EachEnds gs → all_of hs ≡ all_of gs → hs ≡ gs
 unfolding all_of
 same-heard [] [] l a b e = refl

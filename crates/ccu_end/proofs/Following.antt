@@ -1,11 +1,8 @@
 -- A downlink followed over one period after another.
-use Rattle.std.proofs.Common.{◌≡◌, inl, inr, ℕ, ◌+◌, ◌*◌, ◌-◌, ◌^◌, ◌≤◌, ◌<◌, List, [], ◌∷◌, ◌++◌, length, take, reverse, refl, sym, ◌∙◌, ap, subst, arith, length-append}
+use Rattle.std.proofs.Common.{◌≡◌, inl, inr, ℕ, ◌+◌, ◌-◌, ◌^◌, ◌<◌, List, [], ◌∷◌, ◌++◌, length, take, reverse, refl, sym, ◌∙◌, ap, subst, arith, length-append}
 use Rattle.std.specs.List.{concat}
-use Rattle.std.proofs.lemmas.Grind.{flat_map-append}
 use Rattle.std.proofs.lemmas.List.{append-nil, reverse-append}
-use Rattle.std.proofs.lemmas.List.Elements.{All-append, All-cons, All-head, All-nil, All-tail}
-use Rattle.std.proofs.lemmas.List.Folds.{concat-append}
-use Rattle.std.proofs.KnownBytes.{Consumes-nil, Consumes-trans, Appends-nil, Appends-trans}
+use Rattle.std.proofs.lemmas.List.Elements.{All-append, All-cons, All-nil}
 use Rattle.trau_io.specs.Lines.{LineState, Rose}
 use Rattle.trau_io.specs.Desks.{DeskState}
 use Rattle.ccu_end.specs.declared.recording.FollowEnd.TheVariants as follow
@@ -13,110 +10,23 @@ use Rattle.ccu_end.specs.declared.recording.PeriodEnd.TheVariants.{Taken, LineEn
 use Rattle.ccu_end.specs.Found.{FoundFrame}
 use Rattle.ccu_end.specs.Asked.{asked}
 use Rattle.ccu_end.specs.Heard.{ArePeriods, CcuMemory, Stands, all_of}
-use Rattle.ccu_end.specs.Told.{line_of, lines_of, listed, octets_saying, sent_up}
-use Rattle.ccu_end.specs.Follows.{Follows, Gains, Gives, Hears, Moves}
+use Rattle.ccu_end.specs.Told.{lines_of, listed, octets_saying, sent_up}
+use Rattle.ccu_end.specs.Follows.{Follows, Moves}
 use Rattle.ccu_end.specs.FollowStep.{FollowsOn, NoFault, Takes}
+use Rattle.frame_listing.proofs.Blocks.{concat_push, few_with, front_of}
+use Rattle.ccu_end.proofs.SoFar.{moves_on, all_more, listed_more, sent_more, SoFar}
 
-gives_on : (a b c : LineState) (g h : List ℕ) → Gives a b g → Gives b c h → Gives a c (g ++ h)
-gives_on a b c g h first second = record {
-  read = Consumes-trans _ _ _ _ _ first.read second.read;
-  written = second.written ∙ first.written;
-  later = omega (arith, first.later, second.later);
-}
-
-gains_on : (a b c : LineState) (s t : List ℕ) → Gains a b s → Gains b c t → Gains a c (s ++ t)
-gains_on a b c s t first second = record {
-  written = Appends-trans _ _ _ _ _ first.written second.written;
-  to_come = second.to_come ∙ first.to_come;
-  later = omega (arith, first.later, second.later);
-}
-
-hears_on : (a b c : DeskState) (s t : List ℕ) → Hears a b s → Hears b c t → Hears a c (s ++ t)
-hears_on a b c s t first second = record {
-  written = Appends-trans _ _ _ _ _ first.written second.written;
-  to_come = second.to_come ∙ first.to_come;
-  read_faults = second.read_faults ∙ first.read_faults;
-  later = omega (arith, first.later, second.later);
-}
-
-moves_on : (u0 u1 u2 d0 d1 d2 : LineState) (k0 k1 k2 : DeskState) (g g' s s' t t' : List ℕ) →
-    Moves u0 u1 d0 d1 k0 k1 g s t → Moves u1 u2 d1 d2 k1 k2 g' s' t' → Moves u0 u2 d0 d2 k0 k2 (g ++ g') (s ++ s') (t ++ t')
-moves_on u0 u1 u2 d0 d1 d2 k0 k1 k2 g g' s s' t t' first second = record {
-  gives = gives_on _ _ _ _ _ first.gives second.gives;
-  gains = gains_on _ _ _ _ _ first.gains second.gains;
-  hears = hears_on _ _ _ _ _ first.hears second.hears;
-}
-
-concat_push : (periods : List (List ℕ)) (given : List ℕ) → concat (periods ++ given ∷ []) ≡ concat periods ++ given
-concat_push periods given = concat-append periods (given ∷ []) ∙ ap (λ l. concat periods ++ l) (append-nil given)
-
--- the octets of whole periods
-octets_in : (periods : List (List ℕ)) → ArePeriods periods → length (concat periods) ≡ 40 * length periods
-octets_in [] whole = refl
-octets_in (octets ∷ periods) whole =
-    let here : length octets ≡ 40 = All-head (λ o. length o ≡ 40) octets periods whole in
-    length-append octets (concat periods) ∙ omega (arith, here, octets_in periods (All-tail (λ o. length o ≡ 40) octets periods whole))
-
--- and of those with what was read behind them
-few_with : (periods : List (List ℕ)) (last : List ℕ) (n : ℕ) → ArePeriods periods → length periods ≡ n → 40 * n + length last ≤ 40 * (2 ^ 32 - 1) →
-    length (concat periods ++ last) ≤ 40 * (2 ^ 32 - 1)
-few_with periods last n whole count few = omega (arith, length-append (concat periods) last, octets_in periods whole, count, few)
-
--- what is behind the earlier ones and a front of the newest is a front of all
-front_of : (before front newest : List ℕ) → front ≡ take (length front) newest → before ++ front ≡ take (length (before ++ front)) (before ++ newest)
-front_of [] front newest is = is
-front_of (b ∷ before) front newest is = ap (λ l. b ∷ l) (front_of before front newest is)
-
--- the frames of one period more, their lines, and its answer
-all_more : (fs : List FoundFrame) (heard : List (List FoundFrame)) → all_of (fs ∷ heard) ≡ all_of heard ++ fs
-unfolding all_of
-all_more fs heard = refl
-
-listed_more : (fs : List FoundFrame) (heard : List (List FoundFrame)) → listed (fs ∷ heard) ≡ listed heard ++ lines_of fs
-listed_more fs heard = ap lines_of (all_more fs heard) ∙ flat_map-append line_of (all_of heard) fs
-
-sent_more : (want : ℕ) (fs : List FoundFrame) (heard : List (List FoundFrame)) → sent_up want (fs ∷ heard) ≡ sent_up want heard ++ octets_saying (asked want (fs ∷ heard))
-unfolding sent_up
-sent_more want fs heard = refl
-
--- so far: n whole periods, for which the base station's end stands, all of which are answered and told, and no fault
-pub record SoFar (ccu : CcuMemory) (want : ℕ) (u0 u1 d0 d1 : LineState) (k0 k1 : DeskState) (n frames : ℕ) : Type 0 where
-  pub periods : List (List ℕ)
-  pub heard : List (List FoundFrame)
-  pub count : length periods ≡ n
-  pub counted : ccu.periods ≡ n
-  pub wanted : ccu.want ≡ want
-  pub stands : Stands (reverse periods) heard ccu
-  pub whole : ArePeriods periods
-  pub frames_are : frames ≡ length (all_of heard)
-  pub at_most : frames ≤ 2 * n
-  pub moves : Moves u0 u1 d0 d1 k0 k1 (concat periods) (sent_up want heard) (listed heard)
-  pub calm : NoFault u0 u1 d0 d1 k0 k1
-
-pub at_start : (ccu : CcuMemory) (want : ℕ) (u d : LineState) (k : DeskState) → ccu.want ≡ want → Stands [] [] ccu → SoFar ccu want u u d d k k 0 0
-unfolding all_of sent_up
-at_start ccu want u d k wanted stands = record {
-  periods = [];
-  heard = [];
-  count = refl;
-  counted = stands.periods;
-  wanted = wanted;
-  stands = stands;
-  whole = All-nil (λ octets. length octets ≡ 40);
-  frames_are = refl;
-  at_most = omega arith;
-  moves = record {
-    gives = record { read = Consumes-nil u.to_come; written = refl; later = omega arith };
-    gains = record { written = Appends-nil d.written; to_come = refl; later = omega arith };
-    hears = record { written = Appends-nil k.written; to_come = refl; read_faults = refl; later = omega arith };
-  };
-  calm = record { up_same = refl; down_same = refl; desk_same = refl };
-}
-
-module _ (ccu ccu' : CcuMemory) (want : ℕ) (u0 u1 u2 d0 d1 d2 : LineState) (k0 k1 k2 : DeskState) (n frames : ℕ) (so_far : SoFar ccu want u0 u1 d0 d1 k0 k1 n frames) where
+module _ (ccu ccu' : CcuMemory) (want : ℕ) (u0 u1 u2 d0 d1 d2 : LineState) (k0 k1 k2 : DeskState) (n frames : ℕ)
+    (so_far : SoFar ccu want u0 u1 d0 d1 k0 k1 n frames) where
+  -- no fault so far, and none in the period
   calm_on : NoFault u1 u2 d1 d2 k1 k2 → NoFault u0 u2 d0 d2 k0 k2
-  calm_on calm = record { up_same = calm.up_same ∙ so_far.calm.up_same; down_same = calm.down_same ∙ so_far.calm.down_same; desk_same = calm.desk_same ∙ so_far.calm.desk_same }
+  calm_on calm = record {
+    up_same = calm.up_same ∙ so_far.calm.up_same;
+    down_same = calm.down_same ∙ so_far.calm.down_same;
+    desk_same = calm.desk_same ∙ so_far.calm.desk_same;
+  }
 
+  -- the periods with one more
   count_now : (given : List ℕ) → length (so_far.periods ++ given ∷ []) ≡ n + 1
   count_now given = length-append so_far.periods (given ∷ []) ∙ ap (λ k. k + 1) so_far.count
 
@@ -128,13 +38,16 @@ module _ (ccu ccu' : CcuMemory) (want : ℕ) (u0 u1 u2 d0 d1 d2 : LineState) (k0
     heard_now : List (List FoundFrame)
     heard_now = found ∷ so_far.heard
 
+    -- the end stands for the period too
     stands_now : Stands (reverse periods_now) heard_now ccu'
     unfolding periods_now heard_now
-    stands_now = subst (λ past. Stands past heard_now ccu') (sym (reverse-append so_far.periods (given ∷ []))) (takes.history (reverse so_far.periods) so_far.heard so_far.stands)
+    stands_now = subst (λ past. Stands past heard_now ccu') (sym (reverse-append so_far.periods (given ∷ [])))
+        (takes.history (reverse so_far.periods) so_far.heard so_far.stands)
 
     whole_now : ArePeriods periods_now
     unfolding periods_now
-    whole_now = All-append (λ octets. length octets ≡ 40) so_far.periods (given ∷ []) so_far.whole (All-cons (λ octets. length octets ≡ 40) given [] takes.long (All-nil (λ octets. length octets ≡ 40)))
+    whole_now = All-append (λ octets. length octets ≡ 40) so_far.periods (given ∷ []) so_far.whole
+        (All-cons (λ octets. length octets ≡ 40) given [] takes.long (All-nil (λ octets. length octets ≡ 40)))
 
     wanted_now : ccu'.want ≡ want
     wanted_now = takes.want ∙ so_far.wanted
@@ -142,16 +55,21 @@ module _ (ccu ccu' : CcuMemory) (want : ℕ) (u0 u1 u2 d0 d1 d2 : LineState) (k0
     -- its answer
     sent_now : sent_up want heard_now ≡ sent_up want so_far.heard ++ octets_saying ccu'.answer
     unfolding heard_now
-    sent_now = sent_more want found so_far.heard ∙ ap (λ words. sent_up want so_far.heard ++ octets_saying words) (sym (stands_now.answer ∙ ap (λ w. asked w (found ∷ so_far.heard)) wanted_now))
+    sent_now = sent_more want found so_far.heard
+        ∙ ap (λ words. sent_up want so_far.heard ++ octets_saying words) (sym (stands_now.answer ∙ ap (λ w. asked w (found ∷ so_far.heard)) wanted_now))
 
+    -- its lines, and all octets and texts with it
     listed_now : listed heard_now ≡ listed so_far.heard ++ lines_of found
     unfolding heard_now
     listed_now = listed_more found so_far.heard
 
-    moves_now : (sent told : List ℕ) → Moves u1 u2 d1 d2 k1 k2 given sent told → Moves u0 u2 d0 d2 k0 k2 (concat periods_now) (sent_up want so_far.heard ++ sent) (listed so_far.heard ++ told)
+    moves_now : (sent told : List ℕ) → Moves u1 u2 d1 d2 k1 k2 given sent told →
+        Moves u0 u2 d0 d2 k0 k2 (concat periods_now) (sent_up want so_far.heard ++ sent) (listed so_far.heard ++ told)
     unfolding periods_now
-    moves_now sent told moves = subst (λ l. Moves u0 u2 d0 d2 k0 k2 l (sent_up want so_far.heard ++ sent) (listed so_far.heard ++ told)) (sym (concat_push so_far.periods given)) (moves_on _ _ _ _ _ _ _ _ _ _ _ _ _ _ _ so_far.moves moves)
+    moves_now sent told moves = subst (λ l. Moves u0 u2 d0 d2 k0 k2 l (sent_up want so_far.heard ++ sent) (listed so_far.heard ++ told))
+        (sym (concat_push so_far.periods given)) (moves_on _ _ _ _ _ _ _ _ _ _ _ _ _ _ _ so_far.moves moves)
 
+  -- a period more is taken
   pub taken : (count : ℕ) → FollowsOn ccu ccu' u1 u2 d1 d2 k1 k2 (Taken count) → SoFar ccu' want u0 u2 d0 d2 k0 k2 (n + 1) (frames + count)
   unfolding periods_now heard_now
   taken count one =
@@ -169,12 +87,16 @@ module _ (ccu ccu' : CcuMemory) (want : ℕ) (u0 u1 u2 d0 d1 d2 : LineState) (k0
         frames_are = omega (arith, so_far.frames_are, ends.count_is, ap length (all_more found so_far.heard) ∙ length-append (all_of so_far.heard) found);
         at_most = omega (arith, so_far.at_most, ends.count_is, ends.takes.few);
         moves =
-            subst (λ l. Moves u0 u2 d0 d2 k0 k2 (concat (so_far.periods ++ one.given ∷ [])) l (listed (found ∷ so_far.heard))) (ap (λ l. sent_up want so_far.heard ++ l) ends.sent_is ∙ sym (sent_now one.given found ends.takes))
-            (subst (λ l. Moves u0 u2 d0 d2 k0 k2 (concat (so_far.periods ++ one.given ∷ [])) (sent_up want so_far.heard ++ one.sent) l) (ap (λ l. listed so_far.heard ++ l) ends.told_is ∙ sym (listed_now one.given found ends.takes)) moved);
+            subst (λ l. Moves u0 u2 d0 d2 k0 k2 (concat (so_far.periods ++ one.given ∷ [])) l (listed (found ∷ so_far.heard)))
+            (ap (λ l. sent_up want so_far.heard ++ l) ends.sent_is ∙ sym (sent_now one.given found ends.takes))
+            (subst (λ l. Moves u0 u2 d0 d2 k0 k2 (concat (so_far.periods ++ one.given ∷ [])) (sent_up want so_far.heard ++ one.sent) l)
+            (ap (λ l. listed so_far.heard ++ l) ends.told_is ∙ sym (listed_now one.given found ends.takes)) moved);
         calm = calm_on ends.calm;
       }
 
-  pub line_ended : n < 2 ^ 32 - 1 → (left : ℕ) → FollowsOn ccu ccu' u1 u2 d1 d2 k1 k2 (LineEnded left) → Follows u0 u2 d0 d2 k0 k2 want (follow.Done frames left)
+  -- the line ended in it, a line failed in it, or the desk
+  pub line_ended : n < 2 ^ 32 - 1 → (left : ℕ) → FollowsOn ccu ccu' u1 u2 d1 d2 k1 k2 (LineEnded left) →
+      Follows u0 u2 d0 d2 k0 k2 want (follow.Done frames left)
   line_ended room left one =
       let ends = one.ends in
       record {
@@ -184,7 +106,7 @@ module _ (ccu ccu' : CcuMemory) (want : ℕ) (u0 u1 u2 d0 d1 d2 : LineState) (k0
         sent = sent_up want so_far.heard ++ one.sent;
         told = listed so_far.heard ++ one.told;
         whole = so_far.whole;
-        few = few_with so_far.periods one.given n so_far.whole so_far.count (omega (arith, room, ends.part));
+        few = few_with 40 _ so_far.periods one.given n so_far.whole so_far.count (omega (arith, room, ends.part));
         are_heard = so_far.stands.found;
         moves = moves_on _ _ _ _ _ _ _ _ _ _ _ _ _ _ _ so_far.moves one.moves;
         ends = record {
@@ -210,7 +132,7 @@ module _ (ccu ccu' : CcuMemory) (want : ℕ) (u0 u1 u2 d0 d1 d2 : LineState) (k0
         sent = sent_up want so_far.heard ++ one.sent;
         told = listed so_far.heard ++ one.told;
         whole = so_far.whole;
-        few = few_with so_far.periods one.given n so_far.whole so_far.count (omega (arith, room, ends.part));
+        few = few_with 40 _ so_far.periods one.given n so_far.whole so_far.count (omega (arith, room, ends.part));
         are_heard = so_far.stands.found;
         moves = moves_on _ _ _ _ _ _ _ _ _ _ _ _ _ _ _ so_far.moves one.moves;
         ends = record {
@@ -238,9 +160,11 @@ module _ (ccu ccu' : CcuMemory) (want : ℕ) (u0 u1 u2 d0 d1 d2 : LineState) (k0
         sent = sent;
         told = listed so_far.heard ++ one.told;
         whole = whole_now one.given ends.found ends.takes;
-        few = few_with (so_far.periods ++ one.given ∷ []) [] (n + 1) (whole_now one.given ends.found ends.takes) (count_now one.given) (omega (arith, room));
+        few = few_with 40 _ (so_far.periods ++ one.given ∷ []) [] (n + 1) (whole_now one.given ends.found ends.takes) (count_now one.given)
+            (omega (arith, room));
         are_heard = (stands_now one.given ends.found ends.takes).found;
-        moves = subst (λ l. Moves u0 u2 d0 d2 k0 k2 l sent (listed so_far.heard ++ one.told)) (sym (append-nil (concat (so_far.periods ++ one.given ∷ [])))) (moves_now one.given ends.found ends.takes one.sent one.told one.moves);
+        moves = subst (λ l. Moves u0 u2 d0 d2 k0 k2 l sent (listed so_far.heard ++ one.told)) (sym (append-nil (concat (so_far.periods ++ one.given ∷ []))))
+            (moves_now one.given ends.found ends.takes one.sent one.told one.moves);
         ends = record {
           nothing_more = refl;
           newest = ends.found;
@@ -270,9 +194,11 @@ module _ (ccu ccu' : CcuMemory) (want : ℕ) (u0 u1 u2 d0 d1 d2 : LineState) (k0
         sent = sent_up want so_far.heard ++ one.sent;
         told = told;
         whole = whole_now one.given ends.found ends.takes;
-        few = few_with (so_far.periods ++ one.given ∷ []) [] (n + 1) (whole_now one.given ends.found ends.takes) (count_now one.given) (omega (arith, room));
+        few = few_with 40 _ (so_far.periods ++ one.given ∷ []) [] (n + 1) (whole_now one.given ends.found ends.takes) (count_now one.given)
+            (omega (arith, room));
         are_heard = (stands_now one.given ends.found ends.takes).found;
-        moves = subst (λ l. Moves u0 u2 d0 d2 k0 k2 l (sent_up want so_far.heard ++ one.sent) told) (sym (append-nil (concat (so_far.periods ++ one.given ∷ [])))) (moves_now one.given ends.found ends.takes one.sent one.told one.moves);
+        moves = subst (λ l. Moves u0 u2 d0 d2 k0 k2 l (sent_up want so_far.heard ++ one.sent) told)
+            (sym (append-nil (concat (so_far.periods ++ one.given ∷ [])))) (moves_now one.given ends.found ends.takes one.sent one.told one.moves);
         ends = record {
           nothing_more = refl;
           newest = ends.found;
@@ -289,7 +215,8 @@ module _ (ccu ccu' : CcuMemory) (want : ℕ) (u0 u1 u2 d0 d1 d2 : LineState) (k0
       }
 
 -- so many periods were taken that no more are
-pub at_last : (ccu : CcuMemory) (want : ℕ) (u0 u1 d0 d1 : LineState) (k0 k1 : DeskState) (n frames : ℕ) → SoFar ccu want u0 u1 d0 d1 k0 k1 n frames → n ≡ 2 ^ 32 - 1 → Follows u0 u1 d0 d1 k0 k1 want (follow.Done frames 0)
+pub at_last : (ccu : CcuMemory) (want : ℕ) (u0 u1 d0 d1 : LineState) (k0 k1 : DeskState) (n frames : ℕ) → SoFar ccu want u0 u1 d0 d1 k0 k1 n frames →
+    n ≡ 2 ^ 32 - 1 → Follows u0 u1 d0 d1 k0 k1 want (follow.Done frames 0)
 at_last ccu want u0 u1 d0 d1 k0 k1 n frames so_far last = record {
   periods = so_far.periods;
   heard = so_far.heard;
@@ -297,7 +224,7 @@ at_last ccu want u0 u1 d0 d1 k0 k1 n frames so_far last = record {
   sent = sent_up want so_far.heard;
   told = listed so_far.heard;
   whole = so_far.whole;
-  few = few_with so_far.periods [] n so_far.whole so_far.count (omega (arith, last));
+  few = few_with 40 _ so_far.periods [] n so_far.whole so_far.count (omega (arith, last));
   are_heard = so_far.stands.found;
   moves = subst (λ l. Moves u0 u1 d0 d1 k0 k1 l (sent_up want so_far.heard) (listed so_far.heard)) (sym (append-nil (concat so_far.periods))) so_far.moves;
   ends = record {

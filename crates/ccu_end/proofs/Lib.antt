@@ -12,5 +12,6 @@ mod Periods
 mod Said
 mod Every
 mod Period
+mod SoFar
 mod Following
 mod Ending

@@ -7,7 +7,7 @@ use Rattle.time_align.specs.Shift.{IsShift}
 use Rattle.trau_frame.specs.declared.frames.DownFrame.{DownFrame}
 use Rattle.trau_frame.specs.DownFrame.{down_bits}
 use Rattle.trau_frame.proofs.Again.{length-down_bits}
-use Rattle.down_framer.specs.Made.{Period, MadeFrame, octets_of, next_start, made_frames, frame_on_line}
+use Rattle.down_framer.specs.Made.{Period, MadeFrame, octets_to_next, next_start, made_frames, frame_on_line}
 use Rattle.down_framer.proofs.Timing.{octets_of-bounds}
 use Rattle.down_framer.proofs.Store.{AreInTurn, AreInTurn-made_frames, length-line_of, length-frame_on_line}
 use Rattle.ccu_end.specs.Read.{down_frame_in}
@@ -17,10 +17,13 @@ use Rattle.ccu_end.proofs.Searching.{IsAt, AreAt, AreApart, IsInside, all-found}
 
 -- ---- one frame more at the end
 
-apart-more : (low high more : ℕ) (f : FoundFrame) (fs : List FoundFrame) → AreApart low fs high → high ≤ f.place → f.place + 316 ≤ more → AreApart low (fs ++ f ∷ []) more
+-- one frame more behind frames that lie apart
+apart-more : (low high more : ℕ) (f : FoundFrame) (fs : List FoundFrame) → AreApart low fs high → high ≤ f.place → f.place + 316 ≤ more →
+    AreApart low (fs ++ f ∷ []) more
 apart-more low high more f [] a h l = (omega arith, l)
 apart-more low high more f (g ∷ fs) a h l = (a.0, apart-more (g.place + 316) high more f fs a.1 h l)
 
+-- a frame stays where it stands when bits come behind it
 at-more : (line more : List ℕ) (f : FoundFrame) → IsAt line f → IsAt (line ++ more) f
 at-more line more f a =
     let room = a.room in
@@ -33,10 +36,12 @@ at-more line more f a =
       says = a.says;
     }
 
+-- so do all, and one more
 are_at-more : (line more : List ℕ) (f : FoundFrame) (fs : List FoundFrame) → AreAt line fs → IsAt (line ++ more) f → AreAt (line ++ more) (fs ++ f ∷ [])
 are_at-more line more f [] a h = (h, tt)
 are_at-more line more f (g ∷ fs) a h = (at-more line more g a.0, are_at-more line more f fs a.1 h)
 
+-- a place inside a frame, among one more
 inside-before : (f : FoundFrame) (q : ℕ) (fs : List FoundFrame) → IsInside fs q → IsInside (fs ++ f ∷ []) q
 inside-before f q [] i = absurd i
 inside-before f q (g ∷ fs) i = elim i [
@@ -50,10 +55,12 @@ inside-last f q (g ∷ fs) a b = inr (inside-last f q fs a b)
 
 -- ---- what a frame puts on the line
 
+-- the first bits on the line are those of the frame
 first-bits : (v : ℤ) (bits : List ℕ) (i : ℕ) → length bits ≡ 320 → i < 316 → get_or (frame_on_line v bits) i 0 ≡ get_or bits i 0
 first-bits (pos v) bits i l h = get_or-append bits (replicate (2 * v) 1) 0 i (omega arith)
 first-bits (negsuc v) bits i l h = get_or-take 316 bits i 0 h
 
+-- a bit of ones
 ones_only : (n i : ℕ) → i < n → get_or (replicate {A = ℕ} n 1) i 0 ≡ 1
 ones_only n i h = get_or-replicate n i 1 0 h
 
@@ -85,6 +92,7 @@ pub record IsLine (line : List ℕ) (fs : List FoundFrame) (end : ℕ) : Type 0 
   pub at : AreAt line fs
   pub zeros : (q : ℕ) → q < length line → get_or line q 0 ≡ 0 → IsInside fs q
 
+-- a line before its first frame
 pub line-first : IsLine (replicate 320 1) [] 320
 line-first = record {
   apart = omega arith;
@@ -95,8 +103,10 @@ line-first = record {
       absurd (omega arith);
 }
 
-pub line-more : (line : List ℕ) (fs : List FoundFrame) (end more : ℕ) (v : ℤ) (bits : List ℕ) (f : FoundFrame) → IsLine line fs end → length line ≡ end → f.place ≡ end →
-    IsFrame bits → IsShift v → more ≡ end + 2 * octets_of v → f.frame ≡ down_frame_in bits → IsLine (line ++ frame_on_line v bits) (fs ++ f ∷ []) more
+-- one frame more on the line
+pub line-more : (line : List ℕ) (fs : List FoundFrame) (end more : ℕ) (v : ℤ) (bits : List ℕ) (f : FoundFrame) → IsLine line fs end → length line ≡ end →
+    f.place ≡ end →
+    IsFrame bits → IsShift v → more ≡ end + 2 * octets_to_next v → f.frame ≡ down_frame_in bits → IsLine (line ++ frame_on_line v bits) (fs ++ f ∷ []) more
 line-more line fs end more v bits f h long place whole shift next says =
     let bounds = octets_of-bounds v shift in
     let least = bounds.0 in
@@ -127,6 +137,7 @@ line-more line fs end more v bits f h long place whole shift next says =
       ];
     }
 
+-- what a framer makes is such a line
 pub downlink-line : {A : Type 0} (frame : List (MadeFrame A) → DownFrame) (fs : List (MadeFrame A)) → HaveLength frame fs → AreInTurn fs →
     IsLine (downlink frame fs) (as_made frame fs) (320 + 2 * next_start fs)
 downlink-line frame [] h t = line-first
@@ -138,6 +149,7 @@ downlink-line frame (f ∷ fs) h t =
     (length-line_of (λ gs. down_bits (frame gs)) (λ gs. length-down_bits (frame gs)) fs t.2)
     (omega arith) (down_bits-frame (frame (f ∷ fs))) t.1 (omega arith) (sym (written_read (frame (f ∷ fs)) h.0))
 
+-- so its frames are found
 pub made-found : {A : Type 0} (frame : List (MadeFrame A) → DownFrame) (ps : List (Period A)) (n : ℕ) → HaveLength frame (made_frames ps) →
     Found (take n (downlink frame (made_frames ps))) (all_within n (as_made frame (made_frames ps)))
 made-found frame ps n h =

@@ -12,12 +12,14 @@ use Rattle.ccu_end.proofs.Alike.{SameFrom, match-carried, no_match-carried, read
 both_ways : (b : Bool) → b ≡ true → b ≡ false → ⊥
 both_ways b t f = cc
 
+-- a match that fits is found, and what is found matches and fits
 found-from : (bits : List ℕ) (q : ℕ) → q + 316 ≤ length bits → is_match (bit_in bits) q ≡ true → is_found_at bits q ≡ true
 found-from bits q l m = and_from _ _ (le-leb _ _ l) m
 
 found-parts : (bits : List ℕ) (q : ℕ) → is_found_at bits q ≡ true → (q + 316 ≤ length bits) × (is_match (bit_in bits) q ≡ true)
 found-parts bits q t = let parts = and_parts _ _ t in (leb-true _ _ parts.0, parts.1)
 
+-- where nothing matches nothing is found, and the other way round
 pub not_found : (bits : List ℕ) (q : ℕ) → (q + 316 ≤ length bits → is_match (bit_in bits) q ≡ false) → is_found_at bits q ≡ false
 not_found bits q h = false_from_ne_true _ (λ t. let parts = found-parts bits q t in both_ways _ parts.1 (h parts.0))
 
@@ -26,6 +28,7 @@ no_match bits q l f = false_from_ne_true _ (λ t. both_ways _ (found-from bits q
 
 -- ---- behind a line
 
+-- bits stay as they are when others come behind them
 same-longer : (line more : List ℕ) (q : ℕ) → q + 316 ≤ length line → SameFrom line q (line ++ more) q
 same-longer line more q l = λ i h. sym (get_or_append_left line more 0 (q + i) (omega arith))
 
@@ -44,10 +47,12 @@ none-longer line more q l f =
 abbrev pub NoneLeft : List ℕ → ℕ → Type 0
 NoneLeft line low = (q : ℕ) → low ≤ q → is_found_at line q ≡ false
 
+-- no frame is left behind the last
 pub none-left : (line : List ℕ) (low : ℕ) (fs : List FoundFrame) → FoundFrom line low fs → NoneLeft line (low_after low fs)
 none-left line low [] h = h
 none-left line low (f ∷ fs) h = none-left line (f.place + 316) fs h.4
 
+-- the frames of a longer line are the earlier ones and those behind them
 pub found-more : (line more : List ℕ) (low : ℕ) (fs gs : List FoundFrame) → FoundFrom line low fs → FoundFrom (line ++ more) (low_after low fs) gs →
     FoundFrom (line ++ more) low (fs ++ gs)
 found-more line more low [] gs h n = n
@@ -68,6 +73,7 @@ pub record Shows (window line : List ℕ) (base : ℕ) : Type 0 where
   pub long : length line ≡ base + 320
   pub each : (q : ℕ) → base ≤ q + 315 → q < base + 5 → SameFrom window (index_of base q) line q
 
+-- what the window shows is what the line has
 none-shown : (window line : List ℕ) (base low high : ℕ) → Shows window line base → high ≤ base + 5 → NoneNext window base low high →
     ((q : ℕ) → low ≤ q → q + 316 ≤ base → is_match (bit_in line) q ≡ false) → (q : ℕ) → low ≤ q → q < high → is_found_at line q ≡ false
 none-shown window line base low high s l n before = λ q a b. not_found line q (λ h. elim (cases_lt base (q + 316)) [
@@ -76,6 +82,7 @@ none-shown window line base low high s l n before = λ q a b. not_found line q (
   | inr old ↦ before q a old
 ])
 
+-- so the frames of the window are those of the line
 pub found-shown : (window line : List ℕ) (base low : ℕ) (fs : List FoundFrame) → Shows window line base → AreNext window base low fs →
     ((q : ℕ) → low ≤ q → q + 316 ≤ base → is_match (bit_in line) q ≡ false) → FoundFrom line low fs
 found-shown window line base low [] s n before = λ q a.

@@ -8,7 +8,9 @@ use Rattle.ccu_end.specs.Found.{FoundFrame, is_found_at, FoundFrom}
 both_ways : (b : Bool) → b ≡ true → b ≡ false → ⊥
 both_ways b t f = cc
 
-same_place : (bits : List ℕ) (low : ℕ) (f g : FoundFrame) (fs gs : List FoundFrame) → FoundFrom bits low (f ∷ fs) → FoundFrom bits low (g ∷ gs) → f.place ≡ g.place
+-- the first frames of two lists have one place
+same_place : (bits : List ℕ) (low : ℕ) (f g : FoundFrame) (fs gs : List FoundFrame) → FoundFrom bits low (f ∷ fs) → FoundFrom bits low (g ∷ gs) →
+    f.place ≡ g.place
 same_place bits low f g fs gs a b = elim (cases_order f.place g.place) [
   | inl e ↦ e
   | inr o ↦ elim o [
@@ -17,9 +19,12 @@ same_place bits low f g fs gs a b = elim (cases_order f.place g.place) [
   ]
 ]
 
+-- frames with the same place that say the same
 same_parts : (f g : FoundFrame) → f.place ≡ g.place → f.frame ≡ g.frame → f ≡ g
-same_parts f g p e = ap (λ n. let h : FoundFrame = record { place = n; frame = f.frame } in h) p ∙ ap (λ x. let h : FoundFrame = record { place = g.place; frame = x } in h) e
+same_parts f g p e = ap (λ n. let h : FoundFrame = record { place = n; frame = f.frame } in h) p
+    ∙ ap (λ x. let h : FoundFrame = record { place = g.place; frame = x } in h) e
 
+-- so two lists of found frames are one
 pub same_found : (bits : List ℕ) (low : ℕ) (fs gs : List FoundFrame) → FoundFrom bits low fs → FoundFrom bits low gs → fs ≡ gs
 same_found bits low [] [] a b = refl
 same_found bits low [] (g ∷ gs) a b = absurd (both_ways (is_found_at bits g.place) b.2 (a g.place b.0))

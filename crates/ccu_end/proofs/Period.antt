@@ -19,6 +19,7 @@ use Rattle.ccu_end.specs.Told.{lines_of, octets_saying}
 use Rattle.ccu_end.specs.Follows.{Gains, Gives, Hears, Moves}
 use Rattle.ccu_end.specs.FollowStep.{FollowsOn, Takes}
 
+-- a part of a block
 take_short : (n : ℕ) (bytes : List ℕ) → n < length bytes → length (take n bytes) ≡ n
 take_short n bytes lt = simp length-take (omega (arith, lt))
 
@@ -27,24 +28,28 @@ at_most_one : {X : Type 0} (o : Option X) → length (option_to_list o) ≤ 1
 at_most_one None = omega arith
 at_most_one (Some x) = omega arith
 
+-- a period has two frames at most
 at_most_two : (h : Heard) → length (frames_of h) ≤ 2
 at_most_two h = grind (arith, at_most_one h.first, at_most_one h.second)
 
 -- what a period that is fed gives
 pub takes_by : (ccu fed : CcuMemory) (block : List ℕ) (h : Heard) → length block ≡ 40 → fed.periods ≡ ccu.periods + 1 → fed.want ≡ ccu.want →
-    ((past : List (List ℕ)) (heard : List (List FoundFrame)) → Stands past heard ccu → Stands (block ∷ past) (frames_of h ∷ heard) fed) → Takes ccu fed block (frames_of h)
+    ((past : List (List ℕ)) (heard : List (List FoundFrame)) → Stands past heard ccu → Stands (block ∷ past) (frames_of h ∷ heard) fed) →
+    Takes ccu fed block (frames_of h)
 takes_by ccu fed block h long counted want history = record { long = long; counted = counted; want = want; few = at_most_two h; history = history }
 
 -- a call on the Up line leaves the Down line as it was, and one on the Down line the Up line
 up_is_not_down : Up ≡ Down → ⊥
 up_is_not_down e = cc
 
+-- the other line stays as it was
 pub down_stays : (before now : ℕ → Side → LineState) (call : ℕ) → OthersStay before now call Up → now call Down ≡ before call Down
 down_stays before now call others = others call Down (λ same side. up_is_not_down (sym side))
 
 pub up_stays : (before now : ℕ → Side → LineState) (call : ℕ) → OthersStay before now call Down → now call Up ≡ before call Up
 up_stays before now call others = others call Up (λ same side. up_is_not_down side)
 
+-- what stays gains nothing
 stay_gains : (d d' : LineState) → d' ≡ d → Gains d d' []
 stay_gains d d' same = record {
   written = subst (λ (o : LineState). Appends d.written o.written []) (sym same) (Appends-nil d.written);
@@ -52,11 +57,13 @@ stay_gains d d' same = record {
   later = omega (arith, ap (λ (o : LineState). o.faults) same);
 }
 
+-- a desk that is told nothing
 stay_hears : (k : DeskState) → Hears k k []
 stay_hears k = record { written = Appends-nil k.written; to_come = refl; read_faults = refl; later = omega arith }
 
 -- a period that isn't whole
 module _ (ccu ccu' : CcuMemory) (u u' d d' : LineState) (k : DeskState) (block : List ℕ) (same : d' ≡ d) where
+  -- what was read alone
   read_only : (r : Filled) → ReadsBlock u u' r block → Moves u u' d d' k k (given_of r block) [] []
   read_only r read = record {
     gives = record { read = read.given; written = read.written; later = read.later };
@@ -64,6 +71,7 @@ module _ (ccu ccu' : CcuMemory) (u u' d d' : LineState) (k : DeskState) (block :
     hears = stay_hears k;
   }
 
+  -- the line ended inside the period, or failed there
   pub ends_inside : (n : ℕ) → length block ≡ 40 → ReadsBlock u u' (filled.Ended n) block → FollowsOn ccu ccu' u u' d d' k k (LineEnded n)
   ends_inside n long read = record {
     given = take n block;
@@ -98,10 +106,13 @@ module _ (ccu ccu' : CcuMemory) (u u' d d' : LineState) (k : DeskState) (block :
 
 -- a whole period, in which these frames were found: it was read, then its answer was written, and then its frames were told
 module _ (ccu ccu' : CcuMemory) (u u1 u2 d d1 d2 : LineState) (k : DeskState) (block : List ℕ) (found : List FoundFrame)
-    (read : ReadsBlock u u1 filled.Whole block) (up_same : u2 ≡ u1) (down_same : d1 ≡ d) (fed : CcuMemory) (same : ccu' ≡ fed) (takes_fed : Takes ccu fed block found) where
+    (read : ReadsBlock u u1 filled.Whole block) (up_same : u2 ≡ u1) (down_same : d1 ≡ d) (fed : CcuMemory) (same : ccu' ≡ fed)
+    (takes_fed : Takes ccu fed block found) where
+  -- the period is taken
   takes : Takes ccu ccu' block found
   takes = subst (λ (s : CcuMemory). Takes ccu s block found) (sym same) takes_fed
 
+  -- what is written is its answer
   answers : (r : Result (Unit {0}) Failed) → WritesAll d1 d2 r (octets_saying fed.answer) → WritesAll d1 d2 r (octets_saying ccu'.answer)
   answers r w = subst (λ (s : CcuMemory). WritesAll d1 d2 r (octets_saying s.answer)) (sym same) w
 
@@ -122,6 +133,7 @@ module _ (ccu ccu' : CcuMemory) (u u1 u2 d d1 d2 : LineState) (k : DeskState) (b
   up_calm : u2.faults ≡ u.faults
   up_calm = ap (λ (l : LineState). l.faults) up_same ∙ read.stopped
 
+  -- the answer failed inside
   pub half_answered : WritesAll d1 d2 (Err (record {})) (octets_saying fed.answer) → FollowsOn ccu ccu' u u2 d d2 k k WriteFailed
   half_answered w_fed =
       let w = answers (Err (record {})) w_fed in
@@ -155,6 +167,7 @@ module _ (ccu ccu' : CcuMemory) (u u1 u2 d d1 d2 : LineState) (k : DeskState) (b
     sent_all : Gains d d2 (octets_saying ccu'.answer)
     sent_all = gains (octets_saying ccu'.answer) w.ok w.to_come w.cause.later
 
+    -- the text failed inside
     pub half_told : Tells k k' (Err (record {})) (lines_of found) → FollowsOn ccu ccu' u u2 d d2 k k' DeskFailed
     half_told tells =
         let lines = lines_of found in
@@ -164,7 +177,11 @@ module _ (ccu ccu' : CcuMemory) (u u1 u2 d d1 d2 : LineState) (k : DeskState) (b
           given = block;
           sent = octets_saying ccu'.answer;
           told = take front.0 lines;
-          moves = record { gives = gives; gains = sent_all; hears = record { written = front.2; to_come = tells.to_come; read_faults = tells.read_faults; later = tells.cause.later } };
+          moves = record {
+            gives = gives;
+            gains = sent_all;
+            hears = record { written = front.2; to_come = tells.to_come; read_faults = tells.read_faults; later = tells.cause.later };
+          };
           ends = record {
             found = found;
             takes = takes;
@@ -177,12 +194,17 @@ module _ (ccu ccu' : CcuMemory) (u u1 u2 d d1 d2 : LineState) (k : DeskState) (b
           };
         }
 
+    -- the period is answered and told
     pub whole_taken : (count : ℕ) → count ≡ length found → Tells k k' (Ok tt) (lines_of found) → FollowsOn ccu ccu' u u2 d d2 k k' (Taken count)
     whole_taken count count_is tells = record {
       given = block;
       sent = octets_saying ccu'.answer;
       told = lines_of found;
-      moves = record { gives = gives; gains = sent_all; hears = record { written = tells.ok; to_come = tells.to_come; read_faults = tells.read_faults; later = tells.cause.later } };
+      moves = record {
+        gives = gives;
+        gains = sent_all;
+        hears = record { written = tells.ok; to_come = tells.to_come; read_faults = tells.read_faults; later = tells.cause.later };
+      };
       ends = record {
         found = found;
         takes = takes;

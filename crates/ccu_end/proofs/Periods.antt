@@ -1,10 +1,9 @@
 -- One period more, after any past.
-use Rattle.std.proofs.Common.{◌≡◌, ℕ, suc, false, ◌+◌, ◌-◌, ◌*◌, ◌≤◌, ◌<◌, List, [], ◌∷◌, ◌++◌, length, length-append, get_or, All, None, refl, sym, ap, ◌∙◌, subst, inl, inr, arith}
-use Rattle.std.proofs.lemmas.Bool.{cases_lt}
-use Rattle.std.proofs.lemmas.List.{get_or_append_left, get_or-append_right}
-use Rattle.std.proofs.lemmas.List.Elements.{All-head, All-tail, All-cons, All-nil}
+use Rattle.std.proofs.Common.{◌≡◌, ℕ, suc, false, ◌+◌, ◌-◌, ◌*◌, List, [], ◌∷◌, ◌++◌, length, length-append, get_or, All, None, refl, sym, ap, ◌∙◌, subst, arith}
+use Rattle.std.proofs.lemmas.List.Elements.{All-cons, All-nil}
 use Rattle.trau_bits.specs.Bits.{bits_of}
 use Rattle.trau_bits.proofs.BitList.{length-bits_of}
+use Rattle.frame_sync.proofs.Steps.{agrees-past, length-line_bits}
 use Rattle.ccu_end.specs.Found.{FoundFrame, is_found_at, FoundFrom}
 use Rattle.ccu_end.specs.Window.{index_of, AreNext, low_after}
 use Rattle.ccu_end.specs.Heard.{ArePeriods, line_bits, all_of, EndsIn, AreHeard, last_bits, CcuMemory, Stands}
@@ -13,53 +12,7 @@ use Rattle.ccu_end.specs.Step.{waiting_after, answer_after}
 use Rattle.ccu_end.proofs.Waits.{after-append, waiting-next, answer-next}
 use Rattle.ccu_end.proofs.Longer.{Shows, none-left, found-more, found-shown, not_found, no_match, none-longer}
 
-pub length-line_bits : (past : List (List ℕ)) → ArePeriods past → length (line_bits past) ≡ 320 * length past
-unfolding line_bits
-length-line_bits [] h = refl
-length-line_bits (octets ∷ past) h =
-    let here : length octets ≡ 40 = All-head (λ o. length o ≡ 40) octets past h in
-    let count = length-bits_of octets in
-    let rest = length-line_bits past (All-tail (λ o. length o ≡ 40) octets past h) in
-    length-append (line_bits past) (bits_of octets) ∙ omega arith
-
-length-last_bits : (past : List (List ℕ)) → ArePeriods past → length (last_bits past) ≡ 320
-unfolding last_bits
-length-last_bits [] h = refl
-length-last_bits (octets ∷ past) h =
-    let here : length octets ≡ 40 = All-head (λ o. length o ≡ 40) octets past h in
-    length-bits_of octets ∙ omega arith
-
--- a bit of the newest of the past, by both lists
-agrees-early : (past : List (List ℕ)) (bits : List ℕ) (i : ℕ) → ArePeriods past → 320 * length past ≤ i + 319 → i < 320 * length past →
-    get_or (last_bits past ++ bits) (i + 320 - 320 * length past) 0 ≡ get_or (line_bits past ++ bits) i 0
-unfolding last_bits line_bits
-agrees-early [] bits i h l m = absurd (omega arith)
-agrees-early (octets ∷ past) bits i h l m =
-    let here : length octets ≡ 40 = All-head (λ o. length o ≡ 40) octets past h in
-    let count = length-bits_of octets in
-    let rest = length-line_bits past (All-tail (λ o. length o ≡ 40) octets past h) in
-    let whole = length-append (line_bits past) (bits_of octets) in
-    let same : i + 320 - 320 * suc (length past) ≡ i - 320 * length past = omega (arith, l, m) in
-    get_or_append_left (bits_of octets) bits 0 (i + 320 - 320 * suc (length past)) (omega (arith, m)) ∙
-    ap (λ k. get_or (bits_of octets) k 0) same ∙
-    sym (get_or-append_right (line_bits past) (bits_of octets) (320 * length past) i 0 rest (omega (arith, l))) ∙
-    sym (get_or_append_left (line_bits past ++ bits_of octets) bits 0 i (omega (arith, m)))
-
-agrees-late : (past : List (List ℕ)) (bits : List ℕ) (i : ℕ) → ArePeriods past → 320 * length past ≤ i →
-    get_or (last_bits past ++ bits) (i + 320 - 320 * length past) 0 ≡ get_or (line_bits past ++ bits) i 0
-agrees-late past bits i h l =
-    let same : i + 320 - 320 * length past - 320 ≡ i - 320 * length past = omega arith in
-    get_or-append_right (last_bits past) bits 320 (i + 320 - 320 * length past) 0 (length-last_bits past h) (omega arith) ∙
-    ap (λ k. get_or bits k 0) same ∙
-    sym (get_or-append_right (line_bits past) bits (320 * length past) i 0 (length-line_bits past h) l)
-
-agrees-at : (past : List (List ℕ)) (bits : List ℕ) (i : ℕ) → ArePeriods past → 320 * length past ≤ i + 319 →
-    get_or (last_bits past ++ bits) (i + 320 - 320 * length past) 0 ≡ get_or (line_bits past ++ bits) i 0
-agrees-at past bits i h l = elim (cases_lt i (320 * length past)) [
-  | inl early ↦ agrees-early past bits i h l early
-  | inr late ↦ agrees-late past bits i h late
-]
-
+-- the last two periods are the end of the line
 shows-past : (past : List (List ℕ)) (octets : List ℕ) → ArePeriods past → length octets ≡ 40 →
     Shows (last_bits past ++ bits_of octets) (line_bits past ++ bits_of octets) (320 * length past)
 shows-past past octets h count = record {
@@ -70,7 +23,7 @@ shows-past past octets h count = record {
       omega arith;
   each = λ q a b i l.
       let index : index_of (320 * length past) q + i ≡ q + i + 320 - 320 * length past = omega arith in
-      ap (λ k. get_or (last_bits past ++ bits_of octets) k 0) index ∙ agrees-at past (bits_of octets) (q + i) h (omega arith);
+      ap (λ k. get_or (last_bits past ++ bits_of octets) k 0) index ∙ (agrees-past past (bits_of octets) h).each (q + i) (omega arith) (omega arith);
 }
 
 -- what is found in the window ends in its period
@@ -81,6 +34,7 @@ ends-next window base low k (f ∷ fs) e n =
     let within = n.0.within in
     All-cons (EndsIn k) f fs (omega arith, omega arith) (ends-next window base (f.place + 316) k fs e n.1)
 
+-- one period more of found frames
 pub heard-next : (past : List (List ℕ)) (octets : List ℕ) (heard : List (List FoundFrame)) (fs : List FoundFrame) → ArePeriods past → length octets ≡ 40 →
     AreHeard past heard →
     AreNext (last_bits past ++ bits_of octets) (320 * length past) (low_after 0 (all_of heard)) fs → AreHeard (octets ∷ past) (fs ∷ heard)
@@ -114,6 +68,7 @@ pub record Went (memory after : CcuMemory) (octets : List ℕ) (fs : List FoundF
   pub waiting : after.waiting ≡ waiting_after memory.waiting memory.low memory.want fs
   pub answer : after.answer ≡ answer_after memory.waiting memory.low memory.want fs
 
+-- so what is kept stands for one more
 pub stands-next : (memory after : CcuMemory) (octets : List ℕ) (fs : List FoundFrame) → length octets ≡ 40 → Went memory after octets fs →
     (past : List (List ℕ)) (heard : List (List FoundFrame)) → Stands past heard memory → Stands (octets ∷ past) (fs ∷ heard) after
 unfolding last_bits all_of
@@ -140,6 +95,7 @@ stands-next memory after octets fs count w past heard s =
           answer-next memory.want fs heard ∙ ap (λ want. asked want (fs ∷ heard)) (sym w.want);
     }
 
+-- nothing is found in no bits
 none-found : (q : ℕ) → is_found_at [] q ≡ false
 none-found q = not_found [] q (λ h. absurd (omega arith))
 
@@ -147,6 +103,7 @@ pub heard-none : AreHeard [] []
 unfolding all_of line_bits
 heard-none = record { count = refl; all = λ q l. none-found q; each = tt }
 
+-- what is kept before the first period
 pub stands-first : (memory : CcuMemory) → memory.periods ≡ 0 → memory.last ≡ last_bits [] → memory.low ≡ 0 → memory.waiting ≡ None →
     memory.answer ≡ up_words None 0 → Stands [] [] memory
 unfolding all_of line_bits waiting answered asked

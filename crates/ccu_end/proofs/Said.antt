@@ -3,7 +3,7 @@ use Rattle.std.proofs.Common.{◌≡◌, ℕ, ◌*◌, true, Some, None, List, g
 use Rattle.std.specs.Prelude.{◌==◌}
 use Rattle.std.proofs.lemmas.Bool.{ne_eqb}
 use Rattle.trau_frame.specs.declared.frames.DownFrame.TheVariants.{Idle, Speech}
-use Rattle.trau_frame.specs.Role.{place_of}
+use Rattle.trau_frame.specs.Role.{place_of_role}
 use Rattle.trau_frame.specs.Frame.{Synced, number_of, data_of}
 use Rattle.trau_frame.specs.Match.{bit_in, is_match, frame_at}
 use Rattle.trau_frame.proofs.Places.{synced}
@@ -11,12 +11,14 @@ use Rattle.trau_frame.proofs.Matches.{match_zeros, match_ones, get_or-frame_at}
 use Rattle.ccu_end.specs.Read.{frame_by, down_frame_in, Alike}
 use Rattle.ccu_end.proofs.Reading.{read-alike}
 
+-- bits like those of a match have the sync pattern
 pub alike-synced : (w bits : List ℕ) (o : ℕ) → Alike bits (frame_at (bit_in w) o) → is_match (bit_in w) o ≡ true → Synced bits
 alike-synced w bits o h m =
     synced bits
     (λ i l. h i (omega arith) ∙ get_or-frame_at (bit_in w) o i 0 (omega arith) ∙ match_zeros (bit_in w) o m i l)
     (λ row l r. h (16 * row) (omega arith) ∙ get_or-frame_at (bit_in w) o (16 * row) 0 (omega arith) ∙ match_ones (bit_in w) o m row l r)
 
+-- what the pattern says is what the frame says: idle, speech or neither
 said-by : (bits : List ℕ) (n : ℕ) → n ≡ number_of bits 1 5 → frame_by n bits ≡ down_frame_in bits
 said-by bits n e = ap (λ k. frame_by k bits) e
 
@@ -26,7 +28,7 @@ said-idle w bits o n h e is = ap (λ k. frame_by k bits) (sym is) ∙ said-by bi
 
 pub said-speech : (w bits d : List ℕ) (o n : ℕ) → Alike bits (frame_at (bit_in w) o) → n ≡ number_of bits 1 5 → n ≡ 28 → d ≡ data_of bits →
     Some (Speech d (get_or bits 310 0 == 1)) ≡ down_frame_in (frame_at (bit_in w) o)
-unfolding place_of
+unfolding place_of_role
 said-speech w bits d o n h e is same_data =
     ap (λ x. Some (Speech x (get_or bits 310 0 == 1))) same_data ∙
     ap (λ k. frame_by k bits) (sym is) ∙ said-by bits n e ∙ read-alike bits (frame_at (bit_in w) o) h

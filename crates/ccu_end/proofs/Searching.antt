@@ -37,6 +37,7 @@ pub record Zero (line : List ℕ) (n q : ℕ) : Type 0 where
   pub there : q + 316 ≤ length line
   pub zero_bit : get_or line q 0 ≡ 0
 
+-- a found frame has its zeros
 found-zero : (line : List ℕ) (n q : ℕ) → is_found_at (take n line) q ≡ true → Zero line n q
 found-zero line n q t =
     let parts = and_parts _ _ t in
@@ -54,6 +55,7 @@ found-zero line n q t =
 bit-at : (line : List ℕ) (f : FoundFrame) (n i : ℕ) (a : IsAt line f) → f.place + 316 ≤ n → i < 316 → get_or (take n line) (f.place + i) 0 ≡ get_or a.bits i 0
 bit-at line f n i a h l = get_or-take n line (f.place + i) 0 (omega arith) ∙ a.same i l
 
+-- a frame that stands on the line is found, and read
 at-found : (line : List ℕ) (f : FoundFrame) (n : ℕ) → IsAt line f → f.place + 316 ≤ n → is_found_at (take n line) f.place ≡ true
 at-found line f n a h =
     let room = a.room in
@@ -77,6 +79,7 @@ inside-from low high q (f ∷ fs) a i = elim i [
   | inr later ↦ let l = a.0 in let r = inside-from (f.place + 316) high q fs a.1 later in omega arith
 ]
 
+-- frames that lie apart from a place on do so from one before it
 apart-from : (low less high : ℕ) (fs : List FoundFrame) → less ≤ low → AreApart low fs high → AreApart less fs high
 apart-from low less high [] l a = omega arith
 apart-from low less high (f ∷ fs) l a = let b = a.0 in (omega arith, a.1)
@@ -85,13 +88,16 @@ apart-from low less high (f ∷ fs) l a = let b = a.0 in (omega arith, a.1)
 abbrev pub Covered : List ℕ → ℕ → ℕ → List FoundFrame → Type 0
 Covered line n low fs = (q : ℕ) → low ≤ q → Zero line n q → IsInside fs q
 
+-- no frame before the first
 not_before : (low high q : ℕ) (f : FoundFrame) (fs : List FoundFrame) → AreApart low (f ∷ fs) high → q < f.place → IsInside (f ∷ fs) q → ⊥
 not_before low high q f fs a l i = elim i [
   | inl here ↦ let h = here.0 in absurd (omega arith)
   | inr later ↦ let r = inside-from (f.place + 316) high q fs a.1 later in absurd (omega arith)
 ]
 
-covered-past : (line : List ℕ) (n low : ℕ) (f : FoundFrame) (fs : List FoundFrame) → low ≤ f.place → Covered line n low (f ∷ fs) → Covered line n (f.place + 316) fs
+-- what is covered behind the first frame, and before one that is cut off
+covered-past : (line : List ℕ) (n low : ℕ) (f : FoundFrame) (fs : List FoundFrame) → low ≤ f.place → Covered line n low (f ∷ fs) →
+    Covered line n (f.place + 316) fs
 covered-past line n low f fs l c = λ q h z. elim (c q (omega arith) z) [
   | inl here ↦ let b = here.1 in absurd (omega arith)
   | inr later ↦ later
@@ -103,6 +109,7 @@ covered-short line n low f fs l c = λ q h z. elim (c q h z) [
   | inr later ↦ later
 ]
 
+-- so just the frames of the line are found
 pub all-found : (line : List ℕ) (n low high : ℕ) (fs : List FoundFrame) → AreApart low fs high → AreAt line fs → Covered line n low fs →
     FoundFrom (take n line) low (all_within n fs)
 all-found line n low high [] a s c = λ q l. false_from_ne_true _ (λ t. c q l (found-zero line n q t))

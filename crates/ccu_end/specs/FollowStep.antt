@@ -74,7 +74,8 @@ pub record IsHalfTold (ccu ccu' : CcuMemory) (up up' down down' : LineState) (de
   pub rose : Rose desk.write_faults desk'.write_faults
 
 -- how a period ended, by what was read of it, sent for it and told of it
-abbrev pub PeriodEndsAs : CcuMemory → CcuMemory → LineState → LineState → LineState → LineState → DeskState → DeskState → List ℕ → List ℕ → List ℕ → PeriodEnd → Type 0
+abbrev pub PeriodEndsAs : CcuMemory → CcuMemory → LineState → LineState → LineState → LineState → DeskState → DeskState → List ℕ → List ℕ → List ℕ → PeriodEnd →
+    Type 0
 PeriodEndsAs ccu ccu' up up' down down' desk desk' given sent told (Taken count) = IsTaken ccu ccu' up up' down down' desk desk' given sent told count
 PeriodEndsAs ccu ccu' up up' down down' desk desk' given sent told (LineEnded left) = EndsInside up up' down down' desk desk' given sent told left
 PeriodEndsAs ccu ccu' up up' down down' desk desk' given sent told ReadFailed = FailsInside up up' down down' desk desk' given sent told

@@ -37,7 +37,8 @@ pub record Moves (up up' down down' : LineState) (desk desk' : DeskState) (given
 
 -- The line ended behind these periods, with so many octets left, or so many were taken that no more are. All of them are
 -- answered, and all frames told.
-pub record EndsLine (up up' down down' : LineState) (desk desk' : DeskState) (want : ℕ) (periods : List (List ℕ)) (heard : List (List FoundFrame)) (last sent told : List ℕ) (frames left : ℕ) : Type 0 where
+pub record EndsLine (up up' down down' : LineState) (desk desk' : DeskState) (want : ℕ) (periods : List (List ℕ)) (heard : List (List FoundFrame))
+    (last sent told : List ℕ) (frames left : ℕ) : Type 0 where
   pub at_end : IsAtEnd up'.to_come ⊎ ((length periods ≡ 2 ^ 32 - 1) × (last ≡ []))
   pub frames_are : frames ≡ length (all_of heard)
   pub left_is : left ≡ length last
@@ -49,7 +50,8 @@ pub record EndsLine (up up' down down' : LineState) (desk desk' : DeskState) (wa
   pub desk_same : desk'.write_faults ≡ desk.write_faults
 
 -- The incoming line failed inside a period. All periods before it, fewer than are taken, are answered, and their frames told.
-pub record FailsToRead (up up' down down' : LineState) (desk desk' : DeskState) (want : ℕ) (periods : List (List ℕ)) (heard : List (List FoundFrame)) (last sent told : List ℕ) : Type 0 where
+pub record FailsToRead (up up' down down' : LineState) (desk desk' : DeskState) (want : ℕ) (periods : List (List ℕ)) (heard : List (List FoundFrame))
+    (last sent told : List ℕ) : Type 0 where
   pub room : length periods < 2 ^ 32 - 1
   pub part : length last < 40
   pub all_sent : sent ≡ sent_up want heard
@@ -60,7 +62,8 @@ pub record FailsToRead (up up' down down' : LineState) (desk desk' : DeskState) 
 
 -- The outgoing line failed inside the answer of the last period: nothing was read behind that period, the line holds all
 -- earlier answers and a proper front of its answer, and the frames of the earlier periods alone are told.
-pub record FailsToWrite (up up' down down' : LineState) (desk desk' : DeskState) (want : ℕ) (heard : List (List FoundFrame)) (last sent told : List ℕ) : Type 0 where
+pub record FailsToWrite (up up' down down' : LineState) (desk desk' : DeskState) (want : ℕ) (heard : List (List FoundFrame))
+    (last sent told : List ℕ) : Type 0 where
   pub nothing_more : last ≡ []
   pub newest : List FoundFrame
   pub earlier : List (List FoundFrame)
@@ -75,7 +78,8 @@ pub record FailsToWrite (up up' down down' : LineState) (desk desk' : DeskState)
 
 -- The desk failed inside the lines of text of the last period: nothing was read behind that period, which is answered as
 -- all earlier ones are, and the desk holds all earlier lines and a proper front of its lines.
-pub record FailsToTell (up up' down down' : LineState) (desk desk' : DeskState) (want : ℕ) (heard : List (List FoundFrame)) (last sent told : List ℕ) : Type 0 where
+pub record FailsToTell (up up' down down' : LineState) (desk desk' : DeskState) (want : ℕ) (heard : List (List FoundFrame))
+    (last sent told : List ℕ) : Type 0 where
   pub nothing_more : last ≡ []
   pub newest : List FoundFrame
   pub earlier : List (List FoundFrame)
@@ -89,8 +93,10 @@ pub record FailsToTell (up up' down down' : LineState) (desk desk' : DeskState) 
   pub rose : Rose desk.write_faults desk'.write_faults
 
 -- the end behind these periods: what was read behind them, what was sent, and what was told
-abbrev pub EndsAs : LineState → LineState → LineState → LineState → DeskState → DeskState → ℕ → List (List ℕ) → List (List FoundFrame) → List ℕ → List ℕ → List ℕ → FollowEnd → Type 0
-EndsAs up up' down down' desk desk' want periods heard last sent told (Done frames left) = EndsLine up up' down down' desk desk' want periods heard last sent told frames left
+abbrev pub EndsAs : LineState → LineState → LineState → LineState → DeskState → DeskState → ℕ → List (List ℕ) → List (List FoundFrame) → List ℕ → List ℕ →
+    List ℕ → FollowEnd → Type 0
+EndsAs up up' down down' desk desk' want periods heard last sent told (Done frames left) =
+    EndsLine up up' down down' desk desk' want periods heard last sent told frames left
 EndsAs up up' down down' desk desk' want periods heard last sent told ReadFailed = FailsToRead up up' down down' desk desk' want periods heard last sent told
 EndsAs up up' down down' desk desk' want periods heard last sent told WriteFailed = FailsToWrite up up' down down' desk desk' want heard last sent told
 EndsAs up up' down down' desk desk' want periods heard last sent told DeskFailed = FailsToTell up up' down down' desk desk' want heard last sent told

@@ -6,7 +6,7 @@ use Rattle.time_align.specs.Shift.{IsShift}
 use Rattle.trau_frame.specs.declared.frames.DownFrame.{DownFrame}
 use Rattle.trau_frame.specs.DownFrame.{HasBits, down_bits}
 use Rattle.trau_frame.specs.Match.{bit_in, is_match, frame_at}
-use Rattle.down_framer.specs.Made.{MadeFrame, octets_of, frame_on_line, line_of}
+use Rattle.down_framer.specs.Made.{MadeFrame, octets_to_next, frame_on_line, downlink_of}
 use Rattle.ccu_end.specs.declared.finds.Found.{Found as Place}
 use Rattle.ccu_end.specs.Read.{down_frame_in, HasLength}
 
@@ -41,7 +41,7 @@ Found bits fs = FoundFrom bits 0 fs
 
 -- the downlink as far as it is made
 abbrev pub downlink : {A : Type 0} → (List (MadeFrame A) → DownFrame) → List (MadeFrame A) → List ℕ
-downlink frame fs = line_of (λ gs. down_bits (frame gs)) fs
+downlink frame fs = downlink_of (λ gs. down_bits (frame gs)) fs
 
 -- a frame that starts at an octet of the Pcm line stands two bits for each octet behind the first 320 bits
 abbrev pub place_of : {A : Type 0} → MadeFrame A → ℕ
@@ -78,14 +78,14 @@ AreShifted (x ∷ xs) = IsShift x.0 × HasLength x.1 × AreShifted xs
 -- the first one at p, and each further one 320 bits and two for each octet of the shift after the one before
 abbrev pub found_from : ℕ → List Shifted → List FoundFrame
 found_from p [] = []
-found_from p (x ∷ xs) = record { place = p; frame = Some x.1 } ∷ found_from (p + 2 * octets_of x.0) xs
+found_from p (x ∷ xs) = record { place = p; frame = Some x.1 } ∷ found_from (p + 2 * octets_to_next x.0) xs
 
 -- ---- places by shifts, the oldest first
 
 -- a shift moves the next place by two bits for each of its octets: it stands 320 bits and the shift after the one before
 abbrev pub places_from : ℕ → List ℤ → List ℕ
 places_from p [] = []
-places_from p (v ∷ vs) = p ∷ places_from (p + 2 * octets_of v) vs
+places_from p (v ∷ vs) = p ∷ places_from (p + 2 * octets_to_next v) vs
 
 abbrev pub shifts_of : {A : Type 0} → List (MadeFrame A) → List ℤ
 shifts_of [] = []

@@ -1,21 +1,15 @@
 -- The frames that a base station finds in each period of a downlink (this project's profile). A period has 40 octets. A
--- history has the newest period first; the frames of one period stand in order.
-use Rattle.std.specs.Prelude.{◌≡◌, ℕ, ◌+◌, ◌*◌, ◌≤◌, ◌<◌, List, [], ◌∷◌, ◌++◌, length, replicate, All, Option, option_to_list}
-use Rattle.trau_bits.specs.Bits.{bits_of}
+-- history has the newest period first; the frames of one period stand in order. The bits of a history are those in which an
+-- uplink's frames are searched.
+use Rattle.std.specs.Prelude.{◌≡◌, ℕ, ◌+◌, ◌*◌, ◌≤◌, ◌<◌, List, [], ◌∷◌, ◌++◌, length, All, Option, option_to_list}
+pub use Rattle.frame_sync.specs.Periods.{ArePeriods}
+unfoldable pub use Rattle.frame_sync.specs.Periods.{line_bits}
+unfoldable pub use Rattle.frame_sync.specs.Stands.{last_bits}
 use Rattle.trau_frame.specs.UpFrame.{UpWords}
 use Rattle.ccu_end.specs.declared.finds.Heard.{Heard}
 use Rattle.ccu_end.specs.Found.{FoundFrame, Found}
 use Rattle.ccu_end.specs.Window.{low_after}
 use Rattle.ccu_end.specs.Asked.{waiting, answered, asked}
-
--- every period has 40 octets
-abbrev pub ArePeriods : List (List ℕ) → Type 0
-ArePeriods periods = All (λ octets. length octets ≡ 40) periods
-
--- all bits of the periods, the oldest first
-unfoldable pub line_bits : List (List ℕ) → List ℕ
-line_bits [] = []
-line_bits (octets ∷ past) = line_bits past ++ bits_of octets
 
 -- all frames of the periods, the oldest first
 unfoldable pub all_of : List (List FoundFrame) → List FoundFrame
@@ -54,11 +48,6 @@ pub record CcuMemory : Type 0 where
   pub want : ℕ
   pub waiting : Option ℕ
   pub answer : UpWords
-
--- the bits of the newest period, where there is one
-unfoldable pub last_bits : List (List ℕ) → List ℕ
-last_bits [] = replicate 320 0
-last_bits (octets ∷ past) = bits_of octets
 
 -- the memory is that after these periods, in which these frames were found
 pub record Stands (past : List (List ℕ)) (heard : List (List FoundFrame)) (memory : CcuMemory) : Type 0 where

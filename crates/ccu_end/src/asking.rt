@@ -11,10 +11,10 @@ ghost use Rattle.ccu_end.specs.Step.{wait_next, waits_over, field_now};
 use crate::finds::{Found, Heard};
 use trau_frame::{Class, DownFrame, Kind, UpFrame};
 
-/// A request that waits ends with the eighth frame.
+// A request that waits ends with the eighth frame.
 const LAST_FRAME: u8 = 7;
 
-/// Whether a request still waits, where one more frame is found at `place`; the next one was looked for from `low` on.
+// Whether a request still waits, where one more frame is found at `place`; the next one was looked for from `low` on.
 fn wait_next(waiting: Option<u8>, low: u64, place: u64) -> Option<u8>
     requires { low < 2 ^ 62 }
     ensures { result ≡ wait_next waiting low place }
@@ -51,7 +51,7 @@ pub(crate) fn last_of(heard: &Heard) -> Option<Found>
     heard.second.or(heard.first)
 }
 
-/// By how many bits the wanted place lies behind `place`, modulo 320.
+// By how many bits the wanted place lies behind `place`, modulo 320.
 fn offset_of(want: u16, place: u64) -> u64
     requires { want ≤ 316 }
     ensures value { result ≡ offset_of want place }
@@ -60,7 +60,7 @@ fn offset_of(want: u16, place: u64) -> u64
     (u64::from(want) + 320 - place % 320) % 320
 }
 
-/// The alignment field that asks for frames so many bits later.
+// The alignment field that asks for frames so many bits later.
 fn field_by(offset: u64) -> u8
     requires { offset < 320 }
     ensures value { result ≡ field_by offset }
@@ -85,7 +85,7 @@ pub(crate) fn field_where(waiting: Option<u8>, want: u16, last: Option<Found>) -
     }
 }
 
-/// The data bits of a speech frame.
+// The data bits of a speech frame.
 fn speech_in(last: Option<Found>) -> Option<[u8; 260]>
     requires { IfSome last HaveBits }
     ensures value { result ≡ speech_in last }
@@ -97,7 +97,7 @@ fn speech_in(last: Option<Found>) -> Option<[u8; 260]>
     }
 }
 
-/// An uplink frame with TAF 0 and DTXd 1.
+// An uplink frame with TAF 0 and DTXd 1.
 fn up_frame(kind: Kind, class: Class, align: u8, d: [u8; 260]) -> UpFrame
     requires six_bits { align ≤ 63 }
     requires bits { AreBits d }

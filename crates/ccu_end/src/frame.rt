@@ -9,8 +9,8 @@ ghost use Rattle.ccu_end.specs.Read.{down_frame_in, Alike};
 
 use trau_frame::{DownFrame, read_up};
 
-/// The number in C1 to C5.
-#[tactic(auto, unfolding(trau_frame::specs::Frame::number_of, trau_frame::specs::Role::place_of))]
+// The number in C1 to C5.
+#[tactic(auto, unfolding(trau_frame::specs::Frame::number_of, trau_frame::specs::Role::place_of_role))]
 fn pattern(bits: &[u8; 320]) -> u8
     requires { AreBits bits.now }
     ensures { result ≡ number_of bits.now 1 5 }
@@ -18,7 +18,7 @@ fn pattern(bits: &[u8; 320]) -> u8
     16 * bits[17] + 8 * bits[18] + 4 * bits[19] + 2 * bits[20] + bits[21]
 }
 
-/// The first 316 bits of the frame at place `o` of the window, and zeros for its time bits, which say nothing.
+// The first 316 bits of the frame at place `o` of the window, and zeros for its time bits, which say nothing.
 fn frame_from(window: &[u8; 640], o: usize) -> [u8; 320]
     requires within { o ≤ 324 }
     requires bits { AreBits window.now }

@@ -4,7 +4,7 @@ ghost use Rattle.std.specs.Prelude.{◌≡◌, ℕ, ◌+◌, ◌*◌, ◌≤◌,
 ghost use Rattle.trau_frame.specs.Match.{bit_in, is_match};
 ghost use Rattle.ccu_end.specs.Window.{NoMatch};
 
-/// Whether the sixteen sync zeros of the frame at place `o` are there.
+// Whether the sixteen sync zeros of the frame at place `o` are there.
 fn zeros_match(window: &[u8; 640], o: usize) -> bool
     requires { o ≤ 324 }
     ensures { IsTrue result ↔ ((i : ℕ) → i < 16 → slice_index window.now (o + i) ≡ 0) }
@@ -17,7 +17,7 @@ fn zeros_match(window: &[u8; 640], o: usize) -> bool
     true
 }
 
-/// Whether its nineteen sync ones are there.
+// Whether its nineteen sync ones are there.
 fn ones_match(window: &[u8; 640], o: usize) -> bool
     requires { o ≤ 324 }
     ensures { IsTrue result ↔ ((row : ℕ) → 1 ≤ row → row < 20 → slice_index window.now (o + 16 * row) ≡ 1) }
@@ -30,7 +30,7 @@ fn ones_match(window: &[u8; 640], o: usize) -> bool
     true
 }
 
-/// Whether the 35 sync bits of a frame stand at place `o`.
+// Whether the 35 sync bits of a frame stand at place `o`.
 fn matches_at(window: &[u8; 640], o: usize) -> bool
     requires { o ≤ 324 }
     ensures { IsTrue result ↔ (is_match (bit_in window.now) o ≡ true) }

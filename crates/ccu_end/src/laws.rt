@@ -4,7 +4,7 @@ ghost use Rattle.std.specs.Prelude.{◌≡◌, ℕ, Some, List, length, take, ma
 ghost use Rattle.trau_frame.specs.declared.frames.DownFrame.{DownFrame};
 ghost use Rattle.trau_frame.specs.DownFrame.{down_bits};
 ghost use Rattle.down_framer.specs.Made.{made_frames};
-ghost use Rattle.down_framer.specs.Places.{PcmPeriod, PcmFrame};
+ghost use Rattle.down_framer.specs.Stands.{PcmPeriod, PcmFrame};
 ghost use Rattle.ccu_end.specs.Read.{down_frame_in, HasLength};
 ghost use Rattle.ccu_end.specs.Heard.{ArePeriods, line_bits, all_of, AreHeard};
 ghost use Rattle.ccu_end.specs.Found.{FoundFrame, Found, downlink, HaveLength, as_made, all_within, Shifted, shifted_line, AreShifted, found_from, places_from, shifts_of};

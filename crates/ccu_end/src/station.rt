@@ -45,7 +45,7 @@ impl Model for Ccu {
     ghost invariant = { λ s. (s.low ≤ 320 * s.periods) × AreBits s.last };
 }
 
-/// A period of zeros.
+// A period of zeros.
 fn zeros() -> [u8; 320]
     ensures value { result ≡ replicate 320 0 }
     ensures are_bits { AreBits result }
@@ -53,7 +53,7 @@ fn zeros() -> [u8; 320]
     [0; 320]
 }
 
-/// The bits of two periods.
+// The bits of two periods.
 fn joined(last: &[u8; 320], bits: &[u8; 320]) -> [u8; 640]
     ensures { result ≡ last.now ++ bits.now }
 {
@@ -63,8 +63,8 @@ fn joined(last: &[u8; 320], bits: &[u8; 320]) -> [u8; 640]
     window
 }
 
-/// The least frame from place `low` on whose bit 315 is one of the period that begins at place `base`; `low` goes behind
-/// its first 316 bits. The window has the bits of the period before and of this one.
+// The least frame from place `low` on whose bit 315 is one of the period that begins at place `base`; `low` goes behind
+// its first 316 bits. The window has the bits of the period before and of this one.
 fn take_next(window: &[u8; 640], base: u64, low: &mut u64) -> Option<Found>
     requires small { base < 2 ^ 60 }
     requires near { low.old ≤ base + 320 }
@@ -83,7 +83,7 @@ fn take_next(window: &[u8; 640], base: u64, low: &mut u64) -> Option<Found>
     })
 }
 
-/// The frames found in the period that begins at place `base`, from place `low` on, which goes behind them.
+// The frames found in the period that begins at place `base`, from place `low` on, which goes behind them.
 fn take_period(window: &[u8; 640], base: u64, low: &mut u64) -> Heard
     requires small { base < 2 ^ 60 }
     requires near { low.old ≤ base }

@@ -1,7 +1,6 @@
 //! The texts of the command `follow`.
 
 ghost use Rattle.std.specs.Prelude.{◌≡◌, ◌≤◌, ℕ, length};
-ghost use Rattle.trau_io.specs.Texts.{failed_text};
 ghost use Rattle.ccu_end.specs.declared.recording.FollowEnd.TheVariants.{Done};
 ghost use Rattle.ccu_end.specs.Heard.{frames_of};
 ghost use Rattle.ccu_end.specs.Told.{word_of, line_of, lines_of};
@@ -10,11 +9,12 @@ ghost use Rattle.ccu_end.specs.Tool.{last_text};
 use crate::finds::{Found, Heard};
 use crate::recording::FollowEnd;
 use arrayvec::ArrayString;
+use farm_tools::failed_line;
 use itoa::Buffer;
 use trau_frame::DownFrame;
 use trau_io::Side;
 
-/// The word for what a frame says.
+// The word for what a frame says.
 fn word(frame: &Option<DownFrame>) -> &'static str
     ensures word { result.now ≡ word_of frame.now }
     ensures short { length result.now ≤ 6 }
@@ -26,7 +26,7 @@ fn word(frame: &Option<DownFrame>) -> &'static str
     }
 }
 
-/// The line of text of a found frame, as `320 speech`: its place in bits from the line's start, and what it says.
+// The line of text of a found frame, as `320 speech`: its place in bits from the line's start, and what it says.
 #[tactic(auto, unfolding(crate::specs::Told::line_of))]
 fn line(found: &Found) -> ArrayString<32>
     ensures text { result.bytes ≡ line_of found.now }
@@ -55,21 +55,7 @@ pub(crate) fn lines(heard: &Heard) -> ArrayString<64>
     text
 }
 
-/// The text of a side of a call that failed.
-fn failed_line(call: u32, side: Side) -> ArrayString<64>
-    ensures { result.bytes ≡ failed_text call side }
-{
-    let mut digits = Buffer::new();
-    let mut text = ArrayString::new();
-    text.push_str("line ");
-    text.push_str(digits.format(call));
-    text.push_str(" ");
-    text.push_str(side.word());
-    text.push_str(" failed\n");
-    text
-}
-
-/// The last line of text where so many frames were found and so many octets are left.
+// The last line of text where so many frames were found and so many octets are left.
 fn done_line(frames: u64, left: u32) -> ArrayString<64>
     ensures { (call : ℕ) → result.bytes ≡ last_text call (Done frames left) }
 {

@@ -1,3 +1,5 @@
+//! The decoder from home: what a silent start gives.
+
 ghost use Rattle.std.specs.Prelude.{◌≤◌};
 
 use fr_decoder::Decoder;

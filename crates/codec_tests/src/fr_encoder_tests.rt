@@ -1,3 +1,5 @@
+//! The encoder from home: what a silent start is coded to.
+
 use fr_encoder::Encoder;
 use trau_params::{Params, Trace};
 

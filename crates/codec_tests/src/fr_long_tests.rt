@@ -1,3 +1,5 @@
+//! Long-term prediction of both sides: lags, gains, predictions and the correlations of the loudest blocks.
+
 ghost use Rattle.std.specs.Prelude.{◌<◌};
 ghost use Rattle.fr_long.specs.Scaling.{AreScaled};
 

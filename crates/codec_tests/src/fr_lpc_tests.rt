@@ -1,3 +1,5 @@
+//! Linear prediction: silence, the greatest ratios, and frames at full scale.
+
 use fr_lpc::{analyse, autocorrelate, peak, quantise};
 
 // Whether a frame has these ratios and these codes of them.

@@ -1,3 +1,5 @@
+//! Preprocessing: silence, steps and what it keeps from frame to frame.
+
 use fr_pre::PreState;
 
 // The first three samples of a frame and its last, preprocessed.

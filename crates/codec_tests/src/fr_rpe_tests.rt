@@ -1,3 +1,5 @@
+//! Pulse coding of both sides, at the ends of its ranges.
+
 use fr_rpe::{Rpe, decode_block, encode_block, quantise_max};
 
 #[test]

@@ -1,3 +1,5 @@
+//! The short-term filters, beside those of `plain_filters`.
+
 ghost use Rattle.std.specs.Prelude.{◌<◌};
 ghost use Rattle.trau_params.specs.Widths.{FitLarc};
 

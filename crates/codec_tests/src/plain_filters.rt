@@ -64,7 +64,7 @@ fn analysed(rp: &[i16; 8], u: &mut [i16; 8], s: i16) -> i16 {
     di
 }
 
-// One direction's filter: the frame before's ratios, and v[0] to v[8] of synthesis or u[0] to u[7] of analysis.
+/// One direction's filter: the frame before's ratios, and v[0] to v[8] of synthesis or u[0] to u[7] of analysis.
 #[derive(Drop)]
 pub(crate) struct PlainFilter {
     ratios: [i16; 8],
@@ -73,6 +73,7 @@ pub(crate) struct PlainFilter {
 }
 
 impl PlainFilter {
+    /// The filter before the first frame.
     pub(crate) fn home() -> PlainFilter {
         PlainFilter {
             ratios: [0; 8],
@@ -81,6 +82,7 @@ impl PlainFilter {
         }
     }
 
+    /// The samples of a frame, of the codes of its ratios and its residual.
     pub(crate) fn synthesise(&mut self, larc: &[u8; 8], d: &[i16; 160]) -> [i16; 160]
         requires { FitLarc larc.now }
     {
@@ -93,6 +95,7 @@ impl PlainFilter {
         s
     }
 
+    /// The residual of a frame, of the codes of its ratios and its samples.
     pub(crate) fn analyse(&mut self, larc: &[u8; 8], s: &[i16; 160]) -> [i16; 160]
         requires { FitLarc larc.now }
     {
@@ -106,7 +109,7 @@ impl PlainFilter {
     }
 }
 
-// The samples after de-emphasis (section 4.3.5), behind the last one before.
+/// The samples after de-emphasis (section 4.3.5), behind the last one before.
 pub(crate) fn deemphasised(s: &[i16; 160], before: i16) -> [i16; 160] {
     let mut msr = before;
     let mut sro = [0; 160];

@@ -1,3 +1,5 @@
+//! A-law and mu-law: the ends of their ranges, and octets that come back.
+
 use trau_alaw::{
     Law, compress, compress_law, expand, expand_law, idle_octet, recompress, recompress_law,
 };

@@ -1,3 +1,5 @@
+//! Saturating arithmetic at the ends of its ranges, and the random source.
+
 use trau_num::{Draw, abs16, add, div_q15, l_add, l_mult, l_sub, mult, mult_r, norm, shl16, sub};
 
 #[test]

@@ -1,3 +1,5 @@
+//! A frame of parameters and its 260 bits.
+
 use trau_params::{Params, rewritten, silence};
 
 // Whether all bits of parameters are this one.

@@ -4,7 +4,7 @@ use crate::comparison::{Answers, Comparison};
 use crate::{alaw, decoder, encoder, farm, search, station};
 use std::{fs, io};
 
-/// What is compared with the answers, with the files that go in.
+// What is compared with the answers, with the files that go in.
 #[derive(Clone, Copy)]
 enum Kind {
     /// The A-law of all samples.
@@ -136,7 +136,7 @@ pub(crate) static CASES: [Case; 17] = [
     },
 ];
 
-/// The answers of a file: octets, or a text.
+// The answers of a file: octets, or a text.
 fn answers_of(kind: Kind, octets: &[u8]) -> Answers<'_> {
     match kind {
         Kind::Compress | Kind::CompressMulaw | Kind::Silence | Kind::Codes(_) | Kind::Asked(..) =>
@@ -145,7 +145,7 @@ fn answers_of(kind: Kind, octets: &[u8]) -> Answers<'_> {
     }
 }
 
-/// Compares what comes of what goes in.
+// Compares what comes of what goes in.
 fn compare(rt: &HostRuntime, comparison: &mut Comparison, kind: Kind) -> io::Result<()> {
     match kind {
         Kind::Compress => alaw::compress_all(comparison),

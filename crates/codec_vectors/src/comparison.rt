@@ -4,7 +4,7 @@ use std::str::{SplitWhitespace, from_utf8};
 use std::{io, slice};
 use trau_alaw::compress;
 
-/// An answer that is missing or no number: no value of a case.
+// An answer that is missing or no number: no value of a case.
 const MISSING: i32 = i32::MIN;
 
 /// The recorded answers that are still to come.
@@ -16,6 +16,7 @@ pub(crate) enum Answers<'a> {
 }
 
 impl<'a> Answers<'a> {
+    /// The answers that a text has as words.
     pub(crate) fn of_text(octets: &'a [u8]) -> Self {
         Answers::Words(from_utf8(octets).unwrap_or("").split_whitespace())
     }
@@ -43,6 +44,7 @@ pub(crate) struct Comparison<'a> {
 }
 
 impl<'a> Comparison<'a> {
+    /// A comparison with these answers, before its first value.
     pub(crate) fn new(answers: Answers<'a>) -> Self {
         Comparison {
             answers,
@@ -52,6 +54,7 @@ impl<'a> Comparison<'a> {
         }
     }
 
+    /// Compares two values.
     pub(crate) fn compare(&mut self, wanted: i32, got: i32) {
         if self.wanted == self.got {
             self.wanted = wanted;
@@ -75,6 +78,7 @@ impl<'a> Comparison<'a> {
         self.compare_next(got);
     }
 
+    /// Compares octets with the next answers.
     pub(crate) fn compare_octets(&mut self, octets: &[u8]) {
         for octet in octets {
             self.compare_next(i32::from(*octet));

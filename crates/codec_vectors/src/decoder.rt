@@ -6,7 +6,7 @@ use trau_bits::unpack;
 use trau_frame::{read_up, sync_matches};
 use trau_params::Params;
 
-/// Compares the samples of a frame; they are 0 where the octets are none.
+// Compares the samples of a frame; they are 0 where the octets are none.
 fn decode(comparison: &mut Comparison, decoder: &mut Decoder, octets: &[u8; 40]) {
     let mut bits = [0; 320];
     unpack(octets, &mut bits);

@@ -7,7 +7,7 @@ use trau_bits::pack;
 use trau_frame::{DownFrame, write_down};
 use trau_params::Params;
 
-/// The 160 samples of a frame of A-law octets.
+// The 160 samples of a frame of A-law octets.
 fn samples(octets: &[u8; 160]) -> [i16; 160] {
     let mut samples = [0; 160];
     for k in 0..160 {
@@ -16,7 +16,7 @@ fn samples(octets: &[u8; 160]) -> [i16; 160] {
     samples
 }
 
-/// Compares the 17 parameters of each of the four blocks.
+// Compares the 17 parameters of each of the four blocks.
 fn compare_blocks(comparison: &mut Comparison, p: &Params) {
     for j in 0..4 {
         comparison.compare_octets(&[p.nc[j], p.bc[j], p.mc[j], p.xmaxc[j]]);
@@ -34,7 +34,7 @@ pub(crate) fn encode_line(comparison: &mut Comparison, pcm: &[u8]) {
     }
 }
 
-/// The octets of the downlink frame with SP 1.
+// The octets of the downlink frame with SP 1.
 fn down_octets(params: &Params) -> [u8; 40] {
     let mut d = [0; 260];
     params.to_bits(&mut d);

@@ -9,7 +9,7 @@ use crate::comparison::Comparison;
 use frame_sync::{FrameSync, Yield};
 use trau_frame::{Class, Kind, read_up};
 
-/// Which of the eight counts of a call a frame belongs to: good, silence descriptor, invalid one, bad, idle or other.
+// Which of the eight counts of a call a frame belongs to: good, silence descriptor, invalid one, bad, idle or other.
 fn frame_count(bits: &[u8; 320]) -> usize
     requires bits { AreBits bits.now }
     requires synced { Synced bits.now }
@@ -26,7 +26,7 @@ fn frame_count(bits: &[u8; 320]) -> usize
     }
 }
 
-/// Likewise for a frame or a miss.
+// Likewise for a frame or a miss.
 fn yield_count(found: Yield) -> usize
     requires { CarriesFrame found }
     ensures { result < 8 }
@@ -37,7 +37,7 @@ fn yield_count(found: Yield) -> usize
     }
 }
 
-/// Which count the next period of an uplink belongs to.
+// Which count the next period of an uplink belongs to.
 fn next_count(sync: &mut FrameSync, octets: &[u8; 40]) -> usize
     requires { sync.old.periods < 4294967295 }
     ensures count { result < 8 }
@@ -49,7 +49,7 @@ fn next_count(sync: &mut FrameSync, octets: &[u8; 40]) -> usize
     }
 }
 
-/// The eight counts of the first periods of an uplink.
+// The eight counts of the first periods of an uplink.
 fn counts(up: &[u8], periods: u32) -> [i32; 8] {
     let mut counts = [0i32; 8];
     let mut sync = FrameSync::new();

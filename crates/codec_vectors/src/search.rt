@@ -7,14 +7,14 @@ use crate::comparison::Comparison;
 use frame_sync::{FrameSync, Yield};
 use trau_bits::{get_bit, pack, put_bit};
 
-/// An uplink frame of good speech.
+// An uplink frame of good speech.
 static FRAME: [u8; 40] = [
     0x00, 0x00, 0x88, 0x00, 0x82, 0x09, 0xBA, 0x1A, 0xE4, 0x28, 0x80, 0x12, 0xA4, 0x92, 0xA4, 0x92,
     0xA2, 0x80, 0x81, 0x24, 0xC9, 0x24, 0xC9, 0x24, 0xA8, 0x00, 0x92, 0x49, 0x92, 0x49, 0x92, 0x45,
     0x80, 0x02, 0xA4, 0x92, 0xA4, 0x92, 0xA6, 0xFF,
 ];
 
-/// Twelve periods of ones with frames at these places.
+// Twelve periods of ones with frames at these places.
 fn line(places: &[usize]) -> [u8; 480] {
     let mut octets = [0xFF; 480];
     for place in places {
@@ -28,7 +28,7 @@ fn line(places: &[usize]) -> [u8; 480] {
     octets
 }
 
-/// The place of a frame whose bits are right, or a number that no place has.
+// The place of a frame whose bits are right, or a number that no place has.
 fn frame_told(place: u64, bits: &[u8; 320]) -> i32
     requires { AreBits bits.now }
 {
@@ -41,7 +41,7 @@ fn frame_told(place: u64, bits: &[u8; 320]) -> i32
     }
 }
 
-/// A yield as a number: of a frame its place, of a miss -2 less its place.
+// A yield as a number: of a frame its place, of a miss -2 less its place.
 fn told(found: Yield) -> i32
     requires { CarriesFrame found }
 {
@@ -51,7 +51,7 @@ fn told(found: Yield) -> i32
     }
 }
 
-/// Compares what each of the twelve periods gives of a line with frames at these places, -1 for nothing.
+// Compares what each of the twelve periods gives of a line with frames at these places, -1 for nothing.
 fn search(comparison: &mut Comparison, places: &[usize]) {
     let octets = line(places);
     let mut sync = FrameSync::new();
@@ -72,7 +72,7 @@ pub(crate) fn search_offsets(comparison: &mut Comparison) {
     }
 }
 
-/// Lines worked by hand: where their frames begin.
+// Lines worked by hand: where their frames begin.
 static LINES: [[usize; 11]; 3] = [
     // Five bits too many behind the second frame: three misses, and then the search finds the frames again.
     [0, 320, 645, 965, 1285, 1605, 1925, 2245, 2565, 2885, 3205],
@@ -82,6 +82,7 @@ static LINES: [[usize; 11]; 3] = [
     [3, 400, 720, 1040, 1360, 1680, 2000, 2320, 2640, 2960, 3280],
 ];
 
+/// Compares what the search gives for each of the lines.
 pub(crate) fn search_lines(comparison: &mut Comparison) {
     for places in &LINES {
         search(comparison, places);

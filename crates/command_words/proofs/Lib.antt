@@ -4,3 +4,4 @@ mod Following
 mod Found
 mod Living
 mod Matched
+pub mod Naming

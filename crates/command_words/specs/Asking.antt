@@ -1,17 +1,19 @@
 -- What words ask for (this project's profile).
 use Rattle.std.specs.Prelude.{◌≡◌, ℕ, List, codes}
 use Rattle.command_words.specs.declared.asked.Asked.{Asked}
-use Rattle.command_words.specs.declared.asked.Asked.TheVariants.{Run, Drill, Live, Relay, Frames, Encode, Decode, Follow, Split, Merge}
+use Rattle.command_words.specs.declared.asked.Asked.TheVariants.{Run, Save, Resume, Drill, Live, Relay, Frames, Encode, Decode, Follow, Split, Merge}
 use Rattle.command_words.specs.Drill.{AsksDrill}
 use Rattle.command_words.specs.Follow.{NamesFollow}
 use Rattle.command_words.specs.Live.{AsksLive}
-use Rattle.command_words.specs.Run.{AsksRun}
+use Rattle.command_words.specs.Run.{AsksResume, AsksRun, AsksSave}
 use Rattle.command_words.specs.Slots.{AsksSlot}
 use Rattle.command_words.specs.Words.{Names}
 
 -- the tool of this name, at work on this call
 abbrev pub IsToolOn : Asked → List ℕ → ℕ → Type 0
 IsToolOn (Run s) name call = ⊥
+IsToolOn (Save s) name call = ⊥
+IsToolOn (Resume s) name call = ⊥
 IsToolOn (Drill seed calls s) name call = ⊥
 IsToolOn (Live s) name call = ⊥
 IsToolOn (Relay c) name call = (name ≡ codes "relay") × (c ≡ call)
@@ -25,6 +27,8 @@ IsToolOn (Merge c) name call = ⊥
 -- words ask for a tool's work on a call
 abbrev pub AsksTool : List (List ℕ) → Asked → Type 0
 AsksTool words (Run s) = ⊥
+AsksTool words (Save s) = ⊥
+AsksTool words (Resume s) = ⊥
 AsksTool words (Drill seed calls s) = ⊥
 AsksTool words (Live s) = ⊥
 AsksTool words (Relay c) = Names words (codes "relay") c
@@ -35,9 +39,11 @@ AsksTool words (Follow c want) = ⊥
 AsksTool words (Split c) = ⊥
 AsksTool words (Merge c) = ⊥
 
--- what words ask for: a run, a drill, a live drill, a tool's work, the base station's end, or a command on a slot
+-- what words ask for: a run, one to a mark or from a mark on, a drill, a live drill, a tool's work, the base station's end, or a command on a slot
 abbrev pub Asks : List (List ℕ) → Asked → Type 0
 Asks words (Run s) = AsksRun words s
+Asks words (Save s) = AsksSave words s
+Asks words (Resume s) = AsksResume words s
 Asks words (Drill seed calls s) = AsksDrill words seed calls s
 Asks words (Live s) = AsksLive words s
 Asks words (Relay c) = AsksTool words (Relay c)

@@ -11,6 +11,6 @@ pub record IsWanted (text : List ℕ) (want : ℕ) : Type 0 where
 pub record NamesFollow (words : List (List ℕ)) (call want : ℕ) : Type 0 where
   pub low : 1 ≤ call
   pub high : call ≤ 4096
-  pub place : List ℕ
-  pub wanted : IsWanted place want
-  pub spelled : words ≡ codes "follow" ∷ decimal call ∷ place ∷ []
+  pub want_text : List ℕ
+  pub wanted : IsWanted want_text want
+  pub spelled : words ≡ codes "follow" ∷ decimal call ∷ want_text ∷ []

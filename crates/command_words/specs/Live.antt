@@ -1,5 +1,5 @@
 -- The words of a live drill (this project's profile), by the command that the crate `clap` is given.
-use Rattle.std.specs.Prelude.{◌≡◌, ℕ, List, [], ◌∷◌, Option, codes}
+use Rattle.std.specs.Prelude.{◌≡◌, List, [], ◌∷◌, Option, codes}
 use Rattle.clap.specs.Words.{App, Text, fault_of, matches_of, first_of}
 use Rattle.command_words.specs.declared.live.LiveSettings.{LiveSettings}
 use Rattle.command_words.specs.Options.{bare_app, with_option, IsValueOf}

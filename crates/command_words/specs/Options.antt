@@ -36,4 +36,6 @@ BeginWith name words = (options : List Text) × (words ≡ name ∷ options)
 
 -- the first word is that of a command that takes options
 abbrev pub TakeOptions : List Text → Type 0
-TakeOptions words = BeginWith (codes "run") words ⊎ BeginWith (codes "drill") words ⊎ BeginWith (codes "live") words
+TakeOptions words =
+    BeginWith (codes "run") words ⊎ BeginWith (codes "save") words ⊎ BeginWith (codes "resume") words
+    ⊎ BeginWith (codes "drill") words ⊎ BeginWith (codes "live") words

@@ -1,7 +1,7 @@
 -- The words of the commands on time slots (this project's profile).
 use Rattle.std.specs.Prelude.{◌≡◌, ℕ, ◌≤◌, List, [], ◌∷◌, codes, decimal}
 use Rattle.command_words.specs.declared.asked.Asked.{Asked}
-use Rattle.command_words.specs.declared.asked.Asked.TheVariants.{Run, Drill, Live, Relay, Frames, Encode, Decode, Follow, Split, Merge}
+use Rattle.command_words.specs.declared.asked.Asked.TheVariants.{Run, Save, Resume, Drill, Live, Relay, Frames, Encode, Decode, Follow, Split, Merge}
 
 -- a command's word and the first of four calls, 1 to 4,093, in decimal digits without leading zeros
 pub record NamesSlot (words : List (List ℕ)) (name : List ℕ) (call : ℕ) : Type 0 where
@@ -12,6 +12,8 @@ pub record NamesSlot (words : List (List ℕ)) (name : List ℕ) (call : ℕ) : 
 -- the command of this name, at work on this slot
 abbrev pub IsSlotOn : Asked → List ℕ → ℕ → Type 0
 IsSlotOn (Run s) name call = ⊥
+IsSlotOn (Save s) name call = ⊥
+IsSlotOn (Resume s) name call = ⊥
 IsSlotOn (Drill seed calls s) name call = ⊥
 IsSlotOn (Live s) name call = ⊥
 IsSlotOn (Relay c) name call = ⊥
@@ -25,6 +27,8 @@ IsSlotOn (Merge c) name call = (name ≡ codes "merge") × (c ≡ call)
 -- words ask for a command on a slot
 abbrev pub AsksSlot : List (List ℕ) → Asked → Type 0
 AsksSlot words (Run s) = ⊥
+AsksSlot words (Save s) = ⊥
+AsksSlot words (Resume s) = ⊥
 AsksSlot words (Drill seed calls s) = ⊥
 AsksSlot words (Live s) = ⊥
 AsksSlot words (Relay c) = ⊥

@@ -22,6 +22,10 @@ pub struct Settings {
 pub enum Asked {
     /// A run of all calls that orders open.
     Run(Settings),
+    /// The same to a mark at the end of its periods, which the words name.
+    Save(Settings),
+    /// The same from a mark on.
+    Resume(Settings),
     /// A run of so many calls, 1 to 256, over lines in memory that are drawn from a seed, for at most 1,000 periods.
     Drill {
         seed: u32,

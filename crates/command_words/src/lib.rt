@@ -1,13 +1,13 @@
 //! The words of the command line: what they ask for.
 //!
 //! Right below the top call, which carries out what this crate reads. The first word names the command; the number of
-//! a tool's call is read by `decimal_number`, and the options of `run`, `drill` and `live` by `clap`, whose own function of the
-//! words says which it takes and what each option's value is.
+//! a tool's call is read by `decimal_number`, and the options of `run`, `save`, `resume`, `drill` and `live` by `clap`,
+//! whose own function of the words says which it takes and what each option's value is.
 //!
 //! `asked` has what words can ask for, `words` the whole reading, `tools` the words of the four tools, `slots` those of the
-//! commands on time slots, `follow` those of the base station's end, `run`, `drill` and `live` those of a run, of a
-//! drill and of a live drill, `options` what these share, `laws` the law
-//! that words ask for one thing.
+//! commands on time slots, `follow` those of the base station's end, `run`, `drill` and `live` those of a run (also to
+//! a mark or from one on), of a drill and of a live drill, `options` what these share, `laws` the law that words ask for
+//! one thing.
 //!
 //! The commands, their options and ranges are this project's profile.
 //! Definitions: `specs/Words.antt` (a command's word and a call), `specs/Slots.antt` (a command on a time slot),

@@ -1,15 +1,24 @@
-//! The options of `run`.
+//! The options of `run`, which `save` and `resume` have too.
 
-ghost use Rattle.std.specs.Prelude.{◌≡◌, IfOk, IsErrOf, map, string_bytes};
-ghost use Rattle.clap.specs.Words.{app_of};
+ghost use Rattle.std.specs.Prelude.{◌≡◌, codes, IfOk, IfSome, IsNone, IsErrOf, is_some, map, string_bytes};
+ghost use Rattle.clap.specs.Words.{app_of, first_value, found_of};
 ghost use Rattle.command_words.specs.declared.asked.Settings.{Settings as TheSettings};
-ghost use Rattle.command_words.specs.Run.{run_app, AreOptions};
+ghost use Rattle.command_words.specs.Options.{GivesSettings};
+ghost use Rattle.command_words.specs.Run.{run_app, first_periods, AreOptions, GivePeriods};
 
 use crate::options::{bare_command, settings_of, with_options};
 use crate::{Settings, WordsFault};
-use clap::Command;
 use clap::error::ErrorKind;
+use clap::{ArgMatches, Command};
 use std::alloc::{AllocError, Global};
+
+// How a run is asked to work.
+#[derive(Clone, Copy)]
+struct RunOptions {
+    settings: Settings,
+    // Whether the words have `--periods`.
+    has_periods: bool,
+}
 
 fn run_command<'a>(alloc: Global) -> Result<Command<'a>, AllocError>
     ensures { IfOk result (λ c. app_of c ≡ run_app) }
@@ -21,15 +30,49 @@ fn run_command<'a>(alloc: Global) -> Result<Command<'a>, AllocError>
     )
 }
 
-// The settings that the words after `run` give.
-pub(crate) fn read_run(alloc: Global, options: &[String]) -> Result<Settings, WordsFault>
-    ensures ok { IfOk result (λ s. AreOptions (map (λ w. string_bytes w) options.now) s) }
+fn options_of(matches: &ArgMatches<'_>) -> Option<RunOptions>
+    ensures some { IfSome result (λ o. GivesSettings 4294967295 4294967295 (first_value (found_of matches.now)) o.settings) }
+    ensures periods { IfSome result (λ o. o.has_periods ≡ is_some (first_value (found_of matches.now) (codes "periods"))) }
+    ensures none { IsNone result → (s : TheSettings) → GivesSettings 4294967295 4294967295 (first_value (found_of matches.now)) s → ⊥ }
+{
+    Some(RunOptions {
+        settings: settings_of(matches, u32::MAX, u32::MAX)?,
+        has_periods: matches.get_str("periods").is_some(),
+    })
+}
+
+fn read_options(alloc: Global, options: &[String]) -> Result<RunOptions, WordsFault>
+    ensures ok { IfOk result (λ o. AreOptions (map (λ w. string_bytes w) options.now) o.settings) }
+    ensures periods { IfOk result (λ o. o.has_periods ≡ is_some (first_periods (map (λ w. string_bytes w) options.now))) }
     ensures usage { IsErrOf result WordsFault.Usage → (s : TheSettings) → AreOptions (map (λ w. string_bytes w) options.now) s → ⊥ }
 {
     let command = run_command(alloc)?;
     match command.try_get_matches_from(options) {
-        Ok(matches) => settings_of(&matches, u32::MAX, u32::MAX).ok_or(WordsFault::Usage),
+        Ok(matches) => options_of(&matches).ok_or(WordsFault::Usage),
         Err(error) if error.kind() == ErrorKind::OutOfMemory => Err(WordsFault::Memory),
         Err(_) => Err(WordsFault::Usage),
+    }
+}
+
+// The settings that the words after `run` or `resume` give.
+pub(crate) fn read_run(alloc: Global, options: &[String]) -> Result<Settings, WordsFault>
+    ensures ok { IfOk result (λ s. AreOptions (map (λ w. string_bytes w) options.now) s) }
+    ensures usage { IsErrOf result WordsFault.Usage → (s : TheSettings) → AreOptions (map (λ w. string_bytes w) options.now) s → ⊥ }
+{
+    let read = read_options(alloc, options)?;
+    Ok(read.settings)
+}
+
+// The settings that the words after `save` give, which must have `--periods`.
+pub(crate) fn read_save(alloc: Global, options: &[String]) -> Result<Settings, WordsFault>
+    ensures ok { IfOk result (λ s. AreOptions (map (λ w. string_bytes w) options.now) s × GivePeriods (map (λ w. string_bytes w) options.now)) }
+    ensures usage { IsErrOf result WordsFault.Usage → (s : TheSettings) → AreOptions (map (λ w. string_bytes w) options.now) s →
+        GivePeriods (map (λ w. string_bytes w) options.now) → ⊥ }
+{
+    let read = read_options(alloc, options)?;
+    if read.has_periods {
+        Ok(read.settings)
+    } else {
+        Err(WordsFault::Usage)
     }
 }

@@ -4,10 +4,11 @@ ghost use Rattle.command_words.specs.declared.asked.Asked.{Asked as OneAsked};
 ghost use Rattle.command_words.specs.Asking.{AsksTool, IsToolOn};
 
 use crate::Asked;
+use call_number::NUMBERS;
 use decimal_number::number_of_text;
 
 /// The highest number of a call.
-pub(crate) const HIGHEST_CALL: u32 = 4096;
+pub(crate) const HIGHEST_CALL: u32 = NUMBERS as u32 - 1;
 
 // The work of the tool of this name on a call.
 fn tool_named(name: &str, call: u32) -> Option<Asked>

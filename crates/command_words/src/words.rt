@@ -8,7 +8,7 @@ ghost use Rattle.command_words.specs.Options.{TakeOptions};
 use crate::drill::read_drill;
 use crate::follow::read_follow;
 use crate::live::read_live;
-use crate::run::read_run;
+use crate::run::{read_run, read_save};
 use crate::slots::read_slot;
 use crate::tools::read_tool;
 use crate::{Asked, WordsFault};
@@ -33,6 +33,8 @@ fn options_of<'a>(words: &'a [String], command: &str) -> Option<&'a [String]>
 /// | `follow C W` | the base station's end of a downlink on call C, 1 to 4,096; W is 0 to 316, a multiple of 4 |
 /// | `split C`, `merge C` | a time slot cut into channels, or put together of them, call C being 1 to 4,093 |
 /// | `run` and its options | a run |
+/// | `save` and these, `--periods` among them | a run to a mark |
+/// | `resume` and these | a run from a mark on |
 /// | `drill` and its options | a drill |
 /// | `live` and its options | a live drill |
 ///
@@ -44,7 +46,7 @@ fn options_of<'a>(words: &'a [String], command: &str) -> Option<&'a [String]>
 /// 200), and `--seed` (0 to 4,294,967,295, else 1) and `--calls` (1 to 256, else 64). The options of `live` are `--seed`,
 /// `--calls` and `--periods` as of `drill`, `--callers` (1 to 64, else 4) and `--inbox` (1 to 1,024, else 8).
 ///
-/// Other words are `Usage`. `Memory` may come in place of any answer of `run`, `drill` and `live`.
+/// Other words are `Usage`. `Memory` may come in place of any answer of `run`, `save`, `resume`, `drill` and `live`.
 pub fn read_words(alloc: Global, words: &[String]) -> Result<Asked, WordsFault>
     // What is answered is what the words ask for.
     ensures ok { IfOk result (λ asked. Asks (map (λ w. string_bytes w) words.now) asked) }
@@ -55,6 +57,12 @@ pub fn read_words(alloc: Global, words: &[String]) -> Result<Asked, WordsFault>
 {
     if let Some(options) = options_of(words, "run") {
         return read_run(alloc, options).map(Asked::Run);
+    }
+    if let Some(options) = options_of(words, "save") {
+        return read_save(alloc, options).map(Asked::Save);
+    }
+    if let Some(options) = options_of(words, "resume") {
+        return read_run(alloc, options).map(Asked::Resume);
     }
     if let Some(options) = options_of(words, "drill") {
         let drilled = read_drill(alloc, options)?;

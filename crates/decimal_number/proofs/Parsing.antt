@@ -37,11 +37,13 @@ pub utf8_number : (low high : ℕ) (bs : List ℕ) (n : ℕ) → high < 2 ^ 32 �
 utf8_number low high bs n small is = subst IsUtf8 (sym is.spelled) (IsUtf8-from_ascii (decimal n) (IsAscii-decimal n (omega (arith, is.at_most))))
 
 -- and is read as that number
-pub parse_number : {E : Type 0} (low high : ℕ) (bs : List ℕ) (n : ℕ) (r : Result ℕ E) → high < 2 ^ 32 → ParsesUnsigned 32 10 bs r → IsNumber low high bs n → r ≡ Ok n
+pub parse_number : {E : Type 0} (low high : ℕ) (bs : List ℕ) (n : ℕ) (r : Result ℕ E) → high < 2 ^ 32 → ParsesUnsigned 32 10 bs r → IsNumber low high bs n →
+    r ≡ Ok n
 parse_number low high bs n r small parses is = parse-decimal 32 n bs r (omega (arith, is.at_most)) (omega (arith, is.at_most)) is.spelled parses
 
 -- a plain text that is read is a number's
-pub number_from_parse : {E : Type 0} (low high : ℕ) (bs : List ℕ) (n : ℕ) (r : Result ℕ E) → ParsesUnsigned 32 10 bs r → r ≡ Ok n → IsPlain bs → low ≤ n → n ≤ high → IsNumber low high bs n
+pub number_from_parse : {E : Type 0} (low high : ℕ) (bs : List ℕ) (n : ℕ) (r : Result ℕ E) → ParsesUnsigned 32 10 bs r → r ≡ Ok n → IsPlain bs → low ≤ n →
+    n ≤ high → IsNumber low high bs n
 number_from_parse {E} low high bs n r parses is plain at_least at_most =
     let parsed : ParsesUnsigned {E = E} 32 10 bs (Ok n) = subst (ParsesUnsigned 32 10 bs) is parses in
     let read = parse_plain own {E = E} 32 bs (Ok n) parsed (no_plus bs plain) in

@@ -1,10 +1,15 @@
 pub mod Lists
 pub mod Timing
 pub mod Store
+pub mod Due
 pub mod Waiting
 pub mod Calls
 pub mod Rings
 pub mod History
+pub mod Latest
+pub mod Used
+pub mod Asked
+pub mod Carried
 pub mod Numbers
 pub mod FrameLaws
 mod Rows

@@ -1,8 +1,8 @@
 -- Worked cases of the downlink, by computing.
 use Rattle.std.proofs.Common.{◌≡◌, refl, ℕ, ◌+◌, Bool, true, false, Option, Some, None, List, [], ◌∷◌, ◌++◌, map, take, drop, replicate, reverse, pos, negsuc}
 use Rattle.time_align.specs.Shift.{shift_of}
-use Rattle.down_framer.specs.Made.{Period, MadeFrame, made_frames, line_of}
-use Rattle.down_framer.specs.ByNumber.{Bridge, numbered, bridges_in, fields_in, numbered_of}
+use Rattle.down_framer.specs.Made.{Period, MadeFrame, made_frames, downlink_of}
+use Rattle.down_framer.specs.ByNumber.{Bridge, numbered_frames, bridges_in, asked_fields, numbered_of}
 
 abbrev period : Bool → Bool → ℕ → Period (Unit {0})
 period starts bridged field = record { field = Some field; starts = starts; bridged = bridged; load = tt }
@@ -32,7 +32,7 @@ marked : List (MadeFrame (Unit {0})) → List ℕ
 marked [] = []
 marked (f ∷ fs) = marks f.start
 
-line : line_of marked (made_frames shifted) ≡ replicate 320 1 ++ marks 0 ++ replicate 312 1 ++ take 316 (marks 316) ++ marks 474 ++ marks 634
+line : downlink_of marked (made_frames shifted) ≡ replicate 320 1 ++ marks 0 ++ replicate 312 1 ++ take 316 (marks 316) ++ marks 474 ++ marks 634
 unfolding shift_of marked
 line = refl
 
@@ -65,6 +65,6 @@ carried = refl
 bridges : bridges_in bridged ≡ (let b : Bridge = record { from = 4; to = 10 } in b) ∷ []
 bridges = refl
 
-by_number : map numbered_of (made_frames bridged) ≡ numbered (bridges_in bridged) (fields_in bridged) 11
+by_number : map numbered_of (made_frames bridged) ≡ numbered_frames (bridges_in bridged) (asked_fields bridged) 11
 unfolding shift_of
 by_number = refl

@@ -1,136 +1,47 @@
 -- At most one handed frame waits between periods: that of the newest period.
-use Rattle.std.proofs.Common.{◌≡◌, refl, sym, ap, ◌∙◌, subst, ℕ, ◌+◌, ◌*◌, ◌≤◌, ◌<◌, suc, ℤ, pos, Bool, true, false, ◌||◌, if◌then◌else◌, nat_le, Option, Some, None, List, [], ◌∷◌, length, filter, arith, ◌⊎◌, inl, inr}
-use Rattle.std.specs.Prelude.{◌==◌}
-use Rattle.std.proofs.lemmas.Bool.{cases_lt, lt-leb, le-leb, eq-eqb, ne_eqb, cases_Bool, cond_both, cond-true, cond-false}
-use Rattle.time_align.specs.Shift.{latest_shift}
-use Rattle.down_framer.specs.Made.{fields_since, Period, MadeFrame, octets_of, next_start, latest_start, bridged_at, made_from, due, next_frame, grown, made_frames}
+use Rattle.std.proofs.Common.{◌≡◌, refl, sym, ap, ◌∙◌, subst, ℕ, ◌+◌, ◌*◌, ◌≤◌, ◌<◌, true, false, ◌||◌, Some, None, List, [], ◌∷◌, length, arith, ◌⊎◌, inl, inr}
+use Rattle.std.proofs.lemmas.Bool.{cases_lt, cases_Bool, cond-true, cond-false}
+use Rattle.down_framer.specs.Made.{Period, MadeFrame, next_start, latest_start, hands_at, made_from, handed_due, next_frame, grown, made_frames}
 use Rattle.down_framer.specs.Bridges.{in_bridge, IsHistory}
 use Rattle.down_framer.proofs.Timing.{AreMade, AreMade-made_frames}
-
--- ---- which periods lie in a bridge
-
-pub bridged_at-late : {A : Type 0} (ps : List (Period A)) (h : ℕ) → length ps ≤ h → bridged_at h ps ≡ false
-bridged_at-late [] h l = refl
-bridged_at-late (p ∷ past) h l =
-    cond-false (h == length past) p.bridged (bridged_at h past) (ne_eqb h (length past) (omega arith)) ∙ bridged_at-late past h (omega arith)
-
-pub bridged_at-new : {A : Type 0} (p : Period A) (past : List (Period A)) (h : ℕ) → h ≡ length past → bridged_at h (p ∷ past) ≡ p.bridged
-bridged_at-new p past h e = cond-true (h == length past) p.bridged (bridged_at h past) (eq-eqb h (length past) e)
-
-pub bridged_at-old : {A : Type 0} (p : Period A) (past : List (Period A)) (h : ℕ) → h < length past → bridged_at h (p ∷ past) ≡ bridged_at h past
-bridged_at-old p past h l = cond-false (h == length past) p.bridged (bridged_at h past) (ne_eqb h (length past) (omega arith))
-
--- ---- how many frames were made since
-
-pub made_from-next : {A : Type 0} (p : Period A) (past : List (Period A)) (fs : List (MadeFrame A)) (s : ℕ) → s ≤ length past → made_from s (next_frame p past fs ∷ fs) ≡ suc (made_from s fs)
-made_from-next p past fs s l = ap length (cond-true (nat_le s (length past)) (next_frame p past fs ∷ filter (λ f. nat_le s f.period) fs) (filter (λ f. nat_le s f.period) fs) (le-leb s (length past) l))
-
-pub made_from-early : {A : Type 0} (p : Period A) (past : List (Period A)) (fs : List (MadeFrame A)) (s : ℕ) → length past < s → made_from s (next_frame p past fs ∷ fs) ≡ made_from s fs
-made_from-early p past fs s l = ap length (cond-false (nat_le s (length past)) (next_frame p past fs ∷ filter (λ f. nat_le s f.period) fs) (filter (λ f. nat_le s f.period) fs) (lt-leb _ _ l))
-
--- ---- a period that makes no frame, and one whose first frame carries
-
-pub none_made : {A : Type 0} (p : Period A) (past : List (Period A)) (fs : List (MadeFrame A)) → 160 * length past < next_start fs → grown p past fs ≡ fs
-none_made p past fs l = cond-false (nat_le (next_start fs) (160 * length past)) (next_frame p past fs ∷ fs) fs (lt-leb _ _ l)
-
-pub one_made : {A : Type 0} (p : Period A) (past : List (Period A)) (fs : List (MadeFrame A)) → next_start fs ≤ 160 * length past → grown p past fs ≡ next_frame p past fs ∷ fs
-one_made p past fs l = cond-true (nat_le (next_start fs) (160 * length past)) (next_frame p past fs ∷ fs) fs (le-leb _ _ l)
-
-pub zero_if : (o : Option ℕ) (v : ℤ) (h : ℕ) → o ≡ Some h → (elim o [ None ↦ v | Some h ↦ pos 0 ]) ≡ pos 0
-zero_if o v h e = ap (λ (o : Option ℕ). elim o as (λ x. ℤ) [ None ↦ v | Some h ↦ pos 0 ]) e
-
-pub no_shift : {A : Type 0} (p : Period A) (past : List (Period A)) (fs : List (MadeFrame A)) (h : ℕ) → due (p ∷ past) fs ≡ Some h → next_start (next_frame p past fs ∷ fs) ≡ next_start fs + 160
-no_shift p past fs h e = ap (λ v. next_start fs + octets_of v) (zero_if (due (p ∷ past) fs) (latest_shift (fields_since (p ∷ past) fs)) h e)
-
--- the handed frame that is due, by the latest start
-due_by : {A : Type 0} (ps : List (Period A)) (fs : List (MadeFrame A)) (s : ℕ) → latest_start ps ≡ Some s →
-    due ps fs ≡ (if bridged_at (s + made_from s fs) ps then Some (s + made_from s fs) else None)
-due_by ps fs s e = ap (λ (o : Option ℕ). elim o as (λ x. Option ℕ) [ None ↦ None | Some s ↦ if bridged_at (s + made_from s fs) ps then Some (s + made_from s fs) else None ]) e
-
-pub due-some : {A : Type 0} (ps : List (Period A)) (fs : List (MadeFrame A)) (s : ℕ) → latest_start ps ≡ Some s → bridged_at (s + made_from s fs) ps ≡ true → due ps fs ≡ Some (s + made_from s fs)
-due-some ps fs s e b = due_by ps fs s e ∙ cond-true (bridged_at (s + made_from s fs) ps) (Some (s + made_from s fs)) None b
-
-pub due-none : {A : Type 0} (ps : List (Period A)) (fs : List (MadeFrame A)) (s : ℕ) → latest_start ps ≡ Some s → bridged_at (s + made_from s fs) ps ≡ false → due ps fs ≡ None
-due-none ps fs s e b = due_by ps fs s e ∙ cond-false (bridged_at (s + made_from s fs) ps) (Some (s + made_from s fs)) None b
-
--- a period whose first frame carries makes just this one
-carries_one : {A : Type 0} (p : Period A) (past : List (Period A)) (fs : List (MadeFrame A)) (h : ℕ) → due (p ∷ past) fs ≡ Some h →
-    next_start fs ≤ 160 * length past → 160 * length past < next_start fs + 160 → grown p past (grown p past fs) ≡ next_frame p past fs ∷ fs
-carries_one p past fs h e up low =
-    let n = no_shift p past fs h e in
-    ap (grown p past) (one_made p past fs up) ∙ none_made p past (next_frame p past fs ∷ fs) (omega arith)
-
-makes_none : {A : Type 0} (p : Period A) (past : List (Period A)) (fs : List (MadeFrame A)) → 160 * length past < next_start fs → grown p past (grown p past fs) ≡ fs
-makes_none p past fs l = ap (grown p past) (none_made p past fs l) ∙ none_made p past fs l
-
--- ---- the phases of a bridge that started at s
+use Rattle.down_framer.proofs.Due.{hands_at-late, hands_at-new, hands_at-old, made_from-next, no_shift, due-some, due-none, carries_one, makes_none, made_from-zero, made-later, latest_start-below, outside}
 
 -- no frame waits, and within the bridge none has been late
 pub record Level {A : Type 0} (s : ℕ) (ps : List (Period A)) (fs : List (MadeFrame A)) : Type 0 where
-  pub over : (h : ℕ) → s + made_from s fs ≤ h → bridged_at h ps ≡ false
+  pub over : (h : ℕ) → s + made_from s fs ≤ h → hands_at h ps ≡ false
   pub exact : in_bridge ps ≡ true → s + made_from s fs ≡ length ps
   pub soon : in_bridge ps ≡ true → next_start fs ≤ 160 * length ps
 
 -- the newest period's frame waits, since octets were to be skipped
 pub record Behind {A : Type 0} (s : ℕ) (ps : List (Period A)) (fs : List (MadeFrame A)) : Type 0 where
-  pub waits : bridged_at (s + made_from s fs) ps ≡ true
+  pub waits : hands_at (s + made_from s fs) ps ≡ true
   pub newest : s + made_from s fs + 1 ≡ length ps
   pub low : 160 * length ps < next_start fs + 160
   pub high : next_start fs + 4 ≤ 160 * length ps
 
+-- one of both
 abbrev pub Phase : {A : Type 0} → ℕ → List (Period A) → List (MadeFrame A) → Type 0
 Phase s ps fs = Level s ps fs ⊎ Behind s ps fs
 
 -- how a waiting frame shows
-pub waits_one : {A : Type 0} (ps : List (Period A)) (fs : List (MadeFrame A)) (s h : ℕ) → latest_start ps ≡ Some s → Phase s ps fs → due ps fs ≡ Some h → h + 1 ≡ length ps
+pub waits_one : {A : Type 0} (ps : List (Period A)) (fs : List (MadeFrame A)) (s h : ℕ) → latest_start ps ≡ Some s → Phase s ps fs → handed_due ps fs ≡ Some h →
+    h + 1 ≡ length ps
 waits_one ps fs s h e (inl l) d = let n = due-none ps fs s e (l.over (s + made_from s fs) (omega arith)) in cc
 waits_one ps fs s h e (inr b) d = let n = due-some ps fs s e b.waits in some_same (s + made_from s fs) h (sym n ∙ d) b.newest
   where
     some_same : (i h : ℕ) → Some i ≡ Some h → i + 1 ≡ length ps → h + 1 ≡ length ps
     some_same i h e l = let q : i ≡ h = cc in omega arith
 
--- ---- one more period
-
-grown-early : {A : Type 0} (p : Period A) (past : List (Period A)) (fs : List (MadeFrame A)) (s : ℕ) → length past < s → made_from s (grown p past fs) ≡ made_from s fs
-grown-early p past fs s l =
-    cond_both (nat_le (next_start fs) (160 * length past)) (next_frame p past fs ∷ fs) fs (λ gs. made_from s gs ≡ made_from s fs) (λ yes. made_from-early p past fs s l) (λ no. refl)
-
-pub made_from-zero : {A : Type 0} (ps : List (Period A)) (s : ℕ) → length ps ≤ s → made_from s (made_frames ps) ≡ 0
-made_from-zero [] s l = refl
-made_from-zero (p ∷ past) s l =
-    grown-early p past (grown p past (made_frames past)) s (omega arith) ∙ grown-early p past (made_frames past) s (omega arith) ∙ made_from-zero past s (omega arith)
-
-grown-later : {A : Type 0} (p : Period A) (past : List (Period A)) (fs : List (MadeFrame A)) (s : ℕ) → s ≤ length past → made_from s fs ≤ made_from s (grown p past fs)
-grown-later p past fs s l =
-    cond_both (nat_le (next_start fs) (160 * length past)) (next_frame p past fs ∷ fs) fs (λ gs. made_from s fs ≤ made_from s gs) (λ yes. let e = made_from-next p past fs s l in omega arith) (λ no. omega arith)
-
-made-later : {A : Type 0} (p : Period A) (past : List (Period A)) (fs : List (MadeFrame A)) (s : ℕ) → s ≤ length past → made_from s fs ≤ made_from s (grown p past (grown p past fs))
-made-later p past fs s l = let a = grown-later p past fs s l in let b = grown-later p past (grown p past fs) s l in omega arith
-
-pub latest_start-below : {A : Type 0} (ps : List (Period A)) (s : ℕ) → latest_start ps ≡ Some s → s < length ps
-latest_start-below [] s e = cc
-latest_start-below (p ∷ past) s e = go p.starts (latest_start past) (latest_start-below past s) e
-  where
-    go : (b : Bool) (o : Option ℕ) → (o ≡ Some s → s < length past) → (if b then Some (length past) else o) ≡ Some s → s < suc (length past)
-    go true o h e = let q : length past ≡ s = cc in omega arith
-    go false o h e = let q = h e in omega arith
-
--- a period outside of a bridge
-pub outside : {A : Type 0} (p : Period A) (past : List (Period A)) (h : ℕ) → p.bridged ≡ false → length past ≤ h → bridged_at h (p ∷ past) ≡ false
-outside p past h b l = elim (cases_lt (length past) h) [
-  | inl later ↦ bridged_at-late (p ∷ past) h later
-  | inr here ↦ bridged_at-new p past h (omega arith) ∙ b
-]
-
 -- in step with the bridge: the period's own frame goes out
 on_time : {A : Type 0} (p : Period A) (past : List (Period A)) (fs : List (MadeFrame A)) (s : ℕ) → latest_start (p ∷ past) ≡ Some s → p.bridged ≡ true →
-    s + made_from s fs ≡ length past → next_start fs ≤ 160 * length past → 160 * length past < next_start fs + 160 → Phase s (p ∷ past) (grown p past (grown p past fs))
+    s + made_from s fs ≡ length past → next_start fs ≤ 160 * length past → 160 * length past < next_start fs + 160 →
+    Phase s (p ∷ past) (grown p past (grown p past fs))
 on_time p past fs s e b i up low =
-    let d = due-some (p ∷ past) fs s e (bridged_at-new p past (s + made_from s fs) i ∙ b) in
+    let d = due-some (p ∷ past) fs s e (hands_at-new p past (s + made_from s fs) i ∙ b) in
     let n = no_shift p past fs (s + made_from s fs) d in
     let m = made_from-next p past fs s (omega arith) in
     let l : Level s (p ∷ past) (next_frame p past fs ∷ fs) = record {
-      over = λ h a. bridged_at-late (p ∷ past) h (omega arith);
+      over = λ h a. hands_at-late (p ∷ past) h (omega arith);
       exact = λ t. omega arith;
       soon = λ t. omega arith;
     } in
@@ -138,10 +49,11 @@ on_time p past fs s e b i up low =
 
 -- at its start, with octets to skip
 late : {A : Type 0} (p : Period A) (past : List (Period A)) (fs : List (MadeFrame A)) (s : ℕ) → p.bridged ≡ true →
-    s + made_from s fs ≡ length past → 160 * length past < next_start fs → next_start fs ≤ 160 * length past + 156 → Phase s (p ∷ past) (grown p past (grown p past fs))
+    s + made_from s fs ≡ length past → 160 * length past < next_start fs → next_start fs ≤ 160 * length past + 156 →
+    Phase s (p ∷ past) (grown p past (grown p past fs))
 late p past fs s b i low high =
     let w : Behind s (p ∷ past) fs = record {
-      waits = bridged_at-new p past (s + made_from s fs) i ∙ b;
+      waits = hands_at-new p past (s + made_from s fs) i ∙ b;
       newest = omega arith;
       low = omega arith;
       high = omega arith;
@@ -149,29 +61,35 @@ late p past fs s b i low high =
     subst (λ gs. Phase s (p ∷ past) gs) (sym (makes_none p past fs low)) (inr w)
 
 -- a frame waits: it goes out, and the period's own waits, if there is one
-one_behind : {A : Type 0} (p : Period A) (past : List (Period A)) (fs : List (MadeFrame A)) (s : ℕ) → latest_start (p ∷ past) ≡ Some s → Behind s past fs → Phase s (p ∷ past) (grown p past (grown p past fs))
+one_behind : {A : Type 0} (p : Period A) (past : List (Period A)) (fs : List (MadeFrame A)) (s : ℕ) → latest_start (p ∷ past) ≡ Some s → Behind s past fs →
+    Phase s (p ∷ past) (grown p past (grown p past fs))
 one_behind p past fs s e w =
     let before : s + made_from s fs + 1 ≡ length past = w.newest in
     let low = w.low in
     let high = w.high in
-    let d = due-some (p ∷ past) fs s e (bridged_at-old p past (s + made_from s fs) (omega arith) ∙ w.waits) in
+    let d = due-some (p ∷ past) fs s e (hands_at-old p past (s + made_from s fs) (omega arith) ∙ w.waits) in
     let n = no_shift p past fs (s + made_from s fs) d in
     let m = made_from-next p past fs s (omega arith) in
     let i : s + made_from s (next_frame p past fs ∷ fs) ≡ length past = omega arith in
     let now : Phase s (p ∷ past) (next_frame p past fs ∷ fs) = elim (cases_Bool p.bridged) [
-      | inl goes ↦ inr (record { waits = bridged_at-new p past _ i ∙ goes; newest = omega arith; low = omega arith; high = omega arith })
-      | inr out ↦ inl (record { over = λ h a. outside p past h out (omega arith); exact = λ t. let q : true ≡ false = sym t ∙ out in cc; soon = λ t. let q : true ≡ false = sym t ∙ out in cc })
+      | inl goes ↦ inr (record { waits = hands_at-new p past _ i ∙ goes; newest = omega arith; low = omega arith; high = omega arith })
+      | inr out ↦
+          inl (record {
+            over = λ h a. outside p past h out (omega arith);
+            exact = λ t. let q : true ≡ false = sym t ∙ out in cc;
+            soon = λ t. let q : true ≡ false = sym t ∙ out in cc;
+          })
     ] in
     subst (λ gs. Phase s (p ∷ past) gs) (sym (carries_one p past fs (s + made_from s fs) d (omega arith) (omega arith))) now
 
 -- outside of a bridge with nothing waiting
 over_now : {A : Type 0} (p : Period A) (past : List (Period A)) (fs : List (MadeFrame A)) (s : ℕ) → p.bridged ≡ false → s ≤ length past →
-    ((h : ℕ) → s + made_from s fs ≤ h → h < length past → bridged_at h past ≡ false) → Phase s (p ∷ past) (grown p past (grown p past fs))
+    ((h : ℕ) → s + made_from s fs ≤ h → h < length past → hands_at h past ≡ false) → Phase s (p ∷ past) (grown p past (grown p past fs))
 over_now p past fs s b l o =
     let m = made-later p past fs s l in
     inl (record {
       over = λ h a. elim (cases_lt h (length past)) [
-        | inl old ↦ bridged_at-old p past h old ∙ o h (omega arith) old
+        | inl old ↦ hands_at-old p past h old ∙ o h (omega arith) old
         | inr here ↦ outside p past h b here
       ];
       exact = λ t. let q : true ≡ false = sym t ∙ b in cc;
@@ -179,7 +97,8 @@ over_now p past fs s b l o =
     })
 
 -- a bridge goes on, or is over
-goes_on : {A : Type 0} (p : Period A) (past : List (Period A)) (fs : List (MadeFrame A)) (s : ℕ) → AreMade (length past) fs → latest_start (p ∷ past) ≡ Some s → s < length past →
+goes_on : {A : Type 0} (p : Period A) (past : List (Period A)) (fs : List (MadeFrame A)) (s : ℕ) → AreMade (length past) fs → latest_start (p ∷ past) ≡ Some s →
+    s < length past →
     (p.bridged ≡ true → in_bridge past ≡ true) → Phase s past fs → Phase s (p ∷ past) (grown p past (grown p past fs))
 goes_on p past fs s a e l c (inr w) = one_behind p past fs s e w
 goes_on p past fs s a e l c (inl v) = elim (cases_Bool p.bridged) [
@@ -188,7 +107,8 @@ goes_on p past fs s a e l c (inl v) = elim (cases_Bool p.bridged) [
 ]
 
 -- a bridge starts
-starts_now : {A : Type 0} (p : Period A) (past : List (Period A)) (fs : List (MadeFrame A)) (s : ℕ) → AreMade (length past) fs → latest_start (p ∷ past) ≡ Some s → s ≡ length past →
+starts_now : {A : Type 0} (p : Period A) (past : List (Period A)) (fs : List (MadeFrame A)) (s : ℕ) → AreMade (length past) fs →
+    latest_start (p ∷ past) ≡ Some s → s ≡ length past →
     made_from s fs ≡ 0 → Phase s (p ∷ past) (grown p past (grown p past fs))
 starts_now p past fs s a e l z = elim (cases_Bool p.bridged) [
   | inl goes ↦ elim (cases_lt (160 * length past) (next_start fs)) [
@@ -201,6 +121,7 @@ starts_now p past fs s a e l z = elim (cases_Bool p.bridged) [
 some_same : (a b : ℕ) → Some a ≡ Some b → a ≡ b
 some_same a b e = cc
 
+-- **A bridge that started is in one of both phases between periods.**
 pub phase : {A : Type 0} (ps : List (Period A)) (s : ℕ) → IsHistory ps → latest_start ps ≡ Some s → Phase s ps (made_frames ps)
 phase [] s h e = cc
 phase (p ∷ past) s h e = elim (cases_Bool p.starts) [
@@ -209,21 +130,27 @@ phase (p ∷ past) s h e = elim (cases_Bool p.starts) [
       starts_now p past (made_frames past) s (AreMade-made_frames past) e (sym q) (made_from-zero past s (omega arith))
   | inr old ↦
       let q : latest_start past ≡ Some s = sym (cond-false p.starts (Some (length past)) (latest_start past) old) ∙ e in
-      goes_on p past (made_frames past) s (AreMade-made_frames past) e (latest_start-below past s q) (λ b. sym (ap (λ t. t || in_bridge past) old) ∙ h.2 b) (phase past s h.0 q)
+      goes_on p past (made_frames past) s (AreMade-made_frames past) e (latest_start-below past s q) (λ b. sym (ap (λ t. t || in_bridge past) old) ∙ h.2 b)
+      (phase past s h.0 q)
 ]
 
 -- at most one handed frame waits between periods: that of the newest period
-pub one_waits : {A : Type 0} (ps : List (Period A)) (s h : ℕ) → IsHistory ps → latest_start ps ≡ Some s → due ps (made_frames ps) ≡ Some h → h + 1 ≡ length ps
+pub one_waits : {A : Type 0} (ps : List (Period A)) (s h : ℕ) → IsHistory ps → latest_start ps ≡ Some s → handed_due ps (made_frames ps) ≡ Some h →
+    h + 1 ≡ length ps
 one_waits ps s h k e d = waits_one ps (made_frames ps) s h e (phase ps s k e) d
 
 -- once a period lies outside of the bridge, no frame waits: a bridge may start anew
-newest_out : {A : Type 0} (ps : List (Period A)) (h : ℕ) → in_bridge ps ≡ false → h + 1 ≡ length ps → bridged_at h ps ≡ false
+newest_out : {A : Type 0} (ps : List (Period A)) (h : ℕ) → in_bridge ps ≡ false → h + 1 ≡ length ps → hands_at h ps ≡ false
 newest_out [] h b l = refl
-newest_out (p ∷ past) h b l = bridged_at-new p past h (omega arith) ∙ b
+newest_out (p ∷ past) h b l = hands_at-new p past h (omega arith) ∙ b
 
-drained_in : {A : Type 0} (ps : List (Period A)) (fs : List (MadeFrame A)) (s : ℕ) → latest_start ps ≡ Some s → in_bridge ps ≡ false → Phase s ps fs → due ps fs ≡ None
+-- out of the bridge nothing waits in either
+drained_in : {A : Type 0} (ps : List (Period A)) (fs : List (MadeFrame A)) (s : ℕ) → latest_start ps ≡ Some s → in_bridge ps ≡ false → Phase s ps fs →
+    handed_due ps fs ≡ None
 drained_in ps fs s e b (inl l) = due-none ps fs s e (l.over (s + made_from s fs) (omega arith))
 drained_in ps fs s e b (inr w) = due-none ps fs s e (newest_out ps (s + made_from s fs) b w.newest)
 
-pub drained : {A : Type 0} (ps : List (Period A)) (s : ℕ) → IsHistory ps → latest_start ps ≡ Some s → in_bridge ps ≡ false → due ps (made_frames ps) ≡ None
+-- **Once a period lies out of the bridge nothing waits.**
+pub drained : {A : Type 0} (ps : List (Period A)) (s : ℕ) → IsHistory ps → latest_start ps ≡ Some s → in_bridge ps ≡ false →
+    handed_due ps (made_frames ps) ≡ None
 drained ps s h e b = drained_in ps (made_frames ps) s e b (phase ps s h e)

@@ -1,6 +1,6 @@
 -- Which periods can be those of a call with bridges. Lists of periods have the newest first.
 use Rattle.std.specs.Prelude.{◌≡◌, ◌||◌, true, Bool, false, None, List, [], ◌∷◌}
-use Rattle.down_framer.specs.Made.{Period, due, made_frames}
+use Rattle.down_framer.specs.Made.{Period, handed_due, made_frames}
 
 -- whether the newest period lies in a bridge
 abbrev pub in_bridge : {A : Type 0} → List (Period A) → Bool
@@ -11,10 +11,10 @@ in_bridge (p ∷ past) = p.bridged
 abbrev pub IsHistory : {A : Type 0} → List (Period A) → Type 0
 IsHistory [] = Unit {0}
 IsHistory (p ∷ past) =
-    IsHistory past × (p.starts ≡ true → due past (made_frames past) ≡ None) × (p.bridged ≡ true → (p.starts || in_bridge past) ≡ true)
+    IsHistory past × (p.starts ≡ true → handed_due past (made_frames past) ≡ None) × (p.bridged ≡ true → (p.starts || in_bridge past) ≡ true)
 
 -- bridges that leave a period between: a bridge starts only after a period that lies in none, and goes on without a gap
-abbrev pub AreApart : {A : Type 0} → List (Period A) → Type 0
-AreApart [] = Unit {0}
-AreApart (p ∷ past) =
-    AreApart past × (p.starts ≡ true → in_bridge past ≡ false) × (p.bridged ≡ true → (p.starts || in_bridge past) ≡ true)
+abbrev pub LeavePeriodsBetween : {A : Type 0} → List (Period A) → Type 0
+LeavePeriodsBetween [] = Unit {0}
+LeavePeriodsBetween (p ∷ past) =
+    LeavePeriodsBetween past × (p.starts ≡ true → in_bridge past ≡ false) × (p.bridged ≡ true → (p.starts || in_bridge past) ≡ true)

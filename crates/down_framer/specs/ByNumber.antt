@@ -2,7 +2,7 @@
 -- counted from the call's opening. Lists of frames have the newest first.
 use Rattle.std.specs.Prelude.{◌≡◌, ◌≤◌, ◌<◌, ℕ, ◌+◌, ◌-◌, ◌*◌, ◌/◌, zero, suc, ℤ, pos, if◌then◌else◌, ◌&&◌, nat_le, nat_lt, Option, Some, None, is_none, List, [], ◌∷◌, ◌++◌, length, map, take, drop, replicate, reverse, filter, find, All}
 use Rattle.time_align.specs.Shift.{latest_shift}
-use Rattle.down_framer.specs.Made.{Period, MadeFrame, octets_of, next_start, frame_on_line}
+use Rattle.down_framer.specs.Made.{Period, MadeFrame, octets_to_next, next_start, frame_on_line}
 
 -- a bridge: its first period, and the first one after it
 pub record Bridge : Type 0 where
@@ -25,11 +25,11 @@ count_from s fs = length (filter (λ f. nat_le s (when f.start)) fs)
 
 -- What a frame made in period w carries. For a bridge from s to e it is the frame handed over in period s + i, i being
 -- the number of frames before it made in period s or later, exactly where w isn't before s and i is below e - s.
-abbrev pub item_of : List Bridge → ℕ → List NumberedFrame → Option ℕ
-item_of [] w fs = None
-item_of (b ∷ bs) w fs =
+abbrev pub carried_item : List Bridge → ℕ → List NumberedFrame → Option ℕ
+carried_item [] w fs = None
+carried_item (b ∷ bs) w fs =
     if nat_le b.from w && nat_lt (count_from b.from fs) (b.to - b.from) then Some (b.from + count_from b.from fs)
-    else item_of bs w fs
+    else carried_item bs w fs
 
 -- the fields of the periods that count, the newest first: those after the period of the last frame that carries
 -- nothing, up to period w, or where there is no such frame all up to period w; `fields` are those of all periods, the
@@ -43,13 +43,13 @@ fields_to fields w fs = elim (find (λ f. is_none f.carries) fs) [
 -- the first frame starts at octet 0, and each further one 160 octets and the shift after the one before
 abbrev pub numbered_start : List NumberedFrame → ℕ
 numbered_start [] = 0
-numbered_start (f ∷ fs) = f.start + octets_of f.shift
+numbered_start (f ∷ fs) = f.start + octets_to_next f.shift
 
 -- a frame that carries nothing has the shift asked for last in the periods that count, any other has none
 abbrev pub numbered_next : List Bridge → List (Option ℕ) → List NumberedFrame → NumberedFrame
 numbered_next bridges fields fs =
     let start = numbered_start fs in
-    let item = item_of bridges (when start) fs in
+    let item = carried_item bridges (when start) fs in
     record {
       start = start;
       shift = elim item [ None ↦ latest_shift (fields_to fields (when start) fs) | Some h ↦ pos 0 ];
@@ -57,9 +57,9 @@ numbered_next bridges fields fs =
     }
 
 -- the first j frames
-abbrev pub numbered : List Bridge → List (Option ℕ) → ℕ → List NumberedFrame
-numbered bridges fields zero = []
-numbered bridges fields (suc j) = let before = numbered bridges fields j in numbered_next bridges fields before ∷ before
+abbrev pub numbered_frames : List Bridge → List (Option ℕ) → ℕ → List NumberedFrame
+numbered_frames bridges fields zero = []
+numbered_frames bridges fields (suc j) = let before = numbered_frames bridges fields j in numbered_next bridges fields before ∷ before
 
 -- the downlink as one list: 320 ones, and then each frame with what its shift adds or leaves out; `bits j` are those of
 -- frame j
@@ -83,8 +83,8 @@ bridges_in (p ∷ past) =
     else bridges_in past
 
 -- their fields, the oldest first
-abbrev pub fields_in : {A : Type 0} → List (Period A) → List (Option ℕ)
-fields_in ps = reverse (map (λ p. p.field) ps)
+abbrev pub asked_fields : {A : Type 0} → List (Period A) → List (Option ℕ)
+asked_fields ps = reverse (map (λ p. p.field) ps)
 
 -- a made frame as a numbered one
 abbrev pub numbered_of : {A : Type 0} → MadeFrame A → NumberedFrame

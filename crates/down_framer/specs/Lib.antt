@@ -1,6 +1,7 @@
 pub mod Made
 pub mod Bridges
 pub mod Memory
-pub mod Places
+pub mod Step
+pub mod Stands
 pub mod Rings
 pub mod ByNumber

@@ -23,14 +23,14 @@ pub record MadeFrame (A : Type 0) : Type 0 where
   pub load : A
 
 -- how many octets lie between the starts of a frame and of the next one: 160 and its shift
-abbrev pub octets_of : ℤ → ℕ
-octets_of (pos v) = 160 + v
-octets_of (negsuc v) = 159 - v
+abbrev pub octets_to_next : ℤ → ℕ
+octets_to_next (pos v) = 160 + v
+octets_to_next (negsuc v) = 159 - v
 
 -- where the next frame starts
 abbrev pub next_start : {A : Type 0} → List (MadeFrame A) → ℕ
 next_start [] = 0
-next_start (f ∷ fs) = f.start + octets_of f.shift
+next_start (f ∷ fs) = f.start + octets_to_next f.shift
 
 -- the period at which the latest bridge started
 abbrev pub latest_start : {A : Type 0} → List (Period A) → Option ℕ
@@ -38,9 +38,9 @@ latest_start [] = None
 latest_start (p ∷ past) = if p.starts then Some (length past) else latest_start past
 
 -- whether a frame is handed over in period k
-abbrev pub bridged_at : {A : Type 0} → ℕ → List (Period A) → Bool
-bridged_at k [] = false
-bridged_at k (p ∷ past) = if k == length past then p.bridged else bridged_at k past
+abbrev pub hands_at : {A : Type 0} → ℕ → List (Period A) → Bool
+hands_at k [] = false
+hands_at k (p ∷ past) = if k == length past then p.bridged else hands_at k past
 
 -- how many frames were made in period s or later
 abbrev pub made_from : {A : Type 0} → ℕ → List (MadeFrame A) → ℕ
@@ -48,22 +48,22 @@ made_from s fs = length (filter (λ f. nat_le s f.period) fs)
 
 -- The period whose handed frame goes out next: of the latest bridge, as many on from its start as frames were made
 -- since, if it lies in the bridge.
-abbrev pub due : {A : Type 0} → List (Period A) → List (MadeFrame A) → Option ℕ
-due ps fs = elim (latest_start ps) [
+abbrev pub handed_due : {A : Type 0} → List (Period A) → List (MadeFrame A) → Option ℕ
+handed_due ps fs = elim (latest_start ps) [
   | None ↦ None
-  | Some s ↦ let h = s + made_from s fs in if bridged_at h ps then Some h else None
+  | Some s ↦ let h = s + made_from s fs in if hands_at h ps then Some h else None
 ]
 
 -- the fields of the periods after that of the last frame that carried nothing, or of all
-abbrev pub fields_since : {A : Type 0} → List (Period A) → List (MadeFrame A) → List (Option ℕ)
-fields_since ps fs = elim (find (λ f. is_none f.carries) fs) [
+abbrev pub counted_fields : {A : Type 0} → List (Period A) → List (MadeFrame A) → List (Option ℕ)
+counted_fields ps fs = elim (find (λ f. is_none f.carries) fs) [
   | None ↦ map (λ p. p.field) ps
   | Some m ↦ take (length ps - (m.period + 1)) (map (λ p. p.field) ps)
 ]
 
 -- a frame that carries a handed one has no shift; any other has the one asked for last
 abbrev pub shift_due : {A : Type 0} → List (Period A) → List (MadeFrame A) → ℤ
-shift_due ps fs = elim (due ps fs) [ None ↦ latest_shift (fields_since ps fs) | Some h ↦ pos 0 ]
+shift_due ps fs = elim (handed_due ps fs) [ None ↦ latest_shift (counted_fields ps fs) | Some h ↦ pos 0 ]
 
 -- how many bridges started
 abbrev pub epoch_of : {A : Type 0} → List (Period A) → ℕ
@@ -75,7 +75,7 @@ next_frame p past fs = record {
   start = next_start fs;
   period = length past;
   shift = shift_due (p ∷ past) fs;
-  carries = due (p ∷ past) fs;
+  carries = handed_due (p ∷ past) fs;
   epoch = epoch_of (p ∷ past);
   load = p.load;
 }
@@ -98,11 +98,11 @@ frame_on_line (pos v) bits = bits ++ replicate (2 * v) 1
 frame_on_line (negsuc v) bits = take 316 bits
 
 -- the downlink as far as it is made: 320 ones, and then the frames; `bits` are those of the newest of some frames
-abbrev pub line_of : {A : Type 0} → (List (MadeFrame A) → List ℕ) → List (MadeFrame A) → List ℕ
-line_of bits [] = replicate 320 1
-line_of bits (f ∷ fs) = line_of bits fs ++ frame_on_line f.shift (bits (f ∷ fs))
+abbrev pub downlink_of : {A : Type 0} → (List (MadeFrame A) → List ℕ) → List (MadeFrame A) → List ℕ
+downlink_of bits [] = replicate 320 1
+downlink_of bits (f ∷ fs) = downlink_of bits fs ++ frame_on_line f.shift (bits (f ∷ fs))
 
 -- the 320 bits that are out in the newest period
 abbrev pub down_of : {A : Type 0} → (List (MadeFrame A) → List ℕ) → List (Period A) → List ℕ
 down_of bits [] = []
-down_of bits (p ∷ past) = take 320 (drop (320 * length past) (line_of bits (made_frames (p ∷ past))))
+down_of bits (p ∷ past) = take 320 (drop (320 * length past) (downlink_of bits (made_frames (p ∷ past))))

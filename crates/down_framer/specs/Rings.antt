@@ -2,11 +2,11 @@
 use Rattle.std.specs.Prelude.{◌≡◌, ℕ, ◌<◌, ◌≤◌, length, ◌⊎◌}
 use Rattle.circular_buffer.specs.Buffer.{Buffer}
 use Rattle.trau_bits.specs.Bits.{AreBits}
-use Rattle.down_framer.specs.Memory.{FramerMemory, IsBetween, IsWithin}
+use Rattle.down_framer.specs.Memory.{FramerMemory, IsBetweenPeriods, IsWithinPeriod}
 
 -- what the rings hold
-abbrev pub memory_of : Buffer ℕ → Buffer ℕ → ℕ → FramerMemory
-memory_of bits octets skip = record { stored = bits.items; held = octets.items; to_skip = skip }
+abbrev pub ring_memory : Buffer ℕ → Buffer ℕ → ℕ → FramerMemory
+ring_memory bits octets skip = record { stored = bits.items; held = octets.items; to_skip = skip }
 
 -- Room for 960 bits and 320 octets. At most 156 octets are to be skipped, and only where none are held. A framer is
 -- between periods or within one.
@@ -16,4 +16,4 @@ pub record AreRings (bits octets : Buffer ℕ) (skip : ℕ) : Type 0 where
   pub bounded : skip ≤ 156
   pub none_held : 0 < length octets.items → skip ≡ 0
   pub are_bits : AreBits bits.items
-  pub phase : IsBetween (memory_of bits octets skip) ⊎ IsWithin (memory_of bits octets skip)
+  pub phase : IsBetweenPeriods (ring_memory bits octets skip) ⊎ IsWithinPeriod (ring_memory bits octets skip)

@@ -4,9 +4,10 @@ ghost use Rattle.std.specs.Prelude.{◌≡◌, ◌≤◌, ◌<◌, ◌+◌, ◌-
 ghost use Rattle.time_align.specs.Shift.{IsShift};
 ghost use Rattle.trau_bits.specs.Bits.{bits_of, AreBits};
 ghost use Rattle.circular_buffer.specs.Buffer.{buffer};
-ghost use Rattle.down_framer.specs.Made.{octets_of, next_start, frame_on_line, next_frame, shift_due, made_frames, down_of};
-ghost use Rattle.down_framer.specs.Memory.{new_memory, after_put, after_frame, after_take, IsBetween, IsWithin};
-ghost use Rattle.down_framer.specs.Places.{Holds, PcmPeriod, PcmFrame, pcm_of, StandsBetween, StandsWithin};
+ghost use Rattle.down_framer.specs.Made.{octets_to_next, next_start, frame_on_line, next_frame, shift_due, made_frames, down_of};
+ghost use Rattle.down_framer.specs.Memory.{home_memory, IsBetweenPeriods, IsWithinPeriod};
+ghost use Rattle.down_framer.specs.Step.{after_put, after_frame, after_take};
+ghost use Rattle.down_framer.specs.Stands.{Holds, PcmPeriod, PcmFrame, pcm_of, StandsBetween, StandsWithin};
 
 use circular_buffer::HeapCircularBuffer;
 use std::alloc::{AllocError, Global};
@@ -25,11 +26,11 @@ pub struct Framer {
 
 impl Model for Framer {
     ghost use Rattle.down_framer.specs.Memory.{FramerMemory};
-    ghost use Rattle.down_framer.specs.Rings.{memory_of, AreRings};
+    ghost use Rattle.down_framer.specs.Rings.{ring_memory, AreRings};
 
     ghost Value = { FramerMemory };
 
-    ghost view = { λ f. memory_of f.bits f.octets f.skip };
+    ghost view = { λ f. ring_memory f.bits f.octets f.skip };
 
     ghost invariant = { λ f. AreRings f.bits f.octets f.skip };
 }
@@ -51,7 +52,7 @@ fn copy_first(ring: &HeapCircularBuffer<u8>, to: &mut [u8])
 // How many octets lie between the starts of a frame and of the next one.
 fn step_of(shift: i16) -> usize
     requires { IsShift shift }
-    ensures value { result ≡ octets_of shift }
+    ensures value { result ≡ octets_to_next shift }
     ensures within { (158 ≤ result) × (result ≤ 316) }
 {
     (160 + shift) as usize
@@ -60,8 +61,8 @@ fn step_of(shift: i16) -> usize
 impl Framer {
     /// A framer before the first period: 320 ones are in store. It has room for every period.
     pub fn new(alloc: Global) -> Result<Framer, AllocError>
-        ensures value { IfOk result (λ framer. framer ≡ new_memory) }
-        ensures between { IfOk result (λ framer. IsBetween framer) }
+        ensures value { IfOk result (λ framer. framer ≡ home_memory) }
+        ensures between { IfOk result (λ framer. IsBetweenPeriods framer) }
         ensures history { IfOk result (λ framer. (bits : List PcmFrame → List ℕ) → StandsBetween bits [] framer) }
     {
         let mut bits = HeapCircularBuffer::with_capacity(alloc, 960)?;
@@ -76,9 +77,9 @@ impl Framer {
 
     /// Takes the 160 octets of a period from the Pcm line: skips what is to be skipped, and holds the rest.
     pub fn put(&mut self, octets: &[u8; 160])
-        requires between { IsBetween self.old }
+        requires between { IsBetweenPeriods self.old }
         ensures step { self.new ≡ after_put self.old octets.now }
-        ensures within { IsWithin self.new }
+        ensures within { IsWithinPeriod self.new }
 
         // By absolute places, of whatever lines.
         ensures places { (pcm line : List ℕ) (out start : ℕ) → Holds pcm line out start self.old →
@@ -124,12 +125,12 @@ impl Framer {
         requires shift { IsShift shift }
         requires bits { AreBits f.now }
         ensures step { self.new ≡ after_frame self.old f.now shift }
-        ensures within { IsWithin self.new }
+        ensures within { IsWithinPeriod self.new }
         ensures taken { length self.new.held ≤ length self.old.held - 158 }
 
         // By absolute places, of whatever lines.
         ensures places { (pcm line : List ℕ) (out start : ℕ) → out ≤ length line → Holds pcm line out start self.old →
-            Holds pcm (line ++ frame_on_line shift f.now) out (start + octets_of shift) self.new }
+            Holds pcm (line ++ frame_on_line shift f.now) out (start + octets_to_next shift) self.new }
 
         // Within a period of any history, this is the next frame.
         ensures history { (bits : List PcmFrame → List ℕ) (p : PcmPeriod) (past : List PcmPeriod) (fs : List PcmFrame) →
@@ -149,10 +150,10 @@ impl Framer {
 
     /// Gives out the 320 bits of a period in which no frame is left to be made, as 40 octets.
     pub fn take(&mut self, octets: &mut [u8; 40])
-        requires within { IsWithin self.old }
+        requires within { IsWithinPeriod self.old }
         requires not_ready { length self.old.held < 160 }
         ensures step { self.new ≡ after_take self.old }
-        ensures between { IsBetween self.new }
+        ensures between { IsBetweenPeriods self.new }
         ensures bits { bits_of octets.new ≡ take 320 self.old.stored }
 
         // By absolute places, of whatever lines.

@@ -9,9 +9,9 @@
 //! `framer` has the two rings, `laws` what the definitions have in common. Used by a call's leg.
 //!
 //! Definitions: `specs/Made.antt` (the made frames and the downlink, by absolute places), `specs/Bridges.antt` (where a
-//! bridge may start), `specs/ByNumber.antt` (the made frames one by one, over a list of bridges), `specs/Places.antt`
-//! (what a framer holds, by absolute places), `specs/Memory.antt` (one call after another), `specs/Rings.antt` (what its
-//! two rings keep).
+//! bridge may start), `specs/ByNumber.antt` (the made frames one by one, over a list of bridges), `specs/Memory.antt` (what
+//! a framer holds), `specs/Step.antt` (what each operation makes of it), `specs/Stands.antt` (what it holds, by absolute places),
+//! `specs/Rings.antt` (what its two rings keep).
 #![tactic(auto)]
 
 mod framer;

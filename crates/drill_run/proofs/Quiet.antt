@@ -1,5 +1,5 @@
 -- No line of a drill fails, and so its run is the one of the definition.
-use Rattle.std.proofs.Common.{◌≡◌, refl, sym, ap, ◌∙◌, subst, ℕ, zero, suc, ◌+◌, ◌-◌, ◌*◌, ◌<◌, ◌≤◌, Bool, true, false, inl, inr, Option, Some, is_some, List, [], ◌∷◌, length, take, arith, slice_get}
+use Rattle.std.proofs.Common.{◌≡◌, refl, sym, ap, ◌∙◌, subst, ℕ, ◌+◌, ◌-◌, ◌*◌, ◌<◌, ◌≤◌, Bool, true, false, inl, inr, Option, Some, is_some, List, [], ◌∷◌, length, take, arith, slice_get}
 use Rattle.std.specs.Prelude.{◌==◌, ◌&&◌, nat_le, if◌then◌else◌, unwrap_or}
 use Rattle.std.specs.Io.KnownBytes.{Appends}
 use Rattle.std.proofs.lemmas.Bool.{cases_Bool, eqb-true, true≢false}
@@ -10,13 +10,13 @@ use Rattle.trau_io.specs.declared.line.Side.{Side}
 use Rattle.trau_io.specs.declared.line.Side.TheVariants.{Up, Pcm, Down, Out}
 use Rattle.trau_io.specs.Places.{number_of_side, place_of}
 use Rattle.trau_io.specs.Lines.{LineState}
-use Rattle.trau_io.specs.Memory.{MemoryLine, new_line, state_of, states_of, known_of}
+use Rattle.trau_io.specs.Memory.{MemoryLine, new_line, state_of, states_of, known_line}
 use Rattle.trau_orders.specs.declared.order.Order.{Order}
 use Rattle.trau_orders.specs.Lists.{AreOrders}
 use Rattle.switchboard.specs.Calls.{opened_at}
 use Rattle.farm_drill.specs.Lines.{AreDrilled, drilled_line, line_of_call}
 use Rattle.farm_drill.specs.Orders.{drilled_orders}
-use Rattle.run_spec.specs.Run.{Run, done_in, start_in, end_in, periods_in, periods_to, who_in, IsOpened}
+use Rattle.run_spec.specs.Run.{Run, done_in, start_in, end_in, periods_in, who_in, IsOpened}
 use Rattle.run_spec.specs.Lines.{out_of_call, down_of_call}
 use Rattle.run_spec.specs.Facts.{report_of}
 use Rattle.run_spec.proofs.SoFar.{so_far_at_first}
@@ -24,7 +24,7 @@ use Rattle.farm_report.specs.View.{ReportView}
 use Rattle.round_lines.specs.Rounds.{IsIncoming}
 use Rattle.farm_run.specs.declared.pace.Pace.{Pace}
 use Rattle.farm_run.specs.Runs.{AreTold, IsRunOver, IsWritten, Leaves, Runs, is_listed, none_fails}
-use Rattle.farm_run.proofs.Gaining.{length-out_line, length-down_octets}
+use Rattle.run_spec.proofs.LongerLines.{length-out_line, length-down_octets, length-periods_to}
 use Rattle.farm_run.proofs.Listed.{listed_head, one_line, or_cases}
 use Rattle.farm_run.proofs.Reach.{end_within_run}
 use Rattle.drill_run.specs.Drilled.{drilled_run}
@@ -41,7 +41,7 @@ known-call d c s first = elim (cases_Bool (c == 0)) [
 ]
 
 pub known-line : (d : DrillMemory) (c : ℕ) (s : Side) (l : MemoryLine) → 1 ≤ c → slice_get d.lines (place_of c s) ≡ Some l → known_lines d c s ≡ state_of l
-known-line d c s l first found = known-call d c s first ∙ ap known_of found
+known-line d c s l first found = known-call d c s first ∙ ap known_line found
 
 told-same : (m n : ℕ) → number_told m ≡ number_told n → m ≡ n
 told-same m n e =
@@ -71,10 +71,6 @@ short_of true before now octets ys e was is w =
     let same = gained before.written now.written (take w.0 octets) was ys is w.2 in
     omega (arith, ap {B = ℕ} (λ (xs : List ℕ). length xs) same, length-take w.0 octets, w.1)
 short_of false before now octets ys e was is w = cc
-
-length-periods_to : (r : Run) (c n : ℕ) → length (periods_to r c n) ≡ n
-length-periods_to r c zero = refl
-length-periods_to r c (suc n) = ap suc (length-periods_to r c n)
 
 whole_out : (r : Run) (c : ℕ) → AreOrders r.orders → length (out_of_call r c) ≤ 160 * r.periods
 whole_out r c are =

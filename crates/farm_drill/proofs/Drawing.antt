@@ -18,7 +18,8 @@ pub state-along : (seed call m n x : ℕ) → m ≡ n → x ≡ state_at seed ca
 state-along seed call m n x e h = subst (λ (k : ℕ). x ≡ state_at seed call k) e h
 
 -- what holds these numbers place by place is their list
-pub all_from : (f : ℕ → ℕ) (first count : ℕ) (xs : List ℕ) → length xs ≡ count → ((k : ℕ) → k < count → get_or xs k 0 ≡ f (first + k)) → xs ≡ map f (range_with_len first count)
+pub all_from : (f : ℕ → ℕ) (first count : ℕ) (xs : List ℕ) → length xs ≡ count → ((k : ℕ) → k < count → get_or xs k 0 ≡ f (first + k)) →
+    xs ≡ map f (range_with_len first count)
 all_from f first count xs long each =
     same_number_lists xs _ (long ∙ sym (length-map-range_with_len f first count)) (λ k below.
     let inside : k < count = omega (arith, below, long) in

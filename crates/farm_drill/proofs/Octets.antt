@@ -33,7 +33,8 @@ up-none seed call period t drawn none =
     let e : nat_lt (draw seed call (first_draw period)) 250 ≡ false = sym (ap (λ (n : ℕ). nat_lt n 250) drawn) ∙ le-ltb t 250 none in
     rw e refl
 
-pub up-some : (seed call period t : ℕ) → t ≡ draw seed call (first_draw period) → t < 250 → up_octets seed call period ≡ octets_of (bits_saying (frame_drawn seed call period))
+pub up-some : (seed call period t : ℕ) → t ≡ draw seed call (first_draw period) → t < 250 →
+    up_octets seed call period ≡ octets_of (bits_saying (frame_drawn seed call period))
 unfolding up_octets
 up-some seed call period t drawn some =
     let e : nat_lt (draw seed call (first_draw period)) 250 ≡ true = sym (ap (λ (n : ℕ). nat_lt n 250) drawn) ∙ lt-ltb t 250 some in

@@ -62,7 +62,8 @@ drilled-none seed periods (suc call) s = drilled-past seed 0 periods (suc call) 
 drilled-same : (seed call periods c : ℕ) (s : Side) → c ≢ call → 1 ≤ call → drilled_line seed (call - 1) periods c s ≡ drilled_line seed call periods c s
 drilled-same seed call periods zero s other low = drilled-zero seed (call - 1) periods s ∙ sym (drilled-zero seed call periods s)
 drilled-same seed call periods (suc c) s other low = elim (cases_lt (suc c) call) [
-  | inl before ↦ drilled-of_call seed (call - 1) periods (suc c) s (omega arith) (omega arith) ∙ sym (drilled-of_call seed call periods (suc c) s (omega arith) (omega arith))
+  | inl before ↦ drilled-of_call seed (call - 1) periods (suc c) s (omega arith) (omega arith)
+      ∙ sym (drilled-of_call seed call periods (suc c) s (omega arith) (omega arith))
   | inr after ↦
       let past : call < suc c = omega (arith, after, other) in
       drilled-past seed (call - 1) periods (suc c) s (omega (arith, past)) ∙ sym (drilled-past seed call periods (suc c) s past)
@@ -70,12 +71,14 @@ drilled-same seed call periods (suc c) s other low = elim (cases_lt (suc c) call
 
 -- ---- the table
 
-pub none_set : (seed periods : ℕ) (lines : List MemoryLine) → length lines ≡ 16388 → All (λ (l : MemoryLine). l ≡ new_line [] [] [] 0) lines → AreDrilled seed 0 periods lines
+pub none_set : (seed periods : ℕ) (lines : List MemoryLine) → length lines ≡ 16388 → All (λ (l : MemoryLine). l ≡ new_line [] [] [] 0) lines →
+    AreDrilled seed 0 periods lines
 none_set seed periods lines long all = record {
   count = long;
   each = λ call s h.
       let inside : place_of call s < length lines = omega (arith, long, within call s h) in
-      slice_get-get_or lines (place_of call s) (new_line [] [] [] 0) inside ∙ ap Some (all (place_of call s) (new_line [] [] [] 0) inside ∙ sym (drilled-none seed periods call s));
+      slice_get-get_or lines (place_of call s) (new_line [] [] [] 0) inside
+      ∙ ap Some (all (place_of call s) (new_line [] [] [] 0) inside ∙ sym (drilled-none seed periods call s));
 }
 
 -- the lines of a call set one after the other
@@ -139,14 +142,17 @@ module _ (seed call periods : ℕ) (before : List MemoryLine) (low : 1 ≤ call)
   here : (s : Side) → slice_get with_out (place_of call s) ≡ Some (at s)
   unfolding with_up with_pcm with_down with_out
   here Up =
-      past_out (place_of call Up) (omega (arith, high)) (λ e. absurd (omega (arith, e))) ∙ past_down (place_of call Up) (omega (arith, high)) (λ e. absurd (omega (arith, e)))
+      past_out (place_of call Up) (omega (arith, high)) (λ e. absurd (omega (arith, e)))
+      ∙ past_down (place_of call Up) (omega (arith, high)) (λ e. absurd (omega (arith, e)))
       ∙ past_pcm (place_of call Up) (omega (arith, high)) (λ e. absurd (omega (arith, e)))
       ∙ get-same before (place_of call Up) (at Up) (omega (arith, high, are.count))
   here Pcm =
-      past_out (place_of call Pcm) (omega (arith, high)) (λ e. absurd (omega (arith, e))) ∙ past_down (place_of call Pcm) (omega (arith, high)) (λ e. absurd (omega (arith, e)))
+      past_out (place_of call Pcm) (omega (arith, high)) (λ e. absurd (omega (arith, e)))
+      ∙ past_down (place_of call Pcm) (omega (arith, high)) (λ e. absurd (omega (arith, e)))
       ∙ get-same with_up (place_of call Pcm) (at Pcm) (omega (arith, high, long_up))
   here Down =
-      past_out (place_of call Down) (omega (arith, high)) (λ e. absurd (omega (arith, e))) ∙ get-same with_pcm (place_of call Down) (at Down) (omega (arith, high, long_pcm))
+      past_out (place_of call Down) (omega (arith, high)) (λ e. absurd (omega (arith, e)))
+      ∙ get-same with_pcm (place_of call Down) (at Down) (omega (arith, high, long_pcm))
   here Out = get-same with_down (place_of call Out) (at Out) (omega (arith, high, long_down))
 
   elsewhere : (c : ℕ) (s : Side) → c < NUMBERS → c ≢ call → slice_get with_out (place_of c s) ≡ slice_get before (place_of c s)
@@ -167,7 +173,8 @@ module _ (seed call periods : ℕ) (before : List MemoryLine) (low : 1 ≤ call)
   all_set : AreDrilled seed call periods with_out
   all_set = record { count = long_out; each = each }
 
-pub one_more_set : (seed call periods : ℕ) (before now : List MemoryLine) → 1 ≤ call → call ≤ 256 → AreSet seed call periods before now → AreDrilled seed (call - 1) periods before → AreDrilled seed call periods now
+pub one_more_set : (seed call periods : ℕ) (before now : List MemoryLine) → 1 ≤ call → call ≤ 256 → AreSet seed call periods before now →
+    AreDrilled seed (call - 1) periods before → AreDrilled seed call periods now
 unfolding at with_up with_pcm with_down with_out
 one_more_set seed call periods before now low high are old =
     let same : now ≡ with_out seed call periods before low high old =

@@ -11,7 +11,7 @@ use Rattle.std.proofs.lemmas.List.Sums.{AllPass-from_list_all}
 use Rattle.std.specs.Str.Parse.{AllDigits}
 use Rattle.std.proofs.lemmas.Str.Parse.{numerals_by_value, tells_digits, digit_at}
 use Rattle.trau_orders.specs.declared.order.Order.{Order}
-use Rattle.trau_orders.specs.Grammar.{IsInRange, line_of}
+use Rattle.trau_orders.specs.Grammar.{IsInRange, order_line}
 use Rattle.trau_orders.specs.Splits.{Lacks}
 use Rattle.trau_orders.specs.Text.{text_lines, AreLines, IsWithin}
 use Rattle.trau_orders.proofs.TextLines.{first_line, no_line}
@@ -22,7 +22,8 @@ use Rattle.farm_drill.specs.Orders.{opening, bridging, unbridging, is_bridged, b
 lacks_digits : (n : ℕ) → n < 2 ^ 64 → Lacks 10 (decimal n)
 lacks_digits n small =
     All-from_get_or (λ b. eqb b 10 ≡ false) (decimal n) 0
-    (λ i within. let digit = digit_at (decimal n) i (digits_decimal (numerals_by_value (AllDigits 10) tells_digits) n small) within in ne_eqb _ 10 (λ e. absurd (omega (arith, e, digit.0))))
+    (λ i within. let digit = digit_at (decimal n) i (digits_decimal (numerals_by_value (AllDigits 10) tells_digits) n small) within in
+    ne_eqb _ 10 (λ e. absurd (omega (arith, e, digit.0))))
 
 not_true : (b : Bool) → not b ≡ true → b ≡ false
 not_true true e = cc
@@ -40,11 +41,11 @@ lacks_both xs ys = All-append (λ b. eqb b 10 ≡ false) xs ys
 record Fits (o : Order) : Type 0 where
   pub stamp : o.stamp ≤ 4294967294
   pub in_range : IsInRange o.what
-  pub one_line : Lacks 10 (line_of o)
-  pub short : length (line_of o) ≤ 63
+  pub one_line : Lacks 10 (order_line o)
+  pub short : length (order_line o) ≤ 63
 
 fits-opening : (call : ℕ) → 1 ≤ call → call ≤ 256 → Fits (opening call)
-unfolding line_of
+unfolding order_line
 fits-opening call low high = record {
   stamp = omega arith;
   in_range = (low, omega (arith, high));
@@ -56,7 +57,7 @@ fits-opening call low high = record {
 }
 
 fits-bridging : (periods call : ℕ) → periods ≤ 1000 → 1 ≤ call → call ≤ 255 → Fits (bridging periods call)
-unfolding line_of
+unfolding order_line
 fits-bridging periods call few low high =
     let q : periods / 4 < 1000 = omega (arith, few) in
     let more : call + 1 < 1000 = omega (arith, high) in
@@ -75,7 +76,7 @@ fits-bridging periods call few low high =
     }
 
 fits-unbridging : (periods call : ℕ) → periods ≤ 1000 → 1 ≤ call → call ≤ 256 → Fits (unbridging periods call)
-unfolding line_of
+unfolding order_line
 fits-unbridging periods call few low high =
     let q : periods / 2 < 1000 = omega (arith, few) in
     let a = length-decimal-le 10 (periods / 2) (omega arith) (omega (arith, q)) (omega (arith, q)) in
@@ -104,12 +105,14 @@ unfolding AllFit
 fit-range f first zero h = tt
 fit-range f first (suc n) h = (h first (omega arith) (omega arith), fit-range f (first + 1) n (λ c l m. h c (omega arith) (omega arith)))
 
-fit-some : (f : ℕ → Order) (p : ℕ → Bool) (first n : ℕ) → ((c : ℕ) → first ≤ c → c < first + n → Fits (f c)) → AllFit (map f (filter p (range_with_len first n)))
+fit-some : (f : ℕ → Order) (p : ℕ → Bool) (first n : ℕ) → ((c : ℕ) → first ≤ c → c < first + n → Fits (f c)) →
+    AllFit (map f (filter p (range_with_len first n)))
 unfolding AllFit
 fit-some f p first zero h = tt
 fit-some f p first (suc n) h = by (p first) (fit-some f p (first + 1) n (λ c l m. h c (omega arith) (omega arith)))
   where
-    by : (b : Bool) → AllFit (map f (filter p (range_with_len (first + 1) n))) → AllFit (map f (if b then first ∷ filter p (range_with_len (first + 1) n) else filter p (range_with_len (first + 1) n)))
+    by : (b : Bool) → AllFit (map f (filter p (range_with_len (first + 1) n))) →
+        AllFit (map f (if b then first ∷ filter p (range_with_len (first + 1) n) else filter p (range_with_len (first + 1) n)))
     by true rest = (h first (omega arith) (omega arith), rest)
     by false rest = rest
 
@@ -130,13 +133,13 @@ drilled-fit calls periods few short =
 
 -- ---- the lines of the text
 
-text-lines : (os : List Order) → AllFit os → text_lines (text_of os) ≡ map line_of os
+text-lines : (os : List Order) → AllFit os → text_lines (text_of os) ≡ map order_line os
 unfolding AllFit text_of
 text-lines [] a = no_line
 text-lines (o ∷ os) a =
-    ap text_lines (append_assoc (line_of o) (codes "\n") (text_of os))
-    ∙ first_line (line_of o ++ 10 ∷ text_of os) (line_of o) (text_of os) (record { front_lacks = a.0.one_line; whole = refl })
-    ∙ ap (λ (ls : List (List ℕ)). line_of o ∷ ls) (text-lines os a.1)
+    ap text_lines (append_assoc (order_line o) (codes "\n") (text_of os))
+    ∙ first_line (order_line o ++ 10 ∷ text_of os) (order_line o) (text_of os) (record { front_lacks = a.0.one_line; whole = refl })
+    ∙ ap (λ (ls : List (List ℕ)). order_line o ∷ ls) (text-lines os a.1)
 
 length-text : (os : List Order) → AllFit os → length (text_of os) ≤ 64 * length os
 unfolding AllFit text_of
@@ -144,7 +147,7 @@ length-text [] a = omega arith
 length-text (o ∷ os) a =
     let line = a.0.short in
     let rest = length-text os a.1 in
-    omega (arith, line, rest, length-append (line_of o ++ codes "\n") (text_of os), length-append (line_of o) (codes "\n"))
+    omega (arith, line, rest, length-append (order_line o ++ codes "\n") (text_of os), length-append (order_line o) (codes "\n"))
 
 length-some : (p : ℕ → Bool) (xs : List ℕ) → length (filter p xs) ≤ length xs
 length-some p [] = omega arith
@@ -184,7 +187,8 @@ unfolding Rises
 rises-lower low high [] l r = tt
 rises-lower low high (o ∷ os) l r = let h = r.0 in (omega (arith, l, h), r.1)
 
-rises-map : (f : ℕ → Order) (stamp low : ℕ) (cs : List ℕ) (os : List Order) → ((c : ℕ) → (f c).stamp ≡ stamp) → low ≤ stamp → Rises stamp os → Rises low (map f cs ++ os)
+rises-map : (f : ℕ → Order) (stamp low : ℕ) (cs : List ℕ) (os : List Order) → ((c : ℕ) → (f c).stamp ≡ stamp) → low ≤ stamp → Rises stamp os →
+    Rises low (map f cs ++ os)
 unfolding Rises
 rises-map f stamp low [] os same l r = rises-lower low stamp os l r
 rises-map f stamp low (c ∷ cs) os same l r =
@@ -212,17 +216,19 @@ drilled-rises calls periods =
 
 -- ---- what `Orders::parse` wants to know
 
-pub spelled : (text : List ℕ) (calls periods : ℕ) → calls ≤ 256 → periods ≤ 1000 → text ≡ text_of (drilled_orders calls periods) → AreLines (text_lines text) (drilled_orders calls periods)
+pub spelled : (text : List ℕ) (calls periods : ℕ) → calls ≤ 256 → periods ≤ 1000 → text ≡ text_of (drilled_orders calls periods) →
+    AreLines (text_lines text) (drilled_orders calls periods)
 spelled text calls periods few short same =
     let os : List Order = drilled_orders calls periods in
     let fit : AllFit os = drilled-fit calls periods few short in
     subst (λ (ls : List (List ℕ)). AreLines ls os) (sym (ap text_lines same ∙ text-lines os fit)) (record {
-      one_each = length-map os line_of;
+      one_each = length-map os order_line;
       spelled = λ k d l.
           let one : Fits (get_or os k d) = fit-at os k d fit l in
-          record { stamp = one.stamp; in_range = one.in_range; spelled = get_or-map line_of os k d [] l };
+          record { stamp = one.stamp; in_range = one.in_range; spelled = get_or-map order_line os k d [] l };
       rising = λ k d l.
-          subst (λ (n : ℕ). (get_or os k d).stamp ≤ (get_or os n d).stamp) (sym (add-one k)) (rises-next 0 os k d (drilled-rises calls periods) (omega (arith, l)));
+          subst (λ (n : ℕ). (get_or os k d).stamp ≤ (get_or os n d).stamp) (sym (add-one k))
+          (rises-next 0 os k d (drilled-rises calls periods) (omega (arith, l)));
     })
 
 pub short_enough : (text : List ℕ) (calls periods : ℕ) → calls ≤ 256 → periods ≤ 1000 → text ≡ text_of (drilled_orders calls periods) → IsWithin text
@@ -231,7 +237,7 @@ short_enough text calls periods few short same =
     let fit : AllFit os = drilled-fit calls periods few short in
     let count = drilled-few calls periods few in
     let octets = length-text os fit in
-    let lines = length-map os line_of in
+    let lines = length-map os order_line in
     let all : length text ≡ length (text_of os) = ap length same in
-    let each : length (text_lines text) ≡ length (map line_of os) = ap length (ap text_lines same ∙ text-lines os fit) in
+    let each : length (text_lines text) ≡ length (map order_line os) = ap length (ap text_lines same ∙ text-lines os fit) in
     (omega (arith, count, octets, all), omega (arith, count, lines, each))

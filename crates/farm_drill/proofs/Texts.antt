@@ -7,24 +7,25 @@ use Rattle.std.proofs.lemmas.List.{append-nil, append_assoc, map-append}
 use Rattle.std.proofs.lemmas.List.Concat.{flat_map-append}
 use Rattle.std.proofs.lemmas.List.Elements.{filter-append}
 use Rattle.trau_orders.specs.declared.order.Order.{Order}
-use Rattle.trau_orders.specs.Grammar.{line_of}
+use Rattle.trau_orders.specs.Grammar.{order_line}
 use Rattle.farm_drill.specs.Orders.{opening, bridging, unbridging, is_bridged, bridged_calls, drilled_orders, order_text, text_of}
 use Rattle.farm_drill.proofs.Octets.{range-more}
 
 -- ---- the line of each kind of order
 
 pub opening-text : (call : ℕ) → order_text (opening call) ≡ decimal 0 ++ (codes " open " ++ (decimal call ++ codes "\n"))
-unfolding line_of
+unfolding order_line
 opening-text call = append_assoc (decimal 0) (codes " open " ++ decimal call) (codes "\n")
 
-pub bridging-text : (periods call : ℕ) → order_text (bridging periods call) ≡ decimal (periods / 4) ++ (codes " bridge " ++ (decimal call ++ (codes " " ++ (decimal (call + 1) ++ codes "\n"))))
-unfolding line_of
+pub bridging-text : (periods call : ℕ) →
+    order_text (bridging periods call) ≡ decimal (periods / 4) ++ (codes " bridge " ++ (decimal call ++ (codes " " ++ (decimal (call + 1) ++ codes "\n"))))
+unfolding order_line
 bridging-text periods call =
     append_assoc (decimal (periods / 4)) (codes " bridge " ++ (decimal call ++ (codes " " ++ decimal (call + 1)))) (codes "\n")
     ∙ ap (λ (t : List ℕ). decimal (periods / 4) ++ (codes " bridge " ++ t)) (append_assoc (decimal call) (codes " " ++ decimal (call + 1)) (codes "\n"))
 
 pub unbridging-text : (periods call : ℕ) → order_text (unbridging periods call) ≡ decimal (periods / 2) ++ (codes " unbridge " ++ (decimal call ++ codes "\n"))
-unfolding line_of
+unfolding order_line
 unbridging-text periods call = append_assoc (decimal (periods / 2)) (codes " unbridge " ++ decimal call) (codes "\n")
 
 -- ---- texts one after the other
@@ -85,5 +86,6 @@ pub text-whole : (calls periods : ℕ) (opened bridged all : List ℕ) → opene
 unfolding drilled_orders
 text-whole calls periods opened bridged all a b c =
     c ∙ ap (λ (t : List ℕ). t ++ text_of (map (unbridging periods) (bridged_calls calls)))
-    (b ∙ ap (λ (t : List ℕ). t ++ text_of (map (bridging periods) (bridged_calls calls))) a ∙ sym (text-append (map opening (range_with_len 1 calls)) (map (bridging periods) (bridged_calls calls))))
+    (b ∙ ap (λ (t : List ℕ). t ++ text_of (map (bridging periods) (bridged_calls calls))) a
+    ∙ sym (text-append (map opening (range_with_len 1 calls)) (map (bridging periods) (bridged_calls calls))))
     ∙ sym (text-append (map opening (range_with_len 1 calls) ++ map (bridging periods) (bridged_calls calls)) (map (unbridging periods) (bridged_calls calls)))

@@ -4,7 +4,7 @@ use Rattle.std.specs.List.{range_with_len, flat_map}
 use Rattle.trau_orders.specs.declared.order.Order.{Order}
 use Rattle.trau_alaw.specs.declared.Law.TheVariants.{A}
 use Rattle.trau_orders.specs.declared.order.What.TheVariants.{OpenCall, Bridge, Unbridge}
-use Rattle.trau_orders.specs.Grammar.{line_of}
+use Rattle.trau_orders.specs.Grammar.{order_line}
 
 -- 0 open C
 abbrev pub opening : ℕ → Order
@@ -34,7 +34,7 @@ drilled_orders calls periods =
 
 -- the text of orders: the line of each, with an LF at its end
 abbrev pub order_text : Order → List ℕ
-order_text order = line_of order ++ codes "\n"
+order_text order = order_line order ++ codes "\n"
 
 unfoldable pub text_of : List Order → List ℕ
 text_of orders = flat_map order_text orders

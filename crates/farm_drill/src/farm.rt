@@ -10,7 +10,7 @@ use crate::orders::orders_text;
 use std::alloc::{AllocError, Global};
 use trau_io::MemTrunk;
 
-/// Sets the lines of all calls.
+// Sets the lines of all calls.
 fn set_calls(
     trunk: &mut MemTrunk,
     alloc: Global,

@@ -10,10 +10,10 @@ use std::alloc::{AllocError, Global};
 use trau_frame::{Class, Kind, UpFrame};
 use trau_params::Params;
 
-/// Bits of a frame of zero samples up to where a line of kind 4 cuts it.
+// Bits of a frame of zero samples up to where a line of kind 4 cuts it.
 const CUT: usize = 305;
 
-/// The data bits of a frame of zero samples.
+// The data bits of a frame of zero samples.
 fn zero_data() -> [u8; 260]
     ensures value { result ≡ bits260 zero_fields }
     ensures bits { AreBits result }
@@ -25,7 +25,7 @@ fn zero_data() -> [u8; 260]
     data
 }
 
-/// The bits of a good frame with this alignment field and these data bits.
+// The bits of a good frame with this alignment field and these data bits.
 #[tactic(auto, unfolding(crate::specs::Hostile::good_bits))]
 fn good(align: u8, d: [u8; 260]) -> [u8; 320]
     requires align { align ≤ 63 }
@@ -43,7 +43,7 @@ fn good(align: u8, d: [u8; 260]) -> [u8; 320]
     })
 }
 
-/// The bits of a frame of zero samples with this alignment field.
+// The bits of a frame of zero samples with this alignment field.
 #[tactic(auto, unfolding(crate::specs::Hostile::zero_bits))]
 fn zero(align: u8) -> [u8; 320]
     requires { align ≤ 63 }
@@ -53,7 +53,7 @@ fn zero(align: u8) -> [u8; 320]
     good(align, zero_data())
 }
 
-/// The bits of a period of a line of cut frames.
+// The bits of a period of a line of cut frames.
 fn cut(period: u32) -> [u8; 320]
     requires { period ≤ 1000 }
     ensures value { result ≡ cut_bits period }
@@ -67,7 +67,7 @@ fn cut(period: u32) -> [u8; 320]
     bits
 }
 
-/// The octets of a period of a hostile line.
+// The octets of a period of a hostile line.
 #[tactic(auto, unfolding(crate::specs::Hostile::hostile_octets))]
 fn period_octets(kind: u8, period: u32) -> [u8; 40]
     requires kind { kind ≤ 5 }

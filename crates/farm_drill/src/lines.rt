@@ -11,19 +11,19 @@ use crate::periods::{pcm, uplink};
 use std::alloc::{AllocError, Global};
 use trau_io::{Line, MemTrunk, Side};
 
-/// Octets of an outgoing line in a period of 20 ms.
+// Octets of an outgoing line in a period of 20 ms.
 const DOWN_OCTETS: u32 = 40;
 
 const OUT_OCTETS: u32 = 160;
 
-/// What a call's lines give.
+// What a call's lines give.
 #[derive(Drop)]
 struct Incoming {
     up: Vec<u8>,
     pcm: Vec<u8>,
 }
 
-/// The octets of a call's incoming lines. Their memory is taken before the first draw.
+// The octets of a call's incoming lines. Their memory is taken before the first draw.
 fn draw_lines(alloc: Global, seed: u32, call: u32, periods: u32) -> Result<Incoming, AllocError>
     requires call { call ≤ 256 }
     requires periods { periods ≤ 1000 }
@@ -43,7 +43,7 @@ fn draw_lines(alloc: Global, seed: u32, call: u32, periods: u32) -> Result<Incom
     })
 }
 
-/// Sets a line of which no operation is cut or fails.
+// Sets a line of which no operation is cut or fails.
 fn set_line(
     trunk: &mut MemTrunk,
     alloc: Global,

@@ -9,7 +9,7 @@ use crate::draws::Generator;
 use crate::frames::{bits, octets};
 use trau_frame::{Class, Kind, UpFrame};
 
-/// The octet that a silent line carries.
+// The octet that a silent line carries.
 const IDLE_OCTET: u8 = 0xD5;
 
 fn kind(t: u8) -> Kind

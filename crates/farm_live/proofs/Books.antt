@@ -12,27 +12,35 @@ use Rattle.call_leg.specs.Stands.{Stands}
 use Rattle.call_leg.specs.Out.{out_of}
 use Rattle.call_leg.specs.Down.{down_now}
 use Rattle.farm_live.specs.declared.post.Entry.{Entry}
-use Rattle.farm_live.specs.Book.{who_of, period_of, periods_after, IsWorkedFrom, IsLegal}
+use Rattle.farm_live.specs.Book.{who_at, period_of, periods_after, IsWorkedFrom, IsLegal}
 use Rattle.farm_live.specs.Step.{WorksOn}
 
+-- the periods after one entry more
 pub after_one_more : (ts : List CallPeriod) (es : List Entry) (e : Entry) → periods_after ts (es ++ e ∷ []) ≡ period_of e.post ∷ periods_after ts es
 after_one_more ts [] e = refl
 after_one_more ts (x ∷ es) e = after_one_more (period_of x.post ∷ ts) es e
 
+-- the octets of one entry more are those of the call ..
 pub legal_one_more : (who : Who) (ts : List CallPeriod) (es : List Entry) (e : Entry) → IsWorkedFrom who ts es →
     e.out ≡ out_of who (period_of e.post ∷ periods_after ts es) → bits_of e.down ≡ down_now who (period_of e.post ∷ periods_after ts es) →
     IsWorkedFrom who ts (es ++ e ∷ [])
 legal_one_more who ts [] e p out down = (out, down, tt)
 legal_one_more who ts (x ∷ es) e p out down = (p.0, p.1, legal_one_more who (period_of x.post ∷ ts) es e p.2 out down)
 
-pub leg_one_more : (call : ℕ) (es : List Entry) (e : Entry) (old new : LegMemory) → IsLegal call es → Stands (who_of call) (periods_after [] es) new_settings old → WorksOn old e new →
-    IsLegal call (es ++ e ∷ []) × Stands (who_of call) (periods_after [] (es ++ e ∷ [])) new_settings new
+-- .. where the leg worked its post after the history
+pub leg_one_more : (call : ℕ) (es : List Entry) (e : Entry) (old new : LegMemory) → IsLegal call es →
+    Stands (who_at call) (periods_after [] es) new_settings old → WorksOn old e new →
+    IsLegal call (es ++ e ∷ []) × Stands (who_at call) (periods_after [] (es ++ e ∷ [])) new_settings new
 leg_one_more call es e old new legal stands works =
-    let w = works (who_of call) (periods_after [] es) stands in
-    (legal_one_more (who_of call) [] es e legal w.1 w.2, subst (λ (ts : List CallPeriod). Stands (who_of call) ts new_settings new) (sym (after_one_more [] es e)) w.0)
+    let w = works (who_at call) (periods_after [] es) stands in (
+      legal_one_more (who_at call) [] es e legal w.1 w.2,
+      subst (λ (ts : List CallPeriod). Stands (who_at call) ts new_settings new)
+          (sym (after_one_more [] es e)) w.0,
+    )
 
 -- ---- the search for an entry
 
+-- a search from an index on: the entry there is the one, or the search goes on behind it
 find_next : (p : Entry → Bool) (xs : List Entry) (k : ℕ) (x : Entry) (t : Bool) → k < length xs → x ≡ get_or xs k x → p x ≡ t →
     find p (drop k xs) ≡ cond t (Some x) (find p (drop (suc k) xs))
 find_next p xs k x t lt e h =

@@ -4,6 +4,7 @@ pub mod Records
 pub mod Slots
 pub mod Splits
 pub mod Taking
+pub mod Turning
 pub mod Rows
 pub mod NewFarm
 pub mod Joining

@@ -8,10 +8,11 @@ use Rattle.farm_live.specs.declared.post.BookOf.{BookOf}
 use Rattle.farm_live.specs.declared.slot.Token.{Token}
 use Rattle.farm_live.specs.declared.slot.View.{View}
 use Rattle.farm_live.specs.declared.live.Seat.{Seat}
-use Rattle.farm_live.specs.Live.{call_at, IsSeat, AreSeats}
+use Rattle.farm_live.specs.Live.{book_at, IsSeat, AreSeats}
 
 -- a property of each place after a write to one
-pub each_set : {X : Type 0} (P : ℕ → X → Type 0) (xs : List X) (i : ℕ) (y : X) → i < length xs → P i y → ((j : ℕ) (d : X) → j < length xs → P j (get_or xs j d)) →
+pub each_set : {X : Type 0} (P : ℕ → X → Type 0) (xs : List X) (i : ℕ) (y : X) → i < length xs → P i y →
+    ((j : ℕ) (d : X) → j < length xs → P j (get_or xs j d)) →
     (j : ℕ) (d : X) → j < length (set xs i y) → P j (get_or (set xs i y) j d)
 each_set P xs i y there new old j d in_range =
     let in_range' : j < length xs = omega (arith, length-set xs i y) in
@@ -24,22 +25,27 @@ same_default (x ∷ xs) zero a b h = refl
 same_default (x ∷ xs) (suc i) a b h = same_default xs i a b (omega arith)
 
 module _ {Q A : Type 0} (inbox : ℕ) (slots : List (Slotted (Option Token) (Doing Token View) Q A)) (caller : ℕ) where
+  -- one seat of a caller changes
   pub seats_set : (seats : List Seat) (k : ℕ) (s : Seat) → AreSeats inbox slots caller seats → k < length slots →
-      ((slot : Slotted (Option Token) (Doing Token View) Q A) → IsSeat (call_at inbox k) (get_or slots k slot) caller s) → AreSeats inbox slots caller (set seats k s)
+      ((slot : Slotted (Option Token) (Doing Token View) Q A) → IsSeat (book_at inbox k) (get_or slots k slot) caller s) →
+      AreSeats inbox slots caller (set seats k s)
   seats_set seats k s all there new = record {
     one_each = length-set seats k s ∙ all.one_each;
-    each = λ j slot d h. each_set (λ i x. IsSeat (call_at inbox i) (get_or slots i slot) caller x) seats k s (omega (arith, all.one_each)) (new slot)
+    each = λ j slot d h. each_set (λ i x. IsSeat (book_at inbox i) (get_or slots i slot) caller x) seats k s (omega (arith, all.one_each)) (new slot)
         (λ i e g. all.each i slot e (omega (arith, all.one_each))) j d (omega (arith, length-set seats k s, all.one_each));
   }
 
   -- one function at the slot of call k
-  pub seats_after : (seats : List Seat) (k : ℕ) (slot : Slotted (Option Token) (Doing Token View) Q A) (s t : Seat) → AreSeats inbox slots caller seats → k < length slots →
-      slot ≡ get_or slots k slot → s ≡ get_or seats k s → ((book : BookOf) → IsSeat book slot caller s → IsSeat book slot caller t) → AreSeats inbox slots caller (set seats k t)
+  pub seats_after : (seats : List Seat) (k : ℕ) (slot : Slotted (Option Token) (Doing Token View) Q A) (s t : Seat) → AreSeats inbox slots caller seats →
+      k < length slots →
+      slot ≡ get_or slots k slot → s ≡ get_or seats k s → ((book : BookOf) → IsSeat book slot caller s → IsSeat book slot caller t) →
+      AreSeats inbox slots caller (set seats k t)
   seats_after seats k slot s t all there slot_is seat_is step =
       let here = all.each k slot s there in
-      let old : IsSeat (call_at inbox k) slot caller s =
-      subst (λ (x : Slotted (Option Token) (Doing Token View) Q A). IsSeat (call_at inbox k) x caller s) (sym slot_is)
-      (subst (λ (y : Seat). IsSeat (call_at inbox k) (get_or slots k slot) caller y) (sym seat_is) here) in
-      let new = step (call_at inbox k) old in
+      let old : IsSeat (book_at inbox k) slot caller s =
+      subst (λ (x : Slotted (Option Token) (Doing Token View) Q A). IsSeat (book_at inbox k) x caller s) (sym slot_is)
+      (subst (λ (y : Seat). IsSeat (book_at inbox k) (get_or slots k slot) caller y) (sym seat_is) here) in
+      let new = step (book_at inbox k) old in
       seats_set seats k t all there
-      (λ d. subst (λ (x : Slotted (Option Token) (Doing Token View) Q A). IsSeat (call_at inbox k) x caller t) (slot_is ∙ same_default slots k slot d there) new)
+      (λ d. subst (λ (x : Slotted (Option Token) (Doing Token View) Q A). IsSeat (book_at inbox k) x caller t) (slot_is ∙ same_default slots k slot d there)
+      new)

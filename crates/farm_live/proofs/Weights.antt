@@ -4,8 +4,8 @@ use mathlib.Core.Option.{some, some-ne-none}
 use lib.ListN.{get_elem?}
 use Rattle.std.proofs.lemmas.Bool.{cases_Bool, eqb-true}
 use Rattle.farm_live.specs.declared.slot.View.{View}
-use Rattle.farm_live.specs.Book.{Known, record_of, most_posts}
-use Rattle.farm_live.specs.Slot.{weigh, bit, is_at, times, ascending, all_callers, Fits}
+use Rattle.farm_live.specs.Book.{BookState, record_of, most_posts}
+use Rattle.farm_live.specs.Slot.{weigh, bit, is_at, times, ascending, all_callers, FitsBook}
 
 -- ---- weights
 
@@ -13,12 +13,14 @@ pub weigh-append : {X : Type 0} (h : X → ℕ) (xs ys : List X) → weigh h (xs
 weigh-append h [] ys = omega arith
 weigh-append h (x ∷ xs) ys = omega (arith, weigh-append h xs ys)
 
+-- the weight of a list whose item at an index changes
 pub weigh_set : {X : Type 0} (f : X → ℕ) (xs : List X) (port : ℕ) (v w : X) → get_elem? xs port ≡ some v → weigh f (set xs port w) + f v ≡ weigh f xs + f w
 weigh_set f [] zero v w e = absurd (some-ne-none v (sym e))
 weigh_set f [] (suc j) v w e = absurd (some-ne-none v (sym e))
 weigh_set f (x ∷ xs) zero v w e = let s : x ≡ v = cc in let t : f x ≡ f v = ap f s in omega arith
 weigh_set f (x ∷ xs) (suc j) v w e = omega (arith, weigh_set f xs j v w e)
 
+-- no item weighs more than the list, nor do two
 pub at-le : {X : Type 0} (f : X → ℕ) (xs : List X) (port : ℕ) (v : X) → get_elem? xs port ≡ some v → f v ≤ weigh f xs
 at-le f [] zero v e = absurd (some-ne-none v (sym e))
 at-le f [] (suc j) v e = absurd (some-ne-none v (sym e))
@@ -42,20 +44,24 @@ weigh-le n f g (x ∷ xs) each =
     let parts = mul-add n (g x) (weigh g xs) in
     omega arith
 
+-- where each item weighs nothing, so does the list
 pub none_weigh : {X : Type 0} (f : X → ℕ) (xs : List X) → ((j : ℕ) (x : X) → get_elem? xs j ≡ some x → f x ≡ 0) → weigh f xs ≡ 0
 none_weigh f [] each = refl
 none_weigh f (x ∷ xs) each = let first = each 0 x refl in let rest = none_weigh f xs (λ j y e. each (suc j) y e) in omega arith
 
 -- ---- callers' numbers
 
+-- no number before the first stands among numbers in order ..
 pub none_before : (c k n : ℕ) → c < k → times c (ascending k n) ≡ 0
 none_before c k zero lt = refl
 none_before c k (suc n) lt = ⊎_elim (λ (e : (k == c) ≡ true). absurd (let q : k ≡ c = eqb-true k c e in omega arith))
     (λ (e : (k == c) ≡ false). let q : bit (k == c) ≡ 0 = ap bit e in omega (arith, none_before c (suc k) n (omega arith))) (cases_Bool (k == c))
 
+-- .. and each at most once
 pub once_each : (c k n : ℕ) → times c (ascending k n) ≤ 1
 once_each c k zero = omega arith
-once_each c k (suc n) = ⊎_elim (λ (e : (k == c) ≡ true). let q : bit (k == c) ≡ 1 = ap bit e in let s : k ≡ c = eqb-true k c e in omega (arith, none_before c (suc k) n (omega arith)))
+once_each c k (suc n) = ⊎_elim (λ (e : (k == c) ≡ true). let q : bit (k == c) ≡ 1 = ap bit e in let s : k ≡ c = eqb-true k c e in omega
+    (arith, none_before c (suc k) n (omega arith)))
     (λ (e : (k == c) ≡ false). let q : bit (k == c) ≡ 0 = ap bit e in omega (arith, once_each c (suc k) n)) (cases_Bool (k == c))
 
 pub once : (c : ℕ) → weigh (is_at c) all_callers ≤ 1
@@ -68,7 +74,9 @@ has h v = weigh h v.callers
 abbrev pub held : View → ℕ
 held v = bit v.holds
 
-pub callers_set : (views : List View) (port : ℕ) (v w : View) → w.callers ≡ v.callers → get_elem? views port ≡ some v → ((h : ℕ → ℕ) → weigh (has h) views ≡ weigh h all_callers)
+-- a view that keeps its callers keeps all callers' weight
+pub callers_set : (views : List View) (port : ℕ) (v w : View) → w.callers ≡ v.callers → get_elem? views port ≡ some v →
+    ((h : ℕ → ℕ) → weigh (has h) views ≡ weigh h all_callers)
     → (h : ℕ → ℕ) → weigh (has h) (set views port w) ≡ weigh h all_callers
 callers_set views port v w same at all h = let e : has h w ≡ has h v = ap (weigh h) same in omega (arith, all h, weigh_set (has h) views port v w at, e)
 
@@ -80,7 +88,9 @@ pub all_callers_are : weigh (λ _. 1) all_callers ≡ 64
 unfolding all_callers
 all_callers_are = refl
 
-pub few_posts : (now : Known) (views : List View) → ((j : ℕ) (v : View) → get_elem? views j ≡ some v → Fits now v) → ((h : ℕ → ℕ) → weigh (has h) views ≡ weigh h all_callers)
+-- all views made at most so many posts
+pub few_posts : (now : BookState) (views : List View) → ((j : ℕ) (v : View) → get_elem? views j ≡ some v → FitsBook now v) →
+    ((h : ℕ → ℕ) → weigh (has h) views ≡ weigh h all_callers)
     → length (record_of now) ≡ weigh posts_made views → length (record_of now) ≤ most_posts
 few_posts now views fit all total =
     let le = weigh-le 16777216 posts_made (has (λ _. 1)) views (λ j v e. (fit j v e).few) in
@@ -88,6 +98,7 @@ few_posts now views fit all total =
     let count = all_callers_are in
     omega arith
 
+-- no callers
 pub no_callers : (cs : List ℕ) → weigh (λ _. 1) cs ≡ 0 → cs ≡ []
 no_callers [] e = refl
 no_callers (c ∷ cs) e = absurd (omega arith)

@@ -12,7 +12,7 @@ use Rattle.farm_live.specs.declared.post.Post.{Post}
 use Rattle.farm_live.specs.declared.post.Entry.{Entry}
 
 -- what it is of, the history, and the posts that wait
-pub record Known : Type 0 where
+pub record BookState : Type 0 where
   pub is_of : BookOf
   pub history : List Entry
   pub inbox : List Post
@@ -21,15 +21,15 @@ abbrev pub no_call : BookOf
 no_call = record { call = 0; room = 0 }
 
 -- a book before it has a call
-abbrev pub no_book : Known
+abbrev pub no_book : BookState
 no_book = record { is_of = no_call; history = []; inbox = [] }
 
 -- the book of a new call
-abbrev pub empty_book : BookOf → Known
+abbrev pub empty_book : BookOf → BookState
 empty_book is_of = record { is_of = is_of; history = []; inbox = [] }
 
 -- the posts of the history, and then those that wait
-unfoldable pub record_of : Known → List Post
+unfoldable pub record_of : BookState → List Post
 record_of k = map (λ e. e.post) k.history ++ k.inbox
 
 -- those of one caller
@@ -43,8 +43,8 @@ NumberedFrom n (p ∷ ps) = (p.number ≡ n) × NumberedFrom (suc n) ps
 
 -- ---- a call without orders: A-law, level 256, DTX as the uplink asks, no bridge
 
-abbrev pub who_of : ℕ → Who
-who_of call = record { number = call; law = A }
+abbrev pub who_at : ℕ → Who
+who_at call = record { number = call; law = A }
 
 -- the period of an entry
 abbrev pub period_of : Post → CallPeriod
@@ -65,16 +65,16 @@ IsWorkedFrom who ts (e ∷ es) =
 -- a history of a call from its first period on, by its octets; that each caller's posts are numbered in order, those of the
 -- history and those that wait, is said beside it
 abbrev pub IsLegal : ℕ → List Entry → Type 0
-IsLegal call es = IsWorkedFrom (who_of call) [] es
+IsLegal call es = IsWorkedFrom (who_at call) [] es
 
 -- ---- what is done with a book
 
 -- a post at the back of the inbox
-abbrev pub with_post : Known → Post → Known
+abbrev pub with_post : BookState → Post → BookState
 with_post k x = record { is_of = k.is_of; history = k.history; inbox = k.inbox ++ x ∷ [] }
 
 -- the first post was worked: its entry is one more at the end of the history
-pub record Worked (old : Known) (e : Entry) (new : Known) : Type 0 where
+pub record Worked (old : BookState) (e : Entry) (new : BookState) : Type 0 where
   pub first : (rest : List Post) × (old.inbox ≡ e.post ∷ rest) × (new.inbox ≡ rest)
   pub history : new.history ≡ old.history ++ e ∷ []
   pub is_of : new.is_of ≡ old.is_of

@@ -10,10 +10,10 @@ use Rattle.farm_live.specs.declared.slot.View.{View}
 use Rattle.farm_live.specs.declared.live.Seat.{Seat}
 use Rattle.farm_live.specs.declared.live.Caller.{Caller}
 use Rattle.farm_live.specs.declared.live.Closed.{Closed}
-use Rattle.farm_live.specs.Book.{Known, IsLegal}
+use Rattle.farm_live.specs.Book.{BookState, IsLegal}
 use Rattle.farm_live.specs.Slot.{times}
 use Rattle.farm_live.specs.Turns.{Closes}
-use Rattle.farm_live.specs.Live.{view_of, call_at, IsSeated}
+use Rattle.farm_live.specs.Live.{view_of, book_at, IsSeated}
 
 -- what these callers know of the call with index k: the view of each
 abbrev pub view_at : ℕ → Caller → List View
@@ -41,23 +41,24 @@ module _ {Q A : Type 0} where
   pub record AreJoined (inbox : ℕ) (slots : List (Slotted (Option Token) (Doing Token View) Q A)) (cs : List Caller) (seats : List Seat) : Type 0 where
     pub one_each : length seats ≡ length slots
     pub each : (k : ℕ) (slot : Slotted (Option Token) (Doing Token View) Q A) (s : Seat) → k < length slots →
-        IsJoined (call_at inbox k) (slice_index_or slots k slot) (views_at k cs) (slice_index_or seats k s)
+        IsJoined (book_at inbox k) (slice_index_or slots k slot) (views_at k cs) (slice_index_or seats k s)
 
   -- all these callers are of the farm
   abbrev pub AreAllSeated : ℕ → List (Slotted (Option Token) (Doing Token View) Q A) → List Caller → Type 0
   AreAllSeated inbox slots cs = All (IsSeated inbox slots) cs
 
   -- the first seats, so many, aren't joined with those of one caller more yet, and the others are
-  pub record AreHalfJoined (inbox : ℕ) (slots : List (Slotted (Option Token) (Doing Token View) Q A)) (cs : List Caller) (c : Caller) (n : ℕ) (seats : List Seat) : Type 0 where
+  pub record AreHalfJoined (inbox : ℕ) (slots : List (Slotted (Option Token) (Doing Token View) Q A)) (cs : List Caller) (c : Caller) (n : ℕ)
+      (seats : List Seat) : Type 0 where
     pub one_each : length seats ≡ length slots
     pub done : (k : ℕ) (slot : Slotted (Option Token) (Doing Token View) Q A) (s : Seat) → n ≤ k → k < length slots →
-        IsJoined (call_at inbox k) (slice_index_or slots k slot) (views_at k cs ++ view_at k c) (slice_index_or seats k s)
+        IsJoined (book_at inbox k) (slice_index_or slots k slot) (views_at k cs ++ view_at k c) (slice_index_or seats k s)
     pub left : (k : ℕ) (slot : Slotted (Option Token) (Doing Token View) Q A) (s : Seat) → k < n → k < length slots →
-        IsJoined (call_at inbox k) (slice_index_or slots k slot) (views_at k cs) (slice_index_or seats k s)
+        IsJoined (book_at inbox k) (slice_index_or slots k slot) (views_at k cs) (slice_index_or seats k s)
 
 -- the closed call's entries and what is left of it are those of a book that was taken for good by one with this view
 abbrev pub IsClosedAs : ℕ → View → Closed → Type 0
-IsClosedAs call v d = (b : Known) × Closes v b × (d.call ≡ call) × (d.entries.items ≡ b.history) × (d.left.items ≡ b.inbox)
+IsClosedAs call v d = (b : BookState) × Closes v b × (d.call ≡ call) × (d.entries.items ≡ b.history) × (d.left.items ≡ b.inbox)
 
 -- this call was closed by what these views tell, and its history is legal
 abbrev pub IsClosedBy : ℕ → List View → Closed → Type 0

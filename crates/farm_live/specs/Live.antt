@@ -14,15 +14,15 @@ use Rattle.farm_live.specs.declared.live.PostFault.{PostFault}
 use Rattle.farm_live.specs.declared.live.PostFault.TheVariants as fault
 use Rattle.farm_live.specs.Book.{of_caller}
 use Rattle.farm_live.specs.Slot.{times, all_callers}
-use Rattle.farm_live.specs.Turns.{HasPosted, new_view}
+use Rattle.farm_live.specs.Turns.{IsPosted, new_view}
 
 -- what a caller knows of a call
 abbrev pub view_of : Seat → View
 view_of s = view s.pass
 
 -- what the call with this index, from 0, is: its number is one more
-abbrev pub call_at : ℕ → ℕ → BookOf
-call_at inbox k = record { call = k + 1; room = inbox }
+abbrev pub book_at : ℕ → ℕ → BookOf
+book_at inbox k = record { call = k + 1; room = inbox }
 
 -- the post that a caller makes next
 abbrev pub next_post : ℕ → List ℕ → List ℕ → View → Post
@@ -30,9 +30,9 @@ next_post caller up pcm v = record { caller = caller; number = length (of_caller
 
 -- Ok gives the post's number, Full gives the post back
 abbrev pub HasAnswered : Post → View → View → Result ℕ PostFault → Type 0
-HasAnswered x v w (Ok number) = HasPosted x v w posted.Did × (number ≡ x.number)
-HasAnswered x v w (Err (fault.Full post)) = HasPosted x v w posted.Full × (post ≡ x)
-HasAnswered x v w (Err fault.Busy) = HasPosted x v w posted.Busy
+HasAnswered x v w (Ok number) = IsPosted x v w posted.Did × (number ≡ x.number)
+HasAnswered x v w (Err (fault.Full post)) = IsPosted x v w posted.Full × (post ≡ x)
+HasAnswered x v w (Err fault.Busy) = IsPosted x v w posted.Busy
 
 module _ {Q A : Type 0} where
   -- a caller's seat at the slot of a call, in between its functions: the caller doesn't have the book in hand, is one of
@@ -49,7 +49,7 @@ module _ {Q A : Type 0} where
   pub record AreSeats (inbox : ℕ) (slots : List (Slotted (Option Token) (Doing Token View) Q A)) (caller : ℕ) (seats : List Seat) : Type 0 where
     pub one_each : length seats ≡ length slots
     pub each : (k : ℕ) (slot : Slotted (Option Token) (Doing Token View) Q A) (s : Seat) → k < length slots →
-        IsSeat (call_at inbox k) (slice_index_or slots k slot) caller (slice_index_or seats k s)
+        IsSeat (book_at inbox k) (slice_index_or slots k slot) caller (slice_index_or seats k s)
 
   abbrev pub IsSeated : ℕ → List (Slotted (Option Token) (Doing Token View) Q A) → Caller → Type 0
   IsSeated inbox slots c = AreSeats inbox slots c.number c.seats.items
@@ -81,7 +81,7 @@ module _ {Q A : Type 0} where
   -- seats at the first calls, of a caller with these numbers
   abbrev pub AreNew : List ℕ → ℕ → List (Slotted (Option Token) (Doing Token View) Q A) → List Seat → Type 0
   AreNew callers inbox slots seats = (k : ℕ) (slot : Slotted (Option Token) (Doing Token View) Q A) (s : Seat) → k < length seats →
-      IsNewSeat callers (call_at inbox k) (slice_index_or slots k slot) (slice_index_or seats k s)
+      IsNewSeat callers (book_at inbox k) (slice_index_or slots k slot) (slice_index_or seats k s)
 
   -- .. and one at each call
   abbrev pub IsNewRow : List ℕ → ℕ → List (Slotted (Option Token) (Doing Token View) Q A) → List Seat → Type 0

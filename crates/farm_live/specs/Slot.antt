@@ -9,7 +9,7 @@ use Rattle.farm_live.specs.declared.slot.Token.{Token}
 use Rattle.farm_live.specs.declared.slot.Token.TheVariants.{Here, Out}
 use Rattle.farm_live.specs.declared.slot.Taken.{Taken}
 use Rattle.farm_live.specs.declared.slot.Taken.TheVariants.{Got, Busy, Again}
-use Rattle.farm_live.specs.Book.{Known, no_book, no_call, record_of, of_caller, NumberedFrom, most_posts}
+use Rattle.farm_live.specs.Book.{BookState, no_book, no_call, record_of, of_caller, NumberedFrom, most_posts}
 
 abbrev pub StartsWith : {X : Type 0} → List X → List X → Type 0
 StartsWith {X} longer begin = (rest : List X) × (longer ≡ begin ++ rest)
@@ -44,22 +44,22 @@ abbrev pub books : Token → ℕ
 books (Here b) = 1
 books Out = 0
 
-abbrev pub IsBook : Known → Token → Type 0
+abbrev pub IsBook : BookState → Token → Type 0
 IsBook now (Here b) = b ≡ now
 IsBook now Out = Unit {0}
 
-abbrev pub AllBooks : Known → List Token → Type 0
+abbrev pub AllBooks : BookState → List Token → Type 0
 AllBooks now [] = Unit {0}
 AllBooks now (x ∷ xs) = IsBook now x × AllBooks now xs
 
 -- ---- what the callers know
 
 -- the book begins with what was seen of it: the history with the history, the record with the record
-pub record BeginsWith (now : Known) (seen : Known) : Type 0 where
+pub record BeginsWith (now : BookState) (seen : BookState) : Type 0 where
   pub history : StartsWith now.history seen.history
   pub posts : StartsWith (record_of now) (record_of seen)
 
-abbrev pub AllSeen : Known → List Known → Type 0
+abbrev pub AllSeen : BookState → List BookState → Type 0
 AllSeen now [] = Unit {0}
 AllSeen now (k ∷ ks) = BeginsWith now k × AllSeen now ks
 
@@ -71,7 +71,7 @@ abbrev pub own_posts : ℕ → List Post → List Post
 own_posts zero posts = []
 own_posts (suc n) posts = posts
 
-pub record Fits (now : Known) (v : View) : Type 0 where
+pub record FitsBook (now : BookState) (v : View) : Type 0 where
   pub held : v.holds ≡ true → v.taken ≡ now
   pub seen : AllSeen now v.seen
   pub made : (c : ℕ) → of_caller c v.made ≡ own_posts (times c v.callers) (of_caller c (record_of now))
@@ -86,12 +86,12 @@ pub record IsRecord (posts : List Post) : Type 0 where
 
 abbrev pub IsSlot : List Token → List View → Type 0
 IsSlot items views =
-    (now : Known)
+    (now : BookState)
     × (weigh (λ v. bit v.holds) views + weigh books items ≡ 1)
     × AllBooks now items
     × IsRecord (record_of now)
     × ((h : ℕ → ℕ) → weigh (λ v. weigh h v.callers) views ≡ weigh h all_callers)
-    × ((port : ℕ) (v : View) → get_elem? views port ≡ some v → Fits now v)
+    × ((port : ℕ) (v : View) → get_elem? views port ≡ some v → FitsBook now v)
     × (length (record_of now) ≡ weigh (λ v. length v.made) views)
 
 -- ---- the steps
@@ -101,11 +101,11 @@ abbrev pub founder : View
 founder = record { callers = all_callers; is_of = no_call; holds = true; taken = no_book; seen = []; made = []; takings = 0; misses = 0 }
 
 -- the first number goes to a new view, which has seen as much, and the others stay
-abbrev pub rest_of : View → View
-rest_of v = record v { callers = drop 1 v.callers }
+abbrev pub rest_view : View → View
+rest_view v = record v { callers = drop 1 v.callers }
 
-abbrev pub first_of : View → View
-first_of v = record { callers = take 1 v.callers; is_of = v.is_of; holds = false; taken = no_book; seen = v.seen; made = []; takings = 0; misses = 0 }
+abbrev pub first_view : View → View
+first_view v = record { callers = take 1 v.callers; is_of = v.is_of; holds = false; taken = no_book; seen = v.seen; made = []; takings = 0; misses = 0 }
 
 -- one view takes in another, which is then spent
 abbrev pub both_of : View → View → View
@@ -134,11 +134,11 @@ pub record HasMissed (v w : View) : Type 0 where
   pub others : number_of_callers v < 64
 
 -- the book was taken
-abbrev pub took : View → Known → View
+abbrev pub took : View → BookState → View
 took v b = record v { holds = true; taken = b; seen = b ∷ []; takings = v.takings + 1 }
 
 -- what the rule tells of a book that was taken
-pub record Tells (v : View) (b : Known) : Type 0 where
+pub record BookTells (v : View) (b : BookState) : Type 0 where
   pub seen : AllSeen b v.seen
   pub made : (c : ℕ) → of_caller c v.made ≡ own_posts (times c v.callers) (of_caller c (record_of b))
   pub is_of : (c : ℕ) → 0 < times c v.callers → v.is_of ≡ b.is_of
@@ -147,15 +147,15 @@ pub record Tells (v : View) (b : Known) : Type 0 where
   pub mine : length v.made ≤ 16777216 * number_of_callers v
 
 abbrev pub Took : View → Token → View → Type 0
-Took v (Here b) w = (w ≡ took v b) × Tells v b
+Took v (Here b) w = (w ≡ took v b) × BookTells v b
 Took v Out w = HasMissed v w
 
 -- the posts that are in the book and weren't when it was taken
-abbrev pub added : View → Known → List Post
+abbrev pub added : View → BookState → List Post
 added v b = drop (length (record_of v.taken)) (record_of b)
 
 -- the book was given back
-abbrev pub gave : View → Known → View
+abbrev pub gave : View → BookState → View
 gave v b = record v { is_of = b.is_of; holds = false; seen = b ∷ []; made = v.made ++ added v b }
 
 abbrev pub Gave : View → Token → View → Type 0
@@ -164,7 +164,7 @@ Gave v Out w = w ≡ v
 
 -- it may be given back like this: it begins with what was taken, and the posts that are new are numbered on, and are
 -- of this view's callers
-pub record May (v : View) (b : Known) : Type 0 where
+pub record May (v : View) (b : BookState) : Type 0 where
   pub begins : BeginsWith b v.taken
   pub own : (c : ℕ) → times c v.callers ≡ 0 → of_caller c (added v b) ≡ []
   pub numbered : (c : ℕ) → NumberedFrom (length (of_caller c v.made)) (of_caller c (added v b))
@@ -172,7 +172,7 @@ pub record May (v : View) (b : Known) : Type 0 where
   -- it is of the same call, or this view has all callers
   pub is_of : (b.is_of ≡ v.taken.is_of) × (v.is_of ≡ v.taken.is_of) ⊎ ((h : ℕ → ℕ) → weigh h v.callers ≡ weigh h all_callers)
 
-abbrev pub MatchTaken : Taken → (Known → Type 0) → Type 0 → Type 0 → Type 0
+abbrev pub MatchTaken : Taken → (BookState → Type 0) → Type 0 → Type 0 → Type 0
 MatchTaken (Got b) book busy again = book b
 MatchTaken Busy book busy again = busy
 MatchTaken Again book busy again = again

@@ -10,7 +10,7 @@ use Rattle.farm_live.specs.declared.turns.Turn.{Turn}
 use Rattle.farm_live.specs.declared.turns.Turn.TheVariants as turn
 use Rattle.farm_live.specs.declared.turns.Look.{Look}
 use Rattle.farm_live.specs.declared.turns.Look.TheVariants as look
-use Rattle.farm_live.specs.Book.{Known, no_book, empty_book, record_of, of_caller, NumberedFrom, IsLegal, with_post, Worked, is_of_post, most_posts}
+use Rattle.farm_live.specs.Book.{BookState, no_book, empty_book, record_of, of_caller, NumberedFrom, IsLegal, with_post, Worked, is_of_post, most_posts}
 use Rattle.farm_live.specs.Slot.{AllSeen, own_posts, times, all_callers, number_of_callers, HasMissed}
 
 -- The book was taken once. It begins with all that was seen of it, its history is legal, each caller's posts in it are
@@ -28,7 +28,7 @@ pub record Held (v w : View) : Type 0 where
   pub mine : length v.made ≤ 16777216 * number_of_callers v
 
 -- .. and it was given back as `back`, with these posts more
-pub record Turned (v w : View) (back : Known) (more : List Post) : Type 0 where
+pub record Turned (v w : View) (back : BookState) (more : List Post) : Type 0 where
   pub took : Held v w
   pub free : w.holds ≡ false
   pub is_of : w.is_of ≡ v.is_of
@@ -39,22 +39,23 @@ pub record Turned (v w : View) (back : Known) (more : List Post) : Type 0 where
 abbrev pub Looked : View → View → Type 0
 Looked v w = Turned v w w.taken []
 
--- The post stands at the back of the inbox, if that isn't full. A call is busy where another caller has its book in hand, which changes the count of misses alone.
-abbrev pub HasPosted : Post → View → View → Posted → Type 0
-HasPosted x v w posted.Did = Turned v w (with_post w.taken x) (x ∷ []) × (length w.taken.inbox < v.is_of.room)
-HasPosted x v w posted.Full = Looked v w × (length w.taken.inbox ≡ v.is_of.room)
-HasPosted x v w posted.Busy = HasMissed v w
+-- The post stands at the back of the inbox, if that isn't full. A call is busy where another caller has its book in hand,
+-- which changes the count of misses alone.
+abbrev pub IsPosted : Post → View → View → Posted → Type 0
+IsPosted x v w posted.Did = Turned v w (with_post w.taken x) (x ∷ []) × (length w.taken.inbox < v.is_of.room)
+IsPosted x v w posted.Full = Looked v w × (length w.taken.inbox ≡ v.is_of.room)
+IsPosted x v w posted.Busy = HasMissed v w
 
 -- The first post of the inbox as taken was worked, and its entry is one more at the end of the history.
-pub record HasWorked (v w : View) (e : Entry) : Type 0 where
-  pub back : Known
+pub record HasWorkedPost (v w : View) (e : Entry) : Type 0 where
+  pub back : BookState
   pub worked : Worked w.taken e back
   pub legal : IsLegal back.is_of.call back.history
   pub turned : Turned v w back []
 
 abbrev pub HasTurned : {E : Type 0} → View → View → Result Turn E → Type 0
 HasTurned v w (Ok (turn.Did caller number place)) =
-    (e : Entry) × HasWorked v w e × (caller ≡ e.post.caller) × (number ≡ e.post.number) × (place ≡ length w.taken.history)
+    (e : Entry) × HasWorkedPost v w e × (caller ≡ e.post.caller) × (number ≡ e.post.number) × (place ≡ length w.taken.history)
 HasTurned v w (Ok turn.Idle) = Looked v w × (w.taken.inbox ≡ [])
 HasTurned v w (Ok turn.Busy) = HasMissed v w
 HasTurned v w (Err _) = Looked v w
@@ -79,7 +80,7 @@ new_view callers is_of = record {
 }
 
 -- What the book tells a view that takes it for good.
-pub record Closes (v : View) (b : Known) : Type 0 where
+pub record Closes (v : View) (b : BookState) : Type 0 where
   pub legal : IsLegal b.is_of.call b.history
   pub begins : AllSeen b v.seen
   pub numbered : (c : ℕ) → NumberedFrom 0 (of_caller c (record_of b))

@@ -4,7 +4,7 @@ ghost use Rattle.std.specs.Prelude.{◌≡◌, ◌<◌, ◌↔◌, ◌+◌, IsTr
 ghost use Rattle.call_number.specs.CallNumber.{IsCallNumber};
 ghost use Rattle.call_leg.specs.Memory.{periods_of_leg};
 ghost use Rattle.farm_live.specs.Step.{WorksOn};
-ghost use Rattle.farm_live.specs.Book.{Known, empty_book, with_post, Worked, IsLegal, is_of_post};
+ghost use Rattle.farm_live.specs.Book.{BookState, empty_book, with_post, Worked, IsLegal, is_of_post};
 
 use crate::post::{BookOf, Entry, Post};
 use call_leg::Leg;
@@ -28,13 +28,13 @@ impl Model for Book {
     ghost use Rattle.call_leg.specs.Settings.{new_settings};
     ghost use Rattle.call_leg.specs.Memory.{periods_of_leg};
     ghost use Rattle.call_leg.specs.Stands.{Stands};
-    ghost use Rattle.farm_live.specs.Book.{Known, who_of, IsLegal, periods_after};
+    ghost use Rattle.farm_live.specs.Book.{BookState, who_at, IsLegal, periods_after};
 
-    ghost Value = { Known };
+    ghost Value = { BookState };
 
     ghost view = { λ b. record { is_of = b.of; history = b.history.items; inbox = b.inbox.items } };
 
-    ghost invariant = { λ b. IsLegal b.of.call b.history.items × Stands (who_of b.of.call) (periods_after [] b.history.items) new_settings b.leg × (periods_of_leg b.leg ≡ length b.history.items) × (b.of.room ≡ b.inbox.capacity) × (b.left.items ≡ []) × (b.inbox.capacity ≤ vec_capacity b.left) };
+    ghost invariant = { λ b. IsLegal b.of.call b.history.items × Stands (who_at b.of.call) (periods_after [] b.history.items) new_settings b.leg × (periods_of_leg b.leg ≡ length b.history.items) × (b.of.room ≡ b.inbox.capacity) × (b.left.items ≡ []) × (b.inbox.capacity ≤ vec_capacity b.left) };
 }
 
 impl Book {

@@ -7,8 +7,8 @@
 //!
 //! The rule of a slot ties all callers' passes of it together. From it come the promises: a history is that of one call
 //! whose periods are worked one after another; it begins with all that a caller saw of it before; each caller's posts
-//! stand in it, and then in the inbox, once and in order. Whether a post is ever worked, in which order posts of different callers are, and that
-//! the functions return (they wait for a queue) is not proved.
+//! stand in it, and then in the inbox, once and in order. Whether a post is ever worked, in which order posts of
+//! different callers are, and that the functions return (they wait for a queue) is not proved.
 //!
 //! - `post`: what callers post, and what comes of it.
 //! - `book`: the book of a call.
@@ -24,13 +24,13 @@
 //! slots are this project's own. `live_run` drives it, for the command `live`.
 #![tactic(auto)]
 
-pub mod book;
+mod book;
 mod closing;
 mod laws;
 mod live;
 mod opening;
 mod post;
-pub mod slot;
+mod slot;
 mod turns;
 
 pub use laws::one_caller_is_never_busy;

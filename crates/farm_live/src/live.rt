@@ -34,7 +34,7 @@ pub struct Closed {
     pub left: Vec<Post>,
 }
 
-// What a caller has at one call: its pass of the slot, and how many posts it made.
+/// What a caller has at one call: its pass of the slot, and how many posts it made.
 #[derive(Drop)]
 pub(crate) struct Seat {
     pub(crate) pass: SlotPass,

@@ -8,7 +8,7 @@
 ghost use Rattle.std.specs.Prelude.{◌≡◌, ◌<◌, ℕ, true, false, [], ◌∷◌};
 ghost use Rattle.crossbeam_queue.specs.Passes.{view, IsSamePass, IsPassOf, ruled_capacity};
 ghost use Rattle.farm_live.specs.declared.slot.Token.TheVariants.{Here, Out};
-ghost use Rattle.farm_live.specs.Slot.{MatchTaken, Took, Gave, May, times, first_of, rest_of, both_of};
+ghost use Rattle.farm_live.specs.Slot.{MatchTaken, Took, Gave, May, times, first_view, rest_view, both_of};
 
 use crate::book::Book;
 use crate::post::{BookOf, Post};
@@ -85,11 +85,11 @@ impl Outcome<Token, View> for Gives {
 pub struct Callers;
 
 impl Split<View> for Callers {
-    ghost use Rattle.farm_live.specs.Slot.{first_of, rest_of};
+    ghost use Rattle.farm_live.specs.Slot.{first_view, rest_view};
 
-    ghost left = { rest_of };
+    ghost left = { rest_view };
 
-    ghost right = { first_of };
+    ghost right = { first_view };
 }
 
 impl Join<View> for Callers {
@@ -109,8 +109,11 @@ pub type SlotPass = Pass<Token, View>;
 /// What came of taking the book: the book; that another caller has it; or nothing.
 #[derive(Drop)]
 pub enum Taken {
+    /// The book.
     Got(Book),
+    /// Another caller has it.
     Busy,
+    /// Nothing: it has to be tried again.
     Again,
 }
 
@@ -153,7 +156,7 @@ pub fn pass_of_first(slot: &Slot, me: &mut SlotPass) -> SlotPass
     requires fresh { (view me.old).made ≡ [] }
     requires free { (view me.old).holds ≡ false }
     ensures slot { IsSamePass me.old me.new × IsPassOf slot.now result }
-    ensures views { (view me.new ≡ rest_of (view me.old)) × (view result ≡ first_of (view me.old)) }
+    ensures views { (view me.new ≡ rest_view (view me.old)) × (view result ≡ first_view (view me.old)) }
 {
     slot.another::<Callers>(me)
 }

@@ -5,7 +5,7 @@ ghost use Rattle.call_number.specs.CallNumber.{IsCallNumber};
 ghost use Rattle.crossbeam_queue.specs.Passes.{view, IsSamePass, IsPassOf, ruled_capacity};
 ghost use Rattle.farm_live.specs.Book.{of_caller};
 ghost use Rattle.farm_live.specs.Slot.{times, all_callers, HasMissed, took};
-ghost use Rattle.farm_live.specs.Turns.{Held, HasPosted, HasTurned, HasLooked, Closes, new_view};
+ghost use Rattle.farm_live.specs.Turns.{Held, IsPosted, HasTurned, HasLooked, Closes, new_view};
 
 use crate::book::Book;
 use crate::post::{BookOf, Entry, Post};
@@ -17,8 +17,11 @@ use std::thread;
 /// What came of a post.
 #[derive(Drop)]
 pub enum Posted {
+    /// It stands in the inbox.
     Did,
+    /// The inbox has as many posts as it may.
     Full,
+    /// Another caller has the book.
     Busy,
 }
 
@@ -77,7 +80,7 @@ pub(crate) fn post<R: Wait>(rt: &R, slot: &Slot, me: &mut SlotPass, x: Post) -> 
     requires number { x.number ≡ length (of_caller x.caller (view me.old).made) }
     requires few { length (view me.old).made < 16777216 }
     ensures slot { IsSamePass me.old me.new }
-    ensures did { HasPosted x (view me.old) (view me.new) result }
+    ensures did { IsPosted x (view me.old) (view me.new) result }
 {
     let Some(mut book) = take_or_miss(rt, slot, me) else {
         return Posted::Busy;

@@ -1,3 +1,4 @@
 -- Lemmas on reading the desk.
 mod Filling
+mod Marking
 mod Told

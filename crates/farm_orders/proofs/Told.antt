@@ -1,5 +1,5 @@
 -- From the answer to a text to that of the desk whose reads gave it, and to that of a desk that tells its text.
-use Rattle.std.proofs.Common.{◌≡◌, inl, inr, ℕ, ◌<◌, ◌≤◌, List, ◌++◌, length, take, Result, Ok, Err, Option, Some, None, sym, ◌∙◌, ap, subst, append-nil, length-append, length-take, arith}
+use Rattle.std.proofs.Common.{◌≡◌, inl, inr, ℕ, ◌<◌, ◌≤◌, List, ◌++◌, length, Result, Ok, Err, Option, Some, None, sym, ◌∙◌, ap, subst, append-nil, length-append, arith}
 use Rattle.std.specs.Prelude.{IsErrOf}
 use Rattle.std.specs.Io.KnownBytes.{Consumes, IsAtEnd}
 use Rattle.trau_io.specs.Desks.{DeskState}
@@ -9,9 +9,9 @@ use Rattle.trau_orders.specs.declared.order.Order.{Order}
 use Rattle.trau_orders.specs.Text.{text_lines, IsFirstBad, IsWithin}
 use Rattle.farm_orders.specs.declared.fault.OrdersFault.{OrdersFault}
 use Rattle.farm_orders.specs.declared.fault.OrdersFault.TheVariants.{Unread, TooLong, Line, Memory}
-use Rattle.trau_io.specs.declared.transfer.Filled.TheVariants as filled
-use Rattle.farm_orders.specs.Block.{FillsBlock}
-use Rattle.farm_orders.specs.Reading.{AnswersText, AnswersReads, ReadsOrders, AnswersTold, fault_of}
+use Rattle.farm_orders.specs.Faults.{fault_of}
+use Rattle.farm_orders.specs.Given.{GivesPart, GivesWhole}
+use Rattle.farm_orders.specs.Reading.{AnswersText, AnswersReads, ReadsOrders, AnswersTold}
 
 -- a text's own fault is the answer to it
 pub faulty : (text : List ℕ) (read : Result (List Order) OrderFault) (fault : OrderFault) → read ≡ Err fault → (IsErrOf read orders.TooLong → 1048576 < length text) → (IsErrOf read orders.TooMany → 65536 < length (text_lines text)) →
@@ -30,29 +30,20 @@ ended now text (Err TooLong) end short (inr many) = inr (end, many)
 ended now text (Err (Line n)) end short answer = (end, answer)
 ended now text (Err Memory) end short answer = tt
 
--- the answer to the front of a block, at whose end the desk is at its end
-pub reads_ended : (before now : DeskState) (n : ℕ) (block text : List ℕ) (result : Result (List Order) OrdersFault) → FillsBlock before now (filled.Ended n) block → length block ≡ 1048577 → text ≡ block → AnswersText (take n text) result → ReadsOrders before now result
-reads_ended before now n block text result fills size same answer =
-    let few : length (take n block) ≤ 1048576 = simp length-take (omega (arith, fills.stopped.0)) in record {
-      given = take n block;
-      consumed = fills.given;
-      bound = omega arith;
-      answer = ended now (take n block) result fills.stopped.1 few (subst (λ t. AnswersText (take n t) result) same answer);
-    }
+pub reads_whole : (before now : DeskState) (text : List ℕ) (result : Result (List Order) OrdersFault) → GivesWhole 1048576 before now text → AnswersText text result → ReadsOrders before now result
+reads_whole before now text result gives answer = record {
+  given = text;
+  consumed = gives.consumed;
+  bound = omega (arith, gives.within);
+  answer = ended now text result gives.at_end gives.within answer;
+}
 
--- a full block is just past the limit
-pub reads_full : (before now : DeskState) (block : List ℕ) → FillsBlock before now filled.Whole block → length block ≡ 1048577 → ReadsOrders before now (Err TooLong)
-reads_full before now block fills size = record { given = block; consumed = fills.given; bound = omega arith; answer = inl size }
-
--- the front of a block, behind which the desk failed
-pub reads_failed : (before now : DeskState) (n : ℕ) (block : List ℕ) → FillsBlock before now (filled.Failed n) block → length block ≡ 1048577 → ReadsOrders before now (Err Unread)
-reads_failed before now n block fills size =
-    let few : length (take n block) ≤ 1048576 = simp length-take (omega (arith, fills.stopped.0)) in record {
-      given = take n block;
-      consumed = fills.given;
-      bound = omega arith;
-      answer = few;
-    }
+-- of a text that wasn't read whole the answer is why
+pub reads_part : (before now : DeskState) (fault : OrdersFault) → GivesPart 1048576 before now fault → ReadsOrders before now (Err fault)
+reads_part before now Unread gives = record { given = gives.given; consumed = gives.consumed; bound = omega (arith, gives.cause); answer = gives.cause }
+reads_part before now TooLong gives = record { given = gives.given; consumed = gives.consumed; bound = omega (arith, gives.cause); answer = inl gives.cause }
+reads_part before now (Line n) gives = absurd gives.cause
+reads_part before now Memory gives = record { given = gives.given; consumed = gives.consumed; bound = omega (arith, ap length gives.cause); answer = tt }
 
 -- the answer isn't that the text is unread
 pub not_unread : (text : List ℕ) (result : Result (List Order) OrdersFault) → AnswersText text result → IsErrOf result Unread → ⊥
@@ -63,12 +54,12 @@ not_unread text (Err (Line n)) answer = λ e. cc
 not_unread text (Err Memory) answer = λ e. cc
 
 -- what was read to the end is the whole text
-whole : (text : List ℕ) (now : Option (List ℕ)) (given : List ℕ) → Consumes (Some text) now given → IsAtEnd now → given ≡ text
+pub whole : (text : List ℕ) (now : Option (List ℕ)) (given : List ℕ) → Consumes (Some text) now given → IsAtEnd now → given ≡ text
 whole text None given consumed end = absurd consumed
 whole text (Some rest) given consumed end = sym (consumed ∙ ap (λ l. given ++ l) end ∙ append-nil given)
 
 -- what was read is no longer than the text
-front : (text : List ℕ) (now : Option (List ℕ)) (given : List ℕ) → Consumes (Some text) now given → length given ≤ length text
+pub front : (text : List ℕ) (now : Option (List ℕ)) (given : List ℕ) → Consumes (Some text) now given → length given ≤ length text
 front text None given consumed = absurd consumed
 front text (Some rest) given consumed = omega (arith, ap length consumed, length-append given rest)
 

@@ -1,20 +1,12 @@
 -- What the reading of a run's orders answers (this project's profile).
 use Rattle.std.specs.Prelude.{◌≡◌, ◌<◌, ◌≤◌, ◌⊎◌, ℕ, List, length, Result, Ok, Err}
-use Rattle.std.specs.Io.KnownBytes.{Consumes, IsAtEnd}
+use Rattle.std.specs.Io.KnownBytes.{IsAtEnd}
 use Rattle.trau_io.specs.Desks.{DeskState}
 use Rattle.trau_orders.specs.Text.{text_lines, AreLines, IsFirstBad, IsWithin, IsBeyond}
-use Rattle.trau_orders.specs.declared.fault.OrderFault.{OrderFault}
-use Rattle.trau_orders.specs.declared.fault.OrderFault.TheVariants as orders
 use Rattle.trau_orders.specs.declared.order.Order.{Order}
 use Rattle.farm_orders.specs.declared.fault.OrdersFault.{OrdersFault}
 use Rattle.farm_orders.specs.declared.fault.OrdersFault.TheVariants.{Unread, TooLong, Line, Memory}
-
--- the fault that a text's own fault comes to
-abbrev pub fault_of : OrderFault → OrdersFault
-fault_of orders.TooLong = TooLong
-fault_of orders.TooMany = TooLong
-fault_of (orders.Line n) = Line n
-fault_of orders.Memory = Memory
+use Rattle.farm_orders.specs.Given.{ReadsUpTo}
 
 -- the answer to a whole text: its orders, or that it isn't within the limits, or its first line that isn't in the
 -- grammar; or want of memory
@@ -35,11 +27,8 @@ AnswersReads now given (Err (Line n)) = IsAtEnd now.to_come × AnswersText given
 AnswersReads now given (Err Memory) = Unit {0}
 
 -- the reads gave so many octets, the next of the desk, and the answer is theirs
-pub record ReadsOrders (before now : DeskState) (result : Result (List Order) OrdersFault) : Type 0 where
-  pub given : List ℕ
-  pub consumed : Consumes before.to_come now.to_come given
-  pub bound : length given ≤ 1048577
-  pub answer : AnswersReads now given result
+abbrev pub ReadsOrders : DeskState → DeskState → Result (List Order) OrdersFault → Type 0
+ReadsOrders before now result = ReadsUpTo 1048576 before now (λ given. AnswersReads now given result)
 
 -- the answer of a desk that tells its text: that of the whole text, unless the desk failed
 abbrev pub AnswersTold : List ℕ → Result (List Order) OrdersFault → Type 0

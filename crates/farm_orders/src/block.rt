@@ -1,4 +1,5 @@
-// A block that is filled from the desk.
+//! A block that is filled from the desk.
+
 ghost use Rattle.farm_orders.specs.Block.{FillsBlock};
 
 use trau_io::{Desk, Filled};

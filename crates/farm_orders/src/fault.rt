@@ -1,4 +1,6 @@
-// Why the orders of a run aren't taken.
+//! Why the orders of a run aren't taken, or a mark before them.
+
+use farm_checkpoint::MarkFault;
 use std::alloc::AllocError;
 use thiserror::Error;
 use trau_orders::OrderFault;
@@ -32,7 +34,7 @@ impl From<AllocError> for OrdersFault {
 
 impl From<OrderFault> for OrdersFault {
     ghost use Rattle.std.specs.Prelude.{◌≡◌};
-    ghost use Rattle.farm_orders.specs.Reading.{fault_of};
+    ghost use Rattle.farm_orders.specs.Faults.{fault_of};
 
     ghost from_gives = { λ fault told. told ≡ fault_of fault };
 
@@ -41,6 +43,42 @@ impl From<OrderFault> for OrdersFault {
             OrderFault::TooLong | OrderFault::TooMany => OrdersFault::TooLong,
             OrderFault::Line(number) => OrdersFault::Line(number),
             OrderFault::Memory => OrdersFault::Memory,
+        }
+    }
+}
+
+/// Why a mark and the orders behind it aren't taken.
+#[derive(Clone, Copy, Debug, Drop, PartialEq, Eq, Error)]
+pub enum MarkedFault {
+    /// The first line that isn't in the grammar of a mark, counted from 1.
+    #[error("save line {0}")]
+    Mark(u32),
+    /// The text as a whole, or its orders, whose lines are counted from the first behind the mark.
+    #[error("{0}")]
+    Orders(OrdersFault),
+}
+
+impl From<OrdersFault> for MarkedFault {
+    ghost use Rattle.std.specs.Prelude.{◌≡◌};
+    ghost use Rattle.farm_orders.specs.declared.fault.MarkedFault.TheVariants.{Orders};
+
+    ghost from_gives = { λ fault told. told ≡ Orders fault };
+
+    fn from(fault: OrdersFault) -> MarkedFault {
+        MarkedFault::Orders(fault)
+    }
+}
+
+impl From<MarkFault> for MarkedFault {
+    ghost use Rattle.std.specs.Prelude.{◌≡◌};
+    ghost use Rattle.farm_orders.specs.Faults.{marked_fault_of};
+
+    ghost from_gives = { λ fault told. told ≡ marked_fault_of fault };
+
+    fn from(fault: MarkFault) -> MarkedFault {
+        match fault {
+            MarkFault::Line(number) => MarkedFault::Mark(number),
+            MarkFault::Memory => MarkedFault::Orders(OrdersFault::Memory),
         }
     }
 }

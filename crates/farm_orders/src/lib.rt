@@ -1,19 +1,24 @@
-//! The orders of a run, read from the desk.
+//! The orders of a run, read from the desk; and those behind the mark from which a run goes on.
 //!
 //! Right below the top call: takes the desk and gives the list of orders that its text spells, or says why there is
 //! none. The text is read here, in whatever pieces the desk gives it; its size, its lines and its grammar are the
-//! matter of `trau_orders`.
+//! matter of `trau_orders`, the grammar of a mark before them that of `farm_checkpoint`.
 //!
-//! `fault` has why orders aren't taken, `block` the reads, `read` the whole.
+//! `fault` has why orders or a mark aren't taken, `block` the reads, `text` the whole text, `read` the orders, `marked` a
+//! mark and the orders behind it.
 //!
 //! The limits and the order in which faults are looked for are this project's profile.
-//! Definitions: `specs/Block.antt` (a block that is filled from the desk), `specs/Reading.antt` (what the whole
-//! reading answers, and of which text).
+//! Definitions: `specs/Block.antt` (a block that is filled from the desk), `specs/Given.antt` (the text that the desk
+//! gives), `specs/Reading.antt` (what the whole reading of orders answers, and of which text), `specs/Marked.antt` (the
+//! same of a mark and orders).
 #![tactic(auto)]
 
 mod block;
 mod fault;
+mod marked;
 mod read;
+mod text;
 
-pub use fault::OrdersFault;
+pub use fault::{MarkedFault, OrdersFault};
+pub use marked::{MarkedOrders, read_marked_orders};
 pub use read::read_orders;

@@ -1,26 +1,19 @@
-// The orders of a run.
-ghost use Rattle.std.specs.Prelude.{◌≡◌, ◌≤◌, ℕ, List, length, Some, IfOk, IsErrOf};
+//! The orders of a run.
+
+ghost use Rattle.std.specs.Prelude.{◌≡◌, ◌≤◌, ℕ, List, Some, IsErrOf};
 ghost use Rattle.trau_io.specs.Lines.{Rose};
 ghost use Rattle.farm_orders.specs.Reading.{AnswersText, ReadsOrders, AnswersTold};
 
 use crate::OrdersFault;
-use crate::block::fill;
-use std::alloc::{AllocError, Global};
-use trau_io::{Desk, Filled};
+use crate::text::read_text;
+use std::alloc::Global;
+use trau_io::Desk;
 use trau_orders::Orders;
 
-// One octet more than the orders may have.
-const ROOM: usize = 1_048_577;
+const MOST_OCTETS: usize = 1_048_576;
 
-// A block of octets 0.
-fn block_of(alloc: Global, size: usize) -> Result<Vec<u8>, AllocError>
-    ensures { IfOk result (λ block. length block.items ≡ size) }
-{
-    vec![in alloc; 0; size]
-}
-
-// The orders of a whole text.
-fn orders_of(alloc: Global, text: &[u8]) -> Result<Orders, OrdersFault>
+/// The orders of a whole text.
+pub(crate) fn orders_of(alloc: Global, text: &[u8]) -> Result<Orders, OrdersFault>
     ensures { AnswersText text.now result }
 {
     Ok(Orders::parse(alloc, text)?)
@@ -44,10 +37,6 @@ pub fn read_orders<D: Desk>(alloc: Global, desk: &mut D) -> Result<Orders, Order
     // Of a desk that tells its text, the answer is that of the whole text.
     ensures told { (text : List ℕ) → (D.desk desk.old).to_come ≡ Some text → AnswersTold text result }
 {
-    let mut block = block_of(alloc, ROOM)?;
-    match fill(desk, &mut block) {
-        Filled::Whole => Err(OrdersFault::TooLong),
-        Filled::Ended(length) => orders_of(alloc, &block[..length]),
-        Filled::Failed(_) => Err(OrdersFault::Unread),
-    }
+    let text = read_text(alloc, desk, MOST_OCTETS)?;
+    orders_of(alloc, &text)
 }

@@ -100,8 +100,10 @@ last_end calls = fold (λ at call. max at call.end.at) 0 calls
 
 -- end period P calls N left L
 abbrev pub last_line : List CallLine → ℕ → List ℕ
-last_line calls left = line_of (codes "end" ∷ codes "period" ∷ decimal (last_end calls) ∷ codes "calls" ∷ decimal (length calls) ∷ codes "left" ∷ decimal left ∷ [])
+last_line calls left =
+    line_of (codes "end" ∷ codes "period" ∷ decimal (last_end calls) ∷ codes "calls" ∷ decimal (length calls) ∷ codes "left" ∷ decimal left ∷ [])
 
 -- the whole text, each list in its order
 unfoldable pub report_text : ReportView → List ℕ
-report_text r = flat_map reply_line r.replies ++ flat_map span_line r.spans ++ flat_map call_lines r.calls ++ flat_map failed_line r.failed ++ last_line r.calls r.left
+report_text r = flat_map reply_line r.replies ++ flat_map span_line r.spans ++ flat_map call_lines r.calls ++ flat_map failed_line r.failed
+    ++ last_line r.calls r.left

@@ -4,7 +4,7 @@
 //! the rounds told them, and gives the text that goes to the desk.
 //!
 //! The text is this project's profile. `report` has the report, `lines` how each kind of line is written, `text` the
-//! whole, `sums` a line of sums, as drills have behind or in place of a report.
+//! whole and the failed lines alone, `sums` a line of sums, as drills have behind or in place of a report.
 //! Definitions: `specs/Lines.antt` (each line, and the whole text), `specs/Numbered.antt` (the numbers of a line),
 //! `specs/Sums.antt`, `specs/View.antt`.
 #![tactic(auto)]
@@ -16,4 +16,4 @@ mod text;
 
 pub use report::{CallLine, Report, SpanLine};
 pub use sums::{put_sums, sum};
-pub use text::write_report;
+pub use text::{write_failed, write_report};

@@ -1,9 +1,10 @@
-// The lines of a report, each written at the end of a text. A text is of no use where memory ran out. A line is mostly a
-// table of its numbers, each behind its words: one loop writes them all.
+//! The lines of a report, each written at the end of a text. A text is of no use where memory ran out. A line is mostly a
+//! table of its numbers, each behind its words: one loop writes them all.
+
 ghost use Rattle.std.specs.Prelude.{◌≡◌, ◌++◌, ◌∷◌, [], ℕ, List, codes, decimal, OnOk, string_bytes};
 ghost use Rattle.trau_io.specs.Texts.{side_word};
 ghost use Rattle.farm_report.specs.Lines.{line_of, reply_line, span_line, cause_words, call_lines, end_line, counts_line, failed_line, last_line, last_end};
-ghost use Rattle.farm_report.specs.Numbered.{numbered};
+ghost use Rattle.farm_report.specs.Numbered.{numbers_told};
 
 use crate::{CallLine, SpanLine};
 use std::alloc::AllocError;
@@ -28,7 +29,7 @@ fn put_side(text: &mut String, before: &str, side: Side, after: &str) -> Result<
 
 // Numbers, each behind its words, and then the words of the end.
 fn put_numbers(text: &mut String, numbers: &[(&str, u64)], end: &str) -> Result<(), AllocError>
-    ensures { OnOk result (string_bytes text.new ≡ string_bytes text.old ++ numbered numbers.now end.now) }
+    ensures { OnOk result (string_bytes text.new ≡ string_bytes text.old ++ numbers_told numbers.now end.now) }
 {
     for &(words, number) in numbers {
         write!(text, "{words}{number}")?;
@@ -188,6 +189,7 @@ impl Told for Line {
     }
 }
 
+/// Writes the last line, with how many of the orders were left.
 pub(crate) fn put_last(text: &mut String, calls: &[CallLine], left: u32) -> Result<(), AllocError>
     ensures { OnOk result (string_bytes text.new ≡ string_bytes text.old ++ last_line calls.now left) }
 {

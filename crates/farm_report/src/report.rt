@@ -1,4 +1,5 @@
-// What a report tells.
+//! What a report tells.
+
 use std::marker::Model;
 use switchboard::{Reply, Span};
 use trau_io::{CallEnd, Counts, Line};

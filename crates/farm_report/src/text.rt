@@ -1,11 +1,13 @@
-// The whole text of a report.
+//! The whole text of a report, and of its failed lines alone.
+
 ghost use Rattle.std.specs.Prelude.{◌≡◌, ◌++◌, IfOk, OnOk, string_bytes};
 ghost use Rattle.std.specs.List.{flat_map};
-ghost use Rattle.farm_report.specs.Lines.{report_text};
+ghost use Rattle.farm_report.specs.Lines.{failed_line, report_text};
 
 use crate::Report;
 use crate::lines::{Told, put_last};
 use std::alloc::{AllocError, Global};
+use trau_io::Line;
 
 // The lines of each of these, in order.
 fn put_all<T: Told>(text: &mut String, told: &[T]) -> Result<(), AllocError>
@@ -35,5 +37,14 @@ pub fn write_report(alloc: Global, report: &Report) -> Result<String, AllocError
 {
     let mut text = String::new(alloc);
     put_report(&mut text, report)?;
+    Ok(text)
+}
+
+/// The text of the lines that failed, as a report has it: a line for each.
+pub fn write_failed(alloc: Global, failed: &[Line]) -> Result<String, AllocError>
+    ensures { IfOk result (λ text. string_bytes text ≡ flat_map failed_line failed.now) }
+{
+    let mut text = String::new(alloc);
+    put_all(&mut text, failed)?;
     Ok(text)
 }

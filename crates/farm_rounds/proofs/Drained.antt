@@ -28,7 +28,9 @@ use Rattle.farm_rounds.proofs.Partners.{past_all}
 
 -- ---- the seats
 
-any_same : {X : Type 0} (p q : X → Bool) (d : X) (xs ys : List X) → length ys ≡ length xs → ((k : ℕ) → k < length xs → p (get_or ys k d) ≡ q (get_or xs k d)) → list_any p ys ≡ list_any q xs
+-- lists whose items answer the same, one by one, have one that answers yes or have none
+any_same : {X : Type 0} (p q : X → Bool) (d : X) (xs ys : List X) → length ys ≡ length xs → ((k : ℕ) → k < length xs → p (get_or ys k d) ≡ q (get_or xs k d)) →
+    list_any p ys ≡ list_any q xs
 any_same p q d [] [] l same = refl
 any_same p q d [] (y ∷ ys) l same = absurd (omega (arith, l))
 any_same p q d (x ∷ xs) [] l same = absurd (omega (arith, l))
@@ -41,14 +43,18 @@ any_same p q d (x ∷ xs) (y ∷ ys) l same =
 abbrev pub GoAsBefore : List SeatMemory → List SeatMemory → Type 0
 GoAsBefore seats now = (k : ℕ) → k < length seats → (call_at now k ≡ call_at seats k) × (goes_on_in (seat_at now k) ≡ goes_on_in (seat_at seats k))
 
+-- then the same calls go on
 pub same_going : (seats now : List SeatMemory) → length now ≡ length seats → GoAsBefore seats now → goes_on_call now ≡ goes_on_call seats
 same_going seats now l same = λ i. λ c. each c i where
   each : (c : ℕ) → goes_on_call now c ≡ goes_on_call seats c
-  each c = any_same (λ s. (s.place.call == c) && goes_on_in s) (λ s. (s.place.call == c) && goes_on_in s) no_seat seats now l (λ k b. ap (λ (n : ℕ). (n == c) && goes_on_in (seat_at now k)) (same k b).0
+  each c =
+      any_same (λ s. (s.place.call == c) && goes_on_in s) (λ s. (s.place.call == c) && goes_on_in s) no_seat seats now l
+      (λ k b. ap (λ (n : ℕ). (n == c) && goes_on_in (seat_at now k)) (same k b).0
       ∙ ap (λ (g : Bool). (call_at seats k == c) && g) (same k b).1)
 
 -- ---- the calls
 
+-- the call that is found with a number has it
 its_number : (gs : List Group) (c : ℕ) (x : Call) → call_in gs c ≡ Some x → x.number ≡ c
 its_number gs c x e = by (group_in gs c) refl e where
   of : (g : Group) → holds c g ≡ true → (call_of c g).number ≡ c
@@ -63,7 +69,8 @@ its_number gs c x e = by (group_in gs c) refl e where
   by (Some g) q u = let same : call_of c g ≡ x = cc in ap (λ (y : Call). y.number) (sym same) ∙ of g (found_there (holds c) gs g q).1
 
 module _ (stays : ℕ → Bool) (seat : ℕ → SeatMemory) (c : ℕ) where
-  goes_is : (o : Option Call) → ((x : Call) → o ≡ Some x → x.number ≡ c) → (not (is_some (if stays c then None else o)) && is_some o) ≡ is_some (option_and_then (call_left stays seat) o)
+  goes_is : (o : Option Call) → ((x : Call) → o ≡ Some x → x.number ≡ c) →
+      (not (is_some (if stays c then None else o)) && is_some o) ≡ is_some (option_and_then (call_left stays seat) o)
   goes_is None its = by (stays c) where
     by : (b : Bool) → (not (is_some {T = Call} (if b then None else None)) && false) ≡ false
     by true = refl
@@ -112,9 +119,11 @@ module _ (stays : ℕ → Bool) (seat : ℕ → SeatMemory) (c : ℕ) where
   stands_on (Some t) None p w = absurd w
 
   -- of one that ends the counts are kept
-  keeps_counts : (h : Option CallHistory) (o : Option Call) (p : Option ℕ) (a b : Tally) → WorkedCall stays c h o p → KeepsTally (if stays c then None else o) a b → b ≡ (if stays c then a else kept_of h a)
+  keeps_counts : (h : Option CallHistory) (o : Option Call) (p : Option ℕ) (a b : Tally) → WorkedCall stays c h o p →
+      KeepsTally (if stays c then None else o) a b → b ≡ (if stays c then a else kept_of h a)
   keeps_counts h o p a b w = by (stays c) h o w where
-    by : (g : Bool) (h : Option CallHistory) (o : Option Call) → WorkedCall stays c h o p → KeepsTally (if g then None else o) a b → b ≡ (if g then a else kept_of h a)
+    by : (g : Bool) (h : Option CallHistory) (o : Option Call) → WorkedCall stays c h o p → KeepsTally (if g then None else o) a b →
+        b ≡ (if g then a else kept_of h a)
     by true h o w k = k
     by false None None w k = k
     by false (Some t) (Some x) w k = k (whose c t) t.periods t.now w.1
@@ -123,6 +132,7 @@ module _ (stays : ℕ → Bool) (seat : ℕ → SeatMemory) (c : ℕ) where
 
 -- ---- the farm
 
+-- The farm after a round: its groups, the open calls' numbers and what is kept of those that have ended.
 pub record IsPassed (r : WorkedMemory) (after : List Group) (numbers : List ℕ) (keeps : List Tally) : Type 0 where
   pub groups : AreGroups r.ended after
   pub alive : AreLive numbers after
@@ -132,16 +142,21 @@ pub record IsPassed (r : WorkedMemory) (after : List Group) (numbers : List ℕ)
   pub partners : (c : ℕ) → partner_in after c ≡ partner_past (goes_on_call r.seats) (partner_in (groups_from r.jobs)) c
   pub failed : KnowFailed r.seats after
   pub history : (h : ℕ → Option CallHistory) → WorkedStand h r → GroupsStand (those_that (goes_on_call r.seats) h) after
-  pub tallies : (h : ℕ → Option CallHistory) → WorkedStand h r → (c : ℕ) → tally_in keeps c ≡ (if goes_on_call r.seats c then tally_in r.tallies c else kept_of (h c) (tally_in r.tallies c))
+  pub tallies : (h : ℕ → Option CallHistory) → WorkedStand h r → (c : ℕ) →
+      tally_in keeps c ≡ (if goes_on_call r.seats c then tally_in r.tallies c else kept_of (h c) (tally_in r.tallies c))
 
-passed_left : (r : WorkedMemory) (live : List ℕ) (tallies : List Tally) → IsWorked r → Settled (goes_on_call r.seats) (groups_from r.jobs) r.live live r.tallies tallies →
+-- it has the groups that are left of the round's
+passed_left : (r : WorkedMemory) (live : List ℕ) (tallies : List Tally) → IsWorked r →
+    Settled (goes_on_call r.seats) (groups_from r.jobs) r.live live r.tallies tallies →
     IsPassed r (groups_left (goes_on_call r.seats) (seat_of r.seats) (groups_from r.jobs)) live tallies
 passed_left r live tallies w s =
     let stays : ℕ → Bool = goes_on_call r.seats in
     let gs : List Group = groups_from r.jobs in
     let left : List Group = groups_left stays (seat_of r.seats) gs in
-    let found : (c : ℕ) → call_in left c ≡ option_and_then (call_left stays (seat_of r.seats)) (call_in gs c) = λ c. calls_left stays (seat_of r.seats) r.ended gs c (w.groups.apart c) w.groups.each in
-    let gone : (c : ℕ) → is_among live c ≡ (not (is_some (ended_in stays gs c)) && is_some (call_in gs c)) = λ c. s.numbers c ∙ ap (λ (b : Bool). not (is_some (ended_in stays gs c)) && b) (w.alive.numbers c) in
+    let found : (c : ℕ) → call_in left c ≡ option_and_then (call_left stays (seat_of r.seats)) (call_in gs c) =
+    λ c. calls_left stays (seat_of r.seats) r.ended gs c (w.groups.apart c) w.groups.each in
+    let gone : (c : ℕ) → is_among live c ≡ (not (is_some (ended_in stays gs c)) && is_some (call_in gs c)) =
+    λ c. s.numbers c ∙ ap (λ (b : Bool). not (is_some (ended_in stays gs c)) && b) (w.alive.numbers c) in
     record {
       groups = groups_of_left stays (seat_of r.seats) r.ended gs w.groups;
       alive = record {
@@ -154,27 +169,39 @@ passed_left r live tallies w s =
       live = λ c. gone c ∙ live_is stays (seat_of r.seats) c (call_in gs c) ∙ ap (λ (b : Bool). b && stays c) (sym (w.alive.numbers c));
       partners = λ c. past_all stays (seat_of r.seats) gs c (w.groups.apart c);
       failed = λ c x e. knows stays (seat_of r.seats) c (call_in gs c) x (its_number gs c) (sym (found c) ∙ e);
-      history = λ h k c. subst (λ (p : Option ℕ). CallStands c (those_that stays h c) (call_in left c) p) (sym (past_all stays (seat_of r.seats) gs c (w.groups.apart c)))
-          (subst (λ (o : Option Call). CallStands c (those_that stays h c) o (partner_past stays (partner_in gs) c)) (sym (found c)) (stands_on stays (seat_of r.seats) c (h c) (call_in gs c) (partner_in gs c) (k c)));
-      tallies = λ h k c. keeps_counts stays (seat_of r.seats) c (h c) (call_in gs c) (partner_in gs c) (tally_in r.tallies c) (tally_in tallies c) (k c) (s.tallies c);
+      history =
+          λ h k c. subst (λ (p : Option ℕ). CallStands c (those_that stays h c) (call_in left c) p)
+          (sym (past_all stays (seat_of r.seats) gs c (w.groups.apart c)))
+          (subst (λ (o : Option Call). CallStands c (those_that stays h c) o (partner_past stays (partner_in gs) c)) (sym (found c))
+          (stands_on stays (seat_of r.seats) c (h c) (call_in gs c) (partner_in gs c) (k c)));
+      tallies =
+          λ h k c. keeps_counts stays (seat_of r.seats) c (h c) (call_in gs c) (partner_in gs c) (tally_in r.tallies c) (tally_in tallies c) (k c)
+          (s.tallies c);
     }
 
+-- the same, of groups that are these
 pub passed : (r : WorkedMemory) (groups : List Group) (live : List ℕ) (tallies : List Tally) → IsWorked r →
-    groups ≡ groups_left (goes_on_call r.seats) (seat_of r.seats) (groups_from r.jobs) → Settled (goes_on_call r.seats) (groups_from r.jobs) r.live live r.tallies tallies → IsPassed r groups live tallies
+    groups ≡ groups_left (goes_on_call r.seats) (seat_of r.seats) (groups_from r.jobs) →
+    Settled (goes_on_call r.seats) (groups_from r.jobs) r.live live r.tallies tallies → IsPassed r groups live tallies
 passed r groups live tallies w e s = subst (λ (gs : List Group). IsPassed r gs live tallies) (sym e) (passed_left r live tallies w s)
 
 -- the seats are those of the round's calls
 pub have_seats : (r : WorkedMemory) (numbers : List ℕ) (seats : List SeatMemory) → IsWorked r → numbers ≡ r.live → seats ≡ r.seats → HaveSeats numbers seats
 have_seats r numbers seats w en es =
-    subst (λ (xs : List ℕ). HaveSeats xs seats) (sym en) (subst (λ (ss : List SeatMemory). HaveSeats r.live ss) (sym es) (record { number = w.numbers; aligned = w.aligned; rising = w.alive.rising }))
+    subst (λ (xs : List ℕ). HaveSeats xs seats) (sym en)
+    (subst (λ (ss : List SeatMemory). HaveSeats r.live ss) (sym es) (record { number = w.numbers; aligned = w.aligned; rising = w.alive.rising }))
 
 -- ---- a round whose lines are written
 
-pub drained_as_before : (before after : ℕ → Side → LineState) (seats now : List SeatMemory) → Each Drains before after seats now (length seats) → GoAsBefore seats now
-drained_as_before before after seats now drains k l = let kept = (drains k l).kept in (ap (λ (s : SeatMemory). s.place.call) kept, ap (λ (s : SeatMemory). goes_on_in s) kept)
+-- writing the outgoing lines changes neither
+pub drained_as_before : (before after : ℕ → Side → LineState) (seats now : List SeatMemory) → Each Drains before after seats now (length seats) →
+    GoAsBefore seats now
+drained_as_before before after seats now drains k l =
+    let kept = (drains k l).kept in (ap (λ (s : SeatMemory). s.place.call) kept, ap (λ (s : SeatMemory). goes_on_in s) kept)
 
 -- it is still worked
-pub still_worked : (r : WorkedMemory) (now : List SeatMemory) → IsWorked r → length now ≡ length r.seats → GoAsBefore r.seats now → Rising now → IsWorked (record r { seats = now })
+pub still_worked : (r : WorkedMemory) (now : List SeatMemory) → IsWorked r → length now ≡ length r.seats → GoAsBefore r.seats now → Rising now →
+    IsWorked (record r { seats = now })
 still_worked r now w number same rising = record {
   numbers = number ∙ w.numbers;
   aligned = λ k l. let b : k < length r.seats = omega (arith, l, number) in (same k b).0 ∙ w.aligned k b;
@@ -186,5 +213,7 @@ still_worked r now w number same rising = record {
 }
 
 -- and stands for the same periods
-pub still_stand : (h : ℕ → Option CallHistory) (r : WorkedMemory) (now : List SeatMemory) → goes_on_call now ≡ goes_on_call r.seats → WorkedStand h r → WorkedStand h (record r { seats = now })
-still_stand h r now goes stand = subst (λ (f : ℕ → Bool). (c : ℕ) → WorkedCall f c (h c) (call_in (groups_from r.jobs) c) (partner_in (groups_from r.jobs) c)) (sym goes) stand
+pub still_stand : (h : ℕ → Option CallHistory) (r : WorkedMemory) (now : List SeatMemory) → goes_on_call now ≡ goes_on_call r.seats → WorkedStand h r →
+    WorkedStand h (record r { seats = now })
+still_stand h r now goes stand =
+    subst (λ (f : ℕ → Bool). (c : ℕ) → WorkedCall f c (h c) (call_in (groups_from r.jobs) c) (partner_in (groups_from r.jobs) c)) (sym goes) stand

@@ -24,9 +24,16 @@ All-second P [] ys h = h
 All-second P (x ∷ xs) ys h = All-second P xs ys (All-tail P x (xs ++ ys) h)
 
 -- so many more and less in sums
-pub sum_exchanged : (f : Group → ℕ) (out into before now : List Group) → Exchanges out into before now → sum_by f now + sum_by f out ≡ sum_by f before + sum_by f into
+pub sum_exchanged : (f : Group → ℕ) (out into before now : List Group) → Exchanges out into before now →
+    sum_by f now + sum_by f out ≡ sum_by f before + sum_by f into
 sum_exchanged f out into before now e =
-    omega (arith, sum_by-IsPermutation f before (out ++ e.others) e.old, sum_by-IsPermutation f now (into ++ e.others) e.new, sum_by-append f out e.others, sum_by-append f into e.others)
+    omega (
+      arith,
+      sum_by-IsPermutation f before (out ++ e.others) e.old,
+      sum_by-IsPermutation f now (into ++ e.others) e.new,
+      sum_by-append f out e.others,
+      sum_by-append f into e.others,
+    )
 
 -- what is found afterwards
 pub record Exchanged (most : ℕ) (out into before now : List Group) : Type 0 where
@@ -34,6 +41,7 @@ pub record Exchanged (most : ℕ) (out into before now : List Group) : Type 0 wh
   pub found : (c : ℕ) → group_in now c ≡ option_or (group_in into c) (if list_any (holds c) out then None else group_in before c)
   pub size : calls_held now + calls_held out ≡ calls_held before + calls_held into
 
+-- groups of which some were exchanged for others are still groups, and every call is found where it should be
 pub exchanged : (most : ℕ) (out into before now : List Group) → Exchanges out into before now → AreGroups most before → All (IsGroup most) into →
     ((c : ℕ) → count_by (holds c) into + count_by (holds c) before ≤ 1 + count_by (holds c) out) → Exchanged most out into before now
 exchanged most out into before now e a each few =
@@ -42,7 +50,8 @@ exchanged most out into before now e a each few =
       groups = record {
         apart = fewer;
         each = All-permutation (IsGroup most) (into ++ e.others) now (IsPermutation-sym now (into ++ e.others) e.new)
-            (All-append (IsGroup most) into e.others each (All-second (IsGroup most) out e.others (All-permutation (IsGroup most) before (out ++ e.others) e.old a.each)));
+            (All-append (IsGroup most) into e.others each
+            (All-second (IsGroup most) out e.others (All-permutation (IsGroup most) before (out ++ e.others) e.old a.each)));
       };
       found = λ c. found_exchanged (holds c) out into e.others before now e.old e.new (a.apart c) (fewer c);
       size = sum_exchanged size_of out into before now e;

@@ -25,20 +25,24 @@ use Rattle.farm_rounds.specs.Acts.{new_call, joined, parted, set_by, freed, call
 use Rattle.farm_rounds.proofs.Finding.{none_passes, counted_none}
 use Rattle.farm_rounds.proofs.Exchanging.{Exchanges, exchanged}
 use Rattle.farm_rounds.proofs.Orders.{opened_calls, opened_partners}
-use Rattle.farm_rounds.proofs.Applying.{found_group}
+use Rattle.farm_rounds.proofs.Holding.{found_group}
 
+-- a farm of its parts
 abbrev pub make_farm : List Group → List ℕ → List Tally → List Line → ℕ → FarmMemory
 make_farm gs live kept failed ended = record { groups = gs; live = live; tallies = kept; failed = failed; ended = ended }
 
 -- ---- a call is opened
 
+-- where no call is found no group is
 no_group : (gs : List Group) (c : ℕ) → call_in gs c ≡ None → group_in gs c ≡ None
 no_group gs c = go (group_in gs c) where
   go : (r : Option Group) → option_map (call_of c) r ≡ None → r ≡ None
   go None e = refl
   go (Some g) e = absurd (cc)
 
-pub open_applied : (most c : ℕ) (law : Law) (before now : List Group) → Fits before (act.Opened c law) → AreGroups most before → now ≡ before ++ One (new_call c law) ∷ [] → Applied most (act.Opened c law) before now
+-- a new group of one new call opens that call
+pub open_applied : (most c : ℕ) (law : Law) (before now : List Group) → Fits before (act.Opened c law) → AreGroups most before →
+    now ≡ before ++ One (new_call c law) ∷ [] → Applied most (act.Opened c law) before now
 open_applied most c law before now fits k e =
     let none = no_group before c fits.1 in
     let ex : Exchanges [] (One (new_call c law) ∷ []) before now = record {
@@ -48,9 +52,11 @@ open_applied most c law before now fits k e =
     } in
     let call : IsCall most (new_call c law) = record { number = fits.0; worked = omega arith } in
     let each : All (IsGroup most) (One (new_call c law) ∷ []) = All-cons (IsGroup most) (One (new_call c law)) [] call (All-nil (IsGroup most)) in
-    let few : (d : ℕ) → count_by (holds d) (One (new_call c law) ∷ []) + count_by (holds d) before ≤ 1 + count_by (holds d) [] = λ d. elim (cases_Bool (c == d)) [
+    let few : (d : ℕ) → count_by (holds d) (One (new_call c law) ∷ []) + count_by (holds d) before ≤ 1 + count_by
+    (holds d) [] = λ d. elim (cases_Bool (c == d)) [
       | inl t ↦
-          let zero_before : count_by (holds d) before ≡ 0 = subst (λ (n : ℕ). count_by (holds n) before ≡ 0) (eqb-true c d t) (counted_none (holds c) before (none_passes (holds c) before none)) in
+          let zero_before : count_by (holds d) before ≡ 0 =
+          subst (λ (n : ℕ). count_by (holds n) before ≡ 0) (eqb-true c d t) (counted_none (holds c) before (none_passes (holds c) before none)) in
           simp t (omega (arith, zero_before))
       | inr f ↦ simp f (omega (arith, k.apart d))
     ] in
@@ -64,14 +70,17 @@ open_applied most c law before now fits k e =
 
 -- ---- the numbers of the open calls
 
+-- what a function makes of an item is there where the item is
 is_some-map : {A B : Type 0} (f : A → B) (o : Option A) → is_some (option_map f o) ≡ is_some o
 is_some-map f None = refl
 is_some-map f (Some x) = refl
 
+-- a partner that is set free is still there
 same_freed : (p : Option ℕ) (f : ℕ → Option Call) (d : ℕ) → is_some (freed p parted f d) ≡ is_some (f d)
 same_freed None f d = refl
 same_freed (Some q) f d = elim (cases_Bool (q == d)) [ inl t ↦ simp t (is_some-map parted (f d)) | inr g ↦ simp g refl ]
 
+-- the numbers of the open calls with that of a new one
 pub open_live : (most c : ℕ) (law : Law) (live now_live : List ℕ) (before now : List Group) → AreLive live before → Applied most (act.Opened c law) before now →
     ((d : ℕ) → is_among now_live d ≡ ((c == d) || is_among live d)) → IsRising now_live → length now_live ≡ length live + 1 → AreLive now_live now
 open_live most c law live now_live before now k p among rising long = record {
@@ -83,8 +92,10 @@ open_live most c law live now_live before now k p among rising long = record {
   count = omega (arith, p.held, k.count, long);
 }
 
-pub close_live : (most c : ℕ) (q : Option ℕ) (live now_live : List ℕ) (before now : List Group) → AreLive live before → Applied most (act.Closed c q) before now →
-    ((d : ℕ) → is_among now_live d ≡ (not (c == d) && is_among live d)) → IsRising now_live → length now_live + 1 ≡ length live → AreLive now_live now
+-- the numbers of the open calls without that of one that ends
+pub close_live : (most c : ℕ) (q : Option ℕ) (live now_live : List ℕ) (before now : List Group) → AreLive live before →
+    Applied most (act.Closed c q) before now → ((d : ℕ) → is_among now_live d ≡ (not (c == d) && is_among live d)) → IsRising now_live →
+    length now_live + 1 ≡ length live → AreLive now_live now
 close_live most c q live now_live before now k p among rising long = record {
   numbers = λ d. among d ∙ elim (cases_Bool (c == d)) [
     | inl t ↦ rw (p.calls d) (simp t refl)
@@ -94,6 +105,7 @@ close_live most c q live now_live before now k p among rising long = record {
   count = omega (arith, p.held, k.count, long);
 }
 
+-- a call that is changed is still there
 same_changed : (c : ℕ) (g : Call → Call) (f : ℕ → Option Call) (d : ℕ) → is_some (if c == d then option_map g (f d) else f d) ≡ is_some (f d)
 same_changed c g f d = elim (cases_Bool (c == d)) [ inl t ↦ simp t (is_some-map g (f d)) | inr e ↦ simp e refl ]
 
@@ -106,6 +118,7 @@ same_open (act.DtxSet c mode) f d s = same_changed c (set_by (act.DtxSet c mode)
 same_open (act.Opened c law) f d s = absurd s
 same_open (act.Closed c p) f d s = absurd s
 
+-- an act that neither opens a call nor ends one keeps how many there are
 same_held : (most : ℕ) (a : Act) (before now : List Group) → Stays a → Applied most a before now → calls_held now ≡ calls_held before
 same_held most (act.Bridged b c) before now s p = omega (arith, p.held)
 same_held most (act.Unbridged b c) before now s p = omega (arith, p.held)
@@ -114,6 +127,7 @@ same_held most (act.DtxSet c mode) before now s p = omega (arith, p.held)
 same_held most (act.Opened c law) before now s p = absurd s
 same_held most (act.Closed c q) before now s p = absurd s
 
+-- .. and their numbers
 pub stay_live : (most : ℕ) (a : Act) (live : List ℕ) (before now : List Group) → Stays a → AreLive live before → Applied most a before now → AreLive live now
 stay_live most a live before now s k p = record {
   numbers = λ d. k.numbers d ∙ sym (ap is_some (p.calls d) ∙ same_open a (call_in before) d s);
@@ -140,6 +154,7 @@ open_number most gs c k o = go (group_in gs c) refl o where
 
 -- ---- a farm with no call
 
+-- the parts of a farm with no call
 pub farm_new : (gs : List Group) (live : List ℕ) (kept : List Tally) (failed : List Line) → gs ≡ [] → live ≡ [] → kept ≡ replicate 4097 no_tally → failed ≡ [] →
     make_farm gs live kept failed 0 ≡ home_memory
 farm_new gs live kept failed eg el ek ef =
@@ -151,7 +166,9 @@ new_groups gs e = subst (λ (xs : List Group). AreGroups 0 xs) (sym e) (record {
 
 pub none_live : (live : List ℕ) (gs : List Group) → live ≡ [] → gs ≡ [] → AreLive live gs
 none_live live gs el eg =
-    subst (λ (xs : List ℕ). AreLive xs gs) (sym el) (subst (λ (xs : List Group). AreLive [] xs) (sym eg) (record { numbers = λ c. refl; rising = λ i j l lj. absurd (omega (arith, lj)); count = refl }))
+    subst (λ (xs : List ℕ). AreLive xs gs) (sym el)
+    (subst (λ (xs : List Group). AreLive [] xs) (sym eg) (record { numbers = λ c. refl; rising = λ i j l lj. absurd (omega (arith, lj)); count = refl }))
 
+-- no group stands for no history
 pub none_stand : (gs : List Group) → gs ≡ [] → GroupsStand (λ c. None) gs
 none_stand gs e = subst (λ (xs : List Group). GroupsStand (λ c. None) xs) (sym e) (λ c. refl)

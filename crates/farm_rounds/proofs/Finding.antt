@@ -10,10 +10,12 @@ use Rattle.std.proofs.lemmas.Option.{slice_get_past}
 use Rattle.std.proofs.lemmas.List.Sums.{sum_by-cons, sum_by-append}
 use Rattle.std.proofs.lemmas.List.Sorted.{list_any-IsPermutation, sum_by-IsPermutation, Contains-permutation}
 
+-- a number is 0 or at least 1
 pub cases_zero : (n : ℕ) → (n ≡ 0) ⊎ (1 ≤ n)
 cases_zero zero = inl refl
 cases_zero (suc n) = inr (omega arith)
 
+-- nothing else to choose from
 pub or_none : {X : Type 0} (o : Option X) → option_or o None ≡ o
 or_none None = refl
 or_none (Some x) = refl

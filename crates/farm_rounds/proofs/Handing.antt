@@ -1,122 +1,33 @@
--- Octets that go into jobs.
-use Rattle.std.proofs.Common.{◌≡◌, ◌≢◌, refl, sym, ap, ◌∙◌, subst, ℕ, zero, suc, ◌+◌, ◌-◌, ◌<◌, ◌≤◌, true, false, List, [], ◌∷◌, length, get_or, arith, inl, inr}
-use Rattle.std.specs.Prelude.{◌==◌, ◌||◌, slice_set}
+-- The octets of the seats go to the jobs of their calls.
+use Rattle.std.proofs.Common.{◌≡◌, ◌≢◌, refl, sym, ap, ◌∙◌, subst, ℕ, zero, suc, ◌+◌, ◌-◌, ◌<◌, ◌≤◌, true, List, [], ◌∷◌, length, get_or, arith, inl, inr}
+use Rattle.std.specs.Prelude.{slice_set}
 use Rattle.std.specs.List.{All}
 use Rattle.std.proofs.lemmas.List.Elements.{All-same, All-set, All-get_or}
-use Rattle.std.proofs.lemmas.Bool.{cases_Bool, cases_eq, cases_lt, eqb-true, eq-eqb, ne_eqb, or_cases}
-use Rattle.std.proofs.lemmas.List.{get_or_default, length-set, get_or-set_same, get_or-set_other}
+use Rattle.std.proofs.lemmas.Bool.{cases_eq, cases_lt}
+use Rattle.std.proofs.lemmas.List.{length-set, get_or-set_same, get_or-set_other}
 use Rattle.call_number.specs.CallNumber.{IsCallNumber}
 use Rattle.call_pair.specs.declared.job.Job.{Job}
-use Rattle.call_pair.specs.declared.job.Job.TheVariants.{One, Two}
-use Rattle.call_leg.specs.Memory.{LegMemory, periods_of_leg}
+use Rattle.call_leg.specs.Memory.{periods_of_leg}
 use Rattle.round_lines.specs.Places.{PlaceMemory, whole_in}
 use Rattle.call_pair.specs.Memory.{IoMemory, IsIo, places_left}
 use Rattle.call_pair.specs.Jobs.{has_call, half_of, with_io}
 use Rattle.round_lines.specs.Seats.{SeatMemory, Fits}
 use Rattle.round_lines.specs.Rounds.{Rising, no_seat, seat_at, call_at}
-use Rattle.std.proofs.Math.Seq.{map-set_same}
-use Rattle.farm_rounds.specs.declared.call.Call.{Call}
-use Rattle.farm_rounds.specs.declared.call.Group.TheVariants as group
 use Rattle.farm_rounds.specs.declared.entry.Entry.{Entry}
 use Rattle.farm_rounds.specs.Phased.{IsFresh, AreWithin}
-use Rattle.farm_rounds.specs.Rounds.{no_job, call_from, group_from, groups_from, IsTimely, job_at, half_at, HasJob, SameLegs, HaveJobs, HaveTime, AreHanded, AreSound, entry_at, octets_of}
+use Rattle.farm_rounds.specs.Rounds.{no_job, groups_from, IsTimely, job_at, half_at, HasJob, SameLegs, HaveJobs, HaveTime, AreHanded, AreSound, entry_at, octets_of}
+use Rattle.farm_rounds.proofs.JobOctets.{make_io, with_has, with_leg, with_same, with_other, groups_kept, with_time, with_fresh}
 
-abbrev make_call : ℕ → LegMemory → Call
-make_call n m = record { number = n; leg = m; down_failed = false; out_failed = false }
-
-abbrev pub make_io : ℕ → List ℕ → List ℕ → List ℕ → List ℕ → ℕ → IoMemory
-make_io call up pcm out down given = record { call = call; up = up; pcm = pcm; out = out; down = down; given = given; done = 0 }
-
--- ---- one job
-
-pub with_has : (j : Job) (io : IoMemory) (d : ℕ) → has_call j io.call ≡ true → has_call (with_io j io) d ≡ has_call j d
-with_has (One h) io d t = ap (λ (n : ℕ). n == d) (sym (eqb-true h.io.call io.call t))
-with_has (Two a b) io d t = elim (cases_Bool (a.io.call == io.call)) [
-  | inl u ↦ simp u (ap (λ (n : ℕ). (n == d) || (b.io.call == d)) (sym (eqb-true a.io.call io.call u)))
-  | inr f ↦ simp f (ap (λ (n : ℕ). (a.io.call == d) || (n == d)) (sym (eqb-true b.io.call io.call (second f))))
-]
-  where
-    second : (a.io.call == io.call) ≡ false → (b.io.call == io.call) ≡ true
-    second f = elim (or_cases (a.io.call == io.call) (b.io.call == io.call) t) [ inl u ↦ absurd (cc) | inr u ↦ u ]
-
-pub with_leg : (j : Job) (io : IoMemory) (d : ℕ) → has_call j io.call ≡ true → (half_of (with_io j io) d).leg ≡ (half_of j d).leg
-with_leg (One h) io d t = refl
-with_leg (Two a b) io d t = elim (cases_Bool (a.io.call == io.call)) [
-  | inl u ↦ elim (cases_Bool (a.io.call == d)) [
-    | inl v ↦ let w : (io.call == d) ≡ true = ap (λ (n : ℕ). n == d) (sym (eqb-true a.io.call io.call u)) ∙ v in simp (u, v, w) refl
-    | inr v ↦ let w : (io.call == d) ≡ false = ap (λ (n : ℕ). n == d) (sym (eqb-true a.io.call io.call u)) ∙ v in simp (u, v, w) refl
-  ]
-  | inr f ↦ elim (cases_Bool (a.io.call == d)) [ inl v ↦ simp (f, v) refl | inr v ↦ simp (f, v) refl ]
-]
-
--- the octets of its call
-with_same : (j : Job) (io : IoMemory) → has_call j io.call ≡ true → (half_of (with_io j io) io.call).io ≡ io
-with_same (One h) io t = refl
-with_same (Two a b) io t = elim (cases_Bool (a.io.call == io.call)) [
-  | inl u ↦ let w : (io.call == io.call) ≡ true = eq-eqb io.call io.call refl in simp (u, w) refl
-  | inr f ↦ simp f refl
-]
-
--- those of its other call stay
-pub with_other : (j : Job) (io : IoMemory) (d : ℕ) → has_call j io.call ≡ true → has_call j d ≡ true → d ≢ io.call → (half_of (with_io j io) d).io ≡ (half_of j d).io
-with_other (One h) io d t u ne = absurd (ne (sym (eqb-true h.io.call d u) ∙ eqb-true h.io.call io.call t))
-with_other (Two a b) io d t u ne = elim (cases_Bool (a.io.call == io.call)) [
-  | inl v ↦
-      let w : (io.call == d) ≡ false = ne_eqb io.call d (λ q. ne (sym q)) in
-      let x : (a.io.call == d) ≡ false = ap (λ (n : ℕ). n == d) (eqb-true a.io.call io.call v) ∙ w in
-      simp (v, w, x) refl
-  | inr f ↦ elim (cases_Bool (a.io.call == d)) [
-    | inl v ↦ simp (f, v) refl
-    | inr v ↦ absurd (ne (sym (eqb-true b.io.call d (second d u v)) ∙ eqb-true b.io.call io.call (second io.call t f)))
-  ]
-]
-  where
-    second : (n : ℕ) → (a.io.call == n) || (b.io.call == n) ≡ true → (a.io.call == n) ≡ false → (b.io.call == n) ≡ true
-    second n s f = elim (or_cases (a.io.call == n) (b.io.call == n) s) [ inl u ↦ absurd (cc) | inr u ↦ u ]
-
--- its calls and legs
-with_group : (j : Job) (io : IoMemory) → has_call j io.call ≡ true → group_from (with_io j io) ≡ group_from j
-with_group (One h) io t = ap (λ (n : ℕ). group.One (make_call n h.leg)) (sym (eqb-true h.io.call io.call t))
-with_group (Two a b) io t = elim (cases_Bool (a.io.call == io.call)) [
-  | inl u ↦ simp u (ap (λ (n : ℕ). group.Two (make_call n a.leg) (call_from b)) (sym (eqb-true a.io.call io.call u)))
-  | inr f ↦ simp f (ap (λ (n : ℕ). group.Two (call_from a) (make_call n b.leg)) (sym (eqb-true b.io.call io.call (second f))))
-]
-  where
-    second : (a.io.call == io.call) ≡ false → (b.io.call == io.call) ≡ true
-    second f = elim (or_cases (a.io.call == io.call) (b.io.call == io.call) t) [ inl u ↦ absurd (cc) | inr u ↦ u ]
-
-pub groups_kept : (jobs : List Job) (k : ℕ) (io : IoMemory) → k < length jobs → has_call (job_at jobs k) io.call ≡ true → groups_from (slice_set jobs k (with_io (job_at jobs k) io)) ≡ groups_from jobs
-groups_kept jobs k io l t = map-set_same group_from jobs k (with_io (job_at jobs k) io) no_job (with_group (job_at jobs k) io t)
-
--- the time that its calls have
-pub with_time : (most : ℕ) (j : Job) (io : IoMemory) → has_call j io.call ≡ true → IsTimely most j → periods_of_leg (half_of j io.call).leg + places_left io ≤ most → IsTimely most (with_io j io)
-with_time most (One h) io t k l = l
-with_time most (Two a b) io t k l = elim (cases_Bool (a.io.call == io.call)) [
-  | inl u ↦ simp u (simp u at l, k.1)
-  | inr f ↦ simp f (k.0, simp f at l)
-]
-
--- none of its places is done
-pub with_fresh : (most : ℕ) (j : Job) (io : IoMemory) → IsFresh most j → io.done ≡ 0 → io.given ≤ most → IsFresh most (with_io j io)
-with_fresh most (One h) io k e l = (e, l)
-with_fresh most (Two a b) io k e l = elim (cases_Bool (a.io.call == io.call)) [
-  | inl u ↦ simp u ((e, l), k.1)
-  | inr f ↦ simp f (k.0, (e, l))
-]
-
--- ---- jobs by their places
-
-pub job_read : (jobs : List Job) (k : ℕ) (d : Job) → k < length jobs → get_or jobs k d ≡ job_at jobs k
-job_read jobs k d l = get_or_default jobs k d no_job l
-
--- ---- all seats
-
+-- The octets of the first n seats have gone to the jobs, which are as they were but for these.
 pub record HandedIn (before now : List Job) (entries : List Entry) (seats : List SeatMemory) (n : ℕ) : Type 0 where
   pub same : SameLegs before now
   pub handed : AreHanded now entries seats n
   pub fresh : (most : ℕ) → All (IsFresh most) before → AreWithin most seats → All (IsFresh most) now
-  pub timely : (most : ℕ) → All (IsTimely most) before → ((k : ℕ) → k < length seats → periods_of_leg (half_at before (entry_at entries k).job (call_at seats k)).leg + (seat_at seats k).place.periods ≤ most) → All (IsTimely most) now
+  pub timely : (most : ℕ) → All (IsTimely most) before →
+      ((k : ℕ) → k < length seats → periods_of_leg (half_at before (entry_at entries k).job (call_at seats k)).leg + (seat_at seats k).place.periods ≤ most) →
+      All (IsTimely most) now
 
+-- before the first seat
 pub handed_none : (before : List Job) (entries : List Entry) (seats : List SeatMemory) → HandedIn before before entries seats 0
 handed_none before entries seats = record {
   same = record { number = refl; calls = λ j c. refl; legs = λ j c. refl; groups = refl };
@@ -126,14 +37,15 @@ handed_none before entries seats = record {
 }
 
 -- the job of seat n's call
-pub its_job : (before now : List Job) (entries : List Entry) (seats : List SeatMemory) (n : ℕ) → HaveJobs before entries seats → SameLegs before now → n < length seats →
-    HasJob now (entry_at entries n).job (call_at seats n)
+pub its_job : (before now : List Job) (entries : List Entry) (seats : List SeatMemory) (n : ℕ) → HaveJobs before entries seats → SameLegs before now →
+    n < length seats → HasJob now (entry_at entries n).job (call_at seats n)
 its_job before now entries seats n have s l =
     let h = have n l in
     (omega (arith, h.0, s.number), s.calls (entry_at entries n).job (call_at seats n) ∙ h.1)
 
-pub handed_more : (before now next : List Job) (entries : List Entry) (seats : List SeatMemory) (n : ℕ) → Rising seats → HaveJobs before entries seats → n < length seats →
-    whole_in (seat_at seats n).place ≤ (seat_at seats n).place.periods → HandedIn before now entries seats n →
+-- with one seat more
+pub handed_more : (before now next : List Job) (entries : List Entry) (seats : List SeatMemory) (n : ℕ) → Rising seats → HaveJobs before entries seats →
+    n < length seats → whole_in (seat_at seats n).place ≤ (seat_at seats n).place.periods → HandedIn before now entries seats n →
     next ≡ slice_set now (entry_at entries n).job (with_io (job_at now (entry_at entries n).job) (octets_of (seat_at seats n))) →
     HandedIn before next entries seats (n + 1)
 handed_more before now next entries seats n rising have l bound h e =
@@ -165,7 +77,8 @@ handed_more before now next entries seats n rising have l bound h e =
             let theirs = its_job before now entries seats k have h.same (omega arith) in
             elim (cases_eq (entry_at entries k).job place) [
               | inl p ↦
-                  let at : has_call (job_at now place) (call_at seats k) ≡ true = subst (λ (j : ℕ). has_call (job_at now j) (call_at seats k) ≡ true) p theirs.1 in
+                  let at : has_call (job_at now place) (call_at seats k) ≡ true =
+                  subst (λ (j : ℕ). has_call (job_at now j) (call_at seats k) ≡ true) p theirs.1 in
                   ap (λ (j : ℕ). (half_at next j (call_at seats k)).io) p ∙ ap (λ (x : Job). (half_of x (call_at seats k)).io) there
                   ∙ with_other (job_at now place) io (call_at seats k) has.1 at (λ r. absurd (omega (arith, lower, r)))
                   ∙ ap (λ (j : ℕ). (half_at now j (call_at seats k)).io) (sym p) ∙ h.handed k less
@@ -174,47 +87,56 @@ handed_more before now next entries seats n rising have l bound h e =
       ];
       timely = λ most all time.
           let before_all = h.timely most all time in
-          let leg : periods_of_leg (half_at now place io.call).leg ≡ periods_of_leg (half_at before place (call_at seats n)).leg = ap periods_of_leg (h.same.legs place (call_at seats n)) in
+          let leg : periods_of_leg (half_at now place io.call).leg ≡ periods_of_leg (half_at before place (call_at seats n)).leg =
+          ap periods_of_leg (h.same.legs place (call_at seats n)) in
           let fits : periods_of_leg (half_at now place io.call).leg + places_left io ≤ most = omega (arith, leg, time n l, bound) in
           All-same (IsTimely most) next (slice_set now place (with_io (job_at now place) io)) e
-          (All-set (IsTimely most) now place (with_io (job_at now place) io) (with_time most (job_at now place) io has.1 (All-get_or (IsTimely most) now place no_job has.0 before_all) fits) before_all);
+          (All-set (IsTimely most) now place (with_io (job_at now place) io)
+          (with_time most (job_at now place) io has.1 (All-get_or (IsTimely most) now place no_job has.0 before_all) fits) before_all);
       fresh = λ most all within.
           let before_all = h.fresh most all within in
           All-same (IsFresh most) next (slice_set now place (with_io (job_at now place) io)) e
           (All-set (IsFresh most) now place (with_io (job_at now place) io)
-          (with_fresh most (job_at now place) io (All-get_or (IsFresh most) now place no_job has.0 before_all) refl (omega (arith, bound, within n l))) before_all);
+          (with_fresh most (job_at now place) io (All-get_or (IsFresh most) now place no_job has.0 before_all) refl
+          (omega (arith, bound, within n l))) before_all);
     }
 
 -- ---- the seat of a turn
 
+-- what is read within a list doesn't go by what stands for nothing
 pub same_read : {X : Type 0} (xs : List X) (i : ℕ) (d e : X) → i < length xs → get_or xs i d ≡ get_or xs i e
 same_read [] i d e l = absurd (omega arith)
 same_read (x ∷ xs) zero d e l = refl
 same_read (x ∷ xs) (suc i) d e l = same_read xs i d e (omega arith)
 
+-- .. nor does a seat
 pub seat_read : (seats : List SeatMemory) (n : ℕ) (s : SeatMemory) → n < length seats → s ≡ get_or seats n s → s ≡ seat_at seats n
 seat_read seats n s l e = e ∙ same_read seats n s no_seat l
 
+-- the octets of a seat, of the parts that it was taken into
 pub octets_made : (s : SeatMemory) (p : PlaceMemory) (call given : ℕ) (up pcm out down : List ℕ) → call ≡ p.call → given ≡ whole_in p → p ≡ s.place →
     up ≡ s.up → pcm ≡ s.pcm → out ≡ s.out → down ≡ s.down → make_io call up pcm out down given ≡ octets_of s
 octets_made s p call given up pcm out down ec eg ep eu em eo ed =
-    let of : (c g : ℕ) (u m o d : List ℕ) → c ≡ call → g ≡ given → u ≡ up → m ≡ pcm → o ≡ out → d ≡ down → make_io call up pcm out down given ≡ make_io c u m o d g =
+    let of : (c g : ℕ)
+    (u m o d : List ℕ) → c ≡ call → g ≡ given → u ≡ up → m ≡ pcm → o ≡ out → d ≡ down → make_io call up pcm out down given ≡ make_io c u m o d g =
     λ c g u m o d e1 e2 e3 e4 e5 e6. cc in
     of s.place.call (whole_in s.place) s.up s.pcm s.out s.down
     (sym (ec ∙ ap (λ (q : PlaceMemory). q.call) ep)) (sym (eg ∙ ap (λ (q : PlaceMemory). whole_in q) ep)) (sym eu) (sym em) (sym eo) (sym ed)
 
 -- the job of the seat's call takes its octets
-pub turn_job : (before now : List Job) (entries : List Entry) (seats : List SeatMemory) (n k j : ℕ) (s : SeatMemory) (io : IoMemory) → HaveJobs before entries seats →
-    SameLegs before now → n < length seats → s ≡ seat_at seats n → k ≡ n → j ≡ (entry_at entries k).job → io ≡ octets_of s → HasJob now j io.call
+pub turn_job : (before now : List Job) (entries : List Entry) (seats : List SeatMemory) (n k j : ℕ) (s : SeatMemory) (io : IoMemory) →
+    HaveJobs before entries seats → SameLegs before now → n < length seats → s ≡ seat_at seats n → k ≡ n → j ≡ (entry_at entries k).job → io ≡ octets_of s →
+    HasJob now j io.call
 turn_job before now entries seats n k j s io have same l es ek ej ei =
     let h = its_job before now entries seats n have same l in
     let place : j ≡ (entry_at entries n).job = ej ∙ ap (λ (m : ℕ). (entry_at entries m).job) ek in
     let call : io.call ≡ call_at seats n = ap (λ (x : IoMemory). x.call) ei ∙ ap (λ (x : SeatMemory). x.place.call) es in
     subst (λ (m : ℕ). HasJob now m io.call) (sym place) (subst (λ (c : ℕ). HasJob now (entry_at entries n).job c) (sym call) h)
 
-pub turn_time : (before now : List Job) (entries : List Entry) (seats : List SeatMemory) (n k j : ℕ) (s : SeatMemory) (io : IoMemory) → HaveTime before entries seats →
-    SameLegs before now → n < length seats → s ≡ seat_at seats n → k ≡ n → j ≡ (entry_at entries k).job → io ≡ octets_of s → whole_in s.place ≤ s.place.periods →
-    periods_of_leg (half_at now j io.call).leg + places_left io ≤ 4294967295
+-- the call of a turn has time for the round's periods
+pub turn_time : (before now : List Job) (entries : List Entry) (seats : List SeatMemory) (n k j : ℕ) (s : SeatMemory) (io : IoMemory) →
+    HaveTime before entries seats → SameLegs before now → n < length seats → s ≡ seat_at seats n → k ≡ n → j ≡ (entry_at entries k).job → io ≡ octets_of s →
+    whole_in s.place ≤ s.place.periods → periods_of_leg (half_at now j io.call).leg + places_left io ≤ 4294967295
 turn_time before now entries seats n k j s io time same l es ek ej ei bound =
     let place : j ≡ (entry_at entries n).job = ej ∙ ap (λ (m : ℕ). (entry_at entries m).job) ek in
     let call : io.call ≡ call_at seats n = ap (λ (x : IoMemory). x.call) ei ∙ ap (λ (x : SeatMemory). x.place.call) es in
@@ -225,26 +147,32 @@ turn_time before now entries seats n k j s io time same l es ek ej ei bound =
     let periods : s.place.periods ≡ (seat_at seats n).place.periods = ap (λ (x : SeatMemory). x.place.periods) es in
     omega (arith, leg, left, periods, bound, time n l)
 
-pub turn_handed : (before now next : List Job) (entries : List Entry) (seats : List SeatMemory) (n k j : ℕ) (s : SeatMemory) (io : IoMemory) → Rising seats → HaveJobs before entries seats →
-    HandedIn before now entries seats n → n < length seats → whole_in s.place ≤ s.place.periods → s ≡ seat_at seats n → k ≡ n → j ≡ (entry_at entries k).job → io ≡ octets_of s →
-    next ≡ slice_set now j (with_io (job_at now j) io) → HandedIn before next entries seats (n + 1)
+-- the jobs after a turn
+pub turn_handed : (before now next : List Job) (entries : List Entry) (seats : List SeatMemory) (n k j : ℕ) (s : SeatMemory) (io : IoMemory) → Rising seats →
+    HaveJobs before entries seats → HandedIn before now entries seats n → n < length seats → whole_in s.place ≤ s.place.periods → s ≡ seat_at seats n → k ≡ n →
+    j ≡ (entry_at entries k).job → io ≡ octets_of s → next ≡ slice_set now j (with_io (job_at now j) io) → HandedIn before next entries seats (n + 1)
 turn_handed before now next entries seats n k j s io rising have h l bound es ek ej ei e =
     let place : j ≡ (entry_at entries n).job = ej ∙ ap (λ (m : ℕ). (entry_at entries m).job) ek in
     handed_more before now next entries seats n rising have l (subst (λ (x : SeatMemory). whole_in x.place ≤ x.place.periods) es bound) h
     (e ∙ ap (λ (m : ℕ). slice_set now m (with_io (job_at now m) io)) place
-    ∙ ap (λ (x : IoMemory). slice_set now (entry_at entries n).job (with_io (job_at now (entry_at entries n).job) x)) (ei ∙ ap (λ (x : SeatMemory). octets_of x) es))
+    ∙ ap (λ (x : IoMemory). slice_set now (entry_at entries n).job (with_io (job_at now (entry_at entries n).job) x))
+    (ei ∙ ap (λ (x : SeatMemory). octets_of x) es))
 
 -- ---- buffers of the round's length
 
-sound_made : (s : SeatMemory) → Fits s.place.periods s.up s.pcm s.down s.out → IsCallNumber s.place.call → whole_in s.place ≤ s.place.periods → IsIo (octets_of s)
+-- a seat's buffers have the round's length
+sound_made : (s : SeatMemory) → Fits s.place.periods s.up s.pcm s.down s.out → IsCallNumber s.place.call → whole_in s.place ≤ s.place.periods →
+    IsIo (octets_of s)
 sound_made s fits number bound = record {
   number = number;
   room = record { periods = s.place.periods; enough = bound; up_room = fits.up; pcm_room = fits.pcm; out_room = fits.out; down_room = fits.down };
   within = omega arith;
 }
 
-pub sound_more : (seats : List SeatMemory) (n : ℕ) (s : SeatMemory) (p : PlaceMemory) (call : ℕ) → AreSound seats n → s ≡ seat_at seats n → Fits s.place.periods s.up s.pcm s.down s.out → p ≡ s.place →
-    call ≡ p.call → IsCallNumber call → whole_in s.place ≤ s.place.periods → AreSound seats (n + 1)
+-- with one seat more they still have
+pub sound_more : (seats : List SeatMemory) (n : ℕ) (s : SeatMemory) (p : PlaceMemory) (call : ℕ) → AreSound seats n → s ≡ seat_at seats n →
+    Fits s.place.periods s.up s.pcm s.down s.out → p ≡ s.place → call ≡ p.call → IsCallNumber call → whole_in s.place ≤ s.place.periods →
+    AreSound seats (n + 1)
 sound_more seats n s p call sofar es fits ep ec is_number bound k l = elim (cases_lt k n) [
   | inl less ↦ sofar k less
   | inr more ↦

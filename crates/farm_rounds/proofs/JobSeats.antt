@@ -20,7 +20,7 @@ use Rattle.farm_rounds.specs.Working.{RoundMemory, IsRound, goes_on_call}
 use Rattle.farm_rounds.specs.Ordered.{job_in}
 use Rattle.farm_rounds.proofs.Ordering.{among_at}
 use Rattle.farm_rounds.proofs.Finding.{found_there, found_only}
-use Rattle.farm_rounds.proofs.Settling.{some_group}
+use Rattle.farm_rounds.proofs.CallsFound.{some_group}
 use Rattle.farm_rounds.proofs.Handing.{same_read, its_job}
 use Rattle.farm_rounds.proofs.Keeping.{finished_keeps, kept_has}
 use Rattle.farm_rounds.proofs.Working.{goes_on_at, rising_same}
@@ -29,14 +29,17 @@ use Rattle.farm_rounds.proofs.Finished.{Seated}
 
 -- ---- the job of a call
 
+-- the group of a job holds the job's calls
 holds_from : (j : Job) (c : ℕ) → holds c (group_from j) ≡ has_call j c
 holds_from (One h) c = refl
 holds_from (Two a b) c = refl
 
+-- .. and each is the call of its half
 pub call_from_job : (j : Job) (c : ℕ) → call_of c (group_from j) ≡ call_from (half_of j c)
 call_from_job (One h) c = refl
 call_from_job (Two a b) c = elim (cases_Bool (a.io.call == c)) [ inl t ↦ simp t refl | inr f ↦ simp f refl ]
 
+-- the group of a call is that of its job
 pub job_group : (jobs : List Job) (c : ℕ) → group_in (groups_from jobs) c ≡ option_map group_from (job_in jobs c)
 job_group [] c = refl
 job_group (j ∷ jobs) c = elim (cases_Bool (has_call j c)) [
@@ -44,6 +47,7 @@ job_group (j ∷ jobs) c = elim (cases_Bool (has_call j c)) [
   | inr f ↦ let u : holds c (group_from j) ≡ false = holds_from j c ∙ f in rw (f, u) (job_group jobs c)
 ]
 
+-- the finished job of a call is its job, finished
 pub finished_job : (jobs : List Job) (c : ℕ) → job_in (map finished jobs) c ≡ option_map finished (job_in jobs c)
 finished_job [] c = refl
 finished_job (j ∷ jobs) c = elim (cases_Bool (has_call j c)) [
@@ -51,12 +55,15 @@ finished_job (j ∷ jobs) c = elim (cases_Bool (has_call j c)) [
   | inr f ↦ let u : has_call (finished j) c ≡ false = kept_has j (finished j) c (finished_keeps j) ∙ f in rw (f, u) (finished_job jobs c)
 ]
 
+-- so many jobs have a call as groups hold it
 pub job_count : (jobs : List Job) (c : ℕ) → count_by (λ j. has_call j c) jobs ≡ count_by (holds c) (groups_from jobs)
 job_count [] c = refl
 job_count (j ∷ jobs) c =
     sum_by-cons (λ k. if has_call k c then 1 else 0) j jobs ∙ ap (λ (b : Bool). (if b then 1 else 0) + count_by (λ k. has_call k c) jobs) (sym (holds_from j c))
-    ∙ ap (λ (n : ℕ). (if holds c (group_from j) then 1 else 0) + n) (job_count jobs c) ∙ sym (sum_by-cons (λ g. if holds c g then 1 else 0) (group_from j) (groups_from jobs))
+    ∙ ap (λ (n : ℕ). (if holds c (group_from j) then 1 else 0) + n) (job_count jobs c)
+    ∙ sym (sum_by-cons (λ g. if holds c g then 1 else 0) (group_from j) (groups_from jobs))
 
+-- the job at an entry is its call's
 pub job_found : (jobs : List Job) (j c : ℕ) → count_by (λ x. has_call x c) jobs ≤ 1 → HasJob jobs j c → job_in jobs c ≡ Some (job_at jobs j)
 job_found jobs j c few has = found_only (λ x. has_call x c) jobs (job_at jobs j) j has.0 (same_read jobs j (job_at jobs j) no_job has.0) has.1 few
 
@@ -82,7 +89,8 @@ module _ (r : RoundMemory) (after : List Job) (worked : List SeatMemory) (i : Is
   -- the job of the call of seat k
   pub seat_job : (k : ℕ) → k < length r.seats → job_in w.handed (call_at r.seats k) ≡ Some (job_at w.handed (entry_at r.entries k).job)
   seat_job k l =
-      job_found w.handed (entry_at r.entries k).job (call_at r.seats k) (few_jobs (call_at r.seats k)) (its_job r.jobs w.handed r.entries r.seats k i.have w.same l)
+      job_found w.handed (entry_at r.entries k).job (call_at r.seats k) (few_jobs (call_at r.seats k))
+      (its_job r.jobs w.handed r.entries r.seats k i.have w.same l)
 
   pub at_seat : (k : ℕ) → k < length r.seats → Seated r.seats stays periods (call_at r.seats k) (job_at w.handed (entry_at r.entries k).job)
   at_seat k l =
@@ -104,7 +112,8 @@ module _ (r : RoundMemory) (after : List Job) (worked : List SeatMemory) (i : Is
   pub seated : (c : ℕ) (job : Job) → job_in w.handed c ≡ Some job → Seated r.seats stays periods c job
   seated c job e =
       let is_open : is_some (call_in (groups_from r.jobs) c) ≡ true =
-      some_group (groups_from r.jobs) c ∙ ap (λ (gs : List Group). is_some (group_in gs c)) (sym w.same.groups) ∙ ap is_some (job_group w.handed c) ∙ ap (λ (o : Option Job). is_some (option_map group_from o)) e in
+      some_group (groups_from r.jobs) c ∙ ap (λ (gs : List Group). is_some (group_in gs c)) (sym w.same.groups) ∙ ap is_some (job_group w.handed c)
+      ∙ ap (λ (o : Option Job). is_some (option_map group_from o)) e in
       let at = among_at r.live c (i.alive.numbers c ∙ is_open) in
       let last : at.0 < length r.seats = omega (arith, at.1, i.numbers) in
       let call : call_at r.seats at.0 ≡ c = i.aligned at.0 last ∙ at.2 in

@@ -14,7 +14,8 @@ use Rattle.farm_rounds.specs.Calls.{holds, call_in, size_of, calls_held}
 use Rattle.farm_rounds.specs.Groups.{IsCall, IsGroup, AreGroups}
 use Rattle.farm_rounds.specs.Settling.{told_by, call_left, together_of, group_left, groups_left, ended_of, calls_ended}
 use Rattle.farm_rounds.proofs.Finding.{or_none}
-use Rattle.farm_rounds.proofs.Settling.{no_call, call_of_one, call_of_two, call_parts, in_one, pair_apart}
+use Rattle.farm_rounds.proofs.CallsFound.{no_call, call_of_one, call_of_two, call_parts, in_one}
+use Rattle.farm_rounds.proofs.Settling.{pair_apart}
 
 -- a call, by whether it goes on
 abbrev pub left_if : (ℕ → SeatMemory) → Bool → Call → Option Call
@@ -69,7 +70,9 @@ module _ (stays : ℕ → Bool) (seat : ℕ → SeatMemory) where
     by false = All-nil (IsGroup most)
   each_group most (Two x y) k = by (stays x.number) (stays y.number) where
     by : (b d : Bool) → All (IsGroup most) (option_to_list (together_of (left_if seat b x) (left_if seat d y)))
-    by true true = All-cons (IsGroup most) (Two (told_by (seat x.number) x) (told_by (seat y.number) y)) [] (told_call most x k.0, told_call most y k.1, k.2) (All-nil (IsGroup most))
+    by true true =
+        All-cons (IsGroup most) (Two (told_by (seat x.number) x) (told_by (seat y.number) y)) [] (told_call most x k.0, told_call most y k.1, k.2)
+        (All-nil (IsGroup most))
     by true false = All-cons (IsGroup most) (One (told_by (seat x.number) x)) [] (told_call most x k.0) (All-nil (IsGroup most))
     by false true = All-cons (IsGroup most) (One (told_by (seat y.number) y)) [] (told_call most y k.1) (All-nil (IsGroup most))
     by false false = All-nil (IsGroup most)
@@ -77,7 +80,8 @@ module _ (stays : ℕ → Bool) (seat : ℕ → SeatMemory) where
   each_left : (most : ℕ) (gs : List Group) → All (IsGroup most) gs → All (IsGroup most) (groups_left stays seat gs)
   each_left most [] k = All-nil (IsGroup most)
   each_left most (g ∷ gs) k = subst (λ (xs : List Group). All (IsGroup most) xs) (sym (left_cons g gs))
-      (All-append (IsGroup most) (option_to_list (group_left stays seat g)) (groups_left stays seat gs) (each_group most g (All-head (IsGroup most) g gs k)) (each_left most gs (All-tail (IsGroup most) g gs k)))
+      (All-append (IsGroup most) (option_to_list (group_left stays seat g)) (groups_left stays seat gs) (each_group most g (All-head (IsGroup most) g gs k))
+      (each_left most gs (All-tail (IsGroup most) g gs k)))
 
   pub groups_of_left : (most : ℕ) (gs : List Group) → AreGroups most gs → AreGroups most (groups_left stays seat gs)
   groups_of_left most gs k = record { apart = λ c. omega (arith, count_left gs c, k.apart c); each = each_left most gs k.each }
@@ -110,7 +114,8 @@ module _ (stays : ℕ → Bool) (seat : ℕ → SeatMemory) where
 
   -- ---- the calls by their numbers
 
-  and_parts : (f : Call → Option Call) (o p : Option Call) → (o ≡ None) ⊎ (p ≡ None) → option_or (option_and_then f o) (option_and_then f p) ≡ option_and_then f (option_or o p)
+  and_parts : (f : Call → Option Call) (o p : Option Call) → (o ≡ None) ⊎ (p ≡ None) →
+      option_or (option_and_then f o) (option_and_then f p) ≡ option_and_then f (option_or o p)
   and_parts f None p one = refl
   and_parts f (Some x) None one = or_none (f x)
   and_parts f (Some x) (Some y) one = elim one [ inl e ↦ absurd (cc) | inr e ↦ absurd (cc) ]
@@ -118,20 +123,25 @@ module _ (stays : ℕ → Bool) (seat : ℕ → SeatMemory) where
   none_of : (xs ys : List Group) (c : ℕ) → count_by (holds c) (xs ++ ys) ≤ 1 → (call_in xs c ≡ None) ⊎ (call_in ys c ≡ None)
   none_of xs ys c few = elim (in_one xs ys c few) [ inl f ↦ inl (no_call xs c f) | inr f ↦ inr (no_call ys c f) ]
 
-  call_one : (x : Call) (c : ℕ) → call_in (option_to_list (option_map One (call_left stays seat x))) c ≡ option_and_then (call_left stays seat) (call_in (One x ∷ []) c)
+  call_one : (x : Call) (c : ℕ) →
+      call_in (option_to_list (option_map One (call_left stays seat x))) c ≡ option_and_then (call_left stays seat) (call_in (One x ∷ []) c)
   call_one x c = by (stays x.number) refl ∙ ap (λ (o : Option Call). option_and_then (call_left stays seat) o) (sym (call_of_one x c)) where
-    by : (b : Bool) → stays x.number ≡ b → call_in (option_to_list (option_map One (left_if seat b x))) c ≡ option_and_then (call_left stays seat) (if x.number == c then Some x else None)
+    by : (b : Bool) → stays x.number ≡ b →
+        call_in (option_to_list (option_map One (left_if seat b x))) c ≡ option_and_then (call_left stays seat) (if x.number == c then Some x else None)
     by true e = call_of_one (told_by (seat x.number) x) c ∙ elim (cases_Bool (x.number == c)) [ inl t ↦ simp (t, e) refl | inr f ↦ simp f refl ]
     by false e = elim (cases_Bool (x.number == c)) [ inl t ↦ simp (t, e) refl | inr f ↦ simp f refl ]
 
-  call_together : (r s : Option Call) (c : ℕ) → call_in (option_to_list (together_of r s)) c ≡ option_or (call_in (option_to_list (option_map One r)) c) (call_in (option_to_list (option_map One s)) c)
+  call_together : (r s : Option Call) (c : ℕ) →
+      call_in (option_to_list (together_of r s)) c ≡ option_or (call_in (option_to_list (option_map One r)) c) (call_in (option_to_list (option_map One s)) c)
   call_together None None c = refl
   call_together None (Some y) c = refl
   call_together (Some x) None c = sym (or_none (call_in (One x ∷ []) c))
   call_together (Some x) (Some y) c = call_of_two x y c ∙ call_parts (One x ∷ []) (One y ∷ []) c
 
-  call_group : (most : ℕ) (g : Group) (c : ℕ) → IsGroup most g → call_in (option_to_list (group_left stays seat g)) c ≡ option_and_then (call_left stays seat) (call_in (g ∷ []) c)
-  call_group most (One x) c k = call_together (call_left stays seat x) None c ∙ or_none (call_in (option_to_list (option_map One (call_left stays seat x))) c) ∙ call_one x c
+  call_group : (most : ℕ) (g : Group) (c : ℕ) → IsGroup most g →
+      call_in (option_to_list (group_left stays seat g)) c ≡ option_and_then (call_left stays seat) (call_in (g ∷ []) c)
+  call_group most (One x) c k =
+      call_together (call_left stays seat x) None c ∙ or_none (call_in (option_to_list (option_map One (call_left stays seat x))) c) ∙ call_one x c
   call_group most (Two x y) c k =
       let f : Call → Option Call = call_left stays seat in
       call_together (f x) (f y) c ∙ ap (λ (o : Option Call). option_or o (call_in (option_to_list (option_map One (f y))) c)) (call_one x c)
@@ -139,7 +149,8 @@ module _ (stays : ℕ → Bool) (seat : ℕ → SeatMemory) where
       ∙ and_parts f (call_in (One x ∷ []) c) (call_in (One y ∷ []) c) (none_of (One x ∷ []) (One y ∷ []) c (pair_apart x y k.2 c))
       ∙ ap (λ (o : Option Call). option_and_then f o) (sym (call_of_two x y c ∙ call_parts (One x ∷ []) (One y ∷ []) c))
 
-  pub calls_left : (most : ℕ) (gs : List Group) (c : ℕ) → count_by (holds c) gs ≤ 1 → All (IsGroup most) gs → call_in (groups_left stays seat gs) c ≡ option_and_then (call_left stays seat) (call_in gs c)
+  pub calls_left : (most : ℕ) (gs : List Group) (c : ℕ) → count_by (holds c) gs ≤ 1 → All (IsGroup most) gs →
+      call_in (groups_left stays seat gs) c ≡ option_and_then (call_left stays seat) (call_in gs c)
   calls_left most [] c few k = refl
   calls_left most (g ∷ gs) c few k =
       let f : Call → Option Call = call_left stays seat in

@@ -17,21 +17,26 @@ use Rattle.farm_rounds.specs.Acts.{new_call, joined, parted, set_by, calls_after
 abbrev pub Groups : Type 0
 Groups = ℕ → Option Group
 
+-- the call with a number, and its partner, by the group that is found for it
 abbrev pub calls : Groups → ℕ → Option Call
 calls g c = option_map (call_of c) (g c)
 
 abbrev pub partners : Groups → ℕ → Option ℕ
 partners g c = option_and_then (partner_of c) (g c)
 
+-- some groups were exchanged for others, as far as what is found tells
 abbrev pub Finds : List Group → List Group → Groups → Groups → Type 0
 Finds out into g n = (c : ℕ) → n c ≡ option_or (group_in into c) (if list_any (holds c) out then None else g c)
 
 -- ---- a call is opened
 
-pub opened_calls : (g n : Groups) (c : ℕ) (law : Law) → Finds [] (One (new_call c law) ∷ []) g n → (d : ℕ) → calls n d ≡ calls_after (act.Opened c law) (calls g) d
+-- what each order makes of the calls and of their partners: a call is opened
+pub opened_calls : (g n : Groups) (c : ℕ) (law : Law) → Finds [] (One (new_call c law) ∷ []) g n → (d : ℕ) →
+    calls n d ≡ calls_after (act.Opened c law) (calls g) d
 opened_calls g n c law h d = elim (cases_Bool (c == d)) [ inl t ↦ simp (h d, t) refl | inr f ↦ simp (h d, f) refl ]
 
-pub opened_partners : (g n : Groups) (c : ℕ) (law : Law) → g c ≡ None → Finds [] (One (new_call c law) ∷ []) g n → (d : ℕ) → partners n d ≡ partners_after (act.Opened c law) (partners g) d
+pub opened_partners : (g n : Groups) (c : ℕ) (law : Law) → g c ≡ None → Finds [] (One (new_call c law) ∷ []) g n → (d : ℕ) →
+    partners n d ≡ partners_after (act.Opened c law) (partners g) d
 opened_partners g n c law none h d = elim (cases_Bool (c == d)) [
   | inl t ↦ let gd : g d ≡ None = subst (λ (k : ℕ). g k ≡ None) (eqb-true c d t) none in simp (h d, t, gd) refl
   | inr f ↦ simp (h d, f) refl
@@ -39,6 +44,7 @@ opened_partners g n c law none h d = elim (cases_Bool (c == d)) [
 
 -- ---- a bridge starts
 
+-- two calls are bridged
 pub joined_calls : (g n : Groups) (x y : Call) → x.number ≢ y.number → g x.number ≡ Some (One x) → g y.number ≡ Some (One y) →
     Finds (One x ∷ One y ∷ []) (pair_of (joined x) (joined y) ∷ []) g n → (d : ℕ) → calls n d ≡ calls_after (act.Bridged x.number y.number) (calls g) d
 joined_calls g n x y ne gx gy h d = elim (cases_Bool (x.number == d)) [
@@ -70,6 +76,7 @@ joined_partners g n x y ne gx gy h d = elim (cases_Bool (x.number == d)) [
 
 -- ---- a bridge is over: the act names either call first
 
+-- their bridge is over, whichever is named first
 pub parted_calls : (g n : Groups) (x y : Call) → x.number ≢ y.number → g x.number ≡ Some (Two x y) → g y.number ≡ Some (Two x y) →
     Finds (Two x y ∷ []) (One (parted x) ∷ One (parted y) ∷ []) g n → (d : ℕ) →
     (calls n d ≡ calls_after (act.Unbridged x.number y.number) (calls g) d) × (calls n d ≡ calls_after (act.Unbridged y.number x.number) (calls g) d)
@@ -87,9 +94,9 @@ parted_calls g n x y ne gx gy h d = elim (cases_Bool (x.number == d)) [
   ]
 ]
 
-pub parted_partners : (g n : Groups) (x y : Call) → x.number ≢ y.number →
-    Finds (Two x y ∷ []) (One (parted x) ∷ One (parted y) ∷ []) g n → (d : ℕ) →
-    (partners n d ≡ partners_after (act.Unbridged x.number y.number) (partners g) d) × (partners n d ≡ partners_after (act.Unbridged y.number x.number) (partners g) d)
+pub parted_partners : (g n : Groups) (x y : Call) → x.number ≢ y.number → Finds (Two x y ∷ []) (One (parted x) ∷ One (parted y) ∷ []) g n → (d : ℕ) →
+    (partners n d ≡ partners_after (act.Unbridged x.number y.number) (partners g) d)
+    × (partners n d ≡ partners_after (act.Unbridged y.number x.number) (partners g) d)
 parted_partners g n x y ne h d = elim (cases_Bool (x.number == d)) [
   | inl t ↦
       let e = eqb-true x.number d t in
@@ -103,6 +110,7 @@ parted_partners g n x y ne h d = elim (cases_Bool (x.number == d)) [
 
 -- ---- a call ends
 
+-- a call that isn't bridged ends
 pub ended_calls : (g n : Groups) (x : Call) → Finds (One x ∷ []) [] g n → (d : ℕ) → calls n d ≡ calls_after (act.Closed x.number None) (calls g) d
 ended_calls g n x h d = elim (cases_Bool (x.number == d)) [ inl t ↦ simp (h d, t) refl | inr f ↦ simp (h d, f) refl ]
 
@@ -112,7 +120,8 @@ ended_partners g n x h d = elim (cases_Bool (x.number == d)) [ inl t ↦ simp (h
 -- .. of two, whichever it is
 pub freed_calls : (g n : Groups) (x y ended other : Call) → (ended ≡ x) × (other ≡ y) ⊎ (ended ≡ y) × (other ≡ x) → x.number ≢ y.number →
     g x.number ≡ Some (Two x y) → g y.number ≡ Some (Two x y) → Finds (Two x y ∷ []) (One (parted other) ∷ []) g n → (d : ℕ) →
-    (calls n d ≡ calls_after (act.Closed ended.number (Some other.number)) (calls g) d) × (partners n d ≡ partners_after (act.Closed ended.number (Some other.number)) (partners g) d)
+    (calls n d ≡ calls_after (act.Closed ended.number (Some other.number)) (calls g) d)
+    × (partners n d ≡ partners_after (act.Closed ended.number (Some other.number)) (partners g) d)
 freed_calls g n x y ended other which ne gx gy h d = elim (cases_Bool (x.number == d)) [
   | inl t ↦
       let e = eqb-true x.number d t in
@@ -129,9 +138,11 @@ freed_calls g n x y ended other which ne gx gy h d = elim (cases_Bool (x.number 
 
 -- ---- a level or when DTX is on is set
 
+-- a call is set, and nothing else
 abbrev pub changes : Act → Groups → ℕ → Groups → ℕ → Type 0
 changes a g c n d = (calls n d ≡ (if c == d then option_map (set_by a) (calls g d) else calls g d)) × (partners n d ≡ partners g d)
 
+-- of a call alone, of the lower call of a bridge and of the higher one
 pub set_one : (g n : Groups) (a : Act) (x : Call) → g x.number ≡ Some (One x) → (set_by a x).number ≡ x.number →
     Finds (One x ∷ []) (One (set_by a x) ∷ []) g n → (d : ℕ) → changes a g x.number n d
 set_one g n a x gx same h d = elim (cases_Bool (x.number == d)) [
@@ -141,8 +152,8 @@ set_one g n a x gx same h d = elim (cases_Bool (x.number == d)) [
   | inr f ↦ simp (h d, same, f) (refl, refl)
 ]
 
-pub set_low : (g n : Groups) (a : Act) (x y : Call) → x.number ≢ y.number → g x.number ≡ Some (Two x y) → g y.number ≡ Some (Two x y) → (set_by a x).number ≡ x.number →
-    Finds (Two x y ∷ []) (Two (set_by a x) y ∷ []) g n → (d : ℕ) → changes a g x.number n d
+pub set_low : (g n : Groups) (a : Act) (x y : Call) → x.number ≢ y.number → g x.number ≡ Some (Two x y) → g y.number ≡ Some (Two x y) →
+    (set_by a x).number ≡ x.number → Finds (Two x y ∷ []) (Two (set_by a x) y ∷ []) g n → (d : ℕ) → changes a g x.number n d
 set_low g n a x y ne gx gy same h d = elim (cases_Bool (x.number == d)) [
   | inl t ↦
       let e = eqb-true x.number d t in
@@ -157,8 +168,8 @@ set_low g n a x y ne gx gy same h d = elim (cases_Bool (x.number == d)) [
   ]
 ]
 
-pub set_high : (g n : Groups) (a : Act) (x y : Call) → x.number ≢ y.number → g x.number ≡ Some (Two x y) → g y.number ≡ Some (Two x y) → (set_by a y).number ≡ y.number →
-    Finds (Two x y ∷ []) (Two x (set_by a y) ∷ []) g n → (d : ℕ) → changes a g y.number n d
+pub set_high : (g n : Groups) (a : Act) (x y : Call) → x.number ≢ y.number → g x.number ≡ Some (Two x y) → g y.number ≡ Some (Two x y) →
+    (set_by a y).number ≡ y.number → Finds (Two x y ∷ []) (Two x (set_by a y) ∷ []) g n → (d : ℕ) → changes a g y.number n d
 set_high g n a x y ne gx gy same h d = elim (cases_Bool (x.number == d)) [
   | inl t ↦
       let e = eqb-true x.number d t in
@@ -175,9 +186,11 @@ set_high g n a x y ne gx gy same h d = elim (cases_Bool (x.number == d)) [
 
 -- ---- the groups that are put in hold no more than those that are taken out
 
+-- in how many groups a call is
 abbrev pub counts : ℕ → List Group → ℕ
 counts d gs = count_by (holds d) gs
 
+-- never in more than before: two calls bridged, parted, and one left
 pub pair_count : (d : ℕ) (x y : Call) → counts d (pair_of x y ∷ []) ≤ counts d (One x ∷ One y ∷ [])
 pair_count d x y = elim (cases_Bool (nat_lt x.number y.number)) [
   | inl l ↦ simp l (by_either (x.number == d) (y.number == d))

@@ -24,12 +24,13 @@ use Rattle.farm_rounds.specs.Histories.{CallHistory, CallStands, GroupsStand}
 use Rattle.farm_rounds.specs.Rounds.{no_job, call_from, group_from, groups_from, first_of, half_made, job_made, entry_of, entry_at, AreSeats, BringCalls}
 use Rattle.farm_rounds.specs.RoundHistories.{seat_for}
 use Rattle.farm_rounds.proofs.Finding.{cases_zero, none_counted, found_moved}
-use Rattle.farm_rounds.proofs.Settling.{some_call, some_group}
+use Rattle.farm_rounds.proofs.CallsFound.{some_call, some_group}
 use Rattle.farm_rounds.proofs.Starting.{bare_holds}
 use Rattle.farm_rounds.proofs.Partners.{made_partner}
 
 -- ---- groups in another order
 
+-- groups in another order are the same groups, with the same calls and partners
 pub moved_groups : (most : ℕ) (gs hs : List Group) → IsPermutation gs hs → AreGroups most gs → AreGroups most hs
 moved_groups most gs hs p a = record {
   apart = λ c. omega (arith, sum_by-IsPermutation (λ g. if holds c g then 1 else 0) gs hs p, a.apart c);
@@ -43,6 +44,7 @@ moved_live live gs hs p l = record {
   count = sum_by-IsPermutation size_of gs hs p ∙ l.count;
 }
 
+-- an open call's group is found
 pub live_present : (live : List ℕ) (gs : List Group) → AreLive live gs → (c : ℕ) → is_some (group_in gs c) ≡ true → is_among live c ≡ true
 live_present live gs l c t = l.numbers c ∙ some_group gs c ∙ t
 
@@ -58,25 +60,31 @@ moved_partner most gs hs c p a = ap (λ (o : Option Group). option_and_then (par
 abbrev bare : Call → Call
 bare x = call_from (half_made x)
 
+-- the first group that holds the call tells
 call_cons : (g : Group) (gs : List Group) (c : ℕ) → call_in (g ∷ gs) c ≡ (if holds c g then Some (call_of c g) else call_in gs c)
 call_cons g gs c = elim (cases_Bool (holds c g)) [ inl t ↦ simp t refl | inr f ↦ simp f refl ]
 
+-- a new job's call knows of no failed line
 bare_of : (g : Group) (c : ℕ) → call_of c (group_from (job_made g)) ≡ bare (call_of c g)
 bare_of (One x) c = refl
 bare_of (Two x y) c = elim (cases_Bool (x.number == c)) [ inl t ↦ simp t refl | inr f ↦ simp f refl ]
 
-map_if : (b : Bool) (x y : Call) (o p : Option Call) → y ≡ bare x → p ≡ option_map bare o → (if b then Some y else p) ≡ option_map bare (if b then Some x else o)
+map_if : (b : Bool) (x y : Call) (o p : Option Call) → y ≡ bare x → p ≡ option_map bare o →
+    (if b then Some y else p) ≡ option_map bare (if b then Some x else o)
 map_if true x y o p e f = ap Some e
 map_if false x y o p e f = f
 
+-- so do those of all new jobs
 bare_call : (gs : List Group) (c : ℕ) → call_in (groups_from (map job_made gs)) c ≡ option_map bare (call_in gs c)
 bare_call [] c = refl
 bare_call (g ∷ gs) c =
     call_cons (group_from (job_made g)) (groups_from (map job_made gs)) c
     ∙ ap (λ (b : Bool). if b then Some (call_of c (group_from (job_made g))) else call_in (groups_from (map job_made gs)) c) (bare_holds g c)
-    ∙ map_if (holds c g) (call_of c g) (call_of c (group_from (job_made g))) (call_in gs c) (call_in (groups_from (map job_made gs)) c) (bare_of g c) (bare_call gs c)
+    ∙ map_if (holds c g) (call_of c g) (call_of c (group_from (job_made g))) (call_in gs c) (call_in (groups_from (map job_made gs)) c) (bare_of g c)
+    (bare_call gs c)
     ∙ ap (λ (o : Option Call). option_map bare o) (sym (call_cons g gs c))
 
+-- what a round is planned for: the calls of the farm, with nothing told of failed lines
 planned_call : (most : ℕ) (gs hs : List Group) (jobs : List Job) (c : ℕ) → IsPermutation gs hs → AreGroups most gs → jobs ≡ map job_made (reverse hs) →
     call_in (groups_from jobs) c ≡ option_map bare (call_in gs c)
 planned_call most gs hs jobs c p a e =
@@ -94,11 +102,12 @@ pub planned_partner : (most : ℕ) (gs hs : List Group) (jobs : List Job) (c : �
     partner_in (groups_from jobs) c ≡ partner_in gs c
 planned_partner most gs hs jobs c p a e = made_partner most hs jobs (moved_groups most gs hs p a) e c ∙ moved_partner most gs hs c p a
 
-pub planned_stand : (most : ℕ) (gs hs : List Group) (jobs : List Job) (h : ℕ → Option CallHistory) → IsPermutation gs hs → AreGroups most gs → jobs ≡ map job_made (reverse hs) →
-    GroupsStand h gs → GroupsStand h (groups_from jobs)
+pub planned_stand : (most : ℕ) (gs hs : List Group) (jobs : List Job) (h : ℕ → Option CallHistory) → IsPermutation gs hs → AreGroups most gs →
+    jobs ≡ map job_made (reverse hs) → GroupsStand h gs → GroupsStand h (groups_from jobs)
 planned_stand most gs hs jobs h p a e stand c =
     subst (λ (x : Option Call). CallStands c (h c) x (partner_in (groups_from jobs) c)) (sym (planned_call most gs hs jobs c p a e))
-    (subst (λ (o : Option ℕ). CallStands c (h c) (option_map bare (call_in gs c)) o) (sym (planned_partner most gs hs jobs c p a e)) (bare_stands (h c) (call_in gs c) (partner_in gs c) (stand c)))
+    (subst (λ (o : Option ℕ). CallStands c (h c) (option_map bare (call_in gs c)) o) (sym (planned_partner most gs hs jobs c p a e))
+    (bare_stands (h c) (call_in gs c) (partner_in gs c) (stand c)))
   where
     bare_stands : (o : Option CallHistory) (x : Option Call) (q : Option ℕ) → CallStands c o x q → CallStands c o (option_map bare x) q
     bare_stands None None q k = k
@@ -108,6 +117,7 @@ planned_stand most gs hs jobs h p a e stand c =
 
 -- ---- their order
 
+-- an item that answers yes counts
 counted_once : {X : Type 0} (p : X → Bool) (xs : List X) (j : ℕ) (d : X) → j < length xs → p (get_or xs j d) ≡ true → 1 ≤ count_by p xs
 counted_once p xs j d l t = elim (cases_zero (count_by p xs)) [
   | inl e ↦ absurd (let f = none_counted p xs e in let a = list_any_at p xs j d l t in cc)
@@ -115,7 +125,8 @@ counted_once p xs j d l t = elim (cases_zero (count_by p xs)) [
 ]
 
 -- two elements that pass
-pub counted_twice : {X : Type 0} (p : X → Bool) (xs : List X) (i j : ℕ) (d : X) → i < j → j < length xs → p (get_or xs i d) ≡ true → p (get_or xs j d) ≡ true → 2 ≤ count_by p xs
+pub counted_twice : {X : Type 0} (p : X → Bool) (xs : List X) (i j : ℕ) (d : X) → i < j → j < length xs → p (get_or xs i d) ≡ true → p (get_or xs j d) ≡ true →
+    2 ≤ count_by p xs
 counted_twice p [] i j d l lj t u = absurd (omega arith)
 counted_twice p (x ∷ xs) zero zero d l lj t u = absurd (omega arith)
 counted_twice p (x ∷ xs) zero (suc j) d l lj t u =
@@ -126,21 +137,25 @@ counted_twice p (x ∷ xs) (suc i) (suc j) d l lj t u =
     let parts : count_by p (x ∷ xs) ≡ (if p x then 1 else 0) + count_by p xs = sum_by-cons (λ y. if p y then 1 else 0) x xs in
     omega (arith, parts, counted_twice p xs i j d (omega arith) (omega arith) t u)
 
+-- a group holds its lower call
 holds_first : (g : Group) → holds (first_of g) g ≡ true
 holds_first (One x) = eq-eqb x.number x.number refl
 holds_first (Two x y) = or_left (x.number == x.number) (y.number == x.number) (eq-eqb x.number x.number refl)
 
+-- .. and its job is named for that
 first_made : (g : Group) → job_call (job_made g) ≡ first_of g
 first_made (One x) = refl
 first_made (Two x y) = refl
 
+-- groups that stand in order of their lower calls have jobs with rising numbers
 rising_firsts : (gs : List Group) → ((c : ℕ) → count_by (holds c) gs ≤ 1) → IsNonDecreasingBy first_of gs → IsRising (map job_call (map job_made gs))
 rising_firsts gs apart sorted i j less lj =
     let none : Group = group_from no_job in
     let long : length (map job_call (map job_made gs)) ≡ length gs = length-map (map job_made gs) job_call ∙ length-map gs job_made in
     let last : j < length gs = omega (arith, lj, long) in
     let at : (k : ℕ) → k < length gs → slice_index (map job_call (map job_made gs)) k ≡ first_of (get_or gs k none) = λ k l.
-    get_or-map job_call (map job_made gs) k no_job 0 (omega (arith, l, length-map gs job_made)) ∙ ap job_call (get_or-map job_made gs k none no_job l) ∙ first_made (get_or gs k none) in
+    get_or-map job_call (map job_made gs) k no_job 0 (omega (arith, l, length-map gs job_made)) ∙ ap job_call (get_or-map job_made gs k none no_job l)
+    ∙ first_made (get_or gs k none) in
     let up : first_of (get_or gs i none) ≤ first_of (get_or gs j none) = sorted i j none (omega (arith, less)) last in
     elim (cases_eq (first_of (get_or gs i none)) (first_of (get_or gs j none))) [
       | inl e ↦
@@ -150,21 +165,27 @@ rising_firsts gs apart sorted i j less lj =
       | inr ne ↦ omega (arith, up, ne, at i (omega (arith, less, last)), at j last)
     ]
 
-pub planned_order : (most : ℕ) (gs hs : List Group) (jobs : List Job) → IsPermutation gs hs → AreGroups most gs → jobs ≡ map job_made (reverse hs) → IsNonDecreasingBy first_of (reverse hs) → IsRising (map job_call jobs)
+-- so have those of a round
+pub planned_order : (most : ℕ) (gs hs : List Group) (jobs : List Job) → IsPermutation gs hs → AreGroups most gs → jobs ≡ map job_made (reverse hs) →
+    IsNonDecreasingBy first_of (reverse hs) → IsRising (map job_call jobs)
 planned_order most gs hs jobs p a e sorted =
     subst (λ (js : List Job). IsRising (map job_call js)) (sym e)
     (rising_firsts (reverse hs) (moved_groups most gs (reverse hs) (IsPermutation-trans gs hs (reverse hs) p (IsPermutation-reverse hs)) a).apart sorted)
 
 -- ---- their seats
 
-seat_told : (e : Entry) (c periods : ℕ) (o : Option Call) → option_map (entry_of e.job) o ≡ Some e → new_seat c periods e.down_failed e.out_failed ≡ seat_for periods c o
+-- a new seat says what its call brings
+seat_told : (e : Entry) (c periods : ℕ) (o : Option Call) → option_map (entry_of e.job) o ≡ Some e →
+    new_seat c periods e.down_failed e.out_failed ≡ seat_for periods c o
 seat_told e c periods None told = absurd (cc)
 seat_told e c periods (Some x) told =
     let same : entry_of e.job x ≡ e = cc in
     ap (λ (y : Entry). new_seat c periods y.down_failed y.out_failed) (sym same)
 
-pub planned_seat : (most periods : ℕ) (gs hs : List Group) (live : List ℕ) (entries : List Entry) (seats : List SeatMemory) (k : ℕ) → IsPermutation gs hs → AreGroups most gs → BringCalls hs entries live →
-    AreSeats live entries periods seats (length live) → k < length live → seat_at seats k ≡ seat_for periods (slice_index live k) (call_in gs (slice_index live k))
+-- each open call has its seat
+pub planned_seat : (most periods : ℕ) (gs hs : List Group) (live : List ℕ) (entries : List Entry) (seats : List SeatMemory) (k : ℕ) → IsPermutation gs hs →
+    AreGroups most gs → BringCalls hs entries live → AreSeats live entries periods seats (length live) → k < length live →
+    seat_at seats k ≡ seat_for periods (slice_index live k) (call_in gs (slice_index live k))
 planned_seat most periods gs hs live entries seats k p a bring are l =
     are k l ∙ seat_told (entry_at entries k) (slice_index live k) periods (call_in hs (slice_index live k)) (bring k l)
     ∙ ap (λ (o : Option Call). seat_for periods (slice_index live k) o) (moved_call most gs hs (slice_index live k) p a)

@@ -15,7 +15,8 @@ use Rattle.farm_rounds.specs.Numbers.{IsRising, is_among}
 
 -- what a search finds
 pub searched_rising : (xs : List ℕ) (x : ℕ) (r : Result ℕ ℕ) → IsRising xs → IsBinarySearchResult (λ y. nat_cmp y x) xs r →
-    MatchResult r (λ i. (i < length xs) × (get_or xs i 0 ≡ x)) (λ i. (i ≤ length xs) × ((k : ℕ) → k < i → get_or xs k 0 < x) × ((k : ℕ) → i ≤ k → k < length xs → x < get_or xs k 0))
+    MatchResult r (λ i. (i < length xs) × (get_or xs i 0 ≡ x))
+    (λ i. (i ≤ length xs) × ((k : ℕ) → k < i → get_or xs k 0 < x) × ((k : ℕ) → i ≤ k → k < length xs → x < get_or xs k 0))
 searched_rising xs x r rising h = searched xs x r h (λ i j l b. elim (cases_order i j) [
   | inl e ↦ subst (λ (k : ℕ). get_or xs i 0 ≤ get_or xs k 0) e (omega arith)
   | inr (inl l2) ↦ omega (arith, rising i j l2 b)
@@ -23,8 +24,9 @@ searched_rising xs x r rising h = searched xs x r h (λ i j l b. elim (cases_ord
 ])
 
 -- the later of two numbers stands behind the place
-rising-insert_above : (xs : List ℕ) (i y : ℕ) → IsRising xs → i ≤ length xs → ((k : ℕ) → k < i → get_or xs k 0 < y) → ((k : ℕ) → i ≤ k → k < length xs → y < get_or xs k 0) →
-    (a k : ℕ) → i ≤ k → (b : ℕ) → b ≡ k + 1 → (a < b) × (k < length xs) → get_or (insert xs i y) a 0 < get_or (insert xs i y) b 0
+rising-insert_above : (xs : List ℕ) (i y : ℕ) → IsRising xs → i ≤ length xs → ((k : ℕ) → k < i → get_or xs k 0 < y) →
+    ((k : ℕ) → i ≤ k → k < length xs → y < get_or xs k 0) → (a k : ℕ) → i ≤ k → (b : ℕ) → b ≡ k + 1 → (a < b) × (k < length xs) →
+    get_or (insert xs i y) a 0 < get_or (insert xs i y) b 0
 rising-insert_above xs i y rising l below above a k ik b e h =
     let there : get_or (insert xs i y) b 0 ≡ get_or xs k 0 = rw e (get_or-insert_above xs i y 0 k ik l) in
     rw there (elim (cases_order a i) [
@@ -34,7 +36,9 @@ rising-insert_above xs i y rising l below above a k ik b e h =
           (rw (get_or-insert_above xs i y 0 (a - 1) (omega arith) l) (rising (a - 1) k (omega arith) h.1))
     ])
 
-pub rising-insert : (xs : List ℕ) (i y : ℕ) → IsRising xs → i ≤ length xs → ((k : ℕ) → k < i → get_or xs k 0 < y) → ((k : ℕ) → i ≤ k → k < length xs → y < get_or xs k 0) → IsRising (insert xs i y)
+-- a number put in where it belongs, and one taken out: the list still rises
+pub rising-insert : (xs : List ℕ) (i y : ℕ) → IsRising xs → i ≤ length xs → ((k : ℕ) → k < i → get_or xs k 0 < y) →
+    ((k : ℕ) → i ≤ k → k < length xs → y < get_or xs k 0) → IsRising (insert xs i y)
 rising-insert xs i y rising l below above a b ab lb =
     let long : length (insert xs i y) ≡ length xs + 1 = length-insert xs i y l in
     elim (cases_lt b i) [
@@ -46,6 +50,7 @@ rising-insert xs i y rising l below above a b ab lb =
       ]
     ]
 
+-- the number is among them
 pub among-insert : (xs : List ℕ) (i y c : ℕ) → is_among (insert xs i y) c ≡ ((y == c) || is_among xs c)
 among-insert xs i y c = sym (list_any-IsPermutation (λ x. x == c) (y ∷ xs) (insert xs i y) (IsPermutation-insert xs i y))
 
@@ -66,12 +71,17 @@ gone xs i y rising l e =
     let long : length (remove xs i) + 1 ≡ length xs = length-remove xs i l in
     list_any_none (λ x. x == y) (remove xs i) (All-from_get_or (λ x. (x == y) ≡ false) (remove xs i) 0 (λ k lk. elim (cases_lt k i) [
       | inl ki ↦ rw (get_or-remove_below xs i 0 k ki l) (let less : get_or xs k 0 < get_or xs i 0 = rising k i ki l in ne_eqb _ _ (λ q. absurd (omega arith)))
-      | inr ik ↦ rw (get_or-remove_above xs i 0 k ik l) (let less : get_or xs i 0 < get_or xs (k + 1) 0 = rising i (k + 1) (omega arith) (omega arith) in ne_eqb _ _ (λ q. absurd (omega arith)))
+      | inr ik ↦
+          rw (get_or-remove_above xs i 0 k ik l)
+          (let less : get_or xs i 0 < get_or xs (k + 1) 0 = rising i (k + 1) (omega arith) (omega arith) in ne_eqb _ _ (λ q. absurd (omega arith)))
     ]))
 
+-- .. and no longer
 pub among-remove : (xs : List ℕ) (i y c : ℕ) → IsRising xs → i < length xs → get_or xs i 0 ≡ y → is_among (remove xs i) c ≡ (not (y == c) && is_among xs c)
 among-remove xs i y c rising l e =
-    let parts : is_among xs c ≡ ((get_or xs i 0 == c) || is_among (remove xs i) c) = list_any-IsPermutation (λ x. x == c) xs (get_or xs i 0 ∷ remove xs i) (IsPermutation-remove xs i (get_or xs i 0) l (sym (get_or_default_zero xs i (get_or xs i 0) l))) in
+    let parts : is_among xs c ≡ ((get_or xs i 0 == c) || is_among (remove xs i) c) =
+    list_any-IsPermutation (λ x. x == c) xs (get_or xs i 0 ∷ remove xs i)
+    (IsPermutation-remove xs i (get_or xs i 0) l (sym (get_or_default_zero xs i (get_or xs i 0) l))) in
     elim (cases_Bool (y == c)) [
       | inl t ↦ rw t (subst (λ (n : ℕ). is_among (remove xs i) n ≡ false) (eqb-true y c t) (gone xs i y rising l e))
       | inr f ↦ rw (f, parts, e, f) refl
@@ -82,13 +92,16 @@ pub place_found : (xs ys : List ℕ) (x : ℕ) (r : Result ℕ ℕ) → ys ≡ x
     (i < length xs) × (get_or xs i 0 ≡ x)
 place_found xs ys x r e rising h i q = rw q at (searched_rising xs x r rising (rw e at h))
 
+-- a search that finds nothing tells where the number belongs
 pub place_free : (xs ys : List ℕ) (x : ℕ) (r : Result ℕ ℕ) → ys ≡ xs → IsRising xs → IsBinarySearchResult (λ y. nat_cmp y x) ys r → (i : ℕ) → r ≡ Err i →
     (i ≤ length xs) × ((k : ℕ) → k < i → get_or xs k 0 < x) × ((k : ℕ) → i ≤ k → k < length xs → x < get_or xs k 0)
 place_free xs ys x r e rising h i q = rw q at (searched_rising xs x r rising (rw e at h))
 
+-- what stands in the list is among it
 pub there : (xs : List ℕ) (x i : ℕ) → i < length xs → get_or xs i 0 ≡ x → is_among xs x ≡ true
 there xs x i l e = list_any_at (λ y. y == x) xs i 0 l (eq-eqb _ _ e)
 
+-- what lies between two that follow one another isn't
 pub not_there : (xs : List ℕ) (x i : ℕ) → ((k : ℕ) → k < i → get_or xs k 0 < x) → ((k : ℕ) → i ≤ k → k < length xs → x < get_or xs k 0) → is_among xs x ≡ false
 not_there xs x i below above = list_any_none (λ y. y == x) xs (All-from_get_or (λ y. (y == x) ≡ false) xs 0 (λ k l. elim (cases_lt k i) [
   | inl ki ↦ let less = below k ki in ne_eqb _ _ (λ q. absurd (omega arith))

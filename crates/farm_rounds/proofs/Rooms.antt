@@ -10,8 +10,10 @@ use Rattle.farm_rounds.specs.Phased.{IsFresh, HasNoneDone, AreEmptyFor}
 
 -- lists with room for more
 pub empty_less : {X : Type 0} (most few : ℕ) (lists : List (Vec X)) → few ≤ most → AreEmptyFor most lists → AreEmptyFor few lists
-empty_less most few lists le all = All-weaker (λ v. (most ≤ vec_capacity v) × (v.items ≡ [])) (λ v. (few ≤ vec_capacity v) × (v.items ≡ [])) (λ v e. (omega (arith, le, e.0), e.1)) lists all
+empty_less most few lists le all =
+    All-weaker (λ v. (most ≤ vec_capacity v) × (v.items ≡ [])) (λ v. (few ≤ vec_capacity v) × (v.items ≡ [])) (λ v e. (omega (arith, le, e.0), e.1)) lists all
 
+-- new jobs have had no period
 pub none_done : (most : ℕ) (js : List Job) → All (IsFresh most) js → All HasNoneDone js
 none_done most js all = All-weaker (IsFresh most) HasNoneDone one js all
   where

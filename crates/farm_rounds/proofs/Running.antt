@@ -27,24 +27,33 @@ use Rattle.farm_rounds.proofs.JobSeats.{few_jobs, finished_job, seat_job, seated
 
 -- ---- the octets of the seats are in the jobs
 
+-- the calls of a job have the octets of their seats
 abbrev HasSeats : List SeatMemory → Job → Type 0
 HasSeats seats j = (c : ℕ) → has_call j c ≡ true → (half_of j c).io ≡ octets_of (seat_of seats c)
 
+-- a half of its parts
 abbrev make_half : LegMemory → IoMemory → HalfMemory
 make_half leg io = record { leg = leg; io = io }
 
+-- a half with the octets of its seat is the one that is filled from it
 filled_half : (seats : List SeatMemory) (g h : HalfMemory) → call_from g ≡ call_from h → g.io ≡ octets_of (seat_of seats g.io.call) → g ≡ half_filled seats h
 filled_half seats g h e o =
     let leg : g.leg ≡ h.leg = ap (λ (x : Call). x.leg) e in
     let call : g.io.call ≡ h.io.call = ap (λ (x : Call). x.number) e in
     ap (λ (m : LegMemory). make_half m g.io) leg ∙ ap (λ (x : IoMemory). make_half h.leg x) (o ∙ ap (λ (c : ℕ). octets_of (seat_of seats c)) call)
 
-filled_job : (most : ℕ) (seats : List SeatMemory) (k j : Job) → group_from k ≡ group_from j → IsGroup most (group_from k) → HasSeats seats k → k ≡ job_filled seats j
+-- so is a job ..
+filled_job : (most : ℕ) (seats : List SeatMemory) (k j : Job) → group_from k ≡ group_from j → IsGroup most (group_from k) → HasSeats seats k →
+    k ≡ job_filled seats j
 filled_job most seats (One g) (One h) e m o = ap (λ (x : HalfMemory). One x) (filled_half seats g h (cc) (o g.io.call (eq-eqb g.io.call g.io.call refl)))
 filled_job most seats (Two a b) (Two d f) e m o =
     let apart : a.io.call ≢ b.io.call = λ q. absurd (omega (arith, m.2, q)) in
-    let low = ap (λ (x : HalfMemory). x.io) (sym (first_half a b)) ∙ o a.io.call (or_left (a.io.call == a.io.call) (b.io.call == a.io.call) (eq-eqb a.io.call a.io.call refl)) in
-    let high = ap (λ (x : HalfMemory). x.io) (sym (second_half a b apart)) ∙ o b.io.call (or_right (a.io.call == b.io.call) (b.io.call == b.io.call) (eq-eqb b.io.call b.io.call refl)) in
+    let low =
+    ap (λ (x : HalfMemory). x.io) (sym (first_half a b))
+    ∙ o a.io.call (or_left (a.io.call == a.io.call) (b.io.call == a.io.call) (eq-eqb a.io.call a.io.call refl)) in
+    let high =
+    ap (λ (x : HalfMemory). x.io) (sym (second_half a b apart))
+    ∙ o b.io.call (or_right (a.io.call == b.io.call) (b.io.call == b.io.call) (eq-eqb b.io.call b.io.call refl)) in
     ap (λ (x : HalfMemory). Two x b) (filled_half seats a d (cc) low) ∙ ap (λ (y : HalfMemory). Two (half_filled seats d) y) (filled_half seats b f (cc) high)
 filled_job most seats (One g) (Two d f) e m o = absurd (cc)
 filled_job most seats (Two a b) (One h) e m o = absurd (cc)
@@ -55,14 +64,18 @@ same_head x y xs ys e = cc
 same_tail : {X : Type 0} (x y : X) (xs ys : List X) → x ∷ xs ≡ y ∷ ys → xs ≡ ys
 same_tail x y xs ys e = cc
 
+-- .. and all of them
 filled_jobs : (most : ℕ) (seats : List SeatMemory) (ks js : List Job) → groups_from ks ≡ groups_from js → All (IsGroup most) (groups_from ks) →
     ((k : Job) → Contains ks k → HasSeats seats k) → ks ≡ map (job_filled seats) js
 filled_jobs most seats [] [] e a o = refl
 filled_jobs most seats [] (j ∷ js) e a o = absurd (cc)
 filled_jobs most seats (k ∷ ks) [] e a o = absurd (cc)
 filled_jobs most seats (k ∷ ks) (j ∷ js) e a o =
-    let head = filled_job most seats k j (same_head (group_from k) (group_from j) (groups_from ks) (groups_from js) e) (All-head (IsGroup most) (group_from k) (groups_from ks) a) (o k (0, omega arith, refl)) in
-    let tail = filled_jobs most seats ks js (same_tail (group_from k) (group_from j) (groups_from ks) (groups_from js) e) (All-tail (IsGroup most) (group_from k) (groups_from ks) a)
+    let head =
+    filled_job most seats k j (same_head (group_from k) (group_from j) (groups_from ks) (groups_from js) e)
+    (All-head (IsGroup most) (group_from k) (groups_from ks) a) (o k (0, omega arith, refl)) in
+    let tail = filled_jobs most seats ks js (same_tail (group_from k) (group_from j) (groups_from ks) (groups_from js) e)
+    (All-tail (IsGroup most) (group_from k) (groups_from ks) a)
     (λ x p. o x (suc p.0, omega (arith, p.1), p.2)) in
     ap (λ (x : Job). x ∷ ks) head ∙ ap (λ (xs : List Job). job_filled seats j ∷ xs) tail
 
@@ -85,10 +98,12 @@ module _ (r : RoundMemory) (after : List Job) (worked : List SeatMemory) (i : Is
       let has = its_job r.jobs w.handed r.entries r.seats k i.have w.same l in
       let run : job_at (map finished w.handed) place ≡ finished (job_at w.handed place) = get_or-map finished w.handed place no_job no_job has.0 in
       let found = finished_job w.handed c ∙ ap (λ (o : Option Job). option_map finished o) (seat_job r after worked i w k l) in
-      w.left k l ∙ ap (λ (j : Job). seat_with s.place (half_of j c).io) run ∙ sym (ap (λ (o : Option Job). seat_with s.place (half_of (unwrap_or o no_job) c).io) found)
+      w.left k l ∙ ap (λ (j : Job). seat_with s.place (half_of j c).io) run
+      ∙ sym (ap (λ (o : Option Job). seat_with s.place (half_of (unwrap_or o no_job) c).io) found)
       ∙ ap (λ (js : List Job). seat_left (map finished js) s) handed_filled
 
   pub worked_buffers : worked ≡ map (seat_left (finished_jobs r)) r.seats
   worked_buffers =
       ext_get_or no_seat worked (map (seat_left (finished_jobs r)) r.seats) (w.number ∙ sym (length-map r.seats (seat_left (finished_jobs r))))
-      (λ k l. let lk : k < length r.seats = omega (arith, l, w.number) in buffers_at k lk ∙ sym (get_or-map (seat_left (finished_jobs r)) r.seats k no_seat no_seat lk))
+      (λ k l. let lk : k < length r.seats = omega (arith, l, w.number) in buffers_at k lk
+      ∙ sym (get_or-map (seat_left (finished_jobs r)) r.seats k no_seat no_seat lk))

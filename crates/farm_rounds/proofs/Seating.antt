@@ -11,6 +11,7 @@ use Rattle.farm_rounds.specs.Settling.{HaveSeats, goes_on_in}
 use Rattle.farm_rounds.specs.Working.{goes_on_call}
 use Rattle.farm_rounds.proofs.Working.{goes_on_at}
 
+-- the seat of a call is the one with its number
 seat_found : (seats : List SeatMemory) (k : ℕ) → Rising seats → k < length seats → find (λ s. s.place.call == call_at seats k) seats ≡ Some (seat_at seats k)
 seat_found [] k rising l = absurd (omega arith)
 seat_found (s ∷ ss) zero rising l = simp (eq-eqb s.place.call s.place.call refl) refl
@@ -23,7 +24,8 @@ seat_found (s ∷ ss) (suc k) rising l =
 pub seat_of_at : (seats : List SeatMemory) (k : ℕ) → Rising seats → k < length seats → seat_of seats (call_at seats k) ≡ seat_at seats k
 seat_of_at seats k rising l = ap (λ (o : Option SeatMemory). unwrap_or o no_seat) (seat_found seats k rising l)
 
-module _ (numbers : List ℕ) (seats : List SeatMemory) (h : HaveSeats numbers seats) (k c : ℕ) (s : SeatMemory) (l : k < length numbers) (e : slice_index numbers k ≡ c) (q : s ≡ get_or seats k s) where
+module _ (numbers : List ℕ) (seats : List SeatMemory) (h : HaveSeats numbers seats) (k c : ℕ) (s : SeatMemory) (l : k < length numbers)
+    (e : slice_index numbers k ≡ c) (q : s ≡ get_or seats k s) where
   within : k < length seats
   within = omega (arith, l, h.number)
 
@@ -43,4 +45,6 @@ module _ (numbers : List ℕ) (seats : List SeatMemory) (h : HaveSeats numbers s
   its_seat = read ∙ sym (subst (λ (n : ℕ). seat_of seats n ≡ seat_at seats k) its_call (seat_of_at seats k rising within))
 
   pub its_going : goes_on_in s ≡ goes_on_call seats c
-  its_going = ap (λ (t : SeatMemory). goes_on_in t) read ∙ sym (subst (λ (n : ℕ). goes_on_call seats n ≡ goes_on_in (seat_at seats k)) its_call (goes_on_at seats k rising within))
+  its_going =
+      ap (λ (t : SeatMemory). goes_on_in t) read
+      ∙ sym (subst (λ (n : ℕ). goes_on_call seats n ≡ goes_on_in (seat_at seats k)) its_call (goes_on_at seats k rising within))

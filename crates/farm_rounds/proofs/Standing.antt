@@ -18,14 +18,16 @@ use Rattle.farm_rounds.specs.Calls.{holds, call_in, partner_in, partner_of}
 use Rattle.farm_rounds.specs.Groups.{AreGroups}
 use Rattle.farm_rounds.specs.Acts.{new_call, joined, parted, set_by, calls_after, partners_after, IsOpen, Fits, Stays, Applied}
 use Rattle.farm_rounds.specs.Histories.{CallHistory, whose, CallStands, GroupsStand, NoneWaits, NoneDrains, set_now, histories_after, tally_of, kept_of, tallies_after}
-use Rattle.farm_rounds.proofs.Applying.{bridged, found_group, found_other}
+use Rattle.farm_rounds.proofs.Holding.{bridged, found_group, found_other}
 
 -- ---- one call
 
+-- a call that isn't there has no partner
 closed_partner : (c : ℕ) (o : Option CallHistory) (p : Option ℕ) → CallStands c o None p → p ≡ None
 closed_partner c None p h = h
 closed_partner c (Some x) p h = absurd h
 
+-- a call still stands for its periods where it is bridged, ..
 joins : (c b : ℕ) (o : Option CallHistory) (x : Option Call) (p : Option ℕ) → NoneWaits o → is_some x ≡ true → CallStands c o x p →
     CallStands c (option_map (set_now with_bridge) o) (option_map joined x) (Some b)
 joins c b None None p w t h = absurd (false≢true t)
@@ -33,6 +35,7 @@ joins c b None (Some x) p w t h = absurd h
 joins c b (Some y) None p w t h = absurd h
 joins c b (Some y) (Some x) p w t h = (h.0, begin-stands (whose c y) y.periods y.now x.leg w h.1, refl)
 
+-- .. where its bridge is over, ..
 parts : (c : ℕ) (o : Option CallHistory) (x : Option Call) (p : Option ℕ) → is_some p ≡ true → CallStands c o x p →
     CallStands c (option_map (set_now without_bridge) o) (option_map parted x) None
 parts c None None p t h = refl
@@ -40,6 +43,7 @@ parts c None (Some x) p t h = absurd h
 parts c (Some y) None p t h = absurd h
 parts c (Some y) (Some x) p t h = (h.0, end-stands (whose c y) y.periods y.now x.leg (h.2 ∙ t) h.1, refl)
 
+-- .. where its level is set, ..
 sets_level : (c d : ℕ) (level : ℤ) (o : Option CallHistory) (x : Option Call) (p : Option ℕ) → CallStands c o x p →
     CallStands c (option_map (set_now (with_level level)) o) (option_map (set_by (act.LevelSet d level)) x) p
 sets_level c d level None None p h = h
@@ -47,6 +51,7 @@ sets_level c d level None (Some x) p h = absurd h
 sets_level c d level (Some y) None p h = absurd h
 sets_level c d level (Some y) (Some x) p h = (h.0, level-stands (whose c y) y.periods y.now level x.leg h.1, h.2)
 
+-- .. and where it is set when DTX is on
 sets_mode : (c d : ℕ) (mode : DtxMode) (o : Option CallHistory) (x : Option Call) (p : Option ℕ) → CallStands c o x p →
     CallStands c (option_map (set_now (with_mode mode)) o) (option_map (set_by (act.DtxSet d mode)) x) p
 sets_mode c d mode None None p h = h
@@ -87,8 +92,15 @@ module _ (h : ℕ → Option CallHistory) (gs : List Group) (most : ℕ) (k : Ar
   opened c law fits d = elim (cases_Bool (c == d)) [
     | inl t ↦
         let e = eqb-true c d t in
-        let none : partner_in gs d ≡ None = subst (λ (n : ℕ). partner_in gs n ≡ None) e (closed_partner c (h c) (partner_in gs c) (subst (λ (x : Option Call). CallStands c (h c) x (partner_in gs c)) fits.1 (s c))) in
-        simp t (e, subst (λ (n : ℕ). Stands (record { number = d; law = law }) [] new_settings (new_call n law).leg) (sym e) (new-stands (record { number = d; law = law })), sym (ap is_some none))
+        let none : partner_in gs d ≡ None =
+        subst (λ (n : ℕ). partner_in gs n ≡ None) e
+        (closed_partner c (h c) (partner_in gs c) (subst (λ (x : Option Call). CallStands c (h c) x (partner_in gs c)) fits.1 (s c))) in
+        simp t (
+          e,
+          subst (λ (n : ℕ). Stands (record { number = d; law = law }) [] new_settings (new_call n law).leg) (sym e)
+              (new-stands (record { number = d; law = law })),
+          sym (ap is_some none),
+        )
     | inr f ↦ simp f (s d)
   ]
 
@@ -121,7 +133,9 @@ module _ (h : ℕ → Option CallHistory) (gs : List Group) (most : ℕ) (k : Ar
         let f : (b == d) ≡ false = ne_eqb b d (λ q. (partner_back most gs a b k fits).1 (eqb-true a d t ∙ sym q)) in
         simp (t, f) (parts d (h d) (call_in gs d) (partner_in gs d) (ap is_some (at a d (λ n. partner_in gs n ≡ Some b) t fits)) (s d))
     | inr f ↦ elim (cases_Bool (b == d)) [
-      | inl t ↦ simp (f, t) (parts d (h d) (call_in gs d) (partner_in gs d) (ap is_some (at b d (λ n. partner_in gs n ≡ Some a) t (partner_back most gs a b k fits).0)) (s d))
+      | inl t ↦
+          simp (f, t)
+          (parts d (h d) (call_in gs d) (partner_in gs d) (ap is_some (at b d (λ n. partner_in gs n ≡ Some a) t (partner_back most gs a b k fits).0)) (s d))
       | inr g ↦ simp (f, g) (s d)
     ]
   ]
@@ -159,16 +173,20 @@ history_stands : (c : ℕ) (o : Option CallHistory) (x : Option Call) (p : Optio
 history_stands c o None p y e h = absurd (rw e at h)
 history_stands c o (Some x) p y e h = let g = rw e at h in (x, refl, g.1)
 
-pub standing : (h : ℕ → Option CallHistory) (gs : List Group) (c : ℕ) (y : CallHistory) → GroupsStand h gs → h c ≡ Some y → (m : Call) × (call_in gs c ≡ Some m) × Stands (whose c y) y.periods y.now m.leg
+-- a call that has had periods is open and stands for them
+pub standing : (h : ℕ → Option CallHistory) (gs : List Group) (c : ℕ) (y : CallHistory) → GroupsStand h gs → h c ≡ Some y →
+    (m : Call) × (call_in gs c ≡ Some m) × Stands (whose c y) y.periods y.now m.leg
 standing h gs c y s e = history_stands c (h c) (call_in gs c) (partner_in gs c) y e (s c)
 
 -- the tally of the call that ended
 pub tallied : (h : ℕ → Option CallHistory) (gs : List Group) (c : ℕ) (p : Option ℕ) (kept new : ℕ → Tally) → GroupsStand h gs → IsOpen gs c →
-    ((d : ℕ) → d ≢ c → new d ≡ kept d) → ((m : Call) (y : CallHistory) → call_in gs c ≡ Some m → Stands (whose c y) y.periods y.now m.leg → new c ≡ tally_of y.periods y.now) →
-    (d : ℕ) → new d ≡ tallies_after (act.Closed c p) h kept d
+    ((d : ℕ) → d ≢ c → new d ≡ kept d) →
+    ((m : Call) (y : CallHistory) → call_in gs c ≡ Some m → Stands (whose c y) y.periods y.now m.leg → new c ≡ tally_of y.periods y.now) → (d : ℕ) →
+    new d ≡ tallies_after (act.Closed c p) h kept d
 tallied h gs c p kept new s o others this d = elim (cases_Bool (c == d)) [
   | inl t ↦ simp t (subst (λ (n : ℕ). new n ≡ kept_of (h n) (kept n)) (eqb-true c d t)
-      (let r = open_stands c (h c) (call_in gs c) (partner_in gs c) o (s c) in this r.1 r.0 r.3 r.4 ∙ sym (ap (λ (x : Option CallHistory). kept_of x (kept c)) r.2)))
+      (let r = open_stands c (h c) (call_in gs c) (partner_in gs c) o (s c) in this r.1 r.0 r.3 r.4
+      ∙ sym (ap (λ (x : Option CallHistory). kept_of x (kept c)) r.2)))
   | inr f ↦ simp f (others d (λ q. false≢true (sym f ∙ eq-eqb c d (sym q))))
 ]
 

@@ -4,25 +4,29 @@ use Rattle.std.proofs.lemmas.Bool.{cases_lt}
 use Rattle.trau_io.specs.declared.line.Side.{Side}
 use Rattle.trau_io.specs.declared.line.Side.TheVariants.{Down, Out}
 use Rattle.trau_io.specs.Places.{place_of}
-use Rattle.round_lines.specs.Seats.{SeatMemory, down_of, out_of}
+use Rattle.round_lines.specs.Seats.{SeatMemory, down_given, out_given}
 use Rattle.round_lines.specs.Rounds.{Rising, IsOutgoing, seat_at, call_at}
 use Rattle.farm_rounds.specs.Sums.{AddsSeat, Adds, no_sums, sum_in}
 
+-- a table of zeros
 zeros : (n i : ℕ) → ◌≡◌ {A = ℕ} (slice_index_or (replicate n 0) i 0) 0
 zeros zero i = refl
 zeros (suc n) zero = refl
 zeros (suc n) (suc i) = zeros n i
 
+-- .. has no sum
 pub no_sum : (n : ℕ) (sums : List ℕ) → sums ≡ replicate n 0 → sum_in sums ≡ no_sums
 no_sum n sums made = λ i. λ c side. (ap (λ (xs : List ℕ). sum_in xs c side) made ∙ zeros n (place_of c side)) i
 
 -- both lines of a seat, one after the other
 pub both_added : (seat : SeatMemory) (a b d : ℕ → Side → ℕ) (c : ℕ) → c ≡ seat.place.call →
-    b c Down ≡ (a c Down + sum (down_of seat)) % 2 ^ 32 → ((e : ℕ) (s : Side) → (e ≡ c → s ≡ Down → ⊥) → b e s ≡ a e s) →
-    d c Out ≡ (b c Out + sum (out_of seat)) % 2 ^ 32 → ((e : ℕ) (s : Side) → (e ≡ c → s ≡ Out → ⊥) → d e s ≡ b e s) → AddsSeat seat a d
+    b c Down ≡ (a c Down + sum (down_given seat)) % 2 ^ 32 → ((e : ℕ) (s : Side) → (e ≡ c → s ≡ Down → ⊥) → b e s ≡ a e s) →
+    d c Out ≡ (b c Out + sum (out_given seat)) % 2 ^ 32 → ((e : ℕ) (s : Side) → (e ≡ c → s ≡ Out → ⊥) → d e s ≡ b e s) → AddsSeat seat a d
 both_added seat a b d c is down first out second = record {
-  down = subst (λ (n : ℕ). d n Down ≡ (a n Down + sum (down_of seat)) % 2 ^ 32) is (second c Down (λ p q. other_side (sym q)) ∙ down);
-  out = subst (λ (n : ℕ). d n Out ≡ (a n Out + sum (out_of seat)) % 2 ^ 32) is (out ∙ ap (λ (n : ℕ). (n + sum (out_of seat)) % 2 ^ 32) (first c Out (λ p q. other_side q)));
+  down = subst (λ (n : ℕ). d n Down ≡ (a n Down + sum (down_given seat)) % 2 ^ 32) is (second c Down (λ p q. other_side (sym q)) ∙ down);
+  out =
+      subst (λ (n : ℕ). d n Out ≡ (a n Out + sum (out_given seat)) % 2 ^ 32) is
+      (out ∙ ap (λ (n : ℕ). (n + sum (out_given seat)) % 2 ^ 32) (first c Out (λ p q. other_side q)));
   others = λ e s none. second e s (λ p q. none (p ∙ is) (subst IsOutgoing (sym q) tt)) ∙ first e s (λ p q. none (p ∙ is) (subst IsOutgoing (sym q) tt));
 }
   where
@@ -31,24 +35,29 @@ both_added seat a b d c is down first out second = record {
 
 -- the first n seats of a round
 pub record AddsFirst (n : ℕ) (seats : List SeatMemory) (before now : ℕ → Side → ℕ) : Type 0 where
-  pub down : (k : ℕ) → k < n → now (call_at seats k) Down ≡ (before (call_at seats k) Down + sum (down_of (seat_at seats k))) % 2 ^ 32
-  pub out : (k : ℕ) → k < n → now (call_at seats k) Out ≡ (before (call_at seats k) Out + sum (out_of (seat_at seats k))) % 2 ^ 32
+  pub down : (k : ℕ) → k < n → now (call_at seats k) Down ≡ (before (call_at seats k) Down + sum (down_given (seat_at seats k))) % 2 ^ 32
+  pub out : (k : ℕ) → k < n → now (call_at seats k) Out ≡ (before (call_at seats k) Out + sum (out_given (seat_at seats k))) % 2 ^ 32
   pub others : (c : ℕ) (s : Side) → ((k : ℕ) → k < n → c ≡ call_at seats k → IsOutgoing s → ⊥) → now c s ≡ before c s
 
 -- one seat more
-pub added_more : (n : ℕ) (seats : List SeatMemory) (a b d : ℕ → Side → ℕ) → Rising seats → n < length seats → AddsFirst n seats a b → AddsSeat (seat_at seats n) b d → AddsFirst (n + 1) seats a d
+pub added_more : (n : ℕ) (seats : List SeatMemory) (a b d : ℕ → Side → ℕ) → Rising seats → n < length seats → AddsFirst n seats a b →
+    AddsSeat (seat_at seats n) b d → AddsFirst (n + 1) seats a d
 added_more n seats a b d rising within first new = record {
   down = λ k less. elim (cases_lt k n) [
     | inl earlier ↦ new.others (call_at seats k) Down (λ same out. apart k earlier (sym same)) ∙ first.down k earlier
-    | inr here ↦ subst (λ (k : ℕ). d (call_at seats k) Down ≡ (a (call_at seats k) Down + sum (down_of (seat_at seats k))) % 2 ^ 32) (is k less here)
-        (new.down ∙ ap (λ (m : ℕ). (m + sum (down_of (seat_at seats n))) % 2 ^ 32) (first.others (call_at seats n) Down (λ k earlier same out. apart k earlier same)))
+    | inr here ↦ subst (λ (k : ℕ). d (call_at seats k) Down ≡ (a (call_at seats k) Down + sum (down_given (seat_at seats k))) % 2 ^ 32) (is k less here)
+        (new.down
+        ∙ ap (λ (m : ℕ). (m + sum (down_given (seat_at seats n))) % 2 ^ 32) (first.others (call_at seats n) Down (λ k earlier same out. apart k earlier same)))
   ];
   out = λ k less. elim (cases_lt k n) [
     | inl earlier ↦ new.others (call_at seats k) Out (λ same out. apart k earlier (sym same)) ∙ first.out k earlier
-    | inr here ↦ subst (λ (k : ℕ). d (call_at seats k) Out ≡ (a (call_at seats k) Out + sum (out_of (seat_at seats k))) % 2 ^ 32) (is k less here)
-        (new.out ∙ ap (λ (m : ℕ). (m + sum (out_of (seat_at seats n))) % 2 ^ 32) (first.others (call_at seats n) Out (λ k earlier same out. apart k earlier same)))
+    | inr here ↦ subst (λ (k : ℕ). d (call_at seats k) Out ≡ (a (call_at seats k) Out + sum (out_given (seat_at seats k))) % 2 ^ 32) (is k less here)
+        (new.out
+        ∙ ap (λ (m : ℕ). (m + sum (out_given (seat_at seats n))) % 2 ^ 32) (first.others (call_at seats n) Out (λ k earlier same out. apart k earlier same)))
   ];
-  others = λ c s none. new.others c s (λ same out. none n (omega arith) same out) ∙ first.others c s (λ k earlier same out. none k (omega (arith, earlier)) same out);
+  others =
+      λ c s none. new.others c s (λ same out. none n (omega arith) same out)
+      ∙ first.others c s (λ k earlier same out. none k (omega (arith, earlier)) same out);
 }
   where
     apart : (k : ℕ) → k < n → call_at seats n ≡ call_at seats k → ⊥
@@ -57,5 +66,7 @@ added_more n seats a b d rising within first new = record {
     is : (k : ℕ) → k < n + 1 → n ≤ k → n ≡ k
     is k less here = omega (arith, less, here)
 
+-- all seats
 pub all_added : (n : ℕ) (seats : List SeatMemory) (a d : ℕ → Side → ℕ) → n ≡ length seats → AddsFirst n seats a d → Adds seats a d
-all_added n seats a d all done = let full = subst (λ (m : ℕ). AddsFirst m seats a d) all done in record { down = full.down; out = full.out; others = full.others }
+all_added n seats a d all done =
+    let full = subst (λ (m : ℕ). AddsFirst m seats a d) all done in record { down = full.down; out = full.out; others = full.others }

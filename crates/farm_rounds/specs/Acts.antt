@@ -5,7 +5,8 @@ use Rattle.trau_alaw.specs.declared.Law.{Law}
 use Rattle.switchboard.specs.declared.act.Act.{Act}
 use Rattle.switchboard.specs.declared.act.Act.TheVariants.{Opened, Closed, Bridged, Unbridged, LevelSet, DtxSet}
 use Rattle.call_leg.specs.Memory.{LegMemory}
-use Rattle.call_leg.specs.Step.{home_leg, with_down, begin_bridge, bridge_over, set_level, set_mode}
+use Rattle.call_leg.specs.Memory as leg
+use Rattle.call_leg.specs.Step.{with_down, begin_bridge, bridge_over, set_level, set_mode}
 use Rattle.farm_rounds.specs.declared.call.Call.{Call}
 use Rattle.farm_rounds.specs.declared.call.Group.{Group}
 use Rattle.farm_rounds.specs.declared.call.Group.TheVariants.{One, Two}
@@ -17,7 +18,7 @@ use Rattle.farm_rounds.specs.Groups.{AreGroups}
 
 -- before its first period
 abbrev pub new_call : ℕ → Law → Call
-new_call c law = record { number = c; leg = home_leg (record { number = c; law = law }); down_failed = false; out_failed = false }
+new_call c law = record { number = c; leg = leg.home_memory (record { number = c; law = law }); down_failed = false; out_failed = false }
 
 abbrev pub with_leg : LegMemory → Call → Call
 with_leg m x = record { number = x.number; leg = m; down_failed = x.down_failed; out_failed = x.out_failed }

@@ -10,7 +10,7 @@ use Rattle.call_leg.specs.Counted.{call_counts}
 use Rattle.call_leg.specs.Places.{sent_now}
 use Rattle.call_leg.specs.Down.{down_periods, frames_of}
 use Rattle.call_leg.specs.Stands.{Stands}
-use Rattle.down_framer.specs.Made.{due}
+use Rattle.down_framer.specs.Made.{handed_due}
 use Rattle.farm_rounds.specs.declared.call.Call.{Call}
 use Rattle.farm_rounds.specs.declared.call.Group.{Group}
 use Rattle.farm_rounds.specs.declared.tally.Tally.{Tally}
@@ -57,7 +57,7 @@ histories_after (DtxSet c mode) h = changed c (set_now (with_mode mode)) h
 -- no handed frame waits
 abbrev pub NoneWaits : Option CallHistory → Type 0
 NoneWaits None = Unit {0}
-NoneWaits (Some h) = due (down_periods h.periods) (frames_of h.periods) ≡ None
+NoneWaits (Some h) = handed_due (down_periods h.periods) (frames_of h.periods) ≡ None
 
 -- a bridge starts only where no handed frame waits
 abbrev pub NoneDrains : Act → (ℕ → Option CallHistory) → Type 0

@@ -59,7 +59,8 @@ IsPlaceOf numbers c k = (k < length numbers) × (slice_index numbers k ≡ c)
 -- partners are known.
 pub record AreSpread (jobs : List Job) (numbers : List ℕ) (slots : List (Option (Box CallMemory))) (partners : List ℕ) (parties : List Party) : Type 0 where
   pub named : parties ≡ map party_of jobs
-  pub there : (k : ℕ) (j : Job) → k < length numbers → job_in jobs (slice_index numbers k) ≡ Some j → slot_at slots k ≡ Some (start_of j (slice_index numbers k))
+  pub there : (k : ℕ) (j : Job) → k < length numbers → job_in jobs (slice_index numbers k) ≡ Some j →
+      slot_at slots k ≡ Some (start_of j (slice_index numbers k))
   pub beside : (k : ℕ) (j : Job) → k < length numbers → job_in jobs (slice_index numbers k) ≡ Some j →
       IsPlaceOf numbers (other_named (party_of j) (slice_index numbers k)) (slice_index partners k)
 

@@ -6,7 +6,7 @@ use Rattle.std.specs.Global.{Box, Vec}
 use Rattle.std.specs.Vec.{vec_capacity}
 use Rattle.round_lines.specs.Seats.{SeatMemory}
 use Rattle.round_lines.specs.Rounds.{seat_at}
-use Rattle.call_leg.specs.Step.{home_leg}
+use Rattle.call_leg.specs.Memory as leg
 use Rattle.call_pair.specs.declared.call_job.Phase.TheVariants.{First}
 use Rattle.call_pair.specs.declared.job.Job.{Job}
 use Rattle.call_pair.specs.declared.job.Job.TheVariants as job
@@ -42,7 +42,7 @@ calls_in boxes = map (λ b. b.value) boxes
 
 -- stands where there is no job of a call
 abbrev pub no_call : CallMemory
-no_call = starting 0 (record { leg = home_leg (record { number = 0; law = A }); io = no_octets 0 })
+no_call = starting 0 (record { leg = leg.home_memory (record { number = 0; law = A }); io = no_octets 0 })
 
 abbrev pub call_in_place : List (Box CallMemory) → ℕ → CallMemory
 call_in_place boxes k = get_or (calls_in boxes) k no_call

@@ -3,7 +3,8 @@
 use Rattle.std.specs.Prelude.{◌≡◌, ℕ, ◌<◌, Bool, true, if◌then◌else◌, ◌==◌, Option, Some, None, is_some, unwrap_or, find, List, length}
 use Rattle.std.specs.Option.{option_map}
 use Rattle.call_leg.specs.Stands.{Stands}
-use Rattle.call_pair.specs.History.{Start, settings_at, settings_past, alone_periods, bridged_periods, io_after}
+use Rattle.call_leg.specs.Settings.{settings_at}
+use Rattle.call_pair.specs.History.{Start, settings_past, alone_periods, bridged_periods, io_after}
 use Rattle.round_lines.specs.Transfer.{has_failed}
 use Rattle.round_lines.specs.Places.{whole_in}
 use Rattle.round_lines.specs.Seats.{SeatMemory, new_seat}
@@ -42,7 +43,11 @@ history_alone seats c x =
 abbrev pub history_bridged : List SeatMemory → ℕ → CallHistory → ℕ → CallHistory → CallHistory
 history_bridged seats c x d y =
     let n = whole_in (seat_of seats c).place in
-    record { law = x.law; periods = bridged_periods n (start_with seats c x) (start_with seats d y); now = settings_past n (whole_in (seat_of seats d).place) x.now }
+    record {
+      law = x.law;
+      periods = bridged_periods n (start_with seats c x) (start_with seats d y);
+      now = settings_past n (whole_in (seat_of seats d).place) x.now;
+    }
 
 abbrev pub history_beside : List SeatMemory → ℕ → CallHistory → ℕ → Option CallHistory → CallHistory
 history_beside seats c x d None = history_alone seats c x
@@ -62,7 +67,8 @@ worked_histories seats partner h c = option_map (history_with seats h c (partner
 -- goes on too.
 abbrev pub WorkedCall : (ℕ → Bool) → ℕ → Option CallHistory → Option Call → Option ℕ → Type 0
 WorkedCall stays c None None partner = partner ≡ None
-WorkedCall stays c (Some h) (Some x) partner = (x.number ≡ c) × Stands (whose c h) h.periods h.now x.leg × (stays c ≡ true → h.now.bridged ≡ is_some (that_stays stays partner))
+WorkedCall stays c (Some h) (Some x) partner =
+    (x.number ≡ c) × Stands (whose c h) h.periods h.now x.leg × (stays c ≡ true → h.now.bridged ≡ is_some (that_stays stays partner))
 WorkedCall stays c _ _ partner = ⊥
 
 abbrev pub WorkedStand : (ℕ → Option CallHistory) → WorkedMemory → Type 0

@@ -7,7 +7,7 @@ use Rattle.round_lines.specs.Places.{PlaceMemory, whole_in}
 use Rattle.round_lines.specs.Seats.{SeatMemory, new_seat}
 use Rattle.round_lines.specs.Rounds.{no_seat, seat_at, call_at}
 use Rattle.call_leg.specs.Memory.{periods_of_leg}
-use Rattle.call_leg.specs.Step.{home_leg}
+use Rattle.call_leg.specs.Memory as leg
 use Rattle.call_pair.specs.declared.job.Job.{Job}
 use Rattle.call_pair.specs.declared.job.Job.TheVariants as job
 use Rattle.call_pair.specs.Memory.{IoMemory, HalfMemory, IsIo, periods_of}
@@ -26,7 +26,7 @@ no_octets c = record { call = c; up = []; pcm = []; out = []; down = []; given =
 
 -- stands where there is no job
 abbrev pub no_job : Job
-no_job = job.One (record { leg = home_leg (record { number = 0; law = A }); io = no_octets 0 })
+no_job = job.One (record { leg = leg.home_memory (record { number = 0; law = A }); io = no_octets 0 })
 
 abbrev pub job_at : List Job → ℕ → Job
 job_at jobs j = slice_index_or jobs j no_job

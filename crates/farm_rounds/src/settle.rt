@@ -120,7 +120,7 @@ fn together(low: Option<Call>, high: Option<Call>) -> Option<Group>
     }
 }
 
-/// The calls of a job that go on after the round.
+// The calls of a job that go on after the round.
 fn settle(
     numbers: &[u32],
     live: &mut Vec<u32>,

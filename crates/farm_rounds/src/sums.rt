@@ -39,7 +39,7 @@ impl Sums {
         })
     }
 
-    /// The sum of a line's octets; 0 of an incoming line.
+    /// The sum of a line's octets, of the rounds that were added.
     pub fn of(&self, line: Line) -> u32
         ensures { result ≡ sum_in self.now line.call line.side }
     {
@@ -68,7 +68,7 @@ impl Sums {
             call,
             side: Side::Out,
         };
-        self.add(down, seat.down());
-        self.add(out, seat.out());
+        self.add(down, seat.down_given());
+        self.add(out, seat.out_given());
     }
 }

@@ -1,6 +1,6 @@
 //! What is kept of an ended call.
 
-use trau_io::Counts;
+use trau_io::{Counts, NO_COUNTS};
 
 /// What was counted of a call, and how many handed frames were sent in its latest bridge.
 #[derive(Clone, Copy)]
@@ -11,16 +11,6 @@ pub(crate) struct Tally {
 
 /// Of a call that hasn't ended.
 pub(crate) const NO_TALLY: Tally = Tally {
-    counts: Counts {
-        good: 0,
-        sid: 0,
-        invalid: 0,
-        bad: 0,
-        idle: 0,
-        other: 0,
-        miss: 0,
-        none: 0,
-        made: 0,
-    },
+    counts: NO_COUNTS,
     sent: 0,
 };

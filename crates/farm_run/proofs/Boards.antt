@@ -11,7 +11,7 @@ use Rattle.trau_orders.specs.declared.order.Order.{Order}
 use Rattle.switchboard.specs.declared.act.Act.{Act}
 use Rattle.switchboard.specs.declared.act.Act.TheVariants as act
 use Rattle.switchboard.specs.Calls.{Done, opened_at, closed_at}
-use Rattle.switchboard.specs.State.{State, gone_in, turned, told_more}
+use Rattle.switchboard.specs.State.{State, gone_in, after_turn, told_more}
 use Rattle.switchboard.specs.Open.{opened_now, open_now, partner_now, Finds}
 use Rattle.switchboard.proofs.Appending.{or_else}
 use Rattle.run_spec.proofs.Executing.{opened-append, closed-append}
@@ -84,20 +84,20 @@ some_more (Some x) p e = refl
 some_more None p e = cc
 
 -- **.. and when an order is executed.**
-pub over_turned : (s n : State) (o : Option Order) → n ≡ turned s o → (c : ℕ) → is_over s c ≡ true → is_over n c ≡ true
+pub over_turned : (s n : State) (o : Option Order) → n ≡ after_turn s o → (c : ℕ) → is_over s c ≡ true → is_over n c ≡ true
 over_turned s n o e c h = subst (λ (m : State). is_over m c ≡ true) (sym e) (by o)
   where
-    by : (o : Option Order) → is_over (turned s o) c ≡ true
+    by : (o : Option Order) → is_over (after_turn s o) c ≡ true
     by None = h
     by (Some x) = elim (or_cases (gone_in s c) (is_some (closed_at c s.done)) h) [
-      | inl g ↦ or_first (gone_in s c) (is_some (closed_at c (turned s (Some x)).done)) g
-      | inr q ↦ or_second (gone_in s c) (is_some (closed_at c (turned s (Some x)).done)) (ap is_some (closed-append c s.done _) ∙ some_more (closed_at c s.done) _ q)
+      | inl g ↦ or_first (gone_in s c) (is_some (closed_at c (after_turn s (Some x)).done)) g
+      | inr q ↦ or_second (gone_in s c) (is_some (closed_at c (after_turn s (Some x)).done)) (ap is_some (closed-append c s.done _) ∙ some_more (closed_at c s.done) _ q)
     ]
 
-opened_turned : (s n : State) (o : Option Order) → n ≡ turned s o → (c : ℕ) → opened_now s c ≡ true → opened_now n c ≡ true
+opened_turned : (s n : State) (o : Option Order) → n ≡ after_turn s o → (c : ℕ) → opened_now s c ≡ true → opened_now n c ≡ true
 opened_turned s n o e c h = subst (λ (m : State). opened_now m c ≡ true) (sym e) (by o)
   where
-    by : (o : Option Order) → opened_now (turned s o) c ≡ true
+    by : (o : Option Order) → opened_now (after_turn s o) c ≡ true
     by None = h
     by (Some x) = ap is_some (opened-append c s.done _) ∙ some_more (opened_at c s.done) _ h
 
@@ -153,7 +153,7 @@ module _ (failed : List Line) where
       some a b r = cc
 
 -- **After an accepted order the same is known of the listed lines.**
-pub knows_more : (s n : State) (o : Option Order) (groups after : List Group) (failed : List Line) (a : Act) → n ≡ turned s o → Finds a (opened_now s) (open_now s) (partner_now s) →
+pub knows_more : (s n : State) (o : Option Order) (groups after : List Group) (failed : List Line) (a : Act) → n ≡ after_turn s o → Finds a (opened_now s) (open_now s) (partner_now s) →
     ((c : ℕ) → call_in after c ≡ calls_after a (call_in groups) c) → KnowsListed s groups failed → KnowsListed n after failed
 knows_more s n o groups after failed a e finds calls k = record {
   opened = λ c side l. opened_turned s n o e c (k.opened c side l);
@@ -170,7 +170,7 @@ knows_more s n o groups after failed a e finds calls k = record {
     new (act.DtxSet m mode) f = tt
 
 -- **.. and after a refused one.**
-pub knows_same : (s n : State) (o : Option Order) (groups : List Group) (failed : List Line) → n ≡ turned s o → KnowsListed s groups failed → KnowsListed n groups failed
+pub knows_same : (s n : State) (o : Option Order) (groups : List Group) (failed : List Line) → n ≡ after_turn s o → KnowsListed s groups failed → KnowsListed n groups failed
 knows_same s n o groups failed e k = record {
   opened = λ c side l. opened_turned s n o e c (k.opened c side l);
   ended = λ c side i l. over_turned s n o e c (k.ended c side i l);

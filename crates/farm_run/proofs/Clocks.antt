@@ -26,7 +26,7 @@ use Rattle.farm_rounds.specs.Histories.{CallHistory, CallStands, GroupsStand}
 use Rattle.run_spec.specs.Run.{Run, whole_in, done_in, periods_to, periods_in, end_in, who_in, law_in, IsOpened, cause_in, worked_to}
 use Rattle.run_spec.specs.Now.{IsSoFar, settings_now}
 use Rattle.run_spec.specs.Lines.{out_line, down_octets}
-use Rattle.run_spec.proofs.Standing.{gone_later}
+use Rattle.run_spec.proofs.OpenCalls.{gone_later}
 use Rattle.run_spec.proofs.SoFar.{so_far_at_first, so_far_later}
 use Rattle.farm_run.specs.Runs.{TellsFailed, NoneRose, IsRunOver, IsWritten, IsCutOff, IsReadTo, is_listed, Leaves}
 use Rattle.farm_run.specs.Resuming.{LeavesFrom}
@@ -36,7 +36,7 @@ use Rattle.farm_run.proofs.Listed.{listed_head}
 use Rattle.farm_run.specs.Match.{AtClock, past_if, histories_at}
 use Rattle.farm_run.specs.Clock.{IsReadWhole, LinesAt, WrittenFrom, IsAtClock, NeverFell}
 use Rattle.farm_run.proofs.Rounds.{shut_after}
-use Rattle.farm_run.proofs.Worked.{length-periods_to}
+use Rattle.run_spec.proofs.LongerLines.{length-periods_to}
 use Rattle.farm_run.proofs.Following.{open_told}
 use Rattle.farm_run.proofs.Reach.{worked_idle, worked_all}
 

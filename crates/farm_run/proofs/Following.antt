@@ -13,7 +13,7 @@ use Rattle.switchboard.specs.declared.act.Reply.{Reply}
 use Rattle.switchboard.specs.Calls.{Done, is_this, opened_at, closed_at, is_open, gone_at}
 use Rattle.switchboard.specs.Runs.{IsRun, TellsEnds}
 use Rattle.switchboard.specs.Ends.{start_of}
-use Rattle.switchboard.specs.State.{State, gone_in, first_stamp, orders_of, due, done_by, turned, reply_of}
+use Rattle.switchboard.specs.State.{State, gone_in, first_stamp, orders_of, due, done_by, after_turn, reply_of}
 use Rattle.switchboard.specs.Stands.{AreRising}
 use Rattle.switchboard.specs.Open.{opened_now, open_now, partner_now, open_after, Finds, law_now, law_after}
 use Rattle.switchboard.proofs.Laws.{left_rising}
@@ -25,7 +25,7 @@ use Rattle.call_leg.specs.Periods.{CallPeriod}
 use Rattle.call_leg.specs.Settings.{Settings, new_settings, with_level, with_mode, with_bridge, without_bridge}
 use Rattle.run_spec.specs.Run.{Run, whole_in, periods_to, law_in}
 use Rattle.run_spec.specs.Now.{IsSoFar, settings_now, changed_by}
-use Rattle.run_spec.proofs.Standing.{open_facts, closed_kept, gone_is, gone_kept, opened_cases}
+use Rattle.run_spec.proofs.OpenCalls.{open_facts, closed_kept, gone_is, gone_kept, opened_cases}
 use Rattle.run_spec.proofs.Settling.{start_is}
 use Rattle.run_spec.proofs.Showing.{opens}
 use Rattle.run_spec.proofs.SoFar.{so_far_more}
@@ -43,10 +43,10 @@ pub record Due (s : State) (t : ℕ) (reply : Reply) (n : State) : Type 0 where
   pub result : reply.result ≡ (done_by s order).result
   pub new : n ≡ record { left = rest; done = s.done ++ done_by s order ∷ []; told = s.told }
 
-pub due_of : (s n : State) (t : ℕ) (reply : Reply) → Some reply ≡ reply_of s (due s.left t) → n ≡ turned s (due s.left t) → Due s t reply n
+pub due_of : (s n : State) (t : ℕ) (reply : Reply) → Some reply ≡ reply_of s (due s.left t) → n ≡ after_turn s (due s.left t) → Due s t reply n
 due_of s n t reply e f = by s.left refl
   where
-    one : (o : Order) (rest : List Order) (b : Bool) → (o.stamp == t) ≡ b → s.left ≡ o ∷ rest → Some reply ≡ reply_of s (if b then Some o else None) → n ≡ turned s (if b then Some o else None) → Due s t reply n
+    one : (o : Order) (rest : List Order) (b : Bool) → (o.stamp == t) ≡ b → s.left ≡ o ∷ rest → Some reply ≡ reply_of s (if b then Some o else None) → n ≡ after_turn s (if b then Some o else None) → Due s t reply n
     one o rest true q l h k = record {
       order = o;
       rest = rest;
@@ -59,10 +59,10 @@ due_of s n t reply e f = by s.left refl
 
     by : (os : List Order) → s.left ≡ os → Due s t reply n
     by [] l = let h = e ∙ ap (λ os. reply_of s (due os t)) l in cc
-    by (o ∷ rest) l = one o rest (o.stamp == t) refl l (e ∙ ap (λ os. reply_of s (due os t)) l) (f ∙ ap (λ os. turned s (due os t)) l)
+    by (o ∷ rest) l = one o rest (o.stamp == t) refl l (e ∙ ap (λ os. reply_of s (due os t)) l) (f ∙ ap (λ os. after_turn s (due os t)) l)
 
 -- a step tells no end, and one that executes an order leaves one order less
-pub told_kept : (s n : State) (o : Option Order) → n ≡ turned s o → n.told ≡ s.told
+pub told_kept : (s n : State) (o : Option Order) → n ≡ after_turn s o → n.told ≡ s.told
 told_kept s n None e = ap (λ (m : State). m.told) e
 told_kept s n (Some o) e = ap (λ (m : State). m.told) e
 

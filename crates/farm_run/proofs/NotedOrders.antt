@@ -32,7 +32,8 @@ use Rattle.run_spec.specs.Facts.{sent_by}
 use Rattle.run_spec.specs.Now.{IsSoFar, settings_now}
 use Rattle.run_spec.proofs.SoFar.{standing_now}
 use Rattle.run_spec.proofs.Settling.{start_is}
-use Rattle.run_spec.proofs.Standing.{Standing, IsSoundBridge, open_facts, opened_kept, opened_cases}
+use Rattle.run_spec.proofs.Standing.{Standing, IsSoundBridge}
+use Rattle.run_spec.proofs.OpenCalls.{open_facts, opened_kept, opened_cases}
 use Rattle.run_spec.proofs.Showing.{opens}
 use Rattle.run_spec.proofs.Ending.{end_closed}
 use Rattle.run_spec.proofs.Sent.{sent_at_bridge}

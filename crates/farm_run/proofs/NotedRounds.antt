@@ -27,7 +27,7 @@ use Rattle.run_spec.specs.Now.{IsSoFar, settings_now}
 use Rattle.run_spec.proofs.Lists.{each_weaker}
 use Rattle.run_spec.proofs.SoFar.{so_far_later}
 use Rattle.run_spec.proofs.Settling.{start_is}
-use Rattle.run_spec.proofs.Standing.{open_facts}
+use Rattle.run_spec.proofs.OpenCalls.{open_facts}
 use Rattle.run_spec.proofs.Going.{start_run}
 use Rattle.run_spec.proofs.Sent.{sent_at_end}
 use Rattle.farm_run.specs.declared.notes.Opening.{Opening}

@@ -10,10 +10,10 @@ use Rattle.switchboard.specs.Bridges.{joins, other, bridge_of}
 use Rattle.switchboard.specs.Ends.{start_of}
 use Rattle.call_leg.specs.Uplink.{handed_fields}
 use Rattle.call_leg.specs.Periods.{CallPeriod, ups_of, effective_now}
-use Rattle.call_leg.specs.Settings.{without_bridge}
+use Rattle.call_leg.specs.Settings.{without_bridge, settings_at}
 use Rattle.call_pair.specs.Memory.{IoMemory}
 use Rattle.call_pair.specs.Places.{up_at}
-use Rattle.call_pair.specs.History.{settings_at, period_at, handed_at, bridged_periods, settings_past}
+use Rattle.call_pair.specs.History.{period_at, handed_at, bridged_periods, settings_past}
 use Rattle.run_spec.specs.Run.{Run, whole_in, up_in, ups_to, item_of, periods_to}
 use Rattle.run_spec.specs.Now.{handed_now, settings_now}
 use Rattle.run_spec.proofs.SoFar.{standing_now}

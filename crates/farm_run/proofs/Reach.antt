@@ -13,8 +13,9 @@ use Rattle.run_spec.specs.Run.{Run, given_in, whole_in, done_in, end_in, IsOpene
 use Rattle.run_spec.specs.Now.{IsSoFar, NoOrderTo, has_period}
 use Rattle.run_spec.proofs.Lists.{found}
 use Rattle.run_spec.proofs.Executing.{opened-append}
-use Rattle.run_spec.proofs.Standing.{gone_is, shut_cases}
-use Rattle.run_spec.proofs.Settling.{start_is, closed_stamp, at_of, end_by, ends_has}
+use Rattle.run_spec.proofs.OpenCalls.{gone_is, shut_cases}
+use Rattle.switchboard.proofs.Whole.{end_by}
+use Rattle.run_spec.proofs.Settling.{start_is, closed_stamp, at_of, ends_has}
 use Rattle.run_spec.proofs.SoFar.{standing_now, standing_rest, standing_end, done-rest, rest_in, rest_above, rest_from, so_far_later}
 use Rattle.run_spec.proofs.Ending.{end_closed, end_lacks}
 use Rattle.run_spec.proofs.Going.{opened_run}

@@ -12,7 +12,7 @@ use Rattle.trau_io.specs.declared.line.Side.TheVariants.{Up, Pcm, Down, Out}
 use Rattle.trau_io.specs.Lines.{LineState}
 use Rattle.round_lines.specs.Transfer.{has_failed}
 use Rattle.round_lines.specs.Seats as seats
-use Rattle.round_lines.specs.Seats.{SeatMemory, down_of}
+use Rattle.round_lines.specs.Seats.{down_given}
 use Rattle.round_lines.specs.Rounds.{seat_at, call_at}
 use Rattle.switchboard.specs.Calls.{Done, opened_at, closed_at, is_open, gone_at}
 use Rattle.switchboard.specs.Ends.{Given, lack_of, end_of, start_of}
@@ -45,10 +45,11 @@ use Rattle.farm_run.proofs.Rounds.{open_at, open_after, shut_after}
 use Rattle.farm_run.proofs.RoundEnds.{end_within, start_kept}
 use Rattle.farm_run.proofs.Told.{told_done, told_left, round_over, gone_round}
 use Rattle.farm_run.proofs.SeatEnds.{each_end, told_seats}
-use Rattle.farm_run.proofs.Worked.{out_written, down_written, length-periods_to}
+use Rattle.farm_run.proofs.Worked.{out_written, down_written}
 use Rattle.farm_run.proofs.Reach.{end_after, worked_now, worked_then, worked_idle}
 use Rattle.farm_run.proofs.WorkedRound.{WorkedRound, lines_kept, writes_at, down_between, out_between}
-use Rattle.farm_run.proofs.Gaining.{gains, length-out_line, length-down_octets}
+use Rattle.farm_run.proofs.Gaining.{gains}
+use Rattle.run_spec.proofs.LongerLines.{length-out_line, length-down_octets, length-periods_to}
 use Rattle.farm_run.proofs.RoundListed.{listed_kept, was_down, was_out, stands_down, stands_out}
 use Rattle.farm_run.proofs.RoundCalls.{OpenSeat, open_seat, open_is, opened_is, all_seats, all_have_seats, ends_filled, goes_on_is}
 use Rattle.farm_run.proofs.RoundPast.{IsPast, worked_past}
@@ -211,7 +212,7 @@ module _ (r : Run) (t n : ℕ) (b : State) (farm after : FarmMemory) (first befo
 
   -- **What a line is to have gained grows by what goes out of the call's seat.**
   pub grown_out : (c : ℕ) (o : alive c ≡ true) → let s = seat c o in
-      out_line (who_in r c) (periods_to r c (worked_to r (t + n) c)) ≡ out_line (who_in r c) (periods_to r c (worked_to r t c)) ++ seats.out_of (seat_at w.worked s.k)
+      out_line (who_in r c) (periods_to r c (worked_to r (t + n) c)) ≡ out_line (who_in r c) (periods_to r c (worked_to r t c)) ++ seats.out_given (seat_at w.worked s.k)
   grown_out c o =
       let s = seat c o in
       let k = places_in r b.done t n c in
@@ -219,11 +220,11 @@ module _ (r : Run) (t n : ℕ) (b : State) (farm after : FarmMemory) (first befo
       let begun = (open_at r t b.done c (standing_now r t b.done b.left h.so_far) o).begun in
       ap (λ (k : ℕ). out_line (who_in r c) (periods_to r c k)) (worked_then r t n b.done b.left c h o)
       ∙ out_written r t k b.done c (octets_of x) (left_io c o) begun refl
-      ∙ ap (λ (xs : List ℕ). out_line (who_in r c) (periods_to r c (t - start_of b.done c)) ++ xs) (sym (ap seats.out_of (seat_left c o) ∙ ap (λ (k : ℕ). take (160 * k) (left_io c o).out) s.whole))
-      ∙ sym (ap (λ (k : ℕ). out_line (who_in r c) (periods_to r c k) ++ seats.out_of (seat_at w.worked s.k)) (worked_now r t n b.done b.left c h o))
+      ∙ ap (λ (xs : List ℕ). out_line (who_in r c) (periods_to r c (t - start_of b.done c)) ++ xs) (sym (ap seats.out_given (seat_left c o) ∙ ap (λ (k : ℕ). take (160 * k) (left_io c o).out) s.whole))
+      ∙ sym (ap (λ (k : ℕ). out_line (who_in r c) (periods_to r c k) ++ seats.out_given (seat_at w.worked s.k)) (worked_now r t n b.done b.left c h o))
 
   pub grown_down : (c : ℕ) (o : alive c ≡ true) → let s = seat c o in
-      down_octets (who_in r c) (periods_to r c (worked_to r (t + n) c)) ≡ down_octets (who_in r c) (periods_to r c (worked_to r t c)) ++ seats.down_of (seat_at w.worked s.k)
+      down_octets (who_in r c) (periods_to r c (worked_to r (t + n) c)) ≡ down_octets (who_in r c) (periods_to r c (worked_to r t c)) ++ seats.down_given (seat_at w.worked s.k)
   grown_down c o =
       let s = seat c o in
       let k = places_in r b.done t n c in
@@ -231,8 +232,8 @@ module _ (r : Run) (t n : ℕ) (b : State) (farm after : FarmMemory) (first befo
       let begun = (open_at r t b.done c (standing_now r t b.done b.left h.so_far) o).begun in
       ap (λ (k : ℕ). down_octets (who_in r c) (periods_to r c k)) (worked_then r t n b.done b.left c h o)
       ∙ down_written r t k b.done c (octets_of x) (left_io c o) begun refl
-      ∙ ap (λ (xs : List ℕ). down_octets (who_in r c) (periods_to r c (t - start_of b.done c)) ++ xs) (sym (ap seats.down_of (seat_left c o) ∙ ap (λ (k : ℕ). take (40 * k) (left_io c o).down) s.whole))
-      ∙ sym (ap (λ (k : ℕ). down_octets (who_in r c) (periods_to r c k) ++ seats.down_of (seat_at w.worked s.k)) (worked_now r t n b.done b.left c h o))
+      ∙ ap (λ (xs : List ℕ). down_octets (who_in r c) (periods_to r c (t - start_of b.done c)) ++ xs) (sym (ap seats.down_given (seat_left c o) ∙ ap (λ (k : ℕ). take (40 * k) (left_io c o).down) s.whole))
+      ∙ sym (ap (λ (k : ℕ). down_octets (who_in r c) (periods_to r c k) ++ seats.down_given (seat_at w.worked s.k)) (worked_now r t n b.done b.left c h o))
 
   -- ---- what is written, from a period on
 
@@ -254,8 +255,8 @@ module _ (r : Run) (t n : ℕ) (b : State) (farm after : FarmMemory) (first befo
       let fits : k ≤ length old = omega (arith, length-out_line (who_in r c) (periods_to r c (worked_to r t c)), length-periods_to r c (worked_to r t c), sooner from c l) in
       let was = wrote.out c (opened_is r t n b farm after first before now ends w h m b' last at meets c o) in
       subst (λ (x : Bool). IsWritten x (first c Out) (now c Out) (drop k (out_line (who_in r c) (periods_to r c (worked_to r (t + n) c))))) (stands_out t n b farm after before now ends w a knows b' told open_then s.k c s.within s.here)
-      (subst (IsWritten (has_failed (seat_at w.drained s.k).place.out) (first c Out) (now c Out)) (sym (ap (drop k) (grown_out c o) ∙ drop-append-le k old (seats.out_of (seat_at w.worked s.k)) fits))
-      (gains (first c Out) (w.between c Out) (now c Out) (seat_at w.worked s.k).place.out (seat_at w.drained s.k).place.out front (seats.out_of (seat_at w.worked s.k)) (writes_at t n farm after before now ends w s.k c s.within s.here written).out
+      (subst (IsWritten (has_failed (seat_at w.drained s.k).place.out) (first c Out) (now c Out)) (sym (ap (drop k) (grown_out c o) ∙ drop-append-le k old (seats.out_given (seat_at w.worked s.k)) fits))
+      (gains (first c Out) (w.between c Out) (now c Out) (seat_at w.worked s.k).place.out (seat_at w.drained s.k).place.out front (seats.out_given (seat_at w.worked s.k)) (writes_at t n farm after before now ends w s.k c s.within s.here written).out
       (subst (λ (x : Bool). IsWritten x (first c Out) (w.between c Out) front) (sym (was_out t n b farm after before now ends w a knows b' told open_then s.k c s.within s.here))
       (subst (λ (l : LineState). IsWritten (is_listed farm.failed c Out) (first c Out) l front) (sym (out_between t n farm after before now ends w c)) was))))
 
@@ -269,8 +270,8 @@ module _ (r : Run) (t n : ℕ) (b : State) (farm after : FarmMemory) (first befo
       let fits : k ≤ length old = omega (arith, length-down_octets (who_in r c) (periods_to r c (worked_to r t c)), length-periods_to r c (worked_to r t c), sooner from c l) in
       let was = wrote.down c (opened_is r t n b farm after first before now ends w h m b' last at meets c o) in
       subst (λ (x : Bool). IsWritten x (first c Down) (now c Down) (drop k (down_octets (who_in r c) (periods_to r c (worked_to r (t + n) c))))) (stands_down t n b farm after before now ends w a knows b' told open_then s.k c s.within s.here)
-      (subst (IsWritten (has_failed (seat_at w.drained s.k).place.down) (first c Down) (now c Down)) (sym (ap (drop k) (grown_down c o) ∙ drop-append-le k old (seats.down_of (seat_at w.worked s.k)) fits))
-      (gains (first c Down) (w.between c Down) (now c Down) (seat_at w.worked s.k).place.down (seat_at w.drained s.k).place.down front (seats.down_of (seat_at w.worked s.k)) (writes_at t n farm after before now ends w s.k c s.within s.here written).down
+      (subst (IsWritten (has_failed (seat_at w.drained s.k).place.down) (first c Down) (now c Down)) (sym (ap (drop k) (grown_down c o) ∙ drop-append-le k old (seats.down_given (seat_at w.worked s.k)) fits))
+      (gains (first c Down) (w.between c Down) (now c Down) (seat_at w.worked s.k).place.down (seat_at w.drained s.k).place.down front (seats.down_given (seat_at w.worked s.k)) (writes_at t n farm after before now ends w s.k c s.within s.here written).down
       (subst (λ (x : Bool). IsWritten x (first c Down) (w.between c Down) front) (sym (was_down t n b farm after before now ends w a knows b' told open_then s.k c s.within s.here))
       (subst (λ (l : LineState). IsWritten (is_listed farm.failed c Down) (first c Down) l front) (sym (down_between t n farm after before now ends w c)) was))))
 

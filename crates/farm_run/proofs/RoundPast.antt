@@ -13,8 +13,8 @@ use Rattle.switchboard.specs.Calls.{Done, is_open, gone_at}
 use Rattle.switchboard.specs.Bridges.{bridges, joins, other, lasts, bridge_of}
 use Rattle.switchboard.specs.Ends.{start_of}
 use Rattle.switchboard.specs.State.{State, gone_in}
-use Rattle.call_leg.specs.Settings.{Settings, without_bridge}
-use Rattle.call_pair.specs.History.{settings_at, settings_past}
+use Rattle.call_leg.specs.Settings.{Settings, without_bridge, settings_at}
+use Rattle.call_pair.specs.History.{settings_past}
 use Rattle.call_pair.specs.Memory.{IoMemory}
 use Rattle.farm_rounds.specs.Calls.{partner_in}
 use Rattle.farm_rounds.specs.Memory.{FarmMemory}

@@ -64,7 +64,7 @@ module _ (r : Run) (t n : ℕ) (b : State) (farm after : FarmMemory) (first befo
             let s = seat c o in
             let l = s.within in
             let within : s.k < length w.worked = omega (arith, l, w.number, w.filled_number, w.worked_number) in
-            let more = seats.out_of (seat_at w.worked s.k) in
+            let more = seats.out_given (seat_at w.worked s.k) in
             subst (λ (d : ℕ). is d Out ≡ (was d Out + sum more) % 2 ^ 32) (worked_at t n farm after before now ends w s.k s.within ∙ s.here) (adds.out s.k within)
             ∙ ap (λ (v : ℕ). (v + sum more) % 2 ^ 32) (sums.out c i)
             ∙ added (out_line (who_in r c) (periods_to r c (worked_to r t c))) more
@@ -79,7 +79,7 @@ module _ (r : Run) (t n : ℕ) (b : State) (farm after : FarmMemory) (first befo
             let s = seat c o in
             let l = s.within in
             let within : s.k < length w.worked = omega (arith, l, w.number, w.filled_number, w.worked_number) in
-            let more = seats.down_of (seat_at w.worked s.k) in
+            let more = seats.down_given (seat_at w.worked s.k) in
             subst (λ (d : ℕ). is d Down ≡ (was d Down + sum more) % 2 ^ 32) (worked_at t n farm after before now ends w s.k s.within ∙ s.here) (adds.down s.k within)
             ∙ ap (λ (v : ℕ). (v + sum more) % 2 ^ 32) (sums.down c i)
             ∙ added (down_octets (who_in r c) (periods_to r c (worked_to r t c))) more

@@ -10,14 +10,15 @@ use Rattle.switchboard.specs.Bridges.{bridges, joins, other, lasts, bridge_of}
 use Rattle.switchboard.specs.Ends.{start_of}
 use Rattle.switchboard.specs.State.{first_stamp}
 use Rattle.call_leg.specs.Periods.{CallPeriod}
-use Rattle.call_leg.specs.Settings.{Settings, later, without_bridge, period_with}
+use Rattle.call_leg.specs.Settings.{Settings, later, settings_at, without_bridge, period_with}
 use Rattle.call_pair.specs.Memory.{IoMemory}
 use Rattle.call_pair.specs.Places.{up_at, pcm_at}
-use Rattle.call_pair.specs.History.{settings_at, period_at, alone_periods}
+use Rattle.call_pair.specs.History.{period_at, alone_periods}
 use Rattle.run_spec.specs.Run.{Run, whole_in, up_in, pcm_in, ups_to, item_of, periods_to}
 use Rattle.run_spec.specs.Now.{NoOrderTo, has_period, bridge_now, handed_now, period_now, settings_now, settings_in}
 use Rattle.run_spec.proofs.Lists.{each_all, found}
-use Rattle.run_spec.proofs.Standing.{Standing, open_facts, gone_is, gone_later, lasts_parts}
+use Rattle.run_spec.proofs.Standing.{Standing, lasts_parts}
+use Rattle.run_spec.proofs.OpenCalls.{open_facts, gone_is, gone_later}
 use Rattle.run_spec.proofs.Settling.{start_is}
 use Rattle.run_spec.proofs.SoFar.{standing_now}
 use Rattle.run_spec.proofs.Bridging.{open_has, bridge_later, bridge_after, same_settings, settings_later}

@@ -14,7 +14,7 @@ use Rattle.switchboard.proofs.Laws.{before_more}
 use Rattle.run_spec.specs.Run.{Run, whole_in}
 use Rattle.run_spec.specs.Now.{IsSoFar}
 use Rattle.run_spec.proofs.Settling.{start_is}
-use Rattle.run_spec.proofs.Standing.{open_facts, open_from, gone_is}
+use Rattle.run_spec.proofs.OpenCalls.{open_facts, open_from, gone_is}
 use Rattle.run_spec.proofs.SoFar.{so_far_later}
 use Rattle.farm_run.specs.Going.{places_in, ends_within, told_after, is_told}
 use Rattle.farm_run.proofs.RoundTaken.{IsRound}

@@ -26,6 +26,7 @@ use Rattle.farm_run.proofs.RoundTaken.{IsRound, IsFed, IsTaken, start_at}
 use Rattle.farm_run.proofs.Rounds.{alone_worked, alone_settings}
 use Rattle.farm_run.proofs.Partners.{bridged_worked, bridged_settings}
 use Rattle.farm_run.proofs.RoundEnds.{whole_taken}
+use Rattle.run_spec.proofs.LongerLines.{length-periods_to}
 use Rattle.farm_run.proofs.LineOctets.{out_of_periods, down_of_periods}
 
 -- ---- what was taken is what the places have
@@ -80,10 +81,6 @@ bridged_after r t n ds left c x io io' half h b f g all w =
     (bridged_half r t n ds left c x io io' half h b f g w)
 
 -- ---- its octets
-
-pub length-periods_to : (r : Run) (c m : ℕ) → length (periods_to r c m) ≡ m
-length-periods_to r c zero = refl
-length-periods_to r c (suc m) = ap suc (length-periods_to r c m)
 
 length-outs_of : (who : Who) (k : ℕ) (ts : List CallPeriod) → k ≤ length ts → length (outs_of who k ts) ≡ 160 * k
 length-outs_of who zero ts h = refl

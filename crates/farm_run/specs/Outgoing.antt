@@ -6,7 +6,7 @@ use Rattle.trau_io.specs.Lines.{LineState}
 use Rattle.round_lines.specs.declared.transfer.Outlet.{Outlet}
 use Rattle.round_lines.specs.Transfer.{Gives}
 use Rattle.round_lines.specs.Places.{TellsFaults}
-use Rattle.round_lines.specs.Seats.{SeatMemory, Drains, down_of, out_of}
+use Rattle.round_lines.specs.Seats.{SeatMemory, Drains, down_given, out_given}
 use Rattle.round_lines.specs.Rounds.{Each, KeepsButEach, IsOutgoing}
 use Rattle.farm_rounds.specs.Memory.{FarmMemory}
 use Rattle.farm_rounds.specs.Sums.{sum_in, no_sums}
@@ -45,8 +45,8 @@ Moves before now was stands octets = Gives before now was stands octets ⊎ ((no
 -- So it is for the outgoing lines of a call; of its seat only their marks changed. If the marks told which counts had risen since
 -- `first`, they still do.
 pub record Settles (before now : Side → LineState) (s t : SeatMemory) : Type 0 where
-  pub down : Moves (before Down) (now Down) s.place.down t.place.down (down_of s)
-  pub out : Moves (before Out) (now Out) s.place.out t.place.out (out_of s)
+  pub down : Moves (before Down) (now Down) s.place.down t.place.down (down_given s)
+  pub out : Moves (before Out) (now Out) s.place.out t.place.out (out_given s)
   pub kept : t ≡ record s { place = record s.place { down = t.place.down; out = t.place.out } }
   pub faults : (first : Side → LineState) → TellsFaults first before s.place → TellsFaults first now t.place
 

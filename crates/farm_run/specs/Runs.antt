@@ -9,7 +9,7 @@ use Rattle.trau_io.specs.declared.line.Side.{Side}
 use Rattle.trau_io.specs.declared.line.Side.TheVariants.{Up, Pcm, Down, Out}
 use Rattle.trau_io.specs.declared.ends.Cause.{Cause}
 use Rattle.trau_io.specs.declared.ends.Cause.TheVariants.{Closed, End, Fault, Limit}
-use Rattle.trau_io.specs.Lines.{LineState, Rose}
+use Rattle.trau_io.specs.Lines.{LineState, Rose, NotRose}
 use Rattle.trau_io.specs.Places.{place_of}
 use Rattle.call_number.specs.CallNumber.{IsCallNumber}
 use Rattle.trau_orders.specs.declared.order.Order.{Order}
@@ -44,7 +44,7 @@ none_fails c s = false
 
 -- no count of a line rose, and none stands at its last value
 abbrev pub NoneRose : (ℕ → Side → LineState) → (ℕ → Side → LineState) → Type 0
-NoneRose before now = (c : ℕ) (s : Side) → Rose (before c s).faults (now c s).faults → ⊥
+NoneRose before now = (c : ℕ) (s : Side) → NotRose (before c s).faults (now c s).faults
 
 -- ---- what is read and written at all
 

@@ -29,6 +29,8 @@ mod farm_top_rows_tests;
 #[cfg(test)]
 mod farm_top_run_tests;
 #[cfg(test)]
+mod farm_top_save_tests;
+#[cfg(test)]
 mod farm_top_slots_tests;
 #[cfg(test)]
 mod farm_top_tests;

@@ -14,6 +14,7 @@ one_given None now octets xs ys told first second = absurd (cc)
 one_given (Some all) None octets xs ys told first second = absurd first
 one_given (Some all) (Some rest) octets xs ys told first second = append_cancel_right xs ys rest (sym first ∙ second)
 
+-- two lists of blocks begin with the same block, and go on alike
 front_is : (b c xs ys : List ℕ) → length b ≡ 40 → length c ≡ 40 → b ++ xs ≡ c ++ ys → b ≡ c
 front_is b c xs ys long longer same = sym (take_at b xs 40 long) ∙ ap (λ l. take 40 l) same ∙ take_at c ys 40 longer
 
@@ -21,11 +22,13 @@ rest_is : (b c xs ys : List ℕ) → b ≡ c → b ++ xs ≡ c ++ ys → xs ≡ 
 rest_is b c xs ys front same = append_cancel_left c xs ys (ap (λ l. l ++ xs) (sym front) ∙ same)
 
 -- octets that are good blocks alone are no good blocks with a refused one behind them
-no_refused : (blocks others : List (List ℕ)) (last : List ℕ) (ended : Type 0) → All IsGoodBlock blocks → All IsGoodBlock others → IsRefusedBlock last ended → concat blocks ≡ concat others ++ last → ⊥
+no_refused : (blocks others : List (List ℕ)) (last : List ℕ) (ended : Type 0) → All IsGoodBlock blocks → All IsGoodBlock others → IsRefusedBlock last ended →
+    concat blocks ≡ concat others ++ last → ⊥
 no_refused [] [] last ended good goods refused same = let none : length last ≡ 0 = ap length (sym same) in let some = refused.some in omega arith
 no_refused [] (c ∷ cs) last ended good goods refused same =
     let long = (All-head IsGoodBlock c cs goods).whole in
-    let count : 0 ≡ length c + length (concat cs) + length last = ap length same ∙ length-append (c ++ concat cs) last ∙ ap (λ n. n + length last) (length-append c (concat cs)) in
+    let count : 0 ≡ length c + length (concat cs) + length last = ap length same ∙ length-append (c ++ concat cs) last
+    ∙ ap (λ n. n + length last) (length-append c (concat cs)) in
     omega arith
 no_refused (b ∷ bs) [] last ended good goods refused same =
     let first = All-head IsGoodBlock b bs good in
@@ -37,10 +40,12 @@ no_refused (b ∷ bs) [] last ended good goods refused same =
 no_refused (b ∷ bs) (c ∷ cs) last ended good goods refused same =
     let split : b ++ concat bs ≡ c ++ (concat cs ++ last) = same ∙ append_assoc c (concat cs) last in
     let front = front_is b c (concat bs) (concat cs ++ last) (All-head IsGoodBlock b bs good).whole (All-head IsGoodBlock c cs goods).whole split in
-    no_refused bs cs last ended (All-tail IsGoodBlock b bs good) (All-tail IsGoodBlock c cs goods) refused (rest_is b c (concat bs) (concat cs ++ last) front split)
+    no_refused bs cs last ended (All-tail IsGoodBlock b bs good) (All-tail IsGoodBlock c cs goods) refused
+    (rest_is b c (concat bs) (concat cs ++ last) front split)
 
 -- and octets that a tool takes, with what it may leave behind them, are no blocks with one behind them that it refuses
-pub no_refused_behind : (tool : Tool) (blocks others : List (List ℕ)) (rest last : List ℕ) (ended : Type 0) → All (IsTaken tool) blocks → All (IsTaken tool) others → IsLeft tool rest → IsRefused tool last ended → concat blocks ++ rest ≡ concat others ++ last → ⊥
+pub no_refused_behind : (tool : Tool) (blocks others : List (List ℕ)) (rest last : List ℕ) (ended : Type 0) → All (IsTaken tool) blocks →
+    All (IsTaken tool) others → IsLeft tool rest → IsRefused tool last ended → concat blocks ++ rest ≡ concat others ++ last → ⊥
 no_refused_behind Relay blocks others rest last ended taken takens left refused same =
     no_refused blocks others last ended taken takens refused (sym (ap (λ l. concat blocks ++ l) left ∙ append-nil (concat blocks)) ∙ same)
 no_refused_behind Decode blocks others rest last ended taken takens left refused same =

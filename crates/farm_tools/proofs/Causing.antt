@@ -27,6 +27,7 @@ status_by (run.Refused n) = 8
 status_by run.ReadFailed = 6
 status_by run.WriteFailed = 6
 
+-- whoever ends as its run has its status
 pub status_of-end : (tool : Tool) (call : ℕ) (end : RunEnd) (result : ToolEnd) → IsEndOf tool call end result → status_of result ≡ status_by end
 status_of-end tool call (run.Done n left) Done is = refl
 status_of-end tool call (run.Done n left) (LineFault line) is = absurd is
@@ -49,16 +50,21 @@ status_of-end tool call run.WriteFailed DeskFault is = absurd is
 status_of-end tool call run.WriteFailed (Refused m) is = absurd is
 status_of-end tool call run.WriteFailed Memory is = absurd is
 
-module _ (tool : Tool) (call : ℕ) (u u' o o' : LineState) (k k' : DeskState) (blocks : List (List ℕ)) (last more : List ℕ) (taken : All (IsTaken tool) blocks) (moves : Moves u u' o o' (concat blocks ++ last) (made tool blocks ++ more)) where
+module _ (tool : Tool) (call : ℕ) (u u' o o' : LineState) (k k' : DeskState) (blocks : List (List ℕ)) (last more : List ℕ) (taken : All (IsTaken tool) blocks)
+    (moves : Moves u u' o o' (concat blocks ++ last) (made tool blocks ++ more)) where
   -- blocks that are taken were read, with what may be left behind them, and none that is refused
-  none_refused : (octets : List ℕ) → u.to_come ≡ Some octets → ReadsRefused tool u u' → (all : List (List ℕ)) (rest : List ℕ) → All (IsTaken tool) all → IsLeft tool rest → concat all ++ rest ≡ concat blocks ++ last → ⊥
+  none_refused : (octets : List ℕ) → u.to_come ≡ Some octets → ReadsRefused tool u u' → (all : List (List ℕ)) (rest : List ℕ) → All (IsTaken tool) all →
+      IsLeft tool rest → concat all ++ rest ≡ concat blocks ++ last → ⊥
   none_refused octets told reads all rest takens left is =
-      no_refused_behind tool all reads.blocks rest reads.last _ takens reads.taken left reads.refused (is ∙ one_given u.to_come u'.to_come octets _ _ told moves.read reads.read)
+      no_refused_behind tool all reads.blocks rest reads.last _ takens reads.taken left reads.refused
+      (is ∙ one_given u.to_come u'.to_come octets _ _ told moves.read reads.read)
 
   last_more : IsTaken tool last → All (IsTaken tool) (blocks ++ last ∷ [])
   last_more one = All-append (IsTaken tool) blocks (last ∷ []) taken (All-cons (IsTaken tool) last [] one (All-nil (IsTaken tool)))
 
-  causes : (end : RunEnd) (result : ToolEnd) → EndsAs tool u u' o o' blocks last more end → TellsEnd tool call end k k' result → HasCauses tool u u' o o' k k' (status_of result)
+  -- why the status comes, by the end and by what was told of it
+  causes : (end : RunEnd) (result : ToolEnd) → EndsAs tool u u' o o' blocks last more end → TellsEnd tool call end k k' result →
+      HasCauses tool u u' o o' k k' (status_of result)
   causes end result ends (inr (inr memory)) =
       let is : status_of result ≡ 5 = ap status_of memory.0 in
       record {
@@ -109,10 +115,10 @@ module _ (tool : Tool) (call : ℕ) (u u' o o' : LineState) (k k' : DeskState) (
         known = inr (inr (inr (inl is)));
         desk_failed = λ e. absurd (omega (arith, e, is));
         desk_rose = λ rose. absurd (omega (arith, rose, told.1.cause.ok));
-        line_failed = λ e. inl ends.rose;
+        line_failed = λ e. inl ends.1.rose;
         line_rose = λ _. inr (inr is);
         refused = λ e. absurd (omega (arith, e, is));
-        read_refused = λ octets holds calm reads. absurd (let rose = ends.rose in omega (arith, calm.0, calm.1));
+        read_refused = λ octets holds calm reads. absurd (let rose = ends.1.rose in omega (arith, calm.0, calm.1));
       }
   causes run.WriteFailed result ends (inl told) =
       let is : status_of result ≡ 6 = status_of-end tool call run.WriteFailed result told.0 in
@@ -123,9 +129,12 @@ module _ (tool : Tool) (call : ℕ) (u u' o o' : LineState) (k k' : DeskState) (
         line_failed = λ e. inr ends.rose;
         line_rose = λ _. inr (inr is);
         refused = λ e. absurd (omega (arith, e, is));
-        read_refused = λ octets holds calm reads. absurd (none_refused octets holds reads (blocks ++ last ∷ []) [] (last_more ends.taken) (nothing_left tool) (append-nil _ ∙ concat-append blocks (last ∷ []) ∙ ap (λ l. concat blocks ++ l) (append-nil last)));
+        read_refused = λ octets holds calm reads. absurd (none_refused octets holds reads (blocks ++ last ∷ []) [] (last_more ends.taken) (nothing_left tool)
+            (append-nil _ ∙ concat-append blocks (last ∷ []) ∙ ap (λ l. concat blocks ++ l) (append-nil last)));
       }
 
-pub causes_of : (tool : Tool) (before now : ℕ → Side → LineState) (desk desk' : DeskState) (call : ℕ) (result : ToolEnd) → ToolRuns tool before now desk desk' call result → Causes tool call before now desk desk' (status_of result)
+-- the same of the whole tool
+pub causes_of : (tool : Tool) (before now : ℕ → Side → LineState) (desk desk' : DeskState) (call : ℕ) (result : ToolEnd) →
+    ToolRuns tool before now desk desk' call result → Causes tool call before now desk desk' (status_of result)
 causes_of tool before now desk desk' call result ran =
     causes tool call _ _ _ _ desk desk' ran.runs.blocks ran.runs.last ran.runs.more ran.runs.taken ran.runs.moves ran.end result ran.runs.ends ran.tells

@@ -23,6 +23,7 @@ status_by (list.Done yields left) = 0
 status_by list.ReadFailed = 6
 status_by list.DeskFailed = 4
 
+-- whoever ends as its listing has its status
 status_of-end : (call : ℕ) (end : ListEnd) (result : ToolEnd) → IsListEnd call end result → status_of result ≡ status_by end
 status_of-end call (list.Done yields left) Done is = refl
 status_of-end call (list.Done yields left) (LineFault line) is = absurd is
@@ -45,6 +46,7 @@ rose_later : (a b c : ℕ) → a ≤ b → Rose b c → Rose a c
 rose_later a b c le rose = omega (arith, le, rose)
 
 module _ (call : ℕ) (u u' : LineState) (k m k' : DeskState) (result : ToolEnd) where
+  -- why the status comes, and what is left without a fault, by the end and by what was told of it
   causes : (end : ListEnd) → Lists u u' k m end → TellsListEnd call end m k' result → FramesCauses u u' k k' (status_of result)
   causes end lists (inr (inr memory)) =
       let is : status_of result ≡ 5 = ap status_of memory.0 in
@@ -107,6 +109,7 @@ module _ (call : ℕ) (u u' : LineState) (k m k' : DeskState) (result : ToolEnd)
         rest = took.0;
         split = took.2;
         whole = lists.whole;
+        few = lists.few;
         less = ends.less;
         at_end = ⊎_elim (λ e. inl (at_end _ took.0 took.1 e)) (λ e. inr e) ends.at_end;
         up_holds = took.1;
@@ -122,6 +125,7 @@ module _ (call : ℕ) (u u' : LineState) (k m k' : DeskState) (result : ToolEnd)
       let rose = lists.ends.rose in absurd (omega (arith, desk_calm.0, desk_calm.1, told.1.cause.ok, rose))
 
 module _ (before now : ℕ → Side → LineState) (desk desk' : DeskState) (call : ℕ) (result : ToolEnd) (ran : FramesRun before now desk desk' call result) where
+  -- the same of the whole command
   pub frames_causes : FramesCauses (before call Up) (now call Up) desk desk' (status_of result)
   frames_causes = causes call _ _ desk ran.middle desk' result ran.end ran.lists ran.tells
 

@@ -2,8 +2,8 @@
 mod Alone
 pub mod Causing
 pub mod Cleaning
-mod Mapping
 pub mod FramesEnds
+mod Limit
 mod Making
 mod Rounds
 mod Steps

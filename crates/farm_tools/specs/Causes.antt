@@ -21,7 +21,8 @@ pub record ReadsRefused (tool : Tool) (inc inc' : LineState) : Type 0 where
 abbrev pub IsCalm : ℕ → ℕ → Type 0
 IsCalm before now = (now ≡ before) × (now < 2 ^ 64 - 1)
 
--- 4 comes exactly where the desk's writing count rose, 6 exactly where the count of a line of the tool rose and 4 isn't due, 8 exactly where a block that was read is refused and 4 isn't due; each yields to 5, want of memory
+-- 4 comes exactly where the desk's writing count rose, 6 exactly where the count of a line of the tool rose and 4 isn't due,
+-- 8 exactly where a block that was read is refused and 4 isn't due; each yields to 5, want of memory
 pub record HasCauses (tool : Tool) (inc inc' out out' : LineState) (desk desk' : DeskState) (status : ℕ) : Type 0 where
   pub known : (status ≡ 0) ⊎ (status ≡ 4) ⊎ (status ≡ 5) ⊎ (status ≡ 6) ⊎ (status ≡ 8)
   pub desk_failed : status ≡ 4 → Rose desk.write_faults desk'.write_faults
@@ -29,7 +30,8 @@ pub record HasCauses (tool : Tool) (inc inc' out out' : LineState) (desk desk' :
   pub line_failed : status ≡ 6 → Rose inc.faults inc'.faults ⊎ Rose out.faults out'.faults
   pub line_rose : (inc.faults < inc'.faults) ⊎ (out.faults < out'.faults) → (status ≡ 4) ⊎ (status ≡ 5) ⊎ (status ≡ 6)
   pub refused : status ≡ 8 → ReadsRefused tool inc inc'
-  pub read_refused : (octets : List ℕ) → inc.to_come ≡ Some octets → IsCalm inc.faults inc'.faults → ReadsRefused tool inc inc' → (status ≡ 4) ⊎ (status ≡ 5) ⊎ (status ≡ 8)
+  pub read_refused : (octets : List ℕ) → inc.to_come ≡ Some octets → IsCalm inc.faults inc'.faults → ReadsRefused tool inc inc' →
+      (status ≡ 4) ⊎ (status ≡ 5) ⊎ (status ≡ 8)
 
 -- the same of the tool's lines among all lines
 abbrev pub Causes : Tool → ℕ → (ℕ → Side → LineState) → (ℕ → Side → LineState) → DeskState → DeskState → ℕ → Type 0

@@ -1,12 +1,12 @@
 -- What a tool leaves where nothing fails and the outside tells what it holds.
-use Rattle.std.specs.Prelude.{◌≡◌, ◌≢◌, ◌⊎◌, ℕ, ◌-◌, ◌^◌, List, [], ◌++◌, length, Some, All}
+use Rattle.std.specs.Prelude.{◌≡◌, ◌≢◌, ◌⊎◌, ℕ, ◌*◌, ◌-◌, ◌^◌, ◌≤◌, List, [], ◌++◌, length, Some, All}
 use Rattle.std.specs.List.{concat}
 use Rattle.trau_io.specs.declared.line.Side.{Side}
 use Rattle.trau_io.specs.Lines.{LineState}
 use Rattle.trau_io.specs.Desks.{DeskState}
 use Rattle.farm_tools.specs.declared.end.Tool.{Tool}
 use Rattle.farm_tools.specs.declared.end.RunEnd.TheVariants.{Done, Refused}
-use Rattle.farm_tools.specs.Blocks.{IsLeft, IsRefused, IsTaken}
+use Rattle.farm_tools.specs.Blocks.{block_length, IsLeft, IsRefused, IsTaken}
 use Rattle.farm_tools.specs.Causes.{IsCalm}
 use Rattle.farm_tools.specs.Made.{in_side, made, out_side}
 use Rattle.farm_tools.specs.Tools.{text_of}
@@ -17,14 +17,17 @@ pub record Calm (inc inc' out out' : LineState) (desk desk' : DeskState) : Type 
   pub out_calm : IsCalm out.faults out'.faults
   pub desk_calm : IsCalm desk.write_faults desk'.write_faults
 
--- The work of a tool on a line that holds these octets: what is made of its blocks up to the first refused block or the end, with the status and the text that say which.
+-- The work of a tool on a line that holds these octets: what is made of its blocks up to the first refused block, the end, or
+-- 4,294,967,295 blocks, with the status and the text that say which; nothing is read behind so many.
 pub record IsWorked (tool : Tool) (call : ℕ) (octets rest sent text : List ℕ) (status : ℕ) : Type 0 where
   pub blocks : List (List ℕ)
   pub last : List ℕ
   pub split : octets ≡ concat blocks ++ last ++ rest
   pub taken : All (IsTaken tool) blocks
+  pub few : length (concat blocks ++ last) ≤ block_length tool * (2 ^ 32 - 1)
   pub sent_is : sent ≡ made tool blocks
-  pub ended : ((status ≡ 0) × IsLeft tool last × ((rest ≡ []) ⊎ ((length blocks ≡ 2 ^ 32 - 1) × (last ≡ []))) × (text ≡ text_of tool call (Done (length blocks) (length last))))
+  pub ended : ((status ≡ 0) × IsLeft tool last × ((rest ≡ []) ⊎ ((length blocks ≡ 2 ^ 32 - 1) × (last ≡ [])))
+      × (text ≡ text_of tool call (Done (length blocks) (length last))))
       ⊎ ((status ≡ 8) × IsRefused tool last (rest ≡ []) × (text ≡ text_of tool call (Refused (length blocks))))
 
 -- what a tool leaves where the incoming line held `octets`, and the outgoing line and the desk held `sent` and `text`
@@ -40,7 +43,8 @@ pub record Leaves (tool : Tool) (call : ℕ) (inc' out' : LineState) (desk' : De
 -- a run in which nothing failed and there was memory, of lines and a desk that tell what they hold
 abbrev pub LeavesAll : Tool → ℕ → LineState → LineState → LineState → LineState → DeskState → DeskState → ℕ → Type 0
 LeavesAll tool call inc inc' out out' desk desk' status =
-    Calm inc inc' out out' desk desk' → status ≢ 5 → (octets sent text : List ℕ) → inc.to_come ≡ Some octets → out.written ≡ Some sent → desk.written ≡ Some text →
+    Calm inc inc' out out' desk desk' → status ≢ 5 → (octets sent text : List ℕ) → inc.to_come ≡ Some octets → out.written ≡ Some sent →
+    desk.written ≡ Some text →
     Leaves tool call inc' out' desk' octets sent text status
 
 -- the same of the tool's lines among all lines

@@ -1,5 +1,5 @@
 -- The command `frames`: a listing of the frames on an uplink, its last line of text and its end (this project's profile).
-use Rattle.std.specs.Prelude.{◌≡◌, ◌≢◌, ◌⊎◌, ℕ, ◌-◌, ◌^◌, ◌<◌, List, [], ◌++◌, length, codes, decimal, Some, Ok, Err}
+use Rattle.std.specs.Prelude.{◌≡◌, ◌≢◌, ◌⊎◌, ℕ, ◌*◌, ◌-◌, ◌^◌, ◌<◌, ◌≤◌, List, [], ◌++◌, length, codes, decimal, Some, Ok, Err}
 use Rattle.std.specs.List.{concat}
 use Rattle.trau_io.specs.declared.line.Side.{Side}
 use Rattle.trau_io.specs.declared.line.Side.TheVariants.{Up}
@@ -52,13 +52,15 @@ pub record FramesCauses (up up' : LineState) (desk desk' : DeskState) (status : 
   pub line_failed : status ≡ 6 → Rose up.faults up'.faults
   pub line_rose : up.faults < up'.faults → (status ≡ 4) ⊎ (status ≡ 5) ⊎ (status ≡ 6)
 
--- what the command leaves where the uplink held `octets` and the desk `text`: a line of text for each yield of the whole periods, and the last line
+-- what the command leaves where the uplink held `octets` and the desk `text`: a line of text for each yield of the whole periods,
+-- 4,294,967,295 at most, and the last line; nothing is read behind so many periods
 pub record LeavesListing (call : ℕ) (up' : LineState) (desk' : DeskState) (octets text : List ℕ) (status : ℕ) : Type 0 where
   pub periods : List (List ℕ)
   pub last : List ℕ
   pub rest : List ℕ
   pub split : octets ≡ concat periods ++ last ++ rest
   pub whole : ArePeriods periods
+  pub few : length (concat periods ++ last) ≤ 40 * (2 ^ 32 - 1)
   pub less : length last < 40
   pub at_end : (rest ≡ []) ⊎ ((length periods ≡ 2 ^ 32 - 1) × (last ≡ []))
   pub up_holds : up'.to_come ≡ Some rest
@@ -68,5 +70,6 @@ pub record LeavesListing (call : ℕ) (up' : LineState) (desk' : DeskState) (oct
 -- the command where nothing failed and there was memory, of an uplink and a desk that tell what they hold
 abbrev pub CleanFrames : ℕ → LineState → LineState → DeskState → DeskState → ℕ → Type 0
 CleanFrames call up up' desk desk' status =
-    IsCalm up.faults up'.faults → IsCalm desk.write_faults desk'.write_faults → status ≢ 5 → (octets text : List ℕ) → up.to_come ≡ Some octets → desk.written ≡ Some text →
+    IsCalm up.faults up'.faults → IsCalm desk.write_faults desk'.write_faults → status ≢ 5 → (octets text : List ℕ) → up.to_come ≡ Some octets →
+    desk.written ≡ Some text →
     LeavesListing call up' desk' octets text status

@@ -1,5 +1,5 @@
 -- A run of a tool over the blocks of a line: from the octets of one line to those of another.
-use Rattle.std.specs.Prelude.{◌≡◌, ◌⊎◌, ℕ, ◌-◌, ◌^◌, ◌<◌, ◌≤◌, List, [], ◌∷◌, ◌++◌, length, take, All}
+use Rattle.std.specs.Prelude.{◌≡◌, ◌⊎◌, ℕ, ◌*◌, ◌-◌, ◌^◌, ◌<◌, ◌≤◌, List, [], ◌∷◌, ◌++◌, length, take, All}
 use Rattle.std.specs.List.{concat}
 use Rattle.std.specs.Io.KnownBytes.{Consumes, Appends, IsAtEnd}
 use Rattle.trau_io.specs.declared.line.Side.{Side}
@@ -59,18 +59,21 @@ pub record FailsToWrite (tool : Tool) (inc inc' out out' : LineState) (blocks : 
   pub inc_same : inc'.faults ≡ inc.faults
   pub rose : Rose out.faults out'.faults
 
--- the end of a run after these blocks: what was read behind them, and what was written for that
+-- the end of a run after these blocks: what was read behind them, and what was written for that; no read fails behind so many
+-- blocks that no more are taken
 abbrev pub EndsAs : Tool → LineState → LineState → LineState → LineState → List (List ℕ) → List ℕ → List ℕ → RunEnd → Type 0
 EndsAs tool inc inc' out out' blocks last more (Done n left) = (n ≡ length blocks) × EndsLine tool inc inc' out out' n left last more
 EndsAs tool inc inc' out out' blocks last more (Refused n) = (n ≡ length blocks) × ComesToRefused tool inc inc' out out' last more
-EndsAs tool inc inc' out out' blocks last more ReadFailed = FailsToRead tool inc inc' out out' last more
+EndsAs tool inc inc' out out' blocks last more ReadFailed = (length blocks < 2 ^ 32 - 1) × FailsToRead tool inc inc' out out' last more
 EndsAs tool inc inc' out out' blocks last more WriteFailed = FailsToWrite tool inc inc' out out' blocks last more
 
--- A whole run. What its reads gave is blocks that were taken, of which all was made and written, and then what was read behind them.
+-- A whole run. What its reads gave is blocks that were taken, of which all was made and written, and then what was read behind
+-- them: 4,294,967,295 blocks at most, and nothing behind so many.
 pub record Runs (tool : Tool) (inc inc' out out' : LineState) (end : RunEnd) : Type 0 where
   pub blocks : List (List ℕ)
   pub last : List ℕ
   pub more : List ℕ
   pub taken : All (IsTaken tool) blocks
+  pub few : length (concat blocks ++ last) ≤ block_length tool * (2 ^ 32 - 1)
   pub moves : Moves inc inc' out out' (concat blocks ++ last) (made tool blocks ++ more)
   pub ends : EndsAs tool inc inc' out out' blocks last more end

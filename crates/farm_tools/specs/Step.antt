@@ -38,7 +38,8 @@ BlockEndsAs work work' inc inc' out out' given sent Taken = GoesOn work work' in
 BlockEndsAs work work' inc inc' out out' given sent (LineEnded left) = EndsHere (tool_of work) inc inc' out out' left given sent
 BlockEndsAs work work' inc inc' out out' given sent Refused = ComesToRefused (tool_of work) inc inc' out out' given sent
 BlockEndsAs work work' inc inc' out out' given sent ReadFailed = FailsToRead (tool_of work) inc inc' out out' given sent
-BlockEndsAs work work' inc inc' out out' given sent WriteFailed = (blocks : List (List ℕ)) → Stands work blocks → FailsToWrite (tool_of work) inc inc' out out' blocks given sent
+BlockEndsAs work work' inc inc' out out' given sent WriteFailed = (blocks : List (List ℕ)) → Stands work blocks →
+    FailsToWrite (tool_of work) inc inc' out out' blocks given sent
 
 pub record RunsOn (work work' : Work) (inc inc' out out' : LineState) (end : BlockEnd) : Type 0 where
   pub given : List ℕ

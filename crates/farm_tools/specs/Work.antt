@@ -1,7 +1,7 @@
 -- The work of a tool, by what it keeps from block to block.
 use Rattle.std.specs.Prelude.{◌≡◌, ℕ, ◌≤◌, ◌<◌, List, [], ◌∷◌, ◌++◌, map, reverse, take}
-use Rattle.fr_decoder.specs.Step as decoder
-use Rattle.fr_encoder.specs.Step as encoder
+use Rattle.fr_decoder.specs.Stands as decoder
+use Rattle.fr_encoder.specs.Stands as encoder
 use Rattle.farm_tools.specs.declared.end.Tool.{Tool}
 use Rattle.farm_tools.specs.declared.end.Tool.TheVariants as tool
 use Rattle.farm_tools.specs.declared.work.Work.{Work}

@@ -1,4 +1,4 @@
-// The tools, and how they end.
+//! The tools, and how they end.
 use trau_io::Line;
 
 /// A tool that works the blocks of one line of a call into another.

@@ -22,4 +22,5 @@ mod work;
 
 pub use end::{Tool, ToolEnd};
 pub use listing::frames;
+pub use text::failed_line;
 pub use tools::{decode, encode, relay};

@@ -1,4 +1,4 @@
-// The run of a tool over the blocks of a line.
+//! The run of a tool over the blocks of a line.
 ghost use Rattle.std.specs.Prelude.{◌≡◌, ◌<◌, List, [], ℕ, length};
 ghost use Rattle.call_number.specs.CallNumber.{IsCallNumber};
 ghost use Rattle.farm_tools.specs.Blocks.{block_length};

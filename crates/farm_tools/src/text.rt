@@ -1,5 +1,5 @@
-// The words, lines and texts of tools.
-ghost use Rattle.std.specs.Prelude.{◌≡◌, IfOk, string_bytes};
+//! The words, lines and texts of tools.
+ghost use Rattle.std.specs.Prelude.{◌≡◌, ◌≤◌, IfOk, length, string_bytes};
 ghost use Rattle.trau_io.specs.Texts.{failed_text};
 ghost use Rattle.farm_tools.specs.Blocks.{block_length};
 ghost use Rattle.farm_tools.specs.Made.{in_side, name_of, out_side};
@@ -7,6 +7,8 @@ ghost use Rattle.farm_tools.specs.declared.end.RunEnd.TheVariants as run;
 ghost use Rattle.farm_tools.specs.Tools.{text_of};
 
 use crate::end::{RunEnd, Tool};
+use arrayvec::ArrayString;
+use itoa::Buffer;
 use std::alloc::{AllocError, Global};
 use trau_io::Side;
 
@@ -53,12 +55,26 @@ impl Tool {
     }
 }
 
-/// The text of a line that failed.
+/// The text of a call's line that failed, as `line 7 up failed`. It takes no memory.
+pub fn failed_line(call: u32, side: Side) -> ArrayString<64>
+    ensures text { result.bytes ≡ failed_text call side }
+    ensures short { length result.bytes ≤ 28 }
+{
+    let mut digits = Buffer::new();
+    let mut text = ArrayString::new();
+    text.push_str("line ");
+    text.push_str(digits.format(call));
+    text.push_str(" ");
+    text.push_str(side.word());
+    text.push_str(" failed\n");
+    text
+}
+
+/// The same in memory.
 pub fn failed_text(alloc: Global, call: u32, side: Side) -> Result<String, AllocError>
     ensures { IfOk result (λ text. string_bytes text ≡ failed_text call side) }
 {
-    let name = side.word();
-    format!(in alloc; "line {call} {name} failed\n")
+    String::from_str(alloc, failed_line(call, side).as_str())
 }
 
 fn frames_text(alloc: Global, tool: Tool, frames: u32, left: u32) -> Result<String, AllocError>

@@ -1,4 +1,4 @@
-// The tools.
+//! The tools.
 ghost use Rattle.call_number.specs.CallNumber.{IsCallNumber};
 ghost use Rattle.farm_tools.specs.declared.end.Tool.TheVariants as tool;
 ghost use Rattle.farm_tools.specs.Causes.{Causes};

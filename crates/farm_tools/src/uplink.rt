@@ -1,4 +1,4 @@
-// What a block of an uplink carries.
+//! What a block of an uplink carries.
 ghost use Rattle.std.specs.Prelude.{◌≡◌, IsSome, IfSome, length, ◌↔◌};
 ghost use Rattle.trau_bits.specs.Bits.{bits_of, AreBits};
 ghost use Rattle.trau_frame.specs.Frame.{data_of};

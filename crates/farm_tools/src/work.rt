@@ -1,4 +1,4 @@
-// What a tool makes of one block after another.
+//! What a tool makes of one block after another.
 ghost use Rattle.std.specs.Prelude.{◌≡◌, ◌∷◌, ◌≤◌, ◌<◌, ℕ, ℤ, List, [], true, map, take, length, IfSome, IsNone};
 ghost use Rattle.trau_bits.specs.Bits.{AreBits, octets_of};
 ghost use Rattle.trau_frame.specs.declared.frames.DownFrame.TheVariants.{Speech};
@@ -7,9 +7,9 @@ ghost use Rattle.trau_alaw.specs.Alaw.{alaw};
 ghost use Rattle.trau_alaw.specs.Companding.{octet_of};
 ghost use Rattle.trau_params.specs.Fields.{Fields, fields_in};
 ghost use Rattle.fr_decoder.specs.Decoded.{samples_of};
-ghost use Rattle.fr_decoder.specs.Step.{Stands as DecoderStands};
+ghost use Rattle.fr_decoder.specs.Stands.{Stands as DecoderStands};
 ghost use Rattle.fr_encoder.specs.Encoded.{encoding_of};
-ghost use Rattle.fr_encoder.specs.Step.{Stands as EncoderStands};
+ghost use Rattle.fr_encoder.specs.Stands.{Stands as EncoderStands};
 ghost use Rattle.farm_tools.specs.Blocks.{block_length, IsRefused};
 ghost use Rattle.farm_tools.specs.Made.{block_samples, coded_frame, in_side, out_side};
 
@@ -17,7 +17,7 @@ use crate::end::Tool;
 use crate::uplink::good_data;
 use fr_decoder::Decoder;
 use fr_encoder::Encoder;
-use trau_alaw::{compress, expand};
+use trau_alaw::{Law, compress_all, expand_all};
 use trau_bits::pack;
 use trau_frame::{DownFrame, write_down};
 use trau_io::Side;
@@ -85,15 +85,6 @@ fn downlink_frame(d: &[u8; 260], octets: &mut [u8; 160]) -> usize
     40
 }
 
-// The A-law of samples.
-fn compress_all(x: &[i16; 160], octets: &mut [u8; 160])
-    ensures { octets.new ≡ map (octet_of alaw) x.now }
-{
-    for k in 0..160 {
-        octets[k] = compress(x[k]);
-    }
-}
-
 // The A-law of the next frame, whose data bits these are.
 fn decoded_octets(decoder: &mut Decoder, d: &[u8; 260], octets: &mut [u8; 160]) -> usize
     requires { AreBits d.now }
@@ -103,18 +94,8 @@ fn decoded_octets(decoder: &mut Decoder, d: &[u8; 260], octets: &mut [u8; 160]) 
 {
     let mut x = [0; 160];
     decoder.decode(&Params::from_bits(d), &mut x);
-    compress_all(&x, octets);
+    compress_all(Law::A, &x, octets);
     160
-}
-
-// The samples that A-law octets stand for.
-fn expand_all(block: &[u8], x: &mut [i16; 160])
-    requires { length block.now ≡ 160 }
-    ensures { x.new ≡ block_samples block.now }
-{
-    for k in 0..160 {
-        x[k] = expand(block[k]);
-    }
 }
 
 // The downlink frame of the next 160 A-law octets.
@@ -124,9 +105,9 @@ fn encoded_octets(encoder: &mut Encoder, block: &[u8], octets: &mut [u8; 160]) -
     ensures history { (past : List (List ℤ)) → EncoderStands past encoder.old →
         EncoderStands (block_samples block.now ∷ past) encoder.new × (take 40 octets.new ≡ coded_frame (encoding_of (block_samples block.now) past)) }
 {
-    let mut x = [0; 160];
-    expand_all(block, &mut x);
-    let (params, _, _) = encoder.encode(&x);
+    let mut period = [0; 160];
+    period.copy_from_slice(block);
+    let (params, _, _) = encoder.encode(&expand_all(Law::A, &period));
     let mut d = [0; 260];
     params.to_bits(&mut d);
     downlink_frame(&d, octets)

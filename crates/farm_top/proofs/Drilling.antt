@@ -14,8 +14,10 @@ use Rattle.farm_top.specs.Headline.{Headline}
 
 -- a drill whose run has the headline
 pub drilled_and_told : (seed calls periods : ℕ) (text : List ℕ) (desk desk' : DeskState) (status : ℕ) (drilled : IsDrilled seed calls periods text) →
-    Headline (drilled_run seed calls periods) none_fails drilled.before drilled.now → TellsWhole text desk desk' status → TellsDrill seed calls periods desk desk' status
-drilled_and_told seed calls periods text desk desk' status drilled headline tells = record { text = text; has = record { drilled = drilled; headline = headline }; tells = tells }
+    Headline (drilled_run seed calls periods) none_fails drilled.before drilled.now → TellsWhole text desk desk' status →
+    TellsDrill seed calls periods desk desk' status
+drilled_and_told seed calls periods text desk desk' status drilled headline tells =
+    record { text = text; has = record { drilled = drilled; headline = headline }; tells = tells }
 
 module _ (seed calls periods : ℕ) (before now : ℕ → Side → LineState) (desk desk' : DeskState) (status : ℕ) where
   lacking : AllStay before now → LacksMemory desk desk' status → DrillEnds seed calls periods before now desk desk' status
@@ -36,7 +38,8 @@ module _ (seed calls periods : ℕ) (before now : ℕ → Side → LineState) (d
         complete = λ _. inr is;
       }
 
-  telling : AllStay before now → (x : TellsDrill seed calls periods desk desk' status) → TellsWhole x.text desk desk' status → DrillEnds seed calls periods before now desk desk' status
+  telling : AllStay before now → (x : TellsDrill seed calls periods desk desk' status) → TellsWhole x.text desk desk' status →
+      DrillEnds seed calls periods before now desk desk' status
   telling stay x (inl (is, told)) =
       let same = x.has.drilled.spelled in
       record {

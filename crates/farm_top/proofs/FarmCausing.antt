@@ -1,5 +1,5 @@
--- Why each status of the command `run` comes.
-use Rattle.std.proofs.Common.{◌≡◌, ◌⊎◌, inl, inr, ℕ, ◌<◌, List, [], ◌∷◌, Result, Ok, Err, Some, length, refl, sym, ◌∙◌, ap, subst, arith}
+-- Why each status of the commands `run` and `save` comes.
+use Rattle.std.proofs.Common.{◌≡◌, ◌⊎◌, inl, inr, ℕ, ◌<◌, List, [], ◌∷◌, Result, Ok, Err, Some, length, refl, sym, ◌∙◌, subst, arith}
 use Rattle.std.specs.Prelude.{IsErrOf}
 use Rattle.std.specs.Io.KnownBytes.{Consumes, IsAtEnd}
 use Rattle.trau_io.specs.declared.line.Side.{Side}
@@ -11,25 +11,13 @@ use Rattle.trau_orders.specs.Text.{text_lines, IsFirstBad, IsWithin, GoodOrBad}
 use Rattle.farm_orders.specs.declared.fault.OrdersFault.{OrdersFault}
 use Rattle.farm_orders.specs.declared.fault.OrdersFault.TheVariants.{Unread, TooLong, Line, Memory}
 use Rattle.farm_orders.specs.Reading.{ReadsOrders, AnswersTold}
-use Rattle.farm_report.specs.View.{ReportView}
-use Rattle.farm_run.specs.Runs.{Runs, TellsFailed}
-use Rattle.farm_run.proofs.Listed.{listed_head}
+use Rattle.farm_report.specs.Lines.{report_text}
+use Rattle.farm_run.specs.Runs.{TellsFailed}
 use Rattle.command_words.specs.declared.asked.Settings.{Settings}
-use Rattle.farm_top.specs.Farm.{AllStay, CarriesRun, FollowsReading, LacksMemory, TellsReport, pace_of, status_of_run}
-use Rattle.farm_top.specs.FarmCauses.{ReadsBadLine, ReadsTooLong, RunCauses, SomeRose}
-
--- a text within the limits isn't too long
-pub not_long : (text : List ℕ) → IsWithin text → (1048576 < length text) ⊎ (65536 < length (text_lines text)) → ⊥
-not_long text within (inl long) = omega (arith, within.0, long)
-not_long text within (inr long) = omega (arith, within.1, long)
-
--- a run that lists some line
-pub first_rose : (before now : ℕ → Side → LineState) (line : TheLine) (lines : List TheLine) → TellsFailed before now (line ∷ lines) → SomeRose before now
-first_rose before now line lines failed = (line.call, line.side, failed.failures.rose line.call line.side (listed_head line lines))
-
--- of lines that are as they were no count rose
-stayed : (before now : ℕ → Side → LineState) → AllStay before now → (c : ℕ) (s : Side) → (before c s).faults < (now c s).faults → ⊥
-stayed before now stay c s rose = let same : (now c s).faults ≡ (before c s).faults = ap (λ (l : LineState). l.faults) (stay c s) in omega (arith, rose, same)
+use Rattle.farm_top.specs.Farm.{AllStay, CarriesRun, FollowsReading, LacksMemory, ReadsAndFollows, RunsOrders, TellsDue, TellsRun, status_of_run}
+use Rattle.farm_top.specs.FarmCauses.{ReadsBadLine, ReadsTooLong, RunCauses}
+use Rattle.farm_top.specs.Save.{CarriesSave, SavesOrders, saved_text}
+use Rattle.farm_top.proofs.Taking.{first_rose, not_long, stayed}
 
 module _ (before now : ℕ → Side → LineState) (desk desk' : DeskState) (status : ℕ) where
   -- want of memory
@@ -162,26 +150,34 @@ module _ (before now : ℕ → Side → LineState) (desk desk' : DeskState) (sta
     done = λ e. absurd (omega (arith, e, is));
   }
 
-module _ (good : GoodOrBad) (s : Settings) (before now : ℕ → Side → LineState) (desk read desk' : DeskState) (status : ℕ) where
+-- what is done with orders ends with a text of a run and the lines that failed in it, or there was no memory
+abbrev pub EndsTold : (ℕ → Side → LineState) → (ℕ → Side → LineState) → DeskState → DeskState → ℕ → Type 0
+EndsTold before now read desk' status =
+    ((failed : List TheLine) × (text : List ℕ) × TellsFailed before now failed × TellsDue (status_of_run failed) text read desk' status)
+    ⊎ LacksMemory read desk' status
+
+module _ (good : GoodOrBad) (done : List Order → DeskState → Type 0) (before now : ℕ → Side → LineState) (desk read desk' : DeskState) (status : ℕ)
+    (ends : (orders : List Order) → done orders read → EndsTold before now read desk' status) where
   lacks : read.read_faults ≡ desk.read_faults → LacksMemory read desk' status → RunCauses before now desk desk' status
   lacks calm ends = memory_causes before now desk desk' status ends.status_is (ends.text_out.tells.read_faults ∙ calm)
 
-  reported : (orders : List Order) → read.read_faults ≡ desk.read_faults → read.write_faults ≡ desk.write_faults →
-      ((text : List ℕ) → desk.to_come ≡ Some text → AnswersTold text (Ok orders)) → (report : ReportView) → Runs orders (pace_of s) before now report → TellsReport report read desk' status →
+  done_causes : (orders : List Order) → read.read_faults ≡ desk.read_faults → read.write_faults ≡ desk.write_faults →
+      ((text : List ℕ) → desk.to_come ≡ Some text → AnswersTold text (Ok orders)) → EndsTold before now read desk' status →
       RunCauses before now desk desk' status
-  reported orders calm silent told report runs (inl (is, tells)) =
-      told_causes before now desk desk' status report.failed is runs.failed (tells.read_faults ∙ calm) (tells.cause.ok ∙ silent)
+  done_causes orders calm silent told (inl (failed, text, fails, inl (is, tells))) =
+      told_causes before now desk desk' status failed is fails (tells.read_faults ∙ calm) (tells.cause.ok ∙ silent)
       (λ text e. (told text e).0) (λ text n e bad. good _ orders n (told text e).1 bad)
-  reported orders calm silent told report runs (inr (inl (is, tells))) =
+  done_causes orders calm silent told (inl (failed, text, fails, inr (is, tells))) =
       untold_causes before now desk desk' status is (tells.read_faults ∙ calm) (subst (λ n. Rose n desk'.write_faults) silent tells.cause.failed)
       (λ text e. (told text e).0) (λ text n e bad. good _ orders n (told text e).1 bad)
-  reported orders calm silent told report runs (inr (inr ends)) = lacks calm ends
+  done_causes orders calm silent told (inr ends) = lacks calm ends
 
-  follows_causes : (reading : Result (List Order) OrdersFault) → ReadsOrders desk read reading → ((text : List ℕ) → desk.to_come ≡ Some text → AnswersTold text reading) →
+  follows_causes : (reading : Result (List Order) OrdersFault) → ReadsOrders desk read reading →
+      ((text : List ℕ) → desk.to_come ≡ Some text → AnswersTold text reading) →
       (IsErrOf reading Unread → Rose desk.read_faults read.read_faults) → ((IsErrOf reading Unread → ⊥) → read.read_faults ≡ desk.read_faults) →
-      read.written ≡ desk.written → read.write_faults ≡ desk.write_faults → FollowsReading reading s before now read desk' status → RunCauses before now desk desk' status
-  follows_causes (Ok orders) reads told unread calm written silent (inl ran) = reported orders (calm (λ e. cc)) silent told ran.report ran.runs ran.tells
-  follows_causes (Ok orders) reads told unread calm written silent (inr (cut, ends)) = lacks (calm (λ e. cc)) ends
+      read.written ≡ desk.written → read.write_faults ≡ desk.write_faults → FollowsReading done reading before now read desk' status →
+      RunCauses before now desk desk' status
+  follows_causes (Ok orders) reads told unread calm written silent follows = done_causes orders (calm (λ e. cc)) silent told (ends orders follows)
   follows_causes (Err Unread) reads told unread calm written silent (stay, ends) =
       unread_causes before now desk desk' status ends.status_is (subst (λ n. Rose desk.read_faults n) (sym ends.text_out.tells.read_faults) (unread refl)) stay
   follows_causes (Err TooLong) reads told unread calm written silent (stay, ends) =
@@ -201,8 +197,7 @@ module _ (good : GoodOrBad) (s : Settings) (before now : ℕ → Side → LineSt
         n = n;
         consumed = subst (λ t. Consumes desk.to_come t reads.given) same reads.consumed;
         at_end = subst (λ t. IsAtEnd t) same reads.answer.0;
-        within = reads.answer.1.0;
-        first_bad = reads.answer.1.1;
+        bad = reads.answer.1;
         read = read;
         written = written;
         write_faults = silent;
@@ -213,6 +208,31 @@ module _ (good : GoodOrBad) (s : Settings) (before now : ℕ → Side → LineSt
   follows_causes (Err Memory) reads told unread calm written silent (stay, ends) = lacks (calm (λ e. cc)) ends
 
 module _ (good : GoodOrBad) (s : Settings) (before now : ℕ → Side → LineState) (desk desk' : DeskState) (status : ℕ) where
+  -- whatever is done with orders that ends so
+  by_reading : (done : List Order → DeskState → Type 0) →
+      ((orders : List Order) (read : DeskState) → done orders read → EndsTold before now read desk' status) →
+      ReadsAndFollows done before now desk desk' status ⊎ (AllStay before now × LacksMemory desk desk' status) → RunCauses before now desk desk' status
+  by_reading done ends (inl ran) =
+      follows_causes good done before now desk ran.read desk' status
+      (λ orders. ends orders ran.read) ran.reading ran.reads ran.told ran.unread ran.calm ran.written ran.write_faults ran.follows
+  by_reading done ends (inr (stay, lacks)) = memory_causes before now desk desk' status lacks.status_is lacks.text_out.tells.read_faults
+
+  ends_told : (failed : List TheLine) (text : List ℕ) (read : DeskState) → TellsFailed before now failed → TellsRun failed text read desk' status →
+      EndsTold before now read desk' status
+  ends_told failed text read fails (inl tells) = inl (failed, text, fails, tells)
+  ends_told failed text read fails (inr ends) = inr ends
+
+  run_ends : (orders : List Order) (read : DeskState) → RunsOrders s before now desk' status orders read → EndsTold before now read desk' status
+  run_ends orders read (inl ran) = ends_told ran.report.failed (report_text ran.report) read ran.runs.failed ran.tells
+  run_ends orders read (inr (cut, ends)) = inr ends
+
+  save_ends : (orders : List Order) (read : DeskState) → SavesOrders s before now desk' status orders read → EndsTold before now read desk' status
+  save_ends orders read (inl ran) = ends_told ran.saved.failed (saved_text ran.saved.failed ran.saved.mark) read ran.saves.failed ran.tells
+  save_ends orders read (inr (cut, ends)) = inr ends
+
+  -- **So each status of `run` and `save` has its cause.**
   pub run_causes : CarriesRun s before now desk desk' status → RunCauses before now desk desk' status
-  run_causes (inl ran) = follows_causes good s before now desk ran.read desk' status ran.reading ran.reads ran.told ran.unread ran.calm ran.written ran.write_faults ran.follows
-  run_causes (inr (stay, ends)) = memory_causes before now desk desk' status ends.status_is ends.text_out.tells.read_faults
+  run_causes carried = by_reading (RunsOrders s before now desk' status) run_ends carried
+
+  pub save_causes : CarriesSave s before now desk desk' status → RunCauses before now desk desk' status
+  save_causes carried = by_reading (SavesOrders s before now desk' status) save_ends carried

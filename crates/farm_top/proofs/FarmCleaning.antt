@@ -1,256 +1,221 @@
 -- What a run leaves, whatever failed, and of which no count rose: it ended well, unless there was no memory.
-use Rattle.std.proofs.Common.{◌≡◌, ◌≢◌, ◌⊎◌, inl, inr, ℕ, Bool, true, false, List, [], ◌∷◌, length, Result, Ok, Err, Option, Some, None, refl, sym, ◌∙◌, ap, subst, arith}
-use Rattle.std.specs.Prelude.{IsErrOf}
-use Rattle.std.specs.Io.KnownBytes.{Appends, Consumes, IsAtEnd}
-use Rattle.std.proofs.lemmas.List.{take_all}
+use Rattle.std.proofs.Common.{◌≡◌, ◌≢◌, ◌⊎◌, inl, inr, ℕ, false, List, [], Option, Some, sym, ◌∙◌, ap, subst, arith}
+use Rattle.std.specs.Io.KnownBytes.{Appends}
 use Rattle.trau_io.specs.declared.line.Side.{Side}
-use Rattle.trau_io.specs.declared.line.Side.TheVariants.{Down, Out}
 use Rattle.trau_io.specs.declared.line.Line.{Line as TheLine}
 use Rattle.trau_io.specs.Lines.{LineState, Rose}
 use Rattle.trau_io.specs.Desks.{DeskState}
 use Rattle.trau_orders.specs.declared.order.Order.{Order}
-use Rattle.trau_orders.specs.Text.{text_lines, GoodOrBad, SpellsOneList}
-use Rattle.farm_orders.specs.declared.fault.OrdersFault.{OrdersFault}
-use Rattle.farm_orders.specs.declared.fault.OrdersFault.TheVariants.{Unread, TooLong, Line, Memory}
-use Rattle.farm_orders.specs.Reading.{AnswersTold, ReadsOrders}
+use Rattle.trau_orders.specs.Text.{GoodOrBad, SpellsOneList}
 use Rattle.run_spec.specs.Run.{Run}
-use Rattle.run_spec.specs.Lines.{out_of_call, down_of_call}
-use Rattle.run_spec.specs.Facts.{report_of}
-use Rattle.farm_report.specs.Lines.{report_text}
-use Rattle.farm_report.specs.View.{ReportView}
-use Rattle.farm_run.specs.declared.pace.Pace.{Pace}
-use Rattle.farm_run.specs.Runs.{IsRunOver, IsWritten, Leaves, NoneRose, Runs, TellsFailed, is_listed}
-use Rattle.farm_run.specs.Fronts.{HasFront, IsCutShort}
+use Rattle.farm_run.specs.Runs.{IsRunOver, Leaves, NoneRose, is_listed}
+use Rattle.farm_run.specs.Fronts.{IsCutShort}
 use Rattle.farm_run.proofs.Clocks.{none_listed}
-use Rattle.farm_run.proofs.Cutting.{cut_first}
-use Rattle.farm_tools.specs.Causes.{IsCalm}
 use Rattle.command_words.specs.declared.asked.Settings.{Settings}
-use Rattle.farm_top.specs.Farm.{AllStay, CarriesRun, FollowsReading, RunsAndTells, TellsReport, pace_of, status_of_run}
-use Rattle.farm_top.specs.FarmClean.{CleanFarm, IsCalmRun, TellsOrders}
-use Rattle.farm_top.specs.FarmEnded.{GainsFront, RunEnded}
+use Rattle.farm_top.specs.Farm.{AllStay, CarriesRun, LacksMemory, ReadsAndFollows, RunsOrders, TellsRun}
+use Rattle.farm_top.specs.FarmClean.{CleanFarm, CleanTelling, IsCalmRun, TellsOrders}
+use Rattle.farm_top.specs.FarmEnded.{EndedTelling, GainsFront, RunEnded, report_told}
 use Rattle.farm_top.specs.Headline.{Headline}
-use Rattle.farm_top.proofs.FarmCausing.{first_rose, not_long}
+use Rattle.farm_top.specs.Save.{CarriesSave, CleanSave, SaveEnded, SavesOrders, mark_told}
+use Rattle.farm_top.proofs.Taking.{NotTaken, Taken, done_of, front_out, not_rose, read_out, status_out, taken, whole_out}
+use Rattle.farm_top.proofs.ToldRuns.{ToldOrCut, ToldRun, cut_none, cut_whole, told_by_run, told_by_save}
 
--- a run whose report went out whole and lists no line
-record EndsWell (orders : List Order) (pace : Pace) (before now : ℕ → Side → LineState) (desk desk' : DeskState) (status : ℕ) : Type 0 where
-  pub done : status ≡ 0
-  pub report : ReportView
-  pub runs : Runs orders pace before now report
-  pub text : Appends desk.written desk'.written (report_text report)
-  pub all_read : desk'.to_come ≡ Some []
+-- ---- of orders that the desk tells, whatever is done with them that comes to this
 
--- a count that is calm didn't rise
-not_rose : (before now : ℕ) → IsCalm before now → Rose before now → ⊥
-not_rose before now calm rose = omega (arith, calm.0, calm.1, rose)
+module _ (text_of : Run → List TheLine → List ℕ) (good : GoodOrBad) (one : SpellsOneList) (s : Settings) (done : List Order → DeskState → Type 0)
+    (before now : ℕ → Side → LineState) (desk desk' : DeskState) (status : ℕ) (orders : List Order) (told : TellsOrders orders desk)
+    (comes : (read : DeskState) → done orders read → ToldOrCut text_of s before now desk' status orders read)
+    (carried : ReadsAndFollows done before now desk desk' status ⊎ (AllStay before now × LacksMemory desk desk' status)) where
+  -- a run that was carried to its end, behind the reading of its orders
+  record Ran : Type 0 where
+    pub read : DeskState
+    pub written : read.written ≡ desk.written
+    pub write_faults : read.write_faults ≡ desk.write_faults
+    pub all_read : read.to_come ≡ Some []
+    pub run : ToldRun text_of orders s before now read desk' status
 
--- what tells its octets and is at its end has none left
-none_left : (text given : List ℕ) (now : Option (List ℕ)) → Consumes (Some text) now given → IsAtEnd now → now ≡ Some []
-none_left text given None consumed end = absurd consumed
-none_left text given (Some rest) consumed end = ap Some end
+  what : Taken (List Order) done orders desk ⊎ NotTaken before now desk desk' status
+  what = taken good one done before now desk desk' status orders told carried
 
--- the status of a run isn't that of a failed desk
-not_four : (lines : List TheLine) → 4 ≡ status_of_run lines → ⊥
-not_four [] e = absurd (omega (arith, e))
-not_four (line ∷ lines) e = absurd (omega (arith, e))
+  ran_of : (t : Taken (List Order) done orders desk) → ToldOrCut text_of s before now desk' status orders t.read →
+      Ran ⊎ (IsCutShort orders s.periods before now × (status ≡ 5))
+  ran_of t (inl ran) = inl (record { read = t.read; written = t.written; write_faults = t.write_faults; all_read = t.all_read; run = ran })
+  ran_of t (inr (cut, ends)) = inr (cut, ends.status_is)
 
--- a run of which no line rose lists none
-done_of : (before now : ℕ → Side → LineState) → NoneRose before now → (lines : List TheLine) → TellsFailed before now lines → status_of_run lines ≡ 0
-done_of before now none [] failed = refl
-done_of before now none (line ∷ lines) failed = let some = first_rose before now line lines failed in absurd (none some.0 some.1 some.2)
-
-module _ (s : Settings) (before now : ℕ → Side → LineState) (desk read desk' : DeskState) (status : ℕ) (orders : List Order)
-    (calm : IsCalmRun before now desk desk') where
-  -- the report was told, or there was no memory
-  reported : read.written ≡ desk.written → read.write_faults ≡ desk.write_faults → read.to_come ≡ Some [] → (report : ReportView) → Runs orders (pace_of s) before now report →
-      TellsReport report read desk' status → (status ≡ 5) ⊎ EndsWell orders (pace_of s) before now desk desk' status
-  reported written silent all_read report runs (inl (is, tells)) = inr (record {
-    done = is ∙ done_of before now calm.lines report.failed runs.failed;
-    report = report;
-    runs = runs;
-    text = subst (λ (w : Option (List ℕ)). Appends w desk'.written (report_text report)) written tells.ok;
-    all_read = tells.to_come ∙ all_read;
-  })
-  reported written silent all_read report runs (inr (inl (is, tells))) =
-      absurd (not_rose desk.write_faults desk'.write_faults calm.writing (subst (λ (n : ℕ). Rose n desk'.write_faults) silent tells.cause.failed))
-  reported written silent all_read report runs (inr (inr ends)) = inl ends.status_is
-
-  followed : GoodOrBad → SpellsOneList → (told : TellsOrders orders desk) → (reading : Result (List Order) OrdersFault) → ReadsOrders desk read reading → AnswersTold told.text reading →
-      (IsErrOf reading Unread → Rose desk.read_faults read.read_faults) → read.written ≡ desk.written → read.write_faults ≡ desk.write_faults →
-      FollowsReading reading s before now read desk' status → (status ≡ 5) ⊎ EndsWell orders (pace_of s) before now desk desk' status
-  followed good one told (Ok taken) reads answers unread written silent (inl ran) =
-      let all_read : read.to_come ≡ Some [] = none_left told.text reads.given read.to_come (subst (λ (o : Option (List ℕ)). Consumes o read.to_come reads.given) told.told reads.consumed) reads.answer.0 in
-      let same : taken ≡ orders = one (text_lines told.text) taken orders answers.1 told.spelled in
-      reported written silent all_read ran.report (subst (λ (os : List Order). Runs os (pace_of s) before now ran.report) same ran.runs) ran.tells
-  followed good one told (Ok taken) reads answers unread written silent (inr (cut, ends)) = inl ends.status_is
-  followed good one told (Err Unread) reads answers unread written silent (stay, ends) =
-      absurd (not_rose desk.read_faults desk'.read_faults calm.reading (subst (λ (n : ℕ). Rose desk.read_faults n) (sym ends.text_out.tells.read_faults) (unread refl)))
-  followed good one told (Err TooLong) reads answers unread written silent (stay, ends) = absurd (not_long told.text told.within answers)
-  followed good one told (Err (Line n)) reads answers unread written silent (stay, ends) = absurd (good (text_lines told.text) orders n told.spelled answers.1)
-  followed good one told (Err Memory) reads answers unread written silent (stay, ends) = inl ends.status_is
-
--- ---- whatever failed
-
--- a run that was carried to its end, behind the reading of its orders
-record Ran (orders : List Order) (pace : Pace) (before now : ℕ → Side → LineState) (desk desk' : DeskState) (status : ℕ) : Type 0 where
-  pub read : DeskState
-  pub written : read.written ≡ desk.written
-  pub all_read : read.to_come ≡ Some []
-  pub told : RunsAndTells orders pace before now read desk' status
-
-module _ (one : SpellsOneList) (s : Settings) (before now : ℕ → Side → LineState) (desk desk' : DeskState) (status : ℕ) (orders : List Order)
-    (told : TellsOrders orders desk) (due : (status ≡ 0) ⊎ (status ≡ 4) ⊎ (status ≡ 6)) where
-  ran_by : (read : DeskState) (reading : Result (List Order) OrdersFault) → ReadsOrders desk read reading → AnswersTold told.text reading → read.written ≡ desk.written →
-      FollowsReading reading s before now read desk' status → Ran orders (pace_of s) before now desk desk' status
-  ran_by read (Ok taken) reads answers written (inl ran) = record {
-    read = read;
-    written = written;
-    all_read = none_left told.text reads.given read.to_come (subst (λ (o : Option (List ℕ)). Consumes o read.to_come reads.given) told.told reads.consumed) reads.answer.0;
-    told = subst (λ (os : List Order). RunsAndTells os (pace_of s) before now read desk' status) (one (text_lines told.text) taken orders answers.1 told.spelled) ran;
-  }
-  ran_by read (Ok taken) reads answers written (inr (cut, ends)) = let is = ends.status_is in absurd (omega (arith, due, is))
-  ran_by read (Err Unread) reads answers written (stay, ends) = let is = ends.status_is in absurd (omega (arith, due, is))
-  ran_by read (Err TooLong) reads answers written (stay, ends) = let is = ends.status_is in absurd (omega (arith, due, is))
-  ran_by read (Err (Line n)) reads answers written (stay, inl ends) = let is = ends.status_is in absurd (omega (arith, due, is))
-  ran_by read (Err (Line n)) reads answers written (stay, inr ends) = let is = ends.status_is in absurd (omega (arith, due, is))
-  ran_by read (Err Memory) reads answers written (stay, ends) = let is = ends.status_is in absurd (omega (arith, due, is))
+  ran_or_cut : Taken (List Order) done orders desk ⊎ NotTaken before now desk desk' status →
+      Ran ⊎ ((IsCutShort orders s.periods before now × (status ≡ 5)) ⊎ NotTaken before now desk desk' status)
+  ran_or_cut (inl t) = elim (ran_of t (comes t.read t.done)) [
+    | inl ran ↦ inl ran
+    | inr cut ↦ inr (inl cut)
+  ]
+  ran_or_cut (inr none) = inr (inr none)
 
   -- after 0, 4 and 6 the orders were run
-  ran_to_end : CarriesRun s before now desk desk' status → Ran orders (pace_of s) before now desk desk' status
-  ran_to_end (inl ran) = ran_by ran.read ran.reading ran.reads (ran.told told.text told.told) ran.written ran.follows
-  ran_to_end (inr (stay, ends)) = let is = ends.status_is in absurd (omega (arith, due, is))
+  ran_to_end : (status ≡ 0) ⊎ (status ≡ 4) ⊎ (status ≡ 6) → Ran
+  ran_to_end due = elim (ran_or_cut what) [
+    | inl ran ↦ ran
+    | inr (inl cut) ↦ (let is = cut.1 in absurd (omega (arith, due, is)))
+    | inr (inr none) ↦ absurd (not_due none.why)
+  ]
+    where
+      not_due : ((status ≡ 3) × Rose desk.read_faults desk'.read_faults) ⊎ (status ≡ 5) → ⊥
+      not_due (inl (is, rose)) = omega (arith, due, is)
+      not_due (inr is) = omega (arith, due, is)
 
-  -- the report's text went out, or, with status 4, a proper front of it
-  whole_out : (report : ReportView) (read : DeskState) → status ≢ 4 → TellsReport report read desk' status → Appends read.written desk'.written (report_text report)
-  whole_out report read not (inl (is, tells)) = tells.ok
-  whole_out report read not (inr (inl (is, tells))) = absurd (not is)
-  whole_out report read not (inr (inr ends)) = let is = ends.status_is in absurd (omega (arith, due, is))
-
-  front_out : (report : ReportView) (read : DeskState) → status ≡ 4 → TellsReport report read desk' status → GainsFront read.written desk'.written (report_text report)
-  front_out report read four (inl (is, tells)) = absurd (not_four report.failed (sym four ∙ is))
-  front_out report read four (inr (inl (is, tells))) = tells.err
-  front_out report read four (inr (inr ends)) = let is = ends.status_is in absurd (omega (arith, due, is))
-
-  status_of : (report : ReportView) (read : DeskState) → TellsReport report read desk' status → (status ≡ 4) ⊎ (status ≡ status_of_run report.failed)
-  status_of report read (inl (is, tells)) = inr is
-  status_of report read (inr (inl (is, tells))) = inl is
-  status_of report read (inr (inr ends)) = let is = ends.status_is in absurd (omega (arith, due, is))
-
-  read_whole : (report : ReportView) (read : DeskState) → TellsReport report read desk' status → desk'.to_come ≡ read.to_come
-  read_whole report read (inl (is, tells)) = tells.to_come
-  read_whole report read (inr (inl (is, tells))) = tells.to_come
-  read_whole report read (inr (inr ends)) = ends.text_out.tells.to_come
-
-  -- **So lines and report are those of the run.**
-  pub run_ended : CarriesRun s before now desk desk' status → RunEnded orders s before now desk desk' status
-  run_ended carried =
-      let ran = ran_to_end carried in
-      let report = ran.told.report in
-      let runs = ran.told.runs in
+  -- **So lines and text are those of the run.**
+  pub ended : (status ≡ 0) ⊎ (status ≡ 4) ⊎ (status ≡ 6) → EndedTelling text_of orders s before now desk desk' status
+  ended due =
+      let ran = ran_to_end due in
+      let run = ran.run in
       record {
-        failed = report.failed;
-        told = runs.failed;
-        status_is = status_of report ran.read ran.told.tells;
-        sides = runs.sides;
-        reads = runs.reads;
-        leaves = runs.leaves;
-        headline = ran.told.headline;
-        text = λ not r over. subst (λ (x : ReportView). Appends desk.written desk'.written (report_text x)) (runs.reports r over)
-            (subst (λ (w : Option (List ℕ)). Appends w desk'.written (report_text report)) ran.written (whole_out report ran.read not ran.told.tells));
-        front = λ four r over. subst (λ (x : ReportView). GainsFront desk.written desk'.written (report_text x)) (runs.reports r over)
-            (subst (λ (w : Option (List ℕ)). GainsFront w desk'.written (report_text report)) ran.written (front_out report ran.read four ran.told.tells));
-        all_read = read_whole report ran.read ran.told.tells ∙ ran.all_read;
-        short = runs.short;
-        there = runs.there;
+        failed = run.failed;
+        told = run.told;
+        status_is = status_out run.failed run.text desk ran.read desk' status due ran.written run.tells;
+        sides = run.sides;
+        reads = run.reads;
+        leaves = run.leaves;
+        headline = run.headline;
+        text = λ not r over. subst (λ (t : List ℕ). Appends desk.written desk'.written t) (run.text_is r over)
+            (whole_out run.failed run.text desk ran.read desk' status due ran.written not run.tells);
+        front = λ four r over. subst (λ (t : List ℕ). GainsFront desk.written desk'.written t) (run.text_is r over)
+            (front_out run.failed run.text desk ran.read desk' status due ran.written four run.tells);
+        all_read = read_out run.failed run.text desk ran.read desk' status due ran.written run.tells ∙ ran.all_read;
+        short = run.short;
+        there = run.there;
       }
 
   -- where no count rose no line is listed
-  unlisted : NoneRose before now → (carried : CarriesRun s before now desk desk' status) → (ran_to_end carried).told.report.failed ≡ []
-  unlisted none carried = let ran = (ran_to_end carried).told in none_listed before now ran.report.failed ran.runs.failed none
+  pub leaves : (status ≡ 0) ⊎ (status ≡ 4) ⊎ (status ≡ 6) → NoneRose before now → (r : Run) → IsRunOver orders s.periods (λ c side. false) before now r →
+      Leaves r (λ c side. false) before now
+  leaves due none r over =
+      let run = (ran_to_end due).run in
+      let e = none_listed before now run.failed run.told none in
+      subst (λ (ls : List TheLine). Leaves r (is_listed ls) before now) e
+      (run.leaves r (subst (λ (ls : List TheLine). IsRunOver orders s.periods (is_listed ls) before now r) (sym e) over))
 
-  pub run_leaves : NoneRose before now → CarriesRun s before now desk desk' status → (r : Run) → IsRunOver orders s.periods (λ c side. false) before now r → Leaves r (λ c side. false) before now
-  run_leaves none carried r over =
-      let e = unlisted none carried in
-      subst (λ (ls : List TheLine). Leaves r (is_listed ls) before now) e ((ran_to_end carried).told.runs.leaves r (subst (λ (ls : List TheLine). IsRunOver orders s.periods (is_listed ls) before now r) (sym e) over))
-
-  pub run_headline : NoneRose before now → CarriesRun s before now desk desk' status → (r : Run) → IsRunOver orders s.periods (λ c side. false) before now r → Headline r (λ c side. false) before now
-  run_headline none carried r over =
-      let e = unlisted none carried in
-      subst (λ (ls : List TheLine). Headline r (is_listed ls) before now) e ((ran_to_end carried).told.headline r (subst (λ (ls : List TheLine). IsRunOver orders s.periods (is_listed ls) before now r) (sym e) over))
-
--- ---- where there was no memory
-
--- what a line holds is a front of it
-front_whole : (fails : Bool) (first now : LineState) (octets : List ℕ) → IsWritten fails first now octets → HasFront first now octets
-front_whole false first now octets w = (length octets, subst (Appends first.written now.written) (sym (take_all (length octets) octets (omega arith))) w)
-front_whole true first now octets w = (w.0, w.2)
-
-cut_whole : (orders : List Order) (pace : Pace) (before now : ℕ → Side → LineState) (report : ReportView) → Runs orders pace before now report → IsCutShort orders pace.periods before now
-cut_whole orders pace before now report runs = record {
-  fails = is_listed report.failed;
-  told = runs.failed.failures;
-  sides = runs.sides;
-  reads = runs.reads;
-  there = runs.there;
-  fronts = λ r over.
-      let l = runs.leaves r over in
-      record {
-        out = λ c i. front_whole (is_listed report.failed c Out) (before c Out) (now c Out) (out_of_call r c) (l.out c i);
-        down = λ c i. front_whole (is_listed report.failed c Down) (before c Down) (now c Down) (down_of_call r c) (l.down c i);
-        others = l.others;
-      };
-}
-
--- no line was used
-cut_none : (orders : List Order) (periods : ℕ) (before now : ℕ → Side → LineState) → AllStay before now → IsCutShort orders periods before now
-cut_none orders periods before now stay =
-    let same : before ≡ now = λ i. λ c. λ side. sym (stay c side) i in
-    subst (IsCutShort orders periods before) same (cut_first orders periods before)
-
-module _ (one : SpellsOneList) (s : Settings) (before now : ℕ → Side → LineState) (desk desk' : DeskState) (status : ℕ) (orders : List Order)
-    (told : TellsOrders orders desk) where
-  cut_by : (read : DeskState) (reading : Result (List Order) OrdersFault) → AnswersTold told.text reading → FollowsReading reading s before now read desk' status → IsCutShort orders s.periods before now
-  cut_by read (Ok taken) answers (inl ran) =
-      subst (λ (os : List Order). IsCutShort os s.periods before now) (one (text_lines told.text) taken orders answers.1 told.spelled) (cut_whole taken (pace_of s) before now ran.report ran.runs)
-  cut_by read (Ok taken) answers (inr (cut, ends)) = subst (λ (os : List Order). IsCutShort os s.periods before now) (one (text_lines told.text) taken orders answers.1 told.spelled) cut
-  cut_by read (Err Unread) answers (stay, ends) = cut_none orders s.periods before now stay
-  cut_by read (Err TooLong) answers (stay, ends) = cut_none orders s.periods before now stay
-  cut_by read (Err (Line n)) answers (stay, ends) = cut_none orders s.periods before now stay
-  cut_by read (Err Memory) answers (stay, ends) = cut_none orders s.periods before now stay
+  pub headline : (status ≡ 0) ⊎ (status ≡ 4) ⊎ (status ≡ 6) → NoneRose before now → (r : Run) → IsRunOver orders s.periods (λ c side. false) before now r →
+      Headline r (λ c side. false) before now
+  headline due none r over =
+      let run = (ran_to_end due).run in
+      let e = none_listed before now run.failed run.told none in
+      subst (λ (ls : List TheLine). Headline r (is_listed ls) before now) e
+      (run.headline r (subst (λ (ls : List TheLine). IsRunOver orders s.periods (is_listed ls) before now r) (sym e) over))
 
   -- **The run was cut short.**
-  pub run_cut_short : CarriesRun s before now desk desk' status → IsCutShort orders s.periods before now
-  run_cut_short (inl ran) = cut_by ran.read ran.reading (ran.told told.text told.told) ran.follows
-  run_cut_short (inr (stay, ends)) = cut_none orders s.periods before now stay
+  pub cut_short : IsCutShort orders s.periods before now
+  cut_short = elim (ran_or_cut what) [
+    | inl ran ↦ cut_whole text_of orders s before now ran.read desk' status ran.run
+    | inr (inl cut) ↦ cut.0
+    | inr (inr none) ↦ cut_none orders s.periods before now none.stay
+  ]
 
--- ---- where nothing fails
+  module _ (calm : IsCalmRun before now desk desk') where
+    -- a run whose text went out whole and lists no line
+    record EndsWell : Type 0 where
+      pub zero : status ≡ 0
+      pub ran : Ran
+      pub text : Appends desk.written desk'.written ran.run.text
+      pub to_come : desk'.to_come ≡ Some []
+
+    well_told : (ran : Ran) → TellsRun ran.run.failed ran.run.text ran.read desk' status → (status ≡ 5) ⊎ EndsWell
+    well_told ran (inl (inl (is, tells))) = inr (record {
+      zero = is ∙ done_of before now calm.lines ran.run.failed ran.run.told;
+      ran = ran;
+      text = subst (λ (w : Option (List ℕ)). Appends w desk'.written ran.run.text) ran.written tells.ok;
+      to_come = tells.to_come ∙ ran.all_read;
+    })
+    well_told ran (inl (inr (is, tells))) =
+        absurd (not_rose desk.write_faults desk'.write_faults calm.writing (subst (λ (n : ℕ). Rose n desk'.write_faults) ran.write_faults tells.cause.failed))
+    well_told ran (inr ends) = inl ends.status_is
+
+    ends_well : (status ≡ 5) ⊎ EndsWell
+    ends_well = elim (ran_or_cut what) [
+      | inl ran ↦ well_told ran ran.run.tells
+      | inr (inl cut) ↦ inl cut.1
+      | inr (inr none) ↦ inl (only_memory none.why)
+    ]
+      where
+        only_memory : ((status ≡ 3) × Rose desk.read_faults desk'.read_faults) ⊎ (status ≡ 5) → status ≡ 5
+        only_memory (inl (is, rose)) = absurd (not_rose desk.read_faults desk'.read_faults calm.reading rose)
+        only_memory (inr is) = is
+
+    -- orders that are accepted are run, unless there is no memory
+    pub complete : (status ≡ 0) ⊎ (status ≡ 5)
+    complete = elim ends_well [
+      | inl five ↦ inr five
+      | inr well ↦ inl well.zero
+    ]
+
+    -- and what the run gives is left
+    pub clean : status ≢ 5 → (r : Run) → IsRunOver orders s.periods (λ c side. false) before now r → CleanTelling (text_of r []) r before now desk desk' status
+    clean not r over = elim ends_well [
+      | inl five ↦ absurd (not five)
+      | inr well ↦
+          let run = well.ran.run in
+          let e = none_listed before now run.failed run.told calm.lines in
+          let is = subst (λ (ls : List TheLine). IsRunOver orders s.periods (is_listed ls) before now r) (sym e) over in
+          record {
+            done = well.zero;
+            leaves = subst (λ (ls : List TheLine). Leaves r (is_listed ls) before now) e (run.leaves r is);
+            text = subst (λ (t : List ℕ). Appends desk.written desk'.written t) (run.text_is r is ∙ ap (text_of r) e) well.text;
+            all_read = well.to_come;
+          }
+    ]
+
+-- ---- so it is of `run` and of `save`
 
 module _ (good : GoodOrBad) (one : SpellsOneList) (s : Settings) (before now : ℕ → Side → LineState) (desk desk' : DeskState) (status : ℕ) (orders : List Order)
-    (told : TellsOrders orders desk) (calm : IsCalmRun before now desk desk') where
-  ended : CarriesRun s before now desk desk' status → (status ≡ 5) ⊎ EndsWell orders (pace_of s) before now desk desk' status
-  ended (inl ran) =
-      followed s before now desk ran.read desk' status orders calm good one told ran.reading ran.reads (ran.told told.text told.told) ran.unread ran.written ran.write_faults ran.follows
-  ended (inr (stay, ends)) = inl ends.status_is
+    (told : TellsOrders orders desk) where
+  pub run_ended : (status ≡ 0) ⊎ (status ≡ 4) ⊎ (status ≡ 6) → CarriesRun s before now desk desk' status → RunEnded orders s before now desk desk' status
+  run_ended due carried = ended report_told good one s (RunsOrders s before now desk' status) before now desk desk' status orders told
+      (told_by_run s before now desk' status orders) carried due
 
-  completed : (status ≡ 5) ⊎ EndsWell orders (pace_of s) before now desk desk' status → (status ≡ 0) ⊎ (status ≡ 5)
-  completed (inl memory) = inr memory
-  completed (inr well) = inl well.done
+  pub run_leaves : (status ≡ 0) ⊎ (status ≡ 4) ⊎ (status ≡ 6) → NoneRose before now → CarriesRun s before now desk desk' status →
+      (r : Run) → IsRunOver orders s.periods (λ c side. false) before now r → Leaves r (λ c side. false) before now
+  run_leaves due none carried = leaves report_told good one s (RunsOrders s before now desk' status) before now desk desk' status orders told
+      (told_by_run s before now desk' status orders) carried due none
 
-  cleaned : (r : Run) → IsRunOver orders s.periods (λ c side. false) before now r → status ≢ 5 → (status ≡ 5) ⊎ EndsWell orders (pace_of s) before now desk desk' status → CleanFarm r before now desk desk' status
-  cleaned r over not (inl memory) = absurd (not memory)
-  cleaned r over not (inr well) =
-      let e = none_listed before now well.report.failed well.runs.failed calm.lines in
-      let is = subst (λ (ls : List TheLine). IsRunOver orders s.periods (is_listed ls) before now r) (sym e) over in
-      record {
-        done = well.done;
-        leaves = subst (λ (ls : List TheLine). Leaves r (is_listed ls) before now) e (well.runs.leaves r is);
-        text = subst (λ (report : ReportView). Appends desk.written desk'.written (report_text report)) (well.runs.reports r is ∙ ap (report_of r) e) well.text;
-        all_read = well.all_read;
-      }
+  pub run_headline : (status ≡ 0) ⊎ (status ≡ 4) ⊎ (status ≡ 6) → NoneRose before now → CarriesRun s before now desk desk' status →
+      (r : Run) → IsRunOver orders s.periods (λ c side. false) before now r → Headline r (λ c side. false) before now
+  run_headline due none carried = headline report_told good one s (RunsOrders s before now desk' status) before now desk desk' status orders told
+      (told_by_run s before now desk' status orders) carried due none
 
-  -- orders that are accepted are run, unless there is no memory
-  pub run_complete : CarriesRun s before now desk desk' status → (status ≡ 0) ⊎ (status ≡ 5)
-  run_complete carried = completed (ended carried)
+  pub run_cut_short : CarriesRun s before now desk desk' status → IsCutShort orders s.periods before now
+  run_cut_short carried = cut_short report_told good one s (RunsOrders s before now desk' status) before now desk desk' status orders told
+      (told_by_run s before now desk' status orders) carried
 
-  -- and what the run gives is left
-  pub run_clean : CarriesRun s before now desk desk' status → status ≢ 5 → (r : Run) → IsRunOver orders s.periods (λ c side. false) before now r → CleanFarm r before now desk desk' status
-  run_clean carried not r over = cleaned r over not (ended carried)
+  pub run_complete : IsCalmRun before now desk desk' → CarriesRun s before now desk desk' status → (status ≡ 0) ⊎ (status ≡ 5)
+  run_complete calm carried = complete report_told good one s (RunsOrders s before now desk' status) before now desk desk' status orders told
+      (told_by_run s before now desk' status orders) carried calm
+
+  pub run_clean : IsCalmRun before now desk desk' → CarriesRun s before now desk desk' status → status ≢ 5 →
+      (r : Run) → IsRunOver orders s.periods (λ c side. false) before now r → CleanFarm r before now desk desk' status
+  run_clean calm carried = clean report_told good one s (RunsOrders s before now desk' status) before now desk desk' status orders told
+      (told_by_run s before now desk' status orders) carried calm
+
+  pub save_ended : (status ≡ 0) ⊎ (status ≡ 4) ⊎ (status ≡ 6) → CarriesSave s before now desk desk' status → SaveEnded orders s before now desk desk' status
+  save_ended due carried = ended mark_told good one s (SavesOrders s before now desk' status) before now desk desk' status orders told
+      (told_by_save s before now desk' status orders) carried due
+
+  pub save_leaves : (status ≡ 0) ⊎ (status ≡ 4) ⊎ (status ≡ 6) → NoneRose before now → CarriesSave s before now desk desk' status →
+      (r : Run) → IsRunOver orders s.periods (λ c side. false) before now r → Leaves r (λ c side. false) before now
+  save_leaves due none carried = leaves mark_told good one s (SavesOrders s before now desk' status) before now desk desk' status orders told
+      (told_by_save s before now desk' status orders) carried due none
+
+  pub save_headline : (status ≡ 0) ⊎ (status ≡ 4) ⊎ (status ≡ 6) → NoneRose before now → CarriesSave s before now desk desk' status →
+      (r : Run) → IsRunOver orders s.periods (λ c side. false) before now r → Headline r (λ c side. false) before now
+  save_headline due none carried = headline mark_told good one s (SavesOrders s before now desk' status) before now desk desk' status orders told
+      (told_by_save s before now desk' status orders) carried due none
+
+  pub save_cut_short : CarriesSave s before now desk desk' status → IsCutShort orders s.periods before now
+  save_cut_short carried = cut_short mark_told good one s (SavesOrders s before now desk' status) before now desk desk' status orders told
+      (told_by_save s before now desk' status orders) carried
+
+  pub save_complete : IsCalmRun before now desk desk' → CarriesSave s before now desk desk' status → (status ≡ 0) ⊎ (status ≡ 5)
+  save_complete calm carried = complete mark_told good one s (SavesOrders s before now desk' status) before now desk desk' status orders told
+      (told_by_save s before now desk' status orders) carried calm
+
+  pub save_clean : IsCalmRun before now desk desk' → CarriesSave s before now desk desk' status → status ≢ 5 →
+      (r : Run) → IsRunOver orders s.periods (λ c side. false) before now r → CleanSave r before now desk desk' status
+  save_clean calm carried = clean mark_told good one s (SavesOrders s before now desk' status) before now desk desk' status orders told
+      (told_by_save s before now desk' status orders) carried calm

@@ -5,6 +5,11 @@ mod Drilling
 mod Ending
 mod FarmCausing
 mod FarmCleaning
-mod Following
 mod Living
 mod Headlining
+mod ResumeCausing
+mod ResumeCutting
+mod ResumeReading
+mod Resuming
+mod Taking
+mod ToldRuns

@@ -1,5 +1,5 @@
 -- What the command `live` leaves, and why its statuses come.
-use Rattle.std.proofs.Common.{◌≡◌, inl, inr, ℕ, arith}
+use Rattle.std.proofs.Common.{inl, inr, ℕ, arith}
 use Rattle.trau_io.specs.declared.line.Side.{Side}
 use Rattle.trau_io.specs.Lines.{LineState, Rose}
 use Rattle.trau_io.specs.Desks.{DeskState}
@@ -28,7 +28,8 @@ module _ (s : LiveSettings) (before now : ℕ → Side → LineState) (desk desk
         complete = λ _. inr is;
       }
 
-  telling : AllStay before now → TellsWhole (live_text s.seed s.calls s.periods) desk desk' status → LiveEnds s.seed s.calls s.periods before now desk desk' status
+  telling : AllStay before now → TellsWhole (live_text s.seed s.calls s.periods) desk desk' status →
+      LiveEnds s.seed s.calls s.periods before now desk desk' status
   telling stay (inl (is, told)) = record {
     known = inl is;
     unused = stay;

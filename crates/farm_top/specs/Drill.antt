@@ -1,14 +1,13 @@
 -- The command `drill`: a run over lines of its own, its report and its sums (this project's profile).
-use Rattle.std.specs.Prelude.{◌≡◌, ◌⊎◌, ◌<◌, ℕ, List, codes, Ok, Err}
+use Rattle.std.specs.Prelude.{◌≡◌, ◌⊎◌, ◌<◌, ℕ, List, codes}
 use Rattle.std.specs.Io.KnownBytes.{Appends}
 use Rattle.trau_io.specs.declared.line.Side.{Side}
 use Rattle.trau_io.specs.Lines.{LineState, Rose}
 use Rattle.trau_io.specs.Desks.{DeskState}
-use Rattle.trau_io.specs.Transfer.{Tells}
 use Rattle.drill_run.specs.Drilled.{IsDrilled, drilled_run, text_with_sums}
 use Rattle.farm_run.specs.Runs.{none_fails}
 use Rattle.farm_tools.specs.Causes.{IsCalm}
-use Rattle.farm_top.specs.Farm.{AllStay, LacksMemory, TextOut}
+use Rattle.farm_top.specs.Farm.{AllStay, LacksMemory, TellsDue, TextOut}
 use Rattle.farm_top.specs.FarmEnded.{GainsFront}
 use Rattle.farm_top.specs.Headline.{Headline}
 
@@ -17,9 +16,9 @@ pub record HasDrilled (seed calls periods : ℕ) (text : List ℕ) : Type 0 wher
   pub drilled : IsDrilled seed calls periods text
   pub headline : Headline (drilled_run seed calls periods) none_fails drilled.before drilled.now
 
--- a text went out, or a proper front of it before the desk failed
+-- the text of a command in which no line can fail went out, or a proper front of it before the desk failed
 abbrev pub TellsWhole : List ℕ → DeskState → DeskState → ℕ → Type 0
-TellsWhole text desk desk' status = ((status ≡ 0) × Tells desk desk' (Ok tt) text) ⊎ ((status ≡ 4) × Tells desk desk' (Err (record {})) text)
+TellsWhole text desk desk' status = TellsDue 0 text desk desk' status
 
 -- a drill was carried to its end, and its text told
 pub record TellsDrill (seed calls periods : ℕ) (desk desk' : DeskState) (status : ℕ) : Type 0 where

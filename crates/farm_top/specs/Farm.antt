@@ -58,13 +58,17 @@ abbrev pub status_of_run : List TheLine → ℕ
 status_of_run [] = 0
 status_of_run (line ∷ lines) = 6
 
--- the report's text went out, and the status is that of the run; or a proper front of it before the desk failed; or there
--- was no memory for it
+-- a text went out whole, and the status is the one that is due; or a proper front of it before the desk failed
+abbrev pub TellsDue : ℕ → List ℕ → DeskState → DeskState → ℕ → Type 0
+TellsDue due text desk desk' status = ((status ≡ due) × Tells desk desk' (Ok tt) text) ⊎ ((status ≡ 4) × Tells desk desk' (Err (record {})) text)
+
+-- a text of a run in which these lines failed, or there was no memory for it
+abbrev pub TellsRun : List TheLine → List ℕ → DeskState → DeskState → ℕ → Type 0
+TellsRun failed text desk desk' status = TellsDue (status_of_run failed) text desk desk' status ⊎ LacksMemory desk desk' status
+
+-- the report
 abbrev pub TellsReport : ReportView → DeskState → DeskState → ℕ → Type 0
-TellsReport report desk desk' status =
-    ((status ≡ status_of_run report.failed) × Tells desk desk' (Ok tt) (report_text report))
-    ⊎ ((status ≡ 4) × Tells desk desk' (Err (record {})) (report_text report))
-    ⊎ LacksMemory desk desk' status
+TellsReport report desk desk' status = TellsRun report.failed (report_text report) desk desk' status
 
 -- Orders that were taken are run over the lines, and the report is told, whatever failed. The outgoing lines have the headline,
 -- whatever the desk did.
@@ -74,14 +78,14 @@ pub record RunsAndTells (orders : List Order) (pace : Pace) (before now : ℕ �
   pub headline : (r : Run) → IsRunOver orders pace.periods (is_listed report.failed) before now r → Headline r (is_listed report.failed) before now
   pub tells : TellsReport report desk desk' status
 
--- What follows the reading: the run of the orders, unless want of memory cut it short; or the refusal of the orders, and no
--- line was used.
-abbrev pub FollowsReading : Result (List Order) OrdersFault → Settings → (ℕ → Side → LineState) → (ℕ → Side → LineState) → DeskState → DeskState → ℕ → Type 0
-FollowsReading (Ok orders) s before now desk desk' status = RunsAndTells orders (pace_of s) before now desk desk' status ⊎ (IsCutShort orders s.periods before now × LacksMemory desk desk' status)
-FollowsReading (Err fault) s before now desk desk' status = AllStay before now × RefusesOrders fault desk desk' status
+-- What follows the reading: what is done with the orders; or the refusal of the orders, and no line was used.
+abbrev pub FollowsReading : (List Order → DeskState → Type 0) → Result (List Order) OrdersFault → (ℕ → Side → LineState) → (ℕ → Side → LineState) → DeskState →
+    DeskState → ℕ → Type 0
+FollowsReading done (Ok orders) before now read desk' status = done orders read
+FollowsReading done (Err fault) before now read desk' status = AllStay before now × RefusesOrders fault read desk' status
 
--- a whole command `run`, whatever fails: the desk is read, and what follows is by the reading
-pub record RunsFarm (s : Settings) (before now : ℕ → Side → LineState) (desk desk' : DeskState) (status : ℕ) : Type 0 where
+-- The desk is read, and what follows is by the reading.
+pub record ReadsAndFollows (done : List Order → DeskState → Type 0) (before now : ℕ → Side → LineState) (desk desk' : DeskState) (status : ℕ) : Type 0 where
   pub read : DeskState
   pub reading : Result (List Order) OrdersFault
   pub reads : ReadsOrders desk read reading
@@ -90,7 +94,16 @@ pub record RunsFarm (s : Settings) (before now : ℕ → Side → LineState) (de
   pub calm : (IsErrOf reading Unread → ⊥) → read.read_faults ≡ desk.read_faults
   pub written : read.written ≡ desk.written
   pub write_faults : read.write_faults ≡ desk.write_faults
-  pub follows : FollowsReading reading s before now read desk' status
+  pub follows : FollowsReading done reading before now read desk' status
+
+-- the run of the orders, unless want of memory cut it short
+abbrev pub RunsOrders : Settings → (ℕ → Side → LineState) → (ℕ → Side → LineState) → DeskState → ℕ → List Order → DeskState → Type 0
+RunsOrders s before now desk' status orders read =
+    RunsAndTells orders (pace_of s) before now read desk' status ⊎ (IsCutShort orders s.periods before now × LacksMemory read desk' status)
+
+-- a whole command `run`, whatever fails
+abbrev pub RunsFarm : Settings → (ℕ → Side → LineState) → (ℕ → Side → LineState) → DeskState → DeskState → ℕ → Type 0
+RunsFarm s before now desk desk' status = ReadsAndFollows (RunsOrders s before now desk' status) before now desk desk' status
 
 -- or there was no memory to read the words, and neither a line nor the orders were used
 abbrev pub CarriesRun : Settings → (ℕ → Side → LineState) → (ℕ → Side → LineState) → DeskState → DeskState → ℕ → Type 0

@@ -7,19 +7,25 @@ use Rattle.trau_io.specs.Desks.{DeskState}
 use Rattle.trau_orders.specs.Text.{text_lines, IsFirstBad, IsWithin, IsBeyond}
 use Rattle.farm_top.specs.Farm.{AllStay, TextOut, line_text}
 
--- the orders were read to their end and are within the limits, line n is the first that isn't in the grammar, and the
--- desk, to which nothing was written while it was read, was told so
-pub record ReadsBadLine (desk desk' : DeskState) : Type 0 where
+-- the text was read to its end, line n of it is bad in this way, and the desk, to which nothing was written while it was
+-- read, was told so
+pub record ReadsBadText (is_bad : List ℕ → ℕ → Type 0) (text_of : ℕ → List ℕ) (desk desk' : DeskState) : Type 0 where
   pub given : List ℕ
   pub n : ℕ
   pub consumed : Consumes desk.to_come desk'.to_come given
   pub at_end : IsAtEnd desk'.to_come
-  pub within : IsWithin given
-  pub first_bad : IsFirstBad (text_lines given) n
+  pub bad : is_bad given n
   pub read : DeskState
   pub written : read.written ≡ desk.written
   pub write_faults : read.write_faults ≡ desk.write_faults
-  pub text_out : TextOut read desk' (line_text n)
+  pub text_out : TextOut read desk' (text_of n)
+
+-- the orders are within the limits, and line n is the first that isn't in the grammar
+abbrev pub HasBadLine : List ℕ → ℕ → Type 0
+HasBadLine orders n = IsWithin orders × IsFirstBad (text_lines orders) n
+
+abbrev pub ReadsBadLine : DeskState → DeskState → Type 0
+ReadsBadLine desk desk' = ReadsBadText HasBadLine line_text desk desk'
 
 -- the orders were read to just past the limit of octets, or to their end, and are too many lines
 pub record ReadsTooLong (desk desk' : DeskState) : Type 0 where
@@ -40,7 +46,8 @@ pub record RunCauses (before now : ℕ → Side → LineState) (desk desk' : Des
   pub read_failed : status ≡ 3 → Rose desk.read_faults desk'.read_faults
   pub read_rose : desk.read_faults < desk'.read_faults → status ≡ 3
   pub refused : status ≡ 2 → ReadsBadLine desk desk'
-  pub told_refused : (text : List ℕ) (n : ℕ) → desk.to_come ≡ Some text → IsWithin text → IsFirstBad (text_lines text) n → (status ≡ 2) ⊎ (status ≡ 3) ⊎ (status ≡ 5)
+  pub told_refused : (text : List ℕ) (n : ℕ) → desk.to_come ≡ Some text → IsWithin text → IsFirstBad (text_lines text) n →
+      (status ≡ 2) ⊎ (status ≡ 3) ⊎ (status ≡ 5)
   pub too_long : status ≡ 7 → ReadsTooLong desk desk'
   pub told_too_long : (text : List ℕ) → desk.to_come ≡ Some text → IsBeyond text → (status ≡ 3) ⊎ (status ≡ 5) ⊎ (status ≡ 7)
   pub unused : (status ≡ 2) ⊎ (status ≡ 3) ⊎ (status ≡ 7) → AllStay before now

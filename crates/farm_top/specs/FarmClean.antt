@@ -1,4 +1,4 @@
--- What the command `run` leaves where the outside tells what it holds and nothing fails (this project's profile).
+-- What `run`, or a command that runs as it does, leaves where the outside tells what it holds and nothing fails (this project's profile).
 use Rattle.std.specs.Prelude.{◌≡◌, ℕ, List, [], Some}
 use Rattle.std.specs.Io.KnownBytes.{Appends}
 use Rattle.trau_io.specs.declared.line.Side.{Side}
@@ -25,10 +25,14 @@ pub record IsCalmRun (before now : ℕ → Side → LineState) (desk desk' : Des
   pub reading : IsCalm desk.read_faults desk'.read_faults
   pub writing : IsCalm desk.write_faults desk'.write_faults
 
--- What the command leaves of this run: the lines have what the run gives them, the desk gained exactly the text of the
--- run's report, in which no line failed, and the orders were read to their end.
-pub record CleanFarm (r : Run) (before now : ℕ → Side → LineState) (desk desk' : DeskState) (status : ℕ) : Type 0 where
+-- What a command leaves of this run, of which it tells this text: the lines have what the run gives them, the desk gained exactly
+-- the text, and the orders were read to their end.
+pub record CleanTelling (of_run : List ℕ) (r : Run) (before now : ℕ → Side → LineState) (desk desk' : DeskState) (status : ℕ) : Type 0 where
   pub done : status ≡ 0
   pub leaves : Leaves r none_fails before now
-  pub text : Appends desk.written desk'.written (report_text (report_of r []))
+  pub text : Appends desk.written desk'.written of_run
   pub all_read : desk'.to_come ≡ Some []
+
+-- it tells the run's report, in which no line failed
+abbrev pub CleanFarm : Run → (ℕ → Side → LineState) → (ℕ → Side → LineState) → DeskState → DeskState → ℕ → Type 0
+CleanFarm r before now desk desk' status = CleanTelling (report_text (report_of r [])) r before now desk desk' status

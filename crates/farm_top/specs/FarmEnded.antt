@@ -1,4 +1,4 @@
--- What the command `run` leaves where the desk tells its orders, whatever fails (this project's profile).
+-- What `run`, or a command that runs as it does, leaves where the desk tells its orders, whatever fails (this project's profile).
 use Rattle.std.specs.Prelude.{◌≡◌, ◌≢◌, ◌⊎◌, ◌<◌, ℕ, List, [], Option, Some, length, take}
 use Rattle.std.specs.Io.KnownBytes.{Appends}
 use Rattle.trau_io.specs.declared.line.Line.{Line}
@@ -19,8 +19,9 @@ use Rattle.farm_top.specs.Headline.{Headline}
 abbrev pub GainsFront : Option (List ℕ) → Option (List ℕ) → List ℕ → Type 0
 GainsFront before now text = (n : ℕ) × (n < length text) × Appends before now (take n text)
 
--- A run of these orders that was carried to its end, whatever failed.
-pub record RunEnded (orders : List Order) (s : Settings) (before now : ℕ → Side → LineState) (desk desk' : DeskState) (status : ℕ) : Type 0 where
+-- A run of these orders that was carried to its end, whatever failed, and of which this is told, by the lines that failed.
+pub record EndedTelling (text_of : Run → List Line → List ℕ) (orders : List Order) (s : Settings) (before now : ℕ → Side → LineState) (desk desk' : DeskState)
+    (status : ℕ) : Type 0 where
   -- the lines that failed, each once: none with status 0, some with 6
   pub failed : List Line
   pub told : TellsFailed before now failed
@@ -31,12 +32,19 @@ pub record RunEnded (orders : List Order) (s : Settings) (before now : ℕ → S
   -- the lines have what the run of these orders over what the lines gave gives them, and so the headline
   pub leaves : (r : Run) → IsRunOver orders s.periods (is_listed failed) before now r → Leaves r (is_listed failed) before now
   pub headline : (r : Run) → IsRunOver orders s.periods (is_listed failed) before now r → Headline r (is_listed failed) before now
-  -- the desk gained exactly the text of this run's report, with the lines that failed; with status 4 a proper front of it
-  pub text : status ≢ 4 → (r : Run) → IsRunOver orders s.periods (is_listed failed) before now r → Appends desk.written desk'.written (report_text (report_of r failed))
-  pub front : status ≡ 4 → (r : Run) → IsRunOver orders s.periods (is_listed failed) before now r → GainsFront desk.written desk'.written (report_text (report_of r failed))
+  -- the desk gained exactly the text; with status 4 a proper front of it
+  pub text : status ≢ 4 → (r : Run) → IsRunOver orders s.periods (is_listed failed) before now r → Appends desk.written desk'.written (text_of r failed)
+  pub front : status ≡ 4 → (r : Run) → IsRunOver orders s.periods (is_listed failed) before now r → GainsFront desk.written desk'.written (text_of r failed)
   -- the orders were read to their end
   pub all_read : desk'.to_come ≡ Some []
   -- an incoming line failed short of what its round takes of it
   pub short : (r : Run) → IsRunOver orders s.periods (is_listed failed) before now r → FailedShort r s.batch (is_listed failed)
   -- there is such a run of orders that are in range, wherever the lines tell what they hold
   pub there : AreOrders orders → AreTold before → (r : Run) × IsRunOver orders s.periods (is_listed failed) before now r
+
+-- what `run` tells: the report, with the lines that failed
+abbrev pub report_told : Run → List Line → List ℕ
+report_told r failed = report_text (report_of r failed)
+
+abbrev pub RunEnded : List Order → Settings → (ℕ → Side → LineState) → (ℕ → Side → LineState) → DeskState → DeskState → ℕ → Type 0
+RunEnded orders s before now desk desk' status = EndedTelling report_told orders s before now desk desk' status

@@ -1,5 +1,5 @@
 -- What a run leaves on the outgoing lines of its calls, each call told as a whole (this project's profile).
-use Rattle.std.specs.Prelude.{◌≡◌, ◌≤◌, ◌<◌, ◌↔◌, ℕ, ◌+◌, ◌-◌, Bool, true, Some, None, List, [], length, map, slice_index, Contains}
+use Rattle.std.specs.Prelude.{◌≡◌, ◌≤◌, ◌<◌, ◌↔◌, ℕ, ◌+◌, ◌-◌, ◌*◌, Bool, true, Some, None, List, [], length, map, drop, slice_index, Contains}
 use Rattle.trau_bits.specs.Bits.{octets_of}
 use Rattle.trau_params.specs.Bits260.{bits260}
 use Rattle.trau_io.specs.declared.line.Side.{Side}
@@ -13,11 +13,11 @@ use Rattle.frame_sync.specs.declared.yields.Yield.TheVariants.{Frame}
 use Rattle.switchboard.specs.declared.act.Span.{Span}
 use Rattle.call_leg.specs.Uplink.{handed_fields}
 use Rattle.call_spec.specs.Out.{out}
-use Rattle.call_spec.specs.Down.{frame_at, down}
-use Rattle.run_spec.specs.Run.{Run, spans_in, start_in, end_in, partner_in, IsOpened}
+use Rattle.call_spec.specs.Down.{frame_by_number, down}
+use Rattle.run_spec.specs.Run.{Run, spans_in, start_in, end_in, partner_in, IsOpened, worked_to}
 use Rattle.run_spec.specs.Facts.{span_line, report_of}
 use Rattle.run_calls_spec.specs.Whole.{span_for, whole_call, IsBridged, item_for, yield_on, frame_on}
-use Rattle.run_calls_spec.specs.Sent.{sent_frame, place_in, CarriesHanded, Sends, Waits, IsFirst}
+use Rattle.run_calls_spec.specs.Sent.{frame_as_sent, frame_place, CarriesHanded, Sends, WaitsUnsent, IsFirstOfSpan}
 use Rattle.farm_run.specs.Runs.{IsWritten}
 
 -- What a call is handed in the periods of a bridge: its partner's effective frames, as 260 bits, and nothing else.
@@ -33,20 +33,22 @@ pub record GoesOut (r : Run) : Type 0 where
   -- which may be lost: a good speech frame's 260 bits unchanged, with SP 1
   pub goes : (c t : ℕ) (x : Span) → IsBridged r c t x → t + 1 < end_in r c → (j : ℕ) × Sends r c t x j
   pub unchanged : (c t : ℕ) (x : Span) (j p : ℕ) (bits : List ℕ) → Sends r c t x j → yield_on r (partner_in c x) t ≡ Some (Frame p bits) → IsGoodSpeech bits →
-      sent_frame r c j ≡ Speech (data_of bits) true
+      frame_as_sent r c j ≡ Speech (data_of bits) true
   -- the frame's 320 bits stand on the Down line one after another, as far as the line goes
-  pub on_line : (c t : ℕ) (x : Span) (j k : ℕ) → Sends r c t x j → k < 320 → place_in r c j + k < length (down (whole_call r c)) →
-      slice_index (down (whole_call r c)) (place_in r c j + k) ≡ slice_index (down_bits (sent_frame r c j)) k
+  pub on_line : (c t : ℕ) (x : Span) (j k : ℕ) → Sends r c t x j → k < 320 → frame_place r c j + k < length (down (whole_call r c)) →
+      slice_index (down (whole_call r c)) (frame_place r c j + k) ≡ slice_index (down_bits (frame_as_sent r c j)) k
   -- no frame carries anything else
-  pub only : (c j h : ℕ) → (frame_at (whole_call r c) j).carries ≡ Some h → (x : Span) × IsBridged r c (start_in r c + h) x × CarriesHanded r c (start_in r c + h) x j
+  pub only : (c j h : ℕ) → (frame_by_number (whole_call r c) j).carries ≡ Some h →
+      (x : Span) × IsBridged r c (start_in r c + h) x × CarriesHanded r c (start_in r c + h) x j
   -- it lies as many frames behind the first one made in the bridge as the period lies behind the bridge's start; so what
   -- is handed later goes out in a later frame, and each once
-  pub first : (c : ℕ) (x : Span) → (first : ℕ) × IsFirst (whole_call r c) (span_for r c x) first
-  pub place : (c t : ℕ) (x : Span) (first j : ℕ) → IsBridged r c t x → IsFirst (whole_call r c) (span_for r c x) first → CarriesHanded r c t x j ↔ (j ≡ first + (t - x.from))
+  pub first : (c : ℕ) (x : Span) → (first : ℕ) × IsFirstOfSpan (whole_call r c) (span_for r c x) first
+  pub place : (c t : ℕ) (x : Span) (first j : ℕ) → IsBridged r c t x → IsFirstOfSpan (whole_call r c) (span_for r c x) first →
+      CarriesHanded r c t x j ↔ (j ≡ first + (t - x.from))
   pub in_order : (c t u : ℕ) (x : Span) (j k : ℕ) → IsBridged r c t x → IsBridged r c u x → CarriesHanded r c t x j → CarriesHanded r c u x k → t < u → j < k
   pub once : (c t : ℕ) (x : Span) (j k : ℕ) → IsBridged r c t x → CarriesHanded r c t x j → CarriesHanded r c t x k → j ≡ k
   -- between periods at most one handed frame waits, that of the period just over
-  pub one_waits : (c u t : ℕ) (x : Span) → Waits r c u t x → u ≡ t + 1
+  pub one_waits : (c u t : ℕ) (x : Span) → WaitsUnsent r c u t x → u ≡ t + 1
   -- of a bridge one frame at most is lost in each direction, which the report counts
   pub lost : (x : Span) → Contains (spans_in r) x → ((span_line r x).lost_a ≤ 1) × ((span_line r x).lost_b ≤ 1)
 
@@ -56,5 +58,13 @@ pub record GoesOut (r : Run) : Type 0 where
 pub record Headline (r : Run) (fails : ℕ → Side → Bool) (before now : ℕ → Side → LineState) : Type 0 where
   pub out_line : (c : ℕ) → IsOpened r c → IsWritten (fails c Out) (before c Out) (now c Out) (out (whole_call r c))
   pub down_line : (c : ℕ) → IsOpened r c → IsWritten (fails c Down) (before c Down) (now c Down) (octets_of (down (whole_call r c)))
+  pub hands_over : HandsOver r
+  pub goes_out : GoesOut r
+
+-- The same where the octets of the periods before `from` were held back.
+pub record HeadlineFrom (r : Run) (from : ℕ) (fails : ℕ → Side → Bool) (before now : ℕ → Side → LineState) : Type 0 where
+  pub out_line : (c : ℕ) → IsOpened r c → IsWritten (fails c Out) (before c Out) (now c Out) (drop (160 * worked_to r from c) (out (whole_call r c)))
+  pub down_line : (c : ℕ) → IsOpened r c →
+      IsWritten (fails c Down) (before c Down) (now c Down) (drop (40 * worked_to r from c) (octets_of (down (whole_call r c))))
   pub hands_over : HandsOver r
   pub goes_out : GoesOut r

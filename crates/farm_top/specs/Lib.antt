@@ -7,6 +7,10 @@ pub mod Follow
 pub mod FarmClean
 pub mod Headline
 pub mod Live
+pub mod Resume
+pub mod ResumeCauses
+pub mod ResumeEnded
+pub mod Save
 pub mod Slots
 pub mod Top
 pub mod Words

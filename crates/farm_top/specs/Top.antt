@@ -11,13 +11,15 @@ use Rattle.farm_tools.specs.declared.end.Tool.TheVariants as tool
 use Rattle.farm_tools.specs.Tools.{ToolRuns, status_of}
 use Rattle.farm_run.specs.Pace.{IsPace}
 use Rattle.command_words.specs.declared.asked.Asked.{Asked}
-use Rattle.command_words.specs.declared.asked.Asked.TheVariants.{Run, Drill, Live, Relay, Frames, Encode, Decode, Follow, Split, Merge}
+use Rattle.command_words.specs.declared.asked.Asked.TheVariants.{Run, Save, Resume, Drill, Live, Relay, Frames, Encode, Decode, Follow, Split, Merge}
 use Rattle.farm_top.specs.Drill.{CarriesDrill}
 use Rattle.farm_top.specs.Follow.{FollowEnds}
 use Rattle.live_run.specs.Size.{IsLiveDrill}
 use Rattle.farm_top.specs.Live.{CarriesLive, live_of}
 use Rattle.farm_top.specs.Slots.{MergeEnds, SplitEnds}
 use Rattle.farm_top.specs.Farm.{AllStay, RunsFarm, TextOut, pace_of}
+use Rattle.farm_top.specs.Resume.{ResumesFarm}
+use Rattle.farm_top.specs.Save.{SavesFarm}
 
 -- after a command that ended so and left the desk so: the status is that of the end, and where there was no memory the desk is told
 pub record Answers (end : ToolEnd) (left desk' : DeskState) (status : ℕ) : Type 0 where
@@ -43,6 +45,8 @@ pub record CarriesFrames (before now : ℕ → Side → LineState) (desk desk' :
 -- the base station's end, or the first call of a slot
 abbrev pub IsInRange : Asked → Type 0
 IsInRange (Run s) = IsPace (pace_of s)
+IsInRange (Save s) = IsPace (pace_of s)
+IsInRange (Resume s) = IsPace (pace_of s)
 IsInRange (Drill seed calls s) = (calls ≤ 256) × (s.periods ≤ 1000) × IsPace (pace_of s)
 IsInRange (Live s) = IsLiveDrill (live_of s)
 IsInRange (Relay c) = (1 ≤ c) × (c ≤ 4096)
@@ -56,6 +60,8 @@ IsInRange (Merge c) = (1 ≤ c) × (c ≤ 4093)
 -- what is asked for was carried out, whatever fails
 abbrev pub CarriesAsked : Asked → (ℕ → Side → LineState) → (ℕ → Side → LineState) → DeskState → DeskState → ℕ → Type 0
 CarriesAsked (Run s) before now desk desk' status = RunsFarm s before now desk desk' status
+CarriesAsked (Save s) before now desk desk' status = SavesFarm s before now desk desk' status
+CarriesAsked (Resume s) before now desk desk' status = ResumesFarm s before now desk desk' status
 CarriesAsked (Drill seed calls s) before now desk desk' status = AllStay before now × CarriesDrill seed calls s.periods desk desk' status
 CarriesAsked (Live s) before now desk desk' status = AllStay before now × CarriesLive s desk desk' status
 CarriesAsked (Relay c) before now desk desk' status = Carries tool.Relay before now desk desk' c status

@@ -8,7 +8,7 @@ use Rattle.command_words.specs.Follow.{NamesFollow}
 pub use Rattle.command_words.specs.Options.{TakeOptions}
 use Rattle.command_words.specs.declared.live.LiveSettings.{LiveSettings}
 use Rattle.command_words.specs.Live.{AsksLive}
-use Rattle.command_words.specs.Run.{AsksRun}
+use Rattle.command_words.specs.Run.{AsksResume, AsksRun, AsksSave}
 use Rattle.command_words.specs.Slots.{NamesSlot}
 use Rattle.command_words.specs.Words.{Names}
 
@@ -27,6 +27,14 @@ AsksForFrames words call = Names words (codes "frames") call
 -- they ask for a run with these settings, as `run --workers 2`
 abbrev pub AsksForRun : List (List ℕ) → Settings → Type 0
 AsksForRun words settings = AsksRun words settings
+
+-- they ask for a run to a mark, as `save --periods 3`
+abbrev pub AsksForSave : List (List ℕ) → Settings → Type 0
+AsksForSave words settings = AsksSave words settings
+
+-- they ask for a run from a mark on, as `resume`
+abbrev pub AsksForResume : List (List ℕ) → Settings → Type 0
+AsksForResume words settings = AsksResume words settings
 
 -- they ask for a drill of so many calls, from this seed, with these settings, as `drill --calls 2`
 abbrev pub AsksForDrill : List (List ℕ) → ℕ → ℕ → Settings → Type 0
@@ -58,3 +66,5 @@ AreCommand words =
     ⊎ ((call : ℕ) × AsksForMerge words call)
     ⊎ ((call : ℕ) × (want : ℕ) × AsksForFollow words call want)
     ⊎ ((settings : LiveSettings) × AsksForLive words settings)
+    ⊎ ((settings : Settings) × AsksForSave words settings)
+    ⊎ ((settings : Settings) × AsksForResume words settings)

@@ -5,11 +5,10 @@ ghost use Rattle.farm_run.specs.Pace.{IsPace};
 ghost use Rattle.farm_top.specs.Drill.{CarriesDrill, TellsWhole};
 ghost use Rattle.farm_top.specs.Farm.{pace_of};
 
-use crate::farm::{lines_have_the_headline, no_memory};
+use crate::farm::{lines_have_the_headline, no_memory, pace_of};
 use crate::status::{DESK_WRITE_FAULT, DONE};
-use drill_run::run_drill;
-use farm_run::Pace;
 use command_words::Settings;
+use drill_run::run_drill;
 use pool_run::Gate;
 use std::alloc::Global;
 use std::sync::Wait;
@@ -41,14 +40,8 @@ pub(crate) fn drill_farm<R: Threads + Wait + Sync, D: Desk, G: Gate + Sync>(
     requires pace { IsPace (pace_of settings) }
     ensures { CarriesDrill seed calls settings.periods (D.desk desk.old) (D.desk desk.new) result }
 {
-    let pace = Pace {
-        workers: settings.workers,
-        batch: settings.batch,
-        slice: settings.slice,
-        periods: settings.periods,
-    };
     lines_have_the_headline();
-    match run_drill(rt, alloc, seed, calls, &pace, gate) {
+    match run_drill(rt, alloc, seed, calls, &pace_of(settings), gate) {
         Ok(text) => tell_whole(desk, text.as_bytes()),
         Err(_) => no_memory(desk),
     }

@@ -1,34 +1,47 @@
 //! The command `run`: the orders from the desk, the run over the lines, and its report to the desk.
 
-ghost use Rattle.std.specs.Prelude.{ℕ, Bool};
+ghost use Rattle.std.specs.Prelude.{◌≡◌, ℕ, Bool};
 ghost use Rattle.trau_io.specs.declared.line.Side.{Side};
 ghost use Rattle.trau_io.specs.Lines.{LineState};
 ghost use Rattle.trau_orders.specs.Lists.{AreOrders};
 ghost use Rattle.run_spec.specs.Run.{Run as TheRun};
 ghost use Rattle.farm_run.specs.Pace.{IsPace};
+ghost use Rattle.farm_run.specs.Resuming.{LeavesFrom};
 ghost use Rattle.farm_run.specs.Runs.{Leaves};
-ghost use Rattle.farm_top.specs.Farm.{EndsWith, LacksMemory, RefusesOrders, RunsFarm, TellsReport, pace_of};
-ghost use Rattle.farm_top.specs.Headline.{Headline};
+ghost use Rattle.farm_top.specs.Farm.{EndsWith, LacksMemory, RefusesOrders, RunsFarm, TellsDue, TellsReport, pace_of, status_of_run};
+ghost use Rattle.farm_top.specs.Headline.{Headline, HeadlineFrom};
 
 use crate::status::{
     DESK_READ_FAULT, DESK_WRITE_FAULT, DONE, LINE_FAILED, NO_MEMORY, ORDERS_REFUSED,
     ORDERS_TOO_LONG,
 };
-use run_calls_spec::{
-    items_are_the_partners_frames, items_go_out_in_order_and_once, lines_are_of_whole_calls,
-};
+use command_words::Settings;
 use farm_orders::{OrdersFault, read_orders};
 use farm_report::{Report, write_report};
 use farm_run::{Pace, run};
-use command_words::Settings;
 use pool_run::Gate;
+use run_calls_spec::{
+    items_are_the_partners_frames, items_go_out_in_order_and_once, lines_are_of_whole_calls,
+};
 use std::alloc::Global;
 use std::sync::Wait;
 use std::thread::Threads;
-use trau_io::{Desk, Trunk, tell};
+use trau_io::{Desk, Line, Trunk, tell};
 
-// A desk that fails while one of these texts goes out changes nothing of the status.
-fn refuse<D: Desk>(desk: &mut D, text: &[u8], status: u8) -> u8
+/// The pace of a run with these settings.
+pub(crate) fn pace_of(settings: Settings) -> Pace
+    ensures { result ≡ pace_of settings }
+{
+    Pace {
+        workers: settings.workers,
+        batch: settings.batch,
+        slice: settings.slice,
+        periods: settings.periods,
+    }
+}
+
+/// Ends a command with this text and status. A desk that fails while the text goes out changes nothing of the status.
+pub(crate) fn refuse<D: Desk>(desk: &mut D, text: &[u8], status: u8) -> u8
     ensures { EndsWith (D.desk desk.old) (D.desk desk.new) text.now status result }
 {
     let _ = tell(desk, text);
@@ -42,8 +55,8 @@ pub(crate) fn no_memory<D: Desk>(desk: &mut D) -> u8
     refuse(desk, b"no memory\n", NO_MEMORY)
 }
 
-// Answers for orders that aren't taken.
-fn refuse_orders<D: Desk>(alloc: Global, fault: OrdersFault, desk: &mut D) -> u8
+/// Answers for orders that aren't taken.
+pub(crate) fn refuse_orders<D: Desk>(alloc: Global, fault: OrdersFault, desk: &mut D) -> u8
     ensures { RefusesOrders fault (D.desk desk.old) (D.desk desk.new) result }
 {
     match fault {
@@ -57,26 +70,33 @@ fn refuse_orders<D: Desk>(alloc: Global, fault: OrdersFault, desk: &mut D) -> u8
     }
 }
 
-// Tells the report of a run.
-fn tell_report<D: Desk>(alloc: Global, report: &Report, desk: &mut D) -> u8
+/// Tells the text of a run in which these lines failed, and answers the status that is due.
+pub(crate) fn tell_run<D: Desk>(desk: &mut D, text: &[u8], failed: &[Line]) -> u8
+    ensures { TellsDue (status_of_run failed.now) text.now (D.desk desk.old) (D.desk desk.new) result }
+{
+    if tell(desk, text).is_err() {
+        return DESK_WRITE_FAULT;
+    }
+    if failed.is_empty() { DONE } else { LINE_FAILED }
+}
+
+/// Tells the report of a run.
+pub(crate) fn tell_report<D: Desk>(alloc: Global, report: &Report, desk: &mut D) -> u8
     ensures { TellsReport report.now (D.desk desk.old) (D.desk desk.new) result }
 {
     let Ok(text) = write_report(alloc, report) else {
         return no_memory(desk);
     };
-    if tell(desk, text.as_bytes()).is_err() {
-        return DESK_WRITE_FAULT;
-    }
-    if report.failed.is_empty() {
-        DONE
-    } else {
-        LINE_FAILED
-    }
+    tell_run(desk, text.as_bytes(), &report.failed)
 }
 
-// A law: what a run leaves on outgoing lines are the lines of whole calls, and its bridges hand frames over.
+/// A law: what a run leaves on outgoing lines are the lines of whole calls, or the later octets of these, and its bridges hand
+/// frames over.
 pub(crate) fn lines_have_the_headline()
-    ensures { (r : TheRun) (fails : ℕ → Side → Bool) (before now : ℕ → Side → LineState) → AreOrders r.orders → Leaves r fails before now → Headline r fails before now }
+    ensures whole { (r : TheRun) (fails : ℕ → Side → Bool) (before now : ℕ → Side → LineState) → AreOrders r.orders →
+        Leaves r fails before now → Headline r fails before now }
+    ensures later { (r : TheRun) (from : ℕ) (fails : ℕ → Side → Bool) (before now : ℕ → Side → LineState) → AreOrders r.orders →
+        LeavesFrom r from fails before now → HeadlineFrom r from fails before now }
 {
     lines_are_of_whole_calls();
     items_are_the_partners_frames();
@@ -99,14 +119,8 @@ pub(crate) fn run_farm<R: Threads + Wait + Sync, T: Trunk, D: Desk, G: Gate + Sy
         Ok(orders) => orders,
         Err(fault) => return refuse_orders(alloc, fault, desk),
     };
-    let pace = Pace {
-        workers: settings.workers,
-        batch: settings.batch,
-        slice: settings.slice,
-        periods: settings.periods,
-    };
     lines_have_the_headline();
-    match run(rt, alloc, &pace, orders, trunk, gate) {
+    match run(rt, alloc, &pace_of(settings), orders, trunk, gate) {
         Ok(report) => tell_report(alloc, &report, desk),
         Err(_) => no_memory(desk),
     }

@@ -26,3 +26,6 @@ pub(crate) const ORDERS_TOO_LONG: u8 = 7;
 
 /// A frame was refused.
 pub(crate) const FRAME_REFUSED: u8 = 8;
+
+/// The mark isn't that of the run.
+pub(crate) const MARK_DIFFERS: u8 = 9;

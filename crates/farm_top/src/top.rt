@@ -1,12 +1,15 @@
 //! The top call: the words in, the octets and the text out, and the status.
 
-ghost use Rattle.std.specs.Prelude.{◌≡◌, ◌≢◌, ◌⊎◌, ℕ, List, codes};
+ghost use Rattle.std.specs.Prelude.{◌≡◌, ◌≢◌, ◌⊎◌, ℕ, max, List, codes};
 ghost use Rattle.call_number.specs.CallNumber.{IsCallNumber};
 ghost use Rattle.trau_io.specs.declared.line.Side.TheVariants.{Up};
 ghost use Rattle.trau_orders.specs.declared.order.Order.{Order};
+ghost use Rattle.farm_checkpoint.specs.Marks.{MarkView};
 ghost use Rattle.run_spec.specs.Run.{Run};
+ghost use Rattle.run_spec.specs.Mark.{marked_calls};
 ghost use Rattle.farm_run.specs.Runs.{IsRunOver, Leaves, NoneRose, none_fails};
 ghost use Rattle.farm_run.specs.Fronts.{IsCutShort};
+ghost use Rattle.farm_run.specs.Resuming.{IsResumeCutShort};
 ghost use Rattle.farm_tools.specs.declared.end.Tool.{Tool};
 ghost use Rattle.farm_tools.specs.Causes.{Causes};
 ghost use Rattle.farm_tools.specs.Clean.{CleanRun};
@@ -22,19 +25,27 @@ ghost use Rattle.farm_top.specs.FarmClean.{CleanFarm, IsCalmRun, TellsOrders};
 ghost use Rattle.farm_top.specs.FarmEnded.{RunEnded};
 ghost use Rattle.farm_top.specs.Follow.{FollowEnds};
 ghost use Rattle.farm_top.specs.Live.{LiveEnds};
+ghost use Rattle.farm_top.specs.Resume.{CarriesResume};
+ghost use Rattle.farm_top.specs.ResumeCauses.{ResumeCauses};
+ghost use Rattle.farm_top.specs.ResumeEnded.{JoinsMarked, ResumeDiffers, ResumeEnded, TellsMarked};
+ghost use Rattle.farm_top.specs.Save.{CarriesSave, CleanSave, SaveEnded};
 ghost use Rattle.farm_top.specs.Slots.{MergeEnds, SplitEnds};
 ghost use Rattle.farm_top.specs.Top.{Answers, Carries, CarriesAsked, CarriesFrames, IsInRange};
-ghost use Rattle.farm_top.specs.Words.{AreCommand, AsksFor, AsksForDrill, AsksForFollow, AsksForFrames, AsksForLive, AsksForMerge, AsksForRun, AsksForSplit, TakeOptions, spelled};
+ghost use Rattle.farm_top.specs.Words.{AreCommand, AsksFor, AsksForDrill, AsksForFollow, AsksForFrames, AsksForLive, AsksForMerge, AsksForResume, AsksForRun, AsksForSave, AsksForSplit, TakeOptions, spelled};
 
 use crate::drill::drill_farm;
 use crate::farm::{no_memory, run_farm};
 use crate::follow::carry_follow;
 use crate::live::live_farm;
+use crate::resume::resume_farm;
+use crate::save::save_farm;
 use crate::slots::{carry_merge, carry_split};
 use crate::status::{DESK_WRITE_FAULT, DONE, FRAME_REFUSED, LINE_FAILED, NO_MEMORY, USAGE};
-use farm_tools::{Tool, ToolEnd, decode, encode, frames, relay};
 use command_words::{Asked, WordsFault, read_words};
+use farm_checkpoint::one_answer as one_mark;
+use farm_tools::{Tool, ToolEnd, decode, encode, frames, relay};
 use pool_run::Gate;
+use run_spec::laws::a_run_is_joined_of_two;
 use std::alloc::Global;
 use std::sync::Wait;
 use std::thread::Threads;
@@ -112,6 +123,8 @@ fn carry_out<R: Threads + Wait + Sync, T: Trunk, D: Desk, G: Gate + Sync>(
 {
     match asked {
         Asked::Run(settings) => run_farm(rt, alloc, settings, trunk, desk, gate),
+        Asked::Save(settings) => save_farm(rt, alloc, settings, trunk, desk, gate),
+        Asked::Resume(settings) => resume_farm(rt, alloc, settings, trunk, desk, gate),
         Asked::Drill {
             seed,
             calls,
@@ -151,6 +164,13 @@ fn carry_out<R: Threads + Wait + Sync, T: Trunk, D: Desk, G: Gate + Sync>(
 /// That the other commands return is proved of their functions in `farm_tools` (`relay`, `decode`, `encode`, `frames`),
 /// `trau_submux` (`split`, `merge`) and `ccu_end` (`follow`), and not of `farm_top`, which waits as a whole.
 ///
+/// The commands `save` and `resume` are a run in two parts, and have the options of `run`. `save`, which must have `--periods`,
+/// does what `run` does, and tells the mark of the run at its last period in place of the report: for each call that only the
+/// run's end cut off, its number, its opening and the sums of the octets of its outgoing lines. Where a line failed it tells
+/// the lines that failed and no mark. `resume` reads a mark and behind it the orders, works the same recordings from the start,
+/// holds back the octets of the periods before the mark's, compares the mark there, and writes what follows; its report is that
+/// of the whole run, which ends at the greater of the mark's period and `--periods`. The last sentences on `run` hold of both.
+///
 /// The command `split C` cuts the time slot on call C's Pcm line, 64 kbit/s, into its four channels of 16 kbit/s, on the Down
 /// lines of the calls C to C + 3; `merge C` puts the channels on the Up lines of these calls together to the slot on C's Out
 /// line. C is 1 to 4,093. Both take no memory and never answer 5.
@@ -173,19 +193,21 @@ fn carry_out<R: Threads + Wait + Sync, T: Trunk, D: Desk, G: Gate + Sync>(
 ///
 /// | Status | Comes | Text on the desk |
 /// |---|---|---|
-/// | 0 | the incoming line was worked to its end, or to 4,294,967,295 blocks; the run or the drill ended and no line's count rose; the live drill ended | `relay frames N`, `decode frames N`, `encode frames N left R`; `frames N left R` behind a line of text for each of its N yields; `split octets N left R`, `merge octets N left A B C D`; `follow frames N left R` behind a line of text for each of its N frames; the report; the report and the sums; the sums |
-/// | 1 | exactly where the words aren't those of a command (or 5, behind `run`, `drill` and `live`) | `usage` |
-/// | 2 | a line of the orders isn't in their grammar, N being the first | `orders line N` |
+/// | 0 | the incoming line was worked to its end, or to 4,294,967,295 blocks; the run or the drill ended and no line's count rose, also of `save` and `resume`; the live drill ended | `relay frames N`, `decode frames N`, `encode frames N left R`; `frames N left R` behind a line of text for each of its N yields; `split octets N left R`, `merge octets N left A B C D`; `follow frames N left R` behind a line of text for each of its N frames; the report; the mark; the report and the sums; the sums |
+/// | 1 | exactly where the words aren't those of a command (or 5, behind `run`, `save`, `resume`, `drill` and `live`) | `usage` |
+/// | 2 | a line of the orders isn't in their grammar, N being the first; of `resume` also a line of the mark, and then N counts the orders' lines from the first behind it | `orders line N`; `save line N` |
 /// | 3 | the desk failed while the orders were read | `orders unread` |
 /// | 4 | the desk failed while the command's text went out | a proper front of the command's text |
 /// | 5 | want of memory | `no memory` |
-/// | 6 | the count of a line of the command rose | `line C up failed`, with the line's side, behind the lines of text that `frames` or `follow` had told; the report |
-/// | 7 | the orders have more than 1,048,576 octets or more than 65,536 lines | `orders too long` |
+/// | 6 | the count of a line of the command rose | `line C up failed`, with the line's side, behind the lines of text that `frames` or `follow` had told; the report; of `save` only its lines for the lines that failed |
+/// | 7 | the orders have more than 1,048,576 octets or more than 65,536 lines; of `resume` also the whole text more than 1,310,720 octets | `orders too long` |
 /// | 8 | only of `relay` and `decode`: a block of the uplink isn't a good speech frame, or the line ended inside it | `relay refused N`, `decode refused N`, N being the number of blocks before it |
+/// | 9 | only of `resume`: exactly where the mark's calls aren't those of the run to the mark's period, C being the least number that differs; no outgoing line was used | `save differs C` |
 ///
-/// Where several would be due in `run`, 3 goes before 7, 7 before 2, 2 before 4 and 4 before 6, and 5 may come in place
-/// of any but 3; after 2, 3 and 7 no line was used. A desk that fails while the text of 1, 2, 3, 5 or 7 goes out changes
-/// nothing of the status.
+/// Where several would be due in `run` or `save`, 3 goes before 7, 7 before 2, 2 before 4 and 4 before 6, and 5 may come in
+/// place of any but 3; after 2, 3 and 7 no line was used. So it is in `resume`, where 7 for the whole text goes before 2 for the
+/// mark, and this before both for the orders; 9 goes behind 2 and before 4. A desk that fails while the text of 1, 2, 3, 5, 7
+/// or 9 goes out changes nothing of the status.
 pub fn farm_top<R: Threads + Wait + Sync, T: Trunk, D: Desk, G: Gate + Sync>(
     rt: &R,
     alloc: Global,
@@ -209,6 +231,69 @@ pub fn farm_top<R: Threads + Wait + Sync, T: Trunk, D: Desk, G: Gate + Sync>(
         CarriesFrames (T.lines trunk.old) (T.lines trunk.new) (D.desk desk.old) (D.desk desk.new) c result }
     ensures run { (s : Settings) → AsksForRun (spelled words.now) s →
         CarriesRun s (T.lines trunk.old) (T.lines trunk.new) (D.desk desk.old) (D.desk desk.new) result }
+
+    // A run to a mark: what it does, whatever fails, and why each of its statuses comes, are a run's; its text is the mark of the
+    // run, or the lines that failed.
+    ensures save { (s : Settings) → AsksForSave (spelled words.now) s →
+        CarriesSave s (T.lines trunk.old) (T.lines trunk.new) (D.desk desk.old) (D.desk desk.new) result }
+    ensures save_causes { (s : Settings) → AsksForSave (spelled words.now) s →
+        RunCauses (T.lines trunk.old) (T.lines trunk.new) (D.desk desk.old) (D.desk desk.new) result }
+    ensures save_complete { (s : Settings) → AsksForSave (spelled words.now) s →
+        (orders : List Order) → TellsOrders orders (D.desk desk.old) →
+        IsCalmRun (T.lines trunk.old) (T.lines trunk.new) (D.desk desk.old) (D.desk desk.new) → (result ≡ 0) ⊎ (result ≡ 5) }
+    ensures save_clean { (s : Settings) → AsksForSave (spelled words.now) s →
+        (orders : List Order) → TellsOrders orders (D.desk desk.old) →
+        IsCalmRun (T.lines trunk.old) (T.lines trunk.new) (D.desk desk.old) (D.desk desk.new) → result ≢ 5 →
+        (r : Run) → IsRunOver orders s.periods none_fails (T.lines trunk.old) (T.lines trunk.new) r →
+        CleanSave r (T.lines trunk.old) (T.lines trunk.new) (D.desk desk.old) (D.desk desk.new) result }
+    ensures save_ended { (s : Settings) → AsksForSave (spelled words.now) s →
+        (orders : List Order) → TellsOrders orders (D.desk desk.old) → (result ≡ 0) ⊎ (result ≡ 4) ⊎ (result ≡ 6) →
+        SaveEnded orders s (T.lines trunk.old) (T.lines trunk.new) (D.desk desk.old) (D.desk desk.new) result }
+    ensures save_cut_short { (s : Settings) → AsksForSave (spelled words.now) s →
+        (orders : List Order) → TellsOrders orders (D.desk desk.old) → result ≡ 5 →
+        IsCutShort orders s.periods (T.lines trunk.old) (T.lines trunk.new) }
+    ensures save_leaves { (s : Settings) → AsksForSave (spelled words.now) s →
+        (orders : List Order) → TellsOrders orders (D.desk desk.old) →
+        NoneRose (T.lines trunk.old) (T.lines trunk.new) → (result ≡ 0) ⊎ (result ≡ 4) →
+        (r : Run) → IsRunOver orders s.periods none_fails (T.lines trunk.old) (T.lines trunk.new) r → Leaves r none_fails (T.lines trunk.old) (T.lines trunk.new) }
+    ensures save_headline { (s : Settings) → AsksForSave (spelled words.now) s →
+        (orders : List Order) → TellsOrders orders (D.desk desk.old) →
+        NoneRose (T.lines trunk.old) (T.lines trunk.new) → (result ≡ 0) ⊎ (result ≡ 4) →
+        (r : Run) → IsRunOver orders s.periods none_fails (T.lines trunk.old) (T.lines trunk.new) r → Headline r none_fails (T.lines trunk.old) (T.lines trunk.new) }
+
+    // A run from a mark on: what it does, whatever fails, and why each of its statuses comes.
+    ensures resume { (s : Settings) → AsksForResume (spelled words.now) s →
+        CarriesResume s (T.lines trunk.old) (T.lines trunk.new) (D.desk desk.old) (D.desk desk.new) result }
+    ensures resume_causes { (s : Settings) → AsksForResume (spelled words.now) s →
+        ResumeCauses (T.lines trunk.old) (T.lines trunk.new) (D.desk desk.old) (D.desk desk.new) result }
+
+    // A mark and orders in the grammar and within the limits are run to the end where no count rises and the mark is that of the
+    // run to its period; where it isn't, 9 comes. Both yield to want of memory.
+    ensures resume_complete { (s : Settings) → AsksForResume (spelled words.now) s →
+        (mark : MarkView) (orders : List Order) → TellsMarked mark orders (D.desk desk.old) →
+        IsCalmRun (T.lines trunk.old) (T.lines trunk.new) (D.desk desk.old) (D.desk desk.new) →
+        (r : Run) → IsRunOver orders mark.period none_fails (T.lines trunk.old) (T.lines trunk.new) r →
+        (marked_calls r ≡ mark.calls → (result ≡ 0) ⊎ (result ≡ 5)) × (marked_calls r ≢ mark.calls → (result ≡ 9) ⊎ (result ≡ 5)) }
+
+    // What is left with each status: by the run of these orders over what the lines gave, without the octets of the periods before
+    // the mark's; with 0 and 6 the text is the whole run's report.
+    ensures resume_ended { (s : Settings) → AsksForResume (spelled words.now) s →
+        (mark : MarkView) (orders : List Order) → TellsMarked mark orders (D.desk desk.old) → (result ≡ 0) ⊎ (result ≡ 4) ⊎ (result ≡ 6) →
+        ResumeEnded mark orders s (T.lines trunk.old) (T.lines trunk.new) (D.desk desk.old) (D.desk desk.new) result }
+    ensures resume_differs { (s : Settings) → AsksForResume (spelled words.now) s →
+        (mark : MarkView) (orders : List Order) → TellsMarked mark orders (D.desk desk.old) → result ≡ 9 →
+        ResumeDiffers mark orders (T.lines trunk.old) (T.lines trunk.new) (D.desk desk.old) (D.desk desk.new) }
+    ensures resume_cut_short { (s : Settings) → AsksForResume (spelled words.now) s →
+        (mark : MarkView) (orders : List Order) → TellsMarked mark orders (D.desk desk.old) → result ≡ 5 →
+        IsResumeCutShort orders (max mark.period s.periods) mark.period (T.lines trunk.old) (T.lines trunk.new) }
+
+    // Where no line's count rises, what `save` to the mark's period writes on a line of this run and what `resume` gains there are
+    // together what one run writes.
+    ensures resume_joins { (s : Settings) → AsksForResume (spelled words.now) s →
+        (mark : MarkView) (orders : List Order) → TellsMarked mark orders (D.desk desk.old) →
+        NoneRose (T.lines trunk.old) (T.lines trunk.new) → (result ≡ 0) ⊎ (result ≡ 4) →
+        (r : Run) → IsRunOver orders (max mark.period s.periods) none_fails (T.lines trunk.old) (T.lines trunk.new) r →
+        JoinsMarked r mark.period (T.lines trunk.old) (T.lines trunk.new) }
 
     // A drill uses no line of the trunk. Its text is a function of the seed, the calls and the periods. It never answers that a
     // line failed.
@@ -287,8 +372,11 @@ pub fn farm_top<R: Threads + Wait + Sync, T: Trunk, D: Desk, G: Gate + Sync>(
     ensures follow { (c want : ℕ) → AsksForFollow (spelled words.now) c want →
         FollowEnds (T.lines trunk.old) (T.lines trunk.new) (D.desk desk.old) (D.desk desk.new) c want result }
 {
-    // A law: lines spell one list of orders at most, and then have no bad one.
+    // Laws: lines spell one list of orders at most, and then have no bad one; a text begins with one mark at most, and then has
+    // no bad line of one; and a run is joined of two.
     one_answer();
+    one_mark();
+    a_run_is_joined_of_two();
     match read_words(alloc, words) {
         Ok(asked) => carry_out(rt, alloc, asked, trunk, desk, gate),
         Err(WordsFault::Usage) => {

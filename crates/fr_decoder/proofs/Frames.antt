@@ -4,31 +4,38 @@ use Rattle.std.proofs.lemmas.Int.{ints}
 use Rattle.std.proofs.lemmas.List.{take_all, length-map}
 use Rattle.std.proofs.lemmas.List.Elements.{All-map}
 use Rattle.trau_params.specs.Fields.{Fields}
-use Rattle.fr_long.specs.Memory.{LtpMemory, Stands, synthesised}
+use Rattle.fr_long.specs.Memory.{LtpMemory}
+use Rattle.fr_long.specs.Stands.{Stands}
+use Rattle.fr_long.specs.Step.{synthesised}
 use Rattle.trau_num.specs.Num.{add_of, mult_r_of, floor_shr}
 use Rattle.fr_long.specs.Synthesis as long
 use Rattle.fr_long.proofs.Histories.{synthesised-Stands, length-residual_after}
 use Rattle.fr_short.specs.Memory as short
 use Rattle.fr_short.specs.Ratios.{decoded_ratios}
 use Rattle.fr_short.specs.Reflection.{coefficients_at}
-use Rattle.fr_short.specs.Synthesis as lattice
-use Rattle.fr_decoder.specs.Decoded.{blocks_of, residuals_of, last_msr, samples_of, all_samples}
+use Rattle.fr_short.specs.Stands.{SynthesisStands}
+use Rattle.fr_short.specs.Synthesis.{ResidualFrame, residual_frame, synthesis_of, newest_ratios, filtered_samples, sections_after, synthesis_lattice}
+use Rattle.fr_short.specs.Step.{synthesised_frame}
+use Rattle.fr_decoder.specs.Decoded.{blocks_of, residual_frames, last_msr, samples_of, all_samples}
 use Rattle.fr_short.specs.Deemphasis.{deemphasised, last_of}
 use Rattle.fr_decoder.specs.Deemphasis.{truncated}
-use Rattle.fr_decoder.specs.Step as decoder
-use Rattle.fr_decoder.proofs.Runs.{add_fits}
+use Rattle.fr_decoder.specs.Stands as decoder
+use Rattle.fr_decoder.specs.Memory.{home_memory, DecoderMemory}
+use Rattle.fr_decoder.specs.Step.{decoded_frame, decoded_in_turn, synthesised_blocks}
+use Rattle.trau_num.proofs.Clamped.{add_word}
 use Rattle.fr_long.specs.Synthesis.{LtpBlock, residual_of}
 use Rattle.fr_decoder.specs.Blocks.{ltp_block, one_block, two_blocks, three_blocks, four_blocks, frame_residual}
-use Rattle.fr_decoder.specs.Step.{synthesised_blocks}
 
 -- a frame into which four blocks were put, one behind the other
-pub four_put : (f1 f2 f3 f4 a b c d : List ℤ) → length f4 ≡ 160 → take 40 f1 ≡ a → take 80 f2 ≡ take 40 f1 ++ b → take 120 f3 ≡ take 80 f2 ++ c → take 160 f4 ≡ take 120 f3 ++ d → f4 ≡ a ++ b ++ c ++ d
+pub four_put : (f1 f2 f3 f4 a b c d : List ℤ) → length f4 ≡ 160 → take 40 f1 ≡ a → take 80 f2 ≡ take 40 f1 ++ b → take 120 f3 ≡ take 80 f2 ++ c →
+    take 160 f4 ≡ take 120 f3 ++ d → f4 ≡ a ++ b ++ c ++ d
 four_put f1 f2 f3 f4 a b c d long first second third fourth =
     sym (take_all 160 f4 (omega arith)) ∙ fourth ∙ ap (λ l. l ++ d) (third ∙ ap (λ l. l ++ c) (second ∙ ap (λ l. l ++ b) first))
 
 -- the steps of four blocks are the step of the frame
 pub four_steps : (f : Fields) (m0 m1 m2 m3 m4 : LtpMemory) (a b c d : List ℤ) →
-    synthesised m0 (ltp_block f 0) ≡ (a, m1) → synthesised m1 (ltp_block f 1) ≡ (b, m2) → synthesised m2 (ltp_block f 2) ≡ (c, m3) → synthesised m3 (ltp_block f 3) ≡ (d, m4) →
+    synthesised m0 (ltp_block f 0) ≡ (a, m1) → synthesised m1 (ltp_block f 1) ≡ (b, m2) → synthesised m2 (ltp_block f 2) ≡ (c, m3) →
+    synthesised m3 (ltp_block f 3) ≡ (d, m4) →
     synthesised_blocks m0 f ≡ (a ++ b ++ c ++ d, m4)
 unfolding synthesised_blocks
 four_steps f m0 m1 m2 m3 m4 a b c d first second third fourth = rw (first, second, third, fourth) refl
@@ -50,6 +57,7 @@ four_histories f m0 m1 m2 m3 m4 a b c d first second third fourth past stands =
 
 -- ---- the functions from frame to frame
 
+-- the four blocks from a memory that stands for a past
 blocks-stand : (f : Fields) (past : List LtpBlock) (m : LtpMemory) → Stands past m →
     Stands (four_blocks f past) (synthesised_blocks m f).1 × ((synthesised_blocks m f).0 ≡ frame_residual f past)
 unfolding synthesised_blocks
@@ -60,50 +68,54 @@ blocks-stand f past m h =
     four_histories f m m1 m2 m3 _ _ _ _ _ (λ ps s. synthesised-Stands ps (ltp_block f 0) m s) (λ ps s. synthesised-Stands ps (ltp_block f 1) m1 s)
     (λ ps s. synthesised-Stands ps (ltp_block f 2) m2 s) (λ ps s. synthesised-Stands ps (ltp_block f 3) m3 s) past h
 
-lattice-stands : (codes : List ℕ) (residual : List ℤ) (past : List lattice.ResidualFrame) (m : short.ShortMemory) → lattice.Stands past m →
-    lattice.Stands (lattice.residual_frame codes residual ∷ past) (lattice.synthesised_frame m codes residual).1
-    × ((lattice.synthesised_frame m codes residual).0 ≡ (lattice.synthesis_of (lattice.residual_frame codes residual ∷ past)).0)
-unfolding lattice.synthesised_frame lattice.newest_ratios lattice.synthesis_of
+-- the same of short-term synthesis
+lattice-stands : (codes : List ℕ) (residual : List ℤ) (past : List ResidualFrame) (m : short.ShortMemory) → SynthesisStands past m →
+    SynthesisStands (residual_frame codes residual ∷ past) (synthesised_frame m codes residual).1
+    × ((synthesised_frame m codes residual).0 ≡ (synthesis_of (residual_frame codes residual ∷ past)).0)
+unfolding synthesised_frame newest_ratios synthesis_of
 lattice-stands codes residual past m h =
-    let both : lattice.filtered_samples (coefficients_at m.ratios (decoded_ratios codes)) 0 m.sections residual ≡ lattice.synthesis_of (lattice.residual_frame codes residual ∷ past) =
-    ap (λ r. lattice.filtered_samples (coefficients_at r (decoded_ratios codes)) 0 m.sections residual) h.ratios
-    ∙ ap (λ v. lattice.filtered_samples (coefficients_at (lattice.newest_ratios past) (decoded_ratios codes)) 0 v residual) h.sections in
+    let both : filtered_samples (coefficients_at m.ratios (decoded_ratios codes)) 0 m.sections residual ≡ synthesis_of (residual_frame codes residual ∷ past) =
+    ap (λ r. filtered_samples (coefficients_at r (decoded_ratios codes)) 0 m.sections residual) h.ratios
+    ∙ ap (λ v. filtered_samples (coefficients_at (newest_ratios past) (decoded_ratios codes)) 0 v residual) h.sections in
     (record { ratios = refl; sections = ap (λ x. x.1) both }, ap (λ x. x.0) both)
 
 -- at home no frame was decoded
-pub home-stands : decoder.Stands [] decoder.home_memory
-unfolding blocks_of residuals_of last_msr long.lag_in_force long.residuals_of lattice.newest_ratios lattice.synthesis_of
+pub home-stands : decoder.Stands [] home_memory
+unfolding blocks_of residual_frames last_msr long.lag_in_force long.residuals_of newest_ratios synthesis_of
 home-stands = record { long_term = record { lag = refl; residuals = refl }; short_term = record { ratios = refl; sections = refl }; msr = refl }
 
 -- one frame more, of any past
-pub frame-stands : (f : Fields) (past : List Fields) (m : decoder.DecoderMemory) → decoder.Stands past m →
-    decoder.Stands (f ∷ past) (decoder.decoded_frame m f).1 × ((decoder.decoded_frame m f).0 ≡ samples_of f past)
-unfolding decoder.decoded_frame blocks_of residuals_of last_msr samples_of
+pub frame-stands : (f : Fields) (past : List Fields) (m : DecoderMemory) → decoder.Stands past m →
+    decoder.Stands (f ∷ past) (decoded_frame m f).1 × ((decoded_frame m f).0 ≡ samples_of f past)
+unfolding decoded_frame blocks_of residual_frames last_msr samples_of
 frame-stands f past m h =
     let blocks = synthesised_blocks m.long_term f in
     let one = blocks-stand f (blocks_of past) m.long_term h.long_term in
-    let two = lattice-stands f.larc blocks.0 (residuals_of past) m.short_term h.short_term in
-    let frames : lattice.residual_frame f.larc blocks.0 ∷ residuals_of past ≡ residuals_of (f ∷ past) = ap (λ r. lattice.residual_frame f.larc r ∷ residuals_of past) one.1 in
-    let samples : (lattice.synthesised_frame m.short_term f.larc blocks.0).0 ≡ (lattice.synthesis_of (residuals_of (f ∷ past))).0 = two.1 ∙ ap (λ fs. (lattice.synthesis_of fs).0) frames in
-    let msr : deemphasised m.msr (lattice.synthesised_frame m.short_term f.larc blocks.0).0 ≡ deemphasised (last_msr past) (lattice.synthesis_of (residuals_of (f ∷ past))).0 =
-    ap (λ b. deemphasised b (lattice.synthesised_frame m.short_term f.larc blocks.0).0) h.msr ∙ ap (deemphasised (last_msr past)) samples in (
+    let two = lattice-stands f.larc blocks.0 (residual_frames past) m.short_term h.short_term in
+    let frames : residual_frame f.larc blocks.0 ∷ residual_frames past ≡ residual_frames (f ∷ past) =
+    ap (λ r. residual_frame f.larc r ∷ residual_frames past) one.1 in
+    let samples : (synthesised_frame m.short_term f.larc blocks.0).0 ≡ (synthesis_of (residual_frames (f ∷ past))).0 = two.1 ∙
+    ap (λ fs. (synthesis_of fs).0) frames in
+    let msr : deemphasised m.msr (synthesised_frame m.short_term f.larc blocks.0).0 ≡ deemphasised (last_msr past)
+    (synthesis_of (residual_frames (f ∷ past))).0 =
+    ap (λ b. deemphasised b (synthesised_frame m.short_term f.larc blocks.0).0) h.msr ∙ ap (deemphasised (last_msr past)) samples in (
       record {
         long_term = one.0;
-        short_term = subst (λ fs. lattice.Stands fs (lattice.synthesised_frame m.short_term f.larc blocks.0).1) frames two.0;
-        msr = ap (λ b. last_of b (deemphasised m.msr (lattice.synthesised_frame m.short_term f.larc blocks.0).0)) h.msr ∙ ap (last_of (last_msr past)) msr;
+        short_term = subst (λ fs. SynthesisStands fs (synthesised_frame m.short_term f.larc blocks.0).1) frames two.0;
+        msr = ap (λ b. last_of b (deemphasised m.msr (synthesised_frame m.short_term f.larc blocks.0).0)) h.msr ∙ ap (last_of (last_msr past)) msr;
       },
       ap (map truncated) msr,
     )
 
 -- frames one after another
-pub in_turn : (past : List Fields) → decoder.Stands past (decoder.decoded_in_turn past).1 × ((decoder.decoded_in_turn past).0 ≡ all_samples past)
-unfolding decoder.decoded_in_turn all_samples
+pub in_turn : (past : List Fields) → decoder.Stands past (decoded_in_turn past).1 × ((decoded_in_turn past).0 ≡ all_samples past)
+unfolding decoded_in_turn all_samples
 in_turn [] = (home-stands, refl)
 in_turn (f ∷ past) =
-    let memory = (decoder.decoded_in_turn past).1 in
+    let memory = (decoded_in_turn past).1 in
     let before = in_turn past in
     let newest = frame-stands f past memory before.0 in
-    (newest.0, ap (λ xs. xs ++ (decoder.decoded_frame memory f).0) before.1 ∙ ap (λ xs. all_samples past ++ xs) newest.1)
+    (newest.0, ap (λ xs. xs ++ (decoded_frame memory f).0) before.1 ∙ ap (λ xs. all_samples past ++ xs) newest.1)
 
 -- ---- how many samples there are
 
@@ -111,10 +123,10 @@ length-deemphasised : (xs : List ℤ) (before : ℤ) → length (deemphasised be
 length-deemphasised [] before = refl
 length-deemphasised (x ∷ xs) before = ap suc (length-deemphasised xs (add_of x (mult_r_of (pos 28180) before)))
 
-length-filtered : (rs : ℕ → List ℤ) (k : ℕ) (vs ds : List ℤ) → length (lattice.filtered_samples rs k vs ds).0 ≡ length ds
-unfolding lattice.filtered_samples
+length-filtered : (rs : ℕ → List ℤ) (k : ℕ) (vs ds : List ℤ) → length (filtered_samples rs k vs ds).0 ≡ length ds
+unfolding filtered_samples
 length-filtered rs k vs [] = refl
-length-filtered rs k vs (d ∷ ds) = ap suc (length-filtered rs (k + 1) (lattice.sections_after (lattice.synthesis_lattice (rs k) vs d)) ds)
+length-filtered rs k vs (d ∷ ds) = ap suc (length-filtered rs (k + 1) (sections_after (synthesis_lattice (rs k) vs d)) ds)
 
 length-residual_of : (b : LtpBlock) (past : List LtpBlock) → length (residual_of b past) ≡ 40
 unfolding residual_of
@@ -130,13 +142,14 @@ length-frame_residual f past =
     omega (arith, length-append {A = ℤ})
 
 pub length-samples_of : (f : Fields) (past : List Fields) → length (samples_of f past) ≡ 160
-unfolding samples_of residuals_of lattice.synthesis_of
+unfolding samples_of residual_frames synthesis_of
 length-samples_of f past =
-    length-map (deemphasised (last_msr past) (lattice.synthesis_of (residuals_of (f ∷ past))).0) truncated ∙ length-deemphasised _ (last_msr past)
+    length-map (deemphasised (last_msr past) (synthesis_of (residual_frames (f ∷ past))).0) truncated ∙ length-deemphasised _ (last_msr past)
     ∙ length-filtered _ 0 _ (frame_residual f (blocks_of past)) ∙ length-frame_residual f (blocks_of past)
 
 -- ---- and that each is a word
 
+-- a number without its three lowest bits
 floor_8 : (z : ℤ) → ((floor_shr z 3 *ℤ pos 8) ≤ℤ z) × (z ≤ℤ (floor_shr z 3 *ℤ pos 8 +ℤ pos 7))
 floor_8 (pos n) = (omega (arith, ints), omega (arith, ints))
 floor_8 (negsuc n) = (omega (arith, ints), omega (arith, ints))
@@ -146,9 +159,10 @@ unfolding truncated
 truncated-fits msr =
     let low = (floor_8 (add_of msr msr)).0 in
     let high = (floor_8 (add_of msr msr)).1 in
-    let f = add_fits msr msr in
+    let f = add_word msr msr in
     omega (arith, ints)
 
 pub samples-fit : (f : Fields) (past : List Fields) → All (λ x. FitsSigned w16 x) (samples_of f past)
 unfolding samples_of
-samples-fit f past = All-map (λ x. FitsSigned w16 x) truncated (deemphasised (last_msr past) (lattice.synthesis_of (residuals_of (f ∷ past))).0) (λ k d l. truncated-fits _)
+samples-fit f past =
+    All-map (λ x. FitsSigned w16 x) truncated (deemphasised (last_msr past) (synthesis_of (residual_frames (f ∷ past))).0) (λ k d l. truncated-fits _)

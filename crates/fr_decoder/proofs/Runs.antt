@@ -1,21 +1,14 @@
 -- Truncation of one sample after another.
-use Rattle.std.proofs.Common.{◌≡◌, ℕ, ℤ, ◌+◌, ◌<◌, ◌≤◌, pos, get_or, set, length, take, drop, List, [], ◌∷◌, ◌++◌, map, refl, ◌∙◌, arith, drop-cons, append_assoc, add-one, FitsSigned, w16}
+use Rattle.std.proofs.Common.{◌≡◌, ℕ, ℤ, ◌+◌, ◌<◌, ◌≤◌, pos, get_or, set, length, take, drop, List, [], ◌∷◌, ◌++◌, map, refl, ◌∙◌, arith, drop-cons, append_assoc, add-one}
 use Rattle.std.proofs.lemmas.List.{length-set, drop_all, take_all, append-nil}
 use Rattle.std.proofs.lemmas.Grind.{take-set_at}
-use Rattle.trau_num.specs.Num.{add_of, clamp16}
-
-clamp_fits : (z : ℤ) → FitsSigned w16 (clamp16 z)
-clamp_fits z = grind arith
-
-pub add_fits : (a b : ℤ) → FitsSigned w16 (add_of a b)
-unfolding add_of
-add_fits a b = clamp_fits _
 
 -- a function of each of the first k places, and of what is left
 pub record MapRun (f : ℤ → ℤ) (s x : List ℤ) (k : ℕ) : Type 0 where
   pub count : length x ≡ length s
   pub done : take k x ++ map f (drop k s) ≡ map f s
 
+-- one item more
 pub map_next : (f : ℤ → ℤ) (s x : List ℤ) (k : ℕ) (y : ℤ) → k < length s → MapRun f s x k → y ≡ f (get_or s k (pos 0)) → MapRun f s (set x k y) (k + 1)
 map_next f s x k y h run e =
     let count = run.count in

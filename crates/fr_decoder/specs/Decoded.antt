@@ -13,18 +13,18 @@ blocks_of [] = []
 blocks_of (f ∷ past) = four_blocks f (blocks_of past)
 
 -- what each frame gives to short-term synthesis: its ratio codes and its residual
-unfoldable pub residuals_of : List Fields → List ResidualFrame
-residuals_of [] = []
-residuals_of (f ∷ past) = residual_frame f.larc (frame_residual f (blocks_of past)) ∷ residuals_of past
+unfoldable pub residual_frames : List Fields → List ResidualFrame
+residual_frames [] = []
+residual_frames (f ∷ past) = residual_frame f.larc (frame_residual f (blocks_of past)) ∷ residual_frames past
 
 -- the last de-emphasised sample: 0 at home
 unfoldable pub last_msr : List Fields → ℤ
 last_msr [] = pos 0
-last_msr (f ∷ past) = let before = last_msr past in last_of before (deemphasised before (synthesis_of (residuals_of (f ∷ past))).0)
+last_msr (f ∷ past) = let before = last_msr past in last_of before (deemphasised before (synthesis_of (residual_frames (f ∷ past))).0)
 
 -- the 160 samples of a frame after the frames of the past
 unfoldable pub samples_of : Fields → List Fields → List ℤ
-samples_of f past = map truncated (deemphasised (last_msr past) (synthesis_of (residuals_of (f ∷ past))).0)
+samples_of f past = map truncated (deemphasised (last_msr past) (synthesis_of (residual_frames (f ∷ past))).0)
 
 -- all samples, the oldest first
 unfoldable pub all_samples : List Fields → List ℤ

@@ -3,7 +3,9 @@
 ghost use Rattle.std.specs.Prelude.{◌≡◌, List, [], ◌∷◌};
 ghost use Rattle.trau_params.specs.Fields.{Fields, fields_of};
 ghost use Rattle.fr_decoder.specs.Decoded.{samples_of};
-ghost use Rattle.fr_decoder.specs.Step.{DecoderMemory, home_memory, decoded_frame, Stands};
+ghost use Rattle.fr_decoder.specs.Memory.{DecoderMemory, home_memory};
+ghost use Rattle.fr_decoder.specs.Step.{decoded_frame};
+ghost use Rattle.fr_decoder.specs.Stands.{Stands};
 
 use crate::deemphasis::truncate;
 use crate::residual::residual;
@@ -29,7 +31,7 @@ impl Model for Decoder {
 
 impl Decoder {
     /// The decoder before the first frame: every state is 0, and the last lag is 40.
-    #[tactic(auto, unfolding(crate::specs::Decoded::blocks_of, crate::specs::Decoded::residuals_of, crate::specs::Decoded::last_msr))]
+    #[tactic(auto, unfolding(crate::specs::Decoded::blocks_of, crate::specs::Decoded::residual_frames, crate::specs::Decoded::last_msr))]
     pub fn home() -> Decoder
         ensures value { result ≡ home_memory }
         ensures history { Stands [] result }
@@ -42,7 +44,7 @@ impl Decoder {
     }
 
     /// Decodes a frame into its 160 samples `x`, 13 bits left-justified in 16. What `x` held before is lost.
-    #[tactic(auto, unfolding(crate::specs::Step::decoded_frame, crate::specs::Decoded::blocks_of, crate::specs::Decoded::residuals_of, crate::specs::Decoded::last_msr, crate::specs::Decoded::samples_of))]
+    #[tactic(auto, unfolding(crate::specs::Step::decoded_frame, crate::specs::Decoded::blocks_of, crate::specs::Decoded::residual_frames, crate::specs::Decoded::last_msr, crate::specs::Decoded::samples_of))]
     pub fn decode(&mut self, p: &Params, x: &mut [i16; 160])
         ensures step { decoded_frame self.old (fields_of p.now) ≡ (x.new, self.new) }
 

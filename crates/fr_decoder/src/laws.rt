@@ -3,7 +3,8 @@
 ghost use Rattle.std.specs.Prelude.{◌≡◌, List, reverse};
 ghost use Rattle.trau_params.specs.Fields.{Fields};
 ghost use Rattle.fr_decoder.specs.Decoded.{decoded};
-ghost use Rattle.fr_decoder.specs.Step.{decoded_in_turn, Stands};
+ghost use Rattle.fr_decoder.specs.Step.{decoded_in_turn};
+ghost use Rattle.fr_decoder.specs.Stands.{Stands};
 
 /// Frames that are decoded one after another from home give the decoded list, and a memory that stands for them.
 pub fn whole_list()

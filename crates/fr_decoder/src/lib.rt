@@ -8,7 +8,8 @@
 //! `residual` has the four blocks, `deemphasis` the last two steps, `decoder` the whole, `laws` a law.
 //!
 //! Definitions: `specs/Decoded.antt` (all frames from home, as one list), `specs/Blocks.antt` and
-//! `specs/Deemphasis.antt` (its parts), `specs/Step.antt` (from frame to frame).
+//! `specs/Deemphasis.antt` (its parts), `specs/Memory.antt`, `specs/Step.antt` and `specs/Stands.antt` (what is kept, one
+//! frame, and what the memory stands for).
 #![tactic(auto)]
 
 mod decoder;

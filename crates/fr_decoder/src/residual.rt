@@ -1,7 +1,8 @@
 //! The residual of a frame's four blocks (GSM 06.10, sections 4.3.1 and 4.3.2).
 
 ghost use Rattle.std.specs.Prelude.{◌≡◌, ◌<◌, ◌≤◌, ℕ, List, [], ◌∷◌, ◌++◌, ◌+◌, take};
-ghost use Rattle.fr_long.specs.Memory.{Stands, synthesised};
+ghost use Rattle.fr_long.specs.Stands.{Stands};
+ghost use Rattle.fr_long.specs.Step.{synthesised};
 ghost use Rattle.fr_long.specs.Synthesis.{LtpBlock, residual_of};
 ghost use Rattle.trau_params.specs.Fields.{fields_of};
 ghost use Rattle.fr_decoder.specs.Blocks.{ltp_block, four_blocks, frame_residual};

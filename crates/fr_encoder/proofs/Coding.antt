@@ -1,11 +1,12 @@
 -- The blocks of a frame.
-use Rattle.std.proofs.Common.{◌≡◌, ℕ, ℤ, List, [], ◌∷◌, ◌++◌, drop, refl, sym, All}
-use Rattle.std.proofs.lemmas.List.Elements.{All-cons, All-nil}
-use Rattle.fr_long.specs.Prediction.{Prediction, prediction_of, reconstructed_of, updated, after_zeros, HistoryStands}
+use Rattle.std.proofs.Common.{◌≡◌, ℕ, ℤ, List, [], ◌∷◌, ◌++◌, drop, refl, sym}
+use Rattle.fr_long.specs.Prediction.{Prediction, prediction_of, reconstructed_of}
+use Rattle.fr_long.specs.Step.{updated}
+use Rattle.fr_long.specs.Stands.{after_zeros, HistoryStands}
 use Rattle.fr_long.proofs.Predictions.{by_history, one_update}
 use Rattle.fr_rpe.specs.Encoding.{mc_of, xmaxc_of, xmc_of, xmax_of}
 use Rattle.fr_rpe.specs.Pulses.{block_of}
-use Rattle.fr_encoder.specs.Blocks.{CodedBlock, coded_block, block_at, block_after, four_blocks}
+use Rattle.fr_encoder.specs.Blocks.{CodedBlock, coded_block, block_at, block_after, four_coded_blocks}
 use Rattle.fr_encoder.specs.Step.{next_block, next_blocks}
 
 -- a block that is predicted so, and whose rest has these codes
@@ -55,8 +56,8 @@ pub four_histories : (s d0 d1 d2 d3 m0 m1 m2 m3 m4 : List ℤ) (a b c d : CodedB
     d0 ≡ block_at s 0 → d1 ≡ block_at s 1 → d2 ≡ block_at s 2 → d3 ≡ block_at s 3 →
     IsCoded m0 d0 a m1 → IsCoded m1 d1 b m2 → IsCoded m2 d2 c m3 → IsCoded m3 d3 d m4 →
     (past : List ℤ) → HistoryStands past m0 →
-    HistoryStands (four_blocks past s).1 m4 × (a ∷ b ∷ c ∷ d ∷ [] ≡ (four_blocks past s).0)
-unfolding four_blocks
+    HistoryStands (four_coded_blocks past s).1 m4 × (a ∷ b ∷ c ∷ d ∷ [] ≡ (four_coded_blocks past s).0)
+unfolding four_coded_blocks
 four_histories s d0 d1 d2 d3 m0 m1 m2 m3 m4 a b c d e0 e1 e2 e3 first second third fourth past stands =
     let one = first past stands in
     let two = second (block_after past d0).1 one.0 in
@@ -64,16 +65,14 @@ four_histories s d0 d1 d2 d3 m0 m1 m2 m3 m4 a b c d e0 e1 e2 e3 first second thi
     let four = fourth (block_after (block_after (block_after past d0).1 d1).1 d2).1 three.0 in
     rw (sym e0, sym e1, sym e2, sym e3, one.1, two.1, three.1, four.1) (four.0, refl)
 
-pub all_four : {X : Type 0} (P : X → Type 0) (a b c d : X) → P a → P b → P c → P d → All P (a ∷ b ∷ c ∷ d ∷ [])
-all_four P a b c d pa pb pc pd =
-    All-cons P a (b ∷ c ∷ d ∷ []) pa (All-cons P b (c ∷ d ∷ []) pb (All-cons P c (d ∷ []) pc (All-cons P d [] pd (All-nil P))))
-
 -- ---- the functions from block to block
 
+-- what is kept after a block
 updated_is : (residuals dpp ep : List ℤ) → drop 40 residuals ++ reconstructed_of dpp ep ≡ updated residuals dpp ep
 unfolding updated
 updated_is residuals dpp ep = refl
 
+-- a block from residuals that stand for a past
 block-stands : (d residuals : List ℤ) → IsCoded residuals d (next_block residuals d).0 (next_block residuals d).1
 unfolding next_block coded_block
 block-stands d residuals = λ past h.
@@ -82,8 +81,9 @@ block-stands d residuals = λ past h.
     one_history d past (drop 40 residuals ++ reconstructed_of p.dpp ep) p _ _ _ _ ep (by_history past residuals d h) refl refl refl refl refl
     (one_update past residuals p.dpp ep (drop 40 residuals ++ reconstructed_of p.dpp ep) h (updated_is residuals p.dpp ep))
 
+-- the four blocks
 pub blocks-stand : (s residuals past : List ℤ) → HistoryStands past residuals →
-    HistoryStands (four_blocks past s).1 (next_blocks residuals s).1 × ((next_blocks residuals s).0 ≡ (four_blocks past s).0)
+    HistoryStands (four_coded_blocks past s).1 (next_blocks residuals s).1 × ((next_blocks residuals s).0 ≡ (four_coded_blocks past s).0)
 unfolding next_blocks
 blocks-stand s residuals past h =
     let m1 = (next_block residuals (block_at s 0)).1 in

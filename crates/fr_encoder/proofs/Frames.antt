@@ -1,19 +1,24 @@
 -- One frame, by the memory before it and by all frames of the past.
 use Rattle.std.proofs.Common.{◌≡◌, ℕ, ℤ, List, [], ◌∷◌, ◌++◌, refl, ap, subst, ◌∙◌}
 use Rattle.fr_pre.specs.Memory as pre
-use Rattle.fr_pre.specs.History as preprocessing
-use Rattle.fr_pre.specs.Preprocessing.{preprocessed_frame}
+use Rattle.fr_pre.specs.Stands as preprocessing
+use Rattle.fr_pre.specs.History.{newest_preprocessed, samples_of_frames}
+use Rattle.fr_pre.specs.Step.{preprocessed_frame}
 use Rattle.fr_pre.proofs.Run.{history}
 use Rattle.fr_lpc.specs.Scaling.{peak_of, samples_after}
 use Rattle.fr_lpc.specs.Ratios.{ratio_codes, ratios_of_frame}
 use Rattle.fr_short.specs.Memory as short
 use Rattle.fr_short.specs.Ratios.{decoded_ratios}
 use Rattle.fr_short.specs.Reflection.{coefficients_at}
-use Rattle.fr_short.specs.Analysis.{SampleFrame, sample_frame, analysed_samples, analysed_frame, newest_sample_ratios, analysis_of, AnalysisStands}
-use Rattle.fr_long.specs.Prediction.{HistoryStands}
-use Rattle.fr_encoder.specs.Blocks.{BlockFields, block_fields, four_blocks}
-use Rattle.fr_encoder.specs.Encoded.{Encoded, sample_frames, residual_of, reconstructed, encoding_of, all_encodings}
-use Rattle.fr_encoder.specs.Step.{EncoderMemory, home_memory, next_blocks, encoded_frame, encoded_in_turn, Stands}
+use Rattle.fr_short.specs.Analysis.{SampleFrame, sample_frame, analysed_samples, newest_sample_ratios, analysis_of}
+use Rattle.fr_short.specs.Step.{analysed_frame}
+use Rattle.fr_short.specs.Stands.{AnalysisStands}
+use Rattle.fr_long.specs.Stands.{HistoryStands}
+use Rattle.fr_encoder.specs.Blocks.{BlockFields, block_fields, four_coded_blocks}
+use Rattle.fr_encoder.specs.Encoded.{Encoded, sample_frames, analysed_residual, reconstructed, encoding_of, all_encodings}
+use Rattle.fr_encoder.specs.Memory.{EncoderMemory, home_memory}
+use Rattle.fr_encoder.specs.Step.{next_blocks, encoded_frame, encoded_in_turn}
+use Rattle.fr_encoder.specs.Stands.{Stands}
 use Rattle.fr_encoder.proofs.Coding.{blocks-stand}
 
 -- what is told of the fields, the ratios before they were coded, the blocks' maxima and the peak
@@ -25,6 +30,7 @@ told larc lar blocks peak = record {
   peak = peak;
 }
 
+-- a frame by its stages
 pub one_step : (memory : EncoderMemory) (x s lost residual : List ℤ) (pre' : pre.PreMemory) (short' : short.ShortMemory) (long' : List ℤ)
     (larc : List ℕ) (lar : List ℤ) (blocks : BlockFields) (peak : ℤ) →
     preprocessed_frame memory.preprocessing x ≡ (s, pre') → peak ≡ peak_of s → lost ≡ samples_after s → lar ≡ ratios_of_frame s →
@@ -37,26 +43,27 @@ one_step memory x s lost residual pre' short' long' larc lar blocks peak first e
     rw (first, eblocks, elong, eshort, eresidual, elarc, elar, elost, epeak) refl
 
 -- what the frame gives to short-term analysis
-one_frame : (x s lost : List ℤ) (past : List (List ℤ)) (larc : List ℕ) → s ≡ preprocessing.newest_preprocessed x past → lost ≡ samples_after s →
+one_frame : (x s lost : List ℤ) (past : List (List ℤ)) (larc : List ℕ) → s ≡ newest_preprocessed x past → lost ≡ samples_after s →
     larc ≡ ratio_codes (ratios_of_frame s) → sample_frame larc lost ∷ sample_frames past ≡ sample_frames (x ∷ past)
 unfolding sample_frames
 one_frame x s lost past larc es elost elarc = rw (elarc, elost, es) refl
 
+-- the same after the frames of any past
 pub one_history : (x s lost residual : List ℤ) (past : List (List ℤ)) (pre' : pre.PreMemory) (short' : short.ShortMemory)
     (long' : List ℤ) (larc : List ℕ) (lar : List ℤ) (blocks : BlockFields) (peak : ℤ) →
-    preprocessing.Stands (x ∷ past) pre' × (s ≡ preprocessing.newest_preprocessed x past) →
+    preprocessing.Stands (x ∷ past) pre' × (s ≡ newest_preprocessed x past) →
     peak ≡ peak_of s → lost ≡ samples_after s → lar ≡ ratios_of_frame s → larc ≡ ratio_codes (ratios_of_frame s) →
     AnalysisStands (sample_frame larc lost ∷ sample_frames past) short' ×
     (residual ≡ (analysis_of (sample_frame larc lost ∷ sample_frames past)).0) →
-    HistoryStands (four_blocks (reconstructed past) residual).1 long' × (blocks ≡ block_fields (four_blocks (reconstructed past) residual).0) →
+    HistoryStands (four_coded_blocks (reconstructed past) residual).1 long' × (blocks ≡ block_fields (four_coded_blocks (reconstructed past) residual).0) →
     Stands (x ∷ past) (record { preprocessing = pre'; short_term = short'; long_term = long' }) ×
     (told larc lar blocks peak ≡ encoding_of x past)
 unfolding reconstructed encoding_of
 one_history x s lost residual past pre' short' long' larc lar blocks peak first epeak elost elar elarc second third =
     let frames = one_frame x s lost past larc first.1 elost elarc in
-    let same : residual ≡ residual_of x past = second.1 ∙ ap (λ f. (analysis_of f).0) frames in
-    let long : HistoryStands (four_blocks (reconstructed past) (residual_of x past)).1 long' =
-    subst (λ r. HistoryStands (four_blocks (reconstructed past) r).1 long') same third.0 in (
+    let same : residual ≡ analysed_residual x past = second.1 ∙ ap (λ f. (analysis_of f).0) frames in
+    let long : HistoryStands (four_coded_blocks (reconstructed past) (analysed_residual x past)).1 long' =
+    subst (λ r. HistoryStands (four_coded_blocks (reconstructed past) r).1 long') same third.0 in (
       record {
         preprocessing = first.0;
         short_term = subst (λ f. AnalysisStands f short') frames second.0;
@@ -67,6 +74,7 @@ one_history x s lost residual past pre' short' long' larc lar blocks peak first 
 
 -- ---- the function from frame to frame
 
+-- short-term analysis from a memory that stands for a past
 analysis-stands : (codes : List ℕ) (samples : List ℤ) (past : List SampleFrame) (m : short.ShortMemory) → AnalysisStands past m →
     AnalysisStands (sample_frame codes samples ∷ past) (analysed_frame m codes samples).1
     × ((analysed_frame m codes samples).0 ≡ (analysis_of (sample_frame codes samples ∷ past)).0)
@@ -79,8 +87,12 @@ analysis-stands codes samples past m h =
 
 -- at home no frame was encoded
 pub home-stands : Stands [] home_memory
-unfolding sample_frames reconstructed preprocessed_frame preprocessing.samples_of newest_sample_ratios analysis_of
-home-stands = record { preprocessing = record { after = refl }; short_term = record { ratios = refl; sections = refl }; long_term = record { residuals_are = refl } }
+unfolding sample_frames reconstructed preprocessed_frame samples_of_frames newest_sample_ratios analysis_of
+home-stands = record {
+  preprocessing = record { after = refl };
+  short_term = record { ratios = refl; sections = refl };
+  long_term = record { residuals_are = refl };
+}
 
 -- one frame more, of any past
 pub frame-stands : (x : List ℤ) (past : List (List ℤ)) (m : EncoderMemory) → Stands past m →

@@ -1,6 +1,7 @@
 -- The coding of a frame's four blocks (GSM 06.10, sections 4.2.11 to 4.2.18).
 use Rattle.std.specs.Prelude.{ℕ, ◌*◌, ℤ, List, [], ◌∷◌, ◌++◌, take, drop, map}
-use Rattle.fr_long.specs.Prediction.{prediction_of, reconstructed_of, after_zeros}
+use Rattle.fr_long.specs.Prediction.{prediction_of, reconstructed_of}
+use Rattle.fr_long.specs.Stands.{after_zeros}
 use Rattle.fr_rpe.specs.Encoding.{mc_of, xmaxc_of, xmc_of, xmax_of}
 use Rattle.fr_rpe.specs.Pulses.{block_of}
 
@@ -30,8 +31,8 @@ unfoldable pub block_after : List ℤ → List ℤ → CodedBlock × List ℤ
 block_after past d = let coded = coded_block d (after_zeros past) in (coded.0, past ++ coded.1)
 
 -- the four blocks of a frame in turn, and all reconstructed residuals after them
-unfoldable pub four_blocks : List ℤ → List ℤ → List CodedBlock × List ℤ
-four_blocks past d =
+unfoldable pub four_coded_blocks : List ℤ → List ℤ → List CodedBlock × List ℤ
+four_coded_blocks past d =
     let first = block_after past (block_at d 0) in
     let second = block_after first.1 (block_at d 1) in
     let third = block_after second.1 (block_at d 2) in

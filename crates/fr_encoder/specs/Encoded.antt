@@ -7,7 +7,7 @@ use Rattle.fr_pre.specs.History.{newest_preprocessed}
 use Rattle.fr_lpc.specs.Scaling.{peak_of, samples_after}
 use Rattle.fr_lpc.specs.Ratios.{ratio_codes, ratios_of_frame}
 use Rattle.fr_short.specs.Analysis.{SampleFrame, sample_frame, analysis_of}
-use Rattle.fr_encoder.specs.Blocks.{BlockFields, block_fields, four_blocks}
+use Rattle.fr_encoder.specs.Blocks.{BlockFields, block_fields, four_coded_blocks}
 
 -- what a frame is encoded to: its fields; before they were coded the log area ratios and the blocks' maxima; and the peak
 -- of its preprocessed samples
@@ -42,18 +42,18 @@ sample_frames [] = []
 sample_frames (x ∷ past) = analysed (newest_preprocessed x past) ∷ sample_frames past
 
 -- the 160 residuals of a frame after the frames of the past
-abbrev pub residual_of : List ℤ → List (List ℤ) → List ℤ
-residual_of x past = (analysis_of (sample_frames (x ∷ past))).0
+abbrev pub analysed_residual : List ℤ → List (List ℤ) → List ℤ
+analysed_residual x past = (analysis_of (sample_frames (x ∷ past))).0
 
 -- all reconstructed residuals, the oldest first
 unfoldable pub reconstructed : List (List ℤ) → List ℤ
 reconstructed [] = []
-reconstructed (x ∷ past) = (four_blocks (reconstructed past) (residual_of x past)).1
+reconstructed (x ∷ past) = (four_coded_blocks (reconstructed past) (analysed_residual x past)).1
 
 -- what a frame is encoded to after the frames of the past
 unfoldable pub encoding_of : List ℤ → List (List ℤ) → Encoded
 encoding_of x past =
-    encoding (newest_preprocessed x past) (block_fields (four_blocks (reconstructed past) (residual_of x past)).0)
+    encoding (newest_preprocessed x past) (block_fields (four_coded_blocks (reconstructed past) (analysed_residual x past)).0)
 
 -- all encodings, the oldest first
 unfoldable pub all_encodings : List (List ℤ) → List Encoded

@@ -1,25 +1,12 @@
 -- The encoder from frame to frame (GSM 06.10, section 4.2).
-use Rattle.std.specs.Prelude.{ℤ, pos, List, [], ◌∷◌, ◌++◌, drop, replicate}
-use Rattle.fr_pre.specs.Memory as pre
-use Rattle.fr_pre.specs.History as preprocessing
-use Rattle.fr_pre.specs.Preprocessing.{preprocessed_frame}
+use Rattle.std.specs.Prelude.{ℤ, List, [], ◌∷◌, ◌++◌, drop}
+use Rattle.fr_pre.specs.Step.{preprocessed_frame}
 use Rattle.fr_lpc.specs.Scaling.{samples_after}
 use Rattle.fr_lpc.specs.Ratios.{ratio_codes, ratios_of_frame}
-use Rattle.fr_short.specs.Memory as short
-use Rattle.fr_short.specs.Analysis.{analysed_frame, AnalysisStands}
-use Rattle.fr_long.specs.Prediction.{HistoryStands}
+use Rattle.fr_short.specs.Step.{analysed_frame}
 use Rattle.fr_encoder.specs.Blocks.{CodedBlock, coded_block, block_at, block_fields}
-use Rattle.fr_encoder.specs.Encoded.{Encoded, encoding, sample_frames, reconstructed}
-
--- what the encoder keeps: the memories of preprocessing and of short-term analysis, and the last 120 reconstructed residuals
-pub record EncoderMemory : Type 0 where
-  pub preprocessing : pre.PreMemory
-  pub short_term : short.ShortMemory
-  pub long_term : List ℤ
-
--- the memory at home
-abbrev pub home_memory : EncoderMemory
-home_memory = record { preprocessing = pre.home_memory; short_term = short.home_memory; long_term = replicate 120 (pos 0) }
+use Rattle.fr_encoder.specs.Encoded.{Encoded, encoding}
+use Rattle.fr_encoder.specs.Memory.{EncoderMemory, home_memory}
 
 -- one block: what it is coded to, and the last 120 reconstructed residuals after it
 unfoldable pub next_block : List ℤ → List ℤ → CodedBlock × List ℤ
@@ -49,9 +36,3 @@ encoded_in_turn (x ∷ past) =
     let before = encoded_in_turn past in
     let newest = encoded_frame before.1 x in
     (before.0 ++ newest.0 ∷ [], newest.1)
-
--- the memory is that of these frames from home
-pub record Stands (past : List (List ℤ)) (memory : EncoderMemory) : Type 0 where
-  pub preprocessing : preprocessing.Stands past memory.preprocessing
-  pub short_term : AnalysisStands (sample_frames past) memory.short_term
-  pub long_term : HistoryStands (reconstructed past) memory.long_term

@@ -1,17 +1,19 @@
 //! The four blocks of a frame (GSM 06.10, sections 4.2.11 to 4.2.18).
 
-ghost use Rattle.std.specs.Prelude.{◌≡◌, ℕ, ◌<◌, ℤ, List};
-ghost use Rattle.fr_long.specs.Prediction.{HistoryStands};
-ghost use Rattle.fr_encoder.specs.Blocks.{block_at, block_after, four_blocks, block_fields};
+ghost use Rattle.std.specs.Prelude.{◌≡◌, ℕ, ◌<◌, ℤ, pos, ◌≤ℤ◌, List, All};
+ghost use Rattle.trau_params.specs.Widths.{FitLarc};
+ghost use Rattle.fr_long.specs.Stands.{HistoryStands};
+ghost use Rattle.fr_encoder.specs.Blocks.{block_at, block_after, four_coded_blocks, block_fields};
 ghost use Rattle.fr_encoder.specs.Step.{next_block, next_blocks};
-ghost use Rattle.fr_encoder.specs.Coded.{codes_of, fields_of};
+ghost use Rattle.fr_encoder.specs.Coded.{codes_of, fields_of_blocks};
 
-use crate::block::{Block, Blocks};
+use crate::block::CodedBlock;
 use fr_long::LtpHistory;
 use fr_rpe::encode_block;
+use trau_params::{Block, Params};
 
 // Codes a block of 40 residuals, and takes what a decoder makes of it into the history.
-fn code_block(history: &mut LtpHistory, d: &[i16; 40]) -> Block
+fn code_block(history: &mut LtpHistory, d: &[i16; 40]) -> CodedBlock
     ensures step { next_block history.old d.now ≡ (codes_of result, history.new) }
     ensures history { (past : List ℤ) → HistoryStands past history.old →
         HistoryStands (block_after past d.now).1 history.new × (codes_of result ≡ (block_after past d.now).0) }
@@ -20,12 +22,15 @@ fn code_block(history: &mut LtpHistory, d: &[i16; 40]) -> Block
     let rpe = encode_block(&ltp.e);
     history.update(&ltp.dpp, &rpe.ep);
     let xmc = rpe.xmc;
-    Block {
+    let codes = Block {
         nc: ltp.nc,
         bc: ltp.bc,
         mc: rpe.mc,
         xmaxc: rpe.xmaxc,
         xmc,
+    };
+    CodedBlock {
+        codes,
         xmax: rpe.xmax,
     }
 }
@@ -40,24 +45,26 @@ fn block_at(s: &[i16; 160], j: usize) -> [i16; 40]
     d
 }
 
-/// Codes the four blocks of a frame's residual in turn.
-pub(crate) fn code_blocks(history: &mut LtpHistory, d: &[i16; 160]) -> Blocks
-    ensures fields { fields_of result ≡ block_fields (next_blocks history.old d.now).0 }
+/// Codes the four blocks of a frame's residual in turn: the frame of these codes of its ratios and of the blocks, and
+/// the four block maxima before they were coded.
+pub(crate) fn code_blocks(
+    history: &mut LtpHistory,
+    larc: [u8; 8],
+    d: &[i16; 160],
+) -> (Params, [i16; 4])
+    requires { FitLarc larc }
+    ensures larc { result.0.larc ≡ larc }
+    ensures fields { fields_of_blocks result.0 result.1 ≡ block_fields (next_blocks history.old d.now).0 }
+    ensures maxima { All (λ x. pos 0 ≤ℤ x) result.1 }
     ensures step { history.new ≡ (next_blocks history.old d.now).1 }
     ensures history { (past : List ℤ) → HistoryStands past history.old →
-        HistoryStands (four_blocks past d.now).1 history.new × (fields_of result ≡ block_fields (four_blocks past d.now).0) }
+        HistoryStands (four_coded_blocks past d.now).1 history.new ×
+        (fields_of_blocks result.0 result.1 ≡ block_fields (four_coded_blocks past d.now).0) }
 {
     let first = code_block(history, &block_at(d, 0));
     let second = code_block(history, &block_at(d, 1));
     let third = code_block(history, &block_at(d, 2));
     let fourth = code_block(history, &block_at(d, 3));
-    let (a, b, c, d) = (first.xmc, second.xmc, third.xmc, fourth.xmc);
-    Blocks {
-        nc: [first.nc, second.nc, third.nc, fourth.nc],
-        bc: [first.bc, second.bc, third.bc, fourth.bc],
-        mc: [first.mc, second.mc, third.mc, fourth.mc],
-        xmaxc: [first.xmaxc, second.xmaxc, third.xmaxc, fourth.xmaxc],
-        xmc: [a, b, c, d],
-        xmax: [first.xmax, second.xmax, third.xmax, fourth.xmax],
-    }
+    let params = Params::of_blocks(larc, first.codes, second.codes, third.codes, fourth.codes);
+    (params, [first.xmax, second.xmax, third.xmax, fourth.xmax])
 }

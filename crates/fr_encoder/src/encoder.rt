@@ -2,7 +2,9 @@
 
 ghost use Rattle.std.specs.Prelude.{◌≡◌, ℤ, List, [], ◌∷◌};
 ghost use Rattle.fr_encoder.specs.Encoded.{encoded_of, encoding_of};
-ghost use Rattle.fr_encoder.specs.Step.{home_memory, encoded_frame, Stands};
+ghost use Rattle.fr_encoder.specs.Memory.{home_memory};
+ghost use Rattle.fr_encoder.specs.Step.{encoded_frame};
+ghost use Rattle.fr_encoder.specs.Stands.{Stands};
 
 use crate::blocks::code_blocks;
 use fr_long::LtpHistory;
@@ -22,7 +24,7 @@ pub struct Encoder {
 
 impl Model for Encoder {
     ghost use Rattle.fr_pre.specs.Memory.{memory_of};
-    ghost use Rattle.fr_encoder.specs.Step.{EncoderMemory};
+    ghost use Rattle.fr_encoder.specs.Memory.{EncoderMemory};
 
     ghost Value = { EncoderMemory };
 
@@ -58,16 +60,8 @@ impl Encoder {
         let peak = peak(&s);
         let lpc = analyse(&mut s);
         self.short_term.analyse_frame(&lpc.larc, &mut s);
-        let blocks = code_blocks(&mut self.long_term, &s);
-        let params = Params::new(
-            lpc.larc,
-            blocks.nc,
-            blocks.bc,
-            blocks.mc,
-            blocks.xmaxc,
-            blocks.xmc,
-        );
-        let (lar, xmax) = (lpc.lar, blocks.xmax);
+        let (params, xmax) = code_blocks(&mut self.long_term, lpc.larc, &s);
+        let lar = lpc.lar;
         (params, Trace { lar, xmax }, peak)
     }
 }

@@ -6,9 +6,10 @@
 //! four blocks in turn through long-term prediction (`fr_long`) and pulse coding (`fr_rpe`). What the transmit side
 //! averages and decides on comes beside the parameters.
 //!
-//! `block` has what blocks are coded to, `blocks` codes them, `encoder` is the whole, `laws` has a law. Definitions:
-//! `specs/Encoded.antt` (all frames from home, as one list), `specs/Blocks.antt` (its blocks), `specs/Step.antt`
-//! (from frame to frame), `specs/Coded.antt` (what the structs say).
+//! `block` has what a block is coded to, `blocks` codes them, `encoder` is the whole, `laws` has a law. Definitions:
+//! `specs/Encoded.antt` (all frames from home, as one list), `specs/Blocks.antt` (its blocks), `specs/Memory.antt`,
+//! `specs/Step.antt` and `specs/Stands.antt` (what is kept, one frame, and what the memory stands for),
+//! `specs/Coded.antt` (what the structs say).
 #![tactic(auto)]
 
 mod block;

@@ -1,18 +1,12 @@
 -- Folds over the places of a block, and the room that scaling leaves.
-use Rattle.std.proofs.Common.{◌≡◌, ℕ, ◌+◌, ◌-◌, ◌*◌, ◌/◌, ◌^◌, ◌<◌, ◌≤◌, ℤ, pos, negsuc, ◌≤ℤ◌, ◌*ℤ◌, unsigned_abs, FitsSigned, w16, w32, fold, map, ⊎_elim, to_z, of_z, ◌+ℤ◌, [], ◌∷◌, ap, ◌∙◌, arith}
+use Rattle.std.proofs.Common.{◌≡◌, ℕ, ◌+◌, ◌-◌, ◌*◌, ◌/◌, ◌^◌, ◌<◌, ◌≤◌, ℤ, pos, negsuc, ◌≤ℤ◌, ◌*ℤ◌, unsigned_abs, FitsSigned, w16, w32, fold, map, ⊎_elim, to_z, of_z, ◌+ℤ◌, ap, ◌∙◌, arith}
 use Rattle.std.specs.List.{range_with_len}
 use Rattle.std.proofs.lemmas.Int.{ints, to_z-of_z, unsigned_abs-mul}
-use Rattle.std.proofs.lemmas.Grind.{fold-append}
 use Rattle.std.proofs.lemmas.Nat.{pow-add, pow_pos}
 use Rattle.std.proofs.Math.Nat.{pow-le-pow_right, mul-le-mul_right, mul-le-mul_left, div-lt_iff_lt-mul}
-use Rattle.std.proofs.lemmas.List.FromFn.{map-range_with_len_more}
 use Rattle.std.proofs.lemmas.Bool.{cases_lt}
 use Rattle.trau_num.specs.Num.{clamp32, abs_of, floor_shr, l_mult_of}
-
--- one place more
-pub fold_more : (h : ℤ → ℤ → ℤ) (f : ℕ → ℤ) (k : ℕ) →
-    fold h (pos 0) (map f (range_with_len 0 (k + 1))) ≡ h (fold h (pos 0) (map f (range_with_len 0 k))) (f k)
-fold_more h f k = ap (fold h (pos 0)) (map-range_with_len_more f 0 k k (omega arith)) ∙ fold-append h (pos 0) (map f (range_with_len 0 k)) (f k ∷ [])
+use Rattle.trau_lanes.proofs.LaneDots.{fold_more}
 
 -- a quotient stays below what its number stays below
 quotient : (a b n : ℕ) → a < b * 2 ^ n → a / 2 ^ n < b

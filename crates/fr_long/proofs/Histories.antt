@@ -7,7 +7,9 @@ use Rattle.std.proofs.lemmas.Grind.{common_steps}
 use Rattle.trau_num.specs.Num.{add_of, mult_r_of}
 use Rattle.fr_long.specs.Gain.{gain_of}
 use Rattle.fr_long.specs.Synthesis.{LtpBlock, is_lag, lag_in_force, sample_before, residual_after, residuals_of, residual_of}
-use Rattle.fr_long.specs.Memory.{LtpMemory, synthesised, last_120, Stands}
+use Rattle.fr_long.specs.Memory.{LtpMemory}
+use Rattle.fr_long.specs.Step.{synthesised}
+use Rattle.fr_long.specs.Stands.{last_120, Stands}
 
 -- a lag in force lies within the last 120
 pub lag_in_force-le : (past : List LtpBlock) → lag_in_force past ≤ 120
@@ -37,6 +39,7 @@ sample_before-last_120 xs lag k l h =
     let place : length xs - 120 + (120 + k - lag) ≡ length xs + k - lag = omega arith in
     rw count (get_or-drop (length xs - 120) xs (120 + k - lag) (pos 0) ∙ ap (λ i. get_or xs i (pos 0)) place)
 
+-- a block looks back over the last 120 residuals alone
 residual_after-last_120 : (xs : List ℤ) (lag bc : ℕ) (erp : List ℤ) → 120 ≤ length xs → lag ≤ 120 →
     residual_after (last_120 xs) lag bc erp ≡ residual_after xs lag bc erp
 unfolding residual_after

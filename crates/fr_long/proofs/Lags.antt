@@ -6,14 +6,17 @@ use Rattle.std.proofs.lemmas.Bool.{and_from, and_left, and_right}
 use Rattle.trau_num.proofs.Greatest.{IsLeastGreatest, has_least_greatest, first_found, none_found, none_above, some_above, less, not_less}
 use Rattle.fr_long.specs.Lag.{lags, is_best, lag_of, IsLag}
 
+-- the least lag with the greatest correlation passes the test of the search, if that is positive
 passes : (f : ℕ → ℤ) (m : ℕ) → IsLeastGreatest f 40 81 m → pos 0 <ℤ f m → is_best f m ≡ true
 unfolding is_best lags
 passes f m h l = and_from _ _ (less (pos 0) (f m) l) (none_above f 40 81 m h)
 
+-- and no lag before it does
 fails : (f : ℕ → ℤ) (m k : ℕ) → IsLeastGreatest f 40 81 m → 40 ≤ k → k < m → is_best f k ≡ false
 unfolding is_best lags
 fails f m k h b c = and_right _ _ (some_above f 40 81 m k h b c)
 
+-- nor one whose correlation isn't positive
 not_positive : (f : ℕ → ℤ) (k : ℕ) → f k ≤ℤ pos 0 → is_best f k ≡ false
 unfolding is_best
 not_positive f k h = and_left _ _ (not_less (pos 0) (f k) h)
@@ -43,6 +46,7 @@ lag_is f nc h =
 at_most_both : (a b c : ℤ) → a ≤ℤ b → b ≤ℤ c → a ≤ℤ c
 at_most_both a b c l m = omega (arith, ints)
 
+-- some lag has the property
 some_lag : (f : ℕ → ℤ) → (nc : ℕ) × IsLag f nc
 some_lag f =
     let first = has_least_greatest f 40 80 in

@@ -14,6 +14,7 @@ use Rattle.fr_long.specs.Lag.{IsTop}
 
 -- ---- the greater of two
 
+-- the greater of two
 pub max_bounds : (x y : ℤ) → (x ≤ℤ int_max x y) × (y ≤ℤ int_max x y)
 max_bounds x y = (omega (arith, ints, clamps), omega (arith, ints, clamps))
 
@@ -30,9 +31,11 @@ max_fits x y f g = elim (max_reached x y) [
   | inr e ↦ subst (FitsSigned w32) (sym e) g
 ]
 
+-- the test of two lanes as the vector makes it
 abbrev less : ℕ → ℕ → ℕ
 less a b = cond (lt_z (to_z w32 a) (to_z w32 b)) (2 ^ 32 - 1) 0
 
+-- the greater of two lanes, and of each of eight
 lane_max : (x y : ℤ) → FitsSigned w32 x → FitsSigned w32 y → to_z w32 (cond (top 31 (less (of_z w32 x) (of_z w32 y))) (of_z w32 y) (of_z w32 x)) ≡ int_max x y
 lane_max x y f g =
     ap (λ z. to_z w32 (cond (top 31 (cond (lt_z z (to_z w32 (of_z w32 y))) (2 ^ 32 - 1) 0)) (of_z w32 y) (of_z w32 x))) (to_z-of_z w32 x f) ∙
@@ -59,11 +62,13 @@ is_less true u = refl
 is_less false true = refl
 is_less false false = refl
 
+-- the greater by the order's function
 pub ord_max_is : (x y : ℤ) → ord_max int_cmp x y ≡ int_max x y
 ord_max_is x y = ap (λ t. cond t x y) (is_less (int_lt y x) (int_lt x y))
 
 -- ---- eight at a time
 
+-- a top is 0 or one of the numbers
 abbrev pub Reached : List ℤ → ℤ → Type 0
 Reached c t = (t ≡ pos 0) ⊎ ((k : ℕ) × (k < 81) × (entry c k ≡ t))
 
@@ -71,6 +76,7 @@ Reached c t = (t ≡ pos 0) ⊎ ((k : ℕ) × (k < 81) × (entry c k ≡ t))
 abbrev pub start_of : ℕ → ℕ
 start_of g = min (8 * g) 73
 
+-- the top of each lane over the groups so far
 pub record AreTops (c tops : List ℤ) (group : ℕ) : Type 0 where
   pub eight : length tops ≡ 8
   pub longs : Each1 (FitsSigned w32) tops
@@ -114,7 +120,8 @@ pub tops_next : (c tops : List ℤ) (group : ℕ) → length c ≡ 81 → ((k : 
 tops_next c tops group l longs h =
     let room : start_of group + 8 ≤ length c = omega arith in
     let long = length-chunk (start_of group) 8 c room in
-    let row : Each1 (FitsSigned w32) (chunk (start_of group) 8 c) = Each1-chunk (FitsSigned w32) (start_of group) 8 c (Each1-from_get_or (FitsSigned w32) c (pos 0) (λ k b. longs k)) in
+    let row : Each1 (FitsSigned w32) (chunk (start_of group) 8 c) =
+    Each1-chunk (FitsSigned w32) (start_of group) 8 c (Each1-from_get_or (FitsSigned w32) c (pos 0) (λ k b. longs k)) in
     record {
       eight = length-zip2 int_max tops (chunk (start_of group) 8 c) (h.eight ∙ sym long) ∙ h.eight;
       longs = max_all_fit tops (chunk (start_of group) 8 c) h.longs row;
@@ -144,12 +151,14 @@ tops_next c tops group l longs h =
 
 -- ---- the greatest lane
 
+-- the top of the lanes so far
 pub record IsTopLane (c tops : List ℤ) (top : ℤ) (lane : ℕ) : Type 0 where
   pub not_negative : pos 0 ≤ℤ top
   pub bound : (j : ℕ) → j < lane → entry tops j ≤ℤ top
   pub reached : Reached c top
 
-pub lane_next : (c tops : List ℤ) (best : ℤ) (lane group : ℕ) (next : ℤ) → lane < 8 → AreTops c tops group → IsTopLane c tops best lane → next ≡ int_max best (entry tops lane) →
+pub lane_next : (c tops : List ℤ) (best : ℤ) (lane group : ℕ) (next : ℤ) → lane < 8 → AreTops c tops group → IsTopLane c tops best lane →
+    next ≡ int_max best (entry tops lane) →
     IsTopLane c tops next (lane + 1)
 lane_next c tops best lane group next l h t e =
     let both = max_bounds best (entry tops lane) in
@@ -185,7 +194,9 @@ top_is c tops best lane group l m h t = record { not_negative = t.not_negative; 
 
 -- ---- what is filled stays in range
 
-pub set_fits : (xs : List ℤ) (i : ℕ) (x : ℤ) → i < length xs → FitsSigned w32 x → ((k : ℕ) → FitsSigned w32 (get_or xs k (pos 0))) → (k : ℕ) → FitsSigned w32 (get_or (set xs i x) k (pos 0))
+-- a list of longs with one of them set
+pub set_fits : (xs : List ℤ) (i : ℕ) (x : ℤ) → i < length xs → FitsSigned w32 x → ((k : ℕ) → FitsSigned w32 (get_or xs k (pos 0))) → (k : ℕ) →
+    FitsSigned w32 (get_or (set xs i x) k (pos 0))
 set_fits xs i x l f h k = elim (cases_eq k i) [
   | inl e ↦ subst (λ j. FitsSigned w32 (get_or (set xs i x) j (pos 0))) (sym e) (subst (FitsSigned w32) (sym (get_or-set_same xs i x (pos 0) l)) f)
   | inr n ↦ subst (FitsSigned w32) (sym (get_or-set_other xs i k x (pos 0) n)) (h k)

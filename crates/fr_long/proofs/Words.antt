@@ -1,24 +1,18 @@
 -- Residuals that are kept are words.
-use Rattle.std.proofs.Common.{ℕ, ℤ, ◌+◌, ◌-◌, ◌≤◌, pos, negsuc, ◌+ℤ◌, FitsSigned, w16, List, ◌++◌, length, drop, map, replicate, inl, inr, arith, refl}
+use Rattle.std.proofs.Common.{ℕ, ℤ, ◌+◌, ◌-◌, ◌≤◌, pos, FitsSigned, w16, List, ◌++◌, length, drop, map, replicate, inl, inr, arith, refl}
 use Rattle.std.specs.List.{range_with_len}
 use Rattle.std.proofs.lemmas.Int.{ints}
 use Rattle.std.proofs.lemmas.Bool.{cases_lt}
 use Rattle.std.proofs.lemmas.List.{length-replicate, get_or_past, get_or-replicate, get_or-drop, get_or_append_left, get_or-append_right}
 use Rattle.std.proofs.lemmas.List.FromFn.{length-map-range_with_len, get_or-map-range_with_len}
-use Rattle.trau_num.specs.Num.{add_of, clamp16, entry}
+use Rattle.trau_num.specs.Num.{add_of, entry}
+use Rattle.trau_num.proofs.Clamped.{add_word}
 use Rattle.fr_long.specs.Lag.{AreWords}
 use Rattle.fr_long.specs.Prediction.{reconstructed_of}
 
+-- behind its end a list has zeros
 past_end : (xs : List ℤ) (k : ℕ) → length xs ≤ k → FitsSigned w16 (entry xs k)
 past_end xs k h = rw (get_or_past xs k (pos 0) h) (omega (arith, ints))
-
-clamp_fits : (z : ℤ) → FitsSigned w16 (clamp16 z)
-clamp_fits (pos n) = omega (arith, ints)
-clamp_fits (negsuc n) = omega (arith, ints)
-
-sum_fits : (a b : ℤ) → FitsSigned w16 (add_of a b)
-unfolding add_of
-sum_fits a b = clamp_fits (a +ℤ b)
 
 pub zeros-words : (n : ℕ) → AreWords (replicate n (pos 0))
 zeros-words n = λ k. elim (cases_lt k n) [
@@ -29,7 +23,7 @@ zeros-words n = λ k. elim (cases_lt k n) [
 reconstructed-words : (dpp ep : List ℤ) → AreWords (reconstructed_of dpp ep)
 unfolding reconstructed_of
 reconstructed-words dpp ep = λ k. elim (cases_lt k 40) [
-  | inl b ↦ rw (get_or-map-range_with_len (λ j. add_of (entry ep j) (entry dpp j)) 0 40 k k (pos 0) b (omega arith)) (sum_fits (entry ep k) (entry dpp k))
+  | inl b ↦ rw (get_or-map-range_with_len (λ j. add_of (entry ep j) (entry dpp j)) 0 40 k k (pos 0) b (omega arith)) (add_word (entry ep k) (entry dpp k))
   | inr b ↦
       let long = length-map-range_with_len {X = ℤ} (λ j. add_of (entry ep j) (entry dpp j)) 0 40 in
       past_end (map (λ j. add_of (entry ep j) (entry dpp j)) (range_with_len 0 40)) k (omega arith)

@@ -21,16 +21,16 @@ abbrev pub is_within : ℤ → ℤ → ℕ → Bool
 is_within r s bc = int_le r (mult_of s (entry decision_levels bc))
 
 -- the least of 0, 1 and 2 within whose level R lies, or 3 where there is none
-unfoldable pub code_of_words : ℤ → ℤ → ℕ
-code_of_words r s = if is_within r s 0 then 0 else if is_within r s 1 then 1 else if is_within r s 2 then 2 else 3
+unfoldable pub gain_code_of_words : ℤ → ℤ → ℕ
+gain_code_of_words r s = if is_within r s 0 then 0 else if is_within r s 1 then 1 else if is_within r s 2 then 2 else 3
 
 -- the upper 16 bits of a long word shifted up
 unfoldable pub high_word_of : ℤ → ℕ → ℤ
 high_word_of v shifts = floor_shr (v *ℤ pos (2 ^ shifts)) 16
 
 -- bc, of L_max and L_power: both are shifted up by the norm of L_power, and compared by their upper words
-unfoldable pub code_of : ℤ → ℤ → ℕ
-code_of l_max l_power =
+unfoldable pub gain_code_of : ℤ → ℤ → ℕ
+gain_code_of l_max l_power =
     if int_le l_max (pos 0) then 0
     else if int_le l_power l_max then 3
-    else let shifts = norm_of (unsigned_abs l_power) in code_of_words (high_word_of l_max shifts) (high_word_of l_power shifts)
+    else let shifts = norm_of (unsigned_abs l_power) in gain_code_of_words (high_word_of l_max shifts) (high_word_of l_power shifts)

@@ -1,7 +1,9 @@
 pub mod Gain
 pub mod GainCode
 pub mod Lag
-pub mod Memory
-pub mod Prediction
 pub mod Scaling
 pub mod Synthesis
+pub mod Prediction
+pub mod Memory
+pub mod Step
+pub mod Stands

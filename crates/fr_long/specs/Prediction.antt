@@ -1,22 +1,21 @@
 -- The prediction of a block, and the residual that is reconstructed after it (GSM 06.10, sections 4.2.11, 4.2.12 and 4.2.18).
-use Rattle.std.specs.Prelude.{◌≡◌, ℕ, ◌-◌, ℤ, pos, List, ◌++◌, map, drop, replicate}
+use Rattle.std.specs.Prelude.{ℕ, ◌-◌, ◌≡◌, ℤ, List, map}
+use Rattle.fr_long.specs.Synthesis.{sample_before}
 use Rattle.std.specs.List.{range_with_len}
 use Rattle.trau_num.specs.Num.{add_of, sub_of, mult_r_of, floor_shr, entry}
 use Rattle.fr_long.specs.Gain.{gain_of}
-use Rattle.fr_long.specs.Synthesis.{sample_before}
-use Rattle.fr_long.specs.Memory.{last_120}
-use Rattle.fr_long.specs.Scaling.{scaling_of, scaled_down}
+use Rattle.fr_long.specs.Scaling.{block_scaling_of, scaled_block}
 use Rattle.fr_long.specs.declared.ltp.Ltp.{Ltp}
 use Rattle.fr_long.specs.Lag.{correlation_of, lag_of, IsLag, greatest_of}
-use Rattle.fr_long.specs.GainCode.{power_of, code_of}
+use Rattle.fr_long.specs.GainCode.{power_of, gain_code_of}
 
 -- the correlation of a block at each lag, the block shifted down by scal
 abbrev pub correlation_of_block : List ℤ → List ℤ → ℕ → ℤ
-correlation_of_block d earlier = correlation_of (scaled_down d (scaling_of d)) earlier
+correlation_of_block d earlier = correlation_of (scaled_block d (block_scaling_of d)) earlier
 
 -- L_max: the greatest correlation, or 0 where none is positive, shifted down by 6 - scal
 abbrev pub l_max_of : List ℤ → List ℤ → ℕ → ℤ
-l_max_of d earlier nc = floor_shr (greatest_of (correlation_of_block d earlier) nc) (6 - scaling_of d)
+l_max_of d earlier nc = floor_shr (greatest_of (correlation_of_block d earlier) nc) (6 - block_scaling_of d)
 
 -- dpp[0] to dpp[39]: the gain times the residual that lies a lag before
 unfoldable pub predicted_of : List ℤ → ℕ → ℕ → List ℤ
@@ -34,36 +33,24 @@ pub record Prediction : Type 0 where
   pub e : List ℤ
 
 -- the same of what the encoder gives
-abbrev pub fields_of : Ltp → Prediction
-fields_of ltp = record { nc = ltp.nc; bc = ltp.bc; dpp = ltp.dpp; e = ltp.e }
+abbrev pub fields_of_ltp : Ltp → Prediction
+fields_of_ltp ltp = record { nc = ltp.nc; bc = ltp.bc; dpp = ltp.dpp; e = ltp.e }
 
 -- the prediction of block d after the earlier residuals
 unfoldable pub prediction_of : List ℤ → List ℤ → Prediction
 prediction_of d earlier =
     let nc = lag_of (correlation_of_block d earlier) in
-    let bc = code_of (l_max_of d earlier nc) (power_of earlier nc) in
+    let bc = gain_code_of (l_max_of d earlier nc) (power_of earlier nc) in
     let dpp = predicted_of earlier nc bc in
     record { nc = nc; bc = bc; dpp = dpp; e = rest_of d dpp }
 
 -- the same as a property of a prediction
 pub record IsPrediction (d earlier : List ℤ) (p : Prediction) : Type 0 where
   pub lag : IsLag (correlation_of_block d earlier) p.nc
-  pub gain : p.bc ≡ code_of (l_max_of d earlier p.nc) (power_of earlier p.nc)
+  pub gain : p.bc ≡ gain_code_of (l_max_of d earlier p.nc) (power_of earlier p.nc)
   pub predicted : p.dpp ≡ predicted_of earlier p.nc p.bc
   pub rest : p.e ≡ rest_of d p.dpp
 
 -- dp[0] to dp[39]: the pulses of a block, and its prediction
 unfoldable pub reconstructed_of : List ℤ → List ℤ → List ℤ
 reconstructed_of dpp ep = map (λ k. add_of (entry ep k) (entry dpp k)) (range_with_len 0 40)
-
--- the last 120 residuals after one block more
-unfoldable pub updated : List ℤ → List ℤ → List ℤ → List ℤ
-updated residuals dpp ep = drop 40 residuals ++ reconstructed_of dpp ep
-
--- all earlier residuals, the oldest first, after 120 zeros
-abbrev pub after_zeros : List ℤ → List ℤ
-after_zeros past = replicate 120 (pos 0) ++ past
-
--- the residuals kept are the last 120 of all earlier ones
-pub record HistoryStands (past residuals : List ℤ) : Type 0 where
-  pub residuals_are : residuals ≡ last_120 (after_zeros past)

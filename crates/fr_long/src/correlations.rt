@@ -26,7 +26,7 @@ pub fn correlate(wt: &[i16; 40], past: &[i16; 120]) -> [i32; 81]
     correlations(wt, &copied(past))
 }
 
-/// The residuals, read one by one, each of which is so known to be a word.
+// The residuals, read one by one, each of which is so known to be a word.
 fn copied(past: &[i16; 120]) -> [i16; 120]
     ensures value { result ≡ past.now }
     ensures words { AreWords result }
@@ -56,10 +56,10 @@ pub(crate) fn correlations(wt: &[i16; 40], earlier: &[i16; 120]) -> [i32; 81]
     all
 }
 
-/// Half of the correlations at four lags, from `lag` on.
-///
-/// It stays a call of its own: within a loop over the lags, the compiler would widen the block once before
-/// the loop, and then no longer find products of 16 bits.
+// Half of the correlations at four lags, from `lag` on.
+//
+// It isn't inlined: within a loop over the lags, the compiler would widen the block once before
+// the loop, and then no longer find products of 16 bits.
 #[inline(never)]
 fn four(wt: &[i16; 40], earlier: &[i16; 120], lag: u8) -> i32x4
     requires scaled { AreScaled wt.now }
@@ -79,7 +79,7 @@ fn four(wt: &[i16; 40], earlier: &[i16; 120], lag: u8) -> i32x4
     both(front, back)
 }
 
-/// Four sums of ten products each, which are together half of the correlation at a lag.
+// Four sums of ten products each, which are together half of the correlation at a lag.
 fn lag_sums(wt: &[i16; 40], earlier: &[i16; 120], lag: u8) -> i32x4
     requires scaled { AreScaled wt.now }
     requires words { AreWords earlier.now }
@@ -98,7 +98,7 @@ fn lag_sums(wt: &[i16; 40], earlier: &[i16; 120], lag: u8) -> i32x4
     halves
 }
 
-/// The eight samples from place `at` on.
+// The eight samples from place `at` on.
 fn eight(samples: &[i16], at: usize) -> i32x8
     requires place { at + 8 ≤ length samples.now }
     requires words { AreWords samples.now }
@@ -108,7 +108,7 @@ fn eight(samples: &[i16], at: usize) -> i32x8
     wide(i16x8::from_slice(&samples[at..]))
 }
 
-/// The sums of neighbouring lanes of one vector, and then of another.
+// The sums of neighbouring lanes of one vector, and then of another.
 fn both(a: i32x4, b: i32x4) -> i32x4
     requires length_a { length a ≡ 4 }
     requires length_b { length b ≡ 4 }

@@ -29,7 +29,9 @@ impl Model for LtpDecoder {
 }
 
 impl LtpDecoder {
-    ghost use Rattle.fr_long.specs.Memory.{home_memory, synthesised, Stands};
+    ghost use Rattle.fr_long.specs.Memory.{home_memory};
+    ghost use Rattle.fr_long.specs.Step.{synthesised};
+    ghost use Rattle.fr_long.specs.Stands.{Stands};
 
     /// The home state, before any block.
     #[tactic(auto, unfolding(crate::specs::Synthesis::lag_in_force, crate::specs::Synthesis::residuals_of))]
@@ -46,7 +48,7 @@ impl LtpDecoder {
     /// The reconstructed residual of the next block, 40 samples of 16 bits: its lag `nc` of 7 bits, its
     /// coded gain `bc` of 2 bits, and its pulses `erp`. A lag that no encoder sends gives way to the last
     /// used one.
-    #[tactic(auto, unfolding(crate::specs::Memory::synthesised))]
+    #[tactic(auto, unfolding(crate::specs::Step::synthesised))]
     pub fn synth(&mut self, nc: u8, bc: u8, erp: &[i16; 40]) -> [i16; 40]
         requires lag { nc ≤ 127 }
         requires gain { bc ≤ 3 }
@@ -61,7 +63,7 @@ impl LtpDecoder {
     }
 }
 
-/// The lag of a block.
+// The lag of a block.
 fn usable_lag(nc: u8, last: u8) -> u8
     requires at_least { 40 ≤ last }
     requires at_most { last ≤ 120 }
@@ -72,7 +74,7 @@ fn usable_lag(nc: u8, last: u8) -> u8
     if 40 <= nc && nc <= 120 { nc } else { last }
 }
 
-/// The residual of a block after the last 120.
+// The residual of a block after the last 120.
 fn reconstructed(earlier: &[i16; 120], lag: u8, bc: u8, erp: &[i16; 40]) -> [i16; 40]
     requires at_least { 40 ≤ lag }
     requires at_most { lag ≤ 120 }

@@ -35,7 +35,9 @@ impl Model for LtpHistory {
 impl LtpHistory {
     ghost use Rattle.std.specs.Prelude.{pos, [], ◌++◌, replicate};
     ghost use Rattle.fr_long.specs.Lag.{lag_of};
-    ghost use Rattle.fr_long.specs.Prediction.{correlation_of_block, prediction_of, fields_of, IsPrediction, updated, after_zeros, HistoryStands};
+    ghost use Rattle.fr_long.specs.Prediction.{correlation_of_block, prediction_of, fields_of_ltp, IsPrediction};
+    ghost use Rattle.fr_long.specs.Step.{updated};
+    ghost use Rattle.fr_long.specs.Stands.{after_zeros, HistoryStands};
 
     /// The home state, before any block.
     pub fn home() -> Self
@@ -49,10 +51,10 @@ impl LtpHistory {
     /// prediction, and what is left to be coded.
     pub fn predict(&self, d: &[i16; 40]) -> Ltp
         ensures lag { result.nc ≡ lag_of (correlation_of_block d.now self.now) }
-        ensures step { fields_of result ≡ prediction_of d.now self.now }
-        ensures prediction { IsPrediction d.now self.now (fields_of result) }
+        ensures step { fields_of_ltp result ≡ prediction_of d.now self.now }
+        ensures prediction { IsPrediction d.now self.now (fields_of_ltp result) }
         ensures history { (past : List ℤ) → HistoryStands past self.now →
-            (fields_of result ≡ prediction_of d.now (after_zeros past)) × IsPrediction d.now (after_zeros past) (fields_of result) }
+            (fields_of_ltp result ≡ prediction_of d.now (after_zeros past)) × IsPrediction d.now (after_zeros past) (fields_of_ltp result) }
     {
         let peak = peak(d);
         let scal = scaling(peak);
@@ -70,7 +72,7 @@ impl LtpHistory {
     }
 
     /// Takes in a coded block: its prediction `dpp`, and its pulses `ep` as a decoder has them.
-    #[tactic(auto, unfolding(crate::specs::Prediction::updated))]
+    #[tactic(auto, unfolding(crate::specs::Step::updated))]
     pub fn update(&mut self, dpp: &[i16; 40], ep: &[i16; 40])
         ensures step { self.new ≡ updated self.old dpp.now ep.now }
         ensures history { (past : List ℤ) → HistoryStands past self.old →
@@ -80,7 +82,7 @@ impl LtpHistory {
     }
 }
 
-/// The prediction of a block.
+// The prediction of a block.
 fn predicted(earlier: &[i16; 120], nc: u8, bc: u8) -> [i16; 40]
     requires at_least { 40 ≤ nc }
     requires at_most { nc ≤ 120 }
@@ -96,7 +98,7 @@ fn predicted(earlier: &[i16; 120], nc: u8, bc: u8) -> [i16; 40]
     dpp
 }
 
-/// A block less its prediction.
+// A block less its prediction.
 fn rest(d: &[i16; 40], dpp: &[i16; 40]) -> [i16; 40]
     ensures { result ≡ rest_of d.now dpp.now }
 {
@@ -107,7 +109,7 @@ fn rest(d: &[i16; 40], dpp: &[i16; 40]) -> [i16; 40]
     e
 }
 
-/// The residual of a coded block, as a decoder reconstructs it.
+// The residual of a coded block, as a decoder reconstructs it.
 fn reconstructed(dpp: &[i16; 40], ep: &[i16; 40]) -> [i16; 40]
     ensures { result ≡ reconstructed_of dpp.now ep.now }
 {

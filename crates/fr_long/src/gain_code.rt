@@ -2,7 +2,7 @@
 
 ghost use Rattle.std.specs.Prelude.{◌≡◌, ℕ, ◌*◌, ◌^◌, ◌<◌, ◌≤◌, pos, ◌≤ℤ◌, unsigned_abs, IsTrue, ◌↔◌, ◌-◌};
 ghost use Rattle.trau_num.specs.Num.{floor_shr};
-ghost use Rattle.fr_long.specs.GainCode.{is_within, code_of_words, high_word_of, code_of};
+ghost use Rattle.fr_long.specs.GainCode.{is_within, gain_code_of_words, high_word_of, gain_code_of};
 
 use trau_num::{mult, norm};
 
@@ -19,9 +19,9 @@ pub(crate) fn unscaled(correlation: i32, scal: u8) -> i32
 }
 
 /// The coded gain, 2 bits, of the greatest correlation and the energy of the residuals there.
-#[tactic(auto, unfolding(crate::specs::GainCode::code_of))]
+#[tactic(auto, unfolding(crate::specs::GainCode::gain_code_of))]
 pub(crate) fn gain_code(l_max: i32, l_power: i32) -> u8
-    ensures value { result ≡ code_of l_max l_power }
+    ensures value { result ≡ gain_code_of l_max l_power }
     ensures fits { result ≤ 3 }
 {
     if l_max <= 0 {
@@ -34,9 +34,9 @@ pub(crate) fn gain_code(l_max: i32, l_power: i32) -> u8
     code_by_words(high_word(l_max, shifts), high_word(l_power, shifts))
 }
 
-#[tactic(auto, unfolding(crate::specs::GainCode::code_of_words))]
+#[tactic(auto, unfolding(crate::specs::GainCode::gain_code_of_words))]
 fn code_by_words(r: i16, s: i16) -> u8
-    ensures value { result ≡ code_of_words r s }
+    ensures value { result ≡ gain_code_of_words r s }
     ensures fits { result ≤ 3 }
 {
     if is_within_level(r, s, 0) {
@@ -50,7 +50,7 @@ fn code_by_words(r: i16, s: i16) -> u8
     }
 }
 
-/// Whether the first word lies within the level of a code.
+// Whether the first word lies within the level of a code.
 fn is_within_level(r: i16, s: i16, bc: u8) -> bool
     requires { bc < 3 }
     ensures { result ≡ is_within r s bc }
@@ -58,7 +58,7 @@ fn is_within_level(r: i16, s: i16, bc: u8) -> bool
     r <= mult(s, DECISION_LEVELS[bc as usize])
 }
 
-/// The upper 16 bits of a long word shifted up, where that leaves it below 2^31.
+// The upper 16 bits of a long word shifted up, where that leaves it below 2^31.
 #[tactic(auto, unfolding(crate::specs::GainCode::high_word_of))]
 fn high_word(v: i32, shifts: u8) -> i16
     requires not_negative { pos 0 ≤ℤ v }

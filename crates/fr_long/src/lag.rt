@@ -40,9 +40,9 @@ pub(crate) fn search(wt: &[i16; 40], earlier: &[i16; 120]) -> Best
     }
 }
 
-/// The greatest of the correlations, or 0 where none is positive.
-///
-/// Eight at a time; the last eight begin seven places early, and so have seven that were there before.
+// The greatest of the correlations, or 0 where none is positive.
+//
+// Eight at a time; the last eight begin seven places early, and so have seven that were there before.
 fn greatest(correlations: &[i32; 81]) -> i32
     requires { (k : ℕ) → FitsSigned w32 (entry correlations.now k) }
     ensures { IsTop correlations.now 81 result }
@@ -59,7 +59,7 @@ fn greatest(correlations: &[i32; 81]) -> i32
     top
 }
 
-/// The eight correlations from place `at` on.
+// The eight correlations from place `at` on.
 fn eight(correlations: &[i32], at: usize) -> i32x8
     requires place { at + 8 ≤ length correlations.now }
     requires longs { (k : ℕ) → FitsSigned w32 (entry correlations.now k) }
@@ -69,7 +69,7 @@ fn eight(correlations: &[i32], at: usize) -> i32x8
     i32x8::from_slice(&correlations[at..])
 }
 
-/// The greater of each two lanes.
+// The greater of each two lanes.
 fn greater(a: i32x8, b: i32x8) -> i32x8
     requires length_a { length a ≡ 8 }
     requires length_b { length b ≡ 8 }
@@ -80,7 +80,7 @@ fn greater(a: i32x8, b: i32x8) -> i32x8
     a.simd_max(b)
 }
 
-/// The first place of a value that is there.
+// The first place of a value that is there.
 fn first_at(correlations: &[i32; 81], value: i32) -> u8
     requires { (place : ℕ) × (place < 81) × (entry correlations.now place ≡ value) }
     ensures below { result < 81 }

@@ -10,9 +10,10 @@
 //! short-term synthesis takes the reconstructed residual from there. Both use the gains of `gain` and the
 //! `memory` of 120 samples. `laws` says that a block has one lag and one prediction.
 //!
-//! Definitions: `specs/Prediction.antt` is what the encoder answers and keeps, made of `specs/Scaling.antt`,
-//! `specs/Lag.antt` and `specs/GainCode.antt`; `specs/Synthesis.antt` is the decoder over all blocks from
-//! home, `specs/Memory.antt` from block to block; `specs/Gain.antt` has the gains.
+//! Definitions: `specs/Prediction.antt` is what the encoder answers, made of `specs/Scaling.antt`, `specs/Lag.antt` and
+//! `specs/GainCode.antt`; `specs/Synthesis.antt` is the decoder over all blocks from home; `specs/Memory.antt`,
+//! `specs/Step.antt` and `specs/Stands.antt` are what each keeps, one block, and what that stands for; `specs/Gain.antt`
+//! has the gains.
 #![tactic(auto)]
 
 mod correlations;

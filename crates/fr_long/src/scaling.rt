@@ -5,13 +5,13 @@
 
 ghost use Rattle.std.specs.Prelude.{◌≡◌, ℕ, ◌*◌, ◌^◌, ◌<◌, ◌≤◌, pos, ◌≤ℤ◌, unsigned_abs};
 ghost use Rattle.trau_num.specs.Num.{abs_of, entry};
-ghost use Rattle.fr_long.specs.Scaling.{peak_of, scaling_of_peak, scaled_down, AreScaled};
+ghost use Rattle.fr_long.specs.Scaling.{block_peak_of, scaling_of_block_peak, scaled_block, AreScaled};
 
 use trau_num::{abs16, norm};
 
 /// The greatest magnitude of a block.
 pub(crate) fn peak(d: &[i16; 40]) -> i16
-    ensures value { result ≡ peak_of d.now }
+    ensures value { result ≡ block_peak_of d.now }
     ensures not_negative { pos 0 ≤ℤ result }
     ensures greatest { (k : ℕ) → k < 40 → abs_of (entry d.now k) ≤ℤ result }
 {
@@ -23,10 +23,10 @@ pub(crate) fn peak(d: &[i16; 40]) -> i16
 }
 
 /// By how many places a block of this peak is shifted down.
-#[tactic(auto, unfolding(crate::specs::Scaling::scaling_of_peak))]
+#[tactic(auto, unfolding(crate::specs::Scaling::scaling_of_block_peak))]
 pub(crate) fn scaling(peak: i16) -> u8
     requires { pos 0 ≤ℤ peak }
-    ensures value { result ≡ scaling_of_peak (unsigned_abs peak) }
+    ensures value { result ≡ scaling_of_block_peak (unsigned_abs peak) }
     ensures at_most_6 { result ≤ 6 }
     ensures room { unsigned_abs peak < 512 * 2 ^ result }
 {
@@ -41,7 +41,7 @@ pub(crate) fn scaled(d: &[i16; 40], peak: i16, scal: u8) -> [i16; 40]
     requires peak { (k : ℕ) → k < 40 → abs_of (entry d.now k) ≤ℤ peak }
     requires at_most_6 { scal ≤ 6 }
     requires room { unsigned_abs peak < 512 * 2 ^ scal }
-    ensures value { result ≡ scaled_down d.now scal }
+    ensures value { result ≡ scaled_block d.now scal }
     ensures scaled { AreScaled result }
 {
     let mut wt = [0; 40];

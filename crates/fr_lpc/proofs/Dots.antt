@@ -12,9 +12,11 @@ use Rattle.trau_lanes.proofs.LaneDots.{Within, products_within, sums_within, lan
 use Rattle.fr_lpc.specs.Scaling.{AreWithin}
 use Rattle.fr_lpc.proofs.Energy.{plain_sum}
 
+-- each sample is at most 2048
 abbrev pub AreSmall : List ℤ → Type 0
 AreSmall xs = (k : ℕ) → Within 2048 (get_or xs k (pos 0))
 
+-- eight of them, as words and as longs
 pub small_chunk : (xs : List ℤ) (i : ℕ) → AreSmall xs → Each1 (Within 2048) (chunk i 8 xs)
 small_chunk xs i h = Each1-chunk (Within 2048) i 8 xs (Each1-from_get_or (Within 2048) xs (pos 0) (λ k b. h k))
 
@@ -32,7 +34,9 @@ samples_small s h k =
       | inr g ↦ subst (Within 2048) (sym (get_or_past s k (pos 0) g)) (omega arith)
     ]
 
-pub past_small : (s past : List ℤ) → length past ≡ 168 → AreWithin 2048 s → ((i : ℕ) → i < 8 → entry past i ≡ pos 0) → ((i : ℕ) → i < 160 → entry past (8 + i) ≡ entry s i) → AreSmall past
+-- with eight zeros in front they stay so
+pub past_small : (s past : List ℤ) → length past ≡ 168 → AreWithin 2048 s → ((i : ℕ) → i < 8 → entry past i ≡ pos 0) →
+    ((i : ℕ) → i < 160 → entry past (8 + i) ≡ entry s i) → AreSmall past
 past_small s past l h z e k =
     elim (cases_lt k 8) [
       | inl a ↦ subst (Within 2048) (sym (z k a)) (omega arith)
@@ -44,13 +48,16 @@ past_small s past l h z e k =
       ]
     ]
 
--- what a call is passed
+-- what a function is passed
 pub passed : (xs ys : List ℤ) (i : ℕ) → AreSmall ys → xs ≡ chunk i 8 ys → map (to_z w32) (map (of_z w32) xs) ≡ chunk i 8 ys
 passed xs ys i h e = lanes_passed 2048 xs (chunk i 8 ys) (lit≤ tt) (small_chunk ys i h) e
 
+-- eight of them are passed within a bound
 pub passed_within : (m : ℕ) (xs ys : List ℤ) (i : ℕ) → 2048 ≤ m → AreSmall ys → xs ≡ chunk i 8 ys → Each1 (Within m) (map (to_z w32) (map (of_z w32) xs))
-passed_within m xs ys i l h e = subst (Each1 (Within m)) (sym (passed xs ys i h e)) (Each1-weaker (Within 2048) (Within m) (λ x b. omega arith) (chunk i 8 ys) (small_chunk ys i h))
+passed_within m xs ys i l h e =
+    subst (Each1 (Within m)) (sym (passed xs ys i h e)) (Each1-weaker (Within 2048) (Within m) (λ x b. omega arith) (chunk i 8 ys) (small_chunk ys i h))
 
+-- eight products of a row, as numbers and as they are passed
 pub row_within : (s past : List ℤ) (i at : ℕ) → AreSmall s → AreSmall past → Each1 (Within 4194304) (row s past i at)
 row_within s past i at a b = products_within 2048 2048 (chunk i 8 s) (chunk at 8 past) (small_chunk s i a) (small_chunk past at b)
 
@@ -59,7 +66,9 @@ pub row_passed : (s past xs ys ps : List ℤ) (i at : ℕ) → AreSmall s → Ar
 row_passed s past xs ys ps i at a b ex ey ep =
     lanes_passed 4194304 ps (row s past i at) (lit≤ tt) (row_within s past i at a b) (ep ∙ (λ j. zip2 ◌*ℤ◌ (passed xs s i a ex j) (passed ys past at b ey j)))
 
-pub next_within : (n : ℕ) (sums ps : List ℤ) → Each1 (Within (8388608 * n)) sums → Each1 (Within 8388608) ps → Each1 (Within (8388608 * (n + 1))) (zip2 ◌+ℤ◌ sums ps)
+-- one row more in the sums
+pub next_within : (n : ℕ) (sums ps : List ℤ) → Each1 (Within (8388608 * n)) sums → Each1 (Within 8388608) ps →
+    Each1 (Within (8388608 * (n + 1))) (zip2 ◌+ℤ◌ sums ps)
 next_within n sums ps a b =
     let e : 8388608 * n + 8388608 ≡ 8388608 * (n + 1) = omega arith in
     subst (λ m. Each1 (Within m) (zip2 ◌+ℤ◌ sums ps)) e (sums_within (8388608 * n) 8388608 sums ps a b)
@@ -71,6 +80,7 @@ next_passed n sums ps qs rs m a b eq er =
 
 -- ---- the plain sum
 
+-- sums over a range by terms that agree, or that are 0
 same_range : (g f : ℕ → ℤ) (a n : ℕ) → ((i : ℕ) → a ≤ i → i < a + n → g i ≡ f i) → map g (range_with_len a n) ≡ map f (range_with_len a n)
 same_range g f a zero h = refl
 same_range g f a (suc n) h = (λ j. h a (omega arith) (omega arith) j ∷ same_range g f (a + 1) n (λ i l m. h i (omega arith) (omega arith)) j)
@@ -102,4 +112,5 @@ is_plain s past k l z e =
 
 -- the sum of four lanes
 pub four_sum : (p : List ℤ) → length p ≡ 4 → get_or p 0 (pos 0) +ℤ get_or p 1 (pos 0) +ℤ get_or p 2 (pos 0) +ℤ get_or p 3 (pos 0) ≡ fold ◌+ℤ◌ (pos 0) p
-four_sum p l = by_four (λ p. get_or p 0 (pos 0) +ℤ get_or p 1 (pos 0) +ℤ get_or p 2 (pos 0) +ℤ get_or p 3 (pos 0) ≡ fold ◌+ℤ◌ (pos 0) p) (λ a b c d. omega (arith, ints)) p l
+four_sum p l = by_four (λ p. get_or p 0 (pos 0) +ℤ get_or p 1 (pos 0) +ℤ get_or p 2 (pos 0) +ℤ get_or p 3 (pos 0) ≡ fold ◌+ℤ◌ (pos 0) p)
+    (λ a b c d. omega (arith, ints)) p l

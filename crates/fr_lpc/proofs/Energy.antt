@@ -8,7 +8,8 @@ use Rattle.std.proofs.lemmas.List.FromFn.{map-range_with_len_more}
 use Rattle.std.proofs.lemmas.List.Sums.{fold-append}
 use Rattle.trau_num.specs.Num.{clamp32, l_mult_of, entry}
 use Rattle.fr_lpc.specs.Scaling.{AreWithin}
-use Rattle.fr_lpc.specs.Autocorrelation.{autocorrelation_of, sum_of_products}
+use Rattle.fr_lpc.specs.Autocorrelation.{autocorrelation_of, plain_autocorrelation}
+use Rattle.trau_lanes.proofs.LaneDots.{doubled_sum}
 
 -- twice a small product isn't clamped
 pub unclamped : (a b z : ℤ) → z ≡ a *ℤ b → unsigned_abs z ≤ 4194304 → l_mult_of a b ≡ z *ℤ pos 2
@@ -25,6 +26,7 @@ small_product a b g h = rw unsigned_abs-mul (omega (arith, mul-le-mul g h))
 pub sum_more : (f : ℕ → ℤ) (a n : ℕ) → fold ◌+ℤ◌ (pos 0) (map f (range_with_len a (n + 1))) ≡ fold ◌+ℤ◌ (pos 0) (map f (range_with_len a n)) +ℤ f (a + n)
 sum_more f a n = ap (fold ◌+ℤ◌ (pos 0)) (map-range_with_len_more f a n (a + n) refl) ∙ fold-append ◌+ℤ◌ (pos 0) (map f (range_with_len a n)) (f (a + n) ∷ [])
 
+-- the square of a sample, and the sum of several
 square : ℤ → ℕ
 square x = unsigned_abs x * unsigned_abs x
 
@@ -43,6 +45,7 @@ energy_le s m (suc n) =
     let e : m + suc n ≡ m + n + 1 = omega arith in
     rw e (omega (arith, energy_le s m n, energy_more s (m + n)))
 
+-- twice a product is at most the sum of the squares
 ordered : (a d : ℕ) → 2 * (a * (a + d)) ≤ a * a + (a + d) * (a + d)
 ordered a d = omega arith
 
@@ -71,6 +74,7 @@ term_bound a b g h =
     ap unsigned_abs e ∙ unsigned_abs-mul (a *ℤ b) (pos 2) ∙ ap (λ m. m * 2) (unsigned_abs-mul a b) in
     omega (arith, size, means (unsigned_abs a) (unsigned_abs b))
 
+-- a product with itself
 own_square : (a : ℤ) → a *ℤ a ≡ pos (square a)
 unfolding square
 own_square a = grind (arith, ints)
@@ -129,12 +133,6 @@ greatest_first s h k l =
     let front' : energy s (160 - k + k) ≡ energy s 160 = ap (energy s) front in
     omega (arith, ints)
 
--- a sum of halves, doubled
-doubled_sum : (g f : ℕ → ℤ) → ((k : ℕ) → g k *ℤ pos 2 ≡ f k) → (ks : List ℕ) (s t : ℤ) → s *ℤ pos 2 ≡ t →
-    fold ◌+ℤ◌ s (map g ks) *ℤ pos 2 ≡ fold ◌+ℤ◌ t (map f ks)
-doubled_sum g f h [] s t e = e
-doubled_sum g f h (k ∷ ks) s t e = let here = h k in doubled_sum g f h ks (s +ℤ g k) (t +ℤ f k) (omega (arith, ints))
-
 -- half of it, as eight lanes sum it
 abbrev pub plain_sum : List ℤ → ℕ → ℤ
 plain_sum s k = fold ◌+ℤ◌ (pos 0) (map (λ i. entry s i *ℤ entry s (i - k)) (range_with_len k (160 - k)))
@@ -144,12 +142,14 @@ pub plain_doubled : (s : List ℤ) → AreWithin 2048 s → (k : ℕ) → autoco
 unfolding autocorrelation_of
 plain_doubled s h k =
     sym (doubled_sum (λ i. entry s i *ℤ entry s (i - k)) (λ i. l_mult_of (entry s i) (entry s (i - k)))
-    (λ i. sym (unclamped (entry s i) (entry s (i - k)) (entry s i *ℤ entry s (i - k)) refl (small_product (entry s i) (entry s (i - k)) (within_all s h i) (within_all s h (i - k)))))
+    (λ i. sym (unclamped (entry s i) (entry s (i - k)) (entry s i *ℤ entry s (i - k)) refl
+    (small_product (entry s i) (entry s (i - k)) (within_all s h i) (within_all s h (i - k)))))
     (range_with_len k (160 - k)) (pos 0) (pos 0) refl)
 
 -- which is the sum of the doubled products
-pub plainly : (s : List ℤ) → AreWithin 2048 s → (k : ℕ) → autocorrelation_of s k ≡ sum_of_products s k
+pub plainly : (s : List ℤ) → AreWithin 2048 s → (k : ℕ) → autocorrelation_of s k ≡ plain_autocorrelation s k
 unfolding autocorrelation_of
 plainly s h k = λ j.
     fold ◌+ℤ◌ (pos 0)
-    (map (λ i. unclamped (entry s i) (entry s (i - k)) (entry s i *ℤ entry s (i - k)) refl (small_product (entry s i) (entry s (i - k)) (within_all s h i) (within_all s h (i - k))) j) (range_with_len k (160 - k)))
+    (map (λ i. unclamped (entry s i) (entry s (i - k)) (entry s i *ℤ entry s (i - k)) refl
+    (small_product (entry s i) (entry s (i - k)) (within_all s h i) (within_all s h (i - k))) j) (range_with_len k (160 - k)))

@@ -14,6 +14,7 @@ pub record Over (f : ℕ → ℤ) (old xs : List ℤ) (m : ℕ) : Type 0 where
   pub written : (j : ℕ) → j < m → get_or xs j (pos 0) ≡ f j
   pub kept : (j : ℕ) → m ≤ j → get_or xs j (pos 0) ≡ get_or old j (pos 0)
 
+-- one entry more is made anew
 pub over_next : (f : ℕ → ℤ) (old xs : List ℤ) (m : ℕ) (x : ℤ) → m < 9 → Over f old xs m → x ≡ f m → Over f old (set xs m x) (m + 1)
 over_next f old xs m x l h e =
     let count = h.count in
@@ -46,6 +47,7 @@ over_end f old xs m h same =
 pub next_p-within : (p k : List ℤ) (r : ℤ) (left m : ℕ) → 1 ≤ m → m ≤ left → add_of (entry p (m + 1)) (mult_r_of r (entry k m)) ≡ next_p left r p k m
 next_p-within p k r left m a b = grind (arith, common_steps)
 
+-- what the step makes of K within the coefficients that are left, and past them
 pub next_k-within : (p k : List ℤ) (r : ℤ) (left m : ℕ) → 1 ≤ m → m ≤ left → add_of (entry k m) (mult_r_of r (entry p (m + 1))) ≡ next_k left r p k m
 next_k-within p k r left m a b = grind (arith, common_steps)
 

@@ -4,6 +4,7 @@ use Rattle.std.proofs.lemmas.List.{get_or-drop, length-drop, take_more_set, take
 use Rattle.trau_num.specs.Num.{abs_of, entry}
 use Rattle.fr_lpc.specs.Reflection.{coefficient_of, p_after, k_after, coefficients_from}
 
+-- a list of zeros
 all_zeros : (xs : List ℤ) → ((j : ℕ) → get_or xs j (pos 0) ≡ pos 0) → xs ≡ replicate (length xs) (pos 0)
 all_zeros [] h = refl
 all_zeros (x ∷ xs) h =
@@ -16,6 +17,7 @@ stops : (left : ℕ) (p k : List ℤ) → int_lt (entry p 0) (abs_of (entry p 1)
 unfolding coefficients_from
 stops left p k h = rw h refl
 
+-- one coefficient found, and the rest from there
 goes_on : (left : ℕ) (p k : List ℤ) (r : ℤ) → int_lt (entry p 0) (abs_of (entry p 1)) ≡ false → r ≡ coefficient_of (entry p 0) (entry p 1) →
     coefficients_from (suc left) p k ≡ r ∷ coefficients_from left (p_after left r p k) (k_after left r p k)
 unfolding coefficients_from
@@ -44,6 +46,7 @@ found rs p k whole r n l b h e w =
     let front : take (n + 1) (set rs n r) ≡ take n rs ++ r ∷ [] = take_more_set rs n r (omega arith) in
     rw (rest, front) (append_assoc (take n rs) (r ∷ []) _ ∙ ap (λ xs. take n rs ++ xs) (sym more) ∙ w)
 
+-- all eight are found
 pub finished : (rs p k whole : List ℤ) (n : ℕ) → length rs ≡ 8 → 8 ≤ n → take n rs ++ coefficients_from (8 - n) p k ≡ whole → rs ≡ whole
 unfolding coefficients_from
 finished rs p k whole n l b w =

@@ -52,6 +52,7 @@ sample_room x peak most f h p l = omega (arith, ints)
 rounded : (z : ℤ) → unsigned_abs z ≤ 67108864 → unsigned_abs (clamp16 (floor_shr (z +ℤ pos 16384) 15)) ≤ 2048
 rounded z h = grind (arith, ints)
 
+-- a scaled sample is at most 2048
 product : (x : ℤ) (c m : ℕ) → unsigned_abs x ≤ m → m * c ≡ 67108864 → unsigned_abs (mult_r_of x (pos c)) ≤ 2048
 unfolding mult_r_of
 product x c m h e =
@@ -84,7 +85,9 @@ over_all f xs ys i l h =
     let back : drop i xs ≡ [] = drop_all i xs l in
     rw (front, back) at h ∙ append-nil (map f xs)
 
-pub within_map : (f : ℤ → ℤ) (xs ys : List ℤ) (bound : ℕ) → ys ≡ map f xs → ((i : ℕ) → i < length xs → unsigned_abs (f (entry xs i)) ≤ bound) → AreWithin bound ys
+-- a bound of each item of a mapped list
+pub within_map : (f : ℤ → ℤ) (xs ys : List ℤ) (bound : ℕ) → ys ≡ map f xs → ((i : ℕ) → i < length xs → unsigned_abs (f (entry xs i)) ≤ bound) →
+    AreWithin bound ys
 within_map f xs ys bound e h =
     let p : AreWithin bound (map f xs) =
     λ i b.

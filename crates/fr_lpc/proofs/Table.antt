@@ -20,7 +20,8 @@ by_place P a b c d e f g h (suc (suc (suc (suc (suc (suc (suc (suc n)))))))) l =
 -- MIC isn't above MAC
 pub least-most : (i : ℕ) → i < 8 → entry least i ≤ℤ entry most i
 least-most =
-    by_place (λ i. entry least i ≤ℤ entry most i) (record { le = tt }) (record { le = tt }) (record { le = tt }) (record { le = tt }) (record { le = tt }) (record { le = tt }) (record { le = tt }) (record { le = tt })
+    by_place (λ i. entry least i ≤ℤ entry most i) (record { le = tt }) (record { le = tt }) (record { le = tt }) (record { le = tt }) (record { le = tt })
+    (record { le = tt }) (record { le = tt }) (record { le = tt })
 
 -- the values from MIC to MAC are as many as a code of the place's width can tell apart
 pub span : (i : ℕ) → i < 8 → entry most i -ℤ entry least i ≡ pos (2 ^ get_or larc_widths i 0 - 1)
@@ -28,4 +29,5 @@ span = by_place (λ i. entry most i -ℤ entry least i ≡ pos (2 ^ get_or larc_
 
 -- a width is 3 to 6 bits
 pub width_bound : (i : ℕ) → i < 8 → 2 ^ get_or larc_widths i 0 - 1 < 64
-width_bound = by_place (λ i. 2 ^ get_or larc_widths i 0 - 1 < 64) (omega arith) (omega arith) (omega arith) (omega arith) (omega arith) (omega arith) (omega arith) (omega arith)
+width_bound = by_place (λ i. 2 ^ get_or larc_widths i 0 - 1 < 64) (omega arith) (omega arith) (omega arith) (omega arith) (omega arith) (omega arith)
+    (omega arith) (omega arith)

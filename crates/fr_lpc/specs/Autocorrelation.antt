@@ -9,8 +9,8 @@ unfoldable pub autocorrelation_of : List ℤ → ℕ → ℤ
 autocorrelation_of s k = fold ◌+ℤ◌ (pos 0) (map (λ i. l_mult_of (entry s i) (entry s (i - k))) (range_with_len k (160 - k)))
 
 -- the same as a plain sum, which it is where no product is clamped: over i = k to 159 of 2 * s[i] * s[i - k]
-abbrev pub sum_of_products : List ℤ → ℕ → ℤ
-sum_of_products s k = fold ◌+ℤ◌ (pos 0) (map (λ i. entry s i *ℤ entry s (i - k) *ℤ pos 2) (range_with_len k (160 - k)))
+abbrev pub plain_autocorrelation : List ℤ → ℕ → ℤ
+plain_autocorrelation s k = fold ◌+ℤ◌ (pos 0) (map (λ i. entry s i *ℤ entry s (i - k) *ℤ pos 2) (range_with_len k (160 - k)))
 
 -- L_ACF[0] to L_ACF[8]
 unfoldable pub autocorrelations_of : List ℤ → List ℤ

@@ -4,7 +4,7 @@ ghost use Rattle.std.specs.Prelude.{◌≡◌, ℕ, ◌+◌, ◌<◌, ◌≤◌,
 ghost use Rattle.std.specs.Simd.Lanes.{chunk};
 ghost use Rattle.trau_num.specs.Num.{entry};
 ghost use Rattle.fr_lpc.specs.Scaling.{AreWithin};
-ghost use Rattle.fr_lpc.specs.Autocorrelation.{autocorrelation_of, autocorrelations_of, sum_of_products, IsGreatestFirst};
+ghost use Rattle.fr_lpc.specs.Autocorrelation.{autocorrelation_of, autocorrelations_of, plain_autocorrelation, IsGreatestFirst};
 
 use std::simd::prelude::*;
 use trau_lanes::{neighbours, products, sums, wide};
@@ -56,7 +56,7 @@ fn autocorrelation(s: &[i16; 160], past: &[i16; 168], k: usize) -> i32
 pub fn autocorrelate(s: &[i16; 160]) -> [i32; 9]
     requires { AreWithin 2048 s.now }
     ensures value { result ≡ autocorrelations_of s.now }
-    ensures sums { (k : ℕ) → k ≤ 8 → entry result k ≡ sum_of_products s.now k }
+    ensures sums { (k : ℕ) → k ≤ 8 → entry result k ≡ plain_autocorrelation s.now k }
     ensures bound { AreWithin 1342177280 result }
     ensures greatest_first { IsGreatestFirst result }
 {

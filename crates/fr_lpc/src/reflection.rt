@@ -21,7 +21,7 @@ fn high_word(x: i32) -> i16
     (x >> 16) as i16
 }
 
-/// The high words of the autocorrelations, after the left shifts that normalise the first.
+// The high words of the autocorrelations, after the left shifts that normalise the first.
 #[tactic(auto, unfolding(crate::specs::Reflection::normalised))]
 fn normalised(acf: &[i32; 9]) -> [i16; 9]
     requires positive { pos 0 <ℤ entry acf.now 0 }

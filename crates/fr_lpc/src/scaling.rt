@@ -21,7 +21,7 @@ fn greatest_magnitude(s: &[i16; 160]) -> i16
     ensures not_negative { pos 0 ≤ℤ result }
     ensures greatest { (i : ℕ) → i < length s.now → abs_of (entry s.now i) ≤ℤ result }
 
-    // The range of 16 bits, said for a caller that reads no sample itself.
+    // The range of 16 bits, said for a function that reads no sample itself.
     ensures words { AreWithin 32768 s.now }
 {
     let mut most = 0i16;

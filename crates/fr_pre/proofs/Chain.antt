@@ -11,6 +11,7 @@ pub record Chain (before : ℤ) (so offsets : List ℤ) (offset : ℤ) (k : ℕ)
   pub last : offset ≡ get_or (before ∷ offsets) k (pos 0)
   pub last_within : IsOffset offset
 
+-- no offset is made yet
 pub chain_start : (before : ℤ) (so offsets : List ℤ) → length offsets ≡ 160 → IsOffset before → Chain before so offsets before 0
 chain_start before so offsets l o = record {
   count = l;
@@ -25,6 +26,7 @@ kept : (before : ℤ) (offsets : List ℤ) (k j : ℕ) (y : ℤ) → j < k + 1 �
 kept before offsets k zero y h = refl
 kept before offsets k (suc j) y h = get_or-set_other offsets k j y (pos 0) (omega (arith, h))
 
+-- one offset more
 pub chain_next : (before : ℤ) (so offsets : List ℤ) (offset : ℤ) (k : ℕ) (so_k y : ℤ) → k < 160 → Chain before so offsets offset k →
     so_k ≡ get_or so k (pos 0) → y ≡ next_offset offset so_k → IsOffset y → Chain before so (set offsets k y) y (k + 1)
 chain_next before so offsets offset k so_k y h run es ey o =

@@ -11,6 +11,7 @@ pub record IsFloor (z q : ℤ) : Type 0 where
   pub low : (q *ℤ pos 32768) ≤ℤ z
   pub high : z <ℤ (q *ℤ pos 32768 +ℤ pos 32768)
 
+-- a shift down by 15 is the floor, and there is one
 pub floor : (z : ℤ) → IsFloor z (floor_shr z 15)
 floor (pos n) = record { low = omega (arith, ints); high = omega (arith, ints) }
 floor (negsuc n) = record { low = omega (arith, ints); high = omega (arith, ints) }
@@ -23,6 +24,7 @@ one_floor z p q f g =
     let gh = g.high in
     omega (arith, ints)
 
+-- the next offset is one that samples from home can give
 pub offset_stays : (offset so : ℤ) → IsOffset offset → IsDownscaled so → IsOffset (next_offset offset so)
 unfolding next_offset
 offset_stays offset so o s =
@@ -31,6 +33,7 @@ offset_stays offset so o s =
     let high = f.high in
     omega (arith, ints)
 
+-- a long is not clamped
 clamp32_none : (z : ℤ) → neg_ℤ (pos 2147483648) ≤ℤ z → z ≤ℤ pos 2147483647 → clamp32 z ≡ z
 clamp32_none z l h = grind (arith, ints)
 
@@ -78,6 +81,7 @@ sum_goes_on z1 so offset l z s o e =
     let total : floor_shr l 15 *ℤ pos 32735 +ℤ ((so -ℤ z1) *ℤ pos 32768 +ℤ held) ≡ q +ℤ so *ℤ pos 32768 = omega (arith, ints) in
     rw w (ap (λ v. clamp32 v) total ∙ within_long so (next_offset offset z1) s (offset_stays offset z1 o z))
 
+-- L_z2 rounded is the sample without its offset
 pub rounds_on : (so offset l : ℤ) → IsDownscaled so → IsOffset offset → l ≡ offset +ℤ so *ℤ pos 32768 → offset_free l ≡ without_offset so offset
 unfolding offset_free without_offset l_add_of
 rounds_on so offset l s o e =

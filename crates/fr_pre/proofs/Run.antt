@@ -3,10 +3,12 @@ use Rattle.std.proofs.Common.{◌≡◌, ℕ, ◌+◌, ◌<◌, suc, zero, ℤ, 
 use Rattle.std.proofs.lemmas.Int.{ints}
 use Rattle.std.proofs.lemmas.List.{drop_all}
 use Rattle.fr_pre.specs.Memory.{PreMemory, home_memory}
-use Rattle.fr_pre.specs.Preprocessing.{downscaled, next_l_z2, offset_free, preemphasised, preprocessed_sample, preprocessed_frame}
+use Rattle.fr_pre.specs.Preprocessing.{downscaled, next_l_z2, offset_free, preemphasised}
+use Rattle.fr_pre.specs.Step.{preprocessed_sample, preprocessed_frame}
 use Rattle.trau_num.specs.Num.{entry}
 use Rattle.fr_pre.specs.Offsets.{next_offset, without_offset, IsDownscaled, IsOffset, AreDownscaled, AreOffsets, AreFree, ArePreemphasised}
-use Rattle.fr_pre.specs.History.{samples_of, Stands, memory_after, newest_preprocessed}
+use Rattle.fr_pre.specs.History.{samples_of_frames, memory_after, newest_preprocessed}
+use Rattle.fr_pre.specs.Stands.{Stands}
 use Rattle.fr_pre.proofs.Floors.{sum_goes_on, rounds_on}
 
 -- the lists that the passes made
@@ -23,6 +25,7 @@ pub record Passes (z1 offset mp : ℤ) (x so offsets sof s : List ℤ) : Type 0 
 abbrev memory_at : ℤ → List ℤ → List ℤ → List ℤ → ℕ → PreMemory
 memory_at offset so offsets sof k = record { z1 = entry so k; l_z2 = entry (offset ∷ offsets) k +ℤ entry so k *ℤ pos 32768; mp = entry sof k }
 
+-- each offset of a frame is one that samples from home can give
 offset_within : (offset : ℤ) (so offsets : List ℤ) (k : ℕ) → k < 160 → IsOffset offset → AreOffsets offset so offsets → IsOffset (entry (offset ∷ offsets) k)
 offset_within offset so offsets zero h o a = o
 offset_within offset so offsets (suc j) h o a = a.within j (omega arith)
@@ -37,6 +40,7 @@ one m so' offset offset' sof' s x z1 zs o o' el eso eo esof es =
     let f : offset_free (offset' +ℤ so' *ℤ pos 32768) ≡ sof' = rw esof (rounds_on so' offset' (offset' +ℤ so' *ℤ pos 32768) zs o' refl) in
     rw (← eso, l, f, ← es) refl
 
+-- the passes from sample k on are the rule
 rest : (z1 offset mp : ℤ) (x so offsets sof s : List ℤ) → Passes z1 offset mp x so offsets sof s → (n k : ℕ) → k + n ≡ 160 →
     preprocessed_frame (memory_at offset so offsets sof k) (drop k x) ≡ (drop k s, memory_at offset so offsets sof 160)
 unfolding preprocessed_frame
@@ -61,7 +65,8 @@ rest z1 offset mp x so offsets sof s p (suc n) k e =
     let e_s : entry s k ≡ preemphasised (entry sof k) (entry sof (suc k)) = rw next (p.preemphasised.each k h) in
     let o : preprocessed_sample (memory_at offset so offsets sof k) (entry x k) ≡ (entry s k, memory_at offset so offsets sof (suc k)) =
     one (memory_at offset so offsets sof k) (entry so (suc k)) (entry (offset ∷ offsets) k) (entry offsets k) (entry sof (suc k)) (entry s k) (entry x k)
-    (p.downscaled.within k (omega arith)) (p.downscaled.within (suc k) (omega arith)) (offset_within offset so offsets k h p.before p.followed) (p.followed.within k h)
+    (p.downscaled.within k (omega arith)) (p.downscaled.within (suc k) (omega arith)) (offset_within offset so offsets k h p.before p.followed)
+    (p.followed.within k h)
     refl e_so (p.followed.each k h) e_sof e_s in
     let r = rest z1 offset mp x so offsets sof s p n (suc k) (omega (arith, e)) in
     rw (ex, es, o, r) refl
@@ -87,9 +92,9 @@ appended m (x ∷ xs) ys = rw (appended (preprocessed_sample m x).1 xs ys) refl
 -- one frame more
 pub history : (m m' : PreMemory) (x s : List ℤ) → preprocessed_frame m x ≡ (s, m') → (past : List (List ℤ)) → Stands past m →
     Stands (x ∷ past) m' × (s ≡ newest_preprocessed x past)
-unfolding samples_of
+unfolding samples_of_frames
 history m m' x s e past h =
     let a = h.after in
     let f : preprocessed_frame (memory_after past) x ≡ (s, m') = rw a at e in
-    let after : memory_after (x ∷ past) ≡ m' = ap (λ p. p.1) (appended home_memory (samples_of past) x) ∙ ap (λ p. p.1) f in
+    let after : memory_after (x ∷ past) ≡ m' = ap (λ p. p.1) (appended home_memory (samples_of_frames past) x) ∙ ap (λ p. p.1) f in
     (record { after = sym after }, sym (ap (λ p. p.0) f))

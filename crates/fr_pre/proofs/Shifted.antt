@@ -10,6 +10,7 @@ pub record Shifted (before : ℤ) (f : ℕ → ℤ) (xs : List ℤ) (n k : ℕ) 
   pub first : get_or xs 0 (pos 0) ≡ before
   pub each : (j : ℕ) → j < k → get_or xs (j + 1) (pos 0) ≡ f j
 
+-- a list one item behind another: nothing made yet, and one item more
 pub shifted_start : (before : ℤ) (f : ℕ → ℤ) (xs : List ℤ) (n : ℕ) → length xs ≡ n + 1 → Shifted before f (set xs 0 before) n 0
 shifted_start before f xs n l = record {
   count = length-set xs 0 before ∙ l;
@@ -35,6 +36,7 @@ pub record Downscaling (before : ℤ) (x so : List ℤ) (k : ℕ) : Type 0 where
   pub shifted : Shifted before (λ j. downscaled (get_or x j (pos 0))) so 160 k
   pub within : (j : ℕ) → j < k → IsDownscaled (get_or so (j + 1) (pos 0))
 
+-- the same of the downscaled samples
 pub downscaling_start : (before : ℤ) (x so : List ℤ) → length so ≡ 161 → Downscaling before x (set so 0 before) 0
 downscaling_start before x so l = record {
   shifted = shifted_start before (λ j. downscaled (get_or x j (pos 0))) so 160 l;
@@ -53,6 +55,7 @@ downscaling_next before x so k y h run e w =
           (subst (λ v. IsDownscaled v) (sym (get_or-set_same so (k + 1) y (pos 0) l)) w);
     }
 
+-- each of them, with the one before
 every_within : (before : ℤ) (so : List ℤ) → IsDownscaled before → get_or so 0 (pos 0) ≡ before →
     ((j : ℕ) → j < 160 → IsDownscaled (get_or so (j + 1) (pos 0))) → (j : ℕ) → j < 161 → IsDownscaled (get_or so j (pos 0))
 every_within before so b first within zero h = subst (λ v. IsDownscaled v) (sym first) b

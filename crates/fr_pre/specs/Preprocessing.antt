@@ -1,7 +1,6 @@
 -- Preprocessing, one sample after another (GSM 06.10, sections 4.2.1 to 4.2.3).
-use Rattle.std.specs.Prelude.{ℤ, pos, neg_ℤ, ◌+ℤ◌, ◌-ℤ◌, ◌*ℤ◌, List, [], ◌∷◌}
+use Rattle.std.specs.Prelude.{ℤ, pos, neg_ℤ, ◌+ℤ◌, ◌-ℤ◌, ◌*ℤ◌}
 use Rattle.trau_num.specs.Num.{clamp16, floor_shr, add_of, mult_r_of, l_add_of}
-use Rattle.fr_pre.specs.Memory.{PreMemory}
 
 -- so: the sample without its three lowest bits, halved
 unfoldable pub downscaled : ℤ → ℤ
@@ -23,19 +22,3 @@ offset_free l_z2 = clamp16 (floor_shr (l_add_of l_z2 (pos 16384)) 15)
 -- s: sof, less 28180 / 2^15 of the one before it
 unfoldable pub preemphasised : ℤ → ℤ → ℤ
 preemphasised mp sof = add_of sof (mult_r_of (neg_ℤ (pos 28180)) mp)
-
--- one sample, and the memory after it
-unfoldable pub preprocessed_sample : PreMemory → ℤ → ℤ × PreMemory
-preprocessed_sample memory x =
-    let so = downscaled x in
-    let l_z2 = next_l_z2 memory.l_z2 (so -ℤ memory.z1) in
-    let sof = offset_free l_z2 in
-    (preemphasised memory.mp sof, record { z1 = so; l_z2 = l_z2; mp = sof })
-
--- the samples of a frame, or of any list, one after another, and the memory after them
-unfoldable pub preprocessed_frame : PreMemory → List ℤ → List ℤ × PreMemory
-preprocessed_frame memory [] = ([], memory)
-preprocessed_frame memory (x ∷ xs) =
-    let first = preprocessed_sample memory x in
-    let rest = preprocessed_frame first.1 xs in
-    (first.0 ∷ rest.0, rest.1)

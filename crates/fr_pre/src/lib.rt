@@ -7,8 +7,9 @@
 //! `passes` goes over a frame once for each of these, `compensation` has the arithmetic of the filter, and `state`
 //! what is kept from frame to frame. Used by the encoder.
 //!
-//! Definitions: `specs/Preprocessing.antt` (the rule, sample by sample), `specs/Memory.antt`, `specs/History.antt`
-//! (all samples from home, as one list), `specs/Offsets.antt` (the form that the passes compute).
+//! Definitions: `specs/Preprocessing.antt` (the rule, sample by sample), `specs/Memory.antt`, `specs/Step.antt` and
+//! `specs/Stands.antt` (what is kept, one frame, and what the memory stands for), `specs/History.antt` (all samples from
+//! home, as one list), `specs/Offsets.antt` (the form that the passes compute).
 #![tactic(auto)]
 
 mod compensation;

@@ -20,11 +20,12 @@ pub struct PreState {
 impl PreState {
     ghost use Rattle.std.specs.Prelude.{◌≡◌, ℤ, List, [], ◌∷◌};
     ghost use Rattle.fr_pre.specs.Memory.{PreMemory, home_memory, memory_of};
-    ghost use Rattle.fr_pre.specs.Preprocessing.{preprocessed_frame};
-    ghost use Rattle.fr_pre.specs.History.{Stands, newest_preprocessed};
+    ghost use Rattle.fr_pre.specs.Step.{preprocessed_frame};
+    ghost use Rattle.fr_pre.specs.Stands.{Stands};
+    ghost use Rattle.fr_pre.specs.History.{newest_preprocessed};
 
     /// The state before the first frame: every number is 0.
-    #[tactic(auto, unfolding(crate::specs::Preprocessing::preprocessed_frame, crate::specs::History::samples_of))]
+    #[tactic(auto, unfolding(crate::specs::Step::preprocessed_frame, crate::specs::History::samples_of_frames))]
     pub fn home() -> PreState
         ensures value { memory_of result ≡ home_memory }
         ensures history { Stands [] (memory_of result) }

@@ -25,6 +25,7 @@ energy_more i x m =
     fold-append ◌+ℤ◌ (pos 0) (map (λ i. sample_energy (get_or x (m + 3 * i) (pos 0))) (range_with_len 0 i))
     (sample_energy (get_or x (m + 3 * i) (pos 0)) ∷ [])
 
+-- one sample more in the energies of the grids: of none yet, of all four, of one grid more
 pub grow_start : (i : ℕ) (x sums : List ℤ) → length sums ≡ 4 → AreEnergies i x sums → Growing i 0 x sums
 grow_start i x sums l h = record {
   count = l;

@@ -4,10 +4,12 @@ use Rattle.std.specs.Option.{unwrap_or}
 use Rattle.trau_num.proofs.Greatest.{IsLeastGreatest, first_found, none_above, some_above}
 use Rattle.fr_rpe.specs.Selection.{grid_energy, grids, is_strongest, grid_of, IsStrongestGrid}
 
+-- the least grid with the greatest energy passes the test of the search
 passes : (x : List ℤ) (m : ℕ) → IsLeastGreatest (grid_energy x) 0 4 m → is_strongest x m ≡ true
 unfolding is_strongest grids
 passes x m h = none_above (grid_energy x) 0 4 m h
 
+-- and no grid before it does
 fails : (x : List ℤ) (m k : ℕ) → IsLeastGreatest (grid_energy x) 0 4 m → k < m → is_strongest x k ≡ false
 unfolding is_strongest grids
 fails x m k h b = some_above (grid_energy x) 0 4 m k h (omega arith) b

@@ -9,10 +9,12 @@ use Rattle.std.proofs.lemmas.Grind.{common_steps}
 abbrev pub sparse : ℕ → ℕ → (ℕ → ℤ) → ℕ → ℤ
 sparse first n f k = if nat_le first k && ((k - first) % 3 == 0 && nat_lt ((k - first) / 3) n) then f ((k - first) / 3) else pos 0
 
+-- the first n pulses stand three apart from `first` on, and all else is 0
 pub record Placed (first n : ℕ) (f : ℕ → ℤ) (xs : List ℤ) : Type 0 where
   pub count : length xs ≡ 40
   pub each : (k : ℕ) → k < 40 → get_or xs k (pos 0) ≡ sparse first n f k
 
+-- at the place of pulse n, elsewhere, and before any pulse
 same-sparse : (first n k : ℕ) (f : ℕ → ℤ) → k ≡ first + 3 * n → f n ≡ sparse first (n + 1) f k
 same-sparse first n k f e = grind (arith, common_steps)
 

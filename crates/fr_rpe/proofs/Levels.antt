@@ -12,6 +12,7 @@ pub record IsLevel (mantissa : ℕ) (level : ℤ) : Type 0 where
   pub low : mantissa < 7 → neg_ℤ (pos ((mantissa + 9) * 2048)) <ℤ level
   pub high : level <ℤ pos ((mantissa + 9) * 2048)
 
+-- a negative pulse at its level
 negative : (n s mantissa : ℕ) → mantissa < 8 → suc n * s < (mantissa + 9) * 2048 → IsLevel mantissa (negsuc n *ℤ pos s)
 negative n s mantissa m b = record { least = omega (arith, ints); low = λ k. omega (arith, ints); high = omega (arith, ints) }
 
@@ -21,6 +22,7 @@ least_word n s mantissa e p m h =
     let one : s ≡ 1 = omega arith in
     rw (e, one) (record { least = omega (arith, ints); low = λ k. absurd (omega arith); high = omega (arith, ints) })
 
+-- a pulse at its level is below the mantissa's next step
 pub at_level : (pulse : ℤ) (s mantissa : ℕ) → FitsSigned w16 pulse → 0 < s → mantissa < 8 →
     unsigned_abs (abs_of pulse) * s < (mantissa + 9) * 2048 → IsLevel mantissa (pulse *ℤ pos s)
 unfolding abs_of
@@ -42,6 +44,7 @@ pub record IsShare (z : ℤ) : Type 0 where
   pub low : neg_ℤ (pos 4) ≤ℤ z
   pub high : z ≤ℤ pos 3
 
+-- the code's sum of a product within these bounds has three bits
 share : (z : ℤ) → neg_ℤ (pos 536870912) ≤ℤ z → z <ℤ pos 536870912 → IsShare (floor_shr (clamp16 (floor_shr z 15)) 12)
 share (pos n) l h = record { low = omega (arith, ints); high = omega (arith, ints) }
 share (negsuc n) l h = record { low = omega (arith, ints); high = omega (arith, ints) }
@@ -58,10 +61,12 @@ by_mantissa P a b c d e f g h (suc (suc (suc (suc (suc (suc zero)))))) l = g
 by_mantissa P a b c d e f g h (suc (suc (suc (suc (suc (suc (suc zero))))))) l = h
 by_mantissa P a b c d e f g h (suc (suc (suc (suc (suc (suc (suc (suc n)))))))) l = absurd (omega arith)
 
+-- the inverse of a mantissa keeps the product within them
 record InTable (mantissa : ℕ) : Type 0 where
   low : (level : ℤ) → IsLevel mantissa level → neg_ℤ (pos 536870912) ≤ℤ (level *ℤ inverse_of mantissa)
   high : (level : ℤ) → IsLevel mantissa level → (level *ℤ inverse_of mantissa) <ℤ pos 536870912
 
+-- a magnitude as two bounds
 within : (z : ℤ) → unsigned_abs z < 536870912 → (neg_ℤ (pos 536870912) ≤ℤ z) × (z <ℤ pos 536870912)
 within z b = (omega (arith, ints), omega (arith, ints))
 
@@ -76,12 +81,14 @@ magnitude mantissa level l h =
     let high = h.high in
     omega (arith, ints)
 
+-- mantissas 0 to 6
 below_7 : (mantissa n : ℕ) → mantissa < 7 → inverse_of mantissa ≡ pos n → ((mantissa + 9) * 2048 - 1) * n < 536870912 → InTable mantissa
 below_7 mantissa n l e b = record {
   low = λ level h. rw e (within _ (product_below level _ n (magnitude mantissa level l h) b)).0;
   high = λ level h. rw e (within _ (product_below level _ n (magnitude mantissa level l h) b)).1;
 }
 
+-- mantissa 7
 at_7 : InTable 7
 at_7 = record {
   low = λ level h. let least = h.least in omega (arith, ints);
@@ -96,6 +103,7 @@ levels =
     (below_7 4 20165 (omega arith) refl (omega arith)) (below_7 5 18725 (omega arith) refl (omega arith))
     (below_7 6 17476 (omega arith) refl (omega arith)) at_7
 
+-- so a level's code has three bits
 pub coded_share : (mantissa : ℕ) (level : ℤ) → mantissa < 8 → IsLevel mantissa level → IsShare (floor_shr (mult_of level (inverse_of mantissa)) 12)
 unfolding mult_of
 coded_share mantissa level m h = let t = levels mantissa m in share (level *ℤ inverse_of mantissa) (t.low level h) (t.high level h)

@@ -4,13 +4,14 @@ use Rattle.std.proofs.lemmas.Int.{ints}
 use Rattle.std.proofs.Math.Nat.{mul-le-mul_right}
 use Rattle.trau_num.specs.Num.{abs_of}
 use Rattle.fr_rpe.specs.declared.scale.Scale.{Scale}
-use Rattle.fr_rpe.specs.Scale.{shift_of}
+use Rattle.fr_rpe.specs.Scale.{scale_shift}
 use Rattle.fr_rpe.specs.Weighting.{weighted_block}
 use Rattle.fr_rpe.specs.Selection.{grid_of, pulses_on_grid}
-use Rattle.fr_rpe.specs.Quantisation.{maximum_of, coded_maximum, codes_of, HasRoom}
+use Rattle.fr_rpe.specs.Quantisation.{maximum_of, coded_maximum, pulse_codes_of, HasRoom}
 use Rattle.fr_rpe.specs.Pulses.{block_of}
 use Rattle.fr_rpe.specs.Encoding.{mc_of, pulses_of, xmax_of, xmaxc_of, xmc_of}
 
+-- each part of a block's coding by the parts before it
 pub is_mc : (e x : List ℤ) (mc : ℕ) → x ≡ weighted_block e → mc ≡ grid_of x → mc ≡ mc_of e
 unfolding mc_of
 is_mc e x mc a b = cc
@@ -27,7 +28,7 @@ pub is_xmaxc : (e : List ℤ) (xmax : ℤ) (xmaxc : ℕ) → xmax ≡ xmax_of e 
 unfolding xmaxc_of
 is_xmaxc e xmax xmaxc m c = cc
 
-pub is_xmc : (e pulses : List ℤ) (xmaxc : ℕ) (xmc : List ℕ) → pulses ≡ pulses_of e → xmaxc ≡ xmaxc_of e → xmc ≡ codes_of xmaxc pulses → xmc ≡ xmc_of e
+pub is_xmc : (e pulses : List ℤ) (xmaxc : ℕ) (xmc : List ℕ) → pulses ≡ pulses_of e → xmaxc ≡ xmaxc_of e → xmc ≡ pulse_codes_of xmaxc pulses → xmc ≡ xmc_of e
 unfolding xmc_of
 is_xmc e pulses xmaxc xmc p m c = cc
 
@@ -42,5 +43,6 @@ magnitude_below pulse xmax l = omega (arith, ints)
 -- room for the maximum is room for each pulse
 pub room_for : (scale : Scale) (pulse xmax : ℤ) → abs_of pulse ≤ℤ xmax → HasRoom scale (unsigned_abs xmax) → HasRoom scale (unsigned_abs (abs_of pulse))
 room_for scale pulse xmax l h =
-    let g : unsigned_abs (abs_of pulse) * 2 ^ shift_of scale ≤ unsigned_abs xmax * 2 ^ shift_of scale = mul-le-mul_right (2 ^ shift_of scale) (magnitude_below pulse xmax l) in
+    let g : unsigned_abs (abs_of pulse) * 2 ^ scale_shift scale ≤ unsigned_abs xmax * 2 ^ scale_shift scale =
+    mul-le-mul_right (2 ^ scale_shift scale) (magnitude_below pulse xmax l) in
     omega arith

@@ -3,24 +3,26 @@ use Rattle.std.proofs.Common.{◌≡◌, ℕ, ◌+◌, ◌-◌, ◌*◌, ◌/◌
 use Rattle.std.specs.Prelude.{if◌then◌else◌, nat_lt}
 use Rattle.std.proofs.lemmas.Bool.{ltb-true, cond_below, cond_above, agree_below, agree_below_at}
 use Rattle.std.proofs.Math.Nat.{mul-le-mul_right}
-use Rattle.fr_rpe.specs.Scale.{scale_of, shift_of}
+use Rattle.fr_rpe.specs.Scale.{scale_of, scale_shift}
 use Rattle.fr_rpe.specs.Quantisation.{HasRoom}
 
 -- the greatest maximum with a code
 abbrev top : ℕ → ℕ
 top c = if nat_lt c 16 then 32 * c + 31 else (c % 8 + 9) * 2 ^ (c / 8 + 4) - 1
 
+-- a table over the 64 coded maxima
 abbrev has_room : ℕ → Bool
-has_room c = nat_lt (top c * 2 ^ shift_of (scale_of c)) (((scale_of c).mantissa + 9) * 2 ^ 11)
+has_room c = nat_lt (top c * 2 ^ scale_shift (scale_of c)) (((scale_of c).mantissa + 9) * 2 ^ 11)
 
 table : agree_below has_room (λ c. true) 64 ≡ true
 unfolding scale_of
 table = refl
 
+-- a maximum has room at the scale of its code
 room : (c m : ℕ) → c < 64 → m ≤ top c → HasRoom (scale_of c) m
 room c m l h =
-    let t : top c * 2 ^ shift_of (scale_of c) < ((scale_of c).mantissa + 9) * 2 ^ 11 = ltb-true _ _ (agree_below_at has_room (λ c. true) 64 c table l) in
-    let g : m * 2 ^ shift_of (scale_of c) ≤ top c * 2 ^ shift_of (scale_of c) = mul-le-mul_right (2 ^ shift_of (scale_of c)) h in
+    let t : top c * 2 ^ scale_shift (scale_of c) < ((scale_of c).mantissa + 9) * 2 ^ 11 = ltb-true _ _ (agree_below_at has_room (λ c. true) 64 c table l) in
+    let g : m * 2 ^ scale_shift (scale_of c) ≤ top c * 2 ^ scale_shift (scale_of c) = mul-le-mul_right (2 ^ scale_shift (scale_of c)) h in
     omega arith
 
 -- a maximum below 512

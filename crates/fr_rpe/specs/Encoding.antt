@@ -2,7 +2,7 @@
 use Rattle.std.specs.Prelude.{ℕ, ℤ, unsigned_abs, List}
 use Rattle.fr_rpe.specs.Weighting.{weighted_block}
 use Rattle.fr_rpe.specs.Selection.{grid_of, pulses_on_grid}
-use Rattle.fr_rpe.specs.Quantisation.{maximum_of, coded_maximum, codes_of}
+use Rattle.fr_rpe.specs.Quantisation.{maximum_of, coded_maximum, pulse_codes_of}
 
 -- Mc: the grid position
 unfoldable pub mc_of : List ℤ → ℕ
@@ -22,4 +22,4 @@ xmaxc_of e = coded_maximum (unsigned_abs (xmax_of e))
 
 -- xMc: the codes of the pulses
 unfoldable pub xmc_of : List ℤ → List ℕ
-xmc_of e = codes_of (xmaxc_of e) (pulses_of e)
+xmc_of e = pulse_codes_of (xmaxc_of e) (pulses_of e)

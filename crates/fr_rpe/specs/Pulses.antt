@@ -3,7 +3,7 @@ use Rattle.std.specs.Prelude.{ℕ, ◌-◌, ◌*◌, ◌/◌, ◌%◌, ◌^◌, 
 use Rattle.std.specs.List.{range_with_len}
 use Rattle.trau_num.specs.Num.{add_of, mult_r_of, floor_shr}
 use Rattle.fr_rpe.specs.declared.scale.Scale.{Scale}
-use Rattle.fr_rpe.specs.Scale.{scale_of, factor_of, shift_of}
+use Rattle.fr_rpe.specs.Scale.{scale_of, factor_of, scale_shift}
 
 -- half of the last place that a shift takes off: 2^(5 - exp), and 0 where the exponent is 6
 abbrev pub rounding_of : ℕ → ℕ
@@ -17,7 +17,7 @@ level_of code = (pos (2 * code) -ℤ pos 7) *ℤ pos (2 ^ 12)
 unfoldable pub pulse_of : Scale → ℕ → ℤ
 pulse_of scale code =
     let size = mult_r_of (factor_of scale.mantissa) (level_of code) in
-    floor_shr (add_of size (pos (rounding_of (shift_of scale)))) (shift_of scale)
+    floor_shr (add_of size (pos (rounding_of (scale_shift scale)))) (scale_shift scale)
 
 -- the place k of the grid that starts at mc: the pulse i where k is mc + 3 i with i below 13, and 0 elsewhere
 abbrev pub on_grid : ℕ → (ℕ → ℤ) → ℕ → ℤ

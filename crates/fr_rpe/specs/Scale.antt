@@ -11,19 +11,19 @@ abbrev pub factor_of : ℕ → ℤ
 factor_of mantissa = entry factors mantissa
 
 -- At most n times, a mantissa of at most 7 is doubled and one more, and the exponent falls by one. At last 8 is taken off the mantissa.
-abbrev pub normalised : ℕ → ℤ → ℕ → Scale
-normalised zero exponent mantissa = record { exponent = exponent; mantissa = mantissa - 8 }
-normalised (suc n) exponent mantissa =
-    if nat_le mantissa 7 then normalised n (exponent -ℤ pos 1) (2 * mantissa + 1)
+abbrev pub normalised_scale : ℕ → ℤ → ℕ → Scale
+normalised_scale zero exponent mantissa = record { exponent = exponent; mantissa = mantissa - 8 }
+normalised_scale (suc n) exponent mantissa =
+    if nat_le mantissa 7 then normalised_scale n (exponent -ℤ pos 1) (2 * mantissa + 1)
     else record { exponent = exponent; mantissa = mantissa - 8 }
 
 -- the scale that a coded maximum stands for
 unfoldable pub scale_of : ℕ → Scale
 scale_of xmaxc =
     if xmaxc == 0 then record { exponent = neg_ℤ (pos 4); mantissa = 7 }
-    else if nat_le xmaxc 15 then normalised 3 (pos 0) xmaxc
-    else normalised 3 (pos (xmaxc / 8 - 1)) (xmaxc - 8 * (xmaxc / 8 - 1))
+    else if nat_le xmaxc 15 then normalised_scale 3 (pos 0) xmaxc
+    else normalised_scale 3 (pos (xmaxc / 8 - 1)) (xmaxc - 8 * (xmaxc / 8 - 1))
 
 -- 6 - exp: how far a pulse of this scale is shifted
-abbrev pub shift_of : Scale → ℕ
-shift_of scale = unsigned_abs (pos 6 -ℤ scale.exponent)
+abbrev pub scale_shift : Scale → ℕ
+scale_shift scale = unsigned_abs (pos 6 -ℤ scale.exponent)

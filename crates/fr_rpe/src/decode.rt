@@ -27,7 +27,7 @@ pub fn decode_block(mc: u8, xmaxc: u8, xmc: &[u8; 13]) -> [i16; 40]
     ep
 }
 
-/// The pulse of each code of a block with this maximum.
+// The pulse of each code of a block with this maximum.
 fn pulses_by_code(xmaxc: u8) -> [i16; 8]
     requires { xmaxc < 64 }
     ensures { result ≡ map (pulse_of (scale_of xmaxc)) (range_with_len 0 8) }
@@ -43,7 +43,7 @@ fn pulses_by_code(xmaxc: u8) -> [i16; 8]
     pulses
 }
 
-/// The level that a code stands for, before the factor.
+// The level that a code stands for, before the factor.
 fn level(code: u8) -> i16
     requires { code < 8 }
     ensures { result ≡ level_of code }
@@ -51,7 +51,7 @@ fn level(code: u8) -> i16
     (2 * i16::from(code) - 7) * 4096
 }
 
-/// Half of the last place that a shift takes off.
+// Half of the last place that a shift takes off.
 fn rounding(shift: u8) -> i16
     requires { shift ≤ 10 }
     ensures { result ≡ pos (rounding_of shift) }
@@ -59,7 +59,7 @@ fn rounding(shift: u8) -> i16
     if shift == 0 { 0 } else { 1 << (shift - 1) }
 }
 
-/// The pulse of a level.
+// The pulse of a level.
 fn pulse(level: i16, factor: i16, rounding: i16, shift: u8) -> i16
     requires factor { pos 0 ≤ℤ factor }
     requires shift { shift ≤ 10 }
@@ -68,7 +68,7 @@ fn pulse(level: i16, factor: i16, rounding: i16, shift: u8) -> i16
     sum(factor, level, rounding) >> shift
 }
 
-/// A level times a factor, with the rounding of the shift to come.
+// A level times a factor, with the rounding of the shift to come.
 #[tactic(auto, unfolding(trau_num::specs::Num::add_of))]
 fn sum(factor: i16, level: i16, rounding: i16) -> i16
     requires { pos 0 ≤ℤ factor }

@@ -12,7 +12,7 @@ pub(crate) struct Scale {
 }
 
 impl Scale {
-    ghost use Rattle.fr_rpe.specs.Scale.{scale_of, shift_of, factor_of};
+    ghost use Rattle.fr_rpe.specs.Scale.{scale_of, scale_shift, factor_of};
     ghost use Rattle.fr_rpe.specs.Quantisation.{inverse_of};
 
     // FAC of table 4.6.
@@ -62,7 +62,7 @@ impl Scale {
     pub(crate) fn shift(self) -> u8
         requires at_least { neg_ℤ (pos 4) ≤ℤ self.exponent }
         requires at_most { self.exponent ≤ℤ pos 6 }
-        ensures value { result ≡ shift_of self }
+        ensures value { result ≡ scale_shift self }
         ensures at_most_10 { result ≤ 10 }
     {
         (6 - self.exponent) as u8

@@ -43,7 +43,7 @@ fn add_samples(sums: &mut [i32; 4], x: &[i16; 40], i: usize)
     }
 }
 
-/// What a sample adds to the energy of its grid.
+// What a sample adds to the energy of its grid.
 #[tactic(auto, unfolding(crate::specs::Selection::sample_energy))]
 fn sample_energy(x: i16) -> i32
     ensures value { result ≡ sample_energy x }

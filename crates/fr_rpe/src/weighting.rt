@@ -1,6 +1,7 @@
 //! The block filter that weighs what is left of a block (GSM 06.10, section 4.2.13).
 
 ghost use Rattle.std.specs.Prelude.{◌≡◌, ℕ, ◌+◌, ◌*◌, ◌^◌, ◌<◌, ◌≤◌, pos, neg_ℤ, ◌+ℤ◌, ◌*ℤ◌, ◌≤ℤ◌, unsigned_abs};
+ghost use Rattle.trau_num.specs.Num.{entry};
 ghost use Rattle.fr_rpe.specs.Weighting.{padded_block, weighted_sum, weighted_block};
 
 use trau_num::{clamp, product};
@@ -34,10 +35,30 @@ fn weighted_sum(padded: &[i16; 50], k: usize) -> i32
     ensures value { result ≡ weighted_sum padded.now k }
     ensures bound { unsigned_abs result ≤ 812584960 }
 {
+    plus_last_five(first_four(padded, k), padded, k)
+}
+
+// The rounding, and the first four of them.
+fn first_four(padded: &[i16; 50], k: usize) -> i32
+    requires { k < 40 }
+    ensures value { result ≡ pos 4096 +ℤ neg_ℤ (pos 134) *ℤ entry padded.now k +ℤ neg_ℤ (pos 374) *ℤ entry padded.now (k + 1)
+        +ℤ pos 2054 *ℤ entry padded.now (k + 3) +ℤ pos 5741 *ℤ entry padded.now (k + 4) }
+    ensures bound { unsigned_abs result ≤ 272076800 }
+{
     let sum = plus_tap(4096, -134, padded[k]);
     let sum = plus_tap(sum, -374, padded[k + 1]);
     let sum = plus_tap(sum, 2054, padded[k + 3]);
-    let sum = plus_tap(sum, 5741, padded[k + 4]);
+    plus_tap(sum, 5741, padded[k + 4])
+}
+
+// The other five behind them, from the greatest on.
+fn plus_last_five(sum: i32, padded: &[i16; 50], k: usize) -> i32
+    requires place { k < 40 }
+    requires room { unsigned_abs sum ≤ 272076800 }
+    ensures value { result ≡ sum +ℤ pos 8192 *ℤ entry padded.now (k + 5) +ℤ pos 5741 *ℤ entry padded.now (k + 6)
+        +ℤ pos 2054 *ℤ entry padded.now (k + 7) +ℤ neg_ℤ (pos 374) *ℤ entry padded.now (k + 9) +ℤ neg_ℤ (pos 134) *ℤ entry padded.now (k + 10) }
+    ensures bound { unsigned_abs result ≤ 812584960 }
+{
     let sum = plus_tap(sum, 8192, padded[k + 5]);
     let sum = plus_tap(sum, 5741, padded[k + 6]);
     let sum = plus_tap(sum, 2054, padded[k + 7]);

@@ -4,7 +4,7 @@ use Rattle.std.specs.Simd.Lanes.{zip2, Each1}
 use Rattle.trau_num.specs.Num.{sub_of, add_of, mult_r_of}
 use Rattle.trau_lanes.specs.Lanes.{EightWords, EightFactors}
 use Rattle.trau_lanes.proofs.Eight.{lanes_kept, by_eight, by_pairs, eight_same}
-use Rattle.trau_lanes.proofs.LaneSums.{sub_word}
+use Rattle.trau_num.proofs.Clamped.{sub_word}
 use Rattle.std.proofs.lemmas.List.{length-set, drop_all, take_all, length-map}
 use Rattle.std.proofs.lemmas.Grind.{take-set_at}
 use Rattle.std.proofs.lemmas.Nat.{mod_below}
@@ -12,7 +12,7 @@ use Rattle.std.proofs.lemmas.Int.{ints, to_z-of_z}
 use Rattle.std.proofs.lemmas.Simd.{length-zip2, tops_compared, mask_l-mod}
 use lib.Lanes.{mask_l, top}
 use Rattle.fr_short.specs.Lanes.{words_behind}
-use Rattle.fr_short.specs.Words.{AreFactors}
+use Rattle.fr_short.specs.Words.{AreEightFactors}
 use Rattle.fr_short.specs.Synthesis.{synthesis_lattice, sections_after}
 
 -- a guess that the check lets through is right: each word is the one before it less the step
@@ -33,7 +33,9 @@ pub record Found (sample : ℤ) (steps words : List ℤ) (s : ℤ) (i : ℕ) : T
   pub long : length words ≡ length steps
   pub found : words_behind sample steps ≡ take i words ++ words_behind s (drop i steps)
 
-pub found_next : (sample : ℤ) (steps words : List ℤ) (s x : ℤ) (i : ℕ) → i < length steps → Found sample steps words s i → x ≡ sub_of s (get_or steps i (pos 0)) →
+-- one section more
+pub found_next : (sample : ℤ) (steps words : List ℤ) (s x : ℤ) (i : ℕ) → i < length steps → Found sample steps words s i →
+    x ≡ sub_of s (get_or steps i (pos 0)) →
     Found sample steps (set words i x) x (i + 1)
 found_next sample steps words s x i l h e =
     let long = h.long in
@@ -54,6 +56,7 @@ behind_words : (s : ℤ) (ms : List ℤ) → Each1 (FitsSigned w16) (words_behin
 behind_words s [] = tt
 behind_words s (m ∷ ms) = (sub_word s m, behind_words (sub_of s m) ms)
 
+-- there is a word behind each section
 behind_long : (s : ℤ) (ms : List ℤ) → length (words_behind s ms) ≡ length ms
 behind_long s [] = refl
 behind_long s (m ∷ ms) = ap suc (behind_long (sub_of s m) ms)
@@ -64,7 +67,8 @@ behind_eight s ms l = record { eight = behind_long s ms ∙ l; words = behind_wo
 -- ---- the guess
 
 -- lanes of sums that wrap are words
-pub wrapped_words : (f : ℕ → ℕ → ℕ) → ((a b : ℕ) → f a b < 2 ^ 16) → (xs ys : List ℕ) → length xs ≡ 8 → length ys ≡ 8 → EightWords (map (to_z w16) (zip2 f xs ys))
+pub wrapped_words : (f : ℕ → ℕ → ℕ) → ((a b : ℕ) → f a b < 2 ^ 16) → (xs ys : List ℕ) → length xs ≡ 8 → length ys ≡ 8 →
+    EightWords (map (to_z w16) (zip2 f xs ys))
 wrapped_words f h xs ys l m = record { eight = length-map (zip2 f xs ys) (to_z w16) ∙ length-zip2 f xs ys (l ∙ sym m) ∙ l; words = each xs ys }
   where
     word : (n : ℕ) → n < 2 ^ 16 → FitsSigned w16 (to_z w16 n)
@@ -75,6 +79,7 @@ wrapped_words f h xs ys l m = record { eight = length-map (zip2 f xs ys) (to_z w
     each (x ∷ xs) [] = tt
     each (x ∷ xs) (y ∷ ys) = (word (f x y) (h x y), each xs ys)
 
+-- the guess in lanes: sums of one, two, four and eight
 abbrev adds : ℕ → ℕ → ℕ
 adds a b = (a + b) % 2 ^ 16
 
@@ -93,6 +98,7 @@ fourths xs = zip2 adds xs (0 ∷ 0 ∷ get_or xs 0 0 ∷ get_or xs 1 0 ∷ get_o
 abbrev eighths : List ℕ → List ℕ
 eighths xs = zip2 adds xs (0 ∷ 0 ∷ 0 ∷ 0 ∷ get_or xs 0 0 ∷ get_or xs 1 0 ∷ get_or xs 2 0 ∷ get_or xs 3 0 ∷ [])
 
+-- the guess are words
 pub guess_words : (s : ℕ) (ms : List ℤ) → length ms ≡ 8 → EightWords (map (to_z w16) (eighths (fourths (seconds (firsts s (map (of_z w16) ms))))))
 guess_words s ms l =
     let bits = map (of_z w16) ms in
@@ -112,6 +118,7 @@ none_differ (x ∷ xs) (y ∷ ys) l e =
     let here : x ≡ y = grind arith in
     (λ i. here i ∷ none_differ xs ys (omega arith) rest i)
 
+-- lanes of which none differs are the same
 pub same_lanes : (xs ys : List ℕ) → length xs ≡ 8 → length ys ≡ 8 →
     mask_l (map (top 15) (zip2 (λ a b. cond (not (eqb a b)) (2 ^ 16 - 1) 0) xs ys)) % 2 ^ 64 ≡ 0 → xs ≡ ys
 same_lanes xs ys l m e =
@@ -135,14 +142,16 @@ pub moved : (xs ys : List ℤ) → EightWords xs → EightWords ys →
     to_z w16 (get_or (map (of_z w16) xs ++ map (of_z w16) ys) 6 0) ∷ to_z w16 (get_or (map (of_z w16) xs ++ map (of_z w16) ys) 5 0) ∷
     to_z w16 (get_or (map (of_z w16) xs ++ map (of_z w16) ys) 4 0) ∷ to_z w16 (get_or (map (of_z w16) xs ++ map (of_z w16) ys) 3 0) ∷
     to_z w16 (get_or (map (of_z w16) xs ++ map (of_z w16) ys) 2 0) ∷ to_z w16 (get_or (map (of_z w16) xs ++ map (of_z w16) ys) 1 0) ∷ [])
-    ≡ (get_or ys 7 (pos 0) ∷ get_or xs 7 (pos 0) ∷ get_or xs 6 (pos 0) ∷ get_or xs 5 (pos 0) ∷ get_or xs 4 (pos 0) ∷ get_or xs 3 (pos 0) ∷ get_or xs 2 (pos 0) ∷ get_or xs 1 (pos 0) ∷ [])
+    ≡ (get_or ys 7 (pos 0) ∷ get_or xs 7 (pos 0) ∷ get_or xs 6 (pos 0) ∷ get_or xs 5 (pos 0) ∷ get_or xs 4 (pos 0) ∷ get_or xs 3 (pos 0) ∷
+    get_or xs 2 (pos 0) ∷ get_or xs 1 (pos 0) ∷ [])
 moved xs ys p q =
     by_pairs (FitsSigned w16) (FitsSigned w16) (λ x y. (to_z w16 (of_z w16 x) ≡ x) × (to_z w16 (of_z w16 y) ≡ y))
     (λ xs ys. (to_z w16 (get_or (map (of_z w16) xs ++ map (of_z w16) ys) 15 0) ∷ to_z w16 (get_or (map (of_z w16) xs ++ map (of_z w16) ys) 7 0) ∷
     to_z w16 (get_or (map (of_z w16) xs ++ map (of_z w16) ys) 6 0) ∷ to_z w16 (get_or (map (of_z w16) xs ++ map (of_z w16) ys) 5 0) ∷
     to_z w16 (get_or (map (of_z w16) xs ++ map (of_z w16) ys) 4 0) ∷ to_z w16 (get_or (map (of_z w16) xs ++ map (of_z w16) ys) 3 0) ∷
     to_z w16 (get_or (map (of_z w16) xs ++ map (of_z w16) ys) 2 0) ∷ to_z w16 (get_or (map (of_z w16) xs ++ map (of_z w16) ys) 1 0) ∷ [])
-    ≡ (get_or ys 7 (pos 0) ∷ get_or xs 7 (pos 0) ∷ get_or xs 6 (pos 0) ∷ get_or xs 5 (pos 0) ∷ get_or xs 4 (pos 0) ∷ get_or xs 3 (pos 0) ∷ get_or xs 2 (pos 0) ∷ get_or xs 1 (pos 0) ∷ []))
+    ≡ (get_or ys 7 (pos 0) ∷ get_or xs 7 (pos 0) ∷ get_or xs 6 (pos 0) ∷ get_or xs 5 (pos 0) ∷ get_or xs 4 (pos 0) ∷ get_or xs 3 (pos 0) ∷
+    get_or xs 2 (pos 0) ∷ get_or xs 1 (pos 0) ∷ []))
     (λ x y f g. (to_z-of_z w16 x f, to_z-of_z w16 y g))
     (λ a b c d e f g h a' b' c' d' e' f' g' h' r s t u v w x y. eight_same y.1 y.0 x.0 w.0 v.0 u.0 t.0 s.0)
     xs ys p.eight q.eight p.words q.words
@@ -151,16 +160,20 @@ moved xs ys p q =
 abbrev pub behind_lanes : List ℤ → List ℤ → ℤ → List ℤ
 behind_lanes rs vs s = words_behind s (zip2 mult_r_of rs vs)
 
+-- what the sections store, in lanes
 abbrev pub stored_lanes : List ℤ → List ℤ → ℤ → List ℤ
 stored_lanes rs vs s = zip2 add_of vs (zip2 mult_r_of rs (behind_lanes rs vs s))
 
 -- they are those of the sections, the last of which is in lane 0
 pub record AreSections (rs vs : List ℤ) (s : ℤ) : Type 0 where
   pub value : get_or (behind_lanes rs vs s) 7 (pos 0) ≡ (synthesis_lattice (reverse rs) (reverse vs) s).0
-  pub sections : (get_or (behind_lanes rs vs s) 7 (pos 0) ∷ get_or (stored_lanes rs vs s) 7 (pos 0) ∷ get_or (stored_lanes rs vs s) 6 (pos 0) ∷ get_or (stored_lanes rs vs s) 5 (pos 0) ∷
-      get_or (stored_lanes rs vs s) 4 (pos 0) ∷ get_or (stored_lanes rs vs s) 3 (pos 0) ∷ get_or (stored_lanes rs vs s) 2 (pos 0) ∷ get_or (stored_lanes rs vs s) 1 (pos 0) ∷ [])
+  pub sections : (get_or (behind_lanes rs vs s) 7 (pos 0) ∷ get_or (stored_lanes rs vs s) 7 (pos 0) ∷ get_or (stored_lanes rs vs s) 6 (pos 0) ∷
+      get_or (stored_lanes rs vs s) 5 (pos 0) ∷
+      get_or (stored_lanes rs vs s) 4 (pos 0) ∷ get_or (stored_lanes rs vs s) 3 (pos 0) ∷ get_or (stored_lanes rs vs s) 2 (pos 0) ∷
+      get_or (stored_lanes rs vs s) 1 (pos 0) ∷ [])
       ≡ sections_after (synthesis_lattice (reverse rs) (reverse vs) s)
 
+-- in lanes a sample goes through the sections as through the lattice
 pub are_sections : (rs vs : List ℤ) (s : ℤ) → length rs ≡ 8 → length vs ≡ 8 → AreSections rs vs s
 are_sections rs vs s l m =
     by_eight (λ rs. AreSections rs vs s)
@@ -169,25 +182,35 @@ are_sections rs vs s l m =
 
 -- ---- the order of the lanes
 
+-- eight words with the last one first
 pub turned : (xs : List ℤ) → length xs ≡ 8 →
     FitsSigned w16 (get_or xs 0 (pos 0)) → FitsSigned w16 (get_or xs 1 (pos 0)) → FitsSigned w16 (get_or xs 2 (pos 0)) → FitsSigned w16 (get_or xs 3 (pos 0)) →
     FitsSigned w16 (get_or xs 4 (pos 0)) → FitsSigned w16 (get_or xs 5 (pos 0)) → FitsSigned w16 (get_or xs 6 (pos 0)) → FitsSigned w16 (get_or xs 7 (pos 0)) →
-    (to_z w16 (of_z w16 (get_or xs 7 (pos 0))) ∷ to_z w16 (of_z w16 (get_or xs 6 (pos 0))) ∷ to_z w16 (of_z w16 (get_or xs 5 (pos 0))) ∷ to_z w16 (of_z w16 (get_or xs 4 (pos 0))) ∷
-    to_z w16 (of_z w16 (get_or xs 3 (pos 0))) ∷ to_z w16 (of_z w16 (get_or xs 2 (pos 0))) ∷ to_z w16 (of_z w16 (get_or xs 1 (pos 0))) ∷ to_z w16 (of_z w16 (get_or xs 0 (pos 0))) ∷ []) ≡ reverse xs
+    (to_z w16 (of_z w16 (get_or xs 7 (pos 0))) ∷ to_z w16 (of_z w16 (get_or xs 6 (pos 0))) ∷ to_z w16 (of_z w16 (get_or xs 5 (pos 0))) ∷
+    to_z w16 (of_z w16 (get_or xs 4 (pos 0))) ∷
+    to_z w16 (of_z w16 (get_or xs 3 (pos 0))) ∷ to_z w16 (of_z w16 (get_or xs 2 (pos 0))) ∷ to_z w16 (of_z w16 (get_or xs 1 (pos 0))) ∷
+    to_z w16 (of_z w16 (get_or xs 0 (pos 0))) ∷ []) ≡ reverse xs
 turned xs l a b c d e f g h =
-    eight_same (to_z-of_z w16 _ h) (to_z-of_z w16 _ g) (to_z-of_z w16 _ f) (to_z-of_z w16 _ e) (to_z-of_z w16 _ d) (to_z-of_z w16 _ c) (to_z-of_z w16 _ b) (to_z-of_z w16 _ a) ∙
-    by_eight (λ xs. (get_or xs 7 (pos 0) ∷ get_or xs 6 (pos 0) ∷ get_or xs 5 (pos 0) ∷ get_or xs 4 (pos 0) ∷ get_or xs 3 (pos 0) ∷ get_or xs 2 (pos 0) ∷ get_or xs 1 (pos 0) ∷ get_or xs 0 (pos 0) ∷ []) ≡ reverse xs)
+    eight_same (to_z-of_z w16 _ h) (to_z-of_z w16 _ g) (to_z-of_z w16 _ f) (to_z-of_z w16 _ e) (to_z-of_z w16 _ d) (to_z-of_z w16 _ c) (to_z-of_z w16 _ b)
+    (to_z-of_z w16 _ a) ∙
+    by_eight (λ xs. (get_or xs 7 (pos 0) ∷ get_or xs 6 (pos 0) ∷ get_or xs 5 (pos 0) ∷ get_or xs 4 (pos 0) ∷ get_or xs 3 (pos 0) ∷ get_or xs 2 (pos 0) ∷
+    get_or xs 1 (pos 0) ∷ get_or xs 0 (pos 0) ∷ []) ≡ reverse xs)
     (λ a b c d e f g h. refl) xs l
 
-pub turned_factors : (xs : List ℤ) → length xs ≡ 8 → AreFactors xs → EightFactors (reverse xs)
+pub turned_factors : (xs : List ℤ) → length xs ≡ 8 → AreEightFactors xs → EightFactors (reverse xs)
 turned_factors xs l =
-    by_eight (λ xs. AreFactors xs → EightFactors (reverse xs))
-    (λ a b c d e f g h p. record { eight = refl; factors = (p 7 (lit< tt), (p 6 (lit< tt), (p 5 (lit< tt), (p 4 (lit< tt), (p 3 (lit< tt), (p 2 (lit< tt), (p 1 (lit< tt), (p 0 (lit< tt), tt)))))))) }) xs l
+    by_eight (λ xs. AreEightFactors xs → EightFactors (reverse xs))
+    (λ a b c d e f g h p. record {
+      eight = refl;
+      factors =
+          (p 7 (lit< tt), (p 6 (lit< tt), (p 5 (lit< tt), (p 4 (lit< tt), (p 3 (lit< tt), (p 2 (lit< tt), (p 1 (lit< tt), (p 0 (lit< tt), tt))))))));
+    }) xs l
 
 -- the lanes that a frame leaves
 pub turned_back : (ns : List ℕ) → length ns ≡ 8 →
     (to_z w16 (get_or (ns ++ ns) 7 0) ∷ to_z w16 (get_or (ns ++ ns) 6 0) ∷ to_z w16 (get_or (ns ++ ns) 5 0) ∷ to_z w16 (get_or (ns ++ ns) 4 0) ∷
-    to_z w16 (get_or (ns ++ ns) 3 0) ∷ to_z w16 (get_or (ns ++ ns) 2 0) ∷ to_z w16 (get_or (ns ++ ns) 1 0) ∷ to_z w16 (get_or (ns ++ ns) 0 0) ∷ []) ≡ reverse (map (to_z w16) ns)
+    to_z w16 (get_or (ns ++ ns) 3 0) ∷ to_z w16 (get_or (ns ++ ns) 2 0) ∷ to_z w16 (get_or (ns ++ ns) 1 0) ∷ to_z w16 (get_or (ns ++ ns) 0 0) ∷ []) ≡
+    reverse (map (to_z w16) ns)
 turned_back (a ∷ b ∷ c ∷ d ∷ e ∷ f ∷ g ∷ h ∷ []) l = refl
 turned_back [] l = absurd (omega arith)
 turned_back (a ∷ []) l = absurd (omega arith)

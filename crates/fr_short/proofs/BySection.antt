@@ -51,7 +51,8 @@ beyond_one rs i u ds savs ds' savs' long next d sav (suc n) k us l =
     let i1 : i + 1 ≡ suc i = omega arith in
     let e : drop i (rs k) ≡ get_or (rs k) i (pos 0) ∷ drop (i + 1) (rs k) = rw i1 (drop-cons (rs k) i (pos 0) (long k)) in
     let x = analysis_lattice (drop (i + 1) (rs k)) us (ds' k) (savs' k) in
-    let o : analysis_lattice (drop i (rs k)) (u k ∷ us) (ds k) (savs k) ≡ (x.0, u (k + 1) ∷ x.1) = rw (e, d k (omega arith), sav k (omega arith), next k) refl in
+    let o : analysis_lattice (drop i (rs k)) (u k ∷ us) (ds k) (savs k) ≡ (x.0, u (k + 1) ∷ x.1) =
+    rw (e, d k (omega arith), sav k (omega arith), next k) refl in
     let h = beyond_one rs i u ds savs ds' savs' long next d sav n (k + 1) x.1 (omega arith) in
     rw (o, h) refl
 
@@ -63,11 +64,13 @@ pub record Sectioned (rs : ℕ → List ℤ) (us0 s us ds savs : List ℤ) (i : 
   pub out : (beyond rs i 160 0 (drop i us) (λ j. get_or ds j (pos 0)) (λ j. get_or savs j (pos 0))).0 ≡ (analysed_samples rs 0 us0 s).0
   pub kept : take i us ++ (beyond rs i 160 0 (drop i us) (λ j. get_or ds j (pos 0)) (λ j. get_or savs j (pos 0))).1 ≡ (analysed_samples rs 0 us0 s).1
 
+-- no section is passed yet
 pub sectioned_none : (rs : ℕ → List ℤ) (us s : List ℤ) → length us ≡ 8 → length s ≡ 160 → Sectioned rs us s us s s 0
 sectioned_none rs us s lu ls =
     let e : analysed_samples rs 0 us s ≡ beyond rs 0 160 0 us (λ j. get_or s j (pos 0)) (λ j. get_or s j (pos 0)) = beyond_none rs 160 0 us s ls in
     record { us_count = lu; ds_count = ls; savs_count = ls; out = ap (λ x. x.0) (sym e); kept = ap (λ x. x.1) (sym e) }
 
+-- one section more
 pub sectioned_next : (rs : ℕ → List ℤ) (rs_i : ℕ → ℤ) (us0 s us ds savs ds' savs' : List ℤ) (i : ℕ) (u last : ℤ) → i < 8 → ((j : ℕ) → length (rs j) ≡ 8) →
     length ds' ≡ 160 → length savs' ≡ 160 → Sectioned rs us0 s us ds savs i → u ≡ get_or us i (pos 0) →
     ((j : ℕ) → j < 160 → rs_i j ≡ get_or (rs j) i (pos 0)) →
@@ -90,6 +93,7 @@ sectioned_next rs rs_i us0 s us ds savs ds' savs' i u last l long ld ls h eu er 
       kept = rw (t, d, append_assoc, el) (rw (e, one) at h.kept);
     }
 
+-- all eight are the lattice
 pub sectioned_all : (rs : ℕ → List ℤ) (us0 s us ds savs : List ℤ) (i : ℕ) → 8 ≤ i → ((j : ℕ) → length (rs j) ≡ 8) → Sectioned rs us0 s us ds savs i →
     (ds ≡ (analysed_samples rs 0 us0 s).0) × (us ≡ (analysed_samples rs 0 us0 s).1)
 sectioned_all rs us0 s us ds savs i l long h =

@@ -9,6 +9,7 @@ pub record Over (f : ℕ → ℤ) (old xs : List ℤ) (k : ℕ) : Type 0 where
   pub written : (j : ℕ) → j < k → get_or xs j (pos 0) ≡ f j
   pub kept : (j : ℕ) → k ≤ j → get_or xs j (pos 0) ≡ get_or old j (pos 0)
 
+-- nothing made anew yet, and one item more
 pub over_start : (f : ℕ → ℤ) (old : List ℤ) → length old ≡ 160 → Over f old old 0
 over_start f old l = record { count = l; written = λ j b. absurd (omega arith); kept = λ j b. refl }
 

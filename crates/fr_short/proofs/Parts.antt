@@ -27,6 +27,7 @@ pub front_ends : (p : ℕ) → p < 3 → part_start (p + 1) ≤ 40
 unfolding part_start
 front_ends p l = grind arith
 
+-- from sample 40 on it is the last part
 pub rest_is_last : (k : ℕ) → 40 ≤ k → part_of k ≡ 3
 unfolding part_of
 rest_is_last k l = grind arith

@@ -4,7 +4,7 @@ use Rattle.std.proofs.lemmas.List.{length-set, drop_all, take_all, append-nil}
 use Rattle.std.proofs.lemmas.Grind.{take-set_at}
 use Rattle.trau_num.specs.Num.{add_of, mult_r_of}
 use Rattle.fr_short.specs.Deemphasis.{deemphasised, last_of}
-use Rattle.fr_short.specs.Steps.{followed}
+use Rattle.fr_short.specs.Stepped.{stepped}
 use Rattle.fr_short.specs.Synthesis.{synthesis_lattice, sections_after, filtered_samples}
 
 -- one sample y of the definition, with the coefficients r
@@ -15,32 +15,35 @@ unfolding filtered_samples
 one rs k vs d r y x vs' h er ey ex ev = let e = drop-cons d k (pos 0) h in rw (ex, ev, er, ey, e, add-one) refl
 
 -- what is made of samples as they are, and by de-emphasis
-pub followed_plain : (before : ℤ) (xs : List ℤ) → followed (λ sample last. sample) before xs ≡ xs
-followed_plain before [] = refl
-followed_plain before (x ∷ xs) = ap (λ l. x ∷ l) (followed_plain x xs)
+pub stepped_plain : (before : ℤ) (xs : List ℤ) → stepped (λ sample last. sample) before xs ≡ xs
+stepped_plain before [] = refl
+stepped_plain before (x ∷ xs) = ap (λ l. x ∷ l) (stepped_plain x xs)
 
-pub followed_emphasis : (before : ℤ) (xs : List ℤ) → followed (λ sample last. add_of sample (mult_r_of (pos 28180) last)) before xs ≡ deemphasised before xs
-followed_emphasis before [] = refl
-followed_emphasis before (x ∷ xs) = ap (λ l. add_of x (mult_r_of (pos 28180) before) ∷ l) (followed_emphasis (add_of x (mult_r_of (pos 28180) before)) xs)
+pub stepped_deemphasis : (before : ℤ) (xs : List ℤ) → stepped (λ sample last. add_of sample (mult_r_of (pos 28180) last)) before xs ≡ deemphasised before xs
+stepped_deemphasis before [] = refl
+stepped_deemphasis before (x ∷ xs) = ap (λ l. add_of x (mult_r_of (pos 28180) before) ∷ l) (stepped_deemphasis (add_of x (mult_r_of (pos 28180) before)) xs)
 
 -- k samples are done, of which the last was made so, and what is left gives the rest
 pub record Run (f : ℤ → ℤ → ℤ) (rs : ℕ → List ℤ) (start d : List ℤ) (before : ℤ) (vs : List ℤ) (last : ℤ) (s : List ℤ) (k : ℕ) : Type 0 where
   pub count : length s ≡ length d
-  pub samples : take k s ++ followed f last (filtered_samples rs k vs (drop k d)).0 ≡ followed f before (filtered_samples rs 0 start d).0
-  pub newest : last_of last (followed f last (filtered_samples rs k vs (drop k d)).0) ≡ last_of before (followed f before (filtered_samples rs 0 start d).0)
+  pub samples : take k s ++ stepped f last (filtered_samples rs k vs (drop k d)).0 ≡ stepped f before (filtered_samples rs 0 start d).0
+  pub newest : last_of last (stepped f last (filtered_samples rs k vs (drop k d)).0) ≡ last_of before (stepped f before (filtered_samples rs 0 start d).0)
   pub state : (filtered_samples rs k vs (drop k d)).1 ≡ (filtered_samples rs 0 start d).1
 
+-- no sample made yet, one more, and all
 pub run_start : (f : ℤ → ℤ → ℤ) (rs : ℕ → List ℤ) (start d : List ℤ) (before : ℤ) (s : List ℤ) → length s ≡ length d → Run f rs start d before start before s 0
 run_start f rs start d before s l = record { count = l; samples = refl; newest = refl; state = refl }
 
-pub run_next : (f : ℤ → ℤ → ℤ) (rs : ℕ → List ℤ) (start d : List ℤ) (before : ℤ) (vs : List ℤ) (last : ℤ) (s r : List ℤ) (k : ℕ) (y x m : ℤ) (vs' : List ℤ) → k < length d →
-    Run f rs start d before vs last s k → r ≡ rs k → y ≡ get_or d k (pos 0) → x ≡ (synthesis_lattice r vs y).0 → vs' ≡ sections_after (synthesis_lattice r vs y) →
+pub run_next : (f : ℤ → ℤ → ℤ) (rs : ℕ → List ℤ) (start d : List ℤ) (before : ℤ) (vs : List ℤ) (last : ℤ) (s r : List ℤ) (k : ℕ) (y x m : ℤ) (vs' : List ℤ) →
+    k < length d →
+    Run f rs start d before vs last s k → r ≡ rs k → y ≡ get_or d k (pos 0) → x ≡ (synthesis_lattice r vs y).0 →
+    vs' ≡ sections_after (synthesis_lattice r vs y) →
     m ≡ f x last → Run f rs start d before vs' m (set s k m) (k + 1)
 run_next f rs start d before vs last s r k y x m vs' h run er ey ex ev em =
     let o = one rs k vs d r y x vs' h er ey ex ev in
     let rest : List ℤ = (filtered_samples rs (k + 1) vs' (drop (k + 1) d)).0 in
-    let e : followed f last (filtered_samples rs k vs (drop k d)).0 ≡ m ∷ followed f m rest =
-    ap (λ z. followed f last z.0) o ∙ ap (λ n. n ∷ followed f n rest) (sym em) in
+    let e : stepped f last (filtered_samples rs k vs (drop k d)).0 ≡ m ∷ stepped f m rest =
+    ap (λ z. stepped f last z.0) o ∙ ap (λ n. n ∷ stepped f n rest) (sym em) in
     let count = run.count in
     let t : take (k + 1) (set s k m) ≡ take k s ++ m ∷ [] = take-set_at s k (k + 1) m refl (omega arith) in
     record {
@@ -50,8 +53,10 @@ run_next f rs start d before vs last s r k y x m vs' h run er ey ex ev em =
       state = rw o at run.state;
     }
 
-pub run_end : (f : ℤ → ℤ → ℤ) (rs : ℕ → List ℤ) (start d : List ℤ) (before : ℤ) (vs : List ℤ) (last : ℤ) (s : List ℤ) (k : ℕ) → length d ≤ k → Run f rs start d before vs last s k →
-    (s ≡ followed f before (filtered_samples rs 0 start d).0) × (last ≡ last_of before (followed f before (filtered_samples rs 0 start d).0)) × (vs ≡ (filtered_samples rs 0 start d).1)
+pub run_end : (f : ℤ → ℤ → ℤ) (rs : ℕ → List ℤ) (start d : List ℤ) (before : ℤ) (vs : List ℤ) (last : ℤ) (s : List ℤ) (k : ℕ) → length d ≤ k →
+    Run f rs start d before vs last s k →
+    (s ≡ stepped f before (filtered_samples rs 0 start d).0) × (last ≡ last_of before (stepped f before (filtered_samples rs 0 start d).0)) ×
+    (vs ≡ (filtered_samples rs 0 start d).1)
 unfolding filtered_samples
 run_end f rs start d before vs last s k h r =
     let count = r.count in

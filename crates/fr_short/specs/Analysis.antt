@@ -1,9 +1,8 @@
 -- Short-term analysis (GSM 06.10, section 4.2.10): one frame from the memory before it, and all frames from home.
-use Rattle.std.specs.Prelude.{◌≡◌, ℕ, ◌+◌, ℤ, pos, List, [], ◌∷◌, replicate}
+use Rattle.std.specs.Prelude.{ℕ, ◌+◌, ℤ, pos, List, [], ◌∷◌, replicate}
 use Rattle.trau_num.specs.Num.{add_of, mult_r_of}
 use Rattle.fr_short.specs.Ratios.{decoded_ratios}
 use Rattle.fr_short.specs.Reflection.{coefficients_at}
-use Rattle.fr_short.specs.Memory.{ShortMemory}
 
 -- d and sav through the sections, the first one first: the d that comes out of the last, and the sav that each keeps as its u
 abbrev pub analysis_lattice : List ℤ → List ℤ → ℤ → ℤ → ℤ × List ℤ
@@ -20,13 +19,6 @@ analysed_samples rs k us (s ∷ ss) =
     let x = analysis_lattice (rs k) us s s in
     let rest = analysed_samples rs (k + 1) x.1 ss in
     (x.0 ∷ rest.0, rest.1)
-
--- one frame: the residual, and the memory after it, from the memory before it, the ratio codes and the samples
-unfoldable pub analysed_frame : ShortMemory → List ℕ → List ℤ → List ℤ × ShortMemory
-analysed_frame memory codes samples =
-    let ratios = decoded_ratios codes in
-    let x = analysed_samples (coefficients_at memory.ratios ratios) 0 memory.sections samples in
-    (x.0, record { ratios = ratios; sections = x.1 })
 
 -- what one frame gives to the analysis: its ratio codes, and its 160 preprocessed samples
 pub record SampleFrame : Type 0 where
@@ -47,8 +39,3 @@ unfoldable pub analysis_of : List SampleFrame → List ℤ × List ℤ
 analysis_of [] = ([], replicate 8 (pos 0))
 analysis_of (f ∷ past) =
     analysed_samples (coefficients_at (newest_sample_ratios past) (decoded_ratios f.codes)) 0 (analysis_of past).1 f.samples
-
--- the memory after the frames of the past
-pub record AnalysisStands (past : List SampleFrame) (memory : ShortMemory) : Type 0 where
-  pub ratios : memory.ratios ≡ newest_sample_ratios past
-  pub sections : memory.sections ≡ (analysis_of past).1

@@ -1,10 +1,12 @@
 pub mod Ratios
 pub mod Reflection
-pub mod Memory
-pub mod Steps
 pub mod Synthesis
 pub mod Analysis
 pub mod AnalysisSection
+pub mod Deemphasis
+pub mod Memory
+pub mod Step
+pub mod Stands
+pub mod Stepped
 pub mod Words
 pub mod Lanes
-pub mod Deemphasis

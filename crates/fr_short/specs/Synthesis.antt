@@ -1,9 +1,8 @@
 -- Short-term synthesis (GSM 06.10, section 4.3.4): one frame from the memory before it, and all frames from home.
-use Rattle.std.specs.Prelude.{◌≡◌, ℕ, ◌+◌, ℤ, pos, List, [], ◌∷◌, take, replicate}
-use Rattle.trau_num.specs.Num.{add_of, sub_of, mult_r_of}
+use Rattle.std.specs.Prelude.{ℕ, ◌+◌, ℤ, pos, List, [], ◌∷◌, replicate, take}
+use Rattle.trau_num.specs.Num.{add_of, mult_r_of, sub_of}
 use Rattle.fr_short.specs.Ratios.{decoded_ratios}
 use Rattle.fr_short.specs.Reflection.{coefficients_at}
-use Rattle.fr_short.specs.Memory.{ShortMemory}
 
 -- a sample through the sections, the last one first: what comes out of the first, and what each stores for the next
 abbrev pub synthesis_lattice : List ℤ → List ℤ → ℤ → ℤ × List ℤ
@@ -26,13 +25,6 @@ filtered_samples rs k vs (d ∷ ds) =
     let rest = filtered_samples rs (k + 1) (sections_after x) ds in
     (x.0 ∷ rest.0, rest.1)
 
--- one frame: the samples, and the memory after it, from the memory before it, the ratio codes and the residual
-unfoldable pub synthesised_frame : ShortMemory → List ℕ → List ℤ → List ℤ × ShortMemory
-synthesised_frame memory codes residual =
-    let ratios = decoded_ratios codes in
-    let x = filtered_samples (coefficients_at memory.ratios ratios) 0 memory.sections residual in
-    (x.0, record { ratios = ratios; sections = x.1 })
-
 -- what one frame gives to the synthesis: its ratio codes, and the 160 samples of its reconstructed residual
 pub record ResidualFrame : Type 0 where
   pub codes : List ℕ
@@ -52,8 +44,3 @@ unfoldable pub synthesis_of : List ResidualFrame → List ℤ × List ℤ
 synthesis_of [] = ([], replicate 8 (pos 0))
 synthesis_of (f ∷ past) =
     filtered_samples (coefficients_at (newest_ratios past) (decoded_ratios f.codes)) 0 (synthesis_of past).1 f.residual
-
--- the memory after the frames of the past
-pub record Stands (past : List ResidualFrame) (memory : ShortMemory) : Type 0 where
-  pub ratios : memory.ratios ≡ newest_ratios past
-  pub sections : memory.sections ≡ (synthesis_of past).1

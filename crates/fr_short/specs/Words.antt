@@ -4,9 +4,9 @@ use Rattle.std.specs.Int.{w16}
 use Rattle.trau_num.specs.Num.{entry}
 
 -- each of eight numbers is a word: it fits 16 bits
-abbrev pub AreWords : List ℤ → Type 0
-AreWords xs = (i : ℕ) → i < 8 → FitsSigned w16 (entry xs i)
+abbrev pub AreEightWords : List ℤ → Type 0
+AreEightWords xs = (i : ℕ) → i < 8 → FitsSigned w16 (entry xs i)
 
 -- each of eight numbers is a factor from -32767 to 32767, so that its rounded product with a word is a word
-abbrev pub AreFactors : List ℤ → Type 0
-AreFactors xs = (i : ℕ) → i < 8 → unsigned_abs (entry xs i) ≤ 32767
+abbrev pub AreEightFactors : List ℤ → Type 0
+AreEightFactors xs = (i : ℕ) → i < 8 → unsigned_abs (entry xs i) ≤ 32767

@@ -9,7 +9,7 @@ ghost use Rattle.trau_num.specs.Num.{add_of, mult_r_of, entry};
 ghost use Rattle.fr_short.specs.Reflection.{coefficients_at, part_start};
 ghost use Rattle.fr_short.specs.Analysis.{analysed_samples};
 ghost use Rattle.fr_short.specs.AnalysisSection.{coefficient_at, u_at, next_d, next_sav};
-ghost use Rattle.fr_short.specs.Words.{AreFactors};
+ghost use Rattle.fr_short.specs.Words.{AreEightFactors};
 
 use crate::reflection::{part_start, parts};
 use trau_num::plus;
@@ -54,7 +54,7 @@ fn pass(
     savs: &mut [i16; 160],
 ) -> i16
     requires section { i < 8 }
-    requires factors { (p : ℕ) → p < 4 → AreFactors (slice_index_or parts.now p []) }
+    requires factors { (p : ℕ) → p < 4 → AreEightFactors (slice_index_or parts.now p []) }
     ensures ds { (k : ℕ) → k < 160 → entry ds.new k ≡ next_d (coefficient_at parts.now i) first ds.old savs.old k }
     ensures savs { (k : ℕ) → k < 160 → entry savs.new k ≡ next_sav (coefficient_at parts.now i) first ds.old savs.old k }
     ensures last { result ≡ u_at first savs.old 160 }

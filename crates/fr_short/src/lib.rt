@@ -9,9 +9,11 @@
 //! `ratios` decodes the codes, `reflection` makes the coefficients of each part, `analysis` and `synthesis` are
 //! the lattices, `state` what one direction remembers from frame to frame.
 //!
-//! Definitions: `specs/Ratios.antt`, `specs/Reflection.antt`, `specs/Memory.antt`, `specs/Analysis.antt`,
-//! `specs/Synthesis.antt`; `specs/AnalysisSection.antt` (one section of the analysis lattice over a frame),
-//! `specs/Words.antt` (the ranges of what the lattices compute with).
+//! Definitions: `specs/Ratios.antt`, `specs/Reflection.antt`, `specs/Analysis.antt`, `specs/Synthesis.antt`,
+//! `specs/Deemphasis.antt`; `specs/Memory.antt`, `specs/Step.antt` and `specs/Stands.antt` (what a direction keeps, one
+//! frame, and what the memory stands for); `specs/AnalysisSection.antt` (one section of the analysis lattice over a
+//! frame), `specs/Stepped.antt` and `specs/Lanes.antt` (the forms that the code computes), `specs/Words.antt` (the ranges
+//! of what the lattices compute with).
 #![tactic(auto)]
 
 mod analysis;

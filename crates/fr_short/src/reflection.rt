@@ -3,7 +3,7 @@
 ghost use Rattle.std.specs.Prelude.{◌≡◌, ℕ, ◌<◌, ◌≤◌, pos, ◌≤ℤ◌, unsigned_abs, slice_index_or, []};
 ghost use Rattle.trau_num.specs.Num.{entry};
 ghost use Rattle.fr_short.specs.Reflection.{part_start, interpolated_ratio, coefficient_magnitude, reflection_of, coefficients_of};
-ghost use Rattle.fr_short.specs.Words.{AreFactors};
+ghost use Rattle.fr_short.specs.Words.{AreEightFactors};
 
 use trau_num::{abs16, add};
 
@@ -61,7 +61,7 @@ fn reflection(ratio: i16) -> i16
 #[tactic(auto, unfolding(crate::specs::Reflection::coefficients_of))]
 pub(crate) fn coefficients(old: &[i16; 8], new: &[i16; 8], part: usize) -> [i16; 8]
     ensures value { result ≡ coefficients_of old.now new.now part }
-    ensures factors { AreFactors result }
+    ensures factors { AreEightFactors result }
 {
     let mut rs = [0; 8];
     for i in 0..8 {
@@ -73,7 +73,7 @@ pub(crate) fn coefficients(old: &[i16; 8], new: &[i16; 8], part: usize) -> [i16;
 /// The coefficients in each part.
 pub(crate) fn parts(old: &[i16; 8], new: &[i16; 8]) -> [[i16; 8]; 4]
     ensures value { (p : ℕ) → p < 4 → slice_index_or result p [] ≡ coefficients_of old.now new.now p }
-    ensures factors { (p : ℕ) → p < 4 → AreFactors (slice_index_or result p []) }
+    ensures factors { (p : ℕ) → p < 4 → AreEightFactors (slice_index_or result p []) }
 {
     [
         coefficients(old, new, 0),

@@ -3,9 +3,11 @@
 ghost use Rattle.std.specs.Prelude.{◌≡◌, List, [], ◌∷◌};
 ghost use Rattle.trau_params.specs.Widths.{FitLarc};
 ghost use Rattle.fr_short.specs.Memory.{ShortMemory, home_memory};
-ghost use Rattle.fr_short.specs.Synthesis.{ResidualFrame, residual_frame, synthesised_frame, synthesis_of, Stands};
+ghost use Rattle.fr_short.specs.Synthesis.{ResidualFrame, residual_frame, synthesis_of};
+ghost use Rattle.fr_short.specs.Step.{synthesised_frame, analysed_frame};
+ghost use Rattle.fr_short.specs.Stands.{SynthesisStands, AnalysisStands};
 ghost use Rattle.fr_short.specs.Deemphasis.{deemphasised, last_of};
-ghost use Rattle.fr_short.specs.Analysis.{SampleFrame, sample_frame, analysed_frame, analysis_of, AnalysisStands};
+ghost use Rattle.fr_short.specs.Analysis.{SampleFrame, sample_frame, analysis_of};
 
 use crate::analysis::analyse;
 use crate::ratios::decode_larc;
@@ -31,7 +33,7 @@ impl ShortState {
     #[tactic(auto, unfolding(crate::specs::Synthesis::newest_ratios, crate::specs::Synthesis::synthesis_of, crate::specs::Analysis::newest_sample_ratios, crate::specs::Analysis::analysis_of))]
     pub fn home() -> ShortState
         ensures value { result ≡ home_memory }
-        ensures stands { Stands [] result }
+        ensures stands { SynthesisStands [] result }
         ensures analysis_stands { AnalysisStands [] result }
     {
         ShortState {
@@ -42,15 +44,15 @@ impl ShortState {
 
     /// Filters the residual `d` of a frame into its 160 samples `s`, with the eight codes of its log area ratios,
     /// each within its width (GSM 06.10, section 4.3.4). What `s` held before is lost.
-    #[tactic(auto, unfolding(crate::specs::Synthesis::synthesised_frame, crate::specs::Synthesis::newest_ratios, crate::specs::Synthesis::synthesis_of))]
+    #[tactic(auto, unfolding(crate::specs::Step::synthesised_frame, crate::specs::Synthesis::newest_ratios, crate::specs::Synthesis::synthesis_of))]
     pub fn synthesise_frame(&mut self, larc: &[u8; 8], d: &[i16; 160], s: &mut [i16; 160])
         requires { FitLarc larc.now }
         ensures samples { s.new ≡ (synthesised_frame self.old larc.now d.now).0 }
         ensures memory { self.new ≡ (synthesised_frame self.old larc.now d.now).1 }
 
         // After the frames of any past, this one is the newest.
-        ensures history { (past : List ResidualFrame) → Stands past self.old
-            → Stands (residual_frame larc.now d.now ∷ past) self.new
+        ensures history { (past : List ResidualFrame) → SynthesisStands past self.old
+            → SynthesisStands (residual_frame larc.now d.now ∷ past) self.new
             × (s.new ≡ (synthesis_of (residual_frame larc.now d.now ∷ past)).0) }
     {
         let ratios = decode_larc(larc);
@@ -60,7 +62,7 @@ impl ShortState {
 
     /// The same with de-emphasis after it (GSM 06.10, section 4.3.5), into `msr`. `before` is the last de-emphasised
     /// sample of the frame before; that of this frame is answered.
-    #[tactic(auto, unfolding(crate::specs::Synthesis::synthesised_frame, crate::specs::Synthesis::newest_ratios, crate::specs::Synthesis::synthesis_of))]
+    #[tactic(auto, unfolding(crate::specs::Step::synthesised_frame, crate::specs::Synthesis::newest_ratios, crate::specs::Synthesis::synthesis_of))]
     pub fn synthesise_deemphasised(
         &mut self,
         larc: &[u8; 8],
@@ -74,8 +76,8 @@ impl ShortState {
         ensures memory { self.new ≡ (synthesised_frame self.old larc.now d.now).1 }
 
         // After the frames of any past, this one is the newest.
-        ensures history { (past : List ResidualFrame) → Stands past self.old
-            → Stands (residual_frame larc.now d.now ∷ past) self.new
+        ensures history { (past : List ResidualFrame) → SynthesisStands past self.old
+            → SynthesisStands (residual_frame larc.now d.now ∷ past) self.new
             × (msr.new ≡ deemphasised before (synthesis_of (residual_frame larc.now d.now ∷ past)).0) }
     {
         let ratios = decode_larc(larc);
@@ -86,7 +88,7 @@ impl ShortState {
 
     /// Filters the 160 samples `s` of a frame, preprocessed, into their residual, which it leaves in `s`, with the
     /// eight codes of the frame's log area ratios, each within its width (GSM 06.10, section 4.2.10).
-    #[tactic(auto, unfolding(crate::specs::Analysis::analysed_frame, crate::specs::Analysis::newest_sample_ratios, crate::specs::Analysis::analysis_of))]
+    #[tactic(auto, unfolding(crate::specs::Step::analysed_frame, crate::specs::Analysis::newest_sample_ratios, crate::specs::Analysis::analysis_of))]
     pub fn analyse_frame(&mut self, larc: &[u8; 8], s: &mut [i16; 160])
         requires { FitLarc larc.now }
         ensures residual { s.new ≡ (analysed_frame self.old larc.now s.old).0 }

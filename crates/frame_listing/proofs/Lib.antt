@@ -1,2 +1,3 @@
--- Lemmas on listings.
+-- Lemmas on listings, and on blocks of a line.
+pub mod Blocks
 mod Rounds

@@ -1,24 +1,27 @@
 -- A listing over one period after another.
-use Rattle.std.proofs.Common.{◌≡◌, inl, inr, ℕ, ◌+◌, ◌-◌, ◌^◌, ◌≤◌, List, [], ◌∷◌, ◌++◌, length, take, reverse, Option, Some, None, refl, sym, ◌∙◌, ap, subst, arith, length-append}
+use Rattle.std.proofs.Common.{◌≡◌, inl, inr, ℕ, ◌+◌, ◌-◌, ◌^◌, ◌<◌, ◌≤◌, List, [], ◌∷◌, ◌++◌, length, take, reverse, Option, Some, None, refl, sym, ◌∙◌, ap, subst, arith, length-append}
 use Rattle.std.specs.Prelude.{option_to_list}
 use Rattle.std.specs.List.{concat, flat_map}
 use Rattle.std.proofs.lemmas.Grind.{flat_map-append}
 use Rattle.std.proofs.lemmas.List.{append-nil, reverse-append}
 use Rattle.std.proofs.lemmas.List.Elements.{All-append, All-cons, All-nil}
-use Rattle.std.proofs.lemmas.List.Folds.{concat-append}
 use Rattle.std.proofs.KnownBytes.{Consumes-nil, Consumes-trans, Appends-nil, Appends-trans}
 use Rattle.trau_io.specs.Lines.{LineState, Rose}
 use Rattle.trau_io.specs.Desks.{DeskState}
 use Rattle.frame_sync.specs.declared.yields.Yield.{Yield}
 use Rattle.frame_sync.specs.Periods.{ArePeriods, all_yields, each_yield, yield_of}
-use Rattle.frame_sync.specs.Step.{SyncMemory, Stands}
+use Rattle.frame_sync.specs.Memory.{SyncMemory}
+use Rattle.frame_sync.specs.Stands.{Stands}
 use Rattle.frame_listing.specs.declared.list.ListEnd.TheVariants as list
 use Rattle.frame_listing.specs.declared.list.PeriodEnd.TheVariants.{Without, Listed, LineEnded, ReadFailed, DeskFailed}
 use Rattle.frame_listing.specs.Lists.{Lists, Moves}
 use Rattle.frame_listing.specs.Step.{ListsOn, NoFault, Takes}
 use Rattle.frame_listing.specs.Texts.{line_of, listed}
+use Rattle.frame_listing.proofs.Blocks.{concat_push, few_with, front_of}
 
-moves_on : (u0 u1 u2 : LineState) (k0 k1 k2 : DeskState) (g h s t : List ℕ) → Moves u0 u1 k0 k1 g s → Moves u1 u2 k1 k2 h t → Moves u0 u2 k0 k2 (g ++ h) (s ++ t)
+-- one move after another
+moves_on : (u0 u1 u2 : LineState) (k0 k1 k2 : DeskState) (g h s t : List ℕ) → Moves u0 u1 k0 k1 g s → Moves u1 u2 k1 k2 h t →
+    Moves u0 u2 k0 k2 (g ++ h) (s ++ t)
 moves_on u0 u1 u2 k0 k1 k2 g h s t first second = record {
   read = Consumes-trans _ _ _ _ _ first.read second.read;
   up_written = second.up_written ∙ first.up_written;
@@ -30,7 +33,8 @@ moves_on u0 u1 u2 k0 k1 k2 g h s t first second = record {
 }
 
 -- the yields of one period more
-yields_more : (periods : List (List ℕ)) (given : List ℕ) → all_yields (periods ++ given ∷ []) ≡ all_yields periods ++ option_to_list (yield_of given (reverse periods))
+yields_more : (periods : List (List ℕ)) (given : List ℕ) →
+    all_yields (periods ++ given ∷ []) ≡ all_yields periods ++ option_to_list (yield_of given (reverse periods))
 unfolding each_yield
 yields_more periods given =
     ap (λ past. flat_map option_to_list (each_yield past)) (reverse-append periods (given ∷ []))
@@ -38,16 +42,10 @@ yields_more periods given =
     ∙ ap (λ l. all_yields periods ++ l) (append-nil (option_to_list (yield_of given (reverse periods))))
 
 -- and their lines
-listed_more : (periods : List (List ℕ)) (given : List ℕ) → listed (periods ++ given ∷ []) ≡ listed periods ++ flat_map line_of (option_to_list (yield_of given (reverse periods)))
-listed_more periods given = ap (flat_map line_of) (yields_more periods given) ∙ flat_map-append line_of (all_yields periods) (option_to_list (yield_of given (reverse periods)))
-
-concat_push : (periods : List (List ℕ)) (given : List ℕ) → concat (periods ++ given ∷ []) ≡ concat periods ++ given
-concat_push periods given = concat-append periods (given ∷ []) ∙ ap (λ l. concat periods ++ l) (append-nil given)
-
--- a front of a line of text behind the earlier ones is a front of all
-front_of : (before front line : List ℕ) → front ≡ take (length front) line → before ++ front ≡ take (length (before ++ front)) (before ++ line)
-front_of [] front line is = is
-front_of (b ∷ before) front line is = ap (λ l. b ∷ l) (front_of before front line is)
+listed_more : (periods : List (List ℕ)) (given : List ℕ) →
+    listed (periods ++ given ∷ []) ≡ listed periods ++ flat_map line_of (option_to_list (yield_of given (reverse periods)))
+listed_more periods given = ap (flat_map line_of) (yields_more periods given)
+    ∙ flat_map-append line_of (all_yields periods) (option_to_list (yield_of given (reverse periods)))
 
 -- the listing so far: n whole periods, for which the search stands, all of whose yields are listed, and no fault
 pub record SoFar (sync : SyncMemory) (u0 u1 : LineState) (k0 k1 : DeskState) (n yields : ℕ) : Type 0 where
@@ -61,6 +59,7 @@ pub record SoFar (sync : SyncMemory) (u0 u1 : LineState) (k0 k1 : DeskState) (n 
   pub moves : Moves u0 u1 k0 k1 (concat periods) (listed periods)
   pub calm : NoFault u0 u1 k0 k1
 
+-- before the first period
 pub at_start : (sync : SyncMemory) (u : LineState) (k : DeskState) → sync.periods ≡ 0 → Stands [] sync → SoFar sync u u k k 0 0
 unfolding each_yield
 at_start sync u k none stands = record {
@@ -71,25 +70,42 @@ at_start sync u k none stands = record {
   whole = All-nil (λ octets. length octets ≡ 40);
   yields_are = refl;
   at_most = omega arith;
-  moves = record { read = Consumes-nil u.to_come; up_written = refl; up_later = omega arith; written = Appends-nil k.written; to_come = refl; read_faults = refl; desk_later = omega arith };
+  moves = record {
+    read = Consumes-nil u.to_come;
+    up_written = refl;
+    up_later = omega arith;
+    written = Appends-nil k.written;
+    to_come = refl;
+    read_faults = refl;
+    desk_later = omega arith;
+  };
   calm = record { up_same = refl; desk_same = refl };
 }
 
 module _ (sync sync' : SyncMemory) (u0 u1 u2 : LineState) (k0 k1 k2 : DeskState) (n yields : ℕ) (so_far : SoFar sync u0 u1 k0 k1 n yields) where
+  -- no fault so far, and none in the period
   calm_on : NoFault u1 u2 k1 k2 → NoFault u0 u2 k0 k2
   calm_on calm = record { up_same = calm.up_same ∙ so_far.calm.up_same; desk_same = calm.desk_same ∙ so_far.calm.desk_same }
 
+  -- and one whole period more
   whole_more : (given : List ℕ) → length given ≡ 40 → ArePeriods (so_far.periods ++ given ∷ [])
-  whole_more given long = All-append (λ octets. length octets ≡ 40) so_far.periods (given ∷ []) so_far.whole (All-cons (λ octets. length octets ≡ 40) given [] long (All-nil (λ octets. length octets ≡ 40)))
+  whole_more given long = All-append (λ octets. length octets ≡ 40) so_far.periods (given ∷ []) so_far.whole
+      (All-cons (λ octets. length octets ≡ 40) given [] long (All-nil (λ octets. length octets ≡ 40)))
+
+  count_now : (given : List ℕ) → length (so_far.periods ++ given ∷ []) ≡ n + 1
+  count_now given = length-append so_far.periods (given ∷ []) ∙ ap (λ k. k + 1) so_far.count
 
   -- one period more, with this yield or none
   module _ (given told : List ℕ) (found : Option Yield) (takes : Takes sync sync' given found) (moves : Moves u1 u2 k1 k2 given told) where
+    -- the period's yield is that of the definition
     yield_is : found ≡ yield_of given (reverse so_far.periods)
     yield_is = (takes.history (reverse so_far.periods) so_far.stands).1
 
+    -- the search stands for the period too
     stands_more : Stands (reverse (so_far.periods ++ given ∷ [])) sync'
     stands_more = subst (λ past. Stands past sync') (sym (reverse-append so_far.periods (given ∷ []))) (takes.history (reverse so_far.periods) so_far.stands).0
 
+    -- the yields, their lines and the octets of all periods, with this one
     yields_now : all_yields (so_far.periods ++ given ∷ []) ≡ all_yields so_far.periods ++ option_to_list found
     yields_now = yields_more so_far.periods given ∙ ap (λ f. all_yields so_far.periods ++ option_to_list f) (sym yield_is)
 
@@ -97,12 +113,15 @@ module _ (sync sync' : SyncMemory) (u0 u1 u2 : LineState) (k0 k1 k2 : DeskState)
     listed_now = listed_more so_far.periods given ∙ ap (λ f. listed so_far.periods ++ flat_map line_of (option_to_list f)) (sym yield_is)
 
     moves_now : Moves u0 u2 k0 k2 (concat (so_far.periods ++ given ∷ [])) (listed so_far.periods ++ told)
-    moves_now = subst (λ l. Moves u0 u2 k0 k2 l (listed so_far.periods ++ told)) (sym (concat_push so_far.periods given)) (moves_on _ _ _ _ _ _ _ _ _ _ so_far.moves moves)
+    moves_now = subst (λ l. Moves u0 u2 k0 k2 l (listed so_far.periods ++ told)) (sym (concat_push so_far.periods given))
+        (moves_on _ _ _ _ _ _ _ _ _ _ so_far.moves moves)
 
-    one_more : (more : ℕ) → more ≤ 1 → more ≡ length (option_to_list found) → told ≡ flat_map line_of (option_to_list found) → NoFault u1 u2 k1 k2 → SoFar sync' u0 u2 k0 k2 (n + 1) (yields + more)
+    -- the listing with one period more
+    one_more : (more : ℕ) → more ≤ 1 → more ≡ length (option_to_list found) → told ≡ flat_map line_of (option_to_list found) → NoFault u1 u2 k1 k2 →
+        SoFar sync' u0 u2 k0 k2 (n + 1) (yields + more)
     one_more more at_most number is calm = record {
       periods = so_far.periods ++ given ∷ [];
-      count = length-append so_far.periods (given ∷ []) ∙ ap (λ k. k + 1) so_far.count;
+      count = count_now given;
       counted = takes.counted ∙ ap (λ k. k + 1) so_far.counted;
       stands = stands_more;
       whole = whole_more given takes.whole;
@@ -112,21 +131,25 @@ module _ (sync sync' : SyncMemory) (u0 u1 u2 : LineState) (k0 k1 k2 : DeskState)
       calm = calm_on calm;
     }
 
+  -- a period without a yield, and one whose yield is listed
   pub none_more : ListsOn sync sync' u1 u2 k1 k2 Without → SoFar sync' u0 u2 k0 k2 (n + 1) yields
   none_more one =
       let more = one_more one.given one.told None one.ends.0 one.moves 0 (omega arith) refl one.ends.1 one.ends.2 in
       subst (λ k. SoFar sync' u0 u2 k0 k2 (n + 1) k) (omega arith) more
 
   pub listed_one : ListsOn sync sync' u1 u2 k1 k2 Listed → SoFar sync' u0 u2 k0 k2 (n + 1) (yields + 1)
-  listed_one one = one_more one.given one.told (Some one.ends.found) one.ends.takes one.moves 1 (omega arith) refl (one.ends.line ∙ sym (append-nil (line_of one.ends.found))) one.ends.calm
+  listed_one one = one_more one.given one.told (Some one.ends.found) one.ends.takes one.moves 1 (omega arith) refl
+      (one.ends.line ∙ sym (append-nil (line_of one.ends.found))) one.ends.calm
 
-  pub line_ended : (left : ℕ) → ListsOn sync sync' u1 u2 k1 k2 (LineEnded left) → Lists u0 u2 k0 k2 (list.Done yields left)
-  line_ended left one = record {
+  -- the line ended, or failed, or the desk did
+  pub line_ended : n < 2 ^ 32 - 1 → (left : ℕ) → ListsOn sync sync' u1 u2 k1 k2 (LineEnded left) → Lists u0 u2 k0 k2 (list.Done yields left)
+  line_ended room left one = record {
     periods = so_far.periods;
     last = one.given;
     told = listed so_far.periods ++ one.told;
     whole = so_far.whole;
     moves = moves_on _ _ _ _ _ _ _ _ _ _ so_far.moves one.moves;
+    few = few_with 40 _ so_far.periods one.given n so_far.whole so_far.count (omega (arith, room, one.ends.1));
     ends = record {
       at_end = inl one.ends.2;
       yields_are = so_far.yields_are;
@@ -138,14 +161,16 @@ module _ (sync sync' : SyncMemory) (u0 u1 u2 : LineState) (k0 k1 k2 : DeskState)
     };
   }
 
-  pub read_failed : ListsOn sync sync' u1 u2 k1 k2 ReadFailed → Lists u0 u2 k0 k2 list.ReadFailed
-  read_failed one = record {
+  pub read_failed : n < 2 ^ 32 - 1 → ListsOn sync sync' u1 u2 k1 k2 ReadFailed → Lists u0 u2 k0 k2 list.ReadFailed
+  read_failed room one = record {
     periods = so_far.periods;
     last = one.given;
     told = listed so_far.periods ++ one.told;
     whole = so_far.whole;
     moves = moves_on _ _ _ _ _ _ _ _ _ _ so_far.moves one.moves;
+    few = few_with 40 _ so_far.periods one.given n so_far.whole so_far.count (omega (arith, room, one.ends.0));
     ends = record {
+      room = omega (arith, so_far.count, room);
       part = one.ends.0;
       all_told = ap (λ l. listed so_far.periods ++ l) one.ends.2 ∙ append-nil (listed so_far.periods);
       rose = subst (λ before. Rose before u2.faults) so_far.calm.up_same one.ends.1;
@@ -153,17 +178,19 @@ module _ (sync sync' : SyncMemory) (u0 u1 u2 : LineState) (k0 k1 k2 : DeskState)
     };
   }
 
-  pub desk_failed : ListsOn sync sync' u1 u2 k1 k2 DeskFailed → Lists u0 u2 k0 k2 list.DeskFailed
-  desk_failed one =
+  pub desk_failed : n < 2 ^ 32 - 1 → ListsOn sync sync' u1 u2 k1 k2 DeskFailed → Lists u0 u2 k0 k2 list.DeskFailed
+  desk_failed room one =
       let cut = one.ends in
       let periods = so_far.periods ++ one.given ∷ [] in
       let told = listed so_far.periods ++ one.told in
-      let all : listed periods ≡ listed so_far.periods ++ line_of cut.found = listed_now one.given one.told (Some cut.found) cut.takes one.moves ∙ ap (λ l. listed so_far.periods ++ l) (append-nil (line_of cut.found)) in
+      let all : listed periods ≡ listed so_far.periods ++ line_of cut.found = listed_now one.given one.told (Some cut.found) cut.takes one.moves
+      ∙ ap (λ l. listed so_far.periods ++ l) (append-nil (line_of cut.found)) in
       record {
         periods = periods;
         last = [];
         told = told;
         whole = whole_more one.given cut.takes.whole;
+        few = few_with 40 _ periods [] (n + 1) (whole_more one.given cut.takes.whole) (count_now one.given) (omega (arith, room));
         moves = subst (λ l. Moves u0 u2 k0 k2 l told) (sym (append-nil (concat periods))) (moves_now one.given one.told (Some cut.found) cut.takes one.moves);
         ends = record {
           nothing_more = refl;
@@ -171,7 +198,12 @@ module _ (sync sync' : SyncMemory) (u0 u1 u2 : LineState) (k0 k1 k2 : DeskState)
           period = one.given;
           split = refl;
           reached = omega (arith, length-append (listed so_far.periods) one.told);
-          proper = omega (arith, cut.proper, length-append (listed so_far.periods) one.told, ap length all ∙ length-append (listed so_far.periods) (line_of cut.found));
+          proper = omega (
+            arith,
+            cut.proper,
+            length-append (listed so_far.periods) one.told,
+            ap length all ∙ length-append (listed so_far.periods) (line_of cut.found),
+          );
           front = front_of (listed so_far.periods) one.told (line_of cut.found) cut.front ∙ ap (λ l. take (length told) l) (sym all);
           up_same = cut.up_same ∙ so_far.calm.up_same;
           rose = subst (λ before. Rose before k2.write_faults) so_far.calm.desk_same cut.rose;
@@ -179,12 +211,14 @@ module _ (sync sync' : SyncMemory) (u0 u1 u2 : LineState) (k0 k1 k2 : DeskState)
       }
 
 -- so many periods were taken that no more are
-pub at_last : (sync : SyncMemory) (u0 u1 : LineState) (k0 k1 : DeskState) (n yields : ℕ) → SoFar sync u0 u1 k0 k1 n yields → n ≡ 2 ^ 32 - 1 → Lists u0 u1 k0 k1 (list.Done yields 0)
+pub at_last : (sync : SyncMemory) (u0 u1 : LineState) (k0 k1 : DeskState) (n yields : ℕ) → SoFar sync u0 u1 k0 k1 n yields → n ≡ 2 ^ 32 - 1 →
+    Lists u0 u1 k0 k1 (list.Done yields 0)
 at_last sync u0 u1 k0 k1 n yields so_far last = record {
   periods = so_far.periods;
   last = [];
   told = listed so_far.periods;
   whole = so_far.whole;
+  few = few_with 40 _ so_far.periods [] n so_far.whole so_far.count (omega (arith, last));
   moves = subst (λ l. Moves u0 u1 k0 k1 l (listed so_far.periods)) (sym (append-nil (concat so_far.periods))) so_far.moves;
   ends = record {
     at_end = inr (so_far.count ∙ last, refl);

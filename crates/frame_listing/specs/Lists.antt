@@ -1,5 +1,5 @@
 -- A whole listing: from the octets of an uplink to lines of text.
-use Rattle.std.specs.Prelude.{◌≡◌, ◌⊎◌, ℕ, ◌-◌, ◌^◌, ◌<◌, ◌≤◌, List, [], ◌∷◌, ◌++◌, length, take}
+use Rattle.std.specs.Prelude.{◌≡◌, ◌⊎◌, ℕ, ◌*◌, ◌-◌, ◌^◌, ◌<◌, ◌≤◌, List, [], ◌∷◌, ◌++◌, length, take}
 use Rattle.std.specs.List.{concat}
 use Rattle.std.specs.Io.KnownBytes.{Consumes, Appends, IsAtEnd}
 use Rattle.trau_io.specs.Lines.{LineState, Rose}
@@ -29,8 +29,9 @@ pub record EndsLine (up up' : LineState) (desk desk' : DeskState) (periods : Lis
   pub up_same : up'.faults ≡ up.faults
   pub desk_same : desk'.write_faults ≡ desk.write_faults
 
--- the line failed inside a period, and the yields of all periods before it are listed
+-- the line failed inside a period, and the yields of all periods before it, fewer than are taken, are listed
 pub record FailsToRead (up up' : LineState) (desk desk' : DeskState) (periods : List (List ℕ)) (last told : List ℕ) : Type 0 where
+  pub room : length periods < 2 ^ 32 - 1
   pub part : length last < 40
   pub all_told : told ≡ listed periods
   pub rose : Rose up.faults up'.faults
@@ -55,11 +56,13 @@ EndsAs up up' desk desk' periods last told (Done yields left) = EndsLine up up' 
 EndsAs up up' desk desk' periods last told ReadFailed = FailsToRead up up' desk desk' periods last told
 EndsAs up up' desk desk' periods last told DeskFailed = FailsToTell up up' desk desk' periods last told
 
--- A whole listing. What the reads gave is whole periods, and then what was read behind them.
+-- A whole listing. What the reads gave is whole periods, and then what was read behind them: 4,294,967,295 periods at most, and
+-- nothing behind so many.
 pub record Lists (up up' : LineState) (desk desk' : DeskState) (end : ListEnd) : Type 0 where
   pub periods : List (List ℕ)
   pub last : List ℕ
   pub told : List ℕ
   pub whole : ArePeriods periods
+  pub few : length (concat periods ++ last) ≤ 40 * (2 ^ 32 - 1)
   pub moves : Moves up up' desk desk' (concat periods ++ last) told
   pub ends : EndsAs up up' desk desk' periods last told end

@@ -5,7 +5,8 @@ use Rattle.trau_io.specs.Lines.{LineState, Rose}
 use Rattle.trau_io.specs.Desks.{DeskState}
 use Rattle.frame_sync.specs.declared.yields.Yield.{Yield}
 use Rattle.frame_sync.specs.Periods.{yield_of}
-use Rattle.frame_sync.specs.Step.{SyncMemory, Stands}
+use Rattle.frame_sync.specs.Memory.{SyncMemory}
+use Rattle.frame_sync.specs.Stands.{Stands}
 use Rattle.frame_listing.specs.declared.list.PeriodEnd.{PeriodEnd}
 use Rattle.frame_listing.specs.declared.list.PeriodEnd.TheVariants.{Without, Listed, LineEnded, ReadFailed, DeskFailed}
 use Rattle.frame_listing.specs.Lists.{Moves}
@@ -42,8 +43,10 @@ pub record IsCutShort (sync sync' : SyncMemory) (up up' : LineState) (desk desk'
 abbrev pub PeriodEndsAs : SyncMemory → SyncMemory → LineState → LineState → DeskState → DeskState → List ℕ → List ℕ → PeriodEnd → Type 0
 PeriodEndsAs sync sync' up up' desk desk' given told Without = Takes sync sync' given None × (told ≡ []) × NoFault up up' desk desk'
 PeriodEndsAs sync sync' up up' desk desk' given told Listed = IsListed sync sync' up up' desk desk' given told
-PeriodEndsAs sync sync' up up' desk desk' given told (LineEnded left) = (left ≡ length given) × (length given < 40) × IsAtEnd up'.to_come × (told ≡ []) × NoFault up up' desk desk'
-PeriodEndsAs sync sync' up up' desk desk' given told ReadFailed = (length given < 40) × Rose up.faults up'.faults × (told ≡ []) × (desk'.write_faults ≡ desk.write_faults)
+PeriodEndsAs sync sync' up up' desk desk' given told (LineEnded left) =
+    (left ≡ length given) × (length given < 40) × IsAtEnd up'.to_come × (told ≡ []) × NoFault up up' desk desk'
+PeriodEndsAs sync sync' up up' desk desk' given told ReadFailed =
+    (length given < 40) × Rose up.faults up'.faults × (told ≡ []) × (desk'.write_faults ≡ desk.write_faults)
 PeriodEndsAs sync sync' up up' desk desk' given told DeskFailed = IsCutShort sync sync' up up' desk desk' given told
 
 pub record ListsOn (sync sync' : SyncMemory) (up up' : LineState) (desk desk' : DeskState) (end : PeriodEnd) : Type 0 where

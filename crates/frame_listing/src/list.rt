@@ -1,4 +1,4 @@
-// A listing, period by period.
+//! A listing, period by period.
 ghost use Rattle.std.specs.Prelude.{◌<◌, ◌+◌};
 ghost use Rattle.call_number.specs.CallNumber.{IsCallNumber};
 ghost use Rattle.trau_io.specs.declared.line.Side.TheVariants.{Up};

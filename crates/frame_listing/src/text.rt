@@ -1,4 +1,4 @@
-// The texts of yields.
+//! The texts of yields.
 ghost use Rattle.std.specs.Prelude.{◌≡◌, ◌≤◌, ◌<◌, ◌^◌, length};
 ghost use Rattle.frame_sync.specs.Yields.{place_of};
 ghost use Rattle.frame_sync.specs.Periods.{CarriesFrame};

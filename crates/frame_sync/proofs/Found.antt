@@ -13,12 +13,14 @@ pub record FoundAt (line : ℕ → ℕ) (first count p : ℕ) : Type 0 where
   pub before : NoMatch line first p
   pub matches : is_match line p ≡ true
 
+-- a place more that does not match
 no_match_more : (line : ℕ → ℕ) (first high : ℕ) → is_match line first ≡ false → NoMatch line (first + 1) high → NoMatch line first high
 no_match_more line first high e h = λ q a b. elim (cases_lt first q) [
   | inl later ↦ h q (omega arith) b
   | inr here ↦ let same : first ≡ q = omega arith in subst (λ k. is_match line k ≡ false) same e
 ]
 
+-- where the first place does not match, the search says what it says of the rest
 later : (line : ℕ → ℕ) (first count : ℕ) (o : Option ℕ) → is_match line first ≡ false →
     MatchOption o (NoMatch line (first + 1) (first + 1 + count)) (FoundAt line (first + 1) count) →
     MatchOption o (NoMatch line first (first + suc count)) (FoundAt line first (suc count))

@@ -43,10 +43,12 @@ Missed zero (Frame p f ∷ older) = Unit {0}
 Missed (suc k) (Miss p ∷ older) = Missed k older
 Missed k past = ⊥
 
+-- how the mode and the yields so far go together
 abbrev pub Tied : List Yield → Mode → Type 0
 Tied past (Hunting low) = (hunts past ≡ true) × (end_of past ≡ low)
 Tied past (Locked next misses) = (end_of past ≡ next) × (misses ≤ 2) × Missed misses past
 
+-- up to two misses keep the lock
 missed-locked : (k : ℕ) (past : List Yield) → k ≤ 2 → Missed k past → hunts past ≡ false
 missed-locked zero [] l m = absurd m
 missed-locked zero (Frame p f ∷ older) l m = refl
@@ -63,6 +65,7 @@ missed-locked (suc (suc zero)) (Miss p ∷ Miss q ∷ Frame r h ∷ older) l m =
 missed-locked (suc (suc zero)) (Miss p ∷ Miss q ∷ Miss r ∷ older) l m = absurd m
 missed-locked (suc (suc (suc k))) (Miss p ∷ Miss q ∷ older) l m = absurd (omega arith)
 
+-- the third gives it up
 third-hunts : (p : ℕ) (past : List Yield) → Missed 2 past → hunts (Miss p ∷ past) ≡ true
 third-hunts p [] m = absurd m
 third-hunts p (Frame q g ∷ older) m = absurd m
@@ -70,6 +73,7 @@ third-hunts p (Miss q ∷ []) m = absurd m
 third-hunts p (Miss q ∷ Frame r h ∷ older) m = absurd m
 third-hunts p (Miss q ∷ Miss r ∷ older) m = refl
 
+-- so they go together after a miss
 tied-after_miss : (past : List Yield) (p misses : ℕ) → misses ≤ 2 → Missed misses past → Tied (Miss p ∷ past) (after_miss p misses)
 tied-after_miss past p misses l m = elim (cases_eq misses 2) [
   | inl two ↦ rw (eq-eqb misses 2 two) (third-hunts p past (subst (λ k. Missed k past) two m), refl)
@@ -78,6 +82,7 @@ tied-after_miss past p misses l m = elim (cases_eq misses 2) [
       rw (ne_eqb misses 2 less) (refl, omega arith, subst (λ k. Missed k (Miss p ∷ past)) next m)
 ]
 
+-- and after any yield
 tied-gives : (bits : List ℕ) (past : List Yield) (mode : Mode) (y : Yield) (after : Mode) → Tied past mode → Gives bits mode y after → Tied (y ∷ past) after
 tied-gives bits past (Hunting low) (Frame p f) after t g = subst (Tied (Frame p f ∷ past)) (sym g.5) (refl, omega arith, tt)
 tied-gives bits past (Hunting low) (Miss p) after t g = absurd g
@@ -87,15 +92,17 @@ tied-gives bits past (Locked next misses) (Miss p) after t g =
 
 -- ---- what the mode gives follows
 
-both_ways : (b : Bool) → b ≡ true → b ≡ false → ⊥
+pub both_ways : (b : Bool) → b ≡ true → b ≡ false → ⊥
 both_ways b t f = cc
 
+-- a frame and a miss are what the place says
 frame-kind : (line : ℕ → ℕ) (p : ℕ) (f : List ℕ) → is_match line p ≡ true → f ≡ frame_at line p → Frame p f ≡ frame_or_miss line p
 frame-kind line p f m e = rw m (ap (Frame p) e)
 
 miss-kind : (line : ℕ → ℕ) (p : ℕ) → is_match line p ≡ false → Miss p ≡ frame_or_miss line p
 miss-kind line p m = rw m refl
 
+-- what the search gives follows the yields before it
 gives-follows : (bits : List ℕ) (past : List Yield) (mode : Mode) (y : Yield) (after : Mode) → Tied past mode → Gives bits mode y after → Follows bits past y
 gives-follows bits past (Hunting low) (Frame p f) after t g = record {
   hunting = λ h. subst (λ n. IsFirstMatch (bit_in bits) n p) (sym t.1) (g.0, g.1, g.2);
@@ -117,6 +124,7 @@ gives-follows bits past (Locked next misses) (Miss p) after t g = record {
   within = g.2;
 }
 
+-- where none ends within the bits, no yield follows
 none-follows : (bits : List ℕ) (past : List Yield) (mode : Mode) (y : Yield) → Tied past mode → NoneEnds bits (length bits) mode → Follows bits past y → ⊥
 none-follows bits past (Hunting low) y t none f =
     let found = f.hunting t.0 in
@@ -134,6 +142,7 @@ none-follows bits past (Locked next misses) y t none f =
 pub reverse-onto : (y : Yield) (ys past : List Yield) → reverse (y ∷ ys) ++ past ≡ reverse ys ++ (y ∷ past)
 reverse-onto y ys past = ap (λ l. l ++ past) (reverse-append (y ∷ []) ys) ∙ append_assoc (reverse ys) (y ∷ []) past
 
+-- each yield of a run follows those before it
 follows-at : (bits : List ℕ) (past : List Yield) (mode : Mode) (before after : List Yield) (y : Yield) (last : Mode) → Tied past mode →
     GiveAll bits mode (before ++ y ∷ after) last → Follows bits (reverse before ++ past) y
 follows-at bits past mode [] after y last t g = gives-follows bits past mode y g.0 t g.1
@@ -141,12 +150,14 @@ follows-at bits past mode (b ∷ before) after y last t g =
     subst (λ l. Follows bits l y) (sym (reverse-onto b before past))
     (follows-at bits (b ∷ past) g.0 before after y last (tied-gives bits past mode b g.0 t g.1) g.2)
 
+-- the last mode goes with all of them
 tied-last : (bits : List ℕ) (past : List Yield) (mode : Mode) (ys : List Yield) (last : Mode) → Tied past mode → GiveAll bits mode ys last →
     Tied (reverse ys ++ past) last
 tied-last bits past mode [] last t g = subst (Tied past) (sym g) t
 tied-last bits past mode (y ∷ ys) last t g =
     subst (λ l. Tied l last) (sym (reverse-onto y ys past)) (tied-last bits (y ∷ past) g.0 ys last (tied-gives bits past mode y g.0 t g.1) g.2)
 
+-- so they are all yields of the bits
 pub all-follow : (bits : List ℕ) (ys : List Yield) (last : Mode) → GiveAll bits (Hunting 0) ys last → NoneEnds bits (length bits) last → Yields bits ys
 all-follow bits ys last g none = (
   λ before after y e.

@@ -11,7 +11,9 @@ use Rattle.trau_bits.specs.Bits.{bits_of}
 use Rattle.frame_sync.specs.declared.yields.Yield.{Yield}
 use Rattle.trau_frame.specs.Match.{bit_in}
 use Rattle.frame_sync.specs.Yields.{Yields}
-use Rattle.frame_sync.specs.Step.{SyncMemory, next_period, Stands}
+use Rattle.frame_sync.specs.Memory.{SyncMemory}
+use Rattle.frame_sync.specs.Step.{next_period}
+use Rattle.frame_sync.specs.Stands.{Stands}
 use Rattle.frame_sync.specs.Periods.{line_bits, mode_after, yield_of, each_yield, ArePeriods, yield_in, all_yields, all_bits, EndsIn, ends_in}
 use Rattle.frame_sync.proofs.Searched.{ends-searched}
 use Rattle.frame_sync.proofs.Steps.{near-mode_after, stands-next}
@@ -23,6 +25,7 @@ use Rattle.frame_sync.proofs.Whole.{flat_map-one, yields-past}
 reverse-cons : (octets : List ℕ) (past : List (List ℕ)) → reverse (octets ∷ past) ≡ reverse past ++ octets ∷ []
 reverse-cons octets past = reverse-append (octets ∷ []) past
 
+-- the line of a history is that of its periods in order
 line_bits-is : (past : List (List ℕ)) → line_bits past ≡ all_bits (reverse past)
 unfolding line_bits
 line_bits-is [] = refl
@@ -39,6 +42,7 @@ are_periods-reverse (octets ∷ periods) h =
     (are_periods-reverse periods (All-tail (λ o. length o ≡ 40) octets periods h))
     (All-cons (λ o. length o ≡ 40) octets [] (All-head (λ o. length o ≡ 40) octets periods h) (All-nil (λ o. length o ≡ 40))))
 
+-- the yields of periods are all yields of their bits
 pub all_yields-are : (periods : List (List ℕ)) → ArePeriods periods → Yields (all_bits periods) (all_yields periods)
 all_yields-are periods h =
     let bits : line_bits (reverse periods) ≡ all_bits periods = line_bits-is (reverse periods) ∙ ap all_bits (reverse-reverse periods) in
@@ -58,6 +62,7 @@ each_yield-newest octets past =
     ap (λ k. get_or (each_yield past ++ yield_of octets past ∷ []) k None) (sym (length-each_yield past)) ∙
     get_or-append_seam (each_yield past) (yield_of octets past) [] None
 
+-- the yield of one period more
 pub yield_in-more : (periods : List (List ℕ)) (octets : List ℕ) → yield_in (periods ++ octets ∷ []) (length periods) ≡ yield_of octets (reverse periods)
 yield_in-more periods octets =
     ap (λ l. get_or (each_yield l) (length periods) None) (reverse-append periods (octets ∷ [])) ∙
@@ -69,13 +74,16 @@ yield_in-more periods octets =
 pub ends-yield_of : (octets : List ℕ) (past : List (List ℕ)) → IfSome (yield_of octets past) (EndsIn (length past))
 ends-yield_of octets past = ends-searched (bit_in (line_bits (octets ∷ past))) (320 * length past) (mode_after past) (near-mode_after past)
 
+-- a yield ends in its own period
 ends_in-own : (k : ℕ) (y : Yield) → EndsIn k y → ends_in k y ≡ true
 ends_in-own k y h = let a = h.0 in let b = h.1 in grind (arith, nat_tests)
 
+-- and in no other
 ends_in-other : (k n : ℕ) (y : Yield) → EndsIn n y → (k < n) ⊎ (n < k) → ends_in k y ≡ false
 ends_in-other k n y h (inl l) = let a = h.0 in let b = h.1 in grind (arith, nat_tests)
 ends_in-other k n y h (inr l) = let a = h.0 in let b = h.1 in grind (arith, nat_tests)
 
+-- so the yields that end in a period are its own
 filter-own : (k : ℕ) (y : Option Yield) → IfSome y (EndsIn k) → filter (ends_in k) (option_to_list y) ≡ option_to_list y
 filter-own k None h = refl
 filter-own k (Some y) h = rw (ends_in-own k y h) refl
@@ -100,7 +108,8 @@ filter-older (octets ∷ past) k h =
     filter-other k (length past) (yield_of octets past) (ends-yield_of octets past) (inr (omega (arith, h))) in
     filter-more k octets past ∙ rw (old, new) refl
 
-each_yield-early : (octets : List ℕ) (past : List (List ℕ)) (k : ℕ) → k < length past → get_or (each_yield (octets ∷ past)) k None ≡ get_or (each_yield past) k None
+each_yield-early : (octets : List ℕ) (past : List (List ℕ)) (k : ℕ) → k < length past →
+    get_or (each_yield (octets ∷ past)) k None ≡ get_or (each_yield past) k None
 unfolding each_yield
 each_yield-early octets past k h =
     let count = length-each_yield past in
@@ -132,15 +141,18 @@ filter-yields periods k h = filter-past (reverse periods) k (subst (λ n. k < n)
 
 -- ---- of all yields of all bits, the one in the newest period
 
+-- of all yields of a line, the one that ends in the newest period
 newest-of-all : (octets : List ℕ) (past : List (List ℕ)) (ys : List Yield) → ArePeriods (octets ∷ past) → Yields (all_bits (reverse (octets ∷ past))) ys →
     filter (ends_in (length past)) ys ≡ option_to_list (yield_of octets past)
 newest-of-all octets past ys h y =
     let same : ys ≡ all_yields (reverse (octets ∷ past)) =
-    same_yields (all_bits (reverse (octets ∷ past))) ys (all_yields (reverse (octets ∷ past))) y (all_yields-are (reverse (octets ∷ past)) (are_periods-reverse (octets ∷ past) h)) in
+    same_yields (all_bits (reverse (octets ∷ past))) ys (all_yields (reverse (octets ∷ past))) y
+    (all_yields-are (reverse (octets ∷ past)) (are_periods-reverse (octets ∷ past) h)) in
     let count : length (reverse (octets ∷ past)) ≡ suc (length past) = length-reverse (octets ∷ past) in
     ap (filter (ends_in (length past))) same ∙ filter-yields (reverse (octets ∷ past)) (length past) (omega arith) ∙
     ap (λ l. option_to_list (get_or (each_yield l) (length past) None)) (reverse-reverse (octets ∷ past)) ∙ ap option_to_list (each_yield-newest octets past)
 
+-- the same of what a step gives
 pub fed-of-all : (memory after : SyncMemory) (octets : List ℕ) (y : Option Yield) → length octets ≡ 40 → next_period memory octets ≡ (y, after) →
     (past : List (List ℕ)) (ys : List Yield) → Stands past memory → Yields (all_bits (reverse (octets ∷ past))) ys →
     filter (ends_in (length past)) ys ≡ option_to_list y

@@ -15,6 +15,7 @@ pub record Counted (w : List ℕ) (first end run_length : ℕ) : Type 0 where
 pub record Unmatched (w : List ℕ) (first end : ℕ) : Type 0 where
   pub none : (o : ℕ) → first ≤ o → o + 16 ≤ end → is_match (bit_in w) o ≡ false
 
+-- no zero is counted yet
 pub counted_none : (w : List ℕ) (first : ℕ) → Counted w first first 0
 counted_none w first = record {
   within = omega arith;
@@ -61,10 +62,12 @@ counted_next w first end run_length next c e =
           rw z (counted_one w first end run_length c other)
     ]
 
+-- what is not true is false
 is_false : (b : Bool) → (b ≡ true → ⊥) → b ≡ false
 is_false true h = absurd (h refl)
 is_false false h = refl
 
+-- no place is looked at yet
 pub unmatched_none : (w : List ℕ) (first : ℕ) → Unmatched w first first
 unmatched_none w first = record { none = λ o l h. absurd (omega arith) }
 
@@ -78,7 +81,8 @@ unmatched_next w first end u not_here = record {
 }
 
 -- too few zeros
-pub unmatched_few : (w : List ℕ) (first end run_length : ℕ) → Counted w first (end + 1) run_length → run_length < 16 → Unmatched w first end → Unmatched w first (end + 1)
+pub unmatched_few : (w : List ℕ) (first end run_length : ℕ) → Counted w first (end + 1) run_length → run_length < 16 → Unmatched w first end →
+    Unmatched w first (end + 1)
 unmatched_few w first end run_length c few u = unmatched_next w first end u (λ o l e m.
     let long : end + 1 ≤ o + run_length = c.longest o l (omega arith) (λ k a b.
     let i : o + (k - o) ≡ k = omega arith in

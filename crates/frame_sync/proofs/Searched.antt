@@ -10,7 +10,8 @@ use Rattle.frame_sync.specs.declared.yields.Yield.TheVariants.{Frame, Miss}
 use Rattle.trau_frame.specs.Match.{bit_in, is_match, frame_at}
 use Rattle.frame_sync.specs.Yields.{NoMatch, place_of}
 use Rattle.frame_sync.specs.Periods.{after_miss, found_in, hunted, due, searched, CarriesFrame}
-use Rattle.frame_sync.specs.Step.{bit_of_two, IsNear}
+use Rattle.frame_sync.specs.Step.{bit_of_two}
+use Rattle.frame_sync.specs.Memory.{IsNear}
 use Rattle.trau_frame.proofs.Matches.{is_match-same, frame_at-same, length-frame_at, get_or-frame_at, match_is_synced, synced_is_match}
 use Rattle.frame_sync.proofs.Found.{FoundAt, first_match-says, first_match-found, first_match-none, first_match-same}
 
@@ -22,9 +23,11 @@ Looked line base low o =
     let first = max low (base - 319) in
     MatchOption o (NoMatch line first (first + (base + 1 - first))) (FoundAt line first (base + 1 - first))
 
+-- what a hunt found, or that there is nothing
 pub looked : (line : ℕ → ℕ) (base low : ℕ) → Looked line base low (found_in line base low)
 looked line base low = first_match-says line (max low (base - 319)) (base + 1 - max low (base - 319))
 
+-- the mode after a period fits the line again
 near-hunted : (line : ℕ → ℕ) (base low : ℕ) (o : Option ℕ) → low ≤ base → Looked line base low o → IsNear (base + 320) (hunted line low o).1
 near-hunted line base low None l h = (omega arith, omega arith, omega arith)
 near-hunted line base low (Some p) l h =
@@ -51,6 +54,7 @@ near-searched line base (Locked next misses) n = near-due line base next misses 
 abbrev pub Ends : ℕ → Yield → Type 0
 Ends base y = (base ≤ place_of y + 319) × (place_of y + 319 < base + 320)
 
+-- a yield ends in the period
 ends-hunted : (line : ℕ → ℕ) (base low : ℕ) (o : Option ℕ) → Looked line base low o → IfSome (hunted line low o).0 (Ends base)
 ends-hunted line base low None h = tt
 ends-hunted line base low (Some p) h =
@@ -69,6 +73,7 @@ ends-searched line base (Locked next misses) n = ends-due line base next misses 
 
 -- ---- a frame carries bits with the sync pattern
 
+-- a match carries a frame
 carries : (line : ℕ → ℕ) (p : ℕ) → ((i : ℕ) → line i < 2) → is_match line p ≡ true → CarriesFrame (Frame p (frame_at line p))
 carries line p bits m = (
   length-frame_at line p,
@@ -95,6 +100,7 @@ carries-searched line base (Locked next misses) bits = carries-due line next mis
 pub record Agrees (f g : ℕ → ℕ) (base : ℕ) : Type 0 where
   pub each : (i : ℕ) → base ≤ i + 319 → i < base + 320 → f i ≡ g i
 
+-- two lines that agree from the last period on give the same
 match-agrees : (f g : ℕ → ℕ) (base p : ℕ) → Agrees f g base → base ≤ p + 319 → p ≤ base → is_match f p ≡ is_match g p
 match-agrees f g base p a l h = is_match-same f g p p (λ i m. a.each (p + i) (omega arith) (omega arith))
 
@@ -126,6 +132,7 @@ searched-agrees f g base (Locked next misses) n a =
 
 -- ---- what the code looks at
 
+-- places of the line as places in the window of two periods
 shifted : (w : List ℕ) (base p o i : ℕ) → p + 320 ≡ base + o → bit_of_two base w (p + i) ≡ bit_in w (o + i)
 shifted w base p o i e = let same : p + i + 320 - base ≡ o + i = omega (arith, e) in ap (λ k. get_or w k 0) same
 
@@ -140,10 +147,12 @@ none-shifted : (w : List ℕ) (base first high from to : ℕ) → first + 320 �
 none-shifted w base first high from to e f h = λ q a b.
     match-shifted w base q (q + 320 - base) (omega arith) ∙ h (q + 320 - base) (omega arith) (omega arith)
 
+-- a hunt that finds this place
 hunted-at : (line : ℕ → ℕ) (low p : ℕ) (o : Option ℕ) (bits : List ℕ) → o ≡ Some p → bits ≡ frame_at line p →
     (Some (Frame p bits), Locked (p + 320) 0) ≡ hunted line low o
 hunted-at line low p o bits e eb = ap (λ f. (Some (Frame p f), Locked (p + 320) 0)) eb ∙ sym (ap (hunted line low) e)
 
+-- the four ways of a period: a hunt that finds, one that doesn't, a frame that is due, a miss
 pub searched-found : (w bits : List ℕ) (base low first o p : ℕ) → first ≡ max low (base - 319) → low ≤ base → first + 320 - base ≤ o → o ≤ 320 →
     NoMatch (bit_in w) (first + 320 - base) o → is_match (bit_in w) o ≡ true → p ≡ base + o - 320 → bits ≡ frame_at (bit_in w) o →
     (Some (Frame p bits), Locked (p + 320) 0) ≡ searched (bit_of_two base w) base (Hunting low)
@@ -175,6 +184,7 @@ searched-frame w bits base next misses o e eb s =
     ap (λ f. (Some (Frame next f), Locked (next + 320) 0)) (eb ∙ sym (frame-shifted w base next o e)) ∙
     sym (ap (due (bit_of_two base w) next misses) matches)
 
+-- a test that a frame without sync bits does not pass
 not_match : (line : ℕ → ℕ) (p : ℕ) (b : Bool) → is_match line p ≡ b → (Synced (frame_at line p) → ⊥) → is_match line p ≡ false
 not_match line p true e h = absurd (h (match_is_synced line p e))
 not_match line p false e h = e

@@ -10,7 +10,9 @@ use Rattle.frame_sync.specs.declared.yields.Mode.{Mode}
 use Rattle.frame_sync.specs.declared.yields.Yield.{Yield}
 use Rattle.trau_frame.specs.Match.{bit_in}
 use Rattle.frame_sync.specs.Periods.{searched, line_bits, mode_after, yield_of, ArePeriods, EndsIn, CarriesFrame}
-use Rattle.frame_sync.specs.Step.{SyncMemory, bit_of_two, next_period, last_bits, memory_after, Stands, IsNear}
+use Rattle.frame_sync.specs.Memory.{SyncMemory, IsNear}
+use Rattle.frame_sync.specs.Step.{bit_of_two, next_period}
+use Rattle.frame_sync.specs.Stands.{last_bits, memory_after, Stands}
 use Rattle.frame_sync.proofs.Searched.{Agrees, near-searched, ends-searched, carries-searched, searched-agrees}
 
 -- ---- what the code did
@@ -20,6 +22,7 @@ pub record Went (periods n : ℕ) (window : List ℕ) (mode : Mode) (r : Option 
   pub number : n ≡ periods
   pub gives : r ≡ searched (bit_of_two (320 * n) window) (320 * n) mode
 
+-- what the code did in a period is the step, it keeps the mode near, and its yield ends there
 pub next_period-went : (periods n : ℕ) (last bits window octets : List ℕ) (mode : Mode) (r : Option Yield × Mode) → Went periods n window mode r →
     bits ≡ bits_of octets → window ≡ last ++ bits →
     next_period (record { periods = periods; last = last; mode = mode }) octets ≡ (r.0, record { periods = periods + 1; last = bits; mode = r.1 })
@@ -98,6 +101,7 @@ length-last_bits (octets ∷ past) h =
     let here : length octets ≡ 40 = All-head (λ o. length o ≡ 40) octets past h in
     length-bits_of octets ∙ omega arith
 
+-- the last two periods are the end of the line
 agrees-late : (past : List (List ℕ)) (bits : List ℕ) (i : ℕ) → ArePeriods past → 320 * length past ≤ i →
     get_or (last_bits past ++ bits) (i + 320 - 320 * length past) 0 ≡ get_or (line_bits past ++ bits) i 0
 agrees-late past bits i h l =
@@ -106,7 +110,7 @@ agrees-late past bits i h l =
     ap (λ k. get_or bits k 0) same ∙
     sym (get_or-append_right (line_bits past) bits (320 * length past) i 0 (length-line_bits past h) l)
 
-agrees-past : (past : List (List ℕ)) (bits : List ℕ) → ArePeriods past →
+pub agrees-past : (past : List (List ℕ)) (bits : List ℕ) → ArePeriods past →
     Agrees (bit_of_two (320 * length past) (last_bits past ++ bits)) (bit_in (line_bits past ++ bits)) (320 * length past)
 agrees-past past bits h = record {
   each = λ i l m. elim (cases_lt i (320 * length past)) [
@@ -115,6 +119,7 @@ agrees-past past bits h = record {
   ];
 }
 
+-- a step after any periods
 pub next_period-after : (past : List (List ℕ)) (octets : List ℕ) → ArePeriods past →
     next_period (memory_after past) octets ≡ (yield_of octets past, memory_after (octets ∷ past))
 unfolding next_period line_bits mode_after last_bits
@@ -126,6 +131,7 @@ next_period-after past octets h =
     let step : ℕ → Option Yield × Mode → Option Yield × SyncMemory = λ k x. (x.0, record { periods = k; last = bits_of octets; mode = x.1 }) in
     ap (step (length past + 1)) same ∙ ap (λ k. step k (searched (bit_in (line_bits past ++ bits_of octets)) (320 * length past) (mode_after past))) count
 
+-- so the memory stands for one more
 pub stands-next : (memory after : SyncMemory) (octets : List ℕ) (y : Option Yield) → length octets ≡ 40 → next_period memory octets ≡ (y, after) →
     (past : List (List ℕ)) → Stands past memory → Stands (octets ∷ past) after × (y ≡ yield_of octets past)
 stands-next memory after octets y count step past s =

@@ -1,14 +1,11 @@
 -- A list of bits has one list of yields.
-use Rattle.std.proofs.Common.{◌≡◌, ℕ, Bool, true, false, List, [], ◌∷◌, ◌++◌, reverse, refl, sym, ap, ◌∙◌, subst, inl, inr}
+use Rattle.std.proofs.Common.{◌≡◌, ℕ, List, [], ◌∷◌, ◌++◌, reverse, refl, sym, ap, ◌∙◌, subst, inl, inr}
 use Rattle.std.proofs.lemmas.Bool.{cases_order, cases_Bool}
 use Rattle.std.proofs.lemmas.List.{append-nil}
 use Rattle.trau_frame.specs.Match.{bit_in, is_match}
 use Rattle.frame_sync.specs.declared.yields.Yield.{Yield}
 use Rattle.frame_sync.specs.Yields.{IsFirstMatch, frame_or_miss, place_of, end_of, hunts, Follows, Yields}
-use Rattle.frame_sync.proofs.Modes.{reverse-onto}
-
-both_ways : (b : Bool) → b ≡ true → b ≡ false → ⊥
-both_ways b t f = cc
+use Rattle.frame_sync.proofs.Modes.{both_ways, reverse-onto}
 
 -- the least match is one
 least : (line : ℕ → ℕ) (low p q : ℕ) → IsFirstMatch line low p → IsFirstMatch line low q → p ≡ q
@@ -20,6 +17,7 @@ least line low p q a b = elim (cases_order p q) [
   ]
 ]
 
+-- only one yield follows others
 one_follows : (bits : List ℕ) (past : List Yield) (y z : Yield) → Follows bits past y → Follows bits past z → y ≡ z
 one_follows bits past y z f g =
     let place : place_of y ≡ place_of z = elim (cases_Bool (hunts past)) [
@@ -33,6 +31,7 @@ record AllFollow (bits : List ℕ) (past ys : List Yield) : Type 0 where
   each : (before after : List Yield) (y : Yield) → ys ≡ before ++ y ∷ after → Follows bits (reverse before ++ past) y
   none : (y : Yield) → Follows bits (reverse ys ++ past) y → ⊥
 
+-- those behind the first follow it
 all-rest : (bits : List ℕ) (past : List Yield) (y : Yield) (ys : List Yield) → AllFollow bits past (y ∷ ys) → AllFollow bits (y ∷ past) ys
 all-rest bits past y ys a = record {
   each = λ before after z e.
@@ -40,6 +39,7 @@ all-rest bits past y ys a = record {
   none = λ z f. a.none z (subst (λ l. Follows bits l z) (sym (reverse-onto y ys past)) f);
 }
 
+-- so there is only one list of yields from these on
 same_all : (bits : List ℕ) (past ys zs : List Yield) → AllFollow bits past ys → AllFollow bits past zs → ys ≡ zs
 same_all bits past [] [] a b = refl
 same_all bits past [] (z ∷ zs) a b = absurd (a.none z (b.each [] zs z refl))
@@ -50,6 +50,7 @@ same_all bits past (y ∷ ys) (z ∷ zs) a b =
     same_all bits (z ∷ past) ys zs (subst (λ x. AllFollow bits (x ∷ past) ys) head (all-rest bits past y ys a)) (all-rest bits past z zs b) in
     cc
 
+-- and of a whole line
 all-from : (bits : List ℕ) (ys : List Yield) → Yields bits ys → AllFollow bits [] ys
 all-from bits ys y = record {
   each = λ before after z e. subst (λ l. Follows bits l z) (sym (append-nil (reverse before))) (y.0 before after z e);

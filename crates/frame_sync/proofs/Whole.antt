@@ -14,7 +14,7 @@ use Rattle.frame_sync.specs.declared.yields.Yield.TheVariants.{Frame, Miss}
 use Rattle.trau_frame.specs.Match.{bit_in, is_match, frame_at}
 use Rattle.frame_sync.specs.Yields.{Yields}
 use Rattle.frame_sync.specs.Periods.{after_miss, found_in, hunted, due, searched, line_bits, mode_after, each_yield, ArePeriods}
-use Rattle.frame_sync.specs.Step.{IsNear}
+use Rattle.frame_sync.specs.Memory.{IsNear}
 use Rattle.trau_frame.proofs.Matches.{is_match-same, frame_at-same}
 use Rattle.frame_sync.proofs.Modes.{Gives, GiveAll, NoneEnds, all-follow}
 use Rattle.frame_sync.proofs.Searched.{Looked, looked}
@@ -22,6 +22,7 @@ use Rattle.frame_sync.proofs.Steps.{near-mode_after, length-line_bits}
 
 -- ---- the line goes on
 
+-- bits behind a frame do not matter
 match-more : (xs ys : List ℕ) (p : ℕ) → p + 320 ≤ length xs → is_match (bit_in (xs ++ ys)) p ≡ is_match (bit_in xs) p
 match-more xs ys p l = is_match-same (bit_in (xs ++ ys)) (bit_in xs) p p (λ i h. get_or_append_left xs ys 0 (p + i) (omega arith))
 
@@ -31,6 +32,7 @@ frame-more xs ys p l = frame_at-same (bit_in (xs ++ ys)) (bit_in xs) p p (λ i h
 within-more : (xs ys : List ℕ) (n : ℕ) → n ≤ length xs → n ≤ length (xs ++ ys)
 within-more xs ys n l = rw (length-append xs ys) (omega arith)
 
+-- nor for what the search gives
 gives-more : (xs ys : List ℕ) (mode : Mode) (y : Yield) (after : Mode) → Gives xs mode y after → Gives (xs ++ ys) mode y after
 gives-more xs ys (Hunting low) (Frame p f) after g =
     let within = g.3 in (
@@ -63,6 +65,7 @@ none_ends-more xs ys (Locked next misses) h = h
 
 -- ---- one yield more
 
+-- one yield more at the end
 give_all-then : (xs : List ℕ) (mode mid : Mode) (zs : List Yield) (y : Yield) (last : Mode) → GiveAll xs mode zs mid → Gives xs mid y last →
     GiveAll xs mode (zs ++ y ∷ []) last
 give_all-then xs mode mid [] y last g s = (last, subst (λ m. Gives xs m y last) g s, refl)
@@ -73,6 +76,7 @@ abbrev Adds : List ℕ → Mode → Option Yield → Mode → Type 0
 Adds bits mode None after = (after ≡ mode) × NoneEnds bits (length bits) after
 Adds bits mode (Some y) after = Gives bits mode y after × NoneEnds bits (length bits) after
 
+-- what a period adds: hunting, where a frame is due, and in any mode
 adds-hunted : (bits : List ℕ) (base low : ℕ) (o : Option ℕ) → length bits ≡ base + 320 → low ≤ base → NoneEnds bits base (Hunting low) →
     Looked (bit_in bits) base low o → Adds bits (Hunting low) (hunted (bit_in bits) low o).0 (hunted (bit_in bits) low o).1
 adds-hunted bits base low None count l old h = (
@@ -99,6 +103,7 @@ adds-hunted bits base low (Some p) count l old h =
       omega arith,
     )
 
+-- no frame ends in the bits after a miss
 none_ends-after_miss : (bits : List ℕ) (base next misses : ℕ) → length bits ≡ base + 320 → base < next + 320 →
     NoneEnds bits (length bits) (after_miss next misses)
 none_ends-after_miss bits base next misses count h = elim (cases_eq misses 2) [
@@ -129,6 +134,7 @@ record Given (bits : List ℕ) (ys : List Yield) (last : Mode) : Type 0 where
   gives : GiveAll bits (Hunting 0) ys last
   none : NoneEnds bits (length bits) last
 
+-- the yields so far with that of one period more
 given-adds : (bits : List ℕ) (ys : List Yield) (mode : Mode) (y : Option Yield) (after : Mode) → GiveAll bits (Hunting 0) ys mode → Adds bits mode y after →
     Given bits (ys ++ option_to_list y) after
 given-adds bits ys mode None after g a = record {
@@ -140,6 +146,7 @@ given-adds bits ys mode (Some y) after g a = record {
   none = a.1;
 }
 
+-- those of all periods
 given-past : (past : List (List ℕ)) → ArePeriods past → Given (line_bits past) (flat_map option_to_list (each_yield past)) (mode_after past)
 unfolding line_bits mode_after each_yield
 given-past [] h = record { gives = refl; none = λ q a b. absurd (omega arith) }
@@ -151,13 +158,15 @@ given-past (octets ∷ past) h =
     let count : length (line_bits past ++ bits_of octets) ≡ 320 * length past + 320 =
     length-append (line_bits past) (bits_of octets) ∙ (let n = length-bits_of octets in omega arith) in
     let none : NoneEnds (line_bits past ++ bits_of octets) (320 * length past) (mode_after past) =
-    subst (λ n. NoneEnds (line_bits past ++ bits_of octets) n (mode_after past)) before (none_ends-more (line_bits past) (bits_of octets) (mode_after past) old.none) in
+    subst (λ n. NoneEnds (line_bits past ++ bits_of octets) n (mode_after past)) before
+    (none_ends-more (line_bits past) (bits_of octets) (mode_after past) old.none) in
     let found : Option Yield × Mode = searched (bit_in (line_bits past ++ bits_of octets)) (320 * length past) (mode_after past) in
     rw (flat_map-one (each_yield past) found.0)
     (given-adds (line_bits past ++ bits_of octets) (flat_map option_to_list (each_yield past)) (mode_after past) found.0 found.1
     (give_all-more (line_bits past) (bits_of octets) (Hunting 0) (flat_map option_to_list (each_yield past)) (mode_after past) old.gives)
     (adds-searched (line_bits past ++ bits_of octets) (320 * length past) (mode_after past) count (near-mode_after past) none))
 
+-- are all yields of the line
 pub yields-past : (past : List (List ℕ)) → ArePeriods past → Yields (line_bits past) (flat_map option_to_list (each_yield past))
 yields-past past h =
     let given = given-past past h in

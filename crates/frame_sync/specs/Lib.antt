@@ -1,3 +1,5 @@
 pub mod Yields
 pub mod Periods
+pub mod Memory
 pub mod Step
+pub mod Stands

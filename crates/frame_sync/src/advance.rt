@@ -6,13 +6,14 @@ ghost use Rattle.frame_sync.specs.declared.yields.Mode.TheVariants.{Hunting, Loc
 ghost use Rattle.frame_sync.specs.declared.yields.Yield.TheVariants.{Frame};
 ghost use Rattle.trau_frame.specs.Match.{bit_in, frame_at};
 ghost use Rattle.frame_sync.specs.Periods.{after_miss, searched};
-ghost use Rattle.frame_sync.specs.Step.{bit_of_two, IsNear};
+ghost use Rattle.frame_sync.specs.Step.{bit_of_two};
+ghost use Rattle.frame_sync.specs.Memory.{IsNear};
 
 use crate::hunt::find_match;
 use crate::yields::{Mode, Yield};
 use trau_frame::sync_matches;
 
-/// The 320 bits of the window from place `o` on.
+// The 320 bits of the window from place `o` on.
 fn frame_from(window: &[u8; 640], o: usize) -> [u8; 320]
     requires within { o ≤ 320 }
     requires bits { AreBits window.now }
@@ -24,7 +25,7 @@ fn frame_from(window: &[u8; 640], o: usize) -> [u8; 320]
     bits
 }
 
-/// A frame at a place, and what follows it: the lock, without a miss.
+// A frame at a place, and what follows it: the lock, without a miss.
 fn framed(place: u64, bits: [u8; 320]) -> (Option<Yield>, Mode)
     requires { place < 2 ^ 60 }
     ensures { result ≡ (Some (Frame place bits), Locked (place + 320) 0) }
@@ -36,7 +37,7 @@ fn framed(place: u64, bits: [u8; 320]) -> (Option<Yield>, Mode)
     (Some(Yield::Frame { place, bits }), mode)
 }
 
-/// What follows a miss at a place, after so many misses in a row before it.
+// What follows a miss at a place, after so many misses in a row before it.
 fn after_miss(place: u64, misses: u8) -> Mode
     requires count { misses ≤ 2 }
     requires small { place < 2 ^ 60 }
@@ -52,7 +53,7 @@ fn after_miss(place: u64, misses: u8) -> Mode
     }
 }
 
-/// Hunts from place `low` on.
+// Hunts from place `low` on.
 fn hunt(low: u64, base: u64, window: &[u8; 640]) -> (Option<Yield>, Mode)
     requires near { low ≤ base }
     requires small { base < 2 ^ 60 }
@@ -66,7 +67,7 @@ fn hunt(low: u64, base: u64, window: &[u8; 640]) -> (Option<Yield>, Mode)
     }
 }
 
-/// Takes the frame that is due at place `next`, or the miss.
+// Takes the frame that is due at place `next`, or the miss.
 fn take_due(next: u64, misses: u8, base: u64, window: &[u8; 640]) -> (Option<Yield>, Mode)
     requires began { next ≤ base }
     requires ends { base < next + 320 }

@@ -4,7 +4,7 @@ ghost use Rattle.std.specs.Prelude.{◌≡◌, ℕ, ◌+◌, ◌*◌, ◌≤◌,
 ghost use Rattle.trau_frame.specs.Match.{bit_in, is_match};
 ghost use Rattle.frame_sync.specs.Yields.{NoMatch};
 
-/// Whether the nineteen sync ones of the frame at place `o` are there.
+// Whether the nineteen sync ones of the frame at place `o` are there.
 fn ones_match(window: &[u8; 640], o: usize) -> bool
     requires { o ≤ 320 }
     ensures { IsTrue result ↔ ((row : ℕ) → 1 ≤ row → row < 20 → slice_index window.now (o + 16 * row) ≡ 1) }
@@ -17,7 +17,7 @@ fn ones_match(window: &[u8; 640], o: usize) -> bool
     true
 }
 
-/// The number of zeros in a row after one bit more.
+// The number of zeros in a row after one bit more.
 fn zeros_after(zeros: usize, bit: u8) -> usize
     requires { zeros < 640 }
     ensures { result ≡ (if bit == 0 then zeros + 1 else 0) }

@@ -11,7 +11,8 @@
 //! whatever the line holds.
 //!
 //! Definitions: `specs/Yields.antt` (all yields of a whole line, over `specs/Match.antt` of `trau_frame`),
-//! `specs/Periods.antt` (the yield of each period), `specs/Step.antt` (what is kept, and one step of it).
+//! `specs/Periods.antt` (the yield of each period), `specs/Memory.antt`, `specs/Step.antt` and `specs/Stands.antt` (what is
+//! kept, one period, and what the memory stands for).
 #![tactic(auto)]
 
 mod advance;

@@ -21,7 +21,7 @@ pub struct FrameSync {
 impl Model for FrameSync {
     ghost use Rattle.std.specs.Prelude.{◌*◌};
     ghost use Rattle.trau_bits.specs.Bits.{AreBits};
-    ghost use Rattle.frame_sync.specs.Step.{SyncMemory, IsNear};
+    ghost use Rattle.frame_sync.specs.Memory.{SyncMemory, IsNear};
 
     ghost Value = { SyncMemory };
 
@@ -30,7 +30,7 @@ impl Model for FrameSync {
     ghost invariant = { λ s. IsNear (320 * s.periods) s.mode × AreBits s.last };
 }
 
-/// A period of zeros.
+// A period of zeros.
 fn zeros() -> [u8; 320]
     ensures value { result ≡ replicate 320 0 }
     ensures are_bits { AreBits result }
@@ -38,7 +38,7 @@ fn zeros() -> [u8; 320]
     [0; 320]
 }
 
-/// The bits of two periods.
+// The bits of two periods.
 fn joined(last: &[u8; 320], bits: &[u8; 320]) -> [u8; 640]
     ensures { result ≡ last.now ++ bits.now }
 {
@@ -53,7 +53,9 @@ impl FrameSync {
     ghost use Rattle.frame_sync.specs.declared.yields.Yield.{Yield};
     ghost use Rattle.frame_sync.specs.Yields.{Yields};
     ghost use Rattle.frame_sync.specs.Periods.{all_bits, yield_of, ends_in, CarriesFrame, EndsIn};
-    ghost use Rattle.frame_sync.specs.Step.{home_memory, next_period, Stands};
+    ghost use Rattle.frame_sync.specs.Memory.{home_memory};
+    ghost use Rattle.frame_sync.specs.Step.{next_period};
+    ghost use Rattle.frame_sync.specs.Stands.{Stands};
 
     /// The search before the first period, which hunts.
     pub fn new() -> FrameSync

@@ -1,3 +1,5 @@
+//! What the search gives, and what it looks for next.
+
 /// What the search gives.
 #[derive(Clone, Copy)]
 pub enum Yield {

@@ -1,3 +1,5 @@
+//! What words ask for, command by command, and words that ask for nothing.
+
 use crate::rows::assert_rows;
 use command_words::{Asked, Settings, WordsFault, read_words};
 use std::alloc::{AllocError, Global};
@@ -25,8 +27,8 @@ fn is_answered(alloc: Global, line: &str, answer: Result<Asked, WordsFault>) -> 
     }
 }
 
-// Runs, with their workers, batch, slice and periods.
-static RUNS: [(&str, [u32; 4]); 6] = [
+// Runs, also to a mark and from one on, with their workers, batch, slice and periods.
+static RUNS: [(&str, [u32; 4]); 11] = [
     ("run", [4, 50, 5, 4_294_967_295]),
     (
         "run --workers 64 --batch 250 --slice 1 --periods 9",
@@ -42,18 +44,39 @@ static RUNS: [(&str, [u32; 4]); 6] = [
     ),
     ("run --", [4, 50, 5, 4_294_967_295]),
     ("run --slice 2 --", [4, 50, 2, 4_294_967_295]),
+    ("save --periods 3", [4, 50, 5, 3]),
+    (
+        "save --slice=1 --periods=4294967295 --workers 2 --batch 9",
+        [2, 9, 1, 4_294_967_295],
+    ),
+    ("save --periods 1 --", [4, 50, 5, 1]),
+    ("resume", [4, 50, 5, 4_294_967_295]),
+    (
+        "resume --periods 9 --slice 250 --workers=64 --batch=1",
+        [64, 1, 250, 9],
+    ),
 ];
+
+// A run by the command's word.
+fn run_named(word: &str, settings: Settings) -> Asked {
+    match word {
+        "save" => Asked::Save(settings),
+        "resume" => Asked::Resume(settings),
+        _ => Asked::Run(settings),
+    }
+}
 
 // Whether a line asks for a run with these.
 fn is_run(alloc: Global, line: &str, settings: &[u32; 4]) -> bool {
     let [workers, batch, slice, periods] = *settings;
-    let run = Asked::Run(Settings {
+    let settings = Settings {
         workers,
         batch,
         slice,
         periods,
-    });
-    is_answered(alloc, line, Ok(run))
+    };
+    let word = line.split(' ').next().unwrap_or("");
+    is_answered(alloc, line, Ok(run_named(word, settings)))
 }
 
 // How many of the runs are asked for so, from the first on.
@@ -70,7 +93,7 @@ fn runs_asked(alloc: Global) -> usize {
 
 #[test]
 fn options_of_a_run(rt: HostRuntime) {
-    assert_rows(&rt, runs_asked(rt.alloc()), 6);
+    assert_rows(&rt, runs_asked(rt.alloc()), 11);
 }
 
 // Drills, with their seed and calls, and their workers, batch, slice and periods.
@@ -129,11 +152,21 @@ fn options_of_a_drill(rt: HostRuntime) {
     assert_rows(&rt, drills_asked(rt.alloc()), 6);
 }
 
-static TOOLS: [(&str, Asked); 4] = [
+static TOOLS: [(&str, Asked); 8] = [
     ("relay 7", Asked::Relay(7)),
     ("frames 1", Asked::Frames(1)),
     ("encode 4096", Asked::Encode(4096)),
     ("decode 10", Asked::Decode(10)),
+    ("follow 7 316", Asked::Follow { call: 7, want: 316 }),
+    (
+        "follow 4096 0",
+        Asked::Follow {
+            call: 4096,
+            want: 0,
+        },
+    ),
+    ("split 4093", Asked::Split(4093)),
+    ("merge 1", Asked::Merge(1)),
 ];
 
 // How many calls of tools are asked for so, from the first on.
@@ -150,7 +183,7 @@ fn tools_asked(alloc: Global) -> usize {
 
 #[test]
 fn calls_of_tools(rt: HostRuntime) {
-    assert_rows(&rt, tools_asked(rt.alloc()), 4);
+    assert_rows(&rt, tools_asked(rt.alloc()), 8);
 }
 
 // Lines whose words ask for nothing; the last is empty.
@@ -187,8 +220,36 @@ relay 7 --
 relay -- 7
 relay 7 7
 relays 7
+follow
+follow 7
+follow 7 6
+follow 7 320
+follow 7 04
+follow 07 4
+follow 0 0
+follow 4097 0
+follow 7 0 0
+follow 7 x
+split 4094
+merge 0
 run --seed 1
 run --calls 2
+save
+save --
+save --workers 4
+save 3
+save --periods
+save --periods 0
+save --periods 03
+save --periods 4294967296
+save --periods 3 --periods 3
+save --periods 3 4
+save --seed 1 --periods 3
+saves --periods 3
+resume 3
+resume --periods 0
+resume --seed 1
+resumes
 drill 7
 drill --calls 0
 drill --calls 257
@@ -226,7 +287,7 @@ fn usages(alloc: Global) -> usize {
 
 #[test]
 fn other_words_are_usage(rt: HostRuntime) {
-    assert_rows(&rt, usages(rt.alloc()), 52);
+    assert_rows(&rt, usages(rt.alloc()), 80);
 }
 
 #[test]

@@ -1,3 +1,5 @@
+//! Spellings of numbers, and texts that are none.
+
 use crate::rows::assert_rows;
 use decimal_number::{number_of_octets, number_of_text};
 

@@ -1,3 +1,5 @@
+//! Marks that are read, written and compared, and texts that are none.
+
 ghost use Rattle.std.specs.Prelude.{IfOk};
 ghost use Rattle.farm_checkpoint.specs.Marks.{IsMark};
 

@@ -1,7 +1,10 @@
+//! Tests of `farm_orders`: orders, and a mark before them, read from a desk that gives its text in pieces, one whose read
+//! fails, and texts at the limits.
+
 mod pieces;
 
 use crate::rows::assert_rows;
-use farm_orders::{OrdersFault, read_orders};
+use farm_orders::{MarkedFault, OrdersFault, read_marked_orders, read_orders};
 use pieces::PieceDesk;
 use std::alloc::{AllocError, Global};
 use trau_io::{Desk, MemDesk};
@@ -115,4 +118,109 @@ fn limited(alloc: Global) -> usize {
 #[test]
 fn limits(rt: HostRuntime) {
     assert_rows(&rt, limited(rt.alloc()), 5);
+}
+
+// What is seen of a mark and its orders: its period, its calls and the orders, by their numbers.
+type Marked = (u32, usize, usize);
+
+// Texts of a mark and orders, and what is answered to them.
+static MARKED_TEXTS: [(&[u8], Result<Marked, MarkedFault>); 8] = [
+    (b"save 3\norders\n", Ok((3, 0, 0))),
+    (
+        b"save 3\ncall 1 from 0 out 102240 down 28958\norders\n0 open 1\n3 close 1",
+        Ok((3, 1, 2)),
+    ),
+    (b"", Err(MarkedFault::Mark(1))),
+    (b"save 03\norders\n", Err(MarkedFault::Mark(1))),
+    (b"save 3\norders", Err(MarkedFault::Mark(2))),
+    (
+        b"save 3\ncall 1 from 3 out 0 down 0\norders\n0 open 01\n",
+        Err(MarkedFault::Mark(2)),
+    ),
+    (
+        b"save 3\norders\n0 open 1\n0 open 01\n",
+        Err(MarkedFault::Orders(OrdersFault::Line(2))),
+    ),
+    (
+        b"save 3\norders\nsave 3\n",
+        Err(MarkedFault::Orders(OrdersFault::Line(1))),
+    ),
+];
+
+// What a desk gives of a mark and orders.
+fn marked<D: Desk>(alloc: Global, desk: &mut D) -> Result<Marked, MarkedFault> {
+    let read = read_marked_orders(alloc, desk)?;
+    Ok((
+        read.mark.period,
+        read.mark.calls.len(),
+        read.orders.list().len(),
+    ))
+}
+
+// Whether this is answered to such a text in pieces.
+fn is_marked_so(
+    alloc: Global,
+    text: &[u8],
+    cut: usize,
+    answer: Result<Marked, MarkedFault>,
+) -> Result<bool, AllocError> {
+    let text = text.to_vec(alloc)?;
+    Ok(marked(alloc, &mut PieceDesk::new(text, cut)) == answer)
+}
+
+// How many of them from the first on are answered so in pieces of this size.
+fn marked_so(alloc: Global, cut: usize) -> usize {
+    let mut answered = 0usize;
+    for (text, answer) in &MARKED_TEXTS {
+        if is_marked_so(alloc, text, cut, *answer) != Ok(true) {
+            return answered;
+        }
+        answered = answered.saturating_add(1);
+    }
+    answered
+}
+
+#[test]
+fn marks_before_orders(rt: HostRuntime) {
+    let alloc = rt.alloc();
+    assert_rows(&rt, marked_so(alloc, 1), 8);
+    assert_rows(&rt, marked_so(alloc, 1000), 8);
+}
+
+// The length of a text of zeros behind a mark, the read that fails, and what is answered. The first read gives all.
+static MARKED_LIMITS: [(usize, u32, OrdersFault); 4] = [
+    (1_048_576, 9, OrdersFault::Line(1)),
+    (1_048_577, 9, OrdersFault::TooLong),
+    (1_310_707, 1, OrdersFault::TooLong),
+    (1_310_706, 1, OrdersFault::Unread),
+];
+
+// Whether this is answered to so many zeros behind the mark, which has 14 octets.
+fn is_marked_limit(
+    alloc: Global,
+    length: usize,
+    fails: u32,
+    fault: OrdersFault,
+) -> Result<bool, AllocError> {
+    let mut text = b"save 3\norders\n".to_vec(alloc)?;
+    text.extend_from_slice(&vec![in alloc; b'0'; length]?)?;
+    let mut desk = desk(alloc, &text, fails)?;
+    Ok(marked(alloc, &mut desk) == Err(MarkedFault::Orders(fault)))
+}
+
+// How many of them are answered so, from the first on.
+fn marked_limited(alloc: Global) -> usize {
+    let mut limited = 0usize;
+    for (length, fails, fault) in &MARKED_LIMITS {
+        if is_marked_limit(alloc, *length, *fails, *fault) != Ok(true) {
+            return limited;
+        }
+        limited = limited.saturating_add(1);
+    }
+    limited
+}
+
+#[test]
+fn limits_behind_a_mark(rt: HostRuntime) {
+    assert_rows(&rt, marked_limited(rt.alloc()), 4);
 }

@@ -1,3 +1,5 @@
+//! Reports: each reply and each cause, the greatest numbers, and a recorded one.
+
 use farm_report::{CallLine, Report, SpanLine, write_report};
 use std::alloc::{AllocError, Global};
 use std::process::Abort;

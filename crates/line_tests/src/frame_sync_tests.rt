@@ -1,3 +1,5 @@
+//! The search for frames: at any bit, through misses in a row, and while it hunts.
+
 ghost use Rattle.std.specs.Prelude.{◌≡◌, ◌<◌, ◌+◌};
 
 use crate::rows::assert_rows;

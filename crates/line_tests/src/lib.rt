@@ -6,6 +6,8 @@
 #![tactic(auto)]
 
 #[cfg(test)]
+mod command_words_tests;
+#[cfg(test)]
 mod decimal_number_tests;
 #[cfg(test)]
 mod farm_checkpoint_tests;
@@ -15,8 +17,6 @@ mod farm_drill_tests;
 mod farm_orders_tests;
 #[cfg(test)]
 mod farm_report_tests;
-#[cfg(test)]
-mod command_words_tests;
 #[cfg(test)]
 mod frame_sync_tests;
 #[cfg(test)]

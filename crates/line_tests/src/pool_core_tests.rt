@@ -1,3 +1,5 @@
+//! The pool machine of two workers, one of which steals a job.
+
 ghost use Rattle.std.specs.Prelude.{◌≡◌, ◌<◌, length};
 
 use crate::rows::assert_rows;

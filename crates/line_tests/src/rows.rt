@@ -1,4 +1,4 @@
-// The rows of a test's table.
+//! The rows of a test's table.
 use std::process::Abort;
 
 // Asserts how many rows are so, from the first on: in one place, as each `assert_eq!` is proved with its words.

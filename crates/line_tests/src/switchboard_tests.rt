@@ -1,3 +1,5 @@
+//! Orders to the board, which are accepted or refused, and ends of calls.
+
 ghost use Rattle.std.specs.Prelude.{◌≡◌, ◌<◌, ◌≤◌, ℕ, IfOk, IsTrue};
 ghost use Rattle.switchboard.specs.State.{EndBefore, last_stamp};
 

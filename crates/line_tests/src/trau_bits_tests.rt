@@ -1,3 +1,5 @@
+//! Bits of octets, by values that were worked by hand.
+
 use trau_bits::{get_bit, pack, put_bit, unpack};
 
 // Worked by hand: 0x88 is 1000 1000 and 0x06 is 0000 0110, the most significant bit first.

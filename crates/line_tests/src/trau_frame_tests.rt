@@ -1,3 +1,5 @@
+//! Frames that were worked by hand from the tables: what is read in them, and what is written.
+
 use crate::rows::assert_rows;
 use trau_bits::{pack, unpack};
 use trau_frame::{Class, DownFrame, Kind, UpFrame, read_up, sync_matches, write_down, write_up};

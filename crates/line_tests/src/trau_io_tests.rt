@@ -1,3 +1,5 @@
+//! The trunk and the desk in memory: what they give and take, in which cuts, and where they fail.
+
 use std::alloc::{AllocError, Global};
 use trau_io::{
     Desk, Failed, Filled, Line, MemDesk, MemTrunk, Side, Trunk, read_block, tell, write_all,

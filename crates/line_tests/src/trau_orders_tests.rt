@@ -1,3 +1,5 @@
+//! Lines of orders, which are counted or refused, and texts at the limits.
+
 use crate::rows::assert_rows;
 use std::alloc::{AllocError, Global};
 use trau_alaw::Law;

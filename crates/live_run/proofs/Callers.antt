@@ -9,7 +9,7 @@ use Rattle.farm_live.specs.declared.slot.View.{View}
 use Rattle.farm_live.specs.declared.live.Seat.{Seat}
 use Rattle.farm_live.specs.declared.live.Caller.{Caller}
 use Rattle.farm_live.specs.Turns.{new_view}
-use Rattle.farm_live.specs.Live.{view_of, call_at, IsSeated, AreCallers, numbers_of}
+use Rattle.farm_live.specs.Live.{view_of, book_at, IsSeated, AreCallers, numbers_of}
 use Rattle.farm_live.specs.Closing.{AreAllSeated}
 use Rattle.farm_live.proofs.NewFarm.{Line, written_back}
 use Rattle.live_run.specs.declared.posters.Poster.{Poster}

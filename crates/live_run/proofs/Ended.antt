@@ -13,7 +13,7 @@ use Rattle.farm_live.specs.declared.slot.View.{View}
 use Rattle.farm_live.specs.declared.live.Seat.{Seat}
 use Rattle.farm_live.specs.declared.live.Caller.{Caller}
 use Rattle.farm_live.specs.declared.live.Closed.{Closed}
-use Rattle.farm_live.specs.Book.{Known, record_of, of_caller, NumberedFrom, is_of_post}
+use Rattle.farm_live.specs.Book.{BookState, record_of, of_caller, NumberedFrom, is_of_post}
 use Rattle.farm_live.specs.Slot.{weigh, bit, is_at, times, ascending, all_callers, BeginsWith, AllSeen, own_posts}
 use Rattle.farm_live.specs.Turns.{Closes}
 use Rattle.farm_live.specs.Live.{view_of, numbers_of}
@@ -46,7 +46,7 @@ own_some zero ps h = absurd (omega arith)
 own_some (suc n) ps h = refl
 
 -- a book that is closed by all callers, of which one has made posts, has these posts
-record_is : (v : View) (b : Known) (seed o call n : ℕ) → Closes v b → v.made ≡ drawn_posts seed o call n → ((c : ℕ) → 0 < times c all_callers → 0 < times c v.callers) →
+record_is : (v : View) (b : BookState) (seed o call n : ℕ) → Closes v b → v.made ≡ drawn_posts seed o call n → ((c : ℕ) → 0 < times c all_callers → 0 < times c v.callers) →
     record_of b ≡ drawn_posts seed o call n
 record_is v b seed o call n closes made all = sym (only_of o (record_of b) (λ c ne. each c ∙ ap (of_caller c) made ∙ drawn_of_none seed o call c n (λ e. ne (sym e)))) ∙ each o ∙ ap (of_caller o) made ∙ drawn_of seed o call n
   where
@@ -80,7 +80,7 @@ no_items : (xs : List Post) → length xs ≡ 0 → xs ≡ []
 no_items [] e = refl
 no_items (x ∷ xs) e = absurd (omega arith)
 
-all_worked : (seed o call n : ℕ) (b k : Known) (e : Entry) → 1 ≤ n → record_of b ≡ drawn_posts seed o call n → NumberedFrom 0 (record_of b) → BeginsWith b k → find (is_of_post o (n - 1)) k.history ≡ Some e →
+all_worked : (seed o call n : ℕ) (b k : BookState) (e : Entry) → 1 ≤ n → record_of b ≡ drawn_posts seed o call n → NumberedFrom 0 (record_of b) → BeginsWith b k → find (is_of_post o (n - 1)) k.history ≡ Some e →
     map (λ x. x.post) b.history ≡ drawn_posts seed o call n
 unfolding record_of
 all_worked seed o call n b k e some is numbered begins found =
@@ -119,11 +119,11 @@ weight_in f h [] i d there = absurd (omega arith)
 weight_in f h (c ∷ cs) zero d there = omega (arith, ap (weigh f) (turned h c cs), weigh-append f (flat_map h (reverse cs)) (h c))
 weight_in f h (c ∷ cs) (suc i) d there = let rest = weight_in f h cs i d (omega arith) in omega (arith, rest, ap (weigh f) (turned h c cs), weigh-append f (flat_map h (reverse cs)) (h c))
 
-seen_parts : (b : Known) (xs ys : List Known) → AllSeen b (xs ++ ys) → AllSeen b xs × AllSeen b ys
+seen_parts : (b : BookState) (xs ys : List BookState) → AllSeen b (xs ++ ys) → AllSeen b xs × AllSeen b ys
 seen_parts b [] ys all = (tt, all)
 seen_parts b (x ∷ xs) ys all = let rest = seen_parts b xs ys all.1 in ((all.0, rest.0), rest.1)
 
-seen_in : (b : Known) (h : Caller → List Known) (cs : List Caller) (i : ℕ) (d : Caller) → i < length cs → AllSeen b (flat_map h (reverse cs)) → AllSeen b (h (get_or cs i d))
+seen_in : (b : BookState) (h : Caller → List BookState) (cs : List Caller) (i : ℕ) (d : Caller) → i < length cs → AllSeen b (flat_map h (reverse cs)) → AllSeen b (h (get_or cs i d))
 seen_in b h [] i d there all = absurd (omega arith)
 seen_in b h (c ∷ cs) zero d there all = (seen_parts b (flat_map h (reverse cs)) (h c) (subst (AllSeen b) (turned h c cs) all)).1
 seen_in b h (c ∷ cs) (suc i) d there all = seen_in b h cs i d (omega arith) (seen_parts b (flat_map h (reverse cs)) (h c) (subst (AllSeen b) (turned h c cs) all)).0
@@ -229,10 +229,10 @@ module _ (seed calls callers periods : ℕ) (cs : List Caller) (d : Caller) (k :
         omega (arith, w.2, le, ap (times c) numbers, ap (times c) (flat_flat f (view_at k) (reverse cs)))
 
     -- what the calling thread saw last
-    saw_last : (b : Known) → AllSeen b (flat_map (λ (u : View). u.seen) (views_at k (reverse cs))) → (known : Known) × (e : Entry) × BeginsWith b known × (find (is_of_post (k % callers) (periods - 1)) known.history ≡ Some e)
+    saw_last : (b : BookState) → AllSeen b (flat_map (λ (u : View). u.seen) (views_at k (reverse cs))) → (known : BookState) × (e : Entry) × BeginsWith b known × (find (is_of_post (k % callers) (periods - 1)) known.history ≡ Some e)
     saw_last b all =
-        let f : View → List Known = λ u. u.seen in
-        let h : Caller → List Known = λ c. flat_map f (view_at k c) in
+        let f : View → List BookState = λ u. u.seen in
+        let h : Caller → List BookState = λ c. flat_map f (view_at k c) in
         let some = x.some_callers in
         let count = x.count in
         let first : 0 < callers = omega (arith, some) in

@@ -20,7 +20,7 @@ use Rattle.farm_live.specs.declared.post.Post.{Post}
 use Rattle.farm_live.specs.declared.post.Entry.{Entry}
 use Rattle.farm_live.specs.declared.live.Caller.{Caller}
 use Rattle.farm_live.specs.declared.live.Closed.{Closed}
-use Rattle.farm_live.specs.Book.{who_of, IsLegal}
+use Rattle.farm_live.specs.Book.{who_at, IsLegal}
 use Rattle.farm_live.specs.Closing.{views_at, IsClosedBy, AreClosed}
 use Rattle.live_run.specs.Posts.{drawn_post, drawn_posts}
 use Rattle.live_run.specs.Whole.{setting, call_of_posts, ArePeriods, live_call}
@@ -65,7 +65,7 @@ drawn_call seed caller call n =
     let up = flat_map-map (λ (p : Post). p.up) post (range_with_len 0 n) in
     let pcm = flat_map-map (λ (p : Post). p.pcm) post (range_with_len 0 n) in
     let count = length-map-range_with_len post 0 n in
-    λ i. record { who = who_of call; up = up i; pcm = pcm i; settings = replicate (count i) setting; spans = [] }
+    λ i. record { who = who_at call; up = up i; pcm = pcm i; settings = replicate (count i) setting; spans = [] }
 
 -- ---- the lines
 

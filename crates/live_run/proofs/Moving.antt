@@ -11,7 +11,7 @@ use Rattle.farm_live.specs.declared.turns.Turn.{Turn}
 use Rattle.farm_live.specs.declared.turns.Turn.TheVariants as turn
 use Rattle.farm_live.specs.declared.turns.Look.{Look}
 use Rattle.farm_live.specs.declared.turns.Look.TheVariants as look
-use Rattle.farm_live.specs.Book.{Known, of_caller}
+use Rattle.farm_live.specs.Book.{BookState, of_caller}
 use Rattle.farm_live.specs.Turns.{Turned, Looked, HasTurned, HasLooked}
 use Rattle.farm_live.specs.Live.{view_of, Turns, HasAnswered, next_post}
 use Rattle.live_run.specs.Posts.{Stays, Gains, Saw, Moves}
@@ -50,7 +50,7 @@ stays_on k a b c m n = moves_then Stays Stays Stays k a b c stays_then m n
 
 -- ---- by what was answered
 
-turned_none : (v w : View) (back : Known) → Turned v w back [] → Stays v w
+turned_none : (v w : View) (back : BookState) → Turned v w back [] → Stays v w
 turned_none v w back t = record { made = t.made ∙ append-nil v.made; callers = t.took.callers }
 
 missed_none : (v w : View) → w.made ≡ v.made → w.callers ≡ v.callers → Stays v w

@@ -6,16 +6,16 @@ use Rattle.std.proofs.lemmas.List.Elements.{All-nil, All-cons, All-head, All-tai
 use Rattle.trau_bits.specs.Bits.{bits_of}
 use Rattle.call_leg.specs.Who.{Who}
 use Rattle.call_leg.specs.Periods.{CallPeriod, pcm_of}
-use Rattle.call_leg.specs.Out.{out_of}
+use Rattle.call_leg.specs.Out.{out_of, out_line}
 use Rattle.call_leg.specs.Down.{down_line, down_now}
 use Rattle.call_spec.specs.Call.{Call, Setting, Span}
 use Rattle.call_spec.specs.Out.{out}
 use Rattle.call_spec.specs.Down.{down}
-use Rattle.call_spec.specs.History.{IsCallHistory, call_of, up_of, settings_of, setting_of, spans_of, out_line}
+use Rattle.call_spec.specs.History.{IsCallHistory, call_of_history, up_in_history, settings_of, setting_of, spans_in_history}
 use Rattle.call_spec.proofs.Yields.{bits_of-append}
 use Rattle.farm_live.specs.declared.post.Post.{Post}
 use Rattle.farm_live.specs.declared.post.Entry.{Entry}
-use Rattle.farm_live.specs.Book.{who_of, period_of, periods_after, IsWorkedFrom, IsLegal}
+use Rattle.farm_live.specs.Book.{who_at, period_of, periods_after, IsWorkedFrom, IsLegal}
 use Rattle.live_run.specs.Text.{outs_of, downs_of}
 use Rattle.live_run.specs.Whole.{setting, call_of_posts, ArePeriods}
 
@@ -24,9 +24,9 @@ posts_of es = map (λ e. e.post) es
 
 -- ---- the history's periods, added to those before
 
-ups_after : (ts : List CallPeriod) (es : List Entry) → up_of (periods_after ts es) ≡ up_of ts ++ flat_map (λ p. p.up) (posts_of es)
-ups_after ts [] = sym (append-nil (up_of ts))
-ups_after ts (e ∷ es) = ups_after (period_of e.post ∷ ts) es ∙ append_assoc (up_of ts) e.post.up (flat_map (λ p. p.up) (posts_of es))
+ups_after : (ts : List CallPeriod) (es : List Entry) → up_in_history (periods_after ts es) ≡ up_in_history ts ++ flat_map (λ p. p.up) (posts_of es)
+ups_after ts [] = sym (append-nil (up_in_history ts))
+ups_after ts (e ∷ es) = ups_after (period_of e.post ∷ ts) es ∙ append_assoc (up_in_history ts) e.post.up (flat_map (λ p. p.up) (posts_of es))
 
 pcms_after : (ts : List CallPeriod) (es : List Entry) → pcm_of (periods_after ts es) ≡ pcm_of ts ++ flat_map (λ p. p.pcm) (posts_of es)
 pcms_after ts [] = sym (append-nil (pcm_of ts))
@@ -36,17 +36,17 @@ settings_after : (ts : List CallPeriod) (es : List Entry) → settings_of (perio
 settings_after ts [] = sym (append-nil (settings_of ts))
 settings_after ts (e ∷ es) = settings_after (period_of e.post ∷ ts) es ∙ append_assoc (settings_of ts) (setting ∷ []) (replicate (length (posts_of es)) setting)
 
-spans_after : (ts : List CallPeriod) (es : List Entry) → spans_of (periods_after ts es) ≡ spans_of ts
+spans_after : (ts : List CallPeriod) (es : List Entry) → spans_in_history (periods_after ts es) ≡ spans_in_history ts
 spans_after ts [] = refl
 spans_after ts (e ∷ es) = spans_after (period_of e.post ∷ ts) es
 
-call_is : (call : ℕ) (es : List Entry) → call_of (who_of call) (periods_after [] es) ≡ call_of_posts call (posts_of es)
+call_is : (call : ℕ) (es : List Entry) → call_of_history (who_at call) (periods_after [] es) ≡ call_of_posts call (posts_of es)
 call_is call es =
     let up = ups_after [] es in
     let pcm = pcms_after [] es in
     let settings = settings_after [] es in
-    let spans : reverse (spans_of (periods_after [] es)) ≡ [] = ap reverse (spans_after [] es) in
-    λ i. record { who = who_of call; up = up i; pcm = pcm i; settings = settings i; spans = spans i }
+    let spans : reverse (spans_in_history (periods_after [] es)) ≡ [] = ap reverse (spans_after [] es) in
+    λ i. record { who = who_at call; up = up i; pcm = pcm i; settings = settings i; spans = spans i }
 
 -- ---- .. are a history of a call
 
@@ -91,8 +91,8 @@ bits_after (e ∷ es) = bits_of-append e.down (downs_of es) ∙ ap (λ (xs : Lis
 -- ---- the law
 
 module _ (call : ℕ) (es : List Entry) (sized : ArePeriods (posts_of es)) (legal : IsLegal call es) where
-  pub out_whole : ((who : Who) (ts : List CallPeriod) → IsCallHistory ts → out_line who ts ≡ out (call_of who ts)) → outs_of es ≡ out (call_of_posts call (posts_of es))
-  out_whole same = sym (outs_after (who_of call) [] es legal) ∙ same (who_of call) (periods_after [] es) (plain_after [] es sized no_periods) ∙ ap out (call_is call es)
+  pub out_whole : ((who : Who) (ts : List CallPeriod) → IsCallHistory ts → out_line who ts ≡ out (call_of_history who ts)) → outs_of es ≡ out (call_of_posts call (posts_of es))
+  out_whole same = sym (outs_after (who_at call) [] es legal) ∙ same (who_at call) (periods_after [] es) (plain_after [] es sized no_periods) ∙ ap out (call_is call es)
 
-  pub down_whole : ((who : Who) (ts : List CallPeriod) → IsCallHistory ts → down_line who ts ≡ down (call_of who ts)) → bits_of (downs_of es) ≡ down (call_of_posts call (posts_of es))
-  down_whole same = bits_after es ∙ sym (downs_after (who_of call) [] es legal) ∙ same (who_of call) (periods_after [] es) (plain_after [] es sized no_periods) ∙ ap down (call_is call es)
+  pub down_whole : ((who : Who) (ts : List CallPeriod) → IsCallHistory ts → down_line who ts ≡ down (call_of_history who ts)) → bits_of (downs_of es) ≡ down (call_of_posts call (posts_of es))
+  down_whole same = bits_after es ∙ sym (downs_after (who_at call) [] es legal) ∙ same (who_at call) (periods_after [] es) (plain_after [] es sized no_periods) ∙ ap down (call_is call es)

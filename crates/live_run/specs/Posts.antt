@@ -11,7 +11,7 @@ use Rattle.farm_live.specs.declared.post.Entry.{Entry}
 use Rattle.farm_live.specs.declared.slot.View.{View}
 use Rattle.farm_live.specs.declared.live.Seat.{Seat}
 use Rattle.farm_live.specs.declared.live.Caller.{Caller}
-use Rattle.farm_live.specs.Book.{Known, is_of_post}
+use Rattle.farm_live.specs.Book.{BookState, is_of_post}
 use Rattle.farm_live.specs.Live.{view_of, numbers_of}
 
 -- a caller's post of period n of the call with this number
@@ -47,7 +47,7 @@ pub record Gains (x : Post) (v w : View) : Type 0 where
 
 -- the post with this number stands in the history that was seen last
 abbrev pub Saw : ℕ → ℕ → View → Type 0
-Saw of number v = (b : Known) × (e : Entry) × (v.seen ≡ b ∷ []) × (find (is_of_post of number) b.history ≡ Some e)
+Saw of number v = (b : BookState) × (e : Entry) × (v.seen ≡ b ∷ []) × (find (is_of_post of number) b.history ≡ Some e)
 
 -- P holds of what a caller knew of the call with this index and of what it knows now; of each other call it knows what it
 -- knew

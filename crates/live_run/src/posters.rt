@@ -18,7 +18,7 @@ use std::sync::Wait;
 use std::thread;
 use std::thread::Threads;
 
-/// A caller on its thread.
+// A caller on its thread.
 #[derive(Drop)]
 struct Poster {
     caller: Caller,

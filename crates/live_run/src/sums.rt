@@ -10,7 +10,7 @@ use farm_live::{Closed, Entry};
 use farm_report::{put_sums, sum};
 use std::alloc::{AllocError, Global};
 
-/// The sums of a call's outgoing lines, modulo 2^32.
+// The sums of a call's outgoing lines, modulo 2^32.
 #[derive(Clone, Copy)]
 struct Sums {
     out: u32,

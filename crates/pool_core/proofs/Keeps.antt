@@ -6,25 +6,28 @@ use Rattle.std.proofs.lemmas.List.{length-set, length-append, get_or-set_same, g
 use Rattle.std.proofs.lemmas.List.Sums.{sum_by-set, sum_by-append, sum_by-cons}
 use Rattle.pool_core.specs.declared.step.PoolStep.{PoolStep}
 use Rattle.pool_core.specs.declared.step.PoolStep.TheVariants.{Pop, Steal, Run, Push, Finish}
-use Rattle.pool_core.specs.Machine.{State, deque, hand, is_worker, is_empty, can_take, is_under_way, is_complete, is_legal, taken, run, pushed, completed, moved, stepped, is_job, times_in, in_hand, fills, Takes, IsState}
+use Rattle.pool_core.specs.Machine.{PoolState, deque, hand, is_worker, is_empty, can_take, is_under_way, is_complete, is_legal, taken, run, pushed, completed, moved, stepped, is_job, times_in, in_hand, fills, TakesJob, IsState}
 
+-- one item more
 pub times_more : (job : ℕ) (xs : List ℕ) (x : ℕ) → times_in job (xs ++ x ∷ []) ≡ times_in job xs + is_job job x
 times_more job xs x = sum_by-append (is_job job) xs (x ∷ []) ∙ ap (λ n. times_in job xs + n) (sum_by-cons (is_job job) x [] ∙ omega arith)
 
 -- ---- what a legal step shows
 
+-- a free hand
 none_of : (o : Option ℕ) → is_none o ≡ true → o ≡ None
 none_of None e = refl
 none_of (Some x) e = cc
 
-pub legal_pop : (s : State) (w : ℕ) → is_legal s (Pop w) ≡ true → Takes s w w
+-- what a legal step tells of its workers
+pub legal_pop : (s : PoolState) (w : ℕ) → is_legal s (Pop w) ≡ true → TakesJob s w w
 legal_pop s w e =
     let p = and_parts (is_worker s w) (can_take s w w) e in
     let q = and_parts (is_none (hand s w)) (not (is_empty (deque s w))) p.1 in
     let l = ltb-true w (length s.hands) p.0 in
     record { worker = l; victim = l; free = none_of _ q.0 }
 
-pub legal_steal : (s : State) (t v : ℕ) → is_legal s (Steal t v) ≡ true → Takes s t v
+pub legal_steal : (s : PoolState) (t v : ℕ) → is_legal s (Steal t v) ≡ true → TakesJob s t v
 legal_steal s t v e =
     let p = and_parts (is_worker s t && is_worker s v && not (t == v)) (can_take s t v) e in
     let q = and_parts (is_worker s t && is_worker s v) (not (t == v)) p.0 in
@@ -32,21 +35,22 @@ legal_steal s t v e =
     let f = and_parts (is_none (hand s t)) (not (is_empty (deque s v))) p.1 in
     record { worker = ltb-true t (length s.hands) r.0; victim = ltb-true v (length s.hands) r.1; free = none_of _ f.0 }
 
-pub legal_run : (s : State) (w p : ℕ) → is_legal s (Run w p) ≡ true → w < length s.hands
+pub legal_run : (s : PoolState) (w p : ℕ) → is_legal s (Run w p) ≡ true → w < length s.hands
 legal_run s w p e =
     let q = and_parts (is_worker s w && is_under_way s (hand s w)) (nat_lt 0 p) e in
     ltb-true w (length s.hands) (and_parts (is_worker s w) (is_under_way s (hand s w)) q.0).0
 
-pub legal_push : (s : State) (w : ℕ) → is_legal s (Push w) ≡ true → w < length s.hands
+pub legal_push : (s : PoolState) (w : ℕ) → is_legal s (Push w) ≡ true → w < length s.hands
 legal_push s w e = ltb-true w (length s.hands) (and_parts (is_worker s w) (is_under_way s (hand s w)) e).0
 
-pub legal_finish : (s : State) (w : ℕ) → is_legal s (Finish w) ≡ true → w < length s.hands
+pub legal_finish : (s : PoolState) (w : ℕ) → is_legal s (Finish w) ≡ true → w < length s.hands
 legal_finish s w e = ltb-true w (length s.hands) (and_parts (is_worker s w) (is_complete s (hand s w)) e).0
 
 -- ---- each part of a step
 
 -- a hand that is set
-hands_set : (hands : List (Option ℕ)) (w : ℕ) (o : Option ℕ) (P : ℕ → Type 0) → IfSome o P → ((v : ℕ) → IfSome (get_or hands v None) P) → (v : ℕ) → IfSome (get_or (set hands w o) v None) P
+hands_set : (hands : List (Option ℕ)) (w : ℕ) (o : Option ℕ) (P : ℕ → Type 0) → IfSome o P → ((v : ℕ) → IfSome (get_or hands v None) P) → (v : ℕ) →
+    IfSome (get_or (set hands w o) v None) P
 hands_set [] w o P h all v = all v
 hands_set (x ∷ xs) zero o P h all zero = h
 hands_set (x ∷ xs) zero o P h all (suc v) = all (suc v)
@@ -57,13 +61,16 @@ hands_set (x ∷ xs) (suc w) o P h all (suc v) = hands_set xs w o P h (λ u. all
 abbrev pub Below : ℕ → List ℕ → Type 0
 Below n jobs = (k : ℕ) → k < length jobs → get_or jobs k 0 < n
 
-deques_set : (n : ℕ) (deques : List (List ℕ)) (w : ℕ) (jobs : List ℕ) → Below n jobs → ((v : ℕ) → Below n (get_or deques v [])) → (v : ℕ) → Below n (get_or (set deques w jobs) v [])
+-- one deque is changed, and each still has jobs of the pool alone
+deques_set : (n : ℕ) (deques : List (List ℕ)) (w : ℕ) (jobs : List ℕ) → Below n jobs → ((v : ℕ) → Below n (get_or deques v [])) → (v : ℕ) →
+    Below n (get_or (set deques w jobs) v [])
 deques_set n [] w jobs h all v = all v
 deques_set n (x ∷ xs) zero jobs h all zero = h
 deques_set n (x ∷ xs) zero jobs h all (suc v) = all (suc v)
 deques_set n (x ∷ xs) (suc w) jobs h all zero = all zero
 deques_set n (x ∷ xs) (suc w) jobs h all (suc v) = deques_set n xs w jobs h (λ u. all (suc u)) v
 
+-- a list without its first job, and one with a job more
 below_tail : (n job : ℕ) (jobs : List ℕ) → Below n (job ∷ jobs) → Below n jobs
 below_tail n job jobs h k l = h (suc k) (omega arith)
 
@@ -74,7 +81,7 @@ below_more n job (x ∷ xs) h l zero m = h 0 (omega arith)
 below_more n job (x ∷ xs) h l (suc k) m = below_more n job xs (λ k q. h (suc k) (omega arith)) l k (omega arith)
 
 -- a job from a deque into a hand
-pub taken_keeps : (s : State) (w v : ℕ) (jobs : List ℕ) → IsState s → Takes s w v → deque s v ≡ jobs → IsState (taken s w v jobs)
+pub taken_keeps : (s : PoolState) (w v : ℕ) (jobs : List ℕ) → IsState s → TakesJob s w v → deque s v ≡ jobs → IsState (taken s w v jobs)
 taken_keeps s w v [] i t e = i
 taken_keeps s w v (job ∷ jobs) i t e =
     let b : Below (length s.lens) (job ∷ jobs) = subst (λ (xs : List ℕ). Below (length s.lens) xs) e (i.standing v) in
@@ -100,7 +107,8 @@ taken_keeps s w v (job ∷ jobs) i t e =
           omega (arith, i.all);
     }
 
-pub run_keeps : (s : State) (w p : ℕ) (o : Option ℕ) → IsState s → hand s w ≡ o → IsState (run s p o)
+-- each step keeps what the machine keeps: a run ..
+pub run_keeps : (s : PoolState) (w p : ℕ) (o : Option ℕ) → IsState s → hand s w ≡ o → IsState (run s p o)
 run_keeps s w p None i e = i
 run_keeps s w p (Some job) i e = record {
   placed = length-set s.places job _ ∙ i.placed;
@@ -112,16 +120,19 @@ run_keeps s w p (Some job) i e = record {
   all = i.all;
 }
   where
-    within_set : (places lens : List ℕ) (job n : ℕ) → n ≤ get_or lens job 0 → ((j : ℕ) → get_or places j 0 ≤ get_or lens j 0) → (j : ℕ) → get_or (set places job n) j 0 ≤ get_or lens j 0
+    within_set : (places lens : List ℕ) (job n : ℕ) → n ≤ get_or lens job 0 → ((j : ℕ) → get_or places j 0 ≤ get_or lens j 0) → (j : ℕ) →
+        get_or (set places job n) j 0 ≤ get_or lens j 0
     within_set places lens job n h all j = elim (cases_eq j job) [
       | inl p ↦ elim (cases_lt job (length places)) [
-        | inl l ↦ let e = ap (λ (j : ℕ). get_or (set places job n) j 0) p ∙ get_or-set_same places job n 0 l in let f = ap (λ (j : ℕ). get_or lens j 0) p in omega arith
+        | inl l ↦ let e = ap (λ (j : ℕ). get_or (set places job n) j 0) p ∙ get_or-set_same places job n 0 l in let f = ap (λ (j : ℕ). get_or lens j 0) p in
+            omega arith
         | inr l ↦ past places lens job n l j all
       ]
       | inr q ↦ let e = get_or-set_other places job j n 0 q in let a = all j in omega arith
     ]
       where
-        past : (places lens : List ℕ) (job n : ℕ) → length places ≤ job → (j : ℕ) → ((j : ℕ) → get_or places j 0 ≤ get_or lens j 0) → get_or (set places job n) j 0 ≤ get_or lens j 0
+        past : (places lens : List ℕ) (job n : ℕ) → length places ≤ job → (j : ℕ) → ((j : ℕ) → get_or places j 0 ≤ get_or lens j 0) →
+            get_or (set places job n) j 0 ≤ get_or lens j 0
         past places lens job n l j all = subst (λ (xs : List ℕ). get_or xs j 0 ≤ get_or lens j 0) (sym (same places job n l)) (all j)
           where
             same : (xs : List ℕ) (i n : ℕ) → length xs ≤ i → set xs i n ≡ xs
@@ -129,10 +140,12 @@ run_keeps s w p (Some job) i e = record {
             same (x ∷ xs) zero n l = absurd (omega arith)
             same (x ∷ xs) (suc i) n l = ap (λ ys. x ∷ ys) (same xs i n (omega arith))
 
-held_below : (s : State) (w job : ℕ) → IsState s → hand s w ≡ Some job → job < length s.lens
+-- a hand holds a job of the pool
+held_below : (s : PoolState) (w job : ℕ) → IsState s → hand s w ≡ Some job → job < length s.lens
 held_below s w job i e = subst (λ (o : Option ℕ). IfSome o (λ job. job < length s.lens)) e (i.holding w)
 
-pub pushed_keeps : (s : State) (w : ℕ) (o : Option ℕ) → IsState s → w < length s.hands → hand s w ≡ o → IsState (pushed s w o)
+-- .. a push ..
+pub pushed_keeps : (s : PoolState) (w : ℕ) (o : Option ℕ) → IsState s → w < length s.hands → hand s w ≡ o → IsState (pushed s w o)
 pushed_keeps s w None i lw e = i
 pushed_keeps s w (Some job) i lw e =
     let l : w < length s.deques = omega (arith, i.staffed) in
@@ -158,7 +171,8 @@ pushed_keeps s w (Some job) i lw e =
           omega (arith, i.all);
     }
 
-pub completed_keeps : (s : State) (w : ℕ) (o : Option ℕ) → IsState s → w < length s.hands → hand s w ≡ o → IsState (completed s w o)
+-- .. a finish ..
+pub completed_keeps : (s : PoolState) (w : ℕ) (o : Option ℕ) → IsState s → w < length s.hands → hand s w ≡ o → IsState (completed s w o)
 completed_keeps s w None i lw e = i
 completed_keeps s w (Some job) i lw e = record {
   placed = i.placed;
@@ -179,16 +193,18 @@ completed_keeps s w (Some job) i lw e = record {
       omega (arith, i.all);
 }
 
-pub moved_keeps : (s : State) (x : PoolStep) → IsState s → is_legal s x ≡ true → IsState (moved s x)
+-- .. any legal step ..
+pub moved_keeps : (s : PoolState) (x : PoolStep) → IsState s → is_legal s x ≡ true → IsState (moved s x)
 moved_keeps s (Pop w) i e = taken_keeps s w w (deque s w) i (legal_pop s w e) refl
 moved_keeps s (Steal t v) i e = taken_keeps s t v (deque s v) i (legal_steal s t v e) refl
 moved_keeps s (Run w p) i e = run_keeps s w p (hand s w) i refl
 moved_keeps s (Push w) i e = pushed_keeps s w (hand s w) i (legal_push s w e) refl
 moved_keeps s (Finish w) i e = completed_keeps s w (hand s w) i (legal_finish s w e) refl
 
-pub stepped_keeps : (s : State) (x : PoolStep) → IsState s → IsState (stepped s x)
+-- .. and any step
+pub stepped_keeps : (s : PoolState) (x : PoolStep) → IsState s → IsState (stepped s x)
 stepped_keeps s x i = by s x i (is_legal s x) refl
   where
-    by : (s : State) (x : PoolStep) → IsState s → (b : Bool) → is_legal s x ≡ b → IsState (if b then moved s x else s)
+    by : (s : PoolState) (x : PoolStep) → IsState s → (b : Bool) → is_legal s x ≡ b → IsState (if b then moved s x else s)
     by s x i true e = moved_keeps s x i e
     by s x i false e = i

@@ -9,11 +9,12 @@ use Rattle.std.proofs.lemmas.List.Elements.{filter-append}
 use Rattle.std.proofs.lemmas.List.FromFn.{fill_by_all, length-map-range_with_len, get_or-map-range_with_len}
 use Rattle.std.proofs.lemmas.List.Sums.{sum_by-set, sum_by-cons}
 use Rattle.std.proofs.lemmas.List.Folds.{sum_by-replicate}
-use Rattle.pool_core.specs.Machine.{start_of, dealt, is_job, times_in, in_hand, fills, IsState}
+use Rattle.pool_core.specs.Machine.{pool_start, dealt, is_job, times_in, in_hand, fills, IsState}
 use Rattle.pool_core.proofs.Keeps.{Below, times_more, below_more}
 
 -- ---- numbers from 0 on
 
+-- one number more
 range_more : (a n : ℕ) → range_with_len a (n + 1) ≡ range_with_len a n ++ (a + n) ∷ []
 range_more a zero = let e : a ≡ a + 0 = omega arith in ap (λ k. k ∷ []) e
 range_more a (suc n) =
@@ -34,9 +35,11 @@ set_at f g n v ys l e same =
 
 -- ---- one more job is dealt
 
+-- a list of one
 filter_one : (p : ℕ → Bool) (x : ℕ) → filter p (x ∷ []) ≡ (if p x then x ∷ [] else [])
 filter_one p x = refl
 
+-- job n goes to the worker with its number modulo that of the workers ..
 pub dealt_more : (workers n w : ℕ) → dealt workers (n + 1) w ≡ dealt workers n w ++ (if n % workers == w then n ∷ [] else [])
 dealt_more workers n w =
     ap (filter (λ job. job % workers == w)) (range_more 0 n)
@@ -44,9 +47,12 @@ dealt_more workers n w =
     ∙ ap (λ k. dealt workers n w ++ filter (λ job. job % workers == w) (k ∷ [])) (let e : 0 + n ≡ n = omega arith in e)
     ∙ ap (λ xs. dealt workers n w ++ xs) (filter_one (λ job. job % workers == w) n)
 
+-- .. who has it at the end ..
 dealt_here : (workers n : ℕ) → dealt workers (n + 1) (n % workers) ≡ dealt workers n (n % workers) ++ n ∷ []
-dealt_here workers n = dealt_more workers n (n % workers) ∙ ap (λ (t : Bool). dealt workers n (n % workers) ++ (if t then n ∷ [] else [])) (eq-eqb (n % workers) (n % workers) refl)
+dealt_here workers n = dealt_more workers n (n % workers) ∙ ap (λ (t : Bool). dealt workers n (n % workers) ++ (if t then n ∷ [] else []))
+    (eq-eqb (n % workers) (n % workers) refl)
 
+-- .. and to no other
 dealt_other : (workers n w : ℕ) → w ≢ n % workers → dealt workers (n + 1) w ≡ dealt workers n w
 dealt_other workers n w h =
     dealt_more workers n w ∙ ap (λ (t : Bool). dealt workers n w ++ (if t then n ∷ [] else [])) (ne_eqb (n % workers) w (λ e. h (sym e))) ∙ append-nil _
@@ -54,6 +60,7 @@ dealt_other workers n w h =
 abbrev pub deal : ℕ → ℕ → List (List ℕ)
 deal workers n = map (dealt workers n) (range_with_len 0 workers)
 
+-- so one deque gets it
 pub deal_more : (workers n : ℕ) → 0 < workers → deal workers (n + 1) ≡ set (deal workers n) (n % workers) (dealt workers n (n % workers) ++ n ∷ [])
 deal_more workers n l = set_at (dealt workers (n + 1)) (dealt workers n) workers (n % workers) _ (mod-lt n l) (dealt_here workers n) (dealt_other workers n)
 
@@ -62,19 +69,23 @@ deal_at workers n l = get_or-map-range_with_len (dealt workers n) 0 workers (n %
 
 -- ---- each job is dealt once
 
+-- no jobs are dealt
 all_empty : (f : List ℕ → ℕ) → f [] ≡ 0 → (a n : ℕ) → sum_by f (map (λ w. []) (range_with_len a n)) ≡ 0
 all_empty f e a zero = refl
 all_empty f e a (suc n) = let i = all_empty f e (a + 1) n in sum_by-cons f [] (map (λ w. []) (range_with_len (a + 1) n)) ∙ omega arith
 
+-- each job is dealt once
 deal_times : (workers n job : ℕ) → 0 < workers → sum_by (times_in job) (deal workers n) ≡ times_in job (range_with_len 0 n)
 deal_times workers zero job l = all_empty (times_in job) refl 0 workers
 deal_times workers (suc n) job l =
     subst (λ (m : ℕ). sum_by (times_in job) (deal workers m) ≡ times_in job (range_with_len 0 m)) (add-one n)
     (let i = deal_times workers n job l in
-    let d = sum_by-set (times_in job) (deal workers n) (n % workers) (dealt workers n (n % workers) ++ n ∷ []) [] (let m = mod-lt n l in let k = length-map-range_with_len (dealt workers n) 0 workers in omega arith) in
+    let d = sum_by-set (times_in job) (deal workers n) (n % workers) (dealt workers n (n % workers) ++ n ∷ []) []
+    (let m = mod-lt n l in let k = length-map-range_with_len (dealt workers n) 0 workers in omega arith) in
     let a = ap (times_in job) (deal_at workers n l) in
     let m = times_more job (dealt workers n (n % workers)) n in
-    let r = ap (times_in job) (range_more 0 n) ∙ times_more job (range_with_len 0 n) (0 + n) ∙ ap (λ k. times_in job (range_with_len 0 n) + is_job job k) (let e : 0 + n ≡ n = omega arith in e) in
+    let r = ap (times_in job) (range_more 0 n) ∙ times_more job (range_with_len 0 n) (0 + n) ∙ ap (λ k. times_in job (range_with_len 0 n) + is_job job k)
+    (let e : 0 + n ≡ n = omega arith in e) in
     let s = ap (sum_by (times_in job)) (deal_more workers n l) in
     omega arith)
 
@@ -83,18 +94,22 @@ deal_length workers zero l = all_empty length refl 0 workers
 deal_length workers (suc n) l =
     subst (λ (m : ℕ). sum_by length (deal workers m) ≡ m) (add-one n)
     (let i = deal_length workers n l in
-    let d = sum_by-set length (deal workers n) (n % workers) (dealt workers n (n % workers) ++ n ∷ []) [] (let m = mod-lt n l in let k = length-map-range_with_len (dealt workers n) 0 workers in omega arith) in
+    let d = sum_by-set length (deal workers n) (n % workers) (dealt workers n (n % workers) ++ n ∷ []) []
+    (let m = mod-lt n l in let k = length-map-range_with_len (dealt workers n) 0 workers in omega arith) in
     let a = ap length (deal_at workers n l) in
     let m = length-append (dealt workers n (n % workers)) (n ∷ []) in
     let s = ap (sum_by length) (deal_more workers n l) in
     omega arith)
 
+-- a job stands in a list of itself once, and in none more than once an item
 job_same : (job : ℕ) → is_job job job ≡ 1
 job_same job = ap (λ (t : Bool). if t then 1 else 0) (eq-eqb job job refl)
 
+-- another job
 job_other : (job other : ℕ) → other ≢ job → is_job job other ≡ 0
 job_other job other h = ap (λ (t : Bool). if t then 1 else 0) (ne_eqb other job h)
 
+-- a job among the numbers below n: once, if it is one of them
 range_step : (n job : ℕ) → times_in job (range_with_len 0 (suc n)) ≡ times_in job (range_with_len 0 n) + is_job job n
 range_step n job =
     ap (λ m. times_in job (range_with_len 0 m)) (sym (add-one n)) ∙ ap (times_in job) (range_more 0 n) ∙ times_more job (range_with_len 0 n) (0 + n)
@@ -113,6 +128,7 @@ range_once (suc n) job h = elim (cases_eq n job) [
 
 -- ---- the state at the start
 
+-- jobs below n are below n + 1
 below_wide : (n : ℕ) (jobs : List ℕ) → Below n jobs → Below (n + 1) jobs
 below_wide n jobs h k l = let b = h k l in omega arith
 
@@ -120,6 +136,7 @@ below_some : (t : Bool) (n : ℕ) (jobs : List ℕ) → Below n jobs → Below (
 below_some true n jobs h = below_more (n + 1) n jobs (below_wide n jobs h) (omega arith)
 below_some false n jobs h = subst (λ (xs : List ℕ). Below (n + 1) xs) (sym (append-nil jobs)) (below_wide n jobs h)
 
+-- each deque has jobs of the pool alone
 dealt_below : (workers n w : ℕ) → Below n (dealt workers n w)
 dealt_below workers zero w = λ k l. absurd (omega arith)
 dealt_below workers (suc n) w =
@@ -134,6 +151,7 @@ each_made f m h a (suc n) (suc v) = each_made f m h (a + 1) n v
 abbrev nones : ℕ → List (Option ℕ)
 nones n = replicate n None
 
+-- no hand holds a job, and no job has a place
 none_at : (n w : ℕ) → get_or (nones n) w None ≡ None
 none_at zero w = refl
 none_at (suc n) zero = refl
@@ -151,7 +169,8 @@ zero_at zero job = refl
 zero_at (suc n) zero = refl
 zero_at (suc n) (suc job) = zero_at n job
 
-pub start_state : (workers : ℕ) (lens : List ℕ) → 0 < workers → IsState (start_of workers lens)
+-- **The start keeps what the machine keeps.**
+pub start_state : (workers : ℕ) (lens : List ℕ) → 0 < workers → IsState (pool_start workers lens)
 start_state workers lens l =
     let n = length lens in
     record {

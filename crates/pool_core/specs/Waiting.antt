@@ -3,7 +3,7 @@ use Rattle.std.specs.Prelude.{◌≡◌, ◌≢◌, ℕ, ◌<◌, ◌≤◌, if�
 use Rattle.std.specs.List.{range_with_len}
 use Rattle.std.proofs.Common.{get_or}
 use Rattle.pool_core.specs.declared.pool.Waiting.{Waiting}
-use Rattle.pool_core.specs.Machine.{State, IsState}
+use Rattle.pool_core.specs.Machine.{PoolState, IsState}
 
 -- the jobs of a worker's deque
 abbrev pub jobs_of : List Waiting → ℕ → List ℕ
@@ -19,8 +19,8 @@ pub record IsFront (ws : List Waiting) (worker i : ℕ) : Type 0 where
 abbrev pub deques_of : List Waiting → ℕ → List (List ℕ)
 deques_of ws workers = map (jobs_of ws) (range_with_len 0 workers)
 
-abbrev pub state_of : List ℕ → List ℕ → List Waiting → List (Option ℕ) → List ℕ → State
-state_of lens places ws hands finished = record {
+abbrev pub pool_state : List ℕ → List ℕ → List Waiting → List (Option ℕ) → List ℕ → PoolState
+pool_state lens places ws hands finished = record {
   lens = lens;
   places = places;
   deques = deques_of ws (length hands);
@@ -32,4 +32,4 @@ state_of lens places ws hands finished = record {
 pub record IsPool (lens places : List ℕ) (ws : List Waiting) (hands : List (Option ℕ)) (finished : List ℕ) : Type 0 where
   pub workers : length hands ≤ 64
   pub owned : (k : ℕ) (d : Waiting) → k < length ws → (get_or ws k d).worker < length hands
-  pub state : IsState (state_of lens places ws hands finished)
+  pub state : IsState (pool_state lens places ws hands finished)

@@ -1,11 +1,11 @@
-// The pool: a state of the machine.
+//! The pool: a state of the machine.
 
 ghost use Rattle.std.specs.Prelude.{◌≡◌, ◌↔◌, ℕ, ◌<◌, ◌≤◌, min, true, None, List, ◌∷◌, [], ◌++◌, length, replicate, IfOk, IfSome, IsNone, IsTrue, OnErr, vec_capacity};
 ghost use Rattle.std.specs.List.{Contains};
 ghost use Rattle.std.proofs.Common.{get_or};
 ghost use Rattle.pool_core.specs.declared.step.PoolStep.{PoolStep as OneStep};
 ghost use Rattle.pool_core.specs.declared.pool.Waiting.{Waiting as OneWaiting};
-ghost use Rattle.pool_core.specs.Machine.{start_of, dealt, place, deque, hand, is_worker, can_take, is_under_way, is_complete, is_legal, Takes, taken, run, pushed, completed, moved, stepped, answer_of, all_done};
+ghost use Rattle.pool_core.specs.Machine.{pool_start, dealt, place, deque, hand, is_worker, can_take, is_under_way, is_complete, is_legal, TakesJob, taken, run, pushed, completed, moved, stepped, answer_of, all_done};
 ghost use Rattle.pool_core.specs.Steps.{after, runs};
 ghost use Rattle.pool_core.specs.Waiting.{jobs_of, IsFront};
 
@@ -33,12 +33,12 @@ pub struct Pool {
 
 impl Model for Pool {
     ghost use Rattle.std.specs.Prelude.{◌≤◌, length, vec_capacity};
-    ghost use Rattle.pool_core.specs.Machine.{State};
-    ghost use Rattle.pool_core.specs.Waiting.{IsPool, state_of};
+    ghost use Rattle.pool_core.specs.Machine.{PoolState};
+    ghost use Rattle.pool_core.specs.Waiting.{IsPool, pool_state};
 
-    ghost Value = { State };
+    ghost Value = { PoolState };
 
-    ghost view = { λ p. state_of p.lens.items p.places.items p.waiting.items p.hands.items p.finished.items };
+    ghost view = { λ p. pool_state p.lens.items p.places.items p.waiting.items p.hands.items p.finished.items };
 
     ghost invariant = { λ p. IsPool p.lens.items p.places.items p.waiting.items p.hands.items p.finished.items
         × (length p.lens.items ≤ vec_capacity p.waiting) × (length p.lens.items ≤ vec_capacity p.finished) };
@@ -51,7 +51,7 @@ impl Pool {
         requires some { 0 < workers }
         requires few { workers ≤ 64 }
         requires jobs { length lens.now ≤ 4096 }
-        ensures { IfOk result (λ p. p ≡ start_of workers lens.now) }
+        ensures { IfOk result (λ p. p ≡ pool_start workers lens.now) }
     {
         let jobs = lens.len();
         Ok(Pool {
@@ -71,8 +71,8 @@ impl Pool {
         ensures jobs { self.new.lens ≡ self.old.lens }
 
         // From the start, whatever steps came before.
-        ensures steps { (workers : ℕ) (lens : List ℕ) (steps : List OneStep) → self.old ≡ after (start_of workers lens) steps →
-            self.new ≡ after (start_of workers lens) (steps ++ step ∷ []) }
+        ensures steps { (workers : ℕ) (lens : List ℕ) (steps : List OneStep) → self.old ≡ after (pool_start workers lens) steps →
+            self.new ≡ after (pool_start workers lens) (steps ++ step ∷ []) }
     {
         if !self.is_legal(step) {
             return Err(NotLegal { step });
@@ -95,8 +95,8 @@ impl Pool {
         ensures value { result ≡ place self.now job }
 
         // From the start: its length or the sum of its runs, whichever is less.
-        ensures runs { (workers : ℕ) (lens : List ℕ) (steps : List OneStep) → 0 < workers → self.now ≡ after (start_of workers lens) steps →
-            result ≡ min (get_or lens job 0) (runs (start_of workers lens) job steps) }
+        ensures runs { (workers : ℕ) (lens : List ℕ) (steps : List OneStep) → 0 < workers → self.now ≡ after (pool_start workers lens) steps →
+            result ≡ min (get_or lens job 0) (runs (pool_start workers lens) job steps) }
     {
         self.places[job as usize]
     }
@@ -168,7 +168,7 @@ impl Pool {
     }
 
     fn take(&mut self, worker: u32, victim: u32)
-        requires { Takes self.old worker victim }
+        requires { TakesJob self.old worker victim }
         ensures { self.new ≡ taken self.old worker victim (deque self.old victim) }
     {
         let Some(place) = front(&self.waiting, victim) else {

@@ -1,4 +1,4 @@
-// The steps of the machine.
+//! The steps of the machine.
 
 /// What a worker does. Workers are numbered from 0.
 #[derive(Clone, Copy, Debug, PartialEq, Eq)]

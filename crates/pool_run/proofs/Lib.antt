@@ -1,10 +1,12 @@
 pub mod Deques
+pub mod Rows
 pub mod Joining
 pub mod Left
 pub mod Lists
 pub mod Members
 pub mod Orders
 pub mod Pools
+pub mod Cuts
 pub mod Rooms
 pub mod Settled
 pub mod Weights

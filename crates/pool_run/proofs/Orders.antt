@@ -21,6 +21,7 @@ same_n zero (suc b) = 0
 same_n (suc a) zero = 0
 same_n (suc a) (suc b) = same_n a b
 
+-- what tells whether two numbers are the same: 1 or 0
 same_n_refl : (a : ℕ) → same_n a a ≡ 1
 same_n_refl zero = refl
 same_n_refl (suc a) = same_n_refl a
@@ -42,6 +43,7 @@ abbrev both : ℕ → ℕ → ℕ
 both zero b = 0
 both (suc a) b = b
 
+-- the same of a job's number and its value
 abbrev same_gv : Gv → Gv → ℕ
 same_gv gnil gnil = 1
 same_gv gnil (gnum n) = 0
@@ -53,6 +55,7 @@ same_gv (gcons a b) gnil = 0
 same_gv (gcons a b) (gnum n) = 0
 same_gv (gcons a b) (gcons c d) = both (same_gv a c) (same_gv b d)
 
+-- both hold where each does
 both_one : (a b : ℕ) → a ≡ 1 → b ≡ 1 → both a b ≡ 1
 both_one zero b e f = absurd (omega arith)
 both_one (suc a) b e f = f
@@ -117,7 +120,8 @@ module _ {W : Type 0} (coded : Coded W) where
 
   none_of : (f : ℕ × W → ℕ) (n k : ℕ) (es : List (ℕ × W)) → k < n → AllFrom n es → ((e : ℕ × W) → k < e.0 → f e ≡ 0) → weigh f es ≡ 0
   none_of f n k [] lt from none = refl
-  none_of f n k (e ∷ es) lt from none = let a = none e (let h = from 0 e (omega arith) in omega arith) in let b = none_of f n k es lt (λ i d h. from (suc i) d (omega arith)) none in omega arith
+  none_of f n k (e ∷ es) lt from none =
+      let a = none e (let h = from 0 e (omega arith) in omega arith) in let b = none_of f n k es lt (λ i d h. from (suc i) d (omega arith)) none in omega arith
 
   key_none : (n k : ℕ) (es : List (ℕ × W)) → k < n → AllFrom n es → weigh (key k) es ≡ 0
   key_none n k es lt from = none_of (key k) n k es lt from (λ e h. same_n_ne k e.0 (λ q. absurd (omega arith)))
@@ -126,7 +130,8 @@ module _ {W : Type 0} (coded : Coded W) where
   whole-le n x [] e = refl
   whole-le n x (y ∷ es) e =
       let k : same_n n y.0 ≡ 0 = omega arith in
-      let w : both (same_n n y.0) (same_gv (coded.code x) (coded.code y.1)) ≡ both 0 (same_gv (coded.code x) (coded.code y.1)) = ap (λ (a : ℕ). both a (same_gv (coded.code x) (coded.code y.1))) k in
+      let w : both (same_n n y.0) (same_gv (coded.code x) (coded.code y.1)) ≡ both 0 (same_gv (coded.code x) (coded.code y.1)) =
+      ap (λ (a : ℕ). both a (same_gv (coded.code x) (coded.code y.1))) k in
       let r = whole-le n x es (omega arith) in omega arith
 
   numbered_from : (n : ℕ) (es : List (ℕ × W)) → IsNumbered n es → AllFrom n es
@@ -147,8 +152,13 @@ module _ {W : Type 0} (coded : Coded W) where
       let later : weigh (key n) es ≡ 0 = key_none (n + 1) n es (omega arith) (numbered_from (n + 1) es num.1) in
       let mine : same_n n e.0 ≡ 1 = subst (λ (k : ℕ). same_n n k ≡ 1) (sym num.0) (same_n_refl n) in
       let counted : weigh (key n) (y ∷ ys) ≡ 1 = omega (arith, same (key n)) in
-      let not_above : y.0 ≤ n = ⊎_elim (λ (lt : n < y.0). absurd (let z = key_none y.0 n ys lt ord.0 in let w = same_n_ne n y.0 (λ q. absurd (omega arith)) in omega arith)) (λ (le : y.0 ≤ n). le) (cases_lt n y.0) in
-      let not_below : n ≤ y.0 = ⊎_elim (λ (lt : y.0 < n). absurd (let z = key_none n y.0 (e ∷ es) lt (numbered_from n (e ∷ es) num) in let w = same_n_refl y.0 in let s = same (key y.0) in omega arith)) (λ (le : n ≤ y.0). le) (cases_lt y.0 n) in
+      let not_above : y.0 ≤ n =
+      ⊎_elim (λ (lt : n < y.0). absurd (let z = key_none y.0 n ys lt ord.0 in let w = same_n_ne n y.0 (λ q. absurd (omega arith)) in omega arith))
+      (λ (le : y.0 ≤ n). le) (cases_lt n y.0) in
+      let not_below : n ≤ y.0 =
+      ⊎_elim (λ (lt : y.0 < n). absurd
+      (let z = key_none n y.0 (e ∷ es) lt (numbered_from n (e ∷ es) num) in let w = same_n_refl y.0 in let s = same (key y.0) in omega arith))
+      (λ (le : n ≤ y.0). le) (cases_lt y.0 n) in
       let at : y.0 ≡ n = omega arith in
       let first : same_n n y.0 ≡ 1 = subst (λ (k : ℕ). same_n n k ≡ 1) (sym at) (same_n_refl n) in
       let rest : weigh (key n) ys ≡ 0 = omega arith in
@@ -157,7 +167,8 @@ module _ {W : Type 0} (coded : Coded W) where
       let w_e : whole n e.1 e ≡ 1 = both_one (same_n n e.0) (same_gv (coded.code e.1) (coded.code e.1)) mine (same_gv_refl (coded.code e.1)) in
       let s = same (whole n e.1) in
       let w_y : whole n e.1 y ≡ 1 = omega arith in
-      let code : coded.code e.1 ≡ coded.code y.1 = same_gv_eq (coded.code e.1) (coded.code y.1) (both_right (same_n n y.0) (same_gv (coded.code e.1) (coded.code y.1)) w_y) in
+      let code : coded.code e.1 ≡ coded.code y.1 =
+      same_gv_eq (coded.code e.1) (coded.code y.1) (both_right (same_n n y.0) (same_gv (coded.code e.1) (coded.code y.1)) w_y) in
       let one : e.1 ≡ y.1 = coded.inj e.1 y.1 code in
       let zero' : e.0 ≡ y.0 = num.0 ∙ sym at in
       let head : e ≡ y = λ i. (zero' i, one i) in
@@ -181,21 +192,33 @@ module _ {W : Type 0} (finish : W → W) where
   number_at (x ∷ ts) zero d t h = refl
   number_at (x ∷ ts) (suc i) d t h = number_at ts i d t (omega arith)
 
-  from_number : (t : Task W) (ts : List (Task W)) → IsNonDecreasingBy (λ (t : Task W). t.number) (t ∷ ts) → (i : ℕ) (d : ℕ × W) → i < length (map (entry_of finish) ts) → t.number ≤ (get_or (map (entry_of finish) ts) i d).0
-  from_number t ts h i d lt = let len = length-map ts (entry_of finish) in let s = h 0 (suc i) t (omega arith) (omega arith) in omega (arith, number_at ts i d t (omega arith))
+  from_number : (t : Task W) (ts : List (Task W)) → IsNonDecreasingBy (λ (t : Task W). t.number) (t ∷ ts) → (i : ℕ) (d : ℕ × W) →
+      i < length (map (entry_of finish) ts) → t.number ≤ (get_or (map (entry_of finish) ts) i d).0
+  from_number t ts h i d lt =
+      let len = length-map ts (entry_of finish) in let s = h 0 (suc i) t (omega arith) (omega arith) in omega (arith, number_at ts i d t (omega arith))
 
   pub in_order_from : (coded : Coded W) (ts : List (Task W)) → IsNonDecreasingBy (λ (t : Task W). t.number) ts → InOrder coded (map (entry_of finish) ts)
   in_order_from coded [] h = tt
   in_order_from coded (t ∷ ts) h = (from_number t ts h, in_order_from coded ts (λ i j d le lt. h (suc i) (suc j) d (omega arith) (omega arith)))
 
-  pub ended_values : (ts : List (Task W)) → All (IsEnded finish) ts → map (λ (e : ℕ × W). e.1) (map (entry_of finish) ts) ≡ map (λ (b : Box W). b.value) (map (λ (t : Task W). t.job) ts)
+  pub ended_values : (ts : List (Task W)) → All (IsEnded finish) ts →
+      map (λ (e : ℕ × W). e.1) (map (entry_of finish) ts) ≡ map (λ (b : Box W). b.value) (map (λ (t : Task W). t.job) ts)
   ended_values [] h = refl
-  ended_values (t ∷ ts) h = let a : finish t.job.value ≡ t.job.value = h 0 t (omega arith) in let b = ended_values ts (λ i d lt. h (suc i) d (omega arith)) in λ i. a i ∷ b i
+  ended_values (t ∷ ts) h =
+      let a : finish t.job.value ≡ t.job.value = h 0 t (omega arith) in let b = ended_values ts (λ i d lt. h (suc i) d (omega arith)) in λ i. a i ∷ b i
 
 module _ {W : Type 0} (finish : W → W) (coded : Coded W) where
-  pub answers : (all ts : List (Task W)) (es : List (ℕ × W)) → All (IsEnded finish) all → IsPermutation all ts → IsNonDecreasingBy (λ (t : Task W). t.number) ts → IsNumbered 0 es → SameEntries es (map (entry_of finish) all)
-      → map (λ (b : Box W). b.value) (map (λ (t : Task W). t.job) ts) ≡ map (λ (e : ℕ × W). e.1) es
+  pub answers : (all ts : List (Task W)) (es : List (ℕ × W)) → All (IsEnded finish) all → IsPermutation all ts →
+      IsNonDecreasingBy (λ (t : Task W). t.number) ts → IsNumbered 0 es → SameEntries es (map (entry_of finish) all) →
+      map (λ (b : Box W). b.value) (map (λ (t : Task W). t.job) ts) ≡ map (λ (e : ℕ × W). e.1) es
   answers all ts es ended perm order numbered same =
-      let same' : SameEntries es (map (entry_of finish) ts) = λ h. omega (arith, same h, weigh-map h (entry_of finish) all, weigh-map h (entry_of finish) ts, weigh-permutation (λ (t : Task W). h (entry_of finish t)) all ts perm) in
+      let same' : SameEntries es (map (entry_of finish) ts) =
+      λ h. omega (
+        arith,
+        same h,
+        weigh-map h (entry_of finish) all,
+        weigh-map h (entry_of finish) ts,
+        weigh-permutation (λ (t : Task W). h (entry_of finish t)) all ts perm,
+      ) in
       let eq = numbered_same coded 0 es (map (entry_of finish) ts) numbered (in_order_from finish coded ts order) same' in
       sym (ap (map (λ (e : ℕ × W). e.1)) eq ∙ ended_values finish ts (All-permutation (IsEnded finish) all ts perm ended))

@@ -1,80 +1,26 @@
-use Rattle.std.proofs.Common.{◌≡◌, ◌≢◌, ℕ, zero, suc, ◌+◌, ◌-◌, ◌<◌, ◌≤◌, List, [], ◌∷◌, ◌++◌, length, map, set, get_or, get_or-set_same, get_or-set_other, sym, refl, ap, ◌∙◌, subst, ⊎_elim, arith, add-one, length-append}
-use Rattle.std.specs.Global.{Global, Vec}
-use Rattle.std.proofs.lemmas.Bool.{cases_eq}
+-- A pool's room is made, worker by worker.
+use Rattle.std.proofs.Common.{◌≡◌, ◌≢◌, ℕ, ◌+◌, ◌<◌, ◌≤◌, List, [], ◌∷◌, ◌++◌, length, map, set, get_or, sym, refl, ap, ◌∙◌, subst, arith, length-append}
+use Rattle.std.specs.Global.{Vec}
 use Rattle.std.proofs.Math.ListN.{length-set}
 use Rattle.std.proofs.Math.Seq.{get_or-append_seam}
 use Rattle.std.proofs.lemmas.List.{get_or_append_left}
-use Rattle.crossbeam_deque.specs.Handles.{view, worker_deque, stealer_deque, stealer_flavor, worker_view, SameWorker}
-use Rattle.crossbeam_deque.specs.declared.handles.Worker.{Worker}
+use Rattle.crossbeam_deque.specs.Handles.{view, worker_deque, stealer_deque, stealer_flavor, worker_view}
 use Rattle.pool_run.specs.declared.deque.View.{View}
 use Rattle.pool_run.specs.declared.deque.Task.{Task}
-use Rattle.pool_run.specs.declared.deque.OneDeque.{OneDeque}
 use Rattle.pool_run.specs.declared.member.Member.{Member}
-use Rattle.pool_run.specs.Deque.{weigh, knows, entry_of}
+use Rattle.pool_run.specs.Deque.{weigh, entry_of}
 use Rattle.pool_run.specs.Member.{Thief, Knower, IsPassFor, given, obtained}
 use Rattle.pool_run.specs.Room.{IsRoom, IsNew, IsUnused, IsRow, RoomLeft}
 use Rattle.pool_run.specs.Joins.{HasRow, IsShared, below, rows_at}
 use Rattle.pool_run.specs.Pool.{passes_of}
 use Rattle.pool_run.proofs.Weights.{weigh-append, weigh-set, weigh_ones, weigh_zeros}
-use Rattle.pool_run.proofs.Joining.{has_pass, passes_at, passes_set_same, passes_set_other, passes_set_kept}
-use Rattle.pool_run.proofs.Lists.{each_set, below_at, below_self, below_other, below_lt, below-le, each_snoc}
+use Rattle.pool_run.proofs.Rows.{has_pass, passes_at, passes_set_same, passes_set_other}
+use Rattle.pool_run.proofs.Lists.{each_set, below_lt, each_snoc}
 use Rattle.pool_run.proofs.Left.{OwnLeft}
 
-module _ {W : Type 0} where
-  rows-le : (k : ℕ) (ms : List (Member W)) → rows_at k ms ≤ length ms
-  rows-le k [] = omega arith
-  rows-le k (m ∷ ms) = omega (arith, rows-le k ms, below-le k (length m.passes.items))
-
-  pub passes_snoc : (ms : List (Member W)) (m : Member W) → ((i : ℕ) → passes_of ms i ≡ []) → m.passes.items ≡ [] → (i : ℕ) → passes_of (ms ++ m ∷ []) i ≡ []
-  passes_snoc [] m none is zero = is
-  passes_snoc [] m none is (suc i) = refl
-  passes_snoc (x ∷ ms) m none is zero = none 0
-  passes_snoc (x ∷ ms) m none is (suc i) = passes_snoc ms m (λ j. none (suc j)) is i
-
 module _ {W : Type 0} (finish : W → W) where
-  module _ (thieves : List (Thief W)) (ms : List (Member W)) (k : ℕ) (r : Member W) (unused : IsUnused finish thieves ms k) (there : k < length ms) (few : length ms ≤ 64) where
-    parts_were : (worker_view (get_or ms k r).own).parts + rows_at k ms ≡ 1024
-    parts_were = omega (arith, unused.shared.parts k r there, below_self k)
-
-    pub two_parts : 1 < (worker_view (get_or ms k r).own).parts
-    two_parts = omega (arith, parts_were, rows-le k ms)
-
-    module _ (w : Worker (Task W) Global (View W) OneDeque) (same : SameWorker (get_or ms k r).own w)
-        (is : worker_view w ≡ knows ((worker_view (get_or ms k r).own).parts - 1) (worker_view (get_or ms k r).own).pushed (worker_view (get_or ms k r).own).obtained) where
-      abbrev pub less : Member W
-      less = record (get_or ms k r) { own = w }
-
-      parts_now : (worker_view w).parts + 1 ≡ (worker_view (get_or ms k r).own).parts
-      parts_now = let t = two_parts in omega (arith, ap (λ (u : View W). u.parts) is)
-
-      rows_same : (i : ℕ) → rows_at i (set ms k less) ≡ rows_at i ms
-      rows_same i = omega (arith, weigh-set (has_pass i) ms k less r there)
-
-      cut_shared : IsShared finish thieves (set ms k less) (k + 1) 0
-      cut_shared = let shared = unused.shared in let s = shared.rows k r there in record {
-        pair = length-set ms k less ∙ shared.pair;
-        own = λ i t d in_range. each_set (λ (i : ℕ) (x : Member W). worker_deque x.own ≡ stealer_deque (get_or thieves i t)) ms k less there (same.0 ∙ shared.own k t r there) (λ i d h. shared.own i t d h) i d in_range;
-        rows = each_set (λ (i : ℕ) (x : Member W). HasRow finish thieves x) ms k less there
-            (record { fifo = same.1 ∙ s.fifo; parts = (let t = two_parts in omega (arith, parts_now)); few = s.few; each = s.each; ended = s.ended }) shared.rows;
-        parts = λ i d in_range. ⊎_elim
-            (λ (e : i ≡ k). subst (λ (n : ℕ). (worker_view (get_or (set ms k less) n d).own).parts + rows_at n (set ms k less) + below n (k + 1) ≡ 1024 + 0) (sym e)
-            (omega (arith, ap (λ (x : Member W). (worker_view x.own).parts) (get_or-set_same ms k less d there), parts_now, parts_were, rows_same k, ap (below k) (add-one k), below_at k)))
-            (λ (ne : i ≢ k). omega (arith, ap (λ (x : Member W). (worker_view x.own).parts) (get_or-set_other ms k i less d ne), shared.parts i d (omega (arith, length-set ms k less)), rows_same i, ap (below i) (add-one k), below_other i k ne))
-            (cases_eq i k);
-      }
-
-      pub cut_unused : IsUnused finish thieves (set ms k less) (k + 1)
-      cut_unused = record {
-        shared = cut_shared;
-        fifo = unused.fifo;
-        given = λ h. omega (arith, unused.given h, weigh-set (given finish h) ms k less r there, ap (λ (u : View W). weigh h u.pushed) is);
-        obtained = λ h. omega (arith, unused.obtained h, weigh-set (obtained h) ms k less r there, ap (λ (u : View W). weigh h u.obtained) is);
-      }
-
-      pub cut_rows : (i : ℕ) → passes_of (set ms k less) i ≡ passes_of ms i
-      cut_rows = passes_set_kept ms k less there (sym (passes_at ms k r there))
-
-  module _ (thieves : List (Thief W)) (ms : List (Member W)) (me : ℕ) (r : Member W) (row : Vec (Knower W)) (unused : IsUnused finish thieves ms (length thieves)) (there : me < length ms)
+  module _ (thieves : List (Thief W)) (ms : List (Member W)) (me : ℕ) (r : Member W) (row : Vec (Knower W))
+      (unused : IsUnused finish thieves ms (length thieves)) (there : me < length ms)
       (none : passes_of ms me ≡ []) (is_row : IsRow thieves row.items) (len : length row.items ≡ length thieves) where
     abbrev pub seated : Member W
     seated = record (get_or ms me r) { passes = row }
@@ -88,8 +34,12 @@ module _ {W : Type 0} (finish : W → W) where
     give_shared : IsShared finish thieves (set ms me seated) 0 0
     give_shared = let shared = unused.shared in let s = shared.rows me r there in record {
       pair = length-set ms me seated ∙ shared.pair;
-      own = λ i t d in_range. each_set (λ (i : ℕ) (x : Member W). worker_deque x.own ≡ stealer_deque (get_or thieves i t)) ms me seated there (shared.own me t r there) (λ i d h. shared.own i t d h) i d in_range;
-      rows = each_set (λ (i : ℕ) (x : Member W). HasRow finish thieves x) ms me seated there (record { fifo = s.fifo; parts = s.parts; few = omega (arith, len); each = is_row.each; ended = s.ended }) shared.rows;
+      own =
+          λ i t d in_range. each_set (λ (i : ℕ) (x : Member W). worker_deque x.own ≡ stealer_deque (get_or thieves i t)) ms me seated there
+          (shared.own me t r there) (λ i d h. shared.own i t d h) i d in_range;
+      rows =
+          each_set (λ (i : ℕ) (x : Member W). HasRow finish thieves x) ms me seated there
+          (record { fifo = s.fifo; parts = s.parts; few = omega (arith, len); each = is_row.each; ended = s.ended }) shared.rows;
       parts = each_set (λ (i : ℕ) (x : Member W). (worker_view x.own).parts + rows_at i (set ms me seated) + 0 ≡ 1024 + 0) ms me seated there
           (omega (arith, shared.parts me r there, rows me)) (λ i d h. omega (arith, shared.parts i d h, rows i));
     }
@@ -99,7 +49,14 @@ module _ {W : Type 0} (finish : W → W) where
       shared = give_shared;
       fifo = unused.fifo;
       given = λ h. omega (arith, unused.given h, weigh-set (given finish h) ms me seated r there);
-      obtained = λ h. omega (arith, unused.obtained h, weigh-set (obtained h) ms me seated r there, is_row.obtained h, ap (weigh (λ (q : Knower W). weigh h (view q).obtained)) empty);
+      obtained =
+          λ h. omega (
+            arith,
+            unused.obtained h,
+            weigh-set (obtained h) ms me seated r there,
+            is_row.obtained h,
+            ap (weigh (λ (q : Knower W). weigh h (view q).obtained)) empty,
+          );
     }
 
     give_mine : length (passes_of (set ms me seated) me) ≡ length thieves
@@ -120,16 +77,21 @@ module _ {W : Type 0} (finish : W → W) where
     given_row = record { unused = give_unused; mine = give_mine; rows = give_rows; room = give_left }
 
   pub none_unused : (thieves : List (Thief W)) (ms : List (Member W)) → thieves ≡ [] → ms ≡ [] → IsUnused finish thieves ms 0
-  none_unused thieves ms no_thieves no_members = subst (λ (ts : List (Thief W)). IsUnused finish ts ms 0) (sym no_thieves) (subst (λ (ns : List (Member W)). IsUnused finish [] ns 0) (sym no_members) (record {
-    shared = record { pair = refl; own = λ k t m h. absurd (omega arith); rows = λ k m h. absurd (omega arith); parts = λ k m h. absurd (omega arith) };
-    fifo = λ k t h. absurd (omega arith);
-    given = λ h. refl;
-    obtained = λ h. refl;
-  }))
+  none_unused thieves ms no_thieves no_members =
+      subst (λ (ts : List (Thief W)). IsUnused finish ts ms 0) (sym no_thieves)
+      (subst (λ (ns : List (Member W)). IsUnused finish [] ns 0) (sym no_members) (record {
+        shared = record { pair = refl; own = λ k t m h. absurd (omega arith); rows = λ k m h. absurd (omega arith); parts = λ k m h. absurd (omega arith) };
+        fifo = λ k t h. absurd (omega arith);
+        given = λ h. refl;
+        obtained = λ h. refl;
+      }))
 
-  module _ (thieves : List (Thief W)) (ms : List (Member W)) (m : Member W) (t : Thief W) (most : ℕ) (unused : IsUnused finish thieves ms 0) (new : IsNew most m t) (none : (i : ℕ) → passes_of ms i ≡ []) where
+  module _ (thieves : List (Thief W)) (ms : List (Member W)) (m : Member W) (t : Thief W) (most : ℕ) (unused : IsUnused finish thieves ms 0)
+      (new : IsNew most m t) (none : (i : ℕ) → passes_of ms i ≡ []) where
     unused_rows : (k : ℕ) → rows_at k ms ≡ 0
-    unused_rows k = weigh_zeros (λ (x : Member W). below k (length x.passes.items)) ms (λ i d h. ap (λ (l : List (Knower W)). below k (length l)) (sym (passes_at ms i d h) ∙ none i))
+    unused_rows k =
+        weigh_zeros (λ (x : Member W). below k (length x.passes.items)) ms
+        (λ i d h. ap (λ (l : List (Knower W)). below k (length l)) (sym (passes_at ms i d h) ∙ none i))
 
     new_rows : (k : ℕ) → rows_at k (ms ++ m ∷ []) ≡ 0
     new_rows k = omega (arith, weigh-append (has_pass k) ms (m ∷ []), unused_rows k, ap (λ (l : List (Knower W)). below k (length l)) new.passes)
@@ -139,7 +101,9 @@ module _ {W : Type 0} (finish : W → W) where
       fifo = s.fifo;
       parts = s.parts;
       few = let f = s.few in omega (arith, length-append thieves (t ∷ []));
-      each = λ k u p h. subst (λ (v : Thief W). IsPassFor v (get_or x.passes.items k p)) (sym (get_or_append_left thieves (t ∷ []) u k (let f = s.few in omega arith))) (s.each k u p h);
+      each =
+          λ k u p h. subst (λ (v : Thief W). IsPassFor v (get_or x.passes.items k p))
+          (sym (get_or_append_left thieves (t ∷ []) u k (let f = s.few in omega arith))) (s.each k u p h);
       ended = s.ended;
     }
 
@@ -157,7 +121,8 @@ module _ {W : Type 0} (finish : W → W) where
       pair = omega (arith, shared.pair, length-append ms (m ∷ []), length-append thieves (t ∷ []));
       own = λ k u d h. each_snoc (λ (k : ℕ) (x : Member W). worker_deque x.own ≡ stealer_deque (get_or (thieves ++ t ∷ []) k u)) ms m
           (λ k d h. shared.own k u d h ∙ ap stealer_deque (sym (get_or_append_left thieves (t ∷ []) u k (let p = shared.pair in omega arith))))
-          (new.deque ∙ ap stealer_deque (sym (subst (λ (n : ℕ). get_or (thieves ++ t ∷ []) n u ≡ t) (sym shared.pair) (get_or-append_seam thieves t [] u)))) k d h;
+          (new.deque
+          ∙ ap stealer_deque (sym (subst (λ (n : ℕ). get_or (thieves ++ t ∷ []) n u ≡ t) (sym shared.pair) (get_or-append_seam thieves t [] u)))) k d h;
       rows = each_snoc (λ (k : ℕ) (x : Member W). HasRow finish (thieves ++ t ∷ []) x) ms m (λ k d h. old_row (get_or ms k d) (shared.rows k d h)) new_row;
       parts = each_snoc (λ (k : ℕ) (x : Member W). (worker_view x.own).parts + rows_at k (ms ++ m ∷ []) + 0 ≡ 1024 + 0) ms m
           (λ k d h. omega (arith, shared.parts k d h, unused_rows k, new_rows k)) (omega (arith, new_rows (length ms), ap (λ (u : View W). u.parts) new.view));
@@ -167,8 +132,22 @@ module _ {W : Type 0} (finish : W → W) where
     new_unused = record {
       shared = new_shared;
       fifo = each_snoc (λ (k : ℕ) (u : Thief W). stealer_flavor u ≡ 0) thieves t unused.fifo new.thief_fifo;
-      given = λ h. omega (arith, unused.given h, weigh-append (given finish h) ms (m ∷ []), ap (λ (u : View W). weigh h u.pushed) new.view, ap (λ (ts : List (Task W)). weigh h (map (entry_of finish) ts)) new.done);
-      obtained = λ h. omega (arith, unused.obtained h, weigh-append (obtained h) ms (m ∷ []), ap (λ (u : View W). weigh h u.obtained) new.view, ap (weigh (λ (q : Knower W). weigh h (view q).obtained)) new.passes);
+      given =
+          λ h. omega (
+            arith,
+            unused.given h,
+            weigh-append (given finish h) ms (m ∷ []),
+            ap (λ (u : View W). weigh h u.pushed) new.view,
+            ap (λ (ts : List (Task W)). weigh h (map (entry_of finish) ts)) new.done,
+          );
+      obtained =
+          λ h. omega (
+            arith,
+            unused.obtained h,
+            weigh-append (obtained h) ms (m ∷ []),
+            ap (λ (u : View W). weigh h u.obtained) new.view,
+            ap (weigh (λ (q : Knower W). weigh h (view q).obtained)) new.passes,
+          );
     }
 
     pub new_left : RoomLeft 0 most ms → RoomLeft 0 most (ms ++ m ∷ [])
@@ -177,20 +156,40 @@ module _ {W : Type 0} (finish : W → W) where
   pub no_row : (thieves : List (Thief W)) → IsRow thieves []
   no_row thieves = record { each = λ k t p h. absurd (omega arith); obtained = λ h. refl }
 
-  pub row_more : (thieves : List (Thief W)) (row : List (Knower W)) (p : Knower W) → IsRow thieves row → ((t : Thief W) → IsPassFor (get_or thieves (length row) t) p) → (view p).obtained ≡ [] → IsRow thieves (row ++ p ∷ [])
+  pub row_more : (thieves : List (Thief W)) (row : List (Knower W)) (p : Knower W) → IsRow thieves row →
+      ((t : Thief W) → IsPassFor (get_or thieves (length row) t) p) → (view p).obtained ≡ [] → IsRow thieves (row ++ p ∷ [])
   row_more thieves row p old is_for none = record {
     each = λ k t q h. each_snoc (λ (k : ℕ) (x : Knower W). IsPassFor (get_or thieves k t) x) row p (λ k q h. old.each k t q h) (is_for t) k q h;
     obtained = λ h. omega (arith, old.obtained h, weigh-append (λ (q : Knower W). weigh h (view q).obtained) row (p ∷ []), ap (weigh h) none);
   }
 
-  pub unused_room : (thieves : List (Thief W)) (ms : List (Member W)) → IsUnused finish thieves ms 0 → ((i : ℕ) → i < length ms → length (passes_of ms i) ≡ length thieves) → 0 < length ms → (most : ℕ) → RoomLeft 0 most ms → IsRoom finish most thieves ms
+  pub unused_room : (thieves : List (Thief W)) (ms : List (Member W)) → IsUnused finish thieves ms 0 →
+      ((i : ℕ) → i < length ms → length (passes_of ms i) ≡ length thieves) → 0 < length ms → (most : ℕ) → RoomLeft 0 most ms → IsRoom finish most thieves ms
   unused_room thieves ms unused full some most left = let shared = unused.shared in
-      let full' : (i : ℕ) (d : Member W) → i < length ms → length (get_or ms i d).passes.items ≡ length thieves = λ i d h. sym (ap length (passes_at ms i d h)) ∙ full i h in record {
+      let full' : (i : ℕ) (d : Member W) → i < length ms → length (get_or ms i d).passes.items ≡ length thieves =
+      λ i d h. sym (ap length (passes_at ms i d h)) ∙ full i h in
+      record {
         pool = record {
           pair = shared.pair;
           own = shared.own;
-          ready = λ k m h. let s = shared.rows k m h in record { fifo = s.fifo; parts = s.parts; one_each = full' k m h; each = λ i t p i_in. s.each i t p (omega (arith, full' k m h)); ended = s.ended };
-          parts = λ k m h. omega (arith, shared.parts k m h, shared.pair, weigh_ones (λ (x : Member W). below k (length x.passes.items)) ms (λ i d i_in. below_lt k (length (get_or ms i d).passes.items) (omega (arith, full' i d i_in, shared.pair))));
+          ready =
+              λ k m h.
+              let s = shared.rows k m h in
+              record {
+                fifo = s.fifo;
+                parts = s.parts;
+                one_each = full' k m h;
+                each = λ i t p i_in. s.each i t p (omega (arith, full' k m h));
+                ended = s.ended;
+              };
+          parts =
+              λ k m h. omega (
+                arith,
+                shared.parts k m h,
+                shared.pair,
+                weigh_ones (λ (x : Member W). below k (length x.passes.items)) ms
+                    (λ i d i_in. below_lt k (length (get_or ms i d).passes.items) (omega (arith, full' i d i_in, shared.pair))),
+              );
         };
         some = some;
         given = unused.given;
@@ -198,7 +197,8 @@ module _ {W : Type 0} (finish : W → W) where
         left = left;
       }
 
-  pub room_less : (thieves : List (Thief W)) (ms : List (Member W)) (fewer most : ℕ) → fewer ≤ most → IsRoom finish most thieves ms → IsRoom finish fewer thieves ms
+  pub room_less : (thieves : List (Thief W)) (ms : List (Member W)) (fewer most : ℕ) → fewer ≤ most → IsRoom finish most thieves ms →
+      IsRoom finish fewer thieves ms
   room_less thieves ms fewer most le room = record {
     pool = room.pool;
     some = room.some;

@@ -27,10 +27,13 @@ module _ {W : Type 0} (finish : W → W) where
 
   covered_all : (ms : List (Member W)) (h : ℕ × W → ℕ) → All (IsSettled finish) ms → all_obtained h ms ≤ all_given finish h ms
   covered_all [] h settled = omega arith
-  covered_all (m ∷ ms) h settled = let first = settled 0 m (omega arith) in omega (arith, first.covered h, obtained_alone m h first.owner, covered_all ms h (λ k d lt. settled (suc k) d (omega arith)))
+  covered_all (m ∷ ms) h settled =
+      let first = settled 0 m (omega arith) in
+      omega (arith, first.covered h, obtained_alone m h first.owner, covered_all ms h (λ k d lt. settled (suc k) d (omega arith)))
 
   -- the room for what the first worker has, and for what the others have then
-  module _ (all : List (Member W)) (m : Member W) (rest : List (Member W)) (len cap : ℕ) (is : all ≡ m ∷ rest) (settled : All (IsSettled finish) all) (room : len + all_given finish one all ≤ all_obtained one all + cap) where
+  module _ (all : List (Member W)) (m : Member W) (rest : List (Member W)) (len cap : ℕ) (is : all ≡ m ∷ rest) (settled : All (IsSettled finish) all)
+      (room : len + all_given finish one all ≤ all_obtained one all + cap) where
     pub settled_each : All (IsSettled finish) (m ∷ rest)
     settled_each = subst (All (IsSettled finish)) is settled
 
@@ -49,13 +52,17 @@ module _ {W : Type 0} (finish : W → W) where
     pub room_done : len + vec_len m.done ≤ cap
     room_done = omega (arith, room_left, settled_first.covered one)
 
-    pub room_rest : (more : ℕ) → more + weigh one (worker_view m.own).obtained ≡ len + vec_len m.done + weigh one (worker_view m.own).pushed → more + all_given finish one rest ≤ all_obtained one rest + cap
+    pub room_rest : (more : ℕ) → more + weigh one (worker_view m.own).obtained ≡ len + vec_len m.done + weigh one (worker_view m.own).pushed →
+        more + all_given finish one rest ≤ all_obtained one rest + cap
     room_rest more e = omega (arith, room_each, obtained_alone m one settled_first.owner, count_tasks m.done)
 
 -- what was placed, and the workers read back
-module _ {W : Type 0} (finish : W → W) (ns after : List (Member W)) (n : ℕ) (len : length ns ≡ n) (bs : List (Box W)) (entries : (h : ℕ × W → ℕ) → all_given finish h ns ≡ all_obtained h ns + weigh h (entries_from finish 0 bs)) where
+module _ {W : Type 0} (finish : W → W) (ns after : List (Member W)) (n : ℕ) (len : length ns ≡ n) (bs : List (Box W))
+    (entries : (h : ℕ × W → ℕ) → all_given finish h ns ≡ all_obtained h ns + weigh h (entries_from finish 0 bs)) where
   pub entries_back : (h : ℕ × W → ℕ) → all_given finish h (take n (ns ++ after)) ≡ all_obtained h (take n (ns ++ after)) + weigh h (entries_from finish 0 bs)
-  entries_back h = subst (λ (ms : List (Member W)). all_given finish h ms ≡ all_obtained h ms + weigh h (entries_from finish 0 bs)) (sym (written_back ns after n len)) (entries h)
+  entries_back h =
+      subst (λ (ms : List (Member W)). all_given finish h ms ≡ all_obtained h ms + weigh h (entries_from finish 0 bs)) (sym (written_back ns after n len))
+      (entries h)
 
   pub count_back : all_given finish (one finish) (take n (ns ++ after)) ≡ all_obtained (one finish) (take n (ns ++ after)) + length bs
   count_back = omega (arith, entries_back (one finish), entries_count finish 0 bs)

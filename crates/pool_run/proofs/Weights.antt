@@ -19,6 +19,7 @@ weigh_view f [] (suc j) v w e = absurd (some-ne-none v (sym e))
 weigh_view f (x ∷ xs) zero v w e = let s : x ≡ v = cc in let t : f x ≡ f v = ap f s in omega arith
 weigh_view f (x ∷ xs) (suc j) v w e = omega (arith, weigh_view f xs j v w e)
 
+-- one item weighs no more than all
 pub at-le : {X : Type 0} (f : X → ℕ) (xs : List X) (port : ℕ) (v : X) → get_elem? xs port ≡ some v → f v ≤ weigh f xs
 at-le f [] zero v e = absurd (some-ne-none v (sym e))
 at-le f [] (suc j) v e = absurd (some-ne-none v (sym e))
@@ -31,7 +32,8 @@ module _ {X : Type 0} (p f : X → ℕ) where
   none [] unused e = refl
   none (x ∷ xs) unused e = let a : f x ≡ 0 = unused 0 x refl (omega arith) in let b = none xs (λ j u at. unused (suc j) u at) (omega arith) in omega arith
 
-  pub alone : (xs : List X) (port : ℕ) (v : X) → get_elem? xs port ≡ some v → ((j : ℕ) (u : X) → get_elem? xs j ≡ some u → p u ≡ 0 → f u ≡ 0) → weigh p xs ≡ p v → weigh f xs ≡ f v
+  pub alone : (xs : List X) (port : ℕ) (v : X) → get_elem? xs port ≡ some v → ((j : ℕ) (u : X) → get_elem? xs j ≡ some u → p u ≡ 0 → f u ≡ 0) →
+      weigh p xs ≡ p v → weigh f xs ≡ f v
   alone [] zero v e unused all = absurd (some-ne-none v (sym e))
   alone [] (suc j) v e unused all = absurd (some-ne-none v (sym e))
   alone (x ∷ xs) zero v e unused all =
@@ -48,6 +50,7 @@ weigh-set f [] i y d h = absurd (omega arith)
 weigh-set f (x ∷ xs) zero y d h = omega arith
 weigh-set f (x ∷ xs) (suc i) y d h = omega (arith, weigh-set f xs i y d (omega arith))
 
+-- items that weigh 1 each weigh as many as they are
 pub weigh_ones : {X : Type 0} (f : X → ℕ) (xs : List X) → ((i : ℕ) (d : X) → i < length xs → f (get_or xs i d) ≡ 1) → weigh f xs ≡ length xs
 weigh_ones f [] each = refl
 weigh_ones f (x ∷ xs) each = omega (arith, weigh_ones f xs (λ i d h. each (suc i) d (omega arith)), each 0 x (omega arith))
@@ -67,5 +70,6 @@ weigh-map h f (x ∷ xs) = omega (arith, weigh-map h f xs)
 pub weigh-permutation : {X : Type 0} (f : X → ℕ) (xs ys : List X) → IsPermutation xs ys → weigh f ys ≡ weigh f xs
 weigh-permutation f xs ys p = omega (arith, weigh-sum_by f xs, weigh-sum_by f ys, sum_by-IsPermutation f xs ys p)
 
+-- the same, of the weight 1
 pub weigh_all : {X : Type 0} (xs : List X) → weigh (λ _. 1) xs ≡ length xs
 weigh_all xs = weigh_ones (λ _. 1) xs (λ i d h. refl)

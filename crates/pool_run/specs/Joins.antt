@@ -29,9 +29,11 @@ module _ {W : Type 0} where
   -- pass of deque k is in hand, at k and 0 one of each of the first k deques, at 0 and 0 none
   pub record IsShared (finish : W → W) (thieves : List (Thief W)) (members : List (Member W)) (more less : ℕ) : Type 0 where
     pub pair : length members ≡ length thieves
-    pub own : (k : ℕ) (t : Thief W) (m : Member W) → k < length members → worker_deque (slice_index_or members k m).own ≡ stealer_deque (slice_index_or thieves k t)
+    pub own : (k : ℕ) (t : Thief W) (m : Member W) → k < length members →
+        worker_deque (slice_index_or members k m).own ≡ stealer_deque (slice_index_or thieves k t)
     pub rows : (k : ℕ) (m : Member W) → k < length members → HasRow finish thieves (slice_index_or members k m)
-    pub parts : (k : ℕ) (m : Member W) → k < length members → (worker_view (slice_index_or members k m).own).parts + rows_at k members + below k more ≡ 1024 + below k less
+    pub parts : (k : ℕ) (m : Member W) → k < length members →
+        (worker_view (slice_index_or members k m).own).parts + rows_at k members + below k more ≡ 1024 + below k less
 
   -- the last pass of worker j, p, is in hand
   pub record IsLastTaken (finish : W → W) (thieves : List (Thief W)) (old new : List (Member W)) (j : ℕ) (p : Knower W) : Type 0 where

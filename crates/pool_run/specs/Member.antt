@@ -53,11 +53,13 @@ module _ {W : Type 0} where
   obtained h m = weigh h (worker_view m.own).obtained + weigh (λ (p : Knower W). weigh h (view p).obtained) m.passes.items
 
   -- what a worker pushes, finishes and holds grows by what it obtains: no job is lost, none made up
-  pub record Moves (finish : W → W) (thieves : List (Thief W)) (old : Member W) (hand : Option (Task W)) (new : Member W) (next : Option (Task W)) : Type 0 where
+  pub record Moves (finish : W → W) (thieves : List (Thief W)) (old : Member W) (hand : Option (Task W)) (new : Member W)
+      (next : Option (Task W)) : Type 0 where
     pub ready : IsReady finish thieves new
     pub deque : worker_deque new.own ≡ worker_deque old.own
     pub parts : (worker_view new.own).parts ≡ (worker_view old.own).parts
-    pub balance : (h : ℕ × W → ℕ) → (given finish h new + weigh h (held finish next)) + obtained h old ≡ (given finish h old + weigh h (held finish hand)) + obtained h new
+    pub balance : (h : ℕ × W → ℕ) →
+        (given finish h new + weigh h (held finish next)) + obtained h old ≡ (given finish h old + weigh h (held finish hand)) + obtained h new
 
   -- the job that a theft got
   abbrev pub stolen_job : Steal (Task W) → Option (Task W)

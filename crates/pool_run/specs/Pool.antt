@@ -20,7 +20,8 @@ module _ {W : Type 0} where
   -- one deque each, whose owner has all parts but one for each worker
   pub record IsPool (finish : W → W) (thieves : List (Thief W)) (members : List (Member W)) : Type 0 where
     pub pair : length members ≡ length thieves
-    pub own : (k : ℕ) (t : Thief W) (m : Member W) → k < length members → worker_deque (slice_index_or members k m).own ≡ stealer_deque (slice_index_or thieves k t)
+    pub own : (k : ℕ) (t : Thief W) (m : Member W) → k < length members →
+        worker_deque (slice_index_or members k m).own ≡ stealer_deque (slice_index_or thieves k t)
     pub ready : (k : ℕ) (m : Member W) → k < length members → IsReady finish thieves (slice_index_or members k m)
     pub parts : (k : ℕ) (m : Member W) → k < length members → (worker_view (slice_index_or members k m).own).parts + length thieves ≡ 1024
 

@@ -17,7 +17,8 @@ SameFrom ss ts n = (length ts ≡ length ss) × ((k : ℕ) → n ≤ k → seat_
 apart : (ss : List SeatMemory) (i k : ℕ) → Rising ss → i < length ss → k < i → call_at ss i ≡ call_at ss k → ⊥
 apart ss i k rising within less same = let rises = rising k i less within in omega arith
 
-pub each_more : (Touched : Side → Type 0) (Relates : (Side → LineState) → (Side → LineState) → SeatMemory → SeatMemory → Type 0) (a b c : States) (ss ts : List SeatMemory) (i : ℕ) (t : SeatMemory) →
+pub each_more : (Touched : Side → Type 0) (Relates : (Side → LineState) → (Side → LineState) → SeatMemory → SeatMemory → Type 0) (a b c : States)
+    (ss ts : List SeatMemory) (i : ℕ) (t : SeatMemory) →
     Rising ss → SameFrom ss ts i → i < length ss → Each Relates a b ss ts i → KeepsButEach Touched a b ss i →
     Relates (b (call_at ts i)) (c (call_at ts i)) (seat_at ts i) t → KeepsBut Touched b c (call_at ts i) → Each Relates a c ss (set ts i t) (i + 1)
 each_more Touched Relates a b c ss ts i t rising same within each rest new stays k less =
@@ -26,12 +27,14 @@ each_more Touched Relates a b c ss ts i t rising same within each rest new stays
     elim (cases_lt k i) [
       | inl earlier ↦
           let other : k ≢ i = omega arith in
-          let now : c (call_at ss k) ≡ b (call_at ss k) = λ j. λ side. stays (call_at ss k) side (λ p touched. apart ss i k rising within earlier (sym own ∙ sym p)) j in
+          let now : c (call_at ss k) ≡ b (call_at ss k) = λ j. λ side. stays (call_at ss k) side
+          (λ p touched. apart ss i k rising within earlier (sym own ∙ sym p)) j in
           subst (λ (s : SeatMemory). Relates (a (call_at ss k)) (c (call_at ss k)) (seat_at ss k) s) (sym (get_or-set_other ts i k t no_seat other))
           (subst (λ (lines : Side → LineState). Relates (a (call_at ss k)) lines (seat_at ss k) (seat_at ts k)) (sym now) (each k earlier))
       | inr here ↦
           let at : i ≡ k = omega arith in
-          let before : b (call_at ss i) ≡ a (call_at ss i) = λ j. λ side. rest (call_at ss i) side (λ n earlier p touched. apart ss i n rising within earlier p) j in
+          let before : b (call_at ss i) ≡ a (call_at ss i) = λ j. λ side. rest (call_at ss i) side (λ n earlier p touched. apart ss i n rising within earlier p)
+          j in
           let put : t ≡ seat_at (set ts i t) i = sym (get_or-set_same ts i t no_seat (omega (arith, same.0, within))) in
           subst (λ (k : ℕ). Relates (a (call_at ss k)) (c (call_at ss k)) (seat_at ss k) (seat_at (set ts i t) k)) at
           (subst (λ (s : SeatMemory). Relates (a (call_at ss i)) (c (call_at ss i)) (seat_at ss i) s) put
@@ -39,13 +42,18 @@ each_more Touched Relates a b c ss ts i t rising same within each rest new stays
           (subst (λ (s : SeatMemory). Relates (b s.place.call) (c s.place.call) s t) is new)))
     ]
 
-pub keeps_more : (Touched : Side → Type 0) (a b c : States) (ss ts : List SeatMemory) (i : ℕ) → SameFrom ss ts i → KeepsButEach Touched a b ss i → KeepsBut Touched b c (call_at ts i) → KeepsButEach Touched a c ss (i + 1)
+pub keeps_more : (Touched : Side → Type 0) (a b c : States) (ss ts : List SeatMemory) (i : ℕ) → SameFrom ss ts i → KeepsButEach Touched a b ss i →
+    KeepsBut Touched b c (call_at ts i) → KeepsButEach Touched a c ss (i + 1)
 keeps_more Touched a b c ss ts i same rest stays call side none =
     stays call side (λ p touched. none i (omega arith) (p ∙ ap (λ (s : SeatMemory). s.place.call) (same.1 i (omega arith))) touched)
     ∙ rest call side (λ k less p touched. none k (omega arith) p touched)
 
 pub same_from_more : (ss ts : List SeatMemory) (i : ℕ) (t : SeatMemory) → SameFrom ss ts i → SameFrom ss (set ts i t) (i + 1)
-same_from_more ss ts i t same = (length-set ts i t ∙ same.0, λ k later. let other : k ≢ i = omega arith in get_or-set_other ts i k t no_seat other ∙ same.1 k (omega arith))
+same_from_more ss ts i t same = (
+  length-set ts i t ∙ same.0,
+  λ k later. let other : k ≢ i = omega arith in get_or-set_other ts i k t no_seat other
+      ∙ same.1 k (omega arith),
+)
 
 pub still_rising : (ss ts : List SeatMemory) → Rising ss → length ts ≡ length ss → ((k : ℕ) → k < length ss → call_at ts k ≡ call_at ss k) → Rising ts
 still_rising ss ts rising number calls i j less within =

@@ -8,17 +8,20 @@ use Rattle.trau_io.specs.declared.line.Side.TheVariants.{Up}
 use Rattle.round_lines.specs.Places.{PlaceMemory, fails_in, sides, name_of, name_where_failed}
 use Rattle.round_lines.proofs.Listing.{listed_more}
 
-module _ (p : PlaceMemory) (i : ℕ) (base : List (ℕ × Side)) (lines : List Line) (within : i < 4) (so_far : map name_of lines ≡ base ++ filter_map (name_where_failed p) (take i sides)) where
+module _ (p : PlaceMemory) (i : ℕ) (base : List (ℕ × Side)) (lines : List Line) (within : i < 4) (so_far : map name_of lines
+    ≡ base ++ filter_map (name_where_failed p) (take i sides)) where
   abbrev side : Side
   side = get_or sides i Up
 
   is : side ≡ get_or sides i side
   is = get_or_default sides i Up side within
 
-  pub named_more : (line : Line) → fails_in p side ≡ true → line.call ≡ p.call → line.side ≡ side → map name_of (lines ++ line ∷ []) ≡ base ++ filter_map (name_where_failed p) (take (i + 1) sides)
+  pub named_more : (line : Line) → fails_in p side ≡ true → line.call ≡ p.call → line.side ≡ side → map name_of (lines ++ line ∷ [])
+      ≡ base ++ filter_map (name_where_failed p) (take (i + 1) sides)
   named_more line fails call at =
       let named : name_where_failed p side ≡ Some (name_of line) = cc in
-      map-append name_of lines (line ∷ []) ∙ listed_more (name_where_failed p) sides i base (map name_of lines) side (Some (name_of line)) within is named so_far
+      map-append name_of lines (line ∷ []) ∙ listed_more (name_where_failed p) sides i base (map name_of lines) side (Some (name_of line)) within is named
+      so_far
 
   pub none_more : fails_in p side ≡ false → map name_of lines ≡ base ++ filter_map (name_where_failed p) (take (i + 1) sides)
   none_more sound =

@@ -13,7 +13,8 @@ use Rattle.round_lines.specs.Rounds.{KeepsBut, IsIncoming}
 takes_clean : (before now : LineState) (t : Taken) (block : List ℕ) → Takes before now t block → TakesClean before now t block
 takes_clean before now t block h octets is calm = grind (arith, common_steps)
 
-module _ (a b d : ℕ → Side → LineState) (s m t : SeatMemory) (up_others : OthersStay a b s.place.call Up) (up_kept : m ≡ record s { place = record s.place { up = m.place.up }; up = m.up })
+module _ (a b d : ℕ → Side → LineState) (s m t : SeatMemory) (up_others : OthersStay a b s.place.call Up)
+    (up_kept : m ≡ record s { place = record s.place { up = m.place.up }; up = m.up })
     (pcm_others : OthersStay b d m.place.call Pcm) (pcm_kept : t ≡ record m { place = record m.place { pcm = t.place.pcm }; pcm = t.pcm }) where
   same_call : m.place.call ≡ s.place.call
   same_call = ap (λ (x : SeatMemory). x.place.call) up_kept

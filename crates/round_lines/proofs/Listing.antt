@@ -6,7 +6,8 @@ use Rattle.std.proofs.lemmas.Grind.{flat_map-append}
 use Rattle.std.proofs.lemmas.List.Elements.{filter_map-append}
 
 -- one more element is listed, or none
-pub listed_more : {A B : Type 0} (f : A → Option B) (xs : List A) (i : ℕ) (base ys : List B) (x : A) (o : Option B) → i < length xs → x ≡ get_or xs i x → f x ≡ o →
+pub listed_more : {A B : Type 0} (f : A → Option B) (xs : List A) (i : ℕ) (base ys : List B) (x : A) (o : Option B) → i < length xs → x ≡ get_or xs i x →
+    f x ≡ o →
     ys ≡ base ++ filter_map f (take i xs) → ys ++ cons_option o [] ≡ base ++ filter_map f (take (i + 1) xs)
 listed_more f xs i base ys x o less is e h =
     ap (λ l. l ++ cons_option o []) h ∙ append_assoc base (filter_map f (take i xs)) (cons_option o [])

@@ -40,7 +40,8 @@ outlet_before failed = if failed then FailedBefore else Sound
 
 -- a call's place before its first read
 abbrev pub new_place : ℕ → ℕ → Bool → Bool → PlaceMemory
-new_place call periods down_failed out_failed = record { call = call; periods = periods; up = nothing_taken; pcm = nothing_taken; down = outlet_before down_failed; out = outlet_before out_failed }
+new_place call periods down_failed out_failed =
+    record { call = call; periods = periods; up = nothing_taken; pcm = nothing_taken; down = outlet_before down_failed; out = outlet_before out_failed }
 
 -- how much the incoming lines gave in the round
 abbrev pub given_in : PlaceMemory → Given

@@ -39,7 +39,8 @@ abbrev pub Rising : List SeatMemory → Type 0
 Rising seats = (i j : ℕ) → i < j → j < length seats → call_at seats i < call_at seats j
 
 -- each of the first n seats stands in a relation to what it was, over the lines of its call before and after
-abbrev pub Each : ((Side → LineState) → (Side → LineState) → SeatMemory → SeatMemory → Type 0) → (ℕ → Side → LineState) → (ℕ → Side → LineState) → List SeatMemory → List SeatMemory → ℕ → Type 0
+abbrev pub Each : ((Side → LineState) → (Side → LineState) → SeatMemory → SeatMemory → Type 0) → (ℕ → Side → LineState) → (ℕ → Side → LineState) →
+    List SeatMemory → List SeatMemory → ℕ → Type 0
 Each Relates before now seats seats' n = (k : ℕ) → k < n → Relates (before (call_at seats k)) (now (call_at seats k)) (seat_at seats k) (seat_at seats' k)
 
 -- every line but these of the calls of the first n seats is as it was

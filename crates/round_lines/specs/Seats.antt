@@ -23,9 +23,17 @@ pub record Fits (periods : ℕ) (up_octets pcm_octets down_octets out_octets : L
 
 -- a seat before its first read: buffers of zeros
 abbrev pub new_seat : ℕ → ℕ → Bool → Bool → SeatMemory
-new_seat call periods down_failed out_failed = record { place = new_place call periods down_failed out_failed; up = replicate (40 * periods) 0; pcm = replicate (160 * periods) 0; down = replicate (40 * periods) 0; out = replicate (160 * periods) 0 }
+new_seat call periods down_failed out_failed =
+    record {
+      place = new_place call periods down_failed out_failed;
+      up = replicate (40 * periods) 0;
+      pcm = replicate (160 * periods) 0;
+      down = replicate (40 * periods) 0;
+      out = replicate (160 * periods) 0;
+    }
 
--- The incoming lines of a call gave what the round could take of them, into buffers as long as before; the rest of its seat is as it was. The marks tell which counts rose.
+-- The incoming lines of a call gave what the round could take of them, into buffers as long as before; the rest of its seat
+-- is as it was. The marks tell which counts rose.
 pub record Fills (before now : Side → LineState) (s t : SeatMemory) : Type 0 where
   pub up : Takes (before Up) (now Up) t.place.up t.up
   pub pcm : Takes (before Pcm) (now Pcm) t.place.pcm t.pcm
@@ -37,17 +45,18 @@ pub record Fills (before now : Side → LineState) (s t : SeatMemory) : Type 0 w
   pub faults : IsFresh s.place → TellsFaults before now t.place
 
 -- what goes out of a round: the octets of the whole periods that came in
-abbrev pub down_of : SeatMemory → List ℕ
-down_of s = take (40 * whole_in s.place) s.down
+abbrev pub down_given : SeatMemory → List ℕ
+down_given s = take (40 * whole_in s.place) s.down
 
-abbrev pub out_of : SeatMemory → List ℕ
-out_of s = take (160 * whole_in s.place) s.out
+abbrev pub out_given : SeatMemory → List ℕ
+out_given s = take (160 * whole_in s.place) s.out
 
--- The outgoing lines of a call were given what goes out; of its seat only the marks of these lines changed. If the marks told which counts had risen since `first`, they still do.
+-- The outgoing lines of a call were given what goes out; of its seat only the marks of these lines changed. If the marks told
+-- which counts had risen since `first`, they still do.
 pub record Drains (before now : Side → LineState) (s t : SeatMemory) : Type 0 where
-  pub down : Gives (before Down) (now Down) s.place.down t.place.down (down_of s)
-  pub out : Gives (before Out) (now Out) s.place.out t.place.out (out_of s)
-  pub down_clean : GivesClean (before Down) (now Down) s.place.down t.place.down (down_of s)
-  pub out_clean : GivesClean (before Out) (now Out) s.place.out t.place.out (out_of s)
+  pub down : Gives (before Down) (now Down) s.place.down t.place.down (down_given s)
+  pub out : Gives (before Out) (now Out) s.place.out t.place.out (out_given s)
+  pub down_clean : GivesClean (before Down) (now Down) s.place.down t.place.down (down_given s)
+  pub out_clean : GivesClean (before Out) (now Out) s.place.out t.place.out (out_given s)
   pub kept : t ≡ record s { place = record s.place { down = t.place.down; out = t.place.out } }
   pub faults : (first : Side → LineState) → TellsFaults first before s.place → TellsFaults first now t.place

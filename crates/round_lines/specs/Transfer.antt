@@ -1,7 +1,7 @@
 -- What a round takes of an incoming line, and what it gives to an outgoing one (this project's profile).
 use Rattle.std.specs.Prelude.{◌≡◌, ℕ, ◌<◌, ◌≤◌, min, Bool, true, false, Some, List, length, take, drop}
 use Rattle.std.specs.Io.KnownBytes.{Consumes, Appends, IsAtEnd}
-use Rattle.trau_io.specs.Lines.{LineState, Rose}
+use Rattle.trau_io.specs.Lines.{LineState, Rose, NotRose}
 use Rattle.round_lines.specs.declared.transfer.Taken.{Taken}
 use Rattle.round_lines.specs.declared.transfer.Outlet.{Outlet}
 use Rattle.round_lines.specs.declared.transfer.Outlet.TheVariants.{Sound, FailedBefore, FailedNow}
@@ -39,15 +39,13 @@ pub record Gives (before now : LineState) (was stands : Outlet) (octets : List �
   pub later : before.faults ≤ now.faults
   pub to_come : now.to_come ≡ before.to_come
 
--- a line's count didn't rise
-abbrev pub IsCalm : LineState → LineState → Type 0
-IsCalm before now = Rose before.faults now.faults → ⊥
-
 -- A line that tells its octets and whose count didn't rise gave the next of them, as many as the block and the line have.
 abbrev pub TakesClean : LineState → LineState → Taken → List ℕ → Type 0
-TakesClean before now t block = (octets : List ℕ) → before.to_come ≡ Some octets → IsCalm before now →
-    (t.failed ≡ false) × (t.count ≡ min (length block) (length octets)) × (take t.count block ≡ take (length block) octets) × (now.to_come ≡ Some (drop (length block) octets))
+TakesClean before now t block = (octets : List ℕ) → before.to_come ≡ Some octets → NotRose before.faults now.faults →
+    (t.failed ≡ false) × (t.count ≡ min (length block) (length octets)) × (take t.count block ≡ take (length block) octets)
+    × (now.to_come ≡ Some (drop (length block) octets))
 
 -- A line that hadn't failed and whose count didn't rise gained all the octets.
 abbrev pub GivesClean : LineState → LineState → Outlet → Outlet → List ℕ → Type 0
-GivesClean before now was stands octets = has_failed was ≡ false → IsCalm before now → (stands ≡ Sound) × Appends before.written now.written octets
+GivesClean before now was stands octets = has_failed was ≡ false → NotRose before.faults now.faults →
+    (stands ≡ Sound) × Appends before.written now.written octets

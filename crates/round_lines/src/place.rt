@@ -167,6 +167,7 @@ impl Place {
         }
     }
 
+    /// The line of its call with this side.
     pub(crate) fn line(&self, side: Side) -> Line
         ensures call { result.call ≡ self.now.call }
         ensures side { result.side ≡ side }
@@ -177,7 +178,7 @@ impl Place {
         }
     }
 
-    // Appends the lines that failed in this round.
+    /// Appends the lines that failed in this round.
     pub(crate) fn list_failed(&self, failed: &mut Vec<Line>)
         requires room { vec_len failed.old + 4 ≤ vec_capacity failed.old }
         ensures listed { map name_of failed.new.items ≡ map name_of failed.old.items ++ failed_in_round self.now }
@@ -191,6 +192,7 @@ impl Place {
         }
     }
 
+    /// Sets what Up gave in this round: at most 40 octets a period.
     pub(crate) fn set_up(&mut self, taken: Taken)
         requires { taken.count ≤ 40 * self.old.periods }
         ensures { self.new ≡ record self.old { up = taken } }
@@ -198,6 +200,7 @@ impl Place {
         self.up = taken;
     }
 
+    /// Sets what Pcm gave in this round: at most 160 octets a period.
     pub(crate) fn set_pcm(&mut self, taken: Taken)
         requires { taken.count ≤ 160 * self.old.periods }
         ensures { self.new ≡ record self.old { pcm = taken } }
@@ -205,12 +208,14 @@ impl Place {
         self.pcm = taken;
     }
 
+    /// Sets how Down stands.
     pub(crate) fn set_down(&mut self, outlet: Outlet)
         ensures { self.new ≡ record self.old { down = outlet } }
     {
         self.down = outlet;
     }
 
+    /// Sets how Out stands.
     pub(crate) fn set_out(&mut self, outlet: Outlet)
         ensures { self.new ≡ record self.old { out = outlet } }
     {

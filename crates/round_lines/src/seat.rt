@@ -4,7 +4,7 @@ ghost use Rattle.call_number.specs.CallNumber.{IsCallNumber};
 ghost use Rattle.trau_io.specs.declared.line.Side.TheVariants.{Up, Pcm, Down, Out};
 ghost use Rattle.trau_io.specs.Lines.{OthersStay};
 ghost use Rattle.round_lines.specs.Transfer.{Takes, Gives};
-ghost use Rattle.round_lines.specs.Seats.{Fits, Fills, Drains, new_seat, down_of, out_of};
+ghost use Rattle.round_lines.specs.Seats.{Fits, Fills, Drains, new_seat, down_given, out_given};
 ghost use Rattle.round_lines.specs.Rounds.{KeepsBut, IsIncoming, IsOutgoing};
 
 use crate::place::Place;
@@ -74,15 +74,15 @@ impl Seat {
     }
 
     /// What goes out on Down: the octets of the whole periods that came in.
-    pub fn down(&self) -> &[u8]
-        ensures { result.now ≡ down_of self.now }
+    pub fn down_given(&self) -> &[u8]
+        ensures { result.now ≡ down_given self.now }
     {
         &self.buffers.down[..40 * self.place.whole() as usize]
     }
 
     /// What goes out on Out: the octets of the whole periods that came in.
-    pub fn out(&self) -> &[u8]
-        ensures { result.now ≡ out_of self.now }
+    pub fn out_given(&self) -> &[u8]
+        ensures { result.now ≡ out_given self.now }
     {
         &self.buffers.out[..160 * self.place.whole() as usize]
     }
@@ -137,31 +137,29 @@ impl Seat {
     }
 
     fn give_down<T: Trunk>(&mut self, trunk: &mut T)
-        ensures this { Gives (T.lines trunk.old self.old.place.call Down) (T.lines trunk.new self.old.place.call Down) self.old.place.down self.new.place.down (down_of self.old) }
+        ensures this { Gives (T.lines trunk.old self.old.place.call Down) (T.lines trunk.new self.old.place.call Down) self.old.place.down self.new.place.down (down_given self.old) }
         ensures others { OthersStay (T.lines trunk.old) (T.lines trunk.new) self.old.place.call Down }
         ensures kept { self.new ≡ record self.old { place = record self.old.place { down = self.new.place.down } } }
     {
-        let octets = 40 * self.place.whole() as usize;
         let outlet = give_block(
             trunk,
             self.place.line(Side::Down),
             self.place.down(),
-            &self.buffers.down[..octets],
+            self.down_given(),
         );
         self.place.set_down(outlet);
     }
 
     fn give_out<T: Trunk>(&mut self, trunk: &mut T)
-        ensures this { Gives (T.lines trunk.old self.old.place.call Out) (T.lines trunk.new self.old.place.call Out) self.old.place.out self.new.place.out (out_of self.old) }
+        ensures this { Gives (T.lines trunk.old self.old.place.call Out) (T.lines trunk.new self.old.place.call Out) self.old.place.out self.new.place.out (out_given self.old) }
         ensures others { OthersStay (T.lines trunk.old) (T.lines trunk.new) self.old.place.call Out }
         ensures kept { self.new ≡ record self.old { place = record self.old.place { out = self.new.place.out } } }
     {
-        let octets = 160 * self.place.whole() as usize;
         let outlet = give_block(
             trunk,
             self.place.line(Side::Out),
             self.place.out(),
-            &self.buffers.out[..octets],
+            self.out_given(),
         );
         self.place.set_out(outlet);
     }

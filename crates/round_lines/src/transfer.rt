@@ -1,4 +1,5 @@
-// What a round takes of a line, and what it gives to one.
+//! What a round takes of a line, and what it gives to one.
+
 ghost use Rattle.std.specs.Prelude.{◌≡◌};
 ghost use Rattle.trau_io.specs.Lines.{OthersStay};
 ghost use Rattle.round_lines.specs.Transfer.{Takes, Gives};

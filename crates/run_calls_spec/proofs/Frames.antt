@@ -32,13 +32,14 @@ use Rattle.switchboard.specs.declared.act.Span as board
 use Rattle.switchboard.specs.Calls.{opened_at}
 use Rattle.call_leg.specs.Uplink.{Framed, sighting_in, heard_as, handed_fields}
 use Rattle.call_leg.specs.Periods.{effective_now}
-use Rattle.call_spec.specs.Call.{yield_at, effective}
-use Rattle.call_spec.specs.History.{IsCallHistory, call_of}
+use Rattle.call_spec.specs.Call.{yield_at, effective_frame}
+use Rattle.call_spec.specs.History.{IsCallHistory, call_of_history}
 use Rattle.call_spec.proofs.Ranges.{IsPeriod}
 use Rattle.call_spec.proofs.Reading.{LooksBack, yield-period, effective-period}
 use Rattle.call_spec.proofs.Whole.{history-whole, call-whole}
 use Rattle.run_spec.specs.Run.{who_in, Run, done_in, start_in, end_in, partner_in, up_in, ups_to, item_of, heard_by, period_of, periods_to, periods_in}
 use Rattle.run_spec.proofs.Going.{ups_periods, item_ups}
+use Rattle.run_spec.proofs.LongerLines.{length-periods_to}
 use Rattle.run_calls_spec.specs.Whole.{count_in, whole_call, IsBridged, item_for, yield_on, frame_on}
 use Rattle.run_calls_spec.proofs.Periods.{is_whole, history_same}
 use Rattle.run_calls_spec.proofs.Items.{bridged_lies, partner_bridged, both_have, counted, item_found}
@@ -51,10 +52,7 @@ record HasPeriod (r : Run) (c k : ℕ) : Type 0 where
   known : is_some (opened_at c (done_in r)) ≡ true
   within : k < count_in r c
 
-length-periods_to : (r : Run) (c n : ℕ) → length (periods_to r c n) ≡ n
-length-periods_to r c zero = refl
-length-periods_to r c (suc n) = ap suc (length-periods_to r c n)
-
+-- period k is one of a call that has it
 period_among : (r : Run) (c k n : ℕ) → k < n → IsPeriod (periods_to r c n) (period_of r c k) (periods_to r c k)
 period_among r c k zero l = absurd (omega arith)
 period_among r c k (suc n) l = elim (cases_lt k n) [
@@ -62,17 +60,22 @@ period_among r c k (suc n) l = elim (cases_lt k n) [
   | inr now ↦ let e : k ≡ n = omega arith in ([], ap (λ k. periods_to r c (suc k)) e)
 ]
 
+-- the periods of such a call are a history
 as_history : (r : Run) (c k : ℕ) → HasPeriod r c k → IsCallHistory (periods_in r c)
 as_history r c k h = subst IsCallHistory (history_same r c h.orders) (history-whole (whole_call r c) (is_whole r c h.orders h.known))
 
-as_call : (r : Run) (c k : ℕ) → HasPeriod r c k → whole_call r c ≡ call_of (who_in r c) (periods_in r c)
-as_call r c k h = sym (call-whole (whole_call r c) (is_whole r c h.orders h.known)) ∙ ap (call_of (who_in r c)) (history_same r c h.orders)
+-- and the call as a whole is that of it
+as_call : (r : Run) (c k : ℕ) → HasPeriod r c k → whole_call r c ≡ call_of_history (who_in r c) (periods_in r c)
+as_call r c k h = sym (call-whole (whole_call r c) (is_whole r c h.orders h.known)) ∙ ap (call_of_history (who_in r c)) (history_same r c h.orders)
 
-frame_known : LooksBack → (r : Run) (c k : ℕ) → HasPeriod r c k → effective (whole_call r c) k ≡ effective_now c (periods_to r c (suc k))
+-- the effective frame by its periods
+frame_known : LooksBack → (r : Run) (c k : ℕ) → HasPeriod r c k → effective_frame (whole_call r c) k ≡ effective_now c (periods_to r c (suc k))
 frame_known look r c k h =
-    ap (λ n. effective (whole_call r c) n) (sym (length-periods_to r c k)) ∙ ap (λ call. effective call (length (periods_to r c k))) (as_call r c k h)
+    ap (λ n. effective_frame (whole_call r c) n) (sym (length-periods_to r c k))
+    ∙ ap (λ call. effective_frame call (length (periods_to r c k))) (as_call r c k h)
     ∙ effective-period look (who_in r c) (periods_in r c) (period_of r c k) (periods_to r c k) (as_history r c k h) (period_among r c k (count_in r c) h.within)
 
+-- what the uplink yields by them
 yield_known : (r : Run) (c k : ℕ) → HasPeriod r c k → yield_at (whole_call r c) k ≡ yield_of (up_in r c k) (ups_to r c k)
 unfolding period_of
 yield_known r c k h =
@@ -80,6 +83,7 @@ yield_known r c k h =
     ∙ yield-period (who_in r c) (periods_in r c) (period_of r c k) (periods_to r c k) (as_history r c k h) (period_among r c k (count_in r c) h.within)
     ∙ ap (yield_of (up_in r c k)) (ups_periods r c k)
 
+-- the partner has each period of a bridge
 partner_has : (r : Run) (c t : ℕ) (x : board.Span) → AreOrders r.orders → IsBridged r c t x → HasPeriod r (partner_in c x) (t - start_in r (partner_in c x))
 partner_has r c t x a b =
     let d = partner_in c x in
@@ -87,7 +91,8 @@ partner_has r c t x a b =
     record { orders = a; known = (bridged_lies r d t x a (partner_bridged r c t x b)).known; within = (counted (start_in r d) t (end_in r d) h.2 h.3).0 }
 
 -- **The item is the bits of the partner's effective frame.**
-pub item_frame : LooksBack → (r : Run) (c t : ℕ) (x : board.Span) → AreOrders r.orders → IsBridged r c t x → item_for r c t ≡ Some (bits260 (handed_fields (frame_on r (partner_in c x) t)))
+pub item_frame : LooksBack → (r : Run) (c t : ℕ) (x : board.Span) → AreOrders r.orders → IsBridged r c t x →
+    item_for r c t ≡ Some (bits260 (handed_fields (frame_on r (partner_in c x) t)))
 item_frame look r c t x a b =
     let d = partner_in c x in
     let k = t - start_in r d in
@@ -105,7 +110,8 @@ line_bits-below (octets ∷ past) = All-append (λ bit. bit < 2) (line_bits past
 yield_bits : (octets : List ℕ) (past : List (List ℕ)) (p : ℕ) (bits : List ℕ) → yield_of octets past ≡ Some (Frame p bits) → AreBits bits
 yield_bits octets past p bits e =
     let line = line_bits (octets ∷ past) in
-    let c : IfSome (yield_of octets past) CarriesFrame = carries-searched (bit_in line) (320 * length past) (mode_after past) (bit-below line (line_bits-below (octets ∷ past))) in
+    let c : IfSome (yield_of octets past) CarriesFrame =
+    carries-searched (bit_in line) (320 * length past) (mode_after past) (bit-below line (line_bits-below (octets ∷ past))) in
     let f : IfSome (Some (Frame p bits)) CarriesFrame = subst (λ (o : Option Yield). IfSome o CarriesFrame) e c in
     f.1
 
@@ -113,18 +119,23 @@ length-data_of : (bits : List ℕ) → length (data_of bits) ≡ 260
 unfolding data_of
 length-data_of bits = length-map-range_with_len (λ n. bit_with bits (Data n)) 1 260
 
-heard_good : (kind : Kind) (class : Class) (taf : Bool) (d : List ℕ) → kind ≡ kinds.Speech → class ≡ classes.Good → heard_frame kind class taf d ≡ Good (fields_in d)
+heard_good : (kind : Kind) (class : Class) (taf : Bool) (d : List ℕ) → kind ≡ kinds.Speech → class ≡ classes.Good →
+    heard_frame kind class taf d ≡ Good (fields_in d)
 heard_good kind class taf d e f = ap (λ kind. heard_frame kind class taf d) e ∙ ap (λ class. heard_frame kinds.Speech class taf d) f
 
+-- a good speech frame is heard as it is
 good_heard : (bits : List ℕ) → IsGoodSpeech bits → heard_as (Framed (words_in bits)) ≡ Good (fields_in (data_of bits))
 unfolding words_in
 good_heard bits g = heard_good (kind_of bits) (class_of bits) _ (data_of bits) g.kind g.class
 
+-- and is the effective frame
 good_effective : (c : ℕ) (p : Fields) (past : List Heard) → effective_of c (Good p ∷ past) ≡ Speech p
 unfolding effective_of anchor_of
 good_effective c p past = refl
 
-good_item : (c : ℕ) (octets : List ℕ) (past : List (List ℕ)) (p : ℕ) (bits : List ℕ) → yield_of octets past ≡ Some (Frame p bits) → IsGoodSpeech bits → item_of c (octets ∷ past) ≡ data_of bits
+-- so its bits are handed over as they came
+good_item : (c : ℕ) (octets : List ℕ) (past : List (List ℕ)) (p : ℕ) (bits : List ℕ) → yield_of octets past ≡ Some (Frame p bits) → IsGoodSpeech bits →
+    item_of c (octets ∷ past) ≡ data_of bits
 unfolding item_of
 good_item c octets past p bits e g =
     ap (λ o. bits260 (handed_fields (effective_of c (heard_as (sighting_in o) ∷ heard_by past)))) e
@@ -133,7 +144,8 @@ good_item c octets past p bits e g =
     ∙ bits260-fields_in (data_of bits) (length-data_of bits) (data_of-below bits (yield_bits octets past p bits e))
 
 -- **A good speech frame's data bits are handed over as they came.**
-pub item_good : (r : Run) (c t : ℕ) (x : board.Span) (p : ℕ) (bits : List ℕ) → AreOrders r.orders → IsBridged r c t x → yield_on r (partner_in c x) t ≡ Some (Frame p bits) → IsGoodSpeech bits →
+pub item_good : (r : Run) (c t : ℕ) (x : board.Span) (p : ℕ) (bits : List ℕ) → AreOrders r.orders → IsBridged r c t x →
+    yield_on r (partner_in c x) t ≡ Some (Frame p bits) → IsGoodSpeech bits →
     item_for r c t ≡ Some (data_of bits)
 item_good r c t x p bits a b y g =
     let d = partner_in c x in

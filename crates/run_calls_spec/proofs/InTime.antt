@@ -18,19 +18,22 @@ use Rattle.run_spec.specs.Run.{Run, whole_in, done_in}
 use Rattle.run_spec.proofs.Lists.{each_append}
 use Rattle.run_spec.proofs.Executing.{AreReplies, added_replies, executed-added}
 use Rattle.run_spec.proofs.Showing.{ShownBy, shown}
-use Rattle.run_spec.proofs.Standing.{RisesFrom, open_facts, gone_is, opened_kept, closed_cases}
+use Rattle.run_spec.proofs.Standing.{RisesFrom}
+use Rattle.run_spec.proofs.OpenCalls.{open_facts, gone_is, opened_kept, closed_cases}
 use Rattle.run_spec.proofs.Settling.{at_of, to_of, ends_by, found_stamp, closed_stamp}
 use Rattle.run_spec.proofs.SoFar.{run_rises}
-use Rattle.run_spec.proofs.History.{from_above}
+use Rattle.run_spec.proofs.Covering.{from_above}
 
 -- ---- a call that lasts to period t: neither its lines nor an order end it before
 
+-- a call that lasts up to period t
 pub record LastsTo (whole : ℕ → ℕ) (ds : List Done) (c t : ℕ) : Type 0 where
   pub start : ℕ
   pub opened : opened_at c ds ≡ Some start
   pub lines : t ≤ start + whole c
   pub closed : (e : ℕ) → closed_at c ds ≡ Some e → t ≤ e
 
+-- a bridge whose two calls last up to its start
 pub record IsInTime (whole : ℕ → ℕ) (ds : List Done) (x : Bridge) : Type 0 where
   pub a : LastsTo whole ds x.a x.from
   pub b : LastsTo whole ds x.b x.from
@@ -43,7 +46,9 @@ of_some Q o e h f = subst (λ (o : Option ℕ). IfSome o Q) f h
 none_some : (o : Option ℕ) (e : ℕ) → o ≡ None → o ≡ Some e → ⊥
 none_some o e f g = cc
 
-lasts_to : (whole : ℕ → ℕ) (ds later : List Done) (t c : ℕ) → is_open (gone_at whole t ds) ds c ≡ true → AllByRecursion (λ d. t ≤ d.order.stamp) later → LastsTo whole (ds ++ later) c t
+-- an open call lasts
+lasts_to : (whole : ℕ → ℕ) (ds later : List Done) (t c : ℕ) → is_open (gone_at whole t ds) ds c ≡ true → AllByRecursion (λ d. t ≤ d.order.stamp) later →
+    LastsTo whole (ds ++ later) c t
 lasts_to whole ds later t c o above =
     let p = open_facts (gone_at whole t ds) ds c o in
     record {
@@ -57,7 +62,8 @@ lasts_to whole ds later t c o above =
     }
 
 -- the bridge that an order makes
-new_in_time : (whole : ℕ → ℕ) (ds later : List Done) (d : Done) (r : Result Act Refusal) → ShownBy (known_of (gone_at whole d.order.stamp ds) d.order.stamp ds) r →
+new_in_time : (whole : ℕ → ℕ) (ds later : List Done) (d : Done) (r : Result Act Refusal) →
+    ShownBy (known_of (gone_at whole d.order.stamp ds) d.order.stamp ds) r →
     AllByRecursion (λ e. d.order.stamp ≤ e.order.stamp) later → AllByRecursion (IsInTime whole (ds ++ d ∷ later)) (bridge_by d.order.stamp r later)
 new_in_time whole ds later d (Ok (act.Bridged a b)) h above = (
   record {
@@ -74,25 +80,33 @@ new_in_time whole ds later d (Ok (act.LevelSet c v)) h above = tt
 new_in_time whole ds later d (Ok (act.DtxSet c m)) h above = tt
 new_in_time whole ds later d (Err e) h above = tt
 
-in_time : (whole : ℕ → ℕ) (t : ℕ) (ds later : List Done) → AreReplies whole ds later → RisesFrom t later → AllByRecursion (IsInTime whole (ds ++ later)) (bridges later)
+-- so each bridge is in time
+in_time : (whole : ℕ → ℕ) (t : ℕ) (ds later : List Done) → AreReplies whole ds later → RisesFrom t later →
+    AllByRecursion (IsInTime whole (ds ++ later)) (bridges later)
 in_time whole t ds [] h r = tt
 in_time whole t ds (d ∷ later) h r =
     let known = known_of (gone_at whole d.order.stamp ds) d.order.stamp ds in
     each_append _ (bridge_by d.order.stamp d.result later) (bridges later)
     (new_in_time whole ds later d d.result (subst (ShownBy known) (sym h.0) (shown known d.order.what)) (from_above d.order.stamp later r.1))
-    (subst (λ (all : List Done). AllByRecursion (IsInTime whole all) (bridges later)) (append_assoc ds (d ∷ []) later) (in_time whole d.order.stamp (ds ++ d ∷ []) later h.1 r.1))
+    (subst (λ (all : List Done). AllByRecursion (IsInTime whole all) (bridges later)) (append_assoc ds (d ∷ []) later)
+    (in_time whole d.order.stamp (ds ++ d ∷ []) later h.1 r.1))
 
+-- **Each bridge of a run is.**
 pub bridges_in_time : (r : Run) → AreOrders r.orders → AllByRecursion (IsInTime (whole_in r) (done_in r)) (bridges (done_in r))
 bridges_in_time r a =
     let os = filter (λ o. nat_lt o.stamp r.periods) r.orders in
-    in_time (whole_in r) 0 [] (done_in r) (subst (AreReplies (whole_in r) []) (sym (executed-added (whole_in r) [] os)) (added_replies (whole_in r) [] os)) (run_rises r a)
+    in_time (whole_in r) 0 [] (done_in r) (subst (AreReplies (whole_in r) []) (sym (executed-added (whole_in r) [] os)) (added_replies (whole_in r) [] os))
+    (run_rises r a)
 
 -- ---- the end of its span
 
+-- its end is no earlier
 lasting_end : (given : ℕ → Given) (P : ℕ) (ds : List Done) (c t : ℕ) → t ≤ P → LastsTo (λ c. whole_of (given c)) ds c t → t ≤ ends_at given P ds c
 lasting_end given P ds c t l k = by (closed_at c ds) refl
   where
-    limit : (b : Bool) → t ≤ at_of (if b then record { call = c; at = P; cause = Limit } else record { call = c; at = k.start + whole_of (given c); cause = lack_of (whole_of (given c)) (given c) })
+    limit : (b : Bool) →
+        t ≤ at_of (if b then record { call = c; at = P; cause = Limit }
+        else record { call = c; at = k.start + whole_of (given c); cause = lack_of (whole_of (given c)) (given c) })
     limit true = l
     limit false = k.lines
 
@@ -101,8 +115,10 @@ lasting_end given P ds c t l k = by (closed_at c ds) refl
     by (Some s) e = subst (λ (n : ℕ). t ≤ n) (sym (ends_by given P ds c k.start (Some s) k.opened e)) (k.closed s e)
 
 -- **A bridge's span doesn't end before it begins.**
-pub ends_after : (given : ℕ → Given) (P : ℕ) (ds : List Done) (x : Bridge) → x.from ≤ P → IsInTime (λ c. whole_of (given c)) ds x → x.from ≤ to_of (span_of given P ds x)
-ends_after given P ds x l k = least x.ended (ends_at given P ds x.a) (ends_at given P ds x.b) (lasting_end given P ds x.a x.from l k.a) (lasting_end given P ds x.b x.from l k.b) k.ended
+pub ends_after : (given : ℕ → Given) (P : ℕ) (ds : List Done) (x : Bridge) → x.from ≤ P → IsInTime (λ c. whole_of (given c)) ds x →
+    x.from ≤ to_of (span_of given P ds x)
+ends_after given P ds x l k =
+    least x.ended (ends_at given P ds x.a) (ends_at given P ds x.b) (lasting_end given P ds x.a x.from l k.a) (lasting_end given P ds x.b x.from l k.b) k.ended
   where
     least : (o : Option ℕ) (a b : ℕ) → x.from ≤ a → x.from ≤ b → ((e : ℕ) → o ≡ Some e → x.from ≤ e) → x.from ≤ min (unwrap_or o (min a b)) (min a b)
     least None a b p q h = omega arith

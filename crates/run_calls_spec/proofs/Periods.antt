@@ -1,5 +1,5 @@
 -- The periods of a call as a whole are those that it has in the run.
-use Rattle.std.proofs.Common.{◌≡◌, refl, sym, ap, ◌∙◌, subst, ℕ, zero, suc, ◌+◌, ◌-◌, ◌*◌, ◌/◌, ◌<◌, ◌≤◌, min, true, Option, Some, None, List, [], ◌∷◌, ◌++◌, length, take, drop, pos, arith}
+use Rattle.std.proofs.Common.{◌≡◌, refl, sym, ap, ◌∙◌, subst, ℕ, zero, suc, ◌+◌, ◌-◌, ◌*◌, ◌/◌, ◌<◌, ◌≤◌, min, true, List, ◌∷◌, length, take, drop, pos, arith}
 use Rattle.std.specs.Prelude.{is_some}
 use Rattle.std.proofs.lemmas.List.{length-take-le, drop-take, take-take}
 use Rattle.std.proofs.lemmas.List.FromFn.{length-map-range_with_len, get_or-map-range_with_len}
@@ -7,34 +7,23 @@ use Rattle.trau_orders.specs.declared.order.DtxMode.TheVariants.{Uplink}
 use Rattle.trau_orders.specs.Lists.{AreOrders}
 use Rattle.switchboard.specs.Calls.{opened_at}
 use Rattle.switchboard.specs.Ends.{whole_of}
-use Rattle.call_leg.specs.Who.{Who}
-use Rattle.call_leg.specs.Periods.{CallPeriod}
-use Rattle.call_leg.specs.Out.{out_of}
 use Rattle.call_spec.specs.Call.{Setting, periods, setting_at}
-use Rattle.call_spec.specs.History as call
-use Rattle.call_spec.specs.Whole.{AreSpans, IsWhole, period_at, first_periods, history_of}
+use Rattle.call_spec.specs.Whole.{AreSpans, IsWhole, call_period, first_periods, periods_of_call}
 use Rattle.run_spec.specs.Run.{Run, given_in, whole_in, done_in, start_in, end_in, period_of, periods_to, periods_in}
-use Rattle.run_spec.specs.Lines as run
 use Rattle.run_spec.proofs.SoFar.{standing_end}
 use Rattle.run_spec.proofs.Settling.{start_is}
 use Rattle.run_spec.proofs.Settled.{same_period}
-use Rattle.run_spec.proofs.History.{ends_within}
+use Rattle.run_spec.proofs.Covering.{ends_within}
 use Rattle.run_calls_spec.specs.Whole.{count_in, setting_in, whole_call}
 use Rattle.run_calls_spec.proofs.Spans.{spans_ordered, starts_in, handed_in}
+use Rattle.run_spec.proofs.OpenCalls.{opened_some}
 
 -- ---- its lines
-
-opened_some : (r : Run) (c : ℕ) → is_some (opened_at c (done_in r)) ≡ true → (s : ℕ) × (opened_at c (done_in r) ≡ Some s)
-opened_some r c e = by (opened_at c (done_in r)) e
-  where
-    by : (o : Option ℕ) → is_some o ≡ true → (s : ℕ) × (o ≡ Some s)
-    by None e = cc
-    by (Some s) e = (s, refl)
 
 -- **The lines give all of its periods.**
 count_given : (r : Run) (c : ℕ) → AreOrders r.orders → is_some (opened_at c (done_in r)) ≡ true → count_in r c ≤ whole_in r c
 count_given r c a o =
-    let s = opened_some r c o in
+    let s = opened_some (done_in r) c o in
     let e : start_in r c ≡ s.0 = start_is (done_in r) c s.0 s.1 in
     let l : end_in r c ≤ s.0 + whole_of (given_in r c) = ends_within (given_in r) r.periods (done_in r) c s.0 (standing_end r a) s.1 in
     counted (start_in r c) (end_in r c) s.0 (whole_of (given_in r c)) e l
@@ -45,6 +34,7 @@ count_given r c a o =
 sized : (n up pcm : ℕ) → n ≤ min (up / 40) (pcm / 160) → (40 * n ≤ up) × (160 * n ≤ pcm)
 sized n up pcm l = (omega arith, omega arith)
 
+-- the call as a whole has as many periods
 pub count_periods : (r : Run) (c : ℕ) → periods (whole_call r c) ≡ count_in r c
 count_periods r c = length-map-range_with_len (λ k. setting_in r c (start_in r c + k)) 0 (count_in r c)
 
@@ -60,6 +50,7 @@ is_whole r c a o =
 
 -- ---- its periods
 
+-- the octets of a period are the same in a front of the line
 part_of : (m k all rest : ℕ) (xs : List ℕ) → all ≡ m * k + rest → m ≤ rest → take m (drop (m * k) (take all xs)) ≡ take m (drop (m * k) xs)
 part_of m k all rest xs e l = ap (λ i. take m (drop (m * k) (take i xs))) e ∙ ap (take m) (drop-take (m * k) rest xs) ∙ take-take m rest (drop (m * k) xs) l
 
@@ -69,7 +60,8 @@ up_part k n xs l = part_of 40 k (40 * n) (40 * (n - k)) xs (omega arith) (omega 
 pcm_part : (k n : ℕ) (xs : List ℕ) → k < n → take 160 (drop (160 * k) (take (160 * n) xs)) ≡ take 160 (drop (160 * k) xs)
 pcm_part k n xs l = part_of 160 k (160 * n) (160 * (n - k)) xs (omega arith) (omega arith)
 
-period_same : (r : Run) (c k : ℕ) → AreOrders r.orders → k < count_in r c → period_at (whole_call r c) k ≡ period_of r c k
+-- **Each period is that of the run.**
+period_same : (r : Run) (c k : ℕ) → AreOrders r.orders → k < count_in r c → call_period (whole_call r c) k ≡ period_of r c k
 unfolding period_of
 period_same r c k a l =
     let setting : setting_at (whole_call r c) k ≡ setting_in r c (start_in r c + k) =
@@ -82,16 +74,12 @@ period_same r c k a l =
     (starts_in r c k a l)
     (handed_in r c k a l)
 
+-- and so are the first of them
 pub first_same : (r : Run) (c n : ℕ) → AreOrders r.orders → n ≤ count_in r c → first_periods (whole_call r c) n ≡ periods_to r c n
 first_same r c zero a l = refl
-first_same r c (suc k) a l = ap (λ t. t ∷ first_periods (whole_call r c) k) (period_same r c k a (omega arith)) ∙ ap (λ ts. period_of r c k ∷ ts) (first_same r c k a (omega arith))
+first_same r c (suc k) a l =
+    ap (λ t. t ∷ first_periods (whole_call r c) k) (period_same r c k a (omega arith)) ∙ ap (λ ts. period_of r c k ∷ ts) (first_same r c k a (omega arith))
 
 -- **Its periods are those that it has in the run.**
-pub history_same : (r : Run) (c : ℕ) → AreOrders r.orders → history_of (whole_call r c) ≡ periods_in r c
+pub history_same : (r : Run) (c : ℕ) → AreOrders r.orders → periods_of_call (whole_call r c) ≡ periods_in r c
 history_same r c a = ap (first_periods (whole_call r c)) (count_periods r c) ∙ first_same r c (count_in r c) a (omega arith)
-
--- ---- the Out line, as both crates write it
-
-pub out_lines : (who : Who) (ts : List CallPeriod) → run.out_line who ts ≡ call.out_line who ts
-out_lines who [] = refl
-out_lines who (t ∷ past) = ap (λ line. line ++ out_of who (t ∷ past)) (out_lines who past)

@@ -6,23 +6,23 @@ use Rattle.trau_frame.specs.declared.frames.DownFrame.TheVariants.{Idle}
 use Rattle.switchboard.specs.declared.act.Span as board
 use Rattle.down_framer.specs.ByNumber.{when}
 use Rattle.call_spec.specs.Call.{Call, Span}
-use Rattle.call_spec.specs.Down.{frame_at, made, HasItem, down_frames}
+use Rattle.call_spec.specs.Down.{frame_by_number, frames_of_call, HasItem, down_frames}
 use Rattle.run_spec.specs.Run.{Run, start_in}
 use Rattle.run_calls_spec.specs.Whole.{span_for, whole_call, IsBridged}
 
 -- how many frames a call makes, these frames as they are sent, and frame j
 abbrev pub frame_count : Run → ℕ → ℕ
-frame_count r c = length (made (whole_call r c))
+frame_count r c = length (frames_of_call (whole_call r c))
 
 abbrev pub sent_frames : Run → ℕ → List DownFrame
-sent_frames r c = down_frames (whole_call r c) (made (whole_call r c))
+sent_frames r c = down_frames (whole_call r c) (frames_of_call (whole_call r c))
 
-abbrev pub sent_frame : Run → ℕ → ℕ → DownFrame
-sent_frame r c j = slice_index_or (sent_frames r c) j Idle
+abbrev pub frame_as_sent : Run → ℕ → ℕ → DownFrame
+frame_as_sent r c j = slice_index_or (sent_frames r c) j Idle
 
 -- the bit of the Down line at which it begins: behind 320 ones, two for each octet of the Pcm line before its start
-abbrev pub place_in : Run → ℕ → ℕ → ℕ
-place_in r c j = 320 + 2 * (frame_at (whole_call r c) j).start
+abbrev pub frame_place : Run → ℕ → ℕ → ℕ
+frame_place r c j = 320 + 2 * (frame_by_number (whole_call r c) j).start
 
 -- frame j of call c carries what the call is handed in period t of the run, one of span x
 abbrev pub CarriesHanded : Run → ℕ → ℕ → board.Span → ℕ → Type 0
@@ -36,12 +36,12 @@ pub record Sends (r : Run) (c t : ℕ) (x : board.Span) (j : ℕ) : Type 0 where
 
 -- Between periods, as period u of the run begins, what call c is handed in an earlier period t of span x waits: no frame
 -- that was made before carries it.
-pub record Waits (r : Run) (c u t : ℕ) (x : board.Span) : Type 0 where
+pub record WaitsUnsent (r : Run) (c u t : ℕ) (x : board.Span) : Type 0 where
   pub bridged : IsBridged r c t x
   pub handed : t < u
-  pub unsent : (j : ℕ) → CarriesHanded r c t x j → u ≤ start_in r c + when (frame_at (whole_call r c) j).start
+  pub unsent : (j : ℕ) → CarriesHanded r c t x j → u ≤ start_in r c + when (frame_by_number (whole_call r c) j).start
 
 -- the first frame made in a span's first period or later
-pub record IsFirst (call : Call) (span : Span) (j : ℕ) : Type 0 where
-  pub begun : span.from ≤ when (frame_at call j).start
-  pub first : (i : ℕ) → i < j → when (frame_at call i).start < span.from
+pub record IsFirstOfSpan (call : Call) (span : Span) (j : ℕ) : Type 0 where
+  pub begun : span.from ≤ when (frame_by_number call j).start
+  pub first : (i : ℕ) → i < j → when (frame_by_number call i).start < span.from

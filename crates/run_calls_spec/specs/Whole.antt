@@ -6,7 +6,7 @@ use Rattle.trau_orders.specs.declared.order.DtxMode.TheVariants.{Uplink}
 use Rattle.switchboard.specs.declared.act.Span as board
 use Rattle.frame_sync.specs.declared.yields.Yield.{Yield}
 use Rattle.rx_handler.specs.Origin.{EffectiveFields}
-use Rattle.call_spec.specs.Call.{Call, Setting, Span, yield_at, effective, item_at}
+use Rattle.call_spec.specs.Call.{Call, Setting, Span, yield_at, effective_frame, item_at}
 use Rattle.run_spec.specs.Run.{Run, who_in, done_in, spans_in, start_in, end_in, level_after, mode_after, done_to, ups_to, item_of, is_of, partner_in}
 
 -- how many periods a call has
@@ -69,4 +69,4 @@ abbrev pub yield_on : Run → ℕ → ℕ → Option Yield
 yield_on r c t = yield_at (whole_call r c) (t - start_in r c)
 
 abbrev pub frame_on : Run → ℕ → ℕ → EffectiveFields
-frame_on r c t = effective (whole_call r c) (t - start_in r c)
+frame_on r c t = effective_frame (whole_call r c) (t - start_in r c)

@@ -15,13 +15,13 @@ ghost use Rattle.call_leg.specs.Uplink.{handed_fields};
 ghost use Rattle.down_framer.specs.ByNumber.{when};
 ghost use Rattle.call_spec.specs.Call.{Call, Span as CallSpan};
 ghost use Rattle.call_spec.specs.Out.{out};
-ghost use Rattle.call_spec.specs.Down.{frame_at, made, down};
-ghost use Rattle.call_spec.specs.Whole.{IsWhole, history_of};
+ghost use Rattle.call_spec.specs.Down.{frame_by_number, frames_of_call, down};
+ghost use Rattle.call_spec.specs.Whole.{IsWhole, periods_of_call};
 ghost use Rattle.run_spec.specs.Run.{Run, done_in, spans_in, start_in, end_in, partner_in, periods_in};
 ghost use Rattle.run_spec.specs.Lines.{out_of_call, down_of_call};
 ghost use Rattle.run_spec.specs.Facts.{carries_in, sent_by, span_line};
 ghost use Rattle.run_calls_spec.specs.Whole.{span_for, whole_call, IsBridged, item_for, yield_on, frame_on};
-ghost use Rattle.run_calls_spec.specs.Sent.{frame_count, sent_frames, sent_frame, place_in, CarriesHanded, Sends, Waits, IsFirst};
+ghost use Rattle.run_calls_spec.specs.Sent.{frame_count, sent_frames, frame_as_sent, frame_place, CarriesHanded, Sends, WaitsUnsent, IsFirstOfSpan};
 
 use call_spec::{a_call_by_its_periods, frames_of_a_call};
 use rx_handler::laws::{the_newest_is_the_last, the_table_looks_back};
@@ -30,7 +30,7 @@ use rx_handler::laws::{the_newest_is_the_last, the_table_looks_back};
 /// those that it has in the run.
 pub fn calls_are_whole()
     ensures whole { (r : Run) (c : ℕ) → AreOrders r.orders → is_some (opened_at c (done_in r)) ≡ true → IsWhole (whole_call r c) }
-    ensures periods { (r : Run) (c : ℕ) → AreOrders r.orders → history_of (whole_call r c) ≡ periods_in r c }
+    ensures periods { (r : Run) (c : ℕ) → AreOrders r.orders → periods_of_call (whole_call r c) ≡ periods_in r c }
 {}
 
 /// What a run writes on the outgoing lines of a call is what the definition gives for the call as a whole, and nothing
@@ -74,25 +74,25 @@ pub fn items_go_out_in_order_and_once()
 
     // This frame is a speech frame, SP 1, of the partner's effective frame;
     ensures sent { (r : Run) (c t : ℕ) (x : Span) (j : ℕ) → AreOrders r.orders → Sends r c t x j →
-        sent_frame r c j ≡ Speech (bits260 (handed_fields (frame_on r (partner_in c x) t))) true }
+        frame_as_sent r c j ≡ Speech (bits260 (handed_fields (frame_on r (partner_in c x) t))) true }
 
     // a good speech frame's 260 bits go out unchanged.
     ensures good { (r : Run) (c t : ℕ) (x : Span) (j p : ℕ) (bits : List ℕ) → AreOrders r.orders → Sends r c t x j →
-        yield_on r (partner_in c x) t ≡ Some (Frame p bits) → IsGoodSpeech bits → sent_frame r c j ≡ Speech (data_of bits) true }
+        yield_on r (partner_in c x) t ≡ Some (Frame p bits) → IsGoodSpeech bits → frame_as_sent r c j ≡ Speech (data_of bits) true }
 
     // Its 320 bits stand on the Down line one after another, as far as the line goes.
     ensures on_line { (r : Run) (c t : ℕ) (x : Span) (j k : ℕ) → AreOrders r.orders → Sends r c t x j →
-        k < 320 → place_in r c j + k < length (down (whole_call r c)) →
-        slice_index (down (whole_call r c)) (place_in r c j + k) ≡ slice_index (down_bits (sent_frame r c j)) k }
+        k < 320 → frame_place r c j + k < length (down (whole_call r c)) →
+        slice_index (down (whole_call r c)) (frame_place r c j + k) ≡ slice_index (down_bits (frame_as_sent r c j)) k }
 
     // A frame carries nothing else: period h of the call is one of a bridge.
-    ensures only { (r : Run) (c j h : ℕ) → AreOrders r.orders → (frame_at (whole_call r c) j).carries ≡ Some h →
+    ensures only { (r : Run) (c j h : ℕ) → AreOrders r.orders → (frame_by_number (whole_call r c) j).carries ≡ Some h →
         (x : Span) × IsBridged r c (start_in r c + h) x × CarriesHanded r c (start_in r c + h) x j }
 
     // Period by period it goes out in the first frame made in the span and in those after it, one for each;
-    ensures first { (call : Call) (span : CallSpan) → (first : ℕ) × IsFirst call span first }
+    ensures first { (call : Call) (span : CallSpan) → (first : ℕ) × IsFirstOfSpan call span first }
     ensures place { (r : Run) (c t : ℕ) (x : Span) (first j : ℕ) → AreOrders r.orders → IsBridged r c t x →
-        IsFirst (whole_call r c) (span_for r c x) first → CarriesHanded r c t x j ↔ (j ≡ first + (t - x.from)) }
+        IsFirstOfSpan (whole_call r c) (span_for r c x) first → CarriesHanded r c t x j ↔ (j ≡ first + (t - x.from)) }
 
     // so in order, and each at most once.
     ensures in_order { (r : Run) (c t u : ℕ) (x : Span) (j k : ℕ) → AreOrders r.orders → IsBridged r c t x → IsBridged r c u x →
@@ -103,13 +103,13 @@ pub fn items_go_out_in_order_and_once()
     // It is made in the period in which it is handed over or in the next one. So between periods at most one handed frame
     // waits: that of the period just over.
     ensures soon { (r : Run) (c t : ℕ) (x : Span) (j : ℕ) → AreOrders r.orders → IsBridged r c t x → CarriesHanded r c t x j →
-        let made = start_in r c + when (frame_at (whole_call r c) j).start in (t ≤ made) × (made ≤ t + 1) }
-    ensures one_waits { (r : Run) (c u t : ℕ) (x : Span) → AreOrders r.orders → Waits r c u t x → u ≡ t + 1 }
+        let made = start_in r c + when (frame_by_number (whole_call r c) j).start in (t ≤ made) × (made ≤ t + 1) }
+    ensures one_waits { (r : Run) (c u t : ℕ) (x : Span) → AreOrders r.orders → WaitsUnsent r c u t x → u ≡ t + 1 }
 
     // The report counts what goes out: the frames made that carry what was handed over in the span. In each direction at
     // most one is lost.
     ensures counted { (r : Run) (c : ℕ) (x : Span) → AreOrders r.orders → is_some (opened_at c (done_in r)) ≡ true →
-        sent_by r x c ≡ length (filter (λ f. carries_in (x.from - start_in r c) (x.to - start_in r c) f.carries) (made (whole_call r c))) }
+        sent_by r x c ≡ length (filter (λ f. carries_in (x.from - start_in r c) (x.to - start_in r c) f.carries) (frames_of_call (whole_call r c))) }
     ensures lost { (r : Run) (x : Span) → AreOrders r.orders → Contains (spans_in r) x → ((span_line r x).lost_a ≤ 1) × ((span_line r x).lost_b ≤ 1) }
 {
     items_are_the_partners_frames();

@@ -1,41 +1,41 @@
 -- What the frames of a downlink carry.
-use Rattle.std.proofs.Common.{◌≡◌, refl, sym, ap, ◌∙◌, subst, ℕ, suc, ◌+◌, ◌*◌, ◌<◌, ◌≤◌, Bool, true, false, Option, Some, None, List, [], ◌∷◌, length, inl, inr, arith, ◌-◌, min}
+use Rattle.std.proofs.Common.{◌≡◌, refl, sym, ap, ◌∙◌, ℕ, suc, ◌+◌, ◌*◌, ◌<◌, ◌≤◌, Bool, true, false, Option, Some, None, List, [], ◌∷◌, length, inl, inr, arith, ◌-◌}
 use Rattle.std.specs.Prelude.{◌&&◌, is_some, filter, nat_le, nat_lt, ◌==◌, if◌then◌else◌}
 use Rattle.std.specs.List.{AllByRecursion}
-use Rattle.std.proofs.lemmas.Bool.{leb-true, ltb-true, cases_Bool, cases_lt, cases_eq, le-leb, lt-leb, lt-ltb, le-ltb, eq-eqb, ne_eqb, cond_both, and_from}
-use Rattle.down_framer.specs.Made.{Period, MadeFrame, next_start, latest_start, bridged_at, made_from, due, epoch_of, next_frame, grown, made_frames}
-use Rattle.down_framer.proofs.Waiting.{bridged_at-late, bridged_at-old, due-some, due-none, made_from-next, latest_start-below}
+use Rattle.std.proofs.lemmas.Bool.{cases_Bool, cases_lt, cases_eq, le-leb, lt-leb, lt-ltb, le-ltb, eq-eqb, ne_eqb, cond_both, and_from}
+use Rattle.down_framer.specs.Made.{Period, MadeFrame, next_start, latest_start, hands_at, made_from, handed_due, epoch_of, next_frame, grown, made_frames}
+use Rattle.down_framer.proofs.Due.{hands_at-late, hands_at-old, due-some, due-none}
 use Rattle.call_leg.specs.Down.{CallFrame}
 use Rattle.call_leg.specs.Places.{carried}
 use Rattle.run_spec.specs.Facts.{carries_in}
-use Rattle.run_spec.proofs.Lists.{each_weaker}
-
-no : (t : Bool) → t ≡ false → t ≡ true → ⊥
-no t p q = cc
+use Rattle.run_spec.proofs.Lists.{each_weaker, no}
 
 -- a frame carries what was handed over in a bridge: where that is the latest one, from its start on, else before
 pub record Carries {A : Type 0} (ps : List (Period A)) (epoch h : ℕ) : Type 0 where
   pub inside : h < length ps
-  pub bridged : bridged_at h ps ≡ true
+  pub bridged : hands_at h ps ≡ true
   pub start : ℕ
   pub latest : latest_start ps ≡ Some start
   pub within : epoch ≤ epoch_of ps
   pub newest : epoch ≡ epoch_of ps → start ≤ h
   pub older : epoch < epoch_of ps → h < start
 
+-- what each of these frames carries, if anything, is of its epoch
 abbrev pub AreCarried : {A : Type 0} → List (Period A) → List (MadeFrame A) → Type 0
 AreCarried ps fs = AllByRecursion (λ f. (h : ℕ) → f.carries ≡ Some h → Carries ps f.epoch h) fs
 
+-- a period more changes nothing of it
 carries_more : {A : Type 0} (p : Period A) (past : List (Period A)) (epoch h : ℕ) → Carries past epoch h → Carries (p ∷ past) epoch h
 carries_more p past epoch h k = by p.starts refl
   where
     by : (b : Bool) → p.starts ≡ b → Carries (p ∷ past) epoch h
     by true e =
-        let m : epoch_of (p ∷ past) ≡ suc (epoch_of past) = ap (λ (b : Bool). length (if b then p ∷ filter (λ p. p.starts) past else filter (λ p. p.starts) past)) e in
+        let m : epoch_of (p ∷ past) ≡ suc (epoch_of past) =
+        ap (λ (b : Bool). length (if b then p ∷ filter (λ p. p.starts) past else filter (λ p. p.starts) past)) e in
         let w = k.within in
         record {
           inside = let i = k.inside in omega arith;
-          bridged = bridged_at-old p past h k.inside ∙ k.bridged;
+          bridged = hands_at-old p past h k.inside ∙ k.bridged;
           start = length past;
           latest = ap (λ (b : Bool). if b then Some (length past) else latest_start past) e;
           within = omega arith;
@@ -43,11 +43,12 @@ carries_more p past epoch h k = by p.starts refl
           older = λ q. k.inside;
         }
     by false e =
-        let m : epoch_of (p ∷ past) ≡ epoch_of past = ap (λ (b : Bool). length (if b then p ∷ filter (λ p. p.starts) past else filter (λ p. p.starts) past)) e in
+        let m : epoch_of (p ∷ past) ≡ epoch_of past =
+        ap (λ (b : Bool). length (if b then p ∷ filter (λ p. p.starts) past else filter (λ p. p.starts) past)) e in
         let w = k.within in
         record {
           inside = let i = k.inside in omega arith;
-          bridged = bridged_at-old p past h k.inside ∙ k.bridged;
+          bridged = hands_at-old p past h k.inside ∙ k.bridged;
           start = k.start;
           latest = ap (λ (b : Bool). if b then Some (length past) else latest_start past) e ∙ k.latest;
           within = omega arith;
@@ -56,22 +57,27 @@ carries_more p past epoch h k = by p.starts refl
         }
 
 -- what is due lies in the latest bridge
-due_parts : {A : Type 0} (ps : List (Period A)) (fs : List (MadeFrame A)) (h : ℕ) → due ps fs ≡ Some h → (s : ℕ) × (latest_start ps ≡ Some s) × (s ≤ h) × (bridged_at h ps ≡ true)
+pub due_parts : {A : Type 0} (ps : List (Period A)) (fs : List (MadeFrame A)) (h : ℕ) → handed_due ps fs ≡ Some h →
+    (s : ℕ) × (latest_start ps ≡ Some s) × (s ≤ h) × (hands_at h ps ≡ true)
 due_parts ps fs h e = by (latest_start ps) refl
   where
-    by : (o : Option ℕ) → latest_start ps ≡ o → (s : ℕ) × (latest_start ps ≡ Some s) × (s ≤ h) × (bridged_at h ps ≡ true)
+    by : (o : Option ℕ) → latest_start ps ≡ o → (s : ℕ) × (latest_start ps ≡ Some s) × (s ≤ h) × (hands_at h ps ≡ true)
     by None f =
-        absurd (let g : due ps fs ≡ None = ap (λ (o : Option ℕ). elim o as (λ x. Option ℕ) [ None ↦ None | Some s ↦ if bridged_at (s + made_from s fs) ps then Some (s + made_from s fs) else None ]) f in cc)
-    by (Some s) f = elim (cases_Bool (bridged_at (s + made_from s fs) ps)) [
-      | inl b ↦ let g = due-some ps fs s f b in let q : s + made_from s fs ≡ h = cc in (s, f, omega arith, ap (λ h. bridged_at h ps) (sym q) ∙ b)
+        absurd (let g : handed_due ps fs ≡ None = ap
+        (λ (o : Option ℕ).
+        elim o as (λ x. Option ℕ) [ None ↦ None | Some s ↦ if hands_at (s + made_from s fs) ps then Some (s + made_from s fs) else None ]) f in cc)
+    by (Some s) f = elim (cases_Bool (hands_at (s + made_from s fs) ps)) [
+      | inl b ↦ let g = due-some ps fs s f b in let q : s + made_from s fs ≡ h = cc in (s, f, omega arith, ap (λ h. hands_at h ps) (sym q) ∙ b)
       | inr b ↦ absurd (let g = due-none ps fs s f b in cc)
     ]
 
-carries_new : {A : Type 0} (p : Period A) (past : List (Period A)) (fs : List (MadeFrame A)) (h : ℕ) → due (p ∷ past) fs ≡ Some h → Carries (p ∷ past) (epoch_of (p ∷ past)) h
+-- what is due is of the newest epoch
+carries_new : {A : Type 0} (p : Period A) (past : List (Period A)) (fs : List (MadeFrame A)) (h : ℕ) → handed_due (p ∷ past) fs ≡ Some h →
+    Carries (p ∷ past) (epoch_of (p ∷ past)) h
 carries_new p past fs h e =
     let d = due_parts (p ∷ past) fs h e in
     record {
-      inside = elim (cases_lt h (length (p ∷ past))) [ inl l ↦ l | inr l ↦ absurd (no _ (bridged_at-late (p ∷ past) h l) d.3) ];
+      inside = elim (cases_lt h (length (p ∷ past))) [ inl l ↦ l | inr l ↦ absurd (no _ (hands_at-late (p ∷ past) h l) d.3) ];
       bridged = d.3;
       start = d.0;
       latest = d.1;
@@ -80,30 +86,42 @@ carries_new p past fs h e =
       older = λ q. absurd (omega arith);
     }
 
-grown_carried : {A : Type 0} (p : Period A) (past : List (Period A)) (fs : List (MadeFrame A)) → AreCarried (p ∷ past) fs → AreCarried (p ∷ past) (grown p past fs)
+-- so is what a try makes
+grown_carried : {A : Type 0} (p : Period A) (past : List (Period A)) (fs : List (MadeFrame A)) → AreCarried (p ∷ past) fs →
+    AreCarried (p ∷ past) (grown p past fs)
 grown_carried p past fs k =
-    cond_both (nat_le (next_start fs) (160 * length past)) (next_frame p past fs ∷ fs) fs (AreCarried (p ∷ past)) (λ y. (λ h e. carries_new p past fs h e, k)) (λ n. k)
+    cond_both (nat_le (next_start fs) (160 * length past)) (next_frame p past fs ∷ fs) fs (AreCarried (p ∷ past)) (λ y. (λ h e. carries_new p past fs h e, k))
+    (λ n. k)
 
+-- **What a made frame carries is of its epoch.**
 pub made_carried : {A : Type 0} (ps : List (Period A)) → AreCarried ps (made_frames ps)
 made_carried [] = tt
 made_carried (p ∷ past) = grown_carried p past (grown p past (made_frames past)) (grown_carried p past (made_frames past)
-    (each_weaker (λ f. (h : ℕ) → f.carries ≡ Some h → Carries past f.epoch h) (λ f. (h : ℕ) → f.carries ≡ Some h → Carries (p ∷ past) f.epoch h) (made_frames past)
+    (each_weaker (λ f. (h : ℕ) → f.carries ≡ Some h → Carries past f.epoch h) (λ f. (h : ℕ) → f.carries ≡ Some h → Carries (p ∷ past) f.epoch h)
+    (made_frames past)
     (λ f k h e. carries_more p past f.epoch h (k h e)) (made_carried past)))
 
 -- ---- how many carry what was handed over in a span
 
+-- how many of these frames carry what was handed over from s up to, and without, e
 abbrev pub sent_of : {A : Type 0} → ℕ → ℕ → List (MadeFrame A) → ℕ
 sent_of s e fs = length (filter (λ f. carries_in s e f.carries) fs)
 
-pub carried_same : (s e k : ℕ) (fs : List CallFrame) → AllByRecursion (λ f. (is_some f.carries && f.epoch == k) ≡ carries_in s e f.carries) fs → carried k fs ≡ sent_of s e fs
+-- those of an epoch are those of a span where each of them is
+pub carried_same : (s e k : ℕ) (fs : List CallFrame) → AllByRecursion (λ f. (is_some f.carries && f.epoch == k) ≡ carries_in s e f.carries) fs →
+    carried k fs ≡ sent_of s e fs
 carried_same s e k [] h = refl
-carried_same s e k (f ∷ fs) h = ap (λ (b : Bool). if b then suc (carried k fs) else carried k fs) h.0 ∙ by (carries_in s e f.carries) (carried_same s e k fs h.1)
+carried_same s e k (f ∷ fs) h =
+    ap (λ (b : Bool). if b then suc (carried k fs) else carried k fs) h.0 ∙ by (carries_in s e f.carries) (carried_same s e k fs h.1)
   where
-    by : (b : Bool) → carried k fs ≡ sent_of s e fs → (if b then suc (carried k fs) else carried k fs) ≡ length (if b then f ∷ filter (λ f. carries_in s e f.carries) fs else filter (λ f. carries_in s e f.carries) fs)
+    by : (b : Bool) → carried k fs ≡ sent_of s e fs →
+        (if b then suc (carried k fs) else carried k fs)
+        ≡ length (if b then f ∷ filter (λ f. carries_in s e f.carries) fs else filter (λ f. carries_in s e f.carries) fs)
     by true q = ap suc q
     by false q = q
 
-carried_some : {A : Type 0} (ps : List (Period A)) (s e : ℕ) (epoch : ℕ) (o : Option ℕ) → latest_start ps ≡ Some s → ((h : ℕ) → s ≤ h → h < length ps → bridged_at h ps ≡ true → h < e) →
+carried_some : {A : Type 0} (ps : List (Period A)) (s e : ℕ) (epoch : ℕ) (o : Option ℕ) → latest_start ps ≡ Some s →
+    ((h : ℕ) → s ≤ h → h < length ps → hands_at h ps ≡ true → h < e) →
     ((h : ℕ) → o ≡ Some h → Carries ps epoch h) → (is_some o && epoch == epoch_of ps) ≡ carries_in s e o
 carried_some ps s e epoch None l over k = refl
 carried_some ps s e epoch (Some h) l over k =
@@ -123,19 +141,25 @@ carried_some ps s e epoch (Some h) l over k =
     below a b l n = omega arith
 
 -- those that carry what was handed over in the latest bridge
-pub carried_latest : (ps : List (Period _)) (s e : ℕ) → latest_start ps ≡ Some s → ((h : ℕ) → s ≤ h → h < length ps → bridged_at h ps ≡ true → h < e) → carried (epoch_of ps) (made_frames ps) ≡ sent_of s e (made_frames ps)
+pub carried_latest : (ps : List (Period _)) (s e : ℕ) → latest_start ps ≡ Some s → ((h : ℕ) → s ≤ h → h < length ps → hands_at h ps ≡ true → h < e) →
+    carried (epoch_of ps) (made_frames ps) ≡ sent_of s e (made_frames ps)
 carried_latest ps s e l over = carried_same s e (epoch_of ps) (made_frames ps)
-    (each_weaker (λ f. (h : ℕ) → f.carries ≡ Some h → Carries ps f.epoch h) _ (made_frames ps) (λ f k. carried_some ps s e f.epoch f.carries l over k) (made_carried ps))
+    (each_weaker (λ f. (h : ℕ) → f.carries ≡ Some h → Carries ps f.epoch h) _ (made_frames ps) (λ f k. carried_some ps s e f.epoch f.carries l over k)
+    (made_carried ps))
 
 -- those of a bridge that is only to start
 none_sent : {A : Type 0} (s e : ℕ) (fs : List (MadeFrame A)) → AllByRecursion (λ f. carries_in s e f.carries ≡ false) fs → sent_of s e fs ≡ 0
 none_sent s e [] h = refl
-none_sent s e (f ∷ fs) h = ap (λ (b : Bool). length (if b then f ∷ filter (λ f. carries_in s e f.carries) fs else filter (λ f. carries_in s e f.carries) fs)) h.0 ∙ none_sent s e fs h.1
+none_sent s e (f ∷ fs) h =
+    ap (λ (b : Bool). length (if b then f ∷ filter (λ f. carries_in s e f.carries) fs else filter (λ f. carries_in s e f.carries) fs)) h.0
+    ∙ none_sent s e fs h.1
 
+-- of an epoch that is to come none was carried
 pub carried_next : (ps : List (Period _)) (s e : ℕ) → length ps ≤ s → carried (suc (epoch_of ps)) (made_frames ps) ≡ sent_of s e (made_frames ps)
 carried_next ps s e l =
     none_carried (made_frames ps) (made_carried ps)
-    ∙ sym (none_sent s e (made_frames ps) (each_weaker (λ f. (h : ℕ) → f.carries ≡ Some h → Carries ps f.epoch h) _ (made_frames ps) (λ f k. by f.epoch f.carries k) (made_carried ps)))
+    ∙ sym (none_sent s e (made_frames ps)
+    (each_weaker (λ f. (h : ℕ) → f.carries ≡ Some h → Carries ps f.epoch h) _ (made_frames ps) (λ f k. by f.epoch f.carries k) (made_carried ps)))
   where
     by : (epoch : ℕ) (o : Option ℕ) → ((h : ℕ) → o ≡ Some h → Carries ps epoch h) → carries_in s e o ≡ false
     by epoch None k = refl
@@ -147,14 +171,18 @@ carried_next ps s e l =
 
     none_carried : (fs : List CallFrame) → AreCarried ps fs → carried (suc (epoch_of ps)) fs ≡ 0
     none_carried [] k = refl
-    none_carried (f ∷ fs) k = ap (λ (b : Bool). if b then suc (carried (suc (epoch_of ps)) fs) else carried (suc (epoch_of ps)) fs) (one f.epoch f.carries k.0) ∙ none_carried fs k.1
+    none_carried (f ∷ fs) k =
+        ap (λ (b : Bool). if b then suc (carried (suc (epoch_of ps)) fs) else carried (suc (epoch_of ps)) fs) (one f.epoch f.carries k.0) ∙ none_carried fs k.1
 
 -- ---- later periods
 
-grown_sent : {A : Type 0} (p : Period A) (past : List (Period A)) (fs : List (MadeFrame A)) (s e : ℕ) → ((h : ℕ) → due (p ∷ past) fs ≡ Some h → e ≤ h) → sent_of s e (grown p past fs) ≡ sent_of s e fs
+-- a frame that carries nothing of a span adds nothing to it
+grown_sent : {A : Type 0} (p : Period A) (past : List (Period A)) (fs : List (MadeFrame A)) (s e : ℕ) → ((h : ℕ) → handed_due (p ∷ past) fs ≡ Some h → e ≤ h) →
+    sent_of s e (grown p past fs) ≡ sent_of s e fs
 grown_sent p past fs s e k =
     cond_both (nat_le (next_start fs) (160 * length past)) (next_frame p past fs ∷ fs) fs (λ gs. sent_of s e gs ≡ sent_of s e fs)
-    (λ y. ap (λ (b : Bool). length (if b then next_frame p past fs ∷ filter (λ f. carries_in s e f.carries) fs else filter (λ f. carries_in s e f.carries) fs)) (by (due (p ∷ past) fs) k)) (λ n. refl)
+    (λ y. ap (λ (b : Bool). length (if b then next_frame p past fs ∷ filter (λ f. carries_in s e f.carries) fs else filter (λ f. carries_in s e f.carries) fs))
+    (by (handed_due (p ∷ past) fs) k)) (λ n. refl)
   where
     by : (o : Option ℕ) → ((h : ℕ) → o ≡ Some h → e ≤ h) → carries_in s e o ≡ false
     by None k = refl
@@ -165,86 +193,11 @@ grown_sent p past fs s e k =
         late false b e = refl
 
 -- after a later bridge started, no frame carries what was handed over before it
-pub sent_kept : {A : Type 0} (p : Period A) (past : List (Period A)) (s e n : ℕ) → latest_start (p ∷ past) ≡ Some n → e ≤ n → sent_of s e (made_frames (p ∷ past)) ≡ sent_of s e (made_frames past)
-sent_kept p past s e n l m = grown_sent p past (grown p past (made_frames past)) s e (λ h q. late (grown p past (made_frames past)) h q) ∙ grown_sent p past (made_frames past) s e (λ h q. late (made_frames past) h q)
+pub sent_kept : {A : Type 0} (p : Period A) (past : List (Period A)) (s e n : ℕ) → latest_start (p ∷ past) ≡ Some n → e ≤ n →
+    sent_of s e (made_frames (p ∷ past)) ≡ sent_of s e (made_frames past)
+sent_kept p past s e n l m =
+    grown_sent p past (grown p past (made_frames past)) s e (λ h q. late (grown p past (made_frames past)) h q)
+    ∙ grown_sent p past (made_frames past) s e (λ h q. late (made_frames past) h q)
   where
-    late : (fs : List (MadeFrame _)) (h : ℕ) → due (p ∷ past) fs ≡ Some h → e ≤ h
+    late : (fs : List (MadeFrame _)) (h : ℕ) → handed_due (p ∷ past) fs ≡ Some h → e ≤ h
     late fs h q = let d = due_parts (p ∷ past) fs h q in let w : d.0 ≡ n = (let a = d.1 in cc) in let b = d.2 in omega arith
-
--- ---- each handed frame is carried once
-
--- what these frames carry was handed over before period b
-abbrev CarryBelow : {A : Type 0} → ℕ → List (MadeFrame A) → Type 0
-CarryBelow b fs = AllByRecursion (λ f. (h : ℕ) → f.carries ≡ Some h → h < b) fs
-
--- a later frame carries what was handed over later
-abbrev Follow : {A : Type 0} → List (MadeFrame A) → Type 0
-Follow [] = Unit {0}
-Follow (f ∷ fs) = ((h : ℕ) → f.carries ≡ Some h → CarryBelow h fs) × Follow fs
-
-below_more : {A : Type 0} (b c : ℕ) (fs : List (MadeFrame A)) → b ≤ c → CarryBelow b fs → CarryBelow c fs
-below_more b c fs l k = each_weaker (λ f. (h : ℕ) → f.carries ≡ Some h → h < b) (λ f. (h : ℕ) → f.carries ≡ Some h → h < c) fs (λ f k h e. let m = k h e in omega arith) k
-
--- as many as periods are left before it, at most
-sent_below : {A : Type 0} (s e b : ℕ) (fs : List (MadeFrame A)) → Follow fs → CarryBelow b fs → sent_of s e fs ≤ min b e - s
-sent_below s e b [] h k = omega arith
-sent_below s e b (f ∷ fs) h k = by f.carries (h.0) (k.0) (sent_below s e b fs h.1 k.1) (λ c below. sent_below s e c fs h.1 below)
-  where
-    by : (o : Option ℕ) → ((h : ℕ) → o ≡ Some h → CarryBelow h fs) → ((h : ℕ) → o ≡ Some h → h < b) → sent_of s e fs ≤ min b e - s → ((c : ℕ) → CarryBelow c fs → sent_of s e fs ≤ min c e - s) →
-        length (if carries_in s e o then f ∷ filter (λ f. carries_in s e f.carries) fs else filter (λ f. carries_in s e f.carries) fs) ≤ min b e - s
-    by None above below rest at = rest
-    by (Some h) above below rest at = go (nat_le s h) (nat_lt h e) refl refl
-      where
-        go : (p q : Bool) → nat_le s h ≡ p → nat_lt h e ≡ q → length (if p && q then f ∷ filter (λ f. carries_in s e f.carries) fs else filter (λ f. carries_in s e f.carries) fs) ≤ min b e - s
-        go true true x y =
-            let l = leb-true s h x in
-            let m = ltb-true h e y in
-            let n = below h refl in
-            let k = at h (above h refl) in
-            omega arith
-        go true false x y = rest
-        go false q x y = rest
-
--- the frames so far carry what was handed over before the one that is next
-record IsBehind {A : Type 0} (ps : List (Period A)) (fs : List (MadeFrame A)) : Type 0 where
-  follow : Follow fs
-  behind : (s : ℕ) → latest_start ps ≡ Some s → CarryBelow (s + made_from s fs) fs
-
-due_is : {A : Type 0} (ps : List (Period A)) (fs : List (MadeFrame A)) (s h : ℕ) → latest_start ps ≡ Some s → due ps fs ≡ Some h → h ≡ s + made_from s fs
-due_is ps fs s h e d = elim (cases_Bool (bridged_at (s + made_from s fs) ps)) [
-  | inl b ↦ let g = due-some ps fs s e b in cc
-  | inr b ↦ absurd (let g = due-none ps fs s e b in cc)
-]
-
-grown_behind : {A : Type 0} (p : Period A) (past : List (Period A)) (fs : List (MadeFrame A)) → IsBehind (p ∷ past) fs → IsBehind (p ∷ past) (grown p past fs)
-grown_behind p past fs k =
-    cond_both (nat_le (next_start fs) (160 * length past)) (next_frame p past fs ∷ fs) fs (IsBehind (p ∷ past))
-    (λ y. record {
-      follow = (λ h e. let d = due_parts (p ∷ past) fs h e in subst (λ (h : ℕ). CarryBelow h fs) (sym (due_is (p ∷ past) fs d.0 h d.1 e)) (k.behind d.0 d.1), k.follow);
-      behind = λ s e.
-          let low : s ≤ length past = (let l = latest_start-below (p ∷ past) s e in omega arith) in
-          let more = made_from-next p past fs s low in
-          (λ h d. let q = due_is (p ∷ past) fs s h e d in omega arith, below_more (s + made_from s fs) (s + made_from s (next_frame p past fs ∷ fs)) fs (omega arith) (k.behind s e));
-    })
-    (λ n. k)
-
-period_behind : {A : Type 0} (p : Period A) (past : List (Period A)) (fs : List (MadeFrame A)) → AreCarried past fs → IsBehind past fs → IsBehind (p ∷ past) fs
-period_behind p past fs c k = record { follow = k.follow; behind = by p.starts refl }
-  where
-    by : (b : Bool) → p.starts ≡ b → (s : ℕ) → latest_start (p ∷ past) ≡ Some s → CarryBelow (s + made_from s fs) fs
-    by true e s l =
-        let q : length past ≡ s = (let m = ap (λ (b : Bool). if b then Some (length past) else latest_start past) e in cc) in
-        below_more (length past) (s + made_from s fs) fs (omega arith) (each_weaker (λ f. (h : ℕ) → f.carries ≡ Some h → Carries past f.epoch h) (λ f. (h : ℕ) → f.carries ≡ Some h → h < length past) fs
-        (λ f g h d. (g h d).inside) c)
-    by false e s l = k.behind s (sym (ap (λ (b : Bool). if b then Some (length past) else latest_start past) e) ∙ l)
-
-made_behind : {A : Type 0} (ps : List (Period A)) → IsBehind ps (made_frames ps)
-made_behind [] = record { follow = tt; behind = λ s e. tt }
-made_behind (p ∷ past) = grown_behind p past (grown p past (made_frames past)) (grown_behind p past (made_frames past) (period_behind p past (made_frames past) (made_carried past) (made_behind past)))
-
--- **No more frames are sent of a span than it has periods.**
-pub sent_few : {A : Type 0} (s e : ℕ) (ps : List (Period A)) → sent_of s e (made_frames ps) ≤ e - s
-sent_few s e ps =
-    let m = sent_below s e (length ps) (made_frames ps) (made_behind ps).follow
-    (each_weaker (λ f. (h : ℕ) → f.carries ≡ Some h → Carries ps f.epoch h) (λ f. (h : ℕ) → f.carries ≡ Some h → h < length ps) (made_frames ps) (λ f g h d. (g h d).inside) (made_carried ps)) in
-    omega arith

@@ -1,9 +1,18 @@
 -- Lists, element by element.
-use Rattle.std.proofs.Common.{◌≡◌, refl, sym, ap, ◌∙◌, Bool, true, false, Option, Some, None, List, [], ◌∷◌, ◌++◌, map, inl, inr}
+use Rattle.std.proofs.Common.{◌≡◌, refl, sym, ap, ◌∙◌, ℕ, Bool, true, false, Option, Some, None, List, [], ◌∷◌, ◌++◌, map, inl, inr}
 use Rattle.std.specs.Prelude.{◌&&◌, ◌||◌, if◌then◌else◌, find, option_map, filter}
 use Rattle.std.specs.List.{list_any, AllByRecursion}
 use Rattle.std.proofs.lemmas.Bool.{cases_Bool}
 
+-- an answer has one value
+pub one_value : (v : Option ℕ) (a b : ℕ) → v ≡ Some a → v ≡ Some b → a ≡ b
+one_value v a b e f = cc
+
+-- a test has one answer
+pub no : (t : Bool) → t ≡ false → t ≡ true → ⊥
+no t p q = cc
+
+-- two tests, one after the other
 both : (t : Bool) → t ≡ false → t ≡ true → ⊥
 both t p q = cc
 
@@ -40,7 +49,8 @@ pub each_passes : {X : Type 0} (p : X → Bool) (xs : List X) → AllByRecursion
 each_passes p [] = tt
 each_passes p (x ∷ xs) = by p x (filter p xs) (p x) refl (each_passes p xs)
   where
-    by : {X : Type 0} (p : X → Bool) (x : X) (xs : List X) (t : Bool) → p x ≡ t → AllByRecursion (λ x. p x ≡ true) xs → AllByRecursion (λ x. p x ≡ true) (if t then x ∷ xs else xs)
+    by : {X : Type 0} (p : X → Bool) (x : X) (xs : List X) (t : Bool) → p x ≡ t → AllByRecursion (λ x. p x ≡ true) xs →
+        AllByRecursion (λ x. p x ≡ true) (if t then x ∷ xs else xs)
     by p x xs true h k = (h, k)
     by p x xs false h k = k
 
@@ -58,6 +68,7 @@ each_all P (x ∷ xs) f = (f x, each_all P xs f)
 
 -- ---- the first that passes
 
+-- one step of it
 found_same : {X : Type 0} (s t : Bool) (x : X) (o p : Option X) → s ≡ t → o ≡ p → (if s then Some x else o) ≡ (if t then Some x else p)
 found_same s t x o p e f = cc
 
@@ -81,7 +92,8 @@ pub find_map : {X Y : Type 0} (p : X → Bool) (f : Y → X) (ys : List Y) → f
 find_map p f [] = refl
 find_map p f (y ∷ ys) = by f y (p (f y)) (find p (map f ys)) (find (λ y. p (f y)) ys) (find_map p f ys)
   where
-    by : {X Y : Type 0} (f : Y → X) (y : Y) (t : Bool) (o : Option X) (u : Option Y) → o ≡ option_map f u → (if t then Some (f y) else o) ≡ option_map f (if t then Some y else u)
+    by : {X Y : Type 0} (f : Y → X) (y : Y) (t : Bool) (o : Option X) (u : Option Y) → o ≡ option_map f u →
+        (if t then Some (f y) else o) ≡ option_map f (if t then Some y else u)
     by f y true o u e = refl
     by f y false o u e = e
 
@@ -133,6 +145,7 @@ none_any p (x ∷ xs) e = let h = by (p x) (list_any p xs) e in (h.0, none_any p
 
 -- ---- at most one passes
 
+-- at most one of them passes the test
 abbrev pub AtMostOne : {X : Type 0} → (X → Bool) → List X → Type 0
 AtMostOne p [] = Unit {0}
 AtMostOne p (x ∷ xs) = (p x ≡ true → find p xs ≡ None) × AtMostOne p xs
@@ -140,6 +153,7 @@ AtMostOne p (x ∷ xs) = (p x ≡ true → find p xs ≡ None) × AtMostOne p xs
 some_none : {X : Type 0} (t : Bool) (x : X) (o : Option X) → t ≡ true → (if t then Some x else o) ≡ None → ⊥
 some_none t x o e f = cc
 
+-- one more that passes where none did
 pub one_append : {X : Type 0} (p : X → Bool) (xs : List X) (y : X) → AtMostOne p xs → (p y ≡ true → find p xs ≡ None) → AtMostOne p (xs ++ y ∷ [])
 one_append p [] y h k = (λ e. refl, tt)
 one_append p (x ∷ xs) y h k = (
@@ -151,7 +165,9 @@ one_append p (x ∷ xs) y h k = (
     rest true x o e = cc
     rest false x o e = e
 
-pub one_weaker : {X Y : Type 0} (p : X → Bool) (q : Y → Bool) (f : X → Y) (xs : List X) → AllByRecursion (λ x. q (f x) ≡ true → p x ≡ true) xs → AtMostOne p xs → AtMostOne q (map f xs)
+-- a test that fewer pass
+pub one_weaker : {X Y : Type 0} (p : X → Bool) (q : Y → Bool) (f : X → Y) (xs : List X) → AllByRecursion (λ x. q (f x) ≡ true → p x ≡ true) xs →
+    AtMostOne p xs → AtMostOne q (map f xs)
 one_weaker p q f [] k h = tt
 one_weaker p q f (x ∷ xs) k h = (λ e. none_weaker p q f xs k.1 (h.0 (k.0 e)), one_weaker p q f xs k.1 h.1)
   where
@@ -159,10 +175,13 @@ one_weaker p q f (x ∷ xs) k h = (λ e. none_weaker p q f xs k.1 (h.0 (k.0 e)),
     no true t k e = let u = k refl in cc
     no false t k e = refl
 
-    none_weaker : {X Y : Type 0} (p : X → Bool) (q : Y → Bool) (f : X → Y) (xs : List X) → AllByRecursion (λ x. q (f x) ≡ true → p x ≡ true) xs → find p xs ≡ None → find q (map f xs) ≡ None
+    none_weaker : {X Y : Type 0} (p : X → Bool) (q : Y → Bool) (f : X → Y) (xs : List X) → AllByRecursion (λ x. q (f x) ≡ true → p x ≡ true) xs →
+        find p xs ≡ None → find q (map f xs) ≡ None
     none_weaker p q f xs k e = find_none q (map f xs) (each_map (λ y. q y ≡ false) f xs
-        (each_weaker (λ x. (q (f x) ≡ true → p x ≡ true) × (p x ≡ false)) (λ x. q (f x) ≡ false) xs (λ x h. no (q (f x)) (p x) h.0 h.1) (each_both _ _ xs k (none_each p xs e))))
+        (each_weaker (λ x. (q (f x) ≡ true → p x ≡ true) × (p x ≡ false)) (λ x. q (f x) ≡ false) xs (λ x h. no (q (f x)) (p x) h.0 h.1)
+        (each_both _ _ xs k (none_each p xs e))))
 
+-- all that pass are the one that is found
 pub one_found : {X : Type 0} (p : X → Bool) (xs : List X) (x : X) → AtMostOne p xs → find p xs ≡ Some x → AllByRecursion (λ y. p y ≡ true → y ≡ x) xs
 one_found p [] x h e = tt
 one_found p (y ∷ xs) x h e = elim (cases_Bool (p y)) [
@@ -185,13 +204,15 @@ pub find_and : {X : Type 0} (p q : X → Bool) (xs : List X) → AtMostOne p xs 
 find_and p q [] h = refl
 find_and p q (x ∷ xs) h = by p q x xs (p x) h.0 (find_and p q xs h.1) refl
   where
-    none : {X : Type 0} (p q : X → Bool) (x : X) (xs : List X) (t : Bool) → find p xs ≡ None → find (λ x. p x && q x) xs ≡ elim (find p xs) [ None ↦ None | Some x ↦ if q x then Some x else None ] →
+    none : {X : Type 0} (p q : X → Bool) (x : X) (xs : List X) (t : Bool) → find p xs ≡ None →
+        find (λ x. p x && q x) xs ≡ elim (find p xs) [ None ↦ None | Some x ↦ if q x then Some x else None ] →
         (if t then Some x else find (λ x. p x && q x) xs) ≡ (if t then Some x else None)
     none p q x xs true e f = refl
     none p q x xs false e f = f ∙ ap (λ (o : Option _). elim o [ None ↦ None | Some x ↦ if q x then Some x else None ]) e
 
     by : {X : Type 0} (p q : X → Bool) (x : X) (xs : List X) (t : Bool) → (p x ≡ true → find p xs ≡ None) →
         find (λ x. p x && q x) xs ≡ elim (find p xs) [ None ↦ None | Some x ↦ if q x then Some x else None ] → p x ≡ t →
-        (if t && q x then Some x else find (λ x. p x && q x) xs) ≡ elim (if t then Some x else find p xs) [ None ↦ None | Some x ↦ if q x then Some x else None ]
+        (if t && q x then Some x else find (λ x. p x && q x) xs)
+        ≡ elim (if t then Some x else find p xs) [ None ↦ None | Some x ↦ if q x then Some x else None ]
     by p q x xs true h f e = none p q x xs (q x) (h e) f
     by p q x xs false h f e = f

@@ -17,23 +17,21 @@ use Rattle.switchboard.specs.Replies.{known_of}
 use Rattle.switchboard.proofs.Appending.{or_else, after, bridges-more}
 use Rattle.switchboard.proofs.Steps.{after_kept}
 use Rattle.run_spec.specs.Run.{level_by, mode_by, level_after, mode_after}
-use Rattle.run_spec.proofs.Lists.{each_weaker, find_same, find_map, find_none, find_front, any_map}
+use Rattle.run_spec.proofs.Lists.{each_weaker, find_same, find_map, find_none, find_front, any_map, no}
 use Rattle.run_spec.proofs.Executing.{AreReplies, opened-append, closed-append}
-use Rattle.run_spec.proofs.Showing.{ShownBy, shown}
-use Rattle.run_spec.proofs.Standing.{IsSoundBridge, Standing, open_facts, gone_kept, opened_kept, after_none, lasts_parts, lasts_from}
-
-abbrev done : Order → Result Act Refusal → Done
-done o r = record { order = o; result = r }
-
-no : (t : Bool) → t ≡ false → t ≡ true → ⊥
-no t p q = cc
+use Rattle.run_spec.proofs.Showing.{ShownBy, shown, done}
+use Rattle.run_spec.proofs.Standing.{IsSoundBridge, Standing, lasts_parts, lasts_from}
+use Rattle.run_spec.proofs.OpenCalls.{open_facts, gone_kept, opened_kept}
+use Rattle.run_spec.proofs.NewOrder.{after_none}
 
 -- ---- levels and modes
 
+-- one more order sets the level last
 pub level-more : (c : ℕ) (v : ℤ) (ds : List Done) (d : Done) → level_after c v (ds ++ d ∷ []) ≡ level_by c d.result (level_after c v ds)
 level-more c v [] d = refl
 level-more c v (e ∷ ds) d = level-more c (level_by c e.result v) ds d
 
+-- and the mode
 pub mode-more : (c : ℕ) (m : DtxMode) (ds : List Done) (d : Done) → mode_after c m (ds ++ d ∷ []) ≡ mode_by c d.result (mode_after c m ds)
 mode-more c m [] d = refl
 mode-more c m (e ∷ ds) d = mode-more c (mode_by c e.result m) ds d
@@ -45,7 +43,8 @@ never c d o s e = cc
 not_this : (c d : ℕ) (gone : ℕ → Bool) (ds : List Done) → opened_at c ds ≡ None → is_open gone ds d ≡ true → (c == d) ≡ false
 not_this c d gone ds n e = ne_eqb c d (λ q. let f = open_facts gone ds d e in let g : opened_at c ds ≡ Some f.0 = ap (λ c. opened_at c ds) q ∙ f.1 in cc)
 
-unset_by : (c : ℕ) (gone : ℕ → Bool) (t : ℕ) (ds : List Done) (r : Result Act Refusal) (v : ℤ) (m : DtxMode) → opened_at c ds ≡ None → ShownBy (known_of gone t ds) r → (level_by c r v ≡ v) × (mode_by c r m ≡ m)
+unset_by : (c : ℕ) (gone : ℕ → Bool) (t : ℕ) (ds : List Done) (r : Result Act Refusal) (v : ℤ) (m : DtxMode) → opened_at c ds ≡ None →
+    ShownBy (known_of gone t ds) r → (level_by c r v ≡ v) × (mode_by c r m ≡ m)
 unset_by c gone t ds (Ok (act.LevelSet d level)) v m n h = (ap (λ (t : Bool). if t then level else v) (not_this c d gone ds n h), refl)
 unset_by c gone t ds (Ok (act.DtxSet d mode)) v m n h = (refl, ap (λ (t : Bool). if t then mode else m) (not_this c d gone ds n h))
 unset_by c gone t ds (Ok (act.Opened d law)) v m n h = (refl, refl)
@@ -58,23 +57,30 @@ first_none : (u v : Option ℕ) → or_else u v ≡ None → u ≡ None
 first_none None v e = refl
 first_none (Some x) v e = cc
 
-pub unset : (whole : ℕ → ℕ) (c : ℕ) (ds later : List Done) (v : ℤ) (m : DtxMode) → AreReplies whole ds later → opened_at c (ds ++ later) ≡ None → (level_after c v later ≡ v) × (mode_after c m later ≡ m)
+-- orders before the opening set nothing
+pub unset : (whole : ℕ → ℕ) (c : ℕ) (ds later : List Done) (v : ℤ) (m : DtxMode) → AreReplies whole ds later → opened_at c (ds ++ later) ≡ None →
+    (level_after c v later ≡ v) × (mode_after c m later ≡ m)
 unset whole c ds [] v m h n = (refl, refl)
 unset whole c ds (d ∷ later) v m h n =
     let gone = gone_at whole d.order.stamp ds in
     let before : opened_at c ds ≡ None = first_none _ _ (sym (opened-append c ds (d ∷ later)) ∙ n) in
-    let k = unset_by c gone d.order.stamp ds d.result v m before (subst (ShownBy (known_of gone d.order.stamp ds)) (sym h.0) (shown (known_of gone d.order.stamp ds) d.order.what)) in
+    let k =
+    unset_by c gone d.order.stamp ds d.result v m before
+    (subst (ShownBy (known_of gone d.order.stamp ds)) (sym h.0) (shown (known_of gone d.order.stamp ds) d.order.what)) in
     let rest = unset whole c (ds ++ d ∷ []) later v m h.1 (ap (opened_at c) (append_assoc ds (d ∷ []) later) ∙ n) in
     (ap (λ v. level_after c v later) k.0 ∙ rest.0, ap (λ m. mode_after c m later) k.1 ∙ rest.1)
 
 -- ---- where a bridge starts
 
+-- one more order may make a bridge that starts
 pub starts-more : (c t : ℕ) (ds : List Done) (d : Done) →
-    list_any (λ x. joins c x && x.from == t) (bridges (ds ++ d ∷ [])) ≡ (list_any (λ x. joins c x && x.from == t) (bridges ds) || list_any (λ x. joins c x && x.from == t) (bridge_by d.order.stamp d.result []))
+    list_any (λ x. joins c x && x.from == t) (bridges (ds ++ d ∷ []))
+    ≡ (list_any (λ x. joins c x && x.from == t) (bridges ds) || list_any (λ x. joins c x && x.from == t) (bridge_by d.order.stamp d.result []))
 starts-more c t ds d =
     ap (list_any (λ x. joins c x && x.from == t)) (bridges-more ds d)
     ∙ list_any-append (λ x. joins c x && x.from == t) (map (after d) (bridges ds)) (bridge_by d.order.stamp d.result [])
-    ∙ ap (λ s. s || list_any (λ x. joins c x && x.from == t) (bridge_by d.order.stamp d.result [])) (any_map (λ x. joins c x && x.from == t) (after d) (bridges ds))
+    ∙ ap (λ s. s || list_any (λ x. joins c x && x.from == t) (bridge_by d.order.stamp d.result []))
+    (any_map (λ x. joins c x && x.from == t) (after d) (bridges ds))
 
 -- ---- which bridges last
 
@@ -82,6 +88,7 @@ starts-more c t ds d =
 abbrev pub lasts_more : (ℕ → ℕ) → ℕ → List Done → Done → Bridge → Bool
 lasts_more whole t ds d x = lasts (gone_at whole t (ds ++ d ∷ [])) (ds ++ d ∷ []) (after d x)
 
+-- one more order that neither opens nor closes the call
 pub open_more : (whole : ℕ → ℕ) (t : ℕ) (ds : List Done) (d : Done) (c s : ℕ) → opened_at c ds ≡ Some s →
     is_open (gone_at whole t (ds ++ d ∷ [])) (ds ++ d ∷ []) c ≡ (is_open (gone_at whole t ds) ds c && is_none (closed_at c (d ∷ [])))
 open_more whole t ds d c s o =
@@ -113,12 +120,16 @@ lasted whole t u ds d x y e =
     none (Some s) e = cc
 
 -- an order that ends neither it nor a call of it leaves a bridge as it was
-pub lasts_same : (whole : ℕ → ℕ) (t u : ℕ) (ds : List Done) (d : Done) (x : Bridge) → IsSoundBridge whole u ds x → ends_bridge x.a x.b d.result ≡ false → closed_at x.a (d ∷ []) ≡ None → closed_at x.b (d ∷ []) ≡ None →
+pub lasts_same : (whole : ℕ → ℕ) (t u : ℕ) (ds : List Done) (d : Done) (x : Bridge) → IsSoundBridge whole u ds x → ends_bridge x.a x.b d.result ≡ false →
+    closed_at x.a (d ∷ []) ≡ None → closed_at x.b (d ∷ []) ≡ None →
     lasts_more whole t ds d x ≡ lasts (gone_at whole t ds) ds x
 lasts_same whole t u ds d x y e a b =
-    ap (λ (z : Bridge). is_none z.ended && is_open (gone_at whole t (ds ++ d ∷ [])) (ds ++ d ∷ []) x.a && is_open (gone_at whole t (ds ++ d ∷ [])) (ds ++ d ∷ []) x.b) (after_kept d x e)
-    ∙ ap (λ s. is_none x.ended && s && is_open (gone_at whole t (ds ++ d ∷ [])) (ds ++ d ∷ []) x.b) (open_more whole t ds d x.a y.start_a y.opened_a ∙ ap (λ o. is_open (gone_at whole t ds) ds x.a && is_none o) a ∙ last _)
-    ∙ ap (λ s. is_none x.ended && is_open (gone_at whole t ds) ds x.a && s) (open_more whole t ds d x.b y.start_b y.opened_b ∙ ap (λ o. is_open (gone_at whole t ds) ds x.b && is_none o) b ∙ last _)
+    ap (λ (z : Bridge). is_none z.ended && is_open (gone_at whole t (ds ++ d ∷ [])) (ds ++ d ∷ []) x.a && is_open (gone_at whole t (ds ++ d ∷ []))
+    (ds ++ d ∷ []) x.b) (after_kept d x e)
+    ∙ ap (λ s. is_none x.ended && s && is_open (gone_at whole t (ds ++ d ∷ [])) (ds ++ d ∷ []) x.b)
+    (open_more whole t ds d x.a y.start_a y.opened_a ∙ ap (λ o. is_open (gone_at whole t ds) ds x.a && is_none o) a ∙ last _)
+    ∙ ap (λ s. is_none x.ended && is_open (gone_at whole t ds) ds x.a && s)
+    (open_more whole t ds d x.b y.start_b y.opened_b ∙ ap (λ o. is_open (gone_at whole t ds) ds x.b && is_none o) b ∙ last _)
   where
     last : (b : Bool) → (b && true) ≡ b
     last true = refl
@@ -138,20 +149,26 @@ bridged_old : (whole : ℕ → ℕ) (t : ℕ) (ds : List Done) (d : Done) (c : �
 bridged_old whole t ds d c h =
     let test = λ (x : Bridge). joins c x && lasts (gone_at whole t (ds ++ d ∷ [])) (ds ++ d ∷ []) x in
     ap (λ xs. is_some (find (λ (x : Bridge). joins c x && lasts (gone_at whole t (ds ++ d ∷ [])) (ds ++ d ∷ []) x) xs)) (bridges-more ds d)
-    ∙ ap is_some (find_front test (map (after d) (bridges ds)) (bridge_by d.order.stamp d.result []) (each_weaker _ _ (bridge_by d.order.stamp d.result []) (λ x e. ap (λ s. s && lasts (gone_at whole t (ds ++ d ∷ [])) (ds ++ d ∷ []) x) e) h)
+    ∙ ap is_some
+    (find_front test (map (after d) (bridges ds)) (bridge_by d.order.stamp d.result [])
+    (each_weaker _ _ (bridge_by d.order.stamp d.result []) (λ x e. ap (λ s. s && lasts (gone_at whole t (ds ++ d ∷ [])) (ds ++ d ∷ []) x) e) h)
     ∙ find_map test (after d) (bridges ds))
     ∙ some_mapped (after d) _
 
+-- an order that leaves its bridges leaves it bridged
 pub bridged_kept : (whole : ℕ → ℕ) (t : ℕ) (ds : List Done) (d : Done) (c : ℕ) → AllByRecursion (λ x. joins c x ≡ false) (bridge_by d.order.stamp d.result []) →
-    AllByRecursion (λ x. (joins c x && lasts_more whole t ds d x) ≡ (joins c x && lasts (gone_at whole t ds) ds x)) (bridges ds) → bridged_more whole t ds d c ≡ is_some (bridge_of (gone_at whole t ds) ds c)
+    AllByRecursion (λ x. (joins c x && lasts_more whole t ds d x) ≡ (joins c x && lasts (gone_at whole t ds) ds x)) (bridges ds) →
+    bridged_more whole t ds d c ≡ is_some (bridge_of (gone_at whole t ds) ds c)
 bridged_kept whole t ds d c h k = bridged_old whole t ds d c h ∙ ap is_some (find_same _ _ (bridges ds) k)
 
+-- one that ends them takes it off
 pub bridged_off : (whole : ℕ → ℕ) (t : ℕ) (ds : List Done) (d : Done) (c : ℕ) → AllByRecursion (λ x. joins c x ≡ false) (bridge_by d.order.stamp d.result []) →
     AllByRecursion (λ x. (joins c x && lasts_more whole t ds d x) ≡ false) (bridges ds) → bridged_more whole t ds d c ≡ false
 bridged_off whole t ds d c h k = bridged_old whole t ds d c h ∙ ap is_some (find_none _ (bridges ds) k)
 
 -- an act that ends nothing
-pub bridged_quiet : (whole : ℕ → ℕ) (t u : ℕ) (ds : List Done) (d : Done) (c : ℕ) → Standing whole u ds → ((a b : ℕ) → ends_bridge a b d.result ≡ false) → ((q : ℕ) → closed_at q (d ∷ []) ≡ None) →
+pub bridged_quiet : (whole : ℕ → ℕ) (t u : ℕ) (ds : List Done) (d : Done) (c : ℕ) → Standing whole u ds → ((a b : ℕ) → ends_bridge a b d.result ≡ false) →
+    ((q : ℕ) → closed_at q (d ∷ []) ≡ None) →
     AllByRecursion (λ x. joins c x ≡ false) (bridge_by d.order.stamp d.result []) → bridged_more whole t ds d c ≡ is_some (bridge_of (gone_at whole t ds) ds c)
 bridged_quiet whole t u ds d c s e q h = bridged_kept whole t ds d c h (each_weaker (IsSoundBridge whole u ds) _ (bridges ds)
     (λ x y. ap (λ l. joins c x && l) (lasts_same whole t u ds d x y (e x.a x.b) (q x.a) (q x.b))) s.sound)

@@ -18,7 +18,8 @@ use Rattle.run_spec.specs.Run.{Run, whole_in, given_in, done_in, spans_in, level
 use Rattle.run_spec.specs.Now.{IsSoFar, NoOrderTo, bridge_now, handed_now, period_now}
 use Rattle.run_spec.proofs.Lists.{each_weaker, found}
 use Rattle.run_spec.proofs.Executing.{after_all}
-use Rattle.run_spec.proofs.Standing.{IsSoundBridge, opened_kept}
+use Rattle.run_spec.proofs.Standing.{IsSoundBridge}
+use Rattle.run_spec.proofs.OpenCalls.{opened_kept}
 use Rattle.run_spec.proofs.Settling.{start_is, covers, joined_now, span_settled, starts_settled}
 use Rattle.run_spec.proofs.SoFar.{rest_in, done-rest, rest_above, standing_now, standing_rest}
 
@@ -26,15 +27,18 @@ use Rattle.run_spec.proofs.SoFar.{rest_in, done-rest, rest_above, standing_now, 
 
 front_passes : (u : ℕ) (ds : List Done) → AllByRecursion (λ d. d.order.stamp ≤ u) ds → done_to u ds ≡ ds
 front_passes u [] h = refl
-front_passes u (d ∷ ds) h = ap (λ (t : Bool). if t then d ∷ done_to u ds else done_to u ds) (le-leb d.order.stamp u h.0) ∙ ap (λ xs. d ∷ xs) (front_passes u ds h.1)
+front_passes u (d ∷ ds) h =
+    ap (λ (t : Bool). if t then d ∷ done_to u ds else done_to u ds) (le-leb d.order.stamp u h.0) ∙ ap (λ xs. d ∷ xs) (front_passes u ds h.1)
 
 none_passes : (u : ℕ) (ds : List Done) → AllByRecursion (λ d. u < d.order.stamp) ds → done_to u ds ≡ []
 none_passes u [] h = refl
 none_passes u (d ∷ ds) h = ap (λ (t : Bool). if t then d ∷ done_to u ds else done_to u ds) (lt-leb d.order.stamp u h.0) ∙ none_passes u ds h.1
 
-done_to-settled : (u : ℕ) (ds later : List Done) → AllByRecursion (λ d. d.order.stamp ≤ u) ds → AllByRecursion (λ d. u < d.order.stamp) later → done_to u (ds ++ later) ≡ ds
+done_to-settled : (u : ℕ) (ds later : List Done) → AllByRecursion (λ d. d.order.stamp ≤ u) ds → AllByRecursion (λ d. u < d.order.stamp) later →
+    done_to u (ds ++ later) ≡ ds
 done_to-settled u ds later h k =
-    filter-append (λ d. nat_le d.order.stamp u) ds later ∙ ap (λ xs. done_to u ds ++ xs) (none_passes u later k) ∙ append-nil (done_to u ds) ∙ front_passes u ds h
+    filter-append (λ d. nat_le d.order.stamp u) ds later ∙ ap (λ xs. done_to u ds ++ xs) (none_passes u later k) ∙ append-nil (done_to u ds)
+    ∙ front_passes u ds h
 
 -- ---- what is handed over
 
@@ -47,22 +51,27 @@ handed_by r ds u c = option_map (item_from r ds u c) (find (covers c u) (spans_o
 start_kept : (ds later : List Done) (c s : ℕ) → opened_at c ds ≡ Some s → start_of (ds ++ later) c ≡ start_of ds c
 start_kept ds later c s e = start_is (ds ++ later) c s (opened_kept ds later c s e) ∙ sym (start_is ds c s e)
 
-other_start : (whole : ℕ → ℕ) (t : ℕ) (ds later : List Done) (c : ℕ) (x : Bridge) → IsSoundBridge whole t ds x → start_of (ds ++ later) (other c x) ≡ start_of ds (other c x)
+other_start : (whole : ℕ → ℕ) (t : ℕ) (ds later : List Done) (c : ℕ) (x : Bridge) → IsSoundBridge whole t ds x →
+    start_of (ds ++ later) (other c x) ≡ start_of ds (other c x)
 other_start whole t ds later c x y = by (c == x.a)
   where
     by : (t : Bool) → start_of (ds ++ later) (if t then x.b else x.a) ≡ start_of ds (if t then x.b else x.a)
     by true = start_kept ds later x.b y.start_b y.opened_b
     by false = start_kept ds later x.a y.start_a y.opened_a
 
-pub handed_settled : (r : Run) (t u : ℕ) (ds : List Done) (left : List Order) (c : ℕ) → IsSoFar r t ds left → t ≤ u → u < r.periods → NoOrderTo u left → handed_to r c u ≡ handed_now r ds u c
+-- what is handed over is settled
+pub handed_settled : (r : Run) (t u : ℕ) (ds : List Done) (left : List Order) (c : ℕ) → IsSoFar r t ds left → t ≤ u → u < r.periods → NoOrderTo u left →
+    handed_to r c u ≡ handed_now r ds u c
 handed_settled r t u ds left c s tu up n =
     ap (λ ds. handed_by r ds u c) (done-rest r t ds left s)
     ∙ ap (option_map (item_from r (ds ++ rest_in r ds left) u c))
-    (span_settled (given_in r) r.periods t u ds (rest_in r ds left) c (standing_now r t ds left s) tu (standing_rest r t ds left s) up (rest_above r t u ds left s n))
+    (span_settled (given_in r) r.periods t u ds (rest_in r ds left) c (standing_now r t ds left s) tu (standing_rest r t ds left s) up
+    (rest_above r t u ds left s n))
     ∙ by (bridge_now r ds u c) refl
   where
     by : (o : Option Bridge) → bridge_now r ds u c ≡ o →
-        option_map (item_from r (ds ++ rest_in r ds left) u c) (option_map (λ x. span_of (given_in r) r.periods (ds ++ rest_in r ds left) (after_all (rest_in r ds left) x)) o)
+        option_map (item_from r (ds ++ rest_in r ds left) u c)
+        (option_map (λ x. span_of (given_in r) r.periods (ds ++ rest_in r ds left) (after_all (rest_in r ds left) x)) o)
         ≡ option_map (λ x. let d = other c x in item_of d (ups_to r d (u + 1 - start_of ds d))) o
     by None e = refl
     by (Some x) e =
@@ -71,13 +80,16 @@ handed_settled r t u ds left c s tu up n =
 
 -- ---- the period
 
+-- periods are the same by their parts
 pub same_period : (up up' pcm pcm' : List ℕ) (level level' : ℤ) (mode mode' : DtxMode) (starts starts' : Bool) (handed handed' : Option (List ℕ)) →
     up ≡ up' → pcm ≡ pcm' → level ≡ level' → mode ≡ mode' → starts ≡ starts' → handed ≡ handed' →
-    ◌≡◌ {A = CallPeriod} (record { up = up; pcm = pcm; level = level; mode = mode; starts = starts; handed = handed }) (record { up = up'; pcm = pcm'; level = level'; mode = mode'; starts = starts'; handed = handed' })
+    ◌≡◌ {A = CallPeriod} (record { up = up; pcm = pcm; level = level; mode = mode; starts = starts; handed = handed })
+    (record { up = up'; pcm = pcm'; level = level'; mode = mode'; starts = starts'; handed = handed' })
 same_period up up' pcm pcm' level level' mode mode' starts starts' handed handed' a b c d e f = cc
 
 -- **A period of an open call, once its orders were executed, is settled.**
-pub period_settled : (r : Run) (t u : ℕ) (ds : List Done) (left : List Order) (c s : ℕ) → IsSoFar r t ds left → t ≤ u → u < r.periods → NoOrderTo u left → opened_at c ds ≡ Some s →
+pub period_settled : (r : Run) (t u : ℕ) (ds : List Done) (left : List Order) (c s : ℕ) → IsSoFar r t ds left → t ≤ u → u < r.periods → NoOrderTo u left →
+    opened_at c ds ≡ Some s →
     period_of r c (u - s) ≡ period_now r ds u c
 unfolding period_of
 period_settled r t u ds left c s so tu up n o =
@@ -87,9 +99,11 @@ period_settled r t u ds left c s so tu up n o =
     let begun : s ≤ t = stand.opened c s o in
     let from : start_of (done_in r) c ≡ s = ap (λ ds. start_of ds c) e ∙ start_is (ds ++ later) c s (opened_kept ds later c s o) in
     let at : start_of (done_in r) c + (u - s) ≡ u = omega (arith, from) in
-    let past : AllByRecursion (λ d. d.order.stamp ≤ u) ds = each_weaker (λ d. d.order.stamp ≤ t) (λ d. d.order.stamp ≤ u) ds (λ d h. omega arith) (recursion_from_All _ ds so.past) in
+    let past : AllByRecursion (λ d. d.order.stamp ≤ u) ds =
+    each_weaker (λ d. d.order.stamp ≤ t) (λ d. d.order.stamp ≤ u) ds (λ d h. omega arith) (recursion_from_All _ ds so.past) in
     let above = rest_above r t u ds left so n in
-    let orders : done_to (start_of (done_in r) c + (u - s)) (done_in r) ≡ ds = ap (λ (k : ℕ). done_to k (done_in r)) at ∙ ap (done_to u) e ∙ done_to-settled u ds later past above in
+    let orders : done_to (start_of (done_in r) c + (u - s)) (done_in r) ≡ ds =
+    ap (λ (k : ℕ). done_to k (done_in r)) at ∙ ap (done_to u) e ∙ done_to-settled u ds later past above in
     let k : s ≡ start_of ds c = sym (start_is ds c s o) in
     same_period _ _ _ _ _ _ _ _ _ _ _ _
     (ap (λ (k : ℕ). up_in r c (u - k)) k)

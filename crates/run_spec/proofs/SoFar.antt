@@ -14,10 +14,12 @@ use Rattle.run_spec.specs.Run.{Run, whole_in, done_in}
 use Rattle.run_spec.specs.Now.{IsSoFar, NoOrderTo}
 use Rattle.run_spec.proofs.Lists.{each_mapped, each_weaker, each_filter, each_passes}
 use Rattle.run_spec.proofs.Executing.{added, added_orders, added_replies, executed-added, run_replies, rest_of, done-split}
-use Rattle.run_spec.proofs.Standing.{Standing, RisesFrom, standing_none, standing_all}
+use Rattle.run_spec.proofs.Standing.{Standing, RisesFrom, standing_none}
+use Rattle.run_spec.proofs.Apart.{standing_all}
 
 -- ---- stamps don't fall
 
+-- the stamps of these orders do not fall, from t on
 abbrev pub Rises : ℕ → List Order → Type 0
 Rises t [] = Unit {0}
 Rises t (o ∷ os) = (t ≤ o.stamp) × Rises o.stamp os
@@ -25,9 +27,12 @@ Rises t (o ∷ os) = (t ≤ o.stamp) × Rises o.stamp os
 rises : (t : ℕ) (os : List Order) → ((d : Order) → 0 < length os → t ≤ (get_or os 0 d).stamp) →
     ((i j : ℕ) (d : Order) → i ≤ j → j < length os → (get_or os i d).stamp ≤ (get_or os j d).stamp) → Rises t os
 rises t [] first rising = tt
-rises t (o ∷ os) first rising =
-    (first o (omega arith), rises o.stamp os (λ d l. rising 0 1 d (omega arith) (omega arith)) (λ i j d l m. rising (suc i) (suc j) d (omega arith) (omega arith)))
+rises t (o ∷ os) first rising = (
+  first o (omega arith),
+  rises o.stamp os (λ d l. rising 0 1 d (omega arith) (omega arith)) (λ i j d l m. rising (suc i) (suc j) d (omega arith) (omega arith)),
+)
 
+-- those of a run do not
 pub orders_rise : (os : List Order) → AreOrders os → Rises 0 os
 orders_rise os a = rises 0 os (λ d l. omega arith) a.rising
 
@@ -60,6 +65,7 @@ above : (u t : ℕ) (os : List Order) → u < t → Rises t os → AllByRecursio
 above u t [] l h = tt
 above u t (o ∷ os) l h = let k : u < o.stamp = (let m = h.0 in omega arith) in (k, above u o.stamp os k h.1)
 
+-- where the next order comes after u all do
 pub all_above : (u t : ℕ) (os : List Order) → Rises t os → NoOrderTo u os → AllByRecursion (λ o. u < o.stamp) os
 all_above u t [] h n = tt
 all_above u t (o ∷ os) h n = (n, above u o.stamp os n h.1)
@@ -70,17 +76,22 @@ all_above u t (o ∷ os) h n = (n, above u o.stamp os n h.1)
 abbrev pub rest_in : Run → List Done → List Order → List Done
 rest_in r ds left = rest_of (whole_in r) r.periods ds left
 
+-- **A whole run executes what it executed so far, and then the rest.**
 pub done-rest : (r : Run) (t : ℕ) (ds : List Done) (left : List Order) → IsSoFar r t ds left → done_in r ≡ ds ++ rest_in r ds left
 done-rest r t ds left s = done-split (whole_in r) r.periods r.orders left ds s.replies s.listed
     (each_weaker (λ d. d.order.stamp < r.periods) _ ds (λ d l. lt-ltb d.order.stamp r.periods l) (recursion_from_All _ ds s.within))
 
+-- the rest are the orders that are left below its end
 pub rest_orders : (r : Run) (ds : List Done) (left : List Order) → map (λ d. d.order) (rest_in r ds left) ≡ filter (λ o. nat_lt o.stamp r.periods) left
 rest_orders r ds left = added_orders (whole_in r) ds (filter (λ o. nat_lt o.stamp r.periods) left)
 
+-- those that are left do not fall
 pub left_rises : (r : Run) (t : ℕ) (ds : List Done) (left : List Order) → IsSoFar r t ds left → Rises 0 left
 left_rises r t ds left s = back_rises 0 (map (λ d. d.order) ds) left (subst (Rises 0) (sym s.listed) (orders_rise r.orders s.orders))
 
-pub rest_above : (r : Run) (t u : ℕ) (ds : List Done) (left : List Order) → IsSoFar r t ds left → NoOrderTo u left → AllByRecursion (λ d. u < d.order.stamp) (rest_in r ds left)
+-- the rest comes after u where the next order does
+pub rest_above : (r : Run) (t u : ℕ) (ds : List Done) (left : List Order) → IsSoFar r t ds left → NoOrderTo u left →
+    AllByRecursion (λ d. u < d.order.stamp) (rest_in r ds left)
 rest_above r t u ds left s n = each_mapped (λ o. u < o.stamp) (λ d. d.order) (rest_in r ds left)
     (subst (AllByRecursion (λ o. u < o.stamp)) (sym (rest_orders r ds left)) (each_filter _ _ left (all_above u 0 left (left_rises r t ds left s) n)))
 
@@ -97,25 +108,32 @@ rest_from r t ds left s = each_mapped (λ o. t ≤ o.stamp) (λ d. d.order) (res
     from [] h n = tt
     from (o ∷ os) h n = (n, go o.stamp os n h.1)
 
+-- how calls and bridges stand so far
 pub standing_now : (r : Run) (t : ℕ) (ds : List Done) (left : List Order) → IsSoFar r t ds left → Standing (whole_in r) t ds
 standing_now r t ds left s =
     standing_all (whole_in r) 0 t [] ds (standing_none (whole_in r)) (run_replies (whole_in r) ds s.replies)
-    (done_rises 0 ds (front_rises 0 (map (λ d. d.order) ds) left (subst (Rises 0) (sym s.listed) (orders_rise r.orders s.orders)))) (omega arith) (recursion_from_All _ ds s.past)
+    (done_rises 0 ds (front_rises 0 (map (λ d. d.order) ds) left (subst (Rises 0) (sym s.listed) (orders_rise r.orders s.orders)))) (omega arith)
+    (recursion_from_All _ ds s.past)
 
+-- no stamp of the whole run falls
 pub run_rises : (r : Run) → AreOrders r.orders → RisesFrom 0 (done_in r)
 run_rises r a =
     let os = filter (λ o. nat_lt o.stamp r.periods) r.orders in
-    subst (RisesFrom 0) (sym (executed-added (whole_in r) [] os)) (done_rises 0 (added (whole_in r) [] os) (subst (Rises 0) (sym (added_orders (whole_in r) [] os)) (filter_rises 0 _ r.orders (orders_rise r.orders a))))
+    subst (RisesFrom 0) (sym (executed-added (whole_in r) [] os))
+    (done_rises 0 (added (whole_in r) [] os) (subst (Rises 0) (sym (added_orders (whole_in r) [] os)) (filter_rises 0 _ r.orders (orders_rise r.orders a))))
 
+-- how they stand at its end
 pub standing_end : (r : Run) → AreOrders r.orders → Standing (whole_in r) r.periods (done_in r)
 standing_end r a =
     let os = filter (λ o. nat_lt o.stamp r.periods) r.orders in
     let e = executed-added (whole_in r) [] os in
     let m = added_orders (whole_in r) [] os in
-    subst (Standing (whole_in r) r.periods) (sym e) (standing_all (whole_in r) 0 r.periods [] (added (whole_in r) [] os) (standing_none (whole_in r)) (added_replies (whole_in r) [] os)
+    subst (Standing (whole_in r) r.periods) (sym e)
+    (standing_all (whole_in r) 0 r.periods [] (added (whole_in r) [] os) (standing_none (whole_in r)) (added_replies (whole_in r) [] os)
     (done_rises 0 (added (whole_in r) [] os) (subst (Rises 0) (sym m) (filter_rises 0 _ r.orders (orders_rise r.orders a)))) (omega arith)
     (each_mapped (λ o. o.stamp ≤ r.periods) (λ d. d.order) (added (whole_in r) [] os)
-    (subst (AllByRecursion (λ o. o.stamp ≤ r.periods)) (sym m) (each_weaker (λ o. nat_lt o.stamp r.periods ≡ true) (λ o. o.stamp ≤ r.periods) os (λ o b. below o.stamp r.periods b) (each_passes _ r.orders)))))
+    (subst (AllByRecursion (λ o. o.stamp ≤ r.periods)) (sym m)
+    (each_weaker (λ o. nat_lt o.stamp r.periods ≡ true) (λ o. o.stamp ≤ r.periods) os (λ o b. below o.stamp r.periods b) (each_passes _ r.orders)))))
   where
     below : (a b : ℕ) → nat_lt a b ≡ true → a ≤ b
     below a b e = let l = ltb-true a b e in omega arith
@@ -126,6 +144,7 @@ standing_rest r t ds left s = subst (Standing (whole_in r) r.periods) (done-rest
 
 -- ---- how a run goes on
 
+-- **At its start.**
 pub so_far_at_first : (r : Run) → AreOrders r.orders → IsSoFar r 0 [] r.orders
 so_far_at_first r a = record { orders = a; listed = refl; replies = refl; past = All-nil _; within = All-nil _; ahead = by r.orders }
   where
@@ -133,7 +152,9 @@ so_far_at_first r a = record { orders = a; listed = refl; replies = refl; past =
     by [] = tt
     by (o ∷ os) = omega arith
 
-pub so_far_later : (r : Run) (t u : ℕ) (ds : List Done) (left : List Order) → IsSoFar r t ds left → t ≤ u → IfSome (first_stamp left) (λ s. u ≤ s) → IsSoFar r u ds left
+-- **At a later clock.**
+pub so_far_later : (r : Run) (t u : ℕ) (ds : List Done) (left : List Order) → IsSoFar r t ds left → t ≤ u → IfSome (first_stamp left) (λ s. u ≤ s) →
+    IsSoFar r u ds left
 so_far_later r t u ds left s l n = record {
   orders = s.orders;
   listed = s.listed;
@@ -143,11 +164,14 @@ so_far_later r t u ds left s l n = record {
   ahead = n;
 }
 
-pub so_far_more : (r : Run) (t : ℕ) (ds : List Done) (d : Done) (left : List Order) → IsSoFar r t ds (d.order ∷ left) → d.order.stamp ≡ t → t < r.periods → IsRun (whole_in r) (ds ++ d ∷ []) →
+-- **After the next order.**
+pub so_far_more : (r : Run) (t : ℕ) (ds : List Done) (d : Done) (left : List Order) → IsSoFar r t ds (d.order ∷ left) → d.order.stamp ≡ t → t < r.periods →
+    IsRun (whole_in r) (ds ++ d ∷ []) →
     IsSoFar r t (ds ++ d ∷ []) left
 so_far_more r t ds d left s e l run = record {
   orders = s.orders;
-  listed = ap (λ os. os ++ left) (map-append (λ (d : Done). d.order) ds (d ∷ [])) ∙ append_assoc (map (λ (d : Done). d.order) ds) (d.order ∷ []) left ∙ s.listed;
+  listed =
+      ap (λ os. os ++ left) (map-append (λ (d : Done). d.order) ds (d ∷ [])) ∙ append_assoc (map (λ (d : Done). d.order) ds) (d.order ∷ []) left ∙ s.listed;
   replies = run;
   past = All-push (λ d. d.order.stamp ≤ t) ds d s.past (omega arith);
   within = All-push (λ d. d.order.stamp < r.periods) ds d s.within (omega arith);

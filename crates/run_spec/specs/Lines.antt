@@ -1,17 +1,12 @@
 -- The outgoing lines of a run's calls: those of its own lines and orders, and within the spans of its bridges of its
 -- partner's uplink (this project's profile).
-use Rattle.std.specs.Prelude.{ℕ, List, [], ◌∷◌, ◌++◌}
+use Rattle.std.specs.Prelude.{ℕ, List}
 use Rattle.trau_bits.specs.Bits.{octets_of}
 use Rattle.call_leg.specs.Who.{Who}
 use Rattle.call_leg.specs.Periods.{CallPeriod}
-use Rattle.call_leg.specs.Out.{out_of}
+pub use Rattle.call_leg.specs.Out.{out_line}
 use Rattle.call_leg.specs.Down.{down_line}
 use Rattle.run_spec.specs.Run.{Run, who_in, periods_in}
-
--- the Out line of a call that had these periods, the first octet first
-abbrev pub out_line : Who → List CallPeriod → List ℕ
-out_line who [] = []
-out_line who (t ∷ past) = out_line who past ++ out_of who (t ∷ past)
 
 -- the octets of its Down line
 abbrev pub down_octets : Who → List CallPeriod → List ℕ

@@ -32,6 +32,8 @@ cut_at p r = record r { periods = p }
 
 -- What a run writes on the lines of a call is what it writes to period p, and behind that the octets of the later periods.
 pub record Joins (r : Run) (p : ℕ) : Type 0 where
+  -- a call that the run to p opens is opened in the whole run
+  pub opened : (c : ℕ) → IsOpened (cut_at p r) c → IsOpened r c
   pub out : (c : ℕ) → IsOpened (cut_at p r) c → out_of_call r c ≡ out_of_call (cut_at p r) c ++ drop (160 * worked_to r p c) (out_of_call r c)
   pub down : (c : ℕ) → IsOpened (cut_at p r) c → down_of_call r c ≡ down_of_call (cut_at p r) c ++ drop (40 * worked_to r p c) (down_of_call r c)
   -- a call that an order from p on opens has no period before it

@@ -18,7 +18,7 @@ ghost use Rattle.switchboard.specs.Stands.{IsLatest};
 ghost use Rattle.switchboard.specs.State.{first_stamp, numbered};
 ghost use Rattle.switchboard.specs.Runs.{executed, left_of, IsRun};
 ghost use Rattle.switchboard.specs.Ends.{lack_of, end_of, start_of, spans_of};
-ghost use Rattle.down_framer.specs.Made.{due};
+ghost use Rattle.down_framer.specs.Made.{handed_due};
 ghost use Rattle.down_framer.specs.Bridges.{IsHistory};
 ghost use Rattle.call_leg.specs.Uplink.{handed_fields};
 ghost use Rattle.call_leg.specs.Periods.{CallPeriod, ups_of, effective_now};
@@ -27,7 +27,9 @@ ghost use Rattle.call_leg.specs.Down.{down_periods, frames_of};
 ghost use Rattle.call_leg.specs.Counted.{call_counts};
 ghost use Rattle.call_leg.specs.Places.{sent_now};
 ghost use Rattle.run_spec.specs.Run.{Run, given_in, whole_in, done_in, spans_in, start_in, end_in, law_in, who_in, up_in, pcm_in, ups_to, item_of, period_of, periods_to};
-ghost use Rattle.run_spec.specs.Lines.{out_line, down_octets, out_of_call, down_of_call};
+ghost use Rattle.call_leg.specs.Out.{out_line};
+ghost use Rattle.run_spec.specs.Lines.{down_octets, out_of_call, down_of_call};
+ghost use Rattle.run_spec.specs.Mark.{Joins};
 ghost use Rattle.run_spec.specs.Facts.{opened_calls, call_line, span_line, sent_by, report_of};
 ghost use Rattle.run_spec.specs.Now.{IsSoFar, NoOrderTo, has_period, bridge_now, handed_now, period_now, settings_now, settings_in, changed_by, after_periods};
 
@@ -122,7 +124,9 @@ pub fn rounds_go_on()
     // Its periods go on with what is set at its start, but for the bridge: what is handed over tells where they lie in
     // one.
     ensures period { (r : Run) (t k : ℕ) (ds : List Done) (left : List Order) (c : ℕ) → IsSoFar r t ds left → t + k < r.periods →
-        period_now r ds (t + k) c ≡ period_with (after_periods k (settings_now r ds t c)) (up_in r c (t + k - start_of ds c)) (pcm_in r c (t + k - start_of ds c)) (handed_now r ds (t + k) c) }
+        period_now r ds (t + k) c ≡
+        period_with (after_periods k (settings_now r ds t c)) (up_in r c (t + k - start_of ds c)) (pcm_in r c (t + k - start_of ds c))
+        (handed_now r ds (t + k) c) }
 
     // Without a bridge it goes on alone.
     ensures alone { (r : Run) (t k : ℕ) (ds : List Done) (left : List Order) (c : ℕ) → IsSoFar r t ds left → t + k ≤ r.periods →
@@ -132,7 +136,8 @@ pub fn rounds_go_on()
     ensures bridged { (r : Run) (t k m : ℕ) (ds : List Done) (left : List Order) (c : ℕ) (x : Bridge) → IsSoFar r t ds left → t + k ≤ r.periods →
         bridge_of (gone_at (whole_in r) t ds) ds c ≡ Some x → ((j : ℕ) → j < k → has_period r ds (t + j) c ≡ true) →
         ((j : ℕ) → j < k → has_period r ds (t + j) (other c x) ≡ nat_lt j m) →
-        settings_now r ds (t + k) c ≡ (if nat_lt m k then without_bridge (after_periods k (settings_now r ds t c)) else after_periods k (settings_now r ds t c)) }
+        settings_now r ds (t + k) c ≡
+        (if nat_lt m k then without_bridge (after_periods k (settings_now r ds t c)) else after_periods k (settings_now r ds t c)) }
 {}
 
 /// The end of a call is known once the orders up to it were executed: where it was closed, where its lines lack a
@@ -157,17 +162,20 @@ pub fn periods_are_a_history()
     ensures history { (r : Run) (c n : ℕ) → AreOrders r.orders → IsHistory (down_periods (periods_to r c n)) }
     ensures bridge { (r : Run) (t : ℕ) (ds : List Done) (d : Done) (left : List Order) (a b c s : ℕ) → IsSoFar r t ds (d.order ∷ left) →
         d.order.stamp ≡ t → t < r.periods → IsRun (whole_in r) (ds ++ d ∷ []) → d.result ≡ Ok (act.Bridged a b) → (c == a || c == b) ≡ true →
-        opened_at c ds ≡ Some s → due (down_periods (periods_to r c (t - s))) (frames_of (periods_to r c (t - s))) ≡ None }
+        opened_at c ds ≡ Some s → handed_due (down_periods (periods_to r c (t - s))) (frames_of (periods_to r c (t - s))) ≡ None }
 {}
 
 /// What a call hands over in its newest period are the bits of its effective frame in it: so in a period of a bridge
 /// its partner's are handed to a call, and both of them have the period.
 pub fn items_are_effective_frames()
     ensures both { (r : Run) (t u : ℕ) (ds : List Done) (left : List Order) (c : ℕ) (x : Bridge) → IsSoFar r t ds left →
-        bridge_now r ds u c ≡ Some x → (joins c x ≡ true) × (has_period r ds u x.a ≡ true) × (has_period r ds u x.b ≡ true) × ((s : ℕ) × (opened_at (other c x) ds ≡ Some s)) }
-    ensures handed { (r : Run) (t u : ℕ) (ds : List Done) (left : List Order) (c s : ℕ) (x : Bridge) (now : Settings) (pcm : List ℕ) (handed : Option (List ℕ)) →
-        IsSoFar r t ds left → t ≤ u → bridge_now r ds u c ≡ Some x → opened_at (other c x) ds ≡ Some s → handed_now r ds u c ≡
-        Some (bits260 (handed_fields (effective_now (other c x) (period_with now (up_in r (other c x) (u - s)) pcm handed ∷ periods_to r (other c x) (u - s))))) }
+        bridge_now r ds u c ≡ Some x →
+        (joins c x ≡ true) × (has_period r ds u x.a ≡ true) × (has_period r ds u x.b ≡ true) × ((s : ℕ) × (opened_at (other c x) ds ≡ Some s)) }
+    ensures handed { (r : Run) (t u : ℕ) (ds : List Done) (left : List Order) (c s : ℕ) (x : Bridge) (now : Settings) (pcm : List ℕ)
+        (handed : Option (List ℕ)) → IsSoFar r t ds left → t ≤ u → bridge_now r ds u c ≡ Some x → opened_at (other c x) ds ≡ Some s →
+        handed_now r ds u c ≡
+        Some (bits260 (handed_fields
+        (effective_now (other c x) (period_with now (up_in r (other c x) (u - s)) pcm handed ∷ periods_to r (other c x) (u - s))))) }
     ensures item { (c : ℕ) (ts : List CallPeriod) → item_of c (ups_of ts) ≡ bits260 (handed_fields (effective_now c ts)) }
     ensures ups { (r : Run) (c n : ℕ) → ups_of (periods_to r c n) ≡ ups_to r c n }
 {}
@@ -178,9 +186,11 @@ pub fn ended_calls_are_reported()
         opened_at c ds ≡ Some s → end_of (given_in r) r.periods (done_in r) c s ≡ end →
         call_line r c ≡ record { end = end; from = s; counts = call_counts (periods_to r c (end.at - s)) } }
     ensures out { (r : Run) (t : ℕ) (ds : List Done) (left : List Order) (c s : ℕ) (end : CallEnd) → IsSoFar r t ds left →
-        opened_at c ds ≡ Some s → end_of (given_in r) r.periods (done_in r) c s ≡ end → out_of_call r c ≡ out_line (who_in r c) (periods_to r c (end.at - s)) }
+        opened_at c ds ≡ Some s → end_of (given_in r) r.periods (done_in r) c s ≡ end →
+        out_of_call r c ≡ out_line (who_in r c) (periods_to r c (end.at - s)) }
     ensures down { (r : Run) (t : ℕ) (ds : List Done) (left : List Order) (c s : ℕ) (end : CallEnd) → IsSoFar r t ds left →
-        opened_at c ds ≡ Some s → end_of (given_in r) r.periods (done_in r) c s ≡ end → down_of_call r c ≡ down_octets (who_in r c) (periods_to r c (end.at - s)) }
+        opened_at c ds ≡ Some s → end_of (given_in r) r.periods (done_in r) c s ≡ end →
+        down_of_call r c ≡ down_octets (who_in r c) (periods_to r c (end.at - s)) }
 {}
 
 /// The report, once no order below the run's end is left: from what was executed, and what is left.
@@ -197,7 +207,8 @@ pub fn whole_runs_are_reported()
 
 /// What is handed over in a span, a frame in each of its periods, is sent or lost.
 pub fn handed_frames_are_sent_or_lost()
-    ensures { (r : Run) (x : Span) → ((span_line r x).sent_a + (span_line r x).lost_a ≡ x.to - x.from) × ((span_line r x).sent_b + (span_line r x).lost_b ≡ x.to - x.from) }
+    ensures { (r : Run) (x : Span) →
+        ((span_line r x).sent_a + (span_line r x).lost_a ≡ x.to - x.from) × ((span_line r x).sent_b + (span_line r x).lost_b ≡ x.to - x.from) }
 {}
 
 /// How many frames of a bridge a call sends is what its leg tells where the call's next bridge is made, or at its end:
@@ -210,4 +221,9 @@ pub fn sent_frames_are_told()
     ensures end { (r : Run) (t : ℕ) (ds : List Done) (left : List Order) (c s k : ℕ) (x : Span) → IsSoFar r t ds left →
         opened_at c ds ≡ Some s → IsLatest (bridges ds) c (Some k) → end_in r c ≡ t →
         sent_by r (get_or (spans_in r) k x) c ≡ sent_now (periods_to r c (t - s)) (settings_now r ds t c) }
+{}
+
+/// A run to its end writes what it writes to an earlier period, and behind that the octets of the later periods.
+pub fn a_run_is_joined_of_two()
+    ensures { (r : Run) (p : ℕ) → AreOrders r.orders → p ≤ r.periods → Joins r p }
 {}

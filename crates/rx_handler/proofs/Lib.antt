@@ -1,5 +1,7 @@
 mod Rows
 pub mod Steps
-mod Places
+mod Missed
+mod Anchors
+mod LookBack
 mod Runs
 mod Moving

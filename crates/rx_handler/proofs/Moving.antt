@@ -7,6 +7,7 @@ use Rattle.trau_params.specs.Fields.{Fields}
 use Rattle.rx_handler.specs.Heard.{Heard, Good, Sid, Idle, Lost}
 use Rattle.rx_handler.specs.Effective.{is_anchor, latest_anchor, fall_at, start_after, old_at, base_at, IsNoise}
 
+-- between descriptors the start of the way stays
 Same : (ℕ → Heard) → ℕ → Fields → Option ℕ → Type 0
 Same heard k q None = Unit {0}
 Same heard k q (Some g) = (is_anchor (heard g) ≡ true) × (old_at heard k q ≡ old_at heard g q)
@@ -39,6 +40,7 @@ at_anchor : (heard : ℕ → Heard) (k : ℕ) (q : Fields) → is_anchor (heard 
 unfolding old_at
 at_anchor heard k q e = rw e refl
 
+-- a new descriptor is approached from where the noise stands
 pub old_at-noise : (heard : ℕ → Heard) (k g : ℕ) (q r : Fields) → is_anchor (heard (suc k)) ≡ true → IsNoise heard k g r → fall_at heard g k ≡ 0 →
     old_at heard (suc k) q ≡ base_at heard k g r
 old_at-noise heard k g q r a n f =
@@ -46,6 +48,7 @@ old_at-noise heard k g q r a n f =
     ∙ ap (start_after heard k (λ r. old_at heard k r) q g) n.1
     ∙ ap (λ n. if n == 0 then base_at heard k g r else q) f
 
+-- or from itself, where the level falls
 itself_at : (heard : ℕ → Heard) (k g : ℕ) (q : Fields) (y : Heard) → ((r : Fields) → y ≡ Sid r → fall_at heard g k ≢ 0) →
     start_after heard k (λ r. old_at heard k r) q g y ≡ q
 itself_at heard k g q (Good p) h = refl

@@ -42,7 +42,8 @@ unfolding effective_at origin_at latest_anchor draws_before lost_of
 first_repeats = refl
 
 second : effective_at 7 lost_row 2 ≡ Made (record loud { mc = 3 ∷ 0 ∷ 1 ∷ 0 ∷ []; xmaxc = replicate 4 16 })
-unfolding effective_at origin_at latest_anchor draws_before lost_of muted_of random_grids lowered_maxima draw_of random.drawn_number state_after random.next_state
+unfolding effective_at origin_at latest_anchor draws_before lost_of muted_of random_grids lowered_maxima draw_of random.drawn_number state_after
+    random.state_after_draw
 second = refl
 
 levels : map (λ k. maxima (effective_at 7 lost_row k)) (2 ∷ 3 ∷ 6 ∷ 16 ∷ []) ≡ replicate 4 16 ∷ replicate 4 12 ∷ replicate 4 0 ∷ replicate 4 0 ∷ []

@@ -11,8 +11,12 @@ use Rattle.rx_muting.proofs.Numbered.{draw_of-state_after, state_after-state_aft
 use Rattle.rx_handler.specs.Heard.{Heard, Good, Sid, Idle, Lost}
 use Rattle.rx_handler.specs.Origin.{Origin, NoiseFrame, frame_of, draws_of, EffectiveFields}
 use Rattle.rx_handler.specs.Past.{Anchor, NoAnchor, AtGood, AtSid, anchor_of, one_more, missed_in, periods_of_fall, moved, start_from, old_of, origin_from, origin_of, drawn, effective_of}
-use Rattle.rx_handler.specs.Table.{RxState, Speech, Noise, RxMemory, missed_after, fall_after, state_after_loss, state_after_sid, next_state, origin_by, received, first_step, step_of, state_from, state_at, Stands}
+use Rattle.rx_handler.specs.Memory.{RxState, Speech, Noise, RxMemory}
+use Rattle.rx_handler.specs.Step.{missed_after, fall_after, state_after_loss, state_after_sid, next_state, origin_by, received}
+use Rattle.rx_handler.specs.Stands.{first_step, step_of, state_from, state_at, Stands}
+use Rattle.rx_handler.proofs.Missed.{begun_same}
 
+-- the counts of the table after one more lost period
 missed_more : (missed : Bool) (since : List Heard) → min (missed_in (Lost missed ∷ since)) 2 ≡ missed_after (min (missed_in since) 2) missed
 missed_more true since = let e : missed_in (Lost true ∷ since) ≡ suc (missed_in since) = refl in omega arith
 missed_more false since = let e : missed_in (Lost false ∷ since) ≡ missed_in since = refl in omega arith
@@ -22,6 +26,7 @@ fall_more : (missed : Bool) (since : List Heard) →
 unfolding periods_of_fall
 fall_more missed since = grind (arith, common_steps)
 
+-- the state after it
 loss_more : (missed : Bool) (old : Fields → Fields) (step : ℕ) (a : Anchor) →
     state_from old (min (step + 1) 8) (one_more (Lost missed) a) ≡ state_after_loss (state_from old step a) missed
 loss_more missed old step NoAnchor = refl
@@ -30,7 +35,8 @@ loss_more missed old step (AtSid q since) =
     let count = missed_more missed since in
     let fall = fall_more missed since in
     ap (λ k. Noise (old q) q (min (step + 1) 8) k (min (periods_of_fall (Lost missed ∷ since)) 17)) count ∙
-    ap (λ f. Noise (old q) q (min (step + 1) 8) (missed_after (min (missed_in since) 2) missed) f) (fall ∙ ap (λ k. fall_after k (min (periods_of_fall since) 17)) count)
+    ap (λ f. Noise (old q) q (min (step + 1) 8) (missed_after (min (missed_in since) 2) missed) f)
+    (fall ∙ ap (λ k. fall_after k (min (periods_of_fall since) 17)) count)
 
 -- ---- the step of the table
 
@@ -40,6 +46,7 @@ Near old step NoAnchor = Unit {0}
 Near old step (AtGood p since) = Unit {0}
 Near old step (AtSid q since) = (step ≡ min (length since + 1) 8) ⊎ ((old q ≡ q) × (step ≤ 8))
 
+-- a state's step and where the noise stands go together
 near_first : (q : Fields) (a : Anchor) (old : Fields → Fields) → Near (start_from a old) (first_step a) (AtSid q [])
 near_first q NoAnchor old = inr (refl, omega arith)
 near_first q (AtGood p since) old = inr (refl, omega arith)
@@ -62,7 +69,8 @@ near (Idle ∷ past) = tt
 near (Lost missed ∷ past) = near_more missed (λ q. old_of past q) (step_of past) (anchor_of past) (near past)
 
 -- so the noise stands where it does by numbers
-moved_same : (old q : Fields) (step : ℕ) (since : List Heard) → (step ≡ min (length since + 1) 8) ⊎ ((old ≡ q) × (step ≤ 8)) → mix_of old q step ≡ moved old q since
+moved_same : (old q : Fields) (step : ℕ) (since : List Heard) → (step ≡ min (length since + 1) 8) ⊎ ((old ≡ q) × (step ≤ 8)) →
+    mix_of old q step ≡ moved old q since
 moved_same old q step since n = elim n [
   | inl e ↦ ap (mix_of old q) e
   | inr s ↦
@@ -72,10 +80,7 @@ moved_same old q step since n = elim n [
 
 -- ---- one period more
 
--- a fall that has begun has begun up to 17
-begun_same : (fall : ℕ) → (min fall 17 == 0) ≡ (fall == 0)
-begun_same fall = grind (arith, common_steps)
-
+-- the state after a descriptor
 sid_more : (q : Fields) (a : Anchor) (old : Fields → Fields) (step : ℕ) → Near old step a →
     Noise (start_from a old q) q (first_step a) 0 0 ≡ state_after_sid (state_from old step a) q
 sid_more q NoAnchor old step n = refl
@@ -84,6 +89,7 @@ sid_more q (AtSid r since) old step n =
     ap (λ base. Noise (if periods_of_fall since == 0 then base else q) q 1 0 0) (sym (moved_same (old r) r step since n)) ∙
     ap (λ b. Noise (if b then mix_of (old r) r step else q) q 1 0 0) (sym (begun_same (periods_of_fall since)))
 
+-- after any period
 pub state-more : (y : Heard) (past : List Heard) → state_at (y ∷ past) ≡ next_state (state_at past) y
 unfolding anchor_of periods_of_fall old_of step_of
 state-more (Good p) past = refl
@@ -109,12 +115,14 @@ unfolding received drawn effective_of
 received_more call past memory y answer after step stands =
     let origin : Origin = origin_of (y ∷ past) in
     let state : next_state memory.state y ≡ state_at (y ∷ past) = ap (λ s. next_state s y) stands.state ∙ sym (state-more y past) in
-    let same : origin_by (next_state memory.state y) ≡ origin = ap origin_by state ∙ origin_same (λ q. old_of (y ∷ past) q) (step_of (y ∷ past)) (anchor_of (y ∷ past)) (near (y ∷ past)) in
+    let same : origin_by (next_state memory.state y) ≡ origin = ap origin_by state ∙
+    origin_same (λ q. old_of (y ∷ past) q) (step_of (y ∷ past)) (anchor_of (y ∷ past)) (near (y ∷ past)) in
     let source : memory.source ≡ state_after call (drawn past) = stands.source in
     let frame : frame_of (origin_by (next_state memory.state y)) (draw_of memory.source) ≡ frame_of origin (draws_from call (drawn past)) =
     ap (λ o. frame_of o (draw_of memory.source)) same ∙ ap (λ r. frame_of origin (draw_of r)) source ∙ from_here origin call (drawn past) in
     let drawn_on : state_after memory.source (draws_of (origin_by (next_state memory.state y))) ≡ state_after call (drawn past + draws_of origin) =
-    ap (λ o. state_after memory.source (draws_of o)) same ∙ ap (λ r. state_after r (draws_of origin)) source ∙ state_after-state_after call (drawn past) (draws_of origin) in
+    ap (λ o. state_after memory.source (draws_of o)) same ∙ ap (λ r. state_after r (draws_of origin)) source ∙
+    state_after-state_after call (drawn past) (draws_of origin) in
     (record { state = ap (λ m. m.1.state) (sym step) ∙ state; source = ap (λ m. m.1.source) (sym step) ∙ drawn_on }, ap (λ m. m.0) (sym step) ∙ frame)
 
 -- a step of the table by its parts

@@ -2,5 +2,7 @@ pub mod Heard
 pub mod Origin
 pub mod Effective
 pub mod Past
-pub mod Table
+pub mod Memory
+pub mod Step
+pub mod Stands
 pub mod State

@@ -5,7 +5,7 @@ use Rattle.rx_handler.specs.declared.effective.Effective.TheVariants as answers
 use Rattle.rx_handler.specs.declared.state.State.{State}
 use Rattle.rx_handler.specs.declared.state.State.TheVariants as states
 use Rattle.rx_handler.specs.Origin.{EffectiveFields, Quiet, Speech, Made}
-use Rattle.rx_handler.specs.Table as table
+use Rattle.rx_handler.specs.Memory as table
 
 abbrev pub state_of : State → table.RxState
 state_of states.Quiet = table.Quiet

@@ -1,3 +1,5 @@
+//! What the receive side hands on.
+
 use trau_params::Params;
 
 /// What the receive side hands on for a period.

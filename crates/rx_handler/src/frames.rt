@@ -4,7 +4,8 @@ ghost use Rattle.std.specs.Prelude.{◌≡◌};
 ghost use Rattle.rx_muting.specs.Draws.{state_after, draw_of};
 ghost use Rattle.rx_handler.specs.Origin.{draws_of, frame_of};
 ghost use Rattle.trau_params.specs.Fields.{fields_of};
-ghost use Rattle.rx_handler.specs.Table.{origin_by, Speech};
+ghost use Rattle.rx_handler.specs.Step.{origin_by};
+ghost use Rattle.rx_handler.specs.Memory.{Speech};
 ghost use Rattle.rx_handler.specs.State.{state_of, effective_fields};
 
 use crate::effective::Effective;

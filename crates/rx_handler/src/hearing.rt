@@ -4,7 +4,8 @@ ghost use Rattle.std.specs.Prelude.{◌≡◌};
 ghost use Rattle.std.specs.Option.{option_copied};
 ghost use Rattle.rx_handler.specs.Heard.{heard_of, heard_frame};
 ghost use Rattle.trau_params.specs.Fields.{fields_of};
-ghost use Rattle.rx_handler.specs.Table.{missed_after, fall_after, state_after_loss, state_after_sid, next_state, Speech};
+ghost use Rattle.rx_handler.specs.Step.{missed_after, fall_after, state_after_loss, state_after_sid, next_state};
+ghost use Rattle.rx_handler.specs.Memory.{Speech};
 ghost use Rattle.rx_handler.specs.State.{state_of};
 
 use crate::state::{Fall, LostRow, Pause, State};

@@ -6,11 +6,12 @@ ghost use Rattle.rx_noise.specs.Mix.{mix_of};
 ghost use Rattle.rx_handler.specs.Heard.{Heard};
 ghost use Rattle.rx_handler.specs.Effective.{is_anchor, fall_at, old_at, base_at, IsNoise, effective_at, effectives, heard_in};
 ghost use Rattle.rx_handler.specs.Past.{effective_of};
-ghost use Rattle.rx_handler.specs.Table.{first_memory, all_received};
+ghost use Rattle.rx_handler.specs.Memory.{home_memory};
+ghost use Rattle.rx_handler.specs.Step.{all_received};
 
 /// Whatever is heard in the periods of a call, the table of states gives each its effective frame.
 pub fn the_table_looks_back()
-    ensures { (call : ℕ) (ys : List Heard) → all_received (first_memory call) ys ≡ effectives call ys }
+    ensures { (call : ℕ) (ys : List Heard) → all_received (home_memory call) ys ≡ effectives call ys }
 {}
 
 /// The effective frame of the newest period of a history is that of the last period of the call so far.

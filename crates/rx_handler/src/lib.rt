@@ -11,7 +11,8 @@
 //!
 //! Definitions: `specs/Heard.antt` (what counts as heard), `specs/Origin.antt` (what a frame is made from),
 //! `specs/Effective.antt` (the effective frame of each period of a call, by looking back over all periods),
-//! `specs/Past.antt` (the same over a history), `specs/Table.antt` (the table of states, one period at a time),
+//! `specs/Past.antt` (the same over a history), `specs/Memory.antt` (a state of the table, and the random source),
+//! `specs/Step.antt` (the table of states, one period at a time), `specs/Stands.antt` (what the memory stands for),
 //! `specs/State.antt` (the code's state and answer by their fields).
 #![tactic(auto)]
 

@@ -6,7 +6,9 @@ ghost use Rattle.call_number.specs.CallNumber.{IsCallNumber};
 ghost use Rattle.rx_handler.specs.Heard.{Heard, heard_of};
 ghost use Rattle.rx_handler.specs.Effective.{effective_at, heard_in};
 ghost use Rattle.rx_handler.specs.Past.{effective_of};
-ghost use Rattle.rx_handler.specs.Table.{RxMemory, first_memory, received, Stands};
+ghost use Rattle.rx_handler.specs.Memory.{RxMemory, home_memory};
+ghost use Rattle.rx_handler.specs.Step.{received};
+ghost use Rattle.rx_handler.specs.Stands.{Stands};
 ghost use Rattle.rx_handler.specs.State.{state_of, effective_fields};
 
 use crate::effective::Effective;
@@ -35,7 +37,7 @@ impl Rx {
     #[tactic(auto, unfolding(crate::specs::Past::anchor_of, crate::specs::Past::drawn, rx_muting::specs::Draws::state_after))]
     pub fn new(call: u32) -> Rx
         requires { IsCallNumber call }
-        ensures value { result ≡ first_memory call }
+        ensures value { result ≡ home_memory call }
         ensures history { Stands call [] result }
     {
         Rx {

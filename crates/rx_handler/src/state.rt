@@ -33,6 +33,7 @@ pub(crate) struct Pause {
     ghost step_stops: { step ≤ 8 },
 }
 
+/// Where the call is: in neither speech nor noise, in speech, or in a pause.
 #[derive(Clone, Copy)]
 pub(crate) enum State {
     Quiet,

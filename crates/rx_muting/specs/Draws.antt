@@ -1,11 +1,11 @@
 -- The draws of a call's random source by their numbers (this project's profile).
 use Rattle.std.specs.Prelude.{ℕ, ◌+◌, zero, suc}
-use Rattle.trau_num.specs.Random.{next_state, drawn_number}
+use Rattle.trau_num.specs.Random.{state_after_draw, drawn_number}
 
 -- the state of a source that starts at r, after this many draws
 unfoldable pub state_after : ℕ → ℕ → ℕ
 state_after r zero = r
-state_after r (suc i) = next_state (state_after r i)
+state_after r (suc i) = state_after_draw (state_after r i)
 
 -- draw number i, from 0, below m, of a source that starts at r
 unfoldable pub draw_of : ℕ → ℕ → ℕ → ℕ

@@ -4,7 +4,7 @@ use Rattle.std.specs.List.{range_with_len}
 use Rattle.std.proofs.lemmas.List.FromFn.{length-map-range_with_len, get_or-map-range_with_len}
 use Rattle.std.proofs.lemmas.List.Elements.{All-from_get_or}
 use Rattle.trau_params.specs.Widths.{FitWidth, FitPulses}
-use Rattle.trau_num.specs.Random.{next_state, drawn_number}
+use Rattle.trau_num.specs.Random.{state_after_draw, drawn_number}
 use Rattle.trau_num.proofs.Fill.{Filled, fill_none, fill_next, fill_all}
 use Rattle.rx_muting.specs.Draws.{state_after, draw_of}
 use Rattle.rx_muting.proofs.Numbered.{draw_of-state_after, draw_of-below, state_after-state_after, state_after-next}
@@ -17,18 +17,19 @@ pub record PulsesDrawn (r0 : ℕ) (xmc : List ℕ) (r i : ℕ) : Type 0 where
   pub filled : Filled 0 (λ i. 1 + draw_of r0 i 6) xmc 13 i
   pub source : r ≡ state_after r0 i
 
+-- pulses drawn so far: none, one more, all thirteen
 pub pulses_none : (r0 : ℕ) (xmc : List ℕ) → length xmc ≡ 13 → PulsesDrawn r0 xmc r0 0
 unfolding state_after
 pulses_none r0 xmc e = record { filled = fill_none 0 (λ i. 1 + draw_of r0 i 6) xmc 13 e; source = refl }
 
 pub pulses_next : (r0 : ℕ) (xmc : List ℕ) (r i v r' : ℕ) → i < 13 → PulsesDrawn r0 xmc r i →
-    v ≡ drawn_number r 6 → r' ≡ next_state r → PulsesDrawn r0 (set xmc i (1 + v)) r' (i + 1)
+    v ≡ drawn_number r 6 → r' ≡ state_after_draw r → PulsesDrawn r0 (set xmc i (1 + v)) r' (i + 1)
 unfolding draw_of
 pulses_next r0 xmc r i v r' h d value state =
     let source = d.source in
     record {
       filled = fill_next 0 (λ i. 1 + draw_of r0 i 6) xmc 13 i (1 + v) h d.filled (ap (λ x. 1 + x) (value ∙ ap (λ s. drawn_number s 6) source));
-      source = state ∙ ap next_state source ∙ state_after-next r0 i;
+      source = state ∙ ap state_after_draw source ∙ state_after-next r0 i;
     }
 
 pub pulses_all : (r0 : ℕ) (xmc : List ℕ) (r i : ℕ) → 13 ≤ i → PulsesDrawn r0 xmc r i → xmc ≡ noise_pulses (draw_of r0) 0
@@ -57,6 +58,7 @@ pub record BlocksDrawn (r0 : ℕ) (mc : List ℕ) (xmc : List (List ℕ)) (r j :
   pub pulses : Filled [] (λ j. noise_pulses (draw_of r0) (14 * j + 1)) xmc 4 j
   pub source : r ≡ state_after r0 (14 * j)
 
+-- the same of the four blocks
 pub blocks_none : (r0 : ℕ) (mc : List ℕ) (xmc : List (List ℕ)) → length mc ≡ 4 → length xmc ≡ 4 → BlocksDrawn r0 mc xmc r0 0
 unfolding state_after
 blocks_none r0 mc xmc e f = record {

@@ -9,6 +9,7 @@ use Rattle.std.proofs.lemmas.Slice.Zip.{get_or-zip, length-zip}
 use Rattle.trau_params.specs.Fields.{Fields}
 use Rattle.rx_noise.specs.Mix.{mixed, all_mixed, mix_of}
 
+-- eight parts are the whole
 parts_of_eight : (i x : ℕ) → i ≤ 8 → x * (8 - i) + x * i ≡ x * 8
 parts_of_eight i x h = sym (mul-add x (8 - i) i) ∙ ap (λ n. x * n) (let e : 8 - i + i ≡ 8 = omega arith in e)
 
@@ -20,6 +21,7 @@ mixed-below i old new n h a b =
     let all = parts_of_eight i (n - 1) h in
     omega arith
 
+-- of two that are the same
 pub mixed-one : (i x : ℕ) → i ≤ 8 → mixed i x x ≡ x
 mixed-one i x h =
     let all = parts_of_eight i x h in
@@ -33,6 +35,7 @@ pub mix_of-one : (q : Fields) (i : ℕ) → i ≤ 8 → mix_of q q i ≡ q
 unfolding mix_of
 mix_of-one q i h = let l = all_mixed-one i q.larc h in let x = all_mixed-one i q.xmaxc h in rw (l, x) refl
 
+-- at the last step the new ones are there
 all_mixed-end : (old new : List ℕ) → length old ≡ length new → all_mixed 8 old new ≡ new
 all_mixed-end [] [] e = refl
 all_mixed-end [] (y ∷ ys) e = absurd (omega arith)

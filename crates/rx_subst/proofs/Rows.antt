@@ -2,7 +2,7 @@
 use Rattle.std.proofs.Common.{◌≡◌, refl, [], ◌∷◌, replicate}
 use Rattle.trau_params.specs.Fields.{Fields}
 use Rattle.trau_params.specs.Silence.{silent_fields}
-use Rattle.trau_num.specs.Random.{next_state, drawn_number}
+use Rattle.trau_num.specs.Random.{state_after_draw, drawn_number}
 use Rattle.rx_muting.specs.Draws.{state_after, draw_of}
 use Rattle.rx_muting.specs.Muting.{lowered_maxima}
 use Rattle.rx_subst.specs.Lost.{random_grids, muted_of, lost_of}
@@ -22,7 +22,7 @@ unfolding lost_of
 first_repeats = refl
 
 second : lost_of good 2 (draw_of 7) ≡ record good { mc = 3 ∷ 0 ∷ 1 ∷ 0 ∷ []; xmaxc = replicate 4 16 }
-unfolding lost_of muted_of random_grids lowered_maxima draw_of drawn_number state_after next_state
+unfolding lost_of muted_of random_grids lowered_maxima draw_of drawn_number state_after state_after_draw
 second = refl
 
 sixth : (lost_of good 6 (draw_of 7)).xmaxc ≡ replicate 4 0

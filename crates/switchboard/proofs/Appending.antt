@@ -18,20 +18,24 @@ or_else (Some x) y = Some x
 abbrev pub after : Done → Bridge → Bridge
 after d x = record x { ended = or_else x.ended (option_map (λ d. d.order.stamp) (find (λ d. ends_bridge x.a x.b d.result) (d ∷ []))) }
 
-abbrev stamp_of : Option Done → Option ℕ
+-- the stamp of an executed order
+abbrev pub stamp_of : Option Done → Option ℕ
 stamp_of o = option_map (λ d. d.order.stamp) o
 
+-- a search over one more order: what is found first is what was found before, or the new one
 one_more : (t : Bool) (e : Done) (u v : Option Done) (w : Option ℕ) → stamp_of u ≡ or_else (stamp_of v) w →
     stamp_of (if t then Some e else u) ≡ or_else (stamp_of (if t then Some e else v)) w
 one_more true e u v w h = refl
 one_more false e u v w h = h
 
+-- the first order that ends a bridge, with one more order behind the others
 first_ender : (a b : ℕ) (d : Done) (later : List Done) →
     stamp_of (find (λ x. ends_bridge a b x.result) (later ++ d ∷ [])) ≡
     or_else (stamp_of (find (λ x. ends_bridge a b x.result) later)) (stamp_of (find (λ x. ends_bridge a b x.result) (d ∷ [])))
 first_ender a b d [] = refl
 first_ender a b d (e ∷ later) = one_more (ends_bridge a b e.result) e _ _ _ (first_ender a b d later)
 
+-- the bridge that an order made, with one more order behind it
 bridge_by-more : (t : ℕ) (r : Result Act Refusal) (later : List Done) (d : Done) → bridge_by t r (later ++ d ∷ []) ≡ map (after d) (bridge_by t r later)
 bridge_by-more t (Ok (act.Bridged a b)) later d = ap (λ o. record { a = a; b = b; from = t; ended = o } ∷ []) (first_ender a b d later)
 bridge_by-more t (Ok (act.Opened c law)) later d = refl

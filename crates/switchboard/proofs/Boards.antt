@@ -1,156 +1,29 @@
 -- The board before and after an order, and after an end.
-use Rattle.std.proofs.Common.{◌≡◌, refl, sym, ap, ◌∙◌, subst, ℕ, zero, suc, ◌+◌, ◌<◌, ◌≤◌, true, Option, Some, None, List, [], ◌∷◌, ◌++◌, length, map, get_or, set, drop, replicate, arith}
-use Rattle.std.specs.Prelude.{Result, Ok, Err, is_some, IfSome}
+use Rattle.std.proofs.Common.{◌≡◌, refl, sym, ap, ◌∙◌, subst, ℕ, zero, suc, ◌+◌, ◌<◌, ◌≤◌, true, Option, Some, None, List, [], ◌∷◌, ◌++◌, length, map, drop, replicate, arith}
+use Rattle.std.specs.Prelude.{Result, IfSome}
 use Rattle.std.specs.List.{filter_map}
-use Rattle.std.proofs.lemmas.List.{length-append, length-map, length-replicate, length-set, map-set, set-get_or}
+use Rattle.std.proofs.lemmas.List.{length-append, length-replicate, length-set, map-set}
 use Rattle.trau_orders.specs.declared.order.Order.{Order}
 use Rattle.trau_orders.specs.Lists.{AreOrders, NamesCalls}
 use Rattle.switchboard.specs.declared.act.Act.{Act}
-use Rattle.switchboard.specs.declared.act.Act.TheVariants as act
 use Rattle.switchboard.specs.declared.act.Refusal.{Refusal}
 use Rattle.switchboard.specs.declared.act.Reply.{Reply}
 use Rattle.switchboard.specs.declared.table.Call.{Call}
 use Rattle.switchboard.specs.Calls.{Done, is_open}
-use Rattle.switchboard.specs.Bridges.{bridge_by, bridges}
+use Rattle.switchboard.specs.Bridges.{bridges}
 use Rattle.switchboard.specs.Replies.{reply_from, reply_to}
-use Rattle.switchboard.specs.Rows.{Rows, IsSized, rows, never, call_in, is_open_in, known_in, applied, gone_of, with_bridge, parted_at, parted_in, call_ended_in, span_in}
-use Rattle.switchboard.specs.State.{State, start_of, first_of, last_stamp, numbered, told_in, gone_in, told_more, turned, reply_of}
+use Rattle.switchboard.specs.Rows.{Rows, IsSized, rows, never, call_in, is_open_in, known_in, applied, gone_of, call_ended_in, span_in}
+use Rattle.switchboard.specs.State.{State, new_board, first_order, last_stamp, numbered, told_in, gone_in, told_more, after_turn, reply_of}
 use Rattle.switchboard.specs.Ends.{spans_now}
-use Rattle.switchboard.specs.Stands.{IsLatest, Stands, IsBoard, dones, state_of}
-use Rattle.switchboard.proofs.Lists.{filter_map-somes, somes-fewer, get_or-map_all}
+use Rattle.switchboard.specs.Stands.{IsLatest, Stands, IsBoard, dones, board_state}
+use Rattle.switchboard.proofs.Lists.{get_or-map_all}
 use Rattle.switchboard.proofs.Known.{open_parts, open_agrees, reply_agrees}
-use Rattle.switchboard.proofs.Tables.{table_lost}
+use Rattle.switchboard.proofs.TableLost.{table_lost}
 use Rattle.switchboard.proofs.Steps.{field_kept}
-use Rattle.switchboard.proofs.Moves.{stands_more, IsSome_before}
-
--- ---- orders and replies
-
-pub length-dones : (os : List Order) (xs : List Reply) → length xs ≤ length os → length (dones os xs) ≡ length xs
-length-dones [] [] h = refl
-length-dones [] (x ∷ xs) h = absurd (omega arith)
-length-dones (o ∷ os) [] h = refl
-length-dones (o ∷ os) (x ∷ xs) h = let e = length-dones os xs (omega arith) in omega arith
-
-dones-nil : (os : List Order) → dones os [] ≡ []
-dones-nil [] = refl
-dones-nil (o ∷ os) = refl
-
-never_at : (n i : ℕ) → get_or (replicate n never) i never ≡ never
-never_at zero i = refl
-never_at (suc n) zero = refl
-never_at (suc n) (suc i) = never_at n i
-
-pub dones-more : (os : List Order) (xs : List Reply) (x : Reply) (o : Order) → first_of (drop (length xs) os) ≡ Some o → dones os (xs ++ x ∷ []) ≡ dones os xs ++ record { order = o; result = x.result } ∷ []
-dones-more [] [] x o e = cc
-dones-more [] (y ∷ xs) x o e = cc
-dones-more (p ∷ os) [] x o e = let q : p ≡ o = cc in ap (λ ds. record { order = p; result = x.result } ∷ ds) (dones-nil os) ∙ ap (λ (p : Order). record { order = p; result = x.result } ∷ []) q
-dones-more (p ∷ os) (y ∷ xs) x o e = ap (λ ds. record { order = p; result = y.result } ∷ ds) (dones-more os xs x o e)
-
-pub numbered-more : (n : ℕ) (ds : List Done) (d : Done) → numbered n (ds ++ d ∷ []) ≡ numbered n ds ++ record { order = n + length ds + 1; result = d.result } ∷ []
-numbered-more n [] d = ap (λ k. record { order = k; result = d.result } ∷ []) (omega arith)
-numbered-more n (e ∷ ds) d = ap (λ xs. record { order = n + 1; result = e.result } ∷ xs) (numbered-more (n + 1) ds d ∙ ap (λ k. numbered (n + 1) ds ++ record { order = k; result = d.result } ∷ []) (omega arith))
-
-pub left-more : (os : List Order) (xs : List Reply) (x : Reply) → drop (length (xs ++ x ∷ [])) os ≡ drop 1 (drop (length xs) os)
-left-more [] [] x = refl
-left-more [] (y ∷ xs) x = refl
-left-more (o ∷ os) [] x = refl
-left-more (o ∷ os) (y ∷ xs) x = left-more os xs x
-
-pub next-within : (os : List Order) (n : ℕ) (o : Order) → first_of (drop n os) ≡ Some o → (n < length os) × (get_or os n o ≡ o)
-next-within [] zero o e = cc
-next-within [] (suc n) o e = cc
-next-within (p ∷ os) zero o e = (omega arith, cc)
-next-within (p ∷ os) (suc n) o e = let h = next-within os n o e in (omega (arith, h.0), h.1)
-
-last-dones : (os : List Order) (xs : List Reply) (m : ℕ) (d : Order) → length xs ≤ length os → ((i : ℕ) → i < length xs → (get_or os i d).stamp ≤ m) → last_stamp (dones os xs) ≤ m
-last-dones [] xs m d l h = omega arith
-last-dones (o ∷ os) [] m d l h = omega arith
-last-dones (o ∷ os) (x ∷ []) m d l h = last_one os o m (h 0 (omega arith))
-  where
-    last_one : (os : List Order) (o : Order) (m : ℕ) → o.stamp ≤ m → last_stamp (record { order = o; result = x.result } ∷ dones os []) ≤ m
-    last_one [] o m h = h
-    last_one (p ∷ os) o m h = h
-last-dones (o ∷ []) (x ∷ y ∷ xs) m d l h = absurd (omega arith)
-last-dones (o ∷ p ∷ os) (x ∷ y ∷ xs) m d l h = last-dones (p ∷ os) (y ∷ xs) m d (omega arith) (λ i q. h (suc i) (omega arith))
-
-pub last-before : (os : List Order) (xs : List Reply) (o : Order) → AreOrders os → first_of (drop (length xs) os) ≡ Some o → last_stamp (dones os xs) ≤ o.stamp
-last-before os xs o a e =
-    let w = next-within os (length xs) o e in
-    last-dones os xs o.stamp o (omega (arith, w.0)) (λ i l. let r = a.rising i (length xs) o (omega arith) w.0 in omega (arith, r, ap (λ (p : Order). p.stamp) w.1))
-
--- ---- what was told
-
-pub gone_same : (os : List Order) (xs : List Reply) (r : Rows) → gone_in (state_of os xs r) ≡ gone_of r
-gone_same os xs r = λ i. λ c. is_some (get_or-map_all (λ (e : Call). e.gone) r.calls c never i)
-
-gone_set : (cs : List Call) (c : ℕ) (e : Call) → e.gone ≡ (get_or cs c never).gone → map (λ (e : Call). e.gone) (set cs c e) ≡ map (λ (e : Call). e.gone) cs
-gone_set cs c e h =
-    map-set (λ (e : Call). e.gone) cs c e
-    ∙ ap (λ g. set (map (λ (e : Call). e.gone) cs) c g) (h ∙ sym (get_or-map_all (λ (e : Call). e.gone) cs c never))
-    ∙ set-get_or (map (λ (e : Call). e.gone) cs) c None
-
-parted_keeps : (r : Rows) (t c : ℕ) → (parted_in r t c).calls ≡ r.calls
-parted_keeps r t c = by r t (call_in r c).bridge
-  where
-    by : (r : Rows) (t : ℕ) (o : Option ℕ) → (elim o as (λ _. Rows) [ None ↦ r | Some k ↦ parted_at r t k ]).calls ≡ r.calls
-    by r t None = refl
-    by r t (Some k) = refl
-
-pub told_same : (r : Rows) (t : ℕ) (x : Result Act Refusal) → map (λ (e : Call). e.gone) (applied r t x).calls ≡ map (λ (e : Call). e.gone) r.calls
-told_same r t (Ok (act.Opened c law)) = gone_set r.calls c _ refl
-told_same r t (Ok (act.Closed c None)) = gone_set r.calls c _ refl
-told_same r t (Ok (act.Closed c (Some p))) =
-    gone_set (parted_in r t c).calls c _ refl ∙ ap (map (λ (e : Call). e.gone)) (parted_keeps r t c)
-told_same r t (Ok (act.Bridged a b)) = gone_set (with_bridge r.calls (length r.bridges) a) b _ refl ∙ gone_set r.calls a _ refl
-told_same r t (Ok (act.Unbridged a b)) = ap (map (λ (e : Call). e.gone)) (parted_keeps r t a)
-told_same r t (Ok (act.LevelSet c v)) = refl
-told_same r t (Ok (act.DtxSet c m)) = refl
-told_same r t (Err e) = refl
-
-pub calls_same : (r : Rows) (t : ℕ) (x : Result Act Refusal) → length (applied r t x).calls ≡ length r.calls
-calls_same r t x =
-    let gone : Call → Option ℕ = λ e. e.gone in
-    sym (length-map (applied r t x).calls gone) ∙ ap length (told_same r t x) ∙ length-map r.calls gone
-
-pub most_same : (r : Rows) (t : ℕ) (x : Result Act Refusal) → (applied r t x).most ≡ r.most
-most_same r t (Ok (act.Opened c law)) = refl
-most_same r t (Ok (act.Closed c None)) = refl
-most_same r t (Ok (act.Closed c (Some p))) = most_parted r t (call_in r c).bridge
-  where
-    most_parted : (r : Rows) (t : ℕ) (o : Option ℕ) → (elim o as (λ _. Rows) [ None ↦ r | Some k ↦ parted_at r t k ]).most ≡ r.most
-    most_parted r t None = refl
-    most_parted r t (Some k) = refl
-most_same r t (Ok (act.Bridged a b)) = refl
-most_same r t (Ok (act.Unbridged a b)) = most_parted r t (call_in r a).bridge
-  where
-    most_parted : (r : Rows) (t : ℕ) (o : Option ℕ) → (elim o as (λ _. Rows) [ None ↦ r | Some k ↦ parted_at r t k ]).most ≡ r.most
-    most_parted r t None = refl
-    most_parted r t (Some k) = refl
-most_same r t (Ok (act.LevelSet c v)) = refl
-most_same r t (Ok (act.DtxSet c m)) = refl
-most_same r t (Err e) = refl
-
--- ---- room
-
-few_bridges : (ds : List Done) → length (bridges ds) ≤ length ds
-few_bridges [] = omega arith
-few_bridges (d ∷ ds) = let h = few_bridges ds in omega (arith, length-append (bridge_by d.order.stamp d.result ds) (bridges ds), one_bridge d.order.stamp d.result ds)
-  where
-    one_bridge : (t : ℕ) (x : Result Act Refusal) (ds : List Done) → length (bridge_by t x ds) ≤ 1
-    one_bridge t (Ok (act.Bridged a b)) ds = omega arith
-    one_bridge t (Ok (act.Opened c law)) ds = omega arith
-    one_bridge t (Ok (act.Closed c p)) ds = omega arith
-    one_bridge t (Ok (act.Unbridged a b)) ds = omega arith
-    one_bridge t (Ok (act.LevelSet c v)) ds = omega arith
-    one_bridge t (Ok (act.DtxSet c m)) ds = omega arith
-    one_bridge t (Err e) ds = omega arith
-
-pub bridges-bound : (os : List Order) (xs : List Reply) (r : Rows) → IsBoard os xs r → length r.bridges ≤ length xs
-bridges-bound os xs r b = omega (arith, few_bridges (dones os xs), ap length b.stands.bridges, length-dones os xs b.few)
-
-pub spans-bound : (os : List Order) (xs : List Reply) (r : Rows) → IsBoard os xs r → length r.spans ≤ length r.bridges
-spans-bound os xs r b =
-    omega (arith, ap length (b.stands.table.spans ∙ filter_map-somes (span_in r) r.bridges), somes-fewer (map (span_in r) r.bridges), length-map r.bridges (span_in r))
+use Rattle.switchboard.proofs.MovesOpened.{IsSome_before}
+use Rattle.switchboard.proofs.Moves.{stands_more}
+use Rattle.switchboard.proofs.BoardLists.{length-dones, dones-nil, dones-more, numbered-more, left-more, next-within, last-before, gone_same, told_same, calls_same, most_same, bridges-bound, spans-bound}
+use Rattle.switchboard.proofs.Spans.{never_past}
 
 -- ---- the three changes of a board
 
@@ -162,24 +35,25 @@ board-new os t a e = subst (λ (t : Rows). IsBoard os [] t) (sym e) (record {
   most = refl;
   places = length-replicate 4097 never;
   stands = subst (λ (ds : List Done). Stands (rows (replicate 4097 never) [] [] (length os)) ds) (sym (dones-nil os)) (record {
-    opened = λ c h. ap (λ (e : Call). e.opened) (never_at 4097 c);
-    closed = λ c h. ap (λ (e : Call). e.closed) (never_at 4097 c);
+    opened = λ c h. ap (λ (e : Call). e.opened) (never_past 4097 c);
+    closed = λ c h. ap (λ (e : Call). e.closed) (never_past 4097 c);
     inside = λ c q. cc;
     bridges = refl;
     table = record {
-      latest = λ c h. subst (λ (o : Option ℕ). IsLatest [] c o) (sym (ap (λ (e : Call). e.bridge) (never_at 4097 c))) (λ j l. absurd (omega arith));
+      latest = λ c h. subst (λ (o : Option ℕ). IsLatest [] c o) (sym (ap (λ (e : Call). e.bridge) (never_past 4097 c))) (λ j l. absurd (omega arith));
       sound = λ k l. absurd (omega arith);
       over = λ c i j l h p q. absurd (omega arith);
       shut = λ c s j e l q. absurd (omega arith);
-      untold = λ c s e. ap (λ (e : Call). e.gone) (never_at 4097 c);
-      unused = λ c e. (ap (λ (e : Call). e.closed) (never_at 4097 c), ap (λ (e : Call). e.gone) (never_at 4097 c));
+      untold = λ c s e. ap (λ (e : Call). e.gone) (never_past 4097 c);
+      unused = λ c e. (ap (λ (e : Call). e.closed) (never_past 4097 c), ap (λ (e : Call). e.gone) (never_past 4097 c));
       spans = refl;
     };
   });
 })
 
-pub state-new : (os : List Order) (t : Rows) → t ≡ rows (replicate 4097 never) [] [] (length os) → state_of os [] t ≡ start_of os
-state-new os t e = ap (state_of os []) e ∙ ap (λ ds. record { left = os; done = ds; told = map (λ (e : Call). e.gone) (replicate 4097 never) }) (dones-nil os)
+pub state-new : (os : List Order) (t : Rows) → t ≡ rows (replicate 4097 never) [] [] (length os) → board_state os [] t ≡ new_board os
+state-new os t e = ap (board_state os []) e ∙ ap (λ ds. record { left = os; done = ds; told = map (λ (e : Call). e.gone) (replicate 4097 never) })
+    (dones-nil os)
     ∙ ap (λ ts. record { left = os; done = []; told = ts }) (map_replicate 4097)
   where
     map_replicate : (n : ℕ) → map (λ (e : Call). e.gone) (replicate n never) ≡ replicate n None
@@ -192,7 +66,8 @@ reply_of_order k x = record { order = k + 1; result = x }
 abbrev pub reply_at : List Reply → Rows → Order → Reply
 reply_at xs r o = record { order = length xs + 1; result = reply_from (known_in r o.stamp) o.what }
 
-pub board-more : (os : List Order) (xs : List Reply) (r : Rows) (o : Order) → IsBoard os xs r → IsSized r.calls r.bridges → first_of (drop (length xs) os) ≡ Some o → NamesCalls o.what → IsSome_before r o.stamp →
+pub board-more : (os : List Order) (xs : List Reply) (r : Rows) (o : Order) → IsBoard os xs r → IsSized r.calls r.bridges → first_order (drop (length xs) os)
+    ≡ Some o → NamesCalls o.what → IsSome_before r o.stamp →
     IsBoard os (xs ++ reply_at xs r o ∷ []) (applied r o.stamp (reply_from (known_in r o.stamp) o.what))
 board-more os xs r o b z next n told =
     let x = reply_at xs r o in
@@ -201,42 +76,60 @@ board-more os xs r o b z next n told =
     record {
       orders = b.orders;
       few = omega (arith, length-append xs (x ∷ []), w.0);
-      numbered = ap (λ ys. ys ++ x ∷ []) b.numbered ∙ ap (λ k. numbered 0 (dones os xs) ++ record { order = k; result = x.result } ∷ []) (let l = length-dones os xs b.few in omega arith)
+      numbered = ap (λ ys. ys ++ x ∷ []) b.numbered ∙ ap (λ k. numbered 0 (dones os xs) ++ record { order = k; result = x.result } ∷ [])
+          (let l = length-dones os xs b.few in omega arith)
           ∙ sym (ap (numbered 0) e ∙ numbered-more 0 (dones os xs) (record { order = o; result = x.result }));
       most = most_same r o.stamp x.result ∙ b.most;
       places = calls_same r o.stamp x.result ∙ b.places;
-      stands = subst (λ (ds : List Done). Stands (applied r o.stamp x.result) ds) (sym e) (stands_more r (dones os xs) o.stamp o.what b.stands z (last-before os xs o b.orders next) told n);
+      stands = subst (λ (ds : List Done). Stands (applied r o.stamp x.result) ds) (sym e) (stands_more r (dones os xs) o.stamp o.what b.stands z
+          (last-before os xs o b.orders next) told n);
     }
 
-pub reply_is : (os : List Order) (xs : List Reply) (r : Rows) (o : Order) → IsBoard os xs r → IsSized r.calls r.bridges → first_of (drop (length xs) os) ≡ Some o → NamesCalls o.what →
-    reply_from (known_in r o.stamp) o.what ≡ reply_to (gone_in (state_of os xs r)) (dones os xs) o
+-- the reply from the table is that of the board
+pub reply_is : (os : List Order) (xs : List Reply) (r : Rows) (o : Order) → IsBoard os xs r → IsSized r.calls r.bridges → first_order (drop (length xs) os)
+    ≡ Some o → NamesCalls o.what →
+    reply_from (known_in r o.stamp) o.what ≡ reply_to (gone_in (board_state os xs r)) (dones os xs) o
 reply_is os xs r o b z next n =
     reply_agrees r (dones os xs) o.stamp o.what b.stands z (last-before os xs o b.orders next) n
     ∙ ap (λ g. reply_to g (dones os xs) o) (sym (gone_same os xs r))
 
-pub state-more : (os : List Order) (xs : List Reply) (r : Rows) (o : Order) → IsBoard os xs r → IsSized r.calls r.bridges → first_of (drop (length xs) os) ≡ Some o → NamesCalls o.what →
-    state_of os (xs ++ reply_at xs r o ∷ []) (applied r o.stamp (reply_from (known_in r o.stamp) o.what)) ≡ turned (state_of os xs r) (Some o)
+pub state-more : (os : List Order) (xs : List Reply) (r : Rows) (o : Order) → IsBoard os xs r → IsSized r.calls r.bridges → first_order (drop (length xs) os)
+    ≡ Some o → NamesCalls o.what →
+    board_state os (xs ++ reply_at xs r o ∷ []) (applied r o.stamp (reply_from (known_in r o.stamp) o.what)) ≡ after_turn (board_state os xs r) (Some o)
 state-more os xs r o b z next n =
     let x = reply_at xs r o in
-    ap (λ ds. record { left = drop (length (xs ++ x ∷ [])) os; done = ds; told = map (λ (e : Call). e.gone) (applied r o.stamp x.result).calls }) (dones-more os xs x o next)
-    ∙ ap (λ l. record { left = l; done = dones os xs ++ record { order = o; result = x.result } ∷ []; told = map (λ (e : Call). e.gone) (applied r o.stamp x.result).calls }) (left-more os xs x)
-    ∙ ap (λ ts. record { left = drop 1 (drop (length xs) os); done = dones os xs ++ record { order = o; result = x.result } ∷ []; told = ts }) (told_same r o.stamp x.result)
-    ∙ ap (λ y. record { left = drop 1 (drop (length xs) os); done = dones os xs ++ record { order = o; result = y } ∷ []; told = map (λ (e : Call). e.gone) r.calls }) (reply_is os xs r o b z next n)
+    ap (λ ds. record { left = drop (length (xs ++ x ∷ [])) os; done = ds; told = map (λ (e : Call). e.gone) (applied r o.stamp x.result).calls })
+    (dones-more os xs x o next)
+    ∙ ap (λ l. record {
+      left = l;
+      done = dones os xs ++ record { order = o; result = x.result } ∷ [];
+      told = map (λ (e : Call). e.gone) (applied r o.stamp x.result).calls;
+    }) (left-more os xs x)
+    ∙ ap (λ ts. record { left = drop 1 (drop (length xs) os); done = dones os xs ++ record { order = o; result = x.result } ∷ []; told = ts })
+    (told_same r o.stamp x.result)
+    ∙ ap (λ y. record {
+      left = drop 1 (drop (length xs) os);
+      done = dones os xs ++ record { order = o; result = y } ∷ [];
+      told = map (λ (e : Call). e.gone) r.calls;
+    }) (reply_is os xs r o b z next n)
 
-pub answer-more : (os : List Order) (xs : List Reply) (r : Rows) (o : Order) → IsBoard os xs r → IsSized r.calls r.bridges → first_of (drop (length xs) os) ≡ Some o → NamesCalls o.what →
-    Some (reply_at xs r o) ≡ reply_of (state_of os xs r) (Some o)
+pub answer-more : (os : List Order) (xs : List Reply) (r : Rows) (o : Order) → IsBoard os xs r → IsSized r.calls r.bridges → first_order (drop (length xs) os)
+    ≡ Some o → NamesCalls o.what →
+    Some (reply_at xs r o) ≡ reply_of (board_state os xs r) (Some o)
 answer-more os xs r o b z next n =
     ap (λ k. Some (record { order = k + 1; result = reply_from (known_in r o.stamp) o.what })) (sym (length-dones os xs b.few))
     ∙ ap (λ y. Some (record { order = length (dones os xs) + 1; result = y })) (reply_is os xs r o b z next n)
 
 -- the call that is told to have ended
-pub told_call : (os : List Order) (xs : List Reply) (r : Rows) (c : ℕ) → IsBoard os xs r → is_open (gone_in (state_of os xs r)) (dones os xs) c ≡ true → (c < 4097) × (is_open_in r c ≡ true)
+pub told_call : (os : List Order) (xs : List Reply) (r : Rows) (c : ℕ) → IsBoard os xs r → is_open (gone_in (board_state os xs r)) (dones os xs) c ≡ true →
+    (c < 4097) × (is_open_in r c ≡ true)
 told_call os xs r c b e =
     let f : is_open (gone_of r) (dones os xs) c ≡ true = ap (λ g. is_open g (dones os xs) c) (sym (gone_same os xs r)) ∙ e in
     let h = b.stands.inside c (open_parts _ _ _ f).0 in
     (h, open_agrees r (dones os xs) c b.stands h ∙ f)
 
-pub board-told : (os : List Order) (xs : List Reply) (r : Rows) (c at : ℕ) → IsBoard os xs r → IsSized r.calls r.bridges → last_stamp (dones os xs) ≤ at → (c < 4097) × (is_open_in r c ≡ true) → IsBoard os xs (call_ended_in r at c)
+pub board-told : (os : List Order) (xs : List Reply) (r : Rows) (c at : ℕ) → IsBoard os xs r → IsSized r.calls r.bridges → last_stamp (dones os xs) ≤ at →
+    (c < 4097) × (is_open_in r c ≡ true) → IsBoard os xs (call_ended_in r at c)
 board-told os xs r c at b z late o =
     let e : Call = record (call_in r c) { gone = Some at } in
     record {
@@ -254,61 +147,73 @@ board-told os xs r c at b z late o =
       };
     }
 
-pub state-told : (os : List Order) (xs : List Reply) (r : Rows) (c at : ℕ) → state_of os xs (call_ended_in r at c) ≡ told_more (state_of os xs r) c at
+pub state-told : (os : List Order) (xs : List Reply) (r : Rows) (c at : ℕ) → board_state os xs (call_ended_in r at c) ≡ told_more (board_state os xs r) c at
 state-told os xs r c at =
-    ap (λ ts. record { left = drop (length xs) os; done = dones os xs; told = ts }) (map-set (λ (e : Call). e.gone) r.calls c (record (call_in r c) { gone = Some at }))
+    ap (λ ts. record { left = drop (length xs) os; done = dones os xs; told = ts })
+    (map-set (λ (e : Call). e.gone) r.calls c (record (call_in r c) { gone = Some at }))
 
--- ---- as the board's calls meet them: `s` is what is seen of the board
+-- ---- as the board's functions meet them: `s` is what is seen of the board
 
 pub record Ready (os : List Order) (xs : List Reply) (r : Rows) (s : State) (o : Order) : Type 0 where
   pub board : IsBoard os xs r
   pub sized : IsSized r.calls r.bridges
-  pub seen : state_of os xs r ≡ s
-  pub next : first_of s.left ≡ Some o
+  pub seen : board_state os xs r ≡ s
+  pub next : first_order s.left ≡ Some o
   pub calls : NamesCalls o.what
   pub ends : (c : ℕ) → IfSome (told_in s c) (λ at. at < o.stamp)
 
-pub next_of : (os : List Order) (xs : List Reply) (r : Rows) (s : State) (o : Order) → Ready os xs r s o → first_of (drop (length xs) os) ≡ Some o
-next_of os xs r s o y = ap (λ (s : State). first_of s.left) y.seen ∙ y.next
+-- the next order of the list is the one that the board executes
+pub next_of : (os : List Order) (xs : List Reply) (r : Rows) (s : State) (o : Order) → Ready os xs r s o → first_order (drop (length xs) os) ≡ Some o
+next_of os xs r s o y = ap (λ (s : State). first_order s.left) y.seen ∙ y.next
 
+-- each end that was told lies before it
 pub told_of : (os : List Order) (xs : List Reply) (r : Rows) (s : State) (o : Order) → Ready os xs r s o → IsSome_before r o.stamp
 told_of os xs r s o y c =
     let e : told_in s c ≡ (call_in r c).gone = sym (ap (λ (s : State). told_in s c) y.seen) ∙ get_or-map_all (λ (e : Call). e.gone) r.calls c never in
     subst (λ (i : Option ℕ). IfSome i (λ at. at < o.stamp)) e (y.ends c)
 
 -- the replies after this order
-pub replied : (xs ys : List Reply) (r : Rows) (o : Order) (x : Result Act Refusal) (k : ℕ) → x ≡ reply_from (known_in r o.stamp) o.what → k ≡ length xs → ys ≡ xs ++ record { order = k + 1; result = x } ∷ [] → ys ≡ xs ++ reply_at xs r o ∷ []
-replied xs ys r o x k p q e = e ∙ ap (λ (k : ℕ). xs ++ record { order = k + 1; result = x } ∷ []) q ∙ ap (λ (x : Result Act Refusal). xs ++ record { order = length xs + 1; result = x } ∷ []) p
+pub replied : (xs ys : List Reply) (r : Rows) (o : Order) (x : Result Act Refusal) (k : ℕ) → x ≡ reply_from (known_in r o.stamp) o.what → k ≡ length xs →
+    ys ≡ xs ++ record { order = k + 1; result = x } ∷ [] → ys ≡ xs ++ reply_at xs r o ∷ []
+replied xs ys r o x k p q e = e ∙ ap (λ (k : ℕ). xs ++ record { order = k + 1; result = x } ∷ []) q
+    ∙ ap (λ (x : Result Act Refusal). xs ++ record { order = length xs + 1; result = x } ∷ []) p
 
-pub execute_board : (os : List Order) (xs ys : List Reply) (r n : Rows) (s : State) (o : Order) (x : Result Act Refusal) → Ready os xs r s o → x ≡ reply_from (known_in r o.stamp) o.what → n ≡ applied r o.stamp x → ys ≡ xs ++ reply_at xs r o ∷ [] → IsBoard os ys n
+pub execute_board : (os : List Order) (xs ys : List Reply) (r n : Rows) (s : State) (o : Order) (x : Result Act Refusal) → Ready os xs r s o →
+    x ≡ reply_from (known_in r o.stamp) o.what → n ≡ applied r o.stamp x → ys ≡ xs ++ reply_at xs r o ∷ [] → IsBoard os ys n
 execute_board os xs ys r n s o x y p q e =
     subst (λ (ys : List Reply). IsBoard os ys n) (sym e) (subst (λ (n : Rows). IsBoard os (xs ++ reply_at xs r o ∷ []) n) (sym (q ∙ ap (applied r o.stamp) p))
     (board-more os xs r o y.board y.sized (next_of os xs r s o y) y.calls (told_of os xs r s o y)))
 
-pub execute_state : (os : List Order) (xs ys : List Reply) (r n : Rows) (s : State) (o : Order) (x : Result Act Refusal) → Ready os xs r s o → x ≡ reply_from (known_in r o.stamp) o.what → n ≡ applied r o.stamp x → ys ≡ xs ++ reply_at xs r o ∷ [] → state_of os ys n ≡ turned s (Some o)
+pub execute_state : (os : List Order) (xs ys : List Reply) (r n : Rows) (s : State) (o : Order) (x : Result Act Refusal) → Ready os xs r s o →
+    x ≡ reply_from (known_in r o.stamp) o.what → n ≡ applied r o.stamp x → ys ≡ xs ++ reply_at xs r o ∷ [] → board_state os ys n ≡ after_turn s (Some o)
 execute_state os xs ys r n s o x y p q e =
-    ap (λ ys. state_of os ys n) e ∙ ap (state_of os (xs ++ reply_at xs r o ∷ [])) (q ∙ ap (applied r o.stamp) p)
-    ∙ state-more os xs r o y.board y.sized (next_of os xs r s o y) y.calls ∙ ap (λ s. turned s (Some o)) y.seen
+    ap (λ ys. board_state os ys n) e ∙ ap (board_state os (xs ++ reply_at xs r o ∷ [])) (q ∙ ap (applied r o.stamp) p)
+    ∙ state-more os xs r o y.board y.sized (next_of os xs r s o y) y.calls ∙ ap (λ s. after_turn s (Some o)) y.seen
 
-pub execute_answer : (os : List Order) (xs : List Reply) (r : Rows) (s : State) (o : Order) (x : Result Act Refusal) (k : ℕ) → Ready os xs r s o → x ≡ reply_from (known_in r o.stamp) o.what → k ≡ length xs → Some (reply_of_order k x) ≡ reply_of s (Some o)
+pub execute_answer : (os : List Order) (xs : List Reply) (r : Rows) (s : State) (o : Order) (x : Result Act Refusal) (k : ℕ) → Ready os xs r s o →
+    x ≡ reply_from (known_in r o.stamp) o.what → k ≡ length xs → Some (reply_of_order k x) ≡ reply_of s (Some o)
 execute_answer os xs r s o x k y p q =
     ap (λ (k : ℕ). Some (reply_of_order k x)) q ∙ ap (λ (x : Result Act Refusal). Some (reply_of_order (length xs) x)) p
     ∙ answer-more os xs r o y.board y.sized (next_of os xs r s o y) y.calls ∙ ap (λ s. reply_of s (Some o)) y.seen
 
-pub told_is : (os : List Order) (xs : List Reply) (r : Rows) → told_in (state_of os xs r) ≡ (λ c. (call_in r c).gone)
+-- the ends that were told are those of the table
+pub told_is : (os : List Order) (xs : List Reply) (r : Rows) → told_in (board_state os xs r) ≡ (λ c. (call_in r c).gone)
 told_is os xs r = λ i. λ c. get_or-map_all (λ (e : Call). e.gone) r.calls c never i
 
-pub spans_seen : (os : List Order) (xs : List Reply) (r : Rows) (s : State) → IsBoard os xs r → state_of os xs r ≡ s → r.spans ≡ spans_now (told_in s) s.done
+-- the spans of the table are those of the board
+pub spans_seen : (os : List Order) (xs : List Reply) (r : Rows) (s : State) → IsBoard os xs r → board_state os xs r ≡ s → r.spans ≡ spans_now (told_in s) s.done
 spans_seen os xs r s b e =
     b.stands.table.spans ∙ ap (filter_map (span_in r)) b.stands.bridges
     ∙ sym (ap (λ f. spans_now f (dones os xs)) (told_is os xs r)) ∙ ap (λ (s : State). spans_now (told_in s) s.done) e
 
 -- there is room for one more bridge and span
-pub room : (os : List Order) (xs : List Reply) (r : Rows) (s : State) (o : Order) → IsBoard os xs r → state_of os xs r ≡ s → first_of s.left ≡ Some o → (length r.bridges < r.most) × (length r.spans < r.most)
+pub room : (os : List Order) (xs : List Reply) (r : Rows) (s : State) (o : Order) → IsBoard os xs r → board_state os xs r ≡ s → first_order s.left ≡ Some o →
+    (length r.bridges < r.most) × (length r.spans < r.most)
 room os xs r s o b e n =
-    let w = next-within os (length xs) o (ap (λ (s : State). first_of s.left) e ∙ n) in
+    let w = next-within os (length xs) o (ap (λ (s : State). first_order s.left) e ∙ n) in
     (omega (arith, w.0, bridges-bound os xs r b, b.most), omega (arith, w.0, bridges-bound os xs r b, spans-bound os xs r b, b.most))
 
 -- and for one more reply
-pub reply_room : (os : List Order) (xs : List Reply) (r : Rows) (s : State) (o : Order) → state_of os xs r ≡ s → first_of s.left ≡ Some o → length xs < length os
-reply_room os xs r s o e n = (next-within os (length xs) o (ap (λ (s : State). first_of s.left) e ∙ n)).0
+pub reply_room : (os : List Order) (xs : List Reply) (r : Rows) (s : State) (o : Order) → board_state os xs r ≡ s → first_order s.left ≡ Some o →
+    length xs < length os
+reply_room os xs r s o e n = (next-within os (length xs) o (ap (λ (s : State). first_order s.left) e ∙ n)).0

@@ -10,7 +10,7 @@ use Rattle.switchboard.specs.declared.act.Act.TheVariants as act
 use Rattle.switchboard.specs.declared.act.Refusal.{Refusal}
 use Rattle.switchboard.specs.declared.act.Reply.{Reply}
 use Rattle.switchboard.specs.Calls.{Done, is_this, opened_by, law_by, opened_at, law_at}
-use Rattle.switchboard.specs.State.{State, turned, done_by, reply_of}
+use Rattle.switchboard.specs.State.{State, after_turn, done_by, reply_of}
 use Rattle.switchboard.specs.Open.{opened_now, open_now, law_now, partner_now, law_after, Finds}
 use Rattle.switchboard.proofs.Appending.{or_else}
 use Rattle.switchboard.proofs.Steps.{or_else-none}
@@ -23,6 +23,7 @@ opener c ds = find (λ d. is_this c (opened_by d.result)) ds
 abbrev given : Option Done → Law
 given o = elim o [ None ↦ A | Some d ↦ law_by d.result ]
 
+-- a search over one more order finds what it found before, or the new one
 first_more : (t : Bool) (e : Done) (u v w : Option Done) → u ≡ or_else v w → (if t then Some e else u) ≡ or_else (if t then Some e else v) w
 first_more true e u v w h = refl
 first_more false e u v w h = h
@@ -37,6 +38,7 @@ law_kept c ds d other =
     let none : opener c (d ∷ []) ≡ None = ap (λ (t : Bool). if t then Some d else None) other in
     ap given (opener-more c ds (d ∷ []) ∙ ap (or_else (opener c ds)) none ∙ or_else-none _)
 
+-- where the first has something, it is taken
 first_stays : (u w : Option Done) → is_some (option_map (λ d. d.order.stamp) u) ≡ true → or_else u w ≡ u
 first_stays None w e = cc
 first_stays (Some d) w e = refl
@@ -45,10 +47,12 @@ first_stays (Some d) w e = refl
 pub law_stays : (c : ℕ) (ds later : List Done) → is_some (opened_at c ds) ≡ true → law_at c (ds ++ later) ≡ law_at c ds
 law_stays c ds later e = ap given (opener-more c ds later ∙ first_stays (opener c ds) (opener c later) e)
 
+-- where it has nothing, the second is taken
 second_first : (u w : Option Done) → is_some (option_map (λ d. d.order.stamp) u) ≡ false → or_else u w ≡ w
 second_first None w e = refl
 second_first (Some d) w e = cc
 
+-- an order that opens a new call gives it the law that it names, and no other call
 law_opened : (n c : ℕ) (law : Law) (ds : List Done) (o : Order) → is_some (opened_at n ds) ≡ false →
     law_at c (ds ++ record { order = o; result = Ok (act.Opened n law) } ∷ []) ≡ (if c == n then law else law_at c ds)
 law_opened n c law ds o fresh = elim (cases_eq c n) [
@@ -73,6 +77,7 @@ law_opened n c law ds o fresh = elim (cases_eq c n) [
 abbrev Follows : State → Order → Act → ℕ → Type 0
 Follows s o a c = law_at c (s.done ++ record { order = o; result = Ok a } ∷ []) ≡ law_after a (law_now s) c
 
+-- each call has the law after an accepted order that its act says
 follows : (s : State) (o : Order) (a : Act) → Finds a (opened_now s) (open_now s) (partner_now s) → (c : ℕ) → Follows s o a c
 follows s o (act.Opened n law) f c = law_opened n c law s.done o f.1
 follows s o (act.Closed n p) f c = law_kept c s.done _ refl
@@ -81,12 +86,15 @@ follows s o (act.Unbridged a b) f c = law_kept c s.done _ refl
 follows s o (act.LevelSet n v) f c = law_kept c s.done _ refl
 follows s o (act.DtxSet n m) f c = law_kept c s.done _ refl
 
-changes_by : (s n : State) (o : Order) (x : Result Act Refusal) → (done_by s o).result ≡ x → n ≡ turned s (Some o) →
+-- so it is after the next order ..
+changes_by : (s n : State) (o : Order) (x : Result Act Refusal) → (done_by s o).result ≡ x → n ≡ after_turn s (Some o) →
     IfOk x (λ a. Finds a (opened_now s) (open_now s) (partner_now s)) → IfOk x (λ a. (c : ℕ) → law_now n c ≡ law_after a (law_now s) c)
 changes_by s n o (Err e) same next finds = tt
 changes_by s n o (Ok a) same next finds = λ c.
-    ap (λ (n : State). law_now n c) next ∙ ap (λ (x : Result Act Refusal). law_at c (s.done ++ record { order = o; result = x } ∷ [])) same ∙ follows s o a finds c
+    ap (λ (n : State). law_now n c) next ∙ ap (λ (x : Result Act Refusal). law_at c (s.done ++ record { order = o; result = x } ∷ [])) same
+    ∙ follows s o a finds c
 
-pub law_changes : (s n : State) (o : Order) (r : Reply) → n ≡ turned s (Some o) → Some r ≡ reply_of s (Some o) →
+-- .. by its reply
+pub law_changes : (s n : State) (o : Order) (r : Reply) → n ≡ after_turn s (Some o) → Some r ≡ reply_of s (Some o) →
     IfOk r.result (λ a. Finds a (opened_now s) (open_now s) (partner_now s)) → IfOk r.result (λ a. (c : ℕ) → law_now n c ≡ law_after a (law_now s) c)
 law_changes s n o r next answer finds = changes_by s n o r.result (let q : (done_by s o).result ≡ r.result = cc in q) next finds

@@ -14,7 +14,7 @@ use Rattle.switchboard.specs.Rows.{Rows, IsSized, has_ended_in, call_in, bridge_
 use Rattle.switchboard.specs.Ends.{least}
 use Rattle.switchboard.specs.State.{last_stamp}
 use Rattle.switchboard.specs.Stands.{IsOver, IsLatest, IsSound, Stands}
-use Rattle.switchboard.proofs.Lists.{find-none, find-only}
+use Rattle.switchboard.proofs.Lists.{find-none, find-only, not_both}
 
 -- ---- open calls and live bridges
 
@@ -22,12 +22,14 @@ pub not_true : (b : Bool) → (b ≡ true → ⊥) → b ≡ false
 not_true true h = absurd (h refl)
 not_true false h = refl
 
+-- an open call was opened, and neither closed nor ended by its lines
 pub open_parts : (o l g : Option ℕ) → (is_some o && not (is_some l) && not (is_some g)) ≡ true → (is_some o ≡ true) × (l ≡ None) × (g ≡ None)
 open_parts None l g e = cc
 open_parts (Some x) (Some y) g e = cc
 open_parts (Some x) None (Some z) e = cc
 open_parts (Some x) None None e = (refl, refl, refl)
 
+-- the lesser of two is none only where both are
 pub least_none : (a b : Option ℕ) → least a b ≡ None → (a ≡ None) × (b ≡ None)
 least_none None b e = (refl, e)
 least_none (Some x) None e = cc
@@ -37,12 +39,14 @@ is_none-none : (o : Option ℕ) → is_none o ≡ true → o ≡ None
 is_none-none None e = refl
 is_none-none (Some x) e = cc
 
+-- a live bridge was not ended, and both of its calls are open
 pub live_parts : (r : Rows) (x : Bridge) → is_live_in r x ≡ true → (x.ended ≡ None) × (is_open_in r x.a ≡ true) × (is_open_in r x.b ≡ true)
 live_parts r x e =
     let p = and_parts (is_none x.ended && is_open_in r x.a) (is_open_in r x.b) e in
     let q = and_parts (is_none x.ended) (is_open_in r x.a) p.0 in
     (is_none-none x.ended q.0, q.1, p.1)
 
+-- a live bridge has no end, and one without an end is live
 pub live-no_end : (r : Rows) (x : Bridge) → is_live_in r x ≡ true → end_in r x ≡ None
 live-no_end r x e =
     let p = live_parts r x e in
@@ -62,15 +66,14 @@ over-not_live r t x o = not_true _ (λ e. let n = live-no_end r x e in let s = o
 
 -- ---- the latest bridge of a call
 
+-- what fails where a test passes, fails with it
 miss : (t w : Bool) → (t ≡ true → w ≡ false) → (t && w) ≡ false
 miss true w h = h refl
 miss false w h = refl
 
+-- two numbers that differ, of which the second is not the lesser
 less : (j k : ℕ) → j ≢ k → (k < j → ⊥) → j < k
 less j k ne not_above = elim (cases_order j k) [ inl e ↦ absurd (ne e) | inr (inl l) ↦ l | inr (inr l) ↦ absurd (not_above l) ]
-
-both : (t : Bool) → t ≡ false → t ≡ true → ⊥
-both t p q = cc
 
 -- a test of a call's bridges that only the latest may pass
 pub latest-find : (bs : List Bridge) (c : ℕ) (o : Option ℕ) (P V : Bridge → Bool) → IsLatest bs c o →
@@ -80,9 +83,10 @@ pub latest-find : (bs : List Bridge) (c : ℕ) (o : Option ℕ) (P V : Bridge �
 latest-find bs c None P V latest is earlier =
     find-none P bs no_bridge (λ j l. is j l ∙ ap (λ t. t && V (get_or bs j no_bridge)) (latest j l))
 latest-find bs c (Some k) P V latest is earlier =
-    find-only P bs k no_bridge latest.0 (λ j l ne. is j l ∙ miss _ _ (λ e. earlier j k refl (less j k ne (λ m. both _ (latest.2 j m l) e)) e))
+    find-only P bs k no_bridge latest.0 (λ j l ne. is j l ∙ miss _ _ (λ e. earlier j k refl (less j k ne (λ m. not_both _ (latest.2 j m l) e)) e))
     ∙ ap (λ t. some_if t (get_or bs k no_bridge)) (is k latest.0 ∙ ap (λ t. t && V (get_or bs k no_bridge)) latest.1)
 
+-- a call without a latest bridge has none
 pub latest_misses : (bs : List Bridge) (c : ℕ) → IsLatest bs c None → (j : ℕ) → j < length bs → joins c (get_or bs j no_bridge) ≡ false
 latest_misses bs c l j h = l j h
 
@@ -95,15 +99,18 @@ earlier_over r ds c j k s h e l q =
 
 -- ---- what is known
 
+-- what the table tells of a call is what the executed orders say: that it is open ..
 pub open_agrees : (r : Rows) (ds : List Done) (c : ℕ) → Stands r ds → c < 4097 → is_open_in r c ≡ is_open (gone_of r) ds c
 open_agrees r ds c s h =
     ap (λ o. is_some o && not (is_some (call_in r c).closed) && not (is_some (call_in r c).gone)) (s.opened c h)
     ∙ ap (λ o. is_some (opened_at c ds) && not (is_some o) && not (is_some (call_in r c).gone)) (s.closed c h)
 
+-- .. that it has ended ..
 ended_call_agrees : (r : Rows) (ds : List Done) (c : ℕ) → Stands r ds → c < 4097 → has_ended_in r c ≡ has_ended (gone_of r) ds c
 ended_call_agrees r ds c s h =
     ap (λ o. is_some o && not (is_open_in r c)) (s.opened c h) ∙ ap (λ t. is_some (opened_at c ds) && not t) (open_agrees r ds c s h)
 
+-- .. of its bridges only the latest can be live ..
 is_latest : (r : Rows) (ds : List Done) (c : ℕ) → Stands r ds → c < 4097 → (j : ℕ) → j < length r.bridges →
     IsSized r.calls r.bridges →
     (joins c (bridge_at_place r j) && lasts (gone_of r) ds (bridge_at_place r j)) ≡ (joins c (bridge_at_place r j) && is_live_in r (bridge_at_place r j))
@@ -113,6 +120,7 @@ is_latest r ds c s h j l z =
     ap (λ t. joins c x && (is_none x.ended && t && is_open (gone_of r) ds x.b)) (sym (open_agrees r ds x.a s n.0))
     ∙ ap (λ t. joins c x && (is_none x.ended && is_open_in r x.a && t)) (sym (open_agrees r ds x.b s n.1))
 
+-- .. its bridge ..
 pub bridge_agrees : (r : Rows) (ds : List Done) (c : ℕ) → Stands r ds → IsSized r.calls r.bridges → c < 4097 → bridge_in r c ≡ bridge_of (gone_of r) ds c
 bridge_agrees r ds c s z h =
     sym (ap (find (λ x. joins c x && lasts (gone_of r) ds x)) (sym s.bridges)
@@ -132,6 +140,7 @@ not_ended_at r now t u x s o h (Some w) e = not_true _ (λ q.
     let v : o.at ≡ w = cc (o.ended, k.0) in
     omega (arith, o.before))
 
+-- .. and the bridge that an order of this stamp ended
 pub ended_agrees : (r : Rows) (ds : List Done) (c t : ℕ) → Stands r ds → last_stamp ds ≤ t → c < 4097 → bridge_ended_in r t c ≡ bridge_ended t ds c
 ended_agrees r ds c t s now h =
     sym (ap (find (λ x. joins c x && is_this t x.ended)) (sym s.bridges)
@@ -145,25 +154,35 @@ ended_agrees r ds c t s now h =
 
 -- ---- the reply
 
-same_open : (k l : Known) (c : ℕ) (law : Law) → k.is_open c ≡ l.is_open c → k.has_ended c ≡ l.has_ended c → reply_from k (what.OpenCall c law) ≡ reply_from l (what.OpenCall c law)
+-- the reply to an order depends on what is known of its calls alone: `open`
+same_open : (k l : Known) (c : ℕ) (law : Law) → k.is_open c ≡ l.is_open c → k.has_ended c ≡ l.has_ended c → reply_from k (what.OpenCall c law)
+    ≡ reply_from l (what.OpenCall c law)
 same_open k l c law p q = cc
 
-same_close : (k l : Known) (c : ℕ) → k.is_open c ≡ l.is_open c → k.bridge_of c ≡ l.bridge_of c → reply_from k (what.CloseCall c) ≡ reply_from l (what.CloseCall c)
+-- `close`
+same_close : (k l : Known) (c : ℕ) → k.is_open c ≡ l.is_open c → k.bridge_of c ≡ l.bridge_of c → reply_from k (what.CloseCall c)
+    ≡ reply_from l (what.CloseCall c)
 same_close k l c p q = cc
 
+-- `bridge`
 same_bridge : (k l : Known) (a b : ℕ) → k.is_open a ≡ l.is_open a → k.is_open b ≡ l.is_open b → k.bridge_of a ≡ l.bridge_of a → k.bridge_of b ≡ l.bridge_of b →
     k.bridge_ended a ≡ l.bridge_ended a → k.bridge_ended b ≡ l.bridge_ended b → reply_from k (what.Bridge a b) ≡ reply_from l (what.Bridge a b)
 same_bridge k l a b p q r s t u = cc
 
-same_unbridge : (k l : Known) (c : ℕ) → k.is_open c ≡ l.is_open c → k.bridge_of c ≡ l.bridge_of c → reply_from k (what.Unbridge c) ≡ reply_from l (what.Unbridge c)
+-- `unbridge`
+same_unbridge : (k l : Known) (c : ℕ) → k.is_open c ≡ l.is_open c → k.bridge_of c ≡ l.bridge_of c → reply_from k (what.Unbridge c)
+    ≡ reply_from l (what.Unbridge c)
 same_unbridge k l c p q = cc
 
+-- `level`
 same_level : (k l : Known) (w : What) → (c : ℕ) → (v : _) → k.is_open c ≡ l.is_open c → reply_from k (what.Level c v) ≡ reply_from l (what.Level c v)
 same_level k l w c v p = cc
 
+-- `dtx`
 same_dtx : (k l : Known) (w : What) → (c : ℕ) → (m : _) → k.is_open c ≡ l.is_open c → reply_from k (what.Dtx c m) ≡ reply_from l (what.Dtx c m)
 same_dtx k l w c m p = cc
 
+-- so the reply from the table is that from the executed orders
 pub reply_agrees : (r : Rows) (ds : List Done) (t : ℕ) (w : What) → Stands r ds → IsSized r.calls r.bridges → last_stamp ds ≤ t → NamesCalls w →
     reply_from (known_in r t) w ≡ reply_from (known_of (gone_of r) t ds) w
 reply_agrees r ds t (what.OpenCall c law) s z now n =
@@ -175,7 +194,8 @@ reply_agrees r ds t (what.CloseCall c) s z now n =
 reply_agrees r ds t (what.Bridge a b) s z now n =
     let h : a < 4097 = omega (arith, n.0.1) in
     let i : b < 4097 = omega (arith, n.1.1) in
-    same_bridge (known_in r t) (known_of (gone_of r) t ds) a b (open_agrees r ds a s h) (open_agrees r ds b s i) (bridge_agrees r ds a s z h) (bridge_agrees r ds b s z i)
+    same_bridge (known_in r t) (known_of (gone_of r) t ds) a b (open_agrees r ds a s h) (open_agrees r ds b s i) (bridge_agrees r ds a s z h)
+    (bridge_agrees r ds b s z i)
     (ended_agrees r ds a t s now h) (ended_agrees r ds b t s now i)
 reply_agrees r ds t (what.Unbridge c) s z now n =
     let h : c < 4097 = omega arith in

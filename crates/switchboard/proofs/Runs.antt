@@ -8,14 +8,17 @@ use Rattle.switchboard.specs.Calls.{Done, opened_at, is_open, gone_at}
 use Rattle.switchboard.specs.Replies.{Known, reply_from, reply_to}
 use Rattle.switchboard.specs.Bridges.{joins, bridge_ended, bridges}
 use Rattle.switchboard.specs.Runs.{executed, IsRun, TellsEnds}
-use Rattle.switchboard.specs.State.{State, gone_in, due, turned}
+use Rattle.switchboard.specs.State.{State, gone_in, due, after_turn}
 
 executed-more : (whole : ℕ → ℕ) (ds : List Done) (os : List Order) (o : Order) →
-    executed whole ds (os ++ o ∷ []) ≡ executed whole ds os ++ record { order = o; result = reply_to (gone_at whole o.stamp (executed whole ds os)) (executed whole ds os) o } ∷ []
+    executed whole ds (os ++ o ∷ []) ≡ executed whole ds os
+    ++ record { order = o; result = reply_to (gone_at whole o.stamp (executed whole ds os)) (executed whole ds os) o } ∷ []
 executed-more whole ds [] o = refl
 executed-more whole ds (p ∷ os) o = executed-more whole (ds ++ record { order = p; result = reply_to (gone_at whole p.stamp ds) ds p } ∷ []) os o
 
-open_same : (o l : Option ℕ) (x y : Bool) → (is_some o ≡ true → l ≡ None → x ≡ y) → (is_some o && not (is_some l) && not x) ≡ (is_some o && not (is_some l) && not y)
+-- a call is open as before where only the ends of calls that are not open differ
+open_same : (o l : Option ℕ) (x y : Bool) → (is_some o ≡ true → l ≡ None → x ≡ y) → (is_some o && not (is_some l) && not x)
+    ≡ (is_some o && not (is_some l) && not y)
 open_same None l x y h = refl
 open_same (Some s) (Some t) x y h = refl
 open_same (Some s) None x y h = ap not (h refl refl)
@@ -28,12 +31,14 @@ known_by f t ds = record {
   bridge_ended = bridge_ended t ds;
 }
 
+-- the reply depends on which calls are open alone
 same_reply : (g h : ℕ → Bool) (ds : List Done) (o : Order) → ((c : ℕ) → is_open g ds c ≡ is_open h ds c) → reply_to g ds o ≡ reply_to h ds o
 same_reply g h ds o e =
     let f : is_open g ds ≡ is_open h ds = λ i. λ c. e c i in
     ap (λ f. reply_from (known_by f o.stamp ds) o.what) f
 
-pub run_more : (whole : ℕ → ℕ) (s : State) (o : Order) → IsRun whole s.done → TellsEnds whole o.stamp s → IsRun whole (turned s (Some o)).done
+-- one more order of a run
+pub run_more : (whole : ℕ → ℕ) (s : State) (o : Order) → IsRun whole s.done → TellsEnds whole o.stamp s → IsRun whole (after_turn s (Some o)).done
 run_more whole s o r t =
     let x = reply_to (gone_in s) s.done o in
     let e = same_reply (gone_in s) (gone_at whole o.stamp s.done) s.done o (λ c. open_same _ _ _ _ (t c)) in
@@ -42,12 +47,13 @@ run_more whole s o r t =
     ∙ sym (executed-more whole [] (map (λ d. d.order) s.done) o)
     ∙ ap (executed whole []) (sym (map-append (λ (d : Done). d.order) s.done (record { order = o; result = x } ∷ [])))
 
-pub run_turned : (whole : ℕ → ℕ) (s : State) (t : ℕ) → IsRun whole s.done → TellsEnds whole t s → IsRun whole (turned s (due s.left t)).done
+pub run_turned : (whole : ℕ → ℕ) (s : State) (t : ℕ) → IsRun whole s.done → TellsEnds whole t s → IsRun whole (after_turn s (due s.left t)).done
 run_turned whole s t r h = by whole s t r h s.left
   where
-    by : (whole : ℕ → ℕ) (s : State) (t : ℕ) → IsRun whole s.done → TellsEnds whole t s → (os : List Order) → IsRun whole (turned s (due os t)).done
+    by : (whole : ℕ → ℕ) (s : State) (t : ℕ) → IsRun whole s.done → TellsEnds whole t s → (os : List Order) → IsRun whole (after_turn s (due os t)).done
     by whole s t r h [] = r
     by whole s t r h (o ∷ os) = elim (cases_Bool (o.stamp == t)) [
-      | inl e ↦ subst (λ (b : Bool). IsRun whole (turned s (if b then Some o else None)).done) (sym e) (run_more whole s o r (subst (λ (t : ℕ). TellsEnds whole t s) (sym (eqb-true o.stamp t e)) h))
-      | inr e ↦ subst (λ (b : Bool). IsRun whole (turned s (if b then Some o else None)).done) (sym e) r
+      | inl e ↦ subst (λ (b : Bool). IsRun whole (after_turn s (if b then Some o else None)).done) (sym e)
+          (run_more whole s o r (subst (λ (t : ℕ). TellsEnds whole t s) (sym (eqb-true o.stamp t e)) h))
+      | inr e ↦ subst (λ (b : Bool). IsRun whole (after_turn s (if b then Some o else None)).done) (sym e) r
     ]

@@ -11,6 +11,7 @@ use Rattle.switchboard.specs.Rows.{Rows, rows, IsSized, never, bridge_at_place, 
 use Rattle.switchboard.specs.Bridges.{no_bridge}
 use Rattle.switchboard.proofs.Lists.{somes, filter_map-somes, somes-take, somes-take-lt, somes-fewer-lt}
 
+-- the place of a span among the spans is how many bridges before it are over
 pub position-somes : (r : Rows) (k : ℕ) → position_in r k ≡ length (somes (take k (map (span_in r) r.bridges)))
 position-somes r k = ap length (filter_map-somes (span_in r) (take k r.bridges) ∙ ap somes (sym (take-map (span_in r) k r.bridges)))
 
@@ -20,23 +21,29 @@ position-le r k e =
     let s = ap length (e ∙ filter_map-somes (span_in r) r.bridges) in
     omega (arith, somes-take (map (span_in r) r.bridges) k, p, s)
 
-pub span_at : (r : Rows) (k : ℕ) (o : Option ℕ) → k < length r.bridges → end_in r (bridge_at_place r k) ≡ o → get_or (map (span_in r) r.bridges) k None ≡ option_map (span_to (bridge_at_place r k)) o
+-- the span of a bridge is among them, at its place
+pub span_at : (r : Rows) (k : ℕ) (o : Option ℕ) → k < length r.bridges → end_in r (bridge_at_place r k) ≡ o → get_or (map (span_in r) r.bridges) k None
+    ≡ option_map (span_to (bridge_at_place r k)) o
 span_at r k o h e = get_or-map (span_in r) r.bridges k no_bridge None h ∙ ap (option_map (span_to (bridge_at_place r k))) e
 
-pub position-lt : (r : Rows) (k v : ℕ) → r.spans ≡ filter_map (span_in r) r.bridges → k < length r.bridges → end_in r (bridge_at_place r k) ≡ Some v → position_in r k < length r.spans
+pub position-lt : (r : Rows) (k v : ℕ) → r.spans ≡ filter_map (span_in r) r.bridges → k < length r.bridges → end_in r (bridge_at_place r k) ≡ Some v →
+    position_in r k < length r.spans
 position-lt r k v e h ended =
     let p = position-somes r k in
     let s = ap length (e ∙ filter_map-somes (span_in r) r.bridges) in
     let l = length-map r.bridges (span_in r) in
     omega (arith, somes-take-lt (map (span_in r) r.bridges) k (span_to (bridge_at_place r k) v) (omega arith) (span_at r k (Some v) h ended), p, s)
 
-pub spans-few : (r : Rows) (k : ℕ) → r.spans ≡ filter_map (span_in r) r.bridges → k < length r.bridges → end_in r (bridge_at_place r k) ≡ None → length r.spans < length r.bridges
+-- while a bridge has no end, there are fewer spans than bridges
+pub spans-few : (r : Rows) (k : ℕ) → r.spans ≡ filter_map (span_in r) r.bridges → k < length r.bridges → end_in r (bridge_at_place r k) ≡ None →
+    length r.spans < length r.bridges
 spans-few r k e h ended =
     let s = ap length (e ∙ filter_map-somes (span_in r) r.bridges) in
     let l = length-map r.bridges (span_in r) in
     omega (arith, somes-fewer-lt (map (span_in r) r.bridges) k (omega arith) (span_at r k None h ended), s)
 
-never_past : (n i : ℕ) → get_or (replicate n never) i never ≡ never
+-- an empty row, and past the rows
+pub never_past : (n i : ℕ) → get_or (replicate n never) i never ≡ never
 never_past zero i = refl
 never_past (suc n) zero = refl
 never_past (suc n) (suc i) = never_past n i

@@ -13,21 +13,24 @@ use Rattle.switchboard.specs.Rows.{Rows, gone_of, is_open_in, is_live_in, IsSize
 use Rattle.switchboard.specs.Runs.{AllEnded}
 use Rattle.switchboard.specs.Ends.{Given, whole_of, lack_of, start_of, ends_at, span_of, spans_of, least, span_to}
 use Rattle.switchboard.specs.State.{State, gone_in}
-use Rattle.switchboard.specs.Stands.{Stands, IsBoard, dones, state_of}
+use Rattle.switchboard.specs.Stands.{Stands, IsBoard, dones, board_state}
 use Rattle.switchboard.proofs.Steps.{cons_same}
 use Rattle.switchboard.proofs.Known.{open_agrees}
-use Rattle.switchboard.proofs.Moves.{one_live}
+use Rattle.switchboard.proofs.MovesParted.{one_live}
 use Rattle.std.specs.Prelude.{is_none, ◌&&◌}
-use Rattle.switchboard.proofs.Tables.{joins_left, joins_right}
-use Rattle.switchboard.proofs.Boards.{gone_same, told_is}
+use Rattle.switchboard.proofs.TableCalls.{joins_left, joins_right}
+use Rattle.switchboard.proofs.BoardLists.{gone_same}
+use Rattle.switchboard.proofs.Boards.{told_is}
 
-abbrev end_by : (ℕ → Given) → ℕ → ℕ → ℕ → Option ℕ → CallEnd
+-- the end of a call that began at s and was closed there, if it was
+abbrev pub end_by : (ℕ → Given) → ℕ → ℕ → ℕ → Option ℕ → CallEnd
 end_by given P c s o = elim o [
   | Some t ↦ record { call = c; at = t; cause = Closed }
   | None ↦ if nat_le P (s + whole_of (given c)) then record { call = c; at = P; cause = Limit }
       else record { call = c; at = s + whole_of (given c); cause = lack_of (whole_of (given c)) (given c) }
 ]
 
+-- a closed call ends where it was closed
 closed_end : (given : ℕ → Given) (P : ℕ) (ds : List Done) (c t : ℕ) → closed_at c ds ≡ Some t → ends_at given P ds c ≡ t
 closed_end given P ds c t e = ap (λ (o : Option ℕ). let x : CallEnd = end_by given P c (start_of ds c) o in x.at) e
 
@@ -44,9 +47,12 @@ end_math (Some s) None (Some u) a b ha hb la lb some = let p = hb u refl in let 
 end_math (Some s) (Some u) None a b ha hb la lb some = let p = ha u refl in let q = lb refl (min s u) refl in ap Some (omega arith)
 end_math (Some s) (Some u) (Some w) a b ha hb la lb some = let p = ha u refl in let q = hb w refl in ap Some (omega arith)
 
-filter_map_map : {X Y : Type 0} (f : X → Option Y) (g : X → Y) (xs : List X) (d : X) → ((j : ℕ) → j < length xs → f (get_or xs j d) ≡ Some (g (get_or xs j d))) → filter_map f xs ≡ map g xs
+-- a filter over a list that is made of another
+filter_map_map : {X Y : Type 0} (f : X → Option Y) (g : X → Y) (xs : List X) (d : X) →
+    ((j : ℕ) → j < length xs → f (get_or xs j d) ≡ Some (g (get_or xs j d))) → filter_map f xs ≡ map g xs
 filter_map_map f g [] d h = refl
-filter_map_map f g (x ∷ xs) d h = cons_same (f x) (Some (g x)) (filter_map f xs) (map g xs) (h 0 (omega arith)) (filter_map_map f g xs d (λ j l. h (suc j) (omega arith)))
+filter_map_map f g (x ∷ xs) d h = cons_same (f x) (Some (g x)) (filter_map f xs) (map g xs) (h 0 (omega arith))
+    (filter_map_map f g xs d (λ j l. h (suc j) (omega arith)))
 
 -- what is known of the end of a call of a bridge
 record Known (r : Rows) (x : Bridge) (c end : ℕ) : Type 0 where
@@ -54,8 +60,11 @@ record Known (r : Rows) (x : Bridge) (c end : ℕ) : Type 0 where
   over : (call_in r c).gone ≡ None → (v : ℕ) → end_in r x ≡ Some v → v ≤ end
   some : (call_in r c).gone ≡ None → end_in r x ≡ None → ⊥
 
-known : (given : ℕ → Given) (P : ℕ) (r : Rows) (ds : List Done) → Stands r ds → ((c : ℕ) → is_some (opened_at c ds) ≡ true → closed_at c ds ≡ None → (call_in r c).gone ≡ Some (ends_at given P ds c)) →
-    (c j : ℕ) → c < 4097 → j < length r.bridges → joins c (bridge_at_place r j) ≡ true → is_some (call_in r c).opened ≡ true → (o : Option ℕ) → closed_at c ds ≡ o → Known r (bridge_at_place r j) c (ends_at given P ds c)
+-- once each call has ended, the table knows each end
+known : (given : ℕ → Given) (P : ℕ) (r : Rows) (ds : List Done) → Stands r ds → ((c : ℕ) → is_some (opened_at c ds) ≡ true → closed_at c ds ≡ None →
+    (call_in r c).gone ≡ Some (ends_at given P ds c)) →
+    (c j : ℕ) → c < 4097 → j < length r.bridges → joins c (bridge_at_place r j) ≡ true → is_some (call_in r c).opened ≡ true → (o : Option ℕ) → closed_at c ds
+    ≡ o → Known r (bridge_at_place r j) c (ends_at given P ds c)
 known given P r ds s all c j h l q opened None e =
     let g = all c (ap is_some (sym (s.opened c h)) ∙ opened) e in
     record { told = λ w f. cc (g, f); over = λ f. absurd (cc (g, f)); some = λ f. absurd (cc (g, f)) }
@@ -70,7 +79,9 @@ known given P r ds s all c j h l q opened (Some t) e =
       some = λ f z. let y = v.ended in cc (y, z);
     }
 
-bridge_end : (given : ℕ → Given) (P : ℕ) (r : Rows) (ds : List Done) → Stands r ds → IsSized r.calls r.bridges → ((c : ℕ) → is_some (opened_at c ds) ≡ true → closed_at c ds ≡ None → (call_in r c).gone ≡ Some (ends_at given P ds c)) →
+-- and the end of each bridge is that of the whole list
+bridge_end : (given : ℕ → Given) (P : ℕ) (r : Rows) (ds : List Done) → Stands r ds → IsSized r.calls r.bridges →
+    ((c : ℕ) → is_some (opened_at c ds) ≡ true → closed_at c ds ≡ None → (call_in r c).gone ≡ Some (ends_at given P ds c)) →
     (j : ℕ) → j < length r.bridges → span_in r (bridge_at_place r j) ≡ Some (span_of given P ds (bridge_at_place r j))
 bridge_end given P r ds s z all j l =
     let x = bridge_at_place r j in
@@ -78,9 +89,11 @@ bridge_end given P r ds s z all j l =
     let y = s.table.sound j l in
     let a = known given P r ds s all x.a j n.0 l (joins_left x.a x refl) y.known.0 (closed_at x.a ds) refl in
     let b = known given P r ds s all x.b j n.1 l (joins_right x.b x refl) y.known.1 (closed_at x.b ds) refl in
-    ap (option_map (span_to x)) (end_math x.ended (call_in r x.a).gone (call_in r x.b).gone (ends_at given P ds x.a) (ends_at given P ds x.b) a.told b.told a.over b.over a.some)
+    ap (option_map (span_to x)) (end_math x.ended (call_in r x.a).gone (call_in r x.b).gone (ends_at given P ds x.a) (ends_at given P ds x.b) a.told b.told
+    a.over b.over a.some)
 
-pub spans_whole : (os : List Order) (xs : List Reply) (r : Rows) (s : State) → IsBoard os xs r → IsSized r.calls r.bridges → state_of os xs r ≡ s →
+-- so are the spans
+pub spans_whole : (os : List Order) (xs : List Reply) (r : Rows) (s : State) → IsBoard os xs r → IsSized r.calls r.bridges → board_state os xs r ≡ s →
     (given : ℕ → Given) (P : ℕ) → AllEnded given P s → r.spans ≡ spans_of given P s.done
 spans_whole os xs r s b z e given P all =
     let ds = dones os xs in
@@ -91,7 +104,8 @@ spans_whole os xs r s b z e given P all =
 
 -- ---- a call has at most one bridge that lasts
 
-pub one_lasts : (os : List Order) (xs : List Reply) (r : Rows) (s : State) → IsBoard os xs r → IsSized r.calls r.bridges → state_of os xs r ≡ s → OneLasts (gone_in s) s.done (bridges s.done)
+pub one_lasts : (os : List Order) (xs : List Reply) (r : Rows) (s : State) → IsBoard os xs r → IsSized r.calls r.bridges → board_state os xs r ≡ s →
+    OneLasts (gone_in s) s.done (bridges s.done)
 one_lasts os xs r s b z e =
     let ds = dones os xs in
     subst (λ (s : State). OneLasts (gone_in s) s.done (bridges s.done)) e
@@ -99,8 +113,10 @@ one_lasts os xs r s b z e =
     (subst (λ (bs : List Bridge). OneLasts (gone_of r) ds bs) b.stands.bridges
     (λ c j k lj lk qj qk vj vk. one_live r _ c j k b.stands.table lj lk qj qk (live r ds j b.stands z lj vj) (live r ds k b.stands z lk vk))))
   where
-    live : (r : Rows) (ds : List Done) (j : ℕ) → Stands r ds → IsSized r.calls r.bridges → j < length r.bridges → lasts (gone_of r) ds (bridge_at_place r j) ≡ true → is_live_in r (bridge_at_place r j) ≡ true
+    live : (r : Rows) (ds : List Done) (j : ℕ) → Stands r ds → IsSized r.calls r.bridges → j < length r.bridges → lasts (gone_of r) ds (bridge_at_place r j)
+        ≡ true → is_live_in r (bridge_at_place r j) ≡ true
     live r ds j s z l v =
         let x = bridge_at_place r j in
         let n = z.named j l in
-        ap (λ t. is_none x.ended && t && is_open_in r x.b) (open_agrees r ds x.a s n.0) ∙ ap (λ t. is_none x.ended && is_open (gone_of r) ds x.a && t) (open_agrees r ds x.b s n.1) ∙ v
+        ap (λ t. is_none x.ended && t && is_open_in r x.b) (open_agrees r ds x.a s n.0) ∙ ap (λ t. is_none x.ended && is_open (gone_of r) ds x.a && t)
+        (open_agrees r ds x.b s n.1) ∙ v

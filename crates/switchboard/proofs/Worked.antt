@@ -47,7 +47,8 @@ late =
     at 2 (OpenCall 1 A) ∷ at 2 (Bridge 3 2) ∷ at 3 (Unbridge 2) ∷ at 3 (Bridge 2 3) ∷ at 3 (OpenCall 1 A) ∷ at 4 (CloseCall 3) ∷ []
 
 the_late : drop 4 (replies (λ c. c + 1) late) ≡
-    Err (refusal.AlreadyOpen 1) ∷ Err (refusal.Bridged 2 1) ∷ Err (refusal.NotBridged 2) ∷ Ok (act.Bridged 2 3) ∷ Err (refusal.NumberUsed 1) ∷ Ok (act.Closed 3 None) ∷ []
+    Err (refusal.AlreadyOpen 1) ∷ Err (refusal.Bridged 2 1) ∷ Err (refusal.NotBridged 2) ∷ Ok (act.Bridged 2 3) ∷ Err (refusal.NumberUsed 1) ∷ Ok
+    (act.Closed 3 None) ∷ []
 unfolding late
 the_late = refl
 
@@ -58,7 +59,8 @@ again =
     at 5 (Bridge 4 1) ∷ at 6 (Unbridge 1) ∷ at 6 (Bridge 3 1) ∷ at 7 (Bridge 1 3) ∷ at 7 (CloseCall 3) ∷ at 7 (Bridge 1 4) ∷ []
 
 the_again : drop 5 (replies (λ c. if c == 2 then 3 else 20) again) ≡
-    Ok (act.Bridged 4 1) ∷ Ok (act.Unbridged 4 1) ∷ Err (refusal.Draining 1 4) ∷ Ok (act.Bridged 1 3) ∷ Ok (act.Closed 3 (Some 1)) ∷ Err (refusal.Draining 1 3) ∷ []
+    Ok (act.Bridged 4 1) ∷ Ok (act.Unbridged 4 1) ∷ Err (refusal.Draining 1 4) ∷ Ok (act.Bridged 1 3) ∷ Ok (act.Closed 3 (Some 1)) ∷ Err
+    (refusal.Draining 1 3) ∷ []
 unfolding again
 the_again = refl
 
@@ -88,7 +90,8 @@ endless c = record { up = 4000000; pcm = 16000000; up_failed = false; pcm_failed
 abbrev two_orders : List Order
 two_orders = at 0 (OpenCall 1 A) ∷ at 9 (CloseCall 1) ∷ []
 
-limit : (end_of endless 3 (done_of (λ c. whole_of (endless c)) 3 two_orders) 1 0 ≡ record { call = 1; at = 3; cause = Limit }) × (length (left_of 3 two_orders) ≡ 1)
+limit : (end_of endless 3 (done_of (λ c. whole_of (endless c)) 3 two_orders) 1 0 ≡ record { call = 1; at = 3; cause = Limit }) × (length (left_of 3 two_orders)
+    ≡ 1)
 unfolding endless
 limit = (refl, refl)
 

@@ -83,12 +83,12 @@ opened_in r t c = record r { calls = set r.calls c (record (call_in r c) { opene
 abbrev pub closed_in : Rows → ℕ → ℕ → Rows
 closed_in r t c = record r { calls = set r.calls c (record (call_in r c) { closed = Some t }) }
 
-abbrev pub with_bridge : List Call → ℕ → ℕ → List Call
-with_bridge calls k c = set calls c (record (get_or calls c never) { bridge = Some k })
+abbrev pub with_latest : List Call → ℕ → ℕ → List Call
+with_latest calls k c = set calls c (record (get_or calls c never) { bridge = Some k })
 
 abbrev pub bridged_in : Rows → ℕ → ℕ → ℕ → Rows
 bridged_in r t a b = record r {
-  calls = with_bridge (with_bridge r.calls (length r.bridges) a) (length r.bridges) b;
+  calls = with_latest (with_latest r.calls (length r.bridges) a) (length r.bridges) b;
   bridges = r.bridges ++ record { a = a; b = b; from = t; ended = None } ∷ [];
 }
 

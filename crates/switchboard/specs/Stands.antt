@@ -60,8 +60,8 @@ abbrev pub dones : List Order → List Reply → List Done
 dones (o ∷ os) (x ∷ xs) = record { order = o; result = x.result } ∷ dones os xs
 dones _ _ = []
 
-abbrev pub state_of : List Order → List Reply → Rows → State
-state_of os xs r = record { left = drop (length xs) os; done = dones os xs; told = map (λ e. e.gone) r.calls }
+abbrev pub board_state : List Order → List Reply → Rows → State
+board_state os xs r = record { left = drop (length xs) os; done = dones os xs; told = map (λ e. e.gone) r.calls }
 
 -- orders, the replies to the first of them and a table stand for a board: the table is that of these replies, with a place
 -- for each call number

@@ -27,16 +27,16 @@ abbrev pub EndBefore : ℕ → State → Type 0
 EndBefore t s = (c : ℕ) → IfSome (told_in s c) (λ at. at < t)
 
 -- a board before the first order
-abbrev pub start_of : List Order → State
-start_of os = record { left = os; done = []; told = replicate NUMBERS None }
+abbrev pub new_board : List Order → State
+new_board os = record { left = os; done = []; told = replicate NUMBERS None }
 
 -- all orders, whether executed or left
 abbrev pub orders_of : State → List Order
 orders_of s = map (λ d. d.order) s.done ++ s.left
 
-abbrev pub first_of : List Order → Option Order
-first_of [] = None
-first_of (o ∷ os) = Some o
+abbrev pub first_order : List Order → Option Order
+first_order [] = None
+first_order (o ∷ os) = Some o
 
 -- the stamp of the next order
 abbrev pub first_stamp : List Order → Option ℕ
@@ -61,9 +61,9 @@ abbrev pub done_by : State → Order → Done
 done_by s o = record { order = o; result = reply_to (gone_in s) s.done o }
 
 -- the state after the next order, where one is due
-abbrev pub turned : State → Option Order → State
-turned s None = s
-turned s (Some o) = record s { left = drop 1 s.left; done = s.done ++ done_by s o ∷ [] }
+abbrev pub after_turn : State → Option Order → State
+after_turn s None = s
+after_turn s (Some o) = record s { left = drop 1 s.left; done = s.done ++ done_by s o ∷ [] }
 
 -- the reply to it, with its number
 abbrev pub reply_of : State → Option Order → Option Reply

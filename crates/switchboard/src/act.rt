@@ -1,5 +1,5 @@
-// What orders do and why they are refused, replies, and the spans of bridges: plain values that the board, the
-// rounds and the report share.
+//! What orders do and why they are refused, replies, and the spans of bridges: plain values that the board, the
+//! rounds and the report share.
 
 use trau_alaw::Law;
 use trau_orders::DtxMode;

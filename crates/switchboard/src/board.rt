@@ -1,4 +1,4 @@
-// The board: it executes the orders one after another and is told of the ends of calls.
+//! The board: it executes the orders one after another and is told of the ends of calls.
 
 ghost use Rattle.std.specs.Prelude.{◌≡◌, ◌<◌, ◌≤◌, ◌≢◌, ◌↔◌, ℕ, [], true, false, None, IsNone, IsSome, IfOk, IfSome, OnErr};
 ghost use Rattle.std.specs.List.{All};
@@ -7,7 +7,7 @@ ghost use Rattle.trau_orders.specs.Lists.{NamesCalls, HasLevel};
 ghost use Rattle.switchboard.specs.Calls.{is_open};
 ghost use Rattle.switchboard.specs.Bridges.{OneLasts, bridges};
 ghost use Rattle.switchboard.specs.Replies.{IsInRange};
-ghost use Rattle.switchboard.specs.State.{start_of, orders_of, first_of, first_stamp, last_stamp, due, turned, reply_of, EndBefore, told_in, gone_in, told_more, numbered};
+ghost use Rattle.switchboard.specs.State.{new_board, orders_of, first_order, first_stamp, last_stamp, due, after_turn, reply_of, EndBefore, told_in, gone_in, told_more, numbered};
 ghost use Rattle.switchboard.specs.Runs.{IsRun, TellsEnds, AllEnded, IsUnchanged};
 ghost use Rattle.switchboard.specs.Stands.{AreRising};
 ghost use Rattle.switchboard.specs.Ends.{Given, spans_now, spans_of};
@@ -35,11 +35,11 @@ impl Model for Board {
     ghost use Rattle.std.specs.Prelude.{◌≡◌, ◌≤◌, length, map, drop, vec_capacity};
     ghost use Rattle.switchboard.specs.Replies.{IsInRange};
     ghost use Rattle.switchboard.specs.State.{State};
-    ghost use Rattle.switchboard.specs.Stands.{IsBoard, dones, state_of};
+    ghost use Rattle.switchboard.specs.Stands.{IsBoard, dones, board_state};
 
     ghost Value = { State };
 
-    ghost view = { λ b. state_of b.orders b.replies.items b.table };
+    ghost view = { λ b. board_state b.orders b.replies.items b.table };
 
     ghost invariant = { λ b. IsBoard b.orders b.replies.items b.table × (length b.orders ≤ vec_capacity b.replies) };
 }
@@ -47,7 +47,7 @@ impl Model for Board {
 impl Board {
     /// The board before the first order. It takes all the memory that it will need.
     pub fn new(alloc: Global, orders: Orders) -> Result<Board, AllocError>
-        ensures start { IfOk result (λ b. b ≡ start_of orders) }
+        ensures start { IfOk result (λ b. b ≡ new_board orders) }
         ensures untold { IfOk result (λ b. (t : ℕ) → EndBefore t b) }
 
         // No call was opened, none is open, none has another law than A-law, and none has a partner.
@@ -68,7 +68,7 @@ impl Board {
 
     // The next order.
     fn next(&self) -> Option<Order>
-        ensures value { result ≡ first_of self.now.left }
+        ensures value { result ≡ first_order self.now.left }
         ensures calls { IfSome result (λ o. NamesCalls o.what) }
         ensures level { IfSome result (λ o. HasLevel o.what) }
         ensures rising { AreRising self.now.left }
@@ -92,7 +92,7 @@ impl Board {
         requires ends { EndBefore period self.old }
 
         // One step: an order that is due is executed, and its reply is that of the rules.
-        ensures state { self.new ≡ turned self.old (due self.old.left period) }
+        ensures state { self.new ≡ after_turn self.old (due self.old.left period) }
         ensures answer { result ≡ reply_of self.old (due self.old.left period) }
         ensures none { IsNone result ↔ All (λ o. o.stamp ≢ period) self.old.left }
 
@@ -130,11 +130,11 @@ impl Board {
     }
 
     fn execute(&mut self, order: &Order) -> Reply
-        requires next { first_of self.old.left ≡ Some order.now }
+        requires next { first_order self.old.left ≡ Some order.now }
         requires calls { NamesCalls order.now.what }
         requires level { HasLevel order.now.what }
         requires ends { EndBefore order.now.stamp self.old }
-        ensures state { self.new ≡ turned self.old (Some order.now) }
+        ensures state { self.new ≡ after_turn self.old (Some order.now) }
         ensures answer { Some result ≡ reply_of self.old (Some order.now) }
         ensures range { IfOk result.result IsInRange }
         ensures finds { IfOk result.result (λ act. Finds act (opened_now self.old) (open_now self.old) (partner_now self.old)) }

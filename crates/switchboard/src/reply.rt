@@ -1,5 +1,5 @@
-// The reply to an order, from the table: the tests of the order one after another, of which the first that fails
-// refuses it.
+//! The reply to an order, from the table: the tests of the order one after another, of which the first that fails
+//! refuses it.
 
 ghost use Rattle.std.specs.Prelude.{◌≡◌, ◌<◌, ℕ, not, option_map, length};
 ghost use Rattle.std.specs.List.{filter_map};

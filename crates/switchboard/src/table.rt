@@ -1,4 +1,4 @@
-// The table of calls and bridges that the board keeps of the executed orders and the ends that were told.
+//! The table of calls and bridges that the board keeps of the executed orders and the ends that were told.
 
 ghost use Rattle.std.specs.Prelude.{◌≡◌, ◌<◌, ◌≤◌, [], length, IfOk, IfSome, replicate, slice_set};
 ghost use Rattle.std.specs.List.{filter_map, insert};
@@ -44,7 +44,7 @@ pub struct Table {
     calls: Vec<Call>,
     bridges: Vec<Bridge>,
     spans: Vec<Span>,
-    /// Room is kept for so many bridges and spans.
+    // Room is kept for so many bridges and spans.
     most: usize,
 }
 
@@ -81,6 +81,7 @@ impl Table {
 
     // ---- what is read
 
+    /// Whether a call was opened, and was neither closed nor ended by its lines.
     pub fn is_open(&self, call: u32) -> bool
         requires { call < NUMBERS }
         ensures { result ≡ is_open_in self.now call }
@@ -89,6 +90,7 @@ impl Table {
         call.opened.is_some() && call.closed.is_none() && call.gone.is_none()
     }
 
+    /// Whether a call was opened and isn't open.
     pub fn has_ended(&self, call: u32) -> bool
         requires { call < NUMBERS }
         ensures { result ≡ has_ended_in self.now call }

@@ -27,6 +27,7 @@ asked_beyond field before l =
     cond-false (field == 63) (Some (negsuc 1)) None (ne_eqb field 63 (λ e. omega arith)) in
     ap (λ (o : Option ℤ). elim o as (λ x. Option ℤ) [ None ↦ before | Some shift ↦ Some shift ]) none
 
+-- what was asked for, or before
 asked_or : (asked before : Option ℤ) → MayBeShift asked → MayBeShift before →
     MayBeShift (elim asked [ None ↦ before | Some shift ↦ Some shift ])
 asked_or None before a b = b

@@ -1,8 +1,7 @@
 -- Time alignment by all that happened (this project's profile, in the manner of GSM 08.60).
 -- A history has the newest event first.
-use Rattle.std.specs.Prelude.{◌≡◌, ℕ, ℤ, pos, Bool, true, false, if◌then◌else◌, Option, Some, List, [], ◌∷◌}
-use Rattle.time_align.specs.Shift.{latest_ask, latest_shift}
-use Rattle.time_align.specs.Memory.{AlignMemory}
+use Rattle.std.specs.Prelude.{ℕ, ℤ, pos, Bool, true, false, if◌then◌else◌, Option, Some, List, [], ◌∷◌}
+use Rattle.time_align.specs.Shift.{latest_shift}
 
 -- what can happen: a field is asked, shifts are frozen or thawed, a frame adopts its shift
 pub data Event : Type 0 where
@@ -30,8 +29,3 @@ fields_since (Adopts ∷ past) = if is_frozen past then fields_since past else [
 -- the shift of a frame made now: 0 while frozen, else the latest that these fields ask for, or 0
 abbrev pub shift_now : List Event → ℤ
 shift_now past = if is_frozen past then pos 0 else latest_shift (fields_since past)
-
--- the memory is that of these events
-pub record Stands (past : List Event) (memory : AlignMemory) : Type 0 where
-  pub kept : memory.kept ≡ latest_ask (fields_since past)
-  pub frozen : memory.frozen ≡ is_frozen past

@@ -1,30 +1,11 @@
--- Time alignment, one call after another (this project's profile, in the manner of GSM 08.60).
-use Rattle.std.specs.Prelude.{ℕ, ℤ, pos, Bool, true, false, if◌then◌else◌, Option, None, unwrap_or}
-use Rattle.time_align.specs.Shift.{asked_then}
+-- What time alignment keeps (this project's profile, in the manner of GSM 08.60).
+use Rattle.std.specs.Prelude.{ℤ, Bool, false, Option, None}
 
 -- the shift asked for that no frame has adopted yet, and whether shifts are frozen
 pub record AlignMemory : Type 0 where
   pub kept : Option ℤ
   pub frozen : Bool
 
--- before the first call
-abbrev pub new_memory : AlignMemory
-new_memory = record { kept = None; frozen = false }
-
--- a field is asked: its shift is kept in place of the one before, if it has one
-abbrev pub after_ask : AlignMemory → ℕ → AlignMemory
-after_ask memory field = record { kept = asked_then field memory.kept; frozen = memory.frozen }
-
--- shifts are frozen
-abbrev pub after_freeze : AlignMemory → AlignMemory
-after_freeze memory = record { kept = memory.kept; frozen = true }
-
--- shifts are thawed
-abbrev pub after_thaw : AlignMemory → AlignMemory
-after_thaw memory = record { kept = memory.kept; frozen = false }
-
--- a frame is made: its shift, and the memory after it
-abbrev pub adopted : AlignMemory → ℤ × AlignMemory
-adopted memory =
-    if memory.frozen then (pos 0, memory)
-    else (unwrap_or memory.kept (pos 0), record { kept = None; frozen = false })
+-- before the first operation
+abbrev pub home_memory : AlignMemory
+home_memory = record { kept = None; frozen = false }

@@ -2,8 +2,10 @@
 
 ghost use Rattle.std.specs.Prelude.{◌≡◌, List, [], ◌∷◌};
 ghost use Rattle.time_align.specs.Shift.{IsShift};
-ghost use Rattle.time_align.specs.Memory.{new_memory, after_ask, after_freeze, after_thaw, adopted};
-ghost use Rattle.time_align.specs.History.{Event, Asks, Freezes, Thaws, Adopts, shift_now, Stands};
+ghost use Rattle.time_align.specs.Memory.{home_memory};
+ghost use Rattle.time_align.specs.Step.{after_ask, after_freeze, after_thaw, adopted};
+ghost use Rattle.time_align.specs.History.{Event, Asks, Freezes, Thaws, Adopts, shift_now};
+ghost use Rattle.time_align.specs.Stands.{Stands};
 
 use crate::shift::shift_of;
 use std::marker::Model;
@@ -30,7 +32,7 @@ impl Model for Align {
 impl Align {
     /// Nothing was asked, and shifts aren't frozen.
     pub fn new() -> Align
-        ensures value { result ≡ new_memory }
+        ensures value { result ≡ home_memory }
         ensures history { Stands [] result }
     {
         Align {

@@ -5,9 +5,9 @@
 //! octets of the exchange's line, 125 microseconds each. `Align` keeps what was asked last until a downlink frame adopts
 //! it. Within a bridge shifts are frozen: frames have none, and what is asked waits for the thaw.
 //!
-//! `shift` has the table, `align` what is kept from call to call. Definitions: `specs/Shift.antt` (the table),
-//! `specs/History.antt` (all that happened), `specs/Memory.antt` (one call after another). Used by the downlink framer
-//! and by a call's leg.
+//! `shift` has the table, `align` what is kept from one operation to the next. Definitions: `specs/Shift.antt` (the
+//! table), `specs/History.antt` (all that happened), `specs/Memory.antt`, `specs/Step.antt` and `specs/Stands.antt` (what
+//! is kept, each operation, and what the memory stands for). Used by the downlink framer and by a call's leg.
 #![tactic(auto)]
 
 mod align;

@@ -43,6 +43,7 @@ later start n (suc d) rising h =
     let e : n + suc d ≡ n + d + 1 = omega arith in
     rw e (omega (arith, later start n d rising (omega arith), rising (n + d) (omega arith)))
 
+-- the starts rise
 above : (start : ℕ → ℕ) (m n : ℕ) → ((n : ℕ) → n < 128 → start n ≤ start (n + 1)) → m ≤ n → n ≤ 128 → start m ≤ start n
 above start m n rising l h =
     let e : m + (n - m) ≡ n = omega arith in
@@ -73,6 +74,7 @@ below_start start (suc n) magnitude first l =
 
 -- ---- the magnitudes of an octet
 
+-- a magnitude between two starts is one of the octet's
 in-has_magnitude : (law : Companding) (key : ℕ) (start : ℕ → ℕ) → IsLaid law key start → (octet n : ℕ) → octet < 256 →
     IsIn start (bit_xor octet key % 128) n → has_magnitude (law octet) n ≡ true
 in-has_magnitude law key start laid octet n h i =
@@ -84,6 +86,7 @@ in-has_magnitude law key start laid octet n h i =
     let lt_stop : n < (law octet).least + (law octet).width = omega arith in
     and_from _ _ (le-leb _ _ least_le) (lt-ltb _ _ lt_stop)
 
+-- and the other way round
 has_magnitude-in : (law : Companding) (key : ℕ) (start : ℕ → ℕ) → IsLaid law key start → (octet n : ℕ) → octet < 256 →
     has_magnitude (law octet) n ≡ true → IsIn start (bit_xor octet key % 128) n
 has_magnitude-in law key start laid octet n h t =
@@ -96,6 +99,7 @@ has_magnitude-in law key start laid octet n h t =
 
 -- ---- one octet at most
 
+-- octets with one sign and one index in the order are the same
 same_octet : (key a b : ℕ) → ((octet : ℕ) → octet < 256 → bit_xor (bit_xor octet key) key ≡ octet) → key < 256 → a < 256 → b < 256 →
     nat_le 128 (bit_xor a key) ≡ nat_le 128 (bit_xor b key) → bit_xor a key % 128 ≡ bit_xor b key % 128 → a ≡ b
 same_octet key a b back small h g s e =
@@ -104,12 +108,14 @@ same_octet key a b back small h g s e =
     let same : bit_xor a key ≡ bit_xor b key = grind (arith, nat_tests) in
     sym (back a h) ∙ ap (λ c. bit_xor c key) same ∙ back b g
 
+-- two octets with a magnitude in common have one index in the order
 same_interval : (law : Companding) (key : ℕ) (start : ℕ → ℕ) → IsLaid law key start → (a b n : ℕ) → a < 256 → b < 256 →
     has_magnitude (law a) n ≡ true → has_magnitude (law b) n ≡ true → bit_xor a key % 128 ≡ bit_xor b key % 128
 same_interval law key start laid a b n h g s t =
     one_interval start (bit_xor a key % 128) (bit_xor b key % 128) n laid.rising (omega arith) (omega arith)
     (has_magnitude-in law key start laid a n h s) (has_magnitude-in law key start laid b n g t)
 
+-- a word belongs to one octet
 one_octet : (law : Companding) (key : ℕ) (start : ℕ → ℕ) → IsLaid law key start → (x : ℤ) (a b : ℕ) → a < 256 → b < 256 →
     holds (law a) x ≡ true → holds (law b) x ≡ true → a ≡ b
 one_octet law key start laid (pos n) a b h g p q =
@@ -125,6 +131,7 @@ one_octet law key start laid (negsuc n) a b h g p q =
 
 -- ---- the octet of a code
 
+-- the octet of a code whose interval has the word's magnitude holds the word
 holds-code : (law : Companding) (key : ℕ) (start : ℕ → ℕ) → IsLaid law key start → (x : ℤ) (code : ℕ) → code < 256 →
     IsIn start (code % 128) (magnitude x) → (x <ℤ pos 0 → code < 128) → (pos 0 ≤ℤ x → 128 ≤ code) → holds (law (bit_xor code key)) x ≡ true
 holds-code law key start laid (pos n) code h i low high =
@@ -142,6 +149,7 @@ holds-code law key start laid (negsuc n) code h i low high =
     (not_from_false _ (laid.sign (bit_xor code key) octet ∙ rw e (lt-leb 128 code sign)))
     (in-has_magnitude law key start laid (bit_xor code key) n octet (rw e i))
 
+-- and it is the only one
 pub only_octet : (law : Companding) (key : ℕ) (start : ℕ → ℕ) → IsLaid law key start → (x : ℤ) (code : ℕ) → code < 256 →
     IsIn start (code % 128) (magnitude x) → (x <ℤ pos 0 → code < 128) → (pos 0 ≤ℤ x → 128 ≤ code) → IsOnlyOctet law x (bit_xor code key)
 only_octet law key start laid x code h i low high =
@@ -155,10 +163,12 @@ only_octet law key start laid x code h i low high =
 
 -- ---- all octets
 
+-- the same by the index in the order
 octet_at : (law : Companding) (key : ℕ) (start : ℕ → ℕ) → IsLaid law key start → (x : ℤ) (code n : ℕ) → code < 256 → code % 128 ≡ n →
     IsIn start n (magnitude x) → (x <ℤ pos 0 → code < 128) → (pos 0 ≤ℤ x → 128 ≤ code) → (octet : ℕ) × IsOnlyOctet law x octet
 octet_at law key start laid x code n h e i low high = (bit_xor code key, only_octet law key start laid x code h (rw e i) low high)
 
+-- so the intervals part the words
 pub parts : (law : Companding) (key : ℕ) (start : ℕ → ℕ) → IsLaid law key start → PartsWords law
 parts law key start laid (pos n) f =
     let last = laid.last in
@@ -169,6 +179,7 @@ parts law key start laid (negsuc n) f =
     let r = below_start start 128 n laid.first (omega (arith, ints)) in
     octet_at law key start laid (negsuc n) r.0 r.0 (omega arith) (omega arith) r.2 (λ l. omega arith) (λ l. absurd (omega (arith, ints)))
 
+-- what the definition finds is the only octet
 pub octet_of-only : (law : Companding) (x : ℤ) (octet : ℕ) → IsOnlyOctet law x octet → octet ≡ octet_of law x
 unfolding octet_of
 octet_of-only law x octet h =

@@ -8,7 +8,9 @@ pub record Run {A B : Type 0} (f : A → B) (x : List A) (made : List B) (k : �
   pub count : length made ≡ length x
   pub done : take k made ++ map f (drop k x) ≡ map f x
 
-pub run_next : {A B : Type 0} (f : A → B) (x : List A) (made : List B) (k : ℕ) (a : A) (b : B) → k < length x → Run f x made k → b ≡ f (get_or x k a) → Run f x (set made k b) (k + 1)
+-- one item more
+pub run_next : {A B : Type 0} (f : A → B) (x : List A) (made : List B) (k : ℕ) (a : A) (b : B) → k < length x → Run f x made k → b ≡ f (get_or x k a) →
+    Run f x (set made k b) (k + 1)
 run_next f x made k a b h run e =
     let count = run.count in
     let t : take (k + 1) (set made k b) ≡ take k made ++ b ∷ [] = take-set_at made k (k + 1) b refl (omega arith) in

@@ -11,6 +11,7 @@ abbrev IsCentre : ℕ → ℕ → Type 0
 IsCentre step segment = (132 ≤ (2 * step + 33) * 2 ^ (segment + 2)) × ((2 * step + 33) * 2 ^ (segment + 2) < 65536)
     × ((2 * step + 33) * 2 ^ (segment + 2) - 132 ≡ mulaw_centre segment step) × (mulaw_centre segment step < 32768)
 
+-- how the code makes the middle of a step
 pub shifted_centre : (segment step : ℕ) → segment < 8 → step < 16 → IsCentre step segment
 shifted_centre segment step l m =
     of_eight (IsCentre step)
@@ -20,24 +21,27 @@ shifted_centre segment step l m =
     (omega arith, omega arith, omega arith, omega arith) (omega arith, omega arith, omega arith, omega arith) segment l
 
 -- a magnitude is one of that step of that segment
-pub record IsAt (segment step magnitude : ℕ) : Type 0 where
+pub record IsAtMu (segment step magnitude : ℕ) : Type 0 where
   pub at_least : mulaw_least segment step ≤ magnitude
   pub within : magnitude < mulaw_end segment step
 
 -- the step that the code finds
 pub record IsFound (magnitude number : ℕ) : Type 0 where
   pub small : number < 128
-  pub at : IsAt (number / 16) (number % 16) magnitude
+  pub at : IsAtMu (number / 16) (number % 16) magnitude
 
+-- a magnitude within a step's interval is at the step
 at_place : (number segment step magnitude : ℕ) → number / 16 ≡ segment → number % 16 ≡ step → number < 128 →
     mulaw_least segment step ≤ magnitude → magnitude < mulaw_end segment step → IsFound magnitude number
 at_place number segment step magnitude e f s l u = record { small = s; at = rw (e, f) (record { at_least = l; within = u }) }
 
+-- a segment is found from the magnitude raised
 abbrev Finds : ℕ → ℕ → Type 0
 Finds magnitude segment =
     2 ^ (segment + 7) ≤ min magnitude 32635 + 132 → min magnitude 32635 + 132 < 2 * 2 ^ (segment + 7) →
     (quarter : ℕ) → quarter ≡ (min magnitude 32635 + 132) / 2 ^ (segment + 3) → (16 ≤ quarter) × IsFound magnitude (16 * segment + quarter - 16)
 
+-- in the last two segments
 last_two : (magnitude quarter : ℕ) → magnitude < 32768 → 16384 ≤ min magnitude 32635 + 132 → quarter ≡ (min magnitude 32635 + 132) / 1024 →
     IsFound magnitude (16 * 7 + quarter - 16)
 last_two magnitude quarter m l e =
@@ -48,6 +52,7 @@ last_two magnitude quarter m l e =
       | inr h ↦ at_place (16 * 7 + quarter - 16) 7 15 magnitude (omega arith) (omega arith) (omega arith) (omega arith) (omega arith)
     ]
 
+-- in each segment
 pub found : (magnitude segment : ℕ) → magnitude < 32768 → segment < 8 → Finds magnitude segment
 found magnitude segment m l =
     of_eight (Finds magnitude)
@@ -68,6 +73,7 @@ power_within raised power a b l u =
     let high : 15 ≤ power → 2 ^ 15 ≤ 2 ^ power = λ h. pow-le-pow_right (omega arith) h in
     (grind (arith, low), grind (arith, high))
 
+-- by the highest power of two in the raised magnitude
 pub found_from_power : (magnitude raised power quarter : ℕ) → magnitude < 32768 → raised ≡ min magnitude 32635 + 132 →
     2 ^ power ≤ raised → raised < 2 * 2 ^ power → quarter ≡ raised / 2 ^ (power - 7 + 3) →
     (7 ≤ power) × (16 ≤ quarter) × IsFound magnitude (16 * (power - 7) + quarter - 16)

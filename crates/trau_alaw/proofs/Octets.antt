@@ -12,6 +12,7 @@ use Rattle.trau_alaw.proofs.Laid as laid
 abbrev pub start : ℕ → ℕ
 start n = alaw_least (n / 16) (n % 16)
 
+-- tables over all 256 octets, and over the 128 indices of their order
 back_table : list_all (λ n. nat_eq (bit_xor (bit_xor n 85) 85) n) (range_with_len 0 256) ≡ true
 back_table = refl
 
@@ -53,6 +54,7 @@ only_octet x code h a low high =
     let next = start-next (code % 128) (omega arith) in
     laid.only_octet alaw 85 start alaw_laid x code h (record { at_least = l; within = omega arith }) low high
 
+-- each octet holds the middle of its own interval
 middle_table : list_all (λ octet. holds (alaw octet) (middle (alaw octet))) (range_with_len 0 256) ≡ true
 unfolding alaw
 middle_table = refl

@@ -20,6 +20,7 @@ abbrev IsMiddle : ℕ → ℕ → Type 0
 IsMiddle step segment =
     0 < segment → (2 * step + 1 + 32) * 2 ^ (segment + 2) % 65536 ≡ alaw_least segment step + alaw_width segment / 2
 
+-- how the code makes the middle of a step
 pub shifted_middle : (segment step : ℕ) → segment < 8 → step < 16 → 0 < segment →
     (2 * step + 1 + 32) * 2 ^ (segment + 2) % 65536 ≡ alaw_least segment step + alaw_width segment / 2
 shifted_middle segment step l m p =
@@ -27,6 +28,7 @@ shifted_middle segment step l m p =
     (λ q. absurd (omega arith)) (λ q. omega arith) (λ q. omega arith) (λ q. omega arith)
     (λ q. omega arith) (λ q. omega arith) (λ q. omega arith) (λ q. omega arith) segment l p
 
+-- in the first segment
 abbrev IsSmall : ℕ → ℕ → Type 0
 IsSmall step segment = alaw_least segment step + alaw_width segment / 2 < 32768
 
@@ -41,6 +43,7 @@ pub record IsAt (segment step magnitude : ℕ) : Type 0 where
   pub at_least : alaw_least segment step ≤ magnitude
   pub within : magnitude < alaw_least segment step + alaw_width segment
 
+-- a magnitude within a step's interval is at the step
 at_place : (number segment step magnitude : ℕ) → number / 16 ≡ segment → number % 16 ≡ step →
     alaw_least segment step ≤ magnitude → magnitude < alaw_least segment step + alaw_width segment →
     IsAt (number / 16) (number % 16) magnitude

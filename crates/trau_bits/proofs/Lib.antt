@@ -1,2 +1,3 @@
 pub mod BitList
 pub mod Octets
+pub mod Appended

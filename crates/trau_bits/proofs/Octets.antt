@@ -127,12 +127,12 @@ abbrev pub sum_of_first : List ℕ → ℕ → ℕ → ℕ
 sum_of_first bits first n = sum (map (λ j. get_or bits (first + j) 0 * 2 ^ (7 - j)) (range_with_len 0 n))
 
 -- the loop that fills an octet from its most significant bit on
-pub record Filled (bits : List ℕ) (first octet j : ℕ) : Type 0 where
+pub record FilledOctet (bits : List ℕ) (first octet j : ℕ) : Type 0 where
   pub sum : octet ≡ sum_of_first bits first j
   pub room : octet + 2 ^ (8 - j) ≤ 256
 
-pub filled_more : (bits : List ℕ) (first octet j : ℕ) → j < 8 → get_or bits (first + j) 0 < 2 → Filled bits first octet j →
-    Filled bits first (octet + get_or bits (first + j) 0 * 2 ^ (7 - j) % 256) (j + 1)
+pub filled_more : (bits : List ℕ) (first octet j : ℕ) → j < 8 → get_or bits (first + j) 0 < 2 → FilledOctet bits first octet j →
+    FilledOctet bits first (octet + get_or bits (first + j) 0 * 2 ^ (7 - j) % 256) (j + 1)
 filled_more bits first octet j below small h =
     let t : TakesBit octet (get_or bits (first + j) 0) j = takes_bit octet (get_or bits (first + j) 0) j below small h.room in
     let more : sum_of_first bits first (j + 1) ≡ sum_of_first bits first j + get_or bits (first + j) 0 * 2 ^ (7 - j) =

@@ -34,7 +34,7 @@ pub fn put_bit(bytes: &mut [u8], i: usize, bit: u8)
     }
 }
 
-/// The octet of the eight bits from `first` on.
+// The octet of the eight bits from `first` on.
 fn octet(bits: &[u8], first: usize) -> u8
     requires bits { AreBits bits.now }
     requires within { first + 8 ≤ length bits.now }

@@ -7,7 +7,8 @@ use Rattle.trau_io.proofs.Tables.{same_line}
 use Rattle.trau_files.specs.Files.{OpenLine, IsFileOf, OpenAfter, AreSeated, in_seat, open_after}
 
 -- an element is the one that was put there, or as before
-set_place : {X : Type 0} (xs : List X) (i : ℕ) (y d : X) (k : ℕ) → ((k ≡ i) × (slice_index_or (slice_set xs i y) k d ≡ y)) ⊎ (slice_index_or (slice_set xs i y) k d ≡ slice_index_or xs k d)
+set_place : {X : Type 0} (xs : List X) (i : ℕ) (y d : X) (k : ℕ) →
+    ((k ≡ i) × (slice_index_or (slice_set xs i y) k d ≡ y)) ⊎ (slice_index_or (slice_set xs i y) k d ≡ slice_index_or xs k d)
 set_place [] i y d k = inr refl
 set_place (x ∷ xs) zero y d zero = inl (refl, refl)
 set_place (x ∷ xs) zero y d (suc k) = inr refl
@@ -28,25 +29,31 @@ pub seated_in_none : (seats : List (Option OpenLine)) (seat_of : List ℕ) → A
 seated_in_none seats seat_of none k o there = let e = empty seats none k in cc
 
 -- a line without an open file is given a seat
-pub seated_elsewhere : (seats : List (Option OpenLine)) (seat_of : List ℕ) (call : ℕ) (side : Side) (p seat : ℕ) → p ≡ place_of call side → IsFileOf seats call side None → AreSeated seats seat_of → AreSeated seats (slice_set seat_of p seat)
+pub seated_elsewhere : (seats : List (Option OpenLine)) (seat_of : List ℕ) (call : ℕ) (side : Side) (p seat : ℕ) → p ≡ place_of call side →
+    IsFileOf seats call side None → AreSeated seats seat_of → AreSeated seats (slice_set seat_of p seat)
 seated_elsewhere seats seat_of call side p seat at closed seated k o there =
     elim (set_place seat_of p seat 0 (place_of o.call o.side)) [
       | inl s ↦ let same = same_line o.call call o.side side (s.0 ∙ at) in let e = closed.only k o there same.0 same.1 in cc
       | inr s ↦ s ∙ seated k o there
     ]
 
-same_seat : (seat_of : List ℕ) (file o : OpenLine) (seat k : ℕ) → seat ≡ slice_index_or seat_of (place_of file.call file.side) 0 → slice_index_or seat_of (place_of o.call o.side) 0 ≡ k → o.call ≡ file.call → o.side ≡ file.side → k ≡ seat
+same_seat : (seat_of : List ℕ) (file o : OpenLine) (seat k : ℕ) → seat ≡ slice_index_or seat_of (place_of file.call file.side) 0 →
+    slice_index_or seat_of (place_of o.call o.side) 0 ≡ k → o.call ≡ file.call → o.side ≡ file.side → k ≡ seat
 same_seat seat_of file o seat k is named call side = cc
 
 -- a file is put into its line's seat
-pub seated_after : (seats : List (Option OpenLine)) (seat_of : List ℕ) (file : OpenLine) (seat : ℕ) → seat ≡ slice_index_or seat_of (place_of file.call file.side) 0 → AreSeated seats seat_of → AreSeated (slice_set seats seat (Some file)) seat_of
+pub seated_after : (seats : List (Option OpenLine)) (seat_of : List ℕ) (file : OpenLine) (seat : ℕ) →
+    seat ≡ slice_index_or seat_of (place_of file.call file.side) 0 → AreSeated seats seat_of → AreSeated (slice_set seats seat (Some file)) seat_of
 seated_after seats seat_of file seat is seated k o there =
     elim (set_place seats seat (Some file) None k) [
-      | inl s ↦ let e : Some o ≡ Some file = sym there ∙ s.1 in let same : o ≡ file = cc in ap (λ (f : OpenLine). slice_index_or seat_of (place_of f.call f.side) 0) same ∙ sym is ∙ sym s.0
+      | inl s ↦ let e : Some o ≡ Some file = sym there ∙ s.1 in let same : o ≡ file = cc in
+          ap (λ (f : OpenLine). slice_index_or seat_of (place_of f.call f.side) 0) same ∙ sym is ∙ sym s.0
       | inr s ↦ seated k o (sym s ∙ there)
     ]
 
-pub open_after_put : (seats : List (Option OpenLine)) (seat_of : List ℕ) (file : OpenLine) (seat : ℕ) → seat ≡ slice_index_or seat_of (place_of file.call file.side) 0 → seat < length seats → AreSeated seats seat_of → OpenAfter seats (slice_set seats seat (Some file)) file.call file.side (Some file)
+pub open_after_put : (seats : List (Option OpenLine)) (seat_of : List ℕ) (file : OpenLine) (seat : ℕ) →
+    seat ≡ slice_index_or seat_of (place_of file.call file.side) 0 → seat < length seats → AreSeated seats seat_of →
+    OpenAfter seats (slice_set seats seat (Some file)) file.call file.side (Some file)
 open_after_put seats seat_of file seat is within seated =
     let put = set_there seats seat (Some file) None within in
     record {
@@ -62,7 +69,8 @@ open_after_put seats seat_of file seat is within seated =
     }
 
 -- the file in a seat is moved on, or closed
-pub moved_to : (seats : List (Option OpenLine)) (seat_of : List ℕ) (o : OpenLine) (seat : ℕ) (file : Option OpenLine) → in_seat seats seat ≡ Some o → seat < length seats → AreSeated seats seat_of → OpenAfter seats (slice_set seats seat file) o.call o.side file
+pub moved_to : (seats : List (Option OpenLine)) (seat_of : List ℕ) (o : OpenLine) (seat : ℕ) (file : Option OpenLine) → in_seat seats seat ≡ Some o →
+    seat < length seats → AreSeated seats seat_of → OpenAfter seats (slice_set seats seat file) o.call o.side file
 moved_to seats seat_of o seat file was within seated =
     let put = set_there seats seat file None within in
     record {
@@ -79,30 +87,43 @@ moved_to seats seat_of o seat file was within seated =
       number = length-set seats seat file;
     }
   where
-    found : (file : Option OpenLine) → in_seat (slice_set seats seat file) seat ≡ file → IfSome file (λ x. (k : ℕ) × (in_seat (slice_set seats seat file) k ≡ Some x))
+    found : (file : Option OpenLine) → in_seat (slice_set seats seat file) seat ≡ file →
+        IfSome file (λ x. (k : ℕ) × (in_seat (slice_set seats seat file) k ≡ Some x))
     found None put = tt
     found (Some x) put = (seat, put)
 
-pub moved_after : {E : Type 0} (seats : List (Option OpenLine)) (seat_of : List ℕ) (seat : ℕ) (old file : Option OpenLine) (result : Result ℕ E) → in_seat seats seat ≡ old → seat < length seats → AreSeated seats seat_of →
-    IfSome old (λ o. file ≡ open_after o.call o.side o.access o.at result) → IfSome (in_seat seats seat) (λ o. OpenAfter seats (slice_set seats seat file) o.call o.side (open_after o.call o.side o.access o.at result))
+pub moved_after : {E : Type 0} (seats : List (Option OpenLine)) (seat_of : List ℕ) (seat : ℕ) (old file : Option OpenLine) (result : Result ℕ E) →
+    in_seat seats seat ≡ old → seat < length seats → AreSeated seats seat_of →
+    IfSome old (λ o. file ≡ open_after o.call o.side o.access o.at result) →
+    IfSome (in_seat seats seat) (λ o. OpenAfter seats (slice_set seats seat file) o.call o.side (open_after o.call o.side o.access o.at result))
 moved_after seats seat_of seat old file result was within seated after =
-    subst (λ x. IfSome x (λ o. OpenAfter seats (slice_set seats seat file) o.call o.side (open_after o.call o.side o.access o.at result))) (sym was) (moved old was after)
+    subst (λ x. IfSome x (λ o. OpenAfter seats (slice_set seats seat file) o.call o.side (open_after o.call o.side o.access o.at result))) (sym was)
+    (moved old was after)
   where
-    moved : (old : Option OpenLine) → in_seat seats seat ≡ old → IfSome old (λ o. file ≡ open_after o.call o.side o.access o.at result) → IfSome old (λ o. OpenAfter seats (slice_set seats seat file) o.call o.side (open_after o.call o.side o.access o.at result))
+    moved : (old : Option OpenLine) → in_seat seats seat ≡ old → IfSome old (λ o. file ≡ open_after o.call o.side o.access o.at result) →
+        IfSome old (λ o. OpenAfter seats (slice_set seats seat file) o.call o.side (open_after o.call o.side o.access o.at result))
     moved None was after = tt
     moved (Some o) was after = subst (OpenAfter seats (slice_set seats seat file) o.call o.side) after (moved_to seats seat_of o seat file was within seated)
 
 -- a line without an open file is given a seat, and its file is put there
-pub given_and_put : (seats : List (Option OpenLine)) (seat_of : List ℕ) (file : OpenLine) (p seat : ℕ) → p ≡ place_of file.call file.side → p < length seat_of → seat < length seats → IsFileOf seats file.call file.side None → AreSeated seats seat_of →
-    AreSeated (slice_set seats seat (Some file)) (slice_set seat_of p seat) × OpenAfter seats (slice_set seats seat (Some file)) file.call file.side (Some file) × (in_seat (slice_set seats seat (Some file)) seat ≡ Some file)
+pub given_and_put : (seats : List (Option OpenLine)) (seat_of : List ℕ) (file : OpenLine) (p seat : ℕ) → p ≡ place_of file.call file.side → p < length seat_of →
+    seat < length seats → IsFileOf seats file.call file.side None → AreSeated seats seat_of →
+    AreSeated (slice_set seats seat (Some file)) (slice_set seat_of p seat) × OpenAfter seats (slice_set seats seat (Some file)) file.call file.side (Some file)
+    × (in_seat (slice_set seats seat (Some file)) seat ≡ Some file)
 given_and_put seats seat_of file p seat at room within closed seated =
     let given = seated_elsewhere seats seat_of file.call file.side p seat at closed seated in
-    let named : seat ≡ slice_index_or (slice_set seat_of p seat) (place_of file.call file.side) 0 = sym (set_there seat_of p seat 0 room) ∙ ap (λ i. slice_index_or (slice_set seat_of p seat) i 0) at in
-    (seated_after seats (slice_set seat_of p seat) file seat named given, open_after_put seats (slice_set seat_of p seat) file seat named within given, set_there seats seat (Some file) None within)
+    let named : seat ≡ slice_index_or (slice_set seat_of p seat) (place_of file.call file.side) 0 = sym (set_there seat_of p seat 0 room)
+    ∙ ap (λ i. slice_index_or (slice_set seat_of p seat) i 0) at in (
+      seated_after seats (slice_set seat_of p seat) file seat named given,
+      open_after_put seats (slice_set seat_of p seat) file seat named within given,
+      set_there seats seat (Some file) None within,
+    )
 
 -- the file in a line's seat stays, or is closed
-module _ (seats : List (Option OpenLine)) (seat_of : List ℕ) (seat : ℕ) (file : Option OpenLine) (within : seat < length seats) (seated : AreSeated seats seat_of) where
-  kept_or_none : (file ≡ in_seat seats seat) ⊎ (file ≡ None) → (k : ℕ) → (in_seat (slice_set seats seat file) k ≡ in_seat seats k) ⊎ (in_seat (slice_set seats seat file) k ≡ None)
+module _ (seats : List (Option OpenLine)) (seat_of : List ℕ) (seat : ℕ) (file : Option OpenLine) (within : seat < length seats)
+    (seated : AreSeated seats seat_of) where
+  kept_or_none : (file ≡ in_seat seats seat) ⊎ (file ≡ None) → (k : ℕ) →
+      (in_seat (slice_set seats seat file) k ≡ in_seat seats k) ⊎ (in_seat (slice_set seats seat file) k ≡ None)
   kept_or_none others k =
       elim (set_place seats seat file None k) [
         | inl s ↦ elim others [ inl e ↦ inl (s.1 ∙ e ∙ ap (in_seat seats) (sym s.0)) | inr e ↦ inr (s.1 ∙ e) ]
@@ -112,17 +133,20 @@ module _ (seats : List (Option OpenLine)) (seat_of : List ℕ) (seat : ℕ) (fil
   pub seated_still : (file ≡ in_seat seats seat) ⊎ (file ≡ None) → AreSeated (slice_set seats seat file) seat_of
   seated_still others k o there = elim (kept_or_none others k) [ inl e ↦ seated k o (sym e ∙ there) | inr e ↦ let none = e in cc ]
 
-  pub none_open : (call : ℕ) (side : Side) → seat ≡ slice_index_or seat_of (place_of call side) 0 → (file ≡ in_seat seats seat) ⊎ (file ≡ None) → IfSome file (λ o. o.call ≡ call → o.side ≡ side → ⊥) →
+  pub none_open : (call : ℕ) (side : Side) → seat ≡ slice_index_or seat_of (place_of call side) 0 → (file ≡ in_seat seats seat) ⊎ (file ≡ None) →
+      IfSome file (λ o. o.call ≡ call → o.side ≡ side → ⊥) →
       IsFileOf (slice_set seats seat file) call side None
   none_open call side named others other = record {
-    only = λ k o there c s. absurd (refused file other o (sym (set_there seats seat file None within) ∙ ap (in_seat (slice_set seats seat file)) (sym (here k o there c s)) ∙ there) c s);
+    only = λ k o there c s. absurd
+        (refused file other o (sym (set_there seats seat file None within) ∙ ap (in_seat (slice_set seats seat file)) (sym (here k o there c s)) ∙ there) c s);
     there = tt;
   }
     where
       here : (k : ℕ) (o : OpenLine) → in_seat (slice_set seats seat file) k ≡ Some o → o.call ≡ call → o.side ≡ side → k ≡ seat
       here k o there c s = let at = seated_still others k o there in cc
 
-      refused : (file : Option OpenLine) → IfSome file (λ o. o.call ≡ call → o.side ≡ side → ⊥) → (o : OpenLine) → file ≡ Some o → o.call ≡ call → o.side ≡ side → ⊥
+      refused : (file : Option OpenLine) → IfSome file (λ o. o.call ≡ call → o.side ≡ side → ⊥) → (o : OpenLine) → file ≡ Some o → o.call ≡ call →
+          o.side ≡ side → ⊥
       refused None other o e c s = cc
       refused (Some x) other o e c s = let same : x ≡ o = cc in other (ap (λ (y : OpenLine). y.call) same ∙ c) (ap (λ (y : OpenLine). y.side) same ∙ s)
 
@@ -132,7 +156,8 @@ pub record IsSeatOf (seats : List (Option OpenLine)) (seat_of : List ℕ) (call 
   pub here : in_seat seats seat ≡ was
   pub named : seat ≡ slice_index_or seat_of (place_of call side) 0
 
-pub seat_read : (seats : List (Option OpenLine)) (seat_of : List ℕ) (call : ℕ) (side : Side) (p seat : ℕ) (was : Option OpenLine) → length seats ≡ 256 → length seat_of ≡ 16388 → seat < 256 → p < 16388 → p ≡ place_of call side →
+pub seat_read : (seats : List (Option OpenLine)) (seat_of : List ℕ) (call : ℕ) (side : Side) (p seat : ℕ) (was : Option OpenLine) → length seats ≡ 256 →
+    length seat_of ≡ 16388 → seat < 256 → p < 16388 → p ≡ place_of call side →
     seat ≡ slice_index_or seat_of p seat → was ≡ slice_index_or seats seat was → IsSeatOf seats seat_of call side seat was
 seat_read seats seat_of call side p seat was count places low room at read there = record {
   within = omega (arith, count);

@@ -37,12 +37,12 @@ abbrev pub state_of : FileLine → LineState
 state_of l = record { to_come = None; written = None; faults = l.faults }
 
 -- what is known of each line of the list; a line past it has never been there
-abbrev pub known_of : Option FileLine → LineState
-known_of None = record { to_come = None; written = None; faults = 0 }
-known_of (Some l) = state_of l
+abbrev pub known_line : Option FileLine → LineState
+known_line None = record { to_come = None; written = None; faults = 0 }
+known_line (Some l) = state_of l
 
 abbrev pub states_of : List FileLine → ℕ → Side → LineState
-states_of lines call side = known_of (slice_get lines (place_of call side))
+states_of lines call side = known_line (slice_get lines (place_of call side))
 
 -- a line's file that is open: for what, and at which octet it stands
 pub record OpenLine : Type 0 where

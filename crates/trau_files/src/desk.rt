@@ -1,4 +1,4 @@
-// The desk over a reader and a writer, as the standard streams are.
+//! The desk over a reader and a writer, as the standard streams are.
 ghost use Rattle.std.specs.Prelude.{◌≡◌};
 ghost use Rattle.trau_io.specs.Desks.{DeskState};
 

@@ -1,8 +1,8 @@
-// Single reads and writes that a signal doesn't turn into faults.
-//
-// Neither the standard library nor the system starts a read or a write again where a signal came
-// before it moved an octet: it answers `Interrupted`. Nothing has moved then, so that the same call is
-// made again and no octet is lost. A call that moved some octets first answers their number.
+//! Single reads and writes that a signal doesn't turn into faults.
+//!
+//! Neither the standard library nor the system starts a read or a write again where a signal came
+//! before it moved an octet: it answers `Interrupted`. Nothing has moved then, so that the same call is
+//! made again and no octet is lost. A call that moved some octets first answers their number.
 ghost use Rattle.std.specs.Prelude.{◌<◌, IfOk};
 ghost use Rattle.std.specs.Io.{ReadsAtMost, WritesAtMost};
 ghost use Rattle.std.specs.Io.KnownBytes.{ReadConsumes, WriteAppends};

@@ -11,6 +11,7 @@ use Rattle.trau_frame.specs.Match.{fits, is_match, frame_at}
 
 -- ---- tests of each number of a range
 
+-- tests of all of n numbers from a on
 all_same : (p q : ℕ → Bool) (a n : ℕ) → ((k : ℕ) → a ≤ k → k < a + n → p k ≡ q k) → list_all p (range_with_len a n) ≡ list_all q (range_with_len a n)
 all_same p q a zero h = refl
 all_same p q a (suc n) h =
@@ -63,11 +64,13 @@ frame_at-same f g p q h =
 
 -- ---- the sync bits
 
+-- a bit that fits a role of a sync bit is its value
 fits_says : (r : Role) (value bit : ℕ) → fits r bit ≡ true → r ≡ Sync value → bit ≡ value
 fits_says r value bit h e =
     let f : fits (Sync value) bit ≡ true = subst (λ r. fits r bit ≡ true) e h in
     grind (arith, common_steps)
 
+-- and the other way round
 fits_from : (r : Role) (bit : ℕ) → ((value : ℕ) → r ≡ Sync value → bit ≡ value) → fits r bit ≡ true
 fits_from (Sync value) bit h = let e : bit ≡ value = h value refl in grind (arith, common_steps)
 fits_from (Control c) bit h = refl
@@ -90,10 +93,12 @@ synced_is_match line p s =
 pub match_zeros : (line : ℕ → ℕ) (p : ℕ) → is_match line p ≡ true → (i : ℕ) → i < 16 → line (p + i) ≡ 0
 match_zeros line p m i h = sym (get_or-frame_at line p i 0 (omega arith)) ∙ places.synced_zeros _ (match_is_synced line p m) i h
 
+-- a match has ones at the starts of its rows
 pub match_ones : (line : ℕ → ℕ) (p : ℕ) → is_match line p ≡ true → (row : ℕ) → 1 ≤ row → row < 20 → line (p + 16 * row) ≡ 1
 match_ones line p m row l h =
     sym (get_or-frame_at line p (16 * row) 0 (omega arith)) ∙ places.synced_ones _ (match_is_synced line p m) row l h
 
+-- zeros in the first row and ones at the starts of the others make a match
 pub match_from : (line : ℕ → ℕ) (p : ℕ) → ((i : ℕ) → i < 16 → line (p + i) ≡ 0) →
     ((row : ℕ) → 1 ≤ row → row < 20 → line (p + 16 * row) ≡ 1) → is_match line p ≡ true
 match_from line p zeros ones =

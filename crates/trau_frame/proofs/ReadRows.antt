@@ -6,7 +6,7 @@ use Rattle.std.proofs.lemmas.List.FromFn.{length-map-range_with_len, get_or-map-
 use Rattle.std.proofs.lemmas.Grind.{same_number_lists}
 use borrow.Rule.Slice.PartMut.{put_mid}
 use Rattle.trau_bits.specs.Bits.{AreBits}
-use Rattle.trau_frame.specs.Role.{Data, place_of, bit_with}
+use Rattle.trau_frame.specs.Role.{Data, place_of_role, bit_with}
 use Rattle.trau_frame.specs.Frame.{data_of}
 use Rattle.trau_frame.proofs.RowPlaces.{place_of-row, place_of-last, bit-below}
 use Rattle.trau_frame.proofs.Copied.{get_or-part, get_or-put_mid_below, get_or-put_mid, length-put_mid}
@@ -18,7 +18,7 @@ pub record IsRead (bits d : List ℕ) (n : ℕ) : Type 0 where
 
 -- bits that stand one behind another, copied as a whole
 read_part : (bits d ys : List ℕ) (from place n k m : ℕ) → from + n ≤ 260 → place + n ≤ length bits → k ≡ n → m ≡ from + n →
-    ((j : ℕ) → j < n → place_of (Data (from + j + 1)) ≡ place + j) → length ys ≡ n → ys ≡ slice_range bits place (place + n) →
+    ((j : ℕ) → j < n → place_of_role (Data (from + j + 1)) ≡ place + j) → length ys ≡ n → ys ≡ slice_range bits place (place + n) →
     IsRead bits d from → IsRead bits (put_mid from k d ys) m
 read_part bits d ys from place n k m within inside width next stand len same h =
     let count = h.count in
@@ -53,9 +53,11 @@ read_last bits d ys all len same h =
     read_part bits d ys 255 305 5 5 260 (omega arith) (omega arith) refl refl
     (λ j l. place_of-last j (255 + j + 1) l refl) len same h
 
+-- so many bits read, by another name of the number
 pub read_to : (bits d : List ℕ) (n m : ℕ) → n ≡ m → IsRead bits d n → IsRead bits d m
 read_to bits d n m e h = subst (IsRead bits d) e h
 
+-- all 260
 pub read_all : (bits d : List ℕ) → IsRead bits d 260 → d ≡ data_of bits
 unfolding data_of
 read_all bits d h =
@@ -70,4 +72,4 @@ data_of-below bits h = λ k e below.
     let count : length (map (λ n. bit_with bits (Data n)) (range_with_len 1 260)) ≡ 260 =
     length-map-range_with_len (λ n. bit_with bits (Data n)) 1 260 in
     rw (get_or-map-range_with_len (λ n. bit_with bits (Data n)) 1 260 k (k + 1) e (omega arith) (omega arith))
-    (bit-below bits h (place_of (Data (k + 1))))
+    (bit-below bits h (place_of_role (Data (k + 1))))

@@ -19,6 +19,7 @@ is_good_speech bits f count s says kind class = record {
   class = sym (class-says bits f says) ∙ class;
 }
 
+-- and the other way round
 pub told_good_speech : (bits : List ℕ) (f : UpFrame) → Says bits f → IsGoodSpeech bits →
     (f.kind ≡ kinds.Speech) × (f.class ≡ classes.Good)
 told_good_speech bits f says good = (kind-says bits f says ∙ good.kind, class-says bits f says ∙ good.class)

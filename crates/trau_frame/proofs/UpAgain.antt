@@ -9,7 +9,7 @@ use Rattle.trau_frame.specs.declared.frames.UpFrame.{UpFrame}
 use Rattle.trau_frame.specs.Role.{Control, bit_with}
 use Rattle.trau_frame.specs.Frame.{Synced, number_of, data_of}
 use Rattle.trau_frame.specs.UpFrame.{kind_by, class_by, class_at, kind_of, class_of, words_in, words_of, Says}
-use Rattle.trau_frame.specs.UpBits.{up_pattern, bfi_of, sid_of, up_control_bit, up_control, bits_saying, up_bits, FitsKind, SameFrame}
+use Rattle.trau_frame.specs.UpBits.{up_pattern, bfi_of, sid_code_of, up_control_bit, up_control, bits_saying, up_bits, FitsKind, SameFrame}
 use Rattle.trau_frame.proofs.Again.{synced-frame_bits, bit_with-frame_bits, data_of-frame_bits}
 
 pub synced-up_bits : (f : UpFrame) → Synced (up_bits f)
@@ -18,6 +18,7 @@ synced-up_bits f = synced-frame_bits (up_control (words_of f)) f.d
 
 -- ---- control bits
 
+-- what is written is read again: control bits, numbers of several bits, kind and class, data
 control-again : (f : UpFrame) (c : ℕ) → 1 ≤ c → c ≤ 21 → bit_with (up_bits f) (Control c) ≡ up_control_bit (words_of f) c
 unfolding bits_saying up_control
 control-again f c low high =
@@ -34,7 +35,8 @@ unfolding number_of number_by
 number_of-up_bits f first zero l h = refl
 number_of-up_bits f first (suc n) l h =
     let e : number_of (up_bits f) first n ≡ number_by (up_control_bit (words_of f)) first n = number_of-up_bits f first n l (omega (arith, h)) in
-    let b : bit_with (up_bits f) (Control (first + n)) ≡ up_control_bit (words_of f) (first + n) = control-again f (first + n) (omega arith) (omega (arith, h)) in
+    let b : bit_with (up_bits f) (Control (first + n)) ≡ up_control_bit (words_of f) (first + n) =
+    control-again f (first + n) (omega arith) (omega (arith, h)) in
     cc
 
 up_pattern-below : (kind : Kind) → up_pattern kind < 32
@@ -42,7 +44,7 @@ up_pattern-below Speech = omega arith
 up_pattern-below Idle = omega arith
 up_pattern-below Other = omega arith
 
-sid_of-below : (class : Class) → sid_of class < 4
+sid_of-below : (class : Class) → sid_code_of class < 4
 sid_of-below Good = omega arith
 sid_of-below Sid = omega arith
 sid_of-below InvalidSid = omega arith
@@ -60,7 +62,7 @@ align-again f =
     let below : f.align ≤ 63 = f.six_bits in
     number_of-up_bits f 6 6 (omega arith) (omega arith) ∙ omega arith
 
-sid-again : (f : UpFrame) → number_of (up_bits f) 13 2 ≡ sid_of f.class
+sid-again : (f : UpFrame) → number_of (up_bits f) 13 2 ≡ sid_code_of f.class
 unfolding number_by
 sid-again f =
     let below = sid_of-below f.class in
@@ -73,13 +75,13 @@ kind-again Speech = refl
 kind-again Idle = refl
 kind-again Other = refl
 
-speech-again : (class : Class) → class_by (bfi_of class) (sid_of class) ≡ class
+speech-again : (class : Class) → class_by (bfi_of class) (sid_code_of class) ≡ class
 speech-again Good = refl
 speech-again Sid = refl
 speech-again InvalidSid = refl
 speech-again Unusable = refl
 
-class-again : (kind : Kind) (class : Class) → FitsKind kind class → class_at kind (bfi_of class) (sid_of class) ≡ class
+class-again : (kind : Kind) (class : Class) → FitsKind kind class → class_at kind (bfi_of class) (sid_code_of class) ≡ class
 class-again Speech class h = speech-again class
 class-again Idle class h = sym h
 class-again Other class h = sym h
@@ -94,12 +96,13 @@ data-again : (f : UpFrame) → length f.d ≡ 260 → data_of (up_bits f) ≡ f.
 unfolding bits_saying
 data-again f count = data_of-frame_bits (up_control (words_of f)) f.d count
 
+-- so the bits of a frame say the frame
 pub says-up_bits : (f : UpFrame) → length f.d ≡ 260 → FitsKind f.kind f.class → Says (up_bits f) f
 unfolding words_in
 says-up_bits f count fits =
     let kind : kind_of (up_bits f) ≡ f.kind = ap kind_by (pattern-again f) ∙ kind-again f.kind in
     let bfi : bit_with (up_bits f) (Control 12) ≡ bfi_of f.class = control-again f 12 (omega arith) (omega arith) in
-    let sid : number_of (up_bits f) 13 2 ≡ sid_of f.class = sid-again f in
+    let sid : number_of (up_bits f) 13 2 ≡ sid_code_of f.class = sid-again f in
     let class : class_of (up_bits f) ≡ f.class = rw (kind, bfi, sid) (class-again f.kind f.class fits) in
     let taf = ap (λ b. b == 1) (control-again f 15 (omega arith) (omega arith)) ∙ flag-again f.taf in
     let dtxd = ap (λ b. b == 1) (control-again f 17 (omega arith) (omega arith)) ∙ flag-again f.dtxd in
@@ -107,5 +110,6 @@ says-up_bits f count fits =
     let d = data-again f count in
     cc
 
+-- and no other
 pub same-up_bits : (f g : UpFrame) → length f.d ≡ 260 → FitsKind f.kind f.class → Says (up_bits f) g → SameFrame f g
 same-up_bits f g count fits says = says-up_bits f count fits ∙ sym says

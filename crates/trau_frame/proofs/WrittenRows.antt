@@ -7,12 +7,13 @@ use Rattle.std.proofs.lemmas.List.FromFn.{fill_by_all, length-map-range_with_len
 use Rattle.std.proofs.lemmas.Bool.{cases_lt}
 use borrow.Rule.Slice.PartMut.{put_mid}
 use Rattle.trau_bits.specs.Bits.{AreBits}
-use Rattle.trau_frame.specs.Role.{Role, Sync, Control, Data, Time, role_of, place_of, IsWithin}
+use Rattle.trau_frame.specs.Role.{Role, Sync, Control, Data, Time, role_of, place_of_role, IsWithin}
 use Rattle.trau_frame.specs.Frame.{bit_for, frame_bits, IsWritten}
 use Rattle.trau_frame.proofs.Places.{role_of-zeros, role_of-ones, role_of-within}
 use Rattle.trau_frame.proofs.RowPlaces.{place_of-row, place_of-last, place_of-low, place_of-high, place_of-time, role_of-at, bit-below}
 use Rattle.trau_frame.proofs.Copied.{get_or-part, get_or-put_mid_below, get_or-put_mid, length-put_mid}
 
+-- one bit more
 pub written_next : (control d bits : List ℕ) (n x : ℕ) → n < 320 → IsWritten control d bits n → x ≡ bit_for control d (role_of n) →
     IsWritten control d (set bits n x) (n + 1)
 written_next control d bits n x l h e =
@@ -23,18 +24,21 @@ written_next control d bits n x l h e =
     }
 
 -- the next place takes the bit of its role
-pub written_role : (r : Role) (control d bits : List ℕ) (n m x : ℕ) → IsWithin r → place_of r ≡ n → n < 320 → m ≡ n + 1 →
+pub written_role : (r : Role) (control d bits : List ℕ) (n m x : ℕ) → IsWithin r → place_of_role r ≡ n → n < 320 → m ≡ n + 1 →
     x ≡ bit_for control d r → IsWritten control d bits n → IsWritten control d (set bits n x) m
 written_role r control d bits n m x within e l next same h =
     rw next (written_next control d bits n x l h (same ∙ ap (bit_for control d) (sym (role_of-at r n within e))))
 
+-- so many bits written, by another name of the number
 pub written_to : (control d bits : List ℕ) (n m : ℕ) → n ≡ m → IsWritten control d bits n → IsWritten control d bits m
 written_to control d bits n m e h = subst (IsWritten control d bits) e h
 
+-- a zero of the first row
 pub written_zero : (control d bits : List ℕ) (i : ℕ) → i < 16 → IsWritten control d bits i → IsWritten control d (set bits i 0) (i + 1)
 written_zero control d bits i l h =
     written_next control d bits i 0 (omega arith) h (sym (ap (bit_for control d) (role_of-zeros i l)))
 
+-- the one at the start of a row
 pub written_one : (control d bits : List ℕ) (row n m : ℕ) → 1 ≤ row → row < 20 → n ≡ 16 * row → m ≡ n + 1 →
     IsWritten control d bits n → IsWritten control d (set bits n 1) m
 written_one control d bits row n m l h e next w =
@@ -45,7 +49,7 @@ written_one control d bits row n m l h e next w =
 pub written_low : (control d bits : List ℕ) (c : ℕ) → c < 15 → IsWritten control d bits (17 + c) →
     IsWritten control d (set bits (17 + c) (get_or control c 0)) (17 + (c + 1))
 written_low control d bits c l h =
-    let place : place_of (Control (c + 1)) ≡ 17 + c = place_of-low (c + 1) (omega arith) ∙ omega arith in
+    let place : place_of_role (Control (c + 1)) ≡ 17 + c = place_of-low (c + 1) (omega arith) ∙ omega arith in
     let index : c ≡ c + 1 - 1 = omega arith in
     written_role (Control (c + 1)) control d bits (17 + c) (17 + (c + 1)) (get_or control c 0) (omega arith, omega arith) place
     (omega arith) (omega arith) (ap (λ k. get_or control k 0) index) h
@@ -63,7 +67,7 @@ written_last control d bits n l h =
 pub written_high : (control d bits : List ℕ) (c : ℕ) → c < 6 → IsWritten control d bits (310 + c) →
     IsWritten control d (set bits (310 + c) (get_or control (15 + c) 0)) (310 + (c + 1))
 written_high control d bits c l h =
-    let place : place_of (Control (15 + c + 1)) ≡ 310 + c = place_of-high (15 + c + 1) (omega arith) ∙ omega arith in
+    let place : place_of_role (Control (15 + c + 1)) ≡ 310 + c = place_of-high (15 + c + 1) (omega arith) ∙ omega arith in
     let index : 15 + c ≡ 15 + c + 1 - 1 = omega arith in
     written_role (Control (15 + c + 1)) control d bits (310 + c) (310 + (c + 1)) (get_or control (15 + c) 0)
     (omega arith, omega arith) place (omega arith) (omega arith) (ap (λ k. get_or control k 0) index) h
@@ -72,7 +76,7 @@ written_high control d bits c l h =
 pub written_time : (control d bits : List ℕ) (t : ℕ) → t < 4 → IsWritten control d bits (316 + t) →
     IsWritten control d (set bits (316 + t) 1) (316 + (t + 1))
 written_time control d bits t l h =
-    let place : place_of (Time (t + 1)) ≡ 316 + t = place_of-time (t + 1) ∙ omega arith in
+    let place : place_of_role (Time (t + 1)) ≡ 316 + t = place_of-time (t + 1) ∙ omega arith in
     written_role (Time (t + 1)) control d bits (316 + t) (316 + (t + 1)) 1 (omega arith, omega arith) place
     (omega arith) (omega arith) refl h
 
@@ -83,6 +87,7 @@ written_all control d bits h = fill_by_all (λ i. bit_for control d (role_of i))
 
 -- ---- a row copied as a whole
 
+-- a row's fifteen data bits
 pub written_part : (control d bits ys : List ℕ) (row k : ℕ) → row < 17 → k ≡ 15 → length d ≡ 260 → length ys ≡ 15 →
     ys ≡ slice_range d (15 * row) (15 * row + 15) → IsWritten control d bits (32 + 16 * row + 1) →
     IsWritten control d (put_mid (32 + 16 * row + 1) k bits ys) (32 + 16 * row + 16)
@@ -101,7 +106,8 @@ written_part control d bits ys row k r fifteen len part same h =
             get_or-put_mid (32 + 16 * row + 1) k bits ys j (omega arith) (omega arith) ∙
             ap (λ l. get_or l j 0) same ∙ get_or-part d (15 * row) 15 j (omega arith) small ∙
             ap (λ n. get_or d n 0) (sym index) ∙
-            sym (ap (bit_for control d) (role_of-at (Data (15 * row + j + 1)) i (omega arith, omega arith) (place_of-row row j (15 * row + j + 1) r small refl ∙ place)))
+            sym (ap (bit_for control d) (role_of-at (Data (15 * row + j + 1)) i (omega arith, omega arith)
+            (place_of-row row j (15 * row + j + 1) r small refl ∙ place)))
       ];
     }
 

@@ -29,12 +29,12 @@ IsWithin (Data n) = (1 ≤ n) × (n ≤ 260)
 IsWithin (Time t) = (1 ≤ t) × (t ≤ 4)
 
 -- the place of a role, the only one of a control, data or time bit, and the first one of a sync bit
-unfoldable pub place_of : Role → ℕ
-place_of (Sync bit) = 16 * bit
-place_of (Control c) = if nat_le c 15 then c + 16 else c + 294
-place_of (Data n) = if nat_le n 255 then n + 32 + (n - 1) / 15 else n + 49
-place_of (Time t) = t + 315
+unfoldable pub place_of_role : Role → ℕ
+place_of_role (Sync bit) = 16 * bit
+place_of_role (Control c) = if nat_le c 15 then c + 16 else c + 294
+place_of_role (Data n) = if nat_le n 255 then n + 32 + (n - 1) / 15 else n + 49
+place_of_role (Time t) = t + 315
 
 -- the bit with a role
 abbrev pub bit_with : List ℕ → Role → ℕ
-bit_with bits role = slice_index bits (place_of role)
+bit_with bits role = slice_index bits (place_of_role role)

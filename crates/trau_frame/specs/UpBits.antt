@@ -24,11 +24,11 @@ bfi_of InvalidSid = 0
 bfi_of Unusable = 1
 
 -- the number in C13 and C14, the silence descriptor of a class
-abbrev pub sid_of : Class → ℕ
-sid_of Good = 0
-sid_of Sid = 2
-sid_of InvalidSid = 1
-sid_of Unusable = 0
+abbrev pub sid_code_of : Class → ℕ
+sid_code_of Good = 0
+sid_code_of Sid = 2
+sid_code_of InvalidSid = 1
+sid_code_of Unusable = 0
 
 -- control bit c: the pattern in C1 to C5, the alignment field in C6 to C11, the class in C12 to C14, TAF in C15,
 -- DTXd in C17, and 1 in the spare bits
@@ -37,7 +37,7 @@ up_control_bit w c =
     if nat_le c 5 then bit_at (up_pattern w.kind) (5 - c)
     else if nat_le c 11 then bit_at w.align (11 - c)
     else if c == 12 then bfi_of w.class
-    else if nat_le c 14 then bit_at (sid_of w.class) (14 - c)
+    else if nat_le c 14 then bit_at (sid_code_of w.class) (14 - c)
     else if c == 15 then (if w.taf then 1 else 0)
     else if c == 17 then (if w.dtxd then 1 else 0)
     else 1

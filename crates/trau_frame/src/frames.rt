@@ -1,3 +1,5 @@
+//! What frames of both directions say.
+
 ghost use Rattle.std.specs.Prelude.{◌≤◌};
 ghost use Rattle.trau_bits.specs.Bits.{AreBits};
 

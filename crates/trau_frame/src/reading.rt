@@ -1,3 +1,5 @@
+//! What the bits of an uplink frame say.
+
 ghost use Rattle.std.specs.Prelude.{◌≡◌, ◌+◌, ◌<◌, ◌≤◌, ◌^◌, ◌==◌};
 ghost use Rattle.trau_bits.specs.Bits.{AreBits};
 ghost use Rattle.trau_frame.specs.Role.{Control, bit_with};
@@ -7,7 +9,7 @@ ghost use Rattle.trau_frame.specs.UpFrame.{kind_by, class_at, kind_of, class_of,
 use crate::frames::{Class, Kind, UpFrame};
 use crate::rows::{control, data};
 
-/// Whether control bit C`c` is 1.
+// Whether control bit C`c` is 1.
 fn flag(bits: &[u8; 320], c: usize) -> bool
     requires bits { AreBits bits.now }
     requires low { 1 ≤ c }
@@ -17,7 +19,7 @@ fn flag(bits: &[u8; 320], c: usize) -> bool
     control(bits, c) == 1
 }
 
-/// The number in `n` control bits from C`first` on, the first of them the highest.
+// The number in `n` control bits from C`first` on, the first of them the highest.
 #[tactic(auto, unfolding(crate::specs::Frame::number_of))]
 fn number(bits: &[u8; 320], first: usize, n: usize) -> u8
     requires bits { AreBits bits.now }

@@ -5,19 +5,19 @@ ghost use Rattle.trau_bits.specs.Bits.{AreBits};
 ghost use Rattle.trau_frame.specs.Role.{Control, bit_with};
 ghost use Rattle.trau_frame.specs.Frame.{data_of, IsWritten, frame_bits};
 
-/// Bits in a row.
+// Bits in a row.
 const ROW: usize = 16;
-/// Data bits in a row of data bits.
+// Data bits in a row of data bits.
 const ROW_DATA: usize = 15;
-/// Rows of data bits.
+// Rows of data bits.
 const DATA_ROWS: usize = 17;
-/// The first place of the first row of data bits.
+// The first place of the first row of data bits.
 const FIRST_ROW: usize = 32;
-/// The first place of the last row.
+// The first place of the last row.
 const LAST_ROW: usize = 304;
 
 /// Control bit C`c`.
-#[tactic(auto, unfolding(crate::specs::Role::place_of))]
+#[tactic(auto, unfolding(crate::specs::Role::place_of_role))]
 pub fn control(bits: &[u8; 320], c: usize) -> u8
     requires bits { AreBits bits.now }
     requires low { 1 ≤ c }
@@ -49,7 +49,7 @@ pub fn data(bits: &[u8; 320]) -> [u8; 260]
     d
 }
 
-/// Writes the sync zeros, and the row of C1 to C15.
+// Writes the sync zeros, and the row of C1 to C15.
 fn write_head(control: &[u8; 21], bits: &mut [u8; 320])
     ensures { (d : List ℕ) → IsWritten control.now d bits.new 32 }
 {
@@ -62,7 +62,7 @@ fn write_head(control: &[u8; 21], bits: &mut [u8; 320])
     }
 }
 
-/// Writes the fifteen data bits of a row.
+// Writes the fifteen data bits of a row.
 fn write_row(d: &[u8; 260], row: usize, bits: &mut [u8; 320])
     requires { row < DATA_ROWS }
     ensures { (control : List ℕ) → IsWritten control d.now bits.old (32 + 16 * row + 1) →
@@ -72,7 +72,7 @@ fn write_row(d: &[u8; 260], row: usize, bits: &mut [u8; 320])
     bits[place..place + ROW_DATA].copy_from_slice(&d[ROW_DATA * row..ROW_DATA * row + ROW_DATA]);
 }
 
-/// Writes the rows of fifteen data bits.
+// Writes the rows of fifteen data bits.
 fn write_data(d: &[u8; 260], bits: &mut [u8; 320])
     ensures { (control : List ℕ) → IsWritten control d.now bits.old 32 →
         IsWritten control d.now bits.new 304 }
@@ -83,7 +83,7 @@ fn write_data(d: &[u8; 260], bits: &mut [u8; 320])
     }
 }
 
-/// Writes the last row: the last five data bits, C16 to C21, and the time bits.
+// Writes the last row: the last five data bits, C16 to C21, and the time bits.
 fn write_tail(control: &[u8; 21], d: &[u8; 260], bits: &mut [u8; 320])
     ensures { IsWritten control.now d.now bits.old 304 → IsWritten control.now d.now bits.new 320 }
 {

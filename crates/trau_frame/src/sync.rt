@@ -1,8 +1,10 @@
+//! The sync pattern of a frame.
+
 ghost use Rattle.std.specs.Prelude.{◌≡◌, ℕ, ◌*◌, ◌<◌, ◌≤◌, ◌↔◌, IsTrue, slice_index};
 ghost use Rattle.trau_bits.specs.Bits.{AreBits};
 ghost use Rattle.trau_frame.specs.Frame.{Synced};
 
-/// Whether the first row is sixteen zeros.
+// Whether the first row is sixteen zeros.
 fn zeros_match(bits: &[u8; 320]) -> bool
     ensures { IsTrue result ↔ ((i : ℕ) → i < 16 → slice_index bits.now i ≡ 0) }
 {
@@ -14,7 +16,7 @@ fn zeros_match(bits: &[u8; 320]) -> bool
     true
 }
 
-/// Whether each further row begins with a one.
+// Whether each further row begins with a one.
 fn ones_match(bits: &[u8; 320]) -> bool
     ensures { IsTrue result ↔ ((row : ℕ) → 1 ≤ row → row < 20 → slice_index bits.now (16 * row) ≡ 1) }
 {

@@ -1,23 +1,25 @@
+//! The bits of frames of both directions.
+
 ghost use Rattle.std.specs.Prelude.{◌≡◌, ◌<◌, ◌≤◌};
 ghost use Rattle.std.specs.Int.{bit_at};
 ghost use Rattle.trau_bits.specs.Bits.{AreBits};
 ghost use Rattle.trau_frame.specs.DownFrame.{HasBits, down_bits, down_control, down_data};
-ghost use Rattle.trau_frame.specs.UpBits.{up_pattern, bfi_of, sid_of, up_control_bit, up_control, up_bits};
+ghost use Rattle.trau_frame.specs.UpBits.{up_pattern, bfi_of, sid_code_of, up_control_bit, up_control, up_bits};
 ghost use Rattle.trau_frame.specs.UpFrame.{words_of};
 
 use crate::frames::{Class, DownFrame, Kind, UpFrame};
 use crate::rows::write_frame;
 
-/// C1 to C21 of an idle frame.
+// C1 to C21 of an idle frame.
 const IDLE_CONTROL: [u8; 21] = [
     0, 1, 1, 1, 0, 0, 0, 0, 0, 0, 0, 1, 1, 1, 1, 1, 1, 1, 1, 1, 1,
 ];
-/// C1 to C21 of a speech frame with SP 1.
+// C1 to C21 of a speech frame with SP 1.
 const SPEECH_CONTROL: [u8; 21] = [
     1, 1, 1, 0, 0, 0, 0, 0, 0, 0, 0, 1, 1, 1, 1, 1, 1, 1, 1, 1, 1,
 ];
 
-/// C1 to C21 of a downlink frame.
+// C1 to C21 of a downlink frame.
 #[tactic(auto, unfolding(crate::specs::DownFrame::down_control))]
 fn down_control(f: &DownFrame) -> [u8; 21]
     ensures value { result ≡ down_control f.now }
@@ -48,7 +50,7 @@ pub fn write_down(f: &DownFrame, bits: &mut [u8; 320])
     }
 }
 
-/// The number in C1 to C5 of an uplink frame.
+// The number in C1 to C5 of an uplink frame.
 fn up_pattern(kind: Kind) -> u8
     ensures { result ≡ up_pattern kind }
 {
@@ -59,7 +61,7 @@ fn up_pattern(kind: Kind) -> u8
     }
 }
 
-/// The bad frame indicator of a class.
+// The bad frame indicator of a class.
 fn bfi(class: Class) -> u8
     ensures value { result ≡ bfi_of class }
     ensures bit { result < 2 }
@@ -70,9 +72,9 @@ fn bfi(class: Class) -> u8
     }
 }
 
-/// The number in the silence descriptor bits of a class.
+// The number in the silence descriptor bits of a class.
 fn sid(class: Class) -> u8
-    ensures { result ≡ sid_of class }
+    ensures { result ≡ sid_code_of class }
 {
     match class {
         Class::Good | Class::Unusable => 0,
@@ -81,7 +83,7 @@ fn sid(class: Class) -> u8
     }
 }
 
-/// Bit `k` of a number, counted from the lowest.
+// Bit `k` of a number, counted from the lowest.
 fn bit(number: u8, k: usize) -> u8
     requires { k < 8 }
     ensures value { result ≡ bit_at number k }
@@ -90,7 +92,7 @@ fn bit(number: u8, k: usize) -> u8
     number >> k & 1
 }
 
-/// Control bit C`c` of an uplink frame.
+// Control bit C`c` of an uplink frame.
 fn up_control_bit(f: &UpFrame, c: usize) -> u8
     requires low { 1 ≤ c }
     requires high { c ≤ 21 }
@@ -108,7 +110,7 @@ fn up_control_bit(f: &UpFrame, c: usize) -> u8
     }
 }
 
-/// C1 to C21 of an uplink frame.
+// C1 to C21 of an uplink frame.
 fn up_control(f: &UpFrame) -> [u8; 21]
     ensures value { result ≡ up_control (words_of f.now) }
     ensures are_bits { AreBits result }

@@ -26,7 +26,8 @@ pub record Filled (before now : LineState) (n : ℕ) (block : List ℕ) : Type 0
 pub filled_none : (s : LineState) (block : List ℕ) → Filled s s 0 block
 filled_none s block = record { bound = omega arith; consumed = Consumes-nil s.to_come; written = refl; faults = refl }
 
-pub length_filled : (n : ℕ) (block piece : List ℕ) → n ≤ length block → length piece ≡ length block - n → length (put_mid n (length block - n) block piece) ≡ length block
+pub length_filled : (n : ℕ) (block piece : List ℕ) → n ≤ length block → length piece ≡ length block - n → length (put_mid n (length block - n) block piece)
+    ≡ length block
 length_filled n block piece bound fits = grind (arith, common_steps)
 
 -- the front of a block in which a piece was put behind n octets
@@ -36,7 +37,8 @@ front_filled n block piece bound =
     let rest = piece ++ post_of n (length block - n) block in
     subst (λ m. take m (take n block ++ rest) ≡ take n block) front (take-append_seam (take n block) rest)
 
-pub take_filled : (n k : ℕ) (block piece : List ℕ) → n ≤ length block → k ≤ length piece → take (n + k) (put_mid n (length block - n) block piece) ≡ take n block ++ take k piece
+pub take_filled : (n k : ℕ) (block piece : List ℕ) → n ≤ length block → k ≤ length piece → take (n + k) (put_mid n (length block - n) block piece)
+    ≡ take n block ++ take k piece
 take_filled n k block piece bound part =
     let rest = piece ++ post_of n (length block - n) block in
     let front : length (take n block) ≡ n = simp length-take (omega arith) in
@@ -44,7 +46,8 @@ take_filled n k block piece bound part =
     ap (λ m. take m (take n block ++ rest)) count ∙ take-append-add (take n block) rest k
     ∙ ap (λ l. take n block ++ l) (take-append-le k piece (post_of n (length block - n) block) part)
 
-pub filled_more : (before mid now : LineState) (n k : ℕ) (block piece : List ℕ) → Filled before mid n block → Reads mid now (Ok k) piece → length piece ≡ length block - n → Filled before now (n + k) (put_mid n (length block - n) block piece)
+pub filled_more : (before mid now : LineState) (n k : ℕ) (block piece : List ℕ) → Filled before mid n block → Reads mid now (Ok k) piece → length piece
+    ≡ length block - n → Filled before now (n + k) (put_mid n (length block - n) block piece)
 filled_more before mid now n k block piece so_far reads fits =
     let long : length (put_mid n (length block - n) block piece) ≡ length block = length_filled n block piece so_far.bound fits in
     let part : k ≤ length piece = reads.bound.0 in
@@ -64,7 +67,8 @@ filled_all before now n block so_far full = record {
   later = omega (arith, so_far.faults);
 }
 
-module _ (before mid now : LineState) (n : ℕ) (block piece : List ℕ) (so_far : Filled before mid n block) (room : n < length block) (fits : length piece ≡ length block - n) where
+module _ (before mid now : LineState) (n : ℕ) (block piece : List ℕ) (so_far : Filled before mid n block) (room : n < length block)
+    (fits : length piece ≡ length block - n) where
   long : length (put_mid n (length block - n) block piece) ≡ length block
   long = length_filled n block piece so_far.bound fits
 
@@ -101,7 +105,8 @@ sent_none s bytes = record { bound = omega arith; written = Appends-nil s.writte
 take_on : (n k : ℕ) (bytes piece : List ℕ) → piece ≡ drop n bytes → take (n + k) bytes ≡ take n bytes ++ take k piece
 take_on n k bytes piece is = take-add n k bytes ∙ ap (λ l. take n bytes ++ take k l) (sym is)
 
-pub sent_more : (before mid now : LineState) (n k : ℕ) (bytes piece : List ℕ) → Sent before mid n bytes → Writes mid now (Ok k) piece → piece ≡ drop n bytes → Sent before now (n + k) bytes
+pub sent_more : (before mid now : LineState) (n k : ℕ) (bytes piece : List ℕ) → Sent before mid n bytes → Writes mid now (Ok k) piece → piece ≡ drop n bytes →
+    Sent before now (n + k) bytes
 sent_more before mid now n k bytes piece so_far writes is = record {
   bound = omega (arith, writes.bound, ap length is, length-drop n bytes, so_far.bound);
   written = rw (take_on n k bytes piece is) (Appends-trans _ _ _ _ _ so_far.written writes.written);
@@ -120,7 +125,8 @@ pub record Told (before now : DeskState) (n : ℕ) (text : List ℕ) : Type 0 wh
 pub told_none : (s : DeskState) (text : List ℕ) → Told s s 0 text
 told_none s text = record { bound = omega arith; written = Appends-nil s.written; faults = refl; to_come = refl; read_faults = refl }
 
-pub told_more : (before mid now : DeskState) (n k : ℕ) (text piece : List ℕ) → Told before mid n text → DeskWrites mid now (Ok k) piece → piece ≡ drop n text → Told before now (n + k) text
+pub told_more : (before mid now : DeskState) (n k : ℕ) (text piece : List ℕ) → Told before mid n text → DeskWrites mid now (Ok k) piece → piece ≡ drop n text →
+    Told before now (n + k) text
 told_more before mid now n k text piece so_far writes is = record {
   bound = omega (arith, writes.bound, ap length is, length-drop n text, so_far.bound);
   written = rw (take_on n k text piece is) (Appends-trans _ _ _ _ _ so_far.written writes.written);

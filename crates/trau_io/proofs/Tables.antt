@@ -46,7 +46,8 @@ get-set_other (y ∷ ys) (suc i) (suc j) x other = get-set_other ys i j x (λ sa
 abbrev pub known_in : {X : Type 0} → (Option X → LineState) → List X → ℕ → Side → LineState
 known_in known table call side = known (slice_get table (place_of call side))
 
-others_set : {X : Type 0} (known : Option X → LineState) (table : List X) (call : ℕ) (side : Side) (x : X) → OthersStay (known_in known table) (known_in known (slice_set table (place_of call side) x)) call side
+others_set : {X : Type 0} (known : Option X → LineState) (table : List X) (call : ℕ) (side : Side) (x : X) →
+    OthersStay (known_in known table) (known_in known (slice_set table (place_of call side) x)) call side
 others_set known table call side x c s other =
     ap known (get-set_other table (place_of call side) (place_of c s) x (λ same. let one = same_line c call s side same in other one.0 one.1))
 
@@ -58,7 +59,8 @@ pub record Replaced {X : Type 0} (known : Option X → LineState) (before now : 
   pub is : known_in known now call side ≡ known (Some new)
   pub others : OthersStay (known_in known before) (known_in known now) call side
 
-pub replaced : {X : Type 0} (known : Option X → LineState) (before table : List X) (call : ℕ) (side : Side) (p : ℕ) (old new : X) → table ≡ before → length table ≡ 16388 → p ≡ place_of call side → p < 16388 → old ≡ get_or table p old → Replaced known before (slice_set table p new) call side old new
+pub replaced : {X : Type 0} (known : Option X → LineState) (before table : List X) (call : ℕ) (side : Side) (p : ℕ) (old new : X) → table ≡ before →
+    length table ≡ 16388 → p ≡ place_of call side → p < 16388 → old ≡ get_or table p old → Replaced known before (slice_set table p new) call side old new
 replaced known before table call side p old new same size place within read =
     let found : slice_get before (place_of call side) ≡ Some old = cc (slice_get_read table 16388 p old (sym size) within read) in
     let put : slice_set table p new ≡ slice_set before (place_of call side) new = cc in

@@ -1,4 +1,4 @@
--- What is known of a desk, and what one call does to it (this project's profile).
+-- What is known of a desk, and what one operation does to it (this project's profile).
 use Rattle.std.specs.Prelude.{◌≡◌, ℕ, ◌<◌, ◌≤◌, List, length, Option, Result, IfOk}
 use Rattle.std.specs.Io.{ReadsAtMost}
 use Rattle.std.specs.Io.KnownBytes.{ReadConsumes, WriteAppends}

@@ -1,4 +1,4 @@
--- What calls of the outside do: one call, a whole transfer, and what lines in memory answer; and how texts name a line.
+-- What operations of the outside do: one operation, a whole transfer, and what lines in memory answer; and how texts name a line.
 pub mod Desks
 pub mod Lines
 pub mod Memory

@@ -1,4 +1,4 @@
--- What is known of a line, and what one call does to it (this project's profile).
+-- What is known of a line, and what one operation does to it (this project's profile).
 use Rattle.std.specs.Prelude.{◌≡◌, ℕ, ◌+◌, ◌-◌, ◌^◌, ◌<◌, ◌≤◌, min, List, length, Option, Result, IfOk, OnOk, OnErr}
 use Rattle.std.specs.Io.{ReadsAtMost}
 use Rattle.std.specs.Io.KnownBytes.{ReadConsumes, WriteAppends}
@@ -15,7 +15,11 @@ pub record LineState : Type 0 where
 abbrev pub Rose : ℕ → ℕ → Type 0
 Rose before now = min (before + 1) (2 ^ 64 - 1) ≤ now
 
--- a call fails only where its count says so, and leaves the count as it was where it doesn't fail
+-- it didn't rise, and stands below its last value
+abbrev pub NotRose : ℕ → ℕ → Type 0
+NotRose before now = Rose before now → ⊥
+
+-- an operation fails only where its count says so, and leaves the count as it was where it doesn't fail
 pub record HasCause {T : Type 0} (before now : ℕ) (result : Result T Failed) : Type 0 where
   pub later : before ≤ now
   pub failed : OnErr result (Rose before now)

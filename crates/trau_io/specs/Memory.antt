@@ -1,4 +1,4 @@
--- Lines in memory: what they tell, and what their calls answer (this project's profile).
+-- Lines in memory: what they tell, and what their operations answer (this project's profile).
 use Rattle.std.specs.Prelude.{ℕ, ◌+◌, ◌-◌, ◌^◌, ◌==◌, ◌||◌, ◌++◌, Bool, min, max, nat_lt, List, [], length, take, drop, Option, Some, None, Result, Ok, Err, slice_get, slice_index, if◌then◌else◌}
 use Rattle.std.specs.List.{list_any}
 use Rattle.trau_io.specs.declared.line.Failed.{Failed}
@@ -7,7 +7,8 @@ use Rattle.trau_io.specs.Lines.{LineState}
 use Rattle.trau_io.specs.Desks.{DeskState}
 use Rattle.trau_io.specs.Places.{place_of}
 
--- a line in memory: the octets to come and written, how many octets it has still room for, which of its calls are cut or fail, and its numbers of calls and faults
+-- a line in memory: the octets to come and written, how many octets it has still room for, which of its operations are cut
+-- or fail, and how many operations and faults it had
 pub record MemoryLine : Type 0 where
   pub to_come : List ℕ
   pub written : List ℕ
@@ -17,15 +18,15 @@ pub record MemoryLine : Type 0 where
   pub calls : ℕ
   pub faults : ℕ
 
--- a line before its first call
+-- a line before its first operation
 abbrev pub new_line : List ℕ → List ℕ → List ℕ → ℕ → MemoryLine
 new_line contents cuts fails room = record { to_come = contents; written = []; room = room; cuts = cuts; fails = fails; calls = 0; faults = 0 }
 
--- the next call fails: its number, from 0, is in the list
+-- the next operation fails: its number, from 0, is in the list
 abbrev pub is_failing : MemoryLine → Bool
 is_failing l = list_any (λ number. number == l.calls) l.fails
 
--- how many of at most n octets the next call may move: a cut of 0 counts as 1, and past the list there is no cut
+-- how many of at most n octets the next operation may move: a cut of 0 counts as 1, and past the list there is no cut
 abbrev pub cut_of : MemoryLine → ℕ → ℕ
 cut_of l n = if nat_lt l.calls (length l.cuts) then min n (max (slice_index l.cuts l.calls) 1) else n
 
@@ -63,9 +64,9 @@ abbrev pub desk_of : MemoryLine → MemoryLine → DeskState
 desk_of orders texts = record { to_come = Some orders.to_come; read_faults = orders.faults; written = Some texts.written; write_faults = texts.faults }
 
 -- what is known of each line of the list; a line past it has never been there
-abbrev pub known_of : Option MemoryLine → LineState
-known_of None = record { to_come = None; written = None; faults = 0 }
-known_of (Some l) = state_of l
+abbrev pub known_line : Option MemoryLine → LineState
+known_line None = record { to_come = None; written = None; faults = 0 }
+known_line (Some l) = state_of l
 
 abbrev pub states_of : List MemoryLine → ℕ → Side → LineState
-states_of lines call side = known_of (slice_get lines (place_of call side))
+states_of lines call side = known_line (slice_get lines (place_of call side))

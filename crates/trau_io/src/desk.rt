@@ -1,4 +1,5 @@
-// Where orders come from and texts go to.
+//! Where orders come from and texts go to.
+
 ghost use Rattle.std.specs.Prelude.{◌<◌, length};
 ghost use Rattle.trau_io.specs.Desks.{DeskState, DeskReads, DeskWrites};
 

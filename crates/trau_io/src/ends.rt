@@ -1,5 +1,5 @@
-// How and when a call ended, and what was counted of its periods: plain values that the orders' board,
-// the rounds and the report share.
+//! How and when a call ended, and what was counted of its periods: plain values that the orders' board,
+//! the rounds and the report share.
 
 use crate::Side;
 
@@ -47,3 +47,16 @@ pub struct Counts {
     /// Frames made for the downlink.
     pub made: u64,
 }
+
+/// Nothing counted.
+pub const NO_COUNTS: Counts = Counts {
+    good: 0,
+    sid: 0,
+    invalid: 0,
+    bad: 0,
+    idle: 0,
+    other: 0,
+    miss: 0,
+    none: 0,
+    made: 0,
+};

@@ -7,7 +7,7 @@
 //! end and its counts.
 //!
 //! The meanings of lines and desks, and all limits, are this project's profile.
-//! Definitions: `specs/Lines.antt` and `specs/Desks.antt` (what one call does), `specs/Transfer.antt`
+//! Definitions: `specs/Lines.antt` and `specs/Desks.antt` (what one operation does), `specs/Transfer.antt`
 //! (what a whole transfer does), `specs/Memory.antt` (lines in memory), `specs/Places.antt` (tables of all lines),
 //! `specs/Texts.antt` (how texts name a line).
 #![tactic(auto)]
@@ -21,7 +21,7 @@ mod transfer;
 mod trunk;
 
 pub use desk::Desk;
-pub use ends::{CallEnd, Cause, Counts};
+pub use ends::{CallEnd, Cause, Counts, NO_COUNTS};
 pub use line::{Failed, Line, Side};
 pub use memory::{MemDesk, MemTrunk};
 pub use places::{PLACES, place};

@@ -1,4 +1,5 @@
-// The name of a line, and the one answer of a call that the outside refused.
+//! The name of a line, and the one answer of an operation that the outside refused.
+
 ghost use Rattle.call_number.specs.CallNumber.{IsCallNumber};
 
 /// Which of a call's four lines.
@@ -40,6 +41,6 @@ pub struct Line {
     pub ghost number: { IsCallNumber call },
 }
 
-/// The outside failed at this call, and its count of faults says so.
+/// The outside failed at this operation, and its count of faults says so.
 #[derive(Clone, Copy, Debug, PartialEq, Eq)]
 pub struct Failed;

@@ -1,4 +1,5 @@
-// Lines and a desk in memory, which tell everything.
+//! Lines and a desk in memory, which tell everything.
+
 mod desk;
 mod line;
 mod trunk;

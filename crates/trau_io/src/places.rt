@@ -1,4 +1,5 @@
-// A table of all lines.
+//! A table of all lines.
+
 ghost use Rattle.std.specs.Prelude.{◌≡◌, ◌<◌};
 ghost use Rattle.trau_io.specs.Places.{number_of_side, place_of};
 ghost use Rattle.trau_io.specs.declared.places.TheConstants.{PLACES};

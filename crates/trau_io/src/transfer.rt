@@ -1,4 +1,5 @@
-// Whole transfers, in whatever pieces the outside takes and gives them.
+//! Whole transfers, in whatever pieces the outside takes and gives them.
+
 ghost use Rattle.std.specs.Prelude.{◌≤◌, length};
 ghost use Rattle.trau_io.specs.Lines.{OthersStay};
 ghost use Rattle.trau_io.specs.Transfer.{ReadsBlock, WritesAll, Tells};

@@ -1,4 +1,5 @@
-// The recorded lines of all calls.
+//! The recorded lines of all calls.
+
 ghost use Rattle.std.specs.Prelude.{◌<◌, ℕ, length};
 ghost use Rattle.trau_io.specs.declared.line.Side.{Side};
 ghost use Rattle.trau_io.specs.Lines.{LineState, Reads, Writes, OthersStay};

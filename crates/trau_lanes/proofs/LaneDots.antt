@@ -70,7 +70,14 @@ fold_sums (x ∷ xs) (y ∷ ys) s t e =
     let turn : s +ℤ t +ℤ (x +ℤ y) ≡ s +ℤ x +ℤ (t +ℤ y) = omega (arith, ints) in
     ap (λ a. fold ◌+ℤ◌ a (zip2 ◌+ℤ◌ xs ys)) turn ∙ fold_sums xs ys (s +ℤ x) (t +ℤ y) (omega arith)
 
-fold_more : (h : ℤ → ℤ → ℤ) (f : ℕ → ℤ) (k : ℕ) → fold h (pos 0) (map f (range_with_len 0 (k + 1))) ≡ h (fold h (pos 0) (map f (range_with_len 0 k))) (f k)
+-- a sum of halves, doubled
+pub doubled_sum : (g f : ℕ → ℤ) → ((k : ℕ) → g k *ℤ pos 2 ≡ f k) → (ks : List ℕ) (s t : ℤ) → s *ℤ pos 2 ≡ t →
+    fold ◌+ℤ◌ s (map g ks) *ℤ pos 2 ≡ fold ◌+ℤ◌ t (map f ks)
+doubled_sum g f h [] s t e = e
+doubled_sum g f h (k ∷ ks) s t e = let here = h k in doubled_sum g f h ks (s +ℤ g k) (t +ℤ f k) (omega (arith, ints))
+
+-- one term more at the end
+pub fold_more : (h : ℤ → ℤ → ℤ) (f : ℕ → ℤ) (k : ℕ) → fold h (pos 0) (map f (range_with_len 0 (k + 1))) ≡ h (fold h (pos 0) (map f (range_with_len 0 k))) (f k)
 fold_more h f k = ap (fold h (pos 0)) (map-range_with_len_more f 0 k k (omega arith)) ∙ fold-append h (pos 0) (map f (range_with_len 0 k)) (f k ∷ [])
 
 -- the terms of n places more
@@ -123,16 +130,20 @@ row_length wt earlier i at a b =
 abbrev pub pair : List ℕ → ℕ → ℕ → ℤ
 pair ns i j = to_z w32 ((of_z w32 (to_z w32 (get_or ns i 0)) + of_z w32 (to_z w32 (get_or ns j 0))) % 2 ^ 32)
 
+-- the sums of neighbours in lanes are those of numbers
 abbrev pub Pairs : List ℕ → List ℤ → Type 0
 Pairs ns zs = (pair ns 0 1 ∷ pair ns 2 3 ∷ pair ns 4 5 ∷ pair ns 6 7 ∷ []) ≡ sums_of_pairs zs
 
-pub pair_sum : (x y : ℤ) → Within 1073741823 x → Within 1073741823 y → to_z w32 ((of_z w32 (to_z w32 (of_z w32 x)) + of_z w32 (to_z w32 (of_z w32 y))) % 2 ^ 32) ≡ x +ℤ y
+-- one of them, where both numbers are small
+pub pair_sum : (x y : ℤ) → Within 1073741823 x → Within 1073741823 y →
+    to_z w32 ((of_z w32 (to_z w32 (of_z w32 x)) + of_z w32 (to_z w32 (of_z w32 y))) % 2 ^ 32) ≡ x +ℤ y
 pair_sum x y a b =
     let fx : FitsSigned w32 x = omega (arith, ints) in
     let fy : FitsSigned w32 y = omega (arith, ints) in
     ap (λ m. to_z w32 ((of_z w32 m + of_z w32 (to_z w32 (of_z w32 y))) % 2 ^ 32)) (to_z-of_z w32 x fx) ∙
     ap (λ n. to_z w32 ((of_z w32 x + of_z w32 n) % 2 ^ 32)) (to_z-of_z w32 y fy) ∙ lane_sum x y a b
 
+-- lists of four are the same where each two numbers are
 pub four_same : (x x' y y' z z' w w' : ℤ) → x ≡ x' → y ≡ y' → z ≡ z' → w ≡ w' → (x ∷ y ∷ z ∷ w ∷ []) ≡ (x' ∷ y' ∷ z' ∷ w' ∷ [])
 four_same x x' y y' z z' w w' a b c d = cc
 
@@ -140,7 +151,8 @@ four_same x x' y y' z z' w w' a b c d = cc
 pub pairs_of_one : (xs : List ℤ) → length xs ≡ 8 → Each1 (Within 1073741823) xs → Pairs (map (of_z w32) xs ++ map (of_z w32) xs) xs
 pairs_of_one xs l =
     by_eight (λ zs. Each1 (Within 1073741823) zs → Pairs (map (of_z w32) zs ++ map (of_z w32) zs) zs)
-    (λ a b c d e f g h p. four_same _ _ _ _ _ _ _ _ (pair_sum a b p.0 p.1.0) (pair_sum c d p.1.1.0 p.1.1.1.0) (pair_sum e f p.1.1.1.1.0 p.1.1.1.1.1.0) (pair_sum g h p.1.1.1.1.1.1.0 p.1.1.1.1.1.1.1.0)) xs l
+    (λ a b c d e f g h p. four_same _ _ _ _ _ _ _ _ (pair_sum a b p.0 p.1.0) (pair_sum c d p.1.1.0 p.1.1.1.0) (pair_sum e f p.1.1.1.1.0 p.1.1.1.1.1.0)
+    (pair_sum g h p.1.1.1.1.1.1.0 p.1.1.1.1.1.1.1.0)) xs l
 
 -- their sum, length and bound
 fold_pairs : (xs : List ℤ) → length xs ≡ 8 → fold ◌+ℤ◌ (pos 0) (sums_of_pairs xs) ≡ fold ◌+ℤ◌ (pos 0) xs
@@ -157,7 +169,8 @@ pairs_within m (x ∷ y ∷ zs) p = let a = p.0 in let b = p.1.0 in (omega (arit
 -- the sums of all lanes after eight products more
 pub eight_more : (wt earlier sums : List ℤ) (start i : ℕ) → length sums ≡ 4 → i + 8 ≤ length wt → start + i + 8 ≤ length earlier →
     fold ◌+ℤ◌ (pos 0) sums ≡ fold ◌+ℤ◌ (pos 0) (map (product_at wt earlier start) (range_with_len 0 i)) →
-    fold ◌+ℤ◌ (pos 0) (zip2 ◌+ℤ◌ sums (sums_of_pairs (row wt earlier i (start + i)))) ≡ fold ◌+ℤ◌ (pos 0) (map (product_at wt earlier start) (range_with_len 0 (i + 8)))
+    fold ◌+ℤ◌ (pos 0) (zip2 ◌+ℤ◌ sums (sums_of_pairs (row wt earlier i (start + i)))) ≡
+    fold ◌+ℤ◌ (pos 0) (map (product_at wt earlier start) (range_with_len 0 (i + 8)))
 eight_more wt earlier sums start i l a b e =
     let long = row_length wt earlier i (start + i) a b in
     fold_sums sums (sums_of_pairs (row wt earlier i (start + i))) (pos 0) (pos 0) (l ∙ sym (length_pairs (row wt earlier i (start + i)) long)) ∙

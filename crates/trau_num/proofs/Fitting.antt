@@ -6,10 +6,12 @@ use Rattle.std.specs.Int.Signed.{mag, mag_shr}
 use Rattle.trau_num.specs.Num.{clamp16, add_of, sub_of}
 use mir.Val.{to_z, of_z}
 
+-- a product of two longs whose magnitudes have these bounds is a long, also of the numbers as they are passed
 pub product_fits : (a b : ℤ) (m n : ℕ) → FitsSigned w32 a → FitsSigned w32 b → unsigned_abs a ≤ m → unsigned_abs b ≤ n → m * n < 2 ^ 31 →
     FitsSigned w32 (to_z w32 (of_z w32 a) *ℤ to_z w32 (of_z w32 b))
 product_fits a b m n fa fb la lb room = simp to_z-of_z (fits_signed_mul w32 a b m n la lb room)
 
+-- and it is passed as it is
 pub product_is : (a b : ℤ) (m n : ℕ) → FitsSigned w32 a → FitsSigned w32 b → unsigned_abs a ≤ m → unsigned_abs b ≤ n → m * n < 2 ^ 31 →
     to_z w32 (of_z w32 (to_z w32 (of_z w32 a) *ℤ to_z w32 (of_z w32 b))) ≡ a *ℤ b
 product_is a b m n fa fb la lb room =
@@ -23,6 +25,7 @@ product_bound a b m n la lb = simp unsigned_abs-mul (mul-le-mul la lb)
 pub shifted_fits : (w : Width) (z : ℤ) (n : ℕ) → FitsSigned w z → FitsSigned w (int_shr z n)
 shifted_fits w z n f = let less : mag (int_shr z n) ≤ mag z = mag_shr z (2 ^ n) in record { sfits = omega (arith, less, f.sfits) }
 
+-- the upper part of a sum of this size is a word
 word_of : (z : ℤ) → neg_ℤ (pos 1073692672) ≤ℤ z → z ≤ℤ pos 1073725440 → FitsSigned w16 (int_shr z 15)
 word_of (pos n) l h = omega (arith, ints)
 word_of (negsuc n) l h = omega (arith, ints)

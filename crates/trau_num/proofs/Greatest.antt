@@ -5,6 +5,7 @@ use Rattle.std.specs.List.{range_with_len, find, list_all}
 use Rattle.std.proofs.lemmas.Int.{ints, by_lt_z}
 use Rattle.std.proofs.lemmas.Bool.{cases_eq, cond-true, cond-false, and_from, and_left, and_right}
 
+-- the tests of the code, by the orders
 pub less : (a b : ℤ) → a <ℤ b → int_lt a b ≡ true
 less a b l = grind (arith, ints)
 
@@ -24,6 +25,7 @@ pub record IsLeastGreatest (f : ℕ → ℤ) (a n m : ℕ) : Type 0 where
   pub greatest : (k : ℕ) → a ≤ k → k < a + n → f k ≤ℤ f m
   pub least : (k : ℕ) → a ≤ k → k < m → f k <ℤ f m
 
+-- facts of orders that the steps below take
 same_at : (f : ℕ → ℤ) (k n : ℕ) → k ≡ n → f k ≤ℤ f n
 same_at f k n e = rw e (omega (arith, ints))
 
@@ -99,6 +101,7 @@ none_found p a zero none = refl
 none_found p a (suc n) none =
     cond-false (p a) _ _ (none a (omega arith) (omega arith)) ∙ none_found p (a + 1) n (λ k b c. none k (omega arith) (omega arith))
 
+-- tests of all of n numbers from a on
 all_pass : (p : ℕ → Bool) (a n : ℕ) → ((k : ℕ) → a ≤ k → k < a + n → p k ≡ true) → list_all p (range_with_len a n) ≡ true
 all_pass p a zero each = refl
 all_pass p a (suc n) each =

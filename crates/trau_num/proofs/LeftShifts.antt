@@ -7,6 +7,7 @@ use Rattle.std.proofs.lemmas.Nat.{pow-add, pow_pos}
 use Rattle.std.proofs.Math.Nat.{mul-le-mul_right, mul-le-mul_left, mul-lt-mul_of_pos_right, pow-le-pow_right}
 use Rattle.trau_num.specs.Num.{norm_of}
 
+-- 2^30 is 2^k times what is left of it
 split : (k : ℕ) → k ≤ 30 → 2 ^ 30 ≡ 2 ^ k * 2 ^ (30 - k)
 split k h = let e : 30 ≡ k + (30 - k) = omega arith in ap (λ n. 2 ^ n) e ∙ pow-add 2 k (30 - k)
 
@@ -18,6 +19,7 @@ reaches v k h l = omega (arith, split k h, mul-le-mul_right (2 ^ (30 - k)) l)
 pub stays : (v k : ℕ) → k ≤ 30 → v < 2 * 2 ^ k → v * 2 ^ (30 - k) < 2 ^ 31
 stays v k h l = omega (arith, split k h, mul-lt-mul_of_pos_right l (pow_pos (30 - k)))
 
+-- a number that is 2^k at least and fits 31 bits bounds k
 pub within : (k v : ℕ) → 2 ^ k ≤ v → v < 2 ^ 31 → k ≤ 30
 within k v l m = let p : 31 ≤ k → 2 ^ 31 ≤ 2 ^ k = λ h. pow-le-pow_right (omega arith) h in grind (arith, p)
 

@@ -1,3 +1,4 @@
+pub mod Clamped
 pub mod Fill
 pub mod Fitting
 pub mod Greatest

@@ -1,6 +1,6 @@
 //! Saturating arithmetic of the full rate codec (GSM 06.10, section 4), and this project's random source.
 //!
-//! The lowest crate: every stage of the codec computes with these calls, and the receive side draws
+//! The lowest crate: every stage of the codec computes with these functions, and the receive side draws
 //! from the source. Each operation is the exact whole number, clamped to its type; that of -32768 and
 //! -32768 is no case of its own, since the clamp gives it. `words` has the operations on 16 bits,
 //! `long_words` those on 32 bits, `products` the sum of a word and a rounded product that filters are

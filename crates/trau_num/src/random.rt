@@ -1,7 +1,7 @@
 //! The random source of a call (this project's profile).
 
 ghost use Rattle.std.specs.Prelude.{◌≡◌, ℕ, ◌<◌, ◌≤◌};
-ghost use Rattle.trau_num.specs.Random.{next_state, drawn_number};
+ghost use Rattle.trau_num.specs.Random.{state_after_draw, drawn_number};
 
 /// The random source of a call, which starts at the call's number.
 #[derive(Clone, Copy, Debug, PartialEq, Eq)]
@@ -12,11 +12,11 @@ pub struct Draw {
 
 impl Draw {
     /// Draws a number below `m`, which is 1 to 6.
-    #[tactic(auto, unfolding(crate::specs::Random::next_state, crate::specs::Random::drawn_number))]
+    #[tactic(auto, unfolding(crate::specs::Random::state_after_draw, crate::specs::Random::drawn_number))]
     pub fn next(&mut self, m: u16) -> u16
         requires some { 1 ≤ m }
         requires at_most_6 { m ≤ 6 }
-        ensures state { self.new.r ≡ next_state self.old.r }
+        ensures state { self.new.r ≡ state_after_draw self.old.r }
         ensures value { result ≡ drawn_number self.old.r m }
         ensures below { result < m }
     {

@@ -23,8 +23,11 @@ good_or_bad lines os n are is = is.bad (take n os) (front_lines n lines os are)
 
 -- no bad line stands before the first
 no_earlier : (lines : List (List ℕ)) (m n : ℕ) → IsFirstBad lines m → IsFirstBad lines n → m < n → ⊥
-no_earlier lines m n first second less = first.bad (take m second.before) (subst (λ ls. AreLines ls (take m second.before)) (take-take m (n - 1) lines (omega (arith, less))) (front_lines m (take (n - 1) lines) second.before second.good))
+no_earlier lines m n first second less = first.bad (take m second.before)
+    (subst (λ ls. AreLines ls (take m second.before)) (take-take m (n - 1) lines (omega (arith, less)))
+    (front_lines m (take (n - 1) lines) second.before second.good))
 
 pub one_first : (lines : List (List ℕ)) (m n : ℕ) → IsFirstBad lines m → IsFirstBad lines n → m ≡ n
 one_first lines m n first second =
-    elim (cases_order m n) [ inl same ↦ same | inr (inl less) ↦ absurd (no_earlier lines m n first second less) | inr (inr more) ↦ absurd (no_earlier lines n m second first more) ]
+    elim (cases_order m n)
+    [ inl same ↦ same | inr (inl less) ↦ absurd (no_earlier lines m n first second less) | inr (inr more) ↦ absurd (no_earlier lines n m second first more) ]

@@ -24,7 +24,8 @@ has_level (Level c v) is = (is.1, is.2)
 has_level (Dtx c m) is = tt
 
 -- the stamp n places on isn't below
-rises : (lines : List (List ℕ)) (os : List Order) → AreLines lines os → (i n : ℕ) (d : Order) → i + n < length os → (get_or os i d).stamp ≤ (get_or os (i + n) d).stamp
+rises : (lines : List (List ℕ)) (os : List Order) → AreLines lines os → (i n : ℕ) (d : Order) → i + n < length os →
+    (get_or os i d).stamp ≤ (get_or os (i + n) d).stamp
 rises lines os are i zero d within = let same : i + 0 ≡ i = omega arith in rw same (omega arith)
 rises lines os are i (suc n) d within =
     let before = rises lines os are i n d (omega (arith, within)) in
@@ -38,5 +39,6 @@ orders_known lines os few are = record {
   calls = λ k d within. names_calls _ (are.spelled k d within).in_range;
   levels = λ k d within. has_level _ (are.spelled k d within).in_range;
   stamps = λ k d within. (are.spelled k d within).stamp;
-  rising = λ i j d before within. let place : i + (j - i) ≡ j = omega (arith, before) in subst (λ k. (get_or os i d).stamp ≤ (get_or os k d).stamp) place (rises lines os are i (j - i) d (omega (arith, before, within)));
+  rising = λ i j d before within. let place : i + (j - i) ≡ j = omega (arith, before) in subst (λ k. (get_or os i d).stamp ≤ (get_or os k d).stamp) place
+      (rises lines os are i (j - i) d (omega (arith, before, within)));
 }

@@ -21,10 +21,12 @@ pub record HasRead (text rest : List ℕ) (orders : List Order) : Type 0 where
 length_push : {X : Type 0} (xs : List X) (x : X) → length (xs ++ x ∷ []) ≡ length xs + 1
 length_push xs x = length-append xs (x ∷ [])
 
-push_lines : (lines : List (List ℕ)) (os : List Order) (line : List ℕ) (o : Order) → AreLines lines os → IsLine line o → Follows os o → AreLines (lines ++ line ∷ []) (os ++ o ∷ [])
+push_lines : (lines : List (List ℕ)) (os : List Order) (line : List ℕ) (o : Order) → AreLines lines os → IsLine line o → Follows os o →
+    AreLines (lines ++ line ∷ []) (os ++ o ∷ [])
 push_lines lines os line o are is follows = record {
   one_each = length_push lines line ∙ ap (λ n. n + 1) are.one_each ∙ sym (length_push os o);
-  spelled = λ k d within. below_more (λ n. IsLine (get_or (lines ++ line ∷ []) n []) (get_or (os ++ o ∷ []) n d)) (length os) (λ n low. older n d low) (newest d) k (omega (arith, within, length_push os o));
+  spelled = λ k d within. below_more (λ n. IsLine (get_or (lines ++ line ∷ []) n []) (get_or (os ++ o ∷ []) n d)) (length os) (λ n low. older n d low)
+      (newest d) k (omega (arith, within, length_push os o));
   rising = λ k d within. steps k d (omega (arith, within, length_push os o));
 }
   where
@@ -42,7 +44,8 @@ push_lines lines os line o are is follows = record {
         elim (eq-or-lt_of_le next) [
           | inl last ↦
               let place : length os - 1 ≡ k = omega (arith, last) in
-              rw (get_or_append_left os (o ∷ []) d k low) (rw (get_or_push os o d (k + 1) (sym last)) (subst (λ n. (get_or os n d).stamp ≤ o.stamp) place (follows d (omega arith))))
+              rw (get_or_append_left os (o ∷ []) d k low)
+              (rw (get_or_push os o d (k + 1) (sym last)) (subst (λ n. (get_or os n d).stamp ≤ o.stamp) place (follows d (omega arith))))
           | inr inside ↦ rw (get_or_append_left os (o ∷ []) d k low) (rw (get_or_append_left os (o ∷ []) d (k + 1) inside) (are.rising k d inside))
         ]
 
@@ -55,7 +58,8 @@ read_nothing text = record {
 }
 
 -- one more line with its order
-pub read_more : (text rest line after : List ℕ) (os : List Order) (o : Order) → HasRead text rest os → text_lines rest ≡ line ∷ text_lines after → IsLine line o → Follows os o → HasRead text after (os ++ o ∷ [])
+pub read_more : (text rest line after : List ℕ) (os : List Order) (o : Order) → HasRead text rest os → text_lines rest ≡ line ∷ text_lines after →
+    IsLine line o → Follows os o → HasRead text after (os ++ o ∷ [])
 read_more text rest line after os o so_far next is follows = record {
   lines = so_far.lines ++ line ∷ [];
   whole = so_far.whole ∙ ap (λ ls. so_far.lines ++ ls) next ∙ sym (append_assoc so_far.lines (line ∷ []) (text_lines after));
@@ -65,14 +69,16 @@ read_more text rest line after os o so_far next is follows = record {
 -- all lines were read
 pub read_all : (text rest : List ℕ) (os : List Order) → HasRead text rest os → rest ≡ [] → AreLines (text_lines text) os
 read_all text rest os so_far none =
-    subst (λ ls. AreLines ls os) (sym (so_far.whole ∙ ap (λ t. so_far.lines ++ text_lines t) none ∙ ap (λ ls. so_far.lines ++ ls) no_line ∙ append-nil so_far.lines)) so_far.read
+    subst (λ ls. AreLines ls os) (sym (so_far.whole ∙ ap (λ t. so_far.lines ++ text_lines t) none ∙ ap (λ ls. so_far.lines ++ ls) no_line
+    ∙ append-nil so_far.lines)) so_far.read
 
 -- the lines that were read and those that are left
 pub read_count : (text rest : List ℕ) (os : List Order) → HasRead text rest os → length os + length (text_lines rest) ≡ length (text_lines text)
 read_count text rest os so_far = omega (arith, so_far.read.one_each, ap length so_far.whole, length-append so_far.lines (text_lines rest))
 
 -- the order that a line and the stamps before it don't allow
-pub behind : (line : List ℕ) (os : List Order) (o p before : Order) → IsLine line o → IsLine line p → slice_get os (length os - 1) ≡ Some before → o.stamp < before.stamp → Follows os p → ⊥
+pub behind : (line : List ℕ) (os : List Order) (o p before : Order) → IsLine line o → IsLine line p → slice_get os (length os - 1) ≡ Some before →
+    o.stamp < before.stamp → Follows os p → ⊥
 behind line os o p before is is' last late follows =
     let some = slice_get_within os (length os - 1) before last in
     let same : get_or os (length os - 1) p ≡ before = get_or_from_slice_get os (length os - 1) before p last in
@@ -84,9 +90,11 @@ no_order : Order
 no_order = record { stamp = 0; what = OpenCall 0 A }
 
 -- no orders have these lines and one more that nothing behind them allows
-stops : (lines : List (List ℕ)) (os ps : List Order) (line : List ℕ) → AreLines lines os → AreLines (lines ++ line ∷ []) ps → ((o : Order) → IsLine line o → Follows os o → ⊥) → ⊥
+stops : (lines : List (List ℕ)) (os ps : List Order) (line : List ℕ) → AreLines lines os → AreLines (lines ++ line ∷ []) ps →
+    ((o : Order) → IsLine line o → Follows os o → ⊥) → ⊥
 stops lines os ps line are more none =
-    none (get_or ps (length os) no_order) (subst (λ l. IsLine l (get_or ps (length os) no_order)) (get_or_push lines line [] (length os) are.one_each) (more.spelled (length os) no_order within)) follows
+    none (get_or ps (length os) no_order) (subst (λ l. IsLine l (get_or ps (length os) no_order)) (get_or_push lines line [] (length os) are.one_each)
+    (more.spelled (length os) no_order within)) follows
   where
     longer : length ps ≡ length os + 1
     longer = omega (arith, more.one_each, length_push lines line, are.one_each)
@@ -100,15 +108,18 @@ stops lines os ps line are more none =
         let line_low : length os - 1 < length lines = omega (arith, are.one_each) in
         let known = are.spelled (length os - 1) d low in
         let other : IsLine (get_or lines (length os - 1) []) (get_or ps (length os - 1) no_order) =
-        subst (λ l. IsLine l (get_or ps (length os - 1) no_order)) (get_or_append_left lines (line ∷ []) [] (length os - 1) line_low) (more.spelled (length os - 1) no_order (omega (arith, longer))) in
+        subst (λ l. IsLine l (get_or ps (length os - 1) no_order)) (get_or_append_left lines (line ∷ []) [] (length os - 1) line_low)
+        (more.spelled (length os - 1) no_order (omega (arith, longer))) in
         let stamps = one_stamp (get_or lines (length os - 1) []) (get_or os (length os - 1) d) (get_or ps (length os - 1) no_order) known other in
         let place : length os - 1 + 1 ≡ length os = omega arith in
         let rises : (get_or ps (length os - 1) no_order).stamp ≤ (get_or ps (length os) no_order).stamp =
-        subst (λ k. (get_or ps (length os - 1) no_order).stamp ≤ (get_or ps k no_order).stamp) place (more.rising (length os - 1) no_order (omega (arith, longer))) in
+        subst (λ k. (get_or ps (length os - 1) no_order).stamp ≤ (get_or ps k no_order).stamp) place
+        (more.rising (length os - 1) no_order (omega (arith, longer))) in
         omega (arith, stamps, rises)
 
 -- the line at which reading stops is the first bad one
-pub read_bad : (text rest line after : List ℕ) (os : List Order) → HasRead text rest os → text_lines rest ≡ line ∷ text_lines after → ((o : Order) → IsLine line o → Follows os o → ⊥) → IsFirstBad (text_lines text) (length os + 1)
+pub read_bad : (text rest line after : List ℕ) (os : List Order) → HasRead text rest os → text_lines rest ≡ line ∷ text_lines after →
+    ((o : Order) → IsLine line o → Follows os o → ⊥) → IsFirstBad (text_lines text) (length os + 1)
 read_bad text rest line after os so_far next none = record {
   at_least = omega arith;
   at_most = omega (arith, read_count text rest os so_far, ap length next);
@@ -128,9 +139,11 @@ read_bad text rest line after os so_far next none = record {
     with_it : take (length os + 1) (text_lines text) ≡ so_far.lines ++ line ∷ []
     with_it =
         let size : length os + 1 ≡ length (so_far.lines ++ line ∷ []) = omega (arith, so_far.read.one_each, length_push so_far.lines line) in
-        ap (λ n. take n (text_lines text)) size ∙ ap (take (length (so_far.lines ++ line ∷ []))) parts ∙ take-append_seam (so_far.lines ++ line ∷ []) (text_lines after)
+        ap (λ n. take n (text_lines text)) size ∙ ap (take (length (so_far.lines ++ line ∷ []))) parts ∙ take-append_seam (so_far.lines ++ line ∷ [])
+        (text_lines after)
 
 -- lines have one list of orders at most
 pub one_list : (lines : List (List ℕ)) (os ps : List Order) → AreLines lines os → AreLines lines ps → os ≡ ps
 one_list lines os ps are other =
-    same_lists os ps (sym are.one_each ∙ other.one_each) (λ k d within. one_order (get_or lines k []) (get_or os k d) (get_or ps k d) (are.spelled k d within) (other.spelled k d (omega (arith, within, are.one_each, other.one_each))))
+    same_lists os ps (sym are.one_each ∙ other.one_each) (λ k d within. one_order (get_or lines k []) (get_or os k d) (get_or ps k d) (are.spelled k d within)
+    (other.spelled k d (omega (arith, within, are.one_each, other.one_each))))

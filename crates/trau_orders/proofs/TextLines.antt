@@ -14,7 +14,8 @@ line_ends : (front back : List ℕ) → Lacks 10 front → text_lines (front ++ 
 unfolding text_lines
 line_ends [] back lacks = refl
 line_ends (b ∷ bs) back lacks =
-    within_line b (bs ++ 10 ∷ back) (All-head (λ x. eqb x 10 ≡ false) b bs lacks) ∙ ap (onto_first b) (line_ends bs back (All-tail (λ x. eqb x 10 ≡ false) b bs lacks))
+    within_line b (bs ++ 10 ∷ back) (All-head (λ x. eqb x 10 ≡ false) b bs lacks)
+    ∙ ap (onto_first b) (line_ends bs back (All-tail (λ x. eqb x 10 ≡ false) b bs lacks))
 
 -- a text that splits at an LF has the front as its first line
 pub first_line : (text front back : List ℕ) → SplitsAt 10 text front back → text_lines text ≡ front ∷ text_lines back
@@ -25,7 +26,8 @@ pub last_line : (b : ℕ) (bs : List ℕ) → Lacks 10 (b ∷ bs) → text_lines
 unfolding text_lines
 last_line b [] lacks = within_line b [] (All-head (λ x. eqb x 10 ≡ false) b [] lacks)
 last_line b (a ∷ as') lacks =
-    within_line b (a ∷ as') (All-head (λ x. eqb x 10 ≡ false) b (a ∷ as') lacks) ∙ ap (onto_first b) (last_line a as' (All-tail (λ x. eqb x 10 ≡ false) b (a ∷ as') lacks))
+    within_line b (a ∷ as') (All-head (λ x. eqb x 10 ≡ false) b (a ∷ as') lacks)
+    ∙ ap (onto_first b) (last_line a as' (All-tail (λ x. eqb x 10 ≡ false) b (a ∷ as') lacks))
 
 pub only_line : (text : List ℕ) → Lacks 10 text → length text ≢ 0 → text_lines text ≡ text ∷ []
 only_line [] lacks some = absurd (some refl)

@@ -18,7 +18,7 @@ use Rattle.trau_orders.specs.declared.order.DtxMode.TheVariants.{On, Off, Uplink
 use Rattle.trau_orders.specs.declared.order.What.{What}
 use Rattle.trau_orders.specs.declared.order.What.TheVariants.{OpenCall, CloseCall, Bridge, Unbridge, Level, Dtx}
 use Rattle.trau_orders.specs.declared.order.Order.{Order}
-use Rattle.trau_orders.specs.Grammar.{mode_word, words_for, IsInRange, line_of, IsLine, words_of, AreWords}
+use Rattle.trau_orders.specs.Grammar.{mode_word, words_for, IsInRange, order_line, IsLine, words_of, AreWords}
 use Rattle.trau_orders.specs.Splits.{Lacks, SplitsAt}
 
 -- a line that splits at a space has the front as its first word
@@ -96,12 +96,14 @@ not_one (Dtx c m) word e = cc
 
 -- the words of an order's line
 pub line_words : (line : List ℕ) (order : Order) → IsLine line order → words_of line ≡ decimal order.stamp ∷ words_for order.what
-unfolding line_of
+unfolding order_line
 line_words line order is =
-    ap words_of is.spelled ∙ words_join (decimal order.stamp) (words_for order.what) (lacks_digits order.stamp (omega (arith, is.stamp))) (all_lack order.what is.in_range)
+    ap words_of is.spelled ∙ words_join (decimal order.stamp) (words_for order.what) (lacks_digits order.stamp (omega (arith, is.stamp)))
+    (all_lack order.what is.in_range)
 
 -- so a line's first word is its order's stamp, and the others order what it orders
-pub stamp_first : (line front back : List ℕ) (order : Order) → SplitsAt 32 line front back → IsLine line order → (front ≡ decimal order.stamp) × (words_of back ≡ words_for order.what)
+pub stamp_first : (line front back : List ℕ) (order : Order) → SplitsAt 32 line front back → IsLine line order →
+    (front ≡ decimal order.stamp) × (words_of back ≡ words_for order.what)
 stamp_first line front back order at is =
     let both : front ∷ words_of back ≡ decimal order.stamp ∷ words_for order.what = sym (first_word line front back at) ∙ line_words line order is in
     (cc, cc)
@@ -113,18 +115,21 @@ refused_one line lacks order is =
     not_none order.what cc
 
 -- nor is one whose first word is no stamp
-pub refused_stamp : (line front back : List ℕ) → SplitsAt 32 line front back → ((n : ℕ) → IsNumber 0 4294967294 front n → ⊥) → (order : Order) → IsLine line order → ⊥
+pub refused_stamp : (line front back : List ℕ) → SplitsAt 32 line front back → ((n : ℕ) → IsNumber 0 4294967294 front n → ⊥) → (order : Order) →
+    IsLine line order → ⊥
 refused_stamp line front back at none order is =
     none order.stamp (record { at_least = omega arith; at_most = is.stamp; spelled = (stamp_first line front back order at is).0 })
 
 -- nor one whose other words order nothing
-pub refused_words : (line front back : List ℕ) → SplitsAt 32 line front back → ((what : What) → AreWords (words_of back) what → ⊥) → (order : Order) → IsLine line order → ⊥
+pub refused_words : (line front back : List ℕ) → SplitsAt 32 line front back → ((what : What) → AreWords (words_of back) what → ⊥) → (order : Order) →
+    IsLine line order → ⊥
 refused_words line front back at none order is = none order.what (record { in_range = is.in_range; spelled = (stamp_first line front back order at is).1 })
 
 -- and the order of a line with these words
-pub order_line : (line front back : List ℕ) (order : Order) → SplitsAt 32 line front back → IsNumber 0 4294967294 front order.stamp → AreWords (words_of back) order.what → IsLine line order
-unfolding line_of
-order_line line front back order at number are =
+pub is_line : (line front back : List ℕ) (order : Order) → SplitsAt 32 line front back → IsNumber 0 4294967294 front order.stamp →
+    AreWords (words_of back) order.what → IsLine line order
+unfolding order_line
+is_line line front back order at number are =
     let words : words_of line ≡ decimal order.stamp ∷ words_for order.what =
     first_word line front back at ∙ ap (λ w. w ∷ words_of back) number.spelled ∙ ap (λ ws. decimal order.stamp ∷ ws) are.spelled in
     record { stamp = number.at_most; in_range = are.in_range; spelled = sym (join_with_byte-slice_split 32 line) ∙ ap (join_with_byte 32) words }
@@ -166,7 +171,8 @@ third_word a b more what are =
     record { in_range = are.in_range; spelled = ap (λ ws. a ∷ b ∷ ws) (sym alone) ∙ are.spelled }
 
 -- three words order nothing where no order has such a third one with its verb
-pub no_three : (verb call more : List ℕ) → (verb ≡ codes "open" → more ≡ codes "mulaw" → ⊥) → (verb ≡ codes "bridge" → (b : ℕ) → IsCallNumber b → more ≡ decimal b → ⊥) →
+pub no_three : (verb call more : List ℕ) → (verb ≡ codes "open" → more ≡ codes "mulaw" → ⊥) → (verb ≡ codes "bridge" → (b : ℕ) → IsCallNumber b →
+    more ≡ decimal b → ⊥) →
     (verb ≡ codes "level" → (v : ℤ) → pos 0 ≤ℤ v → v ≤ℤ pos 32767 → more ≡ decimal (unsigned_abs v) → ⊥) →
     (verb ≡ codes "dtx" → (m : DtxMode) → more ≡ mode_word m → ⊥) → (what : What) → AreWords (verb ∷ call ∷ more ∷ []) what → ⊥
 no_three verb call more mulaw bridge level dtx (OpenCall c A) are = let e = ap length are.spelled in absurd (omega (arith, e))
@@ -174,7 +180,8 @@ no_three verb call more mulaw bridge level dtx (OpenCall c Mu) are = let e = are
 no_three verb call more mulaw bridge level dtx (CloseCall c) are = let e = ap length are.spelled in absurd (omega (arith, e))
 no_three verb call more mulaw bridge level dtx (Unbridge c) are = let e = ap length are.spelled in absurd (omega (arith, e))
 no_three verb call more mulaw bridge level dtx (Bridge a b) are = let e = are.spelled in let is : verb ≡ codes "bridge" = cc in bridge is b are.in_range.1 cc
-no_three verb call more mulaw bridge level dtx (Level c v) are = let e = are.spelled in let is : verb ≡ codes "level" = cc in level is v are.in_range.1 are.in_range.2 cc
+no_three verb call more mulaw bridge level dtx (Level c v) are = let e = are.spelled in let is : verb
+    ≡ codes "level" = cc in level is v are.in_range.1 are.in_range.2 cc
 no_three verb call more mulaw bridge level dtx (Dtx c m) are = let e = are.spelled in let is : verb ≡ codes "dtx" = cc in dtx is m cc
 
 -- nor where the second is no call
@@ -188,7 +195,8 @@ no_call verb call more none (Dtx c m) are = let e = are.spelled in none c are.in
 
 -- verbs are told apart by their first letters
 pub other_verb : (verb a b : List ℕ) (P : Type 0) → eqb (slice_index a 0) (slice_index b 0) ≡ false → verb ≡ a → verb ≡ b → P
-other_verb verb a b P differ is other = let same : slice_index a 0 ≡ slice_index b 0 = ap (λ w. slice_index w 0) (sym is ∙ other) in absurd (eqb-false (slice_index a 0) (slice_index b 0) differ same)
+other_verb verb a b P differ is other = let same : slice_index a 0 ≡ slice_index b 0 = ap (λ w. slice_index w 0) (sym is ∙ other) in absurd
+    (eqb-false (slice_index a 0) (slice_index b 0) differ same)
 
 -- a clause about what is ordered, where nothing is
 pub nothing_ordered : (r : Option What) (P : What → Type 0) → r ≡ None → IfSome r P

@@ -40,14 +40,14 @@ IsInRange (Level c v) = IsCallNumber c × (pos 0 ≤ℤ v) × (v ≤ℤ pos 3276
 IsInRange (Dtx c m) = IsCallNumber c
 
 -- the line of an order, without an LF: its stamp and the words that order it, with one space between words
-unfoldable pub line_of : Order → List ℕ
-line_of order = join_with_byte 32 (decimal order.stamp ∷ words_for order.what)
+unfoldable pub order_line : Order → List ℕ
+order_line order = join_with_byte 32 (decimal order.stamp ∷ words_for order.what)
 
 -- a line of the grammar, and its order
 pub record IsLine (line : List ℕ) (order : Order) : Type 0 where
   pub stamp : order.stamp ≤ 4294967294
   pub in_range : IsInRange order.what
-  pub spelled : line ≡ line_of order
+  pub spelled : line ≡ order_line order
 
 -- the words of a line, of which some may be empty
 abbrev pub words_of : List ℕ → List (List ℕ)

@@ -1,4 +1,5 @@
-// Why a text of orders isn't taken.
+//! Why a text of orders isn't taken.
+
 use crate::Order;
 use std::alloc::AllocFailed;
 use thiserror::Error;

@@ -1,4 +1,5 @@
-// What makes the answer to a text one answer.
+//! What makes the answer to a text one answer.
+
 ghost use Rattle.trau_orders.specs.Text.{SpellsOneList, GoodOrBad, HasOneFirst};
 
 /// The lines of a text spell one list of orders at most; where they do, none of them is bad; else one is the first.

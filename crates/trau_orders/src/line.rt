@@ -1,4 +1,5 @@
-// One line of the orders.
+//! One line of the orders.
+
 ghost use Rattle.std.specs.Prelude.{◌≡◌, ◌∷◌, [], ℕ, ℤ, pos, ◌≤ℤ◌, true, false, IfSome, IsNone, codes, decimal, unsigned_abs};
 ghost use Rattle.trau_alaw.specs.declared.Law.TheVariants.{Mu};
 ghost use Rattle.call_number.specs.CallNumber.{IsCallNumber};
@@ -9,16 +10,17 @@ ghost use Rattle.trau_orders.specs.declared.order.Order.{Order as OneOrder};
 
 use crate::split::split_at_octet;
 use crate::{DtxMode, Order, What};
+use call_number::NUMBERS;
 use decimal_number::number_of_octets;
 use trau_alaw::Law;
 
 const LAST_STAMP: u32 = 4_294_967_294;
 
-const LAST_CALL: u32 = 4096;
+const LAST_CALL: u32 = NUMBERS as u32 - 1;
 
 const HIGHEST_LEVEL: u32 = 32_767;
 
-// The order of a line without its LF.
+/// The order of a line without its LF.
 pub(crate) fn order_of(line: &[u8]) -> Option<Order>
     ensures some { IfSome result (λ order. IsLine line.now order) }
     ensures none { IsNone result → (order : OneOrder) → IsLine line.now order → ⊥ }

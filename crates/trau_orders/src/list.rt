@@ -1,4 +1,5 @@
-// The orders of a run.
+//! The orders of a run.
+
 ghost use Rattle.std.specs.Prelude.{◌≡◌, ◌<◌, ◌≤◌, ◌↔◌, ℕ, length, IfOk, IsErrOf};
 ghost use Rattle.trau_orders.specs.Lists.{AreOrders};
 ghost use Rattle.trau_orders.specs.Text.{text_lines, AreLines, IsFirstBad, IsWithin};

@@ -1,4 +1,4 @@
-// One order of an operator.
+//! One order of an operator.
 
 use trau_alaw::Law;
 

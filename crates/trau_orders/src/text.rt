@@ -1,4 +1,5 @@
-// A text of orders, line by line.
+//! A text of orders, line by line.
+
 ghost use Rattle.std.specs.Prelude.{◌≡◌, ◌∷◌, [], ◌<◌, ◌≤◌, ℕ, length, IfOk, IfSome, IsErrOf, IsNone, OnSome};
 ghost use Rattle.trau_orders.specs.Grammar.{IsLine};
 ghost use Rattle.trau_orders.specs.Text.{text_lines, AreLines, IsFirstBad, Follows};
@@ -24,7 +25,7 @@ fn split_line(text: &[u8]) -> Option<(&[u8], &[u8])>
     }
 }
 
-// The number of lines.
+/// The number of lines.
 pub(crate) fn count_lines(text: &[u8]) -> usize
     ensures { result ≡ length (text_lines text.now) }
 {
@@ -49,7 +50,7 @@ fn next_order(line: &[u8], orders: &[Order]) -> Option<Order>
     }
 }
 
-// The orders of a text with few enough lines.
+/// The orders of a text with few enough lines.
 pub(crate) fn orders_of(alloc: Global, text: &[u8]) -> Result<Vec<Order>, OrderFault>
     requires { length (text_lines text.now) ≤ 65536 }
     ensures ok { IfOk result (λ orders. AreLines (text_lines text.now) orders.items) }

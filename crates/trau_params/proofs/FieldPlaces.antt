@@ -10,10 +10,11 @@ use Rattle.trau_params.specs.FieldBits.{low_bits, field_bits}
 use Rattle.trau_params.specs.Bits260.{bits260, bits260_of, block_values, block_bits}
 use Rattle.trau_params.specs.Places.{FieldsStand}
 use Rattle.trau_params.specs.Shape.{HasShape}
-use Rattle.trau_params.proofs.Prefixes.{length-low_bits}
+use Rattle.trau_params.proofs.Fronts.{length-low_bits}
 
 -- ---- a field among fields
 
+-- bit t of a value
 bit_of-low_bits : (width value t : ℕ) → t < width → get_or (low_bits width value) t 0 ≡ value / 2 ^ t % 2
 unfolding low_bits
 bit_of-low_bits width value t h =
@@ -29,6 +30,7 @@ length-field_bits (w ∷ ws) (v ∷ vs) h =
     let rest = length-field_bits ws vs (omega arith) in
     length-append (low_bits w v) (field_bits ws vs) ∙ (omega (arith, rest, length-low_bits w v, sum-cons w ws))
 
+-- bit t of field k among others
 field_at : (widths values : List ℕ) (k t : ℕ) → k < length widths → length values ≡ length widths → t < get_or widths k 0 →
     get_or (field_bits widths values) (sum (take k widths) + t) 0 ≡ get_or values k 0 / 2 ^ t % 2
 field_at [] vs k t h n l = absurd (omega arith)
@@ -47,6 +49,7 @@ field_at (w ∷ ws) (v ∷ vs) (suc k) t h n l =
 
 -- ---- a block among blocks
 
+-- bit r of part j, where each part has 56
 part_at : (f : ℕ → List ℕ) (a n : ℕ) → ((k : ℕ) → a ≤ k → k < a + n → length (f k) ≡ 56) →
     (j r : ℕ) → j < n → r < 56 → get_or (flat_map f (range_with_len a n)) (56 * j + r) 0 ≡ get_or (f (a + j)) r 0
 part_at f a zero long j r h l = absurd (omega arith)
@@ -65,9 +68,11 @@ part_at f a (suc n) long (suc j) r h l =
     part_at f (a + 1) n (λ k p q. long k (omega arith) (omega arith)) j r (omega arith) l ∙
     ap (λ k. get_or (f k) r 0) g
 
+-- a block has seventeen fields
 long_block : (p : Params) → HasShape p → (j : ℕ) → j < 4 → length (block_values p j) ≡ 17
 long_block p n j h = ap (λ x. suc (suc (suc (suc x)))) (n.pulses j h)
 
+-- bit r of block j in a frame
 block_at : (p : Params) → HasShape p → (j r : ℕ) → j < 4 → r < 56 →
     get_or (bits260_of p) (36 + (56 * j + r)) 0 ≡ get_or (block_bits p j) r 0
 unfolding bits260 bits260_of
@@ -107,6 +112,7 @@ pulse_offset i h =
     let rest = sum-threes 13 i (omega arith) in
     omega (arith, rest, sum-cons 7 (2 ∷ 2 ∷ 6 ∷ threes), sum-cons 2 (2 ∷ 6 ∷ threes), sum-cons 2 (6 ∷ threes), sum-cons 6 threes)
 
+-- bit t of LARc i
 larc_at : (p : Params) → HasShape p → (i : ℕ) → i < 8 → (t : ℕ) → t < get_or larc_widths i 0 →
     get_or (bits260_of p) (sum (take i larc_widths) + t) 0 ≡ get_or p.larc i 0 / 2 ^ t % 2
 unfolding bits260 bits260_of

@@ -44,6 +44,7 @@ low_and_high bits offset value (suc n) s =
     subst (λ m. number_at bits offset m + value / 2 ^ m * 2 ^ m ≡ value) e
     (rw (number_at-more bits offset n, s n (omega arith), half, pow-add 2 n 1) next)
 
+-- the number in a field's bits is its value
 number_read : (bits : List ℕ) (offset width value : ℕ) → StandsAt bits offset width value → value < 2 ^ width →
     value ≡ number_at bits offset width
 number_read bits offset width value s h =

@@ -5,11 +5,12 @@ use Rattle.std.proofs.lemmas.List.{drop_more, drop_all}
 use Rattle.std.proofs.lemmas.List.Sums.{sum_by-cons}
 use Rattle.std.proofs.lemmas.Nat.{pow-add}
 use Rattle.trau_params.specs.Widths.{larc_widths, block_widths}
-use Rattle.trau_params.specs.FieldBits.{AreBits, low_bits, field_bits}
+use Rattle.trau_bits.specs.Bits.{AreBits}
+use Rattle.trau_params.specs.FieldBits.{low_bits, field_bits}
 use Rattle.trau_params.specs.Fields.{number_at, fields_in}
 use Rattle.trau_params.specs.Bits260.{bits260}
 use Rattle.trau_params.proofs.FieldsRead.{number_at-none, number_at-more}
-use Rattle.trau_params.proofs.Prefixes.{low_bits-front}
+use Rattle.trau_params.proofs.Fronts.{low_bits-front}
 
 -- ---- one field
 
@@ -17,15 +18,18 @@ use Rattle.trau_params.proofs.Prefixes.{low_bits-front}
 number_at-front : (bits : List ℕ) (offset n : ℕ) → number_at bits offset (n + 1) ≡ 2 * number_at bits (offset + 1) n + get_or bits offset 0
 number_at-front bits offset zero =
     let e : offset + 0 ≡ offset = omega arith in
-    number_at-more bits offset 0 ∙ ap (λ i. number_at bits offset 0 + get_or bits i 0 * 2 ^ 0) e ∙ omega (arith, number_at-none bits offset, number_at-none bits (offset + 1))
+    number_at-more bits offset 0 ∙ ap (λ i. number_at bits offset 0 + get_or bits i 0 * 2 ^ 0) e ∙
+    omega (arith, number_at-none bits offset, number_at-none bits (offset + 1))
 number_at-front bits offset (suc n) =
     let e : suc n ≡ n + 1 = omega arith in
     let place : offset + (n + 1) ≡ offset + 1 + n = omega arith in
     let before = number_at-front bits offset n in
     let after = number_at-more bits (offset + 1) n in
-    ap (λ m. number_at bits offset (m + 1)) e ∙ number_at-more bits offset (n + 1) ∙ ap (λ i. number_at bits offset (n + 1) + get_or bits i 0 * 2 ^ (n + 1)) place
+    ap (λ m. number_at bits offset (m + 1)) e ∙ number_at-more bits offset (n + 1) ∙
+    ap (λ i. number_at bits offset (n + 1) + get_or bits i 0 * 2 ^ (n + 1)) place
     ∙ ap (λ p. number_at bits offset (n + 1) + get_or bits (offset + 1 + n) 0 * p) (pow-add 2 n 1)
-    ∙ next (number_at bits offset (n + 1)) (number_at bits (offset + 1) n) (number_at bits (offset + 1) (n + 1)) (get_or bits offset 0) (get_or bits (offset + 1 + n) 0) (2 ^ n) before after
+    ∙ next (number_at bits offset (n + 1)) (number_at bits (offset + 1) n) (number_at bits (offset + 1) (n + 1)) (get_or bits offset 0)
+    (get_or bits (offset + 1 + n) 0) (2 ^ n) before after
     ∙ ap (λ m. 2 * number_at bits (offset + 1) m + get_or bits offset 0) (sym e)
   where
     next : (all low high first last power : ℕ) → all ≡ 2 * low + first → high ≡ low + last * power → all + last * (power * 2) ≡ 2 * high + first
@@ -36,7 +40,8 @@ unfolding low_bits
 low_bits-none value = refl
 
 -- a field's bits stand before those that follow it
-field_read : (bits : List ℕ) (offset width : ℕ) → AreBits bits → offset + width ≤ length bits → low_bits width (number_at bits offset width) ++ drop (offset + width) bits ≡ drop offset bits
+field_read : (bits : List ℕ) (offset width : ℕ) → AreBits bits → offset + width ≤ length bits →
+    low_bits width (number_at bits offset width) ++ drop (offset + width) bits ≡ drop offset bits
 field_read bits offset zero b l =
     let e : offset + 0 ≡ offset = omega arith in
     ap (λ xs. xs ++ drop (offset + 0) bits) (low_bits-none (number_at bits offset 0)) ∙ ap (λ i. drop i bits) e
@@ -54,10 +59,12 @@ field_read bits offset (suc n) b l =
 
 -- ---- fields one after another
 
+-- the numbers in fields of these widths, one after another
 abbrev numbers_from : List ℕ → ℕ → List ℕ → List ℕ
 numbers_from bits offset [] = []
 numbers_from bits offset (width ∷ widths) = number_at bits offset width ∷ numbers_from bits (offset + width) widths
 
+-- their bits stand before those that follow them
 fields_read : (bits widths : List ℕ) (offset : ℕ) → AreBits bits → offset + sum widths ≤ length bits →
     field_bits widths (numbers_from bits offset widths) ++ drop (offset + sum widths) bits ≡ drop offset bits
 fields_read bits [] offset b l = ap (λ i. drop i bits) (let e : offset + sum [] ≡ offset = omega arith in e)
@@ -69,10 +76,12 @@ fields_read bits (w ∷ ws) offset b l =
     ∙ ap (λ xs. low_bits w (number_at bits offset w) ++ xs) (fields_read bits ws (offset + w) b (omega arith))
     ∙ field_read bits offset w b (omega arith)
 
+-- the bits of a block that stands at an offset
 abbrev block_from : List ℕ → ℕ → List ℕ
 block_from bits offset = field_bits block_widths (numbers_from bits offset block_widths)
 
-block_read : (bits : List ℕ) (offset next : ℕ) → AreBits bits → offset + 56 ≡ next → next ≤ length bits → block_from bits offset ++ drop next bits ≡ drop offset bits
+block_read : (bits : List ℕ) (offset next : ℕ) → AreBits bits → offset + 56 ≡ next → next ≤ length bits →
+    block_from bits offset ++ drop next bits ≡ drop offset bits
 block_read bits offset next b e l = ap (λ i. block_from bits offset ++ drop i bits) (sym e) ∙ fields_read bits block_widths offset b (omega arith)
 
 -- **260 bits are those of the fields that they carry.**
@@ -80,9 +89,12 @@ pub bits260-fields_in : (bits : List ℕ) → length bits ≡ 260 → AreBits bi
 unfolding bits260 fields_in
 bits260-fields_in bits n b =
     let none : [] ≡ drop 260 bits = sym (drop_all 260 bits (omega arith)) in
-    ap (λ xs. field_bits larc_widths (numbers_from bits 0 larc_widths) ++ (block_from bits 36 ++ (block_from bits 92 ++ (block_from bits 148 ++ (block_from bits 204 ++ xs))))) none
-    ∙ ap (λ xs. field_bits larc_widths (numbers_from bits 0 larc_widths) ++ (block_from bits 36 ++ (block_from bits 92 ++ (block_from bits 148 ++ xs)))) (block_read bits 204 260 b (omega arith) (omega arith))
-    ∙ ap (λ xs. field_bits larc_widths (numbers_from bits 0 larc_widths) ++ (block_from bits 36 ++ (block_from bits 92 ++ xs))) (block_read bits 148 204 b (omega arith) (omega arith))
+    ap (λ xs. field_bits larc_widths (numbers_from bits 0 larc_widths) ++
+    (block_from bits 36 ++ (block_from bits 92 ++ (block_from bits 148 ++ (block_from bits 204 ++ xs))))) none
+    ∙ ap (λ xs. field_bits larc_widths (numbers_from bits 0 larc_widths) ++ (block_from bits 36 ++ (block_from bits 92 ++ (block_from bits 148 ++ xs))))
+    (block_read bits 204 260 b (omega arith) (omega arith))
+    ∙ ap (λ xs. field_bits larc_widths (numbers_from bits 0 larc_widths) ++ (block_from bits 36 ++ (block_from bits 92 ++ xs)))
+    (block_read bits 148 204 b (omega arith) (omega arith))
     ∙ ap (λ xs. field_bits larc_widths (numbers_from bits 0 larc_widths) ++ (block_from bits 36 ++ xs)) (block_read bits 92 148 b (omega arith) (omega arith))
     ∙ ap (λ xs. field_bits larc_widths (numbers_from bits 0 larc_widths) ++ xs) (block_read bits 36 92 b (omega arith) (omega arith))
     ∙ fields_read bits larc_widths 0 b (omega arith)

@@ -2,5 +2,6 @@ pub mod AreBits
 pub mod FieldPlaces
 pub mod FieldsRead
 pub mod FieldsWritten
+pub mod Four
 pub mod OneFrame
-pub mod Prefixes
+pub mod Fronts

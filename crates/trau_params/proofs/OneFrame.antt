@@ -11,19 +11,22 @@ use Rattle.trau_params.specs.Widths.{larc_widths, block_widths, pulse_widths, Fi
 use Rattle.trau_params.specs.FieldBits.{low_bits, field_bits}
 use Rattle.trau_params.specs.Bits260.{bits260, bits260_of, block_values, block_bits, SameFields}
 use Rattle.trau_params.specs.Shape.{HasShape}
-use Rattle.trau_params.proofs.Prefixes.{length-low_bits, low_bits-front}
+use Rattle.trau_params.proofs.Fronts.{length-low_bits, low_bits-front}
 
 -- ---- two lists of the same length in front
 
+-- two lists whose fronts are as long have the same front
 same_front : (a b c d : List ℕ) → length a ≡ length b → a ++ c ≡ b ++ d → a ≡ b
 same_front a b c d n e = sym (take_at a c (length b) n) ∙ ap (take (length b)) e ∙ take_at b d (length b) refl
 
+-- and the same rest
 same_rest : (a b c d : List ℕ) → length a ≡ length b → a ++ c ≡ b ++ d → c ≡ d
 same_rest a b c d n e =
     append_cancel_left b c d (ap (λ xs. xs ++ c) (sym (same_front a b c d n e)) ∙ e)
 
 -- ---- one value for each list of bits
 
+-- the lowest bit, and those of the half
 low_bits-suc : (n value : ℕ) → low_bits (suc n) value ≡ value % 2 ∷ low_bits n (value / 2)
 low_bits-suc n value =
     let e : suc n ≡ n + 1 = omega arith in
@@ -31,6 +34,7 @@ low_bits-suc n value =
     let b : value % 2 < 2 = omega arith in
     ap (λ m. low_bits m value) e ∙ ap (low_bits (n + 1)) v ∙ low_bits-front n (value / 2) (value % 2) b
 
+-- bits determine a value within its width
 same_value : (width v u : ℕ) → v < 2 ^ width → u < 2 ^ width → low_bits width v ≡ low_bits width u → v ≡ u
 same_value zero v u h g e = omega arith
 same_value (suc n) v u h g e =
@@ -56,6 +60,7 @@ length-field_bits (w ∷ ws) (v ∷ vs) (u ∷ us) h =
     (omega (arith, rest, length-low_bits w v, length-low_bits w u)) ∙
     sym (length-append (low_bits w u) (field_bits ws us))
 
+-- and so several values
 same_values : (widths values others : List ℕ) → length values ≡ length widths → length others ≡ length widths →
     ((k : ℕ) → k < length widths → get_or values k 0 < 2 ^ get_or widths k 0) →
     ((k : ℕ) → k < length widths → get_or others k 0 < 2 ^ get_or widths k 0) →
@@ -74,6 +79,7 @@ same_values (w ∷ ws) (v ∷ vs) (u ∷ us) m n h g e =
     (same_rest (low_bits w v) (low_bits w u) (field_bits ws vs) (field_bits ws us) long e) in
     cc
 
+-- parts of the same lengths agree one by one
 same_parts : (f g : ℕ → List ℕ) (a n : ℕ) → ((k : ℕ) → a ≤ k → k < a + n → length (f k) ≡ length (g k)) →
     flat_map f (range_with_len a n) ≡ flat_map g (range_with_len a n) → (k : ℕ) → a ≤ k → k < a + n → f k ≡ g k
 same_parts f g a zero h e k l u = absurd (omega arith)
@@ -87,6 +93,7 @@ same_parts f g a (suc n) h e k l u =
 
 -- ---- the fields of a frame
 
+-- each field of a block fits its width
 block_fits : (nc bc mc xmaxc : ℕ) (xmc : List ℕ) → nc < 128 → bc < 4 → mc < 4 → xmaxc < 64 →
     All (λ v. v < 8) xmc → length xmc ≡ 13 → (k : ℕ) → k < 17 →
     get_or (nc ∷ bc ∷ mc ∷ xmaxc ∷ xmc) k 0 < 2 ^ get_or block_widths k 0
@@ -99,6 +106,7 @@ block_fits a b c d xs p q r s t n (suc (suc (suc (suc k)))) l =
     let w : get_or pulse_widths k 0 ≡ 3 = get_or-replicate 13 k 3 0 below in
     rw w (All-get_or (λ v. v < 8) xs k 0 (omega arith) t)
 
+-- the same in a frame
 fits : (p : Params) → HasShape p → (j : ℕ) → j < 4 → (k : ℕ) → k < 17 →
     get_or (block_values p j) k 0 < 2 ^ get_or block_widths k 0
 fits p n j h =
@@ -110,6 +118,7 @@ fits p n j h =
     (All-get_or (λ row. FitWidth 3 row) p.xmc j [] (omega (arith, n.xmc)) p.xmc_fit)
     (n.pulses j h)
 
+-- the bits of a block determine it
 same_block : (p q : Params) → HasShape p → HasShape q → (j : ℕ) → j < 4 →
     block_bits p j ≡ block_bits q j → block_values p j ≡ block_values q j
 same_block p q m n j h e =
@@ -117,6 +126,7 @@ same_block p q m n j h e =
     let b : length (get_or q.xmc j []) ≡ 13 = n.pulses j h in
     same_values block_widths (block_values p j) (block_values q j) (omega arith) (omega arith) (fits p m j h) (fits q n j h) e
 
+-- and those of all four each of them
 same_blocks : (p q : Params) → HasShape p → HasShape q →
     flat_map (block_bits p) (range_with_len 0 4) ≡ flat_map (block_bits q) (range_with_len 0 4) →
     (j : ℕ) → j < 4 → block_values p j ≡ block_values q j
@@ -127,12 +137,14 @@ same_blocks p q m n e j h =
     (ap (λ x. suc (suc (suc (suc x)))) (m.pulses k (omega arith) ∙ sym (n.pulses k (omega arith)))))
     e j (omega arith) (omega arith))
 
+-- so each of its numbers
 same_number : (p q : Params) → ((j : ℕ) → j < 4 → block_values p j ≡ block_values q j) →
     (j : ℕ) → j < 4 →
     (get_or p.nc j 0 ≡ get_or q.nc j 0) × (get_or p.bc j 0 ≡ get_or q.bc j 0) × (get_or p.mc j 0 ≡ get_or q.mc j 0) ×
     (get_or p.xmaxc j 0 ≡ get_or q.xmaxc j 0) × (get_or p.xmc j [] ≡ get_or q.xmc j [])
 same_number p q e j h = let s = e j h in (cc, cc, cc, cc, cc)
 
+-- **The 260 bits determine the frame.**
 pub same_fields : (p q : Params) → HasShape p → HasShape q → bits260_of p ≡ bits260_of q → SameFields p q
 unfolding bits260 bits260_of
 same_fields p q m n e =

@@ -9,5 +9,5 @@ abbrev pub values_of : Block → List ℕ
 values_of b = b.nc ∷ b.bc ∷ b.mc ∷ b.xmaxc ∷ b.xmc
 
 -- its 56 bits
-abbrev pub bits_of : Block → List ℕ
-bits_of b = field_bits block_widths (values_of b)
+abbrev pub bits_of_block : Block → List ℕ
+bits_of_block b = field_bits block_widths (values_of b)

@@ -1,5 +1,5 @@
 -- The bits of fields, each least significant bit first.
-use Rattle.std.specs.Prelude.{ℕ, ◌/◌, ◌%◌, ◌^◌, ◌<◌, List, [], ◌∷◌, ◌++◌, map, All}
+use Rattle.std.specs.Prelude.{ℕ, ◌/◌, ◌%◌, ◌^◌, List, [], ◌∷◌, ◌++◌, map}
 use Rattle.std.specs.List.{range_with_len}
 
 -- the low bits of a value: bit t is floor(value / 2^t) mod 2
@@ -11,7 +11,3 @@ abbrev pub field_bits : List ℕ → List ℕ → List ℕ
 field_bits [] values = []
 field_bits (width ∷ widths) [] = []
 field_bits (width ∷ widths) (value ∷ values) = low_bits width value ++ field_bits widths values
-
--- each is 0 or 1
-abbrev pub AreBits : List ℕ → Type 0
-AreBits bits = All (λ b. b < 2) bits

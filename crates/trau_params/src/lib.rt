@@ -22,6 +22,7 @@ mod silent_frame;
 mod trace;
 mod widths;
 
+pub use block::Block;
 pub use laws::{fields_carried, fields_stand, one_frame, rewritten};
 pub use params::Params;
 pub use silent_frame::silence;

@@ -32,12 +32,12 @@ pub struct Params {
 }
 
 impl Params {
-    ghost use Rattle.trau_params.specs.FieldBits.{AreBits};
+    ghost use Rattle.trau_bits.specs.Bits.{AreBits};
     ghost use Rattle.trau_params.specs.Bits260.{bits260_of, block_values};
     ghost use Rattle.trau_params.specs.Fields.{fields_of, fields_in};
     ghost use Rattle.trau_params.specs.Shape.{HasShape};
     ghost use Rattle.trau_params.specs.Block.{values_of};
-    ghost use Rattle.std.specs.Prelude.{◌<◌};
+    ghost use Rattle.std.specs.Prelude.{◌<◌, [], ◌∷◌};
 
     /// A frame of these fields, each within its width.
     pub fn new(
@@ -71,6 +71,33 @@ impl Params {
         }
     }
 
+    /// A frame of these codes of the eight ratios, each within its width, and of these four blocks.
+    pub fn of_blocks(
+        larc: [u8; 8],
+        first: Block,
+        second: Block,
+        third: Block,
+        fourth: Block,
+    ) -> Params
+        requires { FitLarc larc }
+        ensures larc { result.larc ≡ larc }
+        ensures nc { result.nc ≡ first.nc ∷ second.nc ∷ third.nc ∷ fourth.nc ∷ [] }
+        ensures bc { result.bc ≡ first.bc ∷ second.bc ∷ third.bc ∷ fourth.bc ∷ [] }
+        ensures mc { result.mc ≡ first.mc ∷ second.mc ∷ third.mc ∷ fourth.mc ∷ [] }
+        ensures xmaxc { result.xmaxc ≡ first.xmaxc ∷ second.xmaxc ∷ third.xmaxc ∷ fourth.xmaxc ∷ [] }
+        ensures xmc { result.xmc ≡ first.xmc ∷ second.xmc ∷ third.xmc ∷ fourth.xmc ∷ [] }
+    {
+        let (a, b, c, d) = (first.xmc, second.xmc, third.xmc, fourth.xmc);
+        Params {
+            larc,
+            nc: [first.nc, second.nc, third.nc, fourth.nc],
+            bc: [first.bc, second.bc, third.bc, fourth.bc],
+            mc: [first.mc, second.mc, third.mc, fourth.mc],
+            xmaxc: [first.xmaxc, second.xmaxc, third.xmaxc, fourth.xmaxc],
+            xmc: [a, b, c, d],
+        }
+    }
+
     /// Writes the 260 bits of the frame.
     pub fn to_bits(&self, bits: &mut [u8; 260])
         ensures value { bits.new ≡ bits260_of self.now }
@@ -92,18 +119,10 @@ impl Params {
         let second = Block::read(bits, LARC_BITS + BLOCK_BITS);
         let third = Block::read(bits, LARC_BITS + 2 * BLOCK_BITS);
         let fourth = Block::read(bits, LARC_BITS + 3 * BLOCK_BITS);
-        let (a, b, c, d) = (first.xmc, second.xmc, third.xmc, fourth.xmc);
-        Params {
-            larc: read_larc(bits),
-            nc: [first.nc, second.nc, third.nc, fourth.nc],
-            bc: [first.bc, second.bc, third.bc, fourth.bc],
-            mc: [first.mc, second.mc, third.mc, fourth.mc],
-            xmaxc: [first.xmaxc, second.xmaxc, third.xmaxc, fourth.xmaxc],
-            xmc: [a, b, c, d],
-        }
+        Params::of_blocks(read_larc(bits), first, second, third, fourth)
     }
 
-    // The lengths of the arrays, for proofs: that of a row of pulses shows only where the row is read.
+    /// The lengths of the arrays, for proofs: that of a row of pulses shows only where the row is read.
     pub(crate) fn shape(self)
         ensures { HasShape self }
     {

@@ -1,5 +1,5 @@
 -- Why the commands end as they do, and what they leave where nothing fails.
-use Rattle.std.proofs.Common.{◌≡◌, inl, inr, ⊎_elim, ◌⊎◌, ℕ, ◌+◌, ◌*◌, ◌-◌, ◌%◌, ◌^◌, ◌<◌, ◌≤◌, List, [], ◌++◌, length, take, drop, Some, Ok, refl, sym, ◌∙◌, ap, subst, arith, length-append}
+use Rattle.std.proofs.Common.{◌≡◌, inl, inr, ⊎_elim, ◌⊎◌, ℕ, ◌+◌, ◌%◌, ◌<◌, ◌≤◌, List, [], ◌++◌, length, take, drop, Some, Ok, sym, ◌∙◌, ap, arith}
 use Rattle.std.proofs.lemmas.List.{append-nil, append_cancel_left, take_at, take_all, take-append-drop}
 use Rattle.std.proofs.Math.Seq.{drop-append_seam}
 use Rattle.trau_io.specs.declared.line.Line.{Line}
@@ -24,22 +24,27 @@ use Rattle.trau_submux.specs.Splits.{SplitEndsAs, Splits, whole_groups}
 use Rattle.trau_submux.specs.Tools.{AreCalm, CleanMerge, CleanSplit, LeavesMerge, LeavesSplit, MergeCauses, MergeRun, SlotCauses, SplitCauses, SplitRun, TellsText, merge_end, merge_text, split_end, split_text}
 
 -- the most octets that are taken of a line are those that were given
-all_of_it : (given rest octets : List ℕ) → length given ≤ most_octets → octets ≡ given ++ rest → (rest ≡ []) ⊎ (length given ≡ most_octets) → take most_octets octets ≡ given
+all_of_it : (given rest octets : List ℕ) → length given ≤ most_octets → octets ≡ given ++ rest → (rest ≡ []) ⊎ (length given ≡ most_octets) →
+    take most_octets octets ≡ given
 all_of_it given rest octets few is (inl none) = ap (take most_octets) (is ∙ ap (λ l. given ++ l) none ∙ append-nil given) ∙ take_all most_octets given few
 all_of_it given rest octets few is (inr all) = ap (take most_octets) is ∙ take_at given rest most_octets all
 
-rest_of_it : (given rest octets : List ℕ) → length given ≤ most_octets → octets ≡ given ++ rest → (rest ≡ []) ⊎ (length given ≡ most_octets) → rest ≡ drop most_octets octets
+rest_of_it : (given rest octets : List ℕ) → length given ≤ most_octets → octets ≡ given ++ rest → (rest ≡ []) ⊎ (length given ≡ most_octets) →
+    rest ≡ drop most_octets octets
 rest_of_it given rest octets few is stopped =
-    append_cancel_left given rest (drop most_octets octets) (sym is ∙ sym (take-append-drop most_octets octets) ∙ ap (λ l. l ++ drop most_octets octets) (all_of_it given rest octets few is stopped))
+    append_cancel_left given rest (drop most_octets octets)
+    (sym is ∙ sym (take-append-drop most_octets octets) ∙ ap (λ l. l ++ drop most_octets octets) (all_of_it given rest octets few is stopped))
 
 -- no line failed, or one did
 Quiet : (slot slot' : LineState) (channels channels' : ℕ → LineState) → Type 0
 Quiet slot slot' channels channels' = (slot'.faults ≡ slot.faults) × ((j : ℕ) → j < 4 → (channels' j).faults ≡ (channels j).faults)
 
+-- a count of a line rose
 Failing : (slot slot' : LineState) (channels channels' : ℕ → LineState) → Type 0
 Failing slot slot' channels channels' = Rose slot.faults slot'.faults ⊎ ((j : ℕ) × (j < 4) × Rose (channels j).faults (channels' j).faults)
 
 module _ (s s' : LineState) (cs cs' : ℕ → LineState) (k k' : DeskState) (text : List ℕ) (result : ToolEnd) where
+  -- why 0 or 4 comes, and 6
   causes_done : Quiet s s' cs cs' → TellsText text tool.Done k k' result → SlotCauses s s' cs cs' k k' (status_of result)
   unfolding Quiet
   causes_done quiet (inl told) =
@@ -92,39 +97,54 @@ module _ (s s' : LineState) (cs cs' : ℕ → LineState) (k k' : DeskState) (tex
   not_failing calm (inl rose) = let same = calm.slot_calm in omega (arith, same.0, same.1, rose)
   not_failing calm (inr one) = let same = calm.channels_calm one.0 one.1 in omega (arith, same.0, same.1, one.2)
 
+  -- without a fault of the desk the whole text went out
   spoken : (end : ToolEnd) → IsCalm k.write_faults k'.write_faults → TellsText text end k k' result → (result ≡ end) × Tells k k' (Ok tt) text
   spoken end calm (inl told) = told
   spoken end calm (inr fault) = let rose = fault.1.cause.failed in absurd (omega (arith, calm.0, calm.1, rose))
 
 module _ (before now : ℕ → Side → LineState) (k k' : DeskState) (call : ℕ) (result : ToolEnd) where
-  split_failing : (blocks last : List ℕ) (line : Line) → SplitEndsAs (before call Pcm) (now call Pcm) (channel_lines before call Down) (channel_lines now call Down) call blocks last (split.LineFailed line) →
+  -- a split that ends by a line has a fault
+  split_failing : (blocks last : List ℕ) (line : Line) →
+      SplitEndsAs (before call Pcm) (now call Pcm) (channel_lines before call Down) (channel_lines now call Down) call blocks last (split.LineFailed line) →
       Failing (before call Pcm) (now call Pcm) (channel_lines before call Down) (channel_lines now call Down)
   unfolding Failing
   split_failing blocks last line (inl read) = inl read.rose
   split_failing blocks last line (inr write) = inr (write.failed, write.one, write.here.rose)
 
+  -- the causes of a split
   pub split_causes : SplitRun before now k k' call result → SplitCauses before now k k' call (status_of result)
   unfolding Quiet
   split_causes ran = by ran.end ran.splits ran.tells
     where
-      by : (end : SplitEnd) → Splits (before call Pcm) (now call Pcm) (channel_lines before call Down) (channel_lines now call Down) call end → TellsText (split_text end) (split_end end) k k' result → SplitCauses before now k k' call (status_of result)
+      by : (end : SplitEnd) → Splits (before call Pcm) (now call Pcm) (channel_lines before call Down) (channel_lines now call Down) call end →
+          TellsText (split_text end) (split_end end) k k' result → SplitCauses before now k k' call (status_of result)
       by (split.Done octets left) splits tells = causes_done _ _ _ _ k k' _ result (splits.ends.calm, λ j below. (splits.ends.gained j below).calm) tells
       by (split.LineFailed line) splits tells = causes_failed _ _ _ _ k k' _ result line (split_failing splits.blocks splits.last line splits.ends) tells
 
+  -- what a split leaves
   pub split_clean : SplitRun before now k k' call result → CleanSplit before now k k' call (status_of result)
   split_clean ran = λ calm octets text held p_is d_is k_is. by calm octets text held p_is d_is k_is ran.end ran.splits ran.tells
     where
-      by : AreCalm (before call Pcm) (now call Pcm) (channel_lines before call Down) (channel_lines now call Down) k k' → (octets text : List ℕ) (held : ℕ → List ℕ) → (before call Pcm).to_come ≡ Some octets → ((j : ℕ) → j < 4 → (before (call + j) Down).written ≡ Some (held j)) → k.written ≡ Some text →
-          (end : SplitEnd) → Splits (before call Pcm) (now call Pcm) (channel_lines before call Down) (channel_lines now call Down) call end → TellsText (split_text end) (split_end end) k k' result → LeavesSplit (now call Pcm) (channel_lines now call Down) k' octets held text (status_of result)
-      by calm octets text held p_is d_is k_is (split.LineFailed line) splits tells = absurd (not_failing _ _ _ _ k k' (split_text (split.LineFailed line)) result calm (split_failing splits.blocks splits.last line splits.ends))
+      by : AreCalm (before call Pcm) (now call Pcm) (channel_lines before call Down) (channel_lines now call Down) k k' →
+          (octets text : List ℕ) (held : ℕ → List ℕ) → (before call Pcm).to_come ≡ Some octets →
+          ((j : ℕ) → j < 4 → (before (call + j) Down).written ≡ Some (held j)) → k.written ≡ Some text →
+          (end : SplitEnd) → Splits (before call Pcm) (now call Pcm) (channel_lines before call Down) (channel_lines now call Down) call end →
+          TellsText (split_text end) (split_end end) k k' result →
+          LeavesSplit (now call Pcm) (channel_lines now call Down) k' octets held text (status_of result)
+      by calm octets text held p_is d_is k_is (split.LineFailed line) splits tells =
+          absurd (not_failing _ _ _ _ k k' (split_text (split.LineFailed line)) result calm (split_failing splits.blocks splits.last line splits.ends))
       by calm octets text held p_is d_is k_is (split.Done n left) splits tells =
-          let told = spoken (before call Pcm) (now call Pcm) (channel_lines before call Down) (channel_lines now call Down) k k' (split_text (split.Done n left)) result tool.Done calm.desk_calm tells in
+          let told = spoken (before call Pcm) (now call Pcm) (channel_lines before call Down) (channel_lines now call Down) k k'
+          (split_text (split.Done n left)) result tool.Done calm.desk_calm tells in
           let given = splits.blocks ++ splits.last in
           let took = consumed _ _ octets given p_is splits.gives.read in
-          let whole : take most_octets octets ≡ given = all_of_it given took.0 octets splits.few took.2 (⊎_elim (λ e. inl (at_end _ took.0 took.1 e)) (λ e. inr e) splits.ends.at_end) in
+          let whole : take most_octets octets ≡ given =
+          all_of_it given took.0 octets splits.few took.2 (⊎_elim (λ e. inl (at_end _ took.0 took.1 e)) (λ e. inr e) splits.ends.at_end) in
           record {
-            slot_holds = took.1 ∙ ap Some (rest_of_it given took.0 octets splits.few took.2 (⊎_elim (λ e. inl (at_end _ took.0 took.1 e)) (λ e. inr e) splits.ends.at_end));
-            channels_hold = λ j below. appended _ _ (held j) _ (d_is j below) (splits.ends.gained j below).written ∙ ap (λ l. Some (held j ++ channel j (whole_groups l))) (sym whole);
+            slot_holds = took.1 ∙ ap Some
+                (rest_of_it given took.0 octets splits.few took.2 (⊎_elim (λ e. inl (at_end _ took.0 took.1 e)) (λ e. inr e) splits.ends.at_end));
+            channels_hold = λ j below. appended _ _ (held j) _ (d_is j below) (splits.ends.gained j below).written
+                ∙ ap (λ l. Some (held j ++ channel j (whole_groups l))) (sym whole);
             desk_holds = appended _ _ text _ k_is told.1.ok
                 ∙ ap (λ m. Some (text ++ split_text (split.Done m left))) splits.ends.octets_are
                 ∙ ap (λ m. Some (text ++ split_text (split.Done (length (whole_groups given)) m))) splits.ends.left_is
@@ -132,28 +152,39 @@ module _ (before now : ℕ → Side → LineState) (k k' : DeskState) (call : �
             done = ap status_of told.0;
           }
 
-  merge_failing : (given : ℕ → List ℕ) (line : Line) → MergeEndsAs (channel_lines before call Up) (channel_lines now call Up) (before call Out) (now call Out) call given (merge.LineFailed line) →
+  -- a merge that ends by a line has a fault
+  merge_failing : (given : ℕ → List ℕ) (line : Line) →
+      MergeEndsAs (channel_lines before call Up) (channel_lines now call Up) (before call Out) (now call Out) call given (merge.LineFailed line) →
       Failing (before call Out) (now call Out) (channel_lines before call Up) (channel_lines now call Up)
   unfolding Failing
   merge_failing given line (inl read) = inr (read.failed, read.one, read.rose)
   merge_failing given line (inr write) = inl write.here.rose
 
+  -- the causes of a merge
   pub merge_causes : MergeRun before now k k' call result → MergeCauses before now k k' call (status_of result)
   unfolding Quiet
   merge_causes ran = by ran.end ran.merges ran.tells
     where
-      by : (end : MergeEnd) → Merges (channel_lines before call Up) (channel_lines now call Up) (before call Out) (now call Out) call end → TellsText (merge_text end) (merge_end end) k k' result → MergeCauses before now k k' call (status_of result)
+      by : (end : MergeEnd) → Merges (channel_lines before call Up) (channel_lines now call Up) (before call Out) (now call Out) call end →
+          TellsText (merge_text end) (merge_end end) k k' result → MergeCauses before now k k' call (status_of result)
       by (merge.Done octets left) merges tells = causes_done _ _ _ _ k k' _ result (merges.ends.gained.calm, merges.ends.calm) tells
       by (merge.LineFailed line) merges tells = causes_failed _ _ _ _ k k' _ result line (merge_failing merges.given line merges.ends) tells
 
+  -- what a merge leaves
   pub merge_clean : MergeRun before now k k' call result → CleanMerge before now k k' call (status_of result)
   merge_clean ran = λ calm lists held text u_is o_is k_is. by calm lists held text u_is o_is k_is ran.end ran.merges ran.tells
     where
-      by : AreCalm (before call Out) (now call Out) (channel_lines before call Up) (channel_lines now call Up) k k' → (lists : ℕ → List ℕ) (held text : List ℕ) → ((j : ℕ) → j < 4 → (before (call + j) Up).to_come ≡ Some (lists j)) → (before call Out).written ≡ Some held → k.written ≡ Some text →
-          (end : MergeEnd) → Merges (channel_lines before call Up) (channel_lines now call Up) (before call Out) (now call Out) call end → TellsText (merge_text end) (merge_end end) k k' result → LeavesMerge (channel_lines now call Up) (now call Out) k' lists held text (status_of result)
-      by calm lists held text u_is o_is k_is (merge.LineFailed line) merges tells = absurd (not_failing _ _ _ _ k k' (merge_text (merge.LineFailed line)) result calm (merge_failing merges.given line merges.ends))
+      by : AreCalm (before call Out) (now call Out) (channel_lines before call Up) (channel_lines now call Up) k k' →
+          (lists : ℕ → List ℕ) (held text : List ℕ) → ((j : ℕ) → j < 4 → (before (call + j) Up).to_come ≡ Some (lists j)) →
+          (before call Out).written ≡ Some held → k.written ≡ Some text →
+          (end : MergeEnd) → Merges (channel_lines before call Up) (channel_lines now call Up) (before call Out) (now call Out) call end →
+          TellsText (merge_text end) (merge_end end) k k' result →
+          LeavesMerge (channel_lines now call Up) (now call Out) k' lists held text (status_of result)
+      by calm lists held text u_is o_is k_is (merge.LineFailed line) merges tells =
+          absurd (not_failing _ _ _ _ k k' (merge_text (merge.LineFailed line)) result calm (merge_failing merges.given line merges.ends))
       by calm lists held text u_is o_is k_is (merge.Done n left) merges tells =
-          let told = spoken (before call Out) (now call Out) (channel_lines before call Up) (channel_lines now call Up) k k' (merge_text (merge.Done n left)) result tool.Done calm.desk_calm tells in
+          let told = spoken (before call Out) (now call Out) (channel_lines before call Up) (channel_lines now call Up) k k'
+          (merge_text (merge.Done n left)) result tool.Done calm.desk_calm tells in
           let ends = merges.ends in
           record {
             given = merges.given;
@@ -171,7 +202,8 @@ module _ (before now : ℕ → Side → LineState) (k k' : DeskState) (call : �
             done = ap status_of told.0;
           }
         where
-          part : (j : ℕ) → j < 4 → (list : List ℕ) → (before (call + j) Up).to_come ≡ Some list → (list ≡ merges.given j ++ drop (length (merges.given j)) list) × ((now (call + j) Up).to_come ≡ Some (drop (length (merges.given j)) list))
+          part : (j : ℕ) → j < 4 → (list : List ℕ) → (before (call + j) Up).to_come ≡ Some list →
+              (list ≡ merges.given j ++ drop (length (merges.given j)) list) × ((now (call + j) Up).to_come ≡ Some (drop (length (merges.given j)) list))
           part j below list is =
               let given = merges.given j in
               let took = consumed _ _ list given is (merges.gives j below).read in

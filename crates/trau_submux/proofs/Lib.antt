@@ -4,10 +4,12 @@ pub mod Blocks
 pub mod Ending
 pub mod Groups
 pub mod Merged
+mod Pieces
 pub mod Merging
 pub mod Parts
 pub mod Reading
 pub mod Splitting
 pub mod Taking
+mod Lanewise
 pub mod Vectors
 pub mod Writing

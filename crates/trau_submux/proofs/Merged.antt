@@ -1,5 +1,5 @@
 -- Octets of a slot that come one behind the other.
-use Rattle.std.proofs.Common.{◌≡◌, inl, inr, ℕ, ◌+◌, ◌-◌, ◌*◌, ◌/◌, ◌%◌, ◌<◌, ◌≤◌, List, ◌++◌, length, take, drop, All, get_or, refl, sym, ap, ◌∙◌, arith, length-append}
+use Rattle.std.proofs.Common.{◌≡◌, inl, inr, ℕ, ◌-◌, ◌*◌, ◌/◌, ◌%◌, ◌<◌, ◌≤◌, List, ◌++◌, length, take, drop, get_or, refl, sym, ap, ◌∙◌, arith, length-append}
 use Rattle.std.specs.Int.{bit_at}
 use Rattle.std.proofs.lemmas.Bool.{cases_lt}
 use Rattle.std.proofs.lemmas.List.{get_or_append_left, get_or-append_right, length-take-le, take-append-drop, take_at}
@@ -10,6 +10,7 @@ use Rattle.trau_bits.proofs.BitList.{length-bits_of, get_or-bits_of}
 use Rattle.trau_submux.specs.Channels.{IsMerged, subchannel}
 use Rattle.trau_submux.proofs.Channels.{length-subchannel, subchannel-append}
 
+-- a bit of joined octets
 bit_of-front : (xs ys : List ℕ) (k : ℕ) → k < 8 * length xs → bit_of (xs ++ ys) k ≡ bit_of xs k
 bit_of-front xs ys k l = ap (λ octet. bit_at octet (7 - k % 8)) (get_or_append_left xs ys 0 (k / 8) (omega arith))
 
@@ -37,11 +38,13 @@ bits_of-append xs ys =
 pub merged-append : (a b : List ℕ) (f g : ℕ → List ℕ) → IsMerged a f → IsMerged b g → IsMerged (a ++ b) (λ j. f j ++ g j)
 merged-append a b f g first second = record {
   are_octets = All-append (λ octet. octet < 256) a b first.are_octets second.are_octets;
-  carries = λ j below. subchannel-append j a b ∙ ap (λ l. l ++ subchannel j b) (first.carries j below) ∙ ap (λ l. bits_of (f j) ++ l) (second.carries j below) ∙ sym (bits_of-append (f j) (g j));
+  carries = λ j below. subchannel-append j a b ∙ ap (λ l. l ++ subchannel j b) (first.carries j below) ∙ ap (λ l. bits_of (f j) ++ l) (second.carries j below)
+      ∙ sym (bits_of-append (f j) (g j));
 }
 
 -- the octets of a slot that so many octets of each channel make
-pub merged-take : (slot : List ℕ) (chans : ℕ → List ℕ) (m : ℕ) → length slot ≡ 160 → m ≤ 40 → ((j : ℕ) → j < 4 → length (chans j) ≡ 40) → IsMerged slot chans → IsMerged (take (4 * m) slot) (λ j. take m (chans j))
+pub merged-take : (slot : List ℕ) (chans : ℕ → List ℕ) (m : ℕ) → length slot ≡ 160 → m ≤ 40 → ((j : ℕ) → j < 4 → length (chans j) ≡ 40) → IsMerged slot chans →
+    IsMerged (take (4 * m) slot) (λ j. take m (chans j))
 merged-take slot chans m is most each whole = record {
   are_octets = All-take (λ octet. octet < 256) (4 * m) slot whole.are_octets;
   carries = λ j below.
@@ -50,6 +53,7 @@ merged-take slot chans m is most each whole = record {
       let n : length front ≡ 4 * m = length-take-le (4 * m) slot (omega arith) in
       let k : length (take m chan) ≡ m = length-take-le m chan (omega (arith, each j below)) in
       sym (take_at (subchannel j front) (subchannel j (drop (4 * m) slot)) (8 * m) (omega (arith, n, length-subchannel j front)))
-      ∙ ap (take (8 * m)) (sym (subchannel-append j front (drop (4 * m) slot)) ∙ ap (subchannel j) (take-append-drop (4 * m) slot) ∙ whole.carries j below ∙ ap bits_of (sym (take-append-drop m chan)) ∙ bits_of-append (take m chan) (drop m chan))
+      ∙ ap (take (8 * m)) (sym (subchannel-append j front (drop (4 * m) slot)) ∙ ap (subchannel j) (take-append-drop (4 * m) slot) ∙ whole.carries j below
+      ∙ ap bits_of (sym (take-append-drop m chan)) ∙ bits_of-append (take m chan) (drop m chan))
       ∙ take_at (bits_of (take m chan)) (bits_of (drop m chan)) (8 * m) (omega (arith, k, length-bits_of (take m chan)));
 }

@@ -1,72 +1,26 @@
 -- Four channels, one block after another.
-use Rattle.std.proofs.Common.{◌≡◌, inl, inr, ⊎_elim, ◌⊎◌, ℕ, ◌+◌, ◌-◌, ◌*◌, ◌/◌, ◌<◌, ◌≤◌, min, List, [], ◌∷◌, ◌++◌, length, take, get_or, All, refl, sym, ◌∙◌, ap, subst, arith, length-append, append-nil}
-use Rattle.std.specs.Io.KnownBytes.{Appends, IsAtEnd}
-use Rattle.std.proofs.KnownBytes.{Appends-nil, Consumes-nil}
+use Rattle.std.proofs.Common.{◌≡◌, inl, inr, ◌⊎◌, ℕ, ◌+◌, ◌-◌, ◌*◌, ◌/◌, ◌<◌, ◌≤◌, List, [], ◌++◌, length, take, get_or, refl, sym, ◌∙◌, ap, subst, arith, length-append}
+use Rattle.std.specs.Io.KnownBytes.{IsAtEnd}
+use Rattle.std.proofs.KnownBytes.{Consumes-nil}
 use Rattle.std.proofs.Math.Seq.{take-append-add}
 use Rattle.std.proofs.lemmas.Bool.{cases_eq, cases_lt}
 use Rattle.std.proofs.lemmas.List.{length-take, length-take-le, take_all}
-use Rattle.std.proofs.lemmas.List.Elements.{All-nil}
 use Rattle.trau_io.specs.declared.line.Line.{Line}
 use Rattle.trau_io.specs.declared.line.Side.TheVariants.{Up, Out}
 use Rattle.trau_io.specs.Lines.{LineState, Rose}
 use Rattle.trau_bits.specs.Bits.{bits_of}
-use Rattle.trau_bits.proofs.BitList.{length-bits_of}
 use Rattle.trau_submux.specs.declared.join.BlockEnd.TheVariants as block
 use Rattle.trau_submux.specs.declared.join.MergeEnd.TheVariants.{Done, LineFailed}
-use Rattle.trau_submux.specs.Channels.{IsMerged, subchannel}
+use Rattle.trau_submux.specs.Channels.{IsMerged}
 use Rattle.trau_submux.specs.Lines.{Gains, GainsFront, Gives}
-use Rattle.trau_submux.specs.Merges.{AreRead, Before, BlockEndsAs, EndsChannels, FailsAt, IsFewest, Merges, Takes, most_of_channel}
-use Rattle.trau_submux.proofs.Channels.{length-subchannel}
+use Rattle.trau_submux.specs.Merges.{BlockEndsAs, FailsAt, Merges, Takes}
 use Rattle.trau_submux.proofs.Merged.{merged-append}
 use Rattle.trau_submux.proofs.Splitting.{front_on, gains_on, gives_on}
-
--- n whole blocks of each line are taken, and what they make is written
-pub record MergeSoFar (ups ups' : ℕ → LineState) (out out' : LineState) (n octets : ℕ) : Type 0 where
-  pub given : ℕ → List ℕ
-  pub whole : (j : ℕ) → j < 4 → length (given j) ≡ 40 * n
-  pub octets_are : octets ≡ 160 * n
-  pub gives : (j : ℕ) → j < 4 → Gives (ups j) (ups' j) (given j)
-  pub calm : (j : ℕ) → j < 4 → (ups' j).faults ≡ (ups j).faults
-  pub sent : List ℕ
-  pub merged : IsMerged sent given
-  pub gained : Gains out out' sent
-
-pub at_start : (ups : ℕ → LineState) (out : LineState) → MergeSoFar ups ups out out 0 0
-at_start ups out = record {
-  given = λ j. [];
-  whole = λ j below. refl;
-  octets_are = refl;
-  gives = λ j below. record { read = Consumes-nil (ups j).to_come; written = refl; later = omega arith };
-  calm = λ j below. refl;
-  sent = [];
-  merged = record { are_octets = All-nil (λ octet. octet < 256); carries = λ j below. none (subchannel j []) (bits_of []) (length-subchannel j []) (length-bits_of []) };
-  gained = record { written = Appends-nil out.written; to_come = refl; calm = refl };
-}
-  where
-    none : (xs ys : List ℕ) → length xs ≡ 2 * 0 → length ys ≡ 8 * 0 → xs ≡ ys
-    none [] [] e f = refl
-    none [] (y ∷ ys) e f = absurd (omega (arith, f))
-    none (x ∷ xs) ys e f = absurd (omega (arith, e))
-
--- octets that are merged of so many octets of each channel are four times as many
-length-merged : (octets : List ℕ) (chans : ℕ → List ℕ) (m : ℕ) → length (chans 0) ≡ m → IsMerged octets chans → length octets ≡ 4 * m
-length-merged octets chans m long merged = omega (arith, length-subchannel 0 octets, ap length (merged.carries 0 (omega arith)), length-bits_of (chans 0), long)
-
--- what a line gave of a block in which one of the four failed
-record PieceHolds (ups ups' : ℕ → LineState) (failed j : ℕ) (list : List ℕ) : Type 0 where
-  gives : Gives (ups j) (ups' j) list
-  part : length list ≤ 40
-  unread : failed < j → list ≡ []
-  fewer : j ≡ failed → length list < 40
-  ended : j < failed → length list < 40 → IsAtEnd (ups' j).to_come
-  calm : (j ≡ failed → ⊥) → (ups' j).faults ≡ (ups j).faults
-
-record Piece (ups ups' : ℕ → LineState) (failed j : ℕ) : Type 0 where
-  list : List ℕ
-  holds : j < 4 → PieceHolds ups ups' failed j list
+use Rattle.trau_submux.proofs.Pieces.{MergeSoFar, Piece, PieceHolds, length-merged}
 
 module _ (u0 u1 u2 : ℕ → LineState) (o0 o1 o2 : LineState) (call n octets : ℕ) (so_far : MergeSoFar u0 u1 o0 o1 n octets) where
   module _ (t : Takes u1 u2) where
+    -- what was given with this block
     abbrev joined : ℕ → List ℕ
     joined j = so_far.given j ++ t.given j
 
@@ -85,6 +39,7 @@ module _ (u0 u1 u2 : ℕ → LineState) (o0 o1 o2 : LineState) (call n octets : 
     used-joined : (j : ℕ) → j < 4 → take (40 * n + t.used) (joined j) ≡ so_far.given j ++ take t.used (t.given j)
     used-joined j below = ap (λ m. take (m + t.used) (joined j)) (sym (so_far.whole j below)) ∙ take-append-add (so_far.given j) (t.given j) t.used
 
+    -- a whole block more
     pub one_more : t.used ≡ 40 → Gains o1 o2 t.octets → MergeSoFar u0 u2 o0 o2 (n + 1) (octets + 160)
     one_more is gained =
         let all : (j : ℕ) → j < 4 → length (t.given j) ≡ 40 = λ j below. omega (arith, is, t.fewest.least j below, (t.each j below).bound) in
@@ -97,16 +52,28 @@ module _ (u0 u1 u2 : ℕ → LineState) (o0 o1 o2 : LineState) (call n octets : 
           sent = so_far.sent ++ t.octets;
           merged = record {
             are_octets = merged_more.are_octets;
-            carries = λ j below. merged_more.carries j below ∙ ap (λ l. bits_of (so_far.given j ++ l)) (take_all t.used (t.given j) (omega (arith, is, all j below)));
+            carries = λ j below. merged_more.carries j below
+                ∙ ap (λ l. bits_of (so_far.given j ++ l)) (take_all t.used (t.given j) (omega (arith, is, all j below)));
           };
           gained = gains_on _ _ _ _ _ so_far.gained gained;
         }
 
-    pub ended : (counts left : List ℕ) (used : ℕ) → n < 4294967295 → t.used < 40 → ((j : ℕ) → j < 4 → get_or counts j 0 ≡ length (t.given j)) → Gains o1 o2 t.octets →
-        ((j : ℕ) → j < 4 → used ≤ get_or counts j 0) → ((j : ℕ) × (j < 4) × (used ≡ get_or counts j 0)) → ((j : ℕ) → j < 4 → get_or left j 0 ≡ get_or counts j 0 - used) →
+    -- a block that a line ended in
+    pub ended : (counts left : List ℕ) (used : ℕ) → n < 4294967295 → t.used < 40 → ((j : ℕ) → j < 4 → get_or counts j 0 ≡ length (t.given j)) →
+        Gains o1 o2 t.octets →
+        ((j : ℕ) → j < 4 → used ≤ get_or counts j 0) → ((j : ℕ) × (j < 4) × (used ≡ get_or counts j 0)) →
+        ((j : ℕ) → j < 4 → get_or left j 0 ≡ get_or counts j 0 - used) →
         Merges u0 u2 o0 o2 call (Done (octets + 4 * used) left)
     ended counts left used few short told gained least one left_are =
-        let same : used ≡ t.used = omega (arith, least t.fewest.one t.fewest.below, told t.fewest.one t.fewest.below, t.fewest.is, t.fewest.least one.0 one.1, told one.0 one.1, one.2) in
+        let same : used ≡ t.used = omega (
+          arith,
+          least t.fewest.one t.fewest.below,
+          told t.fewest.one t.fewest.below,
+          t.fewest.is,
+          t.fewest.least one.0 one.1,
+          told one.0 one.1,
+          one.2,
+        ) in
         record {
           given = joined;
           gives = gives_more;
@@ -131,7 +98,8 @@ module _ (u0 u1 u2 : ℕ → LineState) (o0 o1 o2 : LineState) (call n octets : 
           };
         }
       where
-        last : (j : ℕ) → j < 4 → (length (joined j) ≡ 40 * ((40 * n + t.used) / 40 + 1)) ⊎ ((length (joined j) < 40 * ((40 * n + t.used) / 40 + 1)) × IsAtEnd (u2 j).to_come)
+        last : (j : ℕ) → j < 4 →
+            (length (joined j) ≡ 40 * ((40 * n + t.used) / 40 + 1)) ⊎ ((length (joined j) < 40 * ((40 * n + t.used) / 40 + 1)) × IsAtEnd (u2 j).to_come)
         last j below =
             let blocks : (40 * n + t.used) / 40 ≡ n = omega (arith, short) in
             elim (cases_eq (length (t.given j)) 40) [
@@ -141,7 +109,9 @@ module _ (u0 u1 u2 : ℕ → LineState) (o0 o1 o2 : LineState) (call n octets : 
                   inr (omega (arith, blocks, part, bound, length-joined j below), (t.each j below).ended (omega (arith, part, bound)))
             ]
 
-    pub failed_to_write : n < 4294967295 → (line : Line) → line.call ≡ call → line.side ≡ Out → GainsFront o1 o2 t.octets → Merges u0 u2 o0 o2 call (LineFailed line)
+    -- the slot's line failed
+    pub failed_to_write : n < 4294967295 → (line : Line) → line.call ≡ call → line.side ≡ Out → GainsFront o1 o2 t.octets →
+        Merges u0 u2 o0 o2 call (LineFailed line)
     failed_to_write few line number side here = record {
       given = joined;
       gives = gives_more;
@@ -175,9 +145,35 @@ module _ (u0 u1 u2 : ℕ → LineState) (o0 o1 o2 : LineState) (call n octets : 
     piece j = elim (cases_lt j k) [
       | inl less ↦
           let gave = (at.before j less).2 in
-          record { list = take (at.before j less).1 (at.before j less).0; holds = λ below. record { gives = gave.gives; part = length-part (at.before j less).1 (at.before j less).0 gave.bound; unread = λ above. absurd (omega arith); fewer = λ e. absurd (omega arith); ended = λ _ short. gave.ended (omega (arith, short, gave.whole, gave.bound, length-take-le (at.before j less).1 (at.before j less).0 (omega (arith, gave.whole, gave.bound)))); calm = λ ne. gave.calm } }
+          record {
+            list = take (at.before j less).1 (at.before j less).0;
+            holds = λ below. record {
+              gives = gave.gives;
+              part = length-part (at.before j less).1 (at.before j less).0 gave.bound;
+              unread = λ above. absurd (omega arith);
+              fewer = λ e. absurd (omega arith);
+              ended = λ _ short. gave.ended (omega (
+                arith,
+                short,
+                gave.whole,
+                gave.bound,
+                length-take-le (at.before j less).1 (at.before j less).0 (omega (arith, gave.whole, gave.bound)),
+              ));
+              calm = λ ne. gave.calm;
+            };
+          }
       | inr more ↦ elim (cases_eq j k) [
-        | inl e ↦ subst (Piece u1 u2 k) (sym e) (record { list = at.here.given; holds = λ below. record { gives = at.here.gives; part = omega (arith, at.here.part); unread = λ above. absurd (omega arith); fewer = λ _. at.here.part; ended = λ less _. absurd (omega arith); calm = λ ne. absurd (ne refl) } })
+        | inl e ↦ subst (Piece u1 u2 k) (sym e) (record {
+          list = at.here.given;
+          holds = λ below. record {
+            gives = at.here.gives;
+            part = omega (arith, at.here.part);
+            unread = λ above. absurd (omega arith);
+            fewer = λ _. at.here.part;
+            ended = λ less _. absurd (omega arith);
+            calm = λ ne. absurd (ne refl);
+          };
+        })
         | inr ne ↦ record { list = []; holds = λ below. untouched j (omega arith) (at.behind j (omega arith) below) }
       ]
     ]
@@ -195,6 +191,7 @@ module _ (u0 u1 u2 : ℕ → LineState) (o0 o1 o2 : LineState) (call n octets : 
           calm = λ ne. ap (λ l. l.faults) same;
         }
 
+    -- a channel's line failed
     pub failed_to_read : n < 4294967295 → (line : Line) → line.call ≡ call + k → line.side ≡ Up → o2 ≡ o1 → Merges u0 u2 o0 o2 call (LineFailed line)
     failed_to_read few line number side same = record {
       given = λ j. so_far.given j ++ (piece j).list;
@@ -227,7 +224,8 @@ module _ (u0 u1 u2 : ℕ → LineState) (o0 o1 o2 : LineState) (call n octets : 
   on_failed few line (inr write) = failed_to_write write.0 few line write.1 write.2 write.3
 
 -- so many blocks were taken that no more are
-pub at_last : (u0 u1 : ℕ → LineState) (o0 o1 : LineState) (call n octets : ℕ) (left : List ℕ) → MergeSoFar u0 u1 o0 o1 n octets → n ≡ 4294967295 → ((j : ℕ) → j < 4 → get_or left j 0 ≡ 0) → Merges u0 u1 o0 o1 call (Done octets left)
+pub at_last : (u0 u1 : ℕ → LineState) (o0 o1 : LineState) (call n octets : ℕ) (left : List ℕ) → MergeSoFar u0 u1 o0 o1 n octets → n ≡ 4294967295 →
+    ((j : ℕ) → j < 4 → get_or left j 0 ≡ 0) → Merges u0 u1 o0 o1 call (Done octets left)
 at_last u0 u1 o0 o1 call n octets left so_far last none = record {
   given = so_far.given;
   gives = so_far.gives;
@@ -241,7 +239,11 @@ at_last u0 u1 o0 o1 call n octets left so_far last none = record {
     octets_are = omega (arith, so_far.octets_are);
     left_are = λ j below. omega (arith, none j below, so_far.whole j below);
     sent = so_far.sent;
-    merged = record { are_octets = so_far.merged.are_octets; carries = λ j below. so_far.merged.carries j below ∙ ap bits_of (sym (take_all (40 * n) (so_far.given j) (omega (arith, so_far.whole j below)))) };
+    merged = record {
+      are_octets = so_far.merged.are_octets;
+      carries = λ j below. so_far.merged.carries j below
+          ∙ ap bits_of (sym (take_all (40 * n) (so_far.given j) (omega (arith, so_far.whole j below))));
+    };
     gained = so_far.gained;
     calm = so_far.calm;
   };

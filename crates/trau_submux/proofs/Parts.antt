@@ -14,13 +14,16 @@ pub record Taken (j : ℕ) (slot row : List ℕ) (n : ℕ) : Type 0 where
   pub long : length row ≡ 40
   pub done : (m : ℕ) → m < n → get_or row m 0 ≡ gathered_at j slot (4 * m)
 
+-- the first eight lanes, and the last
 abbrev low : List ℕ
 low = 0 ∷ 1 ∷ 2 ∷ 3 ∷ 4 ∷ 5 ∷ 6 ∷ 7 ∷ []
 
 abbrev high : List ℕ
 high = 8 ∷ 9 ∷ 10 ∷ 11 ∷ 12 ∷ 13 ∷ 14 ∷ 15 ∷ []
 
-pub taken_more : (j : ℕ) (slot row v : List ℕ) (n m : ℕ) → m ≡ n + 8 → m ≤ 40 → length v ≡ 8 → ((k : ℕ) → k < 8 → get_or v k 0 ≡ gathered_at j slot (4 * n + 4 * k)) → Taken j slot row n → Taken j slot (put_chunk n row v) m
+-- eight octets more of a channel
+pub taken_more : (j : ℕ) (slot row v : List ℕ) (n m : ℕ) → m ≡ n + 8 → m ≤ 40 → length v ≡ 8 →
+    ((k : ℕ) → k < 8 → get_or v k 0 ≡ gathered_at j slot (4 * n + 4 * k)) → Taken j slot row n → Taken j slot (put_chunk n row v) m
 taken_more j slot row v n m next within eight each before = record {
   long = length-put_chunk n row v ∙ before.long;
   done = λ i below. elim (cases_lt i n) [
@@ -28,17 +31,23 @@ taken_more j slot row v n m next within eight each before = record {
     | inr h ↦
         let place : i ≡ n + (i - n) = omega arith in
         let four : 4 * n + 4 * (i - n) ≡ 4 * i = omega arith in
-        ap (λ x. get_or (put_chunk n row v) x 0) place ∙ get_or-put_chunk_at n row v (i - n) 0 (omega arith) (omega (arith, before.long)) ∙ each (i - n) (omega arith) ∙ ap (gathered_at j slot) four
+        ap (λ x. get_or (put_chunk n row v) x 0) place ∙ get_or-put_chunk_at n row v (i - n) 0 (omega arith) (omega (arith, before.long))
+        ∙ each (i - n) (omega arith) ∙ ap (gathered_at j slot) four
   ];
 }
 
-module _ (slot u w : List ℕ) (n m : ℕ) (next : m ≡ n + 8) (within : m ≤ 40) (long_u : length u ≡ 16) (long_w : length w ≡ 16) (of_each : EightOfEach slot (4 * n) u w) where
+module _ (slot u w : List ℕ) (n m : ℕ) (next : m ≡ n + 8) (within : m ≤ 40) (long_u : length u ≡ 16) (long_w : length w ≡ 16)
+    (of_each : EightOfEach slot (4 * n) u w) where
+  -- what a shuffle takes of the lanes
   front : (v : List ℕ) (k : ℕ) → length v ≡ 16 → k < 8 → get_or (pick_l 0 (v ++ v) low) k 0 ≡ get_or v k 0
-  front v k long l = from_first v v low k k (omega arith) (for_eight (λ k. get_or low k 0 ≡ k) refl refl refl refl refl refl refl refl k l) (omega (arith, long))
+  front v k long l = from_first v v low k k (omega arith) (for_eight (λ k. get_or low k 0 ≡ k) refl refl refl refl refl refl refl refl k l)
+      (omega (arith, long))
 
   back : (v : List ℕ) (k : ℕ) → length v ≡ 16 → k < 8 → get_or (pick_l 0 (v ++ v) high) k 0 ≡ get_or v (8 + k) 0
-  back v k long l = from_first v v high k (8 + k) (omega arith) (for_eight (λ k. get_or high k 0 ≡ 8 + k) refl refl refl refl refl refl refl refl k l) (omega (arith, long))
+  back v k long l = from_first v v high k (8 + k) (omega arith) (for_eight (λ k. get_or high k 0 ≡ 8 + k) refl refl refl refl refl refl refl refl k l)
+      (omega (arith, long))
 
+  -- each channel has eight octets more
   pub first_more : (row : List ℕ) → Taken 0 slot row n → Taken 0 slot (put_chunk n row (pick_l 0 (u ++ u) low)) m
   first_more row = taken_more 0 slot row (pick_l 0 (u ++ u) low) n m next within refl (λ k l. front u k long_u l ∙ of_each.first k l)
 
@@ -56,8 +65,10 @@ pub record Joined (a b c d slot : List ℕ) (n : ℕ) : Type 0 where
   pub long : length slot ≡ 160
   pub done : (i : ℕ) → i < n → get_or slot i 0 ≡ gathered (i % 4) (get_or a (i / 4) 0) (get_or b (i / 4) 0) (get_or c (i / 4) 0) (get_or d (i / 4) 0)
 
+-- 32 octets more of the slot
 pub joined_more : (a b c d slot z : List ℕ) (n m at : ℕ) → n ≡ 4 * at → m ≡ n + 32 → m ≤ 160 → length z ≡ 32 →
-    ((i : ℕ) → i < 32 → get_or z i 0 ≡ gathered (i % 4) (get_or a (at + i / 4) 0) (get_or b (at + i / 4) 0) (get_or c (at + i / 4) 0) (get_or d (at + i / 4) 0)) →
+    ((i : ℕ) → i < 32 → get_or z i 0
+    ≡ gathered (i % 4) (get_or a (at + i / 4) 0) (get_or b (at + i / 4) 0) (get_or c (at + i / 4) 0) (get_or d (at + i / 4) 0)) →
     Joined a b c d slot n → Joined a b c d (put_chunk n slot z) m
 joined_more a b c d slot z n m at place next within long each before = record {
   long = length-put_chunk n slot z ∙ before.long;
@@ -67,12 +78,14 @@ joined_more a b c d slot z n m at place next within long each before = record {
         let here : i ≡ n + (i - n) = omega arith in
         let group : at + (i - n) / 4 ≡ i / 4 = omega arith in
         let lane : (i - n) % 4 ≡ i % 4 = omega arith in
-        ap (λ x. get_or (put_chunk n slot z) x 0) here ∙ get_or-put_chunk_at n slot z (i - n) 0 (omega (arith, long)) (omega (arith, before.long, long)) ∙ each (i - n) (omega arith)
+        ap (λ x. get_or (put_chunk n slot z) x 0) here ∙ get_or-put_chunk_at n slot z (i - n) 0 (omega (arith, long)) (omega (arith, before.long, long))
+        ∙ each (i - n) (omega arith)
         ∙ ap (λ g. gathered ((i - n) % 4) (get_or a g 0) (get_or b g 0) (get_or c g 0) (get_or d g 0)) group
         ∙ ap (λ j. gathered j (get_or a (i / 4) 0) (get_or b (i / 4) 0) (get_or c (i / 4) 0) (get_or d (i / 4) 0)) lane
   ];
 }
 
+-- before the first part
 pub nothing_taken : (j : ℕ) (slot row : List ℕ) → length row ≡ 40 → Taken j slot row 0
 nothing_taken j slot row long = record { long = long; done = λ m below. absurd (omega arith) }
 

@@ -1,5 +1,5 @@
 -- A slot, one block after another.
-use Rattle.std.proofs.Common.{◌≡◌, inl, inr, ℕ, ◌+◌, ◌*◌, ◌/◌, ◌%◌, ◌<◌, ◌≤◌, List, [], ◌∷◌, ◌++◌, length, take, refl, sym, ◌∙◌, ap, subst, arith, length-append}
+use Rattle.std.proofs.Common.{◌≡◌, inl, inr, ℕ, ◌+◌, ◌*◌, ◌/◌, ◌%◌, ◌<◌, List, [], ◌∷◌, ◌++◌, length, take, refl, sym, ◌∙◌, ap, subst, arith, length-append}
 use Rattle.std.specs.Io.KnownBytes.{Appends}
 use Rattle.std.proofs.KnownBytes.{Appends-nil, Appends-trans, Consumes-nil, Consumes-trans}
 use Rattle.std.proofs.lemmas.List.{append-nil}
@@ -9,12 +9,12 @@ use Rattle.trau_io.specs.Lines.{LineState, Rose}
 use Rattle.trau_submux.specs.declared.cut.BlockEnd.TheVariants as block
 use Rattle.trau_submux.specs.declared.cut.SplitEnd.TheVariants.{Done, LineFailed}
 use Rattle.trau_submux.specs.Channels.{channel}
-use Rattle.trau_submux.specs.Lines.{Gains, GainsFront, Gives, most_octets}
+use Rattle.trau_submux.specs.Lines.{Gains, Gives}
 use Rattle.trau_submux.specs.Splits.{BlockEndsAs, GainChannels, Splits, SplitsBlock, whole_groups}
-use Rattle.trau_submux.specs.Writing.{FailsAt}
 use Rattle.trau_submux.proofs.Channels.{length-channel}
 use Rattle.trau_submux.proofs.Groups.{channel-append, groups-append, groups-whole, length-groups}
 
+-- one gain after another
 pub gains_on : (a b c : LineState) (s t : List ℕ) → Gains a b s → Gains b c t → Gains a c (s ++ t)
 gains_on a b c s t first second = record {
   written = Appends-trans _ _ _ _ _ first.written second.written;
@@ -23,9 +23,12 @@ gains_on a b c s t first second = record {
 }
 
 -- a proper front of more octets behind those that were gained
-pub front_on : (a b c : LineState) (s t all : List ℕ) (n : ℕ) → all ≡ s ++ t → Gains a b s → Appends b.written c.written (take n t) → Appends a.written c.written (take (length s + n) all)
-front_on a b c s t all n are first more = subst (Appends a.written c.written) (sym (ap (take (length s + n)) are ∙ take-append-add s t n)) (Appends-trans _ _ _ _ _ first.written more)
+pub front_on : (a b c : LineState) (s t all : List ℕ) (n : ℕ) → all ≡ s ++ t → Gains a b s → Appends b.written c.written (take n t) →
+    Appends a.written c.written (take (length s + n) all)
+front_on a b c s t all n are first more =
+    subst (Appends a.written c.written) (sym (ap (take (length s + n)) are ∙ take-append-add s t n)) (Appends-trans _ _ _ _ _ first.written more)
 
+-- and what is given
 pub gives_on : (a b c : LineState) (s t : List ℕ) → Gives a b s → Gives b c t → Gives a c (s ++ t)
 gives_on a b c s t first second = record {
   read = Consumes-trans _ _ _ _ _ first.read second.read;
@@ -42,13 +45,18 @@ pub record SplitSoFar (pcm pcm' : LineState) (downs downs' : ℕ → LineState) 
   pub gained : GainChannels downs downs' blocks
   pub calm : pcm'.faults ≡ pcm.faults
 
+-- before the first block
 pub at_start : (pcm : LineState) (downs : ℕ → LineState) → SplitSoFar pcm pcm downs downs 0 0
 at_start pcm downs = record {
   blocks = [];
   count = refl;
   octets_are = refl;
   gives = record { read = Consumes-nil pcm.to_come; written = refl; later = omega arith };
-  gained = λ j below. record { written = subst (λ l. Appends (downs j).written (downs j).written l) (sym (no_channel j)) (Appends-nil (downs j).written); to_come = refl; calm = refl };
+  gained = λ j below. record {
+    written = subst (λ l. Appends (downs j).written (downs j).written l) (sym (no_channel j)) (Appends-nil (downs j).written);
+    to_come = refl;
+    calm = refl;
+  };
   calm = refl;
 }
   where
@@ -60,6 +68,7 @@ at_start pcm downs = record {
         empty (x ∷ xs) e = absurd (omega (arith, e))
 
 module _ (p0 p1 p2 : LineState) (d0 d1 d2 : ℕ → LineState) (call n octets : ℕ) (so_far : SplitSoFar p0 p1 d0 d1 n octets) where
+  -- blocks are whole groups
   four : length so_far.blocks ≡ 4 * (40 * n)
   four = omega (arith, so_far.count)
 
@@ -69,6 +78,7 @@ module _ (p0 p1 p2 : LineState) (d0 d1 d2 : ℕ → LineState) (call n octets : 
   gained_on : (given : List ℕ) → GainChannels d1 d2 given → GainChannels d0 d2 (so_far.blocks ++ given)
   gained_on given more = λ j below. subst (Gains (d0 j) (d2 j)) (sym (joined j given)) (gains_on _ _ _ _ _ (so_far.gained j below) (more j below))
 
+  -- a block more
   pub one_more : SplitsBlock p1 p2 d1 d2 call block.Whole → SplitSoFar p0 p2 d0 d2 (n + 1) (octets + 160)
   one_more one = record {
     blocks = so_far.blocks ++ one.given;
@@ -79,7 +89,9 @@ module _ (p0 p1 p2 : LineState) (d0 d1 d2 : ℕ → LineState) (call n octets : 
     calm = one.ends.1 ∙ so_far.calm;
   }
 
-  pub ended : (count : ℕ) → n < 4294967295 → SplitsBlock p1 p2 d1 d2 call (block.Ended count) → Splits p0 p2 d0 d2 call (Done (octets + count / 4 * 4) (count % 4))
+  -- the line ended in a block, or a line failed there
+  pub ended : (count : ℕ) → n < 4294967295 → SplitsBlock p1 p2 d1 d2 call (block.Ended count) →
+      Splits p0 p2 d0 d2 call (Done (octets + count / 4 * 4) (count % 4))
   ended count few one =
       let all = so_far.blocks ++ one.given in
       let long : length all ≡ 160 * n + count = omega (arith, so_far.count, one.ends.0, length-append so_far.blocks one.given) in
@@ -137,11 +149,18 @@ module _ (p0 p1 p2 : LineState) (d0 d1 d2 : ℕ → LineState) (call n octets : 
               room = omega (arith, so_far.count, few);
               part = write.3;
               ended = write.4;
-              before = λ j below. subst (Gains (d0 j) (d2 j)) (sym (joined j groups)) (gains_on _ _ _ _ _ (so_far.gained j (omega (arith, at.one, below))) (at.before j below));
+              before = λ j below. subst (Gains (d0 j) (d2 j)) (sym (joined j groups))
+                  (gains_on _ _ _ _ _ (so_far.gained j (omega (arith, at.one, below))) (at.before j below));
               here = record {
                 count = length (channel write.0 so_far.blocks) + at.here.count;
-                proper = omega (arith, at.here.proper, ap length (joined write.0 groups), length-append (channel write.0 so_far.blocks) (channel write.0 groups));
-                written = front_on (d0 write.0) (d1 write.0) (d2 write.0) (channel write.0 so_far.blocks) (channel write.0 groups) (channel write.0 (so_far.blocks ++ groups)) at.here.count (joined write.0 groups) (so_far.gained write.0 at.one) at.here.written;
+                proper = omega (
+                  arith,
+                  at.here.proper,
+                  ap length (joined write.0 groups),
+                  length-append (channel write.0 so_far.blocks) (channel write.0 groups),
+                );
+                written = front_on (d0 write.0) (d1 write.0) (d2 write.0) (channel write.0 so_far.blocks) (channel write.0 groups)
+                    (channel write.0 (so_far.blocks ++ groups)) at.here.count (joined write.0 groups) (so_far.gained write.0 at.one) at.here.written;
                 to_come = at.here.to_come ∙ (so_far.gained write.0 at.one).to_come;
                 rose = subst (λ m. Rose m (d2 write.0).faults) (so_far.gained write.0 at.one).calm at.here.rose;
               };
@@ -152,7 +171,8 @@ module _ (p0 p1 p2 : LineState) (d0 d1 d2 : ℕ → LineState) (call n octets : 
           }
 
 -- so many blocks were taken that no more are
-pub at_last : (p0 p1 : LineState) (d0 d1 : ℕ → LineState) (call n octets : ℕ) → SplitSoFar p0 p1 d0 d1 n octets → n ≡ 4294967295 → Splits p0 p1 d0 d1 call (Done octets 0)
+pub at_last : (p0 p1 : LineState) (d0 d1 : ℕ → LineState) (call n octets : ℕ) → SplitSoFar p0 p1 d0 d1 n octets → n ≡ 4294967295 →
+    Splits p0 p1 d0 d1 call (Done octets 0)
 at_last p0 p1 d0 d1 call n octets so_far last =
     let same : so_far.blocks ++ [] ≡ so_far.blocks = append-nil so_far.blocks in
     let whole : whole_groups (so_far.blocks ++ []) ≡ so_far.blocks = ap whole_groups same ∙ groups-whole so_far.blocks (40 * n) (omega (arith, so_far.count)) in

@@ -1,10 +1,8 @@
--- Octets in the lanes of vectors: one lane of each operation, and what a shuffle takes.
-use Rattle.std.proofs.Common.{◌≡◌, ℕ, ◌+◌, ◌-◌, ◌*◌, ◌/◌, ◌%◌, ◌^◌, ◌<◌, ◌≤◌, zero, suc, List, [], ◌∷◌, ◌++◌, length, get_or, replicate, bit_and, refl, sym, ap, ◌∙◌, arith}
-use Rattle.std.specs.Simd.Lanes.{zip2, chunk, pick_l}
-use Rattle.std.proofs.lemmas.Nat.{and_block, and_mask}
-use Rattle.std.proofs.lemmas.Nat.Bits.{and_high}
+-- What shuffles of vectors take: the columns of eight squares, eight octets of each channel, and eight groups of a slot.
+use Rattle.std.proofs.Common.{◌≡◌, ℕ, ◌+◌, ◌-◌, ◌*◌, ◌/◌, ◌%◌, ◌<◌, ◌≤◌, zero, suc, List, [], ◌∷◌, ◌++◌, length, get_or, refl, ap, ◌∙◌, arith}
+use Rattle.std.specs.Simd.Lanes.{chunk, pick_l}
 use Rattle.std.proofs.lemmas.List.{get_or_append_left, get_or-append_right, get_or-map}
-use Rattle.std.proofs.lemmas.Simd.{get_or-zip2, get_or-replicate, get_or-chunk, length-chunk, length-zip2, length-replicate}
+use Rattle.std.proofs.lemmas.Simd.{get_or-chunk, length-chunk}
 use Rattle.trau_submux.specs.Pairs.{four_pairs, gathered, pair_at}
 use Rattle.trau_submux.specs.Squares.{EightColumns, EightOfEach, gathered_at}
 use Rattle.trau_submux.proofs.Channels.{for_four}
@@ -21,120 +19,25 @@ for_eight P a b c d e f g h (suc (suc (suc (suc (suc (suc zero)))))) l = g
 for_eight P a b c d e f g h (suc (suc (suc (suc (suc (suc (suc zero))))))) l = h
 for_eight P a b c d e f g h (suc (suc (suc (suc (suc (suc (suc (suc k)))))))) l = absurd (omega arith)
 
--- ---- one lane
-
-abbrev pub plus : ℕ → ℕ → ℕ
-plus a b = (a + b) % 2 ^ 8
-
-abbrev pub down : ℕ → ℕ → ℕ
-down a b = a / 2 ^ b
-
-abbrev pub up : ℕ → ℕ → ℕ
-up a b = a * 2 ^ b % 2 ^ 8
-
--- the pairs 0 and 2 of an octet, and 1 and 3
-even_of : (x : ℕ) → bit_and x 204 ≡ x / 64 % 4 * 64 + x / 4 % 4 * 4
-even_of x =
-    let e : x ≡ x / 16 * 2 ^ 4 + x % 16 = omega arith in
-    let high : bit_and (x / 16) 12 ≡ x / 16 / 4 % 4 * 4 = and_high (x / 16) 2 2 in
-    let low : bit_and (x % 16) 12 ≡ x % 16 / 4 % 4 * 4 = and_high (x % 16) 2 2 in
-    let block : bit_and (x / 16 * 2 ^ 4 + x % 16) 204 ≡ bit_and (x / 16) 12 * 16 + bit_and (x % 16) 12 = and_block 4 (x / 16) 12 (x % 16) 12 (omega arith) (omega arith) in
-    ap (λ n. bit_and n 204) e ∙ block ∙ omega (arith, high, low)
-
-odd_of : (x : ℕ) → bit_and x 51 ≡ x / 16 % 4 * 16 + x % 4
-odd_of x =
-    let e : x ≡ x / 16 * 2 ^ 4 + x % 16 = omega arith in
-    let high : bit_and (x / 16) 3 ≡ x / 16 % 4 = and_mask (x / 16) 2 in
-    let low : bit_and (x % 16) 3 ≡ x % 16 % 4 = and_mask (x % 16) 2 in
-    let block : bit_and (x / 16 * 2 ^ 4 + x % 16) 51 ≡ bit_and (x / 16) 3 * 16 + bit_and (x % 16) 3 = and_block 4 (x / 16) 3 (x % 16) 3 (omega arith) (omega arith) in
-    ap (λ n. bit_and n 51) e ∙ block ∙ omega (arith, high, low)
-
-high_of : (x : ℕ) → bit_and x 240 ≡ x / 16 % 16 * 16
-high_of x = and_high x 4 4
-
-low_of : (x : ℕ) → bit_and x 15 ≡ x % 16
-low_of x = and_mask x 4
-
-first_halves : (x y : ℕ) → plus (bit_and x 240) (bit_and (down y 4) 15) ≡ four_pairs (pair_at 0 x) (pair_at 1 x) (pair_at 0 y) (pair_at 1 y)
-first_halves x y = let h = high_of x in let l = low_of (y / 16) in omega (arith, h, l)
-
-last_halves : (x y : ℕ) → plus (up x 4) (bit_and y 15) ≡ four_pairs (pair_at 2 x) (pair_at 3 x) (pair_at 2 y) (pair_at 3 y)
-last_halves x y = let l = low_of y in omega (arith, l)
-
-even_pairs : (x y : ℕ) → plus (bit_and x 204) (bit_and (down y 2) 51) ≡ four_pairs (pair_at 0 x) (pair_at 0 y) (pair_at 2 x) (pair_at 2 y)
-even_pairs x y = let e = even_of x in let o = odd_of (y / 4) in omega (arith, e, o)
-
-odd_pairs : (x y : ℕ) → plus (up (bit_and x 51) 2) (bit_and y 51) ≡ four_pairs (pair_at 1 x) (pair_at 1 y) (pair_at 3 x) (pair_at 3 y)
-odd_pairs x y = let e = odd_of x in let o = odd_of y in omega (arith, e, o)
-
--- ---- sixteen lanes
-
--- a lane of an operation with the same in each lane, and of one on two vectors
-at_splat : (f : ℕ → ℕ → ℕ) (xs : List ℕ) (m k : ℕ) → length xs ≡ 16 → k < 16 → get_or (zip2 f xs (replicate 16 m)) k 0 ≡ f (get_or xs k 0) m
-at_splat f xs m k long l = get_or-zip2 f xs (replicate 16 m) k 0 0 0 (omega arith) (omega (arith, length-replicate 16 m)) ∙ ap (f (get_or xs k 0)) (get_or-replicate 16 k m 0 l)
-
-at_zip : (f : ℕ → ℕ → ℕ) (xs ys : List ℕ) (k : ℕ) → length xs ≡ 16 → length ys ≡ 16 → k < 16 → get_or (zip2 f xs ys) k 0 ≡ f (get_or xs k 0) (get_or ys k 0)
-at_zip f xs ys k long_x long_y l = get_or-zip2 f xs ys k 0 0 0 (omega arith) (omega arith)
-
-splat_long : (f : ℕ → ℕ → ℕ) (xs : List ℕ) (m : ℕ) → length xs ≡ 16 → length (zip2 f xs (replicate 16 m)) ≡ 16
-splat_long f xs m long = length-zip2 f xs (replicate 16 m) (long ∙ sym (length-replicate 16 m)) ∙ long
-
-zip_long : (f : ℕ → ℕ → ℕ) (xs ys : List ℕ) → length xs ≡ 16 → length ys ≡ 16 → length (zip2 f xs ys) ≡ 16
-zip_long f xs ys long_x long_y = length-zip2 f xs ys (long_x ∙ sym long_y) ∙ long_x
-
-module _ (xs ys : List ℕ) (long_x : length xs ≡ 16) (long_y : length ys ≡ 16) where
-  abbrev pub shifted : ℕ → ℕ → List ℕ
-  shifted by mask = zip2 bit_and (zip2 down ys (replicate 16 by)) (replicate 16 mask)
-
-  shifted_long : (by mask : ℕ) → length (shifted by mask) ≡ 16
-  shifted_long by mask = splat_long bit_and (zip2 down ys (replicate 16 by)) mask (splat_long down ys by long_y)
-
-  shifted_at : (by mask k : ℕ) → k < 16 → get_or (shifted by mask) k 0 ≡ bit_and (down (get_or ys k 0) by) mask
-  shifted_at by mask k l = at_splat bit_and (zip2 down ys (replicate 16 by)) mask k (splat_long down ys by long_y) l ∙ ap (λ a. bit_and a mask) (at_splat down ys by k long_y l)
-
-  -- a mask of x, and what a shift leaves of y
-  masked_shifted_at : (by mask other k : ℕ) → k < 16 → get_or (zip2 plus (zip2 bit_and xs (replicate 16 other)) (shifted by mask)) k 0 ≡ plus (bit_and (get_or xs k 0) other) (bit_and (down (get_or ys k 0) by) mask)
-  masked_shifted_at by mask other k l =
-      at_zip plus (zip2 bit_and xs (replicate 16 other)) (shifted by mask) k (splat_long bit_and xs other long_x) (shifted_long by mask) l
-      ∙ ap (λ a. plus a (get_or (shifted by mask) k 0)) (at_splat bit_and xs other k long_x l)
-      ∙ ap (λ b. plus (bit_and (get_or xs k 0) other) b) (shifted_at by mask k l)
-
-  pub first_halves_at : (k : ℕ) → k < 16 → get_or (zip2 plus (zip2 bit_and xs (replicate 16 240)) (shifted 4 15)) k 0 ≡ four_pairs (pair_at 0 (get_or xs k 0)) (pair_at 1 (get_or xs k 0)) (pair_at 0 (get_or ys k 0)) (pair_at 1 (get_or ys k 0))
-  first_halves_at k l = masked_shifted_at 4 15 240 k l ∙ first_halves (get_or xs k 0) (get_or ys k 0)
-
-  pub last_halves_at : (k : ℕ) → k < 16 → get_or (zip2 plus (zip2 up xs (replicate 16 4)) (zip2 bit_and ys (replicate 16 15))) k 0 ≡ four_pairs (pair_at 2 (get_or xs k 0)) (pair_at 3 (get_or xs k 0)) (pair_at 2 (get_or ys k 0)) (pair_at 3 (get_or ys k 0))
-  last_halves_at k l =
-      at_zip plus (zip2 up xs (replicate 16 4)) (zip2 bit_and ys (replicate 16 15)) k (splat_long up xs 4 long_x) (splat_long bit_and ys 15 long_y) l
-      ∙ ap (λ a. plus a (get_or (zip2 bit_and ys (replicate 16 15)) k 0)) (at_splat up xs 4 k long_x l)
-      ∙ ap (λ b. plus (up (get_or xs k 0) 4) b) (at_splat bit_and ys 15 k long_y l)
-      ∙ last_halves (get_or xs k 0) (get_or ys k 0)
-
-  pub even_pairs_at : (k : ℕ) → k < 16 → get_or (zip2 plus (zip2 bit_and xs (replicate 16 204)) (shifted 2 51)) k 0 ≡ four_pairs (pair_at 0 (get_or xs k 0)) (pair_at 0 (get_or ys k 0)) (pair_at 2 (get_or xs k 0)) (pair_at 2 (get_or ys k 0))
-  even_pairs_at k l = masked_shifted_at 2 51 204 k l ∙ even_pairs (get_or xs k 0) (get_or ys k 0)
-
-  pub odd_pairs_at : (k : ℕ) → k < 16 → get_or (zip2 plus (zip2 up (zip2 bit_and xs (replicate 16 51)) (replicate 16 2)) (zip2 bit_and ys (replicate 16 51))) k 0 ≡ four_pairs (pair_at 1 (get_or xs k 0)) (pair_at 1 (get_or ys k 0)) (pair_at 3 (get_or xs k 0)) (pair_at 3 (get_or ys k 0))
-  odd_pairs_at k l =
-      at_zip plus (zip2 up (zip2 bit_and xs (replicate 16 51)) (replicate 16 2)) (zip2 bit_and ys (replicate 16 51)) k (splat_long up (zip2 bit_and xs (replicate 16 51)) 2 (splat_long bit_and xs 51 long_x)) (splat_long bit_and ys 51 long_y) l
-      ∙ ap (λ a. plus a (get_or (zip2 bit_and ys (replicate 16 51)) k 0)) (at_splat up (zip2 bit_and xs (replicate 16 51)) 2 k (splat_long bit_and xs 51 long_x) l ∙ ap (λ a. up a 2) (at_splat bit_and xs 51 k long_x l))
-      ∙ ap (λ b. plus (up (bit_and (get_or xs k 0) 51) 2) b) (at_splat bit_and ys 51 k long_y l)
-      ∙ odd_pairs (get_or xs k 0) (get_or ys k 0)
-
 -- ---- shuffles
 
 -- what stands at place k of a shuffle, where that is place i of the first or of the second vector
 pub from_first : (xs ys ks : List ℕ) (k i : ℕ) → k < length ks → get_or ks k 0 ≡ i → i < length xs → get_or (pick_l 0 (xs ++ ys) ks) k 0 ≡ get_or xs i 0
-from_first xs ys ks k i l e within = get_or-map (λ n. get_or (xs ++ ys) n 0) ks k 0 0 l ∙ ap (λ n. get_or (xs ++ ys) n 0) e ∙ get_or_append_left xs ys 0 i within
+from_first xs ys ks k i l e within = get_or-map (λ n. get_or (xs ++ ys) n 0) ks k 0 0 l ∙ ap (λ n. get_or (xs ++ ys) n 0) e
+    ∙ get_or_append_left xs ys 0 i within
 
 pub from_second : (xs ys ks : List ℕ) (k i n : ℕ) → k < length ks → get_or ks k 0 ≡ n + i → length xs ≡ n → get_or (pick_l 0 (xs ++ ys) ks) k 0 ≡ get_or ys i 0
 from_second xs ys ks k i n l e long =
     let back : n + i - n ≡ i = omega arith in
-    get_or-map (λ m. get_or (xs ++ ys) m 0) ks k 0 0 l ∙ ap (λ m. get_or (xs ++ ys) m 0) e ∙ get_or-append_right xs ys n (n + i) 0 long (omega arith) ∙ ap (λ m. get_or ys m 0) back
+    get_or-map (λ m. get_or (xs ++ ys) m 0) ks k 0 0 l ∙ ap (λ m. get_or (xs ++ ys) m 0) e ∙ get_or-append_right xs ys n (n + i) 0 long (omega arith)
+    ∙ ap (λ m. get_or ys m 0) back
 
 -- the pairs of an octet that was put together
 pub pairs_back : (p q r s : ℕ) → p < 4 → q < 4 → r < 4 → s < 4 →
     (pair_at 0 (four_pairs p q r s) ≡ p) × (pair_at 1 (four_pairs p q r s) ≡ q) × (pair_at 2 (four_pairs p q r s) ≡ r) × (pair_at 3 (four_pairs p q r s) ≡ s)
 pairs_back p q r s lp lq lr ls = (omega arith, omega arith, omega arith, omega arith)
 
+-- what is gathered of the same
 pub same_gathered : (j : ℕ) {a b c d a' b' c' d' : ℕ} → a ≡ a' → b ≡ b' → c ≡ c' → d ≡ d' → gathered j a b c d ≡ gathered j a' b' c' d'
 same_gathered j p q r s = λ i. gathered j (p i) (q i) (r i) (s i)
 
@@ -148,6 +51,7 @@ front_pairs z x y e =
     let back = pairs_back (pair_at 0 x) (pair_at 1 x) (pair_at 0 y) (pair_at 1 y) (omega arith) (omega arith) (omega arith) (omega arith) in
     (ap (pair_at 0) e ∙ back.0, ap (pair_at 1) e ∙ back.1, ap (pair_at 2) e ∙ back.2, ap (pair_at 3) e ∙ back.3)
 
+-- and the others
 back_pairs : (z x y : ℕ) → z ≡ four_pairs (pair_at 2 x) (pair_at 3 x) (pair_at 2 y) (pair_at 3 y) →
     (pair_at 0 z ≡ pair_at 2 x) × (pair_at 1 z ≡ pair_at 3 x) × (pair_at 2 z ≡ pair_at 2 y) × (pair_at 3 z ≡ pair_at 3 y)
 back_pairs z x y e =
@@ -163,41 +67,52 @@ abbrev backs : List ℕ
 backs = 8 ∷ 9 ∷ 10 ∷ 11 ∷ 12 ∷ 13 ∷ 14 ∷ 15 ∷ 24 ∷ 25 ∷ 26 ∷ 27 ∷ 28 ∷ 29 ∷ 30 ∷ 31 ∷ []
 
 module _ (x y p q u w : List ℕ) (long : length p ≡ 16)
-    (first : (k : ℕ) → k < 16 → get_or p k 0 ≡ four_pairs (pair_at 0 (get_or x k 0)) (pair_at 1 (get_or x k 0)) (pair_at 0 (get_or y k 0)) (pair_at 1 (get_or y k 0)))
-    (last : (k : ℕ) → k < 16 → get_or q k 0 ≡ four_pairs (pair_at 2 (get_or x k 0)) (pair_at 3 (get_or x k 0)) (pair_at 2 (get_or y k 0)) (pair_at 3 (get_or y k 0)))
-    (even : (k : ℕ) → k < 16 → get_or u k 0 ≡ four_pairs (pair_at 0 (get_or (pick_l 0 (p ++ q) fronts) k 0)) (pair_at 0 (get_or (pick_l 0 (p ++ q) backs) k 0)) (pair_at 2 (get_or (pick_l 0 (p ++ q) fronts) k 0)) (pair_at 2 (get_or (pick_l 0 (p ++ q) backs) k 0)))
-    (odd : (k : ℕ) → k < 16 → get_or w k 0 ≡ four_pairs (pair_at 1 (get_or (pick_l 0 (p ++ q) fronts) k 0)) (pair_at 1 (get_or (pick_l 0 (p ++ q) backs) k 0)) (pair_at 3 (get_or (pick_l 0 (p ++ q) fronts) k 0)) (pair_at 3 (get_or (pick_l 0 (p ++ q) backs) k 0)))
+    (first : (k : ℕ) → k < 16 →
+    get_or p k 0 ≡ four_pairs (pair_at 0 (get_or x k 0)) (pair_at 1 (get_or x k 0)) (pair_at 0 (get_or y k 0)) (pair_at 1 (get_or y k 0)))
+    (last : (k : ℕ) → k < 16 →
+    get_or q k 0 ≡ four_pairs (pair_at 2 (get_or x k 0)) (pair_at 3 (get_or x k 0)) (pair_at 2 (get_or y k 0)) (pair_at 3 (get_or y k 0)))
+    (even : (k : ℕ) → k < 16 → get_or u k 0 ≡ four_pairs (pair_at 0 (get_or (pick_l 0 (p ++ q) fronts) k 0)) (pair_at 0 (get_or (pick_l 0 (p ++ q) backs) k 0))
+    (pair_at 2 (get_or (pick_l 0 (p ++ q) fronts) k 0)) (pair_at 2 (get_or (pick_l 0 (p ++ q) backs) k 0)))
+    (odd : (k : ℕ) → k < 16 → get_or w k 0 ≡ four_pairs (pair_at 1 (get_or (pick_l 0 (p ++ q) fronts) k 0)) (pair_at 1 (get_or (pick_l 0 (p ++ q) backs) k 0))
+    (pair_at 3 (get_or (pick_l 0 (p ++ q) fronts) k 0)) (pair_at 3 (get_or (pick_l 0 (p ++ q) backs) k 0)))
   where
     front_front : (k : ℕ) → k < 8 → get_or (pick_l 0 (p ++ q) fronts) k 0 ≡ get_or p k 0
     front_front k l = from_first p q fronts k k (omega arith) (for_eight (λ k. get_or fronts k 0 ≡ k) refl refl refl refl refl refl refl refl k l) (omega arith)
 
     front_back : (k : ℕ) → k < 8 → get_or (pick_l 0 (p ++ q) fronts) (8 + k) 0 ≡ get_or q k 0
-    front_back k l = from_second p q fronts (8 + k) k 16 (omega arith) (for_eight (λ k. get_or fronts (8 + k) 0 ≡ 16 + k) refl refl refl refl refl refl refl refl k l) long
+    front_back k l = from_second p q fronts (8 + k) k 16 (omega arith)
+        (for_eight (λ k. get_or fronts (8 + k) 0 ≡ 16 + k) refl refl refl refl refl refl refl refl k l) long
 
     back_front : (k : ℕ) → k < 8 → get_or (pick_l 0 (p ++ q) backs) k 0 ≡ get_or p (8 + k) 0
-    back_front k l = from_first p q backs k (8 + k) (omega arith) (for_eight (λ k. get_or backs k 0 ≡ 8 + k) refl refl refl refl refl refl refl refl k l) (omega arith)
+    back_front k l = from_first p q backs k (8 + k) (omega arith) (for_eight (λ k. get_or backs k 0 ≡ 8 + k) refl refl refl refl refl refl refl refl k l)
+        (omega arith)
 
     back_back : (k : ℕ) → k < 8 → get_or (pick_l 0 (p ++ q) backs) (8 + k) 0 ≡ get_or q (8 + k) 0
-    back_back k l = from_second p q backs (8 + k) (8 + k) 16 (omega arith) (for_eight (λ k. get_or backs (8 + k) 0 ≡ 16 + (8 + k)) refl refl refl refl refl refl refl refl k l) long
+    back_back k l = from_second p q backs (8 + k) (8 + k) 16 (omega arith)
+        (for_eight (λ k. get_or backs (8 + k) 0 ≡ 16 + (8 + k)) refl refl refl refl refl refl refl refl k l) long
 
     pub columns : EightColumns x y u w
     columns = record {
       first = λ k l.
           let one = front_pairs _ _ _ (first k (omega arith)) in
           let two = front_pairs _ _ _ (first (8 + k) (omega arith)) in
-          even k (omega arith) ∙ four_same (ap (pair_at 0) (front_front k l) ∙ one.0) (ap (pair_at 0) (back_front k l) ∙ two.0) (ap (pair_at 2) (front_front k l) ∙ one.2) (ap (pair_at 2) (back_front k l) ∙ two.2);
+          even k (omega arith) ∙ four_same (ap (pair_at 0) (front_front k l) ∙ one.0) (ap (pair_at 0) (back_front k l) ∙ two.0)
+          (ap (pair_at 2) (front_front k l) ∙ one.2) (ap (pair_at 2) (back_front k l) ∙ two.2);
       second = λ k l.
           let one = front_pairs _ _ _ (first k (omega arith)) in
           let two = front_pairs _ _ _ (first (8 + k) (omega arith)) in
-          odd k (omega arith) ∙ four_same (ap (pair_at 1) (front_front k l) ∙ one.1) (ap (pair_at 1) (back_front k l) ∙ two.1) (ap (pair_at 3) (front_front k l) ∙ one.3) (ap (pair_at 3) (back_front k l) ∙ two.3);
+          odd k (omega arith) ∙ four_same (ap (pair_at 1) (front_front k l) ∙ one.1) (ap (pair_at 1) (back_front k l) ∙ two.1)
+          (ap (pair_at 3) (front_front k l) ∙ one.3) (ap (pair_at 3) (back_front k l) ∙ two.3);
       third = λ k l.
           let one = back_pairs _ _ _ (last k (omega arith)) in
           let two = back_pairs _ _ _ (last (8 + k) (omega arith)) in
-          even (8 + k) (omega arith) ∙ four_same (ap (pair_at 0) (front_back k l) ∙ one.0) (ap (pair_at 0) (back_back k l) ∙ two.0) (ap (pair_at 2) (front_back k l) ∙ one.2) (ap (pair_at 2) (back_back k l) ∙ two.2);
+          even (8 + k) (omega arith) ∙ four_same (ap (pair_at 0) (front_back k l) ∙ one.0) (ap (pair_at 0) (back_back k l) ∙ two.0)
+          (ap (pair_at 2) (front_back k l) ∙ one.2) (ap (pair_at 2) (back_back k l) ∙ two.2);
       fourth = λ k l.
           let one = back_pairs _ _ _ (last k (omega arith)) in
           let two = back_pairs _ _ _ (last (8 + k) (omega arith)) in
-          odd (8 + k) (omega arith) ∙ four_same (ap (pair_at 1) (front_back k l) ∙ one.1) (ap (pair_at 1) (back_back k l) ∙ two.1) (ap (pair_at 3) (front_back k l) ∙ one.3) (ap (pair_at 3) (back_back k l) ∙ two.3);
+          odd (8 + k) (omega arith) ∙ four_same (ap (pair_at 1) (front_back k l) ∙ one.1) (ap (pair_at 1) (back_back k l) ∙ two.1)
+          (ap (pair_at 3) (front_back k l) ∙ one.3) (ap (pair_at 3) (back_back k l) ∙ two.3);
     }
 
 -- ---- of 32 octets of a slot, eight of each channel
@@ -218,12 +133,17 @@ module _ (slot o u w : List ℕ) (at : ℕ) (room : at + 32 ≤ length slot) (is
     octet ks k i m l e less place =
         from_first o o ks k i l e (omega (arith, long)) ∙ ap (λ xs. get_or xs i 0) is ∙ get_or-chunk at 32 slot i 0 less ∙ ap (λ n. get_or slot n 0) place
 
-    row : (j : ℕ) (k : ℕ) → k < 8 → gathered j (get_or (pick_l 0 (o ++ o) zeroth_ones) k 0) (get_or (pick_l 0 (o ++ o) zeroth_ones) (8 + k) 0) (get_or (pick_l 0 (o ++ o) second_ones) k 0) (get_or (pick_l 0 (o ++ o) second_ones) (8 + k) 0) ≡ gathered_at j slot (at + 4 * k)
+    row : (j : ℕ) (k : ℕ) → k < 8 → gathered j (get_or (pick_l 0 (o ++ o) zeroth_ones) k 0) (get_or (pick_l 0 (o ++ o) zeroth_ones) (8 + k) 0)
+        (get_or (pick_l 0 (o ++ o) second_ones) k 0) (get_or (pick_l 0 (o ++ o) second_ones) (8 + k) 0) ≡ gathered_at j slot (at + 4 * k)
     row j k l = same_gathered j
-        (octet zeroth_ones k (4 * k) (at + 4 * k) (omega arith) (for_eight (λ k. get_or zeroth_ones k 0 ≡ 4 * k) refl refl refl refl refl refl refl refl k l) (omega arith) refl)
-        (octet zeroth_ones (8 + k) (4 * k + 1) (at + 4 * k + 1) (omega arith) (for_eight (λ k. get_or zeroth_ones (8 + k) 0 ≡ 4 * k + 1) refl refl refl refl refl refl refl refl k l) (omega arith) (omega arith))
-        (octet second_ones k (4 * k + 2) (at + 4 * k + 2) (omega arith) (for_eight (λ k. get_or second_ones k 0 ≡ 4 * k + 2) refl refl refl refl refl refl refl refl k l) (omega arith) (omega arith))
-        (octet second_ones (8 + k) (4 * k + 3) (at + 4 * k + 3) (omega arith) (for_eight (λ k. get_or second_ones (8 + k) 0 ≡ 4 * k + 3) refl refl refl refl refl refl refl refl k l) (omega arith) (omega arith))
+        (octet zeroth_ones k (4 * k) (at + 4 * k) (omega arith) (for_eight (λ k. get_or zeroth_ones k 0 ≡ 4 * k) refl refl refl refl refl refl refl refl k l)
+        (omega arith) refl)
+        (octet zeroth_ones (8 + k) (4 * k + 1) (at + 4 * k + 1) (omega arith)
+        (for_eight (λ k. get_or zeroth_ones (8 + k) 0 ≡ 4 * k + 1) refl refl refl refl refl refl refl refl k l) (omega arith) (omega arith))
+        (octet second_ones k (4 * k + 2) (at + 4 * k + 2) (omega arith)
+        (for_eight (λ k. get_or second_ones k 0 ≡ 4 * k + 2) refl refl refl refl refl refl refl refl k l) (omega arith) (omega arith))
+        (octet second_ones (8 + k) (4 * k + 3) (at + 4 * k + 3) (omega arith)
+        (for_eight (λ k. get_or second_ones (8 + k) 0 ≡ 4 * k + 3) refl refl refl refl refl refl refl refl k l) (omega arith) (omega arith))
 
     pub of_each : EightOfEach slot at u w
     of_each = record {
@@ -250,17 +170,23 @@ module _ (a b c d xa xb xc xd u w : List ℕ) (at : ℕ) (room_a : at + 8 ≤ le
     lane : (xs ys : List ℕ) (k : ℕ) → ys ≡ chunk at 8 xs → k < 8 → get_or ys k 0 ≡ get_or xs (at + k) 0
     lane xs ys k is l = ap (λ zs. get_or zs k 0) is ∙ get_or-chunk at 8 xs k 0 l
 
-    of_first : (xs ys front back : List ℕ) (k : ℕ) → at + 8 ≤ length front → xs ≡ chunk at 8 front → k < 8 → get_or (pick_l 0 (xs ++ ys) both) k 0 ≡ get_or front (at + k) 0
+    of_first : (xs ys front back : List ℕ) (k : ℕ) → at + 8 ≤ length front → xs ≡ chunk at 8 front → k < 8 →
+        get_or (pick_l 0 (xs ++ ys) both) k 0 ≡ get_or front (at + k) 0
     of_first xs ys front back k room is l =
-        from_first xs ys both k k (omega arith) (for_eight (λ k. get_or both k 0 ≡ k) refl refl refl refl refl refl refl refl k l) (omega (arith, ap length is, length-chunk at 8 front room)) ∙ lane front xs k is l
+        from_first xs ys both k k (omega arith) (for_eight (λ k. get_or both k 0 ≡ k) refl refl refl refl refl refl refl refl k l)
+        (omega (arith, ap length is, length-chunk at 8 front room)) ∙ lane front xs k is l
 
-    of_second : (xs ys front back : List ℕ) (k : ℕ) → at + 8 ≤ length front → xs ≡ chunk at 8 front → ys ≡ chunk at 8 back → k < 8 → get_or (pick_l 0 (xs ++ ys) both) (8 + k) 0 ≡ get_or back (at + k) 0
+    of_second : (xs ys front back : List ℕ) (k : ℕ) → at + 8 ≤ length front → xs ≡ chunk at 8 front → ys ≡ chunk at 8 back → k < 8 →
+        get_or (pick_l 0 (xs ++ ys) both) (8 + k) 0 ≡ get_or back (at + k) 0
     of_second xs ys front back k room is is' l =
-        from_second xs ys both (8 + k) k 8 (omega arith) (for_eight (λ k. get_or both (8 + k) 0 ≡ 8 + k) refl refl refl refl refl refl refl refl k l) (ap length is ∙ length-chunk at 8 front room) ∙ lane back ys k is' l
+        from_second xs ys both (8 + k) k 8 (omega arith) (for_eight (λ k. get_or both (8 + k) 0 ≡ 8 + k) refl refl refl refl refl refl refl refl k l)
+        (ap length is ∙ length-chunk at 8 front room) ∙ lane back ys k is' l
 
-    column : (j k : ℕ) → k < 8 → gathered j (get_or (pick_l 0 (xa ++ xb) both) k 0) (get_or (pick_l 0 (xa ++ xb) both) (8 + k) 0) (get_or (pick_l 0 (xc ++ xd) both) k 0) (get_or (pick_l 0 (xc ++ xd) both) (8 + k) 0)
+    column : (j k : ℕ) → k < 8 → gathered j (get_or (pick_l 0 (xa ++ xb) both) k 0) (get_or (pick_l 0 (xa ++ xb) both) (8 + k) 0)
+        (get_or (pick_l 0 (xc ++ xd) both) k 0) (get_or (pick_l 0 (xc ++ xd) both) (8 + k) 0)
         ≡ gathered j (get_or a (at + k) 0) (get_or b (at + k) 0) (get_or c (at + k) 0) (get_or d (at + k) 0)
-    column j k l = same_gathered j (of_first xa xb a b k room_a is_a l) (of_second xa xb a b k room_a is_a is_b l) (of_first xc xd c d k room_c is_c l) (of_second xc xd c d k room_c is_c is_d l)
+    column j k l = same_gathered j (of_first xa xb a b k room_a is_a l) (of_second xa xb a b k room_a is_a is_b l) (of_first xc xd c d k room_c is_c l)
+        (of_second xc xd c d k room_c is_c is_d l)
 
     abbrev z : List ℕ
     z = pick_l 0 (u ++ w) in_groups
@@ -269,18 +195,25 @@ module _ (a b c d xa xb xc xd u w : List ℕ) (at : ℕ) (room_a : at + 8 ≤ le
     At n = (k : ℕ) → k < 8 → get_or z (4 * k + n) 0 ≡ gathered n (get_or a (at + k) 0) (get_or b (at + k) 0) (get_or c (at + k) 0) (get_or d (at + k) 0)
 
     at_0 : At 0
-    at_0 k l = from_first u w in_groups (4 * k + 0) k (omega arith) (for_eight (λ k. get_or in_groups (4 * k + 0) 0 ≡ k) refl refl refl refl refl refl refl refl k l) (omega (arith, long)) ∙ turned.first k l ∙ column 0 k l
+    at_0 k l = from_first u w in_groups (4 * k + 0) k (omega arith)
+        (for_eight (λ k. get_or in_groups (4 * k + 0) 0 ≡ k) refl refl refl refl refl refl refl refl k l) (omega (arith, long)) ∙ turned.first k l
+        ∙ column 0 k l
 
     at_1 : At 1
-    at_1 k l = from_second u w in_groups (4 * k + 1) k 16 (omega arith) (for_eight (λ k. get_or in_groups (4 * k + 1) 0 ≡ 16 + k) refl refl refl refl refl refl refl refl k l) long ∙ turned.second k l ∙ column 1 k l
+    at_1 k l = from_second u w in_groups (4 * k + 1) k 16 (omega arith)
+        (for_eight (λ k. get_or in_groups (4 * k + 1) 0 ≡ 16 + k) refl refl refl refl refl refl refl refl k l) long ∙ turned.second k l ∙ column 1 k l
 
     at_2 : At 2
-    at_2 k l = from_first u w in_groups (4 * k + 2) (8 + k) (omega arith) (for_eight (λ k. get_or in_groups (4 * k + 2) 0 ≡ 8 + k) refl refl refl refl refl refl refl refl k l) (omega (arith, long)) ∙ turned.third k l ∙ column 2 k l
+    at_2 k l = from_first u w in_groups (4 * k + 2) (8 + k) (omega arith)
+        (for_eight (λ k. get_or in_groups (4 * k + 2) 0 ≡ 8 + k) refl refl refl refl refl refl refl refl k l) (omega (arith, long)) ∙ turned.third k l
+        ∙ column 2 k l
 
     at_3 : At 3
-    at_3 k l = from_second u w in_groups (4 * k + 3) (8 + k) 16 (omega arith) (for_eight (λ k. get_or in_groups (4 * k + 3) 0 ≡ 16 + (8 + k)) refl refl refl refl refl refl refl refl k l) long ∙ turned.fourth k l ∙ column 3 k l
+    at_3 k l = from_second u w in_groups (4 * k + 3) (8 + k) 16 (omega arith)
+        (for_eight (λ k. get_or in_groups (4 * k + 3) 0 ≡ 16 + (8 + k)) refl refl refl refl refl refl refl refl k l) long ∙ turned.fourth k l ∙ column 3 k l
 
-    pub groups : (i : ℕ) → i < 32 → get_or z i 0 ≡ gathered (i % 4) (get_or a (at + i / 4) 0) (get_or b (at + i / 4) 0) (get_or c (at + i / 4) 0) (get_or d (at + i / 4) 0)
+    pub groups : (i : ℕ) → i < 32 →
+        get_or z i 0 ≡ gathered (i % 4) (get_or a (at + i / 4) 0) (get_or b (at + i / 4) 0) (get_or c (at + i / 4) 0) (get_or d (at + i / 4) 0)
     groups i l =
         let place : i ≡ 4 * (i / 4) + i % 4 = omega arith in
         ap (λ m. get_or z m 0) place ∙ for_four At at_0 at_1 at_2 at_3 (i % 4) (omega arith) (i / 4) (omega arith)

@@ -7,7 +7,7 @@ use Rattle.trau_io.specs.declared.line.Line.{Line}
 use Rattle.trau_io.specs.Lines.{LineState, OthersStay}
 use Rattle.trau_io.specs.Transfer.{WritesAll}
 use Rattle.trau_submux.specs.Lines.{AllButFour, Gains, GainsFront, channel_lines}
-use Rattle.trau_submux.specs.Writing.{FailsAt, WritesFour}
+use Rattle.trau_submux.specs.Writing.{WritesFour}
 
 -- the first `n` of the four lines have gained their octets
 pub record WrittenSoFar (before now : ℕ → Side → LineState) (call : ℕ) (sent : ℕ → List ℕ) (n : ℕ) : Type 0 where
@@ -22,7 +22,8 @@ at_start lines call sent = record {
   others = λ c s not. refl;
 }
 
-module _ (before now after : ℕ → Side → LineState) (call : ℕ) (sent : ℕ → List ℕ) (n : ℕ) (few : n < 4) (so_far : WrittenSoFar before now call sent n) (others : OthersStay now after (call + n) Down) where
+module _ (before now after : ℕ → Side → LineState) (call : ℕ) (sent : ℕ → List ℕ) (n : ℕ) (few : n < 4) (so_far : WrittenSoFar before now call sent n)
+    (others : OthersStay now after (call + n) Down) where
   -- the line is as it was before its turn
   fresh : now (call + n) Down ≡ before (call + n) Down
   fresh = so_far.rest n (omega arith)
@@ -61,7 +62,8 @@ module _ (before now after : ℕ → Side → LineState) (call : ℕ) (sent : �
     record {
       one = few;
       before = earlier;
-      here = subst (λ l. GainsFront l (after (call + n) Down) (sent n)) fresh (record { count = writes.err.0; proper = writes.err.1; written = writes.err.2; to_come = writes.to_come; rose = writes.cause.failed });
+      here = subst (λ l. GainsFront l (after (call + n) Down) (sent n)) fresh
+          (record { count = writes.err.0; proper = writes.err.1; written = writes.err.2; to_come = writes.to_come; rose = writes.cause.failed });
       behind = λ j above small. later j above;
     },
   )

@@ -1,6 +1,6 @@
 -- Four channels that are put together to a slot: from the octets of four lines to those of one.
 use Rattle.std.specs.Prelude.{◌≡◌, ◌⊎◌, ℕ, ◌+◌, ◌*◌, ◌-◌, ◌/◌, ◌^◌, ◌<◌, ◌≤◌, List, [], ◌++◌, length, take, slice_index, slice_index_or, Result, Ok, Err}
-use Rattle.std.specs.Io.KnownBytes.{Appends, IsAtEnd}
+use Rattle.std.specs.Io.KnownBytes.{IsAtEnd}
 use Rattle.trau_io.specs.declared.line.Failed.{Failed}
 use Rattle.trau_io.specs.declared.line.Line.{Line}
 use Rattle.trau_io.specs.declared.line.Side.TheVariants.{Up, Out}
@@ -65,7 +65,8 @@ pub record Takes (ups ups' : ℕ → LineState) : Type 0 where
 -- one block: it was whole on all four lines, one of them was short, or a line failed
 abbrev pub BlockEndsAs : (ℕ → LineState) → (ℕ → LineState) → LineState → LineState → ℕ → BlockEnd → Type 0
 BlockEndsAs ups ups' out out' call block.Whole = (t : Takes ups ups') × (t.used ≡ 40) × Gains out out' t.octets
-BlockEndsAs ups ups' out out' call (block.Ended counts) = (t : Takes ups ups') × (t.used < 40) × ((j : ℕ) → j < 4 → slice_index counts j ≡ length (t.given j)) × Gains out out' t.octets
+BlockEndsAs ups ups' out out' call (block.Ended counts) =
+    (t : Takes ups ups') × (t.used < 40) × ((j : ℕ) → j < 4 → slice_index counts j ≡ length (t.given j)) × Gains out out' t.octets
 BlockEndsAs ups ups' out out' call (block.Failed line) =
     ((k : ℕ) × (line.call ≡ call + k) × (line.side ≡ Up) × FailsAt ups ups' k × (out' ≡ out))
     ⊎ ((t : Takes ups ups') × (line.call ≡ call) × (line.side ≡ Out) × GainsFront out out' t.octets)
@@ -79,9 +80,11 @@ pub record AreRead (ups' : ℕ → LineState) (given : ℕ → List ℕ) (used :
   pub fewest : IsFewest given used
   pub few : used ≤ most_of_channel
   pub last : ((used ≡ most_of_channel) × ((j : ℕ) → j < 4 → length (given j) ≡ used))
-      ⊎ ((used < most_of_channel) × ((j : ℕ) → j < 4 → (length (given j) ≡ 40 * (used / 40 + 1)) ⊎ ((length (given j) < 40 * (used / 40 + 1)) × IsAtEnd (ups' j).to_come)))
+      ⊎ ((used < most_of_channel)
+      × ((j : ℕ) → j < 4 → (length (given j) ≡ 40 * (used / 40 + 1)) ⊎ ((length (given j) < 40 * (used / 40 + 1)) × IsAtEnd (ups' j).to_come)))
 
--- the shortest line came to its end, or so many octets were taken that no more are; the slot gained what as many octets of each line make, and what is left of each is told
+-- the shortest line came to its end, or so many octets were taken that no more are; the slot gained what as many octets of
+-- each line make, and what is left of each is told
 pub record EndsChannels (ups ups' : ℕ → LineState) (out out' : LineState) (given : ℕ → List ℕ) (octets : ℕ) (left : List ℕ) : Type 0 where
   pub used : ℕ
   pub read : AreRead ups' given used

@@ -1,5 +1,5 @@
 -- A slot that is cut into its channels: from the octets of one line to those of four.
-use Rattle.std.specs.Prelude.{◌≡◌, ◌⊎◌, ℕ, ◌+◌, ◌*◌, ◌/◌, ◌%◌, ◌<◌, ◌≤◌, List, [], ◌++◌, length, take}
+use Rattle.std.specs.Prelude.{◌≡◌, ◌⊎◌, ℕ, ◌+◌, ◌*◌, ◌/◌, ◌%◌, ◌<◌, ◌≤◌, List, ◌++◌, length, take}
 use Rattle.std.specs.Io.KnownBytes.{IsAtEnd}
 use Rattle.trau_io.specs.declared.line.Line.{Line}
 use Rattle.trau_io.specs.declared.line.Side.TheVariants.{Pcm, Down}
@@ -27,14 +27,16 @@ BlockEndsAs pcm pcm' downs downs' call given (block.Ended count) =
     (length given ≡ count) × (count < 160) × IsAtEnd pcm'.to_come × (pcm'.faults ≡ pcm.faults) × GainChannels downs downs' (whole_groups given)
 BlockEndsAs pcm pcm' downs downs' call given (block.Failed line) =
     ((line.call ≡ call) × (line.side ≡ Pcm) × (length given < 160) × Rose pcm.faults pcm'.faults × ((j : ℕ) → j < 4 → downs' j ≡ downs j))
-    ⊎ ((k : ℕ) × (line.call ≡ call + k) × (line.side ≡ Down) × (length given ≤ 160) × (length given < 160 → IsAtEnd pcm'.to_come) × (pcm'.faults ≡ pcm.faults) × FailsAt downs downs' (λ j. channel j (whole_groups given)) k)
+    ⊎ ((k : ℕ) × (line.call ≡ call + k) × (line.side ≡ Down) × (length given ≤ 160) × (length given < 160 → IsAtEnd pcm'.to_come) × (pcm'.faults ≡ pcm.faults)
+    × FailsAt downs downs' (λ j. channel j (whole_groups given)) k)
 
 pub record SplitsBlock (pcm pcm' : LineState) (downs downs' : ℕ → LineState) (call : ℕ) (end : BlockEnd) : Type 0 where
   pub given : List ℕ
   pub gives : Gives pcm pcm' given
   pub ends : BlockEndsAs pcm pcm' downs downs' call given end
 
--- the slot's line came to its end, or so many octets were taken that no more are; each channel's line gained its channel of the whole groups of four, and what is left is told
+-- the slot's line came to its end, or so many octets were taken that no more are; each channel's line gained its channel of
+-- the whole groups of four, and what is left is told
 pub record EndsSlot (pcm pcm' : LineState) (downs downs' : ℕ → LineState) (given : List ℕ) (octets left : ℕ) : Type 0 where
   pub at_end : IsAtEnd pcm'.to_come ⊎ (length given ≡ most_octets)
   pub octets_are : octets ≡ length (whole_groups given)
@@ -51,7 +53,8 @@ pub record FailsToRead (pcm pcm' : LineState) (downs downs' : ℕ → LineState)
   pub gained : GainChannels downs downs' blocks
   pub rose : Rose pcm.faults pcm'.faults
 
--- the line of a channel failed: the lines before it gained their channels of this block too, it gained a proper front of that, and the lines behind it what they had gained of the blocks before
+-- the line of a channel failed: the lines before it gained their channels of this block too, it gained a proper front of
+-- that, and the lines behind it what they had gained of the blocks before
 pub record FailsToWrite (pcm pcm' : LineState) (downs downs' : ℕ → LineState) (call : ℕ) (blocks last : List ℕ) (line : Line) : Type 0 where
   pub failed : ℕ
   pub number : line.call ≡ call + failed

@@ -5,10 +5,14 @@ use Rattle.trau_submux.specs.Pairs.{gathered}
 -- The columns of eight squares. Lanes 0 to 7 of x are their first rows and lanes 8 to 15 the second ones, those of y the third
 -- and the fourth ones; u has the first and the third columns in the same way, and w the second and the fourth ones.
 pub record EightColumns (x y u w : List ℕ) : Type 0 where
-  pub first : (k : ℕ) → k < 8 → slice_index_or u k 0 ≡ gathered 0 (slice_index_or x k 0) (slice_index_or x (8 + k) 0) (slice_index_or y k 0) (slice_index_or y (8 + k) 0)
-  pub second : (k : ℕ) → k < 8 → slice_index_or w k 0 ≡ gathered 1 (slice_index_or x k 0) (slice_index_or x (8 + k) 0) (slice_index_or y k 0) (slice_index_or y (8 + k) 0)
-  pub third : (k : ℕ) → k < 8 → slice_index_or u (8 + k) 0 ≡ gathered 2 (slice_index_or x k 0) (slice_index_or x (8 + k) 0) (slice_index_or y k 0) (slice_index_or y (8 + k) 0)
-  pub fourth : (k : ℕ) → k < 8 → slice_index_or w (8 + k) 0 ≡ gathered 3 (slice_index_or x k 0) (slice_index_or x (8 + k) 0) (slice_index_or y k 0) (slice_index_or y (8 + k) 0)
+  pub first : (k : ℕ) → k < 8 →
+      slice_index_or u k 0 ≡ gathered 0 (slice_index_or x k 0) (slice_index_or x (8 + k) 0) (slice_index_or y k 0) (slice_index_or y (8 + k) 0)
+  pub second : (k : ℕ) → k < 8 →
+      slice_index_or w k 0 ≡ gathered 1 (slice_index_or x k 0) (slice_index_or x (8 + k) 0) (slice_index_or y k 0) (slice_index_or y (8 + k) 0)
+  pub third : (k : ℕ) → k < 8 →
+      slice_index_or u (8 + k) 0 ≡ gathered 2 (slice_index_or x k 0) (slice_index_or x (8 + k) 0) (slice_index_or y k 0) (slice_index_or y (8 + k) 0)
+  pub fourth : (k : ℕ) → k < 8 →
+      slice_index_or w (8 + k) 0 ≡ gathered 3 (slice_index_or x k 0) (slice_index_or x (8 + k) 0) (slice_index_or y k 0) (slice_index_or y (8 + k) 0)
 
 -- an octet of channel j, of the four octets of a slot from this place on
 abbrev pub gathered_at : ℕ → List ℕ → ℕ → ℕ

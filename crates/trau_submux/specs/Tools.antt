@@ -1,5 +1,5 @@
 -- The commands `split` and `merge`: their texts, their ends, why each comes, and what they leave without faults (this project's profile).
-use Rattle.std.specs.Prelude.{◌≡◌, ◌⊎◌, ℕ, ◌+◌, ◌*◌, ◌-◌, ◌/◌, ◌%◌, ◌^◌, ◌<◌, List, ◌++◌, length, take, drop, slice_index, codes, decimal, Some, Ok, Err}
+use Rattle.std.specs.Prelude.{◌≡◌, ◌⊎◌, ℕ, ◌+◌, ◌*◌, ◌-◌, ◌%◌, ◌<◌, List, ◌++◌, length, take, drop, slice_index, codes, decimal, Some, Ok, Err}
 use Rattle.trau_io.specs.declared.line.Side.{Side}
 use Rattle.trau_io.specs.declared.line.Side.TheVariants.{Up, Pcm, Down, Out}
 use Rattle.trau_io.specs.Lines.{LineState, Rose}
@@ -30,7 +30,8 @@ two_text first second = codes " " ++ (decimal first ++ (codes " " ++ decimal sec
 -- the text of a merge's end: the octets of the slot that were written, and what is left of each channel's line
 abbrev pub merge_text : MergeEnd → List ℕ
 merge_text (merge.Done octets left) =
-    codes "merge octets " ++ (decimal octets ++ (codes " left" ++ (two_text (slice_index left 0) (slice_index left 1) ++ (two_text (slice_index left 2) (slice_index left 3) ++ codes "\n"))))
+    codes "merge octets " ++ (decimal octets ++ (codes " left"
+    ++ (two_text (slice_index left 0) (slice_index left 1) ++ (two_text (slice_index left 2) (slice_index left 3) ++ codes "\n"))))
 merge_text (merge.LineFailed line) = failed_text line.call line.side
 
 -- the end of the tool is that of its work
@@ -71,10 +72,12 @@ pub record SlotCauses (slot slot' : LineState) (channels channels' : ℕ → Lin
   pub channel_rose : (j : ℕ) → j < 4 → (channels j).faults < (channels' j).faults → (status ≡ 4) ⊎ (status ≡ 6)
 
 abbrev pub SplitCauses : (ℕ → Side → LineState) → (ℕ → Side → LineState) → DeskState → DeskState → ℕ → ℕ → Type 0
-SplitCauses before now desk desk' call status = SlotCauses (before call Pcm) (now call Pcm) (channel_lines before call Down) (channel_lines now call Down) desk desk' status
+SplitCauses before now desk desk' call status =
+    SlotCauses (before call Pcm) (now call Pcm) (channel_lines before call Down) (channel_lines now call Down) desk desk' status
 
 abbrev pub MergeCauses : (ℕ → Side → LineState) → (ℕ → Side → LineState) → DeskState → DeskState → ℕ → ℕ → Type 0
-MergeCauses before now desk desk' call status = SlotCauses (before call Out) (now call Out) (channel_lines before call Up) (channel_lines now call Up) desk desk' status
+MergeCauses before now desk desk' call status =
+    SlotCauses (before call Out) (now call Out) (channel_lines before call Up) (channel_lines now call Up) desk desk' status
 
 -- no count of these lines rose, nor that of the desk's writing
 pub record AreCalm (slot slot' : LineState) (channels channels' : ℕ → LineState) (desk desk' : DeskState) : Type 0 where
@@ -83,20 +86,24 @@ pub record AreCalm (slot slot' : LineState) (channels channels' : ℕ → LineSt
   pub desk_calm : IsCalm desk.write_faults desk'.write_faults
 
 -- what `split` leaves of a slot that held `octets`: each channel's line has gained its channel of the whole groups of four, and the desk the text
-pub record LeavesSplit (pcm' : LineState) (downs' : ℕ → LineState) (desk' : DeskState) (octets : List ℕ) (held : ℕ → List ℕ) (text : List ℕ) (status : ℕ) : Type 0 where
+pub record LeavesSplit (pcm' : LineState) (downs' : ℕ → LineState) (desk' : DeskState) (octets : List ℕ) (held : ℕ → List ℕ) (text : List ℕ)
+    (status : ℕ) : Type 0 where
   pub slot_holds : pcm'.to_come ≡ Some (drop most_octets octets)
   pub channels_hold : (j : ℕ) → j < 4 → (downs' j).written ≡ Some (held j ++ channel j (whole_groups (take most_octets octets)))
-  pub desk_holds : desk'.written ≡ Some (text ++ split_text (split.Done (length (whole_groups (take most_octets octets))) (length (take most_octets octets) % 4)))
+  pub desk_holds : desk'.written
+      ≡ Some (text ++ split_text (split.Done (length (whole_groups (take most_octets octets))) (length (take most_octets octets) % 4)))
   pub done : status ≡ 0
 
 -- the command where nothing failed, of lines and a desk that tell what they hold
 abbrev pub CleanSplit : (ℕ → Side → LineState) → (ℕ → Side → LineState) → DeskState → DeskState → ℕ → ℕ → Type 0
 CleanSplit before now desk desk' call status =
     AreCalm (before call Pcm) (now call Pcm) (channel_lines before call Down) (channel_lines now call Down) desk desk' →
-    (octets text : List ℕ) (held : ℕ → List ℕ) → (before call Pcm).to_come ≡ Some octets → ((j : ℕ) → j < 4 → (before (call + j) Down).written ≡ Some (held j)) → desk.written ≡ Some text →
+    (octets text : List ℕ) (held : ℕ → List ℕ) → (before call Pcm).to_come ≡ Some octets →
+    ((j : ℕ) → j < 4 → (before (call + j) Down).written ≡ Some (held j)) → desk.written ≡ Some text →
     LeavesSplit (now call Pcm) (channel_lines now call Down) desk' octets held text status
 
--- what `merge` leaves of four lines that held `lists`: the slot has gained the octets that as many of each line make as the shortest of them has, and the desk the text
+-- what `merge` leaves of four lines that held `lists`: the slot has gained the octets that as many of each line make as the
+-- shortest of them has, and the desk the text
 pub record LeavesMerge (ups' : ℕ → LineState) (out' : LineState) (desk' : DeskState) (lists : ℕ → List ℕ) (held text : List ℕ) (status : ℕ) : Type 0 where
   pub given : ℕ → List ℕ
   pub rest : ℕ → List ℕ
@@ -115,5 +122,6 @@ pub record LeavesMerge (ups' : ℕ → LineState) (out' : LineState) (desk' : De
 abbrev pub CleanMerge : (ℕ → Side → LineState) → (ℕ → Side → LineState) → DeskState → DeskState → ℕ → ℕ → Type 0
 CleanMerge before now desk desk' call status =
     AreCalm (before call Out) (now call Out) (channel_lines before call Up) (channel_lines now call Up) desk desk' →
-    (lists : ℕ → List ℕ) (held text : List ℕ) → ((j : ℕ) → j < 4 → (before (call + j) Up).to_come ≡ Some (lists j)) → (before call Out).written ≡ Some held → desk.written ≡ Some text →
+    (lists : ℕ → List ℕ) (held text : List ℕ) → ((j : ℕ) → j < 4 → (before (call + j) Up).to_come ≡ Some (lists j)) → (before call Out).written ≡ Some held →
+    desk.written ≡ Some text →
     LeavesMerge (channel_lines now call Up) (now call Out) desk' lists held text status

@@ -21,11 +21,11 @@ pub fn split4(slot: &[u8; 160], subs: &mut [[u8; 40]; 4])
     let mut fourth = [0; 40];
     for part in 0..5 {
         let at = 8 * part;
-        let (odd, even) = eight_of_each(slot, 4 * at);
-        put_eight(&mut first, at, odd.extract::<0, 8>());
-        put_eight(&mut second, at, even.extract::<0, 8>());
-        put_eight(&mut third, at, odd.extract::<8, 8>());
-        put_eight(&mut fourth, at, even.extract::<8, 8>());
+        let (first_third, second_fourth) = eight_of_each(slot, 4 * at);
+        put_eight(&mut first, at, first_third.extract::<0, 8>());
+        put_eight(&mut second, at, second_fourth.extract::<0, 8>());
+        put_eight(&mut third, at, first_third.extract::<8, 8>());
+        put_eight(&mut fourth, at, second_fourth.extract::<8, 8>());
     }
     *subs = [first, second, third, fourth];
 }

@@ -98,7 +98,7 @@ pub(crate) fn eight_groups(
     ensures octets { (i : ℕ) → i < 32 → slice_index result i ≡
         gathered (i % 4) (slice_index first.now (at + i / 4)) (slice_index second.now (at + i / 4)) (slice_index third.now (at + i / 4)) (slice_index fourth.now (at + i / 4)) }
 {
-    let (odd, even) = turned(
+    let (first_third, second_fourth) = turned(
         eight_at(first, at).shuffle(
             eight_at(second, at),
             [0, 1, 2, 3, 4, 5, 6, 7, 8, 9, 10, 11, 12, 13, 14, 15],
@@ -108,8 +108,8 @@ pub(crate) fn eight_groups(
             [0, 1, 2, 3, 4, 5, 6, 7, 8, 9, 10, 11, 12, 13, 14, 15],
         ),
     );
-    odd.shuffle(
-        even,
+    first_third.shuffle(
+        second_fourth,
         [
             0, 16, 8, 24, 1, 17, 9, 25, 2, 18, 10, 26, 3, 19, 11, 27, 4, 20, 12, 28, 5, 21, 13, 29,
             6, 22, 14, 30, 7, 23, 15, 31,

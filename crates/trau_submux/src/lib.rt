@@ -7,8 +7,10 @@
 //!
 //! Source: CCITT I.460 (fixed positions of subchannels of 16 kbit/s), as GSM 08.60 uses it between a base station and
 //! its transcoder; the commands and their texts are this project's profile.
-//! Definitions: `specs/Channels.antt` (which bits are a channel's), `specs/Splits.antt` and `specs/Merges.antt` (what moves
-//! from line to line), `specs/Tools.antt` (texts, ends and their causes, and what is left where nothing fails).
+//! Definitions: `specs/Channels.antt` (which bits are a channel's), `specs/Pairs.antt` and `specs/Squares.antt` (the same by
+//! pairs of bits, and of eight groups of octets at a time, as `lanes` works them), `specs/Lines.antt`, `specs/Writing.antt`,
+//! `specs/Splits.antt` and `specs/Merges.antt` (what moves from line to line), `specs/Tools.antt` (texts, ends and their
+//! causes, and what is left where nothing fails).
 #![tactic(auto)]
 
 mod cut;

@@ -6,20 +6,16 @@ ghost use Rattle.trau_submux.specs.Tools.{merge_text, split_text, two_text};
 use crate::cut::SplitEnd;
 use crate::join::MergeEnd;
 use arrayvec::ArrayString;
+use farm_tools::failed_line;
 use itoa::Buffer;
 use trau_io::Line;
 
 // The text of a line that failed.
-fn failed_line(line: Line) -> ArrayString<128>
+fn text_of_failed(line: Line) -> ArrayString<128>
     ensures { result.bytes ≡ failed_text line.call line.side }
 {
-    let mut digits = Buffer::new();
     let mut text = ArrayString::new();
-    text.push_str("line ");
-    text.push_str(digits.format(line.call));
-    text.push_str(" ");
-    text.push_str(line.side.word());
-    text.push_str(" failed\n");
+    text.push_str(failed_line(line.call, line.side).as_str());
     text
 }
 
@@ -38,7 +34,7 @@ pub(crate) fn text_of_split(end: SplitEnd) -> ArrayString<128>
             text.push_str("\n");
             text
         }
-        SplitEnd::LineFailed(line) => failed_line(line),
+        SplitEnd::LineFailed(line) => text_of_failed(line),
     }
 }
 
@@ -72,6 +68,6 @@ pub(crate) fn text_of_merge(end: MergeEnd) -> ArrayString<128>
             text.push_str("\n");
             text
         }
-        MergeEnd::LineFailed(line) => failed_line(line),
+        MergeEnd::LineFailed(line) => text_of_failed(line),
     }
 }

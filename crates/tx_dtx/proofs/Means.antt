@@ -10,6 +10,7 @@ use Rattle.trau_params.specs.Fields.{Fields}
 use Rattle.fr_lpc.specs.Ratios.{ratio_codes}
 use Rattle.fr_rpe.specs.Quantisation.{coded_maximum}
 
+-- sums of four, as the code adds them
 four : (a b c d : ℤ) → (a +ℤ b) +ℤ (c +ℤ d) ≡ total (a ∷ b ∷ c ∷ d ∷ [])
 four a b c d = omega (arith, ints)
 
@@ -38,6 +39,7 @@ total-not_negative (x ∷ xs) a =
     let t = total-not_negative xs (All-tail (λ x. pos 0 ≤ℤ x) x xs a) in
     omega (arith, ints)
 
+-- frames are the same where their fields are
 abbrev fields : List ℕ → List ℕ → List ℕ → List ℕ → List ℕ → List (List ℕ) → Fields
 fields larc nc bc mc xmaxc xmc = record { larc = larc; nc = nc; bc = bc; mc = mc; xmaxc = xmaxc; xmc = xmc }
 

@@ -1,29 +1,10 @@
 -- The transmit side from frame to frame (this project's profile, in the manner of GSM 06.31 and GSM 06.12).
-use Rattle.std.specs.Prelude.{◌≡◌, ℕ, ◌+◌, ◌<◌, pos, Bool, false, if◌then◌else◌, ◌==◌, nat_le, min, Option, None, is_none, IfSome, Some, List, ◌∷◌, ◌++◌, map, take, replicate}
+use Rattle.std.specs.Prelude.{ℕ, ◌+◌, Bool, false, if◌then◌else◌, ◌==◌, nat_le, min, List, ◌∷◌, take}
 use Rattle.trau_params.specs.Fields.{Fields}
 use Rattle.tx_dtx.specs.Stretch.{Measures, Coded, is_active, Sent}
 use Rattle.tx_dtx.specs.SilenceDescriptor.{sid_of}
-use Rattle.tx_dtx.specs.Sent.{SidPlace, pause_of, latest_place, before_pause, sid_used, itself}
-
--- What is kept: how many inactive frames came without a break, 5 at most; how many frames since the last SID was made,
--- 24 at most; whether the last pause sends its frames themselves; the last SID; the measures of the last three frames.
-pub record TxMemory : Type 0 where
-  pub run : ℕ
-  pub elapsed : ℕ
-  pub hangs : Bool
-  pub sid : Fields
-  pub recent : List Measures
-
--- measures and parameters of 0
-abbrev pub no_measures : Measures
-no_measures = record { lar = replicate 8 (pos 0); xmax = replicate 4 (pos 0) }
-
-abbrev pub no_fields : Fields
-no_fields = record { larc = replicate 8 0; nc = replicate 4 0; bc = replicate 4 0; mc = replicate 4 0; xmaxc = replicate 4 0; xmc = replicate 4 (replicate 13 0) }
-
--- the memory at home
-abbrev pub home_memory : TxMemory
-home_memory = record { run = 0; elapsed = 24; hangs = false; sid = no_fields; recent = replicate 3 no_measures }
+use Rattle.tx_dtx.specs.Sent.{itself}
+use Rattle.tx_dtx.specs.Memory.{TxMemory}
 
 -- one frame more since the last SID
 abbrev pub later : ℕ → ℕ
@@ -75,19 +56,5 @@ unfoldable pub taken : TxMemory → Coded → Sent × TxMemory
 taken m f = if is_active f then (itself f.fields, after_active m) else paused m f.fields f.measures
 
 -- one frame: what is sent of it, and the memory after it
-unfoldable pub stepped : TxMemory → Coded → Sent × TxMemory
-stepped m f = let step = taken m f in (step.0, remembered step.1 f.measures)
-
--- how many frames since the last SID was made, 24 at most, and 24 before any
-abbrev pub elapsed_of : Option SidPlace → ℕ
-elapsed_of None = 24
-elapsed_of (Some place) = min place.since 24
-
--- the memory is that of these frames from home
-pub record Stands (past : List Coded) (m : TxMemory) : Type 0 where
-  pub run : m.run ≡ min (pause_of past) 5
-  pub elapsed : m.elapsed ≡ elapsed_of (latest_place past)
-  -- within a pause, whether it sends its frames themselves
-  pub hangs : 0 < pause_of past → m.hangs ≡ is_none (sid_used (before_pause past))
-  pub sid : IfSome (latest_place past) (λ place. m.sid ≡ sid_of place.four)
-  pub recent : m.recent ≡ take 3 (map (λ f. f.measures) past ++ replicate 3 no_measures)
+unfoldable pub next_sent : TxMemory → Coded → Sent × TxMemory
+next_sent m f = let step = taken m f in (step.0, remembered step.1 f.measures)

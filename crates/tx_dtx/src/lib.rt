@@ -7,8 +7,9 @@
 //! old. Voice activity is a level: a frame is active where its peak reaches it.
 //!
 //! `tx` has what is kept from frame to frame, `sid` makes a SID. Definitions: `specs/Sent.antt` (what is sent of a whole
-//! stretch, by looking back), `specs/SilenceDescriptor.antt`, `specs/Stretch.antt` (what a frame is), `specs/Step.antt`
-//! (from frame to frame). Used by a call's leg.
+//! stretch, by looking back), `specs/SilenceDescriptor.antt`, `specs/Stretch.antt` (what a frame is), `specs/Memory.antt`,
+//! `specs/Step.antt` and `specs/Stands.antt` (what is kept, one frame, and what the memory stands for). Used by a call's
+//! leg.
 #![tactic(auto)]
 
 mod sid;

@@ -4,7 +4,9 @@ ghost use Rattle.std.specs.Prelude.{◌≡◌, ◌≤◌, List, [], ◌∷◌};
 ghost use Rattle.trau_params.specs.Fields.{fields_of};
 ghost use Rattle.tx_dtx.specs.Stretch.{Coded, coded_frame, measures_of, is_active_at, sent_frame};
 ghost use Rattle.tx_dtx.specs.Sent.{sent_of};
-ghost use Rattle.tx_dtx.specs.Step.{home_memory, after_active, hangs_at, described, early, paused, taken, remembered, stepped, Stands};
+ghost use Rattle.tx_dtx.specs.Memory.{home_memory};
+ghost use Rattle.tx_dtx.specs.Step.{after_active, hangs_at, described, early, paused, taken, remembered, next_sent};
+ghost use Rattle.tx_dtx.specs.Stands.{Stands};
 
 use crate::sid::sid;
 use std::marker::Model;
@@ -31,7 +33,7 @@ impl Model for Tx {
     ghost use Rattle.std.specs.Prelude.{◌≤◌, [], ◌∷◌};
     ghost use Rattle.trau_params.specs.Fields.{fields_of};
     ghost use Rattle.tx_dtx.specs.Stretch.{measures_of};
-    ghost use Rattle.tx_dtx.specs.Step.{TxMemory};
+    ghost use Rattle.tx_dtx.specs.Memory.{TxMemory};
 
     ghost Value = { TxMemory };
 
@@ -143,7 +145,7 @@ impl Tx {
     /// Takes the parameters of a coded frame, its measures and the peak of its samples, with the level and whether DTX
     /// is on: what is sent of it, and SP, which is 1 where that is speech.
     pub fn send(&mut self, p: &Params, t: &Trace, peak: i16, level: i16, on: bool) -> (Params, bool)
-        ensures step { stepped self.old (coded_frame p.now t.now peak level on) ≡ (sent_frame result.0 result.1, self.new) }
+        ensures step { next_sent self.old (coded_frame p.now t.now peak level on) ≡ (sent_frame result.0 result.1, self.new) }
 
         // After the frames of any past, this one is sent as its stretch says.
         ensures history { (past : List Coded) → Stands past self.old →

@@ -1,4 +1,4 @@
-// A desk that gives its text in pieces.
+//! A desk that gives its text in pieces.
 ghost use Rattle.std.specs.Prelude.{None};
 ghost use Rattle.trau_io.specs.Desks.{DeskState};
 

@@ -1,4 +1,4 @@
-// The names of the lines' files.
+//! The names of the lines' files.
 ghost use Rattle.std.specs.Prelude.{◌≡◌};
 ghost use Rattle.trau_files.specs.Files.{file_name};
 

@@ -1,4 +1,5 @@
-// A desk in memory.
+//! A desk in memory.
+
 ghost use Rattle.std.specs.Prelude.{◌≡◌, ◌<◌, [], length, IfOk};
 ghost use Rattle.trau_io.specs.Desks.{DeskReads, DeskWrites};
 ghost use Rattle.trau_io.specs.Memory.{MemoryLine, new_line, desk_of, read_answer, write_answer, after_read, after_write};

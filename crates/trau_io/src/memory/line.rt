@@ -1,4 +1,5 @@
-// One line in memory.
+//! One line in memory.
+
 ghost use Rattle.std.specs.Prelude.{◌≡◌, ◌+◌, ◌<◌, ◌≤◌, [], drop, vec_len, vec_capacity, length, IfOk, IsErr};
 ghost use Rattle.trau_io.specs.Lines.{Reads, Writes};
 ghost use Rattle.trau_io.specs.Memory.{MemoryLine, new_line, is_failing, cut_of, state_of, read_answer, write_answer, after_read, after_write};
@@ -7,7 +8,7 @@ use crate::Failed;
 use std::alloc::{AllocError, Global};
 use std::marker::Model;
 
-/// A line in memory: what it gives and takes, and which of its calls are cut or fail.
+/// A line in memory: what it gives and takes, and which of its operations are cut or fail.
 #[derive(Drop)]
 pub struct MemLine {
     contents: Vec<u8>,
@@ -29,7 +30,7 @@ impl Model for MemLine {
 }
 
 impl MemLine {
-    /// A line before its first call, with room for `room` octets more.
+    /// A line before its first operation, with room for `room` octets more.
     pub fn new(
         alloc: Global,
         contents: Vec<u8>,
@@ -74,7 +75,7 @@ impl MemLine {
         MemLine::to_read(alloc, Vec::new(alloc), Vec::new(alloc))
     }
 
-    // Whether the next call is to fail.
+    // Whether the next operation is to fail.
     fn is_failing(&self) -> bool
         ensures { result ≡ is_failing self.now }
     {
@@ -82,7 +83,7 @@ impl MemLine {
         self.fails.iter().any(|number| *number as usize == calls)
     }
 
-    // How many of at most `count` octets the next call may move.
+    // How many of at most `count` octets the next operation may move.
     fn cut(&self, count: usize) -> usize
         requires { 0 < count }
         ensures value { result ≡ cut_of self.now count }
@@ -95,6 +96,7 @@ impl MemLine {
         }
     }
 
+    /// Reads the next octets, as many as there are, as there is room for, and as the cut lets through.
     pub fn read(&mut self, buf: &mut [u8]) -> Result<usize, Failed>
         requires { 0 < length buf.old }
         ensures answer { result ≡ read_answer self.old (length buf.old) }
@@ -111,6 +113,7 @@ impl MemLine {
         Ok(count)
     }
 
+    /// Writes the first octets, as many as there is room for and as the cut lets through. Without room it fails.
     pub fn write(&mut self, bytes: &[u8]) -> Result<usize, Failed>
         requires { 0 < length bytes.now }
         ensures answer { result ≡ write_answer self.old (length bytes.now) }
@@ -127,7 +130,7 @@ impl MemLine {
         Ok(count)
     }
 
-    // A call that fails is counted twice over, as a call and as a fault.
+    // An operation that fails is counted twice over, as an operation and as a fault.
     fn fail(&mut self) -> Result<usize, Failed>
         ensures answer { IsErr result }
         ensures after { self.new ≡ after_read self.old result }
@@ -137,12 +140,14 @@ impl MemLine {
         Err(Failed)
     }
 
+    /// What was written.
     pub fn written(&self) -> &[u8]
         ensures { result.now ≡ self.now.written }
     {
         &self.written
     }
 
+    /// How many operations failed.
     pub fn faults(&self) -> u64
         ensures { result ≡ self.now.faults }
     {

@@ -1,4 +1,5 @@
-// All lines of a farm, in memory.
+//! All lines of a farm, in memory.
+
 ghost use Rattle.std.specs.Prelude.{◌≡◌, ◌≢◌, ◌<◌, ◌≤◌, ℕ, List, [], Some, vec_len, length, All, slice_get, slice_index_or, slice_set, IfSome, IfOk, OnOk, OnErr};
 ghost use Rattle.trau_io.specs.Lines.{Reads, Writes, OthersStay};
 ghost use Rattle.trau_io.specs.Places.{place_of};
@@ -37,7 +38,7 @@ impl MemTrunk {
         Ok(MemTrunk { lines })
     }
 
-    /// Replaces one line by one before its first call. Call number i on the line, from 0, fails where
+    /// Replaces one line by one before its first operation. Operation number i on the line, from 0, fails where
     /// i is in `fails`; else it moves at most `cuts[i]` octets, where a cut of 0 counts as 1, and past
     /// the list there is no cut. A write that doesn't fit into what is left of `room` octets moves
     /// what fits; with no room left it fails.

@@ -1,5 +1,6 @@
 use Rattle.trau_num.specs.Num.{add_of}
-use Rattle.trau_lanes.proofs.LaneSums.{clamped_fits, clamped_are, added_lane, add_word}
+use Rattle.trau_num.proofs.Clamped.{add_word}
+use Rattle.trau_lanes.proofs.LaneSums.{clamped_fits, clamped_are, added_lane}
 use Rattle.trau_lanes.proofs.plus_lanes.Goals as goal
 
 pub overflow_cast-result-3 : goal.overflow_cast-result-3

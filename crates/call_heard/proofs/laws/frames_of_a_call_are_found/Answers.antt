@@ -17,4 +17,6 @@ pub returns-clause-each : goal.returns-clause-each
 returns-clause-each c = call-each (record { newest = c.the_newest_is_the_last.ensures; table = c.the_table_looks_back.ensures })
 
 pub returns-clause-heard : goal.returns-clause-heard
-returns-clause-heard c = λ call past heard whole items same are. c.one_list.ensures (down call) (all_of heard) (all_within (320 * periods call) (found_of call)) (subst (λ bits. Found bits (all_of heard)) same are.all) (returns-clause-found c call whole items)
+returns-clause-heard c =
+    λ call past heard whole items same are. c.one_list.ensures (down call) (all_of heard) (all_within (320 * periods call) (found_of call))
+    (subst (λ bits. Found bits (all_of heard)) same are.all) (returns-clause-found c call whole items)

@@ -1,4 +1,5 @@
-use Rattle.call_leg.proofs.LineLaws.{out_of-octets, down_now-bits, bits260-are}
+use Rattle.trau_params.proofs.AreBits.{AreBits-bits260}
+use Rattle.call_leg.proofs.LineLaws.{out_of-octets, down_now-bits}
 use Rattle.call_leg.proofs.laws.the_lines_are_octets_and_bits.Goals as goal
 
 pub returns-clause-out : goal.returns-clause-out
@@ -8,4 +9,4 @@ pub returns-clause-down : goal.returns-clause-down
 returns-clause-down c = down_now-bits
 
 pub returns-clause-handed : goal.returns-clause-handed
-returns-clause-handed c = bits260-are
+returns-clause-handed c = AreBits-bits260

@@ -1,4 +1,5 @@
-use Rattle.call_pair.proofs.Telling.{hears, both-hear, frames-told}
+use Rattle.call_pair.proofs.UplinkRuns.{hears}
+use Rattle.call_pair.proofs.Telling.{both-hear, frames-told}
 use Rattle.call_pair.proofs.laws.the_first_phase_is_told.Goals as goal
 
 pub returns-clause-alone : goal.returns-clause-alone

@@ -1,5 +1,6 @@
 use Rattle.std.proofs.Common.{refl, []}
-use Rattle.call_pair.proofs.Telling.{speaks, both-speak}
+use Rattle.call_pair.proofs.DownlinkRuns.{speaks}
+use Rattle.call_pair.proofs.Telling.{both-speak}
 use Rattle.call_pair.proofs.laws.the_second_phase_is_told.Goals as goal
 
 pub returns-clause-alone : goal.returns-clause-alone

@@ -15,7 +15,8 @@ returns c =
     let one_long : length one ≡ cut = ap length c.copy_from_slice.ensures.after ∙ omega (arith, length-take cut front, least) in
     let left : length (one ++ drop cut to) - cut ≡ cut + rest - cut = omega (arith, one_long, length-append one (drop cut to), length-drop cut to) in
     (λ i. take cut (one ++ drop cut to) ++ (two ++ drop (left i) (drop cut (one ++ drop cut to))))
-    ∙ copied_out front back to one two cut rest (omega (arith, least)) (λ some. omega (arith, least)) c.copy_from_slice.ensures.after c.copy_from_slice-2.ensures.after
+    ∙ copied_out front back to one two cut rest (omega (arith, least))
+    (λ some. omega (arith, least)) c.copy_from_slice.ensures.after c.copy_from_slice-2.ensures.after
     ∙ (λ i. take (whole i) (c.as_slices.ensures i) ++ drop (whole i) to)
     ∙ ap (λ l. take (length to) c.args.ring.now.items ++ l) (drop-length to)
     ∙ append-nil (take (length to) c.args.ring.now.items)
@@ -33,4 +34,12 @@ copy_from_slice-requires-2 c =
     let long : length front + length back ≡ length c.args.ring.now.items = sym (length-append front back) ∙ ap length c.as_slices.ensures in
     let one_long : length one ≡ cut = c.copy_from_slice.ensures.len ∙ omega (arith, length-take cut to, least) in
     let whole : length (one ++ drop cut to) ≡ length to = omega (arith, one_long, length-append one (drop cut to), length-drop cut to, least) in
-    omega (arith, least, long, whole, length-drop cut (one ++ drop cut to), length-take (length (one ++ drop cut to) - cut) (drop cut (one ++ drop cut to)), length-take (length to - cut) back)
+    omega (
+      arith,
+      least,
+      long,
+      whole,
+      length-drop cut (one ++ drop cut to),
+      length-take (length (one ++ drop cut to) - cut) (drop cut (one ++ drop cut to)),
+      length-take (length to - cut) back,
+    )

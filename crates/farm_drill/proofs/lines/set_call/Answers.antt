@@ -15,7 +15,8 @@ returns c =
     let pcm : List ℕ = c.in_ok-up.field-0.pcm.items in
     let first : c.set_line.new.trunk ≡ slice_set c.args.trunk.now (place_of call Up) (new_line up [] [] 1) = c.in_ok-set_line.ensures in
     let second : c.set_line-2.new.trunk ≡ slice_set c.set_line.new.trunk (place_of call Pcm) (new_line pcm [] [] 1) = c.in_ok-set_line-2.ensures in
-    let third : c.set_line-3.new.trunk ≡ slice_set c.set_line-2.new.trunk (place_of call Down) (new_line c.new.result.items [] [] (40 * periods)) = c.in_ok-set_line-3.ensures in
+    let third : c.set_line-3.new.trunk ≡ slice_set c.set_line-2.new.trunk (place_of call Down) (new_line c.new.result.items [] [] (40 * periods)) =
+    c.in_ok-set_line-3.ensures in
     on_ok_weaker c.set_line-4.result
     (λ (out : c.set_line-4.new.trunk ≡ slice_set c.set_line-3.new.trunk (place_of call Out) (new_line c.new-2.result.items [] [] (160 * periods))).
     one_more_set seed call periods c.args.trunk.now c.set_line-4.new.trunk c.requires.low c.requires.high (record {

@@ -13,6 +13,9 @@ returns-then-call-ne1 c =
 
 pub returns : goal.returns
 returns c =
-    let put : OnOk c.write.result (string_bytes c.write.new.self ≡ string_bytes c.args.text.now ++ (decimal (c.args.periods / 4) ++ (codes " bridge " ++ (decimal c.args.call ++ (codes " " ++ (decimal (c.args.call + 1) ++ codes "\n")))))) = search rules in
+    let put : OnOk c.write.result (string_bytes c.write.new.self ≡ string_bytes c.args.text.now
+    ++ (decimal (c.args.periods / 4) ++ (codes " bridge " ++ (decimal c.args.call ++ (codes " " ++ (decimal (c.args.call + 1) ++ codes "\n")))))) =
+    search rules in
     on_ok_weaker c.write.result
-    (λ h. h ∙ ap (λ (t : List ℕ). string_bytes c.args.text.now ++ t) (sym (one_bridged (bridging c.args.periods) c.args.call c.if-call-ne1.false ∙ bridging-text c.args.periods c.args.call))) put
+    (λ h. h ∙ ap (λ (t : List ℕ). string_bytes c.args.text.now ++ t)
+    (sym (one_bridged (bridging c.args.periods) c.args.call c.if-call-ne1.false ∙ bridging-text c.args.periods c.args.call))) put

@@ -12,10 +12,12 @@ loop-earlier-init c =
 
 pub loop-earlier-preserved : goal.loop-earlier-preserved
 loop-earlier-preserved c =
-    bridges-more (bridging c.args.periods) (string_bytes c.args.text.now) (string_bytes c.put_bridging.new.text) (string_bytes c.loop-earlier.text) c.loop-earlier.earlier
+    bridges-more (bridging c.args.periods) (string_bytes c.args.text.now) (string_bytes c.put_bridging.new.text)
+    (string_bytes c.loop-earlier.text) c.loop-earlier.earlier
     c.loop-earlier.invariant c.in_ok-put_bridging.ensures
 
 pub returns : goal.returns
 returns c =
     let all : c.loop-earlier.earlier ≡ c.args.count = omega (arith, c.loop-earlier.auto.earlier-end, c.loop-earlier-test.false) in
-    c.loop-earlier.invariant ∙ ap (λ (n : ℕ). string_bytes c.args.text.now ++ text_of (map (bridging c.args.periods) (filter is_bridged (range_with_len 1 n)))) all
+    c.loop-earlier.invariant
+    ∙ ap (λ (n : ℕ). string_bytes c.args.text.now ++ text_of (map (bridging c.args.periods) (filter is_bridged (range_with_len 1 n)))) all

@@ -13,9 +13,11 @@ returns-else-period-eq1-clause-octets c = λ seed call e. sym (pcm-quiet seed ca
 
 pub returns-then-period-eq1-clause-now : goal.returns-then-period-eq1-clause-now
 returns-then-period-eq1-clause-now c = λ seed call e.
-    state-along seed call (first_loud_draw c.args.period + 160) (first_draw (c.args.period + 1)) c.fill.new.self.x (next-loud c.args.period c.if-period-eq1.true)
+    state-along seed call (first_loud_draw c.args.period + 160) (first_draw (c.args.period + 1)) c.fill.new.self.x
+    (next-loud c.args.period c.if-period-eq1.true)
     (c.fill.ensures.now seed call (first_loud_draw c.args.period) e)
 
 pub returns-else-period-eq1-clause-now : goal.returns-else-period-eq1-clause-now
 returns-else-period-eq1-clause-now c = λ seed call e.
-    state-along seed call (first_loud_draw c.args.period) (first_draw (c.args.period + 1)) c.args.generator.now.x (next-quiet c.args.period c.if-period-eq1.false) e
+    state-along seed call (first_loud_draw c.args.period) (first_draw (c.args.period + 1)) c.args.generator.now.x
+    (next-quiet c.args.period c.if-period-eq1.false) e

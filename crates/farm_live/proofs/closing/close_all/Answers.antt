@@ -17,20 +17,23 @@ pub close_call-done-requires-clause-slot : goal.close_call-done-requires-clause-
 close_call-done-requires-clause-slot g c =
     let r = c.requires.joined in
     let left = c.loop-k.invariant.left r.0 r.1 r.2 in
-    let j = left_at r.0 c.args.slots.now r.1 c.loop-k.k c.loop-k.all.seats.items c.index-slots-k.result c.index_mut.result.now left (omega (arith, c.loop-k-test.true, c.loop-k.auto.k-end)) c.index-slots-k.is c.index_mut.ensures.value in
+    let j = left_at r.0 c.args.slots.now r.1 c.loop-k.k c.loop-k.all.seats.items c.index-slots-k.result c.index_mut.result.now left
+    (omega (arith, c.loop-k-test.true, c.loop-k.auto.k-end)) c.index-slots-k.is c.index_mut.ensures.value in
     (j.pass, j.capacity)
 
 pub close_call-done-requires-clause-free : goal.close_call-done-requires-clause-free
 close_call-done-requires-clause-free g c =
     let r = c.requires.joined in
     let left = c.loop-k.invariant.left r.0 r.1 r.2 in
-    (left_at r.0 c.args.slots.now r.1 c.loop-k.k c.loop-k.all.seats.items c.index-slots-k.result c.index_mut.result.now left (omega (arith, c.loop-k-test.true, c.loop-k.auto.k-end)) c.index-slots-k.is c.index_mut.ensures.value).free
+    (left_at r.0 c.args.slots.now r.1 c.loop-k.k c.loop-k.all.seats.items c.index-slots-k.result c.index_mut.result.now left
+    (omega (arith, c.loop-k-test.true, c.loop-k.auto.k-end)) c.index-slots-k.is c.index_mut.ensures.value).free
 
 pub close_call-done-requires-clause-some : goal.close_call-done-requires-clause-some
 close_call-done-requires-clause-some g c =
     let r = c.requires.joined in
     let left = c.loop-k.invariant.left r.0 r.1 r.2 in
-    (left_at r.0 c.args.slots.now r.1 c.loop-k.k c.loop-k.all.seats.items c.index-slots-k.result c.index_mut.result.now left (omega (arith, c.loop-k-test.true, c.loop-k.auto.k-end)) c.index-slots-k.is c.index_mut.ensures.value).some
+    (left_at r.0 c.args.slots.now r.1 c.loop-k.k c.loop-k.all.seats.items c.index-slots-k.result c.index_mut.result.now left
+    (omega (arith, c.loop-k-test.true, c.loop-k.auto.k-end)) c.index-slots-k.is c.index_mut.ensures.value).some
 
 pub index_mut-requires : goal.index_mut-requires
 index_mut-requires g c =
@@ -47,7 +50,8 @@ loop-k-preserved g c =
     let at : k ≡ length ds = omega (arith, inv.len, c.loop-k.closed.ok.0) in record {
       left = λ inbox cs joined. fewer_left inbox slots cs k c.loop-k.all.seats.items c.close_call-done.new.seat (inv.left inbox cs joined);
       closed = λ inbox cs joined.
-          let j = left_at inbox slots cs k c.loop-k.all.seats.items c.index-slots-k.result c.index_mut.result.now (inv.left inbox cs joined) (omega (arith, c.loop-k-test.true, c.loop-k.auto.k-end)) c.index-slots-k.is c.index_mut.ensures.value in
+          let j = left_at inbox slots cs k c.loop-k.all.seats.items c.index-slots-k.result c.index_mut.result.now (inv.left inbox cs joined)
+          (omega (arith, c.loop-k-test.true, c.loop-k.auto.k-end)) c.index-slots-k.is c.index_mut.ensures.value in
           let new = closed_by inbox c.index-slots-k.result (views_at k cs) c.index_mut.result.now k c.close_call-done.result j c.close_call-done.ensures in
           subst (AreClosedTo cs) (sym c.push_reserved.ensures.items)
           (each_snoc (λ (i : ℕ) (x : Closed). IsClosedBy (i + 1) (views_at i cs) x) ds c.close_call-done.result (inv.closed inbox cs joined)

@@ -7,7 +7,8 @@ pub loop-seat-init : goal.loop-seat-init
 loop-seat-init c = (
   [],
   sym (append-nil c.args.other.seats.items),
-  λ inbox cs joined seated. none_joined inbox c.args.slots.now cs c.args.other (length c.args.other.seats.items) c.args.first.now.seats.items joined (omega (arith, seated.one_each)),
+  λ inbox cs joined seated. none_joined inbox c.args.slots.now cs c.args.other (length c.args.other.seats.items) c.args.first.now.seats.items joined
+      (omega (arith, seated.one_each)),
 )
 
 pub index_mut-requires : goal.index_mut-requires
@@ -17,7 +18,8 @@ index_mut-requires c =
     let half = inv.2 r.0 r.1 r.2 r.3 in
     let len = length-append c.pop.new.self.items (c.in-Some.seat ∷ []) in
     let whole = popped c.pop.new.self.items inv.0 c.args.other.seats.items c.loop-seat.seats.items c.in-Some.seat inv.1 c.in-Some.ensures.items in
-    let there = last-lt c.pop.new.self.items inv.0 c.args.other.seats.items c.in-Some.seat c.len-k.result whole (omega (arith, c.len-k.ensures, c.pop.new.self.ok.0)) in
+    let there = last-lt c.pop.new.self.items inv.0 c.args.other.seats.items c.in-Some.seat c.len-k.result whole
+    (omega (arith, c.len-k.ensures, c.pop.new.self.ok.0)) in
     omega (arith, there, half.one_each, r.3.one_each, c.loop-seat.first.seats.ok.0)
 
 pub join_seat-requires-clause-slot : goal.join_seat-requires-clause-slot
@@ -31,7 +33,8 @@ join_seat-requires-clause-slot c =
     let more : length c.loop-seat.seats.items ≡ k + 1 = omega (arith, ap length c.in-Some.ensures.items, length-append new (c.in-Some.seat ∷ []), at) in
     let half = subst (λ n. AreHalfJoined r.0 c.args.slots.now r.1 c.args.other n c.loop-seat.first.seats.items) more (inv.2 r.0 r.1 r.2 r.3) in
     let there : k < length c.args.slots.now = omega (arith, last-lt new inv.0 c.args.other.seats.items c.in-Some.seat k whole at, r.3.one_each) in
-    let ready = ready_at r.0 c.args.slots.now r.1 c.args.other k c.loop-seat.first.seats.items c.index-slots-k.result c.index_mut.result.now c.in-Some.seat half r.3 there c.index-slots-k.is c.index_mut.ensures.value
+    let ready = ready_at r.0 c.args.slots.now r.1 c.args.other k c.loop-seat.first.seats.items c.index-slots-k.result c.index_mut.result.now c.in-Some.seat half
+    r.3 there c.index-slots-k.is c.index_mut.ensures.value
     (last_is new inv.0 c.args.other.seats.items c.in-Some.seat k whole at) in
     (ready.0.pass, ready.1.pass)
 
@@ -46,7 +49,8 @@ join_seat-requires-clause-free c =
     let more : length c.loop-seat.seats.items ≡ k + 1 = omega (arith, ap length c.in-Some.ensures.items, length-append new (c.in-Some.seat ∷ []), at) in
     let half = subst (λ n. AreHalfJoined r.0 c.args.slots.now r.1 c.args.other n c.loop-seat.first.seats.items) more (inv.2 r.0 r.1 r.2 r.3) in
     let there : k < length c.args.slots.now = omega (arith, last-lt new inv.0 c.args.other.seats.items c.in-Some.seat k whole at, r.3.one_each) in
-    (ready_at r.0 c.args.slots.now r.1 c.args.other k c.loop-seat.first.seats.items c.index-slots-k.result c.index_mut.result.now c.in-Some.seat half r.3 there c.index-slots-k.is c.index_mut.ensures.value
+    (ready_at r.0 c.args.slots.now r.1 c.args.other k c.loop-seat.first.seats.items c.index-slots-k.result c.index_mut.result.now c.in-Some.seat half r.3 there
+    c.index-slots-k.is c.index_mut.ensures.value
     (last_is new inv.0 c.args.other.seats.items c.in-Some.seat k whole at)).1.free
 
 pub join_seat-requires-clause-same : goal.join_seat-requires-clause-same
@@ -60,7 +64,8 @@ join_seat-requires-clause-same c =
     let more : length c.loop-seat.seats.items ≡ k + 1 = omega (arith, ap length c.in-Some.ensures.items, length-append new (c.in-Some.seat ∷ []), at) in
     let half = subst (λ n. AreHalfJoined r.0 c.args.slots.now r.1 c.args.other n c.loop-seat.first.seats.items) more (inv.2 r.0 r.1 r.2 r.3) in
     let there : k < length c.args.slots.now = omega (arith, last-lt new inv.0 c.args.other.seats.items c.in-Some.seat k whole at, r.3.one_each) in
-    let ready = ready_at r.0 c.args.slots.now r.1 c.args.other k c.loop-seat.first.seats.items c.index-slots-k.result c.index_mut.result.now c.in-Some.seat half r.3 there c.index-slots-k.is c.index_mut.ensures.value
+    let ready = ready_at r.0 c.args.slots.now r.1 c.args.other k c.loop-seat.first.seats.items c.index-slots-k.result c.index_mut.result.now c.in-Some.seat half
+    r.3 there c.index-slots-k.is c.index_mut.ensures.value
     (last_is new inv.0 c.args.other.seats.items c.in-Some.seat k whole at) in
     ready.0.is_of ∙ sym ready.1.is_of
 
@@ -82,7 +87,8 @@ loop-seat-preserved c =
           let half = subst (λ n. AreHalfJoined inbox slots cs other n first) more (inv.2 inbox cs joined seated) in
           let there : k < length slots = omega (arith, last-lt new inv.0 other.seats.items u k whole at, seated.one_each) in
           subst (λ n. AreHalfJoined inbox slots cs other n (slice_set first k c.join_seat.new.first)) at
-          (joined_at inbox slots cs other k first c.index-slots-k.result c.index_mut.result.now c.join_seat.new.first u half seated there c.index-slots-k.is c.index_mut.ensures.value
+          (joined_at inbox slots cs other k first c.index-slots-k.result c.index_mut.result.now c.join_seat.new.first u half seated there c.index-slots-k.is
+          c.index_mut.ensures.value
           (last_is new inv.0 other.seats.items u k whole at) c.join_seat.ensures.slot c.join_seat.ensures.both),
     )
 

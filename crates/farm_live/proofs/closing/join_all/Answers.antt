@@ -17,8 +17,13 @@ join-requires c =
     let r = c.requires in
     let inv = c.loop-other.invariant in
     let new = c.pop.new.self.items in
-    let whole = popped new inv.0 c.args.others.items c.loop-other.others.items c.in-Some.other inv.1 c.in-Some.ensures.items in
-    (r.0, r.1 ++ reverse inv.0, inv.2 r.0 r.1 r.2 r.3, all_at (IsSeated r.0 c.args.slots.now) new inv.0 c.in-Some.other (subst (AreAllSeated r.0 c.args.slots.now) whole r.3))
+    let whole = popped new inv.0 c.args.others.items c.loop-other.others.items c.in-Some.other inv.1 c.in-Some.ensures.items in (
+      r.0,
+      r.1 ++ reverse inv.0,
+      inv.2 r.0 r.1 r.2 r.3,
+      all_at (IsSeated r.0 c.args.slots.now) new inv.0 c.in-Some.other
+          (subst (AreAllSeated r.0 c.args.slots.now) whole r.3),
+    )
 
 pub loop-other-preserved : goal.loop-other-preserved
 loop-other-preserved c =
@@ -31,7 +36,8 @@ loop-other-preserved c =
       whole,
       λ inbox cs joined seated.
           subst (λ (l : List Caller). AreJoined inbox slots l c.join.new.first.seats.items) (turned_round cs inv.0 u)
-          (c.join.ensures inbox (cs ++ reverse inv.0) (inv.2 inbox cs joined seated) (all_at (IsSeated inbox slots) new inv.0 u (subst (AreAllSeated inbox slots) whole seated))),
+          (c.join.ensures inbox (cs ++ reverse inv.0) (inv.2 inbox cs joined seated)
+          (all_at (IsSeated inbox slots) new inv.0 u (subst (AreAllSeated inbox slots) whole seated))),
     )
 
 pub returns : goal.returns

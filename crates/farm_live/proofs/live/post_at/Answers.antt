@@ -1,6 +1,6 @@
 use Rattle.std.proofs.Common.{arith}
 use Rattle.farm_live.specs.Live.{view_of}
-use Rattle.farm_live.proofs.Taking.{own-few}
+use Rattle.farm_live.proofs.Turning.{own-few}
 use Rattle.farm_live.proofs.live.post_at.Goals as goal
 
 pub overflow_add-seat : goal.overflow_add-seat

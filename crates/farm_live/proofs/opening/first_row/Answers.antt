@@ -1,5 +1,5 @@
 use Rattle.std.proofs.Common.{◌≡◌, ◌<◌, ℕ, length, take, drop, get_or, sym, subst, arith}
-use Rattle.farm_live.specs.Live.{call_at, IsNewSeat, AreNew}
+use Rattle.farm_live.specs.Live.{book_at, IsNewSeat, AreNew}
 use Rattle.farm_live.proofs.NewFarm.{none_cut, none_new, one_cut, one_new, all_cut, seat_at, at_any}
 use Rattle.farm_live.proofs.opening.first_row.Goals as goal
 
@@ -17,7 +17,7 @@ first_seat-seat-requires c =
     let k = c.loop-k.k in
     let cut = c.loop-k.invariant.cut r.0 r.1 r.2 in
     let there : k < length c.loop-k.all = omega (arith, cut.one_each, c.loop-k-test.true, c.loop-k.auto.k-end) in
-    (call_at r.0 k, r.1, seat_at r.1 r.0 c.args.slots.now k c.loop-k.all c.index-slots-k.result c.index-all-k.result cut there c.index-slots-k.is)
+    (book_at r.0 k, r.1, seat_at r.1 r.0 c.args.slots.now k c.loop-k.all c.index-slots-k.result c.index-all-k.result cut there c.index-slots-k.is)
 
 pub loop-k-preserved : goal.loop-k-preserved
 loop-k-preserved c =
@@ -31,16 +31,19 @@ loop-k-preserved c =
       cut = λ inbox cs row.
           let cut = inv.cut inbox cs row in
           let there : k < length all = omega (arith, cut.one_each, c.loop-k-test.true, c.loop-k.auto.k-end) in
-          let rest = c.first_seat-seat.ensures.rest (call_at inbox k) cs (seat_at cs inbox slots k all slot c.index-all-k.result cut there c.index-slots-k.is) in
-          one_cut cs inbox slots k all c.first_seat-seat.new.all cut (omega (arith, cut.one_each)) (at_any (drop 1 cs) (call_at inbox k) slots k slot c.first_seat-seat.new.all c.index-slots-k.is (omega (arith, cut.one_each)) rest);
+          let rest = c.first_seat-seat.ensures.rest (book_at inbox k) cs
+          (seat_at cs inbox slots k all slot c.index-all-k.result cut there c.index-slots-k.is) in
+          one_cut cs inbox slots k all c.first_seat-seat.new.all cut (omega (arith, cut.one_each))
+          (at_any (drop 1 cs) (book_at inbox k) slots k slot c.first_seat-seat.new.all c.index-slots-k.is (omega (arith, cut.one_each)) rest);
       new = λ inbox cs row.
           let cut = inv.cut inbox cs row in
           let there : k < length all = omega (arith, cut.one_each, c.loop-k-test.true, c.loop-k.auto.k-end) in
-          let first = c.first_seat-seat.ensures.first (call_at inbox k) cs (seat_at cs inbox slots k all slot c.index-all-k.result cut there c.index-slots-k.is) in
+          let first = c.first_seat-seat.ensures.first (book_at inbox k) cs
+          (seat_at cs inbox slots k all slot c.index-all-k.result cut there c.index-slots-k.is) in
           subst (AreNew (take 1 cs) inbox slots) (sym c.push_reserved.ensures.items)
           (one_new (take 1 cs) inbox slots seats c.first_seat-seat.result (inv.new inbox cs row)
-          (subst (λ (n : ℕ). (d : _) → IsNewSeat (take 1 cs) (call_at inbox n) (get_or slots n d) c.first_seat-seat.result) (sym len)
-          (at_any (take 1 cs) (call_at inbox k) slots k slot c.first_seat-seat.result c.index-slots-k.is (omega (arith, cut.one_each)) first)));
+          (subst (λ (n : ℕ). (d : _) → IsNewSeat (take 1 cs) (book_at inbox n) (get_or slots n d) c.first_seat-seat.result) (sym len)
+          (at_any (take 1 cs) (book_at inbox k) slots k slot c.first_seat-seat.result c.index-slots-k.is (omega (arith, cut.one_each)) first)));
       len = omega (arith, inv.len, c.push_reserved.ensures.len);
       capacity = omega (arith, inv.capacity, c.push_reserved.ensures.capacity);
     }

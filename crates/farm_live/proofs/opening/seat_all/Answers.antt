@@ -9,8 +9,12 @@ use Rattle.farm_live.proofs.opening.seat_all.Goals as goal
 pub first_row-requires : goal.first_row-requires
 first_row-requires c =
     let s = c.requires.seats in
-    let n = c.loop-number.number in
-    (s.0, drop n all_callers, subst (λ (xs : List Seat). IsNewRow (drop n all_callers) s.0 c.args.slots.now xs) (sym c.as_mut_slice.ensures.value) (c.loop-number.invariant.left s.0 s.1))
+    let n = c.loop-number.number in (
+      s.0,
+      drop n all_callers,
+      subst (λ (xs : List Seat). IsNewRow (drop n all_callers) s.0 c.args.slots.now xs) (sym c.as_mut_slice.ensures.value)
+          (c.loop-number.invariant.left s.0 s.1),
+    )
 
 pub loop-number-preserved : goal.loop-number-preserved
 loop-number-preserved c =
@@ -33,11 +37,14 @@ loop-number-preserved c =
       rows = λ inbox row.
           let first = c.in_ok-seats.ensures.first inbox (drop n all_callers) (given inbox row) in
           let new : IsNewCaller inbox callers n slots caller =
-          caller_is inbox callers n slots caller (take 1 (drop n all_callers)) refl (first_numbers callers n (omega (arith, c.loop-number-test.true, c.requires.some)))
+          caller_is inbox callers n slots caller (take 1 (drop n all_callers)) refl
+          (first_numbers callers n (omega (arith, c.loop-number-test.true, c.requires.some)))
           (first_is n (omega (arith, c.loop-number-test.true, c.requires.few))) first in
           let at : n ≡ length rows = omega (arith, inv.len, c.loop-number.rows.ok.0) in
-          subst (λ (rs : List Caller). (i : ℕ) (d : Caller) → i < length rs → IsNewCaller inbox callers i slots (get_or rs i d)) (sym c.push_reserved.ensures.items)
-          (each_snoc (λ (i : ℕ) (x : Caller). IsNewCaller inbox callers i slots x) rows caller (inv.rows inbox row) (subst (λ (i : ℕ). IsNewCaller inbox callers i slots caller) at new));
+          subst (λ (rs : List Caller). (i : ℕ) (d : Caller) → i < length rs → IsNewCaller inbox callers i slots (get_or rs i d))
+          (sym c.push_reserved.ensures.items)
+          (each_snoc (λ (i : ℕ) (x : Caller). IsNewCaller inbox callers i slots x) rows caller (inv.rows inbox row)
+          (subst (λ (i : ℕ). IsNewCaller inbox callers i slots caller) at new));
       len = omega (arith, inv.len, c.push_reserved.ensures.len);
       capacity = omega (arith, inv.capacity, c.push_reserved.ensures.capacity);
     }
@@ -53,11 +60,21 @@ returns c inbox row =
     let caller : Caller = record { number = last; seats = c.loop-number.all } in
     let left = subst (λ (i : ℕ). IsNewRow (drop i all_callers) inbox slots c.loop-number.all.items) n (inv.left inbox row) in
     let new : IsNewCaller inbox callers last slots caller =
-    caller_is inbox callers last slots caller (drop last all_callers) refl (last_numbers callers last (omega (arith, c.requires.some))) (left_is last (omega (arith, c.requires.some, c.requires.few))) left in
+    caller_is inbox callers last slots caller (drop last all_callers) refl (last_numbers callers last (omega (arith, c.requires.some)))
+    (left_is last (omega (arith, c.requires.some, c.requires.few))) left in
     let at : last ≡ length rows = omega (arith, n, inv.len, c.loop-number.rows.ok.0) in
-    let each = subst (λ (rs : List Caller). (i : ℕ) (d : Caller) → i < length rs → IsNewCaller inbox callers i slots (get_or rs i d)) (sym c.push_reserved-2.ensures.items)
-    (each_snoc (λ (i : ℕ) (x : Caller). IsNewCaller inbox callers i slots x) rows caller (inv.rows inbox row) (subst (λ (i : ℕ). IsNewCaller inbox callers i slots caller) at new)) in
-    let count : length c.push_reserved-2.new.self.items ≡ callers = omega (arith, ap length c.push_reserved-2.ensures.items, length-append rows (caller ∷ []), at, c.requires.some) in record {
+    let each = subst (λ (rs : List Caller). (i : ℕ) (d : Caller) → i < length rs → IsNewCaller inbox callers i slots (get_or rs i d))
+    (sym c.push_reserved-2.ensures.items)
+    (each_snoc (λ (i : ℕ) (x : Caller). IsNewCaller inbox callers i slots x) rows caller (inv.rows inbox row)
+    (subst (λ (i : ℕ). IsNewCaller inbox callers i slots caller) at new)) in
+    let count : length c.push_reserved-2.new.self.items ≡ callers = omega (
+      arith,
+      ap length c.push_reserved-2.ensures.items,
+      length-append rows
+          (caller ∷ []),
+      at,
+      c.requires.some,
+    ) in record {
       count = count;
       each = λ i d h. each i d (omega (arith, count));
     }

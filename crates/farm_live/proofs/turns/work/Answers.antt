@@ -1,6 +1,6 @@
 use Rattle.std.proofs.Common.{refl}
 use Rattle.crossbeam_queue.specs.Passes.{view}
-use Rattle.farm_live.proofs.Taking.{may_give, held_as, did_at, may_worked, worked_some, goes_on, placed_at}
+use Rattle.farm_live.proofs.Turning.{may_give, held_as, did_at, may_worked, worked_some, goes_on, placed_at}
 use Rattle.farm_live.proofs.turns.work.Goals as goal
 
 pub work-worked-requires : goal.work-worked-requires

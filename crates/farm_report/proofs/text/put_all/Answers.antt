@@ -10,4 +10,5 @@ loop-one-preserved g c =
     let old = string_bytes c.args.text.now in
     c.in_ok-put.ensures ∙ ap (λ bytes. bytes ++ g.T.Told.lines c.one-item.result) c.loop-one.invariant
     ∙ flat_map_more g.T.Told.lines old (take i told) c.one-item.result
-    ∙ ap (λ ts. old ++ flat_map g.T.Told.lines ts) (ap (λ one. take i told ++ one ∷ []) c.one-item.is ∙ sym (take_more told i c.one-item.result c.loop-one-test.true))
+    ∙ ap (λ ts. old ++ flat_map g.T.Told.lines ts) (ap (λ one. take i told ++ one ∷ []) c.one-item.is
+    ∙ sym (take_more told i c.one-item.result c.loop-one-test.true))

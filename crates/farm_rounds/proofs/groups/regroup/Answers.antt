@@ -10,4 +10,5 @@ returns-in-Bridged-clause-applied c most a =
 pub returns-in-Unbridged-clause-applied : goal.returns-in-Unbridged-clause-applied
 returns-in-Unbridged-clause-applied c most a =
     let fits = subst (λ (d : Act). Fits c.args.groups.now.items d) c.in-Unbridged.is c.requires.fits in
-    subst (λ (d : Act). Applied most d c.args.groups.now.items c.part.new.groups.items) (sym c.in-Unbridged.is) (c.part.ensures.applied most c.in-Unbridged.b fits a)
+    subst (λ (d : Act). Applied most d c.args.groups.now.items c.part.new.groups.items) (sym c.in-Unbridged.is)
+    (c.part.ensures.applied most c.in-Unbridged.b fits a)

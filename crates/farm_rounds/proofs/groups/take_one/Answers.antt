@@ -14,7 +14,8 @@ returns-in-One-clause-call c x e = let alone = sym c.in-One.is ∙ same c.in_ok-
 
 pub returns-in-One-clause-others : goal.returns-in-One-clause-others
 returns-in-One-clause-others c x e =
-    subst (λ (g : Group). IsPermutation c.args.groups.now.items (g ∷ c.take_out.new.groups.items)) (same c.in_ok-two.two x c.in_ok-two.was (c.take_out.ensures.group ∙ e)) c.in_ok-two.ensures.others
+    subst (λ (g : Group). IsPermutation c.args.groups.now.items (g ∷ c.take_out.new.groups.items))
+    (same c.in_ok-two.two x c.in_ok-two.was (c.take_out.ensures.group ∙ e)) c.in_ok-two.ensures.others
 
 pub returns-in-One-clause-length : goal.returns-in-One-clause-length
 returns-in-One-clause-length c = c.in_ok-two.ensures.length

@@ -16,13 +16,15 @@ swap_remove-requires c = omega (arith, c.in_ok-place.ensures.place, c.deref.ensu
 pub returns-clause-group : goal.returns-clause-group
 returns-clause-group c =
     let items = c.args.groups.now.items in
-    let found : group_in items c.args.call ≡ slice_get items c.in_ok-place.place = subst (λ (gs : List Group). group_in gs c.args.call ≡ slice_get gs c.in_ok-place.place) c.deref.ensures.value c.in_ok-place.ensures.group in
+    let found : group_in items c.args.call ≡ slice_get items c.in_ok-place.place =
+    subst (λ (gs : List Group). group_in gs c.args.call ≡ slice_get gs c.in_ok-place.place) c.deref.ensures.value c.in_ok-place.ensures.group in
     sym (found ∙ slice_get_read items (length items) c.in_ok-place.place c.swap_remove.result refl (within c) c.swap_remove.ensures.value)
 
 pub returns-clause-others : goal.returns-clause-others
 returns-clause-others c =
     let r = c.swap_remove.result in
-    subst (λ (gs : List Group). IsPermutation c.args.groups.now.items (r ∷ gs)) (sym c.swap_remove.ensures.items) (IsPermutation-swap_remove c.args.groups.now.items c.in_ok-place.place r (within c) c.swap_remove.ensures.value)
+    subst (λ (gs : List Group). IsPermutation c.args.groups.now.items (r ∷ gs)) (sym c.swap_remove.ensures.items)
+    (IsPermutation-swap_remove c.args.groups.now.items c.in_ok-place.place r (within c) c.swap_remove.ensures.value)
 
 pub returns-clause-length : goal.returns-clause-length
 returns-clause-length c = omega (arith, c.swap_remove.ensures.len)

@@ -27,7 +27,8 @@ job_place-requires c =
     let turn = YieldsList-turn (YieldsList-from_vec {s = c.into_iter-seat-iterator.result} c.args.seats.items (search rules) (search rules))
     c.loop-seat.yielded c.loop-seat.seat-iterator c.loop-seat.yielded_by c.next.result c.next.new.self c.in-Some.seat c.in-Some.is c.next.ensures.steps in
     let item = seat_read c.args.seats.items (length c.loop-seat.yielded) c.in-Some.seat turn.0 turn.1 in
-    let index : c.len.result ≡ length c.loop-seat.yielded = omega (arith, c.len.ensures, ap length c.loop-seat.invariant.apart, length-map c.loop-seat.yielded (λ (s : SeatMemory). s.place)) in
+    let index : c.len.result ≡ length c.loop-seat.yielded =
+    omega (arith, c.len.ensures, ap length c.loop-seat.invariant.apart, length-map c.loop-seat.yielded (λ (s : SeatMemory). s.place)) in
     omega (arith, index, turn.0, c.requires.entries)
 
 pub swap_in-requires-clause-job : goal.swap_in-requires-clause-job
@@ -35,10 +36,15 @@ swap_in-requires-clause-job c =
     let turn = YieldsList-turn (YieldsList-from_vec {s = c.into_iter-seat-iterator.result} c.args.seats.items (search rules) (search rules))
     c.loop-seat.yielded c.loop-seat.seat-iterator c.loop-seat.yielded_by c.next.result c.next.new.self c.in-Some.seat c.in-Some.is c.next.ensures.steps in
     let item = seat_read c.args.seats.items (length c.loop-seat.yielded) c.in-Some.seat turn.0 turn.1 in
-    let index : c.len.result ≡ length c.loop-seat.yielded = omega (arith, c.len.ensures, ap length c.loop-seat.invariant.apart, length-map c.loop-seat.yielded (λ (s : SeatMemory). s.place)) in
-    let made = c.new-io.ensures ∙ octets_made c.in-Some.seat c.into_parts-place.result.0 c.call.result c.whole.result _ _ _ _ c.call.ensures.value c.whole.ensures.value c.into_parts-place.ensures.place
-    (c.for_job.ensures.up ∙ c.into_parts-place.ensures.up) (c.for_job.ensures.pcm ∙ c.into_parts-place.ensures.pcm) (c.for_job.ensures.out ∙ c.into_parts-place.ensures.out) (c.for_job.ensures.down ∙ c.into_parts-place.ensures.down) in
-    turn_job c.args.jobs.now c.loop-seat.jobs c.args.entries.now c.args.seats.items (length c.loop-seat.yielded) c.len.result c.job_place.result c.in-Some.seat c.new-io.result
+    let index : c.len.result ≡ length c.loop-seat.yielded =
+    omega (arith, c.len.ensures, ap length c.loop-seat.invariant.apart, length-map c.loop-seat.yielded (λ (s : SeatMemory). s.place)) in
+    let made = c.new-io.ensures
+    ∙ octets_made c.in-Some.seat c.into_parts-place.result.0 c.call.result c.whole.result _ _ _ _ c.call.ensures.value c.whole.ensures.value
+    c.into_parts-place.ensures.place
+    (c.for_job.ensures.up ∙ c.into_parts-place.ensures.up) (c.for_job.ensures.pcm ∙ c.into_parts-place.ensures.pcm)
+    (c.for_job.ensures.out ∙ c.into_parts-place.ensures.out) (c.for_job.ensures.down ∙ c.into_parts-place.ensures.down) in
+    turn_job c.args.jobs.now c.loop-seat.jobs c.args.entries.now c.args.seats.items
+    (length c.loop-seat.yielded) c.len.result c.job_place.result c.in-Some.seat c.new-io.result
     c.requires.jobs c.loop-seat.invariant.handed.same turn.0 item index c.job_place.ensures made
 
 pub swap_in-requires-clause-time : goal.swap_in-requires-clause-time
@@ -46,12 +52,23 @@ swap_in-requires-clause-time c =
     let turn = YieldsList-turn (YieldsList-from_vec {s = c.into_iter-seat-iterator.result} c.args.seats.items (search rules) (search rules))
     c.loop-seat.yielded c.loop-seat.seat-iterator c.loop-seat.yielded_by c.next.result c.next.new.self c.in-Some.seat c.in-Some.is c.next.ensures.steps in
     let item = seat_read c.args.seats.items (length c.loop-seat.yielded) c.in-Some.seat turn.0 turn.1 in
-    let index : c.len.result ≡ length c.loop-seat.yielded = omega (arith, c.len.ensures, ap length c.loop-seat.invariant.apart, length-map c.loop-seat.yielded (λ (s : SeatMemory). s.place)) in
-    let made = c.new-io.ensures ∙ octets_made c.in-Some.seat c.into_parts-place.result.0 c.call.result c.whole.result _ _ _ _ c.call.ensures.value c.whole.ensures.value c.into_parts-place.ensures.place
-    (c.for_job.ensures.up ∙ c.into_parts-place.ensures.up) (c.for_job.ensures.pcm ∙ c.into_parts-place.ensures.pcm) (c.for_job.ensures.out ∙ c.into_parts-place.ensures.out) (c.for_job.ensures.down ∙ c.into_parts-place.ensures.down) in
-    turn_time c.args.jobs.now c.loop-seat.jobs c.args.entries.now c.args.seats.items (length c.loop-seat.yielded) c.len.result c.job_place.result c.in-Some.seat c.new-io.result
+    let index : c.len.result ≡ length c.loop-seat.yielded =
+    omega (arith, c.len.ensures, ap length c.loop-seat.invariant.apart, length-map c.loop-seat.yielded (λ (s : SeatMemory). s.place)) in
+    let made = c.new-io.ensures
+    ∙ octets_made c.in-Some.seat c.into_parts-place.result.0 c.call.result c.whole.result _ _ _ _ c.call.ensures.value c.whole.ensures.value
+    c.into_parts-place.ensures.place
+    (c.for_job.ensures.up ∙ c.into_parts-place.ensures.up) (c.for_job.ensures.pcm ∙ c.into_parts-place.ensures.pcm)
+    (c.for_job.ensures.out ∙ c.into_parts-place.ensures.out) (c.for_job.ensures.down ∙ c.into_parts-place.ensures.down) in
+    turn_time c.args.jobs.now c.loop-seat.jobs c.args.entries.now c.args.seats.items
+    (length c.loop-seat.yielded) c.len.result c.job_place.result c.in-Some.seat c.new-io.result
     c.requires.time c.loop-seat.invariant.handed.same turn.0 item index c.job_place.ensures made
-    (omega (arith, c.whole.ensures.bound, c.whole.ensures.value, ap (λ (p : PlaceMemory). p.periods) c.into_parts-place.ensures.place, ap (λ (p : PlaceMemory). whole_in p) c.into_parts-place.ensures.place))
+    (omega (
+      arith,
+      c.whole.ensures.bound,
+      c.whole.ensures.value,
+      ap (λ (p : PlaceMemory). p.periods) c.into_parts-place.ensures.place,
+      ap (λ (p : PlaceMemory). whole_in p) c.into_parts-place.ensures.place,
+    ))
 
 pub take_list-list-requires : goal.take_list-list-requires
 take_list-list-requires c =
@@ -72,14 +89,24 @@ swap_in-requires-clause-room c =
     let item = seat_read c.args.seats.items (length c.loop-seat.yielded) c.in-Some.seat turn.0 turn.1 in
     let room = (c.take_list-list.ensures.list _ (c.loop-seat.invariant.notes (length c.loop-seat.yielded) turn.0)).0 in
     let periods = ap (λ (s : SeatMemory). s.place.periods) item in
-    omega (arith, room, periods, c.whole.ensures.bound, c.whole.ensures.value, ap (λ (x : IoMemory). x.given) c.new-io.ensures, ap (λ (p : PlaceMemory). p.periods) c.into_parts-place.ensures.place, ap (λ (p : PlaceMemory). whole_in p) c.into_parts-place.ensures.place)
+    omega (
+      arith,
+      room,
+      periods,
+      c.whole.ensures.bound,
+      c.whole.ensures.value,
+      ap (λ (x : IoMemory). x.given) c.new-io.ensures,
+      ap (λ (p : PlaceMemory). p.periods) c.into_parts-place.ensures.place,
+      ap (λ (p : PlaceMemory). whole_in p) c.into_parts-place.ensures.place,
+    )
 
 pub push_reserved-requires : goal.push_reserved-requires
 push_reserved-requires c =
     let turn = YieldsList-turn (YieldsList-from_vec {s = c.into_iter-seat-iterator.result} c.args.seats.items (search rules) (search rules))
     c.loop-seat.yielded c.loop-seat.seat-iterator c.loop-seat.yielded_by c.next.result c.next.new.self c.in-Some.seat c.in-Some.is c.next.ensures.steps in
     let item = seat_read c.args.seats.items (length c.loop-seat.yielded) c.in-Some.seat turn.0 turn.1 in
-    let index : c.len.result ≡ length c.loop-seat.yielded = omega (arith, c.len.ensures, ap length c.loop-seat.invariant.apart, length-map c.loop-seat.yielded (λ (s : SeatMemory). s.place)) in
+    let index : c.len.result ≡ length c.loop-seat.yielded =
+    omega (arith, c.len.ensures, ap length c.loop-seat.invariant.apart, length-map c.loop-seat.yielded (λ (s : SeatMemory). s.place)) in
     omega (arith, index, c.len.ensures, turn.0, c.requires.room, c.loop-seat.invariant.capacity)
 
 pub loop-seat-preserved : goal.loop-seat-preserved
@@ -87,9 +114,13 @@ loop-seat-preserved c =
     let turn = YieldsList-turn (YieldsList-from_vec {s = c.into_iter-seat-iterator.result} c.args.seats.items (search rules) (search rules))
     c.loop-seat.yielded c.loop-seat.seat-iterator c.loop-seat.yielded_by c.next.result c.next.new.self c.in-Some.seat c.in-Some.is c.next.ensures.steps in
     let item = seat_read c.args.seats.items (length c.loop-seat.yielded) c.in-Some.seat turn.0 turn.1 in
-    let index : c.len.result ≡ length c.loop-seat.yielded = omega (arith, c.len.ensures, ap length c.loop-seat.invariant.apart, length-map c.loop-seat.yielded (λ (s : SeatMemory). s.place)) in
-    let made = c.new-io.ensures ∙ octets_made c.in-Some.seat c.into_parts-place.result.0 c.call.result c.whole.result _ _ _ _ c.call.ensures.value c.whole.ensures.value c.into_parts-place.ensures.place
-    (c.for_job.ensures.up ∙ c.into_parts-place.ensures.up) (c.for_job.ensures.pcm ∙ c.into_parts-place.ensures.pcm) (c.for_job.ensures.out ∙ c.into_parts-place.ensures.out) (c.for_job.ensures.down ∙ c.into_parts-place.ensures.down) in
+    let index : c.len.result ≡ length c.loop-seat.yielded =
+    omega (arith, c.len.ensures, ap length c.loop-seat.invariant.apart, length-map c.loop-seat.yielded (λ (s : SeatMemory). s.place)) in
+    let made = c.new-io.ensures
+    ∙ octets_made c.in-Some.seat c.into_parts-place.result.0 c.call.result c.whole.result _ _ _ _ c.call.ensures.value c.whole.ensures.value
+    c.into_parts-place.ensures.place
+    (c.for_job.ensures.up ∙ c.into_parts-place.ensures.up) (c.for_job.ensures.pcm ∙ c.into_parts-place.ensures.pcm)
+    (c.for_job.ensures.out ∙ c.into_parts-place.ensures.out) (c.for_job.ensures.down ∙ c.into_parts-place.ensures.down) in
     record {
       apart = c.push_reserved.ensures.items ∙ ap (λ (ps : List PlaceMemory). ps ++ c.into_parts-place.result.0 ∷ []) c.loop-seat.invariant.apart
           ∙ ap (λ (p : PlaceMemory). map (λ (s : SeatMemory). s.place) c.loop-seat.yielded ++ p ∷ []) c.into_parts-place.ensures.place
@@ -104,11 +135,30 @@ loop-seat-preserved c =
             rw (same, sym item) c.into_parts-place.ensures.fits.up
       ];
       sound = subst (λ (m : ℕ). AreSound c.args.seats.items m) (sym (length-append c.loop-seat.yielded (c.in-Some.seat ∷ [])))
-          (sound_more c.args.seats.items (length c.loop-seat.yielded) c.in-Some.seat c.into_parts-place.result.0 c.call.result c.loop-seat.invariant.sound item c.into_parts-place.ensures.fits c.into_parts-place.ensures.place
-          c.call.ensures.value c.call.ensures.number (omega (arith, c.whole.ensures.bound, c.whole.ensures.value, ap (λ (p : PlaceMemory). p.periods) c.into_parts-place.ensures.place, ap (λ (p : PlaceMemory). whole_in p) c.into_parts-place.ensures.place)));
-      handed = subst (λ (m : ℕ). HandedIn c.args.jobs.now c.swap_in.new.jobs c.args.entries.now c.args.seats.items m) (sym (length-append c.loop-seat.yielded (c.in-Some.seat ∷ [])))
-          (turn_handed c.args.jobs.now c.loop-seat.jobs c.swap_in.new.jobs c.args.entries.now c.args.seats.items (length c.loop-seat.yielded) c.len.result c.job_place.result c.in-Some.seat c.new-io.result
-          c.requires.rising c.requires.jobs c.loop-seat.invariant.handed turn.0 (omega (arith, c.whole.ensures.bound, c.whole.ensures.value, ap (λ (p : PlaceMemory). p.periods) c.into_parts-place.ensures.place, ap (λ (p : PlaceMemory). whole_in p) c.into_parts-place.ensures.place)) item index c.job_place.ensures made c.swap_in.ensures.jobs);
+          (sound_more c.args.seats.items
+          (length c.loop-seat.yielded) c.in-Some.seat c.into_parts-place.result.0 c.call.result c.loop-seat.invariant.sound item
+          c.into_parts-place.ensures.fits c.into_parts-place.ensures.place
+          c.call.ensures.value c.call.ensures.number
+          (omega (
+            arith,
+            c.whole.ensures.bound,
+            c.whole.ensures.value,
+            ap (λ (p : PlaceMemory). p.periods) c.into_parts-place.ensures.place,
+            ap (λ (p : PlaceMemory). whole_in p) c.into_parts-place.ensures.place,
+          )));
+      handed =
+          subst (λ (m : ℕ). HandedIn c.args.jobs.now c.swap_in.new.jobs c.args.entries.now c.args.seats.items m)
+          (sym (length-append c.loop-seat.yielded (c.in-Some.seat ∷ [])))
+          (turn_handed c.args.jobs.now c.loop-seat.jobs c.swap_in.new.jobs c.args.entries.now c.args.seats.items
+          (length c.loop-seat.yielded) c.len.result c.job_place.result c.in-Some.seat c.new-io.result
+          c.requires.rising c.requires.jobs c.loop-seat.invariant.handed turn.0
+          (omega (
+            arith,
+            c.whole.ensures.bound,
+            c.whole.ensures.value,
+            ap (λ (p : PlaceMemory). p.periods) c.into_parts-place.ensures.place,
+            ap (λ (p : PlaceMemory). whole_in p) c.into_parts-place.ensures.place,
+          )) item index c.job_place.ensures made c.swap_in.ensures.jobs);
     }
 
 pub returns-clause-same : goal.returns-clause-same

@@ -45,10 +45,14 @@ swap_in-io-requires-clause-time c =
     let item = place_read c.args.apart.items n c.in-Some.place turn.0 turn.1 in
     let index : c.len.result ≡ n = omega (arith, c.len.ensures, c.loop-place.invariant.taken.long) in
     let call : c.none-none.result.call ≡ c.in-Some.place.call = ap (λ (x : IoMemory). x.call) c.none-none.ensures ∙ c.call.ensures.value in
-    let half = take_half c.args.jobs.now c.loop-place.jobs c.args.entries.now c.args.apart.items n c.len.result c.job_place.result c.in-Some.place c.none-none.result item index c.job_place.ensures call in
+    let half =
+    take_half c.args.jobs.now c.loop-place.jobs c.args.entries.now c.args.apart.items n c.len.result c.job_place.result c.in-Some.place c.none-none.result item
+    index c.job_place.ensures call in
     let left : places_left c.none-none.result ≡ 0 - 0 = ap (λ (x : IoMemory). places_left x) c.none-none.ensures in
-    let leg : periods_of_leg (half_at c.loop-place.jobs c.job_place.result c.none-none.result.call).leg ≡ periods_of_leg (half_of_seat c.args.jobs.now c.args.entries.now c.args.apart.items n).leg =
-    ap (λ (h : HalfMemory). periods_of_leg h.leg) half ∙ ap periods_of_leg (c.loop-place.invariant.taken.same.legs (entry_at c.args.entries.now n).job (place_at c.args.apart.items n).call) in
+    let leg : periods_of_leg (half_at c.loop-place.jobs c.job_place.result c.none-none.result.call).leg ≡ periods_of_leg
+    (half_of_seat c.args.jobs.now c.args.entries.now c.args.apart.items n).leg =
+    ap (λ (h : HalfMemory). periods_of_leg h.leg) half
+    ∙ ap periods_of_leg (c.loop-place.invariant.taken.same.legs (entry_at c.args.entries.now n).job (place_at c.args.apart.items n).call) in
     omega (arith, leg, left, c.requires.ready.time n turn.0)
 
 pub from_parts-requires : goal.from_parts-requires
@@ -59,12 +63,16 @@ from_parts-requires c =
     let item = place_read c.args.apart.items n c.in-Some.place turn.0 turn.1 in
     let index : c.len.result ≡ n = omega (arith, c.len.ensures, c.loop-place.invariant.taken.long) in
     let call : c.none-none.result.call ≡ c.in-Some.place.call = ap (λ (x : IoMemory). x.call) c.none-none.ensures ∙ c.call.ensures.value in
-    let half = take_half c.args.jobs.now c.loop-place.jobs c.args.entries.now c.args.apart.items n c.len.result c.job_place.result c.in-Some.place c.none-none.result item index c.job_place.ensures call in
+    let half =
+    take_half c.args.jobs.now c.loop-place.jobs c.args.entries.now c.args.apart.items n c.len.result c.job_place.result c.in-Some.place c.none-none.result item
+    index c.job_place.ensures call in
     let same : c.swap_in-io.result ≡ (half_of_seat c.args.jobs.now c.args.entries.now c.args.apart.items n).io =
     c.swap_in-io.ensures.io ∙ ap (λ (h : HalfMemory). h.io) half ∙ c.loop-place.invariant.taken.left n (omega arith) turn.0 in
     let long : length c.swap_in-io.result.up ≡ 40 * c.in-Some.place.periods =
     ap (λ (x : IoMemory). length x.up) same ∙ c.requires.ready.long n turn.0 ∙ ap (λ (p : PlaceMemory). 40 * p.periods) (sym item) in
-    let fits = fits_from c.in-Some.place.periods c.swap_in-io.result.given c.swap_in-io.result.up c.swap_in-io.result.pcm c.swap_in-io.result.out c.swap_in-io.result.down c.into_buffers.ensures.room long in
+    let fits =
+    fits_from c.in-Some.place.periods c.swap_in-io.result.given c.swap_in-io.result.up c.swap_in-io.result.pcm c.swap_in-io.result.out c.swap_in-io.result.down
+    c.into_buffers.ensures.room long in
     record {
       up = ap length (c.for_seat.ensures.up ∙ c.into_buffers.ensures.up) ∙ fits.up;
       pcm = ap length (c.for_seat.ensures.pcm ∙ c.into_buffers.ensures.pcm) ∙ fits.pcm;
@@ -89,17 +97,28 @@ loop-place-preserved c =
     let item = place_read c.args.apart.items n c.in-Some.place turn.0 turn.1 in
     let index : c.len.result ≡ n = omega (arith, c.len.ensures, c.loop-place.invariant.taken.long) in
     let call : c.none-none.result.call ≡ c.in-Some.place.call = ap (λ (x : IoMemory). x.call) c.none-none.ensures ∙ c.call.ensures.value in
-    let half = take_half c.args.jobs.now c.loop-place.jobs c.args.entries.now c.args.apart.items n c.len.result c.job_place.result c.in-Some.place c.none-none.result item index c.job_place.ensures call in
+    let half =
+    take_half c.args.jobs.now c.loop-place.jobs c.args.entries.now c.args.apart.items n c.len.result c.job_place.result c.in-Some.place c.none-none.result item
+    index c.job_place.ensures call in
     let place : c.job_place.result ≡ (entry_at c.args.entries.now n).job = c.job_place.ensures ∙ ap (λ (m : ℕ). (entry_at c.args.entries.now m).job) index in
-    let next : c.swap_in-io.new.jobs ≡ slice_set c.loop-place.jobs (entry_at c.args.entries.now n).job (with_io (job_at c.loop-place.jobs (entry_at c.args.entries.now n).job) c.none-none.result) =
+    let next : c.swap_in-io.new.jobs ≡ slice_set c.loop-place.jobs (entry_at c.args.entries.now n).job
+    (with_io (job_at c.loop-place.jobs (entry_at c.args.entries.now n).job) c.none-none.result) =
     c.swap_in-io.ensures.jobs ∙ ap (λ (m : ℕ). slice_set c.loop-place.jobs m (with_io (job_at c.loop-place.jobs m) c.none-none.result)) place in
-    let seat : c.from_parts.result ≡ seat_with (place_at c.args.apart.items n) (half_of_seat c.loop-place.jobs c.args.entries.now c.args.apart.items n).io = c.from_parts.ensures ∙ seat_made c.in-Some.place (place_at c.args.apart.items n) c.swap_in-io.result _ _ _ _ _ item (c.swap_in-io.ensures.io ∙ ap (λ (h : HalfMemory). h.io) half)
-    (c.for_seat.ensures.up ∙ c.into_buffers.ensures.up) (c.for_seat.ensures.pcm ∙ c.into_buffers.ensures.pcm) (c.for_seat.ensures.down ∙ c.into_buffers.ensures.down) (c.for_seat.ensures.out ∙ c.into_buffers.ensures.out) in
+    let seat : c.from_parts.result ≡ seat_with (place_at c.args.apart.items n)
+    (half_of_seat c.loop-place.jobs c.args.entries.now c.args.apart.items n).io = c.from_parts.ensures
+    ∙ seat_made c.in-Some.place (place_at c.args.apart.items n) c.swap_in-io.result _ _ _ _ _ item
+    (c.swap_in-io.ensures.io ∙ ap (λ (h : HalfMemory). h.io) half)
+    (c.for_seat.ensures.up ∙ c.into_buffers.ensures.up) (c.for_seat.ensures.pcm ∙ c.into_buffers.ensures.pcm)
+    (c.for_seat.ensures.down ∙ c.into_buffers.ensures.down) (c.for_seat.ensures.out ∙ c.into_buffers.ensures.out) in
     record {
       capacity = c.push_reserved.ensures.capacity ∙ c.loop-place.invariant.capacity;
-      taken = subst (λ (m : ℕ). TakenOut c.args.jobs.now c.swap_in-io.new.jobs c.args.entries.now c.args.apart.items c.push_reserved.new.self.items m) (sym (length-append c.loop-place.yielded (c.in-Some.place ∷ [])))
-          (subst (λ (ss : List SeatMemory). TakenOut c.args.jobs.now c.swap_in-io.new.jobs c.args.entries.now c.args.apart.items ss (n + 1)) (sym c.push_reserved.ensures.items)
-          (taken_more c.args.jobs.now c.loop-place.jobs c.swap_in-io.new.jobs c.args.entries.now c.args.apart.items c.loop-place.worked.items n c.none-none.result c.from_parts.result
+      taken =
+          subst (λ (m : ℕ). TakenOut c.args.jobs.now c.swap_in-io.new.jobs c.args.entries.now c.args.apart.items c.push_reserved.new.self.items m)
+          (sym (length-append c.loop-place.yielded (c.in-Some.place ∷ [])))
+          (subst (λ (ss : List SeatMemory). TakenOut c.args.jobs.now c.swap_in-io.new.jobs c.args.entries.now c.args.apart.items ss (n + 1))
+          (sym c.push_reserved.ensures.items)
+          (taken_more c.args.jobs.now c.loop-place.jobs c.swap_in-io.new.jobs c.args.entries.now c.args.apart.items c.loop-place.worked.items n
+          c.none-none.result c.from_parts.result
           c.requires.ready.rising c.requires.ready.have turn.0 c.loop-place.invariant.taken (call ∙ ap (λ (p : PlaceMemory). p.call) item) next seat));
     }
 

@@ -22,10 +22,12 @@ pub jobs_of-requires-clause-groups : goal.jobs_of-requires-clause-groups
 jobs_of-requires-clause-groups c = c.requires.groups
 
 -- the entries, as they are given back
-whole : (c : goal.In_ok-jobs) → take c.in_ok-entries.entries.len (c.jobs_of.new.entries ++ drop (length c.jobs_of.new.entries) c.in_ok-entries.entries.items) ≡ c.jobs_of.new.entries
+whole : (c : goal.In_ok-jobs) →
+    take c.in_ok-entries.entries.len (c.jobs_of.new.entries ++ drop (length c.jobs_of.new.entries) c.in_ok-entries.entries.items) ≡ c.jobs_of.new.entries
 whole c =
     let here = ap length c.deref_mut.ensures.value in
-    back c.in_ok-entries.entries.len c.jobs_of.new.entries c.in_ok-entries.entries.items (omega (arith, c.deref_mut.ensures.len, here)) (c.jobs_of.ensures.length ∙ here)
+    back c.in_ok-entries.entries.len c.jobs_of.new.entries c.in_ok-entries.entries.items (omega (arith, c.deref_mut.ensures.len, here))
+    (c.jobs_of.ensures.length ∙ here)
 
 pub returns : goal.returns
 returns c = record {

@@ -10,8 +10,9 @@ use Rattle.farm_rounds.specs.Rounds.{AreSeats, entry_at}
 use Rattle.farm_rounds.proofs.jobs.make_seats.Goals as goal
 
 -- one more seat
-seats_more : (live : List ℕ) (entries : List Entry) (periods n : ℕ) (before after : List SeatMemory) (seat : SeatMemory) → length before ≡ n → after ≡ before ++ seat ∷ [] →
-    seat ≡ new_seat (slice_index live n) periods (entry_at entries n).down_failed (entry_at entries n).out_failed → AreSeats live entries periods before n → AreSeats live entries periods after (n + 1)
+seats_more : (live : List ℕ) (entries : List Entry) (periods n : ℕ) (before after : List SeatMemory) (seat : SeatMemory) → length before ≡ n →
+    after ≡ before ++ seat ∷ [] → seat ≡ new_seat (slice_index live n) periods (entry_at entries n).down_failed (entry_at entries n).out_failed →
+    AreSeats live entries periods before n → AreSeats live entries periods after (n + 1)
 seats_more live entries periods n before after seat long e made are k l = ap (λ (ss : List SeatMemory). seat_at ss k) e ∙ elim (cases_lt k n) [
   | inl less ↦ get_or_append_left before (seat ∷ []) no_seat k (omega arith) ∙ are k less
   | inr more ↦ let last : k ≡ n = omega arith in rw last (get_or_push before seat no_seat n (omega arith) ∙ made)
@@ -33,7 +34,9 @@ pub loop-k-preserved : goal.loop-k-preserved
 loop-k-preserved c =
     let i = c.loop-k.invariant in
     record {
-      seats = seats_more c.args.live.now c.args.entries.now c.args.periods c.loop-k.k c.loop-k.seats.items c.push_reserved.new.self.items c.in_ok-new.field-0 i.long c.push_reserved.ensures.items c.in_ok-new.ensures i.seats;
+      seats =
+          seats_more c.args.live.now c.args.entries.now c.args.periods c.loop-k.k c.loop-k.seats.items c.push_reserved.new.self.items c.in_ok-new.field-0
+          i.long c.push_reserved.ensures.items c.in_ok-new.ensures i.seats;
       long = omega (arith, i.long, ap length c.push_reserved.ensures.items, length-append c.loop-k.seats.items (c.in_ok-new.field-0 ∷ []));
       room = omega (arith, i.room, c.push_reserved.ensures.capacity);
     }

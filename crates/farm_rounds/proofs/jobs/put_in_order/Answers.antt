@@ -9,7 +9,8 @@ use Rattle.farm_rounds.proofs.jobs.put_in_order.Goals as goal
 
 pub returns-clause-same : goal.returns-clause-same
 returns-clause-same c =
-    IsPermutation-trans c.args.groups.now.items c.sort_unstable_by_key.new.self.items c.reverse.new.self.items c.sort_unstable_by_key.ensures.permutation c.reverse.ensures.permutation
+    IsPermutation-trans c.args.groups.now.items c.sort_unstable_by_key.new.self.items c.reverse.new.self.items c.sort_unstable_by_key.ensures.permutation
+    c.reverse.ensures.permutation
 
 pub returns-clause-order : goal.returns-clause-order
 returns-clause-order c =

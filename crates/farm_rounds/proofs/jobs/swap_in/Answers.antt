@@ -3,7 +3,7 @@ use Rattle.call_leg.specs.Memory.{periods_of_leg}
 use Rattle.call_pair.specs.declared.job.Job.{Job}
 use Rattle.call_pair.specs.Jobs.{has_call, half_of, with_io}
 use Rattle.std.specs.Prelude.{slice_set}
-use Rattle.farm_rounds.proofs.Handing.{job_read}
+use Rattle.farm_rounds.proofs.JobOctets.{job_read}
 use Rattle.farm_rounds.proofs.jobs.swap_in.Goals as goal
 
 pub returns-clause-jobs : goal.returns-clause-jobs

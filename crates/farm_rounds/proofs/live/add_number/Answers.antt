@@ -10,7 +10,9 @@ inserted c = search rules
 
 pub returns-in-Err-clause-rising : goal.returns-in-Err-clause-rising
 returns-in-Err-clause-rising c =
-    let s = place_free c.args.numbers.now.items c.deref.result.now c.args.number c.binary_search.result c.deref.ensures.value c.requires.rising c.binary_search.ensures.position c.in-Err.place c.in-Err.is in
+    let s =
+    place_free c.args.numbers.now.items c.deref.result.now c.args.number c.binary_search.result c.deref.ensures.value c.requires.rising
+    c.binary_search.ensures.position c.in-Err.place c.in-Err.is in
     subst IsRising (sym (inserted c)) (rising-insert _ _ c.args.number c.requires.rising s.0 s.1 s.2)
 
 pub returns-in-Err-clause-numbers : goal.returns-in-Err-clause-numbers
@@ -18,10 +20,14 @@ returns-in-Err-clause-numbers c n = ap (λ xs. is_among xs n) (inserted c) ∙ a
 
 pub returns-in_default-clause-numbers : goal.returns-in_default-clause-numbers
 returns-in_default-clause-numbers c n = absurd (
-    let s = place_found c.args.numbers.now.items c.deref.result.now c.args.number c.binary_search.result c.deref.ensures.value c.requires.rising c.binary_search.ensures.position _ c.in_default.is in
+    let s =
+    place_found c.args.numbers.now.items c.deref.result.now c.args.number c.binary_search.result c.deref.ensures.value c.requires.rising
+    c.binary_search.ensures.position _ c.in_default.is in
     false≢true (sym c.requires.absent ∙ there c.args.numbers.now.items c.args.number _ s.0 s.1))
 
 pub returns-in_default-clause-len : goal.returns-in_default-clause-len
 returns-in_default-clause-len c = absurd (
-    let s = place_found c.args.numbers.now.items c.deref.result.now c.args.number c.binary_search.result c.deref.ensures.value c.requires.rising c.binary_search.ensures.position _ c.in_default.is in
+    let s =
+    place_found c.args.numbers.now.items c.deref.result.now c.args.number c.binary_search.result c.deref.ensures.value c.requires.rising
+    c.binary_search.ensures.position _ c.in_default.is in
     false≢true (sym c.requires.absent ∙ there c.args.numbers.now.items c.args.number _ s.0 s.1))

@@ -15,15 +15,18 @@ returns-in-One-clause-job c j e ran =
     let a = c.in-One.only in
     again_one numbers c.args.slots.now j a c.take.result (sym c.in-One.is ∙ e)
     (c.requires.present a (ap (λ (p : Party). names p a) c.in-One.is ∙ eq-eqb a a refl)) c.take.ensures.taken
-    (subst (λ (p : Party). (k : ℕ) → k < length numbers → names p (slice_index numbers k) ≡ true → option_map half_in (slot_at c.args.slots.now k) ≡ Some (half_of (finished j) (slice_index numbers k))) c.in-One.is ran)
+    (subst (λ (p : Party). (k : ℕ) → k < length numbers → names p (slice_index numbers k) ≡ true → option_map half_in (slot_at c.args.slots.now k) ≡ Some
+    (half_of (finished j) (slice_index numbers k))) c.in-One.is ran)
 
 pub returns-in-Two-clause-job : goal.returns-in-Two-clause-job
 returns-in-Two-clause-job c j e ran =
     let numbers = c.args.numbers.now in
     let a = c.in-Two.low in
     let b = c.in-Two.high in
-    again_two numbers c.args.slots.now c.take-low.new.slots j a b c.take-low.result c.take-high.result (sym c.in-Two.is ∙ e) (subst (λ (p : Party). IsParty p) c.in-Two.is c.requires.party)
+    again_two numbers c.args.slots.now c.take-low.new.slots j a b c.take-low.result c.take-high.result (sym c.in-Two.is ∙ e)
+    (subst (λ (p : Party). IsParty p) c.in-Two.is c.requires.party)
     (c.requires.present a (ap (λ (p : Party). names p a) c.in-Two.is ∙ or_left (a == a) (b == a) (eq-eqb a a refl)))
     (c.requires.present b (ap (λ (p : Party). names p b) c.in-Two.is ∙ or_right (a == b) (b == b) (eq-eqb b b refl)))
     c.take-low.ensures.taken c.take-low.ensures.others c.take-high.ensures.taken
-    (subst (λ (p : Party). (k : ℕ) → k < length numbers → names p (slice_index numbers k) ≡ true → option_map half_in (slot_at c.args.slots.now k) ≡ Some (half_of (finished j) (slice_index numbers k))) c.in-Two.is ran)
+    (subst (λ (p : Party). (k : ℕ) → k < length numbers → names p (slice_index numbers k) ≡ true → option_map half_in (slot_at c.args.slots.now k) ≡ Some
+    (half_of (finished j) (slice_index numbers k))) c.in-Two.is ran)

@@ -1,7 +1,7 @@
 use Rattle.std.proofs.Common.{sym, ◌∙◌}
 use Rattle.std.specs.Global.{Box}
 use Rattle.call_pair.specs.Phases.{CallMemory, call_finished}
-use Rattle.farm_rounds.proofs.Phasing.{map_both}
+use Rattle.farm_rounds.proofs.Looping.{map_both}
 use Rattle.farm_rounds.proofs.phases.work_phase.Goals as goal
 
 pub returns : goal.returns

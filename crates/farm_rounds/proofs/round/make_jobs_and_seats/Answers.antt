@@ -12,16 +12,20 @@ make_jobs-requires-clause-live c = subst (λ (xs : List ℕ). AreLive xs c.args.
 pub make_seats-requires-clause-numbers : goal.make_seats-requires-clause-numbers
 make_seats-requires-clause-numbers c =
     let groups = c.args.rest.now.groups.items in
-    live_number 4294967295 c.deref-2.result.now groups c.requires.groups (subst (λ (xs : List ℕ). AreLive xs groups) (sym c.deref-2.ensures.value) c.requires.live)
+    live_number 4294967295 c.deref-2.result.now groups c.requires.groups
+    (subst (λ (xs : List ℕ). AreLive xs groups) (sym c.deref-2.ensures.value) c.requires.live)
 
 pub make_seats-requires-clause-length : goal.make_seats-requires-clause-length
-make_seats-requires-clause-length c = ap length c.deref-3.ensures.value ∙ c.in_ok-jobs.ensures.length ∙ ap length (c.deref.ensures.value ∙ sym c.deref-2.ensures.value)
+make_seats-requires-clause-length c =
+    ap length c.deref-3.ensures.value ∙ c.in_ok-jobs.ensures.length ∙ ap length (c.deref.ensures.value ∙ sym c.deref-2.ensures.value)
 
 pub returns-clause-entries : goal.returns-clause-entries
-returns-clause-entries c = subst (λ (xs : List ℕ). HaveEntries c.in_ok-jobs.jobs.items c.in_ok-jobs.entries.items xs) c.deref.ensures.value c.in_ok-jobs.ensures.entries
+returns-clause-entries c =
+    subst (λ (xs : List ℕ). HaveEntries c.in_ok-jobs.jobs.items c.in_ok-jobs.entries.items xs) c.deref.ensures.value c.in_ok-jobs.ensures.entries
 
 pub returns-clause-calls : goal.returns-clause-calls
-returns-clause-calls c = subst (λ (xs : List ℕ). BringCalls c.args.rest.now.groups.items c.in_ok-jobs.entries.items xs) c.deref.ensures.value c.in_ok-jobs.ensures.calls
+returns-clause-calls c =
+    subst (λ (xs : List ℕ). BringCalls c.args.rest.now.groups.items c.in_ok-jobs.entries.items xs) c.deref.ensures.value c.in_ok-jobs.ensures.calls
 
 pub returns-clause-number : goal.returns-clause-number
 returns-clause-number c = c.in_ok-jobs.ensures.length ∙ ap length c.deref.ensures.value
@@ -30,7 +34,9 @@ pub returns-clause-seats : goal.returns-clause-seats
 returns-clause-seats c =
     let seats = c.in_ok-seats.seats.items in
     let periods = c.args.periods in
-    let entries : AreSeats c.deref-2.result.now c.in_ok-jobs.entries.items periods seats (length c.deref-2.result.now) = subst (λ (es : List Entry). AreSeats c.deref-2.result.now es periods seats (length c.deref-2.result.now)) c.deref-3.ensures.value c.in_ok-seats.ensures.seats in
+    let entries : AreSeats c.deref-2.result.now c.in_ok-jobs.entries.items periods seats (length c.deref-2.result.now) =
+    subst (λ (es : List Entry). AreSeats c.deref-2.result.now es periods seats
+    (length c.deref-2.result.now)) c.deref-3.ensures.value c.in_ok-seats.ensures.seats in
     subst (λ (xs : List ℕ). AreSeats xs c.in_ok-jobs.entries.items periods seats (length xs)) c.deref-2.ensures.value entries
 
 pub returns-clause-length : goal.returns-clause-length

@@ -33,7 +33,9 @@ returns-then-goes_on-clause-left c =
 
 pub returns-then-goes_on-clause-settled : goal.returns-then-goes_on-clause-settled
 returns-then-goes_on-clause-settled c =
-    let goes = ap (λ (n : ℕ). goes_on_call c.args.seats.now n) (sym c.leg_of-number.ensures.number) ∙ sym c.seat_for-seat.ensures.told ∙ sym c.goes_on.ensures ∙ c.if-goes_on.true in
+    let goes =
+    ap (λ (n : ℕ). goes_on_call c.args.seats.now n) (sym c.leg_of-number.ensures.number) ∙ sym c.seat_for-seat.ensures.told ∙ sym c.goes_on.ensures
+    ∙ c.if-goes_on.true in
     settled_on (goes_on_call c.args.seats.now) (call_from c.args.half) c.args.live.now.items c.args.tallies.now goes c.requires.rising
 
 pub keep_tally-requires : goal.keep_tally-requires
@@ -47,13 +49,18 @@ remove_number-requires-clause-present c = subst (λ (n : ℕ). is_among c.args.l
 
 pub returns-else-goes_on-clause-left : goal.returns-else-goes_on-clause-left
 returns-else-goes_on-clause-left c =
-    let ends = ap (λ (n : ℕ). goes_on_call c.args.seats.now n) (sym c.leg_of-number.ensures.number) ∙ sym c.seat_for-seat.ensures.told ∙ sym c.goes_on.ensures ∙ c.if-goes_on.false in
+    let ends =
+    ap (λ (n : ℕ). goes_on_call c.args.seats.now n) (sym c.leg_of-number.ensures.number) ∙ sym c.seat_for-seat.ensures.told ∙ sym c.goes_on.ensures
+    ∙ c.if-goes_on.false in
     left_off (goes_on_call c.args.seats.now) (seat_of c.args.seats.now) (call_from c.args.half) ends
 
 pub returns-else-goes_on-clause-settled : goal.returns-else-goes_on-clause-settled
 returns-else-goes_on-clause-settled c =
     let number = c.leg_of-number.ensures.number in
     let ends = ap (λ (n : ℕ). goes_on_call c.args.seats.now n) (sym number) ∙ sym c.seat_for-seat.ensures.told ∙ sym c.goes_on.ensures ∙ c.if-goes_on.false in
-    settled_off (goes_on_call c.args.seats.now) (call_from c.args.half) c.call_of-call.result c.leg_of-number.result.0 c.args.live.now.items c.remove_number.new.numbers.items c.args.tallies.now c.keep_tally.new.tallies ends
+    settled_off (goes_on_call c.args.seats.now)
+    (call_from c.args.half) c.call_of-call.result c.leg_of-number.result.0 c.args.live.now.items c.remove_number.new.numbers.items c.args.tallies.now
+    c.keep_tally.new.tallies ends
     number (ap (λ (x : Call). x.number) c.call_of-call.ensures ∙ number) (ap (λ (x : Call). x.leg) c.call_of-call.ensures ∙ c.leg_of-number.ensures.leg)
-    c.remove_number.ensures.rising c.remove_number.ensures.numbers (omega (arith, c.remove_number.ensures.len)) c.keep_tally.ensures.call c.keep_tally.ensures.others c.keep_tally.ensures.number
+    c.remove_number.ensures.rising c.remove_number.ensures.numbers
+    (omega (arith, c.remove_number.ensures.len)) c.keep_tally.ensures.call c.keep_tally.ensures.others c.keep_tally.ensures.number

@@ -1,15 +1,16 @@
 use Rattle.std.proofs.Common.{◌≡◌, ◌∷◌, ◌∙◌, ap, subst}
 use Rattle.fr_encoder.specs.Encoded.{encoded_of, encoding_of}
-use Rattle.fr_encoder.specs.Step.{Stands}
+use Rattle.fr_encoder.specs.Stands.{Stands}
 use Rattle.farm_tools.specs.Made.{coded_frame}
-use Rattle.farm_tools.proofs.Making.{coded_frame-bits}
+use Rattle.farm_tools.proofs.Making.{coded_frame-bits, expanded-block}
 use Rattle.farm_tools.proofs.work.encoded_octets.Goals as goal
 
 pub returns-clause-history : goal.returns-clause-history
 returns-clause-history c = λ past stands.
+    let samples = c.expand_all.ensures ∙ expanded-block c.copy_from_slice.new.self c.args.block.now c.copy_from_slice.ensures.after in
     let one = c.encode.ensures.history past stands in (
-      subst (λ x. Stands (x ∷ past) c.encode.new.self) c.expand_all.ensures one.0,
+      subst (λ x. Stands (x ∷ past) c.encode.new.self) samples one.0,
       c.downlink_frame.ensures.frame
           ∙ coded_frame-bits c.encode.result.0 c.encode.result.1 c.encode.result.2 c.to_bits.new.bits c.to_bits.ensures.value
-          ∙ ap coded_frame (subst (λ x. encoded_of c.encode.result.0 c.encode.result.1 c.encode.result.2 ≡ encoding_of x past) c.expand_all.ensures one.1),
+          ∙ ap coded_frame (subst (λ x. encoded_of c.encode.result.0 c.encode.result.1 c.encode.result.2 ≡ encoding_of x past) samples one.1),
     )

@@ -1,15 +1,17 @@
-use Rattle.run_spec.specs.Run.{spans_in}
-use Rattle.farm_top.proofs.Headlining.{headline_of, spans_told}
+use Rattle.run_spec.specs.Run.{Run, spans_in}
+use Rattle.trau_orders.specs.Lists.{AreOrders}
+use Rattle.farm_top.specs.Headline.{GoesOut, HandsOver}
+use Rattle.farm_top.proofs.Headlining.{headline_of, later_headline_of, spans_told}
 use Rattle.farm_top.proofs.farm.lines_have_the_headline.Goals as goal
 
 pub returns : goal.returns
-returns g = λ r fails before now are leaves.
+returns g =
     let lines = g.lines_are_of_whole_calls.ensures in
     let items = g.items_are_the_partners_frames.ensures in
     let sent = g.items_go_out_in_order_and_once.ensures in
-    headline_of r fails before now (λ c opened. lines.out r c are opened) (λ c opened. lines.down r c are opened)
-    (record { reported = spans_told r (spans_in r); within = λ c t x. items.frame r c t x are; outside = λ c t. items.none r c t are })
-    (record {
+    let hands : (r : Run) → AreOrders r.orders → HandsOver r =
+    λ r are. record { reported = spans_told r (spans_in r); within = λ c t x. items.frame r c t x are; outside = λ c t. items.none r c t are } in
+    let goes : (r : Run) → AreOrders r.orders → GoesOut r = λ r are. record {
       goes = λ c t x. sent.goes r c t x are;
       unchanged = λ c t x j p bits. sent.good r c t x j p bits are;
       on_line = λ c t x j k. sent.on_line r c t x j k are;
@@ -20,5 +22,9 @@ returns g = λ r fails before now are leaves.
       once = λ c t x j k. sent.once r c t x j k are;
       one_waits = λ c u t x. sent.one_waits r c u t x are;
       lost = λ x. sent.lost r x are;
-    })
-    leaves
+    } in record {
+      whole = λ r fails before now are leaves. headline_of r fails before now (λ c opened. lines.out r c are opened) (λ c opened. lines.down r c are opened)
+          (hands r are) (goes r are) leaves;
+      later = λ r from fails before now are leaves. later_headline_of r from fails before now (λ c opened. lines.out r c are opened)
+          (λ c opened. lines.down r c are opened) (hands r are) (goes r are) leaves;
+    }

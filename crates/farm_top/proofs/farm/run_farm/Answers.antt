@@ -5,7 +5,8 @@ use Rattle.farm_top.proofs.farm.run_farm.Goals as goal
 pub returns-in-Ok-run : goal.returns-in-Ok-run
 returns-in-Ok-run g c =
     let read = c.in-Ok.ensures in
-    let ran = ran_and_told c.lines_have_the_headline.ensures _ _ _ _ _ _ _ _ (orders_read _ _ _ read.reads) c.in-Ok-run.ensures.runs c.tell_report.ensures in
+    let ran = ran_and_told c.lines_have_the_headline.ensures.whole _ c.args.settings _ c.pace_of.ensures _ _ _ _ _ _
+    (orders_read _ _ _ read.reads) c.in-Ok-run.ensures.runs c.tell_report.ensures in
     record {
       read = g.D.Desk.desk c.read_orders.new.desk;
       reading = Ok c.in-Ok.orders;

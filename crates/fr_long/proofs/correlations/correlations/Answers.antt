@@ -12,7 +12,8 @@ use Rattle.fr_long.proofs.correlations.correlations.Goals as goal
 pub overflow_mul-all : goal.overflow_mul-all
 overflow_mul-all c =
     let bound = Each1-get_or (Within 671088640) c.four.result c.loop-lane.lane (pos 0) (omega arith) c.four.ensures.small in
-    subst (λ zs. FitsSigned w32 (to_z w32 (of_z w32 (get_or zs c.loop-lane.lane (pos 0))) *ℤ pos 2)) (sym (kept 671088640 c.four.result (omega arith) c.four.ensures.small)) (omega (arith, ints))
+    subst (λ zs. FitsSigned w32 (to_z w32 (of_z w32 (get_or zs c.loop-lane.lane (pos 0))) *ℤ pos 2))
+    (sym (kept 671088640 c.four.result (omega arith) c.four.ensures.small)) (omega (arith, ints))
 
 pub loop-group-init : goal.loop-group-init
 loop-group-init c = record { long = refl; longs = zeros_fit; value = λ k l m. absurd (omega arith) }
@@ -24,7 +25,8 @@ loop-lane-preserved c =
     let x : ℤ = to_z w32 (of_z w32 (to_z w32 (of_z w32 (get_or (map (to_z w32) (map (of_z w32) r)) c.loop-lane.lane (pos 0))) *ℤ pos 2)) in
     let bound = Each1-get_or (Within 671088640) r c.loop-lane.lane (pos 0) (omega arith) c.four.ensures.small in
     let doubled : x ≡ get_or r c.loop-lane.lane (pos 0) *ℤ pos 2 =
-    subst (λ zs. to_z w32 (of_z w32 (to_z w32 (of_z w32 (get_or zs c.loop-lane.lane (pos 0))) *ℤ pos 2)) ≡ get_or r c.loop-lane.lane (pos 0) *ℤ pos 2) (sym (kept 671088640 r (omega arith) c.four.ensures.small)) (omega (arith, ints)) in
+    subst (λ zs. to_z w32 (of_z w32 (to_z w32 (of_z w32 (get_or zs c.loop-lane.lane (pos 0))) *ℤ pos 2)) ≡ get_or r c.loop-lane.lane (pos 0) *ℤ pos 2)
+    (sym (kept 671088640 r (omega arith) c.four.ensures.small)) (omega (arith, ints)) in
     let place : 40 + c.min-first.result + c.loop-lane.lane ≡ 40 + at = omega arith in
     let here : x ≡ correlation_of c.args.wt.now c.args.earlier.now (40 + at) =
     doubled ∙ c.four.ensures.value c.loop-lane.lane c.loop-lane-test.true ∙

@@ -15,16 +15,20 @@ both-back-requires-clause-small c = both_passed 167772160 _ _ (omega arith) c.la
 
 pub both-requires-clause-small : goal.both-requires-clause-small
 both-requires-clause-small c =
-    let front = both_is 167772160 c.lag_sums-first.result c.lag_sums-second.result c.both-front.result (omega arith) c.lag_sums-first.ensures.small c.lag_sums-second.ensures.small c.both-front.ensures in
-    let back = both_is 167772160 c.lag_sums-third.result c.lag_sums-fourth.result c.both-back.result (omega arith) c.lag_sums-third.ensures.small c.lag_sums-fourth.ensures.small c.both-back.ensures in
+    let front = both_is 167772160 c.lag_sums-first.result c.lag_sums-second.result c.both-front.result
+    (omega arith) c.lag_sums-first.ensures.small c.lag_sums-second.ensures.small c.both-front.ensures in
+    let back = both_is 167772160 c.lag_sums-third.result c.lag_sums-fourth.result c.both-back.result
+    (omega arith) c.lag_sums-third.ensures.small c.lag_sums-fourth.ensures.small c.both-back.ensures in
     both_passed 335544320 c.both-front.result c.both-back.result (omega arith)
     (both_within 167772160 _ _ _ c.lag_sums-first.ensures.small c.lag_sums-second.ensures.small front)
     (both_within 167772160 _ _ _ c.lag_sums-third.ensures.small c.lag_sums-fourth.ensures.small back)
 
 pub returns-clause-small : goal.returns-clause-small
 returns-clause-small c =
-    let front = both_is 167772160 c.lag_sums-first.result c.lag_sums-second.result c.both-front.result (omega arith) c.lag_sums-first.ensures.small c.lag_sums-second.ensures.small c.both-front.ensures in
-    let back = both_is 167772160 c.lag_sums-third.result c.lag_sums-fourth.result c.both-back.result (omega arith) c.lag_sums-third.ensures.small c.lag_sums-fourth.ensures.small c.both-back.ensures in
+    let front = both_is 167772160 c.lag_sums-first.result c.lag_sums-second.result c.both-front.result
+    (omega arith) c.lag_sums-first.ensures.small c.lag_sums-second.ensures.small c.both-front.ensures in
+    let back = both_is 167772160 c.lag_sums-third.result c.lag_sums-fourth.result c.both-back.result
+    (omega arith) c.lag_sums-third.ensures.small c.lag_sums-fourth.ensures.small c.both-back.ensures in
     let fw = both_within 167772160 _ _ _ c.lag_sums-first.ensures.small c.lag_sums-second.ensures.small front in
     let bw = both_within 167772160 _ _ _ c.lag_sums-third.ensures.small c.lag_sums-fourth.ensures.small back in
     let whole = both_is 335544320 c.both-front.result c.both-back.result c.both.result (omega arith) fw bw c.both.ensures in
@@ -33,29 +37,37 @@ returns-clause-small c =
 
 pub returns-clause-length : goal.returns-clause-length
 returns-clause-length c =
-    let front = both_is 167772160 c.lag_sums-first.result c.lag_sums-second.result c.both-front.result (omega arith) c.lag_sums-first.ensures.small c.lag_sums-second.ensures.small c.both-front.ensures in
-    let back = both_is 167772160 c.lag_sums-third.result c.lag_sums-fourth.result c.both-back.result (omega arith) c.lag_sums-third.ensures.small c.lag_sums-fourth.ensures.small c.both-back.ensures in
+    let front = both_is 167772160 c.lag_sums-first.result c.lag_sums-second.result c.both-front.result
+    (omega arith) c.lag_sums-first.ensures.small c.lag_sums-second.ensures.small c.both-front.ensures in
+    let back = both_is 167772160 c.lag_sums-third.result c.lag_sums-fourth.result c.both-back.result
+    (omega arith) c.lag_sums-third.ensures.small c.lag_sums-fourth.ensures.small c.both-back.ensures in
     let fw = both_within 167772160 _ _ _ c.lag_sums-first.ensures.small c.lag_sums-second.ensures.small front in
     let bw = both_within 167772160 _ _ _ c.lag_sums-third.ensures.small c.lag_sums-fourth.ensures.small back in
     let whole = both_is 335544320 c.both-front.result c.both-back.result c.both.result (omega arith) fw bw c.both.ensures in
     let ww = both_within 335544320 _ _ _ fw bw whole in
     ap length (kept 671088640 c.both.result (omega arith) ww) ∙
-    both_length c.both-front.result c.both-back.result c.both.result (both_length _ _ _ c.lag_sums-first.ensures.length c.lag_sums-second.ensures.length front) (both_length _ _ _ c.lag_sums-third.ensures.length c.lag_sums-fourth.ensures.length back) whole
+    both_length c.both-front.result c.both-back.result c.both.result (both_length _ _ _ c.lag_sums-first.ensures.length c.lag_sums-second.ensures.length front)
+    (both_length _ _ _ c.lag_sums-third.ensures.length c.lag_sums-fourth.ensures.length back) whole
 
 pub returns-clause-value : goal.returns-clause-value
 returns-clause-value c =
-    let front = both_is 167772160 c.lag_sums-first.result c.lag_sums-second.result c.both-front.result (omega arith) c.lag_sums-first.ensures.small c.lag_sums-second.ensures.small c.both-front.ensures in
-    let back = both_is 167772160 c.lag_sums-third.result c.lag_sums-fourth.result c.both-back.result (omega arith) c.lag_sums-third.ensures.small c.lag_sums-fourth.ensures.small c.both-back.ensures in
+    let front = both_is 167772160 c.lag_sums-first.result c.lag_sums-second.result c.both-front.result
+    (omega arith) c.lag_sums-first.ensures.small c.lag_sums-second.ensures.small c.both-front.ensures in
+    let back = both_is 167772160 c.lag_sums-third.result c.lag_sums-fourth.result c.both-back.result
+    (omega arith) c.lag_sums-third.ensures.small c.lag_sums-fourth.ensures.small c.both-back.ensures in
     let fw = both_within 167772160 _ _ _ c.lag_sums-first.ensures.small c.lag_sums-second.ensures.small front in
     let bw = both_within 167772160 _ _ _ c.lag_sums-third.ensures.small c.lag_sums-fourth.ensures.small back in
     let whole = both_is 335544320 c.both-front.result c.both-back.result c.both.result (omega arith) fw bw c.both.ensures in
     let ww = both_within 335544320 _ _ _ fw bw whole in
     let totals = kept 671088640 c.both.result (omega arith) ww ∙ whole ∙ ap (λ zs. sums_of_pairs (zs ++ c.both-back.result)) front ∙
     ap (λ zs. sums_of_pairs (sums_of_pairs (c.lag_sums-first.result ++ c.lag_sums-second.result) ++ zs)) back ∙
-    four_totals c.lag_sums-first.result c.lag_sums-second.result c.lag_sums-third.result c.lag_sums-fourth.result c.lag_sums-first.ensures.length c.lag_sums-second.ensures.length c.lag_sums-third.ensures.length c.lag_sums-fourth.ensures.length in
-    let start = subst (λ n. fold ◌+ℤ◌ (pos 0) c.lag_sums-first.result *ℤ pos 2 ≡ correlation_of c.args.wt.now c.args.earlier.now n) (sym (add-zero c.args.lag)) c.lag_sums-first.ensures.value in
+    four_totals c.lag_sums-first.result c.lag_sums-second.result c.lag_sums-third.result c.lag_sums-fourth.result c.lag_sums-first.ensures.length
+    c.lag_sums-second.ensures.length c.lag_sums-third.ensures.length c.lag_sums-fourth.ensures.length in
+    let start = subst (λ n. fold ◌+ℤ◌ (pos 0) c.lag_sums-first.result *ℤ pos 2 ≡ correlation_of c.args.wt.now c.args.earlier.now n)
+    (sym (add-zero c.args.lag)) c.lag_sums-first.ensures.value in
     λ k h. subst (λ zs. get_or zs k (pos 0) *ℤ pos 2 ≡ correlation_of c.args.wt.now c.args.earlier.now (c.args.lag + k)) (sym totals)
-    (four_lanes (λ k v. v *ℤ pos 2 ≡ correlation_of c.args.wt.now c.args.earlier.now (c.args.lag + k)) _ _ _ _ start c.lag_sums-second.ensures.value c.lag_sums-third.ensures.value c.lag_sums-fourth.ensures.value k h)
+    (four_lanes (λ k v. v *ℤ pos 2 ≡ correlation_of c.args.wt.now c.args.earlier.now (c.args.lag + k)) _ _ _ _ start c.lag_sums-second.ensures.value
+    c.lag_sums-third.ensures.value c.lag_sums-fourth.ensures.value k h)
 
 pub lag_sums-first-requires : goal.lag_sums-first-requires
 lag_sums-first-requires c = record { scaled = c.requires.scaled; words = c.requires.words; at_least = omega arith; at_most = omega arith }
@@ -83,10 +95,14 @@ both-back-requires-clause-length_b c = simp length-map c.lag_sums-fourth.ensures
 
 pub both-requires-clause-length_a : goal.both-requires-clause-length_a
 both-requires-clause-length_a c =
-    let front = both_is 167772160 c.lag_sums-first.result c.lag_sums-second.result c.both-front.result (omega arith) c.lag_sums-first.ensures.small c.lag_sums-second.ensures.small c.both-front.ensures in
-    simp length-map (both_length c.lag_sums-first.result c.lag_sums-second.result c.both-front.result c.lag_sums-first.ensures.length c.lag_sums-second.ensures.length front)
+    let front = both_is 167772160 c.lag_sums-first.result c.lag_sums-second.result c.both-front.result
+    (omega arith) c.lag_sums-first.ensures.small c.lag_sums-second.ensures.small c.both-front.ensures in
+    simp length-map (both_length c.lag_sums-first.result c.lag_sums-second.result c.both-front.result c.lag_sums-first.ensures.length
+    c.lag_sums-second.ensures.length front)
 
 pub both-requires-clause-length_b : goal.both-requires-clause-length_b
 both-requires-clause-length_b c =
-    let back = both_is 167772160 c.lag_sums-third.result c.lag_sums-fourth.result c.both-back.result (omega arith) c.lag_sums-third.ensures.small c.lag_sums-fourth.ensures.small c.both-back.ensures in
-    simp length-map (both_length c.lag_sums-third.result c.lag_sums-fourth.result c.both-back.result c.lag_sums-third.ensures.length c.lag_sums-fourth.ensures.length back)
+    let back = both_is 167772160 c.lag_sums-third.result c.lag_sums-fourth.result c.both-back.result
+    (omega arith) c.lag_sums-third.ensures.small c.lag_sums-fourth.ensures.small c.both-back.ensures in
+    simp length-map (both_length c.lag_sums-third.result c.lag_sums-fourth.result c.both-back.result c.lag_sums-third.ensures.length
+    c.lag_sums-fourth.ensures.length back)

@@ -26,8 +26,12 @@ loop-lane-preserved c =
     let eight = are.eight in
     let lane : FitsSigned w32 (entry tops c.loop-lane.lane) = Each1-get_or (FitsSigned w32) tops c.loop-lane.lane (pos 0) (omega arith) are.longs in
     let r : FitsSigned w32 c.max-top.result = search rules in
-    let e = to_z-of_z w32 c.max-top.result r ∙ c.max-top.ensures ∙ ord_max_is (to_z w32 c.loop-lane.top-bits) (to_z w32 (of_z w32 (entry tops c.loop-lane.lane))) ∙ ap (int_max (to_z w32 c.loop-lane.top-bits)) (to_z-of_z w32 (entry tops c.loop-lane.lane) lane) in
-    lane_next c.args.correlations.now tops (to_z w32 c.loop-lane.top-bits) c.loop-lane.lane c.loop-group.group _ c.loop-lane-test.true are c.loop-lane.invariant e
+    let e = to_z-of_z w32 c.max-top.result r ∙ c.max-top.ensures ∙
+    ord_max_is (to_z w32 c.loop-lane.top-bits) (to_z w32 (of_z w32 (entry tops c.loop-lane.lane))) ∙
+    ap (int_max (to_z w32 c.loop-lane.top-bits)) (to_z-of_z w32 (entry tops c.loop-lane.lane) lane) in
+    lane_next c.args.correlations.now tops
+    (to_z w32 c.loop-lane.top-bits) c.loop-lane.lane c.loop-group.group _ c.loop-lane-test.true are c.loop-lane.invariant e
 
 pub returns : goal.returns
-returns c = top_is c.args.correlations.now _ _ c.loop-lane.lane c.loop-group.group c.loop-lane-test.false c.loop-group-test.false c.loop-group.invariant c.loop-lane.invariant
+returns c = top_is c.args.correlations.now _ _ c.loop-lane.lane c.loop-group.group c.loop-lane-test.false c.loop-group-test.false c.loop-group.invariant
+    c.loop-lane.invariant

@@ -23,5 +23,6 @@ moved old xs ys lo lx ly m =
 pub returns : goal.returns
 returns c =
     rw c.copy_from_slice.ensures.after
-    (moved c.args.residuals.now c.copy_within.new.self c.args.block.now c.told-residuals (omega (arith, c.copy_within.ensures.len, c.told-residuals)) c.told-block
+    (moved c.args.residuals.now c.copy_within.new.self c.args.block.now c.told-residuals
+    (omega (arith, c.copy_within.ensures.len, c.told-residuals)) c.told-block
     (λ k d h. c.copy_within.ensures.by_index.0 k d (omega arith) (omega (arith, c.told-residuals))))

@@ -3,8 +3,8 @@ use Rattle.std.specs.Int.{int_max}
 use Rattle.std.specs.Ordering.{ord_max}
 use Rattle.std.proofs.lemmas.Int.{to_z-of_z, ints, clamps}
 use Rattle.trau_num.specs.Num.{abs_of, entry}
-use Rattle.fr_long.specs.Scaling.{peak_of}
-use Rattle.fr_long.proofs.Blocks.{fold_more}
+use Rattle.fr_long.specs.Scaling.{block_peak_of}
+use Rattle.trau_lanes.proofs.LaneDots.{fold_more}
 use Rattle.fr_long.proofs.scaling.peak.Goals as goal
 
 is_less : (t u : Bool) → is_lt (cond t Less (cond u Greater Equal)) ≡ t
@@ -37,5 +37,5 @@ loop-k-preserved c =
     })
 
 pub returns-clause-value : goal.returns-clause-value
-unfolding peak_of
+unfolding block_peak_of
 returns-clause-value c = let e : c.loop-k.k ≡ 40 = omega arith in rw e at c.loop-k.invariant.value

@@ -15,10 +15,12 @@ loop-k-preserved c =
     let bound = c.loop-k.invariant.bound in
     let place : 120 - c.args.lag + c.loop-k.k ≡ length c.args.earlier.now + c.loop-k.k - c.args.lag = omega arith in
     let term = e ∙ ap (λ i. energy_of (get_or c.args.earlier.now i (pos 0))) place in
-    let x : to_z w32 (of_z w32 (to_z w32 c.loop-k.half-bits +ℤ to_z w32 (of_z w32 c.half_energy-half.result))) ≡ to_z w32 c.loop-k.half-bits +ℤ c.half_energy-half.result =
+    let x : to_z w32 (of_z w32 (to_z w32 c.loop-k.half-bits +ℤ to_z w32 (of_z w32 c.half_energy-half.result))) ≡
+    to_z w32 c.loop-k.half-bits +ℤ c.half_energy-half.result =
     omega (arith, ints) in
     record {
-      value = sum_more (λ k. energy_of (sample_before c.args.earlier.now c.args.lag k)) c.loop-k.k _ (to_z w32 c.loop-k.half-bits) c.half_energy-half.result x c.loop-k.invariant.value term;
+      value = sum_more (λ k. energy_of (sample_before c.args.earlier.now c.args.lag k)) c.loop-k.k _
+          (to_z w32 c.loop-k.half-bits) c.half_energy-half.result x c.loop-k.invariant.value term;
       bound = omega (arith, ints);
     }
 

@@ -15,7 +15,8 @@ loop-k-preserved c =
     let fits : FitsSigned w32 c.autocorrelation.result = record { sfits = c.autocorrelation.type_inv } in
     rw (to_z-of_z w32 _ fits) (record {
       filled = fill_next (pos 0) _ c.loop-k.acf 9 c.loop-k.k _ c.loop-k-test.true old.filled c.autocorrelation.ensures.value;
-      bound = each_next (λ (j : ℕ) (x : ℤ). unsigned_abs x ≤ 1342177280) (pos 0) c.loop-k.acf c.loop-k.k c.autocorrelation.result (omega (arith, old.filled.count)) c.autocorrelation.ensures.bound old.bound;
+      bound = each_next (λ (j : ℕ) (x : ℤ). unsigned_abs x ≤ 1342177280) (pos 0) c.loop-k.acf c.loop-k.k c.autocorrelation.result
+          (omega (arith, old.filled.count)) c.autocorrelation.ensures.bound old.bound;
     })
 
 pub returns-clause-value : goal.returns-clause-value

@@ -28,7 +28,8 @@ neighbours-requires-clause-length c =
     let past = past_small c.args.s.now c.args.past.now c.told-past c.requires.scaled c.requires.zeros c.requires.samples in
     let i : ℕ = 8 * c.loop-block.block in
     let at : ℕ = 8 - c.args.k + 8 * c.loop-block.block in
-    let is = row_passed c.args.s.now c.args.past.now c.eight.result c.eight-in-loop-block.result c.products-products.result i at small past c.eight.ensures c.eight-in-loop-block.ensures c.products-products.ensures in
+    let is = row_passed c.args.s.now c.args.past.now c.eight.result c.eight-in-loop-block.result c.products-products.result i at small past c.eight.ensures
+    c.eight-in-loop-block.ensures c.products-products.ensures in
     ap length is ∙ row_length c.args.s.now c.args.past.now i at (omega arith) (omega arith)
 
 pub neighbours-requires-clause-small : goal.neighbours-requires-clause-small
@@ -37,11 +38,14 @@ neighbours-requires-clause-small c =
     let past = past_small c.args.s.now c.args.past.now c.told-past c.requires.scaled c.requires.zeros c.requires.samples in
     let i : ℕ = 8 * c.loop-block.block in
     let at : ℕ = 8 - c.args.k + 8 * c.loop-block.block in
-    let is = row_passed c.args.s.now c.args.past.now c.eight.result c.eight-in-loop-block.result c.products-products.result i at small past c.eight.ensures c.eight-in-loop-block.ensures c.products-products.ensures in
-    subst (Each1 (Within 1073741823)) (sym is) (Each1-weaker (Within 4194304) (Within 1073741823) (λ x h. omega arith) _ (row_within c.args.s.now c.args.past.now i at small past))
+    let is = row_passed c.args.s.now c.args.past.now c.eight.result c.eight-in-loop-block.result c.products-products.result i at small past c.eight.ensures
+    c.eight-in-loop-block.ensures c.products-products.ensures in
+    subst (Each1 (Within 1073741823)) (sym is)
+    (Each1-weaker (Within 4194304) (Within 1073741823) (λ x h. omega arith) _ (row_within c.args.s.now c.args.past.now i at small past))
 
 pub sums-halves-requires-clause-small_a : goal.sums-halves-requires-clause-small_a
-sums-halves-requires-clause-small_a c = Each1-weaker (Within (8388608 * c.loop-block.block)) (Within 1073741823) (λ x h. omega arith) _ c.loop-block.invariant.small
+sums-halves-requires-clause-small_a c =
+    Each1-weaker (Within (8388608 * c.loop-block.block)) (Within 1073741823) (λ x h. omega arith) _ c.loop-block.invariant.small
 
 -- the sums of pairs of eight products, as they are passed
 pairs_given : (s past xs ys ps qs : List ℤ) (i at : ℕ) → AreSmall s → AreSmall past → xs ≡ chunk i 8 s → ys ≡ chunk at 8 past →
@@ -55,7 +59,8 @@ pub sums-halves-requires-clause-small_b : goal.sums-halves-requires-clause-small
 sums-halves-requires-clause-small_b c =
     let small = samples_small c.args.s.now c.requires.scaled in
     let past = past_small c.args.s.now c.args.past.now c.told-past c.requires.scaled c.requires.zeros c.requires.samples in
-    let given = pairs_given c.args.s.now c.args.past.now c.eight.result c.eight-in-loop-block.result c.products-products.result c.neighbours.result (8 * c.loop-block.block) (8 - c.args.k + 8 * c.loop-block.block)
+    let given = pairs_given c.args.s.now c.args.past.now c.eight.result c.eight-in-loop-block.result c.products-products.result c.neighbours.result
+    (8 * c.loop-block.block) (8 - c.args.k + 8 * c.loop-block.block)
     small past c.eight.ensures c.eight-in-loop-block.ensures c.products-products.ensures c.neighbours.ensures in
     subst (Each1 (Within 1073741823)) (sym given.0) (Each1-weaker (Within 8388608) (Within 1073741823) (λ x h. omega arith) _ given.1)
 
@@ -70,7 +75,8 @@ loop-block-preserved c =
     let sums = map (to_z w32) c.loop-block.halves in
     let added = sums_of_pairs (row c.args.s.now c.args.past.now i at) in
     let long = length_pairs (row c.args.s.now c.args.past.now i at) (row_length c.args.s.now c.args.past.now i at (omega arith) (omega arith)) in
-    let next = next_passed c.loop-block.block sums added _ c.sums-halves.result c.loop-block-test.true c.loop-block.invariant.small given.1 given.0 c.sums-halves.ensures in
+    let next = next_passed c.loop-block.block sums added _ c.sums-halves.result c.loop-block-test.true c.loop-block.invariant.small given.1 given.0
+    c.sums-halves.ensures in
     let four : length sums ≡ 4 = simp length-map c.loop-block.invariant.length_is in
     let place : 8 * c.loop-block.block + 8 ≡ 8 * (c.loop-block.block + 1) = omega arith in
     record {
@@ -78,11 +84,13 @@ loop-block-preserved c =
       value = ap (fold ◌+ℤ◌ (pos 0)) next ∙
           eight_more c.args.s.now c.args.past.now sums (8 - c.args.k) i four (omega arith) (omega arith) c.loop-block.invariant.value ∙
           ap (λ n. fold ◌+ℤ◌ (pos 0) (map (product_at c.args.s.now c.args.past.now (8 - c.args.k)) (range_with_len 0 n))) place;
-      small = subst (Each1 (Within (8388608 * (c.loop-block.block + 1)))) (sym next) (next_within c.loop-block.block sums added c.loop-block.invariant.small given.1);
+      small = subst (Each1 (Within (8388608 * (c.loop-block.block + 1)))) (sym next)
+          (next_within c.loop-block.block sums added c.loop-block.invariant.small given.1);
     }
 
 -- a lane of the sums
-lane : (halves : List ℕ) (n : ℕ) (j : ℕ) → n ≤ 20 → length halves ≡ 4 → j < 4 → Each1 (Within (8388608 * n)) (map (to_z w32) halves) → Within 167772160 (get_or (map (to_z w32) halves) j (pos 0))
+lane : (halves : List ℕ) (n : ℕ) (j : ℕ) → n ≤ 20 → length halves ≡ 4 → j < 4 → Each1 (Within (8388608 * n)) (map (to_z w32) halves) →
+    Within 167772160 (get_or (map (to_z w32) halves) j (pos 0))
 lane halves n j l e b h =
     let long = length-map halves (to_z w32) ∙ e in
     let at = Each1-get_or (Within (8388608 * n)) (map (to_z w32) halves) j (pos 0) (omega arith) h in
@@ -95,10 +103,12 @@ kept x = to_z w32 (of_z w32 x)
 three : (a b d : ℤ) → Within 167772160 a → Within 167772160 b → Within 167772160 d → FitsSigned w32 (kept (kept a +ℤ kept b) +ℤ kept d)
 three a b d la lb ld = omega (arith, ints)
 
-four : (a b d e : ℤ) → Within 167772160 a → Within 167772160 b → Within 167772160 d → Within 167772160 e → FitsSigned w32 (kept (kept (kept a +ℤ kept b) +ℤ kept d) +ℤ kept e)
+four : (a b d e : ℤ) → Within 167772160 a → Within 167772160 b → Within 167772160 d → Within 167772160 e →
+    FitsSigned w32 (kept (kept (kept a +ℤ kept b) +ℤ kept d) +ℤ kept e)
 four a b d e la lb ld le = omega (arith, ints)
 
-twice : (a b d e : ℤ) → Within 167772160 a → Within 167772160 b → Within 167772160 d → Within 167772160 e → FitsSigned w32 (kept (kept (kept (kept a +ℤ kept b) +ℤ kept d) +ℤ kept e) *ℤ pos 2)
+twice : (a b d e : ℤ) → Within 167772160 a → Within 167772160 b → Within 167772160 d → Within 167772160 e →
+    FitsSigned w32 (kept (kept (kept (kept a +ℤ kept b) +ℤ kept d) +ℤ kept e) *ℤ pos 2)
 twice a b d e la lb ld le = omega (arith, ints)
 
 whole : (a b d e : ℤ) → Within 167772160 a → Within 167772160 b → Within 167772160 d → Within 167772160 e →
@@ -108,9 +118,11 @@ whole a b d e la lb ld le =
     let two : kept (a +ℤ b) +ℤ kept d ≡ a +ℤ b +ℤ d = omega (arith, ints) in
     let last : kept (a +ℤ b +ℤ d) +ℤ kept e ≡ a +ℤ b +ℤ d +ℤ e = omega (arith, ints) in
     let double : kept (kept (a +ℤ b +ℤ d +ℤ e) *ℤ pos 2) ≡ (a +ℤ b +ℤ d +ℤ e) *ℤ pos 2 = omega (arith, ints) in
-    ap (λ x. kept (kept (kept (kept x +ℤ kept d) +ℤ kept e) *ℤ pos 2)) one ∙ ap (λ x. kept (kept (kept x +ℤ kept e) *ℤ pos 2)) two ∙ ap (λ x. kept (kept x *ℤ pos 2)) last ∙ double
+    ap (λ x. kept (kept (kept (kept x +ℤ kept d) +ℤ kept e) *ℤ pos 2)) one ∙ ap (λ x. kept (kept (kept x +ℤ kept e) *ℤ pos 2)) two ∙
+    ap (λ x. kept (kept x *ℤ pos 2)) last ∙ double
 
-small_whole : (a b d e : ℤ) → Within 167772160 a → Within 167772160 b → Within 167772160 d → Within 167772160 e → unsigned_abs ((a +ℤ b +ℤ d +ℤ e) *ℤ pos 2) ≤ 1342177280
+small_whole : (a b d e : ℤ) → Within 167772160 a → Within 167772160 b → Within 167772160 d → Within 167772160 e →
+    unsigned_abs ((a +ℤ b +ℤ d +ℤ e) *ℤ pos 2) ≤ 1342177280
 small_whole a b d e la lb ld le = omega (arith, ints)
 
 pub overflow_add-result-2 : goal.overflow_add-result-2
@@ -118,21 +130,27 @@ overflow_add-result-2 c =
     let l = lane c.loop-block.halves c.loop-block.block in
     let s = c.loop-block.invariant.small in
     let n = c.loop-block.invariant.length_is in
-    three (get_or (map (to_z w32) c.loop-block.halves) 0 (pos 0)) (get_or (map (to_z w32) c.loop-block.halves) 1 (pos 0)) (get_or (map (to_z w32) c.loop-block.halves) 2 (pos 0)) (l 0 (omega arith) n (lit< tt) s) (l 1 (omega arith) n (lit< tt) s) (l 2 (omega arith) n (lit< tt) s)
+    three (get_or (map (to_z w32) c.loop-block.halves) 0 (pos 0)) (get_or (map (to_z w32) c.loop-block.halves) 1 (pos 0))
+    (get_or (map (to_z w32) c.loop-block.halves) 2 (pos 0)) (l 0 (omega arith) n (lit< tt) s) (l 1 (omega arith) n (lit< tt) s)
+    (l 2 (omega arith) n (lit< tt) s)
 
 pub overflow_add-result-3 : goal.overflow_add-result-3
 overflow_add-result-3 c =
     let l = lane c.loop-block.halves c.loop-block.block in
     let s = c.loop-block.invariant.small in
     let n = c.loop-block.invariant.length_is in
-    four (get_or (map (to_z w32) c.loop-block.halves) 0 (pos 0)) (get_or (map (to_z w32) c.loop-block.halves) 1 (pos 0)) (get_or (map (to_z w32) c.loop-block.halves) 2 (pos 0)) (get_or (map (to_z w32) c.loop-block.halves) 3 (pos 0)) (l 0 (omega arith) n (lit< tt) s) (l 1 (omega arith) n (lit< tt) s) (l 2 (omega arith) n (lit< tt) s) (l 3 (omega arith) n (lit< tt) s)
+    four (get_or (map (to_z w32) c.loop-block.halves) 0 (pos 0)) (get_or (map (to_z w32) c.loop-block.halves) 1 (pos 0))
+    (get_or (map (to_z w32) c.loop-block.halves) 2 (pos 0)) (get_or (map (to_z w32) c.loop-block.halves) 3 (pos 0)) (l 0 (omega arith) n (lit< tt) s)
+    (l 1 (omega arith) n (lit< tt) s) (l 2 (omega arith) n (lit< tt) s) (l 3 (omega arith) n (lit< tt) s)
 
 pub overflow_mul-result : goal.overflow_mul-result
 overflow_mul-result c =
     let l = lane c.loop-block.halves c.loop-block.block in
     let s = c.loop-block.invariant.small in
     let n = c.loop-block.invariant.length_is in
-    twice (get_or (map (to_z w32) c.loop-block.halves) 0 (pos 0)) (get_or (map (to_z w32) c.loop-block.halves) 1 (pos 0)) (get_or (map (to_z w32) c.loop-block.halves) 2 (pos 0)) (get_or (map (to_z w32) c.loop-block.halves) 3 (pos 0)) (l 0 (omega arith) n (lit< tt) s) (l 1 (omega arith) n (lit< tt) s) (l 2 (omega arith) n (lit< tt) s) (l 3 (omega arith) n (lit< tt) s)
+    twice (get_or (map (to_z w32) c.loop-block.halves) 0 (pos 0)) (get_or (map (to_z w32) c.loop-block.halves) 1 (pos 0))
+    (get_or (map (to_z w32) c.loop-block.halves) 2 (pos 0)) (get_or (map (to_z w32) c.loop-block.halves) 3 (pos 0)) (l 0 (omega arith) n (lit< tt) s)
+    (l 1 (omega arith) n (lit< tt) s) (l 2 (omega arith) n (lit< tt) s) (l 3 (omega arith) n (lit< tt) s)
 
 pub returns-clause-value : goal.returns-clause-value
 returns-clause-value c =
@@ -141,10 +159,12 @@ returns-clause-value c =
     let n = c.loop-block.invariant.length_is in
     let p = map (to_z w32) c.loop-block.halves in
     let last : 8 * c.loop-block.block ≡ 160 = omega arith in
-    whole (get_or p 0 (pos 0)) (get_or p 1 (pos 0)) (get_or p 2 (pos 0)) (get_or p 3 (pos 0)) (l 0 (omega arith) n (lit< tt) s) (l 1 (omega arith) n (lit< tt) s) (l 2 (omega arith) n (lit< tt) s) (l 3 (omega arith) n (lit< tt) s) ∙
+    whole (get_or p 0 (pos 0)) (get_or p 1 (pos 0)) (get_or p 2 (pos 0)) (get_or p 3 (pos 0)) (l 0 (omega arith) n (lit< tt) s)
+    (l 1 (omega arith) n (lit< tt) s) (l 2 (omega arith) n (lit< tt) s) (l 3 (omega arith) n (lit< tt) s) ∙
     ap (λ z. z *ℤ pos 2) (four_sum p (length-map c.loop-block.halves (to_z w32) ∙ n) ∙ c.loop-block.invariant.value ∙
     ap (λ m. fold ◌+ℤ◌ (pos 0) (map (product_at c.args.s.now c.args.past.now (8 - c.args.k)) (range_with_len 0 m))) last ∙
-    is_plain c.args.s.now c.args.past.now c.args.k c.requires.lag c.requires.zeros c.requires.samples) ∙ sym (plain_doubled c.args.s.now c.requires.scaled c.args.k)
+    is_plain c.args.s.now c.args.past.now c.args.k c.requires.lag c.requires.zeros c.requires.samples) ∙
+    sym (plain_doubled c.args.s.now c.requires.scaled c.args.k)
 
 pub returns-clause-bound : goal.returns-clause-bound
 returns-clause-bound c =
@@ -152,6 +172,8 @@ returns-clause-bound c =
     let s = c.loop-block.invariant.small in
     let n = c.loop-block.invariant.length_is in
     let p = map (to_z w32) c.loop-block.halves in
-    let is = whole (get_or p 0 (pos 0)) (get_or p 1 (pos 0)) (get_or p 2 (pos 0)) (get_or p 3 (pos 0)) (l 0 (omega arith) n (lit< tt) s) (l 1 (omega arith) n (lit< tt) s) (l 2 (omega arith) n (lit< tt) s) (l 3 (omega arith) n (lit< tt) s) in
+    let is = whole (get_or p 0 (pos 0)) (get_or p 1 (pos 0)) (get_or p 2 (pos 0)) (get_or p 3 (pos 0)) (l 0 (omega arith) n (lit< tt) s)
+    (l 1 (omega arith) n (lit< tt) s) (l 2 (omega arith) n (lit< tt) s) (l 3 (omega arith) n (lit< tt) s) in
     subst (λ z. unsigned_abs z ≤ 1342177280) (sym is)
-    (small_whole (get_or p 0 (pos 0)) (get_or p 1 (pos 0)) (get_or p 2 (pos 0)) (get_or p 3 (pos 0)) (l 0 (omega arith) n (lit< tt) s) (l 1 (omega arith) n (lit< tt) s) (l 2 (omega arith) n (lit< tt) s) (l 3 (omega arith) n (lit< tt) s))
+    (small_whole (get_or p 0 (pos 0)) (get_or p 1 (pos 0)) (get_or p 2 (pos 0)) (get_or p 3 (pos 0)) (l 0 (omega arith) n (lit< tt) s)
+    (l 1 (omega arith) n (lit< tt) s) (l 2 (omega arith) n (lit< tt) s) (l 3 (omega arith) n (lit< tt) s))

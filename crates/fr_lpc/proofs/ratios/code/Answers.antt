@@ -19,6 +19,7 @@ returns-clause-value c =
     let low = simp to_z-of_z at c.clamp-place.ensures.lower_bound in
     let high = simp to_z-of_z at c.clamp-place.ensures.upper_bound in
     let width = c.requires.width in
-    let d : to_z w16 (of_z w16 (to_z w16 (of_z w16 c.clamp-place.result) -ℤ to_z w16 (of_z w16 c.args.least))) ≡ c.clamp-place.result -ℤ c.args.least = omega (arith, ints) in
+    let d : to_z w16 (of_z w16 (to_z w16 (of_z w16 c.clamp-place.result) -ℤ to_z w16 (of_z w16 c.args.least))) ≡ c.clamp-place.result -ℤ c.args.least =
+    omega (arith, ints) in
     ap unsigned_abs
     (d ∙ (ap (λ z. z -ℤ c.args.least) f ∙ ap (λ z. int_max c.args.least (int_min z c.args.most) -ℤ c.args.least) e))

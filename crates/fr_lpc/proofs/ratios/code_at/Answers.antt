@@ -30,7 +30,8 @@ returns-clause-width c =
     let l : FitsSigned w16 (entry least c.args.i) = search rules in
     let m : FitsSigned w16 (entry most c.args.i) = search rules in
     let b = simp to_z-of_z at c.code.ensures.bound in
-    fits (entry least c.args.i) (entry most c.args.i) (2 ^ get_or larc_widths c.args.i 0) c.code.result (span c.args.i c.requires) (least-most c.args.i c.requires) b (search rules)
+    fits (entry least c.args.i) (entry most c.args.i) (2 ^ get_or larc_widths c.args.i 0) c.code.result (span c.args.i c.requires)
+    (least-most c.args.i c.requires) b (search rules)
 
 pub returns-clause-value : goal.returns-clause-value
 returns-clause-value c = search rules

@@ -16,7 +16,8 @@ loop-i-preserved c =
     let value = rw (to_z-of_z w16 _ ratio) at c.code_at.ensures.value in
     record {
       filled = fill_next 0 _ c.loop-i.larc 8 c.loop-i.i _ c.loop-i-test.true old.filled value;
-      widths = each_next (λ (k code : ℕ). code < 2 ^ get_or larc_widths k 0) 0 c.loop-i.larc c.loop-i.i c.code_at.result (omega (arith, old.filled.count)) c.code_at.ensures.width old.widths;
+      widths = each_next (λ (k code : ℕ). code < 2 ^ get_or larc_widths k 0) 0 c.loop-i.larc c.loop-i.i c.code_at.result
+          (omega (arith, old.filled.count)) c.code_at.ensures.width old.widths;
     }
 
 pub returns-clause-value : goal.returns-clause-value

@@ -7,7 +7,8 @@ use Rattle.fr_lpc.specs.Reflection.{normalised}
 use Rattle.fr_lpc.proofs.reflection.normalised.Goals as goal
 
 -- what leaves the first its room leaves each its room
-room : (first x : ℤ) (shift : ℕ) → pos 0 <ℤ first → pos (unsigned_abs x) ≤ℤ first → unsigned_abs first * 2 ^ shift < 2 ^ 31 → unsigned_abs x * 2 ^ shift < 2 ^ 31
+room : (first x : ℤ) (shift : ℕ) → pos 0 <ℤ first → pos (unsigned_abs x) ≤ℤ first → unsigned_abs first * 2 ^ shift < 2 ^ 31 →
+    unsigned_abs x * 2 ^ shift < 2 ^ 31
 room first x shift a b h =
     let below : unsigned_abs x ≤ unsigned_abs first = omega (arith, ints) in
     omega (arith, mul-le-mul_right (2 ^ shift) below)

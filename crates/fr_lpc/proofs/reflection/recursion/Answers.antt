@@ -31,7 +31,8 @@ loop-n-preserved c =
     simp to_z-of_z (record {
       count = length-set c.loop-n.rs c.loop-n.n c.coefficient-r.result ∙ count;
       zeros = λ j b. get_or-set_other c.loop-n.rs c.loop-n.n j c.coefficient-r.result (pos 0) (omega arith) ∙ c.loop-n.invariant.zeros j (omega arith);
-      whole = rw (p, k) (found c.loop-n.rs c.loop-n.p c.loop-n.k _ c.coefficient-r.result c.loop-n.n c.loop-n.invariant.count c.loop-n-test.true (rw v at above) e c.loop-n.invariant.whole);
+      whole = rw (p, k) (found c.loop-n.rs c.loop-n.p c.loop-n.k _ c.coefficient-r.result c.loop-n.n c.loop-n.invariant.count c.loop-n-test.true
+          (rw v at above) e c.loop-n.invariant.whole);
     })
 
 pub returns : goal.returns

@@ -23,7 +23,8 @@ returns-clause-bound c =
 pub returns-clause-value : goal.returns-clause-value
 unfolding scaled_down
 returns-clause-value c =
-    rw (ne_eqb c.args.scaling 0 c.if-scaling-eq0.false) (over_all (scaled_sample c.args.scaling) c.args.s.now c.loop-x.s c.loop-x.x-index (omega (arith, c.told-s)) c.loop-x.invariant)
+    rw (ne_eqb c.args.scaling 0 c.if-scaling-eq0.false)
+    (over_all (scaled_sample c.args.scaling) c.args.s.now c.loop-x.s c.loop-x.x-index (omega (arith, c.told-s)) c.loop-x.invariant)
 
 pub returns-then-scaling-eq0-clause-value : goal.returns-then-scaling-eq0-clause-value
 unfolding scaled_down

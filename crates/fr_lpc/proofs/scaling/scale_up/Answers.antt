@@ -11,12 +11,14 @@ loop-x-preserved c =
     let x : FitsSigned w16 (entry c.loop-x.s c.loop-x.x-index) = search rules in
     let r : FitsSigned w16 c.shl16.result = search rules in
     let e = simp to_z-of_z at c.shl16.ensures in
-    over_more (λ (x : ℤ). shl_of x c.args.scaling) c.args.s.now c.loop-x.s c.loop-x.x-index _ (omega (arith, c.told-s)) c.loop-x.invariant (to_z-of_z w16 _ r ∙ e)
+    over_more (λ (x : ℤ). shl_of x c.args.scaling) c.args.s.now c.loop-x.s c.loop-x.x-index _ (omega (arith, c.told-s)) c.loop-x.invariant
+    (to_z-of_z w16 _ r ∙ e)
 
 pub returns : goal.returns
 unfolding scaled_up
 returns c =
-    rw (ne_eqb c.args.scaling 0 c.if-scaling-eq0.false) (over_all (λ (x : ℤ). shl_of x c.args.scaling) c.args.s.now c.loop-x.s c.loop-x.x-index (omega (arith, c.told-s)) c.loop-x.invariant)
+    rw (ne_eqb c.args.scaling 0 c.if-scaling-eq0.false)
+    (over_all (λ (x : ℤ). shl_of x c.args.scaling) c.args.s.now c.loop-x.s c.loop-x.x-index (omega (arith, c.told-s)) c.loop-x.invariant)
 
 pub returns-then-scaling-eq0 : goal.returns-then-scaling-eq0
 unfolding scaled_up

@@ -9,4 +9,5 @@ returns-clause-room c =
     let p : FitsSigned w16 c.greatest_magnitude.result = search rules in
     let room = simp to_z-of_z at c.scaling_of_peak.ensures.room in
     λ i h.
-    sample_room (entry c.args.s.now i) c.greatest_magnitude.result (2 ^ (11 + c.scaling_of_peak.result)) (c.greatest_magnitude.ensures.words i h) (c.greatest_magnitude.ensures.greatest i h) c.greatest_magnitude.ensures.not_negative room
+    sample_room (entry c.args.s.now i) c.greatest_magnitude.result (2 ^ (11 + c.scaling_of_peak.result)) (c.greatest_magnitude.ensures.words i h)
+    (c.greatest_magnitude.ensures.greatest i h) c.greatest_magnitude.ensures.not_negative room

@@ -16,7 +16,8 @@ loop-i-preserved c =
     place_next c.args.mc c.loop-i.i _ c.loop-i.ep _ c.requires.grid c.loop-i-test.true c.loop-i.invariant
     (simp to_z-of_z
     (ap (λ xs. get_or xs (get_or c.args.xmc.now c.loop-i.i 0) (pos 0)) c.pulses_by_code-pulses.ensures ∙
-    get_or-map-range_with_len (pulse_of (scale_of c.args.xmaxc)) 0 8 (get_or c.args.xmc.now c.loop-i.i 0) (get_or c.args.xmc.now c.loop-i.i 0) (pos 0) code (omega arith)))
+    get_or-map-range_with_len (pulse_of (scale_of c.args.xmaxc)) 0 8 (get_or c.args.xmc.now c.loop-i.i 0) (get_or c.args.xmc.now c.loop-i.i 0) (pos 0) code
+    (omega arith)))
 
 pub returns : goal.returns
 unfolding block_of

@@ -3,13 +3,13 @@ use Rattle.std.proofs.lemmas.Int.{to_z-of_z}
 use Rattle.trau_num.specs.Num.{add_of, mult_r_of, floor_shr}
 use Rattle.trau_num.proofs.Fill.{fill_next, fill_all}
 use Rattle.fr_rpe.specs.declared.scale.Scale.{Scale}
-use Rattle.fr_rpe.specs.Scale.{scale_of, factor_of, shift_of}
+use Rattle.fr_rpe.specs.Scale.{scale_of, factor_of, scale_shift}
 use Rattle.fr_rpe.specs.Pulses.{rounding_of, level_of, pulse_of}
 use Rattle.fr_rpe.proofs.decode.pulses_by_code.Goals as goal
 
 -- what the code computes for a code at a scale
 is_pulse : (scale given : Scale) (code shift : ℕ) (factor level rounding pulse : ℤ) → given ≡ scale → factor ≡ factor_of given.mantissa →
-    shift ≡ shift_of given → rounding ≡ pos (rounding_of shift) → level ≡ level_of code →
+    shift ≡ scale_shift given → rounding ≡ pos (rounding_of shift) → level ≡ level_of code →
     pulse ≡ floor_shr (add_of (mult_r_of factor level) rounding) shift → pulse ≡ pulse_of scale code
 unfolding pulse_of
 is_pulse scale given code shift factor level rounding pulse g f s r l p = rw (sym g, p, r, s, f, l) refl

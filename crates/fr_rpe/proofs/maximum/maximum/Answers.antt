@@ -33,7 +33,8 @@ returns-clause-greatest c =
 more : (m n : ℤ) (xs : List ℤ) (i : ℕ) → i < length xs → m ≡ fold int_max (pos 0) (map abs_of (take i xs)) → n ≡ int_max (abs_of (get_or xs i (pos 0))) m →
     n ≡ fold int_max (pos 0) (map abs_of (take (i + 1) xs))
 more m n xs i l h e =
-    let step = rw (take-map abs_of (i + 1) xs, take-map abs_of i xs, get_or-map abs_of xs i (pos 0) (pos 0) l) at (fold_more int_max (pos 0) (map abs_of xs) i (pos 0) (rw (length-map xs abs_of) l)) in
+    let step = rw (take-map abs_of (i + 1) xs, take-map abs_of i xs, get_or-map abs_of xs i (pos 0) (pos 0) l)
+    at (fold_more int_max (pos 0) (map abs_of xs) i (pos 0) (rw (length-map xs abs_of) l)) in
     let swapped : int_max (abs_of (get_or xs i (pos 0))) m ≡ int_max m (abs_of (get_or xs i (pos 0))) = omega (arith, ints, clamps) in
     e ∙ swapped ∙ ap (λ (a : ℤ). int_max a (abs_of (get_or xs i (pos 0)))) h ∙ sym step
 

@@ -3,14 +3,14 @@ use Rattle.std.proofs.lemmas.Int.{to_z-of_z, ints}
 use Rattle.std.proofs.lemmas.Nat.{pow_pos}
 use Rattle.trau_num.specs.Num.{abs_of, mult_of, floor_shr}
 use Rattle.fr_rpe.specs.declared.scale.Scale.{Scale}
-use Rattle.fr_rpe.specs.Scale.{shift_of}
-use Rattle.fr_rpe.specs.Quantisation.{code_of, inverse_of, levelled, HasRoom}
+use Rattle.fr_rpe.specs.Scale.{scale_shift}
+use Rattle.fr_rpe.specs.Quantisation.{pulse_code_of, inverse_of, levelled, HasRoom}
 use Rattle.fr_rpe.proofs.Levels.{IsLevel, IsShare, at_level, coded_share}
 use Rattle.fr_rpe.proofs.quantisation.code.Goals as goal
 
 is_level : (scale : Scale) (pulse : ℤ) → FitsSigned w16 pulse → scale.mantissa < 8 → HasRoom scale (unsigned_abs (abs_of pulse)) →
     IsLevel scale.mantissa (levelled scale pulse)
-is_level scale pulse f m room = at_level pulse (2 ^ shift_of scale) scale.mantissa f (pow_pos (shift_of scale)) m room
+is_level scale pulse f m room = at_level pulse (2 ^ scale_shift scale) scale.mantissa f (pow_pos (scale_shift scale)) m room
 
 fits : (mantissa : ℕ) (level : ℤ) → mantissa < 8 → IsLevel mantissa level → FitsSigned w16 level
 fits mantissa level m h =
@@ -19,7 +19,7 @@ fits mantissa level m h =
     omega (arith, ints)
 
 -- what the code computes before the last shift
-is_product : (scale : Scale) (pulse level inverse m : ℤ) (shift : ℕ) → shift ≡ shift_of scale → level ≡ pulse *ℤ pos (2 ^ shift) →
+is_product : (scale : Scale) (pulse level inverse m : ℤ) (shift : ℕ) → shift ≡ scale_shift scale → level ≡ pulse *ℤ pos (2 ^ shift) →
     inverse ≡ inverse_of scale.mantissa → m ≡ mult_of level inverse → m ≡ mult_of (levelled scale pulse) (inverse_of scale.mantissa)
 is_product scale pulse level inverse m shift s l i e =
     e ∙ (ap (λ a. mult_of a inverse) (l ∙ ap (λ n. pulse *ℤ pos (2 ^ n)) s) ∙ ap (λ b. mult_of (levelled scale pulse) b) i)
@@ -67,7 +67,8 @@ overflow_add-result c =
     let product : FitsSigned w16 c.mult.result = search rules in
     let l = simp to_z-of_z at c.levelled-level.ensures in
     let e = simp to_z-of_z at c.mult.ensures in
-    let p = is_product c.args.scale c.args.pulse c.levelled-level.result c.inverse.result c.mult.result c.shift.result c.shift.ensures.value l c.inverse.ensures e in
+    let p = is_product c.args.scale c.args.pulse c.levelled-level.result c.inverse.result c.mult.result c.shift.result c.shift.ensures.value l
+    c.inverse.ensures e in
     simp to_z-of_z (sum_fits (floor_shr c.mult.result 12) (is_share c.args.scale c.args.pulse c.mult.result f c.requires.mantissa c.requires.room p))
 
 pub overflow_cast-result : goal.overflow_cast-result
@@ -78,14 +79,15 @@ overflow_cast-result c =
     let product : FitsSigned w16 c.mult.result = search rules in
     let l = simp to_z-of_z at c.levelled-level.ensures in
     let e = simp to_z-of_z at c.mult.ensures in
-    let p = is_product c.args.scale c.args.pulse c.levelled-level.result c.inverse.result c.mult.result c.shift.result c.shift.ensures.value l c.inverse.ensures e in
+    let p = is_product c.args.scale c.args.pulse c.levelled-level.result c.inverse.result c.mult.result c.shift.result c.shift.ensures.value l
+    c.inverse.ensures e in
     let s = is_share c.args.scale c.args.pulse c.mult.result f c.requires.mantissa c.requires.room p in
     let n = code_number (floor_shr c.mult.result 12) s in
     let b = n.2 in
     rw (to_z-of_z w16 c.mult.result product, unwrapped (floor_shr c.mult.result 12) s, n.1) (tt, search rules)
 
 pub returns-clause-value : goal.returns-clause-value
-unfolding code_of
+unfolding pulse_code_of
 returns-clause-value c =
     let f = c.ranges.pulse in
     let level : FitsSigned w16 c.levelled-level.result = search rules in
@@ -93,7 +95,8 @@ returns-clause-value c =
     let product : FitsSigned w16 c.mult.result = search rules in
     let l = simp to_z-of_z at c.levelled-level.ensures in
     let e = simp to_z-of_z at c.mult.ensures in
-    let p = is_product c.args.scale c.args.pulse c.levelled-level.result c.inverse.result c.mult.result c.shift.result c.shift.ensures.value l c.inverse.ensures e in
+    let p = is_product c.args.scale c.args.pulse c.levelled-level.result c.inverse.result c.mult.result c.shift.result c.shift.ensures.value l
+    c.inverse.ensures e in
     let s = is_share c.args.scale c.args.pulse c.mult.result f c.requires.mantissa c.requires.room p in
     rw (to_z-of_z w16 c.mult.result product) (ap unsigned_abs (unwrapped (floor_shr c.mult.result 12) s ∙ ap (λ m. floor_shr m 12 +ℤ pos 4) p))
 
@@ -105,6 +108,7 @@ returns-clause-below_8 c =
     let product : FitsSigned w16 c.mult.result = search rules in
     let l = simp to_z-of_z at c.levelled-level.ensures in
     let e = simp to_z-of_z at c.mult.ensures in
-    let p = is_product c.args.scale c.args.pulse c.levelled-level.result c.inverse.result c.mult.result c.shift.result c.shift.ensures.value l c.inverse.ensures e in
+    let p = is_product c.args.scale c.args.pulse c.levelled-level.result c.inverse.result c.mult.result c.shift.result c.shift.ensures.value l
+    c.inverse.ensures e in
     let s = is_share c.args.scale c.args.pulse c.mult.result f c.requires.mantissa c.requires.room p in
     rw (to_z-of_z w16 c.mult.result product, unwrapped (floor_shr c.mult.result 12) s) (code_below_8 (floor_shr c.mult.result 12) s)

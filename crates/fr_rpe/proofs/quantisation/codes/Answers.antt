@@ -4,11 +4,11 @@ use Rattle.std.proofs.lemmas.Int.{to_z-of_z}
 use Rattle.std.proofs.lemmas.List.{get_or-set_same, get_or-set_other}
 use Rattle.std.proofs.lemmas.List.Elements.{All-from_get_or}
 use Rattle.trau_num.proofs.Fill.{fill_none, fill_next, fill_all}
-use Rattle.fr_rpe.specs.Quantisation.{codes_of}
+use Rattle.fr_rpe.specs.Quantisation.{pulse_codes_of}
 use Rattle.fr_rpe.proofs.quantisation.codes.Goals as goal
 
 pub returns-clause-value : goal.returns-clause-value
-unfolding codes_of
+unfolding pulse_codes_of
 returns-clause-value c = fill_all 0 _ c.loop-i.xmc 13 c.loop-i.i (omega arith) c.loop-i.invariant.filled
 
 pub returns-clause-below_8 : goal.returns-clause-below_8

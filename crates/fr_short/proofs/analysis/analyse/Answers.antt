@@ -24,7 +24,8 @@ loop-i-preserved c =
     λ k l. ap (λ rs. entry rs i) (c.parts-parts.ensures.value (part_of k) (part_within k)) in
     let ds = simp to_z-of_z at c.pass.ensures.ds in
     let savs = simp to_z-of_z at c.pass.ensures.savs in
-    simp to_z-of_z (sectioned_next _ (coefficient_at parts i) _ _ c.loop-i.us c.loop-i.s c.loop-i.savs c.pass.new.ds c.pass.new.savs i (get_or c.loop-i.us i (pos 0)) c.pass.result
+    simp to_z-of_z (sectioned_next _ (coefficient_at parts i) _ _ c.loop-i.us c.loop-i.s c.loop-i.savs c.pass.new.ds c.pass.new.savs i
+    (get_or c.loop-i.us i (pos 0)) c.pass.result
     c.loop-i-test.true (eight _ _) c.pass.array_long c.pass.array_long2 c.loop-i.invariant refl r ds savs c.pass.ensures.last)
 
 pub returns-clause-residual : goal.returns-clause-residual

@@ -16,7 +16,8 @@ loop-i-preserved c =
     let count = c.loop-i.invariant.filled.count in
     simp to_z-of_z (record {
       filled = fill_next (pos 0) _ c.loop-i.rs 8 c.loop-i.i c.reflection.result c.loop-i-test.true c.loop-i.invariant.filled (e ∙ ap reflection_of f);
-      factors = each_next (λ k r. unsigned_abs r ≤ 32767) (pos 0) c.loop-i.rs c.loop-i.i c.reflection.result (omega arith) c.reflection.ensures.bound c.loop-i.invariant.factors;
+      factors = each_next (λ k r. unsigned_abs r ≤ 32767) (pos 0) c.loop-i.rs c.loop-i.i c.reflection.result
+          (omega arith) c.reflection.ensures.bound c.loop-i.invariant.factors;
     })
 
 pub returns-clause-value : goal.returns-clause-value

@@ -4,7 +4,7 @@ use Rattle.std.specs.Simd.Lanes.{zip2}
 use Rattle.trau_num.specs.Num.{sub_of}
 use Rattle.trau_lanes.specs.Lanes.{EightWords}
 use Rattle.trau_lanes.proofs.Eight.{words_kept, words_passed, eight_zipped, shifted_words}
-use Rattle.trau_lanes.proofs.LaneSums.{sub_word}
+use Rattle.trau_num.proofs.Clamped.{sub_word}
 use Rattle.fr_short.specs.Lanes.{words_behind}
 use Rattle.fr_short.proofs.Behind.{checked, behind_eight, same_words}
 use Rattle.fr_short.proofs.synthesis.behind.Goals as goal
@@ -35,7 +35,8 @@ returns-clause-value c =
           let guessed = words_kept guess c.guess-guess.ensures in
           let first : c.shift_in.result ≡ before = c.shift_in.ensures ∙ (λ i. take 8 (sample i ∷ guessed i)) in
           let words = shifted_words c.args.sample guess c.ranges.sample c.guess-guess.ensures in
-          let shifted : map (to_z w16) (map (of_z w16) c.shift_in.result) ≡ before = ap (λ zs. map (to_z w16) (map (of_z w16) zs)) first ∙ words_kept before words in
+          let shifted : map (to_z w16) (map (of_z w16) c.shift_in.result) ≡ before =
+          ap (λ zs. map (to_z w16) (map (of_z w16) zs)) first ∙ words_kept before words in
           let minus : c.minus_lanes.result ≡ zip2 sub_of before c.args.steps = c.minus_lanes.ensures ∙ (λ i. zip2 sub_of (shifted i) (steps i)) in
           let minus_words = subst EightWords (sym minus) (eight_zipped sub_of sub_word before c.args.steps words.eight c.requires.eight) in
           let same : c.minus_lanes.result ≡ guess = same_words c.minus_lanes.result guess minus_words c.guess-guess.ensures w.if-minus_lanes-guess-ne0.false in

@@ -1,6 +1,6 @@
 use Rattle.std.proofs.Common.{◌∙◌}
-use Rattle.fr_short.proofs.Runs.{followed_plain}
+use Rattle.fr_short.proofs.Runs.{stepped_plain}
 use Rattle.fr_short.proofs.synthesis.filter.Goals as goal
 
 pub returns-clause-samples : goal.returns-clause-samples
-returns-clause-samples c = c.filter_by.ensures.samples ∙ followed_plain _ _
+returns-clause-samples c = c.filter_by.ensures.samples ∙ stepped_plain _ _

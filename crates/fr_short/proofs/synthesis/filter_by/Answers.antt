@@ -6,8 +6,8 @@ use Rattle.trau_lanes.proofs.Eight.{words_kept, words_passed, factors_passed}
 use Rattle.fr_short.specs.Reflection.{coefficients_of, coefficients_at, part_of, part_start}
 use Rattle.fr_short.specs.Synthesis.{filtered_samples}
 use Rattle.fr_short.specs.Deemphasis.{last_of}
-use Rattle.fr_short.specs.Steps.{followed}
-use Rattle.fr_short.specs.Words.{AreFactors}
+use Rattle.fr_short.specs.Stepped.{stepped}
+use Rattle.fr_short.specs.Words.{AreEightFactors}
 use Rattle.fr_short.proofs.Behind.{turned_factors, turned_back}
 use Rattle.fr_short.proofs.Parts.{in_part, parts_follow, frame_ends}
 use Rattle.fr_short.proofs.Runs.{Run, run_start, run_next, run_end}
@@ -18,7 +18,7 @@ unfolding coefficients_of
 eight old new p = refl
 
 -- the coefficients of a part, turned and turned back
-factors_of : (xs rs ys : List ℤ) → xs ≡ ys → length ys ≡ 8 → AreFactors xs → rs ≡ reverse xs → EightFactors rs
+factors_of : (xs rs ys : List ℤ) → xs ≡ ys → length ys ≡ 8 → AreEightFactors xs → rs ≡ reverse xs → EightFactors rs
 factors_of xs rs ys e l f er = subst EightFactors (sym er) (turned_factors xs (ap length e ∙ l) f)
 
 pub loop-part-init : goal.loop-part-init
@@ -26,7 +26,9 @@ unfolding part_start
 loop-part-init g c =
     let e = ap reverse (words_kept c.backwards-vs.result c.backwards-vs.ensures.words ∙ c.backwards-vs.ensures.value) ∙ reverse-reverse c.args.sections.now in
     record {
-      run = subst (λ vs. Run g.S.Step.next (coefficients_at c.args.old.now c.args.new.now) c.args.sections.now c.args.d.now (to_z w16 (of_z w16 c.args.before)) vs (to_z w16 (of_z w16 c.args.before)) c.args.made.now 0) (sym e) (run_start _ _ _ _ _ _ (c.told-made ∙ sym c.told-d));
+      run = subst (λ vs. Run g.S.Step.next (coefficients_at c.args.old.now c.args.new.now) c.args.sections.now c.args.d.now
+          (to_z w16 (of_z w16 c.args.before)) vs (to_z w16 (of_z w16 c.args.before)) c.args.made.now 0) (sym e)
+          (run_start _ _ _ _ _ _ (c.told-made ∙ sym c.told-d));
       words = words_passed _ c.backwards-vs.ensures.words;
     }
 
@@ -37,7 +39,8 @@ pub pass-requires-clause-factors : goal.pass-requires-clause-factors
 pass-requires-clause-factors g c =
     let p = c.loop-part.part in
     let l = c.loop-part-test.true in
-    factors_passed c.backwards-rs.result (factors_of _ _ _ (c.parts-parts.ensures.value p l) (eight _ _ p) (c.parts-parts.ensures.factors p l) c.backwards-rs.ensures.value)
+    factors_passed c.backwards-rs.result (factors_of _ _ _ (c.parts-parts.ensures.value p l) (eight _ _ p)
+    (c.parts-parts.ensures.factors p l) c.backwards-rs.ensures.value)
 
 pub pass-requires-clause-words : goal.pass-requires-clause-words
 pass-requires-clause-words g c = c.loop-k.invariant.words
@@ -71,7 +74,8 @@ pub returns-clause-samples : goal.returns-clause-samples
 returns-clause-samples g c =
     let end = frame_ends c.loop-part.part c.loop-part-test.false in
     let out : List ℤ = (filtered_samples (coefficients_at c.args.old.now c.args.new.now) 0 c.args.sections.now c.args.d.now).0 in
-    (run_end _ _ _ c.args.d.now _ _ _ _ _ (omega arith) c.loop-part.invariant.run).0 ∙ ap (λ b. followed g.S.Step.next b out) (to_z-of_z w16 c.args.before c.ranges.before)
+    (run_end _ _ _ c.args.d.now _ _ _ _ _ (omega arith) c.loop-part.invariant.run).0 ∙
+    ap (λ b. stepped g.S.Step.next b out) (to_z-of_z w16 c.args.before c.ranges.before)
 
 pub returns-clause-sections : goal.returns-clause-sections
 returns-clause-sections g c =
@@ -83,4 +87,5 @@ pub returns-clause-last : goal.returns-clause-last
 returns-clause-last g c =
     let end = frame_ends c.loop-part.part c.loop-part-test.false in
     let out : List ℤ = (filtered_samples (coefficients_at c.args.old.now c.args.new.now) 0 c.args.sections.now c.args.d.now).0 in
-    (run_end _ _ _ c.args.d.now _ _ _ _ _ (omega arith) c.loop-part.invariant.run).1 ∙ ap (λ b. last_of b (followed g.S.Step.next b out)) (to_z-of_z w16 c.args.before c.ranges.before)
+    (run_end _ _ _ c.args.d.now _ _ _ _ _ (omega arith) c.loop-part.invariant.run).1 ∙
+    ap (λ b. last_of b (stepped g.S.Step.next b out)) (to_z-of_z w16 c.args.before c.ranges.before)

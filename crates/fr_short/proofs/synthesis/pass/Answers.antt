@@ -11,7 +11,7 @@ use Rattle.fr_short.specs.Lanes.{words_behind}
 use Rattle.fr_short.proofs.Behind.{behind_lanes, stored_lanes, are_sections, moved}
 use Rattle.fr_short.proofs.synthesis.pass.Goals as goal
 
--- what the four calls give
+-- what the four functions give
 record Gives (rs vs : List ℤ) (s : ℤ) (words stored : List ℤ) : Type 0 where
   behind : words ≡ behind_lanes rs vs s
   sums : stored ≡ stored_lanes rs vs s
@@ -49,22 +49,27 @@ pub plus_lanes-stored-requires-clause-a : goal.plus_lanes-stored-requires-clause
 plus_lanes-stored-requires-clause-a c = words_passed _ c.requires.words
 
 pub plus_lanes-stored-requires-clause-b : goal.plus_lanes-stored-requires-clause-b
-plus_lanes-stored-requires-clause-b c = words_passed _ (products_given c.args.rs c.behind-words.result _ c.requires.factors c.behind-words.ensures.words c.scaled_lanes-2.ensures).1
+plus_lanes-stored-requires-clause-b c =
+    words_passed _ (products_given c.args.rs c.behind-words.result _ c.requires.factors c.behind-words.ensures.words c.scaled_lanes-2.ensures).1
 
 pub returns-clause-value : goal.returns-clause-value
 returns-clause-value c =
     let is = are_sections c.args.rs c.args.vs.now c.args.sample c.requires.factors.eight c.requires.words.eight in
-    let given = gives c.args.rs c.args.vs.now c.args.sample c.scaled_lanes.result c.behind-words.result c.scaled_lanes-2.result c.plus_lanes-stored.result c.requires.factors c.requires.words
+    let given = gives c.args.rs c.args.vs.now c.args.sample c.scaled_lanes.result c.behind-words.result c.scaled_lanes-2.result c.plus_lanes-stored.result
+    c.requires.factors c.requires.words
     c.ranges.sample c.behind-words.ensures.words c.scaled_lanes.ensures c.behind-words.ensures.value c.scaled_lanes-2.ensures c.plus_lanes-stored.ensures in
     let words = c.behind-words.ensures.words in
     let eight = words.eight in
-    let last : FitsSigned w16 (get_or c.behind-words.result 7 (pos 0)) = Each1-get_or (FitsSigned w16) c.behind-words.result 7 (pos 0) (omega arith) words.words in
-    ap (λ xs. to_z w16 (of_z w16 (get_or xs 7 (pos 0)))) (words_kept c.behind-words.result words) ∙ to_z-of_z w16 _ last ∙ ap (λ xs. get_or xs 7 (pos 0)) given.behind ∙ is.value
+    let last : FitsSigned w16 (get_or c.behind-words.result 7 (pos 0)) =
+    Each1-get_or (FitsSigned w16) c.behind-words.result 7 (pos 0) (omega arith) words.words in
+    ap (λ xs. to_z w16 (of_z w16 (get_or xs 7 (pos 0)))) (words_kept c.behind-words.result words) ∙ to_z-of_z w16 _ last ∙
+    ap (λ xs. get_or xs 7 (pos 0)) given.behind ∙ is.value
 
 pub returns-clause-sections : goal.returns-clause-sections
 returns-clause-sections c =
     let is = are_sections c.args.rs c.args.vs.now c.args.sample c.requires.factors.eight c.requires.words.eight in
-    let given = gives c.args.rs c.args.vs.now c.args.sample c.scaled_lanes.result c.behind-words.result c.scaled_lanes-2.result c.plus_lanes-stored.result c.requires.factors c.requires.words
+    let given = gives c.args.rs c.args.vs.now c.args.sample c.scaled_lanes.result c.behind-words.result c.scaled_lanes-2.result c.plus_lanes-stored.result
+    c.requires.factors c.requires.words
     c.ranges.sample c.behind-words.ensures.words c.scaled_lanes.ensures c.behind-words.ensures.value c.scaled_lanes-2.ensures c.plus_lanes-stored.ensures in
     moved c.plus_lanes-stored.result c.behind-words.result given.stored_words c.behind-words.ensures.words ∙
     (λ i. get_or (given.behind i) 7 (pos 0) ∷ get_or (given.sums i) 7 (pos 0) ∷ get_or (given.sums i) 6 (pos 0) ∷ get_or (given.sums i) 5 (pos 0) ∷

@@ -21,7 +21,8 @@ returns-clause-value c =
 
 pub returns-clause-are_bits : goal.returns-clause-are_bits
 returns-clause-are_bits c =
-    subst AreBits (sym c.copy_from_slice.ensures.after) (All-take (λ b. b < 2) (c.args.o + 320 - c.args.o) (drop c.args.o c.args.window.now) (All-drop (λ b. b < 2) c.args.o c.args.window.now c.requires.bits))
+    subst AreBits (sym c.copy_from_slice.ensures.after)
+    (All-take (λ b. b < 2) (c.args.o + 320 - c.args.o) (drop c.args.o c.args.window.now) (All-drop (λ b. b < 2) c.args.o c.args.window.now c.requires.bits))
 
 pub copy_from_slice-requires : goal.copy_from_slice-requires
 copy_from_slice-requires c =

@@ -23,7 +23,9 @@ loop-item-preserved g c =
     let item = c.in-Some.item in
     let rest = c.next.new.self.rest.items in
     let steps = c.in-Some.ensures.steps.0 in record {
-      items = ap (λ (xs : List g.row.T.Denot). xs ++ rest) pushed.items ∙ append_assoc list (item ∷ []) rest ∙ ap (λ (xs : List g.row.T.Denot). list ++ xs) (sym steps) ∙ old.items;
+      items =
+          ap (λ (xs : List g.row.T.Denot). xs ++ rest) pushed.items ∙ append_assoc list (item ∷ []) rest
+          ∙ ap (λ (xs : List g.row.T.Denot). list ++ xs) (sym steps) ∙ old.items;
       len = omega (arith, old.len, pushed.len, ap length steps);
       room = pushed.capacity ∙ old.room;
     }

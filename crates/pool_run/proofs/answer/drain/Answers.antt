@@ -23,12 +23,15 @@ loop-task-preserved g c =
     let finish = g.W.Work.finish in
     let popped = c.in-Some.ensures.popped in
     let old = c.loop-task.invariant in
-    let taken = λ (h : ℕ × g.row.W.Denot → ℕ). weigh_taken finish h (worker_view c.loop-task.own) (worker_view c.pop_left.new.owner) c.in-Some.task popped.0 in record {
+    let taken = λ (h : ℕ × g.row.W.Denot → ℕ). weigh_taken finish h (worker_view c.loop-task.own) (worker_view c.pop_left.new.owner) c.in-Some.task popped.0 in
+    record {
       fifo = c.in-Some.ensures.same.1 ∙ old.fifo;
       parts = ap (λ (v : View g.row.W.Denot). v.parts) popped.0 ∙ old.parts;
       covered = popped.1;
       pushed = ap (λ (v : View g.row.W.Denot). v.pushed) popped.0 ∙ old.pushed;
-      ended = ended_more finish c.loop-task.finished.items c.push_reserved.new.self.items c.run_out.result c.push_reserved.ensures.items old.ended c.run_out.ensures.ended;
+      ended =
+          ended_more finish c.loop-task.finished.items c.push_reserved.new.self.items c.run_out.result c.push_reserved.ensures.items old.ended
+          c.run_out.ensures.ended;
       entries = λ h. omega (
         arith,
         old.entries h,

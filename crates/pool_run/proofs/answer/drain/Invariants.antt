@@ -11,7 +11,9 @@ invariant-loop-task g l = record {
   covered : IsCovered (worker_view l.own);
   pushed : (worker_view l.own).pushed ≡ (worker_view l.fn.own).pushed;
   ended : All (IsEnded g.W.Work.finish) l.finished.items;
-  entries : (h : ℕ × g.row.W.Denot → ℕ) → weigh h (map (entry_of g.W.Work.finish) l.finished.items) + weigh h (worker_view l.fn.own).obtained ≡ weigh h (map (entry_of g.W.Work.finish) l.fn.finished.items) + weigh h (worker_view l.own).obtained;
+  entries : (h : ℕ × g.row.W.Denot → ℕ) →
+      weigh h (map (entry_of g.W.Work.finish) l.finished.items) + weigh h (worker_view l.fn.own).obtained
+      ≡ weigh h (map (entry_of g.W.Work.finish) l.fn.finished.items) + weigh h (worker_view l.own).obtained;
   room : vec_len l.finished + weigh (λ _. 1) (worker_view l.own).pushed ≤ weigh (λ _. 1) (worker_view l.own).obtained + vec_capacity l.fn.finished;
   capacity : vec_capacity l.finished ≡ vec_capacity l.fn.finished;
 }

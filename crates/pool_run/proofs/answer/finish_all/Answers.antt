@@ -12,29 +12,40 @@ use Rattle.pool_run.proofs.answer.finish_all.Goals as goal
 pub append_reserved-requires : goal.append_reserved-requires
 append_reserved-requires g c =
     let old = c.loop-member.invariant in
-    omega (arith, old.capacity, room_done g.W.Work.finish c.loop-member.member-iterator.rest.items c.in-Some.member c.next.new.self.rest.items _ _ c.in-Some.ensures.steps.0 old.settled old.room)
+    omega (
+      arith,
+      old.capacity,
+      room_done g.W.Work.finish c.loop-member.member-iterator.rest.items c.in-Some.member c.next.new.self.rest.items _ _ c.in-Some.ensures.steps.0 old.settled
+          old.room,
+    )
 
 pub drain-requires-clause-fifo : goal.drain-requires-clause-fifo
 drain-requires-clause-fifo g c =
     let old = c.loop-member.invariant in
-    (settled_first g.W.Work.finish c.loop-member.member-iterator.rest.items c.in-Some.member c.next.new.self.rest.items _ _ c.in-Some.ensures.steps.0 old.settled old.room).owner.fifo
+    (settled_first g.W.Work.finish c.loop-member.member-iterator.rest.items c.in-Some.member c.next.new.self.rest.items _ _ c.in-Some.ensures.steps.0
+    old.settled old.room).owner.fifo
 
 pub drain-requires-clause-all : goal.drain-requires-clause-all
 drain-requires-clause-all g c =
     let old = c.loop-member.invariant in
-    (settled_first g.W.Work.finish c.loop-member.member-iterator.rest.items c.in-Some.member c.next.new.self.rest.items _ _ c.in-Some.ensures.steps.0 old.settled old.room).owner.parts
+    (settled_first g.W.Work.finish c.loop-member.member-iterator.rest.items c.in-Some.member c.next.new.self.rest.items _ _ c.in-Some.ensures.steps.0
+    old.settled old.room).owner.parts
 
 pub drain-requires-clause-covered : goal.drain-requires-clause-covered
 drain-requires-clause-covered g c =
     let old = c.loop-member.invariant in
-    (settled_first g.W.Work.finish c.loop-member.member-iterator.rest.items c.in-Some.member c.next.new.self.rest.items _ _ c.in-Some.ensures.steps.0 old.settled old.room).covered
+    (settled_first g.W.Work.finish c.loop-member.member-iterator.rest.items c.in-Some.member c.next.new.self.rest.items _ _ c.in-Some.ensures.steps.0
+    old.settled old.room).covered
 
 pub drain-requires-clause-ended : goal.drain-requires-clause-ended
 drain-requires-clause-ended g c =
     let finish = g.W.Work.finish in
     let old = c.loop-member.invariant in
-    let first = settled_first finish c.loop-member.member-iterator.rest.items c.in-Some.member c.next.new.self.rest.items _ _ c.in-Some.ensures.steps.0 old.settled old.room in
-    subst (All (IsEnded finish)) (sym c.append_reserved.ensures.items) (All-append (IsEnded finish) c.loop-member.finished.items c.in-Some.member.done.items old.ended first.ended)
+    let first =
+    settled_first finish c.loop-member.member-iterator.rest.items c.in-Some.member c.next.new.self.rest.items _ _ c.in-Some.ensures.steps.0 old.settled
+    old.room in
+    subst (All (IsEnded finish)) (sym c.append_reserved.ensures.items)
+    (All-append (IsEnded finish) c.loop-member.finished.items c.in-Some.member.done.items old.ended first.ended)
 
 pub drain-requires-clause-room : goal.drain-requires-clause-room
 drain-requires-clause-room g c =
@@ -44,7 +55,8 @@ drain-requires-clause-room g c =
       old.capacity,
       c.append_reserved.ensures.len,
       c.append_reserved.ensures.room,
-      room_left g.W.Work.finish c.loop-member.member-iterator.rest.items c.in-Some.member c.next.new.self.rest.items _ _ c.in-Some.ensures.steps.0 old.settled old.room,
+      room_left g.W.Work.finish c.loop-member.member-iterator.rest.items c.in-Some.member c.next.new.self.rest.items _ _ c.in-Some.ensures.steps.0 old.settled
+          old.room,
     )
 
 pub loop-member-init : goal.loop-member-init
@@ -55,7 +67,9 @@ loop-member-init g c =
       settled = subst (All (IsSettled finish)) is c.requires.settled;
       ended = c.requires.ended;
       entries = λ h. refl;
-      room = subst (λ (ms : List (Member g.row.W.Denot)). vec_len finished + all_given finish (λ _. 1) ms ≤ all_obtained (λ _. 1) ms + vec_capacity finished) is c.requires.room;
+      room =
+          subst (λ (ms : List (Member g.row.W.Denot)). vec_len finished + all_given finish (λ _. 1) ms ≤ all_obtained
+          (λ _. 1) ms + vec_capacity finished) is c.requires.room;
       capacity = refl;
     }
 
@@ -80,7 +94,13 @@ loop-member-preserved g c =
         obtained_alone finish m h first.owner,
       );
       room = room_rest finish rest m c.next.new.self.rest.items _ _ c.in-Some.ensures.steps.0 old.settled old.room _
-          (omega (arith, c.drain.ensures.entries (one finish), count_tasks finish c.drain.new.finished, count_tasks finish c.append_reserved.new.list, c.append_reserved.ensures.len));
+          (omega (
+            arith,
+            c.drain.ensures.entries (one finish),
+            count_tasks finish c.drain.new.finished,
+            count_tasks finish c.append_reserved.new.list,
+            c.append_reserved.ensures.len,
+          ));
       capacity = c.drain.ensures.room ∙ c.append_reserved.ensures.room ∙ old.capacity;
     }
 

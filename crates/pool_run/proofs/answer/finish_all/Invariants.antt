@@ -8,7 +8,10 @@ abbrev pub invariant-loop-member : goal.invariant-loop-member
 invariant-loop-member g l = record {
   settled : All (IsSettled g.W.Work.finish) l.member-iterator.rest.items;
   ended : All (IsEnded g.W.Work.finish) l.finished.items;
-  entries : (h : ℕ × g.row.W.Denot → ℕ) → weigh h (map (entry_of g.W.Work.finish) l.finished.items) + all_obtained h l.yielded ≡ weigh h (map (entry_of g.W.Work.finish) l.fn.finished.items) + all_given g.W.Work.finish h l.yielded;
-  room : vec_len l.finished + all_given g.W.Work.finish (λ _. 1) l.member-iterator.rest.items ≤ all_obtained (λ _. 1) l.member-iterator.rest.items + vec_capacity l.fn.finished;
+  entries : (h : ℕ × g.row.W.Denot → ℕ) →
+      weigh h (map (entry_of g.W.Work.finish) l.finished.items) + all_obtained h l.yielded
+      ≡ weigh h (map (entry_of g.W.Work.finish) l.fn.finished.items) + all_given g.W.Work.finish h l.yielded;
+  room : vec_len l.finished + all_given g.W.Work.finish (λ _. 1) l.member-iterator.rest.items ≤ all_obtained
+      (λ _. 1) l.member-iterator.rest.items + vec_capacity l.fn.finished;
   capacity : vec_capacity l.finished ≡ vec_capacity l.fn.finished;
 }

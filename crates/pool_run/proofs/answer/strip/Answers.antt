@@ -7,7 +7,9 @@ pub loop-task-preserved : goal.loop-task-preserved
 loop-task-preserved g c =
     let old = c.loop-task.invariant in
     let task = c.in-Some.task in record {
-      jobs = c.push_reserved.ensures.items ∙ ap (λ xs. xs ++ task.job ∷ []) old.jobs ∙ sym (map-append (λ (t : Task g.row.W.Denot). t.job) c.loop-task.yielded (task ∷ []));
+      jobs =
+          c.push_reserved.ensures.items ∙ ap (λ xs. xs ++ task.job ∷ []) old.jobs
+          ∙ sym (map-append (λ (t : Task g.row.W.Denot). t.job) c.loop-task.yielded (task ∷ []));
       len = omega (arith, old.len, c.push_reserved.ensures.len, length-append c.loop-task.yielded (task ∷ []));
       room = c.push_reserved.ensures.capacity ∙ old.room;
     }

@@ -22,8 +22,10 @@ loop-k-preserved g c =
       given = λ h. c.audit_at.ensures.given h ∙ old.given h;
       obtained = λ h. c.audit_at.ensures.obtained h ∙ old.obtained h;
       covered = λ i m h. ⊎_elim
-          (λ (lt : i < k). subst (λ (x : Member g.row.W.Denot). IsCovered (worker_view x.own)) (sym (c.audit_at.ensures.others i m (λ e. absurd (omega (arith, e))))) (old.covered i m lt))
-          (λ (le : k ≤ i). let e : k ≡ i = omega arith in subst (λ (j : ℕ). IsCovered (worker_view (get_or ms j m).own)) e (c.audit_at.ensures.mine m)) (cases_lt i k);
+          (λ (lt : i < k). subst (λ (x : Member g.row.W.Denot). IsCovered (worker_view x.own))
+          (sym (c.audit_at.ensures.others i m (λ e. absurd (omega (arith, e))))) (old.covered i m lt))
+          (λ (le : k ≤ i). let e : k ≡ i = omega arith in subst (λ (j : ℕ). IsCovered (worker_view (get_or ms j m).own)) e (c.audit_at.ensures.mine m))
+          (cases_lt i k);
     }
 
 pub returns-clause-settled : goal.returns-clause-settled

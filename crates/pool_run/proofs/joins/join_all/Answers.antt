@@ -12,5 +12,6 @@ loop-j-preserved g c =
       given = λ h. row.given h ∙ old.given h;
       obtained = λ h. row.obtained h ∙ old.obtained h;
       joined = λ i h. ⊎_elim (λ (lt : i < j). ap length (row.others i (λ e. absurd (omega (arith, e, lt)))) ∙ old.joined i lt)
-          (λ (le : j ≤ i). let e : j ≡ i = omega (arith, le, h) in subst (λ (k : ℕ). length (passes_of c.join_row.new.members k) ≡ 0) e row.mine) (cases_lt i j);
+          (λ (le : j ≤ i). let e : j ≡ i = omega (arith, le, h) in subst (λ (k : ℕ). length (passes_of c.join_row.new.members k) ≡ 0) e row.mine)
+          (cases_lt i j);
     }

@@ -17,10 +17,12 @@ returns-in_default g c =
     }
 
 pub join_at-requires-clause-shared : goal.join_at-requires-clause-shared
-join_at-requires-clause-shared g c = subst (λ (n : ℕ). IsShared g.W.Work.finish c.args.thieves.now c.take_last.new.members (n + 1) n) (sym c.row_len-k.ensures) c.in-Some.ensures.some.shared
+join_at-requires-clause-shared g c =
+    subst (λ (n : ℕ). IsShared g.W.Work.finish c.args.thieves.now c.take_last.new.members (n + 1) n) (sym c.row_len-k.ensures) c.in-Some.ensures.some.shared
 
 pub join_at-requires-clause-pass : goal.join_at-requires-clause-pass
-join_at-requires-clause-pass g c = λ t. subst (λ (n : ℕ). IsPassFor (get_or c.args.thieves.now n t) c.in-Some.pass) (sym c.row_len-k.ensures) (c.in-Some.ensures.some.is_for t)
+join_at-requires-clause-pass g c =
+    λ t. subst (λ (n : ℕ). IsPassFor (get_or c.args.thieves.now n t) c.in-Some.pass) (sym c.row_len-k.ensures) (c.in-Some.ensures.some.is_for t)
 
 pub returns : goal.returns
 returns g c =

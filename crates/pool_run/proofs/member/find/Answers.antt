@@ -7,4 +7,5 @@ steal_at-requires-clause-ready g c = c.loop.invariant.ready
 
 pub returns-in-Success : goal.returns-in-Success
 returns-in-Success g c =
-    moves_trans g.W.Work.finish c.args.thieves.now c.args.member.now c.loop.member c.steal_at.new.member None None (Some c.in-Success.task) c.loop.invariant c.in-Success.ensures
+    moves_trans g.W.Work.finish c.args.thieves.now c.args.member.now c.loop.member c.steal_at.new.member None None
+    (Some c.in-Success.task) c.loop.invariant c.in-Success.ensures

@@ -24,5 +24,7 @@ returns g c =
     let run = moves_run finish thieves m.member c.put.new.member m.task c.advance-task.result c.put.result c.advance-task.ensures c.put.ensures in
     stepped finish thieves old c.put.new.member c.args.hand c.put.result (elim c.match-hand.branch [
       | in-Some w ↦ from_hand finish thieves old c.put.new.member m.member c.args.hand m.task w.in-Some.task c.put.result w.in-Some.is w.member-is w.task-is run
-      | in-None+in-Job w ↦ from_found finish thieves old c.put.new.member m.member w.find.new.member c.args.hand m.task w.in-Job.task c.put.result w.in-None.is w.member-is w.task-is w.in-Job.ensures run
+      | in-None+in-Job w ↦
+          from_found finish thieves old c.put.new.member m.member w.find.new.member c.args.hand m.task w.in-Job.task c.put.result w.in-None.is w.member-is
+          w.task-is w.in-Job.ensures run
     ])

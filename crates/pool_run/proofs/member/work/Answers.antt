@@ -10,8 +10,10 @@ step-requires-clause-slice g c = c.requires.slice
 
 pub loop-preserved : goal.loop-preserved
 loop-preserved g c =
-    moves_trans g.W.Work.finish c.args.thieves.now c.args.member.now c.loop.member c.step.new.member None c.loop.hand c.in-Some-step.next c.loop.invariant (c.in-Some-step.ensures.some c.in-Some-step.next refl)
+    moves_trans g.W.Work.finish c.args.thieves.now c.args.member.now c.loop.member c.step.new.member None c.loop.hand c.in-Some-step.next c.loop.invariant
+    (c.in-Some-step.ensures.some c.in-Some-step.next refl)
 
 pub returns-in-None-step : goal.returns-in-None-step
 returns-in-None-step g c =
-    moves_trans g.W.Work.finish c.args.thieves.now c.args.member.now c.loop.member c.step.new.member None c.loop.hand None c.loop.invariant (c.in-None-step.ensures.none refl)
+    moves_trans g.W.Work.finish c.args.thieves.now c.args.member.now c.loop.member c.step.new.member None c.loop.hand None c.loop.invariant
+    (c.in-None-step.ensures.none refl)

@@ -17,7 +17,8 @@ loop-job-preserved g c = let old = c.loop-job.invariant in record {
   room = c.place_at.ensures.room c.loop-job.number (vec_len c.args.jobs) old.room;
   left = omega (arith, old.left, ap length c.in-Some.ensures.steps.0);
   number = omega (arith, old.number, length-append c.loop-job.yielded (c.in-Some.job ∷ []));
-  given = λ h. omega (arith, old.given h, c.place_at.ensures.given h, entries_more g.W.Work.finish h c.loop-job.yielded c.in-Some.job c.loop-job.number old.number);
+  given =
+      λ h. omega (arith, old.given h, c.place_at.ensures.given h, entries_more g.W.Work.finish h c.loop-job.yielded c.in-Some.job c.loop-job.number old.number);
   obtained = λ h. c.place_at.ensures.obtained h ∙ old.obtained h;
 }
 

@@ -10,6 +10,7 @@ invariant-loop-job g l = record {
   room : RoomLeft l.number (vec_len l.fn.jobs) l.members;
   left : l.number + length l.job-iterator.rest.items ≡ vec_len l.fn.jobs;
   number : l.number ≡ length l.yielded;
-  given : (h : ℕ × g.row.W.Denot → ℕ) → all_given g.W.Work.finish h l.members ≡ all_given g.W.Work.finish h l.fn.members + weigh h (entries_from g.W.Work.finish 0 l.yielded);
+  given : (h : ℕ × g.row.W.Denot → ℕ) →
+      all_given g.W.Work.finish h l.members ≡ all_given g.W.Work.finish h l.fn.members + weigh h (entries_from g.W.Work.finish 0 l.yielded);
   obtained : (h : ℕ × g.row.W.Denot → ℕ) → all_obtained h l.members ≡ all_obtained h l.fn.members;
 }

@@ -7,5 +7,6 @@ push_reserved-requires-clause-room g c = let left = c.requires.room c.args.at c.
 
 pub returns : goal.returns
 returns g c =
-    placed g.W.Work.finish c.args.thieves.now c.args.members.now c.args.at c.index-members-at.result c.push_reserved.new.owner c.args.task c.requires.pool c.requires.there c.push_reserved.ensures.same
+    placed g.W.Work.finish c.args.thieves.now c.args.members.now c.args.at c.index-members-at.result c.push_reserved.new.owner c.args.task c.requires.pool
+    c.requires.there c.push_reserved.ensures.same
     c.push_reserved.ensures.pushed c.push_reserved.ensures.index

@@ -38,7 +38,8 @@ finish_all-requires-clause-room g c =
     let room = c.room.invariant in
     omega (
       arith,
-      count_back g.W.Work.finish c.run_workers.new.members (drop (length c.run_workers.new.members) inside.members.items) inside.members.len len c.args.jobs.items c.run_workers.ensures.entries,
+      count_back g.W.Work.finish c.run_workers.new.members
+          (drop (length c.run_workers.new.members) inside.members.items) inside.members.len len c.args.jobs.items c.run_workers.ensures.entries,
       ap length room.1,
       inside.finished.ok.0,
       room.2,
@@ -56,7 +57,8 @@ in_order-requires-clause-room g c =
     let room = c.room.invariant in
     omega (
       arith,
-      count_back finish c.run_workers.new.members (drop (length c.run_workers.new.members) inside.members.items) inside.members.len len c.args.jobs.items c.run_workers.ensures.entries,
+      count_back finish c.run_workers.new.members
+          (drop (length c.run_workers.new.members) inside.members.items) inside.members.len len c.args.jobs.items c.run_workers.ensures.entries,
       c.finish_all.ensures.entries (one finish),
       count_tasks finish inside.finished,
       count_tasks finish c.finish_all.new.finished,
@@ -77,6 +79,7 @@ returns g c =
     (λ h. omega (
       arith,
       c.finish_all.ensures.entries h,
-      entries_back finish c.run_workers.new.members (drop (length c.run_workers.new.members) inside.members.items) inside.members.len len c.args.jobs.items c.run_workers.ensures.entries h,
+      entries_back finish c.run_workers.new.members
+          (drop (length c.run_workers.new.members) inside.members.items) inside.members.len len c.args.jobs.items c.run_workers.ensures.entries h,
       ap (λ ts. weigh h (map (entry_of finish) ts)) c.room.invariant.1,
     )) ∙ entries_values finish 0 c.args.jobs.items

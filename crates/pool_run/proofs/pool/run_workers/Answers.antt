@@ -4,10 +4,13 @@ use Rattle.pool_run.proofs.Joining.{pool_shared, all_owners}
 use Rattle.pool_run.proofs.pool.run_workers.Goals as goal
 
 pub join_all-requires : goal.join_all-requires
-join_all-requires g c = pool_shared g.W.Work.finish c.args.thieves.now c.work_first.new.members (pool_moved g.W.Work.finish c.args.thieves.now c.place.new.members c.work_first.new.members c.place.ensures.pool (omega arith) c.work_first.ensures)
+join_all-requires g c =
+    pool_shared g.W.Work.finish c.args.thieves.now c.work_first.new.members
+    (pool_moved g.W.Work.finish c.args.thieves.now c.place.new.members c.work_first.new.members c.place.ensures.pool (omega arith) c.work_first.ensures)
 
 pub audit_all-requires : goal.audit_all-requires
-audit_all-requires g c = all_owners g.W.Work.finish c.args.thieves.now c.join_all.new.members c.join_all.ensures.shared (λ i h. c.join_all.ensures.joined i (omega arith))
+audit_all-requires g c =
+    all_owners g.W.Work.finish c.args.thieves.now c.join_all.new.members c.join_all.ensures.shared (λ i h. c.join_all.ensures.joined i (omega arith))
 
 pub returns-clause-entries : goal.returns-clause-entries
 returns-clause-entries g c = λ h.

@@ -19,7 +19,8 @@ loop-me-preserved g c =
     let same : (i : ℕ) → i ≢ me → passes_of ms i ≡ passes_of c.loop-me.members i = λ i ne. c.give_row.ensures.rows i ne ∙ c.row_of.ensures.rows i in record {
       unused = c.give_row.ensures.unused;
       mine = λ i h. ⊎_elim (λ (lt : i < me). ap length (same i (λ e. absurd (omega (arith, e)))) ∙ old.mine i lt)
-          (λ (le : me ≤ i). let e : me ≡ i = omega arith in subst (λ (j : ℕ). length (passes_of ms j) ≡ length c.args.thieves.now) e c.give_row.ensures.mine) (cases_lt i me);
+          (λ (le : me ≤ i). let e : me ≡ i = omega arith in subst (λ (j : ℕ). length (passes_of ms j) ≡ length c.args.thieves.now) e c.give_row.ensures.mine)
+          (cases_lt i me);
       others = λ i h. same i (λ e. absurd (omega (arith, e))) ∙ old.others i (omega arith);
       room = λ most left. c.give_row.ensures.room most (c.in_ok-row.ensures.room most (old.room most left));
     }

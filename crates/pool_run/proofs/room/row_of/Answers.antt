@@ -27,7 +27,9 @@ loop-k-preserved g c =
     let len : length c.loop-k.row.items ≡ c.loop-k.k = omega (arith, old.len, c.loop-k.row.ok.0) in record {
       unused = c.cut_at-pass.ensures.unused;
       row = subst (IsRow thieves) (sym c.push_reserved.ensures.items)
-          (row_more g.W.Work.finish thieves c.loop-k.row.items c.cut_at-pass.result old.row (λ t. subst (λ (n : ℕ). IsPassFor (get_or thieves n t) c.cut_at-pass.result) (sym len) (c.cut_at-pass.ensures.pass t)) c.cut_at-pass.ensures.obtained);
+          (row_more g.W.Work.finish thieves c.loop-k.row.items c.cut_at-pass.result old.row
+          (λ t. subst (λ (n : ℕ). IsPassFor (get_or thieves n t) c.cut_at-pass.result) (sym len)
+          (c.cut_at-pass.ensures.pass t)) c.cut_at-pass.ensures.obtained);
       len = omega (arith, old.len, c.push_reserved.ensures.len);
       capacity = omega (arith, old.capacity, c.push_reserved.ensures.capacity);
       rows = λ i. c.cut_at-pass.ensures.rows i ∙ old.rows i;

@@ -20,7 +20,8 @@ loop-seat-preserved g c =
     let stays = subst (λ (s : SeatMemory). KeepsBut IsOutgoing b d s.place.call) is c.drain.ensures.others in
     let new = subst (λ (s : SeatMemory). Drains (b s.place.call) (d s.place.call) s c.drain.new.self) is c.drain.ensures.drains in
     record {
-      drains = each_more IsOutgoing Drains a b d ss ts i c.drain.new.self c.requires same inside c.loop-seat.invariant.drains c.loop-seat.invariant.others new stays;
+      drains = each_more IsOutgoing Drains a b d ss ts i c.drain.new.self c.requires same inside c.loop-seat.invariant.drains c.loop-seat.invariant.others new
+          stays;
       others = keeps_more IsOutgoing a b d ss ts i same c.loop-seat.invariant.others stays;
       same = same_from_more ss ts i c.drain.new.self same;
     }

@@ -20,7 +20,8 @@ loop-seat-preserved g c =
     let stays = subst (λ (s : SeatMemory). KeepsBut IsIncoming b d s.place.call) is c.fill.ensures.others in
     let new = subst (λ (s : SeatMemory). Fills (b s.place.call) (d s.place.call) s c.fill.new.self) is c.fill.ensures.fills in
     record {
-      fills = each_more IsIncoming Fills a b d ss ts i c.fill.new.self c.requires same inside c.loop-seat.invariant.fills c.loop-seat.invariant.others new stays;
+      fills = each_more IsIncoming Fills a b d ss ts i c.fill.new.self c.requires same inside c.loop-seat.invariant.fills c.loop-seat.invariant.others new
+          stays;
       others = keeps_more IsIncoming a b d ss ts i same c.loop-seat.invariant.others stays;
       same = same_from_more ss ts i c.fill.new.self same;
     }

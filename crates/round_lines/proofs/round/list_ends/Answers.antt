@@ -15,12 +15,14 @@ loop-seat-preserved c =
     let is = sym (c.end.ensures ∙ ap (end_in_round c.args.start) c.place.ensures) in
     elim c.match-end.branch [
       | in-Some w ↦ record {
-        listed = ap (λ v. v.items) w.ends-is ∙ w.push_reserved.ensures.items ∙ listed_more (seat_end c.args.start) c.args.seats.now c.loop-seat.seat-index _ _ c.seat-item.result (Some w.in-Some.end) c.loop-seat-test.true c.seat-item.is (is ∙ w.in-Some.is) i.listed;
+        listed = ap (λ v. v.items) w.ends-is ∙ w.push_reserved.ensures.items ∙ listed_more (seat_end c.args.start) c.args.seats.now c.loop-seat.seat-index _ _
+            c.seat-item.result (Some w.in-Some.end) c.loop-seat-test.true c.seat-item.is (is ∙ w.in-Some.is) i.listed;
         few = omega (arith, ap vec_len w.ends-is, w.push_reserved.ensures.len, i.few);
         room = ap vec_capacity w.ends-is ∙ w.push_reserved.ensures.capacity ∙ i.room;
       }
       | in_default w ↦ record {
-        listed = ap (λ v. v.items) w.ends-is ∙ sym (append-nil _) ∙ listed_more (seat_end c.args.start) c.args.seats.now c.loop-seat.seat-index _ _ c.seat-item.result None c.loop-seat-test.true c.seat-item.is (is ∙ w.in_default.is) i.listed;
+        listed = ap (λ v. v.items) w.ends-is ∙ sym (append-nil _) ∙ listed_more (seat_end c.args.start) c.args.seats.now c.loop-seat.seat-index _ _
+            c.seat-item.result None c.loop-seat-test.true c.seat-item.is (is ∙ w.in_default.is) i.listed;
         few = omega (arith, ap vec_len w.ends-is, i.few);
         room = ap vec_capacity w.ends-is ∙ i.room;
       }

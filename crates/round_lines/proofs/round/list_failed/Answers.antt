@@ -11,7 +11,8 @@ pub loop-seat-preserved : goal.loop-seat-preserved
 loop-seat-preserved c =
     let i = c.loop-seat.invariant in
     let new = c.list_failed.ensures in record {
-      listed = appended_more (λ (s : SeatMemory). failed_in_round s.place) c.args.seats.now c.loop-seat.seat-index _ _ _ c.seat-item.result c.loop-seat-test.true c.seat-item.is
+      listed = appended_more (λ (s : SeatMemory). failed_in_round s.place) c.args.seats.now c.loop-seat.seat-index _ _ _ c.seat-item.result
+          c.loop-seat-test.true c.seat-item.is
           (new.listed ∙ ap (λ (p : PlaceMemory). map name_of c.loop-seat.failed.items ++ failed_in_round p) c.place.ensures) i.listed;
       few = omega (arith, new.length, i.few);
       room = new.capacity ∙ i.room;

@@ -1,15 +1,16 @@
 use Rattle.std.proofs.Common.{sym, ap, ◌∙◌}
 use Rattle.trau_bits.specs.Bits.{octets_of}
-use Rattle.call_spec.specs.Whole.{history_of}
+use Rattle.call_spec.specs.Whole.{periods_of_call}
 use Rattle.run_spec.specs.Run.{who_in}
-use Rattle.run_spec.specs.Lines.{out_line, down_octets}
+use Rattle.call_leg.specs.Out.{out_line}
+use Rattle.run_spec.specs.Lines.{down_octets}
 use Rattle.run_calls_spec.specs.Whole.{whole_call}
-use Rattle.run_calls_spec.proofs.Periods.{is_whole, history_same, out_lines}
+use Rattle.run_calls_spec.proofs.Periods.{is_whole, history_same}
 use Rattle.run_calls_spec.proofs.laws.lines_are_of_whole_calls.Goals as goal
 
 pub returns-clause-out : goal.returns-clause-out
 returns-clause-out g = λ r c a o.
-    ap (out_line (who_in r c)) (sym (history_same r c a)) ∙ out_lines (who_in r c) (history_of (whole_call r c)) ∙ g.a_call_by_its_periods.ensures.out (whole_call r c) (is_whole r c a o)
+    ap (out_line (who_in r c)) (sym (history_same r c a)) ∙ g.a_call_by_its_periods.ensures.out (whole_call r c) (is_whole r c a o)
 
 pub returns-clause-down : goal.returns-clause-down
 returns-clause-down g = λ r c a o.

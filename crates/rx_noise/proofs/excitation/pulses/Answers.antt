@@ -8,7 +8,8 @@ loop-i-init c = pulses_none _ _ (search rules)
 
 pub loop-i-preserved : goal.loop-i-preserved
 loop-i-preserved c =
-    pulses_next _ c.loop-i.xmc c.loop-i.draw.r c.loop-i.i c.next.result c.next.new.self.r (omega arith) c.loop-i.invariant c.next.ensures.value c.next.ensures.state
+    pulses_next _ c.loop-i.xmc c.loop-i.draw.r c.loop-i.i c.next.result c.next.new.self.r
+    (omega arith) c.loop-i.invariant c.next.ensures.value c.next.ensures.state
 
 pub returns-clause-values : goal.returns-clause-values
 returns-clause-values c = pulses_all _ _ _ _ (omega arith) c.loop-i.invariant

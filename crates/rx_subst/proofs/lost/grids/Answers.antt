@@ -7,7 +7,8 @@ loop-j-init c = grids_none _ _ (search rules)
 
 pub loop-j-preserved : goal.loop-j-preserved
 loop-j-preserved c =
-    grids_next _ c.loop-j.mc c.loop-j.draw.r c.loop-j.j c.next.result c.next.new.self.r (omega arith) c.loop-j.invariant c.next.ensures.value c.next.ensures.state
+    grids_next _ c.loop-j.mc c.loop-j.draw.r c.loop-j.j c.next.result c.next.new.self.r
+    (omega arith) c.loop-j.invariant c.next.ensures.value c.next.ensures.state
 
 pub returns : goal.returns
 returns c =

@@ -3,7 +3,7 @@ use Rattle.std.proofs.lemmas.Int.{ints, to_z-of_z}
 use Rattle.trau_alaw.specs.Companding.{magnitude, IsOnlyOctet}
 use Rattle.trau_alaw.specs.Mulaw.{mulaw, mulaw_least, mulaw_end}
 use Rattle.trau_alaw.proofs.Laid.{octet_of-only}
-use Rattle.trau_alaw.proofs.MuSegments.{IsAt}
+use Rattle.trau_alaw.proofs.MuSegments.{IsAtMu}
 use Rattle.trau_alaw.proofs.MuOctets.{only_octet}
 use Rattle.trau_alaw.proofs.mulaw.compress.Goals as goal
 use Rattle.trau_alaw.proofs.mulaw.compress.Goals.{then-x-lt0, else-x-lt0}
@@ -15,7 +15,7 @@ signed : (x : ℤ) (sign rest size : ℕ) → size ≡ magnitude x → rest < 12
     (x <ℤ pos 0 → 128 ≤ sign + rest) → (pos 0 ≤ℤ x → sign + rest < 128) →
     IsOnlyOctet mulaw x (bit_xor (sign + rest) 255)
 signed x sign rest size m h l u b e low high =
-    let a : IsAt (rest / 16) (rest % 16) size = record { at_least = l; within = u } in
+    let a : IsAtMu (rest / 16) (rest % 16) size = record { at_least = l; within = u } in
     only_octet x (sign + rest) b (rw (e, ← m) a) low high
 
 pub returns-clause-only : goal.returns-clause-only

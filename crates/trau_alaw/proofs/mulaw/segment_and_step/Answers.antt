@@ -5,7 +5,8 @@ use Rattle.trau_alaw.proofs.mulaw.segment_and_step.Goals as goal
 pub overflow_sub-segment : goal.overflow_sub-segment
 overflow_sub-segment c =
     let e = c.min-raised.ensures in
-    (power_within (c.min-raised.result + 132) c.ilog2-segment.result (omega arith) (omega arith) c.ilog2-segment.ensures.power_le c.ilog2-segment.ensures.next_power_gt).0
+    (power_within (c.min-raised.result + 132) c.ilog2-segment.result (omega arith)
+    (omega arith) c.ilog2-segment.ensures.power_le c.ilog2-segment.ensures.next_power_gt).0
 
 pub overflow_cast-result : goal.overflow_cast-result
 overflow_cast-result c =

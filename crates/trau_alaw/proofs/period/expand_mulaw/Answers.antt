@@ -12,7 +12,8 @@ loop-k-init c = record { count = sym c.told-octets; done = refl }
 pub loop-k-preserved : goal.loop-k-preserved
 loop-k-preserved c =
     let fits : FitsSigned w16 c.expand.result = search rules in
-    simp to_z-of_z (run_next (λ octet. middle (mulaw octet)) c.args.octets.now c.loop-k.x c.loop-k.k 0 c.expand.result (omega arith) c.loop-k.invariant c.expand.ensures)
+    simp to_z-of_z (run_next (λ octet. middle (mulaw octet)) c.args.octets.now c.loop-k.x c.loop-k.k 0 c.expand.result
+    (omega arith) c.loop-k.invariant c.expand.ensures)
 
 pub returns : goal.returns
 unfolding expanded

@@ -10,10 +10,12 @@ loop-filled-preserved g c = record {
 }
 
 pub returns-in-Ok-eq0-clause-this : goal.returns-in-Ok-eq0-clause-this
-returns-in-Ok-eq0-clause-this g c = filled_ended _ _ _ _ c.loop-filled.block c.read.new.buf c.loop-filled.invariant.this c.loop-filled-test.true (search rules) c.in-Ok-eq0.field-0 c.in-Ok-eq0.ensures.this c.in-Ok-eq0.field-0-test
+returns-in-Ok-eq0-clause-this g c = filled_ended _ _ _ _ c.loop-filled.block c.read.new.buf c.loop-filled.invariant.this c.loop-filled-test.true
+    (search rules) c.in-Ok-eq0.field-0 c.in-Ok-eq0.ensures.this c.in-Ok-eq0.field-0-test
 
 pub returns-in-Err-clause-this : goal.returns-in-Err-clause-this
-returns-in-Err-clause-this g c = filled_failed _ _ _ _ c.loop-filled.block c.read.new.buf c.loop-filled.invariant.this c.loop-filled-test.true (search rules) c.in-Err.field-0 c.in-Err.ensures.this
+returns-in-Err-clause-this g c = filled_failed _ _ _ _ c.loop-filled.block c.read.new.buf c.loop-filled.invariant.this c.loop-filled-test.true
+    (search rules) c.in-Err.field-0 c.in-Err.ensures.this
 
 pub returns-clause-this : goal.returns-clause-this
 returns-clause-this g c = filled_all _ _ _ _ c.loop-filled.invariant.this c.loop-filled-test.false

@@ -23,4 +23,5 @@ pub returns-clause-below : goal.returns-clause-below
 returns-clause-below c =
     let f = c.ranges.v in
     let l = simp to_z-of_z at c.ilog2.ensures.power_le in
-    stays (unsigned_abs c.args.v) c.ilog2.result (within c.ilog2.result (unsigned_abs c.args.v) l (omega (arith, ints))) (simp to_z-of_z at c.ilog2.ensures.next_power_gt)
+    stays (unsigned_abs c.args.v) c.ilog2.result (within c.ilog2.result (unsigned_abs c.args.v) l (omega (arith, ints)))
+    (simp to_z-of_z at c.ilog2.ensures.next_power_gt)

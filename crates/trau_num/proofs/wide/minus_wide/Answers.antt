@@ -10,6 +10,7 @@ returns-clause-value c =
     let bound = c.scaled_wide.ensures.bound in
     let base = c.requires.base in
     let product = rw (to_z-of_z w32 c.args.factor c.ranges.factor, to_z-of_z w32 c.args.value c.ranges.value) at c.scaled_wide.ensures.value in
-    let exact : to_z w32 (of_z w32 (to_z w32 (of_z w32 c.args.base) -ℤ to_z w32 (of_z w32 c.scaled_wide.result))) ≡ c.args.base -ℤ c.scaled_wide.result = omega (arith, ints) in
+    let exact : to_z w32 (of_z w32 (to_z w32 (of_z w32 c.args.base) -ℤ to_z w32 (of_z w32 c.scaled_wide.result))) ≡ c.args.base -ℤ c.scaled_wide.result =
+    omega (arith, ints) in
     let clamped = rw exact at c.clamp_wide.ensures.value in
     to_z-of_z w32 _ result ∙ clamped ∙ ap (sub_of c.args.base) product

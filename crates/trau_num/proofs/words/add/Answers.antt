@@ -8,4 +8,5 @@ pub returns : goal.returns
 returns c =
     let b : c.from-2.result ≡ c.args.b = c.from-2.ensures ∙ to_z-of_z w16 c.args.b c.ranges.b in
     let small : unsigned_abs c.from-2.result ≤ 32768 = omega (arith, ints) in
-    clamped_sum c.args.a c.from.result c.from-2.result c.clamp.result c.ranges.a c.from.ensures small (record { sfits = c.clamp.type_inv }) c.clamp.ensures ∙ ap (add_of c.args.a) b
+    clamped_sum c.args.a c.from.result c.from-2.result c.clamp.result c.ranges.a c.from.ensures small (record { sfits = c.clamp.type_inv }) c.clamp.ensures ∙
+    ap (add_of c.args.a) b

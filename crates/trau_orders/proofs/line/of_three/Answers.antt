@@ -16,7 +16,8 @@ returns-in_err-law_of c =
     record {
       some = nothing_ordered _ _ c.from_residual-in_err-law_of.ensures;
       none = λ none. no_three verb c.args.call.now c.args.more.now (λ e. c.in_err-law_of.ensures.none refl)
-          (other_verb verb (codes "open") (codes "bridge") _ refl is) (other_verb verb (codes "open") (codes "level") _ refl is) (other_verb verb (codes "open") (codes "dtx") _ refl is);
+          (other_verb verb (codes "open") (codes "bridge") _ refl is) (other_verb verb (codes "open") (codes "level") _ refl is)
+          (other_verb verb (codes "open") (codes "dtx") _ refl is);
     }
 
 pub returns-in_err-call_of : goal.returns-in_err-call_of
@@ -35,7 +36,8 @@ returns-in_err-level_of c =
     let is = c.if-is_word-3.ensures.yes refl in
     record {
       some = nothing_ordered _ _ c.from_residual-in_err-level_of.ensures;
-      none = λ none. no_three verb c.args.call.now c.args.more.now (λ e. absurd (c.if-is_word.ensures.no refl e)) (λ e. absurd (c.if-is_word-2.ensures.no refl e))
+      none = λ none. no_three verb c.args.call.now c.args.more.now (λ e. absurd (c.if-is_word.ensures.no refl e))
+          (λ e. absurd (c.if-is_word-2.ensures.no refl e))
           (λ e. c.in_err-level_of.ensures.none refl) (other_verb verb (codes "level") (codes "dtx") _ refl is);
     }
 

@@ -1,5 +1,5 @@
 use Rattle.std.proofs.Common.{refl}
-use Rattle.trau_orders.proofs.Words.{refused_one, refused_stamp, refused_words, order_line}
+use Rattle.trau_orders.proofs.Words.{refused_one, refused_stamp, refused_words, is_line}
 use Rattle.trau_orders.proofs.line.order_of.Goals as goal
 
 pub returns-in_err-stamp-clause-none : goal.returns-in_err-stamp-clause-none
@@ -15,4 +15,4 @@ returns-in_err-what-clause-none c = λ none.
 
 pub returns-clause-some : goal.returns-clause-some
 returns-clause-some c =
-    order_line c.args.line.now c.in_ok-stamp.stamp.now c.in_ok-stamp.words.now _ c.in_ok-stamp.ensures.some c.in_ok-stamp-2.ensures.some c.in_ok-what.ensures.some
+    is_line c.args.line.now c.in_ok-stamp.stamp.now c.in_ok-stamp.words.now _ c.in_ok-stamp.ensures.some c.in_ok-stamp-2.ensures.some c.in_ok-what.ensures.some

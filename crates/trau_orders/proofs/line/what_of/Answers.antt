@@ -8,11 +8,13 @@ returns-in_err-verb-clause-none c = λ none. not_alone c.args.words.now (c.in_er
 
 pub returns-in-None-clause-some : goal.returns-in-None-clause-some
 returns-in-None-clause-some c =
-    let two = two_words c.args.words.now c.in_ok-verb.verb.now c.in_ok-verb.rest.now c.in_ok-verb.ensures.some (c.in-None.ensures.none refl) in rw two c.of_two.ensures.some
+    let two = two_words c.args.words.now c.in_ok-verb.verb.now c.in_ok-verb.rest.now c.in_ok-verb.ensures.some (c.in-None.ensures.none refl) in rw two
+    c.of_two.ensures.some
 
 pub returns-in-None-clause-none : goal.returns-in-None-clause-none
 returns-in-None-clause-none c =
-    let two = two_words c.args.words.now c.in_ok-verb.verb.now c.in_ok-verb.rest.now c.in_ok-verb.ensures.some (c.in-None.ensures.none refl) in rw two c.of_two.ensures.none
+    let two = two_words c.args.words.now c.in_ok-verb.verb.now c.in_ok-verb.rest.now c.in_ok-verb.ensures.some (c.in-None.ensures.none refl) in rw two
+    c.of_two.ensures.none
 
 pub returns-in-Some-clause-some : goal.returns-in-Some-clause-some
 returns-in-Some-clause-some c =

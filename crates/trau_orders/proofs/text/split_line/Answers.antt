@@ -8,4 +8,5 @@ returns-in-Some-clause-some c = first_line c.args.text.now c.in-Some.line.now c.
 
 pub returns-in-None-clause-some : goal.returns-in-None-clause-some
 returns-in-None-clause-some c =
-    only_line c.args.text.now (c.in-None.ensures.none refl) (eqb-false (length c.args.text.now) 0 (sym c.if-is_empty.ensures)) ∙ ap (λ ls. c.args.text.now ∷ ls) (sym no_line)
+    only_line c.args.text.now (c.in-None.ensures.none refl) (eqb-false (length c.args.text.now) 0 (sym c.if-is_empty.ensures))
+    ∙ ap (λ ls. c.args.text.now ∷ ls) (sym no_line)

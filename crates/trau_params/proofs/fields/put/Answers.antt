@@ -1,5 +1,5 @@
 use Rattle.std.proofs.Common.{arith, rules}
-use Rattle.trau_params.proofs.Prefixes.{put_none, put_next}
+use Rattle.trau_params.proofs.Fronts.{put_none, put_next}
 use Rattle.trau_params.proofs.fields.put.Goals as goal
 
 pub loop-t-init : goal.loop-t-init

@@ -1,7 +1,7 @@
 use Rattle.std.proofs.Common.{◌≡◌, ◌++◌, length, get_or, sym, ap, ◌∙◌, arith, rules}
 use Rattle.trau_params.specs.Widths.{larc_widths}
 use Rattle.trau_params.specs.FieldBits.{low_bits}
-use Rattle.trau_params.proofs.Prefixes.{sum-more, field_bits-more}
+use Rattle.trau_params.proofs.Fronts.{sum-more, field_bits-more}
 use Rattle.trau_params.proofs.fields.put_larc.Goals as goal
 
 pub loop-i-preserved : goal.loop-i-preserved

@@ -1,7 +1,7 @@
 use Rattle.std.proofs.Common.{◌≡◌, ◌++◌, length, take, get_or, ap, ◌∙◌, arith, rules}
 use Rattle.trau_params.specs.Widths.{xmc_width}
 use Rattle.trau_params.specs.FieldBits.{low_bits}
-use Rattle.trau_params.proofs.Prefixes.{pulses-more}
+use Rattle.trau_params.proofs.Fronts.{pulses-more}
 use Rattle.trau_params.proofs.fields.put_pulses.Goals as goal
 
 pub loop-i-preserved : goal.loop-i-preserved

@@ -1,6 +1,6 @@
 use Rattle.std.proofs.Common.{◌≡◌, ◌+◌, ◌-◌, ◌<◌, get_or, length, arith, rules}
 use Rattle.std.proofs.lemmas.List.Elements.{All-get_or}
-use Rattle.trau_params.proofs.Prefixes.{read_none, read_fits, read_next}
+use Rattle.trau_params.proofs.Fronts.{read_none, read_fits, read_next}
 use Rattle.trau_params.proofs.fields.read.Goals as goal
 
 pub loop-t-init : goal.loop-t-init

@@ -1,7 +1,7 @@
 use Rattle.std.proofs.Common.{◌^◌, ◌++◌, get_or, sym, ap, ◌∙◌, arith, rules}
 use Rattle.trau_params.specs.Widths.{larc_widths}
 use Rattle.trau_params.specs.FieldBits.{low_bits}
-use Rattle.trau_params.proofs.Prefixes.{sum-more, fit_next, field_bits-set}
+use Rattle.trau_params.proofs.Fronts.{sum-more, fit_next, field_bits-set}
 use Rattle.trau_params.proofs.fields.read_larc.Goals as goal
 
 pub loop-i-preserved : goal.loop-i-preserved

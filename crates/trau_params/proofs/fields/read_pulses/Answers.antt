@@ -2,7 +2,7 @@ use Rattle.std.proofs.Common.{◌≡◌, ◌+◌, ◌*◌, ◌^◌, ◌<◌, ◌
 use Rattle.std.proofs.lemmas.List.Elements.{All-from_get_or}
 use Rattle.trau_params.specs.Widths.{xmc_width}
 use Rattle.trau_params.specs.FieldBits.{low_bits}
-use Rattle.trau_params.proofs.Prefixes.{fit_next, pulses-set}
+use Rattle.trau_params.proofs.Fronts.{fit_next, pulses-set}
 use Rattle.trau_params.proofs.fields.read_pulses.Goals as goal
 
 pub loop-i-preserved : goal.loop-i-preserved

@@ -1,6 +1,4 @@
-use Rattle.std.proofs.Common.{◌≡◌, ℕ, ◌<◌, ◌≤◌, [], take, get_or}
-use Rattle.trau_io.specs.declared.line.Side.TheVariants.{Down}
-use Rattle.trau_submux.specs.Lines.{AllButFour, channel_lines}
+use Rattle.std.proofs.Common.{[], take, get_or}
 use Rattle.trau_submux.proofs.Writing.{WrittenSoFar}
 use Rattle.trau_submux.proofs.cut.write_channels.Given as goal
 

@@ -24,10 +24,14 @@ loop-part-preserved c =
     let long_w : length w ≡ 16 = search rules in
     let old = c.loop-part.invariant in
     record {
-      first = subst (λ row. Taken 0 slot row m) (sym c.put_eight.ensures) (first_more slot u w n m (omega arith) (omega arith) long_u long_w c.eight_of_each.ensures c.loop-part.first old.first);
-      second = subst (λ row. Taken 1 slot row m) (sym c.put_eight-in-loop-part.ensures) (second_more slot u w n m (omega arith) (omega arith) long_u long_w c.eight_of_each.ensures c.loop-part.second old.second);
-      third = subst (λ row. Taken 2 slot row m) (sym c.put_eight-in-loop-part-2.ensures) (third_more slot u w n m (omega arith) (omega arith) long_u long_w c.eight_of_each.ensures c.loop-part.third old.third);
-      fourth = subst (λ row. Taken 3 slot row m) (sym c.put_eight-in-loop-part-3.ensures) (fourth_more slot u w n m (omega arith) (omega arith) long_u long_w c.eight_of_each.ensures c.loop-part.fourth old.fourth);
+      first = subst (λ row. Taken 0 slot row m) (sym c.put_eight.ensures)
+          (first_more slot u w n m (omega arith) (omega arith) long_u long_w c.eight_of_each.ensures c.loop-part.first old.first);
+      second = subst (λ row. Taken 1 slot row m) (sym c.put_eight-in-loop-part.ensures)
+          (second_more slot u w n m (omega arith) (omega arith) long_u long_w c.eight_of_each.ensures c.loop-part.second old.second);
+      third = subst (λ row. Taken 2 slot row m) (sym c.put_eight-in-loop-part-2.ensures)
+          (third_more slot u w n m (omega arith) (omega arith) long_u long_w c.eight_of_each.ensures c.loop-part.third old.third);
+      fourth = subst (λ row. Taken 3 slot row m) (sym c.put_eight-in-loop-part-3.ensures)
+          (fourth_more slot u w n m (omega arith) (omega arith) long_u long_w c.eight_of_each.ensures c.loop-part.fourth old.fourth);
     }
 
 pub returns-clause-channels : goal.returns-clause-channels

@@ -1,4 +1,4 @@
-use Rattle.trau_submux.proofs.Vectors.{first_halves_at, last_halves_at}
+use Rattle.trau_submux.proofs.Lanewise.{first_halves_at, last_halves_at}
 use Rattle.trau_submux.proofs.lanes.exchange_halves.Goals as goal
 
 pub returns-clause-first : goal.returns-clause-first

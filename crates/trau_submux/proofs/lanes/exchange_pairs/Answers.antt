@@ -1,4 +1,4 @@
-use Rattle.trau_submux.proofs.Vectors.{even_pairs_at, odd_pairs_at}
+use Rattle.trau_submux.proofs.Lanewise.{even_pairs_at, odd_pairs_at}
 use Rattle.trau_submux.proofs.lanes.exchange_pairs.Goals as goal
 
 pub returns-clause-even : goal.returns-clause-even

@@ -9,8 +9,10 @@ returns-clause-runs g c = record {
   merges = c.merge_slot-end.ensures.merges;
   others = c.merge_slot-end.ensures.others;
   tells =
-      subst (λ text. TellsText text (merge_end c.merge_slot-end.result) (g.D.Desk.desk c.args.desk.now) (g.D.Desk.desk c.tell_end.new.desk) c.tell_end.result) (c.as_bytes.ensures.value ∙ c.deref.ensures.0 ∙ c.text_of_merge.ensures)
-      (subst (λ end. TellsText c.as_bytes.result.now end (g.D.Desk.desk c.args.desk.now) (g.D.Desk.desk c.tell_end.new.desk) c.tell_end.result) c.end_of_merge.ensures c.tell_end.ensures);
+      subst (λ text. TellsText text (merge_end c.merge_slot-end.result) (g.D.Desk.desk c.args.desk.now) (g.D.Desk.desk c.tell_end.new.desk) c.tell_end.result)
+      (c.as_bytes.ensures.value ∙ c.deref.ensures.0 ∙ c.text_of_merge.ensures)
+      (subst (λ end. TellsText c.as_bytes.result.now end (g.D.Desk.desk c.args.desk.now) (g.D.Desk.desk c.tell_end.new.desk) c.tell_end.result)
+      c.end_of_merge.ensures c.tell_end.ensures);
 }
 
 pub returns-clause-causes : goal.returns-clause-causes

@@ -9,8 +9,10 @@ returns-clause-runs g c = record {
   splits = c.split_slot-end.ensures.splits;
   others = c.split_slot-end.ensures.others;
   tells =
-      subst (λ text. TellsText text (split_end c.split_slot-end.result) (g.D.Desk.desk c.args.desk.now) (g.D.Desk.desk c.tell_end.new.desk) c.tell_end.result) (c.as_bytes.ensures.value ∙ c.deref.ensures.0 ∙ c.text_of_split.ensures)
-      (subst (λ end. TellsText c.as_bytes.result.now end (g.D.Desk.desk c.args.desk.now) (g.D.Desk.desk c.tell_end.new.desk) c.tell_end.result) c.end_of_split.ensures c.tell_end.ensures);
+      subst (λ text. TellsText text (split_end c.split_slot-end.result) (g.D.Desk.desk c.args.desk.now) (g.D.Desk.desk c.tell_end.new.desk) c.tell_end.result)
+      (c.as_bytes.ensures.value ∙ c.deref.ensures.0 ∙ c.text_of_split.ensures)
+      (subst (λ end. TellsText c.as_bytes.result.now end (g.D.Desk.desk c.args.desk.now) (g.D.Desk.desk c.tell_end.new.desk) c.tell_end.result)
+      c.end_of_split.ensures c.tell_end.ensures);
 }
 
 pub returns-clause-causes : goal.returns-clause-causes

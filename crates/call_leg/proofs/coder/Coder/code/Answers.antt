@@ -9,5 +9,6 @@ returns-clause-step c =
     let f : FitsSigned w16 c.encode-peak.result.2 = search rules in
     let g : FitsSigned w16 c.args.level = search rules in
     let s = simp to_z-of_z at c.send-sp.ensures.step in
-    code-step c.args.law (coder_memory c.args.self.now) c.args.octets.now c.args.level c.args.on c.expand_all.result c.encode-peak.result.0 c.send-sp.result.0 c.encode-peak.result.1 c.encode-peak.result.2 c.send-sp.result.1
+    code-step c.args.law (coder_memory c.args.self.now) c.args.octets.now c.args.level c.args.on c.expand_all.result c.encode-peak.result.0 c.send-sp.result.0
+    c.encode-peak.result.1 c.encode-peak.result.2 c.send-sp.result.1
     c.to_bits.new.bits c.encode-peak.new.self c.send-sp.new.self c.encode-peak.ensures.step c.expand_all.ensures s c.to_bits.ensures.value

@@ -9,4 +9,5 @@ pub returns-clause-step : goal.returns-clause-step
 returns-clause-step c = c.bridge_off.ensures.step ∙ ap bridge_over c.self.view_is
 
 pub returns-clause-history : goal.returns-clause-history
-returns-clause-history c = λ who ts now h. subst (Between who ts (without_bridge now)) (sym (returns-clause-step c)) (down_off-stands who ts now c.args.self.now c.requires h)
+returns-clause-history c = λ who ts now h. subst (Between who ts (without_bridge now)) (sym (returns-clause-step c))
+    (down_off-stands who ts now c.args.self.now c.requires h)

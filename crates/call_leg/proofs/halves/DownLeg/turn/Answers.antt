@@ -9,7 +9,8 @@ use Rattle.call_leg.proofs.halves.DownLeg.turn.Goals as goal
 
 pub returns-clause-step : goal.returns-clause-step
 returns-clause-step c =
-    down_turn-step c.args.self.now (down_memory c.note.new.self) (down_memory c.hand_item.new.self) c.args.note.now (item_of (option_copied c.args.item)) c.args.pcm.now _ _
+    down_turn-step c.args.self.now (down_memory c.note.new.self) (down_memory c.hand_item.new.self) c.args.note.now (item_of (option_copied c.args.item))
+    c.args.pcm.now _ _
     (c.note.ensures.step ∙ ap (λ (d : DownMemory). noted d c.args.note.now) c.self.view_is) c.hand_item.ensures.step c.half.ensures.step
 
 pub returns-clause-history : goal.returns-clause-history
@@ -21,8 +22,10 @@ returns-clause-history c = λ who ts now up h e b.
 pub returns-clause-down : goal.returns-clause-down
 returns-clause-down c = λ who ts now up h e b.
     sym (ap (λ (w : List ℕ × DownMemory). w.0) (returns-clause-step c))
-    ∙ (down_turn-stands who ts now up c.args.pcm.now c.args.note.now (item_of (option_copied c.args.item)) c.args.self.now c.told-pcm h e (is_some-item c.args.item ∙ b)).1
+    ∙ (down_turn-stands who ts now up c.args.pcm.now c.args.note.now (item_of (option_copied c.args.item)) c.args.self.now c.told-pcm h e
+    (is_some-item c.args.item ∙ b)).1
 
 pub returns-clause-bridged : goal.returns-clause-bridged
 returns-clause-bridged c =
-    ap (λ (w : List ℕ × DownMemory). w.1.bridged) (sym (returns-clause-step c)) ∙ down-keeps c.args.self.now c.args.note.now (item_of (option_copied c.args.item)) c.args.pcm.now
+    ap (λ (w : List ℕ × DownMemory). w.1.bridged) (sym (returns-clause-step c)) ∙ down-keeps c.args.self.now c.args.note.now
+    (item_of (option_copied c.args.item)) c.args.pcm.now

@@ -10,15 +10,18 @@ use Rattle.call_leg.proofs.halves.UpLeg.turn.Goals as goal
 pub returns-clause-step : goal.returns-clause-step
 returns-clause-step c =
     ap (λ u. up_turned u c.args.up.now) (sym c.self.view_is) ∙
-    turn-step (the_view c.self.inside) c.args.up.now c.feed-yielded.result c.feed-yielded.new.self (sighting_of c.read-found.result) (effective_fields c.hear-eff.result) c.hear-eff.new.rx c.play.new.octets c.play.new.decoder c.count.new.counts c.asked.result c.dtx_told.result
+    turn-step (the_view c.self.inside) c.args.up.now c.feed-yielded.result c.feed-yielded.new.self (sighting_of c.read-found.result)
+    (effective_fields c.hear-eff.result) c.hear-eff.new.rx c.play.new.octets c.play.new.decoder c.count.new.counts c.asked.result c.dtx_told.result
     c.feed-yielded.ensures.step c.read-found.ensures c.hear-eff.ensures c.play.ensures c.count.ensures.value c.asked.ensures.value c.dtx_told.ensures
 
 pub returns-clause-history : goal.returns-clause-history
 returns-clause-history c = λ pcm handed who ts now h b.
-    subst (UpStands who (period_with now c.args.up.now pcm handed ∷ ts) (later now)) (ap (λ (r : Note × List ℕ × UpMemory). r.2) (returns-clause-step c)) (turn-stands who ts now c.args.up.now pcm handed c.args.self.now c.told-up b h)
+    subst (UpStands who (period_with now c.args.up.now pcm handed ∷ ts) (later now)) (ap (λ (r : Note × List ℕ × UpMemory). r.2) (returns-clause-step c))
+    (turn-stands who ts now c.args.up.now pcm handed c.args.self.now c.told-up b h)
 
 pub returns-clause-note : goal.returns-clause-note
-returns-clause-note c = λ who ts now h. sym (ap (λ (r : Note × List ℕ × UpMemory). r.0) (returns-clause-step c)) ∙ turn-note who ts now c.args.up.now c.args.self.now c.told-up h
+returns-clause-note c = λ who ts now h. sym (ap (λ (r : Note × List ℕ × UpMemory). r.0) (returns-clause-step c))
+    ∙ turn-note who ts now c.args.up.now c.args.self.now c.told-up h
 
 pub returns-clause-out : goal.returns-clause-out
 returns-clause-out c = λ pcm handed who ts now h b.

@@ -12,4 +12,5 @@ returns-clause-step c =
     ap (λ d. with_down (the_view c.self.inside) d) c.bridge_off.ensures.step ∙ ap (λ (m : LegMemory). with_down m (bridge_over m.down)) c.self.view_is
 
 pub returns-clause-history : goal.returns-clause-history
-returns-clause-history c = λ who ts now h b. subst (Stands who ts (without_bridge now)) (sym (returns-clause-step c)) (end-stands who ts now c.args.self.now b h)
+returns-clause-history c = λ who ts now h b. subst (Stands who ts (without_bridge now)) (sym (returns-clause-step c))
+    (end-stands who ts now c.args.self.now b h)

@@ -1,5 +1,5 @@
 use Rattle.std.proofs.Common.{sym, subst, ap, ◌∙◌}
-use Rattle.fr_decoder.specs.Step as decoder
+use Rattle.fr_decoder.specs.Memory as decoder
 use Rattle.call_leg.specs.Settings.{with_bridge}
 use Rattle.call_leg.specs.Memory.{down_memory}
 use Rattle.call_leg.specs.Stands.{Stands}

@@ -1,6 +1,6 @@
 use Rattle.std.proofs.Common.{sym, ap, ◌∙◌, subst, length, arith}
 use Rattle.trau_io.specs.declared.ends.Counts.{Counts}
-use Rattle.frame_sync.specs.Step.{SyncMemory}
+use Rattle.frame_sync.specs.Memory.{SyncMemory}
 use Rattle.call_leg.specs.Counted.{sightings_counted}
 use Rattle.call_leg.specs.Down.{frames_of}
 use Rattle.call_leg.specs.Memory.{LegMemory}

@@ -11,8 +11,10 @@ use Rattle.call_leg.proofs.leg.Leg.hand.Goals as goal
 
 pub returns-clause-step : goal.returns-clause-step
 returns-clause-step c =
-    ap (λ d. with_down (the_view c.self.inside) d) c.hand.ensures.step ∙ ap (λ (m : LegMemory). with_down m (after_handing m.down (effective_fields c.args.e))) c.self.view_is
+    ap (λ d. with_down (the_view c.self.inside) d) c.hand.ensures.step ∙ ap (λ (m : LegMemory). with_down m (after_handing m.down (effective_fields c.args.e)))
+    c.self.view_is
 
 pub returns-clause-history : goal.returns-clause-history
 returns-clause-history c = λ who ts now up h.
-    subst (Midway who ts now up (Some (bits260 (handed_fields (effective_fields c.args.e))))) (sym (returns-clause-step c)) (handing-stands who ts now up (effective_fields c.args.e) c.args.self.now h)
+    subst (Midway who ts now up (Some (bits260 (handed_fields (effective_fields c.args.e))))) (sym (returns-clause-step c))
+    (handing-stands who ts now up (effective_fields c.args.e) c.args.self.now h)

@@ -16,6 +16,7 @@ returns-clause-down c = λ who ts now h n. c.down_half.ensures.down who ts now c
 
 pub returns-clause-step : goal.returns-clause-step
 returns-clause-step c =
-    ap (λ (f : EffectiveFields × List ℕ × LegMemory). let last = down_worked f.2.down c.args.pcm.now in (f.1, last.0, with_down f.2 last.1)) c.up_half.ensures.step
+    ap (λ (f : EffectiveFields × List ℕ × LegMemory). let last = down_worked f.2.down c.args.pcm.now in (f.1, last.0, with_down f.2 last.1))
+    c.up_half.ensures.step
     ∙ ap (λ (l : List ℕ × DownMemory). (c.up_half.new.out, l.0, with_down c.up_half.new.self l.1)) c.down_half.ensures.bits
     ∙ ap (λ (m : LegMemory). (c.up_half.new.out, bits_of c.down_half.new.down, m)) (sym c.down_half.ensures.step)

@@ -1,5 +1,5 @@
 use Rattle.std.proofs.Common.{sym, ap, subst, arith}
-use Rattle.frame_sync.specs.Step.{SyncMemory}
+use Rattle.frame_sync.specs.Memory.{SyncMemory}
 use Rattle.call_leg.specs.Settings.{epoch_now}
 use Rattle.call_leg.specs.Places.{sent_now}
 use Rattle.call_leg.specs.Memory.{LegMemory}

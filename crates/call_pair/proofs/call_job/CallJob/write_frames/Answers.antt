@@ -16,9 +16,11 @@ loop-k-preserved c =
     let l : k < length notes = omega (arith, c.loop-k-test.true, c.requires.told) in
     let front : take (k + 1) (frames_in notes) ≡ take k (frames_in notes) ++ effective_fields c.frame.result ∷ [] =
     ap (λ (n : ℕ). take n (frames_in notes)) (sym next) ∙ take-suc (frames_in notes) k Quiet (omega (arith, l, length-map notes (λ (n : Note). n.eff)))
-    ∙ ap (λ (e : EffectiveFields). take k (frames_in notes) ++ e ∷ []) (get_or-map (λ (n : Note). n.eff) notes k (record { eff = Quiet; ask = 0; dtx = None }) Quiet l ∙ sym c.frame.ensures) in
+    ∙ ap (λ (e : EffectiveFields). take k (frames_in notes) ++ e ∷ []) (get_or-map (λ (n : Note). n.eff) notes k (record { eff = Quiet; ask = 0; dtx = None })
+    Quiet l ∙ sym c.frame.ensures) in
     record {
-      written = ap (λ (es : List Effective). map effective_fields es) c.push_reserved.ensures.items ∙ map-append effective_fields c.loop-k.frames.items (c.frame.result ∷ [])
+      written = ap (λ (es : List Effective). map effective_fields es) c.push_reserved.ensures.items ∙ map-append effective_fields c.loop-k.frames.items
+          (c.frame.result ∷ [])
           ∙ ap (λ (es : List EffectiveFields). es ++ effective_fields c.frame.result ∷ []) c.loop-k.invariant.written ∙ sym front;
       number = omega (arith, c.push_reserved.ensures.len, c.loop-k.invariant.number);
       capacity = c.push_reserved.ensures.capacity ∙ c.loop-k.invariant.capacity;

@@ -11,9 +11,11 @@ pub returns-clause-io : goal.returns-clause-io
 returns-clause-io c =
     let io = c.self.inside in
     let octets = c.args.octets.now in
-    let down = with_items-written io.down (40 * io.done) 40 c.deref_mut.result.now c.copy_from_slice.new.self octets c.deref_mut.ensures.value c.copy_from_slice.ensures.len
+    let down = with_items-written io.down (40 * io.done) 40 c.deref_mut.result.now c.copy_from_slice.new.self octets c.deref_mut.ensures.value
+    c.copy_from_slice.ensures.len
     c.copy_from_slice.ensures.after c.told-octets in
-    ap (λ (xs : List ℕ). record { call = io.call; up = io.up.items; pcm = io.pcm.items; out = io.out.items; down = xs; given = io.given; done = io.done + 1 }) down ∙
+    ap (λ (xs : List ℕ). record { call = io.call; up = io.up.items; pcm = io.pcm.items; out = io.out.items; down = xs; given = io.given; done = io.done + 1 })
+    down ∙
     ap (λ (was : IoMemory). with_place was octets) c.self.view_is
 
 pub returns-clause-packed : goal.returns-clause-packed

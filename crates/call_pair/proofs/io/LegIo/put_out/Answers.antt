@@ -8,7 +8,9 @@ pub returns : goal.returns
 returns c =
     let io = c.self.inside in
     let octets = c.args.octets.now in
-    let out = with_items-written io.out (160 * io.done) 160 c.deref_mut.result.now c.copy_from_slice.new.self octets c.deref_mut.ensures.value c.copy_from_slice.ensures.len
+    let out = with_items-written io.out (160 * io.done) 160 c.deref_mut.result.now c.copy_from_slice.new.self octets c.deref_mut.ensures.value
+    c.copy_from_slice.ensures.len
     c.copy_from_slice.ensures.after c.told-octets in
-    ap (λ (xs : List ℕ). record { call = io.call; up = io.up.items; pcm = io.pcm.items; out = xs; down = io.down.items; given = io.given; done = io.done }) out ∙
+    ap (λ (xs : List ℕ). record { call = io.call; up = io.up.items; pcm = io.pcm.items; out = xs; down = io.down.items; given = io.given; done = io.done }) out
+    ∙
     ap (λ (was : IoMemory). with_out was octets) c.self.view_is

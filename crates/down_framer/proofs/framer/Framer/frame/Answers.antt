@@ -1,10 +1,11 @@
 use Rattle.std.proofs.Common.{FitsSigned, ◌≡◌, ◌≤◌, ◌++◌, ◌+◌, ◌-◌, ◌∷◌, length, sym, ap, ◌∙◌, refl, subst, rules, arith, length-drop}
 use Rattle.std.proofs.lemmas.Int.{to_z-of_z}
 use Rattle.std.specs.Int.{w16}
-use Rattle.down_framer.specs.Made.{octets_of, frame_on_line, next_frame}
-use Rattle.down_framer.specs.Memory.{FramerMemory, after_frame, IsWithin}
-use Rattle.down_framer.specs.Places.{Holds, StandsWithin}
-use Rattle.down_framer.specs.Rings.{memory_of}
+use Rattle.down_framer.specs.Made.{octets_to_next, frame_on_line, next_frame}
+use Rattle.down_framer.specs.Memory.{FramerMemory, IsWithinPeriod}
+use Rattle.down_framer.specs.Step.{after_frame}
+use Rattle.down_framer.specs.Stands.{Holds, StandsWithin}
+use Rattle.down_framer.specs.Rings.{ring_memory}
 use Rattle.down_framer.proofs.Calls.{frame-holds}
 use Rattle.down_framer.proofs.History.{frame-stands}
 use Rattle.down_framer.proofs.Timing.{octets_of-bounds}
@@ -18,7 +19,7 @@ ready_before c =
     let ready = c.requires.ready in
     omega arith
 
-within_before : (c : goal.After-self-1) → IsWithin (memory_of c.self.inside.bits c.self.inside.octets c.self.inside.skip)
+within_before : (c : goal.After-self-1) → IsWithinPeriod (ring_memory c.self.inside.bits c.self.inside.octets c.self.inside.skip)
 within_before c = within_when_ready _ c.self.invariant.phase (ready_before c)
 
 low_before : (c : goal.After-self-1) → length c.self.inside.bits.items ≤ 320
@@ -31,10 +32,11 @@ low_before c =
 
 -- what the calls on the rings did
 framed_now : (c : goal.After-self-1) →
-    Framed c.self.inside.bits c.self.inside.octets c.fill_from_slice-2.new.self c.truncate_front.new.self c.args.f.now c.args.shift (c.step_of-step.result - c.min-gone.result)
+    Framed c.self.inside.bits c.self.inside.octets c.fill_from_slice-2.new.self c.truncate_front.new.self c.args.f.now c.args.shift
+    (c.step_of-step.result - c.min-gone.result)
 framed_now c =
     let fits : FitsSigned w16 c.args.shift = search rules in
-    let step : c.step_of-step.result ≡ octets_of c.args.shift = c.step_of-step.ensures.value ∙ ap octets_of (to_z-of_z w16 c.args.shift fits) in
+    let step : c.step_of-step.result ≡ octets_to_next c.args.shift = c.step_of-step.ensures.value ∙ ap octets_to_next (to_z-of_z w16 c.args.shift fits) in
     framed c.self.inside.bits c.self.inside.octets c.fill_from_slice.new.self c.fill_from_slice-2.new.self c.truncate_front.new.self
     c.args.f.now _ c.args.shift c.step_of-step.result c.len-held.result c.min-gone.result c.min-kept.result c.saturating_sub-more.result
     c.fill_from_slice.result c.fill_from_slice-2.result c.self.invariant.rooms.0 (low_before c) c.requires.shift c.told-f refl step
@@ -48,7 +50,8 @@ invariant_of-self c =
 
 step_now : goal.returns-clause-step
 step_now c =
-    framed-view c.self.inside.bits c.self.inside.octets c.fill_from_slice-2.new.self c.truncate_front.new.self c.args.f.now c.args.shift _ c.self.inside.skip (framed_now c) ∙
+    framed-view c.self.inside.bits c.self.inside.octets c.fill_from_slice-2.new.self c.truncate_front.new.self c.args.f.now c.args.shift _ c.self.inside.skip
+    (framed_now c) ∙
     ap (λ (s : FramerMemory). after_frame s c.args.f.now c.args.shift) c.self.view_is
 
 pub returns-clause-step : goal.returns-clause-step
@@ -58,19 +61,20 @@ pub returns-clause-within : goal.returns-clause-within
 returns-clause-within c =
     let ready = ready_before c in
     let none : c.args.self.now.to_skip ≡ 0 = sym (ap (λ (s : FramerMemory). s.to_skip) c.self.view_is) ∙ c.self.invariant.none_held (omega arith) in
-    subst IsWithin (sym (step_now c))
-    (frame_within c.args.self.now c.args.f.now c.args.shift (subst IsWithin c.self.view_is (within_before c)) c.requires.shift c.told-f c.requires.ready none)
+    subst IsWithinPeriod (sym (step_now c))
+    (frame_within c.args.self.now c.args.f.now c.args.shift
+    (subst IsWithinPeriod c.self.view_is (within_before c)) c.requires.shift c.told-f c.requires.ready none)
 
 pub returns-clause-taken : goal.returns-clause-taken
 returns-clause-taken c =
     let bounds = octets_of-bounds c.args.shift c.requires.shift in
-    let left = length-drop (octets_of c.args.shift) c.args.self.now.held in
+    let left = length-drop (octets_to_next c.args.shift) c.args.self.now.held in
     let now = ap (λ (s : FramerMemory). length s.held) (step_now c) in
     omega arith
 
 pub returns-clause-places : goal.returns-clause-places
 returns-clause-places c = λ pcm line out start o h.
-    subst (λ s. Holds pcm (line ++ frame_on_line c.args.shift c.args.f.now) out (start + octets_of c.args.shift) s) (sym (step_now c))
+    subst (λ s. Holds pcm (line ++ frame_on_line c.args.shift c.args.f.now) out (start + octets_to_next c.args.shift) s) (sym (step_now c))
     (frame-holds c.args.self.now c.args.f.now c.args.shift pcm line out start c.requires.ready o h)
 
 pub returns-clause-history : goal.returns-clause-history

@@ -1,7 +1,8 @@
 use Rattle.std.proofs.Common.{◌≡◌, ◌≤◌, ◌++◌, length, refl, sym, ap, ◌∙◌, subst, rules}
 use Rattle.down_framer.specs.Made.{made_frames}
-use Rattle.down_framer.specs.Memory.{FramerMemory, after_put, IsWithin}
-use Rattle.down_framer.specs.Places.{Holds, StandsWithin}
+use Rattle.down_framer.specs.Memory.{FramerMemory, IsWithinPeriod}
+use Rattle.down_framer.specs.Step.{after_put}
+use Rattle.down_framer.specs.Stands.{Holds, StandsWithin}
 use Rattle.down_framer.specs.contracts.framer.Framer.{the_view}
 use Rattle.down_framer.proofs.Calls.{put-holds}
 use Rattle.down_framer.proofs.History.{put-stands}
@@ -16,7 +17,8 @@ step_now : (c : goal.After-self-1) → Afterwards c
 step_now c =
     let l : length c.args.octets.now ≡ 160 = search rules in
     put-view c.self.inside.bits c.self.inside.octets c.fill_from_slice.new.self c.args.octets.now _ c.self.inside.skip c.fill_from_slice.result
-    c.self.invariant (ap (λ (s : FramerMemory). length s.held) c.self.view_is) c.requires.between.short l refl c.fill_from_slice.ensures.count c.fill_from_slice.ensures.items ∙
+    c.self.invariant
+    (ap (λ (s : FramerMemory). length s.held) c.self.view_is) c.requires.between.short l refl c.fill_from_slice.ensures.count c.fill_from_slice.ensures.items ∙
     ap (λ s. after_put s c.args.octets.now) c.self.view_is
 
 pub returns-clause-step : goal.returns-clause-step
@@ -25,7 +27,7 @@ returns-clause-step c = step_now c
 pub returns-clause-within : goal.returns-clause-within
 returns-clause-within c =
     let bounded = subst (λ (s : FramerMemory). s.to_skip ≤ 156) c.self.view_is c.self.invariant.bounded in
-    subst IsWithin (sym (step_now c)) (put_within c.args.self.now c.args.octets.now c.requires.between c.told-octets bounded)
+    subst IsWithinPeriod (sym (step_now c)) (put_within c.args.self.now c.args.octets.now c.requires.between c.told-octets bounded)
 
 pub returns-clause-places : goal.returns-clause-places
 returns-clause-places c = λ pcm line out start h.

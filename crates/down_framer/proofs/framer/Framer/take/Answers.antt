@@ -1,7 +1,8 @@
 use Rattle.std.proofs.Common.{◌≡◌, ◌+◌, ◌∷◌, length, take, sym, ap, ◌∙◌, subst, rules, arith}
 use Rattle.trau_bits.specs.Bits.{bits_of}
-use Rattle.down_framer.specs.Memory.{FramerMemory, IsBetween, after_take}
-use Rattle.down_framer.specs.Places.{Holds, StandsBetween}
+use Rattle.down_framer.specs.Memory.{FramerMemory, IsBetweenPeriods}
+use Rattle.down_framer.specs.Step.{after_take}
+use Rattle.down_framer.specs.Stands.{Holds, StandsBetween}
 use Rattle.down_framer.specs.contracts.framer.Framer.{the_view}
 use Rattle.down_framer.proofs.Calls.{take-holds}
 use Rattle.down_framer.proofs.History.{take-stands}
@@ -35,10 +36,12 @@ pub returns-clause-bits : goal.returns-clause-bits
 returns-clause-bits c = bits_now c
 
 pub returns-clause-between : goal.returns-clause-between
-returns-clause-between c = subst IsBetween (sym (step_now c)) (taken_between c.args.self.now c.requires.within c.requires.not_ready)
+returns-clause-between c = subst IsBetweenPeriods (sym (step_now c)) (taken_between c.args.self.now c.requires.within c.requires.not_ready)
 
 pub invariant_of-self : goal.invariant_of-self
-invariant_of-self c = taken-rings c.self.inside.bits c.read_into.new.self c.self.inside.octets c.self.inside.skip c.read_into.result c.self.invariant (returns-clause-between c) c.read_into.ensures.items
+invariant_of-self c =
+    taken-rings c.self.inside.bits c.read_into.new.self c.self.inside.octets c.self.inside.skip c.read_into.result c.self.invariant
+    (returns-clause-between c) c.read_into.ensures.items
 
 pub returns-clause-places : goal.returns-clause-places
 returns-clause-places c = λ pcm line out start h. (

@@ -3,7 +3,7 @@ use Rattle.call_leg.specs.Settings.{new_settings}
 use Rattle.call_leg.specs.Memory.{periods_of_leg}
 use Rattle.call_leg.specs.Stands.{Stands}
 use Rattle.farm_live.specs.declared.post.Entry.{Entry}
-use Rattle.farm_live.specs.Book.{who_of, IsLegal, periods_after}
+use Rattle.farm_live.specs.Book.{who_at, IsLegal, periods_after}
 use Rattle.farm_live.proofs.Books.{leg_one_more}
 use Rattle.farm_live.proofs.book.Book.work.Goals as goal
 
@@ -19,7 +19,7 @@ invariant_of-self-2 c =
     let long : periods_of_leg leg ≡ length (es ++ e ∷ []) = omega (arith, c.period-entry.ensures.periods, inv.2, length-append es (e ∷ [])) in
     let rest = inv.3 in (
       subst (λ (l : List Entry). IsLegal call l) (sym items) more.0,
-      subst (λ (l : List Entry). Stands (who_of call) (periods_after [] l) new_settings leg) (sym items) more.1,
+      subst (λ (l : List Entry). Stands (who_at call) (periods_after [] l) new_settings leg) (sym items) more.1,
       long ∙ ap length (sym items),
       rest ∙ sym (ap (λ b. b.capacity) c.pop_front.ensures.items),
       inv.4,

@@ -10,4 +10,5 @@ seat_all-requires-clause-seats g c =
 pub returns-clause-callers : goal.returns-clause-callers
 returns-clause-callers g c =
     subst (λ xs. AreCallers c.args.inbox c.args.callers xs c.in_ok-rows.rows.items) c.as_slice.ensures.value
-    (c.in_ok-rows.ensures c.args.inbox (subst (λ xs. IsNewRow all_callers c.args.inbox xs c.in_ok-slots.seats.items) (sym c.as_slice.ensures.value) c.in_ok-slots.ensures.seats))
+    (c.in_ok-rows.ensures c.args.inbox (subst (λ xs. IsNewRow all_callers c.args.inbox xs c.in_ok-slots.seats.items) (sym c.as_slice.ensures.value)
+    c.in_ok-slots.ensures.seats))

@@ -30,7 +30,15 @@ returns-clause-places c = omega (arith, c.farm.invariant.3, ap (λ (f : FarmMemo
 
 pub returns-clause-lines : goal.returns-clause-lines
 returns-clause-lines c =
-    omega (arith, c.len.ensures, c.in_ok-reserve.ensures.ok, c.reserve.ensures.len, ap length c.reserve.ensures.items, ap (λ (f : FarmMemory). length f.live) c.farm.view_is, ap (λ (f : FarmMemory). length f.failed) c.farm.view_is)
+    omega (
+      arith,
+      c.len.ensures,
+      c.in_ok-reserve.ensures.ok,
+      c.reserve.ensures.len,
+      ap length c.reserve.ensures.items,
+      ap (λ (f : FarmMemory). length f.live) c.farm.view_is,
+      ap (λ (f : FarmMemory). length f.failed) c.farm.view_is,
+    )
 
 pub returns-in_err-reserve : goal.returns-in_err-reserve
 returns-in_err-reserve c =

@@ -30,13 +30,17 @@ reserve-requires-clause-few c = c.requires.few_workers
 pub make_jobs_and_seats-requires-clause-live : goal.make_jobs_and_seats-requires-clause-live
 make_jobs_and_seats-requires-clause-live c =
     let sorted = c.put_in_order.new.groups.items in
-    subst (λ (xs : List ℕ). AreLive xs sorted) (sym c.in_ok-rest.ensures.live) (moved_live c.args.farm.live c.args.farm.groups sorted (same c.put_in_order.new.groups.items c.in_ok-rest.ensures.groups c.put_in_order.ensures.same) c.in_ok-rest.ensures.alive)
+    subst (λ (xs : List ℕ). AreLive xs sorted) (sym c.in_ok-rest.ensures.live)
+    (moved_live c.args.farm.live c.args.farm.groups sorted
+    (same c.put_in_order.new.groups.items c.in_ok-rest.ensures.groups c.put_in_order.ensures.same) c.in_ok-rest.ensures.alive)
 
 pub make_jobs_and_seats-requires-clause-groups : goal.make_jobs_and_seats-requires-clause-groups
 make_jobs_and_seats-requires-clause-groups c =
     let f = c.args.farm in
     let ended : f.ended ≤ 4294967295 = omega (arith, c.requires.later, c.requires.last) in
-    moved_groups 4294967295 f.groups c.put_in_order.new.groups.items (same c.put_in_order.new.groups.items c.in_ok-rest.ensures.groups c.put_in_order.ensures.same) (same_groups f.ended 4294967295 f.groups ended c.in_ok-rest.ensures.sound)
+    moved_groups 4294967295 f.groups c.put_in_order.new.groups.items
+    (same c.put_in_order.new.groups.items c.in_ok-rest.ensures.groups c.put_in_order.ensures.same)
+    (same_groups f.ended 4294967295 f.groups ended c.in_ok-rest.ensures.sound)
 
 pub make_jobs_and_seats-requires-clause-some : goal.make_jobs_and_seats-requires-clause-some
 make_jobs_and_seats-requires-clause-some c = c.requires.some
@@ -78,13 +82,26 @@ invariant_of-result c =
     let jobs = c.in_ok-jobs.jobs.items in
     let entries = c.in_ok-jobs.entries.items in
     let seats = c.in_ok-jobs.seats.items in
-    let alive : AreLive r.live.items sorted = subst (λ (xs : List ℕ). AreLive xs sorted) (sym told.live) (moved_live f.live f.groups sorted (same c.put_in_order.new.groups.items c.in_ok-rest.ensures.groups c.put_in_order.ensures.same) told.alive) in
+    let alive : AreLive r.live.items sorted =
+    subst (λ (xs : List ℕ). AreLive xs sorted) (sym told.live)
+    (moved_live f.live f.groups sorted (same c.put_in_order.new.groups.items c.in_ok-rest.ensures.groups c.put_in_order.ensures.same) told.alive) in
     let same_live = ap (λ (x : Rest). length x.live.items) others in
     let same_failed = ap (λ (x : Rest). length x.failed.items) others in
     let counted = ap length c.deref.ensures.value in (
-      subst (λ (x : Rest). IsRound (record { start = c.args.start; ended = c.args.start + c.args.periods; live = x.live.items; tallies = x.tallies.items; failed = x.failed.items; jobs = jobs; entries = entries; seats = seats })) (sym others)
+      subst (λ (x : Rest). IsRound
+          (record {
+            start = c.args.start;
+            ended = c.args.start + c.args.periods;
+            live = x.live.items;
+            tallies = x.tallies.items;
+            failed = x.failed.items;
+            jobs = jobs;
+            entries = entries;
+            seats = seats;
+          })) (sym others)
           (planned f.ended c.args.start c.args.periods sorted r.live.items r.tallies.items r.failed.items jobs entries seats c.requires.later c.requires.last
-          (moved_groups f.ended f.groups sorted (same c.put_in_order.new.groups.items c.in_ok-rest.ensures.groups c.put_in_order.ensures.same) told.sound) alive (ap length told.tallies ∙ told.kept) made.jobs made.entries made.number made.seats made.length),
+          (moved_groups f.ended f.groups sorted (same c.put_in_order.new.groups.items c.in_ok-rest.ensures.groups c.put_in_order.ensures.same) told.sound) alive
+          (ap length told.tallies ∙ told.kept) made.jobs made.entries made.number made.seats made.length),
       made.empty,
       room.numbers ∙ c.deref.ensures.value ∙ sym (ap (λ (x : Rest). x.live.items) others),
       room.no_end,
@@ -102,21 +119,31 @@ returns-clause-seats c k l =
     let entries = c.in_ok-jobs.entries.items in
     let sorted = c.put_in_order.new.groups.items in
     let bring : BringCalls sorted entries f.live = subst (λ (xs : List ℕ). BringCalls sorted entries xs) c.in_ok-rest.ensures.live c.in_ok-jobs.ensures.calls in
-    let are : AreSeats f.live entries c.args.periods c.in_ok-jobs.seats.items (length f.live) = subst (λ (xs : List ℕ). AreSeats xs entries c.args.periods c.in_ok-jobs.seats.items (length xs)) c.in_ok-rest.ensures.live c.in_ok-jobs.ensures.seats in
-    planned_seat f.ended c.args.periods f.groups sorted f.live entries c.in_ok-jobs.seats.items k (same c.put_in_order.new.groups.items c.in_ok-rest.ensures.groups c.put_in_order.ensures.same) c.in_ok-rest.ensures.sound bring are l
+    let are : AreSeats f.live entries c.args.periods c.in_ok-jobs.seats.items (length f.live) =
+    subst (λ (xs : List ℕ). AreSeats xs entries c.args.periods c.in_ok-jobs.seats.items (length xs)) c.in_ok-rest.ensures.live c.in_ok-jobs.ensures.seats in
+    planned_seat f.ended c.args.periods f.groups sorted f.live entries c.in_ok-jobs.seats.items k
+    (same c.put_in_order.new.groups.items c.in_ok-rest.ensures.groups c.put_in_order.ensures.same) c.in_ok-rest.ensures.sound bring are l
 
 pub returns-clause-order : goal.returns-clause-order
 returns-clause-order c =
-    planned_order c.args.farm.ended c.args.farm.groups c.put_in_order.new.groups.items _ (same c.put_in_order.new.groups.items c.in_ok-rest.ensures.groups c.put_in_order.ensures.same) c.in_ok-rest.ensures.sound c.in_ok-jobs.ensures.jobs c.put_in_order.ensures.order
+    planned_order c.args.farm.ended c.args.farm.groups c.put_in_order.new.groups.items _
+    (same c.put_in_order.new.groups.items c.in_ok-rest.ensures.groups c.put_in_order.ensures.same) c.in_ok-rest.ensures.sound c.in_ok-jobs.ensures.jobs
+    c.put_in_order.ensures.order
 
 pub returns-clause-calls : goal.returns-clause-calls
-returns-clause-calls c d = planned_open c.args.farm.ended c.args.farm.groups c.put_in_order.new.groups.items _ d (same c.put_in_order.new.groups.items c.in_ok-rest.ensures.groups c.put_in_order.ensures.same) c.in_ok-rest.ensures.sound c.in_ok-jobs.ensures.jobs
+returns-clause-calls c d =
+    planned_open c.args.farm.ended c.args.farm.groups c.put_in_order.new.groups.items _ d
+    (same c.put_in_order.new.groups.items c.in_ok-rest.ensures.groups c.put_in_order.ensures.same) c.in_ok-rest.ensures.sound c.in_ok-jobs.ensures.jobs
 
 pub returns-clause-partners : goal.returns-clause-partners
-returns-clause-partners c d = planned_partner c.args.farm.ended c.args.farm.groups c.put_in_order.new.groups.items _ d (same c.put_in_order.new.groups.items c.in_ok-rest.ensures.groups c.put_in_order.ensures.same) c.in_ok-rest.ensures.sound c.in_ok-jobs.ensures.jobs
+returns-clause-partners c d =
+    planned_partner c.args.farm.ended c.args.farm.groups c.put_in_order.new.groups.items _ d
+    (same c.put_in_order.new.groups.items c.in_ok-rest.ensures.groups c.put_in_order.ensures.same) c.in_ok-rest.ensures.sound c.in_ok-jobs.ensures.jobs
 
 pub returns-clause-stands : goal.returns-clause-stands
-returns-clause-stands c h = planned_stand c.args.farm.ended c.args.farm.groups c.put_in_order.new.groups.items _ h (same c.put_in_order.new.groups.items c.in_ok-rest.ensures.groups c.put_in_order.ensures.same) c.in_ok-rest.ensures.sound c.in_ok-jobs.ensures.jobs
+returns-clause-stands c h =
+    planned_stand c.args.farm.ended c.args.farm.groups c.put_in_order.new.groups.items _ h
+    (same c.put_in_order.new.groups.items c.in_ok-rest.ensures.groups c.put_in_order.ensures.same) c.in_ok-rest.ensures.sound c.in_ok-jobs.ensures.jobs
 
 pub returns-in_err-rest : goal.returns-in_err-rest
 returns-in_err-rest c =

@@ -15,25 +15,31 @@ pub work_jobs-jobs-requires-clause-entries : goal.work_jobs-jobs-requires-clause
 work_jobs-jobs-requires-clause-entries g c κs lives = ap length c.deref-2.ensures.value ∙ c.self.invariant.0.long
 
 pub work_jobs-jobs-requires-clause-jobs : goal.work_jobs-jobs-requires-clause-jobs
-work_jobs-jobs-requires-clause-jobs g c κs lives = subst (λ (es : List Entry). HaveJobs c.self.inside.jobs.items es c.self.inside.seats.items) (sym c.deref-2.ensures.value) c.self.invariant.0.have
+work_jobs-jobs-requires-clause-jobs g c κs lives =
+    subst (λ (es : List Entry). HaveJobs c.self.inside.jobs.items es c.self.inside.seats.items) (sym c.deref-2.ensures.value) c.self.invariant.0.have
 
 pub work_jobs-jobs-requires-clause-time : goal.work_jobs-jobs-requires-clause-time
-work_jobs-jobs-requires-clause-time g c κs lives = subst (λ (es : List Entry). HaveTime c.self.inside.jobs.items es c.self.inside.seats.items) (sym c.deref-2.ensures.value) (λ k l. omega (arith, c.self.invariant.0.time k l, c.self.invariant.0.last))
+work_jobs-jobs-requires-clause-time g c κs lives =
+    subst (λ (es : List Entry). HaveTime c.self.inside.jobs.items es c.self.inside.seats.items) (sym c.deref-2.ensures.value)
+    (λ k l. omega (arith, c.self.invariant.0.time k l, c.self.invariant.0.last))
 
 pub work_jobs-jobs-requires-clause-rising : goal.work_jobs-jobs-requires-clause-rising
 work_jobs-jobs-requires-clause-rising g c κs lives = c.self.invariant.0.rising
 
 pub work_jobs-jobs-requires-clause-room : goal.work_jobs-jobs-requires-clause-room
-work_jobs-jobs-requires-clause-room g c κs lives = subst (λ (n : ℕ). HasRoom n c.self.inside.room.phases.periods c.self.inside.room) (sym c.self.invariant.0.numbers) c.self.invariant.7
+work_jobs-jobs-requires-clause-room g c κs lives =
+    subst (λ (n : ℕ). HasRoom n c.self.inside.room.phases.periods c.self.inside.room) (sym c.self.invariant.0.numbers) c.self.invariant.7
 
 pub work_jobs-jobs-requires-clause-calls : goal.work_jobs-jobs-requires-clause-calls
 work_jobs-jobs-requires-clause-calls g c κs lives = ap length c.deref.ensures.value ∙ ap length c.self.invariant.2 ∙ sym c.self.invariant.0.numbers
 
 pub work_jobs-jobs-requires-clause-groups : goal.work_jobs-jobs-requires-clause-groups
-work_jobs-jobs-requires-clause-groups g c κs lives = same_groups c.self.inside.end 4294967295 (groups_from c.self.inside.jobs.items) c.self.invariant.0.last c.self.invariant.0.groups
+work_jobs-jobs-requires-clause-groups g c κs lives =
+    same_groups c.self.inside.end 4294967295 (groups_from c.self.inside.jobs.items) c.self.invariant.0.last c.self.invariant.0.groups
 
 pub work_jobs-jobs-requires-clause-live : goal.work_jobs-jobs-requires-clause-live
-work_jobs-jobs-requires-clause-live g c κs lives = subst (λ (ns : List ℕ). AreLive ns (groups_from c.self.inside.jobs.items)) (sym (c.deref.ensures.value ∙ c.self.invariant.2)) c.self.invariant.0.alive
+work_jobs-jobs-requires-clause-live g c κs lives =
+    subst (λ (ns : List ℕ). AreLive ns (groups_from c.self.inside.jobs.items)) (sym (c.deref.ensures.value ∙ c.self.invariant.2)) c.self.invariant.0.alive
 
 pub work_jobs-jobs-requires-clause-fresh : goal.work_jobs-jobs-requires-clause-fresh
 work_jobs-jobs-requires-clause-fresh g c κs lives = fresh_for c.self.inside.room.phases.periods _ c.self.invariant.0.fresh
@@ -58,7 +64,8 @@ invariant_of-result g c =
     let i = c.self.inside in
     let after = c.work_jobs-jobs.result.0.items in
     let worked = c.work_jobs-jobs.result.1.items in
-    let w : Works i.jobs.items i.entries.items i.seats.items after worked = subst (λ (es : List Entry). Works i.jobs.items es i.seats.items after worked) c.deref-2.ensures.value c.work_jobs-jobs.ensures in (
+    let w : Works i.jobs.items i.entries.items i.seats.items after worked =
+    subst (λ (es : List Entry). Works i.jobs.items es i.seats.items after worked) c.deref-2.ensures.value c.work_jobs-jobs.ensures in (
       worked_round _ after worked c.self.invariant.0 w c.list_ends.new.ends.items,
       c.self.invariant.1,
       c.self.invariant.2,
@@ -71,7 +78,8 @@ returns-clause-rising g c =
     let i = c.self.inside in
     let after = c.work_jobs-jobs.result.0.items in
     let worked = c.work_jobs-jobs.result.1.items in
-    let w : Works i.jobs.items i.entries.items i.seats.items after worked = subst (λ (es : List Entry). Works i.jobs.items es i.seats.items after worked) c.deref-2.ensures.value c.work_jobs-jobs.ensures in
+    let w : Works i.jobs.items i.entries.items i.seats.items after worked =
+    subst (λ (es : List Entry). Works i.jobs.items es i.seats.items after worked) c.deref-2.ensures.value c.work_jobs-jobs.ensures in
     worked_rising _ after worked c.self.invariant.0 w
 
 pub returns-clause-partners : goal.returns-clause-partners
@@ -79,24 +87,30 @@ returns-clause-partners g c =
     let i = c.self.inside in
     let after = c.work_jobs-jobs.result.0.items in
     let worked = c.work_jobs-jobs.result.1.items in
-    let w : Works i.jobs.items i.entries.items i.seats.items after worked = subst (λ (es : List Entry). Works i.jobs.items es i.seats.items after worked) c.deref-2.ensures.value c.work_jobs-jobs.ensures in
-    worked_partner c.args.self after worked (subst (λ (r : RoundMemory). IsRound r) c.self.view_is c.self.invariant.0) (subst (λ (r : RoundMemory). Works r.jobs r.entries r.seats after worked) c.self.view_is w)
+    let w : Works i.jobs.items i.entries.items i.seats.items after worked =
+    subst (λ (es : List Entry). Works i.jobs.items es i.seats.items after worked) c.deref-2.ensures.value c.work_jobs-jobs.ensures in
+    worked_partner c.args.self after worked (subst (λ (r : RoundMemory). IsRound r) c.self.view_is c.self.invariant.0)
+    (subst (λ (r : RoundMemory). Works r.jobs r.entries r.seats after worked) c.self.view_is w)
 
 pub returns-clause-stands : goal.returns-clause-stands
 returns-clause-stands g c =
     let i = c.self.inside in
     let after = c.work_jobs-jobs.result.0.items in
     let worked = c.work_jobs-jobs.result.1.items in
-    let w : Works i.jobs.items i.entries.items i.seats.items after worked = subst (λ (es : List Entry). Works i.jobs.items es i.seats.items after worked) c.deref-2.ensures.value c.work_jobs-jobs.ensures in
-    worked_call c.args.self after worked (subst (λ (r : RoundMemory). IsRound r) c.self.view_is c.self.invariant.0) (subst (λ (r : RoundMemory). Works r.jobs r.entries r.seats after worked) c.self.view_is w)
+    let w : Works i.jobs.items i.entries.items i.seats.items after worked =
+    subst (λ (es : List Entry). Works i.jobs.items es i.seats.items after worked) c.deref-2.ensures.value c.work_jobs-jobs.ensures in
+    worked_call c.args.self after worked (subst (λ (r : RoundMemory). IsRound r) c.self.view_is c.self.invariant.0)
+    (subst (λ (r : RoundMemory). Works r.jobs r.entries r.seats after worked) c.self.view_is w)
 
 pub returns-clause-octets : goal.returns-clause-octets
 returns-clause-octets g c =
     let i = c.self.inside in
     let after = c.work_jobs-jobs.result.0.items in
     let worked = c.work_jobs-jobs.result.1.items in
-    let w : Works i.jobs.items i.entries.items i.seats.items after worked = subst (λ (es : List Entry). Works i.jobs.items es i.seats.items after worked) c.deref-2.ensures.value c.work_jobs-jobs.ensures in
-    worked_octets c.args.self after worked (subst (λ (r : RoundMemory). IsRound r) c.self.view_is c.self.invariant.0) (subst (λ (r : RoundMemory). Works r.jobs r.entries r.seats after worked) c.self.view_is w)
+    let w : Works i.jobs.items i.entries.items i.seats.items after worked =
+    subst (λ (es : List Entry). Works i.jobs.items es i.seats.items after worked) c.deref-2.ensures.value c.work_jobs-jobs.ensures in
+    worked_octets c.args.self after worked (subst (λ (r : RoundMemory). IsRound r) c.self.view_is c.self.invariant.0)
+    (subst (λ (r : RoundMemory). Works r.jobs r.entries r.seats after worked) c.self.view_is w)
 
 pub returns-clause-ends : goal.returns-clause-ends
 returns-clause-ends g c = search rules
@@ -106,13 +120,17 @@ returns-clause-jobs g c =
     let i = c.self.inside in
     let after = c.work_jobs-jobs.result.0.items in
     let worked = c.work_jobs-jobs.result.1.items in
-    let w : Works i.jobs.items i.entries.items i.seats.items after worked = subst (λ (es : List Entry). Works i.jobs.items es i.seats.items after worked) c.deref-2.ensures.value c.work_jobs-jobs.ensures in
-    worked_jobs c.args.self after worked (subst (λ (r : RoundMemory). IsRound r) c.self.view_is c.self.invariant.0) (subst (λ (r : RoundMemory). Works r.jobs r.entries r.seats after worked) c.self.view_is w)
+    let w : Works i.jobs.items i.entries.items i.seats.items after worked =
+    subst (λ (es : List Entry). Works i.jobs.items es i.seats.items after worked) c.deref-2.ensures.value c.work_jobs-jobs.ensures in
+    worked_jobs c.args.self after worked (subst (λ (r : RoundMemory). IsRound r) c.self.view_is c.self.invariant.0)
+    (subst (λ (r : RoundMemory). Works r.jobs r.entries r.seats after worked) c.self.view_is w)
 
 pub returns-clause-buffers : goal.returns-clause-buffers
 returns-clause-buffers g c =
     let i = c.self.inside in
     let after = c.work_jobs-jobs.result.0.items in
     let worked = c.work_jobs-jobs.result.1.items in
-    let w : Works i.jobs.items i.entries.items i.seats.items after worked = subst (λ (es : List Entry). Works i.jobs.items es i.seats.items after worked) c.deref-2.ensures.value c.work_jobs-jobs.ensures in
-    worked_buffers c.args.self after worked (subst (λ (r : RoundMemory). IsRound r) c.self.view_is c.self.invariant.0) (subst (λ (r : RoundMemory). Works r.jobs r.entries r.seats after worked) c.self.view_is w)
+    let w : Works i.jobs.items i.entries.items i.seats.items after worked =
+    subst (λ (es : List Entry). Works i.jobs.items es i.seats.items after worked) c.deref-2.ensures.value c.work_jobs-jobs.ensures in
+    worked_buffers c.args.self after worked (subst (λ (r : RoundMemory). IsRound r) c.self.view_is c.self.invariant.0)
+    (subst (λ (r : RoundMemory). Works r.jobs r.entries r.seats after worked) c.self.view_is w)

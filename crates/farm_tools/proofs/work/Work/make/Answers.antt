@@ -17,5 +17,6 @@ returns-in_ok-good_data-in-Decode-clause-makes c =
 
 pub returns-in-Encode-clause-makes : goal.returns-in-Encode-clause-makes
 returns-in-Encode-clause-makes c =
-    encoder_makes c.in-Encode.encoder c.encoded_octets.new.encoder c.args.block.now c.encoded_octets.new.octets (c.requires ∙ ap (λ w. block_length (tool_of w)) c.in-Encode.is) c.encoded_octets.ensures.history
+    encoder_makes c.in-Encode.encoder c.encoded_octets.new.encoder c.args.block.now c.encoded_octets.new.octets
+    (c.requires ∙ ap (λ w. block_length (tool_of w)) c.in-Encode.is) c.encoded_octets.ensures.history
     c.args.self.now c.encoded_octets.result c.in-Encode.is c.encoded_octets.ensures.length

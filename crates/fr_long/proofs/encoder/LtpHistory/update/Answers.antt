@@ -1,5 +1,6 @@
 use Rattle.std.proofs.Common.{◌≡◌, ◌++◌, drop, ap, ◌∙◌}
-use Rattle.fr_long.specs.Prediction.{reconstructed_of, updated}
+use Rattle.fr_long.specs.Prediction.{reconstructed_of}
+use Rattle.fr_long.specs.Step.{updated}
 use Rattle.fr_long.proofs.Predictions.{one_update}
 use Rattle.fr_long.proofs.Words.{updated-words}
 use Rattle.fr_long.proofs.encoder.LtpHistory.update.Goals as goal

@@ -1,5 +1,5 @@
 use Rattle.std.proofs.Common.{rules}
-use Rattle.fr_short.specs.Analysis.{analysed_frame}
+use Rattle.fr_short.specs.Step.{analysed_frame}
 use Rattle.fr_short.proofs.state.ShortState.analyse_frame.Goals as goal
 
 pub returns-clause-residual : goal.returns-clause-residual

@@ -29,7 +29,8 @@ pub returns-clause-frame : goal.returns-clause-frame
 returns-clause-frame c =
     carries-went c.self.inside.periods c.from.result c.joined-window.result c.self.inside.mode c.advance-found.result
     (record { number = c.from.ensures; gives = c.advance-found.ensures })
-    (subst AreBits (sym c.joined-window.ensures) (All-append (λ bit. bit < 2) c.self.inside.last c.unpack.new.bits c.self.invariant.1 c.unpack.ensures.are_bits))
+    (subst AreBits (sym c.joined-window.ensures)
+    (All-append (λ bit. bit < 2) c.self.inside.last c.unpack.new.bits c.self.invariant.1 c.unpack.ensures.are_bits))
 
 pub returns-clause-place : goal.returns-clause-place
 returns-clause-place c =

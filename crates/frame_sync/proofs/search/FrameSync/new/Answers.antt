@@ -2,7 +2,8 @@ use Rattle.std.proofs.Common.{◌≡◌, ℕ, List, length, ap, arith}
 use Rattle.std.proofs.lemmas.List.Elements.{All-nil}
 use Rattle.frame_sync.specs.declared.yields.Mode.TheVariants.{Hunting}
 use Rattle.frame_sync.specs.Periods.{mode_after}
-use Rattle.frame_sync.specs.Step.{SyncMemory, last_bits}
+use Rattle.frame_sync.specs.Memory.{SyncMemory}
+use Rattle.frame_sync.specs.Stands.{last_bits}
 use Rattle.frame_sync.proofs.search.FrameSync.new.Goals as goal
 
 pub returns-clause-history : goal.returns-clause-history

@@ -16,7 +16,8 @@ invariant_of-result g c =
     let some : 0 < length ms = omega (arith, len, c.in_ok-members.ensures.len, c.requires.some) in
     let unused = subst (λ (us : List (Thief g.row.W.Denot)). IsUnused finish us ms 0) c.as_slice.ensures.value c.in_ok-give_rows.ensures.unused in
     let left = c.in_ok-give_rows.ensures.room c.args.most (subst (RoomLeft 0 c.args.most) (sym c.as_mut_slice.ensures.value) c.in_ok-members.ensures.room) in
-    let full = λ (i : ℕ) (h : i < length ms). c.in_ok-give_rows.ensures.rows i (omega (arith, c.give_rows.auto.members)) ∙ ap length c.as_slice.ensures.value in (
+    let full = λ (i : ℕ) (h : i < length ms).
+    c.in_ok-give_rows.ensures.rows i (omega (arith, c.give_rows.auto.members)) ∙ ap length c.as_slice.ensures.value in (
       subst (λ (ns : List (Member g.row.W.Denot)). IsRoom finish c.args.most ts ns) (sym back) (unused_room finish ts ms unused full some c.args.most left),
       c.in_ok-finished.ensures.items,
       omega (arith, c.in_ok-finished.ensures.capacity),
@@ -27,4 +28,5 @@ invariant_of-result g c =
 pub give_rows-requires-clause-unused : goal.give_rows-requires-clause-unused
 give_rows-requires-clause-unused g c =
     subst (λ (us : List (Thief g.row.W.Denot)). IsUnused g.W.Work.finish us c.as_mut_slice.result.now 0) (sym c.as_slice.ensures.value)
-    (subst (λ (ms : List (Member g.row.W.Denot)). IsUnused g.W.Work.finish c.in_ok-members.thieves.items ms 0) (sym c.as_mut_slice.ensures.value) c.in_ok-members.ensures.unused)
+    (subst (λ (ms : List (Member g.row.W.Denot)). IsUnused g.W.Work.finish c.in_ok-members.thieves.items ms 0)
+    (sym c.as_mut_slice.ensures.value) c.in_ok-members.ensures.unused)

@@ -12,12 +12,14 @@ loop-side-preserved c =
     elim c.if-fails.branch [
       | then-fails w ↦ record {
         listed = ap (λ v. map name_of v.items) w.failed-is ∙ ap (map name_of) w.push_reserved.ensures.items
-            ∙ named_more c.args.self.now c.loop-side.side-index _ lines c.loop-side-test.true i.listed w.line.result (sym c.fails.ensures ∙ w.if-fails.true) w.line.ensures.call w.line.ensures.side;
+            ∙ named_more c.args.self.now c.loop-side.side-index _ lines c.loop-side-test.true i.listed w.line.result (sym c.fails.ensures ∙ w.if-fails.true)
+            w.line.ensures.call w.line.ensures.side;
         few = omega (arith, ap vec_len w.failed-is, w.push_reserved.ensures.len, i.few);
         room = ap vec_capacity w.failed-is ∙ w.push_reserved.ensures.capacity ∙ i.room;
       }
       | else-fails w ↦ record {
-        listed = ap (λ v. map name_of v.items) w.failed-is ∙ none_more c.args.self.now c.loop-side.side-index _ lines c.loop-side-test.true i.listed (sym c.fails.ensures ∙ w.if-fails.false);
+        listed = ap (λ v. map name_of v.items) w.failed-is ∙ none_more c.args.self.now c.loop-side.side-index _ lines c.loop-side-test.true i.listed
+            (sym c.fails.ensures ∙ w.if-fails.false);
         few = omega (arith, ap vec_len w.failed-is, i.few);
         room = ap vec_capacity w.failed-is ∙ i.room;
       }

@@ -6,7 +6,14 @@ use Rattle.round_lines.proofs.Blocks.{taken_back, others_stay, pcm_is, pcm_kept}
 use Rattle.round_lines.proofs.seat.Seat.take_pcm.Goals as goal
 
 pub set_pcm-requires : goal.set_pcm-requires
-set_pcm-requires g c = omega (arith, c.take_block-taken.ensures.this.bound, c.take_block-taken.auto.block, ap length c.deref_mut.ensures.value, c.self.invariant.pcm)
+set_pcm-requires g c = omega (
+  arith,
+  c.take_block-taken.ensures.this.bound,
+  c.take_block-taken.auto.block,
+  ap length
+      c.deref_mut.ensures.value,
+  c.self.invariant.pcm,
+)
 
 pub invariant_of-self : goal.invariant_of-self
 invariant_of-self g c =
@@ -25,7 +32,8 @@ returns-clause-this g c =
     let lines = g.T.Trunk.lines in
     let call = c.line.ensures.call ∙ ap (λ (s : SeatMemory). s.place.call) c.self.view_is in
     let back = with_items_is c.self.inside.buffers.pcm c.take_block-taken.new.block (c.take_block-taken.auto.block ∙ c.deref_mut.ensures.len) in
-    taken_back (lines c.args.trunk.now) (lines c.take_block-taken.new.trunk) _ _ _ _ call c.line.ensures.side _ _ _ _ (pcm_is _ c.self.inside.place _ c.set_pcm.ensures) back c.take_block-taken.ensures.this
+    taken_back (lines c.args.trunk.now) (lines c.take_block-taken.new.trunk) _ _ _ _ call c.line.ensures.side _ _ _ _
+    (pcm_is _ c.self.inside.place _ c.set_pcm.ensures) back c.take_block-taken.ensures.this
 
 pub returns-clause-others : goal.returns-clause-others
 returns-clause-others g c =

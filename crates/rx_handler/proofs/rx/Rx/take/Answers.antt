@@ -1,9 +1,9 @@
 use Rattle.std.proofs.Common.{[], ap, sym, ◌∙◌}
 use Rattle.std.specs.Option.{option_copied}
 use Rattle.rx_handler.specs.Heard.{heard_of}
-use Rattle.rx_handler.specs.Table.{received}
+use Rattle.rx_handler.specs.Step.{received}
 use Rattle.rx_handler.specs.State.{state_of, effective_fields}
-use Rattle.rx_handler.proofs.Places.{effective-history}
+use Rattle.rx_handler.proofs.LookBack.{effective-history}
 use Rattle.rx_handler.proofs.Steps.{received_more, received_by}
 use Rattle.rx_handler.proofs.rx.Rx.take.Goals as goal
 

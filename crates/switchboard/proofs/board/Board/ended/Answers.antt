@@ -2,9 +2,10 @@ use Rattle.std.proofs.Common.{◌≤◌, sym, ap, ◌∙◌, subst, arith}
 use Rattle.switchboard.specs.State.{State, last_stamp, gone_in, told_more}
 use Rattle.switchboard.specs.Calls.{is_open}
 use Rattle.switchboard.specs.Rows.{Rows}
-use Rattle.switchboard.specs.Stands.{IsBoard, state_of, dones}
+use Rattle.switchboard.specs.Stands.{IsBoard, board_state, dones}
 use Rattle.switchboard.specs.Open.{law_now}
-use Rattle.switchboard.proofs.Boards.{bridges-bound, told_call, board-told, state-told}
+use Rattle.switchboard.proofs.BoardLists.{bridges-bound}
+use Rattle.switchboard.proofs.Boards.{told_call, board-told, state-told}
 use Rattle.switchboard.proofs.Laws.{before_more}
 use Rattle.switchboard.proofs.Changes.{Without, board_sized, ended_changes}
 use Rattle.switchboard.proofs.board.Board.ended.Goals as goal
@@ -19,26 +20,32 @@ invariant_of-self c =
     let i = c.self.inside in
     let os = i.orders in
     let xs = i.replies.items in
-    let o = told_call os xs i.table c.args.end.call c.self.invariant.0 (ap (λ (s : State). is_open (gone_in s) s.done c.args.end.call) c.self.view_is ∙ c.requires.open) in
-    let late : last_stamp (dones os xs) ≤ c.args.end.at = subst (λ (s : State). last_stamp s.done ≤ c.args.end.at) (sym c.self.view_is) c.requires.late in
-    (subst (λ (n : Rows). IsBoard os xs n) (sym c.end_call.ensures) (board-told os xs i.table c.args.end.call c.args.end.at c.self.invariant.0 (board_sized os xs i.table c.self.invariant.0) late o), c.self.invariant.1)
+    let o = told_call os xs i.table c.args.end.call c.self.invariant.0 (ap (λ (s : State). is_open (gone_in s) s.done c.args.end.call) c.self.view_is
+    ∙ c.requires.open) in
+    let late : last_stamp (dones os xs) ≤ c.args.end.at = subst (λ (s : State). last_stamp s.done ≤ c.args.end.at) (sym c.self.view_is) c.requires.late in (
+      subst (λ (n : Rows). IsBoard os xs n) (sym c.end_call.ensures) (board-told os xs i.table c.args.end.call c.args.end.at c.self.invariant.0
+          (board_sized os xs i.table c.self.invariant.0) late o),
+      c.self.invariant.1,
+    )
 
 pub returns-clause-state : goal.returns-clause-state
 returns-clause-state c =
     let i = c.self.inside in
-    ap (state_of i.orders i.replies.items) c.end_call.ensures ∙ state-told i.orders i.replies.items i.table c.args.end.call c.args.end.at
+    ap (board_state i.orders i.replies.items) c.end_call.ensures ∙ state-told i.orders i.replies.items i.table c.args.end.call c.args.end.at
     ∙ ap (λ (s : State). told_more s c.args.end.call c.args.end.at) c.self.view_is
 
 pub returns-clause-told : goal.returns-clause-told
 returns-clause-told c = before_more c.args.self.now _ c.args.end.call c.args.end.at (returns-clause-state c)
 
-without : (c : goal.After-end_call) → Without c.args.self.now (state_of c.self.inside.orders c.self.inside.replies.items c.end_call.new.self) c.args.end.call
+without : (c : goal.After-end_call) → Without c.args.self.now (board_state c.self.inside.orders c.self.inside.replies.items c.end_call.new.self) c.args.end.call
 without c =
     let i = c.self.inside in
     let os = i.orders in
     let xs = i.replies.items in
-    let o = told_call os xs i.table c.args.end.call c.self.invariant.0 (ap (λ (s : State). is_open (gone_in s) s.done c.args.end.call) c.self.view_is ∙ c.requires.open) in
-    ended_changes os xs i.table _ c.args.self.now c.args.end.call c.args.end.at c.self.invariant.0 (board_sized os xs i.table c.self.invariant.0) c.self.view_is o.0 c.end_call.ensures (invariant_of-self c).0
+    let o = told_call os xs i.table c.args.end.call c.self.invariant.0 (ap (λ (s : State). is_open (gone_in s) s.done c.args.end.call) c.self.view_is
+    ∙ c.requires.open) in
+    ended_changes os xs i.table _ c.args.self.now c.args.end.call c.args.end.at c.self.invariant.0 (board_sized os xs i.table c.self.invariant.0) c.self.view_is
+    o.0 c.end_call.ensures (invariant_of-self c).0
 
 pub returns-clause-opened : goal.returns-clause-opened
 returns-clause-opened c = (without c).opened

@@ -4,7 +4,7 @@ use Rattle.switchboard.specs.declared.act.Reply.{Reply}
 use Rattle.switchboard.specs.State.{State}
 use Rattle.switchboard.specs.Open.{law_now}
 use Rattle.switchboard.specs.Rows.{rows, never}
-use Rattle.switchboard.specs.Stands.{IsBoard, state_of}
+use Rattle.switchboard.specs.Stands.{IsBoard, board_state}
 use Rattle.switchboard.proofs.Boards.{board-new, state-new}
 use Rattle.switchboard.proofs.Laws.{told_none}
 use Rattle.switchboard.proofs.Changes.{start_alone}
@@ -15,12 +15,14 @@ table c = c.in_ok-table.ensures ∙ ap (λ (os : List Order). rows (replicate 40
 
 pub invariant_of-result : goal.invariant_of-result
 invariant_of-result c = (
-  subst (λ (xs : List Reply). IsBoard c.args.orders xs c.in_ok-table.table) (sym c.in_ok-replies.ensures.items) (board-new c.args.orders c.in_ok-table.table c.list-most.ensures.orders (table c)),
+  subst (λ (xs : List Reply). IsBoard c.args.orders xs c.in_ok-table.table) (sym c.in_ok-replies.ensures.items)
+      (board-new c.args.orders c.in_ok-table.table c.list-most.ensures.orders (table c)),
   omega (arith, c.in_ok-replies.ensures.exact, ap length c.list-most.ensures.value),
 )
 
 pub returns-clause-start : goal.returns-clause-start
-returns-clause-start c = ap (λ (xs : List Reply). state_of c.args.orders xs c.in_ok-table.table) c.in_ok-replies.ensures.items ∙ state-new c.args.orders c.in_ok-table.table (table c)
+returns-clause-start c = ap (λ (xs : List Reply). board_state c.args.orders xs c.in_ok-table.table) c.in_ok-replies.ensures.items
+    ∙ state-new c.args.orders c.in_ok-table.table (table c)
 
 pub returns-clause-untold : goal.returns-clause-untold
 returns-clause-untold c = told_none _ c.args.orders (returns-clause-start c)

@@ -5,4 +5,5 @@ use Rattle.switchboard.proofs.Laws.{left_rising}
 use Rattle.switchboard.proofs.board.Board.next.Goals as goal
 
 pub returns-clause-rising : goal.returns-clause-rising
-returns-clause-rising c = subst (λ (s : State). AreRising s.left) c.self.view_is (left_rising c.self.inside.orders (length c.self.inside.replies.items) c.list.ensures.orders)
+returns-clause-rising c = subst (λ (s : State). AreRising s.left) c.self.view_is
+    (left_rising c.self.inside.orders (length c.self.inside.replies.items) c.list.ensures.orders)

@@ -1,5 +1,5 @@
 use Rattle.std.proofs.Common.{◌≡◌, ◌∙◌, ℕ, refl, sym, ap, subst, None}
-use Rattle.switchboard.specs.State.{State, turned, reply_of}
+use Rattle.switchboard.specs.State.{State, after_turn, reply_of}
 use Rattle.switchboard.specs.Runs.{IsRun, TellsEnds}
 use Rattle.switchboard.proofs.Runs.{run_more}
 use Rattle.switchboard.proofs.Laws.{none_left, none_exactly, other_stamp, without_reply, no_reply, refused_answer, last_is}
@@ -7,7 +7,8 @@ use Rattle.switchboard.proofs.Changes.{refused_before}
 use Rattle.switchboard.proofs.board.Board.turn.Goals as goal
 
 pub returns-clause-refused : goal.returns-clause-refused
-returns-clause-refused c = refused_answer c.args.self.now c.execute.new.self c.in_ok-order.order c.execute.result c.execute.ensures.answer c.execute.ensures.state
+returns-clause-refused c = refused_answer c.args.self.now c.execute.new.self c.in_ok-order.order c.execute.result c.execute.ensures.answer
+    c.execute.ensures.state
 
 pub returns-clause-stays : goal.returns-clause-stays
 returns-clause-stays c = refused_before c.args.self.now c.execute.new.self c.execute.result.result (returns-clause-refused c)
@@ -28,7 +29,7 @@ returns-in_err-order c =
     let no = c.from_residual.ensures in
     let answer = no ∙ ap (reply_of s) left in
     record {
-      state = ap (turned s) left;
+      state = ap (after_turn s) left;
       answer = answer;
       none = none_exactly s c.args.period c.from_residual.result c.next.ensures.rising c.requires.orders answer;
       refused = without_reply _ _ no;
@@ -52,7 +53,7 @@ returns-then-order-period c =
     let s = c.args.self.now in
     let other = sym (other_stamp s.left c.in_ok-order.order c.args.period (sym c.in_ok-order.was ∙ c.next.ensures.value) c.if-order-period.true) in
     record {
-      state = ap (turned s) other;
+      state = ap (after_turn s) other;
       answer = ap (reply_of s) other;
       none = none_exactly s c.args.period None c.next.ensures.rising c.requires.orders (ap (reply_of s) other);
       refused = tt;

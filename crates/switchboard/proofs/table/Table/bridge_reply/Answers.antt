@@ -34,7 +34,9 @@ returns-in_err-must_be_open c =
     let b = c.args.b in
     let k = known_in c.args.self.now c.args.stamp in
     record {
-      value = refused_by (from_0 k a b) (act.Bridged a b) _ c.from_residual.result (not_same a b (from_1 k a b) _ c.if-a-b.false (failed_test (not_open k a) (from_2 k a b) _ _ c.must_be_open.ensures c.in_err-must_be_open.was)) c.from_residual.ensures.1;
+      value = refused_by (from_0 k a b) (act.Bridged a b) _ c.from_residual.result
+          (not_same a b (from_1 k a b) _ c.if-a-b.false (failed_test (not_open k a) (from_2 k a b) _ _ c.must_be_open.ensures c.in_err-must_be_open.was))
+          c.from_residual.ensures.1;
       calls = none_in_table c.from_residual.result c.from_residual.ensures.0;
     }
 
@@ -44,7 +46,10 @@ returns-in_err-must_be_open-2 c =
     let b = c.args.b in
     let k = known_in c.args.self.now c.args.stamp in
     record {
-      value = refused_by (from_0 k a b) (act.Bridged a b) _ c.from_residual-in_err-must_be_open-2.result (not_same a b (from_1 k a b) _ c.if-a-b.false (next_test (not_open k a) (from_2 k a b) _ _ _ c.must_be_open.ensures c.in_ok-must_be_open.was (failed_test (not_open k b) (from_3 k a b) _ _ c.must_be_open-2.ensures c.in_err-must_be_open-2.was))) c.from_residual-in_err-must_be_open-2.ensures.1;
+      value = refused_by (from_0 k a b) (act.Bridged a b) _ c.from_residual-in_err-must_be_open-2.result
+          (not_same a b (from_1 k a b) _ c.if-a-b.false (next_test (not_open k a) (from_2 k a b) _ _ _ c.must_be_open.ensures c.in_ok-must_be_open.was
+          (failed_test (not_open k b) (from_3 k a b) _ _ c.must_be_open-2.ensures c.in_err-must_be_open-2.was)))
+          c.from_residual-in_err-must_be_open-2.ensures.1;
       calls = none_in_table c.from_residual-in_err-must_be_open-2.result c.from_residual-in_err-must_be_open-2.ensures.0;
     }
 
@@ -54,7 +59,10 @@ returns-in_err-must_be_alone c =
     let b = c.args.b in
     let k = known_in c.args.self.now c.args.stamp in
     record {
-      value = refused_by (from_0 k a b) (act.Bridged a b) _ c.from_residual-in_err-must_be_alone.result (not_same a b (from_1 k a b) _ c.if-a-b.false (next_test (not_open k a) (from_2 k a b) _ _ _ c.must_be_open.ensures c.in_ok-must_be_open.was (next_test (not_open k b) (from_3 k a b) _ _ _ c.must_be_open-2.ensures c.in_ok-must_be_open-2.was (failed_test (bridged k a) (from_4 k a b) _ _ c.must_be_alone.ensures c.in_err-must_be_alone.was)))) c.from_residual-in_err-must_be_alone.ensures.1;
+      value = refused_by (from_0 k a b) (act.Bridged a b) _ c.from_residual-in_err-must_be_alone.result
+          (not_same a b (from_1 k a b) _ c.if-a-b.false (next_test (not_open k a) (from_2 k a b) _ _ _ c.must_be_open.ensures c.in_ok-must_be_open.was
+          (next_test (not_open k b) (from_3 k a b) _ _ _ c.must_be_open-2.ensures c.in_ok-must_be_open-2.was
+          (failed_test (bridged k a) (from_4 k a b) _ _ c.must_be_alone.ensures c.in_err-must_be_alone.was)))) c.from_residual-in_err-must_be_alone.ensures.1;
       calls = none_in_table c.from_residual-in_err-must_be_alone.result c.from_residual-in_err-must_be_alone.ensures.0;
     }
 
@@ -64,7 +72,12 @@ returns-in_err-must_be_alone-2 c =
     let b = c.args.b in
     let k = known_in c.args.self.now c.args.stamp in
     record {
-      value = refused_by (from_0 k a b) (act.Bridged a b) _ c.from_residual-in_err-must_be_alone-2.result (not_same a b (from_1 k a b) _ c.if-a-b.false (next_test (not_open k a) (from_2 k a b) _ _ _ c.must_be_open.ensures c.in_ok-must_be_open.was (next_test (not_open k b) (from_3 k a b) _ _ _ c.must_be_open-2.ensures c.in_ok-must_be_open-2.was (next_test (bridged k a) (from_4 k a b) _ _ _ c.must_be_alone.ensures c.in_ok-must_be_alone.was (failed_test (bridged k b) (from_5 k a b) _ _ c.must_be_alone-2.ensures c.in_err-must_be_alone-2.was))))) c.from_residual-in_err-must_be_alone-2.ensures.1;
+      value = refused_by (from_0 k a b) (act.Bridged a b) _ c.from_residual-in_err-must_be_alone-2.result
+          (not_same a b (from_1 k a b) _ c.if-a-b.false (next_test (not_open k a) (from_2 k a b) _ _ _ c.must_be_open.ensures c.in_ok-must_be_open.was
+          (next_test (not_open k b) (from_3 k a b) _ _ _ c.must_be_open-2.ensures c.in_ok-must_be_open-2.was
+          (next_test (bridged k a) (from_4 k a b) _ _ _ c.must_be_alone.ensures c.in_ok-must_be_alone.was
+          (failed_test (bridged k b) (from_5 k a b) _ _ c.must_be_alone-2.ensures c.in_err-must_be_alone-2.was)))))
+          c.from_residual-in_err-must_be_alone-2.ensures.1;
       calls = none_in_table c.from_residual-in_err-must_be_alone-2.result c.from_residual-in_err-must_be_alone-2.ensures.0;
     }
 
@@ -74,7 +87,13 @@ returns-in_err-must_not_drain c =
     let b = c.args.b in
     let k = known_in c.args.self.now c.args.stamp in
     record {
-      value = refused_by (from_0 k a b) (act.Bridged a b) _ c.from_residual-in_err-must_not_drain.result (not_same a b (from_1 k a b) _ c.if-a-b.false (next_test (not_open k a) (from_2 k a b) _ _ _ c.must_be_open.ensures c.in_ok-must_be_open.was (next_test (not_open k b) (from_3 k a b) _ _ _ c.must_be_open-2.ensures c.in_ok-must_be_open-2.was (next_test (bridged k a) (from_4 k a b) _ _ _ c.must_be_alone.ensures c.in_ok-must_be_alone.was (next_test (bridged k b) (from_5 k a b) _ _ _ c.must_be_alone-2.ensures c.in_ok-must_be_alone-2.was (failed_test (draining k a) (from_6 k a b) _ _ c.must_not_drain.ensures c.in_err-must_not_drain.was)))))) c.from_residual-in_err-must_not_drain.ensures.1;
+      value = refused_by (from_0 k a b) (act.Bridged a b) _ c.from_residual-in_err-must_not_drain.result
+          (not_same a b (from_1 k a b) _ c.if-a-b.false (next_test (not_open k a) (from_2 k a b) _ _ _ c.must_be_open.ensures c.in_ok-must_be_open.was
+          (next_test (not_open k b) (from_3 k a b) _ _ _ c.must_be_open-2.ensures c.in_ok-must_be_open-2.was
+          (next_test (bridged k a) (from_4 k a b) _ _ _ c.must_be_alone.ensures c.in_ok-must_be_alone.was
+          (next_test (bridged k b) (from_5 k a b) _ _ _ c.must_be_alone-2.ensures c.in_ok-must_be_alone-2.was
+          (failed_test (draining k a) (from_6 k a b) _ _ c.must_not_drain.ensures c.in_err-must_not_drain.was))))))
+          c.from_residual-in_err-must_not_drain.ensures.1;
       calls = none_in_table c.from_residual-in_err-must_not_drain.result c.from_residual-in_err-must_not_drain.ensures.0;
     }
 
@@ -84,6 +103,12 @@ returns-in_err-must_not_drain-2 c =
     let b = c.args.b in
     let k = known_in c.args.self.now c.args.stamp in
     record {
-      value = refused_by (from_0 k a b) (act.Bridged a b) _ c.from_residual-in_err-must_not_drain-2.result (not_same a b (from_1 k a b) _ c.if-a-b.false (next_test (not_open k a) (from_2 k a b) _ _ _ c.must_be_open.ensures c.in_ok-must_be_open.was (next_test (not_open k b) (from_3 k a b) _ _ _ c.must_be_open-2.ensures c.in_ok-must_be_open-2.was (next_test (bridged k a) (from_4 k a b) _ _ _ c.must_be_alone.ensures c.in_ok-must_be_alone.was (next_test (bridged k b) (from_5 k a b) _ _ _ c.must_be_alone-2.ensures c.in_ok-must_be_alone-2.was (next_test (draining k a) (from_6 k a b) _ _ _ c.must_not_drain.ensures c.in_ok-must_not_drain.was (failed_test (draining k b) [] _ _ c.must_not_drain-2.ensures c.in_err-must_not_drain-2.was))))))) c.from_residual-in_err-must_not_drain-2.ensures.1;
+      value = refused_by (from_0 k a b) (act.Bridged a b) _ c.from_residual-in_err-must_not_drain-2.result
+          (not_same a b (from_1 k a b) _ c.if-a-b.false (next_test (not_open k a) (from_2 k a b) _ _ _ c.must_be_open.ensures c.in_ok-must_be_open.was
+          (next_test (not_open k b) (from_3 k a b) _ _ _ c.must_be_open-2.ensures c.in_ok-must_be_open-2.was
+          (next_test (bridged k a) (from_4 k a b) _ _ _ c.must_be_alone.ensures c.in_ok-must_be_alone.was
+          (next_test (bridged k b) (from_5 k a b) _ _ _ c.must_be_alone-2.ensures c.in_ok-must_be_alone-2.was
+          (next_test (draining k a) (from_6 k a b) _ _ _ c.must_not_drain.ensures c.in_ok-must_not_drain.was
+          (failed_test (draining k b) [] _ _ c.must_not_drain-2.ensures c.in_err-must_not_drain-2.was))))))) c.from_residual-in_err-must_not_drain-2.ensures.1;
       calls = none_in_table c.from_residual-in_err-must_not_drain-2.result c.from_residual-in_err-must_not_drain-2.ensures.0;
     }

@@ -10,5 +10,6 @@ pub loop-preserved : goal.loop-preserved
 loop-preserved g c = record {
   size = c.push_reserved.ensures.len ∙ ap (λ n. n + 1) c.loop.invariant.size;
   capacity = omega (arith, c.push_reserved.ensures.capacity, c.loop.invariant.capacity);
-  each = rw c.push_reserved.ensures.items (All-push (λ (l : FileLine). l ≡ record { read = 0; written = 0; faults = 0 }) _ _ c.loop.invariant.each c.new.ensures);
+  each = rw c.push_reserved.ensures.items
+      (All-push (λ (l : FileLine). l ≡ record { read = 0; written = 0; faults = 0 }) _ _ c.loop.invariant.each c.new.ensures);
 }

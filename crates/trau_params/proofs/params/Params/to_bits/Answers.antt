@@ -2,11 +2,12 @@ use Rattle.std.proofs.Common.{◌≡◌, ◌++◌, ◌≤◌, length, sym, ap, s
 use Rattle.std.specs.List.{range_with_len, flat_map}
 use Rattle.std.proofs.lemmas.List.{take_all}
 use Rattle.trau_params.specs.Widths.{larc_widths, block_widths}
-use Rattle.trau_params.specs.FieldBits.{field_bits, AreBits}
-use Rattle.trau_params.specs.Block.{bits_of}
+use Rattle.trau_bits.specs.Bits.{AreBits}
+use Rattle.trau_params.specs.FieldBits.{field_bits}
+use Rattle.trau_params.specs.Block.{bits_of_block}
 use Rattle.trau_params.specs.Bits260.{bits260, bits260_of, block_bits}
 use Rattle.trau_params.proofs.AreBits.{AreBits-bits260_of}
-use Rattle.trau_params.proofs.Prefixes.{flat_map-range-more}
+use Rattle.trau_params.proofs.Fronts.{flat_map-range-more}
 use Rattle.trau_params.proofs.params.Params.to_bits.Goals as goal
 
 pub loop-j-preserved : goal.loop-j-preserved
@@ -16,9 +17,9 @@ loop-j-preserved c =
       long = search rules;
       place = omega arith;
       bits = c.put-at.ensures.bits ∙
-          ap (λ xs. xs ++ bits_of c.block.result) c.loop-j.invariant.bits ∙
+          ap (λ xs. xs ++ bits_of_block c.block.result) c.loop-j.invariant.bits ∙
           append_assoc (field_bits larc_widths c.args.self.now.larc)
-          (flat_map (block_bits c.args.self.now) (range_with_len 0 c.loop-j.j)) (bits_of c.block.result) ∙
+          (flat_map (block_bits c.args.self.now) (range_with_len 0 c.loop-j.j)) (bits_of_block c.block.result) ∙
           ap (λ xs. field_bits larc_widths c.args.self.now.larc ++ xs)
           (ap (λ vs. flat_map (block_bits c.args.self.now) (range_with_len 0 c.loop-j.j) ++ field_bits block_widths vs) c.block.ensures ∙
           sym (flat_map-range-more (block_bits c.args.self.now) 0 c.loop-j.j c.loop-j.j (omega arith)));

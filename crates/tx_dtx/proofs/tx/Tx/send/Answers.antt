@@ -1,6 +1,6 @@
 use Rattle.std.proofs.Common.{FitsSigned, w16}
 use Rattle.std.proofs.lemmas.Int.{to_z-of_z}
-use Rattle.tx_dtx.proofs.Table.{stepped_by, step-history}
+use Rattle.tx_dtx.proofs.Sending.{stepped_by, step-history}
 use Rattle.tx_dtx.proofs.tx.Tx.send.Goals as goal
 
 step_now : goal.returns-clause-step

@@ -15,4 +15,5 @@ loop-preserved g c = record {
 }
 
 pub invariant_of-result : goal.invariant_of-result
-invariant_of-result g c = (omega (arith, c.loop.invariant.size), c.in_ok-seat_of.ensures.len, seated_in_none c.loop.files.items c.in_ok-seat_of.seat_of.items c.loop.invariant.each)
+invariant_of-result g c =
+    (omega (arith, c.loop.invariant.size), c.in_ok-seat_of.ensures.len, seated_in_none c.loop.files.items c.in_ok-seat_of.seat_of.items c.loop.invariant.each)

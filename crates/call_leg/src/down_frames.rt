@@ -1,0 +1,141 @@
+//! How the downlink side of a leg makes its frames: handed ones, idle ones and coded ones.
+
+ghost use Rattle.std.specs.Prelude.{◌≡◌, ◌≤◌, ◌<◌, ◌+◌, All, length, drop, if◌then◌else◌, ◌||◌};
+ghost use Rattle.trau_bits.specs.Bits.{bits_of, AreBits};
+ghost use Rattle.trau_frame.specs.DownFrame.{HasBits};
+ghost use Rattle.down_framer.specs.Memory.{IsBetweenPeriods, IsWithinPeriod};
+ghost use Rattle.call_leg.specs.Memory.{coder_memory, down_memory};
+ghost use Rattle.call_leg.specs.Places.{in_u32, in_u64};
+ghost use Rattle.time_align.specs.Step.{after_thaw};
+ghost use Rattle.call_leg.specs.Step.{own_next, next_by, frame_made, frame_tried, down_worked};
+
+use crate::coder::{Coder, dtx_on};
+use crate::down_side::DownSide;
+use circular_buffer::HeapCircularBuffer;
+use down_framer::Framer;
+use time_align::Align;
+use trau_alaw::Law;
+use trau_frame::{DownFrame, write_down};
+
+// The next frame, where none waits: idle in a quiet period, else the frame of the next 160 octets.
+fn own_frame(
+    coder: &mut Coder,
+    framer: &Framer,
+    law: Law,
+    quiet: bool,
+    level: i16,
+    on: bool,
+) -> DownFrame
+    requires ready { 160 ≤ length framer.now.held }
+    ensures bits { HasBits result }
+    ensures step { own_next law (coder_memory coder.old) framer.now.held quiet level on ≡ (result, coder_memory coder.new) }
+{
+    if quiet {
+        *coder = Coder::home();
+        return DownFrame::Idle;
+    }
+    let mut octets = [0; 160];
+    framer.block(&mut octets);
+    coder.code(law, &octets, level, on)
+}
+
+// The next frame: the handed one that waits longest, or else the leg's own.
+fn next_frame(
+    waiting: &mut HeapCircularBuffer<[u8; 260]>,
+    coder: &mut Coder,
+    framer: &Framer,
+    law: Law,
+    quiet: bool,
+    level: i16,
+    on: bool,
+) -> DownFrame
+    requires ready { 160 ≤ length framer.now.held }
+    requires bits { All (λ d. AreBits d) waiting.old.items }
+    ensures bits { HasBits result }
+    ensures waiting { waiting.new.items ≡ drop 1 waiting.old.items }
+    ensures room { waiting.new.capacity ≡ waiting.old.capacity }
+    ensures step { next_by law waiting.old.items (coder_memory coder.old) framer.now.held quiet level on ≡ (result, coder_memory coder.new) }
+{
+    if let Some(d) = waiting.pop_front() {
+        *coder = Coder::home();
+        return DownFrame::Speech { d, sp: true };
+    }
+    own_frame(coder, framer, law, quiet, level, on)
+}
+
+// One more than a count, where there is one more.
+fn counted(count: u32, one: bool) -> u32
+    ensures { result ≡ (if one then in_u32 (count + 1) else count) }
+{
+    if one { count.saturating_add(1) } else { count }
+}
+
+fn one_made(count: u64) -> u64
+    ensures { result ≡ in_u64 (count + 1) }
+{
+    count.saturating_add(1)
+}
+
+/// Thaws the shifts where no bridge is on and no frame waits.
+pub(crate) fn thaw_at_end(align: &mut Align, bridged: bool, waits: bool)
+    ensures { align.new ≡ (if bridged || waits then align.old else after_thaw align.old) }
+{
+    if !bridged && !waits {
+        align.thaw();
+    }
+}
+
+impl DownSide {
+    // Makes the next frame.
+    fn make_frame(&mut self)
+        requires ready { 160 ≤ length self.old.framer.held }
+        ensures within { IsWithinPeriod self.new.framer }
+        ensures shorter { length self.new.framer.held + 158 ≤ length self.old.framer.held }
+        ensures step { down_memory self.new ≡ frame_made (down_memory self.old) }
+    {
+        let waited = !self.waiting.is_empty();
+        self.sent = counted(self.sent, waited);
+        self.made = one_made(self.made);
+        let on = dtx_on(self.mode, self.dtxd);
+        let frame = next_frame(
+            &mut self.waiting,
+            &mut self.coder,
+            &self.framer,
+            self.law,
+            self.quiet,
+            self.level,
+            on,
+        );
+        let shift = self.align.adopt();
+        let mut bits = [0; 320];
+        write_down(&frame, &mut bits);
+        self.framer.frame(&bits, shift);
+        let waits = !self.waiting.is_empty();
+        thaw_at_end(&mut self.align, self.bridged, waits);
+    }
+
+    // Makes the next frame, if its last octet has come.
+    fn try_frame(&mut self)
+        requires within { IsWithinPeriod self.old.framer }
+        ensures within { IsWithinPeriod self.new.framer }
+        ensures shorter { 160 ≤ length self.old.framer.held → length self.new.framer.held + 158 ≤ length self.old.framer.held }
+        ensures same { length self.old.framer.held < 160 → self.new.framer ≡ self.old.framer }
+        ensures step { down_memory self.new ≡ frame_tried (down_memory self.old) }
+    {
+        if self.framer.ready() {
+            self.make_frame();
+        }
+    }
+
+    /// The downlink half of a period, which makes no frame, one or two.
+    pub(crate) fn half(&mut self, pcm: &[u8; 160], down: &mut [u8; 40])
+        requires between { IsBetweenPeriods self.old.framer }
+        ensures between { IsBetweenPeriods self.new.framer }
+        ensures step { down_worked (down_memory self.old) pcm.now ≡ (bits_of down.new, down_memory self.new) }
+    {
+        self.framer.put(pcm);
+        self.try_frame();
+        self.try_frame();
+        self.framer.take(down);
+    }
+}

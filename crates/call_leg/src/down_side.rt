@@ -1,0 +1,36 @@
+//! What the downlink side of a leg keeps.
+
+ghost use Rattle.std.specs.Prelude.{◌≡◌, All};
+ghost use Rattle.trau_bits.specs.Bits.{AreBits};
+
+use crate::coder::Coder;
+use circular_buffer::HeapCircularBuffer;
+use down_framer::Framer;
+use time_align::Align;
+use trau_alaw::Law;
+use trau_orders::DtxMode;
+
+/// The downlink side of a leg.
+#[derive(Drop)]
+pub(crate) struct DownSide {
+    // The law of the call's octets from and to the exchange.
+    pub(crate) law: Law,
+    pub(crate) framer: Framer,
+    pub(crate) align: Align,
+    // The 260 bits of each handed frame that no frame has carried yet.
+    pub(crate) waiting: HeapCircularBuffer<[u8; 260]>,
+    pub(crate) coder: Coder,
+    pub(crate) level: i16,
+    pub(crate) mode: DtxMode,
+    // DTXd of the last uplink speech frame.
+    pub(crate) dtxd: bool,
+    // Whether the period's effective frame is quiet.
+    pub(crate) quiet: bool,
+    pub(crate) bridged: bool,
+    // Handed frames of the latest bridge that went out.
+    pub(crate) sent: u32,
+    // Frames made.
+    pub(crate) made: u64,
+    pub(crate) ghost are_bits: { All (λ d. AreBits d) waiting.items },
+    pub(crate) ghost room: { waiting.capacity ≡ 2 },
+}

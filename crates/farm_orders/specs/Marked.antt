@@ -1,0 +1,67 @@
+-- What the reading of a mark and of the orders behind it answers (this project's profile).
+use Rattle.std.specs.Prelude.{◌≡◌, ◌<◌, ◌≤◌, ◌⊎◌, ℕ, List, ◌++◌, length, Result, Ok, Err}
+use Rattle.std.specs.Io.KnownBytes.{IsAtEnd}
+use Rattle.trau_io.specs.Desks.{DeskState}
+use Rattle.farm_checkpoint.specs.Marks.{MarkView, IsMark}
+use Rattle.farm_checkpoint.specs.Text.{mark_text, IsFirstBad}
+use Rattle.farm_orders.specs.declared.fault.MarkedFault.{MarkedFault}
+use Rattle.farm_orders.specs.declared.fault.MarkedFault.TheVariants as marked
+use Rattle.farm_orders.specs.declared.fault.OrdersFault.{OrdersFault}
+use Rattle.farm_orders.specs.declared.fault.OrdersFault.TheVariants.{Unread, TooLong, Line, Memory}
+use Rattle.farm_orders.specs.declared.marked.MarkedOrders.{MarkedOrders}
+use Rattle.farm_orders.specs.Given.{ReadsUpTo}
+use Rattle.farm_orders.specs.Reading.{AnswersText}
+
+-- a text of at most 1,310,720 octets
+abbrev pub IsShort : List ℕ → Type 0
+IsShort text = length text ≤ 1310720
+
+-- a text is that of a mark, and the orders' behind it
+pub record HasMark (text : List ℕ) (mark : MarkView) (orders : List ℕ) : Type 0 where
+  pub is : IsMark mark
+  pub whole : text ≡ mark_text mark ++ orders
+
+-- the orders behind the mark of a text aren't taken, for this reason; their lines are counted from the first behind the mark
+pub record RefusedBehind (text : List ℕ) (fault : OrdersFault) : Type 0 where
+  pub mark : MarkView
+  pub orders : List ℕ
+  pub has : HasMark text mark orders
+  pub answer : AnswersText orders (Err fault)
+
+-- they are taken
+pub record TakenBehind (text : List ℕ) (read : MarkedOrders) : Type 0 where
+  pub orders : List ℕ
+  pub has : HasMark text read.mark orders
+  pub answer : AnswersText orders (Ok read.orders)
+
+-- the answer to a whole text: its mark and orders, or its first line that isn't in the mark's grammar, or why the orders
+-- aren't taken; or that it is too long, which is the first that is looked for; or want of memory
+abbrev pub AnswersMarked : List ℕ → Result MarkedOrders MarkedFault → Type 0
+AnswersMarked text (Ok read) = IsShort text × TakenBehind text read
+AnswersMarked text (Err (marked.Mark n)) = IsShort text × IsFirstBad text n
+AnswersMarked text (Err (marked.Orders Unread)) = ⊥
+AnswersMarked text (Err (marked.Orders TooLong)) = (1310720 < length text) ⊎ (IsShort text × RefusedBehind text TooLong)
+AnswersMarked text (Err (marked.Orders (Line n))) = IsShort text × RefusedBehind text (Line n)
+AnswersMarked text (Err (marked.Orders Memory)) = Unit {0}
+
+-- the answer where the reads of the desk gave this text: that of the text if the desk is at its end, or that it is too
+-- long if it is just past the limit; else the desk failed, or there was no memory
+abbrev pub AnswersMarkedReads : DeskState → List ℕ → Result MarkedOrders MarkedFault → Type 0
+AnswersMarkedReads now given (Ok read) = IsAtEnd now.to_come × AnswersMarked given (Ok read)
+AnswersMarkedReads now given (Err (marked.Mark n)) = IsAtEnd now.to_come × AnswersMarked given (Err (marked.Mark n))
+AnswersMarkedReads now given (Err (marked.Orders Unread)) = IsShort given
+AnswersMarkedReads now given (Err (marked.Orders TooLong)) = (length given ≡ 1310721) ⊎ (IsAtEnd now.to_come × IsShort given × RefusedBehind given TooLong)
+AnswersMarkedReads now given (Err (marked.Orders (Line n))) = IsAtEnd now.to_come × AnswersMarked given (Err (marked.Orders (Line n)))
+AnswersMarkedReads now given (Err (marked.Orders Memory)) = Unit {0}
+
+abbrev pub ReadsMarked : DeskState → DeskState → Result MarkedOrders MarkedFault → Type 0
+ReadsMarked before now result = ReadsUpTo 1310720 before now (λ given. AnswersMarkedReads now given result)
+
+-- the answer of a desk that tells its text: that of the whole text, unless the desk failed
+abbrev pub AnswersMarkedTold : List ℕ → Result MarkedOrders MarkedFault → Type 0
+AnswersMarkedTold text (Ok read) = AnswersMarked text (Ok read)
+AnswersMarkedTold text (Err (marked.Mark n)) = AnswersMarked text (Err (marked.Mark n))
+AnswersMarkedTold text (Err (marked.Orders Unread)) = Unit {0}
+AnswersMarkedTold text (Err (marked.Orders TooLong)) = AnswersMarked text (Err (marked.Orders TooLong))
+AnswersMarkedTold text (Err (marked.Orders (Line n))) = AnswersMarked text (Err (marked.Orders (Line n)))
+AnswersMarkedTold text (Err (marked.Orders Memory)) = Unit {0}

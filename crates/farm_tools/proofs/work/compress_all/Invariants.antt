@@ -1,7 +1,0 @@
-use Rattle.trau_alaw.specs.Alaw.{alaw}
-use Rattle.trau_alaw.specs.Companding.{octet_of}
-use Rattle.farm_tools.proofs.Mapping.{Run}
-use Rattle.farm_tools.proofs.work.compress_all.Given as goal
-
-abbrev pub invariant-loop-k : goal.invariant-loop-k
-invariant-loop-k l = Run (octet_of alaw) l.x l.octets l.k

@@ -1,0 +1,81 @@
+-- What the command `resume` leaves where the desk tells a mark and orders, whatever fails (this project's profile).
+use Rattle.std.specs.Prelude.{◌≡◌, ◌≢◌, ◌⊎◌, ℕ, max, List, [], Some}
+use Rattle.std.specs.Io.KnownBytes.{Appends}
+use Rattle.trau_io.specs.declared.line.Line.{Line}
+use Rattle.trau_io.specs.declared.line.Side.{Side}
+use Rattle.trau_io.specs.Lines.{LineState}
+use Rattle.trau_io.specs.Desks.{DeskState}
+use Rattle.trau_orders.specs.declared.order.Order.{Order}
+use Rattle.trau_orders.specs.Lists.{AreOrders}
+use Rattle.trau_orders.specs.Text.{text_lines, AreLines, IsWithin}
+use Rattle.farm_checkpoint.specs.Marks.{MarkView}
+use Rattle.farm_orders.specs.Marked.{HasMark, IsShort}
+use Rattle.run_spec.specs.Run.{Run}
+use Rattle.run_spec.specs.Mark.{Joins, marked_calls}
+use Rattle.farm_run.specs.Runs.{AreTold, FailedShort, IsRunOver, KeepsSides, ReadsOn, TellsFailed, is_listed, none_fails}
+use Rattle.farm_run.specs.Resuming.{FindsDifference, LeavesFrom}
+use Rattle.command_words.specs.declared.asked.Settings.{Settings}
+use Rattle.farm_top.specs.Farm.{TextOut, status_of_run}
+use Rattle.farm_top.specs.FarmEnded.{GainsFront, report_told}
+use Rattle.farm_top.specs.Headline.{HeadlineFrom}
+use Rattle.farm_top.specs.Resume.{differs_text}
+
+-- the desk tells a text of at most 1,310,720 octets: this mark's, and behind it one within the orders' limits, whose lines
+-- are those of these orders
+pub record TellsMarked (mark : MarkView) (orders : List Order) (desk : DeskState) : Type 0 where
+  pub text : List ℕ
+  pub told : desk.to_come ≡ Some text
+  pub short : IsShort text
+  pub rest : List ℕ
+  pub has : HasMark text mark rest
+  pub within : IsWithin rest
+  pub spelled : AreLines (text_lines rest) orders
+
+-- A run of these orders from this mark on that was carried to its end, the later one of the mark's period and the number of
+-- periods asked for, whatever failed.
+pub record ResumeEnded (mark : MarkView) (orders : List Order) (s : Settings) (before now : ℕ → Side → LineState) (desk desk' : DeskState)
+    (status : ℕ) : Type 0 where
+  -- the lines that failed, each once: none with status 0, some with 6
+  pub failed : List Line
+  pub told : TellsFailed before now failed
+  pub status_is : (status ≡ 4) ⊎ (status ≡ status_of_run failed)
+  -- incoming lines were only read, from the front, and outgoing ones only written
+  pub sides : KeepsSides before now
+  pub reads : ReadsOn before now
+  -- the outgoing lines have what the run of these orders over what the lines gave gives them, without the octets of the
+  -- periods before the mark's
+  pub leaves : (r : Run) → IsRunOver orders (max mark.period s.periods) (is_listed failed) before now r → LeavesFrom r mark.period (is_listed failed) before now
+  pub headline : (r : Run) → IsRunOver orders (max mark.period s.periods) (is_listed failed) before now r →
+      HeadlineFrom r mark.period (is_listed failed) before now
+  -- the run to the mark's period has the mark's calls
+  pub same_mark : (r : Run) → IsRunOver orders mark.period (is_listed failed) before now r → marked_calls r ≡ mark.calls
+  -- the desk gained exactly the text of the whole run's report, with the lines that failed; with status 4 a proper front of it
+  pub text : status ≢ 4 → (r : Run) → IsRunOver orders (max mark.period s.periods) (is_listed failed) before now r →
+      Appends desk.written desk'.written (report_told r failed)
+  pub front : status ≡ 4 → (r : Run) → IsRunOver orders (max mark.period s.periods) (is_listed failed) before now r →
+      GainsFront desk.written desk'.written (report_told r failed)
+  -- the text was read to its end
+  pub all_read : desk'.to_come ≡ Some []
+  -- an incoming line failed short of what its round takes of it
+  pub short : (r : Run) → IsRunOver orders (max mark.period s.periods) (is_listed failed) before now r → FailedShort r s.batch (is_listed failed)
+  -- there are such runs, to any number of periods, of orders that are in range, wherever the lines tell what they hold
+  pub there : AreOrders orders → AreTold before → (periods : ℕ) → (r : Run) × IsRunOver orders periods (is_listed failed) before now r
+
+-- The mark isn't that of the run of these orders to its period, over what the lines gave, before which no outgoing line was used.
+pub record ResumeDiffers (mark : MarkView) (orders : List Order) (before now : ℕ → Side → LineState) (desk desk' : DeskState) : Type 0 where
+  -- the least number of a call that the mark has otherwise, or that only one of them has
+  pub call : ℕ
+  pub finds : FindsDifference orders mark before now call
+  -- the desk gained the text that tells it, or, if it failed, a proper front
+  pub read : DeskState
+  pub written : read.written ≡ desk.written
+  pub write_faults : read.write_faults ≡ desk.write_faults
+  pub text_out : TextOut read desk' (differs_text call)
+  -- the text was read to its end
+  pub all_read : desk'.to_come ≡ Some []
+
+-- What a run leaves from the mark on where no line's count rises, and how it joins what the run to the mark's period writes.
+pub record JoinsMarked (r : Run) (from : ℕ) (before now : ℕ → Side → LineState) : Type 0 where
+  pub leaves : LeavesFrom r from none_fails before now
+  pub headline : HeadlineFrom r from none_fails before now
+  pub joins : Joins r from

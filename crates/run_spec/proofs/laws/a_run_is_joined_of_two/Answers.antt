@@ -1,0 +1,5 @@
+use Rattle.run_spec.proofs.Joining.{joins}
+use Rattle.run_spec.proofs.laws.a_run_is_joined_of_two.Goals as goal
+
+pub returns : goal.returns
+returns g = joins
