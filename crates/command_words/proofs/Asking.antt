@@ -47,14 +47,16 @@ same_head f [] a y ys long is e = absurd (omega arith)
 same_head f (x ∷ xs) a y ys long is e = cc
 
 -- a tool's two words
-named : (words : List Text) (name number command : Text) (c call : ℕ) → words ≡ name ∷ number ∷ [] → IsNumber 1 4096 number call → Names words command c → (name ≡ command) × (c ≡ call)
+named : (words : List Text) (name number command : Text) (c call : ℕ) → words ≡ name ∷ number ∷ [] → IsNumber 1 4096 number call → Names words command c →
+    (name ≡ command) × (c ≡ call)
 named words name number command c call are is names =
     let spelled = names.spelled in
     let same : name ≡ command = cc in
     let digits : number ≡ decimal c = cc in
     (same, decimal_injective c call (omega (arith, names.high)) (omega (arith, is.at_most)) (sym digits ∙ is.spelled))
 
-pub tool_on : (words : List Text) (name number : Text) (a : Asked) (call : ℕ) → words ≡ name ∷ number ∷ [] → IsNumber 1 4096 number call → AsksTool words a → IsToolOn a name call
+pub tool_on : (words : List Text) (name number : Text) (a : Asked) (call : ℕ) → words ≡ name ∷ number ∷ [] → IsNumber 1 4096 number call → AsksTool words a →
+    IsToolOn a name call
 tool_on words name number (Run s) call are is asks = absurd asks
 tool_on words name number (Save s) call are is asks = absurd asks
 tool_on words name number (Resume s) call are is asks = absurd asks
@@ -69,14 +71,16 @@ tool_on words name number (Split c) call are is asks = absurd asks
 tool_on words name number (Merge c) call are is asks = absurd asks
 
 -- the two words of a command on a slot
-named_slot : (words : List Text) (name number command : Text) (c call : ℕ) → words ≡ name ∷ number ∷ [] → IsNumber 1 4093 number call → NamesSlot words command c → (name ≡ command) × (c ≡ call)
+named_slot : (words : List Text) (name number command : Text) (c call : ℕ) → words ≡ name ∷ number ∷ [] → IsNumber 1 4093 number call →
+    NamesSlot words command c → (name ≡ command) × (c ≡ call)
 named_slot words name number command c call are is names =
     let spelled = names.spelled in
     let same : name ≡ command = cc in
     let digits : number ≡ decimal c = cc in
     (same, decimal_injective c call (omega (arith, names.high)) (omega (arith, is.at_most)) (sym digits ∙ is.spelled))
 
-pub slot_on : (words : List Text) (name number : Text) (a : Asked) (call : ℕ) → words ≡ name ∷ number ∷ [] → IsNumber 1 4093 number call → AsksSlot words a → IsSlotOn a name call
+pub slot_on : (words : List Text) (name number : Text) (a : Asked) (call : ℕ) → words ≡ name ∷ number ∷ [] → IsNumber 1 4093 number call → AsksSlot words a →
+    IsSlotOn a name call
 slot_on words name number (Run s) call are is asks = absurd asks
 slot_on words name number (Save s) call are is asks = absurd asks
 slot_on words name number (Resume s) call are is asks = absurd asks
@@ -91,10 +95,12 @@ slot_on words name number (Split c) call are is asks = named_slot words name num
 slot_on words name number (Merge c) call are is asks = named_slot words name number _ c call are is asks
 
 -- words that ask for nothing of any kind ask for nothing
-pub no_asked : (words : List Text) → ((options : List Text) → words ≡ codes "run" ∷ options → ⊥) → ((options : List Text) → words ≡ codes "save" ∷ options → ⊥) →
+pub no_asked : (words : List Text) → ((options : List Text) → words ≡ codes "run" ∷ options → ⊥) →
+    ((options : List Text) → words ≡ codes "save" ∷ options → ⊥) →
     ((options : List Text) → words ≡ codes "resume" ∷ options → ⊥) → ((options : List Text) → words ≡ codes "drill" ∷ options → ⊥) →
     ((options : List Text) → words ≡ codes "live" ∷ options → ⊥) →
-    ((a : Asked) → AsksTool words a → ⊥) → ((call want : ℕ) → NamesFollow words call want → ⊥) → ((a : Asked) → AsksSlot words a → ⊥) → (a : Asked) → Asks words a → ⊥
+    ((a : Asked) → AsksTool words a → ⊥) → ((call want : ℕ) → NamesFollow words call want → ⊥) → ((a : Asked) → AsksSlot words a → ⊥) → (a : Asked) →
+    Asks words a → ⊥
 no_asked words no_run no_save no_resume no_drill no_live no_tool no_follow no_slot (Run s) asks = no_run asks.options asks.spelled
 no_asked words no_run no_save no_resume no_drill no_live no_tool no_follow no_slot (Save s) asks = no_save asks.options asks.spelled
 no_asked words no_run no_save no_resume no_drill no_live no_tool no_follow no_slot (Resume s) asks = no_resume asks.options asks.spelled
@@ -109,7 +115,8 @@ no_asked words no_run no_save no_resume no_drill no_live no_tool no_follow no_sl
 no_asked words no_run no_save no_resume no_drill no_live no_tool no_follow no_slot (Merge c) asks = no_slot (Merge c) asks
 
 -- words that begin with `drill` or `live` and don't give its options ask for nothing
-pub no_drill : (words options : List Text) → words ≡ codes "drill" ∷ options → ((seed calls : ℕ) (s : Settings) → AreDrillOptions options seed calls s → ⊥) → (a : Asked) → Asks words a → ⊥
+pub no_drill : (words options : List Text) → words ≡ codes "drill" ∷ options → ((seed calls : ℕ) (s : Settings) → AreDrillOptions options seed calls s → ⊥) →
+    (a : Asked) → Asks words a → ⊥
 no_drill words options is none a asks =
     let m = kind_by_word words options (codes "drill") a is asks in
     let drill = m.1.1.1.0 in
@@ -117,7 +124,8 @@ no_drill words options is none a asks =
     let same : drill.options ≡ options = cc in
     none m.0 m.1.0 m.1.1.0 (subst (λ (os : List Text). AreDrillOptions os m.0 m.1.0 m.1.1.0) same drill.are)
 
-pub no_live : (words options : List Text) → words ≡ codes "live" ∷ options → ((s : LiveSettings) → AreLiveOptions options s → ⊥) → (a : Asked) → Asks words a → ⊥
+pub no_live : (words options : List Text) → words ≡ codes "live" ∷ options → ((s : LiveSettings) → AreLiveOptions options s → ⊥) → (a : Asked) → Asks words a →
+    ⊥
 no_live words options is none a asks =
     let m = kind_by_word words options (codes "live") a is asks in
     let also = m.1.0.spelled in
@@ -125,7 +133,8 @@ no_live words options is none a asks =
     none m.0 (subst (λ (os : List Text). AreLiveOptions os m.0) same m.1.0.are)
 
 -- options give one thing
-one_settings : (most default : ℕ) (text_of : Text → Option Text) (s t : Settings) → most < 2 ^ 32 → GivesSettings most default text_of s → GivesSettings most default text_of t → s ≡ t
+one_settings : (most default : ℕ) (text_of : Text → Option Text) (s t : Settings) → most < 2 ^ 32 → GivesSettings most default text_of s →
+    GivesSettings most default text_of t → s ≡ t
 one_settings most default text_of s t small first second =
     let workers = one_value _ 1 64 4 s.workers t.workers (omega arith) first.workers second.workers in
     let batch = one_value _ 1 250 50 s.batch t.batch (omega arith) first.batch second.batch in
@@ -133,10 +142,12 @@ one_settings most default text_of s t small first second =
     let periods = one_value _ 1 most default s.periods t.periods small first.periods second.periods in
     λ i. record { workers = workers i; batch = batch i; slice = slice i; periods = periods i }
 
-one_run : (words options others : List Text) (name : Text) (s t : Settings) → words ≡ name ∷ options → words ≡ name ∷ others → AreOptions options s → AreOptions others t → s ≡ t
+one_run : (words options others : List Text) (name : Text) (s t : Settings) → words ≡ name ∷ options → words ≡ name ∷ others → AreOptions options s →
+    AreOptions others t → s ≡ t
 one_run words options others name s t is also first second =
     let same : others ≡ options = cc in
-    one_settings 4294967295 4294967295 _ s t (omega arith) first.gives (subst (λ os. GivesSettings 4294967295 4294967295 (λ name. first_of name (matches_of run_app os)) t) same second.gives)
+    one_settings 4294967295 4294967295 _ s t (omega arith) first.gives
+    (subst (λ os. GivesSettings 4294967295 4294967295 (λ name. first_of name (matches_of run_app os)) t) same second.gives)
 
 one_drill : (words options others : List Text) (name : Text) (m n c d : ℕ) (s t : Settings) → words ≡ name ∷ options → words ≡ name ∷ others →
     AreDrillOptions options m c s → AreDrillOptions others n d t → (m ≡ n) × ((c ≡ d) × (s ≡ t))
@@ -151,7 +162,8 @@ one_drill words options others name m n c d s t is also first second =
       ),
     )
 
-one_live : (words options others : List Text) (name : Text) (s t : LiveSettings) → words ≡ name ∷ options → words ≡ name ∷ others → AreLiveOptions options s → AreLiveOptions others t → s ≡ t
+one_live : (words options others : List Text) (name : Text) (s t : LiveSettings) → words ≡ name ∷ options → words ≡ name ∷ others → AreLiveOptions options s →
+    AreLiveOptions others t → s ≡ t
 one_live words options others name s t is also first second =
     let same : others ≡ options = cc in
     one_live_of _ s t first.gives (subst (λ os. GivesLive (λ name. first_of name (matches_of live_app os)) t) same second.gives)

@@ -16,11 +16,14 @@ one_follow words c d m n first second =
     let digits = one.spelled in
     let others = other.spelled in
     let calls : decimal c ≡ decimal d = cc in
-    let places : first.want_text ≡ second.want_text = cc in
-    (decimal_injective c d (omega (arith, first.high)) (omega (arith, second.high)) calls, decimal_injective m n (omega (arith, one.high)) (omega (arith, other.high)) (sym digits ∙ places ∙ others))
+    let places : first.want_text ≡ second.want_text = cc in (
+      decimal_injective c d (omega (arith, first.high)) (omega (arith, second.high)) calls,
+      decimal_injective m n (omega (arith, one.high)) (omega (arith, other.high)) (sym digits ∙ places ∙ others),
+    )
 
 -- a list of three
-pub three : {A B : Type 0} (f : A → B) (xs : List A) (a b c : A) → length xs ≡ 3 → a ≡ get_or xs 0 a → b ≡ get_or xs 1 b → c ≡ get_or xs 2 c → map f xs ≡ f a ∷ f b ∷ f c ∷ []
+pub three : {A B : Type 0} (f : A → B) (xs : List A) (a b c : A) → length xs ≡ 3 → a ≡ get_or xs 0 a → b ≡ get_or xs 1 b → c ≡ get_or xs 2 c →
+    map f xs ≡ f a ∷ f b ∷ f c ∷ []
 three f [] a b c long first second third = absurd (omega arith)
 three f (x ∷ []) a b c long first second third = absurd (omega arith)
 three f (x ∷ y ∷ []) a b c long first second third = absurd (omega arith)
@@ -34,7 +37,8 @@ not_wanted text n want is not wanted =
     not (subst (λ m. m % 4 ≡ 0) (sym same) wanted.fours)
 
 -- three words that are `follow`, a call and a wanted place
-pub are_follow : (words : List Text) (name number place : Text) (call want : ℕ) → words ≡ name ∷ number ∷ place ∷ [] → name ≡ codes "follow" → IsNumber 1 4096 number call → IsWanted place want → NamesFollow words call want
+pub are_follow : (words : List Text) (name number place : Text) (call want : ℕ) → words ≡ name ∷ number ∷ place ∷ [] → name ≡ codes "follow" →
+    IsNumber 1 4096 number call → IsWanted place want → NamesFollow words call want
 are_follow words name number place call want are named is wanted = record {
   low = is.at_least;
   high = is.at_most;

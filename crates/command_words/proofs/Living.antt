@@ -18,7 +18,8 @@ same_live_texts v w s same gives = record {
   inbox = subst (λ o. IsValueOf o 1 1024 8 s.inbox) (same (codes "inbox")) gives.inbox;
 }
 
-pub read_live_rows : (a : App) (words : List Text) (m : ArgMatches) → a ≡ live_app → HasMatchesOf a words m → (id : Text) → first_value (found_of m) id ≡ first_of id (matches_of live_app words)
+pub read_live_rows : (a : App) (words : List Text) (m : ArgMatches) → a ≡ live_app → HasMatchesOf a words m → (id : Text) →
+    first_value (found_of m) id ≡ first_of id (matches_of live_app words)
 read_live_rows a words m is has id = rows_read live_app refl refl a words m is has id
 
 pub live_taken : (a : App) (words : List Text) → a ≡ live_app → (is_simple_and_free a ≡ true → fault_of a words ≡ []) → fault_of live_app words ≡ []

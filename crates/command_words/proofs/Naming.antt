@@ -65,7 +65,8 @@ tag word = get_or word 0 0 + 1000 * length word + 10000 * get_or word 1 0
 
 abbrev kind_tagged : ℕ → Kind
 kind_tagged t =
-    if t == 1173114 then a_run else if t == 974115 then a_save else if t == 1016114 then a_resume else if t == 1145100 then a_drill else if t == 1054108 then a_live
+    if t == 1173114 then a_run else if t == 974115 then a_save else if t == 1016114 then a_resume else if t == 1145100 then a_drill else if t == 1054108 then
+    a_live
     else if t == 1015114 then a_relay else if t == 1146102 then a_frames else if t == 1106101 then an_encode else if t == 1016100 then a_decode
     else if t == 1116102 then a_follow else if t == 1125115 then a_split else a_merge
 
@@ -161,5 +162,6 @@ pub has_options : (words : List Text) (a : Asked) → TakeOptions words → Asks
 has_options words a (inl (options, is)) asks = let m = kind_by_word words options (codes "run") a is asks in subst HasOptions (sym m.1.1) tt
 has_options words a (inr (inl (options, is))) asks = let m = kind_by_word words options (codes "save") a is asks in subst HasOptions (sym m.1.1) tt
 has_options words a (inr (inr (inl (options, is)))) asks = let m = kind_by_word words options (codes "resume") a is asks in subst HasOptions (sym m.1.1) tt
-has_options words a (inr (inr (inr (inl (options, is))))) asks = let m = kind_by_word words options (codes "drill") a is asks in subst HasOptions (sym m.1.1.1.1) tt
+has_options words a (inr (inr (inr (inl (options, is))))) asks = let m = kind_by_word words options (codes "drill") a is asks in
+    subst HasOptions (sym m.1.1.1.1) tt
 has_options words a (inr (inr (inr (inr (options, is))))) asks = let m = kind_by_word words options (codes "live") a is asks in subst HasOptions (sym m.1.1) tt

@@ -22,7 +22,8 @@ pub record Filled (before now : DeskState) (n : ℕ) (block : List ℕ) : Type 0
 pub filled_none : (s : DeskState) (block : List ℕ) → Filled s s 0 block
 filled_none s block = record { bound = omega arith; consumed = Consumes-nil s.to_come; read_faults = refl; written = refl; write_faults = refl }
 
-pub filled_more : (before mid now : DeskState) (n k : ℕ) (block piece : List ℕ) → Filled before mid n block → DeskReads mid now (Ok k) piece → length piece ≡ length block - n → Filled before now (n + k) (put_mid n (length block - n) block piece)
+pub filled_more : (before mid now : DeskState) (n k : ℕ) (block piece : List ℕ) → Filled before mid n block → DeskReads mid now (Ok k) piece →
+    length piece ≡ length block - n → Filled before now (n + k) (put_mid n (length block - n) block piece)
 filled_more before mid now n k block piece so_far reads fits =
     let long : length (put_mid n (length block - n) block piece) ≡ length block = length_filled n block piece so_far.bound fits in
     let part : k ≤ length piece = reads.bound.0 in
@@ -44,7 +45,8 @@ filled_all before now n block so_far full = record {
   write_faults = so_far.write_faults;
 }
 
-module _ (before mid now : DeskState) (n : ℕ) (block piece : List ℕ) (so_far : Filled before mid n block) (room : n < length block) (fits : length piece ≡ length block - n) where
+module _ (before mid now : DeskState) (n : ℕ) (block piece : List ℕ) (so_far : Filled before mid n block) (room : n < length block)
+    (fits : length piece ≡ length block - n) where
   long : length (put_mid n (length block - n) block piece) ≡ length block
   long = length_filled n block piece so_far.bound fits
 

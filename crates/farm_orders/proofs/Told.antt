@@ -14,7 +14,8 @@ use Rattle.farm_orders.specs.Given.{GivesPart, GivesWhole}
 use Rattle.farm_orders.specs.Reading.{AnswersText, AnswersReads, ReadsOrders, AnswersTold}
 
 -- a text's own fault is the answer to it
-pub faulty : (text : List ℕ) (read : Result (List Order) OrderFault) (fault : OrderFault) → read ≡ Err fault → (IsErrOf read orders.TooLong → 1048576 < length text) → (IsErrOf read orders.TooMany → 65536 < length (text_lines text)) →
+pub faulty : (text : List ℕ) (read : Result (List Order) OrderFault) (fault : OrderFault) → read ≡ Err fault →
+    (IsErrOf read orders.TooLong → 1048576 < length text) → (IsErrOf read orders.TooMany → 65536 < length (text_lines text)) →
     ((n : ℕ) → IsErrOf read (orders.Line n) → IsWithin text × IsFirstBad (text_lines text) n) → AnswersText text (Err (fault_of fault))
 faulty text read orders.TooLong is long many bad = inl (long is)
 faulty text read orders.TooMany is long many bad = inr (many is)
@@ -22,7 +23,8 @@ faulty text read (orders.Line n) is long many bad = bad n is
 faulty text read orders.Memory is long many bad = tt
 
 -- the answer to a text is that of a desk at its end that gave it
-pub ended : (now : DeskState) (text : List ℕ) (result : Result (List Order) OrdersFault) → IsAtEnd now.to_come → length text ≤ 1048576 → AnswersText text result → AnswersReads now text result
+pub ended : (now : DeskState) (text : List ℕ) (result : Result (List Order) OrdersFault) → IsAtEnd now.to_come → length text ≤ 1048576 →
+    AnswersText text result → AnswersReads now text result
 ended now text (Ok orders) end short answer = (end, answer)
 ended now text (Err Unread) end short answer = absurd answer
 ended now text (Err TooLong) end short (inl long) = absurd (omega (arith, long, short))
@@ -30,7 +32,8 @@ ended now text (Err TooLong) end short (inr many) = inr (end, many)
 ended now text (Err (Line n)) end short answer = (end, answer)
 ended now text (Err Memory) end short answer = tt
 
-pub reads_whole : (before now : DeskState) (text : List ℕ) (result : Result (List Order) OrdersFault) → GivesWhole 1048576 before now text → AnswersText text result → ReadsOrders before now result
+pub reads_whole : (before now : DeskState) (text : List ℕ) (result : Result (List Order) OrdersFault) → GivesWhole 1048576 before now text →
+    AnswersText text result → ReadsOrders before now result
 reads_whole before now text result gives answer = record {
   given = text;
   consumed = gives.consumed;
@@ -63,7 +66,8 @@ pub front : (text : List ℕ) (now : Option (List ℕ)) (given : List ℕ) → C
 front text None given consumed = absurd consumed
 front text (Some rest) given consumed = omega (arith, ap length consumed, length-append given rest)
 
-told_by : (text : List ℕ) (now : DeskState) (given : List ℕ) → Consumes (Some text) now.to_come given → (result : Result (List Order) OrdersFault) → AnswersReads now given result → AnswersTold text result
+told_by : (text : List ℕ) (now : DeskState) (given : List ℕ) → Consumes (Some text) now.to_come given → (result : Result (List Order) OrdersFault) →
+    AnswersReads now given result → AnswersTold text result
 told_by text now given consumed (Ok orders) answer = subst (λ t. AnswersText t (Ok orders)) (whole text now.to_come given consumed answer.0) answer.1
 told_by text now given consumed (Err Unread) answer = tt
 told_by text now given consumed (Err TooLong) (inl long) = inl (omega (arith, long, front text now.to_come given consumed))
@@ -71,5 +75,6 @@ told_by text now given consumed (Err TooLong) (inr many) = subst (λ t. AnswersT
 told_by text now given consumed (Err (Line n)) answer = subst (λ t. AnswersText t (Err (Line n))) (whole text now.to_come given consumed answer.0) answer.1
 told_by text now given consumed (Err Memory) answer = tt
 
-pub told : (before now : DeskState) (result : Result (List Order) OrdersFault) → ReadsOrders before now result → (text : List ℕ) → before.to_come ≡ Some text → AnswersTold text result
+pub told : (before now : DeskState) (result : Result (List Order) OrdersFault) → ReadsOrders before now result → (text : List ℕ) → before.to_come ≡ Some text →
+    AnswersTold text result
 told before now result reads text is = told_by text now reads.given (subst (λ o. Consumes o now.to_come reads.given) is reads.consumed) result reads.answer

@@ -6,7 +6,8 @@ use Rattle.command_words.proofs.drill.read_drill.Goals as goal
 pub returns-in-Ok-clause-ok : goal.returns-in-Ok-clause-ok
 returns-in-Ok-clause-ok c =
     let read = read_drill_rows _ _ _ c.in_ok-command.ensures c.in-Ok.ensures.matches in
-    found_ok _ _ _ _ _ c.ok_or.ensures.value c.drilled_of.ensures.some (λ d gives. record { taken = drill_taken _ _ c.in_ok-command.ensures c.in-Ok.ensures.kinds; gives = same_drill_texts _ _ _ _ _ read gives })
+    found_ok _ _ _ _ _ c.ok_or.ensures.value c.drilled_of.ensures.some
+    (λ d gives. record { taken = drill_taken _ _ c.in_ok-command.ensures c.in-Ok.ensures.kinds; gives = same_drill_texts _ _ _ _ _ read gives })
 
 pub returns-in-Ok-clause-usage : goal.returns-in-Ok-clause-usage
 returns-in-Ok-clause-usage c = λ usage seed calls s are.

@@ -6,7 +6,8 @@ use Rattle.command_words.proofs.run.read_options.Goals as goal
 pub returns-in-Ok-clause-ok : goal.returns-in-Ok-clause-ok
 returns-in-Ok-clause-ok c =
     let read = read_rows _ _ _ c.in_ok-command.ensures c.in-Ok.ensures.matches in
-    found_ok _ _ _ _ _ c.ok_or.ensures.value c.options_of.ensures.some (λ s gives. record { taken = taken _ _ c.in_ok-command.ensures c.in-Ok.ensures.kinds; gives = same_texts _ _ _ _ _ read gives })
+    found_ok _ _ _ _ _ c.ok_or.ensures.value c.options_of.ensures.some
+    (λ s gives. record { taken = taken _ _ c.in_ok-command.ensures c.in-Ok.ensures.kinds; gives = same_texts _ _ _ _ _ read gives })
 
 pub returns-in-Ok-clause-usage : goal.returns-in-Ok-clause-usage
 returns-in-Ok-clause-usage c = λ usage s are.

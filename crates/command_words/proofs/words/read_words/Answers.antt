@@ -11,6 +11,8 @@ returns-in-Some-options_of-4-clause-usage c = λ usage. no_live _ _ c.in-Some-op
 
 pub returns-clause-usage : goal.returns-clause-usage
 returns-clause-usage c = λ usage.
-    no_asked _ (c.in_default.ensures.none (search rules)) (c.in_default-options_of.ensures.none (search rules)) (c.in_default-options_of-2.ensures.none (search rules))
+    no_asked _ (c.in_default.ensures.none (search rules)) (c.in_default-options_of.ensures.none (search rules))
+    (c.in_default-options_of-2.ensures.none (search rules))
     (c.in_default-options_of-3.ensures.none (search rules)) (c.in_default-options_of-4.ensures.none (search rules))
-    (c.in_default-read_tool.ensures.none (search rules)) (c.in_default-read_follow.ensures.none (search rules)) (c.read_slot.ensures.none (not_found _ _ _ c.ok_or.ensures.value usage))
+    (c.in_default-read_tool.ensures.none (search rules)) (c.in_default-read_follow.ensures.none (search rules))
+    (c.read_slot.ensures.none (not_found _ _ _ c.ok_or.ensures.value usage))

@@ -10,10 +10,12 @@ loop-filled-preserved g c = record {
 }
 
 pub returns-in-Ok-eq0 : goal.returns-in-Ok-eq0
-returns-in-Ok-eq0 g c = filled_ended _ _ _ _ c.loop-filled.block c.read.new.buf c.loop-filled.invariant.this c.loop-filled-test.true (search rules) c.in-Ok-eq0.field-0 c.in-Ok-eq0.ensures c.in-Ok-eq0.field-0-test
+returns-in-Ok-eq0 g c = filled_ended _ _ _ _ c.loop-filled.block c.read.new.buf c.loop-filled.invariant.this c.loop-filled-test.true
+    (search rules) c.in-Ok-eq0.field-0 c.in-Ok-eq0.ensures c.in-Ok-eq0.field-0-test
 
 pub returns-in-Err : goal.returns-in-Err
-returns-in-Err g c = filled_failed _ _ _ _ c.loop-filled.block c.read.new.buf c.loop-filled.invariant.this c.loop-filled-test.true (search rules) c.in-Err.field-0 c.in-Err.ensures
+returns-in-Err g c = filled_failed _ _ _ _ c.loop-filled.block c.read.new.buf c.loop-filled.invariant.this c.loop-filled-test.true
+    (search rules) c.in-Err.field-0 c.in-Err.ensures
 
 pub returns : goal.returns
 returns g c = filled_all _ _ _ _ c.loop-filled.invariant.this c.loop-filled-test.false
