@@ -50,7 +50,7 @@ pub record ResumesRun (orders : List Order) (pace : Pace) (mark : MarkView) (bef
   -- and there are such runs, to any number of periods, of orders that are in range, wherever the lines tell what they hold
   pub there : AreOrders orders → AreTold before → (periods : ℕ) → (r : Run) × IsRunOver orders periods (is_listed report.failed) before now r
 
--- A resumed run whose mark isn't that of these lines and orders: at the mark's period, before which it wrote nothing, `call`
+-- A resumed run whose mark isn't that of these lines and orders: it wrote nothing, and at the mark's period `call`
 -- is the least number of a call that the mark has otherwise, or that only one of them has.
 pub record FindsDifference (orders : List Order) (mark : MarkView) (before now : ℕ → Side → LineState) (call : ℕ) : Type 0 where
   -- the lines that failed
