@@ -62,6 +62,11 @@ pub record FindsDifference (orders : List Order) (mark : MarkView) (before now :
   pub unwritten : (c : ℕ) (s : Side) → IsOutgoing s → now c s ≡ before c s
   -- so it is for the run to the mark's period over what the lines gave;
   pub differs : (r : Run) → IsRunOver orders mark.period (is_listed failed) before now r → IsLeastDifference mark.calls (marked_calls r) call
+  -- of the incoming lines of a call that they didn't end exactly the octets of its periods were read,
+  pub up_read : (r : Run) → IsRunOver orders mark.period (is_listed failed) before now r →
+      (c : ℕ) → IsOpened r c → is_listed failed c Up ≡ false → IsCutOff (cause_in r c) → IsReadTo (now c Up) (40 * length (periods_in r c)) (r.lines c).up
+  pub pcm_read : (r : Run) → IsRunOver orders mark.period (is_listed failed) before now r →
+      (c : ℕ) → IsOpened r c → is_listed failed c Pcm ≡ false → IsCutOff (cause_in r c) → IsReadTo (now c Pcm) (160 * length (periods_in r c)) (r.lines c).pcm
   -- the lines of calls that it doesn't open are as they were
   pub others : (r : Run) → IsRunOver orders mark.period (is_listed failed) before now r → (c : ℕ) (s : Side) → (IsOpened r c → ⊥) → now c s ≡ before c s
   -- and there is such a run of orders that are in range, wherever the lines tell what they hold
