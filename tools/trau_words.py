@@ -105,7 +105,7 @@ OPTIONS = (
     Option("--workers", 1, 64, 4, "the threads that work the calls"),
     Option("--batch", 1, 250, 50, "the most periods that are read, worked and written at a time"),
     Option("--slice", 1, 250, 5, "the periods of a call that are worked in one go"),
-    Option("--periods", 1, 4294967295, 4294967295, "the period at which the run ends"),
+    Option("--periods", 1, 4294967295, 4294967295, "the period at which the run ends; resume goes to its mark's where that is greater"),
 )
 
 DRILL_OPTIONS = (
@@ -146,7 +146,11 @@ STATUSES = (
     Status(4, "standard output failed while the command's text went out", "the beginning of the text"),
     Status(5, "want of memory", "no memory"),
     Status(6, "a line failed", "line C up failed, with the line's side; the report, which names the lines"),
-    Status(7, "the orders have more than 1,048,576 octets or more than 65,536 lines", "orders too long"),
+    Status(
+        7,
+        "the orders have more than 1,048,576 octets or more than 65,536 lines, or with their mark more than 1,310,720 octets",
+        "orders too long",
+    ),
     Status(8, "a block isn't a good speech frame", "relay refused N, decode refused N"),
     Status(9, "the mark isn't that of this run: call C is the least that differs", "save differs C"),
     Status(125, "(of the script trau) there is no program to run", ""),

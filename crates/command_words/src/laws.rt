@@ -1,4 +1,5 @@
-// What makes "what the words ask for" one thing.
+//! What makes "what the words ask for" one thing.
+
 ghost use Rattle.command_words.specs.Asking.{AskForOne};
 
 /// Words ask for one thing at most.

@@ -1,4 +1,5 @@
-// The words of the four tools.
+//! The words of the four tools.
+
 ghost use Rattle.std.specs.Prelude.{◌≡◌, ℕ, ◌≤◌, IfSome, IsNone, map, string_bytes};
 ghost use Rattle.command_words.specs.declared.asked.Asked.{Asked as OneAsked};
 ghost use Rattle.command_words.specs.Asking.{AsksTool, IsToolOn};

@@ -18,7 +18,9 @@ const MOST_OCTETS: usize = 1_310_720;
 /// A mark, and the orders behind it.
 #[derive(Drop)]
 pub struct MarkedOrders {
+    /// The mark, with which the text begins.
     pub mark: Mark,
+    /// The orders that the lines behind it spell.
     pub orders: Orders,
 }
 

@@ -1,4 +1,5 @@
-// A desk of which one call fails.
+//! A desk of which one call fails.
+
 ghost use Rattle.std.specs.Prelude.{None};
 ghost use Rattle.trau_io.specs.Desks.{DeskState};
 

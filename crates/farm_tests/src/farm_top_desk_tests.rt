@@ -1,4 +1,5 @@
-// The command `run` over two calls, of which the desk fails once at each of its first ten reads and writes: 20 runs.
+//! The command `run` over two calls, of which the desk fails once at each of its first ten reads and writes: 20 runs.
+
 use crate::desk::{FailingDesk, WRITTEN};
 use crate::lines::NONE;
 use crate::two_calls::{ORDERS, Outcome, calm, carry, carry_calm, is_written};

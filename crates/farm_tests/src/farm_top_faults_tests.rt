@@ -1,5 +1,6 @@
-// The command `run` over two calls, of which each line fails once at each of its first ten calls: 80 runs. Each is compared
-// with a run over the octets that were given, of which no call fails.
+//! The command `run` over two calls, of which each line fails once at each of its first ten calls: 80 runs. Each is compared
+//! with a run over the octets that were given, of which no call fails.
+
 use crate::lines::{NONE, line};
 use crate::two_calls::{OF_40, OF_160, Outcome, calm, carry_calm, lay};
 use std::alloc::Global;

@@ -1,4 +1,5 @@
-// The workers of a run: that they are several threads, and that calls are stolen half done. No clause says so.
+//! The workers of a run: that they are several threads, and that calls are stolen half done. No clause says so.
+
 use crate::farm_top_tests::carry;
 use crate::held::{Held, PAIRS};
 use crate::lines::{Laid, NONE, trunk_of};

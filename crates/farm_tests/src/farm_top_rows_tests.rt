@@ -1,4 +1,5 @@
-// The command `run` where a line is short or fails, or the desk: values that were worked by hand from the rules.
+//! The command `run` where a line is short or fails, or the desk: values that were worked by hand from the rules.
+
 use crate::farm_top_tests::{Outcome, carry, carry_at};
 use crate::lines::{Laid, NONE, line, put, trunk_of};
 use pool_run::OpenGate;

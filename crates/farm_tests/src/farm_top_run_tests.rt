@@ -1,4 +1,5 @@
-// The command `run`, with the lines and the orders in memory: what it answers, tells and writes.
+//! The command `run`, with the lines and the orders in memory: what it answers, tells and writes.
+
 use crate::farm_top_tests::{Outcome, carry};
 use crate::lines::{Laid, NONE, late_frames, line, put, trunk_of};
 use pool_run::OpenGate;

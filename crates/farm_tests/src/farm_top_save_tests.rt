@@ -60,7 +60,7 @@ static SAVES: [Row; 6] = [
         told: "save 3\ncall 1 from 0 out 102240 down 28958\norders\n",
         written: [120, 480],
     },
-    // An order at the last period isn't executed, and one before it closes the call.
+    // An order at the mark's period isn't executed, and one before it closes the call.
     Row {
         words: SAVE_3,
         text: "0 open 1\n3 close 1\n",
@@ -81,7 +81,7 @@ static SAVES: [Row; 6] = [
         told: "save 3\norders\n",
         written: [80, 320],
     },
-    // The last period is past all ends.
+    // The mark's period is past all ends.
     Row {
         words: &["save", "--periods", "4294967295"],
         text: "0 open 1\n",
@@ -115,7 +115,7 @@ static SAVES: [Row; 6] = [
     },
 ];
 
-static RESUMES: [Row; 14] = [
+static RESUMES: [Row; 15] = [
     // The octets of the fourth period alone, and the report of the whole run.
     Row {
         words: RESUME,
@@ -184,7 +184,7 @@ end period 3 calls 1 left 0
         told: "",
         written: [0, 0],
     },
-    // The call ends at the mark's period by its lines, and so isn't in the run to it by its end.
+    // A call whose lines end at the mark's period is in the mark, since the run's end goes before theirs.
     Row {
         words: RESUME,
         text: MARKED,
@@ -199,7 +199,7 @@ end period 3 calls 1 left 0
 ",
         written: [0, 0],
     },
-    // A line that fails before the mark's period makes the call another.
+    // A line that fails before the mark's period makes the call another, which the mark has.
     Row {
         words: RESUME,
         text: MARKED,
@@ -208,6 +208,23 @@ end period 3 calls 1 left 0
         desk_fails: NONE,
         status: 9,
         told: "save differs 1\n",
+        written: [0, 0],
+    },
+    // Where the mark hasn't the call, its fault before the mark's period is told.
+    Row {
+        words: RESUME,
+        text: "save 3\norders\n0 open 1\n2 close 1\n",
+        periods: 4,
+        fails: [0, NONE, NONE, NONE],
+        desk_fails: NONE,
+        status: 6,
+        told: "order 1 ok
+order 2 refused 2 call 1
+call 1 from 0 to 0 fault up
+counts 1 good 0 sid 0 invalid 0 bad 0 idle 0 other 0 miss 0 none 0 made 0
+line 1 up failed
+end period 0 calls 1 left 0
+",
         written: [0, 0],
     },
     // An outgoing line that fails behind it is told.
@@ -334,7 +351,7 @@ fn marks(rt: HostRuntime) {
 
 #[test]
 fn runs_from_a_mark_on(rt: HostRuntime) {
-    assert!(rt; come(&rt, rt.alloc(), &RESUMES) == 14);
+    assert!(rt; come(&rt, rt.alloc(), &RESUMES) == 15);
 }
 
 // What `resume` writes to Down and Out are the idle frame and silence of one period.

@@ -1,4 +1,5 @@
-// The commands of one call, with its lines in memory, where one call of the outside fails.
+//! The commands of one call, with its lines in memory, where one call of the outside fails.
+
 use crate::lines::{NONE, line, trunk_of};
 use farm_top::farm_top;
 use pool_run::{Gate, OpenGate};

@@ -1,4 +1,5 @@
-// A gate that shows that jobs are stolen half done: of three calls, by two workers.
+//! A gate that shows that jobs are stolen half done: of three calls, by two workers.
+
 use pool_run::Gate;
 use std::sync::atomic::{AtomicU32, Ordering};
 use std::thread;

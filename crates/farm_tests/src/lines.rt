@@ -1,4 +1,5 @@
-// Lines in memory, and what lies on them.
+//! Lines in memory, and what lies on them.
+
 use std::alloc::Global;
 use std::process::Abort;
 use trau_io::{Line, MemTrunk, Side};

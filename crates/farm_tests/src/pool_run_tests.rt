@@ -1,3 +1,5 @@
+//! The pool over jobs that write down how many places are left: each is finished as by one loop, in its place.
+
 ghost use Rattle.std.specs.Prelude.{◌≡◌, ◌≤◌, length, vec_len};
 
 use crate::held::{Held, PAIRS};

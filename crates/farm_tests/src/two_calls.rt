@@ -1,4 +1,5 @@
-// Two calls of 30 periods, which a bridge joins at period 4, in rounds of at most 7 periods.
+//! Two calls of 30 periods, which a bridge joins at period 4, in rounds of at most 7 periods.
+
 use crate::desk::FailingDesk;
 use crate::farm_top_tests::words_of;
 use crate::lines::{NONE, line, numbered, put};

@@ -53,7 +53,7 @@ RefusesOrders TooLong desk desk' status = EndsWith desk desk' (codes "orders too
 RefusesOrders (Line n) desk desk' status = EndsWith desk desk' (line_text n) 2 status ⊎ LacksMemory desk desk' status
 RefusesOrders Memory desk desk' status = LacksMemory desk desk' status
 
--- the status of a whole run, by the lines that its report lists as failed
+-- the status of a whole run, by the lines that failed
 abbrev pub status_of_run : List TheLine → ℕ
 status_of_run [] = 0
 status_of_run (line ∷ lines) = 6

@@ -1,4 +1,4 @@
--- Why the command `run` ends as it does, by its status (this project's profile).
+-- Why the commands `run` and `save` end as they do, by the status (this project's profile).
 use Rattle.std.specs.Prelude.{◌≡◌, ◌⊎◌, ℕ, ◌<◌, List, length, Some}
 use Rattle.std.specs.Io.KnownBytes.{Consumes, IsAtEnd}
 use Rattle.trau_io.specs.declared.line.Side.{Side}

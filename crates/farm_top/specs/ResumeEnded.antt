@@ -61,7 +61,7 @@ pub record ResumeEnded (mark : MarkView) (orders : List Order) (s : Settings) (b
   -- there are such runs, to any number of periods, of orders that are in range, wherever the lines tell what they hold
   pub there : AreOrders orders → AreTold before → (periods : ℕ) → (r : Run) × IsRunOver orders periods (is_listed failed) before now r
 
--- The mark isn't that of the run of these orders to its period, over what the lines gave, before which no outgoing line was used.
+-- The mark isn't that of the run of these orders to its period, over what the lines gave, and no outgoing line was used.
 pub record ResumeDiffers (mark : MarkView) (orders : List Order) (before now : ℕ → Side → LineState) (desk desk' : DeskState) : Type 0 where
   -- the least number of a call that the mark has otherwise, or that only one of them has
   pub call : ℕ

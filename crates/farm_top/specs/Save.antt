@@ -1,4 +1,4 @@
--- The command `save`: the orders, the run over the lines to its last period, and the mark of it (this project's profile).
+-- The command `save`: the orders, the run over the lines, and its mark at its end (this project's profile).
 use Rattle.std.specs.Prelude.{◌⊎◌, ℕ, List, [], ◌∷◌}
 use Rattle.std.specs.List.{flat_map}
 use Rattle.trau_io.specs.declared.line.Line.{Line}

@@ -165,7 +165,7 @@ fn carry_out<R: Threads + Wait + Sync, T: Trunk, D: Desk, G: Gate + Sync>(
 /// `trau_submux` (`split`, `merge`) and `ccu_end` (`follow`), and not of `farm_top`, which waits as a whole.
 ///
 /// The commands `save` and `resume` are a run in two parts, and have the options of `run`. `save`, which must have `--periods`,
-/// does what `run` does, and tells the mark of the run at its last period in place of the report: for each call that only the
+/// does what `run` does, and tells the mark of the run at its end in place of the report: for each call that only the
 /// run's end cut off, its number, its opening and the sums of the octets of its outgoing lines. Where a line failed it tells
 /// the lines that failed and no mark. `resume` reads a mark and behind it the orders, works the same recordings from the start,
 /// holds back the octets of the periods before the mark's, compares the mark there, and writes what follows; its report is that
@@ -195,14 +195,14 @@ fn carry_out<R: Threads + Wait + Sync, T: Trunk, D: Desk, G: Gate + Sync>(
 /// |---|---|---|
 /// | 0 | the incoming line was worked to its end, or to 4,294,967,295 blocks; the run or the drill ended and no line's count rose, also of `save` and `resume`; the live drill ended | `relay frames N`, `decode frames N`, `encode frames N left R`; `frames N left R` behind a line of text for each of its N yields; `split octets N left R`, `merge octets N left A B C D`; `follow frames N left R` behind a line of text for each of its N frames; the report; the mark; the report and the sums; the sums |
 /// | 1 | exactly where the words aren't those of a command (or 5, behind `run`, `save`, `resume`, `drill` and `live`) | `usage` |
-/// | 2 | a line of the orders isn't in their grammar, N being the first; of `resume` also a line of the mark, and then N counts the orders' lines from the first behind it | `orders line N`; `save line N` |
-/// | 3 | the desk failed while the orders were read | `orders unread` |
+/// | 2 | a line of the orders isn't in their grammar, N being the first, which `resume` counts from the first line behind the mark; of `resume` also a line of the mark, N being the first | `orders line N`; `save line N` |
+/// | 3 | the desk failed while the orders were read, or the mark before them | `orders unread` |
 /// | 4 | the desk failed while the command's text went out | a proper front of the command's text |
 /// | 5 | want of memory | `no memory` |
 /// | 6 | the count of a line of the command rose | `line C up failed`, with the line's side, behind the lines of text that `frames` or `follow` had told; the report; of `save` only its lines for the lines that failed |
 /// | 7 | the orders have more than 1,048,576 octets or more than 65,536 lines; of `resume` also the whole text more than 1,310,720 octets | `orders too long` |
 /// | 8 | only of `relay` and `decode`: a block of the uplink isn't a good speech frame, or the line ended inside it | `relay refused N`, `decode refused N`, N being the number of blocks before it |
-/// | 9 | only of `resume`: exactly where the mark's calls aren't those of the run to the mark's period, C being the least number that differs; no outgoing line was used | `save differs C` |
+/// | 9 | only of `resume`: exactly where (or 5) the mark's calls aren't those of the run to the mark's period, C being the least number that differs; no outgoing line was used | `save differs C` |
 ///
 /// Where several would be due in `run` or `save`, 3 goes before 7, 7 before 2, 2 before 4 and 4 before 6, and 5 may come in
 /// place of any but 3; after 2, 3 and 7 no line was used. So it is in `resume`, where 7 for the whole text goes before 2 for the
@@ -216,8 +216,8 @@ pub fn farm_top<R: Threads + Wait + Sync, T: Trunk, D: Desk, G: Gate + Sync>(
     desk: &mut D,
     gate: &G,
 ) -> u8
-    // Status 1 comes exactly where the words are no command's, and then no line is used. Behind `run`, `drill` and
-    // `live`, want of memory may come in its place.
+    // Status 1 comes exactly where the words are no command's, and then no line is used. Behind `run`, `save`, `resume`,
+    // `drill` and `live`, want of memory may come in its place.
     ensures usage { (AreCommand (spelled words.now) → ⊥) →
         (result ≡ 1) ⊎ (TakeOptions (spelled words.now) × LacksMemory (D.desk desk.old) (D.desk desk.new) result) }
     ensures usage_only { AreCommand (spelled words.now) → result ≢ 1 }
