@@ -13,7 +13,7 @@ pub record MarkView : Type 0 where
 abbrev pub NumbersRise : List MarkCall → Type 0
 NumbersRise calls = AllPairs (λ earlier later. earlier.call < later.call) calls
 
--- a call that may be live, that is open, at the start of a period: it has a call's number, and began before
+-- a call that may be live at the start of a period: it has a call's number, and began before
 pub record IsLive (period : ℕ) (call : MarkCall) : Type 0 where
   pub number : IsCallNumber call.call
   pub opened : call.from < period
