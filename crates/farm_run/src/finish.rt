@@ -9,7 +9,7 @@ ghost use Rattle.farm_run.specs.Ending.{AreShut};
 ghost use Rattle.farm_run.specs.Noted.{IsAtEnd};
 
 use crate::ends::end_all;
-use crate::facts::report;
+use crate::report::report;
 use crate::journal::Journal;
 use farm_report::Report;
 use farm_rounds::Farm;

@@ -5,7 +5,7 @@
 //! it the orders that were read and tells the report. A `stage` is a run at one of its clocks. `clock` goes from the orders of
 //! a period to a round of periods, and on to a later clock: `orders` has the orders of the clock executed and carried out,
 //! `ends` has the board told of the calls that end, `outgoing` writes the octets of a round, sums them, or holds them back, and
-//! `journal` (with `notes`) notes what the report needs to know of the past. `facts` makes the report of it, and `finish` ends a
+//! `journal` (with `notes`) notes what the report needs to know of the past. `report` makes the report of it, and `finish` ends a
 //! run with it; `marking` makes the calls of a mark. `running`, `saving` and `resuming` are the three ways to have a run,
 //! `pace` says how it is worked.
 //!
@@ -24,7 +24,6 @@
 
 mod clock;
 mod ends;
-mod facts;
 mod finish;
 mod journal;
 pub mod laws;
@@ -33,6 +32,7 @@ mod notes;
 mod orders;
 mod outgoing;
 mod pace;
+mod report;
 mod resuming;
 mod running;
 mod saving;

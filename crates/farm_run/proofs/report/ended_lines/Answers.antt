@@ -6,7 +6,7 @@ use Rattle.farm_rounds.specs.declared.tally.Tally.{Tally}
 use Rattle.farm_run.specs.Facts.{kept_in}
 use Rattle.farm_run.proofs.Ending.{no_end}
 use Rattle.farm_run.proofs.Reporting.{kept_value, ends_more, line_more}
-use Rattle.farm_run.proofs.facts.ended_lines.Goals as goal
+use Rattle.farm_run.proofs.report.ended_lines.Goals as goal
 
 pub loop-end-preserved : goal.loop-end-preserved
 loop-end-preserved c =

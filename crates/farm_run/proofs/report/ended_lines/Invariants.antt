@@ -2,7 +2,7 @@ use Rattle.std.proofs.Common.{◌≡◌, ℕ, Option, map, take}
 use Rattle.farm_report.specs.declared.report.CallLine.{CallLine}
 use Rattle.farm_rounds.specs.Histories.{CallHistory, GroupsStand}
 use Rattle.farm_run.specs.Facts.{kept_in, call_line}
-use Rattle.farm_run.proofs.facts.ended_lines.Given as goal
+use Rattle.farm_run.proofs.report.ended_lines.Given as goal
 
 abbrev pub invariant-loop-end : goal.invariant-loop-end
 invariant-loop-end l = record {

@@ -11,7 +11,7 @@ use Rattle.farm_run.specs.Journal.{JournalMemory}
 use Rattle.farm_run.specs.Facts.{kept_in, call_line, span_lines}
 use Rattle.farm_run.proofs.Reporting.{length-numbered}
 use Rattle.std.proofs.lemmas.Result.{IfOk-from_err}
-use Rattle.farm_run.proofs.facts.report.Goals as goal
+use Rattle.farm_run.proofs.report.report.Goals as goal
 
 pub returns-clause-replies : goal.returns-clause-replies
 returns-clause-replies c = c.in_ok-to_vec.ensures.items_if_clones_equal (λ x y h. h) ∙ c.replies.ensures

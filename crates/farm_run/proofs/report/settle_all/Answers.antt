@@ -6,7 +6,7 @@ use Rattle.farm_run.specs.Journal.{JournalMemory}
 use Rattle.farm_run.specs.Facts.{kept_in}
 use Rattle.farm_run.proofs.Ending.{no_end}
 use Rattle.farm_run.proofs.Reporting.{kept_value, settled_more}
-use Rattle.farm_run.proofs.facts.settle_all.Goals as goal
+use Rattle.farm_run.proofs.report.settle_all.Goals as goal
 
 pub loop-k-preserved : goal.loop-k-preserved
 loop-k-preserved c =

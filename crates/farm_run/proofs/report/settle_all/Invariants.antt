@@ -1,7 +1,7 @@
 use Rattle.std.proofs.Common.{◌≡◌, ℕ, Option, take}
 use Rattle.farm_rounds.specs.Histories.{CallHistory, GroupsStand}
 use Rattle.farm_run.specs.Facts.{kept_in, settled_each}
-use Rattle.farm_run.proofs.facts.settle_all.Given as goal
+use Rattle.farm_run.proofs.report.settle_all.Given as goal
 
 abbrev pub invariant-loop-k : goal.invariant-loop-k
 invariant-loop-k l = record {

@@ -1,6 +1,6 @@
 use Rattle.std.proofs.Common.{sym, ap, ◌∙◌, ◌++◌, append-nil, inl, inr}
 use Rattle.farm_run.proofs.Reporting.{no_lines}
-use Rattle.farm_run.proofs.facts.span_lines.Goals as goal
+use Rattle.farm_run.proofs.report.span_lines.Goals as goal
 
 pub returns : goal.returns
 returns c =
