@@ -31,7 +31,7 @@ use Rattle.farm_run.specs.Runs.{TellsFailed, IsRunOver, IsWritten, FailedShort, 
 use Rattle.farm_run.specs.Stages.{IsStage, IsFirst, HoldsBack, Reaches, SumsAt}
 use Rattle.farm_run.specs.Standing.{Standing, standing, GoesOn}
 use Rattle.farm_run.specs.Clock.{IsAtClock, WrittenFrom}
-use Rattle.farm_run.proofs.Clocks.{tells_none, flags_of, leaves_from}
+use Rattle.farm_run.proofs.Clocks.{tells_none, flags_of, up_rest, pcm_rest, leaves_from}
 use Rattle.farm_run.proofs.Cutting.{cut_at, cut_before, cut_behind}
 use Rattle.farm_run.proofs.Gaining.{none_out, none_down}
 use Rattle.farm_run.proofs.Marked.{entries_are}
@@ -106,6 +106,8 @@ module _ (os : List Order) (pace : Pace) (mark : MarkView) (o : Outgoing) (s m :
     reads = g.reads;
     unwritten = back.lines;
     differs = λ r run. subst (λ (xs : List MarkCall). IsLeastDifference mark.calls xs call) (entries ∙ marked_end os pace.batch first mid m g live rising sums r (over r run)) least;
+    up_read = λ r run. up_rest r m.board m.farm.groups m.farm.failed first mid (at_end os pace.batch first mid m g r (over r run));
+    pcm_read = λ r run. pcm_rest r m.board m.farm.groups m.farm.failed first mid (at_end os pace.batch first mid m g r (over r run));
     others = λ r run. let here = at_end os pace.batch first mid m g r (over r run) in here.lines.others;
     there = λ are told. there os pace.batch first mid m g are told mark.period;
   }

@@ -38,12 +38,12 @@ pub record IsSameWay (before now : Outgoing) : Type 0 where
   pub held : is_held now ≡ is_held before
   pub summed : is_summed now ≡ is_summed before
 
--- an outgoing line was given the octets, or it and its mark are as they were
+-- an outgoing line was given the octets, or it and how it stands in its seat are as they were
 abbrev pub Moves : LineState → LineState → Outlet → Outlet → List ℕ → Type 0
 Moves before now was stands octets = Gives before now was stands octets ⊎ ((now ≡ before) × (stands ≡ was))
 
--- So it is for the outgoing lines of a call; of its seat only their marks changed. If the marks told which counts had risen since
--- `first`, they still do.
+-- So it is for the outgoing lines of a call; of its seat only how they stand changed. If the seat told which counts had risen since
+-- `first`, it still does.
 pub record Settles (before now : Side → LineState) (s t : SeatMemory) : Type 0 where
   pub down : Moves (before Down) (now Down) s.place.down t.place.down (down_given s)
   pub out : Moves (before Out) (now Out) s.place.out t.place.out (out_given s)

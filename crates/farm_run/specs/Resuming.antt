@@ -50,7 +50,7 @@ pub record ResumesRun (orders : List Order) (pace : Pace) (mark : MarkView) (bef
   -- and there are such runs, to any number of periods, of orders that are in range, wherever the lines tell what they hold
   pub there : AreOrders orders → AreTold before → (periods : ℕ) → (r : Run) × IsRunOver orders periods (is_listed report.failed) before now r
 
--- A resumed run whose mark isn't that of these lines and orders: at the mark's period, before which it wrote nothing, `call`
+-- A resumed run whose mark isn't that of these lines and orders: it wrote nothing, and at the mark's period `call`
 -- is the least number of a call that the mark has otherwise, or that only one of them has.
 pub record FindsDifference (orders : List Order) (mark : MarkView) (before now : ℕ → Side → LineState) (call : ℕ) : Type 0 where
   -- the lines that failed
@@ -62,6 +62,11 @@ pub record FindsDifference (orders : List Order) (mark : MarkView) (before now :
   pub unwritten : (c : ℕ) (s : Side) → IsOutgoing s → now c s ≡ before c s
   -- so it is for the run to the mark's period over what the lines gave;
   pub differs : (r : Run) → IsRunOver orders mark.period (is_listed failed) before now r → IsLeastDifference mark.calls (marked_calls r) call
+  -- of the incoming lines of a call that they didn't end exactly the octets of its periods were read,
+  pub up_read : (r : Run) → IsRunOver orders mark.period (is_listed failed) before now r →
+      (c : ℕ) → IsOpened r c → is_listed failed c Up ≡ false → IsCutOff (cause_in r c) → IsReadTo (now c Up) (40 * length (periods_in r c)) (r.lines c).up
+  pub pcm_read : (r : Run) → IsRunOver orders mark.period (is_listed failed) before now r →
+      (c : ℕ) → IsOpened r c → is_listed failed c Pcm ≡ false → IsCutOff (cause_in r c) → IsReadTo (now c Pcm) (160 * length (periods_in r c)) (r.lines c).pcm
   -- the lines of calls that it doesn't open are as they were
   pub others : (r : Run) → IsRunOver orders mark.period (is_listed failed) before now r → (c : ℕ) (s : Side) → (IsOpened r c → ⊥) → now c s ≡ before c s
   -- and there is such a run of orders that are in range, wherever the lines tell what they hold

@@ -1,4 +1,4 @@
--- What a run leaves and marks that is kept at its last period, whatever fails (this project's profile). `before` are the
+-- What a run leaves and marks that is marked at its end, whatever fails (this project's profile). `before` are the
 -- lines before it, `now` those after it.
 use Rattle.std.specs.Prelude.{◌≡◌, ℕ, List}
 use Rattle.trau_io.specs.declared.line.Line.{Line}
@@ -17,7 +17,7 @@ pub record SavedView : Type 0 where
   pub failed : List Line
   pub mark : MarkView
 
--- A run of these orders that was carried to its last period and marked there.
+-- A run of these orders that was carried to its end and marked there.
 pub record Saves (orders : List Order) (pace : Pace) (before now : ℕ → Side → LineState) (saved : SavedView) : Type 0 where
   -- the lines that failed are told
   pub failed : TellsFailed before now saved.failed
@@ -31,6 +31,6 @@ pub record Saves (orders : List Order) (pace : Pace) (before now : ℕ → Side 
   pub short : (r : Run) → IsRunOver orders pace.periods (is_listed saved.failed) before now r → FailedShort r pace.batch (is_listed saved.failed)
   -- and there is such a run of orders that are in range, wherever the lines tell what they hold
   pub there : AreOrders orders → AreTold before → (r : Run) × IsRunOver orders pace.periods (is_listed saved.failed) before now r
-  -- wherever that is so or not, the mark is one that may be written: its period is the run's last, and its calls began before
+  -- wherever that is so or not, the mark is one that may be written: its period is that of the run's end, and its calls began before
   pub period : saved.mark.period ≡ pace.periods
   pub live : AreLive saved.mark.period saved.mark.calls

@@ -1,5 +1,5 @@
-//! The run of a farm: from orders and lines to what is written on the lines of all calls, and the report; kept at its last
-//! period, or resumed at such a mark.
+//! The run of a farm: from orders and lines to what is written on the lines of all calls, and the report; marked at its
+//! end, or resumed at such a mark.
 //!
 //! Above the board (`switchboard`) and the farm (`farm_rounds`), which it keeps in step, and below the top call, which hands
 //! it the orders that were read and tells the report. A `stage` is a run at one of its clocks. `clock` goes from the orders of
@@ -12,7 +12,7 @@
 //! `laws` says that there is a run whatever fails.
 //!
 //! Definitions: `specs/Runs.antt` (what a run leaves on the lines and reports, whatever fails), `specs/Saving.antt` and
-//! `specs/Resuming.antt` (the same of one that is kept, and of one that is resumed), `specs/Fronts.antt` (where want of memory
+//! `specs/Resuming.antt` (the same of one that is marked, and of one that is resumed), `specs/Fronts.antt` (where want of memory
 //! cut it short), `specs/Stages.antt` (one clock of a run, and how it gets to a later one), `specs/Standing.antt` (how a run
 //! goes on from clock to clock, and what a line gives in a round), `specs/Clock.antt` (what holds at its clock),
 //! `specs/Outgoing.antt` (what becomes of a round's octets), `specs/Match.antt` (what ties board and farm to each other, and to

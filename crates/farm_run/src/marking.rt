@@ -12,7 +12,7 @@ use farm_checkpoint::MarkCall;
 use std::alloc::{AllocError, Global};
 use trau_io::{Line, Side};
 
-// What is known of a call whose number is that of one.
+// What a mark says of a call.
 fn mark_call(stage: &Stage, call: u32) -> MarkCall
     requires { IsCallNumber call }
     ensures { result ≡ entry_of stage.now call }

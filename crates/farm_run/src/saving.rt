@@ -1,4 +1,4 @@
-//! A run that is kept at its last period.
+//! A run that is marked at its end.
 
 ghost use Rattle.std.specs.Prelude.{IfOk, OnErr};
 ghost use Rattle.farm_run.specs.Pace.{IsPace};
@@ -21,12 +21,12 @@ use std::thread::Threads;
 use trau_io::{Line, Trunk};
 use trau_orders::Orders;
 
-/// What is kept of a run that was worked to its last period. Contracts see the lines and the mark.
+/// What is kept of a run that was worked to its end. Contracts see the lines and the mark.
 #[derive(Drop)]
 pub struct Saved {
     /// The lines that failed, by call and then in the order up, pcm, down, out.
     pub failed: Vec<Line>,
-    /// Where the run stood at its last period.
+    /// Where the run stood at its end.
     pub mark: Mark,
 }
 
@@ -38,7 +38,7 @@ impl Model for Saved {
     ghost view = { λ s. record { failed = s.failed.items; mark = s.mark } };
 }
 
-/// Runs these orders over the lines of a trunk as `run` does, and marks where the run stands at its last period. An error
+/// Runs these orders over the lines of a trunk as `run` does, and marks where the run stands at its end. An error
 /// says that there was no memory. The run waits for its workers: that it returns isn't proved.
 pub fn save<R: Threads + Wait + Sync, T: Trunk, G: Gate + Sync>(
     rt: &R,

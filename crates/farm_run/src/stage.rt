@@ -17,7 +17,7 @@ pub(crate) struct Stage {
     pub(crate) farm: Farm,
     pub(crate) journal: Journal,
     pub(crate) outgoing: Outgoing,
-    /// The periods that were worked.
+    /// The period that it has come to.
     pub(crate) clock: u32,
 }
 
