@@ -13,3 +13,4 @@ mod ResumeReading
 mod Resuming
 mod Taking
 mod ToldRuns
+mod TwoParts

@@ -34,6 +34,7 @@ use Rattle.farm_top.specs.ResumeEnded.{JoinsMarked, ResumeDiffers, ResumeEnded, 
 use Rattle.farm_top.proofs.ResumeCausing.{marked_not_bad, same_mark, same_orders, taken_not_bad, taken_not_long}
 use Rattle.farm_top.proofs.Taking.{NotTaken, Taken, done_of, front_out, none_left, not_rose, read_out, status_out, whole_out}
 use Rattle.farm_top.proofs.ResumeCutting.{cut_none_from, cut_whole, due_of}
+use Rattle.farm_top.proofs.TwoParts.{both_stay, down_whole, out_whole, run_of_first}
 
 module _ (good : GoodOrBad) (one : SpellsOneList) (mark_good : NotGoodAndBad) (one_mark : HasOneMark) (s : Settings) (before now : ℕ → Side → LineState)
     (desk desk' : DeskState) (status : ℕ) (mark : MarkView) (orders : List Order) (told : TellsMarked mark orders desk)
@@ -179,18 +180,25 @@ module _ (good : GoodOrBad) (one : SpellsOneList) (mark_good : NotGoodAndBad) (o
     | inr (inr (inr none)) ↦ cut_none_from orders (max mark.period s.periods) mark.period before now none.stay
   ]
 
-  -- **It joins what the run to the mark's period writes.**
+  -- **What a run to the mark's period writes and what was gained here are together what one run writes.**
   pub joins : ((r : Run) (p : ℕ) → AreOrders r.orders → p ≤ r.periods → Joins r p) → (status ≡ 0) ⊎ (status ≡ 4) ⊎ (status ≡ 6) → NoneRose before now →
-      (r : Run) → IsRunOver orders (max mark.period s.periods) (λ c side. false) before now r → JoinsMarked r mark.period before now
+      (r : Run) → IsRunOver orders (max mark.period s.periods) (λ c side. false) before now r → JoinsMarked orders r mark.period before now
   joins law due none r over =
       let ran = (ran_to_end due).done in
       let e = none_listed before now ran.report.failed ran.resumes.failed none in
       let is = subst (λ (ls : List TheLine). IsRunOver orders (max mark.period s.periods) (is_listed ls) before now r) (sym e) over in
       let are : AreOrders orders = orders_known (text_lines told.rest) orders told.within.1 told.spelled in
+      let leaves = subst (λ (ls : List TheLine). LeavesFrom r mark.period (is_listed ls) before now) e (ran.resumes.leaves r is) in
+      let joined : Joins r mark.period =
+      law r mark.period (subst (λ (os : List Order). AreOrders os) (sym over.same_orders) are) (omega (arith, over.same_periods)) in
       record {
-        leaves = subst (λ (ls : List TheLine). LeavesFrom r mark.period (is_listed ls) before now) e (ran.resumes.leaves r is);
+        leaves = leaves;
         headline = subst (λ (ls : List TheLine). HeadlineFrom r mark.period (is_listed ls) before now) e (ran.headline r is);
-        joins = law r mark.period (subst (λ (os : List Order). AreOrders os) (sym over.same_orders) are) (omega (arith, over.same_periods));
+        joins = joined;
+        first_part = λ first saved. run_of_first r mark.period before now first saved joined orders (max mark.period s.periods) over;
+        out_together = λ first saved left. out_whole r mark.period before now first saved joined left leaves;
+        down_together = λ first saved left. down_whole r mark.period before now first saved joined left leaves;
+        others = λ first saved left. both_stay r mark.period before now first saved joined left leaves;
       }
 
   -- ---- where nothing fails

@@ -1,18 +1,21 @@
 -- What the command `resume` leaves where the desk tells a mark and orders, whatever fails (this project's profile).
-use Rattle.std.specs.Prelude.{◌≡◌, ◌≢◌, ◌⊎◌, ℕ, max, List, [], Some}
+use Rattle.std.specs.Prelude.{◌≡◌, ◌≢◌, ◌⊎◌, ℕ, max, List, ◌++◌, [], Some}
 use Rattle.std.specs.Io.KnownBytes.{Appends}
 use Rattle.trau_io.specs.declared.line.Line.{Line}
 use Rattle.trau_io.specs.declared.line.Side.{Side}
+use Rattle.trau_io.specs.declared.line.Side.TheVariants.{Down, Out}
 use Rattle.trau_io.specs.Lines.{LineState}
 use Rattle.trau_io.specs.Desks.{DeskState}
 use Rattle.trau_orders.specs.declared.order.Order.{Order}
 use Rattle.trau_orders.specs.Lists.{AreOrders}
 use Rattle.trau_orders.specs.Text.{text_lines, AreLines, IsWithin}
+use Rattle.round_lines.specs.Rounds.{IsIncoming}
 use Rattle.farm_checkpoint.specs.Marks.{MarkView}
 use Rattle.farm_orders.specs.Marked.{HasMark, IsShort}
-use Rattle.run_spec.specs.Run.{Run}
-use Rattle.run_spec.specs.Mark.{Joins, marked_calls}
-use Rattle.farm_run.specs.Runs.{AreTold, FailedShort, IsRunOver, KeepsSides, ReadsOn, TellsFailed, is_listed, none_fails}
+use Rattle.run_spec.specs.Run.{Run, IsOpened}
+use Rattle.run_spec.specs.Lines.{out_of_call, down_of_call}
+use Rattle.run_spec.specs.Mark.{Joins, cut_at, marked_calls}
+use Rattle.farm_run.specs.Runs.{AreTold, FailedShort, IsRunOver, KeepsSides, Leaves, ReadsOn, TellsFailed, is_listed, none_fails}
 use Rattle.farm_run.specs.Resuming.{FindsDifference, LeavesFrom}
 use Rattle.command_words.specs.declared.asked.Settings.{Settings}
 use Rattle.farm_top.specs.Farm.{TextOut, status_of_run}
@@ -74,8 +77,30 @@ pub record ResumeDiffers (mark : MarkView) (orders : List Order) (before now : �
   -- the text was read to its end
   pub all_read : desk'.to_come ≡ Some []
 
--- What a run leaves from the mark on where no line's count rises, and how it joins what the run to the mark's period writes.
-pub record JoinsMarked (r : Run) (from : ℕ) (before now : ℕ → Side → LineState) : Type 0 where
+-- A line gained these octets in two parts: a front of them from `first` to `saved`, and the others from `before` to `now`.
+pub record Together (first saved before now : LineState) (octets : List ℕ) : Type 0 where
+  pub front : List ℕ
+  pub rest : List ℕ
+  pub gained_first : Appends first.written saved.written front
+  pub gained : Appends before.written now.written rest
+  pub whole : front ++ rest ≡ octets
+
+-- What a run of these orders leaves from the mark on where no line's count rises, and that this and what the run to the mark's
+-- period leaves are together what one run writes. That first part is any run to the mark's period over lines whose incoming
+-- ones tell the same: `first` are its lines before it, `saved` those after it.
+pub record JoinsMarked (orders : List Order) (r : Run) (from : ℕ) (before now : ℕ → Side → LineState) : Type 0 where
   pub leaves : LeavesFrom r from none_fails before now
   pub headline : HeadlineFrom r from none_fails before now
   pub joins : Joins r from
+  -- the run of these orders over the lines of the first part is the whole run, cut at the mark's period
+  pub first_part : (first saved : ℕ → Side → LineState) → ((c : ℕ) (s : Side) → IsIncoming s → (first c s).to_come ≡ (before c s).to_come) →
+      IsRunOver orders from none_fails first saved (cut_at from r)
+  -- what the first part leaves on an outgoing line of a call that the whole run opens, and behind it what was gained here, are
+  -- what the whole run gives it
+  pub out_together : (first saved : ℕ → Side → LineState) → Leaves (cut_at from r) none_fails first saved → (c : ℕ) → IsOpened r c →
+      Together (first c Out) (saved c Out) (before c Out) (now c Out) (out_of_call r c)
+  pub down_together : (first saved : ℕ → Side → LineState) → Leaves (cut_at from r) none_fails first saved → (c : ℕ) → IsOpened r c →
+      Together (first c Down) (saved c Down) (before c Down) (now c Down) (down_of_call r c)
+  -- the lines of all other calls are as they were in both parts
+  pub others : (first saved : ℕ → Side → LineState) → Leaves (cut_at from r) none_fails first saved → (c : ℕ) (s : Side) → (IsOpened r c → ⊥) →
+      (saved c s ≡ first c s) × (now c s ≡ before c s)

@@ -287,13 +287,14 @@ pub fn farm_top<R: Threads + Wait + Sync, T: Trunk, D: Desk, G: Gate + Sync>(
         (mark : MarkView) (orders : List Order) → TellsMarked mark orders (D.desk desk.old) → result ≡ 5 →
         IsResumeCutShort orders (max mark.period s.periods) mark.period (T.lines trunk.old) (T.lines trunk.new) }
 
-    // Where no line's count rises, what `save` to the mark's period writes on a line of this run and what `resume` gains there are
-    // together what one run writes.
+    // Where no line's count rises: any run of the same orders to the mark's period, over lines whose incoming ones tell the same
+    // (that of `save`, by `save_leaves`), is this run, cut at this period; and what it leaves on a line, and behind that what
+    // was gained here, are together what the whole run writes there.
     ensures resume_joins { (s : Settings) → AsksForResume (spelled words.now) s →
         (mark : MarkView) (orders : List Order) → TellsMarked mark orders (D.desk desk.old) →
         NoneRose (T.lines trunk.old) (T.lines trunk.new) → (result ≡ 0) ⊎ (result ≡ 4) →
         (r : Run) → IsRunOver orders (max mark.period s.periods) none_fails (T.lines trunk.old) (T.lines trunk.new) r →
-        JoinsMarked r mark.period (T.lines trunk.old) (T.lines trunk.new) }
+        JoinsMarked orders r mark.period (T.lines trunk.old) (T.lines trunk.new) }
 
     // A drill uses no line of the trunk. Its text is a function of the seed, the calls and the periods. It never answers that a
     // line failed.
