@@ -9,8 +9,8 @@ ghost use Rattle.farm_run.specs.Ending.{AreShut};
 ghost use Rattle.farm_run.specs.Noted.{IsAtEnd};
 
 use crate::ends::end_all;
-use crate::report::report;
 use crate::journal::Journal;
+use crate::report::report;
 use farm_report::Report;
 use farm_rounds::Farm;
 use std::alloc::{AllocError, Global};
