@@ -18,7 +18,7 @@ use Rattle.rx_noise.specs.Mix.{mixed, mix_of}
 use Rattle.rx_handler.specs.Heard.{Heard, Good, Sid, Idle, Lost, heard_speech, heard_frame}
 use Rattle.rx_handler.specs.Origin.{Origin, NoFrame, GoodFrame, LostFrame, NoiseFrame, frame_of}
 use Rattle.rx_handler.specs.Effective.{is_anchor}
-use Rattle.rx_handler.specs.Past.{Anchor, NoAnchor, AtGood, AtSid, one_more, anchor_of, periods_of_fall, moved, start_from, old_of, origin_from, effective_of}
+use Rattle.rx_handler.specs.Past.{Anchor, NoAnchor, AtGood, AtSid, anchored, anchor_of, periods_of_fall, moved_to, start_from, old_of, origin_from, effective_of}
 use Rattle.call_leg.specs.Uplink.{Sighting, Nothing, Missed, Framed, heard_as, handed_fields}
 use Rattle.call_leg.specs.Periods.{CallPeriod, heard_of}
 use Rattle.call_heard.proofs.Shapes.{HasShape, length-bits260}
@@ -119,7 +119,7 @@ IsShapedAnchor NoAnchor = Unit {0}
 IsShapedAnchor (AtGood p since) = HasShape p
 IsShapedAnchor (AtSid q since) = HasShape q
 
-shaped-more : (y : Heard) (a : Anchor) → IsShapedAnchor a → IsShapedAnchor (one_more y a)
+shaped-more : (y : Heard) (a : Anchor) → IsShapedAnchor a → IsShapedAnchor (anchored y a)
 shaped-more y NoAnchor shape = tt
 shaped-more y (AtGood p since) shape = shape
 shaped-more y (AtSid q since) shape = shape
@@ -137,7 +137,7 @@ shape-start : (a : Anchor) (old : Fields → Fields) (q : Fields) → IsShapedAn
 shape-start NoAnchor old q anchor each shape = shape
 shape-start (AtGood p since) old q anchor each shape = shape
 shape-start (AtSid r since) old q anchor each shape =
-    cond_both (periods_of_fall since == 0) (moved (old r) r since) q HasShape (λ y. shape-mix (old r) r _ (each r anchor) anchor) (λ n. shape)
+    cond_both (periods_of_fall since == 0) (moved_to (old r) r since) q HasShape (λ y. shape-mix (old r) r _ (each r anchor) anchor) (λ n. shape)
 
 shape-old : (past : List Heard) → AreShaped past → (q : Fields) → HasShape q → HasShape (old_of past q)
 unfolding old_of

@@ -33,7 +33,7 @@ use Rattle.trau_alaw.specs.Period.{expanded}
 use Rattle.call_leg.specs.Who.{Who}
 use Rattle.call_leg.specs.Uplink.{handed_fields}
 use Rattle.call_leg.specs.Periods.{CallPeriod, pcm_of, quiet_now, handed_in, dtx_in, dtx_now, level_now}
-use Rattle.call_leg.specs.Settings.{Settings, later, period_with}
+use Rattle.call_leg.specs.Settings.{Settings, settings_later, period_with}
 use Rattle.call_leg.specs.Down.{CallFrame, down_period, down_periods, frames_of, coded_stretch, samples_of, coded_as, coded_after, coded_frames, speech, frame_now, down_now}
 use Rattle.call_leg.specs.Waiting.{bits_in}
 use Rattle.call_leg.specs.Memory.{CoderMemory, home_coder, DownMemory, LegMemory}
@@ -200,7 +200,7 @@ tried-inside who t past fs d h =
 -- **The downlink half of a period, on its side ..**
 pub half-stands : (who : Who) (ts : List CallPeriod) (now : Settings) (up pcm : List ℕ) (handed : Option (List ℕ)) (d : DownMemory) → length pcm ≡ 160 →
     is_some handed ≡ now.bridged →
-    Halfway who ts now up handed d → Between who (period_with now up pcm handed ∷ ts) (later now) (down_worked d pcm).1
+    Halfway who ts now up handed d → Between who (period_with now up pcm handed ∷ ts) (settings_later now) (down_worked d pcm).1
     × ((down_worked d pcm).0 ≡ down_now who (period_with now up pcm handed ∷ ts))
 unfolding down_worked
 half-stands who ts now up pcm handed d l b h =
@@ -220,7 +220,7 @@ half-stands who ts now up pcm handed d l b h =
 -- **.. and on the leg.**
 pub down-stands : (who : Who) (ts : List CallPeriod) (now : Settings) (up pcm : List ℕ) (handed : Option (List ℕ)) (m : LegMemory) → length pcm ≡ 160 →
     is_some handed ≡ now.bridged →
-    Midway who ts now up handed m → Stands who (period_with now up pcm handed ∷ ts) (later now) (with_down m (down_worked m.down pcm).1)
+    Midway who ts now up handed m → Stands who (period_with now up pcm handed ∷ ts) (settings_later now) (with_down m (down_worked m.down pcm).1)
     × ((down_worked m.down pcm).0 ≡ down_now who (period_with now up pcm handed ∷ ts))
 down-stands who ts now up pcm handed m l b h =
     let half = half-stands who ts now up pcm handed m.down l b h.down in (

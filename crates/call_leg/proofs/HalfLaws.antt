@@ -28,15 +28,15 @@ use Rattle.trau_alaw.specs.declared.Law.{Law}
 use Rattle.call_leg.specs.Who.{Who}
 use Rattle.call_leg.specs.Uplink.{Sighting, Nothing, Missed, Framed, sighting_in, heard_as, field_by, field_of, dtxd_by, is_quiet, handed_fields}
 use Rattle.call_leg.specs.Periods.{CallPeriod, ups_of, sighting_after, heard_of}
-use Rattle.call_leg.specs.Settings.{Settings, epoch_now, later, without_bridge, period_with}
+use Rattle.call_leg.specs.Settings.{Settings, epoch_now, settings_later, without_bridge, period_with}
 use Rattle.call_leg.specs.Counted.{counted}
 use Rattle.call_leg.specs.Out.{plain_with, plain_stretch, out_of}
 use Rattle.call_leg.specs.Down.{down_now}
 use Rattle.call_leg.specs.Memory.{DownMemory, LegMemory}
 use Rattle.call_leg.specs.Places.{Halfway, Between}
 use Rattle.call_leg.specs.Stands.{Stands}
-use Rattle.call_leg.specs.Step.{asked, after_sighting, played, up_worked, after_handing, bridge_over, frame_made, frame_tried, with_framer, down_worked}
-use Rattle.call_leg.specs.Halves.{UpMemory, up_of, joined, Note, dtx_by, dtx_told, note_of, note_in, up_turned, noted, handed_to, down_turned, up_unbridged, item_of, handed_bits, UpStands}
+use Rattle.call_leg.specs.Step.{after_asking, after_sighting, played, up_worked, after_handing, bridge_over, frame_made, frame_tried, with_framer, down_worked}
+use Rattle.call_leg.specs.Halves.{UpMemory, up_of, joined, Note, dtx_by, dtx_told, note_of, note_in, up_turned, noted, with_handed, down_turned, up_unbridged, item_of, handed_bits, UpStands}
 use Rattle.call_leg.proofs.Bridges.{halfway-short, hand-stands, ends}
 use Rattle.call_leg.proofs.Upward.{plain-more, up-out}
 use Rattle.call_leg.proofs.UpLaws.{played-stands, hear-stands, found_in, hears}
@@ -68,7 +68,7 @@ noted-is d Missed e = ap (λ a. heard_by d a d.dtxd (is_quiet e)) (ask-none d.al
 noted-is d (Framed w) e = go w.kind w.align w.dtxd
   where
     go : (k : Kind) (field : ℕ) (t : Bool) → heard_by d (after_ask d.align (unwrap_or (field_by k field) 0)) (unwrap_or (dtx_by k t) d.dtxd) (is_quiet e)
-        ≡ heard_by d (asked d.align (field_by k field)) (dtxd_by k t d.dtxd) (is_quiet e)
+        ≡ heard_by d (after_asking d.align (field_by k field)) (dtxd_by k t d.dtxd) (is_quiet e)
     go kinds.Speech field t = refl
     go kinds.Idle field t = refl
     go kinds.Other field t = ap (λ a. heard_by d a d.dtxd (is_quiet e)) (ask-none d.align)
@@ -93,7 +93,7 @@ halves-worked m up =
 
 pub turn-stands : (who : Who) (ts : List CallPeriod) (now : Settings) (up pcm : List ℕ) (handed : Option (List ℕ)) (u : UpMemory) → length up ≡ 40 →
     is_some handed ≡ now.bridged →
-    UpStands who ts now u → UpStands who (period_with now up pcm handed ∷ ts) (later now) (up_turned u up).2
+    UpStands who ts now u → UpStands who (period_with now up pcm handed ∷ ts) (settings_later now) (up_turned u up).2
 unfolding up_turned
 turn-stands who ts now up pcm handed u l b h =
     let found = search.next_period u.search up in
@@ -140,7 +140,7 @@ up_off-stands who ts now u h = record { law = h.law; search = h.search; rx = h.r
 
 -- a note is heard, and the partner's effective frame handed over
 pub halfway_from : (who : Who) (ts : List CallPeriod) (now : Settings) (up : List ℕ) (d : DownMemory) (item : Option EffectiveFields) → Between who ts now d →
-    Halfway who ts now up (handed_bits item) (handed_to (noted d (note_in who.number ts up)) item)
+    Halfway who ts now up (handed_bits item) (with_handed (noted d (note_in who.number ts up)) item)
 halfway_from who ts now up d item h = go item
   where
     e : EffectiveFields
@@ -150,7 +150,7 @@ halfway_from who ts now up d item h = go item
     heard = subst (Halfway who ts now up None) (sym (noted-is d (sighting_after ts up) e))
         (hear-stands who ts now up (sighting_after ts up) (is_quiet e) d refl refl h)
 
-    go : (item : Option EffectiveFields) → Halfway who ts now up (handed_bits item) (handed_to (noted d (note_in who.number ts up)) item)
+    go : (item : Option EffectiveFields) → Halfway who ts now up (handed_bits item) (with_handed (noted d (note_in who.number ts up)) item)
     go None = heard
     go (Some f) =
         let x = bits260 (handed_fields f) in
@@ -165,13 +165,13 @@ is_some-handed (Some e) = refl
 pub down_turn-stands : (who : Who) (ts : List CallPeriod) (now : Settings) (up pcm : List ℕ) (n : Note) (item : Option EffectiveFields) (d : DownMemory) →
     length pcm ≡ 160 →
     Between who ts now d → n ≡ note_in who.number ts up → is_some item ≡ now.bridged →
-    Between who (period_with now up pcm (handed_bits item) ∷ ts) (later now) (down_turned d n item pcm).1
+    Between who (period_with now up pcm (handed_bits item) ∷ ts) (settings_later now) (down_turned d n item pcm).1
     × ((down_turned d n item pcm).0 ≡ down_now who (period_with now up pcm (handed_bits item) ∷ ts))
 unfolding down_turned
 down_turn-stands who ts now up pcm n item d l h e b =
     let t = period_with now up pcm (handed_bits item) in
-    subst (λ (k : Note). let w = down_worked (handed_to (noted d k) item) pcm in Between who (t ∷ ts) (later now) w.1 × (w.0 ≡ down_now who (t ∷ ts))) (sym e)
-    (half-stands who ts now up pcm (handed_bits item) (handed_to (noted d (note_in who.number ts up)) item) l (is_some-handed item ∙ b)
+    subst (λ (k : Note). let w = down_worked (with_handed (noted d k) item) pcm in Between who (t ∷ ts) (settings_later now) w.1 × (w.0 ≡ down_now who (t ∷ ts))) (sym e)
+    (half-stands who ts now up pcm (handed_bits item) (with_handed (noted d (note_in who.number ts up)) item) l (is_some-handed item ∙ b)
     (halfway_from who ts now up d item h))
 
 pub down_off-stands : (who : Who) (ts : List CallPeriod) (now : Settings) (d : DownMemory) → d.bridged ≡ true → Between who ts now d →
@@ -218,10 +218,10 @@ is_some-item None = refl
 is_some-item (Some e) = refl
 
 pub down_turn-step : (d0 d1 d2 : DownMemory) (n : Note) (item : Option EffectiveFields) (pcm bits : List ℕ) (d3 : DownMemory) → d1 ≡ noted d0 n →
-    d2 ≡ handed_to d1 item → down_worked d2 pcm ≡ (bits, d3) →
+    d2 ≡ with_handed d1 item → down_worked d2 pcm ≡ (bits, d3) →
     down_turned d0 n item pcm ≡ (bits, d3)
 unfolding down_turned
-down_turn-step d0 d1 d2 n item pcm bits d3 a b c = ap (λ d. down_worked (handed_to d item) pcm) (sym a) ∙ ap (λ d. down_worked d pcm) (sym b) ∙ c
+down_turn-step d0 d1 d2 n item pcm bits d3 a b c = ap (λ d. down_worked (with_handed d item) pcm) (sym a) ∙ ap (λ d. down_worked d pcm) (sym b) ∙ c
 
 -- ---- a bridge stays on or off over a period
 
@@ -233,13 +233,13 @@ tried-keeps : (d : DownMemory) → (frame_tried d).bridged ≡ d.bridged
 unfolding frame_made
 tried-keeps d = cond_both (nat_le 160 (length d.framer.held)) (frame_made d) d (λ (m : DownMemory). m.bridged ≡ d.bridged) (λ y. refl) (λ n. refl)
 
-handed-keeps : (d : DownMemory) (item : Option EffectiveFields) → (handed_to d item).bridged ≡ d.bridged
+handed-keeps : (d : DownMemory) (item : Option EffectiveFields) → (with_handed d item).bridged ≡ d.bridged
 handed-keeps d None = refl
 handed-keeps d (Some e) = refl
 
 pub down-keeps : (d : DownMemory) (n : Note) (item : Option EffectiveFields) (pcm : List ℕ) → (down_turned d n item pcm).1.bridged ≡ d.bridged
 unfolding down_turned down_worked
 down-keeps d n item pcm =
-    let h = handed_to (noted d n) item in
+    let h = with_handed (noted d n) item in
     let put = with_framer h (after_put h.framer pcm) in
     tried-keeps (frame_tried put) ∙ tried-keeps put ∙ handed-keeps (noted d n) item

@@ -12,7 +12,7 @@ use Rattle.call_leg.specs.Who.{Who}
 use Rattle.call_leg.specs.Periods.{CallPeriod, pcm_of, bridges_begun}
 use Rattle.call_leg.specs.Down.{down_period, down_periods, frames_of, coded_stretch, down_made}
 use Rattle.call_leg.specs.Waiting.{Waits}
-use Rattle.call_leg.specs.Settings.{Settings, epoch_now, later, period_with}
+use Rattle.call_leg.specs.Settings.{Settings, epoch_now, settings_later, period_with}
 use Rattle.call_leg.specs.Memory.{DownMemory}
 use Rattle.call_leg.specs.Places.{CoderStands, Halfway, Between, carried, in_u32}
 use Rattle.call_leg.proofs.Inside.{Inside}
@@ -147,7 +147,7 @@ pub leave : (who : Who) (ts : List CallPeriod) (now : Settings) (up : List ℕ) 
     ((pcm0 line : List ℕ) (out start : ℕ) → Holds pcm0 line out start d2.framer → Holds pcm0 line (out + 320) start d3.framer) →
     d3.law ≡ d2.law → d3.align ≡ d2.align → d3.waiting ≡ d2.waiting → d3.coder ≡ d2.coder → d3.level ≡ d2.level → d3.mode ≡ d2.mode → d3.dtxd ≡ d2.dtxd →
     d3.bridged ≡ d2.bridged → d3.sent ≡ d2.sent → d3.made ≡ d2.made →
-    Between who (period_with now up pcm handed ∷ ts) (later now) d3
+    Between who (period_with now up pcm handed ∷ ts) (settings_later now) d3
 leave who ts now up handed pcm d d2 b h i d3 pl la al qu co lv md ul br sn mn =
     let t : CallPeriod = period_with now up pcm handed in
     let long = i.long in

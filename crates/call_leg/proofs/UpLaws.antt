@@ -29,7 +29,7 @@ use Rattle.call_leg.specs.Down.{down_periods, frames_of}
 use Rattle.call_leg.specs.Memory.{DownMemory, LegMemory}
 use Rattle.call_leg.specs.Places.{Halfway, Between}
 use Rattle.call_leg.specs.Stands.{Stands, Midway}
-use Rattle.call_leg.specs.Step.{asked, after_sighting, played_frame, played_none, played, up_worked}
+use Rattle.call_leg.specs.Step.{after_asking, after_sighting, played_frame, played_none, played, up_worked}
 use Rattle.call_leg.proofs.Upward.{sighted, up-midway, up-out}
 
 -- ---- what is played out
@@ -49,12 +49,12 @@ played-stands law (Made p) alone past m h = played-plain law p past m alone h
 
 -- ---- what the downlink side hears
 
--- a field is asked
-asked-kept : (m : AlignMemory) (field : Option ℕ) (fields : List (Option ℕ)) → m.kept ≡ latest_ask fields → (asked m field).kept ≡ latest_ask (field ∷ fields)
+-- a field is after_asking
+asked-kept : (m : AlignMemory) (field : Option ℕ) (fields : List (Option ℕ)) → m.kept ≡ latest_ask fields → (after_asking m field).kept ≡ latest_ask (field ∷ fields)
 asked-kept m None fields e = e
 asked-kept m (Some field) fields e = ap (λ o. asked_then field o) e
 
-asked-frozen : (m : AlignMemory) (field : Option ℕ) → (asked m field).frozen ≡ m.frozen
+asked-frozen : (m : AlignMemory) (field : Option ℕ) → (after_asking m field).frozen ≡ m.frozen
 asked-frozen m None = refl
 asked-frozen m (Some field) = refl
 

@@ -88,13 +88,13 @@ abbrev pub noted : DownMemory → Note → DownMemory
 noted d n = record d { align = align.after_ask d.align n.ask; dtxd = unwrap_or n.dtx d.dtxd; quiet = is_quiet n.eff }
 
 -- the partner's effective frame is handed over, if there is one
-abbrev pub handed_to : DownMemory → Option EffectiveFields → DownMemory
-handed_to d None = d
-handed_to d (Some e) = after_handing d e
+abbrev pub with_handed : DownMemory → Option EffectiveFields → DownMemory
+with_handed d None = d
+with_handed d (Some e) = after_handing d e
 
 -- the bits of the Down line, and the memory after them
 unfoldable pub down_turned : DownMemory → Note → Option EffectiveFields → List ℕ → List ℕ × DownMemory
-down_turned d n item pcm = down_worked (handed_to (noted d n) item) pcm
+down_turned d n item pcm = down_worked (with_handed (noted d n) item) pcm
 
 -- the bridge of an uplink half is off
 abbrev pub up_unbridged : UpMemory → UpMemory

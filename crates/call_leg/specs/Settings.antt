@@ -16,13 +16,13 @@ abbrev pub new_settings : Settings
 new_settings = record { level = pos 256; mode = Uplink; starts = false; bridged = false }
 
 -- after one more period
-abbrev pub later : Settings → Settings
-later now = record { level = now.level; mode = now.mode; starts = false; bridged = now.bridged }
+abbrev pub settings_later : Settings → Settings
+settings_later now = record { level = now.level; mode = now.mode; starts = false; bridged = now.bridged }
 
 -- after k more
 abbrev pub settings_at : ℕ → Settings → Settings
 settings_at zero now = now
-settings_at (suc k) now = later (settings_at k now)
+settings_at (suc k) now = settings_later (settings_at k now)
 
 -- after each order
 abbrev pub with_level : ℤ → Settings → Settings

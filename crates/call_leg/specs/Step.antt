@@ -32,14 +32,14 @@ use Rattle.call_leg.specs.Places.{in_u32, in_u64}
 
 -- ---- the uplink half
 
--- a field is asked, if there is one
-abbrev pub asked : align.AlignMemory → Option ℕ → align.AlignMemory
-asked m None = m
-asked m (Some field) = after_ask m field
+-- a field is after_asking, if there is one
+abbrev pub after_asking : align.AlignMemory → Option ℕ → align.AlignMemory
+after_asking m None = m
+after_asking m (Some field) = after_ask m field
 
 -- what the downlink side takes from the uplink
 abbrev pub after_sighting : DownMemory → Sighting → Bool → DownMemory
-after_sighting d s quiet = record d { align = asked d.align (field_of s); dtxd = dtxd_after s d.dtxd; quiet = quiet }
+after_sighting d s quiet = record d { align = after_asking d.align (field_of s); dtxd = dtxd_after s d.dtxd; quiet = quiet }
 
 -- the octets of a frame that is decoded, and of a period in which none is
 abbrev pub played_frame : Law → decoder.DecoderMemory → Fields → List ℕ × decoder.DecoderMemory

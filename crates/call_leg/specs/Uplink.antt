@@ -2,7 +2,7 @@
 use Rattle.std.specs.Prelude.{ℕ, Bool, true, false, Option, Some, None}
 use Rattle.trau_frame.specs.declared.frames.Kind.{Kind}
 use Rattle.trau_frame.specs.declared.frames.Kind.TheVariants as kinds
-use Rattle.trau_frame.specs.UpFrame.{UpWords, words_in, words_of}
+use Rattle.trau_frame.specs.UpFrame.{UpWords, words_in, up_words_of}
 use Rattle.trau_params.specs.Fields.{Fields}
 use Rattle.trau_params.specs.Silence.{silent_fields}
 use Rattle.frame_sync.specs.declared.yields.Yield.{Yield}
@@ -26,7 +26,7 @@ sighting_in (Some (yields.Frame p bits)) = Framed (words_in bits)
 abbrev pub sighting_of : Found → Sighting
 sighting_of found.Nothing = Nothing
 sighting_of found.Missed = Missed
-sighting_of (found.Frame f) = Framed (words_of f)
+sighting_of (found.Frame f) = Framed (up_words_of f)
 
 -- what the receive side hears
 abbrev pub heard_as : Sighting → Heard

@@ -5,8 +5,8 @@ ghost use Rattle.down_framer.specs.Memory.{IsBetweenPeriods};
 ghost use Rattle.rx_handler.specs.State.{effective_fields};
 ghost use Rattle.call_leg.specs.Uplink.{sighting_of};
 ghost use Rattle.call_leg.specs.Memory.{home_down, down_memory};
-ghost use Rattle.call_leg.specs.Step.{asked, after_sighting, after_handing, bridge_begun, bridge_over};
-ghost use Rattle.call_leg.specs.Halves.{noted, handed_to, item_of};
+ghost use Rattle.call_leg.specs.Step.{after_asking, after_sighting, after_handing, bridge_begun, bridge_over};
+ghost use Rattle.call_leg.specs.Halves.{noted, with_handed, item_of};
 
 use crate::coder::Coder;
 use crate::down_frames::thaw_at_end;
@@ -25,7 +25,7 @@ use trau_orders::DtxMode;
 
 // Asks for the shift of a field, if there is one.
 fn ask(align: &mut Align, field: Option<u8>)
-    ensures { align.new ≡ asked align.old field }
+    ensures { align.new ≡ after_asking align.old field }
 {
     if let Some(field) = field {
         align.ask(field);
@@ -91,7 +91,7 @@ impl DownSide {
     /// Takes the partner's effective frame of the period, if there is one.
     pub(crate) fn hand_item(&mut self, item: Option<&Effective>)
         ensures framer { self.new.framer ≡ self.old.framer }
-        ensures step { down_memory self.new ≡ handed_to (down_memory self.old) (item_of (option_copied item.entry)) }
+        ensures step { down_memory self.new ≡ with_handed (down_memory self.old) (item_of (option_copied item.entry)) }
     {
         if let Some(e) = item {
             self.hand(e);

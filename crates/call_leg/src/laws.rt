@@ -13,7 +13,7 @@ ghost use Rattle.down_framer.specs.ByNumber.{numbered_of, AreInTime};
 ghost use Rattle.call_leg.specs.Who.{Who};
 ghost use Rattle.call_leg.specs.Uplink.{handed_fields};
 ghost use Rattle.call_leg.specs.Periods.{CallPeriod, effective_now};
-ghost use Rattle.call_leg.specs.Settings.{Settings, new_settings, later, with_level, with_mode, with_bridge, without_bridge, period_with};
+ghost use Rattle.call_leg.specs.Settings.{Settings, new_settings, settings_later, with_level, with_mode, with_bridge, without_bridge, period_with};
 ghost use Rattle.call_leg.specs.Out.{out_of};
 ghost use Rattle.call_leg.specs.Down.{down_periods, frames_of, down_made, down_now, down_line};
 ghost use Rattle.call_leg.specs.Numbered.{first_frames, frame_start};
@@ -66,7 +66,7 @@ pub fn the_handing_over_stands()
 pub fn the_downlink_half_stands()
     ensures { (who : Who) (ts : List CallPeriod) (now : Settings) (up pcm : List ℕ) (handed : Option (List ℕ)) (m : LegMemory) → length pcm ≡ 160 → is_some handed ≡ now.bridged →
         Midway who ts now up handed m →
-        Stands who (period_with now up pcm handed ∷ ts) (later now) (with_down m (down_worked m.down pcm).1)
+        Stands who (period_with now up pcm handed ∷ ts) (settings_later now) (with_down m (down_worked m.down pcm).1)
         × ((down_worked m.down pcm).0 ≡ down_now who (period_with now up pcm handed ∷ ts)) }
 {}
 
@@ -74,7 +74,7 @@ pub fn the_downlink_half_stands()
 /// line.
 pub fn the_period_stands()
     ensures stands { (up pcm : List ℕ) (m : LegMemory) → length up ≡ 40 → length pcm ≡ 160 → OfItsCall m (λ who ts now.
-        now.bridged ≡ false → Stands who (period_with now up pcm None ∷ ts) (later now) (period_worked m up pcm).2) }
+        now.bridged ≡ false → Stands who (period_with now up pcm None ∷ ts) (settings_later now) (period_worked m up pcm).2) }
     ensures out { (up pcm : List ℕ) (m : LegMemory) → length up ≡ 40 → length pcm ≡ 160 → OfItsCall m (λ who ts now.
         now.bridged ≡ false → (period_worked m up pcm).0 ≡ out_of who (period_with now up pcm None ∷ ts)) }
     ensures down { (up pcm : List ℕ) (m : LegMemory) → length up ≡ 40 → length pcm ≡ 160 → OfItsCall m (λ who ts now.

@@ -9,7 +9,7 @@ ghost use Rattle.down_framer.specs.Made.{handed_due};
 ghost use Rattle.call_leg.specs.Who.{Who};
 ghost use Rattle.call_leg.specs.Uplink.{handed_fields};
 ghost use Rattle.call_leg.specs.Periods.{CallPeriod, effective_now};
-ghost use Rattle.call_leg.specs.Settings.{Settings, new_settings, later, with_level, with_mode, with_bridge, without_bridge, period_with};
+ghost use Rattle.call_leg.specs.Settings.{Settings, new_settings, settings_later, with_level, with_mode, with_bridge, without_bridge, period_with};
 ghost use Rattle.call_leg.specs.Counted.{call_counts};
 ghost use Rattle.call_leg.specs.Out.{out_of};
 ghost use Rattle.call_leg.specs.Down.{down_periods, frames_of, down_now};
@@ -125,7 +125,7 @@ impl Leg {
         // After the uplink half of a call's next period, and within a bridge the handing over, the period is worked ..
         ensures history { (who : Who) (ts : List CallPeriod) (now : Settings) (up : List ℕ) (handed : Option (List ℕ)) →
             is_some handed ≡ now.bridged → Midway who ts now up handed self.old →
-            Stands who (period_with now up pcm.now handed ∷ ts) (later now) self.new }
+            Stands who (period_with now up pcm.now handed ∷ ts) (settings_later now) self.new }
 
         // .. and its bits are those of the call.
         ensures down { (who : Who) (ts : List CallPeriod) (now : Settings) (up : List ℕ) (handed : Option (List ℕ)) →
@@ -147,7 +147,7 @@ impl Leg {
         ensures step { period_worked self.old up.now pcm.now ≡ (out.new, bits_of down.new, self.new) }
         ensures periods { periods_of_leg self.new ≡ periods_of_leg self.old + 1 }
         ensures history { OfItsCall self.old (λ who ts now.
-            now.bridged ≡ false → Stands who (period_with now up.now pcm.now None ∷ ts) (later now) self.new) }
+            now.bridged ≡ false → Stands who (period_with now up.now pcm.now None ∷ ts) (settings_later now) self.new) }
         ensures out { OfItsCall self.old (λ who ts now.
             now.bridged ≡ false → out.new ≡ out_of who (period_with now up.now pcm.now None ∷ ts)) }
         ensures down { OfItsCall self.old (λ who ts now.

@@ -4,7 +4,7 @@ ghost use Rattle.std.specs.Prelude.{◌≡◌, ◌≤◌, ◌<◌, ◌+◌, ℕ,
 ghost use Rattle.trau_bits.specs.Bits.{bits_of};
 ghost use Rattle.call_leg.specs.Who.{Who};
 ghost use Rattle.call_leg.specs.Periods.{CallPeriod};
-ghost use Rattle.call_leg.specs.Settings.{Settings, later, without_bridge, period_with};
+ghost use Rattle.call_leg.specs.Settings.{Settings, settings_later, without_bridge, period_with};
 ghost use Rattle.call_leg.specs.Out.{out_of};
 ghost use Rattle.call_leg.specs.Down.{down_now};
 ghost use Rattle.call_leg.specs.Places.{Between};
@@ -88,7 +88,7 @@ impl UpLeg {
         // After the periods of any call, whatever octets of the Pcm line and whatever handed bits its next one has, the
         // half stands for the call with that period more ..
         ensures history { (pcm : List ℕ) (handed : Option (List ℕ)) → OfItsUp self.old (λ who ts now. is_some handed ≡ now.bridged →
-            UpStands who (period_with now up.now pcm handed ∷ ts) (later now) self.new) }
+            UpStands who (period_with now up.now pcm handed ∷ ts) (settings_later now) self.new) }
 
         // .. and its note and its octets are those of the call.
         ensures note { OfItsUp self.old (λ who ts now. result ≡ note_in who.number ts up.now) }
@@ -150,7 +150,7 @@ impl DownLeg {
         // the half stands for the call with that period more ..
         ensures history { (who : Who) (ts : List CallPeriod) (now : Settings) (up : List ℕ) → Between who ts now self.old → note.now ≡ note_in who.number ts up →
             is_some item.entry ≡ now.bridged →
-            Between who (period_with now up pcm.now (handed_bits (item_of (option_copied item.entry))) ∷ ts) (later now) self.new }
+            Between who (period_with now up pcm.now (handed_bits (item_of (option_copied item.entry))) ∷ ts) (settings_later now) self.new }
 
         // .. and its bits are those of the call.
         ensures down { (who : Who) (ts : List CallPeriod) (now : Settings) (up : List ℕ) → Between who ts now self.old → note.now ≡ note_in who.number ts up →

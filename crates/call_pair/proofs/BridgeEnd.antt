@@ -2,7 +2,7 @@
 use Rattle.std.proofs.Common.{◌≡◌, ◌==◌, ◌&&◌, ℕ, suc, ◌<◌, ◌≤◌, ltb, Bool, true, false, if◌then◌else◌, Option, List, refl, sym, ap, subst, ◌∙◌, ⊎_elim, arith}
 use Rattle.std.proofs.Math.Bool.{and-true, and-false}
 use Rattle.std.proofs.lemmas.Bool.{cases_lt}
-use Rattle.call_leg.specs.Settings.{Settings, later, settings_at, without_bridge, period_with}
+use Rattle.call_leg.specs.Settings.{Settings, settings_later, settings_at, without_bridge, period_with}
 use Rattle.call_pair.specs.History.{settings_past}
 use Rattle.call_pair.proofs.Places.{is_below, not_below, is_same, is_past, is_before}
 use Rattle.call_pair.proofs.RunsAlone.{still-bridged}
@@ -30,10 +30,10 @@ set-flag m k now = ⊎_elim
     (cases_lt k m)
 
 -- after a place of a half, those that its history has for the next one
-pub set-next : (m k : ℕ) (now : Settings) → later (set_for m k now) ≡ settings_past (suc k) m now
+pub set-next : (m k : ℕ) (now : Settings) → settings_later (set_for m k now) ≡ settings_past (suc k) m now
 set-next m k now = ⊎_elim
-    (λ (l : k < m). ap later (set-within m k now l) ∙ sym (set-past (suc k) m now false (not_below m (suc k) (omega arith))))
-    (λ (g : m ≤ k). ap later (set-behind m k now g) ∙ sym (set-past (suc k) m now true (is_below m (suc k) (omega arith))))
+    (λ (l : k < m). ap settings_later (set-within m k now l) ∙ sym (set-past (suc k) m now false (not_below m (suc k) (omega arith))))
+    (λ (g : m ≤ k). ap settings_later (set-behind m k now g) ∙ sym (set-past (suc k) m now true (is_below m (suc k) (omega arith))))
     (cases_lt k m)
 
 -- a period has the level, the mode and the start of a bridge, whether it goes on or not

@@ -6,7 +6,7 @@ use Rattle.rx_handler.specs.Origin.{EffectiveFields}
 use Rattle.call_leg.specs.Memory.{DownMemory}
 use Rattle.call_leg.specs.Uplink.{handed_fields}
 use Rattle.call_leg.specs.Periods.{CallPeriod}
-use Rattle.call_leg.specs.Settings.{Settings, later, settings_at, period_with}
+use Rattle.call_leg.specs.Settings.{Settings, settings_later, settings_at, period_with}
 use Rattle.call_leg.specs.Step.{bridge_over}
 use Rattle.call_leg.specs.Down.{down_now}
 use Rattle.call_leg.specs.Places.{Between}
@@ -16,7 +16,7 @@ use Rattle.call_leg.proofs.HalfLaws.{down_turn-stands, down_off-stands}
 use Rattle.call_pair.specs.Memory.{IoMemory, HalfMemory}
 use Rattle.call_pair.specs.Places.{pcm_at, written}
 use Rattle.call_pair.specs.History.{Start, who_of, settings_past, Begins}
-use Rattle.call_pair.specs.Phases.{CallMemory, down_before, item_if, frame_at, first_phase, second_phase, half_run}
+use Rattle.call_pair.specs.Phases.{CallMemory, down_before, item_if, effective_in, first_phase, second_phase, half_run}
 use Rattle.call_pair.specs.Told.{Speaks, HalfRuns, history_of, ups_in, pcms_in}
 use Rattle.call_pair.proofs.Lengths.{length-down_octets}
 use Rattle.call_pair.proofs.Octets.{written-seam}
@@ -40,7 +40,7 @@ module _ (s : Start) (h : HalfMemory) (m : ℕ) (b : Begins s h) where
     given_to k = handed_run (history_of s) frames k
 
     items-end : EndsAt (history_of s) m s.io.given given_to
-    items-end k l = if-some (s.now.bridged && ltb k (length frames)) (bits260 (handed_fields (frame_at k frames)))
+    items-end k l = if-some (s.now.bridged && ltb k (length frames)) (bits260 (handed_fields (effective_in k frames)))
         ∙ ap (λ (n : ℕ). s.now.bridged && ltb k n) long
       where
         if-some : (b : Bool) (x : List ℕ) → is_some (if b then Some x else None) ≡ b
@@ -94,7 +94,7 @@ module _ (s : Start) (h : HalfMemory) (m : ℕ) (b : Begins s h) where
           (subst (λ (set : Settings). let w = down_turned (half_at k) (told m h k).0 (item k) (pcm_at k s.io) in Between (who_of s) (had (suc k)) set w.1
           × (w.0 ≡ down_now (who_of s) (had (suc k)))) (set-next m k s.now)
           (subst (λ (p : CallPeriod). let w = down_turned (half_at k) (told m h k).0 (item k) (pcm_at k s.io) in Between (who_of s) (p ∷ had k)
-          (later (set_for m k s.now)) w.1 × (w.0 ≡ down_now (who_of s) (p ∷ had k))) (period-is k r) t))
+          (settings_later (set_for m k s.now)) w.1 × (w.0 ≡ down_now (who_of s) (p ∷ had k))) (period-is k r) t))
 
       downs-stand : (k : ℕ) → k ≤ s.io.given → Between (who_of s) (had k) (settings_past k m s.now) (downs m (taken frames) h k)
       unfolding downs

@@ -4,7 +4,7 @@ use Rattle.trau_bits.specs.Bits.{octets_of}
 use Rattle.rx_handler.specs.Origin.{EffectiveFields}
 use Rattle.call_leg.specs.Memory.{DownMemory, LegMemory}
 use Rattle.call_leg.specs.Step.{up_worked, with_down, after_handing, bridge_over, down_worked}
-use Rattle.call_leg.specs.Halves.{UpMemory, joined, up_turned, noted, handed_to, down_turned, up_unbridged}
+use Rattle.call_leg.specs.Halves.{UpMemory, joined, up_turned, noted, with_handed, down_turned, up_unbridged}
 use Rattle.call_leg.proofs.HalfLaws.{halves-worked}
 use Rattle.call_pair.specs.Memory.{IoMemory, HalfMemory}
 use Rattle.call_pair.specs.Places.{up_at, pcm_at, with_out, with_place}
@@ -55,7 +55,7 @@ effective-joined m u d io e =
     (before-flag m io.done u d e))
 
 -- a frame is handed over where the leg is bridged
-item-handed : (b : Bool) (d : DownMemory) (e : EffectiveFields) → (if b then after_handing d e else d) ≡ handed_to d (item_if b e)
+item-handed : (b : Bool) (d : DownMemory) (e : EffectiveFields) → (if b then after_handing d e else d) ≡ with_handed d (item_if b e)
 item-handed true d e = refl
 item-handed false d e = refl
 

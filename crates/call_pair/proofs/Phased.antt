@@ -12,7 +12,7 @@ use Rattle.call_pair.specs.declared.job.Job.TheVariants.{One, Two}
 use Rattle.call_pair.specs.Places.{pcm_at, with_place, has_place}
 use Rattle.call_pair.specs.Turn.{effective, half_turned_if}
 use Rattle.call_pair.specs.Jobs.{job_left, after_turns, finished}
-use Rattle.call_pair.specs.Phases.{CallMemory, down_before, item_if, frame_at, call_turned, after_call_turns, call_left, call_finished, turned_down, starting, with_partner, second_phase, half_in, frames_in, effs, half_run}
+use Rattle.call_pair.specs.Phases.{CallMemory, down_before, item_if, effective_in, call_turned, after_call_turns, periods_left, call_finished, turned_down, starting, with_partner, second_phase, half_in, frames_in, effs, half_run}
 use Rattle.call_pair.specs.declared.call_job.Phase.TheVariants.{First, Second}
 use Rattle.call_pair.proofs.Places.{is_below}
 use Rattle.call_pair.proofs.Turns.{turned_is}
@@ -65,7 +65,7 @@ first-run m h (suc n) k e = ap (after_call_turns n) (first-step m h k (omega ari
 pub first-finished : (m : ℕ) (h : HalfMemory) → h.io.done ≡ 0 → call_finished (starting m h) ≡ first_after m h h.io.given
 unfolding ups outs notes
 first-finished m h e =
-    let n : call_left (starting m h) ≡ h.io.given = omega arith in
+    let n : periods_left (starting m h) ≡ h.io.given = omega arith in
     ap (λ (i : ℕ). after_call_turns i (starting m h)) n
     ∙ ap (λ (i : ℕ). after_call_turns h.io.given (record (starting m h) { io = io_from h h.io.out h.io.down i })) e
     ∙ first-run m h h.io.given 0 (omega arith)
@@ -73,7 +73,7 @@ first-finished m h e =
 -- ---- the second
 
 abbrev pub taken : List EffectiveFields → ℕ → EffectiveFields
-taken frames k = frame_at k frames
+taken frames k = effective_in k frames
 
 abbrev pub second_after : ℕ → List EffectiveFields → HalfMemory → ℕ → CallMemory
 second_after m frames h k = record {
@@ -95,7 +95,7 @@ second-step m frames h k l =
     let c = down_before m k (downs m (taken frames) h k) in
     turned_is (second_after m frames h k) true (is_below k h.io.given l)
     ∙ ap (λ (note : Note).
-    let w = down_turned c note (item_if c.bridged (frame_at k frames)) (pcm_at k h.io) in
+    let w = down_turned c note (item_if c.bridged (effective_in k frames)) (pcm_at k h.io) in
     record (second_after m frames h k) { down = w.1; io = with_place (io_from h (outs m h h.io.given) (lines m (taken frames) h k) k) (octets_of w.0) })
     (note-is m h h.io.given k (record { eff = Quiet; ask = 0; dtx = None }) l)
     ∙ ap (λ (n : ℕ). record (second_after m frames h (suc k)) { io = io_from h (outs m h h.io.given) (lines m (taken frames) h (suc k)) n }) next

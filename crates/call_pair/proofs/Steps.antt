@@ -6,7 +6,7 @@ use Rattle.call_leg.specs.Memory.{LegMemory}
 use Rattle.rx_handler.specs.Origin.{EffectiveFields}
 use Rattle.call_leg.specs.Uplink.{handed_fields}
 use Rattle.call_leg.specs.Periods.{CallPeriod, effective_now}
-use Rattle.call_leg.specs.Settings.{Settings, later, without_bridge, period_with}
+use Rattle.call_leg.specs.Settings.{Settings, settings_later, without_bridge, period_with}
 use Rattle.call_leg.specs.Step.{up_worked, with_down, after_handing, down_worked, period_worked}
 use Rattle.call_leg.proofs.UpLaws.{up-stands, up-effective, up-plays}
 use Rattle.call_leg.proofs.DownLaws.{handing-stands, down-stands}
@@ -81,7 +81,7 @@ turned-ends m e h on t =
 -- a period that lies in no bridge
 pub alone-worked : (s : Start) (k : ℕ) (ts : List CallPeriod) (now : Settings) (h : HalfMemory) → IsIo s.io → k ≤ length ts → k < s.io.given → now.bridged
     ≡ false →
-    HasWorked s k ts now h → HasWorked s (suc k) (period_with now (up_at k s.io) (pcm_at k s.io) None ∷ ts) (later now) (alone h)
+    HasWorked s k ts now h → HasWorked s (suc k) (period_with now (up_at k s.io) (pcm_at k s.io) None ∷ ts) (settings_later now) (alone h)
 alone-worked s k ts now h room enough below b w =
     let who = who_of s in
     let up = up_at k s.io in
@@ -90,7 +90,7 @@ alone-worked s k ts now h room enough below b w =
     let first = up_worked h.leg up in
     let last = down-stands who ts now up pcm None first.2 (length-pcm_at s.io k room below) (sym b)
     (up-stands who ts now up h.leg (length-up_at s.io k room below) w.leg) in
-    subst (λ (io : IoMemory). HasWorked s (suc k) (t ∷ ts) (later now) (alone (record { leg = h.leg; io = io }))) (sym w.io) (record {
+    subst (λ (io : IoMemory). HasWorked s (suc k) (t ∷ ts) (settings_later now) (alone (record { leg = h.leg; io = io }))) (sym w.io) (record {
       io = io_more s k ts t first.1 (down_worked first.2.down pcm).0 enough (up-plays who ts now up pcm None h.leg (length-up_at s.io k room below)
           (sym b) w.leg) last.1;
       leg = last.0;
@@ -106,7 +106,7 @@ effective-is s k ts now h room below w =
 -- a period within a bridge
 pub bridged-worked : (s : Start) (k : ℕ) (ts : List CallPeriod) (now : Settings) (h : HalfMemory) (e : EffectiveFields) → IsIo s.io → k ≤ length ts →
     k < s.io.given → now.bridged ≡ true →
-    HasWorked s k ts now h → HasWorked s (suc k) (period_with now (up_at k s.io) (pcm_at k s.io) (Some (bits260 (handed_fields e))) ∷ ts) (later now)
+    HasWorked s k ts now h → HasWorked s (suc k) (period_with now (up_at k s.io) (pcm_at k s.io) (Some (bits260 (handed_fields e))) ∷ ts) (settings_later now)
     (bridged h e)
 bridged-worked s k ts now h e room enough below b w =
     let who = who_of s in
@@ -118,7 +118,7 @@ bridged-worked s k ts now h e room enough below b w =
     let mid = with_down first.2 (after_handing first.2.down e) in
     let last = down-stands who ts now up pcm handed mid (length-pcm_at s.io k room below) (sym b)
     (handing-stands who ts now up e first.2 (up-stands who ts now up h.leg (length-up_at s.io k room below) w.leg)) in
-    subst (λ (io : IoMemory). HasWorked s (suc k) (t ∷ ts) (later now) (bridged (record { leg = h.leg; io = io }) e)) (sym w.io) (record {
+    subst (λ (io : IoMemory). HasWorked s (suc k) (t ∷ ts) (settings_later now) (bridged (record { leg = h.leg; io = io }) e)) (sym w.io) (record {
       io = io_more s k ts t first.1 (down_worked mid.down pcm).0 enough (up-plays who ts now up pcm handed h.leg (length-up_at s.io k room below) (sym b) w.leg)
           last.1;
       leg = last.0;
@@ -132,22 +132,22 @@ left_alone-is h others b e = ap (λ (x : Bool). alone (record { leg = if x then 
 -- the first period after the partner's places
 pub first_left-worked : (s : Start) (k others : ℕ) (ts : List CallPeriod) (now : Settings) (h : HalfMemory) → IsIo s.io → k ≤ length ts → k < s.io.given →
     k ≡ others → now.bridged ≡ true →
-    HasWorked s k ts now h → HasWorked s (suc k) (period_with now (up_at k s.io) (pcm_at k s.io) None ∷ ts) (without_bridge (later now)) (left_alone h others)
+    HasWorked s k ts now h → HasWorked s (suc k) (period_with now (up_at k s.io) (pcm_at k s.io) None ∷ ts) (without_bridge (settings_later now)) (left_alone h others)
 first_left-worked s k others ts now h room enough below e b w =
     let test : (h.io.done == others) ≡ true = is_same h.io.done others (ap (λ (io : IoMemory). io.done) w.io ∙ e) in
     let off : HasWorked s k ts (without_bridge now) (record { leg = unbridged h.leg; io = h.io }) =
     record { io = w.io; leg = end-stands (who_of s) ts now h.leg b w.leg } in
-    subst (HasWorked s (suc k) (period_with now (up_at k s.io) (pcm_at k s.io) None ∷ ts) (without_bridge (later now))) (sym (left_alone-is h others true test))
+    subst (HasWorked s (suc k) (period_with now (up_at k s.io) (pcm_at k s.io) None ∷ ts) (without_bridge (settings_later now))) (sym (left_alone-is h others true test))
     (alone-worked s k ts (without_bridge now) (record { leg = unbridged h.leg; io = h.io }) room enough below refl off)
 
--- a later one
+-- a settings_later one
 pub later_left-worked : (s : Start) (k others : ℕ) (ts : List CallPeriod) (now : Settings) (h : HalfMemory) → IsIo s.io → k ≤ length ts → k < s.io.given →
     others < k →
-    HasWorked s k ts (without_bridge now) h → HasWorked s (suc k) (period_with now (up_at k s.io) (pcm_at k s.io) None ∷ ts) (without_bridge (later now))
+    HasWorked s k ts (without_bridge now) h → HasWorked s (suc k) (period_with now (up_at k s.io) (pcm_at k s.io) None ∷ ts) (without_bridge (settings_later now))
     (left_alone h others)
 later_left-worked s k others ts now h room enough below past w =
     let done : h.io.done ≡ k = ap (λ (io : IoMemory). io.done) w.io in
     let test : (h.io.done == others) ≡ false = is_past h.io.done others (subst (λ (n : ℕ). others < n) (sym done) past) in
-    subst (HasWorked s (suc k) (period_with now (up_at k s.io) (pcm_at k s.io) None ∷ ts) (without_bridge (later now)))
+    subst (HasWorked s (suc k) (period_with now (up_at k s.io) (pcm_at k s.io) None ∷ ts) (without_bridge (settings_later now)))
     (sym (left_alone-is h others false test))
     (alone-worked s k ts (without_bridge now) h room enough below refl w)

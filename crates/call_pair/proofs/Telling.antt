@@ -11,7 +11,7 @@ use Rattle.call_pair.specs.Places.{up_at, pcm_at}
 use Rattle.call_pair.specs.declared.job.Job.TheVariants.{One, Two}
 use Rattle.call_pair.specs.Jobs.{finished}
 use Rattle.call_pair.specs.History.{Start, handed_at, bridged_periods, Begins}
-use Rattle.call_pair.specs.Phases.{frame_at, first_phase, second_phase, half_run, frames_in, effs}
+use Rattle.call_pair.specs.Phases.{effective_in, first_phase, second_phase, half_run, frames_in, effs}
 use Rattle.call_pair.specs.Told.{Hears, Speaks, OneRuns, TwoRun, history_of, ups_in, pcms_in}
 use Rattle.call_pair.proofs.Places.{is_below, not_below}
 use Rattle.call_pair.proofs.Runs.{handed-none, handed-some}
@@ -84,7 +84,7 @@ handed-ends a b on k l =
 
 -- the frames that a half hands over are those of its call's history
 pub frames-told : (a b : Start) (g h : HalfMemory) → Begins a g → Begins b h → a.now.bridged ≡ true → b.now.bridged ≡ true →
-    let m = min g.io.given h.io.given in (k : ℕ) → k < m → frame_at k (effs m g) ≡ (note_in a.io.call (bridged_periods k a b) (up_at k a.io)).eff
+    let m = min g.io.given h.io.given in (k : ℕ) → k < m → effective_in k (effs m g) ≡ (note_in a.io.call (bridged_periods k a b) (up_at k a.io)).eff
 frames-told a b g h s t on too k l =
     let m = min g.io.given h.io.given in
     let n : g.io.given ≡ a.io.given = ap (λ (io : IoMemory). io.given) s.io in

@@ -9,7 +9,7 @@ use Rattle.call_pair.specs.declared.job.Job.TheVariants.{One, Two}
 use Rattle.call_pair.specs.Places.{has_place}
 use Rattle.call_pair.specs.Turn.{effective, half_turned_if, turned}
 use Rattle.call_pair.specs.Jobs.{after_turns, has_call}
-use Rattle.call_pair.specs.Phases.{CallMemory, place_in, call_turned, after_call_turns, call_left, call_finished}
+use Rattle.call_pair.specs.Phases.{CallMemory, phase_place, call_turned, after_call_turns, periods_left, call_finished}
 use Rattle.call_pair.specs.declared.call_job.Phase.{Phase}
 use Rattle.call_pair.specs.declared.call_job.Phase.TheVariants.{First, Second}
 
@@ -45,23 +45,23 @@ pub none_left : (done given : ℕ) → ltb done given ≡ false → given - done
 none_left done given e = grind (arith, nat_tests)
 
 -- after a place there is one less left
-place_left : (p : Phase) (j : CallMemory) → has_place j.io ≡ true → call_left (place_in p j) + 1 ≡ call_left j
+place_left : (p : Phase) (j : CallMemory) → has_place j.io ≡ true → periods_left (phase_place p j) + 1 ≡ periods_left j
 place_left First j e = one_fewer j.io.done j.io.given e
 place_left Second j e = one_fewer j.io.done j.io.given e
 
-place_call : (p : Phase) (j : CallMemory) → (place_in p j).io.call ≡ j.io.call
+place_call : (p : Phase) (j : CallMemory) → (phase_place p j).io.call ≡ j.io.call
 place_call First j = refl
 place_call Second j = refl
 
 -- a turn works a place if there is one
-pub turned_is : (j : CallMemory) (b : Bool) → has_place j.io ≡ b → call_turned j ≡ (if b then place_in j.phase j else j)
-turned_is j b e = ap (λ (x : Bool). if x then place_in j.phase j else j) e
+pub turned_is : (j : CallMemory) (b : Bool) → has_place j.io ≡ b → call_turned j ≡ (if b then phase_place j.phase j else j)
+turned_is j b e = ap (λ (x : Bool). if x then phase_place j.phase j else j) e
 
-pub call_turn_left : (j : CallMemory) → 0 < call_left j → call_left (call_turned j) + 1 ≡ call_left j
+pub call_turn_left : (j : CallMemory) → 0 < periods_left j → periods_left (call_turned j) + 1 ≡ periods_left j
 call_turn_left j some = go (has_place j.io) refl
   where
-    go : (b : Bool) → has_place j.io ≡ b → call_left (call_turned j) + 1 ≡ call_left j
-    go true e = ap (λ m. call_left m + 1) (turned_is j true e) ∙ place_left j.phase j e
+    go : (b : Bool) → has_place j.io ≡ b → periods_left (call_turned j) + 1 ≡ periods_left j
+    go true e = ap (λ m. periods_left m + 1) (turned_is j true e) ∙ place_left j.phase j e
     go false e = absurd (omega (arith, none_left j.io.done j.io.given e))
 
 pub call_turn_call : (j : CallMemory) → (call_turned j).io.call ≡ j.io.call
@@ -76,8 +76,8 @@ run_more : (n m : ℕ) (j : CallMemory) → n + 1 ≡ m → after_call_turns n (
 run_more n zero j e = absurd (omega arith)
 run_more n (suc m) j e = let k : n ≡ m = omega arith in ap (λ (i : ℕ). after_call_turns i (call_turned j)) k
 
-pub call_turn_finish : (j : CallMemory) → 0 < call_left j → call_finished (call_turned j) ≡ call_finished j
-call_turn_finish j some = run_more (call_left (call_turned j)) (call_left j) j (call_turn_left j some)
+pub call_turn_finish : (j : CallMemory) → 0 < periods_left j → call_finished (call_turned j) ≡ call_finished j
+call_turn_finish j some = run_more (periods_left (call_turned j)) (periods_left j) j (call_turn_left j some)
 
 -- a place is left where one is
 pub some_left : (done given : ℕ) → ltb done given ≡ true → 0 < given - done

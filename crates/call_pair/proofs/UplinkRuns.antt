@@ -1,7 +1,7 @@
 -- What the first phase gives, for every history of its call.
 use Rattle.std.proofs.Common.{◌≡◌, ◌&&◌, ℕ, zero, suc, ◌+◌, ◌*◌, ◌<◌, ◌≤◌, ltb, Bool, true, false, Option, Some, None, is_some, length, length-append, List, [], ◌∷◌, ◌++◌, drop, refl, sym, ap, subst, ◌∙◌, arith}
 use Rattle.call_leg.specs.Periods.{CallPeriod}
-use Rattle.call_leg.specs.Settings.{Settings, later}
+use Rattle.call_leg.specs.Settings.{Settings, settings_later}
 use Rattle.call_leg.specs.Out.{out_of}
 use Rattle.call_leg.specs.Halves.{UpMemory, note_in, up_turned, up_unbridged, UpStands}
 use Rattle.call_leg.specs.Runs.{EndsAt, UpRun, periods_run, outs_run}
@@ -61,7 +61,7 @@ module _ (s : Start) (h : HalfMemory) (m : ℕ) (b : Begins s h) where
         (up-flag k (omega arith)) r in
         subst (λ (io : IoMemory). UpStands (who_of s) (seen (suc k)) (settings_past (suc k) m s.now) (up_turned u (up_at k io)).2) (sym b.io)
         (subst (λ (set : Settings). UpStands (who_of s) (seen (suc k)) set (up_turned u (up_at k s.io)).2) (set-next m k s.now)
-        (subst (λ (p : CallPeriod). UpStands (who_of s) (p ∷ seen k) (later (set_for m k s.now)) (up_turned u (up_at k s.io)).2)
+        (subst (λ (p : CallPeriod). UpStands (who_of s) (p ∷ seen k) (settings_later (set_for m k s.now)) (up_turned u (up_at k s.io)).2)
         (set-period m k s.now (up_at k s.io) (pcms k) (handed k)) t))
 
     pub note-told : (k : ℕ) → k < s.io.given → (told m h k).0 ≡ note_in s.io.call (seen k) (up_at k s.io)

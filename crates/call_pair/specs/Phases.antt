@@ -39,8 +39,8 @@ item_if false e = None
 abbrev pub note_at : ℕ → List Note → Note
 note_at k notes = get_or notes k (record { eff = Quiet; ask = 0; dtx = None })
 
-abbrev pub frame_at : ℕ → List EffectiveFields → EffectiveFields
-frame_at k frames = get_or frames k Quiet
+abbrev pub effective_in : ℕ → List EffectiveFields → EffectiveFields
+effective_in k frames = get_or frames k Quiet
 
 -- a place of the uplink is done
 abbrev pub one_done : IoMemory → IoMemory
@@ -54,18 +54,18 @@ up_place j =
 abbrev pub down_place : CallMemory → CallMemory
 down_place j =
     let d = down_before j.bridge_end j.io.done j.down in
-    let t = down_turned d (note_at j.io.done j.notes) (item_if d.bridged (frame_at j.io.done j.partner)) (pcm_at j.io.done j.io) in
+    let t = down_turned d (note_at j.io.done j.notes) (item_if d.bridged (effective_in j.io.done j.partner)) (pcm_at j.io.done j.io) in
     record j { down = t.1; io = with_place j.io (octets_of t.0) }
 
-abbrev pub place_in : Phase → CallMemory → CallMemory
-place_in First j = up_place j
-place_in Second j = down_place j
+abbrev pub phase_place : Phase → CallMemory → CallMemory
+phase_place First j = up_place j
+phase_place Second j = down_place j
 
 -- ---- a job from its start to its end
 
 -- the next place of its phase, if there is one
 abbrev pub call_turned : CallMemory → CallMemory
-call_turned j = if has_place j.io then place_in j.phase j else j
+call_turned j = if has_place j.io then phase_place j.phase j else j
 
 -- the job after n turns
 abbrev pub after_call_turns : ℕ → CallMemory → CallMemory
@@ -73,11 +73,11 @@ after_call_turns zero j = j
 after_call_turns (suc n) j = after_call_turns n (call_turned j)
 
 -- the phase at its end
-abbrev pub call_left : CallMemory → ℕ
-call_left j = places_left j.io
+abbrev pub periods_left : CallMemory → ℕ
+periods_left j = places_left j.io
 
 abbrev pub call_finished : CallMemory → CallMemory
-call_finished j = after_call_turns (call_left j) j
+call_finished j = after_call_turns (periods_left j) j
 
 -- the second phase begins
 abbrev pub turned_down : CallMemory → CallMemory

@@ -5,7 +5,7 @@ ghost use Rattle.rx_handler.specs.State.{effective_fields};
 ghost use Rattle.call_leg.specs.Memory.{periods_of_leg};
 ghost use Rattle.call_pair.specs.Memory.{places_left};
 ghost use Rattle.call_pair.specs.Places.{has_place};
-ghost use Rattle.call_pair.specs.Phases.{note_at, up_place, down_place, call_turned, call_left, turned_down, starting, with_partner, half_in, frames_in};
+ghost use Rattle.call_pair.specs.Phases.{note_at, up_place, down_place, call_turned, periods_left, turned_down, starting, with_partner, half_in, frames_in};
 ghost use Rattle.call_pair.specs.Jobs.{half_with};
 ghost use Rattle.call_pair.specs.declared.call_job.Phase.TheVariants.{First, Second};
 
@@ -171,7 +171,7 @@ impl CallJob {
     /// there.
     pub fn turn_down(&mut self)
         requires first { self.old.phase ≡ First }
-        requires finished { call_left self.old ≡ 0 }
+        requires finished { periods_left self.old ≡ 0 }
         requires partner { self.old.bridge_end ≤ length self.old.partner }
         ensures { self.new ≡ turned_down self.old }
     {
@@ -219,9 +219,9 @@ impl CallJob {
 
 impl Work for CallJob {
     ghost use Rattle.std.proofs.Common.{ap};
-    ghost use Rattle.call_pair.specs.Phases.{CallMemory, call_left, after_call_turns, call_finished};
+    ghost use Rattle.call_pair.specs.Phases.{CallMemory, periods_left, after_call_turns, call_finished};
 
-    ghost left = { call_left };
+    ghost left = { periods_left };
 
     ghost finish = { call_finished };
 

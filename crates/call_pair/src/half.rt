@@ -5,7 +5,7 @@ ghost use Rattle.call_number.specs.CallNumber.{IsCallNumber};
 ghost use Rattle.call_leg.specs.Memory.{periods_of_leg};
 ghost use Rattle.call_pair.specs.Memory.{places_left};
 ghost use Rattle.call_pair.specs.Jobs.{half_with};
-ghost use Rattle.call_pair.specs.Phases.{starting, half_in, call_left};
+ghost use Rattle.call_pair.specs.Phases.{starting, half_in, periods_left};
 
 use crate::call_job::CallJob;
 use crate::io::LegIo;
@@ -74,7 +74,7 @@ impl Half {
 
     /// What a finished job left.
     pub fn left_by(job: Box<CallJob>) -> Half
-        requires { call_left job.value ≡ 0 }
+        requires { periods_left job.value ≡ 0 }
         ensures { result ≡ half_in job.value }
     {
         let mut job = job;

@@ -8,7 +8,7 @@ ghost use Rattle.call_pair.specs.declared.job.Job.TheVariants.{One, Two};
 ghost use Rattle.call_pair.specs.Jobs.{finished, has_call};
 ghost use Rattle.call_leg.specs.Halves.{note_in};
 ghost use Rattle.call_pair.specs.Places.{up_at};
-ghost use Rattle.call_pair.specs.Phases.{first_phase, second_phase, half_run, effs, frame_at};
+ghost use Rattle.call_pair.specs.Phases.{first_phase, second_phase, half_run, effs, effective_in};
 ghost use Rattle.call_pair.specs.History.{Start, Begins, bridged_periods};
 ghost use Rattle.call_pair.specs.Told.{Hears, Speaks, OneRuns, TwoRun};
 ghost use Rattle.call_pair.specs.Finished.{OneWorked, TwoWorked};
@@ -52,7 +52,7 @@ pub fn the_first_phase_is_told()
     ensures alone { (s : Start) (h : HalfMemory) → Begins s h → Hears s 0 (first_phase 0 h) }
     ensures bridged { (a b : Start) (g h : HalfMemory) → Begins a g → Begins b h → Hears a (min a.io.given b.io.given) (first_phase (min a.io.given b.io.given) g) }
     ensures frames { (a b : Start) (g h : HalfMemory) → Begins a g → Begins b h → a.now.bridged ≡ true → b.now.bridged ≡ true →
-        let m = min g.io.given h.io.given in (k : ℕ) → k < m → frame_at k (effs m g) ≡ (note_in a.io.call (bridged_periods k a b) (up_at k a.io)).eff }
+        let m = min g.io.given h.io.given in (k : ℕ) → k < m → effective_in k (effs m g) ≡ (note_in a.io.call (bridged_periods k a b) (up_at k a.io)).eff }
 {}
 
 /// The second phase gives the run of a downlink half, of a call alone, whose bridge, if it has one, ends before its first

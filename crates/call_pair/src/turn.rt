@@ -6,7 +6,7 @@ ghost use Rattle.rx_handler.specs.State.{effective_fields};
 ghost use Rattle.call_leg.specs.Step.{bridge_over};
 ghost use Rattle.call_leg.specs.Halves.{up_turned, down_turned, up_unbridged, item_of};
 ghost use Rattle.call_pair.specs.Places.{up_at, pcm_at, with_out, with_place, has_place};
-ghost use Rattle.call_pair.specs.Phases.{up_before, down_before, item_if, note_at, frame_at, one_done};
+ghost use Rattle.call_pair.specs.Phases.{up_before, down_before, item_if, note_at, effective_in, one_done};
 
 use crate::io::LegIo;
 use call_leg::{DownLeg, UpLeg, UpNote};
@@ -33,7 +33,7 @@ fn end_down(down: &mut DownLeg, ends: bool)
 // The frame of place k, if the half is bridged.
 fn item_at(partner: &[Effective], k: usize, on: bool) -> Option<&Effective>
     requires { on ≡ true → k < length partner.now }
-    ensures { item_of (option_copied result) ≡ item_if on (frame_at k (map effective_fields partner.now)) }
+    ensures { item_of (option_copied result) ≡ item_if on (effective_in k (map effective_fields partner.now)) }
 {
     if on { Some(&partner[k]) } else { None }
 }
@@ -67,9 +67,9 @@ pub(crate) fn work_down(
     requires notes { io.old.done < length notes.now }
     requires partner { (down_before bridge_end io.old.done down.old).bridged ≡ true → io.old.done < length partner.now }
     ensures io { let c = down_before bridge_end io.old.done down.old in
-        io.new ≡ with_place io.old (octets_of (down_turned c (note_at io.old.done notes.now) (item_if c.bridged (frame_at io.old.done (map effective_fields partner.now))) (pcm_at io.old.done io.old)).0) }
+        io.new ≡ with_place io.old (octets_of (down_turned c (note_at io.old.done notes.now) (item_if c.bridged (effective_in io.old.done (map effective_fields partner.now))) (pcm_at io.old.done io.old)).0) }
     ensures down { let c = down_before bridge_end io.old.done down.old in
-        down.new ≡ (down_turned c (note_at io.old.done notes.now) (item_if c.bridged (frame_at io.old.done (map effective_fields partner.now))) (pcm_at io.old.done io.old)).1 }
+        down.new ≡ (down_turned c (note_at io.old.done notes.now) (item_if c.bridged (effective_in io.old.done (map effective_fields partner.now))) (pcm_at io.old.done io.old)).1 }
     ensures bridged { down.new.bridged ≡ (down_before bridge_end io.old.done down.old).bridged }
 {
     end_down(down, io.done == bridge_end);

@@ -8,7 +8,7 @@ use Rattle.trau_bits.specs.Bits.{bits_of}
 use Rattle.trau_params.specs.Fields.{Fields, fields_in}
 use Rattle.trau_orders.specs.declared.order.DtxMode.TheVariants.{Uplink}
 use Rattle.trau_frame.specs.DownFrame.{down_bits, down_control}
-use Rattle.trau_frame.specs.Frame.{number_of, data_of, frame_bits}
+use Rattle.trau_frame.specs.Frame.{number_in, data_of, frame_bits}
 use Rattle.trau_frame.specs.Role.{role_of, place_of_role}
 use Rattle.trau_frame.specs.UpFrame.{words_in}
 use Rattle.trau_frame.specs.declared.frames.DownFrame.TheVariants as frames
@@ -102,7 +102,7 @@ shifted_call = record {
 
 shifted_down : down shifted_call ≡ replicate 320 1 ++ bits_of idle ++ replicate 312 1 ++ take 8 (bits_of idle)
 unfolding each_yield searched first_match is_match role_of line_bits mode_after bits_of effective_at origin_at latest_anchor down_bits down_control frame_bits
-    words_in number_of place_of_role frame_at shift_of
+    words_in number_in place_of_role frame_at shift_of
 shifted_down = refl
 
 -- ---- three good speech frames, and a span without a period at the second: two plain stretches
@@ -123,11 +123,11 @@ abbrev parameters : Fields
 parameters = fields_in (data_of (bits_of speech))
 
 speech_out : out (speech_call A) ≡ compressed A (decoded (parameters ∷ [])) ++ (compressed A (decoded (parameters ∷ parameters ∷ [])) ++ [])
-unfolding each_yield searched first_match is_match role_of line_bits mode_after bits_of effective_at origin_at latest_anchor words_in number_of place_of_role
+unfolding each_yield searched first_match is_match role_of line_bits mode_after bits_of effective_at origin_at latest_anchor words_in number_in place_of_role
     frame_at
 speech_out = refl
 
 speech_mulaw : out (speech_call Mu) ≡ compressed Mu (decoded (parameters ∷ [])) ++ (compressed Mu (decoded (parameters ∷ parameters ∷ [])) ++ [])
-unfolding each_yield searched first_match is_match role_of line_bits mode_after bits_of effective_at origin_at latest_anchor words_in number_of place_of_role
+unfolding each_yield searched first_match is_match role_of line_bits mode_after bits_of effective_at origin_at latest_anchor words_in number_in place_of_role
     frame_at
 speech_mulaw = refl

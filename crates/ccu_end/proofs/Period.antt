@@ -16,7 +16,7 @@ use Rattle.ccu_end.specs.declared.recording.PeriodEnd.TheVariants.{Taken, LineEn
 use Rattle.ccu_end.specs.Found.{FoundFrame}
 use Rattle.ccu_end.specs.Heard.{CcuMemory, Stands, frames_of}
 use Rattle.ccu_end.specs.Told.{lines_of, octets_saying}
-use Rattle.ccu_end.specs.Follows.{Gains, Gives, Hears, Moves}
+use Rattle.ccu_end.specs.Follows.{Gains, Gives, DeskHears, Moves}
 use Rattle.ccu_end.specs.FollowStep.{FollowsOn, Takes}
 
 -- a part of a block
@@ -58,7 +58,7 @@ stay_gains d d' same = record {
 }
 
 -- a desk that is told nothing
-stay_hears : (k : DeskState) → Hears k k []
+stay_hears : (k : DeskState) → DeskHears k k []
 stay_hears k = record { written = Appends-nil k.written; to_come = refl; read_faults = refl; later = omega arith }
 
 -- a period that isn't whole

@@ -6,7 +6,7 @@ use Rattle.std.proofs.lemmas.List.FromFn.{length-map-range_with_len, get_or-map-
 use Rattle.trau_frame.specs.declared.frames.DownFrame.{DownFrame}
 use Rattle.trau_frame.specs.declared.frames.DownFrame.TheVariants.{Idle, Speech}
 use Rattle.trau_frame.specs.Role.{Control, Data, Time, role_of, place_of_role, bit_with}
-use Rattle.trau_frame.specs.Frame.{number_of, data_of, bit_for, frame_bits}
+use Rattle.trau_frame.specs.Frame.{number_in, data_of, bit_for, frame_bits}
 use Rattle.trau_frame.specs.DownFrame.{down_control, down_data, down_bits}
 use Rattle.trau_frame.proofs.Places.{role_of-place_of, synced_zeros, synced_ones}
 use Rattle.trau_frame.proofs.Again.{get_or-frame_bits, data_of-frame_bits, length-down_bits, synced-down_bits}
@@ -42,8 +42,8 @@ down_bits-frame f = record {
 -- ---- the same first 316 bits say the same
 
 -- what a frame says goes by its first 316 bits: its pattern
-number-alike : (a b : List ℕ) → Alike a b → number_of a 1 5 ≡ number_of b 1 5
-unfolding number_of place_of_role
+number-alike : (a b : List ℕ) → Alike a b → number_in a 1 5 ≡ number_in b 1 5
+unfolding number_in place_of_role
 number-alike a b h =
     let c1 = h 17 (omega arith) in let c2 = h 18 (omega arith) in let c3 = h 19 (omega arith) in
     let c4 = h 20 (omega arith) in let c5 = h 21 (omega arith) in
@@ -81,12 +81,12 @@ read-alike a b h =
 -- ---- what was written is read
 
 -- the patterns of written frames
-pattern-idle : number_of (down_bits Idle) 1 5 ≡ 14
-unfolding number_of place_of_role down_bits frame_bits down_control role_of
+pattern-idle : number_in (down_bits Idle) 1 5 ≡ 14
+unfolding number_in place_of_role down_bits frame_bits down_control role_of
 pattern-idle = refl
 
-pattern-speech : (d : List ℕ) (sp : Bool) → number_of (down_bits (Speech d sp)) 1 5 ≡ 28
-unfolding number_of place_of_role down_bits frame_bits down_control role_of
+pattern-speech : (d : List ℕ) (sp : Bool) → number_in (down_bits (Speech d sp)) 1 5 ≡ 28
+unfolding number_in place_of_role down_bits frame_bits down_control role_of
 pattern-speech d sp = refl
 
 -- their SP and data bits

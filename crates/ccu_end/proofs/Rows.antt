@@ -7,7 +7,7 @@ use Rattle.trau_frame.specs.declared.frames.Kind.TheVariants as kinds
 use Rattle.trau_frame.specs.UpFrame.{UpWords}
 use Rattle.down_framer.specs.Made.{Period, made_frames}
 use Rattle.ccu_end.specs.Found.{FoundFrame, as_made, all_within, places_from}
-use Rattle.ccu_end.specs.Asked.{offset_of, field_by, waiting, answered, asked}
+use Rattle.ccu_end.specs.Asked.{offset_of, field_for, waiting, answered, asked}
 
 -- a shift of 156, one of -2, and none
 by_shifts : places_from 320 (pos 156 ∷ negsuc 1 ∷ pos 0 ∷ []) ≡ 320 ∷ 952 ∷ 1268 ∷ []
@@ -58,7 +58,7 @@ unfolding fields_of answered waiting
 asked_again = refl
 
 -- four bits later is asked for by 62, and fewer bits by nothing
-small_offsets : map (λ p. field_by (offset_of 4 p)) (320 ∷ 321 ∷ 319 ∷ 316 ∷ 324 ∷ 328 ∷ []) ≡ 62 ∷ 0 ∷ 0 ∷ 1 ∷ 0 ∷ 39 ∷ []
+small_offsets : map (λ p. field_for (offset_of 4 p)) (320 ∷ 321 ∷ 319 ∷ 316 ∷ 324 ∷ 328 ∷ []) ≡ 62 ∷ 0 ∷ 0 ∷ 1 ∷ 0 ∷ 39 ∷ []
 small_offsets = refl
 
 -- two frames of one period: the last of them counts

@@ -4,7 +4,7 @@ use Rattle.std.specs.Prelude.{◌==◌}
 use Rattle.std.proofs.lemmas.Bool.{ne_eqb}
 use Rattle.trau_frame.specs.declared.frames.DownFrame.TheVariants.{Idle, Speech}
 use Rattle.trau_frame.specs.Role.{place_of_role}
-use Rattle.trau_frame.specs.Frame.{Synced, number_of, data_of}
+use Rattle.trau_frame.specs.Frame.{Synced, number_in, data_of}
 use Rattle.trau_frame.specs.Match.{bit_in, is_match, frame_at}
 use Rattle.trau_frame.proofs.Places.{synced}
 use Rattle.trau_frame.proofs.Matches.{match_zeros, match_ones, get_or-frame_at}
@@ -19,21 +19,21 @@ alike-synced w bits o h m =
     (λ row l r. h (16 * row) (omega arith) ∙ get_or-frame_at (bit_in w) o (16 * row) 0 (omega arith) ∙ match_ones (bit_in w) o m row l r)
 
 -- what the pattern says is what the frame says: idle, speech or neither
-said-by : (bits : List ℕ) (n : ℕ) → n ≡ number_of bits 1 5 → frame_by n bits ≡ down_frame_in bits
+said-by : (bits : List ℕ) (n : ℕ) → n ≡ number_in bits 1 5 → frame_by n bits ≡ down_frame_in bits
 said-by bits n e = ap (λ k. frame_by k bits) e
 
-pub said-idle : (w bits : List ℕ) (o n : ℕ) → Alike bits (frame_at (bit_in w) o) → n ≡ number_of bits 1 5 → n ≡ 14 →
+pub said-idle : (w bits : List ℕ) (o n : ℕ) → Alike bits (frame_at (bit_in w) o) → n ≡ number_in bits 1 5 → n ≡ 14 →
     Some Idle ≡ down_frame_in (frame_at (bit_in w) o)
 said-idle w bits o n h e is = ap (λ k. frame_by k bits) (sym is) ∙ said-by bits n e ∙ read-alike bits (frame_at (bit_in w) o) h
 
-pub said-speech : (w bits d : List ℕ) (o n : ℕ) → Alike bits (frame_at (bit_in w) o) → n ≡ number_of bits 1 5 → n ≡ 28 → d ≡ data_of bits →
+pub said-speech : (w bits d : List ℕ) (o n : ℕ) → Alike bits (frame_at (bit_in w) o) → n ≡ number_in bits 1 5 → n ≡ 28 → d ≡ data_of bits →
     Some (Speech d (get_or bits 310 0 == 1)) ≡ down_frame_in (frame_at (bit_in w) o)
 unfolding place_of_role
 said-speech w bits d o n h e is same_data =
     ap (λ x. Some (Speech x (get_or bits 310 0 == 1))) same_data ∙
     ap (λ k. frame_by k bits) (sym is) ∙ said-by bits n e ∙ read-alike bits (frame_at (bit_in w) o) h
 
-pub said-neither : (w bits : List ℕ) (o n : ℕ) → Alike bits (frame_at (bit_in w) o) → n ≡ number_of bits 1 5 → (n ≡ 14 → ⊥) → (n ≡ 28 → ⊥) →
+pub said-neither : (w bits : List ℕ) (o n : ℕ) → Alike bits (frame_at (bit_in w) o) → n ≡ number_in bits 1 5 → (n ≡ 14 → ⊥) → (n ≡ 28 → ⊥) →
     None ≡ down_frame_in (frame_at (bit_in w) o)
 said-neither w bits o n h e i s =
     let by : None ≡ frame_by n bits = rw (ne_eqb n 14 i, ne_eqb n 28 s) refl in

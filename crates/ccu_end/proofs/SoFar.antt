@@ -10,7 +10,7 @@ use Rattle.ccu_end.specs.Found.{FoundFrame}
 use Rattle.ccu_end.specs.Asked.{asked}
 use Rattle.ccu_end.specs.Heard.{ArePeriods, CcuMemory, Stands, all_of}
 use Rattle.ccu_end.specs.Told.{line_of, lines_of, listed, octets_saying, sent_up}
-use Rattle.ccu_end.specs.Follows.{Gains, Gives, Hears, Moves}
+use Rattle.ccu_end.specs.Follows.{Gains, Gives, DeskHears, Moves}
 use Rattle.ccu_end.specs.FollowStep.{NoFault}
 
 -- what is given, gained and told, and then more
@@ -28,7 +28,7 @@ gains_on a b c s t first second = record {
   later = omega (arith, first.later, second.later);
 }
 
-hears_on : (a b c : DeskState) (s t : List ℕ) → Hears a b s → Hears b c t → Hears a c (s ++ t)
+hears_on : (a b c : DeskState) (s t : List ℕ) → DeskHears a b s → DeskHears b c t → DeskHears a c (s ++ t)
 hears_on a b c s t first second = record {
   written = Appends-trans _ _ _ _ _ first.written second.written;
   to_come = second.to_come ∙ first.to_come;

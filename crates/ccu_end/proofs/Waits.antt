@@ -6,7 +6,7 @@ use Rattle.std.proofs.lemmas.List.Elements.{All-head, All-tail}
 use Rattle.ccu_end.specs.Found.{FoundFrame, HaveBits}
 use Rattle.ccu_end.specs.Window.{low_after}
 use Rattle.ccu_end.specs.Heard.{all_of}
-use Rattle.ccu_end.specs.Asked.{Answered, last_of, place_in, in_step, still_waits, waiting, offset_of, field_by, field_where, field_after, answered, speech_in, up_words, asked}
+use Rattle.ccu_end.specs.Asked.{Answered, last_of, place_in, in_step, still_waits, waiting, offset_of, field_for, field_where, field_after, answered, speech_in, up_words, asked}
 use Rattle.ccu_end.specs.Step.{wait_next, waits_over, field_now, period_field, asked_with, waiting_after, answer_after}
 
 -- from where on the next frame is looked for, behind two lists
@@ -174,7 +174,7 @@ waiting-period want fs heard =
 
 -- a period without a frame asks for nothing
 last-some : (w : Option ℕ) (want : ℕ) (f : FoundFrame) (fs : List FoundFrame) →
-    field_now w want (last_of (f ∷ fs)) ≡ field_where w (field_by (offset_of want (place_in (last_of (f ∷ fs)))))
+    field_now w want (last_of (f ∷ fs)) ≡ field_where w (field_for (offset_of want (place_in (last_of (f ∷ fs)))))
 last-some w want f [] = refl
 last-some w want f (g ∷ fs) = last-some w want g fs
 

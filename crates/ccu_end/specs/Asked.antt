@@ -28,8 +28,8 @@ offset_of want p = (want + 320 - p % 320) % 320
 
 -- the alignment field that asks for frames so many bits later: a field up to 39 is a delay by so many steps of 500 us, 8
 -- bits each, and 62 one of 250 us, 4 bits (GSM 08.60)
-abbrev pub field_by : ℕ → ℕ
-field_by offset =
+abbrev pub field_for : ℕ → ℕ
+field_for offset =
     if nat_le 8 offset then offset / 8
     else if offset == 4 then 62
     else 0
@@ -65,7 +65,7 @@ field_where (Some count) field = 0
 -- the field of the period behind these in which these frames were found: 0 where none was, and while a request waits
 abbrev pub field_after : ℕ → List FoundFrame → List Answered → ℕ
 field_after want [] past = 0
-field_after want (f ∷ fs) past = field_where (waiting (f ∷ fs) past) (field_by (offset_of want (place_in (last_of (f ∷ fs)))))
+field_after want (f ∷ fs) past = field_where (waiting (f ∷ fs) past) (field_for (offset_of want (place_in (last_of (f ∷ fs)))))
 
 -- all periods in which these frames were found, each with its field
 unfoldable pub answered : ℕ → List (List FoundFrame) → List Answered

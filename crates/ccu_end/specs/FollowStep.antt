@@ -25,7 +25,7 @@ pub record NoFault (up up' down down' : LineState) (desk desk' : DeskState) : Ty
   pub desk_same : desk'.write_faults ≡ desk.write_faults
 
 -- the period was answered, and its frames told
-pub record IsTaken (ccu ccu' : CcuMemory) (up up' down down' : LineState) (desk desk' : DeskState) (given sent told : List ℕ) (count : ℕ) : Type 0 where
+pub record IsTakenPeriod (ccu ccu' : CcuMemory) (up up' down down' : LineState) (desk desk' : DeskState) (given sent told : List ℕ) (count : ℕ) : Type 0 where
   pub found : List FoundFrame
   pub takes : Takes ccu ccu' given found
   pub count_is : count ≡ length found
@@ -76,7 +76,7 @@ pub record IsHalfTold (ccu ccu' : CcuMemory) (up up' down down' : LineState) (de
 -- how a period ended, by what was read of it, sent for it and told of it
 abbrev pub PeriodEndsAs : CcuMemory → CcuMemory → LineState → LineState → LineState → LineState → DeskState → DeskState → List ℕ → List ℕ → List ℕ → PeriodEnd →
     Type 0
-PeriodEndsAs ccu ccu' up up' down down' desk desk' given sent told (Taken count) = IsTaken ccu ccu' up up' down down' desk desk' given sent told count
+PeriodEndsAs ccu ccu' up up' down down' desk desk' given sent told (Taken count) = IsTakenPeriod ccu ccu' up up' down down' desk desk' given sent told count
 PeriodEndsAs ccu ccu' up up' down down' desk desk' given sent told (LineEnded left) = EndsInside up up' down down' desk desk' given sent told left
 PeriodEndsAs ccu ccu' up up' down down' desk desk' given sent told ReadFailed = FailsInside up up' down down' desk desk' given sent told
 PeriodEndsAs ccu ccu' up up' down down' desk desk' given sent told WriteFailed = IsHalfAnswered ccu ccu' up up' down down' desk desk' given sent told

@@ -24,7 +24,7 @@ pub record Gains (down down' : LineState) (sent : List ℕ) : Type 0 where
   pub later : down.faults ≤ down'.faults
 
 -- and the desk that text
-pub record Hears (desk desk' : DeskState) (told : List ℕ) : Type 0 where
+pub record DeskHears (desk desk' : DeskState) (told : List ℕ) : Type 0 where
   pub written : Appends desk.written desk'.written told
   pub to_come : desk'.to_come ≡ desk.to_come
   pub read_faults : desk'.read_faults ≡ desk.read_faults
@@ -33,7 +33,7 @@ pub record Hears (desk desk' : DeskState) (told : List ℕ) : Type 0 where
 pub record Moves (up up' down down' : LineState) (desk desk' : DeskState) (given sent told : List ℕ) : Type 0 where
   pub gives : Gives up up' given
   pub gains : Gains down down' sent
-  pub hears : Hears desk desk' told
+  pub hears : DeskHears desk desk' told
 
 -- The line ended behind these periods, with so many octets left, or so many were taken that no more are. All of them are
 -- answered, and all frames told.

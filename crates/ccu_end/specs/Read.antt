@@ -3,7 +3,7 @@ use Rattle.std.specs.Prelude.{◌≡◌, ℕ, ◌<◌, if◌then◌else◌, ◌=
 use Rattle.trau_frame.specs.declared.frames.DownFrame.{DownFrame}
 use Rattle.trau_frame.specs.declared.frames.DownFrame.TheVariants.{Idle, Speech}
 use Rattle.trau_frame.specs.Role.{Control, bit_with}
-use Rattle.trau_frame.specs.Frame.{number_of, data_of}
+use Rattle.trau_frame.specs.Frame.{number_in, data_of}
 
 -- by the number in C1 to C5: 01110 for idle and 11100 for speech, whose C16 is SP; any other says neither
 abbrev pub frame_by : ℕ → List ℕ → Option DownFrame
@@ -14,7 +14,7 @@ frame_by pattern bits =
 
 -- by its bits, of which no T bit is looked at
 abbrev pub down_frame_in : List ℕ → Option DownFrame
-down_frame_in bits = frame_by (number_of bits 1 5) bits
+down_frame_in bits = frame_by (number_in bits 1 5) bits
 
 -- what a speech frame carries are 260 bits
 abbrev pub HasLength : DownFrame → Type 0

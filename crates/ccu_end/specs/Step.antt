@@ -2,7 +2,7 @@
 use Rattle.std.specs.Prelude.{ℕ, ◌+◌, ◌&&◌, if◌then◌else◌, ◌==◌, nat_lt, List, [], ◌∷◌, Option, Some, None}
 use Rattle.trau_frame.specs.UpFrame.{UpWords}
 use Rattle.ccu_end.specs.Found.{FoundFrame}
-use Rattle.ccu_end.specs.Asked.{last_of, offset_of, field_by, field_where, speech_in, up_words}
+use Rattle.ccu_end.specs.Asked.{last_of, offset_of, field_for, field_where, speech_in, up_words}
 
 -- One more frame is found, at place p, where the next one was looked for from `low` on: 316 bits behind the one before.
 abbrev pub wait_next : Option ℕ → ℕ → ℕ → Option ℕ
@@ -17,7 +17,7 @@ waits_over w low (f ∷ fs) = waits_over (wait_next w low f.place) (f.place + 31
 -- the field where a request waits, or none does, and this is the last frame
 abbrev pub field_now : Option ℕ → ℕ → Option FoundFrame → ℕ
 field_now w want None = 0
-field_now w want (Some f) = field_where w (field_by (offset_of want f.place))
+field_now w want (Some f) = field_where w (field_for (offset_of want f.place))
 
 -- the field of the period that found these
 abbrev pub period_field : Option ℕ → ℕ → ℕ → List FoundFrame → ℕ

@@ -2,10 +2,10 @@
 
 ghost use Rattle.std.specs.Prelude.{◌≡◌, ◌≤◌, ◌<◌, ◌^◌, true, false, None, All, IfNone, IfSome};
 ghost use Rattle.trau_bits.specs.Bits.{AreBits};
-ghost use Rattle.trau_frame.specs.UpFrame.{words_of};
+ghost use Rattle.trau_frame.specs.UpFrame.{up_words_of};
 ghost use Rattle.ccu_end.specs.Found.{HaveBits};
 ghost use Rattle.ccu_end.specs.Heard.{frames_of};
-ghost use Rattle.ccu_end.specs.Asked.{last_of, offset_of, field_by, speech_in, up_words};
+ghost use Rattle.ccu_end.specs.Asked.{last_of, offset_of, field_for, speech_in, up_words};
 ghost use Rattle.ccu_end.specs.Step.{wait_next, waits_over, field_now};
 
 use crate::finds::{Found, Heard};
@@ -63,7 +63,7 @@ fn offset_of(want: u16, place: u64) -> u64
 // The alignment field that asks for frames so many bits later.
 fn field_by(offset: u64) -> u8
     requires { offset < 320 }
-    ensures value { result ≡ field_by offset }
+    ensures value { result ≡ field_for offset }
     ensures six_bits { result ≤ 63 }
 {
     match offset {
@@ -101,7 +101,7 @@ fn speech_in(last: Option<Found>) -> Option<[u8; 260]>
 fn up_frame(kind: Kind, class: Class, align: u8, d: [u8; 260]) -> UpFrame
     requires six_bits { align ≤ 63 }
     requires bits { AreBits d }
-    ensures { words_of result ≡ record { kind = kind; class = class; taf = false; dtxd = true; align = align; d = d } }
+    ensures { up_words_of result ≡ record { kind = kind; class = class; taf = false; dtxd = true; align = align; d = d } }
 {
     UpFrame {
         kind,
@@ -117,7 +117,7 @@ fn up_frame(kind: Kind, class: Class, align: u8, d: [u8; 260]) -> UpFrame
 pub(crate) fn answer_with(last: Option<Found>, align: u8) -> UpFrame
     requires bits { IfSome last HaveBits }
     requires six_bits { align ≤ 63 }
-    ensures { words_of result ≡ up_words (speech_in last) align }
+    ensures { up_words_of result ≡ up_words (speech_in last) align }
 {
     match speech_in(last) {
         Some(d) => up_frame(Kind::Speech, Class::Good, align, d),

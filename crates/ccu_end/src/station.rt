@@ -35,12 +35,12 @@ pub struct Ccu {
 impl Model for Ccu {
     ghost use Rattle.std.specs.Prelude.{◌*◌, ◌≤◌};
     ghost use Rattle.trau_bits.specs.Bits.{AreBits};
-    ghost use Rattle.trau_frame.specs.UpFrame.{words_of};
+    ghost use Rattle.trau_frame.specs.UpFrame.{up_words_of};
     ghost use Rattle.ccu_end.specs.Heard.{CcuMemory};
 
     ghost Value = { CcuMemory };
 
-    ghost view = { λ s. record { periods = s.periods; last = s.last; low = s.low; want = s.want; waiting = s.waiting; answer = words_of s.answer } };
+    ghost view = { λ s. record { periods = s.periods; last = s.last; low = s.low; want = s.want; waiting = s.waiting; answer = up_words_of s.answer } };
 
     ghost invariant = { λ s. (s.low ≤ 320 * s.periods) × AreBits s.last };
 }

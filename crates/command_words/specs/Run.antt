@@ -15,12 +15,12 @@ pub record AreOptions (options : List Text) (s : Settings) : Type 0 where
   pub gives : GivesSettings 4294967295 4294967295 (λ name. first_of name (matches_of run_app options)) s
 
 -- the text that they have for `--periods`, if they have it
-abbrev pub first_periods : List Text → Option Text
-first_periods options = first_of (codes "periods") (matches_of run_app options)
+abbrev pub periods_option : List Text → Option Text
+periods_option options = first_of (codes "periods") (matches_of run_app options)
 
 -- `--periods` is among them
 abbrev pub GivePeriods : List Text → Type 0
-GivePeriods options = is_some (first_periods options) ≡ true
+GivePeriods options = is_some (periods_option options) ≡ true
 
 -- words ask for a run with these settings: `run`, and options that give them
 pub record AsksRun (words : List Text) (s : Settings) : Type 0 where

@@ -4,7 +4,7 @@ ghost use Rattle.std.specs.Prelude.{◌≡◌, codes, IfOk, IfSome, IsNone, IsEr
 ghost use Rattle.clap.specs.Words.{app_of, first_value, found_of};
 ghost use Rattle.command_words.specs.declared.asked.Settings.{Settings as TheSettings};
 ghost use Rattle.command_words.specs.Options.{GivesSettings};
-ghost use Rattle.command_words.specs.Run.{run_app, first_periods, AreOptions, GivePeriods};
+ghost use Rattle.command_words.specs.Run.{run_app, periods_option, AreOptions, GivePeriods};
 
 use crate::options::{bare_command, settings_of, with_options};
 use crate::{Settings, WordsFault};
@@ -43,7 +43,7 @@ fn options_of(matches: &ArgMatches<'_>) -> Option<RunOptions>
 
 fn read_options(alloc: Global, options: &[String]) -> Result<RunOptions, WordsFault>
     ensures ok { IfOk result (λ o. AreOptions (map (λ w. string_bytes w) options.now) o.settings) }
-    ensures periods { IfOk result (λ o. o.has_periods ≡ is_some (first_periods (map (λ w. string_bytes w) options.now))) }
+    ensures periods { IfOk result (λ o. o.has_periods ≡ is_some (periods_option (map (λ w. string_bytes w) options.now))) }
     ensures usage { IsErrOf result WordsFault.Usage → (s : TheSettings) → AreOptions (map (λ w. string_bytes w) options.now) s → ⊥ }
 {
     let command = run_command(alloc)?;

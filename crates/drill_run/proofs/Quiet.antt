@@ -23,7 +23,7 @@ use Rattle.run_spec.proofs.SoFar.{so_far_at_first}
 use Rattle.farm_report.specs.View.{ReportView}
 use Rattle.round_lines.specs.Rounds.{IsIncoming}
 use Rattle.farm_run.specs.declared.pace.Pace.{Pace}
-use Rattle.farm_run.specs.Runs.{AreTold, IsRunOver, IsWritten, Leaves, Runs, is_listed, none_fails}
+use Rattle.farm_run.specs.Runs.{AreTold, IsRunOver, HasWritten, Leaves, Runs, is_listed, none_fails}
 use Rattle.run_spec.proofs.LongerLines.{length-out_line, length-down_octets, length-periods_to}
 use Rattle.farm_run.proofs.Listed.{listed_head, one_line, or_cases}
 use Rattle.farm_run.proofs.Reach.{end_within_run}
@@ -66,7 +66,7 @@ gained : (before now : Option (List ℕ)) (octets : List ℕ) → before ≡ Som
 gained before now octets was ys is a = subst (λ (o : Option (List ℕ)). Appends (Some []) o octets) is (subst (λ (o : Option (List ℕ)). Appends o now octets) was a)
 
 -- a line that failed holds a proper front
-short_of : (b : Bool) (before now : LineState) (octets ys : List ℕ) → b ≡ true → before.written ≡ Some [] → now.written ≡ Some ys → IsWritten b before now octets → length ys < length octets
+short_of : (b : Bool) (before now : LineState) (octets ys : List ℕ) → b ≡ true → before.written ≡ Some [] → now.written ≡ Some ys → HasWritten b before now octets → length ys < length octets
 short_of true before now octets ys e was is w =
     let same = gained before.written now.written (take w.0 octets) was ys is w.2 in
     omega (arith, ap {B = ℕ} (λ (xs : List ℕ). length xs) same, length-take w.0 octets, w.1)

@@ -11,7 +11,7 @@ use Rattle.std.proofs.lemmas.Str.Parse.{digit_at}
 use Rattle.decimal_number.proofs.Numbers.{own}
 use Rattle.decimal_number.specs.Number.{IsNumber}
 use Rattle.farm_checkpoint.specs.declared.mark.MarkCall.{MarkCall}
-use Rattle.farm_checkpoint.specs.Text.{save_line, call_line}
+use Rattle.farm_checkpoint.specs.Text.{save_line, call_text}
 use Rattle.farm_checkpoint.specs.Splits.{Lacks, SplitsAt, IsField}
 
 pub some_of : {A : Type 0} (r : Option A) (N : Type 0) (S : A → Type 0) → MatchOption r N S → IfSome r S
@@ -90,8 +90,8 @@ behind_from c rest = codes "out " ++ (decimal c.out ++ 32 ∷ behind_out c rest)
 abbrev pub behind_call : MarkCall → List ℕ → List ℕ
 behind_call c rest = codes "from " ++ (decimal c.from ++ 32 ∷ behind_from c rest)
 
-pub spread : (c : MarkCall) (rest : List ℕ) → call_line c ++ rest ≡ codes "call " ++ (decimal c.call ++ 32 ∷ behind_call c rest)
-unfolding call_line
+pub spread : (c : MarkCall) (rest : List ℕ) → call_text c ++ rest ≡ codes "call " ++ (decimal c.call ++ 32 ∷ behind_call c rest)
+unfolding call_text
 spread c rest =
     ap (λ t. codes "call " ++ t) (append_assoc (decimal c.call) _ rest
     ∙ ap (λ t. decimal c.call ++ (codes " from " ++ t)) (append_assoc (decimal c.from) _ rest
@@ -105,7 +105,7 @@ pub record Fits (c : MarkCall) : Type 0 where
   pub out : c.out ≤ 4294967295
   pub down : c.down ≤ 4294967295
 
-pub one_call : (c d : MarkCall) (a b : List ℕ) → Fits c → Fits d → call_line c ++ a ≡ call_line d ++ b → (c ≡ d) × (a ≡ b)
+pub one_call : (c d : MarkCall) (a b : List ℕ) → Fits c → Fits d → call_text c ++ a ≡ call_text d ++ b → (c ≡ d) × (a ≡ b)
 one_call c d a b fits fits' e =
     let first = one_number 32 c.call d.call _ _ (omega arith) (omega (arith, fits.call)) (omega (arith, fits'.call)) (append_cancel_left (codes "call ") _ _ (sym (spread c a) ∙ e ∙ spread d b)) in
     let second = one_number 32 c.from d.from _ _ (omega arith) (omega (arith, fits.from)) (omega (arith, fits'.from)) (append_cancel_left (codes "from ") _ _ first.1) in
@@ -114,7 +114,7 @@ one_call c d a b fits fits' e =
     ((λ i. record { call = first.0 i; from = second.0 i; out = third.0 i; down = fourth.0 i }), fourth.1)
 
 -- a call's line and a number that stands where its own does
-pub call_field : (c : MarkCall) (low high : ℕ) (text rest : List ℕ) → low ≤ c.call → c.call ≤ high → text ≡ call_line c ++ rest →
+pub call_field : (c : MarkCall) (low high : ℕ) (text rest : List ℕ) → low ≤ c.call → c.call ≤ high → text ≡ call_text c ++ rest →
     IsField low high (codes "call ") 32 text c.call (behind_call c rest)
 call_field c low high text rest at_least at_most e = record { at_least = at_least; at_most = at_most; spelled = e ∙ spread c rest }
 
@@ -130,7 +130,7 @@ pub down_field : (c : MarkCall) (text rest : List ℕ) → c.down ≤ 4294967295
 down_field c text rest at_most e = record { at_least = omega arith; at_most = at_most; spelled = e }
 
 -- what stands behind the numbers of a call's line that were read is what stands behind the call's own
-pub after_call : (c : MarkCall) (low m : ℕ) (text one rest : List ℕ) → c.call ≤ 4096 → text ≡ call_line c ++ rest →
+pub after_call : (c : MarkCall) (low m : ℕ) (text one rest : List ℕ) → c.call ≤ 4096 → text ≡ call_text c ++ rest →
     IsField low 4096 (codes "call ") 32 text m one → one ≡ behind_call c rest
 after_call c low m text one rest at_most e read =
     (one_field low 4096 0 4096 32 m c.call (codes "call ") text one (behind_call c rest) (omega arith) (omega arith) (omega arith) read (call_field c 0 4096 text rest (omega arith) at_most e)).1
@@ -148,7 +148,7 @@ after_out c m two three rest at_most e read =
 -- the line of a call whose four numbers were read
 pub line_read : (c : MarkCall) (low high before : ℕ) (text one two three rest : List ℕ) → IsField low high (codes "call ") 32 text c.call one →
     IsField 0 before (codes "from ") 32 one c.from two →
-    IsField 0 4294967295 (codes "out ") 32 two c.out three → IsField 0 4294967295 (codes "down ") 10 three c.down rest → text ≡ call_line c ++ rest
+    IsField 0 4294967295 (codes "out ") 32 two c.out three → IsField 0 4294967295 (codes "down ") 10 three c.down rest → text ≡ call_text c ++ rest
 line_read c low high before text one two three rest first second third fourth =
     first.spelled
     ∙ ap (λ t. codes "call " ++ (decimal c.call ++ 32 ∷ t)) (second.spelled

@@ -8,7 +8,7 @@ use Rattle.std.proofs.lemmas.List.Folds.{concat-append}
 use Rattle.std.proofs.lemmas.List.Elements.{All-nil, All-cons, All-head, All-tail}
 use Rattle.farm_checkpoint.specs.declared.mark.MarkCall.{MarkCall}
 use Rattle.farm_checkpoint.specs.Marks.{MarkView, IsLive, HasSums, IsMark}
-use Rattle.farm_checkpoint.specs.Text.{save_line, call_line, orders_line, mark_lines, mark_text, HasLines, IsRead, HasOneMark, NotGoodAndBad, HasOneFirst}
+use Rattle.farm_checkpoint.specs.Text.{save_line, call_text, orders_line, mark_lines, mark_text, HasLines, IsRead, HasOneMark, NotGoodAndBad, HasOneFirst}
 use Rattle.farm_checkpoint.proofs.Fields.{Fits, one_field, save_field}
 use Rattle.farm_checkpoint.proofs.Lines.{lines_of, not_orders, text_of_lines, one_list, Next, next_line}
 
@@ -30,18 +30,18 @@ one_period p q a b low high low' high' e =
     (save_field p (save_line p ++ a) a low high refl) (save_field q (save_line p ++ a) b low' high' e)
 
 -- a mark's text by its parts
-pub parts : (mark : MarkView) (rest : List ℕ) → mark_text mark ++ rest ≡ save_line mark.period ++ (flat_map call_line mark.calls ++ (orders_line ++ rest))
+pub parts : (mark : MarkView) (rest : List ℕ) → mark_text mark ++ rest ≡ save_line mark.period ++ (flat_map call_text mark.calls ++ (orders_line ++ rest))
 parts mark rest =
     append_assoc (save_line mark.period) (concat (lines_of mark.calls)) rest
     ∙ ap (λ t. save_line mark.period ++ (t ++ rest)) (text_of_lines mark.calls)
-    ∙ ap (λ t. save_line mark.period ++ t) (append_assoc (flat_map call_line mark.calls) orders_line rest)
+    ∙ ap (λ t. save_line mark.period ++ t) (append_assoc (flat_map call_text mark.calls) orders_line rest)
 
 -- what is written for a mark, part by part
-pub written : (mark : MarkView) (first calls text : List ℕ) → first ≡ save_line mark.period → calls ≡ first ++ flat_map call_line mark.calls →
+pub written : (mark : MarkView) (first calls text : List ℕ) → first ≡ save_line mark.period → calls ≡ first ++ flat_map call_text mark.calls →
     text ≡ calls ++ orders_line → text ≡ mark_text mark
 written mark first calls text a b c =
-    c ∙ ap (λ t. t ++ orders_line) (b ∙ ap (λ t. t ++ flat_map call_line mark.calls) a)
-    ∙ append_assoc (save_line mark.period) (flat_map call_line mark.calls) orders_line
+    c ∙ ap (λ t. t ++ orders_line) (b ∙ ap (λ t. t ++ flat_map call_text mark.calls) a)
+    ∙ append_assoc (save_line mark.period) (flat_map call_text mark.calls) orders_line
     ∙ ap (λ t. save_line mark.period ++ t) (sym (text_of_lines mark.calls))
 
 same_mark : (mark other : MarkView) → mark.period ≡ other.period → mark.calls ≡ other.calls → mark ≡ other
@@ -91,11 +91,11 @@ one_first text m n one two =
     ]
 
 pub lines_count : (mark : MarkView) → length (mark_lines mark) ≡ length mark.calls + 2
-lines_count mark = omega (arith, length-append (map call_line mark.calls) (orders_line ∷ []), length-map mark.calls call_line)
+lines_count mark = omega (arith, length-append (map call_text mark.calls) (orders_line ∷ []), length-map mark.calls call_text)
 
 -- behind calls that a text begins with, a mark with more lines has its next one
 pub next_of : (text rest : List ℕ) (period : ℕ) (calls : List MarkCall) (mark : MarkView) (n : ℕ) → 1 ≤ period → period ≤ 4294967295 → All Fits calls →
-    text ≡ save_line period ++ (flat_map call_line calls ++ rest) → n ≡ suc (suc (length calls)) → HasLines text mark n → (period ≡ mark.period) × Next calls mark.calls rest
+    text ≡ save_line period ++ (flat_map call_text calls ++ rest) → n ≡ suc (suc (length calls)) → HasLines text mark n → (period ≡ mark.period) × Next calls mark.calls rest
 next_of text rest period calls mark n low high fit front number has =
     let lines = subst (HasLines text mark) number has in
     let whole = sym front ∙ lines.whole ∙ append_assoc (save_line mark.period) (concat (take (suc (length calls)) (lines_of mark.calls))) lines.rest in

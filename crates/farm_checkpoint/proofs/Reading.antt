@@ -8,8 +8,8 @@ use Rattle.std.proofs.lemmas.Grind.{flat_map-append}
 use Rattle.std.proofs.Math.Seq.{get_or-append_seam}
 use Rattle.farm_checkpoint.specs.declared.mark.MarkCall.{MarkCall}
 use Rattle.farm_checkpoint.specs.Marks.{MarkView, NumbersRise, IsLive, HasSums}
-use Rattle.farm_checkpoint.specs.Text.{save_line, call_line, orders_line, mark_lines, mark_text, HasLines, IsFirstBad, IsRead}
-use Rattle.farm_checkpoint.specs.Reading.{AreCallLines, Follows, IsBadCall}
+use Rattle.farm_checkpoint.specs.Text.{save_line, call_text, orders_line, mark_lines, mark_text, HasLines, IsFirstBad, IsRead}
+use Rattle.farm_checkpoint.specs.Reading.{AreCallLines, RisesAbove, IsBadCall}
 use Rattle.farm_checkpoint.proofs.Fields.{Fits}
 use Rattle.farm_checkpoint.proofs.Rising.{front_below}
 use Rattle.farm_checkpoint.proofs.Lines.{lines_of, Next}
@@ -20,7 +20,7 @@ pub record HasCalls (period : ℕ) (text : List ℕ) (calls : List MarkCall) (re
   pub so_far : AreCallLines period text calls rest
   pub low : last ≤ 4096
   pub below : All (λ e. e.call ≤ last) calls
-  pub least : (c : MarkCall) → 1 ≤ c.call → Follows calls c → last < c.call
+  pub least : (c : MarkCall) → 1 ≤ c.call → RisesAbove calls c → last < c.call
   pub size : length calls + length rest ≤ length text
 
 pub no_calls : (period : ℕ) (text : List ℕ) → HasCalls period text [] text 0
@@ -38,7 +38,7 @@ no_calls period text = record {
 
 pub push_call : (period : ℕ) (text : List ℕ) (calls : List MarkCall) (rest after : List ℕ) (last : ℕ) (c : MarkCall) →
     HasCalls period text calls rest last → IsLive period c → HasSums c → last < c.call →
-    rest ≡ call_line c ++ after → length after < length rest → HasCalls period text (calls ++ c ∷ []) after c.call
+    rest ≡ call_text c ++ after → length after < length rest → HasCalls period text (calls ++ c ∷ []) after c.call
 push_call period text calls rest after last c has live sums above line shorter = record {
   so_far = record {
     live = record {
@@ -47,7 +47,7 @@ push_call period text calls rest after last c has live sums above line shorter =
           (λ k d within. omega (arith, above, All-get_or (λ e. e.call ≤ last) calls k d within has.below));
     };
     sums = All-push HasSums calls c has.so_far.sums sums;
-    whole = has.so_far.whole ∙ ap (λ t. flat_map call_line calls ++ t) line ∙ sym (append_assoc (flat_map call_line calls) (call_line c) after) ∙ ap (λ t. t ++ after) pushed;
+    whole = has.so_far.whole ∙ ap (λ t. flat_map call_text calls ++ t) line ∙ sym (append_assoc (flat_map call_text calls) (call_text c) after) ∙ ap (λ t. t ++ after) pushed;
   };
   low = live.number.1;
   below = All-push (λ e. e.call ≤ c.call) calls c (weaker c.call (omega (arith, above))) (omega arith);
@@ -58,17 +58,17 @@ push_call period text calls rest after last c has live sums above line shorter =
     weaker : (n : ℕ) → last ≤ n → All (λ e. e.call ≤ n) calls
     weaker n low = λ i d within. omega (arith, low, has.below i d within)
 
-    pushed : flat_map call_line calls ++ call_line c ≡ flat_map call_line (calls ++ c ∷ [])
-    pushed = ap (λ t. flat_map call_line calls ++ t) (sym (append-nil (call_line c))) ∙ sym (flat_map-append call_line calls (c ∷ []))
+    pushed : flat_map call_text calls ++ call_text c ≡ flat_map call_text (calls ++ c ∷ [])
+    pushed = ap (λ t. flat_map call_text calls ++ t) (sym (append-nil (call_text c))) ∙ sym (flat_map-append call_text calls (c ∷ []))
 
 -- a call's line isn't empty
-pub shorter : (c : MarkCall) (rest after : List ℕ) → rest ≡ call_line c ++ after → length after < length rest
-unfolding call_line
-shorter c rest after line = let e = ap length line in let size = length-append (call_line c) after in omega (arith, e, size)
+pub shorter : (c : MarkCall) (rest after : List ℕ) → rest ≡ call_text c ++ after → length after < length rest
+unfolding call_text
+shorter c rest after line = let e = ap length line in let size = length-append (call_text c) after in omega (arith, e, size)
 
 -- nothing that may follow is left
 pub stuck : (period : ℕ) (text : List ℕ) (calls : List MarkCall) (rest : List ℕ) (last n : ℕ) → HasCalls period text calls rest last →
-    ((c : MarkCall) (after : List ℕ) → IsLive period c → HasSums c → last < c.call → rest ≡ call_line c ++ after → ⊥) →
+    ((c : MarkCall) (after : List ℕ) → IsLive period c → HasSums c → last < c.call → rest ≡ call_text c ++ after → ⊥) →
     ((after : List ℕ) → rest ≡ orders_line ++ after → ⊥) → n ≡ length calls + 2 → IsBadCall period text n
 stuck period text calls rest last n has no_call no_orders number = record {
   calls = calls;
@@ -78,9 +78,9 @@ stuck period text calls rest last n has no_call no_orders number = record {
   number = number;
 }
 
-lines_before : (calls : List MarkCall) → concat (take (length calls) (lines_of calls)) ≡ flat_map call_line calls
+lines_before : (calls : List MarkCall) → concat (take (length calls) (lines_of calls)) ≡ flat_map call_text calls
 lines_before [] = refl
-lines_before (c ∷ calls) = ap (λ t. call_line c ++ t) (lines_before calls)
+lines_before (c ∷ calls) = ap (λ t. call_text c ++ t) (lines_before calls)
 
 at_seam : (P : MarkCall → Type 0) (front : List MarkCall) (y : MarkCall) (back : List MarkCall) → All P (front ++ y ∷ back) → P y
 at_seam P front y back all = subst P (get_or-append_seam front y back y) (All-get_or P (front ++ y ∷ back) (length front) y (omega (arith, length-append front (y ∷ back))) all)
@@ -109,17 +109,17 @@ bad_call period n text behind low high first is = record {
     fit : All Fits is.calls
     fit = all_fit period is.calls high is.good.live.each is.good.sums
 
-    whole : text ≡ save_line period ++ (flat_map call_line is.calls ++ is.rest)
+    whole : text ≡ save_line period ++ (flat_map call_text is.calls ++ is.rest)
     whole = first ∙ ap (λ t. save_line period ++ t) is.good.whole
 
-    front : text ≡ (save_line period ++ flat_map call_line is.calls) ++ is.rest
-    front = whole ∙ sym (append_assoc (save_line period) (flat_map call_line is.calls) is.rest)
+    front : text ≡ (save_line period ++ flat_map call_text is.calls) ++ is.rest
+    front = whole ∙ sym (append_assoc (save_line period) (flat_map call_text is.calls) is.rest)
 
-    good_lines : concat (take (n - 1) (mark_lines before)) ≡ save_line period ++ flat_map call_line is.calls
+    good_lines : concat (take (n - 1) (mark_lines before)) ≡ save_line period ++ flat_map call_text is.calls
     good_lines = let size : n - 1 ≡ suc (length is.calls) = omega (arith, is.number) in rw size (ap (λ t. save_line period ++ t) (lines_before is.calls))
 
     one_follows : (mark : MarkView) → HasLines text mark n → period ≡ mark.period → (y : MarkCall) (zs : List MarkCall) (after : List ℕ) →
-        mark.calls ≡ is.calls ++ y ∷ zs → is.rest ≡ call_line y ++ after → ⊥
+        mark.calls ≡ is.calls ++ y ∷ zs → is.rest ≡ call_text y ++ after → ⊥
     one_follows mark has same y zs after ahead line =
         let live = subst (λ ys. All (IsLive mark.period) ys) ahead has.is.live.each in
         let sums = subst (λ ys. All HasSums ys) ahead has.is.sums in

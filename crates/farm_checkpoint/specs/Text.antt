@@ -9,8 +9,8 @@ unfoldable pub save_line : ℕ → List ℕ
 save_line period = codes "save " ++ (decimal period ++ codes "\n")
 
 -- call C from S out X down Y
-unfoldable pub call_line : MarkCall → List ℕ
-call_line c =
+unfoldable pub call_text : MarkCall → List ℕ
+call_text c =
     codes "call " ++ (decimal c.call ++ (codes " from " ++ (decimal c.from
     ++ (codes " out " ++ (decimal c.out ++ (codes " down " ++ (decimal c.down ++ codes "\n")))))))
 
@@ -20,7 +20,7 @@ orders_line = codes "orders\n"
 
 -- the lines of a mark, each with its LF
 abbrev pub mark_lines : MarkView → List (List ℕ)
-mark_lines mark = save_line mark.period ∷ (map call_line mark.calls ++ orders_line ∷ [])
+mark_lines mark = save_line mark.period ∷ (map call_text mark.calls ++ orders_line ∷ [])
 
 -- its text
 abbrev pub mark_text : MarkView → List ℕ

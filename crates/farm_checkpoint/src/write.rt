@@ -3,13 +3,13 @@
 ghost use Rattle.std.specs.Prelude.{◌≡◌, ◌++◌, ◌≤◌, IfOk, OnOk, string_bytes};
 ghost use Rattle.std.specs.List.{flat_map, All};
 ghost use Rattle.farm_checkpoint.specs.Marks.{AreLive, HasSums, IsMark};
-ghost use Rattle.farm_checkpoint.specs.Text.{call_line, mark_text};
+ghost use Rattle.farm_checkpoint.specs.Text.{call_text, mark_text};
 
 use crate::{Mark, MarkCall};
 use std::alloc::{AllocError, Global};
 
 fn put_call(text: &mut String, call: MarkCall) -> Result<(), AllocError>
-    ensures text { OnOk result (string_bytes text.new ≡ string_bytes text.old ++ call_line call) }
+    ensures text { OnOk result (string_bytes text.new ≡ string_bytes text.old ++ call_text call) }
     ensures sums { HasSums call }
 {
     let MarkCall {
@@ -23,7 +23,7 @@ fn put_call(text: &mut String, call: MarkCall) -> Result<(), AllocError>
 
 // The lines of calls, at the end of a text.
 fn put_calls(text: &mut String, calls: &[MarkCall]) -> Result<(), AllocError>
-    ensures text { OnOk result (string_bytes text.new ≡ string_bytes text.old ++ flat_map call_line calls.now) }
+    ensures text { OnOk result (string_bytes text.new ≡ string_bytes text.old ++ flat_map call_text calls.now) }
     ensures sums { OnOk result (All HasSums calls.now) }
 {
     for call in calls {

@@ -3,19 +3,19 @@ use Rattle.std.proofs.Common.{◌≡◌, ◌≢◌, ℕ, ◌+◌, ◌*◌, ◌/�
 use Rattle.std.specs.List.{range_with_len}
 use Rattle.std.proofs.lemmas.List.FromFn.{length-map-range_with_len, get_or-map-range_with_len}
 use Rattle.std.proofs.lemmas.Grind.{same_number_lists}
-use Rattle.farm_drill.specs.Draws.{next, state_at, first_draw, first_loud_draw}
+use Rattle.farm_drill.specs.Draws.{next, draw_state, first_draw, first_loud_draw}
 
-pub state-first : (seed call : ℕ) → state_at seed call 0 ≡ (seed * 4096 + call) % 2 ^ 32
-unfolding state_at
+pub state-first : (seed call : ℕ) → draw_state seed call 0 ≡ (seed * 4096 + call) % 2 ^ 32
+unfolding draw_state
 state-first seed call = refl
 
-pub state-more : (seed call n : ℕ) → state_at seed call (n + 1) ≡ next (state_at seed call n)
-unfolding state_at
+pub state-more : (seed call n : ℕ) → draw_state seed call (n + 1) ≡ next (draw_state seed call n)
+unfolding draw_state
 state-more seed call n = rw add-one refl
 
 -- the same place, told by another number
-pub state-along : (seed call m n x : ℕ) → m ≡ n → x ≡ state_at seed call m → x ≡ state_at seed call n
-state-along seed call m n x e h = subst (λ (k : ℕ). x ≡ state_at seed call k) e h
+pub state-along : (seed call m n x : ℕ) → m ≡ n → x ≡ draw_state seed call m → x ≡ draw_state seed call n
+state-along seed call m n x e h = subst (λ (k : ℕ). x ≡ draw_state seed call k) e h
 
 -- what holds these numbers place by place is their list
 pub all_from : (f : ℕ → ℕ) (first count : ℕ) (xs : List ℕ) → length xs ≡ count → ((k : ℕ) → k < count → get_or xs k 0 ≡ f (first + k)) →

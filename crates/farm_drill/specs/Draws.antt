@@ -7,13 +7,13 @@ abbrev pub next : ℕ → ℕ
 next x = (1664525 * x + 1013904223) % 2 ^ 32
 
 -- the generator of a call behind n draws; where it starts, the seed and the call's number say
-unfoldable pub state_at : ℕ → ℕ → ℕ → ℕ
-state_at seed call zero = (seed * 4096 + call) % 2 ^ 32
-state_at seed call (suc n) = next (state_at seed call n)
+unfoldable pub draw_state : ℕ → ℕ → ℕ → ℕ
+draw_state seed call zero = (seed * 4096 + call) % 2 ^ 32
+draw_state seed call (suc n) = next (draw_state seed call n)
 
 -- draw n of a call, from 0 on: the highest octet of the generator behind it
 abbrev pub draw : ℕ → ℕ → ℕ → ℕ
-draw seed call n = state_at seed call (n + 1) / 2 ^ 24
+draw seed call n = draw_state seed call (n + 1) / 2 ^ 24
 
 -- so many draws from draw `first` on, and the highest bit of each
 abbrev pub draws : ℕ → ℕ → ℕ → ℕ → List ℕ

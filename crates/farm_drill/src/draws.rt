@@ -2,7 +2,7 @@
 
 ghost use Rattle.std.specs.Prelude.{◌≡◌, ℕ, ◌+◌, ◌<◌, length};
 ghost use Rattle.trau_bits.specs.Bits.{AreBits};
-ghost use Rattle.farm_drill.specs.Draws.{state_at, draw, draws, drawn_bits};
+ghost use Rattle.farm_drill.specs.Draws.{draw_state, draw, draws, drawn_bits};
 
 /// The generator of a call, behind some number of draws.
 #[derive(Drop)]
@@ -14,7 +14,7 @@ impl Generator {
     /// Before a call's first draw.
     pub fn new(seed: u32, call: u32) -> Generator
         requires { call < 4096 }
-        ensures { result.x ≡ state_at seed call 0 }
+        ensures { result.x ≡ draw_state seed call 0 }
     {
         Generator {
             x: ((seed as u64 * 4096 + call as u64) % 4_294_967_296) as u32,
@@ -23,8 +23,8 @@ impl Generator {
 
     /// The next draw, an octet.
     pub(crate) fn draw(&mut self) -> u8
-        ensures now { (seed call n : ℕ) → self.old.x ≡ state_at seed call n → self.new.x ≡ state_at seed call (n + 1) }
-        ensures draw { (seed call n : ℕ) → self.old.x ≡ state_at seed call n → result ≡ draw seed call n }
+        ensures now { (seed call n : ℕ) → self.old.x ≡ draw_state seed call n → self.new.x ≡ draw_state seed call (n + 1) }
+        ensures draw { (seed call n : ℕ) → self.old.x ≡ draw_state seed call n → result ≡ draw seed call n }
     {
         self.x = ((1_664_525 * self.x as u64 + 1_013_904_223) % 4_294_967_296) as u32;
         (self.x / 16_777_216) as u8
@@ -32,8 +32,8 @@ impl Generator {
 
     /// The next draws, over all of the octets.
     pub(crate) fn fill(&mut self, octets: &mut [u8])
-        ensures now { (seed call n : ℕ) → self.old.x ≡ state_at seed call n → self.new.x ≡ state_at seed call (n + length octets.old) }
-        ensures octets { (seed call n : ℕ) → self.old.x ≡ state_at seed call n → octets.new ≡ draws seed call n (length octets.old) }
+        ensures now { (seed call n : ℕ) → self.old.x ≡ draw_state seed call n → self.new.x ≡ draw_state seed call (n + length octets.old) }
+        ensures octets { (seed call n : ℕ) → self.old.x ≡ draw_state seed call n → octets.new ≡ draws seed call n (length octets.old) }
     {
         for octet in octets.iter_mut() {
             *octet = self.draw();
@@ -42,8 +42,8 @@ impl Generator {
 
     /// The highest bits of the next 260 draws.
     pub(crate) fn bits(&mut self) -> [u8; 260]
-        ensures now { (seed call n : ℕ) → self.old.x ≡ state_at seed call n → self.new.x ≡ state_at seed call (n + 260) }
-        ensures value { (seed call n : ℕ) → self.old.x ≡ state_at seed call n → result ≡ drawn_bits seed call n 260 }
+        ensures now { (seed call n : ℕ) → self.old.x ≡ draw_state seed call n → self.new.x ≡ draw_state seed call (n + 260) }
+        ensures value { (seed call n : ℕ) → self.old.x ≡ draw_state seed call n → result ≡ drawn_bits seed call n 260 }
         ensures bits { AreBits result }
     {
         let mut bits = [0; 260];

@@ -1,7 +1,7 @@
 //! The octets of one period of a drilled call.
 
 ghost use Rattle.std.specs.Prelude.{◌≡◌, ℕ, ◌+◌, ◌<◌, ◌≤◌};
-ghost use Rattle.farm_drill.specs.Draws.{state_at, is_loud, first_draw, first_loud_draw};
+ghost use Rattle.farm_drill.specs.Draws.{draw_state, is_loud, first_draw, first_loud_draw};
 ghost use Rattle.farm_drill.specs.Uplink.{kind_drawn, class_drawn, field_drawn, up_octets};
 ghost use Rattle.farm_drill.specs.Lines.{pcm_octets};
 
@@ -42,9 +42,9 @@ fn field(a: u8) -> u8
 
 /// The uplink's octets of a period, of which the generator is at the first draw. It takes 262 draws.
 pub fn uplink(generator: &mut Generator, period: u32) -> [u8; 40]
-    ensures now { (seed call : ℕ) → generator.old.x ≡ state_at seed call (first_draw period) →
-        generator.new.x ≡ state_at seed call (first_loud_draw period) }
-    ensures octets { (seed call : ℕ) → generator.old.x ≡ state_at seed call (first_draw period) →
+    ensures now { (seed call : ℕ) → generator.old.x ≡ draw_state seed call (first_draw period) →
+        generator.new.x ≡ draw_state seed call (first_loud_draw period) }
+    ensures octets { (seed call : ℕ) → generator.old.x ≡ draw_state seed call (first_draw period) →
         result ≡ up_octets seed call period }
 {
     let t = generator.draw();
@@ -66,9 +66,9 @@ pub fn uplink(generator: &mut Generator, period: u32) -> [u8; 40]
 
 /// The octets of a period from the exchange. Where the line is loud they take 160 draws, behind those for the uplink.
 pub fn pcm(generator: &mut Generator, period: u32) -> [u8; 160]
-    ensures now { (seed call : ℕ) → generator.old.x ≡ state_at seed call (first_loud_draw period) →
-        generator.new.x ≡ state_at seed call (first_draw (period + 1)) }
-    ensures octets { (seed call : ℕ) → generator.old.x ≡ state_at seed call (first_loud_draw period) →
+    ensures now { (seed call : ℕ) → generator.old.x ≡ draw_state seed call (first_loud_draw period) →
+        generator.new.x ≡ draw_state seed call (first_draw (period + 1)) }
+    ensures octets { (seed call : ℕ) → generator.old.x ≡ draw_state seed call (first_loud_draw period) →
         result ≡ pcm_octets seed call period }
 {
     let mut octets = [IDLE_OCTET; 160];

@@ -32,14 +32,14 @@ number_of (Draining c d) = 6
 number_of (NumberUsed c) = 7
 
 -- the call that a refusal is about
-abbrev pub call_of : Refusal → ℕ
-call_of (AlreadyOpen c) = c
-call_of (NotOpen c) = c
-call_of (Bridged c d) = c
-call_of (NotBridged c) = c
-call_of (SameCall c) = c
-call_of (Draining c d) = c
-call_of (NumberUsed c) = c
+abbrev pub refused_call : Refusal → ℕ
+refused_call (AlreadyOpen c) = c
+refused_call (NotOpen c) = c
+refused_call (Bridged c d) = c
+refused_call (NotBridged c) = c
+refused_call (SameCall c) = c
+refused_call (Draining c d) = c
+refused_call (NumberUsed c) = c
 
 -- and the other call of the bridge that it is about
 abbrev pub partner_words : Refusal → List (List ℕ)
@@ -56,7 +56,7 @@ partner_words (NumberUsed c) = []
 -- order N refused K call C partner D
 abbrev pub outcome_words : Result Act Refusal → List (List ℕ)
 outcome_words (Ok act) = codes "ok" ∷ []
-outcome_words (Err refusal) = codes "refused" ∷ decimal (number_of refusal) ∷ codes "call" ∷ decimal (call_of refusal) ∷ partner_words refusal
+outcome_words (Err refusal) = codes "refused" ∷ decimal (number_of refusal) ∷ codes "call" ∷ decimal (refused_call refusal) ∷ partner_words refusal
 
 abbrev pub reply_line : Reply → List ℕ
 reply_line reply = line_of (codes "order" ∷ decimal reply.order ∷ outcome_words reply.result)

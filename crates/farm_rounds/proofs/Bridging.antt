@@ -14,7 +14,7 @@ use Rattle.farm_rounds.specs.declared.call.Group.{Group}
 use Rattle.farm_rounds.specs.declared.call.Group.TheVariants.{One, Two}
 use Rattle.farm_rounds.specs.Calls.{holds, group_in, partner_in, pair_of, size_of, calls_held}
 use Rattle.farm_rounds.specs.Groups.{IsCall, IsGroup, AreGroups}
-use Rattle.farm_rounds.specs.Acts.{joined, parted, Applied}
+use Rattle.farm_rounds.specs.Acts.{bridged_call, parted, Applied}
 use Rattle.farm_rounds.proofs.Finding.{found_moved}
 use Rattle.farm_rounds.proofs.Exchanging.{Exchanges, exchanged}
 use Rattle.farm_rounds.proofs.Orders.{joined_calls, joined_partners, parted_calls, parted_partners, pair_count, parted_count}
@@ -36,20 +36,20 @@ pair_group most x y ne hx hy = elim (cases_Bool (nat_lt x.number y.number)) [
 ]
 
 -- two single calls that leave their groups for a common one are bridged
-pub join_applied : (most : ℕ) (x y : Call) (before now : List Group) → Exchanges (One x ∷ One y ∷ []) (pair_of (joined x) (joined y) ∷ []) before now →
+pub join_applied : (most : ℕ) (x y : Call) (before now : List Group) → Exchanges (One x ∷ One y ∷ []) (pair_of (bridged_call x) (bridged_call y) ∷ []) before now →
     AreGroups most before → x.number ≢ y.number → group_in before x.number ≡ Some (One x) → group_in before y.number ≡ Some (One y) →
     Applied most (act.Bridged x.number y.number) before now
 join_applied most x y before now ex a ne gx gy =
-    let hx : IsCall most (joined x) = moved_call most x (joined x) refl refl (found_group most before x.number (One x) a gx).0 in
-    let hy : IsCall most (joined y) = moved_call most y (joined y) refl refl (found_group most before y.number (One y) a gy).0 in
-    let each : All (IsGroup most) (pair_of (joined x) (joined y) ∷ []) =
-    All-cons (IsGroup most) (pair_of (joined x) (joined y)) [] (pair_group most (joined x) (joined y) ne hx hy) (All-nil (IsGroup most)) in
-    let few : (c : ℕ) → count_by (holds c) (pair_of (joined x) (joined y) ∷ []) + count_by (holds c) before ≤ 1 + count_by (holds c) (One x ∷ One y ∷ []) = λ c.
-    let p : count_by (holds c) (pair_of (joined x) (joined y) ∷ []) ≤ count_by (holds c) (One x ∷ One y ∷ []) = pair_count c (joined x) (joined y) in
+    let hx : IsCall most (bridged_call x) = moved_call most x (bridged_call x) refl refl (found_group most before x.number (One x) a gx).0 in
+    let hy : IsCall most (bridged_call y) = moved_call most y (bridged_call y) refl refl (found_group most before y.number (One y) a gy).0 in
+    let each : All (IsGroup most) (pair_of (bridged_call x) (bridged_call y) ∷ []) =
+    All-cons (IsGroup most) (pair_of (bridged_call x) (bridged_call y)) [] (pair_group most (bridged_call x) (bridged_call y) ne hx hy) (All-nil (IsGroup most)) in
+    let few : (c : ℕ) → count_by (holds c) (pair_of (bridged_call x) (bridged_call y) ∷ []) + count_by (holds c) before ≤ 1 + count_by (holds c) (One x ∷ One y ∷ []) = λ c.
+    let p : count_by (holds c) (pair_of (bridged_call x) (bridged_call y) ∷ []) ≤ count_by (holds c) (One x ∷ One y ∷ []) = pair_count c (bridged_call x) (bridged_call y) in
     omega (arith, p, a.apart c) in
-    let e = exchanged most (One x ∷ One y ∷ []) (pair_of (joined x) (joined y) ∷ []) before now ex a each few in
-    let two : calls_held (pair_of (joined x) (joined y) ∷ []) ≡ 2 =
-    omega (arith, pair_size (joined x) (joined y), sum_by-cons size_of (pair_of (joined x) (joined y)) []) in
+    let e = exchanged most (One x ∷ One y ∷ []) (pair_of (bridged_call x) (bridged_call y) ∷ []) before now ex a each few in
+    let two : calls_held (pair_of (bridged_call x) (bridged_call y) ∷ []) ≡ 2 =
+    omega (arith, pair_size (bridged_call x) (bridged_call y), sum_by-cons size_of (pair_of (bridged_call x) (bridged_call y)) []) in
     record {
       groups = e.groups;
       calls = joined_calls (group_in before) (group_in now) x y ne gx gy e.found;
@@ -69,16 +69,16 @@ still_alone most before first a b x y ne k gx gy p =
 -- the same, of the lists that the code takes the groups from and puts the new one into
 pub join_pair : (most : ℕ) (before first second now : List Group) (a b : ℕ) (x y : Call) → a ≢ b → AreGroups most before → group_in before a ≡ Some (One x) →
     group_in before b ≡ Some (One y) → IsPermutation before (One x ∷ first) → IsPermutation first (One y ∷ second) →
-    now ≡ second ++ pair_of (joined x) (joined y) ∷ [] → Applied most (act.Bridged a b) before now
+    now ≡ second ++ pair_of (bridged_call x) (bridged_call y) ∷ [] → Applied most (act.Bridged a b) before now
 join_pair most before first second now a b x y ne k gx gy p q e =
     let nx : x.number ≡ a = one_number a x (found_group most before a (One x) k gx).1 in
     let ny : y.number ≡ b = one_number b y (found_group most before b (One y) k gy).1 in
-    let ex : Exchanges (One x ∷ One y ∷ []) (pair_of (joined x) (joined y) ∷ []) before now = record {
+    let ex : Exchanges (One x ∷ One y ∷ []) (pair_of (bridged_call x) (bridged_call y) ∷ []) before now = record {
       others = second;
       old = IsPermutation-trans before (One x ∷ first) (One x ∷ One y ∷ second) p (IsPermutation-cons (One x) first (One y ∷ second) q);
       new =
-          subst (λ (gs : List Group). IsPermutation gs (pair_of (joined x) (joined y) ∷ second)) (sym e)
-          (IsPermutation-to_front second (pair_of (joined x) (joined y)));
+          subst (λ (gs : List Group). IsPermutation gs (pair_of (bridged_call x) (bridged_call y) ∷ second)) (sym e)
+          (IsPermutation-to_front second (pair_of (bridged_call x) (bridged_call y)));
     } in
     subst (λ (m : ℕ). Applied most (act.Bridged m b) before now) nx (subst (λ (m : ℕ). Applied most (act.Bridged x.number m) before now) ny
     (join_applied most x y before now ex k (λ r. ne (sym nx ∙ r ∙ ny)) (subst (λ (m : ℕ). group_in before m ≡ Some (One x)) (sym nx) gx)

@@ -14,13 +14,13 @@ use Rattle.farm_rounds.specs.declared.call.Group.{Group}
 use Rattle.farm_rounds.specs.declared.call.Group.TheVariants.{One, Two}
 use Rattle.farm_rounds.specs.declared.tally.Tally.{Tally}
 use Rattle.farm_rounds.specs.Calls.{holds, call_of, group_in, call_in, partner_in}
-use Rattle.farm_rounds.specs.Groups.{AreGroups, AreLive}
+use Rattle.farm_rounds.specs.Groups.{AreGroups, ListsOpenCalls}
 use Rattle.farm_rounds.specs.Memory.{tally_in}
 use Rattle.farm_rounds.specs.Numbers.{is_among}
 use Rattle.farm_rounds.specs.Histories.{CallHistory, whose, CallStands, GroupsStand, kept_of}
 use Rattle.farm_rounds.specs.Rounds.{groups_from}
 use Rattle.farm_rounds.specs.Settling.{HaveSeats, goes_on_in, told_by, call_left, groups_left, ended_in, KeepsTally, Settled}
-use Rattle.farm_rounds.specs.Working.{WorkedMemory, IsWorked, goes_on_call, that_stays, partner_past}
+use Rattle.farm_rounds.specs.Working.{WorkedMemory, IsWorkedRound, goes_on_call, that_stays, partner_past}
 use Rattle.farm_rounds.specs.RoundHistories.{seat_of, WorkedCall, WorkedStand, KnowFailed, those_that}
 use Rattle.farm_rounds.proofs.Finding.{found_there}
 use Rattle.farm_rounds.proofs.Left.{left_if, groups_of_left, held_left, calls_left}
@@ -135,7 +135,7 @@ module _ (stays : ℕ → Bool) (seat : ℕ → SeatMemory) (c : ℕ) where
 -- The farm after a round: its groups, the open calls' numbers and what is kept of those that have ended.
 pub record IsPassed (r : WorkedMemory) (after : List Group) (numbers : List ℕ) (keeps : List Tally) : Type 0 where
   pub groups : AreGroups r.ended after
-  pub alive : AreLive numbers after
+  pub alive : ListsOpenCalls numbers after
   pub kept : length keeps ≡ 4097
   pub fewer : length numbers ≤ length r.live
   pub live : (c : ℕ) → is_among numbers c ≡ (is_among r.live c && goes_on_call r.seats c)
@@ -146,7 +146,7 @@ pub record IsPassed (r : WorkedMemory) (after : List Group) (numbers : List ℕ)
       tally_in keeps c ≡ (if goes_on_call r.seats c then tally_in r.tallies c else kept_of (h c) (tally_in r.tallies c))
 
 -- it has the groups that are left of the round's
-passed_left : (r : WorkedMemory) (live : List ℕ) (tallies : List Tally) → IsWorked r →
+passed_left : (r : WorkedMemory) (live : List ℕ) (tallies : List Tally) → IsWorkedRound r →
     Settled (goes_on_call r.seats) (groups_from r.jobs) r.live live r.tallies tallies →
     IsPassed r (groups_left (goes_on_call r.seats) (seat_of r.seats) (groups_from r.jobs)) live tallies
 passed_left r live tallies w s =
@@ -180,13 +180,13 @@ passed_left r live tallies w s =
     }
 
 -- the same, of groups that are these
-pub passed : (r : WorkedMemory) (groups : List Group) (live : List ℕ) (tallies : List Tally) → IsWorked r →
+pub passed : (r : WorkedMemory) (groups : List Group) (live : List ℕ) (tallies : List Tally) → IsWorkedRound r →
     groups ≡ groups_left (goes_on_call r.seats) (seat_of r.seats) (groups_from r.jobs) →
     Settled (goes_on_call r.seats) (groups_from r.jobs) r.live live r.tallies tallies → IsPassed r groups live tallies
 passed r groups live tallies w e s = subst (λ (gs : List Group). IsPassed r gs live tallies) (sym e) (passed_left r live tallies w s)
 
 -- the seats are those of the round's calls
-pub have_seats : (r : WorkedMemory) (numbers : List ℕ) (seats : List SeatMemory) → IsWorked r → numbers ≡ r.live → seats ≡ r.seats → HaveSeats numbers seats
+pub have_seats : (r : WorkedMemory) (numbers : List ℕ) (seats : List SeatMemory) → IsWorkedRound r → numbers ≡ r.live → seats ≡ r.seats → HaveSeats numbers seats
 have_seats r numbers seats w en es =
     subst (λ (xs : List ℕ). HaveSeats xs seats) (sym en)
     (subst (λ (ss : List SeatMemory). HaveSeats r.live ss) (sym es) (record { number = w.numbers; aligned = w.aligned; rising = w.alive.rising }))
@@ -200,8 +200,8 @@ drained_as_before before after seats now drains k l =
     let kept = (drains k l).kept in (ap (λ (s : SeatMemory). s.place.call) kept, ap (λ (s : SeatMemory). goes_on_in s) kept)
 
 -- it is still worked
-pub still_worked : (r : WorkedMemory) (now : List SeatMemory) → IsWorked r → length now ≡ length r.seats → GoAsBefore r.seats now → Rising now →
-    IsWorked (record r { seats = now })
+pub still_worked : (r : WorkedMemory) (now : List SeatMemory) → IsWorkedRound r → length now ≡ length r.seats → GoAsBefore r.seats now → Rising now →
+    IsWorkedRound (record r { seats = now })
 still_worked r now w number same rising = record {
   numbers = number ∙ w.numbers;
   aligned = λ k l. let b : k < length r.seats = omega (arith, l, number) in (same k b).0 ∙ w.aligned k b;

@@ -19,9 +19,9 @@ use Rattle.trau_io.specs.declared.line.Line.{Line}
 use Rattle.farm_rounds.specs.declared.tally.Tally.{Tally}
 use Rattle.farm_rounds.specs.Memory.{FarmMemory, no_tally, home_memory}
 use Rattle.farm_rounds.specs.Numbers.{IsRising, is_among}
-use Rattle.farm_rounds.specs.Groups.{IsCall, IsGroup, AreGroups, AreLive}
+use Rattle.farm_rounds.specs.Groups.{IsCall, IsGroup, AreGroups, ListsOpenCalls}
 use Rattle.farm_rounds.specs.Histories.{GroupsStand}
-use Rattle.farm_rounds.specs.Acts.{new_call, joined, parted, set_by, freed, calls_after, IsOpen, Fits, Stays, Applied}
+use Rattle.farm_rounds.specs.Acts.{new_call, bridged_call, parted, set_by, freed, calls_after, IsOpen, ActFits, Stays, Applied}
 use Rattle.farm_rounds.proofs.Finding.{none_passes, counted_none}
 use Rattle.farm_rounds.proofs.Exchanging.{Exchanges, exchanged}
 use Rattle.farm_rounds.proofs.Orders.{opened_calls, opened_partners}
@@ -41,7 +41,7 @@ no_group gs c = go (group_in gs c) where
   go (Some g) e = absurd (cc)
 
 -- a new group of one new call opens that call
-pub open_applied : (most c : ℕ) (law : Law) (before now : List Group) → Fits before (act.Opened c law) → AreGroups most before →
+pub open_applied : (most c : ℕ) (law : Law) (before now : List Group) → ActFits before (act.Opened c law) → AreGroups most before →
     now ≡ before ++ One (new_call c law) ∷ [] → Applied most (act.Opened c law) before now
 open_applied most c law before now fits k e =
     let none = no_group before c fits.1 in
@@ -81,8 +81,8 @@ same_freed None f d = refl
 same_freed (Some q) f d = elim (cases_Bool (q == d)) [ inl t ↦ simp t (is_some-map parted (f d)) | inr g ↦ simp g refl ]
 
 -- the numbers of the open calls with that of a new one
-pub open_live : (most c : ℕ) (law : Law) (live now_live : List ℕ) (before now : List Group) → AreLive live before → Applied most (act.Opened c law) before now →
-    ((d : ℕ) → is_among now_live d ≡ ((c == d) || is_among live d)) → IsRising now_live → length now_live ≡ length live + 1 → AreLive now_live now
+pub open_live : (most c : ℕ) (law : Law) (live now_live : List ℕ) (before now : List Group) → ListsOpenCalls live before → Applied most (act.Opened c law) before now →
+    ((d : ℕ) → is_among now_live d ≡ ((c == d) || is_among live d)) → IsRising now_live → length now_live ≡ length live + 1 → ListsOpenCalls now_live now
 open_live most c law live now_live before now k p among rising long = record {
   numbers = λ d. among d ∙ elim (cases_Bool (c == d)) [
     | inl t ↦ rw (p.calls d) (simp t refl)
@@ -93,9 +93,9 @@ open_live most c law live now_live before now k p among rising long = record {
 }
 
 -- the numbers of the open calls without that of one that ends
-pub close_live : (most c : ℕ) (q : Option ℕ) (live now_live : List ℕ) (before now : List Group) → AreLive live before →
+pub close_live : (most c : ℕ) (q : Option ℕ) (live now_live : List ℕ) (before now : List Group) → ListsOpenCalls live before →
     Applied most (act.Closed c q) before now → ((d : ℕ) → is_among now_live d ≡ (not (c == d) && is_among live d)) → IsRising now_live →
-    length now_live + 1 ≡ length live → AreLive now_live now
+    length now_live + 1 ≡ length live → ListsOpenCalls now_live now
 close_live most c q live now_live before now k p among rising long = record {
   numbers = λ d. among d ∙ elim (cases_Bool (c == d)) [
     | inl t ↦ rw (p.calls d) (simp t refl)
@@ -111,7 +111,7 @@ same_changed c g f d = elim (cases_Bool (c == d)) [ inl t ↦ simp t (is_some-ma
 
 -- the calls stay the same ones
 same_open : (a : Act) (f : ℕ → Option Call) (d : ℕ) → Stays a → is_some (calls_after a f d) ≡ is_some (f d)
-same_open (act.Bridged b c) f d s = same_changed b joined (λ k. if c == k then option_map joined (f k) else f k) d ∙ same_changed c joined f d
+same_open (act.Bridged b c) f d s = same_changed b bridged_call (λ k. if c == k then option_map bridged_call (f k) else f k) d ∙ same_changed c bridged_call f d
 same_open (act.Unbridged b c) f d s = same_changed b parted (λ k. if c == k then option_map parted (f k) else f k) d ∙ same_changed c parted f d
 same_open (act.LevelSet c level) f d s = same_changed c (set_by (act.LevelSet c level)) f d
 same_open (act.DtxSet c mode) f d s = same_changed c (set_by (act.DtxSet c mode)) f d
@@ -128,7 +128,7 @@ same_held most (act.Opened c law) before now s p = absurd s
 same_held most (act.Closed c q) before now s p = absurd s
 
 -- .. and their numbers
-pub stay_live : (most : ℕ) (a : Act) (live : List ℕ) (before now : List Group) → Stays a → AreLive live before → Applied most a before now → AreLive live now
+pub stay_live : (most : ℕ) (a : Act) (live : List ℕ) (before now : List Group) → Stays a → ListsOpenCalls live before → Applied most a before now → ListsOpenCalls live now
 stay_live most a live before now s k p = record {
   numbers = λ d. k.numbers d ∙ sym (ap is_some (p.calls d) ∙ same_open a (call_in before) d s);
   rising = k.rising;
@@ -164,10 +164,10 @@ farm_new gs live kept failed eg el ek ef =
 pub new_groups : (gs : List Group) → gs ≡ [] → AreGroups 0 gs
 new_groups gs e = subst (λ (xs : List Group). AreGroups 0 xs) (sym e) (record { apart = λ c. omega arith; each = All-nil (IsGroup 0) })
 
-pub none_live : (live : List ℕ) (gs : List Group) → live ≡ [] → gs ≡ [] → AreLive live gs
+pub none_live : (live : List ℕ) (gs : List Group) → live ≡ [] → gs ≡ [] → ListsOpenCalls live gs
 none_live live gs el eg =
-    subst (λ (xs : List ℕ). AreLive xs gs) (sym el)
-    (subst (λ (xs : List Group). AreLive [] xs) (sym eg) (record { numbers = λ c. refl; rising = λ i j l lj. absurd (omega (arith, lj)); count = refl }))
+    subst (λ (xs : List ℕ). ListsOpenCalls xs gs) (sym el)
+    (subst (λ (xs : List Group). ListsOpenCalls [] xs) (sym eg) (record { numbers = λ c. refl; rising = λ i j l lj. absurd (omega (arith, lj)); count = refl }))
 
 -- no group stands for no history
 pub none_stand : (gs : List Group) → gs ≡ [] → GroupsStand (λ c. None) gs

@@ -17,14 +17,14 @@ use Rattle.call_pair.proofs.Runs.{two-finished}
 use Rattle.round_lines.specs.Places.{whole_in}
 use Rattle.round_lines.specs.Seats.{SeatMemory}
 use Rattle.farm_rounds.specs.Histories.{CallHistory, whose}
-use Rattle.farm_rounds.specs.Rounds.{octets_of}
+use Rattle.farm_rounds.specs.Rounds.{io_of}
 use Rattle.farm_rounds.specs.Working.{that_stays}
 use Rattle.farm_rounds.specs.RoundHistories.{seat_of, start_with, history_alone, history_bridged, history_beside, history_with, worked_histories}
 
 -- The octets of a call's seat are in its job. It goes on where all periods of the round are whole.
 pub record Seated (seats : List SeatMemory) (stays : ℕ → Bool) (periods c : ℕ) (job : Job) : Type 0 where
-  pub octets : (half_of job c).io ≡ octets_of (seat_of seats c)
-  pub sound : IsIo (octets_of (seat_of seats c))
+  pub octets : (half_of job c).io ≡ io_of (seat_of seats c)
+  pub sound : IsIo (io_of (seat_of seats c))
   pub number : (seat_of seats c).place.call ≡ c
   pub within : whole_in (seat_of seats c).place ≤ periods
   pub full : stays c ≡ (whole_in (seat_of seats c).place == periods)
@@ -33,7 +33,7 @@ pub record Seated (seats : List SeatMemory) (stays : ℕ → Bool) (periods c : 
 pub record Finished (seats : List SeatMemory) (stays : ℕ → Bool) (h : ℕ → Option CallHistory) (partner : ℕ → Option ℕ) (c : ℕ) (job : Job) : Type 0 where
   pub now : CallHistory
   pub told : worked_histories seats partner h c ≡ Some now
-  pub octets : (half_of (finished job) c).io ≡ io_after (whose c now) (whole_in (seat_of seats c).place) now.periods (octets_of (seat_of seats c))
+  pub octets : (half_of (finished job) c).io ≡ io_after (whose c now) (whole_in (seat_of seats c).place) now.periods (io_of (seat_of seats c))
   pub leg : Stands (whose c now) now.periods now.now (half_of (finished job) c).leg
   pub bridged : stays c ≡ true → now.now.bridged ≡ is_some (that_stays stays (partner c))
 
@@ -67,7 +67,7 @@ alone_finished seats stays h partner periods c g x s eh ep leg off =
       told =
           ap (λ (o : Option CallHistory). option_map (history_with seats h c (partner c)) o) eh ∙ ap (λ (q : Option ℕ). Some (history_with seats h c q x)) ep;
       octets = ap (λ (f : HalfMemory). f.io) half ∙ done.worked.io
-          ∙ ap (λ (n : ℕ). io_after (whose n x) (whole_in (seat_of seats c).place) (history_alone seats c x).periods (octets_of (seat_of seats c))) s.number;
+          ∙ ap (λ (n : ℕ). io_after (whose n x) (whole_in (seat_of seats c).place) (history_alone seats c x).periods (io_of (seat_of seats c))) s.number;
       leg = subst (λ (f : HalfMemory). Stands (whose c x) (history_alone seats c x).periods (history_alone seats c x).now f.leg) (sym half)
           (subst (λ (n : ℕ). Stands (whose n x) (history_alone seats c x).periods (history_alone seats c x).now done.half.leg) s.number done.worked.leg);
       bridged = λ on. still_bridged (whole_in (seat_of seats c).place) x.now ∙ off ∙ sym (ap (λ (q : Option ℕ). is_some (that_stays stays q)) ep);
@@ -106,7 +106,7 @@ beside_finished seats stays h partner periods c d job other f x y s t eh ed ep o
       now = now;
       told = ap (λ (o : Option CallHistory). option_map (history_with seats h c (partner c)) o) eh ∙ ap (λ (q : Option ℕ). Some (history_with seats h c q x)) ep
           ∙ ap (λ (o : Option CallHistory). Some (history_beside seats c x d o)) ed;
-      octets = ap (λ (g : HalfMemory). g.io) half ∙ done.io ∙ ap (λ (m : ℕ). io_after (whose m now) n now.periods (octets_of (seat_of seats c))) s.number;
+      octets = ap (λ (g : HalfMemory). g.io) half ∙ done.io ∙ ap (λ (m : ℕ). io_after (whose m now) n now.periods (io_of (seat_of seats c))) s.number;
       leg =
           subst (λ (g : HalfMemory). Stands (whose c now) now.periods now.now g.leg) (sym half)
           (subst (λ (m : ℕ). Stands (whose m now) now.periods now.now f.leg) s.number done.leg);

@@ -10,7 +10,7 @@ use Rattle.call_pair.specs.declared.job.Job.TheVariants.{One, Two}
 use Rattle.call_pair.specs.Memory.{HalfMemory, periods_of}
 use Rattle.call_pair.specs.Jobs.{half_of, finished}
 use Rattle.farm_rounds.specs.Calls.{holds, size_of, calls_held}
-use Rattle.farm_rounds.specs.Groups.{IsCall, IsGroup, AreGroups, AreLive}
+use Rattle.farm_rounds.specs.Groups.{IsCall, IsGroup, AreGroups, ListsOpenCalls}
 use Rattle.farm_rounds.specs.Rounds.{IsTimely, call_from, group_from, groups_from}
 use Rattle.farm_rounds.proofs.CallsFound.{some_call}
 use Rattle.farm_rounds.proofs.Keeping.{KeptHalf, KeptJob, finished_keeps}
@@ -82,7 +82,7 @@ each_same most (j ∷ js) t a =
 pub finished_groups : (most : ℕ) (js : List Job) → All (IsTimely most) js → AreGroups most (groups_from js) → AreGroups most (groups_from (map finished js))
 finished_groups most js t a = record { apart = λ c. omega (arith, count_same js c, a.apart c); each = each_same most js t a.each }
 
-pub finished_live : (live : List ℕ) (js : List Job) → AreLive live (groups_from js) → AreLive live (groups_from (map finished js))
+pub finished_live : (live : List ℕ) (js : List Job) → ListsOpenCalls live (groups_from js) → ListsOpenCalls live (groups_from (map finished js))
 finished_live live js l = record {
   numbers = λ c. l.numbers c ∙ some_call (groups_from js) c ∙ sym (any_same js c) ∙ sym (some_call (groups_from (map finished js)) c);
   rising = l.rising;

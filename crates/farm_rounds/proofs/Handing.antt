@@ -14,15 +14,15 @@ use Rattle.call_pair.specs.Jobs.{has_call, half_of, with_io}
 use Rattle.round_lines.specs.Seats.{SeatMemory, Fits}
 use Rattle.round_lines.specs.Rounds.{Rising, no_seat, seat_at, call_at}
 use Rattle.farm_rounds.specs.declared.entry.Entry.{Entry}
-use Rattle.farm_rounds.specs.Phased.{IsFresh, AreWithin}
-use Rattle.farm_rounds.specs.Rounds.{no_job, groups_from, IsTimely, job_at, half_at, HasJob, SameLegs, HaveJobs, HaveTime, AreHanded, AreSound, entry_at, octets_of}
+use Rattle.farm_rounds.specs.Phased.{IsFreshJob, SeatsAreWithin}
+use Rattle.farm_rounds.specs.Rounds.{no_job, groups_from, IsTimely, job_at, half_at, HasJob, SameLegs, HaveJobs, HaveTime, AreHanded, AreSound, entry_at, io_of}
 use Rattle.farm_rounds.proofs.JobOctets.{make_io, with_has, with_leg, with_same, with_other, groups_kept, with_time, with_fresh}
 
 -- The octets of the first n seats have gone to the jobs, which are as they were but for these.
 pub record HandedIn (before now : List Job) (entries : List Entry) (seats : List SeatMemory) (n : ℕ) : Type 0 where
   pub same : SameLegs before now
   pub handed : AreHanded now entries seats n
-  pub fresh : (most : ℕ) → All (IsFresh most) before → AreWithin most seats → All (IsFresh most) now
+  pub fresh : (most : ℕ) → All (IsFreshJob most) before → SeatsAreWithin most seats → All (IsFreshJob most) now
   pub timely : (most : ℕ) → All (IsTimely most) before →
       ((k : ℕ) → k < length seats → periods_of_leg (half_at before (entry_at entries k).job (call_at seats k)).leg + (seat_at seats k).place.periods ≤ most) →
       All (IsTimely most) now
@@ -46,11 +46,11 @@ its_job before now entries seats n have s l =
 -- with one seat more
 pub handed_more : (before now next : List Job) (entries : List Entry) (seats : List SeatMemory) (n : ℕ) → Rising seats → HaveJobs before entries seats →
     n < length seats → whole_in (seat_at seats n).place ≤ (seat_at seats n).place.periods → HandedIn before now entries seats n →
-    next ≡ slice_set now (entry_at entries n).job (with_io (job_at now (entry_at entries n).job) (octets_of (seat_at seats n))) →
+    next ≡ slice_set now (entry_at entries n).job (with_io (job_at now (entry_at entries n).job) (io_of (seat_at seats n))) →
     HandedIn before next entries seats (n + 1)
 handed_more before now next entries seats n rising have l bound h e =
     let place = (entry_at entries n).job in
-    let io = octets_of (seat_at seats n) in
+    let io = io_of (seat_at seats n) in
     let has = its_job before now entries seats n have h.same l in
     let there : job_at next place ≡ with_io (job_at now place) io =
     ap (λ (js : List Job). job_at js place) e ∙ get_or-set_same now place (with_io (job_at now place) io) no_job has.0 in
@@ -95,9 +95,9 @@ handed_more before now next entries seats n rising have l bound h e =
           (with_time most (job_at now place) io has.1 (All-get_or (IsTimely most) now place no_job has.0 before_all) fits) before_all);
       fresh = λ most all within.
           let before_all = h.fresh most all within in
-          All-same (IsFresh most) next (slice_set now place (with_io (job_at now place) io)) e
-          (All-set (IsFresh most) now place (with_io (job_at now place) io)
-          (with_fresh most (job_at now place) io (All-get_or (IsFresh most) now place no_job has.0 before_all) refl
+          All-same (IsFreshJob most) next (slice_set now place (with_io (job_at now place) io)) e
+          (All-set (IsFreshJob most) now place (with_io (job_at now place) io)
+          (with_fresh most (job_at now place) io (All-get_or (IsFreshJob most) now place no_job has.0 before_all) refl
           (omega (arith, bound, within n l))) before_all);
     }
 
@@ -115,7 +115,7 @@ seat_read seats n s l e = e ∙ same_read seats n s no_seat l
 
 -- the octets of a seat, of the parts that it was taken into
 pub octets_made : (s : SeatMemory) (p : PlaceMemory) (call given : ℕ) (up pcm out down : List ℕ) → call ≡ p.call → given ≡ whole_in p → p ≡ s.place →
-    up ≡ s.up → pcm ≡ s.pcm → out ≡ s.out → down ≡ s.down → make_io call up pcm out down given ≡ octets_of s
+    up ≡ s.up → pcm ≡ s.pcm → out ≡ s.out → down ≡ s.down → make_io call up pcm out down given ≡ io_of s
 octets_made s p call given up pcm out down ec eg ep eu em eo ed =
     let of : (c g : ℕ)
     (u m o d : List ℕ) → c ≡ call → g ≡ given → u ≡ up → m ≡ pcm → o ≡ out → d ≡ down → make_io call up pcm out down given ≡ make_io c u m o d g =
@@ -125,7 +125,7 @@ octets_made s p call given up pcm out down ec eg ep eu em eo ed =
 
 -- the job of the seat's call takes its octets
 pub turn_job : (before now : List Job) (entries : List Entry) (seats : List SeatMemory) (n k j : ℕ) (s : SeatMemory) (io : IoMemory) →
-    HaveJobs before entries seats → SameLegs before now → n < length seats → s ≡ seat_at seats n → k ≡ n → j ≡ (entry_at entries k).job → io ≡ octets_of s →
+    HaveJobs before entries seats → SameLegs before now → n < length seats → s ≡ seat_at seats n → k ≡ n → j ≡ (entry_at entries k).job → io ≡ io_of s →
     HasJob now j io.call
 turn_job before now entries seats n k j s io have same l es ek ej ei =
     let h = its_job before now entries seats n have same l in
@@ -135,7 +135,7 @@ turn_job before now entries seats n k j s io have same l es ek ej ei =
 
 -- the call of a turn has time for the round's periods
 pub turn_time : (before now : List Job) (entries : List Entry) (seats : List SeatMemory) (n k j : ℕ) (s : SeatMemory) (io : IoMemory) →
-    HaveTime before entries seats → SameLegs before now → n < length seats → s ≡ seat_at seats n → k ≡ n → j ≡ (entry_at entries k).job → io ≡ octets_of s →
+    HaveTime before entries seats → SameLegs before now → n < length seats → s ≡ seat_at seats n → k ≡ n → j ≡ (entry_at entries k).job → io ≡ io_of s →
     whole_in s.place ≤ s.place.periods → periods_of_leg (half_at now j io.call).leg + places_left io ≤ 4294967295
 turn_time before now entries seats n k j s io time same l es ek ej ei bound =
     let place : j ≡ (entry_at entries n).job = ej ∙ ap (λ (m : ℕ). (entry_at entries m).job) ek in
@@ -150,19 +150,19 @@ turn_time before now entries seats n k j s io time same l es ek ej ei bound =
 -- the jobs after a turn
 pub turn_handed : (before now next : List Job) (entries : List Entry) (seats : List SeatMemory) (n k j : ℕ) (s : SeatMemory) (io : IoMemory) → Rising seats →
     HaveJobs before entries seats → HandedIn before now entries seats n → n < length seats → whole_in s.place ≤ s.place.periods → s ≡ seat_at seats n → k ≡ n →
-    j ≡ (entry_at entries k).job → io ≡ octets_of s → next ≡ slice_set now j (with_io (job_at now j) io) → HandedIn before next entries seats (n + 1)
+    j ≡ (entry_at entries k).job → io ≡ io_of s → next ≡ slice_set now j (with_io (job_at now j) io) → HandedIn before next entries seats (n + 1)
 turn_handed before now next entries seats n k j s io rising have h l bound es ek ej ei e =
     let place : j ≡ (entry_at entries n).job = ej ∙ ap (λ (m : ℕ). (entry_at entries m).job) ek in
     handed_more before now next entries seats n rising have l (subst (λ (x : SeatMemory). whole_in x.place ≤ x.place.periods) es bound) h
     (e ∙ ap (λ (m : ℕ). slice_set now m (with_io (job_at now m) io)) place
     ∙ ap (λ (x : IoMemory). slice_set now (entry_at entries n).job (with_io (job_at now (entry_at entries n).job) x))
-    (ei ∙ ap (λ (x : SeatMemory). octets_of x) es))
+    (ei ∙ ap (λ (x : SeatMemory). io_of x) es))
 
 -- ---- buffers of the round's length
 
 -- a seat's buffers have the round's length
 sound_made : (s : SeatMemory) → Fits s.place.periods s.up s.pcm s.down s.out → IsCallNumber s.place.call → whole_in s.place ≤ s.place.periods →
-    IsIo (octets_of s)
+    IsIo (io_of s)
 sound_made s fits number bound = record {
   number = number;
   room = record { periods = s.place.periods; enough = bound; up_room = fits.up; pcm_room = fits.pcm; out_room = fits.out; down_room = fits.down };
@@ -178,6 +178,6 @@ sound_more seats n s p call sofar es fits ep ec is_number bound k l = elim (case
   | inr more ↦
       let at : k ≡ n = omega (arith, l, more) in
       let number : call ≡ s.place.call = ec ∙ ap (λ (q : PlaceMemory). q.call) ep in
-      subst (λ (x : SeatMemory). IsIo (octets_of x) × (whole_in x.place ≤ x.place.periods)) (es ∙ ap (λ (m : ℕ). seat_at seats m) (sym at))
+      subst (λ (x : SeatMemory). IsIo (io_of x) × (whole_in x.place ≤ x.place.periods)) (es ∙ ap (λ (m : ℕ). seat_at seats m) (sym at))
       (sound_made s fits (subst IsCallNumber number is_number) bound, bound)
 ]

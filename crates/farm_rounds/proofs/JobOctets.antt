@@ -11,7 +11,7 @@ use Rattle.call_pair.specs.Jobs.{has_call, half_of, with_io}
 use Rattle.std.proofs.Math.Seq.{map-set_same}
 use Rattle.farm_rounds.specs.declared.call.Call.{Call}
 use Rattle.farm_rounds.specs.declared.call.Group.TheVariants as group
-use Rattle.farm_rounds.specs.Phased.{IsFresh}
+use Rattle.farm_rounds.specs.Phased.{IsFreshJob}
 use Rattle.farm_rounds.specs.Rounds.{no_job, call_from, group_from, groups_from, IsTimely, job_at}
 
 -- a call that knows of no failed line
@@ -98,7 +98,7 @@ with_time most (Two a b) io t k l = elim (cases_Bool (a.io.call == io.call)) [
 ]
 
 -- none of its places is done
-pub with_fresh : (most : ℕ) (j : Job) (io : IoMemory) → IsFresh most j → io.done ≡ 0 → io.given ≤ most → IsFresh most (with_io j io)
+pub with_fresh : (most : ℕ) (j : Job) (io : IoMemory) → IsFreshJob most j → io.done ≡ 0 → io.given ≤ most → IsFreshJob most (with_io j io)
 with_fresh most (One h) io k e l = (e, l)
 with_fresh most (Two a b) io k e l = elim (cases_Bool (a.io.call == io.call)) [
   | inl u ↦ simp u ((e, l), k.1)

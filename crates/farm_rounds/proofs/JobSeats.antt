@@ -14,7 +14,7 @@ use Rattle.round_lines.specs.Seats.{SeatMemory}
 use Rattle.round_lines.specs.Rounds.{Rising, seat_at, call_at}
 use Rattle.farm_rounds.specs.declared.call.Group.{Group}
 use Rattle.farm_rounds.specs.Calls.{holds, group_in, call_of, call_in}
-use Rattle.farm_rounds.specs.Rounds.{no_job, job_at, HasJob, entry_at, octets_of, call_from, group_from, groups_from, Works}
+use Rattle.farm_rounds.specs.Rounds.{no_job, job_at, HasJob, entry_at, io_of, call_from, group_from, groups_from, Works}
 use Rattle.farm_rounds.specs.RoundHistories.{seat_of}
 use Rattle.farm_rounds.specs.Working.{RoundMemory, IsRound, goes_on_call}
 use Rattle.farm_rounds.specs.Ordered.{job_in}
@@ -101,8 +101,8 @@ module _ (r : RoundMemory) (after : List Job) (worked : List SeatMemory) (i : Is
       let last : k < length worked = omega (arith, l, w.number) in
       let call : call_at worked k ≡ c = ap (λ (p : PlaceMemory). p.call) (its_place k l) in
       record {
-        octets = w.octets k l ∙ ap (λ (s : SeatMemory). octets_of s) (sym seat);
-        sound = subst (λ (s : SeatMemory). IsIo (octets_of s)) (sym seat) (w.sound k l).0;
+        octets = w.octets k l ∙ ap (λ (s : SeatMemory). io_of s) (sym seat);
+        sound = subst (λ (s : SeatMemory). IsIo (io_of s)) (sym seat) (w.sound k l).0;
         number = ap (λ (s : SeatMemory). s.place.call) seat;
         within = omega (arith, whole, long, (w.sound k l).1);
         full = ap (λ (n : ℕ). stays n) (sym call) ∙ goes_on_at worked k worked_rising last ∙ ap (λ (p : PlaceMemory). whole_in p == p.periods) (its_place k l)

@@ -13,7 +13,7 @@ use Rattle.farm_rounds.specs.declared.call.Group.{Group}
 use Rattle.farm_rounds.specs.declared.call.Group.TheVariants.{One, Two}
 use Rattle.farm_rounds.specs.Calls.{holds, group_in, call_in, call_of, size_of, calls_held}
 use Rattle.farm_rounds.specs.Groups.{IsCall, IsGroup, AreGroups}
-use Rattle.farm_rounds.specs.Acts.{set_by, group_set, IsOpen, Fits, IsSetting, Applied}
+use Rattle.farm_rounds.specs.Acts.{set_by, group_set, IsOpen, ActFits, IsSetting, Applied}
 use Rattle.farm_rounds.proofs.Exchanging.{Exchanges, exchanged}
 use Rattle.farm_rounds.proofs.Orders.{changes, set_one, set_low, set_high}
 use Rattle.farm_rounds.proofs.Holding.{found_group, found_other, one_number}
@@ -86,7 +86,7 @@ set_changes most a c (Two x y) before now k e found d =
     second_two f t = elim (or_cases (x.number == c) (y.number == c) t) [ inl u ↦ absurd (cc) | inr u ↦ u ]
 
 -- a call that is set is open
-pub open_found : (gs : List Group) (c : ℕ) (a : Act) → Fits gs a → IsSetting c a → group_in gs c ≡ None → ⊥
+pub open_found : (gs : List Group) (c : ℕ) (a : Act) → ActFits gs a → IsSetting c a → group_in gs c ≡ None → ⊥
 open_found gs c (act.LevelSet d level) fits i e =
     let o : is_some (call_in gs c) ≡ true = subst (λ (k : ℕ). IsOpen gs k) (sym i) fits.0 in
     let n : is_some (call_in gs c) ≡ false = ap (λ (r : Option Group). is_some (option_map (call_of c) r)) e in

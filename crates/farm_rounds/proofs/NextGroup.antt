@@ -15,7 +15,7 @@ use Rattle.round_lines.specs.Seats.{SeatMemory}
 use Rattle.farm_rounds.specs.declared.call.Group.{Group}
 use Rattle.farm_rounds.specs.declared.tally.Tally.{Tally}
 use Rattle.farm_rounds.specs.Calls.{holds}
-use Rattle.farm_rounds.specs.Groups.{IsGroup, AreGroups, AreLive}
+use Rattle.farm_rounds.specs.Groups.{IsGroup, AreGroups, ListsOpenCalls}
 use Rattle.farm_rounds.specs.Numbers.{is_among}
 use Rattle.farm_rounds.specs.Rounds.{group_from, groups_from}
 use Rattle.farm_rounds.specs.Settling.{group_left, groups_left, Settled}
@@ -40,14 +40,14 @@ next_group all gs g most a n =
     All-head (IsGroup most) g n.0 (All-second (IsGroup most) gs (g ∷ n.0) (subst (λ (xs : List Group). AreGroups most xs) n.1 a).each)
 
 -- .. whose calls are open ..
-pub next_known : (all gs : List Group) (g : Group) (live : List ℕ) → AreLive live all → AreNext all gs g → (c : ℕ) → holds c g ≡ true → is_among live c ≡ true
+pub next_known : (all gs : List Group) (g : Group) (live : List ℕ) → ListsOpenCalls live all → AreNext all gs g → (c : ℕ) → holds c g ≡ true → is_among live c ≡ true
 next_known all gs g live l n c t =
     l.numbers c ∙ some_call all c ∙ ap (λ (xs : List Group). list_any (holds c) xs) n.1 ∙ list_any-append (holds c) gs (g ∷ n.0)
     ∙ or_right (list_any (holds c) gs) (holds c g || list_any (holds c) n.0) (or_left (holds c g) (list_any (holds c) n.0) t)
 
 -- .. and haven't left the list yet
 pub next_present : (stays : ℕ → Bool) (all gs : List Group) (g : Group) (before live : List ℕ) (kept keeps : List Tally) (most : ℕ) → AreGroups most all →
-    AreLive before all → AreNext all gs g → Settled stays gs before live kept keeps → (c : ℕ) → holds c g ≡ true → is_among live c ≡ true
+    ListsOpenCalls before all → AreNext all gs g → Settled stays gs before live kept keeps → (c : ℕ) → holds c g ≡ true → is_among live c ≡ true
 next_present stays all gs g before live kept keeps most a l n s c t = elim (in_one gs (g ∷ []) c (next_few all gs g most a n c)) [
   | inl f ↦ still_there stays gs before live kept keeps c f s (next_known all gs g before l n c t)
   | inr f ↦ absurd (false≢true (sym f ∙ or_left (holds c g) false t))
@@ -83,7 +83,7 @@ few_left stays seat (g ∷ gs) = by (group_left stays seat g) (few_left stays se
   by (Some x) few = omega (arith, few)
 
 -- there is room for what is left of it
-pub room_left : (stays : ℕ → Bool) (seat : ℕ → SeatMemory) (all gs groups : List Group) (g : Group) (live : List ℕ) → AreLive live all → AreNext all gs g →
+pub room_left : (stays : ℕ → Bool) (seat : ℕ → SeatMemory) (all gs groups : List Group) (g : Group) (live : List ℕ) → ListsOpenCalls live all → AreNext all gs g →
     groups ≡ groups_left stays seat gs → length groups < length live
 room_left stays seat all gs groups g live l n e =
     omega (arith, ap length e, few_left stays seat gs, ap length n.1, length-append gs (g ∷ n.0), few_groups all, l.count)

@@ -16,7 +16,7 @@ use Rattle.call_pair.specs.Phases.{CallMemory, half_in}
 use Rattle.farm_rounds.specs.declared.order.Party.{Party}
 use Rattle.farm_rounds.specs.declared.order.Party.TheVariants.{One, Two}
 use Rattle.farm_rounds.specs.Numbers.{is_among}
-use Rattle.farm_rounds.specs.Ordered.{AreSpread, IsApart, IsPlaceOf, job_in, names, other_named, party_of, slot_at, start_of}
+use Rattle.farm_rounds.specs.Ordered.{AreSpread, IsApart, IsPlaceOf, job_in, names, other_named, party_of, slot_at, start_memory}
 use Rattle.farm_rounds.proofs.Finding.{none_counted, not_found, or_none}
 use Rattle.farm_rounds.proofs.Finished.{first_half, second_half}
 use Rattle.farm_rounds.proofs.Keeping.{KeptJob, finished_keeps}
@@ -60,7 +60,7 @@ same_some x y e = cc
 -- the calls of one job more stand at their indices
 pub spread_more : (numbers : List ℕ) (js : List Job) (j : Job) (rest : List Job) (before now : List (Option (Box CallMemory))) (partners beside : List ℕ)
     (parties : List Party) → IsApart (js ++ j ∷ rest) → AreSpread js numbers before partners parties →
-    ((k : ℕ) → k < length numbers → has_call j (slice_index numbers k) ≡ true → slot_at now k ≡ Some (start_of j (slice_index numbers k))) →
+    ((k : ℕ) → k < length numbers → has_call j (slice_index numbers k) ≡ true → slot_at now k ≡ Some (start_memory j (slice_index numbers k))) →
     ((k : ℕ) → k < length numbers → has_call j (slice_index numbers k) ≡ false → slot_at now k ≡ slot_at before k) →
     ((k : ℕ) → k < length numbers → names (party_of j) (slice_index numbers k)
     ≡ true → IsPlaceOf numbers (other_named (party_of j) (slice_index numbers k)) (slice_index beside k)) →
@@ -69,7 +69,7 @@ pub spread_more : (numbers : List ℕ) (js : List Job) (j : Job) (rest : List Jo
 spread_more numbers js j rest before now partners beside parties apart s put same paired kept = record {
   named = ap (λ (ps : List Party). ps ++ party_of j ∷ []) s.named ∙ sym (map-append party_of js (j ∷ []));
   there = λ k x l e. elim (cases_Bool (has_call j (slice_index numbers k))) [
-    | inl t ↦ put k l t ∙ ap (λ (y : Job). Some (start_of y (slice_index numbers k))) (sym (last k x e t))
+    | inl t ↦ put k l t ∙ ap (λ (y : Job). Some (start_memory y (slice_index numbers k))) (sym (last k x e t))
     | inr f ↦ same k l f ∙ s.there k x l (sym (found_front (λ (y : Job). has_call y (slice_index numbers k)) js j f) ∙ e)
   ];
   beside = λ k x l e. elim (cases_Bool (has_call j (slice_index numbers k))) [

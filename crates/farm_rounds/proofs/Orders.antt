@@ -11,7 +11,7 @@ use Rattle.farm_rounds.specs.declared.call.Group.TheVariants.{One, Two}
 use Rattle.switchboard.specs.declared.act.Act.{Act}
 use Rattle.switchboard.specs.declared.act.Act.TheVariants as act
 use Rattle.farm_rounds.specs.Calls.{holds, group_in, call_of, partner_of, other_of, pair_of}
-use Rattle.farm_rounds.specs.Acts.{new_call, joined, parted, set_by, calls_after, partners_after}
+use Rattle.farm_rounds.specs.Acts.{new_call, bridged_call, parted, set_by, calls_after, partners_after}
 
 -- which group holds each call, before and after
 abbrev pub Groups : Type 0
@@ -46,7 +46,7 @@ opened_partners g n c law none h d = elim (cases_Bool (c == d)) [
 
 -- two calls are bridged
 pub joined_calls : (g n : Groups) (x y : Call) → x.number ≢ y.number → g x.number ≡ Some (One x) → g y.number ≡ Some (One y) →
-    Finds (One x ∷ One y ∷ []) (pair_of (joined x) (joined y) ∷ []) g n → (d : ℕ) → calls n d ≡ calls_after (act.Bridged x.number y.number) (calls g) d
+    Finds (One x ∷ One y ∷ []) (pair_of (bridged_call x) (bridged_call y) ∷ []) g n → (d : ℕ) → calls n d ≡ calls_after (act.Bridged x.number y.number) (calls g) d
 joined_calls g n x y ne gx gy h d = elim (cases_Bool (x.number == d)) [
   | inl t ↦
       let e = eqb-true x.number d t in
@@ -62,7 +62,7 @@ joined_calls g n x y ne gx gy h d = elim (cases_Bool (x.number == d)) [
 ]
 
 pub joined_partners : (g n : Groups) (x y : Call) → x.number ≢ y.number → g x.number ≡ Some (One x) → g y.number ≡ Some (One y) →
-    Finds (One x ∷ One y ∷ []) (pair_of (joined x) (joined y) ∷ []) g n → (d : ℕ) → partners n d ≡ partners_after (act.Bridged x.number y.number) (partners g) d
+    Finds (One x ∷ One y ∷ []) (pair_of (bridged_call x) (bridged_call y) ∷ []) g n → (d : ℕ) → partners n d ≡ partners_after (act.Bridged x.number y.number) (partners g) d
 joined_partners g n x y ne gx gy h d = elim (cases_Bool (x.number == d)) [
   | inl t ↦
       let e = eqb-true x.number d t in

@@ -6,21 +6,21 @@ use Rattle.call_pair.specs.declared.job.Job.{Job}
 use Rattle.call_pair.specs.declared.job.Job.TheVariants as job
 use Rattle.call_pair.specs.Memory.{HalfMemory}
 use Rattle.call_pair.specs.Jobs.{has_call, half_of, finished}
-use Rattle.call_pair.specs.Phases.{CallMemory, call_turned, after_call_turns, call_left, call_finished, turned_down, starting, with_partner, half_in, frames_in, effs, half_run}
+use Rattle.call_pair.specs.Phases.{CallMemory, call_turned, after_call_turns, periods_left, call_finished, turned_down, starting, with_partner, half_in, frames_in, effs, half_run}
 use Rattle.call_pair.proofs.Turns.{call_turn_left}
 use Rattle.call_pair.proofs.Phased.{length-notes, first-finished, one-phased, two-phased}
-use Rattle.farm_rounds.specs.Ordered.{IsParty, other_named, party_of, start_of}
-use Rattle.farm_rounds.specs.Phased.{IsFresh, IsFreshHalf, heard_from, IsTold}
+use Rattle.farm_rounds.specs.Ordered.{IsParty, other_named, party_of, start_memory}
+use Rattle.farm_rounds.specs.Phased.{IsFreshJob, IsFreshHalf, heard_from, IsTold}
 use Rattle.farm_rounds.proofs.Finished.{first_half, second_half}
 use Rattle.farm_rounds.proofs.Keeping.{KeptJob, finished_keeps}
 
 -- a finished phase has no place left
-left_none : (n : ℕ) (j : CallMemory) → call_left j ≡ n → call_left (after_call_turns n j) ≡ 0
+left_none : (n : ℕ) (j : CallMemory) → periods_left j ≡ n → periods_left (after_call_turns n j) ≡ 0
 left_none zero j e = e
 left_none (suc n) j e = left_none n (call_turned j) (let t = call_turn_left j (omega (arith, e)) in omega (arith, t, e))
 
-pub finished_left : (j : CallMemory) → call_left (call_finished j) ≡ 0
-finished_left j = left_none (call_left j) j refl
+pub finished_left : (j : CallMemory) → periods_left (call_finished j) ≡ 0
+finished_left j = left_none (periods_left j) j refl
 
 -- what the first phase of a half tells
 told_by : (most m : ℕ) (g h : HalfMemory) (j p : CallMemory) → IsFreshHalf most g → IsFreshHalf most h → m ≤ g.io.given → m ≤ h.io.given →
@@ -31,14 +31,14 @@ told_by most m g h j p f k lg lh ej ep =
     let number = length-notes m h h.io.given in
     record {
       first = ap (λ (x : CallMemory). x.phase) a;
-      finished = ap call_left ej ∙ finished_left (starting m g);
+      finished = ap periods_left ej ∙ finished_left (starting m g);
       within = omega (arith, ap (λ (x : CallMemory). x.bridge_end) a, ap (λ (x : CallMemory). length x.notes) b, number, lh);
       few = omega (arith, ap (λ (x : CallMemory). x.bridge_end) a, lg, f.1);
     }
 
 -- the first phase of the call with this number, of its job, and the second, with the frames of its partner
 abbrev pub first_of_call : Job → ℕ → CallMemory
-first_of_call j c = call_finished (start_of j c)
+first_of_call j c = call_finished (start_memory j c)
 
 abbrev pub second_of_call : Job → ℕ → CallMemory
 second_of_call j c = call_finished (heard_from (first_of_call j (other_named (party_of j) c)) (first_of_call j c))
@@ -71,7 +71,7 @@ different : (a b : HalfMemory) → IsParty (party_of (job.Two a b)) → a.io.cal
 different a b p q = absurd (omega (arith, p, q))
 
 -- what the first phase of a call and that of its partner tell
-pub told_at : (most : ℕ) (j : Job) (c : ℕ) → IsFresh most j → IsParty (party_of j) → has_call j c ≡ true →
+pub told_at : (most : ℕ) (j : Job) (c : ℕ) → IsFreshJob most j → IsParty (party_of j) → has_call j c ≡ true →
     IsTold most (first_of_call j c) (first_of_call j (other_named (party_of j) c))
 told_at most (job.One h) c f p t = told_by most 0 h h (call_finished (starting 0 h)) (call_finished (starting 0 h)) f f (omega arith) (omega arith) refl refl
 told_at most (job.Two a b) c f p t =
@@ -96,7 +96,7 @@ bridged_ran m g h f =
     (call_finished (turned_down (with_partner (take n (frames_in (call_finished (starting m h)).notes)) (call_finished (starting m g)))))) end
 
 -- the second phase of a call is the run of its half
-pub ran_at : (most : ℕ) (j : Job) (c : ℕ) → IsFresh most j → IsParty (party_of j) → has_call j c ≡ true → half_in (second_of_call j c) ≡ half_of (finished j) c
+pub ran_at : (most : ℕ) (j : Job) (c : ℕ) → IsFreshJob most j → IsParty (party_of j) → has_call j c ≡ true → half_in (second_of_call j c) ≡ half_of (finished j) c
 ran_at most (job.One h) c f p t = bridged_ran 0 h h f.0 ∙ sym (ap (λ (j : Job). half_of j c) (one-phased h f.0))
 ran_at most (job.Two a b) c f p t =
     let m = min a.io.given b.io.given in

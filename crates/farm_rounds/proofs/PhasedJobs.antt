@@ -10,13 +10,13 @@ use Rattle.std.proofs.lemmas.List.Sums.{sum_by-cons}
 use Rattle.call_pair.specs.declared.job.Job.{Job}
 use Rattle.call_pair.specs.declared.job.Job.TheVariants as job
 use Rattle.call_pair.specs.Jobs.{has_call, half_of}
-use Rattle.call_pair.specs.Phases.{CallMemory, call_turned, after_call_turns, call_left, call_finished}
+use Rattle.call_pair.specs.Phases.{CallMemory, call_turned, after_call_turns, periods_left, call_finished}
 use Rattle.call_pair.proofs.Turns.{call_turn_call}
 use Rattle.farm_rounds.specs.Calls.{holds, size_of, calls_held}
 use Rattle.farm_rounds.specs.Groups.{IsGroup}
 use Rattle.farm_rounds.specs.Numbers.{IsRising}
 use Rattle.farm_rounds.specs.Ordered.{IsParty, names, other_named, party_of, slot_at}
-use Rattle.farm_rounds.specs.Phased.{call_in_place, no_call}
+use Rattle.farm_rounds.specs.Phased.{call_in_place, home_call}
 use Rattle.farm_rounds.specs.Rounds.{group_from, groups_from}
 use Rattle.farm_rounds.proofs.Ordering.{named_has}
 use Rattle.farm_rounds.proofs.PhasedCalls.{second_has}
@@ -27,7 +27,7 @@ run_call zero j = refl
 run_call (suc n) j = run_call n (call_turned j) ∙ call_turn_call j
 
 pub finished_call : (j : CallMemory) → (call_finished j).io.call ≡ j.io.call
-finished_call j = run_call (call_left j) j
+finished_call j = run_call (periods_left j) j
 
 -- the half of a call has its number
 pub half_call : (j : Job) (c : ℕ) → has_call j c ≡ true → (half_of j c).io.call ≡ c
@@ -70,14 +70,14 @@ slot_seated (b ∷ bs) (suc k) l = slot_seated bs k (omega arith)
 
 -- numbers that rise as these do
 pub rising_of : (numbers : List ℕ) (ws : List CallMemory) → length ws ≡ length numbers →
-    ((k : ℕ) → k < length numbers → (get_or ws k no_call).io.call ≡ slice_index numbers k) → IsRising numbers →
+    ((k : ℕ) → k < length numbers → (get_or ws k home_call).io.call ≡ slice_index numbers k) → IsRising numbers →
     IsRising (map (λ (j : CallMemory). j.io.call) ws)
 rising_of numbers ws long at rising i k less l =
     let lw : k < length ws = omega (arith, l, length-map ws (λ (j : CallMemory). j.io.call)) in
     let lk : k < length numbers = omega (arith, lw, long) in
     let up = rising i k less lk in
-    let first = get_or-map (λ (j : CallMemory). j.io.call) ws i no_call 0 (omega (arith, less, lw)) ∙ at i (omega (arith, less, lk)) in
-    let second = get_or-map (λ (j : CallMemory). j.io.call) ws k no_call 0 lw ∙ at k lk in
+    let first = get_or-map (λ (j : CallMemory). j.io.call) ws i home_call 0 (omega (arith, less, lw)) ∙ at i (omega (arith, less, lk)) in
+    let second = get_or-map (λ (j : CallMemory). j.io.call) ws k home_call 0 lw ∙ at k lk in
     omega (arith, up, first, second)
 
 -- what parties tell of the jobs

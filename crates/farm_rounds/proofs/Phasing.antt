@@ -12,10 +12,10 @@ use Rattle.call_pair.specs.Memory.{HalfMemory}
 use Rattle.call_pair.specs.Jobs.{has_call, half_of, finished}
 use Rattle.call_pair.specs.Phases.{CallMemory, call_finished, half_in}
 use Rattle.farm_rounds.specs.declared.order.Party.{Party}
-use Rattle.farm_rounds.specs.Groups.{AreGroups, AreLive}
+use Rattle.farm_rounds.specs.Groups.{AreGroups, ListsOpenCalls}
 use Rattle.farm_rounds.specs.Numbers.{IsRising, is_among}
-use Rattle.farm_rounds.specs.Ordered.{AreSpread, AreRun, IsApart, IsHeld, IsParty, job_in, other_named, party_of, slot_at, start_of}
-use Rattle.farm_rounds.specs.Phased.{IsFresh, calls_in, call_in_place, no_call, heard_from, IsTold}
+use Rattle.farm_rounds.specs.Ordered.{AreSpread, AreRun, IsApart, IsHeld, IsParty, job_in, other_named, party_of, slot_at, start_memory}
+use Rattle.farm_rounds.specs.Phased.{IsFreshJob, memories_in, call_in_place, home_call, heard_from, IsTold}
 use Rattle.farm_rounds.specs.Rounds.{group_from, groups_from}
 use Rattle.farm_rounds.proofs.Holding.{found_group}
 use Rattle.farm_rounds.proofs.Finding.{found_there, found_only}
@@ -30,11 +30,11 @@ pub record JobAt (jobs : List Job) (most c : ℕ) : Type 0 where
   pub its : Job
   pub found : job_in jobs c ≡ Some its
   pub has : has_call its c ≡ true
-  pub fresh : IsFresh most its
+  pub fresh : IsFreshJob most its
   pub party : IsParty (party_of its)
 
-module _ (numbers : List ℕ) (jobs : List Job) (most : ℕ) (groups : AreGroups 4294967295 (groups_from jobs)) (live : AreLive numbers (groups_from jobs))
-    (fresh : All (IsFresh most) jobs) where
+module _ (numbers : List ℕ) (jobs : List Job) (most : ℕ) (groups : AreGroups 4294967295 (groups_from jobs)) (live : ListsOpenCalls numbers (groups_from jobs))
+    (fresh : All (IsFreshJob most) jobs) where
   pub apart : IsApart jobs
   apart c = omega (arith, job_count jobs c, groups.apart c)
 
@@ -61,7 +61,7 @@ module _ (numbers : List ℕ) (jobs : List Job) (most : ℕ) (groups : AreGroups
             its = j;
             found = e;
             has = r.1;
-            fresh = subst (λ (x : Job). IsFresh most x) r.0.2 (All-get_or (IsFresh most) jobs r.0.0 j r.0.1 fresh);
+            fresh = subst (λ (x : Job). IsFreshJob most x) r.0.2 (All-get_or (IsFreshJob most) jobs r.0.0 j r.0.1 fresh);
             party = its_party 4294967295 j group.0;
           }
 
@@ -90,7 +90,7 @@ module _ (numbers : List ℕ) (jobs : List Job) (most : ℕ) (groups : AreGroups
       number : length bs ≡ length numbers
       number = sym (length-map bs Some) ∙ ap length e ∙ long
 
-      pub starting_at : (k : ℕ) (j : JobAt jobs most (slice_index numbers k)) → k < length numbers → call_in_place bs k ≡ start_of j.its (slice_index numbers k)
+      pub starting_at : (k : ℕ) (j : JobAt jobs most (slice_index numbers k)) → k < length numbers → call_in_place bs k ≡ start_memory j.its (slice_index numbers k)
       starting_at k j l =
           same (sym (slot_seated bs k (omega (arith, l, number))) ∙ ap (λ (o : List (Option (Box CallMemory))). slot_at o k) e ∙ s.there k j.its l j.found)
         where
@@ -100,23 +100,23 @@ module _ (numbers : List ℕ) (jobs : List Job) (most : ℕ) (groups : AreGroups
       its_call : (k : ℕ) (j : JobAt jobs most (slice_index numbers k)) → k < length numbers → (call_in_place bs k).io.call ≡ slice_index numbers k
       its_call k j l = ap (λ (x : CallMemory). x.io.call) (starting_at k j l) ∙ half_call j.its (slice_index numbers k) j.has
 
-      pub start_order : IsRising (map (λ (j : CallMemory). j.io.call) (calls_in bs))
+      pub start_order : IsRising (map (λ (j : CallMemory). j.io.call) (memories_in bs))
       start_order =
-          rising_of numbers (calls_in bs) (length-map bs (λ (b : Box CallMemory). b.value) ∙ number) (λ k l. its_call k (job_at_place k l) l) live.rising
+          rising_of numbers (memories_in bs) (length-map bs (λ (b : Box CallMemory). b.value) ∙ number) (λ k l. its_call k (job_at_place k l) l) live.rising
 
       -- ---- between the phases
 
-      module _ (ts : List (Box CallMemory)) (f : calls_in ts ≡ map call_finished (calls_in bs)) where
+      module _ (ts : List (Box CallMemory)) (f : memories_in ts ≡ map call_finished (memories_in bs)) where
         pub told_number : length ts ≡ length numbers
         told_number =
-            sym (length-map ts (λ (b : Box CallMemory). b.value)) ∙ ap length f ∙ length-map (calls_in bs) call_finished
+            sym (length-map ts (λ (b : Box CallMemory). b.value)) ∙ ap length f ∙ length-map (memories_in bs) call_finished
             ∙ length-map bs (λ (b : Box CallMemory). b.value) ∙ number
 
         told_there : (k : ℕ) (j : JobAt jobs most (slice_index numbers k)) → k < length numbers →
             call_in_place ts k ≡ first_of_call j.its (slice_index numbers k)
         told_there k j l =
-            ap (λ (cs : List CallMemory). get_or cs k no_call) f
-            ∙ get_or-map call_finished (calls_in bs) k no_call no_call (omega (arith, l, number, length-map bs (λ (b : Box CallMemory). b.value)))
+            ap (λ (cs : List CallMemory). get_or cs k home_call) f
+            ∙ get_or-map call_finished (memories_in bs) k home_call home_call (omega (arith, l, number, length-map bs (λ (b : Box CallMemory). b.value)))
             ∙ ap call_finished (starting_at k j l)
 
         beside_there : (k : ℕ) (j : JobAt jobs most (slice_index numbers k)) → k < length numbers →
@@ -158,29 +158,29 @@ module _ (numbers : List ℕ) (jobs : List Job) (most : ℕ) (groups : AreGroups
               met k (omega (arith, l, told_number)) ∙ ap (λ (x : CallMemory). heard_from x (call_in_place ts k)) (beside_there k j l)
               ∙ ap (λ (x : CallMemory). heard_from (first_of_call j.its (other_named (party_of j.its) (slice_index numbers k))) x) (told_there k j l)
 
-          pub met_order : IsRising (map (λ (j : CallMemory). j.io.call) (calls_in ms))
+          pub met_order : IsRising (map (λ (j : CallMemory). j.io.call) (memories_in ms))
           met_order =
-              rising_of numbers (calls_in ms) (length-map ms (λ (b : Box CallMemory). b.value) ∙ many ∙ told_number)
+              rising_of numbers (memories_in ms) (length-map ms (λ (b : Box CallMemory). b.value) ∙ many ∙ told_number)
               (λ k l.
               let j = job_at_place k l in
-              ap (λ (x : CallMemory). x.io.call) (met_there k j l) ∙ finished_call (start_of j.its (slice_index numbers k))
+              ap (λ (x : CallMemory). x.io.call) (met_there k j l) ∙ finished_call (start_memory j.its (slice_index numbers k))
               ∙ half_call j.its (slice_index numbers k) j.has)
               live.rising
 
-          module _ (rs : List (Box CallMemory)) (g : calls_in rs ≡ map call_finished (calls_in ms)) (after : List (Option (Box CallMemory)))
+          module _ (rs : List (Box CallMemory)) (g : memories_in rs ≡ map call_finished (memories_in ms)) (after : List (Option (Box CallMemory)))
               (h : after ≡ map Some rs) where
             ran_number : length rs ≡ length numbers
             ran_number =
-                sym (length-map rs (λ (b : Box CallMemory). b.value)) ∙ ap length g ∙ length-map (calls_in ms) call_finished
+                sym (length-map rs (λ (b : Box CallMemory). b.value)) ∙ ap length g ∙ length-map (memories_in ms) call_finished
                 ∙ length-map ms (λ (b : Box CallMemory). b.value) ∙ many ∙ told_number
 
             ran_there : (k : ℕ) (j : JobAt jobs most (slice_index numbers k)) → k < length numbers →
                 slot_at after k ≡ Some (second_of_call j.its (slice_index numbers k))
             ran_there k j l =
                 ap (λ (o : List (Option (Box CallMemory))). slot_at o k) h ∙ slot_seated rs k (omega (arith, l, ran_number))
-                ∙ ap (λ (cs : List CallMemory). Some (get_or cs k no_call)) g
+                ∙ ap (λ (cs : List CallMemory). Some (get_or cs k home_call)) g
                 ∙ ap (λ (x : CallMemory). Some x)
-                (get_or-map call_finished (calls_in ms) k no_call no_call (omega (arith, l, many, told_number, length-map ms (λ (b : Box CallMemory). b.value)))
+                (get_or-map call_finished (memories_in ms) k home_call home_call (omega (arith, l, many, told_number, length-map ms (λ (b : Box CallMemory). b.value)))
                 ∙ ap call_finished (met_there k j l))
 
             pub after_number : length after ≡ length numbers

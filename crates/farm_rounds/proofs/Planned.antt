@@ -19,9 +19,9 @@ use Rattle.farm_rounds.specs.declared.call.Group.TheVariants.{One, Two}
 use Rattle.farm_rounds.specs.declared.entry.Entry.{Entry}
 use Rattle.farm_rounds.specs.Calls.{holds, group_in, call_of, partner_of, call_in, partner_in, size_of}
 use Rattle.farm_rounds.specs.Numbers.{IsRising, is_among}
-use Rattle.farm_rounds.specs.Groups.{IsGroup, AreGroups, AreLive}
+use Rattle.farm_rounds.specs.Groups.{IsGroup, AreGroups, ListsOpenCalls}
 use Rattle.farm_rounds.specs.Histories.{CallHistory, CallStands, GroupsStand}
-use Rattle.farm_rounds.specs.Rounds.{no_job, call_from, group_from, groups_from, first_of, half_made, job_made, entry_of, entry_at, AreSeats, BringCalls}
+use Rattle.farm_rounds.specs.Rounds.{no_job, call_from, group_from, groups_from, first_of, half_made, job_made, entry_for, entry_at, AreSeats, BringCalls}
 use Rattle.farm_rounds.specs.RoundHistories.{seat_for}
 use Rattle.farm_rounds.proofs.Finding.{cases_zero, none_counted, found_moved}
 use Rattle.farm_rounds.proofs.CallsFound.{some_call, some_group}
@@ -37,7 +37,7 @@ moved_groups most gs hs p a = record {
   each = All-permutation (IsGroup most) gs hs p a.each;
 }
 
-pub moved_live : (live : List ℕ) (gs hs : List Group) → IsPermutation gs hs → AreLive live gs → AreLive live hs
+pub moved_live : (live : List ℕ) (gs hs : List Group) → IsPermutation gs hs → ListsOpenCalls live gs → ListsOpenCalls live hs
 moved_live live gs hs p l = record {
   numbers = λ c. l.numbers c ∙ some_call gs c ∙ list_any-IsPermutation (holds c) gs hs p ∙ sym (some_call hs c);
   rising = l.rising;
@@ -45,7 +45,7 @@ moved_live live gs hs p l = record {
 }
 
 -- an open call's group is found
-pub live_present : (live : List ℕ) (gs : List Group) → AreLive live gs → (c : ℕ) → is_some (group_in gs c) ≡ true → is_among live c ≡ true
+pub live_present : (live : List ℕ) (gs : List Group) → ListsOpenCalls live gs → (c : ℕ) → is_some (group_in gs c) ≡ true → is_among live c ≡ true
 live_present live gs l c t = l.numbers c ∙ some_group gs c ∙ t
 
 moved_call : (most : ℕ) (gs hs : List Group) (c : ℕ) → IsPermutation gs hs → AreGroups most gs → call_in hs c ≡ call_in gs c
@@ -175,11 +175,11 @@ planned_order most gs hs jobs p a e sorted =
 -- ---- their seats
 
 -- a new seat says what its call brings
-seat_told : (e : Entry) (c periods : ℕ) (o : Option Call) → option_map (entry_of e.job) o ≡ Some e →
+seat_told : (e : Entry) (c periods : ℕ) (o : Option Call) → option_map (entry_for e.job) o ≡ Some e →
     new_seat c periods e.down_failed e.out_failed ≡ seat_for periods c o
 seat_told e c periods None told = absurd (cc)
 seat_told e c periods (Some x) told =
-    let same : entry_of e.job x ≡ e = cc in
+    let same : entry_for e.job x ≡ e = cc in
     ap (λ (y : Entry). new_seat c periods y.down_failed y.out_failed) (sym same)
 
 -- each open call has its seat

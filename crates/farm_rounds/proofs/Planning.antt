@@ -18,7 +18,7 @@ use Rattle.farm_rounds.specs.Calls.{holds, group_in, call_in, call_of}
 use Rattle.farm_rounds.specs.Groups.{IsGroup}
 use Rattle.farm_rounds.proofs.Finding.{found_moved}
 use Rattle.farm_rounds.proofs.Exchanging.{All-second}
-use Rattle.farm_rounds.specs.Rounds.{no_job, job_at, HasJob, entry_at, job_made, entry_of, HaveEntries, BringCalls}
+use Rattle.farm_rounds.specs.Rounds.{no_job, job_at, HasJob, entry_at, job_made, entry_for, HaveEntries, BringCalls}
 
 -- a new job has the calls of its group
 pub made_has : (g : Group) (c : ℕ) → has_call (job_made g) c ≡ holds c g
@@ -40,7 +40,7 @@ none_or (Some x) p e = refl
 
 -- an entry says what a call brings into the round
 abbrev Brings : List Group → Entry → ℕ → Type 0
-Brings groups e c = option_map (entry_of e.job) (call_in groups c) ≡ Some e
+Brings groups e c = option_map (entry_for e.job) (call_in groups c) ≡ Some e
 
 -- the call of a group in the middle
 its_call : (next rest : List Group) (g : Group) (c : ℕ) → count_by (holds c) (next ++ g ∷ rest) ≤ 1 → holds c g ≡ true →
@@ -91,7 +91,7 @@ job_pushed jobs after j g e ej = e ∙ ap (λ (x : Job). jobs ++ x ∷ []) ej
 -- one group more has its job
 pub made_more : (old : List Group) (live : List ℕ) (groups next : List Group) (g : Group) (jobs after : List Job) (entries entered : List Entry) →
     Made old live groups jobs entries → groups ≡ next ++ g ∷ [] → after ≡ jobs ++ job_made g ∷ [] → length entered ≡ length entries →
-    ((k : ℕ) → k < length live → holds (slice_index live k) g ≡ true → entry_at entered k ≡ entry_of (length jobs) (call_of (slice_index live k) g)) →
+    ((k : ℕ) → k < length live → holds (slice_index live k) g ≡ true → entry_at entered k ≡ entry_for (length jobs) (call_of (slice_index live k) g)) →
     ((k : ℕ) → k < length live → holds (slice_index live k) g ≡ false → entry_at entered k ≡ entry_at entries k) → ((c : ℕ) → count_by (holds c) old ≤ 1) →
     Made old live next after entered
 made_more old live groups next g jobs after entries entered m e ej el at others apart = record {
@@ -111,7 +111,7 @@ made_more old live groups next g jobs after entries entered m e ej el at others 
             ap (λ (n : ℕ). has_call (job_at after n) c) (ap (λ (x : Entry). x.job) (at k l t)) ∙ ap (λ (js : List Job). has_call (job_at js (length jobs)) c) ej
                 ∙ ap (λ (x : Job). has_call x c) (get_or_push jobs (job_made g) no_job (length jobs) refl) ∙ made_has g c ∙ t,
           ),
-          subst (λ (x : Entry). Brings old x c) (sym (at k l t)) (ap (λ (o : Option Call). option_map (entry_of (length jobs)) o) its),
+          subst (λ (x : Entry). Brings old x c) (sym (at k l t)) (ap (λ (o : Option Call). option_map (entry_for (length jobs)) o) its),
         )
     | inr f ↦ elim (m.each k l) [
       | inl s ↦

@@ -16,7 +16,7 @@ use Rattle.round_lines.specs.Rounds.{no_seat, seat_at, call_at}
 use Rattle.farm_rounds.specs.declared.call.Call.{Call}
 use Rattle.farm_rounds.specs.declared.call.Group.{Group}
 use Rattle.farm_rounds.specs.Groups.{IsGroup}
-use Rattle.farm_rounds.specs.Rounds.{no_job, job_at, entry_at, octets_of, seat_with, call_from, group_from, groups_from, Works}
+use Rattle.farm_rounds.specs.Rounds.{no_job, job_at, entry_at, io_of, seat_with, call_from, group_from, groups_from, Works}
 use Rattle.farm_rounds.specs.RoundHistories.{seat_of}
 use Rattle.farm_rounds.specs.Working.{RoundMemory, IsRound}
 use Rattle.farm_rounds.specs.Finishing.{half_filled, job_filled, finished_jobs, seat_left}
@@ -29,18 +29,18 @@ use Rattle.farm_rounds.proofs.JobSeats.{few_jobs, finished_job, seat_job, seated
 
 -- the calls of a job have the octets of their seats
 abbrev HasSeats : List SeatMemory → Job → Type 0
-HasSeats seats j = (c : ℕ) → has_call j c ≡ true → (half_of j c).io ≡ octets_of (seat_of seats c)
+HasSeats seats j = (c : ℕ) → has_call j c ≡ true → (half_of j c).io ≡ io_of (seat_of seats c)
 
 -- a half of its parts
 abbrev make_half : LegMemory → IoMemory → HalfMemory
 make_half leg io = record { leg = leg; io = io }
 
 -- a half with the octets of its seat is the one that is filled from it
-filled_half : (seats : List SeatMemory) (g h : HalfMemory) → call_from g ≡ call_from h → g.io ≡ octets_of (seat_of seats g.io.call) → g ≡ half_filled seats h
+filled_half : (seats : List SeatMemory) (g h : HalfMemory) → call_from g ≡ call_from h → g.io ≡ io_of (seat_of seats g.io.call) → g ≡ half_filled seats h
 filled_half seats g h e o =
     let leg : g.leg ≡ h.leg = ap (λ (x : Call). x.leg) e in
     let call : g.io.call ≡ h.io.call = ap (λ (x : Call). x.number) e in
-    ap (λ (m : LegMemory). make_half m g.io) leg ∙ ap (λ (x : IoMemory). make_half h.leg x) (o ∙ ap (λ (c : ℕ). octets_of (seat_of seats c)) call)
+    ap (λ (m : LegMemory). make_half m g.io) leg ∙ ap (λ (x : IoMemory). make_half h.leg x) (o ∙ ap (λ (c : ℕ). io_of (seat_of seats c)) call)
 
 -- so is a job ..
 filled_job : (most : ℕ) (seats : List SeatMemory) (k j : Job) → group_from k ≡ group_from j → IsGroup most (group_from k) → HasSeats seats k →

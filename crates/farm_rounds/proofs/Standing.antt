@@ -16,7 +16,7 @@ use Rattle.farm_rounds.specs.declared.call.Group.TheVariants.{Two}
 use Rattle.farm_rounds.specs.declared.tally.Tally.{Tally}
 use Rattle.farm_rounds.specs.Calls.{holds, call_in, partner_in, partner_of}
 use Rattle.farm_rounds.specs.Groups.{AreGroups}
-use Rattle.farm_rounds.specs.Acts.{new_call, joined, parted, set_by, calls_after, partners_after, IsOpen, Fits, Stays, Applied}
+use Rattle.farm_rounds.specs.Acts.{new_call, bridged_call, parted, set_by, calls_after, partners_after, IsOpen, ActFits, Stays, Applied}
 use Rattle.farm_rounds.specs.Histories.{CallHistory, whose, CallStands, GroupsStand, NoneWaits, NoneDrains, set_now, histories_after, tally_of, kept_of, tallies_after}
 use Rattle.farm_rounds.proofs.Holding.{bridged, found_group, found_other}
 
@@ -29,7 +29,7 @@ closed_partner c (Some x) p h = absurd h
 
 -- a call still stands for its periods where it is bridged, ..
 joins : (c b : ℕ) (o : Option CallHistory) (x : Option Call) (p : Option ℕ) → NoneWaits o → is_some x ≡ true → CallStands c o x p →
-    CallStands c (option_map (set_now with_bridge) o) (option_map joined x) (Some b)
+    CallStands c (option_map (set_now with_bridge) o) (option_map bridged_call x) (Some b)
 joins c b None None p w t h = absurd (false≢true t)
 joins c b None (Some x) p w t h = absurd h
 joins c b (Some y) None p w t h = absurd h
@@ -88,7 +88,7 @@ module _ (h : ℕ → Option CallHistory) (gs : List Group) (most : ℕ) (k : Ar
   abbrev Goal : Act → ℕ → Type 0
   Goal a d = CallStands d (histories_after a h d) (calls_after a (call_in gs) d) (partners_after a (partner_in gs) d)
 
-  opened : (c : ℕ) (law : Law) → Fits gs (act.Opened c law) → (d : ℕ) → Goal (act.Opened c law) d
+  opened : (c : ℕ) (law : Law) → ActFits gs (act.Opened c law) → (d : ℕ) → Goal (act.Opened c law) d
   opened c law fits d = elim (cases_Bool (c == d)) [
     | inl t ↦
         let e = eqb-true c d t in
@@ -112,11 +112,11 @@ module _ (h : ℕ → Option CallHistory) (gs : List Group) (most : ℕ) (k : Ar
     | inr g ↦ simp (f, g) (s d)
   ]
 
-  closed : (c : ℕ) (p : Option ℕ) → Fits gs (act.Closed c p) → (d : ℕ) → Goal (act.Closed c p) d
+  closed : (c : ℕ) (p : Option ℕ) → ActFits gs (act.Closed c p) → (d : ℕ) → Goal (act.Closed c p) d
   closed c None fits d = elim (cases_Bool (c == d)) [ inl t ↦ simp t refl | inr f ↦ simp f (s d) ]
   closed c (Some q) fits d = elim (cases_Bool (c == d)) [ inl t ↦ simp t refl | inr f ↦ freed c q fits.1 d f ]
 
-  joined_two : (a b : ℕ) → Fits gs (act.Bridged a b) → NoneDrains (act.Bridged a b) h → (d : ℕ) → Goal (act.Bridged a b) d
+  joined_two : (a b : ℕ) → ActFits gs (act.Bridged a b) → NoneDrains (act.Bridged a b) h → (d : ℕ) → Goal (act.Bridged a b) d
   joined_two a b fits w d = elim (cases_Bool (a == d)) [
     | inl t ↦
         let f : (b == d) ≡ false = ne_eqb b d (λ q. fits.0 (eqb-true a d t ∙ sym q)) in
@@ -127,7 +127,7 @@ module _ (h : ℕ → Option CallHistory) (gs : List Group) (most : ℕ) (k : Ar
     ]
   ]
 
-  parted_two : (a b : ℕ) → Fits gs (act.Unbridged a b) → (d : ℕ) → Goal (act.Unbridged a b) d
+  parted_two : (a b : ℕ) → ActFits gs (act.Unbridged a b) → (d : ℕ) → Goal (act.Unbridged a b) d
   parted_two a b fits d = elim (cases_Bool (a == d)) [
     | inl t ↦
         let f : (b == d) ≡ false = ne_eqb b d (λ q. (partner_back most gs a b k fits).1 (eqb-true a d t ∙ sym q)) in
@@ -140,7 +140,7 @@ module _ (h : ℕ → Option CallHistory) (gs : List Group) (most : ℕ) (k : Ar
     ]
   ]
 
-  by_act : (a : Act) → Fits gs a → NoneDrains a h → (d : ℕ) → Goal a d
+  by_act : (a : Act) → ActFits gs a → NoneDrains a h → (d : ℕ) → Goal a d
   by_act (act.Opened c law) fits w d = opened c law fits d
   by_act (act.Closed c p) fits w d = closed c p fits d
   by_act (act.Bridged a b) fits w d = joined_two a b fits w d
@@ -154,7 +154,7 @@ module _ (h : ℕ → Option CallHistory) (gs : List Group) (most : ℕ) (k : Ar
     | inr f ↦ simp f (s d)
   ]
 
-  pub stands_after : (a : Act) (now : List Group) → Fits gs a → NoneDrains a h → Applied most a gs now → GroupsStand (histories_after a h) now
+  pub stands_after : (a : Act) (now : List Group) → ActFits gs a → NoneDrains a h → Applied most a gs now → GroupsStand (histories_after a h) now
   stands_after a now fits w p d = rw (p.calls d, p.partners d) (by_act a fits w d)
 
 -- ---- what is kept

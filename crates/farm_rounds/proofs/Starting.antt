@@ -17,8 +17,8 @@ use Rattle.farm_rounds.specs.declared.call.Group.{Group}
 use Rattle.farm_rounds.specs.declared.call.Group.TheVariants.{One, Two}
 use Rattle.call_number.specs.CallNumber.{IsCallNumber}
 use Rattle.farm_rounds.specs.Calls.{holds, group_in, size_of, calls_held}
-use Rattle.farm_rounds.specs.Groups.{IsCall, IsGroup, AreGroups, AreLive}
-use Rattle.farm_rounds.specs.Phased.{IsFresh}
+use Rattle.farm_rounds.specs.Groups.{IsCall, IsGroup, AreGroups, ListsOpenCalls}
+use Rattle.farm_rounds.specs.Phased.{IsFreshJob}
 use Rattle.farm_rounds.specs.Rounds.{no_job, job_at, HasJob, entry_at, HaveEntries, AreSeats, IsTimely, job_made, group_from, groups_from}
 use Rattle.farm_rounds.specs.Working.{IsRound}
 use Rattle.farm_rounds.proofs.Rising.{there, rising_far}
@@ -29,17 +29,17 @@ use Rattle.farm_rounds.proofs.FinishedJobs.{timely_half}
 -- ---- the numbers of open calls
 
 -- the group of an open call is found
-pub live_found : (live : List ℕ) (gs : List Group) → AreLive live gs → (k : ℕ) → k < length live → is_some (group_in gs (slice_index live k)) ≡ true
+pub live_found : (live : List ℕ) (gs : List Group) → ListsOpenCalls live gs → (k : ℕ) → k < length live → is_some (group_in gs (slice_index live k)) ≡ true
 live_found live gs l k lk = sym (some_group gs (slice_index live k)) ∙ sym (l.numbers (slice_index live k)) ∙ there live (slice_index live k) k lk refl
 
 -- its number is a call's
-pub live_number : (most : ℕ) (live : List ℕ) (gs : List Group) → AreGroups most gs → AreLive live gs → (k : ℕ) → k < length live →
+pub live_number : (most : ℕ) (live : List ℕ) (gs : List Group) → AreGroups most gs → ListsOpenCalls live gs → (k : ℕ) → k < length live →
     IsCallNumber (slice_index live k)
 live_number most live gs a l k lk =
     open_number most gs (slice_index live k) a (sym (l.numbers (slice_index live k)) ∙ there live (slice_index live k) k lk refl)
 
 -- no more calls are open than there are numbers
-pub few_live : (most : ℕ) (live : List ℕ) (gs : List Group) → AreGroups most gs → AreLive live gs → length live ≤ 4096
+pub few_live : (most : ℕ) (live : List ℕ) (gs : List Group) → AreGroups most gs → ListsOpenCalls live gs → length live ≤ 4096
 few_live most [] gs a l = omega arith
 few_live most (x ∷ xs) gs a l =
     let first = live_number most (x ∷ xs) gs a l 0 (omega arith) in
@@ -119,7 +119,7 @@ made_groups most gs a = record {
   each = bare_each most (reverse gs) (All-permutation (IsGroup most) gs (reverse gs) (IsPermutation-reverse gs) a.each);
 }
 
-made_live : (live : List ℕ) (gs : List Group) → AreLive live gs → AreLive live (groups_from (map job_made (reverse gs)))
+made_live : (live : List ℕ) (gs : List Group) → ListsOpenCalls live gs → ListsOpenCalls live (groups_from (map job_made (reverse gs)))
 made_live live gs l = record {
   numbers =
       λ c. l.numbers c ∙ some_call gs c ∙ list_any-IsPermutation (holds c) gs (reverse gs) (IsPermutation-reverse gs) ∙ sym (bare_any (reverse gs) c)
@@ -142,17 +142,17 @@ same_groups a most gs l k = record { apart = k.apart; each = each_weaker a most 
 -- ---- the round
 
 -- the jobs of a round have no place before the reads
-made_fresh : (gs : List Group) → All (IsFresh 0) (map job_made gs)
-made_fresh [] = All-nil (IsFresh 0)
-made_fresh (g ∷ gs) = All-cons (IsFresh 0) (job_made g) (map job_made gs) (one g) (made_fresh gs)
+made_fresh : (gs : List Group) → All (IsFreshJob 0) (map job_made gs)
+made_fresh [] = All-nil (IsFreshJob 0)
+made_fresh (g ∷ gs) = All-cons (IsFreshJob 0) (job_made g) (map job_made gs) (one g) (made_fresh gs)
   where
-    one : (g : Group) → IsFresh 0 (job_made g)
+    one : (g : Group) → IsFreshJob 0 (job_made g)
     one (One x) = (refl, omega arith)
     one (Two x y) = ((refl, omega arith), (refl, omega arith))
 
 -- a round that is planned is one
 pub planned : (before start periods : ℕ) (gs : List Group) (live : List ℕ) (kept : List Tally) (failed : List Line) (jobs : List Job) (entries : List Entry)
-    (seats : List SeatMemory) → before ≤ start → start + periods ≤ 4294967295 → AreGroups before gs → AreLive live gs → length kept ≡ 4097 →
+    (seats : List SeatMemory) → before ≤ start → start + periods ≤ 4294967295 → AreGroups before gs → ListsOpenCalls live gs → length kept ≡ 4097 →
     jobs ≡ map job_made (reverse gs) → HaveEntries jobs entries live → length entries ≡ length live → AreSeats live entries periods seats (length live) →
     length seats ≡ length live →
     IsRound (record { start = start; ended = start + periods; live = live; tallies = kept; failed = failed; jobs = jobs; entries = entries; seats = seats })
@@ -189,7 +189,7 @@ planned before start periods gs live kept failed jobs entries seats later last a
       groups =
           subst (λ (js : List Job). AreGroups (start + periods) (groups_from js)) (sym ej)
           (made_groups (start + periods) gs (same_groups before (start + periods) gs (omega (arith, later)) a));
-      alive = subst (λ (js : List Job). AreLive live (groups_from js)) (sym ej) (made_live live gs l);
+      alive = subst (λ (js : List Job). ListsOpenCalls live (groups_from js)) (sym ej) (made_live live gs l);
       kept = k;
-      fresh = subst (λ (js : List Job). All (IsFresh 0) js) (sym ej) (made_fresh (reverse gs));
+      fresh = subst (λ (js : List Job). All (IsFreshJob 0) js) (sym ej) (made_fresh (reverse gs));
     }

@@ -10,7 +10,7 @@ use Rattle.round_lines.specs.Places.{PlaceMemory}
 use Rattle.round_lines.specs.Seats.{SeatMemory, Fits}
 use Rattle.round_lines.specs.Rounds.{no_seat}
 use Rattle.farm_rounds.specs.declared.entry.Entry.{Entry}
-use Rattle.farm_rounds.specs.Rounds.{no_job, groups_from, job_at, half_at, HasJob, SameLegs, entry_at, place_at, RisingPlaces, HaveJobsAt, half_of_seat, seat_with, AreTaken}
+use Rattle.farm_rounds.specs.Rounds.{no_job, groups_from, job_at, half_at, HasJob, SameLegs, entry_at, place_numbered, RisingPlaces, HaveJobsAt, half_of_seat, seat_with, AreTaken}
 use Rattle.farm_rounds.proofs.JobOctets.{with_has, with_leg, with_other, groups_kept}
 use Rattle.farm_rounds.proofs.Handing.{same_read}
 
@@ -26,7 +26,7 @@ fits_from n given up pcm out down h l =
     }
 
 -- how a call's lines stand is read at its index
-pub place_read : (places : List PlaceMemory) (n : ℕ) (p : PlaceMemory) → n < length places → p ≡ get_or places n p → p ≡ place_at places n
+pub place_read : (places : List PlaceMemory) (n : ℕ) (p : PlaceMemory) → n < length places → p ≡ get_or places n p → p ≡ place_numbered places n
 place_read places n p l e = e ∙ same_read places n p no_seat.place l
 
 -- a seat of its parts
@@ -59,19 +59,19 @@ taken_none before entries places seats e = record {
 
 -- the job at a seat's entry has its call
 pub its_job_at : (before now : List Job) (entries : List Entry) (places : List PlaceMemory) (n : ℕ) → HaveJobsAt before entries places → SameLegs before now →
-    n < length places → HasJob now (entry_at entries n).job (place_at places n).call
+    n < length places → HasJob now (entry_at entries n).job (place_numbered places n).call
 its_job_at before now entries places n have s l =
     let h = have n l in
-    (omega (arith, h.0, s.number), s.calls (entry_at entries n).job (place_at places n).call ∙ h.1)
+    (omega (arith, h.0, s.number), s.calls (entry_at entries n).job (place_numbered places n).call ∙ h.1)
 
 -- with one seat more
 pub taken_more : (before now next : List Job) (entries : List Entry) (places : List PlaceMemory) (seats : List SeatMemory) (n : ℕ) (none : IoMemory)
     (s : SeatMemory) → RisingPlaces places → HaveJobsAt before entries places → n < length places → TakenOut before now entries places seats n →
-    none.call ≡ (place_at places n).call → next ≡ slice_set now (entry_at entries n).job (with_io (job_at now (entry_at entries n).job) none) →
-    s ≡ seat_with (place_at places n) (half_of_seat now entries places n).io → TakenOut before next entries places (seats ++ s ∷ []) (n + 1)
+    none.call ≡ (place_numbered places n).call → next ≡ slice_set now (entry_at entries n).job (with_io (job_at now (entry_at entries n).job) none) →
+    s ≡ seat_with (place_numbered places n) (half_of_seat now entries places n).io → TakenOut before next entries places (seats ++ s ∷ []) (n + 1)
 taken_more before now next entries places seats n none s rising have l h call e es =
     let place = (entry_at entries n).job in
-    let c = (place_at places n).call in
+    let c = (place_numbered places n).call in
     let has_c = its_job_at before now entries places n have h.same l in
     let has : has_call (job_at now place) none.call ≡ true = subst (λ (d : ℕ). has_call (job_at now place) d ≡ true) (sym call) has_c.1 in
     let there : job_at next place ≡ with_io (job_at now place) none =
@@ -92,24 +92,24 @@ taken_more before now next entries places seats n none s rising have l h call e 
         groups = ap (λ (js : List Job). groups_from js) e ∙ groups_kept now place none has_c.0 has ∙ h.same.groups;
       };
       left = λ k lk lp.
-          let greater : c < (place_at places k).call = rising n k (omega (arith, lk)) lp in
+          let greater : c < (place_numbered places k).call = rising n k (omega (arith, lk)) lp in
           let theirs = its_job_at before now entries places k have h.same lp in
           elim (cases_eq (entry_at entries k).job place) [
             | inl p ↦
-                let at : has_call (job_at now place) (place_at places k).call ≡ true =
-                subst (λ (j : ℕ). has_call (job_at now j) (place_at places k).call ≡ true) p theirs.1 in
-                ap (λ (j : ℕ). (half_at next j (place_at places k).call).io) p ∙ ap (λ (x : Job). (half_of x (place_at places k).call).io) there
-                ∙ with_other (job_at now place) none (place_at places k).call has at (λ r. absurd (omega (arith, greater, r, call)))
-                ∙ ap (λ (j : ℕ). (half_at now j (place_at places k).call).io) (sym p) ∙ h.left k (omega (arith, lk)) lp
-            | inr p ↦ ap (λ (x : Job). (half_of x (place_at places k).call).io) (elsewhere (entry_at entries k).job p) ∙ h.left k (omega (arith, lk)) lp
+                let at : has_call (job_at now place) (place_numbered places k).call ≡ true =
+                subst (λ (j : ℕ). has_call (job_at now j) (place_numbered places k).call ≡ true) p theirs.1 in
+                ap (λ (j : ℕ). (half_at next j (place_numbered places k).call).io) p ∙ ap (λ (x : Job). (half_of x (place_numbered places k).call).io) there
+                ∙ with_other (job_at now place) none (place_numbered places k).call has at (λ r. absurd (omega (arith, greater, r, call)))
+                ∙ ap (λ (j : ℕ). (half_at now j (place_numbered places k).call).io) (sym p) ∙ h.left k (omega (arith, lk)) lp
+            | inr p ↦ ap (λ (x : Job). (half_of x (place_numbered places k).call).io) (elsewhere (entry_at entries k).job p) ∙ h.left k (omega (arith, lk)) lp
           ];
       taken = λ k lk. elim (cases_lt k n) [
         | inl less ↦ get_or_append_left seats (s ∷ []) no_seat k (omega (arith, less, h.long)) ∙ h.taken k less
         | inr more ↦
             let same : k ≡ length seats = omega (arith, lk, more, h.long) in
             let at : k ≡ n = omega (arith, lk, more) in
-            get_or_push seats s no_seat k (sym same) ∙ es ∙ ap (λ (x : IoMemory). seat_with (place_at places n) x) (h.left n (omega arith) l)
-            ∙ ap (λ (m : ℕ). seat_with (place_at places m) (half_of_seat before entries places m).io) (sym at)
+            get_or_push seats s no_seat k (sym same) ∙ es ∙ ap (λ (x : IoMemory). seat_with (place_numbered places n) x) (h.left n (omega arith) l)
+            ∙ ap (λ (m : ℕ). seat_with (place_numbered places m) (half_of_seat before entries places m).io) (sym at)
       ];
       long = omega (arith, length-append seats (s ∷ []), h.long);
     }
@@ -118,18 +118,18 @@ taken_more before now next entries places seats n none s rising have l h call e 
 
 -- the job of a turn has the call of its seat
 pub take_job : (before now : List Job) (entries : List Entry) (places : List PlaceMemory) (n k j : ℕ) (p : PlaceMemory) (io : IoMemory) →
-    HaveJobsAt before entries places → SameLegs before now → n < length places → p ≡ place_at places n → k ≡ n → j ≡ (entry_at entries k).job →
+    HaveJobsAt before entries places → SameLegs before now → n < length places → p ≡ place_numbered places n → k ≡ n → j ≡ (entry_at entries k).job →
     io.call ≡ p.call → HasJob now j io.call
 take_job before now entries places n k j p io have same l ep ek ej ec =
     let h = its_job_at before now entries places n have same l in
     let place : j ≡ (entry_at entries n).job = ej ∙ ap (λ (m : ℕ). (entry_at entries m).job) ek in
-    let call : io.call ≡ (place_at places n).call = ec ∙ ap (λ (x : PlaceMemory). x.call) ep in
+    let call : io.call ≡ (place_numbered places n).call = ec ∙ ap (λ (x : PlaceMemory). x.call) ep in
     subst (λ (m : ℕ). HasJob now m io.call) (sym place) (subst (λ (c : ℕ). HasJob now (entry_at entries n).job c) (sym call) h)
 
 -- .. and its half is the one that the seat waits for
 pub take_half : (before now : List Job) (entries : List Entry) (places : List PlaceMemory) (n k j : ℕ) (p : PlaceMemory) (io : IoMemory) →
-    p ≡ place_at places n → k ≡ n → j ≡ (entry_at entries k).job → io.call ≡ p.call → half_at now j io.call ≡ half_of_seat now entries places n
+    p ≡ place_numbered places n → k ≡ n → j ≡ (entry_at entries k).job → io.call ≡ p.call → half_at now j io.call ≡ half_of_seat now entries places n
 take_half before now entries places n k j p io ep ek ej ec =
     let place : j ≡ (entry_at entries n).job = ej ∙ ap (λ (m : ℕ). (entry_at entries m).job) ek in
-    let call : io.call ≡ (place_at places n).call = ec ∙ ap (λ (x : PlaceMemory). x.call) ep in
+    let call : io.call ≡ (place_numbered places n).call = ec ∙ ap (λ (x : PlaceMemory). x.call) ep in
     ap (λ (m : ℕ). half_at now m io.call) place ∙ ap (λ (c : ℕ). half_at now (entry_at entries n).job c) call

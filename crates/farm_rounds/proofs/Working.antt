@@ -15,7 +15,7 @@ use Rattle.round_lines.specs.Places.{PlaceMemory}
 use Rattle.round_lines.specs.Seats.{SeatMemory, Fills}
 use Rattle.round_lines.specs.Rounds.{Rising, no_seat, seat_at, call_at}
 use Rattle.farm_rounds.specs.declared.entry.Entry.{Entry}
-use Rattle.farm_rounds.specs.Rounds.{no_job, AreReady, job_at, half_at, HasJob, SameLegs, entry_at, HaveJobs, AreHanded, AreSound, HaveTimeUntil, seat_with, Works, IsTimely, groups_from, place_at, half_of_seat, AreTaken, IsShort}
+use Rattle.farm_rounds.specs.Rounds.{no_job, AreReady, job_at, half_at, HasJob, SameLegs, entry_at, HaveJobs, AreHanded, AreSound, HaveTimeUntil, seat_with, Works, IsTimely, groups_from, place_numbered, half_of_seat, AreTaken, EndsShort}
 use Rattle.std.proofs.lemmas.List.Folds.{list_any_at, list_any_none}
 use Rattle.farm_rounds.specs.Settling.{goes_on_in}
 use Rattle.farm_rounds.specs.Working.{RoundMemory, goes_on_call, IsRound}
@@ -35,7 +35,7 @@ back_into n new old was whole same number = back n new old (omega (arith, whole,
 
 -- ---- the work
 
-place_of_seat : (seats : List SeatMemory) (k : ℕ) → place_at (map (λ (s : SeatMemory). s.place) seats) k ≡ (seat_at seats k).place
+place_of_seat : (seats : List SeatMemory) (k : ℕ) → place_numbered (map (λ (s : SeatMemory). s.place) seats) k ≡ (seat_at seats k).place
 place_of_seat [] k = refl
 place_of_seat (s ∷ seats) zero = refl
 place_of_seat (s ∷ seats) (suc k) = place_of_seat seats k
@@ -47,7 +47,7 @@ pub ready_out : (most : ℕ) (before jobs after : List Job) (entries : List Entr
     apart ≡ map (λ (s : SeatMemory). s.place) seats → AreReady after entries apart
 ready_out most before jobs after entries seats apart last have rising same handed long timely ej ea =
     let number : length apart ≡ length seats = ap (λ (ps : List PlaceMemory). length ps) ea ∙ length-map seats (λ (s : SeatMemory). s.place) in
-    let place : (k : ℕ) → place_at apart k ≡ (seat_at seats k).place = λ k. ap (λ (ps : List PlaceMemory). place_at ps k) ea ∙ place_of_seat seats k in
+    let place : (k : ℕ) → place_numbered apart k ≡ (seat_at seats k).place = λ k. ap (λ (ps : List PlaceMemory). place_numbered ps k) ea ∙ place_of_seat seats k in
     let job : (j : ℕ) → j < length jobs → job_at after j ≡ finished (job_at jobs j) =
     λ j l. ap (λ (js : List Job). job_at js j) ej ∙ get_or-map finished jobs j no_job no_job l in
     let theirs : (k : ℕ) → k < length seats → HasJob jobs (entry_at entries k).job (call_at seats k) = λ k l. its_job before jobs entries seats k have same l in
@@ -103,7 +103,7 @@ works before jobs run final entries seats worked apart same handed sound timely 
       groups = kept.groups ∙ ap (λ (js : List Job). groups_from js) er;
       number = number ∙ long;
       left = λ k l.
-          let place : place_at apart k ≡ (seat_at seats k).place = ap (λ (ps : List PlaceMemory). place_at ps k) ea ∙ place_of_seat seats k in
+          let place : place_numbered apart k ≡ (seat_at seats k).place = ap (λ (ps : List PlaceMemory). place_numbered ps k) ea ∙ place_of_seat seats k in
           taken k (omega (arith, l, long)) ∙ ap (λ (p : PlaceMemory). seat_with p (half_at run (entry_at entries k).job p.call).io) place
           ∙ ap (λ (js : List Job). seat_with (seat_at seats k).place (half_at js (entry_at entries k).job (call_at seats k)).io) er;
     }
@@ -158,7 +158,7 @@ filled r seats i number call periods long = record {
 
 -- a line that failed didn't fill its buffer
 pub is_short : (before now : Side → LineState) (s t : SeatMemory) → Fills before now s t →
-    (length s.up ≡ 40 * s.place.periods) × (length s.pcm ≡ 160 * s.place.periods) → IsShort t.place
+    (length s.up ≡ 40 * s.place.periods) × (length s.pcm ≡ 160 * s.place.periods) → EndsShort t.place
 is_short before now s t f room =
     let periods : t.place.periods ≡ s.place.periods = ap (λ (x : SeatMemory). x.place.periods) f.kept in (
       λ e. omega (arith, f.up.short e, f.up_length, room.0, periods),

@@ -17,12 +17,12 @@ use Rattle.round_lines.specs.Rounds.{seat_at, call_at}
 use Rattle.farm_rounds.specs.declared.call.Call.{Call}
 use Rattle.farm_rounds.specs.declared.call.Group.{Group}
 use Rattle.farm_rounds.specs.Calls.{group_in, call_of, call_in, partner_of, partner_in}
-use Rattle.farm_rounds.specs.Groups.{AreGroups, AreLive}
+use Rattle.farm_rounds.specs.Groups.{AreGroups, ListsOpenCalls}
 use Rattle.farm_rounds.specs.Histories.{CallHistory, whose, CallStands, GroupsStand}
-use Rattle.farm_rounds.specs.Rounds.{no_job, job_at, entry_at, octets_of, seat_with, call_from, group_from, groups_from, Works}
+use Rattle.farm_rounds.specs.Rounds.{no_job, job_at, entry_at, io_of, seat_with, call_from, group_from, groups_from, Works}
 use Rattle.farm_rounds.specs.RoundHistories.{worked_histories, history_with, WorkedCall, AreWorked}
 use Rattle.farm_rounds.specs.Ordered.{job_in}
-use Rattle.farm_rounds.specs.Working.{RoundMemory, IsRound, IsWorked}
+use Rattle.farm_rounds.specs.Working.{RoundMemory, IsRound, IsWorkedRound}
 use Rattle.farm_rounds.proofs.Finding.{found_there}
 use Rattle.farm_rounds.proofs.Holding.{found_group}
 use Rattle.farm_rounds.proofs.Handing.{its_job}
@@ -58,7 +58,7 @@ module _ (r : RoundMemory) (after : List Job) (worked : List SeatMemory) (i : Is
   worked_partner c = ap (λ (gs : List Group). partner_in gs c) w.groups ∙ finished_partner w.handed c ∙ ap (λ (gs : List Group). partner_in gs c) w.same.groups
 
   pub worked_round : (ends : List CallEnd) →
-      IsWorked (record { ended = r.ended; live = r.live; tallies = r.tallies; failed = r.failed; jobs = after; seats = worked; ends = ends })
+      IsWorkedRound (record { ended = r.ended; live = r.live; tallies = r.tallies; failed = r.failed; jobs = after; seats = worked; ends = ends })
   worked_round ends = record {
     numbers = w.number ∙ i.numbers;
     aligned = λ k l.
@@ -69,8 +69,8 @@ module _ (r : RoundMemory) (after : List Job) (worked : List SeatMemory) (i : Is
         (finished_groups r.ended w.handed (w.timely r.ended i.timely i.time) (subst (λ (gs : List Group). AreGroups r.ended gs) (sym w.same.groups) i.groups));
     last = i.last;
     alive =
-        subst (λ (gs : List Group). AreLive r.live gs) (sym w.groups)
-        (finished_live r.live w.handed (subst (λ (gs : List Group). AreLive r.live gs) (sym w.same.groups) i.alive));
+        subst (λ (gs : List Group). ListsOpenCalls r.live gs) (sym w.groups)
+        (finished_live r.live w.handed (subst (λ (gs : List Group). ListsOpenCalls r.live gs) (sym w.same.groups) i.alive));
     kept = i.kept;
   }
 
@@ -212,10 +212,10 @@ module _ (r : RoundMemory) (after : List Job) (worked : List SeatMemory) (i : Is
         let run : job_at (map finished w.handed) place ≡ finished job = get_or-map finished w.handed place no_job no_job has.0 in
         w.left k l ∙ ap (λ (j : Job). seat_with (seat_at r.seats k).place (half_of j c).io) run
         ∙ ap (λ (io : IoMemory). seat_with (seat_at r.seats k).place io) f.octets
-        ∙ ap (λ (s : SeatMemory). seat_with (seat_at r.seats k).place (io_after (whose c f.now) (whole_in s.place) f.now.periods (octets_of s)))
+        ∙ ap (λ (s : SeatMemory). seat_with (seat_at r.seats k).place (io_after (whose c f.now) (whole_in s.place) f.now.periods (io_of s)))
         (seat_of_at r.seats k i.rising l)
         ∙ ap (λ (y : CallHistory). seat_with (seat_at r.seats k).place
-        (io_after (whose c y) (whole_in (seat_at r.seats k).place) y.periods (octets_of (seat_at r.seats k)))) (sym same)
+        (io_after (whose c y) (whole_in (seat_at r.seats k).place) y.periods (io_of (seat_at r.seats k)))) (sym same)
       where
         some_same : (y z : CallHistory) → Some y ≡ Some z → y ≡ z
         some_same y z q = cc

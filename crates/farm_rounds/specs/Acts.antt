@@ -24,8 +24,8 @@ abbrev pub with_leg : LegMemory → Call → Call
 with_leg m x = record { number = x.number; leg = m; down_failed = x.down_failed; out_failed = x.out_failed }
 
 -- its bridge starts, or is over
-abbrev pub joined : Call → Call
-joined x = with_leg (begin_bridge x.leg) x
+abbrev pub bridged_call : Call → Call
+bridged_call x = with_leg (begin_bridge x.leg) x
 
 abbrev pub parted : Call → Call
 parted x = with_leg (with_down x.leg (bridge_over x.leg.down)) x
@@ -62,19 +62,19 @@ freed (Some p) g f = changed p g f
 abbrev pub calls_after : Act → (ℕ → Option Call) → ℕ → Option Call
 calls_after (Opened c law) f = put_at c (Some (new_call c law)) f
 calls_after (Closed c p) f = put_at c None (freed p parted f)
-calls_after (Bridged a b) f = changed a joined (changed b joined f)
+calls_after (Bridged a b) f = changed a bridged_call (changed b bridged_call f)
 calls_after (Unbridged a b) f = changed a parted (changed b parted f)
 calls_after (LevelSet c level) f = changed c (set_by (LevelSet c level)) f
 calls_after (DtxSet c mode) f = changed c (set_by (DtxSet c mode)) f
 
 -- how many calls are open more and less
-abbrev pub opened_by : Act → ℕ
-opened_by (Opened c law) = 1
-opened_by _ = 0
+abbrev pub opened_count : Act → ℕ
+opened_count (Opened c law) = 1
+opened_count _ = 0
 
-abbrev pub closed_by : Act → ℕ
-closed_by (Closed c p) = 1
-closed_by _ = 0
+abbrev pub closed_count : Act → ℕ
+closed_count (Closed c p) = 1
+closed_count _ = 0
 
 -- the partner of each call
 abbrev pub without_partner : Option ℕ → (ℕ → Option ℕ) → ℕ → Option ℕ
@@ -94,13 +94,13 @@ IsOpen groups c = is_some (call_in groups c) ≡ true
 
 -- What an act names is as the switchboard found it: an opened call wasn't open, the others are; a bridge joins two
 -- different calls that aren't bridged, and is the one that is there when it ends.
-abbrev pub Fits : List Group → Act → Type 0
-Fits groups (Opened c law) = IsCallNumber c × (call_in groups c ≡ None)
-Fits groups (Closed c p) = IsOpen groups c × (partner_in groups c ≡ p)
-Fits groups (Bridged a b) = (a ≢ b) × IsOpen groups a × IsOpen groups b × (partner_in groups a ≡ None) × (partner_in groups b ≡ None)
-Fits groups (Unbridged a b) = partner_in groups a ≡ Some b
-Fits groups (LevelSet c level) = IsOpen groups c × (pos 0 ≤ℤ level)
-Fits groups (DtxSet c mode) = IsOpen groups c
+abbrev pub ActFits : List Group → Act → Type 0
+ActFits groups (Opened c law) = IsCallNumber c × (call_in groups c ≡ None)
+ActFits groups (Closed c p) = IsOpen groups c × (partner_in groups c ≡ p)
+ActFits groups (Bridged a b) = (a ≢ b) × IsOpen groups a × IsOpen groups b × (partner_in groups a ≡ None) × (partner_in groups b ≡ None)
+ActFits groups (Unbridged a b) = partner_in groups a ≡ Some b
+ActFits groups (LevelSet c level) = IsOpen groups c × (pos 0 ≤ℤ level)
+ActFits groups (DtxSet c mode) = IsOpen groups c
 
 -- it opens a call
 abbrev pub IsOpening : Act → Type 0
@@ -124,4 +124,4 @@ pub record Applied (most : ℕ) (act : Act) (before now : List Group) : Type 0 w
   pub groups : AreGroups most now
   pub calls : (c : ℕ) → call_in now c ≡ calls_after act (call_in before) c
   pub partners : (c : ℕ) → partner_in now c ≡ partners_after act (partner_in before) c
-  pub held : calls_held now + closed_by act ≡ calls_held before + opened_by act
+  pub held : calls_held now + closed_count act ≡ calls_held before + opened_count act

@@ -5,13 +5,13 @@ use Rattle.call_pair.specs.declared.job.Job.TheVariants.{One, Two}
 use Rattle.call_pair.specs.Memory.{HalfMemory}
 use Rattle.call_pair.specs.Jobs.{has_call, half_of, half_with, finished}
 use Rattle.round_lines.specs.Seats.{SeatMemory}
-use Rattle.farm_rounds.specs.Rounds.{no_job, octets_of, seat_with}
+use Rattle.farm_rounds.specs.Rounds.{no_job, io_of, seat_with}
 use Rattle.farm_rounds.specs.RoundHistories.{seat_of}
 use Rattle.farm_rounds.specs.Working.{RoundMemory}
 
 -- a call with the octets of its seat
 abbrev pub half_filled : List SeatMemory → HalfMemory → HalfMemory
-half_filled seats h = half_with h (octets_of (seat_of seats h.io.call))
+half_filled seats h = half_with h (io_of (seat_of seats h.io.call))
 
 abbrev pub job_filled : List SeatMemory → Job → Job
 job_filled seats (One h) = One (half_filled seats h)

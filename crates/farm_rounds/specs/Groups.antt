@@ -25,7 +25,7 @@ pub record AreGroups (most : ℕ) (groups : List Group) : Type 0 where
   pub each : All (IsGroup most) groups
 
 -- the numbers of the calls that are open, and how many there are
-pub record AreLive (live : List ℕ) (groups : List Group) : Type 0 where
+pub record ListsOpenCalls (live : List ℕ) (groups : List Group) : Type 0 where
   pub numbers : (c : ℕ) → is_among live c ≡ is_some (call_in groups c)
   pub rising : IsRising live
   pub count : calls_held groups ≡ length live

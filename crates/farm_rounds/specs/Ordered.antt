@@ -6,7 +6,7 @@ use Rattle.std.specs.Global.{Box}
 use Rattle.call_pair.specs.declared.job.Job.{Job}
 use Rattle.call_pair.specs.declared.job.Job.TheVariants as job
 use Rattle.call_pair.specs.Jobs.{has_call, half_of, finished}
-use Rattle.call_pair.specs.Phases.{CallMemory, call_left, starting, half_in}
+use Rattle.call_pair.specs.Phases.{CallMemory, periods_left, starting, half_in}
 use Rattle.farm_rounds.specs.declared.order.Party.{Party}
 use Rattle.farm_rounds.specs.declared.order.Party.TheVariants.{One, Two}
 
@@ -44,8 +44,8 @@ abbrev pub bridge_end_of : Job → ℕ
 bridge_end_of (job.One h) = 0
 bridge_end_of (job.Two a b) = min a.io.given b.io.given
 
-abbrev pub start_of : Job → ℕ → CallMemory
-start_of j c = starting (bridge_end_of j) (half_of j c)
+abbrev pub start_memory : Job → ℕ → CallMemory
+start_memory j c = starting (bridge_end_of j) (half_of j c)
 
 -- what stands at a place
 abbrev pub slot_at : List (Option (Box CallMemory)) → ℕ → Option CallMemory
@@ -60,14 +60,14 @@ IsPlaceOf numbers c k = (k < length numbers) × (slice_index numbers k ≡ c)
 pub record AreSpread (jobs : List Job) (numbers : List ℕ) (slots : List (Option (Box CallMemory))) (partners : List ℕ) (parties : List Party) : Type 0 where
   pub named : parties ≡ map party_of jobs
   pub there : (k : ℕ) (j : Job) → k < length numbers → job_in jobs (slice_index numbers k) ≡ Some j →
-      slot_at slots k ≡ Some (start_of j (slice_index numbers k))
+      slot_at slots k ≡ Some (start_memory j (slice_index numbers k))
   pub beside : (k : ℕ) (j : Job) → k < length numbers → job_in jobs (slice_index numbers k) ≡ Some j →
       IsPlaceOf numbers (other_named (party_of j) (slice_index numbers k)) (slice_index partners k)
 
 -- a finished job stands there
 abbrev pub IsHeld : Option CallMemory → Type 0
 IsHeld None = ⊥
-IsHeld (Some j) = call_left j ≡ 0
+IsHeld (Some j) = periods_left j ≡ 0
 
 -- at each place stands what makes the finished job of its call
 abbrev pub AreRun : List Job → List ℕ → List (Option (Box CallMemory)) → Type 0

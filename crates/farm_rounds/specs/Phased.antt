@@ -11,7 +11,7 @@ use Rattle.call_pair.specs.declared.call_job.Phase.TheVariants.{First}
 use Rattle.call_pair.specs.declared.job.Job.{Job}
 use Rattle.call_pair.specs.declared.job.Job.TheVariants as job
 use Rattle.call_pair.specs.Memory.{HalfMemory}
-use Rattle.call_pair.specs.Phases.{CallMemory, call_left, turned_down, starting, with_partner, frames_in}
+use Rattle.call_pair.specs.Phases.{CallMemory, periods_left, turned_down, starting, with_partner, frames_in}
 use Rattle.farm_rounds.specs.declared.phases.PhasesRoom.{PhasesRoom}
 use Rattle.farm_rounds.specs.Rounds.{no_octets}
 
@@ -19,17 +19,17 @@ use Rattle.farm_rounds.specs.Rounds.{no_octets}
 abbrev pub IsFreshHalf : ℕ → HalfMemory → Type 0
 IsFreshHalf most h = (h.io.done ≡ 0) × (h.io.given ≤ most)
 
-abbrev pub IsFresh : ℕ → Job → Type 0
-IsFresh most (job.One h) = IsFreshHalf most h
-IsFresh most (job.Two a b) = IsFreshHalf most a × IsFreshHalf most b
+abbrev pub IsFreshJob : ℕ → Job → Type 0
+IsFreshJob most (job.One h) = IsFreshHalf most h
+IsFreshJob most (job.Two a b) = IsFreshHalf most a × IsFreshHalf most b
 
 abbrev pub HasNoneDone : Job → Type 0
 HasNoneDone (job.One h) = h.io.done ≡ 0
 HasNoneDone (job.Two a b) = (a.io.done ≡ 0) × (b.io.done ≡ 0)
 
 -- no seat takes more periods
-abbrev pub AreWithin : ℕ → List SeatMemory → Type 0
-AreWithin most seats = (k : ℕ) → k < length seats → (seat_at seats k).place.periods ≤ most
+abbrev pub SeatsAreWithin : ℕ → List SeatMemory → Type 0
+SeatsAreWithin most seats = (k : ℕ) → k < length seats → (seat_at seats k).place.periods ≤ most
 
 -- empty lists, each with room for so many
 abbrev pub AreEmptyFor : {X : Type 0} → ℕ → List (Vec X) → Type 0
@@ -37,15 +37,15 @@ AreEmptyFor most lists = All (λ v. (most ≤ vec_capacity v) × (v.items ≡ []
 
 -- ---- the jobs of the calls
 
-abbrev pub calls_in : List (Box CallMemory) → List CallMemory
-calls_in boxes = map (λ b. b.value) boxes
+abbrev pub memories_in : List (Box CallMemory) → List CallMemory
+memories_in boxes = map (λ b. b.value) boxes
 
 -- stands where there is no job of a call
-abbrev pub no_call : CallMemory
-no_call = starting 0 (record { leg = leg.home_memory (record { number = 0; law = A }); io = no_octets 0 })
+abbrev pub home_call : CallMemory
+home_call = starting 0 (record { leg = leg.home_memory (record { number = 0; law = A }); io = no_octets 0 })
 
 abbrev pub call_in_place : List (Box CallMemory) → ℕ → CallMemory
-call_in_place boxes k = get_or (calls_in boxes) k no_call
+call_in_place boxes k = get_or (memories_in boxes) k home_call
 
 -- ---- from phase to phase
 
@@ -56,7 +56,7 @@ heard_from p j = turned_down (with_partner (take j.bridge_end (frames_in p.notes
 -- the first phase is finished, and the bridge's end lies within the partner's places, of so many at most
 pub record IsTold (most : ℕ) (j p : CallMemory) : Type 0 where
   pub first : j.phase ≡ First
-  pub finished : call_left j ≡ 0
+  pub finished : periods_left j ≡ 0
   pub within : j.bridge_end ≤ length p.notes
   pub few : j.bridge_end ≤ most
 
@@ -67,7 +67,7 @@ pub record HasPhases (calls most : ℕ) (room : PhasesRoom) : Type 0 where
   pub first : calls ≤ room.first
   pub second : calls ≤ room.second
   pub slots : length room.slots.items ≡ calls
-  pub no_call : room.apart.items ≡ []
+  pub home_call : room.apart.items ≡ []
   pub apart : calls ≤ vec_capacity room.apart
   pub none_worked : room.worked.items ≡ []
   pub worked : calls ≤ vec_capacity room.worked

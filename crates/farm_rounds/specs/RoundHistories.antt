@@ -13,7 +13,7 @@ use Rattle.farm_rounds.specs.declared.call.Call.{Call}
 use Rattle.farm_rounds.specs.declared.call.Group.{Group}
 use Rattle.farm_rounds.specs.Calls.{call_in, partner_in}
 use Rattle.farm_rounds.specs.Histories.{CallHistory, whose}
-use Rattle.farm_rounds.specs.Rounds.{octets_of, seat_with, groups_from}
+use Rattle.farm_rounds.specs.Rounds.{io_of, seat_with, groups_from}
 use Rattle.farm_rounds.specs.Working.{WorkedMemory, goes_on_call, that_stays}
 
 -- ---- before the round
@@ -31,7 +31,7 @@ seat_of seats c = unwrap_or (find (λ s. s.place.call == c) seats) no_seat
 
 -- the call at the start of the round: what it has had, and the octets of its periods in the round
 abbrev pub start_with : List SeatMemory → ℕ → CallHistory → Start
-start_with seats c x = record { law = x.law; past = x.periods; now = x.now; io = octets_of (seat_of seats c) }
+start_with seats c x = record { law = x.law; past = x.periods; now = x.now; io = io_of (seat_of seats c) }
 
 -- after the round, of a call that lies in no bridge ..
 abbrev pub history_alone : List SeatMemory → ℕ → CallHistory → CallHistory
@@ -77,7 +77,7 @@ WorkedStand h r = (c : ℕ) → WorkedCall (goes_on_call r.seats) c (h c) (call_
 -- The seats after the work: Out and Down begin with the octets of the round's periods, and are as they were behind them.
 abbrev pub AreWorked : List SeatMemory → (ℕ → Option CallHistory) → List SeatMemory → Type 0
 AreWorked seats worked now = (k : ℕ) (x : CallHistory) → k < length seats → worked (call_at seats k) ≡ Some x →
-    let s = seat_at seats k in seat_at now k ≡ seat_with s.place (io_after (whose (call_at seats k) x) (whole_in s.place) x.periods (octets_of s))
+    let s = seat_at seats k in seat_at now k ≡ seat_with s.place (io_after (whose (call_at seats k) x) (whole_in s.place) x.periods (io_of s))
 
 -- ---- the calls that go on
 

@@ -76,16 +76,16 @@ abbrev pub HaveJobs : List Job → List Entry → List SeatMemory → Type 0
 HaveJobs jobs entries seats = (k : ℕ) → k < length seats → HasJob jobs (entry_at entries k).job (call_at seats k)
 
 -- the octets of a seat, which its call's job takes: those of the whole periods
-abbrev pub octets_of : SeatMemory → IoMemory
-octets_of s = record { call = s.place.call; up = s.up; pcm = s.pcm; out = s.out; down = s.down; given = whole_in s.place; done = 0 }
+abbrev pub io_of : SeatMemory → IoMemory
+io_of s = record { call = s.place.call; up = s.up; pcm = s.pcm; out = s.out; down = s.down; given = whole_in s.place; done = 0 }
 
 -- the first n seats' octets are in their jobs
 abbrev pub AreHanded : List Job → List Entry → List SeatMemory → ℕ → Type 0
-AreHanded jobs entries seats n = (k : ℕ) → k < n → (half_at jobs (entry_at entries k).job (call_at seats k)).io ≡ octets_of (seat_at seats k)
+AreHanded jobs entries seats n = (k : ℕ) → k < n → (half_at jobs (entry_at entries k).job (call_at seats k)).io ≡ io_of (seat_at seats k)
 
 -- the first n seats' buffers have the round's length, and no more of it is whole
 abbrev pub AreSound : List SeatMemory → ℕ → Type 0
-AreSound seats n = (k : ℕ) → k < n → IsIo (octets_of (seat_at seats k)) × (whole_in (seat_at seats k).place ≤ (seat_at seats k).place.periods)
+AreSound seats n = (k : ℕ) → k < n → IsIo (io_of (seat_at seats k)) × (whole_in (seat_at seats k).place ≤ (seat_at seats k).place.periods)
 
 -- the incoming buffers have the round's length
 abbrev pub HaveRoom : List SeatMemory → Type 0
@@ -93,8 +93,8 @@ HaveRoom seats = (k : ℕ) → k < length seats →
     let s = seat_at seats k in (length s.up ≡ 40 * s.place.periods) × (length s.pcm ≡ 160 * s.place.periods)
 
 -- an incoming line that failed gave fewer octets than the round takes of it: 40 a period of Up, 160 of Pcm
-abbrev pub IsShort : PlaceMemory → Type 0
-IsShort p = (p.up.failed ≡ true → p.up.count < 40 * p.periods) × (p.pcm.failed ≡ true → p.pcm.count < 160 * p.periods)
+abbrev pub EndsShort : PlaceMemory → Type 0
+EndsShort p = (p.up.failed ≡ true → p.up.count < 40 * p.periods) × (p.pcm.failed ≡ true → p.pcm.count < 160 * p.periods)
 
 -- with those of the round no call has more periods than these ..
 abbrev pub HaveTimeUntil : ℕ → List Job → List Entry → List SeatMemory → Type 0
@@ -108,18 +108,18 @@ HaveTime jobs entries seats = HaveTimeUntil 4294967295 jobs entries seats
 -- ---- after the work
 
 -- stands where there is no seat
-abbrev pub place_at : List PlaceMemory → ℕ → PlaceMemory
-place_at places k = slice_index_or places k no_seat.place
+abbrev pub place_numbered : List PlaceMemory → ℕ → PlaceMemory
+place_numbered places k = slice_index_or places k no_seat.place
 
 abbrev pub RisingPlaces : List PlaceMemory → Type 0
-RisingPlaces places = (i j : ℕ) → i < j → j < length places → (place_at places i).call < (place_at places j).call
+RisingPlaces places = (i j : ℕ) → i < j → j < length places → (place_numbered places i).call < (place_numbered places j).call
 
 abbrev pub HaveJobsAt : List Job → List Entry → List PlaceMemory → Type 0
-HaveJobsAt jobs entries places = (k : ℕ) → k < length places → HasJob jobs (entry_at entries k).job (place_at places k).call
+HaveJobsAt jobs entries places = (k : ℕ) → k < length places → HasJob jobs (entry_at entries k).job (place_numbered places k).call
 
 -- the half of the call of seat k
 abbrev pub half_of_seat : List Job → List Entry → List PlaceMemory → ℕ → HalfMemory
-half_of_seat jobs entries places k = half_at jobs (entry_at entries k).job (place_at places k).call
+half_of_seat jobs entries places k = half_at jobs (entry_at entries k).job (place_numbered places k).call
 
 -- no leg has worked more periods than a call has
 abbrev pub HaveWorked : List Job → List Entry → List PlaceMemory → Type 0
@@ -127,7 +127,7 @@ HaveWorked jobs entries places = (k : ℕ) → k < length places → periods_of_
 
 -- the buffers have the round's length
 abbrev pub HaveLengths : List Job → List Entry → List PlaceMemory → Type 0
-HaveLengths jobs entries places = (k : ℕ) → k < length places → length (half_of_seat jobs entries places k).io.up ≡ 40 * (place_at places k).periods
+HaveLengths jobs entries places = (k : ℕ) → k < length places → length (half_of_seat jobs entries places k).io.up ≡ 40 * (place_numbered places k).periods
 
 -- the octets can come out
 pub record AreReady (jobs : List Job) (entries : List Entry) (places : List PlaceMemory) : Type 0 where
@@ -142,7 +142,7 @@ seat_with place io = record { place = place; up = io.up; pcm = io.pcm; down = io
 
 -- the first n seats have the octets of their jobs
 abbrev pub AreTaken : List Job → List Entry → List PlaceMemory → List SeatMemory → ℕ → Type 0
-AreTaken jobs entries places seats n = (k : ℕ) → k < n → seat_at seats k ≡ seat_with (place_at places k) (half_of_seat jobs entries places k).io
+AreTaken jobs entries places seats n = (k : ℕ) → k < n → seat_at seats k ≡ seat_with (place_numbered places k) (half_of_seat jobs entries places k).io
 
 -- The jobs took the octets of the seats, those with the octets in them are `handed`, and were finished; and each seat has
 -- what its call's job left.
@@ -173,8 +173,8 @@ job_made (One x) = job.One (half_made x)
 job_made (Two x y) = job.Two (half_made x) (half_made y)
 
 -- what a call brings into a round
-abbrev pub entry_of : ℕ → Call → Entry
-entry_of j x = record { job = j; down_failed = x.down_failed; out_failed = x.out_failed }
+abbrev pub entry_for : ℕ → Call → Entry
+entry_for j x = record { job = j; down_failed = x.down_failed; out_failed = x.out_failed }
 
 -- the number of each open call has its entry, where its job is
 abbrev pub HaveEntries : List Job → List Entry → List ℕ → Type 0
@@ -183,7 +183,7 @@ HaveEntries jobs entries live = (k : ℕ) → k < length live → HasJob jobs (e
 -- .. and says what the call brings into the round
 abbrev pub BringCalls : List Group → List Entry → List ℕ → Type 0
 BringCalls groups entries live = (k : ℕ) → k < length live →
-    option_map (entry_of (entry_at entries k).job) (call_in groups (slice_index live k)) ≡ Some (entry_at entries k)
+    option_map (entry_for (entry_at entries k).job) (call_in groups (slice_index live k)) ≡ Some (entry_at entries k)
 
 -- a seat for each open call, in their order
 abbrev pub AreSeats : List ℕ → List Entry → ℕ → List SeatMemory → ℕ → Type 0

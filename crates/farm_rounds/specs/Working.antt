@@ -6,15 +6,15 @@ use Rattle.trau_io.specs.declared.line.Line.{Line}
 use Rattle.trau_io.specs.Places.{place_of}
 use Rattle.std.specs.List.Sorted.{IsPermutation, IsNonDecreasingBy}
 use Rattle.call_number.specs.declared.TheConstants.{NUMBERS}
-use Rattle.round_lines.specs.Places.{name_of, failed_in_round}
+use Rattle.round_lines.specs.Places.{line_name, failed_in_round}
 use Rattle.round_lines.specs.Seats.{SeatMemory}
 use Rattle.round_lines.specs.Rounds.{Rising, seat_at, call_at}
 use Rattle.call_pair.specs.declared.job.Job.{Job}
 use Rattle.farm_rounds.specs.declared.entry.Entry.{Entry}
 use Rattle.farm_rounds.specs.declared.tally.Tally.{Tally}
-use Rattle.farm_rounds.specs.Groups.{AreGroups, AreLive}
+use Rattle.farm_rounds.specs.Groups.{AreGroups, ListsOpenCalls}
 use Rattle.farm_rounds.specs.Settling.{goes_on_in}
-use Rattle.farm_rounds.specs.Phased.{IsFresh}
+use Rattle.farm_rounds.specs.Phased.{IsFreshJob}
 use Rattle.farm_rounds.specs.Rounds.{HaveJobs, HaveRoom, HaveTimeUntil, IsTimely, groups_from}
 
 -- what is seen of a round: its first period and the first one after it, the open calls' numbers, what is kept of ended
@@ -41,9 +41,9 @@ pub record IsRound (r : RoundMemory) : Type 0 where
   pub room : HaveRoom r.seats
   pub last : r.ended ≤ 4294967295
   pub groups : AreGroups r.ended (groups_from r.jobs)
-  pub alive : AreLive r.live (groups_from r.jobs)
+  pub alive : ListsOpenCalls r.live (groups_from r.jobs)
   pub kept : length r.tallies ≡ NUMBERS
-  pub fresh : All (IsFresh 0) r.jobs
+  pub fresh : All (IsFreshJob 0) r.jobs
 
 -- what is seen of a round that is worked
 pub record WorkedMemory : Type 0 where
@@ -55,13 +55,13 @@ pub record WorkedMemory : Type 0 where
   pub seats : List SeatMemory
   pub ends : List CallEnd
 
-pub record IsWorked (r : WorkedMemory) : Type 0 where
+pub record IsWorkedRound (r : WorkedMemory) : Type 0 where
   pub numbers : length r.seats ≡ length r.live
   pub aligned : (k : ℕ) → k < length r.seats → call_at r.seats k ≡ slice_index r.live k
   pub rising : Rising r.seats
   pub groups : AreGroups r.ended (groups_from r.jobs)
   pub last : r.ended ≤ 4294967295
-  pub alive : AreLive r.live (groups_from r.jobs)
+  pub alive : ListsOpenCalls r.live (groups_from r.jobs)
   pub kept : length r.tallies ≡ NUMBERS
 
 -- a call goes on where its seat has all periods of the round
@@ -81,6 +81,6 @@ partner_past stays partner c = if stays c then that_stays stays (partner c) else
 -- call in the order Up, Pcm, Down, Out.
 pub record GainsFailed (before now : List Line) (seats : List SeatMemory) : Type 0 where
   pub lines : List Line
-  pub told : map name_of lines ≡ map name_of before ++ flat_map (λ s. failed_in_round s.place) seats
+  pub told : map line_name lines ≡ map line_name before ++ flat_map (λ s. failed_in_round s.place) seats
   pub same : IsPermutation lines now
   pub order : IsNonDecreasingBy (λ l. place_of l.call l.side) now

@@ -8,7 +8,7 @@ ghost use Rattle.call_leg.specs.Stands.{Stands};
 ghost use Rattle.call_number.specs.CallNumber.{IsCallNumber};
 ghost use Rattle.farm_rounds.specs.Calls.{holds, call_of, other_of, pair_of};
 ghost use Rattle.farm_rounds.specs.declared.call.Group.TheVariants.{Two};
-ghost use Rattle.farm_rounds.specs.Acts.{HasLevel, new_call, joined, parted, set_by, group_set};
+ghost use Rattle.farm_rounds.specs.Acts.{HasLevel, new_call, bridged_call, parted, set_by, group_set};
 ghost use Rattle.farm_rounds.specs.Histories.{tally_of};
 ghost use Rattle.farm_rounds.specs.Rounds.{first_of};
 
@@ -50,7 +50,7 @@ impl Call {
 
     /// Its bridge starts.
     pub(crate) fn joined(mut self) -> Call
-        ensures { result ≡ joined self }
+        ensures { result ≡ bridged_call self }
     {
         self.leg.bridge_on();
         self

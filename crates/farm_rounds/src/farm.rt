@@ -16,7 +16,7 @@ ghost use Rattle.farm_rounds.specs.Calls.{call_in, partner_in};
 ghost use Rattle.farm_rounds.specs.Groups.{AreGroups};
 ghost use Rattle.farm_rounds.specs.Numbers.{IsRising, is_among};
 ghost use Rattle.farm_rounds.specs.Memory.{FarmMemory, home_memory, tally_in};
-ghost use Rattle.farm_rounds.specs.Acts.{IsOpen, IsOpening, Fits, Stays, Applied, calls_after, partners_after};
+ghost use Rattle.farm_rounds.specs.Acts.{IsOpen, IsOpening, ActFits, Stays, Applied, calls_after, partners_after};
 ghost use Rattle.farm_rounds.specs.Histories.{CallHistory, GroupsStand, NoneDrains, histories_after, tallies_after, tally_of};
 
 use crate::call::{Call, Group};
@@ -45,14 +45,14 @@ pub struct Farm {
 impl Model for Farm {
     ghost use Rattle.std.specs.Prelude.{◌≡◌, ◌≤◌, length, vec_capacity};
     ghost use Rattle.call_number.specs.declared.TheConstants.{NUMBERS};
-    ghost use Rattle.farm_rounds.specs.Groups.{AreGroups, AreLive};
+    ghost use Rattle.farm_rounds.specs.Groups.{AreGroups, ListsOpenCalls};
     ghost use Rattle.farm_rounds.specs.Memory.{FarmMemory};
 
     ghost Value = { FarmMemory };
 
     ghost view = { λ f. record { groups = f.groups.items; live = f.live.items; tallies = f.tallies.items; failed = f.failed.items; ended = f.end } };
 
-    ghost invariant = { λ f. AreGroups f.end f.groups.items × AreLive f.live.items f.groups.items × (length f.tallies.items ≡ NUMBERS) × (length f.live.items ≤ vec_capacity f.groups) };
+    ghost invariant = { λ f. AreGroups f.end f.groups.items × ListsOpenCalls f.live.items f.groups.items × (length f.tallies.items ≡ NUMBERS) × (length f.live.items ≤ vec_capacity f.groups) };
 }
 
 impl Farm {
@@ -73,7 +73,7 @@ impl Farm {
     /// Does what an accepted order does, before the first round or between two rounds. An order that opens a call takes
     /// the memory for it; no other takes any. On an error nothing has changed.
     pub fn apply(&mut self, alloc: Global, act: &Act) -> Result<(), AllocError>
-        requires { Fits self.old.groups act.now }
+        requires { ActFits self.old.groups act.now }
 
         // Each call afterwards, and its partner.
         ensures calls { IfOk result (λ u. (c : ℕ) → call_in self.new.groups c ≡ calls_after act.now (call_in self.old.groups) c) }
@@ -104,7 +104,7 @@ impl Farm {
 
     // A call is opened, with this law.
     fn open(&mut self, alloc: Global, call: u32, law: Law) -> Result<(), AllocError>
-        requires { Fits self.old.groups (done.Opened call law) }
+        requires { ActFits self.old.groups (done.Opened call law) }
         ensures before { AreGroups self.old.ended self.old.groups }
         ensures applied { IfOk result (λ u. Applied self.old.ended (done.Opened call law) self.old.groups self.new.groups) }
         ensures refused { IfErr result (λ e. self.new.groups ≡ self.old.groups) }
@@ -137,7 +137,7 @@ impl Farm {
 
     // Does what an act does that neither opens a call nor ends one.
     fn regroup(&mut self, act: &Act)
-        requires fits { Fits self.old.groups act.now }
+        requires fits { ActFits self.old.groups act.now }
         requires stays { Stays act.now }
         ensures before { AreGroups self.old.ended self.old.groups }
         ensures applied { Applied self.old.ended act.now self.old.groups self.new.groups }

@@ -8,7 +8,7 @@ ghost use Rattle.farm_rounds.specs.declared.call.Call.{Call};
 ghost use Rattle.farm_rounds.specs.declared.call.Group.TheVariants.{One};
 ghost use Rattle.farm_rounds.specs.Calls.{group_in, call_in, partner_in, calls_held};
 ghost use Rattle.farm_rounds.specs.Groups.{AreGroups};
-ghost use Rattle.farm_rounds.specs.Acts.{IsOpen, Fits, Stays, IsSetting, Applied};
+ghost use Rattle.farm_rounds.specs.Acts.{IsOpen, ActFits, Stays, IsSetting, Applied};
 
 use crate::call::{Call, Group, pair, told_apart};
 use switchboard::Act;
@@ -57,7 +57,7 @@ fn take_one(groups: &mut Vec<Group>, call: u32) -> Option<Call>
 
 // A bridge of two calls starts. Neither is bridged.
 fn join(groups: &mut Vec<Group>, a: u32, b: u32)
-    requires { Fits groups.old.items (done.Bridged a b) }
+    requires { ActFits groups.old.items (done.Bridged a b) }
     ensures applied { (most : ℕ) → AreGroups most groups.old.items → Applied most (done.Bridged a b) groups.old.items groups.new.items }
     ensures capacity { vec_capacity groups.new ≡ vec_capacity groups.old }
 {
@@ -73,7 +73,7 @@ fn join(groups: &mut Vec<Group>, a: u32, b: u32)
 // The bridge of a call is over: its two calls go on alone.
 fn part(groups: &mut Vec<Group>, a: u32)
     requires { calls_held groups.old.items ≤ vec_capacity groups.old }
-    ensures applied { (most b : ℕ) → Fits groups.old.items (done.Unbridged a b) → AreGroups most groups.old.items →
+    ensures applied { (most b : ℕ) → ActFits groups.old.items (done.Unbridged a b) → AreGroups most groups.old.items →
         Applied most (done.Unbridged a b) groups.old.items groups.new.items }
     ensures capacity { vec_capacity groups.new ≡ vec_capacity groups.old }
 {
@@ -89,7 +89,7 @@ fn part(groups: &mut Vec<Group>, a: u32)
 
 // The level of a call is set or when DTX is on, where the act does so.
 fn set(groups: &mut Vec<Group>, call: u32, act: &Act)
-    requires fits { Fits groups.old.items act.now }
+    requires fits { ActFits groups.old.items act.now }
     requires call { IsSetting call act.now }
     ensures applied { (most : ℕ) → AreGroups most groups.old.items → Applied most act.now groups.old.items groups.new.items }
     ensures capacity { vec_capacity groups.new ≡ vec_capacity groups.old }
@@ -101,7 +101,7 @@ fn set(groups: &mut Vec<Group>, call: u32, act: &Act)
 
 /// Does what an act does that neither opens a call nor ends one.
 pub(crate) fn regroup(groups: &mut Vec<Group>, act: &Act)
-    requires fits { Fits groups.old.items act.now }
+    requires fits { ActFits groups.old.items act.now }
     requires stays { Stays act.now }
     requires room { calls_held groups.old.items ≤ vec_capacity groups.old }
     ensures applied { (most : ℕ) → AreGroups most groups.old.items → Applied most act.now groups.old.items groups.new.items }

@@ -9,11 +9,11 @@ ghost use Rattle.call_pair.specs.Memory.{places_left};
 ghost use Rattle.call_pair.specs.Jobs.{with_io};
 ghost use Rattle.call_number.specs.CallNumber.{IsCallNumber};
 ghost use Rattle.farm_rounds.specs.Calls.{holds, group_in, call_of, calls_held};
-ghost use Rattle.farm_rounds.specs.Groups.{IsGroup, AreGroups, AreLive};
+ghost use Rattle.farm_rounds.specs.Groups.{IsGroup, AreGroups, ListsOpenCalls};
 ghost use Rattle.farm_rounds.specs.Numbers.{IsRising, is_among};
-ghost use Rattle.farm_rounds.specs.Phased.{IsFresh, AreEmptyFor, AreWithin};
+ghost use Rattle.farm_rounds.specs.Phased.{IsFreshJob, AreEmptyFor, SeatsAreWithin};
 ghost use Rattle.farm_rounds.specs.WorkRooms.{HasRoom};
-ghost use Rattle.farm_rounds.specs.Rounds.{groups_from, IsTimely, first_of, job_made, half_made, entry_of, HaveEntries, BringCalls, AreSeats, job_at, half_at, HasJob, SameLegs, HaveJobs, HaveTimeUntil, HaveTime, AreHanded, AreSound, AreReady, AreTaken, Works, entry_at};
+ghost use Rattle.farm_rounds.specs.Rounds.{groups_from, IsTimely, first_of, job_made, half_made, entry_for, HaveEntries, BringCalls, AreSeats, job_at, half_at, HasJob, SameLegs, HaveJobs, HaveTimeUntil, HaveTime, AreHanded, AreSound, AreReady, AreTaken, Works, entry_at};
 
 use crate::call::{Call, Group};
 use crate::entry::{Entry, NO_ENTRY};
@@ -43,7 +43,7 @@ pub(crate) fn make_jobs(
     groups: &mut Vec<Group>,
     live: &[u32],
 ) -> Result<(Vec<Job>, Vec<Entry>), AllocError>
-    requires live { AreLive live.now groups.old.items }
+    requires live { ListsOpenCalls live.now groups.old.items }
     requires groups { AreGroups 4294967295 groups.old.items }
     ensures jobs { IfOk result (λ made. made.0.items ≡ map job_made (reverse groups.old.items)) }
     ensures entries { IfOk result (λ made. HaveEntries made.0.items made.1.items live.now) }
@@ -90,7 +90,7 @@ fn enter(live: &[u32], entries: &mut [Entry], job: usize, group: &Group)
     requires length { length entries.old ≡ length live.now }
     requires present { (c : ℕ) → holds c group.now ≡ true → is_among live.now c ≡ true }
     ensures entered { (k : ℕ) → k < length live.now → holds (slice_index live.now k) group.now ≡ true →
-        entry_at entries.new k ≡ entry_of job (call_of (slice_index live.now k) group.now) }
+        entry_at entries.new k ≡ entry_for job (call_of (slice_index live.now k) group.now) }
     ensures others { (k : ℕ) → k < length live.now → holds (slice_index live.now k) group.now ≡ false → entry_at entries.new k ≡ entry_at entries.old k }
     ensures length { length entries.new ≡ length entries.old }
 {
@@ -107,7 +107,7 @@ fn enter_call(live: &[u32], entries: &mut [Entry], job: usize, call: &Call)
     requires rising { IsRising live.now }
     requires length { length entries.old ≡ length live.now }
     requires present { is_among live.now call.now.number ≡ true }
-    ensures entered { (k : ℕ) → k < length live.now → slice_index live.now k ≡ call.now.number → entry_at entries.new k ≡ entry_of job call.now }
+    ensures entered { (k : ℕ) → k < length live.now → slice_index live.now k ≡ call.now.number → entry_at entries.new k ≡ entry_for job call.now }
     ensures others { (k : ℕ) → k < length live.now → slice_index live.now k ≢ call.now.number → entry_at entries.new k ≡ entry_at entries.old k }
     ensures length { length entries.new ≡ length entries.old }
 {
@@ -208,7 +208,7 @@ fn hand_in(
     ensures long { (k : ℕ) → k < length seats.items → length (seat_at seats.items k).up ≡ 40 * (seat_at seats.items k).place.periods }
     ensures sound { AreSound seats.items (length seats.items) }
     ensures timely { (most : ℕ) → All (IsTimely most) jobs.old → HaveTimeUntil most jobs.old entries.now seats.items → All (IsTimely most) jobs.new }
-    ensures fresh { (most : ℕ) → All (IsFresh most) jobs.old → AreWithin most seats.items → All (IsFresh most) jobs.new }
+    ensures fresh { (most : ℕ) → All (IsFreshJob most) jobs.old → SeatsAreWithin most seats.items → All (IsFreshJob most) jobs.new }
 {
     let mut notes = notes;
     for seat in seats {
@@ -295,7 +295,7 @@ pub(crate) fn work_jobs<R: Threads + Wait + Sync, G: Gate + Sync>(
 ) -> (Vec<Job>, Vec<Seat>)
     requires slice { 1 ≤ slice }
     requires groups { AreGroups 4294967295 (groups_from jobs.items) }
-    requires live { AreLive numbers.now (groups_from jobs.items) }
+    requires live { ListsOpenCalls numbers.now (groups_from jobs.items) }
     requires entries { length entries.now ≡ length seats.items }
     requires jobs { HaveJobs jobs.items entries.now seats.items }
     requires time { HaveTime jobs.items entries.now seats.items }
@@ -303,8 +303,8 @@ pub(crate) fn work_jobs<R: Threads + Wait + Sync, G: Gate + Sync>(
     requires rising { Rising seats.items }
     requires room { HasRoom (length seats.items) room.phases.periods room }
     requires calls { length numbers.now ≡ length seats.items }
-    requires fresh { All (IsFresh room.phases.periods) jobs.items }
-    requires within { AreWithin room.phases.periods seats.items }
+    requires fresh { All (IsFreshJob room.phases.periods) jobs.items }
+    requires within { SeatsAreWithin room.phases.periods seats.items }
     ensures { Works jobs.items entries.now seats.items result.0.items result.1.items }
 {
     let WorkRoom {

@@ -5,10 +5,10 @@ ghost use Rattle.std.specs.Option.{option_map};
 ghost use Rattle.std.specs.List.{All, count_by, list_any};
 ghost use Rattle.call_pair.specs.declared.job.Job.{Job};
 ghost use Rattle.call_pair.specs.Jobs.{has_call, half_of, finished};
-ghost use Rattle.call_pair.specs.Phases.{call_left, half_in};
+ghost use Rattle.call_pair.specs.Phases.{periods_left, half_in};
 ghost use Rattle.farm_rounds.specs.Numbers.{IsRising, is_among};
 ghost use Rattle.farm_rounds.specs.Phased.{HasNoneDone};
-ghost use Rattle.farm_rounds.specs.Ordered.{AreSpread, AreRun, IsApart, IsHeld, IsParty, IsPlaceOf, job_in, names, other_named, party_of, slot_at, start_of};
+ghost use Rattle.farm_rounds.specs.Ordered.{AreSpread, AreRun, IsApart, IsHeld, IsParty, IsPlaceOf, job_in, names, other_named, party_of, slot_at, start_memory};
 
 use crate::live::place_in;
 use call_pair::{CallJob, Half, Job};
@@ -63,7 +63,7 @@ fn put_job(slots: &mut [Option<Box<CallJob>>], numbers: &[u32], job: Job)
     requires none_done { HasNoneDone job }
     requires present { (c : ℕ) → has_call job c ≡ true → is_among numbers.now c ≡ true }
     ensures put { (k : ℕ) → k < length numbers.now → has_call job (slice_index numbers.now k) ≡ true →
-        slot_at slots.new k ≡ Some (start_of job (slice_index numbers.now k)) }
+        slot_at slots.new k ≡ Some (start_memory job (slice_index numbers.now k)) }
     ensures others { (k : ℕ) → k < length numbers.now → has_call job (slice_index numbers.now k) ≡ false → slot_at slots.new k ≡ slot_at slots.old k }
     ensures length { length slots.new ≡ length slots.old }
 {

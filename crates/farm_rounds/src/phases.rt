@@ -4,11 +4,11 @@ ghost use Rattle.std.specs.Prelude.{◌≡◌, ◌≢◌, ◌+◌, ◌<◌, ◌�
 ghost use Rattle.std.specs.List.{All};
 ghost use Rattle.rx_handler.specs.State.{effective_fields};
 ghost use Rattle.call_pair.specs.Jobs.{finished};
-ghost use Rattle.call_pair.specs.Phases.{call_left, call_finished, turned_down, with_partner};
+ghost use Rattle.call_pair.specs.Phases.{periods_left, call_finished, turned_down, with_partner};
 ghost use Rattle.call_pair.specs.declared.call_job.Phase.TheVariants.{First};
-ghost use Rattle.farm_rounds.specs.Groups.{AreGroups, AreLive};
+ghost use Rattle.farm_rounds.specs.Groups.{AreGroups, ListsOpenCalls};
 ghost use Rattle.farm_rounds.specs.Numbers.{IsRising};
-ghost use Rattle.farm_rounds.specs.Phased.{IsFresh, AreEmptyFor, calls_in, call_in_place, heard_from, IsTold, HasPhases};
+ghost use Rattle.farm_rounds.specs.Phased.{IsFreshJob, AreEmptyFor, memories_in, call_in_place, heard_from, IsTold, HasPhases};
 ghost use Rattle.farm_rounds.specs.Rounds.{groups_from};
 
 use crate::order::{Party, empty_slots, gather, seat_all, spread, take_all};
@@ -93,7 +93,7 @@ impl PhasesRoom {
 // Begins the second phase of a call with its partner's frames.
 fn turn_down(job: &mut CallJob, frames: Vec<Effective>)
     requires first { job.old.phase ≡ First }
-    requires finished { call_left job.old ≡ 0 }
+    requires finished { periods_left job.old ≡ 0 }
     requires frames { job.old.bridge_end ≤ length frames.items }
     ensures { job.new ≡ turned_down (with_partner (map effective_fields frames.items) job.old) }
 {
@@ -155,8 +155,8 @@ fn work_phase<R: Threads + Wait + Sync, G: Gate + Sync>(
 ) -> Vec<Box<CallJob>>
     requires slice { 1 ≤ slice }
     requires pool { vec_len jobs ≤ pool }
-    requires order { IsRising (map (λ j. j.io.call) (calls_in jobs.items)) }
-    ensures { calls_in result.items ≡ map call_finished (calls_in jobs.items) }
+    requires order { IsRising (map (λ j. j.io.call) (memories_in jobs.items)) }
+    ensures { memories_in result.items ≡ map call_finished (memories_in jobs.items) }
 {
     run_pool(rt, pool, jobs, slice, gate)
 }
@@ -174,8 +174,8 @@ pub(crate) fn work_phases<R: Threads + Wait + Sync, G: Gate + Sync>(
 ) -> Vec<Job>
     requires slice { 1 ≤ slice }
     requires groups { AreGroups 4294967295 (groups_from jobs.items) }
-    requires live { AreLive numbers.now (groups_from jobs.items) }
-    requires fresh { All (IsFresh room.periods) jobs.items }
+    requires live { ListsOpenCalls numbers.now (groups_from jobs.items) }
+    requires fresh { All (IsFreshJob room.periods) jobs.items }
     requires room { HasPhases (length numbers.now) room.periods room }
     ensures { result.items ≡ map finished jobs.items }
 {

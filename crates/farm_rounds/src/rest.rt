@@ -2,7 +2,7 @@
 
 ghost use Rattle.std.specs.Prelude.{◌≡◌, ◌+◌, ◌*◌, ◌≤◌, length, IfOk, vec_capacity};
 ghost use Rattle.call_number.specs.declared.TheConstants.{NUMBERS};
-ghost use Rattle.farm_rounds.specs.Groups.{AreGroups, AreLive};
+ghost use Rattle.farm_rounds.specs.Groups.{AreGroups, ListsOpenCalls};
 
 use crate::call::Group;
 use crate::farm::Farm;
@@ -27,7 +27,7 @@ impl Rest {
         ensures tallies { IfOk result (λ rest. rest.tallies.items ≡ farm.tallies) }
         ensures failed { IfOk result (λ rest. rest.failed.items ≡ farm.failed) }
         ensures sound { IfOk result (λ rest. AreGroups farm.ended farm.groups) }
-        ensures alive { IfOk result (λ rest. AreLive farm.live farm.groups) }
+        ensures alive { IfOk result (λ rest. ListsOpenCalls farm.live farm.groups) }
         ensures kept { IfOk result (λ rest. length farm.tallies ≡ NUMBERS) }
         ensures places { IfOk result (λ rest. length farm.live ≤ vec_capacity rest.groups) }
         ensures lines { IfOk result (λ rest. length farm.failed + 4 * length farm.live ≤ vec_capacity rest.failed) }

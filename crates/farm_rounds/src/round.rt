@@ -6,11 +6,11 @@ ghost use Rattle.call_pair.specs.Jobs.{job_call};
 ghost use Rattle.round_lines.specs.Seats.{Fills};
 ghost use Rattle.round_lines.specs.Rounds.{Each, KeepsButEach, IsIncoming, Rising, call_at, seat_at, seat_end};
 ghost use Rattle.farm_rounds.specs.Calls.{call_in, partner_in};
-ghost use Rattle.farm_rounds.specs.Groups.{AreGroups, AreLive};
+ghost use Rattle.farm_rounds.specs.Groups.{AreGroups, ListsOpenCalls};
 ghost use Rattle.farm_rounds.specs.Numbers.{IsRising};
 ghost use Rattle.farm_rounds.specs.Histories.{CallHistory, GroupsStand};
 ghost use Rattle.farm_rounds.specs.WorkRooms.{HasRoom};
-ghost use Rattle.farm_rounds.specs.Rounds.{groups_from, job_made, IsShort, HaveEntries, BringCalls, AreSeats};
+ghost use Rattle.farm_rounds.specs.Rounds.{groups_from, job_made, EndsShort, HaveEntries, BringCalls, AreSeats};
 ghost use Rattle.farm_rounds.specs.Finishing.{finished_jobs, seat_left};
 ghost use Rattle.farm_rounds.specs.RoundHistories.{seat_for, worked_histories, WorkedStand, AreWorked};
 
@@ -123,7 +123,7 @@ impl Round {
         ensures rising { Rising self.new.seats }
 
         // A line that failed gave fewer octets than the round takes of it.
-        ensures short { (k : ℕ) → k < length self.new.seats → IsShort (seat_at self.new.seats k).place }
+        ensures short { (k : ℕ) → k < length self.new.seats → EndsShort (seat_at self.new.seats k).place }
     {
         fill_seats(trunk, &mut self.seats);
     }
@@ -216,7 +216,7 @@ fn make_jobs_and_seats(
     rest: &mut Rest,
     periods: u32,
 ) -> Result<(Vec<Job>, Vec<Entry>, Vec<Seat>), AllocError>
-    requires live { AreLive rest.old.live.items rest.old.groups.items }
+    requires live { ListsOpenCalls rest.old.live.items rest.old.groups.items }
     requires groups { AreGroups 4294967295 rest.old.groups.items }
     requires some { 1 ≤ periods }
     requires few { periods ≤ 250 }

@@ -6,7 +6,7 @@ ghost use Rattle.round_lines.specs.Transfer.{has_failed};
 ghost use Rattle.farm_rounds.specs.declared.call.Call.{Call};
 ghost use Rattle.farm_rounds.specs.declared.call.Group.TheVariants.{One};
 ghost use Rattle.farm_rounds.specs.Calls.{holds};
-ghost use Rattle.farm_rounds.specs.Groups.{IsGroup, AreGroups, AreLive};
+ghost use Rattle.farm_rounds.specs.Groups.{IsGroup, AreGroups, ListsOpenCalls};
 ghost use Rattle.farm_rounds.specs.Memory.{tally_in};
 ghost use Rattle.farm_rounds.specs.Numbers.{IsRising, is_among};
 ghost use Rattle.farm_rounds.specs.RoundHistories.{seat_of};
@@ -163,7 +163,7 @@ pub(crate) fn settle_all(
     requires numbers { numbers.now ≡ live.old.items }
     requires none { groups.old.items ≡ [] }
     requires groups { AreGroups 4294967295 (groups_from jobs.items) }
-    requires live { AreLive live.old.items (groups_from jobs.items) }
+    requires live { ListsOpenCalls live.old.items (groups_from jobs.items) }
     requires room { length live.old.items ≤ vec_capacity groups.old }
     requires tallies { length tallies.old ≡ NUMBERS }
     ensures groups { groups.new.items ≡ groups_left (goes_on_call seats.now) (seat_of seats.now) (groups_from jobs.items) }

@@ -18,7 +18,7 @@ use Rattle.run_spec.proofs.Executing.{opened-append, closed-append}
 use Rattle.farm_rounds.specs.declared.call.Call.{Call}
 use Rattle.farm_rounds.specs.declared.call.Group.{Group}
 use Rattle.farm_rounds.specs.Calls.{call_in}
-use Rattle.farm_rounds.specs.Acts.{new_call, joined, parted, set_by, changed, freed, calls_after}
+use Rattle.farm_rounds.specs.Acts.{new_call, bridged_call, parted, set_by, changed, freed, calls_after}
 use Rattle.farm_run.specs.Going.{told_after}
 use Rattle.farm_run.specs.Runs.{is_listed}
 use Rattle.farm_run.specs.Standing.{is_over, KnowsListed}
@@ -136,7 +136,7 @@ module _ (failed : List Line) where
       either c (n == c) (Some (new_call n law)) (f c)
       (λ e. let same = eqb-true n c e in (sym (new Down) ∙ ap (λ (d : ℕ). is_listed failed d Down) same, sym (new Out) ∙ ap (λ (d : ℕ). is_listed failed d Out) same)) (h c)
   after_knows (act.Closed n p) f new h c = either c (n == c) None (freed p parted f c) (λ e. tt) (freed_knows p parted f (λ d x k. k) h c)
-  after_knows (act.Bridged a b) f new h c = changed_knows a joined (changed b joined f) (λ d x k. k) (changed_knows b joined f (λ d x k. k) h) c
+  after_knows (act.Bridged a b) f new h c = changed_knows a bridged_call (changed b bridged_call f) (λ d x k. k) (changed_knows b bridged_call f (λ d x k. k) h) c
   after_knows (act.Unbridged a b) f new h c = changed_knows a parted (changed b parted f) (λ d x k. k) (changed_knows b parted f (λ d x k. k) h) c
   after_knows (act.LevelSet n level) f new h c = changed_knows n (set_by (act.LevelSet n level)) f (λ d x k. k) h c
   after_knows (act.DtxSet n mode) f new h c = changed_knows n (set_by (act.DtxSet n mode)) f (λ d x k. k) h c

@@ -15,7 +15,7 @@ use Rattle.call_number.specs.CallNumber.{IsCallNumber}
 use Rattle.run_spec.specs.Run.{Run}
 use Rattle.farm_run.specs.declared.notes.Opening.{Opening}
 use Rattle.farm_run.specs.declared.notes.BridgeNote.{BridgeNote}
-use Rattle.farm_run.specs.Journal.{JournalMemory, no_opening, opening_of, no_note, bridged_at, with_bridge}
+use Rattle.farm_run.specs.Journal.{JournalMemory, no_opening, opening_of, no_note, bridged_at, with_bridge_noted}
 use Rattle.farm_run.specs.Noted.{bridge_at, is_opened, noted_sent, EndsNoted, PlacesNoted, SentNoted, IsKept, IsNoted}
 use Rattle.farm_run.proofs.Following.{no}
 use Rattle.farm_run.proofs.Settling.{left_true, or_this}
@@ -134,7 +134,7 @@ module _ (r : Run) (ds now : List Done) (ended : ℕ → Bool) (j : JournalMemor
     | inr q ↦ subst (λ (k : ℕ). (bridge_at now k).a ≢ (bridge_at now k).b) (sym q) (subst (λ (x : Bridge). x.a ≢ x.b) (sym at_last) (λ e. h.apart (sym h.calls.0 ∙ e ∙ h.calls.1)))
   ]
 
-  sent : SentNoted r now (λ c. false) (with_bridge a b j)
+  sent : SentNoted r now (λ c. false) (with_bridge_noted a b j)
   sent c k l g i = elim (which k l) [
     | inl m ↦
         ap (noted_sent c) (get_or_append_left j.bridges (made ∷ []) no_note k m)
@@ -146,7 +146,7 @@ module _ (r : Run) (ds now : List Done) (ended : ℕ → Bool) (j : JournalMemor
       settles e (inl t) = t
       settles e (inr t) = absurd (no false refl (i (ap (λ (x : Opening). x.bridge) (other c t) ∙ e)))
 
-  pub noted_bridged : IsNoted r now ended (with_bridge a b j) tally
+  pub noted_bridged : IsNoted r now ended (with_bridge_noted a b j) tally
   noted_bridged = record {
     ends = ends;
     places = record {

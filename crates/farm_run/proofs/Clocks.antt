@@ -28,7 +28,7 @@ use Rattle.run_spec.specs.Now.{IsSoFar, settings_now}
 use Rattle.run_spec.specs.Lines.{out_line, down_octets}
 use Rattle.run_spec.proofs.OpenCalls.{gone_later}
 use Rattle.run_spec.proofs.SoFar.{so_far_at_first, so_far_later}
-use Rattle.farm_run.specs.Runs.{TellsFailed, NoneRose, IsRunOver, IsWritten, IsCutOff, IsReadTo, is_listed, Leaves}
+use Rattle.farm_run.specs.Runs.{TellsFailed, NoneRose, IsRunOver, HasWritten, IsCutOff, IsReadTo, is_listed, Leaves}
 use Rattle.farm_run.specs.Resuming.{LeavesFrom}
 use Rattle.farm_run.specs.Standing.{Standing, standing, KnowsListed, HasFlags, IsToCome, never_given}
 use Rattle.farm_run.proofs.Meeting.{told_first}
@@ -183,8 +183,8 @@ module _ (r : Run) (t u : ℕ) (b : State) (groups : List Group) (last : Standin
 
   pub written_on : (from : ℕ) (listed : ℕ → Side → Bool) → WrittenFrom r from t listed first now → WrittenFrom r from u listed first now
   written_on from listed wrote = record {
-    out = λ c i. subst (λ (k : ℕ). IsWritten (listed c Out) (first c Out) (now c Out) (drop (160 * worked_to r from c) (out_line (who_in r c) (periods_to r c k)))) (sym (idle c i)) (wrote.out c i);
-    down = λ c i. subst (λ (k : ℕ). IsWritten (listed c Down) (first c Down) (now c Down) (drop (40 * worked_to r from c) (down_octets (who_in r c) (periods_to r c k)))) (sym (idle c i)) (wrote.down c i);
+    out = λ c i. subst (λ (k : ℕ). HasWritten (listed c Out) (first c Out) (now c Out) (drop (160 * worked_to r from c) (out_line (who_in r c) (periods_to r c k)))) (sym (idle c i)) (wrote.out c i);
+    down = λ c i. subst (λ (k : ℕ). HasWritten (listed c Down) (first c Down) (now c Down) (drop (40 * worked_to r from c) (down_octets (who_in r c) (periods_to r c k)))) (sym (idle c i)) (wrote.down c i);
   }
 
 -- no number is among none
@@ -205,11 +205,11 @@ rest_of false now end k line e h = h ∙ ap Some (append-nil (drop k line))
 rest_of true now end k line e h = cc
 
 -- **From period 0 on is all that was written.**
-pub all_out : (r : Run) (t c : ℕ) (listed : ℕ → Side → Bool) (first now : ℕ → Side → LineState) → WrittenFrom r 0 t listed first now → IsOpened r c → IsWritten (listed c Out) (first c Out) (now c Out) (out_line (who_in r c) (periods_to r c (worked_to r t c)))
-all_out r t c listed first now wrote i = subst (λ (k : ℕ). IsWritten (listed c Out) (first c Out) (now c Out) (drop (160 * k) (out_line (who_in r c) (periods_to r c (worked_to r t c))))) (none_worked r c) (wrote.out c i)
+pub all_out : (r : Run) (t c : ℕ) (listed : ℕ → Side → Bool) (first now : ℕ → Side → LineState) → WrittenFrom r 0 t listed first now → IsOpened r c → HasWritten (listed c Out) (first c Out) (now c Out) (out_line (who_in r c) (periods_to r c (worked_to r t c)))
+all_out r t c listed first now wrote i = subst (λ (k : ℕ). HasWritten (listed c Out) (first c Out) (now c Out) (drop (160 * k) (out_line (who_in r c) (periods_to r c (worked_to r t c))))) (none_worked r c) (wrote.out c i)
 
-pub all_down : (r : Run) (t c : ℕ) (listed : ℕ → Side → Bool) (first now : ℕ → Side → LineState) → WrittenFrom r 0 t listed first now → IsOpened r c → IsWritten (listed c Down) (first c Down) (now c Down) (down_octets (who_in r c) (periods_to r c (worked_to r t c)))
-all_down r t c listed first now wrote i = subst (λ (k : ℕ). IsWritten (listed c Down) (first c Down) (now c Down) (drop (40 * k) (down_octets (who_in r c) (periods_to r c (worked_to r t c))))) (none_worked r c) (wrote.down c i)
+pub all_down : (r : Run) (t c : ℕ) (listed : ℕ → Side → Bool) (first now : ℕ → Side → LineState) → WrittenFrom r 0 t listed first now → IsOpened r c → HasWritten (listed c Down) (first c Down) (now c Down) (down_octets (who_in r c) (periods_to r c (worked_to r t c)))
+all_down r t c listed first now wrote i = subst (λ (k : ℕ). HasWritten (listed c Down) (first c Down) (now c Down) (drop (40 * k) (down_octets (who_in r c) (periods_to r c (worked_to r t c))))) (none_worked r c) (wrote.down c i)
 
 module _ (r : Run) (b : State) (groups : List Group) (failed : List Line) (first now : ℕ → Side → LineState) (at : IsAtClock r r.periods b groups (standing b failed now) first now) where
   -- **At the run's end all periods of its calls lie before the clock.**
@@ -229,8 +229,8 @@ module _ (r : Run) (b : State) (groups : List Group) (failed : List Line) (first
   -- **It has left on the lines what it gives.**
   pub leaves_all : WrittenFrom r 0 r.periods (is_listed failed) first now → Leaves r (is_listed failed) first now
   leaves_all wrote = record {
-    out = λ c i. subst (λ (k : ℕ). IsWritten (is_listed failed c Out) (first c Out) (now c Out) (out_line (who_in r c) (periods_to r c k))) (all c) (all_out r r.periods c (is_listed failed) first now wrote i);
-    down = λ c i. subst (λ (k : ℕ). IsWritten (is_listed failed c Down) (first c Down) (now c Down) (down_octets (who_in r c) (periods_to r c k))) (all c) (all_down r r.periods c (is_listed failed) first now wrote i);
+    out = λ c i. subst (λ (k : ℕ). HasWritten (is_listed failed c Out) (first c Out) (now c Out) (out_line (who_in r c) (periods_to r c k))) (all c) (all_out r r.periods c (is_listed failed) first now wrote i);
+    down = λ c i. subst (λ (k : ℕ). HasWritten (is_listed failed c Down) (first c Down) (now c Down) (down_octets (who_in r c) (periods_to r c k))) (all c) (all_down r r.periods c (is_listed failed) first now wrote i);
     up_read = up_rest;
     pcm_read = pcm_rest;
     others = at.lines.others;
@@ -239,8 +239,8 @@ module _ (r : Run) (b : State) (groups : List Group) (failed : List Line) (first
   -- **Where what lies before a period is held back, the octets from there on.**
   pub leaves_from : (from : ℕ) → WrittenFrom r from r.periods (is_listed failed) first now → LeavesFrom r from (is_listed failed) first now
   leaves_from from wrote = record {
-    out = λ c i. subst (λ (k : ℕ). IsWritten (is_listed failed c Out) (first c Out) (now c Out) (drop (160 * worked_to r from c) (out_line (who_in r c) (periods_to r c k)))) (all c) (wrote.out c i);
-    down = λ c i. subst (λ (k : ℕ). IsWritten (is_listed failed c Down) (first c Down) (now c Down) (drop (40 * worked_to r from c) (down_octets (who_in r c) (periods_to r c k)))) (all c) (wrote.down c i);
+    out = λ c i. subst (λ (k : ℕ). HasWritten (is_listed failed c Out) (first c Out) (now c Out) (drop (160 * worked_to r from c) (out_line (who_in r c) (periods_to r c k)))) (all c) (wrote.out c i);
+    down = λ c i. subst (λ (k : ℕ). HasWritten (is_listed failed c Down) (first c Down) (now c Down) (drop (40 * worked_to r from c) (down_octets (who_in r c) (periods_to r c k)))) (all c) (wrote.down c i);
     up_read = up_rest;
     pcm_read = pcm_rest;
     others = at.lines.others;

@@ -13,7 +13,7 @@ use Rattle.trau_io.specs.Lines.{LineState, Rose}
 use Rattle.trau_io.specs.Places.{place_of}
 use Rattle.trau_io.specs.declared.ends.CallEnd.{CallEnd}
 use Rattle.round_lines.specs.declared.transfer.Outlet.{Outlet}
-use Rattle.round_lines.specs.Places.{PlaceMemory, fails_in, sides, name_of, name_where_failed, failed_in_round}
+use Rattle.round_lines.specs.Places.{PlaceMemory, fails_in, sides, line_name, name_where_failed, failed_in_round}
 use Rattle.round_lines.specs.Seats.{SeatMemory}
 use Rattle.round_lines.specs.Rounds.{seat_at, call_at}
 use Rattle.farm_rounds.specs.Calls.{call_in}
@@ -21,7 +21,7 @@ use Rattle.farm_rounds.specs.Numbers.{is_among}
 use Rattle.farm_rounds.specs.Memory.{FarmMemory}
 use Rattle.farm_rounds.specs.Working.{GainsFailed}
 use Rattle.farm_run.proofs.WorkedRound.{WorkedRound, among_place, seat_facts, drained_call, tells_seat, lines_kept, down_between, out_between, up_after, pcm_after}
-use Rattle.farm_run.specs.Outgoing.{Moves}
+use Rattle.farm_run.specs.Outgoing.{PassesOn}
 use Rattle.farm_run.specs.Runs.{is_listed, TellsFailed}
 use Rattle.farm_run.specs.Clock.{NeverFell}
 use Rattle.farm_run.proofs.Listed.{cons_cases, none_in, listed_name, name_listed, is_false}
@@ -37,7 +37,7 @@ pub fell_more : (first before now : ℕ → Side → LineState) → NeverFell fi
 fell_more first before now l m c s = let a = l c s in let b = m c s in omega arith
 
 -- no count falls where a line is given octets, or nothing happens to it
-moved_later : (before now : LineState) (was stands : Outlet) (octets : List ℕ) → Moves before now was stands octets → before.faults ≤ now.faults
+moved_later : (before now : LineState) (was stands : Outlet) (octets : List ℕ) → PassesOn before now was stands octets → before.faults ≤ now.faults
 moved_later before now was stands octets (inl g) = g.later
 moved_later before now was stands octets (inr e) = let same = ap (λ (l : LineState). l.faults) e.0 in omega (arith, same)
 
@@ -100,14 +100,14 @@ listed_seat (x ∷ seats) y h = elim (Contains-append_cases (failed_in_round x.p
 -- ---- a round
 
 -- **The lines that are listed after a round are those from before and those that its seats' marks tell.**
-pub listed_before : (before now : List Line) (seats : List SeatMemory) (y : Name) → GainsFailed before now seats → Contains (map name_of before) y ⊎ Contains (names seats) y → Contains (map name_of now) y
+pub listed_before : (before now : List Line) (seats : List SeatMemory) (y : Name) → GainsFailed before now seats → Contains (map line_name before) y ⊎ Contains (names seats) y → Contains (map line_name now) y
 listed_before before now seats y g h =
-    Contains-permutation (map name_of g.lines) (map name_of now) y (IsPermutation-map name_of g.lines now g.same)
-    (subst (λ xs. Contains xs y) (sym g.told) (elim h [ inl a ↦ Contains-append_left (map name_of before) (names seats) y a | inr b ↦ Contains-append_right (map name_of before) (names seats) y b ]))
+    Contains-permutation (map line_name g.lines) (map line_name now) y (IsPermutation-map line_name g.lines now g.same)
+    (subst (λ xs. Contains xs y) (sym g.told) (elim h [ inl a ↦ Contains-append_left (map line_name before) (names seats) y a | inr b ↦ Contains-append_right (map line_name before) (names seats) y b ]))
 
-pub listed_after : (before now : List Line) (seats : List SeatMemory) (y : Name) → GainsFailed before now seats → Contains (map name_of now) y → Contains (map name_of before) y ⊎ Contains (names seats) y
-listed_after before now seats y g h = Contains-append_cases (map name_of before) (names seats) y
-    (subst (λ xs. Contains xs y) g.told (Contains-permutation (map name_of now) (map name_of g.lines) y (IsPermutation-map name_of now g.lines (IsPermutation-sym g.lines now g.same)) h))
+pub listed_after : (before now : List Line) (seats : List SeatMemory) (y : Name) → GainsFailed before now seats → Contains (map line_name now) y → Contains (map line_name before) y ⊎ Contains (names seats) y
+listed_after before now seats y g h = Contains-append_cases (map line_name before) (names seats) y
+    (subst (λ xs. Contains xs y) g.told (Contains-permutation (map line_name now) (map line_name g.lines) y (IsPermutation-map line_name now g.lines (IsPermutation-sym g.lines now g.same)) h))
 
 module _ (t n : ℕ) (farm after : FarmMemory) (before now : ℕ → Side → LineState) (ends : List CallEnd) (w : WorkedRound t n farm after before now ends) where
   long : length w.drained ≡ length farm.live
@@ -155,7 +155,7 @@ module _ (t n : ℕ) (farm after : FarmMemory) (before now : ℕ → Side → Li
       kept : (c : ℕ) (s : Side) → is_listed after.failed c s ≡ false → (now c s).faults ≡ (first c s).faults
       kept c s not = same ∙ h.failures.kept c s (is_false (is_listed farm.failed c s) (λ a. none (listed_before farm.failed after.failed w.drained (c, s) w.gains (inl (listed_name farm.failed c s a)))))
         where
-          none : Contains (map name_of after.failed) (c, s) → ⊥
+          none : Contains (map line_name after.failed) (c, s) → ⊥
           none m = true≢false (sym (name_listed after.failed c s m) ∙ not)
 
           same : (now c s).faults ≡ (before c s).faults

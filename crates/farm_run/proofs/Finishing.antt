@@ -30,7 +30,7 @@ use Rattle.farm_run.specs.Journal.{JournalMemory, opening_of}
 use Rattle.farm_run.specs.Facts.{span_line, span_lines, call_line, settled_each}
 use Rattle.farm_run.specs.Going.{is_told}
 use Rattle.farm_run.specs.Ending.{AreApart}
-use Rattle.farm_run.specs.Noted.{end_in, no_span, bridge_at, is_opened, note_at, noted_sent, PlacesNoted, SentNoted, IsKept, IsNoted}
+use Rattle.farm_run.specs.Noted.{call_end_in, no_span, bridge_at, is_opened, bridge_note_at, noted_sent, PlacesNoted, SentNoted, IsKept, IsNoted}
 use Rattle.farm_run.proofs.Settling.{settled_all}
 use Rattle.farm_run.proofs.Rising.{Rises, has, one_if, rising_same, range_rises, range_has, count_map, any_count, count_shuffled, sorted_rises}
 
@@ -62,12 +62,12 @@ apart_once c (e ∷ ends) a = elim (cases_eq c e.call) [
     once false n l e = omega arith
 
 -- the line of a call that has ended is that of the run
-line_is : (r : Run) (ds : List Done) (j : JournalMemory) (tally : ℕ → Tally) (e : CallEnd) → done_in r ≡ ds → PlacesNoted ds j → e ≡ end_in r e.call → is_opened ds e.call ≡ true → IsKept r j.calls e.call (tally e.call) →
+line_is : (r : Run) (ds : List Done) (j : JournalMemory) (tally : ℕ → Tally) (e : CallEnd) → done_in r ≡ ds → PlacesNoted ds j → e ≡ call_end_in r e.call → is_opened ds e.call ≡ true → IsKept r j.calls e.call (tally e.call) →
     call_line j.calls tally e ≡ defined.call_line r e.call
 line_is r ds j tally e all p right o kept =
     ap (λ (x : CallEnd). line x (opening_of j.calls e.call).from (tally e.call).counts) right
-    ∙ ap (λ (from : ℕ). line (end_in r e.call) from (tally e.call).counts) (p.from e.call o ∙ ap (λ (ds : List Done). start_of ds e.call) (sym all))
-    ∙ ap (line (end_in r e.call) (start_of (done_in r) e.call)) kept.counts
+    ∙ ap (λ (from : ℕ). line (call_end_in r e.call) from (tally e.call).counts) (p.from e.call o ∙ ap (λ (ds : List Done). start_of ds e.call) (sym all))
+    ∙ ap (line (call_end_in r e.call) (start_of (done_in r) e.call)) kept.counts
   where
     line : CallEnd → ℕ → Counts → CallLine
     line e from counts = record { end = e; from = from; counts = counts }
@@ -93,7 +93,7 @@ module _ (r : Run) (ds : List Done) (j : JournalMemory) (tally : ℕ → Tally) 
   over : AllByRecursion (λ e. (is_opened ds e.call ≡ true) × IsKept r j.calls e.call (tally e.call)) j.ends
   over = each_told (λ c. (is_opened ds c ≡ true) × IsKept r j.calls c (tally c)) j.ends (λ c q. let ends = n.ends in (sym (ends.told c) ∙ q, n.kept c (sym (ends.told c) ∙ q)))
 
-  each_line : (ends : List CallEnd) → AllByRecursion (λ e. (is_opened ds e.call ≡ true) × IsKept r j.calls e.call (tally e.call)) ends → AllByRecursion (λ e. e ≡ end_in r e.call) ends →
+  each_line : (ends : List CallEnd) → AllByRecursion (λ e. (is_opened ds e.call ≡ true) × IsKept r j.calls e.call (tally e.call)) ends → AllByRecursion (λ e. e ≡ call_end_in r e.call) ends →
       AllByRecursion (λ l. l ≡ defined.call_line r (number_of l)) (map (call_line j.calls tally) ends)
   each_line [] a b = tt
   each_line (e ∷ ends) a b = (line_is r ds j tally e all n.places b.0 a.0.0 a.0.1, each_line ends a.1 b.1)
@@ -112,7 +112,7 @@ abbrev line_with : Span → ℕ → ℕ → SpanLine
 line_with s a b = record { span = s; sent_a = a; sent_b = b; lost_a = s.to - s.from - a; lost_b = s.to - s.from - b }
 
 lines_each : (r : Run) (spans : List Span) (xs : List BridgeNote) → length spans ≡ length xs →
-    ((k : ℕ) → k < length spans → span_line (get_or spans k no_span) (note_at xs k) ≡ defined.span_line r (get_or spans k no_span)) → span_lines spans xs ≡ map (defined.span_line r) spans
+    ((k : ℕ) → k < length spans → span_line (get_or spans k no_span) (bridge_note_at xs k) ≡ defined.span_line r (get_or spans k no_span)) → span_lines spans xs ≡ map (defined.span_line r) spans
 lines_each r [] [] l h = refl
 lines_each r [] (x ∷ xs) l h = refl
 lines_each r (s ∷ spans) [] l h = absurd (omega arith)
@@ -135,7 +135,7 @@ module _ (r : Run) (t : ℕ) (ds : List Done) (left : List Order) (j : JournalMe
   there k l = get_or-map (span_of (given_in r) r.periods ds) (bridges ds) k no_bridge no_span l
 
   -- what one of a bridge's calls sent in it is noted
-  sent_of : (c k : ℕ) → k < length (bridges ds) → joins c (bridge_at ds k) ≡ true → is_opened ds c ≡ true → noted_sent c (note_at settled_now.bridges k) ≡ sent_by r (get_or spans k no_span) c
+  sent_of : (c k : ℕ) → k < length (bridges ds) → joins c (bridge_at ds k) ≡ true → is_opened ds c ≡ true → noted_sent c (bridge_note_at settled_now.bridges k) ≡ sent_by r (get_or spans k no_span) c
   sent_of c k l m o =
       settles.1 c k l m (λ e. let ends = n.ends in ends.told c ∙ o)
       ∙ ap (λ (ds : List Done). sent_by r (get_or (spans_of (given_in r) r.periods ds) k no_span) c) all
@@ -143,28 +143,28 @@ module _ (r : Run) (t : ℕ) (ds : List Done) (left : List Order) (j : JournalMe
   sound : (k : ℕ) → k < length (bridges ds) → IsSoundBridge (whole_in r) t ds (bridge_at ds k)
   sound k l = let stand = standing_now r t ds left so in All-from_recursion (IsSoundBridge (whole_in r) t ds) (bridges ds) stand.sound k no_bridge l
 
-  sent_a : (k : ℕ) → k < length (bridges ds) → (note_at settled_now.bridges k).sent_by_a ≡ sent_by r (get_or spans k no_span) (get_or spans k no_span).a
+  sent_a : (k : ℕ) → k < length (bridges ds) → (bridge_note_at settled_now.bridges k).sent_by_a ≡ sent_by r (get_or spans k no_span) (get_or spans k no_span).a
   sent_a k l =
-      let x = note_at settled_now.bridges k in
+      let x = bridge_note_at settled_now.bridges k in
       let z = bridge_at ds k in
       let k_sound = sound k l in
       sym (ap (λ (b : Bool). if b then x.sent_by_a else x.sent_by_b) (eq-eqb z.a x.a (sym (settles.0.calls k).0)))
       ∙ sent_of z.a k l (or_left (z.a == z.a) (z.a == z.b) (eq-eqb z.a z.a refl)) (ap is_some k_sound.opened_a)
       ∙ ap (sent_by r (get_or spans k no_span)) (sym (ap (λ (s : Span). s.a) (there k l)))
 
-  sent_b : (k : ℕ) → k < length (bridges ds) → (note_at settled_now.bridges k).sent_by_b ≡ sent_by r (get_or spans k no_span) (get_or spans k no_span).b
+  sent_b : (k : ℕ) → k < length (bridges ds) → (bridge_note_at settled_now.bridges k).sent_by_b ≡ sent_by r (get_or spans k no_span) (get_or spans k no_span).b
   sent_b k l =
-      let x = note_at settled_now.bridges k in
+      let x = bridge_note_at settled_now.bridges k in
       let z = bridge_at ds k in
       let k_sound = sound k l in
       sym (ap (λ (b : Bool). if b then x.sent_by_a else x.sent_by_b) (ne_eqb z.b x.a (λ e. settles.0.apart k l (sym (settles.0.calls k).0 ∙ sym e))))
       ∙ sent_of z.b k l (or_right (z.b == z.a) (z.b == z.b) (eq-eqb z.b z.b refl)) (ap is_some k_sound.opened_b)
       ∙ ap (sent_by r (get_or spans k no_span)) (sym (ap (λ (s : Span). s.b) (there k l)))
 
-  line_at : (k : ℕ) → k < length (bridges ds) → span_line (get_or spans k no_span) (note_at settled_now.bridges k) ≡ defined.span_line r (get_or spans k no_span)
+  line_at : (k : ℕ) → k < length (bridges ds) → span_line (get_or spans k no_span) (bridge_note_at settled_now.bridges k) ≡ defined.span_line r (get_or spans k no_span)
   line_at k l =
       let s = get_or spans k no_span in
-      ap (λ (m : ℕ). line_with s m (note_at settled_now.bridges k).sent_by_a) (sent_b k l) ∙ ap (line_with s (sent_by r s s.b)) (sent_a k l)
+      ap (λ (m : ℕ). line_with s m (bridge_note_at settled_now.bridges k).sent_by_a) (sent_b k l) ∙ ap (line_with s (sent_by r s s.b)) (sent_a k l)
 
   pub spans_reported : span_lines spans settled_now.bridges ≡ map (defined.span_line r) spans
   spans_reported =

@@ -31,7 +31,7 @@ use Rattle.run_spec.proofs.Showing.{opens}
 use Rattle.run_spec.proofs.SoFar.{so_far_more}
 use Rattle.run_spec.proofs.Acting.{settings_ordered}
 use Rattle.run_spec.proofs.Going.{none_waits, law_run}
-use Rattle.farm_run.specs.Match.{past_if, histories_at, Follows}
+use Rattle.farm_run.specs.Match.{past_if, histories_at, FollowsRun}
 use Rattle.farm_run.proofs.Matching.{cases_eq, open_same}
 
 -- an order was due, and this is its reply
@@ -260,7 +260,7 @@ cases_act (act.Unbridged a b) c = inr (λ m law e f. cc)
 cases_act (act.LevelSet n level) c = inr (λ m law e f. cc)
 cases_act (act.DtxSet n mode) c = inr (λ m law e f. cc)
 
-module _ (r : Run) (t : ℕ) (s n : State) (reply : Reply) (groups : List Group) (due : Due s t reply n) (under : t < r.periods) (run : IsRun (whole_in r) n.done) (f : Follows r t s groups) where
+module _ (r : Run) (t : ℕ) (s n : State) (reply : Reply) (groups : List Group) (due : Due s t reply n) (under : t < r.periods) (run : IsRun (whole_in r) n.done) (f : FollowsRun r t s groups) where
   abbrev d : Done
   d = done_by s due.order
 
@@ -292,7 +292,7 @@ module _ (r : Run) (t : ℕ) (s n : State) (reply : Reply) (groups : List Group)
       ]
 
   -- **A refused order.**
-  pub follows_same : (e : Refusal) → reply.result ≡ Err e → ((c : ℕ) → open_now n c ≡ open_now s c) → Follows r t n groups
+  pub follows_same : (e : Refusal) → reply.result ≡ Err e → ((c : ℕ) → open_now n c ≡ open_now s c) → FollowsRun r t n groups
   follows_same e refused same =
       let res : d.result ≡ Err e = sym due.result ∙ refused in
       let never : (c : ℕ) (law : Law) → d.result ≡ Ok (act.Opened c law) → ⊥ = λ c law q. cc in
@@ -382,7 +382,7 @@ module _ (r : Run) (t : ℕ) (s n : State) (reply : Reply) (groups : List Group)
         by (act.LevelSet c level) q g = tt
         by (act.DtxSet c mode) q g = tt
 
-    pub follows_more : (groups' : List Group) → ((h : ℕ → Option CallHistory) → NoneDrains a h → GroupsStand h groups → GroupsStand (histories_after a h) groups') → Follows r t n groups'
+    pub follows_more : (groups' : List Group) → ((h : ℕ → Option CallHistory) → NoneDrains a h → GroupsStand h groups → GroupsStand (histories_after a h) groups') → FollowsRun r t n groups'
     follows_more groups' carries = record {
       so_far = far;
       tells = tells;

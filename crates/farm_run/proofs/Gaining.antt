@@ -6,20 +6,20 @@ use Rattle.std.proofs.lemmas.List.{length-append, drop-append-le, drop_all, take
 use Rattle.std.proofs.Math.Seq.{take-append-add}
 use Rattle.trau_io.specs.Lines.{LineState}
 use Rattle.round_lines.specs.declared.transfer.Outlet.{Outlet}
-use Rattle.round_lines.specs.Transfer.{Gives, has_failed}
+use Rattle.round_lines.specs.Transfer.{LineGives, has_failed}
 use Rattle.run_spec.specs.Run.{Run, periods_to, who_in}
 use Rattle.run_spec.specs.Lines.{out_line, down_octets}
 use Rattle.run_spec.proofs.LongerLines.{length-out_line, length-down_octets, length-periods_to, out_more, down_on}
-use Rattle.farm_run.specs.Runs.{IsWritten}
+use Rattle.farm_run.specs.Runs.{HasWritten}
 use Rattle.farm_run.specs.Fronts.{HasFront}
 
 -- ---- from round to round
 
 -- **A line that had failed is passed over; any other gains the octets, or a proper front of them where it fails now.**
-pub gains : (first before now : LineState) (was stands : Outlet) (front octets : List ℕ) → Gives before now was stands octets → IsWritten (has_failed was) first before front → IsWritten (has_failed stands) first now (front ++ octets)
+pub gains : (first before now : LineState) (was stands : Outlet) (front octets : List ℕ) → LineGives before now was stands octets → HasWritten (has_failed was) first before front → HasWritten (has_failed stands) first now (front ++ octets)
 gains first before now was stands front octets g = by (has_failed was) refl (has_failed stands) refl
   where
-    by : (a : Bool) → has_failed was ≡ a → (b : Bool) → has_failed stands ≡ b → IsWritten a first before front → IsWritten b first now (front ++ octets)
+    by : (a : Bool) → has_failed was ≡ a → (b : Bool) → has_failed stands ≡ b → HasWritten a first before front → HasWritten b first now (front ++ octets)
     by false e false f w = Appends-trans first.written before.written now.written front octets w (g.all f)
     by false e true f w =
         let part = g.front e f in
@@ -39,7 +39,7 @@ gains first before now was stands front octets g = by (has_failed was) refl (has
         )
 
 -- what was written of the first octets is a front of all
-front_of : (fails : Bool) (first now : LineState) (some more : List ℕ) → IsWritten fails first now some → HasFront first now (some ++ more)
+front_of : (fails : Bool) (first now : LineState) (some more : List ℕ) → HasWritten fails first now some → HasFront first now (some ++ more)
 front_of false first now some more w =
     (length some, subst (Appends first.written now.written) (sym (take-append-le (length some) some more (omega arith) ∙ take_all (length some) some (omega arith))) w)
 front_of true first now some more w = let l = w.1 in (w.0, subst (Appends first.written now.written) (sym (take-append-le w.0 some more (omega (arith, l)))) w.2)
@@ -47,18 +47,18 @@ front_of true first now some more w = let l = w.1 in (w.0, subst (Appends first.
 -- ---- of more periods
 
 -- **What was written of the first m periods is a front of what any more give.**
-pub out_front : (r : Run) (c m n : ℕ) (fails : Bool) (first now : LineState) → m ≤ n → IsWritten fails first now (out_line (who_in r c) (periods_to r c m)) → HasFront first now (out_line (who_in r c) (periods_to r c n))
+pub out_front : (r : Run) (c m n : ℕ) (fails : Bool) (first now : LineState) → m ≤ n → HasWritten fails first now (out_line (who_in r c) (periods_to r c m)) → HasFront first now (out_line (who_in r c) (periods_to r c n))
 out_front r c m n fails first now l w =
     let more = out_more r c m (n - m) n (omega (arith, l)) in
     subst (HasFront first now) (sym more.1) (front_of fails first now (out_line (who_in r c) (periods_to r c m)) more.0 w)
 
-pub down_front : (r : Run) (c m n : ℕ) (fails : Bool) (first now : LineState) → m ≤ n → IsWritten fails first now (down_octets (who_in r c) (periods_to r c m)) → HasFront first now (down_octets (who_in r c) (periods_to r c n))
+pub down_front : (r : Run) (c m n : ℕ) (fails : Bool) (first now : LineState) → m ≤ n → HasWritten fails first now (down_octets (who_in r c) (periods_to r c m)) → HasFront first now (down_octets (who_in r c) (periods_to r c n))
 down_front r c m n fails first now l w =
     let more = down_on r c m (n - m) n (omega (arith, l)) in
     subst (HasFront first now) (sym more.1) (front_of fails first now (down_octets (who_in r c) (periods_to r c m)) more.0 w)
 
 -- **So it is where what the first k periods give was held back.**
-pub out_front_from : (r : Run) (c k m n : ℕ) (fails : Bool) (first now : LineState) → k ≤ m → m ≤ n → IsWritten fails first now (drop (160 * k) (out_line (who_in r c) (periods_to r c m))) →
+pub out_front_from : (r : Run) (c k m n : ℕ) (fails : Bool) (first now : LineState) → k ≤ m → m ≤ n → HasWritten fails first now (drop (160 * k) (out_line (who_in r c) (periods_to r c m))) →
     HasFront first now (drop (160 * k) (out_line (who_in r c) (periods_to r c n)))
 out_front_from r c k m n fails first now back l w =
     let more = out_more r c m (n - m) n (omega (arith, l)) in
@@ -66,7 +66,7 @@ out_front_from r c k m n fails first now back l w =
     let fits : 160 * k ≤ length old = omega (arith, length-out_line (who_in r c) (periods_to r c m), length-periods_to r c m, back) in
     subst (HasFront first now) (sym (ap (drop (160 * k)) more.1 ∙ drop-append-le (160 * k) old more.0 fits)) (front_of fails first now (drop (160 * k) old) more.0 w)
 
-pub down_front_from : (r : Run) (c k m n : ℕ) (fails : Bool) (first now : LineState) → k ≤ m → m ≤ n → IsWritten fails first now (drop (40 * k) (down_octets (who_in r c) (periods_to r c m))) →
+pub down_front_from : (r : Run) (c k m n : ℕ) (fails : Bool) (first now : LineState) → k ≤ m → m ≤ n → HasWritten fails first now (drop (40 * k) (down_octets (who_in r c) (periods_to r c m))) →
     HasFront first now (drop (40 * k) (down_octets (who_in r c) (periods_to r c n)))
 down_front_from r c k m n fails first now back l w =
     let more = down_on r c m (n - m) n (omega (arith, l)) in

@@ -8,7 +8,7 @@ use Rattle.std.proofs.Math.Seq.{take-append_seam, drop-append_seam}
 use Rattle.trau_io.specs.Lines.{LineState}
 use Rattle.round_lines.specs.declared.transfer.Taken.{Taken}
 use Rattle.round_lines.specs.Transfer.{Takes}
-use Rattle.farm_run.specs.Standing.{IsToCome, Meets, Gave}
+use Rattle.farm_run.specs.Standing.{IsToCome, Meets, GaveBlock}
 
 -- the octets that are to come split into those that came and the others
 split : (u v : Option (List ℕ)) (front xs : List ℕ) → Consumes u v front → u ≡ Some xs → (ys : List ℕ) × (v ≡ Some ys) × (xs ≡ front ++ ys)
@@ -95,7 +95,7 @@ came m line rest failed was now t block h long told meets = by t.failed refl fai
 
 -- **What a round took of a line is what the run says, whether the line fails in it, later or never.**
 pub gave : (m k : ℕ) (line rest : List ℕ) (failed : Bool) (was now : LineState) (t : Taken) (block : List ℕ) → Takes was now t block → length block ≡ m → IsToCome was k line rest → Meets m rest failed now t →
-    Gave m k line rest failed now t block
+    GaveBlock m k line rest failed now t block
 gave m k line rest failed was now t block h long told meets =
     let c = came m (drop k line) rest failed was now t block h long told meets in
     record {

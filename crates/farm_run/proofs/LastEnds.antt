@@ -34,7 +34,7 @@ use Rattle.farm_run.specs.Journal.{JournalMemory, with_ends}
 use Rattle.farm_run.specs.Facts.{span_lines, kept_in, call_line, settled_each}
 use Rattle.farm_run.specs.Going.{told_after, is_told}
 use Rattle.farm_run.specs.Ending.{limit_at}
-use Rattle.farm_run.specs.Noted.{end_in, is_opened, ended_at, IsKept, IsNoted, TellsTruly, IsAtEnd}
+use Rattle.farm_run.specs.Noted.{call_end_in, is_opened, ended_at, IsKept, IsNoted, TellsTruly, IsAtEnd}
 use Rattle.farm_run.proofs.Rounds.{open_at}
 use Rattle.farm_run.proofs.Told.{told_done}
 use Rattle.farm_run.proofs.Following.{no, open_told}
@@ -69,7 +69,7 @@ module _ (r : Run) (t : ℕ) (b : State) (groups : List Group) (tallies : List T
   open_is c = let follows = end.follows in sym (open_told (whole_in r) t b follows.tells c) ∙ sym (among c)
 
   -- the run's end is theirs
-  limit_is : (c : ℕ) → is_among calls c ≡ true → end_in r c ≡ limit_at r.periods c
+  limit_is : (c : ℕ) → is_among calls c ≡ true → call_end_in r c ≡ limit_at r.periods c
   limit_is c q =
       let at = open_at r t b.done c (standing_now r t b.done b.left so) (open_is c ∙ q) in
       let clock = end.clock c (sym (among c) ∙ q) in
@@ -77,7 +77,7 @@ module _ (r : Run) (t : ℕ) (b : State) (groups : List Group) (tallies : List T
       ap (end_of (given_in r) r.periods (done_in r) c) (start_run r t b.done b.left c (start_of b.done c) so at.opened)
       ∙ end_limit r t b.done b.left c (start_of b.done c) so end.none_left at.unclosed (subst (λ (v : ℕ). v ≤ start_of b.done c + whole_in r c) clock alive)
 
-  pub each_last : AllByRecursion (λ e. (ended_at r b.done t e.call ≡ false) × (e ≡ end_in r e.call)) last
+  pub each_last : AllByRecursion (λ e. (ended_at r b.done t e.call ≡ false) × (e ≡ call_end_in r e.call)) last
   each_last = each_map (IsNewEnd r (ended_at r b.done t)) (limit_at r.periods) calls
       (each_among (λ c. IsNewEnd r (ended_at r b.done t) (limit_at r.periods c)) calls (λ c q. ((open_not_ended r t b.done c (open_is c ∙ q)).0, sym (limit_is c q))))
 

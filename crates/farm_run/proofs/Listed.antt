@@ -8,7 +8,7 @@ use Rattle.trau_io.specs.declared.line.Line.{Line}
 use Rattle.trau_io.specs.declared.line.Side.{Side}
 use Rattle.trau_io.specs.declared.line.Side.TheVariants.{Up, Pcm, Down, Out}
 use Rattle.trau_io.specs.Places.{place_of}
-use Rattle.round_lines.specs.Places.{name_of}
+use Rattle.round_lines.specs.Places.{line_name}
 use Rattle.farm_run.specs.Runs.{is_listed}
 
 -- ---- members of lists
@@ -69,16 +69,16 @@ one_line c d Out Down e = absurd (omega (arith, e))
 one_line c d Out Out e = (omega (arith, e), refl)
 
 -- **A line is listed where its name is told.**
-pub listed_name : (lines : List Line) (c : ℕ) (s : Side) → is_listed lines c s ≡ true → Contains (map name_of lines) (c, s)
+pub listed_name : (lines : List Line) (c : ℕ) (s : Side) → is_listed lines c s ≡ true → Contains (map line_name lines) (c, s)
 listed_name [] c s e = cc
 listed_name (l ∷ lines) c s e = elim (or_cases (place_of l.call l.side == place_of c s) (is_listed lines c s) e) [
   | inl q ↦ let p = one_line c l.call s l.side (eqb-true (place_of l.call l.side) (place_of c s) q) in (0, omega arith, ap (λ (d : ℕ). (d, l.side)) p.0 ∙ ap (λ (z : Side). (c, z)) p.1)
-  | inr q ↦ Contains-append_right (name_of l ∷ []) (map name_of lines) (c, s) (listed_name lines c s q)
+  | inr q ↦ Contains-append_right (line_name l ∷ []) (map line_name lines) (c, s) (listed_name lines c s q)
 ]
 
-pub name_listed : (lines : List Line) (c : ℕ) (s : Side) → Contains (map name_of lines) (c, s) → is_listed lines c s ≡ true
+pub name_listed : (lines : List Line) (c : ℕ) (s : Side) → Contains (map line_name lines) (c, s) → is_listed lines c s ≡ true
 name_listed [] c s h = absurd (none_in (c, s) h)
-name_listed (l ∷ lines) c s h = elim (cons_cases (name_of l) (map name_of lines) (c, s) h) [
+name_listed (l ∷ lines) c s h = elim (cons_cases (line_name l) (map line_name lines) (c, s) h) [
   | inl q ↦ or_first (place_of l.call l.side == place_of c s) (is_listed lines c s) (eq-eqb (place_of l.call l.side) (place_of c s) (ap (λ (y : ℕ × Side). place_of y.0 y.1) q))
   | inr m ↦ or_second (place_of l.call l.side == place_of c s) (is_listed lines c s) (name_listed lines c s m)
 ]

@@ -12,7 +12,7 @@ use Rattle.trau_io.specs.declared.line.Line.{Line}
 use Rattle.trau_io.specs.declared.line.Side.{Side}
 use Rattle.trau_io.specs.declared.line.Side.TheVariants.{Up, Pcm, Down, Out}
 use Rattle.trau_io.specs.Places.{place_of}
-use Rattle.round_lines.specs.Places.{PlaceMemory, fails_in, name_of, name_where_failed, failed_in_round}
+use Rattle.round_lines.specs.Places.{PlaceMemory, fails_in, line_name, name_where_failed, failed_in_round}
 use Rattle.round_lines.specs.Seats.{SeatMemory}
 use Rattle.round_lines.specs.Rounds.{Rising, call_at}
 use Rattle.run_spec.proofs.Lists.{each_append}
@@ -57,7 +57,7 @@ rising_distinct n [] r = tt
 rising_distinct n (y ∷ ys) r = (apart (place y) (suc (place y)) ys (omega arith) r.1, rising_distinct (suc (place y)) ys r.1)
 
 -- lines whose places rise
-lines_rise : (lines : List Line) (n : ℕ) → IsStrictlyIncreasing (map line_place lines) → (0 < length lines → n ≤ slice_index (map line_place lines) 0) → RisesFrom n (map name_of lines)
+lines_rise : (lines : List Line) (n : ℕ) → IsStrictlyIncreasing (map line_place lines) → (0 < length lines → n ≤ slice_index (map line_place lines) 0) → RisesFrom n (map line_name lines)
 lines_rise [] n s l = tt
 lines_rise (x ∷ lines) n s l = (l (omega arith), lines_rise lines (suc (line_place x)) tail (λ m. s 0 (omega (arith, m, length-map lines line_place))))
   where
@@ -107,12 +107,12 @@ distinct_append (x ∷ xs) ys d e h = (
   distinct_append xs ys d.1 e (λ y m. h y (Contains-append_right (x ∷ []) xs y m)),
 )
 
-distinct_places : (lines : List Line) → IsDistinct same (map name_of lines) → IsDistinct eqb (map line_place lines)
+distinct_places : (lines : List Line) → IsDistinct same (map line_name lines) → IsDistinct eqb (map line_place lines)
 unfolding IsDistinct
 distinct_places [] d = tt
 distinct_places (l ∷ lines) d = (others lines d.0, distinct_places lines d.1)
   where
-    others : (ls : List Line) → AllByRecursion (λ z. same (name_of l) z ≡ false) (map name_of ls) → AllByRecursion (λ (q : ℕ). eqb (line_place l) q ≡ false) (map line_place ls)
+    others : (ls : List Line) → AllByRecursion (λ z. same (line_name l) z ≡ false) (map line_name ls) → AllByRecursion (λ (q : ℕ). eqb (line_place l) q ≡ false) (map line_place ls)
     others [] a = tt
     others (k ∷ ls) a = (a.0, others ls a.1)
 
@@ -128,10 +128,10 @@ not_falling (x ∷ lines) h i j d l m =
 
 -- **Where no line was listed before that failed in the round, each is listed once.**
 pub listed_once : (before now : List Line) (seats : List SeatMemory) → GainsFailed before now seats → Rising seats →
-    ((y : Name) → Contains (map name_of before) y → Contains (names seats) y → ⊥) → IsStrictlyIncreasing (map line_place before) → IsStrictlyIncreasing (map line_place now)
+    ((y : Name) → Contains (map line_name before) y → Contains (names seats) y → ⊥) → IsStrictlyIncreasing (map line_place before) → IsStrictlyIncreasing (map line_place now)
 listed_once before now seats g r none s =
     IsStrictlyIncreasing-from_distinct (map line_place now) (not_falling now g.order)
     (distinct_places now
-    (IsDistinct-IsPermutation same flips (map name_of g.lines) (map name_of now) (IsPermutation-map name_of g.lines now g.same)
+    (IsDistinct-IsPermutation same flips (map line_name g.lines) (map line_name now) (IsPermutation-map line_name g.lines now g.same)
     (subst (λ (ys : List Name). IsDistinct same ys) (sym g.told)
-    (distinct_append (map name_of before) (names seats) (rising_distinct 0 (map name_of before) (lines_rise before 0 s (λ m. omega arith))) (rising_distinct 0 (names seats) (seats_rise seats 0 r (λ m. omega arith))) none))))
+    (distinct_append (map line_name before) (names seats) (rising_distinct 0 (map line_name before) (lines_rise before 0 s (λ m. omega arith))) (rising_distinct 0 (names seats) (seats_rise seats 0 r (λ m. omega arith))) none))))

@@ -12,7 +12,7 @@ use Rattle.farm_rounds.specs.declared.call.Call.{Call}
 use Rattle.farm_rounds.specs.declared.call.Group.{Group}
 use Rattle.call_number.specs.CallNumber.{IsCallNumber}
 use Rattle.farm_rounds.specs.Calls.{call_in, partner_in}
-use Rattle.farm_rounds.specs.Acts.{new_call, joined, parted, set_by, changed, freed, calls_after, partners_after, Fits}
+use Rattle.farm_rounds.specs.Acts.{new_call, bridged_call, parted, set_by, changed, freed, calls_after, partners_after, ActFits}
 use Rattle.farm_run.specs.Match.{Matches, AreNumbers}
 
 -- two numbers are one, or neither test says so
@@ -32,7 +32,7 @@ pub unopened : (b : State) (c : ℕ) → opened_now b c ≡ false → open_now b
 unopened b c e = ap (λ t. t && not (is_some (closed_at c b.done)) && not (gone_in b c)) e
 
 -- an accepted order fits the farm
-pub fits : (b : State) (groups : List Group) (a : Act) → Matches b groups → Finds a (opened_now b) (open_now b) (partner_now b) → IsInRange a → Fits groups a
+pub fits : (b : State) (groups : List Group) (a : Act) → Matches b groups → Finds a (opened_now b) (open_now b) (partner_now b) → IsInRange a → ActFits groups a
 fits b groups (act.Opened c law) m f r = ((omega (arith, r.0), omega (arith, r.1)), none_some _ (m.is_open c ∙ unopened b c f.1))
 fits b groups (act.Closed c p) m f r = (m.is_open c ∙ f.0, m.partner c ∙ f.1)
 fits b groups (act.Bridged a d) m f r = (f.0, m.is_open a ∙ f.1.0, m.is_open d ∙ f.1.1, m.partner a ∙ f.2.0, m.partner d ∙ f.2.1)
@@ -95,7 +95,7 @@ live_freed (Some n) g f c = live_changed n g f c
 live_after : (a : Act) (f : ℕ → Option Call) (c : ℕ) → is_some (calls_after a f c) ≡ open_after a (λ c. is_some (f c)) c
 live_after (act.Opened n law) f c = opened_live n c (new_call n law) (f c)
 live_after (act.Closed n p) f c = closed_live n c (freed p parted f c) (f c) (live_freed p parted f c)
-live_after (act.Bridged a b) f c = live_changed a joined (changed b joined f) c ∙ live_changed b joined f c
+live_after (act.Bridged a b) f c = live_changed a bridged_call (changed b bridged_call f) c ∙ live_changed b bridged_call f c
 live_after (act.Unbridged a b) f c = live_changed a parted (changed b parted f) c ∙ live_changed b parted f c
 live_after (act.LevelSet n level) f c = live_changed n (set_by (act.LevelSet n level)) f c
 live_after (act.DtxSet n mode) f c = live_changed n (set_by (act.DtxSet n mode)) f c

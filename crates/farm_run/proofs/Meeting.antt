@@ -10,10 +10,10 @@ use Rattle.round_lines.specs.Rounds.{IsIncoming}
 use Rattle.trau_io.specs.declared.line.Line.{Line}
 use Rattle.switchboard.specs.State.{State}
 use Rattle.farm_run.specs.Runs.{IsGiven, ReadsOn, is_listed}
-use Rattle.farm_run.specs.Standing.{Standing, standing, is_over, GoesOn, Meets, never_given}
+use Rattle.farm_run.specs.Standing.{Standing, standing, is_over, StandingGoesOn, Meets, never_given}
 
 -- **Nothing has happened.**
-pub stays : (a : Standing) → GoesOn a a
+pub stays : (a : Standing) → StandingGoesOn a a
 stays a = record {
   over = λ c e. e;
   read_on = λ c s octets i e. (0, e);
@@ -22,7 +22,7 @@ stays a = record {
 }
 
 -- **One step after another.**
-pub further : (a b c : Standing) → GoesOn a b → GoesOn b c → GoesOn a c
+pub further : (a b c : Standing) → StandingGoesOn a b → StandingGoesOn b c → StandingGoesOn a c
 further a b c g h = record {
   over = λ d e. h.over d (g.over d e);
   read_on = λ d s octets i e.
@@ -41,7 +41,7 @@ reads_more first before now g h d s octets i e =
     (k.0 + l.0, l.1 ∙ ap Some (drop-drop l.0 k.0 octets))
 
 -- **Orders come in front of what comes next.**
-pub ordered : (b b' : State) (was is : List Line) (lines : ℕ → Side → LineState) (last : Standing) → ((c : ℕ) → is_over b c ≡ true → is_over b' c ≡ true) → is ≡ was → GoesOn (standing b' is lines) last → GoesOn (standing b was lines) last
+pub ordered : (b b' : State) (was is : List Line) (lines : ℕ → Side → LineState) (last : Standing) → ((c : ℕ) → is_over b c ≡ true → is_over b' c ≡ true) → is ≡ was → StandingGoesOn (standing b' is lines) last → StandingGoesOn (standing b was lines) last
 ordered b b' was is lines last over same on = record {
   over = λ c e. on.over c (over c e);
   read_on = on.read_on;
@@ -55,7 +55,7 @@ told_first false before now octets e = e ∙ ap Some (sym (append-nil octets))
 told_first true before now octets e = e.1 ∙ ap (λ (u : Option (List ℕ)). Some (octets ++ unwrap_or u [])) (sym e.2)
 
 -- **A round of a run that goes on to its end meets it.**
-pub meets : (m : ℕ) (c : ℕ) (s : Side) (now last : Standing) (t : Taken) (ys : List ℕ) → IsIncoming s → GoesOn now last →
+pub meets : (m : ℕ) (c : ℕ) (s : Side) (now last : Standing) (t : Taken) (ys : List ℕ) → IsIncoming s → StandingGoesOn now last →
     (now.lines c s).to_come ≡ Some ys → now.listed c s ≡ t.failed → t.count ≤ m → (t.failed ≡ true → t.count < m) → (t.count < m → now.over c ≡ true) →
     Meets m (never_given (last.listed c s) (last.lines c s)) (last.listed c s) (now.lines c s) t
 meets m c s now last t ys i g told listed bound short ends = record {

@@ -37,18 +37,18 @@ use Rattle.run_spec.proofs.OpenCalls.{open_facts, opened_kept, opened_cases}
 use Rattle.run_spec.proofs.Showing.{opens}
 use Rattle.run_spec.proofs.Ending.{end_closed}
 use Rattle.run_spec.proofs.Sent.{sent_at_bridge}
-use Rattle.farm_run.specs.Match.{past_if, histories_at, Follows}
-use Rattle.farm_run.specs.Journal.{JournalMemory, opening_of, with_opening, with_end, with_ends, with_bridge, settled, noted_by}
+use Rattle.farm_run.specs.Match.{past_if, histories_at, FollowsRun}
+use Rattle.farm_run.specs.Journal.{JournalMemory, opening_of, with_opening, with_end, with_ends, with_bridge_noted, settled, noted_by}
 use Rattle.farm_run.specs.Facts.{kept_in}
 use Rattle.farm_run.specs.Going.{is_told}
-use Rattle.farm_run.specs.Noted.{end_in, span_at, bridge_at, is_opened, ended_at, IsKept, Noted}
+use Rattle.farm_run.specs.Noted.{call_end_in, span_numbered, bridge_at, is_opened, ended_at, IsKept, Noted}
 use Rattle.farm_run.proofs.Following.{Due, no, open_told}
 use Rattle.farm_run.proofs.Settling.{or_this, places_settled, sent_settled}
 use Rattle.farm_run.proofs.Noting.{told_has, SameSides, after_sides, noted_ordered, noted_same, noted_ends, noted_opened}
 use Rattle.farm_run.proofs.Bridging.{noted_bridged}
 use Rattle.farm_run.proofs.NotedRounds.{kept_at_end, open_not_ended}
 
-module _ (r : Run) (t : ℕ) (s n : State) (reply : Reply) (groups groups' : List Group) (due : Due s t reply n) (under : t < r.periods) (f : Follows r t s groups) (g : Follows r t n groups') where
+module _ (r : Run) (t : ℕ) (s n : State) (reply : Reply) (groups groups' : List Group) (due : Due s t reply n) (under : t < r.periods) (f : FollowsRun r t s groups) (g : FollowsRun r t n groups') where
   abbrev d : Done
   d = done_by s due.order
 
@@ -175,7 +175,7 @@ module _ (r : Run) (t : ℕ) (s n : State) (reply : Reply) (groups groups' : Lis
             ∙ ap (λ (x : Result Act Refusal). closed_at m (record { order = due.order; result = x } ∷ [])) result
             ∙ ap (λ (b : Bool). option_map (λ (e : Done). e.order.stamp) (if b then Some (record { order = due.order; result = Ok (act.Closed m p) }) else None)) (eq-eqb m m refl) ∙ ap Some due.stamp
 
-        there : end_in r m ≡ closing m
+        there : call_end_in r m ≡ closing m
         there = end_closed r t n.done n.left m (start_of (done_in r) m) t g.so_far closed
 
         here : IsKept r j.calls m (tally_in tallies' m)
@@ -205,9 +205,9 @@ module _ (r : Run) (t : ℕ) (s n : State) (reply : Reply) (groups groups' : Lis
 
     -- **Two calls are bridged.**
     bridges_calls : (a b : ℕ) → d.result ≡ Ok (act.Bridged a b) → Finds (act.Bridged a b) (opened_now s) (open_now s) (partner_now s) → ((c : ℕ) → opened_now n c ≡ opened_now s c) → ((c : ℕ) → open_now n c ≡ open_now s c) →
-        ((c : ℕ) → tally_in tallies' c ≡ tally_in tallies c) → Noted r n.done t (with_bridge a b (settled b (kept_in tallies h b).sent (settled a (kept_in tallies h a).sent j))) tallies'
+        ((c : ℕ) → tally_in tallies' c ≡ tally_in tallies c) → Noted r n.done t (with_bridge_noted a b (settled b (kept_in tallies h b).sent (settled a (kept_in tallies h a).sent j))) tallies'
     bridges_calls a b result finds opened open_is kept =
-        noted_same r n.done (ended_at r s.done t) (ended_at r n.done t) (with_bridge a b (settled b (kept_in tallies h b).sent (settled a (kept_in tallies h a).sent j))) (tally_in tallies) (tally_in tallies')
+        noted_same r n.done (ended_at r s.done t) (ended_at r n.done t) (with_bridge_noted a b (settled b (kept_in tallies h b).sent (settled a (kept_in tallies h a).sent j))) (tally_in tallies) (tally_in tallies')
         (noted_bridged r s.done n.done (ended_at r s.done t) (settled b (kept_in tallies h b).sent (settled a (kept_in tallies h a).sent j)) (tally_in tallies) a b (record {
           both = (was_a.1, was_b.1);
           apart = finds.0;
@@ -231,7 +231,7 @@ module _ (r : Run) (t : ℕ) (s n : State) (reply : Reply) (groups groups' : Lis
         was_b = open_not_ended r t s.done b (open_there b finds.1.1)
 
         -- what each of the two sent in its latest bridge
-        value : (c : ℕ) → (c == a || c == b) ≡ true → open_now s c ≡ true → (k : ℕ) → (opening_of j.calls c).bridge ≡ Some k → (kept_in tallies h c).sent ≡ sent_by r (span_at r k) c
+        value : (c : ℕ) → (c == a || c == b) ≡ true → open_now s c ≡ true → (k : ℕ) → (opening_of j.calls c).bridge ≡ Some k → (kept_in tallies h c).sent ≡ sent_by r (span_numbered r k) c
         value c e o k q =
             let v = open_facts (gone_at (whole_in r) t s.done) s.done c (open_there c o) in
             let places = noted.places in

@@ -20,7 +20,7 @@ use Rattle.farm_run.specs.declared.notes.Opening.{Opening}
 use Rattle.farm_run.specs.Journal.{JournalMemory, no_opening, opening_of, with_opening, with_ends}
 use Rattle.farm_run.specs.Going.{is_told}
 use Rattle.farm_run.specs.Ending.{AreApart}
-use Rattle.farm_run.specs.Noted.{end_in, bridge_at, is_opened, PlacesNoted, SentNoted, IsKept, IsNoted}
+use Rattle.farm_run.specs.Noted.{call_end_in, bridge_at, is_opened, PlacesNoted, SentNoted, IsKept, IsNoted}
 use Rattle.farm_run.proofs.Following.{no}
 use Rattle.farm_run.proofs.Settling.{left_true, right_true}
 
@@ -45,7 +45,7 @@ places_ended ds j ends p = record { long = p.long; numbers = p.numbers; from = p
 
 -- the end of a call that hasn't ended is the run's
 abbrev pub IsNewEnd : Run → (ℕ → Bool) → CallEnd → Type 0
-IsNewEnd r ended e = (ended e.call ≡ false) × (e ≡ end_in r e.call)
+IsNewEnd r ended e = (ended e.call ≡ false) × (e ≡ call_end_in r e.call)
 
 -- **More calls have ended: their ends are noted, and what is kept of them.**
 pub noted_ends : (r : Run) (ds : List Done) (ended : ℕ → Bool) (j : JournalMemory) (tally tally' : ℕ → Tally) (ends : List CallEnd) → IsNoted r ds ended j tally →
@@ -55,7 +55,7 @@ noted_ends r ds ended j tally tally' ends n each apart kept same =
     let was = n.ends in
     record {
       ends = record {
-        each = each_append (λ e. e ≡ end_in r e.call) j.ends ends was.each (each_weaker (IsNewEnd r ended) (λ e. e ≡ end_in r e.call) ends (λ e h. h.1) each);
+        each = each_append (λ e. e ≡ call_end_in r e.call) j.ends ends was.each (each_weaker (IsNewEnd r ended) (λ e. e ≡ call_end_in r e.call) ends (λ e h. h.1) each);
         apart = apart_append j.ends ends was.apart apart (λ c t. fresh c (sym (was.told c) ∙ t) (is_told c ends) refl);
         told = λ c. list_any-append (λ (e : CallEnd). c == e.call) j.ends ends ∙ ap (λ (s : Bool). s || is_told c ends) (was.told c);
       };

@@ -11,8 +11,8 @@ use Rattle.farm_run.specs.declared.stage.Stage.{Stage}
 use Rattle.farm_run.specs.Noted.{IsKnown}
 use Rattle.farm_run.specs.Outgoing.{is_held, is_summed, sum_to}
 use Rattle.farm_run.specs.Runs.{TellsFailed, KeepsSides, ReadsOn, IsRunOver, FailedShort, is_listed}
-use Rattle.farm_run.specs.Stages.{IsStage, IsFirst, Reaches, SumsAt}
-use Rattle.farm_run.specs.Standing.{Standing, standing, GoesOn}
+use Rattle.farm_run.specs.Stages.{IsStage, IsFirstStage, Reaches, SumsAt}
+use Rattle.farm_run.specs.Standing.{Standing, standing, StandingGoesOn}
 use Rattle.farm_run.specs.Clock.{NeverFell, IsAtClock, WrittenFrom}
 use Rattle.farm_run.proofs.Clocks.{fell_none, tells_none, at_first, written_first, flags_of}
 use Rattle.farm_run.proofs.Counts.{fell_more}
@@ -86,19 +86,19 @@ pub record GoneTo (orders : List Order) (batch : ℕ) (first now : ℕ → Side 
   pub tells : TellsFailed first now u.farm.failed
   pub sides : KeepsSides first now
   pub reads : ReadsOn first now
-  pub at : (r : Run) (last : Standing) → IsRunOver orders r.periods last.listed first last.lines r → u.clock ≤ r.periods → GoesOn (standing u.board u.farm.failed now) last → IsAtClock r u.clock u.board u.farm.groups last first now
-  pub known : (r : Run) (last : Standing) → IsRunOver orders r.periods last.listed first last.lines r → u.clock ≤ r.periods → GoesOn (standing u.board u.farm.failed now) last → IsKnown r u.clock u.board u.farm.tallies u.journal
-  pub short : (r : Run) (last : Standing) → IsRunOver orders r.periods last.listed first last.lines r → u.clock ≤ r.periods → GoesOn (standing u.board u.farm.failed now) last → FailedShort r batch (is_listed u.farm.failed)
+  pub at : (r : Run) (last : Standing) → IsRunOver orders r.periods last.listed first last.lines r → u.clock ≤ r.periods → StandingGoesOn (standing u.board u.farm.failed now) last → IsAtClock r u.clock u.board u.farm.groups last first now
+  pub known : (r : Run) (last : Standing) → IsRunOver orders r.periods last.listed first last.lines r → u.clock ≤ r.periods → StandingGoesOn (standing u.board u.farm.failed now) last → IsKnown r u.clock u.board u.farm.tallies u.journal
+  pub short : (r : Run) (last : Standing) → IsRunOver orders r.periods last.listed first last.lines r → u.clock ≤ r.periods → StandingGoesOn (standing u.board u.farm.failed now) last → FailedShort r batch (is_listed u.farm.failed)
 
 -- the run's clock is 0 before its first order
-at_start : (orders : List Order) (o : Outgoing) (s : Stage) (lines : ℕ → Side → LineState) (r : Run) (last : Standing) → IsFirst orders o s → IsRunOver orders r.periods last.listed lines last.lines r → IsAtClock r s.clock s.board s.farm.groups last lines lines
+at_start : (orders : List Order) (o : Outgoing) (s : Stage) (lines : ℕ → Side → LineState) (r : Run) (last : Standing) → IsFirstStage orders o s → IsRunOver orders r.periods last.listed lines last.lines r → IsAtClock r s.clock s.board s.farm.groups last lines lines
 at_start orders o s lines r last f run =
     let clock = (let k = f.stage in k.clock) in
     subst (λ (t : ℕ). IsAtClock r t s.board s.farm.groups last lines lines) (sym f.clock)
     (at_first r s.board s.farm.groups r.periods lines last clock.orders f.none_done f.histories (subst (λ (os : List Order). IsRunOver os r.periods last.listed lines last.lines r) (sym f.orders) run))
 
 -- **It begins.**
-pub gone_first : (orders : List Order) (batch : ℕ) (o : Outgoing) (s : Stage) (lines : ℕ → Side → LineState) → IsFirst orders o s → GoneTo orders batch lines lines s
+pub gone_first : (orders : List Order) (batch : ℕ) (o : Outgoing) (s : Stage) (lines : ℕ → Side → LineState) → IsFirstStage orders o s → GoneTo orders batch lines lines s
 gone_first orders batch o s lines f = record {
   stage = f.stage;
   kept = f.orders;
@@ -129,19 +129,19 @@ gone_more orders batch first before now s u g h = record {
     less : (r : Run) → u.clock ≤ r.periods → s.clock ≤ r.periods
     less r l = let b = h.later in omega arith
 
-    at : (r : Run) (last : Standing) → IsRunOver orders r.periods last.listed first last.lines r → u.clock ≤ r.periods → GoesOn (standing u.board u.farm.failed now) last → IsAtClock r s.clock s.board s.farm.groups last first before
+    at : (r : Run) (last : Standing) → IsRunOver orders r.periods last.listed first last.lines r → u.clock ≤ r.periods → StandingGoesOn (standing u.board u.farm.failed now) last → IsAtClock r s.clock s.board s.farm.groups last first before
     at r last run within on = g.at r last run (less r within) (further _ _ _ h.goes on)
 
 -- **From its start on all is written, where nothing is held back.**
-pub wrote_first : (orders : List Order) (batch : ℕ) (o : Outgoing) (s u : Stage) (first now : ℕ → Side → LineState) → IsFirst orders o s → is_held o ≡ false → Reaches batch s u first now →
-    (r : Run) (last : Standing) → IsRunOver orders r.periods last.listed first last.lines r → u.clock ≤ r.periods → GoesOn (standing u.board u.farm.failed now) last → WrittenFrom r 0 u.clock (is_listed u.farm.failed) first now
+pub wrote_first : (orders : List Order) (batch : ℕ) (o : Outgoing) (s u : Stage) (first now : ℕ → Side → LineState) → IsFirstStage orders o s → is_held o ≡ false → Reaches batch s u first now →
+    (r : Run) (last : Standing) → IsRunOver orders r.periods last.listed first last.lines r → u.clock ≤ r.periods → StandingGoesOn (standing u.board u.farm.failed now) last → WrittenFrom r 0 u.clock (is_listed u.farm.failed) first now
 wrote_first orders batch o s u first now f written h r last run within on =
     h.wrote (ap is_held f.way ∙ written) 0 (omega arith) r first last (flags_of r orders r.periods first last run) within on (at_start orders o s first r last f run)
     (subst (λ (t : ℕ). WrittenFrom r 0 t (is_listed s.farm.failed) first first) (sym f.clock) (subst (λ (ls : List Line). WrittenFrom r 0 0 (is_listed ls) first first) (sym f.none_failed) (written_first r 0 first)))
 
 -- **The sums are those of all octets, where there are sums.**
-pub summed_first : (orders : List Order) (batch : ℕ) (o : Outgoing) (s u : Stage) (first now : ℕ → Side → LineState) → IsFirst orders o s → is_summed o ≡ true → ((c : ℕ) (side : Side) → sum_to o c side ≡ 0) → Reaches batch s u first now →
-    (r : Run) (last : Standing) → IsRunOver orders r.periods last.listed first last.lines r → u.clock ≤ r.periods → GoesOn (standing u.board u.farm.failed now) last → SumsAt r u.clock (sum_to u.outgoing)
+pub summed_first : (orders : List Order) (batch : ℕ) (o : Outgoing) (s u : Stage) (first now : ℕ → Side → LineState) → IsFirstStage orders o s → is_summed o ≡ true → ((c : ℕ) (side : Side) → sum_to o c side ≡ 0) → Reaches batch s u first now →
+    (r : Run) (last : Standing) → IsRunOver orders r.periods last.listed first last.lines r → u.clock ≤ r.periods → StandingGoesOn (standing u.board u.farm.failed now) last → SumsAt r u.clock (sum_to u.outgoing)
 summed_first orders batch o s u first now f summed none h r last run within on =
     h.sums (ap is_summed f.way ∙ summed) r first last (flags_of r orders r.periods first last run) within on (at_start orders o s first r last f run)
     (subst (λ (t : ℕ). SumsAt r t (sum_to s.outgoing)) (sym f.clock) (subst (λ (x : Outgoing). SumsAt r 0 (sum_to x)) (sym f.way) (sums_first r (sum_to o) none)))

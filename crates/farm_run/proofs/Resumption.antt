@@ -27,9 +27,9 @@ use Rattle.farm_run.specs.Marking.{entry_of}
 use Rattle.farm_run.specs.Noted.{IsAtEnd}
 use Rattle.farm_run.specs.Outgoing.{is_held, is_summed, sum_to}
 use Rattle.farm_run.specs.Resuming.{LeavesFrom, ResumesRun, FindsDifference, IsResumeCutShort}
-use Rattle.farm_run.specs.Runs.{TellsFailed, IsRunOver, IsWritten, FailedShort, is_listed}
-use Rattle.farm_run.specs.Stages.{IsStage, IsFirst, HoldsBack, Reaches, SumsAt}
-use Rattle.farm_run.specs.Standing.{Standing, standing, GoesOn}
+use Rattle.farm_run.specs.Runs.{TellsFailed, IsRunOver, HasWritten, FailedShort, is_listed}
+use Rattle.farm_run.specs.Stages.{IsStage, IsFirstStage, HoldsBack, Reaches, SumsAt}
+use Rattle.farm_run.specs.Standing.{Standing, standing, StandingGoesOn}
 use Rattle.farm_run.specs.Clock.{IsAtClock, WrittenFrom}
 use Rattle.farm_run.proofs.Clocks.{tells_none, flags_of, up_rest, pcm_rest, leaves_from}
 use Rattle.farm_run.proofs.Cutting.{cut_at, cut_before, cut_behind}
@@ -47,7 +47,7 @@ module _ (os : List Order) (batch periods : ℕ) (first now : ℕ → Side → L
   at_here r run least = g.at r (standing u.board u.farm.failed now) run (omega (arith, l, least)) (stays (standing u.board u.farm.failed now))
 
   -- **At a clock a run is cut short.**
-  pub cut_here : ((r : Run) (z : Standing) → IsRunOver os r.periods z.listed first z.lines r → u.clock ≤ r.periods → GoesOn (standing u.board u.farm.failed now) z → WrittenFrom r 0 u.clock (is_listed u.farm.failed) first now) →
+  pub cut_here : ((r : Run) (z : Standing) → IsRunOver os r.periods z.listed first z.lines r → u.clock ≤ r.periods → StandingGoesOn (standing u.board u.farm.failed now) z → WrittenFrom r 0 u.clock (is_listed u.farm.failed) first now) →
       IsCutShort os periods first now
   cut_here wrote = cut_at os periods u.clock u.board u.farm.groups u.farm.failed first now g.tells g.sides g.reads at_here
       (λ r run least. wrote r (standing u.board u.farm.failed now) run (omega (arith, l, least)) (stays (standing u.board u.farm.failed now)))
@@ -60,19 +60,19 @@ module _ (os : List Order) (batch periods : ℕ) (first now : ℕ → Side → L
 
   -- **and one that wrote what lies behind a period.**
   pub cut_written : (from : ℕ) → from ≤ u.clock →
-      ((r : Run) (z : Standing) → IsRunOver os r.periods z.listed first z.lines r → u.clock ≤ r.periods → GoesOn (standing u.board u.farm.failed now) z → WrittenFrom r from u.clock (is_listed u.farm.failed) first now) →
+      ((r : Run) (z : Standing) → IsRunOver os r.periods z.listed first z.lines r → u.clock ≤ r.periods → StandingGoesOn (standing u.board u.farm.failed now) z → WrittenFrom r from u.clock (is_listed u.farm.failed) first now) →
       IsResumeCutShort os periods from first now
   cut_written from behind wrote = cut_behind os periods from u.clock u.board u.farm.groups u.farm.failed first now behind g.tells g.sides g.reads at_here
       (λ r run least. wrote r (standing u.board u.farm.failed now) run (omega (arith, l, least)) (stays (standing u.board u.farm.failed now)))
 
 -- **A run that came to a clock is cut short there.**
-pub stretch_cut : (os : List Order) (batch periods : ℕ) (o : Outgoing) (s : Stage) (first now : ℕ → Side → LineState) → IsFirst os o s → is_held o ≡ false →
+pub stretch_cut : (os : List Order) (batch periods : ℕ) (o : Outgoing) (s : Stage) (first now : ℕ → Side → LineState) → IsFirstStage os o s → is_held o ≡ false →
     ((after : Stage) × (after.clock ≤ periods) × Reaches batch s after first now) → IsCutShort os periods first now
 stretch_cut os batch periods o s first now f written after =
     cut_here os batch periods first now after.0 (gone_more os batch first first now s after.0 (gone_first os batch o s first f) after.2) after.1 (wrote_first os batch o s after.0 first now f written after.2)
 
 -- **So is a resumed one that holds back what it has come to.**
-pub held_cut : (os : List Order) (batch periods until from : ℕ) (o : Outgoing) (s : Stage) (first now : ℕ → Side → LineState) → IsFirst os o s → is_held o ≡ true → until ≤ periods →
+pub held_cut : (os : List Order) (batch periods until from : ℕ) (o : Outgoing) (s : Stage) (first now : ℕ → Side → LineState) → IsFirstStage os o s → is_held o ≡ true → until ≤ periods →
     ((after : Stage) × (after.clock ≤ until) × Reaches batch s after first now) → IsResumeCutShort os periods from first now
 held_cut os batch periods until from o s first now f held within after =
     let back = (let h = after.2 in h.back (ap is_held f.way ∙ held)) in
@@ -85,7 +85,7 @@ unbegun_cut os periods from lines = cut_before os periods from [] lines lines (t
 
 -- ---- where the mark is compared
 
-module _ (os : List Order) (pace : Pace) (mark : MarkView) (o : Outgoing) (s m : Stage) (first mid : ℕ → Side → LineState) (begins : IsFirst os o s) (held : is_held o ≡ true) (summed : is_summed o ≡ true)
+module _ (os : List Order) (pace : Pace) (mark : MarkView) (o : Outgoing) (s m : Stage) (first mid : ℕ → Side → LineState) (begins : IsFirstStage os o s) (held : is_held o ≡ true) (summed : is_summed o ≡ true)
     (none : (c : ℕ) (side : Side) → sum_to o c side ≡ 0) (come : Reaches pace.batch s m first mid) (e : m.clock ≡ mark.period)
     (live : (c : ℕ) → is_among m.farm.live c ≡ is_some (call_in m.farm.groups c)) (rising : IsRising m.farm.live) (calls : List MarkCall) (entries : calls ≡ map (entry_of m) m.farm.live) where
   g : GoneTo os pace.batch first mid m
@@ -94,7 +94,7 @@ module _ (os : List Order) (pace : Pace) (mark : MarkView) (o : Outgoing) (s m :
   back : HoldsBack (is_listed []) (is_listed m.farm.failed) first mid
   back = subst (λ (ls : List Line). HoldsBack (is_listed ls) (is_listed m.farm.failed) first mid) begins.none_failed (come.back (ap is_held begins.way ∙ held))
 
-  sums : (r : Run) (z : Standing) → IsRunOver os r.periods z.listed first z.lines r → m.clock ≤ r.periods → GoesOn (standing m.board m.farm.failed mid) z → SumsAt r m.clock (sum_to m.outgoing)
+  sums : (r : Run) (z : Standing) → IsRunOver os r.periods z.listed first z.lines r → m.clock ≤ r.periods → StandingGoesOn (standing m.board m.farm.failed mid) z → SumsAt r m.clock (sum_to m.outgoing)
   sums = summed_first os pace.batch o s m first mid begins summed none come
 
   -- **A mark that isn't that of the run.**
@@ -134,16 +134,16 @@ module _ (os : List Order) (pace : Pace) (mark : MarkView) (o : Outgoing) (s m :
     down = λ c i. nothing (is_listed m.farm.failed c Down) (first c Down) (mid c Down) _ (back.listed c Down tt) (back.lines c Down tt) (none_down r c (worked_to r m.clock c));
   }
     where
-      nothing : (fails : Bool) (was is : LineState) (octets : List ℕ) → fails ≡ false → is ≡ was → octets ≡ [] → IsWritten fails was is octets
+      nothing : (fails : Bool) (was is : LineState) (octets : List ℕ) → fails ≡ false → is ≡ was → octets ≡ [] → HasWritten fails was is octets
       nothing fails was is octets f l n =
-          subst (λ (x : Bool). IsWritten x was is octets) (sym f) (subst (Appends was.written is.written) (sym n) (subst (λ (x : LineState). Appends was.written x.written []) (sym l) (Appends-nil was.written)))
+          subst (λ (x : Bool). HasWritten x was is octets) (sym f) (subst (Appends was.written is.written) (sym n) (subst (λ (x : LineState). Appends was.written x.written []) (sym l) (Appends-nil was.written)))
 
   module _ (now : ℕ → Side → LineState) (u : Stage) (h : Reaches pace.batch (record m { outgoing = Written }) u mid now) where
     pub gone_on : GoneTo os pace.batch first now u
     gone_on = gone_more os pace.batch first mid now (record m { outgoing = Written }) u gone_written h
 
     -- **From the mark's period on all is written.**
-    pub wrote_on : (r : Run) (z : Standing) → IsRunOver os r.periods z.listed first z.lines r → u.clock ≤ r.periods → GoesOn (standing u.board u.farm.failed now) z → WrittenFrom r mark.period u.clock (is_listed u.farm.failed) first now
+    pub wrote_on : (r : Run) (z : Standing) → IsRunOver os r.periods z.listed first z.lines r → u.clock ≤ r.periods → StandingGoesOn (standing u.board u.farm.failed now) z → WrittenFrom r mark.period u.clock (is_listed u.farm.failed) first now
     wrote_on r z run within on =
         let later = h.later in
         subst (λ (from : ℕ). WrittenFrom r from u.clock (is_listed u.farm.failed) first now) e

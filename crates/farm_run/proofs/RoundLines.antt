@@ -28,7 +28,7 @@ use Rattle.farm_rounds.specs.declared.call.Group.{Group}
 use Rattle.farm_rounds.specs.Calls.{call_in, partner_in}
 use Rattle.farm_rounds.specs.Memory.{FarmMemory}
 use Rattle.farm_rounds.specs.Histories.{CallHistory, whose, CallStands, GroupsStand}
-use Rattle.farm_rounds.specs.Rounds.{octets_of, seat_with}
+use Rattle.farm_rounds.specs.Rounds.{io_of, seat_with}
 use Rattle.farm_rounds.specs.Working.{goes_on_call}
 use Rattle.farm_rounds.specs.RoundHistories.{history_with, worked_histories, those_that}
 use Rattle.run_spec.specs.Run.{Run, given_in, whole_in, done_in, periods_to, end_in, who_in, law_in, IsOpened, cause_in, worked_to}
@@ -37,7 +37,7 @@ use Rattle.run_spec.specs.Lines.{out_line, down_octets}
 use Rattle.run_spec.proofs.SoFar.{standing_now}
 use Rattle.farm_run.specs.Going.{places_in, ends_within, told_after, is_told}
 use Rattle.farm_run.proofs.RoundTaken.{IsRound}
-use Rattle.farm_run.specs.Runs.{IsWritten, IsCutOff, is_listed}
+use Rattle.farm_run.specs.Runs.{HasWritten, IsCutOff, is_listed}
 use Rattle.farm_run.specs.Match.{AtClock, Matches, past_if, histories_at}
 use Rattle.farm_run.specs.Standing.{Standing, standing, KnowsListed, MeetsRun, IsToCome, never_given}
 use Rattle.farm_run.specs.Clock.{IsReadWhole, LinesAt, WrittenFrom, IsAtClock}
@@ -196,7 +196,7 @@ module _ (r : Run) (t n : ℕ) (b : State) (farm after : FarmMemory) (first befo
 
   -- what a call's job left in its seat
   abbrev left_io : (c : ℕ) → alive c ≡ true → IoMemory
-  left_io c o = let s = seat c o in let x = seat_at w.filled s.k in io_after (who_in r c) (places_in r b.done t n c) (periods_to r c (t + places_in r b.done t n c - start_of b.done c)) (octets_of x)
+  left_io c o = let s = seat c o in let x = seat_at w.filled s.k in io_after (who_in r c) (places_in r b.done t n c) (periods_to r c (t + places_in r b.done t n c - start_of b.done c)) (io_of x)
 
   seat_left : (c : ℕ) (o : alive c ≡ true) → let s = seat c o in seat_at w.worked s.k ≡ seat_with (seat_at w.filled s.k).place (left_io c o)
   seat_left c o =
@@ -205,10 +205,10 @@ module _ (r : Run) (t n : ℕ) (b : State) (farm after : FarmMemory) (first befo
       let l = s.within in
       let x = seat_at w.filled s.k in
       w.octets hs at.follows.stands s.k p.0 (omega (arith, l, w.filled_number, w.number)) (ap worked_at_end s.number ∙ p.1)
-      ∙ ap (λ (k : ℕ). seat_with x.place (io_after (whose (call_at w.filled s.k) p.0) k p.0.periods (octets_of x))) s.whole
-      ∙ ap (λ (ts : List CallPeriod). seat_with x.place (io_after (whose (call_at w.filled s.k) p.0) (places_in r b.done t n c) ts (octets_of x))) p.2.periods
-      ∙ ap (λ (d : ℕ). seat_with x.place (io_after (whose d p.0) (places_in r b.done t n c) (periods_to r c (t + places_in r b.done t n c - start_of b.done c)) (octets_of x))) s.number
-      ∙ ap (λ (l : Law). seat_with x.place (io_after (record { number = c; law = l }) (places_in r b.done t n c) (periods_to r c (t + places_in r b.done t n c - start_of b.done c)) (octets_of x))) p.2.law
+      ∙ ap (λ (k : ℕ). seat_with x.place (io_after (whose (call_at w.filled s.k) p.0) k p.0.periods (io_of x))) s.whole
+      ∙ ap (λ (ts : List CallPeriod). seat_with x.place (io_after (whose (call_at w.filled s.k) p.0) (places_in r b.done t n c) ts (io_of x))) p.2.periods
+      ∙ ap (λ (d : ℕ). seat_with x.place (io_after (whose d p.0) (places_in r b.done t n c) (periods_to r c (t + places_in r b.done t n c - start_of b.done c)) (io_of x))) s.number
+      ∙ ap (λ (l : Law). seat_with x.place (io_after (record { number = c; law = l }) (places_in r b.done t n c) (periods_to r c (t + places_in r b.done t n c - start_of b.done c)) (io_of x))) p.2.law
 
   -- **What a line is to have gained grows by what goes out of the call's seat.**
   pub grown_out : (c : ℕ) (o : alive c ≡ true) → let s = seat c o in
@@ -219,7 +219,7 @@ module _ (r : Run) (t n : ℕ) (b : State) (farm after : FarmMemory) (first befo
       let x = seat_at w.filled s.k in
       let begun = (open_at r t b.done c (standing_now r t b.done b.left h.so_far) o).begun in
       ap (λ (k : ℕ). out_line (who_in r c) (periods_to r c k)) (worked_then r t n b.done b.left c h o)
-      ∙ out_written r t k b.done c (octets_of x) (left_io c o) begun refl
+      ∙ out_written r t k b.done c (io_of x) (left_io c o) begun refl
       ∙ ap (λ (xs : List ℕ). out_line (who_in r c) (periods_to r c (t - start_of b.done c)) ++ xs) (sym (ap seats.out_given (seat_left c o) ∙ ap (λ (k : ℕ). take (160 * k) (left_io c o).out) s.whole))
       ∙ sym (ap (λ (k : ℕ). out_line (who_in r c) (periods_to r c k) ++ seats.out_given (seat_at w.worked s.k)) (worked_now r t n b.done b.left c h o))
 
@@ -231,7 +231,7 @@ module _ (r : Run) (t n : ℕ) (b : State) (farm after : FarmMemory) (first befo
       let x = seat_at w.filled s.k in
       let begun = (open_at r t b.done c (standing_now r t b.done b.left h.so_far) o).begun in
       ap (λ (k : ℕ). down_octets (who_in r c) (periods_to r c k)) (worked_then r t n b.done b.left c h o)
-      ∙ down_written r t k b.done c (octets_of x) (left_io c o) begun refl
+      ∙ down_written r t k b.done c (io_of x) (left_io c o) begun refl
       ∙ ap (λ (xs : List ℕ). down_octets (who_in r c) (periods_to r c (t - start_of b.done c)) ++ xs) (sym (ap seats.down_given (seat_left c o) ∙ ap (λ (k : ℕ). take (40 * k) (left_io c o).down) s.whole))
       ∙ sym (ap (λ (k : ℕ). down_octets (who_in r c) (periods_to r c k) ++ seats.down_given (seat_at w.worked s.k)) (worked_now r t n b.done b.left c h o))
 
@@ -246,7 +246,7 @@ module _ (r : Run) (t n : ℕ) (b : State) (farm after : FarmMemory) (first befo
 
   -- **A line gains that, or a proper front of it.**
   wrote_out : w.held ≡ false → (from : ℕ) → from ≤ t → WrittenFrom r from t (is_listed farm.failed) first before → (c : ℕ) → alive c ≡ true →
-      IsWritten (is_listed after.failed c Out) (first c Out) (now c Out) (drop (160 * worked_to r from c) (out_line (who_in r c) (periods_to r c (worked_to r (t + n) c))))
+      HasWritten (is_listed after.failed c Out) (first c Out) (now c Out) (drop (160 * worked_to r from c) (out_line (who_in r c) (periods_to r c (worked_to r (t + n) c))))
   wrote_out written from l wrote c o =
       let s = seat c o in
       let k = 160 * worked_to r from c in
@@ -254,14 +254,14 @@ module _ (r : Run) (t n : ℕ) (b : State) (farm after : FarmMemory) (first befo
       let front = drop k old in
       let fits : k ≤ length old = omega (arith, length-out_line (who_in r c) (periods_to r c (worked_to r t c)), length-periods_to r c (worked_to r t c), sooner from c l) in
       let was = wrote.out c (opened_is r t n b farm after first before now ends w h m b' last at meets c o) in
-      subst (λ (x : Bool). IsWritten x (first c Out) (now c Out) (drop k (out_line (who_in r c) (periods_to r c (worked_to r (t + n) c))))) (stands_out t n b farm after before now ends w a knows b' told open_then s.k c s.within s.here)
-      (subst (IsWritten (has_failed (seat_at w.drained s.k).place.out) (first c Out) (now c Out)) (sym (ap (drop k) (grown_out c o) ∙ drop-append-le k old (seats.out_given (seat_at w.worked s.k)) fits))
+      subst (λ (x : Bool). HasWritten x (first c Out) (now c Out) (drop k (out_line (who_in r c) (periods_to r c (worked_to r (t + n) c))))) (stands_out t n b farm after before now ends w a knows b' told open_then s.k c s.within s.here)
+      (subst (HasWritten (has_failed (seat_at w.drained s.k).place.out) (first c Out) (now c Out)) (sym (ap (drop k) (grown_out c o) ∙ drop-append-le k old (seats.out_given (seat_at w.worked s.k)) fits))
       (gains (first c Out) (w.between c Out) (now c Out) (seat_at w.worked s.k).place.out (seat_at w.drained s.k).place.out front (seats.out_given (seat_at w.worked s.k)) (writes_at t n farm after before now ends w s.k c s.within s.here written).out
-      (subst (λ (x : Bool). IsWritten x (first c Out) (w.between c Out) front) (sym (was_out t n b farm after before now ends w a knows b' told open_then s.k c s.within s.here))
-      (subst (λ (l : LineState). IsWritten (is_listed farm.failed c Out) (first c Out) l front) (sym (out_between t n farm after before now ends w c)) was))))
+      (subst (λ (x : Bool). HasWritten x (first c Out) (w.between c Out) front) (sym (was_out t n b farm after before now ends w a knows b' told open_then s.k c s.within s.here))
+      (subst (λ (l : LineState). HasWritten (is_listed farm.failed c Out) (first c Out) l front) (sym (out_between t n farm after before now ends w c)) was))))
 
   wrote_down : w.held ≡ false → (from : ℕ) → from ≤ t → WrittenFrom r from t (is_listed farm.failed) first before → (c : ℕ) → alive c ≡ true →
-      IsWritten (is_listed after.failed c Down) (first c Down) (now c Down) (drop (40 * worked_to r from c) (down_octets (who_in r c) (periods_to r c (worked_to r (t + n) c))))
+      HasWritten (is_listed after.failed c Down) (first c Down) (now c Down) (drop (40 * worked_to r from c) (down_octets (who_in r c) (periods_to r c (worked_to r (t + n) c))))
   wrote_down written from l wrote c o =
       let s = seat c o in
       let k = 40 * worked_to r from c in
@@ -269,11 +269,11 @@ module _ (r : Run) (t n : ℕ) (b : State) (farm after : FarmMemory) (first befo
       let front = drop k old in
       let fits : k ≤ length old = omega (arith, length-down_octets (who_in r c) (periods_to r c (worked_to r t c)), length-periods_to r c (worked_to r t c), sooner from c l) in
       let was = wrote.down c (opened_is r t n b farm after first before now ends w h m b' last at meets c o) in
-      subst (λ (x : Bool). IsWritten x (first c Down) (now c Down) (drop k (down_octets (who_in r c) (periods_to r c (worked_to r (t + n) c))))) (stands_down t n b farm after before now ends w a knows b' told open_then s.k c s.within s.here)
-      (subst (IsWritten (has_failed (seat_at w.drained s.k).place.down) (first c Down) (now c Down)) (sym (ap (drop k) (grown_down c o) ∙ drop-append-le k old (seats.down_given (seat_at w.worked s.k)) fits))
+      subst (λ (x : Bool). HasWritten x (first c Down) (now c Down) (drop k (down_octets (who_in r c) (periods_to r c (worked_to r (t + n) c))))) (stands_down t n b farm after before now ends w a knows b' told open_then s.k c s.within s.here)
+      (subst (HasWritten (has_failed (seat_at w.drained s.k).place.down) (first c Down) (now c Down)) (sym (ap (drop k) (grown_down c o) ∙ drop-append-le k old (seats.down_given (seat_at w.worked s.k)) fits))
       (gains (first c Down) (w.between c Down) (now c Down) (seat_at w.worked s.k).place.down (seat_at w.drained s.k).place.down front (seats.down_given (seat_at w.worked s.k)) (writes_at t n farm after before now ends w s.k c s.within s.here written).down
-      (subst (λ (x : Bool). IsWritten x (first c Down) (w.between c Down) front) (sym (was_down t n b farm after before now ends w a knows b' told open_then s.k c s.within s.here))
-      (subst (λ (l : LineState). IsWritten (is_listed farm.failed c Down) (first c Down) l front) (sym (down_between t n farm after before now ends w c)) was))))
+      (subst (λ (x : Bool). HasWritten x (first c Down) (w.between c Down) front) (sym (was_down t n b farm after before now ends w a knows b' told open_then s.k c s.within s.here))
+      (subst (λ (l : LineState). HasWritten (is_listed farm.failed c Down) (first c Down) l front) (sym (down_between t n farm after before now ends w c)) was))))
 
   -- **What is written after the round.**
   pub written_after : w.held ≡ false → (from : ℕ) → from ≤ t → WrittenFrom r from t (is_listed farm.failed) first before → WrittenFrom r from (t + n) (is_listed after.failed) first now
@@ -282,20 +282,20 @@ module _ (r : Run) (t n : ℕ) (b : State) (farm after : FarmMemory) (first befo
       still : (c : ℕ) (s : Side) → alive c ≡ false → is_listed after.failed c s ≡ is_listed farm.failed c s
       still c s o = listed_kept t n b farm after before now ends w a knows b' told open_then c s (shut c o)
 
-      out : (c : ℕ) → IsOpened r c → IsWritten (is_listed after.failed c Out) (first c Out) (now c Out) (drop (160 * worked_to r from c) (out_line (who_in r c) (periods_to r c (worked_to r (t + n) c))))
+      out : (c : ℕ) → IsOpened r c → HasWritten (is_listed after.failed c Out) (first c Out) (now c Out) (drop (160 * worked_to r from c) (out_line (who_in r c) (periods_to r c (worked_to r (t + n) c))))
       out c i = elim (cases_Bool (alive c)) [
         | inl o ↦ wrote_out written from l wrote c o
-        | inr o ↦ subst (λ (k : ℕ). IsWritten (is_listed after.failed c Out) (first c Out) (now c Out) (drop (160 * worked_to r from c) (out_line (who_in r c) (periods_to r c k)))) (sym (idle c i o))
-            (subst (λ (l : LineState). IsWritten (is_listed after.failed c Out) (first c Out) l (drop (160 * worked_to r from c) (out_line (who_in r c) (periods_to r c (worked_to r t c))))) (sym (kept c o Out))
-            (subst (λ (x : Bool). IsWritten x (first c Out) (before c Out) (drop (160 * worked_to r from c) (out_line (who_in r c) (periods_to r c (worked_to r t c))))) (sym (still c Out o)) (wrote.out c i)))
+        | inr o ↦ subst (λ (k : ℕ). HasWritten (is_listed after.failed c Out) (first c Out) (now c Out) (drop (160 * worked_to r from c) (out_line (who_in r c) (periods_to r c k)))) (sym (idle c i o))
+            (subst (λ (l : LineState). HasWritten (is_listed after.failed c Out) (first c Out) l (drop (160 * worked_to r from c) (out_line (who_in r c) (periods_to r c (worked_to r t c))))) (sym (kept c o Out))
+            (subst (λ (x : Bool). HasWritten x (first c Out) (before c Out) (drop (160 * worked_to r from c) (out_line (who_in r c) (periods_to r c (worked_to r t c))))) (sym (still c Out o)) (wrote.out c i)))
       ]
 
-      down : (c : ℕ) → IsOpened r c → IsWritten (is_listed after.failed c Down) (first c Down) (now c Down) (drop (40 * worked_to r from c) (down_octets (who_in r c) (periods_to r c (worked_to r (t + n) c))))
+      down : (c : ℕ) → IsOpened r c → HasWritten (is_listed after.failed c Down) (first c Down) (now c Down) (drop (40 * worked_to r from c) (down_octets (who_in r c) (periods_to r c (worked_to r (t + n) c))))
       down c i = elim (cases_Bool (alive c)) [
         | inl o ↦ wrote_down written from l wrote c o
-        | inr o ↦ subst (λ (k : ℕ). IsWritten (is_listed after.failed c Down) (first c Down) (now c Down) (drop (40 * worked_to r from c) (down_octets (who_in r c) (periods_to r c k)))) (sym (idle c i o))
-            (subst (λ (l : LineState). IsWritten (is_listed after.failed c Down) (first c Down) l (drop (40 * worked_to r from c) (down_octets (who_in r c) (periods_to r c (worked_to r t c))))) (sym (kept c o Down))
-            (subst (λ (x : Bool). IsWritten x (first c Down) (before c Down) (drop (40 * worked_to r from c) (down_octets (who_in r c) (periods_to r c (worked_to r t c))))) (sym (still c Down o)) (wrote.down c i)))
+        | inr o ↦ subst (λ (k : ℕ). HasWritten (is_listed after.failed c Down) (first c Down) (now c Down) (drop (40 * worked_to r from c) (down_octets (who_in r c) (periods_to r c k)))) (sym (idle c i o))
+            (subst (λ (l : LineState). HasWritten (is_listed after.failed c Down) (first c Down) l (drop (40 * worked_to r from c) (down_octets (who_in r c) (periods_to r c (worked_to r t c))))) (sym (kept c o Down))
+            (subst (λ (x : Bool). HasWritten x (first c Down) (before c Down) (drop (40 * worked_to r from c) (down_octets (who_in r c) (periods_to r c (worked_to r t c))))) (sym (still c Down o)) (wrote.down c i)))
       ]
 
   -- ---- what is read

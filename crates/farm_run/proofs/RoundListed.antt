@@ -14,7 +14,7 @@ use Rattle.round_lines.specs.declared.transfer.Outlet.{Outlet}
 use Rattle.round_lines.specs.declared.transfer.Outlet.TheVariants.{Sound, FailedBefore, FailedNow}
 use Rattle.round_lines.specs.Transfer.{has_failed, fails_now}
 use Rattle.round_lines.specs.Places as places
-use Rattle.round_lines.specs.Places.{PlaceMemory, fails_in, name_of, outlet_before}
+use Rattle.round_lines.specs.Places.{PlaceMemory, fails_in, line_name, outlet_before}
 use Rattle.round_lines.specs.Seats.{SeatMemory}
 use Rattle.round_lines.specs.Rounds.{Rising, IsIncoming, IsOutgoing, seat_at, call_at}
 use Rattle.round_lines.proofs.Each.{still_rising}
@@ -30,10 +30,10 @@ use Rattle.farm_rounds.specs.RoundHistories.{seat_of}
 use Rattle.farm_rounds.proofs.Working.{goes_on_at}
 use Rattle.run_spec.specs.Run.{Run}
 use Rattle.farm_run.specs.Going.{told_after, is_told}
-use Rattle.farm_run.specs.Outgoing.{Moves}
+use Rattle.farm_run.specs.Outgoing.{PassesOn}
 use Rattle.farm_run.specs.Match.{AtClock}
 use Rattle.farm_run.specs.Runs.{is_listed, ReadsOn}
-use Rattle.farm_run.specs.Standing.{Standing, standing, is_over, GoesOn, KnowsListed, HasFlags, MeetsRun}
+use Rattle.farm_run.specs.Standing.{Standing, standing, is_over, StandingGoesOn, KnowsListed, HasFlags, MeetsRun}
 use Rattle.farm_run.proofs.Told.{told_done}
 use Rattle.farm_run.proofs.Listed.{listed_name, name_listed, or_cases, or_first, or_second, same_test, is_false}
 use Rattle.farm_run.proofs.ListedOnce.{line_place, listed_once}
@@ -72,7 +72,7 @@ front_read (Some zs) (Some ys) front xs c e = (length front, ap Some (sym (drop-
     same zs xs e = cc
 
 -- how an outgoing line stands after a round
-stands_is : (b : Bool) (before now : LineState) (was stands : Outlet) (octets : List ℕ) → was ≡ outlet_before b → Moves before now was stands octets → has_failed stands ≡ (b || fails_now stands)
+stands_is : (b : Bool) (before now : LineState) (was stands : Outlet) (octets : List ℕ) → was ≡ outlet_before b → PassesOn before now was stands octets → has_failed stands ≡ (b || fails_now stands)
 stands_is true before now was stands octets q (inl g) = ap has_failed ((g.passed (ap has_failed q)).1 ∙ q)
 stands_is false before now was stands octets q (inl g) = elim (cases_Bool (has_failed stands)) [
   | inl e ↦ let f = g.fault (ap has_failed q) e in e ∙ sym (ap fails_now f.0)
@@ -87,7 +87,7 @@ stands_is true before now was stands octets q (inr g) = ap has_failed (g.1 ∙ q
 stands_is false before now was stands octets q (inr g) = ap has_failed (g.1 ∙ q) ∙ sym (ap fails_now (g.1 ∙ q))
 
 -- one that had failed before is passed over
-passed_over : (b : Bool) (before now : LineState) (was stands : Outlet) (octets : List ℕ) → was ≡ outlet_before b → b ≡ true → Moves before now was stands octets → fails_now stands ≡ false
+passed_over : (b : Bool) (before now : LineState) (was stands : Outlet) (octets : List ℕ) → was ≡ outlet_before b → b ≡ true → PassesOn before now was stands octets → fails_now stands ≡ false
 passed_over true before now was stands octets q e (inl g) = ap fails_now ((g.passed (ap has_failed q)).1 ∙ q)
 passed_over true before now was stands octets q e (inr g) = ap fails_now (g.1 ∙ q)
 passed_over false before now was stands octets q e g = cc
@@ -329,7 +329,7 @@ module _ (t n : ℕ) (b : State) (farm after : FarmMemory) (before now : ℕ →
   pub order_after : IsStrictlyIncreasing (map line_place farm.failed) → IsStrictlyIncreasing (map line_place after.failed)
   order_after = listed_once farm.failed after.failed w.drained w.gains rising none
     where
-      none : (y : ℕ × Side) → Contains (map name_of farm.failed) y → Contains (names w.drained) y → ⊥
+      none : (y : ℕ × Side) → Contains (map line_name farm.failed) y → Contains (names w.drained) y → ⊥
       none y a b =
           let m = listed_seat w.drained y b in
           let p = marked y.0 y.1 m in
@@ -369,7 +369,7 @@ module _ (t n : ℕ) (b : State) (farm after : FarmMemory) (before now : ℕ →
   no_seat_of c e = a.matches.is_open c ∙ over_shut b c e
 
   -- **The run goes on.**
-  pub goes_after : GoesOn (standing b farm.failed before) (standing b' after.failed now)
+  pub goes_after : StandingGoesOn (standing b farm.failed before) (standing b' after.failed now)
   goes_after = record { over = over_on; read_on = read_on; lines = λ c s i e. ap (λ (l : LineState). l.to_come) (lines_kept t n farm after before now ends w c (no_seat_of c e) s); listed = λ c s i e. listed_kept c s (no_seat_of c e) }
     where
       given : (c : ℕ) (side : Side) (octets : List ℕ) → IsIncoming side → (before c side).to_come ≡ Some octets → (k : ℕ) → k < length farm.live → slice_index farm.live k ≡ c → (i : ℕ) × ((w.between c side).to_come ≡ Some (drop i octets))
@@ -385,7 +385,7 @@ module _ (t n : ℕ) (b : State) (farm after : FarmMemory) (before now : ℕ →
       ]
 
   -- **So the round meets a run that goes on from behind it.**
-  pub meets_run : (r : Run) (last : Standing) → HasFlags r last → GoesOn (standing b' after.failed now) last → MeetsRun r n w.filled (standing b' after.failed now) last
+  pub meets_run : (r : Run) (last : Standing) → HasFlags r last → StandingGoesOn (standing b' after.failed now) last → MeetsRun r n w.filled (standing b' after.failed now) last
   meets_run r last flags on = record {
     on = on;
     flags = flags;

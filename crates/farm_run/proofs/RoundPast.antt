@@ -19,7 +19,7 @@ use Rattle.call_pair.specs.Memory.{IoMemory}
 use Rattle.farm_rounds.specs.Calls.{partner_in}
 use Rattle.farm_rounds.specs.Memory.{FarmMemory}
 use Rattle.farm_rounds.specs.Histories.{CallHistory}
-use Rattle.farm_rounds.specs.Rounds.{octets_of}
+use Rattle.farm_rounds.specs.Rounds.{io_of}
 use Rattle.farm_rounds.specs.RoundHistories.{seat_of, history_with, history_alone, history_beside, history_bridged, worked_histories}
 use Rattle.run_spec.specs.Run.{Run, whole_in, periods_to, law_in}
 use Rattle.run_spec.specs.Now.{settings_now}
@@ -77,7 +77,7 @@ module _ (r : Run) (t n : ℕ) (b : State) (farm after : FarmMemory) (first befo
   past c = record { law = law_in r c; periods = periods_to r c (t - start_of b.done c); now = settings_now r b.done t c }
 
   abbrev octets : ℕ → IoMemory
-  octets c = octets_of (seat_of w.filled c)
+  octets c = io_of (seat_of w.filled c)
 
   past_is : (c : ℕ) → is_alive c ≡ true → histories_at r b.done t c ≡ Some (past c)
   past_is c o = ap (λ (x : Bool). past_if x (law_in r c) (periods_to r c (t - start_of b.done c)) (settings_now r b.done t c)) o
@@ -86,7 +86,7 @@ module _ (r : Run) (t n : ℕ) (b : State) (farm after : FarmMemory) (first befo
   fed c o =
       let s = seat c o in
       let x = seat_at w.filled s.k in
-      subst (λ (x : SeatMemory). IsFed r b.done t n c (octets_of x)) (sym s.found) (fed_taken r t n b.done b.left c x.place (octets_of x) h o s.taken s.number refl refl)
+      subst (λ (x : SeatMemory). IsFed r b.done t n c (io_of x)) (sym s.found) (fed_taken r t n b.done b.left c x.place (io_of x) h o s.taken s.number refl refl)
 
   pub given : (c : ℕ) → is_alive c ≡ true → places.whole_in (seat_of w.filled c).place ≡ places_in r b.done t n c
   given c o = let s = seat c o in ap (λ (x : SeatMemory). places.whole_in x.place) s.found ∙ s.whole

@@ -10,7 +10,7 @@ use Rattle.switchboard.specs.Bridges.{bridges, joins, other, lasts, bridge_of}
 use Rattle.switchboard.specs.Ends.{start_of}
 use Rattle.switchboard.specs.State.{first_stamp}
 use Rattle.call_leg.specs.Periods.{CallPeriod}
-use Rattle.call_leg.specs.Settings.{Settings, later, settings_at, without_bridge, period_with}
+use Rattle.call_leg.specs.Settings.{Settings, settings_later, settings_at, without_bridge, period_with}
 use Rattle.call_pair.specs.Memory.{IoMemory}
 use Rattle.call_pair.specs.Places.{up_at, pcm_at}
 use Rattle.call_pair.specs.History.{period_at, alone_periods}
@@ -87,7 +87,7 @@ open_after r t n ds left c h o =
     ∙ has_place r t n ds c (n - 1) at.unclosed within (omega arith)
     ∙ all_or_fewer n (start_of ds c + whole_in r c - t) some
 
--- **A call that isn't open isn't open later.**
+-- **A call that isn't open isn't open settings_later.**
 pub shut_after : (r : Run) (t n : ℕ) (ds : List Done) (c : ℕ) → is_open (gone_at (whole_in r) t ds) ds c ≡ false → is_open (gone_at (whole_in r) (t + n) ds) ds c ≡ false
 shut_after r t n ds c e =
     by (is_some (opened_at c ds) && not (is_some (closed_at c ds))) (gone_at (whole_in r) t ds c) (gone_at (whole_in r) (t + n) ds c) (gone_later (whole_in r) t (t + n) ds c (omega arith)) e
@@ -170,8 +170,8 @@ settings_kept r t n ds left c zero h l = let e : t ≡ t + 0 = omega arith in ap
 settings_kept r t n ds left c (suc k) h l =
     let within = h.within in
     let e : t + k + 1 ≡ t + suc k = omega arith in
-    ap later (settings_kept r t n ds left c k h (omega arith))
-    ∙ ap later (by (is_some (bridge_now r ds (t + k) c)))
+    ap settings_later (settings_kept r t n ds left c k h (omega arith))
+    ∙ ap settings_later (by (is_some (bridge_now r ds (t + k) c)))
     ∙ ap without_bridge (sym (settings_later r t (t + k) ds c (standing_now r t ds left h.so_far) (omega arith) (omega arith)))
     ∙ ap (λ u. without_bridge (settings_now r ds u c)) e
   where

@@ -18,7 +18,7 @@ use Rattle.farm_run.specs.declared.notes.BridgeNote.{BridgeNote}
 use Rattle.farm_run.specs.Journal.{JournalMemory, opening_of, no_note, with_sent, sent_at, settled}
 use Rattle.farm_run.specs.Facts.{settled_each}
 use Rattle.farm_run.specs.Going.{is_told}
-use Rattle.farm_run.specs.Noted.{span_at, bridge_at, is_opened, note_at, noted_sent, PlacesNoted, SentNoted, IsKept}
+use Rattle.farm_run.specs.Noted.{span_numbered, bridge_at, is_opened, bridge_note_at, noted_sent, PlacesNoted, SentNoted, IsKept}
 use Rattle.farm_run.proofs.Following.{no}
 
 -- one of two facts holds where the other doesn't
@@ -71,17 +71,17 @@ sent_other c d v x p q n = by (c == x.a) (d == x.a) refl refl
 
 -- ---- the calls and the number of the bridges stay
 
-sent_a : (c v : ℕ) (o : Option ℕ) (xs : List BridgeNote) (k : ℕ) → (note_at (sent_at c v o xs) k).a ≡ (note_at xs k).a
+sent_a : (c v : ℕ) (o : Option ℕ) (xs : List BridgeNote) (k : ℕ) → (bridge_note_at (sent_at c v o xs) k).a ≡ (bridge_note_at xs k).a
 sent_a c v None xs k = refl
-sent_a c v (Some m) xs k = part_kept (λ (x : BridgeNote). x.a) no_note xs m (with_sent c v (note_at xs m)) (with_a c v (note_at xs m)) k
+sent_a c v (Some m) xs k = part_kept (λ (x : BridgeNote). x.a) no_note xs m (with_sent c v (bridge_note_at xs m)) (with_a c v (bridge_note_at xs m)) k
 
-sent_b : (c v : ℕ) (o : Option ℕ) (xs : List BridgeNote) (k : ℕ) → (note_at (sent_at c v o xs) k).b ≡ (note_at xs k).b
+sent_b : (c v : ℕ) (o : Option ℕ) (xs : List BridgeNote) (k : ℕ) → (bridge_note_at (sent_at c v o xs) k).b ≡ (bridge_note_at xs k).b
 sent_b c v None xs k = refl
-sent_b c v (Some m) xs k = part_kept (λ (x : BridgeNote). x.b) no_note xs m (with_sent c v (note_at xs m)) (with_b c v (note_at xs m)) k
+sent_b c v (Some m) xs k = part_kept (λ (x : BridgeNote). x.b) no_note xs m (with_sent c v (bridge_note_at xs m)) (with_b c v (bridge_note_at xs m)) k
 
 sent_long : (c v : ℕ) (o : Option ℕ) (xs : List BridgeNote) → length (sent_at c v o xs) ≡ length xs
 sent_long c v None xs = refl
-sent_long c v (Some m) xs = length-set xs m (with_sent c v (note_at xs m))
+sent_long c v (Some m) xs = length-set xs m (with_sent c v (bridge_note_at xs m))
 
 pub places_settled : (ds : List Done) (j : JournalMemory) (c v : ℕ) → PlacesNoted ds j → PlacesNoted ds (settled c v j)
 places_settled ds j c v p =
@@ -97,8 +97,8 @@ places_settled ds j c v p =
     }
 
 -- the calls of a note are those of its bridge
-pub joins_noted : (ds : List Done) (j : JournalMemory) (c k : ℕ) → PlacesNoted ds j → joins_in c (note_at j.bridges k) ≡ joins c (bridge_at ds k)
-joins_noted ds j c k p = ap (λ (a : ℕ). c == a || c == (note_at j.bridges k).b) (p.calls k).0 ∙ ap (λ (b : ℕ). c == (bridge_at ds k).a || c == b) (p.calls k).1
+pub joins_noted : (ds : List Done) (j : JournalMemory) (c k : ℕ) → PlacesNoted ds j → joins_in c (bridge_note_at j.bridges k) ≡ joins c (bridge_at ds k)
+joins_noted ds j c k p = ap (λ (a : ℕ). c == a || c == (bridge_note_at j.bridges k).b) (p.calls k).0 ∙ ap (λ (b : ℕ). c == (bridge_at ds k).a || c == b) (p.calls k).1
 
 -- ---- what is noted of a call's latest bridge
 
@@ -107,20 +107,20 @@ or_this was c d = was d || d == c
 
 -- **Once what a call has sent in its latest bridge is noted, all that it sent is.**
 pub sent_settled : (r : Run) (ds : List Done) (was : ℕ → Bool) (j : JournalMemory) (c v : ℕ) → PlacesNoted ds j → is_opened ds c ≡ true → SentNoted r ds was j →
-    ((k : ℕ) → (opening_of j.calls c).bridge ≡ Some k → v ≡ sent_by r (span_at r k) c) → SentNoted r ds (or_this was c) (settled c v j)
+    ((k : ℕ) → (opening_of j.calls c).bridge ≡ Some k → v ≡ sent_by r (span_numbered r k) c) → SentNoted r ds (or_this was c) (settled c v j)
 sent_settled r ds was j c v p o s right = λ d k l m h. by d k l m h (opening_of j.calls c).bridge refl (p.latest c o)
   where
     by : (d k : ℕ) → k < length (bridges ds) → joins d (bridge_at ds k) ≡ true → ((opening_of j.calls d).bridge ≡ Some k → or_this was c d ≡ true) → (place : Option ℕ) → (opening_of j.calls c).bridge ≡ place →
-        IsLatest (bridges ds) c place → noted_sent d (note_at (sent_at c v place j.bridges) k) ≡ sent_by r (span_at r k) d
+        IsLatest (bridges ds) c place → noted_sent d (bridge_note_at (sent_at c v place j.bridges) k) ≡ sent_by r (span_numbered r k) d
     by d k l m h None e never = elim (cases_eq d c) [
       | inl q ↦ absurd (no (joins c (bridge_at ds k)) (never k l) (subst (λ (d : ℕ). joins d (bridge_at ds k) ≡ true) q m))
       | inr n ↦ s d k l m (λ g. left_true (was d) (d == c) (ne_eqb d c n) (h g))
     ]
     by d k l m h (Some place) e latest = elim (cases_eq k place) [
       | inl q ↦ subst (λ (k : ℕ). k < length (bridges ds) → joins d (bridge_at ds k) ≡ true → ((opening_of j.calls d).bridge ≡ Some k → or_this was c d ≡ true) →
-          noted_sent d (note_at (set j.bridges place (with_sent c v (note_at j.bridges place))) k) ≡ sent_by r (span_at r k) d) (sym q) (here d) l m h
+          noted_sent d (bridge_note_at (set j.bridges place (with_sent c v (bridge_note_at j.bridges place))) k) ≡ sent_by r (span_numbered r k) d) (sym q) (here d) l m h
       | inr n ↦
-          ap (noted_sent d) (get_or-set_other j.bridges place k (with_sent c v (note_at j.bridges place)) no_note n)
+          ap (noted_sent d) (get_or-set_other j.bridges place k (with_sent c v (bridge_note_at j.bridges place)) no_note n)
           ∙ s d k l m (λ g. elim (cases_eq d c) [
             | inl q ↦ absurd (n (places k place (sym g ∙ ap (λ (d : ℕ). (opening_of j.calls d).bridge) q ∙ e)))
             | inr f ↦ left_true (was d) (d == c) (ne_eqb d c f) (h g)
@@ -131,16 +131,16 @@ sent_settled r ds was j c v p o s right = λ d k l m h. by d k l m h (opening_of
         places a b q = cc
 
         here : (d : ℕ) → place < length (bridges ds) → joins d (bridge_at ds place) ≡ true → ((opening_of j.calls d).bridge ≡ Some place → or_this was c d ≡ true) →
-            noted_sent d (note_at (set j.bridges place (with_sent c v (note_at j.bridges place))) place) ≡ sent_by r (span_at r place) d
+            noted_sent d (bridge_note_at (set j.bridges place (with_sent c v (bridge_note_at j.bridges place))) place) ≡ sent_by r (span_numbered r place) d
         here d l m h =
             let count = p.count in
-            ap (noted_sent d) (get_or-set_same j.bridges place (with_sent c v (note_at j.bridges place)) no_note (omega arith))
+            ap (noted_sent d) (get_or-set_same j.bridges place (with_sent c v (bridge_note_at j.bridges place)) no_note (omega arith))
             ∙ elim (cases_eq d c) [
               | inl q ↦
-                  ap (λ (d : ℕ). noted_sent d (with_sent c v (note_at j.bridges place))) q ∙ sent_itself c v (note_at j.bridges place) ∙ right place e
-                  ∙ ap (sent_by r (span_at r place)) (sym q)
+                  ap (λ (d : ℕ). noted_sent d (with_sent c v (bridge_note_at j.bridges place))) q ∙ sent_itself c v (bridge_note_at j.bridges place) ∙ right place e
+                  ∙ ap (sent_by r (span_numbered r place)) (sym q)
               | inr n ↦
-                  sent_other c d v (note_at j.bridges place) (joins_noted ds j c place p ∙ latest.1) (joins_noted ds j d place p ∙ m) n
+                  sent_other c d v (bridge_note_at j.bridges place) (joins_noted ds j c place p ∙ latest.1) (joins_noted ds j d place p ∙ m) n
                   ∙ s d place l m (λ g. left_true (was d) (d == c) (ne_eqb d c n) (h g))
             ]
 

@@ -12,7 +12,7 @@ use Rattle.run_spec.specs.Run.{Run, whole_in}
 use Rattle.farm_run.specs.declared.stage.Stage.{Stage}
 use Rattle.farm_run.specs.Ending.{AreShut}
 use Rattle.farm_run.specs.Journal.{JournalMemory}
-use Rattle.farm_run.specs.Match.{AtClock, Follows}
+use Rattle.farm_run.specs.Match.{AtClock, FollowsRun}
 use Rattle.farm_run.specs.Noted.{Noted}
 use Rattle.farm_run.specs.Runs.{TellsFailed, FailedShort, is_listed}
 use Rattle.farm_run.specs.Stages.{IsStage, OpenedBefore, Reaches}
@@ -44,15 +44,15 @@ pub record OrdersDone (s : Stage) (b : State) (farm : FarmMemory) (j : JournalMe
   pub failed : farm.failed ≡ s.farm.failed
   pub knows : KnowsListed s.board s.farm.groups s.farm.failed → KnowsListed b farm.groups farm.failed
   pub over : (c : ℕ) → is_over s.board c ≡ true → is_over b c ≡ true
-  pub follows : (r : Run) → s.clock < r.periods → Follows r s.clock s.board s.farm.groups → Follows r s.clock b farm.groups
+  pub follows : (r : Run) → s.clock < r.periods → FollowsRun r s.clock s.board s.farm.groups → FollowsRun r s.clock b farm.groups
   pub told : b.told ≡ s.board.told
   pub openings : (n : ℕ) → s.clock < n → OpenedBefore n s.journal.calls → OpenedBefore n j.calls
-  pub noted : (r : Run) → s.clock < r.periods → Follows r s.clock s.board s.farm.groups → Noted r s.board.done s.clock s.journal s.farm.tallies → Noted r b.done s.clock j farm.tallies
+  pub noted : (r : Run) → s.clock < r.periods → FollowsRun r s.clock s.board s.farm.groups → Noted r s.board.done s.clock s.journal s.farm.tallies → Noted r b.done s.clock j farm.tallies
 
 pub orders_done : (s : Stage) (b : State) (farm : FarmMemory) (j : JournalMemory) → AtClock s.clock b farm.groups → AreShut b j.ends → length j.bridges ≤ length b.done → orders_of b ≡ orders_of s.board → farm.ended ≡ s.farm.ended → farm.failed ≡ s.farm.failed →
     (KnowsListed s.board s.farm.groups s.farm.failed → KnowsListed b farm.groups farm.failed) → ((c : ℕ) → is_over s.board c ≡ true → is_over b c ≡ true) →
-    ((r : Run) → s.clock < r.periods → Follows r s.clock s.board s.farm.groups → Follows r s.clock b farm.groups) → b.told ≡ s.board.told → ((n : ℕ) → s.clock < n → OpenedBefore n s.journal.calls → OpenedBefore n j.calls) →
-    ((r : Run) → s.clock < r.periods → Follows r s.clock s.board s.farm.groups → Noted r s.board.done s.clock s.journal s.farm.tallies → Noted r b.done s.clock j farm.tallies) → OrdersDone s b farm j
+    ((r : Run) → s.clock < r.periods → FollowsRun r s.clock s.board s.farm.groups → FollowsRun r s.clock b farm.groups) → b.told ≡ s.board.told → ((n : ℕ) → s.clock < n → OpenedBefore n s.journal.calls → OpenedBefore n j.calls) →
+    ((r : Run) → s.clock < r.periods → FollowsRun r s.clock s.board s.farm.groups → Noted r s.board.done s.clock s.journal s.farm.tallies → Noted r b.done s.clock j farm.tallies) → OrdersDone s b farm j
 orders_done s b farm j clock shut bridges kept ended failed knows over follows told openings noted = record {
   clock = clock;
   shut = shut;

@@ -14,7 +14,7 @@ use Rattle.round_lines.specs.Places.{PlaceMemory, fails_in}
 use Rattle.round_lines.specs.Rounds.{IsIncoming}
 use Rattle.round_lines.specs.Seats.{SeatMemory, Fills}
 use Rattle.run_spec.specs.Run.{Run}
-use Rattle.farm_run.specs.Standing.{Standing, GoesOn, IsToCome, Meets, Gave, never_given}
+use Rattle.farm_run.specs.Standing.{Standing, StandingGoesOn, IsToCome, Meets, GaveBlock, never_given}
 use Rattle.farm_run.proofs.Giving.{gave}
 use Rattle.farm_run.proofs.Meeting.{meets}
 use Rattle.farm_run.proofs.RoundTaken.{IsTaken}
@@ -27,8 +27,8 @@ still_told (Some zs) (Some ys) front xs c e = (ys, refl)
 
 -- one line
 given : (m c : ℕ) (s : Side) (k : ℕ) (line : List ℕ) (was now : LineState) (t : Taken) (block : List ℕ) (behind last : Standing) → IsIncoming s → Takes was now t block → length block ≡ m →
-    IsToCome was k line (never_given (last.listed c s) (last.lines c s)) → GoesOn behind last → behind.lines c s ≡ now → behind.listed c s ≡ t.failed → (t.count < m → behind.over c ≡ true) →
-    Gave m k line (never_given (last.listed c s) (last.lines c s)) (last.listed c s) now t block
+    IsToCome was k line (never_given (last.listed c s) (last.lines c s)) → StandingGoesOn behind last → behind.lines c s ≡ now → behind.listed c s ≡ t.failed → (t.count < m → behind.over c ≡ true) →
+    GaveBlock m k line (never_given (last.listed c s) (last.lines c s)) (last.listed c s) now t block
 given m c s k line was now t block behind last i h long told on here listed ends =
     let ys = still_told was.to_come now.to_come (take t.count block) _ h.given told in
     let met = meets m c s behind last t ys.0 i on (ap (λ (l : LineState). l.to_come) here ∙ ys.1) listed (omega (arith, h.bound, long)) (λ e. let l = h.short e in omega (arith, l, long)) ends in
@@ -44,7 +44,7 @@ pub record IsMet (r : Run) (ds : List Done) (t n c : ℕ) (now : Side → LineSt
 -- **What a round took of an open call's lines is what the run says, whether a line fails in it, later or never.**
 pub met : (r : Run) (ds : List Done) (t n c : ℕ) (before now : Side → LineState) (s x : SeatMemory) (behind last : Standing) →
     Fills before now s x → x.place.call ≡ c → x.place.periods ≡ n → length x.up ≡ 40 * n → length x.pcm ≡ 160 * n →
-    GoesOn behind last → (r.lines c).up_failed ≡ last.listed c Up → (r.lines c).pcm_failed ≡ last.listed c Pcm →
+    StandingGoesOn behind last → (r.lines c).up_failed ≡ last.listed c Up → (r.lines c).pcm_failed ≡ last.listed c Pcm →
     ((side : Side) → IsIncoming side → behind.listed c side ≡ fails_in x.place side) → (places.whole_in x.place < n → behind.over c ≡ true) → ((side : Side) → IsIncoming side → behind.lines c side ≡ now side) →
     IsToCome (before Up) (40 * (t - start_of ds c)) (r.lines c).up (never_given (last.listed c Up) (last.lines c Up)) →
     IsToCome (before Pcm) (160 * (t - start_of ds c)) (r.lines c).pcm (never_given (last.listed c Pcm) (last.lines c Pcm)) →

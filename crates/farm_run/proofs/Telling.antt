@@ -22,7 +22,7 @@ use Rattle.farm_run.specs.Outgoing.{sum_to}
 use Rattle.farm_run.specs.Runs.{TellsFailed, AreTold, IsRunOver, FailedShort, Leaves, Runs, is_listed}
 use Rattle.farm_run.specs.Saving.{SavedView, Saves}
 use Rattle.farm_run.specs.Stages.{OpenedBefore, SumsAt}
-use Rattle.farm_run.specs.Standing.{Standing, standing, GoesOn}
+use Rattle.farm_run.specs.Standing.{Standing, standing, StandingGoesOn}
 use Rattle.farm_run.specs.Clock.{IsAtClock, WrittenFrom}
 use Rattle.farm_run.proofs.Being.{there_is}
 use Rattle.farm_run.proofs.Clocks.{leaves_all}
@@ -69,13 +69,13 @@ module _ (os : List Order) (batch : ℕ) (first now : ℕ → Side → LineState
       h r r.periods (record { follows = here.follows; none_left = here.follows.so_far.ahead; clock = λ c o. refl; truly = knows.truly; noted = knows.noted }) run.same_periods (ap length run.same_orders ∙ sym number)
 
   -- **What is written by its end.**
-  pub wrote_end : (from : ℕ) → ((r : Run) (z : Standing) → IsRunOver os r.periods z.listed first z.lines r → u.clock ≤ r.periods → GoesOn (standing u.board u.farm.failed now) z → WrittenFrom r from u.clock (is_listed u.farm.failed) first now) →
+  pub wrote_end : (from : ℕ) → ((r : Run) (z : Standing) → IsRunOver os r.periods z.listed first z.lines r → u.clock ≤ r.periods → StandingGoesOn (standing u.board u.farm.failed now) z → WrittenFrom r from u.clock (is_listed u.farm.failed) first now) →
       (r : Run) → IsRunOver os u.clock (is_listed u.farm.failed) first now r → WrittenFrom r from r.periods (is_listed u.farm.failed) first now
   wrote_end from wrote r run = subst (λ (p : ℕ). WrittenFrom r from p (is_listed u.farm.failed) first now) (sym run.same_periods) (wrote r last (own r run) (least r run) (stays last))
 
   -- **The entries of its live calls are those of its mark.**
   pub marked_end : (live : (c : ℕ) → is_among u.farm.live c ≡ is_some (call_in u.farm.groups c)) → IsRising u.farm.live →
-      ((r : Run) (z : Standing) → IsRunOver os r.periods z.listed first z.lines r → u.clock ≤ r.periods → GoesOn (standing u.board u.farm.failed now) z → SumsAt r u.clock (sum_to u.outgoing)) →
+      ((r : Run) (z : Standing) → IsRunOver os r.periods z.listed first z.lines r → u.clock ≤ r.periods → StandingGoesOn (standing u.board u.farm.failed now) z → SumsAt r u.clock (sum_to u.outgoing)) →
       (r : Run) → IsRunOver os u.clock (is_listed u.farm.failed) first now r → map (entry_of u) u.farm.live ≡ marked_calls r
   marked_end live rising sums r run =
       entries_are u live rising g.stage r last first now (g.at r last (own r run) (least r run) (stays last)) (sym run.same_periods) (g.known r last (own r run) (least r run) (stays last)) (sums r last (own r run) (least r run) (stays last))
@@ -88,7 +88,7 @@ over_here os periods failed first now u e f r run =
 
 -- **A run that came to its last period leaves and reports what the run of the definition gives.**
 pub runs_told : {E : Type 0} (os : List Order) (pace : Pace) (first now : ℕ → Side → LineState) (u : Stage) (count : ℕ) (o : Result ReportView E) → GoneTo os pace.batch first now u → u.clock ≡ pace.periods →
-    ((r : Run) (z : Standing) → IsRunOver os r.periods z.listed first z.lines r → u.clock ≤ r.periods → GoesOn (standing u.board u.farm.failed now) z → WrittenFrom r 0 u.clock (is_listed u.farm.failed) first now) →
+    ((r : Run) (z : Standing) → IsRunOver os r.periods z.listed first z.lines r → u.clock ≤ r.periods → StandingGoesOn (standing u.board u.farm.failed now) z → WrittenFrom r 0 u.clock (is_listed u.farm.failed) first now) →
     IfOk o (λ report. report.failed ≡ u.farm.failed) → count ≡ length os →
     IfOk o (λ report. (r : Run) (t : ℕ) → IsAtEnd r t u.board u.farm.groups u.farm.tallies u.journal → r.periods ≡ pace.periods → length r.orders ≡ count → report ≡ report_of r report.failed) → IfOk o (λ report. Runs os pace first now report)
 runs_told os pace first now u count (Err x) g e wrote f number h = tt
@@ -109,8 +109,8 @@ runs_told os pace first now u count (Ok report) g e wrote f number h = record {
 
 -- **Its mark is that of the definition.**
 pub saves_told : (os : List Order) (pace : Pace) (first now : ℕ → Side → LineState) (u : Stage) (saved : SavedView) → GoneTo os pace.batch first now u → u.clock ≡ pace.periods →
-    ((r : Run) (z : Standing) → IsRunOver os r.periods z.listed first z.lines r → u.clock ≤ r.periods → GoesOn (standing u.board u.farm.failed now) z → WrittenFrom r 0 u.clock (is_listed u.farm.failed) first now) →
-    ((r : Run) (z : Standing) → IsRunOver os r.periods z.listed first z.lines r → u.clock ≤ r.periods → GoesOn (standing u.board u.farm.failed now) z → SumsAt r u.clock (sum_to u.outgoing)) →
+    ((r : Run) (z : Standing) → IsRunOver os r.periods z.listed first z.lines r → u.clock ≤ r.periods → StandingGoesOn (standing u.board u.farm.failed now) z → WrittenFrom r 0 u.clock (is_listed u.farm.failed) first now) →
+    ((r : Run) (z : Standing) → IsRunOver os r.periods z.listed first z.lines r → u.clock ≤ r.periods → StandingGoesOn (standing u.board u.farm.failed now) z → SumsAt r u.clock (sum_to u.outgoing)) →
     saved.failed ≡ u.farm.failed → saved.mark.period ≡ pace.periods → saved.mark.calls ≡ map (entry_of u) u.farm.live →
     ((c : ℕ) → is_among u.farm.live c ≡ is_some (call_in u.farm.groups c)) → IsRising u.farm.live → OpenedBefore pace.periods u.journal.calls → Saves os pace first now saved
 saves_told os pace first now u saved g e wrote sums f p calls live rising openings = record {

@@ -19,8 +19,8 @@ use Rattle.farm_rounds.specs.Histories.{tally_of}
 use Rattle.farm_run.specs.Going.{places_in, ends_within, is_told, told_after}
 use Rattle.farm_run.specs.Journal.{JournalMemory, with_ends}
 use Rattle.farm_run.specs.Ending.{AreApart}
-use Rattle.farm_run.specs.Match.{Follows}
-use Rattle.farm_run.specs.Runs.{IsWritten, IsCutOff, FailedIn}
+use Rattle.farm_run.specs.Match.{FollowsRun}
+use Rattle.farm_run.specs.Runs.{HasWritten, IsCutOff, FailedIn}
 use Rattle.farm_run.specs.Standing.{Standing, IsToCome, never_given}
 
 -- Of a call's incoming lines exactly the octets of its periods are read, as long as it goes on; and also afterwards, where
@@ -40,8 +40,8 @@ pub record LinesAt (r : Run) (t : ℕ) (last : Standing) (before now : ℕ → S
 -- What the outgoing lines of the run's calls have gained at the clock t: the octets of their periods before it, but of none
 -- before period `from` of the run; those that are listed as failed a proper front of them.
 pub record WrittenFrom (r : Run) (from t : ℕ) (listed : ℕ → Side → Bool) (before now : ℕ → Side → LineState) : Type 0 where
-  pub out : (c : ℕ) → IsOpened r c → IsWritten (listed c Out) (before c Out) (now c Out) (drop (160 * worked_to r from c) (out_line (who_in r c) (periods_to r c (worked_to r t c))))
-  pub down : (c : ℕ) → IsOpened r c → IsWritten (listed c Down) (before c Down) (now c Down) (drop (40 * worked_to r from c) (down_octets (who_in r c) (periods_to r c (worked_to r t c))))
+  pub out : (c : ℕ) → IsOpened r c → HasWritten (listed c Out) (before c Out) (now c Out) (drop (160 * worked_to r from c) (out_line (who_in r c) (periods_to r c (worked_to r t c))))
+  pub down : (c : ℕ) → IsOpened r c → HasWritten (listed c Down) (before c Down) (now c Down) (drop (40 * worked_to r from c) (down_octets (who_in r c) (periods_to r c (worked_to r t c))))
 
 -- no count of a line's faults is below what it was
 abbrev pub NeverFell : (ℕ → Side → LineState) → (ℕ → Side → LineState) → Type 0
@@ -49,7 +49,7 @@ NeverFell before now = (c : ℕ) (s : Side) → (before c s).faults ≤ (now c s
 
 -- board, farm and lines are those of the run at its clock
 pub record IsAtClock (r : Run) (t : ℕ) (b : State) (groups : List Group) (last : Standing) (before now : ℕ → Side → LineState) : Type 0 where
-  pub follows : Follows r t b groups
+  pub follows : FollowsRun r t b groups
   pub lines : LinesAt r t last before now
 
 -- What is kept in a round of n periods, from t on, of the calls that their lines end within it.

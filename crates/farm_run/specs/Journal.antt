@@ -70,8 +70,8 @@ abbrev pub with_ends : List CallEnd → JournalMemory → JournalMemory
 with_ends ends j = record j { ends = j.ends ++ ends }
 
 -- a bridge of two calls begins
-abbrev pub with_bridge : ℕ → ℕ → JournalMemory → JournalMemory
-with_bridge a b j = record j {
+abbrev pub with_bridge_noted : ℕ → ℕ → JournalMemory → JournalMemory
+with_bridge_noted a b j = record j {
   calls = bridged_at b (length j.bridges) (bridged_at a (length j.bridges) j.calls);
   bridges = j.bridges ++ record { a = a; b = b; sent_by_a = 0; sent_by_b = 0 } ∷ [];
 }
@@ -96,5 +96,5 @@ settled c sent j = record j { bridges = sent_at c sent (opening_of j.calls c).br
 abbrev pub noted_by : Act → ℕ → (ℕ → ℕ) → JournalMemory → JournalMemory
 noted_by (act.Opened c law) period sent j = with_opening c period j
 noted_by (act.Closed c p) period sent j = with_end (record { call = c; at = period; cause = Closed }) j
-noted_by (act.Bridged a b) period sent j = with_bridge a b (settled b (sent b) (settled a (sent a) j))
+noted_by (act.Bridged a b) period sent j = with_bridge_noted a b (settled b (sent b) (settled a (sent a) j))
 noted_by _ period sent j = j

@@ -51,7 +51,7 @@ past_if false law ts now = None
 abbrev pub histories_at : Run → List Done → ℕ → ℕ → Option CallHistory
 histories_at r ds t c = past_if (is_open (gone_at (whole_in r) t ds) ds c) (law_in r c) (periods_to r c (t - start_of ds c)) (settings_now r ds t c)
 
-pub record Follows (r : Run) (t : ℕ) (b : State) (groups : List Group) : Type 0 where
+pub record FollowsRun (r : Run) (t : ℕ) (b : State) (groups : List Group) : Type 0 where
   pub so_far : IsSoFar r t b.done b.left
   pub tells : TellsEnds (whole_in r) t b
   pub stands : GroupsStand (histories_at r b.done t) groups

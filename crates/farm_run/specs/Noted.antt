@@ -25,20 +25,20 @@ use Rattle.farm_run.specs.declared.notes.BridgeNote.{BridgeNote}
 use Rattle.farm_run.specs.Journal.{JournalMemory, opening_of, no_note}
 use Rattle.farm_run.specs.Going.{is_told}
 use Rattle.farm_run.specs.Ending.{AreApart}
-use Rattle.farm_run.specs.Match.{Follows}
+use Rattle.farm_run.specs.Match.{FollowsRun}
 
 -- ---- the run's facts, by place and number
 
 -- the end of a call in the whole run
-abbrev pub end_in : Run → ℕ → CallEnd
-end_in r c = end_of (given_in r) r.periods (done_in r) c (start_of (done_in r) c)
+abbrev pub call_end_in : Run → ℕ → CallEnd
+call_end_in r c = end_of (given_in r) r.periods (done_in r) c (start_of (done_in r) c)
 
 abbrev pub no_span : Span
 no_span = record { a = 0; b = 0; from = 0; to = 0 }
 
 -- the span of the bridge at this place
-abbrev pub span_at : Run → ℕ → Span
-span_at r k = get_or (spans_in r) k no_span
+abbrev pub span_numbered : Run → ℕ → Span
+span_numbered r k = get_or (spans_in r) k no_span
 
 abbrev pub bridge_at : List Done → ℕ → Bridge
 bridge_at ds k = get_or (bridges ds) k no_bridge
@@ -48,8 +48,8 @@ is_opened ds c = is_some (opened_at c ds)
 
 -- ---- what is noted of it
 
-abbrev pub note_at : List BridgeNote → ℕ → BridgeNote
-note_at xs k = get_or xs k no_note
+abbrev pub bridge_note_at : List BridgeNote → ℕ → BridgeNote
+bridge_note_at xs k = get_or xs k no_note
 
 -- what is noted as sent by one of a bridge's calls
 abbrev pub noted_sent : ℕ → BridgeNote → ℕ
@@ -57,7 +57,7 @@ noted_sent c x = if c == x.a then x.sent_by_a else x.sent_by_b
 
 -- Each end is the run's, no call has two, and these calls have one.
 pub record EndsNoted (r : Run) (ended : ℕ → Bool) (ends : List CallEnd) : Type 0 where
-  pub each : AllByRecursion (λ e. e ≡ end_in r e.call) ends
+  pub each : AllByRecursion (λ e. e ≡ call_end_in r e.call) ends
   pub apart : AreApart ends
   pub told : (c : ℕ) → is_told c ends ≡ ended c
 
@@ -69,18 +69,18 @@ pub record PlacesNoted (ds : List Done) (j : JournalMemory) : Type 0 where
   pub from : (c : ℕ) → is_opened ds c ≡ true → (opening_of j.calls c).from ≡ start_of ds c
   pub latest : (c : ℕ) → is_opened ds c ≡ true → IsLatest (bridges ds) c (opening_of j.calls c).bridge
   pub count : length j.bridges ≡ length (bridges ds)
-  pub calls : (k : ℕ) → ((note_at j.bridges k).a ≡ (bridge_at ds k).a) × ((note_at j.bridges k).b ≡ (bridge_at ds k).b)
+  pub calls : (k : ℕ) → ((bridge_note_at j.bridges k).a ≡ (bridge_at ds k).a) × ((bridge_note_at j.bridges k).b ≡ (bridge_at ds k).b)
   pub apart : (k : ℕ) → k < length (bridges ds) → (bridge_at ds k).a ≢ (bridge_at ds k).b
 
 -- What each call has sent in each of its bridges is noted; in its latest one only where it is settled.
 abbrev pub SentNoted : Run → List Done → (ℕ → Bool) → JournalMemory → Type 0
 SentNoted r ds settled j = (c k : ℕ) → k < length (bridges ds) → joins c (bridge_at ds k) ≡ true → ((opening_of j.calls c).bridge ≡ Some k → settled c ≡ true) →
-    noted_sent c (note_at j.bridges k) ≡ sent_by r (span_at r k) c
+    noted_sent c (bridge_note_at j.bridges k) ≡ sent_by r (span_numbered r k) c
 
 -- What is kept of a call is that of all its periods, and of its latest bridge.
 pub record IsKept (r : Run) (calls : List Opening) (c : ℕ) (kept : Tally) : Type 0 where
   pub counts : kept.counts ≡ call_counts (periods_in r c)
-  pub sent : (k : ℕ) → (opening_of calls c).bridge ≡ Some k → kept.sent ≡ sent_by r (span_at r k) c
+  pub sent : (k : ℕ) → (opening_of calls c).bridge ≡ Some k → kept.sent ≡ sent_by r (span_numbered r k) c
 
 -- What a journal notes of a run in which these calls have ended, and what is kept of them. What a call has sent in its
 -- latest bridge isn't settled yet.
@@ -110,7 +110,7 @@ pub record IsKnown (r : Run) (t : ℕ) (b : State) (tallies : List Tally) (j : J
 -- A run that has come to its end at the clock t: no order below that end is left, and where a call is open, the clock is
 -- there. What the board, the farm and the journal know is right.
 pub record IsAtEnd (r : Run) (t : ℕ) (b : State) (groups : List Group) (tallies : List Tally) (j : JournalMemory) : Type 0 where
-  pub follows : Follows r t b groups
+  pub follows : FollowsRun r t b groups
   pub none_left : IfSome (first_stamp b.left) (λ s. r.periods ≤ s)
   pub clock : (c : ℕ) → open_now b c ≡ true → t ≡ r.periods
   pub truly : TellsTruly r b

@@ -4,7 +4,7 @@ use Rattle.trau_io.specs.declared.line.Side.{Side}
 use Rattle.trau_io.specs.declared.line.Side.TheVariants.{Down, Out}
 use Rattle.trau_io.specs.Lines.{LineState}
 use Rattle.round_lines.specs.declared.transfer.Outlet.{Outlet}
-use Rattle.round_lines.specs.Transfer.{Gives}
+use Rattle.round_lines.specs.Transfer.{LineGives}
 use Rattle.round_lines.specs.Places.{TellsFaults}
 use Rattle.round_lines.specs.Seats.{SeatMemory, Drains, down_given, out_given}
 use Rattle.round_lines.specs.Rounds.{Each, KeepsButEach, IsOutgoing}
@@ -39,14 +39,14 @@ pub record IsSameWay (before now : Outgoing) : Type 0 where
   pub summed : is_summed now ≡ is_summed before
 
 -- an outgoing line was given the octets, or it and how it stands in its seat are as they were
-abbrev pub Moves : LineState → LineState → Outlet → Outlet → List ℕ → Type 0
-Moves before now was stands octets = Gives before now was stands octets ⊎ ((now ≡ before) × (stands ≡ was))
+abbrev pub PassesOn : LineState → LineState → Outlet → Outlet → List ℕ → Type 0
+PassesOn before now was stands octets = LineGives before now was stands octets ⊎ ((now ≡ before) × (stands ≡ was))
 
 -- So it is for the outgoing lines of a call; of its seat only how they stand changed. If the seat told which counts had risen since
 -- `first`, it still does.
 pub record Settles (before now : Side → LineState) (s t : SeatMemory) : Type 0 where
-  pub down : Moves (before Down) (now Down) s.place.down t.place.down (down_given s)
-  pub out : Moves (before Out) (now Out) s.place.out t.place.out (out_given s)
+  pub down : PassesOn (before Down) (now Down) s.place.down t.place.down (down_given s)
+  pub out : PassesOn (before Out) (now Out) s.place.out t.place.out (out_given s)
   pub kept : t ≡ record s { place = record s.place { down = t.place.down; out = t.place.out } }
   pub faults : (first : Side → LineState) → TellsFaults first before s.place → TellsFaults first now t.place
 

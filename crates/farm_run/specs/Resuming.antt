@@ -19,14 +19,14 @@ use Rattle.run_spec.specs.Mark.{marked_calls}
 use Rattle.farm_run.specs.declared.pace.Pace.{Pace}
 use Rattle.farm_run.specs.declared.resuming.Resumed.{Resumed}
 use Rattle.farm_run.specs.declared.resuming.Resumed.TheVariants.{Ran, Differs}
-use Rattle.farm_run.specs.Runs.{TellsFailed, AreFailures, KeepsSides, ReadsOn, AreTold, IsRunOver, IsCutOff, IsReadTo, IsWritten, FailedShort, is_listed}
+use Rattle.farm_run.specs.Runs.{TellsFailed, AreFailures, KeepsSides, ReadsOn, AreTold, IsRunOver, IsCutOff, IsReadTo, HasWritten, FailedShort, is_listed}
 use Rattle.farm_run.specs.Fronts.{HasFront}
 
 -- What a run leaves on the lines where the outgoing octets of the periods before `from` are held back.
 pub record LeavesFrom (r : Run) (from : ℕ) (fails : ℕ → Side → Bool) (before now : ℕ → Side → LineState) : Type 0 where
   -- the outgoing lines of each call that it opened have what the run gives them from there on
-  pub out : (c : ℕ) → IsOpened r c → IsWritten (fails c Out) (before c Out) (now c Out) (drop (160 * worked_to r from c) (out_of_call r c))
-  pub down : (c : ℕ) → IsOpened r c → IsWritten (fails c Down) (before c Down) (now c Down) (drop (40 * worked_to r from c) (down_of_call r c))
+  pub out : (c : ℕ) → IsOpened r c → HasWritten (fails c Out) (before c Out) (now c Out) (drop (160 * worked_to r from c) (out_of_call r c))
+  pub down : (c : ℕ) → IsOpened r c → HasWritten (fails c Down) (before c Down) (now c Down) (drop (40 * worked_to r from c) (down_of_call r c))
   -- of the incoming lines of a call that they didn't end exactly the octets of its periods were read
   pub up_read : (c : ℕ) → IsOpened r c → fails c Up ≡ false → IsCutOff (cause_in r c) → IsReadTo (now c Up) (40 * length (periods_in r c)) (r.lines c).up
   pub pcm_read : (c : ℕ) → IsOpened r c → fails c Pcm ≡ false → IsCutOff (cause_in r c) → IsReadTo (now c Pcm) (160 * length (periods_in r c)) (r.lines c).pcm

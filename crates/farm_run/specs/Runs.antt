@@ -91,15 +91,15 @@ abbrev pub IsReadTo : LineState → ℕ → List ℕ → Type 0
 IsReadTo now n octets = now.to_come ≡ Some (drop n octets)
 
 -- An outgoing line has gained all these octets, or, where it failed, a proper front of them.
-abbrev pub IsWritten : Bool → LineState → LineState → List ℕ → Type 0
-IsWritten false before now octets = Appends before.written now.written octets
-IsWritten true before now octets = (n : ℕ) × (n < length octets) × Appends before.written now.written (take n octets)
+abbrev pub HasWritten : Bool → LineState → LineState → List ℕ → Type 0
+HasWritten false before now octets = Appends before.written now.written octets
+HasWritten true before now octets = (n : ℕ) × (n < length octets) × Appends before.written now.written (take n octets)
 
 -- What a run leaves on the lines.
 pub record Leaves (r : Run) (fails : ℕ → Side → Bool) (before now : ℕ → Side → LineState) : Type 0 where
   -- the outgoing lines of each call that it opened have what the run gives them
-  pub out : (c : ℕ) → IsOpened r c → IsWritten (fails c Out) (before c Out) (now c Out) (out_of_call r c)
-  pub down : (c : ℕ) → IsOpened r c → IsWritten (fails c Down) (before c Down) (now c Down) (down_of_call r c)
+  pub out : (c : ℕ) → IsOpened r c → HasWritten (fails c Out) (before c Out) (now c Out) (out_of_call r c)
+  pub down : (c : ℕ) → IsOpened r c → HasWritten (fails c Down) (before c Down) (now c Down) (down_of_call r c)
   -- of the incoming lines of a call that they didn't end exactly the octets of its periods were read
   pub up_read : (c : ℕ) → IsOpened r c → fails c Up ≡ false → IsCutOff (cause_in r c) → IsReadTo (now c Up) (40 * length (periods_in r c)) (r.lines c).up
   pub pcm_read : (c : ℕ) → IsOpened r c → fails c Pcm ≡ false → IsCutOff (cause_in r c) → IsReadTo (now c Pcm) (160 * length (periods_in r c)) (r.lines c).pcm

@@ -37,7 +37,7 @@ abbrev pub standing : State → List Line → (ℕ → Side → LineState) → S
 standing b failed now = record { over = is_over b; listed = is_listed failed; lines = now }
 
 -- From one clock of a run to a later one.
-pub record GoesOn (before now : Standing) : Type 0 where
+pub record StandingGoesOn (before now : Standing) : Type 0 where
   -- a call that has ended stays so
   pub over : (c : ℕ) → before.over c ≡ true → now.over c ≡ true
   -- incoming lines are only read, from the front
@@ -77,7 +77,7 @@ pub record Meets (m : ℕ) (rest : List ℕ) (failing : Bool) (now : LineState) 
   pub ahead : t.failed ≡ false → failing ≡ true → (t.count ≡ m) × ((x : List ℕ) × (now.to_come ≡ Some (x ++ rest)))
 
 -- What a round's read of at most m octets took of a line, of which the run's first k octets were read before.
-pub record Gave (m k : ℕ) (line rest : List ℕ) (failing : Bool) (now : LineState) (t : Taken) (block : List ℕ) : Type 0 where
+pub record GaveBlock (m k : ℕ) (line rest : List ℕ) (failing : Bool) (now : LineState) (t : Taken) (block : List ℕ) : Type 0 where
   -- it took the run's next octets, as many as m and the line have
   pub count : t.count ≡ min m (length line - k)
   pub octets : take t.count block ≡ take t.count (drop k line)
@@ -94,7 +94,7 @@ pub record HasFlags (r : Run) (last : Standing) : Type 0 where
 
 -- How a round of n periods agrees with the run: `behind` is how the run stands behind the round, `last` at its end.
 pub record MeetsRun (r : Run) (n : ℕ) (seats : List SeatMemory) (behind last : Standing) : Type 0 where
-  pub on : GoesOn behind last
+  pub on : StandingGoesOn behind last
   pub flags : HasFlags r last
   -- of the round's calls exactly the incoming lines that failed in it are listed behind it
   pub listed : (k : ℕ) (s : Side) → k < length seats → IsIncoming s → behind.listed (call_at seats k) s ≡ fails_in (seat_at seats k).place s

@@ -3,7 +3,7 @@
 ghost use Rattle.std.specs.Prelude.{◌≡◌, ◌<◌, false, length, IfOk};
 ghost use Rattle.call_number.specs.CallNumber.{IsCallNumber};
 ghost use Rattle.farm_run.specs.Going.{is_told};
-ghost use Rattle.farm_run.specs.Journal.{HaveNumbers, new_journal, settled, opening_of, with_opening, with_end, with_bridge};
+ghost use Rattle.farm_run.specs.Journal.{HaveNumbers, new_journal, settled, opening_of, with_opening, with_end, with_bridge_noted};
 
 use crate::notes::{BridgeNote, Opening};
 use call_number::NUMBERS;
@@ -80,7 +80,7 @@ impl Journal {
         requires a { a < NUMBERS }
         requires b { b < NUMBERS }
         requires room { length self.old.bridges < 65536 }
-        ensures { self.new ≡ with_bridge a b self.old }
+        ensures { self.new ≡ with_bridge_noted a b self.old }
     {
         let place = self.bridges.len();
         self.bridges.push_reserved(BridgeNote {

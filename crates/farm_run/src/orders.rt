@@ -4,7 +4,7 @@ ghost use Rattle.std.specs.Prelude.{◌≡◌, ◌<◌, ◌≤◌, ◌+◌, ℕ,
 ghost use Rattle.switchboard.specs.State.{first_stamp, orders_of};
 ghost use Rattle.farm_rounds.specs.Histories.{CallHistory, GroupsStand};
 ghost use Rattle.run_spec.specs.Run.{Run};
-ghost use Rattle.farm_run.specs.Match.{AreNumbers, AtClock, Follows};
+ghost use Rattle.farm_run.specs.Match.{AreNumbers, AtClock, FollowsRun};
 ghost use Rattle.farm_run.specs.Ending.{AreShut};
 ghost use Rattle.farm_run.specs.Journal.{ClosesOnce, ends_noted, noted_by};
 ghost use Rattle.farm_run.specs.Facts.{kept_in};
@@ -68,12 +68,12 @@ fn execute(
     ensures failed { IfOk result (λ more. farm.new.failed ≡ farm.old.failed) }
     ensures knows { KnowsListed board.old farm.old.groups farm.old.failed → IfOk result (λ more. KnowsListed board.new farm.new.groups farm.new.failed) }
     ensures over { (c : ℕ) → is_over board.old c ≡ true → is_over board.new c ≡ true }
-    ensures follows { (r : Run) → clock < r.periods → Follows r clock board.old farm.old.groups → IfOk result (λ more. Follows r clock board.new farm.new.groups) }
+    ensures follows { (r : Run) → clock < r.periods → FollowsRun r clock board.old farm.old.groups → IfOk result (λ more. FollowsRun r clock board.new farm.new.groups) }
     ensures told { board.new.told ≡ board.old.told }
     ensures openings { (n : ℕ) → clock < n → OpenedBefore n journal.old.calls → OpenedBefore n journal.new.calls }
 
     // What the journal and the tallies know stays right.
-    ensures noted { (r : Run) → clock < r.periods → Follows r clock board.old farm.old.groups → Noted r board.old.done clock journal.old farm.old.tallies →
+    ensures noted { (r : Run) → clock < r.periods → FollowsRun r clock board.old farm.old.groups → Noted r board.old.done clock journal.old farm.old.tallies →
         IfOk result (λ more. Noted r board.new.done clock journal.new farm.new.tallies) }
 {
     let Some(reply) = board.turn(clock) else {
@@ -107,12 +107,12 @@ pub(crate) fn execute_orders(
     ensures failed { IfOk result (λ u. farm.new.failed ≡ farm.old.failed) }
     ensures knows { KnowsListed board.old farm.old.groups farm.old.failed → IfOk result (λ u. KnowsListed board.new farm.new.groups farm.new.failed) }
     ensures over { (c : ℕ) → is_over board.old c ≡ true → is_over board.new c ≡ true }
-    ensures follows { (r : Run) → clock < r.periods → Follows r clock board.old farm.old.groups → IfOk result (λ u. Follows r clock board.new farm.new.groups) }
+    ensures follows { (r : Run) → clock < r.periods → FollowsRun r clock board.old farm.old.groups → IfOk result (λ u. FollowsRun r clock board.new farm.new.groups) }
     ensures told { board.new.told ≡ board.old.told }
     ensures openings { (n : ℕ) → clock < n → OpenedBefore n journal.old.calls → OpenedBefore n journal.new.calls }
 
     // What the journal and the tallies know stays right.
-    ensures noted { (r : Run) → clock < r.periods → Follows r clock board.old farm.old.groups → Noted r board.old.done clock journal.old farm.old.tallies →
+    ensures noted { (r : Run) → clock < r.periods → FollowsRun r clock board.old farm.old.groups → Noted r board.old.done clock journal.old farm.old.tallies →
         IfOk result (λ u. Noted r board.new.done clock journal.new farm.new.tallies) }
 {
     while execute(alloc, board, farm, journal, clock)? {}

@@ -1,7 +1,7 @@
 //! A run at one of its clocks.
 
 ghost use Rattle.std.specs.Prelude.{IfOk};
-ghost use Rattle.farm_run.specs.Stages.{IsFirst};
+ghost use Rattle.farm_run.specs.Stages.{IsFirstStage};
 
 use crate::journal::Journal;
 use crate::outgoing::Outgoing;
@@ -28,7 +28,7 @@ impl Stage {
         orders: Orders,
         outgoing: Outgoing,
     ) -> Result<Stage, AllocError>
-        ensures { IfOk result (λ stage. IsFirst orders outgoing stage) }
+        ensures { IfOk result (λ stage. IsFirstStage orders outgoing stage) }
     {
         Ok(Stage {
             board: Board::new(alloc, orders)?,

@@ -24,7 +24,7 @@ use Rattle.fr_encoder.specs.Memory.{EncoderMemory}
 use Rattle.farm_tools.specs.declared.end.Tool.{Tool}
 use Rattle.farm_tools.specs.declared.end.Tool.TheVariants.{Relay, Decode, Encode}
 use Rattle.farm_tools.specs.Blocks.{IsGoodBlock}
-use Rattle.farm_tools.specs.Made.{block_fields, block_samples, coded_frame, frame_of, in_side, made, out_side}
+use Rattle.farm_tools.specs.Made.{relayed_fields, block_samples, frame_of_encoded, relayed_frame, in_side, made, out_side}
 use Rattle.farm_tools.specs.declared.work.Work.{Work}
 use Rattle.farm_tools.specs.declared.work.Work.TheVariants as work
 use Rattle.farm_tools.specs.Work.{Makes}
@@ -45,12 +45,12 @@ one_frame : {X : Type 0} (f : X → List ℕ) (xs : List X) (x : X) → flat_map
 one_frame f xs x = flat_map-append f xs (x ∷ []) ∙ ap (λ l. flat_map f xs ++ l) (append-nil (f x))
 
 -- the downlink frame of a good block's data bits
-frame_of-data : (block d : List ℕ) → d ≡ data_of (bits_of block) → octets_of (down_bits (Speech d true)) ≡ frame_of block
-unfolding frame_of
+frame_of-data : (block d : List ℕ) → d ≡ data_of (bits_of block) → octets_of (down_bits (Speech d true)) ≡ relayed_frame block
+unfolding relayed_frame
 frame_of-data block d is = ap (λ bits. octets_of (down_bits (Speech bits true))) is
 
-block_fields-data : (block d : List ℕ) → d ≡ data_of (bits_of block) → fields_in d ≡ block_fields block
-unfolding block_fields
+block_fields-data : (block d : List ℕ) → d ≡ data_of (bits_of block) → fields_in d ≡ relayed_fields block
+unfolding relayed_fields
 block_fields-data block d is = ap fields_in is
 
 -- what `relay` makes of one more block
@@ -63,7 +63,7 @@ relay_makes w block d octets n is good carried count e =
       bound = omega arith;
       taken = good;
       one_more = λ blocks stands. tt;
-      made_more = λ blocks stands. one_frame frame_of blocks block ∙ ap (λ l. made Relay blocks ++ l) (sym (e ∙ frame_of-data block d carried));
+      made_more = λ blocks stands. one_frame relayed_frame blocks block ∙ ap (λ l. made Relay blocks ++ l) (sym (e ∙ frame_of-data block d carried));
     }))
 
 module _ (before after : DecoderMemory) (block d octets : List ℕ) (good : IsGoodBlock block) (carried : d ≡ data_of (bits_of block))
@@ -71,22 +71,22 @@ module _ (before after : DecoderMemory) (block d octets : List ℕ) (good : IsGo
     (history : (past : List Fields) → decoder.Stands past before →
     decoder.Stands (fields_in d ∷ past) after × (octets ≡ map (octet_of alaw) (samples_of (fields_in d) past))) where
   -- a decoder makes the A-law of one more frame's samples
-  decode_more : (blocks : List (List ℕ)) → decoder.Stands (reverse (map block_fields blocks)) before →
+  decode_more : (blocks : List (List ℕ)) → decoder.Stands (reverse (map relayed_fields blocks)) before →
       made Decode (blocks ++ block ∷ []) ≡ made Decode blocks ++ octets
   unfolding all_samples
   decode_more blocks stands =
-      let past = reverse (map block_fields blocks) in
-      ap (λ l. map (octet_of alaw) (all_samples l)) (reversed_more block_fields blocks block)
-      ∙ map-append (octet_of alaw) (all_samples past) (samples_of (block_fields block) past)
+      let past = reverse (map relayed_fields blocks) in
+      ap (λ l. map (octet_of alaw) (all_samples l)) (reversed_more relayed_fields blocks block)
+      ∙ map-append (octet_of alaw) (all_samples past) (samples_of (relayed_fields block) past)
       ∙ ap (λ l. made Decode blocks ++ l)
       (ap (λ f. map (octet_of alaw) (samples_of f past)) (sym (block_fields-data block d carried)) ∙ sym (history past stands).1)
 
   -- and stands for one more
-  decoder_more : (blocks : List (List ℕ)) → decoder.Stands (reverse (map block_fields blocks)) before →
-      decoder.Stands (reverse (map block_fields (blocks ++ block ∷ []))) after
+  decoder_more : (blocks : List (List ℕ)) → decoder.Stands (reverse (map relayed_fields blocks)) before →
+      decoder.Stands (reverse (map relayed_fields (blocks ++ block ∷ []))) after
   decoder_more blocks stands =
-      let past = reverse (map block_fields blocks) in
-      subst (λ l. decoder.Stands l after) (ap (λ f. f ∷ past) (block_fields-data block d carried) ∙ sym (reversed_more block_fields blocks block))
+      let past = reverse (map relayed_fields blocks) in
+      subst (λ l. decoder.Stands l after) (ap (λ f. f ∷ past) (block_fields-data block d carried) ∙ sym (reversed_more relayed_fields blocks block))
       (history past stands).0
 
   -- so `decode` makes what it has to of one more block
@@ -113,21 +113,21 @@ expanded-block period block same = ap (map (λ octet. middle (alaw octet))) same
 
 -- the downlink frame of an encoded frame, from its bits
 pub coded_frame-bits : (p : Params) (t : Trace) (peak : ℤ) (d : List ℕ) → d ≡ bits260_of p →
-    octets_of (down_bits (Speech d true)) ≡ coded_frame (encoded_of p t peak)
-unfolding coded_frame bits260_of
+    octets_of (down_bits (Speech d true)) ≡ frame_of_encoded (encoded_of p t peak)
+unfolding frame_of_encoded bits260_of
 coded_frame-bits p t peak d e = ap (λ bits. octets_of (down_bits (Speech bits true))) e
 
 module _ (before after : EncoderMemory) (block octets : List ℕ) (long : length block ≡ 160)
     (history : (past : List (List ℤ)) → encoder.Stands past before →
-    encoder.Stands (block_samples block ∷ past) after × (take 40 octets ≡ coded_frame (encoding_of (block_samples block) past))) where
+    encoder.Stands (block_samples block ∷ past) after × (take 40 octets ≡ frame_of_encoded (encoding_of (block_samples block) past))) where
   -- an encoder makes one more downlink frame
   encode_more : (blocks : List (List ℕ)) → encoder.Stands (reverse (map block_samples blocks)) before →
       made Encode (blocks ++ block ∷ []) ≡ made Encode blocks ++ take 40 octets
   unfolding all_encodings
   encode_more blocks stands =
       let past = reverse (map block_samples blocks) in
-      ap (λ l. flat_map coded_frame (all_encodings l)) (reversed_more block_samples blocks block)
-      ∙ one_frame coded_frame (all_encodings past) (encoding_of (block_samples block) past)
+      ap (λ l. flat_map frame_of_encoded (all_encodings l)) (reversed_more block_samples blocks block)
+      ∙ one_frame frame_of_encoded (all_encodings past) (encoding_of (block_samples block) past)
       ∙ ap (λ l. made Encode blocks ++ l) (sym (history past stands).1)
 
   -- and stands for one more

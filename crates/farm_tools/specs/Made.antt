@@ -17,27 +17,27 @@ use Rattle.farm_tools.specs.declared.end.Tool.{Tool}
 use Rattle.farm_tools.specs.declared.end.Tool.TheVariants.{Relay, Decode, Encode}
 
 -- the downlink frame of an uplink block: the same data bits, with SP 1
-unfoldable pub frame_of : List ℕ → List ℕ
-frame_of block = octets_of (relayed_bits (bits_of block))
+unfoldable pub relayed_frame : List ℕ → List ℕ
+relayed_frame block = octets_of (relayed_bits (bits_of block))
 
 -- the fields of the parameters that an uplink block's data bits carry
-unfoldable pub block_fields : List ℕ → Fields
-block_fields block = fields_in (data_of (bits_of block))
+unfoldable pub relayed_fields : List ℕ → Fields
+relayed_fields block = fields_in (data_of (bits_of block))
 
 -- the samples that the A-law octets of a block stand for
 unfoldable pub block_samples : List ℕ → List ℤ
 block_samples block = map (λ octet. middle (alaw octet)) block
 
 -- the downlink frame of an encoded frame: its 260 bits, with SP 1
-unfoldable pub coded_frame : Encoded → List ℕ
-coded_frame e = octets_of (down_bits (Speech (bits260 e.fields) true))
+unfoldable pub frame_of_encoded : Encoded → List ℕ
+frame_of_encoded e = octets_of (down_bits (Speech (bits260 e.fields) true))
 
 -- The octets that a tool makes of all blocks: their downlink frames, the A-law of the decoded list, or the downlink
 -- frames of the encoded list.
 abbrev pub made : Tool → List (List ℕ) → List ℕ
-made Relay blocks = flat_map frame_of blocks
-made Decode blocks = map (octet_of alaw) (decoded (map block_fields blocks))
-made Encode blocks = flat_map coded_frame (encoded (map block_samples blocks))
+made Relay blocks = flat_map relayed_frame blocks
+made Decode blocks = map (octet_of alaw) (decoded (map relayed_fields blocks))
+made Encode blocks = flat_map frame_of_encoded (encoded (map block_samples blocks))
 
 -- the line that a tool reads
 abbrev pub in_side : Tool → Side

@@ -7,7 +7,7 @@ use Rattle.farm_tools.specs.declared.end.Tool.TheVariants as tool
 use Rattle.farm_tools.specs.declared.work.Work.{Work}
 use Rattle.farm_tools.specs.declared.work.Work.TheVariants.{Relay, Decode, Encode}
 use Rattle.farm_tools.specs.Blocks.{IsTaken}
-use Rattle.farm_tools.specs.Made.{block_fields, block_samples, made}
+use Rattle.farm_tools.specs.Made.{relayed_fields, block_samples, made}
 
 abbrev pub tool_of : Work → Tool
 tool_of Relay = tool.Relay
@@ -17,7 +17,7 @@ tool_of (Encode e) = tool.Encode
 -- the work after these blocks
 abbrev pub Stands : Work → List (List ℕ) → Type 0
 Stands Relay blocks = Unit {0}
-Stands (Decode d) blocks = decoder.Stands (reverse (map block_fields blocks)) d
+Stands (Decode d) blocks = decoder.Stands (reverse (map relayed_fields blocks)) d
 Stands (Encode e) blocks = encoder.Stands (reverse (map block_samples blocks)) e
 
 -- what is made of one more block that is taken: so many octets at the front of `octets`

@@ -11,7 +11,7 @@ ghost use Rattle.fr_decoder.specs.Stands.{Stands as DecoderStands};
 ghost use Rattle.fr_encoder.specs.Encoded.{encoding_of};
 ghost use Rattle.fr_encoder.specs.Stands.{Stands as EncoderStands};
 ghost use Rattle.farm_tools.specs.Blocks.{block_length, IsRefused};
-ghost use Rattle.farm_tools.specs.Made.{block_samples, coded_frame, in_side, out_side};
+ghost use Rattle.farm_tools.specs.Made.{block_samples, frame_of_encoded, in_side, out_side};
 
 use crate::end::Tool;
 use crate::uplink::good_data;
@@ -103,7 +103,7 @@ fn encoded_octets(encoder: &mut Encoder, block: &[u8], octets: &mut [u8; 160]) -
     requires { length block.now ≡ 160 }
     ensures length { result ≡ 40 }
     ensures history { (past : List (List ℤ)) → EncoderStands past encoder.old →
-        EncoderStands (block_samples block.now ∷ past) encoder.new × (take 40 octets.new ≡ coded_frame (encoding_of (block_samples block.now) past)) }
+        EncoderStands (block_samples block.now ∷ past) encoder.new × (take 40 octets.new ≡ frame_of_encoded (encoding_of (block_samples block.now) past)) }
 {
     let mut period = [0; 160];
     period.copy_from_slice(block);

@@ -21,7 +21,7 @@ use Rattle.run_spec.specs.Facts.{span_line}
 use Rattle.run_calls_spec.specs.Whole.{whole_call}
 use Rattle.farm_report.specs.View.{ReportView}
 use Rattle.farm_run.specs.declared.pace.Pace.{Pace}
-use Rattle.farm_run.specs.Runs.{IsWritten, Leaves, Runs, is_listed}
+use Rattle.farm_run.specs.Runs.{HasWritten, Leaves, Runs, is_listed}
 use Rattle.farm_run.specs.Resuming.{LeavesFrom, ResumesRun}
 use Rattle.farm_run.specs.Saving.{SavedView, Saves}
 use Rattle.command_words.specs.declared.asked.Settings.{Settings}
@@ -40,8 +40,8 @@ pub headline_of : (r : Run) (fails : ℕ → Side → Bool) (before now : ℕ �
     ((c : ℕ) → IsOpened r c → down_of_call r c ≡ octets_of (down (whole_call r c))) → HandsOver r → GoesOut r → Leaves r fails before now →
     Headline r fails before now
 headline_of r fails before now outs downs hands goes leaves = record {
-  out_line = λ c opened. subst (λ (bs : List ℕ). IsWritten (fails c Out) (before c Out) (now c Out) bs) (outs c opened) (leaves.out c opened);
-  down_line = λ c opened. subst (λ (bs : List ℕ). IsWritten (fails c Down) (before c Down) (now c Down) bs) (downs c opened) (leaves.down c opened);
+  out_line = λ c opened. subst (λ (bs : List ℕ). HasWritten (fails c Out) (before c Out) (now c Out) bs) (outs c opened) (leaves.out c opened);
+  down_line = λ c opened. subst (λ (bs : List ℕ). HasWritten (fails c Down) (before c Down) (now c Down) bs) (downs c opened) (leaves.down c opened);
   hands_over = hands;
   goes_out = goes;
 }
@@ -56,9 +56,9 @@ pub later_headline_of : (r : Run) (from : ℕ) (fails : ℕ → Side → Bool) (
     ((c : ℕ) → IsOpened r c → down_of_call r c ≡ octets_of (down (whole_call r c))) → HandsOver r → GoesOut r → LeavesFrom r from fails before now →
     HeadlineFrom r from fails before now
 later_headline_of r from fails before now outs downs hands goes leaves = record {
-  out_line = λ c opened. subst (λ (bs : List ℕ). IsWritten (fails c Out) (before c Out) (now c Out) (drop (160 * worked_to r from c) bs)) (outs c opened)
+  out_line = λ c opened. subst (λ (bs : List ℕ). HasWritten (fails c Out) (before c Out) (now c Out) (drop (160 * worked_to r from c) bs)) (outs c opened)
       (leaves.out c opened);
-  down_line = λ c opened. subst (λ (bs : List ℕ). IsWritten (fails c Down) (before c Down) (now c Down) (drop (40 * worked_to r from c) bs)) (downs c opened)
+  down_line = λ c opened. subst (λ (bs : List ℕ). HasWritten (fails c Down) (before c Down) (now c Down) (drop (40 * worked_to r from c) bs)) (downs c opened)
       (leaves.down c opened);
   hands_over = hands;
   goes_out = goes;

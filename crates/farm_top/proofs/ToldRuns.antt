@@ -12,7 +12,7 @@ use Rattle.trau_orders.specs.Lists.{AreOrders}
 use Rattle.run_spec.specs.Run.{Run}
 use Rattle.run_spec.specs.Lines.{out_of_call, down_of_call}
 use Rattle.farm_report.specs.Lines.{report_text}
-use Rattle.farm_run.specs.Runs.{AreTold, FailedShort, IsRunOver, IsWritten, KeepsSides, Leaves, ReadsOn, TellsFailed, is_listed}
+use Rattle.farm_run.specs.Runs.{AreTold, FailedShort, IsRunOver, HasWritten, KeepsSides, Leaves, ReadsOn, TellsFailed, is_listed}
 use Rattle.farm_run.specs.Fronts.{HasFront, IsCutShort}
 use Rattle.farm_run.proofs.Cutting.{cut_first}
 use Rattle.command_words.specs.declared.asked.Settings.{Settings}
@@ -81,7 +81,7 @@ told_by_save s before now desk' status orders read (inr cut) = inr cut
 -- ---- where there was no memory
 
 -- what a line holds is a front of it
-pub front_whole : (fails : Bool) (first now : LineState) (octets : List ℕ) → IsWritten fails first now octets → HasFront first now octets
+pub front_whole : (fails : Bool) (first now : LineState) (octets : List ℕ) → HasWritten fails first now octets → HasFront first now octets
 front_whole false first now octets w = (length octets, subst (Appends first.written now.written) (sym (take_all (length octets) octets (omega arith))) w)
 front_whole true first now octets w = (w.0, w.2)
 

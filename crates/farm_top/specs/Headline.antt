@@ -18,7 +18,7 @@ use Rattle.run_spec.specs.Run.{Run, spans_in, start_in, end_in, partner_in, IsOp
 use Rattle.run_spec.specs.Facts.{span_line, report_of}
 use Rattle.run_calls_spec.specs.Whole.{span_for, whole_call, IsBridged, item_for, yield_on, frame_on}
 use Rattle.run_calls_spec.specs.Sent.{frame_as_sent, frame_place, CarriesHanded, Sends, WaitsUnsent, IsFirstOfSpan}
-use Rattle.farm_run.specs.Runs.{IsWritten}
+use Rattle.farm_run.specs.Runs.{HasWritten}
 
 -- What a call is handed in the periods of a bridge: its partner's effective frames, as 260 bits, and nothing else.
 pub record HandsOver (r : Run) : Type 0 where
@@ -56,15 +56,15 @@ pub record GoesOut (r : Run) : Type 0 where
 -- incoming lines and orders and, only between a bridge's reported start and end, of its partner's uplink; there each good
 -- speech frame's 260 bits go out unchanged, in order and once. A line that failed holds a proper front of its octets.
 pub record Headline (r : Run) (fails : ℕ → Side → Bool) (before now : ℕ → Side → LineState) : Type 0 where
-  pub out_line : (c : ℕ) → IsOpened r c → IsWritten (fails c Out) (before c Out) (now c Out) (out (whole_call r c))
-  pub down_line : (c : ℕ) → IsOpened r c → IsWritten (fails c Down) (before c Down) (now c Down) (octets_of (down (whole_call r c)))
+  pub out_line : (c : ℕ) → IsOpened r c → HasWritten (fails c Out) (before c Out) (now c Out) (out (whole_call r c))
+  pub down_line : (c : ℕ) → IsOpened r c → HasWritten (fails c Down) (before c Down) (now c Down) (octets_of (down (whole_call r c)))
   pub hands_over : HandsOver r
   pub goes_out : GoesOut r
 
 -- The same where the octets of the periods before `from` were held back.
 pub record HeadlineFrom (r : Run) (from : ℕ) (fails : ℕ → Side → Bool) (before now : ℕ → Side → LineState) : Type 0 where
-  pub out_line : (c : ℕ) → IsOpened r c → IsWritten (fails c Out) (before c Out) (now c Out) (drop (160 * worked_to r from c) (out (whole_call r c)))
+  pub out_line : (c : ℕ) → IsOpened r c → HasWritten (fails c Out) (before c Out) (now c Out) (drop (160 * worked_to r from c) (out (whole_call r c)))
   pub down_line : (c : ℕ) → IsOpened r c →
-      IsWritten (fails c Down) (before c Down) (now c Down) (drop (40 * worked_to r from c) (octets_of (down (whole_call r c))))
+      HasWritten (fails c Down) (before c Down) (now c Down) (drop (40 * worked_to r from c) (octets_of (down (whole_call r c))))
   pub hands_over : HandsOver r
   pub goes_out : GoesOut r

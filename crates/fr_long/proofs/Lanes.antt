@@ -11,7 +11,7 @@ use Rattle.trau_lanes.specs.Lanes.{sums_of_pairs}
 use Rattle.trau_lanes.proofs.Eight.{lanes_kept, by_four}
 use Rattle.trau_lanes.proofs.LaneDots.{Within, products_within, sums_within, product_at, row, lanes_passed, pairs_within, length_pairs, Pairs, pair_sum, four_same}
 use Rattle.fr_long.specs.Scaling.{AreScaled}
-use Rattle.fr_long.specs.Lag.{correlation_of, sum_of_products, AreWords}
+use Rattle.fr_long.specs.Lag.{correlation_of, sum_of_products, AreSigned16}
 use Rattle.fr_long.specs.Synthesis.{sample_before}
 use Rattle.fr_long.proofs.Blocks.{doubled_small}
 
@@ -184,7 +184,7 @@ four_lanes P x y z w a b c d (suc (suc (suc zero))) l = d
 four_lanes P x y z w a b c d (suc (suc (suc (suc k)))) l = absurd (omega arith)
 
 -- a correlation of words is a plain sum
-pub plain_correlation : (wt earlier : List ℤ) (lag : ℕ) → length wt ≡ 40 → length earlier ≡ 120 → lag ≤ 120 → AreScaled wt → AreWords earlier →
+pub plain_correlation : (wt earlier : List ℤ) (lag : ℕ) → length wt ≡ 40 → length earlier ≡ 120 → lag ≤ 120 → AreScaled wt → AreSigned16 earlier →
     correlation_of wt earlier lag ≡ sum_of_products wt earlier lag
 unfolding correlation_of
 plain_correlation wt earlier lag l m b scaled words = λ i.

@@ -15,8 +15,8 @@ abbrev pub sum_of_products : List ℤ → List ℤ → ℕ → ℤ
 sum_of_products wt past lag = fold ◌+ℤ◌ (pos 0) (map (λ k. entry wt k *ℤ entry past (120 - lag + k) *ℤ pos 2) (range_with_len 0 40))
 
 -- each residual is a word of 16 bits
-abbrev pub AreWords : List ℤ → Type 0
-AreWords earlier = (k : ℕ) → FitsSigned w16 (entry earlier k)
+abbrev pub AreSigned16 : List ℤ → Type 0
+AreSigned16 earlier = (k : ℕ) → FitsSigned w16 (entry earlier k)
 
 -- the lags that a block can have: 40 to 120
 unfoldable pub lags : List ℕ

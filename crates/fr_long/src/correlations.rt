@@ -11,7 +11,7 @@ ghost use Rattle.std.specs.Simd.Lanes.{chunk, zip2, Each1};
 ghost use Rattle.trau_num.specs.Num.{entry};
 ghost use Rattle.trau_lanes.specs.Lanes.{sums_of_pairs};
 ghost use Rattle.fr_long.specs.Scaling.{AreScaled};
-ghost use Rattle.fr_long.specs.Lag.{correlation_of, sum_of_products, AreWords};
+ghost use Rattle.fr_long.specs.Lag.{correlation_of, sum_of_products, AreSigned16};
 
 use std::simd::prelude::*;
 use trau_lanes::{neighbours, products, sums, wide};
@@ -29,7 +29,7 @@ pub fn correlate(wt: &[i16; 40], past: &[i16; 120]) -> [i32; 81]
 // The residuals, read one by one, each of which is so known to be a word.
 fn copied(past: &[i16; 120]) -> [i16; 120]
     ensures value { result ≡ past.now }
-    ensures words { AreWords result }
+    ensures words { AreSigned16 result }
 {
     let mut copy = [0; 120];
     for k in 0..120 {
@@ -41,7 +41,7 @@ fn copied(past: &[i16; 120]) -> [i16; 120]
 /// The same correlations, of residuals that are known to be words.
 pub(crate) fn correlations(wt: &[i16; 40], earlier: &[i16; 120]) -> [i32; 81]
     requires scaled { AreScaled wt.now }
-    requires words { AreWords earlier.now }
+    requires words { AreSigned16 earlier.now }
     ensures value { (lag : ℕ) → 40 ≤ lag → lag ≤ 120 → entry result (lag - 40) ≡ correlation_of wt.now earlier.now lag }
     ensures longs { (k : ℕ) → FitsSigned w32 (entry result k) }
 {
@@ -63,7 +63,7 @@ pub(crate) fn correlations(wt: &[i16; 40], earlier: &[i16; 120]) -> [i32; 81]
 #[inline(never)]
 fn four(wt: &[i16; 40], earlier: &[i16; 120], lag: u8) -> i32x4
     requires scaled { AreScaled wt.now }
-    requires words { AreWords earlier.now }
+    requires words { AreSigned16 earlier.now }
     requires at_least { 40 ≤ lag }
     requires at_most { lag ≤ 117 }
     ensures value { (k : ℕ) → k < 4 → entry result k *ℤ pos 2 ≡ correlation_of wt.now earlier.now (lag + k) }
@@ -82,7 +82,7 @@ fn four(wt: &[i16; 40], earlier: &[i16; 120], lag: u8) -> i32x4
 // Four sums of ten products each, which are together half of the correlation at a lag.
 fn lag_sums(wt: &[i16; 40], earlier: &[i16; 120], lag: u8) -> i32x4
     requires scaled { AreScaled wt.now }
-    requires words { AreWords earlier.now }
+    requires words { AreSigned16 earlier.now }
     requires at_least { 40 ≤ lag }
     requires at_most { lag ≤ 120 }
     ensures length { length result ≡ 4 }
@@ -101,7 +101,7 @@ fn lag_sums(wt: &[i16; 40], earlier: &[i16; 120], lag: u8) -> i32x4
 // The eight samples from place `at` on.
 fn eight(samples: &[i16], at: usize) -> i32x8
     requires place { at + 8 ≤ length samples.now }
-    requires words { AreWords samples.now }
+    requires words { AreSigned16 samples.now }
     ensures value { result ≡ chunk at 8 samples.now }
     ensures words { Each1 (λ x. unsigned_abs x ≤ 32768) result }
 {

@@ -22,14 +22,14 @@ pub struct LtpHistory {
 
 impl Model for LtpHistory {
     ghost use Rattle.std.specs.Prelude.{ℤ, List};
-    ghost use Rattle.fr_long.specs.Lag.{AreWords};
+    ghost use Rattle.fr_long.specs.Lag.{AreSigned16};
 
     ghost Value = { List ℤ };
 
     ghost view = { λ history. history.dp };
 
     // What a read of lanes doesn't tell.
-    ghost invariant = { λ history. AreWords history.dp };
+    ghost invariant = { λ history. AreSigned16 history.dp };
 }
 
 impl LtpHistory {

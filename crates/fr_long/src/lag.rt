@@ -5,7 +5,7 @@ ghost use Rattle.std.specs.Int.{w32, int_max};
 ghost use Rattle.std.specs.Simd.Lanes.{zip2, Each1, chunk};
 ghost use Rattle.trau_num.specs.Num.{entry};
 ghost use Rattle.fr_long.specs.Scaling.{AreScaled};
-ghost use Rattle.fr_long.specs.Lag.{correlation_of, AreWords, IsLag, greatest_of, IsTop};
+ghost use Rattle.fr_long.specs.Lag.{correlation_of, AreSigned16, IsLag, greatest_of, IsTop};
 
 use crate::correlations::correlations;
 use std::simd::prelude::*;
@@ -20,7 +20,7 @@ pub(crate) struct Best {
 /// The lag of a scaled block after the last 120 residuals.
 pub(crate) fn search(wt: &[i16; 40], earlier: &[i16; 120]) -> Best
     requires scaled { AreScaled wt.now }
-    requires words { AreWords earlier.now }
+    requires words { AreSigned16 earlier.now }
     ensures lag { IsLag (correlation_of wt.now earlier.now) result.lag }
     ensures correlation { result.correlation ≡ greatest_of (correlation_of wt.now earlier.now) result.lag }
     ensures not_negative { pos 0 ≤ℤ result.correlation }

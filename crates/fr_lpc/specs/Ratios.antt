@@ -3,7 +3,7 @@ use Rattle.std.specs.Prelude.{ℕ, ℤ, pos, neg_ℤ, ◌-ℤ◌, ◌*ℤ◌, if
 use Rattle.std.specs.List.{range_with_len}
 use Rattle.std.specs.Int.{is_negative, int_max, int_min}
 use Rattle.trau_num.specs.Num.{add_of, mult_of, abs_of, floor_shr, entry}
-use Rattle.trau_params.specs.Ratios.{offsets, least}
+use Rattle.trau_params.specs.Ratios.{offsets, least_ratios}
 use Rattle.fr_lpc.specs.Autocorrelation.{autocorrelations_of_frame}
 use Rattle.fr_lpc.specs.Reflection.{reflection_coefficients}
 
@@ -45,4 +45,4 @@ ratio_code a b mic mac lar = unsigned_abs (int_max mic (int_min (quantised_ratio
 -- LARc 1 to 8 of eight ratios
 unfoldable pub ratio_codes : List ℤ → List ℕ
 ratio_codes lar =
-    map (λ i. ratio_code (entry gains i) (entry offsets i) (entry least i) (entry most i) (entry lar i)) (range_with_len 0 8)
+    map (λ i. ratio_code (entry gains i) (entry offsets i) (entry least_ratios i) (entry most i) (entry lar i)) (range_with_len 0 8)

@@ -2,7 +2,7 @@
 
 ghost use Rattle.std.specs.Prelude.{◌≡◌, ℕ, ◌^◌, ◌<◌, ◌≤◌, pos, ◌+ℤ◌, ◌-ℤ◌, ◌≤ℤ◌, unsigned_abs, slice_index};
 ghost use Rattle.trau_num.specs.Num.{entry};
-ghost use Rattle.trau_params.specs.Ratios.{offsets, least};
+ghost use Rattle.trau_params.specs.Ratios.{offsets, least_ratios};
 ghost use Rattle.trau_params.specs.Widths.{larc_widths, FitLarc};
 ghost use Rattle.fr_lpc.specs.Ratios.{ratio_magnitude, ratio_of, ratios_of, gains, most, quantised_ratio, ratio_code, ratio_codes};
 
@@ -58,19 +58,19 @@ fn quantised(gain: i16, offset: i16, lar: i16) -> i16
 }
 
 #[tactic(auto, unfolding(crate::specs::Ratios::ratio_code))]
-fn code(gain: i16, offset: i16, least: i16, most: i16, lar: i16) -> u8
-    requires order { least ≤ℤ most }
-    requires width { most ≤ℤ (least +ℤ pos 63) }
-    ensures value { result ≡ ratio_code gain offset least most lar }
-    ensures bound { pos result ≤ℤ (most -ℤ least) }
+fn code(gain: i16, offset: i16, least_ratios: i16, most: i16, lar: i16) -> u8
+    requires order { least_ratios ≤ℤ most }
+    requires width { most ≤ℤ (least_ratios +ℤ pos 63) }
+    ensures value { result ≡ ratio_code gain offset least_ratios most lar }
+    ensures bound { pos result ≤ℤ (most -ℤ least_ratios) }
 {
-    let place = quantised(gain, offset, lar).clamp(least, most);
-    (place - least) as u8
+    let place = quantised(gain, offset, lar).clamp(least_ratios, most);
+    (place - least_ratios) as u8
 }
 
 fn code_at(i: usize, lar: i16) -> u8
     requires { i < 8 }
-    ensures value { result ≡ ratio_code (entry gains i) (entry offsets i) (entry least i) (entry most i) lar }
+    ensures value { result ≡ ratio_code (entry gains i) (entry offsets i) (entry least_ratios i) (entry most i) lar }
     ensures width { result < 2 ^ slice_index larc_widths i }
 {
     code(GAINS[i], OFFSETS[i], LEAST[i], MOST[i], lar)

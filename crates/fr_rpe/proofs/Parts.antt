@@ -7,7 +7,7 @@ use Rattle.fr_rpe.specs.declared.scale.Scale.{Scale}
 use Rattle.fr_rpe.specs.Scale.{scale_shift}
 use Rattle.fr_rpe.specs.Weighting.{weighted_block}
 use Rattle.fr_rpe.specs.Selection.{grid_of, pulses_on_grid}
-use Rattle.fr_rpe.specs.Quantisation.{maximum_of, coded_maximum, pulse_codes_of, HasRoom}
+use Rattle.fr_rpe.specs.Quantisation.{maximum_of, coded_maximum, pulse_codes_of, IsBelowScale}
 use Rattle.fr_rpe.specs.Pulses.{block_of}
 use Rattle.fr_rpe.specs.Encoding.{mc_of, pulses_of, xmax_of, xmaxc_of, xmc_of}
 
@@ -41,7 +41,7 @@ unfolding abs_of
 magnitude_below pulse xmax l = omega (arith, ints)
 
 -- room for the maximum is room for each pulse
-pub room_for : (scale : Scale) (pulse xmax : ℤ) → abs_of pulse ≤ℤ xmax → HasRoom scale (unsigned_abs xmax) → HasRoom scale (unsigned_abs (abs_of pulse))
+pub room_for : (scale : Scale) (pulse xmax : ℤ) → abs_of pulse ≤ℤ xmax → IsBelowScale scale (unsigned_abs xmax) → IsBelowScale scale (unsigned_abs (abs_of pulse))
 room_for scale pulse xmax l h =
     let g : unsigned_abs (abs_of pulse) * 2 ^ scale_shift scale ≤ unsigned_abs xmax * 2 ^ scale_shift scale =
     mul-le-mul_right (2 ^ scale_shift scale) (magnitude_below pulse xmax l) in

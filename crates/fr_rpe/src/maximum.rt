@@ -2,7 +2,7 @@
 
 ghost use Rattle.std.specs.Prelude.{◌≡◌, ℕ, ◌^◌, ◌<◌, pos, ◌≤ℤ◌, unsigned_abs, All};
 ghost use Rattle.trau_num.specs.Num.{abs_of};
-ghost use Rattle.fr_rpe.specs.Quantisation.{maximum_of, coded_maximum, HasRoom};
+ghost use Rattle.fr_rpe.specs.Quantisation.{maximum_of, coded_maximum, IsBelowScale};
 ghost use Rattle.fr_rpe.specs.Scale.{scale_of};
 
 use trau_num::abs16;
@@ -36,7 +36,7 @@ pub(crate) fn coded(xmax: u16) -> u8
     requires { xmax < 2 ^ 15 }
     ensures value { result ≡ coded_maximum xmax }
     ensures below_64 { result < 64 }
-    ensures room { HasRoom (scale_of result) xmax }
+    ensures room { IsBelowScale (scale_of result) xmax }
 {
     match xmax >> 9 {
         0 => (xmax >> 5) as u8,

@@ -4,7 +4,7 @@ ghost use Rattle.std.specs.Prelude.{◌≡◌, ℕ, ◌^◌, ◌<◌, ◌≤◌,
 ghost use Rattle.std.specs.Int.{w16};
 ghost use Rattle.trau_num.specs.Num.{abs_of};
 ghost use Rattle.fr_rpe.specs.Scale.{scale_of};
-ghost use Rattle.fr_rpe.specs.Quantisation.{pulse_code_of, pulse_codes_of, HasRoom};
+ghost use Rattle.fr_rpe.specs.Quantisation.{pulse_code_of, pulse_codes_of, IsBelowScale};
 
 use crate::scale::Scale;
 use trau_num::mult;
@@ -12,7 +12,7 @@ use trau_num::mult;
 /// The codes of thirteen pulses, 3 bits each, in a block with a coded maximum that has room for them.
 pub(crate) fn codes(pulses: &[i16; 13], xmaxc: u8) -> [u8; 13]
     requires max { xmaxc < 64 }
-    requires room { All (λ pulse. HasRoom (scale_of xmaxc) (unsigned_abs (abs_of pulse))) pulses.now }
+    requires room { All (λ pulse. IsBelowScale (scale_of xmaxc) (unsigned_abs (abs_of pulse))) pulses.now }
     ensures value { result ≡ pulse_codes_of xmaxc pulses.now }
     ensures below_8 { All (λ code. code < 8) result }
 {
@@ -28,7 +28,7 @@ fn code(scale: Scale, pulse: i16) -> u8
     requires at_least { neg_ℤ (pos 4) ≤ℤ scale.exponent }
     requires at_most { scale.exponent ≤ℤ pos 6 }
     requires mantissa { scale.mantissa < 8 }
-    requires room { HasRoom scale (unsigned_abs (abs_of pulse)) }
+    requires room { IsBelowScale scale (unsigned_abs (abs_of pulse)) }
     ensures value { result ≡ pulse_code_of scale pulse }
     ensures below_8 { result < 8 }
 {

@@ -4,7 +4,7 @@ use Rattle.std.proofs.lemmas.List.{length-set, drop_all, take_all, append-nil}
 use Rattle.std.proofs.lemmas.Grind.{take-set_at}
 use Rattle.trau_num.specs.Num.{add_of, mult_r_of}
 use Rattle.fr_short.specs.Deemphasis.{deemphasised, last_of}
-use Rattle.fr_short.specs.Stepped.{stepped}
+use Rattle.fr_short.specs.Stepped.{stepped_through}
 use Rattle.fr_short.specs.Synthesis.{synthesis_lattice, sections_after, filtered_samples}
 
 -- one sample y of the definition, with the coefficients r
@@ -15,19 +15,19 @@ unfolding filtered_samples
 one rs k vs d r y x vs' h er ey ex ev = let e = drop-cons d k (pos 0) h in rw (ex, ev, er, ey, e, add-one) refl
 
 -- what is made of samples as they are, and by de-emphasis
-pub stepped_plain : (before : ℤ) (xs : List ℤ) → stepped (λ sample last. sample) before xs ≡ xs
+pub stepped_plain : (before : ℤ) (xs : List ℤ) → stepped_through (λ sample last. sample) before xs ≡ xs
 stepped_plain before [] = refl
 stepped_plain before (x ∷ xs) = ap (λ l. x ∷ l) (stepped_plain x xs)
 
-pub stepped_deemphasis : (before : ℤ) (xs : List ℤ) → stepped (λ sample last. add_of sample (mult_r_of (pos 28180) last)) before xs ≡ deemphasised before xs
+pub stepped_deemphasis : (before : ℤ) (xs : List ℤ) → stepped_through (λ sample last. add_of sample (mult_r_of (pos 28180) last)) before xs ≡ deemphasised before xs
 stepped_deemphasis before [] = refl
 stepped_deemphasis before (x ∷ xs) = ap (λ l. add_of x (mult_r_of (pos 28180) before) ∷ l) (stepped_deemphasis (add_of x (mult_r_of (pos 28180) before)) xs)
 
 -- k samples are done, of which the last was made so, and what is left gives the rest
 pub record Run (f : ℤ → ℤ → ℤ) (rs : ℕ → List ℤ) (start d : List ℤ) (before : ℤ) (vs : List ℤ) (last : ℤ) (s : List ℤ) (k : ℕ) : Type 0 where
   pub count : length s ≡ length d
-  pub samples : take k s ++ stepped f last (filtered_samples rs k vs (drop k d)).0 ≡ stepped f before (filtered_samples rs 0 start d).0
-  pub newest : last_of last (stepped f last (filtered_samples rs k vs (drop k d)).0) ≡ last_of before (stepped f before (filtered_samples rs 0 start d).0)
+  pub samples : take k s ++ stepped_through f last (filtered_samples rs k vs (drop k d)).0 ≡ stepped_through f before (filtered_samples rs 0 start d).0
+  pub newest : last_of last (stepped_through f last (filtered_samples rs k vs (drop k d)).0) ≡ last_of before (stepped_through f before (filtered_samples rs 0 start d).0)
   pub state : (filtered_samples rs k vs (drop k d)).1 ≡ (filtered_samples rs 0 start d).1
 
 -- no sample made yet, one more, and all
@@ -42,8 +42,8 @@ pub run_next : (f : ℤ → ℤ → ℤ) (rs : ℕ → List ℤ) (start d : List
 run_next f rs start d before vs last s r k y x m vs' h run er ey ex ev em =
     let o = one rs k vs d r y x vs' h er ey ex ev in
     let rest : List ℤ = (filtered_samples rs (k + 1) vs' (drop (k + 1) d)).0 in
-    let e : stepped f last (filtered_samples rs k vs (drop k d)).0 ≡ m ∷ stepped f m rest =
-    ap (λ z. stepped f last z.0) o ∙ ap (λ n. n ∷ stepped f n rest) (sym em) in
+    let e : stepped_through f last (filtered_samples rs k vs (drop k d)).0 ≡ m ∷ stepped_through f m rest =
+    ap (λ z. stepped_through f last z.0) o ∙ ap (λ n. n ∷ stepped_through f n rest) (sym em) in
     let count = run.count in
     let t : take (k + 1) (set s k m) ≡ take k s ++ m ∷ [] = take-set_at s k (k + 1) m refl (omega arith) in
     record {
@@ -55,7 +55,7 @@ run_next f rs start d before vs last s r k y x m vs' h run er ey ex ev em =
 
 pub run_end : (f : ℤ → ℤ → ℤ) (rs : ℕ → List ℤ) (start d : List ℤ) (before : ℤ) (vs : List ℤ) (last : ℤ) (s : List ℤ) (k : ℕ) → length d ≤ k →
     Run f rs start d before vs last s k →
-    (s ≡ stepped f before (filtered_samples rs 0 start d).0) × (last ≡ last_of before (stepped f before (filtered_samples rs 0 start d).0)) ×
+    (s ≡ stepped_through f before (filtered_samples rs 0 start d).0) × (last ≡ last_of before (stepped_through f before (filtered_samples rs 0 start d).0)) ×
     (vs ≡ (filtered_samples rs 0 start d).1)
 unfolding filtered_samples
 run_end f rs start d before vs last s k h r =

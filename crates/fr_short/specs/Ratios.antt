@@ -2,7 +2,7 @@
 use Rattle.std.specs.Prelude.{ℕ, ℤ, pos, ◌+ℤ◌, ◌*ℤ◌, List, [], ◌∷◌, map, slice_index}
 use Rattle.std.specs.List.{range_with_len}
 use Rattle.trau_num.specs.Num.{add_of, sub_of, mult_r_of, entry}
-use Rattle.trau_params.specs.Ratios.{offsets, least}
+use Rattle.trau_params.specs.Ratios.{offsets, least_ratios}
 
 -- INVA of table 4.2
 abbrev pub inverses : List ℤ
@@ -16,4 +16,4 @@ decoded_ratio mic b inva code =
 -- LARpp 1 to 8 of eight codes
 unfoldable pub decoded_ratios : List ℕ → List ℤ
 decoded_ratios codes =
-    map (λ i. decoded_ratio (entry least i) (entry offsets i) (entry inverses i) (slice_index codes i)) (range_with_len 0 8)
+    map (λ i. decoded_ratio (entry least_ratios i) (entry offsets i) (entry inverses i) (slice_index codes i)) (range_with_len 0 8)

@@ -2,6 +2,6 @@
 use Rattle.std.specs.Prelude.{ℤ, List, [], ◌∷◌}
 
 -- each element is made of one of the other list and of the element before
-abbrev pub stepped : (ℤ → ℤ → ℤ) → ℤ → List ℤ → List ℤ
-stepped next before [] = []
-stepped next before (s ∷ ss) = let made = next s before in made ∷ stepped next made ss
+abbrev pub stepped_through : (ℤ → ℤ → ℤ) → ℤ → List ℤ → List ℤ
+stepped_through next before [] = []
+stepped_through next before (s ∷ ss) = let made = next s before in made ∷ stepped_through next made ss

@@ -10,7 +10,7 @@ ghost use Rattle.trau_lanes.specs.Lanes.{EightWords, EightFactors};
 ghost use Rattle.fr_short.specs.Reflection.{coefficients_at};
 ghost use Rattle.fr_short.specs.Synthesis.{synthesis_lattice, sections_after, filtered_samples};
 ghost use Rattle.fr_short.specs.Deemphasis.{deemphasised, last_of};
-ghost use Rattle.fr_short.specs.Stepped.{stepped};
+ghost use Rattle.fr_short.specs.Stepped.{stepped_through};
 ghost use Rattle.fr_short.specs.Lanes.{words_behind};
 
 use crate::reflection::{part_start, parts};
@@ -130,8 +130,8 @@ fn filter_by<S: Step>(
     before: i16,
     made: &mut [i16; 160],
 ) -> i16
-    ensures samples { made.new ≡ stepped S.next before (filtered_samples (coefficients_at old.now new.now) 0 sections.old d.now).0 }
-    ensures last { result ≡ last_of before (stepped S.next before (filtered_samples (coefficients_at old.now new.now) 0 sections.old d.now).0) }
+    ensures samples { made.new ≡ stepped_through S.next before (filtered_samples (coefficients_at old.now new.now) 0 sections.old d.now).0 }
+    ensures last { result ≡ last_of before (stepped_through S.next before (filtered_samples (coefficients_at old.now new.now) 0 sections.old d.now).0) }
     ensures sections { sections.new ≡ (filtered_samples (coefficients_at old.now new.now) 0 sections.old d.now).1 }
 {
     let parts = parts(old, new);

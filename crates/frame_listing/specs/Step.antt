@@ -31,7 +31,7 @@ pub record IsListed (sync sync' : SyncMemory) (up up' : LineState) (desk desk' :
   pub calm : NoFault up up' desk desk'
 
 -- the desk failed inside its line of text
-pub record IsCutShort (sync sync' : SyncMemory) (up up' : LineState) (desk desk' : DeskState) (given told : List ℕ) : Type 0 where
+pub record IsToldInPart (sync sync' : SyncMemory) (up up' : LineState) (desk desk' : DeskState) (given told : List ℕ) : Type 0 where
   pub found : Yield
   pub takes : Takes sync sync' given (Some found)
   pub proper : length told < length (line_of found)
@@ -47,7 +47,7 @@ PeriodEndsAs sync sync' up up' desk desk' given told (LineEnded left) =
     (left ≡ length given) × (length given < 40) × IsAtEnd up'.to_come × (told ≡ []) × NoFault up up' desk desk'
 PeriodEndsAs sync sync' up up' desk desk' given told ReadFailed =
     (length given < 40) × Rose up.faults up'.faults × (told ≡ []) × (desk'.write_faults ≡ desk.write_faults)
-PeriodEndsAs sync sync' up up' desk desk' given told DeskFailed = IsCutShort sync sync' up up' desk desk' given told
+PeriodEndsAs sync sync' up up' desk desk' given told DeskFailed = IsToldInPart sync sync' up up' desk desk' given told
 
 pub record ListsOn (sync sync' : SyncMemory) (up up' : LineState) (desk desk' : DeskState) (end : PeriodEnd) : Type 0 where
   pub given : List ℕ

@@ -7,7 +7,7 @@ use Rattle.frame_sync.specs.declared.yields.Mode.{Mode}
 use Rattle.frame_sync.specs.declared.yields.Mode.TheVariants.{Hunting, Locked}
 use Rattle.frame_sync.specs.declared.yields.Yield.{Yield}
 use Rattle.frame_sync.specs.declared.yields.Yield.TheVariants.{Frame, Miss}
-use Rattle.frame_sync.specs.Yields.{NoMatch, IsFirstMatch, frame_or_miss, place_of, end_of, hunts, Follows, Yields}
+use Rattle.frame_sync.specs.Yields.{NoMatch, IsFirstMatch, frame_or_miss, place_of, end_of_yields, hunts, IsNextYield, Yields}
 use Rattle.frame_sync.specs.Periods.{after_miss}
 
 -- ---- what a mode gives
@@ -45,8 +45,8 @@ Missed k past = ⊥
 
 -- how the mode and the yields so far go together
 abbrev pub Tied : List Yield → Mode → Type 0
-Tied past (Hunting low) = (hunts past ≡ true) × (end_of past ≡ low)
-Tied past (Locked next misses) = (end_of past ≡ next) × (misses ≤ 2) × Missed misses past
+Tied past (Hunting low) = (hunts past ≡ true) × (end_of_yields past ≡ low)
+Tied past (Locked next misses) = (end_of_yields past ≡ next) × (misses ≤ 2) × Missed misses past
 
 -- up to two misses keep the lock
 missed-locked : (k : ℕ) (past : List Yield) → k ≤ 2 → Missed k past → hunts past ≡ false
@@ -103,7 +103,7 @@ miss-kind : (line : ℕ → ℕ) (p : ℕ) → is_match line p ≡ false → Mis
 miss-kind line p m = rw m refl
 
 -- what the search gives follows the yields before it
-gives-follows : (bits : List ℕ) (past : List Yield) (mode : Mode) (y : Yield) (after : Mode) → Tied past mode → Gives bits mode y after → Follows bits past y
+gives-follows : (bits : List ℕ) (past : List Yield) (mode : Mode) (y : Yield) (after : Mode) → Tied past mode → Gives bits mode y after → IsNextYield bits past y
 gives-follows bits past (Hunting low) (Frame p f) after t g = record {
   hunting = λ h. subst (λ n. IsFirstMatch (bit_in bits) n p) (sym t.1) (g.0, g.1, g.2);
   locked = λ h. absurd (both_ways (hunts past) t.0 h);
@@ -125,15 +125,15 @@ gives-follows bits past (Locked next misses) (Miss p) after t g = record {
 }
 
 -- where none ends within the bits, no yield follows
-none-follows : (bits : List ℕ) (past : List Yield) (mode : Mode) (y : Yield) → Tied past mode → NoneEnds bits (length bits) mode → Follows bits past y → ⊥
+none-follows : (bits : List ℕ) (past : List Yield) (mode : Mode) (y : Yield) → Tied past mode → NoneEnds bits (length bits) mode → IsNextYield bits past y → ⊥
 none-follows bits past (Hunting low) y t none f =
     let found = f.hunting t.0 in
-    let from : end_of past ≤ place_of y = found.0 in
-    let low_is : end_of past ≡ low = t.1 in
+    let from : end_of_yields past ≤ place_of y = found.0 in
+    let low_is : end_of_yields past ≡ low = t.1 in
     both_ways (is_match (bit_in bits) (place_of y)) found.2 (none (place_of y) (omega arith) f.within)
 none-follows bits past (Locked next misses) y t none f =
-    let place : place_of y ≡ end_of past = f.locked (missed-locked misses past t.1 t.2) in
-    let next_is : end_of past ≡ next = t.0 in
+    let place : place_of y ≡ end_of_yields past = f.locked (missed-locked misses past t.1 t.2) in
+    let next_is : end_of_yields past ≡ next = t.0 in
     let within : place_of y + 320 ≤ length bits = f.within in
     absurd (omega arith)
 
@@ -144,10 +144,10 @@ reverse-onto y ys past = ap (λ l. l ++ past) (reverse-append (y ∷ []) ys) ∙
 
 -- each yield of a run follows those before it
 follows-at : (bits : List ℕ) (past : List Yield) (mode : Mode) (before after : List Yield) (y : Yield) (last : Mode) → Tied past mode →
-    GiveAll bits mode (before ++ y ∷ after) last → Follows bits (reverse before ++ past) y
+    GiveAll bits mode (before ++ y ∷ after) last → IsNextYield bits (reverse before ++ past) y
 follows-at bits past mode [] after y last t g = gives-follows bits past mode y g.0 t g.1
 follows-at bits past mode (b ∷ before) after y last t g =
-    subst (λ l. Follows bits l y) (sym (reverse-onto b before past))
+    subst (λ l. IsNextYield bits l y) (sym (reverse-onto b before past))
     (follows-at bits (b ∷ past) g.0 before after y last (tied-gives bits past mode b g.0 t g.1) g.2)
 
 -- the last mode goes with all of them
@@ -161,7 +161,7 @@ tied-last bits past mode (y ∷ ys) last t g =
 pub all-follow : (bits : List ℕ) (ys : List Yield) (last : Mode) → GiveAll bits (Hunting 0) ys last → NoneEnds bits (length bits) last → Yields bits ys
 all-follow bits ys last g none = (
   λ before after y e.
-      subst (λ l. Follows bits l y) (append-nil (reverse before))
+      subst (λ l. IsNextYield bits l y) (append-nil (reverse before))
       (follows-at bits [] (Hunting 0) before after y last (refl, refl) (subst (λ l. GiveAll bits (Hunting 0) l last) e g)),
   λ y f.
       none-follows bits (reverse ys) last y

@@ -9,7 +9,7 @@ use Rattle.frame_sync.specs.declared.yields.Yield.{Yield}
 use Rattle.frame_sync.specs.declared.yields.Yield.TheVariants.{Frame, Miss}
 use Rattle.trau_frame.specs.Match.{bit_in, is_match, frame_at}
 use Rattle.frame_sync.specs.Yields.{NoMatch, place_of}
-use Rattle.frame_sync.specs.Periods.{after_miss, found_in, hunted, due, searched, CarriesFrame}
+use Rattle.frame_sync.specs.Periods.{after_miss, found_in, hunted, yield_due, searched, CarriesFrame}
 use Rattle.frame_sync.specs.Step.{bit_of_two}
 use Rattle.frame_sync.specs.Memory.{IsNear}
 use Rattle.trau_frame.proofs.Matches.{is_match-same, frame_at-same, length-frame_at, get_or-frame_at, match_is_synced, synced_is_match}
@@ -41,7 +41,7 @@ near-after_miss base next misses l h m = elim (cases_eq misses 2) [
   | inr less ↦ rw (ne_eqb misses 2 less) (omega arith, omega arith, omega arith)
 ]
 
-near-due : (line : ℕ → ℕ) (base next misses : ℕ) (b : Bool) → next ≤ base → base < next + 320 → misses ≤ 2 → IsNear (base + 320) (due line next misses b).1
+near-due : (line : ℕ → ℕ) (base next misses : ℕ) (b : Bool) → next ≤ base → base < next + 320 → misses ≤ 2 → IsNear (base + 320) (yield_due line next misses b).1
 near-due line base next misses true l h m = (omega arith, omega arith, omega arith)
 near-due line base next misses false l h m = near-after_miss base next misses l h m
 
@@ -62,7 +62,7 @@ ends-hunted line base low (Some p) h =
     let below = h.below in
     (omega arith, omega arith)
 
-ends-due : (line : ℕ → ℕ) (base next misses : ℕ) (b : Bool) → next ≤ base → base < next + 320 → IfSome (due line next misses b).0 (Ends base)
+ends-due : (line : ℕ → ℕ) (base next misses : ℕ) (b : Bool) → next ≤ base → base < next + 320 → IfSome (yield_due line next misses b).0 (Ends base)
 ends-due line base next misses true l h = (omega arith, omega arith)
 ends-due line base next misses false l h = (omega arith, omega arith)
 
@@ -85,7 +85,7 @@ carries-hunted : (line : ℕ → ℕ) (base low : ℕ) (o : Option ℕ) → ((i 
 carries-hunted line base low None bits h = tt
 carries-hunted line base low (Some p) bits h = carries line p bits h.matches
 
-carries-due : (line : ℕ → ℕ) (next misses : ℕ) (b : Bool) → ((i : ℕ) → line i < 2) → is_match line next ≡ b → IfSome (due line next misses b).0 CarriesFrame
+carries-due : (line : ℕ → ℕ) (next misses : ℕ) (b : Bool) → ((i : ℕ) → line i < 2) → is_match line next ≡ b → IfSome (yield_due line next misses b).0 CarriesFrame
 carries-due line next misses true bits e = carries line next bits e
 carries-due line next misses false bits e = tt
 
@@ -114,7 +114,7 @@ hunted-agrees f g base low (Some p) a h =
     let below = h.below in
     ap (λ bits. (Some (Frame p bits), Locked (p + 320) 0)) (frame-agrees f g base p a (omega arith) (omega arith))
 
-due-agrees : (f g : ℕ → ℕ) (base next misses : ℕ) (b : Bool) → Agrees f g base → next ≤ base → base < next + 320 → due f next misses b ≡ due g next misses b
+due-agrees : (f g : ℕ → ℕ) (base next misses : ℕ) (b : Bool) → Agrees f g base → next ≤ base → base < next + 320 → yield_due f next misses b ≡ yield_due g next misses b
 due-agrees f g base next misses true a l h =
     ap (λ bits. (Some (Frame next bits), Locked (next + 320) 0)) (frame-agrees f g base next a (omega arith) l)
 due-agrees f g base next misses false a l h = refl
@@ -128,7 +128,7 @@ searched-agrees f g base (Hunting low) n a =
     hunted-agrees f g base low (found_in f base low) a (looked f base low) ∙ ap (hunted g low) same
 searched-agrees f g base (Locked next misses) n a =
     let near : base < next + 320 = n.1 in
-    due-agrees f g base next misses (is_match f next) a n.0 n.1 ∙ ap (due g next misses) (match-agrees f g base next a (omega arith) n.0)
+    due-agrees f g base next misses (is_match f next) a n.0 n.1 ∙ ap (yield_due g next misses) (match-agrees f g base next a (omega arith) n.0)
 
 -- ---- what the code looks at
 
@@ -152,7 +152,7 @@ hunted-at : (line : ℕ → ℕ) (low p : ℕ) (o : Option ℕ) (bits : List ℕ
     (Some (Frame p bits), Locked (p + 320) 0) ≡ hunted line low o
 hunted-at line low p o bits e eb = ap (λ f. (Some (Frame p f), Locked (p + 320) 0)) eb ∙ sym (ap (hunted line low) e)
 
--- the four ways of a period: a hunt that finds, one that doesn't, a frame that is due, a miss
+-- the four ways of a period: a hunt that finds, one that doesn't, a frame that is yield_due, a miss
 pub searched-found : (w bits : List ℕ) (base low first o p : ℕ) → first ≡ max low (base - 319) → low ≤ base → first + 320 - base ≤ o → o ≤ 320 →
     NoMatch (bit_in w) (first + 320 - base) o → is_match (bit_in w) o ≡ true → p ≡ base + o - 320 → bits ≡ frame_at (bit_in w) o →
     (Some (Frame p bits), Locked (p + 320) 0) ≡ searched (bit_of_two base w) base (Hunting low)
@@ -182,7 +182,7 @@ searched-frame w bits base next misses o e eb s =
     let matches : is_match (bit_of_two base w) next ≡ true =
     match-shifted w base next o e ∙ synced_is_match (bit_in w) o (subst Synced eb s) in
     ap (λ f. (Some (Frame next f), Locked (next + 320) 0)) (eb ∙ sym (frame-shifted w base next o e)) ∙
-    sym (ap (due (bit_of_two base w) next misses) matches)
+    sym (ap (yield_due (bit_of_two base w) next misses) matches)
 
 -- a test that a frame without sync bits does not pass
 not_match : (line : ℕ → ℕ) (p : ℕ) (b : Bool) → is_match line p ≡ b → (Synced (frame_at line p) → ⊥) → is_match line p ≡ false
@@ -195,4 +195,4 @@ unfolding searched
 searched-miss w bits base next misses o e eb unsynced =
     let misses_it : is_match (bit_of_two base w) next ≡ false =
     match-shifted w base next o e ∙ not_match (bit_in w) o (is_match (bit_in w) o) refl (λ s. unsynced (subst Synced (sym eb) s)) in
-    sym (ap (due (bit_of_two base w) next misses) misses_it)
+    sym (ap (yield_due (bit_of_two base w) next misses) misses_it)

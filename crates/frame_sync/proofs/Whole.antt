@@ -13,7 +13,7 @@ use Rattle.frame_sync.specs.declared.yields.Yield.{Yield}
 use Rattle.frame_sync.specs.declared.yields.Yield.TheVariants.{Frame, Miss}
 use Rattle.trau_frame.specs.Match.{bit_in, is_match, frame_at}
 use Rattle.frame_sync.specs.Yields.{Yields}
-use Rattle.frame_sync.specs.Periods.{after_miss, found_in, hunted, due, searched, line_bits, mode_after, each_yield, ArePeriods}
+use Rattle.frame_sync.specs.Periods.{after_miss, found_in, hunted, yield_due, searched, line_bits, mode_after, each_yield, ArePeriods}
 use Rattle.frame_sync.specs.Memory.{IsNear}
 use Rattle.trau_frame.proofs.Matches.{is_match-same, frame_at-same}
 use Rattle.frame_sync.proofs.Modes.{Gives, GiveAll, NoneEnds, all-follow}
@@ -76,7 +76,7 @@ abbrev Adds : List ℕ → Mode → Option Yield → Mode → Type 0
 Adds bits mode None after = (after ≡ mode) × NoneEnds bits (length bits) after
 Adds bits mode (Some y) after = Gives bits mode y after × NoneEnds bits (length bits) after
 
--- what a period adds: hunting, where a frame is due, and in any mode
+-- what a period adds: hunting, where a frame is yield_due, and in any mode
 adds-hunted : (bits : List ℕ) (base low : ℕ) (o : Option ℕ) → length bits ≡ base + 320 → low ≤ base → NoneEnds bits base (Hunting low) →
     Looked (bit_in bits) base low o → Adds bits (Hunting low) (hunted (bit_in bits) low o).0 (hunted (bit_in bits) low o).1
 adds-hunted bits base low None count l old h = (
@@ -112,7 +112,7 @@ none_ends-after_miss bits base next misses count h = elim (cases_eq misses 2) [
 ]
 
 adds-due : (bits : List ℕ) (base next misses : ℕ) (b : Bool) → length bits ≡ base + 320 → next ≤ base → base < next + 320 →
-    is_match (bit_in bits) next ≡ b → Adds bits (Locked next misses) (due (bit_in bits) next misses b).0 (due (bit_in bits) next misses b).1
+    is_match (bit_in bits) next ≡ b → Adds bits (Locked next misses) (yield_due (bit_in bits) next misses b).0 (yield_due (bit_in bits) next misses b).1
 adds-due bits base next misses true count l h e = ((refl, e, omega arith, refl, refl), omega arith)
 adds-due bits base next misses false count l h e = ((refl, e, omega arith, refl), none_ends-after_miss bits base next misses count h)
 

@@ -23,9 +23,9 @@ place_of (Frame p f) = p
 place_of (Miss p) = p
 
 -- the place behind the 320 bits of the newest of the yields so far, which have the newest first
-abbrev pub end_of : List Yield → ℕ
-end_of [] = 0
-end_of (y ∷ older) = place_of y + 320
+abbrev pub end_of_yields : List Yield → ℕ
+end_of_yields [] = 0
+end_of_yields (y ∷ older) = place_of y + 320
 
 -- whether the search hunts after these yields, the newest first: before any yield, and behind three misses in a row,
 -- which give the lock up. (What a hunt finds is a frame, so that there are never four.)
@@ -35,11 +35,11 @@ hunts (Miss p ∷ Miss q ∷ Miss r ∷ older) = true
 hunts (y ∷ older) = false
 
 -- the next yield of the bits after these, the newest first
-pub record Follows (bits : List ℕ) (past : List Yield) (y : Yield) : Type 0 where
+pub record IsNextYield (bits : List ℕ) (past : List Yield) (y : Yield) : Type 0 where
   -- hunting, it is at the least place that matches, from the end of the newest on
-  pub hunting : hunts past ≡ true → IsFirstMatch (bit_in bits) (end_of past) (place_of y)
+  pub hunting : hunts past ≡ true → IsFirstMatch (bit_in bits) (end_of_yields past) (place_of y)
   -- else at that end
-  pub locked : hunts past ≡ false → place_of y ≡ end_of past
+  pub locked : hunts past ≡ false → place_of y ≡ end_of_yields past
   pub kind : y ≡ frame_or_miss (bit_in bits) (place_of y)
   -- its last bit is one of the bits
   pub within : place_of y + 320 ≤ length bits
@@ -47,5 +47,5 @@ pub record Follows (bits : List ℕ) (past : List Yield) (y : Yield) : Type 0 wh
 -- these are all yields of the bits, in order: each follows those before it, and none follows them all
 abbrev pub Yields : List ℕ → List Yield → Type 0
 Yields bits ys =
-    ((before after : List Yield) (y : Yield) → ys ≡ before ++ y ∷ after → Follows bits (reverse before) y) ×
-    ((y : Yield) → Follows bits (reverse ys) y → ⊥)
+    ((before after : List Yield) (y : Yield) → ys ≡ before ++ y ∷ after → IsNextYield bits (reverse before) y) ×
+    ((y : Yield) → IsNextYield bits (reverse ys) y → ⊥)

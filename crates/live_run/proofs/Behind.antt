@@ -5,7 +5,7 @@ use Rattle.std.specs.List.{range_with_len}
 use Rattle.std.proofs.Math.ListN.{length-set}
 use Rattle.std.proofs.lemmas.Bool.{eq-eqb, ne_eqb, lt-ltb, le-ltb, cases_eq, cases_lt}
 use Rattle.std.proofs.lemmas.List.FromFn.{map-range_with_len_more, length-map-range_with_len}
-use Rattle.farm_drill.specs.Draws.{state_at, first_draw}
+use Rattle.farm_drill.specs.Draws.{draw_state, first_draw}
 use Rattle.farm_drill.specs.Uplink.{up_octets}
 use Rattle.farm_drill.specs.Lines.{pcm_octets}
 use Rattle.farm_drill.specs.declared.draws.Generator.{Generator}
@@ -16,7 +16,7 @@ use Rattle.farm_live.specs.declared.live.Caller.{Caller}
 use Rattle.farm_live.specs.Book.{of_caller}
 use Rattle.farm_live.specs.Live.{view_of, next_post}
 use Rattle.farm_live.proofs.NewFarm.{written_back}
-use Rattle.live_run.specs.Posts.{drawn_post, drawn_posts, own_of, Knows, IsDrawn, Gains, Moves, IsBehind, and_more, HasPosted}
+use Rattle.live_run.specs.Posts.{drawn_post, drawn_posts, own_of, Knows, IsDrawn, GainsPost, MovesSeat, IsBehind, and_more, HasPosted}
 
 -- ---- a call of one's own
 
@@ -73,14 +73,14 @@ pub few_made : (seed callers caller k n : ℕ) (v : View) → k % callers ≡ ca
 few_made seed callers caller k n v own knows =
     ap length knows.made ∙ ap (λ (m : ℕ). length (drawn_posts seed caller (k + 1) m)) (own_is callers caller k n own) ∙ length-drawn seed caller (k + 1) n
 
-pub draws_at : (seed callers caller k n : ℕ) (g : Generator) → k % callers ≡ caller → IsDrawn seed callers caller k n g → g.x ≡ state_at seed (k + 1) (first_draw n)
-draws_at seed callers caller k n g own drawn = drawn ∙ ap (λ (m : ℕ). state_at seed (k + 1) (first_draw m)) (own_is callers caller k n own)
+pub draws_at : (seed callers caller k n : ℕ) (g : Generator) → k % callers ≡ caller → IsDrawn seed callers caller k n g → g.x ≡ draw_state seed (k + 1) (first_draw n)
+draws_at seed callers caller k n g own drawn = drawn ∙ ap (λ (m : ℕ). draw_state seed (k + 1) (first_draw m)) (own_is callers caller k n own)
 
-pub drawn_at : (seed callers caller k n : ℕ) (g : Generator) → k % callers ≡ caller → g.x ≡ state_at seed (k + 1) (first_draw n) → IsDrawn seed callers caller k n g
-drawn_at seed callers caller k n g own x = x ∙ ap (λ (m : ℕ). state_at seed (k + 1) (first_draw m)) (sym (own_is callers caller k n own))
+pub drawn_at : (seed callers caller k n : ℕ) (g : Generator) → k % callers ≡ caller → g.x ≡ draw_state seed (k + 1) (first_draw n) → IsDrawn seed callers caller k n g
+drawn_at seed callers caller k n g own x = x ∙ ap (λ (m : ℕ). draw_state seed (k + 1) (first_draw m)) (sym (own_is callers caller k n own))
 
 knows_more : (seed callers caller k n : ℕ) (up pcm : List ℕ) (v w : View) → k % callers ≡ caller → up ≡ up_octets seed (k + 1) n → pcm ≡ pcm_octets seed (k + 1) n →
-    Knows seed callers caller k n v → Gains (next_post caller up pcm v) v w → Knows seed callers caller k (n + 1) w
+    Knows seed callers caller k n v → GainsPost (next_post caller up pcm v) v w → Knows seed callers caller k (n + 1) w
 knows_more seed callers caller k n up pcm v w own p q knows gains =
     let call = k + 1 in
     let made : v.made ≡ drawn_posts seed caller call n = knows.made ∙ ap (drawn_posts seed caller call) (own_is callers caller k n own) in
@@ -98,11 +98,11 @@ knows_still seed callers caller k n m v other knows =
     record { made = knows.made ∙ ap (drawn_posts seed caller (k + 1)) (none_more callers caller k n m other); numbers = knows.numbers }
 
 pub drawn_still : (seed callers caller k n m : ℕ) (g : Generator) → k % callers ≢ caller → IsDrawn seed callers caller k n g → IsDrawn seed callers caller k m g
-drawn_still seed callers caller k n m g other drawn = drawn ∙ ap (λ (j : ℕ). state_at seed (k + 1) (first_draw j)) (none_more callers caller k n m other)
+drawn_still seed callers caller k n m g other drawn = drawn ∙ ap (λ (j : ℕ). draw_state seed (k + 1) (first_draw j)) (none_more callers caller k n m other)
 
 -- at a call that isn't one's own
 pub not_own : (seed callers k n : ℕ) (c : Caller) → k % callers ≢ c.number → ((s : Seat) → Knows seed callers c.number k n (view_of (get_or c.seats.items k s))) →
-    Moves (λ _ w. Knows seed callers c.number k (n + 1) w) k c c
+    MovesSeat (λ _ w. Knows seed callers c.number k (n + 1) w) k c c
 not_own seed callers k n c other all = record {
   number = refl;
   this = λ s. knows_still seed callers c.number k n (n + 1) (view_of (get_or c.seats.items k s)) other (all s);
@@ -111,7 +111,7 @@ not_own seed callers k n c other all = record {
 
 own_posted : (seed callers k n : ℕ) (up pcm : List ℕ) (c d : Caller) → k % callers ≡ c.number → up ≡ up_octets seed (k + 1) n → pcm ≡ pcm_octets seed (k + 1) n →
     ((s : Seat) → Knows seed callers c.number k n (view_of (get_or c.seats.items k s))) →
-    Moves (λ v w. Gains (next_post c.number up pcm v) v w) k c d → Moves (λ _ w. Knows seed callers c.number k (n + 1) w) k c d
+    MovesSeat (λ v w. GainsPost (next_post c.number up pcm v) v w) k c d → MovesSeat (λ _ w. Knows seed callers c.number k (n + 1) w) k c d
 own_posted seed callers k n up pcm c d own p q all m = record {
   number = m.number;
   this = λ s. knows_more seed callers c.number k n up pcm (view_of (get_or c.seats.items k s)) (view_of (get_or d.seats.items k s)) own p q (all s) (m.this s);
@@ -124,9 +124,9 @@ on_ok P Q (Err e) f h = h
 
 pub own_posted_ok : {A E : Type 0} (r : Result A E) (seed callers k n : ℕ) (up pcm : List ℕ) (c d : Caller) → k % callers ≡ c.number → up ≡ up_octets seed (k + 1) n → pcm ≡ pcm_octets seed (k + 1) n →
     ((s : Seat) → Knows seed callers c.number k n (view_of (get_or c.seats.items k s))) →
-    OnOk r (Moves (λ v w. Gains (next_post c.number up pcm v) v w) k c d) → OnOk r (Moves (λ _ w. Knows seed callers c.number k (n + 1) w) k c d)
+    OnOk r (MovesSeat (λ v w. GainsPost (next_post c.number up pcm v) v w) k c d) → OnOk r (MovesSeat (λ _ w. Knows seed callers c.number k (n + 1) w) k c d)
 own_posted_ok r seed callers k n up pcm c d own p q all =
-    on_ok (Moves (λ v w. Gains (next_post c.number up pcm v) v w) k c d) (Moves (λ _ w. Knows seed callers c.number k (n + 1) w) k c d) r (own_posted seed callers k n up pcm c d own p q all)
+    on_ok (MovesSeat (λ v w. GainsPost (next_post c.number up pcm v) v w) k c d) (MovesSeat (λ _ w. Knows seed callers c.number k (n + 1) w) k c d) r (own_posted seed callers k n up pcm c d own p q all)
 
 pub always_ok : {A E : Type 0} (P : Type 0) (r : Result A E) → P → OnOk r P
 always_ok P (Ok x) h = h
@@ -181,7 +181,7 @@ module _ (seed calls callers caller : ℕ) where
       (subst (λ (x : ℕ). IsDrawn seed callers caller k x (get_or gs k g)) (more_behind n k k (omega arith)) (b.draws k g there))
 
   pub one_more : (n k : ℕ) (c d : Caller) (gs : List Generator) (h : Generator) → k < calls → IsBehind seed calls callers caller (and_more n k) c gs →
-      Moves (λ _ w. Knows seed callers c.number k (n + 1) w) k c d → IsDrawn seed callers c.number k (n + 1) h → IsBehind seed calls callers caller (and_more n (k + 1)) d (set gs k h)
+      MovesSeat (λ _ w. Knows seed callers c.number k (n + 1) w) k c d → IsDrawn seed callers c.number k (n + 1) h → IsBehind seed calls callers caller (and_more n (k + 1)) d (set gs k h)
   one_more n k c d gs h there b m drawn =
       let last : n + 1 ≡ and_more n (k + 1) k = sym (more_before n k (k + 1) (omega arith)) in record {
         number = m.number ∙ b.number;
@@ -211,12 +211,12 @@ module _ (seed calls callers caller : ℕ) where
   posted_all n m c gs e b = subst (λ (x : ℕ). HasPosted seed calls callers x caller c) e (record { number = b.number; each = b.knows })
 
   pub first_behind : (c : Caller) (gs : List Generator) → HasPosted seed calls callers 0 caller c → length gs ≡ calls →
-      ((k : ℕ) (g : Generator) → k < calls → (get_or gs k g).x ≡ state_at seed (k + 1) 0) → IsBehind seed calls callers caller (λ _. 0) c gs
+      ((k : ℕ) (g : Generator) → k < calls → (get_or gs k g).x ≡ draw_state seed (k + 1) 0) → IsBehind seed calls callers caller (λ _. 0) c gs
   first_behind c gs posted len first = record {
     number = posted.number;
     one_each = len;
     knows = posted.each;
-    draws = λ k g h. first k g h ∙ ap (λ (m : ℕ). state_at seed (k + 1) (first_draw m)) (sym (own_zero callers caller k));
+    draws = λ k g h. first k g h ∙ ap (λ (m : ℕ). draw_state seed (k + 1) (first_draw m)) (sym (own_zero callers caller k));
   }
 
 -- by the number that the caller has now

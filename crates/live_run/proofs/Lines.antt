@@ -23,7 +23,7 @@ use Rattle.farm_live.specs.declared.live.Closed.{Closed}
 use Rattle.farm_live.specs.Book.{who_at, IsLegal}
 use Rattle.farm_live.specs.Closing.{views_at, IsClosedBy, AreClosed}
 use Rattle.live_run.specs.Posts.{drawn_post, drawn_posts}
-use Rattle.live_run.specs.Whole.{setting, call_of_posts, ArePeriods, live_call}
+use Rattle.live_run.specs.Whole.{setting, call_of_posts, ArePosts, live_call}
 use Rattle.live_run.specs.Text.{outs_of, downs_of, live_line, closed_line}
 use Rattle.live_run.proofs.Behind.{length-drawn}
 use Rattle.live_run.proofs.Ended.{Ending, posts_are}
@@ -50,7 +50,7 @@ unfolding pcm_octets
 length-pcm seed call period =
     long_if (is_loud period) (draws seed call (first_loud_draw period) 160) (replicate 160 213) 160 (length-map-range_with_len (draw seed call) (first_loud_draw period) 160) (length-replicate {A = ℕ} 160 213)
 
-drawn_sized : (seed caller call n : ℕ) → ArePeriods (drawn_posts seed caller call n)
+drawn_sized : (seed caller call n : ℕ) → ArePosts (drawn_posts seed caller call n)
 unfolding drawn_posts
 drawn_sized seed caller call n = λ k d h.
     let is : get_or (map (drawn_post seed caller call) (range_with_len 0 n)) k d ≡ drawn_post seed caller call k =
@@ -71,14 +71,14 @@ drawn_call seed caller call n =
 
 -- the law, as the function of that name says it
 pub record WholeLaw : Type 0 where
-  pub out : (call : ℕ) (es : List Entry) → ArePeriods (map (λ e. e.post) es) → IsLegal call es → outs_of es ≡ out (call_of_posts call (map (λ e. e.post) es))
-  pub down : (call : ℕ) (es : List Entry) → ArePeriods (map (λ e. e.post) es) → IsLegal call es → bits_of (downs_of es) ≡ down (call_of_posts call (map (λ e. e.post) es))
+  pub out : (call : ℕ) (es : List Entry) → ArePosts (map (λ e. e.post) es) → IsLegal call es → outs_of es ≡ out (call_of_posts call (map (λ e. e.post) es))
+  pub down : (call : ℕ) (es : List Entry) → ArePosts (map (λ e. e.post) es) → IsLegal call es → bits_of (downs_of es) ≡ down (call_of_posts call (map (λ e. e.post) es))
 
 line_is : WholeLaw → (seed n caller call : ℕ) (d : Closed) → d.call ≡ call → IsLegal call d.entries.items → map (λ e. e.post) d.entries.items ≡ drawn_posts seed caller call n → closed_line d ≡ live_line seed n call
 unfolding closed_line live_line
 line_is law seed n caller call d number legal posts =
     let es = d.entries.items in
-    let sized = subst ArePeriods (sym posts) (drawn_sized seed caller call n) in
+    let sized = subst ArePosts (sym posts) (drawn_sized seed caller call n) in
     let whole : call_of_posts call (map (λ e. e.post) es) ≡ live_call seed n call = ap (call_of_posts call) posts ∙ drawn_call seed caller call n in
     let outs : outs_of es ≡ out (live_call seed n call) = law.out call es sized legal ∙ ap out whole in
     let downs : octets_of (bits_of (downs_of es)) ≡ octets_of (down (live_call seed n call)) = ap octets_of (law.down call es sized legal ∙ ap down whole) in

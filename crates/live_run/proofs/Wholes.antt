@@ -17,7 +17,7 @@ use Rattle.farm_live.specs.declared.post.Post.{Post}
 use Rattle.farm_live.specs.declared.post.Entry.{Entry}
 use Rattle.farm_live.specs.Book.{who_at, period_of, periods_after, IsWorkedFrom, IsLegal}
 use Rattle.live_run.specs.Text.{outs_of, downs_of}
-use Rattle.live_run.specs.Whole.{setting, call_of_posts, ArePeriods}
+use Rattle.live_run.specs.Whole.{setting, call_of_posts, ArePosts}
 
 abbrev posts_of : List Entry → List Post
 posts_of es = map (λ e. e.post) es
@@ -57,7 +57,7 @@ plain_more ts p up pcm h = record {
   bridges = (h.bridges, λ e. absurd (true≢false (sym e)), λ e. absurd (true≢false (sym e)));
 }
 
-plain_after : (ts : List CallPeriod) (es : List Entry) → ArePeriods (posts_of es) → IsCallHistory ts → IsCallHistory (periods_after ts es)
+plain_after : (ts : List CallPeriod) (es : List Entry) → ArePosts (posts_of es) → IsCallHistory ts → IsCallHistory (periods_after ts es)
 plain_after ts [] sized h = h
 plain_after ts (e ∷ es) sized h =
     let first = All-head (λ p. (length p.up ≡ 40) × (length p.pcm ≡ 160)) e.post (posts_of es) sized in
@@ -90,7 +90,7 @@ bits_after (e ∷ es) = bits_of-append e.down (downs_of es) ∙ ap (λ (xs : Lis
 
 -- ---- the law
 
-module _ (call : ℕ) (es : List Entry) (sized : ArePeriods (posts_of es)) (legal : IsLegal call es) where
+module _ (call : ℕ) (es : List Entry) (sized : ArePosts (posts_of es)) (legal : IsLegal call es) where
   pub out_whole : ((who : Who) (ts : List CallPeriod) → IsCallHistory ts → out_line who ts ≡ out (call_of_history who ts)) → outs_of es ≡ out (call_of_posts call (posts_of es))
   out_whole same = sym (outs_after (who_at call) [] es legal) ∙ same (who_at call) (periods_after [] es) (plain_after [] es sized no_periods) ∙ ap out (call_is call es)
 

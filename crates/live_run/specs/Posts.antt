@@ -2,7 +2,7 @@
 -- from 0: the call's number is one more.
 use Rattle.std.specs.Prelude.{◌≡◌, ◌≢◌, ℕ, ◌+◌, ◌%◌, ◌<◌, ◌==◌, if◌then◌else◌, nat_lt, Some, find, List, [], ◌∷◌, ◌++◌, length, map, slice_index_or}
 use Rattle.std.specs.List.{range_with_len}
-use Rattle.farm_drill.specs.Draws.{state_at, first_draw}
+use Rattle.farm_drill.specs.Draws.{draw_state, first_draw}
 use Rattle.farm_drill.specs.Uplink.{up_octets}
 use Rattle.farm_drill.specs.Lines.{pcm_octets}
 use Rattle.farm_drill.specs.declared.draws.Generator.{Generator}
@@ -33,15 +33,15 @@ pub record Knows (seed callers caller k n : ℕ) (v : View) : Type 0 where
 
 -- the generator of a call's draws stands behind the periods of it that a caller has posted, of the first n
 abbrev pub IsDrawn : ℕ → ℕ → ℕ → ℕ → ℕ → Generator → Type 0
-IsDrawn seed callers caller k n g = g.x ≡ state_at seed (k + 1) (first_draw (own_of callers caller k n))
+IsDrawn seed callers caller k n g = g.x ≡ draw_state seed (k + 1) (first_draw (own_of callers caller k n))
 
 -- what was posted stays
-pub record Stays (v w : View) : Type 0 where
+pub record IsSameView (v w : View) : Type 0 where
   pub made : w.made ≡ v.made
   pub callers : w.callers ≡ v.callers
 
 -- one post more was made
-pub record Gains (x : Post) (v w : View) : Type 0 where
+pub record GainsPost (x : Post) (v w : View) : Type 0 where
   pub made : w.made ≡ v.made ++ x ∷ []
   pub callers : w.callers ≡ v.callers
 
@@ -51,7 +51,7 @@ Saw of number v = (b : BookState) × (e : Entry) × (v.seen ≡ b ∷ []) × (fi
 
 -- P holds of what a caller knew of the call with this index and of what it knows now; of each other call it knows what it
 -- knew
-pub record Moves (P : View → View → Type 0) (k : ℕ) (old new : Caller) : Type 0 where
+pub record MovesSeat (P : View → View → Type 0) (k : ℕ) (old new : Caller) : Type 0 where
   pub number : new.number ≡ old.number
   pub this : (s : Seat) → P (view_of (slice_index_or old.seats.items k s)) (view_of (slice_index_or new.seats.items k s))
   pub others : (j : ℕ) (s : Seat) → j ≢ k → slice_index_or new.seats.items j s ≡ slice_index_or old.seats.items j s

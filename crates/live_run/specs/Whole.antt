@@ -21,8 +21,8 @@ call_of_posts call ps = record {
 }
 
 -- each has the octets of a period
-abbrev pub ArePeriods : List Post → Type 0
-ArePeriods ps = All (λ p. (length p.up ≡ 40) × (length p.pcm ≡ 160)) ps
+abbrev pub ArePosts : List Post → Type 0
+ArePosts ps = All (λ p. (length p.up ≡ 40) × (length p.pcm ≡ 160)) ps
 
 -- a call of a live drill, of the drawn lines
 abbrev pub live_call : ℕ → ℕ → ℕ → Call

@@ -3,7 +3,7 @@
 ghost use Rattle.std.specs.Prelude.{◌≡◌, ◌+◌, ◌-◌, ◌<◌, ℕ, length, slice_index_or, OnOk};
 ghost use Rattle.farm_live.specs.declared.live.PostFault.{PostFault as OneFault};
 ghost use Rattle.farm_live.specs.Live.{view_of, IsSeated, HasAnswered, next_post};
-ghost use Rattle.live_run.specs.Posts.{Stays, Gains, Saw, Moves};
+ghost use Rattle.live_run.specs.Posts.{IsSameView, GainsPost, Saw, MovesSeat};
 
 use farm_live::{Caller, Live, Look, PostFault, Turn};
 use pool_run::Gate;
@@ -31,7 +31,7 @@ fn work<R: Wait>(
     requires few { k < 256 }
     requires farm { IsSeated live.now.inbox live.now.slots.items caller.old }
     ensures farm { IsSeated live.now.inbox live.now.slots.items caller.new }
-    ensures stays { Moves Stays k caller.old caller.new }
+    ensures stays { MovesSeat IsSameView k caller.old caller.new }
 {
     let turn = live.work(rt, alloc, caller, k + 1);
     let_others(turn)
@@ -50,7 +50,7 @@ fn make_way<R: Wait>(
     requires few { k < 256 }
     requires farm { IsSeated live.now.inbox live.now.slots.items caller.old }
     ensures farm { IsSeated live.now.inbox live.now.slots.items caller.new }
-    ensures stays { Moves Stays k caller.old caller.new }
+    ensures stays { MovesSeat IsSameView k caller.old caller.new }
 {
     match fault {
         PostFault::Full { post: _ } => work(rt, alloc, live, caller, k),
@@ -78,7 +78,7 @@ pub(crate) fn post_period<R: Wait, G: Gate>(
     requires farm { IsSeated live.now.inbox live.now.slots.items caller.old }
     requires posts { (s : _) → length (view_of (slice_index_or caller.old.seats.items k s)).made < 16777216 }
     ensures farm { IsSeated live.now.inbox live.now.slots.items caller.new }
-    ensures posted { OnOk result (Moves (λ v w. Gains (next_post caller.old.number up.now pcm.now v) v w) k caller.old caller.new) }
+    ensures posted { OnOk result (MovesSeat (λ v w. GainsPost (next_post caller.old.number up.now pcm.now v) v w) k caller.old caller.new) }
 {
     gate.before(k + 1);
     for _ in rt.forever() {
@@ -108,7 +108,7 @@ pub(crate) fn work_to<R: Wait>(
     requires few { k < 256 }
     requires farm { IsSeated live.now.inbox live.now.slots.items caller.old }
     ensures farm { IsSeated live.now.inbox live.now.slots.items caller.new }
-    ensures stays { Moves Stays k caller.old caller.new }
+    ensures stays { MovesSeat IsSameView k caller.old caller.new }
     ensures found { OnOk result ((s : _) → Saw of number (view_of (slice_index_or caller.new.seats.items k s))) }
 {
     for _ in rt.forever() {

@@ -1,11 +1,11 @@
 //! The callers of a live drill, each on a thread of its own.
 
 ghost use Rattle.std.specs.Prelude.{◌≡◌, ◌+◌, ◌<◌, ◌≤◌, ℕ, All, IsTrue, length, map, slice_index_or, OnOk, IfOk};
-ghost use Rattle.farm_drill.specs.Draws.{state_at};
+ghost use Rattle.farm_drill.specs.Draws.{draw_state};
 ghost use Rattle.farm_drill.specs.declared.draws.Generator.{Generator as TheDraws};
 ghost use Rattle.farm_live.specs.Live.{view_of, IsSeated};
 ghost use Rattle.live_run.specs.Size.{IsLiveDrill};
-ghost use Rattle.live_run.specs.Posts.{Knows, IsDrawn, Moves, IsBehind, HasPosted};
+ghost use Rattle.live_run.specs.Posts.{Knows, IsDrawn, MovesSeat, IsBehind, HasPosted};
 ghost use Rattle.live_run.specs.Posters.{IsReady, HasEnded, Ends, HavePosted, poster_of};
 
 use crate::calls::post_period;
@@ -46,7 +46,7 @@ fn post_own<R: Wait, G: Gate>(
     requires knows { (s : _) → Knows drill.now.seed drill.now.callers caller.old.number k period (view_of (slice_index_or caller.old.seats.items k s)) }
     requires drawn { IsDrawn drill.now.seed drill.now.callers caller.old.number k period draws.old }
     ensures farm { IsSeated live.now.inbox live.now.slots.items caller.new }
-    ensures posted { OnOk result (Moves (λ _ w. Knows drill.now.seed drill.now.callers caller.old.number k (period + 1) w) k caller.old caller.new) }
+    ensures posted { OnOk result (MovesSeat (λ _ w. Knows drill.now.seed drill.now.callers caller.old.number k (period + 1) w) k caller.old caller.new) }
     ensures drawn { OnOk result (IsDrawn drill.now.seed drill.now.callers caller.old.number k (period + 1) draws.new) }
 {
     if k % drill.callers != caller.number() {
@@ -87,7 +87,7 @@ fn post_round<R: Wait, G: Gate>(
 fn first_draws(alloc: Global, seed: u32, calls: u32) -> Result<Vec<Generator>, AllocError>
     requires { calls ≤ 256 }
     ensures count { IfOk result (λ gs. length gs.items ≡ calls) }
-    ensures each { IfOk result (λ gs. (k : ℕ) (g : TheDraws) → k < calls → (slice_index_or gs.items k g).x ≡ state_at seed (k + 1) 0) }
+    ensures each { IfOk result (λ gs. (k : ℕ) (g : TheDraws) → k < calls → (slice_index_or gs.items k g).x ≡ draw_state seed (k + 1) 0) }
 {
     let mut draws = Vec::with_capacity(alloc, calls as usize)?;
     for k in 0..calls {

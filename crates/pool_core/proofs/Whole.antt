@@ -5,7 +5,7 @@ use Rattle.std.proofs.lemmas.Bool.{eq-eqb, ne_eqb, cases_eq}
 use Rattle.std.proofs.lemmas.List.{get_or-set_same, get_or-set_other}
 use Rattle.pool_core.specs.declared.step.PoolStep.{PoolStep}
 use Rattle.pool_core.specs.declared.step.PoolStep.TheVariants.{Pop, Steal, Run, Push, Finish}
-use Rattle.pool_core.specs.Machine.{PoolState, pool_start, len, place, deque, hand, is_legal, taken, run, pushed, completed, moved, stepped, holds, times_in_all, IsState}
+use Rattle.pool_core.specs.Machine.{PoolState, pool_start, len, place, deque, hand, is_legal, taken, run, pushed, completed, moved, stepped, holds_job, times_in_all, IsState}
 use Rattle.pool_core.specs.Steps.{after, step_periods, runs}
 use Rattle.pool_core.proofs.Keeps.{stepped_keeps}
 use Rattle.pool_core.proofs.Start.{start_state, zero_at}
@@ -80,7 +80,7 @@ once_after workers lens xs job l h =
 
 -- a job's place after one more run
 run_place : (s : PoolState) (p job : ℕ) (o : Option ℕ) → IsState s → job < length s.lens → place (run s p o) job
-    ≡ min (len s job) (place s job + (if holds job o then p else 0))
+    ≡ min (len s job) (place s job + (if holds_job job o then p else 0))
 run_place s p job None i h = let w = i.within job in omega arith
 run_place s p job (Some other) i h = elim (cases_eq other job) [
   | inl e ↦
@@ -110,9 +110,9 @@ moved_place s (Pop w) job i h false e = stays s s.places job i refl
 moved_place s (Steal t v) job i h true e = stays s (taken s t v (deque s v)).places job i (taken_lens s t v (deque s v)).1
 moved_place s (Steal t v) job i h false e = stays s s.places job i refl
 moved_place s (Run w p) job i h true e = run_place s p job (hand s w) i h
-    ∙ sym (ap (λ (t : Bool). min (len s job) (place s job + (if t && holds job (hand s w) then p else 0))) e)
+    ∙ sym (ap (λ (t : Bool). min (len s job) (place s job + (if t && holds_job job (hand s w) then p else 0))) e)
 moved_place s (Run w p) job i h false e = stays s s.places job i refl
-    ∙ sym (ap (λ (t : Bool). min (len s job) (place s job + (if t && holds job (hand s w) then p else 0))) e)
+    ∙ sym (ap (λ (t : Bool). min (len s job) (place s job + (if t && holds_job job (hand s w) then p else 0))) e)
 moved_place s (Push w) job i h true e = stays s (pushed s w (hand s w)).places job i (pushed_lens s w (hand s w)).1
 moved_place s (Push w) job i h false e = stays s s.places job i refl
 moved_place s (Finish w) job i h true e = stays s (completed s w (hand s w)).places job i (completed_lens s w (hand s w)).1

@@ -2,16 +2,16 @@
 use Rattle.std.specs.Prelude.{ℕ, ◌+◌, ◌&&◌, if◌then◌else◌, List, [], ◌∷◌}
 use Rattle.pool_core.specs.declared.step.PoolStep.{PoolStep}
 use Rattle.pool_core.specs.declared.step.PoolStep.TheVariants.{Run}
-use Rattle.pool_core.specs.Machine.{PoolState, hand, is_legal, stepped, holds}
+use Rattle.pool_core.specs.Machine.{PoolState, hand, is_legal, stepped, holds_job}
 
 -- the state after a list of steps
 abbrev pub after : PoolState → List PoolStep → PoolState
 after s [] = s
 after s (x ∷ xs) = after (stepped s x) xs
 
--- the periods by which a step runs a job: those of a legal run by the worker that holds it
+-- the periods by which a step runs a job: those of a legal run by the worker that holds_job it
 abbrev pub step_periods : PoolState → ℕ → PoolStep → ℕ
-step_periods s job (Run w p) = if is_legal s (Run w p) && holds job (hand s w) then p else 0
+step_periods s job (Run w p) = if is_legal s (Run w p) && holds_job job (hand s w) then p else 0
 step_periods s job _ = 0
 
 -- the sum of a job's runs over a list of steps

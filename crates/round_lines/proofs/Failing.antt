@@ -5,10 +5,10 @@ use Rattle.std.proofs.lemmas.List.{map-append, get_or_default}
 use Rattle.trau_io.specs.declared.line.Line.{Line}
 use Rattle.trau_io.specs.declared.line.Side.{Side}
 use Rattle.trau_io.specs.declared.line.Side.TheVariants.{Up}
-use Rattle.round_lines.specs.Places.{PlaceMemory, fails_in, sides, name_of, name_where_failed}
+use Rattle.round_lines.specs.Places.{PlaceMemory, fails_in, sides, line_name, name_where_failed}
 use Rattle.round_lines.proofs.Listing.{listed_more}
 
-module _ (p : PlaceMemory) (i : ℕ) (base : List (ℕ × Side)) (lines : List Line) (within : i < 4) (so_far : map name_of lines
+module _ (p : PlaceMemory) (i : ℕ) (base : List (ℕ × Side)) (lines : List Line) (within : i < 4) (so_far : map line_name lines
     ≡ base ++ filter_map (name_where_failed p) (take i sides)) where
   abbrev side : Side
   side = get_or sides i Up
@@ -16,14 +16,14 @@ module _ (p : PlaceMemory) (i : ℕ) (base : List (ℕ × Side)) (lines : List L
   is : side ≡ get_or sides i side
   is = get_or_default sides i Up side within
 
-  pub named_more : (line : Line) → fails_in p side ≡ true → line.call ≡ p.call → line.side ≡ side → map name_of (lines ++ line ∷ [])
+  pub named_more : (line : Line) → fails_in p side ≡ true → line.call ≡ p.call → line.side ≡ side → map line_name (lines ++ line ∷ [])
       ≡ base ++ filter_map (name_where_failed p) (take (i + 1) sides)
   named_more line fails call at =
-      let named : name_where_failed p side ≡ Some (name_of line) = cc in
-      map-append name_of lines (line ∷ []) ∙ listed_more (name_where_failed p) sides i base (map name_of lines) side (Some (name_of line)) within is named
+      let named : name_where_failed p side ≡ Some (line_name line) = cc in
+      map-append line_name lines (line ∷ []) ∙ listed_more (name_where_failed p) sides i base (map line_name lines) side (Some (line_name line)) within is named
       so_far
 
-  pub none_more : fails_in p side ≡ false → map name_of lines ≡ base ++ filter_map (name_where_failed p) (take (i + 1) sides)
+  pub none_more : fails_in p side ≡ false → map line_name lines ≡ base ++ filter_map (name_where_failed p) (take (i + 1) sides)
   none_more sound =
       let unnamed : name_where_failed p side ≡ None = cc in
-      sym (append-nil (map name_of lines)) ∙ listed_more (name_where_failed p) sides i base (map name_of lines) side None within is unnamed so_far
+      sym (append-nil (map line_name lines)) ∙ listed_more (name_where_failed p) sides i base (map line_name lines) side None within is unnamed so_far

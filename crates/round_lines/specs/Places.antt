@@ -81,8 +81,8 @@ abbrev pub sides : List Side
 sides = Up ∷ Pcm ∷ Down ∷ Out ∷ []
 
 -- A line's name is told as its number and its side, since `Line` carries the proofs of its range.
-abbrev pub name_of : Line → ℕ × Side
-name_of line = (line.call, line.side)
+abbrev pub line_name : Line → ℕ × Side
+line_name line = (line.call, line.side)
 
 -- the name of a line that failed in the round
 abbrev pub name_where_failed : PlaceMemory → Side → Option (ℕ × Side)

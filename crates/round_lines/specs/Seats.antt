@@ -4,7 +4,7 @@ use Rattle.trau_io.specs.declared.line.Side.{Side}
 use Rattle.trau_io.specs.declared.line.Side.TheVariants.{Up, Pcm, Down, Out}
 use Rattle.trau_io.specs.Lines.{LineState}
 use Rattle.round_lines.specs.Places.{PlaceMemory, IsFresh, TellsFaults, new_place, whole_in}
-use Rattle.round_lines.specs.Transfer.{Takes, TakesClean, Gives, GivesClean}
+use Rattle.round_lines.specs.Transfer.{Takes, TakesClean, LineGives, GivesClean}
 
 -- what is seen of a seat
 pub record SeatMemory : Type 0 where
@@ -54,8 +54,8 @@ out_given s = take (160 * whole_in s.place) s.out
 -- The outgoing lines of a call were given what goes out; of its seat only the marks of these lines changed. If the marks told
 -- which counts had risen since `first`, they still do.
 pub record Drains (before now : Side → LineState) (s t : SeatMemory) : Type 0 where
-  pub down : Gives (before Down) (now Down) s.place.down t.place.down (down_given s)
-  pub out : Gives (before Out) (now Out) s.place.out t.place.out (out_given s)
+  pub down : LineGives (before Down) (now Down) s.place.down t.place.down (down_given s)
+  pub out : LineGives (before Out) (now Out) s.place.out t.place.out (out_given s)
   pub down_clean : GivesClean (before Down) (now Down) s.place.down t.place.down (down_given s)
   pub out_clean : GivesClean (before Out) (now Out) s.place.out t.place.out (out_given s)
   pub kept : t ≡ record s { place = record s.place { down = t.place.down; out = t.place.out } }

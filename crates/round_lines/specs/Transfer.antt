@@ -30,7 +30,7 @@ fails_now FailedBefore = false
 fails_now FailedNow = true
 
 -- A line that had failed is passed over. Any other gained all the octets, or a proper front of them, and then it failed and its count rose.
-pub record Gives (before now : LineState) (was stands : Outlet) (octets : List ℕ) : Type 0 where
+pub record LineGives (before now : LineState) (was stands : Outlet) (octets : List ℕ) : Type 0 where
   pub passed : has_failed was ≡ true → (now ≡ before) × (stands ≡ was)
   pub all : has_failed stands ≡ false → Appends before.written now.written octets
   pub calm : has_failed stands ≡ false → now.faults ≡ before.faults

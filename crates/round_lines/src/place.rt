@@ -3,7 +3,7 @@ ghost use Rattle.std.specs.Prelude.{◌≡◌, if◌then◌else◌, ◌-◌, ◌
 ghost use Rattle.call_number.specs.CallNumber.{IsCallNumber};
 ghost use Rattle.trau_io.specs.declared.ends.Cause.TheVariants.{End, Fault};
 ghost use Rattle.switchboard.specs.Ends.{lack_of};
-ghost use Rattle.round_lines.specs.Places.{outlet_before, new_place, given_in, whole_in, end_in_round, fails_in, failed_in_round, name_of};
+ghost use Rattle.round_lines.specs.Places.{outlet_before, new_place, given_in, whole_in, end_in_round, fails_in, failed_in_round, line_name};
 
 use crate::transfer::{Outlet, Taken};
 use std::marker::Model;
@@ -181,7 +181,7 @@ impl Place {
     /// Appends the lines that failed in this round.
     pub(crate) fn list_failed(&self, failed: &mut Vec<Line>)
         requires room { vec_len failed.old + 4 ≤ vec_capacity failed.old }
-        ensures listed { map name_of failed.new.items ≡ map name_of failed.old.items ++ failed_in_round self.now }
+        ensures listed { map line_name failed.new.items ≡ map line_name failed.old.items ++ failed_in_round self.now }
         ensures length { vec_len failed.new ≤ vec_len failed.old + 4 }
         ensures capacity { vec_capacity failed.new ≡ vec_capacity failed.old }
     {

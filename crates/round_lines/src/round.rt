@@ -1,7 +1,7 @@
 //! The seats of a round's calls, in rising order of the calls' numbers.
 ghost use Rattle.std.specs.Prelude.{◌≡◌, ◌+◌, ◌*◌, ◌≤◌, ◌++◌, length, map, flat_map, vec_len, vec_capacity};
 ghost use Rattle.std.specs.List.{filter_map};
-ghost use Rattle.round_lines.specs.Places.{failed_in_round, name_of};
+ghost use Rattle.round_lines.specs.Places.{failed_in_round, line_name};
 ghost use Rattle.round_lines.specs.Seats.{Fills, Drains};
 ghost use Rattle.round_lines.specs.Rounds.{Rising, Each, KeepsButEach, IsIncoming, IsOutgoing, EndsWithin, seat_end};
 
@@ -52,7 +52,7 @@ pub fn list_ends(seats: &[Seat], start: u32, ends: &mut Vec<CallEnd>)
 /// There is room for four of each call.
 pub fn list_failed(seats: &[Seat], failed: &mut Vec<Line>)
     requires room { vec_len failed.old + 4 * length seats.now ≤ vec_capacity failed.old }
-    ensures listed { map name_of failed.new.items ≡ map name_of failed.old.items ++ flat_map (λ s. failed_in_round s.place) seats.now }
+    ensures listed { map line_name failed.new.items ≡ map line_name failed.old.items ++ flat_map (λ s. failed_in_round s.place) seats.now }
     ensures capacity { vec_capacity failed.new ≡ vec_capacity failed.old }
 {
     for seat in seats {

@@ -3,7 +3,7 @@ ghost use Rattle.std.specs.Prelude.{◌≡◌, ◌≤◌, length, IfOk};
 ghost use Rattle.call_number.specs.CallNumber.{IsCallNumber};
 ghost use Rattle.trau_io.specs.declared.line.Side.TheVariants.{Up, Pcm, Down, Out};
 ghost use Rattle.trau_io.specs.Lines.{OthersStay};
-ghost use Rattle.round_lines.specs.Transfer.{Takes, Gives};
+ghost use Rattle.round_lines.specs.Transfer.{Takes, LineGives};
 ghost use Rattle.round_lines.specs.Seats.{Fits, Fills, Drains, new_seat, down_given, out_given};
 ghost use Rattle.round_lines.specs.Rounds.{KeepsBut, IsIncoming, IsOutgoing};
 
@@ -137,7 +137,7 @@ impl Seat {
     }
 
     fn give_down<T: Trunk>(&mut self, trunk: &mut T)
-        ensures this { Gives (T.lines trunk.old self.old.place.call Down) (T.lines trunk.new self.old.place.call Down) self.old.place.down self.new.place.down (down_given self.old) }
+        ensures this { LineGives (T.lines trunk.old self.old.place.call Down) (T.lines trunk.new self.old.place.call Down) self.old.place.down self.new.place.down (down_given self.old) }
         ensures others { OthersStay (T.lines trunk.old) (T.lines trunk.new) self.old.place.call Down }
         ensures kept { self.new ≡ record self.old { place = record self.old.place { down = self.new.place.down } } }
     {
@@ -151,7 +151,7 @@ impl Seat {
     }
 
     fn give_out<T: Trunk>(&mut self, trunk: &mut T)
-        ensures this { Gives (T.lines trunk.old self.old.place.call Out) (T.lines trunk.new self.old.place.call Out) self.old.place.out self.new.place.out (out_given self.old) }
+        ensures this { LineGives (T.lines trunk.old self.old.place.call Out) (T.lines trunk.new self.old.place.call Out) self.old.place.out self.new.place.out (out_given self.old) }
         ensures others { OthersStay (T.lines trunk.old) (T.lines trunk.new) self.old.place.call Out }
         ensures kept { self.new ≡ record self.old { place = record self.old.place { out = self.new.place.out } } }
     {

@@ -2,7 +2,7 @@
 
 ghost use Rattle.std.specs.Prelude.{◌≡◌};
 ghost use Rattle.trau_io.specs.Lines.{OthersStay};
-ghost use Rattle.round_lines.specs.Transfer.{Takes, Gives};
+ghost use Rattle.round_lines.specs.Transfer.{Takes, LineGives};
 
 use trau_io::{Failed, Filled, Line, Trunk, read_block, write_all};
 
@@ -47,7 +47,7 @@ pub(crate) fn take_block<T: Trunk>(trunk: &mut T, line: Line, block: &mut [u8]) 
 
 /// Writes the octets to a line that has never failed, and answers how it stands then.
 pub(crate) fn give_block<T: Trunk>(trunk: &mut T, line: Line, was: Outlet, octets: &[u8]) -> Outlet
-    ensures this { Gives (T.lines trunk.old line.call line.side) (T.lines trunk.new line.call line.side) was result octets.now }
+    ensures this { LineGives (T.lines trunk.old line.call line.side) (T.lines trunk.new line.call line.side) was result octets.now }
     ensures others { OthersStay (T.lines trunk.old) (T.lines trunk.new) line.call line.side }
 {
     match was {

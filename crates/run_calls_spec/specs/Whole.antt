@@ -7,7 +7,7 @@ use Rattle.switchboard.specs.declared.act.Span as board
 use Rattle.frame_sync.specs.declared.yields.Yield.{Yield}
 use Rattle.rx_handler.specs.Origin.{EffectiveFields}
 use Rattle.call_spec.specs.Call.{Call, Setting, Span, yield_at, effective_frame, item_at}
-use Rattle.run_spec.specs.Run.{Run, who_in, done_in, spans_in, start_in, end_in, level_after, mode_after, done_to, ups_to, item_of, is_of, partner_in}
+use Rattle.run_spec.specs.Run.{Run, who_in, done_in, spans_in, start_in, end_in, level_after, dtx_mode_after, done_to, ups_to, item_of, is_of, partner_in}
 
 -- how many periods a call has
 abbrev pub count_in : Run → ℕ → ℕ
@@ -17,7 +17,7 @@ count_in r c = end_in r c - start_in r c
 abbrev pub setting_in : Run → ℕ → ℕ → Setting
 setting_in r c t = record {
   level = level_after c (pos 256) (done_to t (done_in r));
-  mode = mode_after c Uplink (done_to t (done_in r));
+  mode = dtx_mode_after c Uplink (done_to t (done_in r));
 }
 
 -- what a call hands to the partner of its bridge in period t of the run

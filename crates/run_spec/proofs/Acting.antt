@@ -16,7 +16,7 @@ use Rattle.switchboard.specs.Replies.{known_of}
 use Rattle.switchboard.specs.Runs.{IsRun}
 use Rattle.switchboard.proofs.Appending.{after, bridges-more}
 use Rattle.call_leg.specs.Settings.{Settings, new_settings, with_level, with_mode, with_bridge, without_bridge}
-use Rattle.run_spec.specs.Run.{Run, whole_in, level_by, mode_by, level_after, mode_after}
+use Rattle.run_spec.specs.Run.{Run, whole_in, level_by, mode_by, level_after, dtx_mode_after}
 use Rattle.run_spec.specs.Now.{IsSoFar, settings_now, changed_by}
 use Rattle.run_spec.proofs.Lists.{each_weaker, find_none, any_none, no}
 use Rattle.run_spec.proofs.Executing.{AreReplies, run_replies, last_reply}
@@ -47,7 +47,7 @@ settings level mode starts bridged = record { level = level; mode = mode; starts
 -- after an order they are what the parts are
 by_parts : (r : Run) (t : ℕ) (ds : List Done) (d : Done) (c : ℕ) (starts b : Bool) →
     (started ds t c || list_any (λ x. joins c x && x.from == t) (bridge_by d.order.stamp d.result [])) ≡ starts → bridged_more (whole_in r) t ds d c ≡ b →
-    settings_now r (ds ++ d ∷ []) t c ≡ settings (level_by c d.result (level_after c (pos 256) ds)) (mode_by c d.result (mode_after c Uplink ds)) starts b
+    settings_now r (ds ++ d ∷ []) t c ≡ settings (level_by c d.result (level_after c (pos 256) ds)) (mode_by c d.result (dtx_mode_after c Uplink ds)) starts b
 by_parts r t ds d c starts b e f = same_settings _ _ _ _ _ _ _ _ (level-more c (pos 256) ds d) (mode-more c Uplink ds d) (starts-more c t ds d ∙ e) f
 
 -- ---- all acts
@@ -85,11 +85,11 @@ settings_more r t u ds o (Err e) c s l a h q =
 settings_more r t u ds o (Ok (act.LevelSet d v)) c s l a h q =
     by_parts r t ds (done o (Ok (act.LevelSet d v))) c (started ds t c) (bridged r ds t c) (or_no _)
     (bridged_quiet (whole_in r) t u ds (done o (Ok (act.LevelSet d v))) c s (λ a b. refl) (λ q. refl) tt)
-    ∙ set_level (c == d) v (level_after c (pos 256) ds) (mode_after c Uplink ds) (started ds t c) (bridged r ds t c)
+    ∙ set_level (c == d) v (level_after c (pos 256) ds) (dtx_mode_after c Uplink ds) (started ds t c) (bridged r ds t c)
 settings_more r t u ds o (Ok (act.DtxSet d m)) c s l a h q =
     by_parts r t ds (done o (Ok (act.DtxSet d m))) c (started ds t c) (bridged r ds t c) (or_no _)
     (bridged_quiet (whole_in r) t u ds (done o (Ok (act.DtxSet d m))) c s (λ a b. refl) (λ q. refl) tt)
-    ∙ set_mode (c == d) m (level_after c (pos 256) ds) (mode_after c Uplink ds) (started ds t c) (bridged r ds t c)
+    ∙ set_mode (c == d) m (level_after c (pos 256) ds) (dtx_mode_after c Uplink ds) (started ds t c) (bridged r ds t c)
 settings_more r t u ds o (Ok (act.Opened d law)) c s l a h q =
     by_parts r t ds (done o (Ok (act.Opened d law))) c (started ds t c) (bridged r ds t c) (or_no _)
     (bridged_quiet (whole_in r) t u ds (done o (Ok (act.Opened d law))) c s (λ a b. refl) (λ q. refl) tt)

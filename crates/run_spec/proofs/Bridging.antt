@@ -9,8 +9,8 @@ use Rattle.switchboard.specs.declared.table.Bridge.{Bridge}
 use Rattle.switchboard.specs.Calls.{Done, opened_at, closed_at, is_open, gone_at}
 use Rattle.switchboard.specs.Bridges.{bridges, joins, other, lasts, bridge_of}
 use Rattle.switchboard.specs.Ends.{start_of}
-use Rattle.call_leg.specs.Settings.{Settings, later, without_bridge}
-use Rattle.run_spec.specs.Run.{Run, whole_in, level_after, mode_after}
+use Rattle.call_leg.specs.Settings.{Settings, settings_later, without_bridge}
+use Rattle.run_spec.specs.Run.{Run, whole_in, level_after, dtx_mode_after}
 use Rattle.run_spec.specs.Now.{has_period, bridge_now, settings_now, settings_in}
 use Rattle.run_spec.proofs.Lists.{each_weaker, find_same, find_and, found, one_found, none_each, any_none, no}
 use Rattle.run_spec.proofs.Standing.{IsSoundBridge, Standing, standing_one}
@@ -74,7 +74,7 @@ test_and true true a b true false f g = sym (second (a && b))
     second false = refl
 test_and true true a b true true f g = sym (cc (f refl, g refl))
 
--- **The bridge of a call in a later period is the one that lasts now, where both of its calls have the period.**
+-- **The bridge of a call in a settings_later period is the one that lasts now, where both of its calls have the period.**
 pub bridge_later : (r : Run) (t u k : ℕ) (ds : List Done) (c : ℕ) → Standing (whole_in r) t ds → t ≤ u → u ≤ k →
     bridge_now r ds k c ≡ elim (bridge_of (gone_at (whole_in r) u ds) ds c) [
       | None ↦ None
@@ -154,7 +154,7 @@ same_settings level level' mode mode' starts starts' bridged bridged' a b c d = 
 pub settings_bridged : (r : Run) (t u : ℕ) (ds : List Done) (c : ℕ) → Standing (whole_in r) t ds → t ≤ u →
     settings_in r ds u c ≡ record {
       level = level_after c (pos 256) ds;
-      mode = mode_after c Uplink ds;
+      mode = dtx_mode_after c Uplink ds;
       starts = list_any (λ x. joins c x && x.from == u) (bridges ds);
       bridged = is_some (bridge_now r ds u c);
     }
@@ -164,7 +164,7 @@ settings_bridged r t u ds c s l = by (bridge_of (gone_at (whole_in r) u ds) ds c
     settled b =
         record {
           level = level_after c (pos 256) ds;
-          mode = mode_after c Uplink ds;
+          mode = dtx_mode_after c Uplink ds;
           starts = list_any (λ x. joins c x && x.from == u) (bridges ds);
           bridged = b;
         }
@@ -178,7 +178,7 @@ settings_bridged r t u ds c s l = by (bridge_of (gone_at (whole_in r) u ds) ds c
         (if is_some p then settings_now r ds u c else without_bridge (settings_now r ds u c))
         ≡ record {
           level = level_after c (pos 256) ds;
-          mode = mode_after c Uplink ds;
+          mode = dtx_mode_after c Uplink ds;
           starts = list_any (λ x. joins c x && x.from == u) (bridges ds);
           bridged = is_some p;
         }
@@ -190,21 +190,21 @@ settings_bridged r t u ds c s l = by (bridge_of (gone_at (whole_in r) u ds) ds c
         ap (λ (o : Option Bridge).
         record {
           level = level_after c (pos 256) ds;
-          mode = mode_after c Uplink ds;
+          mode = dtx_mode_after c Uplink ds;
           starts = list_any (λ x. joins c x && x.from == u) (bridges ds);
           bridged = is_some o;
         }) e
 
 -- **After a period that is set which the period was worked with, but that no bridge starts.**
 pub settings_later : (r : Run) (t u : ℕ) (ds : List Done) (c : ℕ) → Standing (whole_in r) t ds → t ≤ u → u < r.periods →
-    settings_now r ds (u + 1) c ≡ later (settings_in r ds u c)
+    settings_now r ds (u + 1) c ≡ settings_later (settings_in r ds u c)
 settings_later r t u ds c s l m =
     same_settings _ _ _ _ _ _ _ _ refl refl
     (any_none _ (bridges ds)
     (each_weaker (IsSoundBridge (whole_in r) t ds) _ (bridges ds)
     (λ x y. other_stamp (joins c x) (x.from == u + 1) (ne_eqb x.from (u + 1) (λ e. let f = y.from in omega arith))) s.sound))
     (ap is_some (bridge_after r t u ds c s m))
-    ∙ sym (ap later (settings_bridged r t u ds c s l))
+    ∙ sym (ap settings_later (settings_bridged r t u ds c s l))
   where
     other_stamp : (j f : Bool) → f ≡ false → (j && f) ≡ false
     other_stamp true f e = e

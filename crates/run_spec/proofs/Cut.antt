@@ -14,7 +14,7 @@ use Rattle.switchboard.specs.State.{first_stamp}
 use Rattle.switchboard.specs.Runs.{done_of, left_of, executed}
 use Rattle.switchboard.specs.Ends.{start_of}
 use Rattle.call_leg.specs.Periods.{CallPeriod}
-use Rattle.run_spec.specs.Run.{Run, whole_in, done_in, level_after, mode_after, up_in, pcm_in, ups_to, item_of, period_of, periods_to}
+use Rattle.run_spec.specs.Run.{Run, whole_in, done_in, level_after, dtx_mode_after, up_in, pcm_in, ups_to, item_of, period_of, periods_to}
 use Rattle.run_spec.specs.Now.{IsSoFar, NoOrderTo, has_period, bridge_now, handed_now, period_now}
 use Rattle.run_spec.specs.Mark.{cut_at}
 use Rattle.run_spec.proofs.Lists.{each_mapped, each_weaker, each_passes, each_all, find_same}
@@ -145,7 +145,7 @@ now_same r p u ds c l m = ap {B = CallPeriod} (λ (handed : Option (List ℕ)). 
   up = up_in r c (u - start_of ds c);
   pcm = pcm_in r c (u - start_of ds c);
   level = level_after c (pos 256) ds;
-  mode = mode_after c Uplink ds;
+  mode = dtx_mode_after c Uplink ds;
   starts = list_any (λ x. joins c x && x.from == u) (bridges ds);
   handed = handed;
 }) (handed_same r p u ds c l m)

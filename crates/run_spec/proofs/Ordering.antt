@@ -16,7 +16,7 @@ use Rattle.switchboard.specs.Bridges.{ends_bridge, bridge_by, bridges, joins, la
 use Rattle.switchboard.specs.Replies.{known_of}
 use Rattle.switchboard.proofs.Appending.{or_else, after, bridges-more}
 use Rattle.switchboard.proofs.Steps.{after_kept}
-use Rattle.run_spec.specs.Run.{level_by, mode_by, level_after, mode_after}
+use Rattle.run_spec.specs.Run.{level_by, mode_by, level_after, dtx_mode_after}
 use Rattle.run_spec.proofs.Lists.{each_weaker, find_same, find_map, find_none, find_front, any_map, no}
 use Rattle.run_spec.proofs.Executing.{AreReplies, opened-append, closed-append}
 use Rattle.run_spec.proofs.Showing.{ShownBy, shown, done}
@@ -32,7 +32,7 @@ level-more c v [] d = refl
 level-more c v (e ∷ ds) d = level-more c (level_by c e.result v) ds d
 
 -- and the mode
-pub mode-more : (c : ℕ) (m : DtxMode) (ds : List Done) (d : Done) → mode_after c m (ds ++ d ∷ []) ≡ mode_by c d.result (mode_after c m ds)
+pub mode-more : (c : ℕ) (m : DtxMode) (ds : List Done) (d : Done) → dtx_mode_after c m (ds ++ d ∷ []) ≡ mode_by c d.result (dtx_mode_after c m ds)
 mode-more c m [] d = refl
 mode-more c m (e ∷ ds) d = mode-more c (mode_by c e.result m) ds d
 
@@ -59,7 +59,7 @@ first_none (Some x) v e = cc
 
 -- orders before the opening set nothing
 pub unset : (whole : ℕ → ℕ) (c : ℕ) (ds later : List Done) (v : ℤ) (m : DtxMode) → AreReplies whole ds later → opened_at c (ds ++ later) ≡ None →
-    (level_after c v later ≡ v) × (mode_after c m later ≡ m)
+    (level_after c v later ≡ v) × (dtx_mode_after c m later ≡ m)
 unset whole c ds [] v m h n = (refl, refl)
 unset whole c ds (d ∷ later) v m h n =
     let gone = gone_at whole d.order.stamp ds in
@@ -68,7 +68,7 @@ unset whole c ds (d ∷ later) v m h n =
     unset_by c gone d.order.stamp ds d.result v m before
     (subst (ShownBy (known_of gone d.order.stamp ds)) (sym h.0) (shown (known_of gone d.order.stamp ds) d.order.what)) in
     let rest = unset whole c (ds ++ d ∷ []) later v m h.1 (ap (opened_at c) (append_assoc ds (d ∷ []) later) ∙ n) in
-    (ap (λ v. level_after c v later) k.0 ∙ rest.0, ap (λ m. mode_after c m later) k.1 ∙ rest.1)
+    (ap (λ v. level_after c v later) k.0 ∙ rest.0, ap (λ m. dtx_mode_after c m later) k.1 ∙ rest.1)
 
 -- ---- where a bridge starts
 

@@ -7,7 +7,7 @@ use Rattle.switchboard.specs.declared.table.Bridge.{Bridge}
 use Rattle.switchboard.specs.Calls.{Done, gone_at}
 use Rattle.switchboard.specs.Bridges.{bridges, joins, other, lasts, bridge_of}
 use Rattle.switchboard.specs.Ends.{start_of}
-use Rattle.call_leg.specs.Settings.{Settings, later, without_bridge, period_with}
+use Rattle.call_leg.specs.Settings.{Settings, settings_later, without_bridge, period_with}
 use Rattle.run_spec.specs.Run.{Run, whole_in, up_in, pcm_in}
 use Rattle.run_spec.specs.Now.{IsSoFar, has_period, bridge_now, handed_now, period_now, settings_now, after_periods}
 use Rattle.run_spec.proofs.Lists.{found}
@@ -18,7 +18,7 @@ use Rattle.run_spec.proofs.Bridging.{bridge_each, joins_other, bridge_later, set
 -- only that a bridge starts doesn't stay
 after_is : (k : ℕ) (now : Settings) → after_periods (suc k) now ≡ record { level = now.level; mode = now.mode; starts = false; bridged = now.bridged }
 after_is zero now = refl
-after_is (suc k) now = ap later (after_is k now)
+after_is (suc k) now = ap settings_later (after_is k now)
 
 abbrev with_bridged : Bool → Settings → Settings
 with_bridged b now = record { level = now.level; mode = now.mode; starts = false; bridged = b }
@@ -30,7 +30,7 @@ settings_after : (r : Run) (t k : ℕ) (ds : List Done) (c : ℕ) → Standing (
     settings_now r ds (t + suc k) c ≡ with_bridged (is_some (bridge_now r ds (t + k) c)) (settings_now r ds t c)
 settings_after r t k ds c s l =
     ap (λ v. settings_now r ds v c) (next t k) ∙ settings_later r t (t + k) ds c s (omega arith) l
-    ∙ ap later (settings_bridged r t (t + k) ds c s (omega arith))
+    ∙ ap settings_later (settings_bridged r t (t + k) ds c s (omega arith))
 
 -- **A call that lies in no bridge goes on alone.**
 pub round_alone : (r : Run) (t k : ℕ) (ds : List Done) (left : List Order) (c : ℕ) → IsSoFar r t ds left → t + k ≤ r.periods →

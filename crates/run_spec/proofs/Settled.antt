@@ -14,7 +14,7 @@ use Rattle.switchboard.specs.Calls.{Done, opened_at}
 use Rattle.switchboard.specs.Bridges.{bridges, other}
 use Rattle.switchboard.specs.Ends.{start_of, span_of, spans_of}
 use Rattle.call_leg.specs.Periods.{CallPeriod}
-use Rattle.run_spec.specs.Run.{Run, whole_in, given_in, done_in, spans_in, level_after, mode_after, done_to, up_in, pcm_in, ups_to, item_of, is_of, partner_in, handed_to, period_of}
+use Rattle.run_spec.specs.Run.{Run, whole_in, given_in, done_in, spans_in, level_after, dtx_mode_after, done_to, up_in, pcm_in, ups_to, item_of, is_of, partner_in, handed_to, period_of}
 use Rattle.run_spec.specs.Now.{IsSoFar, NoOrderTo, bridge_now, handed_now, period_now}
 use Rattle.run_spec.proofs.Lists.{each_weaker, found}
 use Rattle.run_spec.proofs.Executing.{after_all}
@@ -109,7 +109,7 @@ period_settled r t u ds left c s so tu up n o =
     (ap (λ (k : ℕ). up_in r c (u - k)) k)
     (ap (λ (k : ℕ). pcm_in r c (u - k)) k)
     (ap (level_after c (pos 256)) orders)
-    (ap (mode_after c Uplink) orders)
+    (ap (dtx_mode_after c Uplink) orders)
     (ap (λ (k : ℕ). list_any (λ x. is_of c x && x.from == k) (spans_in r)) at
     ∙ ap (λ ds. list_any (λ x. is_of c x && x.from == u) (spans_of (given_in r) r.periods ds)) e
     ∙ starts_settled (given_in r) r.periods u ds later c above)

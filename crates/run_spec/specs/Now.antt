@@ -15,8 +15,8 @@ use Rattle.switchboard.specs.State.{first_stamp}
 use Rattle.switchboard.specs.Runs.{IsRun}
 use Rattle.switchboard.specs.Ends.{start_of}
 use Rattle.call_leg.specs.Periods.{CallPeriod}
-use Rattle.call_leg.specs.Settings.{Settings, new_settings, later, with_level, with_mode, with_bridge, without_bridge}
-use Rattle.run_spec.specs.Run.{Run, whole_in, level_after, mode_after, up_in, pcm_in, ups_to, item_of}
+use Rattle.call_leg.specs.Settings.{Settings, new_settings, settings_later, with_level, with_mode, with_bridge, without_bridge}
+use Rattle.run_spec.specs.Run.{Run, whole_in, level_after, dtx_mode_after, up_in, pcm_in, ups_to, item_of}
 
 -- A run so far: its orders are those that were executed, with the replies of their whole list, and those that are
 -- left. An order is executed where its stamp is below the run's number of periods.
@@ -50,7 +50,7 @@ period_now r ds t c = let k = t - start_of ds c in record {
   up = up_in r c k;
   pcm = pcm_in r c k;
   level = level_after c (pos 256) ds;
-  mode = mode_after c Uplink ds;
+  mode = dtx_mode_after c Uplink ds;
   starts = list_any (λ x. joins c x && x.from == t) (bridges ds);
   handed = handed_now r ds t c;
 }
@@ -59,7 +59,7 @@ period_now r ds t c = let k = t - start_of ds c in record {
 abbrev pub settings_now : Run → List Done → ℕ → ℕ → Settings
 settings_now r ds t c = record {
   level = level_after c (pos 256) ds;
-  mode = mode_after c Uplink ds;
+  mode = dtx_mode_after c Uplink ds;
   starts = list_any (λ x. joins c x && x.from == t) (bridges ds);
   bridged = is_some (bridge_of (gone_at (whole_in r) t ds) ds c);
 }
@@ -81,4 +81,4 @@ changed_by c (Err refusal) now = now
 -- what is set after k further periods, where the bridge goes on
 abbrev pub after_periods : ℕ → Settings → Settings
 after_periods zero now = now
-after_periods (suc k) now = later (after_periods k now)
+after_periods (suc k) now = settings_later (after_periods k now)

@@ -92,9 +92,9 @@ abbrev pub level_after : ℕ → ℤ → List Done → ℤ
 level_after c before [] = before
 level_after c before (d ∷ ds) = level_after c (level_by c d.result before) ds
 
-abbrev pub mode_after : ℕ → DtxMode → List Done → DtxMode
-mode_after c before [] = before
-mode_after c before (d ∷ ds) = mode_after c (mode_by c d.result before) ds
+abbrev pub dtx_mode_after : ℕ → DtxMode → List Done → DtxMode
+dtx_mode_after c before [] = before
+dtx_mode_after c before (d ∷ ds) = dtx_mode_after c (mode_by c d.result before) ds
 
 -- the orders that are executed up to the start of period t
 abbrev pub done_to : ℕ → List Done → List Done
@@ -147,7 +147,7 @@ period_of r c k = let t = start_in r c + k in record {
   up = up_in r c k;
   pcm = pcm_in r c k;
   level = level_after c (pos 256) (done_to t (done_in r));
-  mode = mode_after c Uplink (done_to t (done_in r));
+  mode = dtx_mode_after c Uplink (done_to t (done_in r));
   starts = list_any (λ x. is_of c x && x.from == t) (spans_in r);
   handed = handed_to r c t;
 }

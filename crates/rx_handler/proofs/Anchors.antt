@@ -5,7 +5,7 @@ use Rattle.std.specs.List.{range_with_len}
 use Rattle.std.proofs.lemmas.List.{append-nil}
 use Rattle.rx_handler.specs.Heard.{Heard, Good, Sid, Idle, Lost}
 use Rattle.rx_handler.specs.Effective.{is_anchor, is_missed, latest_anchor, missed_since}
-use Rattle.rx_handler.specs.Past.{Anchor, NoAnchor, AtGood, AtSid, anchor_of, one_more, periods_of_fall}
+use Rattle.rx_handler.specs.Past.{Anchor, NoAnchor, AtGood, AtSid, anchor_of, anchored, periods_of_fall}
 use Rattle.rx_handler.proofs.Missed.{missed_since-more, Second, second_missed, second_other}
 
 -- the periods before k, the newest first
@@ -53,17 +53,17 @@ Tells heard k (Some g) a = (g ≤ k) × TellsAt heard k g (heard g) a
 
 -- the same after one more lost period
 tells_more_at : (heard : ℕ → Heard) (k g : ℕ) (y : Heard) (a : Anchor) (missed : Bool) → g ≤ k → heard (suc k) ≡ Lost missed →
-    TellsAt heard k g y a → TellsAt heard (suc k) g y (one_more (Lost missed) a)
+    TellsAt heard k g y a → TellsAt heard (suc k) g y (anchored (Lost missed) a)
 unfolding TellsAt
-tells_more_at heard k g (Good p) a missed h e t = (Lost missed ∷ t.0, ap (one_more (Lost missed)) t.1, since_more heard k g t.0 missed h e t.2)
-tells_more_at heard k g (Sid q) a missed h e t = (Lost missed ∷ t.0, ap (one_more (Lost missed)) t.1, since_more heard k g t.0 missed h e t.2)
-tells_more_at heard k g Idle a missed h e t = ap (one_more (Lost missed)) t
+tells_more_at heard k g (Good p) a missed h e t = (Lost missed ∷ t.0, ap (anchored (Lost missed)) t.1, since_more heard k g t.0 missed h e t.2)
+tells_more_at heard k g (Sid q) a missed h e t = (Lost missed ∷ t.0, ap (anchored (Lost missed)) t.1, since_more heard k g t.0 missed h e t.2)
+tells_more_at heard k g Idle a missed h e t = ap (anchored (Lost missed)) t
 tells_more_at heard k g (Lost b) a missed h e t = t
 
 tells_more : (heard : ℕ → Heard) (k : ℕ) (o : Option ℕ) (a : Anchor) (missed : Bool) → heard (suc k) ≡ Lost missed →
-    Tells heard k o a → Tells heard (suc k) o (one_more (Lost missed) a)
+    Tells heard k o a → Tells heard (suc k) o (anchored (Lost missed) a)
 unfolding Tells
-tells_more heard k None a missed e t = ap (one_more (Lost missed)) t
+tells_more heard k None a missed e t = ap (anchored (Lost missed)) t
 tells_more heard k (Some g) a missed e t = let low = t.0 in (omega arith, tells_more_at heard k g (heard g) a missed t.0 e t.1)
 
 -- an anchor in period k itself

@@ -12,7 +12,7 @@ use Rattle.rx_noise.specs.Mix.{mix_of}
 use Rattle.rx_handler.specs.Heard.{Heard, Good, Sid, Idle, Lost}
 use Rattle.rx_handler.specs.Origin.{GoodFrame, LostFrame, NoFrame, NoiseFrame, frame_of, draws_of}
 use Rattle.rx_handler.specs.Effective.{is_anchor, latest_anchor, missed_since, fall_at, approached, start_after, old_at, origin_after, origin_at, draws_before, effective_at, heard_in}
-use Rattle.rx_handler.specs.Past.{Anchor, AtGood, anchor_of, periods_of_fall, moved, start_from, old_of, origin_from, origin_of, drawn, effective_of}
+use Rattle.rx_handler.specs.Past.{Anchor, AtGood, anchor_of, periods_of_fall, moved_to, start_from, old_of, origin_from, origin_of, drawn, effective_of}
 use Rattle.rx_handler.proofs.Missed.{Second, begun_same}
 use Rattle.rx_handler.proofs.Anchors.{periods_before, Since, TellsAt, Tells, tells}
 
@@ -33,8 +33,8 @@ good_same p k g (y ∷ since) h e old =
     let other : (g == k) ≡ false = grind arith in
     let count : k - g ≡ suc (length since) = sym e in rw (other, count)
 
--- how far the noise has moved
-moved_same : (old q : Fields) (k g : ℕ) (since : List Heard) → length since ≡ k - g → approached old q g k ≡ moved old q since
+-- how far the noise has moved_to
+moved_same : (old q : Fields) (k g : ℕ) (since : List Heard) → length since ≡ k - g → approached old q g k ≡ moved_to old q since
 moved_same old q k g since e = ap (λ n. mix_of old q (min (n + 1) 8)) (sym e)
 
 -- from where a further descriptor is approached, by the anchor before

@@ -10,7 +10,7 @@ use Rattle.rx_muting.specs.Draws.{state_after, draw_of, draws_from}
 use Rattle.rx_muting.proofs.Numbered.{draw_of-state_after, state_after-state_after}
 use Rattle.rx_handler.specs.Heard.{Heard, Good, Sid, Idle, Lost}
 use Rattle.rx_handler.specs.Origin.{Origin, NoiseFrame, frame_of, draws_of, EffectiveFields}
-use Rattle.rx_handler.specs.Past.{Anchor, NoAnchor, AtGood, AtSid, anchor_of, one_more, missed_in, periods_of_fall, moved, start_from, old_of, origin_from, origin_of, drawn, effective_of}
+use Rattle.rx_handler.specs.Past.{Anchor, NoAnchor, AtGood, AtSid, anchor_of, anchored, missed_in, periods_of_fall, moved_to, start_from, old_of, origin_from, origin_of, drawn, effective_of}
 use Rattle.rx_handler.specs.Memory.{RxState, Speech, Noise, RxMemory}
 use Rattle.rx_handler.specs.Step.{missed_after, fall_after, state_after_loss, state_after_sid, next_state, origin_by, received}
 use Rattle.rx_handler.specs.Stands.{first_step, step_of, state_from, state_at, Stands}
@@ -28,7 +28,7 @@ fall_more missed since = grind (arith, common_steps)
 
 -- the state after it
 loss_more : (missed : Bool) (old : Fields → Fields) (step : ℕ) (a : Anchor) →
-    state_from old (min (step + 1) 8) (one_more (Lost missed) a) ≡ state_after_loss (state_from old step a) missed
+    state_from old (min (step + 1) 8) (anchored (Lost missed) a) ≡ state_after_loss (state_from old step a) missed
 loss_more missed old step NoAnchor = refl
 loss_more missed old step (AtGood p since) = ap (Speech p) (let e : min (suc (length since)) 17 ≡ min (min (length since) 17 + 1) 17 = omega arith in e)
 loss_more missed old step (AtSid q since) =
@@ -52,7 +52,7 @@ near_first q NoAnchor old = inr (refl, omega arith)
 near_first q (AtGood p since) old = inr (refl, omega arith)
 near_first q (AtSid r since) old = inl refl
 
-near_more : (missed : Bool) (old : Fields → Fields) (step : ℕ) (a : Anchor) → Near old step a → Near old (min (step + 1) 8) (one_more (Lost missed) a)
+near_more : (missed : Bool) (old : Fields → Fields) (step : ℕ) (a : Anchor) → Near old step a → Near old (min (step + 1) 8) (anchored (Lost missed) a)
 near_more missed old step NoAnchor n = tt
 near_more missed old step (AtGood p since) n = tt
 near_more missed old step (AtSid q since) n = elim n [
@@ -70,7 +70,7 @@ near (Lost missed ∷ past) = near_more missed (λ q. old_of past q) (step_of pa
 
 -- so the noise stands where it does by numbers
 moved_same : (old q : Fields) (step : ℕ) (since : List Heard) → (step ≡ min (length since + 1) 8) ⊎ ((old ≡ q) × (step ≤ 8)) →
-    mix_of old q step ≡ moved old q since
+    mix_of old q step ≡ moved_to old q since
 moved_same old q step since n = elim n [
   | inl e ↦ ap (mix_of old q) e
   | inr s ↦

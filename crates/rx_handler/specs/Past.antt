@@ -12,17 +12,17 @@ pub data Anchor : Type 0 where
   NoAnchor : Anchor
   AtGood AtSid : Fields → List Heard → Anchor
 
-abbrev pub one_more : Heard → Anchor → Anchor
-one_more y NoAnchor = NoAnchor
-one_more y (AtGood p since) = AtGood p (y ∷ since)
-one_more y (AtSid q since) = AtSid q (y ∷ since)
+abbrev pub anchored : Heard → Anchor → Anchor
+anchored y NoAnchor = NoAnchor
+anchored y (AtGood p since) = AtGood p (y ∷ since)
+anchored y (AtSid q since) = AtSid q (y ∷ since)
 
 unfoldable pub anchor_of : List Heard → Anchor
 anchor_of [] = NoAnchor
 anchor_of (Good p ∷ past) = AtGood p []
 anchor_of (Sid q ∷ past) = AtSid q []
 anchor_of (Idle ∷ past) = NoAnchor
-anchor_of (Lost missed ∷ past) = one_more (Lost missed) (anchor_of past)
+anchor_of (Lost missed ∷ past) = anchored (Lost missed) (anchor_of past)
 
 -- how many descriptors were missed
 abbrev pub missed_in : List Heard → ℕ
@@ -34,14 +34,14 @@ periods_of_fall [] = 0
 periods_of_fall (y ∷ since) = periods_of_fall since + (if nat_le 2 (missed_in (y ∷ since)) then 1 else 0)
 
 -- where the noise stands that approaches descriptor q from `old`
-abbrev pub moved : Fields → Fields → List Heard → Fields
-moved old q since = mix_of old q (min (length since + 1) 8)
+abbrev pub moved_to : Fields → Fields → List Heard → Fields
+moved_to old q since = mix_of old q (min (length since + 1) 8)
 
 -- from where a further descriptor q is approached
 abbrev pub start_from : Anchor → (Fields → Fields) → Fields → Fields
 start_from NoAnchor old q = q
 start_from (AtGood p since) old q = q
-start_from (AtSid r since) old q = if periods_of_fall since == 0 then moved (old r) r since else q
+start_from (AtSid r since) old q = if periods_of_fall since == 0 then moved_to (old r) r since else q
 
 -- from where descriptor q, the latest anchor, is approached
 unfoldable pub old_of : List Heard → Fields → Fields
@@ -53,7 +53,7 @@ abbrev pub origin_from : (Fields → Fields) → Anchor → Origin
 origin_from old NoAnchor = NoFrame
 origin_from old (AtGood p []) = GoodFrame p
 origin_from old (AtGood p (y ∷ since)) = LostFrame p (min (length (y ∷ since)) 17)
-origin_from old (AtSid q since) = NoiseFrame (moved (old q) q since) (min (periods_of_fall since) 17)
+origin_from old (AtSid q since) = NoiseFrame (moved_to (old q) q since) (min (periods_of_fall since) 17)
 
 abbrev pub origin_of : List Heard → Origin
 origin_of past = origin_from (λ q. old_of past q) (anchor_of past)

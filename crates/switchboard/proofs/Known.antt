@@ -10,7 +10,7 @@ use Rattle.switchboard.specs.declared.table.Bridge.{Bridge}
 use Rattle.switchboard.specs.Calls.{has_ended, Done, is_open, is_this, opened_at}
 use Rattle.switchboard.specs.Replies.{Known, known_of, reply_from}
 use Rattle.switchboard.specs.Bridges.{lasts, joins, bridge_of, bridge_ended, no_bridge}
-use Rattle.switchboard.specs.Rows.{Rows, IsSized, has_ended_in, call_in, bridge_at_place, is_open_in, is_live_in, bridge_in, bridge_ended_in, end_in, known_in, some_if, gone_of}
+use Rattle.switchboard.specs.Rows.{Rows, IsSized, has_ended_in, call_in, bridge_at_place, is_open_in, is_live_in, bridge_in, bridge_ended_in, bridge_end_in, known_in, some_if, gone_of}
 use Rattle.switchboard.specs.Ends.{least}
 use Rattle.switchboard.specs.State.{last_stamp}
 use Rattle.switchboard.specs.Stands.{IsOver, IsLatest, IsSound, Stands}
@@ -47,14 +47,14 @@ live_parts r x e =
     (is_none-none x.ended q.0, q.1, p.1)
 
 -- a live bridge has no end, and one without an end is live
-pub live-no_end : (r : Rows) (x : Bridge) → is_live_in r x ≡ true → end_in r x ≡ None
+pub live-no_end : (r : Rows) (x : Bridge) → is_live_in r x ≡ true → bridge_end_in r x ≡ None
 live-no_end r x e =
     let p = live_parts r x e in
     let a = open_parts _ _ _ p.1 in
     let b = open_parts _ _ _ p.2 in
     ap (λ o. least o (least (call_in r x.a).gone (call_in r x.b).gone)) p.0 ∙ ap (λ o. least o (call_in r x.b).gone) a.2 ∙ b.2
 
-pub no_end-live : (r : Rows) (now : ℕ) (x : Bridge) → IsSound r now x → end_in r x ≡ None → is_live_in r x ≡ true
+pub no_end-live : (r : Rows) (now : ℕ) (x : Bridge) → IsSound r now x → bridge_end_in r x ≡ None → is_live_in r x ≡ true
 no_end-live r now x s e =
     let p = least_none x.ended (least (call_in r x.a).gone (call_in r x.b).gone) e in
     let o = s.lasts e in

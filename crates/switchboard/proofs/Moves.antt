@@ -13,7 +13,7 @@ use Rattle.switchboard.specs.declared.table.Bridge.{Bridge}
 use Rattle.switchboard.specs.Calls.{Done, is_this}
 use Rattle.switchboard.specs.Bridges.{joins, other}
 use Rattle.switchboard.specs.Replies.{reply_from}
-use Rattle.switchboard.specs.Rows.{Rows, IsSized, call_in, bridge_at_place, is_open_in, is_live_in, bridge_in, bridge_ended_in, end_in, some_if, known_in, applied, bridged_in}
+use Rattle.switchboard.specs.Rows.{Rows, IsSized, call_in, bridge_at_place, is_open_in, is_live_in, bridge_in, bridge_ended_in, bridge_end_in, some_if, known_in, applied, bridged_in}
 use Rattle.switchboard.specs.Ends.{least}
 use Rattle.switchboard.specs.State.{last_stamp}
 use Rattle.switchboard.specs.Stands.{IsOver, IsLatest, IsSound, Stands}
@@ -29,7 +29,7 @@ use Rattle.switchboard.proofs.Lists.{not_both}
 
 -- a bridge that no order of this stamp ended, ended before it
 ended_before : (r : Rows) (now t : ℕ) (x : Bridge) → IsSound r now x → now ≤ t → IsSome_before r t → is_this t x.ended ≡ false → (o : Option ℕ) → x.ended ≡ o →
-    (v : ℕ) → end_in r x ≡ Some v → v < t
+    (v : ℕ) → bridge_end_in r x ≡ Some v → v < t
 ended_before r now t x s late told no_end None e v f =
     least_before t v (call_in r x.a).gone (call_in r x.b).gone (told x.a) (told x.b)
     (sym (ap (λ o. least o (least (call_in r x.a).gone (call_in r x.b).gone)) e) ∙ f)
@@ -60,7 +60,7 @@ over_before r ds t c s late told h none no_end j l q = by r ds t c s late told h
           (none_live r _ c s.table (Some k) is (λ m f. ap (λ (m : ℕ). is_live_in r (bridge_at_place r m)) (let g : m ≡ k = cc in g) ∙ not_live_at r c k none e)
           j l q)
           (λ v f. ended_before r _ t x (s.table.sound j l) late told (ap (λ (j : ℕ). is_this t (bridge_at_place r j).ended) p ∙ no_end_k) x.ended refl v f)
-          (end_in r x) refl
+          (bridge_end_in r x) refl
       | inr (inl p) ↦
           let v = s.table.over c j k p is.0 q is.1 in
           let f = (s.table.sound k is.0).from in

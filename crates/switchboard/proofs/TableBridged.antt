@@ -8,7 +8,7 @@ use Rattle.std.proofs.lemmas.List.Elements.{filter_map-append}
 use Rattle.switchboard.specs.declared.table.Bridge.{Bridge}
 use Rattle.switchboard.specs.declared.table.Call.{Call}
 use Rattle.switchboard.specs.Bridges.{joins, no_bridge}
-use Rattle.switchboard.specs.Rows.{Rows, never, call_in, bridge_at_place, is_open_in, end_in, span_in, with_latest, bridged_in}
+use Rattle.switchboard.specs.Rows.{Rows, never, call_in, bridge_at_place, is_open_in, bridge_end_in, span_in, with_latest, bridged_in}
 use Rattle.switchboard.specs.Ends.{least, span_to}
 use Rattle.switchboard.specs.Stands.{IsOver, IsLatest, IsSound, IsTable}
 use Rattle.switchboard.proofs.Known.{not_true, open_parts}
@@ -62,7 +62,7 @@ bridged_open r t a b c =
     ∙ ap (λ o. is_some (call_in r c).opened && not (is_some (call_in r c).closed) && not (is_some o)) (bridged_field (λ x. x.gone) r k a b (λ e. refl) c)
 
 -- .. and of no end
-bridged_end : (r : Rows) (t a b : ℕ) (x : Bridge) → end_in (bridged_in r t a b) x ≡ end_in r x
+bridged_end : (r : Rows) (t a b : ℕ) (x : Bridge) → bridge_end_in (bridged_in r t a b) x ≡ bridge_end_in r x
 bridged_end r t a b x =
     let k = length r.bridges in
     ap (λ o. least x.ended (least o (call_in (bridged_in r t a b) x.b).gone)) (bridged_field (λ x. x.gone) r k a b (λ e. refl) x.a)
@@ -120,7 +120,7 @@ table_bridged r t a b s len la lb apart oa ob over =
     let m = more_length r.bridges y in
     let ga = open_parts _ _ _ oa in
     let gb = open_parts _ _ _ ob in
-    let none : end_in r y ≡ None = ap (λ o. least o (call_in r b).gone) ga.2 ∙ gb.2 in
+    let none : bridge_end_in r y ≡ None = ap (λ o. least o (call_in r b).gone) ga.2 ∙ gb.2 in
     record {
       latest = λ c h. elim (placed r a b (length r.bridges) c (omega arith) (omega arith)) [
         | inl p ↦ subst (λ (o : Option ℕ). IsLatest n.bridges c o) (sym p.0) (latest_new r.bridges c t a b p.1)

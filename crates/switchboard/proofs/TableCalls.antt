@@ -7,7 +7,7 @@ use Rattle.std.proofs.Math.Bool.{or-true}
 use Rattle.switchboard.specs.declared.table.Bridge.{Bridge}
 use Rattle.switchboard.specs.declared.table.Call.{Call}
 use Rattle.switchboard.specs.Bridges.{joins}
-use Rattle.switchboard.specs.Rows.{Rows, never, call_in, bridge_at_place, is_open_in, is_live_in, end_in, span_in, opened_in, closed_in}
+use Rattle.switchboard.specs.Rows.{Rows, never, call_in, bridge_at_place, is_open_in, is_live_in, bridge_end_in, span_in, opened_in, closed_in}
 use Rattle.switchboard.specs.Ends.{least, span_to}
 use Rattle.switchboard.specs.Stands.{IsOver, IsLatest, IsSound, IsTable}
 use Rattle.switchboard.proofs.Known.{open_parts, no_end-live, over-not_live}
@@ -37,7 +37,7 @@ joins_cases c x e = elim (or_cases (c == x.a) (c == x.b) e) [ inl p ↦ inl (eqb
 
 -- calls that keep their bridges and ends keep the table
 pub table_kept : (r : Rows) (now : ℕ) (cs : List Call) → Keeps r (record r { calls = cs }) → IsTable r now →
-    ((j : ℕ) → j < length r.bridges → end_in r (bridge_at_place r j) ≡ None → (is_open_in (record r { calls = cs }) (bridge_at_place r j).a ≡ true)
+    ((j : ℕ) → j < length r.bridges → bridge_end_in r (bridge_at_place r j) ≡ None → (is_open_in (record r { calls = cs }) (bridge_at_place r j).a ≡ true)
     × (is_open_in (record r { calls = cs }) (bridge_at_place r j).b ≡ true)) →
     ((c s j : ℕ) → (get_or cs c never).closed ≡ Some s → j < length r.bridges → joins c (bridge_at_place r j) ≡ true → IsOver r (s + 1) (bridge_at_place r j)) →
     ((c : ℕ) → is_some (call_in r c).opened ≡ true → is_some (get_or cs c never).opened ≡ true) →
@@ -120,7 +120,7 @@ least_before t v (Some x) (Some y) p q e = let f : min x y ≡ v = cc in omega a
 
 -- a bridge with an end ended before t, where each end that was told did
 ended_by : (r : Rows) (now t : ℕ) (x : Bridge) → IsSound r now x → now ≤ t → ((d : ℕ) → IfSome (call_in r d).gone (λ u. u < t + 1)) → (o : Option ℕ) →
-    x.ended ≡ o → (v : ℕ) → end_in r x ≡ Some v → v < t + 1
+    x.ended ≡ o → (v : ℕ) → bridge_end_in r x ≡ Some v → v < t + 1
 ended_by r now t x s late told None e v f =
     least_before (t + 1) v (call_in r x.a).gone (call_in r x.b).gone (told x.a) (told x.b)
     (sym (ap (λ o. least o (least (call_in r x.a).gone (call_in r x.b).gone)) e) ∙ f)
@@ -130,7 +130,7 @@ ended_by r now t x s late told (Some u) e v f =
     omega (arith, k.1)
 
 -- a bridge that has an end before t is over then
-pub over_by : (r : Rows) (t : ℕ) (x : Bridge) → (end_in r x ≡ None → ⊥) → ((v : ℕ) → end_in r x ≡ Some v → v < t) → (o : Option ℕ) → end_in r x ≡ o →
+pub over_by : (r : Rows) (t : ℕ) (x : Bridge) → (bridge_end_in r x ≡ None → ⊥) → ((v : ℕ) → bridge_end_in r x ≡ Some v → v < t) → (o : Option ℕ) → bridge_end_in r x ≡ o →
     IsOver r t x
 over_by r t x some before None e = absurd (some e)
 over_by r t x some before (Some v) e = record { at = v; ended = e; before = before v e }
@@ -144,7 +144,7 @@ closed_stamp r t c d u l p e =
 
 pub table_closed : (r : Rows) (now t c : ℕ) → IsTable r now → c < length r.calls → is_some (call_in r c).opened ≡ true → (call_in r c).gone ≡ None → now ≤ t →
     ((d : ℕ) → IfSome (call_in r d).gone (λ u. u < t + 1)) →
-    ((j : ℕ) → j < length r.bridges → joins c (bridge_at_place r j) ≡ true → end_in r (bridge_at_place r j) ≡ None → ⊥) → IsTable (closed_in r t c) now
+    ((j : ℕ) → j < length r.bridges → joins c (bridge_at_place r j) ≡ true → bridge_end_in r (bridge_at_place r j) ≡ None → ⊥) → IsTable (closed_in r t c) now
 table_closed r now t c s lc opened here late told none =
     table_kept r now _ (keeps_calls r c (record (call_in r c) { closed = Some t }) refl refl) s
     (λ j m e.
@@ -156,7 +156,7 @@ table_closed r now t c s lc opened here late told none =
           let f : u ≡ t = closed_stamp r t c d u lc p e in
           subst (λ (u : ℕ). IsOver r (u + 1) (bridge_at_place r j)) (sym f)
           (over_by r (t + 1) (bridge_at_place r j) (none j m (subst (λ (d : ℕ). joins d (bridge_at_place r j) ≡ true) p q))
-          (ended_by r now t (bridge_at_place r j) (s.sound j m) late told (bridge_at_place r j).ended refl) (end_in r (bridge_at_place r j)) refl)
+          (ended_by r now t (bridge_at_place r j) (s.sound j m) late told (bridge_at_place r j).ended refl) (bridge_end_in r (bridge_at_place r j)) refl)
       | inr n ↦ s.shut d u j (sym (ap (λ (x : Call). x.closed) (get_or-set_other r.calls c d (record (call_in r c) { closed = Some t }) never n)) ∙ e) m q
     ])
     (λ d h. ap is_some (field_kept (λ x. x.opened) r.calls c (record (call_in r c) { closed = Some t }) refl d) ∙ h)
@@ -169,7 +169,7 @@ table_closed r now t c s lc opened here late told none =
 -- where a call has no live bridge, each of its bridges is over
 pub none_live : (r : Rows) (now c : ℕ) → IsTable r now → (o : Option ℕ) → IsLatest r.bridges c o →
     ((k : ℕ) → o ≡ Some k → is_live_in r (bridge_at_place r k) ≡ false) → (j : ℕ) → j < length r.bridges → joins c (bridge_at_place r j) ≡ true →
-    end_in r (bridge_at_place r j) ≡ None → ⊥
+    bridge_end_in r (bridge_at_place r j) ≡ None → ⊥
 none_live r now c s None l live j h q e = not_both _ (l j h) q
 none_live r now c s (Some k) l live j h q e =
     elim (cases_order j k) [

@@ -8,7 +8,7 @@ use Rattle.switchboard.specs.declared.act.Span.{Span}
 use Rattle.switchboard.specs.declared.table.Bridge.{Bridge}
 use Rattle.switchboard.specs.declared.table.Call.{Call}
 use Rattle.switchboard.specs.Bridges.{joins, no_bridge}
-use Rattle.switchboard.specs.Rows.{Rows, never, call_in, bridge_at_place, is_open_in, end_in, span_in, position_in, call_ended_in, spans_after}
+use Rattle.switchboard.specs.Rows.{Rows, never, call_in, bridge_at_place, is_open_in, bridge_end_in, span_in, position_in, call_ended_in, spans_after}
 use Rattle.switchboard.specs.Ends.{least, span_to}
 use Rattle.switchboard.specs.Stands.{IsLatest, IsTable}
 use Rattle.switchboard.proofs.Lists.{somes, filter_map-somes, somes-insert, somes-set, not_both}
@@ -36,15 +36,15 @@ pub lost_apart : (r : Rows) (at c : ℕ) (x : Bridge) → joins c x ≡ false �
 lost_apart r at c x e = (λ p. not_both _ e (joins_left c x (sym p)), λ p. not_both _ e (joins_right c x (sym p)))
 
 -- .. and keeps its end
-pub lost_end_other : (r : Rows) (at c : ℕ) (x : Bridge) → joins c x ≡ false → end_in (call_ended_in r at c) x ≡ end_in r x
+pub lost_end_other : (r : Rows) (at c : ℕ) (x : Bridge) → joins c x ≡ false → bridge_end_in (call_ended_in r at c) x ≡ bridge_end_in r x
 lost_end_other r at c x e =
     let n = lost_apart r at c x e in
     ap (λ (y : Call). least x.ended (least y.gone (call_in (call_ended_in r at c) x.b).gone)) (lost_other r at c x.a n.0)
     ∙ ap (λ (y : Call). least x.ended (least (call_in r x.a).gone y.gone)) (lost_other r at c x.b n.1)
 
 -- the end of a bridge of the call is lowered
-pub lost_end : (r : Rows) (at c : ℕ) (x : Bridge) → c < length r.calls → (call_in r c).gone ≡ None → joins c x ≡ true → end_in (call_ended_in r at c) x
-    ≡ least (end_in r x) (Some at)
+pub lost_end : (r : Rows) (at c : ℕ) (x : Bridge) → c < length r.calls → (call_in r c).gone ≡ None → joins c x ≡ true → bridge_end_in (call_ended_in r at c) x
+    ≡ least (bridge_end_in r x) (Some at)
 lost_end r at c x l g j =
     let n : Rows = call_ended_in r at c in
     elim (cases_eq x.a c) [
@@ -73,8 +73,8 @@ lost_end r at c x l g j =
     ]
 
 -- an end that isn't past the new one stays
-pub lost_end_kept : (r : Rows) (at c v : ℕ) (x : Bridge) → c < length r.calls → (call_in r c).gone ≡ None → end_in r x ≡ Some v → v ≤ at →
-    end_in (call_ended_in r at c) x ≡ Some v
+pub lost_end_kept : (r : Rows) (at c v : ℕ) (x : Bridge) → c < length r.calls → (call_in r c).gone ≡ None → bridge_end_in r x ≡ Some v → v ≤ at →
+    bridge_end_in (call_ended_in r at c) x ≡ Some v
 lost_end_kept r at c v x l g e h =
     elim (cases_Bool (joins c x)) [
       | inl j ↦ lost_end r at c x l g j ∙ ap (λ o. least o (Some at)) e ∙ ap Some (omega arith)
@@ -98,8 +98,8 @@ map_but f g (x ∷ xs) (suc k) d l h =
 -- the spans, where only the end of the bridge at place k is new
 lost_spans_at : (r : Rows) (at c k : ℕ) → r.spans ≡ filter_map (span_in r) r.bridges → c < length r.calls → (call_in r c).gone ≡ None → k < length r.bridges →
     joins c (bridge_at_place r k) ≡ true →
-    ((j : ℕ) → j < length r.bridges → j ≢ k → end_in (call_ended_in r at c) (bridge_at_place r j) ≡ end_in r (bridge_at_place r j)) →
-    (o : Option ℕ) → end_in r (bridge_at_place r k) ≡ o →
+    ((j : ℕ) → j < length r.bridges → j ≢ k → bridge_end_in (call_ended_in r at c) (bridge_at_place r j) ≡ bridge_end_in r (bridge_at_place r j)) →
+    (o : Option ℕ) → bridge_end_in r (bridge_at_place r k) ≡ o →
     (elim o [
       | None ↦ insert r.spans (position_in r k) (span_to (bridge_at_place r k) at)
       | Some v ↦ if nat_lt at v then set r.spans (position_in r k) (span_to (bridge_at_place r k) at) else r.spans
@@ -139,7 +139,7 @@ lost_spans_at r at c k s l g lk q h (Some v) e = by (nat_lt at v) refl
         let dd = get_or_default r.bridges j d no_bridge m in
         subst (λ (z : Bridge). span_in r z ≡ span_in (call_ended_in r at c) z) (sym dd)
         (ap (option_map (span_to (bridge_at_place r j))) (sym (elim (cases_eq j k) [
-          | inl p ↦ subst (λ (j : ℕ). end_in (call_ended_in r at c) (bridge_at_place r j) ≡ end_in r (bridge_at_place r j)) (sym p)
+          | inl p ↦ subst (λ (j : ℕ). bridge_end_in (call_ended_in r at c) (bridge_at_place r j) ≡ bridge_end_in r (bridge_at_place r j)) (sym p)
               (lost_end_kept r at c v (bridge_at_place r k) l g e more ∙ sym e)
           | inr p ↦ h j m p
         ]))))
@@ -165,7 +165,7 @@ table_lost r now at c s late l lc o =
             );
             ended = λ u e. let z = q.ended u e in (lost_end_kept r at c u x l g z.0 (omega (arith, z.1)), z.1);
             lasts = λ e. elim (cases_Bool (joins c x)) [
-              | inl t ↦ absurd (least_never (end_in r x) at (sym (lost_end r at c x l g t) ∙ e))
+              | inl t ↦ absurd (least_never (bridge_end_in r x) at (sym (lost_end r at c x l g t) ∙ e))
               | inr t ↦
                   let z = q.lasts (sym (lost_end_other r at c x t) ∙ e) in
                   let a = lost_apart r at c x t in (
@@ -225,4 +225,4 @@ table_lost r now at c s late l lc o =
                 let f = (s.sound k is.0).from in
                 lost_end_kept r at c v.at (bridge_at_place r j) l g v.ended (let b = v.before in omega arith) ∙ sym v.ended
           ]
-        ]) (end_in r (bridge_at_place r k)) refl
+        ]) (bridge_end_in r (bridge_at_place r k)) refl

@@ -7,7 +7,7 @@ use Rattle.std.proofs.lemmas.List.{length-map, length-set, get_or-set_same, get_
 use Rattle.switchboard.specs.declared.act.Span.{Span}
 use Rattle.switchboard.specs.declared.table.Bridge.{Bridge}
 use Rattle.switchboard.specs.Bridges.{joins, no_bridge}
-use Rattle.switchboard.specs.Rows.{Rows, call_in, bridge_at_place, is_live_in, end_in, span_in, position_in, parted_at}
+use Rattle.switchboard.specs.Rows.{Rows, call_in, bridge_at_place, is_live_in, bridge_end_in, span_in, position_in, parted_at}
 use Rattle.switchboard.specs.Ends.{least, span_to}
 use Rattle.switchboard.specs.Stands.{IsLatest, IsSound, IsTable}
 use Rattle.switchboard.proofs.Lists.{somes, filter_map-somes, somes-insert, not_both}
@@ -37,7 +37,7 @@ table_parted r t k s lk live =
     let parts = live_parts r x live in
     let ga = open_parts _ _ _ parts.1 in
     let gb = open_parts _ _ _ parts.2 in
-    let end : end_in r y ≡ Some t = ap (λ o. least (Some t) (least o (call_in r x.b).gone)) ga.2 ∙ ap (λ o. least (Some t) o) gb.2 in
+    let end : bridge_end_in r y ≡ Some t = ap (λ o. least (Some t) (least o (call_in r x.b).gone)) ga.2 ∙ ap (λ o. least (Some t) o) gb.2 in
     let os : List (Option Span) = map (span_in r) r.bridges in
     record {
       latest = λ c h. latest_parted r.bridges k t c _ (s.latest c h);
@@ -59,7 +59,7 @@ table_parted r t k s lk live =
           let o = s.over c i j h lj p' q' in
           let ne : i ≢ k = λ e. not_both _ (over-not_live r _ _ o) (ap (λ i. is_live_in r (bridge_at_place r i)) e ∙ live) in
           let f = part_kept (λ (z : Bridge). z.from) no_bridge r.bridges k y refl j in
-          record { at = o.at; ended = ap (end_in r) (get_or-set_other r.bridges k i y no_bridge ne) ∙ o.ended; before = omega (arith, o.before) };
+          record { at = o.at; ended = ap (bridge_end_in r) (get_or-set_other r.bridges k i y no_bridge ne) ∙ o.ended; before = omega (arith, o.before) };
       untold = s.untold;
       unused = s.unused;
       shut = λ c u j e l q.
@@ -67,7 +67,7 @@ table_parted r t k s lk live =
           let q' = sym (part_kept (joins c) no_bridge r.bridges k y refl j) ∙ q in
           let o = s.shut c u j e lj q' in
           let ne : j ≢ k = λ p. not_both _ (over-not_live r _ _ o) (ap (λ i. is_live_in r (bridge_at_place r i)) p ∙ live) in
-          record { at = o.at; ended = ap (end_in r) (get_or-set_other r.bridges k j y no_bridge ne) ∙ o.ended; before = o.before };
+          record { at = o.at; ended = ap (bridge_end_in r) (get_or-set_other r.bridges k j y no_bridge ne) ∙ o.ended; before = o.before };
       spans =
           ap (λ z. insert z (position_in r k) (span_to x t)) (s.spans ∙ filter_map-somes (span_in r) r.bridges)
           ∙ ap (λ z. insert (somes os) z (span_to x t)) (position-somes r k)

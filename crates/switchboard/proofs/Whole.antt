@@ -9,7 +9,7 @@ use Rattle.switchboard.specs.declared.act.Reply.{Reply}
 use Rattle.switchboard.specs.declared.table.Bridge.{Bridge}
 use Rattle.switchboard.specs.Calls.{Done, is_open, opened_at, closed_at}
 use Rattle.switchboard.specs.Bridges.{bridges, joins, no_bridge, OneLasts, lasts}
-use Rattle.switchboard.specs.Rows.{Rows, gone_of, is_open_in, is_live_in, IsSized, call_in, bridge_at_place, end_in, span_in}
+use Rattle.switchboard.specs.Rows.{Rows, gone_of, is_open_in, is_live_in, IsSized, call_in, bridge_at_place, bridge_end_in, span_in}
 use Rattle.switchboard.specs.Runs.{AllEnded}
 use Rattle.switchboard.specs.Ends.{Given, whole_of, lack_of, start_of, ends_at, span_of, spans_of, least, span_to}
 use Rattle.switchboard.specs.State.{State, gone_in}
@@ -57,8 +57,8 @@ filter_map_map f g (x ∷ xs) d h = cons_same (f x) (Some (g x)) (filter_map f x
 -- what is known of the end of a call of a bridge
 record Known (r : Rows) (x : Bridge) (c end : ℕ) : Type 0 where
   told : (w : ℕ) → (call_in r c).gone ≡ Some w → w ≡ end
-  over : (call_in r c).gone ≡ None → (v : ℕ) → end_in r x ≡ Some v → v ≤ end
-  some : (call_in r c).gone ≡ None → end_in r x ≡ None → ⊥
+  over : (call_in r c).gone ≡ None → (v : ℕ) → bridge_end_in r x ≡ Some v → v ≤ end
+  some : (call_in r c).gone ≡ None → bridge_end_in r x ≡ None → ⊥
 
 -- once each call has ended, the table knows each end
 known : (given : ℕ → Given) (P : ℕ) (r : Rows) (ds : List Done) → Stands r ds → ((c : ℕ) → is_some (opened_at c ds) ≡ true → closed_at c ds ≡ None →

@@ -65,11 +65,11 @@ known_in r t = record {
   bridge_ended = bridge_ended_in r t;
 }
 
-abbrev pub end_in : Rows → Bridge → Option ℕ
-end_in r x = least x.ended (least (call_in r x.a).gone (call_in r x.b).gone)
+abbrev pub bridge_end_in : Rows → Bridge → Option ℕ
+bridge_end_in r x = least x.ended (least (call_in r x.a).gone (call_in r x.b).gone)
 
 abbrev pub span_in : Rows → Bridge → Option Span
-span_in r x = option_map (span_to x) (end_in r x)
+span_in r x = option_map (span_to x) (bridge_end_in r x)
 
 -- how many of the bridges before place k are over
 abbrev pub position_in : Rows → ℕ → ℕ
@@ -104,7 +104,7 @@ parted_in r t c = elim (call_in r c).bridge [ None ↦ r | Some k ↦ parted_at 
 
 -- the spans after the end of a call whose latest bridge is at place k
 abbrev pub spans_after : Rows → ℕ → ℕ → List Span
-spans_after r at k = elim (end_in r (bridge_at_place r k)) [
+spans_after r at k = elim (bridge_end_in r (bridge_at_place r k)) [
   | None ↦ insert r.spans (position_in r k) (span_to (bridge_at_place r k) at)
   | Some v ↦ if nat_lt at v then set r.spans (position_in r k) (span_to (bridge_at_place r k) at) else r.spans
 ]

@@ -12,13 +12,13 @@ use Rattle.switchboard.specs.declared.act.Reply.{Reply}
 use Rattle.switchboard.specs.declared.table.Bridge.{Bridge}
 use Rattle.switchboard.specs.Calls.{Done, opened_at, closed_at}
 use Rattle.switchboard.specs.Bridges.{bridges, joins, no_bridge}
-use Rattle.switchboard.specs.Rows.{Rows, call_in, bridge_at_place, is_open_in, end_in, span_in}
+use Rattle.switchboard.specs.Rows.{Rows, call_in, bridge_at_place, is_open_in, bridge_end_in, span_in}
 use Rattle.switchboard.specs.State.{State, last_stamp, numbered}
 
 -- a bridge was over before period t
 pub record IsOver (r : Rows) (t : ℕ) (x : Bridge) : Type 0 where
   pub at : ℕ
-  pub ended : end_in r x ≡ Some at
+  pub ended : bridge_end_in r x ≡ Some at
   pub before : at < t
 
 -- the place of the latest bridge of a call
@@ -32,8 +32,8 @@ pub record IsSound (r : Rows) (now : ℕ) (x : Bridge) : Type 0 where
   pub from : x.from ≤ now
   pub apart : x.a ≢ x.b
   pub known : (is_some (call_in r x.a).opened ≡ true) × (is_some (call_in r x.b).opened ≡ true)
-  pub ended : (s : ℕ) → x.ended ≡ Some s → (end_in r x ≡ Some s) × (s ≤ now)
-  pub lasts : end_in r x ≡ None → (is_open_in r x.a ≡ true) × (is_open_in r x.b ≡ true)
+  pub ended : (s : ℕ) → x.ended ≡ Some s → (bridge_end_in r x ≡ Some s) × (s ≤ now)
+  pub lasts : bridge_end_in r x ≡ None → (is_open_in r x.a ≡ true) × (is_open_in r x.b ≡ true)
 
 -- the calls and bridges of a table at a time: a call's earlier bridges were over before its later ones began, and a call
 -- that wasn't opened wasn't closed and has no end

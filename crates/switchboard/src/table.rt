@@ -2,7 +2,7 @@
 
 ghost use Rattle.std.specs.Prelude.{◌≡◌, ◌<◌, ◌≤◌, [], length, IfOk, IfSome, replicate, slice_set};
 ghost use Rattle.std.specs.List.{filter_map, insert};
-ghost use Rattle.switchboard.specs.Rows.{never, call_in, bridge_at_place, ended_at_place, is_open_in, has_ended_in, bridge_in, bridge_ended_in, end_in, span_in, position_in, opened_in, closed_in, bridged_in, parted_in, spans_ended_in, gone_in_rows, call_ended_in};
+ghost use Rattle.switchboard.specs.Rows.{never, call_in, bridge_at_place, ended_at_place, is_open_in, has_ended_in, bridge_in, bridge_ended_in, bridge_end_in, span_in, position_in, opened_in, closed_in, bridged_in, parted_in, spans_ended_in, gone_in_rows, call_ended_in};
 ghost use Rattle.switchboard.specs.Ends.{least, span_to};
 
 use crate::Span;
@@ -129,7 +129,7 @@ impl Table {
     fn end_of(&self, bridge: &Bridge) -> Option<u32>
         requires a { bridge.now.a < NUMBERS }
         requires b { bridge.now.b < NUMBERS }
-        ensures { result ≡ end_in self.now bridge.now }
+        ensures { result ≡ bridge_end_in self.now bridge.now }
     {
         let calls = least(
             self.calls[bridge.a as usize].gone,

@@ -9,9 +9,9 @@ use Rattle.std.proofs.lemmas.Bool.Decides.{nat_tests}
 use Rattle.std.proofs.lemmas.List.Recursion.{and_at}
 use Rattle.std.proofs.lemmas.List.Sums.{position_or_len_is}
 use Rattle.std.proofs.lemmas.List.FromFn.{length-range_with_len, get_or-range_with_len}
-use Rattle.trau_alaw.specs.Companding.{Companding, magnitude, has_magnitude, holds, octet_of, IsOnlyOctet, PartsWords}
+use Rattle.trau_alaw.specs.Companding.{Companding, magnitude, has_magnitude, contains, octet_of, IsOnlyOctet, PartsWords}
 
--- what holds of each number of a table
+-- what contains of each number of a table
 pub entry : (p : ℕ → Bool) (len n : ℕ) → list_all p (range_with_len 0 len) ≡ true → n < len → p n ≡ true
 entry p len n t h =
     let e : get_or (range_with_len 0 len) n 0 ≡ n = get_or-range_with_len 0 len n 0 h ∙ omega arith in
@@ -117,7 +117,7 @@ same_interval law key start laid a b n h g s t =
 
 -- a word belongs to one octet
 one_octet : (law : Companding) (key : ℕ) (start : ℕ → ℕ) → IsLaid law key start → (x : ℤ) (a b : ℕ) → a < 256 → b < 256 →
-    holds (law a) x ≡ true → holds (law b) x ≡ true → a ≡ b
+    contains (law a) x ≡ true → contains (law b) x ≡ true → a ≡ b
 one_octet law key start laid (pos n) a b h g p q =
     let r = and_parts _ _ p in
     let s = and_parts _ _ q in
@@ -131,9 +131,9 @@ one_octet law key start laid (negsuc n) a b h g p q =
 
 -- ---- the octet of a code
 
--- the octet of a code whose interval has the word's magnitude holds the word
+-- the octet of a code whose interval has the word's magnitude contains the word
 holds-code : (law : Companding) (key : ℕ) (start : ℕ → ℕ) → IsLaid law key start → (x : ℤ) (code : ℕ) → code < 256 →
-    IsIn start (code % 128) (magnitude x) → (x <ℤ pos 0 → code < 128) → (pos 0 ≤ℤ x → 128 ≤ code) → holds (law (bit_xor code key)) x ≡ true
+    IsIn start (code % 128) (magnitude x) → (x <ℤ pos 0 → code < 128) → (pos 0 ≤ℤ x → 128 ≤ code) → contains (law (bit_xor code key)) x ≡ true
 holds-code law key start laid (pos n) code h i low high =
     let e = laid.back code h in
     let octet : bit_xor code key < 256 = xor_of_8 code key h laid.small in
@@ -186,7 +186,7 @@ octet_of-only law x octet h =
     let l = h.is_octet in
     let at : (k : ℕ) → k < 256 → get_or (range_with_len 0 256) k 0 ≡ k =
     λ k m. get_or-range_with_len 0 256 k 0 m ∙ omega arith in
-    sym (position_or_len_is (λ k. holds (law k) x) (range_with_len 0 256) octet 0
+    sym (position_or_len_is (λ k. contains (law k) x) (range_with_len 0 256) octet 0
     (rw length-range_with_len (omega arith))
     (λ k m. let below : k < 256 = omega arith in
     rw (at k below) (false_from_ne_true _ (λ t. let e = h.only k below t in absurd (omega arith))))

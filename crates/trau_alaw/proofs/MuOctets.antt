@@ -1,9 +1,9 @@
--- The octets of mu-law, and the one whose interval holds a value.
+-- The octets of mu-law, and the one whose interval contains a value.
 use Rattle.std.proofs.Common.{◌≡◌, ℕ, ◌+◌, ◌/◌, ◌%◌, ◌<◌, ◌≤◌, Bool, true, false, nat_eq, nat_le, nat_lt, if◌then◌else◌, bit_xor, ℤ, pos, ◌<ℤ◌, ◌≤ℤ◌, refl, arith}
 use Rattle.std.specs.Prelude.{◌==◌, ◌||◌}
 use Rattle.std.specs.List.{list_all, range_with_len}
 use Rattle.std.proofs.lemmas.Bool.{eqb-true, leb-true}
-use Rattle.trau_alaw.specs.Companding.{magnitude, holds, middle, IsOnlyOctet, PartsWords}
+use Rattle.trau_alaw.specs.Companding.{magnitude, contains, middle, IsOnlyOctet, PartsWords}
 use Rattle.trau_alaw.specs.Mulaw.{mulaw, mulaw_least, mulaw_end}
 use Rattle.trau_alaw.proofs.MuSegments.{IsAtMu}
 use Rattle.trau_alaw.proofs.Laid.{entry, IsLaid, IsIn}
@@ -86,16 +86,16 @@ only_octet x code h a low high =
     (rw same (in_interval (code % 128) (magnitude x) (omega arith) a))
     (λ l. let g = low l in omega arith) (λ l. let g = high l in omega arith))
 
--- each octet but one holds the middle of its own interval
-middle_table : list_all (λ octet. (octet == 127) || holds (mulaw octet) (middle (mulaw octet))) (range_with_len 0 256) ≡ true
+-- each octet but one contains the middle of its own interval
+middle_table : list_all (λ octet. (octet == 127) || contains (mulaw octet) (middle (mulaw octet))) (range_with_len 0 256) ≡ true
 unfolding mulaw
 middle_table = refl
 
 -- the middle of an octet's interval lies in it, but that of the negative zero
-pub holds-middle : (octet : ℕ) → octet < 256 → (octet == 127) ≡ false → holds (mulaw octet) (middle (mulaw octet)) ≡ true
+pub holds-middle : (octet : ℕ) → octet < 256 → (octet == 127) ≡ false → contains (mulaw octet) (middle (mulaw octet)) ≡ true
 holds-middle octet h e =
-    let t : ((octet == 127) || holds (mulaw octet) (middle (mulaw octet))) ≡ true =
-    entry (λ octet. (octet == 127) || holds (mulaw octet) (middle (mulaw octet))) 256 octet middle_table h in
+    let t : ((octet == 127) || contains (mulaw octet) (middle (mulaw octet))) ≡ true =
+    entry (λ octet. (octet == 127) || contains (mulaw octet) (middle (mulaw octet))) 256 octet middle_table h in
     rw e at t
 
 pub parts : PartsWords mulaw

@@ -1,8 +1,8 @@
--- The octets of A-law, and the one whose interval holds a value.
+-- The octets of A-law, and the one whose interval contains a value.
 use Rattle.std.proofs.Common.{◌≡◌, ℕ, ◌+◌, ◌/◌, ◌%◌, ◌<◌, ◌≤◌, true, nat_eq, nat_le, bit_xor, ℤ, pos, ◌<ℤ◌, ◌≤ℤ◌, refl, arith}
 use Rattle.std.specs.List.{list_all, range_with_len}
 use Rattle.std.proofs.lemmas.Bool.{eqb-true}
-use Rattle.trau_alaw.specs.Companding.{Companding, magnitude, holds, middle, octet_of, IsOnlyOctet, PartsWords}
+use Rattle.trau_alaw.specs.Companding.{Companding, magnitude, contains, middle, octet_of, IsOnlyOctet, PartsWords}
 use Rattle.trau_alaw.specs.Alaw.{alaw, alaw_least, alaw_width}
 use Rattle.trau_alaw.proofs.Segments.{IsAt}
 use Rattle.trau_alaw.proofs.Laid.{entry, IsLaid, IsIn}
@@ -54,14 +54,14 @@ only_octet x code h a low high =
     let next = start-next (code % 128) (omega arith) in
     laid.only_octet alaw 85 start alaw_laid x code h (record { at_least = l; within = omega arith }) low high
 
--- each octet holds the middle of its own interval
-middle_table : list_all (λ octet. holds (alaw octet) (middle (alaw octet))) (range_with_len 0 256) ≡ true
+-- each octet contains the middle of its own interval
+middle_table : list_all (λ octet. contains (alaw octet) (middle (alaw octet))) (range_with_len 0 256) ≡ true
 unfolding alaw
 middle_table = refl
 
 -- the middle of an octet's interval lies in it
-pub holds-middle : (octet : ℕ) → octet < 256 → holds (alaw octet) (middle (alaw octet)) ≡ true
-holds-middle octet h = entry (λ octet. holds (alaw octet) (middle (alaw octet))) 256 octet middle_table h
+pub holds-middle : (octet : ℕ) → octet < 256 → contains (alaw octet) (middle (alaw octet)) ≡ true
+holds-middle octet h = entry (λ octet. contains (alaw octet) (middle (alaw octet))) 256 octet middle_table h
 
 pub octet_of-only : (law : Companding) (x : ℤ) (octet : ℕ) → IsOnlyOctet law x octet → octet ≡ octet_of law x
 octet_of-only = laid.octet_of-only

@@ -24,23 +24,23 @@ abbrev pub has_magnitude : Interval → ℕ → Bool
 has_magnitude i n = nat_le i.least n && nat_lt n (i.least + i.width)
 
 -- whether the value lies in the interval
-abbrev pub holds : Interval → ℤ → Bool
-holds i (pos n) = i.is_positive && has_magnitude i n
-holds i (negsuc n) = not i.is_positive && has_magnitude i n
+abbrev pub contains : Interval → ℤ → Bool
+contains i (pos n) = i.is_positive && has_magnitude i n
+contains i (negsuc n) = not i.is_positive && has_magnitude i n
 
 -- the middle of the interval, with its sign
 abbrev pub middle : Interval → ℤ
 middle i = if i.is_positive then pos i.centre else neg_ℤ (pos i.centre)
 
--- the octet whose interval holds the value; a law has one for each value of 16 bits
+-- the octet whose interval contains the value; a law has one for each value of 16 bits
 unfoldable pub octet_of : Companding → ℤ → ℕ
-octet_of law x = position_or_len (λ octet. holds (law octet) x) (range_with_len 0 256)
+octet_of law x = position_or_len (λ octet. contains (law octet) x) (range_with_len 0 256)
 
--- the octet's interval holds the value, and no other octet's does
+-- the octet's interval contains the value, and no other octet's does
 pub record IsOnlyOctet (law : Companding) (x : ℤ) (octet : ℕ) : Type 0 where
   pub is_octet : octet < 256
-  pub within : IsTrue (holds (law octet) x)
-  pub only : (other : ℕ) → other < 256 → IsTrue (holds (law other) x) → other ≡ octet
+  pub within : IsTrue (contains (law octet) x)
+  pub only : (other : ℕ) → other < 256 → IsTrue (contains (law other) x) → other ≡ octet
 
 -- the law's intervals part the values of 16 bits: each value lies in exactly one
 abbrev pub PartsWords : Companding → Type 0

@@ -4,7 +4,7 @@ use Rattle.std.proofs.lemmas.List.{get_or_read_under}
 use Rattle.trau_io.specs.declared.line.Side.{Side}
 use Rattle.trau_io.specs.Places.{place_of}
 use Rattle.trau_io.proofs.Tables.{same_line}
-use Rattle.trau_files.specs.Files.{OpenLine, IsFileOf, OpenAfter, AreSeated, in_seat, open_after}
+use Rattle.trau_files.specs.Files.{OpenLine, IsFileOf, OpenAfter, AreSeated, in_seat, file_after}
 
 -- an element is the one that was put there, or as before
 set_place : {X : Type 0} (xs : List X) (i : ℕ) (y d : X) (k : ℕ) →
@@ -94,14 +94,14 @@ moved_to seats seat_of o seat file was within seated =
 
 pub moved_after : {E : Type 0} (seats : List (Option OpenLine)) (seat_of : List ℕ) (seat : ℕ) (old file : Option OpenLine) (result : Result ℕ E) →
     in_seat seats seat ≡ old → seat < length seats → AreSeated seats seat_of →
-    IfSome old (λ o. file ≡ open_after o.call o.side o.access o.at result) →
-    IfSome (in_seat seats seat) (λ o. OpenAfter seats (slice_set seats seat file) o.call o.side (open_after o.call o.side o.access o.at result))
+    IfSome old (λ o. file ≡ file_after o.call o.side o.access o.at result) →
+    IfSome (in_seat seats seat) (λ o. OpenAfter seats (slice_set seats seat file) o.call o.side (file_after o.call o.side o.access o.at result))
 moved_after seats seat_of seat old file result was within seated after =
-    subst (λ x. IfSome x (λ o. OpenAfter seats (slice_set seats seat file) o.call o.side (open_after o.call o.side o.access o.at result))) (sym was)
+    subst (λ x. IfSome x (λ o. OpenAfter seats (slice_set seats seat file) o.call o.side (file_after o.call o.side o.access o.at result))) (sym was)
     (moved old was after)
   where
-    moved : (old : Option OpenLine) → in_seat seats seat ≡ old → IfSome old (λ o. file ≡ open_after o.call o.side o.access o.at result) →
-        IfSome old (λ o. OpenAfter seats (slice_set seats seat file) o.call o.side (open_after o.call o.side o.access o.at result))
+    moved : (old : Option OpenLine) → in_seat seats seat ≡ old → IfSome old (λ o. file ≡ file_after o.call o.side o.access o.at result) →
+        IfSome old (λ o. OpenAfter seats (slice_set seats seat file) o.call o.side (file_after o.call o.side o.access o.at result))
     moved None was after = tt
     moved (Some o) was after = subst (OpenAfter seats (slice_set seats seat file) o.call o.side) after (moved_to seats seat_of o seat file was within seated)
 

@@ -52,13 +52,13 @@ pub record OpenLine : Type 0 where
   pub at : ℕ
 
 -- an open file is this line's, is open for this, and stands at this octet
-abbrev pub StandsAt : Option OpenLine → ℕ → Side → Access → ℕ → Type 0
-StandsAt file call side access at = file ≡ Some (record { call = call; side = side; access = access; at = at })
+abbrev pub IsOpenAt : Option OpenLine → ℕ → Side → Access → ℕ → Type 0
+IsOpenAt file call side access at = file ≡ Some (record { call = call; side = side; access = access; at = at })
 
 -- the line's file after a call at this octet with this answer: it stands behind the octets that were moved, and a fault closes it
-abbrev pub open_after : {E : Type 0} → ℕ → Side → Access → ℕ → Result ℕ E → Option OpenLine
-open_after call side access at (Ok n) = Some (record { call = call; side = side; access = access; at = raised at n })
-open_after call side access at (Err e) = None
+abbrev pub file_after : {E : Type 0} → ℕ → Side → Access → ℕ → Result ℕ E → Option OpenLine
+file_after call side access at (Ok n) = Some (record { call = call; side = side; access = access; at = raised at n })
+file_after call side access at (Err e) = None
 
 -- the line's file after an opening with this answer: it stands at this octet, or isn't open
 abbrev pub opened : {A E : Type 0} → ℕ → Side → Access → ℕ → Result A E → Option OpenLine
@@ -75,8 +75,8 @@ pub record IsFileOf (seats : List (Option OpenLine)) (call : ℕ) (side : Side) 
   pub there : IfSome file (λ o. (k : ℕ) × (in_seat seats k ≡ Some o))
 
 -- nothing was opened: each seat has the file that it had, or none
-abbrev pub Closes : List (Option OpenLine) → List (Option OpenLine) → Type 0
-Closes old new = (k : ℕ) → (in_seat new k ≡ in_seat old k) ⊎ (in_seat new k ≡ None)
+abbrev pub OnlyCloses : List (Option OpenLine) → List (Option OpenLine) → Type 0
+OnlyCloses old new = (k : ℕ) → (in_seat new k ≡ in_seat old k) ⊎ (in_seat new k ≡ None)
 
 -- of this line just this file is open now, or none; of the others none that wasn't
 pub record OpenAfter (old new : List (Option OpenLine)) (call : ℕ) (side : Side) (file : Option OpenLine) : Type 0 where
@@ -96,9 +96,9 @@ pub record TrunkFiles : Type 0 where
 -- a read of a line that stood so, with this answer: it took the line's next octets, and nothing else
 pub record TrunkReads (old new : TrunkFiles) (call : ℕ) (side : Side) (l : FileLine) (result : Result ℕ Failed) : Type 0 where
   pub lines : new.lines ≡ slice_set old.lines (place_of call side) (after_read l result)
-  pub files : OpenAfter old.files new.files call side (open_after call side Reading l.read result)
+  pub files : OpenAfter old.files new.files call side (file_after call side Reading l.read result)
 
 -- a write of a line that stood so, with this answer: it went behind the octets written before
 pub record TrunkWrites (old new : TrunkFiles) (call : ℕ) (side : Side) (l : FileLine) (result : Result ℕ Failed) : Type 0 where
   pub lines : new.lines ≡ slice_set old.lines (place_of call side) (after_write l result)
-  pub files : OpenAfter old.files new.files call side (open_after call side Writing l.written result)
+  pub files : OpenAfter old.files new.files call side (file_after call side Writing l.written result)

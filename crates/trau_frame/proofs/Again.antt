@@ -4,7 +4,7 @@ use Rattle.std.specs.List.{range_with_len}
 use Rattle.std.proofs.lemmas.List.FromFn.{length-map-range_with_len, get_or-map-range_with_len}
 use Rattle.std.proofs.lemmas.Grind.{same_number_lists}
 use Rattle.trau_frame.specs.declared.frames.DownFrame.{DownFrame}
-use Rattle.trau_frame.specs.Role.{Role, Data, role_of, place_of_role, bit_with, IsWithin}
+use Rattle.trau_frame.specs.Role.{Role, Data, role_of, place_of_role, bit_with, IsRole}
 use Rattle.trau_frame.specs.Frame.{Synced, data_of, bit_for, frame_bits}
 use Rattle.trau_frame.specs.DownFrame.{down_control, down_data, down_bits}
 use Rattle.trau_frame.proofs.Places.{role_of-place_of, place_of-below}
@@ -20,7 +20,7 @@ get_or-frame_bits control d i e h = get_or-map-range_with_len (λ i. bit_for con
 pub synced-frame_bits : (control d : List ℕ) → Synced (frame_bits control d)
 synced-frame_bits control d = λ i bit h e. get_or-frame_bits control d i 0 h ∙ ap (bit_for control d) e
 
-pub bit_with-frame_bits : (control d : List ℕ) (r : Role) → IsWithin r → bit_with (frame_bits control d) r ≡ bit_for control d r
+pub bit_with-frame_bits : (control d : List ℕ) (r : Role) → IsRole r → bit_with (frame_bits control d) r ≡ bit_for control d r
 bit_with-frame_bits control d r h =
     get_or-frame_bits control d (place_of_role r) 0 (place_of-below r h) ∙ ap (bit_for control d) (role_of-place_of r h)
 

@@ -6,7 +6,7 @@ use Rattle.std.proofs.lemmas.List.FromFn.{length-range_with_len, get_or-range_wi
 use Rattle.std.proofs.lemmas.Bool.{cases_eq, cases_lt, le-ltb, ne_eqb}
 use Rattle.std.proofs.lemmas.Bool.Decides.{nat_tests}
 use Rattle.std.proofs.lemmas.Grind.{common_steps}
-use Rattle.trau_frame.specs.Role.{Role, Sync, Control, Data, Time, role_of, place_of_role, IsWithin}
+use Rattle.trau_frame.specs.Role.{Role, Sync, Control, Data, Time, role_of, place_of_role, IsRole}
 use Rattle.trau_frame.specs.Frame.{Synced}
 
 -- ---- tables, computed once
@@ -82,7 +82,7 @@ from_same (Data a) (Data b) h = search rules
 from_same (Time a) (Time b) h = search rules
 from_same r s h = cc
 
-from_is_role : (r : Role) → is_role r ≡ true → IsWithin r
+from_is_role : (r : Role) → is_role r ≡ true → IsRole r
 from_is_role (Sync bit) h = grind (arith, common_steps)
 from_is_role (Control c) h = grind (arith, common_steps)
 from_is_role (Data n) h = grind (arith, common_steps)
@@ -90,7 +90,7 @@ from_is_role (Time t) h = grind (arith, common_steps)
 
 -- ---- roles
 
-pub role_of-place_of : (r : Role) → IsWithin r → role_of (place_of_role r) ≡ r
+pub role_of-place_of : (r : Role) → IsRole r → role_of (place_of_role r) ≡ r
 role_of-place_of (Sync bit) h =
     from_same _ _ (entry (λ bit. same_role (role_of (place_of_role (Sync bit))) (Sync bit)) 0 2 bit sync_table (omega arith) (omega arith))
 role_of-place_of (Control c) h = from_same _ _ (entry (λ c. same_role (role_of (place_of_role (Control c))) (Control c)) 1 21 c control_table h.0 (omega arith))
@@ -103,7 +103,7 @@ role_of-zeros i h = from_same _ _ (entry (λ i. same_role (role_of i) (Sync 0)) 
 pub role_of-ones : (row : ℕ) → 1 ≤ row → row < 20 → role_of (16 * row) ≡ Sync 1
 role_of-ones row l h = from_same _ _ (entry (λ row. same_role (role_of (16 * row)) (Sync 1)) 1 19 row ones_table l (omega arith))
 
-pub role_of-within : (i : ℕ) → i < 320 → IsWithin (role_of i)
+pub role_of-within : (i : ℕ) → i < 320 → IsRole (role_of i)
 role_of-within i h = from_is_role (role_of i) (entry (λ i. is_role (role_of i)) 0 320 i within_table (omega arith) (omega arith))
 
 -- a role other than a sync bit's has its place alone
@@ -158,7 +158,7 @@ synced_zeros bits s i h = s i 0 (omega arith) (role_of-zeros i h)
 pub synced_ones : (bits : List ℕ) → Synced bits → (row : ℕ) → 1 ≤ row → row < 20 → get_or bits (16 * row) 0 ≡ 1
 synced_ones bits s row l h = s (16 * row) 1 (omega arith) (role_of-ones row l h)
 
-pub place_of-below : (r : Role) → IsWithin r → place_of_role r < 320
+pub place_of-below : (r : Role) → IsRole r → place_of_role r < 320
 unfolding place_of_role
 place_of-below (Sync bit) h = omega arith
 place_of-below (Control c) h = grind (arith, nat_tests)

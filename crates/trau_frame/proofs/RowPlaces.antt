@@ -4,7 +4,7 @@ use Rattle.std.proofs.lemmas.Bool.{cases_lt}
 use Rattle.std.proofs.lemmas.Bool.Decides.{nat_tests}
 use Rattle.std.proofs.Math.ListN.{get_or-eq_default}
 use Rattle.trau_bits.specs.Bits.{AreBits}
-use Rattle.trau_frame.specs.Role.{Role, Control, Data, Time, role_of, place_of_role, IsWithin}
+use Rattle.trau_frame.specs.Role.{Role, Control, Data, Time, role_of, place_of_role, IsRole}
 use Rattle.trau_frame.proofs.Places.{role_of-place_of}
 
 -- data bits of a whole row
@@ -32,7 +32,7 @@ unfolding place_of_role
 place_of-time t = refl
 
 -- the role at a role's place
-pub role_of-at : (r : Role) (i : ℕ) → IsWithin r → place_of_role r ≡ i → role_of i ≡ r
+pub role_of-at : (r : Role) (i : ℕ) → IsRole r → place_of_role r ≡ i → role_of i ≡ r
 role_of-at r i h e = ap role_of (sym e) ∙ role_of-place_of r h
 
 -- beyond its end a list reads 0

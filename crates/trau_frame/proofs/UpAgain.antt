@@ -7,35 +7,35 @@ use Rattle.trau_frame.specs.declared.frames.Class.{Class}
 use Rattle.trau_frame.specs.declared.frames.Class.TheVariants.{Good, Sid, InvalidSid, Unusable}
 use Rattle.trau_frame.specs.declared.frames.UpFrame.{UpFrame}
 use Rattle.trau_frame.specs.Role.{Control, bit_with}
-use Rattle.trau_frame.specs.Frame.{Synced, number_of, data_of}
-use Rattle.trau_frame.specs.UpFrame.{kind_by, class_by, class_at, kind_of, class_of, words_in, words_of, Says}
+use Rattle.trau_frame.specs.Frame.{Synced, number_in, data_of}
+use Rattle.trau_frame.specs.UpFrame.{kind_by, class_by, class_at, kind_of, class_of, words_in, up_words_of, Says}
 use Rattle.trau_frame.specs.UpBits.{up_pattern, bfi_of, sid_code_of, up_control_bit, up_control, bits_saying, up_bits, FitsKind, SameFrame}
 use Rattle.trau_frame.proofs.Again.{synced-frame_bits, bit_with-frame_bits, data_of-frame_bits}
 
 pub synced-up_bits : (f : UpFrame) → Synced (up_bits f)
 unfolding bits_saying
-synced-up_bits f = synced-frame_bits (up_control (words_of f)) f.d
+synced-up_bits f = synced-frame_bits (up_control (up_words_of f)) f.d
 
 -- ---- control bits
 
 -- what is written is read again: control bits, numbers of several bits, kind and class, data
-control-again : (f : UpFrame) (c : ℕ) → 1 ≤ c → c ≤ 21 → bit_with (up_bits f) (Control c) ≡ up_control_bit (words_of f) c
+control-again : (f : UpFrame) (c : ℕ) → 1 ≤ c → c ≤ 21 → bit_with (up_bits f) (Control c) ≡ up_control_bit (up_words_of f) c
 unfolding bits_saying up_control
 control-again f c low high =
-    bit_with-frame_bits (up_control (words_of f)) f.d (Control c) (low, high) ∙
-    get_or-map-range_with_len (up_control_bit (words_of f)) 1 21 (c - 1) c 0 (omega arith) (omega arith)
+    bit_with-frame_bits (up_control (up_words_of f)) f.d (Control c) (low, high) ∙
+    get_or-map-range_with_len (up_control_bit (up_words_of f)) 1 21 (c - 1) c 0 (omega arith) (omega arith)
 
 -- the number in n bits from `first` on, the first of them the highest
 number_by : (ℕ → ℕ) → ℕ → ℕ → ℕ
 number_by bit first zero = 0
 number_by bit first (suc n) = 2 * number_by bit first n + bit (first + n)
 
-number_of-up_bits : (f : UpFrame) (first n : ℕ) → 1 ≤ first → first + n ≤ 22 → number_of (up_bits f) first n ≡ number_by (up_control_bit (words_of f)) first n
-unfolding number_of number_by
+number_of-up_bits : (f : UpFrame) (first n : ℕ) → 1 ≤ first → first + n ≤ 22 → number_in (up_bits f) first n ≡ number_by (up_control_bit (up_words_of f)) first n
+unfolding number_in number_by
 number_of-up_bits f first zero l h = refl
 number_of-up_bits f first (suc n) l h =
-    let e : number_of (up_bits f) first n ≡ number_by (up_control_bit (words_of f)) first n = number_of-up_bits f first n l (omega (arith, h)) in
-    let b : bit_with (up_bits f) (Control (first + n)) ≡ up_control_bit (words_of f) (first + n) =
+    let e : number_in (up_bits f) first n ≡ number_by (up_control_bit (up_words_of f)) first n = number_of-up_bits f first n l (omega (arith, h)) in
+    let b : bit_with (up_bits f) (Control (first + n)) ≡ up_control_bit (up_words_of f) (first + n) =
     control-again f (first + n) (omega arith) (omega (arith, h)) in
     cc
 
@@ -50,19 +50,19 @@ sid_of-below Sid = omega arith
 sid_of-below InvalidSid = omega arith
 sid_of-below Unusable = omega arith
 
-pattern-again : (f : UpFrame) → number_of (up_bits f) 1 5 ≡ up_pattern f.kind
+pattern-again : (f : UpFrame) → number_in (up_bits f) 1 5 ≡ up_pattern f.kind
 unfolding number_by
 pattern-again f =
     let below = up_pattern-below f.kind in
     number_of-up_bits f 1 5 (omega arith) (omega arith) ∙ omega arith
 
-align-again : (f : UpFrame) → number_of (up_bits f) 6 6 ≡ f.align
+align-again : (f : UpFrame) → number_in (up_bits f) 6 6 ≡ f.align
 unfolding number_by
 align-again f =
     let below : f.align ≤ 63 = f.six_bits in
     number_of-up_bits f 6 6 (omega arith) (omega arith) ∙ omega arith
 
-sid-again : (f : UpFrame) → number_of (up_bits f) 13 2 ≡ sid_code_of f.class
+sid-again : (f : UpFrame) → number_in (up_bits f) 13 2 ≡ sid_code_of f.class
 unfolding number_by
 sid-again f =
     let below = sid_of-below f.class in
@@ -94,7 +94,7 @@ flag-again false = refl
 
 data-again : (f : UpFrame) → length f.d ≡ 260 → data_of (up_bits f) ≡ f.d
 unfolding bits_saying
-data-again f count = data_of-frame_bits (up_control (words_of f)) f.d count
+data-again f count = data_of-frame_bits (up_control (up_words_of f)) f.d count
 
 -- so the bits of a frame say the frame
 pub says-up_bits : (f : UpFrame) → length f.d ≡ 260 → FitsKind f.kind f.class → Says (up_bits f) f
@@ -102,7 +102,7 @@ unfolding words_in
 says-up_bits f count fits =
     let kind : kind_of (up_bits f) ≡ f.kind = ap kind_by (pattern-again f) ∙ kind-again f.kind in
     let bfi : bit_with (up_bits f) (Control 12) ≡ bfi_of f.class = control-again f 12 (omega arith) (omega arith) in
-    let sid : number_of (up_bits f) 13 2 ≡ sid_code_of f.class = sid-again f in
+    let sid : number_in (up_bits f) 13 2 ≡ sid_code_of f.class = sid-again f in
     let class : class_of (up_bits f) ≡ f.class = rw (kind, bfi, sid) (class-again f.kind f.class fits) in
     let taf = ap (λ b. b == 1) (control-again f 15 (omega arith) (omega arith)) ∙ flag-again f.taf in
     let dtxd = ap (λ b. b == 1) (control-again f 17 (omega arith) (omega arith)) ∙ flag-again f.dtxd in

@@ -7,7 +7,7 @@ use Rattle.std.proofs.lemmas.List.FromFn.{fill_by_all, length-map-range_with_len
 use Rattle.std.proofs.lemmas.Bool.{cases_lt}
 use borrow.Rule.Slice.PartMut.{put_mid}
 use Rattle.trau_bits.specs.Bits.{AreBits}
-use Rattle.trau_frame.specs.Role.{Role, Sync, Control, Data, Time, role_of, place_of_role, IsWithin}
+use Rattle.trau_frame.specs.Role.{Role, Sync, Control, Data, Time, role_of, place_of_role, IsRole}
 use Rattle.trau_frame.specs.Frame.{bit_for, frame_bits, IsWritten}
 use Rattle.trau_frame.proofs.Places.{role_of-zeros, role_of-ones, role_of-within}
 use Rattle.trau_frame.proofs.RowPlaces.{place_of-row, place_of-last, place_of-low, place_of-high, place_of-time, role_of-at, bit-below}
@@ -24,7 +24,7 @@ written_next control d bits n x l h e =
     }
 
 -- the next place takes the bit of its role
-pub written_role : (r : Role) (control d bits : List ℕ) (n m x : ℕ) → IsWithin r → place_of_role r ≡ n → n < 320 → m ≡ n + 1 →
+pub written_role : (r : Role) (control d bits : List ℕ) (n m x : ℕ) → IsRole r → place_of_role r ≡ n → n < 320 → m ≡ n + 1 →
     x ≡ bit_for control d r → IsWritten control d bits n → IsWritten control d (set bits n x) m
 written_role r control d bits n m x within e l next same h =
     rw next (written_next control d bits n x l h (same ∙ ap (bit_for control d) (sym (role_of-at r n within e))))
@@ -113,7 +113,7 @@ written_part control d bits ys row k r fifteen len part same h =
 
 -- ---- what is written are bits
 
-pub bit_for-below : (control d : List ℕ) (r : Role) → AreBits control → AreBits d → IsWithin r → bit_for control d r < 2
+pub bit_for-below : (control d : List ℕ) (r : Role) → AreBits control → AreBits d → IsRole r → bit_for control d r < 2
 bit_for-below control d (Sync bit) hc hd h = h
 bit_for-below control d (Control c) hc hd h = bit-below control hc (c - 1)
 bit_for-below control d (Data n) hc hd h = bit-below d hd (n - 1)

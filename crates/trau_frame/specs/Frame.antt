@@ -8,9 +8,9 @@ abbrev pub Synced : List ℕ → Type 0
 Synced bits = (i bit : ℕ) → i < 320 → role_of i ≡ Sync bit → slice_index bits i ≡ bit
 
 -- the number in n control bits from C`first` on, the first of them the highest
-unfoldable pub number_of : List ℕ → ℕ → ℕ → ℕ
-number_of bits first zero = 0
-number_of bits first (suc n) = 2 * number_of bits first n + bit_with bits (Control (first + n))
+unfoldable pub number_in : List ℕ → ℕ → ℕ → ℕ
+number_in bits first zero = 0
+number_in bits first (suc n) = 2 * number_in bits first n + bit_with bits (Control (first + n))
 
 -- the data bits D1 to D260
 unfoldable pub data_of : List ℕ → List ℕ

@@ -22,11 +22,11 @@ role_of i =
     else Time (i - 315)
 
 -- the role exists in a frame
-abbrev pub IsWithin : Role → Type 0
-IsWithin (Sync bit) = bit < 2
-IsWithin (Control c) = (1 ≤ c) × (c ≤ 21)
-IsWithin (Data n) = (1 ≤ n) × (n ≤ 260)
-IsWithin (Time t) = (1 ≤ t) × (t ≤ 4)
+abbrev pub IsRole : Role → Type 0
+IsRole (Sync bit) = bit < 2
+IsRole (Control c) = (1 ≤ c) × (c ≤ 21)
+IsRole (Data n) = (1 ≤ n) × (n ≤ 260)
+IsRole (Time t) = (1 ≤ t) × (t ≤ 4)
 
 -- the place of a role, the only one of a control, data or time bit, and the first one of a sync bit
 unfoldable pub place_of_role : Role → ℕ

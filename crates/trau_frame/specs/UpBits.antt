@@ -8,7 +8,7 @@ use Rattle.trau_frame.specs.declared.frames.Class.{Class}
 use Rattle.trau_frame.specs.declared.frames.Class.TheVariants.{Good, Sid, InvalidSid, Unusable}
 use Rattle.trau_frame.specs.declared.frames.UpFrame.{UpFrame}
 use Rattle.trau_frame.specs.Frame.{frame_bits}
-use Rattle.trau_frame.specs.UpFrame.{UpWords, words_of}
+use Rattle.trau_frame.specs.UpFrame.{UpWords, up_words_of}
 
 -- the number in C1 to C5: 00010 for speech, 10000 for idle and 11111 for other frames
 abbrev pub up_pattern : Kind → ℕ
@@ -52,7 +52,7 @@ bits_saying w = frame_bits (up_control w) w.d
 
 -- the same of what the code writes
 abbrev pub up_bits : UpFrame → List ℕ
-up_bits f = bits_saying (words_of f)
+up_bits f = bits_saying (up_words_of f)
 
 -- a class that a frame of this kind is read with: any for speech, and Unusable for the others
 abbrev pub FitsKind : Kind → Class → Type 0
@@ -62,4 +62,4 @@ FitsKind Other class = class ≡ Unusable
 
 -- both frames say the same
 abbrev pub SameFrame : UpFrame → UpFrame → Type 0
-SameFrame f g = words_of f ≡ words_of g
+SameFrame f g = up_words_of f ≡ up_words_of g

@@ -6,7 +6,7 @@ use Rattle.trau_frame.specs.declared.frames.Class.{Class}
 use Rattle.trau_frame.specs.declared.frames.Class.TheVariants.{Good, Sid, InvalidSid, Unusable}
 use Rattle.trau_frame.specs.declared.frames.UpFrame.{UpFrame}
 use Rattle.trau_frame.specs.Role.{Control, bit_with}
-use Rattle.trau_frame.specs.Frame.{number_of, data_of}
+use Rattle.trau_frame.specs.Frame.{number_in, data_of}
 
 -- the kind by the number in C1 to C5: 00010 for speech and 10000 for idle
 abbrev pub kind_by : ℕ → Kind
@@ -30,11 +30,11 @@ class_at Other bfi sid = Unusable
 
 -- C1 to C5
 abbrev pub kind_of : List ℕ → Kind
-kind_of bits = kind_by (number_of bits 1 5)
+kind_of bits = kind_by (number_in bits 1 5)
 
 -- C12 is the bad frame indicator, C13 and C14 are the silence descriptor
 abbrev pub class_of : List ℕ → Class
-class_of bits = class_at (kind_of bits) (bit_with bits (Control 12)) (number_of bits 13 2)
+class_of bits = class_at (kind_of bits) (bit_with bits (Control 12)) (number_in bits 13 2)
 
 -- what an uplink frame says
 pub record UpWords : Type 0 where
@@ -52,14 +52,14 @@ words_in bits = record {
   class = class_of bits;
   taf = bit_with bits (Control 15) == 1;
   dtxd = bit_with bits (Control 17) == 1;
-  align = number_of bits 6 6;
+  align = number_in bits 6 6;
   d = data_of bits;
 }
 
 -- the same of what the code reads
-abbrev pub words_of : UpFrame → UpWords
-words_of f = record { kind = f.kind; class = f.class; taf = f.taf; dtxd = f.dtxd; align = f.align; d = f.d }
+abbrev pub up_words_of : UpFrame → UpWords
+up_words_of f = record { kind = f.kind; class = f.class; taf = f.taf; dtxd = f.dtxd; align = f.align; d = f.d }
 
 -- the frame is what the bits say
 abbrev pub Says : List ℕ → UpFrame → Type 0
-Says bits f = words_of f ≡ words_in bits
+Says bits f = up_words_of f ≡ words_in bits

@@ -2,7 +2,7 @@
 
 ghost use Rattle.std.specs.Prelude.{◌≡◌, ◌≢◌, ◌+◌, ◌<◌, ◌≤◌, ◌-◌, ◌↔◌, ℕ, List, length, slice_index, true};
 ghost use Rattle.trau_frame.specs.declared.frames.UpFrame.{UpFrame};
-ghost use Rattle.trau_frame.specs.Role.{Role, Sync, Control, role_of, place_of_role, bit_with, IsWithin};
+ghost use Rattle.trau_frame.specs.Role.{Role, Sync, Control, role_of, place_of_role, bit_with, IsRole};
 ghost use Rattle.trau_frame.specs.Frame.{Synced, data_of, frame_bits};
 ghost use Rattle.trau_frame.specs.UpFrame.{Says};
 ghost use Rattle.trau_frame.specs.UpBits.{up_bits, FitsKind, SameFrame};
@@ -14,8 +14,8 @@ use crate::frames::{Class, DownFrame, Kind};
 
 /// Each place has a role, and each role a place; a control, data or time bit has one place only.
 pub fn roles_and_places()
-    ensures within { (i : ℕ) → i < 320 → IsWithin (role_of i) }
-    ensures found { (role : Role) → IsWithin role → role_of (place_of_role role) ≡ role }
+    ensures within { (i : ℕ) → i < 320 → IsRole (role_of i) }
+    ensures found { (role : Role) → IsRole role → role_of (place_of_role role) ≡ role }
     ensures only { (i : ℕ) → i < 320 → ((bit : ℕ) → role_of i ≢ Sync bit) → place_of_role (role_of i) ≡ i }
 {}
 

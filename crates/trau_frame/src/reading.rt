@@ -3,7 +3,7 @@
 ghost use Rattle.std.specs.Prelude.{◌≡◌, ◌+◌, ◌<◌, ◌≤◌, ◌^◌, ◌==◌};
 ghost use Rattle.trau_bits.specs.Bits.{AreBits};
 ghost use Rattle.trau_frame.specs.Role.{Control, bit_with};
-ghost use Rattle.trau_frame.specs.Frame.{Synced, number_of, data_of};
+ghost use Rattle.trau_frame.specs.Frame.{Synced, number_in, data_of};
 ghost use Rattle.trau_frame.specs.UpFrame.{kind_by, class_at, kind_of, class_of, Says};
 
 use crate::frames::{Class, Kind, UpFrame};
@@ -26,7 +26,7 @@ fn number(bits: &[u8; 320], first: usize, n: usize) -> u8
     requires low { 1 ≤ first }
     requires high { first + n ≤ 22 }
     requires small { n ≤ 8 }
-    ensures value { result ≡ number_of bits.now first n }
+    ensures value { result ≡ number_in bits.now first n }
     ensures bound { result < 2 ^ n }
 {
     let mut value = 0;

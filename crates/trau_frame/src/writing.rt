@@ -5,7 +5,7 @@ ghost use Rattle.std.specs.Int.{bit_at};
 ghost use Rattle.trau_bits.specs.Bits.{AreBits};
 ghost use Rattle.trau_frame.specs.DownFrame.{HasBits, down_bits, down_control, down_data};
 ghost use Rattle.trau_frame.specs.UpBits.{up_pattern, bfi_of, sid_code_of, up_control_bit, up_control, up_bits};
-ghost use Rattle.trau_frame.specs.UpFrame.{words_of};
+ghost use Rattle.trau_frame.specs.UpFrame.{up_words_of};
 
 use crate::frames::{Class, DownFrame, Kind, UpFrame};
 use crate::rows::write_frame;
@@ -96,7 +96,7 @@ fn bit(number: u8, k: usize) -> u8
 fn up_control_bit(f: &UpFrame, c: usize) -> u8
     requires low { 1 ≤ c }
     requires high { c ≤ 21 }
-    ensures value { result ≡ up_control_bit (words_of f.now) c }
+    ensures value { result ≡ up_control_bit (up_words_of f.now) c }
     ensures bit { result < 2 }
 {
     match c {
@@ -112,7 +112,7 @@ fn up_control_bit(f: &UpFrame, c: usize) -> u8
 
 // C1 to C21 of an uplink frame.
 fn up_control(f: &UpFrame) -> [u8; 21]
-    ensures value { result ≡ up_control (words_of f.now) }
+    ensures value { result ≡ up_control (up_words_of f.now) }
     ensures are_bits { AreBits result }
 {
     let mut control = [0; 21];

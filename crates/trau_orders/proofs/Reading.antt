@@ -8,7 +8,7 @@ use Rattle.trau_alaw.specs.declared.Law.TheVariants.{A}
 use Rattle.trau_orders.specs.declared.order.What.TheVariants.{OpenCall}
 use Rattle.trau_orders.specs.declared.order.Order.{Order}
 use Rattle.trau_orders.specs.Grammar.{IsLine}
-use Rattle.trau_orders.specs.Text.{text_lines, AreLines, Follows, IsFirstBad}
+use Rattle.trau_orders.specs.Text.{text_lines, AreLines, IsNoEarlier, IsFirstBad}
 use Rattle.trau_orders.proofs.OneOrder.{one_stamp, one_order}
 use Rattle.trau_orders.proofs.TextLines.{no_line}
 
@@ -21,7 +21,7 @@ pub record HasRead (text rest : List ℕ) (orders : List Order) : Type 0 where
 length_push : {X : Type 0} (xs : List X) (x : X) → length (xs ++ x ∷ []) ≡ length xs + 1
 length_push xs x = length-append xs (x ∷ [])
 
-push_lines : (lines : List (List ℕ)) (os : List Order) (line : List ℕ) (o : Order) → AreLines lines os → IsLine line o → Follows os o →
+push_lines : (lines : List (List ℕ)) (os : List Order) (line : List ℕ) (o : Order) → AreLines lines os → IsLine line o → IsNoEarlier os o →
     AreLines (lines ++ line ∷ []) (os ++ o ∷ [])
 push_lines lines os line o are is follows = record {
   one_each = length_push lines line ∙ ap (λ n. n + 1) are.one_each ∙ sym (length_push os o);
@@ -59,7 +59,7 @@ read_nothing text = record {
 
 -- one more line with its order
 pub read_more : (text rest line after : List ℕ) (os : List Order) (o : Order) → HasRead text rest os → text_lines rest ≡ line ∷ text_lines after →
-    IsLine line o → Follows os o → HasRead text after (os ++ o ∷ [])
+    IsLine line o → IsNoEarlier os o → HasRead text after (os ++ o ∷ [])
 read_more text rest line after os o so_far next is follows = record {
   lines = so_far.lines ++ line ∷ [];
   whole = so_far.whole ∙ ap (λ ls. so_far.lines ++ ls) next ∙ sym (append_assoc so_far.lines (line ∷ []) (text_lines after));
@@ -78,7 +78,7 @@ read_count text rest os so_far = omega (arith, so_far.read.one_each, ap length s
 
 -- the order that a line and the stamps before it don't allow
 pub behind : (line : List ℕ) (os : List Order) (o p before : Order) → IsLine line o → IsLine line p → slice_get os (length os - 1) ≡ Some before →
-    o.stamp < before.stamp → Follows os p → ⊥
+    o.stamp < before.stamp → IsNoEarlier os p → ⊥
 behind line os o p before is is' last late follows =
     let some = slice_get_within os (length os - 1) before last in
     let same : get_or os (length os - 1) p ≡ before = get_or_from_slice_get os (length os - 1) before p last in
@@ -91,7 +91,7 @@ no_order = record { stamp = 0; what = OpenCall 0 A }
 
 -- no orders have these lines and one more that nothing behind them allows
 stops : (lines : List (List ℕ)) (os ps : List Order) (line : List ℕ) → AreLines lines os → AreLines (lines ++ line ∷ []) ps →
-    ((o : Order) → IsLine line o → Follows os o → ⊥) → ⊥
+    ((o : Order) → IsLine line o → IsNoEarlier os o → ⊥) → ⊥
 stops lines os ps line are more none =
     none (get_or ps (length os) no_order) (subst (λ l. IsLine l (get_or ps (length os) no_order)) (get_or_push lines line [] (length os) are.one_each)
     (more.spelled (length os) no_order within)) follows
@@ -102,7 +102,7 @@ stops lines os ps line are more none =
     within : length os < length ps
     within = omega (arith, longer)
 
-    follows : Follows os (get_or ps (length os) no_order)
+    follows : IsNoEarlier os (get_or ps (length os) no_order)
     follows d some =
         let low : length os - 1 < length os = omega arith in
         let line_low : length os - 1 < length lines = omega (arith, are.one_each) in
@@ -119,7 +119,7 @@ stops lines os ps line are more none =
 
 -- the line at which reading stops is the first bad one
 pub read_bad : (text rest line after : List ℕ) (os : List Order) → HasRead text rest os → text_lines rest ≡ line ∷ text_lines after →
-    ((o : Order) → IsLine line o → Follows os o → ⊥) → IsFirstBad (text_lines text) (length os + 1)
+    ((o : Order) → IsLine line o → IsNoEarlier os o → ⊥) → IsFirstBad (text_lines text) (length os + 1)
 read_bad text rest line after os so_far next none = record {
   at_least = omega arith;
   at_most = omega (arith, read_count text rest os so_far, ap length next);

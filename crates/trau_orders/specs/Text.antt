@@ -25,8 +25,8 @@ pub record AreLines (lines : List (List ℕ)) (orders : List Order) : Type 0 whe
   pub rising : (k : ℕ) (d : Order) → k + 1 < length orders → (get_or orders k d).stamp ≤ (get_or orders (k + 1) d).stamp
 
 -- an order may stand behind these: its stamp isn't below that of the last
-abbrev pub Follows : List Order → Order → Type 0
-Follows orders order = (d : Order) → 0 < length orders → (get_or orders (length orders - 1) d).stamp ≤ order.stamp
+abbrev pub IsNoEarlier : List Order → Order → Type 0
+IsNoEarlier orders order = (d : Order) → 0 < length orders → (get_or orders (length orders - 1) d).stamp ≤ order.stamp
 
 -- line n, counted from 1, is the first that isn't in the grammar: the lines before it are those of orders, and with it
 -- they are no orders' lines

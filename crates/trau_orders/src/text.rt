@@ -2,7 +2,7 @@
 
 ghost use Rattle.std.specs.Prelude.{◌≡◌, ◌∷◌, [], ◌<◌, ◌≤◌, ℕ, length, IfOk, IfSome, IsErrOf, IsNone, OnSome};
 ghost use Rattle.trau_orders.specs.Grammar.{IsLine};
-ghost use Rattle.trau_orders.specs.Text.{text_lines, AreLines, IsFirstBad, Follows};
+ghost use Rattle.trau_orders.specs.Text.{text_lines, AreLines, IsFirstBad, IsNoEarlier};
 ghost use Rattle.trau_orders.specs.declared.order.Order.{Order as OneOrder};
 
 use crate::line::order_of;
@@ -40,8 +40,8 @@ pub(crate) fn count_lines(text: &[u8]) -> usize
 
 // The order of a line behind these orders.
 fn next_order(line: &[u8], orders: &[Order]) -> Option<Order>
-    ensures some { IfSome result (λ order. IsLine line.now order × Follows orders.now order) }
-    ensures none { IsNone result → (order : OneOrder) → IsLine line.now order → Follows orders.now order → ⊥ }
+    ensures some { IfSome result (λ order. IsLine line.now order × IsNoEarlier orders.now order) }
+    ensures none { IsNone result → (order : OneOrder) → IsLine line.now order → IsNoEarlier orders.now order → ⊥ }
 {
     let order = order_of(line)?;
     match orders.last() {

@@ -8,22 +8,22 @@ use Rattle.tx_dtx.specs.Stretch.{Measures, Coded, is_active}
 use Rattle.tx_dtx.specs.SilenceDescriptor.{sid_of}
 use Rattle.tx_dtx.specs.Sent.{SidPlace, one_later, pause_of, is_sid_place, newest_four, latest_place, before_pause, still_used, sid_used}
 use Rattle.tx_dtx.specs.Memory.{TxMemory, no_measures}
-use Rattle.tx_dtx.specs.Step.{later, after_active, after_sid, hangs_at, after_early}
+use Rattle.tx_dtx.specs.Step.{elapsed_later, after_active, after_sid, hangs_at, after_early}
 use Rattle.tx_dtx.specs.Stands.{elapsed_of, Stands}
 
 -- ---- how many frames since the last SID
 
--- one frame later
-elapsed-later : (o : Option SidPlace) → elapsed_of (option_map one_later o) ≡ later (elapsed_of o)
+-- one frame elapsed_later
+elapsed-later : (o : Option SidPlace) → elapsed_of (option_map one_later o) ≡ elapsed_later (elapsed_of o)
 elapsed-later None = refl
 elapsed-later (Some place) = let e : min (place.since + 1) 24 ≡ min (min place.since 24 + 1) 24 = omega arith in e
 
 -- a pause hangs, or goes on with the last SID, by what has elapsed at its first frame
-hangs_by : (o : Option SidPlace) → nat_le 24 (later (elapsed_of o)) ≡ is_none (still_used o)
+hangs_by : (o : Option SidPlace) → nat_le 24 (elapsed_later (elapsed_of o)) ≡ is_none (still_used o)
 hangs_by None = refl
 hangs_by (Some place) = grind (arith, common_steps)
 
--- the last SID is the same one frame later
+-- the last SID is the same one frame elapsed_later
 sid-later : (sid : Fields) (o : Option SidPlace) → IfSome o (λ place. sid ≡ sid_of place.four) →
     IfSome (option_map one_later o) (λ place. sid ≡ sid_of place.four)
 sid-later sid None h = tt
@@ -87,7 +87,7 @@ active-counts f past m a s =
     let elapsed = s.elapsed in
     record {
       run = omega arith;
-      elapsed = ap later elapsed ∙ sym (elapsed-later (latest_place past)) ∙ sym (ap elapsed_of place);
+      elapsed = ap elapsed_later elapsed ∙ sym (elapsed-later (latest_place past)) ∙ sym (ap elapsed_of place);
       hangs = λ some. absurd (omega arith);
       sid = subst (λ o. IfSome o (λ place. m.sid ≡ sid_of place.four)) (sym place) (sid-later m.sid (latest_place past) s.sid);
     }
@@ -112,19 +112,19 @@ sid-counts f past m n l s =
       sid = subst (λ o. IfSome o (λ place. sid_of (f.measures ∷ m.recent) ≡ sid_of place.four)) (sym place) (ap sid_of four);
     }
 
--- whether the pause hangs, at its first frame and later
+-- whether the pause hangs, at its first frame and elapsed_later
 pub hangs-now : (f : Coded) (past : List Coded) (m : TxMemory) → is_active f ≡ false → pause_of past < 4 → Stands past m →
-    hangs_at (pause_of past + 1) (later m.elapsed) m.hangs ≡ is_none (sid_used (before_pause past))
-hangs-now f [] m n l s = ap (λ e. nat_le 24 (later e)) s.elapsed
+    hangs_at (pause_of past + 1) (elapsed_later m.elapsed) m.hangs ≡ is_none (sid_used (before_pause past))
+hangs-now f [] m n l s = ap (λ e. nat_le 24 (elapsed_later e)) s.elapsed
 hangs-now f (g ∷ past) m n l s = elim (cases_Bool (is_active g)) [
   | inl a ↦
       let none : pause_of (g ∷ past) ≡ 0 = cond-true (is_active g) 0 (suc (pause_of past)) a in
       let before : before_pause (g ∷ past) ≡ g ∷ past = cond-true (is_active g) (g ∷ past) (before_pause past) a in
-      cond-true (pause_of (g ∷ past) + 1 == 1) (nat_le 24 (later m.elapsed)) m.hangs (eq-eqb (pause_of (g ∷ past) + 1) 1 (omega arith)) ∙
-      ap (λ e. nat_le 24 (later e)) s.elapsed ∙ hangs_by (latest_place (g ∷ past)) ∙ sym (ap (λ z. is_none (sid_used z)) before)
+      cond-true (pause_of (g ∷ past) + 1 == 1) (nat_le 24 (elapsed_later m.elapsed)) m.hangs (eq-eqb (pause_of (g ∷ past) + 1) 1 (omega arith)) ∙
+      ap (λ e. nat_le 24 (elapsed_later e)) s.elapsed ∙ hangs_by (latest_place (g ∷ past)) ∙ sym (ap (λ z. is_none (sid_used z)) before)
   | inr p ↦
       let longer = one_longer g past p in
-      cond-false (pause_of (g ∷ past) + 1 == 1) (nat_le 24 (later m.elapsed)) m.hangs (ne_eqb (pause_of (g ∷ past) + 1) 1 (omega arith)) ∙ s.hangs (omega arith)
+      cond-false (pause_of (g ∷ past) + 1 == 1) (nat_le 24 (elapsed_later m.elapsed)) m.hangs (ne_eqb (pause_of (g ∷ past) + 1) 1 (omega arith)) ∙ s.hangs (omega arith)
 ]
 
 -- an inactive frame after fewer than four
@@ -136,7 +136,7 @@ early-counts f past m n l s =
     let before : before_pause (f ∷ past) ≡ before_pause past = cond-false (is_active f) (f ∷ past) (before_pause past) n in
     record {
       run = omega arith;
-      elapsed = ap later s.elapsed ∙ sym (elapsed-later (latest_place past)) ∙ sym (ap elapsed_of place);
+      elapsed = ap elapsed_later s.elapsed ∙ sym (elapsed-later (latest_place past)) ∙ sym (ap elapsed_of place);
       hangs = λ some. hangs-now f past m n l s ∙ sym (ap (λ z. is_none (sid_used z)) before);
       sid = subst (λ o. IfSome o (λ place. m.sid ≡ sid_of place.four)) (sym place) (sid-later m.sid (latest_place past) s.sid);
     }

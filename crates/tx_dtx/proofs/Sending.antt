@@ -7,7 +7,7 @@ use Rattle.tx_dtx.specs.Stretch.{Coded, is_active, Sent}
 use Rattle.tx_dtx.specs.SilenceDescriptor.{sid_of}
 use Rattle.tx_dtx.specs.Sent.{SidPlace, one_later, pause_of, is_sid_place, newest_four, latest_place, before_pause, still_used, itself, silence, sent_early, sent_of}
 use Rattle.tx_dtx.specs.Memory.{TxMemory}
-use Rattle.tx_dtx.specs.Step.{after_active, remembered, described, early, paused, taken, next_sent}
+use Rattle.tx_dtx.specs.Step.{after_active, remembered, described, early, paused, sent_after, next_sent}
 use Rattle.tx_dtx.specs.Stands.{Stands}
 use Rattle.tx_dtx.proofs.Counters.{no_place, recent-more, newest-four, pause-length, Counts, not_place, active-counts, one_longer, sid-counts, hangs-now, early-counts}
 
@@ -103,8 +103,8 @@ takes-inactive f past m n s =
     ]
 
 -- any frame
-takes : (f : Coded) (past : List Coded) (m : TxMemory) → Stands past m → Takes f past (taken m f)
-unfolding taken
+takes : (f : Coded) (past : List Coded) (m : TxMemory) → Stands past m → Takes f past (sent_after m f)
+unfolding sent_after
 takes f past m s = elim (cases_Bool (is_active f)) [
   | inl a ↦ subst (Takes f past) (sym (cond-true (is_active f) (itself f.fields, after_active m) (paused m f.fields f.measures) a)) (takes-active f past m a s)
   | inr n ↦ subst (Takes f past) (sym (cond-false (is_active f) (itself f.fields, after_active m) (paused m f.fields f.measures) n))
@@ -114,8 +114,8 @@ takes f past m s = elim (cases_Bool (is_active f)) [
 -- ---- a whole step
 
 -- the measures are remembered after that
-taken-recent : (m : TxMemory) (f : Coded) → (taken m f).1.recent ≡ m.recent
-unfolding taken paused
+taken-recent : (m : TxMemory) (f : Coded) → (sent_after m f).1.recent ≡ m.recent
+unfolding sent_after paused
 taken-recent m f = by (is_active f) (min (m.run + 1) 5 == 5)
   where
     by : (a b : Bool) →
@@ -142,7 +142,7 @@ step-stands f past m s =
     )
 
 -- a step, by its parts
-pub stepped_by : (m : TxMemory) (f : Coded) (sent : Sent) (between now : TxMemory) → taken m f ≡ (sent, between) → now ≡ remembered between f.measures →
+pub stepped_by : (m : TxMemory) (f : Coded) (sent : Sent) (between now : TxMemory) → sent_after m f ≡ (sent, between) → now ≡ remembered between f.measures →
     next_sent m f ≡ (sent, now)
 unfolding next_sent
 stepped_by m f sent between now t r = ap (λ (out : Sent × TxMemory). let s : Sent × TxMemory = (out.0, remembered out.1 f.measures) in s) t ∙

@@ -7,12 +7,12 @@ use Rattle.tx_dtx.specs.Sent.{itself}
 use Rattle.tx_dtx.specs.Memory.{TxMemory}
 
 -- one frame more since the last SID
-abbrev pub later : ℕ → ℕ
-later elapsed = min (elapsed + 1) 24
+abbrev pub elapsed_later : ℕ → ℕ
+elapsed_later elapsed = min (elapsed + 1) 24
 
 -- an active frame: it is sent itself
 abbrev pub after_active : TxMemory → TxMemory
-after_active m = record { run = 0; elapsed = later m.elapsed; hangs = m.hangs; sid = m.sid; recent = m.recent }
+after_active m = record { run = 0; elapsed = elapsed_later m.elapsed; hangs = m.hangs; sid = m.sid; recent = m.recent }
 
 -- an inactive frame of which a SID is made
 abbrev pub after_sid : TxMemory → List Measures → TxMemory
@@ -26,8 +26,8 @@ hangs_at run elapsed hangs = if run == 1 then nat_le 24 elapsed else hangs
 abbrev pub after_early : TxMemory → ℕ → TxMemory
 after_early m run = record {
   run = run;
-  elapsed = later m.elapsed;
-  hangs = hangs_at run (later m.elapsed) m.hangs;
+  elapsed = elapsed_later m.elapsed;
+  hangs = hangs_at run (elapsed_later m.elapsed) m.hangs;
   sid = m.sid;
   recent = m.recent;
 }
@@ -52,9 +52,9 @@ unfoldable pub paused : TxMemory → Fields → Measures → Sent × TxMemory
 paused m fields measures = let run = min (m.run + 1) 5 in if run == 5 then described m measures else early m run fields
 
 -- a frame by itself, before its measures are remembered
-unfoldable pub taken : TxMemory → Coded → Sent × TxMemory
-taken m f = if is_active f then (itself f.fields, after_active m) else paused m f.fields f.measures
+unfoldable pub sent_after : TxMemory → Coded → Sent × TxMemory
+sent_after m f = if is_active f then (itself f.fields, after_active m) else paused m f.fields f.measures
 
 -- one frame: what is sent of it, and the memory after it
 unfoldable pub next_sent : TxMemory → Coded → Sent × TxMemory
-next_sent m f = let step = taken m f in (step.0, remembered step.1 f.measures)
+next_sent m f = let step = sent_after m f in (step.0, remembered step.1 f.measures)

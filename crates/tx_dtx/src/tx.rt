@@ -5,7 +5,7 @@ ghost use Rattle.trau_params.specs.Fields.{fields_of};
 ghost use Rattle.tx_dtx.specs.Stretch.{Coded, coded_frame, measures_of, is_active_at, sent_frame};
 ghost use Rattle.tx_dtx.specs.Sent.{sent_of};
 ghost use Rattle.tx_dtx.specs.Memory.{home_memory};
-ghost use Rattle.tx_dtx.specs.Step.{after_active, hangs_at, described, early, paused, taken, remembered, next_sent};
+ghost use Rattle.tx_dtx.specs.Step.{after_active, hangs_at, described, early, paused, sent_after, remembered, next_sent};
 ghost use Rattle.tx_dtx.specs.Stands.{Stands};
 
 use crate::sid::sid;
@@ -124,7 +124,7 @@ impl Tx {
     // Takes a frame: what is sent of it, and SP.
     #[tactic(auto, unfolding(crate::specs::Step::taken))]
     fn take(&mut self, p: &Params, t: &Trace, peak: i16, level: i16, on: bool) -> (Params, bool)
-        ensures { taken self.old (coded_frame p.now t.now peak level on) ≡ (sent_frame result.0 result.1, self.new) }
+        ensures { sent_after self.old (coded_frame p.now t.now peak level on) ≡ (sent_frame result.0 result.1, self.new) }
     {
         if is_active(peak, level, on) {
             self.speak();

@@ -3,7 +3,7 @@
 ghost use Rattle.std.specs.Prelude.{◌≡◌, ◌≤◌};
 ghost use Rattle.trau_io.specs.Lines.{Reads, Writes};
 ghost use Rattle.trau_files.specs.declared.trunk.seats.Access.TheVariants.{Reading, Writing};
-ghost use Rattle.trau_files.specs.Files.{FileLine, OpenAfter, raised, after_read, after_write, open_after, state_of};
+ghost use Rattle.trau_files.specs.Files.{FileLine, OpenAfter, raised, after_read, after_write, file_after, state_of};
 
 use super::open::LineFiles;
 use std::marker::Model;
@@ -45,7 +45,7 @@ impl LineFile {
     ) -> Result<usize, Failed>
         ensures reads { Reads (state_of self.old) (state_of self.new) result buf.new }
         ensures after { self.new ≡ after_read self.old result }
-        ensures place { OpenAfter files.old files.new line.call line.side (open_after line.call line.side Reading self.old.read result) }
+        ensures place { OpenAfter files.old files.new line.call line.side (file_after line.call line.side Reading self.old.read result) }
     {
         match files.read_at(line, self.read, buf) {
             Ok(count) => {
@@ -66,7 +66,7 @@ impl LineFile {
     ) -> Result<usize, Failed>
         ensures writes { Writes (state_of self.old) (state_of self.new) result bytes.now }
         ensures after { self.new ≡ after_write self.old result }
-        ensures place { OpenAfter files.old files.new line.call line.side (open_after line.call line.side Writing self.old.written result) }
+        ensures place { OpenAfter files.old files.new line.call line.side (file_after line.call line.side Writing self.old.written result) }
     {
         match files.write_at(line, self.written, bytes) {
             Ok(count) => {

@@ -3,7 +3,7 @@
 ghost use Rattle.std.specs.Prelude.{◌≡◌, ◌<◌, length, IfOk, All, None};
 ghost use Rattle.std.specs.Io.{ReadsAtMost, WritesAtMost};
 ghost use Rattle.trau_files.specs.declared.trunk.seats.Access.TheVariants.{Reading, Writing};
-ghost use Rattle.trau_files.specs.Files.{StandsAt, IsFileOf, OpenAfter, in_seat, open_after, opened};
+ghost use Rattle.trau_files.specs.Files.{IsOpenAt, IsFileOf, OpenAfter, in_seat, file_after, opened};
 
 use super::name::name_of;
 use super::seats::{Access, OpenFile, Seats};
@@ -50,7 +50,7 @@ impl<'a, R: Files> LineFiles<'a, R> {
     /// Moves octets of a line's file, from this octet on, into the front of `buf`.
     pub fn read_at(&mut self, line: Line, at: u64, buf: &mut [u8]) -> io::Result<usize>
         ensures bound { ReadsAtMost result buf.new }
-        ensures open { OpenAfter self.old self.new line.call line.side (open_after line.call line.side Reading at result) }
+        ensures open { OpenAfter self.old self.new line.call line.side (file_after line.call line.side Reading at result) }
     {
         let seat = self.seat(line, Access::Reading, at)?;
         self.seats.read(seat, buf)
@@ -60,7 +60,7 @@ impl<'a, R: Files> LineFiles<'a, R> {
     pub fn write_at(&mut self, line: Line, at: u64, bytes: &[u8]) -> io::Result<usize>
         ensures some { IfOk result (λ n. 0 < n) }
         ensures bound { WritesAtMost result bytes.now }
-        ensures open { OpenAfter self.old self.new line.call line.side (open_after line.call line.side Writing at result) }
+        ensures open { OpenAfter self.old self.new line.call line.side (file_after line.call line.side Writing at result) }
     {
         let seat = self.seat(line, Access::Writing, at)?;
         self.seats.write(seat, bytes)
@@ -68,7 +68,7 @@ impl<'a, R: Files> LineFiles<'a, R> {
 
     // The seat of the line's file, which stands at this octet: the open one, or opened for it.
     fn seat(&mut self, line: Line, access: Access, at: u64) -> io::Result<u8>
-        ensures stands { IfOk result (λ seat. StandsAt (in_seat self.new seat) line.call line.side access at) }
+        ensures stands { IfOk result (λ seat. IsOpenAt (in_seat self.new seat) line.call line.side access at) }
         ensures open { OpenAfter self.old self.new line.call line.side (opened line.call line.side access at result) }
     {
         match self.seats.find(line, access, at) {
@@ -83,7 +83,7 @@ impl<'a, R: Files> LineFiles<'a, R> {
     #[inline(never)]
     fn open(&mut self, line: Line, access: Access, at: u64) -> io::Result<u8>
         requires { IsFileOf self.old line.call line.side None }
-        ensures stands { IfOk result (λ seat. StandsAt (in_seat self.new seat) line.call line.side access at) }
+        ensures stands { IfOk result (λ seat. IsOpenAt (in_seat self.new seat) line.call line.side access at) }
         ensures open { OpenAfter self.old self.new line.call line.side (opened line.call line.side access at result) }
     {
         self.seats.free_next();

@@ -3,7 +3,7 @@
 ghost use Rattle.std.specs.Prelude.{◌≡◌, ◌⊎◌, ◌<◌, length, IfOk, IfSome, IsSome, IsTrue, false, None, Some, All};
 ghost use Rattle.std.specs.Io.{ReadsAtMost, WritesAtMost};
 ghost use Rattle.trau_io.specs.declared.line.Side.{Side};
-ghost use Rattle.trau_files.specs.Files.{OpenLine, StandsAt, IsFileOf, Closes, OpenAfter, in_seat, open_after};
+ghost use Rattle.trau_files.specs.Files.{OpenLine, IsOpenAt, IsFileOf, OnlyCloses, OpenAfter, in_seat, file_after};
 
 use crate::retry::{read_again, write_some};
 use std::alloc::{AllocError, Global};
@@ -81,10 +81,10 @@ impl<F: Drop> Seats<F> {
 
     /// The seat of the line's file, where it is open for this and stands at this octet; else it is closed.
     pub fn find(&mut self, line: Line, access: Access, at: u64) -> Option<u8>
-        ensures stands { IfSome result (λ seat. StandsAt (in_seat self.new seat) line.call line.side access at) }
+        ensures stands { IfSome result (λ seat. IsOpenAt (in_seat self.new seat) line.call line.side access at) }
         ensures open { IsSome result → OpenAfter self.old self.new line.call line.side (Some (record { call = line.call; side = line.side; access = access; at = at })) }
         ensures closed { result ≡ None → IsFileOf self.new line.call line.side None }
-        ensures others { Closes self.old self.new }
+        ensures others { OnlyCloses self.old self.new }
         ensures number { length self.new ≡ length self.old }
     {
         let seat = self.seat_of[place(line)];
@@ -94,17 +94,17 @@ impl<F: Drop> Seats<F> {
         None
     }
 
-    /// Closes the file in the next seat, where there is one.
+    /// OnlyCloses the file in the next seat, where there is one.
     pub fn free_next(&mut self)
-        ensures others { Closes self.old self.new }
+        ensures others { OnlyCloses self.old self.new }
         ensures number { length self.new ≡ length self.old }
     {
         self.files[self.next as usize] = None;
     }
 
-    /// Closes the file before the next seat, which is the last one from now on.
+    /// OnlyCloses the file before the next seat, which is the last one from now on.
     pub fn lessen(&mut self)
-        ensures others { Closes self.old self.new }
+        ensures others { OnlyCloses self.old self.new }
         ensures number { length self.new ≡ length self.old }
     {
         self.next = self.next.saturating_sub(1);
@@ -131,7 +131,7 @@ impl<F: Read + Write + Drop> Seats<F> {
     pub fn read(&mut self, seat: u8, buf: &mut [u8]) -> io::Result<usize>
         requires { IsSome (in_seat self.old seat) }
         ensures bound { ReadsAtMost result buf.new }
-        ensures open { IfSome (in_seat self.old seat) (λ o. OpenAfter self.old self.new o.call o.side (open_after o.call o.side o.access o.at result)) }
+        ensures open { IfSome (in_seat self.old seat) (λ o. OpenAfter self.old self.new o.call o.side (file_after o.call o.side o.access o.at result)) }
     {
         read_in(&mut self.files[seat as usize], buf)
     }
@@ -141,7 +141,7 @@ impl<F: Read + Write + Drop> Seats<F> {
         requires { IsSome (in_seat self.old seat) }
         ensures some { IfOk result (λ n. 0 < n) }
         ensures bound { WritesAtMost result bytes.now }
-        ensures open { IfSome (in_seat self.old seat) (λ o. OpenAfter self.old self.new o.call o.side (open_after o.call o.side o.access o.at result)) }
+        ensures open { IfSome (in_seat self.old seat) (λ o. OpenAfter self.old self.new o.call o.side (file_after o.call o.side o.access o.at result)) }
     {
         write_in(&mut self.files[seat as usize], bytes)
     }
@@ -150,7 +150,7 @@ impl<F: Read + Write + Drop> Seats<F> {
 // Whether the file in a seat is this line's, is open for this and stands at this octet. Another line's stays, and another
 // one of this line is closed.
 fn stands<F: Drop>(seat: &mut Option<OpenFile<F>>, line: Line, access: Access, at: u64) -> bool
-    ensures stands { IsTrue result → StandsAt seat.new line.call line.side access at }
+    ensures stands { IsTrue result → IsOpenAt seat.new line.call line.side access at }
     ensures same { IsTrue result → seat.new ≡ seat.old }
     ensures closed { result ≡ false → IfSome seat.new (λ o. o.call ≡ line.call → o.side ≡ line.side → ⊥) }
     ensures others { (seat.new ≡ seat.old) ⊎ (seat.new ≡ None) }
@@ -169,7 +169,7 @@ fn stands<F: Drop>(seat: &mut Option<OpenFile<F>>, line: Line, access: Access, a
 fn read_in<F: Read + Drop>(seat: &mut Option<OpenFile<F>>, buf: &mut [u8]) -> io::Result<usize>
     requires { IsSome seat.old }
     ensures bound { ReadsAtMost result buf.new }
-    ensures after { IfSome seat.old (λ o. seat.new ≡ open_after o.call o.side o.access o.at result) }
+    ensures after { IfSome seat.old (λ o. seat.new ≡ file_after o.call o.side o.access o.at result) }
 {
     match seat {
         Some(open) => match read_again(&mut open.file, buf) {
@@ -191,7 +191,7 @@ fn write_in<F: Write + Drop>(seat: &mut Option<OpenFile<F>>, bytes: &[u8]) -> io
     requires { IsSome seat.old }
     ensures some { IfOk result (λ n. 0 < n) }
     ensures bound { WritesAtMost result bytes.now }
-    ensures after { IfSome seat.old (λ o. seat.new ≡ open_after o.call o.side o.access o.at result) }
+    ensures after { IfSome seat.old (λ o. seat.new ≡ file_after o.call o.side o.access o.at result) }
 {
     match seat {
         Some(open) => match write_some(&mut open.file, bytes) {

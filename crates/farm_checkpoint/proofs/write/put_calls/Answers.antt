@@ -4,7 +4,7 @@ use Rattle.std.proofs.lemmas.List.Elements.{All-more}
 use Rattle.std.specs.List.{flat_map}
 use Rattle.farm_checkpoint.specs.declared.mark.MarkCall.{MarkCall}
 use Rattle.farm_checkpoint.specs.Marks.{HasSums}
-use Rattle.farm_checkpoint.specs.Text.{call_line}
+use Rattle.farm_checkpoint.specs.Text.{call_text}
 use Rattle.farm_checkpoint.proofs.write.put_calls.Goals as goal
 
 abbrev no_call : MarkCall
@@ -17,7 +17,7 @@ loop-call-preserved c =
     let old = string_bytes c.args.text.now in
     let one = get_or calls i no_call in
     record {
-      text = c.in_ok-put_call.ensures.text ∙ ap (λ t. t ++ call_line one) c.loop-call.invariant.text
-          ∙ flat_map_more call_line old (take i calls) one ∙ ap (λ cs. old ++ flat_map call_line cs) (sym (take_more calls i no_call c.loop-call-test.true));
+      text = c.in_ok-put_call.ensures.text ∙ ap (λ t. t ++ call_text one) c.loop-call.invariant.text
+          ∙ flat_map_more call_text old (take i calls) one ∙ ap (λ cs. old ++ flat_map call_text cs) (sym (take_more calls i no_call c.loop-call-test.true));
       sums = All-more HasSums calls i no_call c.loop-call-test.true c.loop-call.invariant.sums c.in_ok-put_call.ensures.sums;
     }

@@ -7,7 +7,7 @@ use Rattle.call_pair.specs.Memory.{IoMemory, HalfMemory, places_left}
 use Rattle.call_pair.specs.Jobs.{with_io}
 use Rattle.round_lines.specs.Places.{PlaceMemory}
 use Rattle.round_lines.specs.Seats.{SeatMemory}
-use Rattle.farm_rounds.specs.Rounds.{job_at, half_at, entry_at, place_at, half_of_seat, AreTaken, seat_with}
+use Rattle.farm_rounds.specs.Rounds.{job_at, half_at, entry_at, place_numbered, half_of_seat, AreTaken, seat_with}
 use Rattle.farm_rounds.proofs.Taking.{TakenOut, fits_from, place_read, taken_none, taken_more, take_job, take_half, seat_made}
 use Rattle.farm_rounds.proofs.jobs.hand_out.Goals as goal
 
@@ -52,7 +52,7 @@ swap_in-io-requires-clause-time c =
     let leg : periods_of_leg (half_at c.loop-place.jobs c.job_place.result c.none-none.result.call).leg ≡ periods_of_leg
     (half_of_seat c.args.jobs.now c.args.entries.now c.args.apart.items n).leg =
     ap (λ (h : HalfMemory). periods_of_leg h.leg) half
-    ∙ ap periods_of_leg (c.loop-place.invariant.taken.same.legs (entry_at c.args.entries.now n).job (place_at c.args.apart.items n).call) in
+    ∙ ap periods_of_leg (c.loop-place.invariant.taken.same.legs (entry_at c.args.entries.now n).job (place_numbered c.args.apart.items n).call) in
     omega (arith, leg, left, c.requires.ready.time n turn.0)
 
 pub from_parts-requires : goal.from_parts-requires
@@ -104,9 +104,9 @@ loop-place-preserved c =
     let next : c.swap_in-io.new.jobs ≡ slice_set c.loop-place.jobs (entry_at c.args.entries.now n).job
     (with_io (job_at c.loop-place.jobs (entry_at c.args.entries.now n).job) c.none-none.result) =
     c.swap_in-io.ensures.jobs ∙ ap (λ (m : ℕ). slice_set c.loop-place.jobs m (with_io (job_at c.loop-place.jobs m) c.none-none.result)) place in
-    let seat : c.from_parts.result ≡ seat_with (place_at c.args.apart.items n)
+    let seat : c.from_parts.result ≡ seat_with (place_numbered c.args.apart.items n)
     (half_of_seat c.loop-place.jobs c.args.entries.now c.args.apart.items n).io = c.from_parts.ensures
-    ∙ seat_made c.in-Some.place (place_at c.args.apart.items n) c.swap_in-io.result _ _ _ _ _ item
+    ∙ seat_made c.in-Some.place (place_numbered c.args.apart.items n) c.swap_in-io.result _ _ _ _ _ item
     (c.swap_in-io.ensures.io ∙ ap (λ (h : HalfMemory). h.io) half)
     (c.for_seat.ensures.up ∙ c.into_buffers.ensures.up) (c.for_seat.ensures.pcm ∙ c.into_buffers.ensures.pcm)
     (c.for_seat.ensures.down ∙ c.into_buffers.ensures.down) (c.for_seat.ensures.out ∙ c.into_buffers.ensures.out) in

@@ -1,7 +1,7 @@
 use Rattle.std.proofs.Common.{◌≡◌, refl, sym, ap, ◌∙◌, ℕ, [], ◌∷◌, length, length-append, slice_index, arith}
 use Rattle.std.proofs.lemmas.Result.{IfOk-from_err}
 use Rattle.farm_rounds.specs.Calls.{call_of}
-use Rattle.farm_rounds.specs.Rounds.{entry_of}
+use Rattle.farm_rounds.specs.Rounds.{entry_for}
 use Rattle.farm_rounds.proofs.Planning.{made_none, last_present, last_each, job_pushed, made_more}
 use Rattle.farm_rounds.proofs.jobs.jobs_of.Goals as goal
 
@@ -36,7 +36,7 @@ loop-group-preserved c =
           (job_pushed c.loop-group.jobs.items c.push_reserved.new.self.items c.in_ok-job_of.field-0 c.in-Some.group c.push_reserved.ensures.items
           c.in_ok-job_of.ensures) c.enter.ensures.length
           (λ k l t. c.enter.ensures.entered k l t
-          ∙ ap (λ (n : ℕ). entry_of n (call_of (slice_index c.args.live.now k) c.in-Some.group)) index) c.enter.ensures.others c.requires.groups.apart;
+          ∙ ap (λ (n : ℕ). entry_for n (call_of (slice_index c.args.live.now k) c.in-Some.group)) index) c.enter.ensures.others c.requires.groups.apart;
       room =
           omega (
             arith,

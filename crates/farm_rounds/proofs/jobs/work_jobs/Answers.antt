@@ -5,8 +5,8 @@ use Rattle.call_pair.specs.declared.job.Job.{Job}
 use Rattle.call_pair.specs.Jobs.{finished}
 use Rattle.round_lines.specs.Seats.{SeatMemory}
 use Rattle.farm_rounds.specs.declared.call.Group.{Group}
-use Rattle.farm_rounds.specs.Groups.{AreGroups, AreLive}
-use Rattle.farm_rounds.specs.Phased.{IsFresh, HasPhases}
+use Rattle.farm_rounds.specs.Groups.{AreGroups, ListsOpenCalls}
+use Rattle.farm_rounds.specs.Phased.{IsFreshJob, HasPhases}
 use Rattle.farm_rounds.specs.Rounds.{HaveJobs, SameLegs, IsTimely, HaveTimeUntil, Works, groups_from}
 use Rattle.farm_rounds.proofs.Working.{back, ready_out, works}
 use Rattle.farm_rounds.proofs.Rooms.{empty_less}
@@ -49,9 +49,9 @@ work_phases-jobs-requires-clause-fresh g c κs lives =
     let whole =
     handed c.args.jobs.items c.hand_in.new.jobs c.deref_mut.result.now c.args.jobs.len (length c.deref_mut.result.now) (omega (arith, c.deref_mut.ensures.len))
     (omega arith) c.deref_mut.ensures.value c.hand_in.ensures.same in
-    subst (λ (js : List Job). All (IsFresh c.args.room.phases.periods) js) (sym whole)
+    subst (λ (js : List Job). All (IsFreshJob c.args.room.phases.periods) js) (sym whole)
     (c.hand_in.ensures.fresh c.args.room.phases.periods
-    (subst (λ (js : List Job). All (IsFresh c.args.room.phases.periods) js) (sym c.deref_mut.ensures.value) c.requires.fresh) c.requires.within)
+    (subst (λ (js : List Job). All (IsFreshJob c.args.room.phases.periods) js) (sym c.deref_mut.ensures.value) c.requires.fresh) c.requires.within)
 
 pub work_phases-jobs-requires-clause-room : goal.work_phases-jobs-requires-clause-room
 work_phases-jobs-requires-clause-room g c κs lives =
@@ -75,7 +75,7 @@ work_phases-jobs-requires-clause-live g c κs lives =
     let same =
     same_groups c.args.jobs.items c.hand_in.new.jobs c.deref_mut.result.now c.args.jobs.len (length c.deref_mut.result.now)
     (omega (arith, c.deref_mut.ensures.len)) (omega arith) c.deref_mut.ensures.value c.hand_in.ensures.same in
-    subst (λ (gs : List Group). AreLive c.args.numbers.now gs) (sym same) c.requires.live
+    subst (λ (gs : List Group). ListsOpenCalls c.args.numbers.now gs) (sym same) c.requires.live
 
 pub work_phases-jobs-requires-clause-slice : goal.work_phases-jobs-requires-clause-slice
 work_phases-jobs-requires-clause-slice g c κs lives = c.requires.slice

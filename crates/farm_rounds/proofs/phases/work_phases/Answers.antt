@@ -8,7 +8,7 @@ use Rattle.call_pair.specs.Jobs.{has_call}
 use Rattle.farm_rounds.specs.declared.order.Party.{Party}
 use Rattle.farm_rounds.specs.Numbers.{IsRising, is_among}
 use Rattle.farm_rounds.specs.Ordered.{AreRun, IsApart, IsHeld, IsParty, names, party_of, slot_at}
-use Rattle.farm_rounds.specs.Phased.{calls_in, call_in_place, heard_from, IsTold}
+use Rattle.farm_rounds.specs.Phased.{memories_in, call_in_place, heard_from, IsTold}
 use Rattle.farm_rounds.proofs.Phasing.{apart, known, full, start_order, told_number, within, are_told, met_order, after_number, are_held, are_run}
 use Rattle.farm_rounds.proofs.PhasedJobs.{named_any, named_count, all_parties, few_jobs}
 use Rattle.farm_rounds.proofs.Rooms.{none_done}
@@ -42,13 +42,13 @@ module _ (g : given.Over) (c : After-take_all g) where
   held : map Some c.take_all.new.jobs.items ≡ c.spread.new.slots
   held = c.take_all.ensures ∙ back_into _ _ _ c.deref_mut.result.now c.deref_mut.ensures.len c.deref_mut.ensures.value c.spread.ensures.slots
 
-  first_order : IsRising (map (λ (j : CallMemory). j.io.call) (calls_in c.take_all.new.jobs.items))
+  first_order : IsRising (map (λ (j : CallMemory). j.io.call) (memories_in c.take_all.new.jobs.items))
   first_order =
       start_order c.args.numbers.now c.args.jobs.items c.args.room.periods c.requires.groups c.requires.live c.requires.fresh c.spread.new.slots
       c.spread.new.partners c.spread.new.parties.items c.spread.ensures.spread long c.take_all.new.jobs.items held
 
   -- .. whatever the first phase gives, ..
-  module _ (ts : List (Box CallMemory)) (f : calls_in ts ≡ map call_finished (calls_in c.take_all.new.jobs.items)) where
+  module _ (ts : List (Box CallMemory)) (f : memories_in ts ≡ map call_finished (memories_in c.take_all.new.jobs.items)) where
     told_long : length ts ≡ length c.args.numbers.now
     told_long =
         told_number c.args.numbers.now c.args.jobs.items c.args.room.periods c.requires.groups c.requires.live c.requires.fresh c.spread.new.slots
@@ -67,13 +67,13 @@ module _ (g : given.Over) (c : After-take_all g) where
     -- .. once the calls have heard their partners, ..
     module _ (ms : List (Box CallMemory)) (many : length ms ≡ length ts)
         (met : (k : ℕ) → k < length ts → call_in_place ms k ≡ heard_from (call_in_place ts (slice_index c.spread.new.partners k)) (call_in_place ts k)) where
-      second_order : IsRising (map (λ (j : CallMemory). j.io.call) (calls_in ms))
+      second_order : IsRising (map (λ (j : CallMemory). j.io.call) (memories_in ms))
       second_order =
           met_order c.args.numbers.now c.args.jobs.items c.args.room.periods c.requires.groups c.requires.live c.requires.fresh c.spread.new.slots
           c.spread.new.partners c.spread.new.parties.items c.spread.ensures.spread long c.take_all.new.jobs.items held ts f ms many met
 
       -- .. and whatever the second phase gives
-      module _ (rs : List (Box CallMemory)) (r : calls_in rs ≡ map call_finished (calls_in ms)) (after : List (Option (Box CallMemory)))
+      module _ (rs : List (Box CallMemory)) (r : memories_in rs ≡ map call_finished (memories_in ms)) (after : List (Option (Box CallMemory)))
           (h : after ≡ map Some rs) where
         after_long : length after ≡ length c.args.numbers.now
         after_long =
@@ -112,9 +112,9 @@ module _ (g : given.Over) (c : After-meet_all g) where
   met_back = back_into _ _ _ c.deref_mut-3.result.now c.deref_mut-3.ensures.len c.deref_mut-3.ensures.value c.meet_all.ensures.length
 
 -- what the second phase gave
-each_ran : (g : given.Over) (c : After-work_phase-ran g) → calls_in c.work_phase-ran.result.items ≡ map call_finished (calls_in c.meet_all.new.jobs)
+each_ran : (g : given.Over) (c : After-work_phase-ran g) → memories_in c.work_phase-ran.result.items ≡ map call_finished (memories_in c.meet_all.new.jobs)
 each_ran g c =
-    subst (λ (xs : List (Box CallMemory)). calls_in c.work_phase-ran.result.items ≡ map call_finished (calls_in xs))
+    subst (λ (xs : List (Box CallMemory)). memories_in c.work_phase-ran.result.items ≡ map call_finished (memories_in xs))
     (back_into _ _ _ c.deref_mut-3.result.now c.deref_mut-3.ensures.len c.deref_mut-3.ensures.value c.meet_all.ensures.length) c.work_phase-ran.ensures
 
 -- ---- the calls are spread
@@ -218,7 +218,7 @@ pub work_phase-ran-requires-clause-order : goal.work_phase-ran-requires-clause-o
 work_phase-ran-requires-clause-order g c κs lives =
     let at = goal.at.work_phase-ran-requires-clause-order g c in
     let m = at.After-meet_all in
-    subst (λ (xs : List (Box CallMemory)). IsRising (map (λ (j : CallMemory). j.io.call) (calls_in xs))) (sym (met_back g m))
+    subst (λ (xs : List (Box CallMemory)). IsRising (map (λ (j : CallMemory). j.io.call) (memories_in xs))) (sym (met_back g m))
     (second_order g at.After-take_all c.work_phase-told.result.items c.work_phase-told.ensures c.meet_all.new.jobs (many g m) (met g m (beside g at.After-deref)))
 
 pub seat_all-requires-clause-room : goal.seat_all-requires-clause-room
@@ -230,7 +230,7 @@ seat_all-requires-clause-room g c =
       arith,
       length-map c.work_phase-ran.result.items (λ (b : Box CallMemory). b.value),
       ap length ran,
-      length-map (calls_in c.meet_all.new.jobs) call_finished,
+      length-map (memories_in c.meet_all.new.jobs) call_finished,
       length-map c.meet_all.new.jobs (λ (b : Box CallMemory). b.value),
       many g m,
       told_long g at.After-take_all c.work_phase-told.result.items c.work_phase-told.ensures,

@@ -1,19 +1,19 @@
 use Rattle.std.proofs.Common.{refl, sym, ap, ◌∙◌, subst, ℕ, List, length}
 use Rattle.std.proofs.lemmas.Result.{IfOk-from_err}
 use Rattle.farm_rounds.specs.declared.entry.Entry.{Entry}
-use Rattle.farm_rounds.specs.Groups.{AreLive}
+use Rattle.farm_rounds.specs.Groups.{ListsOpenCalls}
 use Rattle.farm_rounds.specs.Rounds.{HaveEntries, BringCalls, AreSeats}
 use Rattle.farm_rounds.proofs.Starting.{live_number}
 use Rattle.farm_rounds.proofs.round.make_jobs_and_seats.Goals as goal
 
 pub make_jobs-requires-clause-live : goal.make_jobs-requires-clause-live
-make_jobs-requires-clause-live c = subst (λ (xs : List ℕ). AreLive xs c.args.rest.now.groups.items) (sym c.deref.ensures.value) c.requires.live
+make_jobs-requires-clause-live c = subst (λ (xs : List ℕ). ListsOpenCalls xs c.args.rest.now.groups.items) (sym c.deref.ensures.value) c.requires.live
 
 pub make_seats-requires-clause-numbers : goal.make_seats-requires-clause-numbers
 make_seats-requires-clause-numbers c =
     let groups = c.args.rest.now.groups.items in
     live_number 4294967295 c.deref-2.result.now groups c.requires.groups
-    (subst (λ (xs : List ℕ). AreLive xs groups) (sym c.deref-2.ensures.value) c.requires.live)
+    (subst (λ (xs : List ℕ). ListsOpenCalls xs groups) (sym c.deref-2.ensures.value) c.requires.live)
 
 pub make_seats-requires-clause-length : goal.make_seats-requires-clause-length
 make_seats-requires-clause-length c =

@@ -14,7 +14,7 @@ use Rattle.farm_run.specs.Ending.{AreShut}
 use Rattle.farm_run.specs.Journal.{JournalMemory}
 use Rattle.farm_run.proofs.Cutting.{on_err}
 use Rattle.farm_run.proofs.FewEnds.{new_ends, shut_more}
-use Rattle.farm_run.specs.Standing.{Standing, standing, GoesOn, HasFlags, MeetsRun}
+use Rattle.farm_run.specs.Standing.{Standing, standing, StandingGoesOn, HasFlags, MeetsRun}
 use Rattle.farm_run.proofs.Knowing.{known_round}
 use Rattle.farm_run.proofs.RoundListed.{order_after, knows_after, goes_after, meets_run, listed_back}
 use Rattle.farm_run.proofs.Told.{told_done, told_orders}
@@ -133,7 +133,7 @@ in_run : (g : Over) (c : goal.After-settle-farm g) (r : Run) (first : _) (last :
 in_run g c r first last l at = record { so_far = at.follows.so_far; some = c.requires.some; within = l; clear = c.requires.clear }
 
 -- the round is that of a run that goes on from behind it
-meets : (g : Over) (c : goal.After-settle-farm g) (r : Run) (last : Standing) → HasFlags r last → GoesOn (standing c.tell_ends.new.board c.settle-farm.result.failed (g.T.Trunk.lines c.settle-farm.new.trunk)) last →
+meets : (g : Over) (c : goal.After-settle-farm g) (r : Run) (last : Standing) → HasFlags r last → StandingGoesOn (standing c.tell_ends.new.board c.settle-farm.result.failed (g.T.Trunk.lines c.settle-farm.new.trunk)) last →
     MeetsRun r c.args.periods (round g c).filled (standing c.tell_ends.new.board c.settle-farm.result.failed (g.T.Trunk.lines c.settle-farm.new.trunk)) last
 meets g c r last flags on =
     let told = c.tell_ends.ensures in
@@ -141,7 +141,7 @@ meets g c r last flags on =
 
 -- what it tells, notes and keeps of the calls that end in it
 ends : (g : Over) (c : goal.After-settle-farm g) (r : Run) (first : _) (last : Standing) → HasFlags r last → c.args.stage.clock + c.args.periods ≤ r.periods →
-    GoesOn (standing c.tell_ends.new.board c.settle-farm.result.failed (g.T.Trunk.lines c.settle-farm.new.trunk)) last → IsAtClock r c.args.stage.clock c.args.stage.board c.args.stage.farm.groups last first (g.T.Trunk.lines c.args.trunk.now) →
+    StandingGoesOn (standing c.tell_ends.new.board c.settle-farm.result.failed (g.T.Trunk.lines c.settle-farm.new.trunk)) last → IsAtClock r c.args.stage.clock c.args.stage.board c.args.stage.farm.groups last first (g.T.Trunk.lines c.args.trunk.now) →
     EndsRound r c.args.stage.clock c.args.periods c.args.stage.board c.tell_ends.new.board c.args.stage.journal c.tell_ends.new.journal c.args.stage.farm.tallies c.settle-farm.result.tallies
 ends g c r first last flags l on at =
     let told = c.tell_ends.ensures in

@@ -16,7 +16,7 @@ use Rattle.farm_run.proofs.FewEnds.{closes_once, one_more, shut_ordered, shut_sa
 use Rattle.farm_run.proofs.Boards.{over_turned, knows_more, knows_same}
 use Rattle.trau_io.specs.declared.line.Line.{Line}
 use Rattle.switchboard.specs.State.{State}
-use Rattle.farm_run.specs.Match.{AtClock, Follows}
+use Rattle.farm_run.specs.Match.{AtClock, FollowsRun}
 use Rattle.std.proofs.lemmas.Result.{IfOk-from_err}
 use Rattle.farm_run.proofs.orders.execute.Goals as goal
 
@@ -235,7 +235,7 @@ pub returns-in_default-clause-told : goal.returns-in_default-clause-told
 returns-in_default-clause-told c = told_kept c.args.board.now c.turn.new.self _ c.turn.ensures.state
 
 pub returns-in_default-clause-follows : goal.returns-in_default-clause-follows
-returns-in_default-clause-follows c = λ r under f. subst (λ (s : State). Follows r c.args.clock s c.args.farm.now.groups) (same_board c) f
+returns-in_default-clause-follows c = λ r under f. subst (λ (s : State). FollowsRun r c.args.clock s c.args.farm.now.groups) (same_board c) f
 
 pub returns-in_default-clause-noted : goal.returns-in_default-clause-noted
 returns-in_default-clause-noted c = λ r under f noted. subst (λ (s : State). Noted r s.done c.args.clock c.args.journal.now c.args.farm.now.tallies) (same_board c) noted

@@ -1,7 +1,7 @@
 use Rattle.std.proofs.Common.{◌≡◌, ◌<◌, ◌≤◌, ℕ, true, length}
 use Rattle.switchboard.specs.State.{orders_of}
 use Rattle.run_spec.specs.Run.{Run}
-use Rattle.farm_run.specs.Match.{AtClock, Follows}
+use Rattle.farm_run.specs.Match.{AtClock, FollowsRun}
 use Rattle.farm_run.specs.Standing.{is_over, KnowsListed}
 use Rattle.farm_run.specs.Noted.{Noted}
 use Rattle.farm_run.specs.Ending.{AreShut}
@@ -18,10 +18,10 @@ invariant-loop l = record {
   failed : l.farm.failed ≡ l.initial.farm.failed;
   knows : KnowsListed l.initial.board l.initial.farm.groups l.initial.farm.failed → KnowsListed l.board l.farm.groups l.farm.failed;
   over : (c : ℕ) → is_over l.initial.board c ≡ true → is_over l.board c ≡ true;
-  follows : (r : Run) → l.clock < r.periods → Follows r l.clock l.initial.board l.initial.farm.groups → Follows r l.clock l.board l.farm.groups;
+  follows : (r : Run) → l.clock < r.periods → FollowsRun r l.clock l.initial.board l.initial.farm.groups → FollowsRun r l.clock l.board l.farm.groups;
   told : l.board.told ≡ l.initial.board.told;
   openings : (n : ℕ) → l.clock < n → OpenedBefore n l.initial.journal.calls → OpenedBefore n l.journal.calls;
-  noted : (r : Run) → l.clock < r.periods → Follows r l.clock l.initial.board l.initial.farm.groups → Noted r l.initial.board.done l.clock l.initial.journal l.initial.farm.tallies → Noted r l.board.done l.clock l.journal l.farm.tallies;
+  noted : (r : Run) → l.clock < r.periods → FollowsRun r l.clock l.initial.board l.initial.farm.groups → Noted r l.initial.board.done l.clock l.initial.journal l.initial.farm.tallies → Noted r l.board.done l.clock l.journal l.farm.tallies;
 }
 
 abbrev pub decreases-loop : goal.decreases-loop

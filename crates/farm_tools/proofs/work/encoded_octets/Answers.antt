@@ -1,7 +1,7 @@
 use Rattle.std.proofs.Common.{◌≡◌, ◌∷◌, ◌∙◌, ap, subst}
 use Rattle.fr_encoder.specs.Encoded.{encoded_of, encoding_of}
 use Rattle.fr_encoder.specs.Stands.{Stands}
-use Rattle.farm_tools.specs.Made.{coded_frame}
+use Rattle.farm_tools.specs.Made.{frame_of_encoded}
 use Rattle.farm_tools.proofs.Making.{coded_frame-bits, expanded-block}
 use Rattle.farm_tools.proofs.work.encoded_octets.Goals as goal
 
@@ -12,5 +12,5 @@ returns-clause-history c = λ past stands.
       subst (λ x. Stands (x ∷ past) c.encode.new.self) samples one.0,
       c.downlink_frame.ensures.frame
           ∙ coded_frame-bits c.encode.result.0 c.encode.result.1 c.encode.result.2 c.to_bits.new.bits c.to_bits.ensures.value
-          ∙ ap coded_frame (subst (λ x. encoded_of c.encode.result.0 c.encode.result.1 c.encode.result.2 ≡ encoding_of x past) samples one.1),
+          ∙ ap frame_of_encoded (subst (λ x. encoded_of c.encode.result.0 c.encode.result.1 c.encode.result.2 ≡ encoding_of x past) samples one.1),
     )

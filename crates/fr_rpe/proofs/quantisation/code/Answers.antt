@@ -4,11 +4,11 @@ use Rattle.std.proofs.lemmas.Nat.{pow_pos}
 use Rattle.trau_num.specs.Num.{abs_of, mult_of, floor_shr}
 use Rattle.fr_rpe.specs.declared.scale.Scale.{Scale}
 use Rattle.fr_rpe.specs.Scale.{scale_shift}
-use Rattle.fr_rpe.specs.Quantisation.{pulse_code_of, inverse_of, levelled, HasRoom}
+use Rattle.fr_rpe.specs.Quantisation.{pulse_code_of, inverse_of, levelled, IsBelowScale}
 use Rattle.fr_rpe.proofs.Levels.{IsLevel, IsShare, at_level, coded_share}
 use Rattle.fr_rpe.proofs.quantisation.code.Goals as goal
 
-is_level : (scale : Scale) (pulse : ℤ) → FitsSigned w16 pulse → scale.mantissa < 8 → HasRoom scale (unsigned_abs (abs_of pulse)) →
+is_level : (scale : Scale) (pulse : ℤ) → FitsSigned w16 pulse → scale.mantissa < 8 → IsBelowScale scale (unsigned_abs (abs_of pulse)) →
     IsLevel scale.mantissa (levelled scale pulse)
 is_level scale pulse f m room = at_level pulse (2 ^ scale_shift scale) scale.mantissa f (pow_pos (scale_shift scale)) m room
 
@@ -24,7 +24,7 @@ is_product : (scale : Scale) (pulse level inverse m : ℤ) (shift : ℕ) → shi
 is_product scale pulse level inverse m shift s l i e =
     e ∙ (ap (λ a. mult_of a inverse) (l ∙ ap (λ n. pulse *ℤ pos (2 ^ n)) s) ∙ ap (λ b. mult_of (levelled scale pulse) b) i)
 
-is_share : (scale : Scale) (pulse m : ℤ) → FitsSigned w16 pulse → scale.mantissa < 8 → HasRoom scale (unsigned_abs (abs_of pulse)) →
+is_share : (scale : Scale) (pulse m : ℤ) → FitsSigned w16 pulse → scale.mantissa < 8 → IsBelowScale scale (unsigned_abs (abs_of pulse)) →
     m ≡ mult_of (levelled scale pulse) (inverse_of scale.mantissa) → IsShare (floor_shr m 12)
 is_share scale pulse m f l room e = rw e (coded_share scale.mantissa (levelled scale pulse) l (is_level scale pulse f l room))
 

@@ -6,7 +6,7 @@ use Rattle.trau_lanes.proofs.Eight.{words_kept, words_passed, factors_passed}
 use Rattle.fr_short.specs.Reflection.{coefficients_of, coefficients_at, part_of, part_start}
 use Rattle.fr_short.specs.Synthesis.{filtered_samples}
 use Rattle.fr_short.specs.Deemphasis.{last_of}
-use Rattle.fr_short.specs.Stepped.{stepped}
+use Rattle.fr_short.specs.Stepped.{stepped_through}
 use Rattle.fr_short.specs.Words.{AreEightFactors}
 use Rattle.fr_short.proofs.Behind.{turned_factors, turned_back}
 use Rattle.fr_short.proofs.Parts.{in_part, parts_follow, frame_ends}
@@ -75,7 +75,7 @@ returns-clause-samples g c =
     let end = frame_ends c.loop-part.part c.loop-part-test.false in
     let out : List ℤ = (filtered_samples (coefficients_at c.args.old.now c.args.new.now) 0 c.args.sections.now c.args.d.now).0 in
     (run_end _ _ _ c.args.d.now _ _ _ _ _ (omega arith) c.loop-part.invariant.run).0 ∙
-    ap (λ b. stepped g.S.Step.next b out) (to_z-of_z w16 c.args.before c.ranges.before)
+    ap (λ b. stepped_through g.S.Step.next b out) (to_z-of_z w16 c.args.before c.ranges.before)
 
 pub returns-clause-sections : goal.returns-clause-sections
 returns-clause-sections g c =
@@ -88,4 +88,4 @@ returns-clause-last g c =
     let end = frame_ends c.loop-part.part c.loop-part-test.false in
     let out : List ℤ = (filtered_samples (coefficients_at c.args.old.now c.args.new.now) 0 c.args.sections.now c.args.d.now).0 in
     (run_end _ _ _ c.args.d.now _ _ _ _ _ (omega arith) c.loop-part.invariant.run).1 ∙
-    ap (λ b. last_of b (stepped g.S.Step.next b out)) (to_z-of_z w16 c.args.before c.ranges.before)
+    ap (λ b. last_of b (stepped_through g.S.Step.next b out)) (to_z-of_z w16 c.args.before c.ranges.before)

@@ -3,13 +3,13 @@ use Rattle.std.specs.Prelude.{◌≢◌, ◌==◌, false, true}
 use Rattle.std.proofs.lemmas.Int.{to_z-of_z}
 use Rattle.trau_alaw.specs.declared.Law.{Law}
 use Rattle.trau_alaw.specs.declared.Law.TheVariants.{A, Mu}
-use Rattle.trau_alaw.specs.Companding.{middle, holds, IsOnlyOctet}
+use Rattle.trau_alaw.specs.Companding.{middle, contains, IsOnlyOctet}
 use Rattle.trau_alaw.specs.Laws.{companding}
 use Rattle.trau_alaw.proofs.Octets as a
 use Rattle.trau_alaw.proofs.MuOctets as mu
 use Rattle.trau_alaw.proofs.laws.recompress_law.Goals as goal
 
-holds-middle : (law : Law) (octet : ℕ) → octet < 256 → (law ≡ Mu → octet ≢ 127) → holds (companding law octet) (middle (companding law octet)) ≡ true
+holds-middle : (law : Law) (octet : ℕ) → octet < 256 → (law ≡ Mu → octet ≢ 127) → contains (companding law octet) (middle (companding law octet)) ≡ true
 holds-middle A octet l h = a.holds-middle octet l
 holds-middle Mu octet l h = let n : octet ≢ 127 = h refl in let e : (octet == 127) ≡ false = grind arith in mu.holds-middle octet l e
 

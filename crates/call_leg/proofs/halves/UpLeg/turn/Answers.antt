@@ -1,7 +1,7 @@
 use Rattle.std.proofs.Common.{sym, subst, ap, ◌∙◌, ℕ, List, ◌∷◌}
 use Rattle.rx_handler.specs.State.{effective_fields}
 use Rattle.call_leg.specs.Uplink.{sighting_of}
-use Rattle.call_leg.specs.Settings.{later, period_with}
+use Rattle.call_leg.specs.Settings.{settings_later, period_with}
 use Rattle.call_leg.specs.Halves.{UpMemory, Note, up_turned, UpStands}
 use Rattle.call_leg.specs.contracts.halves.UpLeg.{the_view}
 use Rattle.call_leg.proofs.HalfLaws.{turn-step, turn-stands, turn-note, turn-plays}
@@ -16,7 +16,7 @@ returns-clause-step c =
 
 pub returns-clause-history : goal.returns-clause-history
 returns-clause-history c = λ pcm handed who ts now h b.
-    subst (UpStands who (period_with now c.args.up.now pcm handed ∷ ts) (later now)) (ap (λ (r : Note × List ℕ × UpMemory). r.2) (returns-clause-step c))
+    subst (UpStands who (period_with now c.args.up.now pcm handed ∷ ts) (settings_later now)) (ap (λ (r : Note × List ℕ × UpMemory). r.2) (returns-clause-step c))
     (turn-stands who ts now c.args.up.now pcm handed c.args.self.now c.told-up b h)
 
 pub returns-clause-note : goal.returns-clause-note

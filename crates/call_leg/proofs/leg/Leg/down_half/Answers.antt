@@ -1,5 +1,5 @@
 use Rattle.std.proofs.Common.{sym, subst, ap, ◌∙◌, ℕ, List, ◌∷◌}
-use Rattle.call_leg.specs.Settings.{later, period_with}
+use Rattle.call_leg.specs.Settings.{settings_later, period_with}
 use Rattle.call_leg.specs.Memory.{DownMemory, LegMemory, down_memory}
 use Rattle.call_leg.specs.Stands.{Stands}
 use Rattle.call_leg.specs.Step.{with_down, down_worked}
@@ -14,7 +14,7 @@ returns-clause-bits c = ap (λ (m : LegMemory). down_worked m.down c.args.pcm.no
 
 pub returns-clause-history : goal.returns-clause-history
 returns-clause-history c = λ who ts now up handed b h.
-    subst (Stands who (period_with now up c.args.pcm.now handed ∷ ts) (later now))
+    subst (Stands who (period_with now up c.args.pcm.now handed ∷ ts) (settings_later now))
     (ap (λ (l : List ℕ × DownMemory). with_down c.args.self.now l.1) (returns-clause-bits c) ∙ sym (returns-clause-step c))
     (down-stands who ts now up c.args.pcm.now handed c.args.self.now c.told-pcm b h).0
 

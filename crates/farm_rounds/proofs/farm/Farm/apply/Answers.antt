@@ -3,7 +3,7 @@ use Rattle.std.specs.Prelude.{IfOk}
 use Rattle.switchboard.specs.declared.act.Act.{Act}
 use Rattle.switchboard.specs.declared.act.Act.TheVariants as act
 use Rattle.farm_rounds.specs.Memory.{FarmMemory, tally_in}
-use Rattle.farm_rounds.specs.Acts.{Fits, Stays, Applied}
+use Rattle.farm_rounds.specs.Acts.{ActFits, Stays, Applied}
 use Rattle.farm_rounds.specs.Histories.{whose, tallies_after}
 use Rattle.farm_rounds.proofs.Standing.{stands_after, tallied, same_tallies}
 use Rattle.farm_rounds.proofs.farm.Farm.apply.Goals as goal
@@ -28,7 +28,7 @@ returns-in-Opened-clause-history c =
 
 applied_closed : (c : goal.After-close) → Applied c.args.self.now.ended c.args.act.now c.args.self.now.groups c.close.new.self.groups
 applied_closed c =
-    let fits = subst (λ (a : Act). Fits c.args.self.now.groups a) c.in-Closed.is c.requires in
+    let fits = subst (λ (a : Act). ActFits c.args.self.now.groups a) c.in-Closed.is c.requires in
     subst (λ (a : Act). Applied c.args.self.now.ended a c.args.self.now.groups c.close.new.self.groups) (sym c.in-Closed.is)
     (subst (λ (p : Option ℕ). Applied c.args.self.now.ended
     (act.Closed c.in-Closed.call p) c.args.self.now.groups c.close.new.self.groups) fits.1 c.close.ensures.applied)
@@ -45,7 +45,7 @@ returns-in-Closed-clause-history c h w s =
 
 pub returns-in-Closed-clause-tallies : goal.returns-in-Closed-clause-tallies
 returns-in-Closed-clause-tallies c h s d =
-    let fits = subst (λ (a : Act). Fits c.args.self.now.groups a) c.in-Closed.is c.requires in
+    let fits = subst (λ (a : Act). ActFits c.args.self.now.groups a) c.in-Closed.is c.requires in
     subst (λ (a : Act). tally_in c.close.new.self.tallies d ≡ tallies_after a h (tally_in c.args.self.now.tallies) d) (sym c.in-Closed.is)
     (tallied h c.args.self.now.groups c.in-Closed.call c.in-Closed.partner (tally_in c.args.self.now.tallies)
     (tally_in c.close.new.self.tallies) s fits.0 c.close.ensures.tallies

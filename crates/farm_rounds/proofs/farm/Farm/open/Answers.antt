@@ -5,10 +5,10 @@ use Rattle.switchboard.specs.declared.act.Act.TheVariants as act
 use Rattle.farm_rounds.specs.declared.call.Call.{Call}
 use Rattle.farm_rounds.specs.declared.call.Group.{Group}
 use Rattle.farm_rounds.specs.declared.call.Group.TheVariants.{One}
-use Rattle.farm_rounds.specs.Groups.{AreGroups, AreLive}
+use Rattle.farm_rounds.specs.Groups.{AreGroups, ListsOpenCalls}
 use Rattle.farm_rounds.specs.Numbers.{IsRising, is_among}
 use Rattle.farm_rounds.specs.Memory.{FarmMemory}
-use Rattle.farm_rounds.specs.Acts.{Fits, Applied}
+use Rattle.farm_rounds.specs.Acts.{ActFits, Applied}
 use Rattle.farm_rounds.proofs.Holding.{few_groups}
 use Rattle.farm_rounds.proofs.Farms.{open_applied, open_live}
 use Rattle.farm_rounds.proofs.farm.Farm.open.Goals as goal
@@ -50,7 +50,7 @@ push_reserved-requires c =
 applied : (c : goal.After-push_reserved) →
     Applied c.self.inside.end (act.Opened c.args.call c.args.law) c.self.inside.groups.items c.push_reserved.new.self.items
 applied c =
-    let fits = subst (λ (f : FarmMemory). Fits f.groups (act.Opened c.args.call c.args.law)) (sym c.self.view_is) c.requires in
+    let fits = subst (λ (f : FarmMemory). ActFits f.groups (act.Opened c.args.call c.args.law)) (sym c.self.view_is) c.requires in
     open_applied c.self.inside.end c.args.call c.args.law c.self.inside.groups.items c.push_reserved.new.self.items fits c.self.invariant.0
     (c.push_reserved.ensures.items ∙ ap (λ (gs : List Group). gs ++ One c.in_ok-opened.opened ∷ []) c.reserve-2.ensures.items
     ∙ ap (λ (x : Call). c.self.inside.groups.items ++ One x ∷ []) c.in_ok-opened.ensures)
@@ -59,8 +59,8 @@ pub invariant_of-self-in_err-opened : goal.invariant_of-self-in_err-opened
 invariant_of-self-in_err-opened c =
     let i = c.self.invariant in (
       subst (λ (gs : List Group). AreGroups c.self.inside.end gs) (sym c.reserve-2.ensures.items) i.0,
-      subst (λ (gs : List Group). AreLive c.reserve.new.self.items gs) (sym c.reserve-2.ensures.items)
-          (subst (λ (xs : List ℕ). AreLive xs c.self.inside.groups.items) (sym c.reserve.ensures.items) i.1),
+      subst (λ (gs : List Group). ListsOpenCalls c.reserve.new.self.items gs) (sym c.reserve-2.ensures.items)
+          (subst (λ (xs : List ℕ). ListsOpenCalls xs c.self.inside.groups.items) (sym c.reserve.ensures.items) i.1),
       i.2,
       omega (
         arith,

@@ -1,6 +1,6 @@
 use Rattle.std.proofs.Common.{◌≡◌, ◌∙◌, ap, subst, length, arith}
 use Rattle.std.proofs.lemmas.Result.{IfOk-from_err}
-use Rattle.farm_rounds.specs.Groups.{AreGroups, AreLive}
+use Rattle.farm_rounds.specs.Groups.{AreGroups, ListsOpenCalls}
 use Rattle.farm_rounds.specs.Memory.{FarmMemory}
 use Rattle.farm_rounds.proofs.rest.Rest.new.Goals as goal
 
@@ -20,7 +20,7 @@ pub returns-clause-sound : goal.returns-clause-sound
 returns-clause-sound c = subst (λ (f : FarmMemory). AreGroups f.ended f.groups) c.farm.view_is c.farm.invariant.0
 
 pub returns-clause-alive : goal.returns-clause-alive
-returns-clause-alive c = subst (λ (f : FarmMemory). AreLive f.live f.groups) c.farm.view_is c.farm.invariant.1
+returns-clause-alive c = subst (λ (f : FarmMemory). ListsOpenCalls f.live f.groups) c.farm.view_is c.farm.invariant.1
 
 pub returns-clause-kept : goal.returns-clause-kept
 returns-clause-kept c = subst (λ (f : FarmMemory). length f.tallies ≡ 4097) c.farm.view_is c.farm.invariant.2

@@ -1,7 +1,7 @@
 use Rattle.std.proofs.Common.{◌≡◌, ◌<◌, sym, ap, ◌∙◌, subst, ℕ, List, ◌++◌, length, take, drop, arith}
 use Rattle.round_lines.specs.Seats.{SeatMemory, Fills}
 use Rattle.round_lines.specs.Rounds.{KeepsButEach, IsIncoming, Rising, seat_at, call_at}
-use Rattle.farm_rounds.specs.Rounds.{IsShort}
+use Rattle.farm_rounds.specs.Rounds.{EndsShort}
 use Rattle.farm_rounds.specs.Working.{RoundMemory, IsRound}
 use Rattle.farm_rounds.proofs.Working.{back, filled, is_short}
 use Rattle.farm_rounds.proofs.round.Round.fill.Goals as goal
@@ -92,5 +92,5 @@ returns-clause-short g c =
     subst (λ (ss : List SeatMemory). (k : ℕ) → k < length ss → Fills (g.T.Trunk.lines c.args.trunk.now (call_at ss k))
     (g.T.Trunk.lines c.fill_seats.new.trunk (call_at ss k)) (seat_at ss k)
     (seat_at c.fill_seats.new.seats k)) c.deref_mut.ensures.value c.fill_seats.ensures.fills in
-    subst (λ (ss : List SeatMemory). (k : ℕ) → k < length ss → IsShort (seat_at ss k).place) (sym whole)
+    subst (λ (ss : List SeatMemory). (k : ℕ) → k < length ss → EndsShort (seat_at ss k).place) (sym whole)
     (λ k l. let lk : k < length i.seats.items = omega (arith, l, number) in is_short _ _ _ _ (fills k lk) (c.self.invariant.0.room k lk))

@@ -4,7 +4,7 @@ use Rattle.std.specs.List.Sorted.{IsPermutation}
 use Rattle.std.proofs.lemmas.Result.{IfOk-from_err}
 use Rattle.farm_rounds.specs.declared.call.Group.{Group}
 use Rattle.farm_rounds.specs.declared.rest.Rest.{Rest}
-use Rattle.farm_rounds.specs.Groups.{AreLive}
+use Rattle.farm_rounds.specs.Groups.{ListsOpenCalls}
 use Rattle.farm_rounds.specs.Rounds.{BringCalls, AreSeats}
 use Rattle.farm_rounds.specs.WorkRooms.{HasRoom}
 use Rattle.farm_rounds.specs.Working.{IsRound}
@@ -30,7 +30,7 @@ reserve-requires-clause-few c = c.requires.few_workers
 pub make_jobs_and_seats-requires-clause-live : goal.make_jobs_and_seats-requires-clause-live
 make_jobs_and_seats-requires-clause-live c =
     let sorted = c.put_in_order.new.groups.items in
-    subst (λ (xs : List ℕ). AreLive xs sorted) (sym c.in_ok-rest.ensures.live)
+    subst (λ (xs : List ℕ). ListsOpenCalls xs sorted) (sym c.in_ok-rest.ensures.live)
     (moved_live c.args.farm.live c.args.farm.groups sorted
     (same c.put_in_order.new.groups.items c.in_ok-rest.ensures.groups c.put_in_order.ensures.same) c.in_ok-rest.ensures.alive)
 
@@ -82,8 +82,8 @@ invariant_of-result c =
     let jobs = c.in_ok-jobs.jobs.items in
     let entries = c.in_ok-jobs.entries.items in
     let seats = c.in_ok-jobs.seats.items in
-    let alive : AreLive r.live.items sorted =
-    subst (λ (xs : List ℕ). AreLive xs sorted) (sym told.live)
+    let alive : ListsOpenCalls r.live.items sorted =
+    subst (λ (xs : List ℕ). ListsOpenCalls xs sorted) (sym told.live)
     (moved_live f.live f.groups sorted (same c.put_in_order.new.groups.items c.in_ok-rest.ensures.groups c.put_in_order.ensures.same) told.alive) in
     let same_live = ap (λ (x : Rest). length x.live.items) others in
     let same_failed = ap (λ (x : Rest). length x.failed.items) others in

@@ -1,6 +1,6 @@
 use Rattle.std.proofs.Common.{sym, ap, ◌∙◌, subst, ℕ, List, length, arith, rules}
 use Rattle.farm_rounds.specs.declared.entry.Entry.{Entry}
-use Rattle.farm_rounds.specs.Groups.{AreLive}
+use Rattle.farm_rounds.specs.Groups.{ListsOpenCalls}
 use Rattle.farm_rounds.specs.Rounds.{HaveJobs, HaveTime, Works, groups_from}
 use Rattle.farm_rounds.specs.WorkRooms.{HasRoom}
 use Rattle.farm_rounds.specs.Working.{RoundMemory, IsRound}
@@ -39,7 +39,7 @@ work_jobs-jobs-requires-clause-groups g c κs lives =
 
 pub work_jobs-jobs-requires-clause-live : goal.work_jobs-jobs-requires-clause-live
 work_jobs-jobs-requires-clause-live g c κs lives =
-    subst (λ (ns : List ℕ). AreLive ns (groups_from c.self.inside.jobs.items)) (sym (c.deref.ensures.value ∙ c.self.invariant.2)) c.self.invariant.0.alive
+    subst (λ (ns : List ℕ). ListsOpenCalls ns (groups_from c.self.inside.jobs.items)) (sym (c.deref.ensures.value ∙ c.self.invariant.2)) c.self.invariant.0.alive
 
 pub work_jobs-jobs-requires-clause-fresh : goal.work_jobs-jobs-requires-clause-fresh
 work_jobs-jobs-requires-clause-fresh g c κs lives = fresh_for c.self.inside.room.phases.periods _ c.self.invariant.0.fresh

@@ -8,7 +8,7 @@ use Rattle.farm_rounds.specs.Memory.{tally_in}
 use Rattle.farm_rounds.specs.Numbers.{is_among}
 use Rattle.farm_rounds.specs.Rounds.{groups_from}
 use Rattle.farm_rounds.specs.RoundHistories.{WorkedStand, KnowFailed, those_that}
-use Rattle.farm_rounds.specs.Working.{WorkedMemory, IsWorked, GainsFailed, goes_on_call, partner_past}
+use Rattle.farm_rounds.specs.Working.{WorkedMemory, IsWorkedRound, GainsFailed, goes_on_call, partner_past}
 use Rattle.farm_rounds.proofs.Working.{back}
 use Rattle.farm_rounds.proofs.Drained.{drained_as_before, same_going, still_worked, still_stand}
 use Rattle.farm_rounds.proofs.worked.Worked.drain.Given as given
@@ -85,7 +85,7 @@ invariant_of-self g c =
     let each =
     subst (λ (ss : List SeatMemory). Each Drains (g.T.Trunk.lines c.args.trunk.now) (g.T.Trunk.lines c.drain_seats.new.trunk) ss now
     (length ss)) here c.drain_seats.ensures.drains in (
-      subst (λ (ss : List SeatMemory). IsWorked (record before { seats = ss })) (sym whole)
+      subst (λ (ss : List SeatMemory). IsWorkedRound (record before { seats = ss })) (sym whole)
           (still_worked before now c.self.invariant.0 (c.drain_seats.ensures.number ∙ ap length here)
           (drained_as_before (g.T.Trunk.lines c.args.trunk.now) (g.T.Trunk.lines c.drain_seats.new.trunk) i.seats.items now each) c.drain_seats.ensures.rising),
       c.self.invariant.1,

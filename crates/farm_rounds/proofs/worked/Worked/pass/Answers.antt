@@ -3,14 +3,14 @@ use Rattle.std.specs.Prelude.{map, flat_map}
 use Rattle.std.proofs.lemmas.List.Sorted.{IsNonDecreasingBy-from_sort_by_key}
 use Rattle.trau_io.specs.declared.line.Line.{Line}
 use Rattle.trau_io.specs.Places.{place_of}
-use Rattle.round_lines.specs.Places.{name_of, failed_in_round}
+use Rattle.round_lines.specs.Places.{line_name, failed_in_round}
 use Rattle.round_lines.specs.Seats.{SeatMemory}
 use Rattle.farm_rounds.specs.declared.tally.Tally.{Tally}
 use Rattle.farm_rounds.specs.Groups.{AreGroups}
 use Rattle.farm_rounds.specs.Memory.{tally_in}
 use Rattle.farm_rounds.specs.Rounds.{groups_from}
 use Rattle.farm_rounds.specs.Settling.{Settled, groups_left}
-use Rattle.farm_rounds.specs.Working.{WorkedMemory, IsWorked, goes_on_call}
+use Rattle.farm_rounds.specs.Working.{WorkedMemory, IsWorkedRound, goes_on_call}
 use Rattle.farm_rounds.specs.RoundHistories.{seat_of}
 use Rattle.farm_rounds.proofs.Working.{back}
 use Rattle.farm_rounds.proofs.Starting.{same_groups}
@@ -41,7 +41,7 @@ whole c =
     let settled =
     subst (λ (m : WorkedMemory). Settled (goes_on_call r.seats)
     (groups_from m.jobs) m.live c.settle_all.new.live.items m.tallies c.settle_all.new.tallies) c.self.view_is second in
-    passed r c.settle_all.new.groups.items c.settle_all.new.live.items c.settle_all.new.tallies (subst IsWorked c.self.view_is c.self.invariant.0) left settled
+    passed r c.settle_all.new.groups.items c.settle_all.new.live.items c.settle_all.new.tallies (subst IsWorkedRound c.self.view_is c.self.invariant.0) left settled
 
 -- the tallies, as they are given on
 tallies_back : (c : goal.After-drop-self-inside) →
@@ -93,9 +93,9 @@ returns-clause-passes c = (
     lines = c.list_failed.new.failed.items;
     told =
         c.list_failed.ensures.listed
-        ∙ ap (λ (xs : List Line). map name_of xs ++ flat_map (λ (s : SeatMemory). failed_in_round s.place) c.deref.result.now)
+        ∙ ap (λ (xs : List Line). map line_name xs ++ flat_map (λ (s : SeatMemory). failed_in_round s.place) c.deref.result.now)
         (ap (λ (r : WorkedMemory). r.failed) c.self.view_is)
-        ∙ ap (λ (ss : List SeatMemory). map name_of c.args.self.failed ++ flat_map (λ (s : SeatMemory). failed_in_round s.place) ss)
+        ∙ ap (λ (ss : List SeatMemory). map line_name c.args.self.failed ++ flat_map (λ (s : SeatMemory). failed_in_round s.place) ss)
         (c.deref.ensures.value ∙ ap (λ (r : WorkedMemory). r.seats) c.self.view_is);
     same = c.sort_unstable_by_key.ensures.permutation;
     order = IsNonDecreasingBy-from_sort_by_key (λ (l : Line). place_of l.call l.side) _ c.sort_unstable_by_key.ensures.sorted (λ a r q k. search rules);

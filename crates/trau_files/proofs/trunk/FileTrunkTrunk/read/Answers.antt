@@ -1,7 +1,7 @@
 use Rattle.std.proofs.Common.{sym, subst, List, Option, ◌∙◌, ap, slice_set}
 use Rattle.trau_io.proofs.Tables.{replaced}
 use Rattle.trau_files.specs.declared.trunk.seats.Access.TheVariants.{Reading}
-use Rattle.trau_files.specs.Files.{OpenAfter, OpenLine, TrunkFiles, known_line, open_after}
+use Rattle.trau_files.specs.Files.{OpenAfter, OpenLine, TrunkFiles, known_line, file_after}
 use Rattle.trau_files.proofs.trunk.FileTrunkTrunk.read.Goals as goal
 
 pub returns : goal.returns
@@ -12,7 +12,7 @@ returns g c =
     (sym c.self.inside.lines.ok.0 ∙ c.self.invariant) c.place.ensures.value c.place.ensures.within c.index_mut.ensures.value in
     let lines = line.put ∙ ap (slice_set _ _) c.read.ensures.after in
     let files = subst (λ (fs : List (Option OpenLine)). OpenAfter fs c.read.new.files c.args.line.call c.args.line.side
-    (open_after c.args.line.call c.args.line.side Reading c.index_mut.result.now.read c.read.result)) files_seen c.read.ensures.place in
+    (file_after c.args.line.call c.args.line.side Reading c.index_mut.result.now.read c.read.result)) files_seen c.read.ensures.place in
     record {
       this = rw (line.was, line.is) c.read.ensures.reads;
       others = line.others;

@@ -1,6 +1,6 @@
 use Rattle.std.proofs.Common.{◌≡◌, ◌∙◌, length, List, Option, None, IfSome, arith, slice_set, sym, subst}
 use Rattle.std.proofs.lemmas.List.{get_or_read_under}
-use Rattle.trau_files.specs.Files.{OpenLine, OpenAfter, in_seat, open_after}
+use Rattle.trau_files.specs.Files.{OpenLine, OpenAfter, in_seat, file_after}
 use Rattle.trau_files.proofs.Seating.{moved_after}
 use Rattle.trau_files.proofs.trunk.seats.Seats.read.Goals as goal
 
@@ -16,4 +16,4 @@ returns-clause-open g c =
     let moved = moved_after files c.self.inside.seat_of.items seat was c.read_in.new.seat result here
     (omega (arith, c.ranges.seat.fits, count)) c.self.invariant.2 c.read_in.ensures.after in
     subst (λ (seats : List (Option OpenLine)). IfSome (in_seat seats seat)
-    (λ o. OpenAfter seats (slice_set files seat c.read_in.new.seat) o.call o.side (open_after o.call o.side o.access o.at result))) c.self.view_is moved
+    (λ o. OpenAfter seats (slice_set files seat c.read_in.new.seat) o.call o.side (file_after o.call o.side o.access o.at result))) c.self.view_is moved
