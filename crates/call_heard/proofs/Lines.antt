@@ -12,7 +12,7 @@ use Rattle.call_leg.specs.Periods.{CallPeriod}
 use Rattle.call_leg.specs.Down.{down_line, down_now}
 use Rattle.call_leg.proofs.LineLaws.{HandBits, down_now-bits}
 use Rattle.call_spec.proofs.Stretched.{reverse-more}
-use Rattle.call_spec.proofs.Yields.{bits_of-append}
+use Rattle.trau_bits.proofs.Joined.{bits_of-append}
 use Rattle.run_spec.proofs.LongerLines.{length-down_line}
 
 line-bits : (who : Who) (ts : List CallPeriod) → HandBits ts → AreBits (down_line who ts)

@@ -10,13 +10,13 @@ use Rattle.trau_io.specs.declared.transfer.Filled.TheVariants as filled
 use Rattle.trau_io.specs.declared.line.Failed.{Failed}
 use Rattle.trau_io.specs.Lines.{LineState, OthersStay, Rose}
 use Rattle.trau_io.specs.Desks.{DeskState}
-use Rattle.trau_io.specs.Transfer.{given_of, ReadsBlock, Tells, WritesAll}
+use Rattle.trau_io.specs.Transfer.{Gives, given_of, ReadsBlock, Tells, WritesAll}
 use Rattle.ccu_end.specs.declared.finds.Heard.{Heard}
 use Rattle.ccu_end.specs.declared.recording.PeriodEnd.TheVariants.{Taken, LineEnded, ReadFailed, WriteFailed, DeskFailed}
 use Rattle.ccu_end.specs.Found.{FoundFrame}
 use Rattle.ccu_end.specs.Heard.{CcuMemory, Stands, frames_of}
 use Rattle.ccu_end.specs.Told.{lines_of, octets_saying}
-use Rattle.ccu_end.specs.Follows.{Gains, Gives, DeskHears, Moves}
+use Rattle.ccu_end.specs.Follows.{Gains, DeskHears, Moves}
 use Rattle.ccu_end.specs.FollowStep.{FollowsOn, Takes}
 
 -- a part of a block

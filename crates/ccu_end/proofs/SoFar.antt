@@ -5,12 +5,13 @@ use Rattle.std.proofs.lemmas.Grind.{flat_map-append}
 use Rattle.std.proofs.lemmas.List.Elements.{All-nil}
 use Rattle.std.proofs.KnownBytes.{Consumes-nil, Consumes-trans, Appends-nil, Appends-trans}
 use Rattle.trau_io.specs.Lines.{LineState}
+use Rattle.trau_io.specs.Transfer.{Gives}
 use Rattle.trau_io.specs.Desks.{DeskState}
 use Rattle.ccu_end.specs.Found.{FoundFrame}
 use Rattle.ccu_end.specs.Asked.{asked}
 use Rattle.ccu_end.specs.Heard.{ArePeriods, CcuMemory, Stands, all_of}
 use Rattle.ccu_end.specs.Told.{line_of, lines_of, listed, octets_saying, sent_up}
-use Rattle.ccu_end.specs.Follows.{Gains, Gives, DeskHears, Moves}
+use Rattle.ccu_end.specs.Follows.{Gains, DeskHears, Moves}
 use Rattle.ccu_end.specs.FollowStep.{NoFault}
 
 -- what is given, gained and told, and then more

@@ -4,18 +4,13 @@ use Rattle.std.specs.Prelude.{◌≡◌, ◌⊎◌, ℕ, ◌*◌, ◌-◌, ◌^�
 use Rattle.std.specs.List.{concat}
 use Rattle.std.specs.Io.KnownBytes.{Consumes, Appends, IsAtEnd}
 use Rattle.trau_io.specs.Lines.{LineState, Rose}
+use Rattle.trau_io.specs.Transfer.{Gives}
 use Rattle.trau_io.specs.Desks.{DeskState}
 use Rattle.ccu_end.specs.declared.recording.FollowEnd.{FollowEnd}
 use Rattle.ccu_end.specs.declared.recording.FollowEnd.TheVariants.{Done, ReadFailed, WriteFailed, DeskFailed}
 use Rattle.ccu_end.specs.Found.{FoundFrame}
 use Rattle.ccu_end.specs.Heard.{ArePeriods, AreHeard, all_of}
 use Rattle.ccu_end.specs.Told.{listed, sent_up}
-
--- the incoming line gave these octets
-pub record Gives (up up' : LineState) (given : List ℕ) : Type 0 where
-  pub read : Consumes up.to_come up'.to_come given
-  pub written : up'.written ≡ up.written
-  pub later : up.faults ≤ up'.faults
 
 -- the outgoing line gained those
 pub record Gains (down down' : LineState) (sent : List ℕ) : Type 0 where

@@ -12,7 +12,8 @@ use Rattle.decimal_number.proofs.Numbers.{own}
 use Rattle.decimal_number.specs.Number.{IsNumber}
 use Rattle.farm_checkpoint.specs.declared.mark.MarkCall.{MarkCall}
 use Rattle.farm_checkpoint.specs.Text.{save_line, call_text}
-use Rattle.farm_checkpoint.specs.Splits.{Lacks, SplitsAt, IsField}
+use Rattle.decimal_number.specs.Splits.{Lacks, SplitsAt}
+use Rattle.farm_checkpoint.specs.Fields.{IsField}
 
 pub some_of : {A : Type 0} (r : Option A) (N : Type 0) (S : A → Type 0) → MatchOption r N S → IfSome r S
 some_of None N S m = tt

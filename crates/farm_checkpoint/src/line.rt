@@ -3,7 +3,8 @@
 ghost use Rattle.std.specs.Prelude.{◌≡◌, ◌++◌, ◌∷◌, ◌<◌, ◌≤◌, ℕ, List, decimal, IsNone, IfSome};
 ghost use Rattle.farm_checkpoint.specs.Marks.{IsLive, HasSums};
 ghost use Rattle.farm_checkpoint.specs.Text.{save_line, call_text};
-ghost use Rattle.farm_checkpoint.specs.Splits.{Lacks, SplitsAt, IsField};
+ghost use Rattle.decimal_number.specs.Splits.{Lacks, SplitsAt};
+ghost use Rattle.farm_checkpoint.specs.Fields.{IsField};
 ghost use Rattle.farm_checkpoint.specs.declared.mark.MarkCall.{MarkCall as OneCall};
 
 use crate::MarkCall;

@@ -18,7 +18,7 @@ use Rattle.farm_live.specs.Live.{view_of, book_at, IsSeat, IsSeated}
 use Rattle.farm_live.specs.Closing.{view_at, views_at, HasAll, IsJoined, AreJoined, AreHalfJoined, AreAllSeated, IsClosedAs, IsClosedBy}
 use Rattle.farm_live.proofs.NewFarm.{Line}
 use Rattle.farm_live.proofs.Rows.{same_default}
-use Rattle.farm_live.proofs.Weights.{weigh-append}
+use Rattle.trau_num.proofs.Weights.{weigh-append}
 
 -- what one view more has
 one_more : {X : Type 0} (f : View → List X) (vs : List View) (v u : View) → f v ≡ flat_map f vs → f v ++ f u ≡ flat_map f (vs ++ u ∷ [])

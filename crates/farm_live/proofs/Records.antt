@@ -7,7 +7,8 @@ use Rattle.farm_live.specs.declared.slot.View.{View}
 use Rattle.farm_live.specs.declared.slot.Token.{Token}
 use Rattle.farm_live.specs.declared.slot.Token.TheVariants.{Here, Out}
 use Rattle.farm_live.specs.Book.{BookState, record_of, of_caller, NumberedFrom}
-use Rattle.farm_live.specs.Slot.{StartsWith, weigh, books, AllBooks, BeginsWith, AllSeen, own_posts, added}
+use Rattle.trau_num.specs.Weights.{weigh}
+use Rattle.farm_live.specs.Slot.{StartsWith, books, AllBooks, BeginsWith, AllSeen, own_posts, added}
 
 -- ---- what the slot holds
 

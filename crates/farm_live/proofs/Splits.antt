@@ -9,8 +9,10 @@ use Rattle.crossbeam_queue.proofs.Lists.{at_set, at_snoc}
 use Rattle.farm_live.specs.declared.post.Post.{Post}
 use Rattle.farm_live.specs.declared.slot.View.{View}
 use Rattle.farm_live.specs.Book.{BookState, no_book, record_of, of_caller}
-use Rattle.farm_live.specs.Slot.{weigh, bit, is_at, times, all_callers, AllSeen, own_posts, FitsBook, IsRecord, IsSlot, founder, rest_view, first_view, both_of, spent}
-use Rattle.farm_live.proofs.Weights.{weigh-append, weigh_set, both-le, once, has, held, posts_made, all_callers_are}
+use Rattle.trau_num.specs.Weights.{weigh}
+use Rattle.farm_live.specs.Slot.{bit, is_at, times, all_callers, AllSeen, own_posts, FitsBook, IsRecord, IsSlot, founder, rest_view, first_view, both_of, spent}
+use Rattle.trau_num.proofs.Weights.{weigh-append, weigh_set}
+use Rattle.farm_live.proofs.Weights.{both-le, once, has, held, posts_made, all_callers_are}
 use Rattle.farm_live.proofs.Records.{seen_append, own-nil, own-less, own_both}
 use Rattle.farm_live.proofs.Slots.{fits_set}
 

@@ -9,7 +9,8 @@ use Rattle.farm_live.specs.declared.post.Post.{Post}
 use Rattle.farm_live.specs.declared.post.Entry.{Entry}
 use Rattle.farm_live.specs.declared.slot.View.{View}
 use Rattle.farm_live.specs.Book.{BookState, record_of, of_caller, NumberedFrom, IsLegal, with_post, Worked}
-use Rattle.farm_live.specs.Slot.{times, bit, number_of_callers, weigh, is_at, BeginsWith, BookTells, added, took, gave, May}
+use Rattle.trau_num.specs.Weights.{weigh}
+use Rattle.farm_live.specs.Slot.{times, bit, number_of_callers, is_at, BeginsWith, BookTells, added, took, gave, May}
 use Rattle.farm_live.specs.Turns.{Held, Turned, HasWorkedPost}
 
 -- what is told of a book that was taken, with its history

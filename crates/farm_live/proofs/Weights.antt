@@ -5,28 +5,13 @@ use lib.ListN.{get_elem?}
 use Rattle.std.proofs.lemmas.Bool.{cases_Bool, eqb-true}
 use Rattle.farm_live.specs.declared.slot.View.{View}
 use Rattle.farm_live.specs.Book.{BookState, record_of, most_posts}
-use Rattle.farm_live.specs.Slot.{weigh, bit, is_at, times, ascending, all_callers, FitsBook}
+use Rattle.trau_num.specs.Weights.{weigh}
+use Rattle.trau_num.proofs.Weights.{weigh_set, at-le}
+use Rattle.farm_live.specs.Slot.{bit, is_at, times, ascending, all_callers, FitsBook}
 
 -- ---- weights
 
-pub weigh-append : {X : Type 0} (h : X → ℕ) (xs ys : List X) → weigh h (xs ++ ys) ≡ weigh h xs + weigh h ys
-weigh-append h [] ys = omega arith
-weigh-append h (x ∷ xs) ys = omega (arith, weigh-append h xs ys)
-
--- the weight of a list whose item at an index changes
-pub weigh_set : {X : Type 0} (f : X → ℕ) (xs : List X) (port : ℕ) (v w : X) → get_elem? xs port ≡ some v → weigh f (set xs port w) + f v ≡ weigh f xs + f w
-weigh_set f [] zero v w e = absurd (some-ne-none v (sym e))
-weigh_set f [] (suc j) v w e = absurd (some-ne-none v (sym e))
-weigh_set f (x ∷ xs) zero v w e = let s : x ≡ v = cc in let t : f x ≡ f v = ap f s in omega arith
-weigh_set f (x ∷ xs) (suc j) v w e = omega (arith, weigh_set f xs j v w e)
-
--- no item weighs more than the list, nor do two
-pub at-le : {X : Type 0} (f : X → ℕ) (xs : List X) (port : ℕ) (v : X) → get_elem? xs port ≡ some v → f v ≤ weigh f xs
-at-le f [] zero v e = absurd (some-ne-none v (sym e))
-at-le f [] (suc j) v e = absurd (some-ne-none v (sym e))
-at-le f (x ∷ xs) zero v e = let s : x ≡ v = cc in let t : f x ≡ f v = ap f s in omega arith
-at-le f (x ∷ xs) (suc j) v e = omega (arith, at-le f xs j v e)
-
+-- two items together weigh no more than the list
 pub both-le : {X : Type 0} (f : X → ℕ) (xs : List X) (i j : ℕ) (v u : X) → j ≢ i → get_elem? xs i ≡ some v → get_elem? xs j ≡ some u → f v + f u ≤ weigh f xs
 both-le f [] zero j v u ne a b = absurd (some-ne-none v (sym a))
 both-le f [] (suc i) j v u ne a b = absurd (some-ne-none v (sym a))

@@ -3,6 +3,7 @@
 use Rattle.std.specs.Prelude.{◌≡◌, ◌⊎◌, ℕ, zero, suc, ◌+◌, ◌*◌, ◌<◌, ◌≤◌, Bool, true, false, ◌==◌, List, [], ◌∷◌, ◌++◌, length, drop, take}
 use mathlib.Core.Option.{some}
 use lib.ListN.{get_elem?}
+use Rattle.trau_num.specs.Weights.{weigh}
 use Rattle.farm_live.specs.declared.post.Post.{Post}
 use Rattle.farm_live.specs.declared.slot.View.{View}
 use Rattle.farm_live.specs.declared.slot.Token.{Token}
@@ -13,10 +14,6 @@ use Rattle.farm_live.specs.Book.{BookState, no_book, no_call, record_of, of_call
 
 abbrev pub StartsWith : {X : Type 0} → List X → List X → Type 0
 StartsWith {X} longer begin = (rest : List X) × (longer ≡ begin ++ rest)
-
-abbrev pub weigh : {X : Type 0} → (X → ℕ) → List X → ℕ
-weigh h [] = 0
-weigh h (x ∷ xs) = h x + weigh h xs
 
 abbrev pub bit : Bool → ℕ
 bit true = 1

@@ -1,4 +1,3 @@
 -- Lemmas on reading the desk.
-mod Filling
 mod Marking
 mod Told

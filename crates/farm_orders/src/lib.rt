@@ -4,16 +4,14 @@
 //! none. The text is read here, in whatever pieces the desk gives it; its size, its lines and its grammar are the
 //! matter of `trau_orders`, the grammar of a mark before them that of `farm_checkpoint`.
 //!
-//! `fault` has why orders or a mark aren't taken, `block` the reads, `text` the whole text, `read` the orders, `marked` a
-//! mark and the orders behind it.
+//! `fault` has why orders or a mark aren't taken, `text` the whole text, `read` the orders, `marked` a mark and the orders
+//! behind it.
 //!
 //! The limits and the order in which faults are looked for are this project's profile.
-//! Definitions: `specs/Block.antt` (a block that is filled from the desk), `specs/Given.antt` (the text that the desk
-//! gives), `specs/Reading.antt` (what the whole reading of orders answers, and of which text), `specs/Marked.antt` (the
+//! Definitions: `specs/Given.antt` (the text that the desk gives), `specs/Reading.antt` (what the whole reading of orders answers, and of which text), `specs/Marked.antt` (the
 //! same of a mark and orders).
 #![tactic(auto)]
 
-mod block;
 mod fault;
 mod marked;
 mod read;

@@ -5,9 +5,8 @@ ghost use Rattle.trau_io.specs.Lines.{Rose};
 ghost use Rattle.farm_orders.specs.Given.{GivesPart, GivesWhole};
 
 use crate::OrdersFault;
-use crate::block::fill;
 use std::alloc::{AllocError, Global};
-use trau_io::{Desk, Filled};
+use trau_io::{Desk, Filled, read_desk};
 
 // A block of octets 0.
 fn block_of(alloc: Global, size: usize) -> Result<Vec<u8>, AllocError>
@@ -32,7 +31,7 @@ pub(crate) fn read_text<D: Desk>(
     ensures write_faults { (D.desk desk.new).write_faults ≡ (D.desk desk.old).write_faults }
 {
     let mut block = block_of(alloc, most + 1)?;
-    match fill(desk, &mut block) {
+    match read_desk(desk, &mut block) {
         Filled::Whole => Err(OrdersFault::TooLong),
         Filled::Ended(length) => {
             block.truncate(length);

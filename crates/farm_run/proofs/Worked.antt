@@ -17,8 +17,7 @@ use Rattle.call_leg.specs.Down.{down_now}
 use Rattle.call_pair.specs.Memory.{IoMemory, HalfMemory}
 use Rattle.call_pair.specs.History.{outs_of, downs_of, io_after, HasWorked, settings_past, alone_periods}
 use Rattle.call_pair.specs.Finished.{HasWorkedAlone, HasWorkedBridged}
-use Rattle.call_leg.proofs.LineLaws.{length-out_of}
-use Rattle.call_pair.proofs.Lengths.{length-down_octets}
+use Rattle.call_pair.proofs.Octets.{length-outs_of, length-downs_of}
 use Rattle.run_spec.specs.Run.{Run, whole_in, periods_to, who_in}
 use Rattle.run_spec.specs.Now.{settings_now}
 use Rattle.run_spec.specs.Lines.{out_line, down_octets}
@@ -81,18 +80,6 @@ bridged_after r t n ds left c x io io' half h b f g all w =
     (bridged_half r t n ds left c x io io' half h b f g w)
 
 -- ---- its octets
-
-length-outs_of : (who : Who) (k : ℕ) (ts : List CallPeriod) → k ≤ length ts → length (outs_of who k ts) ≡ 160 * k
-length-outs_of who zero ts h = refl
-length-outs_of who (suc k) [] h = absurd (omega arith)
-length-outs_of who (suc k) (t ∷ past) h =
-    omega (arith, length-append (outs_of who k past) (out_of who (t ∷ past)), length-outs_of who k past (omega arith), length-out_of who (t ∷ past))
-
-length-downs_of : (who : Who) (k : ℕ) (ts : List CallPeriod) → k ≤ length ts → length (downs_of who k ts) ≡ 40 * k
-length-downs_of who zero ts h = refl
-length-downs_of who (suc k) [] h = absurd (omega arith)
-length-downs_of who (suc k) (t ∷ past) h =
-    omega (arith, length-append (downs_of who k past) (octets_of (down_now who (t ∷ past))), length-downs_of who k past (omega arith), length-down_octets who t past)
 
 -- **With the octets of its places the Out line of a call is the run's up to there.**
 pub out_written : (r : Run) (t k : ℕ) (ds : List Done) (c : ℕ) (io now : IoMemory) → start_of ds c ≤ t → now ≡ io_after (who_in r c) k (periods_to r c (t + k - start_of ds c)) io →

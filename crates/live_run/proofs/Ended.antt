@@ -14,11 +14,12 @@ use Rattle.farm_live.specs.declared.live.Seat.{Seat}
 use Rattle.farm_live.specs.declared.live.Caller.{Caller}
 use Rattle.farm_live.specs.declared.live.Closed.{Closed}
 use Rattle.farm_live.specs.Book.{BookState, record_of, of_caller, NumberedFrom, is_of_post}
-use Rattle.farm_live.specs.Slot.{weigh, bit, is_at, times, ascending, all_callers, BeginsWith, AllSeen, own_posts}
+use Rattle.trau_num.specs.Weights.{weigh}
+use Rattle.farm_live.specs.Slot.{bit, is_at, times, ascending, all_callers, BeginsWith, AllSeen, own_posts}
 use Rattle.farm_live.specs.Turns.{Closes}
 use Rattle.farm_live.specs.Live.{view_of, numbers_of}
 use Rattle.farm_live.specs.Closing.{view_at, views_at, IsClosedBy}
-use Rattle.farm_live.proofs.Weights.{weigh-append}
+use Rattle.trau_num.proofs.Weights.{weigh-append}
 use Rattle.farm_live.proofs.NewFarm.{first_is, first_numbers, last_numbers}
 use Rattle.live_run.specs.Posts.{drawn_posts, own_of, Knows, Saw, HasPosted, SawAll}
 use Rattle.live_run.proofs.Behind.{own_is, own_none, drawn_of, drawn_of_none, none_drawn, length-drawn}

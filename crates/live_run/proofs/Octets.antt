@@ -4,7 +4,7 @@ use Rattle.std.specs.List.{flat_map}
 use Rattle.trau_bits.specs.Bits.{bits_of, octets_of}
 use Rattle.trau_bits.proofs.BitList.{length-bits_of}
 use Rattle.trau_bits.proofs.Appended.{octets_of-append}
-use Rattle.call_spec.proofs.Yields.{bits_of-append}
+use Rattle.trau_bits.proofs.Joined.{bits_of-append}
 use Rattle.farm_live.specs.declared.post.Entry.{Entry}
 use Rattle.live_run.specs.Text.{downs_of}
 

@@ -12,7 +12,7 @@ use Rattle.call_spec.specs.Call.{Call, Setting, Span}
 use Rattle.call_spec.specs.Out.{out}
 use Rattle.call_spec.specs.Down.{down}
 use Rattle.call_spec.specs.History.{IsCallHistory, call_of_history, up_in_history, settings_of, setting_of, spans_in_history}
-use Rattle.call_spec.proofs.Yields.{bits_of-append}
+use Rattle.trau_bits.proofs.Joined.{bits_of-append}
 use Rattle.farm_live.specs.declared.post.Post.{Post}
 use Rattle.farm_live.specs.declared.post.Entry.{Entry}
 use Rattle.farm_live.specs.Book.{who_at, period_of, periods_after, IsWorkedFrom, IsLegal}

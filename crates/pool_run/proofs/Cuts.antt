@@ -9,7 +9,8 @@ use Rattle.pool_run.specs.declared.deque.View.{View}
 use Rattle.pool_run.specs.declared.deque.Task.{Task}
 use Rattle.pool_run.specs.declared.deque.OneDeque.{OneDeque}
 use Rattle.pool_run.specs.declared.member.Member.{Member}
-use Rattle.pool_run.specs.Deque.{weigh, knows}
+use Rattle.trau_num.specs.Weights.{weigh}
+use Rattle.pool_run.specs.Deque.{knows}
 use Rattle.pool_run.specs.Member.{Thief, given, obtained}
 use Rattle.pool_run.specs.Room.{IsUnused}
 use Rattle.pool_run.specs.Joins.{HasRow, IsShared, below, rows_at}

@@ -7,8 +7,10 @@ use Rattle.crossbeam_deque.specs.Tasks.{Pushes, Takes, Finds, Learns, Forks, Mer
 use Rattle.crossbeam_deque.proofs.Lists.{at_set, at_snoc}
 use Rattle.pool_run.specs.declared.deque.View.{View}
 use Rattle.pool_run.specs.declared.deque.Task.{Task}
-use Rattle.pool_run.specs.Deque.{weigh, SameEntries, IsCovered, knows, entry_of, after_push, after_take, SpentAreEmpty, IsKept}
-use Rattle.pool_run.proofs.Weights.{weigh-append, weigh_view, alone}
+use Rattle.trau_num.specs.Weights.{weigh}
+use Rattle.pool_run.specs.Deque.{SameEntries, IsCovered, knows, entry_of, after_push, after_take, SpentAreEmpty, IsKept}
+use Rattle.trau_num.proofs.Weights.{weigh-append, weigh_set}
+use Rattle.pool_run.proofs.Weights.{alone}
 
 module _ {W : Type 0} (finish : W → W) where
   spent_set : (views : List (View W)) (port : ℕ) (w : View W) → (w.parts ≡ 0 → (w.pushed ≡ []) × (w.obtained ≡ [])) → SpentAreEmpty views →
@@ -21,10 +23,10 @@ module _ {W : Type 0} (finish : W → W) where
   pushes port v xs some_part items views kept at = let w : View W = after_push finish v xs in (
     w,
     (
-      (let s = weigh_view (λ (u : View W). u.parts) views port v w at in let k = kept.0 in omega arith),
+      (let s = weigh_set (λ (u : View W). u.parts) views port v w at in let k = kept.0 in omega arith),
       (λ h.
-          let s = weigh_view (λ (u : View W). weigh h u.pushed) views port v w at in
-          let t = weigh_view (λ (u : View W). weigh h u.obtained) views port v w at in
+          let s = weigh_set (λ (u : View W). weigh h u.pushed) views port v w at in
+          let t = weigh_set (λ (u : View W). weigh h u.obtained) views port v w at in
           let k = kept.1 h in
           rw map-append
           (omega (arith, weigh-append h v.pushed (map (entry_of finish) xs), weigh-append h (map (entry_of finish) items) (map (entry_of finish) xs)))),
@@ -37,10 +39,10 @@ module _ {W : Type 0} (finish : W → W) where
   takes port v some_part xs items views _ _ kept at = let w : View W = after_take finish v xs in (
     w,
     (
-      (let s = weigh_view (λ (u : View W). u.parts) views port v w at in let k = kept.0 in omega arith),
+      (let s = weigh_set (λ (u : View W). u.parts) views port v w at in let k = kept.0 in omega arith),
       (λ h.
-          let s = weigh_view (λ (u : View W). weigh h u.pushed) views port v w at in
-          let t = weigh_view (λ (u : View W). weigh h u.obtained) views port v w at in
+          let s = weigh_set (λ (u : View W). weigh h u.pushed) views port v w at in
+          let t = weigh_set (λ (u : View W). weigh h u.obtained) views port v w at in
           let k : weigh (λ (u : View W). weigh h u.pushed) views ≡ weigh (λ (u : View W). weigh h u.obtained) views + weigh h
           (map (entry_of finish) xs ++ map (entry_of finish) items) =
           rw map-append at (kept.1 h) in
@@ -88,10 +90,10 @@ module _ {W : Type 0} (finish : W → W) where
   forks port v two items views kept at =
       let l : View W = knows (v.parts - 1) v.pushed v.obtained in let r : View W = knows 1 [] [] in let vs : List (View W) = set views port l in
       let old = spent_set views port l (λ z. absurd (omega arith)) kept.2 in (
-        (let s = weigh_view (λ (u : View W). u.parts) views port v l at in let k = kept.0 in omega (arith, weigh-append (λ (u : View W). u.parts) vs (r ∷ []))),
+        (let s = weigh_set (λ (u : View W). u.parts) views port v l at in let k = kept.0 in omega (arith, weigh-append (λ (u : View W). u.parts) vs (r ∷ []))),
         (λ h.
-            let s = weigh_view (λ (u : View W). weigh h u.pushed) views port v l at in
-            let t = weigh_view (λ (u : View W). weigh h u.obtained) views port v l at in
+            let s = weigh_set (λ (u : View W). weigh h u.pushed) views port v l at in
+            let t = weigh_set (λ (u : View W). weigh h u.obtained) views port v l at in
             let k = kept.1 h in
             omega (arith, weigh-append (λ (u : View W). weigh h u.pushed) vs (r ∷ []), weigh-append (λ (u : View W). weigh h u.obtained) vs (r ∷ []))),
         λ j u e z. ⊎_elim (λ x. old j u x z) (λ (is : r ≡ u). absurd (let q : 1 ≡ u.parts = ap (λ (y : View W). y.parts) is in omega arith))
@@ -104,13 +106,13 @@ module _ {W : Type 0} (finish : W → W) where
       let both : View W = knows (v.parts + w.parts) (v.pushed ++ w.pushed) (v.obtained ++ w.obtained) in let spent : View W = knows 0 [] [] in
       let vs : List (View W) = set views port both in
       let mid = spent_set views port both (λ z. absurd (omega arith)) kept.2 in (
-        (let s = weigh_view (λ (u : View W). u.parts) views port v both at in let t = weigh_view
+        (let s = weigh_set (λ (u : View W). u.parts) views port v both at in let t = weigh_set
             (λ (u : View W). u.parts) vs other w spent at' in let k = kept.0 in omega arith),
         (λ h.
-            let s = weigh_view (λ (u : View W). weigh h u.pushed) views port v both at in
-            let s' = weigh_view (λ (u : View W). weigh h u.pushed) vs other w spent at' in
-            let t = weigh_view (λ (u : View W). weigh h u.obtained) views port v both at in
-            let t' = weigh_view (λ (u : View W). weigh h u.obtained) vs other w spent at' in
+            let s = weigh_set (λ (u : View W). weigh h u.pushed) views port v both at in
+            let s' = weigh_set (λ (u : View W). weigh h u.pushed) vs other w spent at' in
+            let t = weigh_set (λ (u : View W). weigh h u.obtained) views port v both at in
+            let t' = weigh_set (λ (u : View W). weigh h u.obtained) vs other w spent at' in
             let k = kept.1 h in
             omega (arith, weigh-append h v.pushed w.pushed, weigh-append h v.obtained w.obtained)),
         spent_set vs other spent (λ z. (refl, refl)) mid,

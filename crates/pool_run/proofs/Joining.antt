@@ -12,11 +12,13 @@ use Rattle.pool_run.specs.declared.deque.View.{View}
 use Rattle.pool_run.specs.declared.deque.Task.{Task}
 use Rattle.pool_run.specs.declared.deque.OneDeque.{OneDeque}
 use Rattle.pool_run.specs.declared.member.Member.{Member}
-use Rattle.pool_run.specs.Deque.{weigh, IsCovered}
+use Rattle.trau_num.specs.Weights.{weigh}
+use Rattle.pool_run.specs.Deque.{IsCovered}
 use Rattle.pool_run.specs.Member.{Thief, Knower, IsPassFor, IsEnded, given, obtained}
 use Rattle.pool_run.specs.Pool.{IsPool, IsOwner, passes_of, all_given, all_obtained}
 use Rattle.pool_run.specs.Joins.{HasRow, IsShared, IsLastTaken, below, rows_at}
-use Rattle.pool_run.proofs.Weights.{weigh-append, weigh-set, weigh_ones, weigh_zeros}
+use Rattle.trau_num.proofs.Weights.{weigh-append}
+use Rattle.pool_run.proofs.Weights.{weigh-set, weigh_ones, weigh_zeros}
 use Rattle.pool_run.proofs.Lists.{any_of, below_at, below_lt, below_other, below_self, each_set, no_items}
 use Rattle.pool_run.proofs.Rows.{has_pass, passes_at, passes_set_same, passes_set_other, passes_set_kept}
 

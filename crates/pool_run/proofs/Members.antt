@@ -15,9 +15,11 @@ use Rattle.pool_run.specs.declared.deque.View.{View}
 use Rattle.pool_run.specs.declared.deque.Task.{Task}
 use Rattle.pool_run.specs.declared.deque.OneDeque.{OneDeque}
 use Rattle.pool_run.specs.declared.member.Member.{Member}
-use Rattle.pool_run.specs.Deque.{weigh, entry_of, after_push, after_take}
+use Rattle.trau_num.specs.Weights.{weigh}
+use Rattle.pool_run.specs.Deque.{entry_of, after_push, after_take}
 use Rattle.pool_run.specs.Member.{Thief, Knower, IsPassFor, IsEnded, IsReady, held, Moves, stolen_job}
-use Rattle.pool_run.proofs.Weights.{weigh-append, weigh-set}
+use Rattle.trau_num.proofs.Weights.{weigh-append}
+use Rattle.pool_run.proofs.Weights.{weigh-set}
 use Rattle.pool_run.proofs.Lists.{same_default}
 
 module _ {W : Type 0} (finish : W → W) (thieves : List (Thief W)) where

@@ -9,7 +9,8 @@ use Rattle.std.proofs.lemmas.List.{length-map}
 use base.Stored.{Gv}
 use base.Stored.Gv.{gnil, gnum, gcons}
 use Rattle.pool_run.specs.declared.deque.Task.{Task}
-use Rattle.pool_run.specs.Deque.{weigh, SameEntries, entry_of}
+use Rattle.trau_num.specs.Weights.{weigh}
+use Rattle.pool_run.specs.Deque.{SameEntries, entry_of}
 use Rattle.pool_run.specs.Member.{IsEnded}
 use Rattle.pool_run.specs.Pool.{entries_from, IsNumbered}
 use Rattle.pool_run.proofs.Weights.{weigh-map, weigh-permutation}

@@ -10,11 +10,13 @@ use Rattle.pool_run.specs.declared.deque.View.{View}
 use Rattle.pool_run.specs.declared.deque.Task.{Task}
 use Rattle.pool_run.specs.declared.deque.OneDeque.{OneDeque}
 use Rattle.pool_run.specs.declared.member.Member.{Member}
-use Rattle.pool_run.specs.Deque.{weigh, entry_of, after_push, after_take}
+use Rattle.trau_num.specs.Weights.{weigh}
+use Rattle.pool_run.specs.Deque.{entry_of, after_push, after_take}
 use Rattle.pool_run.specs.Member.{Thief, IsEnded, IsReady, given, obtained, Moves}
 use Rattle.pool_run.specs.Pool.{entries_from, IsPool, all_given, all_obtained}
 use Rattle.pool_run.specs.Room.{RoomLeft}
-use Rattle.pool_run.proofs.Weights.{weigh-append, weigh-set}
+use Rattle.trau_num.proofs.Weights.{weigh-append}
+use Rattle.pool_run.proofs.Weights.{weigh-set}
 use Rattle.pool_run.proofs.Lists.{each_set}
 use Rattle.pool_run.proofs.Left.{left_more}
 

@@ -8,12 +8,14 @@ use Rattle.crossbeam_deque.specs.Handles.{view, worker_deque, stealer_deque, ste
 use Rattle.pool_run.specs.declared.deque.View.{View}
 use Rattle.pool_run.specs.declared.deque.Task.{Task}
 use Rattle.pool_run.specs.declared.member.Member.{Member}
-use Rattle.pool_run.specs.Deque.{weigh, entry_of}
+use Rattle.trau_num.specs.Weights.{weigh}
+use Rattle.pool_run.specs.Deque.{entry_of}
 use Rattle.pool_run.specs.Member.{Thief, Knower, IsPassFor, given, obtained}
 use Rattle.pool_run.specs.Room.{IsRoom, IsNew, IsUnused, IsRow, RoomLeft}
 use Rattle.pool_run.specs.Joins.{HasRow, IsShared, below, rows_at}
 use Rattle.pool_run.specs.Pool.{passes_of}
-use Rattle.pool_run.proofs.Weights.{weigh-append, weigh-set, weigh_ones, weigh_zeros}
+use Rattle.trau_num.proofs.Weights.{weigh-append}
+use Rattle.pool_run.proofs.Weights.{weigh-set, weigh_ones, weigh_zeros}
 use Rattle.pool_run.proofs.Rows.{has_pass, passes_at, passes_set_same, passes_set_other}
 use Rattle.pool_run.proofs.Lists.{each_set, below_lt, each_snoc}
 use Rattle.pool_run.proofs.Left.{OwnLeft}

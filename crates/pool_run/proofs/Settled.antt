@@ -6,7 +6,8 @@ use Rattle.std.proofs.Math.ListN.{take}
 use Rattle.crossbeam_deque.specs.Handles.{view, worker_view}
 use Rattle.pool_run.specs.declared.deque.Task.{Task}
 use Rattle.pool_run.specs.declared.member.Member.{Member}
-use Rattle.pool_run.specs.Deque.{weigh, entry_of}
+use Rattle.trau_num.specs.Weights.{weigh}
+use Rattle.pool_run.specs.Deque.{entry_of}
 use Rattle.pool_run.specs.Member.{Knower, obtained}
 use Rattle.pool_run.specs.Pool.{IsOwner, IsSettled, all_given, all_obtained, entries_from}
 use Rattle.pool_run.proofs.Lists.{written_back}

@@ -6,25 +6,8 @@ use Rattle.std.proofs.lemmas.List.Sums.{sum_by-cons}
 use Rattle.std.proofs.lemmas.List.Sorted.{sum_by-IsPermutation}
 use mathlib.Core.Option.{some, some-ne-none}
 use lib.ListN.{get_elem?}
-use Rattle.pool_run.specs.Deque.{weigh}
-
-pub weigh-append : {X : Type 0} (h : X → ℕ) (xs ys : List X) → weigh h (xs ++ ys) ≡ weigh h xs + weigh h ys
-weigh-append h [] ys = omega arith
-weigh-append h (x ∷ xs) ys = omega (arith, weigh-append h xs ys)
-
--- a total after a change of one
-pub weigh_view : {X : Type 0} (f : X → ℕ) (xs : List X) (port : ℕ) (v w : X) → get_elem? xs port ≡ some v → weigh f (set xs port w) + f v ≡ weigh f xs + f w
-weigh_view f [] zero v w e = absurd (some-ne-none v (sym e))
-weigh_view f [] (suc j) v w e = absurd (some-ne-none v (sym e))
-weigh_view f (x ∷ xs) zero v w e = let s : x ≡ v = cc in let t : f x ≡ f v = ap f s in omega arith
-weigh_view f (x ∷ xs) (suc j) v w e = omega (arith, weigh_view f xs j v w e)
-
--- one item weighs no more than all
-pub at-le : {X : Type 0} (f : X → ℕ) (xs : List X) (port : ℕ) (v : X) → get_elem? xs port ≡ some v → f v ≤ weigh f xs
-at-le f [] zero v e = absurd (some-ne-none v (sym e))
-at-le f [] (suc j) v e = absurd (some-ne-none v (sym e))
-at-le f (x ∷ xs) zero v e = let s : x ≡ v = cc in let t : f x ≡ f v = ap f s in omega arith
-at-le f (x ∷ xs) (suc j) v e = omega (arith, at-le f xs j v e)
+use Rattle.trau_num.specs.Weights.{weigh}
+use Rattle.trau_num.proofs.Weights.{at-le}
 
 -- where one has all of p, and f is 0 of each that has none, the total of f is that one's
 module _ {X : Type 0} (p f : X → ℕ) where

@@ -2,13 +2,9 @@
 use Rattle.std.specs.Prelude.{◌≡◌, ℕ, ◌+◌, ◌≤◌, List, [], ◌∷◌, ◌++◌, map}
 use mathlib.Core.Option.{some}
 use lib.ListN.{get_elem?}
+use Rattle.trau_num.specs.Weights.{weigh}
 use Rattle.pool_run.specs.declared.deque.View.{View}
 use Rattle.pool_run.specs.declared.deque.Task.{Task}
-
--- the weights of the items, added up
-abbrev pub weigh : {X : Type 0} → (X → ℕ) → List X → ℕ
-weigh h [] = 0
-weigh h (x ∷ xs) = h x + weigh h xs
 
 -- each stands in the one list as often as in the other, however they are counted
 abbrev pub SameEntries : {X : Type 0} → List X → List X → Type 0

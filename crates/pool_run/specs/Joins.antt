@@ -2,7 +2,7 @@
 use Rattle.std.specs.Prelude.{◌≡◌, ◌≢◌, ℕ, zero, suc, ◌+◌, ◌<◌, ◌≤◌, List, length, All, slice_index_or}
 use Rattle.crossbeam_deque.specs.Handles.{view, worker_deque, stealer_deque, worker_flavor, worker_view}
 use Rattle.pool_run.specs.declared.member.Member.{Member}
-use Rattle.pool_run.specs.Deque.{weigh}
+use Rattle.trau_num.specs.Weights.{weigh}
 use Rattle.pool_run.specs.Member.{Thief, Knower, IsPassFor, IsEnded}
 use Rattle.pool_run.specs.Pool.{all_given, all_obtained, passes_of}
 

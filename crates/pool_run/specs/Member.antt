@@ -11,7 +11,8 @@ use Rattle.pool_run.specs.declared.deque.OneDeque.{OneDeque}
 use Rattle.pool_run.specs.declared.member.Member.{Member}
 use Rattle.pool_run.specs.declared.member.Found.{Found}
 use Rattle.pool_run.specs.declared.member.Found.TheVariants.{Job, Again, Nothing}
-use Rattle.pool_run.specs.Deque.{weigh, entry_of}
+use Rattle.trau_num.specs.Weights.{weigh}
+use Rattle.pool_run.specs.Deque.{entry_of}
 
 abbrev pub Thief : Type 0 → Type 0
 Thief W = Stealer (Task W) Global (View W) OneDeque

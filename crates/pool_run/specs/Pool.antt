@@ -3,7 +3,8 @@ use Rattle.std.specs.Prelude.{◌≡◌, ℕ, zero, suc, ◌+◌, ◌<◌, List,
 use Rattle.std.specs.Global.{Box}
 use Rattle.crossbeam_deque.specs.Handles.{worker_deque, stealer_deque, worker_flavor, worker_view}
 use Rattle.pool_run.specs.declared.member.Member.{Member}
-use Rattle.pool_run.specs.Deque.{weigh, IsCovered}
+use Rattle.trau_num.specs.Weights.{weigh}
+use Rattle.pool_run.specs.Deque.{IsCovered}
 use Rattle.pool_run.specs.Member.{Thief, Knower, IsEnded, IsReady, given, obtained}
 
 module _ {W : Type 0} where

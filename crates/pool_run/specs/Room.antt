@@ -2,7 +2,8 @@
 use Rattle.std.specs.Prelude.{◌≡◌, ℕ, ◌<◌, ◌≤◌, List, [], length, slice_index_or}
 use Rattle.crossbeam_deque.specs.Handles.{view, worker_deque, stealer_deque, worker_flavor, stealer_flavor, worker_view, worker_index, worker_capacity}
 use Rattle.pool_run.specs.declared.member.Member.{Member}
-use Rattle.pool_run.specs.Deque.{weigh, knows}
+use Rattle.trau_num.specs.Weights.{weigh}
+use Rattle.pool_run.specs.Deque.{knows}
 use Rattle.pool_run.specs.Member.{Thief, Knower, IsPassFor}
 use Rattle.pool_run.specs.Pool.{IsPool, all_given, all_obtained}
 use Rattle.pool_run.specs.Joins.{IsShared}

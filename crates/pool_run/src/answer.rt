@@ -3,7 +3,8 @@
 ghost use Rattle.std.specs.Prelude.{◌≡◌, ◌+◌, ◌≤◌, [], ◌++◌, map, vec_len, vec_capacity, All, IsPermutation};
 ghost use Rattle.std.specs.List.Sorted.{IsNonDecreasingBy};
 ghost use Rattle.crossbeam_deque.specs.Handles.{worker_flavor, worker_view};
-ghost use Rattle.pool_run.specs.Deque.{weigh, SameEntries, IsCovered, entry_of};
+ghost use Rattle.trau_num.specs.Weights.{weigh};
+ghost use Rattle.pool_run.specs.Deque.{SameEntries, IsCovered, entry_of};
 ghost use Rattle.pool_run.specs.Member.{IsEnded};
 ghost use Rattle.pool_run.specs.Pool.{IsSettled, IsNumbered, all_given, all_obtained};
 

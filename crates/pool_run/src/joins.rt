@@ -3,7 +3,8 @@
 
 ghost use Rattle.std.specs.Prelude.{◌≡◌, ◌≢◌, ℕ, ◌+◌, ◌<◌, length, All, MatchBool, IfSome, IfNone, slice_index_or};
 ghost use Rattle.crossbeam_deque.specs.Handles.{view, worker_view};
-ghost use Rattle.pool_run.specs.Deque.{weigh, IsCovered};
+ghost use Rattle.trau_num.specs.Weights.{weigh};
+ghost use Rattle.pool_run.specs.Deque.{IsCovered};
 ghost use Rattle.pool_run.specs.Member.{IsPassFor, IsEnded};
 ghost use Rattle.pool_run.specs.Pool.{IsOwner, IsSettled, all_given, all_obtained, passes_of};
 ghost use Rattle.pool_run.specs.Joins.{IsShared, IsLastTaken};

@@ -1,7 +1,8 @@
 //! The run of a pool.
 
 ghost use Rattle.std.specs.Prelude.{◌≡◌, ℕ, ◌+◌, ◌^◌, ◌<◌, ◌≤◌, length, map, vec_len, All, None, slice_index_or};
-ghost use Rattle.pool_run.specs.Deque.{weigh, entry_of};
+ghost use Rattle.trau_num.specs.Weights.{weigh};
+ghost use Rattle.pool_run.specs.Deque.{entry_of};
 ghost use Rattle.pool_run.specs.Member.{IsReady, Moves};
 ghost use Rattle.pool_run.specs.Pool.{IsPool, IsSettled, all_given, all_obtained, entries_from};
 ghost use Rattle.pool_run.specs.Room.{IsRoom, RoomLeft};

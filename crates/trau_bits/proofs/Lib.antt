@@ -1,3 +1,4 @@
 pub mod BitList
 pub mod Octets
 pub mod Appended
+pub mod Joined

@@ -26,6 +26,26 @@ pub record ReadsBlock (before now : LineState) (result : Filled) (block : List �
   pub written : now.written ≡ before.written
   pub later : before.faults ≤ now.faults
 
+-- the same of a block that is filled from the desk, whose text ended or which failed
+abbrev pub DeskStoppedBy : DeskState → DeskState → Filled → List ℕ → Type 0
+DeskStoppedBy before now filled.Whole block = now.read_faults ≡ before.read_faults
+DeskStoppedBy before now (filled.Ended n) block = (n < length block) × IsAtEnd now.to_come × (now.read_faults ≡ before.read_faults)
+DeskStoppedBy before now (filled.Failed n) block = (n < length block) × Rose before.read_faults now.read_faults
+
+-- the next octets of the desk came into the front of a block, and its writing half is as it was
+pub record FillsBlock (before now : DeskState) (result : Filled) (block : List ℕ) : Type 0 where
+  pub given : Consumes before.to_come now.to_come (given_of result block)
+  pub stopped : DeskStoppedBy before now result block
+  pub later : before.read_faults ≤ now.read_faults
+  pub written : now.written ≡ before.written
+  pub write_faults : now.write_faults ≡ before.write_faults
+
+-- an incoming line gave these octets
+pub record Gives (inc inc' : LineState) (given : List ℕ) : Type 0 where
+  pub read : Consumes inc.to_come inc'.to_come given
+  pub written : inc'.written ≡ inc.written
+  pub later : inc.faults ≤ inc'.faults
+
 -- a line gained all the octets, or failed after a proper front of them
 pub record WritesAll (before now : LineState) (result : Result (Unit {0}) Failed) (bytes : List ℕ) : Type 0 where
   pub ok : OnOk result (Appends before.written now.written bytes)

@@ -25,5 +25,5 @@ pub use ends::{CallEnd, Cause, Counts, NO_COUNTS};
 pub use line::{Failed, Line, Side};
 pub use memory::{MemDesk, MemTrunk};
 pub use places::{PLACES, place};
-pub use transfer::{Filled, read_block, tell, write_all};
+pub use transfer::{Filled, read_block, read_desk, tell, write_all};
 pub use trunk::Trunk;

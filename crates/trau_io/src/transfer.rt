@@ -2,7 +2,7 @@
 
 ghost use Rattle.std.specs.Prelude.{◌≤◌, length};
 ghost use Rattle.trau_io.specs.Lines.{OthersStay};
-ghost use Rattle.trau_io.specs.Transfer.{ReadsBlock, WritesAll, Tells};
+ghost use Rattle.trau_io.specs.Transfer.{FillsBlock, ReadsBlock, WritesAll, Tells};
 
 use crate::{Desk, Failed, Line, Trunk};
 
@@ -51,4 +51,19 @@ pub fn tell<D: Desk>(desk: &mut D, text: &[u8]) -> Result<(), Failed>
         sent += desk.write(&text[sent..])?;
     }
     Ok(())
+}
+
+/// Reads the desk until the block is full, its text ends or it fails.
+pub fn read_desk<D: Desk>(desk: &mut D, block: &mut [u8]) -> Filled
+    ensures { FillsBlock (D.desk desk.old) (D.desk desk.new) result block.new }
+{
+    let mut filled = 0;
+    while filled < block.len() {
+        match desk.read(&mut block[filled..]) {
+            Ok(0) => return Filled::Ended(filled),
+            Ok(count) => filled += count,
+            Err(_) => return Filled::Failed(filled),
+        }
+    }
+    Filled::Whole
 }

@@ -3,3 +3,4 @@ pub mod Fill
 pub mod Fitting
 pub mod Greatest
 pub mod LeftShifts
+pub mod Weights

@@ -1,2 +1,3 @@
 pub mod Num
 pub mod Random
+pub mod Weights

@@ -2,7 +2,7 @@
 use Rattle.std.proofs.Common.{◌≡◌, ◌≢◌, ℕ, List, [], ◌∷◌, ◌++◌, length, eqb, false, refl, ◌∙◌, ap}
 use Rattle.std.specs.List.{onto_first}
 use Rattle.std.proofs.lemmas.List.Elements.{All-head, All-tail}
-use Rattle.trau_orders.specs.Splits.{Lacks, SplitsAt}
+use Rattle.decimal_number.specs.Splits.{Lacks, SplitsAt}
 use Rattle.trau_orders.specs.Text.{text_lines}
 
 -- one more octet of a line

@@ -19,7 +19,7 @@ use Rattle.trau_orders.specs.declared.order.What.{What}
 use Rattle.trau_orders.specs.declared.order.What.TheVariants.{OpenCall, CloseCall, Bridge, Unbridge, Level, Dtx}
 use Rattle.trau_orders.specs.declared.order.Order.{Order}
 use Rattle.trau_orders.specs.Grammar.{mode_word, words_for, IsInRange, order_line, IsLine, words_of, AreWords}
-use Rattle.trau_orders.specs.Splits.{Lacks, SplitsAt}
+use Rattle.decimal_number.specs.Splits.{Lacks, SplitsAt}
 
 -- a line that splits at a space has the front as its first word
 pub first_word : (line front back : List ℕ) → SplitsAt 32 line front back → words_of line ≡ front ∷ words_of back

@@ -1,5 +1,4 @@
 -- What orders are, and which texts spell them.
 pub mod Lists
-pub mod Splits
 pub mod Grammar
 pub mod Text

@@ -5,7 +5,7 @@
 //!
 //! The grammar and its limits are this project's profile.
 //! Definitions: `specs/Grammar.antt` (the line of an order), `specs/Text.antt` (the lines of a text, and the orders
-//! that they spell), `specs/Lists.antt` (what is known of a list of orders), `specs/Splits.antt`.
+//! that they spell), `specs/Lists.antt` (what is known of a list of orders).
 #![tactic(auto)]
 
 mod fault;

@@ -1,7 +1,7 @@
 //! The first part of a list of octets.
 
 ghost use Rattle.std.specs.Prelude.{IsNone, IfSome};
-ghost use Rattle.trau_orders.specs.Splits.{Lacks, SplitsAt};
+ghost use Rattle.decimal_number.specs.Splits.{Lacks, SplitsAt};
 
 /// What stands before the first such octet, and what stands behind it.
 pub(crate) fn split_at_octet(octets: &[u8], octet: u8) -> Option<(&[u8], &[u8])>

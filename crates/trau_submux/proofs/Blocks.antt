@@ -8,10 +8,10 @@ use Rattle.trau_io.specs.declared.line.Line.{Line}
 use Rattle.trau_io.specs.declared.transfer.Filled.{Filled}
 use Rattle.trau_io.specs.declared.transfer.Filled.TheVariants.{Whole, Ended, Failed}
 use Rattle.trau_io.specs.Lines.{LineState, OthersStay}
-use Rattle.trau_io.specs.Transfer.{ReadsBlock, given_of}
+use Rattle.trau_io.specs.Transfer.{Gives, ReadsBlock, given_of}
 use Rattle.trau_submux.specs.declared.cut.BlockEnd.TheVariants as block
 use Rattle.trau_submux.specs.Channels.{channel}
-use Rattle.trau_submux.specs.Lines.{AllButFive, AllButFour, Gains, GainsFront, Gives, channel_lines}
+use Rattle.trau_submux.specs.Lines.{AllButFive, AllButFour, Gains, GainsFront, channel_lines}
 use Rattle.trau_submux.specs.Splits.{SplitsBlock, whole_groups}
 use Rattle.trau_submux.specs.Writing.{FailsAt, WritesFour}
 use Rattle.trau_submux.proofs.Groups.{groups-whole}

@@ -6,34 +6,9 @@ use Rattle.std.proofs.lemmas.List.{get_or_append_left, get_or-append_right, leng
 use Rattle.std.proofs.lemmas.List.Elements.{All-append, All-take}
 use Rattle.std.proofs.lemmas.List.FromFn.{fill_by_all}
 use Rattle.trau_bits.specs.Bits.{bit_of, bits_of}
-use Rattle.trau_bits.proofs.BitList.{length-bits_of, get_or-bits_of}
+use Rattle.trau_bits.proofs.Joined.{bits_of-append}
 use Rattle.trau_submux.specs.Channels.{IsMerged, subchannel}
 use Rattle.trau_submux.proofs.Channels.{length-subchannel, subchannel-append}
-
--- a bit of joined octets
-bit_of-front : (xs ys : List ℕ) (k : ℕ) → k < 8 * length xs → bit_of (xs ++ ys) k ≡ bit_of xs k
-bit_of-front xs ys k l = ap (λ octet. bit_at octet (7 - k % 8)) (get_or_append_left xs ys 0 (k / 8) (omega arith))
-
-bit_of-back : (xs ys : List ℕ) (k : ℕ) → 8 * length xs ≤ k → bit_of (xs ++ ys) k ≡ bit_of ys (k - 8 * length xs)
-bit_of-back xs ys k l =
-    let octet : k / 8 - length xs ≡ (k - 8 * length xs) / 8 = omega arith in
-    let bit : k % 8 ≡ (k - 8 * length xs) % 8 = omega arith in
-    ap (λ octet. bit_at octet (7 - k % 8)) (get_or-append_right xs ys (length xs) (k / 8) 0 refl (omega arith)) ∙
-    ap (λ i. bit_at (get_or ys i 0) (7 - k % 8)) octet ∙ ap (λ j. bit_at (get_or ys ((k - 8 * length xs) / 8) 0) (7 - j)) bit
-
-bits_of-append : (xs ys : List ℕ) → bits_of (xs ++ ys) ≡ bits_of xs ++ bits_of ys
-unfolding bits_of
-bits_of-append xs ys =
-    let all = length-append xs ys in
-    let n = length-bits_of xs in
-    let m = length-bits_of ys in
-    sym (fill_by_all (bit_of (xs ++ ys)) (bits_of xs ++ bits_of ys) (8 * length (xs ++ ys)) 0 (length-append (bits_of xs) (bits_of ys) ∙ omega arith)
-    (λ k l. elim (cases_lt k (8 * length xs)) [
-      | inl front ↦ get_or_append_left (bits_of xs) (bits_of ys) 0 k (omega arith) ∙ get_or-bits_of xs k front ∙ sym (bit_of-front xs ys k front)
-      | inr back ↦
-          get_or-append_right (bits_of xs) (bits_of ys) (8 * length xs) k 0 n back ∙ get_or-bits_of ys (k - 8 * length xs) (omega arith) ∙
-          sym (bit_of-back xs ys k back)
-    ]))
 
 pub merged-append : (a b : List ℕ) (f g : ℕ → List ℕ) → IsMerged a f → IsMerged b g → IsMerged (a ++ b) (λ j. f j ++ g j)
 merged-append a b f g first second = record {

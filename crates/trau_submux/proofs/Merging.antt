@@ -8,11 +8,12 @@ use Rattle.std.proofs.lemmas.List.{length-take, length-take-le, take_all}
 use Rattle.trau_io.specs.declared.line.Line.{Line}
 use Rattle.trau_io.specs.declared.line.Side.TheVariants.{Up, Out}
 use Rattle.trau_io.specs.Lines.{LineState, Rose}
+use Rattle.trau_io.specs.Transfer.{Gives}
 use Rattle.trau_bits.specs.Bits.{bits_of}
 use Rattle.trau_submux.specs.declared.join.BlockEnd.TheVariants as block
 use Rattle.trau_submux.specs.declared.join.MergeEnd.TheVariants.{Done, LineFailed}
 use Rattle.trau_submux.specs.Channels.{IsMerged}
-use Rattle.trau_submux.specs.Lines.{Gains, GainsFront, Gives}
+use Rattle.trau_submux.specs.Lines.{Gains, GainsFront}
 use Rattle.trau_submux.specs.Merges.{BlockEndsAs, FailsAt, Merges, Takes}
 use Rattle.trau_submux.proofs.Merged.{merged-append}
 use Rattle.trau_submux.proofs.Splitting.{front_on, gains_on, gives_on}

@@ -4,10 +4,11 @@ use Rattle.std.specs.Io.KnownBytes.{IsAtEnd}
 use Rattle.std.proofs.KnownBytes.{Appends-nil, Consumes-nil}
 use Rattle.std.proofs.lemmas.List.Elements.{All-nil}
 use Rattle.trau_io.specs.Lines.{LineState}
+use Rattle.trau_io.specs.Transfer.{Gives}
 use Rattle.trau_bits.specs.Bits.{bits_of}
 use Rattle.trau_bits.proofs.BitList.{length-bits_of}
 use Rattle.trau_submux.specs.Channels.{IsMerged, subchannel}
-use Rattle.trau_submux.specs.Lines.{Gains, Gives}
+use Rattle.trau_submux.specs.Lines.{Gains}
 use Rattle.trau_submux.proofs.Channels.{length-subchannel}
 
 -- n whole blocks of each line are taken, and what they make is written

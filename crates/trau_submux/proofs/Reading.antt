@@ -6,8 +6,8 @@ use Rattle.trau_io.specs.declared.line.Side.{Side}
 use Rattle.trau_io.specs.declared.line.Side.TheVariants.{Up}
 use Rattle.trau_io.specs.declared.transfer.Filled.TheVariants.{Whole, Ended}
 use Rattle.trau_io.specs.Lines.{LineState, OthersStay}
-use Rattle.trau_io.specs.Transfer.{ReadsBlock}
-use Rattle.trau_submux.specs.Lines.{AllButFour, Gives, channel_lines}
+use Rattle.trau_io.specs.Transfer.{Gives, ReadsBlock}
+use Rattle.trau_submux.specs.Lines.{AllButFour, channel_lines}
 use Rattle.trau_submux.specs.Merges.{FailsAt, FailsInside, GivesBlock}
 
 -- the first `n` of the four lines have given a block

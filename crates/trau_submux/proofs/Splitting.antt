@@ -6,10 +6,11 @@ use Rattle.std.proofs.lemmas.List.{append-nil}
 use Rattle.std.proofs.Math.Seq.{take-append-add}
 use Rattle.trau_io.specs.declared.line.Line.{Line}
 use Rattle.trau_io.specs.Lines.{LineState, Rose}
+use Rattle.trau_io.specs.Transfer.{Gives}
 use Rattle.trau_submux.specs.declared.cut.BlockEnd.TheVariants as block
 use Rattle.trau_submux.specs.declared.cut.SplitEnd.TheVariants.{Done, LineFailed}
 use Rattle.trau_submux.specs.Channels.{channel}
-use Rattle.trau_submux.specs.Lines.{Gains, Gives}
+use Rattle.trau_submux.specs.Lines.{Gains}
 use Rattle.trau_submux.specs.Splits.{BlockEndsAs, GainChannels, Splits, SplitsBlock, whole_groups}
 use Rattle.trau_submux.proofs.Channels.{length-channel}
 use Rattle.trau_submux.proofs.Groups.{channel-append, groups-append, groups-whole, length-groups}

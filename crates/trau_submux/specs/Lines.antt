@@ -21,12 +21,6 @@ abbrev pub AllButFive : (ℕ → Side → LineState) → (ℕ → Side → LineS
 AllButFive before now call slot_side side =
     (c : ℕ) (s : Side) → (c ≡ call → s ≡ slot_side → ⊥) → ((j : ℕ) → j < 4 → c ≡ call + j → s ≡ side → ⊥) → now c s ≡ before c s
 
--- an incoming line gave these octets
-pub record Gives (inc inc' : LineState) (given : List ℕ) : Type 0 where
-  pub read : Consumes inc.to_come inc'.to_come given
-  pub written : inc'.written ≡ inc.written
-  pub later : inc.faults ≤ inc'.faults
-
 -- an outgoing line gained these octets and didn't fail
 pub record Gains (out out' : LineState) (sent : List ℕ) : Type 0 where
   pub written : Appends out.written out'.written sent

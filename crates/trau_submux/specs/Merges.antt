@@ -5,12 +5,13 @@ use Rattle.trau_io.specs.declared.line.Failed.{Failed}
 use Rattle.trau_io.specs.declared.line.Line.{Line}
 use Rattle.trau_io.specs.declared.line.Side.TheVariants.{Up, Out}
 use Rattle.trau_io.specs.Lines.{LineState, Rose}
+use Rattle.trau_io.specs.Transfer.{Gives}
 use Rattle.trau_submux.specs.declared.join.BlockEnd.{BlockEnd}
 use Rattle.trau_submux.specs.declared.join.BlockEnd.TheVariants as block
 use Rattle.trau_submux.specs.declared.join.MergeEnd.{MergeEnd}
 use Rattle.trau_submux.specs.declared.join.MergeEnd.TheVariants.{Done, LineFailed}
 use Rattle.trau_submux.specs.Channels.{IsMerged}
-use Rattle.trau_submux.specs.Lines.{Gains, GainsFront, Gives}
+use Rattle.trau_submux.specs.Lines.{Gains, GainsFront}
 
 -- a block of 40 octets of a channel's line: so many at its front came from the line, all but at the line's end
 pub record GivesBlock (up up' : LineState) (block : List ℕ) (count : ℕ) : Type 0 where

@@ -4,12 +4,13 @@ use Rattle.std.specs.Io.KnownBytes.{IsAtEnd}
 use Rattle.trau_io.specs.declared.line.Line.{Line}
 use Rattle.trau_io.specs.declared.line.Side.TheVariants.{Pcm, Down}
 use Rattle.trau_io.specs.Lines.{LineState, Rose}
+use Rattle.trau_io.specs.Transfer.{Gives}
 use Rattle.trau_submux.specs.declared.cut.BlockEnd.{BlockEnd}
 use Rattle.trau_submux.specs.declared.cut.BlockEnd.TheVariants as block
 use Rattle.trau_submux.specs.declared.cut.SplitEnd.{SplitEnd}
 use Rattle.trau_submux.specs.declared.cut.SplitEnd.TheVariants.{Done, LineFailed}
 use Rattle.trau_submux.specs.Channels.{channel}
-use Rattle.trau_submux.specs.Lines.{Gains, GainsFront, Gives, most_octets}
+use Rattle.trau_submux.specs.Lines.{Gains, GainsFront, most_octets}
 use Rattle.trau_submux.specs.Writing.{FailsAt}
 
 -- the octets that make whole groups of four

@@ -1,5 +1,5 @@
 use Rattle.std.proofs.Common.{ap, arith}
-use Rattle.farm_live.specs.Slot.{weigh}
+use Rattle.trau_num.specs.Weights.{weigh}
 use Rattle.farm_live.proofs.Weights.{all_callers_are}
 use Rattle.farm_live.proofs.laws.one_caller_is_never_busy.Goals as goal
 

@@ -1,7 +1,7 @@
 use Rattle.std.proofs.Common.{ap, ◌∙◌, arith, ℕ}
 use Rattle.crossbeam_deque.specs.Handles.{worker_view}
 use Rattle.pool_run.specs.declared.deque.View.{View}
-use Rattle.pool_run.specs.Deque.{weigh}
+use Rattle.trau_num.specs.Weights.{weigh}
 use Rattle.pool_run.proofs.Pools.{ended_more, weigh_more, weigh_taken}
 use Rattle.pool_run.proofs.answer.drain.Goals as goal
 

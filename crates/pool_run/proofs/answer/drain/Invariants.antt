@@ -1,6 +1,7 @@
 use Rattle.std.proofs.Common.{◌≡◌, ◌+◌, ◌-◌, ◌≤◌, ℕ, map, All, vec_len, vec_capacity}
 use Rattle.crossbeam_deque.specs.Handles.{worker_flavor, worker_view}
-use Rattle.pool_run.specs.Deque.{weigh, entry_of, IsCovered}
+use Rattle.trau_num.specs.Weights.{weigh}
+use Rattle.pool_run.specs.Deque.{entry_of, IsCovered}
 use Rattle.pool_run.specs.Member.{IsEnded}
 use Rattle.pool_run.proofs.answer.drain.Given as goal
 

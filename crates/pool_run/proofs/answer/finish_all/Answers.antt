@@ -4,9 +4,10 @@ use Rattle.std.proofs.lemmas.List.{map-append}
 use Rattle.pool_run.specs.declared.member.Member.{Member}
 use Rattle.pool_run.specs.Pool.{IsSettled, all_given, all_obtained}
 use Rattle.pool_run.specs.Member.{IsEnded, given, obtained}
-use Rattle.pool_run.specs.Deque.{entry_of, weigh}
+use Rattle.trau_num.specs.Weights.{weigh}
+use Rattle.pool_run.specs.Deque.{entry_of}
 use Rattle.pool_run.proofs.Settled.{settled_first, settled_rest, room_done, count_tasks, obtained_alone, one, room_left, room_rest}
-use Rattle.pool_run.proofs.Weights.{weigh-append}
+use Rattle.trau_num.proofs.Weights.{weigh-append}
 use Rattle.pool_run.proofs.answer.finish_all.Goals as goal
 
 pub append_reserved-requires : goal.append_reserved-requires

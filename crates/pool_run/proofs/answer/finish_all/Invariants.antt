@@ -1,5 +1,6 @@
 use Rattle.std.proofs.Common.{◌≡◌, ◌+◌, ◌≤◌, ℕ, map, All, vec_len, vec_capacity}
-use Rattle.pool_run.specs.Deque.{weigh, entry_of}
+use Rattle.trau_num.specs.Weights.{weigh}
+use Rattle.pool_run.specs.Deque.{entry_of}
 use Rattle.pool_run.specs.Member.{IsEnded}
 use Rattle.pool_run.specs.Pool.{IsSettled, all_given, all_obtained}
 use Rattle.pool_run.proofs.answer.finish_all.Given as goal

@@ -1,5 +1,5 @@
 use Rattle.std.proofs.Common.{◌≡◌, ◌+◌, ℕ, length, vec_len}
-use Rattle.pool_run.specs.Deque.{weigh}
+use Rattle.trau_num.specs.Weights.{weigh}
 use Rattle.pool_run.specs.Pool.{IsPool, all_given, all_obtained, entries_from}
 use Rattle.pool_run.specs.Room.{RoomLeft}
 use Rattle.pool_run.proofs.pool.place.Given as goal

@@ -1,7 +1,8 @@
 use Rattle.std.proofs.Common.{◌≡◌, ◌∙◌, All, List, ap, arith, drop, length, map, subst, sym, vec_len}
 use Rattle.pool_run.specs.declared.member.Member.{Member}
 use Rattle.pool_run.specs.Member.{IsEnded, Thief}
-use Rattle.pool_run.specs.Deque.{weigh, entry_of}
+use Rattle.trau_num.specs.Weights.{weigh}
+use Rattle.pool_run.specs.Deque.{entry_of}
 use Rattle.pool_run.specs.Pool.{IsSettled, entries_from}
 use Rattle.pool_run.specs.Room.{IsRoom}
 use Rattle.pool_run.proofs.Lists.{written_back}

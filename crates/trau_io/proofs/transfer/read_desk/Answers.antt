@@ -1,7 +1,7 @@
 use Rattle.std.proofs.Common.{rules, ◌∙◌}
-use Rattle.farm_orders.proofs.Filling.{filled_more, filled_all, filled_ended, filled_failed}
+use Rattle.trau_io.proofs.Filling.{filled_more, filled_all, filled_ended, filled_failed}
 use Rattle.trau_io.proofs.Runs.{length_filled}
-use Rattle.farm_orders.proofs.block.fill.Goals as goal
+use Rattle.trau_io.proofs.transfer.read_desk.Goals as goal
 
 pub loop-filled-preserved : goal.loop-filled-preserved
 loop-filled-preserved g c = record {

@@ -9,7 +9,7 @@ use Rattle.trau_io.specs.declared.transfer.Filled.TheVariants as filled
 use Rattle.trau_io.specs.Lines.{Rose}
 use Rattle.trau_io.specs.Desks.{DeskState, DeskReads}
 use Rattle.trau_io.proofs.Runs.{length_filled, front_filled, take_filled}
-use Rattle.farm_orders.specs.Block.{FillsBlock}
+use Rattle.trau_io.specs.Transfer.{FillsBlock}
 
 -- what successful reads have done so far
 pub record Filled (before now : DeskState) (n : ℕ) (block : List ℕ) : Type 0 where

@@ -1,6 +1,6 @@
 use Rattle.std.proofs.Common.{◌≡◌, ◌-◌, length}
-use Rattle.farm_orders.proofs.Filling.{Filled}
-use Rattle.farm_orders.proofs.block.fill.Given as goal
+use Rattle.trau_io.proofs.Filling.{Filled}
+use Rattle.trau_io.proofs.transfer.read_desk.Given as goal
 
 abbrev pub invariant-loop-filled : goal.invariant-loop-filled
 invariant-loop-filled g l = record {
