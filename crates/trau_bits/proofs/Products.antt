@@ -4,8 +4,7 @@ use Rattle.std.specs.Int.{bit_at, from_le_bytes, to_le_bytes}
 use Rattle.std.specs.List.{list_all, range_with_len}
 use Rattle.std.proofs.lemmas.Bool.{eqb-true}
 use Rattle.std.proofs.lemmas.List.Recursion.{and_at}
-use Rattle.std.proofs.lemmas.List.FromFn.{get_or-range_with_len}
-use Rattle.std.proofs.lemmas.List.FromFn.{length-range_with_len}
+use Rattle.std.proofs.lemmas.List.FromFn.{get_or-range_with_len, length-range_with_len}
 use Rattle.trau_bits.specs.Bits.{AreBits, octet_at}
 use Rattle.trau_bits.proofs.Octets.{eight_at, sum_of_eight}
 
