@@ -12,7 +12,7 @@ use Rattle.run_spec.specs.Run.{worked_to}
 use Rattle.run_spec.specs.Lines.{out_of_call, down_of_call}
 use Rattle.farm_run.specs.Runs.{is_listed}
 use Rattle.farm_run.specs.Resuming.{IsResumeCutShort}
-use Rattle.farm_run.proofs.Cutting.{cut_first}
+use Rattle.farm_run.proofs.Lines.Cutting.{cut_first}
 use Rattle.command_words.specs.declared.asked.Settings.{Settings}
 use Rattle.farm_top.specs.Farm.{AllStay, TellsRun, status_of_run}
 use Rattle.farm_top.specs.Resume.{ResumesAndTells}

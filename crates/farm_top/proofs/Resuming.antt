@@ -23,7 +23,7 @@ use Rattle.run_spec.specs.Mark.{Joins, marked_calls}
 use Rattle.farm_report.specs.Lines.{report_text}
 use Rattle.farm_run.specs.Runs.{IsRunOver, NoneRose, TellsFailed, is_listed}
 use Rattle.farm_run.specs.Resuming.{IsResumeCutShort, LeavesFrom}
-use Rattle.farm_run.proofs.Clocks.{none_listed}
+use Rattle.farm_run.proofs.Clocks.Last.{none_listed}
 use Rattle.command_words.specs.declared.asked.Settings.{Settings}
 use Rattle.farm_top.specs.Farm.{TellsReport}
 use Rattle.farm_top.specs.FarmClean.{IsCalmRun}

@@ -4,8 +4,8 @@ use Rattle.trau_io.specs.declared.line.Side.{Side}
 use Rattle.trau_io.specs.Lines.{LineState}
 use Rattle.farm_rounds.specs.Numbers.{is_among}
 use Rattle.farm_run.specs.Stages.{Reaches}
-use Rattle.farm_run.proofs.Clocks.{none_among}
-use Rattle.farm_run.proofs.Stepping.{OrdersDone, orders_done, ok_both, orders_more, stage_behind, idle_reaches}
+use Rattle.farm_run.proofs.Clocks.Idle.{none_among}
+use Rattle.farm_run.proofs.Clocks.Stepping.{OrdersDone, orders_done, ok_both, orders_more, stage_behind, idle_reaches}
 use Rattle.farm_run.proofs.clock.step.Goals as goal
 
 pub execute_orders-requires-clause-clock : goal.execute_orders-requires-clause-clock

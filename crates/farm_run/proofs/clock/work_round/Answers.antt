@@ -6,28 +6,31 @@ use Rattle.trau_io.specs.Lines.{LineState}
 use Rattle.switchboard.specs.State.{State, orders_of}
 use Rattle.run_spec.specs.Run.{Run}
 use Rattle.farm_rounds.specs.Working.{RoundMemory, GainsFailed}
-use Rattle.farm_run.proofs.RoundTaken.{IsRound}
+use Rattle.farm_run.proofs.Rounds.Taken.{IsRound}
 use Rattle.farm_run.specs.Clock.{IsAtClock, EndsRound}
 use Rattle.farm_run.specs.Outgoing.{is_held}
 use Rattle.farm_run.specs.Stages.{OpenedBefore}
 use Rattle.farm_run.specs.Ending.{AreShut}
 use Rattle.farm_run.specs.Journal.{JournalMemory}
-use Rattle.farm_run.proofs.Cutting.{on_err}
-use Rattle.farm_run.proofs.FewEnds.{new_ends, shut_more}
+use Rattle.farm_run.proofs.Lines.Cutting.{on_err}
+use Rattle.farm_run.proofs.Told.Few.{new_ends, shut_more}
 use Rattle.farm_run.specs.Standing.{Standing, standing, StandingGoesOn, HasFlags, MeetsRun}
-use Rattle.farm_run.proofs.Knowing.{known_round}
-use Rattle.farm_run.proofs.RoundListed.{order_after, knows_after, goes_after, meets_run, listed_back}
-use Rattle.farm_run.proofs.Told.{told_done, told_orders}
-use Rattle.farm_run.proofs.Making.{IsMade, made_octets, made_open, made_partners, made_stands, made_tallies}
-use Rattle.farm_run.proofs.WorkedRound as parts
-use Rattle.farm_run.proofs.WorkedRound.{FilledRound, WorkedRound, outgoing_between}
-use Rattle.farm_run.proofs.Counts.{fell_round, tells_round}
-use Rattle.farm_run.proofs.Sides.{sides_more, sides_filled}
-use Rattle.farm_run.proofs.RoundClock.{tells_numbers, tells_open, tells_apart, tells_late, clock_after}
-use Rattle.farm_run.proofs.RoundLines.{clock_is, ends_are, told_is, written_after}
-use Rattle.farm_run.proofs.RoundShort.{short_after, short_more}
-use Rattle.farm_run.proofs.RoundSums.{sums_after}
-use Rattle.farm_run.proofs.RoundTallies.{tallies_after}
+use Rattle.farm_run.proofs.Noted.Knowing.{known_round}
+use Rattle.farm_run.proofs.Listed.Round.{order_after, listed_back}
+use Rattle.farm_run.proofs.Listed.Behind.{knows_after, goes_after, meets_run}
+use Rattle.farm_run.proofs.Told.Boards.{told_done, told_orders}
+use Rattle.farm_run.proofs.Worked.Making.{IsMade, made_octets, made_open, made_partners, made_stands, made_tallies}
+use Rattle.farm_run.proofs.Worked.Round as parts
+use Rattle.farm_run.proofs.Worked.Round.{FilledRound, WorkedRound, outgoing_between}
+use Rattle.farm_run.proofs.Listed.Counts.{fell_round, tells_round}
+use Rattle.farm_run.proofs.Lines.Sides.{sides_more, sides_filled}
+use Rattle.farm_run.proofs.Worked.Clock.{tells_numbers, tells_open, tells_apart, tells_late, clock_after}
+use Rattle.farm_run.proofs.Worked.Lines.{clock_is}
+use Rattle.farm_run.proofs.Worked.Board.{ends_are, told_is}
+use Rattle.farm_run.proofs.Worked.Written.{written_after}
+use Rattle.farm_run.proofs.Worked.Short.{short_after, short_more}
+use Rattle.farm_run.proofs.Worked.Sums.{sums_after}
+use Rattle.farm_run.proofs.Worked.Tallies.{tallies_after}
 use Rattle.std.proofs.lemmas.Result.{IfOk-from_err}
 use Rattle.farm_run.proofs.clock.work_round.Goals as goal
 use Rattle.farm_run.proofs.clock.work_round.Given.{Over}

@@ -3,8 +3,8 @@ use Rattle.trau_io.specs.declared.line.Side.{Side}
 use Rattle.trau_io.specs.Lines.{LineState}
 use Rattle.farm_run.specs.declared.stage.Stage.{Stage}
 use Rattle.farm_run.specs.Stages.{Reaches}
-use Rattle.farm_run.proofs.Cutting.{on_err}
-use Rattle.farm_run.proofs.Reaching.{reaches_none, reaches_more}
+use Rattle.farm_run.proofs.Lines.Cutting.{on_err}
+use Rattle.farm_run.proofs.Clocks.Reaching.{reaches_none, reaches_more}
 use Rattle.farm_run.proofs.clock.work_until.Goals as goal
 
 pub loop-stage-init : goal.loop-stage-init

@@ -4,8 +4,9 @@ use Rattle.std.proofs.lemmas.List.{get_or_default, take_all}
 use Rattle.switchboard.specs.Open.{partner_now}
 use Rattle.farm_run.specs.Ending.{partner_past}
 use Rattle.farm_run.specs.Journal.{JournalMemory}
-use Rattle.farm_run.proofs.FewEnds.{not_noted}
-use Rattle.farm_run.proofs.Ending.{no_end, none_told, no_ends_noted, none_past, told_all, all_noted, front, apart_front, partner_more, noted_more, told_step, told_open, told_late}
+use Rattle.farm_run.proofs.Told.Few.{not_noted}
+use Rattle.farm_run.proofs.Told.Next.{no_end, front, apart_front, partner_more, noted_more}
+use Rattle.farm_run.proofs.Told.Ends.{none_told, no_ends_noted, none_past, told_all, all_noted, told_step, told_open, told_late}
 use Rattle.farm_run.proofs.ends.tell_ends.Goals as goal
 
 pub loop-end-init : goal.loop-end-init

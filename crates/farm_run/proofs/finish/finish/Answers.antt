@@ -2,8 +2,8 @@ use Rattle.std.proofs.Common.{◌≡◌, sym, ◌∙◌, ℕ, true}
 use Rattle.switchboard.specs.Open.{open_now}
 use Rattle.call_number.specs.CallNumber.{IsCallNumber}
 use Rattle.farm_rounds.specs.Numbers.{is_among}
-use Rattle.farm_run.proofs.FewEnds.{new_limits}
-use Rattle.farm_run.proofs.LastEnds.{all_among, reported_ok}
+use Rattle.farm_run.proofs.Told.Few.{new_limits}
+use Rattle.farm_run.proofs.Reported.LastEnds.{all_among, reported_ok}
 use Rattle.farm_run.proofs.finish.finish.Goals as goal
 
 pub end_all-requires-clause-open : goal.end_all-requires-clause-open

@@ -1,4 +1,4 @@
-use Rattle.farm_run.proofs.Being.{there_is}
+use Rattle.farm_run.proofs.Lines.Being.{there_is}
 use Rattle.farm_run.proofs.laws.there_is_a_run.Goals as goal
 
 pub returns : goal.returns

@@ -2,8 +2,8 @@ use Rattle.std.proofs.Common.{sym, ap, ◌∙◌, map}
 use Rattle.std.proofs.lemmas.List.{take_all}
 use Rattle.call_number.specs.CallNumber.{IsCallNumber}
 use Rattle.farm_run.specs.Marking.{entry_of}
-use Rattle.farm_run.proofs.LastEnds.{all_among}
-use Rattle.farm_run.proofs.Marked.{entry_more}
+use Rattle.farm_run.proofs.Reported.LastEnds.{all_among}
+use Rattle.farm_run.proofs.Marked.Calls.{entry_more}
 use Rattle.farm_run.proofs.marking.mark_calls.Goals as goal
 
 pub mark_call-requires : goal.mark_call-requires

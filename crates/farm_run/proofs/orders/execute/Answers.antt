@@ -7,13 +7,14 @@ use Rattle.switchboard.specs.Open.{opened_now, open_now, partner_now, opened_aft
 use Rattle.farm_run.specs.Match.{histories_at}
 use Rattle.farm_run.specs.Journal.{JournalMemory}
 use Rattle.farm_run.specs.Noted.{Noted}
-use Rattle.farm_run.proofs.NotedOrders.{noted_accepted, noted_quiet}
-use Rattle.farm_run.proofs.Matching.{fits, named, matches_more, matches_same}
-use Rattle.farm_run.proofs.Following.{due_of, told_kept, left_fewer, ahead_more, follows_more, follows_same}
+use Rattle.farm_run.proofs.Noted.Orders.{noted_accepted, noted_quiet}
+use Rattle.farm_run.proofs.Ordered.Matching.{fits, named, matches_more, matches_same}
+use Rattle.farm_run.proofs.Ordered.Due.{due_of, told_kept, left_fewer, ahead_more}
+use Rattle.farm_run.proofs.Ordered.Following.{follows_more, follows_same}
 use Rattle.farm_run.specs.Standing.{KnowsListed}
 use Rattle.farm_run.specs.Ending.{AreShut}
-use Rattle.farm_run.proofs.FewEnds.{closes_once, one_more, shut_ordered, shut_same}
-use Rattle.farm_run.proofs.Boards.{over_turned, knows_more, knows_same}
+use Rattle.farm_run.proofs.Told.Few.{closes_once, one_more, shut_ordered, shut_same}
+use Rattle.farm_run.proofs.Listed.Boards.{over_turned, knows_more, knows_same}
 use Rattle.trau_io.specs.declared.line.Line.{Line}
 use Rattle.switchboard.specs.State.{State}
 use Rattle.farm_run.specs.Match.{AtClock, FollowsRun}

@@ -3,7 +3,7 @@ use Rattle.switchboard.specs.declared.act.Act.{Act}
 use Rattle.farm_rounds.specs.declared.tally.Tally.{Tally}
 use Rattle.farm_run.specs.Journal.{noted_by, with_bridge_noted, settled}
 use Rattle.farm_run.specs.Facts.{kept_in}
-use Rattle.farm_run.proofs.Reporting.{kept_value}
+use Rattle.farm_run.proofs.Reported.Reporting.{kept_value}
 use Rattle.farm_run.proofs.orders.note.Goals as goal
 
 pub returns-in-Bridged-clause-noted : goal.returns-in-Bridged-clause-noted

@@ -4,8 +4,8 @@ use Rattle.std.proofs.lemmas.List.{get_or_default, take_all}
 use Rattle.trau_io.specs.declared.ends.CallEnd.{CallEnd}
 use Rattle.farm_rounds.specs.declared.tally.Tally.{Tally}
 use Rattle.farm_run.specs.Facts.{kept_in}
-use Rattle.farm_run.proofs.Ending.{no_end}
-use Rattle.farm_run.proofs.Reporting.{kept_value, ends_more, line_more}
+use Rattle.farm_run.proofs.Told.Next.{no_end}
+use Rattle.farm_run.proofs.Reported.Reporting.{kept_value, ends_more, line_more}
 use Rattle.farm_run.proofs.report.ended_lines.Goals as goal
 
 pub loop-end-preserved : goal.loop-end-preserved

@@ -9,7 +9,7 @@ use Rattle.farm_run.specs.declared.notes.BridgeNote.{BridgeNote}
 use Rattle.farm_run.specs.declared.notes.Opening.{Opening}
 use Rattle.farm_run.specs.Journal.{JournalMemory}
 use Rattle.farm_run.specs.Facts.{kept_in, call_line, span_lines}
-use Rattle.farm_run.proofs.Reporting.{length-numbered}
+use Rattle.farm_run.proofs.Reported.Reporting.{length-numbered}
 use Rattle.std.proofs.lemmas.Result.{IfOk-from_err}
 use Rattle.farm_run.proofs.report.report.Goals as goal
 

@@ -4,8 +4,8 @@ use Rattle.std.proofs.lemmas.List.{get_or_default}
 use Rattle.farm_rounds.specs.declared.tally.Tally.{Tally}
 use Rattle.farm_run.specs.Journal.{JournalMemory}
 use Rattle.farm_run.specs.Facts.{kept_in}
-use Rattle.farm_run.proofs.Ending.{no_end}
-use Rattle.farm_run.proofs.Reporting.{kept_value, settled_more}
+use Rattle.farm_run.proofs.Told.Next.{no_end}
+use Rattle.farm_run.proofs.Reported.Reporting.{kept_value, settled_more}
 use Rattle.farm_run.proofs.report.settle_all.Goals as goal
 
 pub loop-k-preserved : goal.loop-k-preserved

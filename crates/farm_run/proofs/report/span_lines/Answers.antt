@@ -1,5 +1,5 @@
 use Rattle.std.proofs.Common.{sym, ap, ◌∙◌, ◌++◌, append-nil, inl, inr}
-use Rattle.farm_run.proofs.Reporting.{no_lines}
+use Rattle.farm_run.proofs.Reported.Reporting.{no_lines}
 use Rattle.farm_run.proofs.report.span_lines.Goals as goal
 
 pub returns : goal.returns

@@ -5,10 +5,10 @@ use Rattle.farm_checkpoint.specs.Marks.{MarkView, NumbersRise}
 use Rattle.farm_run.specs.declared.outgoing.Outgoing.TheVariants.{Held}
 use Rattle.farm_run.specs.declared.stage.Stage.{Stage}
 use Rattle.farm_run.specs.Stages.{Reaches}
-use Rattle.farm_run.proofs.Cutting.{on_err}
-use Rattle.farm_run.proofs.Marked.{numbers_rise}
-use Rattle.farm_run.proofs.Resumption.{held_cut, unbegun_cut, difference_told, written_cut, resumes_told}
-use Rattle.farm_run.proofs.Sides.{sides_more}
+use Rattle.farm_run.proofs.Lines.Cutting.{on_err}
+use Rattle.farm_run.proofs.Marked.Calls.{numbers_rise}
+use Rattle.farm_run.proofs.Marked.Resumption.{held_cut, unbegun_cut, difference_told, written_cut, resumes_told}
+use Rattle.farm_run.proofs.Lines.Sides.{sides_more}
 use Rattle.farm_run.proofs.resuming.resume.Goals as goal
 
 pub returns-in_err-new-clause-cut : goal.returns-in_err-new-clause-cut

@@ -4,10 +4,10 @@ use Rattle.trau_io.specs.Lines.{LineState}
 use Rattle.farm_run.specs.declared.outgoing.Outgoing.TheVariants.{Written}
 use Rattle.farm_run.specs.declared.stage.Stage.{Stage}
 use Rattle.farm_run.specs.Stages.{Reaches}
-use Rattle.farm_run.proofs.Cutting.{on_err, cut_first}
-use Rattle.farm_run.proofs.Reaching.{gone_first, gone_more, wrote_first}
-use Rattle.farm_run.proofs.Resumption.{stretch_cut}
-use Rattle.farm_run.proofs.Telling.{runs_told}
+use Rattle.farm_run.proofs.Lines.Cutting.{on_err, cut_first}
+use Rattle.farm_run.proofs.Clocks.Reaching.{gone_first, gone_more, wrote_first}
+use Rattle.farm_run.proofs.Marked.Resumption.{stretch_cut}
+use Rattle.farm_run.proofs.Lines.Telling.{runs_told}
 use Rattle.farm_run.proofs.running.run.Goals as goal
 
 pub returns-in_err-first-clause-cut : goal.returns-in_err-first-clause-cut

@@ -4,11 +4,11 @@ use Rattle.trau_io.specs.Lines.{LineState}
 use Rattle.farm_run.specs.declared.outgoing.Outgoing.TheVariants.{Summed}
 use Rattle.farm_run.specs.declared.stage.Stage.{Stage}
 use Rattle.farm_run.specs.Stages.{Reaches}
-use Rattle.farm_run.proofs.Cutting.{on_err, cut_first}
-use Rattle.farm_run.proofs.Reaching.{gone_first, gone_more, wrote_first, summed_first}
-use Rattle.farm_run.proofs.Resumption.{stretch_cut}
-use Rattle.farm_run.proofs.Telling.{saves_told}
-use Rattle.farm_run.proofs.Openings.{opened_none}
+use Rattle.farm_run.proofs.Lines.Cutting.{on_err, cut_first}
+use Rattle.farm_run.proofs.Clocks.Reaching.{gone_first, gone_more, wrote_first, summed_first}
+use Rattle.farm_run.proofs.Marked.Resumption.{stretch_cut}
+use Rattle.farm_run.proofs.Lines.Telling.{saves_told}
+use Rattle.farm_run.proofs.Noted.Openings.{opened_none}
 use Rattle.farm_run.proofs.saving.save.Goals as goal
 
 pub returns-in_err-new-clause-cut : goal.returns-in_err-new-clause-cut

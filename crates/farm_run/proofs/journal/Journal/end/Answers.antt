@@ -2,8 +2,8 @@ use Rattle.std.proofs.Common.{◌≡◌, ap, ◌∙◌, false, arith, List}
 use Rattle.trau_io.specs.declared.ends.CallEnd.{CallEnd}
 use Rattle.farm_run.specs.Going.{is_told}
 use Rattle.farm_run.specs.Journal.{JournalMemory, with_end}
-use Rattle.farm_run.proofs.FewEnds.{room_for}
-use Rattle.farm_run.proofs.Places.{journal-ended}
+use Rattle.farm_run.proofs.Told.Few.{room_for}
+use Rattle.farm_run.proofs.Noted.Places.{journal-ended}
 use Rattle.farm_run.proofs.journal.Journal.end.Goals as goal
 
 -- the call's end isn't among those that are kept

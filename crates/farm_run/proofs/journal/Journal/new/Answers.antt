@@ -3,7 +3,7 @@ use Rattle.farm_run.specs.declared.notes.Opening.{Opening}
 use Rattle.farm_run.specs.declared.notes.BridgeNote.{BridgeNote}
 use Rattle.trau_io.specs.declared.ends.CallEnd.{CallEnd}
 use Rattle.farm_run.specs.Journal.{no_opening}
-use Rattle.farm_run.proofs.Places.{journal-new}
+use Rattle.farm_run.proofs.Noted.Places.{journal-new}
 use Rattle.farm_run.proofs.journal.Journal.new.Goals as goal
 
 calls : (c : goal.In_ok-bridges) → c.in_ok-calls.calls.items ≡ replicate 4097 no_opening

@@ -1,6 +1,6 @@
 use Rattle.std.proofs.Common.{ap, arith}
 use Rattle.farm_run.specs.Journal.{with_opening}
-use Rattle.farm_run.proofs.Places.{journal-opened}
+use Rattle.farm_run.proofs.Noted.Places.{journal-opened}
 use Rattle.farm_run.proofs.journal.Journal.open.Goals as goal
 
 pub index_mut-requires : goal.index_mut-requires

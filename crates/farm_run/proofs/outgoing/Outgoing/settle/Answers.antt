@@ -1,7 +1,7 @@
 use Rattle.std.proofs.Common.{sym, ap, subst, Bool}
 use Rattle.farm_run.specs.Outgoing.{is_held, IsSettled}
-use Rattle.farm_run.proofs.Outgoings.{drained}
-use Rattle.farm_run.proofs.Sides.{sides_drained}
+use Rattle.farm_run.proofs.Worked.Settled.{drained}
+use Rattle.farm_run.proofs.Lines.Sides.{sides_drained}
 use Rattle.farm_run.proofs.outgoing.Outgoing.settle.Goals as goal
 
 pub returns-in-Written-clause-settled : goal.returns-in-Written-clause-settled
