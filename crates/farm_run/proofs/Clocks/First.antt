@@ -37,12 +37,14 @@ fell_none lines c s = omega arith
 pub tells_none : (lines : ℕ → Side → LineState) → TellsFailed lines lines []
 tells_none lines = record { failures = record { rose = λ c s h. cc; kept = λ c s h. refl }; order = λ k l. absurd (omega arith) }
 
+-- no call has had a period
 pub none_worked : (r : Run) (c : ℕ) → worked_to r 0 c ≡ 0
 none_worked r c = by (end_in r c) (start_of (done_in r) c)
   where
     by : (e s : ℕ) → min 0 e - s ≡ 0
     by e s = omega arith
 
+-- so no octet has gone out
 pub no_octets : (who : Who) → down_octets who [] ≡ []
 no_octets who = by (octets_of []) (length-octets_of [] 0 refl)
   where
@@ -50,6 +52,7 @@ no_octets who = by (octets_of []) (length-octets_of [] 0 refl)
     by [] e = refl
     by (x ∷ xs) e = absurd (omega arith)
 
+-- the lines are those at the clock 0
 lines_at_first : (r : Run) (os : List Order) (periods : ℕ) (lines : ℕ → Side → LineState) (last : Standing) → IsRunOver os periods last.listed lines last.lines r → LinesAt r 0 last lines lines
 lines_at_first r os periods lines last run = record {
   up_read = λ c i q. told_first (last.listed c Up) (lines c Up) (last.lines c Up) (r.lines c).up (run.up c i) ∙ ap (λ (k : ℕ). Some (drop (40 * k) (r.lines c).up ++ never_given (last.listed c Up) (last.lines c Up))) (sym (none_worked r c));

@@ -42,12 +42,15 @@ clock_on t u b groups a l n = record {
 
 module _ (r : Run) (t u : ℕ) (b : State) (groups : List Group) (last : Standing) (first now : ℕ → Side → LineState) (at : IsAtClock r t b groups last first now) (l : t ≤ u) (w : u ≤ r.periods)
     (n : IfSome (first_stamp b.left) (λ s. u ≤ s)) (shut : (c : ℕ) → is_open (gone_at (whole_in r) t b.done) b.done c ≡ false) where
+  -- no call is open at the later clock
   shut_then : (c : ℕ) → is_open (gone_at (whole_in r) u b.done) b.done c ≡ false
   shut_then c = let e : t + (u - t) ≡ u = omega arith in subst (λ (v : ℕ). is_open (gone_at (whole_in r) v b.done) b.done c ≡ false) e (shut_after r t (u - t) b.done c (shut c))
 
+  -- none has a period meanwhile
   pub idle : (c : ℕ) → IsOpened r c → worked_to r u c ≡ worked_to r t c
   idle c i = worked_idle r t u b.done b.left c at.follows.so_far l (omega arith) n (shut c) i
 
+  -- the ends are told in time there too
   tells_on : TellsEnds (whole_in r) u b
   tells_on c o k =
       let gone : gone_at (whole_in r) t b.done c ≡ true = by (is_some (opened_at c b.done)) (is_some (closed_at c b.done)) (gone_at (whole_in r) t b.done c) o (ap is_some k) (shut c) in
@@ -59,11 +62,13 @@ module _ (r : Run) (t u : ℕ) (b : State) (groups : List Group) (last : Standin
       by false q g e f h = cc
       by true true g e f h = cc
 
+  -- no open call has had anything
   same_none : (c : ℕ) → histories_at r b.done t c ≡ histories_at r b.done u c
   same_none c =
       ap (λ (x : Bool). past_if x (law_in r c) (periods_to r c (t - start_of b.done c)) (settings_now r b.done t c)) (shut c)
       ∙ sym (ap (λ (x : Bool). past_if x (law_in r c) (periods_to r c (u - start_of b.done c)) (settings_now r b.done u c)) (shut_then c))
 
+  -- a line that is read whole by the later clock is so by the earlier one
   earlier : (c : ℕ) → IsReadWhole r u c → IsReadWhole r t c
   earlier c (inl q) = inl (omega arith)
   earlier c (inr q) = inr q
@@ -83,6 +88,7 @@ module _ (r : Run) (t u : ℕ) (b : State) (groups : List Group) (last : Standin
     };
   }
 
+  -- **What is written is what is to be written by then.**
   pub written_on : (from : ℕ) (listed : ℕ → Side → Bool) → WrittenFrom r from t listed first now → WrittenFrom r from u listed first now
   written_on from listed wrote = record {
     out = λ c i. subst (λ (k : ℕ). HasWritten (listed c Out) (first c Out) (now c Out) (drop (160 * worked_to r from c) (out_line (who_in r c) (periods_to r c k)))) (sym (idle c i)) (wrote.out c i);

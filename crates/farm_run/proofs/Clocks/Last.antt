@@ -35,6 +35,7 @@ module _ (r : Run) (b : State) (groups : List Group) (failed : List Line) (first
   pub all : (c : ℕ) → worked_to r r.periods c ≡ end_in r c - start_of (done_in r) c
   all c = worked_all r r.periods b.done b.left c at.follows.so_far
 
+  -- they are all of its periods
   long : (c : ℕ) → worked_to r r.periods c ≡ length (periods_in r c)
   long c = all c ∙ sym (length-periods_to r c (end_in r c - start_of (done_in r) c))
 

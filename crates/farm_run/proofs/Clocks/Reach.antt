@@ -68,6 +68,7 @@ open_before_end r t n ds left c h o = by (end_in r c) (places_in r ds t n c) (en
     by : (e m : ℕ) → min (t + n) e ≡ t + m → t ≤ e
     by e m q = omega arith
 
+-- an open call has had the periods since it began,
 pub worked_now : (r : Run) (t n : ℕ) (ds : List Done) (left : List Order) (c : ℕ) → IsRound r t n ds left → is_open (gone_at (whole_in r) t ds) ds c ≡ true → worked_to r t c ≡ t - start_of ds c
 worked_now r t n ds left c h o = by (end_in r c) (open_before_end r t n ds left c h o) ∙ ap (λ (s : ℕ). t - s) (start_kept r t n ds left c h o)
   where
@@ -77,6 +78,7 @@ worked_now r t n ds left c h o = by (end_in r c) (open_before_end r t n ds left 
         least : (e : ℕ) → t ≤ e → min t e ≡ t
         least e l = omega arith
 
+-- and behind the round those too that its lines gave in it
 pub worked_then : (r : Run) (t n : ℕ) (ds : List Done) (left : List Order) (c : ℕ) → IsRound r t n ds left → is_open (gone_at (whole_in r) t ds) ds c ≡ true →
     worked_to r (t + n) c ≡ t + places_in r ds t n c - start_of ds c
 worked_then r t n ds left c h o = ap (λ (m : ℕ). m - start_of (done_in r) c) (end_after r t n ds left c h o) ∙ ap (λ (s : ℕ). t + places_in r ds t n c - s) (start_kept r t n ds left c h o)
@@ -164,6 +166,7 @@ end_within_run r t ds left c so = by (closed_at c (done_in r)) refl
         subst (λ (v : Option ℕ). at_of (end_by (given_in r) r.periods c (start_of (done_in r) c) v) ≤ r.periods) (sym q) past
     by None q = subst (λ (v : Option ℕ). at_of (end_by (given_in r) r.periods c (start_of (done_in r) c) v) ≤ r.periods) (sym q) (there (start_of (done_in r) c) _ refl)
 
+-- **At the run's end a call has had all of its periods.**
 pub worked_all : (r : Run) (t : ℕ) (ds : List Done) (left : List Order) (c : ℕ) → IsSoFar r t ds left → worked_to r r.periods c ≡ end_in r c - start_of (done_in r) c
 worked_all r t ds left c so = ap (λ (m : ℕ). m - start_of (done_in r) c) (least r.periods (end_in r c) (end_within_run r t ds left c so))
   where

@@ -31,6 +31,7 @@ pub ok_more : {T E : Type 0} (P Q : T → Type 0) (o : Result T E) → ((x : T) 
 ok_more P Q (Ok x) h p = h x p
 ok_more P Q (Err e) h p = tt
 
+-- from two facts of a result
 pub ok_both : {T E : Type 0} (P Q R : T → Type 0) (o : Result T E) → ((x : T) → P x → Q x → R x) → IfOk o P → IfOk o Q → IfOk o R
 ok_both P Q R (Ok x) h p q = h x p q
 ok_both P Q R (Err e) h p q = tt
@@ -50,6 +51,7 @@ pub record OrdersDone (s : Stage) (b : State) (farm : FarmMemory) (j : JournalMe
   pub openings : (n : ℕ) → s.clock < n → OpenedBefore n s.journal.calls → OpenedBefore n j.calls
   pub noted : (r : Run) → s.clock < r.periods → FollowsRun r s.clock s.board s.farm.groups → Noted r s.board.done s.clock s.journal s.farm.tallies → Noted r b.done s.clock j farm.tallies
 
+-- **The orders of the clock are done.**
 pub orders_done : (s : Stage) (b : State) (farm : FarmMemory) (j : JournalMemory) → AtClock s.clock b farm.groups → AreShut b j.ends → length j.bridges ≤ length b.done → orders_of b ≡ orders_of s.board → farm.ended ≡ s.farm.ended → farm.failed ≡ s.farm.failed →
     (KnowsListed s.board s.farm.groups s.farm.failed → KnowsListed b farm.groups farm.failed) → ((c : ℕ) → is_over s.board c ≡ true → is_over b c ≡ true) →
     ((r : Run) → s.clock < r.periods → FollowsRun r s.clock s.board s.farm.groups → FollowsRun r s.clock b farm.groups) → b.told ≡ s.board.told → ((n : ℕ) → s.clock < n → OpenedBefore n s.journal.calls → OpenedBefore n j.calls) →
@@ -70,6 +72,7 @@ orders_done s b farm j clock shut bridges kept ended failed knows over follows t
 }
 
 module _ (s : Stage) (b : State) (farm : FarmMemory) (j : JournalMemory) (stage : IsStage s) (o : OrdersDone s b farm j) where
+  -- the stage at the later clock
   abbrev behind : Stage
   behind = record s { board = b; farm = farm; journal = j }
 

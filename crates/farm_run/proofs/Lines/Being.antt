@@ -39,6 +39,7 @@ front k xs = elim (cases_lt (length xs) k) [
       sym (ap (λ (i : ℕ). take i xs ++ drop k xs) n ∙ take-append-drop k xs)
 ]
 
+-- those are the octets that the line is to give
 is_given : (fails : Bool) (before now : LineState) → ((octets : List ℕ) × (k : ℕ) × (before.to_come ≡ Some octets) × (now.to_come ≡ Some (drop k octets))) → IsGiven fails before now (given_by fails before now)
 is_given false before now h = h.2 ∙ ap Some (sym (ap (λ (u : Option (List ℕ)). unwrap_or u []) h.2))
 is_given true before now h =
@@ -60,10 +61,12 @@ IsDoneInRange d = IfOk d.result IsInRange
 abbrev IsOrdered : Order → Type 0
 IsOrdered o = NamesCalls o.what × HasLevel o.what
 
+-- one order more
 push : (ds : List Done) (d : Done) → AllByRecursion IsDoneInRange ds → IsDoneInRange d → AllByRecursion IsDoneInRange (ds ++ d ∷ [])
 push [] d h k = (k, tt)
 push (e ∷ ds) d h k = (h.0, push ds d h.1 k)
 
+-- executed orders name numbers of calls where the orders do
 executed_in_range : (whole : ℕ → ℕ) (ds : List Done) (os : List Order) → AllByRecursion IsDoneInRange ds → AllByRecursion IsOrdered os → AllByRecursion IsDoneInRange (executed whole ds os)
 executed_in_range whole ds [] h k = h
 executed_in_range whole ds (o ∷ os) h k =
@@ -71,11 +74,13 @@ executed_in_range whole ds (o ∷ os) h k =
     executed_in_range whole (ds ++ record { order = o; result = reply_to gone ds o } ∷ []) os
     (push ds (record { order = o; result = reply_to gone ds o }) h (in_range (known_of gone o.stamp ds) o.what k.0.0 k.0.1)) k.1
 
+-- a list's conditions, item by item
 ordered : (os : List Order) → ((k : ℕ) (d : Order) → k < length os → NamesCalls (get_or os k d).what) → ((k : ℕ) (d : Order) → k < length os → HasLevel (get_or os k d).what) → AllByRecursion IsOrdered os
 ordered [] calls levels = tt
 ordered (o ∷ os) calls levels =
     ((calls 0 o (omega arith), levels 0 o (omega arith)), ordered os (λ k d l. calls (suc k) d (omega arith)) (λ k d l. levels (suc k) d (omega arith)))
 
+-- an order that opens a call names a number of one
 named : (c : ℕ) (x : Result Act Refusal) → IfOk x IsInRange → is_this c (opened_by x) ≡ true → IsCallNumber c
 named c (Ok (act.Opened m law)) h e = subst IsCallNumber (sym (eqb-true c m e)) h
 named c (Ok (act.Closed m p)) h e = cc
@@ -85,6 +90,7 @@ named c (Ok (act.LevelSet m v)) h e = cc
 named c (Ok (act.DtxSet m v)) h e = cc
 named c (Err r) h e = cc
 
+-- so a call that some order opened has such a number
 some_named : (c : ℕ) (ds : List Done) → AllByRecursion IsDoneInRange ds → is_some (opened_at c ds) ≡ true → IsCallNumber c
 some_named c [] h o = cc
 some_named c (d ∷ ds) h o = elim (cases_Bool (is_this c (opened_by d.result))) [
@@ -92,6 +98,7 @@ some_named c (d ∷ ds) h o = elim (cases_Bool (is_this c (opened_by d.result)))
   | inr e ↦ some_named c ds h.1 (ap (λ (b : Bool). is_some (option_map (λ (d : Done). d.order.stamp) (if b then Some d else find (λ (d : Done). is_this c (opened_by d.result)) ds))) (sym e) ∙ o)
 ]
 
+-- and each call of the run
 opened_named : (r : Run) (c : ℕ) → AreOrders r.orders → IsOpened r c → IsCallNumber c
 opened_named r c are o = some_named c (done_in r) (executed_in_range (whole_in r) [] (filter (λ o. nat_lt o.stamp r.periods) r.orders) tt (each_filter IsOrdered _ r.orders (ordered r.orders are.calls are.levels))) o
 

@@ -24,10 +24,12 @@ use Rattle.farm_run.proofs.Clocks.Last.{all_out, all_down}
 use Rattle.farm_run.proofs.Lines.Sides.{sides_none}
 use Rattle.farm_run.proofs.Lines.Gaining.{out_front, down_front, out_front_from, down_front_from}
 
+-- what holds whatever came out holds of an error
 pub on_err : {T E P : Type 0} (o : Result T E) → P → OnErr o P
 on_err (Ok x) p = tt
 on_err (Err e) p = p
 
+-- a fact of an error that follows from another
 pub err_more : {T E P Q : Type 0} (o : Result T E) → (P → Q) → OnErr o P → OnErr o Q
 err_more (Ok x) h p = tt
 err_more (Err e) h p = h p

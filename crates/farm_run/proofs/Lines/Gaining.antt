@@ -52,6 +52,7 @@ out_front r c m n fails first now l w =
     let more = out_more r c m (n - m) n (omega (arith, l)) in
     subst (HasFront first now) (sym more.1) (front_of fails first now (out_line (who_in r c) (periods_to r c m)) more.0 w)
 
+-- the same of the downlink
 pub down_front : (r : Run) (c m n : ℕ) (fails : Bool) (first now : LineState) → m ≤ n → HasWritten fails first now (down_octets (who_in r c) (periods_to r c m)) → HasFront first now (down_octets (who_in r c) (periods_to r c n))
 down_front r c m n fails first now l w =
     let more = down_on r c m (n - m) n (omega (arith, l)) in
@@ -66,6 +67,7 @@ out_front_from r c k m n fails first now back l w =
     let fits : 160 * k ≤ length old = omega (arith, length-out_line (who_in r c) (periods_to r c m), length-periods_to r c m, back) in
     subst (HasFront first now) (sym (ap (drop (160 * k)) more.1 ∙ drop-append-le (160 * k) old more.0 fits)) (front_of fails first now (drop (160 * k) old) more.0 w)
 
+-- the same of the downlink
 pub down_front_from : (r : Run) (c k m n : ℕ) (fails : Bool) (first now : LineState) → k ≤ m → m ≤ n → HasWritten fails first now (drop (40 * k) (down_octets (who_in r c) (periods_to r c m))) →
     HasFront first now (drop (40 * k) (down_octets (who_in r c) (periods_to r c n)))
 down_front_from r c k m n fails first now back l w =

@@ -13,6 +13,7 @@ use Rattle.farm_run.specs.Runs.{KeepsSides}
 pub sides_none : (lines : ℕ → Side → LineState) → KeepsSides lines lines
 sides_none lines = record { incoming = λ c s i. refl; outgoing = λ c s o. refl }
 
+-- nor in two steps
 pub sides_more : (first before now : ℕ → Side → LineState) → KeepsSides first before → KeepsSides before now → KeepsSides first now
 sides_more first before now was is = record { incoming = λ c s i. is.incoming c s i ∙ was.incoming c s i; outgoing = λ c s o. is.outgoing c s o ∙ was.outgoing c s o }
 

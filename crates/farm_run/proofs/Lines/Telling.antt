@@ -31,6 +31,7 @@ use Rattle.farm_run.proofs.Clocks.Meeting.{stays}
 use Rattle.farm_run.proofs.Clocks.Reaching.{GoneTo}
 
 module _ (os : List Order) (batch : ℕ) (first now : ℕ → Side → LineState) (u : Stage) (g : GoneTo os batch first now u) where
+  -- the lines that are listed as failed
   abbrev pub fails : ℕ → Side → Bool
   fails = is_listed u.farm.failed
 
@@ -46,6 +47,7 @@ module _ (os : List Order) (batch : ℕ) (first now : ℕ → Side → LineState
   own : (r : Run) → IsRunOver os u.clock (is_listed u.farm.failed) first now r → IsRunOver os r.periods (is_listed u.farm.failed) first now r
   own r run = subst (λ (p : ℕ). IsRunOver os p (is_listed u.farm.failed) first now r) (sym run.same_periods) run
 
+  -- the run has the clock's periods
   least : (r : Run) → IsRunOver os u.clock (is_listed u.farm.failed) first now r → u.clock ≤ r.periods
   least r run = let e = run.same_periods in omega (arith, e)
 
@@ -53,9 +55,11 @@ module _ (os : List Order) (batch : ℕ) (first now : ℕ → Side → LineState
   pub at_end : (r : Run) → IsRunOver os u.clock (is_listed u.farm.failed) first now r → IsAtClock r r.periods u.board u.farm.groups (standing u.board u.farm.failed now) first now
   at_end r run = subst (λ (p : ℕ). IsAtClock r p u.board u.farm.groups (standing u.board u.farm.failed now) first now) (sym run.same_periods) (g.at r last (own r run) (least r run) (stays last))
 
+  -- **What is noted and kept there is the run's.**
   pub known_end : (r : Run) → IsRunOver os u.clock (is_listed u.farm.failed) first now r → IsKnown r r.periods u.board u.farm.tallies u.journal
   known_end r run = subst (λ (p : ℕ). IsKnown r p u.board u.farm.tallies u.journal) (sym run.same_periods) (g.known r last (own r run) (least r run) (stays last))
 
+  -- **Its incoming lines that failed did so short of a round's octets.**
   pub short_end : (r : Run) → IsRunOver os u.clock (is_listed u.farm.failed) first now r → FailedShort r batch (is_listed u.farm.failed)
   short_end r run = g.short r last (own r run) (least r run) (stays last)
 

@@ -64,6 +64,7 @@ module _ (t n : ℕ) (b : State) (farm after : FarmMemory) (before now : ℕ →
   rising : Rising w.drained
   rising = its_seats.rising t n b farm after before now ends w a knows b' told o
 
+  -- the calls that are over
   over_on : (c : ℕ) → is_over b c ≡ true → is_over b' c ≡ true
   over_on = its_seats.over_on t n b farm after before now ends w a knows b' told o
 
@@ -93,6 +94,7 @@ module _ (t n : ℕ) (b : State) (farm after : FarmMemory) (before now : ℕ →
       is_listed after.failed c side ≡ fails_in (seat_at w.filled k).place side
   listed_incoming = its_lines.listed_incoming t n b farm after before now ends w a knows b' told o
 
+  -- and of the outgoing lines as they stand
   stands_down : (k c : ℕ) → k < length farm.live → slice_index farm.live k ≡ c → has_failed (seat_at w.drained k).place.down ≡ is_listed after.failed c Down
   stands_down = its_lines.stands_down t n b farm after before now ends w a knows b' told o
 

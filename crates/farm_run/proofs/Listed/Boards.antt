@@ -27,6 +27,7 @@ use Rattle.farm_run.proofs.Listed.Tests.{or_cases, or_first, or_second, is_false
 
 -- ---- a call that is open, and one that is over
 
+-- tests of an open call
 not_over_by : (p q g : Bool) → (p && not q && not g) ≡ true → (g || q) ≡ false
 not_over_by true false false e = refl
 not_over_by true false true e = cc
@@ -37,6 +38,7 @@ not_over_by false q g e = cc
 pub not_over : (b : State) (c : ℕ) → open_now b c ≡ true → is_over b c ≡ false
 not_over b c o = not_over_by (is_some (opened_at c b.done)) (is_some (closed_at c b.done)) (gone_in b c) o
 
+-- nor is a call open that is over
 pub over_shut : (b : State) (c : ℕ) → is_over b c ≡ true → open_now b c ≡ false
 over_shut b c e = is_false (open_now b c) (λ o. true≢false (sym e ∙ not_over b c o))
 
@@ -50,6 +52,7 @@ open_opened b c o = by (opened_now b c) (is_some (closed_at c b.done)) (gone_in 
 
 -- ---- ends are told
 
+-- a call that is gone stays so when an end is told
 gone_one : (s : State) (call at c : ℕ) → gone_in s c ≡ true → gone_in (told_more s call at) c ≡ true
 gone_one s call at c e = elim (cases_Bool (c == call)) [
   | inl q ↦
@@ -66,6 +69,7 @@ gone_one s call at c e = elim (cases_Bool (c == call)) [
     set_past (x ∷ xs) zero l = absurd (omega arith)
     set_past (x ∷ xs) (suc i) l = ap (λ (ys : List (Option ℕ)). x ∷ ys) (set_past xs i (omega arith))
 
+-- and when several are
 gone_told : (s : State) (ends : List CallEnd) (c : ℕ) → gone_in s c ≡ true → gone_in (told_after s ends) c ≡ true
 gone_told s [] c e = e
 gone_told s (d ∷ ends) c e = gone_told (told_more s d.call d.at) ends c (gone_one s d.call d.at c e)
@@ -79,6 +83,7 @@ over_told s ends c e = elim (or_cases (gone_in s c) (is_some (closed_at c s.done
 
 -- ---- orders
 
+-- an order that was found is found with more behind it
 some_more : (o p : Option ℕ) → is_some o ≡ true → is_some (or_else o p) ≡ true
 some_more (Some x) p e = refl
 some_more None p e = cc
@@ -94,6 +99,7 @@ over_turned s n o e c h = subst (λ (m : State). is_over m c ≡ true) (sym e) (
       | inr q ↦ or_second (gone_in s c) (is_some (closed_at c (after_turn s (Some x)).done)) (ap is_some (closed-append c s.done _) ∙ some_more (closed_at c s.done) _ q)
     ]
 
+-- a call that was opened was so after one more order
 opened_turned : (s n : State) (o : Option Order) → n ≡ after_turn s o → (c : ℕ) → opened_now s c ≡ true → opened_now n c ≡ true
 opened_turned s n o e c h = subst (λ (m : State). opened_now m c ≡ true) (sym e) (by o)
   where
@@ -104,6 +110,7 @@ opened_turned s n o e c h = subst (λ (m : State). opened_now m c ≡ true) (sym
 -- ---- what the calls know
 
 module _ (failed : List Line) where
+  -- a call of the farm has its outgoing lines' marks as they are listed
   abbrev Knows : ℕ → Call → Type 0
   Knows c x = (x.down_failed ≡ is_listed failed c Down) × (x.out_failed ≡ is_listed failed c Out)
 
@@ -111,17 +118,21 @@ module _ (failed : List Line) where
   abbrev Leaves : (Call → Call) → Type 0
   Leaves g = (c : ℕ) (x : Call) → Knows c x → Knows c (g x)
 
+  -- that holds of each of two calls, where it holds of one or the other
   either : (c : ℕ) (s : Bool) (o p : Option Call) → (s ≡ true → IfSome o (Knows c)) → IfSome p (Knows c) → IfSome (if s then o else p) (Knows c)
   either c true o p h k = h refl
   either c false o p h k = k
 
+  -- and of a call that is changed in other fields
   mapped : (c : ℕ) (g : Call → Call) → Leaves g → (o : Option Call) → IfSome o (Knows c) → IfSome (option_map g o) (Knows c)
   mapped c g l None h = tt
   mapped c g l (Some x) h = l c x h
 
+  -- so it does of all calls where one is changed
   changed_knows : (n : ℕ) (g : Call → Call) (f : ℕ → Option Call) → Leaves g → ((c : ℕ) → IfSome (f c) (Knows c)) → (c : ℕ) → IfSome (changed n g f c) (Knows c)
   changed_knows n g f l h c = either c (n == c) (option_map g (f c)) (f c) (λ e. mapped c g l (f c) (h c)) (h c)
 
+  -- or freed of its partner
   freed_knows : (p : Option ℕ) (g : Call → Call) (f : ℕ → Option Call) → Leaves g → ((c : ℕ) → IfSome (f c) (Knows c)) → (c : ℕ) → IfSome (freed p g f c) (Knows c)
   freed_knows None g f l h c = h c
   freed_knows (Some p) g f l h c = changed_knows p g f l h c
@@ -131,6 +142,7 @@ module _ (failed : List Line) where
   IsNew (act.Opened n law) = (s : Side) → is_listed failed n s ≡ false
   IsNew _ = Unit {0}
 
+  -- and after any act, if a call that it opens has no listed line
   after_knows : (a : Act) (f : ℕ → Option Call) → IsNew a → ((c : ℕ) → IfSome (f c) (Knows c)) → (c : ℕ) → IfSome (calls_after a f c) (Knows c)
   after_knows (act.Opened n law) f new h c =
       either c (n == c) (Some (new_call n law)) (f c)
@@ -141,10 +153,12 @@ module _ (failed : List Line) where
   after_knows (act.LevelSet n level) f new h c = changed_knows n (set_by (act.LevelSet n level)) f (λ d x k. k) h c
   after_knows (act.DtxSet n mode) f new h c = changed_knows n (set_by (act.DtxSet n mode)) f (λ d x k. k) h c
 
+  -- from calls that are there to all
   each : (c : ℕ) (o : Option Call) → ((y : Call) → o ≡ Some y → Knows c y) → IfSome o (Knows c)
   each c None k = tt
   each c (Some y) k = k y refl
 
+  -- and back
   known : (c : ℕ) (x : Call) (o : Option Call) → IfSome o (Knows c) → o ≡ Some x → Knows c x
   known c x None k r = cc
   known c x (Some y) k r = subst (Knows c) (some y x r) k

@@ -33,6 +33,7 @@ rose_before first before now l r = omega arith
 pub rose_after : (first before now : ℕ) → before ≤ now → Rose first before → Rose first now
 rose_after first before now l r = omega arith
 
+-- no count fell in two steps
 pub fell_more : (first before now : ℕ → Side → LineState) → NeverFell first before → NeverFell before now → NeverFell first now
 fell_more first before now l m c s = let a = l c s in let b = m c s in omega arith
 
@@ -43,6 +44,7 @@ moved_later before now was stands octets (inr e) = let same = ap (λ (l : LineSt
 
 -- ---- the lines that failed in a round
 
+-- a line by its call and its side
 abbrev pub Name : Type 0
 Name = ℕ × Side
 
@@ -58,6 +60,7 @@ listed_side p (z ∷ xs) s h e = by (fails_in p z) refl (cons_cases z xs s h) (�
     by false q (inr k) rest = rest k
     by true q (inr k) rest = Contains-append_right ((p.call, z) ∷ []) (filter_map (name_where_failed p) xs) (p.call, s) (rest k)
 
+-- a line that a seat names failed in the round
 side_listed : (p : PlaceMemory) (xs : List Side) (y : Name) → Contains (filter_map (name_where_failed p) xs) y → (s : Side) × (y ≡ (p.call, s)) × (fails_in p s ≡ true)
 side_listed p [] y h = absurd (none_in y h)
 side_listed p (z ∷ xs) y h = by (fails_in p z) refl h (side_listed p xs y)
@@ -67,6 +70,7 @@ side_listed p (z ∷ xs) y h = by (fails_in p z) refl h (side_listed p xs y)
     by false q k rest = rest k
     by true q k rest = elim (cons_cases (p.call, z) (filter_map (name_where_failed p) xs) y k) [ inl e ↦ (z, sym e, q) | inr m ↦ rest m ]
 
+-- each side is one of the four
 a_side : (s : Side) → Contains sides s
 a_side Up = (0, omega arith, refl)
 a_side Pcm = (1, omega arith, refl)
@@ -77,6 +81,7 @@ a_side Out = (3, omega arith, refl)
 abbrev pub names : List SeatMemory → List Name
 names seats = flat_map (λ s. failed_in_round s.place) seats
 
+-- a line that failed in the round is among the names of the seats
 pub seat_listed : (seats : List SeatMemory) (k : ℕ) (s : Side) → k < length seats → fails_in (seat_at seats k).place s ≡ true → Contains (names seats) (call_at seats k, s)
 seat_listed [] k s l e = absurd (omega arith)
 seat_listed (x ∷ seats) zero s l e = Contains-append_left (failed_in_round x.place) (names seats) (x.place.call, s) (listed_side x.place sides s (a_side s) e)
@@ -90,6 +95,7 @@ pub record Lists (seats : List SeatMemory) (y : Name) : Type 0 where
   pub name : y ≡ (call_at seats k, side)
   pub fails : fails_in (seat_at seats k).place side ≡ true
 
+-- a name among them is of a line that failed
 pub listed_seat : (seats : List SeatMemory) (y : Name) → Contains (names seats) y → Lists seats y
 listed_seat [] y h = absurd (none_in y h)
 listed_seat (x ∷ seats) y h = elim (Contains-append_cases (failed_in_round x.place) (names seats) y h) [
@@ -105,11 +111,13 @@ listed_before before now seats y g h =
     Contains-permutation (map line_name g.lines) (map line_name now) y (IsPermutation-map line_name g.lines now g.same)
     (subst (λ xs. Contains xs y) (sym g.told) (elim h [ inl a ↦ Contains-append_left (map line_name before) (names seats) y a | inr b ↦ Contains-append_right (map line_name before) (names seats) y b ]))
 
+-- and behind it a line is listed that was so before or failed in it
 pub listed_after : (before now : List Line) (seats : List SeatMemory) (y : Name) → GainsFailed before now seats → Contains (map line_name now) y → Contains (map line_name before) y ⊎ Contains (names seats) y
 listed_after before now seats y g h = Contains-append_cases (map line_name before) (names seats) y
     (subst (λ xs. Contains xs y) g.told (Contains-permutation (map line_name now) (map line_name g.lines) y (IsPermutation-map line_name now g.lines (IsPermutation-sym g.lines now g.same)) h))
 
 module _ (t n : ℕ) (farm after : FarmMemory) (before now : ℕ → Side → LineState) (ends : List CallEnd) (w : WorkedRound t n farm after before now ends) where
+  -- there are as many seats as open calls
   long : length w.drained ≡ length farm.live
   long = w.drained_number ∙ w.worked_number ∙ w.filled_number ∙ w.number
 

@@ -24,15 +24,19 @@ use Rattle.farm_run.proofs.Listed.Tests.{one_line, same_test}
 abbrev pub line_place : Line → ℕ
 line_place l = place_of l.call l.side
 
+-- where a line stands in the order of all lines
 abbrev place : Name → ℕ
 place y = place_of y.0 y.1
 
+-- two names of one line
 abbrev same : Name → Name → Bool
 same y z = place y == place z
 
+-- no two lines stand there alike
 same_name : (y z : Name) → place z ≡ place y → z ≡ y
 same_name y z e = let p = one_line y.0 z.0 y.1 z.1 e in ap (λ (d : ℕ). (d, z.1)) p.0 ∙ ap (λ (s : Side). (y.0, s)) p.1
 
+-- the order of the two doesn't matter
 flips : (y z : Name) → same y z ≡ same z y
 flips y z = same_test (same y z) (same z y) (λ e. eq-eqb (place z) (place y) (sym (eqb-true (place y) (place z) e))) (λ e. eq-eqb (place y) (place z) (sym (eqb-true (place z) (place y) e)))
 
@@ -43,14 +47,17 @@ abbrev RisesFrom : ℕ → List Name → Type 0
 RisesFrom n [] = Unit {0}
 RisesFrom n (y ∷ ys) = (n ≤ place y) × RisesFrom (suc (place y)) ys
 
+-- names that rise from a number on rise from any lower one
 rises_sooner : (n m : ℕ) (ys : List Name) → n ≤ m → RisesFrom m ys → RisesFrom n ys
 rises_sooner n m [] l r = tt
 rises_sooner n m (y ∷ ys) l r = let k = r.0 in (omega arith, r.1)
 
+-- a line that stands lower isn't among them
 apart : (x n : ℕ) (ys : List Name) → x < n → RisesFrom n ys → AllByRecursion (λ z. x == place z ≡ false) ys
 apart x n [] l r = tt
 apart x n (y ∷ ys) l r = let k = r.0 in (ne_eqb x (place y) (λ e. absurd (omega (arith, e, k, l))), apart x (suc (place y)) ys (omega arith) r.1)
 
+-- names that rise are of different lines
 rising_distinct : (n : ℕ) (ys : List Name) → RisesFrom n ys → IsDistinct same ys
 unfolding IsDistinct
 rising_distinct n [] r = tt
@@ -75,6 +82,7 @@ one_side p z zs rest n l r = by (fails_in p z) refl
     by true q = (l, r)
     by false q = rises_sooner n (suc (place_of p.call z)) (filter_map (name_where_failed p) zs ++ rest) (omega arith) r
 
+-- the names of a seat rise, and stand before those of later ones
 one_seat : (p : PlaceMemory) (rest : List Name) (n : ℕ) → n ≤ 4 * p.call → RisesFrom (4 * p.call + 4) rest → RisesFrom n (failed_in_round p ++ rest)
 one_seat p rest n l r =
     one_side p Up (Pcm ∷ Down ∷ Out ∷ []) rest n (omega arith)
@@ -83,6 +91,7 @@ one_seat p rest n l r =
     (one_side p Out [] rest (suc (place_of p.call Down)) (omega arith)
     (rises_sooner (suc (place_of p.call Out)) (4 * p.call + 4) rest (omega arith) r))))
 
+-- so the names of all seats rise
 seats_rise : (seats : List SeatMemory) (n : ℕ) → Rising seats → (0 < length seats → n ≤ 4 * call_at seats 0) → RisesFrom n (names seats)
 seats_rise [] n r l = tt
 seats_rise (x ∷ seats) n r l = one_seat x.place (names seats) n (l (omega arith)) (seats_rise seats (4 * x.place.call + 4) (λ i j a m. r (suc i) (suc j) (omega arith) (omega arith)) next)
@@ -92,6 +101,7 @@ seats_rise (x ∷ seats) n r l = one_seat x.place (names seats) n (l (omega arit
 
 -- ---- names that differ
 
+-- a line that isn't among some differs from each
 differs : (y : Name) (ys : List Name) → (Contains ys y → ⊥) → AllByRecursion (λ z. same y z ≡ false) ys
 differs y [] h = tt
 differs y (z ∷ ys) h = (
@@ -99,6 +109,7 @@ differs y (z ∷ ys) h = (
   differs y ys (λ m. h (Contains-append_right (z ∷ []) ys y m)),
 )
 
+-- two lists of different lines that share none are one such list
 distinct_append : (xs ys : List Name) → IsDistinct same xs → IsDistinct same ys → ((y : Name) → Contains xs y → Contains ys y → ⊥) → IsDistinct same (xs ++ ys)
 unfolding IsDistinct
 distinct_append [] ys d e h = e
@@ -107,6 +118,7 @@ distinct_append (x ∷ xs) ys d e h = (
   distinct_append xs ys d.1 e (λ y m. h y (Contains-append_right (x ∷ []) xs y m)),
 )
 
+-- different lines stand differently
 distinct_places : (lines : List Line) → IsDistinct same (map line_name lines) → IsDistinct eqb (map line_place lines)
 unfolding IsDistinct
 distinct_places [] d = tt
@@ -116,6 +128,7 @@ distinct_places (l ∷ lines) d = (others lines d.0, distinct_places lines d.1)
     others [] a = tt
     others (k ∷ ls) a = (a.0, others ls a.1)
 
+-- lines that are sorted so never fall
 not_falling : (lines : List Line) → IsNonDecreasingBy line_place lines → IsNonDecreasing (map line_place lines)
 not_falling [] h i j d l m = absurd (omega arith)
 not_falling (x ∷ lines) h i j d l m =

@@ -78,12 +78,14 @@ module _ (t n : ℕ) (b : State) (farm after : FarmMemory) (before now : ℕ →
 
   -- ---- the listed lines
 
+  -- a line that is listed behind the round was so before, or a seat names it
   pub listed_cases : (c : ℕ) (side : Side) → is_listed after.failed c side ≡ true → (is_listed farm.failed c side ≡ true) ⊎ Lists w.drained (c, side)
   listed_cases c side e = elim (listed_after farm.failed after.failed w.drained (c, side) w.gains (listed_name after.failed c side e)) [
     | inl m ↦ inl (name_listed farm.failed c side m)
     | inr m ↦ inr (listed_seat w.drained (c, side) m)
   ]
 
+  -- one that was listed still is
   pub listed_still : (c : ℕ) (side : Side) → is_listed farm.failed c side ≡ true → is_listed after.failed c side ≡ true
   listed_still c side e = name_listed after.failed c side (listed_before farm.failed after.failed w.drained (c, side) w.gains (inl (listed_name farm.failed c side e)))
 
@@ -135,6 +137,7 @@ module _ (t n : ℕ) (b : State) (farm after : FarmMemory) (before now : ℕ →
   not_listed : (k c : ℕ) (side : Side) → k < length farm.live → slice_index farm.live k ≡ c → IsIncoming side → is_listed farm.failed c side ≡ false
   not_listed k c side l e i = is_false (is_listed farm.failed c side) (λ q. let s = seated k c l e in true≢false (sym (knows.ended c side i q) ∙ s.not_yet))
 
+  -- so an open call's incoming line is listed where it failed in the round
   pub listed_incoming : (k c : ℕ) (side : Side) → k < length farm.live → slice_index farm.live k ≡ c → IsIncoming side → is_listed after.failed c side ≡ fails_in (seat_at w.filled k).place side
   listed_incoming k c side l e i =
       listed_seated k c side l e ∙ ap (λ (x : Bool). x || fails_in (seat_at w.drained k).place side) (not_listed k c side l e i) ∙ marks_kept k c side l e i
@@ -154,6 +157,7 @@ module _ (t n : ℕ) (b : State) (farm after : FarmMemory) (before now : ℕ →
       back true = refl
       back false = refl
 
+  -- and behind it
   pub stands_down : (k c : ℕ) → k < length farm.live → slice_index farm.live k ≡ c → has_failed (seat_at w.drained k).place.down ≡ is_listed after.failed c Down
   stands_down k c l e =
       let s = seated k c l e in

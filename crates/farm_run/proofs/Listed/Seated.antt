@@ -37,6 +37,7 @@ over_by true false true p' q' g' a b e f = cc
 over_by true true g p' q' g' a b e f = cc
 over_by false q g p' q' g' a b e f = cc
 
+-- a seat with fewer octets than its periods have lacks one of the periods
 pub fewer_up : (p : PlaceMemory) (n : ℕ) → p.up.count < 40 * n → places.whole_in p < n
 fewer_up p n l = by p.up.count p.pcm.count l
   where
@@ -51,17 +52,20 @@ fewer_pcm p n l = by p.up.count p.pcm.count l
 
 module _ (t n : ℕ) (b : State) (farm after : FarmMemory) (before now : ℕ → Side → LineState) (ends : List CallEnd) (w : WorkedRound t n farm after before now ends) (a : AtClock t b farm.groups)
     (knows : KnowsListed b farm.groups farm.failed) (b' : State) (told : b' ≡ told_after b ends) (o : (c : ℕ) → open_now b' c ≡ (open_now b c && not (is_told c ends))) where
+  -- telling ends executes no order
   pub done_is : b'.done ≡ b.done
   done_is = ap (λ (s : State). s.done) told ∙ told_done b ends
 
   -- ---- the seats
 
+  -- there are as many seats as open calls,
   pub long : length w.filled ≡ length farm.live
   long = w.filled_number ∙ w.number
 
   pub long_drained : length w.drained ≡ length farm.live
   long_drained = w.drained_number ∙ w.worked_number ∙ long
 
+  -- by rising numbers
   pub rising : Rising w.drained
   rising = still_rising w.worked w.drained w.worked_rising w.drained_number (λ k l. ap (λ (s : SeatMemory). s.place.call) (w.drains k l).kept)
 
@@ -75,6 +79,7 @@ module _ (t n : ℕ) (b : State) (farm after : FarmMemory) (before now : ℕ →
     pub is_open : open_now b c ≡ true
     pub not_yet : is_over b c ≡ false
 
+  -- the seat of an open call, by where its number stands
   pub seated : (k c : ℕ) → k < length farm.live → slice_index farm.live k ≡ c → Seated k c
   seated k c l e =
       let f = seat_facts t n farm after before now ends w k c l e in
@@ -91,6 +96,7 @@ module _ (t n : ℕ) (b : State) (farm after : FarmMemory) (before now : ℕ →
 
   -- ---- the calls that are over
 
+  -- a call that is over stays so
   pub over_on : (c : ℕ) → is_over b c ≡ true → is_over b' c ≡ true
   over_on c e = subst (λ (s : State). is_over s c ≡ true) (sym told) (over_told b ends c e)
 

@@ -13,6 +13,7 @@ use Rattle.farm_run.specs.Runs.{is_listed}
 
 -- ---- members of lists
 
+-- a list of one item has that
 one_of : {X : Type 0} (y x : X) (k : ℕ) → k < length (y ∷ []) → get_or (y ∷ []) k x ≡ x → y ≡ x
 one_of y x zero l e = e
 one_of y x (suc k) l e = absurd (omega arith)
@@ -38,6 +39,7 @@ pub or_second : (p q : Bool) → q ≡ true → (p || q) ≡ true
 or_second true q e = refl
 or_second false q e = e
 
+-- tests that follow from each other are the same
 pub same_test : (p q : Bool) → (p ≡ true → q ≡ true) → (q ≡ true → p ≡ true) → p ≡ q
 same_test true q f g = sym (f refl)
 same_test false true f g = g refl
@@ -76,6 +78,7 @@ listed_name (l ∷ lines) c s e = elim (or_cases (place_of l.call l.side == plac
   | inr q ↦ Contains-append_right (line_name l ∷ []) (map line_name lines) (c, s) (listed_name lines c s q)
 ]
 
+-- a line is listed where its name is
 pub name_listed : (lines : List Line) (c : ℕ) (s : Side) → Contains (map line_name lines) (c, s) → is_listed lines c s ≡ true
 name_listed [] c s h = absurd (none_in (c, s) h)
 name_listed (l ∷ lines) c s h = elim (cons_cases (line_name l) (map line_name lines) (c, s) h) [
@@ -87,5 +90,6 @@ name_listed (l ∷ lines) c s h = elim (cons_cases (line_name l) (map line_name 
 pub listed_head : (l : Line) (lines : List Line) → is_listed (l ∷ lines) l.call l.side ≡ true
 listed_head l lines = or_first (place_of l.call l.side == place_of l.call l.side) (is_listed lines l.call l.side) (eq-eqb (place_of l.call l.side) (place_of l.call l.side) refl)
 
+-- a test doesn't come out both ways
 pub no : (b : Bool) → b ≡ false → b ≡ true → ⊥
 no b p q = cc

@@ -50,6 +50,7 @@ rises_of m [] least rising = tt
 rises_of m (x ∷ xs) least rising =
     (least 0 (omega arith), rises_of (suc x) xs (λ i l. let k = rising 0 (suc i) (omega arith) (omega arith) in omega (arith, k)) (λ i j l k. rising (suc i) (suc j) (omega arith) (omega arith)))
 
+-- two tests of whether a number is among some
 has_among : (c : ℕ) (xs : List ℕ) → has c xs ≡ is_among xs c
 has_among c [] = refl
 has_among c (x ∷ xs) = ap (λ (b : Bool). b || has c xs) (turn (c == x) refl) ∙ ap (λ (b : Bool). (x == c) || b) (has_among c xs)
@@ -68,10 +69,12 @@ twice_more p q x xs rest true = within (p x)
     within true = ap (λ (ys : List ℕ). x ∷ ys) rest
     within false = rest
 
+-- two tests one after the other are one
 filter_twice : (p q : ℕ → Bool) (xs : List ℕ) → filter p (filter q xs) ≡ filter (λ c. q c && p c) xs
 filter_twice p q [] = refl
 filter_twice p q (x ∷ xs) = twice_more p q x xs (filter_twice p q xs) (q x)
 
+-- entries that are the same one by one are so as a list
 map_each : (f g : ℕ → MarkCall) (xs : List ℕ) → AllByRecursion (λ c. f c ≡ g c) xs → map f xs ≡ map g xs
 map_each f g [] e = refl
 map_each f g (x ∷ xs) e = ap (λ (y : MarkCall). y ∷ map f xs) e.0 ∙ ap (λ (ys : List MarkCall). g x ∷ ys) (map_each f g xs e.1)
@@ -86,6 +89,7 @@ not_limit k g = by (nat_lt g.up (40 * (k + 1))) g.up_failed g.pcm_failed
     by false u true = refl
     by false u false = refl
 
+-- the cause of an end
 abbrev cause_of : CallEnd → Cause
 cause_of e = e.cause
 
@@ -124,18 +128,23 @@ module _ (s : Stage) (live : (c : ℕ) → is_among s.farm.live c ≡ is_some (c
   -- ---- they are the run's
 
   module _ (r : Run) (last : Standing) (first now : ℕ → Side → LineState) (at : IsAtClock r s.clock s.board s.farm.groups last first now) (e : s.clock ≡ r.periods) where
+    -- the executed orders
     abbrev ds : List Done
     ds = s.board.done
 
+    -- no order is left before the run's end
     left_none : IfSome (first_stamp s.board.left) (λ m. r.periods ≤ m)
     left_none = let k = stage.clock in subst (λ (t : ℕ). IfSome (first_stamp s.board.left) (λ m. t ≤ m)) e k.ahead
 
+    -- so they are all that the run executes
     all : done_in r ≡ ds
     all = all_done r s.clock ds s.board.left at.follows.so_far left_none
 
+    -- whether a call is open at the run's end
     alive : ℕ → Bool
     alive = is_open (gone_at (whole_in r) s.clock ds) ds
 
+    -- the farm's live calls are those
     is_alive : (c : ℕ) → is_among s.farm.live c ≡ is_open (gone_at (whole_in r) s.clock ds) ds c
     is_alive c = let k = stage.clock in live c ∙ k.matches.is_open c ∙ open_told (whole_in r) s.clock s.board at.follows.tells c
 

@@ -44,6 +44,7 @@ use Rattle.farm_run.proofs.Lines.Telling.{there, at_end, short_end, report_end, 
 -- ---- cut short
 
 module _ (os : List Order) (batch periods : ℕ) (first now : ℕ → Side → LineState) (u : Stage) (g : GoneTo os batch first now u) (l : u.clock ≤ periods) where
+  -- a longer run is at this clock
   at_here : (r : Run) → IsRunOver os r.periods (is_listed u.farm.failed) first now r → periods ≤ r.periods → IsAtClock r u.clock u.board u.farm.groups (standing u.board u.farm.failed now) first now
   at_here r run least = g.at r (standing u.board u.farm.failed now) run (omega (arith, l, least)) (stays (standing u.board u.farm.failed now))
 
@@ -89,12 +90,15 @@ unbegun_cut os periods from lines = cut_before os periods from [] lines lines (t
 module _ (os : List Order) (pace : Pace) (mark : MarkView) (o : Outgoing) (s m : Stage) (first mid : ℕ → Side → LineState) (begins : IsFirstStage os o s) (held : is_held o ≡ true) (summed : is_summed o ≡ true)
     (none : (c : ℕ) (side : Side) → sum_to o c side ≡ 0) (come : Reaches pace.batch s m first mid) (e : m.clock ≡ mark.period)
     (live : (c : ℕ) → is_among m.farm.live c ≡ is_some (call_in m.farm.groups c)) (rising : IsRising m.farm.live) (calls : List MarkCall) (entries : calls ≡ map (entry_of m) m.farm.live) where
+  -- the run to the mark's period
   g : GoneTo os pace.batch first mid m
   g = gone_more os pace.batch first first mid s m (gone_first os pace.batch o s first begins) come
 
+  -- nothing of it was written
   back : HoldsBack (is_listed []) (is_listed m.farm.failed) first mid
   back = subst (λ (ls : List Line). HoldsBack (is_listed ls) (is_listed m.farm.failed) first mid) begins.none_failed (come.back (ap is_held begins.way ∙ held))
 
+  -- its sums are those of all octets before the mark
   sums : (r : Run) (z : Standing) → IsRunOver os r.periods z.listed first z.lines r → m.clock ≤ r.periods → StandingGoesOn (standing m.board m.farm.failed mid) z → SumsAt r m.clock (sum_to m.outgoing)
   sums = summed_first os pace.batch o s m first mid begins summed none come
 
@@ -122,9 +126,11 @@ module _ (os : List Order) (pace : Pace) (mark : MarkView) (o : Outgoing) (s m :
   abbrev written : Stage
   written = record m { outgoing = Written }
 
+  -- from there on octets are written
   pub stage_written : IsStage (record m { outgoing = Written })
   stage_written = let s = g.stage in record { clock = s.clock; shut = s.shut; bridges = s.bridges; ended = s.ended; knows = s.knows; few = s.few }
 
+  -- the run to there is the same
   gone_written : GoneTo os pace.batch first mid (record m { outgoing = Written })
   gone_written = record { stage = stage_written; kept = g.kept; fell = g.fell; tells = g.tells; sides = g.sides; reads = g.reads; at = g.at; known = g.known; short = g.short }
 
@@ -140,6 +146,7 @@ module _ (os : List Order) (pace : Pace) (mark : MarkView) (o : Outgoing) (s m :
           subst (λ (x : Bool). HasWritten x was is octets) (sym f) (subst (Appends was.written is.written) (sym n) (subst (λ (x : LineState). Appends was.written x.written []) (sym l) (Appends-nil was.written)))
 
   module _ (now : ℕ → Side → LineState) (u : Stage) (h : Reaches pace.batch (record m { outgoing = Written }) u mid now) where
+    -- and goes on
     pub gone_on : GoneTo os pace.batch first now u
     gone_on = gone_more os pace.batch first mid now (record m { outgoing = Written }) u gone_written h
 

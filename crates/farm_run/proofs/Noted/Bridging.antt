@@ -37,6 +37,7 @@ pushed f g d e (w ∷ xs) (z ∷ ys) x y l h q (suc k) = pushed f g d e xs ys x 
 last_or : {X : Type 0} (xs : List X) (x : X) (k : ℕ) → k < length (xs ++ x ∷ []) → (k < length xs) ⊎ (k ≡ length xs)
 last_or xs x k l = elim (cases_lt k (length xs)) [ inl m ↦ inl m | inr m ↦ inr (let e = length-append xs (x ∷ []) in omega arith) ]
 
+-- the latest bridge of a call that isn't in the new one stays
 latest_push : (xs : List Bridge) (y : Bridge) (c : ℕ) (o : Option ℕ) → joins c y ≡ false → IsLatest xs c o → IsLatest (xs ++ y ∷ []) c o
 latest_push xs y c o f h = by o h
   where
@@ -67,18 +68,23 @@ pub record IsBridging (ds now : List Done) (a b : ℕ) : Type 0 where
 -- **It is the latest one of both calls; what they sent in the one before has been noted.**
 module _ (r : Run) (ds now : List Done) (ended : ℕ → Bool) (j : JournalMemory) (tally : ℕ → Tally) (a b : ℕ) (h : IsBridging ds now a b) (f : (ended a ≡ false) × (ended b ≡ false)) (ends : EndsNoted r ended j.ends)
     (p : PlacesNoted ds j) (s : SentNoted r ds (or_this (or_this (λ c. false) a) b) j) (kept : (c : ℕ) → ended c ≡ true → IsKept r j.calls c (tally c)) where
+  -- the new bridge stands behind those so far
   abbrev place : ℕ
   place = length j.bridges
 
+  -- what is noted of calls then
   abbrev calls : List Opening
   calls = bridged_at b place (bridged_at a place j.calls)
 
+  -- and of the bridge
   abbrev made : BridgeNote
   made = record { a = a; b = b; sent_by_a = 0; sent_by_b = 0 }
 
+  -- its calls have numbers of calls
   numbers : IsCallNumber a × IsCallNumber b
   numbers = (p.numbers a h.both.0, p.numbers b h.both.1)
 
+  -- so many bridges were before it
   count : length h.front ≡ place
   count = let sides = h.sides in sides.count ∙ sym p.count
 
@@ -95,17 +101,21 @@ module _ (r : Run) (ds now : List Done) (ended : ℕ → Bool) (j : JournalMemor
       within : (c : ℕ) → c ≤ 4096 → {n : ℕ} → n ≡ 4097 → c < n
       within c l e = omega arith
 
+  -- of other calls the same is noted
   other : (c : ℕ) → (c == a || c == b) ≡ false → opening_of calls c ≡ opening_of j.calls c
   other c e =
       get_or-set_other (bridged_at a place j.calls) b c _ no_opening (λ q. no (c == b) (or_parts (c == a) (c == b) e).1 (eq-eqb c b q))
       ∙ get_or-set_other j.calls a c _ no_opening (λ q. no (c == a) (or_parts (c == a) (c == b) e).0 (eq-eqb c a q))
 
+  -- each call begins where it did
   from_is : (c : ℕ) → (opening_of calls c).from ≡ (opening_of j.calls c).from
   from_is c = part_kept (λ (x : Opening). x.from) no_opening (bridged_at a place j.calls) b _ refl c ∙ part_kept (λ (x : Opening). x.from) no_opening j.calls a _ refl c
 
+  -- the new bridge is of its two calls
   joins_last : (c : ℕ) → joins c h.last ≡ (c == a || c == b)
   joins_last c = ap (λ (x : ℕ). c == x || c == (h.last).b) h.calls.0 ∙ ap (λ (x : ℕ). c == a || c == x) h.calls.1
 
+  -- it is one bridge more
   long : length (bridges now) ≡ suc place
   long = let e = length-append h.front (h.last ∷ []) in let c = count in ap length h.all ∙ omega arith
 
@@ -113,9 +123,11 @@ module _ (r : Run) (ds now : List Done) (ended : ℕ → Bool) (j : JournalMemor
   there : (k : ℕ) → k < place → bridge_at now k ≡ get_or h.front k no_bridge
   there k l = ap (λ (bs : List Bridge). get_or bs k no_bridge) h.all ∙ get_or_append_left h.front (h.last ∷ []) no_bridge k (let c = count in omega arith)
 
+  -- the last one
   at_last : bridge_at now place ≡ h.last
   at_last = ap (λ (bs : List Bridge). get_or bs place no_bridge) h.all ∙ ap (λ (k : ℕ). get_or (h.front ++ h.last ∷ []) k no_bridge) (sym count) ∙ get_or-append_seam h.front h.last [] no_bridge
 
+  -- each call's latest bridge is noted
   latest : (c : ℕ) → is_opened ds c ≡ true → IsLatest (bridges now) c (opening_of calls c).bridge
   latest c o = elim (cases_Bool (c == a || c == b)) [
     | inl e ↦ subst (IsLatest (bridges now) c) (sym (place_is c e)) (omega (arith, long), ap (joins c) at_last ∙ joins_last c ∙ e, λ k m l. absurd (omega (arith, long)))
@@ -125,15 +137,18 @@ module _ (r : Run) (ds now : List Done) (ended : ℕ → Bool) (j : JournalMemor
         (latest_push h.front h.last c (opening_of j.calls c).bridge (joins_last c ∙ e) (latest_same h.front (bridges ds) c (opening_of j.calls c).bridge h.sides (p.latest c o))))
   ]
 
+  -- a bridge is one of those before, or the new one
   which : (k : ℕ) → k < length (bridges now) → (k < place) ⊎ (k ≡ place)
   which k l = elim (cases_lt k place) [ inl m ↦ inl m | inr m ↦ inr (omega (arith, long)) ]
 
+  -- no bridge is of one call twice
   apart : (k : ℕ) → k < length (bridges now) → (bridge_at now k).a ≢ (bridge_at now k).b
   apart k l = elim (which k l) [
     | inl m ↦ subst (λ (x : Bridge). x.a ≢ x.b) (sym (there k m)) (let sides = h.sides in λ e. p.apart k (let c = p.count in omega arith) (sym (sides.a k) ∙ e ∙ sides.b k))
     | inr q ↦ subst (λ (k : ℕ). (bridge_at now k).a ≢ (bridge_at now k).b) (sym q) (subst (λ (x : Bridge). x.a ≢ x.b) (sym at_last) (λ e. h.apart (sym h.calls.0 ∙ e ∙ h.calls.1)))
   ]
 
+  -- what calls have sent is noted of the same bridges, and of the new one that is nothing
   sent : SentNoted r now (λ c. false) (with_bridge_noted a b j)
   sent c k l g i = elim (which k l) [
     | inl m ↦
@@ -146,6 +161,7 @@ module _ (r : Run) (ds now : List Done) (ended : ℕ → Bool) (j : JournalMemor
       settles e (inl t) = t
       settles e (inr t) = absurd (no false refl (i (ap (λ (x : Opening). x.bridge) (other c t) ∙ e)))
 
+  -- **All that is to be noted of the bridge is.**
   pub noted_bridged : IsNoted r now ended (with_bridge_noted a b j) tally
   noted_bridged = record {
     ends = ends;

@@ -34,12 +34,14 @@ told_has P c (e ∷ ends) a h = elim (cases_eq c e.call) [
   | inr n ↦ told_has P c ends a.1 (right_true (c == e.call) (is_told c ends) (ne_eqb c e.call n) h)
 ]
 
+-- two lists of ends of different calls are one
 apart_append : (xs ys : List CallEnd) → AreApart xs → AreApart ys → ((c : ℕ) → is_told c xs ≡ true → is_told c ys ≡ false) → AreApart (xs ++ ys)
 apart_append [] ys a b h = b
 apart_append (e ∷ xs) ys a b h =
     let new : is_told e.call ys ≡ false = h e.call (ap (λ (s : Bool). s || is_told e.call xs) (eq-eqb e.call e.call refl)) in
     (list_any-append (λ (d : CallEnd). e.call == d.call) xs ys ∙ ap (λ (s : Bool). s || is_told e.call ys) a.0 ∙ new, apart_append xs ys a.1 b (λ c t. h c (or_right (c == e.call) (is_told c xs) t)))
 
+-- ends leave where the latest bridges stand
 places_ended : (ds : List Done) (j : JournalMemory) (ends : List CallEnd) → PlacesNoted ds j → PlacesNoted ds (with_ends ends j)
 places_ended ds j ends p = record { long = p.long; numbers = p.numbers; from = p.from; latest = p.latest; count = p.count; calls = p.calls; apart = p.apart }
 
@@ -86,14 +88,17 @@ noted_same r ds ended now j tally tally' n e f =
 
 -- ---- lists of bridges with the same calls
 
+-- as many bridges, of the same calls
 pub record SameSides (xs ys : List Bridge) : Type 0 where
   pub count : length xs ≡ length ys
   pub a : (k : ℕ) → (get_or xs k no_bridge).a ≡ (get_or ys k no_bridge).a
   pub b : (k : ℕ) → (get_or xs k no_bridge).b ≡ (get_or ys k no_bridge).b
 
+-- the same calls are in them
 pub joins_same : (xs ys : List Bridge) (c k : ℕ) → SameSides xs ys → joins c (get_or xs k no_bridge) ≡ joins c (get_or ys k no_bridge)
 joins_same xs ys c k s = ap (λ (a : ℕ). c == a || c == (get_or xs k no_bridge).b) (s.a k) ∙ ap (λ (b : ℕ). c == (get_or ys k no_bridge).a || c == b) (s.b k)
 
+-- an order ends bridges and leaves their calls
 pub after_sides : (d : Done) (bs : List Bridge) → SameSides (map (after d) bs) bs
 after_sides d bs = record { count = long bs; a = left bs; b = right bs }
   where
@@ -111,6 +116,7 @@ after_sides d bs = record { count = long bs; a = left bs; b = right bs }
     right (x ∷ bs) zero = refl
     right (x ∷ bs) (suc k) = right bs k
 
+-- so each call's latest bridge stays
 pub latest_same : (xs ys : List Bridge) (c : ℕ) (o : Option ℕ) → SameSides xs ys → IsLatest ys c o → IsLatest xs c o
 latest_same xs ys c None s h = let count = s.count in λ j l. joins_same xs ys c j s ∙ h j (omega arith)
 latest_same xs ys c (Some k) s h =
@@ -153,6 +159,7 @@ kept_same r calls now c x e k = record { counts = k.counts; sent = λ p f. k.sen
 
 -- ---- a call is opened
 
+-- an order that opens a call, beside those before it
 pub record IsOpening (ds now : List Done) (m t : ℕ) : Type 0 where
   pub number : IsCallNumber m
   pub new : is_opened ds m ≡ false
@@ -165,24 +172,31 @@ pub record IsOpening (ds now : List Done) (m t : ℕ) : Type 0 where
 
 -- **Its first period is noted.**
 module _ (r : Run) (ds now : List Done) (ended : ℕ → Bool) (j : JournalMemory) (tally : ℕ → Tally) (m t : ℕ) (h : IsOpening ds now m t) (f : ended m ≡ false) (n : IsNoted r ds ended j tally) where
+  -- what is noted of the call that is opened
   abbrev new : Opening
   new = record { from = t; bridge = None }
 
+  -- and of all
   abbrev calls : List Opening
   calls = set j.calls m new
 
+  -- where the latest bridges stood before
   abbrev p : PlacesNoted ds j
   p = n.places
 
+  -- of the call that is opened
   itself : opening_of calls m ≡ new
   itself = get_or-set_same j.calls m new no_opening (let k = h.number.1 in let long = p.long in omega arith)
 
+  -- of others the same is noted
   other : (c : ℕ) → c ≢ m → opening_of calls c ≡ opening_of j.calls c
   other c q = get_or-set_other j.calls m c new no_opening q
 
+  -- a call that was opened is this one, or was so before
   which : (c : ℕ) → is_opened now c ≡ true → (c ≡ m) ⊎ ((c ≢ m) × (is_opened ds c ≡ true))
   which c o = elim (cases_eq c m) [ inl q ↦ inl q | inr q ↦ inr (q, right_true (c == m) (is_opened ds c) (ne_eqb c m q) (sym (h.opened c) ∙ o)) ]
 
+  -- no bridge is new
   within : (k : ℕ) → k < length (bridges now) → k < length (bridges ds)
   within k l = let sides = h.sides in let count = sides.count in omega arith
 
@@ -190,26 +204,31 @@ module _ (r : Run) (ds now : List Done) (ended : ℕ → Bool) (j : JournalMemor
   joins_no : (k : ℕ) → k < length (bridges now) → joins m (bridge_at now k) ≡ false
   joins_no k l = joins_same (bridges now) (bridges ds) m k h.sides ∙ h.alone k (within k l)
 
+  -- each opened call has a number of a call,
   number : (c : ℕ) → is_opened now c ≡ true → IsCallNumber c
   number c o = elim (which c o) [ inl q ↦ subst IsCallNumber (sym q) h.number | inr q ↦ p.numbers c q.1 ]
 
+  -- the period at which it began,
   from : (c : ℕ) → is_opened now c ≡ true → (opening_of calls c).from ≡ start_of now c
   from c o = elim (which c o) [
     | inl q ↦ subst (λ (c : ℕ). (opening_of calls c).from ≡ start_of now c) (sym q) (ap (λ (x : Opening). x.from) itself ∙ sym h.begins)
     | inr q ↦ ap (λ (x : Opening). x.from) (other c q.0) ∙ p.from c q.1 ∙ sym (h.start c q.1)
   ]
 
+  -- and its latest bridge
   latest : (c : ℕ) → is_opened now c ≡ true → IsLatest (bridges now) c (opening_of calls c).bridge
   latest c o = elim (which c o) [
     | inl q ↦ subst (λ (c : ℕ). IsLatest (bridges now) c (opening_of calls c).bridge) (sym q) (subst (λ (x : Opening). IsLatest (bridges now) m x.bridge) (sym itself) joins_no)
     | inr q ↦ subst (λ (x : Opening). IsLatest (bridges now) c x.bridge) (sym (other c q.0)) (latest_same (bridges now) (bridges ds) c (opening_of j.calls c).bridge h.sides (p.latest c q.1))
   ]
 
+  -- what calls have sent stays noted
   sent : SentNoted r now (λ c. false) (with_opening m t j)
   sent c k l g i =
       let differs : c ≢ m = λ q. no (joins m (bridge_at now k)) (joins_no k l) (ap (λ (d : ℕ). joins d (bridge_at now k)) (sym q) ∙ g) in
       n.sent c k (within k l) (sym (joins_same (bridges now) (bridges ds) c k h.sides) ∙ g) (λ e. i (ap (λ (x : Opening). x.bridge) (other c differs) ∙ e))
 
+  -- **All that is to be noted of the call is.**
   pub noted_opened : IsNoted r now ended (with_opening m t j) tally
   noted_opened =
       let sides = h.sides in

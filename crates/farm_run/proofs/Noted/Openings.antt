@@ -5,6 +5,7 @@ use Rattle.farm_run.specs.declared.notes.Opening.{Opening}
 use Rattle.farm_run.specs.Journal.{JournalMemory, no_opening, opening_of, new_journal}
 use Rattle.farm_run.specs.Stages.{OpenedBefore}
 
+-- of a list of calls that aren't opened each isn't
 all_none : (k c : ℕ) → opening_of (replicate k no_opening) c ≡ no_opening
 all_none zero c = refl
 all_none (suc k) zero = refl

@@ -50,6 +50,7 @@ use Rattle.farm_run.proofs.Noted.Bridging.{noted_bridged}
 use Rattle.farm_run.proofs.Noted.Rounds.{kept_at_end, open_not_ended}
 
 module _ (r : Run) (t : ℕ) (s n : State) (reply : Reply) (groups groups' : List Group) (due : Due s t reply n) (under : t < r.periods) (f : FollowsRun r t s groups) (g : FollowsRun r t n groups') where
+  -- the order, executed
   abbrev d : Done
   d = done_by s due.order
 
@@ -57,15 +58,19 @@ module _ (r : Run) (t : ℕ) (s n : State) (reply : Reply) (groups groups' : Lis
   abbrev closing : ℕ → CallEnd
   closing m = record { call = m; at = t; cause = Closed }
 
+  -- what each call has had
   abbrev h : ℕ → Option CallHistory
   h = histories_at r s.done t
 
+  -- it is the last that was executed
   done_is : n.done ≡ s.done ++ d ∷ []
   done_is = ap (λ (m : State). m.done) due.new
 
+  -- the bridges behind it
   bridges_are : bridges n.done ≡ map (after d) (bridges s.done) ++ bridge_by d.order.stamp d.result []
   bridges_are = ap bridges done_is ∙ bridges-more s.done d
 
+  -- a call that was opened before begins where it did
   start_stays : (c : ℕ) → is_opened s.done c ≡ true → start_of n.done c ≡ start_of s.done c
   start_stays c o = by (opened_at c s.done) refl o
     where
@@ -84,9 +89,11 @@ module _ (r : Run) (t : ℕ) (s n : State) (reply : Reply) (groups groups' : Lis
   ended_was : (c : ℕ) → ended_at r s.done t c ≡ (opened_now s c && not (open_now s c))
   ended_was c = ap (λ (b : Bool). is_opened s.done c && not b) (sym (open_told (whole_in r) t s f.tells c))
 
+  -- a call has ended that was opened and isn't open
   ended_is : (c : ℕ) → ended_at r n.done t c ≡ (opened_now n c && not (open_now n c))
   ended_is c = ap (λ (b : Bool). is_opened n.done c && not b) (sym (open_told (whole_in r) t n g.tells c))
 
+  -- a call that the board has open is so in the run
   open_there : (c : ℕ) → open_now s c ≡ true → is_open (gone_at (whole_in r) t s.done) s.done c ≡ true
   open_there c o = sym (open_told (whole_in r) t s f.tells c) ∙ o
 

@@ -12,6 +12,7 @@ use Rattle.farm_run.specs.Ending.{AreApart}
 use Rattle.farm_run.proofs.Told.Few.{apart_more}
 use Rattle.farm_run.specs.Journal.{HaveNumbers, IsJournal, no_opening, opening_of}
 
+-- of a list of calls that aren't opened each isn't
 none_opened : (n c : ℕ) → opening_of (replicate n no_opening) c ≡ no_opening
 none_opened zero c = refl
 none_opened (suc n) zero = refl
@@ -20,6 +21,7 @@ none_opened (suc n) (suc c) = none_opened n c
 nowhere : (o : Option ℕ) (k : ℕ) → o ≡ None → o ≡ Some k → ⊥
 nowhere o k none some = cc
 
+-- the journal before the first order
 pub journal-new : (calls : List Opening) (ends : List CallEnd) (bridges : List BridgeNote) → calls ≡ replicate 4097 no_opening → ends ≡ [] → IsJournal calls ends bridges
 journal-new calls ends bridges e n = record {
   long = ap length e ∙ length-replicate 4097 no_opening;

@@ -107,6 +107,7 @@ each_round_end r t n ds left seats h a = each_end (IsRoundEnd r ds t n) r t n ds
 
 -- who has ended after it
 module _ (r : Run) (t n : ℕ) (ds : List Done) (c : ℕ) where
+  -- tests before the round, behind it, and in it
   abbrev gone_before : Bool
   gone_before = gone_at (whole_in r) t ds c
 
@@ -133,6 +134,7 @@ module _ (r : Run) (t n : ℕ) (ds : List Done) (c : ℕ) where
       (gone_round r t n ds c (ap is_some p) q ∙ ap (λ (o : Option ℕ). gone_before || ((is_some o && not (is_some (closed_at c ds)) && not gone_before) && fewer)) p
       ∙ ap (λ (l : Option ℕ). gone_before || ((true && not (is_some l) && not gone_before) && fewer)) q)
 
+  -- a call has ended behind the round where it had before, or ends in it
   ended_round : ended_at r ds (t + n) c ≡ (ended_at r ds t c || ends_within r ds t n c)
   ended_round = by (opened_at c ds) (closed_at c ds) refl refl
 
@@ -194,6 +196,7 @@ truly_start r s h c at e = absurd (by (told_in s c) e (h c))
 pub truly_same : (r : Run) (s now : State) → now.told ≡ s.told → TellsTruly r s → TellsTruly r now
 truly_same r s now e h c at f = h c at (ap (λ (told : List (Option ℕ)). get_or told c None) (sym e) ∙ f)
 
+-- one end more
 truly_more : (r : Run) (s : State) (call at : ℕ) → ends_at (given_in r) r.periods (done_in r) call ≡ at → TellsTruly r s → TellsTruly r (told_more s call at)
 truly_more r s call at right h c v e = elim (cases_eq c call) [
   | inr n ↦ h c v (sym (get_or-set_other s.told call c (Some at) None n) ∙ e)

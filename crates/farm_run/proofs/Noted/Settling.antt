@@ -26,6 +26,7 @@ pub left_true : (a b : Bool) → b ≡ false → (a || b) ≡ true → a ≡ tru
 left_true true b e h = refl
 left_true false b e h = cc
 
+-- the second test is met where the first isn't
 pub right_true : (a b : Bool) → a ≡ false → (a || b) ≡ true → b ≡ true
 right_true false b e h = h
 right_true true b e h = cc
@@ -36,6 +37,7 @@ right_true true b e h = cc
 abbrev pub joins_in : ℕ → BridgeNote → Bool
 joins_in c x = c == x.a || c == x.b
 
+-- the calls of a bridge stay when it is noted what one has sent
 with_a : (c v : ℕ) (x : BridgeNote) → (with_sent c v x).a ≡ x.a
 with_a c v x = by (c == x.a)
   where
@@ -71,6 +73,7 @@ sent_other c d v x p q n = by (c == x.a) (d == x.a) refl refl
 
 -- ---- the calls and the number of the bridges stay
 
+-- so they do in the list of all bridges
 sent_a : (c v : ℕ) (o : Option ℕ) (xs : List BridgeNote) (k : ℕ) → (bridge_note_at (sent_at c v o xs) k).a ≡ (bridge_note_at xs k).a
 sent_a c v None xs k = refl
 sent_a c v (Some m) xs k = part_kept (λ (x : BridgeNote). x.a) no_note xs m (with_sent c v (bridge_note_at xs m)) (with_a c v (bridge_note_at xs m)) k
@@ -79,10 +82,12 @@ sent_b : (c v : ℕ) (o : Option ℕ) (xs : List BridgeNote) (k : ℕ) → (brid
 sent_b c v None xs k = refl
 sent_b c v (Some m) xs k = part_kept (λ (x : BridgeNote). x.b) no_note xs m (with_sent c v (bridge_note_at xs m)) (with_b c v (bridge_note_at xs m)) k
 
+-- of which there are as many
 sent_long : (c v : ℕ) (o : Option ℕ) (xs : List BridgeNote) → length (sent_at c v o xs) ≡ length xs
 sent_long c v None xs = refl
 sent_long c v (Some m) xs = length-set xs m (with_sent c v (bridge_note_at xs m))
 
+-- and each call's latest bridge stands where it did
 pub places_settled : (ds : List Done) (j : JournalMemory) (c v : ℕ) → PlacesNoted ds j → PlacesNoted ds (settled c v j)
 places_settled ds j c v p =
     let o = (opening_of j.calls c).bridge in
@@ -102,6 +107,7 @@ joins_noted ds j c k p = ap (λ (a : ℕ). c == a || c == (bridge_note_at j.brid
 
 -- ---- what is noted of a call's latest bridge
 
+-- these calls and one more
 abbrev pub or_this : (ℕ → Bool) → ℕ → ℕ → Bool
 or_this was c d = was d || d == c
 
@@ -144,6 +150,7 @@ sent_settled r ds was j c v p o s right = λ d k l m h. by d k l m h (opening_of
                   ∙ s d place l m (λ g. left_true (was d) (d == c) (ne_eqb d c n) (h g))
             ]
 
+-- it goes by which calls they are
 pub sent_same : (r : Run) (ds : List Done) (was now : ℕ → Bool) (j : JournalMemory) → ((c : ℕ) → now c ≡ was c) → SentNoted r ds was j → SentNoted r ds now j
 sent_same r ds was now j e s = λ c k l m h. s c k l m (λ g. sym (e c) ∙ h g)
 

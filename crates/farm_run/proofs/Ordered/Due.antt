@@ -25,6 +25,7 @@ pub record Due (s : State) (t : ℕ) (reply : Reply) (n : State) : Type 0 where
   pub result : reply.result ≡ (done_by s order).result
   pub new : n ≡ record { left = rest; done = s.done ++ done_by s order ∷ []; told = s.told }
 
+-- a step that replied executed an order that was due
 pub due_of : (s n : State) (t : ℕ) (reply : Reply) → Some reply ≡ reply_of s (due s.left t) → n ≡ after_turn s (due s.left t) → Due s t reply n
 due_of s n t reply e f = by s.left refl
   where
@@ -43,11 +44,12 @@ due_of s n t reply e f = by s.left refl
     by [] l = let h = e ∙ ap (λ os. reply_of s (due os t)) l in cc
     by (o ∷ rest) l = one o rest (o.stamp == t) refl l (e ∙ ap (λ os. reply_of s (due os t)) l) (f ∙ ap (λ os. after_turn s (due os t)) l)
 
--- a step tells no end, and one that executes an order leaves one order less
+-- a step tells no end
 pub told_kept : (s n : State) (o : Option Order) → n ≡ after_turn s o → n.told ≡ s.told
 told_kept s n None e = ap (λ (m : State). m.told) e
 told_kept s n (Some o) e = ap (λ (m : State). m.told) e
 
+-- one that executes an order leaves one order less
 pub left_fewer : (s n : State) (t : ℕ) (reply : Reply) → Due s t reply n → length n.left + 1 ≡ length s.left
 left_fewer s n t reply d = omega (arith, ap (λ (m : State). length m.left) d.new, ap length d.left)
 
@@ -73,10 +75,12 @@ open_told whole t s tells c = by (opened_at c s.done) (closed_at c s.done) (tell
 
 -- ---- ends are told in time after an order too
 
+-- the executed orders with one more behind them
 abbrev more : State → Done → List Done
 more s d = s.done ++ d ∷ []
 
 module _ (whole : ℕ → ℕ) (t : ℕ) (s n : State) (d : Done) (told : (c : ℕ) → gone_in n c ≡ gone_in s c) (done : n.done ≡ more s d) where
+  -- a call that no order closed by then was closed by none before
   was_open : (c : ℕ) → closed_at c n.done ≡ None → closed_at c s.done ≡ None
   was_open c e = by (closed_at c s.done) refl
     where
@@ -93,6 +97,7 @@ module _ (whole : ℕ → ℕ) (t : ℕ) (s n : State) (d : Done) (told : (c : �
   new_tells : (c u : ℕ) → opened_at c n.done ≡ Some u → t ≤ u → gone_in n c ≡ false → gone_in n c ≡ gone_at whole t n.done c
   new_tells c u o l g = g ∙ sym (gone_is whole t n.done c u o ∙ le-ltb (u + whole c) t (omega arith))
 
+  -- **So the ends are told in time after the order, where a call that it opens begins at the clock and isn't gone.**
   pub tells_more : TellsEnds whole t s → ((c u : ℕ) → opened_at c (d ∷ []) ≡ Some u → (t ≤ u) × (gone_in n c ≡ false)) → TellsEnds whole t n
   tells_more tells fresh c o e = by (opened_at c n.done) refl o
     where

@@ -31,6 +31,7 @@ use Rattle.farm_run.proofs.Ordered.Due.{Due, open_told, tells_more}
 use Rattle.farm_run.proofs.Ordered.Changing.{history_by}
 use Rattle.farm_run.proofs.Listed.Tests.{no}
 
+-- what a call has had is the same where each part of it is
 past_same : (b b' : Bool) (l : Law) (ts ts' : List CallPeriod) (now now' : Settings) → b ≡ b' → (b' ≡ true → ts ≡ ts') → now ≡ now' → past_if b l ts now ≡ past_if b' l ts' now'
 past_same true true l ts ts' now now' q e f = ap (λ ts. past_if true l ts now) (e refl) ∙ ap (past_if true l ts') f
 past_same false false l ts ts' now now' q e f = refl
@@ -54,24 +55,31 @@ cases_act (act.LevelSet n level) c = inr (λ m law e f. cc)
 cases_act (act.DtxSet n mode) c = inr (λ m law e f. cc)
 
 module _ (r : Run) (t : ℕ) (s n : State) (reply : Reply) (groups : List Group) (due : Due s t reply n) (under : t < r.periods) (run : IsRun (whole_in r) n.done) (f : FollowsRun r t s groups) where
+  -- the order, executed
   abbrev d : Done
   d = done_by s due.order
 
+  -- it is the last that was executed
   done_is : n.done ≡ s.done ++ d ∷ []
   done_is = ap (λ (m : State). m.done) due.new
 
+  -- no end is told by it
   told_is : (c : ℕ) → gone_in n c ≡ gone_in s c
   told_is c = ap (λ (m : State). gone_in m c) due.new
 
+  -- before it the order is the next that is left
   before : IsSoFar r t s.done (d.order ∷ due.rest)
   before = subst (IsSoFar r t s.done) due.left f.so_far
 
+  -- the executed orders, this one too, are a run's
   run_is : IsRun (whole_in r) (s.done ++ d ∷ [])
   run_is = subst (IsRun (whole_in r)) done_is run
 
+  -- behind it the run is one so far
   far : IsSoFar r t n.done n.left
   far = subst (λ (m : State). IsSoFar r t m.done m.left) (sym due.new) (so_far_more r t s.done d due.rest before due.stamp under run_is)
 
+  -- the settings behind it are those before, changed by the order
   settings_is : (c : ℕ) → settings_now r n.done t c ≡ changed_by c d.result (settings_now r s.done t c)
   settings_is c = ap (λ ds. settings_now r ds t c) done_is ∙ settings_ordered r t s.done d due.rest c before due.stamp run_is
 
@@ -100,18 +108,22 @@ module _ (r : Run) (t : ℕ) (s n : State) (reply : Reply) (groups : List Group)
 
   -- **An accepted order.**
   module _ (a : Act) (accepted : reply.result ≡ Ok a) (finds : Finds a (opened_now s) (open_now s) (partner_now s)) (changes : (c : ℕ) → open_now n c ≡ open_after a (open_now s) c) (laws : (c : ℕ) → law_now n c ≡ law_after a (law_now s) c) where
+    -- the act is what the order resulted in
     res : d.result ≡ Ok a
     res = sym due.result ∙ accepted
 
+    -- an order that opens a call is this act
     is_act : (c : ℕ) (law : Law) → d.result ≡ Ok (act.Opened c law) → a ≡ act.Opened c law
     is_act c law q = by a (act.Opened c law) (sym res ∙ q)
       where
         by : (x y : Act) → ◌≡◌ {A = Result Act Refusal} (Ok x) (Ok y) → x ≡ y
         by x y e = cc
 
+    -- the call is open then
     opens_it : (c : ℕ) (law : Law) → a ≡ act.Opened c law → open_now n c ≡ true
     opens_it c law q = changes c ∙ ap (λ x. open_after x (open_now s) c) q ∙ ap (λ b. b || open_now s c) (eq-eqb c c refl)
 
+    -- the ends are told in time behind it
     tells : TellsEnds (whole_in r) t n
     tells = tells_more (whole_in r) t s n d told_is done_is f.tells (λ c u h.
         let o = opens c u due.order d.result h in
@@ -119,6 +131,7 @@ module _ (r : Run) (t : ℕ) (s n : State) (reply : Reply) (groups : List Group)
         let g = open_facts (gone_in n) n.done c (opens_it c o.0.0 (is_act c o.0.0 o.0.1)) in
         (omega (arith, o.1, e), g.3))
 
+    -- the calls that the act leaves open are those that are open behind it
     open_is : (c : ℕ) → open_after a (λ c. is_open (gone_at (whole_in r) t s.done) s.done c) c ≡ is_open (gone_at (whole_in r) t n.done) n.done c
     open_is c = sym (open_same a (open_now s) (λ c. is_open (gone_at (whole_in r) t s.done) s.done c) (open_told (whole_in r) t s f.tells) c) ∙ sym (changes c) ∙ open_told (whole_in r) t n tells c
 
@@ -141,6 +154,7 @@ module _ (r : Run) (t : ℕ) (s n : State) (reply : Reply) (groups : List Group)
             twice : (u : ℕ) → opened_at c s.done ≡ Some u → ⊥
             twice u h = let g = subst (λ x. Finds x (opened_now s) (open_now s) (partner_now s)) q finds in let k : opened_now s c ≡ true = ap is_some h in no (opened_now s c) g.1 k
 
+    -- what each call has had after the act is what it has had in the run
     same_history : (c : ℕ) → histories_after a (histories_at r s.done t) c ≡ histories_at r n.done t c
     same_history c = elim (cases_act a c) [
       | inl q ↦ ap (λ x. histories_after x (histories_at r s.done t) c) q.1 ∙ ap (λ b. if b then Some (record { law = q.0; periods = []; now = new_settings }) else histories_at r s.done t c) (eq-eqb c c refl) ∙ begins c q.0 q.1
@@ -175,6 +189,7 @@ module _ (r : Run) (t : ℕ) (s n : State) (reply : Reply) (groups : List Group)
         by (act.LevelSet c level) q g = tt
         by (act.DtxSet c mode) q g = tt
 
+    -- **So farm and board follow the run behind the order, if the act carries histories over.**
     pub follows_more : (groups' : List Group) → ((h : ℕ → Option CallHistory) → NoneDrains a h → GroupsStand h groups → GroupsStand (histories_after a h) groups') → FollowsRun r t n groups'
     follows_more groups' carries = record {
       so_far = far;

@@ -42,17 +42,21 @@ fits b groups (act.DtxSet c mode) m f r = m.is_open c ∙ f
 
 -- ---- who is open after an order
 
+-- a function changes no None
 some_mapped : {X Y : Type 0} (g : X → Y) (o : Option X) → is_some (option_map g o) ≡ is_some o
 some_mapped g None = refl
 some_mapped g (Some x) = refl
 
+-- nor does one that is used in one case alone
 some_if : {X : Type 0} (t : Bool) (g : X → X) (o : Option X) → is_some (if t then option_map g o else o) ≡ is_some o
 some_if true g o = some_mapped g o
 some_if false g o = refl
 
+-- which calls there are
 abbrev live : (ℕ → Option Call) → ℕ → Bool
 live f c = is_some (f c)
 
+-- a call that is opened is one more
 opened_live : (n c : ℕ) (x : Call) (o : Option Call) → is_some (if n == c then Some x else o) ≡ (c == n || is_some o)
 opened_live n c x o = elim (cases_eq n c) [
   | inl e ↦ by (n == c) (c == n) (eq-eqb n c e) (eq-eqb c n (sym e))
@@ -69,6 +73,7 @@ opened_live n c x o = elim (cases_eq n c) [
     other true t p q = cc
     other false true p q = cc
 
+-- one that is closed is one less
 closed_live : (n c : ℕ) (o q : Option Call) → is_some o ≡ is_some q → is_some (if n == c then None else o) ≡ (if c == n then false else is_some q)
 closed_live n c o q e = elim (cases_eq n c) [
   | inl h ↦ by (n == c) (c == n) (eq-eqb n c h) (eq-eqb c n (sym h))
@@ -85,13 +90,16 @@ closed_live n c o q e = elim (cases_eq n c) [
     other true t p r = cc
     other false true p r = cc
 
+-- a change of a call leaves which calls there are
 live_changed : (n : ℕ) (g : Call → Call) (f : ℕ → Option Call) (c : ℕ) → is_some (changed n g f c) ≡ is_some (f c)
 live_changed n g f c = some_if (n == c) g (f c)
 
+-- so does freeing a partner
 live_freed : (p : Option ℕ) (g : Call → Call) (f : ℕ → Option Call) (c : ℕ) → is_some (freed p g f c) ≡ is_some (f c)
 live_freed None g f c = refl
 live_freed (Some n) g f c = live_changed n g f c
 
+-- **An act leaves those calls that it leaves open.**
 live_after : (a : Act) (f : ℕ → Option Call) (c : ℕ) → is_some (calls_after a f c) ≡ open_after a (λ c. is_some (f c)) c
 live_after (act.Opened n law) f c = opened_live n c (new_call n law) (f c)
 live_after (act.Closed n p) f c = closed_live n c (freed p parted f c) (f c) (live_freed p parted f c)
@@ -102,6 +110,7 @@ live_after (act.DtxSet n mode) f c = live_changed n (set_by (act.DtxSet n mode))
 
 -- ---- who is whose partner
 
+-- the order of two compared numbers doesn't matter
 same_test : {X : Type 0} (m n : ℕ) (x y : X) → (if m == n then x else y) ≡ (if n == m then x else y)
 same_test m n x y = elim (cases_eq m n) [
   | inl e ↦ by (m == n) (n == m) (eq-eqb m n e) (eq-eqb n m (sym e))
@@ -118,10 +127,12 @@ same_test m n x y = elim (cases_eq m n) [
     other true t p q = cc
     other false true p q = cc
 
+-- two tests one behind the other are one
 either : {X : Type 0} (s t : Bool) (x y : X) → (if s || t then x else y) ≡ (if s then x else if t then x else y)
 either true t x y = refl
 either false t x y = refl
 
+-- **An act leaves the farm the partners that it leaves the board.**
 partners_by : (a : Act) (f : ℕ → Option ℕ) (c : ℕ) → partners_after a f c ≡ partner_after a f c
 partners_by (act.Opened n law) f c = refl
 partners_by (act.Closed n None) f c = same_test n c None (f c) ∙ sym (either (c == n) false None (f c))
@@ -142,6 +153,7 @@ open_same (act.Unbridged a b) f g e c = e c
 open_same (act.LevelSet n level) f g e c = e c
 open_same (act.DtxSet n mode) f g e c = e c
 
+-- what an act makes of partners goes by what they are
 partner_same : (a : Act) (f g : ℕ → Option ℕ) → ((c : ℕ) → f c ≡ g c) → (c : ℕ) → partner_after a f c ≡ partner_after a g c
 partner_same (act.Opened n law) f g e c = e c
 partner_same (act.Closed n p) f g e c = ap (λ b. if c == n || is_this c p then None else b) (e c)

@@ -36,6 +36,7 @@ use Rattle.farm_run.proofs.Reported.Rising.{Rises, has, one_if, rising_same, ran
 
 -- ---- the calls
 
+-- the number of a line's call
 abbrev number_of : CallLine → ℕ
 number_of l = l.end.call
 
@@ -72,6 +73,7 @@ line_is r ds j tally e all p right o kept =
     line : CallEnd → ℕ → Counts → CallLine
     line e from counts = record { end = e; from = from; counts = counts }
 
+-- lines that are the definition's, each by its number, are so as a list
 lines_by_number : (r : Run) (lines : List CallLine) → AllByRecursion (λ l. l ≡ defined.call_line r (number_of l)) lines → lines ≡ map (defined.call_line r) (map number_of lines)
 lines_by_number r [] a = refl
 lines_by_number r (l ∷ lines) a = ap (λ (x : CallLine). x ∷ lines) a.0 ∙ ap (λ (xs : List CallLine). defined.call_line r (number_of l) ∷ xs) (lines_by_number r lines a.1)
@@ -79,25 +81,31 @@ lines_by_number r (l ∷ lines) a = ap (λ (x : CallLine). x ∷ lines) a.0 ∙ 
 -- **The lines of the calls that have ended, sorted by their numbers, are those of the run.**
 module _ (r : Run) (ds : List Done) (j : JournalMemory) (tally : ℕ → Tally) (lines : List CallLine) (all : done_in r ≡ ds) (n : IsNoted r ds (is_opened ds) j tally) (sorted : IsNonDecreasingBy number_of lines)
     (shuffled : IsPermutation (map (call_line j.calls tally) j.ends) lines) where
+  -- a call has as many lines as ends
   count_is : (c : ℕ) → count_by (λ l. c == number_of l) lines ≡ count_by (λ e. c == e.call) j.ends
   count_is c = count_shuffled (λ l. c == number_of l) (map (call_line j.calls tally) j.ends) lines shuffled ∙ count_map (λ l. c == number_of l) (call_line j.calls tally) j.ends
 
+  -- the lines' numbers rise
   rises : Rises 0 (map number_of lines)
   rises = sorted_rises number_of lines sorted (λ c. let once = apart_once c j.ends (let ends = n.ends in ends.apart) in let e = count_is c in omega arith)
 
+  -- they are those of the calls that were opened
   members : (c : ℕ) → has c (map number_of lines) ≡ is_opened ds c
   members c =
       any_map (λ x. c == x) number_of lines ∙ any_count (λ l. c == number_of l) lines ∙ ap (nat_lt 0) (count_is c) ∙ sym (any_count (λ (e : CallEnd). c == e.call) j.ends)
       ∙ (let ends = n.ends in ends.told c)
 
+  -- of each that ended enough is kept
   over : AllByRecursion (λ e. (is_opened ds e.call ≡ true) × IsKept r j.calls e.call (tally e.call)) j.ends
   over = each_told (λ c. (is_opened ds c ≡ true) × IsKept r j.calls c (tally c)) j.ends (λ c q. let ends = n.ends in (sym (ends.told c) ∙ q, n.kept c (sym (ends.told c) ∙ q)))
 
+  -- so its line is the definition's
   each_line : (ends : List CallEnd) → AllByRecursion (λ e. (is_opened ds e.call ≡ true) × IsKept r j.calls e.call (tally e.call)) ends → AllByRecursion (λ e. e ≡ call_end_in r e.call) ends →
       AllByRecursion (λ l. l ≡ defined.call_line r (number_of l)) (map (call_line j.calls tally) ends)
   each_line [] a b = tt
   each_line (e ∷ ends) a b = (line_is r ds j tally e all n.places b.0 a.0.0 a.0.1, each_line ends a.1 b.1)
 
+  -- **The lines of calls are those of the definition.**
   pub calls_reported : (most : ℕ) → ((c : ℕ) → is_opened ds c ≡ true → (1 ≤ c) × (c < 1 + most)) → lines ≡ map (defined.call_line r) (filter (is_opened ds) (range_with_len 1 most))
   calls_reported most numbers =
       lines_by_number r lines (recursion_from_All (λ l. l ≡ defined.call_line r (number_of l)) lines
@@ -111,6 +119,7 @@ module _ (r : Run) (ds : List Done) (j : JournalMemory) (tally : ℕ → Tally) 
 abbrev line_with : Span → ℕ → ℕ → SpanLine
 line_with s a b = record { span = s; sent_a = a; sent_b = b; lost_a = s.to - s.from - a; lost_b = s.to - s.from - b }
 
+-- lines of bridges that are the definition's, one by one, are so as a list
 lines_each : (r : Run) (spans : List Span) (xs : List BridgeNote) → length spans ≡ length xs →
     ((k : ℕ) → k < length spans → span_line (get_or spans k no_span) (bridge_note_at xs k) ≡ defined.span_line r (get_or spans k no_span)) → span_lines spans xs ≡ map (defined.span_line r) spans
 lines_each r [] [] l h = refl
@@ -121,16 +130,20 @@ lines_each r (s ∷ spans) (x ∷ xs) l h =
 
 -- **The lines of the bridges, once what each call sent in its latest one is noted, are those of the run.**
 module _ (r : Run) (t : ℕ) (ds : List Done) (left : List Order) (j : JournalMemory) (tally : ℕ → Tally) (so : IsSoFar r t ds left) (all : done_in r ≡ ds) (n : IsNoted r ds (is_opened ds) j tally) where
+  -- the journal once it is noted what the calls have sent
   abbrev settled_now : JournalMemory
   settled_now = settled_each tally j.ends j
 
+  -- the bridges as the run says them
   abbrev spans : List Span
   spans = spans_of (given_in r) r.periods ds
 
+  -- where they stand and what was sent is noted
   settles : PlacesNoted ds settled_now × SentNoted r ds (λ c. false || is_told c j.ends) settled_now
   settles = settled_all r ds (λ c. false) tally j.ends j n.places
       (each_told (λ c. (is_opened ds c ≡ true) × IsKept r j.calls c (tally c)) j.ends (λ c q. let ends = n.ends in (sym (ends.told c) ∙ q, n.kept c (sym (ends.told c) ∙ q)))) n.sent
 
+  -- each bridge, by where it stands
   there : (k : ℕ) → k < length (bridges ds) → get_or spans k no_span ≡ span_of (given_in r) r.periods ds (bridge_at ds k)
   there k l = get_or-map (span_of (given_in r) r.periods ds) (bridges ds) k no_bridge no_span l
 
@@ -140,9 +153,11 @@ module _ (r : Run) (t : ℕ) (ds : List Done) (left : List Order) (j : JournalMe
       settles.1 c k l m (λ e. let ends = n.ends in ends.told c ∙ o)
       ∙ ap (λ (ds : List Done). sent_by r (get_or (spans_of (given_in r) r.periods ds) k no_span) c) all
 
+  -- each bridge is one of the run's
   sound : (k : ℕ) → k < length (bridges ds) → IsSoundBridge (whole_in r) t ds (bridge_at ds k)
   sound k l = let stand = standing_now r t ds left so in All-from_recursion (IsSoundBridge (whole_in r) t ds) (bridges ds) stand.sound k no_bridge l
 
+  -- what its calls have sent is noted
   sent_a : (k : ℕ) → k < length (bridges ds) → (bridge_note_at settled_now.bridges k).sent_by_a ≡ sent_by r (get_or spans k no_span) (get_or spans k no_span).a
   sent_a k l =
       let x = bridge_note_at settled_now.bridges k in
@@ -161,11 +176,13 @@ module _ (r : Run) (t : ℕ) (ds : List Done) (left : List Order) (j : JournalMe
       ∙ sent_of z.b k l (or_right (z.b == z.a) (z.b == z.b) (eq-eqb z.b z.b refl)) (ap is_some k_sound.opened_b)
       ∙ ap (sent_by r (get_or spans k no_span)) (sym (ap (λ (s : Span). s.b) (there k l)))
 
+  -- its line is the definition's
   line_at : (k : ℕ) → k < length (bridges ds) → span_line (get_or spans k no_span) (bridge_note_at settled_now.bridges k) ≡ defined.span_line r (get_or spans k no_span)
   line_at k l =
       let s = get_or spans k no_span in
       ap (λ (m : ℕ). line_with s m (bridge_note_at settled_now.bridges k).sent_by_a) (sent_b k l) ∙ ap (line_with s (sent_by r s s.b)) (sent_a k l)
 
+  -- **The lines of bridges are those of the definition.**
   pub spans_reported : span_lines spans settled_now.bridges ≡ map (defined.span_line r) spans
   spans_reported =
       let long = length-map (bridges ds) (span_of (given_in r) r.periods ds) in

@@ -50,18 +50,22 @@ each_among P [] h = tt
 each_among P (c ∷ calls) h =
     (h c (or_left (c == c) (is_among calls c) (eq-eqb c c refl)), each_among P calls (λ d q. h d (or_right (c == d) (is_among calls d) q)))
 
+-- from each number that is among some to all of them
 pub all_among : (P : ℕ → Type 0) (calls : List ℕ) → ((c : ℕ) → is_among calls c ≡ true → P c) → All P calls
 all_among P calls h = All-from_recursion P calls (each_among P calls h)
 
 -- ---- the calls that are open
 
 module _ (r : Run) (t : ℕ) (b : State) (groups : List Group) (tallies : List Tally) (j : JournalMemory) (end : IsAtEnd r t b groups tallies j) (calls : List ℕ) (among : (c : ℕ) → is_among calls c ≡ open_now b c) where
+  -- the run so far
   abbrev so : IsSoFar r t b.done b.left
   so = let follows = end.follows in follows.so_far
 
+  -- what is kept of each call at the run's end
   abbrev tally : ℕ → Tally
   tally = kept_in tallies (histories_at r b.done t)
 
+  -- the ends that the run's end makes
   abbrev last : List CallEnd
   last = map (limit_at r.periods) calls
 
@@ -78,6 +82,7 @@ module _ (r : Run) (t : ℕ) (b : State) (groups : List Group) (tallies : List T
       ap (end_of (given_in r) r.periods (done_in r) c) (start_run r t b.done b.left c (start_of b.done c) so at.opened)
       ∙ end_limit r t b.done b.left c (start_of b.done c) so end.none_left at.unclosed (subst (λ (v : ℕ). v ≤ start_of b.done c + whole_in r c) clock alive)
 
+  -- each is the run's end of a call that hasn't ended before
   pub each_last : AllByRecursion (λ e. (ended_at r b.done t e.call ≡ false) × (e ≡ call_end_in r e.call)) last
   each_last = each_map (IsNewEnd r (ended_at r b.done t)) (limit_at r.periods) calls
       (each_among (λ c. IsNewEnd r (ended_at r b.done t) (limit_at r.periods c)) calls (λ c q. ((open_not_ended r t b.done c (open_is c ∙ q)).0, sym (limit_is c q))))
@@ -94,6 +99,7 @@ module _ (r : Run) (t : ℕ) (b : State) (groups : List Group) (tallies : List T
       (kept_at_end r t b.done b.left j.calls c (settings_now r b.done t c) so (open_not_ended r t b.done c o).1 (places.latest c)
       (ap (λ (e : CallEnd). e.at) (limit_is c k) ∙ sym (end.clock c (sym (among c) ∙ k))) refl)
 
+  -- of other calls what was kept stays
   kept_same : (c : ℕ) → is_told c last ≡ false → kept_in tallies (histories_at r b.done t) c ≡ tally_in tallies c
   kept_same c q = ap (λ (s : Bool). kept_of (past_if s (law_in r c) (periods_to r c (t - start_of b.done c)) (settings_now r b.done t c)) (tally_in tallies c)) (open_is c ∙ sym (limits_told r.periods c calls) ∙ q)
 
@@ -134,6 +140,7 @@ module _ (r : Run) (t : ℕ) (b : State) (groups : List Group) (tallies : List T
 
   -- ---- the report
 
+  -- reports of the same parts are the same
   same_report : (replies replies' : List Reply) (spans spans' : List SpanLine) (lines lines' : List CallLine) (failed : List Line) (left left' : ℕ) → replies ≡ replies' → spans ≡ spans' → lines ≡ lines' → left ≡ left' →
       ◌≡◌ {A = ReportView} (record { replies = replies; spans = spans; calls = lines; failed = failed; left = left }) (record { replies = replies'; spans = spans'; calls = lines'; failed = failed; left = left' })
   same_report replies replies' spans spans' lines lines' failed left left' p q s u =

@@ -45,12 +45,14 @@ line_more ends xs calls kept i e from counts old new same l is f k h n =
     ∙ sym (map_more (call_line calls kept) xs i e l)
     ∙ ap (λ es. map (call_line calls kept) (take (i + 1) es)) same
 
+-- one line more
 pub ends_more : (ends xs : List CallEnd) (i : ℕ) (e : CallEnd) (from : ℕ) (counts : Counts) (old new : List CallLine) → xs ≡ ends → i < length xs → e ≡ get_or xs i e → map (λ (l : CallLine). l.end) old ≡ take i ends →
     new ≡ old ++ record { end = e; from = from; counts = counts } ∷ [] → map (λ (l : CallLine). l.end) new ≡ take (i + 1) ends
 ends_more ends xs i e from counts old new same l is h n =
     ap (map (λ (x : CallLine). x.end)) n ∙ map-append (λ (x : CallLine). x.end) old (record { end = e; from = from; counts = counts } ∷ [])
     ∙ ap (λ es. es ++ e ∷ []) (h ∙ ap (take i) (sym same)) ∙ sym (front xs i e l is) ∙ ap (take (i + 1)) same
 
+-- one call more has noted what it sent
 settled_next : (kept : ℕ → Tally) (ends : List CallEnd) (e : CallEnd) (j : JournalMemory) → settled_each kept (ends ++ e ∷ []) j ≡ settled e.call (kept e.call).sent (settled_each kept ends j)
 settled_next kept [] e j = refl
 settled_next kept (d ∷ ends) e j = settled_next kept ends e (settled d.call (kept d.call).sent j)

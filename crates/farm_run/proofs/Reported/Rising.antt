@@ -13,9 +13,11 @@ abbrev pub Rises : ℕ → List ℕ → Type 0
 Rises m [] = Unit {0}
 Rises m (x ∷ xs) = (m ≤ x) × Rises (suc x) xs
 
+-- whether a number is among some
 abbrev pub has : ℕ → List ℕ → Bool
 has c xs = list_any (λ x. c == x) xs
 
+-- one below those that rise isn't
 has_not : (m c : ℕ) (xs : List ℕ) → Rises m xs → c < m → has c xs ≡ false
 has_not m c [] h l = refl
 has_not m c (x ∷ xs) h l =
@@ -47,10 +49,12 @@ rising_same m k (x ∷ xs) (y ∷ ys) h i e = ap (λ (z : ℕ). z ∷ xs) first 
 
 -- ---- the numbers of a range that pass a test
 
+-- numbers that rise from one rise from any lower one
 rises_from : (m k : ℕ) (xs : List ℕ) → m ≤ k → Rises k xs → Rises m xs
 rises_from m k [] l h = tt
 rises_from m k (x ∷ xs) l h = (let i = h.0 in omega arith, h.1)
 
+-- the numbers of a range that pass a test rise
 pub range_rises : (p : ℕ → Bool) (a n : ℕ) → Rises a (filter p (range_with_len a n))
 range_rises p a zero = tt
 range_rises p a (suc n) = by (p a) (range_rises p (a + 1) n)
@@ -59,6 +63,7 @@ range_rises p a (suc n) = by (p a) (range_rises p (a + 1) n)
     by true h = (omega arith, rises_from (suc a) (a + 1) _ (omega arith) h)
     by false h = rises_from a (a + 1) _ (omega arith) h
 
+-- and are those that pass it, where these lie in the range
 pub range_has : (p : ℕ → Bool) (a n c : ℕ) → (p c ≡ true → (a ≤ c) × (c < a + n)) → has c (filter p (range_with_len a n)) ≡ p c
 range_has p a zero c h = by (p c) refl
   where
@@ -87,6 +92,7 @@ range_has p a (suc n) c h = elim (cases_eq c a) [
 
 -- ---- how often a number comes
 
+-- a test as a number
 abbrev pub one_if : Bool → ℕ
 one_if b = cond b 1 0
 
@@ -95,6 +101,7 @@ count_map p f [] = refl
 count_map p f (x ∷ xs) =
     sum_by-cons (λ y. one_if (p y)) (f x) (map f xs) ∙ ap (λ (n : ℕ). one_if (p (f x)) + n) (count_map p f xs) ∙ sym (sum_by-cons (λ x. one_if (p (f x))) x xs)
 
+-- one that passes the test is there where some are counted
 pub any_count : {X : Type 0} (p : X → Bool) (xs : List X) → list_any p xs ≡ nat_lt 0 (count_by p xs)
 any_count p [] = refl
 any_count p (x ∷ xs) = by (p x) (any_count p xs) ∙ ap (nat_lt 0) (sym (sum_by-cons (λ x. one_if (p x)) x xs))
@@ -103,9 +110,11 @@ any_count p (x ∷ xs) = by (p x) (any_count p xs) ∙ ap (nat_lt 0) (sym (sum_b
     by true h = sym (lt-ltb 0 (1 + count_by p xs) (omega arith))
     by false h = h ∙ ap (nat_lt 0) (let e : count_by p xs ≡ 0 + count_by p xs = omega arith in e)
 
+-- as many are counted in another order
 pub count_shuffled : {X : Type 0} (p : X → Bool) (xs ys : List X) → IsPermutation xs ys → count_by p ys ≡ count_by p xs
 count_shuffled p xs ys s = sum_by-IsPermutation (λ x. one_if (p x)) xs ys s
 
+-- none of the numbers is lower
 abbrev AtLeast : ℕ → List ℕ → Type 0
 AtLeast m [] = Unit {0}
 AtLeast m (x ∷ xs) = m ≤ x
@@ -133,6 +142,7 @@ rises_by {X} f m (x ∷ xs) l h k = (l, rises_by f (suc (f x)) xs (next xs h k) 
         above : (a b : ℕ) → a ≤ b → a ≢ b → suc a ≤ b
         above a b l n = omega arith
 
+-- **What is sorted by a number, each number once, rises by it.**
 pub sorted_rises : {X : Type 0} (f : X → ℕ) (xs : List X) → IsNonDecreasingBy f xs → ((c : ℕ) → count_by (λ x. c == f x) xs ≤ 1) → Rises 0 (map f xs)
 sorted_rises f xs h k = rises_by f 0 xs (least xs) h k
   where

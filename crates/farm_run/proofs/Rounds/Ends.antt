@@ -56,6 +56,7 @@ ends_there r t n ds left c h e =
     let parts = and_parts (is_open (gone_at (whole_in r) t ds) ds c) (nat_lt (places_in r ds t n c) n) e in
     ap (λ (s : ℕ). at_of (end_of (given_in r) r.periods (done_in r) c s)) (start_kept r t n ds left c h parts.0) ∙ ap at_of (end_within r t n ds left c h e)
 
+-- its periods are those up to the last that its lines give
 pub periods_ended : (r : Run) (t n : ℕ) (ds : List Done) (left : List Order) (c : ℕ) → IsRound r t n ds left → ends_within r ds t n c ≡ true → periods_in r c ≡ periods_to r c (t + places_in r ds t n c - start_of ds c)
 periods_ended r t n ds left c h e =
     let parts = and_parts (is_open (gone_at (whole_in r) t ds) ds c) (nat_lt (places_in r ds t n c) n) e in
@@ -85,18 +86,22 @@ record IsCut (n : ℕ) (all taken : Given) : Type 0 where
   pub up_failed : taken.up < 40 * n → taken.up_failed ≡ all.up_failed
   pub pcm_failed : taken.pcm < 160 * n → taken.pcm_failed ≡ all.pcm_failed
 
+-- so many whole periods are in what was taken
 whole_cut : (n k : ℕ) (all taken : Given) → IsCut n (behind k all) taken → whole_of taken ≡ min n (whole_of all - k)
 whole_cut n k all taken h =
     let u = h.up in
     let p = h.pcm in
     omega arith
 
+-- which line lacked the next period, by whether it was the uplink
 abbrev lack_by : Bool → ℕ → Given → Cause
 lack_by b n g = if b then (if g.up_failed then Fault Up else End Up (g.up - 40 * n)) else if g.pcm_failed then Fault Pcm else End Pcm (g.pcm - 160 * n)
 
+-- where it was, only that line counts
 same_up : (b : Bool) (n : ℕ) (g h : Given) → b ≡ true → g.up ≡ h.up → g.up_failed ≡ h.up_failed → lack_by b n g ≡ lack_by b n h
 same_up b n g h e u f = cc
 
+-- where it wasn't, only the Pcm line does
 same_pcm : (b : Bool) (n : ℕ) (g h : Given) → b ≡ false → g.pcm ≡ h.pcm → g.pcm_failed ≡ h.pcm_failed → lack_by b n g ≡ lack_by b n h
 same_pcm b n g h e u f = cc
 
@@ -126,6 +131,7 @@ with_behind k g l =
     given : ℕ → ℕ → Given
     given up pcm = record { up = up; pcm = pcm; up_failed = g.up_failed; pcm_failed = g.pcm_failed }
 
+-- what a seat took of its call's lines is cut out of them
 cut_of : (r : Run) (ds : List Done) (t n c : ℕ) (p : PlaceMemory) (up pcm : List ℕ) → IsTaken r ds t n c p up pcm → IsCut n (behind (t - start_of ds c) (given_in r c)) (places.given_in p)
 cut_of r ds t n c p up pcm h = record { up = h.up_count; pcm = h.pcm_count; up_failed = h.up_failed; pcm_failed = h.pcm_failed }
 

@@ -22,6 +22,7 @@ split (Some zs) (Some ys) front xs c e = (ys, refl, same zs xs e ∙ c)
 some_same : (xs ys : List ℕ) → Some xs ≡ Some ys → xs ≡ ys
 some_same xs ys e = cc
 
+-- a line at its end holds nothing
 at_end : (u : Option (List ℕ)) (ys : List ℕ) → u ≡ Some ys → IsAtEnd u → ys ≡ []
 at_end None ys e h = cc
 at_end (Some zs) ys e h = some_same ys zs (sym e) ∙ h
@@ -34,6 +35,7 @@ record Came (m : ℕ) (line rest : List ℕ) (failed : Bool) (now : LineState) (
   pub left : now.to_come ≡ Some (drop m line ++ rest)
 
 module _ (m : ℕ) (line rest : List ℕ) (failed : Bool) (now : LineState) (t : Taken) (block : List ℕ) (bound : t.count ≤ m) (long : length block ≡ m) where
+  -- as many octets were taken as were counted
   taken_long : length (take t.count block) ≡ t.count
   taken_long = length-take-le t.count block (omega (arith, bound, long))
 
@@ -61,6 +63,7 @@ module _ (m : ℕ) (line rest : List ℕ) (failed : Bool) (now : LineState) (t :
         left = left ∙ ap (λ (xs : List ℕ). Some (xs ++ rest)) (sym (ap (λ (i : ℕ). drop i line) (sym q ∙ sym taken_long) ∙ seam));
       }
 
+-- a line gives its next octets until the round is full, or it ends or fails
 came : (m : ℕ) (line rest : List ℕ) (failed : Bool) (was now : LineState) (t : Taken) (block : List ℕ) → Takes was now t block → length block ≡ m → was.to_come ≡ Some (line ++ rest) → Meets m rest failed now t → Came m line rest failed now t block
 came m line rest failed was now t block h long told meets = by t.failed refl failed refl
   where

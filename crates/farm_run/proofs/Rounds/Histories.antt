@@ -28,12 +28,14 @@ use Rattle.farm_run.proofs.Rounds.Taken.{IsRound, IsFed, start_at}
 
 -- ---- an open call
 
+-- a call that is open at the clock, by the orders so far
 pub record IsOpenAt (r : Run) (t : ℕ) (ds : List Done) (c : ℕ) : Type 0 where
   pub opened : opened_at c ds ≡ Some (start_of ds c)
   pub unclosed : closed_at c ds ≡ None
   pub begun : start_of ds c ≤ t
   pub alive : t ≤ start_of ds c + whole_in r c
 
+-- what is known of a call that is open by its tests
 pub open_at : (r : Run) (t : ℕ) (ds : List Done) (c : ℕ) → Standing (whole_in r) t ds → is_open (gone_at (whole_in r) t ds) ds c ≡ true → IsOpenAt r t ds c
 open_at r t ds c stand e =
     let f = open_facts (gone_at (whole_in r) t ds) ds c e in
@@ -55,6 +57,7 @@ no_order r t n ds left u h l = by left h.clear
 
 -- ---- who has a period
 
+-- a period of the round is one of the run that the call's lines give, where it is among the given ones
 place_tests : (t n last P k : ℕ) → t + n ≤ P → k < n → (nat_lt (t + k) last && nat_lt (t + k) P) ≡ nat_lt k (min n (last - t))
 place_tests t n last P k w l = elim (cases_lt k (min n (last - t))) [
   | inl h ↦ and_from _ _ (lt-ltb (t + k) last (omega arith)) (lt-ltb (t + k) P (omega arith)) ∙ sym (lt-ltb k (min n (last - t)) h)
@@ -68,6 +71,7 @@ has_place r t n ds c k e w l =
 
 -- ---- who is open after the round
 
+-- the last period of the round is given where all are
 all_or_fewer : (n m : ℕ) → 1 ≤ n → nat_lt (n - 1) (min n m) ≡ (min n m == n)
 all_or_fewer n m s = elim (cases_lt (n - 1) (min n m)) [
   | inl h ↦ lt-ltb (n - 1) (min n m) h ∙ sym (eq-eqb (min n m) n (omega arith))
@@ -147,6 +151,7 @@ bridge_after_round r t n ds left c h =
 
 -- ---- what is set in the round
 
+-- fields of settings
 abbrev level_of : Settings → ℤ
 level_of now = now.level
 
@@ -159,6 +164,7 @@ starts_in now = now.starts
 abbrev pub bridged_in : Settings → Bool
 bridged_in now = now.bridged
 
+-- periods change nothing of whether a call is bridged
 pub bridge_kept : (k : ℕ) (now : Settings) → bridged_in (settings_at k now) ≡ bridged_in now
 bridge_kept zero now = refl
 bridge_kept (suc k) now = bridge_kept k now
@@ -179,6 +185,7 @@ settings_kept r t n ds left c (suc k) h l =
     by true = refl
     by false = refl
 
+-- settings that differ in no other field and are bridged alike are the same
 pub but_for_bridge : (x y : Settings) → without_bridge x ≡ without_bridge y → bridged_in x ≡ bridged_in y → x ≡ y
 but_for_bridge x y e b = same_settings x.level y.level x.mode y.mode x.starts y.starts x.bridged y.bridged (ap level_of e) (ap mode_of e) (ap starts_in e) b
 
@@ -217,6 +224,7 @@ place_more r t n ds left c k io handed past h o f l e p =
 
 -- ---- a call that lies in no bridge
 
+-- period by period, for the first k of them
 alone_go : (r : Run) (t n : ℕ) (ds : List Done) (left : List Order) (c k : ℕ) (io : IoMemory) → IsRound r t n ds left → IsOpenAt r t ds c → IsFed r ds t n c io →
     bridge_of (gone_at (whole_in r) t ds) ds c ≡ None → k ≤ io.given → alone_periods k (start_at r ds t c io) ≡ periods_to r c (t + k - start_of ds c)
 alone_go r t n ds left c zero io h o f b l = let e : t ≡ t + 0 = omega arith in ap (λ (u : ℕ). periods_to r c (u - start_of ds c)) e

@@ -37,5 +37,6 @@ drop-periods_to r c m (suc w) = let e : m + suc w ≡ suc (m + w) = omega arith 
 pub out_of_periods : (r : Run) (c m w : ℕ) → out_line (who_in r c) (periods_to r c (m + w)) ≡ out_line (who_in r c) (periods_to r c m) ++ outs_of (who_in r c) w (periods_to r c (m + w))
 out_of_periods r c m w = out_line-more (who_in r c) w (periods_to r c (m + w)) ∙ ap (λ (ts : List CallPeriod). out_line (who_in r c) ts ++ outs_of (who_in r c) w (periods_to r c (m + w))) (drop-periods_to r c m w)
 
+-- the same of the downlink
 pub down_of_periods : (r : Run) (c m w : ℕ) → down_octets (who_in r c) (periods_to r c (m + w)) ≡ down_octets (who_in r c) (periods_to r c m) ++ downs_of (who_in r c) w (periods_to r c (m + w))
 down_of_periods r c m w = down_octets-more (who_in r c) w (periods_to r c (m + w)) ∙ ap (λ (ts : List CallPeriod). down_octets (who_in r c) ts ++ downs_of (who_in r c) w (periods_to r c (m + w))) (drop-periods_to r c m w)

@@ -25,6 +25,7 @@ use Rattle.farm_run.proofs.Rounds.Histories.{IsOpenAt, open_at, bridge_open, bri
 
 -- ---- the calls of a bridge
 
+-- the order of two tests doesn't matter
 and_other : (p q : Bool) → (p && q) ≡ (q && p)
 and_other true true = refl
 and_other true false = refl
@@ -41,6 +42,7 @@ both_calls p c x j = elim (cases_Bool (c == x.a)) [
     second : (p q : Bool) → p ≡ false → (p || q) ≡ true → q ≡ true
     second p q e f = cc
 
+-- a call is the other one of its partner
 other_back : (c : ℕ) (x : Bridge) → joins c x ≡ true → other (other c x) x ≡ c
 other_back c x j = elim (cases_Bool (c == x.a)) [
   | inl e ↦ ap (λ (t : Bool). other (if t then x.b else x.a) x) e ∙ either (x.b == x.a) refl ∙ sym (eqb-true c x.a e)
@@ -67,6 +69,7 @@ record ArePartners (r : Run) (t n : ℕ) (ds : List Done) (c d : ℕ) (x : Bridg
   pub fed : IsFed r ds t n c io
   pub fed_other : IsFed r ds t n d io'
 
+-- what ties the two calls of a bridge goes both ways
 swapped : (r : Run) (t n : ℕ) (ds : List Done) (c d : ℕ) (x : Bridge) (io io' : IoMemory) → ArePartners r t n ds c d x io io' → ArePartners r t n ds d c x io' io
 swapped r t n ds c d x io io' p = record {
   alive = p.alive_other;
@@ -81,6 +84,7 @@ swapped r t n ds c d x io io' p = record {
   fed_other = p.fed;
 }
 
+-- two calls of a bridge at the clock are partners in the round
 partners : (r : Run) (t n : ℕ) (ds : List Done) (left : List Order) (c : ℕ) (x : Bridge) (io io' : IoMemory) → IsRound r t n ds left →
     bridge_of (gone_at (whole_in r) t ds) ds c ≡ Some x → IsFed r ds t n c io → IsFed r ds t n (other c x) io' → ArePartners r t n ds c (other c x) x io io'
 partners r t n ds left c x io io' h b f g =
@@ -103,6 +107,7 @@ partners r t n ds left c x io io' h b f g =
 
 -- ---- what is handed over
 
+-- what a call hands over in a period
 abbrev item_in : Run → List Done → ℕ → ℕ → List ℕ
 item_in r ds u d = item_of d (ups_to r d (u + 1 - start_of ds d))
 
@@ -140,6 +145,7 @@ item_is r t n ds d k io ts o f l e =
 
 -- ---- the periods
 
+-- period by period, for the first k of them
 bridged_go : (r : Run) (t n : ℕ) (ds : List Done) (left : List Order) (c d k : ℕ) (x : Bridge) (io io' : IoMemory) → IsRound r t n ds left → ArePartners r t n ds c d x io io' → k ≤ io.given →
     bridged_periods k (start_at r ds t c io) (start_at r ds t d io') ≡ periods_to r c (t + k - start_of ds c)
 bridged_go r t n ds left c d zero x io io' h p l = let e : t ≡ t + 0 = omega arith in ap (λ (u : ℕ). periods_to r c (u - start_of ds c)) e

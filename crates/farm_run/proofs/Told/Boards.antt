@@ -64,14 +64,17 @@ pub told_done : (s : State) (ends : List CallEnd) → (told_after s ends).done �
 told_done s [] = refl
 told_done s (e ∷ ends) = told_done (told_more s e.call e.at) ends
 
+-- the orders that are left stay
 pub told_left : (s : State) (ends : List CallEnd) → (told_after s ends).left ≡ s.left
 told_left s [] = refl
 told_left s (e ∷ ends) = told_left (told_more s e.call e.at) ends
 
+-- so do all orders
 pub told_orders : (s : State) (ends : List CallEnd) → orders_of (told_after s ends) ≡ orders_of s
 told_orders s [] = refl
 told_orders s (e ∷ ends) = told_orders (told_more s e.call e.at) ends
 
+-- and the room for ends
 pub told_room : (s : State) (ends : List CallEnd) → length (told_after s ends).told ≡ length s.told
 told_room s [] = refl
 told_room s (e ∷ ends) = told_room (told_more s e.call e.at) ends ∙ length-set s.told e.call (Some e.at)
@@ -81,6 +84,7 @@ pub told_next : (s : State) (ends : List CallEnd) (e : CallEnd) → told_after s
 told_next s [] e = refl
 told_next s (d ∷ ends) e = told_next (told_more s d.call d.at) ends e
 
+-- an end that is told lets its call be gone, and no other
 gone_more : (s : State) (call at c : ℕ) → call < length s.told → gone_in (told_more s call at) c ≡ (gone_in s c || c == call)
 gone_more s call at c l = elim (cases_Bool (c == call)) [
   | inl e ↦

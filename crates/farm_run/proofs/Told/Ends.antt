@@ -49,6 +49,7 @@ told_late was now ends at h l = subst (λ ds. last_stamp ds ≤ at) (sym (ap (λ
 
 -- ---- before the first end and after the last one
 
+-- no end is told yet,
 pub none_told : (was : State) → IsTold was was []
 none_told was = record { told = refl; is_open = λ c. kept (open_now was c) }
   where
@@ -56,9 +57,11 @@ none_told was = record { told = refl; is_open = λ c. kept (open_now was c) }
     kept true = refl
     kept false = refl
 
+-- or noted,
 pub no_ends_noted : (j : JournalMemory) → j ≡ with_ends [] j
 no_ends_noted j = ap (λ es. record j { ends = es }) (sym (append-nil j.ends))
 
+-- and each call has its partner
 pub none_past : (partner : ℕ → Option ℕ) (c : ℕ) → partner c ≡ partner_past [] partner c
 none_past partner c = go (partner c)
   where
@@ -66,14 +69,17 @@ none_past partner c = go (partner c)
     go None = refl
     go (Some p) = refl
 
+-- all ends are noted
 pub all_noted : (ends : List CallEnd) (i : ℕ) (start now : JournalMemory) → length ends ≤ i → now ≡ with_ends (take i ends) start → now ≡ with_ends ends start
 all_noted ends i start now l h = h ∙ ap (λ es. with_ends es start) (take_all i ends l)
 
+-- and told
 pub told_all : (was now : State) (ends : List CallEnd) (i : ℕ) → length ends ≤ i → IsTold was now (take i ends) → IsTold was now ends
 told_all was now ends i l h = subst (IsTold was now) (take_all i ends l) h
 
 -- ---- the end of the run
 
+-- the run's end is told of these calls
 pub limits_told : (at c : ℕ) (calls : List ℕ) → is_told c (map (limit_at at) calls) ≡ is_among calls c
 limits_told at c [] = refl
 limits_told at c (d ∷ calls) = ap (λ b. b || is_told c (map (limit_at at) calls)) (turn c d) ∙ ap (λ b. d == c || b) (limits_told at c calls)
@@ -102,6 +108,7 @@ limit_there at (c ∷ calls) (suc i) l = limit_there at calls i (omega arith)
 pub limits_open : (was now : State) (at : ℕ) (calls : List ℕ) → IsTold was now (map (limit_at at) calls) → (c : ℕ) → open_now now c ≡ (open_now was c && not (is_among calls c))
 limits_open was now at calls h c = h.is_open c ∙ ap (λ b. open_now was c && not b) (limits_told at c calls)
 
+-- where they are all that were open
 pub none_open : (was now : State) (at : ℕ) (calls : List ℕ) → IsTold was now (map (limit_at at) calls) → ((c : ℕ) → is_among calls c ≡ open_now was c) → (c : ℕ) → open_now now c ≡ false
 none_open was now at calls h e c = limits_open was now at calls h c ∙ ap (λ b. open_now was c && not b) (e c) ∙ neither (open_now was c)
   where

@@ -31,6 +31,7 @@ both_none : (p q : Bool) → p ≡ false → q ≡ false → (p || q) ≡ false
 both_none false q e f = f
 both_none true q e f = cc
 
+-- a call's end is told in one of two lists
 pub told_append : (c : ℕ) (xs ys : List CallEnd) → is_told c (xs ++ ys) ≡ (is_told c xs || is_told c ys)
 told_append c [] ys = refl
 told_append c (x ∷ xs) ys = ap (λ (b : Bool). c == x.call || b) (told_append c xs ys) ∙ assoc (c == x.call) (is_told c xs) (is_told c ys)
@@ -45,15 +46,18 @@ not_noted noted ends e now q f g = ap (is_told e.call) q ∙ told_append e.call 
 
 -- ---- few ends
 
+-- an end that isn't told is of a call other than theirs
 others : (c : ℕ) (ends : List CallEnd) → is_told c ends ≡ false → AllByRecursion (λ y. eqb c y ≡ false) (map (λ (e : CallEnd). e.call) ends)
 others c [] e = tt
 others c (d ∷ ends) e = let p = or_none (c == d.call) (is_told c ends) e in (p.0, others c ends p.1)
 
+-- ends of calls apart are of different calls
 distinct : (ends : List CallEnd) → AreApart ends → IsDistinct eqb (map (λ (e : CallEnd). e.call) ends)
 unfolding IsDistinct
 distinct [] a = tt
 distinct (e ∷ ends) a = (others e.call ends a.0, distinct ends a.1)
 
+-- they are of calls that there can be
 below : (ends : List CallEnd) → AllByRecursion (λ e. IsCallNumber e.call) ends → (q : ℕ) → list_any (eqb q) (map (λ (e : CallEnd). e.call) ends) ≡ true → q < 4097
 below [] n q e = cc
 below (d ∷ ends) n q e = elim (or_cases (q == d.call) (list_any (eqb q) (map (λ (e : CallEnd). e.call) ends)) e) [
@@ -61,6 +65,7 @@ below (d ∷ ends) n q e = elim (or_cases (q == d.call) (list_any (eqb q) (map (
   | inr h ↦ below ends n.1 q h
 ]
 
+-- so there are no more than calls
 few : (ends : List CallEnd) → AreApart ends → AllByRecursion (λ e. IsCallNumber e.call) ends → length ends ≤ 4097
 few ends a n = let l = length-le_from_distinct_below (map (λ (e : CallEnd). e.call) ends) 4097 (distinct ends a) (below ends n) in omega (arith, l, length-map ends (λ (e : CallEnd). e.call))
 
@@ -81,9 +86,11 @@ apart_more (d ∷ ends) e a n =
 pub none_noted : (s : State) (noted : List CallEnd) (c : ℕ) → AreShut s noted → open_now s c ≡ true → is_told c noted ≡ false
 none_noted s noted c h o = is_false (is_told c noted) (λ t. let p = h c t in true≢false (sym o ∙ p.1))
 
+-- **Ends of open calls aren't noted yet.**
 pub new_ends : (s : State) (noted ends : List CallEnd) → AreShut s noted → AreOpen s ends → AreNew noted ends
 new_ends s noted ends h o = λ i d l. none_noted s noted _ h (o i d l)
 
+-- a call whose end is told was open
 told_one : (s : State) (ends : List CallEnd) (c : ℕ) → AllByRecursion (λ e. open_now s e.call ≡ true) ends → is_told c ends ≡ true → open_now s c ≡ true
 told_one s [] c a e = cc
 told_one s (d ∷ ends) c a e = elim (or_cases (c == d.call) (is_told c ends) e) [ inl q ↦ ap (open_now s) (eqb-true c d.call q) ∙ a.0 | inr q ↦ told_one s ends c a.1 q ]

@@ -25,9 +25,11 @@ each_told Q t (s ∷ seats) h = by (seat_end t s) (h 0 (omega arith)) (each_told
 abbrev pub has_call : List SeatMemory → ℕ → Bool
 has_call seats c = list_any (λ s. s.place.call == c) seats
 
+-- the end that a seat tells of its call
 abbrev end_of_seat : ℕ → SeatMemory → CallEnd
 end_of_seat t s = record { call = s.place.call; at = t + places.whole_in s.place; cause = lack_of (places.whole_in s.place) (places.given_in s.place) }
 
+-- two numbers of which one is greater aren't the same
 apart_test : (c d : ℕ) → c < d → ((c == d) ≡ false) × ((d == c) ≡ false)
 apart_test c d l = (ne_eqb c d (λ e. omega arith), ne_eqb d c (λ e. omega arith))
 

@@ -27,6 +27,7 @@ is_false : (b : Bool) → (b ≡ true → ⊥) → b ≡ false
 is_false false h = refl
 is_false true h = absurd (h refl)
 
+-- the order of two compared numbers doesn't matter
 pub turn : (m n : ℕ) → (m == n) ≡ (n == m)
 turn m n = elim (cases_Bool (m == n)) [
   | inl q ↦ q ∙ sym (eq-eqb n m (sym (eqb-true m n q)))
@@ -57,12 +58,14 @@ open_more true true o false e = e
 open_more true false o false e = e
 open_more false s o false e = e
 
+-- a partner has left where it had before, or is the call of this end
 left_next : (o : Option ℕ) (ends : List CallEnd) (e : CallEnd) → has_left o (ends ++ e ∷ []) ≡ (has_left o ends || is_this e.call o)
 left_next None ends e = refl
 left_next (Some p) ends e = any_next (λ d. p == d.call) ends e ∙ ap (λ b. is_told p ends || b) (turn p e.call)
 
 -- Neither of its calls has a partner then, and the others keep theirs.
 module _ (was : ℕ → Option ℕ) (both : (c p : ℕ) → was c ≡ Some p → was p ≡ Some c) (ends : List CallEnd) (e : CallEnd) (new : is_told e.call ends ≡ false) where
+  -- no partner stays none
   none_if : (b : Bool) → (if b then None else None) ≡ no_number
   none_if true = refl
   none_if false = refl
@@ -93,6 +96,7 @@ module _ (was : ℕ → Option ℕ) (both : (c p : ℕ) → was c ≡ Some p →
           apart true f = refl
           apart false f = is_false (c == d) f
 
+  -- **So it is with one end more.**
   pub partner_more : (now : ℕ → Option ℕ) → ((c : ℕ) → now c ≡ partner_past ends was c) → (c : ℕ) → partner_without e.call now c ≡ partner_past (ends ++ e ∷ []) was c
   partner_more now h c =
       ap (λ o. if c == e.call || is_this c o then None else now c) (h e.call)

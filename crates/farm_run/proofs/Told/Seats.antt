@@ -17,9 +17,11 @@ use Rattle.farm_run.proofs.Rounds.Taken.{IsRound, IsSeat, has_seat}
 use Rattle.farm_run.specs.Ending.{AreApart}
 use Rattle.farm_run.proofs.Rounds.Ends.{end_within, ends_there, round_end}
 
+-- the run's end of a call
 abbrev run_end : Run → List Done → ℕ → CallEnd
 run_end r ds c = end_of (given_in r) r.periods (done_in r) c (start_of ds c)
 
+-- the call of an end
 abbrev call_of : CallEnd → ℕ
 call_of e = e.call
 

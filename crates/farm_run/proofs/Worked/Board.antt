@@ -34,6 +34,7 @@ use Rattle.farm_run.proofs.Worked.Round.{WorkedRound}
 use Rattle.farm_run.proofs.Worked.Calls.{OpenSeat, open_seat, all_seats, all_have_seats, ends_filled, goes_on_is}
 use Rattle.farm_run.proofs.Worked.Past.{IsPast, worked_past}
 
+-- the call of an end
 abbrev call_is : CallEnd → ℕ
 call_is e = e.call
 
@@ -41,27 +42,33 @@ module _ (r : Run) (t n : ℕ) (b : State) (farm after : FarmMemory) (first befo
     (w : WorkedRound t n farm after before now ends) (h : IsRound r t n b.done b.left) (m : Matches b farm.groups) (b' : State) (last : Standing) (at : IsAtClock r t b farm.groups last first before)
     (meets : MeetsRun r n w.filled (standing b' after.failed now) last) (a : AtClock t b farm.groups) (knows : KnowsListed b farm.groups farm.failed) (told : b' ≡ told_after b ends)
     (open_then : (c : ℕ) → open_now b' c ≡ (open_now b c && not (is_told c ends))) where
+  -- whether a call is open at the clock
   abbrev pub alive : ℕ → Bool
   alive = is_open (gone_at (whole_in r) t b.done) b.done
 
+  -- what is known of its seat
   abbrev pub Seat : ℕ → Type 0
   Seat c = OpenSeat r t n b farm after first before now ends w h m b' last at meets c
 
   abbrev pub seat : (c : ℕ) → alive c ≡ true → Seat c
   seat c o = open_seat r t n b farm after first before now ends w h m b' last at meets c o
 
+  -- what each call has had before the round
   abbrev hs : ℕ → Option CallHistory
   hs = histories_at r b.done t
 
+  -- and at its end, those that end in it too
   abbrev worked_at_end : ℕ → Option CallHistory
   worked_at_end = worked_histories w.filled (partner_in farm.groups) hs
 
+  -- what is known of the latter
   abbrev Past : ℕ → CallHistory → Type 0
   Past c x = IsPast r t n b farm after first before now ends w h m b' last at meets c x
 
   abbrev past : (c : ℕ) → alive c ≡ true → (x : CallHistory) × (worked_at_end c ≡ Some x) × Past c x
   past c o = worked_past r t n b farm after first before now ends w h m b' last at meets c o
 
+  -- a call goes on where its lines give all periods of the round
   goes : (c : ℕ) → alive c ≡ true → goes_on_call w.worked c ≡ (places_in r b.done t n c == n)
   goes c o = goes_on_is r t n b farm after first before now ends w h m b' last at meets c o
 
@@ -87,6 +94,7 @@ module _ (r : Run) (t n : ℕ) (b : State) (farm after : FarmMemory) (first befo
           let same = ap call_is (end_within r t n b.done b.left c h q) in
           (ap (ends_within r b.done t n) same ∙ q, ap (λ (d : ℕ). end_of (given_in r) r.periods (done_in r) d (start_of b.done d)) (sym same))
 
+  -- behind the round the ends are told in time
   pub tells_after : TellsEnds (whole_in r) (t + n) b'
   tells_after c opened unclosed =
       let same : b'.done ≡ b.done = ap (λ (s : State). s.done) told ∙ told_done b ends in

@@ -52,6 +52,7 @@ same_ends t (s ∷ ss) (x ∷ ts) e h =
 module _ (r : Run) (t n : ℕ) (b : State) (farm after : FarmMemory) (first before now : ℕ → Side → LineState) (ends : List CallEnd)
     (w : WorkedRound t n farm after before now ends) (h : IsRound r t n b.done b.left) (m : Matches b farm.groups) (b' : State) (last : Standing) (at : IsAtClock r t b farm.groups last first before)
     (meets : MeetsRun r n w.filled (standing b' after.failed now) last) where
+  -- whether a call is open at the clock
   abbrev alive : ℕ → Bool
   alive = is_open (gone_at (whole_in r) t b.done) b.done
 
@@ -59,6 +60,7 @@ module _ (r : Run) (t n : ℕ) (b : State) (farm after : FarmMemory) (first befo
   pub open_is : (c : ℕ) → is_some (call_in farm.groups c) ≡ alive c
   open_is c = m.is_open c ∙ open_told (whole_in r) t b at.follows.tells c
 
+  -- the run opens it
   pub opened_is : (c : ℕ) → alive c ≡ true → IsOpened r c
   opened_is c o = ap is_some (opened_run r t b.done b.left c (start_of b.done c) h.so_far (open_at r t b.done c (standing_now r t b.done b.left h.so_far) o).opened)
 
@@ -77,6 +79,7 @@ module _ (r : Run) (t n : ℕ) (b : State) (farm after : FarmMemory) (first befo
     pub up_left : IsToCome (now c Up) (40 * (t - start_of b.done c) + 40 * n) (r.lines c).up (never_given (last.listed c Up) (last.lines c Up))
     pub pcm_left : IsToCome (now c Pcm) (160 * (t - start_of b.done c) + 160 * n) (r.lines c).pcm (never_given (last.listed c Pcm) (last.lines c Pcm))
 
+  -- **An open call has a seat, which took what the run's lines give.**
   pub open_seat : (c : ℕ) → alive c ≡ true → OpenSeat c
   open_seat c o = by (seat_cases t n farm after before now ends w c)
     where
@@ -115,9 +118,11 @@ module _ (r : Run) (t n : ℕ) (b : State) (farm after : FarmMemory) (first befo
 
   -- ---- the round's seats and ends
 
+  -- there are as many seats as open calls
   long : length w.filled ≡ length farm.live
   long = w.filled_number ∙ w.number
 
+  -- a seat that took what the run's lines give its call is one of the run's round
   seat_is : (c : ℕ) (s : SeatMemory) → alive c ≡ true → s.place.call ≡ c → IsTaken r b.done t n c s.place s.up s.pcm → IsSeat r b.done t n s
   seat_is c s o e k = record { open_now = ap alive e ∙ o; taken = subst (λ (d : ℕ). IsTaken r b.done t n d s.place s.up s.pcm) (sym e) k }
 
@@ -135,12 +140,14 @@ module _ (r : Run) (t n : ℕ) (b : State) (farm after : FarmMemory) (first befo
           let same : seat_at w.filled s.k ≡ seat_at w.filled k = sym s.found ∙ ap (seat_of w.filled) (sym called) ∙ seat_of_at w.filled k w.rising l in
           subst (IsSeat r b.done t n) same (seat_is c (seat_at w.filled s.k) o s.number s.taken)
 
+  -- each open call has one
   pub all_have_seats : (c : ℕ) → alive c ≡ true → has_seat c w.filled ≡ true
   all_have_seats c o =
       let s = open_seat c o in
       let l = s.within in
       list_any_at (λ x. c == x.place.call) w.filled s.k no_seat (omega (arith, l, long)) (eq-eqb c (call_at w.filled s.k) (sym s.number))
 
+  -- the ends that are told are those of the filled seats
   pub ends_filled : ends ≡ filter_map (seat_end t) w.filled
   ends_filled = w.told ∙ same_ends t w.worked w.filled w.worked_number w.places
 

@@ -48,6 +48,7 @@ module _ (t n : ℕ) (b : State) (farm : FarmMemory) (before between : ℕ → S
       let long = up_long _ _ _ _ _ _ _ _ f.2 in
       omega (arith, place, up, long)
 
+  -- an end that a seat tells is right
   seat_right : (k : ℕ) → k < length worked → IfSome (seat_end t (seat_at worked k)) (IsRight t n b)
   seat_right k l = by (places.whole_in s.place == s.place.periods) refl
     where
@@ -84,6 +85,7 @@ module _ (t n : ℕ) (b : State) (farm : FarmMemory) (before between : ℕ → S
       by true e = tt
       by false e = right (λ q. let g = eq-eqb (places.whole_in s.place) s.place.periods q in cc)
 
+  -- so is each that is told
   pub ends_right : AllByRecursion (IsRight t n b) ends
   ends_right = subst (AllByRecursion (IsRight t n b)) (sym w.told) (each_told (IsRight t n b) t worked seat_right)
 
@@ -91,12 +93,15 @@ module _ (t n : ℕ) (b : State) (farm : FarmMemory) (before between : ℕ → S
   pub tells_numbers : HaveNumbers ends
   tells_numbers = All-from_recursion (λ e. IsCallNumber e.call) ends (each_weaker (IsRight t n b) (λ e. IsCallNumber e.call) ends (λ e q. q.number) ends_right)
 
+  -- its call is open,
   pub tells_open : AreOpen b ends
   tells_open = All-from_recursion (λ e. open_now b e.call ≡ true) ends (each_weaker (IsRight t n b) (λ e. open_now b e.call ≡ true) ends (λ e q. q.open_now) ends_right)
 
+  -- no two are of one call,
   pub tells_apart : AreApart ends
   tells_apart = subst AreApart (sym w.told) (seats_apart t worked w.worked_rising)
 
+  -- and none lies below the stamp of an executed order
   pub tells_late : AreLate b ends
   tells_late = let past = a.past in All-from_recursion (λ e. last_stamp b.done ≤ e.at) ends (each_weaker (IsRight t n b) (λ e. last_stamp b.done ≤ e.at) ends (λ e q. let f = q.from in omega arith) ends_right)
 
@@ -112,6 +117,7 @@ module _ (t n : ℕ) (b : State) (farm after : FarmMemory) (before now : ℕ →
           (eq-eqb (call_at w.worked p.0) c (worked_at t n farm after before now ends w p.0 p.1 ∙ p.2))
       by (inr q) = cc
 
+  -- the farm keeps the calls whose ends weren't told
   calls_left : (c : ℕ) → is_some (call_in after.groups c) ≡ (is_some (call_in farm.groups c) && not (is_told c ends))
   calls_left c = w.is_open c ∙ ap (λ (x : Bool). x && goes_on_call w.worked c) (w.live c) ∙ by (is_some (call_in farm.groups c)) refl
     where
@@ -123,6 +129,7 @@ module _ (t n : ℕ) (b : State) (farm after : FarmMemory) (before now : ℕ →
       by true q = twice (goes_on_call w.worked c) ∙ sym (ap not (told_is c q))
       by false q = refl
 
+  -- and of the partners those that both go on
   partners_left : ArePairs (open_now b) (partner_now b) → (c : ℕ) → partner_in after.groups c ≡ partner_past ends (partner_in farm.groups) c
   partners_left pairs c = w.partners c ∙ by (partner_in farm.groups c) refl
     where

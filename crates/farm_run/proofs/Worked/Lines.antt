@@ -47,6 +47,7 @@ not_by_lines k g = by (nat_lt g.up (40 * (k + 1))) g.up_failed g.pcm_failed
     by false u true h = h
     by false u false h = h
 
+-- the cause of an end
 abbrev cause_of : CallEnd → Cause
 cause_of e = e.cause
 
@@ -58,27 +59,33 @@ module _ (r : Run) (t n : ℕ) (b : State) (farm after : FarmMemory) (first befo
     (w : WorkedRound t n farm after before now ends) (h : IsRound r t n b.done b.left) (m : Matches b farm.groups) (b' : State) (last : Standing) (at : IsAtClock r t b farm.groups last first before)
     (meets : MeetsRun r n w.filled (standing b' after.failed now) last) (a : AtClock t b farm.groups) (knows : KnowsListed b farm.groups farm.failed) (told : b' ≡ told_after b ends)
     (open_then : (c : ℕ) → open_now b' c ≡ (open_now b c && not (is_told c ends))) where
+  -- whether a call is open at the clock
   abbrev pub alive : ℕ → Bool
   alive = is_open (gone_at (whole_in r) t b.done) b.done
 
+  -- what is known of its seat
   abbrev pub Seat : ℕ → Type 0
   Seat c = OpenSeat r t n b farm after first before now ends w h m b' last at meets c
 
   abbrev pub seat : (c : ℕ) → alive c ≡ true → Seat c
   seat c o = open_seat r t n b farm after first before now ends w h m b' last at meets c o
 
+  -- what each call has had before the round
   abbrev hs : ℕ → Option CallHistory
   hs = histories_at r b.done t
 
+  -- and at its end, those that end in it too
   abbrev worked_at_end : ℕ → Option CallHistory
   worked_at_end = worked_histories w.filled (partner_in farm.groups) hs
 
+  -- a call that isn't open has no period in the round, and its lines stay
   idle : (c : ℕ) → IsOpened r c → alive c ≡ false → worked_to r (t + n) c ≡ worked_to r t c
   idle = worked_written.idle r t n b farm after first before now ends w h m b' last at meets a knows told open_then
 
   kept : (c : ℕ) → alive c ≡ false → (s : Side) → now c s ≡ before c s
   kept = worked_written.kept r t n b farm after first before now ends w h m b' last at meets a knows told open_then
 
+  -- the board and the farm behind it
   tells_after : TellsEnds (whole_in r) (t + n) b'
   tells_after = worked_board.tells_after r t n b farm after first before now ends w h m b' last at meets a knows told open_then
 
@@ -103,6 +110,7 @@ module _ (r : Run) (t n : ℕ) (b : State) (farm after : FarmMemory) (first befo
       most : (n m : ℕ) → n ≤ min n m → min n m ≡ n
       most n m l = omega arith
 
+  -- so many octets of its line lie before the clock behind the round
   read_to : (c m : ℕ) → alive c ≡ true → IsReadWhole r (t + n) c → m * worked_to r (t + n) c ≡ m * (t - start_of b.done c) + m * n
   read_to c m o q =
       let begun = (open_at r t b.done c (standing_now r t b.done b.left h.so_far) o).begun in

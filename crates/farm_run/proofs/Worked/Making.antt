@@ -32,6 +32,7 @@ pub record IsMade (farm after : FarmMemory) (planned filled : RoundMemory) (work
       tally_in after.tallies c ≡ (if goes_on_call worked.seats c then tally_in worked.tallies c else kept_of (h c) (tally_in worked.tallies c))
 
 module _ (farm after : FarmMemory) (planned filled : RoundMemory) (worked : WorkedMemory) (m : IsMade farm after planned filled worked) where
+  -- what each part of the round keeps of the farm
   jobs : filled.jobs ≡ planned.jobs
   jobs = ap (λ (p : RoundMemory). p.jobs) m.kept
 
@@ -41,36 +42,45 @@ module _ (farm after : FarmMemory) (planned filled : RoundMemory) (worked : Work
   tallies : worked.tallies ≡ farm.tallies
   tallies = m.tallies_worked ∙ ap (λ (p : RoundMemory). p.tallies) m.kept ∙ m.tallies
 
+  -- each call has the partner that it had, in the jobs before the work
   filled_partner : (c : ℕ) → partner_in (groups_from filled.jobs) c ≡ partner_in farm.groups c
   filled_partner c = ap (λ (js : List Job). partner_in (groups_from js) c) jobs ∙ m.partners c
 
   partner : partner_in (groups_from filled.jobs) ≡ partner_in farm.groups
   partner = λ i. λ c. filled_partner c i
 
+  -- and behind it
   worked_partner : (c : ℕ) → partner_in (groups_from worked.jobs) c ≡ partner_in farm.groups c
   worked_partner c = m.partners_worked c ∙ filled_partner c
 
   partner_worked : partner_in (groups_from worked.jobs) ≡ partner_in farm.groups
   partner_worked = λ i. λ c. worked_partner c i
 
+  -- the jobs begin with what the calls have had
   start : (h : ℕ → Option CallHistory) → GroupsStand h farm.groups → GroupsStand h (groups_from filled.jobs)
   start h g = subst (λ (js : List Job). GroupsStand h (groups_from js)) (sym jobs) (m.begins h g)
 
+  -- and come to what they have had at the round's end
   stand : (h : ℕ → Option CallHistory) → GroupsStand h farm.groups → WorkedStand (worked_histories filled.seats (partner_in farm.groups) h) worked
   stand h g = subst (λ (q : ℕ → Option ℕ). WorkedStand (worked_histories filled.seats q h) worked) partner (m.stands h (start h g))
 
+  -- **The seats hold what the calls give in it.**
   pub made_octets : (h : ℕ → Option CallHistory) → GroupsStand h farm.groups → AreWorked filled.seats (worked_histories filled.seats (partner_in farm.groups) h) worked.seats
   made_octets h g = subst (λ (q : ℕ → Option ℕ). AreWorked filled.seats (worked_histories filled.seats q h) worked.seats) partner (m.octets h (start h g))
 
+  -- **The calls that go on stay in the farm.**
   pub made_open : (c : ℕ) → is_some (call_in after.groups c) ≡ (is_among farm.live c && goes_on_call worked.seats c)
   made_open c = m.is_open c ∙ m.alive c ∙ ap (λ (l : List ℕ). is_among l c && goes_on_call worked.seats c) live
 
+  -- **So do the partners of which both go on.**
   pub made_partners : (c : ℕ) → partner_in after.groups c ≡ partner_past (goes_on_call worked.seats) (partner_in farm.groups) c
   made_partners c = m.partners_after c ∙ ap (λ (q : ℕ → Option ℕ). partner_past (goes_on_call worked.seats) q c) partner_worked
 
+  -- **The farm stands for what they have had then.**
   pub made_stands : (h : ℕ → Option CallHistory) → GroupsStand h farm.groups → GroupsStand (those_that (goes_on_call worked.seats) (worked_histories filled.seats (partner_in farm.groups) h)) after.groups
   made_stands h g = m.history (worked_histories filled.seats (partner_in farm.groups) h) (stand h g)
 
+  -- **Of the others it keeps the counts.**
   pub made_tallies : (h : ℕ → Option CallHistory) → GroupsStand h farm.groups → (c : ℕ) →
       tally_in after.tallies c ≡ (if goes_on_call worked.seats c then tally_in farm.tallies c else kept_of (worked_histories filled.seats (partner_in farm.groups) h c) (tally_in farm.tallies c))
   made_tallies h g c =

@@ -56,12 +56,15 @@ starts_past k others now = by (nat_lt others k)
 module _ (r : Run) (t n : ℕ) (b : State) (farm after : FarmMemory) (first before now : ℕ → Side → LineState) (ends : List CallEnd)
     (w : WorkedRound t n farm after before now ends) (h : IsRound r t n b.done b.left) (m : Matches b farm.groups) (b' : State) (last : Standing) (at : IsAtClock r t b farm.groups last first before)
     (meets : MeetsRun r n w.filled (standing b' after.failed now) last) where
+  -- whether a call is open at the clock
   abbrev is_alive : ℕ → Bool
   is_alive = is_open (gone_at (whole_in r) t b.done) b.done
 
+  -- the bridge that it is in
   abbrev bridge_at : ℕ → Option Bridge
   bridge_at = bridge_of (gone_at (whole_in r) t b.done) b.done
 
+  -- what is known of its seat
   abbrev Seat : ℕ → Type 0
   Seat c = OpenSeat r t n b farm after first before now ends w h m b' last at meets c
 
@@ -76,21 +79,26 @@ module _ (r : Run) (t n : ℕ) (b : State) (farm after : FarmMemory) (first befo
   abbrev past : ℕ → CallHistory
   past c = record { law = law_in r c; periods = periods_to r c (t - start_of b.done c); now = settings_now r b.done t c }
 
+  -- what its job is given
   abbrev octets : ℕ → IoMemory
   octets c = io_of (seat_of w.filled c)
 
+  -- what it has had before the round
   past_is : (c : ℕ) → is_alive c ≡ true → histories_at r b.done t c ≡ Some (past c)
   past_is c o = ap (λ (x : Bool). past_if x (law_in r c) (periods_to r c (t - start_of b.done c)) (settings_now r b.done t c)) o
 
+  -- its job is given what the run's lines give
   pub fed : (c : ℕ) → is_alive c ≡ true → IsFed r b.done t n c (octets c)
   fed c o =
       let s = seat c o in
       let x = seat_at w.filled s.k in
       subst (λ (x : SeatMemory). IsFed r b.done t n c (io_of x)) (sym s.found) (fed_taken r t n b.done b.left c x.place (io_of x) h o s.taken s.number refl refl)
 
+  -- for so many periods as the run says
   pub given : (c : ℕ) → is_alive c ≡ true → places.whole_in (seat_of w.filled c).place ≡ places_in r b.done t n c
   given c o = let s = seat c o in ap (λ (x : SeatMemory). places.whole_in x.place) s.found ∙ s.whole
 
+  -- no more than the round has
   at_most : (c : ℕ) → places_in r b.done t n c ≤ n
   at_most c = most n (start_of b.done c + whole_in r c - t)
     where
@@ -105,9 +113,11 @@ module _ (r : Run) (t n : ℕ) (b : State) (farm after : FarmMemory) (first befo
     pub goes_on : places_in r b.done t n c ≡ n → x.now ≡ settings_now r b.done (t + n) c
     pub starts : x.now.starts ≡ (settings_now r b.done (t + places_in r b.done t n c) c).starts
 
+  -- a bridge starts after some periods of the round where it does so in the run
   starts_kept : (c k : ℕ) → k ≤ n → (settings_at k (settings_now r b.done t c)).starts ≡ (settings_now r b.done (t + k) c).starts
   starts_kept c k l = ap (λ (s : Settings). s.starts) (settings_kept r t n b.done b.left c k h l)
 
+  -- **Of a call that isn't bridged.**
   alone_is : (c : ℕ) → is_alive c ≡ true → bridge_at c ≡ None → IsPast c (history_alone w.filled c (past c))
   alone_is c o none =
       let g = given c o in
@@ -120,6 +130,7 @@ module _ (r : Run) (t n : ℕ) (b : State) (farm after : FarmMemory) (first befo
         starts = ap (λ (i : ℕ). (settings_at i (settings_now r b.done t c)).starts) g ∙ starts_kept c k l;
       }
 
+  -- **Of one that is, with its partner.**
   bridged_is : (c : ℕ) (x : Bridge) → is_alive c ≡ true → is_alive (other c x) ≡ true → bridge_at c ≡ Some x → IsPast c (history_bridged w.filled c (past c) (other c x) (past (other c x)))
   bridged_is c x o p some =
       let d = other c x in

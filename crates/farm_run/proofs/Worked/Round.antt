@@ -88,24 +88,30 @@ pub record FrontFacts (n : ℕ) (before between : Side → LineState) (c : ℕ) 
   pub place : worked.place ≡ filled.place
 
 module _ (n : ℕ) (before between : Side → LineState) (c : ℕ) (call : Call) (planned filled worked : SeatMemory) (f : FrontFacts n before between c call planned filled worked) where
+  -- reading changes the marks of the incoming lines alone
   kept_place : filled.place ≡ record planned.place { up = filled.place.up; pcm = filled.place.pcm }
   kept_place = ap (λ (s : SeatMemory). s.place) f.fills.kept
 
+  -- the seat is this call's, before the work
   pub filled_call : filled.place.call ≡ c
   filled_call = ap (λ (p : PlaceMemory). p.call) kept_place ∙ ap (λ (s : SeatMemory). s.place.call) f.made
 
+  -- and behind it
   pub worked_call : worked.place.call ≡ c
   worked_call = ap (λ (p : PlaceMemory). p.call) f.place ∙ filled_call
 
+  -- it is for so many periods
   pub filled_periods : filled.place.periods ≡ n
   filled_periods = ap (λ (p : PlaceMemory). p.periods) kept_place ∙ ap (λ (s : SeatMemory). s.place.periods) f.made
 
+  -- its buffers have the octets of so many
   pub up_long : length filled.up ≡ 40 * n
   up_long = f.fills.up_length ∙ ap (λ (s : SeatMemory). length s.up) f.made ∙ length-replicate (40 * n) 0
 
   pub pcm_long : length filled.pcm ≡ 160 * n
   pcm_long = f.fills.pcm_length ∙ ap (λ (s : SeatMemory). length s.pcm) f.made ∙ length-replicate (160 * n) 0
 
+  -- its outgoing lines stand as the call had them
   pub worked_down : worked.place.down ≡ outlet_before call.down_failed
   worked_down = ap (λ (p : PlaceMemory). p.down) (f.place ∙ kept_place) ∙ ap (λ (s : SeatMemory). s.place.down) f.made
 
@@ -118,13 +124,16 @@ pub record SeatFacts (n : ℕ) (before between now : Side → LineState) (c : �
   pub drains : Settles between now worked drained
 
 module _ (n : ℕ) (before between now : Side → LineState) (c : ℕ) (call : Call) (planned filled worked drained : SeatMemory) (f : SeatFacts n before between now c call planned filled worked drained) where
+  -- the seat is this call's behind the writing too
   pub drained_call : drained.place.call ≡ c
   drained_call = ap (λ (s : SeatMemory). s.place.call) f.drains.kept ∙ worked_call n before between c call planned filled worked f.front
 
+  -- a line that stands as it did before the round hasn't failed in it
   not_yet : (b : Bool) → fails_now (outlet_before b) ≡ false
   not_yet true = refl
   not_yet false = refl
 
+  -- no line of a planned seat has failed in the round
   fresh : IsFresh planned.place
   fresh = (ap (λ (s : SeatMemory). fails_now s.place.down) f.front.made ∙ not_yet call.down_failed, ap (λ (s : SeatMemory). fails_now s.place.out) f.front.made ∙ not_yet call.out_failed)
 
@@ -154,6 +163,7 @@ module _ (t n : ℕ) (farm : FarmMemory) (before between : ℕ → Side → Line
           )
 
 module _ (t n : ℕ) (farm after : FarmMemory) (before now : ℕ → Side → LineState) (ends : List CallEnd) (w : WorkedRound t n farm after before now ends) where
+  -- the round up to its work
   pub front : FilledRound t n farm before w.between w.planned w.filled w.worked ends
   front = record {
     live = w.live;
@@ -167,6 +177,7 @@ module _ (t n : ℕ) (farm after : FarmMemory) (before now : ℕ → Side → Li
     told = w.told;
   }
 
+  -- **Each open call has a seat, of which this is known.**
   pub seat_facts : (k c : ℕ) → k < length farm.live → slice_index farm.live k ≡ c →
       (x : Call) × (call_in farm.groups c ≡ Some x) × SeatFacts n (before c) (w.between c) (now c) c x (seat_at w.planned k) (seat_at w.filled k) (seat_at w.worked k) (seat_at w.drained k)
   seat_facts k c l e =
@@ -181,9 +192,11 @@ module _ (t n : ℕ) (farm after : FarmMemory) (before now : ℕ → Side → Li
       let called : call_at w.worked k ≡ c = worked_call _ _ _ _ _ _ _ _ f.2.front in
       subst (λ d. Drains (w.between d) (now d) (seat_at w.worked k) (seat_at w.drained k)) called (w.writes q k (omega (arith, l, w.number, w.filled_number, w.worked_number)))
 
+  -- the seats stand in the order of the open calls, behind the work
   pub worked_at : (k : ℕ) → k < length farm.live → call_at w.worked k ≡ slice_index farm.live k
   worked_at k l = let f = seat_facts k (slice_index farm.live k) l refl in worked_call _ _ _ _ _ _ _ _ f.2.front
 
+  -- and in the plan
   pub planned_at : (k : ℕ) → k < length farm.live → call_at w.planned k ≡ slice_index farm.live k
   planned_at k l = let f = seat_facts k (slice_index farm.live k) l refl in ap (λ (s : SeatMemory). s.place.call) f.2.front.made
 
@@ -193,18 +206,22 @@ module _ (t n : ℕ) (farm after : FarmMemory) (before now : ℕ → Side → Li
   pub down_between : (c : ℕ) → w.between c Down ≡ before c Down
   down_between c = w.filled_others c Down (λ k l e h. h)
 
+  -- reading leaves the outgoing lines
   pub out_between : (c : ℕ) → w.between c Out ≡ before c Out
   out_between c = w.filled_others c Out (λ k l e h. h)
 
+  -- both of them
   pub outgoing_between : (c : ℕ) (s : Side) → IsOutgoing s → w.between c s ≡ before c s
   outgoing_between c s o = w.filled_others c s (λ k l e i. not_both s i o)
 
+  -- writing leaves the incoming lines
   pub up_after : (c : ℕ) → now c Up ≡ w.between c Up
   up_after c = w.drained_others c Up (λ k l e h. h)
 
   pub pcm_after : (c : ℕ) → now c Pcm ≡ w.between c Pcm
   pcm_after c = w.drained_others c Pcm (λ k l e h. h)
 
+  -- both of them
   pub incoming_after : (c : ℕ) (s : Side) → IsIncoming s → now c s ≡ w.between c s
   incoming_after c s i = w.drained_others c s (λ k l e o. not_both s i o)
 

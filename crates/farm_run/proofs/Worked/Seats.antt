@@ -6,6 +6,7 @@ use Rattle.round_lines.specs.Seats.{SeatMemory}
 use Rattle.round_lines.specs.Rounds.{Rising, seat_at, call_at, no_seat}
 use Rattle.farm_rounds.specs.RoundHistories.{seat_of}
 
+-- without the first seat the others rise
 tail_rising : (s : SeatMemory) (seats : List SeatMemory) → Rising (s ∷ seats) → Rising seats
 tail_rising s seats r = λ i j l k. r (suc i) (suc j) (omega arith) (omega arith)
 

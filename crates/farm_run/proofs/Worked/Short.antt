@@ -33,9 +33,11 @@ module _ (r : Run) (t n : ℕ) (b : State) (farm after : FarmMemory) (first befo
     (w : WorkedRound t n farm after before now ends) (h : IsRound r t n b.done b.left) (m : Matches b farm.groups) (b' : State) (last : Standing) (at : IsAtClock r t b farm.groups last first before)
     (meets : MeetsRun r n w.filled (standing b' after.failed now) last) (a : AtClock t b farm.groups) (knows : KnowsListed b farm.groups farm.failed) (told : b' ≡ told_after b ends)
     (open_then : (c : ℕ) → open_now b' c ≡ (open_now b c && not (is_told c ends))) where
+  -- whether a call is open at the clock
   abbrev alive : ℕ → Bool
   alive = is_open (gone_at (whole_in r) t b.done) b.done
 
+  -- what is known of its seat
   abbrev Seat : ℕ → Type 0
   Seat c = OpenSeat r t n b farm after first before now ends w h m b' last at meets c
 
@@ -54,6 +56,7 @@ module _ (r : Run) (t n : ℕ) (b : State) (farm after : FarmMemory) (first befo
       over : (e k : ℕ) → k < n → min (t + n) e ≡ t + k → e < t + n
       over e k l q = omega arith
 
+  -- an open call began before the clock
   begun : (c : ℕ) → alive c ≡ true → start_of b.done c ≤ t
   begun c o = (open_at r t b.done c (standing_now r t b.done b.left h.so_far) o).begun
 
@@ -61,6 +64,7 @@ module _ (r : Run) (t n : ℕ) (b : State) (farm after : FarmMemory) (first befo
   few_in_all : (octets count long start : ℕ) → count ≡ min (octets * n) (long - octets * (t - start)) → count < octets * n → start ≤ t → octets * (t - start) + octets * n ≡ octets * (t + n - start) → long < octets * (t + n - start)
   few_in_all octets count long start e l b s = omega arith
 
+  -- an open call's incoming line that is listed behind the round failed in it
   up_failed : (c : ℕ) → alive c ≡ true → is_listed after.failed c Up ≡ true → FailedIn r c 40 (r.lines c).up t (t + n)
   up_failed c o listed =
       let s = seat c o in
@@ -100,6 +104,7 @@ module _ (r : Run) (t n : ℕ) (b : State) (farm after : FarmMemory) (first befo
 pub short_none : (r : Run) (batch : ℕ) → FailedShort r batch (is_listed [])
 short_none r batch = record { up = λ c e. cc; pcm = λ c e. cc }
 
+-- and behind each round the more
 pub short_more : (r : Run) (batch t u : ℕ) (was is : List Line) → u ≤ t + batch → FailedInRound r t u (is_listed was) (is_listed is) → FailedShort r batch (is_listed was) → FailedShort r batch (is_listed is)
 short_more r batch t u was is l failed short = record {
   up = λ c e. elim (cases_Bool (is_listed was c Up)) [ inl q ↦ short.up c q | inr q ↦ (t, u, l, failed.up c q e) ];

@@ -30,6 +30,7 @@ use Rattle.farm_run.proofs.Worked.Calls.{OpenSeat, open_seat, open_is}
 use Rattle.farm_run.proofs.Worked.Written.{grown_out, grown_down, idle}
 use Rattle.farm_run.proofs.Worked.Round.{WorkedRound, worked_at}
 
+-- the sum of a list in two parts
 sum_both : (xs ys : List ℕ) → sum (xs ++ ys) ≡ sum xs + sum ys
 sum_both xs ys = sum_by-append (λ x. x) xs ys
 
@@ -41,6 +42,7 @@ module _ (r : Run) (t n : ℕ) (b : State) (farm after : FarmMemory) (first befo
     (w : WorkedRound t n farm after before now ends) (h : IsRound r t n b.done b.left) (m : Matches b farm.groups) (b' : State) (last : Standing) (at : IsAtClock r t b farm.groups last first before)
     (meets : MeetsRun r n w.filled (standing b' after.failed now) last) (a : AtClock t b farm.groups) (knows : KnowsListed b farm.groups farm.failed) (told : b' ≡ told_after b ends)
     (open_then : (c : ℕ) → open_now b' c ≡ (open_now b c && not (is_told c ends))) (was is : ℕ → Side → ℕ) (adds : Adds w.worked was is) where
+  -- whether a call is open at the clock
   abbrev alive : ℕ → Bool
   alive = is_open (gone_at (whole_in r) t b.done) b.done
 
@@ -51,6 +53,7 @@ module _ (r : Run) (t n : ℕ) (b : State) (farm after : FarmMemory) (first befo
       let live : is_some (call_in farm.groups c) ≡ true = sym (w.live c) ∙ there farm.live c k within (sym (e ∙ worked_at t n farm after before now ends w k within)) in
       true≢false (sym live ∙ open_is r t n b farm after first before now ends w h m b' last at meets c ∙ o))
 
+  -- what is known of its seat
   abbrev seat : (c : ℕ) → alive c ≡ true → OpenSeat r t n b farm after first before now ends w h m b' last at meets c
   seat c o = open_seat r t n b farm after first before now ends w h m b' last at meets c o
 

@@ -30,21 +30,27 @@ use Rattle.farm_run.proofs.Worked.Past.{worked_past}
 module _ (r : Run) (t n : ℕ) (b : State) (farm after : FarmMemory) (first before now : ℕ → Side → LineState) (ends : List CallEnd)
     (w : WorkedRound t n farm after before now ends) (h : IsRound r t n b.done b.left) (m : Matches b farm.groups) (b' : State) (last : Standing) (at : IsAtClock r t b farm.groups last first before)
     (meets : MeetsRun r n w.filled (standing b' after.failed now) last) where
+  -- whether a call is open at the clock
   abbrev alive : ℕ → Bool
   alive = is_open (gone_at (whole_in r) t b.done) b.done
 
+  -- what each call has had at the round's end
   abbrev worked_at_end : ℕ → Option CallHistory
   worked_at_end = worked_histories w.filled (partner_in farm.groups) (histories_at r b.done t)
 
+  -- what was kept of each before it
   abbrev was : ℕ → Tally
   was = tally_in farm.tallies
 
+  -- what is kept of each behind it
   kept : (c : ℕ) → tally_in after.tallies c ≡ (if goes_on_call w.worked c then was c else kept_of (worked_at_end c) (was c))
   kept c = w.tallies (histories_at r b.done t) at.follows.stands c
 
+  -- a call goes on where its lines give all periods of the round
   goes : (c : ℕ) → alive c ≡ true → goes_on_call w.worked c ≡ (places_in r b.done t n c == n)
   goes c o = goes_on_is r t n b farm after first before now ends w h m b' last at meets c o
 
+  -- of a call that ends in it the counts are kept
   ended : (c : ℕ) → ends_within r b.done t n c ≡ true → (last : Settings) × (last.starts ≡ (settings_now r b.done (t + places_in r b.done t n c) c).starts)
       × (tally_in after.tallies c ≡ tally_of (periods_to r c (t + places_in r b.done t n c - start_of b.done c)) last)
   ended c e =
@@ -61,6 +67,7 @@ module _ (r : Run) (t n : ℕ) (b : State) (farm after : FarmMemory) (first befo
       apart : (k : ℕ) → k < n → k ≡ n → ⊥
       apart k l q = absurd (omega arith)
 
+  -- of others nothing more
   others : (c : ℕ) → ends_within r b.done t n c ≡ false → tally_in after.tallies c ≡ was c
   others c e = kept c ∙ by (alive c) refl
     where

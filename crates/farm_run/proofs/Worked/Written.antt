@@ -47,35 +47,43 @@ module _ (r : Run) (t n : ℕ) (b : State) (farm after : FarmMemory) (first befo
     (w : WorkedRound t n farm after before now ends) (h : IsRound r t n b.done b.left) (m : Matches b farm.groups) (b' : State) (last : Standing) (at : IsAtClock r t b farm.groups last first before)
     (meets : MeetsRun r n w.filled (standing b' after.failed now) last) (a : AtClock t b farm.groups) (knows : KnowsListed b farm.groups farm.failed) (told : b' ≡ told_after b ends)
     (open_then : (c : ℕ) → open_now b' c ≡ (open_now b c && not (is_told c ends))) where
+  -- whether a call is open at the clock
   abbrev pub alive : ℕ → Bool
   alive = is_open (gone_at (whole_in r) t b.done) b.done
 
+  -- what is known of its seat
   abbrev pub Seat : ℕ → Type 0
   Seat c = OpenSeat r t n b farm after first before now ends w h m b' last at meets c
 
   abbrev pub seat : (c : ℕ) → alive c ≡ true → Seat c
   seat c o = open_seat r t n b farm after first before now ends w h m b' last at meets c o
 
+  -- what each call has had before the round
   abbrev hs : ℕ → Option CallHistory
   hs = histories_at r b.done t
 
+  -- and at its end, those that end in it too
   abbrev worked_at_end : ℕ → Option CallHistory
   worked_at_end = worked_histories w.filled (partner_in farm.groups) hs
 
+  -- what is known of the latter
   abbrev Past : ℕ → CallHistory → Type 0
   Past c x = IsPast r t n b farm after first before now ends w h m b' last at meets c x
 
   abbrev past : (c : ℕ) → alive c ≡ true → (x : CallHistory) × (worked_at_end c ≡ Some x) × Past c x
   past c o = worked_past r t n b farm after first before now ends w h m b' last at meets c o
 
+  -- a call that isn't open has no seat,
   shut : (c : ℕ) → alive c ≡ false → is_some (call_in farm.groups c) ≡ false
   shut c o = open_is r t n b farm after first before now ends w h m b' last at meets c ∙ o
 
+  -- no period in the round,
   pub idle : (c : ℕ) → IsOpened r c → alive c ≡ false → worked_to r (t + n) c ≡ worked_to r t c
   idle c i o =
       let within = h.within in
       worked_idle r t (t + n) b.done b.left c h.so_far (omega arith) (omega arith) h.clear o i
 
+  -- and its lines stay
   pub kept : (c : ℕ) → alive c ≡ false → (s : Side) → now c s ≡ before c s
   kept c o s = lines_kept t n farm after before now ends w c (shut c o) s
 
@@ -83,6 +91,7 @@ module _ (r : Run) (t n : ℕ) (b : State) (farm after : FarmMemory) (first befo
   abbrev left_io : (c : ℕ) → alive c ≡ true → IoMemory
   left_io c o = let s = seat c o in let x = seat_at w.filled s.k in io_after (who_in r c) (places_in r b.done t n c) (periods_to r c (t + places_in r b.done t n c - start_of b.done c)) (io_of x)
 
+  -- the seat behind the work has that
   seat_left : (c : ℕ) (o : alive c ≡ true) → let s = seat c o in seat_at w.worked s.k ≡ seat_with (seat_at w.filled s.k).place (left_io c o)
   seat_left c o =
       let s = seat c o in
@@ -108,6 +117,7 @@ module _ (r : Run) (t n : ℕ) (b : State) (farm after : FarmMemory) (first befo
       ∙ ap (λ (xs : List ℕ). out_line (who_in r c) (periods_to r c (t - start_of b.done c)) ++ xs) (sym (ap seats.out_given (seat_left c o) ∙ ap (λ (k : ℕ). take (160 * k) (left_io c o).out) s.whole))
       ∙ sym (ap (λ (k : ℕ). out_line (who_in r c) (periods_to r c k) ++ seats.out_given (seat_at w.worked s.k)) (worked_now r t n b.done b.left c h o))
 
+  -- the same of the downlink
   pub grown_down : (c : ℕ) (o : alive c ≡ true) → let s = seat c o in
       down_octets (who_in r c) (periods_to r c (worked_to r (t + n) c)) ≡ down_octets (who_in r c) (periods_to r c (worked_to r t c)) ++ seats.down_given (seat_at w.worked s.k)
   grown_down c o =
@@ -145,6 +155,7 @@ module _ (r : Run) (t n : ℕ) (b : State) (farm after : FarmMemory) (first befo
       (subst (λ (x : Bool). HasWritten x (first c Out) (w.between c Out) front) (sym (was_out t n b farm after before now ends w a knows b' told open_then s.k c s.within s.here))
       (subst (λ (l : LineState). HasWritten (is_listed farm.failed c Out) (first c Out) l front) (sym (out_between t n farm after before now ends w c)) was))))
 
+  -- the same of the downlink
   wrote_down : w.held ≡ false → (from : ℕ) → from ≤ t → WrittenFrom r from t (is_listed farm.failed) first before → (c : ℕ) → alive c ≡ true →
       HasWritten (is_listed after.failed c Down) (first c Down) (now c Down) (drop (40 * worked_to r from c) (down_octets (who_in r c) (periods_to r c (worked_to r (t + n) c))))
   wrote_down written from l wrote c o =
