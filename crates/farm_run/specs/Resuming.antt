@@ -41,12 +41,14 @@ pub record ResumesRun (orders : List Order) (pace : Pace) (mark : MarkView) (bef
   pub sides : KeepsSides before now
   pub reads : ReadsOn before now
   -- lines and report are those of the run of these orders over what the lines gave, without what was held back;
-  pub leaves : (r : Run) → IsRunOver orders (max mark.period pace.periods) (is_listed report.failed) before now r → LeavesFrom r mark.period (is_listed report.failed) before now
+  pub leaves : (r : Run) → IsRunOver orders (max mark.period pace.periods) (is_listed report.failed) before now r →
+      LeavesFrom r mark.period (is_listed report.failed) before now
   pub reports : (r : Run) → IsRunOver orders (max mark.period pace.periods) (is_listed report.failed) before now r → report ≡ report_of r report.failed
   -- the run to the mark's period has the mark's calls
   pub same_mark : (r : Run) → IsRunOver orders mark.period (is_listed report.failed) before now r → marked_calls r ≡ mark.calls
   -- in the run each incoming line that failed did so short of what a round takes of it
-  pub short : (r : Run) → IsRunOver orders (max mark.period pace.periods) (is_listed report.failed) before now r → FailedShort r pace.batch (is_listed report.failed)
+  pub short : (r : Run) → IsRunOver orders (max mark.period pace.periods) (is_listed report.failed) before now r →
+      FailedShort r pace.batch (is_listed report.failed)
   -- and there are such runs, to any number of periods, of orders that are in range, wherever the lines tell what they hold
   pub there : AreOrders orders → AreTold before → (periods : ℕ) → (r : Run) × IsRunOver orders periods (is_listed report.failed) before now r
 

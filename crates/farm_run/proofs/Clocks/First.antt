@@ -53,16 +53,22 @@ no_octets who = by (octets_of []) (length-octets_of [] 0 refl)
     by (x ∷ xs) e = absurd (omega arith)
 
 -- the lines are those at the clock 0
-lines_at_first : (r : Run) (os : List Order) (periods : ℕ) (lines : ℕ → Side → LineState) (last : Standing) → IsRunOver os periods last.listed lines last.lines r → LinesAt r 0 last lines lines
+lines_at_first : (r : Run) (os : List Order) (periods : ℕ) (lines : ℕ → Side → LineState) (last : Standing) →
+    IsRunOver os periods last.listed lines last.lines r → LinesAt r 0 last lines lines
 lines_at_first r os periods lines last run = record {
-  up_read = λ c i q. told_first (last.listed c Up) (lines c Up) (last.lines c Up) (r.lines c).up (run.up c i) ∙ ap (λ (k : ℕ). Some (drop (40 * k) (r.lines c).up ++ never_given (last.listed c Up) (last.lines c Up))) (sym (none_worked r c));
-  pcm_read = λ c i q. told_first (last.listed c Pcm) (lines c Pcm) (last.lines c Pcm) (r.lines c).pcm (run.pcm c i) ∙ ap (λ (k : ℕ). Some (drop (160 * k) (r.lines c).pcm ++ never_given (last.listed c Pcm) (last.lines c Pcm))) (sym (none_worked r c));
+  up_read = λ c i q. told_first (last.listed c Up) (lines c Up) (last.lines c Up) (r.lines c).up (run.up c i)
+      ∙ ap (λ (k : ℕ). Some (drop (40 * k) (r.lines c).up ++ never_given (last.listed c Up) (last.lines c Up))) (sym (none_worked r c));
+  pcm_read = λ c i q. told_first (last.listed c Pcm) (lines c Pcm) (last.lines c Pcm) (r.lines c).pcm (run.pcm c i)
+      ∙ ap (λ (k : ℕ). Some (drop (160 * k) (r.lines c).pcm ++ never_given (last.listed c Pcm) (last.lines c Pcm))) (sym (none_worked r c));
   others = λ c s none. refl;
 }
 
 -- **Nothing is written, from whichever period on.**
 pub written_first : (r : Run) (from : ℕ) (lines : ℕ → Side → LineState) → WrittenFrom r from 0 (is_listed []) lines lines
-written_first r from lines = record { out = λ c i. none (160 * worked_to r from c) (lines c Out) _ (out c); down = λ c i. none (40 * worked_to r from c) (lines c Down) _ (down c) }
+written_first r from lines = record {
+  out = λ c i. none (160 * worked_to r from c) (lines c Out) _ (out c);
+  down = λ c i. none (40 * worked_to r from c) (lines c Down) _ (down c);
+}
   where
     out : (c : ℕ) → out_line (who_in r c) (periods_to r c (worked_to r 0 c)) ≡ []
     out c = ap (λ (k : ℕ). out_line (who_in r c) (periods_to r c k)) (none_worked r c)
@@ -74,7 +80,8 @@ written_first r from lines = record { out = λ c i. none (160 * worked_to r from
     none k l octets e = subst (Appends l.written l.written) (sym (ap (drop k) e ∙ drop_all k [] (omega arith))) (Appends-nil l.written)
 
 -- **Before the first order board and farm stand at the clock 0.**
-pub clock_first : (b : State) → AreOrders (orders_of b) → b.done ≡ [] → EndBefore 0 b → ((c : ℕ) → open_now b c ≡ false) → ((c : ℕ) → partner_now b c ≡ None) → AtClock 0 b []
+pub clock_first : (b : State) → AreOrders (orders_of b) → b.done ≡ [] → EndBefore 0 b → ((c : ℕ) → open_now b c ≡ false) →
+    ((c : ℕ) → partner_now b c ≡ None) → AtClock 0 b []
 clock_first b orders none untold shut alone = record {
   orders = orders;
   ahead = by b.left;
@@ -88,13 +95,15 @@ clock_first b orders none untold shut alone = record {
     by (o ∷ os) = omega arith
 
 -- **A run begins with no call.**
-pub at_first : (r : Run) (b : State) (groups : List Group) (periods : ℕ) (lines : ℕ → Side → LineState) (last : Standing) → AreOrders (orders_of b) → b.done ≡ [] → GroupsStand (λ c. None) groups →
+pub at_first : (r : Run) (b : State) (groups : List Group) (periods : ℕ) (lines : ℕ → Side → LineState) (last : Standing) → AreOrders (orders_of b) →
+    b.done ≡ [] → GroupsStand (λ c. None) groups →
     IsRunOver (orders_of b) periods last.listed lines last.lines r → IsAtClock r 0 b groups last lines lines
 at_first r b groups periods lines last a none g run =
     let left : b.left ≡ r.orders = sym (ap (λ (ds : List Done). map (λ (d : Done). d.order) ds ++ b.left) none) ∙ sym run.same_orders in
     record {
       follows = record {
-        so_far = subst (λ (ds : List Done). IsSoFar r 0 ds b.left) (sym none) (subst (IsSoFar r 0 []) (sym left) (so_far_at_first r (subst AreOrders (sym run.same_orders) a)));
+        so_far = subst (λ (ds : List Done). IsSoFar r 0 ds b.left) (sym none)
+            (subst (IsSoFar r 0 []) (sym left) (so_far_at_first r (subst AreOrders (sym run.same_orders) a)));
         tells = λ c o k. let q = sym (ap (λ (ds : List Done). is_some (opened_at c ds)) none) ∙ o in cc;
         stands = subst (λ (ds : List Done). GroupsStand (histories_at r ds 0) groups) (sym none) g;
       };
@@ -110,5 +119,6 @@ knows_first b groups empty = record {
 }
 
 -- what is listed at the run's end is what the run says
-pub flags_of : (r : Run) (os : List Order) (periods : ℕ) (first : ℕ → Side → LineState) (last : Standing) → IsRunOver os periods last.listed first last.lines r → HasFlags r last
+pub flags_of : (r : Run) (os : List Order) (periods : ℕ) (first : ℕ → Side → LineState) (last : Standing) →
+    IsRunOver os periods last.listed first last.lines r → HasFlags r last
 flags_of r os periods first last run = record { up = run.up_failed; pcm = run.pcm_failed }

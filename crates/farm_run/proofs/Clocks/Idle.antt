@@ -40,11 +40,13 @@ clock_on t u b groups a l n = record {
     by None h = tt
     by (Some at) h = omega arith
 
-module _ (r : Run) (t u : ℕ) (b : State) (groups : List Group) (last : Standing) (first now : ℕ → Side → LineState) (at : IsAtClock r t b groups last first now) (l : t ≤ u) (w : u ≤ r.periods)
+module _ (r : Run) (t u : ℕ) (b : State) (groups : List Group) (last : Standing) (first now : ℕ → Side → LineState) (at : IsAtClock r t b groups last first now)
+    (l : t ≤ u) (w : u ≤ r.periods)
     (n : IfSome (first_stamp b.left) (λ s. u ≤ s)) (shut : (c : ℕ) → is_open (gone_at (whole_in r) t b.done) b.done c ≡ false) where
   -- no call is open at the later clock
   shut_then : (c : ℕ) → is_open (gone_at (whole_in r) u b.done) b.done c ≡ false
-  shut_then c = let e : t + (u - t) ≡ u = omega arith in subst (λ (v : ℕ). is_open (gone_at (whole_in r) v b.done) b.done c ≡ false) e (shut_after r t (u - t) b.done c (shut c))
+  shut_then c = let e : t + (u - t) ≡ u =
+      omega arith in subst (λ (v : ℕ). is_open (gone_at (whole_in r) v b.done) b.done c ≡ false) e (shut_after r t (u - t) b.done c (shut c))
 
   -- none has a period meanwhile
   pub idle : (c : ℕ) → IsOpened r c → worked_to r u c ≡ worked_to r t c
@@ -53,7 +55,8 @@ module _ (r : Run) (t u : ℕ) (b : State) (groups : List Group) (last : Standin
   -- the ends are told in time there too
   tells_on : TellsEnds (whole_in r) u b
   tells_on c o k =
-      let gone : gone_at (whole_in r) t b.done c ≡ true = by (is_some (opened_at c b.done)) (is_some (closed_at c b.done)) (gone_at (whole_in r) t b.done c) o (ap is_some k) (shut c) in
+      let gone : gone_at (whole_in r) t b.done c ≡ true =
+      by (is_some (opened_at c b.done)) (is_some (closed_at c b.done)) (gone_at (whole_in r) t b.done c) o (ap is_some k) (shut c) in
       at.follows.tells c o k ∙ gone ∙ sym (gone_later (whole_in r) t u b.done c l gone)
     where
       by : (p q g : Bool) → p ≡ true → q ≡ false → (p && not q && not g) ≡ false → g ≡ true
@@ -82,8 +85,10 @@ module _ (r : Run) (t u : ℕ) (b : State) (groups : List Group) (last : Standin
       stands = λ c. subst (λ (x : Option CallHistory). CallStands c x (call_in groups c) (partner_in groups c)) (same_none c) (at.follows.stands c);
     };
     lines = record {
-      up_read = λ c i q. at.lines.up_read c i (earlier c q) ∙ ap (λ (k : ℕ). Some (drop (40 * k) (r.lines c).up ++ never_given (last.listed c Up) (last.lines c Up))) (sym (idle c i));
-      pcm_read = λ c i q. at.lines.pcm_read c i (earlier c q) ∙ ap (λ (k : ℕ). Some (drop (160 * k) (r.lines c).pcm ++ never_given (last.listed c Pcm) (last.lines c Pcm))) (sym (idle c i));
+      up_read = λ c i q. at.lines.up_read c i (earlier c q)
+          ∙ ap (λ (k : ℕ). Some (drop (40 * k) (r.lines c).up ++ never_given (last.listed c Up) (last.lines c Up))) (sym (idle c i));
+      pcm_read = λ c i q. at.lines.pcm_read c i (earlier c q)
+          ∙ ap (λ (k : ℕ). Some (drop (160 * k) (r.lines c).pcm ++ never_given (last.listed c Pcm) (last.lines c Pcm))) (sym (idle c i));
       others = at.lines.others;
     };
   }
@@ -91,8 +96,10 @@ module _ (r : Run) (t u : ℕ) (b : State) (groups : List Group) (last : Standin
   -- **What is written is what is to be written by then.**
   pub written_on : (from : ℕ) (listed : ℕ → Side → Bool) → WrittenFrom r from t listed first now → WrittenFrom r from u listed first now
   written_on from listed wrote = record {
-    out = λ c i. subst (λ (k : ℕ). HasWritten (listed c Out) (first c Out) (now c Out) (drop (160 * worked_to r from c) (out_line (who_in r c) (periods_to r c k)))) (sym (idle c i)) (wrote.out c i);
-    down = λ c i. subst (λ (k : ℕ). HasWritten (listed c Down) (first c Down) (now c Down) (drop (40 * worked_to r from c) (down_octets (who_in r c) (periods_to r c k)))) (sym (idle c i)) (wrote.down c i);
+    out = λ c i. subst (λ (k : ℕ). HasWritten (listed c Out) (first c Out) (now c Out)
+        (drop (160 * worked_to r from c) (out_line (who_in r c) (periods_to r c k)))) (sym (idle c i)) (wrote.out c i);
+    down = λ c i. subst (λ (k : ℕ). HasWritten (listed c Down) (first c Down) (now c Down)
+        (drop (40 * worked_to r from c) (down_octets (who_in r c) (periods_to r c k)))) (sym (idle c i)) (wrote.down c i);
   }
 
 -- no number is among none
@@ -101,6 +108,7 @@ none_among [] c e = refl
 none_among (x ∷ xs) c e = let l : length (x ∷ xs) ≡ 0 = eqb-true (length (x ∷ xs)) 0 e in absurd (omega arith)
 
 -- a farm with no call, beside the run
-pub none_alive : (r : Run) (t : ℕ) (b : State) (groups : List Group) → AtClock t b groups → TellsEnds (whole_in r) t b → ((c : ℕ) → is_some (call_in groups c) ≡ false) →
+pub none_alive : (r : Run) (t : ℕ) (b : State) (groups : List Group) → AtClock t b groups → TellsEnds (whole_in r) t b →
+    ((c : ℕ) → is_some (call_in groups c) ≡ false) →
     (c : ℕ) → is_open (gone_at (whole_in r) t b.done) b.done c ≡ false
 none_alive r t b groups a tells none c = sym (open_told (whole_in r) t b tells c) ∙ sym (a.matches.is_open c) ∙ none c

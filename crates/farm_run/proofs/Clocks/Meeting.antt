@@ -41,7 +41,8 @@ reads_more first before now g h d s octets i e =
     (k.0 + l.0, l.1 ∙ ap Some (drop-drop l.0 k.0 octets))
 
 -- **Orders come in front of what comes next.**
-pub ordered : (b b' : State) (was is : List Line) (lines : ℕ → Side → LineState) (last : Standing) → ((c : ℕ) → is_over b c ≡ true → is_over b' c ≡ true) → is ≡ was → StandingGoesOn (standing b' is lines) last → StandingGoesOn (standing b was lines) last
+pub ordered : (b b' : State) (was is : List Line) (lines : ℕ → Side → LineState) (last : Standing) → ((c : ℕ) → is_over b c ≡ true → is_over b' c ≡ true) →
+    is ≡ was → StandingGoesOn (standing b' is lines) last → StandingGoesOn (standing b was lines) last
 ordered b b' was is lines last over same on = record {
   over = λ c e. on.over c (over c e);
   read_on = on.read_on;
@@ -50,7 +51,8 @@ ordered b b' was is lines last over same on = record {
 }
 
 -- **What a run's line told before it.**
-pub told_first : (fails : Bool) (before now : LineState) (octets : List ℕ) → IsGiven fails before now octets → before.to_come ≡ Some (octets ++ never_given fails now)
+pub told_first : (fails : Bool) (before now : LineState) (octets : List ℕ) → IsGiven fails before now octets →
+    before.to_come ≡ Some (octets ++ never_given fails now)
 told_first false before now octets e = e ∙ ap Some (sym (append-nil octets))
 told_first true before now octets e = e.1 ∙ ap (λ (u : Option (List ℕ)). Some (octets ++ unwrap_or u [])) (sym e.2)
 

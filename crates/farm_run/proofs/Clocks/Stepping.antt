@@ -49,13 +49,17 @@ pub record OrdersDone (s : Stage) (b : State) (farm : FarmMemory) (j : JournalMe
   pub follows : (r : Run) → s.clock < r.periods → FollowsRun r s.clock s.board s.farm.groups → FollowsRun r s.clock b farm.groups
   pub told : b.told ≡ s.board.told
   pub openings : (n : ℕ) → s.clock < n → OpenedBefore n s.journal.calls → OpenedBefore n j.calls
-  pub noted : (r : Run) → s.clock < r.periods → FollowsRun r s.clock s.board s.farm.groups → Noted r s.board.done s.clock s.journal s.farm.tallies → Noted r b.done s.clock j farm.tallies
+  pub noted : (r : Run) → s.clock < r.periods → FollowsRun r s.clock s.board s.farm.groups → Noted r s.board.done s.clock s.journal s.farm.tallies →
+      Noted r b.done s.clock j farm.tallies
 
 -- **The orders of the clock are done.**
-pub orders_done : (s : Stage) (b : State) (farm : FarmMemory) (j : JournalMemory) → AtClock s.clock b farm.groups → AreShut b j.ends → length j.bridges ≤ length b.done → orders_of b ≡ orders_of s.board → farm.ended ≡ s.farm.ended → farm.failed ≡ s.farm.failed →
+pub orders_done : (s : Stage) (b : State) (farm : FarmMemory) (j : JournalMemory) → AtClock s.clock b farm.groups → AreShut b j.ends →
+    length j.bridges ≤ length b.done → orders_of b ≡ orders_of s.board → farm.ended ≡ s.farm.ended → farm.failed ≡ s.farm.failed →
     (KnowsListed s.board s.farm.groups s.farm.failed → KnowsListed b farm.groups farm.failed) → ((c : ℕ) → is_over s.board c ≡ true → is_over b c ≡ true) →
-    ((r : Run) → s.clock < r.periods → FollowsRun r s.clock s.board s.farm.groups → FollowsRun r s.clock b farm.groups) → b.told ≡ s.board.told → ((n : ℕ) → s.clock < n → OpenedBefore n s.journal.calls → OpenedBefore n j.calls) →
-    ((r : Run) → s.clock < r.periods → FollowsRun r s.clock s.board s.farm.groups → Noted r s.board.done s.clock s.journal s.farm.tallies → Noted r b.done s.clock j farm.tallies) → OrdersDone s b farm j
+    ((r : Run) → s.clock < r.periods → FollowsRun r s.clock s.board s.farm.groups → FollowsRun r s.clock b farm.groups) → b.told ≡ s.board.told →
+    ((n : ℕ) → s.clock < n → OpenedBefore n s.journal.calls → OpenedBefore n j.calls) →
+    ((r : Run) → s.clock < r.periods → FollowsRun r s.clock s.board s.farm.groups → Noted r s.board.done s.clock s.journal s.farm.tallies →
+    Noted r b.done s.clock j farm.tallies) → OrdersDone s b farm j
 orders_done s b farm j clock shut bridges kept ended failed knows over follows told openings noted = record {
   clock = clock;
   shut = shut;
@@ -88,7 +92,8 @@ module _ (s : Stage) (b : State) (farm : FarmMemory) (j : JournalMemory) (stage 
   }
 
   -- **They come in front of what comes next.**
-  pub orders_more : (batch : ℕ) (u : Stage) (before now : ℕ → Side → LineState) → s.clock < u.clock → Reaches batch (record s { board = b; farm = farm; journal = j }) u before now → Reaches batch s u before now
+  pub orders_more : (batch : ℕ) (u : Stage) (before now : ℕ → Side → LineState) → s.clock < u.clock →
+      Reaches batch (record s { board = b; farm = farm; journal = j }) u before now → Reaches batch s u before now
   orders_more batch u before now less h = record {
     later = omega (arith, less);
     stage = h.stage;
@@ -99,24 +104,34 @@ module _ (s : Stage) (b : State) (farm : FarmMemory) (j : JournalMemory) (stage 
     failed = λ first fell failed. h.failed first fell (subst (λ (ls : List Line). TellsFailed first before ls) (sym o.failed) failed);
     sides = h.sides;
     goes = ordered s.board b s.farm.failed farm.failed before (standing u.board u.farm.failed now) o.over o.failed h.goes;
-    back = λ held. let k = h.back held in record { lines = k.lines; listed = λ c side i. k.listed c side i ∙ ap (λ (ls : List Line). is_listed ls c side) o.failed };
+    back = λ held. let k = h.back held in record {
+      lines = k.lines;
+      listed = λ c side i. k.listed c side i ∙ ap (λ (ls : List Line). is_listed ls c side) o.failed;
+    };
     run = λ r first last flags within on at. h.run r first last flags within on (here r first last within at);
     known = λ r first last flags within on at known.
-        h.known r first last flags within on (here r first last within at) (record { truly = truly_same r s.board b o.told known.truly; noted = o.noted r (under r within) at.follows known.noted });
+        h.known r first last flags within on (here r first last within at) (record {
+          truly = truly_same r s.board b o.told known.truly;
+          noted = o.noted r (under r within) at.follows known.noted;
+        });
     wrote = λ held from l r first last flags within on at wrote.
-        h.wrote held from l r first last flags within on (here r first last within at) (subst (λ (ls : List Line). WrittenFrom r from s.clock (is_listed ls) first before) (sym o.failed) wrote);
+        h.wrote held from l r first last flags within on (here r first last within at)
+        (subst (λ (ls : List Line). WrittenFrom r from s.clock (is_listed ls) first before) (sym o.failed) wrote);
     sums = λ summed r first last flags within on at sums. h.sums summed r first last flags within on (here r first last within at) sums;
-    short = λ r first last flags within on at short. h.short r first last flags within on (here r first last within at) (subst (λ (ls : List Line). FailedShort r batch (is_listed ls)) (sym o.failed) short);
+    short = λ r first last flags within on at short. h.short r first last flags within on (here r first last within at)
+        (subst (λ (ls : List Line). FailedShort r batch (is_listed ls)) (sym o.failed) short);
   }
     where
       under : (r : Run) → u.clock ≤ r.periods → s.clock < r.periods
       under r within = omega (arith, less, within)
 
-      here : (r : Run) (first : ℕ → Side → LineState) (last : Standing) → u.clock ≤ r.periods → IsAtClock r s.clock s.board s.farm.groups last first before → IsAtClock r s.clock b farm.groups last first before
+      here : (r : Run) (first : ℕ → Side → LineState) (last : Standing) → u.clock ≤ r.periods → IsAtClock r s.clock s.board s.farm.groups last first before →
+          IsAtClock r s.clock b farm.groups last first before
       here r first last within at = record { follows = o.follows r (under r within) at.follows; lines = at.lines }
 
 -- **Where no call is open, the clock goes on up to the next order.**
-pub idle_reaches : (batch : ℕ) (s : Stage) (u : ℕ) (lines : ℕ → Side → LineState) → IsStage s → s.clock ≤ u → IfSome (first_stamp s.board.left) (λ m. u ≤ m) → ((c : ℕ) → is_some (call_in s.farm.groups c) ≡ false) →
+pub idle_reaches : (batch : ℕ) (s : Stage) (u : ℕ) (lines : ℕ → Side → LineState) → IsStage s → s.clock ≤ u → IfSome (first_stamp s.board.left) (λ m. u ≤ m) →
+    ((c : ℕ) → is_some (call_in s.farm.groups c) ≡ false) →
     Reaches batch s (record s { clock = u }) lines lines
 idle_reaches batch s u lines stage later clear none = record {
   later = later;
@@ -138,10 +153,13 @@ idle_reaches batch s u lines stage later clear none = record {
   back = λ held. record { lines = λ c side o. refl; listed = λ c side o. refl };
   run = λ r first last flags within on at. goes_on r s.clock u s.board s.farm.groups last first lines at later within clear (shut r first last at);
   known = λ r first last flags within on at known. known_idle r s.clock u s.board s.farm.tallies s.journal later (shut r first last at) known;
-  wrote = λ held from l r first last flags within on at wrote. written_on r s.clock u s.board s.farm.groups last first lines at later within clear (shut r first last at) from (is_listed s.farm.failed) wrote;
-  sums = λ summed r first last flags within on at sums. sums_on r s.clock u s.board s.farm.groups last first lines at later within clear (shut r first last at) _ sums;
+  wrote = λ held from l r first last flags within on at wrote. written_on r s.clock u s.board s.farm.groups last first lines at later within clear
+      (shut r first last at) from (is_listed s.farm.failed) wrote;
+  sums = λ summed r first last flags within on at sums. sums_on r s.clock u s.board s.farm.groups last first lines at later within clear
+      (shut r first last at) _ sums;
   short = λ r first last flags within on at short. short;
 }
   where
-    shut : (r : Run) (first : ℕ → Side → LineState) (last : Standing) → IsAtClock r s.clock s.board s.farm.groups last first lines → (c : ℕ) → is_open (gone_at (whole_in r) s.clock s.board.done) s.board.done c ≡ false
+    shut : (r : Run) (first : ℕ → Side → LineState) (last : Standing) → IsAtClock r s.clock s.board s.farm.groups last first lines → (c : ℕ) →
+        is_open (gone_at (whole_in r) s.clock s.board.done) s.board.done c ≡ false
     shut r first last at = none_alive r s.clock s.board s.farm.groups stage.clock at.follows.tells none

@@ -33,14 +33,16 @@ front k xs = elim (cases_lt (length xs) k) [
   | inl l ↦
       let none : drop k xs ≡ [] = drop_all k xs (omega (arith, l)) in
       let n : length xs - length (drop k xs) ≡ length xs = omega (arith, length-drop k xs, l) in
-      sym (ap (λ (i : ℕ). take i xs ++ drop k xs) n ∙ ap (λ (ys : List ℕ). take (length xs) xs ++ ys) none ∙ append-nil (take (length xs) xs) ∙ take_all (length xs) xs (omega arith))
+      sym (ap (λ (i : ℕ). take i xs ++ drop k xs) n ∙ ap (λ (ys : List ℕ). take (length xs) xs ++ ys) none ∙ append-nil (take (length xs) xs)
+      ∙ take_all (length xs) xs (omega arith))
   | inr l ↦
       let n : length xs - length (drop k xs) ≡ k = omega (arith, length-drop k xs, l) in
       sym (ap (λ (i : ℕ). take i xs ++ drop k xs) n ∙ take-append-drop k xs)
 ]
 
 -- those are the octets that the line is to give
-is_given : (fails : Bool) (before now : LineState) → ((octets : List ℕ) × (k : ℕ) × (before.to_come ≡ Some octets) × (now.to_come ≡ Some (drop k octets))) → IsGiven fails before now (given_by fails before now)
+is_given : (fails : Bool) (before now : LineState) → ((octets : List ℕ) × (k : ℕ) × (before.to_come ≡ Some octets) × (now.to_come ≡ Some (drop k octets))) →
+    IsGiven fails before now (given_by fails before now)
 is_given false before now h = h.2 ∙ ap Some (sym (ap (λ (u : Option (List ℕ)). unwrap_or u []) h.2))
 is_given true before now h =
     let octets = h.0 in
@@ -67,7 +69,8 @@ push [] d h k = (k, tt)
 push (e ∷ ds) d h k = (h.0, push ds d h.1 k)
 
 -- executed orders name numbers of calls where the orders do
-executed_in_range : (whole : ℕ → ℕ) (ds : List Done) (os : List Order) → AllByRecursion IsDoneInRange ds → AllByRecursion IsOrdered os → AllByRecursion IsDoneInRange (executed whole ds os)
+executed_in_range : (whole : ℕ → ℕ) (ds : List Done) (os : List Order) → AllByRecursion IsDoneInRange ds → AllByRecursion IsOrdered os →
+    AllByRecursion IsDoneInRange (executed whole ds os)
 executed_in_range whole ds [] h k = h
 executed_in_range whole ds (o ∷ os) h k =
     let gone = gone_at whole o.stamp ds in
@@ -75,7 +78,8 @@ executed_in_range whole ds (o ∷ os) h k =
     (push ds (record { order = o; result = reply_to gone ds o }) h (in_range (known_of gone o.stamp ds) o.what k.0.0 k.0.1)) k.1
 
 -- a list's conditions, item by item
-ordered : (os : List Order) → ((k : ℕ) (d : Order) → k < length os → NamesCalls (get_or os k d).what) → ((k : ℕ) (d : Order) → k < length os → HasLevel (get_or os k d).what) → AllByRecursion IsOrdered os
+ordered : (os : List Order) → ((k : ℕ) (d : Order) → k < length os → NamesCalls (get_or os k d).what) →
+    ((k : ℕ) (d : Order) → k < length os → HasLevel (get_or os k d).what) → AllByRecursion IsOrdered os
 ordered [] calls levels = tt
 ordered (o ∷ os) calls levels =
     ((calls 0 o (omega arith), levels 0 o (omega arith)), ordered os (λ k d l. calls (suc k) d (omega arith)) (λ k d l. levels (suc k) d (omega arith)))
@@ -95,16 +99,20 @@ some_named : (c : ℕ) (ds : List Done) → AllByRecursion IsDoneInRange ds → 
 some_named c [] h o = cc
 some_named c (d ∷ ds) h o = elim (cases_Bool (is_this c (opened_by d.result))) [
   | inl e ↦ named c d.result h.0 e
-  | inr e ↦ some_named c ds h.1 (ap (λ (b : Bool). is_some (option_map (λ (d : Done). d.order.stamp) (if b then Some d else find (λ (d : Done). is_this c (opened_by d.result)) ds))) (sym e) ∙ o)
+  | inr e ↦ some_named c ds h.1
+      (ap (λ (b : Bool). is_some (option_map (λ (d : Done). d.order.stamp) (if b then Some d else find (λ (d : Done). is_this c (opened_by d.result)) ds)))
+      (sym e) ∙ o)
 ]
 
 -- and each call of the run
 opened_named : (r : Run) (c : ℕ) → AreOrders r.orders → IsOpened r c → IsCallNumber c
-opened_named r c are o = some_named c (done_in r) (executed_in_range (whole_in r) [] (filter (λ o. nat_lt o.stamp r.periods) r.orders) tt (each_filter IsOrdered _ r.orders (ordered r.orders are.calls are.levels))) o
+opened_named r c are o = some_named c (done_in r) (executed_in_range (whole_in r) [] (filter (λ o. nat_lt o.stamp r.periods) r.orders) tt
+    (each_filter IsOrdered _ r.orders (ordered r.orders are.calls are.levels))) o
 
 -- **Such a run.**
 pub there_is : (orders : List Order) (periods : ℕ) (fails : ℕ → Side → Bool) (before now : ℕ → Side → LineState) → AreOrders orders →
-    ((c : ℕ) (s : Side) → IsCallNumber c → IsIncoming s → (octets : List ℕ) × (k : ℕ) × ((before c s).to_come ≡ Some octets) × ((now c s).to_come ≡ Some (drop k octets))) →
+    ((c : ℕ) (s : Side) → IsCallNumber c → IsIncoming s → (octets : List ℕ) × (k : ℕ) × ((before c s).to_come ≡ Some octets)
+    × ((now c s).to_come ≡ Some (drop k octets))) →
     (r : Run) × IsRunOver orders periods fails before now r
 there_is orders periods fails before now are told = (
   run,

@@ -35,11 +35,14 @@ err_more (Ok x) h p = tt
 err_more (Err e) h p = h p
 
 -- **At a clock each outgoing line holds a front of what the run gives.**
-fronts_at : (r : Run) (t : ℕ) (b : State) (groups : List Group) (failed : List Line) (first now : ℕ → Side → LineState) → IsAtClock r t b groups (standing b failed now) first now →
+fronts_at : (r : Run) (t : ℕ) (b : State) (groups : List Group) (failed : List Line) (first now : ℕ → Side → LineState) →
+    IsAtClock r t b groups (standing b failed now) first now →
     WrittenFrom r 0 t (is_listed failed) first now → LeavesFronts r first now
 fronts_at r t b groups failed first now at wrote = record {
-  out = λ c i. out_front r c (worked_to r t c) (end_in r c - start_of (done_in r) c) (is_listed failed c Out) (first c Out) (now c Out) (least (end_in r c) (start_of (done_in r) c)) (all_out r t c (is_listed failed) first now wrote i);
-  down = λ c i. down_front r c (worked_to r t c) (end_in r c - start_of (done_in r) c) (is_listed failed c Down) (first c Down) (now c Down) (least (end_in r c) (start_of (done_in r) c)) (all_down r t c (is_listed failed) first now wrote i);
+  out = λ c i. out_front r c (worked_to r t c) (end_in r c - start_of (done_in r) c) (is_listed failed c Out) (first c Out) (now c Out)
+      (least (end_in r c) (start_of (done_in r) c)) (all_out r t c (is_listed failed) first now wrote i);
+  down = λ c i. down_front r c (worked_to r t c) (end_in r c - start_of (done_in r) c) (is_listed failed c Down) (first c Down) (now c Down)
+      (least (end_in r c) (start_of (done_in r) c)) (all_down r t c (is_listed failed) first now wrote i);
   others = at.lines.others;
 }
   where
@@ -47,9 +50,11 @@ fronts_at r t b groups failed first now at wrote = record {
     least e s = omega arith
 
 -- **A run that ends at a clock is cut short there.**
-pub cut_at : (os : List Order) (periods t : ℕ) (b : State) (groups : List Group) (failed : List Line) (first now : ℕ → Side → LineState) → TellsFailed first now failed → KeepsSides first now → ReadsOn first now →
+pub cut_at : (os : List Order) (periods t : ℕ) (b : State) (groups : List Group) (failed : List Line) (first now : ℕ → Side → LineState) →
+    TellsFailed first now failed → KeepsSides first now → ReadsOn first now →
     ((r : Run) → IsRunOver os r.periods (is_listed failed) first now r → periods ≤ r.periods → IsAtClock r t b groups (standing b failed now) first now) →
-    ((r : Run) → IsRunOver os r.periods (is_listed failed) first now r → periods ≤ r.periods → WrittenFrom r 0 t (is_listed failed) first now) → IsCutShort os periods first now
+    ((r : Run) → IsRunOver os r.periods (is_listed failed) first now r → periods ≤ r.periods → WrittenFrom r 0 t (is_listed failed) first now) →
+    IsCutShort os periods first now
 cut_at os periods t b groups failed first now tells sides reads goes wrote = record {
   fails = is_listed failed;
   told = tells.failures;
@@ -59,7 +64,8 @@ cut_at os periods t b groups failed first now tells sides reads goes wrote = rec
       let e = run.same_periods in
       let is = subst (λ (p : ℕ). IsRunOver os p (is_listed failed) first now r) (sym e) run in
       fronts_at r t b groups failed first now (goes r is (omega (arith, e))) (wrote r is (omega (arith, e)));
-  there = λ are told. there_is os periods (is_listed failed) first now are (λ c s n i. let octets = told c s n i in let k = reads c s octets.0 i octets.1 in (octets.0, k.0, octets.1, k.1));
+  there = λ are told. there_is os periods (is_listed failed) first now are
+      (λ c s n i. let octets = told c s n i in let k = reads c s octets.0 i octets.1 in (octets.0, k.0, octets.1, k.1));
 }
 
 -- **So is one that didn't begin.**
@@ -70,15 +76,21 @@ cut_first os periods lines = record {
   sides = sides_none lines;
   reads = λ c s octets i e. (0, e);
   there = λ are told. there_is os periods (is_listed []) lines lines are (λ c s n i. let octets = told c s n i in (octets.0, 0, octets.1, octets.1));
-  fronts = λ r run. record { out = λ c i. (0, Appends-nil (lines c Out).written); down = λ c i. (0, Appends-nil (lines c Down).written); others = λ c s none. refl };
+  fronts = λ r run. record {
+    out = λ c i. (0, Appends-nil (lines c Out).written);
+    down = λ c i. (0, Appends-nil (lines c Down).written);
+    others = λ c s none. refl;
+  };
 }
 
 -- ---- a resumed run
 
 -- **So is one that wrote nothing yet.**
-pub cut_before : (os : List Order) (periods from : ℕ) (failed : List Line) (first now : ℕ → Side → LineState) → TellsFailed first now failed → KeepsSides first now → ReadsOn first now →
+pub cut_before : (os : List Order) (periods from : ℕ) (failed : List Line) (first now : ℕ → Side → LineState) → TellsFailed first now failed →
+    KeepsSides first now → ReadsOn first now →
     ((c : ℕ) (s : Side) → IsOutgoing s → now c s ≡ first c s) →
-    ((r : Run) → IsRunOver os periods (is_listed failed) first now r → (c : ℕ) (s : Side) → (IsOpened r c → ⊥) → now c s ≡ first c s) → IsResumeCutShort os periods from first now
+    ((r : Run) → IsRunOver os periods (is_listed failed) first now r → (c : ℕ) (s : Side) → (IsOpened r c → ⊥) → now c s ≡ first c s) →
+    IsResumeCutShort os periods from first now
 cut_before os periods from failed first now tells sides reads unwritten others = record {
   fails = is_listed failed;
   told = tells.failures;
@@ -89,16 +101,19 @@ cut_before os periods from failed first now tells sides reads unwritten others =
     down = λ c i. (0, none (first c Down) (now c Down) (unwritten c Down tt));
     others = others r run;
   };
-  there = λ are told. there_is os periods (is_listed failed) first now are (λ c s n i. let octets = told c s n i in let k = reads c s octets.0 i octets.1 in (octets.0, k.0, octets.1, k.1));
+  there = λ are told. there_is os periods (is_listed failed) first now are
+      (λ c s n i. let octets = told c s n i in let k = reads c s octets.0 i octets.1 in (octets.0, k.0, octets.1, k.1));
 }
   where
     none : (was is : LineState) → is ≡ was → Appends was.written is.written []
     none was is e = subst (λ (l : LineState). Appends was.written l.written []) (sym e) (Appends-nil was.written)
 
 -- **So is one that stops at a clock behind the period from which on it writes.**
-pub cut_behind : (os : List Order) (periods from t : ℕ) (b : State) (groups : List Group) (failed : List Line) (first now : ℕ → Side → LineState) → from ≤ t → TellsFailed first now failed → KeepsSides first now → ReadsOn first now →
+pub cut_behind : (os : List Order) (periods from t : ℕ) (b : State) (groups : List Group) (failed : List Line) (first now : ℕ → Side → LineState) → from ≤ t →
+    TellsFailed first now failed → KeepsSides first now → ReadsOn first now →
     ((r : Run) → IsRunOver os r.periods (is_listed failed) first now r → periods ≤ r.periods → IsAtClock r t b groups (standing b failed now) first now) →
-    ((r : Run) → IsRunOver os r.periods (is_listed failed) first now r → periods ≤ r.periods → WrittenFrom r from t (is_listed failed) first now) → IsResumeCutShort os periods from first now
+    ((r : Run) → IsRunOver os r.periods (is_listed failed) first now r → periods ≤ r.periods → WrittenFrom r from t (is_listed failed) first now) →
+    IsResumeCutShort os periods from first now
 cut_behind os periods from t b groups failed first now behind tells sides reads goes wrote = record {
   fails = is_listed failed;
   told = tells.failures;
@@ -110,11 +125,14 @@ cut_behind os periods from t b groups failed first now behind tells sides reads 
       let here = goes r is (omega (arith, e)) in
       let written = wrote r is (omega (arith, e)) in
       record {
-        out = λ c i. out_front_from r c (worked_to r from c) (worked_to r t c) (end_in r c - start_of (done_in r) c) (is_listed failed c Out) (first c Out) (now c Out) (sooner (end_in r c) (start_of (done_in r) c)) (least (end_in r c) (start_of (done_in r) c)) (written.out c i);
-        down = λ c i. down_front_from r c (worked_to r from c) (worked_to r t c) (end_in r c - start_of (done_in r) c) (is_listed failed c Down) (first c Down) (now c Down) (sooner (end_in r c) (start_of (done_in r) c)) (least (end_in r c) (start_of (done_in r) c)) (written.down c i);
+        out = λ c i. out_front_from r c (worked_to r from c) (worked_to r t c) (end_in r c - start_of (done_in r) c) (is_listed failed c Out) (first c Out)
+            (now c Out) (sooner (end_in r c) (start_of (done_in r) c)) (least (end_in r c) (start_of (done_in r) c)) (written.out c i);
+        down = λ c i. down_front_from r c (worked_to r from c) (worked_to r t c) (end_in r c - start_of (done_in r) c) (is_listed failed c Down) (first c Down)
+            (now c Down) (sooner (end_in r c) (start_of (done_in r) c)) (least (end_in r c) (start_of (done_in r) c)) (written.down c i);
         others = here.lines.others;
       };
-  there = λ are told. there_is os periods (is_listed failed) first now are (λ c s n i. let octets = told c s n i in let k = reads c s octets.0 i octets.1 in (octets.0, k.0, octets.1, k.1));
+  there = λ are told. there_is os periods (is_listed failed) first now are
+      (λ c s n i. let octets = told c s n i in let k = reads c s octets.0 i octets.1 in (octets.0, k.0, octets.1, k.1));
 }
   where
     least : (e s : ℕ) → min t e - s ≤ e - s

@@ -15,7 +15,10 @@ sides_none lines = record { incoming = λ c s i. refl; outgoing = λ c s o. refl
 
 -- nor in two steps
 pub sides_more : (first before now : ℕ → Side → LineState) → KeepsSides first before → KeepsSides before now → KeepsSides first now
-sides_more first before now was is = record { incoming = λ c s i. is.incoming c s i ∙ was.incoming c s i; outgoing = λ c s o. is.outgoing c s o ∙ was.outgoing c s o }
+sides_more first before now was is = record {
+  incoming = λ c s i. is.incoming c s i ∙ was.incoming c s i;
+  outgoing = λ c s o. is.outgoing c s o ∙ was.outgoing c s o;
+}
 
 -- no line is both read and written
 pub not_both : (s : Side) → IsIncoming s → IsOutgoing s → ⊥
@@ -51,7 +54,8 @@ module _ (before now : ℕ → Side → LineState) (seats after : List SeatMemor
 
       incoming : (c : ℕ) (s : Side) → IsIncoming s → (now c s).written ≡ (before c s).written
       incoming c s i = elim (seat_place seats n c) [
-        | inl m ↦ side c s (seat_at seats m.0) (seat_at after m.0) i (subst (λ d. Fills (before d) (now d) (seat_at seats m.0) (seat_at after m.0)) (sym m.2) (fills m.0 m.1))
+        | inl m ↦ side c s (seat_at seats m.0) (seat_at after m.0) i
+            (subst (λ d. Fills (before d) (now d) (seat_at seats m.0) (seat_at after m.0)) (sym m.2) (fills m.0 m.1))
         | inr none ↦ ap (λ (l : LineState). l.written) (others c s (λ k l e t. none k l e))
       ]
 
@@ -67,6 +71,7 @@ module _ (before now : ℕ → Side → LineState) (seats after : List SeatMemor
 
       outgoing : (c : ℕ) (s : Side) → IsOutgoing s → (now c s).to_come ≡ (before c s).to_come
       outgoing c s o = elim (seat_place seats n c) [
-        | inl m ↦ side c s (seat_at seats m.0) (seat_at after m.0) o (subst (λ d. Drains (before d) (now d) (seat_at seats m.0) (seat_at after m.0)) (sym m.2) (drains m.0 m.1))
+        | inl m ↦ side c s (seat_at seats m.0) (seat_at after m.0) o
+            (subst (λ d. Drains (before d) (now d) (seat_at seats m.0) (seat_at after m.0)) (sym m.2) (drains m.0 m.1))
         | inr none ↦ ap (λ (l : LineState). l.to_come) (others c s (λ k l e t. none k l e))
       ]

@@ -43,8 +43,10 @@ front_read (Some zs) (Some ys) front xs c e = (length front, ap Some (sym (drop-
     same : (zs xs : List ℕ) → Some zs ≡ Some xs → zs ≡ xs
     same zs xs e = cc
 
-module _ (t n : ℕ) (b : State) (farm after : FarmMemory) (before now : ℕ → Side → LineState) (ends : List CallEnd) (w : WorkedRound t n farm after before now ends) (a : AtClock t b farm.groups)
-    (knows : KnowsListed b farm.groups farm.failed) (b' : State) (told : b' ≡ told_after b ends) (o : (c : ℕ) → open_now b' c ≡ (open_now b c && not (is_told c ends))) where
+module _ (t n : ℕ) (b : State) (farm after : FarmMemory) (before now : ℕ → Side → LineState) (ends : List CallEnd)
+    (w : WorkedRound t n farm after before now ends) (a : AtClock t b farm.groups)
+    (knows : KnowsListed b farm.groups farm.failed) (b' : State) (told : b' ≡ told_after b ends)
+    (o : (c : ℕ) → open_now b' c ≡ (open_now b c && not (is_told c ends))) where
   -- what is known of the round's seats
   abbrev Seated : ℕ → ℕ → Type 0
   Seated k c = its_seats.Seated t n b farm after before now ends w a knows b' told o k c
@@ -117,13 +119,15 @@ module _ (t n : ℕ) (b : State) (farm after : FarmMemory) (before now : ℕ →
         | inr m ↦ let p = marked c side m in lacks m.k c p.0 p.1 (failed_short m.k c side p.0 p.1 i (sym (marks_kept m.k c side p.0 p.1 i) ∙ p.2))
       ]
 
-      calls : (c : ℕ) (x : Call) → call_in after.groups c ≡ Some x → (x.down_failed ≡ is_listed after.failed c Down) × (x.out_failed ≡ is_listed after.failed c Out)
+      calls : (c : ℕ) (x : Call) → call_in after.groups c ≡ Some x → (x.down_failed ≡ is_listed after.failed c Down)
+          × (x.out_failed ≡ is_listed after.failed c Out)
       calls c x e =
           let alive : is_among farm.live c ≡ true = (and_parts (is_among farm.live c) (goes_on_call w.worked c) (sym (w.is_open c) ∙ ap is_some e)).0 in
           let p = among_place farm.live c alive in
           let s = seated p.0 c p.1 p.2 in
           let known = w.know c x e in
-          let found : seat_of w.drained c ≡ seat_at w.drained p.0 = ap (seat_of w.drained) (sym s.drained_at) ∙ seat_of_at w.drained p.0 rising (omega (arith, p.1, long_drained)) in (
+          let found : seat_of w.drained c ≡ seat_at w.drained p.0 = ap (seat_of w.drained) (sym s.drained_at)
+          ∙ seat_of_at w.drained p.0 rising (omega (arith, p.1, long_drained)) in (
             known.0 ∙ ap (λ (x : SeatMemory). has_failed x.place.down) found ∙ stands_down p.0 c p.1 p.2,
             known.1 ∙ ap (λ (x : SeatMemory). has_failed x.place.out) found ∙ stands_out p.0 c p.1 p.2,
           )
@@ -134,22 +138,31 @@ module _ (t n : ℕ) (b : State) (farm after : FarmMemory) (before now : ℕ →
 
   -- **The run goes on.**
   pub goes_after : StandingGoesOn (standing b farm.failed before) (standing b' after.failed now)
-  goes_after = record { over = over_on; read_on = read_on; lines = λ c s i e. ap (λ (l : LineState). l.to_come) (lines_kept t n farm after before now ends w c (no_seat_of c e) s); listed = λ c s i e. listed_kept c s (no_seat_of c e) }
+  goes_after = record {
+    over = over_on;
+    read_on = read_on;
+    lines = λ c s i e. ap (λ (l : LineState). l.to_come) (lines_kept t n farm after before now ends w c (no_seat_of c e) s);
+    listed = λ c s i e. listed_kept c s (no_seat_of c e);
+  }
     where
-      given : (c : ℕ) (side : Side) (octets : List ℕ) → IsIncoming side → (before c side).to_come ≡ Some octets → (k : ℕ) → k < length farm.live → slice_index farm.live k ≡ c → (i : ℕ) × ((w.between c side).to_come ≡ Some (drop i octets))
+      given : (c : ℕ) (side : Side) (octets : List ℕ) → IsIncoming side → (before c side).to_come ≡ Some octets → (k : ℕ) → k < length farm.live →
+          slice_index farm.live k ≡ c → (i : ℕ) × ((w.between c side).to_come ≡ Some (drop i octets))
       given c Up octets i e k l q = let s = seated k c l q in front_read (before c Up).to_come (w.between c Up).to_come _ octets s.facts.front.fills.up.given e
-      given c Pcm octets i e k l q = let s = seated k c l q in front_read (before c Pcm).to_come (w.between c Pcm).to_come _ octets s.facts.front.fills.pcm.given e
+      given c Pcm octets i e k l q = let s =
+          seated k c l q in front_read (before c Pcm).to_come (w.between c Pcm).to_come _ octets s.facts.front.fills.pcm.given e
       given c Down octets i e k l q = absurd i
       given c Out octets i e k l q = absurd i
 
       read_on : ReadsOn before now
       read_on c side octets i e = elim (seat_cases t n farm after before now ends w c) [
-        | inl m ↦ let g = given c side octets i e m.0 m.1 m.2 in (g.0, ap (λ (l : LineState). l.to_come) (incoming_after t n farm after before now ends w c side i) ∙ g.1)
+        | inl m ↦ let g =
+            given c side octets i e m.0 m.1 m.2 in (g.0, ap (λ (l : LineState). l.to_come) (incoming_after t n farm after before now ends w c side i) ∙ g.1)
         | inr none ↦ (0, ap (λ (l : LineState). l.to_come) (lines_kept t n farm after before now ends w c none side) ∙ e)
       ]
 
   -- **So the round meets a run that goes on from behind it.**
-  pub meets_run : (r : Run) (last : Standing) → HasFlags r last → StandingGoesOn (standing b' after.failed now) last → MeetsRun r n w.filled (standing b' after.failed now) last
+  pub meets_run : (r : Run) (last : Standing) → HasFlags r last → StandingGoesOn (standing b' after.failed now) last →
+      MeetsRun r n w.filled (standing b' after.failed now) last
   meets_run r last flags on = record {
     on = on;
     flags = flags;

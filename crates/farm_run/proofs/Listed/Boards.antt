@@ -78,7 +78,8 @@ gone_told s (d ∷ ends) c e = gone_told (told_more s d.call d.at) ends c (gone_
 pub over_told : (s : State) (ends : List CallEnd) (c : ℕ) → is_over s c ≡ true → is_over (told_after s ends) c ≡ true
 over_told s ends c e = elim (or_cases (gone_in s c) (is_some (closed_at c s.done)) e) [
   | inl g ↦ or_first (gone_in (told_after s ends) c) (is_some (closed_at c (told_after s ends).done)) (gone_told s ends c g)
-  | inr q ↦ or_second (gone_in (told_after s ends) c) (is_some (closed_at c (told_after s ends).done)) (ap (λ (ds : List Done). is_some (closed_at c ds)) (told_done s ends) ∙ q)
+  | inr q ↦ or_second (gone_in (told_after s ends) c) (is_some (closed_at c (told_after s ends).done))
+      (ap (λ (ds : List Done). is_some (closed_at c ds)) (told_done s ends) ∙ q)
 ]
 
 -- ---- orders
@@ -96,7 +97,8 @@ over_turned s n o e c h = subst (λ (m : State). is_over m c ≡ true) (sym e) (
     by None = h
     by (Some x) = elim (or_cases (gone_in s c) (is_some (closed_at c s.done)) h) [
       | inl g ↦ or_first (gone_in s c) (is_some (closed_at c (after_turn s (Some x)).done)) g
-      | inr q ↦ or_second (gone_in s c) (is_some (closed_at c (after_turn s (Some x)).done)) (ap is_some (closed-append c s.done _) ∙ some_more (closed_at c s.done) _ q)
+      | inr q ↦ or_second (gone_in s c) (is_some (closed_at c (after_turn s (Some x)).done))
+          (ap is_some (closed-append c s.done _) ∙ some_more (closed_at c s.done) _ q)
     ]
 
 -- a call that was opened was so after one more order
@@ -133,7 +135,8 @@ module _ (failed : List Line) where
   changed_knows n g f l h c = either c (n == c) (option_map g (f c)) (f c) (λ e. mapped c g l (f c) (h c)) (h c)
 
   -- or freed of its partner
-  freed_knows : (p : Option ℕ) (g : Call → Call) (f : ℕ → Option Call) → Leaves g → ((c : ℕ) → IfSome (f c) (Knows c)) → (c : ℕ) → IfSome (freed p g f c) (Knows c)
+  freed_knows : (p : Option ℕ) (g : Call → Call) (f : ℕ → Option Call) → Leaves g → ((c : ℕ) → IfSome (f c) (Knows c)) → (c : ℕ) →
+      IfSome (freed p g f c) (Knows c)
   freed_knows None g f l h c = h c
   freed_knows (Some p) g f l h c = changed_knows p g f l h c
 
@@ -146,9 +149,11 @@ module _ (failed : List Line) where
   after_knows : (a : Act) (f : ℕ → Option Call) → IsNew a → ((c : ℕ) → IfSome (f c) (Knows c)) → (c : ℕ) → IfSome (calls_after a f c) (Knows c)
   after_knows (act.Opened n law) f new h c =
       either c (n == c) (Some (new_call n law)) (f c)
-      (λ e. let same = eqb-true n c e in (sym (new Down) ∙ ap (λ (d : ℕ). is_listed failed d Down) same, sym (new Out) ∙ ap (λ (d : ℕ). is_listed failed d Out) same)) (h c)
+      (λ e. let same =
+      eqb-true n c e in (sym (new Down) ∙ ap (λ (d : ℕ). is_listed failed d Down) same, sym (new Out) ∙ ap (λ (d : ℕ). is_listed failed d Out) same)) (h c)
   after_knows (act.Closed n p) f new h c = either c (n == c) None (freed p parted f c) (λ e. tt) (freed_knows p parted f (λ d x k. k) h c)
-  after_knows (act.Bridged a b) f new h c = changed_knows a bridged_call (changed b bridged_call f) (λ d x k. k) (changed_knows b bridged_call f (λ d x k. k) h) c
+  after_knows (act.Bridged a b) f new h c =
+      changed_knows a bridged_call (changed b bridged_call f) (λ d x k. k) (changed_knows b bridged_call f (λ d x k. k) h) c
   after_knows (act.Unbridged a b) f new h c = changed_knows a parted (changed b parted f) (λ d x k. k) (changed_knows b parted f (λ d x k. k) h) c
   after_knows (act.LevelSet n level) f new h c = changed_knows n (set_by (act.LevelSet n level)) f (λ d x k. k) h c
   after_knows (act.DtxSet n mode) f new h c = changed_knows n (set_by (act.DtxSet n mode)) f (λ d x k. k) h c
@@ -167,12 +172,14 @@ module _ (failed : List Line) where
       some a b r = cc
 
 -- **After an accepted order the same is known of the listed lines.**
-pub knows_more : (s n : State) (o : Option Order) (groups after : List Group) (failed : List Line) (a : Act) → n ≡ after_turn s o → Finds a (opened_now s) (open_now s) (partner_now s) →
+pub knows_more : (s n : State) (o : Option Order) (groups after : List Group) (failed : List Line) (a : Act) → n ≡ after_turn s o →
+    Finds a (opened_now s) (open_now s) (partner_now s) →
     ((c : ℕ) → call_in after c ≡ calls_after a (call_in groups) c) → KnowsListed s groups failed → KnowsListed n after failed
 knows_more s n o groups after failed a e finds calls k = record {
   opened = λ c side l. opened_turned s n o e c (k.opened c side l);
   ended = λ c side i l. over_turned s n o e c (k.ended c side i l);
-  calls = λ c x q. known failed c x (calls_after a (call_in groups) c) (after_knows failed a (call_in groups) (new a finds) (λ d. each failed d (call_in groups d) (k.calls d)) c) (sym (calls c) ∙ q);
+  calls = λ c x q. known failed c x (calls_after a (call_in groups) c)
+      (after_knows failed a (call_in groups) (new a finds) (λ d. each failed d (call_in groups d) (k.calls d)) c) (sym (calls c) ∙ q);
 }
   where
     new : (a : Act) → Finds a (opened_now s) (open_now s) (partner_now s) → IsNew failed a
@@ -184,7 +191,8 @@ knows_more s n o groups after failed a e finds calls k = record {
     new (act.DtxSet m mode) f = tt
 
 -- **.. and after a refused one.**
-pub knows_same : (s n : State) (o : Option Order) (groups : List Group) (failed : List Line) → n ≡ after_turn s o → KnowsListed s groups failed → KnowsListed n groups failed
+pub knows_same : (s n : State) (o : Option Order) (groups : List Group) (failed : List Line) → n ≡ after_turn s o → KnowsListed s groups failed →
+    KnowsListed n groups failed
 knows_same s n o groups failed e k = record {
   opened = λ c side l. opened_turned s n o e c (k.opened c side l);
   ended = λ c side i l. over_turned s n o e c (k.ended c side i l);

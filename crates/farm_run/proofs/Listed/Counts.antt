@@ -61,12 +61,14 @@ listed_side p (z ∷ xs) s h e = by (fails_in p z) refl (cons_cases z xs s h) (�
     by true q (inr k) rest = Contains-append_right ((p.call, z) ∷ []) (filter_map (name_where_failed p) xs) (p.call, s) (rest k)
 
 -- a line that a seat names failed in the round
-side_listed : (p : PlaceMemory) (xs : List Side) (y : Name) → Contains (filter_map (name_where_failed p) xs) y → (s : Side) × (y ≡ (p.call, s)) × (fails_in p s ≡ true)
+side_listed : (p : PlaceMemory) (xs : List Side) (y : Name) → Contains (filter_map (name_where_failed p) xs) y →
+    (s : Side) × (y ≡ (p.call, s)) × (fails_in p s ≡ true)
 side_listed p [] y h = absurd (none_in y h)
 side_listed p (z ∷ xs) y h = by (fails_in p z) refl h (side_listed p xs y)
   where
     by : (b : Bool) → fails_in p z ≡ b → Contains (cons_option (if b then Some (p.call, z) else None) (filter_map (name_where_failed p) xs)) y →
-        (Contains (filter_map (name_where_failed p) xs) y → (s : Side) × (y ≡ (p.call, s)) × (fails_in p s ≡ true)) → (s : Side) × (y ≡ (p.call, s)) × (fails_in p s ≡ true)
+        (Contains (filter_map (name_where_failed p) xs) y → (s : Side) × (y ≡ (p.call, s)) × (fails_in p s ≡ true)) →
+        (s : Side) × (y ≡ (p.call, s)) × (fails_in p s ≡ true)
     by false q k rest = rest k
     by true q k rest = elim (cons_cases (p.call, z) (filter_map (name_where_failed p) xs) y k) [ inl e ↦ (z, sym e, q) | inr m ↦ rest m ]
 
@@ -82,10 +84,12 @@ abbrev pub names : List SeatMemory → List Name
 names seats = flat_map (λ s. failed_in_round s.place) seats
 
 -- a line that failed in the round is among the names of the seats
-pub seat_listed : (seats : List SeatMemory) (k : ℕ) (s : Side) → k < length seats → fails_in (seat_at seats k).place s ≡ true → Contains (names seats) (call_at seats k, s)
+pub seat_listed : (seats : List SeatMemory) (k : ℕ) (s : Side) → k < length seats → fails_in (seat_at seats k).place s ≡ true →
+    Contains (names seats) (call_at seats k, s)
 seat_listed [] k s l e = absurd (omega arith)
 seat_listed (x ∷ seats) zero s l e = Contains-append_left (failed_in_round x.place) (names seats) (x.place.call, s) (listed_side x.place sides s (a_side s) e)
-seat_listed (x ∷ seats) (suc k) s l e = Contains-append_right (failed_in_round x.place) (names seats) (call_at seats k, s) (seat_listed seats k s (omega arith) e)
+seat_listed (x ∷ seats) (suc k) s l e =
+    Contains-append_right (failed_in_round x.place) (names seats) (call_at seats k, s) (seat_listed seats k s (omega arith) e)
 
 -- the seat that a name is listed by
 pub record Lists (seats : List SeatMemory) (y : Name) : Type 0 where
@@ -106,15 +110,21 @@ listed_seat (x ∷ seats) y h = elim (Contains-append_cases (failed_in_round x.p
 -- ---- a round
 
 -- **The lines that are listed after a round are those from before and those that its seats' marks tell.**
-pub listed_before : (before now : List Line) (seats : List SeatMemory) (y : Name) → GainsFailed before now seats → Contains (map line_name before) y ⊎ Contains (names seats) y → Contains (map line_name now) y
+pub listed_before : (before now : List Line) (seats : List SeatMemory) (y : Name) → GainsFailed before now seats →
+    Contains (map line_name before) y ⊎ Contains (names seats) y → Contains (map line_name now) y
 listed_before before now seats y g h =
     Contains-permutation (map line_name g.lines) (map line_name now) y (IsPermutation-map line_name g.lines now g.same)
-    (subst (λ xs. Contains xs y) (sym g.told) (elim h [ inl a ↦ Contains-append_left (map line_name before) (names seats) y a | inr b ↦ Contains-append_right (map line_name before) (names seats) y b ]))
+    (subst (λ xs. Contains xs y) (sym g.told) (elim h [
+      | inl a ↦ Contains-append_left (map line_name before) (names seats) y a
+      | inr b ↦ Contains-append_right (map line_name before) (names seats) y b
+    ]))
 
 -- and behind it a line is listed that was so before or failed in it
-pub listed_after : (before now : List Line) (seats : List SeatMemory) (y : Name) → GainsFailed before now seats → Contains (map line_name now) y → Contains (map line_name before) y ⊎ Contains (names seats) y
+pub listed_after : (before now : List Line) (seats : List SeatMemory) (y : Name) → GainsFailed before now seats → Contains (map line_name now) y →
+    Contains (map line_name before) y ⊎ Contains (names seats) y
 listed_after before now seats y g h = Contains-append_cases (map line_name before) (names seats) y
-    (subst (λ xs. Contains xs y) g.told (Contains-permutation (map line_name now) (map line_name g.lines) y (IsPermutation-map line_name now g.lines (IsPermutation-sym g.lines now g.same)) h))
+    (subst (λ xs. Contains xs y) g.told (Contains-permutation (map line_name now) (map line_name g.lines) y
+    (IsPermutation-map line_name now g.lines (IsPermutation-sym g.lines now g.same)) h))
 
 module _ (t n : ℕ) (farm after : FarmMemory) (before now : ℕ → Side → LineState) (ends : List CallEnd) (w : WorkedRound t n farm after before now ends) where
   -- there are as many seats as open calls
@@ -128,7 +138,8 @@ module _ (t n : ℕ) (farm after : FarmMemory) (before now : ℕ → Side → Li
   -- **No count falls.**
   pub fell_round : NeverFell before now
   fell_round c s = elim (seat_cases c) [
-    | inl m ↦ let f = seat_facts t n farm after before now ends w m.0 c m.1 m.2 in side s f.2.front.fills.up.later f.2.front.fills.pcm.later (moved_later _ _ _ _ _ f.2.drains.down) (moved_later _ _ _ _ _ f.2.drains.out)
+    | inl m ↦ let f = seat_facts t n farm after before now ends w m.0 c m.1 m.2 in
+        side s f.2.front.fills.up.later f.2.front.fills.pcm.later (moved_later _ _ _ _ _ f.2.drains.down) (moved_later _ _ _ _ _ f.2.drains.out)
     | inr q ↦ let e = ap (λ (l : LineState). l.faults) (lines_kept t n farm after before now ends w c q s) in omega (arith, e)
   ]
     where
@@ -143,7 +154,8 @@ module _ (t n : ℕ) (farm after : FarmMemory) (before now : ℕ → Side → Li
       side Out u p d o = omega (arith, o, faults (out_between t n farm after before now ends w c))
 
   -- **The farm goes on listing exactly the lines whose counts rose.**
-  pub tells_round : (first : ℕ → Side → LineState) → NeverFell first before → TellsFailed first before farm.failed → IsStrictlyIncreasing (map (λ l. place_of l.call l.side) after.failed) → TellsFailed first now after.failed
+  pub tells_round : (first : ℕ → Side → LineState) → NeverFell first before → TellsFailed first before farm.failed →
+      IsStrictlyIncreasing (map (λ l. place_of l.call l.side) after.failed) → TellsFailed first now after.failed
   tells_round first l h order = record { failures = record { rose = rose; kept = kept }; order = order }
     where
       rose : (c : ℕ) (s : Side) → is_listed after.failed c s ≡ true → Rose (first c s).faults (now c s).faults
@@ -161,7 +173,9 @@ module _ (t n : ℕ) (farm after : FarmMemory) (before now : ℕ → Side → Li
               (subst (λ d. Rose (before d m.side).faults (now d m.side).faults) called ((tells_seat _ _ _ _ _ _ _ _ _ _ f.2 m.side).rose m.fails))
 
       kept : (c : ℕ) (s : Side) → is_listed after.failed c s ≡ false → (now c s).faults ≡ (first c s).faults
-      kept c s not = same ∙ h.failures.kept c s (is_false (is_listed farm.failed c s) (λ a. none (listed_before farm.failed after.failed w.drained (c, s) w.gains (inl (listed_name farm.failed c s a)))))
+      kept c s not = same ∙ h.failures.kept c s
+          (is_false (is_listed farm.failed c s) (λ a. none
+          (listed_before farm.failed after.failed w.drained (c, s) w.gains (inl (listed_name farm.failed c s a)))))
         where
           none : Contains (map line_name after.failed) (c, s) → ⊥
           none m = true≢false (sym (name_listed after.failed c s m) ∙ not)
@@ -172,7 +186,8 @@ module _ (t n : ℕ) (farm after : FarmMemory) (before now : ℕ → Side → Li
                 let f = seat_facts t n farm after before now ends w m.0 c m.1 m.2 in
                 elim (cases_Bool (fails_in (seat_at w.drained m.0).place s)) [
                   | inl q ↦ absurd (none (listed_before farm.failed after.failed w.drained (c, s) w.gains
-                      (inr (subst (λ d. Contains (names w.drained) (d, s)) (drained_call _ _ _ _ _ _ _ _ _ _ f.2) (seat_listed w.drained m.0 s (omega (arith, m.1, long)) q)))))
+                      (inr (subst (λ d. Contains (names w.drained) (d, s)) (drained_call _ _ _ _ _ _ _ _ _ _ f.2)
+                      (seat_listed w.drained m.0 s (omega (arith, m.1, long)) q)))))
                   | inr q ↦ (tells_seat _ _ _ _ _ _ _ _ _ _ f.2 s).kept q
                 ]
             | inr q ↦ ap (λ (l : LineState). l.faults) (lines_kept t n farm after before now ends w c q s)

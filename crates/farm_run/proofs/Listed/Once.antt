@@ -38,7 +38,8 @@ same_name y z e = let p = one_line y.0 z.0 y.1 z.1 e in ap (λ (d : ℕ). (d, z.
 
 -- the order of the two doesn't matter
 flips : (y z : Name) → same y z ≡ same z y
-flips y z = same_test (same y z) (same z y) (λ e. eq-eqb (place z) (place y) (sym (eqb-true (place y) (place z) e))) (λ e. eq-eqb (place y) (place z) (sym (eqb-true (place z) (place y) e)))
+flips y z = same_test (same y z) (same z y) (λ e. eq-eqb (place z) (place y) (sym (eqb-true (place y) (place z) e)))
+    (λ e. eq-eqb (place y) (place z) (sym (eqb-true (place z) (place y) e)))
 
 -- ---- names that rise
 
@@ -64,7 +65,8 @@ rising_distinct n [] r = tt
 rising_distinct n (y ∷ ys) r = (apart (place y) (suc (place y)) ys (omega arith) r.1, rising_distinct (suc (place y)) ys r.1)
 
 -- lines whose places rise
-lines_rise : (lines : List Line) (n : ℕ) → IsStrictlyIncreasing (map line_place lines) → (0 < length lines → n ≤ slice_index (map line_place lines) 0) → RisesFrom n (map line_name lines)
+lines_rise : (lines : List Line) (n : ℕ) → IsStrictlyIncreasing (map line_place lines) → (0 < length lines → n ≤ slice_index (map line_place lines) 0) →
+    RisesFrom n (map line_name lines)
 lines_rise [] n s l = tt
 lines_rise (x ∷ lines) n s l = (l (omega arith), lines_rise lines (suc (line_place x)) tail (λ m. s 0 (omega (arith, m, length-map lines line_place))))
   where
@@ -74,7 +76,8 @@ lines_rise (x ∷ lines) n s l = (l (omega arith), lines_rise lines (suc (line_p
         subst (λ (j : ℕ). slice_index (map line_place lines) k < slice_index (map line_place (x ∷ lines)) j) e (s (suc k) (omega arith))
 
 -- the lines that failed in a round, seat by seat
-one_side : (p : PlaceMemory) (z : Side) (zs : List Side) (rest : List Name) (n : ℕ) → n ≤ place_of p.call z → RisesFrom (suc (place_of p.call z)) (filter_map (name_where_failed p) zs ++ rest) →
+one_side : (p : PlaceMemory) (z : Side) (zs : List Side) (rest : List Name) (n : ℕ) → n ≤ place_of p.call z →
+    RisesFrom (suc (place_of p.call z)) (filter_map (name_where_failed p) zs ++ rest) →
     RisesFrom n (filter_map (name_where_failed p) (z ∷ zs) ++ rest)
 one_side p z zs rest n l r = by (fails_in p z) refl
   where
@@ -94,7 +97,8 @@ one_seat p rest n l r =
 -- so the names of all seats rise
 seats_rise : (seats : List SeatMemory) (n : ℕ) → Rising seats → (0 < length seats → n ≤ 4 * call_at seats 0) → RisesFrom n (names seats)
 seats_rise [] n r l = tt
-seats_rise (x ∷ seats) n r l = one_seat x.place (names seats) n (l (omega arith)) (seats_rise seats (4 * x.place.call + 4) (λ i j a m. r (suc i) (suc j) (omega arith) (omega arith)) next)
+seats_rise (x ∷ seats) n r l =
+    one_seat x.place (names seats) n (l (omega arith)) (seats_rise seats (4 * x.place.call + 4) (λ i j a m. r (suc i) (suc j) (omega arith) (omega arith)) next)
   where
     next : 0 < length seats → 4 * x.place.call + 4 ≤ 4 * call_at seats 0
     next m = let k : x.place.call < call_at seats 0 = r 0 1 (omega arith) (omega arith) in omega (arith, k)
@@ -124,7 +128,8 @@ unfolding IsDistinct
 distinct_places [] d = tt
 distinct_places (l ∷ lines) d = (others lines d.0, distinct_places lines d.1)
   where
-    others : (ls : List Line) → AllByRecursion (λ z. same (line_name l) z ≡ false) (map line_name ls) → AllByRecursion (λ (q : ℕ). eqb (line_place l) q ≡ false) (map line_place ls)
+    others : (ls : List Line) → AllByRecursion (λ z. same (line_name l) z ≡ false) (map line_name ls) →
+        AllByRecursion (λ (q : ℕ). eqb (line_place l) q ≡ false) (map line_place ls)
     others [] a = tt
     others (k ∷ ls) a = (a.0, others ls a.1)
 
@@ -141,10 +146,12 @@ not_falling (x ∷ lines) h i j d l m =
 
 -- **Where no line was listed before that failed in the round, each is listed once.**
 pub listed_once : (before now : List Line) (seats : List SeatMemory) → GainsFailed before now seats → Rising seats →
-    ((y : Name) → Contains (map line_name before) y → Contains (names seats) y → ⊥) → IsStrictlyIncreasing (map line_place before) → IsStrictlyIncreasing (map line_place now)
+    ((y : Name) → Contains (map line_name before) y → Contains (names seats) y → ⊥) → IsStrictlyIncreasing (map line_place before) →
+    IsStrictlyIncreasing (map line_place now)
 listed_once before now seats g r none s =
     IsStrictlyIncreasing-from_distinct (map line_place now) (not_falling now g.order)
     (distinct_places now
     (IsDistinct-IsPermutation same flips (map line_name g.lines) (map line_name now) (IsPermutation-map line_name g.lines now g.same)
     (subst (λ (ys : List Name). IsDistinct same ys) (sym g.told)
-    (distinct_append (map line_name before) (names seats) (rising_distinct 0 (map line_name before) (lines_rise before 0 s (λ m. omega arith))) (rising_distinct 0 (names seats) (seats_rise seats 0 r (λ m. omega arith))) none))))
+    (distinct_append (map line_name before) (names seats) (rising_distinct 0 (map line_name before) (lines_rise before 0 s (λ m. omega arith)))
+    (rising_distinct 0 (names seats) (seats_rise seats 0 r (λ m. omega arith))) none))))

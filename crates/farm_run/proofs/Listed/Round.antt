@@ -37,7 +37,8 @@ one_seat seats i j r l k e = elim (cases_lt i j) [
 ]
 
 -- how an outgoing line stands after a round
-stands_is : (b : Bool) (before now : LineState) (was stands : Outlet) (octets : List ℕ) → was ≡ outlet_before b → PassesOn before now was stands octets → has_failed stands ≡ (b || fails_now stands)
+stands_is : (b : Bool) (before now : LineState) (was stands : Outlet) (octets : List ℕ) → was ≡ outlet_before b → PassesOn before now was stands octets →
+    has_failed stands ≡ (b || fails_now stands)
 stands_is true before now was stands octets q (inl g) = ap has_failed ((g.passed (ap has_failed q)).1 ∙ q)
 stands_is false before now was stands octets q (inl g) = elim (cases_Bool (has_failed stands)) [
   | inl e ↦ let f = g.fault (ap has_failed q) e in e ∙ sym (ap fails_now f.0)
@@ -52,13 +53,16 @@ stands_is true before now was stands octets q (inr g) = ap has_failed (g.1 ∙ q
 stands_is false before now was stands octets q (inr g) = ap has_failed (g.1 ∙ q) ∙ sym (ap fails_now (g.1 ∙ q))
 
 -- one that had failed before is passed over
-passed_over : (b : Bool) (before now : LineState) (was stands : Outlet) (octets : List ℕ) → was ≡ outlet_before b → b ≡ true → PassesOn before now was stands octets → fails_now stands ≡ false
+passed_over : (b : Bool) (before now : LineState) (was stands : Outlet) (octets : List ℕ) → was ≡ outlet_before b → b ≡ true →
+    PassesOn before now was stands octets → fails_now stands ≡ false
 passed_over true before now was stands octets q e (inl g) = ap fails_now ((g.passed (ap has_failed q)).1 ∙ q)
 passed_over true before now was stands octets q e (inr g) = ap fails_now (g.1 ∙ q)
 passed_over false before now was stands octets q e g = cc
 
-module _ (t n : ℕ) (b : State) (farm after : FarmMemory) (before now : ℕ → Side → LineState) (ends : List CallEnd) (w : WorkedRound t n farm after before now ends) (a : AtClock t b farm.groups)
-    (knows : KnowsListed b farm.groups farm.failed) (b' : State) (told : b' ≡ told_after b ends) (o : (c : ℕ) → open_now b' c ≡ (open_now b c && not (is_told c ends))) where
+module _ (t n : ℕ) (b : State) (farm after : FarmMemory) (before now : ℕ → Side → LineState) (ends : List CallEnd)
+    (w : WorkedRound t n farm after before now ends) (a : AtClock t b farm.groups)
+    (knows : KnowsListed b farm.groups farm.failed) (b' : State) (told : b' ≡ told_after b ends)
+    (o : (c : ℕ) → open_now b' c ≡ (open_now b c && not (is_told c ends))) where
   -- what is known of the round's seats
   abbrev Seated : ℕ → ℕ → Type 0
   Seated k c = its_seats.Seated t n b farm after before now ends w a knows b' told o k c
@@ -87,10 +91,12 @@ module _ (t n : ℕ) (b : State) (farm after : FarmMemory) (before now : ℕ →
 
   -- one that was listed still is
   pub listed_still : (c : ℕ) (side : Side) → is_listed farm.failed c side ≡ true → is_listed after.failed c side ≡ true
-  listed_still c side e = name_listed after.failed c side (listed_before farm.failed after.failed w.drained (c, side) w.gains (inl (listed_name farm.failed c side e)))
+  listed_still c side e =
+      name_listed after.failed c side (listed_before farm.failed after.failed w.drained (c, side) w.gains (inl (listed_name farm.failed c side e)))
 
   -- the call and the side that a seat's mark names
-  pub marked : (c : ℕ) (side : Side) (m : Lists w.drained (c, side)) → (m.k < length farm.live) × (slice_index farm.live m.k ≡ c) × (fails_in (seat_at w.drained m.k).place side ≡ true)
+  pub marked : (c : ℕ) (side : Side) (m : Lists w.drained (c, side)) →
+      (m.k < length farm.live) × (slice_index farm.live m.k ≡ c) × (fails_in (seat_at w.drained m.k).place side ≡ true)
   marked c side m =
       let within : m.k < length farm.live = (let l = m.within in omega (arith, l, long_drained)) in
       let s = seated m.k (slice_index farm.live m.k) within refl in (
@@ -100,7 +106,8 @@ module _ (t n : ℕ) (b : State) (farm after : FarmMemory) (before now : ℕ →
       )
 
   -- **Of a call with a seat a line is listed where it was, or where it failed in the round.**
-  pub listed_seated : (k c : ℕ) (side : Side) → k < length farm.live → slice_index farm.live k ≡ c → is_listed after.failed c side ≡ (is_listed farm.failed c side || fails_in (seat_at w.drained k).place side)
+  pub listed_seated : (k c : ℕ) (side : Side) → k < length farm.live → slice_index farm.live k ≡ c →
+      is_listed after.failed c side ≡ (is_listed farm.failed c side || fails_in (seat_at w.drained k).place side)
   listed_seated k c side l e = same_test (is_listed after.failed c side) (is_listed farm.failed c side || fails_in (seat_at w.drained k).place side) front back
     where
       s : Seated k c
@@ -112,8 +119,10 @@ module _ (t n : ℕ) (b : State) (farm after : FarmMemory) (before now : ℕ →
         | inr m ↦
             let p = marked c side m in
             let z = seated m.k c p.0 p.1 in
-            let same : m.k ≡ k = one_seat w.drained m.k k rising (omega (arith, p.0, long_drained)) (omega (arith, l, long_drained)) (z.drained_at ∙ sym s.drained_at) in
-            or_second (is_listed farm.failed c side) (fails_in (seat_at w.drained k).place side) (sym (ap (λ (i : ℕ). fails_in (seat_at w.drained i).place side) same) ∙ p.2)
+            let same : m.k ≡ k =
+            one_seat w.drained m.k k rising (omega (arith, p.0, long_drained)) (omega (arith, l, long_drained)) (z.drained_at ∙ sym s.drained_at) in
+            or_second (is_listed farm.failed c side) (fails_in (seat_at w.drained k).place side)
+            (sym (ap (λ (i : ℕ). fails_in (seat_at w.drained i).place side) same) ∙ p.2)
       ]
 
       back : (is_listed farm.failed c side || fails_in (seat_at w.drained k).place side) ≡ true → is_listed after.failed c side ≡ true
@@ -138,20 +147,23 @@ module _ (t n : ℕ) (b : State) (farm after : FarmMemory) (before now : ℕ →
   not_listed k c side l e i = is_false (is_listed farm.failed c side) (λ q. let s = seated k c l e in true≢false (sym (knows.ended c side i q) ∙ s.not_yet))
 
   -- so an open call's incoming line is listed where it failed in the round
-  pub listed_incoming : (k c : ℕ) (side : Side) → k < length farm.live → slice_index farm.live k ≡ c → IsIncoming side → is_listed after.failed c side ≡ fails_in (seat_at w.filled k).place side
+  pub listed_incoming : (k c : ℕ) (side : Side) → k < length farm.live → slice_index farm.live k ≡ c → IsIncoming side →
+      is_listed after.failed c side ≡ fails_in (seat_at w.filled k).place side
   listed_incoming k c side l e i =
       listed_seated k c side l e ∙ ap (λ (x : Bool). x || fails_in (seat_at w.drained k).place side) (not_listed k c side l e i) ∙ marks_kept k c side l e i
 
   -- **An open call's outgoing lines are listed before and after the round as they stand in its seat.**
   pub was_down : (k c : ℕ) → k < length farm.live → slice_index farm.live k ≡ c → has_failed (seat_at w.worked k).place.down ≡ is_listed farm.failed c Down
-  was_down k c l e = let s = seated k c l e in ap has_failed (worked_down _ _ _ _ _ _ _ _ s.facts.front) ∙ back s.call.down_failed ∙ (knows.calls c s.call s.called).0
+  was_down k c l e = let s = seated k c l e in ap has_failed (worked_down _ _ _ _ _ _ _ _ s.facts.front) ∙ back s.call.down_failed
+      ∙ (knows.calls c s.call s.called).0
     where
       back : (x : Bool) → has_failed (outlet_before x) ≡ x
       back true = refl
       back false = refl
 
   pub was_out : (k c : ℕ) → k < length farm.live → slice_index farm.live k ≡ c → has_failed (seat_at w.worked k).place.out ≡ is_listed farm.failed c Out
-  was_out k c l e = let s = seated k c l e in ap has_failed (worked_out _ _ _ _ _ _ _ _ s.facts.front) ∙ back s.call.out_failed ∙ (knows.calls c s.call s.called).1
+  was_out k c l e = let s = seated k c l e in ap has_failed (worked_out _ _ _ _ _ _ _ _ s.facts.front) ∙ back s.call.out_failed
+      ∙ (knows.calls c s.call s.called).1
     where
       back : (x : Bool) → has_failed (outlet_before x) ≡ x
       back true = refl
@@ -180,22 +192,26 @@ module _ (t n : ℕ) (b : State) (farm after : FarmMemory) (before now : ℕ →
       same : (k : ℕ) → seat_at w.drained k ≡ seat_at w.worked k
       same k = ap (λ (xs : List SeatMemory). seat_at xs k) (w.back q).1
 
-      by : (side : Side) → IsOutgoing side → (k : ℕ) → k < length farm.live → slice_index farm.live k ≡ c → is_listed after.failed c side ≡ is_listed farm.failed c side
+      by : (side : Side) → IsOutgoing side → (k : ℕ) → k < length farm.live → slice_index farm.live k ≡ c →
+          is_listed after.failed c side ≡ is_listed farm.failed c side
       by Down i k l e = sym (stands_down k c l e) ∙ ap (λ (x : SeatMemory). has_failed x.place.down) (same k) ∙ was_down k c l e
       by Out i k l e = sym (stands_out k c l e) ∙ ap (λ (x : SeatMemory). has_failed x.place.out) (same k) ∙ was_out k c l e
       by Up i k l e = absurd i
       by Pcm i k l e = absurd i
 
   -- **A line that was listed doesn't fail in the round.**
-  fails_once : (k c : ℕ) (side : Side) → k < length farm.live → slice_index farm.live k ≡ c → is_listed farm.failed c side ≡ true → fails_in (seat_at w.drained k).place side ≡ false
+  fails_once : (k c : ℕ) (side : Side) → k < length farm.live → slice_index farm.live k ≡ c → is_listed farm.failed c side ≡ true →
+      fails_in (seat_at w.drained k).place side ≡ false
   fails_once k c Up l e q = absurd (true≢false (sym q ∙ not_listed k c Up l e tt))
   fails_once k c Pcm l e q = absurd (true≢false (sym q ∙ not_listed k c Pcm l e tt))
   fails_once k c Down l e q =
       let s = seated k c l e in
-      passed_over s.call.down_failed _ _ _ (seat_at w.drained k).place.down _ (worked_down _ _ _ _ _ _ _ _ s.facts.front) ((knows.calls c s.call s.called).0 ∙ q) s.facts.drains.down
+      passed_over s.call.down_failed _ _ _ (seat_at w.drained k).place.down _ (worked_down _ _ _ _ _ _ _ _ s.facts.front)
+      ((knows.calls c s.call s.called).0 ∙ q) s.facts.drains.down
   fails_once k c Out l e q =
       let s = seated k c l e in
-      passed_over s.call.out_failed _ _ _ (seat_at w.drained k).place.out _ (worked_out _ _ _ _ _ _ _ _ s.facts.front) ((knows.calls c s.call s.called).1 ∙ q) s.facts.drains.out
+      passed_over s.call.out_failed _ _ _ (seat_at w.drained k).place.out _ (worked_out _ _ _ _ _ _ _ _ s.facts.front)
+      ((knows.calls c s.call s.called).1 ∙ q) s.facts.drains.out
 
   -- **So each is listed once.**
   pub order_after : IsStrictlyIncreasing (map line_place farm.failed) → IsStrictlyIncreasing (map line_place after.failed)

@@ -50,8 +50,10 @@ fewer_pcm p n l = by p.up.count p.pcm.count l
     by : (u v : ℕ) → v < 160 * n → min (u / 40) (v / 160) < n
     by u v l = omega arith
 
-module _ (t n : ℕ) (b : State) (farm after : FarmMemory) (before now : ℕ → Side → LineState) (ends : List CallEnd) (w : WorkedRound t n farm after before now ends) (a : AtClock t b farm.groups)
-    (knows : KnowsListed b farm.groups farm.failed) (b' : State) (told : b' ≡ told_after b ends) (o : (c : ℕ) → open_now b' c ≡ (open_now b c && not (is_told c ends))) where
+module _ (t n : ℕ) (b : State) (farm after : FarmMemory) (before now : ℕ → Side → LineState) (ends : List CallEnd)
+    (w : WorkedRound t n farm after before now ends) (a : AtClock t b farm.groups)
+    (knows : KnowsListed b farm.groups farm.failed) (b' : State) (told : b' ≡ told_after b ends)
+    (o : (c : ℕ) → open_now b' c ≡ (open_now b c && not (is_told c ends))) where
   -- telling ends executes no order
   pub done_is : b'.done ≡ b.done
   done_is = ap (λ (s : State). s.done) told ∙ told_done b ends
@@ -131,7 +133,8 @@ module _ (t n : ℕ) (b : State) (farm after : FarmMemory) (before now : ℕ →
       ended = round_clock.told_is t n b farm after before now ends w a c (ap is_some s.called) ∙ ap not goes
 
   -- an incoming line that failed in the round gave less than all of it
-  pub failed_short : (k c : ℕ) (side : Side) → k < length farm.live → slice_index farm.live k ≡ c → IsIncoming side → fails_in (seat_at w.filled k).place side ≡ true → places.whole_in (seat_at w.filled k).place < n
+  pub failed_short : (k c : ℕ) (side : Side) → k < length farm.live → slice_index farm.live k ≡ c → IsIncoming side →
+      fails_in (seat_at w.filled k).place side ≡ true → places.whole_in (seat_at w.filled k).place < n
   failed_short k c Up l e i f =
       let s = seated k c l e in
       let short = s.facts.front.fills.up.short f in
@@ -144,13 +147,15 @@ module _ (t n : ℕ) (b : State) (farm after : FarmMemory) (before now : ℕ →
   failed_short k c Out l e i f = absurd i
 
   -- writing leaves the marks of the incoming lines
-  pub marks_kept : (k c : ℕ) (side : Side) → k < length farm.live → slice_index farm.live k ≡ c → IsIncoming side → fails_in (seat_at w.drained k).place side ≡ fails_in (seat_at w.filled k).place side
+  pub marks_kept : (k c : ℕ) (side : Side) → k < length farm.live → slice_index farm.live k ≡ c → IsIncoming side →
+      fails_in (seat_at w.drained k).place side ≡ fails_in (seat_at w.filled k).place side
   marks_kept k c side l e i = by side i
     where
       s : Seated k c
       s = seated k c l e
 
-      worked : (seat_at w.drained k).place ≡ record (seat_at w.worked k).place { down = (seat_at w.drained k).place.down; out = (seat_at w.drained k).place.out }
+      worked : (seat_at w.drained k).place ≡ record (seat_at w.worked k).place { down = (seat_at w.drained k).place.down; out =
+          (seat_at w.drained k).place.out }
       worked = ap (λ (x : SeatMemory). x.place) s.facts.drains.kept
 
       by : (side : Side) → IsIncoming side → fails_in (seat_at w.drained k).place side ≡ fails_in (seat_at w.filled k).place side

@@ -74,7 +74,8 @@ one_line c d Out Out e = (omega (arith, e), refl)
 pub listed_name : (lines : List Line) (c : ℕ) (s : Side) → is_listed lines c s ≡ true → Contains (map line_name lines) (c, s)
 listed_name [] c s e = cc
 listed_name (l ∷ lines) c s e = elim (or_cases (place_of l.call l.side == place_of c s) (is_listed lines c s) e) [
-  | inl q ↦ let p = one_line c l.call s l.side (eqb-true (place_of l.call l.side) (place_of c s) q) in (0, omega arith, ap (λ (d : ℕ). (d, l.side)) p.0 ∙ ap (λ (z : Side). (c, z)) p.1)
+  | inl q ↦ let p = one_line c l.call s l.side (eqb-true (place_of l.call l.side) (place_of c s) q) in
+      (0, omega arith, ap (λ (d : ℕ). (d, l.side)) p.0 ∙ ap (λ (z : Side). (c, z)) p.1)
   | inr q ↦ Contains-append_right (line_name l ∷ []) (map line_name lines) (c, s) (listed_name lines c s q)
 ]
 
@@ -82,13 +83,15 @@ listed_name (l ∷ lines) c s e = elim (or_cases (place_of l.call l.side == plac
 pub name_listed : (lines : List Line) (c : ℕ) (s : Side) → Contains (map line_name lines) (c, s) → is_listed lines c s ≡ true
 name_listed [] c s h = absurd (none_in (c, s) h)
 name_listed (l ∷ lines) c s h = elim (cons_cases (line_name l) (map line_name lines) (c, s) h) [
-  | inl q ↦ or_first (place_of l.call l.side == place_of c s) (is_listed lines c s) (eq-eqb (place_of l.call l.side) (place_of c s) (ap (λ (y : ℕ × Side). place_of y.0 y.1) q))
+  | inl q ↦ or_first (place_of l.call l.side == place_of c s) (is_listed lines c s)
+      (eq-eqb (place_of l.call l.side) (place_of c s) (ap (λ (y : ℕ × Side). place_of y.0 y.1) q))
   | inr m ↦ or_second (place_of l.call l.side == place_of c s) (is_listed lines c s) (name_listed lines c s m)
 ]
 
 -- the first line of a list is listed
 pub listed_head : (l : Line) (lines : List Line) → is_listed (l ∷ lines) l.call l.side ≡ true
-listed_head l lines = or_first (place_of l.call l.side == place_of l.call l.side) (is_listed lines l.call l.side) (eq-eqb (place_of l.call l.side) (place_of l.call l.side) refl)
+listed_head l lines =
+    or_first (place_of l.call l.side == place_of l.call l.side) (is_listed lines l.call l.side) (eq-eqb (place_of l.call l.side) (place_of l.call l.side) refl)
 
 -- a test doesn't come out both ways
 pub no : (b : Bool) → b ≡ false → b ≡ true → ⊥

@@ -48,7 +48,8 @@ use Rattle.farm_run.proofs.Rounds.Histories.{open_at}
 rises_of : (m : ℕ) (xs : List ℕ) → ((i : ℕ) → i < length xs → m ≤ slice_index xs i) → IsRising xs → Rises m xs
 rises_of m [] least rising = tt
 rises_of m (x ∷ xs) least rising =
-    (least 0 (omega arith), rises_of (suc x) xs (λ i l. let k = rising 0 (suc i) (omega arith) (omega arith) in omega (arith, k)) (λ i j l k. rising (suc i) (suc j) (omega arith) (omega arith)))
+    (least 0 (omega arith), rises_of (suc x) xs (λ i l. let k = rising 0 (suc i) (omega arith) (omega arith) in omega (arith, k))
+    (λ i j l k. rising (suc i) (suc j) (omega arith) (omega arith)))
 
 -- two tests of whether a number is among some
 has_among : (c : ℕ) (xs : List ℕ) → has c xs ≡ is_among xs c
@@ -96,7 +97,8 @@ cause_of e = e.cause
 -- ---- the entries
 
 -- one more entry
-pub entry_more : (s : Stage) (live : List ℕ) (i : ℕ) (old new : List MarkCall) (call : MarkCall) → i < length live → old ≡ map (entry_of s) (take i live) → call ≡ entry_of s (get_or live i 0) → new ≡ old ++ call ∷ [] →
+pub entry_more : (s : Stage) (live : List ℕ) (i : ℕ) (old new : List MarkCall) (call : MarkCall) → i < length live → old ≡ map (entry_of s) (take i live) →
+    call ≡ entry_of s (get_or live i 0) → new ≡ old ++ call ∷ [] →
     new ≡ map (entry_of s) (take (i + 1) live)
 entry_more s live i old new call within front is more =
     more ∙ ap (λ (xs : List MarkCall). xs ++ call ∷ []) front ∙ ap (λ (x : MarkCall). map (entry_of s) (take i live) ++ x ∷ []) is
@@ -123,11 +125,13 @@ module _ (s : Stage) (live : (c : ℕ) → is_among s.farm.live c ≡ is_some (c
   }
     where
       numbers : All IsCallNumber s.farm.live
-      numbers = all_among IsCallNumber s.farm.live (λ c q. let matches = (let k = stage.clock in k.matches) in matches.number c (sym (matches.is_open c) ∙ sym (live c) ∙ q))
+      numbers = all_among IsCallNumber s.farm.live (λ c q. let matches = (let k = stage.clock in k.matches) in
+          matches.number c (sym (matches.is_open c) ∙ sym (live c) ∙ q))
 
   -- ---- they are the run's
 
-  module _ (r : Run) (last : Standing) (first now : ℕ → Side → LineState) (at : IsAtClock r s.clock s.board s.farm.groups last first now) (e : s.clock ≡ r.periods) where
+  module _ (r : Run) (last : Standing) (first now : ℕ → Side → LineState) (at : IsAtClock r s.clock s.board s.farm.groups last first now)
+      (e : s.clock ≡ r.periods) where
     -- the executed orders
     abbrev ds : List Done
     ds = s.board.done
@@ -180,7 +184,8 @@ module _ (s : Stage) (live : (c : ℕ) → is_among s.farm.live c ≡ is_some (c
             let gone : begins + whole_in r c < s.clock = ltb-true (begins + whole_in r c) s.clock (sym (gone_is (whole_in r) s.clock ds c begins q) ∙ g) in
             let same : start_of (done_in r) c ≡ begins = start_is (done_in r) c begins (ap (opened_at c) all ∙ q) in
             ap (λ (m : ℕ). is_limit (cause_of (end_of (given_in r) r.periods (done_in r) c m))) same
-            ∙ ap (λ (x : CallEnd). is_limit x.cause) (end_lacks r s.clock ds s.board.left c begins at.follows.so_far q l (omega (arith, e, gone)) (ahead s.board.left gone at.follows.so_far.ahead))
+            ∙ ap (λ (x : CallEnd). is_limit x.cause)
+            (end_lacks r s.clock ds s.board.left c begins at.follows.so_far q l (omega (arith, e, gone)) (ahead s.board.left gone at.follows.so_far.ahead))
             ∙ not_limit (whole_in r c) (given_in r c)
           where
             ahead : (os : List Order) → begins + whole_in r c < s.clock → IfSome (first_stamp os) (λ u. s.clock ≤ u) → NoOrderTo (begins + whole_in r c) os
@@ -201,12 +206,16 @@ module _ (s : Stage) (live : (c : ℕ) → is_among s.farm.live c ≡ is_some (c
     -- **The live calls are those that only the run's end cuts off.**
     live_is : (known : IsKnown r s.clock s.board s.farm.tallies s.journal) → s.farm.live ≡ filter (λ c. is_limit (cause_in r c)) (calls_in r)
     live_is known =
-        rising_same 0 1 s.farm.live (filter (λ c. is_opened (done_in r) c && is_limit (cause_in r c)) (range_with_len 1 4096)) (rises_of 0 s.farm.live (λ i l. omega arith) rising)
+        rising_same 0 1 s.farm.live (filter (λ c. is_opened (done_in r) c && is_limit (cause_in r c)) (range_with_len 1 4096))
+        (rises_of 0 s.farm.live (λ i l. omega arith) rising)
         (range_rises (λ c. is_opened (done_in r) c && is_limit (cause_in r c)) 1 4096) members
         ∙ sym (filter_twice (λ c. is_limit (cause_in r c)) (λ c. is_opened (done_in r) c) call_numbers)
       where
         same : (c : ℕ) → is_among s.farm.live c ≡ (is_opened (done_in r) c && is_limit (cause_in r c))
-        same c = is_alive c ∙ elim (cases_Bool (is_open (gone_at (whole_in r) s.clock ds) ds c)) [ inl o ↦ o ∙ sym (limited c o) | inr o ↦ o ∙ sym (others c o) ]
+        same c = is_alive c ∙ elim (cases_Bool (is_open (gone_at (whole_in r) s.clock ds) ds c)) [
+          | inl o ↦ o ∙ sym (limited c o)
+          | inr o ↦ o ∙ sym (others c o)
+        ]
 
         numbers : (c : ℕ) → (is_opened (done_in r) c && is_limit (cause_in r c)) ≡ true → (1 ≤ c) × (c < 1 + 4096)
         numbers c q =
@@ -230,8 +239,10 @@ module _ (s : Stage) (live : (c : ℕ) → is_among s.farm.live c ≡ is_some (c
             let opened : IsOpened r c = ap (λ (xs : List Done). is_opened xs c) all ∙ ap is_some here.opened in
             let noted = known.noted in
             let places = noted.places in
-            let begins : (let j = s.journal in let x = entry_of s c in x.from) ≡ start_in r c = places.from c (ap is_some here.opened) ∙ sym (ap (λ (xs : List Done). start_of xs c) all) in
-            let whole : worked_to r s.clock c ≡ end_in r c - start_of (done_in r) c = ap (λ (t : ℕ). worked_to r t c) e ∙ worked_all r s.clock ds s.board.left c at.follows.so_far in
+            let begins : (let j = s.journal in let x = entry_of s c in x.from) ≡ start_in r c = places.from c (ap is_some here.opened)
+            ∙ sym (ap (λ (xs : List Done). start_of xs c) all) in
+            let whole : worked_to r s.clock c ≡ end_in r c - start_of (done_in r) c = ap (λ (t : ℕ). worked_to r t c) e
+            ∙ worked_all r s.clock ds s.board.left c at.follows.so_far in
             let out = sums.out c opened ∙ ap (λ (k : ℕ). sum_of (out_line (who_in r c) (periods_to r c k))) whole in
             let down = sums.down c opened ∙ ap (λ (k : ℕ). sum_of (down_octets (who_in r c) (periods_to r c k))) whole in
             same c _ _ _ _ _ _ begins out down

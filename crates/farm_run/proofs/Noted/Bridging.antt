@@ -24,7 +24,8 @@ use Rattle.farm_run.proofs.Noted.Noting.{SameSides, joins_same, latest_same, kep
 -- ---- two calls are bridged
 
 -- what two lists have alike, they have with one more element each
-pushed : {X Y : Type 0} {Z : Type 0} (f : X → Z) (g : Y → Z) (d : X) (e : Y) (xs : List X) (ys : List Y) (x : X) (y : Y) → length xs ≡ length ys → ((k : ℕ) → f (get_or xs k d) ≡ g (get_or ys k e)) → f x ≡ g y →
+pushed : {X Y : Type 0} {Z : Type 0} (f : X → Z) (g : Y → Z) (d : X) (e : Y) (xs : List X) (ys : List Y) (x : X) (y : Y) → length xs ≡ length ys →
+    ((k : ℕ) → f (get_or xs k d) ≡ g (get_or ys k e)) → f x ≡ g y →
     (k : ℕ) → f (get_or (xs ++ x ∷ []) k d) ≡ g (get_or (ys ++ y ∷ []) k e)
 pushed f g d e [] [] x y l h q zero = q
 pushed f g d e [] [] x y l h q (suc k) = h k
@@ -66,7 +67,8 @@ pub record IsBridging (ds now : List Done) (a b : ℕ) : Type 0 where
   pub calls : (last.a ≡ a) × (last.b ≡ b)
 
 -- **It is the latest one of both calls; what they sent in the one before has been noted.**
-module _ (r : Run) (ds now : List Done) (ended : ℕ → Bool) (j : JournalMemory) (tally : ℕ → Tally) (a b : ℕ) (h : IsBridging ds now a b) (f : (ended a ≡ false) × (ended b ≡ false)) (ends : EndsNoted r ended j.ends)
+module _ (r : Run) (ds now : List Done) (ended : ℕ → Bool) (j : JournalMemory) (tally : ℕ → Tally) (a b : ℕ) (h : IsBridging ds now a b)
+    (f : (ended a ≡ false) × (ended b ≡ false)) (ends : EndsNoted r ended j.ends)
     (p : PlacesNoted ds j) (s : SentNoted r ds (or_this (or_this (λ c. false) a) b) j) (kept : (c : ℕ) → ended c ≡ true → IsKept r j.calls c (tally c)) where
   -- the new bridge stands behind those so far
   abbrev place : ℕ
@@ -91,7 +93,8 @@ module _ (r : Run) (ds now : List Done) (ended : ℕ → Bool) (j : JournalMemor
   -- of the two calls, and of others
   place_is : (c : ℕ) → (c == a || c == b) ≡ true → (opening_of calls c).bridge ≡ Some place
   place_is c e = elim (cases_eq c b) [
-    | inl q ↦ ap (λ (c : ℕ). (opening_of calls c).bridge) q ∙ ap (λ (x : Opening). x.bridge) (get_or-set_same (bridged_at a place j.calls) b _ no_opening (within b numbers.1.1 (length-set j.calls a _ ∙ p.long)))
+    | inl q ↦ ap (λ (c : ℕ). (opening_of calls c).bridge) q ∙ ap (λ (x : Opening). x.bridge)
+        (get_or-set_same (bridged_at a place j.calls) b _ no_opening (within b numbers.1.1 (length-set j.calls a _ ∙ p.long)))
     | inr q ↦
         ap (λ (x : Opening). x.bridge) (get_or-set_other (bridged_at a place j.calls) b c _ no_opening q)
         ∙ ap (λ (c : ℕ). (opening_of (bridged_at a place j.calls) c).bridge) (eqb-true c a (left_true (c == a) (c == b) (ne_eqb c b q) e))
@@ -109,7 +112,8 @@ module _ (r : Run) (ds now : List Done) (ended : ℕ → Bool) (j : JournalMemor
 
   -- each call begins where it did
   from_is : (c : ℕ) → (opening_of calls c).from ≡ (opening_of j.calls c).from
-  from_is c = part_kept (λ (x : Opening). x.from) no_opening (bridged_at a place j.calls) b _ refl c ∙ part_kept (λ (x : Opening). x.from) no_opening j.calls a _ refl c
+  from_is c = part_kept (λ (x : Opening). x.from) no_opening (bridged_at a place j.calls) b _ refl c
+      ∙ part_kept (λ (x : Opening). x.from) no_opening j.calls a _ refl c
 
   -- the new bridge is of its two calls
   joins_last : (c : ℕ) → joins c h.last ≡ (c == a || c == b)
@@ -125,16 +129,19 @@ module _ (r : Run) (ds now : List Done) (ended : ℕ → Bool) (j : JournalMemor
 
   -- the last one
   at_last : bridge_at now place ≡ h.last
-  at_last = ap (λ (bs : List Bridge). get_or bs place no_bridge) h.all ∙ ap (λ (k : ℕ). get_or (h.front ++ h.last ∷ []) k no_bridge) (sym count) ∙ get_or-append_seam h.front h.last [] no_bridge
+  at_last = ap (λ (bs : List Bridge). get_or bs place no_bridge) h.all ∙ ap (λ (k : ℕ). get_or (h.front ++ h.last ∷ []) k no_bridge) (sym count)
+      ∙ get_or-append_seam h.front h.last [] no_bridge
 
   -- each call's latest bridge is noted
   latest : (c : ℕ) → is_opened ds c ≡ true → IsLatest (bridges now) c (opening_of calls c).bridge
   latest c o = elim (cases_Bool (c == a || c == b)) [
-    | inl e ↦ subst (IsLatest (bridges now) c) (sym (place_is c e)) (omega (arith, long), ap (joins c) at_last ∙ joins_last c ∙ e, λ k m l. absurd (omega (arith, long)))
+    | inl e ↦ subst (IsLatest (bridges now) c) (sym (place_is c e)) (omega (arith, long), ap (joins c) at_last ∙ joins_last c ∙ e,
+        λ k m l. absurd (omega (arith, long)))
     | inr e ↦
         subst (λ (x : Opening). IsLatest (bridges now) c x.bridge) (sym (other c e))
         (subst (λ (bs : List Bridge). IsLatest bs c (opening_of j.calls c).bridge) (sym h.all)
-        (latest_push h.front h.last c (opening_of j.calls c).bridge (joins_last c ∙ e) (latest_same h.front (bridges ds) c (opening_of j.calls c).bridge h.sides (p.latest c o))))
+        (latest_push h.front h.last c (opening_of j.calls c).bridge (joins_last c ∙ e)
+        (latest_same h.front (bridges ds) c (opening_of j.calls c).bridge h.sides (p.latest c o))))
   ]
 
   -- a bridge is one of those before, or the new one
@@ -144,8 +151,10 @@ module _ (r : Run) (ds now : List Done) (ended : ℕ → Bool) (j : JournalMemor
   -- no bridge is of one call twice
   apart : (k : ℕ) → k < length (bridges now) → (bridge_at now k).a ≢ (bridge_at now k).b
   apart k l = elim (which k l) [
-    | inl m ↦ subst (λ (x : Bridge). x.a ≢ x.b) (sym (there k m)) (let sides = h.sides in λ e. p.apart k (let c = p.count in omega arith) (sym (sides.a k) ∙ e ∙ sides.b k))
-    | inr q ↦ subst (λ (k : ℕ). (bridge_at now k).a ≢ (bridge_at now k).b) (sym q) (subst (λ (x : Bridge). x.a ≢ x.b) (sym at_last) (λ e. h.apart (sym h.calls.0 ∙ e ∙ h.calls.1)))
+    | inl m ↦ subst (λ (x : Bridge). x.a ≢ x.b) (sym (there k m)) (let sides = h.sides in
+        λ e. p.apart k (let c = p.count in omega arith) (sym (sides.a k) ∙ e ∙ sides.b k))
+    | inr q ↦ subst (λ (k : ℕ). (bridge_at now k).a ≢ (bridge_at now k).b) (sym q)
+        (subst (λ (x : Bridge). x.a ≢ x.b) (sym at_last) (λ e. h.apart (sym h.calls.0 ∙ e ∙ h.calls.1)))
   ]
 
   -- what calls have sent is noted of the same bridges, and of the new one that is nothing
@@ -153,11 +162,15 @@ module _ (r : Run) (ds now : List Done) (ended : ℕ → Bool) (j : JournalMemor
   sent c k l g i = elim (which k l) [
     | inl m ↦
         ap (noted_sent c) (get_or_append_left j.bridges (made ∷ []) no_note k m)
-        ∙ s c k (let c = p.count in omega arith) (sym (joins_same h.front (bridges ds) c k h.sides) ∙ sym (ap (joins c) (there k m)) ∙ g) (λ e. settles e (cases_Bool (c == a || c == b)))
-    | inr q ↦ absurd (no false refl (i (place_is c (sym (joins_last c) ∙ sym (ap (joins c) at_last) ∙ ap (λ (k : ℕ). joins c (bridge_at now k)) (sym q) ∙ g) ∙ ap Some (sym q))))
+        ∙ s c k (let c = p.count in omega arith) (sym (joins_same h.front (bridges ds) c k h.sides) ∙ sym (ap (joins c) (there k m)) ∙ g)
+        (λ e. settles e (cases_Bool (c == a || c == b)))
+    | inr q ↦ absurd
+        (no false refl
+        (i (place_is c (sym (joins_last c) ∙ sym (ap (joins c) at_last) ∙ ap (λ (k : ℕ). joins c (bridge_at now k)) (sym q) ∙ g) ∙ ap Some (sym q))))
   ]
     where
-      settles : (opening_of j.calls c).bridge ≡ Some k → ((c == a || c == b) ≡ true) ⊎ ((c == a || c == b) ≡ false) → or_this (or_this (λ c. false) a) b c ≡ true
+      settles : (opening_of j.calls c).bridge ≡ Some k → ((c == a || c == b) ≡ true) ⊎ ((c == a || c == b) ≡ false) →
+          or_this (or_this (λ c. false) a) b c ≡ true
       settles e (inl t) = t
       settles e (inr t) = absurd (no false refl (i (ap (λ (x : Opening). x.bridge) (other c t) ∙ e)))
 
@@ -172,8 +185,10 @@ module _ (r : Run) (ds now : List Done) (ended : ℕ → Bool) (j : JournalMemor
       latest = λ c o. latest c (sym (h.opened c) ∙ o);
       count = length-append j.bridges (made ∷ []) ∙ let e = long in omega arith;
       calls = λ k. (
-        pushed (λ (x : BridgeNote). x.a) (λ (x : Bridge). x.a) no_note no_bridge j.bridges h.front made h.last (sym count) (λ k. (p.calls k).0 ∙ sym (let sides = h.sides in sides.a k)) (sym h.calls.0) k ∙ ap (λ (bs : List Bridge). (get_or bs k no_bridge).a) (sym h.all),
-        pushed (λ (x : BridgeNote). x.b) (λ (x : Bridge). x.b) no_note no_bridge j.bridges h.front made h.last (sym count) (λ k. (p.calls k).1 ∙ sym (let sides = h.sides in sides.b k)) (sym h.calls.1) k ∙ ap (λ (bs : List Bridge). (get_or bs k no_bridge).b) (sym h.all),
+        pushed (λ (x : BridgeNote). x.a) (λ (x : Bridge). x.a) no_note no_bridge j.bridges h.front made h.last (sym count)
+        (λ k. (p.calls k).0 ∙ sym (let sides = h.sides in sides.a k)) (sym h.calls.0) k ∙ ap (λ (bs : List Bridge). (get_or bs k no_bridge).a) (sym h.all),
+        pushed (λ (x : BridgeNote). x.b) (λ (x : Bridge). x.b) no_note no_bridge j.bridges h.front made h.last (sym count)
+        (λ k. (p.calls k).1 ∙ sym (let sides = h.sides in sides.b k)) (sym h.calls.1) k ∙ ap (λ (bs : List Bridge). (get_or bs k no_bridge).b) (sym h.all),
       );
       apart = apart;
     };
@@ -182,4 +197,5 @@ module _ (r : Run) (ds now : List Done) (ended : ℕ → Bool) (j : JournalMemor
   }
     where
       neither : (c : ℕ) → ended c ≡ true → (c == a || c == b) ≡ false
-      neither c g = or_from (c == a) (c == b) (ne_eqb c a (λ q. no (ended a) f.0 (ap ended (sym q) ∙ g))) (ne_eqb c b (λ q. no (ended b) f.1 (ap ended (sym q) ∙ g)))
+      neither c g =
+          or_from (c == a) (c == b) (ne_eqb c a (λ q. no (ended a) f.0 (ap ended (sym q) ∙ g))) (ne_eqb c b (λ q. no (ended b) f.1 (ap ended (sym q) ∙ g)))

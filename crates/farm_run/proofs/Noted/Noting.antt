@@ -39,7 +39,8 @@ apart_append : (xs ys : List CallEnd) → AreApart xs → AreApart ys → ((c : 
 apart_append [] ys a b h = b
 apart_append (e ∷ xs) ys a b h =
     let new : is_told e.call ys ≡ false = h e.call (ap (λ (s : Bool). s || is_told e.call xs) (eq-eqb e.call e.call refl)) in
-    (list_any-append (λ (d : CallEnd). e.call == d.call) xs ys ∙ ap (λ (s : Bool). s || is_told e.call ys) a.0 ∙ new, apart_append xs ys a.1 b (λ c t. h c (or_right (c == e.call) (is_told c xs) t)))
+    (list_any-append (λ (d : CallEnd). e.call == d.call) xs ys ∙ ap (λ (s : Bool). s || is_told e.call ys) a.0 ∙ new,
+    apart_append xs ys a.1 b (λ c t. h c (or_right (c == e.call) (is_told c xs) t)))
 
 -- ends leave where the latest bridges stand
 places_ended : (ds : List Done) (j : JournalMemory) (ends : List CallEnd) → PlacesNoted ds j → PlacesNoted ds (with_ends ends j)
@@ -50,14 +51,17 @@ abbrev pub IsNewEnd : Run → (ℕ → Bool) → CallEnd → Type 0
 IsNewEnd r ended e = (ended e.call ≡ false) × (e ≡ call_end_in r e.call)
 
 -- **More calls have ended: their ends are noted, and what is kept of them.**
-pub noted_ends : (r : Run) (ds : List Done) (ended : ℕ → Bool) (j : JournalMemory) (tally tally' : ℕ → Tally) (ends : List CallEnd) → IsNoted r ds ended j tally →
-    AllByRecursion (IsNewEnd r ended) ends → AreApart ends → ((c : ℕ) → is_told c ends ≡ true → IsKept r j.calls c (tally' c)) → ((c : ℕ) → is_told c ends ≡ false → tally' c ≡ tally c) →
+pub noted_ends : (r : Run) (ds : List Done) (ended : ℕ → Bool) (j : JournalMemory) (tally tally' : ℕ → Tally) (ends : List CallEnd) →
+    IsNoted r ds ended j tally →
+    AllByRecursion (IsNewEnd r ended) ends → AreApart ends → ((c : ℕ) → is_told c ends ≡ true → IsKept r j.calls c (tally' c)) →
+    ((c : ℕ) → is_told c ends ≡ false → tally' c ≡ tally c) →
     IsNoted r ds (λ c. ended c || is_told c ends) (with_ends ends j) tally'
 noted_ends r ds ended j tally tally' ends n each apart kept same =
     let was = n.ends in
     record {
       ends = record {
-        each = each_append (λ e. e ≡ call_end_in r e.call) j.ends ends was.each (each_weaker (IsNewEnd r ended) (λ e. e ≡ call_end_in r e.call) ends (λ e h. h.1) each);
+        each = each_append (λ e. e ≡ call_end_in r e.call) j.ends ends was.each
+            (each_weaker (IsNewEnd r ended) (λ e. e ≡ call_end_in r e.call) ends (λ e h. h.1) each);
         apart = apart_append j.ends ends was.apart apart (λ c t. fresh c (sym (was.told c) ∙ t) (is_told c ends) refl);
         told = λ c. list_any-append (λ (e : CallEnd). c == e.call) j.ends ends ∙ ap (λ (s : Bool). s || is_told c ends) (was.told c);
       };
@@ -68,14 +72,16 @@ noted_ends r ds ended j tally tally' ends n each apart kept same =
   where
     fresh : (c : ℕ) → ended c ≡ true → (b : Bool) → is_told c ends ≡ b → is_told c ends ≡ false
     fresh c h false q = q
-    fresh c h true q = absurd (no (ended c) (told_has (λ c. ended c ≡ false) c ends (each_weaker (IsNewEnd r ended) (λ e. ended e.call ≡ false) ends (λ e k. k.0) each) q) h)
+    fresh c h true q =
+        absurd (no (ended c) (told_has (λ c. ended c ≡ false) c ends (each_weaker (IsNewEnd r ended) (λ e. ended e.call ≡ false) ends (λ e k. k.0) each) q) h)
 
     by : (c : ℕ) (b : Bool) → is_told c ends ≡ b → (ended c || is_told c ends) ≡ true → IsKept r j.calls c (tally' c)
     by c true q h = kept c q
     by c false q h = subst (IsKept r j.calls c) (sym (same c q)) (n.kept c (left_true (ended c) (is_told c ends) q h))
 
 -- **the same, where the same calls have ended and the same is kept of them**
-pub noted_same : (r : Run) (ds : List Done) (ended now : ℕ → Bool) (j : JournalMemory) (tally tally' : ℕ → Tally) → IsNoted r ds ended j tally → ((c : ℕ) → now c ≡ ended c) → ((c : ℕ) → tally' c ≡ tally c) →
+pub noted_same : (r : Run) (ds : List Done) (ended now : ℕ → Bool) (j : JournalMemory) (tally tally' : ℕ → Tally) → IsNoted r ds ended j tally →
+    ((c : ℕ) → now c ≡ ended c) → ((c : ℕ) → tally' c ≡ tally c) →
     IsNoted r ds now j tally'
 noted_same r ds ended now j tally tally' n e f =
     let was = n.ends in
@@ -133,7 +139,8 @@ pub record AreSame (ds now : List Done) : Type 0 where
   pub sides : SameSides (bridges now) (bridges ds)
 
 -- **It changes nothing of what is noted.**
-pub noted_ordered : (r : Run) (ds now : List Done) (ended : ℕ → Bool) (j : JournalMemory) (tally : ℕ → Tally) → AreSame ds now → IsNoted r ds ended j tally → IsNoted r now ended j tally
+pub noted_ordered : (r : Run) (ds now : List Done) (ended : ℕ → Bool) (j : JournalMemory) (tally : ℕ → Tally) → AreSame ds now → IsNoted r ds ended j tally →
+    IsNoted r now ended j tally
 noted_ordered r ds now ended j tally h n =
     let p = n.places in
     let sides = h.sides in
@@ -171,7 +178,8 @@ pub record IsOpening (ds now : List Done) (m t : ℕ) : Type 0 where
   pub alone : (k : ℕ) → k < length (bridges ds) → joins m (bridge_at ds k) ≡ false
 
 -- **Its first period is noted.**
-module _ (r : Run) (ds now : List Done) (ended : ℕ → Bool) (j : JournalMemory) (tally : ℕ → Tally) (m t : ℕ) (h : IsOpening ds now m t) (f : ended m ≡ false) (n : IsNoted r ds ended j tally) where
+module _ (r : Run) (ds now : List Done) (ended : ℕ → Bool) (j : JournalMemory) (tally : ℕ → Tally) (m t : ℕ) (h : IsOpening ds now m t) (f : ended m ≡ false)
+    (n : IsNoted r ds ended j tally) where
   -- what is noted of the call that is opened
   abbrev new : Opening
   new = record { from = t; bridge = None }
@@ -218,8 +226,10 @@ module _ (r : Run) (ds now : List Done) (ended : ℕ → Bool) (j : JournalMemor
   -- and its latest bridge
   latest : (c : ℕ) → is_opened now c ≡ true → IsLatest (bridges now) c (opening_of calls c).bridge
   latest c o = elim (which c o) [
-    | inl q ↦ subst (λ (c : ℕ). IsLatest (bridges now) c (opening_of calls c).bridge) (sym q) (subst (λ (x : Opening). IsLatest (bridges now) m x.bridge) (sym itself) joins_no)
-    | inr q ↦ subst (λ (x : Opening). IsLatest (bridges now) c x.bridge) (sym (other c q.0)) (latest_same (bridges now) (bridges ds) c (opening_of j.calls c).bridge h.sides (p.latest c q.1))
+    | inl q ↦ subst (λ (c : ℕ). IsLatest (bridges now) c (opening_of calls c).bridge) (sym q)
+        (subst (λ (x : Opening). IsLatest (bridges now) m x.bridge) (sym itself) joins_no)
+    | inr q ↦ subst (λ (x : Opening). IsLatest (bridges now) c x.bridge) (sym (other c q.0))
+        (latest_same (bridges now) (bridges ds) c (opening_of j.calls c).bridge h.sides (p.latest c q.1))
   ]
 
   -- what calls have sent stays noted

@@ -13,5 +13,6 @@ all_none (suc k) (suc c) = all_none k c
 
 pub opened_none : (n : ℕ) (j : JournalMemory) → j ≡ new_journal → 1 ≤ n → OpenedBefore n j.calls
 opened_none n j new some c =
-    let at : (let x = opening_of j.calls c in x.from) ≡ 0 = ap (λ (k : JournalMemory). (opening_of k.calls c).from) new ∙ ap (λ (x : Opening). x.from) (all_none NUMBERS c) in
+    let at : (let x = opening_of j.calls c in x.from) ≡ 0 = ap (λ (k : JournalMemory). (opening_of k.calls c).from) new
+    ∙ ap (λ (x : Opening). x.from) (all_none NUMBERS c) in
     omega (arith, at, some)

@@ -22,7 +22,8 @@ nowhere : (o : Option ℕ) (k : ℕ) → o ≡ None → o ≡ Some k → ⊥
 nowhere o k none some = cc
 
 -- the journal before the first order
-pub journal-new : (calls : List Opening) (ends : List CallEnd) (bridges : List BridgeNote) → calls ≡ replicate 4097 no_opening → ends ≡ [] → IsJournal calls ends bridges
+pub journal-new : (calls : List Opening) (ends : List CallEnd) (bridges : List BridgeNote) → calls ≡ replicate 4097 no_opening → ends ≡ [] →
+    IsJournal calls ends bridges
 journal-new calls ends bridges e n = record {
   long = ap length e ∙ length-replicate 4097 no_opening;
   numbers = subst HaveNumbers (sym n) (All-nil (λ e. IsCallNumber e.call));
@@ -31,10 +32,12 @@ journal-new calls ends bridges e n = record {
 }
 
 -- one end more
-pub journal-ended : (calls : List Opening) (ends now : List CallEnd) (bridges : List BridgeNote) (e : CallEnd) → IsJournal calls ends bridges → IsCallNumber e.call → is_told e.call ends ≡ false → now ≡ ends ++ e ∷ [] → IsJournal calls now bridges
+pub journal-ended : (calls : List Opening) (ends now : List CallEnd) (bridges : List BridgeNote) (e : CallEnd) → IsJournal calls ends bridges →
+    IsCallNumber e.call → is_told e.call ends ≡ false → now ≡ ends ++ e ∷ [] → IsJournal calls now bridges
 journal-ended calls ends now bridges e j number new is = record {
   long = j.long;
-  numbers = subst HaveNumbers (sym is) (All-append (λ e. IsCallNumber e.call) ends (e ∷ []) j.numbers (All-from_recursion (λ e. IsCallNumber e.call) (e ∷ []) (number, tt)));
+  numbers = subst HaveNumbers (sym is) (All-append (λ e. IsCallNumber e.call) ends (e ∷ []) j.numbers
+      (All-from_recursion (λ e. IsCallNumber e.call) (e ∷ []) (number, tt)));
   apart = subst AreApart (sym is) (apart_more ends e j.apart new);
   places = j.places;
 }
@@ -56,7 +59,8 @@ journal-opened calls ends bridges c period j less = record {
   places = λ d k h. elim (cases_eq d c) [
     | inl e ↦
         let long = j.long in
-        let here : opening_of (set calls c opened) d ≡ opened = ap (λ n. opening_of (set calls c opened) n) e ∙ get_or-set_same calls c opened no_opening (omega arith) in
+        let here : opening_of (set calls c opened) d ≡ opened = ap (λ n. opening_of (set calls c opened) n) e
+        ∙ get_or-set_same calls c opened no_opening (omega arith) in
         absurd (nowhere _ k (ap (λ (o : Opening). o.bridge) here) h)
     | inr n ↦ j.places d k (ap (λ (o : Opening). o.bridge) (sym (get_or-set_other calls c d opened no_opening n)) ∙ h)
   ];

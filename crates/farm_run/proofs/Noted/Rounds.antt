@@ -68,8 +68,10 @@ sent_by_start : (ts : List CallPeriod) (now other : Settings) → now.starts ≡
 sent_by_start ts now other e = ap (λ (b : Bool). carried (if b then suc (bridges_begun ts) else bridges_begun ts) (frames_of ts)) e
 
 -- **What is told of it at the period at which it ends is right.**
-pub kept_at_end : (r : Run) (t : ℕ) (ds : List Done) (left : List Order) (calls : List Opening) (c : ℕ) (now : Settings) → IsSoFar r t ds left → is_opened ds c ≡ true →
-    (is_opened ds c ≡ true → IsLatest (bridges ds) c (opening_of calls c).bridge) → ends_at (given_in r) r.periods (done_in r) c ≡ t → now.starts ≡ (settings_now r ds t c).starts →
+pub kept_at_end : (r : Run) (t : ℕ) (ds : List Done) (left : List Order) (calls : List Opening) (c : ℕ) (now : Settings) →
+    IsSoFar r t ds left → is_opened ds c ≡ true →
+    (is_opened ds c ≡ true → IsLatest (bridges ds) c (opening_of calls c).bridge) → ends_at (given_in r) r.periods (done_in r) c ≡ t →
+    now.starts ≡ (settings_now r ds t c).starts →
     IsKept r calls c (tally_of (periods_to r c (t - start_of ds c)) now)
 kept_at_end r t ds left calls c now so o latest e starts = by (opened_at c ds) refl o
   where
@@ -78,20 +80,25 @@ kept_at_end r t ds left calls c now so o latest e starts = by (opened_at c ds) r
     by (Some s) q f =
         let begins : start_of (done_in r) c ≡ start_of ds c = start_run r t ds left c s so q ∙ sym (start_is ds c s q) in
         record {
-          counts = ap (λ (m : ℕ). call_counts (periods_to r c m)) (sym (ap (λ (m : ℕ). ends_at (given_in r) r.periods (done_in r) c - m) begins ∙ ap (λ (m : ℕ). m - start_of ds c) e));
+          counts = ap (λ (m : ℕ). call_counts (periods_to r c m))
+              (sym (ap (λ (m : ℕ). ends_at (given_in r) r.periods (done_in r) c - m) begins ∙ ap (λ (m : ℕ). m - start_of ds c) e));
           sent = λ k g.
-              ap (λ (m : ℕ). sent_now (periods_to r c (t - m)) now) (start_is ds c s q) ∙ sent_by_start (periods_to r c (t - s)) now (settings_now r ds t c) starts
+              ap (λ (m : ℕ). sent_now (periods_to r c (t - m)) now) (start_is ds c s q)
+              ∙ sent_by_start (periods_to r c (t - s)) now (settings_now r ds t c) starts
               ∙ sym (sent_at_end r t ds left c s k _ so q (subst (IsLatest (bridges ds) c) g (latest o)) e);
         }
 
 -- ---- the clock goes on
 
 -- **While no call is open nothing comes to be known.**
-pub noted_jump : (r : Run) (t u : ℕ) (ds : List Done) (j : JournalMemory) (tallies : List Tally) → t ≤ u → ((c : ℕ) → is_open (gone_at (whole_in r) t ds) ds c ≡ false) → Noted r ds t j tallies → Noted r ds u j tallies
-noted_jump r t u ds j tallies l none n = noted_same r ds (ended_at r ds t) (ended_at r ds u) j (tally_in tallies) (tally_in tallies) n (λ c. ap (λ (s : Bool). is_opened ds c && not s) (later c ∙ sym (none c))) (λ c. refl)
+pub noted_jump : (r : Run) (t u : ℕ) (ds : List Done) (j : JournalMemory) (tallies : List Tally) → t ≤ u →
+    ((c : ℕ) → is_open (gone_at (whole_in r) t ds) ds c ≡ false) → Noted r ds t j tallies → Noted r ds u j tallies
+noted_jump r t u ds j tallies l none n = noted_same r ds (ended_at r ds t) (ended_at r ds u) j (tally_in tallies) (tally_in tallies) n
+    (λ c. ap (λ (s : Bool). is_opened ds c && not s) (later c ∙ sym (none c))) (λ c. refl)
   where
     later : (c : ℕ) → is_open (gone_at (whole_in r) u ds) ds c ≡ false
-    later c = subst (λ (v : ℕ). is_open (gone_at (whole_in r) v ds) ds c ≡ false) (let e : t + (u - t) ≡ u = omega arith in e) (shut_after r t (u - t) ds c (none c))
+    later c =
+        subst (λ (v : ℕ). is_open (gone_at (whole_in r) v ds) ds c ≡ false) (let e : t + (u - t) ≡ u = omega arith in e) (shut_after r t (u - t) ds c (none c))
 
 -- ---- a round
 
@@ -100,9 +107,11 @@ abbrev pub IsRoundEnd : Run → List Done → ℕ → ℕ → CallEnd → Type 0
 IsRoundEnd r ds t n e = (ends_within r ds t n e.call ≡ true) × (e ≡ end_of (given_in r) r.periods (done_in r) e.call (start_of ds e.call))
 
 -- **The ends that the seats of a round tell are such.**
-pub each_round_end : (r : Run) (t n : ℕ) (ds : List Done) (left : List Order) (seats : List SeatMemory) → IsRound r t n ds left → AllByRecursion (IsSeat r ds t n) seats → AllByRecursion (IsRoundEnd r ds t n) (filter_map (seat_end t) seats)
+pub each_round_end : (r : Run) (t n : ℕ) (ds : List Done) (left : List Order) (seats : List SeatMemory) → IsRound r t n ds left →
+    AllByRecursion (IsSeat r ds t n) seats → AllByRecursion (IsRoundEnd r ds t n) (filter_map (seat_end t) seats)
 each_round_end r t n ds left seats h a = each_end (IsRoundEnd r ds t n) r t n ds left seats h a (λ c w.
-    subst (λ (d : ℕ). (ends_within r ds t n d ≡ true) × (end_of (given_in r) r.periods (done_in r) c (start_of ds c) ≡ end_of (given_in r) r.periods (done_in r) d (start_of ds d)))
+    subst (λ (d : ℕ). (ends_within r ds t n d ≡ true)
+    × (end_of (given_in r) r.periods (done_in r) c (start_of ds c) ≡ end_of (given_in r) r.periods (done_in r) d (start_of ds d)))
     (sym (ap (λ (e : CallEnd). e.call) (end_within r t n ds left c h w))) (w, refl))
 
 -- who has ended after it
@@ -126,12 +135,14 @@ module _ (r : Run) (t n : ℕ) (ds : List Done) (c : ℕ) where
   tests false false true e = cc
 
   by : (o l : Option ℕ) → opened_at c ds ≡ o → closed_at c ds ≡ l →
-      (is_some o && not (is_some o && not (is_some l) && not gone_then)) ≡ ((is_some o && not (is_some o && not (is_some l) && not gone_before)) || ((is_some o && not (is_some l) && not gone_before) && fewer))
+      (is_some o && not (is_some o && not (is_some l) && not gone_then))
+      ≡ ((is_some o && not (is_some o && not (is_some l) && not gone_before)) || ((is_some o && not (is_some l) && not gone_before) && fewer))
   by None l p q = refl
   by (Some s) (Some e) p q = refl
   by (Some s) None p q =
       tests gone_before gone_then fewer
-      (gone_round r t n ds c (ap is_some p) q ∙ ap (λ (o : Option ℕ). gone_before || ((is_some o && not (is_some (closed_at c ds)) && not gone_before) && fewer)) p
+      (gone_round r t n ds c (ap is_some p) q ∙ ap
+      (λ (o : Option ℕ). gone_before || ((is_some o && not (is_some (closed_at c ds)) && not gone_before) && fewer)) p
       ∙ ap (λ (l : Option ℕ). gone_before || ((true && not (is_some l) && not gone_before) && fewer)) q)
 
   -- a call has ended behind the round where it had before, or ends in it
@@ -139,8 +150,10 @@ module _ (r : Run) (t n : ℕ) (ds : List Done) (c : ℕ) where
   ended_round = by (opened_at c ds) (closed_at c ds) refl refl
 
 -- an open call hasn't ended
-pub open_not_ended : (r : Run) (t : ℕ) (ds : List Done) (c : ℕ) → is_open (gone_at (whole_in r) t ds) ds c ≡ true → (ended_at r ds t c ≡ false) × (is_opened ds c ≡ true)
-open_not_ended r t ds c o = let p = open_facts (gone_at (whole_in r) t ds) ds c o in (ap (λ (s : Bool). is_opened ds c && not s) o ∙ and-false (is_opened ds c), ap is_some p.1)
+pub open_not_ended : (r : Run) (t : ℕ) (ds : List Done) (c : ℕ) → is_open (gone_at (whole_in r) t ds) ds c ≡ true →
+    (ended_at r ds t c ≡ false) × (is_opened ds c ≡ true)
+open_not_ended r t ds c o = let p = open_facts (gone_at (whole_in r) t ds) ds c o in
+    (ap (λ (s : Bool). is_opened ds c && not s) o ∙ and-false (is_opened ds c), ap is_some p.1)
 
 -- no order comes up to a clock before
 sooner : (u v : ℕ) (left : List Order) → u ≤ v → IfSome (first_stamp left) (λ s. v ≤ s) → IfSome (first_stamp left) (λ s. u ≤ s)
@@ -148,14 +161,17 @@ sooner u v [] l h = tt
 sooner u v (o ∷ left) l h = omega arith
 
 -- **After a round whose ends were noted, and whose tallies tell of the calls that it ended, what is noted is right again.**
-pub noted_round : (r : Run) (t n : ℕ) (ds : List Done) (left : List Order) (j : JournalMemory) (tallies tallies' : List Tally) (ends : List CallEnd) → IsRound r t n ds left → Noted r ds t j tallies →
+pub noted_round : (r : Run) (t n : ℕ) (ds : List Done) (left : List Order) (j : JournalMemory) (tallies tallies' : List Tally) (ends : List CallEnd) →
+    IsRound r t n ds left → Noted r ds t j tallies →
     AllByRecursion (IsRoundEnd r ds t n) ends → AreApart ends → ((c : ℕ) → is_told c ends ≡ ends_within r ds t n c) →
     ((c : ℕ) → ends_within r ds t n c ≡ true →
-    (now : Settings) × (now.starts ≡ (settings_now r ds (t + places_in r ds t n c) c).starts) × (tally_in tallies' c ≡ tally_of (periods_to r c (t + places_in r ds t n c - start_of ds c)) now)) →
+    (now : Settings) × (now.starts ≡ (settings_now r ds (t + places_in r ds t n c) c).starts)
+    × (tally_in tallies' c ≡ tally_of (periods_to r c (t + places_in r ds t n c - start_of ds c)) now)) →
     ((c : ℕ) → ends_within r ds t n c ≡ false → tally_in tallies' c ≡ tally_in tallies c) → Noted r ds (t + n) (with_ends ends j) tallies'
 noted_round r t n ds left j tallies tallies' ends h noted each apart told kept same =
     noted_same r ds (λ c. ended_at r ds t c || is_told c ends) (ended_at r ds (t + n)) (with_ends ends j) (tally_in tallies') (tally_in tallies')
-    (noted_ends r ds (ended_at r ds t) j (tally_in tallies) (tally_in tallies') ends noted (each_weaker (IsRoundEnd r ds t n) (IsNewEnd r (ended_at r ds t)) ends new each) apart (λ c q. right c (sym (told c) ∙ q))
+    (noted_ends r ds (ended_at r ds t) j (tally_in tallies) (tally_in tallies') ends noted
+    (each_weaker (IsRoundEnd r ds t n) (IsNewEnd r (ended_at r ds t)) ends new each) apart (λ c q. right c (sym (told c) ∙ q))
     (λ c q. same c (sym (told c) ∙ q)))
     (λ c. ended_round r t n ds c ∙ ap (λ (s : Bool). ended_at r ds t c || s) (sym (told c))) (λ c. refl)
   where
@@ -179,7 +195,8 @@ noted_round r t n ds left j tallies tallies' ends h noted each apart told kept s
         let k = kept c w in
         let places = noted.places in
         subst (IsKept r j.calls c) (sym k.2)
-        (kept_at_end r (t + places_in r ds t n c) ds left j.calls c k.0 (far (places_in r ds t n c) (within (start_of ds c + whole_in r c - t))) (open_not_ended r t ds c (opened c w)).1 (places.latest c)
+        (kept_at_end r (t + places_in r ds t n c) ds left j.calls c k.0 (far (places_in r ds t n c) (within (start_of ds c + whole_in r c - t)))
+        (open_not_ended r t ds c (opened c w)).1 (places.latest c)
         (ends_there r t n ds left c h w) k.1)
 
 -- ---- the ends that the board was told
@@ -200,7 +217,8 @@ truly_same r s now e h c at f = h c at (ap (λ (told : List (Option ℕ)). get_o
 truly_more : (r : Run) (s : State) (call at : ℕ) → ends_at (given_in r) r.periods (done_in r) call ≡ at → TellsTruly r s → TellsTruly r (told_more s call at)
 truly_more r s call at right h c v e = elim (cases_eq c call) [
   | inr n ↦ h c v (sym (get_or-set_other s.told call c (Some at) None n) ∙ e)
-  | inl q ↦ ap (ends_at (given_in r) r.periods (done_in r)) q ∙ right ∙ told (cases_lt call (length s.told)) (ap (λ (c : ℕ). told_in (told_more s call at) c) (sym q) ∙ e)
+  | inl q ↦ ap (ends_at (given_in r) r.periods (done_in r)) q ∙ right ∙ told (cases_lt call (length s.told))
+      (ap (λ (c : ℕ). told_in (told_more s call at) c) (sym q) ∙ e)
 ]
   where
     one : (a b : ℕ) → Some a ≡ Some b → a ≡ b
@@ -214,14 +232,17 @@ truly_more r s call at right h c v e = elim (cases_eq c call) [
     told (inr l) f = absurd (none _ (get_or_past (set s.told call (Some at)) call None (let k = length-set s.told call (Some at) in omega arith)) f)
 
 -- **nor one that was told further ends, those of the run.**
-pub truly_told : (r : Run) (s : State) (ends : List CallEnd) → AllByRecursion (λ e. e.at ≡ ends_at (given_in r) r.periods (done_in r) e.call) ends → TellsTruly r s → TellsTruly r (told_after s ends)
+pub truly_told : (r : Run) (s : State) (ends : List CallEnd) → AllByRecursion (λ e. e.at ≡ ends_at (given_in r) r.periods (done_in r) e.call) ends →
+    TellsTruly r s → TellsTruly r (told_after s ends)
 truly_told r s [] a h = h
 truly_told r s (e ∷ ends) a h = truly_told r (told_more s e.call e.at) ends a.1 (truly_more r s e.call e.at (sym a.0) h)
 
 -- **Those that the seats of a round tell are the run's.**
-pub truly_round : (r : Run) (t n : ℕ) (ds : List Done) (left : List Order) (seats : List SeatMemory) (s : State) → IsRound r t n ds left → AllByRecursion (IsSeat r ds t n) seats → TellsTruly r s →
+pub truly_round : (r : Run) (t n : ℕ) (ds : List Done) (left : List Order) (seats : List SeatMemory) (s : State) → IsRound r t n ds left →
+    AllByRecursion (IsSeat r ds t n) seats → TellsTruly r s →
     TellsTruly r (told_after s (filter_map (seat_end t) seats))
 truly_round r t n ds left seats s h a =
     truly_told r s (filter_map (seat_end t) seats)
-    (each_weaker (λ e. (t ≤ e.at) × (e.at < t + n) × (e.at ≡ ends_at (given_in r) r.periods (done_in r) e.call)) (λ e. e.at ≡ ends_at (given_in r) r.periods (done_in r) e.call) (filter_map (seat_end t) seats) (λ e k. k.2)
+    (each_weaker (λ e. (t ≤ e.at) × (e.at < t + n) × (e.at ≡ ends_at (given_in r) r.periods (done_in r) e.call))
+    (λ e. e.at ≡ ends_at (given_in r) r.periods (done_in r) e.call) (filter_map (seat_end t) seats) (λ e k. k.2)
     (ends_right r t n ds left seats h a))

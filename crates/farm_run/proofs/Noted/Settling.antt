@@ -103,7 +103,8 @@ places_settled ds j c v p =
 
 -- the calls of a note are those of its bridge
 pub joins_noted : (ds : List Done) (j : JournalMemory) (c k : ℕ) → PlacesNoted ds j → joins_in c (bridge_note_at j.bridges k) ≡ joins c (bridge_at ds k)
-joins_noted ds j c k p = ap (λ (a : ℕ). c == a || c == (bridge_note_at j.bridges k).b) (p.calls k).0 ∙ ap (λ (b : ℕ). c == (bridge_at ds k).a || c == b) (p.calls k).1
+joins_noted ds j c k p = ap (λ (a : ℕ). c == a || c == (bridge_note_at j.bridges k).b) (p.calls k).0
+    ∙ ap (λ (b : ℕ). c == (bridge_at ds k).a || c == b) (p.calls k).1
 
 -- ---- what is noted of a call's latest bridge
 
@@ -116,15 +117,18 @@ pub sent_settled : (r : Run) (ds : List Done) (was : ℕ → Bool) (j : JournalM
     ((k : ℕ) → (opening_of j.calls c).bridge ≡ Some k → v ≡ sent_by r (span_numbered r k) c) → SentNoted r ds (or_this was c) (settled c v j)
 sent_settled r ds was j c v p o s right = λ d k l m h. by d k l m h (opening_of j.calls c).bridge refl (p.latest c o)
   where
-    by : (d k : ℕ) → k < length (bridges ds) → joins d (bridge_at ds k) ≡ true → ((opening_of j.calls d).bridge ≡ Some k → or_this was c d ≡ true) → (place : Option ℕ) → (opening_of j.calls c).bridge ≡ place →
+    by : (d k : ℕ) → k < length (bridges ds) → joins d (bridge_at ds k) ≡ true → ((opening_of j.calls d).bridge ≡ Some k → or_this was c d ≡ true) →
+        (place : Option ℕ) → (opening_of j.calls c).bridge ≡ place →
         IsLatest (bridges ds) c place → noted_sent d (bridge_note_at (sent_at c v place j.bridges) k) ≡ sent_by r (span_numbered r k) d
     by d k l m h None e never = elim (cases_eq d c) [
       | inl q ↦ absurd (no (joins c (bridge_at ds k)) (never k l) (subst (λ (d : ℕ). joins d (bridge_at ds k) ≡ true) q m))
       | inr n ↦ s d k l m (λ g. left_true (was d) (d == c) (ne_eqb d c n) (h g))
     ]
     by d k l m h (Some place) e latest = elim (cases_eq k place) [
-      | inl q ↦ subst (λ (k : ℕ). k < length (bridges ds) → joins d (bridge_at ds k) ≡ true → ((opening_of j.calls d).bridge ≡ Some k → or_this was c d ≡ true) →
-          noted_sent d (bridge_note_at (set j.bridges place (with_sent c v (bridge_note_at j.bridges place))) k) ≡ sent_by r (span_numbered r k) d) (sym q) (here d) l m h
+      | inl q ↦ subst (λ (k : ℕ). k < length (bridges ds) → joins d (bridge_at ds k) ≡ true →
+          ((opening_of j.calls d).bridge ≡ Some k → or_this was c d ≡ true) →
+          noted_sent d (bridge_note_at (set j.bridges place (with_sent c v (bridge_note_at j.bridges place))) k)
+          ≡ sent_by r (span_numbered r k) d) (sym q) (here d) l m h
       | inr n ↦
           ap (noted_sent d) (get_or-set_other j.bridges place k (with_sent c v (bridge_note_at j.bridges place)) no_note n)
           ∙ s d k l m (λ g. elim (cases_eq d c) [
@@ -136,14 +140,16 @@ sent_settled r ds was j c v p o s right = λ d k l m h. by d k l m h (opening_of
         places : (a b : ℕ) → Some a ≡ Some b → a ≡ b
         places a b q = cc
 
-        here : (d : ℕ) → place < length (bridges ds) → joins d (bridge_at ds place) ≡ true → ((opening_of j.calls d).bridge ≡ Some place → or_this was c d ≡ true) →
+        here : (d : ℕ) → place < length (bridges ds) → joins d (bridge_at ds place) ≡ true →
+            ((opening_of j.calls d).bridge ≡ Some place → or_this was c d ≡ true) →
             noted_sent d (bridge_note_at (set j.bridges place (with_sent c v (bridge_note_at j.bridges place))) place) ≡ sent_by r (span_numbered r place) d
         here d l m h =
             let count = p.count in
             ap (noted_sent d) (get_or-set_same j.bridges place (with_sent c v (bridge_note_at j.bridges place)) no_note (omega arith))
             ∙ elim (cases_eq d c) [
               | inl q ↦
-                  ap (λ (d : ℕ). noted_sent d (with_sent c v (bridge_note_at j.bridges place))) q ∙ sent_itself c v (bridge_note_at j.bridges place) ∙ right place e
+                  ap (λ (d : ℕ). noted_sent d (with_sent c v (bridge_note_at j.bridges place))) q
+                  ∙ sent_itself c v (bridge_note_at j.bridges place) ∙ right place e
                   ∙ ap (sent_by r (span_numbered r place)) (sym q)
               | inr n ↦
                   sent_other c d v (bridge_note_at j.bridges place) (joins_noted ds j c place p ∙ latest.1) (joins_noted ds j d place p ∙ m) n
@@ -159,10 +165,13 @@ abbrev pub IsOver : Run → List Done → List Opening → (ℕ → Tally) → C
 IsOver r ds calls tally e = (is_opened ds e.call ≡ true) × IsKept r calls e.call (tally e.call)
 
 -- **So it is for several calls, one after another.**
-pub settled_all : (r : Run) (ds : List Done) (was : ℕ → Bool) (tally : ℕ → Tally) (ends : List CallEnd) (j : JournalMemory) → PlacesNoted ds j → AllByRecursion (IsOver r ds j.calls tally) ends → SentNoted r ds was j →
+pub settled_all : (r : Run) (ds : List Done) (was : ℕ → Bool) (tally : ℕ → Tally) (ends : List CallEnd) (j : JournalMemory) → PlacesNoted ds j →
+    AllByRecursion (IsOver r ds j.calls tally) ends → SentNoted r ds was j →
     PlacesNoted ds (settled_each tally ends j) × SentNoted r ds (λ c. was c || is_told c ends) (settled_each tally ends j)
 settled_all r ds was tally [] j p a s = (p, sent_same r ds was _ j (λ c. or-false (was c)) s)
 settled_all r ds was tally (e ∷ ends) j p a s =
     let v = (tally e.call).sent in
-    let more = settled_all r ds (or_this was e.call) tally ends (settled e.call v j) (places_settled ds j e.call v p) a.1 (sent_settled r ds was j e.call v p a.0.0 s a.0.1.sent) in
-    (more.0, sent_same r ds (λ c. or_this was e.call c || is_told c ends) _ (settled_each tally (e ∷ ends) j) (λ c. sym (or_assoc (was c) (c == e.call) (is_told c ends))) more.1)
+    let more = settled_all r ds (or_this was e.call) tally ends (settled e.call v j) (places_settled ds j e.call v p) a.1
+    (sent_settled r ds was j e.call v p a.0.0 s a.0.1.sent) in
+    (more.0, sent_same r ds (λ c. or_this was e.call c || is_told c ends) _ (settled_each tally (e ∷ ends) j)
+    (λ c. sym (or_assoc (was c) (c == e.call) (is_told c ends))) more.1)

@@ -29,7 +29,8 @@ pub record Due (s : State) (t : ℕ) (reply : Reply) (n : State) : Type 0 where
 pub due_of : (s n : State) (t : ℕ) (reply : Reply) → Some reply ≡ reply_of s (due s.left t) → n ≡ after_turn s (due s.left t) → Due s t reply n
 due_of s n t reply e f = by s.left refl
   where
-    one : (o : Order) (rest : List Order) (b : Bool) → (o.stamp == t) ≡ b → s.left ≡ o ∷ rest → Some reply ≡ reply_of s (if b then Some o else None) → n ≡ after_turn s (if b then Some o else None) → Due s t reply n
+    one : (o : Order) (rest : List Order) (b : Bool) → (o.stamp == t) ≡ b → s.left ≡ o ∷ rest → Some reply ≡ reply_of s (if b then Some o else None) →
+        n ≡ after_turn s (if b then Some o else None) → Due s t reply n
     one o rest true q l h k = record {
       order = o;
       rest = rest;
@@ -55,7 +56,8 @@ left_fewer s n t reply d = omega (arith, ap (λ (m : State). length m.left) d.ne
 
 -- the orders that are left after it come no earlier
 pub ahead_more : (s n : State) (t : ℕ) (reply : Reply) → AreOrders (orders_of s) → Due s t reply n → IfSome (first_stamp n.left) (λ u. t ≤ u)
-ahead_more s n t reply a d = subst (λ (m : State). IfSome (first_stamp m.left) (λ u. t ≤ u)) (sym d.new) (by d.rest (subst AreRising (drop-left ∙ d.left) (left_rising (orders_of s) (length (map (λ (e : Done). e.order) s.done)) a)))
+ahead_more s n t reply a d = subst (λ (m : State). IfSome (first_stamp m.left) (λ u. t ≤ u)) (sym d.new)
+    (by d.rest (subst AreRising (drop-left ∙ d.left) (left_rising (orders_of s) (length (map (λ (e : Done). e.order) s.done)) a)))
   where
     drop-left : drop (length (map (λ (e : Done). e.order) s.done)) (orders_of s) ≡ s.left
     drop-left = drop-append_seam (map (λ (e : Done). e.order) s.done) s.left
@@ -68,7 +70,8 @@ ahead_more s n t reply a d = subst (λ (m : State). IfSome (first_stamp m.left) 
 pub open_told : (whole : ℕ → ℕ) (t : ℕ) (s : State) → TellsEnds whole t s → (c : ℕ) → open_now s c ≡ is_open (gone_at whole t s.done) s.done c
 open_told whole t s tells c = by (opened_at c s.done) (closed_at c s.done) (tells c)
   where
-    by : (o l : Option ℕ) → (is_some o ≡ true → l ≡ None → gone_in s c ≡ gone_at whole t s.done c) → (is_some o && not (is_some l) && not (gone_in s c)) ≡ (is_some o && not (is_some l) && not (gone_at whole t s.done c))
+    by : (o l : Option ℕ) → (is_some o ≡ true → l ≡ None → gone_in s c ≡ gone_at whole t s.done c) →
+        (is_some o && not (is_some l) && not (gone_in s c)) ≡ (is_some o && not (is_some l) && not (gone_at whole t s.done c))
     by None l h = refl
     by (Some a) (Some b) h = refl
     by (Some a) None h = ap not (h refl refl)

@@ -137,10 +137,13 @@ partners_by : (a : Act) (f : ℕ → Option ℕ) (c : ℕ) → partners_after a 
 partners_by (act.Opened n law) f c = refl
 partners_by (act.Closed n None) f c = same_test n c None (f c) ∙ sym (either (c == n) false None (f c))
 partners_by (act.Closed n (Some p)) f c =
-    ap (λ o. if n == c then None else o) (same_test p c None (f c)) ∙ same_test n c None (if c == p then None else f c) ∙ sym (either (c == n) (c == p) None (f c))
-partners_by (act.Bridged a b) f c = ap (λ o. if a == c then Some b else o) (same_test b c (Some a) (f c)) ∙ same_test a c (Some b) (if c == b then Some a else f c)
+    ap (λ o. if n == c then None else o) (same_test p c None (f c)) ∙ same_test n c None (if c == p then None else f c)
+    ∙ sym (either (c == n) (c == p) None (f c))
+partners_by (act.Bridged a b) f c = ap (λ o. if a == c then Some b else o) (same_test b c (Some a) (f c))
+    ∙ same_test a c (Some b) (if c == b then Some a else f c)
 partners_by (act.Unbridged a b) f c =
-    ap (λ o. if a == c then None else o) (same_test b c None (f c)) ∙ same_test a c None (if c == b then None else f c) ∙ sym (either (c == a) (c == b) None (f c))
+    ap (λ o. if a == c then None else o) (same_test b c None (f c)) ∙ same_test a c None (if c == b then None else f c)
+    ∙ sym (either (c == a) (c == b) None (f c))
 partners_by (act.LevelSet n level) f c = refl
 partners_by (act.DtxSet n mode) f c = refl
 
@@ -163,7 +166,8 @@ partner_same (act.LevelSet n level) f g e c = e c
 partner_same (act.DtxSet n mode) f g e c = e c
 
 -- the calls that are open after an order have numbers of calls
-numbered : (b : State) (a : Act) → Finds a (opened_now b) (open_now b) (partner_now b) → ((c : ℕ) → open_now b c ≡ true → IsCallNumber c) → (c : ℕ) → open_after a (open_now b) c ≡ true → IsCallNumber c
+numbered : (b : State) (a : Act) → Finds a (opened_now b) (open_now b) (partner_now b) → ((c : ℕ) → open_now b c ≡ true → IsCallNumber c) → (c : ℕ) →
+    open_after a (open_now b) c ≡ true → IsCallNumber c
 numbered b (act.Opened n law) f h c e = elim (cases_eq c n) [
   | inl q ↦ subst IsCallNumber (sym q) (omega (arith, f.0.0), omega (arith, f.0.1))
   | inr q ↦ h c (other (c == n) (open_now b c) q.0 e)
@@ -185,7 +189,8 @@ numbered b (act.DtxSet n mode) f h c e = h c e
 -- **An accepted order keeps the board and the farm together.**
 pub matches_more : (b b' : State) (groups groups' : List Group) (a : Act) → Matches b groups → Finds a (opened_now b) (open_now b) (partner_now b) →
     ((c : ℕ) → open_now b' c ≡ open_after a (open_now b) c) → ((c : ℕ) → partner_now b' c ≡ partner_after a (partner_now b) c) →
-    ((c : ℕ) → call_in groups' c ≡ calls_after a (call_in groups) c) → ((c : ℕ) → partner_in groups' c ≡ partners_after a (partner_in groups) c) → Matches b' groups'
+    ((c : ℕ) → call_in groups' c ≡ calls_after a (call_in groups) c) →
+    ((c : ℕ) → partner_in groups' c ≡ partners_after a (partner_in groups) c) → Matches b' groups'
 matches_more b b' groups groups' a m f o p c q = record {
   is_open = λ n. ap is_some (c n) ∙ live_after a (call_in groups) n ∙ open_same a (λ n. is_some (call_in groups n)) (open_now b) m.is_open n ∙ sym (o n);
   partner = λ n. q n ∙ partners_by a (partner_in groups) n ∙ partner_same a (partner_in groups) (partner_now b) m.partner n ∙ sym (p n);
@@ -193,7 +198,8 @@ matches_more b b' groups groups' a m f o p c q = record {
 }
 
 -- so does a refused one
-pub matches_same : (b b' : State) (groups : List Group) → Matches b groups → ((c : ℕ) → open_now b' c ≡ open_now b c) → ((c : ℕ) → partner_now b' c ≡ partner_now b c) → Matches b' groups
+pub matches_same : (b b' : State) (groups : List Group) → Matches b groups → ((c : ℕ) → open_now b' c ≡ open_now b c) →
+    ((c : ℕ) → partner_now b' c ≡ partner_now b c) → Matches b' groups
 matches_same b b' groups m o p = record {
   is_open = λ n. m.is_open n ∙ sym (o n);
   partner = λ n. m.partner n ∙ sym (p n);

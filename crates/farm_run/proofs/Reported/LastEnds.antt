@@ -56,7 +56,8 @@ all_among P calls h = All-from_recursion P calls (each_among P calls h)
 
 -- ---- the calls that are open
 
-module _ (r : Run) (t : ℕ) (b : State) (groups : List Group) (tallies : List Tally) (j : JournalMemory) (end : IsAtEnd r t b groups tallies j) (calls : List ℕ) (among : (c : ℕ) → is_among calls c ≡ open_now b c) where
+module _ (r : Run) (t : ℕ) (b : State) (groups : List Group) (tallies : List Tally) (j : JournalMemory) (end : IsAtEnd r t b groups tallies j) (calls : List ℕ)
+    (among : (c : ℕ) → is_among calls c ≡ open_now b c) where
   -- the run so far
   abbrev so : IsSoFar r t b.done b.left
   so = let follows = end.follows in follows.so_far
@@ -85,7 +86,8 @@ module _ (r : Run) (t : ℕ) (b : State) (groups : List Group) (tallies : List T
   -- each is the run's end of a call that hasn't ended before
   pub each_last : AllByRecursion (λ e. (ended_at r b.done t e.call ≡ false) × (e ≡ call_end_in r e.call)) last
   each_last = each_map (IsNewEnd r (ended_at r b.done t)) (limit_at r.periods) calls
-      (each_among (λ c. IsNewEnd r (ended_at r b.done t) (limit_at r.periods c)) calls (λ c q. ((open_not_ended r t b.done c (open_is c ∙ q)).0, sym (limit_is c q))))
+      (each_among (λ c. IsNewEnd r (ended_at r b.done t) (limit_at r.periods c)) calls
+      (λ c q. ((open_not_ended r t b.done c (open_is c ∙ q)).0, sym (limit_is c q))))
 
   -- what is kept of them is what was counted so far
   kept_is : (c : ℕ) → is_told c last ≡ true → IsKept r j.calls c (kept_in tallies (histories_at r b.done t) c)
@@ -101,14 +103,18 @@ module _ (r : Run) (t : ℕ) (b : State) (groups : List Group) (tallies : List T
 
   -- of other calls what was kept stays
   kept_same : (c : ℕ) → is_told c last ≡ false → kept_in tallies (histories_at r b.done t) c ≡ tally_in tallies c
-  kept_same c q = ap (λ (s : Bool). kept_of (past_if s (law_in r c) (periods_to r c (t - start_of b.done c)) (settings_now r b.done t c)) (tally_in tallies c)) (open_is c ∙ sym (limits_told r.periods c calls) ∙ q)
+  kept_same c q = ap (λ (s : Bool). kept_of (past_if s (law_in r c) (periods_to r c (t - start_of b.done c)) (settings_now r b.done t c)) (tally_in tallies c))
+      (open_is c ∙ sym (limits_told r.periods c calls) ∙ q)
 
   -- **Then all calls that were opened have ended, and what is noted of them is right.**
   noted_last : IsRising calls → IsNoted r b.done (is_opened b.done) (with_ends last j) (kept_in tallies (histories_at r b.done t))
   noted_last rising =
-      noted_same r b.done (λ c. ended_at r b.done t c || is_told c last) (is_opened b.done) (with_ends last j) (kept_in tallies (histories_at r b.done t)) (kept_in tallies (histories_at r b.done t))
-      (noted_ends r b.done (ended_at r b.done t) j (tally_in tallies) (kept_in tallies (histories_at r b.done t)) last end.noted each_last (limits_apart r.periods calls rising) kept_is kept_same)
-      (λ c. sym (ap (λ (s : Bool). ended_at r b.done t c || s) (limits_told r.periods c calls ∙ sym (open_is c)) ∙ all (is_opened b.done c) (is_open (gone_at (whole_in r) t b.done) b.done c) (λ o. (open_not_ended r t b.done c o).1))) (λ c. refl)
+      noted_same r b.done (λ c. ended_at r b.done t c || is_told c last) (is_opened b.done) (with_ends last j) (kept_in tallies (histories_at r b.done t))
+      (kept_in tallies (histories_at r b.done t))
+      (noted_ends r b.done (ended_at r b.done t) j (tally_in tallies) (kept_in tallies (histories_at r b.done t)) last end.noted each_last
+      (limits_apart r.periods calls rising) kept_is kept_same)
+      (λ c. sym (ap (λ (s : Bool). ended_at r b.done t c || s) (limits_told r.periods c calls ∙ sym (open_is c))
+      ∙ all (is_opened b.done c) (is_open (gone_at (whole_in r) t b.done) b.done c) (λ o. (open_not_ended r t b.done c o).1))) (λ c. refl)
     where
       all : (o l : Bool) → (l ≡ true → o ≡ true) → ((o && not l) || l) ≡ o
       all true true h = refl
@@ -124,7 +130,8 @@ module _ (r : Run) (t : ℕ) (b : State) (groups : List Group) (tallies : List T
       done_is = ap (λ (s : State). s.done) told ∙ told_done b last
 
       truly : TellsTruly r now
-      truly = subst (TellsTruly r) (sym told) (truly_told r b last (each_weaker (IsNewEnd r (ended_at r b.done t)) (λ e. e.at ≡ ends_at (given_in r) r.periods (done_in r) e.call) last (λ e h. ap (λ (x : CallEnd). x.at) h.1) each_last) end.truly)
+      truly = subst (TellsTruly r) (sym told) (truly_told r b last (each_weaker (IsNewEnd r (ended_at r b.done t))
+          (λ e. e.at ≡ ends_at (given_in r) r.periods (done_in r) e.call) last (λ e h. ap (λ (x : CallEnd). x.at) h.1) each_last) end.truly)
 
       all : done_in r ≡ now.done
       all = all_done r t b.done b.left so end.none_left ∙ sym done_is
@@ -141,8 +148,15 @@ module _ (r : Run) (t : ℕ) (b : State) (groups : List Group) (tallies : List T
   -- ---- the report
 
   -- reports of the same parts are the same
-  same_report : (replies replies' : List Reply) (spans spans' : List SpanLine) (lines lines' : List CallLine) (failed : List Line) (left left' : ℕ) → replies ≡ replies' → spans ≡ spans' → lines ≡ lines' → left ≡ left' →
-      ◌≡◌ {A = ReportView} (record { replies = replies; spans = spans; calls = lines; failed = failed; left = left }) (record { replies = replies'; spans = spans'; calls = lines'; failed = failed; left = left' })
+  same_report : (replies replies' : List Reply) (spans spans' : List SpanLine) (lines lines' : List CallLine) (failed : List Line) (left left' : ℕ) →
+      replies ≡ replies' → spans ≡ spans' → lines ≡ lines' → left ≡ left' →
+      ◌≡◌ {A = ReportView} (record { replies = replies; spans = spans; calls = lines; failed = failed; left = left }) (record {
+        replies = replies';
+        spans = spans';
+        calls = lines';
+        failed = failed;
+        left = left';
+      })
   same_report replies replies' spans spans' lines lines' failed left left' p q s u =
       ap {B = ReportView} (λ (x : List Reply). record { replies = x; spans = spans; calls = lines; failed = failed; left = left }) p
       ∙ ap {B = ReportView} (λ (x : List SpanLine). record { replies = replies'; spans = x; calls = lines; failed = failed; left = left }) q
@@ -150,16 +164,21 @@ module _ (r : Run) (t : ℕ) (b : State) (groups : List Group) (tallies : List T
       ∙ ap {B = ReportView} (λ (x : ℕ). record { replies = replies'; spans = spans'; calls = lines'; failed = failed; left = x }) u
 
   -- **What is reported then is the definition's report.**
-  pub reported : (now : State) (j' : JournalMemory) (report : ReportView) → IsRising calls → now ≡ told_after b last → ((c : ℕ) → open_now now c ≡ false) → j' ≡ with_ends last j →
+  pub reported : (now : State) (j' : JournalMemory) (report : ReportView) → IsRising calls → now ≡ told_after b last →
+      ((c : ℕ) → open_now now c ≡ false) → j' ≡ with_ends last j →
       report.replies ≡ numbered 0 now.done → report.left ≡ length r.orders - length now.done → IsNonDecreasingBy (λ l. l.end.call) report.calls →
       IsPermutation (map (call_line j'.calls (kept_in tallies (histories_at r b.done t))) j'.ends) report.calls →
-      (AllEnded (given_in r) r.periods now → report.spans ≡ span_lines (spans_of (given_in r) r.periods now.done) (settled_each (kept_in tallies (histories_at r b.done t)) j'.ends j').bridges) →
+      (AllEnded (given_in r) r.periods now → report.spans ≡ span_lines (spans_of (given_in r) r.periods now.done)
+      (settled_each (kept_in tallies (histories_at r b.done t)) j'.ends j').bridges) →
       report ≡ report_of r report.failed
   reported now j' report rising told none noted replies left sorted shuffled spans =
       same_report report.replies _ report.spans _ report.calls _ report.failed report.left _ (replies ∙ ap (numbered 0) done_is)
-      (spans (all_told now told none) ∙ ap (λ (k : JournalMemory). span_lines (spans_of (given_in r) r.periods now.done) (settled_each tally k.ends k).bridges) noted
-      ∙ ap (λ (ds : List Done). span_lines (spans_of (given_in r) r.periods ds) (settled_each tally (j.ends ++ last) (with_ends last j)).bridges) done_is ∙ spans_reported r t b.done b.left (with_ends last j) tally so all (noted_last rising))
-      (calls_reported r b.done (with_ends last j) tally report.calls all (noted_last rising) sorted (subst (λ (k : JournalMemory). IsPermutation (map (call_line k.calls tally) k.ends) report.calls) noted shuffled) 4096 numbers)
+      (spans (all_told now told none) ∙ ap (λ (k : JournalMemory). span_lines (spans_of (given_in r) r.periods now.done)
+      (settled_each tally k.ends k).bridges) noted
+      ∙ ap (λ (ds : List Done). span_lines (spans_of (given_in r) r.periods ds) (settled_each tally (j.ends ++ last) (with_ends last j)).bridges) done_is
+      ∙ spans_reported r t b.done b.left (with_ends last j) tally so all (noted_last rising))
+      (calls_reported r b.done (with_ends last j) tally report.calls all (noted_last rising) sorted
+      (subst (λ (k : JournalMemory). IsPermutation (map (call_line k.calls tally) k.ends) report.calls) noted shuffled) 4096 numbers)
       (left ∙ rest)
       ∙ sym (report_end r t b.done b.left report.failed so end.none_left)
     where
@@ -174,15 +193,19 @@ module _ (r : Run) (t : ℕ) (b : State) (groups : List Group) (tallies : List T
 
       rest : length r.orders - length now.done ≡ length b.left
       rest =
-          let whole : length (map (λ (d : Done). d.order) b.done) + length b.left ≡ length r.orders = sym (length-append (map (λ (d : Done). d.order) b.done) b.left) ∙ ap length so.listed in
+          let whole : length (map (λ (d : Done). d.order) b.done) + length b.left ≡ length r.orders =
+          sym (length-append (map (λ (d : Done). d.order) b.done) b.left) ∙ ap length so.listed in
           let mapped : length (map (λ (d : Done). d.order) b.done) ≡ length b.done = length-map b.done (λ (d : Done). d.order) in
           let same : length now.done ≡ length b.done = ap length done_is in
           omega (arith, whole, mapped, same)
 
 -- **The same of whatever the report gives.**
-pub reported_ok : {E : Type 0} (b now : State) (groups : List Group) (tallies : List Tally) (j j' : JournalMemory) (calls : List ℕ) (orders periods : ℕ) (x : Result ReportView E) →
-    ((c : ℕ) → is_among calls c ≡ open_now b c) → IsRising calls → now ≡ told_after b (map (limit_at periods) calls) → ((c : ℕ) → open_now now c ≡ false) → j' ≡ with_ends (map (limit_at periods) calls) j →
-    IfOk x (λ v. v.replies ≡ numbered 0 now.done) → IfOk x (λ v. v.left ≡ orders - length now.done) → IfOk x (λ v. IsNonDecreasingBy (λ l. l.end.call) v.calls) →
+pub reported_ok : {E : Type 0} (b now : State) (groups : List Group) (tallies : List Tally) (j j' : JournalMemory) (calls : List ℕ) (orders periods : ℕ)
+    (x : Result ReportView E) →
+    ((c : ℕ) → is_among calls c ≡ open_now b c) → IsRising calls → now ≡ told_after b (map (limit_at periods) calls) → ((c : ℕ) → open_now now c ≡ false) →
+    j' ≡ with_ends (map (limit_at periods) calls) j →
+    IfOk x (λ v. v.replies ≡ numbered 0 now.done) → IfOk x (λ v. v.left ≡ orders - length now.done) →
+    IfOk x (λ v. IsNonDecreasingBy (λ l. l.end.call) v.calls) →
     IfOk x (λ v. (h : ℕ → Option CallHistory) → GroupsStand h groups → IsPermutation (map (call_line j'.calls (kept_in tallies h)) j'.ends) v.calls) →
     IfOk x (λ v. (h : ℕ → Option CallHistory) (given : ℕ → Given) (last : ℕ) → GroupsStand h groups → AllEnded given last now →
     v.spans ≡ span_lines (spans_of given last now.done) (settled_each (kept_in tallies h) j'.ends j').bridges) →
@@ -191,5 +214,6 @@ reported_ok b now groups tallies j j' calls orders periods (Err e) among rising 
 reported_ok b now groups tallies j j' calls orders periods (Ok v) among rising told none noted replies left sorted lines spans = λ r t end p o.
     let follows = end.follows in
     let h = histories_at r b.done t in
-    reported r t b groups tallies j end calls among now j' v rising (told ∙ ap (λ (n : ℕ). told_after b (map (limit_at n) calls)) (sym p)) none (noted ∙ ap (λ (n : ℕ). with_ends (map (limit_at n) calls) j) (sym p)) replies
+    reported r t b groups tallies j end calls among now j' v rising (told ∙ ap (λ (n : ℕ). told_after b (map (limit_at n) calls)) (sym p)) none
+    (noted ∙ ap (λ (n : ℕ). with_ends (map (limit_at n) calls) j) (sym p)) replies
     (left ∙ ap (λ (n : ℕ). n - length now.done) (sym o)) sorted (lines h follows.stands) (spans h (given_in r) r.periods follows.stands)

@@ -34,8 +34,10 @@ kept_value f h groups tallies c r g live ended = by (h c) refl
     by None q = ended (none_call (call_in groups c) (partner_in groups c) (subst (λ o. CallStands c o (call_in groups c) (partner_in groups c)) q (g c)))
 
 -- **One call's line more.**
-pub line_more : (ends xs : List CallEnd) (calls : List Opening) (kept : ℕ → Tally) (i : ℕ) (e : CallEnd) (from : ℕ) (counts : Counts) (old new : List CallLine) → xs ≡ ends → i < length xs → e ≡ get_or xs i e →
-    from ≡ (opening_of calls e.call).from → counts ≡ (kept e.call).counts → old ≡ map (call_line calls kept) (take i ends) → new ≡ old ++ record { end = e; from = from; counts = counts } ∷ [] →
+pub line_more : (ends xs : List CallEnd) (calls : List Opening) (kept : ℕ → Tally) (i : ℕ) (e : CallEnd) (from : ℕ) (counts : Counts)
+    (old new : List CallLine) → xs ≡ ends → i < length xs → e ≡ get_or xs i e →
+    from ≡ (opening_of calls e.call).from → counts ≡ (kept e.call).counts → old ≡ map (call_line calls kept) (take i ends) →
+    new ≡ old ++ record { end = e; from = from; counts = counts } ∷ [] →
     new ≡ map (call_line calls kept) (take (i + 1) ends)
 line_more ends xs calls kept i e from counts old new same l is f k h n =
     n ∙ ap (λ ls. ls ++ record { end = e; from = from; counts = counts } ∷ []) (h ∙ ap (λ es. map (call_line calls kept) (take i es)) (sym same))
@@ -46,19 +48,22 @@ line_more ends xs calls kept i e from counts old new same l is f k h n =
     ∙ ap (λ es. map (call_line calls kept) (take (i + 1) es)) same
 
 -- one line more
-pub ends_more : (ends xs : List CallEnd) (i : ℕ) (e : CallEnd) (from : ℕ) (counts : Counts) (old new : List CallLine) → xs ≡ ends → i < length xs → e ≡ get_or xs i e → map (λ (l : CallLine). l.end) old ≡ take i ends →
+pub ends_more : (ends xs : List CallEnd) (i : ℕ) (e : CallEnd) (from : ℕ) (counts : Counts) (old new : List CallLine) → xs ≡ ends → i < length xs →
+    e ≡ get_or xs i e → map (λ (l : CallLine). l.end) old ≡ take i ends →
     new ≡ old ++ record { end = e; from = from; counts = counts } ∷ [] → map (λ (l : CallLine). l.end) new ≡ take (i + 1) ends
 ends_more ends xs i e from counts old new same l is h n =
     ap (map (λ (x : CallLine). x.end)) n ∙ map-append (λ (x : CallLine). x.end) old (record { end = e; from = from; counts = counts } ∷ [])
     ∙ ap (λ es. es ++ e ∷ []) (h ∙ ap (take i) (sym same)) ∙ sym (front xs i e l is) ∙ ap (take (i + 1)) same
 
 -- one call more has noted what it sent
-settled_next : (kept : ℕ → Tally) (ends : List CallEnd) (e : CallEnd) (j : JournalMemory) → settled_each kept (ends ++ e ∷ []) j ≡ settled e.call (kept e.call).sent (settled_each kept ends j)
+settled_next : (kept : ℕ → Tally) (ends : List CallEnd) (e : CallEnd) (j : JournalMemory) →
+    settled_each kept (ends ++ e ∷ []) j ≡ settled e.call (kept e.call).sent (settled_each kept ends j)
 settled_next kept [] e j = refl
 settled_next kept (d ∷ ends) e j = settled_next kept ends e (settled d.call (kept d.call).sent j)
 
 -- **What one call more has sent is noted.**
-pub settled_more : (kept : ℕ → Tally) (ends xs : List CallEnd) (k : ℕ) (e : CallEnd) (sent : ℕ) (start old new : JournalMemory) → xs ≡ ends → k < length xs → e ≡ get_or xs k e →
+pub settled_more : (kept : ℕ → Tally) (ends xs : List CallEnd) (k : ℕ) (e : CallEnd) (sent : ℕ) (start old new : JournalMemory) → xs ≡ ends →
+    k < length xs → e ≡ get_or xs k e →
     sent ≡ (kept e.call).sent → new ≡ settled e.call sent old → old ≡ settled_each kept (take k ends) start → new ≡ settled_each kept (take (k + 1) ends) start
 settled_more kept ends xs k e sent start old new same l is s n h =
     n ∙ ap (λ m. settled e.call m old) s ∙ ap (settled e.call (kept e.call).sent) (h ∙ ap (λ es. settled_each kept (take k es) start) (sym same))
@@ -76,7 +81,8 @@ no_lines (s ∷ spans) [] h = refl
 no_lines (s ∷ spans) (x ∷ bridges) h = elim h [ inl e ↦ absurd (omega arith) | inr e ↦ absurd (omega arith) ]
 
 -- **There is a line for each span, where there is a bridge for each.**
-pub spans_told : (spans : List Span) (bridges : List BridgeNote) → length spans ≤ length bridges → map (λ (l : SpanLine). l.span) (span_lines spans bridges) ≡ spans
+pub spans_told : (spans : List Span) (bridges : List BridgeNote) → length spans ≤ length bridges →
+    map (λ (l : SpanLine). l.span) (span_lines spans bridges) ≡ spans
 spans_told [] bridges l = refl
 spans_told (s ∷ spans) [] l = absurd (omega arith)
 spans_told (s ∷ spans) (x ∷ bridges) l = ap (λ ss. s ∷ ss) (spans_told spans bridges (omega arith))

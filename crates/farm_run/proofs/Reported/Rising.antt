@@ -59,7 +59,8 @@ pub range_rises : (p : ℕ → Bool) (a n : ℕ) → Rises a (filter p (range_wi
 range_rises p a zero = tt
 range_rises p a (suc n) = by (p a) (range_rises p (a + 1) n)
   where
-    by : (b : Bool) → Rises (a + 1) (filter p (range_with_len (a + 1) n)) → Rises a (cond b (a ∷ filter p (range_with_len (a + 1) n)) (filter p (range_with_len (a + 1) n)))
+    by : (b : Bool) → Rises (a + 1) (filter p (range_with_len (a + 1) n)) →
+        Rises a (cond b (a ∷ filter p (range_with_len (a + 1) n)) (filter p (range_with_len (a + 1) n)))
     by true h = (omega arith, rises_from (suc a) (a + 1) _ (omega arith) h)
     by false h = rises_from a (a + 1) _ (omega arith) h
 
@@ -86,7 +87,8 @@ range_has p a (suc n) c h = elim (cases_eq c a) [
         ap (λ (b : Bool). has c (cond b (a ∷ filter p (range_with_len (a + 1) n)) (filter p (range_with_len (a + 1) n)))) e
         ∙ has_not (a + 1) c (filter p (range_with_len (a + 1) n)) (range_rises p (a + 1) n) (omega arith) ∙ sym (ap p q ∙ e)
 
-    skip : (b : Bool) → c ≢ a → has c (cond b (a ∷ filter p (range_with_len (a + 1) n)) (filter p (range_with_len (a + 1) n))) ≡ has c (filter p (range_with_len (a + 1) n))
+    skip : (b : Bool) → c ≢ a → has c (cond b (a ∷ filter p (range_with_len (a + 1) n)) (filter p (range_with_len (a + 1) n)))
+        ≡ has c (filter p (range_with_len (a + 1) n))
     skip true q = ap (λ (b : Bool). b || has c (filter p (range_with_len (a + 1) n))) (ne_eqb c a q)
     skip false q = refl
 
@@ -120,7 +122,8 @@ AtLeast m [] = Unit {0}
 AtLeast m (x ∷ xs) = m ≤ x
 
 -- **A sorted list in which no number comes twice rises.**
-rises_by : {X : Type 0} (f : X → ℕ) (m : ℕ) (xs : List X) → AtLeast m (map f xs) → IsNonDecreasingBy f xs → ((c : ℕ) → count_by (λ x. c == f x) xs ≤ 1) → Rises m (map f xs)
+rises_by : {X : Type 0} (f : X → ℕ) (m : ℕ) (xs : List X) → AtLeast m (map f xs) → IsNonDecreasingBy f xs →
+    ((c : ℕ) → count_by (λ x. c == f x) xs ≤ 1) → Rises m (map f xs)
 rises_by f m [] l h k = tt
 rises_by {X} f m (x ∷ xs) l h k = (l, rises_by f (suc (f x)) xs (next xs h k) (λ i j d a b. h (suc i) (suc j) d (omega arith) (omega arith)) (λ c. fewer c))
   where
@@ -132,7 +135,8 @@ rises_by {X} f m (x ∷ xs) l h k = (l, rises_by f (suc (f x)) xs (next xs h k) 
     next (y ∷ ys) h k = elim (cases_eq (f x) (f y)) [
       | inl q ↦ absurd (twice (count_by (λ z. f x == f z) ys)
           (sum_by-cons (λ z. one_if (f x == f z)) x (y ∷ ys) ∙ ap (λ (n : ℕ). one_if (f x == f x) + n) (sum_by-cons (λ z. one_if (f x == f z)) y ys)
-          ∙ ap (λ (b : Bool). one_if b + (one_if (f x == f y) + count_by (λ z. f x == f z) ys)) (eq-eqb (f x) (f x) refl) ∙ ap (λ (b : Bool). 1 + (one_if b + count_by (λ z. f x == f z) ys)) (eq-eqb (f x) (f y) q)) (k (f x)))
+          ∙ ap (λ (b : Bool). one_if b + (one_if (f x == f y) + count_by (λ z. f x == f z) ys)) (eq-eqb (f x) (f x) refl)
+          ∙ ap (λ (b : Bool). 1 + (one_if b + count_by (λ z. f x == f z) ys)) (eq-eqb (f x) (f y) q)) (k (f x)))
       | inr q ↦ let l = h 0 1 x (omega arith) (omega arith) in above (f x) (f y) l q
     ]
       where

@@ -27,7 +27,11 @@ use Rattle.farm_run.proofs.Rounds.Histories.{IsOpenAt, open_at, no_order}
 
 -- **A call that its lines end within the round has ended there in the run.**
 pub end_within : (r : Run) (t n : ℕ) (ds : List Done) (left : List Order) (c : ℕ) → IsRound r t n ds left → ends_within r ds t n c ≡ true →
-    end_of (given_in r) r.periods (done_in r) c (start_of ds c) ≡ record { call = c; at = t + places_in r ds t n c; cause = lack_of (whole_in r c) (given_in r c) }
+    end_of (given_in r) r.periods (done_in r) c (start_of ds c) ≡ record {
+      call = c;
+      at = t + places_in r ds t n c;
+      cause = lack_of (whole_in r c) (given_in r c);
+    }
 end_within r t n ds left c h e =
     let parts = and_parts (is_open (gone_at (whole_in r) t ds) ds c) (nat_lt (places_in r ds t n c) n) e in
     let o = open_at r t ds c (standing_now r t ds left h.so_far) parts.0 in
@@ -47,28 +51,33 @@ end_within r t n ds left c h e =
     below last t n P l f w = omega arith
 
 -- it was opened in the run where it was so far
-pub start_kept : (r : Run) (t n : ℕ) (ds : List Done) (left : List Order) (c : ℕ) → IsRound r t n ds left → is_open (gone_at (whole_in r) t ds) ds c ≡ true → start_of (done_in r) c ≡ start_of ds c
+pub start_kept : (r : Run) (t n : ℕ) (ds : List Done) (left : List Order) (c : ℕ) → IsRound r t n ds left → is_open (gone_at (whole_in r) t ds) ds c ≡ true →
+    start_of (done_in r) c ≡ start_of ds c
 start_kept r t n ds left c h o = start_run r t ds left c (start_of ds c) h.so_far (open_at r t ds c (standing_now r t ds left h.so_far) o).opened
 
 -- **There the run ends it, and it has no periods beyond.**
-pub ends_there : (r : Run) (t n : ℕ) (ds : List Done) (left : List Order) (c : ℕ) → IsRound r t n ds left → ends_within r ds t n c ≡ true → ends_at (given_in r) r.periods (done_in r) c ≡ t + places_in r ds t n c
+pub ends_there : (r : Run) (t n : ℕ) (ds : List Done) (left : List Order) (c : ℕ) → IsRound r t n ds left → ends_within r ds t n c ≡ true →
+    ends_at (given_in r) r.periods (done_in r) c ≡ t + places_in r ds t n c
 ends_there r t n ds left c h e =
     let parts = and_parts (is_open (gone_at (whole_in r) t ds) ds c) (nat_lt (places_in r ds t n c) n) e in
     ap (λ (s : ℕ). at_of (end_of (given_in r) r.periods (done_in r) c s)) (start_kept r t n ds left c h parts.0) ∙ ap at_of (end_within r t n ds left c h e)
 
 -- its periods are those up to the last that its lines give
-pub periods_ended : (r : Run) (t n : ℕ) (ds : List Done) (left : List Order) (c : ℕ) → IsRound r t n ds left → ends_within r ds t n c ≡ true → periods_in r c ≡ periods_to r c (t + places_in r ds t n c - start_of ds c)
+pub periods_ended : (r : Run) (t n : ℕ) (ds : List Done) (left : List Order) (c : ℕ) → IsRound r t n ds left → ends_within r ds t n c ≡ true →
+    periods_in r c ≡ periods_to r c (t + places_in r ds t n c - start_of ds c)
 periods_ended r t n ds left c h e =
     let parts = and_parts (is_open (gone_at (whole_in r) t ds) ds c) (nat_lt (places_in r ds t n c) n) e in
     ap (λ (u : ℕ). periods_to r c (u - start_of (done_in r) c)) (ends_there r t n ds left c h e)
     ∙ ap (λ (s : ℕ). periods_to r c (t + places_in r ds t n c - s)) (start_kept r t n ds left c h parts.0)
 
 -- **A call that has all places of the run's last round is ended by the run.**
-pub end_at_limit : (r : Run) (t n : ℕ) (ds : List Done) (left : List Order) (c : ℕ) → IsRound r t n ds left → t + n ≡ r.periods → is_open (gone_at (whole_in r) t ds) ds c ≡ true → places_in r ds t n c ≡ n →
+pub end_at_limit : (r : Run) (t n : ℕ) (ds : List Done) (left : List Order) (c : ℕ) → IsRound r t n ds left → t + n ≡ r.periods →
+    is_open (gone_at (whole_in r) t ds) ds c ≡ true → places_in r ds t n c ≡ n →
     end_of (given_in r) r.periods (done_in r) c (start_of ds c) ≡ record { call = c; at = r.periods; cause = Limit }
 end_at_limit r t n ds left c h e o all =
     let at = open_at r t ds c (standing_now r t ds left h.so_far) o in
-    end_limit r t ds left c (start_of ds c) h.so_far (subst (λ (p : ℕ). IfSome (first_stamp left) (λ s. p ≤ s)) e h.clear) at.unclosed (far (start_of ds c + whole_in r c) t n r.periods h.some e all)
+    end_limit r t ds left c (start_of ds c) h.so_far (subst (λ (p : ℕ). IfSome (first_stamp left) (λ s. p ≤ s)) e h.clear) at.unclosed
+    (far (start_of ds c + whole_in r c) t n r.periods h.some e all)
   where
     far : (last t n P : ℕ) → 1 ≤ n → t + n ≡ P → min n (last - t) ≡ n → P ≤ last
     far last t n P s e f = omega arith
@@ -111,7 +120,8 @@ lack_cut n w all taken h e l = elim (cases_lt all.up (40 * (w + 1))) [
   | inl m ↦
       let u = h.up in
       let same : taken.up ≡ all.up = omega arith in
-      ap (λ (k : ℕ). lack_by (nat_lt k (40 * (w + 1))) w taken) same ∙ same_up (nat_lt all.up (40 * (w + 1))) w taken all (lt-ltb all.up (40 * (w + 1)) m) same (h.up_failed (omega arith))
+      ap (λ (k : ℕ). lack_by (nat_lt k (40 * (w + 1))) w taken) same ∙ same_up (nat_lt all.up (40 * (w + 1))) w taken all (lt-ltb all.up (40 * (w + 1)) m) same
+      (h.up_failed (omega arith))
   | inr m ↦
       let u = h.up in
       let p = h.pcm in
@@ -132,38 +142,45 @@ with_behind k g l =
     given up pcm = record { up = up; pcm = pcm; up_failed = g.up_failed; pcm_failed = g.pcm_failed }
 
 -- what a seat took of its call's lines is cut out of them
-cut_of : (r : Run) (ds : List Done) (t n c : ℕ) (p : PlaceMemory) (up pcm : List ℕ) → IsTaken r ds t n c p up pcm → IsCut n (behind (t - start_of ds c) (given_in r c)) (places.given_in p)
+cut_of : (r : Run) (ds : List Done) (t n c : ℕ) (p : PlaceMemory) (up pcm : List ℕ) → IsTaken r ds t n c p up pcm →
+    IsCut n (behind (t - start_of ds c) (given_in r c)) (places.given_in p)
 cut_of r ds t n c p up pcm h = record { up = h.up_count; pcm = h.pcm_count; up_failed = h.up_failed; pcm_failed = h.pcm_failed }
 
 -- **The whole periods of a round are the places that the call's lines give.**
-pub whole_taken : (r : Run) (t n : ℕ) (ds : List Done) (left : List Order) (c : ℕ) (p : PlaceMemory) (up pcm : List ℕ) → IsRound r t n ds left → is_open (gone_at (whole_in r) t ds) ds c ≡ true → IsTaken r ds t n c p up pcm →
+pub whole_taken : (r : Run) (t n : ℕ) (ds : List Done) (left : List Order) (c : ℕ) (p : PlaceMemory) (up pcm : List ℕ) → IsRound r t n ds left →
+    is_open (gone_at (whole_in r) t ds) ds c ≡ true → IsTaken r ds t n c p up pcm →
     places.whole_in p ≡ places_in r ds t n c
 whole_taken r t n ds left c p up pcm h o k =
     let at = open_at r t ds c (standing_now r t ds left h.so_far) o in
-    whole_cut n (t - start_of ds c) (given_in r c) (places.given_in p) (cut_of r ds t n c p up pcm k) ∙ ap (min n) (turned (start_of ds c) (whole_in r c) t at.begun)
+    whole_cut n (t - start_of ds c) (given_in r c) (places.given_in p) (cut_of r ds t n c p up pcm k)
+    ∙ ap (min n) (turned (start_of ds c) (whole_in r c) t at.begun)
   where
     turned : (s w t : ℕ) → s ≤ t → w - (t - s) ≡ s + w - t
     turned s w t l = omega arith
 
 -- **The end that a round tells of a call is the run's.**
-pub round_end : (r : Run) (t n : ℕ) (ds : List Done) (left : List Order) (c : ℕ) (p : PlaceMemory) (up pcm : List ℕ) → IsRound r t n ds left → is_open (gone_at (whole_in r) t ds) ds c ≡ true → IsTaken r ds t n c p up pcm →
+pub round_end : (r : Run) (t n : ℕ) (ds : List Done) (left : List Order) (c : ℕ) (p : PlaceMemory) (up pcm : List ℕ) → IsRound r t n ds left →
+    is_open (gone_at (whole_in r) t ds) ds c ≡ true → IsTaken r ds t n c p up pcm →
     end_in_round t p ≡ (if ends_within r ds t n c then Some (end_of (given_in r) r.periods (done_in r) c (start_of ds c)) else None)
 round_end r t n ds left c p up pcm h o k = elim (cases_lt (places_in r ds t n c) n) [
   | inl l ↦
       let ends : ends_within r ds t n c ≡ true = ap (λ (b : Bool). b && nat_lt (places_in r ds t n c) n) o ∙ lt-ltb (places_in r ds t n c) n l in
-      let lacks = lack_cut n (places.whole_in p) (behind (t - start_of ds c) (given_in r c)) (places.given_in p) (cut_of r ds t n c p up pcm k) (all_taken l) (fewer l) in
+      let lacks =
+      lack_cut n (places.whole_in p) (behind (t - start_of ds c) (given_in r c)) (places.given_in p) (cut_of r ds t n c p up pcm k) (all_taken l) (fewer l) in
       let shifts = lack_shifts (t - start_of ds c) (places.whole_in p) (behind (t - start_of ds c) (given_in r c)) in
       let before = with_behind (t - start_of ds c) (given_in r c) (gave) in
       let cause : lack_of (places.whole_in p) (places.given_in p) ≡ lack_of (whole_in r c) (given_in r c) =
       lacks ∙ sym shifts ∙ ap (lack_of (t - start_of ds c + places.whole_in p)) before ∙ ap (λ (w : ℕ). lack_of w (given_in r c)) (sum l) in
-      ap (λ (b : Bool). if b then None else Some (ended p.call (t + places.whole_in p) (lack_of (places.whole_in p) (places.given_in p)))) (ne_eqb (places.whole_in p) p.periods (λ e. same_not l e))
+      ap (λ (b : Bool). if b then None else Some (ended p.call (t + places.whole_in p) (lack_of (places.whole_in p) (places.given_in p))))
+      (ne_eqb (places.whole_in p) p.periods (λ e. same_not l e))
       ∙ ap (λ (d : ℕ). Some (ended d (t + places.whole_in p) (lack_of (places.whole_in p) (places.given_in p)))) k.call
       ∙ ap (λ (w : ℕ). Some (ended c (t + w) (lack_of (places.whole_in p) (places.given_in p)))) wholes
       ∙ ap (λ (x : Cause). Some (ended c (t + places_in r ds t n c) x)) cause
       ∙ ap Some (sym (end_within r t n ds left c h ends))
       ∙ sym (ap (λ (b : Bool). if b then Some (end_of (given_in r) r.periods (done_in r) c (start_of ds c)) else None) ends)
   | inr l ↦
-      ap (λ (b : Bool). if b then None else Some (ended p.call (t + places.whole_in p) (lack_of (places.whole_in p) (places.given_in p)))) (eq-eqb (places.whole_in p) p.periods (full l))
+      ap (λ (b : Bool). if b then None else Some (ended p.call (t + places.whole_in p) (lack_of (places.whole_in p) (places.given_in p))))
+      (eq-eqb (places.whole_in p) p.periods (full l))
       ∙ sym (ap (λ (b : Bool). if b then Some (end_of (given_in r) r.periods (done_in r) c (start_of ds c)) else None)
       (ap (λ (b : Bool). b && nat_lt (places_in r ds t n c) n) o ∙ le-ltb (places_in r ds t n c) n l))
 ]

@@ -41,7 +41,8 @@ taken_place m a x y z block line e l f =
         ap (λ (i : ℕ). take a (drop y (take i xs))) (sym all) ∙ ap (take a) (drop-take y (m - y) xs) ∙ take-take a (m - y) (drop y xs) (omega arith)
 
 -- **A call whose buffers were filled from its lines is fed.**
-pub fed_taken : (r : Run) (t n : ℕ) (ds : List Done) (left : List Order) (c : ℕ) (p : PlaceMemory) (io : IoMemory) → IsRound r t n ds left → is_open (gone_at (whole_in r) t ds) ds c ≡ true → IsTaken r ds t n c p io.up io.pcm →
+pub fed_taken : (r : Run) (t n : ℕ) (ds : List Done) (left : List Order) (c : ℕ) (p : PlaceMemory) (io : IoMemory) → IsRound r t n ds left →
+    is_open (gone_at (whole_in r) t ds) ds c ≡ true → IsTaken r ds t n c p io.up io.pcm →
     io.call ≡ c → io.given ≡ places.whole_in p → io.done ≡ 0 → IsFed r ds t n c io
 fed_taken r t n ds left c p io h o k e g d =
     let lines = r.lines c in
@@ -49,40 +50,52 @@ fed_taken r t n ds left c p io h o k e g d =
       call = e;
       given = g ∙ whole_taken r t n ds left c p io.up io.pcm h o k;
       none_done = d;
-      up = λ j l. taken_place p.up.count 40 (40 * (t - start_of ds c)) (40 * j) (40 * (t - start_of ds c + j)) io.up lines.up k.up_octets (omega arith) (omega arith);
-      pcm = λ j l. taken_place p.pcm.count 160 (160 * (t - start_of ds c)) (160 * j) (160 * (t - start_of ds c + j)) io.pcm lines.pcm k.pcm_octets (omega arith) (omega arith);
+      up = λ j l. taken_place p.up.count 40 (40 * (t - start_of ds c)) (40 * j) (40 * (t - start_of ds c + j)) io.up lines.up k.up_octets
+          (omega arith) (omega arith);
+      pcm = λ j l. taken_place p.pcm.count 160 (160 * (t - start_of ds c)) (160 * j) (160 * (t - start_of ds c + j)) io.pcm lines.pcm k.pcm_octets
+          (omega arith) (omega arith);
     }
 
 -- ---- a finished half
 
 -- **A finished call that lies in no bridge stands at the run's periods.**
-pub alone_after : (r : Run) (t n : ℕ) (ds : List Done) (left : List Order) (c : ℕ) (io : IoMemory) (half : HalfMemory) → IsRound r t n ds left → is_open (gone_at (whole_in r) t ds) ds c ≡ true → IsFed r ds t n c io →
+pub alone_after : (r : Run) (t n : ℕ) (ds : List Done) (left : List Order) (c : ℕ) (io : IoMemory) (half : HalfMemory) → IsRound r t n ds left →
+    is_open (gone_at (whole_in r) t ds) ds c ≡ true → IsFed r ds t n c io →
     bridge_of (gone_at (whole_in r) t ds) ds c ≡ None → HasWorkedAlone (start_at r ds t c io) half →
     HasWorked (start_at r ds t c io) io.given (periods_to r c (t + io.given - start_of ds c)) (settings_now r ds (t + io.given) c) half
 alone_after r t n ds left c io half h o f b w =
     let given = f.given in
-    subst (λ (ts : List CallPeriod). HasWorked (start_at r ds t c io) io.given ts (settings_now r ds (t + io.given) c) half) (alone_worked r t n ds left c io h o f b)
-    (subst (λ (now : Settings). HasWorked (start_at r ds t c io) io.given (alone_periods io.given (start_at r ds t c io)) now half) (alone_settings r t n ds left c io.given h b (omega arith)) w)
+    subst (λ (ts : List CallPeriod). HasWorked (start_at r ds t c io) io.given ts (settings_now r ds (t + io.given) c) half)
+    (alone_worked r t n ds left c io h o f b)
+    (subst (λ (now : Settings). HasWorked (start_at r ds t c io) io.given (alone_periods io.given (start_at r ds t c io)) now half)
+    (alone_settings r t n ds left c io.given h b (omega arith)) w)
 
 -- **So does one that lies in a bridge: past its partner's places the bridge is off.**
-pub bridged_half : (r : Run) (t n : ℕ) (ds : List Done) (left : List Order) (c : ℕ) (x : Bridge) (io io' : IoMemory) (half : HalfMemory) → IsRound r t n ds left →
-    bridge_of (gone_at (whole_in r) t ds) ds c ≡ Some x → IsFed r ds t n c io → IsFed r ds t n (other c x) io' → HasWorkedBridged (start_at r ds t c io) (start_at r ds t (other c x) io') half →
+pub bridged_half : (r : Run) (t n : ℕ) (ds : List Done) (left : List Order) (c : ℕ) (x : Bridge) (io io' : IoMemory)
+    (half : HalfMemory) → IsRound r t n ds left →
+    bridge_of (gone_at (whole_in r) t ds) ds c ≡ Some x → IsFed r ds t n c io → IsFed r ds t n (other c x) io' →
+    HasWorkedBridged (start_at r ds t c io) (start_at r ds t (other c x) io') half →
     HasWorked (start_at r ds t c io) io.given (periods_to r c (t + io.given - start_of ds c)) (settings_past io.given io'.given (settings_now r ds t c)) half
 bridged_half r t n ds left c x io io' half h b f g w =
-    subst (λ (ts : List CallPeriod). HasWorked (start_at r ds t c io) io.given ts (settings_past io.given io'.given (settings_now r ds t c)) half) (bridged_worked r t n ds left c x io io' h b f g) w
+    subst (λ (ts : List CallPeriod). HasWorked (start_at r ds t c io) io.given ts (settings_past io.given io'.given (settings_now r ds t c)) half)
+    (bridged_worked r t n ds left c x io io' h b f g) w
 
 -- **Where it has all places of the round, that is what the run has set after it.**
-pub bridged_after : (r : Run) (t n : ℕ) (ds : List Done) (left : List Order) (c : ℕ) (x : Bridge) (io io' : IoMemory) (half : HalfMemory) → IsRound r t n ds left →
-    bridge_of (gone_at (whole_in r) t ds) ds c ≡ Some x → IsFed r ds t n c io → IsFed r ds t n (other c x) io' → io.given ≡ n → HasWorkedBridged (start_at r ds t c io) (start_at r ds t (other c x) io') half →
+pub bridged_after : (r : Run) (t n : ℕ) (ds : List Done) (left : List Order) (c : ℕ) (x : Bridge) (io io' : IoMemory)
+    (half : HalfMemory) → IsRound r t n ds left →
+    bridge_of (gone_at (whole_in r) t ds) ds c ≡ Some x → IsFed r ds t n c io → IsFed r ds t n (other c x) io' → io.given ≡ n →
+    HasWorkedBridged (start_at r ds t c io) (start_at r ds t (other c x) io') half →
     HasWorked (start_at r ds t c io) io.given (periods_to r c (t + io.given - start_of ds c)) (settings_now r ds (t + io.given) c) half
 bridged_after r t n ds left c x io io' half h b f g all w =
-    subst (λ (now : Settings). HasWorked (start_at r ds t c io) io.given (periods_to r c (t + io.given - start_of ds c)) now half) (bridged_settings r t n ds left c x io io' h b f g all)
+    subst (λ (now : Settings). HasWorked (start_at r ds t c io) io.given (periods_to r c (t + io.given - start_of ds c)) now half)
+    (bridged_settings r t n ds left c x io io' h b f g all)
     (bridged_half r t n ds left c x io io' half h b f g w)
 
 -- ---- its octets
 
 -- **With the octets of its places the Out line of a call is the run's up to there.**
-pub out_written : (r : Run) (t k : ℕ) (ds : List Done) (c : ℕ) (io now : IoMemory) → start_of ds c ≤ t → now ≡ io_after (who_in r c) k (periods_to r c (t + k - start_of ds c)) io →
+pub out_written : (r : Run) (t k : ℕ) (ds : List Done) (c : ℕ) (io now : IoMemory) → start_of ds c ≤ t →
+    now ≡ io_after (who_in r c) k (periods_to r c (t + k - start_of ds c)) io →
     out_line (who_in r c) (periods_to r c (t + k - start_of ds c)) ≡ out_line (who_in r c) (periods_to r c (t - start_of ds c)) ++ take (160 * k) now.out
 out_written r t k ds c io now l f =
     let at : t - start_of ds c + k ≡ t + k - start_of ds c = omega arith in
@@ -91,10 +104,12 @@ out_written r t k ds c io now l f =
     ∙ ap (λ (m : ℕ). out_line (who_in r c) (periods_to r c (t - start_of ds c)) ++ outs_of (who_in r c) k (periods_to r c m)) at
     ∙ ap (λ (xs : List ℕ). out_line (who_in r c) (periods_to r c (t - start_of ds c)) ++ xs)
     (sym (ap (λ (i : IoMemory). take (160 * k) i.out) f
-    ∙ take_at (outs_of (who_in r c) k ts) (drop (160 * k) io.out) (160 * k) (length-outs_of (who_in r c) k ts (omega (arith, length-periods_to r c (t + k - start_of ds c))))))
+    ∙ take_at (outs_of (who_in r c) k ts) (drop (160 * k) io.out) (160 * k)
+    (length-outs_of (who_in r c) k ts (omega (arith, length-periods_to r c (t + k - start_of ds c))))))
 
 -- **So is its Down line.**
-pub down_written : (r : Run) (t k : ℕ) (ds : List Done) (c : ℕ) (io now : IoMemory) → start_of ds c ≤ t → now ≡ io_after (who_in r c) k (periods_to r c (t + k - start_of ds c)) io →
+pub down_written : (r : Run) (t k : ℕ) (ds : List Done) (c : ℕ) (io now : IoMemory) → start_of ds c ≤ t →
+    now ≡ io_after (who_in r c) k (periods_to r c (t + k - start_of ds c)) io →
     down_octets (who_in r c) (periods_to r c (t + k - start_of ds c)) ≡ down_octets (who_in r c) (periods_to r c (t - start_of ds c)) ++ take (40 * k) now.down
 down_written r t k ds c io now l f =
     let at : t - start_of ds c + k ≡ t + k - start_of ds c = omega arith in
@@ -103,4 +118,5 @@ down_written r t k ds c io now l f =
     ∙ ap (λ (m : ℕ). down_octets (who_in r c) (periods_to r c (t - start_of ds c)) ++ downs_of (who_in r c) k (periods_to r c m)) at
     ∙ ap (λ (xs : List ℕ). down_octets (who_in r c) (periods_to r c (t - start_of ds c)) ++ xs)
     (sym (ap (λ (i : IoMemory). take (40 * k) i.down) f
-    ∙ take_at (downs_of (who_in r c) k ts) (drop (40 * k) io.down) (40 * k) (length-downs_of (who_in r c) k ts (omega (arith, length-periods_to r c (t + k - start_of ds c))))))
+    ∙ take_at (downs_of (who_in r c) k ts) (drop (40 * k) io.down) (40 * k)
+    (length-downs_of (who_in r c) k ts (omega (arith, length-periods_to r c (t + k - start_of ds c))))))

@@ -55,7 +55,8 @@ module _ (m : ℕ) (line rest : List ℕ) (failed : Bool) (now : LineState) (t :
   full q x e left =
       let n : length line ≡ t.count + length x = ap length e ∙ length-append (take t.count block) x ∙ ap (λ (i : ℕ). i + length x) taken_long in
       let seam : drop (length (take t.count block)) line ≡ x = ap (drop (length (take t.count block))) e ∙ drop-append_seam (take t.count block) x in
-      let front : take (length (take t.count block)) line ≡ take t.count block = ap (take (length (take t.count block))) e ∙ take-append_seam (take t.count block) x in
+      let front : take (length (take t.count block)) line ≡ take t.count block = ap (take (length (take t.count block))) e
+      ∙ take-append_seam (take t.count block) x in
       record {
         count = omega (arith, n, q);
         fails = λ k. absurd (omega (arith, q, k));
@@ -64,7 +65,8 @@ module _ (m : ℕ) (line rest : List ℕ) (failed : Bool) (now : LineState) (t :
       }
 
 -- a line gives its next octets until the round is full, or it ends or fails
-came : (m : ℕ) (line rest : List ℕ) (failed : Bool) (was now : LineState) (t : Taken) (block : List ℕ) → Takes was now t block → length block ≡ m → was.to_come ≡ Some (line ++ rest) → Meets m rest failed now t → Came m line rest failed now t block
+came : (m : ℕ) (line rest : List ℕ) (failed : Bool) (was now : LineState) (t : Taken) (block : List ℕ) → Takes was now t block → length block ≡ m →
+    was.to_come ≡ Some (line ++ rest) → Meets m rest failed now t → Came m line rest failed now t block
 came m line rest failed was now t block h long told meets = by t.failed refl failed refl
   where
     bound : t.count ≤ m
@@ -77,14 +79,16 @@ came m line rest failed was now t block h long told meets = by t.failed refl fai
     by true e g q =
         let here = meets.here e in
         let ys : parts.0 ≡ rest = some_same parts.0 rest (sym parts.1 ∙ here.1) in
-        let all : line ≡ take t.count block = append_cancel_right line (take t.count block) rest (parts.2 ∙ ap (λ (xs : List ℕ). take t.count block ++ xs) ys) in
+        let all : line ≡ take t.count block =
+        append_cancel_right line (take t.count block) rest (parts.2 ∙ ap (λ (xs : List ℕ). take t.count block ++ xs) ys) in
         short m line rest failed now t block bound long (omega (arith, h.short e, long)) (e ∙ sym here.0) all here.1
     by false e true q =
         let ahead = meets.ahead e q in
         let x = ahead.1.0 in
         let ys : parts.0 ≡ x ++ rest = some_same parts.0 (x ++ rest) (sym parts.1 ∙ ahead.1.1) in
         let all : line ≡ take t.count block ++ x =
-        append_cancel_right line (take t.count block ++ x) rest (parts.2 ∙ ap (λ (xs : List ℕ). take t.count block ++ xs) ys ∙ sym (append_assoc (take t.count block) x rest)) in
+        append_cancel_right line (take t.count block ++ x) rest (parts.2 ∙ ap (λ (xs : List ℕ). take t.count block ++ xs) ys
+        ∙ sym (append_assoc (take t.count block) x rest)) in
         full m line rest failed now t block bound long ahead.0 x all ahead.1.1
     by false e false q =
         let none = meets.whole q in
@@ -92,12 +96,15 @@ came m line rest failed was now t block h long told meets = by t.failed refl fai
         elim (cases_lt t.count m) [
           | inl l ↦
               let end : parts.0 ≡ [] = at_end now.to_come parts.0 parts.1 (h.ended e (omega (arith, l, long))) in
-              short m line rest failed now t block bound long l (e ∙ sym q) (all ∙ ap (λ (xs : List ℕ). take t.count block ++ xs) end ∙ append-nil (take t.count block)) (parts.1 ∙ ap Some (end ∙ sym none))
-          | inr l ↦ full m line rest failed now t block bound long (omega arith) parts.0 all (parts.1 ∙ ap Some (sym (append-nil parts.0) ∙ ap (λ (xs : List ℕ). parts.0 ++ xs) (sym none)))
+              short m line rest failed now t block bound long l (e ∙ sym q)
+              (all ∙ ap (λ (xs : List ℕ). take t.count block ++ xs) end ∙ append-nil (take t.count block)) (parts.1 ∙ ap Some (end ∙ sym none))
+          | inr l ↦ full m line rest failed now t block bound long (omega arith) parts.0 all
+              (parts.1 ∙ ap Some (sym (append-nil parts.0) ∙ ap (λ (xs : List ℕ). parts.0 ++ xs) (sym none)))
         ]
 
 -- **What a round took of a line is what the run says, whether the line fails in it, later or never.**
-pub gave : (m k : ℕ) (line rest : List ℕ) (failed : Bool) (was now : LineState) (t : Taken) (block : List ℕ) → Takes was now t block → length block ≡ m → IsToCome was k line rest → Meets m rest failed now t →
+pub gave : (m k : ℕ) (line rest : List ℕ) (failed : Bool) (was now : LineState) (t : Taken) (block : List ℕ) → Takes was now t block → length block ≡ m →
+    IsToCome was k line rest → Meets m rest failed now t →
     GaveBlock m k line rest failed now t block
 gave m k line rest failed was now t block h long told meets =
     let c = came m (drop k line) rest failed was now t block h long told meets in

@@ -65,9 +65,11 @@ place_tests t n last P k w l = elim (cases_lt k (min n (last - t))) [
 ]
 
 -- An open call has a period of the round exactly where it has a place for it.
-pub has_place : (r : Run) (t n : ℕ) (ds : List Done) (c k : ℕ) → closed_at c ds ≡ None → t + n ≤ r.periods → k < n → has_period r ds (t + k) c ≡ nat_lt k (places_in r ds t n c)
+pub has_place : (r : Run) (t n : ℕ) (ds : List Done) (c k : ℕ) → closed_at c ds ≡ None → t + n ≤ r.periods → k < n →
+    has_period r ds (t + k) c ≡ nat_lt k (places_in r ds t n c)
 has_place r t n ds c k e w l =
-    ap (λ o. is_none o && nat_lt (t + k) (start_of ds c + whole_in r c) && nat_lt (t + k) r.periods) e ∙ place_tests t n (start_of ds c + whole_in r c) r.periods k w l
+    ap (λ o. is_none o && nat_lt (t + k) (start_of ds c + whole_in r c) && nat_lt (t + k) r.periods) e
+    ∙ place_tests t n (start_of ds c + whole_in r c) r.periods k w l
 
 -- ---- who is open after the round
 
@@ -92,9 +94,11 @@ open_after r t n ds left c h o =
     ∙ all_or_fewer n (start_of ds c + whole_in r c - t) some
 
 -- **A call that isn't open isn't open settings_later.**
-pub shut_after : (r : Run) (t n : ℕ) (ds : List Done) (c : ℕ) → is_open (gone_at (whole_in r) t ds) ds c ≡ false → is_open (gone_at (whole_in r) (t + n) ds) ds c ≡ false
+pub shut_after : (r : Run) (t n : ℕ) (ds : List Done) (c : ℕ) → is_open (gone_at (whole_in r) t ds) ds c ≡ false →
+    is_open (gone_at (whole_in r) (t + n) ds) ds c ≡ false
 shut_after r t n ds c e =
-    by (is_some (opened_at c ds) && not (is_some (closed_at c ds))) (gone_at (whole_in r) t ds c) (gone_at (whole_in r) (t + n) ds c) (gone_later (whole_in r) t (t + n) ds c (omega arith)) e
+    by (is_some (opened_at c ds) && not (is_some (closed_at c ds))) (gone_at (whole_in r) t ds c) (gone_at (whole_in r) (t + n) ds c)
+    (gone_later (whole_in r) t (t + n) ds c (omega arith)) e
   where
     by : (p g k : Bool) → (g ≡ true → k ≡ true) → (p && not g) ≡ false → (p && not k) ≡ false
     by false g k f e = refl
@@ -113,7 +117,10 @@ bridge_open r t ds c x e =
 
 -- the bridge of a call in a period of the round
 pub bridge_at_place : (r : Run) (t n : ℕ) (ds : List Done) (left : List Order) (c k : ℕ) → IsRound r t n ds left → k < n →
-    bridge_now r ds (t + k) c ≡ elim (bridge_of (gone_at (whole_in r) t ds) ds c) [ None ↦ None | Some x ↦ if nat_lt k (places_in r ds t n x.a) && nat_lt k (places_in r ds t n x.b) then Some x else None ]
+    bridge_now r ds (t + k) c ≡ elim (bridge_of (gone_at (whole_in r) t ds) ds c) [
+      | None ↦ None
+      | Some x ↦ if nat_lt k (places_in r ds t n x.a) && nat_lt k (places_in r ds t n x.b) then Some x else None
+    ]
 bridge_at_place r t n ds left c k h l =
     let stand = standing_now r t ds left h.so_far in
     bridge_later r t t (t + k) ds c stand (omega arith) (omega arith) ∙ by (bridge_of (gone_at (whole_in r) t ds) ds c) refl
@@ -127,11 +134,15 @@ bridge_at_place r t n ds left c k h l =
         let b = bridge_open r t ds c x e in
         let a : has_period r ds (t + k) x.a ≡ nat_lt k (places_in r ds t n x.a) = has_place r t n ds x.a k (open_at r t ds x.a stand b.1).unclosed h.within l in
         let z : has_period r ds (t + k) x.b ≡ nat_lt k (places_in r ds t n x.b) = has_place r t n ds x.b k (open_at r t ds x.b stand b.2).unclosed h.within l in
-        ap (λ (p : Bool). if p && has_period r ds (t + k) x.b then Some x else None) a ∙ ap (λ (p : Bool). if nat_lt k (places_in r ds t n x.a) && p then Some x else None) z
+        ap (λ (p : Bool). if p && has_period r ds (t + k) x.b then Some x else None) a
+        ∙ ap (λ (p : Bool). if nat_lt k (places_in r ds t n x.a) && p then Some x else None) z
 
 -- **After the round a bridge lasts which lasted at the clock, where the lines of both of its calls gave all periods.**
 pub bridge_after_round : (r : Run) (t n : ℕ) (ds : List Done) (left : List Order) (c : ℕ) → IsRound r t n ds left →
-    bridge_of (gone_at (whole_in r) (t + n) ds) ds c ≡ elim (bridge_of (gone_at (whole_in r) t ds) ds c) [ None ↦ None | Some x ↦ if places_in r ds t n x.a == n && places_in r ds t n x.b == n then Some x else None ]
+    bridge_of (gone_at (whole_in r) (t + n) ds) ds c ≡ elim (bridge_of (gone_at (whole_in r) t ds) ds c) [
+      | None ↦ None
+      | Some x ↦ if places_in r ds t n x.a == n && places_in r ds t n x.b == n then Some x else None
+    ]
 bridge_after_round r t n ds left c h =
     let some = h.some in
     let within = h.within in
@@ -142,7 +153,10 @@ bridge_after_round r t n ds left c h =
     ∙ by (bridge_of (gone_at (whole_in r) t ds) ds c)
   where
     by : (o : Option Bridge) →
-        ◌≡◌ {A = Option Bridge} (elim o [ None ↦ None | Some x ↦ if nat_lt (n - 1) (places_in r ds t n x.a) && nat_lt (n - 1) (places_in r ds t n x.b) then Some x else None ])
+        ◌≡◌ {A = Option Bridge} (elim o [
+          | None ↦ None
+          | Some x ↦ if nat_lt (n - 1) (places_in r ds t n x.a) && nat_lt (n - 1) (places_in r ds t n x.b) then Some x else None
+        ])
         (elim o [ None ↦ None | Some x ↦ if places_in r ds t n x.a == n && places_in r ds t n x.b == n then Some x else None ])
     by None = refl
     by (Some x) =
@@ -181,7 +195,8 @@ settings_kept r t n ds left c (suc k) h l =
     ∙ ap without_bridge (sym (settings_later r t (t + k) ds c (standing_now r t ds left h.so_far) (omega arith) (omega arith)))
     ∙ ap (λ u. without_bridge (settings_now r ds u c)) e
   where
-    by : (b : Bool) → without_bridge (settings_now r ds (t + k) c) ≡ without_bridge (if b then settings_now r ds (t + k) c else without_bridge (settings_now r ds (t + k) c))
+    by : (b : Bool) → without_bridge (settings_now r ds (t + k) c) ≡ without_bridge
+        (if b then settings_now r ds (t + k) c else without_bridge (settings_now r ds (t + k) c))
     by true = refl
     by false = refl
 
@@ -192,7 +207,8 @@ but_for_bridge x y e b = same_settings x.level y.level x.mode y.mode x.starts y.
 -- ---- a place's period
 
 -- **The period of a place is the run's, with what is handed over in it.**
-place_period : (r : Run) (t n : ℕ) (ds : List Done) (left : List Order) (c k : ℕ) (io : IoMemory) → IsRound r t n ds left → IsOpenAt r t ds c → IsFed r ds t n c io → k < io.given →
+place_period : (r : Run) (t n : ℕ) (ds : List Done) (left : List Order) (c k : ℕ) (io : IoMemory) → IsRound r t n ds left → IsOpenAt r t ds c →
+    IsFed r ds t n c io → k < io.given →
     period_at k (start_at r ds t c io) (handed_now r ds (t + k) c) ≡ period_now r ds (t + k) c
 place_period r t n ds left c k io h o f l =
     let given = f.given in
@@ -200,18 +216,22 @@ place_period r t n ds left c k io h o f l =
     let at : t - start_of ds c + k ≡ t + k - start_of ds c = omega arith in
     let now = settings_at k (settings_now r ds t c) in
     let handed = handed_now r ds (t + k) c in
-    ap (λ (s : Settings). period_with s (up_at k io) (pcm_at k io) handed) (settings_kept r t n ds left c k h (omega arith) ∙ worked (is_some (bridge_now r ds (t + k) c)))
+    ap (λ (s : Settings). period_with s (up_at k io) (pcm_at k io) handed)
+    (settings_kept r t n ds left c k h (omega arith) ∙ worked (is_some (bridge_now r ds (t + k) c)))
     ∙ ap (λ (up : List ℕ). period_with (settings_in r ds (t + k) c) up (pcm_at k io) handed) (f.up k l ∙ ap (up_in r c) at)
     ∙ ap (λ (pcm : List ℕ). period_with (settings_in r ds (t + k) c) (up_in r c (t + k - start_of ds c)) pcm handed) (f.pcm k l ∙ ap (pcm_in r c) at)
     ∙ sym (period_by r ds (t + k) c)
   where
-    worked : (b : Bool) → without_bridge (settings_now r ds (t + k) c) ≡ without_bridge (if b then settings_now r ds (t + k) c else without_bridge (settings_now r ds (t + k) c))
+    worked : (b : Bool) → without_bridge (settings_now r ds (t + k) c)
+        ≡ without_bridge (if b then settings_now r ds (t + k) c else without_bridge (settings_now r ds (t + k) c))
     worked true = refl
     worked false = refl
 
 -- one place more is one period more
-pub place_more : (r : Run) (t n : ℕ) (ds : List Done) (left : List Order) (c k : ℕ) (io : IoMemory) (handed : Option (List ℕ)) (past : List CallPeriod) → IsRound r t n ds left → IsOpenAt r t ds c → IsFed r ds t n c io → k < io.given →
-    handed ≡ handed_now r ds (t + k) c → past ≡ periods_to r c (t + k - start_of ds c) → period_at k (start_at r ds t c io) handed ∷ past ≡ periods_to r c (t + suc k - start_of ds c)
+pub place_more : (r : Run) (t n : ℕ) (ds : List Done) (left : List Order) (c k : ℕ) (io : IoMemory) (handed : Option (List ℕ)) (past : List CallPeriod) →
+    IsRound r t n ds left → IsOpenAt r t ds c → IsFed r ds t n c io → k < io.given →
+    handed ≡ handed_now r ds (t + k) c → past ≡ periods_to r c (t + k - start_of ds c) →
+    period_at k (start_at r ds t c io) handed ∷ past ≡ periods_to r c (t + suc k - start_of ds c)
 place_more r t n ds left c k io handed past h o f l e p =
     let given = f.given in
     let within = h.within in
@@ -225,23 +245,28 @@ place_more r t n ds left c k io handed past h o f l e p =
 -- ---- a call that lies in no bridge
 
 -- period by period, for the first k of them
-alone_go : (r : Run) (t n : ℕ) (ds : List Done) (left : List Order) (c k : ℕ) (io : IoMemory) → IsRound r t n ds left → IsOpenAt r t ds c → IsFed r ds t n c io →
+alone_go : (r : Run) (t n : ℕ) (ds : List Done) (left : List Order) (c k : ℕ) (io : IoMemory) → IsRound r t n ds left →
+    IsOpenAt r t ds c → IsFed r ds t n c io →
     bridge_of (gone_at (whole_in r) t ds) ds c ≡ None → k ≤ io.given → alone_periods k (start_at r ds t c io) ≡ periods_to r c (t + k - start_of ds c)
 alone_go r t n ds left c zero io h o f b l = let e : t ≡ t + 0 = omega arith in ap (λ (u : ℕ). periods_to r c (u - start_of ds c)) e
 alone_go r t n ds left c (suc k) io h o f b l =
     let given = f.given in
     let none : bridge_now r ds (t + k) c ≡ None = bridge_at_place r t n ds left c k h (omega arith)
-    ∙ ap (λ (o : Option Bridge). elim o [ None ↦ None | Some x ↦ if nat_lt k (places_in r ds t n x.a) && nat_lt k (places_in r ds t n x.b) then Some x else None ]) b in
+    ∙ ap (λ (o : Option Bridge). elim o [ None ↦ None | Some x ↦ if nat_lt k (places_in r ds t n x.a) && nat_lt k
+    (places_in r ds t n x.b) then Some x else None ]) b in
     place_more r t n ds left c k io None (alone_periods k (start_at r ds t c io)) h o f (omega arith)
-    (sym (ap (option_map (λ (x : Bridge). let d = other c x in item_of d (ups_to r d (t + k + 1 - start_of ds d)))) none)) (alone_go r t n ds left c k io h o f b (omega arith))
+    (sym (ap (option_map (λ (x : Bridge). let d = other c x in item_of d (ups_to r d (t + k + 1 - start_of ds d)))) none))
+    (alone_go r t n ds left c k io h o f b (omega arith))
 
 -- **The periods of a call that lies in no bridge.**
-pub alone_worked : (r : Run) (t n : ℕ) (ds : List Done) (left : List Order) (c : ℕ) (io : IoMemory) → IsRound r t n ds left → is_open (gone_at (whole_in r) t ds) ds c ≡ true → IsFed r ds t n c io →
+pub alone_worked : (r : Run) (t n : ℕ) (ds : List Done) (left : List Order) (c : ℕ) (io : IoMemory) → IsRound r t n ds left →
+    is_open (gone_at (whole_in r) t ds) ds c ≡ true → IsFed r ds t n c io →
     bridge_of (gone_at (whole_in r) t ds) ds c ≡ None → alone_periods io.given (start_at r ds t c io) ≡ periods_to r c (t + io.given - start_of ds c)
 alone_worked r t n ds left c io h o f b = alone_go r t n ds left c io.given io h (open_at r t ds c (standing_now r t ds left h.so_far) o) f b (omega arith)
 
 -- **What is set for its next period.**
-pub alone_settings : (r : Run) (t n : ℕ) (ds : List Done) (left : List Order) (c k : ℕ) → IsRound r t n ds left → bridge_of (gone_at (whole_in r) t ds) ds c ≡ None → k ≤ n →
+pub alone_settings : (r : Run) (t n : ℕ) (ds : List Done) (left : List Order) (c k : ℕ) → IsRound r t n ds left →
+    bridge_of (gone_at (whole_in r) t ds) ds c ≡ None → k ≤ n →
     settings_at k (settings_now r ds t c) ≡ settings_now r ds (t + k) c
 alone_settings r t n ds left c k h b l =
     but_for_bridge _ _ (settings_kept r t n ds left c k h l) (bridge_kept k (settings_now r ds t c) ∙ ap is_some b ∙ sym (ap is_some (none k l)))
@@ -254,4 +279,5 @@ alone_settings r t n ds left c k h b l =
         ap (λ (u : ℕ). bridge_of (gone_at (whole_in r) u ds) ds c) e
         ∙ bridge_after r t (t + k) ds c (standing_now r t ds left h.so_far) (omega arith)
         ∙ bridge_at_place r t n ds left c k h (omega arith)
-        ∙ ap (λ (o : Option Bridge). elim o [ None ↦ None | Some x ↦ if nat_lt k (places_in r ds t n x.a) && nat_lt k (places_in r ds t n x.b) then Some x else None ]) b
+        ∙ ap (λ (o : Option Bridge). elim o [ None ↦ None | Some x ↦ if nat_lt k (places_in r ds t n x.a) && nat_lt k
+        (places_in r ds t n x.b) then Some x else None ]) b

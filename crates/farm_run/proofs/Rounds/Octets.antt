@@ -16,7 +16,8 @@ pub out_line-more : (who : Who) (w : ℕ) (ts : List CallPeriod) → out_line wh
 out_line-more who zero ts = sym (append-nil (out_line who ts))
 out_line-more who (suc w) [] = refl
 out_line-more who (suc w) (t ∷ past) =
-    ap (λ (xs : List ℕ). xs ++ out_of who (t ∷ past)) (out_line-more who w past) ∙ append_assoc (out_line who (drop w past)) (outs_of who w past) (out_of who (t ∷ past))
+    ap (λ (xs : List ℕ). xs ++ out_of who (t ∷ past)) (out_line-more who w past)
+    ∙ append_assoc (out_line who (drop w past)) (outs_of who w past) (out_of who (t ∷ past))
 
 -- **So is the Down line.**
 pub down_octets-more : (who : Who) (w : ℕ) (ts : List CallPeriod) → down_octets who ts ≡ down_octets who (drop w ts) ++ downs_of who w ts
@@ -34,9 +35,13 @@ drop-periods_to r c m zero = let e : m + 0 ≡ m = omega arith in ap (periods_to
 drop-periods_to r c m (suc w) = let e : m + suc w ≡ suc (m + w) = omega arith in ap (λ (k : ℕ). drop (suc w) (periods_to r c k)) e ∙ drop-periods_to r c m w
 
 -- **What w periods of a call add to its lines.**
-pub out_of_periods : (r : Run) (c m w : ℕ) → out_line (who_in r c) (periods_to r c (m + w)) ≡ out_line (who_in r c) (periods_to r c m) ++ outs_of (who_in r c) w (periods_to r c (m + w))
-out_of_periods r c m w = out_line-more (who_in r c) w (periods_to r c (m + w)) ∙ ap (λ (ts : List CallPeriod). out_line (who_in r c) ts ++ outs_of (who_in r c) w (periods_to r c (m + w))) (drop-periods_to r c m w)
+pub out_of_periods : (r : Run) (c m w : ℕ) → out_line (who_in r c) (periods_to r c (m + w))
+    ≡ out_line (who_in r c) (periods_to r c m) ++ outs_of (who_in r c) w (periods_to r c (m + w))
+out_of_periods r c m w = out_line-more (who_in r c) w (periods_to r c (m + w))
+    ∙ ap (λ (ts : List CallPeriod). out_line (who_in r c) ts ++ outs_of (who_in r c) w (periods_to r c (m + w))) (drop-periods_to r c m w)
 
 -- the same of the downlink
-pub down_of_periods : (r : Run) (c m w : ℕ) → down_octets (who_in r c) (periods_to r c (m + w)) ≡ down_octets (who_in r c) (periods_to r c m) ++ downs_of (who_in r c) w (periods_to r c (m + w))
-down_of_periods r c m w = down_octets-more (who_in r c) w (periods_to r c (m + w)) ∙ ap (λ (ts : List CallPeriod). down_octets (who_in r c) ts ++ downs_of (who_in r c) w (periods_to r c (m + w))) (drop-periods_to r c m w)
+pub down_of_periods : (r : Run) (c m w : ℕ) → down_octets (who_in r c) (periods_to r c (m + w))
+    ≡ down_octets (who_in r c) (periods_to r c m) ++ downs_of (who_in r c) w (periods_to r c (m + w))
+down_of_periods r c m w = down_octets-more (who_in r c) w (periods_to r c (m + w))
+    ∙ ap (λ (ts : List CallPeriod). down_octets (who_in r c) ts ++ downs_of (who_in r c) w (periods_to r c (m + w))) (drop-periods_to r c m w)

@@ -36,7 +36,8 @@ and_other false false = refl
 pub both_calls : (p : ℕ → Bool) (c : ℕ) (x : Bridge) → joins c x ≡ true → (p x.a && p x.b) ≡ (p c && p (other c x))
 both_calls p c x j = elim (cases_Bool (c == x.a)) [
   | inl e ↦ ap (λ (d : ℕ). p d && p x.b) (sym (eqb-true c x.a e)) ∙ ap (λ (t : Bool). p c && p (if t then x.b else x.a)) (sym e)
-  | inr e ↦ and_other (p x.a) (p x.b) ∙ ap (λ (d : ℕ). p d && p x.a) (sym (eqb-true c x.b (second (c == x.a) (c == x.b) e j))) ∙ ap (λ (t : Bool). p c && p (if t then x.b else x.a)) (sym e)
+  | inr e ↦ and_other (p x.a) (p x.b) ∙ ap (λ (d : ℕ). p d && p x.a) (sym (eqb-true c x.b (second (c == x.a) (c == x.b) e j)))
+      ∙ ap (λ (t : Bool). p c && p (if t then x.b else x.a)) (sym e)
 ]
   where
     second : (p q : Bool) → p ≡ false → (p || q) ≡ true → q ≡ true
@@ -46,7 +47,8 @@ both_calls p c x j = elim (cases_Bool (c == x.a)) [
 other_back : (c : ℕ) (x : Bridge) → joins c x ≡ true → other (other c x) x ≡ c
 other_back c x j = elim (cases_Bool (c == x.a)) [
   | inl e ↦ ap (λ (t : Bool). other (if t then x.b else x.a) x) e ∙ either (x.b == x.a) refl ∙ sym (eqb-true c x.a e)
-  | inr e ↦ ap (λ (t : Bool). other (if t then x.b else x.a) x) e ∙ ap (λ (t : Bool). if t then x.b else x.a) (eq-eqb x.a x.a refl) ∙ sym (eqb-true c x.b (second (c == x.a) (c == x.b) e j))
+  | inr e ↦ ap (λ (t : Bool). other (if t then x.b else x.a) x) e ∙ ap (λ (t : Bool). if t then x.b else x.a) (eq-eqb x.a x.a refl)
+      ∙ sym (eqb-true c x.b (second (c == x.a) (c == x.b) e j))
 ]
   where
     second : (p q : Bool) → p ≡ false → (p || q) ≡ true → q ≡ true
@@ -70,7 +72,8 @@ record ArePartners (r : Run) (t n : ℕ) (ds : List Done) (c d : ℕ) (x : Bridg
   pub fed_other : IsFed r ds t n d io'
 
 -- what ties the two calls of a bridge goes both ways
-swapped : (r : Run) (t n : ℕ) (ds : List Done) (c d : ℕ) (x : Bridge) (io io' : IoMemory) → ArePartners r t n ds c d x io io' → ArePartners r t n ds d c x io' io
+swapped : (r : Run) (t n : ℕ) (ds : List Done) (c d : ℕ) (x : Bridge) (io io' : IoMemory) → ArePartners r t n ds c d x io io' →
+    ArePartners r t n ds d c x io' io
 swapped r t n ds c d x io io' p = record {
   alive = p.alive_other;
   alive_other = p.alive;
@@ -112,7 +115,8 @@ abbrev item_in : Run → List Done → ℕ → ℕ → List ℕ
 item_in r ds u d = item_of d (ups_to r d (u + 1 - start_of ds d))
 
 -- in a period of the round a call is handed its partner's item, as long as the partner has a place
-handed_is : (r : Run) (t n : ℕ) (ds : List Done) (left : List Order) (c d k : ℕ) (x : Bridge) (io io' : IoMemory) → IsRound r t n ds left → ArePartners r t n ds c d x io io' → k < io.given →
+handed_is : (r : Run) (t n : ℕ) (ds : List Done) (left : List Order) (c d k : ℕ) (x : Bridge) (io io' : IoMemory) → IsRound r t n ds left →
+    ArePartners r t n ds c d x io io' → k < io.given →
     handed_now r ds (t + k) c ≡ (if nat_lt k io'.given then Some (item_in r ds (t + k) d) else None)
 handed_is r t n ds left c d k x io io' h p l =
     let given = p.fed.given in
@@ -122,16 +126,19 @@ handed_is r t n ds left c d k x io io' h p l =
     both_calls places c x p.joined ∙ ap (λ (t : Bool). t && places (other c x)) mine ∙ ap places p.partner ∙ ap (nat_lt k) (sym p.fed_other.given) in
     ap (option_map (λ (x : Bridge). item_in r ds (t + k) (other c x)))
     (bridge_at_place r t n ds left c k h (omega arith)
-    ∙ ap (λ (o : Option Bridge). elim o [ None ↦ None | Some x ↦ if nat_lt k (places_in r ds t n x.a) && nat_lt k (places_in r ds t n x.b) then Some x else None ]) p.bridge
+    ∙ ap (λ (o : Option Bridge). elim o [ None ↦ None | Some x ↦ if nat_lt k (places_in r ds t n x.a) && nat_lt k
+    (places_in r ds t n x.b) then Some x else None ]) p.bridge
     ∙ ap (λ (t : Bool). if t then Some x else None) both)
     ∙ by (nat_lt k io'.given)
   where
-    by : (b : Bool) → option_map (λ (x : Bridge). item_in r ds (t + k) (other c x)) (if b then Some x else None) ≡ (if b then Some (item_in r ds (t + k) d) else None)
+    by : (b : Bool) → option_map (λ (x : Bridge). item_in r ds (t + k) (other c x)) (if b then Some x else None)
+        ≡ (if b then Some (item_in r ds (t + k) d) else None)
     by true = ap (λ (d : ℕ). Some (item_in r ds (t + k) d)) p.partner
     by false = refl
 
 -- what a call hands over in a place is its item
-item_is : (r : Run) (t n : ℕ) (ds : List Done) (d k : ℕ) (io : IoMemory) (ts : List CallPeriod) → IsOpenAt r t ds d → IsFed r ds t n d io → k < io.given → ts ≡ periods_to r d (t + k - start_of ds d) →
+item_is : (r : Run) (t n : ℕ) (ds : List Done) (d k : ℕ) (io : IoMemory) (ts : List CallPeriod) → IsOpenAt r t ds d → IsFed r ds t n d io → k < io.given →
+    ts ≡ periods_to r d (t + k - start_of ds d) →
     bits260 (handed_fields (effective_now io.call (period_at k (start_at r ds t d io) None ∷ ts))) ≡ item_in r ds (t + k) d
 item_is r t n ds d k io ts o f l e =
     let begun = o.begun in
@@ -146,7 +153,8 @@ item_is r t n ds d k io ts o f l e =
 -- ---- the periods
 
 -- period by period, for the first k of them
-bridged_go : (r : Run) (t n : ℕ) (ds : List Done) (left : List Order) (c d k : ℕ) (x : Bridge) (io io' : IoMemory) → IsRound r t n ds left → ArePartners r t n ds c d x io io' → k ≤ io.given →
+bridged_go : (r : Run) (t n : ℕ) (ds : List Done) (left : List Order) (c d k : ℕ) (x : Bridge) (io io' : IoMemory) → IsRound r t n ds left →
+    ArePartners r t n ds c d x io io' → k ≤ io.given →
     bridged_periods k (start_at r ds t c io) (start_at r ds t d io') ≡ periods_to r c (t + k - start_of ds c)
 bridged_go r t n ds left c d zero x io io' h p l = let e : t ≡ t + 0 = omega arith in ap (λ (u : ℕ). periods_to r c (u - start_of ds c)) e
 bridged_go r t n ds left c d (suc k) x io io' h p l =
@@ -157,7 +165,8 @@ bridged_go r t n ds left c d (suc k) x io io' h p l =
     let same : handed_at k b past ≡ (if nat_lt k io'.given then Some (item_in r ds (t + k) d) else None) = elim (cases_lt k io'.given) [
       | inl m ↦
           ap (λ (t : Bool). if t then Some item else None) (lt-ltb k io'.given m)
-          ∙ ap Some (item_is r t n ds d k io' past p.alive_other p.fed_other m (bridged_go r t n ds left d c k x io' io h (swapped r t n ds c d x io io' p) (omega arith)))
+          ∙ ap Some (item_is r t n ds d k io' past p.alive_other p.fed_other m
+          (bridged_go r t n ds left d c k x io' io h (swapped r t n ds c d x io io' p) (omega arith)))
           ∙ sym (ap (λ (s : Bool). if s then Some (item_in r ds (t + k) d) else None) (lt-ltb k io'.given m))
       | inr m ↦
           ap (λ (t : Bool). if t then Some item else None) (le-ltb k io'.given m)
@@ -170,7 +179,8 @@ bridged_go r t n ds left c d (suc k) x io io' h p l =
 pub bridged_worked : (r : Run) (t n : ℕ) (ds : List Done) (left : List Order) (c : ℕ) (x : Bridge) (io io' : IoMemory) → IsRound r t n ds left →
     bridge_of (gone_at (whole_in r) t ds) ds c ≡ Some x → IsFed r ds t n c io → IsFed r ds t n (other c x) io' →
     bridged_periods io.given (start_at r ds t c io) (start_at r ds t (other c x) io') ≡ periods_to r c (t + io.given - start_of ds c)
-bridged_worked r t n ds left c x io io' h b f g = bridged_go r t n ds left c (other c x) io.given x io io' h (partners r t n ds left c x io io' h b f g) (omega arith)
+bridged_worked r t n ds left c x io io' h b f g =
+    bridged_go r t n ds left c (other c x) io.given x io io' h (partners r t n ds left c x io io' h b f g) (omega arith)
 
 -- ---- what is set after the round
 
@@ -180,7 +190,8 @@ pub bridged_settings : (r : Run) (t n : ℕ) (ds : List Done) (left : List Order
     bridge_of (gone_at (whole_in r) t ds) ds c ≡ Some x → IsFed r ds t n c io → IsFed r ds t n (other c x) io' → io.given ≡ n →
     settings_past io.given io'.given (settings_now r ds t c) ≡ settings_now r ds (t + io.given) c
 bridged_settings r t n ds left c x io io' h b f g all =
-    ap (λ (k : ℕ). settings_past k io'.given (settings_now r ds t c)) all ∙ off (nat_lt io'.given n) refl ∙ ap (λ (k : ℕ). settings_now r ds (t + k) c) (sym all)
+    ap (λ (k : ℕ). settings_past k io'.given (settings_now r ds t c)) all ∙ off (nat_lt io'.given n) refl
+    ∙ ap (λ (k : ℕ). settings_now r ds (t + k) c) (sym all)
   where
     parts : (joins c x ≡ true) × (is_open (gone_at (whole_in r) t ds) ds x.a ≡ true) × (is_open (gone_at (whole_in r) t ds) ds x.b ≡ true)
     parts = bridge_open r t ds c x b
@@ -197,14 +208,18 @@ bridged_settings r t n ds left c x io io' h b f g all =
     lasting : is_some (bridge_of (gone_at (whole_in r) (t + n) ds) ds c) ≡ not (nat_lt io'.given n)
     lasting =
         let mine : whole c ≡ true = eq-eqb (places_in r ds t n c) n (sym f.given ∙ all) in
-        ap is_some (bridge_after_round r t n ds left c h ∙ ap (λ (o : Option Bridge). elim o [ None ↦ None | Some x ↦ if places_in r ds t n x.a == n && places_in r ds t n x.b == n then Some x else None ]) b)
-        ∙ ap (λ (t : Bool). is_some (if t then Some x else None)) (both_calls whole c x parts.0 ∙ ap (λ (t : Bool). t && whole (other c x)) mine ∙ ap (λ (k : ℕ). k == n) (sym g.given))
+        ap is_some (bridge_after_round r t n ds left c h
+        ∙ ap (λ (o : Option Bridge). elim o [ None ↦ None | Some x ↦ if places_in r ds t n x.a == n && places_in r ds t n x.b == n then Some x else None ]) b)
+        ∙ ap (λ (t : Bool). is_some (if t then Some x else None)) (both_calls whole c x parts.0 ∙ ap (λ (t : Bool). t && whole (other c x)) mine
+        ∙ ap (λ (k : ℕ). k == n) (sym g.given))
         ∙ turned (io'.given == n) ∙ sym (ap not fewer)
       where
         turned : (t : Bool) → is_some (if t then Some x else None) ≡ not (not t)
         turned true = refl
         turned false = refl
 
-    off : (s : Bool) → nat_lt io'.given n ≡ s → (if s then without_bridge (settings_at n (settings_now r ds t c)) else settings_at n (settings_now r ds t c)) ≡ settings_now r ds (t + n) c
+    off : (s : Bool) → nat_lt io'.given n ≡ s → (if s then without_bridge (settings_at n (settings_now r ds t c)) else settings_at n (settings_now r ds t c))
+        ≡ settings_now r ds (t + n) c
     off true e = but_for_bridge _ _ (settings_kept r t n ds left c n h (omega arith)) (sym (lasting ∙ ap not e))
-    off false e = but_for_bridge _ _ (settings_kept r t n ds left c n h (omega arith)) (bridge_kept n (settings_now r ds t c) ∙ ap is_some b ∙ sym (lasting ∙ ap not e))
+    off false e =
+        but_for_bridge _ _ (settings_kept r t n ds left c n h (omega arith)) (bridge_kept n (settings_now r ds t c) ∙ ap is_some b ∙ sym (lasting ∙ ap not e))

@@ -26,12 +26,15 @@ still_told (Some zs) None front xs c e = absurd c
 still_told (Some zs) (Some ys) front xs c e = (ys, refl)
 
 -- one line
-given : (m c : ℕ) (s : Side) (k : ℕ) (line : List ℕ) (was now : LineState) (t : Taken) (block : List ℕ) (behind last : Standing) → IsIncoming s → Takes was now t block → length block ≡ m →
-    IsToCome was k line (never_given (last.listed c s) (last.lines c s)) → StandingGoesOn behind last → behind.lines c s ≡ now → behind.listed c s ≡ t.failed → (t.count < m → behind.over c ≡ true) →
+given : (m c : ℕ) (s : Side) (k : ℕ) (line : List ℕ) (was now : LineState) (t : Taken) (block : List ℕ) (behind last : Standing) → IsIncoming s →
+    Takes was now t block → length block ≡ m →
+    IsToCome was k line (never_given (last.listed c s) (last.lines c s)) → StandingGoesOn behind last → behind.lines c s ≡ now → behind.listed c s ≡ t.failed →
+    (t.count < m → behind.over c ≡ true) →
     GaveBlock m k line (never_given (last.listed c s) (last.lines c s)) (last.listed c s) now t block
 given m c s k line was now t block behind last i h long told on here listed ends =
     let ys = still_told was.to_come now.to_come (take t.count block) _ h.given told in
-    let met = meets m c s behind last t ys.0 i on (ap (λ (l : LineState). l.to_come) here ∙ ys.1) listed (omega (arith, h.bound, long)) (λ e. let l = h.short e in omega (arith, l, long)) ends in
+    let met = meets m c s behind last t ys.0 i on (ap (λ (l : LineState). l.to_come) here ∙ ys.1) listed (omega (arith, h.bound, long))
+    (λ e. let l = h.short e in omega (arith, l, long)) ends in
     gave m k line (never_given (last.listed c s) (last.lines c s)) (last.listed c s) was now t block h long told
     (subst (λ (l : LineState). Meets m (never_given (last.listed c s) (last.lines c s)) (last.listed c s) l t) here met)
 
@@ -45,13 +48,16 @@ pub record IsMet (r : Run) (ds : List Done) (t n c : ℕ) (now : Side → LineSt
 pub met : (r : Run) (ds : List Done) (t n c : ℕ) (before now : Side → LineState) (s x : SeatMemory) (behind last : Standing) →
     Fills before now s x → x.place.call ≡ c → x.place.periods ≡ n → length x.up ≡ 40 * n → length x.pcm ≡ 160 * n →
     StandingGoesOn behind last → (r.lines c).up_failed ≡ last.listed c Up → (r.lines c).pcm_failed ≡ last.listed c Pcm →
-    ((side : Side) → IsIncoming side → behind.listed c side ≡ fails_in x.place side) → (places.whole_in x.place < n → behind.over c ≡ true) → ((side : Side) → IsIncoming side → behind.lines c side ≡ now side) →
+    ((side : Side) → IsIncoming side → behind.listed c side ≡ fails_in x.place side) → (places.whole_in x.place < n → behind.over c ≡ true) →
+    ((side : Side) → IsIncoming side → behind.lines c side ≡ now side) →
     IsToCome (before Up) (40 * (t - start_of ds c)) (r.lines c).up (never_given (last.listed c Up) (last.lines c Up)) →
     IsToCome (before Pcm) (160 * (t - start_of ds c)) (r.lines c).pcm (never_given (last.listed c Pcm) (last.lines c Pcm)) →
     IsMet r ds t n c now x last
 met r ds t n c before now s x behind last f called long up_long pcm_long on up_flag pcm_flag listed over here up_told pcm_told =
-    let up = given (40 * n) c Up (40 * (t - start_of ds c)) (r.lines c).up (before Up) (now Up) x.place.up x.up behind last tt f.up up_long up_told on (here Up tt) (listed Up tt) (λ l. over (fewer_up x.place l)) in
-    let pcm = given (160 * n) c Pcm (160 * (t - start_of ds c)) (r.lines c).pcm (before Pcm) (now Pcm) x.place.pcm x.pcm behind last tt f.pcm pcm_long pcm_told on (here Pcm tt) (listed Pcm tt) (λ l. over (fewer_pcm x.place l)) in
+    let up = given (40 * n) c Up (40 * (t - start_of ds c)) (r.lines c).up (before Up) (now Up) x.place.up x.up behind last tt f.up up_long up_told on
+    (here Up tt) (listed Up tt) (λ l. over (fewer_up x.place l)) in
+    let pcm = given (160 * n) c Pcm (160 * (t - start_of ds c)) (r.lines c).pcm (before Pcm)
+    (now Pcm) x.place.pcm x.pcm behind last tt f.pcm pcm_long pcm_told on (here Pcm tt) (listed Pcm tt) (λ l. over (fewer_pcm x.place l)) in
     record {
       taken = record {
         call = called;

@@ -35,7 +35,8 @@ last_past r t ds left h = by ds (recursion_from_All _ ds h.past)
 -- ---- who is gone after the round
 
 -- **After a round those calls are gone that were gone at the clock, and those that their lines ended within it.**
-pub gone_round : (r : Run) (t n : ℕ) (ds : List Done) (c : ℕ) → is_some (opened_at c ds) ≡ true → closed_at c ds ≡ None → gone_at (whole_in r) (t + n) ds c ≡ (gone_at (whole_in r) t ds c || ends_within r ds t n c)
+pub gone_round : (r : Run) (t n : ℕ) (ds : List Done) (c : ℕ) → is_some (opened_at c ds) ≡ true → closed_at c ds ≡ None →
+    gone_at (whole_in r) (t + n) ds c ≡ (gone_at (whole_in r) t ds c || ends_within r ds t n c)
 gone_round r t n ds c o l = by (opened_at c ds) refl o
   where
     by : (x : Option ℕ) → opened_at c ds ≡ x → is_some x ≡ true → gone_at (whole_in r) (t + n) ds c ≡ (gone_at (whole_in r) t ds c || ends_within r ds t n c)
@@ -48,7 +49,8 @@ gone_round r t n ds c o l = by (opened_at c ds) refl o
           let stays : gone_at (whole_in r) t ds c ≡ false = gone_is (whole_in r) t ds c s e ∙ le-ltb (s + whole_in r c) t m in
           late (s + whole_in r c) t n m
           ∙ ap (λ (s : ℕ). nat_lt (min n (s + whole_in r c - t)) n) (sym (start_is ds c s e))
-          ∙ sym (ap (λ (b : Bool). b || ends_within r ds t n c) stays ∙ ap (λ (b : Bool). b && nat_lt (places_in r ds t n c) n) (open_from (gone_at (whole_in r) t ds) ds c s e l stays))
+          ∙ sym (ap (λ (b : Bool). b || ends_within r ds t n c) stays ∙ ap (λ (b : Bool). b && nat_lt (places_in r ds t n c) n)
+          (open_from (gone_at (whole_in r) t ds) ds c s e l stays))
     ]
       where
         late : (last t n : ℕ) → t ≤ last → nat_lt last (t + n) ≡ nat_lt (min n (last - t)) n
@@ -111,7 +113,8 @@ or_assoc true q s = refl
 or_assoc false q s = refl
 
 -- **Gone are then those calls that were gone, and those whose end is one of these.**
-pub gone_told : (s : State) (ends : List CallEnd) (c : ℕ) → AllByRecursion (λ e. e.call < length s.told) ends → gone_in (told_after s ends) c ≡ (gone_in s c || is_told c ends)
+pub gone_told : (s : State) (ends : List CallEnd) (c : ℕ) → AllByRecursion (λ e. e.call < length s.told) ends →
+    gone_in (told_after s ends) c ≡ (gone_in s c || is_told c ends)
 gone_told s [] c l = none (gone_in s c)
   where
     none : (b : Bool) → b ≡ (b || false)
@@ -129,7 +132,8 @@ gone_told s (e ∷ ends) c l =
 -- **The board tells the ends at the round's end, where it told them at the clock and was then told those of exactly the
 -- calls that their lines ended within the round.**
 pub tells_round : (r : Run) (t n : ℕ) (s : State) (ends : List CallEnd) → TellsEnds (whole_in r) t s → AllByRecursion (λ e. e.call < length s.told) ends →
-    ((c : ℕ) → is_some (opened_at c s.done) ≡ true → closed_at c s.done ≡ None → is_told c ends ≡ ends_within r s.done t n c) → TellsEnds (whole_in r) (t + n) (told_after s ends)
+    ((c : ℕ) → is_some (opened_at c s.done) ≡ true → closed_at c s.done ≡ None → is_told c ends ≡ ends_within r s.done t n c) →
+    TellsEnds (whole_in r) (t + n) (told_after s ends)
 tells_round r t n s ends h l each c o k =
     let same = told_done s ends in
     let opened : is_some (opened_at c s.done) ≡ true = ap (λ (ds : List Done). is_some (opened_at c ds)) (sym same) ∙ o in
@@ -163,12 +167,14 @@ before_round t n s ends h l = go s ends (λ c. by (told_in s c) (h c)) l
     go s (e ∷ ends) h l = go (told_more s e.call e.at) ends (before_more s (told_more s e.call e.at) e.call e.at refl (t + n) l.0 h) l.1
 
 -- What holds of each end that was told and of these holds of all that are told then.
-pub each_told : (P : ℕ → ℕ → Type 0) (s : State) (ends : List CallEnd) → ((c at : ℕ) → told_in s c ≡ Some at → P c at) → AllByRecursion (λ e. P e.call e.at) ends →
+pub each_told : (P : ℕ → ℕ → Type 0) (s : State) (ends : List CallEnd) → ((c at : ℕ) → told_in s c ≡ Some at → P c at) →
+    AllByRecursion (λ e. P e.call e.at) ends →
     (c at : ℕ) → told_in (told_after s ends) c ≡ Some at → P c at
 each_told P s [] h l = h
 each_told P s (d ∷ ends) h l = each_told P (told_more s d.call d.at) ends (more s.told d.call d.at l.0 h) l.1
   where
-    more : (xs : List (Option ℕ)) (i u : ℕ) → P i u → ((c at : ℕ) → get_or xs c None ≡ Some at → P c at) → (c at : ℕ) → get_or (set xs i (Some u)) c None ≡ Some at → P c at
+    more : (xs : List (Option ℕ)) (i u : ℕ) → P i u → ((c at : ℕ) → get_or xs c None ≡ Some at → P c at) → (c at : ℕ) →
+        get_or (set xs i (Some u)) c None ≡ Some at → P c at
     more xs i u p h c at e = elim (cases_Bool (c == i)) [
       | inl q ↦
           let same = eqb-true c i q in

@@ -34,7 +34,8 @@ told_step was now new ends i e l is n o h = subst (IsTold was new) (sym (front e
 })
 
 -- **Until then its call is open.**
-pub told_open : (was now : State) (ends : List CallEnd) (i : ℕ) (e : CallEnd) → AreApart ends → i < length ends → e ≡ get_or ends i e → open_now was e.call ≡ true → IsTold was now (take i ends) →
+pub told_open : (was now : State) (ends : List CallEnd) (i : ℕ) (e : CallEnd) → AreApart ends → i < length ends → e ≡ get_or ends i e →
+    open_now was e.call ≡ true → IsTold was now (take i ends) →
     open_now now e.call ≡ true
 told_open was now ends i e a l is o h = by (open_now was e.call) (is_told e.call (take i ends)) (h.is_open e.call) o (apart_front ends i e a l is)
   where
@@ -99,17 +100,20 @@ limits_apart at (c ∷ calls) r =
         by true q k = let e = eqb-true c d q in let l = h 0 (omega arith) in absurd (omega arith)
 
 -- the end of the call at a place
-pub limit_there : (at : ℕ) (calls : List ℕ) (i : ℕ) → i < length calls → limit_at at (get_or calls i 0) ≡ get_or (map (limit_at at) calls) i (limit_at at (get_or calls i 0))
+pub limit_there : (at : ℕ) (calls : List ℕ) (i : ℕ) → i < length calls →
+    limit_at at (get_or calls i 0) ≡ get_or (map (limit_at at) calls) i (limit_at at (get_or calls i 0))
 limit_there at [] i l = absurd (omega arith)
 limit_there at (c ∷ calls) zero l = refl
 limit_there at (c ∷ calls) (suc i) l = limit_there at calls i (omega arith)
 
 -- **Their calls are open no more, and where they are all that were open, no call is.**
-pub limits_open : (was now : State) (at : ℕ) (calls : List ℕ) → IsTold was now (map (limit_at at) calls) → (c : ℕ) → open_now now c ≡ (open_now was c && not (is_among calls c))
+pub limits_open : (was now : State) (at : ℕ) (calls : List ℕ) → IsTold was now (map (limit_at at) calls) → (c : ℕ) →
+    open_now now c ≡ (open_now was c && not (is_among calls c))
 limits_open was now at calls h c = h.is_open c ∙ ap (λ b. open_now was c && not b) (limits_told at c calls)
 
 -- where they are all that were open
-pub none_open : (was now : State) (at : ℕ) (calls : List ℕ) → IsTold was now (map (limit_at at) calls) → ((c : ℕ) → is_among calls c ≡ open_now was c) → (c : ℕ) → open_now now c ≡ false
+pub none_open : (was now : State) (at : ℕ) (calls : List ℕ) → IsTold was now (map (limit_at at) calls) → ((c : ℕ) → is_among calls c ≡ open_now was c) →
+    (c : ℕ) → open_now now c ≡ false
 none_open was now at calls h e c = limits_open was now at calls h c ∙ ap (λ b. open_now was c && not b) (e c) ∙ neither (open_now was c)
   where
     neither : (b : Bool) → (b && not b) ≡ false
@@ -120,9 +124,12 @@ none_open was now at calls h e c = limits_open was now at calls h c ∙ ap (λ b
 
 -- **After a round, whose ends were told and whose farm kept the calls that didn't end, the board and the farm stand at
 -- the clock behind it.**
-pub clock_round : (t n : ℕ) (b now : State) (groups groups' : List Group) (ends : List CallEnd) → AtClock t b groups → AllByRecursion (λ e. e.at < t + n) ends → IfSome (first_stamp b.left) (λ s. t + n ≤ s) →
-    now ≡ told_after b ends → ((c : ℕ) → open_now now c ≡ (open_now b c && not (is_told c ends))) → ((c : ℕ) → partner_now now c ≡ partner_past ends (partner_now b) c) →
-    ((c : ℕ) → is_some (call_in groups' c) ≡ (is_some (call_in groups c) && not (is_told c ends))) → ((c : ℕ) → partner_in groups' c ≡ partner_past ends (partner_in groups) c) → AtClock (t + n) now groups'
+pub clock_round : (t n : ℕ) (b now : State) (groups groups' : List Group) (ends : List CallEnd) → AtClock t b groups → AllByRecursion (λ e. e.at < t + n) ends →
+    IfSome (first_stamp b.left) (λ s. t + n ≤ s) →
+    now ≡ told_after b ends → ((c : ℕ) → open_now now c ≡ (open_now b c && not (is_told c ends))) →
+    ((c : ℕ) → partner_now now c ≡ partner_past ends (partner_now b) c) →
+    ((c : ℕ) → is_some (call_in groups' c) ≡ (is_some (call_in groups c) && not (is_told c ends))) →
+    ((c : ℕ) → partner_in groups' c ≡ partner_past ends (partner_in groups) c) → AtClock (t + n) now groups'
 clock_round t n b now groups groups' ends a before clear told o p c q =
     let past = a.past in
     let m = a.matches in

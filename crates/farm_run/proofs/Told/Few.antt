@@ -41,7 +41,8 @@ told_append c (x ∷ xs) ys = ap (λ (b : Bool). c == x.call || b) (told_append 
     assoc false q s = refl
 
 -- one that is neither noted before nor one of these
-pub not_noted : (noted ends : List CallEnd) (e : CallEnd) (now : List CallEnd) → now ≡ noted ++ ends → is_told e.call noted ≡ false → is_told e.call ends ≡ false → is_told e.call now ≡ false
+pub not_noted : (noted ends : List CallEnd) (e : CallEnd) (now : List CallEnd) → now ≡ noted ++ ends → is_told e.call noted ≡ false →
+    is_told e.call ends ≡ false → is_told e.call now ≡ false
 not_noted noted ends e now q f g = ap (is_told e.call) q ∙ told_append e.call noted ends ∙ both_none (is_told e.call noted) (is_told e.call ends) f g
 
 -- ---- few ends
@@ -58,7 +59,8 @@ distinct [] a = tt
 distinct (e ∷ ends) a = (others e.call ends a.0, distinct ends a.1)
 
 -- they are of calls that there can be
-below : (ends : List CallEnd) → AllByRecursion (λ e. IsCallNumber e.call) ends → (q : ℕ) → list_any (eqb q) (map (λ (e : CallEnd). e.call) ends) ≡ true → q < 4097
+below : (ends : List CallEnd) → AllByRecursion (λ e. IsCallNumber e.call) ends → (q : ℕ) →
+    list_any (eqb q) (map (λ (e : CallEnd). e.call) ends) ≡ true → q < 4097
 below [] n q e = cc
 below (d ∷ ends) n q e = elim (or_cases (q == d.call) (list_any (eqb q) (map (λ (e : CallEnd). e.call) ends)) e) [
   | inl h ↦ let same = eqb-true q d.call h in let l = n.0.1 in omega (arith, same, l)
@@ -67,7 +69,8 @@ below (d ∷ ends) n q e = elim (or_cases (q == d.call) (list_any (eqb q) (map (
 
 -- so there are no more than calls
 few : (ends : List CallEnd) → AreApart ends → AllByRecursion (λ e. IsCallNumber e.call) ends → length ends ≤ 4097
-few ends a n = let l = length-le_from_distinct_below (map (λ (e : CallEnd). e.call) ends) 4097 (distinct ends a) (below ends n) in omega (arith, l, length-map ends (λ (e : CallEnd). e.call))
+few ends a n = let l = length-le_from_distinct_below (map (λ (e : CallEnd). e.call) ends) 4097 (distinct ends a) (below ends n) in
+    omega (arith, l, length-map ends (λ (e : CallEnd). e.call))
 
 -- **There is room for one end more.**
 pub room_for : (ends : List CallEnd) (e : CallEnd) → AreApart ends → HaveNumbers ends → IsCallNumber e.call → is_told e.call ends ≡ false → length ends < 4097
@@ -93,17 +96,22 @@ new_ends s noted ends h o = λ i d l. none_noted s noted _ h (o i d l)
 -- a call whose end is told was open
 told_one : (s : State) (ends : List CallEnd) (c : ℕ) → AllByRecursion (λ e. open_now s e.call ≡ true) ends → is_told c ends ≡ true → open_now s c ≡ true
 told_one s [] c a e = cc
-told_one s (d ∷ ends) c a e = elim (or_cases (c == d.call) (is_told c ends) e) [ inl q ↦ ap (open_now s) (eqb-true c d.call q) ∙ a.0 | inr q ↦ told_one s ends c a.1 q ]
+told_one s (d ∷ ends) c a e = elim (or_cases (c == d.call) (is_told c ends) e) [
+  | inl q ↦ ap (open_now s) (eqb-true c d.call q) ∙ a.0
+  | inr q ↦ told_one s ends c a.1 q
+]
 
 -- **After these ends are told and noted all whose end is noted are open no more.**
-pub shut_more : (s n : State) (noted ends : List CallEnd) → AreShut s noted → AreOpen s ends → n ≡ told_after s ends → ((c : ℕ) → open_now n c ≡ (open_now s c && not (is_told c ends))) → AreShut n (noted ++ ends)
+pub shut_more : (s n : State) (noted ends : List CallEnd) → AreShut s noted → AreOpen s ends → n ≡ told_after s ends →
+    ((c : ℕ) → open_now n c ≡ (open_now s c && not (is_told c ends))) → AreShut n (noted ++ ends)
 shut_more s n noted ends h o told is c t =
     let done : n.done ≡ s.done = ap (λ (m : State). m.done) told ∙ told_done s ends in
     let opened : opened_now n c ≡ opened_now s c = ap (λ (ds : List Done). is_some (opened_at c ds)) done in
     elim (or_cases (is_told c noted) (is_told c ends) (sym (told_append c noted ends) ∙ t)) [
       | inl q ↦ let p = h c q in (opened ∙ p.0, is c ∙ ap (λ (x : Bool). x && not (is_told c ends)) p.1)
       | inr q ↦
-          (opened ∙ open_opened s c (told_one s ends c (recursion_from_All (λ e. open_now s e.call ≡ true) ends o) q), is c ∙ ap (λ (x : Bool). open_now s c && not x) q ∙ shut (open_now s c))
+          (opened ∙ open_opened s c (told_one s ends c (recursion_from_All (λ e. open_now s e.call ≡ true) ends o) q), is c
+          ∙ ap (λ (x : Bool). open_now s c && not x) q ∙ shut (open_now s c))
     ]
   where
     shut : (x : Bool) → (x && false) ≡ false
@@ -123,7 +131,8 @@ closes_once s noted (act.DtxSet n mode) h f = tt
 
 -- **After it all whose end is noted are open no more.**
 pub shut_ordered : (s n : State) (noted : List CallEnd) (a : Act) (period : ℕ) → AreShut s noted → Finds a (opened_now s) (open_now s) (partner_now s) →
-    ((c : ℕ) → opened_now n c ≡ opened_after a (opened_now s) c) → ((c : ℕ) → open_now n c ≡ open_after a (open_now s) c) → AreShut n (ends_noted a period noted)
+    ((c : ℕ) → opened_now n c ≡ opened_after a (opened_now s) c) → ((c : ℕ) → open_now n c ≡ open_after a (open_now s) c) →
+    AreShut n (ends_noted a period noted)
 shut_ordered s n noted (act.Opened m law) period h f op is c t =
     let p = h c t in
     let other : (c == m) ≡ false = is_false (c == m) (λ q. true≢false (sym (ap (opened_now s) (sym (eqb-true c m q)) ∙ p.0) ∙ f.1)) in
@@ -142,12 +151,15 @@ shut_ordered s n noted (act.LevelSet m level) period h f op is c t = let p = h c
 shut_ordered s n noted (act.DtxSet m mode) period h f op is c t = let p = h c t in (op c ∙ p.0, is c ∙ p.1)
 
 -- **.. and after a refused one.**
-pub shut_same : (s n : State) (noted : List CallEnd) → AreShut s noted → ((c : ℕ) → opened_now n c ≡ opened_now s c) → ((c : ℕ) → open_now n c ≡ open_now s c) → AreShut n noted
+pub shut_same : (s n : State) (noted : List CallEnd) → AreShut s noted → ((c : ℕ) → opened_now n c ≡ opened_now s c) →
+    ((c : ℕ) → open_now n c ≡ open_now s c) → AreShut n noted
 shut_same s n noted h op is c t = let p = h c t in (op c ∙ p.0, is c ∙ p.1)
 
 -- the calls that are open at the run's end
-pub new_limits : (s : State) (noted : List CallEnd) (at : ℕ) (calls : List ℕ) → AreShut s noted → All (λ c. open_now s c ≡ true) calls → AreNew noted (map (limit_at at) calls)
-new_limits s noted at calls h o = All-from_recursion (λ e. is_told e.call noted ≡ false) (map (limit_at at) calls) (each calls (recursion_from_All (λ c. open_now s c ≡ true) calls o))
+pub new_limits : (s : State) (noted : List CallEnd) (at : ℕ) (calls : List ℕ) → AreShut s noted → All (λ c. open_now s c ≡ true) calls →
+    AreNew noted (map (limit_at at) calls)
+new_limits s noted at calls h o =
+    All-from_recursion (λ e. is_told e.call noted ≡ false) (map (limit_at at) calls) (each calls (recursion_from_All (λ c. open_now s c ≡ true) calls o))
   where
     each : (calls : List ℕ) → AllByRecursion (λ c. open_now s c ≡ true) calls → AllByRecursion (λ e. is_told e.call noted ≡ false) (map (limit_at at) calls)
     each [] o = tt
@@ -160,5 +172,6 @@ pub orders_long : (s : State) → length (orders_of s) ≡ length s.done + lengt
 orders_long s = length-append (map (λ (d : Done). d.order) s.done) s.left ∙ ap (λ (n : ℕ). n + length s.left) (length-map s.done (λ (d : Done). d.order))
 
 -- **An order that was left is executed.**
-pub one_more : (b n : State) → length n.left + 1 ≡ length b.left → orders_of n ≡ orders_of b → (length b.done < length (orders_of b)) × (length n.done ≡ length b.done + 1)
+pub one_more : (b n : State) → length n.left + 1 ≡ length b.left → orders_of n ≡ orders_of b →
+    (length b.done < length (orders_of b)) × (length n.done ≡ length b.done + 1)
 one_more b n fewer kept = (omega (arith, fewer, orders_long b), omega (arith, fewer, orders_long b, orders_long n, ap length kept))

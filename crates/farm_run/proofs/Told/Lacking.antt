@@ -13,7 +13,8 @@ use Rattle.farm_rounds.specs.Working.{goes_on_call}
 use Rattle.farm_run.specs.Going.{is_told}
 
 -- what holds of each seat's end, if it has one, holds of all ends
-pub each_told : (Q : CallEnd → Type 0) (t : ℕ) (seats : List SeatMemory) → ((k : ℕ) → k < length seats → IfSome (seat_end t (seat_at seats k)) Q) → AllByRecursion Q (filter_map (seat_end t) seats)
+pub each_told : (Q : CallEnd → Type 0) (t : ℕ) (seats : List SeatMemory) → ((k : ℕ) → k < length seats → IfSome (seat_end t (seat_at seats k)) Q) →
+    AllByRecursion Q (filter_map (seat_end t) seats)
 each_told Q t [] h = tt
 each_told Q t (s ∷ seats) h = by (seat_end t s) (h 0 (omega arith)) (each_told Q t seats (λ k l. h (suc k) (omega arith)))
   where
@@ -34,7 +35,8 @@ apart_test : (c d : ℕ) → c < d → ((c == d) ≡ false) × ((d == c) ≡ fal
 apart_test c d l = (ne_eqb c d (λ e. omega arith), ne_eqb d c (λ e. omega arith))
 
 -- of a call whose number lies before all seats' nothing is told, and it has no seat
-none_above : (t c : ℕ) (seats : List SeatMemory) → ((j : ℕ) → j < length seats → c < call_at seats j) → (is_told c (filter_map (seat_end t) seats) ≡ false) × (goes_on_call seats c ≡ false)
+none_above : (t c : ℕ) (seats : List SeatMemory) → ((j : ℕ) → j < length seats → c < call_at seats j) →
+    (is_told c (filter_map (seat_end t) seats) ≡ false) × (goes_on_call seats c ≡ false)
 none_above t c [] h = (refl, refl)
 none_above t c (x ∷ seats) h =
     let rest = none_above t c seats (λ j l. h (suc j) (omega arith)) in
@@ -49,14 +51,16 @@ none_above t c (x ∷ seats) h =
     more false q e = ap (λ b. b || is_told c (filter_map (seat_end t) seats)) q ∙ e
 
 -- **Of a call that has a seat the end is told exactly where it doesn't go on.**
-pub told_goes : (t : ℕ) (seats : List SeatMemory) → Rising seats → (c : ℕ) → has_call seats c ≡ true → is_told c (filter_map (seat_end t) seats) ≡ not (goes_on_call seats c)
+pub told_goes : (t : ℕ) (seats : List SeatMemory) → Rising seats → (c : ℕ) → has_call seats c ≡ true →
+    is_told c (filter_map (seat_end t) seats) ≡ not (goes_on_call seats c)
 told_goes t [] r c h = cc
 told_goes t (s ∷ seats) r c h = elim (cases_Bool (s.place.call == c)) [
   | inl q ↦
       let e = eqb-true s.place.call c q in
       let above = none_above t c seats (λ j l. let k = r 0 (suc j) (omega arith) (omega arith) in omega (arith, k, e)) in
       here (goes_on_in s) (s.place.call == c) q (eq-eqb c s.place.call (sym e)) above.0 above.1
-  | inr q ↦ there (goes_on_in s) (s.place.call == c) q (ne_eqb c s.place.call (λ e. let f : (s.place.call == c) ≡ true = eq-eqb s.place.call c (sym e) in no (s.place.call == c) q f))
+  | inr q ↦ there (goes_on_in s) (s.place.call == c) q
+      (ne_eqb c s.place.call (λ e. let f : (s.place.call == c) ≡ true = eq-eqb s.place.call c (sym e) in no (s.place.call == c) q f))
       (told_goes t seats (λ i j l k. r (suc i) (suc j) (omega arith) (omega arith)) c (rest (s.place.call == c) q h))
 ]
   where

@@ -83,13 +83,15 @@ module _ (was : ℕ → Option ℕ) (both : (c p : ℕ) → was c ≡ Some p →
 
       by : (o : Option ℕ) → was e.call ≡ o → is_this c (if is_told e.call ends || has_left o ends then None else o) ≡ (e.call == p)
       by None q =
-          ap (is_this c) (none_if (is_told e.call ends || false)) ∙ sym (is_false (e.call == p) (λ h. let g : was e.call ≡ Some c = ap was (eqb-true e.call p h) ∙ both c p k in cc))
+          ap (is_this c) (none_if (is_told e.call ends || false)) ∙ sym
+          (is_false (e.call == p) (λ h. let g : was e.call ≡ Some c = ap was (eqb-true e.call p h) ∙ both c p k in cc))
       by (Some d) q = elim (cases_Bool (e.call == p)) [
         | inl h ↦
             let g : Some d ≡ Some c = sym q ∙ ap was (eqb-true e.call p h) ∙ both c p k in
             let f = some d c g in
             pick (is_told d ends) (Some d) (ap (λ m. is_told m ends) f ∙ l) ∙ eq-eqb c d (sym f) ∙ sym h
-        | inr h ↦ apart (is_told e.call ends || is_told d ends) (λ f. let g : Some e.call ≡ Some p = sym (both e.call d q) ∙ ap was (sym (eqb-true c d f)) ∙ k in let m = eq-eqb e.call p (some e.call p g) in cc) ∙ sym h
+        | inr h ↦ apart (is_told e.call ends || is_told d ends) (λ f. let g : Some e.call ≡ Some p = sym (both e.call d q) ∙ ap was (sym (eqb-true c d f))
+            ∙ k in let m = eq-eqb e.call p (some e.call p g) in cc) ∙ sym h
       ]
         where
           apart : (s : Bool) → ((c == d) ≡ true → ⊥) → is_this c (if s then None else Some d) ≡ false
@@ -97,7 +99,8 @@ module _ (was : ℕ → Option ℕ) (both : (c p : ℕ) → was c ≡ Some p →
           apart false f = is_false (c == d) f
 
   -- **So it is with one end more.**
-  pub partner_more : (now : ℕ → Option ℕ) → ((c : ℕ) → now c ≡ partner_past ends was c) → (c : ℕ) → partner_without e.call now c ≡ partner_past (ends ++ e ∷ []) was c
+  pub partner_more : (now : ℕ → Option ℕ) → ((c : ℕ) → now c ≡ partner_past ends was c) → (c : ℕ) →
+      partner_without e.call now c ≡ partner_past (ends ++ e ∷ []) was c
   partner_more now h c =
       ap (λ o. if c == e.call || is_this c o then None else now c) (h e.call)
       ∙ ap (λ o. if c == e.call || is_this c (partner_past ends was e.call) then None else o) (h c)
@@ -105,7 +108,8 @@ module _ (was : ℕ → Option ℕ) (both : (c p : ℕ) → was c ≡ Some p →
       ∙ ap (λ b. if b || (has_left (was c) ends || is_this e.call (was c)) then None else was c) (sym (any_next (λ d. c == d.call) ends e))
       ∙ ap (λ b. if is_told c (ends ++ e ∷ []) || b then None else was c) (sym (left_next (was c) ends e))
     where
-      step : (p : ℕ) (n j s t q : Bool) → (s ≡ false → j ≡ q) → (if n || j then None else if s || t then None else Some p) ≡ (if (s || n) || (t || q) then None else Some p)
+      step : (p : ℕ) (n j s t q : Bool) → (s ≡ false → j ≡ q) → (if n || j then None else if s || t then None else Some p)
+          ≡ (if (s || n) || (t || q) then None else Some p)
       step p true j true t q h = refl
       step p true j false t q h = refl
       step p false true true t q h = refl
@@ -117,7 +121,8 @@ module _ (was : ℕ → Option ℕ) (both : (c p : ℕ) → was c ≡ Some p →
       step p false false false false false h = refl
       step p false false false false true h = let k = h refl in cc
 
-      by : (o : Option ℕ) → was c ≡ o → (if c == e.call || is_this c (partner_past ends was e.call) then None else if is_told c ends || has_left o ends then None else o)
+      by : (o : Option ℕ) → was c ≡ o →
+          (if c == e.call || is_this c (partner_past ends was e.call) then None else if is_told c ends || has_left o ends then None else o)
           ≡ (if (is_told c ends || c == e.call) || (has_left o ends || is_this e.call o) then None else o)
       by None q =
           ap (λ o. if c == e.call || is_this c (partner_past ends was e.call) then None else o) (none_if (is_told c ends || false))
@@ -148,7 +153,8 @@ apart_front (d ∷ ends) (suc i) e a l is = by (e.call == d.call) refl (apart_fr
     by true q h = let g = eq-eqb d.call e.call (sym (eqb-true e.call d.call q)) in let f = among d.call ends i e (omega arith) is a.0 in cc
 
 -- **One end more is noted.**
-pub noted_more : (ends : List CallEnd) (i : ℕ) (e : CallEnd) (start old new : JournalMemory) → i < length ends → e ≡ get_or ends i e → new ≡ with_end e old → old ≡ with_ends (take i ends) start → new ≡ with_ends (take (i + 1) ends) start
+pub noted_more : (ends : List CallEnd) (i : ℕ) (e : CallEnd) (start old new : JournalMemory) → i < length ends → e ≡ get_or ends i e → new ≡ with_end e old →
+    old ≡ with_ends (take i ends) start → new ≡ with_ends (take (i + 1) ends) start
 noted_more ends i e start old new l is n h =
     n ∙ ap (with_end e) h ∙ ap (λ es. record start { ends = es }) (append_assoc start.ends (take i ends) (e ∷ []))
     ∙ ap (λ es. with_ends es start) (sym (front ends i e l is))

@@ -39,8 +39,10 @@ abbrev call_is : CallEnd → ℕ
 call_is e = e.call
 
 module _ (r : Run) (t n : ℕ) (b : State) (farm after : FarmMemory) (first before now : ℕ → Side → LineState) (ends : List CallEnd)
-    (w : WorkedRound t n farm after before now ends) (h : IsRound r t n b.done b.left) (m : Matches b farm.groups) (b' : State) (last : Standing) (at : IsAtClock r t b farm.groups last first before)
-    (meets : MeetsRun r n w.filled (standing b' after.failed now) last) (a : AtClock t b farm.groups) (knows : KnowsListed b farm.groups farm.failed) (told : b' ≡ told_after b ends)
+    (w : WorkedRound t n farm after before now ends) (h : IsRound r t n b.done b.left) (m : Matches b farm.groups) (b' : State) (last : Standing)
+    (at : IsAtClock r t b farm.groups last first before)
+    (meets : MeetsRun r n w.filled (standing b' after.failed now) last) (a : AtClock t b farm.groups) (knows : KnowsListed b farm.groups farm.failed)
+    (told : b' ≡ told_after b ends)
     (open_then : (c : ℕ) → open_now b' c ≡ (open_now b c && not (is_told c ends))) where
   -- whether a call is open at the clock
   abbrev pub alive : ℕ → Bool
@@ -82,10 +84,13 @@ module _ (r : Run) (t n : ℕ) (b : State) (farm after : FarmMemory) (first befo
       (all_have_seats r t n b farm after first before now ends w h m b' last at meets) c
 
   -- each is the run's end of its call
-  pub ends_are : AllByRecursion (λ e. (ends_within r b.done t n e.call ≡ true) × (e ≡ end_of (given_in r) r.periods (done_in r) e.call (start_of b.done e.call))) ends
-  ends_are = subst (AllByRecursion (λ e. (ends_within r b.done t n e.call ≡ true) × (e ≡ end_of (given_in r) r.periods (done_in r) e.call (start_of b.done e.call))))
+  pub ends_are : AllByRecursion (λ e. (ends_within r b.done t n e.call ≡ true)
+      × (e ≡ end_of (given_in r) r.periods (done_in r) e.call (start_of b.done e.call))) ends
+  ends_are =
+      subst (AllByRecursion (λ e. (ends_within r b.done t n e.call ≡ true) × (e ≡ end_of (given_in r) r.periods (done_in r) e.call (start_of b.done e.call))))
       (sym (ends_filled r t n b farm after first before now ends w h m b' last at meets))
-      (each_end (λ e. (ends_within r b.done t n e.call ≡ true) × (e ≡ end_of (given_in r) r.periods (done_in r) e.call (start_of b.done e.call))) r t n b.done b.left w.filled h
+      (each_end (λ e. (ends_within r b.done t n e.call ≡ true) × (e ≡ end_of (given_in r) r.periods (done_in r) e.call (start_of b.done e.call))) r t n
+      b.done b.left w.filled h
       (all_seats r t n b farm after first before now ends w h m b' last at meets) right)
     where
       right : (c : ℕ) → ends_within r b.done t n c ≡ true → let e = end_of (given_in r) r.periods (done_in r) c (start_of b.done c) in
@@ -100,14 +105,16 @@ module _ (r : Run) (t n : ℕ) (b : State) (farm after : FarmMemory) (first befo
       let same : b'.done ≡ b.done = ap (λ (s : State). s.done) told ∙ told_done b ends in
       let opened' : is_some (opened_at c b.done) ≡ true = ap (λ ds. is_some (opened_at c ds)) (sym same) ∙ opened in
       let unclosed' : closed_at c b.done ≡ None = ap (closed_at c) (sym same) ∙ unclosed in
-      by (is_some (opened_at c b'.done)) (is_some (opened_at c b.done)) (is_some (closed_at c b'.done)) (is_some (closed_at c b.done)) (gone_in b' c) (gone_in b c) (is_told c ends)
+      by (is_some (opened_at c b'.done)) (is_some (opened_at c b.done)) (is_some (closed_at c b'.done)) (is_some (closed_at c b.done)) (gone_in b' c)
+      (gone_in b c) (is_told c ends)
       opened opened' (ap is_some unclosed) (ap is_some unclosed') (open_then c)
       ∙ ap (λ (x : Bool). x || is_told c ends) (at.follows.tells c opened' unclosed')
       ∙ ap (λ (x : Bool). gone_at (whole_in r) t b.done c || x) (told_is c)
       ∙ sym (gone_round r t n b.done c opened' unclosed')
       ∙ ap (λ ds. gone_at (whole_in r) (t + n) ds c) (sym same)
     where
-      by : (p p' q q' g g' e : Bool) → p ≡ true → p' ≡ true → q ≡ false → q' ≡ false → (p && not q && not g) ≡ ((p' && not q' && not g') && not e) → g ≡ (g' || e)
+      by : (p p' q q' g g' e : Bool) → p ≡ true → p' ≡ true → q ≡ false → q' ≡ false →
+          (p && not q && not g) ≡ ((p' && not q' && not g') && not e) → g ≡ (g' || e)
       by true true false false true true e h1 h2 h3 h4 k = refl
       by true true false false true false true h1 h2 h3 h4 k = refl
       by true true false false true false false h1 h2 h3 h4 k = cc
@@ -136,18 +143,22 @@ module _ (r : Run) (t n : ℕ) (b : State) (farm after : FarmMemory) (first befo
       all true e y p =
           let f = eqb-true (places_in r b.done t n c) n e in
           ap (λ (l : Law). Some (record { law = l; periods = y.periods; now = y.now })) p.law
-          ∙ ap (λ (ts : List CallPeriod). Some (record { law = law_in r c; periods = ts; now = y.now })) (p.periods ∙ ap (λ (k : ℕ). periods_to r c (t + k - start_of b.done c)) f)
+          ∙ ap (λ (ts : List CallPeriod). Some (record { law = law_in r c; periods = ts; now = y.now }))
+          (p.periods ∙ ap (λ (k : ℕ). periods_to r c (t + k - start_of b.done c)) f)
           ∙ ap (λ (s : Settings). Some (record { law = law_in r c; periods = periods_to r c (t + n - start_of b.done c); now = s })) (p.goes_on f)
 
       by : (x : Bool) → alive c ≡ x → those_that (goes_on_call w.worked) worked_at_end c ≡ histories_at r b.done (t + n) c
       by false o =
           ap (λ (y : Option CallHistory). if goes_on_call w.worked c then y else None)
-          (ap (λ (x : Bool). option_map (history_with w.filled hs c (partner_in farm.groups c)) (past_if x (law_in r c) (periods_to r c (t - start_of b.done c)) (settings_now r b.done t c))) o)
+          (ap (λ (x : Bool). option_map (history_with w.filled hs c (partner_in farm.groups c))
+          (past_if x (law_in r c) (periods_to r c (t - start_of b.done c)) (settings_now r b.done t c))) o)
           ∙ none_if (goes_on_call w.worked c)
-          ∙ sym (ap (λ (x : Bool). past_if x (law_in r c) (periods_to r c (t + n - start_of b.done c)) (settings_now r b.done (t + n) c)) (shut_after r t n b.done c o))
+          ∙ sym (ap (λ (x : Bool). past_if x (law_in r c) (periods_to r c (t + n - start_of b.done c)) (settings_now r b.done (t + n) c))
+          (shut_after r t n b.done c o))
       by true o =
           let p = past c o in
           ap (λ (y : Option CallHistory). if goes_on_call w.worked c then y else None) p.1
           ∙ ap (λ (x : Bool). if x then Some p.0 else None) (goes c o)
           ∙ all (places_in r b.done t n c == n) refl p.0 p.2
-          ∙ sym (ap (λ (x : Bool). past_if x (law_in r c) (periods_to r c (t + n - start_of b.done c)) (settings_now r b.done (t + n) c)) (open_after r t n b.done b.left c h o))
+          ∙ sym (ap (λ (x : Bool). past_if x (law_in r c) (periods_to r c (t + n - start_of b.done c)) (settings_now r b.done (t + n) c))
+          (open_after r t n b.done b.left c h o))

@@ -41,7 +41,8 @@ use Rattle.farm_run.proofs.Rounds.Taking.{met}
 use Rattle.farm_run.proofs.Worked.Seats.{seat_of_at}
 
 -- the ends that seats tell are those of their places
-pub same_ends : (t : ℕ) (ss ts : List SeatMemory) → length ss ≡ length ts → ((k : ℕ) → k < length ts → (seat_at ss k).place ≡ (seat_at ts k).place) → filter_map (seat_end t) ss ≡ filter_map (seat_end t) ts
+pub same_ends : (t : ℕ) (ss ts : List SeatMemory) → length ss ≡ length ts → ((k : ℕ) → k < length ts → (seat_at ss k).place ≡ (seat_at ts k).place) →
+    filter_map (seat_end t) ss ≡ filter_map (seat_end t) ts
 same_ends t [] [] e h = refl
 same_ends t [] (x ∷ ts) e h = absurd (omega arith)
 same_ends t (s ∷ ss) [] e h = absurd (omega arith)
@@ -50,7 +51,8 @@ same_ends t (s ∷ ss) (x ∷ ts) e h =
     ∙ ap (cons_option (seat_end t x)) (same_ends t ss ts (omega arith) (λ k l. h (suc k) (omega arith)))
 
 module _ (r : Run) (t n : ℕ) (b : State) (farm after : FarmMemory) (first before now : ℕ → Side → LineState) (ends : List CallEnd)
-    (w : WorkedRound t n farm after before now ends) (h : IsRound r t n b.done b.left) (m : Matches b farm.groups) (b' : State) (last : Standing) (at : IsAtClock r t b farm.groups last first before)
+    (w : WorkedRound t n farm after before now ends) (h : IsRound r t n b.done b.left) (m : Matches b farm.groups) (b' : State) (last : Standing)
+    (at : IsAtClock r t b farm.groups last first before)
     (meets : MeetsRun r n w.filled (standing b' after.failed now) last) where
   -- whether a call is open at the clock
   abbrev alive : ℕ → Bool
@@ -62,7 +64,8 @@ module _ (r : Run) (t n : ℕ) (b : State) (farm after : FarmMemory) (first befo
 
   -- the run opens it
   pub opened_is : (c : ℕ) → alive c ≡ true → IsOpened r c
-  opened_is c o = ap is_some (opened_run r t b.done b.left c (start_of b.done c) h.so_far (open_at r t b.done c (standing_now r t b.done b.left h.so_far) o).opened)
+  opened_is c o =
+      ap is_some (opened_run r t b.done b.left c (start_of b.done c) h.so_far (open_at r t b.done c (standing_now r t b.done b.left h.so_far) o).opened)
 
   -- what is known of the seat of an open call
   pub record OpenSeat (c : ℕ) : Type 0 where
@@ -94,12 +97,16 @@ module _ (r : Run) (t n : ℕ) (b : State) (farm after : FarmMemory) (first befo
           let now_is = worked_now r t n b.done b.left c h o in
           let up_rest = never_given (last.listed c Up) (last.lines c Up) in
           let pcm_rest = never_given (last.listed c Pcm) (last.lines c Pcm) in
-          let up_told : IsToCome (before c Up) (40 * (t - start_of b.done c)) (r.lines c).up up_rest = at.lines.up_read c whole (inl early) ∙ ap (λ (i : ℕ). Some (drop (40 * i) (r.lines c).up ++ up_rest)) now_is in
-          let pcm_told : IsToCome (before c Pcm) (160 * (t - start_of b.done c)) (r.lines c).pcm pcm_rest = at.lines.pcm_read c whole (inl early) ∙ ap (λ (i : ℕ). Some (drop (160 * i) (r.lines c).pcm ++ pcm_rest)) now_is in
+          let up_told : IsToCome (before c Up) (40 * (t - start_of b.done c)) (r.lines c).up up_rest = at.lines.up_read c whole (inl early)
+          ∙ ap (λ (i : ℕ). Some (drop (40 * i) (r.lines c).up ++ up_rest)) now_is in
+          let pcm_told : IsToCome (before c Pcm) (160 * (t - start_of b.done c)) (r.lines c).pcm pcm_rest = at.lines.pcm_read c whole (inl early)
+          ∙ ap (λ (i : ℕ). Some (drop (160 * i) (r.lines c).pcm ++ pcm_rest)) now_is in
           let long : p.0 < length w.filled = omega (arith, p.1, w.number, w.filled_number) in
-          let is_met = met r b.done t n c (before c) (w.between c) (seat_at w.planned p.0) place (standing b' after.failed now) last f.2.front.fills called (filled_periods _ _ _ _ _ _ _ _ f.2.front)
+          let is_met = met r b.done t n c (before c) (w.between c) (seat_at w.planned p.0) place (standing b' after.failed now) last f.2.front.fills called
+          (filled_periods _ _ _ _ _ _ _ _ f.2.front)
           (up_long _ _ _ _ _ _ _ _ f.2.front) (pcm_long _ _ _ _ _ _ _ _ f.2.front) meets.on (meets.flags.up c) (meets.flags.pcm c)
-          (λ side i. ap (λ (d : ℕ). is_listed after.failed d side) (sym called) ∙ meets.listed p.0 side long i) (λ l. ap (is_over b') (sym called) ∙ meets.over p.0 long l)
+          (λ side i. ap (λ (d : ℕ). is_listed after.failed d side) (sym called) ∙ meets.listed p.0 side long i)
+          (λ l. ap (is_over b') (sym called) ∙ meets.over p.0 long l)
           (incoming_after t n farm after before now ends w c) up_told pcm_told in
           record {
             k = p.0;

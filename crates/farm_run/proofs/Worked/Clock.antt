@@ -95,7 +95,8 @@ module _ (t n : ℕ) (b : State) (farm : FarmMemory) (before between : ℕ → S
 
   -- its call is open,
   pub tells_open : AreOpen b ends
-  tells_open = All-from_recursion (λ e. open_now b e.call ≡ true) ends (each_weaker (IsRight t n b) (λ e. open_now b e.call ≡ true) ends (λ e q. q.open_now) ends_right)
+  tells_open =
+      All-from_recursion (λ e. open_now b e.call ≡ true) ends (each_weaker (IsRight t n b) (λ e. open_now b e.call ≡ true) ends (λ e q. q.open_now) ends_right)
 
   -- no two are of one call,
   pub tells_apart : AreApart ends
@@ -103,9 +104,11 @@ module _ (t n : ℕ) (b : State) (farm : FarmMemory) (before between : ℕ → S
 
   -- and none lies below the stamp of an executed order
   pub tells_late : AreLate b ends
-  tells_late = let past = a.past in All-from_recursion (λ e. last_stamp b.done ≤ e.at) ends (each_weaker (IsRight t n b) (λ e. last_stamp b.done ≤ e.at) ends (λ e q. let f = q.from in omega arith) ends_right)
+  tells_late = let past = a.past in All-from_recursion (λ e. last_stamp b.done ≤ e.at) ends
+      (each_weaker (IsRight t n b) (λ e. last_stamp b.done ≤ e.at) ends (λ e q. let f = q.from in omega arith) ends_right)
 
-module _ (t n : ℕ) (b : State) (farm after : FarmMemory) (before now : ℕ → Side → LineState) (ends : List CallEnd) (w : WorkedRound t n farm after before now ends) (a : AtClock t b farm.groups) where
+module _ (t n : ℕ) (b : State) (farm after : FarmMemory) (before now : ℕ → Side → LineState) (ends : List CallEnd)
+    (w : WorkedRound t n farm after before now ends) (a : AtClock t b farm.groups) where
   -- ---- who is open after it
 
   -- **Of an open call the end is told exactly where it doesn't go on.**
@@ -162,7 +165,10 @@ module _ (t n : ℕ) (b : State) (farm after : FarmMemory) (before now : ℕ →
 
   -- **After the round the board and the farm stand at the clock behind it.**
   pub clock_after : (b' : State) → ArePairs (open_now b) (partner_now b) → IfSome (first_stamp b.left) (λ s. t + n ≤ s) → b' ≡ told_after b ends →
-      ((c : ℕ) → open_now b' c ≡ (open_now b c && not (is_told c ends))) → ((c : ℕ) → partner_now b' c ≡ partner_past ends (partner_now b) c) → AtClock (t + n) b' after.groups
+      ((c : ℕ) → open_now b' c ≡ (open_now b c && not (is_told c ends))) → ((c : ℕ) → partner_now b' c ≡ partner_past ends (partner_now b) c) →
+      AtClock (t + n) b' after.groups
   clock_after b' pairs clear told o p =
       clock_round t n b b' farm.groups after.groups ends a
-      (each_weaker (IsRight t n b) (λ e. e.at < t + n) ends (λ e q. q.before) (ends_right t n b farm before w.between w.planned w.filled w.worked ends (front t n farm after before now ends w) a)) clear told o p calls_left (partners_left pairs)
+      (each_weaker (IsRight t n b) (λ e. e.at < t + n) ends (λ e q. q.before)
+      (ends_right t n b farm before w.between w.planned w.filled w.worked ends (front t n farm after before now ends w) a)) clear told o p
+      calls_left (partners_left pairs)

@@ -56,8 +56,10 @@ stand_same : (h k : ℕ → Option CallHistory) (groups : List Group) → ((c : 
 stand_same h k groups e g = λ c. subst (λ x. CallStands c x (call_in groups c) (partner_in groups c)) (e c) (g c)
 
 module _ (r : Run) (t n : ℕ) (b : State) (farm after : FarmMemory) (first before now : ℕ → Side → LineState) (ends : List CallEnd)
-    (w : WorkedRound t n farm after before now ends) (h : IsRound r t n b.done b.left) (m : Matches b farm.groups) (b' : State) (last : Standing) (at : IsAtClock r t b farm.groups last first before)
-    (meets : MeetsRun r n w.filled (standing b' after.failed now) last) (a : AtClock t b farm.groups) (knows : KnowsListed b farm.groups farm.failed) (told : b' ≡ told_after b ends)
+    (w : WorkedRound t n farm after before now ends) (h : IsRound r t n b.done b.left) (m : Matches b farm.groups) (b' : State) (last : Standing)
+    (at : IsAtClock r t b farm.groups last first before)
+    (meets : MeetsRun r n w.filled (standing b' after.failed now) last) (a : AtClock t b farm.groups) (knows : KnowsListed b farm.groups farm.failed)
+    (told : b' ≡ told_after b ends)
     (open_then : (c : ℕ) → open_now b' c ≡ (open_now b c && not (is_told c ends))) where
   -- whether a call is open at the clock
   abbrev pub alive : ℕ → Bool
@@ -102,7 +104,8 @@ module _ (r : Run) (t n : ℕ) (b : State) (farm after : FarmMemory) (first befo
     | inl l ↦
         let ends : ends_within r b.done t n c ≡ true = ap (λ (x : Bool). x && nat_lt (places_in r b.done t n c) n) o ∙ lt-ltb (places_in r b.done t n c) n l in
         let cause : cause_in r c ≡ lack_of (whole_in r c) (given_in r c) =
-        ap (λ (s : ℕ). cause_of (end_of (given_in r) r.periods (done_in r) c s)) (start_kept r t n b.done b.left c h o) ∙ ap cause_of (end_within r t n b.done b.left c h ends) in
+        ap (λ (s : ℕ). cause_of (end_of (given_in r) r.periods (done_in r) c s)) (start_kept r t n b.done b.left c h o)
+        ∙ ap cause_of (end_within r t n b.done b.left c h ends) in
         absurd (not_by_lines (whole_in r c) (given_in r c) (subst IsCutOff cause q))
     | inr l ↦ most n (start_of b.done c + whole_in r c - t) l
   ]
@@ -114,7 +117,8 @@ module _ (r : Run) (t n : ℕ) (b : State) (farm after : FarmMemory) (first befo
   read_to : (c m : ℕ) → alive c ≡ true → IsReadWhole r (t + n) c → m * worked_to r (t + n) c ≡ m * (t - start_of b.done c) + m * n
   read_to c m o q =
       let begun = (open_at r t b.done c (standing_now r t b.done b.left h.so_far) o).begun in
-      ap (λ (k : ℕ). m * k) (worked_then r t n b.done b.left c h o ∙ ap (λ (k : ℕ). t + k - start_of b.done c) (reads_all c o q) ∙ sum (start_of b.done c) begun) ∙ spread (t - start_of b.done c)
+      ap (λ (k : ℕ). m * k) (worked_then r t n b.done b.left c h o ∙ ap (λ (k : ℕ). t + k - start_of b.done c) (reads_all c o q)
+      ∙ sum (start_of b.done c) begun) ∙ spread (t - start_of b.done c)
     where
       sum : (s : ℕ) → s ≤ t → t + n - s ≡ t - s + n
       sum s l = omega arith
@@ -130,16 +134,19 @@ module _ (r : Run) (t n : ℕ) (b : State) (farm after : FarmMemory) (first befo
       earlier c (inl l) = inl (omega arith)
       earlier c (inr q) = inr q
 
-      up_read : (c : ℕ) → IsOpened r c → IsReadWhole r (t + n) c → IsToCome (now c Up) (40 * worked_to r (t + n) c) (r.lines c).up (never_given (last.listed c Up) (last.lines c Up))
+      up_read : (c : ℕ) → IsOpened r c → IsReadWhole r (t + n) c → IsToCome (now c Up) (40 * worked_to r (t + n) c) (r.lines c).up
+          (never_given (last.listed c Up) (last.lines c Up))
       up_read c i q = elim (cases_Bool (alive c)) [
         | inl o ↦ (seat c o).up_left ∙ ap (λ (k : ℕ). Some (drop k (r.lines c).up ++ never_given (last.listed c Up) (last.lines c Up))) (sym (read_to c 40 o q))
         | inr o ↦ ap (λ (l : LineState). l.to_come) (kept c o Up) ∙ at.lines.up_read c i (earlier c q)
             ∙ ap (λ (k : ℕ). Some (drop (40 * k) (r.lines c).up ++ never_given (last.listed c Up) (last.lines c Up))) (sym (idle c i o))
       ]
 
-      pcm_read : (c : ℕ) → IsOpened r c → IsReadWhole r (t + n) c → IsToCome (now c Pcm) (160 * worked_to r (t + n) c) (r.lines c).pcm (never_given (last.listed c Pcm) (last.lines c Pcm))
+      pcm_read : (c : ℕ) → IsOpened r c → IsReadWhole r (t + n) c → IsToCome (now c Pcm) (160 * worked_to r (t + n) c) (r.lines c).pcm
+          (never_given (last.listed c Pcm) (last.lines c Pcm))
       pcm_read c i q = elim (cases_Bool (alive c)) [
-        | inl o ↦ (seat c o).pcm_left ∙ ap (λ (k : ℕ). Some (drop k (r.lines c).pcm ++ never_given (last.listed c Pcm) (last.lines c Pcm))) (sym (read_to c 160 o q))
+        | inl o ↦ (seat c o).pcm_left ∙ ap (λ (k : ℕ). Some (drop k (r.lines c).pcm ++ never_given (last.listed c Pcm) (last.lines c Pcm)))
+            (sym (read_to c 160 o q))
         | inr o ↦ ap (λ (l : LineState). l.to_come) (kept c o Pcm) ∙ at.lines.pcm_read c i (earlier c q)
             ∙ ap (λ (k : ℕ). Some (drop (160 * k) (r.lines c).pcm ++ never_given (last.listed c Pcm) (last.lines c Pcm))) (sym (idle c i o))
       ]
@@ -157,7 +164,8 @@ module _ (r : Run) (t n : ℕ) (b : State) (farm after : FarmMemory) (first befo
       let left : b'.left ≡ b.left = ap (λ (s : State). s.left) told ∙ told_left b ends in
       record {
         follows = record {
-          so_far = subst (λ (ds : List Done). IsSoFar r (t + n) ds b'.left) (sym done) (subst (IsSoFar r (t + n) b.done) (sym left) (round_over r t n b.done b.left h));
+          so_far = subst (λ (ds : List Done). IsSoFar r (t + n) ds b'.left) (sym done)
+              (subst (IsSoFar r (t + n) b.done) (sym left) (round_over r t n b.done b.left h));
           tells = tells_after;
           stands = stand_same (those_that (goes_on_call w.worked) worked_at_end) (histories_at r b'.done (t + n)) after.groups
               (λ c. histories_after c ∙ ap (λ (ds : List Done). histories_at r ds (t + n) c) (sym done)) (w.stands hs at.follows.stands);

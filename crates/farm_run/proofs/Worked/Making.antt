@@ -21,7 +21,8 @@ pub record IsMade (farm after : FarmMemory) (planned filled : RoundMemory) (work
   pub partners : (c : ℕ) → partner_in (groups_from planned.jobs) c ≡ partner_in farm.groups c
   pub partners_worked : (c : ℕ) → partner_in (groups_from worked.jobs) c ≡ partner_in (groups_from filled.jobs) c
   pub begins : (h : ℕ → Option CallHistory) → GroupsStand h farm.groups → GroupsStand h (groups_from planned.jobs)
-  pub stands : (h : ℕ → Option CallHistory) → GroupsStand h (groups_from filled.jobs) → WorkedStand (worked_histories filled.seats (partner_in (groups_from filled.jobs)) h) worked
+  pub stands : (h : ℕ → Option CallHistory) → GroupsStand h (groups_from filled.jobs) →
+      WorkedStand (worked_histories filled.seats (partner_in (groups_from filled.jobs)) h) worked
   pub octets : (h : ℕ → Option CallHistory) → GroupsStand h (groups_from filled.jobs) →
       AreWorked filled.seats (worked_histories filled.seats (partner_in (groups_from filled.jobs)) h) worked.seats
   pub alive : (c : ℕ) → is_among after.live c ≡ (is_among worked.live c && goes_on_call worked.seats c)
@@ -65,7 +66,8 @@ module _ (farm after : FarmMemory) (planned filled : RoundMemory) (worked : Work
   stand h g = subst (λ (q : ℕ → Option ℕ). WorkedStand (worked_histories filled.seats q h) worked) partner (m.stands h (start h g))
 
   -- **The seats hold what the calls give in it.**
-  pub made_octets : (h : ℕ → Option CallHistory) → GroupsStand h farm.groups → AreWorked filled.seats (worked_histories filled.seats (partner_in farm.groups) h) worked.seats
+  pub made_octets : (h : ℕ → Option CallHistory) → GroupsStand h farm.groups →
+      AreWorked filled.seats (worked_histories filled.seats (partner_in farm.groups) h) worked.seats
   made_octets h g = subst (λ (q : ℕ → Option ℕ). AreWorked filled.seats (worked_histories filled.seats q h) worked.seats) partner (m.octets h (start h g))
 
   -- **The calls that go on stay in the farm.**
@@ -77,12 +79,15 @@ module _ (farm after : FarmMemory) (planned filled : RoundMemory) (worked : Work
   made_partners c = m.partners_after c ∙ ap (λ (q : ℕ → Option ℕ). partner_past (goes_on_call worked.seats) q c) partner_worked
 
   -- **The farm stands for what they have had then.**
-  pub made_stands : (h : ℕ → Option CallHistory) → GroupsStand h farm.groups → GroupsStand (those_that (goes_on_call worked.seats) (worked_histories filled.seats (partner_in farm.groups) h)) after.groups
+  pub made_stands : (h : ℕ → Option CallHistory) → GroupsStand h farm.groups →
+      GroupsStand (those_that (goes_on_call worked.seats) (worked_histories filled.seats (partner_in farm.groups) h)) after.groups
   made_stands h g = m.history (worked_histories filled.seats (partner_in farm.groups) h) (stand h g)
 
   -- **Of the others it keeps the counts.**
   pub made_tallies : (h : ℕ → Option CallHistory) → GroupsStand h farm.groups → (c : ℕ) →
-      tally_in after.tallies c ≡ (if goes_on_call worked.seats c then tally_in farm.tallies c else kept_of (worked_histories filled.seats (partner_in farm.groups) h c) (tally_in farm.tallies c))
+      tally_in after.tallies c ≡ (if goes_on_call worked.seats c then tally_in farm.tallies c else kept_of
+      (worked_histories filled.seats (partner_in farm.groups) h c) (tally_in farm.tallies c))
   made_tallies h g c =
       m.tallies_after (worked_histories filled.seats (partner_in farm.groups) h) (stand h g) c
-      ∙ ap (λ (ts : List Tally). if goes_on_call worked.seats c then tally_in ts c else kept_of (worked_histories filled.seats (partner_in farm.groups) h c) (tally_in ts c)) tallies
+      ∙ ap (λ (ts : List Tally). if goes_on_call worked.seats c then tally_in ts c else kept_of (worked_histories filled.seats (partner_in farm.groups) h c)
+      (tally_in ts c)) tallies

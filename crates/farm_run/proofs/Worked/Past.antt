@@ -39,7 +39,8 @@ use Rattle.farm_run.proofs.Worked.Calls.{OpenSeat, open_seat}
 bridge_same : (gone gone' : ℕ → Bool) (ds : List Done) (c : ℕ) → ((d : ℕ) → is_open gone ds d ≡ is_open gone' ds d) → bridge_of gone ds c ≡ bridge_of gone' ds c
 bridge_same gone gone' ds c e =
     let same : (x : Bridge) → (joins c x && lasts gone ds x) ≡ (joins c x && lasts gone' ds x) = λ x.
-    ap (λ (p : Bool). joins c x && (is_none x.ended && p && is_open gone ds x.b)) (e x.a) ∙ ap (λ (p : Bool). joins c x && (is_none x.ended && is_open gone' ds x.a && p)) (e x.b) in
+    ap (λ (p : Bool). joins c x && (is_none x.ended && p && is_open gone ds x.b)) (e x.a)
+    ∙ ap (λ (p : Bool). joins c x && (is_none x.ended && is_open gone' ds x.a && p)) (e x.b) in
     ap (λ (p : Bridge → Bool). find p (bridges ds)) (λ i. λ x. same x i)
 
 -- what is set for the next period but for the bridge
@@ -54,7 +55,8 @@ starts_past k others now = by (nat_lt others k)
     by false = refl
 
 module _ (r : Run) (t n : ℕ) (b : State) (farm after : FarmMemory) (first before now : ℕ → Side → LineState) (ends : List CallEnd)
-    (w : WorkedRound t n farm after before now ends) (h : IsRound r t n b.done b.left) (m : Matches b farm.groups) (b' : State) (last : Standing) (at : IsAtClock r t b farm.groups last first before)
+    (w : WorkedRound t n farm after before now ends) (h : IsRound r t n b.done b.left) (m : Matches b farm.groups) (b' : State) (last : Standing)
+    (at : IsAtClock r t b farm.groups last first before)
     (meets : MeetsRun r n w.filled (standing b' after.failed now) last) where
   -- whether a call is open at the clock
   abbrev is_alive : ℕ → Bool
@@ -73,7 +75,8 @@ module _ (r : Run) (t n : ℕ) (b : State) (farm after : FarmMemory) (first befo
 
   -- **A call's partner is the other call of its bridge.**
   partner_is : (c : ℕ) → partner_in farm.groups c ≡ option_map (other c) (bridge_at c)
-  partner_is c = m.partner c ∙ ap (option_map (other c)) (bridge_same (gone_in b) (gone_at (whole_in r) t b.done) b.done c (open_told (whole_in r) t b at.follows.tells))
+  partner_is c =
+      m.partner c ∙ ap (option_map (other c)) (bridge_same (gone_in b) (gone_at (whole_in r) t b.done) b.done c (open_told (whole_in r) t b at.follows.tells))
 
   -- what an open call has had, and its octets of the round
   abbrev past : ℕ → CallHistory
@@ -92,7 +95,8 @@ module _ (r : Run) (t n : ℕ) (b : State) (farm after : FarmMemory) (first befo
   fed c o =
       let s = seat c o in
       let x = seat_at w.filled s.k in
-      subst (λ (x : SeatMemory). IsFed r b.done t n c (io_of x)) (sym s.found) (fed_taken r t n b.done b.left c x.place (io_of x) h o s.taken s.number refl refl)
+      subst (λ (x : SeatMemory). IsFed r b.done t n c (io_of x)) (sym s.found)
+      (fed_taken r t n b.done b.left c x.place (io_of x) h o s.taken s.number refl refl)
 
   -- for so many periods as the run says
   pub given : (c : ℕ) → is_alive c ≡ true → places.whole_in (seat_of w.filled c).place ≡ places_in r b.done t n c
@@ -131,7 +135,8 @@ module _ (r : Run) (t n : ℕ) (b : State) (farm after : FarmMemory) (first befo
       }
 
   -- **Of one that is, with its partner.**
-  bridged_is : (c : ℕ) (x : Bridge) → is_alive c ≡ true → is_alive (other c x) ≡ true → bridge_at c ≡ Some x → IsPast c (history_bridged w.filled c (past c) (other c x) (past (other c x)))
+  bridged_is : (c : ℕ) (x : Bridge) → is_alive c ≡ true → is_alive (other c x) ≡ true → bridge_at c ≡ Some x →
+      IsPast c (history_bridged w.filled c (past c) (other c x) (past (other c x)))
   bridged_is c x o p some =
       let d = other c x in
       let g = given c o in
@@ -142,28 +147,35 @@ module _ (r : Run) (t n : ℕ) (b : State) (farm after : FarmMemory) (first befo
       let others = places.whole_in (seat_of w.filled d).place in
       record {
         law = refl;
-        periods = bridged_worked r t n b.done b.left c x (octets c) (octets d) h some (fed c o) (fed d p) ∙ ap (λ (i : ℕ). periods_to r c (t + i - start_of b.done c)) g;
-        goes_on = λ e. bridged_settings r t n b.done b.left c x (octets c) (octets d) h some (fed c o) (fed d p) (g ∙ e) ∙ ap (λ (i : ℕ). settings_now r b.done (t + i) c) (g ∙ e);
+        periods = bridged_worked r t n b.done b.left c x (octets c) (octets d) h some (fed c o) (fed d p)
+            ∙ ap (λ (i : ℕ). periods_to r c (t + i - start_of b.done c)) g;
+        goes_on = λ e. bridged_settings r t n b.done b.left c x (octets c) (octets d) h some (fed c o) (fed d p) (g ∙ e)
+            ∙ ap (λ (i : ℕ). settings_now r b.done (t + i) c) (g ∙ e);
         starts = starts_past whole others now ∙ ap (λ (i : ℕ). (settings_at i now).starts) g ∙ starts_kept c k l;
       }
 
   -- **Each open call has had after the round what the run gives it.**
-  pub worked_past : (c : ℕ) → is_alive c ≡ true → (x : CallHistory) × (worked_histories w.filled (partner_in farm.groups) (histories_at r b.done t) c ≡ Some x) × IsPast c x
+  pub worked_past : (c : ℕ) → is_alive c ≡ true →
+      (x : CallHistory) × (worked_histories w.filled (partner_in farm.groups) (histories_at r b.done t) c ≡ Some x) × IsPast c x
   worked_past c o = by (bridge_at c) refl
     where
       hs : ℕ → Option CallHistory
       hs = histories_at r b.done t
 
-      start : (q : Option ℕ) → partner_in farm.groups c ≡ q → worked_histories w.filled (partner_in farm.groups) hs c ≡ Some (history_with w.filled hs c q (past c))
-      start q e = ap (option_map (history_with w.filled hs c (partner_in farm.groups c))) (past_is c o) ∙ ap (λ (q : Option ℕ). Some (history_with w.filled hs c q (past c))) e
+      start : (q : Option ℕ) → partner_in farm.groups c ≡ q → worked_histories w.filled (partner_in farm.groups) hs c
+          ≡ Some (history_with w.filled hs c q (past c))
+      start q e = ap (option_map (history_with w.filled hs c (partner_in farm.groups c))) (past_is c o)
+          ∙ ap (λ (q : Option ℕ). Some (history_with w.filled hs c q (past c))) e
 
       by : (v : Option Bridge) → bridge_at c ≡ v → (x : CallHistory) × (worked_histories w.filled (partner_in farm.groups) hs c ≡ Some x) × IsPast c x
       by None e = (history_alone w.filled c (past c), start None (partner_is c ∙ ap (option_map (other c)) e), alone_is c o e)
       by (Some x) e =
           let parts = bridge_open r t b.done c x e in
-          let both = and_parts (is_alive c) (is_alive (other c x)) (sym (both_calls is_alive c x parts.0) ∙ and_from (is_alive x.a) (is_alive x.b) parts.1 parts.2) in
+          let both =
+          and_parts (is_alive c) (is_alive (other c x)) (sym (both_calls is_alive c x parts.0) ∙ and_from (is_alive x.a) (is_alive x.b) parts.1 parts.2) in
           let partner = past_is (other c x) both.1 in (
             history_bridged w.filled c (past c) (other c x) (past (other c x)),
-            start (Some (other c x)) (partner_is c ∙ ap (option_map (other c)) e) ∙ ap (λ (y : Option CallHistory). Some (history_beside w.filled c (past c) (other c x) y)) partner,
+            start (Some (other c x)) (partner_is c ∙ ap (option_map (other c)) e)
+            ∙ ap (λ (y : Option CallHistory). Some (history_beside w.filled c (past c) (other c x) y)) partner,
             bridged_is c x o both.1 e,
           )

@@ -55,10 +55,12 @@ pub record WorkedRound (t n : ℕ) (farm after : FarmMemory) (before now : ℕ �
   pub stands : (h : ℕ → Option CallHistory) → GroupsStand h farm.groups →
       GroupsStand (those_that (goes_on_call worked) (worked_histories filled (partner_in farm.groups) h)) after.groups
   pub tallies : (h : ℕ → Option CallHistory) → GroupsStand h farm.groups → (c : ℕ) →
-      tally_in after.tallies c ≡ (if goes_on_call worked c then tally_in farm.tallies c else kept_of (worked_histories filled (partner_in farm.groups) h c) (tally_in farm.tallies c))
+      tally_in after.tallies c ≡ (if goes_on_call worked c then tally_in farm.tallies c else kept_of (worked_histories filled (partner_in farm.groups) h c)
+      (tally_in farm.tallies c))
 
 -- the same up to its work
-pub record FilledRound (t n : ℕ) (farm : FarmMemory) (before between : ℕ → Side → LineState) (planned filled worked : List SeatMemory) (ends : List CallEnd) : Type 0 where
+pub record FilledRound (t n : ℕ) (farm : FarmMemory) (before between : ℕ → Side → LineState) (planned filled worked : List SeatMemory)
+    (ends : List CallEnd) : Type 0 where
   pub live : (c : ℕ) → is_among farm.live c ≡ is_some (call_in farm.groups c)
   pub number : length planned ≡ length farm.live
   pub seats : (k : ℕ) → k < length farm.live → seat_at planned k ≡ seat_for n (slice_index farm.live k) (call_in farm.groups (slice_index farm.live k))
@@ -87,7 +89,8 @@ pub record FrontFacts (n : ℕ) (before between : Side → LineState) (c : ℕ) 
   pub fills : Fills before between planned filled
   pub place : worked.place ≡ filled.place
 
-module _ (n : ℕ) (before between : Side → LineState) (c : ℕ) (call : Call) (planned filled worked : SeatMemory) (f : FrontFacts n before between c call planned filled worked) where
+module _ (n : ℕ) (before between : Side → LineState) (c : ℕ) (call : Call) (planned filled worked : SeatMemory)
+    (f : FrontFacts n before between c call planned filled worked) where
   -- reading changes the marks of the incoming lines alone
   kept_place : filled.place ≡ record planned.place { up = filled.place.up; pcm = filled.place.pcm }
   kept_place = ap (λ (s : SeatMemory). s.place) f.fills.kept
@@ -123,7 +126,8 @@ pub record SeatFacts (n : ℕ) (before between now : Side → LineState) (c : �
   pub front : FrontFacts n before between c call planned filled worked
   pub drains : Settles between now worked drained
 
-module _ (n : ℕ) (before between now : Side → LineState) (c : ℕ) (call : Call) (planned filled worked drained : SeatMemory) (f : SeatFacts n before between now c call planned filled worked drained) where
+module _ (n : ℕ) (before between now : Side → LineState) (c : ℕ) (call : Call) (planned filled worked drained : SeatMemory)
+    (f : SeatFacts n before between now c call planned filled worked drained) where
   -- the seat is this call's behind the writing too
   pub drained_call : drained.place.call ≡ c
   drained_call = ap (λ (s : SeatMemory). s.place.call) f.drains.kept ∙ worked_call n before between c call planned filled worked f.front
@@ -135,13 +139,15 @@ module _ (n : ℕ) (before between now : Side → LineState) (c : ℕ) (call : C
 
   -- no line of a planned seat has failed in the round
   fresh : IsFresh planned.place
-  fresh = (ap (λ (s : SeatMemory). fails_now s.place.down) f.front.made ∙ not_yet call.down_failed, ap (λ (s : SeatMemory). fails_now s.place.out) f.front.made ∙ not_yet call.out_failed)
+  fresh = (ap (λ (s : SeatMemory). fails_now s.place.down) f.front.made ∙ not_yet call.down_failed, ap (λ (s : SeatMemory). fails_now s.place.out) f.front.made
+      ∙ not_yet call.out_failed)
 
   -- **At the round's end its marks tell which of its lines' counts rose.**
   pub tells_seat : TellsFaults before now drained.place
   tells_seat = f.drains.faults before (subst (TellsFaults before between) (sym f.front.place) (f.front.fills.faults fresh))
 
-module _ (t n : ℕ) (farm : FarmMemory) (before between : ℕ → Side → LineState) (planned filled worked : List SeatMemory) (ends : List CallEnd) (w : FilledRound t n farm before between planned filled worked ends) where
+module _ (t n : ℕ) (farm : FarmMemory) (before between : ℕ → Side → LineState) (planned filled worked : List SeatMemory) (ends : List CallEnd)
+    (w : FilledRound t n farm before between planned filled worked ends) where
   -- **Each open call has its seat.**
   pub front_facts : (k c : ℕ) → k < length farm.live → slice_index farm.live k ≡ c →
       (x : Call) × (call_in farm.groups c ≡ Some x) × FrontFacts n (before c) (between c) c x (seat_at planned k) (seat_at filled k) (seat_at worked k)
@@ -151,7 +157,8 @@ module _ (t n : ℕ) (farm : FarmMemory) (before between : ℕ → Side → Line
           (x : Call) × (call_in farm.groups c ≡ Some x) × FrontFacts n (before c) (between c) c x (seat_at planned k) (seat_at filled k) (seat_at worked k)
       by None q h = cc
       by (Some x) q h =
-          let made : seat_at planned k ≡ new_seat c n x.down_failed x.out_failed = w.seats k l ∙ ap (λ d. seat_for n d (call_in farm.groups d)) e ∙ ap (seat_for n c) q in
+          let made : seat_at planned k ≡ new_seat c n x.down_failed x.out_failed = w.seats k l ∙ ap (λ d. seat_for n d (call_in farm.groups d)) e
+          ∙ ap (seat_for n c) q in
           let called : call_at planned k ≡ c = ap (λ (s : SeatMemory). s.place.call) made in (
             x,
             q,
@@ -179,18 +186,25 @@ module _ (t n : ℕ) (farm after : FarmMemory) (before now : ℕ → Side → Li
 
   -- **Each open call has a seat, of which this is known.**
   pub seat_facts : (k c : ℕ) → k < length farm.live → slice_index farm.live k ≡ c →
-      (x : Call) × (call_in farm.groups c ≡ Some x) × SeatFacts n (before c) (w.between c) (now c) c x (seat_at w.planned k) (seat_at w.filled k) (seat_at w.worked k) (seat_at w.drained k)
+      (x : Call) × (call_in farm.groups c ≡ Some x) × SeatFacts n (before c) (w.between c) (now c) c x (seat_at w.planned k) (seat_at w.filled k)
+      (seat_at w.worked k) (seat_at w.drained k)
   seat_facts k c l e =
       let f = front_facts t n farm before w.between w.planned w.filled w.worked ends front k c l e in
       let called : call_at w.worked k ≡ c = worked_call _ _ _ _ _ _ _ _ f.2 in
-      (f.0, f.1, record { front = f.2; drains = subst (λ d. Settles (w.between d) (now d) (seat_at w.worked k) (seat_at w.drained k)) called (w.drains k (omega (arith, w.number, w.filled_number, w.worked_number))) })
+      (f.0, f.1, record {
+        front = f.2;
+        drains = subst (λ d. Settles (w.between d) (now d) (seat_at w.worked k) (seat_at w.drained k)) called
+            (w.drains k (omega (arith, w.number, w.filled_number, w.worked_number)));
+      })
 
   -- where the round's octets are written, its call's lines are given them
-  pub writes_at : (k c : ℕ) → k < length farm.live → slice_index farm.live k ≡ c → w.held ≡ false → Drains (w.between c) (now c) (seat_at w.worked k) (seat_at w.drained k)
+  pub writes_at : (k c : ℕ) → k < length farm.live → slice_index farm.live k ≡ c → w.held ≡ false →
+      Drains (w.between c) (now c) (seat_at w.worked k) (seat_at w.drained k)
   writes_at k c l e q =
       let f = seat_facts k c l e in
       let called : call_at w.worked k ≡ c = worked_call _ _ _ _ _ _ _ _ f.2.front in
-      subst (λ d. Drains (w.between d) (now d) (seat_at w.worked k) (seat_at w.drained k)) called (w.writes q k (omega (arith, l, w.number, w.filled_number, w.worked_number)))
+      subst (λ d. Drains (w.between d) (now d) (seat_at w.worked k) (seat_at w.drained k)) called
+      (w.writes q k (omega (arith, l, w.number, w.filled_number, w.worked_number)))
 
   -- the seats stand in the order of the open calls, behind the work
   pub worked_at : (k : ℕ) → k < length farm.live → call_at w.worked k ≡ slice_index farm.live k
@@ -228,7 +242,8 @@ module _ (t n : ℕ) (farm after : FarmMemory) (before now : ℕ → Side → Li
   -- **The lines of a call that isn't open stay as they were.**
   pub lines_kept : (c : ℕ) → is_some (call_in farm.groups c) ≡ false → (s : Side) → now c s ≡ before c s
   lines_kept c e s =
-      w.drained_others c s (λ k l q h. none k (omega (arith, w.number, w.filled_number, w.worked_number)) (q ∙ worked_at k (omega (arith, w.number, w.filled_number, w.worked_number))))
+      w.drained_others c s (λ k l q h. none k (omega (arith, w.number, w.filled_number, w.worked_number))
+      (q ∙ worked_at k (omega (arith, w.number, w.filled_number, w.worked_number))))
       ∙ w.filled_others c s (λ k l q h. none k (omega (arith, w.number)) (q ∙ planned_at k (omega (arith, w.number))))
     where
       none : (k : ℕ) → k < length farm.live → c ≡ slice_index farm.live k → ⊥

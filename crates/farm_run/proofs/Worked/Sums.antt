@@ -39,8 +39,10 @@ added : (old more : List ℕ) → (sum_of old + sum more) % 2 ^ 32 ≡ sum_of (o
 added old more = mod-add-mod (sum old) (2 ^ 32) (sum more) ∙ ap (λ (n : ℕ). n % 2 ^ 32) (sym (sum_both old more))
 
 module _ (r : Run) (t n : ℕ) (b : State) (farm after : FarmMemory) (first before now : ℕ → Side → LineState) (ends : List CallEnd)
-    (w : WorkedRound t n farm after before now ends) (h : IsRound r t n b.done b.left) (m : Matches b farm.groups) (b' : State) (last : Standing) (at : IsAtClock r t b farm.groups last first before)
-    (meets : MeetsRun r n w.filled (standing b' after.failed now) last) (a : AtClock t b farm.groups) (knows : KnowsListed b farm.groups farm.failed) (told : b' ≡ told_after b ends)
+    (w : WorkedRound t n farm after before now ends) (h : IsRound r t n b.done b.left) (m : Matches b farm.groups) (b' : State) (last : Standing)
+    (at : IsAtClock r t b farm.groups last first before)
+    (meets : MeetsRun r n w.filled (standing b' after.failed now) last) (a : AtClock t b farm.groups) (knows : KnowsListed b farm.groups farm.failed)
+    (told : b' ≡ told_after b ends)
     (open_then : (c : ℕ) → open_now b' c ≡ (open_now b c && not (is_told c ends))) (was is : ℕ → Side → ℕ) (adds : Adds w.worked was is) where
   -- whether a call is open at the clock
   abbrev alive : ℕ → Bool
@@ -50,7 +52,8 @@ module _ (r : Run) (t n : ℕ) (b : State) (farm after : FarmMemory) (first befo
   stay : (c : ℕ) → alive c ≡ false → (s : Side) → is c s ≡ was c s
   stay c o s = adds.others c s (λ k l e i.
       let within : k < length farm.live = omega (arith, l, w.number, w.filled_number, w.worked_number) in
-      let live : is_some (call_in farm.groups c) ≡ true = sym (w.live c) ∙ there farm.live c k within (sym (e ∙ worked_at t n farm after before now ends w k within)) in
+      let live : is_some (call_in farm.groups c) ≡ true = sym (w.live c)
+      ∙ there farm.live c k within (sym (e ∙ worked_at t n farm after before now ends w k within)) in
       true≢false (sym live ∙ open_is r t n b farm after first before now ends w h m b' last at meets c ∙ o))
 
   -- what is known of its seat
@@ -68,12 +71,14 @@ module _ (r : Run) (t n : ℕ) (b : State) (farm after : FarmMemory) (first befo
             let l = s.within in
             let within : s.k < length w.worked = omega (arith, l, w.number, w.filled_number, w.worked_number) in
             let more = seats.out_given (seat_at w.worked s.k) in
-            subst (λ (d : ℕ). is d Out ≡ (was d Out + sum more) % 2 ^ 32) (worked_at t n farm after before now ends w s.k s.within ∙ s.here) (adds.out s.k within)
+            subst (λ (d : ℕ). is d Out ≡ (was d Out + sum more) % 2 ^ 32)
+            (worked_at t n farm after before now ends w s.k s.within ∙ s.here) (adds.out s.k within)
             ∙ ap (λ (v : ℕ). (v + sum more) % 2 ^ 32) (sums.out c i)
             ∙ added (out_line (who_in r c) (periods_to r c (worked_to r t c))) more
             ∙ sym (ap sum_of (grown_out r t n b farm after first before now ends w h m b' last at meets a knows told open_then c o))
         | inr o ↦ stay c o Out ∙ sums.out c i
-            ∙ ap (λ (k : ℕ). sum_of (out_line (who_in r c) (periods_to r c k))) (sym (idle r t n b farm after first before now ends w h m b' last at meets a knows told open_then c i o))
+            ∙ ap (λ (k : ℕ). sum_of (out_line (who_in r c) (periods_to r c k)))
+            (sym (idle r t n b farm after first before now ends w h m b' last at meets a knows told open_then c i o))
       ]
 
       down : (c : ℕ) → IsOpened r c → is c Down ≡ sum_of (down_octets (who_in r c) (periods_to r c (worked_to r (t + n) c)))
@@ -83,10 +88,12 @@ module _ (r : Run) (t n : ℕ) (b : State) (farm after : FarmMemory) (first befo
             let l = s.within in
             let within : s.k < length w.worked = omega (arith, l, w.number, w.filled_number, w.worked_number) in
             let more = seats.down_given (seat_at w.worked s.k) in
-            subst (λ (d : ℕ). is d Down ≡ (was d Down + sum more) % 2 ^ 32) (worked_at t n farm after before now ends w s.k s.within ∙ s.here) (adds.down s.k within)
+            subst (λ (d : ℕ). is d Down ≡ (was d Down + sum more) % 2 ^ 32)
+            (worked_at t n farm after before now ends w s.k s.within ∙ s.here) (adds.down s.k within)
             ∙ ap (λ (v : ℕ). (v + sum more) % 2 ^ 32) (sums.down c i)
             ∙ added (down_octets (who_in r c) (periods_to r c (worked_to r t c))) more
             ∙ sym (ap sum_of (grown_down r t n b farm after first before now ends w h m b' last at meets a knows told open_then c o))
         | inr o ↦ stay c o Down ∙ sums.down c i
-            ∙ ap (λ (k : ℕ). sum_of (down_octets (who_in r c) (periods_to r c k))) (sym (idle r t n b farm after first before now ends w h m b' last at meets a knows told open_then c i o))
+            ∙ ap (λ (k : ℕ). sum_of (down_octets (who_in r c) (periods_to r c k)))
+            (sym (idle r t n b farm after first before now ends w h m b' last at meets a knows told open_then c i o))
       ]

@@ -28,7 +28,8 @@ use Rattle.farm_run.proofs.Worked.Calls.{goes_on_is}
 use Rattle.farm_run.proofs.Worked.Past.{worked_past}
 
 module _ (r : Run) (t n : ℕ) (b : State) (farm after : FarmMemory) (first before now : ℕ → Side → LineState) (ends : List CallEnd)
-    (w : WorkedRound t n farm after before now ends) (h : IsRound r t n b.done b.left) (m : Matches b farm.groups) (b' : State) (last : Standing) (at : IsAtClock r t b farm.groups last first before)
+    (w : WorkedRound t n farm after before now ends) (h : IsRound r t n b.done b.left) (m : Matches b farm.groups) (b' : State) (last : Standing)
+    (at : IsAtClock r t b farm.groups last first before)
     (meets : MeetsRun r n w.filled (standing b' after.failed now) last) where
   -- whether a call is open at the clock
   abbrev alive : ℕ → Bool
@@ -59,7 +60,8 @@ module _ (r : Run) (t n : ℕ) (b : State) (farm after : FarmMemory) (first befo
       let p = worked_past r t n b farm after first before now ends w h m b' last at meets c parts.0 in (
         p.0.now,
         p.2.starts,
-        kept c ∙ ap (λ (x : Bool). if x then was c else kept_of (worked_at_end c) (was c)) (goes c parts.0 ∙ ne_eqb (places_in r b.done t n c) n (apart (places_in r b.done t n c) less))
+        kept c ∙ ap (λ (x : Bool). if x then was c else kept_of (worked_at_end c) (was c))
+        (goes c parts.0 ∙ ne_eqb (places_in r b.done t n c) n (apart (places_in r b.done t n c) less))
             ∙ ap (λ (o : Option CallHistory). kept_of o (was c)) p.1
             ∙ ap (λ (ts : List CallPeriod). tally_of ts p.0.now) p.2.periods,
       )
@@ -83,7 +85,8 @@ module _ (r : Run) (t n : ℕ) (b : State) (farm after : FarmMemory) (first befo
           (goes c o ∙ all (places_in r b.done t n c) refl (sym (ap (λ (x : Bool). x && nat_lt (places_in r b.done t n c) n) o) ∙ e))
       by false o =
           ap (λ (y : Option CallHistory). if goes_on_call w.worked c then was c else kept_of y (was c))
-          (ap (λ (x : Bool). option_map (history_with w.filled (histories_at r b.done t) c (partner_in farm.groups c)) (past_if x (law_in r c) (periods_to r c (t - start_of b.done c)) (settings_now r b.done t c))) o)
+          (ap (λ (x : Bool). option_map (history_with w.filled (histories_at r b.done t) c (partner_in farm.groups c))
+          (past_if x (law_in r c) (periods_to r c (t - start_of b.done c)) (settings_now r b.done t c))) o)
           ∙ either (goes_on_call w.worked c)
 
   -- **A call that its lines end within the round leaves the counts of its periods, and what is kept of the others stays.**

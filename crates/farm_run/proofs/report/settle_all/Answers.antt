@@ -18,7 +18,8 @@ loop-k-preserved c =
     let within : k < length xs = omega (arith, c.loop-k-test.true, ap length same, ap length c.ends-k-end.ensures.ends) in
     record {
       settled = λ h g.
-          settled_more (kept_in farm.tallies h) c.args.journal.now.ends xs k e c.sent.result c.args.journal.now c.loop-k.journal c.settle.new.self same within (sym (get_or_default xs k e no_end within))
+          settled_more (kept_in farm.tallies h) c.args.journal.now.ends xs k e c.sent.result c.args.journal.now c.loop-k.journal c.settle.new.self same within
+          (sym (get_or_default xs k e no_end within))
           (kept_value (λ (t : Tally). t.sent) h farm.groups farm.tallies e.call c.sent.result g (λ x. c.sent.ensures.live h x g) c.sent.ensures.ended)
           c.settle.ensures (c.loop-k.invariant.settled h g);
       ends = ap (λ (j : JournalMemory). j.ends) c.settle.ensures ∙ c.loop-k.invariant.ends;

@@ -10,7 +10,8 @@ calls : (c : goal.In_ok-bridges) → c.in_ok-calls.calls.items ≡ replicate 409
 calls c = c.in_ok-calls.ensures.items_if_clones_equal (λ y h. h)
 
 pub invariant_of-result : goal.invariant_of-result
-invariant_of-result c = (journal-new _ _ _ (calls c) c.in_ok-ends.ensures.items, omega (arith, c.in_ok-ends.ensures.capacity), omega (arith, c.in_ok-bridges.ensures.capacity))
+invariant_of-result c =
+    (journal-new _ _ _ (calls c) c.in_ok-ends.ensures.items, omega (arith, c.in_ok-ends.ensures.capacity), omega (arith, c.in_ok-bridges.ensures.capacity))
 
 pub returns : goal.returns
 returns c =
