@@ -1,3 +1,4 @@
 -- A run that is marked, and one that is resumed at a mark.
 pub mod Calls
+pub mod Numbers
 pub mod Resumption

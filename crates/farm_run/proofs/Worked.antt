@@ -1,5 +1,6 @@
 -- A round as the farm works it, beside that.
 pub mod Round
+pub mod Facts
 pub mod Making
 pub mod Settled
 pub mod Seats

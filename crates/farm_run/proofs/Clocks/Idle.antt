@@ -22,7 +22,7 @@ use Rattle.farm_run.specs.Runs.{HasWritten}
 use Rattle.farm_run.specs.Standing.{Standing, never_given}
 use Rattle.farm_run.specs.Match.{AtClock, past_if, histories_at}
 use Rattle.farm_run.specs.Clock.{IsReadWhole, WrittenFrom, IsAtClock}
-use Rattle.farm_run.proofs.Rounds.Histories.{shut_after}
+use Rattle.farm_run.proofs.Rounds.Open.{shut_after}
 use Rattle.farm_run.proofs.Ordered.Due.{open_told}
 use Rattle.farm_run.proofs.Clocks.Reach.{worked_idle}
 

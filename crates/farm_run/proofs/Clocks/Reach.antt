@@ -21,7 +21,7 @@ use Rattle.run_spec.proofs.Ending.{end_closed, end_lacks}
 use Rattle.run_spec.proofs.Going.{opened_run}
 use Rattle.farm_run.specs.Going.{places_in, ends_within}
 use Rattle.farm_run.proofs.Rounds.Taken.{IsRound}
-use Rattle.farm_run.proofs.Rounds.Histories.{open_at, no_order, has_place}
+use Rattle.farm_run.proofs.Rounds.Open.{open_at, no_order, has_place}
 use Rattle.farm_run.proofs.Rounds.Ends.{ends_there, start_kept}
 
 -- ---- a call that is open

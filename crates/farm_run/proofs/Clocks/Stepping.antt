@@ -22,7 +22,7 @@ use Rattle.farm_run.proofs.Clocks.First.{fell_none}
 use Rattle.farm_run.proofs.Clocks.Idle.{clock_on, goes_on, written_on, none_alive}
 use Rattle.farm_run.proofs.Noted.Knowing.{known_idle}
 use Rattle.farm_run.proofs.Clocks.Meeting.{stays, ordered}
-use Rattle.farm_run.proofs.Noted.Rounds.{truly_same}
+use Rattle.farm_run.proofs.Noted.Truly.{truly_same}
 use Rattle.farm_run.proofs.Lines.Sides.{sides_none}
 use Rattle.farm_run.proofs.Clocks.Summing.{sums_on}
 

@@ -29,7 +29,8 @@ use Rattle.farm_run.specs.Runs.{is_listed, ReadsOn}
 use Rattle.farm_run.specs.Standing.{Standing, standing, is_over, StandingGoesOn, KnowsListed, HasFlags, MeetsRun}
 use Rattle.farm_run.proofs.Listed.Boards.{over_shut, open_opened}
 use Rattle.farm_run.proofs.Listed.Counts.{Lists, seat_cases}
-use Rattle.farm_run.proofs.Worked.Round.{WorkedRound, among_place, lines_kept, incoming_after}
+use Rattle.farm_run.proofs.Worked.Round.{WorkedRound, among_place}
+use Rattle.farm_run.proofs.Worked.Facts.{lines_kept, incoming_after}
 use Rattle.farm_run.proofs.Worked.Seats.{seat_of_at}
 use Rattle.farm_run.proofs.Listed.Seated as its_seats
 use Rattle.farm_run.proofs.Listed.Round as its_lines

@@ -20,7 +20,8 @@ use Rattle.farm_rounds.specs.Calls.{call_in}
 use Rattle.farm_rounds.specs.Numbers.{is_among}
 use Rattle.farm_rounds.specs.Memory.{FarmMemory}
 use Rattle.farm_rounds.specs.Working.{GainsFailed}
-use Rattle.farm_run.proofs.Worked.Round.{WorkedRound, among_place, seat_facts, drained_call, tells_seat, lines_kept, down_between, out_between, up_after, pcm_after}
+use Rattle.farm_run.proofs.Worked.Round.{WorkedRound, among_place, drained_call, tells_seat}
+use Rattle.farm_run.proofs.Worked.Facts.{seat_facts, lines_kept, down_between, out_between, up_after, pcm_after}
 use Rattle.farm_run.specs.Outgoing.{PassesOn}
 use Rattle.farm_run.specs.Runs.{is_listed, TellsFailed}
 use Rattle.farm_run.specs.Clock.{NeverFell}

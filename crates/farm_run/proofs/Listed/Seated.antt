@@ -25,7 +25,8 @@ use Rattle.farm_run.specs.Standing.{is_over, KnowsListed}
 use Rattle.farm_run.proofs.Told.Boards.{told_done}
 use Rattle.farm_run.proofs.Listed.Boards.{not_over, over_told}
 use Rattle.farm_run.proofs.Worked.Clock as round_clock
-use Rattle.farm_run.proofs.Worked.Round.{WorkedRound, SeatFacts, seat_facts, filled_call, filled_periods, worked_call, drained_call, up_long, pcm_long}
+use Rattle.farm_run.proofs.Worked.Round.{WorkedRound, SeatFacts, filled_call, filled_periods, worked_call, drained_call, up_long, pcm_long}
+use Rattle.farm_run.proofs.Worked.Facts.{seat_facts}
 
 -- an end is told of an open call that isn't open afterwards
 over_by : (p q g p' q' g' : Bool) → p' ≡ p → q' ≡ q → (p && not q && not g) ≡ true → (p' && not q' && not g') ≡ false → (g' || q') ≡ true

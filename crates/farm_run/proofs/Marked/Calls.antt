@@ -1,8 +1,8 @@
 -- The calls of a mark: those that are live at a run's last period are those that only its end cuts off.
-use Rattle.std.proofs.Common.{◌≡◌, refl, sym, ap, ◌∙◌, subst, ℕ, suc, ◌+◌, ◌-◌, ◌*◌, ◌<◌, ◌≤◌, Bool, true, false, ◌&&◌, Option, Some, None, List, [], ◌∷◌, ◌++◌, length, map, take, cond, get_or, inl, inr, arith}
-use Rattle.std.specs.Prelude.{◌==◌, ◌||◌, is_some, filter, nat_lt, if◌then◌else◌, slice_index, IfSome}
-use Rattle.std.specs.List.{range_with_len, All, AllByRecursion}
-use Rattle.std.proofs.lemmas.Bool.{cases_Bool, ltb-true, eqb-true, eq-eqb, ne_eqb, true≢false}
+use Rattle.std.proofs.Common.{◌≡◌, refl, sym, ap, ◌∙◌, subst, ℕ, ◌+◌, ◌-◌, ◌*◌, ◌<◌, ◌≤◌, Bool, true, false, ◌&&◌, Option, Some, None, List, [], ◌∷◌, ◌++◌, length, map, take, get_or, inl, inr, arith}
+use Rattle.std.specs.Prelude.{is_some, filter, nat_lt, if◌then◌else◌, IfSome}
+use Rattle.std.specs.List.{range_with_len, All}
+use Rattle.std.proofs.lemmas.Bool.{cases_Bool, ltb-true}
 use Rattle.std.proofs.lemmas.List.{length-map, map-append, take_more, get_or-map}
 use Rattle.trau_io.specs.declared.ends.CallEnd.{CallEnd}
 use Rattle.trau_io.specs.declared.ends.Cause.{Cause}
@@ -39,46 +39,9 @@ use Rattle.farm_run.specs.Clock.{IsAtClock}
 use Rattle.farm_run.proofs.Ordered.Due.{open_told}
 use Rattle.farm_run.proofs.Reported.LastEnds.{each_among, all_among}
 use Rattle.farm_run.proofs.Clocks.Reach.{worked_all}
-use Rattle.farm_run.proofs.Reported.Rising.{Rises, has, rising_same, range_rises, range_has}
-use Rattle.farm_run.proofs.Rounds.Histories.{open_at}
-
--- ---- lists of numbers
-
--- numbers of which each is below the later ones
-rises_of : (m : ℕ) (xs : List ℕ) → ((i : ℕ) → i < length xs → m ≤ slice_index xs i) → IsRising xs → Rises m xs
-rises_of m [] least rising = tt
-rises_of m (x ∷ xs) least rising =
-    (least 0 (omega arith), rises_of (suc x) xs (λ i l. let k = rising 0 (suc i) (omega arith) (omega arith) in omega (arith, k))
-    (λ i j l k. rising (suc i) (suc j) (omega arith) (omega arith)))
-
--- two tests of whether a number is among some
-has_among : (c : ℕ) (xs : List ℕ) → has c xs ≡ is_among xs c
-has_among c [] = refl
-has_among c (x ∷ xs) = ap (λ (b : Bool). b || has c xs) (turn (c == x) refl) ∙ ap (λ (b : Bool). (x == c) || b) (has_among c xs)
-  where
-    turn : (b : Bool) → (c == x) ≡ b → (c == x) ≡ (x == c)
-    turn true e = e ∙ sym (eq-eqb x c (sym (eqb-true c x e)))
-    turn false e = e ∙ sym (ne_eqb x c (λ q. true≢false (sym (eq-eqb c x (sym q)) ∙ e)))
-
--- one test behind another
-twice_more : (p q : ℕ → Bool) (x : ℕ) (xs : List ℕ) → filter p (filter q xs) ≡ filter (λ c. q c && p c) xs → (b : Bool) →
-    filter p (cond b (x ∷ filter q xs) (filter q xs)) ≡ cond (b && p x) (x ∷ filter (λ c. q c && p c) xs) (filter (λ c. q c && p c) xs)
-twice_more p q x xs rest false = rest
-twice_more p q x xs rest true = within (p x)
-  where
-    within : (b : Bool) → cond b (x ∷ filter p (filter q xs)) (filter p (filter q xs)) ≡ cond b (x ∷ filter (λ c. q c && p c) xs) (filter (λ c. q c && p c) xs)
-    within true = ap (λ (ys : List ℕ). x ∷ ys) rest
-    within false = rest
-
--- two tests one after the other are one
-filter_twice : (p q : ℕ → Bool) (xs : List ℕ) → filter p (filter q xs) ≡ filter (λ c. q c && p c) xs
-filter_twice p q [] = refl
-filter_twice p q (x ∷ xs) = twice_more p q x xs (filter_twice p q xs) (q x)
-
--- entries that are the same one by one are so as a list
-map_each : (f g : ℕ → MarkCall) (xs : List ℕ) → AllByRecursion (λ c. f c ≡ g c) xs → map f xs ≡ map g xs
-map_each f g [] e = refl
-map_each f g (x ∷ xs) e = ap (λ (y : MarkCall). y ∷ map f xs) e.0 ∙ ap (λ (ys : List MarkCall). g x ∷ ys) (map_each f g xs e.1)
+use Rattle.farm_run.proofs.Reported.Rising.{has, rising_same, range_rises, range_has}
+use Rattle.farm_run.proofs.Rounds.Open.{open_at}
+use Rattle.farm_run.proofs.Marked.Numbers.{rises_of, has_among, filter_twice, map_each}
 
 -- a call that its lines end isn't cut off by the run's end
 not_limit : (k : ℕ) (g : Given) → is_limit (lack_of k g) ≡ false

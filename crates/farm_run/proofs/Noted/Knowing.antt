@@ -13,7 +13,8 @@ use Rattle.farm_run.specs.Clock.{EndsRound}
 use Rattle.farm_run.specs.Noted.{IsKnown, Noted, TellsTruly}
 use Rattle.farm_run.proofs.Rounds.Ends.{end_within, ends_there}
 use Rattle.farm_run.proofs.Told.Boards.{told_done}
-use Rattle.farm_run.proofs.Noted.Rounds.{IsRoundEnd, noted_start, noted_jump, noted_round, truly_start, truly_told}
+use Rattle.farm_run.proofs.Noted.Rounds.{IsRoundEnd, noted_start, noted_jump, noted_round}
+use Rattle.farm_run.proofs.Noted.Truly.{truly_start, truly_told}
 
 -- nothing is known before the first order
 pub known_start : (r : Run) (b : State) (tallies : List Tally) (j : JournalMemory) → EndBefore 0 b → b.done ≡ [] → j ≡ new_journal → IsKnown r 0 b tallies j

@@ -1,17 +1,17 @@
 -- What is noted of a run, from round to round.
-use Rattle.std.proofs.Common.{◌≡◌, refl, sym, ap, ◌∙◌, subst, ℕ, suc, ◌+◌, ◌-◌, ◌<◌, ◌≤◌, Bool, true, false, not, ◌&&◌, ◌||◌, Option, Some, None, List, [], ◌∷◌, length, get_or, set, inl, inr, ◌⊎◌, arith}
+use Rattle.std.proofs.Common.{◌≡◌, refl, sym, ap, ◌∙◌, subst, ℕ, suc, ◌+◌, ◌-◌, ◌≤◌, Bool, true, false, not, ◌&&◌, ◌||◌, Option, Some, None, List, [], ◌∷◌, arith}
 use Rattle.std.specs.Prelude.{min, nat_lt, is_some, IfSome, if◌then◌else◌}
 use Rattle.std.specs.List.{AllByRecursion, filter_map}
 use Rattle.std.proofs.Math.Bool.{and-false}
-use Rattle.std.proofs.lemmas.Bool.{cases_eq, cases_lt, and_parts, true≢false}
-use Rattle.std.proofs.lemmas.List.{length-replicate, length-set, get_or_past, get_or-set_same, get_or-set_other}
+use Rattle.std.proofs.lemmas.Bool.{and_parts, true≢false}
+use Rattle.std.proofs.lemmas.List.{length-replicate}
 use Rattle.trau_io.specs.declared.ends.CallEnd.{CallEnd}
 use Rattle.trau_orders.specs.declared.order.Order.{Order}
 use Rattle.switchboard.specs.Calls.{Done, opened_at, closed_at, is_open, gone_at}
 use Rattle.switchboard.specs.Bridges.{bridges}
 use Rattle.switchboard.specs.Ends.{end_of, start_of, ends_at}
 use Rattle.switchboard.specs.Stands.{IsLatest}
-use Rattle.switchboard.specs.State.{State, EndBefore, told_in, told_more, first_stamp}
+use Rattle.switchboard.specs.State.{first_stamp}
 use Rattle.call_leg.specs.Periods.{CallPeriod, bridges_begun}
 use Rattle.call_leg.specs.Settings.{Settings}
 use Rattle.call_leg.specs.Counted.{call_counts}
@@ -32,13 +32,13 @@ use Rattle.run_spec.proofs.Going.{start_run}
 use Rattle.run_spec.proofs.Sent.{sent_at_end}
 use Rattle.farm_run.specs.declared.notes.Opening.{Opening}
 use Rattle.farm_run.specs.Journal.{JournalMemory, no_opening, opening_of, new_journal, with_ends}
-use Rattle.farm_run.specs.Going.{places_in, ends_within, told_after, is_told}
+use Rattle.farm_run.specs.Going.{places_in, ends_within, is_told}
 use Rattle.farm_run.proofs.Rounds.Taken.{IsRound, IsSeat}
 use Rattle.farm_run.specs.Ending.{AreApart}
-use Rattle.farm_run.specs.Noted.{is_opened, ended_at, IsKept, Noted, TellsTruly}
-use Rattle.farm_run.proofs.Rounds.Histories.{shut_after}
+use Rattle.farm_run.specs.Noted.{is_opened, ended_at, IsKept, Noted}
+use Rattle.farm_run.proofs.Rounds.Open.{shut_after}
 use Rattle.farm_run.proofs.Rounds.Ends.{end_within, start_kept, ends_there}
-use Rattle.farm_run.proofs.Told.Seats.{each_end, ends_right}
+use Rattle.farm_run.proofs.Told.Seats.{each_end}
 use Rattle.farm_run.proofs.Told.Boards.{gone_round}
 use Rattle.farm_run.proofs.Noted.Noting.{IsNewEnd, noted_ends, noted_same}
 
@@ -198,51 +198,3 @@ noted_round r t n ds left j tallies tallies' ends h noted each apart told kept s
         (kept_at_end r (t + places_in r ds t n c) ds left j.calls c k.0 (far (places_in r ds t n c) (within (start_of ds c + whole_in r c - t)))
         (open_not_ended r t ds c (opened c w)).1 (places.latest c)
         (ends_there r t n ds left c h w) k.1)
-
--- ---- the ends that the board was told
-
--- **A board that was told no end tells none that is wrong.**
-pub truly_start : (r : Run) (s : State) → EndBefore 0 s → TellsTruly r s
-truly_start r s h c at e = absurd (by (told_in s c) e (h c))
-  where
-    by : (o : Option ℕ) → o ≡ Some at → IfSome o (λ at. at < 0) → ⊥
-    by None e h = cc
-    by (Some v) e h = omega arith
-
--- **Nor does one that was told the same ends,**
-pub truly_same : (r : Run) (s now : State) → now.told ≡ s.told → TellsTruly r s → TellsTruly r now
-truly_same r s now e h c at f = h c at (ap (λ (told : List (Option ℕ)). get_or told c None) (sym e) ∙ f)
-
--- one end more
-truly_more : (r : Run) (s : State) (call at : ℕ) → ends_at (given_in r) r.periods (done_in r) call ≡ at → TellsTruly r s → TellsTruly r (told_more s call at)
-truly_more r s call at right h c v e = elim (cases_eq c call) [
-  | inr n ↦ h c v (sym (get_or-set_other s.told call c (Some at) None n) ∙ e)
-  | inl q ↦ ap (ends_at (given_in r) r.periods (done_in r)) q ∙ right ∙ told (cases_lt call (length s.told))
-      (ap (λ (c : ℕ). told_in (told_more s call at) c) (sym q) ∙ e)
-]
-  where
-    one : (a b : ℕ) → Some a ≡ Some b → a ≡ b
-    one a b e = cc
-
-    none : (o : Option ℕ) → o ≡ None → o ≡ Some v → ⊥
-    none o e f = cc
-
-    told : (call < length s.told) ⊎ (length s.told ≤ call) → told_in (told_more s call at) call ≡ Some v → at ≡ v
-    told (inl l) f = one at v (sym (get_or-set_same s.told call (Some at) None l) ∙ f)
-    told (inr l) f = absurd (none _ (get_or_past (set s.told call (Some at)) call None (let k = length-set s.told call (Some at) in omega arith)) f)
-
--- **nor one that was told further ends, those of the run.**
-pub truly_told : (r : Run) (s : State) (ends : List CallEnd) → AllByRecursion (λ e. e.at ≡ ends_at (given_in r) r.periods (done_in r) e.call) ends →
-    TellsTruly r s → TellsTruly r (told_after s ends)
-truly_told r s [] a h = h
-truly_told r s (e ∷ ends) a h = truly_told r (told_more s e.call e.at) ends a.1 (truly_more r s e.call e.at (sym a.0) h)
-
--- **Those that the seats of a round tell are the run's.**
-pub truly_round : (r : Run) (t n : ℕ) (ds : List Done) (left : List Order) (seats : List SeatMemory) (s : State) → IsRound r t n ds left →
-    AllByRecursion (IsSeat r ds t n) seats → TellsTruly r s →
-    TellsTruly r (told_after s (filter_map (seat_end t) seats))
-truly_round r t n ds left seats s h a =
-    truly_told r s (filter_map (seat_end t) seats)
-    (each_weaker (λ e. (t ≤ e.at) × (e.at < t + n) × (e.at ≡ ends_at (given_in r) r.periods (done_in r) e.call))
-    (λ e. e.at ≡ ends_at (given_in r) r.periods (done_in r) e.call) (filter_map (seat_end t) seats) (λ e k. k.2)
-    (ends_right r t n ds left seats h a))

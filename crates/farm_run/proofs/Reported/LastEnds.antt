@@ -35,13 +35,14 @@ use Rattle.farm_run.specs.Facts.{span_lines, kept_in, call_line, settled_each}
 use Rattle.farm_run.specs.Going.{told_after, is_told}
 use Rattle.farm_run.specs.Ending.{limit_at}
 use Rattle.farm_run.specs.Noted.{call_end_in, is_opened, ended_at, IsKept, IsNoted, TellsTruly, IsAtEnd}
-use Rattle.farm_run.proofs.Rounds.Histories.{open_at}
+use Rattle.farm_run.proofs.Rounds.Open.{open_at}
 use Rattle.farm_run.proofs.Told.Boards.{told_done}
 use Rattle.farm_run.proofs.Listed.Tests.{no}
 use Rattle.farm_run.proofs.Ordered.Due.{open_told}
 use Rattle.farm_run.proofs.Told.Ends.{limits_told, limits_apart}
 use Rattle.farm_run.proofs.Noted.Noting.{IsNewEnd, noted_ends, noted_same}
-use Rattle.farm_run.proofs.Noted.Rounds.{kept_at_end, open_not_ended, truly_told}
+use Rattle.farm_run.proofs.Noted.Rounds.{kept_at_end, open_not_ended}
+use Rattle.farm_run.proofs.Noted.Truly.{truly_told}
 use Rattle.farm_run.proofs.Reported.Finishing.{calls_reported, spans_reported}
 
 -- what holds of each number that is among these holds of all of them

@@ -21,7 +21,7 @@ use Rattle.run_spec.proofs.Ending.{end_lacks, end_limit}
 use Rattle.run_spec.proofs.Going.{start_run}
 use Rattle.farm_run.specs.Going.{places_in, ends_within}
 use Rattle.farm_run.proofs.Rounds.Taken.{IsRound, IsTaken}
-use Rattle.farm_run.proofs.Rounds.Histories.{IsOpenAt, open_at, no_order}
+use Rattle.farm_run.proofs.Rounds.Open.{IsOpenAt, open_at, no_order}
 
 -- ---- the run's end
 

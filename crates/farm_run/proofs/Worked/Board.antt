@@ -26,7 +26,7 @@ use Rattle.farm_run.proofs.Rounds.Taken.{IsRound}
 use Rattle.farm_run.specs.Match.{AtClock, Matches, past_if, histories_at}
 use Rattle.farm_run.specs.Standing.{Standing, standing, KnowsListed, MeetsRun}
 use Rattle.farm_run.specs.Clock.{IsAtClock}
-use Rattle.farm_run.proofs.Rounds.Histories.{open_after, shut_after}
+use Rattle.farm_run.proofs.Rounds.Open.{open_after, shut_after}
 use Rattle.farm_run.proofs.Rounds.Ends.{end_within}
 use Rattle.farm_run.proofs.Told.Boards.{told_done, gone_round}
 use Rattle.farm_run.proofs.Told.Seats.{each_end, told_seats}

@@ -28,7 +28,7 @@ use Rattle.farm_run.specs.Runs.{IsCutOff}
 use Rattle.farm_run.specs.Match.{AtClock, Matches, histories_at}
 use Rattle.farm_run.specs.Standing.{Standing, standing, KnowsListed, MeetsRun, IsToCome, never_given}
 use Rattle.farm_run.specs.Clock.{IsReadWhole, LinesAt, IsAtClock}
-use Rattle.farm_run.proofs.Rounds.Histories.{open_at}
+use Rattle.farm_run.proofs.Rounds.Open.{open_at}
 use Rattle.farm_run.proofs.Rounds.Ends.{end_within, start_kept}
 use Rattle.farm_run.proofs.Told.Boards.{told_done, told_left, round_over}
 use Rattle.farm_run.proofs.Clocks.Reach.{end_after, worked_then}

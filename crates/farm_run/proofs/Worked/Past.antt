@@ -28,7 +28,8 @@ use Rattle.farm_run.proofs.Rounds.Taken.{IsRound, IsFed}
 use Rattle.farm_run.specs.Match.{Matches, past_if, histories_at}
 use Rattle.farm_run.specs.Standing.{Standing, standing, MeetsRun}
 use Rattle.farm_run.specs.Clock.{IsAtClock}
-use Rattle.farm_run.proofs.Rounds.Histories.{alone_worked, alone_settings, settings_kept, bridge_open}
+use Rattle.farm_run.proofs.Rounds.Histories.{alone_worked, alone_settings, settings_kept}
+use Rattle.farm_run.proofs.Rounds.Open.{bridge_open}
 use Rattle.farm_run.proofs.Rounds.Partners.{bridged_worked, bridged_settings, both_calls}
 use Rattle.farm_run.proofs.Rounds.Finished.{fed_taken}
 use Rattle.farm_run.proofs.Ordered.Due.{open_told}

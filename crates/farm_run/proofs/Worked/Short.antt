@@ -21,7 +21,7 @@ use Rattle.farm_run.specs.Match.{AtClock, Matches}
 use Rattle.farm_run.specs.Standing.{Standing, standing, KnowsListed, MeetsRun}
 use Rattle.farm_run.specs.Clock.{IsAtClock, FailedInRound}
 use Rattle.farm_run.proofs.Rounds.Taken.{IsRound}
-use Rattle.farm_run.proofs.Rounds.Histories.{open_at}
+use Rattle.farm_run.proofs.Rounds.Open.{open_at}
 use Rattle.farm_run.proofs.Rounds.Ends.{start_kept}
 use Rattle.farm_run.proofs.Clocks.Reach.{end_after, open_before_end}
 use Rattle.farm_run.proofs.Worked.Round.{WorkedRound, up_long, pcm_long}

@@ -28,7 +28,8 @@ use Rattle.farm_run.specs.Stages.{SumsAt}
 use Rattle.farm_run.proofs.Rounds.Taken.{IsRound}
 use Rattle.farm_run.proofs.Worked.Calls.{OpenSeat, open_seat, open_is}
 use Rattle.farm_run.proofs.Worked.Written.{grown_out, grown_down, idle}
-use Rattle.farm_run.proofs.Worked.Round.{WorkedRound, worked_at}
+use Rattle.farm_run.proofs.Worked.Round.{WorkedRound}
+use Rattle.farm_run.proofs.Worked.Facts.{worked_at}
 
 -- the sum of a list in two parts
 sum_both : (xs ys : List ℕ) → sum (xs ++ ys) ≡ sum xs + sum ys

@@ -33,10 +33,11 @@ use Rattle.farm_run.specs.Runs.{HasWritten, is_listed}
 use Rattle.farm_run.specs.Match.{AtClock, Matches, histories_at}
 use Rattle.farm_run.specs.Standing.{Standing, standing, KnowsListed, MeetsRun}
 use Rattle.farm_run.specs.Clock.{WrittenFrom, IsAtClock}
-use Rattle.farm_run.proofs.Rounds.Histories.{open_at}
+use Rattle.farm_run.proofs.Rounds.Open.{open_at}
 use Rattle.farm_run.proofs.Rounds.Finished.{out_written, down_written}
 use Rattle.farm_run.proofs.Clocks.Reach.{worked_now, worked_then, worked_idle}
-use Rattle.farm_run.proofs.Worked.Round.{WorkedRound, lines_kept, writes_at, down_between, out_between}
+use Rattle.farm_run.proofs.Worked.Round.{WorkedRound}
+use Rattle.farm_run.proofs.Worked.Facts.{lines_kept, writes_at, down_between, out_between}
 use Rattle.farm_run.proofs.Lines.Gaining.{gains}
 use Rattle.run_spec.proofs.LongerLines.{length-out_line, length-down_octets, length-periods_to}
 use Rattle.farm_run.proofs.Listed.Round.{listed_kept, was_down, was_out, stands_down, stands_out}

@@ -20,8 +20,9 @@ use Rattle.farm_run.proofs.Listed.Round.{order_after, listed_back}
 use Rattle.farm_run.proofs.Listed.Behind.{knows_after, goes_after, meets_run}
 use Rattle.farm_run.proofs.Told.Boards.{told_done, told_orders}
 use Rattle.farm_run.proofs.Worked.Making.{IsMade, made_octets, made_open, made_partners, made_stands, made_tallies}
-use Rattle.farm_run.proofs.Worked.Round as parts
-use Rattle.farm_run.proofs.Worked.Round.{FilledRound, WorkedRound, outgoing_between}
+use Rattle.farm_run.proofs.Worked.Facts as parts
+use Rattle.farm_run.proofs.Worked.Round.{FilledRound, WorkedRound}
+use Rattle.farm_run.proofs.Worked.Facts.{outgoing_between}
 use Rattle.farm_run.proofs.Listed.Counts.{fell_round, tells_round}
 use Rattle.farm_run.proofs.Lines.Sides.{sides_more, sides_filled}
 use Rattle.farm_run.proofs.Worked.Clock.{tells_numbers, tells_open, tells_apart, tells_late, clock_after}

@@ -7,7 +7,8 @@ use Rattle.switchboard.specs.Open.{opened_now, open_now, partner_now, opened_aft
 use Rattle.farm_run.specs.Match.{histories_at}
 use Rattle.farm_run.specs.Journal.{JournalMemory}
 use Rattle.farm_run.specs.Noted.{Noted}
-use Rattle.farm_run.proofs.Noted.Orders.{noted_accepted, noted_quiet}
+use Rattle.farm_run.proofs.Noted.Orders.{noted_quiet}
+use Rattle.farm_run.proofs.Noted.Accepted.{noted_accepted}
 use Rattle.farm_run.proofs.Ordered.Matching.{fits, named, matches_more, matches_same}
 use Rattle.farm_run.proofs.Ordered.Due.{due_of, told_kept, left_fewer, ahead_more}
 use Rattle.farm_run.proofs.Ordered.Following.{follows_more, follows_same}
