@@ -12,7 +12,9 @@ use Rattle.switchboard.specs.Ends.{start_of}
 use Rattle.switchboard.specs.State.{State}
 use Rattle.farm_rounds.specs.declared.call.Group.{Group}
 use Rattle.round_lines.specs.Rounds.{IsOutgoing}
+use Rattle.farm_checkpoint.specs.Marks.{MarkView}
 use Rattle.run_spec.specs.Run.{Run, done_in, end_in, IsOpened, worked_to}
+use Rattle.run_spec.specs.Mark.{marked_calls}
 use Rattle.farm_run.specs.Runs.{TellsFailed, KeepsSides, ReadsOn, IsRunOver, is_listed}
 use Rattle.farm_run.specs.Standing.{standing}
 use Rattle.farm_run.specs.Fronts.{LeavesFronts, IsCutShort}
@@ -86,12 +88,12 @@ cut_first os periods lines = record {
 -- ---- a resumed run
 
 -- **So is one that wrote nothing yet.**
-pub cut_before : (os : List Order) (periods from : ℕ) (failed : List Line) (first now : ℕ → Side → LineState) → TellsFailed first now failed →
+pub cut_before : (os : List Order) (periods : ℕ) (mark : MarkView) (failed : List Line) (first now : ℕ → Side → LineState) → TellsFailed first now failed →
     KeepsSides first now → ReadsOn first now →
     ((c : ℕ) (s : Side) → IsOutgoing s → now c s ≡ first c s) →
     ((r : Run) → IsRunOver os periods (is_listed failed) first now r → (c : ℕ) (s : Side) → (IsOpened r c → ⊥) → now c s ≡ first c s) →
-    IsResumeCutShort os periods from first now
-cut_before os periods from failed first now tells sides reads unwritten others = record {
+    IsResumeCutShort os periods mark first now
+cut_before os periods mark failed first now tells sides reads unwritten others = record {
   fails = is_listed failed;
   told = tells.failures;
   sides = sides;
@@ -101,20 +103,22 @@ cut_before os periods from failed first now tells sides reads unwritten others =
     down = λ c i. (0, none (first c Down) (now c Down) (unwritten c Down tt));
     others = others r run;
   };
-  there = λ are told. there_is os periods (is_listed failed) first now are
+  held = λ r run differs. unwritten;
+  there = λ are told n. there_is os n (is_listed failed) first now are
       (λ c s n i. let octets = told c s n i in let k = reads c s octets.0 i octets.1 in (octets.0, k.0, octets.1, k.1));
 }
   where
     none : (was is : LineState) → is ≡ was → Appends was.written is.written []
     none was is e = subst (λ (l : LineState). Appends was.written l.written []) (sym e) (Appends-nil was.written)
 
--- **So is one that stops at a clock behind the period from which on it writes.**
-pub cut_behind : (os : List Order) (periods from t : ℕ) (b : State) (groups : List Group) (failed : List Line) (first now : ℕ → Side → LineState) → from ≤ t →
-    TellsFailed first now failed → KeepsSides first now → ReadsOn first now →
+-- **So is one that stops at a clock behind the mark's period, where the mark is the run's.**
+pub cut_behind : (os : List Order) (periods : ℕ) (mark : MarkView) (t : ℕ) (b : State) (groups : List Group) (failed : List Line)
+    (first now : ℕ → Side → LineState) → mark.period ≤ t → TellsFailed first now failed → KeepsSides first now → ReadsOn first now →
+    ((r : Run) → IsRunOver os mark.period (is_listed failed) first now r → marked_calls r ≡ mark.calls) →
     ((r : Run) → IsRunOver os r.periods (is_listed failed) first now r → periods ≤ r.periods → IsAtClock r t b groups (standing b failed now) first now) →
-    ((r : Run) → IsRunOver os r.periods (is_listed failed) first now r → periods ≤ r.periods → WrittenFrom r from t (is_listed failed) first now) →
-    IsResumeCutShort os periods from first now
-cut_behind os periods from t b groups failed first now behind tells sides reads goes wrote = record {
+    ((r : Run) → IsRunOver os r.periods (is_listed failed) first now r → periods ≤ r.periods → WrittenFrom r mark.period t (is_listed failed) first now) →
+    IsResumeCutShort os periods mark first now
+cut_behind os periods mark t b groups failed first now behind tells sides reads same goes wrote = record {
   fails = is_listed failed;
   told = tells.failures;
   sides = sides;
@@ -125,18 +129,19 @@ cut_behind os periods from t b groups failed first now behind tells sides reads 
       let here = goes r is (omega (arith, e)) in
       let written = wrote r is (omega (arith, e)) in
       record {
-        out = λ c i. out_front_from r c (worked_to r from c) (worked_to r t c) (end_in r c - start_of (done_in r) c) (is_listed failed c Out) (first c Out)
+        out = λ c i. out_front_from r c (worked_to r mark.period c) (worked_to r t c) (end_in r c - start_of (done_in r) c) (is_listed failed c Out) (first c Out)
             (now c Out) (sooner (end_in r c) (start_of (done_in r) c)) (least (end_in r c) (start_of (done_in r) c)) (written.out c i);
-        down = λ c i. down_front_from r c (worked_to r from c) (worked_to r t c) (end_in r c - start_of (done_in r) c) (is_listed failed c Down) (first c Down)
+        down = λ c i. down_front_from r c (worked_to r mark.period c) (worked_to r t c) (end_in r c - start_of (done_in r) c) (is_listed failed c Down) (first c Down)
             (now c Down) (sooner (end_in r c) (start_of (done_in r) c)) (least (end_in r c) (start_of (done_in r) c)) (written.down c i);
         others = here.lines.others;
       };
-  there = λ are told. there_is os periods (is_listed failed) first now are
+  held = λ r run differs. absurd (differs (same r run));
+  there = λ are told n. there_is os n (is_listed failed) first now are
       (λ c s n i. let octets = told c s n i in let k = reads c s octets.0 i octets.1 in (octets.0, k.0, octets.1, k.1));
 }
   where
     least : (e s : ℕ) → min t e - s ≤ e - s
     least e s = omega arith
 
-    sooner : (e s : ℕ) → min from e - s ≤ min t e - s
+    sooner : (e s : ℕ) → min mark.period e - s ≤ min t e - s
     sooner e s = omega arith

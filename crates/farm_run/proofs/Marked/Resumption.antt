@@ -57,17 +57,19 @@ module _ (os : List Order) (batch periods : ℕ) (first now : ℕ → Side → L
       (λ r run least. wrote r (standing u.board u.farm.failed now) run (omega (arith, l, least)) (stays (standing u.board u.farm.failed now)))
 
   -- **So is a resumed one that wrote nothing,**
-  pub cut_unwritten : (from : ℕ) → ((c : ℕ) (s : Side) → IsOutgoing s → now c s ≡ first c s) → IsResumeCutShort os periods from first now
-  cut_unwritten from unwritten = cut_before os periods from u.farm.failed first now g.tells g.sides g.reads unwritten
+  pub cut_unwritten : (mark : MarkView) → ((c : ℕ) (s : Side) → IsOutgoing s → now c s ≡ first c s) → IsResumeCutShort os periods mark first now
+  cut_unwritten mark unwritten = cut_before os periods mark u.farm.failed first now g.tells g.sides g.reads unwritten
       (λ r run. let e = run.same_periods in
       let here = at_here r (subst (λ (p : ℕ). IsRunOver os p (is_listed u.farm.failed) first now r) (sym e) run) (omega (arith, e)) in here.lines.others)
 
-  -- **and one that wrote what lies behind a period.**
-  pub cut_written : (from : ℕ) → from ≤ u.clock →
+  -- **and one that wrote what lies behind the mark's period, where the mark is the run's.**
+  pub cut_written : (mark : MarkView) → mark.period ≤ u.clock →
+      ((r : Run) → IsRunOver os mark.period (is_listed u.farm.failed) first now r → marked_calls r ≡ mark.calls) →
       ((r : Run) (z : Standing) → IsRunOver os r.periods z.listed first z.lines r → u.clock ≤ r.periods →
-      StandingGoesOn (standing u.board u.farm.failed now) z → WrittenFrom r from u.clock (is_listed u.farm.failed) first now) →
-      IsResumeCutShort os periods from first now
-  cut_written from behind wrote = cut_behind os periods from u.clock u.board u.farm.groups u.farm.failed first now behind g.tells g.sides g.reads at_here
+      StandingGoesOn (standing u.board u.farm.failed now) z → WrittenFrom r mark.period u.clock (is_listed u.farm.failed) first now) →
+      IsResumeCutShort os periods mark first now
+  cut_written mark behind same wrote =
+      cut_behind os periods mark u.clock u.board u.farm.groups u.farm.failed first now behind g.tells g.sides g.reads same at_here
       (λ r run least. wrote r (standing u.board u.farm.failed now) run (omega (arith, l, least)) (stays (standing u.board u.farm.failed now)))
 
 -- **A run that came to a clock is cut short there.**
@@ -79,19 +81,19 @@ stretch_cut os batch periods o s first now f written after =
     (wrote_first os batch o s after.0 first now f written after.2)
 
 -- **So is a resumed one that holds back what it has come to.**
-pub held_cut : (os : List Order) (batch periods until from : ℕ) (o : Outgoing) (s : Stage) (first now : ℕ → Side → LineState) → IsFirstStage os o s →
+pub held_cut : (os : List Order) (batch periods until : ℕ) (mark : MarkView) (o : Outgoing) (s : Stage) (first now : ℕ → Side → LineState) → IsFirstStage os o s →
     is_held o ≡ true → until ≤ periods →
-    ((after : Stage) × (after.clock ≤ until) × Reaches batch s after first now) → IsResumeCutShort os periods from first now
-held_cut os batch periods until from o s first now f held within after =
+    ((after : Stage) × (after.clock ≤ until) × Reaches batch s after first now) → IsResumeCutShort os periods mark first now
+held_cut os batch periods until mark o s first now f held within after =
     let back = (let h = after.2 in h.back (ap is_held f.way ∙ held)) in
     let l = after.1 in
     cut_unwritten os batch periods first now after.0 (gone_more os batch first first now s after.0 (gone_first os batch o s first f) after.2)
-    (omega (arith, l, within)) from back.lines
+    (omega (arith, l, within)) mark back.lines
 
 -- **So is one that didn't begin.**
-pub unbegun_cut : (os : List Order) (periods from : ℕ) (lines : ℕ → Side → LineState) → IsResumeCutShort os periods from lines lines
-unbegun_cut os periods from lines =
-    cut_before os periods from [] lines lines (tells_none lines) (sides_none lines) (λ c s octets i e. (0, e)) (λ c s o. refl) (λ r run c s none. refl)
+pub unbegun_cut : (os : List Order) (periods : ℕ) (mark : MarkView) (lines : ℕ → Side → LineState) → IsResumeCutShort os periods mark lines lines
+unbegun_cut os periods mark lines =
+    cut_before os periods mark [] lines lines (tells_none lines) (sides_none lines) (λ c s octets i e. (0, e)) (λ c s o. refl) (λ r run c s none. refl)
 
 -- ---- where the mark is compared
 
@@ -114,7 +116,7 @@ module _ (os : List Order) (pace : Pace) (mark : MarkView) (o : Outgoing) (s m :
   sums = summed_first os pace.batch o s m first mid begins summed none come
 
   -- **A mark that isn't that of the run.**
-  pub difference_told : (call : ℕ) → IsLeastDifference mark.calls calls call → FindsDifference os mark first mid call
+  pub difference_told : (call : ℕ) → IsLeastDifference mark.calls calls call → FindsDifference os pace mark first mid call
   difference_told call least = record {
     failed = m.farm.failed;
     told = g.tells;
@@ -126,6 +128,7 @@ module _ (os : List Order) (pace : Pace) (mark : MarkView) (o : Outgoing) (s m :
     up_read = λ r run. up_rest r m.board m.farm.groups m.farm.failed first mid (at_end os pace.batch first mid m g r (over r run));
     pcm_read = λ r run. pcm_rest r m.board m.farm.groups m.farm.failed first mid (at_end os pace.batch first mid m g r (over r run));
     others = λ r run. let here = at_end os pace.batch first mid m g r (over r run) in here.lines.others;
+    short = λ r run. short_end os pace.batch first mid m g r (over r run);
     there = λ are told. there os pace.batch first mid m g are told mark.period;
   }
     where
@@ -184,11 +187,22 @@ module _ (os : List Order) (pace : Pace) (mark : MarkView) (o : Outgoing) (s m :
         (h.wrote refl m.clock (omega arith) r first z (flags_of r os r.periods first z run) within on
         (g.at r z run (omega (arith, later, within)) (further _ _ _ h.goes on)) (none_written r))
 
+    -- the run to the mark's period has the calls that were live there
+    at_mark : (r : Run) → IsRunOver os mark.period (is_listed u.farm.failed) first now r → map (entry_of m) m.farm.live ≡ marked_calls r
+    at_mark r run =
+        let p = run.same_periods in
+        let z : Standing = standing u.board u.farm.failed now in
+        let here : IsRunOver os r.periods (is_listed u.farm.failed) first now r =
+        subst (λ (n : ℕ). IsRunOver os n (is_listed u.farm.failed) first now r) (sym p) run in
+        let clock : m.clock ≡ r.periods = e ∙ sym p in
+        let within : m.clock ≤ r.periods = omega (arith, clock) in
+        entries_are m live rising g.stage r z first mid (g.at r z here within h.goes) clock (g.known r z here within h.goes) (sums r z here within h.goes)
+
     -- **Where there is no memory, it is cut short behind the mark.**
-    pub written_cut : u.clock ≤ max mark.period pace.periods → IsResumeCutShort os (max mark.period pace.periods) mark.period first now
-    written_cut within =
-        cut_written os pace.batch (max mark.period pace.periods) first now u gone_on within mark.period
-        (let later = h.later in omega (arith, later, e)) wrote_on
+    pub written_cut : mark.calls ≡ calls → u.clock ≤ max mark.period pace.periods → IsResumeCutShort os (max mark.period pace.periods) mark first now
+    written_cut same within =
+        cut_written os pace.batch (max mark.period pace.periods) first now u gone_on within mark
+        (let later = h.later in omega (arith, later, e)) (λ r run. sym (same ∙ entries ∙ at_mark r run)) wrote_on
 
     -- **A resumed run that came to its last period leaves and reports what the run of the definition gives behind the mark.**
     pub resumes_told : mark.calls ≡ calls → u.clock ≡ max mark.period pace.periods → (count : ℕ) → count ≡ length os → (report : ReportView) →
@@ -206,7 +220,7 @@ module _ (os : List Order) (pace : Pace) (mark : MarkView) (o : Outgoing) (s m :
           (leaves_from r u.board u.farm.groups u.farm.failed first now (at_end os pace.batch first now u gone_on r is) mark.period
           (wrote_end os pace.batch first now u gone_on mark.period wrote_on r is));
       reports = λ r run. report_end os pace.batch first now u gone_on count report number (λ r t end p. told r t end (p ∙ eu)) r (over r run);
-      same_mark = λ r run. sym (same ∙ entries ∙ at_mark r run);
+      same_mark = λ r run. sym (same ∙ entries ∙ at_mark r (subst (λ (ls : List Line). IsRunOver os mark.period (is_listed ls) first now r) f run));
       short = λ r run. subst (λ (ls : List Line). FailedShort r pace.batch (is_listed ls)) (sym f) (short_end os pace.batch first now u gone_on r (over r run));
       there = λ are told periods. subst (λ (ls : List Line). (r : Run) × IsRunOver os periods (is_listed ls) first now r) (sym f)
           (there os pace.batch first now u gone_on are told periods);
@@ -215,14 +229,3 @@ module _ (os : List Order) (pace : Pace) (mark : MarkView) (o : Outgoing) (s m :
         over : (r : Run) → IsRunOver os (max mark.period pace.periods) (is_listed report.failed) first now r →
             IsRunOver os u.clock (is_listed u.farm.failed) first now r
         over r run = over_here os (max mark.period pace.periods) report.failed first now u eu f r run
-
-        at_mark : (r : Run) → IsRunOver os mark.period (is_listed report.failed) first now r → map (entry_of m) m.farm.live ≡ marked_calls r
-        at_mark r run =
-            let p = run.same_periods in
-            let z : Standing = standing u.board u.farm.failed now in
-            let here : IsRunOver os r.periods (is_listed u.farm.failed) first now r =
-            subst (λ (n : ℕ). IsRunOver os n (is_listed u.farm.failed) first now r) (sym p)
-            (subst (λ (ls : List Line). IsRunOver os mark.period (is_listed ls) first now r) f run) in
-            let clock : m.clock ≡ r.periods = e ∙ sym p in
-            let within : m.clock ≤ r.periods = omega (arith, clock) in
-            entries_are m live rising g.stage r z first mid (g.at r z here within h.goes) clock (g.known r z here within h.goes) (sums r z here within h.goes)

@@ -13,16 +13,16 @@ use Rattle.farm_run.proofs.resuming.resume.Goals as goal
 
 pub returns-in_err-new-clause-cut : goal.returns-in_err-new-clause-cut
 returns-in_err-new-clause-cut g c =
-    on_err _ (unbegun_cut c.args.orders (max c.args.mark.now.period c.args.pace.now.periods) c.args.mark.now.period (g.T.Trunk.lines c.args.trunk.now))
+    on_err _ (unbegun_cut c.args.orders (max c.args.mark.now.period c.args.pace.now.periods) c.args.mark.now (g.T.Trunk.lines c.args.trunk.now))
 
 pub returns-in_err-first-clause-cut : goal.returns-in_err-first-clause-cut
 returns-in_err-first-clause-cut g c =
-    on_err _ (unbegun_cut c.args.orders (max c.args.mark.now.period c.args.pace.now.periods) c.args.mark.now.period (g.T.Trunk.lines c.args.trunk.now))
+    on_err _ (unbegun_cut c.args.orders (max c.args.mark.now.period c.args.pace.now.periods) c.args.mark.now (g.T.Trunk.lines c.args.trunk.now))
 
 pub returns-in_err-marked-clause-cut : goal.returns-in_err-marked-clause-cut
 returns-in_err-marked-clause-cut g c =
     let period : c.mark.inside.period ≡ c.args.mark.now.period = omega (arith, ap (λ (v : MarkView). v.period) c.mark.view_is) in
-    on_err _ (held_cut c.args.orders c.args.pace.now.batch (max c.args.mark.now.period c.args.pace.now.periods) c.mark.inside.period c.args.mark.now.period
+    on_err _ (held_cut c.args.orders c.args.pace.now.batch (max c.args.mark.now.period c.args.pace.now.periods) c.mark.inside.period c.args.mark.now
     (Held c.in_ok-new.field-0) c.in_ok-first.first
     (g.T.Trunk.lines c.args.trunk.now) (g.T.Trunk.lines c.work_until.new.trunk) c.in_ok-first.ensures refl (omega (arith, period)) c.in_err-marked.ensures.cut)
 
@@ -32,7 +32,7 @@ returns-in_err-calls-clause-cut g c =
     let after : (after : Stage) × (after.clock ≤ c.mark.inside.period)
     × Reaches c.args.pace.now.batch c.in_ok-first.first after (g.T.Trunk.lines c.args.trunk.now) (g.T.Trunk.lines c.work_until.new.trunk) =
     (c.in_ok-marked.marked, omega (arith, c.in_ok-marked.ensures.clock), c.in_ok-marked.ensures.reaches) in
-    on_err _ (held_cut c.args.orders c.args.pace.now.batch (max c.args.mark.now.period c.args.pace.now.periods) c.mark.inside.period c.args.mark.now.period
+    on_err _ (held_cut c.args.orders c.args.pace.now.batch (max c.args.mark.now.period c.args.pace.now.periods) c.mark.inside.period c.args.mark.now
     (Held c.in_ok-new.field-0) c.in_ok-first.first
     (g.T.Trunk.lines c.args.trunk.now) (g.T.Trunk.lines c.work_until.new.trunk) c.in_ok-first.ensures refl (omega (arith, period)) after)
 
@@ -54,22 +54,24 @@ pub returns-in_err-last-clause-cut : goal.returns-in_err-last-clause-cut
 returns-in_err-last-clause-cut g c =
     let period : c.mark.inside.period ≡ c.args.mark.now.period = omega (arith, ap (λ (v : MarkView). v.period) c.mark.view_is) in
     let until : c.max-periods.result ≡ max c.args.mark.now.period c.args.pace.now.periods = omega (arith, c.max-periods.ensures, period) in
+    let same : c.args.mark.now.calls ≡ c.deref.result.now = c.differs.ensures.none.0 (ap is_some c.in_default.is) in
     let after = c.in_err-last.ensures.cut in
     on_err _ (written_cut c.args.orders c.args.pace.now c.args.mark.now (Held c.in_ok-new.field-0) c.in_ok-first.first c.in_ok-marked.marked
     (g.T.Trunk.lines c.args.trunk.now) (g.T.Trunk.lines c.work_until.new.trunk) c.in_ok-first.ensures refl refl
     (λ d side. ap (λ (sums : ℕ → Side → ℕ). sums d side) c.in_ok-new.ensures) c.in_ok-marked.ensures.reaches (c.in_ok-marked.ensures.clock ∙ period)
     c.in_ok-calls.ensures.live c.in_ok-calls.ensures.rising c.deref.result.now (c.deref.ensures.value ∙ c.in_ok-calls.ensures.calls)
-    (g.T.Trunk.lines c.work_until-2.new.trunk) after.0 after.2 (let l = after.1 in omega (arith, l, until)))
+    (g.T.Trunk.lines c.work_until-2.new.trunk) after.0 after.2 same (let l = after.1 in omega (arith, l, until)))
 
 pub returns-in_err-report-clause-cut : goal.returns-in_err-report-clause-cut
 returns-in_err-report-clause-cut g c =
     let period : c.mark.inside.period ≡ c.args.mark.now.period = omega (arith, ap (λ (v : MarkView). v.period) c.mark.view_is) in
     let until : c.max-periods.result ≡ max c.args.mark.now.period c.args.pace.now.periods = omega (arith, c.max-periods.ensures, period) in
+    let same : c.args.mark.now.calls ≡ c.deref.result.now = c.differs.ensures.none.0 (ap is_some c.in_default.is) in
     on_err _ (written_cut c.args.orders c.args.pace.now c.args.mark.now (Held c.in_ok-new.field-0) c.in_ok-first.first c.in_ok-marked.marked
     (g.T.Trunk.lines c.args.trunk.now) (g.T.Trunk.lines c.work_until.new.trunk) c.in_ok-first.ensures refl refl
     (λ d side. ap (λ (sums : ℕ → Side → ℕ). sums d side) c.in_ok-new.ensures) c.in_ok-marked.ensures.reaches (c.in_ok-marked.ensures.clock ∙ period)
     c.in_ok-calls.ensures.live c.in_ok-calls.ensures.rising c.deref.result.now (c.deref.ensures.value ∙ c.in_ok-calls.ensures.calls)
-    (g.T.Trunk.lines c.work_until-2.new.trunk) c.in_ok-last.last c.in_ok-last.ensures.reaches (omega (arith, c.in_ok-last.ensures.clock, until)))
+    (g.T.Trunk.lines c.work_until-2.new.trunk) c.in_ok-last.last c.in_ok-last.ensures.reaches same (omega (arith, c.in_ok-last.ensures.clock, until)))
 
 pub returns-clause-resumes : goal.returns-clause-resumes
 returns-clause-resumes g c =
