@@ -129,9 +129,11 @@ cut_behind os periods mark t b groups failed first now behind tells sides reads 
       let here = goes r is (omega (arith, e)) in
       let written = wrote r is (omega (arith, e)) in
       record {
-        out = λ c i. out_front_from r c (worked_to r mark.period c) (worked_to r t c) (end_in r c - start_of (done_in r) c) (is_listed failed c Out) (first c Out)
+        out = λ c i. out_front_from r c (worked_to r mark.period c) (worked_to r t c) (end_in r c - start_of (done_in r) c)
+            (is_listed failed c Out) (first c Out)
             (now c Out) (sooner (end_in r c) (start_of (done_in r) c)) (least (end_in r c) (start_of (done_in r) c)) (written.out c i);
-        down = λ c i. down_front_from r c (worked_to r mark.period c) (worked_to r t c) (end_in r c - start_of (done_in r) c) (is_listed failed c Down) (first c Down)
+        down = λ c i. down_front_from r c (worked_to r mark.period c) (worked_to r t c) (end_in r c - start_of (done_in r) c)
+            (is_listed failed c Down) (first c Down)
             (now c Down) (sooner (end_in r c) (start_of (done_in r) c)) (least (end_in r c) (start_of (done_in r) c)) (written.down c i);
         others = here.lines.others;
       };

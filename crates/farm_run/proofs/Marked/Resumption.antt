@@ -81,7 +81,8 @@ stretch_cut os batch periods o s first now f written after =
     (wrote_first os batch o s after.0 first now f written after.2)
 
 -- **So is a resumed one that holds back what it has come to.**
-pub held_cut : (os : List Order) (batch periods until : ℕ) (mark : MarkView) (o : Outgoing) (s : Stage) (first now : ℕ → Side → LineState) → IsFirstStage os o s →
+pub held_cut : (os : List Order) (batch periods until : ℕ) (mark : MarkView) (o : Outgoing) (s : Stage)
+    (first now : ℕ → Side → LineState) → IsFirstStage os o s →
     is_held o ≡ true → until ≤ periods →
     ((after : Stage) × (after.clock ≤ until) × Reaches batch s after first now) → IsResumeCutShort os periods mark first now
 held_cut os batch periods until mark o s first now f held within after =

@@ -89,7 +89,8 @@ module _ (r : Run) (t : ℕ) (s n : State) (reply : Reply) (groups groups' : Lis
   open_there c o = sym (open_told (whole_in r) t s f.tells c) ∙ o
 
   -- what an open call has had
-  pub history_is : (c : ℕ) (kept : Tally) → open_now s c ≡ true → kept_of (h c) kept ≡ tally_of (periods_to r c (t - start_of s.done c)) (settings_now r s.done t c)
+  pub history_is : (c : ℕ) (kept : Tally) → open_now s c ≡ true → kept_of (h c) kept
+      ≡ tally_of (periods_to r c (t - start_of s.done c)) (settings_now r s.done t c)
   history_is c kept o =
       ap (λ (b : Bool). kept_of (past_if b (law_in r c) (periods_to r c (t - start_of s.done c)) (settings_now r s.done t c)) kept) (open_there c o)
 
