@@ -99,19 +99,19 @@ limits_apart at (c ∷ calls) r =
         by false q k = k
         by true q k = let e = eqb-true c d q in let l = h 0 (omega arith) in absurd (omega arith)
 
--- the end of the call at a place
+-- the end of the call at an index
 pub limit_there : (at : ℕ) (calls : List ℕ) (i : ℕ) → i < length calls →
     limit_at at (get_or calls i 0) ≡ get_or (map (limit_at at) calls) i (limit_at at (get_or calls i 0))
 limit_there at [] i l = absurd (omega arith)
 limit_there at (c ∷ calls) zero l = refl
 limit_there at (c ∷ calls) (suc i) l = limit_there at calls i (omega arith)
 
--- **Their calls are open no more, and where they are all that were open, no call is.**
+-- **Their calls are open no more,**
 pub limits_open : (was now : State) (at : ℕ) (calls : List ℕ) → IsTold was now (map (limit_at at) calls) → (c : ℕ) →
     open_now now c ≡ (open_now was c && not (is_among calls c))
 limits_open was now at calls h c = h.is_open c ∙ ap (λ b. open_now was c && not b) (limits_told at c calls)
 
--- where they are all that were open
+-- **and where they are all that were open, no call is.**
 pub none_open : (was now : State) (at : ℕ) (calls : List ℕ) → IsTold was now (map (limit_at at) calls) → ((c : ℕ) → is_among calls c ≡ open_now was c) →
     (c : ℕ) → open_now now c ≡ false
 none_open was now at calls h e c = limits_open was now at calls h c ∙ ap (λ b. open_now was c && not b) (e c) ∙ neither (open_now was c)
